@@ -14,7 +14,7 @@ use Rattle.serial_spec.specs.SoundHeaders.{is_writable, is_sound}
 use Rattle.serial_spec.proofs.SpellingLaws.{canon_spelled}
 use Rattle.serial_spec.proofs.FaultLaws.{fault_only}
 use Rattle.serial_spec.proofs.OnceLaws.{spells_once}
-use Rattle.cdf_header.specs.Decoding.{BeginsWith}
+use Rattle.cdf_header.specs.Decoded.{BeginsWith}
 use Rattle.cdf_header.proofs.Walks.{no_fault}
 
 no_some : {A : Type 0} (o : Option A) (x : A) → o ≡ None → o ≡ Some x → ⊥

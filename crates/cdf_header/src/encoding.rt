@@ -5,7 +5,7 @@ ghost use Rattle.serial_spec.specs.HeaderBytes.{attribute, canon, count, dimensi
 ghost use Rattle.serial_spec.specs.SoundHeaders.{fits_count, is_writable, is_writable_attr, is_writable_dim};
 ghost use Rattle.cdf_header.specs.Writable.{IsWritableList, IsWritableVar};
 
-use crate::pushing::{push_absent, push_begin, push_count, push_name, push_padded, push_tag};
+use crate::number_fields::{push_absent, push_begin, push_count, push_name, push_padded, push_tag};
 use crate::type_numbers::number_of;
 use nc_base::{Attr, Blob, Dim, Header, Memory, Var};
 use std::alloc::Global;

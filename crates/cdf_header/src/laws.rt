@@ -6,7 +6,7 @@ ghost use Rattle.serial_spec.specs.HeaderBytes.{canon, header_len};
 ghost use Rattle.serial_spec.specs.HeaderGrammar.{Spells};
 ghost use Rattle.serial_spec.specs.HeaderFaults.{HasFault};
 ghost use Rattle.serial_spec.specs.SoundHeaders.{is_writable};
-ghost use Rattle.cdf_header.specs.Decoding.{BeginsWith};
+ghost use Rattle.cdf_header.specs.Decoded.{BeginsWith};
 
 /// Bytes begin with one header at most and have one fault at most, and never both. So what `decode` answers, but for
 /// want of memory, is decided by the bytes.

@@ -8,7 +8,7 @@ ghost use Rattle.serial_spec.specs.HeaderBytes.{header_len};
 ghost use Rattle.serial_spec.specs.HeaderFaults.{fault_if, is_too_large, measure, record_later};
 ghost use Rattle.cdf_header.specs.Spans.{span_of, spans_of};
 
-use crate::sharing::first_shared;
+use crate::shared::first_shared;
 use crate::spans::Span;
 use nc_base::{CLASSIC_RECORD_LIMIT, Header, HeaderErr, Memory, RECORD_LIMIT, Var};
 use std::alloc::Global;

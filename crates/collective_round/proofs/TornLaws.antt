@@ -14,7 +14,7 @@ use Rattle.serial_spec.specs.Records.{needed_by, with_records}
 use Rattle.serial_spec.specs.SharedByte.{Puts, covered}
 use Rattle.serial_spec.specs.Torn.{IsTorn}
 use Rattle.overlay_laws.specs.Changes.{IsBetween}
-use Rattle.serial_spec.specs.Desk.{needed_now}
+use Rattle.serial_spec.specs.Owner.{needed_now}
 use Rattle.collective_round.specs.Rounds.{ArePuts, after_round, counted}
 use Rattle.collective_round.proofs.PutLaws.{laid_round}
 use Rattle.collective_round.proofs.StepLaws.{round_by}

@@ -7,7 +7,7 @@ use Rattle.std.specs.Option.{option_map}
 use Rattle.nc_base.specs.declared.step.DiskCall.{DiskCall}
 use Rattle.nc_outside.specs.Told.{with_end}
 use Rattle.overlay_laws.specs.Changes.{IsBegun}
-use Rattle.data_sieving.specs.Serving.{HasDone}
+use Rattle.data_sieving.specs.Walked.{HasDone}
 use Rattle.nc_outside.proofs.ToldLaws.{no_calls}
 
 ends_twice : (old : Option (List DiskCall)) (a b : List DiskCall) → with_end (with_end old a) b ≡ with_end old (a ++ b)

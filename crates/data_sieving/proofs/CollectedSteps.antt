@@ -11,7 +11,7 @@ use Rattle.serial_spec.specs.File.{read, written}
 use Rattle.serial_spec.specs.Said.{Cell, write_cells}
 use Rattle.overlay_laws.specs.Entries.{got_cell}
 use Rattle.data_sieving.specs.Sieving.{of_slot, got_cells, blob_at, HasGot, FitBlobs, HaveOnePlace, AreAsLong, LieOn}
-use Rattle.data_sieving.specs.Serving.{part_in, IsPast, IsNext, buffer_cell, HasGotPart}
+use Rattle.data_sieving.specs.Walked.{part_in, IsPast, IsNext, buffer_cell, HasGotPart}
 use Rattle.data_sieving.proofs.ReadParts.{read_part, parts_got}
 use Rattle.data_sieving.proofs.GetSteps.{got_step, got_begin, got_end}
 use Rattle.std.proofs.lemmas.List.Elements.{filter-append}

@@ -11,7 +11,7 @@ use Rattle.overlay_laws.specs.Hulls.{IsAscending}
 use Rattle.overlay_laws.specs.Lines.{extents, EndBelow}
 use Rattle.overlay_laws.proofs.HullLaws.{filter_in, filter_ascends, in_left, in_right, in_either, in_flat, flat_in, in_range, range_low, range_high, in_in_order, in_order_in, in_order_ascends, first_least}
 use Rattle.overlay_laws.proofs.CoverLaws.{same_ascending}
-use Rattle.data_sieving.specs.Serving.{IsCovered, IsPast, AreBegun, bytes_from}
+use Rattle.data_sieving.specs.Walked.{IsCovered, IsPast, AreBegun, bytes_from}
 use Rattle.data_sieving.proofs.PastSteps.{past_in, past_kept}
 use Rattle.overlay_laws.proofs.EntryLaws.{in_extents}
 

@@ -16,7 +16,7 @@ use Rattle.overlay_laws.proofs.WindowLaws.{append_within, said_by_joined}
 use Rattle.overlay_laws.proofs.EntryLaws.{says_left, says_right, says_cases}
 use Rattle.overlay_laws.proofs.HullLaws.{filter_in, in_either}
 use Rattle.data_sieving.specs.Sieving.{of_slot, got_cells, blob_at, HasGot, FitBlobs, places_of, HaveOnePlace}
-use Rattle.data_sieving.specs.Serving.{part_at, part_in, IsCovered, IsPast, IsNext, HasGotPart}
+use Rattle.data_sieving.specs.Walked.{part_at, part_in, IsCovered, IsPast, IsNext, HasGotPart}
 use Rattle.data_sieving.proofs.CoveredBytes.{past_covered}
 use Rattle.data_sieving.proofs.PastSteps.{past_all, past_kept}
 use Rattle.data_sieving.proofs.ReachSteps.{begun_in}

@@ -11,7 +11,7 @@ use Rattle.overlay_laws.specs.Entries.{In}
 use Rattle.overlay_laws.specs.Lines.{extents, IsByPlace}
 use Rattle.overlay_laws.proofs.HullLaws.{in_either, in_left, in_right}
 use Rattle.data_sieving.specs.Sieving.{AreFilled}
-use Rattle.data_sieving.specs.Serving.{IsCovered, IsHull, Reach}
+use Rattle.data_sieving.specs.Walked.{IsCovered, IsHull, Reach}
 use Rattle.data_sieving.proofs.CoveredBytes.{covered_left}
 use Rattle.data_sieving.proofs.SplitSteps.{before_or_later}
 

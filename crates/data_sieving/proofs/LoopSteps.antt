@@ -15,7 +15,7 @@ use Rattle.overlay_laws.specs.Lines.{extents, IsByPlace, EndBelow}
 use Rattle.overlay_laws.specs.Changes.{IsBetween, IsBegun, load_calls, store_calls}
 use Rattle.aggregator_rounds.specs.Pieces.{told_window}
 use Rattle.data_sieving.specs.Sieving.{source_of, put_cells, windows_of, AreFilled, LieOn}
-use Rattle.data_sieving.specs.Serving.{IsPast, AreLeft, HaveBegun, IsNext, HasDone, windows_from}
+use Rattle.data_sieving.specs.Walked.{IsPast, AreLeft, HaveBegun, IsNext, HasDone, windows_from}
 use Rattle.data_sieving.proofs.PastSteps.{past_none}
 use Rattle.data_sieving.proofs.WindowSteps.{window_bytes, next_told, windows_next, all_windows, no_window}
 use Rattle.data_sieving.proofs.CallSteps.{none_done, done_more, all_done, done_begun}

@@ -5,7 +5,7 @@ use Rattle.overlay_laws.proofs.Members.{at_in}
 use Rattle.nc_base.specs.declared.plan.Owned.{Owned}
 use Rattle.overlay_laws.specs.Entries.{In}
 use Rattle.file_domains.specs.declared.walk.Window.{Window}
-use Rattle.data_sieving.specs.Serving.{IsPast, AreLeft, AreBegun, HaveBegun, IsHull, IsNext}
+use Rattle.data_sieving.specs.Walked.{IsPast, AreLeft, AreBegun, HaveBegun, IsHull, IsNext}
 use Rattle.data_sieving.proofs.PastSteps.{past_in, past_extents, past_sorted}
 use Rattle.data_sieving.proofs.SplitSteps.{begun_all, first_begins, first_joined}
 use Rattle.overlay_laws.proofs.EntryLaws.{in_extents}

@@ -12,7 +12,7 @@ use Rattle.overlay_laws.specs.Windows.{clip}
 use Rattle.overlay_laws.specs.Entries.{Source, cell_of}
 use Rattle.overlay_laws.specs.Origins.{AreFound}
 use Rattle.data_sieving.specs.Sieving.{bytes_of_post, source_of}
-use Rattle.data_sieving.specs.Serving.{part_at, part_in}
+use Rattle.data_sieving.specs.Walked.{part_at, part_in}
 
 -- ---- slices of slices
 

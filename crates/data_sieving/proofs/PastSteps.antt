@@ -10,7 +10,7 @@ use Rattle.overlay_laws.specs.Entries.{In, Source}
 use Rattle.overlay_laws.specs.Lines.{extents, EndBelow, IsByPlace}
 use Rattle.overlay_laws.specs.Origins.{AreFound}
 use Rattle.overlay_laws.proofs.HullLaws.{filter_in, in_either, in_right}
-use Rattle.data_sieving.specs.Serving.{filter_past, IsPast}
+use Rattle.data_sieving.specs.Walked.{filter_past, IsPast}
 
 -- ---- what is gone
 

@@ -20,7 +20,7 @@ use Rattle.overlay_laws.specs.Origins.{AreFound}
 use Rattle.overlay_laws.specs.Changes.{IsBetween}
 use Rattle.overlay_laws.proofs.SaidLaws.{cells_long, same_said}
 use Rattle.overlay_laws.proofs.WindowLaws.{moved_said, within_lowered, within_more, append_within, none_below, none_past, clips_within, clips_from, clips_in, said_joined}
-use Rattle.data_sieving.specs.Serving.{IsCovered, IsPast, IsNext}
+use Rattle.data_sieving.specs.Walked.{IsCovered, IsPast, IsNext}
 use Rattle.data_sieving.proofs.CoveredBytes.{covered_right, past_covered, begun_covered}
 
 -- ---- what entries say

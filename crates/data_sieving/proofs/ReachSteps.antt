@@ -8,7 +8,7 @@ use Rattle.overlay_laws.specs.Origins.{AreFound}
 use Rattle.overlay_laws.specs.Lines.{extents, EndBelow}
 use Rattle.overlay_laws.proofs.HullLaws.{in_left}
 use Rattle.data_sieving.specs.Sieving.{AreFilled, LieOn}
-use Rattle.data_sieving.specs.Serving.{IsPast, AreLeft, AreBegun, IsNext}
+use Rattle.data_sieving.specs.Walked.{IsPast, AreLeft, AreBegun, IsNext}
 use Rattle.data_sieving.proofs.PastSteps.{past_in, past_found}
 use Rattle.data_sieving.proofs.SplitSteps.{extents_left}
 use Rattle.overlay_laws.proofs.EntryLaws.{in_extents}

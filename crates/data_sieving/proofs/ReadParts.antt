@@ -8,7 +8,7 @@ use Rattle.serial_spec.specs.Said.{Cell, said_by, Says, IsOneValued}
 use Rattle.overlay_laws.specs.Entries.{In}
 use Rattle.overlay_laws.proofs.EntryLaws.{says_left, says_right, says_cases}
 use Rattle.data_sieving.specs.Sieving.{got_cells, places_of}
-use Rattle.data_sieving.specs.Serving.{part_at, part_in}
+use Rattle.data_sieving.specs.Walked.{part_at, part_in}
 
 -- ---- parts of bytes that were read
 

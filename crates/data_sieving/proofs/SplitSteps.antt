@@ -12,7 +12,7 @@ use Rattle.nc_base.specs.declared.plan.Owned.{Owned}
 use Rattle.overlay_laws.specs.Entries.{In}
 use Rattle.overlay_laws.specs.Lines.{extents, IsByPlace, EndBelow}
 use Rattle.file_domains.proofs.CoverParts.{get_is}
-use Rattle.data_sieving.specs.Serving.{IsPast, AreBegun}
+use Rattle.data_sieving.specs.Walked.{IsPast, AreBegun}
 use Rattle.data_sieving.proofs.PastSteps.{past_front}
 use Rattle.overlay_laws.proofs.EntryLaws.{in_extents}
 

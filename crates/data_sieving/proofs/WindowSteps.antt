@@ -19,7 +19,7 @@ use Rattle.overlay_laws.proofs.CoverLaws.{same_ascending, triple_same}
 use Rattle.file_domains.proofs.WalkSteps.{walked_enough}
 use Rattle.aggregator_rounds.specs.Pieces.{told_window}
 use Rattle.data_sieving.specs.Sieving.{windows_of}
-use Rattle.data_sieving.specs.Serving.{IsCovered, IsPast, AreLeft, IsNext, bytes_from, windows_from}
+use Rattle.data_sieving.specs.Walked.{IsCovered, IsPast, AreLeft, IsNext, bytes_from, windows_from}
 use Rattle.data_sieving.proofs.CoveredBytes.{covered_below, byte_from, from_byte, bytes_ascend, same_bytes, begins, past_covered, covered_past, begun_covered, covered_begun}
 
 -- ---- how many numbers there are between two

@@ -1,2 +1,2 @@
 pub mod Sieving
-pub mod Serving
+pub mod Walked

@@ -1,7 +1,7 @@
 // Entries, and their parts in a window.
 ghost use Rattle.std.specs.Prelude.{◌≡◌, ◌+◌, ◌^◌, ◌<◌, ◌≤◌, length, take, drop};
 ghost use Rattle.serial_spec.specs.File.{written};
-ghost use Rattle.data_sieving.specs.Serving.{part_in};
+ghost use Rattle.data_sieving.specs.Walked.{part_in};
 
 use nc_base::{Extent, Owned};
 

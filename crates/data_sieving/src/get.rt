@@ -9,7 +9,7 @@ ghost use Rattle.nc_outside.specs.Told.{with_end};
 ghost use Rattle.nc_outside.specs.Cause.{HasDiskCause};
 ghost use Rattle.aggregator_rounds.specs.Pieces.{told_window};
 ghost use Rattle.data_sieving.specs.Sieving.{windows_of, AreFilled, LieOn, of_slot, blob_at, HasGot, FitBlobs, HaveOnePlace, AreAsLong};
-ghost use Rattle.data_sieving.specs.Serving.{buffer_cell, entries_in, HasGotPart};
+ghost use Rattle.data_sieving.specs.Walked.{buffer_cell, entries_in, HasGotPart};
 
 use crate::entry::{copy_to, cut, part_of};
 use crate::unserved::Unserved;

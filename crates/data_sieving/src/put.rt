@@ -11,7 +11,7 @@ ghost use Rattle.nc_outside.specs.Told.{after, with_end, BothTold};
 ghost use Rattle.nc_outside.specs.Cause.{HasDiskCause};
 ghost use Rattle.aggregator_rounds.specs.Pieces.{told_window};
 ghost use Rattle.data_sieving.specs.Sieving.{source_of, put_cells, windows_of, AreFilled, LieOn};
-ghost use Rattle.data_sieving.specs.Serving.{entries_in};
+ghost use Rattle.data_sieving.specs.Walked.{entries_in};
 
 use crate::entry::{copy_to, cut, part_of};
 use crate::unserved::Unserved;

@@ -4,7 +4,7 @@ ghost use Rattle.nc_base.specs.declared.plan.Owned.{Owned};
 ghost use Rattle.overlay_laws.specs.Entries.{In};
 ghost use Rattle.overlay_laws.specs.Lines.{extents, IsByPlace, EndBelow};
 ghost use Rattle.data_sieving.specs.Sieving.{AreFilled};
-ghost use Rattle.data_sieving.specs.Serving.{entries_in, entries_left, AreLeft, HaveBegun, IsHull, IsNext, IsPast, Reach};
+ghost use Rattle.data_sieving.specs.Walked.{entries_in, entries_left, AreLeft, HaveBegun, IsHull, IsNext, IsPast, Reach};
 
 use crate::entry::end_of;
 use crate::unserved::Unserved;

@@ -18,7 +18,7 @@ use Rattle.redef_laws.specs.Applied.{IsApplied}
 use Rattle.redef_laws.specs.Shifted.{new_end}
 use Rattle.redef_mover.specs.Relocation.{KeepsPlaces}
 use Rattle.dataset_start.specs.Dataset.{created_header, header_of_run, AreHeadersOf}
-use Rattle.dataset_start.specs.Opening.{filled_if, IsCutRedefinition, IsNotReady, IsOpened, IsPartlyOpened, IsPartlyRedefined}
+use Rattle.dataset_start.specs.Readiness.{filled_if, IsCutRedefinition, IsNotReady, IsOpened, IsPartlyOpened, IsPartlyRedefined}
 use Rattle.dataset_start.proofs.Created.{front-of-zeros}
 use Rattle.dataset_start.proofs.Ready.{begun, header-changed, header-kept, start-created}
 use Rattle.nc_outside.proofs.ToldLaws.{told_as}

@@ -9,7 +9,7 @@ use Rattle.serial_spec.specs.DeviceCalls.{head_load}
 use Rattle.std.proofs.lemmas.List.{take-append-drop, take_all}
 use Rattle.nc_base.specs.declared.errors.HeaderErr.{HeaderErr}
 use Rattle.dataset_start.specs.Dataset as headline
-use Rattle.dataset_start.specs.Opening.{IsOpened}
+use Rattle.dataset_start.specs.Readiness.{IsOpened}
 use Rattle.dataset_start.specs.Stops.{stop_of_header}
 use Rattle.dataset_start.specs.declared.stop.Stop.{Stop}
 use Rattle.dataset_start.specs.declared.stop.Stop.TheVariants.{Header, Memory}
@@ -19,7 +19,7 @@ use Rattle.serial_spec.specs.HeaderGrammar.{Spells}
 use Rattle.serial_spec.specs.HeaderFaults.{first_check, HasFault}
 use Rattle.serial_spec.proofs.FaultLaws.{fault_only}
 use Rattle.serial_spec.proofs.OnceLaws.{spells_once}
-use Rattle.cdf_header.specs.Decoding.{BeginsWith}
+use Rattle.cdf_header.specs.Decoded.{BeginsWith}
 
 -- ---- a header that stands at a front, and a fault, exclude each other
 

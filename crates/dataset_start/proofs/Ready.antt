@@ -21,13 +21,13 @@ use Rattle.serial_spec.specs.Layout.{end_of}
 use Rattle.serial_spec.specs.Redefinition.{brought, layout_fault, redefined, redefined_fault, redefined_header}
 use Rattle.serial_spec.specs.SerialEnd.{start}
 use Rattle.serial_spec.proofs.FileLaws.{longer-enough}
-use Rattle.cdf_header.specs.Decoding.{BeginsWith}
+use Rattle.cdf_header.specs.Decoded.{BeginsWith}
 use Rattle.redef_laws.specs.Applied.{IsApplied}
 use Rattle.redef_laws.specs.Shifted.{new_end}
 use Rattle.redef_mover.specs.Relocation.{relocation_calls}
 use Rattle.script_spec.specs.ScriptGrammar.{Reads}
 use Rattle.dataset_start.specs.Dataset.{align_of, created_header, front, header_of_run, redefinition_fault, HasRedefinitionFault, IsSoundFile, TellsDataset}
-use Rattle.dataset_start.specs.Opening.{fill_calls_if, filled_if, first_calls, opened_calls, IsFaultless, IsOpened, IsReady}
+use Rattle.dataset_start.specs.Readiness.{fill_calls_if, filled_if, first_calls, opened_calls, IsFaultless, IsOpened, IsReady}
 use Rattle.dataset_start.specs.Stops.{line_of, status_of, IsOfHeader, IsOfRedefinition}
 use Rattle.dataset_start.specs.declared.stop.Stop.{Stop}
 use Rattle.dataset_start.specs.declared.stop.Stop.TheVariants as stops

@@ -18,7 +18,7 @@ use Rattle.serial_spec.specs.HeaderFaults.{HasFault}
 use Rattle.serial_spec.specs.Lawful.{has_whole_attrs, is_lawful}
 use Rattle.serial_spec.specs.Redefinition.{layout_fault, redefined_fault, redefined_header}
 use Rattle.var_layout.specs.Unplaced.{has_writable_parts, is_unplaced}
-use Rattle.cdf_header.specs.Decoding.{BeginsWith}
+use Rattle.cdf_header.specs.Decoded.{BeginsWith}
 use Rattle.script_spec.specs.ScriptGrammar.{Reads, script_fault}
 use Rattle.script_spec.specs.Texts.{header_line, layout_line, redef_line, script_line}
 

@@ -1,4 +1,4 @@
 pub mod Limits
 pub mod Dataset
 pub mod Stops
-pub mod Opening
+pub mod Readiness

@@ -2,15 +2,15 @@
 //! redefined. An early end says why.
 #![tactic(auto)]
 
-mod beginning;
-mod creating;
-mod opening;
-mod redefining;
+mod existing;
+mod fresh;
+mod redefined;
+mod script;
+mod start;
 mod stop;
 mod streams;
-mod taking;
 
-pub use beginning::{Begun, begin, make_ready};
-pub use opening::read_header;
+pub use existing::read_header;
+pub use start::{Begun, begin, make_ready};
 pub use stop::Stop;
 pub use streams::{TakeErr, give_all};

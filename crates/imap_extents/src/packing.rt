@@ -11,7 +11,7 @@ ghost use Rattle.type_external.specs.Refusals.{kinds_refusal};
 ghost use Rattle.nc_base.specs.declared.request.Value.TheVariants as value;
 ghost use Rattle.nc_base.specs.Values.{count_of};
 ghost use Rattle.serial_spec.specs.Request.{value_at, ext_of, packed_bytes};
-ghost use Rattle.serial_spec.specs.Looking.{kind_code, some_fits, values_code};
+ghost use Rattle.serial_spec.specs.Looks.{kind_code, some_fits, values_code};
 ghost use Rattle.imap_extents.specs.Mapped.{IsMapped};
 ghost use Rattle.imap_extents.specs.Refusals.{IsRefusal, IsRangeRefusal};
 

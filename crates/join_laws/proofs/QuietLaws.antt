@@ -11,7 +11,7 @@ use Rattle.nc_base.specs.declared.step.Offer.{Offer}
 use Rattle.nc_base.specs.declared.step.Want.{Want}
 use Rattle.nc_base.specs.declared.step.Want.TheVariants.{Answered, Meet, Solo}
 use Rattle.serial_spec.specs.FileStep.{raises}
-use Rattle.serial_spec.specs.Looking.{Look, Refused, Empty, Asks, look}
+use Rattle.serial_spec.specs.Looks.{Look, Refused, Empty, Asks, look}
 use Rattle.serial_spec.specs.RankMachine.{Rank, post_after, posts, step, values_of_post}
 
 abbrev pub IsQuiet : Rank × Want → Type 0

@@ -2,7 +2,7 @@
 use Rattle.std.proofs.Common.{◌≡◌, ℕ, List, [], Option, Some, None, inl, inr, subst, arith}
 use Rattle.nc_base.specs.declared.step.Mark.{Mark}
 use Rattle.ncmpi_cli.specs.Ends.{EndsAs, Seen}
-use Rattle.ncmpi_cli.specs.Listing.{IsOfReadHeader}
+use Rattle.ncmpi_cli.specs.OffsetList.{IsOfReadHeader}
 use Rattle.program_words.specs.Words.{Asked, run, offsets, generate}
 use Rattle.ncmpi_cli.proofs.CutOff.{made_unready}
 use Rattle.ncmpi_cli.proofs.Made.{made_begins_none}

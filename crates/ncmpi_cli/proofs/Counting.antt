@@ -6,13 +6,13 @@ use Rattle.std.specs.List.{enumerate_from}
 use Rattle.nc_base.specs.declared.header.Header.{Header}
 use Rattle.nc_base.specs.declared.script.Script.{Script}
 use Rattle.nc_base.specs.declared.step.Mark.{Mark}
-use Rattle.serial_spec.specs.Reading.{told_of}
+use Rattle.serial_spec.specs.Readings.{told_of}
 use Rattle.serial_spec.specs.SerialEnd.{count_after}
 use Rattle.ncmpi_cli.specs.Headline.{with_counts}
 use Rattle.ncmpi_cli.specs.Readings.{AreCounted, count_at, counted, pairs_of, readings_of}
-use Rattle.ncmpi_cli.specs.Watching.{AreReadings, seen_counts}
-use Rattle.ncmpi_cli.specs.declared.watching.Seen.{Seen}
-use Rattle.ncmpi_cli.specs.declared.watching.WatchedRun.{WatchedRun}
+use Rattle.ncmpi_cli.specs.Watched.{AreReadings, seen_counts}
+use Rattle.ncmpi_cli.specs.declared.watched_run.Seen.{Seen}
+use Rattle.ncmpi_cli.specs.declared.watched_run.WatchedRun.{WatchedRun}
 
 -- the k-th of the numbers that a function gives for the places of a list
 place : {A : Type 0} (count : ℕ → ℕ) (xs : List A) (n k d : ℕ) → k < length xs

@@ -15,7 +15,7 @@ use Rattle.rank_meeting.specs.Run.{HasCut}
 use Rattle.ncmpi_cli.specs.Faults.{IsCutFile, IsMadeUnready, MadeCutOff, WasCutOff}
 use Rattle.ncmpi_cli.specs.Generated.{script_made}
 use Rattle.dataset_start.specs.Dataset.{Asks, created_header}
-use Rattle.dataset_start.specs.Opening.{IsNotReady, IsReady}
+use Rattle.dataset_start.specs.Readiness.{IsNotReady, IsReady}
 use Rattle.ncmpi_cli.proofs.Made.{made_alone, made_fresh}
 use Rattle.dataset_start.proofs.NotReady.{not_laid}
 use Rattle.ncmpi_cli.proofs.Ran.{can_have_begun}

@@ -5,7 +5,7 @@ use Rattle.nc_base.specs.declared.errors.HeaderErr.{HeaderErr}
 use Rattle.serial_spec.specs.HeaderFaults.{HasFault}
 use Rattle.script_spec.specs.Texts.{header_line}
 use Rattle.dataset_start.specs.Dataset.{front, TellsHeader}
-use Rattle.ncmpi_cli.specs.Listing.{IsFaultyFront, IsSoundFront}
+use Rattle.ncmpi_cli.specs.OffsetList.{IsFaultyFront, IsSoundFront}
 use Rattle.dataset_start.specs.Stops.{IsOfHeader, line_of, status_of}
 use Rattle.dataset_start.specs.declared.stop.Stop.{Stop}
 use Rattle.dataset_start.specs.declared.stop.Stop.TheVariants as stops

@@ -20,7 +20,7 @@ use Rattle.generated_run.proofs.MadeLaws.{made_laid}
 use Rattle.ncmpi_cli.specs.Generated.{IsMadeStatus, IsSummed, new_end, RanMade, script_made}
 use Rattle.ncmpi_cli.specs.Headline.{end_of_run, IsDone}
 use Rattle.dataset_start.specs.Dataset.{align_of, created_header, IsKept, TellsDataset}
-use Rattle.dataset_start.specs.Opening.{IsReady}
+use Rattle.dataset_start.specs.Readiness.{IsReady}
 use Rattle.dataset_start.specs.Stops.{IsOfDataset, line_of, status_of}
 use Rattle.dataset_start.specs.declared.stop.Stop.{Stop}
 use Rattle.dataset_start.specs.declared.stop.Stop.TheVariants as stops

@@ -16,7 +16,7 @@ use Rattle.script_spec.specs.ScriptGrammar.{Reads}
 use Rattle.rank_meeting.specs.Begun.{HasBegun}
 use Rattle.ncmpi_cli.specs.Headline.{BeginsFor, IsDone, Ran, with_counts}
 use Rattle.dataset_start.specs.Dataset.{Asks}
-use Rattle.dataset_start.specs.Opening.{first_calls, CanHaveBegun, IsReady}
+use Rattle.dataset_start.specs.Readiness.{first_calls, CanHaveBegun, IsReady}
 use Rattle.dataset_start.proofs.Ready.{same_script}
 
 -- ---- a file that is told

@@ -7,11 +7,11 @@ use Rattle.ncmpi_cli.specs.Ends.{HasReadings, watchers_of}
 use Rattle.ncmpi_cli.specs.Headline.{GivesText}
 use Rattle.ncmpi_cli.specs.Readings.{readings_of}
 use Rattle.dataset_start.specs.Stops.{status_of}
-use Rattle.ncmpi_cli.specs.Watching.{AreReadings}
+use Rattle.ncmpi_cli.specs.Watched.{AreReadings}
 use Rattle.program_words.specs.Words.{Asked}
 use Rattle.dataset_start.specs.declared.stop.Stop.{Stop}
 use Rattle.dataset_start.specs.declared.stop.Stop.TheVariants as stops
-use Rattle.ncmpi_cli.specs.declared.watching.Seen.{Seen}
+use Rattle.ncmpi_cli.specs.declared.watched_run.Seen.{Seen}
 
 -- ---- where no text is given
 

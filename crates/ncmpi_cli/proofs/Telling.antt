@@ -8,7 +8,7 @@ use Rattle.script_spec.specs.ScriptGrammar.{fault_of, Reads}
 use Rattle.script_spec.specs.Texts.{script_line}
 use Rattle.serial_spec.specs.Redefinition.{layout_fault}
 use Rattle.dataset_start.specs.Dataset.{align_of, Asks, AsksFor, IsBadDataset, IsFaultyFile, IsRight, IsSoundFile, IsWrong, refusal, TellsDataset, TellsHeader, TellsRedefinition}
-use Rattle.dataset_start.specs.Opening.{IsFaultless}
+use Rattle.dataset_start.specs.Readiness.{IsFaultless}
 use Rattle.dataset_start.specs.Stops.{line_of, status_of}
 use Rattle.dataset_start.specs.declared.stop.Stop.{Stop}
 use Rattle.dataset_start.specs.declared.stop.Stop.TheVariants as stops

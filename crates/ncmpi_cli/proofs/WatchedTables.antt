@@ -6,8 +6,8 @@ use Rattle.std.proofs.lemmas.List.Elements.{All-push}
 use Rattle.nc_base.specs.declared.header.Header.{Header}
 use Rattle.nc_base.specs.declared.script.Script.{Script}
 use Rattle.nc_base.specs.declared.step.Mark.{Mark}
-use Rattle.turn_run.specs.Telling.{HasTold}
-use Rattle.ncmpi_cli.specs.Watching.{AreReadings}
+use Rattle.turn_run.specs.Told.{HasTold}
+use Rattle.ncmpi_cli.specs.Watched.{AreReadings}
 
 pub readings_push : (told : ℕ) (table : List (List ℕ)) (numbers : List ℕ) → All (AreReadings told) table → AreReadings told numbers → All (AreReadings told) (table ++ numbers ∷ [])
 readings_push told = All-push (AreReadings told)

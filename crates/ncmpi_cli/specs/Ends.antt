@@ -16,9 +16,9 @@ use Rattle.ncmpi_cli.specs.Faults.{EndsEarly, MadeEndsEarly, MadeWantsMemory, Wa
 use Rattle.ncmpi_cli.specs.Generated.{IsMadeStatus, MadeFront, MadeWhole, script_made}
 use Rattle.ncmpi_cli.specs.Headline.{BeginsFor, GivesLine, GivesText, RanToSink, RanWell}
 use Rattle.dataset_start.specs.Dataset.{AsksFor, IsBadDataset, IsRight, IsWrong, refusal, TellsHeader}
-use Rattle.ncmpi_cli.specs.Listing.{IsFaultyFront, IsListStatus, IsOfReadHeader, IsSoundFront, ListsFront, ListsWhole}
-use Rattle.dataset_start.specs.Opening.{CanHaveBegun}
-use Rattle.ncmpi_cli.specs.Watching.{AreReadings}
+use Rattle.ncmpi_cli.specs.OffsetList.{IsFaultyFront, IsListStatus, IsOfReadHeader, IsSoundFront, ListsFront, ListsWhole}
+use Rattle.dataset_start.specs.Readiness.{CanHaveBegun}
+use Rattle.ncmpi_cli.specs.Watched.{AreReadings}
 use Rattle.program_words.specs.Words.{Asked, run, offsets, generate}
 
 pub record Seen : Type 0 where

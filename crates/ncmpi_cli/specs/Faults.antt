@@ -19,7 +19,7 @@ use Rattle.serial_spec.specs.Torn.{IsCutRun}
 use Rattle.ncmpi_cli.specs.Generated.{RanMade, script_made}
 use Rattle.ncmpi_cli.specs.Headline.{Ran}
 use Rattle.dataset_start.specs.Dataset.{created_header}
-use Rattle.dataset_start.specs.Opening.{CanHaveBegun, IsLeftUnready, IsNotReady}
+use Rattle.dataset_start.specs.Readiness.{CanHaveBegun, IsLeftUnready, IsNotReady}
 
 -- What is left of a file that was made ready and then held a run that was cut off: the bytes, the record count, and the
 -- answers of each rank.

@@ -1,8 +1,8 @@
 pub mod Headline
-pub mod Watching
+pub mod Watched
 pub mod BeforeRun
 pub mod Readings
-pub mod Listing
+pub mod OffsetList
 pub mod Generated
 pub mod Faults
 pub mod Ends

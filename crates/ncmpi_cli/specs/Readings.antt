@@ -8,8 +8,8 @@ use Rattle.nc_base.specs.declared.header.Header.{Header}
 use Rattle.nc_base.specs.declared.script.Script.{Script}
 use Rattle.script_spec.specs.Texts.{run_text, watch_text}
 use Rattle.ncmpi_cli.specs.Headline.{with_counts}
-use Rattle.ncmpi_cli.specs.declared.watching.Seen.{Seen}
-use Rattle.ncmpi_cli.specs.declared.watching.WatchedRun.{WatchedRun}
+use Rattle.ncmpi_cli.specs.declared.watched_run.Seen.{Seen}
+use Rattle.ncmpi_cli.specs.declared.watched_run.WatchedRun.{WatchedRun}
 
 -- the opening count, or the one after the last of the steps
 abbrev pub count_at : ℕ → List ℕ → ℕ → ℕ

@@ -7,10 +7,10 @@ ghost use Rattle.serial_spec.specs.DeviceCalls.{head_load};
 ghost use Rattle.serial_spec.specs.HeaderFaults.{HasFault};
 ghost use Rattle.ncmpi_cli.specs.Headline.{GivesLine};
 ghost use Rattle.dataset_start.specs.Dataset.{front, TellsHeader};
-ghost use Rattle.ncmpi_cli.specs.Listing.{IsFaultyFront, IsListStatus, IsOfReadHeader, IsSoundFront, Lists, ListsFront, ListsWhole};
+ghost use Rattle.ncmpi_cli.specs.OffsetList.{IsFaultyFront, IsListStatus, IsOfReadHeader, IsSoundFront, Lists, ListsFront, ListsWhole};
 ghost use Rattle.dataset_start.specs.Stops.{IsOfHeader, line_of_status};
 
-use crate::ending::{give, tell};
+use crate::report::{give, tell};
 use crate::top::Outcome;
 use dataset_start::{Stop, read_header};
 use nc_base::{Blob, MarkList, ReadingTable};

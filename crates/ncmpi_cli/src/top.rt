@@ -9,10 +9,10 @@ ghost use Rattle.dataset_start.specs.Dataset.{IsBeforeStart};
 ghost use Rattle.dataset_start.specs.Stops.{line_of_status};
 ghost use Rattle.program_words.specs.Words.{form_of, texts};
 
-use crate::ending::tell;
-use crate::generating::run_made;
+use crate::made_run::run_made;
 use crate::offsets::list_offsets;
-use crate::running::run_script;
+use crate::report::tell;
+use crate::script_run::run_script;
 use dataset_start::Stop;
 use nc_base::{MarkList, ReadingTable};
 use nc_outside::{Disk, Gate, Sink, Source};

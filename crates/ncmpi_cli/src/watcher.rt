@@ -1,6 +1,6 @@
 // One watcher of a run: a view that reads beside it, and once more when it is over.
 ghost use Rattle.std.specs.Prelude.{◌≡◌, ◌≤◌, ◌<◌, ℕ, length, slice_index, IfOk};
-ghost use Rattle.ncmpi_cli.specs.Watching.{AreReadings};
+ghost use Rattle.ncmpi_cli.specs.Watched.{AreReadings};
 
 use nc_base::{Memory, SizeList};
 use nc_outside::{Gate, Point};

@@ -3,7 +3,7 @@ use Rattle.std.proofs.Common.{ℕ, Result, ap}
 use Rattle.nc_base.specs.declared.errors.ScriptKind.{ScriptKind}
 use Rattle.script_words.specs.declared.fault.ReadErr.{ReadErr}
 use Rattle.script_words.specs.declared.fault.ReadErr.TheVariants as errors
-use Rattle.script_words.specs.Reading.{Fails, FailsAt}
+use Rattle.script_words.specs.Given.{Fails, FailsAt}
 use Rattle.script_spec.specs.ScriptGrammar.{at_line}
 use Rattle.ncmpi_script.specs.LineFaults.{on_line}
 

@@ -2,7 +2,7 @@
 ghost use Rattle.std.specs.Prelude.{◌≡◌, ◌≤◌, IfOk, IfSome};
 ghost use Rattle.script_spec.specs.ScriptWords.{significant_of};
 ghost use Rattle.script_spec.specs.ScriptGrammar.{head, data_line, definition_step, definitions, call_step, data_part, at_line};
-ghost use Rattle.script_words.specs.Reading.{Gives, GivesAt, word_of};
+ghost use Rattle.script_words.specs.Given.{Gives, GivesAt, word_of};
 ghost use Rattle.script_words.specs.Seen.{line_seen};
 ghost use Rattle.ncmpi_script.specs.LineFaults.{TakesLine, on_line};
 ghost use Rattle.ncmpi_script.specs.TopWords.{head_by};
@@ -10,7 +10,7 @@ ghost use Rattle.ncmpi_script.specs.TopWords.{head_by};
 use nc_base::{ScriptErr, ScriptKind};
 use script_calls::RankTable;
 use script_definitions::Draft;
-use script_words::reading::{bare, ended, version};
+use script_words::word_forms::{bare, ended, version};
 use script_words::{Line, LineErr, ReadErr, TextLines, Token, Words, significant_line};
 use std::alloc::Global;
 

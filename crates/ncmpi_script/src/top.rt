@@ -5,7 +5,7 @@ ghost use Rattle.script_spec.specs.ScriptGrammar.{is_mismatch, newlines, without
 ghost use Rattle.ncmpi_script.specs.TopWords.{definitions_by, data_part_by, finish_by, made_by, end_by, calls_by, rest_by, headed_by, lines_by, utf8_by, text_by};
 ghost use Rattle.script_words.specs.Seen.{line_seen};
 ghost use Rattle.nc_base.specs.declared.errors.ScriptKind.TheVariants as kind;
-ghost use Rattle.script_words.specs.Reading.{GivesAt};
+ghost use Rattle.script_words.specs.Given.{GivesAt};
 
 use crate::parts::{data_part, definitions, head_line};
 use nc_base::{

@@ -10,7 +10,7 @@ use Rattle.overlay_laws.specs.Entries.{In}
 use Rattle.overlay_laws.specs.Origins.{Origin, origins_of, origins, AtMost, IsGreatest, IsResolved, IsOnceEach}
 use Rattle.overlay_laws.proofs.EntryLaws.{says_left, says_right, says_cases}
 use Rattle.overlay_laws.proofs.OriginLaws.{greatest_once}
-use Rattle.overlap_report.specs.Sharing.{Covers}
+use Rattle.overlap_report.specs.SharedBytes.{Covers}
 use Rattle.overlap_report.specs.Sweep.{Winner, StandsBy}
 
 abbrev pub origin_at : Owned → ℕ → Origin

@@ -8,8 +8,8 @@ use Rattle.serial_spec.specs.SharedByte.{Key, same_key, key_below}
 use Rattle.overlap_report.specs.declared.holders.Request.{Request}
 use Rattle.overlap_report.specs.declared.holders.Least.{Least}
 use Rattle.overlap_report.specs.declared.holders.Least.TheVariants.{Nobody, One, Two}
-use Rattle.overlap_report.specs.Sharing.{key_of, Covers, IsClearAt, HasHolder}
-use Rattle.overlap_report.specs.Holding.{key, with_key, AreLeast}
+use Rattle.overlap_report.specs.SharedBytes.{key_of, Covers, IsClearAt, HasHolder}
+use Rattle.overlap_report.specs.Holders.{key, with_key, AreLeast}
 use Rattle.overlap_report.proofs.KeySteps.{equal_key, below_or_above, IsNext}
 
 kept : (seen more : List Owned) (o : Owned) (k : Key) (x : ℕ) → IsNext seen more o → HasHolder seen k x → HasHolder more k x

@@ -15,8 +15,8 @@ use Rattle.overlay_laws.specs.Lines.{extents, IsByPlace}
 use Rattle.overlay_laws.proofs.HullLaws.{in_range, range_low, range_high}
 use Rattle.overlay_laws.proofs.HolderLaws.{holds_by, holder_of}
 use Rattle.overlap_report.specs.declared.shared.Reach.{Reach}
-use Rattle.overlap_report.specs.Sharing.{key_of, Covers, IsClearAt, AreTwo, IsFirst, HasHolder, ArePairAt}
-use Rattle.overlap_report.specs.Reaching.{same_as, with_entry}
+use Rattle.overlap_report.specs.SharedBytes.{key_of, Covers, IsClearAt, AreTwo, IsFirst, HasHolder, ArePairAt}
+use Rattle.overlap_report.specs.Reach.{same_as, with_entry}
 use Rattle.overlap_report.proofs.KeySteps.{key_back, key_meet, key_apart, key_apart_back, equal_key, not_below_itself, IsNext, before_next, at_or_before}
 use Rattle.list_laws.proofs.Truth.{no_both}
 

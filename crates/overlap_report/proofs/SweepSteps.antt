@@ -8,7 +8,7 @@ use Rattle.overlay_laws.specs.Entries.{In}
 use Rattle.overlay_laws.specs.Lines.{extents, IsInLine}
 use Rattle.overlay_laws.proofs.HullLaws.{in_either, in_left, in_right}
 use Rattle.overlap_report.specs.Parts.{IsPartOf, IsPartOfOne}
-use Rattle.overlap_report.specs.Sharing.{Covers}
+use Rattle.overlap_report.specs.SharedBytes.{Covers}
 use Rattle.overlap_report.specs.Sweep.{part_of, StandsBy, Winner, Swept}
 use Rattle.overlap_report.proofs.KeySteps.{IsNext}
 

@@ -1,6 +1,6 @@
 pub mod Sorted
 pub mod Parts
-pub mod Sharing
-pub mod Reaching
-pub mod Holding
+pub mod SharedBytes
+pub mod Reach
+pub mod Holders
 pub mod Sweep

@@ -11,7 +11,7 @@ use Rattle.overlay_laws.specs.Entries.{In}
 use Rattle.overlay_laws.specs.Lines.{extents, IsInLine}
 use Rattle.overlap_report.specs.declared.serial.Claim.{Claim}
 use Rattle.overlap_report.specs.Parts.{IsPartOfOne}
-use Rattle.overlap_report.specs.Sharing.{Covers}
+use Rattle.overlap_report.specs.SharedBytes.{Covers}
 
 abbrev pub owned_of : Claim → Owned
 owned_of c = record { extent = record { at = c.at; len = c.len }; rank = c.rank; request = c.request; slot = c.slot; from = c.from }

@@ -2,8 +2,8 @@
 ghost use Rattle.std.specs.Prelude.{◌≡◌, ℕ, ◌+◌, ◌^◌, ◌<◌, ◌≤◌, MatchOption};
 ghost use Rattle.serial_spec.specs.SharedByte.{key_below, same_key, first_end, second_end};
 ghost use Rattle.overlay_laws.specs.Lines.{extents, EndBelow};
-ghost use Rattle.overlap_report.specs.Sharing.{IsClearAt, ArePairAt};
-ghost use Rattle.overlap_report.specs.Holding.{key, with_key};
+ghost use Rattle.overlap_report.specs.SharedBytes.{IsClearAt, ArePairAt};
+ghost use Rattle.overlap_report.specs.Holders.{key, with_key};
 
 use nc_base::{Owned, Pair};
 

@@ -2,8 +2,8 @@
 ghost use Rattle.std.specs.Prelude.{◌≡◌, ℕ, ◌+◌, ◌^◌, ◌<◌, ◌≤◌, MatchOption, if◌then◌else◌, max, nat_lt};
 ghost use Rattle.serial_spec.specs.SharedByte.{shared_pair_of, holdings_of_entries, same_key};
 ghost use Rattle.overlay_laws.specs.Lines.{extents, IsByPlace, EndBelow};
-ghost use Rattle.overlap_report.specs.Sharing.{key_of, IsClearAt, IsFirst};
-ghost use Rattle.overlap_report.specs.Reaching.{with_entry, same_as};
+ghost use Rattle.overlap_report.specs.SharedBytes.{key_of, IsClearAt, IsFirst};
+ghost use Rattle.overlap_report.specs.Reach.{with_entry, same_as};
 
 use crate::holders::pair_at;
 use nc_base::{Owned, Pair};

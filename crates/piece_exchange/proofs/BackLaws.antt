@@ -88,7 +88,7 @@ and_second_ok (Ok x) (Ok y) = refl
 and_second_ok (Ok x) (Err y) = tt
 and_second_ok (Err x) came = tt
 
--- ---- seats that were told to go and were fed
+-- ---- workers that were told to go and were fed
 
 pub each_new : {X : Type 0} (P Q : X → Type 0) (R : X → X → Type 0) (old new : List X) → length new ≡ length old
     → ((k : ℕ) (x y : X) → slice_get old k ≡ Some x → slice_get new k ≡ Some y → R x y) → ((x : X) → In old x → P x) → ((x y : X) → R x y → P x → Q y) → (y : X) → In new y → Q y

@@ -19,7 +19,7 @@ use Rattle.overlay_laws.proofs.CoverLaws.{same_ascending, spans_ascend}
 use Rattle.file_domains.specs.Domains.{LiesIn}
 use Rattle.file_domains.specs.Rounds.{bytes_in, window_told, windows_of}
 use Rattle.aggregator_rounds.specs.Pieces.{told_window}
-use Rattle.data_sieving.specs.Serving.{IsCovered}
+use Rattle.data_sieving.specs.Walked.{IsCovered}
 use Rattle.data_sieving.proofs.CoveredBytes.{in_ranges, ranges_in}
 use Rattle.data_sieving.proofs.WindowSteps.{hole_short}
 use Rattle.piece_exchange.specs.Hulls.{AreTurns, HaveWindows, IsTurn, LieOnPart}

@@ -19,12 +19,12 @@ use Rattle.piece_exchange.specs.Gets.{get_turns, reading_of, AreRead, HasGot, Is
 use Rattle.piece_exchange.specs.Hulls.{LieOnPart}
 use Rattle.piece_exchange.specs.Plan.{IsDomainOf}
 use Rattle.piece_exchange.specs.Put.{PartState}
-use Rattle.piece_exchange.specs.Shelves.{domain_of, IsReadSeat}
+use Rattle.piece_exchange.specs.Shelves.{domain_of, IsReadWorker}
 use Rattle.piece_exchange.specs.Turns.{Told, turns_ahead, turns_of}
 use Rattle.piece_exchange.specs.declared.crew.Word.{Word}
 use Rattle.piece_exchange.specs.declared.gets.reading.Reading.{Reading}
 use Rattle.piece_exchange.specs.declared.gets.reading.Reading.TheVariants.{Hull}
-use Rattle.piece_exchange.specs.declared.gets.starting.ReadSeat.{ReadSeat}
+use Rattle.piece_exchange.specs.declared.gets.starting.ReadWorker.{ReadWorker}
 use Rattle.piece_exchange.specs.declared.plan.GetPlan.{GetPlan}
 use Rattle.piece_exchange.proofs.DomainTurns.{domain_part}
 
@@ -126,13 +126,13 @@ pub told_fetched : {T : Type 0} (ts : List Told) (old new : PartState) (words : 
     → DidAsTold ts old new words put came → HasFetched ts old new put end
 told_fetched {T} ts old new words put came end is did = (subst (λ (o : Option (Result T DiskErr)). DidAsTold ts old new words put o) is did).1
 
-pub joined_fetched : {D T : Type 0} (plan : GetPlan) (seat : ReadSeat D) (old new : PartState) (put : List Reading) (end : Result T DiskErr) → IsReadSeat plan seat
-    → HasFetched (turns_of seat.helper.child.promise.size.value (domain_of seat) seat.helper.child.promise.cover.value) old new put end
-    → HasFetched (get_turns plan (domain_of seat)) old new put end
-joined_fetched plan seat old new put end is fetched =
-    let promise = seat.helper.child.promise in
-    let by_size = subst (λ (size : ℕ). HasFetched (turns_of size (domain_of seat) promise.cover.value) old new put end) is.size fetched in
-    subst (λ (cover : List Extent). HasFetched (turns_of plan.hints.now.cb_buffer (domain_of seat) cover) old new put end) is.cover by_size
+pub joined_fetched : {D T : Type 0} (plan : GetPlan) (worker : ReadWorker D) (old new : PartState) (put : List Reading) (end : Result T DiskErr) → IsReadWorker plan worker
+    → HasFetched (turns_of worker.helper.child.promise.size.value (domain_of worker) worker.helper.child.promise.cover.value) old new put end
+    → HasFetched (get_turns plan (domain_of worker)) old new put end
+joined_fetched plan worker old new put end is fetched =
+    let promise = worker.helper.child.promise in
+    let by_size = subst (λ (size : ℕ). HasFetched (turns_of size (domain_of worker) promise.cover.value) old new put end) is.size fetched in
+    subst (λ (cover : List Extent). HasFetched (turns_of plan.hints.now.cb_buffer (domain_of worker) cover) old new put end) is.cover by_size
 
 front_read : (ts : List Told) (from : ℕ) (held : Option (List ℕ)) (put taken : List Reading) → IfSome held (λ file. put ≡ readings from file ts) → IsPrefix taken put
     → IfSome held (λ file. IsPrefix taken (readings from file ts))

@@ -7,7 +7,7 @@ pub mod InTurnLaws
 pub mod OrderLaws
 pub mod FeedLaws
 pub mod BackLaws
-pub mod SeatLaws
+pub mod WorkerLaws
 pub mod DomainTurns
 pub mod PlanLaws
 pub mod CollectLaws

@@ -13,7 +13,7 @@ use Rattle.serial_spec.proofs.CellLaws.{read_at, read_same}
 use Rattle.overlay_laws.specs.Entries.{In}
 use Rattle.overlay_laws.proofs.HullLaws.{in_either, in_left, in_right}
 use Rattle.overlay_laws.proofs.Members.{at_in, in_at, in_map, in_zip, map_in, zip_in}
-use Rattle.data_sieving.specs.Serving.{IsCovered}
+use Rattle.data_sieving.specs.Walked.{IsCovered}
 use Rattle.piece_exchange.specs.Blobs.{AreAsLong, FitTable, HasRead, HaveOnePlaces}
 use Rattle.piece_exchange.specs.Gets.{get_turns, AreRead, HasGot, IsGetPlanned}
 use Rattle.piece_exchange.specs.Logs.{told_in, HasReadParts, HasReadTurns, HasTaken, HaveTakenTurns, IsKept, IsReadOf, Log}
@@ -23,7 +23,7 @@ use Rattle.piece_exchange.specs.Shelves.{domain_of, part_of, turns_due, IsToldTo
 use Rattle.piece_exchange.specs.Turns.{Told}
 use Rattle.piece_exchange.specs.declared.gets.reading.Reading.{Reading}
 use Rattle.piece_exchange.specs.declared.gets.reading.Reading.TheVariants.{Hull}
-use Rattle.piece_exchange.specs.declared.gets.starting.ReadSeat.{ReadSeat}
+use Rattle.piece_exchange.specs.declared.gets.starting.ReadWorker.{ReadWorker}
 use Rattle.piece_exchange.specs.declared.plan.GetPlan.{GetPlan}
 use Rattle.piece_exchange.proofs.BackLaws.{map_new, some_mapped, zip_mapped}
 use Rattle.piece_exchange.proofs.CrewLaws.{all_started}
@@ -86,7 +86,7 @@ parts_on {D} from held plan pairs more pair old mid now (Ok y) (Ok x) e ok h t =
 
 -- ---- helpers of which all was taken
 
-own_told : {D : Type 0} (plan : GetPlan) (mid last : ReadSeat D) (own : Log) → IsReady plan mid → IsKept mid last → turns_due last.shelf ≡ [] → HasTaken own mid.shelf last.shelf
+own_told : {D : Type 0} (plan : GetPlan) (mid last : ReadWorker D) (own : Log) → IsReady plan mid → IsKept mid last → turns_due last.shelf ≡ [] → HasTaken own mid.shelf last.shelf
     → told_in own ≡ get_turns plan (domain_of last)
 own_told plan mid last own r k none t =
     sym (append-nil (told_in own))
@@ -95,7 +95,7 @@ own_told plan mid last own r k none t =
     ∙ r.due
     ∙ sym (ap (λ helper. get_turns plan helper.child.promise.domain.value) k.helper)
 
-own_read : {D : Type 0} (from : D → ℕ) (held : D → Option (List ℕ)) (plan : GetPlan) (mid last : ReadSeat D) (own : Log) → IsReady plan mid → IsKept mid last → turns_due last.shelf ≡ []
+own_read : {D : Type 0} (from : D → ℕ) (held : D → Option (List ℕ)) (plan : GetPlan) (mid last : ReadWorker D) (own : Log) → IsReady plan mid → IsKept mid last → turns_due last.shelf ≡ []
     → HasTaken own mid.shelf last.shelf → AreRead (get_turns plan (domain_of last)) (from (part_of last)) (held (part_of last)) last.shelf.line.items
     → IfSome (held (part_of last)) (λ file. (e : Told × List ℕ) → In own e → e.1 ≡ read file (e.0.0 - from (part_of last)) e.0.1)
 own_read from held plan mid last own r k none t read =
@@ -103,17 +103,17 @@ own_read from held plan mid last own r k none t read =
     (t.items ∙ ap (λ (rs : List Reading). rs ++ map (λ e. Hull e.1) own) r.taken)
     (subst (λ (ts : List Told). AreRead ts (from (part_of last)) (held (part_of last)) last.shelf.line.items) (sym (own_told plan mid last own r k none t)) read)
 
-pub seats_read : {D : Type 0} (from : D → ℕ) (held : D → Option (List ℕ)) (plan : GetPlan) (mids lasts : List (ReadSeat D)) (old now : List (List (List ℕ))) → length lasts ≡ length mids
-    → ((seat : ReadSeat D) → In mids seat → IsReady plan seat)
-    → ((k : ℕ) (a b : ReadSeat D) → slice_get mids k ≡ Some a → slice_get lasts k ≡ Some b → IsKept a b)
-    → ((k : ℕ) (seat : ReadSeat D) → slice_get lasts k ≡ Some seat → turns_due seat.shelf ≡ [])
+pub workers_read : {D : Type 0} (from : D → ℕ) (held : D → Option (List ℕ)) (plan : GetPlan) (mids lasts : List (ReadWorker D)) (old now : List (List (List ℕ))) → length lasts ≡ length mids
+    → ((worker : ReadWorker D) → In mids worker → IsReady plan worker)
+    → ((k : ℕ) (a b : ReadWorker D) → slice_get mids k ≡ Some a → slice_get lasts k ≡ Some b → IsKept a b)
+    → ((k : ℕ) (worker : ReadWorker D) → slice_get lasts k ≡ Some worker → turns_due worker.shelf ≡ [])
     → HaveTakenTurns plan.list.now mids lasts old now
-    → ((seat : ReadSeat D) → In lasts seat → AreRead (get_turns plan (domain_of seat)) (from (part_of seat)) (held (part_of seat)) seat.shelf.line.items)
-    → HasReadParts from held plan (zip (map (λ seat. part_of seat) lasts) (map (λ seat. domain_of seat) lasts)) old now
-seats_read {D} from held plan mids lasts old now long ready kept none t read = record {
+    → ((worker : ReadWorker D) → In lasts worker → AreRead (get_turns plan (domain_of worker)) (from (part_of worker)) (held (part_of worker)) worker.shelf.line.items)
+    → HasReadParts from held plan (zip (map (λ worker. part_of worker) lasts) (map (λ worker. domain_of worker) lasts)) old now
+workers_read {D} from held plan mids lasts old now long ready kept none t read = record {
   log = t.log;
   collected = t.collected;
-  all = λ p u m k. all_in p u (zip_seat lasts p m) k;
+  all = λ p u m k. all_in p u (zip_worker lasts p m) k;
   only = λ e m. (
       let r = t.only e m in
       let mid = ready r.old (at_in mids r.number r.old r.at_old) in
@@ -121,7 +121,7 @@ seats_read {D} from held plan mids lasts old now long ready kept none t read = r
       let last = at_in lasts r.number r.new r.at_new in
       record {
         pair = (part_of r.new, domain_of r.new);
-        inside = seat_zip lasts r.new last;
+        inside = worker_zip lasts r.new last;
         turn = subst (λ (ts : List Told). In ts e.0) (own_told plan r.old r.new r.own mid keeps (none r.number r.new r.at_new) r.taken) (in_map (λ (v : Told × List ℕ). v.0) r.own e r.inside);
         told = told_at (held (part_of r.new)) (from (part_of r.new)) r.own e r.inside
             (own_read from held plan r.old r.new r.own mid keeps (none r.number r.new r.at_new) r.taken (read r.new last));
@@ -129,18 +129,18 @@ seats_read {D} from held plan mids lasts old now long ready kept none t read = r
       );
 }
   where
-    zip_seat : (ss : List (ReadSeat D)) (p : D × Extent) → In (zip (map (λ seat. part_of seat) ss) (map (λ seat. domain_of seat) ss)) p
-        → (seat : ReadSeat D) × In ss seat × ((part_of seat, domain_of seat) ≡ p)
-    zip_seat [] p m = absurd m
-    zip_seat (s ∷ ss) p (inl e) = (s, inl refl, e)
-    zip_seat (s ∷ ss) p (inr m) = let r = zip_seat ss p m in (r.0, inr r.1, r.2)
+    zip_worker : (ss : List (ReadWorker D)) (p : D × Extent) → In (zip (map (λ worker. part_of worker) ss) (map (λ worker. domain_of worker) ss)) p
+        → (worker : ReadWorker D) × In ss worker × ((part_of worker, domain_of worker) ≡ p)
+    zip_worker [] p m = absurd m
+    zip_worker (s ∷ ss) p (inl e) = (s, inl refl, e)
+    zip_worker (s ∷ ss) p (inr m) = let r = zip_worker ss p m in (r.0, inr r.1, r.2)
 
-    seat_zip : (ss : List (ReadSeat D)) (seat : ReadSeat D) → In ss seat → In {X = D × Extent} (zip (map (λ seat. part_of seat) ss) (map (λ seat. domain_of seat) ss)) (part_of seat, domain_of seat)
-    seat_zip [] seat m = absurd m
-    seat_zip (s ∷ ss) seat (inl e) = inl (λ i. (part_of (e i), domain_of (e i)))
-    seat_zip (s ∷ ss) seat (inr m) = inr (seat_zip ss seat m)
+    worker_zip : (ss : List (ReadWorker D)) (worker : ReadWorker D) → In ss worker → In {X = D × Extent} (zip (map (λ worker. part_of worker) ss) (map (λ worker. domain_of worker) ss)) (part_of worker, domain_of worker)
+    worker_zip [] worker m = absurd m
+    worker_zip (s ∷ ss) worker (inl e) = inl (λ i. (part_of (e i), domain_of (e i)))
+    worker_zip (s ∷ ss) worker (inr m) = inr (worker_zip ss worker m)
 
-    all_in : (p : D × Extent) (u : Told) → (seat : ReadSeat D) × In lasts seat × ((part_of seat, domain_of seat) ≡ p) → In (get_turns plan p.1) u → In (told_in t.log) u
+    all_in : (p : D × Extent) (u : Told) → (worker : ReadWorker D) × In lasts worker × ((part_of worker, domain_of worker) ≡ p) → In (get_turns plan p.1) u → In (told_in t.log) u
     all_in p u s m =
         let last = in_at lasts s.0 s.1 in
         let low = get_long lasts last.0 s.0 last.1 in
@@ -210,55 +210,55 @@ parts_done from len held plan parts domains file old now (Ok x) p long each whol
 
 -- ---- the helpers of all parts
 
--- the seats that were started, as they were told to go, and as all was taken of them
-pub record AreTaken {D : Type 0} (first mid last : List (ReadSeat D)) (parts : List D) (domains : List Extent) : Type 0 where
-  pub of_parts : map (λ seat. part_of seat) first ≡ parts
-  pub of_domains : map (λ seat. domain_of seat) first ≡ domains
+-- the workers that were started, as they were told to go, and as all was taken of them
+pub record AreTaken {D : Type 0} (first mid last : List (ReadWorker D)) (parts : List D) (domains : List Extent) : Type 0 where
+  pub of_parts : map (λ worker. part_of worker) first ≡ parts
+  pub of_domains : map (λ worker. domain_of worker) first ≡ domains
   pub long : length mid ≡ length first
   pub longer : length last ≡ length mid
-  pub told : (k : ℕ) (a b : ReadSeat D) → slice_get first k ≡ Some a → slice_get mid k ≡ Some b → IsToldToGo a b
-  pub kept : (k : ℕ) (a b : ReadSeat D) → slice_get mid k ≡ Some a → slice_get last k ≡ Some b → IsKept a b
+  pub told : (k : ℕ) (a b : ReadWorker D) → slice_get first k ≡ Some a → slice_get mid k ≡ Some b → IsToldToGo a b
+  pub kept : (k : ℕ) (a b : ReadWorker D) → slice_get mid k ≡ Some a → slice_get last k ≡ Some b → IsKept a b
 
-pub taken_by : {D : Type 0} (first lent mid again last : List (ReadSeat D)) (rest parts : List D) (domains : List Extent) → lent ≡ first → again ≡ mid
-    → length mid ≡ length lent → ((k : ℕ) (a b : ReadSeat D) → slice_get lent k ≡ Some a → slice_get mid k ≡ Some b → IsToldToGo a b)
-    → length last ≡ length again → ((k : ℕ) (a b : ReadSeat D) → slice_get again k ≡ Some a → slice_get last k ≡ Some b → IsKept a b)
-    → rest ≡ [] → map (λ seat. part_of seat) first ++ rest ≡ parts → map (λ seat. domain_of seat) first ≡ take (length first) domains → length domains ≡ length parts
+pub taken_by : {D : Type 0} (first lent mid again last : List (ReadWorker D)) (rest parts : List D) (domains : List Extent) → lent ≡ first → again ≡ mid
+    → length mid ≡ length lent → ((k : ℕ) (a b : ReadWorker D) → slice_get lent k ≡ Some a → slice_get mid k ≡ Some b → IsToldToGo a b)
+    → length last ≡ length again → ((k : ℕ) (a b : ReadWorker D) → slice_get again k ≡ Some a → slice_get last k ≡ Some b → IsKept a b)
+    → rest ≡ [] → map (λ worker. part_of worker) first ++ rest ≡ parts → map (λ worker. domain_of worker) first ≡ take (length first) domains → length domains ≡ length parts
     → AreTaken first mid last parts domains
 taken_by {D} first lent mid again last rest parts domains e f long told longer kept none whole share one_each =
-    let started = all_started (λ (seat : ReadSeat D). part_of seat) (λ seat. domain_of seat) first rest parts domains none whole share one_each in
+    let started = all_started (λ (worker : ReadWorker D). part_of worker) (λ worker. domain_of worker) first rest parts domains none whole share one_each in
     record {
       of_parts = started.0;
       of_domains = started.1;
-      long = long ∙ ap (λ (ss : List (ReadSeat D)). length ss) e;
-      longer = longer ∙ ap (λ (ss : List (ReadSeat D)). length ss) f;
-      told = subst (λ (ss : List (ReadSeat D)). (k : ℕ) (a b : ReadSeat D) → slice_get ss k ≡ Some a → slice_get mid k ≡ Some b → IsToldToGo a b) e told;
-      kept = subst (λ (ss : List (ReadSeat D)). (k : ℕ) (a b : ReadSeat D) → slice_get ss k ≡ Some a → slice_get last k ≡ Some b → IsKept a b) f kept;
+      long = long ∙ ap (λ (ss : List (ReadWorker D)). length ss) e;
+      longer = longer ∙ ap (λ (ss : List (ReadWorker D)). length ss) f;
+      told = subst (λ (ss : List (ReadWorker D)). (k : ℕ) (a b : ReadWorker D) → slice_get ss k ≡ Some a → slice_get mid k ≡ Some b → IsToldToGo a b) e told;
+      kept = subst (λ (ss : List (ReadWorker D)). (k : ℕ) (a b : ReadWorker D) → slice_get ss k ≡ Some a → slice_get last k ≡ Some b → IsKept a b) f kept;
     }
 
-last_parts : {D : Type 0} (first mid last : List (ReadSeat D)) (parts : List D) (domains : List Extent) → AreTaken first mid last parts domains
-    → (map (λ seat. part_of seat) last ≡ parts) × (map (λ seat. domain_of seat) last ≡ domains)
+last_parts : {D : Type 0} (first mid last : List (ReadWorker D)) (parts : List D) (domains : List Extent) → AreTaken first mid last parts domains
+    → (map (λ worker. part_of worker) last ≡ parts) × (map (λ worker. domain_of worker) last ≡ domains)
 last_parts first mid last parts domains t = (
-  map_new (λ seat. part_of seat) (λ a b. IsKept a b) mid last t.longer t.kept (λ a b k. ap (λ helper. helper.child.promise.ends.value.part) k.helper)
-      ∙ map_new (λ seat. part_of seat) (λ a b. IsToldToGo a b) first mid t.long t.told (λ a b g. ap (λ child. child.promise.ends.value.part) g.child)
+  map_new (λ worker. part_of worker) (λ a b. IsKept a b) mid last t.longer t.kept (λ a b k. ap (λ helper. helper.child.promise.ends.value.part) k.helper)
+      ∙ map_new (λ worker. part_of worker) (λ a b. IsToldToGo a b) first mid t.long t.told (λ a b g. ap (λ child. child.promise.ends.value.part) g.child)
       ∙ t.of_parts,
-  map_new (λ seat. domain_of seat) (λ a b. IsKept a b) mid last t.longer t.kept (λ a b k. ap (λ helper. helper.child.promise.domain.value) k.helper)
-      ∙ map_new (λ seat. domain_of seat) (λ a b. IsToldToGo a b) first mid t.long t.told (λ a b g. ap (λ child. child.promise.domain.value) g.child)
+  map_new (λ worker. domain_of worker) (λ a b. IsKept a b) mid last t.longer t.kept (λ a b k. ap (λ helper. helper.child.promise.domain.value) k.helper)
+      ∙ map_new (λ worker. domain_of worker) (λ a b. IsToldToGo a b) first mid t.long t.told (λ a b g. ap (λ child. child.promise.domain.value) g.child)
       ∙ t.of_domains,
 )
 
-pub all_got : {D : Type 0} (first mid last : List (ReadSeat D)) (parts back : List D) (domains : List Extent) (Q : D × Extent → D → Type 0) → AreTaken first mid last parts domains
-    → AllZip (λ seat new. Q (part_of seat, domain_of seat) new) last back → AllZip Q (zip parts domains) back
+pub all_got : {D : Type 0} (first mid last : List (ReadWorker D)) (parts back : List D) (domains : List Extent) (Q : D × Extent → D → Type 0) → AreTaken first mid last parts domains
+    → AllZip (λ worker new. Q (part_of worker, domain_of worker) new) last back → AllZip Q (zip parts domains) back
 all_got {D} first mid last parts back domains Q t h =
     let stay = last_parts first mid last parts domains t in
     subst (λ (ds : List Extent). AllZip Q (zip parts ds) back) stay.1
-    (subst (λ (ps : List D). AllZip Q (zip ps (map (λ seat. domain_of seat) last)) back) stay.0
-    (zip_mapped (λ seat. part_of seat) (λ seat. domain_of seat) Q last back h))
+    (subst (λ (ps : List D). AllZip Q (zip ps (map (λ worker. domain_of worker) last)) back) stay.0
+    (zip_mapped (λ worker. part_of worker) (λ worker. domain_of worker) Q last back h))
 
-pub some_failed : {D : Type 0} (first mid last : List (ReadSeat D)) (parts back : List D) (domains : List Extent) (R : D → D → Type 0) → AreTaken first mid last parts domains
-    → SomeZip (λ seat new. R (part_of seat) new) last back → SomeZip R parts back
+pub some_failed : {D : Type 0} (first mid last : List (ReadWorker D)) (parts back : List D) (domains : List Extent) (R : D → D → Type 0) → AreTaken first mid last parts domains
+    → SomeZip (λ worker new. R (part_of worker) new) last back → SomeZip R parts back
 some_failed {D} first mid last parts back domains R t h =
     let stay = last_parts first mid last parts domains t in
-    subst (λ (ps : List D). SomeZip R ps back) stay.0 (some_mapped (λ seat. part_of seat) R last back h)
+    subst (λ (ps : List D). SomeZip R ps back) stay.0 (some_mapped (λ worker. part_of worker) R last back h)
 
 -- reads that were done, where the later end is no better
 pub all_got_later : {D T E : Type 0} (turns : D × Extent → List Told) (state : D → PartState) (pairs : List (D × Extent)) (back : List D) (end came : Result T E) → OnOk came (IsOk end)
@@ -269,19 +269,19 @@ all_got_later turns state (p ∷ pairs) [] end came ok h = h
 all_got_later turns state (p ∷ pairs) (d ∷ back) end came ok h =
     (got_later (turns p) (state p.0) (state d) end came ok h.0, all_got_later turns state pairs back end came ok h.1)
 
-pub all_read : {D T E : Type 0} (from : D → ℕ) (held : D → Option (List ℕ)) (plan : GetPlan) (first mid last : List (ReadSeat D)) (parts : List D) (domains : List Extent)
-    (old now : List (List (List ℕ))) (end came : Result T E) → AreTaken first mid last parts domains → ((seat : ReadSeat D) → In mid seat → IsReady plan seat)
-    → ((k : ℕ) (seat : ReadSeat D) → slice_get last k ≡ Some seat → turns_due seat.shelf ≡ [])
+pub all_read : {D T E : Type 0} (from : D → ℕ) (held : D → Option (List ℕ)) (plan : GetPlan) (first mid last : List (ReadWorker D)) (parts : List D) (domains : List Extent)
+    (old now : List (List (List ℕ))) (end came : Result T E) → AreTaken first mid last parts domains → ((worker : ReadWorker D) → In mid worker → IsReady plan worker)
+    → ((k : ℕ) (worker : ReadWorker D) → slice_get last k ≡ Some worker → turns_due worker.shelf ≡ [])
     → OnOk came (HaveTakenTurns plan.list.now mid last old now)
-    → OnOk end ((seat : ReadSeat D) → In last seat → AreRead (get_turns plan (domain_of seat)) (from (part_of seat)) (held (part_of seat)) seat.shelf.line.items)
+    → OnOk end ((worker : ReadWorker D) → In last worker → AreRead (get_turns plan (domain_of worker)) (from (part_of worker)) (held (part_of worker)) worker.shelf.line.items)
     → OnOk (result_and end came) (HasReadParts from held plan (zip parts domains) old now)
 all_read from held plan first mid last parts domains old now (Err x) came t ready none taken read = tt
 all_read from held plan first mid last parts domains old now (Ok y) (Err x) t ready none taken read = tt
 all_read {D} from held plan first mid last parts domains old now (Ok y) (Ok x) t ready none taken read =
     let stay = last_parts first mid last parts domains t in
     subst (λ (ds : List Extent). HasReadParts from held plan (zip parts ds) old now) stay.1
-    (subst (λ (ps : List D). HasReadParts from held plan (zip ps (map (λ seat. domain_of seat) last)) old now) stay.0
-    (seats_read from held plan mid last old now t.longer ready t.kept none taken read))
+    (subst (λ (ps : List D). HasReadParts from held plan (zip ps (map (λ worker. domain_of worker) last)) old now) stay.0
+    (workers_read from held plan mid last old now t.longer ready t.kept none taken read))
 
 -- want of memory is no fault
 pub and_memory : {T : Type 0} (end came : Result T DiskErr) → IfErr came (λ e. e ≡ Memory) → IsErrOf (result_and end came) Failed → IsErrOf end Failed

@@ -13,7 +13,7 @@ use Rattle.overlay_laws.proofs.EntryLaws.{says_left, says_right, says_cases, in_
 use Rattle.overlay_laws.proofs.SaidLaws.{same_said, said_in_any_order}
 use Rattle.overlay_laws.proofs.WindowLaws.{append_within, said_by_joined}
 use Rattle.data_sieving.specs.Sieving.{got_cells, places_of}
-use Rattle.data_sieving.specs.Serving.{buffer_cell, part_in, IsCovered}
+use Rattle.data_sieving.specs.Walked.{buffer_cell, part_in, IsCovered}
 use Rattle.data_sieving.proofs.ReadParts.{IsRead, got_says, says_got, read_once}
 use Rattle.data_sieving.proofs.GetSteps.{parts_within, whole_parts}
 use Rattle.data_sieving.proofs.CollectedSteps.{buffer_cells, got_whole}

@@ -12,7 +12,7 @@ use Rattle.nc_outside.specs.declared.disk.DiskErr.TheVariants.{Memory}
 use Rattle.serial_spec.specs.File.{read}
 use Rattle.overlay_laws.specs.Entries.{In}
 use Rattle.overlay_laws.proofs.HullLaws.{in_either, in_left, in_right}
-use Rattle.piece_exchange.specs.Shelves.{domain_of, turns_due, IsFresh, IsReadSeat, IsSent, IsShelf, IsToldToGo}
+use Rattle.piece_exchange.specs.Shelves.{domain_of, turns_due, IsFresh, IsReadWorker, IsSent, IsShelf, IsToldToGo}
 use Rattle.piece_exchange.specs.Blobs.{FitTable, HasCollected, HaveOnePlaces}
 use Rattle.piece_exchange.specs.Cursor.{AreServed}
 use Rattle.piece_exchange.specs.Gets.{get_turns, reading_of, AreRead}
@@ -22,7 +22,7 @@ use Rattle.piece_exchange.specs.declared.crew.Word.TheVariants.{Go}
 use Rattle.piece_exchange.specs.declared.gets.reading.Reading.{Reading}
 use Rattle.piece_exchange.specs.declared.gets.reading.Reading.TheVariants.{Hull}
 use Rattle.piece_exchange.specs.declared.gets.shelf.Shelf.{Shelf}
-use Rattle.piece_exchange.specs.declared.gets.starting.ReadSeat.{ReadSeat}
+use Rattle.piece_exchange.specs.declared.gets.starting.ReadWorker.{ReadWorker}
 use Rattle.piece_exchange.specs.declared.plan.GetPlan.{GetPlan}
 use Rattle.piece_exchange.proofs.BackLaws.{each_new}
 use Rattle.piece_exchange.proofs.FeedLaws.{get_long, set_each}
@@ -55,14 +55,14 @@ taken_turn list begun t bytes old new before now (Ok x) turns items once fit ser
 
 -- ---- one hull more of one of the helpers
 
-pub taken_more : {D : Type 0} (list : List Owned) (olds mids : List (ReadSeat D)) (k : ℕ) (mid new : ReadSeat D) (before between now : List (List (List ℕ))) → length mids ≡ length olds
+pub taken_more : {D : Type 0} (list : List Owned) (olds mids : List (ReadWorker D)) (k : ℕ) (mid new : ReadWorker D) (before between now : List (List (List ℕ))) → length mids ≡ length olds
     → slice_get mids k ≡ Some mid → HaveTakenTurns list olds mids before between → HasTakenTurn list mid.shelf new.shelf between now
     → HaveTakenTurns list olds (set mids k new) before now
 taken_more {D} list olds mids k mid new before between now long at h t = record {
   log = h.log ++ t.own;
   collected = log_joined list h.log t.own before between now h.collected t.collected;
   each = λ j o n e f.
-      set_each (λ r s. (o : ReadSeat D) → slice_get olds r ≡ Some o → HasTakenOf (h.log ++ t.own) o.shelf s.shelf) mids k mid new at
+      set_each (λ r s. (o : ReadWorker D) → slice_get olds r ≡ Some o → HasTakenOf (h.log ++ t.own) o.shelf s.shelf) mids k mid new at
       (λ o e. grown o (h.each k o mid e at)) (λ r s e o f. wider o s (h.each r o s f e)) j n f o e;
   only = λ e m. elim (in_either h.log t.own e m) [
     | inl g ↦ by_number e (h.only e g) ((h.only e g).number == k) refl
@@ -70,14 +70,14 @@ taken_more {D} list olds mids k mid new before between now long at h t = record 
   ];
 }
   where
-    grown : (o : ReadSeat D) → HasTakenOf h.log o.shelf mid.shelf → HasTakenOf (h.log ++ t.own) o.shelf new.shelf
+    grown : (o : ReadWorker D) → HasTakenOf h.log o.shelf mid.shelf → HasTakenOf (h.log ++ t.own) o.shelf new.shelf
     grown o w = record {
       own = w.own ++ t.own;
       taken = taken_twice w.own t.own o.shelf mid.shelf new.shelf w.taken t.taken;
       inside = λ e m. elim (in_either w.own t.own e m) [ inl g ↦ in_left h.log t.own e (w.inside e g) | inr g ↦ in_right h.log t.own e g ];
     }
 
-    wider : (o s : ReadSeat D) → HasTakenOf h.log o.shelf s.shelf → HasTakenOf (h.log ++ t.own) o.shelf s.shelf
+    wider : (o s : ReadWorker D) → HasTakenOf h.log o.shelf s.shelf → HasTakenOf (h.log ++ t.own) o.shelf s.shelf
     wider o s w = record { own = w.own; taken = w.taken; inside = λ e m. in_left h.log t.own e (w.inside e m) }
 
     newest : (e : Told × List ℕ) → In t.own e → IsTakenOf olds (set mids k new) e
@@ -107,7 +107,7 @@ taken_more {D} list olds mids k mid new before between now long at h t = record 
           at_old = ap (λ (n : ℕ). slice_get olds n) (sym same) ∙ r.at_old;
           at_new = entry_set mids k mid new at;
           own = r.own ++ t.own;
-          taken = taken_twice r.own t.own r.old.shelf mid.shelf new.shelf (subst (λ (s : ReadSeat D). HasTaken r.own r.old.shelf s.shelf) own r.taken) t.taken;
+          taken = taken_twice r.own t.own r.old.shelf mid.shelf new.shelf (subst (λ (s : ReadWorker D). HasTaken r.own r.old.shelf s.shelf) own r.taken) t.taken;
           inside = in_left r.own t.own e r.inside;
         }
     by_number e r false f = record {
@@ -121,7 +121,7 @@ taken_more {D} list olds mids k mid new before between now long at h t = record 
       inside = r.inside;
     }
 
-pub taken_on : {D T E : Type 0} (list : List Owned) (olds mids : List (ReadSeat D)) (k : ℕ) (mid new : ReadSeat D) (before between now : List (List (List ℕ))) (end came : Result T E)
+pub taken_on : {D T E : Type 0} (list : List Owned) (olds mids : List (ReadWorker D)) (k : ℕ) (mid new : ReadWorker D) (before between now : List (List (List ℕ))) (end came : Result T E)
     → length mids ≡ length olds → slice_get mids k ≡ Some mid → OnOk end (HaveTakenTurns list olds mids before between) → OnOk came (HasTakenTurn list mid.shelf new.shelf between now)
     → OnOk (result_and end came) (HaveTakenTurns list olds (set mids k new) before now)
 taken_on list olds mids k mid new before between now (Err x) came long at h t = tt
@@ -132,18 +132,18 @@ pub both_memory : {T : Type 0} (end came : Result T DiskErr) → IfErr end (λ e
 both_memory (Err x) came h g = h
 both_memory (Ok y) came h g = g
 
-pub kept_more : {D : Type 0} (old mid new : ReadSeat D) → IsKept old mid → new.helper ≡ mid.helper → new.shelf.line.of ≡ mid.shelf.line.of → IsKept old new
+pub kept_more : {D : Type 0} (old mid new : ReadWorker D) → IsKept old mid → new.helper ≡ mid.helper → new.shelf.line.of ≡ mid.shelf.line.of → IsKept old new
 kept_more old mid new k helper of = record { helper = helper ∙ k.helper; of = of ∙ k.of }
 
 -- nothing was taken
-pub kept_none : {D : Type 0} (old new : ReadSeat D) → old ≡ new → IsKept old new
+pub kept_none : {D : Type 0} (old new : ReadWorker D) → old ≡ new → IsKept old new
 kept_none old new e = record { helper = ap (λ s. s.helper) (sym e); of = ap (λ s. s.shelf.line.of) (sym e) }
 
-pub taken_none : {D : Type 0} (list : List Owned) (seats : List (ReadSeat D)) (table : List (List (List ℕ))) → HaveTakenTurns list seats seats table table
-taken_none {D} list seats table = record {
+pub taken_none : {D : Type 0} (list : List Owned) (workers : List (ReadWorker D)) (table : List (List (List ℕ))) → HaveTakenTurns list workers workers table table
+taken_none {D} list workers table = record {
   log = [];
   collected = λ r s. refl;
-  each = λ k o n e f. record { own = []; taken = subst (λ (s : ReadSeat D). HasTaken [] o.shelf s.shelf) (same_Some o n (sym e ∙ f)) (untouched o.shelf); inside = λ e m. absurd m };
+  each = λ k o n e f. record { own = []; taken = subst (λ (s : ReadWorker D). HasTaken [] o.shelf s.shelf) (same_Some o n (sym e ∙ f)) (untouched o.shelf); inside = λ e m. absurd m };
   only = λ e m. absurd m;
 }
   where
@@ -177,18 +177,18 @@ items_read from held own items is taken = by_held held (taken.whole long)
     by_held (Some file) w = each_read from file own (sym is ∙ w)
 
 -- a helper that was told to go, and of which nothing was taken
-pub record IsReady {D : Type 0} (plan : GetPlan) (seat : ReadSeat D) : Type 0 where
-  pub seat_is : IsReadSeat plan seat
-  pub word : seat.helper.word.items ≡ Go ∷ []
-  pub ready : IsShelfIn plan.list.now seat.shelf
-  pub taken : seat.shelf.line.items ≡ []
-  pub due : turns_due seat.shelf ≡ get_turns plan (domain_of seat)
+pub record IsReady {D : Type 0} (plan : GetPlan) (worker : ReadWorker D) : Type 0 where
+  pub worker_is : IsReadWorker plan worker
+  pub word : worker.helper.word.items ≡ Go ∷ []
+  pub ready : IsShelfIn plan.list.now worker.shelf
+  pub taken : worker.shelf.line.items ≡ []
+  pub due : turns_due worker.shelf ≡ get_turns plan (domain_of worker)
 
-go_seat : {D : Type 0} (plan : GetPlan) (old new : ReadSeat D) → IsToldToGo old new → IsFresh plan old → IsReady plan new
-go_seat plan old new t f =
-    let s = f.seat_is in
+go_worker : {D : Type 0} (plan : GetPlan) (old new : ReadWorker D) → IsToldToGo old new → IsFresh plan old → IsReady plan new
+go_worker plan old new t f =
+    let s = f.worker_is in
     record {
-      seat_is = record {
+      worker_is = record {
         cover = ap (λ child. child.promise.cover.value) t.child ∙ s.cover;
         size = ap (λ child. child.promise.size.value) t.child ∙ s.size;
         word_of = t.of ∙ s.word_of ∙ sym (ap (λ child. child.promise.ends.value.word.of) t.child);
@@ -200,17 +200,17 @@ go_seat plan old new t f =
       due = ap (λ (shelf : Shelf). turns_due shelf) t.shelf ∙ f.due ∙ sym (ap (λ child. get_turns plan child.promise.domain.value) t.child);
     }
 
-pub ready_seats : {D : Type 0} (plan : GetPlan) (old new : List (ReadSeat D)) → length new ≡ length old
-    → ((k : ℕ) (a b : ReadSeat D) → slice_get old k ≡ Some a → slice_get new k ≡ Some b → IsToldToGo a b) → ((seat : ReadSeat D) → In old seat → IsFresh plan seat)
-    → (seat : ReadSeat D) → In new seat → IsReady plan seat
-ready_seats plan old new long told fresh =
-    each_new (λ seat. IsFresh plan seat) (λ seat. IsReady plan seat) (λ a b. IsToldToGo a b) old new long told fresh (λ a b t f. go_seat plan a b t f)
+pub ready_workers : {D : Type 0} (plan : GetPlan) (old new : List (ReadWorker D)) → length new ≡ length old
+    → ((k : ℕ) (a b : ReadWorker D) → slice_get old k ≡ Some a → slice_get new k ≡ Some b → IsToldToGo a b) → ((worker : ReadWorker D) → In old worker → IsFresh plan worker)
+    → (worker : ReadWorker D) → In new worker → IsReady plan worker
+ready_workers plan old new long told fresh =
+    each_new (λ worker. IsFresh plan worker) (λ worker. IsReady plan worker) (λ a b. IsToldToGo a b) old new long told fresh (λ a b t f. go_worker plan a b t f)
 
-kept_seat : {D : Type 0} (plan : GetPlan) (old new : ReadSeat D) → IsKept old new → IsReady plan old → IsSent plan new
-kept_seat plan old new k r =
-    let s = r.seat_is in
+kept_worker : {D : Type 0} (plan : GetPlan) (old new : ReadWorker D) → IsKept old new → IsReady plan old → IsSent plan new
+kept_worker plan old new k r =
+    let s = r.worker_is in
     record {
-      seat_is = record {
+      worker_is = record {
         cover = ap (λ helper. helper.child.promise.cover.value) k.helper ∙ s.cover;
         size = ap (λ helper. helper.child.promise.size.value) k.helper ∙ s.size;
         word_of = ap (λ helper. helper.word.of) k.helper ∙ s.word_of ∙ sym (ap (λ helper. helper.child.promise.ends.value.word.of) k.helper);
@@ -219,8 +219,8 @@ kept_seat plan old new k r =
       word = ap (λ helper. helper.word.items) k.helper ∙ r.word;
     }
 
-pub sent_seats : {D : Type 0} (plan : GetPlan) (old new : List (ReadSeat D)) → length new ≡ length old
-    → ((k : ℕ) (a b : ReadSeat D) → slice_get old k ≡ Some a → slice_get new k ≡ Some b → IsKept a b) → ((seat : ReadSeat D) → In old seat → IsReady plan seat)
-    → (seat : ReadSeat D) → In new seat → IsSent plan seat
-sent_seats plan old new long kept ready =
-    each_new (λ seat. IsReady plan seat) (λ seat. IsSent plan seat) (λ a b. IsKept a b) old new long kept ready (λ a b k r. kept_seat plan a b k r)
+pub sent_workers : {D : Type 0} (plan : GetPlan) (old new : List (ReadWorker D)) → length new ≡ length old
+    → ((k : ℕ) (a b : ReadWorker D) → slice_get old k ≡ Some a → slice_get new k ≡ Some b → IsKept a b) → ((worker : ReadWorker D) → In old worker → IsReady plan worker)
+    → (worker : ReadWorker D) → In new worker → IsSent plan worker
+sent_workers plan old new long kept ready =
+    each_new (λ worker. IsReady plan worker) (λ worker. IsSent plan worker) (λ a b. IsKept a b) old new long kept ready (λ a b k r. kept_worker plan a b k r)

@@ -5,7 +5,7 @@ use Rattle.nc_base.specs.declared.plan.Owned.{Owned}
 use Rattle.overlay_laws.specs.Entries.{In, Source}
 use Rattle.overlay_laws.specs.Lines.{extents, EndBelow, IsByPlace}
 use Rattle.overlay_laws.proofs.HullLaws.{in_left, in_either}
-use Rattle.data_sieving.specs.Serving.{IsCovered, AreBegun, IsPast}
+use Rattle.data_sieving.specs.Walked.{IsCovered, AreBegun, IsPast}
 use Rattle.data_sieving.specs.Sieving.{AreFilled}
 use Rattle.data_sieving.proofs.PastSteps.{past_extents, past_in, past_kept, past_later, past_sorted, past_twice}
 use Rattle.piece_exchange.specs.Cursor.{AreInFront, AreServed, IsAt}

@@ -4,9 +4,9 @@
 --     IsFeed feed               what holds of a feed at every moment
 --     HaveFed ranks old new     what was left is what was put, and what is left now
 --     next_round_of feed        the round of its next window
---     HasRound seats round      some part's next window is of the round
+--     HasRound workers round      some part's next window is of the round
 --     IsNotBefore round feed    its next window is of the round or a later one
---     turns_in seats            how many windows are left
+--     turns_in workers            how many windows are left
 --     HasPacked ranks old new   pieces of a part were put, and the rest is left
 --     FitsIn room feed          no window has more entries than there is room for
 --     goes_in ranks lo hi o     an entry of one of these ranks has a byte from lo to hi
@@ -24,7 +24,7 @@ use Rattle.piece_exchange.specs.Pieces.{meets, pieces_in, pieces_of}
 use Rattle.piece_exchange.specs.Turns.{Told, turns_ahead, IsTurnWalk}
 use Rattle.piece_exchange.specs.declared.packing.Feed.{Feed}
 use Rattle.piece_exchange.specs.declared.packing.Ranked.{Ranked}
-use Rattle.piece_exchange.specs.declared.starting.Seat.{Seat}
+use Rattle.piece_exchange.specs.declared.starting.Worker.{Worker}
 use Rattle.piece_exchange.specs.declared.walk.Turn.{Turn}
 use Rattle.piece_exchange.specs.declared.walk.TurnWalk.{TurnWalk}
 
@@ -87,19 +87,19 @@ earlier_of (Some a) (Some b) = Some (min a b)
 earlier_of (Some a) None = Some a
 earlier_of None other = other
 
-pub record HasRound {D : Type 0} (seats : List (Seat D)) (round : ℕ) : Type 0 where
+pub record HasRound {D : Type 0} (workers : List (Worker D)) (round : ℕ) : Type 0 where
   pub place : ℕ
-  pub seat : Seat D
-  pub found : slice_get seats place ≡ Some seat
-  pub next : next_round_of seat.feed ≡ Some round
+  pub worker : Worker D
+  pub found : slice_get workers place ≡ Some worker
+  pub next : next_round_of worker.feed ≡ Some round
 
 abbrev pub IsNotBefore : ℕ → Feed → Type 0
 IsNotBefore round f = (next : ℕ) → next_round_of f ≡ Some next → round ≤ next
 
-abbrev pub turns_in : {D : Type 0} → List (Seat D) → ℕ
-turns_in seats = length (flat_map (λ seat. turns_left seat.feed) seats)
+abbrev pub turns_in : {D : Type 0} → List (Worker D) → ℕ
+turns_in workers = length (flat_map (λ worker. turns_left worker.feed) workers)
 
-pub record HasPacked {D : Type 0} (ranks : ℕ) (old new : Seat D) : Type 0 where
+pub record HasPacked {D : Type 0} (ranks : ℕ) (old new : Worker D) : Type 0 where
   pub helper : new.helper ≡ old.helper
   pub ready : IsFeed new.feed
   pub fed : HaveFed ranks old.feed new.feed

@@ -3,7 +3,7 @@
 --     AreReady lenders      so of each
 use Rattle.std.specs.Prelude.{◌≡◌, ℕ, List, Some, IfSome, slice_get}
 use Rattle.file_domains.specs.Rounds.{IsWalk}
-use Rattle.piece_exchange.specs.declared.gets.lending.Lender.{Lender}
+use Rattle.piece_exchange.specs.declared.gets.buffers.Lender.{Lender}
 
 abbrev pub IsReady : Lender → Type 0
 IsReady lender = IfSome lender.next (λ _. IsWalk lender.windows)

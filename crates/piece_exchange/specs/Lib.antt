@@ -5,7 +5,7 @@ pub mod Put
 pub mod Taken
 pub mod Feeds
 pub mod Helped
-pub mod Seats
+pub mod Workers
 pub mod Rooms
 pub mod Hulls
 pub mod Cursor

@@ -17,7 +17,7 @@
 use Rattle.std.specs.Prelude.{◌≡◌, ℕ, ◌+◌, ◌-◌, List, ◌++◌, map, flat_map, length, Option, Some, IfSome, slice_get}
 use Rattle.nc_base.specs.declared.plan.Extent.{Extent}
 use Rattle.nc_base.specs.declared.plan.Owned.{Owned}
-use Rattle.data_sieving.specs.Serving.{buffer_cell}
+use Rattle.data_sieving.specs.Walked.{buffer_cell}
 use Rattle.overlay_laws.specs.Entries.{In}
 use Rattle.serial_spec.specs.File.{read}
 use Rattle.serial_spec.specs.Said.{Cell, write_cells}
@@ -27,7 +27,7 @@ use Rattle.piece_exchange.specs.Shelves.{turns_due, IsShelf}
 use Rattle.piece_exchange.specs.Turns.{Told}
 use Rattle.piece_exchange.specs.declared.gets.reading.Reading.TheVariants.{Hull}
 use Rattle.piece_exchange.specs.declared.gets.shelf.Shelf.{Shelf}
-use Rattle.piece_exchange.specs.declared.gets.starting.ReadSeat.{ReadSeat}
+use Rattle.piece_exchange.specs.declared.gets.starting.ReadWorker.{ReadWorker}
 use Rattle.piece_exchange.specs.declared.plan.GetPlan.{GetPlan}
 
 abbrev pub Log : Type 0
@@ -90,22 +90,22 @@ pub record HasTakenOf (log : Log) (old new : Shelf) : Type 0 where
   pub taken : HasTaken own old new
   pub inside : (e : Told × List ℕ) → In own e → In log e
 
-pub record IsTakenOf {D : Type 0} (olds news : List (ReadSeat D)) (e : Told × List ℕ) : Type 0 where
+pub record IsTakenOf {D : Type 0} (olds news : List (ReadWorker D)) (e : Told × List ℕ) : Type 0 where
   pub number : ℕ
-  pub old : ReadSeat D
-  pub new : ReadSeat D
+  pub old : ReadWorker D
+  pub new : ReadWorker D
   pub at_old : slice_get olds number ≡ Some old
   pub at_new : slice_get news number ≡ Some new
   pub own : Log
   pub taken : HasTaken own old.shelf new.shelf
   pub inside : In own e
 
-pub record HaveTakenTurns {D : Type 0} (list : List Owned) (olds news : List (ReadSeat D)) (before now : List (List (List ℕ))) : Type 0 where
+pub record HaveTakenTurns {D : Type 0} (list : List Owned) (olds news : List (ReadWorker D)) (before now : List (List (List ℕ))) : Type 0 where
   pub log : Log
   pub collected : HasCollectedLog list log before now
-  pub each : (k : ℕ) (old new : ReadSeat D) → slice_get olds k ≡ Some old → slice_get news k ≡ Some new → HasTakenOf log old.shelf new.shelf
+  pub each : (k : ℕ) (old new : ReadWorker D) → slice_get olds k ≡ Some old → slice_get news k ≡ Some new → HasTakenOf log old.shelf new.shelf
   pub only : (e : Told × List ℕ) → In log e → IsTakenOf olds news e
 
-pub record IsKept {D : Type 0} (old new : ReadSeat D) : Type 0 where
+pub record IsKept {D : Type 0} (old new : ReadWorker D) : Type 0 where
   pub helper : new.helper ≡ old.helper
   pub of : new.shelf.line.of ≡ old.shelf.line.of

@@ -1,11 +1,11 @@
 -- What of the windows of a part is still to be taken, and what the calling thread has of a helper of gets. (own)
 --     turns_due shelf              the windows of which the hull was not taken
 --     IsShelf list room shelf      what holds of a shelf at every moment
---     part_of seat                 the part that the helper was given
---     domain_of seat               the bytes that it serves
---     IsReadSeat plan seat         it was started for the plan, and has the other ends of these lines
---     IsFresh plan seat            it was told nothing, and all windows of its domain are left to be taken
---     IsSent plan seat             it was told to go
+--     part_of worker                 the part that the helper was given
+--     domain_of worker               the bytes that it serves
+--     IsReadWorker plan worker         it was started for the plan, and has the other ends of these lines
+--     IsFresh plan worker            it was told nothing, and all windows of its domain are left to be taken
+--     IsSent plan worker             it was told to go
 --     IsToldToGo old new           it was told to go, and nothing else was done
 use Rattle.std.specs.Prelude.{◌≡◌, ℕ, ◌++◌, ◌∷◌, [], min, List, Option, Some, None}
 use Rattle.nc_base.specs.declared.plan.Extent.{Extent}
@@ -14,13 +14,13 @@ use Rattle.file_domains.specs.Rounds.{IsWalk}
 use Rattle.file_domains.specs.declared.walk.Window.{Window}
 use Rattle.file_domains.specs.declared.walk.WindowWalk.{WindowWalk}
 use Rattle.aggregator_rounds.specs.Pieces.{told_window}
-use Rattle.data_sieving.specs.Serving.{entries_left}
+use Rattle.data_sieving.specs.Walked.{entries_left}
 use Rattle.piece_exchange.specs.Cursor.{IsAt}
 use Rattle.piece_exchange.specs.Gets.{get_turns}
 use Rattle.piece_exchange.specs.Turns.{Told, turns_ahead}
 use Rattle.piece_exchange.specs.declared.crew.Word.TheVariants.{Go}
 use Rattle.piece_exchange.specs.declared.gets.shelf.Shelf.{Shelf}
-use Rattle.piece_exchange.specs.declared.gets.starting.ReadSeat.{ReadSeat}
+use Rattle.piece_exchange.specs.declared.gets.starting.ReadWorker.{ReadWorker}
 use Rattle.piece_exchange.specs.declared.gets.walk.ReadWalk.{ReadWalk}
 use Rattle.piece_exchange.specs.declared.plan.GetPlan.{GetPlan}
 
@@ -43,32 +43,32 @@ IsShelfOf list room (Some w) walk = IsNextUp list room w walk
 abbrev pub IsShelf : List Owned → ℕ → Shelf → Type 0
 IsShelf list room s = IsShelfOf list room s.next s.walk
 
--- ---- seats
+-- ---- workers
 
-abbrev pub part_of : {D : Type 0} → ReadSeat D → D
-part_of seat = seat.helper.child.promise.ends.value.part
+abbrev pub part_of : {D : Type 0} → ReadWorker D → D
+part_of worker = worker.helper.child.promise.ends.value.part
 
-abbrev pub domain_of : {D : Type 0} → ReadSeat D → Extent
-domain_of seat = seat.helper.child.promise.domain.value
+abbrev pub domain_of : {D : Type 0} → ReadWorker D → Extent
+domain_of worker = worker.helper.child.promise.domain.value
 
-pub record IsReadSeat {D : Type 0} (plan : GetPlan) (seat : ReadSeat D) : Type 0 where
-  pub cover : seat.helper.child.promise.cover.value ≡ plan.cover.now
-  pub size : seat.helper.child.promise.size.value ≡ plan.hints.now.cb_buffer
-  pub word_of : seat.helper.word.of ≡ seat.helper.child.promise.ends.value.word.of
-  pub line_of : seat.helper.child.promise.ends.value.lines.line.of ≡ seat.shelf.line.of
+pub record IsReadWorker {D : Type 0} (plan : GetPlan) (worker : ReadWorker D) : Type 0 where
+  pub cover : worker.helper.child.promise.cover.value ≡ plan.cover.now
+  pub size : worker.helper.child.promise.size.value ≡ plan.hints.now.cb_buffer
+  pub word_of : worker.helper.word.of ≡ worker.helper.child.promise.ends.value.word.of
+  pub line_of : worker.helper.child.promise.ends.value.lines.line.of ≡ worker.shelf.line.of
 
-pub record IsFresh {D : Type 0} (plan : GetPlan) (seat : ReadSeat D) : Type 0 where
-  pub seat_is : IsReadSeat plan seat
-  pub word : seat.helper.word.items ≡ []
-  pub ready : IsShelf plan.list.now (min plan.hints.now.cb_buffer (domain_of seat).len) seat.shelf
-  pub taken : seat.shelf.line.items ≡ []
-  pub due : turns_due seat.shelf ≡ get_turns plan (domain_of seat)
+pub record IsFresh {D : Type 0} (plan : GetPlan) (worker : ReadWorker D) : Type 0 where
+  pub worker_is : IsReadWorker plan worker
+  pub word : worker.helper.word.items ≡ []
+  pub ready : IsShelf plan.list.now (min plan.hints.now.cb_buffer (domain_of worker).len) worker.shelf
+  pub taken : worker.shelf.line.items ≡ []
+  pub due : turns_due worker.shelf ≡ get_turns plan (domain_of worker)
 
-pub record IsSent {D : Type 0} (plan : GetPlan) (seat : ReadSeat D) : Type 0 where
-  pub seat_is : IsReadSeat plan seat
-  pub word : seat.helper.word.items ≡ Go ∷ []
+pub record IsSent {D : Type 0} (plan : GetPlan) (worker : ReadWorker D) : Type 0 where
+  pub worker_is : IsReadWorker plan worker
+  pub word : worker.helper.word.items ≡ Go ∷ []
 
-pub record IsToldToGo {D : Type 0} (old new : ReadSeat D) : Type 0 where
+pub record IsToldToGo {D : Type 0} (old new : ReadWorker D) : Type 0 where
   pub child : new.helper.child ≡ old.helper.child
   pub shelf : new.shelf ≡ old.shelf
   pub of : new.helper.word.of ≡ old.helper.word.of

@@ -39,7 +39,7 @@ pub(crate) struct Returned<D: Drop, L: Drop> {
 /// came back.
 #[derive(Drop)]
 pub(crate) struct Crew<S: Drop, D: Drop> {
-    pub seats: Vec<S>,
+    pub workers: Vec<S>,
     pub rest: Vec<D>,
     pub back: Vec<D>,
 }
@@ -49,10 +49,10 @@ pub(crate) fn make_rooms<S: Drop, D: Drop>(
     alloc: Global,
     count: usize,
 ) -> Result<Crew<S, D>, Memory>
-    ensures { IfOk result (λ crew. HasRooms count crew.seats.items crew.rest.items crew.back.items (vec_capacity crew.seats) (vec_capacity crew.rest) (vec_capacity crew.back)) }
+    ensures { IfOk result (λ crew. HasRooms count crew.workers.items crew.rest.items crew.back.items (vec_capacity crew.workers) (vec_capacity crew.rest) (vec_capacity crew.back)) }
 {
     Ok(Crew {
-        seats: Vec::with_capacity(alloc, count)?,
+        workers: Vec::with_capacity(alloc, count)?,
         rest: Vec::with_capacity(alloc, count)?,
         back: Vec::with_capacity(alloc, count)?,
     })

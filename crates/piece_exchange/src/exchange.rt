@@ -10,10 +10,10 @@ ghost use Rattle.piece_exchange.specs.Rooms.{HasRooms};
 
 use crate::crew::{Crew, give_back, make_rooms};
 use crate::in_turn::put_in_turn;
-use crate::joining::{join_all, tell_all};
 use crate::packing::pack_all;
 use crate::plan::{PutPlan, Tools};
-use crate::starting::{Seat, start_all, stop_all};
+use crate::results::{join_all, tell_all};
+use crate::starting::{Worker, start_all, stop_all};
 use nc_base::Extent;
 use nc_outside::{Disk, DiskErr, Gate};
 use std::sync::Wait;
@@ -81,7 +81,7 @@ fn put_on_threads<R: Threads + Wait + Sync, D: Disk, G: Gate>(
         |scope| -> (Vec<D>, Option<Result<(), DiskErr>>)
             requires { IsPlanned plan.now × (1 ≤ plan.now.hints.now.line_room) × (plan.now.hints.now.line_room ≤ 64) × (length domains.now ≤ 64) × (length domains.now ≡ length parts.items)
                 × ((k : ℕ) (part : D) (domain : Extent) → slice_get parts.items k ≡ Some part → slice_get domains.now k ≡ Some domain → IsDomainOf plan.now.list.now (D.from part) (D.len part) domain)
-                × HasRooms (length parts.items) crew.seats.items crew.rest.items crew.back.items (vec_capacity crew.seats) (vec_capacity crew.rest) (vec_capacity crew.back) }
+                × HasRooms (length parts.items) crew.workers.items crew.rest.items crew.back.items (vec_capacity crew.workers) (vec_capacity crew.rest) (vec_capacity crew.back) }
             ensures put { IfSome result.1 (λ end. AllZip (λ p new. HasPut (source_in plan.entry.now) plan.entry.now.list.now (planned_turns plan.entry.now p.1)
                 (record { from = D.from p.0; len = D.len p.0; held = D.held p.0; calls = D.calls p.0; faults = D.faults p.0 })
                 (record { from = D.from new; len = D.len new; held = D.held new; calls = D.calls new; faults = D.faults new }) end) (zip parts.items domains.entry.now) result.0.items) }
@@ -98,7 +98,7 @@ fn put_in_scope<'s, E, R: Threads + Wait + Sync, D: Disk + 's, G: Gate>(
     plan: &'s PutPlan<'s>,
     domains: &[Extent],
     parts: Vec<D>,
-    crew: Crew<Seat<'s, D>, D>,
+    crew: Crew<Worker<'s, D>, D>,
 ) -> (Vec<D>, Option<Result<(), DiskErr>>)
     requires plan { IsPlanned plan.now }
     requires line_low { 1 ≤ plan.now.hints.now.line_room }
@@ -106,7 +106,7 @@ fn put_in_scope<'s, E, R: Threads + Wait + Sync, D: Disk + 's, G: Gate>(
     requires few { length domains.now ≤ 64 }
     requires one_each { length domains.now ≡ length parts.items }
     requires domains { (k : ℕ) (part : D) (domain : Extent) → slice_get parts.items k ≡ Some part → slice_get domains.now k ≡ Some domain → IsDomainOf plan.now.list.now (D.from part) (D.len part) domain }
-    requires rooms { HasRooms (length parts.items) crew.seats.items crew.rest.items crew.back.items (vec_capacity crew.seats) (vec_capacity crew.rest) (vec_capacity crew.back) }
+    requires rooms { HasRooms (length parts.items) crew.workers.items crew.rest.items crew.back.items (vec_capacity crew.workers) (vec_capacity crew.rest) (vec_capacity crew.back) }
     ensures put { IfSome result.1 (λ end. AllZip (λ p new. HasPut (source_in plan.now) plan.now.list.now (planned_turns plan.now p.1)
         (record { from = D.from p.0; len = D.len p.0; held = D.held p.0; calls = D.calls p.0; faults = D.faults p.0 })
         (record { from = D.from new; len = D.len new; held = D.held new; calls = D.calls new; faults = D.faults new }) end) (zip parts.items domains.now) result.0.items) }
@@ -120,22 +120,22 @@ fn put_in_scope<'s, E, R: Threads + Wait + Sync, D: Disk + 's, G: Gate>(
     let mut crew = crew;
     start_all(scope, tools, plan, domains, parts, &mut crew);
     let Crew {
-        mut seats,
+        mut workers,
         rest,
         mut back,
     } = crew;
     if !rest.is_empty() {
-        stop_all(tools.rt, plan, seats, &mut back);
+        stop_all(tools.rt, plan, workers, &mut back);
         give_back(rest, &mut back);
         return (back, None);
     }
-    tell_all(tools.rt, &mut seats);
+    tell_all(tools.rt, &mut workers);
     pack_all(
         tools.rt,
         plan.job.batches.len() as u32,
-        &mut seats,
+        &mut workers,
         &mut order,
     );
-    let end = join_all(tools.rt, plan, seats, &mut back);
+    let end = join_all(tools.rt, plan, workers, &mut back);
     (back, Some(end))
 }

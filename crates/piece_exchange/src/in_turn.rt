@@ -16,8 +16,8 @@ ghost use Rattle.piece_exchange.specs.Put.{HasPut, SomeZip};
 ghost use Rattle.piece_exchange.specs.Taken.{cells_in, put_window, IsFilledBy};
 ghost use Rattle.piece_exchange.specs.Turns.{source_of};
 
+use crate::pieces::lay_piece;
 use crate::plan::{Aggregator, PutPlan, Tools};
-use crate::taking::lay_piece;
 use crate::walk::{Turn, TurnWalk};
 use aggregator_rounds::{close_window, open_window};
 use nc_base::{Batch, Extent, Owned};

@@ -10,8 +10,8 @@ ghost use Rattle.piece_exchange.specs.Put.{HasPut};
 ghost use Rattle.piece_exchange.specs.Taken.{HasTaken, HasPutTaken};
 ghost use Rattle.piece_exchange.specs.Turns.{source_of};
 
+use crate::pieces::{drop_pieces, piece_count, take_pieces};
 use crate::plan::{Aggregator, PutPlan, Tools};
-use crate::taking::{drop_pieces, piece_count, take_pieces};
 use crate::walk::TurnWalk;
 use aggregator_rounds::{close_window, open_window};
 use file_domains::Window;

@@ -11,12 +11,12 @@ mod exchange;
 mod gets;
 mod helper;
 mod in_turn;
-mod joining;
 mod laying;
 mod packing;
+mod pieces;
 mod plan;
+mod results;
 mod starting;
-mod taking;
 mod walk;
 
 pub use exchange::exchange_put;

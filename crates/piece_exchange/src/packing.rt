@@ -6,13 +6,13 @@ ghost use Rattle.overlay_laws.specs.Lines.{extents, EndBelow};
 ghost use Rattle.piece_exchange.specs.Feeds.{earlier_of, entry_at, feed_left, goes_in, next_round_of, ranked_from, turns_in, turns_left, FitsIn, HasPacked, HasRound, HaveFed, IsFeed, IsNotBefore};
 ghost use Rattle.piece_exchange.specs.Pieces.{pieces_in, pieces_of};
 ghost use Rattle.piece_exchange.specs.Plan.{planned_turns, IsPlanned};
-ghost use Rattle.piece_exchange.specs.Seats.{HasFed};
+ghost use Rattle.piece_exchange.specs.Workers.{HasFed};
 ghost use Rattle.piece_exchange.specs.declared.packing.Ranked.{Ranked};
-ghost use Rattle.piece_exchange.specs.declared.starting.Seat.{Seat};
+ghost use Rattle.piece_exchange.specs.declared.starting.Worker.{Worker};
 
+use crate::pieces::has_piece;
 use crate::plan::PutPlan;
-use crate::starting::Seat;
-use crate::taking::has_piece;
+use crate::starting::Worker;
 use crate::walk::{Turn, TurnWalk};
 use nc_base::{Extent, Owned};
 use nc_outside::Disk;
@@ -52,28 +52,28 @@ pub(crate) fn feed_of<'a>(plan: &PutPlan<'a>, domain: Extent, line: LinePut<Owne
 pub(crate) fn pack_all<R: Wait, D: Disk>(
     rt: &R,
     ranks: u32,
-    seats: &mut [Seat<D>],
+    workers: &mut [Worker<D>],
     order: &mut Vec<Ranked>,
 )
-    requires ready { (k : ℕ) (seat : Seat D) → slice_get seats.old k ≡ Some seat → IsFeed seat.feed }
-    requires fits { (k : ℕ) (seat : Seat D) → slice_get seats.old k ≡ Some seat → FitsIn (vec_capacity order.old) seat.feed }
-    ensures long { length seats.new ≡ length seats.old }
-    ensures fed { (k : ℕ) (old new : Seat D) → slice_get seats.old k ≡ Some old → slice_get seats.new k ≡ Some new → HasFed ranks old new }
+    requires ready { (k : ℕ) (worker : Worker D) → slice_get workers.old k ≡ Some worker → IsFeed worker.feed }
+    requires fits { (k : ℕ) (worker : Worker D) → slice_get workers.old k ≡ Some worker → FitsIn (vec_capacity order.old) worker.feed }
+    ensures long { length workers.new ≡ length workers.old }
+    ensures fed { (k : ℕ) (old new : Worker D) → slice_get workers.old k ≡ Some old → slice_get workers.new k ≡ Some new → HasFed ranks old new }
 {
-    'rounds: while let Some(round) = least_round(seats) {
-        pack_round(rt, ranks, round, seats, order);
+    'rounds: while let Some(round) = least_round(workers) {
+        pack_round(rt, ranks, round, workers, order);
     }
 }
 
 // The least round of the parts' next windows.
-fn least_round<D: Disk>(seats: &[Seat<D>]) -> Option<u64>
-    ensures some { IfSome result (λ round. HasRound seats.now round) }
-    ensures least { IfSome result (λ round. (k : ℕ) (seat : Seat D) → slice_get seats.now k ≡ Some seat → IsNotBefore round seat.feed) }
-    ensures none { IfNone result ((k : ℕ) (seat : Seat D) → slice_get seats.now k ≡ Some seat → turns_left seat.feed ≡ []) }
+fn least_round<D: Disk>(workers: &[Worker<D>]) -> Option<u64>
+    ensures some { IfSome result (λ round. HasRound workers.now round) }
+    ensures least { IfSome result (λ round. (k : ℕ) (worker : Worker D) → slice_get workers.now k ≡ Some worker → IsNotBefore round worker.feed) }
+    ensures none { IfNone result ((k : ℕ) (worker : Worker D) → slice_get workers.now k ≡ Some worker → turns_left worker.feed ≡ []) }
 {
     let mut least = None;
-    for seat in seats {
-        least = earlier(least, seat.feed.next_round());
+    for worker in workers {
+        least = earlier(least, worker.feed.next_round());
     }
     least
 }
@@ -103,18 +103,18 @@ fn pack_round<R: Wait, D: Disk>(
     rt: &R,
     ranks: u32,
     round: u64,
-    seats: &mut [Seat<D>],
+    workers: &mut [Worker<D>],
     order: &mut Vec<Ranked>,
 )
-    requires ready { (k : ℕ) (seat : Seat D) → slice_get seats.old k ≡ Some seat → IsFeed seat.feed }
-    requires fits { (k : ℕ) (seat : Seat D) → slice_get seats.old k ≡ Some seat → FitsIn (vec_capacity order.old) seat.feed }
+    requires ready { (k : ℕ) (worker : Worker D) → slice_get workers.old k ≡ Some worker → IsFeed worker.feed }
+    requires fits { (k : ℕ) (worker : Worker D) → slice_get workers.old k ≡ Some worker → FitsIn (vec_capacity order.old) worker.feed }
     ensures room { vec_capacity order.new ≡ vec_capacity order.old }
-    ensures long { length seats.new ≡ length seats.old }
-    ensures packed { (k : ℕ) (old new : Seat D) → slice_get seats.old k ≡ Some old → slice_get seats.new k ≡ Some new → HasPacked ranks old new }
-    ensures fewer { HasRound seats.old round → turns_in seats.new < turns_in seats.old }
+    ensures long { length workers.new ≡ length workers.old }
+    ensures packed { (k : ℕ) (old new : Worker D) → slice_get workers.old k ≡ Some old → slice_get workers.new k ≡ Some new → HasPacked ranks old new }
+    ensures fewer { HasRound workers.old round → turns_in workers.new < turns_in workers.old }
 {
-    for seat in seats.iter_mut() {
-        pack_turn(rt, ranks, round, &mut seat.feed, order);
+    for worker in workers.iter_mut() {
+        pack_turn(rt, ranks, round, &mut worker.feed, order);
     }
 }
 

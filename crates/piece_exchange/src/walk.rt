@@ -2,7 +2,7 @@
 ghost use Rattle.std.specs.Prelude.{◌≡◌, ◌∷◌, [], ◌+◌, ◌^◌, ◌≤◌, length, min, take, drop, IfNone, IfSome};
 ghost use Rattle.file_domains.specs.Rounds.{IsWalk};
 ghost use Rattle.aggregator_rounds.specs.Pieces.{told_window};
-ghost use Rattle.data_sieving.specs.Serving.{IsPast};
+ghost use Rattle.data_sieving.specs.Walked.{IsPast};
 ghost use Rattle.overlay_laws.specs.Lines.{EndBelow};
 ghost use Rattle.overlay_laws.specs.Walks.{IsCover};
 ghost use Rattle.piece_exchange.specs.Cursor.{AreInFront, IsAt};

@@ -13,15 +13,15 @@ use Rattle.nc_base.specs.declared.answer.Code.{Code}
 use Rattle.nc_base.specs.declared.answer.Code.TheVariants as code
 use Rattle.overlay_laws.specs.Entries.{In}
 use Rattle.serial_spec.specs.Layout.{product}
-use Rattle.serial_spec.specs.Looking as looks
-use Rattle.serial_spec.specs.Looking.{looked, look_region, look_parts, look_at, part_posts, parts_code, data_code, data_bytes, direction_of, is_varn, find_var}
+use Rattle.serial_spec.specs.Looks as looks
+use Rattle.serial_spec.specs.Looks.{looked, look_region, look_parts, look_at, part_posts, parts_code, data_code, data_bytes, direction_of, is_varn, find_var}
 use Rattle.serial_spec.specs.RegionCheck.{widen, check_var, check_parts, part_regions, elements_of_all, has_element, is_ok_code}
 use Rattle.rank_core.proofs.LookLaws.{length-part_posts}
 use Rattle.rank_core.specs.Looked as rank
 use Rattle.rank_core.specs.Requests.{HaveId}
 use Rattle.rank_core.specs.Stepped.{IsSomeLook}
-use Rattle.rank_core.specs.declared.looking.Look.{Look}
-use Rattle.rank_core.specs.declared.looking.Look.TheVariants as variant
+use Rattle.rank_core.specs.declared.look.Look.{Look}
+use Rattle.rank_core.specs.declared.look.Look.TheVariants as variant
 
 pub record IsOneRequest (id : ℕ) (posts : List Post) : Type 0 where
   pub some : 0 < length posts

@@ -12,9 +12,9 @@ use Rattle.overlay_laws.proofs.HullLaws.{div_grows}
 use Rattle.serial_spec.specs.Fill.{boxes, share_begin}
 use Rattle.serial_spec.specs.Layout.{inner_lengths, is_record, product}
 use Rattle.serial_spec.specs.Limits.{most_elements}
-use Rattle.serial_spec.specs.Looking as looks
-use Rattle.serial_spec.specs.Looking.{box_post, fills, find_var, is_record_past}
-use Rattle.rank_core.specs.declared.looking.target.Target.{Target}
+use Rattle.serial_spec.specs.Looks as looks
+use Rattle.serial_spec.specs.Looks.{box_post, fills, find_var, is_record_past}
+use Rattle.rank_core.specs.declared.look.target.Target.{Target}
 use Rattle.rank_core.specs.Looked.{look_of}
 use Rattle.rank_core.specs.Targets.{look_record, IsTarget}
 

@@ -21,13 +21,13 @@ use Rattle.serial_spec.specs.HeaderBytes.{header_len}
 use Rattle.serial_spec.specs.SoundHeaders.{is_sound}
 use Rattle.serial_spec.specs.Layout.{end_of, inner_lengths, is_record, lengths, length_of, product, starts_with_zero, without_record}
 use Rattle.serial_spec.specs.Limits.{file_limit, most_elements, record_limit}
-use Rattle.serial_spec.specs.Looking as looks
+use Rattle.serial_spec.specs.Looks as looks
 use Rattle.serial_spec.specs.RankMachine as machine
-use Rattle.serial_spec.specs.Looking.{box_post, box_region, fills, find_var, is_record_past, look_fill}
+use Rattle.serial_spec.specs.Looks.{box_post, box_region, fills, find_var, is_record_past, look_fill}
 use Rattle.serial_spec.specs.Records.{records_of}
 use Rattle.serial_spec.specs.RegionCheck.{bad_edge, bad_start, bound, bounds, check_var, first_code, is_too_large, other_shape, some_edge, some_start}
 use Rattle.serial_spec.proofs.RoomLaws.{end_grows}
-use Rattle.rank_core.specs.declared.looking.Look.{Look}
+use Rattle.rank_core.specs.declared.look.Look.{Look}
 use Rattle.rank_core.specs.Looked.{as_look, posts_of, posts_looked, ArePutsLooked}
 use Rattle.rank_core.specs.Offered.{IsPut}
 use Rattle.rank_core.specs.Targets.{IsSmall}

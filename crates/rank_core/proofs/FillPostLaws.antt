@@ -21,7 +21,7 @@ use Rattle.serial_spec.specs.Fill.{box_indices, boxes, in_row, shifted, whole_ro
 use Rattle.serial_spec.specs.Layout.{product}
 use Rattle.serial_spec.specs.Limits.{most_elements}
 use Rattle.serial_spec.specs.Place.{row, IsIndex}
-use Rattle.serial_spec.specs.Looking.{box_region, is_record_past}
+use Rattle.serial_spec.specs.Looks.{box_region, is_record_past}
 use Rattle.serial_spec.specs.Request.{coordinates, elements, index_at}
 use Rattle.serial_spec.proofs.AcceptLaws.{coordinates_all}
 use Rattle.serial_spec.proofs.BoxLaws.{boxes_right}

@@ -24,15 +24,15 @@ use Rattle.serial_spec.specs.ExternalForm.{class_of, size_of}
 use Rattle.serial_spec.specs.SoundHeaders.{is_sound}
 use Rattle.serial_spec.specs.Layout.{product}
 use Rattle.serial_spec.specs.Limits.{most_elements}
-use Rattle.serial_spec.specs.Looking as looks
+use Rattle.serial_spec.specs.Looks as looks
 use Rattle.serial_spec.specs.RankMachine as machine
-use Rattle.serial_spec.specs.Looking.{data_bytes, data_code, direction_of, find_var, is_varn, kind_code, look_at, look_parts, look_region, part_posts, parts_code, values_bytes}
+use Rattle.serial_spec.specs.Looks.{data_bytes, data_code, direction_of, find_var, is_varn, kind_code, look_at, look_parts, look_region, part_posts, parts_code, values_bytes}
 use Rattle.serial_spec.specs.RegionCheck.{check_parts, check_some, check_var, elements_of_all, first_refusal, has_element, is_ok_code, is_put, part_region, part_regions, share_element, widen}
 use Rattle.nc_base.specs.Values.{count_of}
 use Rattle.serial_spec.specs.SharedByte.{holdings, IsOwnOnce}
 use Rattle.vara_extents.specs.Parts.{refusal_of}
-use Rattle.rank_core.specs.declared.looking.Look.{Look}
-use Rattle.rank_core.specs.declared.looking.Look.TheVariants.{Asks, Empty, Refused}
+use Rattle.rank_core.specs.declared.look.Look.{Look}
+use Rattle.rank_core.specs.declared.look.Look.TheVariants.{Asks, Empty, Refused}
 use Rattle.rank_core.specs.Looked.{as_look, posts_of, posts_looked, some_unfit, AreLooked, ArePutsLooked, HasValues}
 use Rattle.rank_core.specs.Offered.{IsGet, IsPut}
 use Rattle.rank_core.proofs.OutcomeLaws.{outcome, outcome_posts}

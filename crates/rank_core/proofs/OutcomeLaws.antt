@@ -8,9 +8,9 @@ use Rattle.nc_base.specs.declared.header.NcType.{NcType}
 use Rattle.nc_base.specs.declared.plan.Post.{Post}
 use Rattle.nc_base.specs.declared.request.Region.{Region}
 use Rattle.nc_base.specs.declared.request.Values.{Values}
-use Rattle.serial_spec.specs.Looking as looks
+use Rattle.serial_spec.specs.Looks as looks
 use Rattle.serial_spec.specs.RankMachine as machine
-use Rattle.serial_spec.specs.Looking.{looked, part_posts}
+use Rattle.serial_spec.specs.Looks.{looked, part_posts}
 use Rattle.serial_spec.specs.RegionCheck.{is_ok_code}
 use Rattle.rank_core.specs.Looked.{look_of, settled, ComesTo}
 

@@ -17,13 +17,13 @@ use Rattle.nc_base.specs.declared.request.Direction.TheVariants as way
 use Rattle.nc_base.specs.declared.request.Values.{Values}
 use Rattle.overlay_laws.specs.Entries.{In}
 use Rattle.request_queue.specs.Queued.{Queued, rank_with, with_request, id_of}
-use Rattle.serial_spec.specs.Looking.{direction_of, find_dim}
+use Rattle.serial_spec.specs.Looks.{direction_of, find_dim}
 use Rattle.serial_spec.specs.RankMachine.{Status, is_chosen, named, without_chosen, status_of, dim_at}
 use Rattle.serial_spec.specs.Lawful.{is_lawful_call, is_given, most_parts, has_its_lists, are_sizes, is_part, are_values, is_post_of, is_size}
 use Rattle.rank_core.specs.Looked.{AreLooked, ArePutsLooked, posts_of}
 use Rattle.rank_core.specs.Requests.{AreGets, ArePuts, AreTowards, HaveId, IsRequest, AreRequests}
 use Rattle.rank_core.specs.Stepped.{most_of, most_posts}
-use Rattle.rank_core.specs.declared.looking.Look.{Look}
+use Rattle.rank_core.specs.declared.look.Look.{Look}
 use Rattle.rank_core.proofs.AskedLaws.{IsLookOf}
 use Rattle.rank_core.proofs.RequestLaws.{requests_without, requests_push, puts_more}
 

@@ -19,12 +19,12 @@ use Rattle.imap_extents.specs.Mapped.{IsMapped}
 use Rattle.imap_extents.specs.Refusals.{IsRangeRefusal, IsRefusal}
 use Rattle.serial_spec.specs.Layout.{product}
 use Rattle.serial_spec.specs.Limits.{most_elements}
-use Rattle.serial_spec.specs.Looking as looks
-use Rattle.serial_spec.specs.Looking.{data_bytes, data_code, direction_of, find_var, is_varn, part_posts, parts_code}
+use Rattle.serial_spec.specs.Looks as looks
+use Rattle.serial_spec.specs.Looks.{data_bytes, data_code, direction_of, find_var, is_varn, part_posts, parts_code}
 use Rattle.serial_spec.specs.RegionCheck.{check, check_parts, check_some, check_var, elements_of_all, has_element, part_regions, widen}
 use Rattle.vara_extents.specs.Parts as parts
 use Rattle.vara_extents.specs.Parts.{parts_code_at}
-use Rattle.rank_core.specs.declared.looking.target.Target.{Target}
+use Rattle.rank_core.specs.declared.look.target.Target.{Target}
 use Rattle.rank_core.specs.Looked.{look_of, some_unfit, ComesTo, HasValues, IsCode}
 use Rattle.rank_core.specs.Targets.{look_at, look_parts, look_region, IsTarget}
 use Rattle.rank_core.proofs.LookLaws.{asked_few}

@@ -20,7 +20,7 @@ use Rattle.nc_base.specs.declared.request.Value.{Value}
 use Rattle.nc_base.specs.declared.request.Values.{Values}
 use Rattle.serial_spec.specs.ExternalForm.{class_of, code_of, size_of, width_of}
 use Rattle.serial_spec.specs.Layout.{product}
-use Rattle.serial_spec.specs.Looking.{kind_code, part_posts, parts_code, values_bytes, values_code}
+use Rattle.serial_spec.specs.Looks.{kind_code, part_posts, parts_code, values_bytes, values_code}
 use Rattle.serial_spec.specs.RegionCheck.{elements_of_all, is_ok_code}
 use Rattle.nc_base.specs.Values.{count_of}
 use Rattle.serial_spec.specs.Request.{ext_of, packed_bytes, positions, value_at}

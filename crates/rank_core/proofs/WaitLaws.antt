@@ -15,7 +15,7 @@ use Rattle.nc_base.specs.declared.step.OfferKind.TheVariants as offer
 use Rattle.nc_base.specs.declared.step.MeetKind.TheVariants as meets
 use Rattle.nc_base.specs.declared.step.Want.{Want}
 use Rattle.serial_spec.specs.RankMachine as machine
-use Rattle.serial_spec.specs.Looking.{Look, Refused, Empty, Asks, look, look_fill}
+use Rattle.serial_spec.specs.Looks.{Look, Refused, Empty, Asks, look, look_fill}
 use Rattle.serial_spec.specs.RankMachine.{Rank, offers, answers, answer, posts, post_after, without_chosen, chosen, batch_chosen, buffer_code, bytes_in, attach_code, detach_code, batch_of, code_of_look, posts_of, no_posts, items_of, values_of_post}
 use Rattle.serial_spec.specs.RegionCheck.{is_ok_code}
 use Rattle.rank_core.specs.Ranked.{WaitsFor}

@@ -1,11 +1,11 @@
 pub mod Ranked
 pub mod Offered
 pub mod Indexed
-pub mod Keeping
+pub mod Kept
 pub mod Looked
 pub mod Requests
-pub mod Offering
+pub mod OpenOffers
 pub mod Stepped
 pub mod Heard
 pub mod Targets
-pub mod Fitting
+pub mod Fit

@@ -17,13 +17,13 @@ use Rattle.nc_base.specs.declared.plan.Post.{Post}
 use Rattle.nc_base.specs.declared.request.Values.{Values}
 use Rattle.overlay_laws.specs.Entries.{In}
 use Rattle.serial_spec.specs.ExternalForm.{class_of}
-use Rattle.serial_spec.specs.Looking as looks
-use Rattle.serial_spec.specs.Looking.{kind_code, some_fits}
+use Rattle.serial_spec.specs.Looks as looks
+use Rattle.serial_spec.specs.Looks.{kind_code, some_fits}
 use Rattle.nc_base.specs.Values.{count_of}
 use Rattle.serial_spec.specs.Request.{ext_of, value_at}
 use Rattle.serial_spec.specs.SharedByte.{holdings, IsOwnOnce}
-use Rattle.rank_core.specs.declared.looking.Look.{Look}
-use Rattle.rank_core.specs.declared.looking.Look.TheVariants.{Refused, Empty, Asks}
+use Rattle.rank_core.specs.declared.look.Look.{Look}
+use Rattle.rank_core.specs.declared.look.Look.TheVariants.{Refused, Empty, Asks}
 use Rattle.rank_core.specs.Offered.{IsPut, IsGet}
 
 abbrev pub as_look : Look → looks.Look

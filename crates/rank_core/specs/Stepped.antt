@@ -9,14 +9,14 @@ use Rattle.nc_base.specs.declared.request.Direction.{Direction}
 use Rattle.nc_base.specs.declared.request.Call.{Call}
 use Rattle.nc_base.specs.declared.request.Call.TheVariants as call
 use Rattle.nc_base.specs.declared.request.Given.{Given}
-use Rattle.serial_spec.specs.Looking as looks
+use Rattle.serial_spec.specs.Looks as looks
 use Rattle.serial_spec.specs.RankMachine as machine
-use Rattle.rank_core.specs.Offering.{batch_towards}
+use Rattle.rank_core.specs.OpenOffers.{batch_towards}
 use Rattle.rank_core.specs.Offered.{posts_offered, IsSoundWant}
 use Rattle.rank_core.specs.Ranked.{Ranked}
 use Rattle.run_laws.specs.Requests.{posts_held}
-use Rattle.rank_core.specs.declared.looking.Look.{Look}
-use Rattle.rank_core.specs.declared.looking.Look.TheVariants.{Asks}
+use Rattle.rank_core.specs.declared.look.Look.{Look}
+use Rattle.rank_core.specs.declared.look.Look.TheVariants.{Asks}
 
 pub record IsStepTo (before after : Ranked) (most : ℕ) (stepped : machine.Rank × Want) (want : Want) : Type 0 where
   pub right : (after.state, want) ≡ stepped

@@ -10,9 +10,9 @@ use Rattle.nc_base.specs.declared.request.Part.{Part}
 use Rattle.nc_base.specs.declared.request.Values.{Values}
 use Rattle.serial_spec.specs.Layout.{length_of, product}
 use Rattle.serial_spec.specs.Limits.{most_elements}
-use Rattle.serial_spec.specs.Looking as looks
+use Rattle.serial_spec.specs.Looks as looks
 use Rattle.var_layout.specs.Measures.{AreMeasures}
-use Rattle.rank_core.specs.declared.looking.target.Target.{Target}
+use Rattle.rank_core.specs.declared.look.target.Target.{Target}
 
 abbrev pub IsTarget : Target → Type 0
 IsTarget t = slice_get t.header.now.vars t.place ≡ Some t.var.now

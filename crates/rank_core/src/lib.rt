@@ -2,15 +2,15 @@
 //! reply (PnetCDF C API reference). Nothing here waits.
 #![tactic(auto)]
 
-mod answering;
-mod changing;
-mod fitting;
-mod hearing;
-mod looking;
+mod calls;
+mod changes;
+mod fit;
+mod heard_reply;
+mod look;
 mod names;
-mod offering;
+mod open_offer;
+mod own_answers;
 mod rank;
-mod stepping;
 
 pub use names::Names;
 pub use rank::Rank;

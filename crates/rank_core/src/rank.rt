@@ -12,8 +12,8 @@ ghost use Rattle.run_laws.specs.Requests.{posts_held, IsFresh, IsShare};
 ghost use Rattle.rank_core.specs.Stepped.{most_posts, IsStepTo};
 
 use crate::Names;
-use crate::hearing::{told, values_by_id};
-use crate::offering::OpenOffer;
+use crate::heard_reply::{told, values_by_id};
+use crate::open_offer::OpenOffer;
 use nc_base::{Answer, Call, Header, MeetKind, Memory, Reply, Want};
 use request_queue::Queue;
 use std::alloc::Global;
@@ -38,7 +38,7 @@ impl<'a> Model for Rank<'a> {
 
     ghost Value = { Ranked };
 
-    ghost use Rattle.rank_core.specs.Keeping.{ranked, IsKept};
+    ghost use Rattle.rank_core.specs.Kept.{ranked, IsKept};
 
     ghost view = { ranked };
 

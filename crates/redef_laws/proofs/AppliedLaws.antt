@@ -8,7 +8,7 @@ use Rattle.serial_spec.specs.DeviceCalls.{highest_first, slabs, stores, zero_cal
 use Rattle.serial_spec.specs.HeaderBytes.{header_len}
 use Rattle.serial_spec.specs.Redefinition.{redefined}
 use Rattle.redef_laws.specs.Applied.{IsApplied}
-use Rattle.redef_laws.specs.Rising.{changes, gaps, rising, IsRisen}
+use Rattle.redef_laws.specs.RisingSlabs.{changes, gaps, rising, IsRisen}
 use Rattle.redef_laws.specs.Shifted.{new_end, AreShifted, IsMoved}
 use Rattle.redef_laws.proofs.MovedLaws.{moved_is_redefined, writable_is_sound}
 use Rattle.redef_laws.proofs.RisingLaws.{rising_risen, rising_falls, rising_zeros}

@@ -6,7 +6,7 @@ use Rattle.std.proofs.lemmas.Bool.{leb-true, leb-false}
 use Rattle.serial_spec.specs.DeviceCalls.{Slab}
 use Rattle.overlay_laws.specs.Entries.{In}
 use Rattle.overlay_laws.proofs.HullLaws.{in_either}
-use Rattle.redef_laws.specs.Rising.{put_in, lowest_first, IsRisen}
+use Rattle.redef_laws.specs.RisingSlabs.{put_in, lowest_first, IsRisen}
 use Rattle.redef_laws.specs.Shifted.{AreShifted}
 
 -- each slab begins below those after it

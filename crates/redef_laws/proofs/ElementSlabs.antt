@@ -19,7 +19,7 @@ use Rattle.serial_spec.proofs.RowLaws.{row_below}
 use Rattle.serial_spec.proofs.RoomLaws.{known_of, index_is_element}
 use Rattle.overlay_laws.specs.Entries.{In}
 use Rattle.overlay_laws.proofs.HullLaws.{in_flat, flat_in, in_range, range_high}
-use Rattle.redef_laws.specs.Rising.{first_slab, in_record}
+use Rattle.redef_laws.specs.RisingSlabs.{first_slab, in_record}
 use Rattle.overlay_laws.proofs.Members.{in_map, map_in, in_zip, zip_in}
 
 -- ---- the slabs of one variable

@@ -6,7 +6,7 @@ use Rattle.std.proofs.lemmas.Bool.{leb-true, leb-false}
 use Rattle.serial_spec.specs.DeviceCalls.{Slab, placed_slab, highest_first}
 use Rattle.overlay_laws.specs.Entries.{In, HaveSame}
 use Rattle.overlay_laws.proofs.HullLaws.{filter_in, in_left, in_right, in_either}
-use Rattle.redef_laws.specs.Rising.{changes, IsRisen}
+use Rattle.redef_laws.specs.RisingSlabs.{changes, IsRisen}
 use Rattle.redef_laws.proofs.ChainLaws.{Ascends, AreDistinct, below, risen_ascends, ascends_distinct}
 use Rattle.redef_laws.proofs.SumLaws.{HaveSameSums, sums_members, sums_back, sums_distinct}
 

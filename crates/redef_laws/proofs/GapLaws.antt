@@ -13,7 +13,7 @@ use Rattle.serial_spec.specs.DeviceCalls.{Slab, run_before, runs, stores, first_
 use Rattle.overlay_laws.specs.Entries.{In, HaveSame}
 use Rattle.overlay_laws.proofs.HullLaws.{range_low, range_high, in_either}
 use Rattle.overlay_laws.proofs.WalkLaws.{filter_same, filter_none, filter_all}
-use Rattle.redef_laws.specs.Rising.{gaps, IsRisen}
+use Rattle.redef_laws.specs.RisingSlabs.{gaps, IsRisen}
 use Rattle.redef_laws.proofs.ChainLaws.{risen_past}
 use Rattle.std.proofs.lemmas.List.Elements.{filter-append}
 

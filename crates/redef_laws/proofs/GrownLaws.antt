@@ -23,7 +23,7 @@ use Rattle.serial_spec.specs.ExternalForm.{size_of}
 use Rattle.serial_spec.specs.Layout.{length_of}
 use Rattle.serial_spec.specs.HeaderFaults.{is_record_id}
 use Rattle.serial_spec.specs.SoundHeaders.{fits_count, is_type}
-use Rattle.serial_spec.specs.Looking.{find_dim}
+use Rattle.serial_spec.specs.Looks.{find_dim}
 use Rattle.serial_spec.specs.Lawful.{is_lawful_extra, is_whole_extra}
 use Rattle.serial_spec.specs.Redefinition.{with_attr, with_extra, added, dim_id, is_taken, is_unknown, has_bad_shape, is_one_too_many, has_bad_kind, extra_fault, extras_from}
 use Rattle.redef_laws.proofs.FieldLaws.{not_both, each_both, count_fits}

@@ -25,7 +25,7 @@ use Rattle.serial_spec.specs.HeaderFaults.{Field, Magic, Records, Tag, Count, Na
 use Rattle.serial_spec.specs.SoundHeaders.{fits_field, fits_count, is_type, is_sound, is_writable_dim, is_writable_attr, is_writable_list}
 use Rattle.serial_spec.specs.Redefinition.{is_redefinable, is_redefinable_var}
 use Rattle.serial_spec.proofs.FaultLaws.{EndsWrong, ends_later, fault_only}
-use Rattle.cdf_header.specs.Decoding.{BeginsWith}
+use Rattle.cdf_header.specs.Decoded.{BeginsWith}
 use Rattle.cdf_header.proofs.Pieces.{right_number, no_fault}
 use Rattle.redef_laws.proofs.FitLaws.{checked}
 use Rattle.redef_laws.proofs.FieldLaws.{each_both}

@@ -7,7 +7,7 @@ use borrow.Author.Tests.{ltb-true, ltb-false, eqb-true}
 use Rattle.list_laws.proofs.Truth.{equal_true}
 use Rattle.serial_spec.specs.DeviceCalls.{Slab}
 use Rattle.overlay_laws.specs.Entries.{In}
-use Rattle.redef_laws.specs.Rising.{put_in, lowest_first}
+use Rattle.redef_laws.specs.RisingSlabs.{put_in, lowest_first}
 use Rattle.redef_laws.proofs.ChainLaws.{AreDistinct}
 
 abbrev pub HaveSameSums : {X : Type 0} → List X → List X → Type 0

@@ -1,3 +1,3 @@
 pub mod Applied
 pub mod Shifted
-pub mod Rising
+pub mod RisingSlabs

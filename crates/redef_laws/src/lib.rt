@@ -9,10 +9,10 @@ ghost use Rattle.serial_spec.specs.DeviceCalls.{Slab, highest_first, slabs, stor
 ghost use Rattle.serial_spec.specs.HeaderBytes.{header_len};
 ghost use Rattle.serial_spec.specs.SoundHeaders.{is_sound, is_writable};
 ghost use Rattle.serial_spec.specs.Redefinition.{is_redefinable, redefined};
-ghost use Rattle.cdf_header.specs.Decoding.{BeginsWith};
+ghost use Rattle.cdf_header.specs.Decoded.{BeginsWith};
 ghost use Rattle.overlay_laws.specs.Entries.{In};
 ghost use Rattle.redef_laws.specs.Applied.{IsApplied};
-ghost use Rattle.redef_laws.specs.Rising.{changes, gaps, rising, IsRisen};
+ghost use Rattle.redef_laws.specs.RisingSlabs.{changes, gaps, rising, IsRisen};
 ghost use Rattle.redef_laws.specs.Shifted.{new_end, AreShifted, IsMoved};
 
 /// A sound header that was read can be redefined. A dimension that no variable has may be spelled with a length past the limit; only

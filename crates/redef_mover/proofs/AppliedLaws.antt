@@ -13,7 +13,7 @@ use Rattle.serial_spec.specs.Redefinition.{added, redefined, with_extra}
 use Rattle.var_layout.proofs.ElementPlaces.{sound_end}
 use Rattle.overlay_laws.specs.Entries.{In}
 use Rattle.redef_laws.specs.Applied.{IsApplied}
-use Rattle.redef_laws.specs.Rising.{changes, gaps, rising, IsRisen}
+use Rattle.redef_laws.specs.RisingSlabs.{changes, gaps, rising, IsRisen}
 use Rattle.redef_laws.specs.Shifted.{new_end, AreShifted, IsMoved}
 use Rattle.redef_mover.specs.Moves.{all_calls, gap_calls, slab_calls}
 use Rattle.redef_mover.specs.Carried.{carried, carry_calls, IsCarriable}

@@ -7,7 +7,7 @@ use Rattle.nc_base.specs.declared.step.DiskCall.TheVariants.{Store}
 use Rattle.nc_outside.specs.Told.{with_end}
 use Rattle.serial_spec.specs.DeviceCalls.{Slab, grow_to}
 use Rattle.serial_spec.specs.HeaderBytes.{header_len}
-use Rattle.redef_laws.specs.Rising.{gaps, rising}
+use Rattle.redef_laws.specs.RisingSlabs.{gaps, rising}
 use Rattle.redef_laws.specs.Shifted.{new_end}
 use Rattle.redef_mover.specs.Moves.{all_calls, gap_calls}
 use Rattle.redef_mover.specs.Carried.{carry_calls}

@@ -10,7 +10,7 @@ use Rattle.serial_spec.specs.File.{at, longer}
 use Rattle.serial_spec.specs.HeaderBytes.{canon, header_len}
 use Rattle.serial_spec.proofs.FileLaws.{at-longer, at-written_after, length-written_inside, written-inside, longer_long}
 use Rattle.overlay_laws.specs.Entries.{In}
-use Rattle.redef_laws.specs.Rising.{changes, gaps, rising, IsRisen}
+use Rattle.redef_laws.specs.RisingSlabs.{changes, gaps, rising, IsRisen}
 use Rattle.redef_laws.specs.Shifted.{new_end, IsMoved}
 use Rattle.redef_mover.specs.Moves.{all_cleared, all_moved, cleared, slab_moved, AreSpaced}
 use Rattle.redef_mover.specs.Carried.{carried, IsCarriable}

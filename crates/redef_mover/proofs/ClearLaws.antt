@@ -13,7 +13,7 @@ use Rattle.serial_spec.proofs.FileLaws.{at-written_before, at-written_after, len
 use Rattle.serial_spec.proofs.SaidLaws.{at-written_inside}
 use Rattle.nc_outside.specs.Told.{after, with_end}
 use Rattle.nc_outside.proofs.ToldLaws.{after-after, after-same, with_end-with_end, with_end-nil}
-use Rattle.redef_laws.specs.Rising.{gaps}
+use Rattle.redef_laws.specs.RisingSlabs.{gaps}
 use Rattle.redef_mover.specs.declared.slabs.Shift.{Shift}
 use Rattle.redef_mover.specs.declared.slabs.Slabs.{Slabs}
 use Rattle.redef_mover.specs.Moves.{all_cleared, behind, cleared, further, gap_calls, gaps_before, listed, slab_of, slabs_at, AreClearable, AreSpaced}

@@ -7,7 +7,7 @@ use Rattle.nc_base.specs.declared.header.Header.{Header}
 use Rattle.nc_outside.specs.DiskState.{PartlyWritten}
 use Rattle.nc_outside.specs.Told.{after, BothTold}
 use Rattle.overlay_laws.specs.Entries.{In}
-use Rattle.redef_laws.specs.Rising.{changes, gaps, rising}
+use Rattle.redef_laws.specs.RisingSlabs.{changes, gaps, rising}
 use Rattle.redef_laws.specs.Shifted.{new_end, IsMoved}
 use Rattle.serial_spec.specs.DeviceCalls.{Slab}
 use Rattle.serial_spec.specs.File.{at, longer, written}

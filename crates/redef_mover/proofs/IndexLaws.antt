@@ -27,7 +27,7 @@ use Rattle.nc_base.specs.declared.header.Attr.{Attr}
 use Rattle.nc_base.specs.declared.header.Dim.{Dim}
 use Rattle.nc_base.specs.declared.header.Header.{Header}
 use Rattle.nc_base.specs.declared.header.Var.{Var}
-use Rattle.serial_spec.specs.Looking.{find_var}
+use Rattle.serial_spec.specs.Looks.{find_var}
 use Rattle.serial_spec.specs.Redefinition.{attrs_of_var, has_attr, with_attr}
 use Rattle.redef_mover.specs.Indexed.{place_of, has_name, is_same, attrs_among, attrs_at, given, IsIndexOf}
 use Rattle.redef_mover.specs.declared.name_index.NameIndex.{NameIndex}

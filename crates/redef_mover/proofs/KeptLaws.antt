@@ -7,7 +7,7 @@ use Rattle.nc_outside.specs.DiskState.{PartlyWritten}
 use Rattle.nc_outside.specs.Told.{after, BothTold}
 use Rattle.overlay_laws.specs.Entries.{In}
 use Rattle.overlay_laws.proofs.HullLaws.{in_left, in_right}
-use Rattle.redef_laws.specs.Rising.{changes, gaps}
+use Rattle.redef_laws.specs.RisingSlabs.{changes, gaps}
 use Rattle.serial_spec.specs.DeviceCalls.{Slab}
 use Rattle.serial_spec.specs.File.{at, written}
 use Rattle.serial_spec.proofs.FileLaws.{at-written_before, at-written_after, length-written_inside}

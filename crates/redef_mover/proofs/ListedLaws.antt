@@ -6,7 +6,7 @@ use Rattle.nc_base.specs.declared.header.Header.{Header}
 use Rattle.serial_spec.specs.DeviceCalls.{Slab}
 use Rattle.serial_spec.specs.Layout.{recsize}
 use Rattle.overlay_laws.specs.Entries.{In}
-use Rattle.redef_laws.specs.Rising.{fixed_slabs, record_slabs, rising, slabs_of_record, IsRisen}
+use Rattle.redef_laws.specs.RisingSlabs.{fixed_slabs, record_slabs, rising, slabs_of_record, IsRisen}
 use Rattle.redef_mover.specs.declared.slabs.Shift.{Shift}
 use Rattle.redef_mover.specs.declared.slabs.Slabs.{Slabs}
 use Rattle.redef_mover.specs.Moves.{further, listed, slab_of, AreSteps}

@@ -14,7 +14,7 @@ use Rattle.nc_outside.proofs.ToldLaws.{after-after, after-same, with_end-with_en
 use Rattle.serial_spec.specs.DeviceCalls.{Slab}
 use Rattle.overlay_laws.specs.Entries.{In}
 use Rattle.overlay_laws.proofs.HullLaws.{in_flat, in_left, in_range, in_right}
-use Rattle.redef_laws.specs.Rising.{changes}
+use Rattle.redef_laws.specs.RisingSlabs.{changes}
 use Rattle.redef_mover.specs.declared.slabs.Shift.{Shift}
 use Rattle.redef_mover.specs.declared.slabs.Slabs.{Slabs}
 use Rattle.redef_mover.specs.Moves.{all_calls, all_moved, further, listed, slab_calls, slab_moved, slab_of, slabs_at}

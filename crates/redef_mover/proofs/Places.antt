@@ -15,11 +15,11 @@ use Rattle.serial_spec.specs.SharedByte.{least}
 use Rattle.serial_spec.specs.Redefinition.{Numbered, fixed_begins, front_after, begin_at, first_record, record_begins, inserted, by_begin, fixed_order, begins_by_number}
 use Rattle.var_layout.specs.Capped.{capped}
 use Rattle.var_layout.proofs.Capping.{capped_sum, capped_both}
-use Rattle.redef_mover.specs.declared.placing.NumberedVar.{NumberedVar}
-use Rattle.redef_mover.specs.declared.placing.Place.{Place}
-use Rattle.redef_mover.specs.declared.placing.Side.{Side}
-use Rattle.redef_mover.specs.declared.placing.Side.TheVariants.{Old, New}
-use Rattle.redef_mover.specs.Placing.{on_side, records_at, fixed_var, record_var, pairs, capped_pairs}
+use Rattle.redef_mover.specs.declared.new_begins.NumberedVar.{NumberedVar}
+use Rattle.redef_mover.specs.declared.new_begins.Place.{Place}
+use Rattle.redef_mover.specs.declared.new_begins.Side.{Side}
+use Rattle.redef_mover.specs.declared.new_begins.Side.TheVariants.{Old, New}
+use Rattle.redef_mover.specs.NewBegins.{on_side, records_at, fixed_var, record_var, pairs, capped_pairs}
 
 -- ---- the variables that two tests choose, among the first k
 

@@ -14,8 +14,8 @@ use Rattle.serial_spec.specs.Layout.{record_share}
 use Rattle.serial_spec.specs.Redefinition.{Numbered, is_bad_begin}
 use Rattle.var_layout.specs.Capped.{capped}
 use Rattle.var_layout.proofs.Capping.{capped_sum_more}
-use Rattle.redef_mover.specs.declared.placing.Place.{Place}
-use Rattle.redef_mover.specs.Placing.{pairs, HasOneEach}
+use Rattle.redef_mover.specs.declared.new_begins.Place.{Place}
+use Rattle.redef_mover.specs.NewBegins.{pairs, HasOneEach}
 use Rattle.redef_mover.specs.Ranges.{is_bad, is_bad_var}
 
 -- ---- one variable after another

@@ -22,7 +22,7 @@ use Rattle.serial_spec.specs.HeaderFaults.{keeps_bound}
 use Rattle.serial_spec.specs.Layout.{is_record, slab, vsize, record_share, record_slabs, record_size, record_variables}
 use Rattle.serial_spec.specs.Redefinition.{Numbered, is_large_var, size_fault, is_far_begin, is_bad_begin, begin_of_number, with_begins, begins_by_number, extras_fault, added, redefined_header, redefined_fault}
 use Rattle.var_layout.specs.Capped.{capped}
-use Rattle.redef_mover.specs.Placing.{capped_pairs}
+use Rattle.redef_mover.specs.NewBegins.{capped_pairs}
 
 -- ---- what does not look at the begins
 

@@ -14,7 +14,7 @@ use Rattle.std.proofs.lemmas.List.FromFn.{length-enumerate_from}
 use borrow.Author.Tests.{ltb-true, ltb-false, eqb-true, leb-true, leb-false}
 use Rattle.nc_base.specs.declared.header.Var.{Var}
 use Rattle.serial_spec.specs.DeviceCalls.{Slab}
-use Rattle.redef_laws.specs.Rising.{lowest_first, put_in}
+use Rattle.redef_laws.specs.RisingSlabs.{lowest_first, put_in}
 use Rattle.redef_mover.specs.declared.slabs.Shift.{Shift}
 use Rattle.redef_mover.specs.Moves.{is_kind, slab_of}
 use Rattle.list_laws.proofs.Places.{first_same}

@@ -13,8 +13,8 @@ use Rattle.serial_spec.specs.Layout.{is_record, slab, vsize}
 use Rattle.serial_spec.specs.SharedByte.{least}
 use Rattle.serial_spec.specs.Redefinition.{Numbered, fixed_of, records_in, old_of, new_of, inserted, by_begin, begin_at, fixed_begins, fixed_order, record_begins, front_after, first_record, begins_by_number, begin_of_number}
 use Rattle.var_layout.specs.Capped.{capped}
-use Rattle.redef_mover.specs.declared.placing.Place.{Place}
-use Rattle.redef_mover.specs.Placing.{pairs, capped_pairs, HasOneEach}
+use Rattle.redef_mover.specs.declared.new_begins.Place.{Place}
+use Rattle.redef_mover.specs.NewBegins.{pairs, capped_pairs, HasOneEach}
 use Rattle.redef_mover.proofs.Ranges.{times}
 
 -- ---- the last begin of a number wins

@@ -12,7 +12,7 @@ use Rattle.serial_spec.specs.File.{at, longer, written}
 use Rattle.serial_spec.specs.HeaderBytes.{canon, header_len}
 use Rattle.serial_spec.specs.SoundHeaders.{is_sound, is_writable}
 use Rattle.overlay_laws.specs.Entries.{In}
-use Rattle.redef_laws.specs.Rising.{gaps, rising, IsRisen}
+use Rattle.redef_laws.specs.RisingSlabs.{gaps, rising, IsRisen}
 use Rattle.redef_laws.specs.Shifted.{new_end}
 use Rattle.redef_mover.specs.Moves.{all_calls, all_cleared, all_moved, gap_calls}
 

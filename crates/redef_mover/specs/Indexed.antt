@@ -15,7 +15,7 @@ use Rattle.std.specs.Ordering.{nat_cmp, ordering_then}
 use Rattle.nc_base.specs.declared.header.Attr.{Attr}
 use Rattle.nc_base.specs.declared.header.Header.{Header}
 use Rattle.nc_base.specs.declared.header.Var.{Var}
-use Rattle.serial_spec.specs.Looking.{find_dim, find_var}
+use Rattle.serial_spec.specs.Looks.{find_dim, find_var}
 use Rattle.serial_spec.specs.Redefinition.{has_attr}
 use Rattle.redef_mover.specs.declared.name_index.NameIndex.{NameIndex}
 

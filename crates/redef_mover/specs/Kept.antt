@@ -7,7 +7,7 @@ use Rattle.std.specs.Prelude.{◌≡◌, ℕ, ◌+◌, ◌<◌, ◌≤◌, ◌�
 use Rattle.serial_spec.specs.DeviceCalls.{Slab}
 use Rattle.serial_spec.specs.File.{at}
 use Rattle.overlay_laws.specs.Entries.{In}
-use Rattle.redef_laws.specs.Rising.{changes}
+use Rattle.redef_laws.specs.RisingSlabs.{changes}
 
 abbrev pub IsOutside : ℕ → ℕ → ℕ → Type 0
 IsOutside place n x = (x < place) ⊎ (place + n ≤ x)

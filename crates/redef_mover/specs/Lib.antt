@@ -1,5 +1,5 @@
 pub mod Relocation
-pub mod Placing
+pub mod NewBegins
 pub mod Ranges
 pub mod Moves
 pub mod Kept

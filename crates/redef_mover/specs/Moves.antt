@@ -24,7 +24,7 @@ use Rattle.serial_spec.specs.DeviceCalls.{Slab, move_window, stores, window_coun
 use Rattle.serial_spec.specs.File.{read, written}
 use Rattle.serial_spec.specs.Layout.{is_record}
 use Rattle.overlay_laws.specs.Entries.{In}
-use Rattle.redef_laws.specs.Rising.{changes, first_slab}
+use Rattle.redef_laws.specs.RisingSlabs.{changes, first_slab}
 use Rattle.redef_mover.specs.declared.slabs.Offset.{Offset}
 use Rattle.redef_mover.specs.declared.slabs.Shift.{Shift}
 use Rattle.redef_mover.specs.declared.slabs.Slabs.{Slabs}

@@ -3,9 +3,9 @@ ghost use Rattle.std.specs.Prelude.{◌≡◌, map, length};
 ghost use Rattle.std.specs.List.{enumerate_from};
 ghost use Rattle.serial_spec.specs.Redefinition.{begin_of_number};
 ghost use Rattle.serial_spec.specs.Redefinition as spec;
-ghost use Rattle.redef_mover.specs.Placing.{pairs, HasOneEach};
+ghost use Rattle.redef_mover.specs.NewBegins.{pairs, HasOneEach};
 
-use crate::placing::Place;
+use crate::new_begins::Place;
 use nc_base::{Header, Var};
 
 fn write_begins(vars: &mut [Var], places: &[Place])

@@ -4,7 +4,7 @@ ghost use Rattle.std.specs.List.{list_any};
 ghost use Rattle.std.specs.Result.{result_err};
 ghost use Rattle.nc_base.specs.declared.header.Dim.{Dim};
 ghost use Rattle.serial_spec.specs.HeaderFaults.{is_record_id};
-ghost use Rattle.serial_spec.specs.Looking.{find_dim};
+ghost use Rattle.serial_spec.specs.Looks.{find_dim};
 ghost use Rattle.serial_spec.specs.Redefinition as spec;
 
 use crate::indexed_header::IndexedHeader;

@@ -1,6 +1,6 @@
 // A header that grows by additions, whose names are found by an index.
 ghost use Rattle.std.specs.Prelude.{◌≡◌, ◌<◌, ◌++◌, ◌∷◌, [], length, IfOk, OnOk};
-ghost use Rattle.serial_spec.specs.Looking as looks;
+ghost use Rattle.serial_spec.specs.Looks as looks;
 ghost use Rattle.serial_spec.specs.Redefinition as spec;
 ghost use Rattle.redef_mover.specs.Indexed.{attrs_at, given};
 

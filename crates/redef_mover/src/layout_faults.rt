@@ -8,10 +8,10 @@ ghost use Rattle.serial_spec.specs.HeaderBytes as header_bytes;
 ghost use Rattle.serial_spec.specs.Layout as layout;
 ghost use Rattle.serial_spec.specs.Redefinition.{size_fault, is_bad_begin, is_far_begin};
 ghost use Rattle.var_layout.specs.Capped.{capped};
-ghost use Rattle.redef_mover.specs.Placing.{pairs, HasOneEach};
+ghost use Rattle.redef_mover.specs.NewBegins.{pairs, HasOneEach};
 ghost use Rattle.redef_mover.specs.Ranges.{is_bad, is_bad_var};
 
-use crate::placing::Place;
+use crate::new_begins::Place;
 use nc_base::{Header, Items, LayoutErr, MAX_HEADER_BYTES, Memory, RedefErr, Var};
 use std::alloc::Global;
 use var_layout::{capped, first_large, header_len, is_lone, keeps_bound, record_share, recsize_of};

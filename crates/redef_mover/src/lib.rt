@@ -1,19 +1,19 @@
 //! Redefinition of an existing dataset, as by `open`, `redef`, definitions and `enddef` of the netCDF C library.
 #![tactic(auto)]
 
-mod adding;
-mod applying;
+mod applied;
 mod begins;
-mod carrying;
-mod clearing;
+mod carried;
 mod extra_faults;
+mod extras;
+mod gaps;
 mod indexed_header;
 mod layout_faults;
 mod moving;
 mod name_index;
-mod placing;
-mod relocating;
+mod new_begins;
+mod relocation;
 mod slabs;
 
-pub use applying::apply;
-pub use relocating::relocate;
+pub use applied::apply;
+pub use relocation::relocate;

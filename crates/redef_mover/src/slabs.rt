@@ -4,7 +4,7 @@ ghost use Rattle.std.specs.List.Sorted.{IsSortedByKey, IsStableByKey};
 ghost use Rattle.std.specs.Ordering.{nat_cmp};
 ghost use Rattle.redef_mover.specs.declared.slabs.Shift.{Shift};
 ghost use Rattle.overlay_laws.specs.Entries.{In};
-ghost use Rattle.redef_laws.specs.Rising.{first_slab, lowest_first, rising, IsRisen};
+ghost use Rattle.redef_laws.specs.RisingSlabs.{first_slab, lowest_first, rising, IsRisen};
 ghost use Rattle.redef_mover.specs.Moves.{first_slabs, further, listed, slab_of, window, AreSteps};
 ghost use Rattle.serial_spec.specs.DeviceCalls.{Slab};
 ghost use Rattle.serial_spec.specs.SoundHeaders.{is_sound};

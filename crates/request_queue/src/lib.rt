@@ -6,7 +6,7 @@
 
 mod queue;
 mod requests;
-mod taking;
+mod taken;
 
 pub use queue::Queue;
-pub use taking::Taken;
+pub use taken::Taken;

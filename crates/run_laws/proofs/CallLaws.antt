@@ -19,7 +19,7 @@ use Rattle.nc_base.specs.declared.step.MeetKind.TheVariants as meets
 use Rattle.nc_base.specs.declared.step.Reply.{Reply}
 use Rattle.nc_base.specs.declared.step.Want.{Want}
 use Rattle.nc_base.specs.declared.step.Want.TheVariants as want
-use Rattle.serial_spec.specs.Looking.{Look, Refused, Empty, Asks, look}
+use Rattle.serial_spec.specs.Looks.{Look, Refused, Empty, Asks, look}
 use Rattle.serial_spec.specs.RankMachine.{Rank, Open, Posted, Status, Gone, NullRequest, Waiting, step, hear, hear_open, posts, post_after, attach_code, detach_code, buffer_code, bytes_in, values_of_post, status_of, is_chosen, named, without_chosen, with_posted}
 use Rattle.serial_spec.specs.RegionCheck.{is_ok_code}
 use Rattle.serial_spec.specs.History.{is_collective, is_data, mode_after, kind_of_call}

@@ -15,7 +15,7 @@ use Rattle.nc_base.specs.declared.step.DiskCall.{DiskCall}
 use Rattle.serial_spec.specs.FileStep.{Setting, Counted}
 use Rattle.serial_spec.specs.DeviceCalls.{mark_calls, store_records, calls_from}
 use Rattle.serial_spec.specs.SerialEnd.{Going, setting_of, first_state, state_after, after_mark, after_solo, solo_of, advance, closed}
-use Rattle.run_laws.specs.Standing.{is_solo_of, own_step, own_calls, calls_so_far}
+use Rattle.run_laws.specs.Ahead.{is_solo_of, own_step, own_calls, calls_so_far}
 use Rattle.run_laws.proofs.StandingLaws.{solo_goes, solo_calls_go}
 
 -- ---- states

@@ -1,4 +1,4 @@
 pub mod Requests
-pub mod Standing
+pub mod Ahead
 pub mod Ways
 pub mod Arrivals

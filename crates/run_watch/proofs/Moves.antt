@@ -8,11 +8,11 @@ use Rattle.atomic_table.proofs.Lists.{set_else}
 use Rattle.crossbeam_utils.specs.Register.{Turns, TurnsAt, Forks, Merges}
 use Rattle.nc_base.specs.declared.step.Mark.{Mark}
 use Rattle.nc_base.specs.declared.run.Summary.{Summary}
-use Rattle.serial_spec.specs.Reading.{last_count}
+use Rattle.serial_spec.specs.Readings.{last_count}
 use Rattle.run_watch.specs.declared.rule.Heard.{Heard}
 use Rattle.run_watch.specs.declared.rule.Shown.{Shown}
 use Rattle.run_watch.specs.Heard.{summary, opened, with_pair, IsBeginning}
-use Rattle.run_watch.specs.Watching.{HeardOf, Keeps, Reads, TellsMore}
+use Rattle.run_watch.specs.BoardRule.{HeardOf, Keeps, Reads, TellsMore}
 
 abbrev Pairs : Type 0
 Pairs = List (Mark × ℕ)

@@ -2,11 +2,11 @@
 use Rattle.std.proofs.Common.{◌≡◌, ◌+◌, ◌++◌, ◌∷◌, ℕ, false, true≢false, List, [], length, fold, All, Result, Ok, Err, is_err, IsOk, MatchResult, Option, Some, sym, refl, ap, ◌∙◌, subst, length-append, arith}
 use Rattle.std.proofs.lemmas.List.Elements.{All-push}
 use Rattle.nc_base.specs.declared.step.Mark.{Mark}
-use Rattle.serial_spec.specs.Reading.{last_count}
+use Rattle.serial_spec.specs.Readings.{last_count}
 use Rattle.run_watch.specs.declared.rule.Heard.{Heard}
 use Rattle.run_watch.specs.declared.rule.Shown.{Shown}
 use Rattle.run_watch.specs.Heard.{summary, with_pair}
-use Rattle.run_watch.specs.Watching.{TellsMore}
+use Rattle.run_watch.specs.BoardRule.{TellsMore}
 use Rattle.run_watch.specs.Ends.{Shows}
 
 pub ok_of : {A E : Type 0} (r : Result A E) (P : Type 0) (Q : E → Type 0) → false ≡ is_err r → MatchResult r (λ _. P) Q → P

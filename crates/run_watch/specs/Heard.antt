@@ -8,7 +8,7 @@ use Rattle.std.specs.Prelude.{◌≡◌, ℕ, [], ◌∷◌, ◌++◌, length, n
 use mathlib.Core.List.{IsPrefix}
 use Rattle.nc_base.specs.declared.step.Mark.{Mark}
 use Rattle.nc_base.specs.declared.run.Summary.{Summary}
-use Rattle.serial_spec.specs.Reading.{summary_of}
+use Rattle.serial_spec.specs.Readings.{summary_of}
 use Rattle.run_watch.specs.declared.rule.Heard.{Heard}
 
 abbrev pub summary : Heard → Summary

@@ -1,3 +1,3 @@
 pub mod Heard
-pub mod Watching
+pub mod BoardRule
 pub mod Ends

@@ -43,7 +43,7 @@ pub struct Watching;
 
 impl Protocol<Shown, Option<Heard>> for Watching {
     ghost use Rattle.std.specs.Prelude.{None};
-    ghost use Rattle.run_watch.specs.Watching.{Keeps};
+    ghost use Rattle.run_watch.specs.BoardRule.{Keeps};
 
     ghost holds = { Keeps };
 
@@ -54,7 +54,7 @@ impl Protocol<Shown, Option<Heard>> for Watching {
 pub struct Reading;
 
 impl Outcome<Shown, Option<Heard>> for Reading {
-    ghost use Rattle.run_watch.specs.Watching.{Reads};
+    ghost use Rattle.run_watch.specs.BoardRule.{Reads};
 
     ghost then = { λ before x y now. Reads before y now };
 }
@@ -63,7 +63,7 @@ impl Outcome<Shown, Option<Heard>> for Reading {
 pub struct Telling;
 
 impl Outcome<Shown, Option<Heard>> for Telling {
-    ghost use Rattle.run_watch.specs.Watching.{TellsMore};
+    ghost use Rattle.run_watch.specs.BoardRule.{TellsMore};
 
     ghost then = { λ before x y now. TellsMore before y now };
 }

@@ -4,14 +4,14 @@ ghost use Rattle.serial_spec.specs.Lawful.{values_in_call};
 ghost use Rattle.script_spec.specs.ScriptCalls.{after_prefix, before_suffix, form_and_all, posted, id_of_post, post_of_text, is_posted};
 ghost use Rattle.nc_base.specs.Values.{count_of};
 ghost use Rattle.script_calls.specs.CallWords.{region_by, values_by, post_values_by, new_id_by, put_by, get_by, post_by};
-ghost use Rattle.script_words.specs.Reading.{Gives};
+ghost use Rattle.script_words.specs.Given.{Gives};
 ghost use Rattle.script_calls.specs.Posts.{IsNew};
 
 use crate::rank_calls::RankCalls;
 use nc_base::{Call, Form, Given, Name, NumberList, PostKind, ScriptKind, Values};
 use script_values::regions::{form_of_text, region};
 use script_values::values::values;
-use script_words::reading::{ended, id, name};
+use script_words::word_forms::{ended, id, name};
 use script_words::{ReadErr, Words};
 use std::alloc::Global;
 

@@ -4,7 +4,7 @@ ghost use Rattle.serial_spec.specs.Lawful.{values_in_call};
 ghost use Rattle.script_spec.specs.ScriptSteps.{whole};
 ghost use Rattle.script_spec.specs.ScriptCalls.{posted, id_of_post, choice, one_id, ids, fill_call, attach_call, inquiry, lone_call, other_call, call_of};
 ghost use Rattle.script_calls.specs.CallWords.{plain_by, post_or_plain_by, call_by};
-ghost use Rattle.script_words.specs.Reading.{Gives, word_of};
+ghost use Rattle.script_words.specs.Given.{Gives, word_of};
 ghost use Rattle.script_calls.specs.Posts.{IsNew};
 
 use crate::accesses::{after_prefix, form_and_all, get_call, post_call, post_of_text, put_call};
@@ -12,7 +12,7 @@ use crate::rank_calls::RankCalls;
 use nc_base::{Call, Choice, IdList, Name, ScriptKind};
 use script_values::regions::form_of_text;
 use script_words::numbers::id_of_text;
-use script_words::reading::{bare, ended, name, size};
+use script_words::word_forms::{bare, ended, name, size};
 use script_words::{ReadErr, Token, Words};
 use std::alloc::Global;
 

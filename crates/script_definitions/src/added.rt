@@ -2,14 +2,14 @@
 ghost use Rattle.std.specs.Prelude.{◌≡◌, ◌≤◌, ◌^◌, ◌+◌, IfOk, length, drop, nat_lt};
 ghost use Rattle.std.specs.List.{list_any};
 ghost use Rattle.script_spec.specs.ScriptDefinitions.{Added, nothing_added, is_added_record, added_shape, owner_name, dim_addition, var_addition, att_addition, addition};
-ghost use Rattle.script_words.specs.Reading.{Gives};
+ghost use Rattle.script_words.specs.Given.{Gives};
 
 use crate::attributes::attribute;
 use crate::dims::Dims;
 use crate::titles::Titles;
 use crate::vars::{name_list, var_head};
 use nc_base::{Dim, Extra, ExtraList, LimitName, MAX_VAR_DIMS, Memory, Name, NameList, ScriptKind};
-use script_words::reading::{ended, owner};
+use script_words::word_forms::{ended, owner};
 use script_words::{ListParts, Names, ReadErr, Words};
 use std::alloc::Global;
 use std::marker::Model;

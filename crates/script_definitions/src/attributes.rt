@@ -4,12 +4,12 @@ ghost use Rattle.std.specs.List.{list_any};
 ghost use Rattle.nc_base.specs.Values.{count_of};
 ghost use Rattle.serial_spec.specs.Request.{ext_of, value_at};
 ghost use Rattle.script_spec.specs.ScriptDefinitions.{attr_of, attribute, attribute_name, external_bytes, same_title};
-ghost use Rattle.script_words.specs.Reading.{Gives};
+ghost use Rattle.script_words.specs.Given.{Gives};
 
 use crate::titles::Titles;
 use nc_base::{Attr, Blob, Memory, Name, NcType, ScriptKind, Values};
 use script_values::values::values;
-use script_words::reading::{name, type_name};
+use script_words::word_forms::{name, type_name};
 use script_words::{ReadErr, Words};
 use std::alloc::Global;
 use type_external::{encode_into, size_of};

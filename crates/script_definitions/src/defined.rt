@@ -2,14 +2,14 @@
 ghost use Rattle.std.specs.Prelude.{◌≡◌, ◌≤◌, ◌<◌, ◌^◌, ◌+◌, IfOk, IfSome, Some, None, length};
 ghost use Rattle.script_spec.specs.ScriptDefinitions.{Defined, no_definition, owner_place, att_line, fill_line, dim_definition, var_definition, definition};
 ghost use Rattle.script_spec.specs.ScriptGrammar.{header_of};
-ghost use Rattle.script_words.specs.Reading.{Gives};
+ghost use Rattle.script_words.specs.Given.{Gives};
 
 use crate::attributes::attribute;
 use crate::dims::Dims;
 use crate::titles::Titles;
 use crate::vars::Vars;
 use nc_base::{AttrList, Header, ScriptKind};
-use script_words::reading::{ended, owner};
+use script_words::word_forms::{ended, owner};
 use script_words::{ReadErr, Words};
 use std::alloc::Global;
 use std::marker::Model;

@@ -2,10 +2,10 @@
 ghost use Rattle.std.specs.Prelude.{◌≡◌, ◌<◌, ◌++◌, ◌∷◌, [], OnOk, length, false, position, bytes_eq};
 ghost use Rattle.std.specs.List.{list_any};
 ghost use Rattle.script_spec.specs.ScriptDefinitions.{is_among, is_unlimited, dim_line, dim_names, is_record_dim, is_added_record};
-ghost use Rattle.script_words.specs.Reading.{Gives};
+ghost use Rattle.script_words.specs.Given.{Gives};
 
 use nc_base::{Dim, DimList, LimitName, MAX_DIMS, Memory, Name, ScriptKind};
-use script_words::reading::{dim_length, ended, name};
+use script_words::word_forms::{dim_length, ended, name};
 use script_words::{Names, ReadErr, Words};
 use std::alloc::Global;
 use std::marker::Model;

@@ -2,13 +2,13 @@
 ghost use Rattle.std.specs.Prelude.{◌≡◌, ◌≤◌, ◌^◌, ◌+◌, IfOk, IfSome};
 ghost use Rattle.script_spec.specs.ScriptDefinitions.{Known, nothing_known, ranks_line, definition_or_addition, known_after};
 ghost use Rattle.script_definitions.specs.DraftWords.{addition_by, definition_by, known_added, known_defined, known_by};
-ghost use Rattle.script_words.specs.Reading.{Gives};
+ghost use Rattle.script_words.specs.Given.{Gives};
 
 use crate::added::Additions;
 use crate::defined::Definitions;
 use crate::hints::GivenHints;
 use nc_base::ScriptKind;
-use script_words::reading::{ended, size_within};
+use script_words::word_forms::{ended, size_within};
 use script_words::{ReadErr, Words};
 use std::alloc::{AllocError, Global};
 use std::marker::Model;

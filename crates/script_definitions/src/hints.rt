@@ -5,11 +5,11 @@ ghost use Rattle.script_spec.specs.ScriptSteps.{reads_as};
 ghost use Rattle.script_spec.specs.HintTable.{hint_of_text, hint_form, hint_in, hints_of, none_given};
 ghost use Rattle.script_spec.specs.ScriptDefinitions.{hint_value, hint_line, one_of_two};
 ghost use Rattle.hint_table.specs.HintNames.{form_of, hint_place, HasUnit};
-ghost use Rattle.script_words.specs.Reading.{Gives};
+ghost use Rattle.script_words.specs.Given.{Gives};
 
 use hint_table::{HintForm, HintName, hints_of};
 use nc_base::{Hints, ScriptKind};
-use script_words::reading::{ended, next, size_within};
+use script_words::word_forms::{ended, next, size_within};
 use script_words::{ReadErr, Words};
 use std::alloc::{AllocError, Global};
 use std::marker::Model;

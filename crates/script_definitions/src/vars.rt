@@ -5,7 +5,7 @@ ghost use Rattle.script_spec.specs.ScriptWords.{is_name};
 ghost use Rattle.script_spec.specs.ScriptSteps.{or_fault};
 ghost use Rattle.script_spec.specs.ScriptDefinitions.{is_among, var_names, var_head, var_line, name_list, shape, dim_ids, is_record_dim, with_attr_at};
 ghost use Rattle.nc_base.specs.declared.errors.ScriptKind.TheVariants as kind;
-ghost use Rattle.script_words.specs.Reading.{Gives};
+ghost use Rattle.script_words.specs.Given.{Gives};
 
 use crate::dims::Dims;
 use nc_base::{
@@ -13,7 +13,7 @@ use nc_base::{
     Var, VarList,
 };
 use script_words::numbers::is_name;
-use script_words::reading::{bracketed, ended, name, type_name};
+use script_words::word_forms::{bracketed, ended, name, type_name};
 use script_words::{ListParts, Names, ReadErr, Words};
 use std::alloc::Global;
 use std::marker::Model;

@@ -20,7 +20,7 @@ use Rattle.script_spec.specs.Shown.{attr_values, pieces, shown_values}
 use Rattle.script_spec.specs.Texts.{hex, joined, quoted}
 use Rattle.printed_text.specs.Spaced.{spaced}
 use Rattle.printed_text.proofs.WordLaws.{all_pushed, item_words, joined_spaced, next_pushed, spaced_one}
-use Rattle.script_text.specs.Printing.{value_word}
+use Rattle.script_text.specs.CanonicalParts.{value_word}
 
 -- what each item passes, one passes
 pub all_at : {A : Type 0} (test : A → Bool) (xs : List A) (i : ℕ) (d : A) → list_all test xs ≡ true → i < length xs → test (get_or xs i d) ≡ true

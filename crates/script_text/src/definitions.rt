@@ -7,7 +7,7 @@ ghost use Rattle.serial_spec.specs.Lawful.{is_whole_attr, is_whole_extra};
 ghost use Rattle.script_spec.specs.Texts.{joined, type_word};
 ghost use Rattle.script_spec.specs.Shown.{attr_values, bracketed, dim_name, pieces, shown_attr, shown_definitions, shown_dim, shown_extra, shown_values, shown_var};
 ghost use Rattle.printed_text.specs.Spaced.{spaced};
-ghost use Rattle.script_text.specs.Printing.{value_word};
+ghost use Rattle.script_text.specs.CanonicalParts.{value_word};
 
 use nc_base::{Attr, Dim, Extra, Header, Memory, Name, NcType, Value, Var};
 use printed_text::dimensions::push_dim_names;

@@ -10,10 +10,10 @@ ghost use Rattle.script_spec.specs.Shown.{shown};
 ghost use Rattle.script_text.specs.Expressible.{is_expressible, printed_lines};
 
 mod calls;
+mod canonical;
 mod definitions;
-mod printing;
 
-pub use printing::print_script;
+pub use canonical::print_script;
 
 /// What is printed of a script that some text spells is read as the same script, unless the printed text is longer than
 /// a text may be.

@@ -1,7 +1,7 @@
 // How many values a line may have, and of what kind.
 ghost use Rattle.std.specs.Prelude.{◌≡◌, ◌≤◌, ◌<◌, ◌+◌, ◌^◌, ◌∷◌, [], OnOk, IfOk, IfSome, length, List, ℤ, pos, ◌+ℤ◌, ◌*ℤ◌, unsigned_abs, nat_lt, ◌*◌, ◌-◌, ◌==◌, Ok};
 ghost use Rattle.script_spec.specs.ScriptValues.{within_limits, may_be, are_numbers, are_patterns, are_text, wrong_kind};
-ghost use Rattle.script_words.specs.Reading.{Gives};
+ghost use Rattle.script_words.specs.Given.{Gives};
 
 use nc_base::{LimitName, MAX_ELEMENTS, MAX_SCRIPT_VALUES, NcType, ScriptKind};
 use script_words::ReadErr;

@@ -5,11 +5,11 @@ ghost use Rattle.script_spec.specs.ScriptSteps.{list, or_fault};
 ghost use Rattle.script_spec.specs.ScriptCalls.{form_of_text, part, part_list, many_regions, region, given_of};
 ghost use Rattle.nc_base.specs.declared.errors.ScriptKind.TheVariants as kind;
 ghost use Rattle.nc_base.specs.declared.request.Form.TheVariants as form;
-ghost use Rattle.script_words.specs.Reading.{Gives};
+ghost use Rattle.script_words.specs.Given.{Gives};
 
 use nc_base::{Form, Given, LimitName, MAX_PARTS, Part, PartList, ScriptKind, SizeList};
 use script_words::numbers::size_of_text;
-use script_words::reading::{bracketed, size};
+use script_words::word_forms::{bracketed, size};
 use script_words::{ListParts, ReadErr, Words};
 use std::alloc::Global;
 

@@ -2,12 +2,12 @@
 ghost use Rattle.std.specs.Prelude.{◌≡◌, ◌≤◌, ◌<◌, ◌+◌, ◌^◌, ◌∷◌, [], OnOk, IfOk, IfSome, length, List, ℤ, pos, ◌+ℤ◌, ◌*ℤ◌, unsigned_abs, nat_lt, ◌*◌, ◌-◌, ◌==◌, Ok};
 ghost use Rattle.nc_base.specs.Values.{count_of};
 ghost use Rattle.script_spec.specs.ScriptValues.{may_have, sequence_count, sequence, last_number, is_term, term, numbers_between, pattern_sequence, last_pattern, is_pattern_term, pattern_term, patterns_between, seq_values, seqx_values, pattern_values};
-ghost use Rattle.script_words.specs.Reading.{Gives};
+ghost use Rattle.script_words.specs.Given.{Gives};
 
 use crate::fits::{may_have_bits, may_have_number};
 use crate::limits::{may_be_bits, may_be_numbers, within_limits, wrong_kind};
 use nc_base::{BitList, BitRun, NcType, NumberList, NumberRun, ScriptKind, Values};
-use script_words::reading::{bits, ended, number, size};
+use script_words::word_forms::{bits, ended, number, size};
 use script_words::{ReadErr, Words};
 use std::alloc::Global;
 

@@ -3,14 +3,14 @@ ghost use Rattle.std.specs.Prelude.{◌≡◌, ◌≤◌, ◌<◌, ◌+◌, ◌^
 ghost use Rattle.nc_base.specs.Values.{count_of};
 ghost use Rattle.script_spec.specs.ScriptWords.{Plain};
 ghost use Rattle.script_spec.specs.ScriptValues.{number_for, pattern_for, one_value, each_value, text_values, number_values, bits_values, begins_x, listed_kind, listed_values, values};
-ghost use Rattle.script_words.specs.Reading.{Gives, word_of};
+ghost use Rattle.script_words.specs.Given.{Gives, word_of};
 
 use crate::fits::{may_have_bits, may_have_number};
 use crate::limits::{may_be_text, within_limits};
 use crate::sequences::{seq_values, seqx_values};
 use nc_base::{BitList, Blob, NcType, NumberList, ScriptKind, Values};
 use script_words::numbers::{bits_of_text, number_of_text};
-use script_words::reading::{bare, ended};
+use script_words::word_forms::{bare, ended};
 use script_words::{ReadErr, Token, Words};
 use std::alloc::Global;
 

@@ -1,3 +1,3 @@
-pub mod Reading
+pub mod Given
 pub mod Escapes
 pub mod Seen

@@ -8,8 +8,8 @@ mod lines;
 mod names;
 pub mod numbers;
 mod parts_of_list;
-pub mod reading;
 mod texts;
+pub mod word_forms;
 mod words;
 
 pub use fault::{LineErr, ReadErr};

@@ -2,7 +2,7 @@
 ghost use Rattle.std.specs.Prelude.{◌≡◌, ◌≢◌, ◌∷◌, ◌<◌, ◌^◌, [], IfOk, position, length, false};
 ghost use Rattle.std.specs.List.{enumerate_from};
 ghost use Rattle.script_spec.specs.ScriptWords.{text_lines, is_newline, is_comment, significant_of};
-ghost use Rattle.script_words.specs.Reading.{TakesFirst, word_of};
+ghost use Rattle.script_words.specs.Given.{TakesFirst, word_of};
 ghost use Rattle.script_words.specs.Seen.{line_seen};
 
 use crate::words::{Token, Words};

@@ -2,7 +2,7 @@
 ghost use Rattle.std.specs.Prelude.{◌≡◌, position, length};
 ghost use Rattle.std.specs.List.{slice_split};
 ghost use Rattle.script_spec.specs.ScriptWords.{parts, is_comma};
-ghost use Rattle.script_words.specs.Reading.{TakesFirst};
+ghost use Rattle.script_words.specs.Given.{TakesFirst};
 
 use std::marker::Model;
 

@@ -2,7 +2,7 @@
 ghost use Rattle.std.specs.Prelude.{◌≡◌, ◌∷◌, [], IfOk, IfSome, position, ◌<◌, ◌≤◌, length, drop, not, MatchOption, option_map, if◌then◌else◌};
 ghost use Rattle.std.specs.List.{position_or_len};
 ghost use Rattle.script_spec.specs.ScriptWords.{is_blank, begins_blank, quoted_word, after_blanks, text_from, Between, words};
-ghost use Rattle.script_words.specs.Reading.{word_of, TakesWord};
+ghost use Rattle.script_words.specs.Given.{word_of, TakesWord};
 
 use crate::texts::text;
 use std::alloc::{AllocError, Global};

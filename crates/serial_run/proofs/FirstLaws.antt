@@ -16,17 +16,17 @@ use Rattle.run_laws.specs.Arrivals.{Arrived, first_stand}
 use Rattle.run_laws.proofs.LawfulLaws.{ranks_lawful}
 use Rattle.run_laws.proofs.WayLaws.{way_begins}
 use Rattle.element_steps.specs.Requests.{counted}
-use Rattle.serial_run.specs.Seated.{going_of, HasGone, IsSeat, MayGoOn}
-use Rattle.serial_run.specs.Standing.{all_arrived, IsStanding}
-use Rattle.serial_run.specs.declared.seats.Seat.{Seat}
-use Rattle.serial_run.specs.declared.standing.Stand.{Stand}
+use Rattle.serial_run.specs.Running.{going_of, HasGone, IsRunner, MayGoOn}
+use Rattle.serial_run.specs.Stands.{all_arrived, IsStanding}
+use Rattle.serial_run.specs.declared.runners.Runner.{Runner}
+use Rattle.serial_run.specs.declared.stand.Stand.{Stand}
 use Rattle.list_laws.proofs.Places.{get_left, get_right}
 
 -- the first ranks of a script, gone up to their first offers
-pub record AreFirst (script : Script) (header : Header) (n : ℕ) (seats : List Seat) : Type 0 where
-  pub long : length seats ≡ n
-  pub arrived : all_arrived seats ≡ map (λ (own : List Call). advance header (first_going header own)) (take n script.calls)
-  pub each : (r : ℕ) (seat : Seat) → slice_get seats r ≡ Some seat → IsSeat script header [] r seat
+pub record AreFirst (script : Script) (header : Header) (n : ℕ) (runners : List Runner) : Type 0 where
+  pub long : length runners ≡ n
+  pub arrived : all_arrived runners ≡ map (λ (own : List Call). advance header (first_going header own)) (take n script.calls)
+  pub each : (r : ℕ) (runner : Runner) → slice_get runners r ≡ Some runner → IsRunner script header [] r runner
 
 -- the calls of a rank, as they are read
 pub own_there : (calls list : List (List Call)) (i : ℕ) (item own : List Call) → list ≡ calls → i < length list → item ≡ get_or list i item → own ≡ item
@@ -40,22 +40,22 @@ ready_first script header r own lawful e =
     let within = slice_get_within script.calls r own e in
     record { script = script; order = []; r = r; lawful = lawful; one_of = omega arith; way = way_begins script header r own lawful e }
 
-first_seat : (script : Script) (header : Header) (r : ℕ) (own : List Call) (seat : Seat) → is_sound header ≡ true → is_lawful script ≡ true → slice_get script.calls r ≡ Some own
-    → seat.rank.header ≡ header → HasGone header (first_going header own) (going_of seat) seat.held → IsSeat script header [] r seat
-first_seat script header r own seat sound lawful e same gone = record {
+first_runner : (script : Script) (header : Header) (r : ℕ) (own : List Call) (runner : Runner) → is_sound header ≡ true → is_lawful script ≡ true → slice_get script.calls r ≡ Some own
+    → runner.rank.header ≡ header → HasGone header (first_going header own) (going_of runner) runner.held → IsRunner script header [] r runner
+first_runner script header r own runner sound lawful e same gone = record {
   of_header = same;
   low = subst (λ (n : ℕ). n < record_limit header.version) (sym gone.known) (sound_small header sound);
   asked = gone.asked;
   placed = gone.placed script [] r (way_begins script header r own lawful e);
 }
 
-pub first_more : (script : Script) (header : Header) (n : ℕ) (seats more : List Seat) (own : List Call) (seat : Seat) → is_sound header ≡ true → is_lawful script ≡ true
-    → slice_get script.calls n ≡ Some own → seat.rank.header ≡ header → HasGone header (first_going header own) (going_of seat) seat.held → more ≡ seats ++ seat ∷ []
-    → AreFirst script header n seats → AreFirst script header (n + 1) more
-first_more script header n seats more own seat sound lawful e same gone pushed are =
-    subst (λ (xs : List Seat). AreFirst script header (n + 1) xs) (sym pushed) (record {
-      long = let l = length-append seats (seat ∷ []) in let m = are.long in omega arith;
-      arrived = map-append _ seats (seat ∷ []) ∙ (λ i. are.arrived i ++ gone.arrived i ∷ []) ∙ sym (map-append go (take n script.calls) (own ∷ [])) ∙ ap (map go) (sym taken);
+pub first_more : (script : Script) (header : Header) (n : ℕ) (runners more : List Runner) (own : List Call) (runner : Runner) → is_sound header ≡ true → is_lawful script ≡ true
+    → slice_get script.calls n ≡ Some own → runner.rank.header ≡ header → HasGone header (first_going header own) (going_of runner) runner.held → more ≡ runners ++ runner ∷ []
+    → AreFirst script header n runners → AreFirst script header (n + 1) more
+first_more script header n runners more own runner sound lawful e same gone pushed are =
+    subst (λ (xs : List Runner). AreFirst script header (n + 1) xs) (sym pushed) (record {
+      long = let l = length-append runners (runner ∷ []) in let m = are.long in omega arith;
+      arrived = map-append _ runners (runner ∷ []) ∙ (λ i. are.arrived i ++ gone.arrived i ∷ []) ∙ sym (map-append go (take n script.calls) (own ∷ [])) ∙ ap (map go) (sym taken);
       each = λ r x f. by_place r x f (nat_lt r n) refl;
     })
   where
@@ -66,30 +66,30 @@ first_more script header n seats more own seat sound lawful e same gone pushed a
     taken = take_more script.calls n own (slice_get_within script.calls n own e)
         ∙ ap (λ (x : List Call). take n script.calls ++ x ∷ []) (get_or_from_slice_get script.calls n own own e)
 
-    by_place : (r : ℕ) (x : Seat) → slice_get (seats ++ seat ∷ []) r ≡ Some x → (t : Bool) → nat_lt r n ≡ t → IsSeat script header [] r x
+    by_place : (r : ℕ) (x : Runner) → slice_get (runners ++ runner ∷ []) r ≡ Some x → (t : Bool) → nat_lt r n ≡ t → IsRunner script header [] r x
     by_place r x f true t =
         let l = are.long in
         let below : r < n = grind (arith, nat_tests) in
-        are.each r x (sym (get_left seats (seat ∷ []) r (omega arith)) ∙ f)
+        are.each r x (sym (get_left runners (runner ∷ []) r (omega arith)) ∙ f)
     by_place r x f false t =
         let l = are.long in
         let above : n ≤ r = grind (arith, nat_tests) in
-        let within = slice_get_within (seats ++ seat ∷ []) r x f in
-        let both = length-append seats (seat ∷ []) in
-        let last : r ≡ length seats + 0 = omega arith in
+        let within = slice_get_within (runners ++ runner ∷ []) r x f in
+        let both = length-append runners (runner ∷ []) in
+        let last : r ≡ length runners + 0 = omega arith in
         let at : r ≡ n = omega arith in
-        let is : seat ≡ x = same_Some seat x (sym (get_right seats (seat ∷ []) 0 r last) ∙ f) in
-        subst (λ (y : Seat). IsSeat script header [] r y) is
-        (subst (λ (k : ℕ). IsSeat script header [] k seat) (sym at) (first_seat script header n own seat sound lawful e same gone))
+        let is : runner ≡ x = same_Some runner x (sym (get_right runners (runner ∷ []) 0 r last) ∙ f) in
+        subst (λ (y : Runner). IsRunner script header [] r y) is
+        (subst (λ (k : ℕ). IsRunner script header [] k runner) (sym at) (first_runner script header n own runner sound lawful e same gone))
 
-pub first_is : (script : Script) (header : Header) (n : ℕ) (file bytes : List ℕ) (seats : List Seat) → length script.calls ≤ n → AreFirst script header n seats → file ≡ bytes
-    → (counted file header.records, all_arrived seats) ≡ first_stand header bytes script.calls
-first_is script header n file bytes seats l are e =
+pub first_is : (script : Script) (header : Header) (n : ℕ) (file bytes : List ℕ) (runners : List Runner) → length script.calls ≤ n → AreFirst script header n runners → file ≡ bytes
+    → (counted file header.records, all_arrived runners) ≡ first_stand header bytes script.calls
+first_is script header n file bytes runners l are e =
     let all = are.arrived ∙ ap (map (λ (own : List Call). advance header (first_going header own))) (take_all n script.calls l) in
     λ i. (counted (e i) header.records, all i)
 
 pub first_stands : (script : Script) (header : Header) (n : ℕ) (stand : Stand) → is_sound header ≡ true → is_lawful script ≡ true → n ≡ length script.calls
-    → AreFirst script header n stand.seats.items → stand.records ≡ header.records → IsStanding script header [] stand
+    → AreFirst script header n stand.runners.items → stand.records ≡ header.records → IsStanding script header [] stand
 first_stands script header n stand sound lawful l are e = record {
   all = are.long ∙ l ∙ (ranks_lawful script lawful).one_each;
   records = subst (λ (k : ℕ). k < record_limit header.version) (sym e) (sound_small header sound);

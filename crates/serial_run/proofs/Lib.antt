@@ -1,4 +1,4 @@
-pub mod SeatLaws
+pub mod RunnerLaws
 pub mod FirstLaws
 pub mod NextLaws
 pub mod StepLaws

@@ -21,9 +21,9 @@ use Rattle.join_laws.proofs.CountLaws.{less_max}
 use Rattle.run_laws.specs.Ways.{meetings, marks_left, IsOnWay}
 use Rattle.run_laws.proofs.CallLaws.{hears_keeps}
 use Rattle.run_laws.proofs.WayLaws.{way_beside, way_hears, way_solo}
-use Rattle.serial_run.specs.Seated.{AsksAlone, IsAsked, IsPlaced, IsSeat, IsWaiting, MayGoOn, going_of}
-use Rattle.serial_run.specs.Standing.{HeardOne}
-use Rattle.serial_run.specs.declared.seats.Seat.{Seat}
+use Rattle.serial_run.specs.Running.{AsksAlone, IsAsked, IsPlaced, IsRunner, IsWaiting, MayGoOn, going_of}
+use Rattle.serial_run.specs.Stands.{HeardOne}
+use Rattle.serial_run.specs.declared.runners.Runner.{Runner}
 
 -- ---- after the reply
 
@@ -114,75 +114,75 @@ own_next script header done r n s (Some o) rest left (inr asks) =
     let e = (alone_left script header done r s o no_reply (mark.Solo r n ∷ rest) asks left).1 in
     record { offer = o; holds = refl; asks = asks; number = cc }
 
--- ---- seats
+-- ---- runners
 
-waits_with : (script : Script) (header : Header) (done : List Mark) (r : ℕ) (seat : Seat) (o : Offer) → is_lawful script ≡ true → r < script.ranks
-    → IsSeat script header done r seat → seat.held ≡ Some o → IsWaiting header seat
-waits_with script header done r seat o lawful below is e = record {
+waits_with : (script : Script) (header : Header) (done : List Mark) (r : ℕ) (runner : Runner) (o : Offer) → is_lawful script ≡ true → r < script.ranks
+    → IsRunner script header done r runner → runner.held ≡ Some o → IsWaiting header runner
+waits_with script header done r runner o lawful below is e = record {
   of_header = is.of_header;
   low = is.low;
-  asked = some_asked seat.held o e is.asked;
-  ready = ready_after script header done r (going_of seat) o lawful below (subst (λ (m : Option Offer). IsPlaced script header done r (going_of seat) m) e is.placed);
+  asked = some_asked runner.held o e is.asked;
+  ready = ready_after script header done r (going_of runner) o lawful below (subst (λ (m : Option Offer). IsPlaced script header done r (going_of runner) m) e is.placed);
 }
   where
-    some_asked : (held : Option Offer) (x : Offer) → held ≡ Some x → IfSome held (IsAsked header seat.rank.state) → IsSomeAnd held (IsAsked header seat.rank.state)
+    some_asked : (held : Option Offer) (x : Offer) → held ≡ Some x → IfSome held (IsAsked header runner.rank.state) → IsSomeAnd held (IsAsked header runner.rank.state)
     some_asked None x f h = absurd cc
     some_asked (Some y) x f h = h
 
-pub meeting_waits : (script : Script) (header : Header) (done rest : List Mark) (r k : ℕ) (seat : Seat) → IsLegal script (done ++ mark.Meet k ∷ rest) → is_lawful script ≡ true
-    → r < script.ranks → IsSeat script header done r seat → IsWaiting header seat
-meeting_waits script header done rest r k seat legal lawful below is =
-    let at = meeting_next script header done r k (going_of seat) seat.held (filter (concerns r) rest) (next_left script done rest (mark.Meet k) r legal below refl) is.placed in
-    waits_with script header done r seat at.offer lawful below is at.holds
+pub meeting_waits : (script : Script) (header : Header) (done rest : List Mark) (r k : ℕ) (runner : Runner) → IsLegal script (done ++ mark.Meet k ∷ rest) → is_lawful script ≡ true
+    → r < script.ranks → IsRunner script header done r runner → IsWaiting header runner
+meeting_waits script header done rest r k runner legal lawful below is =
+    let at = meeting_next script header done r k (going_of runner) runner.held (filter (concerns r) rest) (next_left script done rest (mark.Meet k) r legal below refl) is.placed in
+    waits_with script header done r runner at.offer lawful below is at.holds
 
-pub own_waits : (script : Script) (header : Header) (done rest : List Mark) (r n : ℕ) (seat : Seat) → IsLegal script (done ++ mark.Solo r n ∷ rest) → is_lawful script ≡ true
-    → r < script.ranks → IsSeat script header done r seat → IsWaiting header seat
-own_waits script header done rest r n seat legal lawful below is =
-    let at = own_next script header done r n (going_of seat) seat.held (filter (concerns r) rest) (next_left script done rest (mark.Solo r n) r legal below (equal_itself r)) is.placed in
-    waits_with script header done r seat at.offer lawful below is at.holds
+pub own_waits : (script : Script) (header : Header) (done rest : List Mark) (r n : ℕ) (runner : Runner) → IsLegal script (done ++ mark.Solo r n ∷ rest) → is_lawful script ≡ true
+    → r < script.ranks → IsRunner script header done r runner → IsWaiting header runner
+own_waits script header done rest r n runner legal lawful below is =
+    let at = own_next script header done r n (going_of runner) runner.held (filter (concerns r) rest) (next_left script done rest (mark.Solo r n) r legal below (equal_itself r)) is.placed in
+    waits_with script header done r runner at.offer lawful below is at.holds
 
 -- what a rank knows when it has heard
-heard_low : (header : Header) (seat : Seat) (o : Offer) (y : Reply) → seat.held ≡ Some o → IfSome seat.held (IsAsked header seat.rank.state) → seat.rank.state.known < record_limit header.version
-    → y.records < record_limit header.version → (hears header (going_of seat) y).rank.known < record_limit header.version
-heard_low header seat o y e asked low few =
-    let heard = hear header seat.rank.state y in
-    let waits = (if_some_at (IsAsked header seat.rank.state) seat.held o e asked).waits in
-    let known = (hears_keeps header seat.rank.state heard.0 y heard.1 waits refl).0 in
-    subst (λ (n : ℕ). n < record_limit header.version) (sym known) (less_max seat.rank.state.known y.records (record_limit header.version) low few)
+heard_low : (header : Header) (runner : Runner) (o : Offer) (y : Reply) → runner.held ≡ Some o → IfSome runner.held (IsAsked header runner.rank.state) → runner.rank.state.known < record_limit header.version
+    → y.records < record_limit header.version → (hears header (going_of runner) y).rank.known < record_limit header.version
+heard_low header runner o y e asked low few =
+    let heard = hear header runner.rank.state y in
+    let waits = (if_some_at (IsAsked header runner.rank.state) runner.held o e asked).waits in
+    let known = (hears_keeps header runner.rank.state heard.0 y heard.1 waits refl).0 in
+    subst (λ (n : ℕ). n < record_limit header.version) (sym known) (less_max runner.rank.state.known y.records (record_limit header.version) low few)
 
-seated : (script : Script) (header : Header) (done : List Mark) (r : ℕ) (a b : Seat) (o : Offer) (one : HeardOne header a b) → a.held ≡ Some o
+runnered : (script : Script) (header : Header) (done : List Mark) (r : ℕ) (a b : Runner) (o : Offer) (one : HeardOne header a b) → a.held ≡ Some o
     → IfSome a.held (IsAsked header a.rank.state) → a.rank.state.known < record_limit header.version
-    → IsOnWay script done r (hears header (going_of a) one.reply) None → IsSeat script header done r b
-seated script header done r a b o one e asked low way = record {
+    → IsOnWay script done r (hears header (going_of a) one.reply) None → IsRunner script header done r b
+runnered script header done r a b o one e asked low way = record {
   of_header = one.heard.of_header;
   low = subst (λ (n : ℕ). n < record_limit header.version) (sym one.heard.gone.known) (heard_low header a o one.reply e asked low one.low);
   asked = one.heard.gone.asked;
   placed = one.heard.gone.placed script done r way;
 }
 
-pub meeting_seat : (script : Script) (header : Header) (done rest : List Mark) (r k : ℕ) (a b : Seat) → IsLegal script (done ++ mark.Meet k ∷ rest) → r < script.ranks
-    → IsSeat script header done r a → HeardOne header a b → IsSeat script header (done ++ mark.Meet k ∷ []) r b
-meeting_seat script header done rest r k a b legal below is one =
+pub meeting_runner : (script : Script) (header : Header) (done rest : List Mark) (r k : ℕ) (a b : Runner) → IsLegal script (done ++ mark.Meet k ∷ rest) → r < script.ranks
+    → IsRunner script header done r a → HeardOne header a b → IsRunner script header (done ++ mark.Meet k ∷ []) r b
+meeting_runner script header done rest r k a b legal below is one =
     let at = meeting_next script header done r k (going_of a) a.held (filter (concerns r) rest) (next_left script done rest (mark.Meet k) r legal below refl) is.placed in
-    seated script header (done ++ mark.Meet k ∷ []) r a b at.offer one at.holds is.asked is.low
+    runnered script header (done ++ mark.Meet k ∷ []) r a b at.offer one at.holds is.asked is.low
     (subst (λ (j : ℕ). IsOnWay script (done ++ mark.Meet j ∷ []) r (hears header (going_of a) one.reply) None) at.number
     (meeting_done script header done r (going_of a) at.offer one.reply at.way))
 
-pub own_seat : (script : Script) (header : Header) (done rest : List Mark) (r n : ℕ) (a b : Seat) → IsLegal script (done ++ mark.Solo r n ∷ rest) → r < script.ranks
-    → IsSeat script header done r a → HeardOne header a b → IsSeat script header (done ++ mark.Solo r n ∷ []) r b
-own_seat script header done rest r n a b legal below is one =
+pub own_runner : (script : Script) (header : Header) (done rest : List Mark) (r n : ℕ) (a b : Runner) → IsLegal script (done ++ mark.Solo r n ∷ rest) → r < script.ranks
+    → IsRunner script header done r a → HeardOne header a b → IsRunner script header (done ++ mark.Solo r n ∷ []) r b
+own_runner script header done rest r n a b legal below is one =
     let at = own_next script header done r n (going_of a) a.held (filter (concerns r) rest) (next_left script done rest (mark.Solo r n) r legal below (equal_itself r)) is.placed in
-    seated script header (done ++ mark.Solo r n ∷ []) r a b at.offer one at.holds is.asked is.low
+    runnered script header (done ++ mark.Solo r n ∷ []) r a b at.offer one at.holds is.asked is.low
     (subst (λ (j : ℕ). IsOnWay script (done ++ mark.Solo r j ∷ []) r (hears header (going_of a) one.reply) None) at.number
     (alone_done script header done r (going_of a) at.offer one.reply at.asks))
 
-pub beside_seat : (script : Script) (header : Header) (done : List Mark) (r q n : ℕ) (seat : Seat) → q ≢ r → IsSeat script header done r seat
-    → IsSeat script header (done ++ mark.Solo q n ∷ []) r seat
-beside_seat script header done r q n seat other is = record {
+pub beside_runner : (script : Script) (header : Header) (done : List Mark) (r q n : ℕ) (runner : Runner) → q ≢ r → IsRunner script header done r runner
+    → IsRunner script header (done ++ mark.Solo q n ∷ []) r runner
+beside_runner script header done r q n runner other is = record {
   of_header = is.of_header;
   low = is.low;
   asked = is.asked;
-  placed = beside (going_of seat) seat.held is.placed;
+  placed = beside (going_of runner) runner.held is.placed;
 }
   where
     beside : (s : Going) (held : Option Offer) → IsPlaced script header done r s held → IsPlaced script header (done ++ mark.Solo q n ∷ []) r s held

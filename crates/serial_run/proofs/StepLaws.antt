@@ -23,95 +23,95 @@ use Rattle.join_laws.proofs.ReplyLaws.{meeting_fits, solo_fits}
 use Rattle.join_laws.proofs.StepLaws.{meeting_within, replied, replies_long}
 use Rattle.overlay_laws.proofs.Members.{at_in}
 use Rattle.run_laws.specs.Arrivals.{Arrived, heard, solo_to, step_to}
-use Rattle.serial_run.specs.Seated.{arrived, going_of, HasGone, IsAsked, IsWaiting, MayGoOn}
-use Rattle.serial_run.specs.Standing.{all_arrived, AllHear, AreWaiting, DoFit, HasHeard, HaveHeard, Heard, HeardOne}
-use Rattle.serial_run.specs.declared.seats.Seat.{Seat}
+use Rattle.serial_run.specs.Running.{arrived, going_of, HasGone, IsAsked, IsWaiting, MayGoOn}
+use Rattle.serial_run.specs.Stands.{all_arrived, AllHear, AreWaiting, DoFit, HasHeard, HaveHeard, Heard, HeardOne}
+use Rattle.serial_run.specs.declared.runners.Runner.{Runner}
 use Rattle.serial_spec.proofs.CountLaws.{some_limit}
 
 -- ---- the offers that ranks hold
 
-pub record Holds (header : Header) (seat : Seat) : Type 0 where
+pub record Holds (header : Header) (runner : Runner) : Type 0 where
   pub offer : Offer
-  pub is : seat.held ≡ Some offer
-  pub asked : IsAsked header seat.rank.state offer
+  pub is : runner.held ≡ Some offer
+  pub asked : IsAsked header runner.rank.state offer
 
-pub holds_one : (header : Header) (seat : Seat) → IsWaiting header seat → Holds header seat
-holds_one header seat w = by seat.held refl w.asked
+pub holds_one : (header : Header) (runner : Runner) → IsWaiting header runner → Holds header runner
+holds_one header runner w = by runner.held refl w.asked
   where
-    by : (held : Option Offer) → seat.held ≡ held → IsSomeAnd held (IsAsked header seat.rank.state) → Holds header seat
+    by : (held : Option Offer) → runner.held ≡ held → IsSomeAnd held (IsAsked header runner.rank.state) → Holds header runner
     by None e h = absurd h
     by (Some o) e h = record { offer = o; is = e; asked = h }
 
 -- the rank's offer is the one that it waits with
-pub held_asked : (header : Header) (seat : Seat) (o : Offer) → IsWaiting header seat → seat.held ≡ Some o → IsAsked header seat.rank.state o
-held_asked header seat o w e =
-    let h = holds_one header seat w in
-    subst (λ (p : Offer). IsAsked header seat.rank.state p) (same_Some h.offer o (sym h.is ∙ e)) h.asked
+pub held_asked : (header : Header) (runner : Runner) (o : Offer) → IsWaiting header runner → runner.held ≡ Some o → IsAsked header runner.rank.state o
+held_asked header runner o w e =
+    let h = holds_one header runner w in
+    subst (λ (p : Offer). IsAsked header runner.rank.state p) (same_Some h.offer o (sym h.is ∙ e)) h.asked
 
-first_offer : (seat : Seat) (seats : List Seat) (o : Offer) → seat.held ≡ Some o → offers_of (all_arrived (seat ∷ seats)) ≡ o ∷ offers_of (all_arrived seats)
-first_offer seat seats o e = ap (λ (m : Option Offer). offers_of ((going_of seat, m) ∷ all_arrived seats)) e
+first_offer : (runner : Runner) (runners : List Runner) (o : Offer) → runner.held ≡ Some o → offers_of (all_arrived (runner ∷ runners)) ≡ o ∷ offers_of (all_arrived runners)
+first_offer runner runners o e = ap (λ (m : Option Offer). offers_of ((going_of runner, m) ∷ all_arrived runners)) e
 
 -- the offer of one rank more
-one_more : (seat : Seat) (seats : List Seat) → offers_of (all_arrived (seat ∷ seats)) ≡ offers_of (arrived seat ∷ []) ++ offers_of (all_arrived seats)
-one_more seat seats = by seat.held
+one_more : (runner : Runner) (runners : List Runner) → offers_of (all_arrived (runner ∷ runners)) ≡ offers_of (arrived runner ∷ []) ++ offers_of (all_arrived runners)
+one_more runner runners = by runner.held
   where
-    by : (held : Option Offer) → offers_of ((going_of seat, held) ∷ all_arrived seats) ≡ offers_of ((going_of seat, held) ∷ []) ++ offers_of (all_arrived seats)
+    by : (held : Option Offer) → offers_of ((going_of runner, held) ∷ all_arrived runners) ≡ offers_of ((going_of runner, held) ∷ []) ++ offers_of (all_arrived runners)
     by None = refl
     by (Some o) = refl
 
-pub offers_step : (seats : List Seat) (i : ℕ) (seat : Seat) (offers more whole : List Offer) → i < length seats → seat ≡ get_or seats i seat
-    → more ≡ offers ++ offers_of (arrived seat ∷ []) → offers ++ offers_of (all_arrived (drop i seats)) ≡ whole
-    → more ++ offers_of (all_arrived (drop (i + 1) seats)) ≡ whole
-offers_step seats i seat offers more whole l e m h =
-    let rest = drop (i + 1) seats in
+pub offers_step : (runners : List Runner) (i : ℕ) (runner : Runner) (offers more whole : List Offer) → i < length runners → runner ≡ get_or runners i runner
+    → more ≡ offers ++ offers_of (arrived runner ∷ []) → offers ++ offers_of (all_arrived (drop i runners)) ≡ whole
+    → more ++ offers_of (all_arrived (drop (i + 1) runners)) ≡ whole
+offers_step runners i runner offers more whole l e m h =
+    let rest = drop (i + 1) runners in
     ap (λ (os : List Offer). os ++ offers_of (all_arrived rest)) m
-    ∙ append_assoc offers (offers_of (arrived seat ∷ [])) (offers_of (all_arrived rest))
-    ∙ ap (λ (os : List Offer). offers ++ os) (sym (one_more seat rest))
-    ∙ ap (λ (x : Seat). offers ++ offers_of (all_arrived (x ∷ rest))) e
-    ∙ ap (λ (xs : List Seat). offers ++ offers_of (all_arrived xs)) (sym (drop_more seats i seat l))
+    ∙ append_assoc offers (offers_of (arrived runner ∷ [])) (offers_of (all_arrived rest))
+    ∙ ap (λ (os : List Offer). offers ++ os) (sym (one_more runner rest))
+    ∙ ap (λ (x : Runner). offers ++ offers_of (all_arrived (x ∷ rest))) e
+    ∙ ap (λ (xs : List Runner). offers ++ offers_of (all_arrived xs)) (sym (drop_more runners i runner l))
     ∙ h
 
-pub offers_end : (seats : List Seat) (i : ℕ) (offers whole : List Offer) → length seats ≤ i → offers ++ offers_of (all_arrived (drop i seats)) ≡ whole → offers ≡ whole
-offers_end seats i offers whole l h =
-    sym (append-nil offers) ∙ ap (λ (xs : List Seat). offers ++ offers_of (all_arrived xs)) (sym (drop_all i seats l)) ∙ h
+pub offers_end : (runners : List Runner) (i : ℕ) (offers whole : List Offer) → length runners ≤ i → offers ++ offers_of (all_arrived (drop i runners)) ≡ whole → offers ≡ whole
+offers_end runners i offers whole l h =
+    sym (append-nil offers) ∙ ap (λ (xs : List Runner). offers ++ offers_of (all_arrived xs)) (sym (drop_all i runners l)) ∙ h
 
-pub offers_long : (header : Header) (seats : List Seat) → AreWaiting header seats → length (offers_of (all_arrived seats)) ≡ length seats
+pub offers_long : (header : Header) (runners : List Runner) → AreWaiting header runners → length (offers_of (all_arrived runners)) ≡ length runners
 offers_long header [] all = refl
-offers_long header (seat ∷ seats) all =
-    let h = holds_one header seat (all 0 seat refl) in
-    let e = ap (λ (os : List Offer). length os) (first_offer seat seats h.offer h.is) in
-    let again = offers_long header seats (λ r x f. all (suc r) x f) in
+offers_long header (runner ∷ runners) all =
+    let h = holds_one header runner (all 0 runner refl) in
+    let e = ap (λ (os : List Offer). length os) (first_offer runner runners h.offer h.is) in
+    let again = offers_long header runners (λ r x f. all (suc r) x f) in
     omega arith
 
-pub offer_at : (header : Header) (seats : List Seat) (r : ℕ) (seat : Seat) (o : Offer) → AreWaiting header seats → slice_get seats r ≡ Some seat → seat.held ≡ Some o
-    → slice_get (offers_of (all_arrived seats)) r ≡ Some o
-offer_at header [] r seat o all e f = absurd cc
-offer_at header (x ∷ seats) zero seat o all e f =
-    let same : x ≡ seat = same_Some x seat e in
-    ap (λ (os : List Offer). slice_get os 0) (first_offer x seats o (ap (λ (s : Seat). s.held) same ∙ f))
-offer_at header (x ∷ seats) (suc r) seat o all e f =
+pub offer_at : (header : Header) (runners : List Runner) (r : ℕ) (runner : Runner) (o : Offer) → AreWaiting header runners → slice_get runners r ≡ Some runner → runner.held ≡ Some o
+    → slice_get (offers_of (all_arrived runners)) r ≡ Some o
+offer_at header [] r runner o all e f = absurd cc
+offer_at header (x ∷ runners) zero runner o all e f =
+    let same : x ≡ runner = same_Some x runner e in
+    ap (λ (os : List Offer). slice_get os 0) (first_offer x runners o (ap (λ (s : Runner). s.held) same ∙ f))
+offer_at header (x ∷ runners) (suc r) runner o all e f =
     let h = holds_one header x (all 0 x refl) in
-    ap (λ (os : List Offer). slice_get os (suc r)) (first_offer x seats h.offer h.is) ∙ offer_at header seats r seat o (λ q y g. all (suc q) y g) e f
+    ap (λ (os : List Offer). slice_get os (suc r)) (first_offer x runners h.offer h.is) ∙ offer_at header runners r runner o (λ q y g. all (suc q) y g) e f
 
 pub record Offered (header : Header) (o : Offer) : Type 0 where
   pub right : IsRight header o
   pub low : o.known < record_limit header.version
 
-asked_offer : (header : Header) (seat : Seat) (o : Offer) → IsAsked header seat.rank.state o → seat.rank.state.known < record_limit header.version → Offered header o
-asked_offer header seat o asked low =
+asked_offer : (header : Header) (runner : Runner) (o : Offer) → IsAsked header runner.rank.state o → runner.rank.state.known < record_limit header.version → Offered header o
+asked_offer header runner o asked low =
     record { right = asked.right; low = subst (λ (n : ℕ). n < record_limit header.version) (sym asked.known) low }
 
-pub seat_offer : (header : Header) (seat : Seat) (o : Offer) → IsWaiting header seat → seat.held ≡ Some o → Offered header o
-seat_offer header seat o w e = asked_offer header seat o (held_asked header seat o w e) w.low
+pub runner_offer : (header : Header) (runner : Runner) (o : Offer) → IsWaiting header runner → runner.held ≡ Some o → Offered header o
+runner_offer header runner o w e = asked_offer header runner o (held_asked header runner o w e) w.low
 
-pub offered_in : (header : Header) (seats : List Seat) (o : Offer) → AreWaiting header seats → In (offers_of (all_arrived seats)) o → Offered header o
+pub offered_in : (header : Header) (runners : List Runner) (o : Offer) → AreWaiting header runners → In (offers_of (all_arrived runners)) o → Offered header o
 offered_in header [] o all m = absurd m
-offered_in header (seat ∷ seats) o all m =
-    let h = holds_one header seat (all 0 seat refl) in
-    by h (offered_in header seats o (λ r x f. all (suc r) x f)) (subst (λ (os : List Offer). In os o) (first_offer seat seats h.offer h.is) m)
+offered_in header (runner ∷ runners) o all m =
+    let h = holds_one header runner (all 0 runner refl) in
+    by h (offered_in header runners o (λ r x f. all (suc r) x f)) (subst (λ (os : List Offer). In os o) (first_offer runner runners h.offer h.is) m)
   where
-    by : (h : Holds header seat) → (In (offers_of (all_arrived seats)) o → Offered header o) → In (h.offer ∷ offers_of (all_arrived seats)) o → Offered header o
-    by h others (inl e) = subst (λ (p : Offer). Offered header p) e (asked_offer header seat h.offer h.asked (all 0 seat refl).low)
+    by : (h : Holds header runner) → (In (offers_of (all_arrived runners)) o → Offered header o) → In (h.offer ∷ offers_of (all_arrived runners)) o → Offered header o
+    by h others (inl e) = subst (λ (p : Offer). Offered header p) e (asked_offer header runner h.offer h.asked (all 0 runner refl).low)
     by h others (inr n) = others n
 
 -- ---- counts
@@ -145,23 +145,23 @@ pub fits_open : (header : Header) (m : Option Open) (o : Offer) (y : Reply) → 
 fits_open header None o y e f = tt
 fits_open header (Some w) o y e f = f ∙ ap (λ (posts : List _). map (wanted header) posts) (sym e)
 
-pub hears_fit : (header : Header) (seat : Seat) (o : Offer) (y : Reply) → IsWaiting header seat → seat.held ≡ Some o → DoesFit header o y
-    → IfSome seat.rank.state.«open» (λ w. map (λ b. length b) y.got ≡ map (wanted seat.rank.header) w.gets)
-hears_fit header seat o y w e fit =
-    subst (λ (h : Header). IfSome seat.rank.state.«open» (λ p. map (λ b. length b) y.got ≡ map (wanted h) p.gets)) (sym w.of_header)
-    (fits_open header seat.rank.state.«open» o y (held_asked header seat o w e).gets fit)
+pub hears_fit : (header : Header) (runner : Runner) (o : Offer) (y : Reply) → IsWaiting header runner → runner.held ≡ Some o → DoesFit header o y
+    → IfSome runner.rank.state.«open» (λ w. map (λ b. length b) y.got ≡ map (wanted runner.rank.header) w.gets)
+hears_fit header runner o y w e fit =
+    subst (λ (h : Header). IfSome runner.rank.state.«open» (λ p. map (λ b. length b) y.got ≡ map (wanted h) p.gets)) (sym w.of_header)
+    (fits_open header runner.rank.state.«open» o y (held_asked header runner o w e).gets fit)
 
-pub may_hear : (header : Header) (seat : Seat) (y : Reply) → IsWaiting header seat → MayGoOn (hears seat.rank.header (going_of seat) y)
-may_hear header seat y w = subst (λ (h : Header). MayGoOn (hears h (going_of seat) y)) (sym w.of_header) (w.ready y)
+pub may_hear : (header : Header) (runner : Runner) (y : Reply) → IsWaiting header runner → MayGoOn (hears runner.rank.header (going_of runner) y)
+may_hear header runner y w = subst (λ (h : Header). MayGoOn (hears h (going_of runner) y)) (sym w.of_header) (w.ready y)
 
-pub replies_fit : (s : Setting) (seats : List Seat) (c : Counted) (replies : List Reply) → AreWaiting s.header seats → replies ≡ (meeting s (offers_of (all_arrived seats)) c).1
-    → DoFit s.header seats replies
-replies_fit s seats c replies all e r seat o y f g h =
-    meeting_fits s (offers_of (all_arrived seats)) c r o y (offer_at s.header seats r seat o all f g) (ap (λ (ys : List Reply). slice_get ys r) (sym e) ∙ h)
+pub replies_fit : (s : Setting) (runners : List Runner) (c : Counted) (replies : List Reply) → AreWaiting s.header runners → replies ≡ (meeting s (offers_of (all_arrived runners)) c).1
+    → DoFit s.header runners replies
+replies_fit s runners c replies all e r runner o y f g h =
+    meeting_fits s (offers_of (all_arrived runners)) c r o y (offer_at s.header runners r runner o all f g) (ap (λ (ys : List Reply). slice_get ys r) (sym e) ∙ h)
 
 -- ---- the ranks that have heard
 
-pub heard_all : (header : Header) (before now : List Seat) (replies : List Reply) → AllHear header replies before now → length replies ≡ length before
+pub heard_all : (header : Header) (before now : List Runner) (replies : List Reply) → AllHear header replies before now → length replies ≡ length before
     → all_arrived now ≡ map (heard header) (zip (all_arrived before) replies)
 heard_all header [] [] replies all l = refl
 heard_all header [] (b ∷ now) replies all l = let e = all.long in absurd (omega arith)
@@ -173,7 +173,7 @@ heard_all header (a ∷ before) (b ∷ now) (y ∷ replies) all l =
     let rest = heard_all header before now replies (record { long = omega arith; each = λ r c d z f g h. all.each (suc r) c d z f g h }) (omega arith) in
     λ i. own i ∷ rest i
 
-pub meeting_step : (s : Setting) (before now : List Seat) (replies : List Reply) (old file : List ℕ) (was records k : ℕ) → AreWaiting s.header before
+pub meeting_step : (s : Setting) (before now : List Runner) (replies : List Reply) (old file : List ℕ) (was records k : ℕ) → AreWaiting s.header before
     → file ≡ (meeting s (offers_of (all_arrived before)) (counted old was)).0.file → records ≡ (meeting s (offers_of (all_arrived before)) (counted old was)).0.records
     → replies ≡ (meeting s (offers_of (all_arrived before)) (counted old was)).1 → AllHear s.header replies before now
     → (counted file records, all_arrived now) ≡ step_to s (counted old was, all_arrived before) (mark.Meet k)
@@ -186,7 +186,7 @@ meeting_step s before now replies old file was records k waiting f n y all =
     λ i. (counted (f i) (n i), ranks i)
 
 -- each has heard a reply whose count the header can have
-pub have_heard : (s : Setting) (before now : List Seat) (replies : List Reply) (c : Counted) → AreWaiting s.header before → c.records < record_limit s.header.version
+pub have_heard : (s : Setting) (before now : List Runner) (replies : List Reply) (c : Counted) → AreWaiting s.header before → c.records < record_limit s.header.version
     → replies ≡ (meeting s (offers_of (all_arrived before)) c).1 → AllHear s.header replies before now → HaveHeard s.header before now
 have_heard s before now replies c waiting low y all = record {
   long = all.long;
@@ -202,10 +202,10 @@ have_heard s before now replies c waiting low y all = record {
 }
 
 -- one rank more has heard
-pub hear_more : (header : Header) (replies : List Reply) (old now : List Seat) (i : ℕ) (a b : Seat) (y : Reply) → slice_get old i ≡ Some a → slice_get now i ≡ Some a
+pub hear_more : (header : Header) (replies : List Reply) (old now : List Runner) (i : ℕ) (a b : Runner) (y : Reply) → slice_get old i ≡ Some a → slice_get now i ≡ Some a
     → slice_get replies i ≡ Some y → Heard header y a b
-    → ((r : ℕ) (x z : Seat) (w : Reply) → r < i → slice_get old r ≡ Some x → slice_get now r ≡ Some z → slice_get replies r ≡ Some w → Heard header w x z)
-    → (r : ℕ) (x z : Seat) (w : Reply) → r < i + 1 → slice_get old r ≡ Some x → slice_get (set now i b) r ≡ Some z → slice_get replies r ≡ Some w → Heard header w x z
+    → ((r : ℕ) (x z : Runner) (w : Reply) → r < i → slice_get old r ≡ Some x → slice_get now r ≡ Some z → slice_get replies r ≡ Some w → Heard header w x z)
+    → (r : ℕ) (x z : Runner) (w : Reply) → r < i + 1 → slice_get old r ≡ Some x → slice_get (set now i b) r ≡ Some z → slice_get replies r ≡ Some w → Heard header w x z
 hear_more header replies old now i a b y e f g heard each r x z w l h k m = by_place (nat_lt r i) refl
   where
     here : r ≡ i → Heard header w x z
@@ -213,7 +213,7 @@ hear_more header replies old now i a b y e f g heard each r x z w l h k m = by_p
         let was : a ≡ x = same_Some a x (sym e ∙ ap (slice_get old) (sym at) ∙ h) in
         let is : b ≡ z = same_Some b z (sym (entry_set now i a b f) ∙ ap (slice_get (set now i b)) (sym at) ∙ k) in
         let said : y ≡ w = same_Some y w (sym g ∙ ap (slice_get replies) (sym at) ∙ m) in
-        subst (λ (v : Reply). Heard header v x z) said (subst (λ (c : Seat). Heard header y x c) is (subst (λ (c : Seat). Heard header y c b) was heard))
+        subst (λ (v : Reply). Heard header v x z) said (subst (λ (c : Runner). Heard header y x c) is (subst (λ (c : Runner). Heard header y c b) was heard))
 
     by_place : (t : Bool) → nat_lt r i ≡ t → Heard header w x z
     by_place true t =
@@ -222,42 +222,42 @@ hear_more header replies old now i a b y e f g heard each r x z w l h k m = by_p
     by_place false t = here (grind (arith, nat_tests))
 
 -- what a rank heard, under the same header
-pub heard_by : (header : Header) (a b : Seat) (y : Reply) → a.rank.header ≡ header → b.rank.header ≡ a.rank.header
+pub heard_by : (header : Header) (a b : Runner) (y : Reply) → a.rank.header ≡ header → b.rank.header ≡ a.rank.header
     → HasGone a.rank.header (hears a.rank.header (going_of a) y) (going_of b) b.held → Heard header y a b
 heard_by header a b y e f gone =
     record { of_header = f ∙ e; gone = subst (λ (h : Header). HasGone h (hears h (going_of a) y) (going_of b) b.held) e gone }
 
-pub has_heard : (header : Header) (rank : ℕ) (before : List Seat) (a b : Seat) → slice_get before rank ≡ Some a → HeardOne header a b → HasHeard header rank before (set before rank b)
+pub has_heard : (header : Header) (rank : ℕ) (before : List Runner) (a b : Runner) → slice_get before rank ≡ Some a → HeardOne header a b → HasHeard header rank before (set before rank b)
 has_heard header rank before a b e one = record {
   long = length-set before rank b;
   own = λ x y f g.
       let was : a ≡ x = same_Some a x (sym e ∙ f) in
       let is : b ≡ y = same_Some b y (sym (entry_set before rank a b e) ∙ g) in
-      subst (λ (z : Seat). HeardOne header x z) is (subst (λ (z : Seat). HeardOne header z b) was one);
+      subst (λ (z : Runner). HeardOne header x z) is (subst (λ (z : Runner). HeardOne header z b) was one);
   others = λ r other. entry_set_other before rank r b other;
 }
 
 -- the reply to a step alone
-pub own_reply : (s : Setting) (rank : ℕ) (o : Offer) (file : List ℕ) (a b : Seat) (y : Reply) → Offered s.header o → y ≡ (solo s rank o (counted file 0)).1 → Heard s.header y a b → HeardOne s.header a b
+pub own_reply : (s : Setting) (rank : ℕ) (o : Offer) (file : List ℕ) (a b : Runner) (y : Reply) → Offered s.header o → y ≡ (solo s rank o (counted file 0)).1 → Heard s.header y a b → HeardOne s.header a b
 own_reply s rank o file a b y offered e heard = record {
   reply = y;
   low = subst (λ (z : Reply). z.records < record_limit s.header.version) (sym e) (solo_low s rank o (counted file 0) offered);
   heard = heard;
 }
 
-pub own_fits : (s : Setting) (rank : ℕ) (o : Offer) (file : List ℕ) (seat : Seat) (y : Reply) → IsWaiting s.header seat → seat.held ≡ Some o → y ≡ (solo s rank o (counted file 0)).1
-    → IfSome seat.rank.state.«open» (λ w. map (λ b. length b) y.got ≡ map (wanted seat.rank.header) w.gets)
-own_fits s rank o file seat y w e f =
-    hears_fit s.header seat o y w e (subst (λ (z : Reply). DoesFit s.header o z) (sym f) (solo_fits s rank o (counted file 0)))
+pub own_fits : (s : Setting) (rank : ℕ) (o : Offer) (file : List ℕ) (runner : Runner) (y : Reply) → IsWaiting s.header runner → runner.held ≡ Some o → y ≡ (solo s rank o (counted file 0)).1
+    → IfSome runner.rank.state.«open» (λ w. map (λ b. length b) y.got ≡ map (wanted runner.rank.header) w.gets)
+own_fits s rank o file runner y w e f =
+    hears_fit s.header runner o y w e (subst (λ (z : Reply). DoesFit s.header o z) (sym f) (solo_fits s rank o (counted file 0)))
 
-pub alone_step : (s : Setting) (before : List Seat) (a b : Seat) (o : Offer) (y : Reply) (old file : List ℕ) (records rank n : ℕ) → slice_get before rank ≡ Some a → a.held ≡ Some o
+pub alone_step : (s : Setting) (before : List Runner) (a b : Runner) (o : Offer) (y : Reply) (old file : List ℕ) (records rank n : ℕ) → slice_get before rank ≡ Some a → a.held ≡ Some o
     → file ≡ (solo s rank o (counted old 0)).0.file → y ≡ (solo s rank o (counted old 0)).1 → Heard s.header y a b
     → (counted file records, all_arrived (set before rank b)) ≡ step_to s (counted old records, all_arrived before) (mark.Solo rank n)
 alone_step s before a b o y old file records rank n e h f g heard =
     let c = counted old records in
     let ranks = all_arrived before in
     let there : slice_get ranks rank ≡ Some (arrived a) =
-    slice_get-map arrived before rank ∙ ap (λ (m : Option Seat). elim m [ None ↦ None | Some x ↦ Some (arrived x) ]) e in
+    slice_get-map arrived before rank ∙ ap (λ (m : Option Runner). elim m [ None ↦ None | Some x ↦ Some (arrived x) ]) e in
     let step : step_to s (c, ranks) (mark.Solo rank n) ≡ solo_to s rank c ranks (going_of a, Some o) =
     ap (λ (m : Option Arrived). elim m [ None ↦ (c, ranks) | Some x ↦ solo_to s rank c ranks x ]) there
     ∙ ap (λ (m : Option Offer). solo_to s rank c ranks (going_of a, m)) h in

@@ -1,3 +1,3 @@
-pub mod Seated
-pub mod Standing
+pub mod Running
+pub mod Stands
 pub mod Ended

@@ -4,10 +4,10 @@
 //! threads, and copies what it can, so it is for small datasets.
 #![tactic(auto)]
 
-mod closing;
-mod seats;
+mod end;
+mod runners;
 mod serial;
-mod standing;
+mod stand;
 
-pub use closing::SerialEnd;
+pub use end::SerialEnd;
 pub use serial::serial_run;

@@ -6,8 +6,8 @@ ghost use Rattle.serial_spec.specs.Lawful.{is_lawful};
 ghost use Rattle.serial_spec.specs.SerialEnd.{serial_from};
 ghost use Rattle.serial_run.specs.Ended.{as_end};
 
-use crate::closing::{SerialEnd, closed};
-use crate::standing::Stand;
+use crate::end::{SerialEnd, closed};
+use crate::stand::Stand;
 use nc_base::{Header, Mark, Memory, Script};
 use rank_core::Names;
 use std::alloc::Global;

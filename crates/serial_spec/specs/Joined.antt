@@ -17,17 +17,17 @@ use Rattle.nc_base.specs.declared.step.RankItem.TheVariants as item
 use Rattle.serial_spec.specs.History.{Arrival, kinds}
 pub use Rattle.serial_spec.specs.SerialEnd.{close_by}
 use Rattle.serial_spec.specs.SerialEnd.{Going, setting_of, first_going}
-use Rattle.serial_spec.specs.Desk.{Desk, Ending, free_seat, first_desk, owed, own_items, offers_in, served}
+use Rattle.serial_spec.specs.Owner.{Owner, Ending, free_client, first_owner, owed, own_items, offers_in, served}
 use Rattle.serial_spec.specs.RankSide.{offered, rank_end}
 
-abbrev pub opening_desk : Script → Header → List ℕ → Desk
-opening_desk script header file = first_desk (replicate (length script.calls) free_seat) (record { file = file; records = header.records })
+abbrev pub opening_owner : Script → Header → List ℕ → Owner
+opening_owner script header file = first_owner (replicate (length script.calls) free_client) (record { file = file; records = header.records })
 
 abbrev pub run_of : Script → Header → List ℕ → List Arrival → Ending
-run_of script header file arrivals = served (setting_of script header) (opening_desk script header file) arrivals
+run_of script header file arrivals = served (setting_of script header) (opening_owner script header file) arrivals
 
 abbrev pub back_of : Script → Header → List ℕ → List Arrival → ℕ → List OwnerItem
-back_of script header file arrivals r = owed (setting_of script header) (opening_desk script header file) arrivals r
+back_of script header file arrivals r = owed (setting_of script header) (opening_owner script header file) arrivals r
 
 -- The ranks' meetings agree, there is a rank, and none has 2^32 calls.
 pub record IsAgreed (script : Script) : Type 0 where

@@ -9,7 +9,7 @@ ghost use Rattle.nc_base.specs.declared.step.DiskCall.TheVariants.{Grow, Load, S
 ghost use Rattle.serial_spec.specs.SerialEnd.{start};
 ghost use Rattle.serial_spec.specs.Fill.{boxes, AreBoxes, fill_bytes};
 ghost use Rattle.serial_spec.specs.Redefinition.{redefined, redefined_fault};
-ghost use Rattle.serial_spec.specs.Reading.{summary_of, told_of};
+ghost use Rattle.serial_spec.specs.Readings.{summary_of, told_of};
 ghost use Rattle.serial_spec.specs.DeviceCalls.{redefining_calls};
 ghost use Rattle.nc_base.specs.declared.errors.RedefErr.TheVariants.{Taken, Unknown, Shape, TooMany, Kind, Layout};
 ghost use Rattle.nc_base.specs.declared.errors.LayoutErr.TheVariants.{VarSize, BeginRange};

@@ -3,7 +3,7 @@
 ghost use Rattle.std.specs.Prelude.{◌≡◌, ◌+◌, [], ◌∷◌, ◌++◌, length, Some, None, pos, replicate, true, map, false, ℕ};
 ghost use Rattle.serial_spec.specs.File.{at};
 ghost use Rattle.serial_spec.specs.HeaderBytes.{canon};
-ghost use Rattle.serial_spec.specs.Examples.{dataset_a, first_of_halves, offer_of_halves, reply_with, three_holders, header_a, region, setting_a, created, overlapping, side_by_side, int_bytes, ended, device_calls, halves, interleaved, whole, with_hole, one_record, arrived, empty_offer, two_seats, after_five, with_strange, independent_calls, many_bytes, dataset_b, packed_region, given, var, two_alone};
+ghost use Rattle.serial_spec.specs.Examples.{dataset_a, first_of_halves, offer_of_halves, reply_with, three_holders, header_a, region, setting_a, created, overlapping, side_by_side, int_bytes, ended, device_calls, halves, interleaved, whole, with_hole, one_record, arrived, empty_offer, two_clients, after_five, with_strange, independent_calls, many_bytes, dataset_b, packed_region, given, var, two_alone};
 ghost use Rattle.serial_spec.specs.Request.{packed_bytes, spread};
 ghost use Rattle.nc_base.specs.declared.header.NcType.TheVariants.{Int, Short};
 ghost use Rattle.nc_base.specs.declared.request.Values.TheVariants.{Numbers};
@@ -11,7 +11,7 @@ ghost use Rattle.serial_spec.specs.FileStep.{meeting};
 ghost use Rattle.nc_base.specs.declared.step.Mark.TheVariants.{Meet, Solo};
 ghost use Rattle.nc_base.specs.declared.step.DiskCall.TheVariants.{Grow, Load, Store};
 ghost use Rattle.serial_spec.specs.History.{marks, done, IsLegal};
-ghost use Rattle.serial_spec.specs.Desk.{is_strange, served, owed, OnlyReplies};
+ghost use Rattle.serial_spec.specs.Owner.{is_strange, served, owed, OnlyReplies};
 ghost use Rattle.nc_base.specs.declared.step.OwnerItem.TheVariants.{Reply, Stop};
 ghost use Rattle.nc_base.specs.declared.step.MeetKind.TheVariants.{Begin, End as EndKind};
 ghost use Rattle.std.specs.List.{range_with_len};
@@ -69,23 +69,23 @@ pub fn worked_ends()
 {}
 
 /// Marks, and what arrivals bring.
-#[tactic(auto, unfolding(crate::specs::HeaderBytes::canon, crate::specs::Desk::event, crate::specs::Desk::is_strange, crate::specs::Desk::strange_offer))]
+#[tactic(auto, unfolding(crate::specs::HeaderBytes::canon, crate::specs::Owner::event, crate::specs::Owner::is_strange, crate::specs::Owner::strange_offer))]
 pub fn worked_arrivals()
     ensures marks { marks (independent_calls ∷ []) 0 ≡ Meet 0 ∷ Solo 0 1 ∷ Meet 1 ∷ [] }
     ensures done { done 2 arrived ≡ Meet 0 ∷ Solo 1 1 ∷ Solo 0 1 ∷ Meet 1 ∷ [] }
     ensures right { is_strange setting_a after_five (1, item.Offer 2 (empty_offer (offer.Meet EndKind) 0)) ≡ false }
-    ensures count { is_strange setting_a two_seats (0, item.Offer 0 (empty_offer (offer.Meet Begin) 5)) ≡ true }
+    ensures count { is_strange setting_a two_clients (0, item.Offer 0 (empty_offer (offer.Meet Begin) 5)) ≡ true }
     ensures other_kind { is_strange setting_a after_five (1, item.Offer 2 (empty_offer (offer.Meet Begin) 0)) ≡ true }
     ensures left { is_strange setting_a after_five (1, item.Ended false) ≡ true }
-    ensures order { (served setting_a two_seats arrived).marks ≡ Meet 0 ∷ Solo 1 1 ∷ Solo 0 1 ∷ Meet 1 ∷ [] }
-    ensures replies { map (λ q. length (owed setting_a two_seats arrived q)) (0 ∷ 1 ∷ []) ≡ 3 ∷ 3 ∷ [] }
-    ensures no_stop { OnlyReplies (owed setting_a two_seats arrived 0) }
-    ensures none_strange { (served setting_a two_seats arrived).stranger ≡ None }
-    ensures stranger { (served setting_a two_seats with_strange).stranger ≡ Some 0 }
-    ensures file { (served setting_a two_seats arrived).desk.state.file ≡ header_a ++ int_bytes (1 ∷ 2 ∷ 3 ∷ 4 ∷ []) }
-    ensures no_order { (served setting_a two_seats with_strange).marks ≡ [] }
-    ensures stopped { owed setting_a two_seats with_strange 0 ≡ Stop ∷ [] }
-    ensures nothing { owed setting_a two_seats with_strange 1 ≡ [] }
+    ensures order { (served setting_a two_clients arrived).marks ≡ Meet 0 ∷ Solo 1 1 ∷ Solo 0 1 ∷ Meet 1 ∷ [] }
+    ensures replies { map (λ q. length (owed setting_a two_clients arrived q)) (0 ∷ 1 ∷ []) ≡ 3 ∷ 3 ∷ [] }
+    ensures no_stop { OnlyReplies (owed setting_a two_clients arrived 0) }
+    ensures none_strange { (served setting_a two_clients arrived).stranger ≡ None }
+    ensures stranger { (served setting_a two_clients with_strange).stranger ≡ Some 0 }
+    ensures file { (served setting_a two_clients arrived).owner.state.file ≡ header_a ++ int_bytes (1 ∷ 2 ∷ 3 ∷ 4 ∷ []) }
+    ensures no_order { (served setting_a two_clients with_strange).marks ≡ [] }
+    ensures stopped { owed setting_a two_clients with_strange 0 ≡ Stop ∷ [] }
+    ensures nothing { owed setting_a two_clients with_strange 1 ≡ [] }
     ensures memory { is_strange setting_a after_five (1, item.Ended true) ≡ false }
 {}
 

@@ -7,14 +7,14 @@ use Rattle.nc_base.specs.declared.step.Offer.{Offer}
 use Rattle.nc_base.specs.declared.step.OwnerItem.TheVariants.{Reply}
 use Rattle.nc_base.specs.declared.step.Reply as reply
 use Rattle.nc_outside.specs.Told.{after, with_end}
-use Rattle.serial_spec.specs.Desk.{does_solo, needed_now, to_one}
+use Rattle.serial_spec.specs.Owner.{does_solo, needed_now, to_one}
 use Rattle.serial_spec.specs.DeviceCalls.{solo_calls}
 use Rattle.serial_spec.specs.FileStep.{Setting, puts_of, solo, told}
 use Rattle.serial_spec.specs.RankSide.{wanted}
 use Rattle.collective_round.specs.Rounds.{counted}
 use Rattle.join_laws.specs.Alike.{AreAlike, TellAlike}
-use Rattle.thread_run.specs.Owned.{desk_at, GoesSo, Grows, HoldSingle, IsAlone, Standing}
-use Rattle.thread_run.specs.Stopping.{put_one}
+use Rattle.thread_run.specs.Owned.{owner_at, GoesSo, Grows, HoldSingle, IsAlone, Standing}
+use Rattle.thread_run.specs.Stops.{put_one}
 use Rattle.join_laws.proofs.ReplyLaws.{gots_long}
 use Rattle.list_laws.proofs.Optional.{if_some_at}
 
@@ -36,7 +36,7 @@ pub record CameAlone (s : Setting) (hints : Hints) (r c : ℕ) (o : Offer) (b n 
   pub calls : IfSome b.told (λ file. n.calls ≡ with_end b.calls (solo_calls hints s r o (counted file 0)))
   pub order : n.order ≡ b.order ++ Solo r c ∷ []
   pub heard : n.heard ≡ with_end b.heard ((Solo r c, b.records) ∷ [])
-  pub seats : n.seats ≡ b.seats
+  pub clients : n.clients ≡ b.clients
   pub same_met : n.met ≡ b.met
   pub same_records : n.records ≡ b.records
   pub reached : n.reached ≡ max b.reached y.records
@@ -47,7 +47,7 @@ alone s hints r c o b n y h = record {
   more = put_one r (Reply y);
   lines = h.lines;
   alike = λ file. record {
-    desk = λ i. record { seats = sym h.seats i; met = sym h.same_met i; state = counted (solo s r o (counted file b.records)).0.file (sym h.same_records i); reached = reached_is i };
+    owner = λ i. record { clients = sym h.clients i; met = sym h.same_met i; state = counted (solo s r o (counted file b.records)).0.file (sym h.same_records i); reached = reached_is i };
     marks = h.order;
     heard = h.heard;
     given = λ q l.
@@ -55,13 +55,13 @@ alone s hints r c o b n y h = record {
         (record { pair = h.pair; records = h.records; lengths = h.fits ∙ sym (gots_long s (solo s r o (counted file b.records)).0.file o.batch.gets) });
   };
   exact = exact b.told refl;
-  single = λ once. subst (λ ss. HoldSingle ss) (sym h.seats) once;
+  single = λ once. subst (λ ss. HoldSingle ss) (sym h.clients) once;
 }
   where
     reached_is : max b.reached (needed_now s (puts_of (r, o))) ≡ n.reached
     reached_is = let a = h.reached in let d = h.records in let e = h.known_low in omega arith
 
-    exact : (m : Option (List ℕ)) → b.told ≡ m → IfSome m (λ file. GoesSo (HoldSingle b.seats) (does_solo s (desk_at b file) r c o) (solo_calls hints s r o (counted file b.records)) (put_one r (Reply y)) b n)
+    exact : (m : Option (List ℕ)) → b.told ≡ m → IfSome m (λ file. GoesSo (HoldSingle b.clients) (does_solo s (owner_at b file) r c o) (solo_calls hints s r o (counted file b.records)) (put_one r (Reply y)) b n)
     exact None e = tt
     exact (Some file) e = record {
       told = h.bytes ∙ ap (after (λ file. (solo s r o (counted file 0)).0.file)) e;

@@ -11,21 +11,21 @@ use Rattle.nc_base.specs.declared.run.RankStop.{RankStop}
 use Rattle.nc_base.specs.declared.run.RankStop.TheVariants as stop
 use Rattle.nc_base.specs.declared.step.Offer.{Offer}
 use Rattle.nc_base.specs.declared.step.OwnerItem.{OwnerItem}
-use Rattle.nc_base.specs.declared.step.OwnerItem.TheVariants as owner
+use Rattle.nc_base.specs.declared.step.OwnerItem.TheVariants as sent
 use Rattle.nc_base.specs.declared.step.RankItem.{RankItem}
 use Rattle.nc_base.specs.declared.step.RankItem.TheVariants as item
 use Rattle.nc_base.specs.declared.step.Reply.{Reply}
-use Rattle.serial_spec.specs.Desk.{offers_in}
+use Rattle.serial_spec.specs.Owner.{offers_in}
 use Rattle.serial_spec.specs.History.{is_offer}
 use Rattle.serial_spec.specs.RankMachine as machine
 use Rattle.serial_spec.specs.RankMachine.{hear}
 use Rattle.serial_spec.specs.RankSide.{end_by, fits_offer, offered, offered_by, rank_end, rank_stop, stop_by, waiting, waiting_end, waiting_stop}
 use Rattle.serial_spec.specs.SerialEnd.{Going, advance, first_going, hears}
-use Rattle.thread_run.specs.Attending.{HasAttended, HasStood, IsAccounted, IsBroken, Stands}
-use Rattle.turn_run.specs.Seated.{asking, between, going_of}
-use Rattle.turn_run.specs.declared.seats.Seat.{Seat}
+use Rattle.thread_run.specs.RankSides.{HasAttended, HasStood, IsAccounted, IsBroken, Stands}
+use Rattle.turn_run.specs.Running.{asking, between, going_of}
+use Rattle.turn_run.specs.declared.runners.Runner.{Runner}
 use Rattle.turn_run.proofs.AloneLaws.{going_free, going_held}
-use Rattle.turn_run.proofs.SeatLaws.{answers_begin}
+use Rattle.turn_run.proofs.RunnerLaws.{answers_begin}
 use Rattle.join_laws.proofs.StreamLaws.{waiting_reply, waiting_end_reply, waiting_stop_reply}
 
 -- ---- accounts
@@ -38,15 +38,15 @@ accounted_first header own at e = record {
   one_each = refl;
 }
 
-pub accounted_held : (header : Header) (own : List Call) (put : List RankItem) (taken : List OwnerItem) (seat : Seat) (o : Offer) → seat.held ≡ Some o
-    → IsAccounted header own put taken (going_of own seat, seat.held) → IsAccounted header own put taken (asking own seat, Some o)
-accounted_held header own put taken seat o e h =
-    subst (λ (a : Going × Option Offer). IsAccounted header own put taken a) (let f = going_held own seat o e in λ i. (f i, e i)) h
+pub accounted_held : (header : Header) (own : List Call) (put : List RankItem) (taken : List OwnerItem) (runner : Runner) (o : Offer) → runner.held ≡ Some o
+    → IsAccounted header own put taken (going_of own runner, runner.held) → IsAccounted header own put taken (asking own runner, Some o)
+accounted_held header own put taken runner o e h =
+    subst (λ (a : Going × Option Offer). IsAccounted header own put taken a) (let f = going_held own runner o e in λ i. (f i, e i)) h
 
-pub accounted_free : (header : Header) (own : List Call) (put : List RankItem) (taken : List OwnerItem) (seat : Seat) → seat.held ≡ None
-    → IsAccounted header own put taken (going_of own seat, seat.held) → IsAccounted header own put taken (between own seat, None)
-accounted_free header own put taken seat e h =
-    subst (λ (a : Going × Option Offer). IsAccounted header own put taken a) (let f = going_free own seat e in λ i. (f i, e i)) h
+pub accounted_free : (header : Header) (own : List Call) (put : List RankItem) (taken : List OwnerItem) (runner : Runner) → runner.held ≡ None
+    → IsAccounted header own put taken (going_of own runner, runner.held) → IsAccounted header own put taken (between own runner, None)
+accounted_free header own put taken runner e h =
+    subst (λ (a : Going × Option Offer). IsAccounted header own put taken a) (let f = going_free own runner e in λ i. (f i, e i)) h
 
 -- one offer and one item more
 one_more : (put : List RankItem) (taken : List OwnerItem) (n : ℕ) (o : Offer) (x : OwnerItem) → length taken ≡ offers_in put
@@ -57,31 +57,31 @@ one_more put taken n o x h =
 
 pub accounted_on : (header : Header) (own : List Call) (put : List RankItem) (taken : List OwnerItem) (g : Going) (o : Offer) (y : Reply) (to : Going × Option Offer)
     → IsAccounted header own put taken (g, Some o) → fits_offer header o y ≡ true → advance header (hears header g y) ≡ to
-    → IsAccounted header own (put ++ item.Offer (length g.answers) o ∷ []) (taken ++ owner.Reply y ∷ []) to
+    → IsAccounted header own (put ++ item.Offer (length g.answers) o ∷ []) (taken ++ sent.Reply y ∷ []) to
 accounted_on header own put taken g o y to h fits e = record {
   offers = λ later.
-      ap (λ (back : List OwnerItem). offered header (first_going header own) back) (append_assoc taken (owner.Reply y ∷ []) later)
-      ∙ h.offers (owner.Reply y ∷ later)
+      ap (λ (back : List OwnerItem). offered header (first_going header own) back) (append_assoc taken (sent.Reply y ∷ []) later)
+      ∙ h.offers (sent.Reply y ∷ later)
       ∙ ap (λ (more : List RankItem). put ++ item.Offer (length g.answers) o ∷ more)
       (waiting_reply header g o y later fits ∙ ap (λ (a : Going × Option Offer). offered_by header a later) e)
       ∙ sym (append_assoc put (item.Offer (length g.answers) o ∷ []) (offered_by header to later));
   ends = λ later.
-      ap (λ (back : List OwnerItem). rank_end header (first_going header own) back) (append_assoc taken (owner.Reply y ∷ []) later)
-      ∙ h.ends (owner.Reply y ∷ later)
+      ap (λ (back : List OwnerItem). rank_end header (first_going header own) back) (append_assoc taken (sent.Reply y ∷ []) later)
+      ∙ h.ends (sent.Reply y ∷ later)
       ∙ waiting_end_reply header g o y later fits ∙ ap (λ (a : Going × Option Offer). end_by header a later) e;
   stops = λ later.
-      ap (λ (back : List OwnerItem). rank_stop header (first_going header own) back) (append_assoc taken (owner.Reply y ∷ []) later)
-      ∙ h.stops (owner.Reply y ∷ later)
+      ap (λ (back : List OwnerItem). rank_stop header (first_going header own) back) (append_assoc taken (sent.Reply y ∷ []) later)
+      ∙ h.stops (sent.Reply y ∷ later)
       ∙ waiting_stop_reply header g o y later fits ∙ ap (λ (a : Going × Option Offer). stop_by header a later) e;
-  one_each = one_more put taken (length g.answers) o (owner.Reply y) h.one_each;
+  one_each = one_more put taken (length g.answers) o (sent.Reply y) h.one_each;
 }
 
 -- ---- the end of the calls
 
 -- it has made its calls
-pub stood_done : (header : Header) (own : List Call) (put : List RankItem) (taken : List OwnerItem) (g : Going) (seat : Seat) → IsAccounted header own put taken (g, None)
-    → seat.answers ≡ g.answers → seat.rank.state ≡ g.rank → HasStood header own put taken seat (Ok stop.Done)
-stood_done header own put taken g seat h e f =
+pub stood_done : (header : Header) (own : List Call) (put : List RankItem) (taken : List OwnerItem) (g : Going) (runner : Runner) → IsAccounted header own put taken (g, None)
+    → runner.answers ≡ g.answers → runner.rank.state ≡ g.rank → HasStood header own put taken runner (Ok stop.Done)
+stood_done header own put taken g runner h e f =
     let whole = append-nil taken in
     let ended = sym (h.ends []) ∙ ap (λ (back : List OwnerItem). rank_end header (first_going header own) back) whole in
     record {
@@ -96,11 +96,11 @@ stood_done header own put taken g seat h e f =
     }
 
 -- it took an item after which it goes on no more
-stood_left : (header : Header) (own : List Call) (put : List RankItem) (taken : List OwnerItem) (g : Going) (o : Offer) (x : OwnerItem) (end : RankStop) (seat : Seat)
+stood_left : (header : Header) (own : List Call) (put : List RankItem) (taken : List OwnerItem) (g : Going) (o : Offer) (x : OwnerItem) (end : RankStop) (runner : Runner)
     → IsAccounted header own put taken (g, Some o) → (end ≡ stop.Memory → ⊥) → waiting header g o (x ∷ []) ≡ item.Ended false ∷ [] → waiting_end header g o (x ∷ []) ≡ g
-    → waiting_stop header g o (x ∷ []) ≡ Some end → seat.answers ≡ g.answers → seat.rank.state ≡ g.rank
-    → HasStood header own (put ++ item.Offer (length g.answers) o ∷ []) (taken ++ x ∷ []) seat (Ok end)
-stood_left header own put taken g o x end seat h not_broken last ended stopped e f =
+    → waiting_stop header g o (x ∷ []) ≡ Some end → runner.answers ≡ g.answers → runner.rank.state ≡ g.rank
+    → HasStood header own (put ++ item.Offer (length g.answers) o ∷ []) (taken ++ x ∷ []) runner (Ok end)
+stood_left header own put taken g o x end runner h not_broken last ended stopped e f =
     let at_end = sym ended ∙ sym (h.ends (x ∷ [])) in
     record {
       one_each = one_more put taken (length g.answers) o x h.one_each;
@@ -114,31 +114,31 @@ stood_left header own put taken g o x end seat h not_broken last ended stopped e
       };
     }
 
-pub stood_stopped : (header : Header) (own : List Call) (put : List RankItem) (taken : List OwnerItem) (g : Going) (o : Offer) (seat : Seat)
-    → IsAccounted header own put taken (g, Some o) → seat.answers ≡ g.answers → seat.rank.state ≡ g.rank
-    → HasStood header own (put ++ item.Offer (length g.answers) o ∷ []) (taken ++ owner.Stop ∷ []) seat (Ok stop.Stopped)
-stood_stopped header own put taken g o seat h e f = stood_left header own put taken g o owner.Stop stop.Stopped seat h (λ k. cc) refl refl refl e f
+pub stood_stopped : (header : Header) (own : List Call) (put : List RankItem) (taken : List OwnerItem) (g : Going) (o : Offer) (runner : Runner)
+    → IsAccounted header own put taken (g, Some o) → runner.answers ≡ g.answers → runner.rank.state ≡ g.rank
+    → HasStood header own (put ++ item.Offer (length g.answers) o ∷ []) (taken ++ sent.Stop ∷ []) runner (Ok stop.Stopped)
+stood_stopped header own put taken g o runner h e f = stood_left header own put taken g o sent.Stop stop.Stopped runner h (λ k. cc) refl refl refl e f
 
-pub stood_misfit : (header : Header) (own : List Call) (put : List RankItem) (taken : List OwnerItem) (g : Going) (o : Offer) (y : Reply) (seat : Seat)
-    → IsAccounted header own put taken (g, Some o) → fits_offer header o y ≡ false → seat.answers ≡ g.answers → seat.rank.state ≡ g.rank
-    → HasStood header own (put ++ item.Offer (length g.answers) o ∷ []) (taken ++ owner.Reply y ∷ []) seat (Ok stop.Misfit)
-stood_misfit header own put taken g o y seat h fits e f =
-    stood_left header own put taken g o (owner.Reply y) stop.Misfit seat h (λ k. cc) (rw (fits, waiting) refl) (rw (fits, waiting_end) refl) (rw (fits, waiting_stop) refl) e f
+pub stood_misfit : (header : Header) (own : List Call) (put : List RankItem) (taken : List OwnerItem) (g : Going) (o : Offer) (y : Reply) (runner : Runner)
+    → IsAccounted header own put taken (g, Some o) → fits_offer header o y ≡ false → runner.answers ≡ g.answers → runner.rank.state ≡ g.rank
+    → HasStood header own (put ++ item.Offer (length g.answers) o ∷ []) (taken ++ sent.Reply y ∷ []) runner (Ok stop.Misfit)
+stood_misfit header own put taken g o y runner h fits e f =
+    stood_left header own put taken g o (sent.Reply y) stop.Misfit runner h (λ k. cc) (rw (fits, waiting) refl) (rw (fits, waiting_end) refl) (rw (fits, waiting_stop) refl) e f
 
 -- ---- want of memory
 
-broken : (header : Header) (own : List Call) (put : List RankItem) (taken : List OwnerItem) (seat : Seat) (result : Result RankStop Memory) → is_err result ≡ true
-    → length taken ≡ offers_in put → IsBroken header own put taken seat.answers → HasStood header own put taken seat result
-broken header own put taken seat result e one h = record { one_each = one; stands = by result e }
+broken : (header : Header) (own : List Call) (put : List RankItem) (taken : List OwnerItem) (runner : Runner) (result : Result RankStop Memory) → is_err result ≡ true
+    → length taken ≡ offers_in put → IsBroken header own put taken runner.answers → HasStood header own put taken runner result
+broken header own put taken runner result e one h = record { one_each = one; stands = by result e }
   where
-    by : (r : Result RankStop Memory) → is_err r ≡ true → Stands header own put taken seat r
+    by : (r : Result RankStop Memory) → is_err r ≡ true → Stands header own put taken runner r
     by (Ok end) k = absurd cc
     by (Err m) k = h
 
-pub broken_first : (header : Header) (own : List Call) (seat : Seat) (result : Result RankStop Memory) → is_err result ≡ true
-    → (rest : List Answer) × (seat.answers ++ rest ≡ (advance header (first_going header own)).0.answers) → HasStood header own [] [] seat result
-broken_first header own seat result e (rest, h) =
-    broken header own [] [] seat result e refl
+pub broken_first : (header : Header) (own : List Call) (runner : Runner) (result : Result RankStop Memory) → is_err result ≡ true
+    → (rest : List Answer) × (runner.answers ++ rest ≡ (advance header (first_going header own)).0.answers) → HasStood header own [] [] runner result
+broken_first header own runner result e (rest, h) =
+    broken header own [] [] runner result e refl
     (record { unsent = offered header (first_going header own) []; begins = refl; unanswered = rest; answers = h ∙ at_once (advance header (first_going header own)) })
   where
     at_once : (a : Going × Option Offer) → a.0.answers ≡ (end_by header a []).answers
@@ -146,19 +146,19 @@ broken_first header own seat result e (rest, h) =
     at_once (g, Some o) = refl
 
 -- after a reply that fits
-pub broken_at : (header : Header) (own : List Call) (put : List RankItem) (taken : List OwnerItem) (g : Going) (o : Offer) (y : Reply) (seat : Seat) (result : Result RankStop Memory)
+pub broken_at : (header : Header) (own : List Call) (put : List RankItem) (taken : List OwnerItem) (g : Going) (o : Offer) (y : Reply) (runner : Runner) (result : Result RankStop Memory)
     → IsAccounted header own put taken (g, Some o) → fits_offer header o y ≡ true → is_err result ≡ true
-    → (rest : List Answer) × (seat.answers ++ rest ≡ (advance header (hears header g y)).0.answers)
-    → HasStood header own (put ++ item.Offer (length g.answers) o ∷ []) (taken ++ owner.Reply y ∷ []) seat result
-broken_at header own put taken g o y seat result h fits e (rest, k) =
+    → (rest : List Answer) × (runner.answers ++ rest ≡ (advance header (hears header g y)).0.answers)
+    → HasStood header own (put ++ item.Offer (length g.answers) o ∷ []) (taken ++ sent.Reply y ∷ []) runner result
+broken_at header own put taken g o y runner result h fits e (rest, k) =
     let here = accounted_on header own put taken g o y (advance header (hears header g y)) h fits refl in
-    broken header own (put ++ item.Offer (length g.answers) o ∷ []) (taken ++ owner.Reply y ∷ []) seat result e here.one_each
+    broken header own (put ++ item.Offer (length g.answers) o ∷ []) (taken ++ sent.Reply y ∷ []) runner result e here.one_each
     (record {
       unsent = offered_by header (advance header (hears header g y)) [];
-      begins = sym (here.offers []) ∙ ap (λ (back : List OwnerItem). offered header (first_going header own) back) (append-nil (taken ++ owner.Reply y ∷ []));
+      begins = sym (here.offers []) ∙ ap (λ (back : List OwnerItem). offered header (first_going header own) back) (append-nil (taken ++ sent.Reply y ∷ []));
       unanswered = rest;
       answers = k ∙ at_once (advance header (hears header g y)) ∙ sym (ap (λ (s : Going). s.answers) (here.ends []))
-          ∙ ap (λ (back : List OwnerItem). (rank_end header (first_going header own) back).answers) (append-nil (taken ++ owner.Reply y ∷ []));
+          ∙ ap (λ (back : List OwnerItem). (rank_end header (first_going header own) back).answers) (append-nil (taken ++ sent.Reply y ∷ []));
     })
   where
     at_once : (a : Going × Option Offer) → a.0.answers ≡ (end_by header a []).answers
@@ -180,10 +180,10 @@ no_offer : (put : List RankItem) (taken : List OwnerItem) (memory : Bool) → le
 no_offer put taken memory h =
     h ∙ sym (ap (λ (xs : List RankItem). length xs) (filter-append is_offer put (item.Ended memory ∷ []) ∙ append-nil (filter is_offer put)))
 
-pub attended_through : (header : Header) (own : List Call) (put : List RankItem) (taken : List OwnerItem) (seat : Seat) (end : RankStop) (known pending : ℕ)
-    → HasStood header own put taken seat (Ok end) → known ≡ seat.rank.state.known → pending ≡ machine.pending seat.rank.state
-    → HasAttended header own (put ++ item.Ended false ∷ []) taken (record { known = known; pending = pending; answers = seat.answers; end = end })
-attended_through header own put taken seat end known pending h e f = record {
+pub attended_through : (header : Header) (own : List Call) (put : List RankItem) (taken : List OwnerItem) (runner : Runner) (end : RankStop) (known pending : ℕ)
+    → HasStood header own put taken runner (Ok end) → known ≡ runner.rank.state.known → pending ≡ machine.pending runner.rank.state
+    → HasAttended header own (put ++ item.Ended false ∷ []) taken (record { known = known; pending = pending; answers = runner.answers; end = end })
+attended_through header own put taken runner end known pending h e f = record {
   one_each = no_offer put taken false h.one_each;
   finished = λ k. record {
     put_all = h.stands.put_all;
@@ -195,10 +195,10 @@ attended_through header own put taken seat end known pending h e f = record {
   broken = λ k. absurd (h.stands.not_broken k);
 }
 
-pub attended_broken : (header : Header) (own : List Call) (put : List RankItem) (taken : List OwnerItem) (seat : Seat) (m : Memory) (known pending : ℕ)
-    → HasStood header own put taken seat (Err m)
-    → HasAttended header own (put ++ item.Ended true ∷ []) taken (record { known = known; pending = pending; answers = seat.answers; end = stop.Memory })
-attended_broken header own put taken seat m known pending h = record {
+pub attended_broken : (header : Header) (own : List Call) (put : List RankItem) (taken : List OwnerItem) (runner : Runner) (m : Memory) (known pending : ℕ)
+    → HasStood header own put taken runner (Err m)
+    → HasAttended header own (put ++ item.Ended true ∷ []) taken (record { known = known; pending = pending; answers = runner.answers; end = stop.Memory })
+attended_broken header own put taken runner m known pending h = record {
   one_each = no_offer put taken true h.one_each;
   finished = λ k. absurd (k refl);
   broken = λ k. record { sent = put; unsent = h.stands.unsent; put_some = refl; begins = h.stands.begins; unanswered = h.stands.unanswered; answers = h.stands.answers };

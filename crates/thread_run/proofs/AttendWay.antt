@@ -23,7 +23,7 @@ use Rattle.serial_spec.specs.RankMachine.{Open, hear}
 use Rattle.serial_spec.specs.RankSide.{fits_offer, wanted}
 use Rattle.serial_spec.specs.RegionCheck.{check_some}
 use Rattle.serial_spec.specs.SerialEnd.{Going, advance, first_going, hears}
-use Rattle.rank_core.specs.Fitting.{fits_gets}
+use Rattle.rank_core.specs.Fit.{fits_gets}
 use Rattle.rank_core.specs.Offered.{IsSoundOffer}
 use Rattle.rank_items.specs.Own.{HasOwnElements}
 use Rattle.rank_items.proofs.OwnLaws.{own_elements}
@@ -33,47 +33,47 @@ use Rattle.run_laws.proofs.LawfulLaws.{ranks_lawful}
 use Rattle.run_laws.proofs.TogetherLaws.{call_number, call_waits}
 use Rattle.run_laws.proofs.WayLaws.{way_begins, way_hears}
 use Rattle.turn_run.specs.Counts.{IsAsked}
-use Rattle.turn_run.specs.Seated.{asking, between, calls_of, going_of, HasHeard, IsPlaced, IsPlacedWith}
-use Rattle.turn_run.specs.Steps.{first_seat}
-use Rattle.turn_run.specs.declared.seats.Seat.{Seat}
+use Rattle.turn_run.specs.Running.{asking, between, calls_of, going_of, HasHeard, IsPlaced, IsPlacedWith}
+use Rattle.turn_run.specs.Steps.{first_runner}
+use Rattle.turn_run.specs.declared.runners.Runner.{Runner}
 use Rattle.turn_run.proofs.AloneLaws.{alone_waits, going_held}
-use Rattle.turn_run.proofs.SeatLaws.{alone_heard, answered_is, heard_seat}
+use Rattle.turn_run.proofs.RunnerLaws.{alone_heard, answered_is, heard_runner}
 use Rattle.list_laws.proofs.Places.{entry_below}
 
 -- ---- before the first call
 
-pub first_between : (header : Header) (own : List Call) (seat : Seat) → seat ≡ first_seat header header.records → between own seat ≡ first_going header own
-first_between header own seat e = ap (λ (s : Seat). between own s) e
+pub first_between : (header : Header) (own : List Call) (runner : Runner) → runner ≡ first_runner header header.records → between own runner ≡ first_going header own
+first_between header own runner e = ap (λ (s : Runner). between own s) e
 
-pub first_way : (script : Script) (header : Header) (r : ℕ) (own : List Call) (seat : Seat) → is_lawful script ≡ true → r < script.ranks → own ≡ calls_of script r
-    → seat ≡ first_seat header header.records → IsOnWay script [] r (between own seat) None
-first_way script header r own seat lawful below e f =
+pub first_way : (script : Script) (header : Header) (r : ℕ) (own : List Call) (runner : Runner) → is_lawful script ≡ true → r < script.ranks → own ≡ calls_of script r
+    → runner ≡ first_runner header header.records → IsOnWay script [] r (between own runner) None
+first_way script header r own runner lawful below e f =
     let long = (ranks_lawful script lawful).one_each in
     let there = entry_below script.calls r (omega arith) in
     let is : own ≡ there.0 = e ∙ ap (λ (m : Option (List Call)). elim m [ None ↦ [] | Some calls ↦ calls ]) there.1 in
-    subst (λ (g : Going). IsOnWay script [] r g None) (ap (λ (calls : List Call). first_going header calls) (sym is) ∙ sym (first_between header own seat f))
+    subst (λ (g : Going). IsOnWay script [] r g None) (ap (λ (calls : List Call). first_going header calls) (sym is) ∙ sym (first_between header own runner f))
     (way_begins script header r there.0 lawful there.1)
 
 -- its answers begin those at its first offer
-pub first_some : (header : Header) (own calls : List Call) (seat : Seat) (answers : List Answer) → own ≡ calls → seat ≡ first_seat header header.records
-    → (rest : List Answer) × (answers ++ rest ≡ (advance header (between own seat)).0.answers) → (rest : List Answer) × (answers ++ rest ≡ (advance header (first_going header calls)).0.answers)
-first_some header own calls seat answers e f (rest, h) =
-    (rest, h ∙ ap (λ (g : Going). (advance header g).0.answers) (first_between header own seat f ∙ ap (λ (cs : List Call). first_going header cs) e))
+pub first_some : (header : Header) (own calls : List Call) (runner : Runner) (answers : List Answer) → own ≡ calls → runner ≡ first_runner header header.records
+    → (rest : List Answer) × (answers ++ rest ≡ (advance header (between own runner)).0.answers) → (rest : List Answer) × (answers ++ rest ≡ (advance header (first_going header calls)).0.answers)
+first_some header own calls runner answers e f (rest, h) =
+    (rest, h ∙ ap (λ (g : Going). (advance header g).0.answers) (first_between header own runner f ∙ ap (λ (cs : List Call). first_going header cs) e))
 
 -- and after a reply, those at its next
-pub later_some : (header : Header) (own : List Call) (before mid : Seat) (reply : Reply) (answers : List Answer) → before.rank.header ≡ header → HasHeard before mid reply
+pub later_some : (header : Header) (own : List Call) (before mid : Runner) (reply : Reply) (answers : List Answer) → before.rank.header ≡ header → HasHeard before mid reply
     → (rest : List Answer) × (answers ++ rest ≡ (advance header (between own mid)).0.answers)
     → (rest : List Answer) × (answers ++ rest ≡ (advance header (hears header (asking own before) reply)).0.answers)
 later_some header own before mid reply answers e heard (rest, h) =
-    (rest, h ∙ ap (λ (g : Going). (advance header g).0.answers) (heard_seat header own before mid reply e heard))
+    (rest, h ∙ ap (λ (g : Going). (advance header g).0.answers) (heard_runner header own before mid reply e heard))
 
 -- ---- at an offer
 
-pub placed_held : (script : Script) (header : Header) (order : List Mark) (r : ℕ) (own : List Call) (seat : Seat) (o : Offer) → seat.held ≡ Some o
-    → IsPlaced script header order r (going_of own seat) seat.held → IsPlacedWith script header order r (asking own seat) o o.kind
-placed_held script header order r own seat o e w =
-    subst (λ (s : Going). IsPlaced script header order r s (Some o)) (going_held own seat o e)
-    (subst (λ (m : Option Offer). IsPlaced script header order r (going_of own seat) m) e w)
+pub placed_held : (script : Script) (header : Header) (order : List Mark) (r : ℕ) (own : List Call) (runner : Runner) (o : Offer) → runner.held ≡ Some o
+    → IsPlaced script header order r (going_of own runner) runner.held → IsPlacedWith script header order r (asking own runner) o o.kind
+placed_held script header order r own runner o e w =
+    subst (λ (s : Going). IsPlaced script header order r s (Some o)) (going_held own runner o e)
+    (subst (λ (m : Option Offer). IsPlaced script header order r (going_of own runner) m) e w)
 
 pub placed_waits : (script : Script) (header : Header) (order : List Mark) (r : ℕ) (s : Going) (o : Offer) → IsPlacedWith script header order r s o o.kind → Keeps s.rank.«open» o
 placed_waits script header order r s o w = by o.kind w
@@ -92,7 +92,7 @@ placed_number script header order r s o w = by o.kind w
 
 -- ---- after its reply
 
-pub placed_heard : (script : Script) (header : Header) (order : List Mark) (r : ℕ) (own : List Call) (before now : Seat) (o : Offer) (reply : Reply) → before.rank.header ≡ header
+pub placed_heard : (script : Script) (header : Header) (order : List Mark) (r : ℕ) (own : List Call) (before now : Runner) (o : Offer) (reply : Reply) → before.rank.header ≡ header
     → IsPlacedWith script header order r (asking own before) o o.kind → HasHeard before now reply → (later : List Mark) × IsOnWay script later r (between own now) None
 placed_heard script header order r own before now o reply e w h = by o.kind w
   where

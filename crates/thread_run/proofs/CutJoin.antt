@@ -16,20 +16,20 @@ use Rattle.nc_base.specs.declared.step.Mark.{Mark}
 use Rattle.nc_base.specs.declared.step.Offer.{Offer}
 use Rattle.nc_base.specs.declared.step.OwnerItem.{OwnerItem}
 use Rattle.nc_base.specs.declared.step.OwnerItem.TheVariants.{Stop}
-use Rattle.serial_spec.specs.Desk.{Desk, Seat, event, free_seat, given_along, is_strange, offers_in, own_items, served}
+use Rattle.serial_spec.specs.Owner.{Owner, Client, event, free_client, given_along, is_strange, offers_in, own_items, served}
 use Rattle.serial_spec.specs.FileStep.{Setting, Counted}
 use Rattle.serial_spec.specs.History.{Arrival}
 use Rattle.serial_spec.specs.SoundHeaders.{is_sound}
-use Rattle.serial_spec.specs.Joined.{opening_desk, run_of}
+use Rattle.serial_spec.specs.Joined.{opening_owner, run_of}
 use Rattle.serial_spec.specs.RankSide.{rank_end}
 use Rattle.serial_spec.specs.SerialEnd.{Going, after_mark, first_going, setting_of}
 use Rattle.serial_spec.specs.Torn.{Begins}
 use Rattle.join_laws.specs.Begun.{HasOffered}
 use Rattle.join_laws.proofs.CountLaws.{sound_small}
-use Rattle.turn_run.specs.Seated.{calls_of}
+use Rattle.turn_run.specs.Running.{calls_of}
 use Rattle.join_laws.proofs.JoinLaws.{stranger_on, served_on, ServedOn, fold_two}
-use Rattle.turn_run.specs.Telling.{counts_along}
-use Rattle.thread_run.specs.Owned.{desk_told}
+use Rattle.turn_run.specs.Told.{counts_along}
+use Rattle.thread_run.specs.Owned.{owner_told}
 use Rattle.join_laws.proofs.GoingOnLaws.{given_on}
 use Rattle.thread_run.proofs.TellLaws.{count_of, tells_more}
 use Rattle.thread_run.proofs.CutRank.{Sits, sits_as}
@@ -38,15 +38,15 @@ use Rattle.list_laws.proofs.Maps.{mapped_entry}
 
 -- ---- arrivals
 
-pub record Ran (s : Setting) (d : Desk) (goings : List Going) (first later : List Arrival) (n : ℕ → ℕ) (end : ℕ → Going) : Type 0 where
+pub record Ran (s : Setting) (d : Owner) (goings : List Going) (first later : List Arrival) (n : ℕ → ℕ) (end : ℕ → Going) : Type 0 where
   pub last : List Going
-  pub folded : fold (after_mark s) (d.state, goings) (served s d first).marks ≡ ((served s d first).desk.state, last)
-  pub told : desk_told s d first ≡ counts_along (after_mark s) count_of (d.state, goings) (served s d first).marks
-  pub long : length last ≡ length d.seats
-  pub stands : Stands s (served s d first).desk last (λ q. own_items q later) (λ q. replicate (n q) Stop) end
+  pub folded : fold (after_mark s) (d.state, goings) (served s d first).marks ≡ ((served s d first).owner.state, last)
+  pub told : owner_told s d first ≡ counts_along (after_mark s) count_of (d.state, goings) (served s d first).marks
+  pub long : length last ≡ length d.clients
+  pub stands : Stands s (served s d first).owner last (λ q. own_items q later) (λ q. replicate (n q) Stop) end
 
-pub ran : (s : Setting) (first later : List Arrival) (d : Desk) (goings : List Going) (n : ℕ → ℕ) (end : ℕ → Going) → (served s d first).stranger ≡ None
-    → list_all (λ (a : Arrival). nat_lt a.0 (length d.seats)) first ≡ true
+pub ran : (s : Setting) (first later : List Arrival) (d : Owner) (goings : List Going) (n : ℕ → ℕ) (end : ℕ → Going) → (served s d first).stranger ≡ None
+    → list_all (λ (a : Arrival). nat_lt a.0 (length d.clients)) first ≡ true
     → Stands s d goings (λ q. own_items q (first ++ later)) (λ q. given_along s d first q ++ replicate (n q) Stop) end → Ran s d goings first later n end
 ran s [] later d goings n end none low t = record {
   last = goings;
@@ -58,50 +58,50 @@ ran s [] later d goings n end none low t = record {
 ran s ((r, i) ∷ first) later d goings n end none low t = by (is_strange s d (r, i)) refl (λ d' goings' f l u. ran s first later d' goings' n end f l u)
   where
     by : (v : Bool) → is_strange s d (r, i) ≡ v
-        → ((d' : Desk) (goings' : List Going) → (served s d' first).stranger ≡ None → list_all (λ (a : Arrival). nat_lt a.0 (length d'.seats)) first ≡ true
+        → ((d' : Owner) (goings' : List Going) → (served s d' first).stranger ≡ None → list_all (λ (a : Arrival). nat_lt a.0 (length d'.clients)) first ≡ true
         → Stands s d' goings' (λ q. own_items q (first ++ later)) (λ q. given_along s d' first q ++ replicate (n q) Stop) end → Ran s d' goings' first later n end)
         → Ran s d goings ((r, i) ∷ first) later n end
     by true f again = let z = sym (stranger_on s d (r, i) first f) ∙ none in absurd cc
     by false f again = record {
       last = after.last;
       folded = ap (λ (ms : List Mark). fold (after_mark s) (d.state, goings) ms) on.marks
-          ∙ fold_two s (d.state, goings) (event s d (r, i)).marks (served s (event s d (r, i)).desk first).marks
-          ∙ ap (λ (st : Counted × List Going). fold (after_mark s) st (served s (event s d (r, i)).desk first).marks) step.folded ∙ after.folded
-          ∙ ap (λ (e : Desk). (e.state, after.last)) (sym on.desk);
+          ∙ fold_two s (d.state, goings) (event s d (r, i)).marks (served s (event s d (r, i)).owner first).marks
+          ∙ ap (λ (st : Counted × List Going). fold (after_mark s) st (served s (event s d (r, i)).owner first).marks) step.folded ∙ after.folded
+          ∙ ap (λ (e : Owner). (e.state, after.last)) (sym on.owner);
       told = tells_more s d goings step.after (r, i) first f step.folded after.told;
       long = after.long ∙ step.ranks;
-      stands = subst (λ (e : Desk). Stands s e after.last (λ q. own_items q later) (λ q. replicate (n q) Stop) end) (sym on.desk) after.stands;
+      stands = subst (λ (e : Owner). Stands s e after.last (λ q. own_items q later) (λ q. replicate (n q) Stop) end) (sym on.owner) after.stands;
     }
       where
         on : ServedOn s d (r, i) first
         on = served_on s d (r, i) first f
 
-        seat : (x : Seat) × (slice_get d.seats r ≡ Some x)
-        seat = entry_below d.seats r (ltb-true r (length d.seats) (and_first (nat_lt r (length d.seats)) (list_all (λ (a : Arrival). nat_lt a.0 (length d.seats)) first) low))
+        client : (x : Client) × (slice_get d.clients r ≡ Some x)
+        client = entry_below d.clients r (ltb-true r (length d.clients) (and_first (nat_lt r (length d.clients)) (list_all (λ (a : Arrival). nat_lt a.0 (length d.clients)) first) low))
 
         going : (g : Going) × (slice_get goings r ≡ Some g)
-        going = entry_beside d.seats goings r seat.0 t.long seat.1
+        going = entry_beside d.clients goings r client.0 t.long client.1
 
-        whole : Stands s d goings (λ q. own_items q ((r, i) ∷ (first ++ later))) (λ q. (event s d (r, i)).given q ++ (given_along s (event s d (r, i)).desk first q ++ replicate (n q) Stop)) end
+        whole : Stands s d goings (λ q. own_items q ((r, i) ∷ (first ++ later))) (λ q. (event s d (r, i)).given q ++ (given_along s (event s d (r, i)).owner first q ++ replicate (n q) Stop)) end
         whole = record {
           long = t.long;
           sits = λ q x g a b.
               sits_as s.header x x g (own_items q ((r, i) ∷ (first ++ later))) (own_items q ((r, i) ∷ (first ++ later))) (given_along s d ((r, i) ∷ first) q ++ replicate (n q) Stop)
-              ((event s d (r, i)).given q ++ (given_along s (event s d (r, i)).desk first q ++ replicate (n q) Stop)) (end q) refl refl
+              ((event s d (r, i)).given q ++ (given_along s (event s d (r, i)).owner first q ++ replicate (n q) Stop)) (end q) refl refl
               (ap (λ (xs : List OwnerItem). xs ++ replicate (n q) Stop) (given_on s d (r, i) first q f)
-              ∙ append_assoc ((event s d (r, i)).given q) (given_along s (event s d (r, i)).desk first q) (replicate (n q) Stop)) (t.sits q x g a b);
+              ∙ append_assoc ((event s d (r, i)).given q) (given_along s (event s d (r, i)).owner first q) (replicate (n q) Stop)) (t.sits q x g a b);
           held = t.held;
           counted = t.counted;
           small = t.small;
         }
 
-        step : Stepped s d goings (λ q. own_items q (first ++ later)) (event s d (r, i)) (λ q. given_along s (event s d (r, i)).desk first q ++ replicate (n q) Stop) end
-        step = arrival_stands s d goings r i (first ++ later) seat.0 going.0 (λ q. given_along s (event s d (r, i)).desk first q ++ replicate (n q) Stop) end seat.1 going.1 f whole
+        step : Stepped s d goings (λ q. own_items q (first ++ later)) (event s d (r, i)) (λ q. given_along s (event s d (r, i)).owner first q ++ replicate (n q) Stop) end
+        step = arrival_stands s d goings r i (first ++ later) client.0 going.0 (λ q. given_along s (event s d (r, i)).owner first q ++ replicate (n q) Stop) end client.1 going.1 f whole
 
-        after : Ran s (event s d (r, i)).desk step.after first later n end
+        after : Ran s (event s d (r, i)).owner step.after first later n end
         after =
-            again (event s d (r, i)).desk step.after (sym on.stranger ∙ none)
-            (ap (λ (k : ℕ). list_all (λ (a : Arrival). nat_lt a.0 k) first) step.ranks ∙ and_second (nat_lt r (length d.seats)) (list_all (λ (a : Arrival). nat_lt a.0 (length d.seats)) first) low) step.stands
+            again (event s d (r, i)).owner step.after (sym on.stranger ∙ none)
+            (ap (λ (k : ℕ). list_all (λ (a : Arrival). nat_lt a.0 k) first) step.ranks ∙ and_second (nat_lt r (length d.clients)) (list_all (λ (a : Arrival). nat_lt a.0 (length d.clients)) first) low) step.stands
 
 -- ---- the ranks of a script
 
@@ -112,13 +112,13 @@ end_of_rank script header taken r = rank_end header (first_going header (calls_o
 pub cut_run : (script : Script) (header : Header) (file : List ℕ) (first later : List Arrival) (taken : ℕ → List OwnerItem) (n : ℕ → ℕ) → is_sound header ≡ true
     → length script.calls ≡ script.ranks → (run_of script header file first).stranger ≡ None → HasOffered script header (first ++ later) taken
     → ((r : ℕ) → r < script.ranks → offers_in (own_items r (first ++ later)) ≤ length (taken r))
-    → ((r : ℕ) → r < script.ranks → Begins (taken r) (given_along (setting_of script header) (opening_desk script header file) first r ++ replicate (n r) Stop))
-    → Ran (setting_of script header) (opening_desk script header file) (map (first_going header) script.calls) first later n (end_of_rank script header taken)
+    → ((r : ℕ) → r < script.ranks → Begins (taken r) (given_along (setting_of script header) (opening_owner script header file) first r ++ replicate (n r) Stop))
+    → Ran (setting_of script header) (opening_owner script header file) (map (first_going header) script.calls) first later n (end_of_rank script header taken)
 cut_run script header file first later taken n sound long none offered enough came =
-    ran (setting_of script header) first later (opening_desk script header file) (map (first_going header) script.calls) n (end_of_rank script header taken) none
-    (ap (λ (k : ℕ). list_all (λ (a : Arrival). nat_lt a.0 k) first) (length-replicate (length script.calls) free_seat ∙ long) ∙ front)
+    ran (setting_of script header) first later (opening_owner script header file) (map (first_going header) script.calls) n (end_of_rank script header taken) none
+    (ap (λ (k : ℕ). list_all (λ (a : Arrival). nat_lt a.0 k) first) (length-replicate (length script.calls) free_client ∙ long) ∙ front)
     (record {
-      long = length-replicate (length script.calls) free_seat ∙ sym (length-map script.calls (first_going header));
+      long = length-replicate (length script.calls) free_client ∙ sym (length-map script.calls (first_going header));
       sits = λ q x g a b. sits q x g a b;
       held = λ q x o a h. absurd (not_held q x o a h);
       counted = omega arith;
@@ -128,18 +128,18 @@ cut_run script header file first later taken n sound long none offered enough ca
     front : list_all (λ (a : Arrival). nat_lt a.0 script.ranks) first ≡ true
     front = and_first (list_all (λ (a : Arrival). nat_lt a.0 script.ranks) first) _ (sym (list_all-append (λ (a : Arrival). nat_lt a.0 script.ranks) first later) ∙ offered.numbers)
 
-    not_held : (q : ℕ) (x : Seat) (o : Offer) → slice_get (replicate (length script.calls) free_seat) q ≡ Some x → x.held ≡ Some o → ⊥
-    not_held q x o a h = let free = entry_replicate (length script.calls) q free_seat x a in let none : x.held ≡ None = ap (λ (y : Seat). y.held) free in cc
+    not_held : (q : ℕ) (x : Client) (o : Offer) → slice_get (replicate (length script.calls) free_client) q ≡ Some x → x.held ≡ Some o → ⊥
+    not_held q x o a h = let free = entry_replicate (length script.calls) q free_client x a in let none : x.held ≡ None = ap (λ (y : Client). y.held) free in cc
 
-    sits : (q : ℕ) (x : Seat) (g : Going) → slice_get (replicate (length script.calls) free_seat) q ≡ Some x → slice_get (map (first_going header) script.calls) q ≡ Some g
-        → Sits header x g (own_items q (first ++ later)) (given_along (setting_of script header) (opening_desk script header file) first q ++ replicate (n q) Stop) (end_of_rank script header taken q)
+    sits : (q : ℕ) (x : Client) (g : Going) → slice_get (replicate (length script.calls) free_client) q ≡ Some x → slice_get (map (first_going header) script.calls) q ≡ Some g
+        → Sits header x g (own_items q (first ++ later)) (given_along (setting_of script header) (opening_owner script header file) first q ++ replicate (n q) Stop) (end_of_rank script header taken q)
     sits q x g a b =
         let own = mapped_entry (first_going header) script.calls q g b in
         let low : q < script.ranks = (let l = slice_get_within script.calls q own.0 own.1.0 in omega arith) in
         let its : calls_of script q ≡ own.0 = ap (λ (m : Option (List Call)). elim m [ None ↦ [] | Some cs ↦ cs ]) own.1.0 in
-        subst (λ (z : Seat). Sits header z g (own_items q (first ++ later)) (given_along (setting_of script header) (opening_desk script header file) first q ++ replicate (n q) Stop) (end_of_rank script header taken q))
-        (sym (entry_replicate (length script.calls) q free_seat x a))
-        (subst (λ (z : Going). Sits header free_seat z (own_items q (first ++ later)) (given_along (setting_of script header) (opening_desk script header file) first q ++ replicate (n q) Stop) (end_of_rank script header taken q))
+        subst (λ (z : Client). Sits header z g (own_items q (first ++ later)) (given_along (setting_of script header) (opening_owner script header file) first q ++ replicate (n q) Stop) (end_of_rank script header taken q))
+        (sym (entry_replicate (length script.calls) q free_client x a))
+        (subst (λ (z : Going). Sits header free_client z (own_items q (first ++ later)) (given_along (setting_of script header) (opening_owner script header file) first q ++ replicate (n q) Stop) (end_of_rank script header taken q))
         own.1.1 (record {
           back = taken q;
           begins = came q low;

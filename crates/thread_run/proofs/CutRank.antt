@@ -8,13 +8,13 @@ use Rattle.nc_base.specs.declared.step.OwnerItem.TheVariants.{Reply, Stop}
 use Rattle.nc_base.specs.declared.step.RankItem.{RankItem}
 use Rattle.nc_base.specs.declared.step.RankItem.TheVariants as item
 use Rattle.nc_base.specs.declared.step.Reply as reply
-use Rattle.serial_spec.specs.Desk.{Seat, offers_in}
+use Rattle.serial_spec.specs.Owner.{Client, offers_in}
 use Rattle.serial_spec.specs.History.{is_offer}
 use Rattle.serial_spec.specs.RankSide.{end_by, fits_offer, offered_by, waiting, waiting_end}
 use Rattle.serial_spec.specs.SerialEnd.{Going, advance, hears}
 use Rattle.serial_spec.specs.Torn.{Begins}
 use Rattle.join_laws.specs.Begun.{IsBeginning}
-use Rattle.join_laws.proofs.StreamLaws.{ends_once, seat_end, to_come, waiting_end_reply, waiting_reply}
+use Rattle.join_laws.proofs.StreamLaws.{ends_once, client_end, to_come, waiting_end_reply, waiting_reply}
 use Rattle.join_laws.proofs.TieLaws.{one_if}
 
 -- ---- a beginning of what a rank puts
@@ -75,13 +75,13 @@ begin_ended header held g back m items (f ∷ front, (more, b), inr e) =
 -- ---- one rank
 
 -- what it still puts, by what it takes of these items, and where it ends
-pub record Sits (header : Header) (x : Seat) (g : Going) (items : List RankItem) (given : List OwnerItem) (end : Going) : Type 0 where
+pub record Sits (header : Header) (x : Client) (g : Going) (items : List RankItem) (given : List OwnerItem) (end : Going) : Type 0 where
   pub back : List OwnerItem
   pub begins : Begins back given
   pub stream : IsBeginning items (to_come header x.held g back)
   pub waits : (o : Offer) → x.held ≡ Some o → (advance header g).1 ≡ Some o
   pub enough : one_if x.held + offers_in items ≤ length back
-  pub ends : seat_end header x.held g back ≡ end
+  pub ends : client_end header x.held g back ≡ end
 
 pub record Waits (header : Header) (t : Going) (o : Offer) (items : List RankItem) (given : List OwnerItem) (end : Going) : Type 0 where
   pub back : List OwnerItem
@@ -91,7 +91,7 @@ pub record Waits (header : Header) (t : Going) (o : Offer) (items : List RankIte
   pub ends : waiting_end header t o back ≡ end
 
 -- an offer of it arrives
-pub offered_now : (header : Header) (x : Seat) (g : Going) (c : ℕ) (o : Offer) (items : List RankItem) (given : List OwnerItem) (end : Going) → x.held ≡ None
+pub offered_now : (header : Header) (x : Client) (g : Going) (c : ℕ) (o : Offer) (items : List RankItem) (given : List OwnerItem) (end : Going) → x.held ≡ None
     → Sits header x g (item.Offer c o ∷ items) given end → ((advance header g).1 ≡ Some o) × Waits header (advance header g).0 o items given end
 offered_now header x g c o items given end free t =
     let b = begin_offer header (advance header g) t.back c o items (subst (λ (m : Option Offer). IsBeginning (item.Offer c o ∷ items) (to_come header m g t.back)) free t.stream) in (
@@ -101,7 +101,7 @@ offered_now header x g c o items given end free t =
         begins = t.begins;
         stream = b.1;
         enough = let k = t.enough in let none = ap one_if free in omega arith;
-        ends = ended (advance header g) b.0 ∙ ap (λ (m : Option Offer). seat_end header m g t.back) (sym free) ∙ t.ends;
+        ends = ended (advance header g) b.0 ∙ ap (λ (m : Option Offer). client_end header m g t.back) (sym free) ∙ t.ends;
       },
     )
   where
@@ -109,17 +109,17 @@ offered_now header x g c o items given end free t =
     ended (h, None) e = cc
     ended (h, Some q) e = ap (λ (z : Offer). waiting_end header h z t.back) (sym (same_Some q o e))
 
-pub held_now : (header : Header) (x : Seat) (g : Going) (o : Offer) (items : List RankItem) (given : List OwnerItem) (end : Going) → x.held ≡ Some o → Sits header x g items given end
+pub held_now : (header : Header) (x : Client) (g : Going) (o : Offer) (items : List RankItem) (given : List OwnerItem) (end : Going) → x.held ≡ Some o → Sits header x g items given end
     → Waits header (advance header g).0 o items given end
 held_now header x g o items given end held t = record {
   back = t.back;
   begins = t.begins;
   stream = subst (λ (m : Option Offer). IsBeginning items (to_come header m g t.back)) held t.stream;
   enough = let k = t.enough in let one = ap one_if held in omega arith;
-  ends = ap (λ (m : Option Offer). seat_end header m g t.back) (sym held) ∙ t.ends;
+  ends = ap (λ (m : Option Offer). client_end header m g t.back) (sym held) ∙ t.ends;
 }
 
-pub hold_it : (header : Header) (x : Seat) (g : Going) (o : Offer) (items : List RankItem) (given : List OwnerItem) (end : Going) → x.held ≡ Some o → (advance header g).1 ≡ Some o
+pub hold_it : (header : Header) (x : Client) (g : Going) (o : Offer) (items : List RankItem) (given : List OwnerItem) (end : Going) → x.held ≡ Some o → (advance header g).1 ≡ Some o
     → Waits header (advance header g).0 o items given end → Sits header x g items given end
 hold_it header x g o items given end held next t = record {
   back = t.back;
@@ -127,11 +127,11 @@ hold_it header x g o items given end held next t = record {
   stream = subst (λ (m : Option Offer). IsBeginning items (to_come header m g t.back)) (sym held) t.stream;
   waits = λ p e. next ∙ sym held ∙ e;
   enough = let k = t.enough in let one = ap one_if held in omega arith;
-  ends = ap (λ (m : Option Offer). seat_end header m g t.back) held ∙ t.ends;
+  ends = ap (λ (m : Option Offer). client_end header m g t.back) held ∙ t.ends;
 }
 
 -- it takes its reply
-pub heard_now : (header : Header) (x : Seat) (t : Going) (o : Offer) (y : reply.Reply) (items : List RankItem) (more : List OwnerItem) (end : Going) → x.held ≡ None → fits_offer header o y ≡ true
+pub heard_now : (header : Header) (x : Client) (t : Going) (o : Offer) (y : reply.Reply) (items : List RankItem) (more : List OwnerItem) (end : Going) → x.held ≡ None → fits_offer header o y ≡ true
     → Waits header t o items (Reply y ∷ more) end → Sits header x (hears header t y) items more end
 heard_now header x t o y items more end free fits w = by_back w.back w.begins w.stream w.enough w.ends
   where
@@ -149,14 +149,14 @@ heard_now header x t o y items more end free fits w = by_back w.back w.begins w.
               (subst (λ (u : OwnerItem). IsBeginning items (waiting header t o (u ∷ back))) first i));
           waits = λ p f. absurd (none_held (sym free ∙ f));
           enough = let none = ap one_if free in omega arith;
-          ends = ap (λ (m : Option Offer). seat_end header m (hears header t y) back) free ∙ sym (waiting_end_reply header t o y back fits)
+          ends = ap (λ (m : Option Offer). client_end header m (hears header t y) back) free ∙ sym (waiting_end_reply header t o y back fits)
               ∙ ap (λ (u : OwnerItem). waiting_end header t o (u ∷ back)) (sym first) ∙ e;
         }
       where
         none_held : {p : Offer} → None ≡ Some p → ⊥
         none_held k = cc
 
-pub sits_as : (header : Header) (x y : Seat) (g : Going) (items same : List RankItem) (given more : List OwnerItem) (end : Going) → x.held ≡ y.held → items ≡ same → given ≡ more
+pub sits_as : (header : Header) (x y : Client) (g : Going) (items same : List RankItem) (given more : List OwnerItem) (end : Going) → x.held ≡ y.held → items ≡ same → given ≡ more
     → Sits header x g items given end → Sits header y g same more end
 sits_as header x y g items same given more end h e f t = record {
   back = t.back;
@@ -164,11 +164,11 @@ sits_as header x y g items same given more end h e f t = record {
   stream = subst (λ (is : List RankItem). IsBeginning is (to_come header y.held g t.back)) e (subst (λ (m : Option Offer). IsBeginning items (to_come header m g t.back)) h t.stream);
   waits = λ o k. t.waits o (h ∙ k);
   enough = subst (λ (is : List RankItem). one_if y.held + offers_in is ≤ length t.back) e (subst (λ (m : Option Offer). one_if m + offers_in items ≤ length t.back) h t.enough);
-  ends = ap (λ (m : Option Offer). seat_end header m g t.back) (sym h) ∙ t.ends;
+  ends = ap (λ (m : Option Offer). client_end header m g t.back) (sym h) ∙ t.ends;
 }
 
 -- where no reply is left, it ended where it goes up to
-pub last_end : (header : Header) (x : Seat) (g : Going) (items : List RankItem) (n : ℕ) (end : Going) → Sits header x g items (replicate n Stop) end → (advance header g).0 ≡ end
+pub last_end : (header : Header) (x : Client) (g : Going) (items : List RankItem) (n : ℕ) (end : Going) → Sits header x g items (replicate n Stop) end → (advance header g).0 ≡ end
 last_end header x g items n end t = sym (by_held x.held) ∙ t.ends
   where
     waits_still : (back : List OwnerItem) (k : ℕ) → Begins back (replicate k Stop) → (h : Going) (o : Offer) → waiting_end header h o back ≡ h
@@ -180,6 +180,6 @@ last_end header x g items n end t = sym (by_held x.held) ∙ t.ends
     by_next (h, None) = refl
     by_next (h, Some o) = waits_still t.back n t.begins h o
 
-    by_held : (m : Option Offer) → seat_end header m g t.back ≡ (advance header g).0
+    by_held : (m : Option Offer) → client_end header m g t.back ≡ (advance header g).0
     by_held None = by_next (advance header g)
     by_held (Some o) = waits_still t.back n t.begins (advance header g).0 o

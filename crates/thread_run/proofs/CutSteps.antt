@@ -20,7 +20,7 @@ use Rattle.nc_base.specs.declared.step.OwnerItem.TheVariants.{Reply}
 use Rattle.nc_base.specs.declared.step.RankItem.{RankItem}
 use Rattle.nc_base.specs.declared.step.RankItem.TheVariants as item
 use Rattle.nc_base.specs.declared.step.Reply as reply
-use Rattle.serial_spec.specs.Desk.{Desk, Event, Seat, at_offer, does_meeting, does_solo, event, freed, holds, is_strange, keeps, left_behind, meets_if, needed_now, offers_held, own_items, some_true, strange_offer, to_each, has_ended, has_held}
+use Rattle.serial_spec.specs.Owner.{Owner, Event, Client, at_offer, does_meeting, does_solo, event, freed, holds, is_strange, keeps, left_behind, meets_if, needed_now, offers_held, own_items, some_true, strange_offer, to_each, has_ended, has_held}
 use Rattle.serial_spec.specs.FileStep.{Setting, Counted, meeting, puts_of, solo}
 use Rattle.serial_spec.specs.History.{Arrival}
 use Rattle.serial_spec.specs.Limits.{record_limit}
@@ -30,23 +30,23 @@ use Rattle.join_laws.proofs.EventLaws.{to_one_here, to_one_other, own_here, own_
 use Rattle.join_laws.proofs.ReplyLaws.{fit_passes, meeting_fits, solo_fits}
 use Rattle.join_laws.proofs.StepLaws.{going_after, goings_after, goings_long, meeting_is, meeting_within, offer_at, offers_long, replied, same_offers, solo_of_is, solo_within, Replied}
 use Rattle.join_laws.proofs.StrangeLaws.{event_is, strange_alone}
-use Rattle.thread_run.proofs.DeskRuns.{seat_ended, seat_held}
+use Rattle.thread_run.proofs.OwnerRuns.{client_ended, client_held}
 use Rattle.thread_run.proofs.CutRank.{begin_ended, Sits, Waits, offered_now, held_now, hold_it, heard_now, sits_as}
 
 -- ---- all ranks
 
-pub record Stands (s : Setting) (d : Desk) (goings : List Going) (coming : ℕ → List RankItem) (given : ℕ → List OwnerItem) (end : ℕ → Going) : Type 0 where
-  pub long : length d.seats ≡ length goings
-  pub sits : (q : ℕ) (x : Seat) (g : Going) → slice_get d.seats q ≡ Some x → slice_get goings q ≡ Some g → Sits s.header x g (coming q) (given q) (end q)
-  pub held : (q : ℕ) (x : Seat) (o : Offer) → slice_get d.seats q ≡ Some x → x.held ≡ Some o → strange_offer s.header d.reached (Some o) ≡ false
+pub record Stands (s : Setting) (d : Owner) (goings : List Going) (coming : ℕ → List RankItem) (given : ℕ → List OwnerItem) (end : ℕ → Going) : Type 0 where
+  pub long : length d.clients ≡ length goings
+  pub sits : (q : ℕ) (x : Client) (g : Going) → slice_get d.clients q ≡ Some x → slice_get goings q ≡ Some g → Sits s.header x g (coming q) (given q) (end q)
+  pub held : (q : ℕ) (x : Client) (o : Offer) → slice_get d.clients q ≡ Some x → x.held ≡ Some o → strange_offer s.header d.reached (Some o) ≡ false
   pub counted : d.state.records ≤ d.reached
   pub small : d.reached < record_limit s.header.version
 
-pub record Stepped (s : Setting) (d : Desk) (goings : List Going) (coming : ℕ → List RankItem) (e : Event) (given : ℕ → List OwnerItem) (end : ℕ → Going) : Type 0 where
+pub record Stepped (s : Setting) (d : Owner) (goings : List Going) (coming : ℕ → List RankItem) (e : Event) (given : ℕ → List OwnerItem) (end : ℕ → Going) : Type 0 where
   pub after : List Going
-  pub folded : fold (after_mark s) (d.state, goings) e.marks ≡ (e.desk.state, after)
-  pub ranks : length e.desk.seats ≡ length d.seats
-  pub stands : Stands s e.desk after coming given end
+  pub folded : fold (after_mark s) (d.state, goings) e.marks ≡ (e.owner.state, after)
+  pub ranks : length e.owner.clients ≡ length d.clients
+  pub stands : Stands s e.owner after coming given end
 
 by_number : (P : ℕ → Type 0) (q r : ℕ) → P r → ((q ≡ r → ⊥) → P q) → P q
 by_number P q r here there = by (eqb_tells q r)
@@ -76,55 +76,55 @@ fifth_false false false false true e h = cc
 fifth_false false false false false true h = cc
 fifth_false false false false false false h = refl
 
-pub fits_now : (s : Setting) (d : Desk) (r c : ℕ) (o : Offer) → is_strange s d (r, item.Offer c o) ≡ false → strange_offer s.header d.reached (Some o) ≡ false
+pub fits_now : (s : Setting) (d : Owner) (r c : ℕ) (o : Offer) → is_strange s d (r, item.Offer c o) ≡ false → strange_offer s.header d.reached (Some o) ≡ false
 unfolding is_strange
 fits_now s d r c o h =
-    fifth_false (has_ended (slice_get d.seats r)) (has_held (slice_get d.seats r)) _ (left_behind (event s d (r, item.Offer c o)).desk.seats) (strange_offer s.header d.reached (Some o)) h
+    fifth_false (has_ended (slice_get d.clients r)) (has_held (slice_get d.clients r)) _ (left_behind (event s d (r, item.Offer c o)).owner.clients) (strange_offer s.header d.reached (Some o)) h
 
 -- ---- an end, or an offer that is held
 
-set_one : (s : Setting) (d : Desk) (goings : List Going) (r : ℕ) (i : RankItem) (rest : List Arrival) (x y : Seat) (g : Going) (given : ℕ → List OwnerItem) (end : ℕ → Going)
-    → slice_get d.seats r ≡ Some x → slice_get goings r ≡ Some g → Sits s.header y g (own_items r rest) (given r) (end r)
+set_one : (s : Setting) (d : Owner) (goings : List Going) (r : ℕ) (i : RankItem) (rest : List Arrival) (x y : Client) (g : Going) (given : ℕ → List OwnerItem) (end : ℕ → Going)
+    → slice_get d.clients r ≡ Some x → slice_get goings r ≡ Some g → Sits s.header y g (own_items r rest) (given r) (end r)
     → ((o : Offer) → y.held ≡ Some o → strange_offer s.header d.reached (Some o) ≡ false)
-    → Stands s d goings (λ q. own_items q ((r, i) ∷ rest)) given end → Stands s (keeps d (set d.seats r y)).desk goings (λ q. own_items q rest) given end
+    → Stands s d goings (λ q. own_items q ((r, i) ∷ rest)) given end → Stands s (keeps d (set d.clients r y)).owner goings (λ q. own_items q rest) given end
 set_one s d goings r i rest x y g given end a b mine own t = record {
-  long = length-set d.seats r y ∙ t.long;
-  sits = λ q z h c e. by_number (λ p. slice_get (set d.seats r y) p ≡ Some z → slice_get goings p ≡ Some h → Sits s.header z h (own_items p rest) (given p) (end p)) q r here (λ n. there q z h n) c e;
-  held = λ q z o c e. by_number (λ p. slice_get (set d.seats r y) p ≡ Some z → strange_offer s.header d.reached (Some o) ≡ false) q r
-      (λ f. own o (ap (λ (w : Seat). w.held) (same_Some y z (sym (entry_set d.seats r x y a) ∙ f)) ∙ e))
-      (λ n f. t.held q z o (sym (entry_set_other d.seats r q y n) ∙ f) e) c;
+  long = length-set d.clients r y ∙ t.long;
+  sits = λ q z h c e. by_number (λ p. slice_get (set d.clients r y) p ≡ Some z → slice_get goings p ≡ Some h → Sits s.header z h (own_items p rest) (given p) (end p)) q r here (λ n. there q z h n) c e;
+  held = λ q z o c e. by_number (λ p. slice_get (set d.clients r y) p ≡ Some z → strange_offer s.header d.reached (Some o) ≡ false) q r
+      (λ f. own o (ap (λ (w : Client). w.held) (same_Some y z (sym (entry_set d.clients r x y a) ∙ f)) ∙ e))
+      (λ n f. t.held q z o (sym (entry_set_other d.clients r q y n) ∙ f) e) c;
   counted = t.counted;
   small = t.small;
 }
   where
-    here : {z : Seat} {h : Going} → slice_get (set d.seats r y) r ≡ Some z → slice_get goings r ≡ Some h → Sits s.header z h (own_items r rest) (given r) (end r)
+    here : {z : Client} {h : Going} → slice_get (set d.clients r y) r ≡ Some z → slice_get goings r ≡ Some h → Sits s.header z h (own_items r rest) (given r) (end r)
     here {z} {h} c e =
-        subst (λ (w : Seat). Sits s.header w h (own_items r rest) (given r) (end r)) (same_Some y z (sym (entry_set d.seats r x y a) ∙ c))
+        subst (λ (w : Client). Sits s.header w h (own_items r rest) (given r) (end r)) (same_Some y z (sym (entry_set d.clients r x y a) ∙ c))
         (subst (λ (w : Going). Sits s.header y w (own_items r rest) (given r) (end r)) (same_Some g h (sym b ∙ e)) mine)
 
-    there : (q : ℕ) (z : Seat) (h : Going) → (q ≡ r → ⊥) → slice_get (set d.seats r y) q ≡ Some z → slice_get goings q ≡ Some h → Sits s.header z h (own_items q rest) (given q) (end q)
+    there : (q : ℕ) (z : Client) (h : Going) → (q ≡ r → ⊥) → slice_get (set d.clients r y) q ≡ Some z → slice_get goings q ≡ Some h → Sits s.header z h (own_items q rest) (given q) (end q)
     there q z h n c e =
         sits_as s.header z z h (own_items q ((r, i) ∷ rest)) (own_items q rest) (given q) (given q) (end q) refl (own_other q r i rest n) refl
-        (t.sits q z h (sym (entry_set_other d.seats r q y n) ∙ c) e)
+        (t.sits q z h (sym (entry_set_other d.clients r q y n) ∙ c) e)
 
-mine_first : (s : Setting) (d : Desk) (goings : List Going) (r : ℕ) (i : RankItem) (rest : List Arrival) (x : Seat) (g : Going) (given : ℕ → List OwnerItem) (end : ℕ → Going) → slice_get d.seats r ≡ Some x
+mine_first : (s : Setting) (d : Owner) (goings : List Going) (r : ℕ) (i : RankItem) (rest : List Arrival) (x : Client) (g : Going) (given : ℕ → List OwnerItem) (end : ℕ → Going) → slice_get d.clients r ≡ Some x
     → slice_get goings r ≡ Some g → Stands s d goings (λ q. own_items q ((r, i) ∷ rest)) given end → Sits s.header x g (i ∷ own_items r rest) (given r) (end r)
 mine_first s d goings r i rest x g given end a b t =
     sits_as s.header x x g (own_items r ((r, i) ∷ rest)) (i ∷ own_items r rest) (given r) (given r) (end r) refl (own_here r i rest) refl (t.sits r x g a b)
 
-ended_sits : (header : Header) (x : Seat) (g : Going) (m : Bool) (items : List RankItem) (given : List OwnerItem) (end : Going) → Sits header x g (item.Ended m ∷ items) given end
-    → Sits header (seat_ended x m) g items given end
+ended_sits : (header : Header) (x : Client) (g : Going) (m : Bool) (items : List RankItem) (given : List OwnerItem) (end : Going) → Sits header x g (item.Ended m ∷ items) given end
+    → Sits header (client_ended x m) g items given end
 ended_sits header x g m items given end t =
     record { back = t.back; begins = t.begins; stream = begin_ended header x.held g t.back m items t.stream; waits = t.waits; enough = t.enough; ends = t.ends }
 
 -- nothing of it is done
-kept : (s : Setting) (d : Desk) (goings : List Going) (coming : ℕ → List RankItem) (seats : List Seat) (given : ℕ → List OwnerItem) (end : ℕ → Going) → length seats ≡ length d.seats
-    → Stands s (keeps d seats).desk goings coming given end → Stepped s d goings coming (keeps d seats) given end
-kept s d goings coming seats given end l t = record { after = goings; folded = refl; ranks = l; stands = t }
+kept : (s : Setting) (d : Owner) (goings : List Going) (coming : ℕ → List RankItem) (clients : List Client) (given : ℕ → List OwnerItem) (end : ℕ → Going) → length clients ≡ length d.clients
+    → Stands s (keeps d clients).owner goings coming given end → Stepped s d goings coming (keeps d clients) given end
+kept s d goings coming clients given end l t = record { after = goings; folded = refl; ranks = l; stands = t }
 
 -- ---- an offer that its number makes alone
 
-solo_stands : (s : Setting) (d : Desk) (goings : List Going) (r c : ℕ) (o : Offer) (rest : List Arrival) (x : Seat) (g : Going) (given : ℕ → List OwnerItem) (end : ℕ → Going) → slice_get d.seats r ≡ Some x
+solo_stands : (s : Setting) (d : Owner) (goings : List Going) (r c : ℕ) (o : Offer) (rest : List Arrival) (x : Client) (g : Going) (given : ℕ → List OwnerItem) (end : ℕ → Going) → slice_get d.clients r ≡ Some x
     → slice_get goings r ≡ Some g → x.held ≡ None → strange_offer s.header d.reached (Some o) ≡ false
     → Stands s d goings (λ q. own_items q ((r, item.Offer c o) ∷ rest)) (λ q. (does_solo s d r c o).given q ++ given q) end
     → Stepped s d goings (λ q. own_items q rest) (does_solo s d r c o) given end
@@ -134,7 +134,7 @@ solo_stands s d goings r c o rest x g given end a b free fit t = record {
   ranks = refl;
   stands = record {
     long = t.long ∙ sym (length-set goings r heard);
-    sits = λ q z h e f. by_number (λ p. slice_get d.seats p ≡ Some z → slice_get (set goings r heard) p ≡ Some h → Sits s.header z h (own_items p rest) (given p) (end p)) q r here (λ n. there q z h n) e f;
+    sits = λ q z h e f. by_number (λ p. slice_get d.clients p ≡ Some z → slice_get (set goings r heard) p ≡ Some h → Sits s.header z h (own_items p rest) (given p) (end p)) q r here (λ n. there q z h n) e f;
     held = λ q z p e f. not_stray s.header d.reached (max d.reached (needed_now s (puts_of (r, o)))) p (omega arith) (t.held q z p e f);
     counted = let k = t.counted in omega arith;
     small = within;
@@ -165,145 +165,145 @@ solo_stands s d goings r c o rest x g given end a b free fit t = record {
         below : {n k l : ℕ} → n ≤ k → k < l → n < l
         below h k = omega arith
 
-    here : {z : Seat} {h : Going} → slice_get d.seats r ≡ Some z → slice_get (set goings r heard) r ≡ Some h → Sits s.header z h (own_items r rest) (given r) (end r)
+    here : {z : Client} {h : Going} → slice_get d.clients r ≡ Some z → slice_get (set goings r heard) r ≡ Some h → Sits s.header z h (own_items r rest) (given r) (end r)
     here {z} {h} e f =
-        subst (λ (w : Seat). Sits s.header w h (own_items r rest) (given r) (end r)) (same_Some x z (sym a ∙ e))
+        subst (λ (w : Client). Sits s.header w h (own_items r rest) (given r) (end r)) (same_Some x z (sym a ∙ e))
         (subst (λ (w : Going). Sits s.header x w (own_items r rest) (given r) (end r)) (same_Some heard h (sym (entry_set goings r g heard b) ∙ f))
         (heard_now s.header x (advance s.header g).0 o (solo s r o d.state).1 (own_items r rest) (given r) (end r) free (fit_passes s o (solo s r o d.state).1 (solo_fits s r o d.state) few) now.1))
 
-    there : (q : ℕ) (z : Seat) (h : Going) → (q ≡ r → ⊥) → slice_get d.seats q ≡ Some z → slice_get (set goings r heard) q ≡ Some h → Sits s.header z h (own_items q rest) (given q) (end q)
+    there : (q : ℕ) (z : Client) (h : Going) → (q ≡ r → ⊥) → slice_get d.clients q ≡ Some z → slice_get (set goings r heard) q ≡ Some h → Sits s.header z h (own_items q rest) (given q) (end q)
     there q z h n e f =
         sits_as s.header z z h (own_items q ((r, item.Offer c o) ∷ rest)) (own_items q rest) ((does_solo s d r c o).given q ++ given q) (given q) (end q) refl (own_other q r (item.Offer c o) rest n)
         (ap (λ (xs : List OwnerItem). xs ++ given q) (to_one_other q r (solo s r o d.state).1 n)) (t.sits q z h e (sym (entry_set_other goings r q heard n) ∙ f))
 
 -- ---- a meeting of all
 
-held_each : (seats : List Seat) (P : Offer → Type 0) → list_all holds seats ≡ true → ((q : ℕ) (x : Seat) (o : Offer) → slice_get seats q ≡ Some x → x.held ≡ Some o → P o)
-    → (q : ℕ) (o : Offer) → slice_get (offers_held seats) q ≡ Some o → P o
-held_each seats P all f q o e =
-    let x = entry_beside (offers_held seats) seats q o (offers_long seats all) e in
+held_each : (clients : List Client) (P : Offer → Type 0) → list_all holds clients ≡ true → ((q : ℕ) (x : Client) (o : Offer) → slice_get clients q ≡ Some x → x.held ≡ Some o → P o)
+    → (q : ℕ) (o : Offer) → slice_get (offers_held clients) q ≡ Some o → P o
+held_each clients P all f q o e =
+    let x = entry_beside (offers_held clients) clients q o (offers_long clients all) e in
     by_held x.0 x.1 (some_or_none x.0.held)
   where
-    by_held : (x : Seat) → slice_get seats q ≡ Some x → (x.held ≡ None) ⊎ ((p : Offer) × (x.held ≡ Some p)) → P o
-    by_held x a (inl none) = absurd (never (sym (ap (λ (m : Option Offer). is_some m) none) ∙ passes_at holds seats all q x a))
+    by_held : (x : Client) → slice_get clients q ≡ Some x → (x.held ≡ None) ⊎ ((p : Offer) × (x.held ≡ Some p)) → P o
+    by_held x a (inl none) = absurd (never (sym (ap (λ (m : Option Offer). is_some m) none) ∙ passes_at holds clients all q x a))
       where
         never : false ≡ true → ⊥
         never w = cc
-    by_held x a (inr (p, h)) = subst P (same_Some p o (sym (offer_at seats q x p all a h) ∙ e)) (f q x p a h)
+    by_held x a (inr (p, h)) = subst P (same_Some p o (sym (offer_at clients q x p all a h) ∙ e)) (f q x p a h)
 
-meeting_stands : (s : Setting) (d : Desk) (goings : List Going) (coming : ℕ → List RankItem) (seats : List Seat) (given : ℕ → List OwnerItem) (end : ℕ → Going) → list_all holds seats ≡ true
-    → length seats ≡ length d.seats
-    → Stands s (keeps d seats).desk goings coming (λ q. (does_meeting s d seats).given q ++ given q) end → Stepped s d goings coming (does_meeting s d seats) given end
-meeting_stands s d goings coming seats given end all same t = record {
-  after = goings_after s (offers_held seats) d.state goings;
-  folded = meeting_is s (offers_held seats) d.state goings offers;
-  ranks = length-map seats freed ∙ same;
+meeting_stands : (s : Setting) (d : Owner) (goings : List Going) (coming : ℕ → List RankItem) (clients : List Client) (given : ℕ → List OwnerItem) (end : ℕ → Going) → list_all holds clients ≡ true
+    → length clients ≡ length d.clients
+    → Stands s (keeps d clients).owner goings coming (λ q. (does_meeting s d clients).given q ++ given q) end → Stepped s d goings coming (does_meeting s d clients) given end
+meeting_stands s d goings coming clients given end all same t = record {
+  after = goings_after s (offers_held clients) d.state goings;
+  folded = meeting_is s (offers_held clients) d.state goings offers;
+  ranks = length-map clients freed ∙ same;
   stands = record {
-    long = length-map seats freed ∙ t.long ∙ sym (goings_long s (offers_held seats) d.state goings (offers_long seats all ∙ t.long));
+    long = length-map clients freed ∙ t.long ∙ sym (goings_long s (offers_held clients) d.state goings (offers_long clients all ∙ t.long));
     sits = λ q z h e f. sits q z h e f;
-    held = λ q z o e f. absurd (none_freed seats q z o e f);
+    held = λ q z o e f. absurd (none_freed clients q z o e f);
     counted = within;
     small = below;
   };
 }
   where
-    offers : offers_of (map (advance s.header) goings) ≡ offers_held seats
-    offers = same_offers s.header seats goings t.long all (λ q x g o a b h. (t.sits q x g a b).waits o h)
+    offers : offers_of (map (advance s.header) goings) ≡ offers_held clients
+    offers = same_offers s.header clients goings t.long all (λ q x g o a b h. (t.sits q x g a b).waits o h)
 
-    within : (meeting s (offers_held seats) d.state).0.records ≤ max d.reached (needed_now s (flat_map puts_of (enumerate_from 0 (offers_held seats))))
-    within = meeting_within s (offers_held seats) d.state d.reached t.counted (held_each seats (λ o. o.known ≤ d.reached) all (λ q x o a h. known_low s.header d.reached o (t.held q x o a h)))
+    within : (meeting s (offers_held clients) d.state).0.records ≤ max d.reached (needed_now s (flat_map puts_of (enumerate_from 0 (offers_held clients))))
+    within = meeting_within s (offers_held clients) d.state d.reached t.counted (held_each clients (λ o. o.known ≤ d.reached) all (λ q x o a h. known_low s.header d.reached o (t.held q x o a h)))
 
-    below : max d.reached (needed_now s (flat_map puts_of (enumerate_from 0 (offers_held seats)))) < record_limit s.header.version
+    below : max d.reached (needed_now s (flat_map puts_of (enumerate_from 0 (offers_held clients)))) < record_limit s.header.version
     below =
-        less_max d.reached (needed_now s (flat_map puts_of (enumerate_from 0 (offers_held seats)))) (record_limit s.header.version) t.small
-        (meeting_small s d.reached (offers_held seats) (held_each seats (λ o. strange_offer s.header d.reached (Some o) ≡ false) all t.held))
+        less_max d.reached (needed_now s (flat_map puts_of (enumerate_from 0 (offers_held clients)))) (record_limit s.header.version) t.small
+        (meeting_small s d.reached (offers_held clients) (held_each clients (λ o. strange_offer s.header d.reached (Some o) ≡ false) all t.held))
 
-    none_freed : (xs : List Seat) (q : ℕ) (z : Seat) (o : Offer) → slice_get (map freed xs) q ≡ Some z → z.held ≡ Some o → ⊥
+    none_freed : (xs : List Client) (q : ℕ) (z : Client) (o : Offer) → slice_get (map freed xs) q ≡ Some z → z.held ≡ Some o → ⊥
     none_freed [] q z o e f = cc
-    none_freed (x ∷ xs) zero z o e f = let k : z.held ≡ None = ap (λ (w : Seat). w.held) (sym (same_Some (freed x) z e)) in never (sym k ∙ f)
+    none_freed (x ∷ xs) zero z o e f = let k : z.held ≡ None = ap (λ (w : Client). w.held) (sym (same_Some (freed x) z e)) in never (sym k ∙ f)
       where
         never : None ≡ Some o → ⊥
         never w = cc
     none_freed (x ∷ xs) (suc q) z o e f = none_freed xs q z o e f
 
-    one : (q : ℕ) (x : Seat) (g : Going) (o : Offer) → slice_get seats q ≡ Some x → slice_get goings q ≡ Some g → x.held ≡ Some o → (y : Replied s (offers_held seats) d.state q)
+    one : (q : ℕ) (x : Client) (g : Going) (o : Offer) → slice_get clients q ≡ Some x → slice_get goings q ≡ Some g → x.held ≡ Some o → (y : Replied s (offers_held clients) d.state q)
         → Sits s.header (freed x) (hears s.header (advance s.header g).0 y.reply) (coming q) (given q) (end q)
     one q x g o a b h y =
         heard_now s.header (freed x) (advance s.header g).0 o y.reply (coming q) (given q) (end q) refl
-        (fit_passes s o y.reply (meeting_fits s (offers_held seats) d.state q o y.reply (offer_at seats q x o all a h) y.is) (few y.reply y.records))
+        (fit_passes s o y.reply (meeting_fits s (offers_held clients) d.state q o y.reply (offer_at clients q x o all a h) y.is) (few y.reply y.records))
         (held_now s.header x g o (coming q) (Reply y.reply ∷ given q) (end q) h
-        (sits_as s.header x x g (coming q) (coming q) (to_each (meeting s (offers_held seats) d.state).1 q ++ given q) (Reply y.reply ∷ given q) (end q) refl refl
+        (sits_as s.header x x g (coming q) (coming q) (to_each (meeting s (offers_held clients) d.state).1 q ++ given q) (Reply y.reply ∷ given q) (end q) refl refl
         (ap (λ (m : Option reply.Reply). elim m [ None ↦ [] | Some z ↦ Reply z ∷ [] ] ++ given q) y.is) (t.sits q x g a b)))
       where
-        few : (z : reply.Reply) → z.records ≡ (meeting s (offers_held seats) d.state).0.records → z.records < record_limit s.header.version
+        few : (z : reply.Reply) → z.records ≡ (meeting s (offers_held clients) d.state).0.records → z.records < record_limit s.header.version
         few z w = least z.records _ _ _ w within below
           where
             least : (n k m l : ℕ) → n ≡ k → k ≤ m → m < l → n < l
             least n k m l e f g = omega arith
 
-    sits : (q : ℕ) (z : Seat) (h : Going) → slice_get (map freed seats) q ≡ Some z → slice_get (goings_after s (offers_held seats) d.state goings) q ≡ Some h → Sits s.header z h (coming q) (given q) (end q)
+    sits : (q : ℕ) (z : Client) (h : Going) → slice_get (map freed clients) q ≡ Some z → slice_get (goings_after s (offers_held clients) d.state goings) q ≡ Some h → Sits s.header z h (coming q) (given q) (end q)
     sits q z h e f =
-        let x = entry_beside (map freed seats) seats q z (length-map seats freed) e in
-        let g = entry_beside seats goings q x.0 t.long x.1 in
+        let x = entry_beside (map freed clients) clients q z (length-map clients freed) e in
+        let g = entry_beside clients goings q x.0 t.long x.1 in
         by_held x.0 x.1 g.0 g.1 (some_or_none x.0.held)
       where
-        by_held : (x : Seat) → slice_get seats q ≡ Some x → (g : Going) → slice_get goings q ≡ Some g → (x.held ≡ None) ⊎ ((o : Offer) × (x.held ≡ Some o)) → Sits s.header z h (coming q) (given q) (end q)
-        by_held x a g b (inl none) = absurd (never (sym (ap (λ (m : Option Offer). is_some m) none) ∙ passes_at holds seats all q x a))
+        by_held : (x : Client) → slice_get clients q ≡ Some x → (g : Going) → slice_get goings q ≡ Some g → (x.held ≡ None) ⊎ ((o : Offer) × (x.held ≡ Some o)) → Sits s.header z h (coming q) (given q) (end q)
+        by_held x a g b (inl none) = absurd (never (sym (ap (λ (m : Option Offer). is_some m) none) ∙ passes_at holds clients all q x a))
           where
             never : false ≡ true → ⊥
             never w = cc
         by_held x a g b (inr (o, k)) =
-            let y = replied s (offers_held seats) d.state q o (offer_at seats q x o all a k) in
-            let at_seat : slice_get (map freed seats) q ≡ Some (freed x) = slice_get-map freed seats q ∙ ap (λ (m : Option Seat). elim m [ None ↦ None | Some w ↦ Some (freed w) ]) a in
-            let at_going = going_after s (offers_held seats) d.state goings q g y.reply b y.is in
-            subst (λ (w : Seat). Sits s.header w h (coming q) (given q) (end q)) (same_Some (freed x) z (sym at_seat ∙ e))
+            let y = replied s (offers_held clients) d.state q o (offer_at clients q x o all a k) in
+            let at_client : slice_get (map freed clients) q ≡ Some (freed x) = slice_get-map freed clients q ∙ ap (λ (m : Option Client). elim m [ None ↦ None | Some w ↦ Some (freed w) ]) a in
+            let at_going = going_after s (offers_held clients) d.state goings q g y.reply b y.is in
+            subst (λ (w : Client). Sits s.header w h (coming q) (given q) (end q)) (same_Some (freed x) z (sym at_client ∙ e))
             (subst (λ (w : Going). Sits s.header (freed x) w (coming q) (given q) (end q)) (same_Some _ h (sym at_going ∙ f)) (one q x g o a b k y))
 
 -- an offer that arrives is its rank's next
-pub own_offer : (s : Setting) (d : Desk) (goings : List Going) (r c : ℕ) (o : Offer) (rest : List Arrival) (x : Seat) (g : Going) (given : ℕ → List OwnerItem) (end : ℕ → Going) → slice_get d.seats r ≡ Some x
+pub own_offer : (s : Setting) (d : Owner) (goings : List Going) (r c : ℕ) (o : Offer) (rest : List Arrival) (x : Client) (g : Going) (given : ℕ → List OwnerItem) (end : ℕ → Going) → slice_get d.clients r ≡ Some x
     → slice_get goings r ≡ Some g → x.held ≡ None → Stands s d goings (λ q. own_items q ((r, item.Offer c o) ∷ rest)) given end → (advance s.header g).1 ≡ Some o
 own_offer s d goings r c o rest x g given end a b free t =
     (offered_now s.header x g c o (own_items r rest) (given r) (end r) free (mine_first s d goings r (item.Offer c o) rest x g given end a b t)).0
 
 -- and is held
-pub held_keeps : (s : Setting) (d : Desk) (goings : List Going) (r c : ℕ) (o : Offer) (rest : List Arrival) (x : Seat) (g : Going) (given : ℕ → List OwnerItem) (end : ℕ → Going) → slice_get d.seats r ≡ Some x
+pub held_keeps : (s : Setting) (d : Owner) (goings : List Going) (r c : ℕ) (o : Offer) (rest : List Arrival) (x : Client) (g : Going) (given : ℕ → List OwnerItem) (end : ℕ → Going) → slice_get d.clients r ≡ Some x
     → slice_get goings r ≡ Some g → x.held ≡ None → strange_offer s.header d.reached (Some o) ≡ false → Stands s d goings (λ q. own_items q ((r, item.Offer c o) ∷ rest)) given end
-    → Stands s (keeps d (set d.seats r (seat_held x o))).desk goings (λ q. own_items q rest) given end
+    → Stands s (keeps d (set d.clients r (client_held x o))).owner goings (λ q. own_items q rest) given end
 held_keeps s d goings r c o rest x g given end a b free fit u =
     let now = offered_now s.header x g c o (own_items r rest) (given r) (end r) free (mine_first s d goings r (item.Offer c o) rest x g given end a b u) in
-    set_one s d goings r (item.Offer c o) rest x (seat_held x o) g given end a b (hold_it s.header (seat_held x o) g o (own_items r rest) (given r) (end r) refl now.0 now.1)
+    set_one s d goings r (item.Offer c o) rest x (client_held x o) g given end a b (hold_it s.header (client_held x o) g o (own_items r rest) (given r) (end r) refl now.0 now.1)
     (λ p e. subst (λ (q : Offer). strange_offer s.header d.reached (Some q) ≡ false) (same_Some o p e) fit) u
 
 -- ---- an arrival
 
-offer_stands : (s : Setting) (d : Desk) (goings : List Going) (r c : ℕ) (o : Offer) (rest : List Arrival) (x : Seat) (g : Going) (given : ℕ → List OwnerItem) (end : ℕ → Going) → slice_get d.seats r ≡ Some x
+offer_stands : (s : Setting) (d : Owner) (goings : List Going) (r c : ℕ) (o : Offer) (rest : List Arrival) (x : Client) (g : Going) (given : ℕ → List OwnerItem) (end : ℕ → Going) → slice_get d.clients r ≡ Some x
     → slice_get goings r ≡ Some g → x.held ≡ None → strange_offer s.header d.reached (Some o) ≡ false → (kind : OfferKind)
     → Stands s d goings (λ q. own_items q ((r, item.Offer c o) ∷ rest)) (λ q. (at_offer s d r c o x kind).given q ++ given q) end
     → Stepped s d goings (λ q. own_items q rest) (at_offer s d r c o x kind) given end
 offer_stands s d goings r c o rest x g given end a b free fit offer.Solo t = solo_stands s d goings r c o rest x g given end a b free fit t
-offer_stands s d goings r c o rest x g given end a b free fit (offer.Meet kind) t = by_full (list_all holds seats) refl t
+offer_stands s d goings r c o rest x g given end a b free fit (offer.Meet kind) t = by_full (list_all holds clients) refl t
   where
-    seats : List Seat
-    seats = set d.seats r (seat_held x o)
+    clients : List Client
+    clients = set d.clients r (client_held x o)
 
-    by_full : (full : Bool) → list_all holds (set d.seats r (seat_held x o)) ≡ full
-        → Stands s d goings (λ q. own_items q ((r, item.Offer c o) ∷ rest)) (λ q. (meets_if s d (set d.seats r (seat_held x o)) full).given q ++ given q) end
-        → Stepped s d goings (λ q. own_items q rest) (meets_if s d (set d.seats r (seat_held x o)) full) given end
-    by_full false e u = kept s d goings (λ q. own_items q rest) (set d.seats r (seat_held x o)) given end (length-set d.seats r (seat_held x o)) (held_keeps s d goings r c o rest x g given end a b free fit u)
+    by_full : (full : Bool) → list_all holds (set d.clients r (client_held x o)) ≡ full
+        → Stands s d goings (λ q. own_items q ((r, item.Offer c o) ∷ rest)) (λ q. (meets_if s d (set d.clients r (client_held x o)) full).given q ++ given q) end
+        → Stepped s d goings (λ q. own_items q rest) (meets_if s d (set d.clients r (client_held x o)) full) given end
+    by_full false e u = kept s d goings (λ q. own_items q rest) (set d.clients r (client_held x o)) given end (length-set d.clients r (client_held x o)) (held_keeps s d goings r c o rest x g given end a b free fit u)
     by_full true e u =
-        meeting_stands s d goings (λ q. own_items q rest) (set d.seats r (seat_held x o)) given end e (length-set d.seats r (seat_held x o))
-        (held_keeps s d goings r c o rest x g (λ q. (does_meeting s d (set d.seats r (seat_held x o))).given q ++ given q) end a b free fit u)
+        meeting_stands s d goings (λ q. own_items q rest) (set d.clients r (client_held x o)) given end e (length-set d.clients r (client_held x o))
+        (held_keeps s d goings r c o rest x g (λ q. (does_meeting s d (set d.clients r (client_held x o))).given q ++ given q) end a b free fit u)
 
-pub arrival_stands : (s : Setting) (d : Desk) (goings : List Going) (r : ℕ) (i : RankItem) (rest : List Arrival) (x : Seat) (g : Going) (given : ℕ → List OwnerItem) (end : ℕ → Going) → slice_get d.seats r ≡ Some x
+pub arrival_stands : (s : Setting) (d : Owner) (goings : List Going) (r : ℕ) (i : RankItem) (rest : List Arrival) (x : Client) (g : Going) (given : ℕ → List OwnerItem) (end : ℕ → Going) → slice_get d.clients r ≡ Some x
     → slice_get goings r ≡ Some g → is_strange s d (r, i) ≡ false
     → Stands s d goings (λ q. own_items q ((r, i) ∷ rest)) (λ q. (event s d (r, i)).given q ++ given q) end → Stepped s d goings (λ q. own_items q rest) (event s d (r, i)) given end
 arrival_stands s d goings r (item.Ended m) rest x g given end a b fit t =
     subst (λ (e : Event). Stepped s d goings (λ q. own_items q rest) e given end) (sym is)
-    (kept s d goings (λ q. own_items q rest) (set d.seats r (seat_ended x m)) given end (length-set d.seats r (seat_ended x m))
-    (set_one s d goings r (item.Ended m) rest x (seat_ended x m) g given end a b
+    (kept s d goings (λ q. own_items q rest) (set d.clients r (client_ended x m)) given end (length-set d.clients r (client_ended x m))
+    (set_one s d goings r (item.Ended m) rest x (client_ended x m) g given end a b
     (ended_sits s.header x g m (own_items r rest) (given r) (end r) (mine_first s d goings r (item.Ended m) rest x g given end a b u)) (λ o e. u.held r x o a e) u))
   where
-    is : event s d (r, item.Ended m) ≡ keeps d (set d.seats r (seat_ended x m))
+    is : event s d (r, item.Ended m) ≡ keeps d (set d.clients r (client_ended x m))
     is = event_is s d r (item.Ended m) x a
 
     u : Stands s d goings (λ q. own_items q ((r, item.Ended m) ∷ rest)) given end

@@ -24,7 +24,7 @@ use Rattle.nc_base.specs.declared.step.Reply as reply
 use Rattle.nc_base.specs.declared.step.StepErr.{StepErr}
 use Rattle.overlay_laws.specs.Entries.{In}
 use Rattle.overlay_laws.proofs.SaidLaws.{same_file}
-use Rattle.serial_spec.specs.Desk.{Desk, Event, Seat, at_offer, event, holds, is_strange, meets_if, offers_at, offers_held, offers_met, own_items, step_offers}
+use Rattle.serial_spec.specs.Owner.{Owner, Event, Client, at_offer, event, holds, is_strange, meets_if, offers_at, offers_held, offers_met, own_items, step_offers}
 use Rattle.serial_spec.specs.File.{at}
 use Rattle.serial_spec.specs.FileStep.{Setting, Counted, puts_of}
 use Rattle.serial_spec.specs.HeaderBytes.{count_width}
@@ -44,26 +44,26 @@ use Rattle.thread_run.specs.Owned.{AreSingle, IsSingleOffer}
 use Rattle.thread_run.proofs.CutSteps.{Stands, fits_now, held_keeps, own_offer}
 use Rattle.join_laws.proofs.StrangeLaws.{event_is, strange_alone}
 use Rattle.join_laws.proofs.EventLaws.{own_here, own_other}
-use Rattle.thread_run.proofs.DeskRuns.{seat_held}
+use Rattle.thread_run.proofs.OwnerRuns.{client_held}
 use Rattle.thread_run.proofs.ThreadCalls.{single_go}
 use Rattle.serial_spec.proofs.GrowLaws.{raised_grows, mark_grows}
 
 -- ---- the step that an arrival brings
 
 -- it is the serial run's step of a mark, or none
-pub record BringsStep (s : Setting) (d : Desk) (goings : List Going) (a : Arrival) : Type 0 where
+pub record BringsStep (s : Setting) (d : Owner) (goings : List Going) (a : Arrival) : Type 0 where
   pub mark : Mark
   pub marks : (event s d a).marks ≡ mark ∷ []
-  pub state : (event s d a).desk.state ≡ (after_mark s (d.state, goings) mark).0
+  pub state : (event s d a).owner.state ≡ (after_mark s (d.state, goings) mark).0
   pub bytes : covered s.header (flat_map puts_of (step_offers d a)) ≡ bytes_of_mark s goings mark
 
-abbrev pub Brings : Setting → Desk → List Going → Arrival → Type 0
-Brings s d goings a = ((event s d a).desk.state ≡ d.state) ⊎ BringsStep s d goings a
+abbrev pub Brings : Setting → Owner → List Going → Arrival → Type 0
+Brings s d goings a = ((event s d a).owner.state ≡ d.state) ⊎ BringsStep s d goings a
 
-module _ (s : Setting) (d : Desk) (goings : List Going) (r c : ℕ) (o : Offer) (x : Seat) (g : Going) (a : slice_get d.seats r ≡ Some x) (b : slice_get goings r ≡ Some g)
+module _ (s : Setting) (d : Owner) (goings : List Going) (r c : ℕ) (o : Offer) (x : Client) (g : Going) (a : slice_get d.clients r ≡ Some x) (b : slice_get goings r ≡ Some g)
     (next : (advance s.header g).1 ≡ Some o) where
   offers_are : (kind : OfferKind) → o.kind ≡ kind → step_offers d (r, item.Offer c o) ≡ offers_at d r o x kind
-  offers_are kind k = ap (λ (m : Option Seat). elim m [ None ↦ [] | Some y ↦ offers_at d r o y o.kind ]) a ∙ ap (offers_at d r o x) k
+  offers_are kind k = ap (λ (m : Option Client). elim m [ None ↦ [] | Some y ↦ offers_at d r o y o.kind ]) a ∙ ap (offers_at d r o x) k
 
   event_of : (kind : OfferKind) → o.kind ≡ kind → event s d (r, item.Offer c o) ≡ at_offer s d r c o x kind
   event_of kind k = event_is s d r (item.Offer c o) x a ∙ ap (at_offer s d r c o x) k
@@ -72,7 +72,7 @@ module _ (s : Setting) (d : Desk) (goings : List Going) (r c : ℕ) (o : Offer) 
   brings_solo k = record {
     mark = Solo r c;
     marks = ap (λ (e : Event). e.marks) (event_of offer.Solo k);
-    state = ap (λ (e : Event). e.desk.state) (event_of offer.Solo k)
+    state = ap (λ (e : Event). e.owner.state) (event_of offer.Solo k)
         ∙ sym (ap (λ (st : Counted × List Going). st.0) (solo_goes s r d.state goings g b) ∙ ap (λ (st : Counted × Going). st.0) (solo_of_is s r d.state (advance s.header g) o next));
     bytes = ap (λ (os : List (ℕ × Offer)). covered s.header (flat_map puts_of os)) (offers_are offer.Solo k) ∙ ap (λ (ps : Puts). covered s.header ps) (append-nil (puts_of (r, o)))
         ∙ sym (ap (λ (m : Option Going). some (elim m [ None ↦ None | Some h ↦ (advance s.header h).1 ])) b ∙ ap some next);
@@ -81,25 +81,25 @@ module _ (s : Setting) (d : Desk) (goings : List Going) (r c : ℕ) (o : Offer) 
       some : Option Offer → List ℕ
       some m = elim m [ None ↦ [] | Some p ↦ covered s.header (puts_of (r, p)) ]
 
-  brings_meeting : (kind : _) → o.kind ≡ offer.Meet kind → list_all holds (set d.seats r (seat_held x o)) ≡ true → offers_of (map (advance s.header) goings) ≡ offers_held (set d.seats r (seat_held x o))
+  brings_meeting : (kind : _) → o.kind ≡ offer.Meet kind → list_all holds (set d.clients r (client_held x o)) ≡ true → offers_of (map (advance s.header) goings) ≡ offers_held (set d.clients r (client_held x o))
       → BringsStep s d goings (r, item.Offer c o)
   brings_meeting kind k all same = record {
     mark = Meet d.met;
     marks = ap (λ (e : Event). e.marks) to;
-    state = ap (λ (e : Event). e.desk.state) to ∙ sym (ap (λ (st : Counted × List Going). st.0) (meeting_is s (offers_held (set d.seats r (seat_held x o))) d.state goings same));
-    bytes = ap (λ (os : List (ℕ × Offer)). covered s.header (flat_map puts_of os)) (offers_are (offer.Meet kind) k ∙ ap (offers_met (set d.seats r (seat_held x o))) all)
+    state = ap (λ (e : Event). e.owner.state) to ∙ sym (ap (λ (st : Counted × List Going). st.0) (meeting_is s (offers_held (set d.clients r (client_held x o))) d.state goings same));
+    bytes = ap (λ (os : List (ℕ × Offer)). covered s.header (flat_map puts_of os)) (offers_are (offer.Meet kind) k ∙ ap (offers_met (set d.clients r (client_held x o))) all)
         ∙ sym (ap (λ (os : List Offer). covered s.header (flat_map puts_of (enumerate_from 0 os))) same);
   }
     where
-      to : event s d (r, item.Offer c o) ≡ meets_if s d (set d.seats r (seat_held x o)) true
-      to = event_of (offer.Meet kind) k ∙ ap (meets_if s d (set d.seats r (seat_held x o))) all
+      to : event s d (r, item.Offer c o) ≡ meets_if s d (set d.clients r (client_held x o)) true
+      to = event_of (offer.Meet kind) k ∙ ap (meets_if s d (set d.clients r (client_held x o))) all
 
-  brings_none : (kind : _) → o.kind ≡ offer.Meet kind → list_all holds (set d.seats r (seat_held x o)) ≡ false → (event s d (r, item.Offer c o)).desk.state ≡ d.state
-  brings_none kind k all = ap (λ (e : Event). e.desk.state) (event_of (offer.Meet kind) k ∙ ap (meets_if s d (set d.seats r (seat_held x o))) all)
+  brings_none : (kind : _) → o.kind ≡ offer.Meet kind → list_all holds (set d.clients r (client_held x o)) ≡ false → (event s d (r, item.Offer c o)).owner.state ≡ d.state
+  brings_none kind k all = ap (λ (e : Event). e.owner.state) (event_of (offer.Meet kind) k ∙ ap (meets_if s d (set d.clients r (client_held x o))) all)
 
-pub brings : (s : Setting) (d : Desk) (goings : List Going) (r : ℕ) (i : RankItem) (others : List Arrival) (x : Seat) (g : Going) (given : ℕ → List OwnerItem) (end : ℕ → Going) → slice_get d.seats r ≡ Some x
+pub brings : (s : Setting) (d : Owner) (goings : List Going) (r : ℕ) (i : RankItem) (others : List Arrival) (x : Client) (g : Going) (given : ℕ → List OwnerItem) (end : ℕ → Going) → slice_get d.clients r ≡ Some x
     → slice_get goings r ≡ Some g → is_strange s d (r, i) ≡ false → Stands s d goings (λ q. own_items q ((r, i) ∷ others)) given end → Brings s d goings (r, i)
-brings s d goings r (item.Ended m) others x g given end a b fit t = inl (ap (λ (e : Event). e.desk.state) (event_is s d r (item.Ended m) x a))
+brings s d goings r (item.Ended m) others x g given end a b fit t = inl (ap (λ (e : Event). e.owner.state) (event_is s d r (item.Ended m) x a))
 brings s d goings r (item.Offer c o) others x g given end a b fit t = by_kind o.kind refl
   where
     free : x.held ≡ None
@@ -108,16 +108,16 @@ brings s d goings r (item.Offer c o) others x g given end a b fit t = by_kind o.
     next : (advance s.header g).1 ≡ Some o
     next = own_offer s d goings r c o others x g given end a b free t
 
-    by_full : (kind : _) → o.kind ≡ offer.Meet kind → (full : Bool) → list_all holds (set d.seats r (seat_held x o)) ≡ full → Brings s d goings (r, item.Offer c o)
+    by_full : (kind : _) → o.kind ≡ offer.Meet kind → (full : Bool) → list_all holds (set d.clients r (client_held x o)) ≡ full → Brings s d goings (r, item.Offer c o)
     by_full kind k false e = inl (brings_none s d goings r c o x g a b next kind k e)
     by_full kind k true e =
         let u = held_keeps s d goings r c o others x g given end a b free (fits_now s d r c o fit) t in
         inr (brings_meeting s d goings r c o x g a b next kind k e
-        (same_offers s.header (set d.seats r (seat_held x o)) goings u.long e (λ q y h p f j k'. (u.sits q y h f j).waits p k')))
+        (same_offers s.header (set d.clients r (client_held x o)) goings u.long e (λ q y h p f j k'. (u.sits q y h f j).waits p k')))
 
     by_kind : (kind : OfferKind) → o.kind ≡ kind → Brings s d goings (r, item.Offer c o)
     by_kind offer.Solo k = inr (brings_solo s d goings r c o x g a b next k)
-    by_kind (offer.Meet kind) k = by_full kind k (list_all holds (set d.seats r (seat_held x o))) refl
+    by_kind (offer.Meet kind) k = by_full kind k (list_all holds (set d.clients r (client_held x o))) refl
 
 -- ---- nothing was done
 
@@ -168,8 +168,8 @@ stood_still script s e state order left records (later, legal) l k = by_later la
 
 -- ---- where the owner stood
 
-pub stood_run : (script : Script) (s : Setting) (e : StepErr) (d : Desk) (goings : List Going) (order : List Mark) (later : List Arrival) (left : List ℕ) (records : ℕ) (given : ℕ → List OwnerItem) (end : ℕ → Going)
-    → Stands s d goings (λ q. own_items q later) given end → list_all (λ (a : Arrival). nat_lt a.0 (length d.seats)) later ≡ true → ((rest : List Mark) × IsLegal script (order ++ rest))
+pub stood_run : (script : Script) (s : Setting) (e : StepErr) (d : Owner) (goings : List Going) (order : List Mark) (later : List Arrival) (left : List ℕ) (records : ℕ) (given : ℕ → List OwnerItem) (end : ℕ → Going)
+    → Stands s d goings (λ q. own_items q later) given end → list_all (λ (a : Arrival). nat_lt a.0 (length d.clients)) later ≡ true → ((rest : List Mark) × IsLegal script (order ++ rest))
     → ((a : Arrival) (others : List Arrival) → later ≡ a ∷ others → is_strange s d a ≡ false → (m : Mark) → (event s d a).marks ≡ m ∷ [] → (rest : List Mark) × IsLegal script (order ++ m ∷ rest))
     → OwnerStoodAt s e d later left records → StoodAt script s e (d.state, goings) order left records
 stood_run script s e d goings order later left records given end t low begun next (between_arrivals memory l k) = between begun.0 begun.1 memory l k
@@ -178,16 +178,16 @@ stood_run script s e d goings order later left records given end t low begun nex
     here : Stands s d goings (λ q. own_items q (a ∷ others)) given end
     here = subst (λ (xs : List Arrival). Stands s d goings (λ q. own_items q xs) given end) is t
 
-    numbers : list_all (λ (b : Arrival). nat_lt b.0 (length d.seats)) (a ∷ others) ≡ true
-    numbers = subst (λ (xs : List Arrival). list_all (λ (b : Arrival). nat_lt b.0 (length d.seats)) xs ≡ true) is low
+    numbers : list_all (λ (b : Arrival). nat_lt b.0 (length d.clients)) (a ∷ others) ≡ true
+    numbers = subst (λ (xs : List Arrival). list_all (λ (b : Arrival). nat_lt b.0 (length d.clients)) xs ≡ true) is low
 
     found : (r : ℕ) (i : RankItem) → (r, i) ≡ a → Brings s d goings a
     found r i e =
-        let low = ltb-true r (length d.seats) (ap (λ (b : Arrival). nat_lt b.0 (length d.seats)) e ∙ and_first (nat_lt a.0 (length d.seats)) _ numbers) in
-        let seat = entry_below d.seats r low in
-        let going = entry_beside d.seats goings r seat.0 t.long seat.1 in
+        let low = ltb-true r (length d.clients) (ap (λ (b : Arrival). nat_lt b.0 (length d.clients)) e ∙ and_first (nat_lt a.0 (length d.clients)) _ numbers) in
+        let client = entry_below d.clients r low in
+        let going = entry_beside d.clients goings r client.0 t.long client.1 in
         subst (λ (b : Arrival). Brings s d goings b) e
-        (brings s d goings r i others seat.0 going.0 given end seat.1 going.1 (ap (λ (b : Arrival). is_strange s d b) e ∙ fit)
+        (brings s d goings r i others client.0 going.0 given end client.1 going.1 (ap (λ (b : Arrival). is_strange s d b) e ∙ fit)
         (subst (λ (b : Arrival). Stands s d goings (λ q. own_items q (b ∷ others)) given end) (sym e) here))
 
     by_records : (n m : ℕ) → m ≡ n → (records ≡ n) ⊎ (records ≡ m) → records ≡ n
@@ -197,8 +197,8 @@ stood_run script s e d goings order later left records given end t low begun nex
     by_step : Brings s d goings a → StoodAt script s e (d.state, goings) order left records
     by_step (inl same) =
         stood_still script s e (d.state, goings) order left records begun
-        (torn_same (covered s.header (flat_map puts_of (step_offers d a))) (byte_len (count_width s.header.version)) d.state.file (event s d a).desk.state.file left (ap (λ (c : Counted). c.file) same) l.0)
-        (by_records d.state.records (event s d a).desk.state.records (ap (λ (c : Counted). c.records) same) l.1)
+        (torn_same (covered s.header (flat_map puts_of (step_offers d a))) (byte_len (count_width s.header.version)) d.state.file (event s d a).owner.state.file left (ap (λ (c : Counted). c.file) same) l.0)
+        (by_records d.state.records (event s d a).owner.state.records (ap (λ (c : Counted). c.records) same) l.1)
     by_step (inr b) =
         let n = next a others is fit b.mark b.marks in
         in_step b.mark n.0 n.1

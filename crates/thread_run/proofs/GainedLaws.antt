@@ -10,18 +10,18 @@ use Rattle.nc_base.specs.declared.step.OwnerItem.{OwnerItem}
 use Rattle.nc_base.specs.declared.step.RankItem.{RankItem}
 use Rattle.nc_base.specs.declared.step.StepErr.{StepErr}
 use Rattle.ruled_line.specs.Ends.{End, Receiver}
-use Rattle.serial_spec.specs.Desk.{Desk, is_strange, owed, served, stop_held, stops}
+use Rattle.serial_spec.specs.Owner.{Owner, is_strange, owed, served, stop_held, stops}
 use Rattle.serial_spec.specs.FileStep.{Setting}
 use Rattle.serial_spec.specs.History.{Arrival}
 use Rattle.join_laws.proofs.JoinLaws.{owed_stop}
 use Rattle.thread_run.specs.Halted.{of_fault, of_stranger, HasFinished, HasHalted, IsHaltAt, IsLeft, IsNoMore, Outcome}
-use Rattle.thread_run.specs.Owned.{desk_at, desk_calls, run, Grows, HasRun, Standing}
-use Rattle.thread_run.specs.Serving.{arrived, gained, more_on, HavePut}
-use Rattle.thread_run.specs.Stopping.{stops_for, AllHaveEnded, HaveEnded, IsMore}
-use Rattle.thread_run.specs.declared.serving.Halt.{Halt}
-use Rattle.thread_run.specs.declared.serving.Halt.TheVariants as halt
+use Rattle.thread_run.specs.Owned.{owner_at, owner_calls, run, Grows, HasRun, Standing}
+use Rattle.thread_run.specs.Service.{arrived, gained, more_on, HavePut}
+use Rattle.thread_run.specs.Stops.{stops_for, AllHaveEnded, HaveEnded, IsMore}
+use Rattle.thread_run.specs.declared.service.Halt.{Halt}
+use Rattle.thread_run.specs.declared.service.Halt.TheVariants as halt
 use Rattle.thread_run.proofs.AlikeLaws.{lines_as, lines_twice}
-use Rattle.thread_run.proofs.DeskRuns.{calls_stop, stops_at}
+use Rattle.thread_run.proofs.OwnerRuns.{calls_stop, stops_at}
 use Rattle.thread_run.proofs.StopLaws.{stops_joined}
 use Rattle.list_laws.proofs.Places.{entry_below}
 
@@ -78,8 +78,8 @@ outcome hints s old mid now flags left before n held made marks heard mid_lines 
   run = a.run;
   order = a.order;
   heard_all = a.heard_all;
-  stopped = lines_as a.middle.lines lines (λ q. stops (desk_at a.middle []) a.later q ++ stops_for b.more q) (stops (desk_at a.middle []) (a.later ++ b.more)) (λ q l. joined q)
-      (lines_twice a.middle.lines mid_lines lines (stops (desk_at a.middle []) a.later) (stops_for b.more) a.stopped b.stopped);
+  stopped = lines_as a.middle.lines lines (λ q. stops (owner_at a.middle []) a.later q ++ stops_for b.more q) (stops (owner_at a.middle []) (a.later ++ b.more)) (λ q l. joined q)
+      (lines_twice a.middle.lines mid_lines lines (stops (owner_at a.middle []) a.later) (stops_for b.more) a.stopped b.stopped);
   later = a.later;
   more = b.more;
   parts = refl;
@@ -87,43 +87,43 @@ outcome hints s old mid now flags left before n held made marks heard mid_lines 
   none = b.last;
 }
   where
-    joined : (q : ℕ) → stops (desk_at a.middle []) (a.later ++ b.more) q ≡ stops (desk_at a.middle []) a.later q ++ stops_for b.more q
-    joined q = ap (λ (items : List OwnerItem). stop_held (slice_get a.middle.seats q) ++ items) (stops_joined q a.later b.more) ∙ sym (append_assoc (stop_held (slice_get a.middle.seats q)) (stops_for a.later q) (stops_for b.more q))
+    joined : (q : ℕ) → stops (owner_at a.middle []) (a.later ++ b.more) q ≡ stops (owner_at a.middle []) a.later q ++ stops_for b.more q
+    joined q = ap (λ (items : List OwnerItem). stop_held (slice_get a.middle.clients q) ++ items) (stops_joined q a.later b.more) ∙ sym (append_assoc (stop_held (slice_get a.middle.clients q)) (stops_for a.later q) (stops_for b.more q))
 
 -- ---- where nothing more is done
 
-pub record StoppedAt (hints : Hints) (s : Setting) (d : Desk) (last : List Arrival) (number : Option ℕ) : Type 0 where
-  pub desk : (served s d last).desk ≡ d
+pub record StoppedAt (hints : Hints) (s : Setting) (d : Owner) (last : List Arrival) (number : Option ℕ) : Type 0 where
+  pub owner : (served s d last).owner ≡ d
   pub marks : (served s d last).marks ≡ []
   pub stranger : (served s d last).stranger ≡ number
   pub owes : (q : ℕ) → owed s d last q ≡ stops d last q
-  pub calls : desk_calls hints s d last ≡ []
+  pub calls : owner_calls hints s d last ≡ []
 
-stopped_none : (hints : Hints) (s : Setting) (d : Desk) (last : List Arrival) → last ≡ [] → StoppedAt hints s d last None
+stopped_none : (hints : Hints) (s : Setting) (d : Owner) (last : List Arrival) → last ≡ [] → StoppedAt hints s d last None
 stopped_none hints s d last e =
-    subst (λ (xs : List Arrival). StoppedAt hints s d xs None) (sym e) (record { desk = refl; marks = refl; stranger = refl; owes = λ q. refl; calls = refl })
+    subst (λ (xs : List Arrival). StoppedAt hints s d xs None) (sym e) (record { owner = refl; marks = refl; stranger = refl; owes = λ q. refl; calls = refl })
 
-stopped_strange : (hints : Hints) (s : Setting) (d : Desk) (a : Arrival) (rest last : List Arrival) → last ≡ a ∷ rest → is_strange s d a ≡ true → StoppedAt hints s d last (Some a.0)
+stopped_strange : (hints : Hints) (s : Setting) (d : Owner) (a : Arrival) (rest last : List Arrival) → last ≡ a ∷ rest → is_strange s d a ≡ true → StoppedAt hints s d last (Some a.0)
 stopped_strange hints s d a rest last e f =
     let at = stops_at s d a rest f in
     subst (λ (xs : List Arrival). StoppedAt hints s d xs (Some a.0)) (sym e)
-    (record { desk = at.desk; marks = at.marks; stranger = at.stranger; owes = λ q. owed_stop s d a rest q f; calls = calls_stop hints s d a rest f })
+    (record { owner = at.owner; marks = at.marks; stranger = at.stranger; owes = λ q. owed_stop s d a rest q f; calls = calls_stop hints s d a rest f })
 
 no_fault : {A : Type 0} (e : StepErr) → of_fault (halt.Fault e) ≡ None → A
 no_fault e f = absurd cc
 
--- the desk that the first arrivals lead to
-abbrev reached_at : Setting → Standing → List Arrival → List ℕ → Desk
-reached_at s before first file = (served s (desk_at before file) first).desk
+-- the owner that the first arrivals lead to
+abbrev reached_at : Setting → Standing → List Arrival → List ℕ → Owner
+reached_at s before first file = (served s (owner_at before file) first).owner
 
 pub stopped_at : (hints : Hints) (s : Setting) (before middle : Standing) (first later more last : List Arrival) (n : ℕ) (held : Option (List ℕ)) (made : Option (List DiskCall)) (h : Halt) (file : List ℕ)
     → HasRun hints s first before middle → last ≡ later ++ more → IsHaltAt s middle later n held made h → IsNoMore more h → of_fault h ≡ None
-    → StoppedAt hints s (served s (desk_at before file) first).desk last (of_stranger h)
+    → StoppedAt hints s (served s (owner_at before file) first).owner last (of_stranger h)
 stopped_at hints s before middle first later more last n held made halt.Ended file run parts at none f =
     stopped_none hints s (reached_at s before first file) last (parts ∙ (λ i. at.0 i ++ none i))
 stopped_at hints s before middle first later more last n held made (halt.Stranger number) file run parts at none f =
     stopped_strange hints s (reached_at s before first file) (number, at.0.item) more last (parts ∙ ap (λ (xs : List Arrival). xs ++ more) at.0.last)
-    (ap (λ (d : Desk). is_strange s d (number, at.0.item)) (run.moved.alike file).desk ∙ at.0.strange (reached_at s before first file).state.file)
+    (ap (λ (d : Owner). is_strange s d (number, at.0.item)) (run.moved.alike file).owner ∙ at.0.strange (reached_at s before first file).state.file)
 stopped_at hints s before middle first later more last n held made (halt.Fault e) file run parts at none f = no_fault e f
 
 pub left_at : (s : Setting) (middle : Standing) (later : List Arrival) (n : ℕ) (held : Option (List ℕ)) (made : Option (List DiskCall)) (h : Halt) → IsHaltAt s middle later n held made h → of_fault h ≡ None → IsLeft middle n held made

@@ -13,16 +13,16 @@ use Rattle.nc_base.specs.declared.step.StepErr.{StepErr}
 use Rattle.nc_base.specs.declared.step.StepErr.TheVariants as fault
 use Rattle.nc_outside.specs.Cause.{Rose}
 use Rattle.ruled_line.specs.Ends.{End, Receiver}
-use Rattle.serial_spec.specs.Desk.{free_seat, is_strange, stop_held, stops, Seat}
+use Rattle.serial_spec.specs.Owner.{free_client, is_strange, stop_held, stops, Client}
 use Rattle.serial_spec.specs.FileStep.{Setting}
 use Rattle.serial_spec.specs.History.{Arrival}
 use Rattle.turn_run.specs.Counts.{IsCount}
 use Rattle.thread_run.specs.Halted.{HasFinished, HasHaltCause, HasHalted, HasSeenAll, HasServed}
-use Rattle.thread_run.specs.Owned.{desk_at, opening_standing, standing_at, Grows, HasDone, IsSteady, Standing}
-use Rattle.thread_run.specs.Stopping.{held_stops, stops_for, AllHaveEnded, HaveEnded, IsMore}
-use Rattle.thread_run.specs.declared.desk.Desk.{Desk as Held}
-use Rattle.thread_run.specs.declared.serving.Halt.{Halt}
-use Rattle.thread_run.specs.declared.serving.Halt.TheVariants as halt
+use Rattle.thread_run.specs.Owned.{owner_at, opening_standing, standing_at, Grows, HasDone, IsSteady, Standing}
+use Rattle.thread_run.specs.Stops.{held_stops, stops_for, AllHaveEnded, HaveEnded, IsMore}
+use Rattle.thread_run.specs.declared.owner.Owner.{Owner as Held}
+use Rattle.thread_run.specs.declared.service.Halt.{Halt}
+use Rattle.thread_run.specs.declared.service.Halt.TheVariants as halt
 use Rattle.thread_run.specs.Refused.{IsFaultAt}
 use Rattle.thread_run.proofs.RefusedSteps.{fault_none}
 use Rattle.thread_run.proofs.AlikeLaws.{lines_as, lines_none, lines_twice}
@@ -42,7 +42,7 @@ pub record HasTakenOne (mid now : Receiver RankItem) (left end : List Bool) (a :
   pub noted : (arrivals : List Arrival) → HaveEnded left arrivals → HaveEnded end (arrivals ++ a ∷ [])
 
 pub served_more : (hints : Hints) (s : Setting) (old mid now : Receiver RankItem) (left end : List Bool) (before x y : Standing) (a : Arrival) → HasServed hints s old mid left before x → HasTakenOne mid now left end a
-    → ((file : List ℕ) → is_strange s (desk_at x file) a ≡ false) → HasDone hints s a x y → HasServed hints s old now end before y
+    → ((file : List ℕ) → is_strange s (owner_at x file) a ≡ false) → HasDone hints s a x y → HasServed hints s old now end before y
 served_more hints s old mid now left end before x y a h t fit done = record {
   more = h.more ++ a ∷ [];
   taken = more_one old mid now h.more a h.taken t.items t.senders t.of t.low;
@@ -53,7 +53,7 @@ served_more hints s old mid now left end before x y a h t fit done = record {
 -- ---- where it stops
 
 pub halt_ended : (hints : Hints) (s : Setting) (old mid : Receiver RankItem) (left : List Bool) (before x : Standing) (lines : List (End OwnerItem)) → HasServed hints s old mid left before x
-    → Grows x.lines (held_stops x.seats) lines → AllHaveEnded old.senders left → HasHalted hints s old mid left before x.records x.told x.calls x.order x.heard lines halt.Ended
+    → Grows x.lines (held_stops x.clients) lines → AllHaveEnded old.senders left → HasHalted hints s old mid left before x.records x.told x.calls x.order x.heard lines halt.Ended
 halt_ended hints s old mid left before x lines h g all = record {
   first = h.more;
   later = [];
@@ -63,14 +63,14 @@ halt_ended hints s old mid left before x lines h g all = record {
   run = h.run;
   order = refl;
   heard_all = refl;
-  stopped = lines_as x.lines lines (held_stops x.seats) (stops (desk_at x []) []) (λ q l. append-nil (stop_held (slice_get x.seats q))) g;
+  stopped = lines_as x.lines lines (held_stops x.clients) (stops (owner_at x []) []) (λ q l. append-nil (stop_held (slice_get x.clients q))) g;
   halted = (refl, record { records = refl; told = refl; calls = refl });
   seen = all;
 }
 
 pub halt_strange : (hints : Hints) (s : Setting) (old mid now : Receiver RankItem) (left end : List Bool) (before x : Standing) (number : ℕ) (item : RankItem) (first last : List (End OwnerItem))
-    → HasServed hints s old mid left before x → HasTakenOne mid now left end (number, item) → ((file : List ℕ) → is_strange s (desk_at x file) (number, item) ≡ true)
-    → Grows x.lines (held_stops x.seats) first → Grows first (stops_for ((number, item) ∷ [])) last
+    → HasServed hints s old mid left before x → HasTakenOne mid now left end (number, item) → ((file : List ℕ) → is_strange s (owner_at x file) (number, item) ≡ true)
+    → Grows x.lines (held_stops x.clients) first → Grows first (stops_for ((number, item) ∷ [])) last
     → HasHalted hints s old now end before x.records x.told x.calls x.order x.heard last (halt.Stranger number)
 halt_strange hints s old mid now left end before x number item first last h t strange g k = record {
   first = h.more;
@@ -81,13 +81,13 @@ halt_strange hints s old mid now left end before x number item first last h t st
   run = h.run;
   order = refl;
   heard_all = refl;
-  stopped = lines_twice x.lines first last (held_stops x.seats) (stops_for ((number, item) ∷ [])) g k;
+  stopped = lines_twice x.lines first last (held_stops x.clients) (stops_for ((number, item) ∷ [])) g k;
   halted = (record { item = item; last = refl; strange = strange }, record { records = refl; told = refl; calls = refl });
   seen = tt;
 }
 
 pub halt_fault : (hints : Hints) (s : Setting) (old mid now : Receiver RankItem) (left end : List Bool) (before x : Standing) (a : Arrival) (e : StepErr) (n : ℕ) (held : Option (List ℕ)) (made : Option (List DiskCall))
-    (marks : List Mark) (heard : Option (List (Mark × ℕ))) (last : List (End OwnerItem)) → HasServed hints s old mid left before x → HasTakenOne mid now left end a → marks ≡ x.order → heard ≡ x.heard → Grows x.lines (stops (desk_at x []) (a ∷ [])) last
+    (marks : List Mark) (heard : Option (List (Mark × ℕ))) (last : List (End OwnerItem)) → HasServed hints s old mid left before x → HasTakenOne mid now left end a → marks ≡ x.order → heard ≡ x.heard → Grows x.lines (stops (owner_at x []) (a ∷ [])) last
     → IsFaultAt s e x (a ∷ []) n held → HasHalted hints s old now end before n held made marks heard last (halt.Fault e)
 halt_fault hints s old mid now left end before x a e n held made marks heard last h t m k g at = record {
   first = h.more;
@@ -105,7 +105,7 @@ halt_fault hints s old mid now left end before x a e n held made marks heard las
 
 -- ---- at the beginning
 
-none_held : (n q : ℕ) → stop_held (slice_get (replicate n free_seat) q) ≡ []
+none_held : (n q : ℕ) → stop_held (slice_get (replicate n free_client) q) ≡ []
 none_held zero q = refl
 none_held (suc n) zero = refl
 none_held (suc n) (suc q) = none_held n q
@@ -122,7 +122,7 @@ halt_none hints s old flags e senders n held made marks heard lines h memory non
   run = run_none hints s (opening_standing senders n held made heard lines);
   order = none;
   heard_all = refl;
-  stopped = lines_as lines lines (λ q. []) (stops (desk_at (opening_standing senders n held made heard lines) []) []) (λ q l. append-nil (stop_held (slice_get (replicate senders free_seat) q)) ∙ none_held senders q) (lines_none lines lines refl);
+  stopped = lines_as lines lines (λ q. []) (stops (owner_at (opening_standing senders n held made heard lines) []) []) (λ q l. append-nil (stop_held (slice_get (replicate senders free_client) q)) ∙ none_held senders q) (lines_none lines lines refl);
   halted = fault_none s e (opening_standing senders n held made heard lines) n held memory refl refl;
   seen = tt;
 }
@@ -130,13 +130,13 @@ halt_none hints s old flags e senders n held made marks heard lines h memory non
 pub opening_steady : (header : Header) (len senders n : ℕ) (held : Option (List ℕ)) (made : Option (List DiskCall)) (heard : Option (List (Mark × ℕ))) (lines : List (End OwnerItem)) → senders ≤ 64 → length lines ≡ senders
     → IsCount header len n → IsSteady header len (opening_standing senders n held made heard lines)
 opening_steady header len senders n held made heard lines few long count = record {
-  few = subst (λ (k : ℕ). k ≤ 64) (sym (length-replicate senders free_seat)) few;
-  one_each = long ∙ sym (length-replicate senders free_seat);
+  few = subst (λ (k : ℕ). k ≤ 64) (sym (length-replicate senders free_client)) few;
+  one_each = long ∙ sym (length-replicate senders free_client);
   count = count;
   reached = count;
   below = omega arith;
-  held = λ r x o e f. let free = entry_replicate senders r free_seat x e in let none : x.held ≡ None = ap (λ (y : Seat). y.held) free in absurd cc;
-  same = λ r q x y o p e g f k. let free = entry_replicate senders r free_seat x e in let none : x.held ≡ None = ap (λ (y : Seat). y.held) free in absurd cc;
+  held = λ r x o e f. let free = entry_replicate senders r free_client x e in let none : x.held ≡ None = ap (λ (y : Client). y.held) free in absurd cc;
+  same = λ r q x y o p e g f k. let free = entry_replicate senders r free_client x e in let none : x.held ≡ None = ap (λ (y : Client). y.held) free in absurd cc;
 }
 
 -- ---- what still comes
@@ -168,9 +168,9 @@ fault_cause before mid now e l k h = record { later = omega arith; failed = λ f
     higher : Rose mid now → Rose before now
     higher r = omega arith
 
--- ---- a new desk
+-- ---- a new owner
 
-pub opened_is : (d : Held) (senders k n : ℕ) (held : Option (List ℕ)) (made : Option (List DiskCall)) (heard : Option (List (Mark × ℕ))) (lines : List (End OwnerItem)) → d.seats.items ≡ replicate k free_seat
+pub opened_is : (d : Held) (senders k n : ℕ) (held : Option (List ℕ)) (made : Option (List DiskCall)) (heard : Option (List (Mark × ℕ))) (lines : List (End OwnerItem)) → d.clients.items ≡ replicate k free_client
     → k ≡ senders → d.met ≡ 0 → d.reached ≡ n → d.order ≡ [] → standing_at d n held made heard lines ≡ opening_standing senders n held made heard lines
-opened_is d senders k n held made heard lines seats count met reached order =
-    λ i. record { seats = (seats ∙ ap (λ (j : ℕ). replicate j free_seat) count) i; met = met i; reached = reached i; records = n; told = held; calls = made; order = order i; heard = heard; lines = lines }
+opened_is d senders k n held made heard lines clients count met reached order =
+    λ i. record { clients = (clients ∙ ap (λ (j : ℕ). replicate j free_client) count) i; met = met i; reached = reached i; records = n; told = held; calls = made; order = order i; heard = heard; lines = lines }

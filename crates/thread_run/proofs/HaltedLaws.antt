@@ -10,15 +10,15 @@ use Rattle.nc_base.specs.declared.step.RankItem.{RankItem}
 use Rattle.nc_base.specs.declared.step.StepErr.{StepErr}
 use Rattle.nc_outside.specs.Told.{with_end}
 use Rattle.ruled_line.specs.Ends.{End, Receiver}
-use Rattle.serial_spec.specs.Desk.{Desk, Seat, free_seat}
+use Rattle.serial_spec.specs.Owner.{Owner, Client, free_client}
 use Rattle.serial_spec.specs.FileStep.{Setting}
 use Rattle.collective_round.specs.Rounds.{counted}
 use Rattle.thread_run.specs.Halted.{of_fault, of_stranger, HasHalted, HasSeenAll, Outcome}
-use Rattle.thread_run.specs.Owned.{desk_at, desk_calls, opening_standing, AreSingle, HoldSingle, Standing}
+use Rattle.thread_run.specs.Owned.{owner_at, owner_calls, opening_standing, AreSingle, HoldSingle, Standing}
 use Rattle.thread_run.specs.Refused.{HasCutService}
-use Rattle.thread_run.specs.Serving.{arrived, gained, opening, HasFailed, HasTaken, HasToldAlong, HavePut, IsDone, IsDoneSo}
-use Rattle.thread_run.specs.declared.serving.Halt.{Halt}
-use Rattle.thread_run.specs.declared.serving.Halt.TheVariants as halt
+use Rattle.thread_run.specs.Service.{arrived, gained, opening, HasFailed, HasTaken, HasToldAlong, HavePut, IsDone, IsDoneSo}
+use Rattle.thread_run.specs.declared.service.Halt.{Halt}
+use Rattle.thread_run.specs.declared.service.Halt.TheVariants as halt
 use Rattle.thread_run.proofs.EndLaws.{out_taken, out_put, out_done, out_told, out_bytes, out_calls, out_failed, out_cut}
 use Rattle.list_laws.proofs.Places.{entry_replicate}
 
@@ -38,7 +38,7 @@ module _ (hints : Hints) (s : Setting) (old now : Receiver RankItem) (left : Lis
   first_standing : Standing
   first_standing = opening_standing old.senders n0 held0 made0 heard0 back0
 
-  opened : (file : List ℕ) → desk_at (opening_standing old.senders n0 held0 made0 heard0 back0) file ≡ opening old.senders (counted file k)
+  opened : (file : List ℕ) → owner_at (opening_standing old.senders n0 held0 made0 heard0 back0) file ≡ opening old.senders (counted file k)
   opened file = ap (λ (m : ℕ). opening old.senders (counted file m)) same
 
   pub end_taken : HasTaken old now
@@ -49,7 +49,7 @@ module _ (hints : Hints) (s : Setting) (old now : Receiver RankItem) (left : Lis
 
   pub end_told : (file : List ℕ) → HasToldAlong s (opening old.senders (counted file k)) (arrived old now) marks heard0 heard
   end_told file =
-      subst (λ (d : Desk). HasToldAlong s d (arrived old now) marks heard0 heard) (opened file)
+      subst (λ (d : Owner). HasToldAlong s d (arrived old now) marks heard0 heard) (opened file)
       (out_told hints s old now left (opening_standing old.senders n0 held0 made0 heard0 back0) n held made marks heard lines h o refl file)
 
   pub end_done : (fault : Option StepErr) (number : Option ℕ) → fault ≡ of_fault h → number ≡ of_stranger h → fault ≡ None → (file : List ℕ)
@@ -57,31 +57,31 @@ module _ (hints : Hints) (s : Setting) (old now : Receiver RankItem) (left : Lis
   end_done fault number e f g file =
       subst (λ (m : Option ℕ). IsDone s (opening old.senders (counted file k)) (arrived old now) old.senders (gained back0 lines) marks m) (sym f)
       (subst (λ (l : ℕ). IsDone s (opening old.senders (counted file k)) (arrived old now) l (gained back0 lines) marks (of_stranger h)) long
-      (subst (λ (d : Desk). IsDone s d (arrived old now) (length back0) (gained back0 lines) marks (of_stranger h)) (opened file)
+      (subst (λ (d : Owner). IsDone s d (arrived old now) (length back0) (gained back0 lines) marks (of_stranger h)) (opened file)
       (out_done hints s old now left (opening_standing old.senders n0 held0 made0 heard0 back0) n held made marks heard lines h o refl (sym e ∙ g) file)))
 
   pub end_bytes : (fault : Option StepErr) → fault ≡ of_fault h → fault ≡ None
       → IfSome held0 (λ file. IsDoneSo s (opening old.senders (counted file k)) (arrived old now) old.senders (gained back0 lines) held n)
   end_bytes fault e g = by held0 (out_bytes hints s old now left (opening_standing old.senders n0 held0 made0 heard0 back0) n held made marks heard lines h o (sym e ∙ g) held0 refl)
     where
-      by : (m : Option (List ℕ)) → IfSome m (λ file. IsDoneSo s (desk_at (opening_standing old.senders n0 held0 made0 heard0 back0) file) (arrived old now) (length back0) (gained back0 lines) held n)
+      by : (m : Option (List ℕ)) → IfSome m (λ file. IsDoneSo s (owner_at (opening_standing old.senders n0 held0 made0 heard0 back0) file) (arrived old now) (length back0) (gained back0 lines) held n)
           → IfSome m (λ file. IsDoneSo s (opening old.senders (counted file k)) (arrived old now) old.senders (gained back0 lines) held n)
       by None i = tt
       by (Some file) i =
           subst (λ (l : ℕ). IsDoneSo s (opening old.senders (counted file k)) (arrived old now) l (gained back0 lines) held n) long
-          (subst (λ (d : Desk). IsDoneSo s d (arrived old now) (length back0) (gained back0 lines) held n) (opened file) i)
+          (subst (λ (d : Owner). IsDoneSo s d (arrived old now) (length back0) (gained back0 lines) held n) (opened file) i)
 
-  none_single : HoldSingle (replicate old.senders free_seat)
-  none_single r x p e f = let free = entry_replicate old.senders r free_seat x e in let no : x.held ≡ None = ap (λ (y : Seat). y.held) free in absurd cc
+  none_single : HoldSingle (replicate old.senders free_client)
+  none_single r x p e f = let free = entry_replicate old.senders r free_client x e in let no : x.held ≡ None = ap (λ (y : Client). y.held) free in absurd cc
 
   pub end_calls : (fault : Option StepErr) → fault ≡ of_fault h → fault ≡ None → AreSingle (arrived old now)
-      → IfSome held0 (λ file. made ≡ with_end made0 (desk_calls hints s (opening old.senders (counted file k)) (arrived old now)))
+      → IfSome held0 (λ file. made ≡ with_end made0 (owner_calls hints s (opening old.senders (counted file k)) (arrived old now)))
   end_calls fault e g alone = by held0 (out_calls hints s old now left (opening_standing old.senders n0 held0 made0 heard0 back0) n held made marks heard lines h o (sym e ∙ g) none_single alone held0 refl)
     where
-      by : (m : Option (List ℕ)) → IfSome m (λ file. made ≡ with_end made0 (desk_calls hints s (desk_at (opening_standing old.senders n0 held0 made0 heard0 back0) file) (arrived old now)))
-          → IfSome m (λ file. made ≡ with_end made0 (desk_calls hints s (opening old.senders (counted file k)) (arrived old now)))
+      by : (m : Option (List ℕ)) → IfSome m (λ file. made ≡ with_end made0 (owner_calls hints s (owner_at (opening_standing old.senders n0 held0 made0 heard0 back0) file) (arrived old now)))
+          → IfSome m (λ file. made ≡ with_end made0 (owner_calls hints s (opening old.senders (counted file k)) (arrived old now)))
       by None i = tt
-      by (Some file) i = i ∙ ap (λ (d : Desk). with_end made0 (desk_calls hints s d (arrived old now))) (opened file)
+      by (Some file) i = i ∙ ap (λ (d : Owner). with_end made0 (owner_calls hints s d (arrived old now))) (opened file)
 
   strangers_none : (g : Halt) (e : StepErr) → Some e ≡ of_fault g → of_stranger g ≡ None
   strangers_none halt.Ended e f = refl

@@ -12,7 +12,7 @@ pub mod LentLaws
 pub mod TogetherSteps
 pub mod StrangeLaws
 pub mod AlikeLaws
-pub mod DeskRuns
+pub mod OwnerRuns
 pub mod RunLaws
 pub mod TellLaws
 pub mod CutRank

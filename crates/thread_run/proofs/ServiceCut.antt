@@ -9,17 +9,17 @@ use Rattle.nc_base.specs.declared.step.OwnerItem.{OwnerItem}
 use Rattle.nc_base.specs.declared.step.OwnerItem.TheVariants.{Stop}
 use Rattle.nc_base.specs.declared.step.RankItem.{RankItem}
 use Rattle.nc_base.specs.declared.step.StepErr.{StepErr}
-use Rattle.serial_spec.specs.Desk.{Desk, Seat, event, given_along, is_strange, own_items, owed, served, stop_held, stops}
+use Rattle.serial_spec.specs.Owner.{Owner, Client, event, given_along, is_strange, own_items, owed, served, stop_held, stops}
 use Rattle.serial_spec.specs.FileStep.{Setting}
 use Rattle.serial_spec.specs.History.{Arrival, is_offer}
 use Rattle.thread_run.specs.Refused.{HasCutService}
 use Rattle.join_laws.proofs.JoinLaws.{owed_stop, served_on}
-use Rattle.thread_run.proofs.DeskRuns.{goes_on, stops_at}
+use Rattle.thread_run.proofs.OwnerRuns.{goes_on, stops_at}
 
 -- ---- the part of a run that was done
 
 -- what came before the first strange arrival, or before the fault
-pub record Service (s : Setting) (d : Desk) (ranks : ℕ) (arrivals : List Arrival) (given : ℕ → List OwnerItem) (order : List Mark) : Type 0 where
+pub record Service (s : Setting) (d : Owner) (ranks : ℕ) (arrivals : List Arrival) (given : ℕ → List OwnerItem) (order : List Mark) : Type 0 where
   pub first : List Arrival
   pub later : List Arrival
   pub all : arrivals ≡ first ++ later
@@ -27,7 +27,7 @@ pub record Service (s : Setting) (d : Desk) (ranks : ℕ) (arrivals : List Arriv
   pub order_is : order ≡ (served s d first).marks
   pub gives : (q : ℕ) → q < ranks → (k : ℕ) × (given q ≡ given_along s d first q ++ replicate k Stop)
 
-unfoldable pub service_cut : (s : Setting) (d : Desk) (ranks n : ℕ) (e : StepErr) (arrivals : List Arrival) (given : ℕ → List OwnerItem) (order : List Mark) (held : Option (List ℕ)) → ranks ≡ length d.seats
+unfoldable pub service_cut : (s : Setting) (d : Owner) (ranks n : ℕ) (e : StepErr) (arrivals : List Arrival) (given : ℕ → List OwnerItem) (order : List Mark) (held : Option (List ℕ)) → ranks ≡ length d.clients
     → HasCutService s e d arrivals order held n given → Service s d ranks arrivals given order
 service_cut s d ranks n e arrivals given order held long h = record {
   first = h.first;
@@ -36,29 +36,29 @@ service_cut s d ranks n e arrivals given order held long h = record {
   none = h.service.no_stranger;
   order_is = h.service.in_order;
   gives = λ q l.
-      let low : q < length d.seats = omega arith in
+      let low : q < length d.clients = omega arith in
       let g = h.service.gives q low in
       (g.stopped, g.whole ∙ ap (λ (items : List OwnerItem). items ++ replicate g.stopped Stop) (sym (append-nil g.replies) ∙ ap (λ (items : List OwnerItem). g.replies ++ items) (sym (h.all_heard q low)) ∙ g.begins));
 }
 
 -- without a fault
-record Front (s : Setting) (d : Desk) (arrivals : List Arrival) : Type 0 where
+record Front (s : Setting) (d : Owner) (arrivals : List Arrival) : Type 0 where
   first : List Arrival
   later : List Arrival
   all : arrivals ≡ first ++ later
   none : (served s d first).stranger ≡ None
   marks : (served s d arrivals).marks ≡ (served s d first).marks
-  desk : (served s d arrivals).desk ≡ (served s d first).desk
-  owes : (q : ℕ) → owed s (served s d first).desk later q ≡ stops (served s d first).desk later q
+  owner : (served s d arrivals).owner ≡ (served s d first).owner
+  owes : (q : ℕ) → owed s (served s d first).owner later q ≡ stops (served s d first).owner later q
 
-front : (s : Setting) (arrivals : List Arrival) (d : Desk) → Front s d arrivals
-front s [] d = record { first = []; later = []; all = refl; none = refl; marks = refl; desk = refl; owes = λ q. refl }
-front s (a ∷ rest) d = by (is_strange s d a) refl (front s rest (event s d a).desk)
+front : (s : Setting) (arrivals : List Arrival) (d : Owner) → Front s d arrivals
+front s [] d = record { first = []; later = []; all = refl; none = refl; marks = refl; owner = refl; owes = λ q. refl }
+front s (a ∷ rest) d = by (is_strange s d a) refl (front s rest (event s d a).owner)
   where
-    by : (v : Bool) → is_strange s d a ≡ v → Front s (event s d a).desk rest → Front s d (a ∷ rest)
+    by : (v : Bool) → is_strange s d a ≡ v → Front s (event s d a).owner rest → Front s d (a ∷ rest)
     by true f again =
         let at = stops_at s d a rest f in
-        record { first = []; later = a ∷ rest; all = refl; none = refl; marks = at.marks; desk = at.desk; owes = λ q. owed_stop s d a rest q f }
+        record { first = []; later = a ∷ rest; all = refl; none = refl; marks = at.marks; owner = at.owner; owes = λ q. owed_stop s d a rest q f }
     by false f again =
         let long = served_on s d a rest f in
         let short = served_on s d a again.first f in
@@ -68,15 +68,15 @@ front s (a ∷ rest) d = by (is_strange s d a) refl (front s rest (event s d a).
           all = ap (λ (xs : List Arrival). a ∷ xs) again.all;
           none = short.stranger ∙ again.none;
           marks = long.marks ∙ ap (λ (ms : List Mark). (event s d a).marks ++ ms) again.marks ∙ sym short.marks;
-          desk = long.desk ∙ again.desk ∙ sym short.desk;
-          owes = λ q. ap (λ (e : Desk). owed s e again.later q) short.desk ∙ again.owes q ∙ ap (λ (e : Desk). stops e again.later q) (sym short.desk);
+          owner = long.owner ∙ again.owner ∙ sym short.owner;
+          owes = λ q. ap (λ (e : Owner). owed s e again.later q) short.owner ∙ again.owes q ∙ ap (λ (e : Owner). stops e again.later q) (sym short.owner);
         }
 
 stops_are : (xs : List RankItem) → map (λ (i : RankItem). Stop) xs ≡ replicate (length xs) Stop
 stops_are [] = refl
 stops_are (x ∷ xs) = ap (λ (items : List OwnerItem). Stop ∷ items) (stops_are xs)
 
-only_stops : (m : Option Seat) (xs : List RankItem) → (k : ℕ) × (stop_held m ++ map (λ (i : RankItem). Stop) xs ≡ replicate k Stop)
+only_stops : (m : Option Client) (xs : List RankItem) → (k : ℕ) × (stop_held m ++ map (λ (i : RankItem). Stop) xs ≡ replicate k Stop)
 only_stops None xs = (length xs, stops_are xs)
 only_stops (Some x) xs = by_held x.held x.ended
   where
@@ -84,8 +84,8 @@ only_stops (Some x) xs = by_held x.held x.ended
     by_held None ended = (length xs, stops_are xs)
     by_held (Some p) ended = (suc (length xs), ap (λ (items : List OwnerItem). Stop ∷ items) (stops_are xs))
 
-pub service_done : (hints : Hints) (s : Setting) (d : Desk) (ranks : ℕ) (arrivals : List Arrival) (given : ℕ → List OwnerItem) (order : List Mark) → order ≡ (served s d arrivals).marks
-    → ((q : ℕ) → q < ranks → given q ≡ owed s d arrivals q) → (h : Service s d ranks arrivals given order) × ((served s d h.first).desk ≡ (served s d arrivals).desk)
+pub service_done : (hints : Hints) (s : Setting) (d : Owner) (ranks : ℕ) (arrivals : List Arrival) (given : ℕ → List OwnerItem) (order : List Mark) → order ≡ (served s d arrivals).marks
+    → ((q : ℕ) → q < ranks → given q ≡ owed s d arrivals q) → (h : Service s d ranks arrivals given order) × ((served s d h.first).owner ≡ (served s d arrivals).owner)
 service_done hints s d ranks arrivals given order e owes =
     let f = front s arrivals d in
     let on = goes_on hints s d f.first f.later f.none in (
@@ -96,11 +96,11 @@ service_done hints s d ranks arrivals given order e owes =
         none = f.none;
         order_is = e ∙ f.marks;
         gives = λ q l.
-            let k = only_stops (slice_get (served s d f.first).desk.seats q) (filter is_offer (own_items q f.later)) in (
+            let k = only_stops (slice_get (served s d f.first).owner.clients q) (filter is_offer (own_items q f.later)) in (
               k.0,
               owes q l ∙ ap (λ (xs : List Arrival). owed s d xs q) f.all ∙ on.owed_items q
                   ∙ ap (λ (items : List OwnerItem). given_along s d f.first q ++ items) (f.owes q ∙ k.1),
             );
       },
-      sym f.desk,
+      sym f.owner,
     )

@@ -10,12 +10,12 @@ use Rattle.nc_base.specs.declared.step.OwnerItem.TheVariants.{Stop}
 use Rattle.nc_base.specs.declared.step.RankItem.{RankItem}
 use Rattle.nc_base.specs.declared.step.RankItem.TheVariants as item
 use Rattle.ruled_line.specs.Ends.{End, Receiver}
-use Rattle.serial_spec.specs.Desk.{own_items}
+use Rattle.serial_spec.specs.Owner.{own_items}
 use Rattle.serial_spec.specs.History.{Arrival, is_offer}
 use Rattle.serial_spec.specs.Joined.{HasEnd}
 use Rattle.join_laws.proofs.EventLaws.{own_here}
 use Rattle.thread_run.specs.Owned.{Grows}
-use Rattle.thread_run.specs.Stopping.{stops_for, HaveEnded, HaveMet, IsMore}
+use Rattle.thread_run.specs.Stops.{stops_for, HaveEnded, HaveMet, IsMore}
 use Rattle.thread_run.proofs.AlikeLaws.{lines_as, lines_twice}
 use Rattle.join_laws.proofs.BegunLaws.{own_two}
 use Rattle.list_laws.proofs.Places.{entry_set_other}

@@ -26,7 +26,7 @@ use Rattle.serial_spec.specs.SoundHeaders.{is_sound}
 use Rattle.serial_spec.specs.History.{is_offer, kind_of_meeting, meeting_kind, offer_of, option_then}
 use Rattle.serial_spec.specs.Layout.{product}
 use Rattle.serial_spec.specs.RegionCheck.{check, is_ok_code}
-use Rattle.serial_spec.specs.Desk.{Desk, Event, Seat, at_item, at_offer, bad_batch, differs, event, freed, has_ended, has_held, has_left, holds, is_strange, kind_held, left_behind, left_by, meets_if, refused, same_kind, some_true, strange_offer, wrong_length}
+use Rattle.serial_spec.specs.Owner.{Owner, Event, Client, at_item, at_offer, bad_batch, differs, event, freed, has_ended, has_held, has_left, holds, is_strange, kind_held, left_behind, left_by, meets_if, refused, same_kind, some_true, strange_offer, wrong_length}
 use Rattle.rank_core.specs.Offered.{IsPut, IsSoundOffer}
 use Rattle.rank_items.specs.Own.{HasOwnElements}
 use Rattle.rank_items.proofs.OwnBytes.{own_bytes}
@@ -37,7 +37,7 @@ use Rattle.list_laws.proofs.Each.{fails_at}
 use Rattle.list_laws.proofs.Places.{entry_set}
 use Rattle.overlay_laws.proofs.Members.{at_in}
 use Rattle.thread_run.specs.Strange.{fails_as_offer, fails_test, leaves_behind, leaves_with}
-use Rattle.thread_run.proofs.DeskRuns.{seat_ended, seat_held}
+use Rattle.thread_run.proofs.OwnerRuns.{client_ended, client_held}
 use Rattle.std.proofs.lemmas.Map.Keys.{any_passes_from_place}
 
 -- ---- one element of a list is changed
@@ -66,19 +66,19 @@ any_same p (z ∷ xs) (suc r) x y e h = ap (λ (t : Bool). p z || t) (any_same p
 
 -- ---- who is left behind
 
-held_not_left : (x : Seat) → holds x ≡ true → has_left x ≡ false
+held_not_left : (x : Client) → holds x ≡ true → has_left x ≡ false
 held_not_left x h = by x.held x.ended h
   where
     by : (m : Option Offer) (e : Option Bool) → is_some m ≡ true → left_by m e ≡ false
     by None e g = absurd cc
     by (Some o) e g = refl
 
-none_left : (seats : List Seat) → list_all holds seats ≡ true → list_any has_left seats ≡ false
+none_left : (clients : List Client) → list_all holds clients ≡ true → list_any has_left clients ≡ false
 none_left [] h = refl
-none_left (x ∷ seats) h =
-    (λ i. held_not_left x (and_first (holds x) (list_all holds seats) h) i || none_left seats (and_second (holds x) (list_all holds seats) h) i)
+none_left (x ∷ clients) h =
+    (λ i. held_not_left x (and_first (holds x) (list_all holds clients) h) i || none_left clients (and_second (holds x) (list_all holds clients) h) i)
 
-stays : (x : Seat) → x.ended ≡ None → has_left x ≡ false
+stays : (x : Client) → x.ended ≡ None → has_left x ≡ false
 stays x e = ap (λ (m : Option Bool). left_by x.held m) e ∙ by x.held
   where
     by : (m : Option Offer) → left_by m None ≡ false
@@ -90,10 +90,10 @@ and_true true b e = e
 and_true false b e = refl
 
 -- behind an end, an offer and a meeting's offer
-ended_leaves : (seats : List Seat) (r : ℕ) (x : Seat) (memory : Bool) → slice_get seats r ≡ Some x → x.ended ≡ None
-    → left_behind (set seats r (seat_ended x memory)) ≡ ((list_any has_left seats || (not memory && not (holds x))) && list_any holds seats)
-ended_leaves seats r x memory e f =
-    (λ i. left i && any_same holds seats r x (seat_ended x memory) e refl i)
+ended_leaves : (clients : List Client) (r : ℕ) (x : Client) (memory : Bool) → slice_get clients r ≡ Some x → x.ended ≡ None
+    → left_behind (set clients r (client_ended x memory)) ≡ ((list_any has_left clients || (not memory && not (holds x))) && list_any holds clients)
+ended_leaves clients r x memory e f =
+    (λ i. left i && any_same holds clients r x (client_ended x memory) e refl i)
   where
     own : (m : Option Offer) → left_by m (Some memory) ≡ (not memory && not (is_some m))
     own None = by memory
@@ -107,32 +107,32 @@ ended_leaves seats r x memory e f =
         by true = refl
         by false = refl
 
-    left : list_any has_left (set seats r (seat_ended x memory)) ≡ (list_any has_left seats || (not memory && not (holds x)))
-    left = any_set has_left seats r x (seat_ended x memory) e (stays x f) ∙ ap (λ (t : Bool). list_any has_left seats || t) (own x.held)
+    left : list_any has_left (set clients r (client_ended x memory)) ≡ (list_any has_left clients || (not memory && not (holds x)))
+    left = any_set has_left clients r x (client_ended x memory) e (stays x f) ∙ ap (λ (t : Bool). list_any has_left clients || t) (own x.held)
 
-meeting_leaves : (s : Setting) (d : Desk) (r : ℕ) (x : Seat) (o : Offer) → slice_get d.seats r ≡ Some x → x.ended ≡ None → (there : slice_get (set d.seats r (seat_held x o)) r ≡ Some (seat_held x o))
-    → (t : Bool) → list_all holds (set d.seats r (seat_held x o)) ≡ t → left_behind (meets_if s d (set d.seats r (seat_held x o)) t).desk.seats ≡ list_any has_left d.seats
+meeting_leaves : (s : Setting) (d : Owner) (r : ℕ) (x : Client) (o : Offer) → slice_get d.clients r ≡ Some x → x.ended ≡ None → (there : slice_get (set d.clients r (client_held x o)) r ≡ Some (client_held x o))
+    → (t : Bool) → list_all holds (set d.clients r (client_held x o)) ≡ t → left_behind (meets_if s d (set d.clients r (client_held x o)) t).owner.clients ≡ list_any has_left d.clients
 meeting_leaves s d r x o e f there true h =
-    and_right (list_any has_left (map freed (set d.seats r (seat_held x o)))) (list_any holds (map freed (set d.seats r (seat_held x o)))) (none_held (set d.seats r (seat_held x o)))
-    ∙ sym (none_left (set d.seats r (seat_held x o)) h) ∙ any_set has_left d.seats r x (seat_held x o) e (stays x f) ∙ or_false (list_any has_left d.seats)
+    and_right (list_any has_left (map freed (set d.clients r (client_held x o)))) (list_any holds (map freed (set d.clients r (client_held x o)))) (none_held (set d.clients r (client_held x o)))
+    ∙ sym (none_left (set d.clients r (client_held x o)) h) ∙ any_set has_left d.clients r x (client_held x o) e (stays x f) ∙ or_false (list_any has_left d.clients)
 meeting_leaves s d r x o e f there false h =
-    and_true (list_any has_left (set d.seats r (seat_held x o))) (list_any holds (set d.seats r (seat_held x o))) (any_passes_from_place holds (set d.seats r (seat_held x o)) r (seat_held x o) there refl)
-    ∙ any_set has_left d.seats r x (seat_held x o) e (stays x f) ∙ or_false (list_any has_left d.seats)
+    and_true (list_any has_left (set d.clients r (client_held x o))) (list_any holds (set d.clients r (client_held x o))) (any_passes_from_place holds (set d.clients r (client_held x o)) r (client_held x o) there refl)
+    ∙ any_set has_left d.clients r x (client_held x o) e (stays x f) ∙ or_false (list_any has_left d.clients)
 
-leaves : (s : Setting) (d : Desk) (r : ℕ) (i : RankItem) (x : Seat) → slice_get d.seats r ≡ Some x → x.ended ≡ None → left_behind (at_item s d r x i).desk.seats ≡ leaves_behind d.seats x i
-leaves s d r (item.Ended memory) x e f = ended_leaves d.seats r x memory e f
+leaves : (s : Setting) (d : Owner) (r : ℕ) (i : RankItem) (x : Client) → slice_get d.clients r ≡ Some x → x.ended ≡ None → left_behind (at_item s d r x i).owner.clients ≡ leaves_behind d.clients x i
+leaves s d r (item.Ended memory) x e f = ended_leaves d.clients r x memory e f
 leaves s d r (item.Offer c o) x e f = by o.kind
   where
-    by : (k : OfferKind) → left_behind (at_offer s d r c o x k).desk.seats ≡ leaves_with d.seats k
+    by : (k : OfferKind) → left_behind (at_offer s d r c o x k).owner.clients ≡ leaves_with d.clients k
     by offer.Solo = refl
     by (offer.Meet kind) =
-        meeting_leaves s d r x o e f (entry_set d.seats r x (seat_held x o) e) (list_all holds (set d.seats r (seat_held x o))) refl
+        meeting_leaves s d r x o e f (entry_set d.clients r x (client_held x o) e) (list_all holds (set d.clients r (client_held x o))) refl
 
 -- ---- the tests
 
-pub no_kind : (seats : List Seat) → list_any (λ y. differs (kind_held y) None) seats ≡ false
+pub no_kind : (clients : List Client) → list_any (λ y. differs (kind_held y) None) clients ≡ false
 no_kind [] = refl
-no_kind (x ∷ seats) = (λ i. by (kind_held x) i || no_kind seats i)
+no_kind (x ∷ clients) = (λ i. by (kind_held x) i || no_kind clients i)
   where
     by : (m : Option MeetKind) → differs m None ≡ false
     by None = refl
@@ -148,46 +148,46 @@ four false false false true e = refl
 four false false false false true = refl
 four false false false false false = refl
 
-offer_tests : (header : Header) (seats : List Seat) (reached : ℕ) (x : Seat) (i : RankItem)
-    → ((is_offer i && holds x) || (list_any (λ y. differs (kind_held y) (meeting_kind i)) seats || strange_offer header reached (offer_of i))) ≡ fails_as_offer header seats reached x i
+offer_tests : (header : Header) (clients : List Client) (reached : ℕ) (x : Client) (i : RankItem)
+    → ((is_offer i && holds x) || (list_any (λ y. differs (kind_held y) (meeting_kind i)) clients || strange_offer header reached (offer_of i))) ≡ fails_as_offer header clients reached x i
 unfolding strange_offer
-offer_tests header seats reached x (item.Ended memory) = ap (λ (t : Bool). t || false) (no_kind seats)
-offer_tests header seats reached x (item.Offer c o) = refl
+offer_tests header clients reached x (item.Ended memory) = ap (λ (t : Bool). t || false) (no_kind clients)
+offer_tests header clients reached x (item.Offer c o) = refl
 
 ended_or : (t a b : Bool) → (t ≡ false → a ≡ b) → (t || a) ≡ (t || b)
 ended_or true a b h = refl
 ended_or false a b h = h refl
 
-pub strange_is : (s : Setting) (d : Desk) (r : ℕ) (i : RankItem) (x : Seat) → slice_get d.seats r ≡ Some x
-    → is_strange s d (r, i) ≡ fails_test s.header d.seats d.reached x i
+pub strange_is : (s : Setting) (d : Owner) (r : ℕ) (i : RankItem) (x : Client) → slice_get d.clients r ≡ Some x
+    → is_strange s d (r, i) ≡ fails_test s.header d.clients d.reached x i
 unfolding is_strange
 strange_is s d r i x e =
-    four (has_ended (slice_get d.seats r)) (is_offer i && has_held (slice_get d.seats r)) (list_any (λ y. differs (kind_held y) (meeting_kind i)) d.seats)
-    (left_behind (event s d (r, i)).desk.seats) (strange_offer s.header d.reached (offer_of i))
-    ∙ ap (λ (m : Option Seat). has_ended m || (left_behind (event s d (r, i)).desk.seats || ((is_offer i && has_held m) || (list_any (λ y. differs (kind_held y) (meeting_kind i)) d.seats || strange_offer s.header d.reached (offer_of i))))) e
-    ∙ ended_or (is_some x.ended) _ _ (λ f. (λ j. behind f j || offer_tests s.header d.seats d.reached x i j))
+    four (has_ended (slice_get d.clients r)) (is_offer i && has_held (slice_get d.clients r)) (list_any (λ y. differs (kind_held y) (meeting_kind i)) d.clients)
+    (left_behind (event s d (r, i)).owner.clients) (strange_offer s.header d.reached (offer_of i))
+    ∙ ap (λ (m : Option Client). has_ended m || (left_behind (event s d (r, i)).owner.clients || ((is_offer i && has_held m) || (list_any (λ y. differs (kind_held y) (meeting_kind i)) d.clients || strange_offer s.header d.reached (offer_of i))))) e
+    ∙ ended_or (is_some x.ended) _ _ (λ f. (λ j. behind f j || offer_tests s.header d.clients d.reached x i j))
   where
     none : (m : Option Bool) → is_some m ≡ false → m ≡ None
     none None f = refl
     none (Some t) f = absurd cc
 
-    behind : is_some x.ended ≡ false → left_behind (event s d (r, i)).desk.seats ≡ leaves_behind d.seats x i
-    behind f = ap (λ (ev : Event). left_behind ev.desk.seats) (event_is s d r i x e) ∙ leaves s d r i x e (none x.ended f)
+    behind : is_some x.ended ≡ false → left_behind (event s d (r, i)).owner.clients ≡ leaves_behind d.clients x i
+    behind f = ap (λ (ev : Event). left_behind ev.owner.clients) (event_is s d r i x e) ∙ leaves s d r i x e (none x.ended f)
 
 -- ---- an arrival that is not strange
 
-pub record Passes (header : Header) (seats : List Seat) (reached : ℕ) (x : Seat) (o : Offer) : Type 0 where
+pub record Passes (header : Header) (clients : List Client) (reached : ℕ) (x : Client) (o : Offer) : Type 0 where
   pub free : x.held ≡ None
-  pub kinds : list_any (λ y. differs (kind_held y) (kind_of_meeting o.kind)) seats ≡ false
+  pub kinds : list_any (λ y. differs (kind_held y) (kind_of_meeting o.kind)) clients ≡ false
   pub known : o.known ≤ reached
   pub good : bad_batch header o ≡ false
 
-pub passes : (s : Setting) (d : Desk) (r c : ℕ) (o : Offer) (x : Seat) → slice_get d.seats r ≡ Some x → is_strange s d (r, item.Offer c o) ≡ false → Passes s.header d.seats d.reached x o
+pub passes : (s : Setting) (d : Owner) (r c : ℕ) (o : Offer) (x : Client) → slice_get d.clients r ≡ Some x → is_strange s d (r, item.Offer c o) ≡ false → Passes s.header d.clients d.reached x o
 passes s d r c o x e f =
     let whole = or_parts (is_some x.ended) _ (sym (strange_is s d r (item.Offer c o) x e) ∙ f) in
-    let tests = or_parts (leaves_behind d.seats x (item.Offer c o)) _ whole.1 in
+    let tests = or_parts (leaves_behind d.clients x (item.Offer c o)) _ whole.1 in
     let a = or_parts (holds x) _ tests.1 in
-    let b = or_parts (list_any (λ y. differs (kind_held y) (kind_of_meeting o.kind)) d.seats) _ a.1 in
+    let b = or_parts (list_any (λ y. differs (kind_held y) (kind_of_meeting o.kind)) d.clients) _ a.1 in
     let g = or_parts (nat_lt d.reached o.known) (bad_batch s.header o) b.1 in
     record { free = none x.held a.0; kinds = b.0; known = below d.reached o.known g.0; good = g.1 }
   where
@@ -255,9 +255,9 @@ one_kind meets.End meets.End e = refl
 one_kind meets.Sync meets.Sync e = refl
 one_kind a b e = absurd cc
 
-pub kind_is : (seats : List Seat) (kind : MeetKind) (r : ℕ) (x : Seat) (o : Offer) (own : MeetKind) → list_any (λ y. differs (kind_held y) (Some kind)) seats ≡ false → slice_get seats r ≡ Some x
+pub kind_is : (clients : List Client) (kind : MeetKind) (r : ℕ) (x : Client) (o : Offer) (own : MeetKind) → list_any (λ y. differs (kind_held y) (Some kind)) clients ≡ false → slice_get clients r ≡ Some x
     → x.held ≡ Some o → o.kind ≡ offer.Meet own → own ≡ kind
-kind_is seats kind r x o own h e f k = one_kind own kind (sym (ap (λ (m : Option MeetKind). differs m (Some kind)) held) ∙ fails_at (λ y. differs (kind_held y) (Some kind)) seats r x h e)
+kind_is clients kind r x o own h e f k = one_kind own kind (sym (ap (λ (m : Option MeetKind). differs m (Some kind)) held) ∙ fails_at (λ y. differs (kind_held y) (Some kind)) clients r x h e)
   where
     by : (m : Option Offer) → m ≡ Some o → option_then m (λ p. kind_of_meeting p.kind) ≡ Some own
     by None g = absurd cc

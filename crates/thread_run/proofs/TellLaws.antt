@@ -9,14 +9,14 @@ use Rattle.nc_base.specs.declared.step.OfferKind.{OfferKind}
 use Rattle.nc_base.specs.declared.step.OfferKind.TheVariants as offer
 use Rattle.nc_base.specs.declared.step.RankItem.{RankItem}
 use Rattle.nc_base.specs.declared.step.RankItem.TheVariants as item
-use Rattle.serial_spec.specs.Desk.{Desk, Ending, Event, Seat, at_item, at_offer, event, event_at, holds, is_strange, meets_if, served}
+use Rattle.serial_spec.specs.Owner.{Owner, Ending, Event, Client, at_item, at_offer, event, event_at, holds, is_strange, meets_if, served}
 use Rattle.serial_spec.specs.FileStep.{Counted, Setting}
 use Rattle.serial_spec.specs.History.{Arrival}
 use Rattle.serial_spec.specs.SerialEnd.{Going, after_mark}
 use Rattle.join_laws.proofs.JoinLaws.{served_on, stranger_on}
-use Rattle.turn_run.specs.Telling.{counts_along}
-use Rattle.thread_run.specs.Owned.{desk_told, each_told}
-use Rattle.thread_run.proofs.DeskRuns.{seat_held, stops_at, told_on, told_stop}
+use Rattle.turn_run.specs.Told.{counts_along}
+use Rattle.thread_run.specs.Owned.{owner_told, each_told}
+use Rattle.thread_run.proofs.OwnerRuns.{client_held, stops_at, told_on, told_stop}
 
 -- ---- the marks alone
 
@@ -24,32 +24,32 @@ first_each : (n : ℕ) (marks : List Mark) → map (λ (t : Mark × ℕ). t.0) (
 first_each n [] = refl
 first_each n (m ∷ marks) = ap (λ (ms : List Mark). m ∷ ms) (first_each n marks)
 
-pub marks_along : (s : Setting) (arrivals : List Arrival) (d : Desk) → map (λ (t : Mark × ℕ). t.0) (desk_told s d arrivals) ≡ (served s d arrivals).marks
+pub marks_along : (s : Setting) (arrivals : List Arrival) (d : Owner) → map (λ (t : Mark × ℕ). t.0) (owner_told s d arrivals) ≡ (served s d arrivals).marks
 marks_along s [] d = refl
-marks_along s (a ∷ rest) d = by (is_strange s d a) refl (marks_along s rest (event s d a).desk)
+marks_along s (a ∷ rest) d = by (is_strange s d a) refl (marks_along s rest (event s d a).owner)
   where
-    by : (v : Bool) → is_strange s d a ≡ v → map (λ (t : Mark × ℕ). t.0) (desk_told s (event s d a).desk rest) ≡ (served s (event s d a).desk rest).marks
-        → map (λ (t : Mark × ℕ). t.0) (desk_told s d (a ∷ rest)) ≡ (served s d (a ∷ rest)).marks
+    by : (v : Bool) → is_strange s d a ≡ v → map (λ (t : Mark × ℕ). t.0) (owner_told s (event s d a).owner rest) ≡ (served s (event s d a).owner rest).marks
+        → map (λ (t : Mark × ℕ). t.0) (owner_told s d (a ∷ rest)) ≡ (served s d (a ∷ rest)).marks
     by true e again = ap (λ (told : List (Mark × ℕ)). map (λ (t : Mark × ℕ). t.0) told) (told_stop s d a rest e) ∙ sym (stops_at s d a rest e).marks
     by false e again =
         ap (λ (told : List (Mark × ℕ)). map (λ (t : Mark × ℕ). t.0) told) (told_on s d a rest e)
-        ∙ map-append (λ (t : Mark × ℕ). t.0) (each_told (event s d a)) (desk_told s (event s d a).desk rest)
-        ∙ (λ i. first_each (event s d a).desk.state.records (event s d a).marks i ++ again i) ∙ sym (served_on s d a rest e).marks
+        ∙ map-append (λ (t : Mark × ℕ). t.0) (each_told (event s d a)) (owner_told s (event s d a).owner rest)
+        ∙ (λ i. first_each (event s d a).owner.state.records (event s d a).marks i ++ again i) ∙ sym (served_on s d a rest e).marks
 
 -- ---- wherever among the arrivals the steps of an order were done, they are told alike
 
-none_told : (s : Setting) (d : Desk) (arrivals : List Arrival) → (served s d arrivals).marks ≡ [] → desk_told s d arrivals ≡ []
-none_told s d arrivals e = none (desk_told s d arrivals) (marks_along s arrivals d ∙ e)
+none_told : (s : Setting) (d : Owner) (arrivals : List Arrival) → (served s d arrivals).marks ≡ [] → owner_told s d arrivals ≡ []
+none_told s d arrivals e = none (owner_told s d arrivals) (marks_along s arrivals d ∙ e)
   where
     none : (told : List (Mark × ℕ)) → map (λ (t : Mark × ℕ). t.0) told ≡ [] → told ≡ []
     none [] f = refl
     none (t ∷ told) f = absurd cc
 
-pub same_told : (s : Setting) (first later more rest : List Arrival) (d : Desk) → first ++ later ≡ more ++ rest → (served s d first).stranger ≡ None → (served s d more).stranger ≡ None
-    → (served s d first).marks ≡ (served s d more).marks → desk_told s d first ≡ desk_told s d more
+pub same_told : (s : Setting) (first later more rest : List Arrival) (d : Owner) → first ++ later ≡ more ++ rest → (served s d first).stranger ≡ None → (served s d more).stranger ≡ None
+    → (served s d first).marks ≡ (served s d more).marks → owner_told s d first ≡ owner_told s d more
 same_told s [] later more rest d e none free marks = sym (none_told s d more (sym marks))
 same_told s (a ∷ first) later [] rest d e none free marks = none_told s d (a ∷ first) marks
-same_told s (a ∷ first) later (b ∷ more) rest d e none free marks = by (is_strange s d a) refl (λ f n z m. same_told s first later more rest (event s d a).desk f n z m)
+same_told s (a ∷ first) later (b ∷ more) rest d e none free marks = by (is_strange s d a) refl (λ f n z m. same_told s first later more rest (event s d a).owner f n z m)
   where
     same : a ≡ b
     same = cc
@@ -58,9 +58,9 @@ same_told s (a ∷ first) later (b ∷ more) rest d e none free marks = by (is_s
     others = cc
 
     by : (v : Bool) → is_strange s d a ≡ v
-        → (first ++ later ≡ more ++ rest → (served s (event s d a).desk first).stranger ≡ None → (served s (event s d a).desk more).stranger ≡ None
-        → (served s (event s d a).desk first).marks ≡ (served s (event s d a).desk more).marks → desk_told s (event s d a).desk first ≡ desk_told s (event s d a).desk more)
-        → desk_told s d (a ∷ first) ≡ desk_told s d (b ∷ more)
+        → (first ++ later ≡ more ++ rest → (served s (event s d a).owner first).stranger ≡ None → (served s (event s d a).owner more).stranger ≡ None
+        → (served s (event s d a).owner first).marks ≡ (served s (event s d a).owner more).marks → owner_told s (event s d a).owner first ≡ owner_told s (event s d a).owner more)
+        → owner_told s d (a ∷ first) ≡ owner_told s d (b ∷ more)
     by true f again = let z = sym (stranger_on s d a first f) ∙ none in absurd cc
     by false f again =
         let one = served_on s d a first f in
@@ -69,9 +69,9 @@ same_told s (a ∷ first) later (b ∷ more) rest d e none free marks = by (is_s
         told_on s d a first f
         ∙ ap (λ (told : List (Mark × ℕ)). each_told (event s d a) ++ told)
         (again others (sym one.stranger ∙ none) (sym other.stranger ∙ ap (λ (x : Ending). x.stranger) as_a ∙ free)
-        (append_cancel_left (event s d a).marks (served s (event s d a).desk first).marks (served s (event s d a).desk more).marks
+        (append_cancel_left (event s d a).marks (served s (event s d a).owner first).marks (served s (event s d a).owner more).marks
         (sym one.marks ∙ marks ∙ sym (ap (λ (x : Ending). x.marks) as_a) ∙ other.marks)))
-        ∙ sym (told_on s d a more f) ∙ ap (λ (c : Arrival). desk_told s d (c ∷ more)) same
+        ∙ sym (told_on s d a more f) ∙ ap (λ (c : Arrival). owner_told s d (c ∷ more)) same
 
 -- ---- the counts, by the steps of the serial run
 
@@ -87,25 +87,25 @@ along_two s u (m ∷ a) b = ap (λ (told : List (Mark × ℕ)). (m, count_of (af
 abbrev IsOne : List Mark → Type 0
 IsOne marks = (marks ≡ []) ⊎ ((m : Mark) × (marks ≡ m ∷ []))
 
-event_one : (s : Setting) (d : Desk) (a : Arrival) → IsOne (event s d a).marks
+event_one : (s : Setting) (d : Owner) (a : Arrival) → IsOne (event s d a).marks
 unfolding event
-event_one s d a = by_seat (slice_get d.seats a.0)
+event_one s d a = by_client (slice_get d.clients a.0)
   where
-    by_full : (seats : List Seat) (full : Bool) → IsOne (meets_if s d seats full).marks
-    by_full seats true = inr (_, refl)
-    by_full seats false = inl refl
+    by_full : (clients : List Client) (full : Bool) → IsOne (meets_if s d clients full).marks
+    by_full clients true = inr (_, refl)
+    by_full clients false = inl refl
 
-    by_kind : (c : ℕ) (o : Offer) (x : Seat) (kind : OfferKind) → IsOne (at_offer s d a.0 c o x kind).marks
+    by_kind : (c : ℕ) (o : Offer) (x : Client) (kind : OfferKind) → IsOne (at_offer s d a.0 c o x kind).marks
     by_kind c o x offer.Solo = inr (_, refl)
-    by_kind c o x (offer.Meet kind) = by_full (set d.seats a.0 (seat_held x o)) (list_all holds (set d.seats a.0 (seat_held x o)))
+    by_kind c o x (offer.Meet kind) = by_full (set d.clients a.0 (client_held x o)) (list_all holds (set d.clients a.0 (client_held x o)))
 
-    by_item : (x : Seat) (i : RankItem) → IsOne (at_item s d a.0 x i).marks
+    by_item : (x : Client) (i : RankItem) → IsOne (at_item s d a.0 x i).marks
     by_item x (item.Ended memory) = inl refl
     by_item x (item.Offer c o) = by_kind c o x o.kind
 
-    by_seat : (m : Option Seat) → IsOne (event_at s d a m).marks
-    by_seat None = inl refl
-    by_seat (Some x) = by_item x a.1
+    by_client : (m : Option Client) → IsOne (event_at s d a m).marks
+    by_client None = inl refl
+    by_client (Some x) = by_item x a.1
 
 one_told : (s : Setting) (u : Counted × List Going) (state : Counted) (after : List Going) (marks : List Mark) → IsOne marks → fold (after_mark s) u marks ≡ (state, after)
     → map (λ (m : Mark). (m, state.records)) marks ≡ counts_along (after_mark s) count_of u marks
@@ -117,14 +117,14 @@ one_told s u state after marks (inr (m, one)) e =
     (ap (λ (n : ℕ). (m, n) ∷ []) (sym (ap (λ (v : Counted × List Going). count_of v) at)))
 
 -- from one arrival to the next
-pub tells_more : (s : Setting) (d : Desk) (goings after : List Going) (a : Arrival) (rest : List Arrival) → is_strange s d a ≡ false
-    → fold (after_mark s) (d.state, goings) (event s d a).marks ≡ ((event s d a).desk.state, after)
-    → desk_told s (event s d a).desk rest ≡ counts_along (after_mark s) count_of ((event s d a).desk.state, after) (served s (event s d a).desk rest).marks
-    → desk_told s d (a ∷ rest) ≡ counts_along (after_mark s) count_of (d.state, goings) (served s d (a ∷ rest)).marks
+pub tells_more : (s : Setting) (d : Owner) (goings after : List Going) (a : Arrival) (rest : List Arrival) → is_strange s d a ≡ false
+    → fold (after_mark s) (d.state, goings) (event s d a).marks ≡ ((event s d a).owner.state, after)
+    → owner_told s (event s d a).owner rest ≡ counts_along (after_mark s) count_of ((event s d a).owner.state, after) (served s (event s d a).owner rest).marks
+    → owner_told s d (a ∷ rest) ≡ counts_along (after_mark s) count_of (d.state, goings) (served s d (a ∷ rest)).marks
 tells_more s d goings after a rest e folded later =
     let next : Event = event s d a in
-    let more : List Mark = (served s next.desk rest).marks in
-    let here = one_told s (d.state, goings) next.desk.state after next.marks (event_one s d a) folded in
+    let more : List Mark = (served s next.owner rest).marks in
+    let here = one_told s (d.state, goings) next.owner.state after next.marks (event_one s d a) folded in
     told_on s d a rest e ∙ (λ i. here i ++ later i)
     ∙ ap (λ (u : Counted × List Going). counts_along (after_mark s) count_of (d.state, goings) next.marks ++ counts_along (after_mark s) count_of u more) (sym folded)
     ∙ sym (along_two s (d.state, goings) next.marks more)

@@ -13,19 +13,19 @@ use Rattle.nc_base.specs.declared.step.StepErr.{StepErr}
 use Rattle.nc_base.specs.declared.step.StepErr.TheVariants as fault
 use Rattle.nc_outside.specs.Cause.{Rose}
 use Rattle.nc_outside.specs.Told.{after, with_end}
-use Rattle.serial_spec.specs.Desk.{Desk, Ending, first_desk, free_seat, served}
+use Rattle.serial_spec.specs.Owner.{Owner, Ending, first_owner, free_client, served}
 use Rattle.serial_spec.specs.DeviceCalls.{run_calls, store_records}
 use Rattle.serial_spec.specs.FileStep.{raised}
 use Rattle.serial_spec.specs.SoundHeaders.{is_sound}
 use Rattle.serial_spec.specs.History.{Arrival, IsLegal}
-use Rattle.serial_spec.specs.Joined.{opening_desk, run_of}
+use Rattle.serial_spec.specs.Joined.{opening_owner, run_of}
 use Rattle.serial_spec.specs.Lawful.{is_lawful}
 use Rattle.serial_spec.specs.SerialEnd.{serial_from, setting_of}
 use Rattle.collective_round.specs.Rounds.{as_setting, counted}
 use Rattle.turn_run.specs.Begun.{HasBegun}
 use Rattle.turn_run.specs.Run.{HasCut, IsRun}
-use Rattle.thread_run.specs.Owned.{AreSingle, desk_calls}
-use Rattle.thread_run.specs.Serving.{HasFailed, IsDone, IsDoneSo, opening}
+use Rattle.thread_run.specs.Owned.{AreSingle, owner_calls}
+use Rattle.thread_run.specs.Service.{HasFailed, IsDone, IsDoneSo, opening}
 use Rattle.thread_run.specs.Threads.{HasClosed, NoneBroke, most_known_of}
 use Rattle.thread_run.proofs.ThreadRuns.{Finished, FinishedSo, finished, finished_so}
 use Rattle.thread_run.proofs.ThreadTies.{Told, begun}
@@ -36,7 +36,7 @@ pub record Owner (script : Script) (header : Header) (arrivals : List Arrival) (
     (left : Option (List ℕ)) (made : Option (List DiskCall)) (failed records : ℕ) (end : ServeEnd) : Type 0 where
   pub done : end.fault ≡ None → (file : List ℕ) → IsDone (setting_of script header) (opening script.ranks (counted file header.records)) arrivals script.ranks given end.order end.stranger
   pub bytes : end.fault ≡ None → IfSome held (λ file. IsDoneSo (setting_of script header) (opening script.ranks (counted file header.records)) arrivals script.ranks given left records)
-  pub device : end.fault ≡ None → AreSingle arrivals → IfSome held (λ file. made ≡ with_end calls (desk_calls script.hints (setting_of script header) (opening script.ranks (counted file header.records)) arrivals))
+  pub device : end.fault ≡ None → AreSingle arrivals → IfSome held (λ file. made ≡ with_end calls (owner_calls script.hints (setting_of script header) (opening script.ranks (counted file header.records)) arrivals))
   pub cut_off : (e : StepErr) → end.fault ≡ Some e → HasFailed (setting_of script header) (opening script.ranks) header.records arrivals script.ranks given end.order end.stranger
   pub cause : end.fault ≡ Some fault.Disk → Rose faults failed
   pub later : faults ≤ failed
@@ -67,8 +67,8 @@ rose_later a b c h l = omega arith
 
 module _ (script : Script) (header : Header) (arrivals : List Arrival) (given : ℕ → List OwnerItem) (ends : List RankEnd)
     (sound : is_sound header ≡ true) (lawful : is_lawful script ≡ true) (t : Told script header arrivals given ends) where
-  desk_at : (file : List ℕ) → opening script.ranks (counted file header.records) ≡ opening_desk script header file
-  desk_at file = ap (λ (n : ℕ). first_desk (replicate n free_seat) (counted file header.records)) (sym t.calls)
+  owner_at : (file : List ℕ) → opening script.ranks (counted file header.records) ≡ opening_owner script header file
+  owner_at file = ap (λ (n : ℕ). first_owner (replicate n free_client) (counted file header.records)) (sym t.calls)
 
   -- the owner's order begins one of the script's
   pub order_begun : (held : Option (List ℕ)) (calls : Option (List DiskCall)) (faults : ℕ) (left : Option (List ℕ)) (made : Option (List DiskCall)) (failed records : ℕ) (end : ServeEnd)
@@ -81,11 +81,11 @@ module _ (script : Script) (header : Header) (arrivals : List Arrival) (given : 
 
       by : (end.fault ≡ None) ⊎ ((e : StepErr) × (end.fault ≡ Some e)) → HasBegun script end.order
       by (inl none) =
-          let e : end.order ≡ (run_of script header [] arrivals).marks = (o.done none []).order ∙ ap (λ (d : Desk). (served (setting_of script header) d arrivals).marks) (desk_at []) in
+          let e : end.order ≡ (run_of script header [] arrivals).marks = (o.done none []).order ∙ ap (λ (d : Owner). (served (setting_of script header) d arrivals).marks) (owner_at []) in
           subst (λ (ms : List Mark). HasBegun script ms) (sym e) (begun script header arrivals given ends t [] arrivals [] (append_none arrivals) lawful)
       by (inr (x, some)) =
           let h = o.cut_off x some in
-          let e : end.order ≡ (run_of script header [] h.first).marks = (h.cut_off []).order ∙ ap (λ (d : Desk). (served (setting_of script header) d h.first).marks) (desk_at []) in
+          let e : end.order ≡ (run_of script header [] h.first).marks = (h.cut_off []).order ∙ ap (λ (d : Owner). (served (setting_of script header) d h.first).marks) (owner_at []) in
           subst (λ (ms : List Mark). HasBegun script ms) (sym e) (begun script header arrivals given ends t [] h.first h.later h.all lawful)
 
   pub known_sound : (end : ServeEnd) → ((file : List ℕ) → IsDone (setting_of script header) (opening script.ranks (counted file header.records)) arrivals script.ranks given end.order end.stranger)
@@ -100,7 +100,7 @@ module _ (script : Script) (header : Header) (arrivals : List Arrival) (given : 
     legal = λ none. subst (λ (ms : List Mark). IsLegal script ms) (sym c.order) (fin none).legal;
     bytes = λ none. if_both held (o.bytes (c.went none).0) (o.bytes (c.went none).0) (λ file so more.
         (c.closed none).bytes ∙ ap (λ (m : Option (List ℕ)). after (λ f. (raised (as_setting header) (counted f count) (most_known_of ends)).file) m) so.told
-        ∙ (λ i. Some (raised (as_setting header) (counted (state file).desk.state.file (so.records i)) (most_known_of ends)).file)
+        ∙ (λ i. Some (raised (as_setting header) (counted (state file).owner.state.file (so.records i)) (most_known_of ends)).file)
         ∙ ap (λ (f : List ℕ). Some f) (fin_so none file so).bytes ∙ ap (λ (ms : List Mark). Some (serial_from script header file ms).bytes) (sym c.order));
     records = λ none. if_both held (o.bytes (c.went none).0) (o.bytes (c.went none).0) (λ file so more.
         counts none file so ∙ ap (λ (ms : List Mark). (serial_from script header file ms).records) (sym c.order));
@@ -110,8 +110,8 @@ module _ (script : Script) (header : Header) (arrivals : List Arrival) (given : 
         c.pending none ∙ (fin_so none file so).pending ∙ ap (λ (ms : List Mark). (serial_from script header file ms).pending) (sym c.order));
     calls = λ none. if_both held (o.bytes (c.went none).0) (o.device (c.went none).0 (fin none).single) (λ file so made_so.
         (c.closed none).device ∙ ap (λ (m : Option (List DiskCall)). with_end m (store_records (as_setting header) (nat_lt count records))) made_so
-        ∙ with_end-with_end calls (desk_calls script.hints (setting_of script header) (opening script.ranks (counted file header.records)) arrivals) (store_records (setting_of script header) (nat_lt count records))
-        ∙ (λ i. with_end calls (desk_calls script.hints (setting_of script header) (opening script.ranks (counted file header.records)) arrivals
+        ∙ with_end-with_end calls (owner_calls script.hints (setting_of script header) (opening script.ranks (counted file header.records)) arrivals) (store_records (setting_of script header) (nat_lt count records))
+        ∙ (λ i. with_end calls (owner_calls script.hints (setting_of script header) (opening script.ranks (counted file header.records)) arrivals
         ++ store_records (setting_of script header) (nat_lt (so.records i) (counts none file so i))))
         ∙ ap (λ (cs : List DiskCall). with_end calls cs) (sym (fin_so none file so).calls) ∙ ap (λ (ms : List Mark). with_end calls (run_calls script header file ms)) (sym c.order));
     sound = c.sound;
@@ -131,7 +131,7 @@ module _ (script : Script) (header : Header) (arrivals : List Arrival) (given : 
       fin none = finished script header arrivals given ends before.order before.stranger sound lawful t (c.went none).1 (o.done (c.went none).0)
 
       fin_so : end.fault ≡ None → (file : List ℕ) → IsDoneSo (setting_of script header) (opening script.ranks (counted file header.records)) arrivals script.ranks given held' count
-          → FinishedSo script header arrivals ends before.order file (served (setting_of script header) (opening script.ranks (counted file header.records)) arrivals).desk
+          → FinishedSo script header arrivals ends before.order file (served (setting_of script header) (opening script.ranks (counted file header.records)) arrivals).owner
       fin_so none file so = finished_so script header arrivals given ends before.order before.stranger sound lawful t (c.went none).1 (o.done (c.went none).0) file held' count so
 
       counts : end.fault ≡ None → (file : List ℕ) → IsDoneSo (setting_of script header) (opening script.ranks (counted file header.records)) arrivals script.ranks given held' count
@@ -149,13 +149,13 @@ pub owner_of : (script : Script) (header : Header) (arrivals : List Arrival) (gi
     (left : Option (List ℕ)) (made : Option (List DiskCall)) (failed records : ℕ) (end : ServeEnd) (n : ℕ) → n ≡ script.ranks
     → (end.fault ≡ None → (file : List ℕ) → IsDone (setting_of script header) (opening n (counted file header.records)) arrivals n given end.order end.stranger)
     → (end.fault ≡ None → IfSome held (λ file. IsDoneSo (setting_of script header) (opening n (counted file header.records)) arrivals n given left records))
-    → (end.fault ≡ None → AreSingle arrivals → IfSome held (λ file. made ≡ with_end calls (desk_calls script.hints (setting_of script header) (opening n (counted file header.records)) arrivals)))
+    → (end.fault ≡ None → AreSingle arrivals → IfSome held (λ file. made ≡ with_end calls (owner_calls script.hints (setting_of script header) (opening n (counted file header.records)) arrivals)))
     → ((e : StepErr) → end.fault ≡ Some e → HasFailed (setting_of script header) (opening n) header.records arrivals n given end.order end.stranger)
     → (end.fault ≡ Some fault.Disk → Rose faults failed) → faults ≤ failed → Owner script header arrivals given held calls faults left made failed records end
 owner_of script header arrivals given held calls faults left made failed records end n e done bytes device cut_off cause later = record {
   done = λ none file. subst (λ (m : ℕ). IsDone (setting_of script header) (opening m (counted file header.records)) arrivals m given end.order end.stranger) e (done none file);
   bytes = λ none. subst (λ (m : ℕ). IfSome held (λ file. IsDoneSo (setting_of script header) (opening m (counted file header.records)) arrivals m given left records)) e (bytes none);
-  device = λ none single. subst (λ (m : ℕ). IfSome held (λ file. made ≡ with_end calls (desk_calls script.hints (setting_of script header) (opening m (counted file header.records)) arrivals))) e (device none single);
+  device = λ none single. subst (λ (m : ℕ). IfSome held (λ file. made ≡ with_end calls (owner_calls script.hints (setting_of script header) (opening m (counted file header.records)) arrivals))) e (device none single);
   cut_off = λ x some. subst (λ (m : ℕ). HasFailed (setting_of script header) (opening m) header.records arrivals m given end.order end.stranger) e (cut_off x some);
   cause = cause;
   later = later;

@@ -22,39 +22,39 @@ use Rattle.nc_base.specs.declared.step.RankItem.TheVariants as item
 use Rattle.nc_base.specs.declared.step.Want.{Want}
 use Rattle.nc_base.specs.declared.step.Want.TheVariants as want
 use Rattle.overlay_laws.specs.Entries.{In}
-use Rattle.serial_spec.specs.Desk.{Desk, Event, Seat, at_item, at_offer, event, holds, is_strange, meets_if, own_items, owed, served}
+use Rattle.serial_spec.specs.Owner.{Owner, Event, Client, at_item, at_offer, event, holds, is_strange, meets_if, own_items, owed, served}
 use Rattle.serial_spec.specs.DeviceCalls.{mark_calls, meeting_calls, solo_calls}
 use Rattle.serial_spec.specs.FileStep.{Counted, Setting}
 use Rattle.serial_spec.specs.History.{Arrival, is_offer}
 use Rattle.serial_spec.specs.RankMachine.{Rank, step}
 use Rattle.serial_spec.specs.SerialEnd.{Going, advance, after_mark, go, offers_of, rank_offer}
-use Rattle.run_laws.specs.Standing.{calls_so_far}
+use Rattle.run_laws.specs.Ahead.{calls_so_far}
 use Rattle.run_laws.proofs.OrderLaws.{calls_more}
 use Rattle.join_laws.proofs.EventLaws.{get_set, own_here}
 use Rattle.join_laws.proofs.JoinLaws.{Arrived, Stands, arrived, join, served_on, stranger_on}
 use Rattle.join_laws.proofs.StepLaws.{same_offers}
 use Rattle.join_laws.proofs.StrangeLaws.{event_is, not_ended, strange_alone}
-use Rattle.join_laws.proofs.SeatTurns.{Lasting, Sits, offered_now, seat_held}
-use Rattle.thread_run.specs.Owned.{AreSingle, IsSingle, calls_at, calls_at_offer, calls_if, desk_calls, event_calls, IsSingleOffer}
+use Rattle.join_laws.proofs.ClientTurns.{Lasting, Sits, offered_now, client_held}
+use Rattle.thread_run.specs.Owned.{AreSingle, IsSingle, calls_at, calls_at_offer, calls_if, owner_calls, event_calls, IsSingleOffer}
 use Rattle.join_laws.proofs.QuietLaws.{IsQuiet, quiet_step}
-use Rattle.thread_run.proofs.DeskRuns.{calls_on}
+use Rattle.thread_run.proofs.OwnerRuns.{calls_on}
 
 -- ---- one arrival
 
-pub record Onward (s : Setting) (Good : ℕ → Going → Type 0) (d : Desk) (goings : List Going) (r : ℕ) (i : RankItem) (rest : List Arrival) : Type 0 where
+pub record Onward (s : Setting) (Good : ℕ → Going → Type 0) (d : Owner) (goings : List Going) (r : ℕ) (i : RankItem) (rest : List Arrival) : Type 0 where
   pub not_strange : is_strange s d (r, i) ≡ false
   pub kinds_left : List MeetKind
   pub after : List Going
-  pub folded : fold (after_mark s) (d.state, goings) (event s d (r, i)).marks ≡ ((event s d (r, i)).desk.state, after)
-  pub stands : Stands s Good kinds_left (event s d (r, i)).desk after rest
-  pub seat : Seat
+  pub folded : fold (after_mark s) (d.state, goings) (event s d (r, i)).marks ≡ ((event s d (r, i)).owner.state, after)
+  pub stands : Stands s Good kinds_left (event s d (r, i)).owner after rest
+  pub client : Client
   pub going : Going
-  pub at_seat : slice_get d.seats r ≡ Some seat
+  pub at_client : slice_get d.clients r ≡ Some client
   pub at_going : slice_get goings r ≡ Some going
   pub offers : (c : ℕ) (o : Offer) → i ≡ item.Offer c o → (advance s.header going).1 ≡ Some o
-  pub is : event s d (r, i) ≡ at_item s d r seat i
+  pub is : event s d (r, i) ≡ at_item s d r client i
 
-not_strange_of : (s : Setting) (d : Desk) (a : Arrival) (rest : List Arrival) → (served s d (a ∷ rest)).stranger ≡ None → is_strange s d a ≡ false
+not_strange_of : (s : Setting) (d : Owner) (a : Arrival) (rest : List Arrival) → (served s d (a ∷ rest)).stranger ≡ None → is_strange s d a ≡ false
 not_strange_of s d a rest e = by (is_strange s d a) refl
   where
     by : (t : Bool) → is_strange s d a ≡ t → is_strange s d a ≡ false
@@ -64,7 +64,7 @@ not_strange_of s d a rest e = by (is_strange s d a) refl
         never z = cc
     by false f = f
 
-pub onward : (s : Setting) (Good : ℕ → Going → Type 0) (lasting : Lasting s.header Good) (ks : List MeetKind) (d : Desk) (goings : List Going) (r : ℕ) (i : RankItem) (rest : List Arrival)
+pub onward : (s : Setting) (Good : ℕ → Going → Type 0) (lasting : Lasting s.header Good) (ks : List MeetKind) (d : Owner) (goings : List Going) (r : ℕ) (i : RankItem) (rest : List Arrival)
     → Stands s Good ks d goings ((r, i) ∷ rest) → Onward s Good d goings r i rest
 onward s Good lasting ks d goings r i rest t = by (entry_below goings r low)
   where
@@ -74,16 +74,16 @@ onward s Good lasting ks d goings r i rest t = by (entry_below goings r low)
     e : is_strange s d (r, i) ≡ false
     e = not_strange_of s d (r, i) rest (join s Good lasting ks d goings ((r, i) ∷ rest) t).no_stranger
 
-    by_two : (x : Seat) (g : Going) → slice_get d.seats r ≡ Some x → slice_get goings r ≡ Some g → Onward s Good d goings r i rest
+    by_two : (x : Client) (g : Going) → slice_get d.clients r ≡ Some x → slice_get goings r ≡ Some g → Onward s Good d goings r i rest
     by_two x g a b = record {
       not_strange = e;
       kinds_left = done.stepped.kinds_left;
       after = done.stepped.after;
       folded = done.stepped.folded;
       stands = done.stands;
-      seat = x;
+      client = x;
       going = g;
-      at_seat = a;
+      at_client = a;
       at_going = b;
       offers = offers;
       is = event_is s d r i x a;
@@ -93,7 +93,7 @@ onward s Good lasting ks d goings r i rest t = by (entry_below goings r low)
         done = arrived s Good lasting ks d goings r i rest x g a b t e
 
         mine : Sits s.header Good ks d.reached x g (i ∷ own_items r rest) (owed s d ((r, i) ∷ rest) r)
-        mine = subst (λ (u : List RankItem). Sits s.header Good ks d.reached x g u (owed s d ((r, i) ∷ rest) r)) (own_here r i rest) (t.seated.sits r x g a b)
+        mine = subst (λ (u : List RankItem). Sits s.header Good ks d.reached x g u (owed s d ((r, i) ∷ rest) r)) (own_here r i rest) (t.cliented.sits r x g a b)
 
         ended : x.ended ≡ None
         ended = not_ended s.header Good ks d.reached x g i (own_items r rest) (owed s d ((r, i) ∷ rest) r) mine
@@ -105,39 +105,39 @@ onward s Good lasting ks d goings r i rest t = by (entry_below goings r low)
             (subst (λ (z : RankItem). Sits s.header Good ks d.reached x g (z ∷ own_items r rest) (owed s d ((r, i) ∷ rest) r)) f mine)).is
 
     by : (g : Going) × (slice_get goings r ≡ Some g) → Onward s Good d goings r i rest
-    by (g, b) = let x = entry_beside goings d.seats r g (sym t.seated.long) b in by_two x.0 g x.1 b
+    by (g, b) = let x = entry_beside goings d.clients r g (sym t.cliented.long) b in by_two x.0 g x.1 b
 
 -- ---- device calls
 
-module _ (hints : Hints) (s : Setting) (d : Desk) (goings : List Going) (r : ℕ) (x : Seat) (g : Going) (at_seat : slice_get d.seats r ≡ Some x) (at_going : slice_get goings r ≡ Some g)
-    (long : length d.seats ≡ length goings)
-    (waits : (q : ℕ) (x' : Seat) (g' : Going) (o : Offer) → slice_get d.seats q ≡ Some x' → slice_get goings q ≡ Some g' → x'.held ≡ Some o → (advance s.header g').1 ≡ Some o) where
+module _ (hints : Hints) (s : Setting) (d : Owner) (goings : List Going) (r : ℕ) (x : Client) (g : Going) (at_client : slice_get d.clients r ≡ Some x) (at_going : slice_get goings r ≡ Some g)
+    (long : length d.clients ≡ length goings)
+    (waits : (q : ℕ) (x' : Client) (g' : Going) (o : Offer) → slice_get d.clients q ≡ Some x' → slice_get goings q ≡ Some g' → x'.held ≡ Some o → (advance s.header g').1 ≡ Some o) where
   solo_is : (c : ℕ) (o : Offer) → (advance s.header g).1 ≡ Some o → solo_calls hints s r o d.state ≡ calls_so_far hints s (d.state, goings) (Solo r c ∷ [])
   solo_is c o e =
       let offered : rank_offer s goings r ≡ Some o = ap (λ (m : Option Going). elim m [ None ↦ None | Some h ↦ (advance s.header h).1 ]) at_going ∙ e in
       sym (append-nil (mark_calls hints s (d.state, goings) (Solo r c)) ∙ ap (λ (m : Option Offer). elim m [ None ↦ [] | Some p ↦ solo_calls hints s r p d.state ]) offered)
 
-  meets_is : (o : Offer) (t : Bool) → (advance s.header g).1 ≡ Some o → list_all holds (set d.seats r (seat_held x o)) ≡ t
-      → calls_if hints s d (set d.seats r (seat_held x o)) t ≡ calls_so_far hints s (d.state, goings) (meets_if s d (set d.seats r (seat_held x o)) t).marks
+  meets_is : (o : Offer) (t : Bool) → (advance s.header g).1 ≡ Some o → list_all holds (set d.clients r (client_held x o)) ≡ t
+      → calls_if hints s d (set d.clients r (client_held x o)) t ≡ calls_so_far hints s (d.state, goings) (meets_if s d (set d.clients r (client_held x o)) t).marks
   meets_is o false e h = refl
   meets_is o true e h =
       sym (append-nil (meeting_calls hints s (offers_of (map (advance s.header) goings)) d.state)
       ∙ ap (λ (offers : List Offer). meeting_calls hints s offers d.state)
-      (same_offers s.header (set d.seats r (seat_held x o)) goings (length-set d.seats r (seat_held x o) ∙ long) h held))
+      (same_offers s.header (set d.clients r (client_held x o)) goings (length-set d.clients r (client_held x o) ∙ long) h held))
     where
-      held : (q : ℕ) (x' : Seat) (g' : Going) (o' : Offer) → slice_get (set d.seats r (seat_held x o)) q ≡ Some x' → slice_get goings q ≡ Some g' → x'.held ≡ Some o'
+      held : (q : ℕ) (x' : Client) (g' : Going) (o' : Offer) → slice_get (set d.clients r (client_held x o)) q ≡ Some x' → slice_get goings q ≡ Some g' → x'.held ≡ Some o'
           → (advance s.header g').1 ≡ Some o'
-      held q x' g' o' a b w = by (get_set d.seats r q (seat_held x o) x' a)
+      held q x' g' o' a b w = by (get_set d.clients r q (client_held x o) x' a)
         where
-          by : ((q ≡ r) × (x' ≡ seat_held x o)) ⊎ (slice_get d.seats q ≡ Some x') → (advance s.header g').1 ≡ Some o'
+          by : ((q ≡ r) × (x' ≡ client_held x o)) ⊎ (slice_get d.clients q ≡ Some x') → (advance s.header g').1 ≡ Some o'
           by (inl (n, f)) =
               let same : g' ≡ g = same_Some g' g (sym b ∙ ap (λ (k : ℕ). slice_get goings k) n ∙ at_going) in
-              ap (λ (z : Going). (advance s.header z).1) same ∙ e ∙ sym (ap (λ (z : Seat). z.held) f) ∙ w
+              ap (λ (z : Going). (advance s.header z).1) same ∙ e ∙ sym (ap (λ (z : Client). z.held) f) ∙ w
           by (inr f) = waits q x' g' o' f b w
 
   offer_is : (c : ℕ) (o : Offer) (k : OfferKind) → (advance s.header g).1 ≡ Some o → calls_at_offer hints s d r o x k ≡ calls_so_far hints s (d.state, goings) (at_offer s d r c o x k).marks
   offer_is c o offer.Solo e = solo_is c o e
-  offer_is c o (offer.Meet kind) e = meets_is o (list_all holds (set d.seats r (seat_held x o))) e refl
+  offer_is c o (offer.Meet kind) e = meets_is o (list_all holds (set d.clients r (client_held x o))) e refl
 
   item_is : (i : RankItem) → ((c : ℕ) (o : Offer) → i ≡ item.Offer c o → (advance s.header g).1 ≡ Some o)
       → calls_at hints s d r i (Some x) ≡ calls_so_far hints s (d.state, goings) (at_item s d r x i).marks
@@ -145,25 +145,25 @@ module _ (hints : Hints) (s : Setting) (d : Desk) (goings : List Going) (r : ℕ
   item_is (item.Offer c o) f = offer_is c o o.kind (f c o refl)
 
 -- the owner's device calls are those of the serial run, without the close
-pub calls_along : (hints : Hints) (s : Setting) (Good : ℕ → Going → Type 0) (lasting : Lasting s.header Good) (ks : List MeetKind) (d : Desk) (goings : List Going) (arrivals : List Arrival)
-    → Stands s Good ks d goings arrivals → desk_calls hints s d arrivals ≡ calls_so_far hints s (d.state, goings) (served s d arrivals).marks
+pub calls_along : (hints : Hints) (s : Setting) (Good : ℕ → Going → Type 0) (lasting : Lasting s.header Good) (ks : List MeetKind) (d : Owner) (goings : List Going) (arrivals : List Arrival)
+    → Stands s Good ks d goings arrivals → owner_calls hints s d arrivals ≡ calls_so_far hints s (d.state, goings) (served s d arrivals).marks
 calls_along hints s Good lasting ks d goings [] t = refl
 calls_along hints s Good lasting ks d goings ((r, i) ∷ rest) t =
     by (onward s Good lasting ks d goings r i rest t) (λ ks' d' goings' u. calls_along hints s Good lasting ks' d' goings' rest u)
   where
     by : Onward s Good d goings r i rest
-        → ((ks' : List MeetKind) (d' : Desk) (goings' : List Going) → Stands s Good ks' d' goings' rest → desk_calls hints s d' rest ≡ calls_so_far hints s (d'.state, goings') (served s d' rest).marks)
-        → desk_calls hints s d ((r, i) ∷ rest) ≡ calls_so_far hints s (d.state, goings) (served s d ((r, i) ∷ rest)).marks
+        → ((ks' : List MeetKind) (d' : Owner) (goings' : List Going) → Stands s Good ks' d' goings' rest → owner_calls hints s d' rest ≡ calls_so_far hints s (d'.state, goings') (served s d' rest).marks)
+        → owner_calls hints s d ((r, i) ∷ rest) ≡ calls_so_far hints s (d.state, goings) (served s d ((r, i) ∷ rest)).marks
     by o again =
         let here : event_calls hints s d (r, i) ≡ calls_so_far hints s (d.state, goings) (event s d (r, i)).marks =
-        ap (λ (m : Option Seat). calls_at hints s d r i m) o.at_seat
-        ∙ item_is hints s d goings r o.seat o.going o.at_seat o.at_going t.seated.long (λ q x' g' o' a b w. ((t.seated.sits q x' g' a b).waits o' w).0) i o.offers
+        ap (λ (m : Option Client). calls_at hints s d r i m) o.at_client
+        ∙ item_is hints s d goings r o.client o.going o.at_client o.at_going t.cliented.long (λ q x' g' o' a b w. ((t.cliented.sits q x' g' a b).waits o' w).0) i o.offers
         ∙ ap (λ (u : Event). calls_so_far hints s (d.state, goings) u.marks) (sym o.is) in
-        let later = again o.kinds_left (event s d (r, i)).desk o.after o.stands in
+        let later = again o.kinds_left (event s d (r, i)).owner o.after o.stands in
         calls_on hints s d (r, i) rest o.not_strange
         ∙ (λ j. here j ++ later j)
-        ∙ ap (λ (z : Counted × List Going). calls_so_far hints s (d.state, goings) (event s d (r, i)).marks ++ calls_so_far hints s z (served s (event s d (r, i)).desk rest).marks) (sym o.folded)
-        ∙ sym (calls_more hints s (d.state, goings) (event s d (r, i)).marks (served s (event s d (r, i)).desk rest).marks)
+        ∙ ap (λ (z : Counted × List Going). calls_so_far hints s (d.state, goings) (event s d (r, i)).marks ++ calls_so_far hints s z (served s (event s d (r, i)).owner rest).marks) (sym o.folded)
+        ∙ sym (calls_more hints s (d.state, goings) (event s d (r, i)).marks (served s (event s d (r, i)).owner rest).marks)
         ∙ ap (λ (ms : List Mark). calls_so_far hints s (d.state, goings) ms) (sym (served_on s d (r, i) rest o.not_strange).marks)
 
 -- ---- offers that raise the count by their kind bring no puts
@@ -189,13 +189,13 @@ single_item : (header : Header) (g : Going) (i : RankItem) → ((c : ℕ) (o : O
 single_item header g (item.Ended memory) f = tt
 single_item header g (item.Offer c o) f = single_go header o g.calls g.rank g.answers (f c o refl)
 
-pub single_along : (s : Setting) (Good : ℕ → Going → Type 0) (lasting : Lasting s.header Good) (ks : List MeetKind) (d : Desk) (goings : List Going) (arrivals : List Arrival)
+pub single_along : (s : Setting) (Good : ℕ → Going → Type 0) (lasting : Lasting s.header Good) (ks : List MeetKind) (d : Owner) (goings : List Going) (arrivals : List Arrival)
     → Stands s Good ks d goings arrivals → AreSingle arrivals
 single_along s Good lasting ks d goings [] t a h = absurd h
 single_along s Good lasting ks d goings ((r, i) ∷ rest) t a h =
     by (onward s Good lasting ks d goings r i rest t) (λ ks' d' goings' u. single_along s Good lasting ks' d' goings' rest u) h
   where
-    by : Onward s Good d goings r i rest → ((ks' : List MeetKind) (d' : Desk) (goings' : List Going) → Stands s Good ks' d' goings' rest → AreSingle rest)
+    by : Onward s Good d goings r i rest → ((ks' : List MeetKind) (d' : Owner) (goings' : List Going) → Stands s Good ks' d' goings' rest → AreSingle rest)
         → ((r, i) ≡ a) ⊎ In rest a → IsSingle a.1
     by o again (inl e) = subst (λ (b : Arrival). IsSingle b.1) e (single_item s.header o.going i o.offers)
-    by o again (inr e) = again o.kinds_left (event s d (r, i)).desk o.after o.stands a e
+    by o again (inr e) = again o.kinds_left (event s d (r, i)).owner o.after o.stands a e

@@ -23,15 +23,15 @@ use Rattle.nc_base.specs.declared.step.RankItem.{RankItem}
 use Rattle.nc_base.specs.declared.step.StepErr.{StepErr}
 use Rattle.nc_base.specs.declared.step.StepErr.TheVariants as fault
 use Rattle.nc_outside.specs.Told.{BothTold}
-use Rattle.serial_spec.specs.Desk.{Desk, event, first_desk, free_seat, given_along, is_strange, offers_in, own_items, served}
+use Rattle.serial_spec.specs.Owner.{Owner, event, first_owner, free_client, given_along, is_strange, offers_in, own_items, served}
 use Rattle.serial_spec.specs.FileStep.{Setting, Counted, raised}
 use Rattle.serial_spec.specs.HeaderBytes.{count_width}
 use Rattle.serial_spec.specs.SoundHeaders.{is_sound}
 use Rattle.serial_spec.specs.History.{Arrival, IsLegal, is_offer}
-use Rattle.serial_spec.specs.Joined.{opening_desk, run_of}
+use Rattle.serial_spec.specs.Joined.{opening_owner, run_of}
 use Rattle.serial_spec.specs.Lawful.{is_lawful}
 use Rattle.serial_spec.specs.RankSide.{rank_end}
-use Rattle.serial_spec.specs.Reading.{told_of}
+use Rattle.serial_spec.specs.Readings.{told_of}
 use Rattle.serial_spec.specs.SerialEnd.{Going, advance, after_mark, first_going, first_state, serial_from, setting_of, state_after}
 use Rattle.serial_spec.specs.Torn.{Begins, HasAnswers, HasAnswersOfEach, IsCutRun, IsLeft, IsTorn, OwnerStoodAt, StoodAt}
 use Rattle.serial_spec.specs.Torn.StoodAt.{in_step, in_close, between}
@@ -40,14 +40,14 @@ use Rattle.join_laws.specs.Begun.{HasOffered}
 use Rattle.join_laws.proofs.Completing.{completed, completed_by}
 use Rattle.turn_run.specs.Begun.{HasBegun}
 use Rattle.turn_run.specs.Said.{HasSaid}
-use Rattle.turn_run.specs.Seated.{calls_of}
+use Rattle.turn_run.specs.Running.{calls_of}
 use Rattle.turn_run.proofs.CutRuns.{no_answers}
 use Rattle.turn_run.proofs.SaidLaws.{said_here, said_part, said_up}
 use Rattle.turn_run.proofs.TellLaws.{told_along}
-use Rattle.turn_run.specs.Telling.{counts_along}
-use Rattle.thread_run.specs.Owned.{desk_told, AreSingle}
+use Rattle.turn_run.specs.Told.{counts_along}
+use Rattle.thread_run.specs.Owned.{owner_told, AreSingle}
 use Rattle.thread_run.specs.Refused.{HasCutService}
-use Rattle.thread_run.specs.Serving.{IsDone, IsDoneSo, opening}
+use Rattle.thread_run.specs.Service.{IsDone, IsDoneSo, opening}
 use Rattle.turn_run.specs.Run.{HasCut}
 use Rattle.thread_run.specs.Threads.{EndedAt, NoneBroke, most_known_of}
 use Rattle.thread_run.specs.Threads.EndedAt.{as_left, in_close as in_closing}
@@ -55,7 +55,7 @@ use Rattle.thread_run.proofs.CutRank.{last_end}
 use Rattle.thread_run.proofs.CutJoin.{Ran, cut_run, end_of_rank}
 use Rattle.thread_run.proofs.CutStood.{single_begun, stood_run}
 use Rattle.join_laws.proofs.JoinLaws.{served_on}
-use Rattle.thread_run.proofs.DeskRuns.{goes_on}
+use Rattle.thread_run.proofs.OwnerRuns.{goes_on}
 use Rattle.thread_run.proofs.TellLaws.{count_of}
 use Rattle.thread_run.proofs.ThreadRuns.{FinishedSo, finished, finished_so}
 use Rattle.thread_run.proofs.ThreadTies.{Own, Told, begun, broke_or_not, offered_all, own_of, puts, takes}
@@ -77,12 +77,12 @@ rows_of script fault.Memory table answers long disk (inl q) = let k = ap (λ (ro
 rows_of script fault.Memory table answers long disk (inr q) = let k = ap (λ (rows : List (List Answer)). length rows) q in omega arith
 
 module _ (script : Script) (header : Header) (arrivals : List Arrival) (given : ℕ → List OwnerItem) (ends : List RankEnd) (sound : is_sound header ≡ true) (lawful : is_lawful script ≡ true)
-    (t : Told script header arrivals given ends) (file : List ℕ) (order : List Mark) (h : Service (setting_of script header) (opening_desk script header file) script.ranks arrivals given order) where
+    (t : Told script header arrivals given ends) (file : List ℕ) (order : List Mark) (h : Service (setting_of script header) (opening_owner script header file) script.ranks arrivals given order) where
   taken : ℕ → List OwnerItem
   taken = takes script header arrivals given ends t
 
   stopped : ℕ → ℕ
-  stopped q = length (given q) - length (given_along (setting_of script header) (opening_desk script header file) h.first q)
+  stopped q = length (given q) - length (given_along (setting_of script header) (opening_owner script header file) h.first q)
 
   offered_of : HasOffered script header (h.first ++ h.later) (takes script header arrivals given ends t)
   offered_of = subst (λ (xs : List Arrival). HasOffered script header xs (takes script header arrivals given ends t)) h.all (offered_all script header arrivals given ends t)
@@ -91,16 +91,16 @@ module _ (script : Script) (header : Header) (arrivals : List Arrival) (given : 
   own_at r l = entry_below script.calls r (let k = t.calls in omega arith)
 
   came : (r : ℕ) → r < script.ranks
-      → Begins (takes script header arrivals given ends t r) (given_along (setting_of script header) (opening_desk script header file) h.first r
-      ++ replicate (length (given r) - length (given_along (setting_of script header) (opening_desk script header file) h.first r)) Stop)
+      → Begins (takes script header arrivals given ends t r) (given_along (setting_of script header) (opening_owner script header file) h.first r
+      ++ replicate (length (given r) - length (given_along (setting_of script header) (opening_owner script header file) h.first r)) Stop)
   came r l =
       let own = own_at r l in
       let o = own_of script header arrivals given ends t r own.0 own.1 in
       let g = h.gives r l in
-      let long = ap (λ (items : List OwnerItem). length items) g.1 ∙ length-append (given_along (setting_of script header) (opening_desk script header file) h.first r) (replicate g.0 Stop) in
+      let long = ap (λ (items : List OwnerItem). length items) g.1 ∙ length-append (given_along (setting_of script header) (opening_owner script header file) h.first r) (replicate g.0 Stop) in
       let wide = length-replicate g.0 Stop in
-      let count : g.0 ≡ length (given r) - length (given_along (setting_of script header) (opening_desk script header file) h.first r) = omega arith in
-      (o.came_back.0, o.came_back.1 ∙ g.1 ∙ ap (λ (k : ℕ). given_along (setting_of script header) (opening_desk script header file) h.first r ++ replicate k Stop) count)
+      let count : g.0 ≡ length (given r) - length (given_along (setting_of script header) (opening_owner script header file) h.first r) = omega arith in
+      (o.came_back.0, o.came_back.1 ∙ g.1 ∙ ap (λ (k : ℕ). given_along (setting_of script header) (opening_owner script header file) h.first r ++ replicate k Stop) count)
 
   offers_front : (xs ys : List RankItem) → offers_in xs ≤ offers_in (xs ++ ys)
   offers_front [] ys = omega arith
@@ -120,15 +120,15 @@ module _ (script : Script) (header : Header) (arrivals : List Arrival) (given : 
       let same = ap (λ (xs : List Arrival). offers_in (own_items r xs)) h.all in
       omega arith
 
-  run : Ran (setting_of script header) (opening_desk script header file) (map (first_going header) script.calls) h.first h.later stopped (end_of_rank script header (takes script header arrivals given ends t))
+  run : Ran (setting_of script header) (opening_owner script header file) (map (first_going header) script.calls) h.first h.later stopped (end_of_rank script header (takes script header arrivals given ends t))
   unfolding stopped
   run = cut_run script header file h.first h.later (takes script header arrivals given ends t) stopped sound t.calls h.none offered_of enough came
 
-  state_is : state_after script header file order ≡ ((run_of script header file h.first).desk.state, run.last)
+  state_is : state_after script header file order ≡ ((run_of script header file h.first).owner.state, run.last)
   state_is = ap (λ (ms : List Mark). state_after script header file ms) h.order_is ∙ run.folded
 
   -- each step of the order was told with the count that the serial run has after it
-  pub told_is : desk_told (setting_of script header) (opening_desk script header file) h.first ≡ told_of script header file order
+  pub told_is : owner_told (setting_of script header) (opening_owner script header file) h.first ≡ told_of script header file order
   told_is =
       run.told
       ∙ ap (λ (ms : List Mark). counts_along (after_mark (setting_of script header)) count_of (first_state header file script.calls) ms) (sym h.order_is)
@@ -142,7 +142,7 @@ module _ (script : Script) (header : Header) (arrivals : List Arrival) (given : 
       let own = own_at r low in
       let o = own_of script header arrivals given ends t r own.0 own.1 in
       let same : o.end ≡ end = same_Some o.end end (sym o.at_end ∙ b) in
-      let x = entry_beside run.last (run_of script header file h.first).desk.seats r g (sym run.stands.long) a in
+      let x = entry_beside run.last (run_of script header file h.first).owner.clients r g (sym run.stands.long) a in
       let ended : (advance header g).0 ≡ end_of_rank script header (takes script header arrivals given ends t) r =
       last_end header x.0 g (own_items r h.later) (stopped r) (end_of_rank script header (takes script header arrivals given ends t) r) (run.stands.sits r x.0 g x.1 a) in
       let its : calls_of script r ≡ own.0 = ap (λ (m : Option (List Call)). elim m [ None ↦ [] | Some cs ↦ cs ]) own.1 in
@@ -178,32 +178,32 @@ module _ (script : Script) (header : Header) (arrivals : List Arrival) (given : 
   may_follow : (later : List Mark) × IsLegal script (order ++ later)
   may_follow = completed script order lawful begun_order.known_ranks begun_order.each_rank
 
-  next_mark : (a : Arrival) (others : List Arrival) → h.later ≡ a ∷ others → is_strange (setting_of script header) (run_of script header file h.first).desk a ≡ false → (m : Mark)
-      → (event (setting_of script header) (run_of script header file h.first).desk a).marks ≡ m ∷ [] → (rest : List Mark) × IsLegal script (order ++ m ∷ rest)
+  next_mark : (a : Arrival) (others : List Arrival) → h.later ≡ a ∷ others → is_strange (setting_of script header) (run_of script header file h.first).owner a ≡ false → (m : Mark)
+      → (event (setting_of script header) (run_of script header file h.first).owner a).marks ≡ m ∷ [] → (rest : List Mark) × IsLegal script (order ++ m ∷ rest)
   next_mark a others is fit m marks =
       let s = setting_of script header in
-      let d = opening_desk script header file in
+      let d = opening_owner script header file in
       let on = goes_on script.hints s d h.first (a ∷ []) h.none in
-      let one = served_on s (served s d h.first).desk a [] fit in
+      let one = served_on s (served s d h.first).owner a [] fit in
       let same : (run_of script header file (h.first ++ a ∷ [])).marks ≡ order ++ m ∷ [] =
-      on.marks ∙ ap (λ (ms : List Mark). (served s d h.first).marks ++ ms) (one.marks ∙ append-nil (event s (served s d h.first).desk a).marks ∙ marks)
+      on.marks ∙ ap (λ (ms : List Mark). (served s d h.first).marks ++ ms) (one.marks ∙ append-nil (event s (served s d h.first).owner a).marks ∙ marks)
       ∙ ap (λ (ms : List Mark). ms ++ m ∷ []) (sym h.order_is) in
       let b = subst (λ (ms : List Mark). HasBegun script ms) same
       (begun script header arrivals given ends t file (h.first ++ a ∷ []) others (h.all ∙ ap (λ (xs : List Arrival). h.first ++ xs) is ∙ sym (append_assoc h.first (a ∷ []) others)) lawful) in
       completed_by script order m lawful b.known_ranks b.each_rank
 
-  stood_served : (e : StepErr) (left : List ℕ) (records : ℕ) → OwnerStoodAt (setting_of script header) e (run_of script header file h.first).desk h.later left records
+  stood_served : (e : StepErr) (left : List ℕ) (records : ℕ) → OwnerStoodAt (setting_of script header) e (run_of script header file h.first).owner h.later left records
       → StoodAt script (setting_of script header) e (state_after script header file order) order left records
   stood_served e left records at =
       subst (λ (st : Counted × List Going). StoodAt script (setting_of script header) e st order left records) (sym state_is)
-      (stood_run script (setting_of script header) e (run_of script header file h.first).desk run.last order h.later left records (λ q. replicate (stopped q) Stop)
+      (stood_run script (setting_of script header) e (run_of script header file h.first).owner run.last order h.later left records (λ q. replicate (stopped q) Stop)
       (end_of_rank script header (takes script header arrivals given ends t)) run.stands numbers may_follow next_mark at)
     where
-      numbers : list_all (λ (b : Arrival). nat_lt b.0 (length (run_of script header file h.first).desk.seats)) h.later ≡ true
+      numbers : list_all (λ (b : Arrival). nat_lt b.0 (length (run_of script header file h.first).owner.clients)) h.later ≡ true
       numbers =
-          let seats = run.stands.long ∙ run.long ∙ length-replicate (length script.calls) free_seat ∙ t.calls in
+          let clients = run.stands.long ∙ run.long ∙ length-replicate (length script.calls) free_client ∙ t.calls in
           let both = sym (list_all-append (λ (a : Arrival). nat_lt a.0 script.ranks) h.first h.later) ∙ offered_of.numbers in
-          ap (λ (k : ℕ). list_all (λ (b : Arrival). nat_lt b.0 k) h.later) seats ∙ and_second (list_all (λ (a : Arrival). nat_lt a.0 script.ranks) h.first) _ both
+          ap (λ (k : ℕ). list_all (λ (b : Arrival). nat_lt b.0 k) h.later) clients ∙ and_second (list_all (λ (a : Arrival). nat_lt a.0 script.ranks) h.first) _ both
 
   single : AreSingle (h.first ++ h.later)
   single = single_begun script header (h.first ++ h.later) (takes script header arrivals given ends t) t.calls offered_of
@@ -220,17 +220,17 @@ pub record EndOfCut (header : Header) (ends : List RankEnd) (before : ServeEnd) 
 
 module _ (script : Script) (header : Header) (arrivals : List Arrival) (given : ℕ → List OwnerItem) (ends : List RankEnd) (sound : is_sound header ≡ true) (lawful : is_lawful script ≡ true)
     (t : Told script header arrivals given ends) (file : List ℕ) where
-  abbrev desk : Desk
-  desk = opening_desk script header file
+  abbrev owner : Owner
+  owner = opening_owner script header file
 
-  pub desk_is : opening script.ranks (counted file header.records) ≡ opening_desk script header file
-  desk_is = ap (λ (n : ℕ). first_desk (replicate n free_seat) (counted file header.records)) (sym t.calls)
+  pub owner_is : opening script.ranks (counted file header.records) ≡ opening_owner script header file
+  owner_is = ap (λ (n : ℕ). first_owner (replicate n free_client) (counted file header.records)) (sym t.calls)
 
-  pub ranks_are : script.ranks ≡ length (opening_desk script header file).seats
-  ranks_are = sym t.calls ∙ sym (length-replicate (length script.calls) free_seat)
+  pub ranks_are : script.ranks ≡ length (opening_owner script header file).clients
+  ranks_are = sym t.calls ∙ sym (length-replicate (length script.calls) free_client)
 
   as_run : (e : StepErr) (before : ServeEnd) (held : Option (List ℕ)) (count : ℕ) (left : Option (List ℕ)) (records : ℕ) (end : RunEnd) → EndOfCut header ends before e held count left records end
-      → (h : Service (setting_of script header) (opening_desk script header file) script.ranks arrivals given before.order) → (bytes : List ℕ)
+      → (h : Service (setting_of script header) (opening_owner script header file) script.ranks arrivals given before.order) → (bytes : List ℕ)
       → StoodAt script (setting_of script header) e (state_after script header file before.order) before.order bytes records → IsCutRun script header file e end.order bytes records end.answers
   as_run e before held count left records end c h bytes at = subst (λ (ms : List Mark). IsCutRun script header file e ms bytes records end.answers) (sym c.order) (record {
     stood = at;
@@ -245,8 +245,8 @@ module _ (script : Script) (header : Header) (arrivals : List Arrival) (given : 
       → (bytes : List ℕ) × (left ≡ Some bytes) × IsCutRun script header file e end.order bytes records end.answers
   unfolding service_cut
   cut_served x e before held count left records end c which l k service =
-      let g = subst (λ (d : Desk). HasCutService (setting_of script header) x d arrivals before.order held count given) desk_is service in
-      let h = service_cut (setting_of script header) (opening_desk script header file) script.ranks count x arrivals given before.order held ranks_are g in
+      let g = subst (λ (d : Owner). HasCutService (setting_of script header) x d arrivals before.order held count given) owner_is service in
+      let h = service_cut (setting_of script header) (opening_owner script header file) script.ranks count x arrivals given before.order held ranks_are g in
       let alone = single script header arrivals given ends sound lawful t file before.order h in
       let told = g.told (subst AreSingle (sym g.all) alone) in
       let at = stood_served script header arrivals given ends sound lawful t file before.order h x g.left count (g.service.stood alone) in (
@@ -265,16 +265,16 @@ module _ (script : Script) (header : Header) (arrivals : List Arrival) (given : 
       → (bytes : List ℕ) × (left ≡ Some bytes) × IsCutRun script header file e end.order bytes records end.answers
   cut_broken e before held count left records end c memory l k done so =
       let s = setting_of script header in
-      let d = subst (λ (d : Desk). IsDone s d arrivals script.ranks given before.order before.stranger) desk_is done in
-      let o = subst (λ (d : Desk). IsDoneSo s d arrivals script.ranks given held count) desk_is so in
-      let h = service_done script.hints s (opening_desk script header file) script.ranks arrivals given before.order d.order o.given in
+      let d = subst (λ (d : Owner). IsDone s d arrivals script.ranks given before.order before.stranger) owner_is done in
+      let o = subst (λ (d : Owner). IsDoneSo s d arrivals script.ranks given held count) owner_is so in
+      let h = service_done script.hints s (opening_owner script header file) script.ranks arrivals given before.order d.order o.given in
       let state = state_is script header arrivals given ends sound lawful t file before.order h.0 in
-      let there : (run_of script header file arrivals).desk.state ≡ (state_after script header file before.order).0 =
-      ap (λ (x : Desk). x.state) (sym h.1) ∙ sym (ap (λ (st : Counted × List Going). st.0) state) in
+      let there : (run_of script header file arrivals).owner.state ≡ (state_after script header file before.order).0 =
+      ap (λ (x : Owner). x.state) (sym h.1) ∙ sym (ap (λ (st : Counted × List Going). st.0) state) in
       let may = may_follow script header arrivals given ends sound lawful t file before.order h.0 in (
-        (run_of script header file arrivals).desk.state.file,
+        (run_of script header file arrivals).owner.state.file,
         l ∙ o.told,
-        as_run e before held count left records end c h.0 (run_of script header file arrivals).desk.state.file
+        as_run e before held count left records end c h.0 (run_of script header file arrivals).owner.state.file
             (between may.0 may.1 memory (ap (λ (x : Counted). x.file) there) (k ∙ o.records ∙ ap (λ (x : Counted). x.records) there)),
       )
 
@@ -287,16 +287,16 @@ module _ (script : Script) (header : Header) (arrivals : List Arrival) (given : 
       → (bytes : List ℕ) × (left ≡ Some bytes) × IsCutRun script header file e end.order bytes records end.answers
   cut_closing e before held count left records end c whole torn which done so =
       let s = setting_of script header in
-      let d = subst (λ (d : Desk). IsDone s d arrivals script.ranks given before.order before.stranger) desk_is (done file) in
-      let o = subst (λ (d : Desk). IsDoneSo s d arrivals script.ranks given held count) desk_is so in
-      let h = service_done script.hints s (opening_desk script header file) script.ranks arrivals given before.order d.order o.given in
+      let d = subst (λ (d : Owner). IsDone s d arrivals script.ranks given before.order before.stranger) owner_is (done file) in
+      let o = subst (λ (d : Owner). IsDoneSo s d arrivals script.ranks given held count) owner_is so in
+      let h = service_done script.hints s (opening_owner script header file) script.ranks arrivals given before.order d.order o.given in
       let state = state_is script header arrivals given ends sound lawful t file before.order h.0 in
-      let there : (run_of script header file arrivals).desk.state ≡ (state_after script header file before.order).0 =
-      ap (λ (x : Desk). x.state) (sym h.1) ∙ sym (ap (λ (st : Counted × List Going). st.0) state) in
+      let there : (run_of script header file arrivals).owner.state ≡ (state_after script header file before.order).0 =
+      ap (λ (x : Owner). x.state) (sym h.1) ∙ sym (ap (λ (st : Counted × List Going). st.0) state) in
       let fin = finished script header arrivals given ends before.order before.stranger sound lawful t whole done in
-      let last = subst (λ (d : Desk). FinishedSo script header arrivals ends before.order file (served s d arrivals).desk) desk_is
+      let last = subst (λ (d : Owner). FinishedSo script header arrivals ends before.order file (served s d arrivals).owner) owner_is
       (finished_so script header arrivals given ends before.order before.stranger sound lawful t whole done file held count so) in
-      let st = (run_of script header file arrivals).desk.state in
+      let st = (run_of script header file arrivals).owner.state in
       let b = subst (λ (m : Option (List ℕ)). BothTold (λ old now. IsTorn [] (byte_len (count_width header.version)) old (raised (as_setting header) (counted old count) (most_known_of ends)).file now) m left) o.told torn in
       let file_is : (raised (as_setting header) (counted st.file count) (most_known_of ends)).file ≡ (serial_from script header file before.order).bytes =
       ap (λ (n : ℕ). (raised (as_setting header) (counted st.file n) (most_known_of ends)).file) o.records ∙ last.bytes in (

@@ -18,7 +18,7 @@ use Rattle.nc_base.specs.declared.step.OfferKind.{OfferKind}
 use Rattle.nc_base.specs.declared.step.OfferKind.TheVariants as offer
 use Rattle.nc_base.specs.declared.step.RankItem.{RankItem}
 use Rattle.nc_base.specs.declared.step.RankItem.TheVariants as item
-use Rattle.serial_spec.specs.Desk.{Desk, Event, Seat, at_item, at_offer, event, holds, meets_if, needed_now, offers_held, refused, served, strange_offer}
+use Rattle.serial_spec.specs.Owner.{Owner, Event, Client, at_item, at_offer, event, holds, meets_if, needed_now, offers_held, refused, served, strange_offer}
 use Rattle.serial_spec.specs.ExternalForm.{size_of}
 use Rattle.serial_spec.specs.FileStep.{Counted, Setting, needs, puts_of, told}
 use Rattle.serial_spec.specs.HeaderBytes.{header_len}
@@ -35,7 +35,7 @@ use Rattle.join_laws.proofs.CountLaws.{bad_none, bad_put, passes_accepted}
 use Rattle.join_laws.proofs.EventLaws.{get_set}
 use Rattle.join_laws.proofs.JoinLaws.{Stands, served_on, fold_two}
 use Rattle.join_laws.proofs.StepLaws.{offer_at, offers_long}
-use Rattle.join_laws.proofs.SeatTurns.{Lasting, seat_held}
+use Rattle.join_laws.proofs.ClientTurns.{Lasting, client_held}
 use Rattle.join_laws.proofs.TieLaws.{one_held}
 use Rattle.thread_run.proofs.ThreadCalls.{Onward, onward}
 use Rattle.list_laws.proofs.Places.{entry_beside}
@@ -125,94 +125,94 @@ near_needs s sound puts h = by (told s puts)
 
 -- ---- what an arrival brings
 
-module _ (s : Setting) (sound : is_sound s.header ≡ true) (d : Desk) (goings : List Going) (r : ℕ) (x : Seat) (g : Going)
-    (at_seat : slice_get d.seats r ≡ Some x) (at_going : slice_get goings r ≡ Some g) (long : length d.seats ≡ length goings)
+module _ (s : Setting) (sound : is_sound s.header ≡ true) (d : Owner) (goings : List Going) (r : ℕ) (x : Client) (g : Going)
+    (at_client : slice_get d.clients r ≡ Some x) (at_going : slice_get goings r ≡ Some g) (long : length d.clients ≡ length goings)
     (fits : (q : ℕ) (g' : Going) (o : Offer) → slice_get goings q ≡ Some g' → (advance s.header g').1 ≡ Some o → strange_offer s.header d.reached (Some o) ≡ false)
-    (waits : (q : ℕ) (x' : Seat) (g' : Going) (o : Offer) → slice_get d.seats q ≡ Some x' → slice_get goings q ≡ Some g' → x'.held ≡ Some o → (advance s.header g').1 ≡ Some o)
+    (waits : (q : ℕ) (x' : Client) (g' : Going) (o : Offer) → slice_get d.clients q ≡ Some x' → slice_get goings q ≡ Some g' → x'.held ≡ Some o → (advance s.header g').1 ≡ Some o)
     (near : EndsNear s.header sound d.reached) where
-  near_meets : (o : Offer) (t : Bool) → (advance s.header g).1 ≡ Some o → list_all holds (set d.seats r (seat_held x o)) ≡ t
-      → EndsNear s.header sound (meets_if s d (set d.seats r (seat_held x o)) t).desk.reached
+  near_meets : (o : Offer) (t : Bool) → (advance s.header g).1 ≡ Some o → list_all holds (set d.clients r (client_held x o)) ≡ t
+      → EndsNear s.header sound (meets_if s d (set d.clients r (client_held x o)) t).owner.reached
   near_meets o false e h = near
   near_meets o true e h =
-      near_max s.header sound d.reached (needed_now s (flat_map puts_of (enumerate_from 0 (offers_held (set d.seats r (seat_held x o)))))) near
-      (near_needs s sound (flat_map puts_of (enumerate_from 0 (offers_held (set d.seats r (seat_held x o)))))
-      (near_all s.header sound d.reached (offers_held (set d.seats r (seat_held x o))) 0 each))
+      near_max s.header sound d.reached (needed_now s (flat_map puts_of (enumerate_from 0 (offers_held (set d.clients r (client_held x o)))))) near
+      (near_needs s sound (flat_map puts_of (enumerate_from 0 (offers_held (set d.clients r (client_held x o)))))
+      (near_all s.header sound d.reached (offers_held (set d.clients r (client_held x o))) 0 each))
     where
-      held : (q : ℕ) (x' : Seat) (g' : Going) (o' : Offer) → slice_get (set d.seats r (seat_held x o)) q ≡ Some x' → slice_get goings q ≡ Some g' → x'.held ≡ Some o'
+      held : (q : ℕ) (x' : Client) (g' : Going) (o' : Offer) → slice_get (set d.clients r (client_held x o)) q ≡ Some x' → slice_get goings q ≡ Some g' → x'.held ≡ Some o'
           → (advance s.header g').1 ≡ Some o'
-      held q x' g' o' a b w = by (get_set d.seats r q (seat_held x o) x' a)
+      held q x' g' o' a b w = by (get_set d.clients r q (client_held x o) x' a)
         where
-          by : ((q ≡ r) × (x' ≡ seat_held x o)) ⊎ (slice_get d.seats q ≡ Some x') → (advance s.header g').1 ≡ Some o'
+          by : ((q ≡ r) × (x' ≡ client_held x o)) ⊎ (slice_get d.clients q ≡ Some x') → (advance s.header g').1 ≡ Some o'
           by (inl (n, f)) =
               let same : g' ≡ g = same_Some g' g (sym b ∙ ap (λ (k : ℕ). slice_get goings k) n ∙ at_going) in
-              ap (λ (z : Going). (advance s.header z).1) same ∙ e ∙ sym (ap (λ (z : Seat). z.held) f) ∙ w
+              ap (λ (z : Going). (advance s.header z).1) same ∙ e ∙ sym (ap (λ (z : Client). z.held) f) ∙ w
           by (inr f) = waits q x' g' o' f b w
 
-      each : (q : ℕ) (o' : Offer) → slice_get (offers_held (set d.seats r (seat_held x o))) q ≡ Some o' → strange_offer s.header d.reached (Some o') ≡ false
+      each : (q : ℕ) (o' : Offer) → slice_get (offers_held (set d.clients r (client_held x o))) q ≡ Some o' → strange_offer s.header d.reached (Some o') ≡ false
       each q o' a =
-          let y = entry_beside (offers_held (set d.seats r (seat_held x o))) (set d.seats r (seat_held x o)) q o' (offers_long (set d.seats r (seat_held x o)) h) a in
-          let z = entry_beside (set d.seats r (seat_held x o)) goings q y.0 (length-set d.seats r (seat_held x o) ∙ long) y.1 in
-          let w = one_held (set d.seats r (seat_held x o)) q y.0 h y.1 in
-          let same : w.0 ≡ o' = same_Some w.0 o' (sym (offer_at (set d.seats r (seat_held x o)) q y.0 w.0 h y.1 w.1) ∙ a) in
+          let y = entry_beside (offers_held (set d.clients r (client_held x o))) (set d.clients r (client_held x o)) q o' (offers_long (set d.clients r (client_held x o)) h) a in
+          let z = entry_beside (set d.clients r (client_held x o)) goings q y.0 (length-set d.clients r (client_held x o) ∙ long) y.1 in
+          let w = one_held (set d.clients r (client_held x o)) q y.0 h y.1 in
+          let same : w.0 ≡ o' = same_Some w.0 o' (sym (offer_at (set d.clients r (client_held x o)) q y.0 w.0 h y.1 w.1) ∙ a) in
           subst (λ (p : Offer). strange_offer s.header d.reached (Some p) ≡ false) same (fits q z.0 w.0 z.1 (held q y.0 z.0 w.0 y.1 z.1 w.1))
 
-  near_offer : (c : ℕ) (o : Offer) (k : OfferKind) → (advance s.header g).1 ≡ Some o → EndsNear s.header sound (at_offer s d r c o x k).desk.reached
+  near_offer : (c : ℕ) (o : Offer) (k : OfferKind) → (advance s.header g).1 ≡ Some o → EndsNear s.header sound (at_offer s d r c o x k).owner.reached
   near_offer c o offer.Solo e =
       near_max s.header sound d.reached (needed_now s (puts_of (r, o))) near
       (near_needs s sound (puts_of (r, o)) (near_posts s.header sound o.known r o.batch.puts (bad_none s.header d.reached o (fits r g o at_going e))))
-  near_offer c o (offer.Meet kind) e = near_meets o (list_all holds (set d.seats r (seat_held x o))) e refl
+  near_offer c o (offer.Meet kind) e = near_meets o (list_all holds (set d.clients r (client_held x o))) e refl
 
-  near_item : (i : RankItem) → ((c : ℕ) (o : Offer) → i ≡ item.Offer c o → (advance s.header g).1 ≡ Some o) → EndsNear s.header sound (at_item s d r x i).desk.reached
+  near_item : (i : RankItem) → ((c : ℕ) (o : Offer) → i ≡ item.Offer c o → (advance s.header g).1 ≡ Some o) → EndsNear s.header sound (at_item s d r x i).owner.reached
   near_item (item.Ended memory) f = near
   near_item (item.Offer c o) f = near_offer c o o.kind (f c o refl)
 
 -- ---- along all arrivals
 
-pub near_along : (s : Setting) (sound : is_sound s.header ≡ true) (Good : ℕ → Going → Type 0) (lasting : Lasting s.header Good) (ks : List MeetKind) (d : Desk) (goings : List Going) (arrivals : List Arrival)
-    → Stands s Good ks d goings arrivals → EndsNear s.header sound d.reached → EndsNear s.header sound (served s d arrivals).desk.reached
+pub near_along : (s : Setting) (sound : is_sound s.header ≡ true) (Good : ℕ → Going → Type 0) (lasting : Lasting s.header Good) (ks : List MeetKind) (d : Owner) (goings : List Going) (arrivals : List Arrival)
+    → Stands s Good ks d goings arrivals → EndsNear s.header sound d.reached → EndsNear s.header sound (served s d arrivals).owner.reached
 near_along s sound Good lasting ks d goings [] t near = near
 near_along s sound Good lasting ks d goings ((r, i) ∷ rest) t near =
     by (onward s Good lasting ks d goings r i rest t) (λ ks' d' goings' u n. near_along s sound Good lasting ks' d' goings' rest u n)
   where
     by : Onward s Good d goings r i rest
-        → ((ks' : List MeetKind) (d' : Desk) (goings' : List Going) → Stands s Good ks' d' goings' rest → EndsNear s.header sound d'.reached → EndsNear s.header sound (served s d' rest).desk.reached)
-        → EndsNear s.header sound (served s d ((r, i) ∷ rest)).desk.reached
+        → ((ks' : List MeetKind) (d' : Owner) (goings' : List Going) → Stands s Good ks' d' goings' rest → EndsNear s.header sound d'.reached → EndsNear s.header sound (served s d' rest).owner.reached)
+        → EndsNear s.header sound (served s d ((r, i) ∷ rest)).owner.reached
     by o again =
-        let here = near_item s sound d goings r o.seat o.going o.at_seat o.at_going t.seated.long (λ q g' p b e. fits q g' p b e) (λ q x' g' p a b w. ((t.seated.sits q x' g' a b).waits p w).0) near i o.offers in
-        subst (λ (z : Desk). EndsNear s.header sound z.reached) (sym (served_on s d (r, i) rest o.not_strange).desk)
-        (again o.kinds_left (event s d (r, i)).desk o.after o.stands (subst (λ (u : Event). EndsNear s.header sound u.desk.reached) (sym o.is) here))
+        let here = near_item s sound d goings r o.client o.going o.at_client o.at_going t.cliented.long (λ q g' p b e. fits q g' p b e) (λ q x' g' p a b w. ((t.cliented.sits q x' g' a b).waits p w).0) near i o.offers in
+        subst (λ (z : Owner). EndsNear s.header sound z.reached) (sym (served_on s d (r, i) rest o.not_strange).owner)
+        (again o.kinds_left (event s d (r, i)).owner o.after o.stands (subst (λ (u : Event). EndsNear s.header sound u.owner.reached) (sym o.is) here))
       where
         fits : (q : ℕ) (g' : Going) (p : Offer) → slice_get goings q ≡ Some g' → (advance s.header g').1 ≡ Some p → strange_offer s.header d.reached (Some p) ≡ false
-        fits q g' p b e = let y = entry_beside goings d.seats q g' (sym t.seated.long) b in lasting.fits d.reached g' p (t.seated.sits q y.0 g' y.1 b).good e
+        fits q g' p b e = let y = entry_beside goings d.clients q g' (sym t.cliented.long) b in lasting.fits d.reached g' p (t.cliented.sits q y.0 g' y.1 b).good e
 
 -- what is true of the ranks at their ends
-pub good_along : (s : Setting) (Good : ℕ → Going → Type 0) (lasting : Lasting s.header Good) (ks : List MeetKind) (d : Desk) (goings : List Going) (arrivals : List Arrival)
-    → Stands s Good ks d goings arrivals → (q : ℕ) (g : Going) → slice_get (fold (after_mark s) (d.state, goings) (served s d arrivals).marks).1 q ≡ Some g → Good (served s d arrivals).desk.reached g
-good_along s Good lasting ks d goings [] t q g b = let y = entry_beside goings d.seats q g (sym t.seated.long) b in (t.seated.sits q y.0 g y.1 b).good
+pub good_along : (s : Setting) (Good : ℕ → Going → Type 0) (lasting : Lasting s.header Good) (ks : List MeetKind) (d : Owner) (goings : List Going) (arrivals : List Arrival)
+    → Stands s Good ks d goings arrivals → (q : ℕ) (g : Going) → slice_get (fold (after_mark s) (d.state, goings) (served s d arrivals).marks).1 q ≡ Some g → Good (served s d arrivals).owner.reached g
+good_along s Good lasting ks d goings [] t q g b = let y = entry_beside goings d.clients q g (sym t.cliented.long) b in (t.cliented.sits q y.0 g y.1 b).good
 good_along s Good lasting ks d goings ((r, i) ∷ rest) t q g b =
     by (onward s Good lasting ks d goings r i rest t) (λ ks' d' goings' u b'. good_along s Good lasting ks' d' goings' rest u q g b')
   where
     by : Onward s Good d goings r i rest
-        → ((ks' : List MeetKind) (d' : Desk) (goings' : List Going) → Stands s Good ks' d' goings' rest → slice_get (fold (after_mark s) (d'.state, goings') (served s d' rest).marks).1 q ≡ Some g
-        → Good (served s d' rest).desk.reached g)
-        → Good (served s d ((r, i) ∷ rest)).desk.reached g
+        → ((ks' : List MeetKind) (d' : Owner) (goings' : List Going) → Stands s Good ks' d' goings' rest → slice_get (fold (after_mark s) (d'.state, goings') (served s d' rest).marks).1 q ≡ Some g
+        → Good (served s d' rest).owner.reached g)
+        → Good (served s d ((r, i) ∷ rest)).owner.reached g
     by o again =
         let on = served_on s d (r, i) rest o.not_strange in
-        let same : fold (after_mark s) (d.state, goings) (served s d ((r, i) ∷ rest)).marks ≡ fold (after_mark s) ((event s d (r, i)).desk.state, o.after) (served s (event s d (r, i)).desk rest).marks =
-        ap (λ (m : List Mark). fold (after_mark s) (d.state, goings) m) on.marks ∙ fold_two s (d.state, goings) (event s d (r, i)).marks (served s (event s d (r, i)).desk rest).marks
-        ∙ ap (λ (u : Counted × List Going). fold (after_mark s) u (served s (event s d (r, i)).desk rest).marks) o.folded in
-        subst (λ (z : Desk). Good z.reached g) (sym on.desk)
-        (again o.kinds_left (event s d (r, i)).desk o.after o.stands (sym (ap (λ (u : Counted × List Going). slice_get u.1 q) same) ∙ b))
+        let same : fold (after_mark s) (d.state, goings) (served s d ((r, i) ∷ rest)).marks ≡ fold (after_mark s) ((event s d (r, i)).owner.state, o.after) (served s (event s d (r, i)).owner rest).marks =
+        ap (λ (m : List Mark). fold (after_mark s) (d.state, goings) m) on.marks ∙ fold_two s (d.state, goings) (event s d (r, i)).marks (served s (event s d (r, i)).owner rest).marks
+        ∙ ap (λ (u : Counted × List Going). fold (after_mark s) u (served s (event s d (r, i)).owner rest).marks) o.folded in
+        subst (λ (z : Owner). Good z.reached g) (sym on.owner)
+        (again o.kinds_left (event s d (r, i)).owner o.after o.stands (sym (ap (λ (u : Counted × List Going). slice_get u.1 q) same) ∙ b))
 
-pub small_along : (s : Setting) (Good : ℕ → Going → Type 0) (lasting : Lasting s.header Good) (ks : List MeetKind) (d : Desk) (goings : List Going) (arrivals : List Arrival)
-    → Stands s Good ks d goings arrivals → (served s d arrivals).desk.reached < record_limit s.header.version
+pub small_along : (s : Setting) (Good : ℕ → Going → Type 0) (lasting : Lasting s.header Good) (ks : List MeetKind) (d : Owner) (goings : List Going) (arrivals : List Arrival)
+    → Stands s Good ks d goings arrivals → (served s d arrivals).owner.reached < record_limit s.header.version
 small_along s Good lasting ks d goings [] t = t.small
 small_along s Good lasting ks d goings ((r, i) ∷ rest) t =
     by (onward s Good lasting ks d goings r i rest t) (λ ks' d' goings' u. small_along s Good lasting ks' d' goings' rest u)
   where
     by : Onward s Good d goings r i rest
-        → ((ks' : List MeetKind) (d' : Desk) (goings' : List Going) → Stands s Good ks' d' goings' rest → (served s d' rest).desk.reached < record_limit s.header.version)
-        → (served s d ((r, i) ∷ rest)).desk.reached < record_limit s.header.version
+        → ((ks' : List MeetKind) (d' : Owner) (goings' : List Going) → Stands s Good ks' d' goings' rest → (served s d' rest).owner.reached < record_limit s.header.version)
+        → (served s d ((r, i) ∷ rest)).owner.reached < record_limit s.header.version
     by o again =
-        subst (λ (z : Desk). z.reached < record_limit s.header.version) (sym (served_on s d (r, i) rest o.not_strange).desk)
-        (again o.kinds_left (event s d (r, i)).desk o.after o.stands)
+        subst (λ (z : Owner). z.reached < record_limit s.header.version) (sym (served_on s d (r, i) rest o.not_strange).owner)
+        (again o.kinds_left (event s d (r, i)).owner o.after o.stands)

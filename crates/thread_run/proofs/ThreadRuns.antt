@@ -9,12 +9,12 @@ use Rattle.nc_base.specs.declared.run.RankEnd.{RankEnd}
 use Rattle.nc_base.specs.declared.script.Script.{Script}
 use Rattle.nc_base.specs.declared.step.Mark.{Mark}
 use Rattle.nc_base.specs.declared.step.OwnerItem.{OwnerItem}
-use Rattle.serial_spec.specs.Desk.{Desk, first_desk, free_seat, owed, served}
+use Rattle.serial_spec.specs.Owner.{Owner, first_owner, free_client, owed, served}
 use Rattle.serial_spec.specs.DeviceCalls.{run_calls, store_records}
 use Rattle.serial_spec.specs.FileStep.{Counted, raised}
 use Rattle.serial_spec.specs.SoundHeaders.{is_sound}
 use Rattle.serial_spec.specs.History.{Arrival, IsLegal}
-use Rattle.serial_spec.specs.Joined.{IsJoined, back_of, close_by, opening_desk, rank_ends, run_of}
+use Rattle.serial_spec.specs.Joined.{IsJoined, back_of, close_by, opening_owner, rank_ends, run_of}
 use Rattle.serial_spec.specs.Lawful.{is_lawful}
 use Rattle.serial_spec.specs.Layout.{greatest}
 use Rattle.serial_spec.specs.RankMachine as machine
@@ -25,9 +25,9 @@ use Rattle.join_laws.specs.Alike.{AreAlike}
 use Rattle.join_laws.proofs.AlikeLaws.{end_alike}
 use Rattle.join_laws.proofs.WholeLaws.{lawful_agrees, whole_run}
 use Rattle.join_laws.specs.Alike as own
-use Rattle.thread_run.specs.Attending.{HasFinished}
-use Rattle.thread_run.specs.Owned.{AreSingle, desk_calls}
-use Rattle.thread_run.specs.Serving.{IsDone, IsDoneSo, opening}
+use Rattle.thread_run.specs.RankSides.{HasFinished}
+use Rattle.thread_run.specs.Owned.{AreSingle, owner_calls}
+use Rattle.thread_run.specs.Service.{IsDone, IsDoneSo, opening}
 use Rattle.thread_run.specs.Threads.{most_known_of, NoneBroke}
 use Rattle.thread_run.proofs.ThreadLists.{alike_from}
 use Rattle.thread_run.proofs.ThreadTies.{Told, finished_of, joined, low_rank, own_of, puts, takes, took_all}
@@ -42,28 +42,28 @@ pub record Finished (script : Script) (header : Header) (arrivals : List Arrival
   pub single : AreSingle arrivals
 
 -- from these bytes
-pub record FinishedSo (script : Script) (header : Header) (arrivals : List Arrival) (ends : List RankEnd) (order : List Mark) (file : List ℕ) (desk : Desk) : Type 0 where
-  pub bytes : (raised (as_setting header) (counted desk.state.file desk.state.records) (most_known_of ends)).file ≡ (serial_from script header file order).bytes
-  pub records : max desk.state.records (most_known_of ends) ≡ (serial_from script header file order).records
+pub record FinishedSo (script : Script) (header : Header) (arrivals : List Arrival) (ends : List RankEnd) (order : List Mark) (file : List ℕ) (owner : Owner) : Type 0 where
+  pub bytes : (raised (as_setting header) (counted owner.state.file owner.state.records) (most_known_of ends)).file ≡ (serial_from script header file order).bytes
+  pub records : max owner.state.records (most_known_of ends) ≡ (serial_from script header file order).records
   pub answers : map (λ end. end.answers) ends ≡ (serial_from script header file order).answers
   pub pending : map (λ end. end.pending) ends ≡ (serial_from script header file order).pending
   pub calls : run_calls script header file order
-      ≡ desk_calls script.hints (setting_of script header) (opening script.ranks (counted file header.records)) arrivals
-      ++ store_records (setting_of script header) (nat_lt desk.state.records (serial_from script header file order).records)
+      ≡ owner_calls script.hints (setting_of script header) (opening script.ranks (counted file header.records)) arrivals
+      ++ store_records (setting_of script header) (nat_lt owner.state.records (serial_from script header file order).records)
 
 module _ (script : Script) (header : Header) (arrivals : List Arrival) (given : ℕ → List OwnerItem) (ends : List RankEnd) (order : List Mark) (stranger : Option ℕ)
     (sound : is_sound header ≡ true) (lawful : is_lawful script ≡ true) (t : Told script header arrivals given ends) (whole : NoneBroke ends)
     (done : (file : List ℕ) → IsDone (setting_of script header) (opening script.ranks (counted file header.records)) arrivals script.ranks given order stranger) where
-  desk_is : (file : List ℕ) → opening script.ranks (counted file header.records) ≡ opening_desk script header file
-  desk_is file = ap (λ (n : ℕ). first_desk (replicate n free_seat) (counted file header.records)) (sym t.calls)
+  owner_is : (file : List ℕ) → opening script.ranks (counted file header.records) ≡ opening_owner script header file
+  owner_is file = ap (λ (n : ℕ). first_owner (replicate n free_client) (counted file header.records)) (sym t.calls)
 
   alike : (file : List ℕ) (q : ℕ) → q < script.ranks → AreAlike (given q) (back_of script header file arrivals q)
   alike file q low =
       alike_from (given q) (back_of script header file arrivals q)
-      (subst (λ (d : Desk). own.AreAlike (given q) (owed (setting_of script header) d arrivals q)) (desk_is file) ((done file).given q low))
+      (subst (λ (d : Owner). own.AreAlike (given q) (owed (setting_of script header) d arrivals q)) (owner_is file) ((done file).given q low))
 
   order_is : (file : List ℕ) → order ≡ (run_of script header file arrivals).marks
-  order_is file = (done file).order ∙ ap (λ (d : Desk). (served (setting_of script header) d arrivals).marks) (desk_is file)
+  order_is file = (done file).order ∙ ap (λ (d : Owner). (served (setting_of script header) d arrivals).marks) (owner_is file)
 
   joined_at : (file : List ℕ) → IsJoined script header file arrivals
   joined_at file = joined script header arrivals given ends t (lawful_agrees script lawful) whole file (alike file)
@@ -102,8 +102,8 @@ module _ (script : Script) (header : Header) (arrivals : List Arrival) (given : 
 
   pub finished_so : (file : List ℕ) (told : Option (List ℕ)) (records : ℕ)
       → IsDoneSo (setting_of script header) (opening script.ranks (counted file header.records)) arrivals script.ranks given told records
-      → FinishedSo script header arrivals ends order file (served (setting_of script header) (opening script.ranks (counted file header.records)) arrivals).desk
-  finished_so file told records so = subst (λ (d : Desk). FinishedSo script header arrivals ends order file (served (setting_of script header) d arrivals).desk) (sym (desk_is file)) (record {
+      → FinishedSo script header arrivals ends order file (served (setting_of script header) (opening script.ranks (counted file header.records)) arrivals).owner
+  finished_so file told records so = subst (λ (d : Owner). FinishedSo script header arrivals ends order file (served (setting_of script header) d arrivals).owner) (sym (owner_is file)) (record {
     bytes = ap (λ (n : ℕ). (raised (as_setting header) (counted state.file state.records) n).file) (known_is file) ∙ sym (ap (λ (e : End). e.bytes) last);
     records = ap (λ (n : ℕ). max state.records n) (known_is file)
         ∙ sym (raised_records (setting_of script header) state (greatest (map (λ g. g.rank.known) (rank_ends script header file arrivals)))) ∙ sym (ap (λ (e : End). e.records) last);
@@ -115,9 +115,9 @@ module _ (script : Script) (header : Header) (arrivals : List Arrival) (given : 
   })
     where
       state : Counted
-      state = (run_of script header file arrivals).desk.state
+      state = (run_of script header file arrivals).owner.state
 
-      last : serial_from script header file order ≡ close_by (setting_of script header) (run_of script header file arrivals).desk.state (rank_ends script header file arrivals)
+      last : serial_from script header file order ≡ close_by (setting_of script header) (run_of script header file arrivals).owner.state (rank_ends script header file arrivals)
       last = ap (λ (ms : List Mark). serial_from script header file ms) (order_is file) ∙ (whole_run script header file arrivals sound lawful (joined_at file)).ends
 
       fin : (r : ℕ) (own : List Call) (e : slice_get script.calls r ≡ Some own)
@@ -128,12 +128,12 @@ module _ (script : Script) (header : Header) (arrivals : List Arrival) (given : 
       back r own e =
           took_all script header arrivals given ends t (lawful_agrees script lawful) whole file (alike file) r own e
           ∙ so.given r (low_rank script header arrivals given ends t r own e)
-          ∙ ap (λ (d : Desk). owed (setting_of script header) d arrivals r) (desk_is file)
+          ∙ ap (λ (d : Owner). owed (setting_of script header) d arrivals r) (owner_is file)
 
       calls : run_calls script header file order
-          ≡ desk_calls script.hints (setting_of script header) (opening script.ranks (counted file header.records)) arrivals
-          ++ store_records (setting_of script header) (nat_lt (run_of script header file arrivals).desk.state.records (serial_from script header file order).records)
+          ≡ owner_calls script.hints (setting_of script header) (opening script.ranks (counted file header.records)) arrivals
+          ++ store_records (setting_of script header) (nat_lt (run_of script header file arrivals).owner.state.records (serial_from script header file order).records)
       calls =
           ap (λ (ms : List Mark). run_calls script header file ms) (order_is file) ∙ calls_all script header file arrivals sound lawful (joined_at file)
-          ∙ (λ i. desk_calls script.hints (setting_of script header) (sym (desk_is file) i) arrivals
-          ++ store_records (setting_of script header) (nat_lt (run_of script header file arrivals).desk.state.records (serial_from script header file (sym (order_is file) i)).records))
+          ∙ (λ i. owner_calls script.hints (setting_of script header) (sym (owner_is file) i) arrivals
+          ++ store_records (setting_of script header) (nat_lt (run_of script header file arrivals).owner.state.records (serial_from script header file (sym (order_is file) i)).records))

@@ -10,13 +10,13 @@ use Rattle.nc_base.specs.declared.script.Script.{Script}
 use Rattle.nc_base.specs.declared.step.OwnerItem.{OwnerItem}
 use Rattle.nc_base.specs.declared.step.RankItem.{RankItem}
 use Rattle.ruled_line.specs.Ends.{End, Line, Receiver, items_under}
-use Rattle.serial_spec.specs.Desk.{own_items}
+use Rattle.serial_spec.specs.Owner.{own_items}
 use Rattle.serial_spec.specs.History.{Arrival}
 use Rattle.serial_spec.specs.Lawful.{is_lawful}
 use Rattle.run_laws.proofs.LawfulLaws.{ranks_lawful}
 use Rattle.thread_run.specs.RankHandle.{AreOf, AreRankHandles, AreSettled, IsSettled, IsSettledOf, IsToldToGo}
-use Rattle.turn_run.specs.Seated.{calls_of}
-use Rattle.thread_run.specs.Serving.{HasTaken, HavePut, arrived, gained}
+use Rattle.turn_run.specs.Running.{calls_of}
+use Rattle.thread_run.specs.Service.{HasTaken, HavePut, arrived, gained}
 use Rattle.thread_run.specs.declared.rank_handle.RankHandle.{RankHandle}
 use Rattle.thread_run.specs.declared.rank_handle.Word.{Word}
 use Rattle.thread_run.specs.declared.rank_handle.Word.TheVariants.{Go}

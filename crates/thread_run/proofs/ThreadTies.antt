@@ -14,7 +14,7 @@ use Rattle.nc_base.specs.declared.script.Script.{Script}
 use Rattle.nc_base.specs.declared.step.OwnerItem.{OwnerItem}
 use Rattle.nc_base.specs.declared.step.RankItem.{RankItem}
 use Rattle.nc_base.specs.declared.step.RankItem.TheVariants as item
-use Rattle.serial_spec.specs.Desk.{own_items}
+use Rattle.serial_spec.specs.Owner.{own_items}
 use Rattle.serial_spec.specs.History.{Arrival}
 use Rattle.serial_spec.specs.Joined.{HasEnd, IsAgreed, IsJoined, IsTied, back_of, run_of}
 use Rattle.serial_spec.specs.Lawful.{is_lawful}
@@ -25,10 +25,10 @@ use Rattle.join_laws.specs.Begun.{HasOffered, IsBeginning}
 use Rattle.join_laws.proofs.AlikeLaws.{offered_alike}
 use Rattle.join_laws.proofs.BegunLaws.{begun_each, begun_known}
 use Rattle.join_laws.proofs.TieLaws.{long_whole, tied_each, tied_joins}
-use Rattle.thread_run.specs.Attending.{HasAttended, HasBroken, HasFinished}
+use Rattle.thread_run.specs.RankSides.{HasAttended, HasBroken, HasFinished}
 use Rattle.turn_run.specs.Begun.{HasBegun}
 use Rattle.thread_run.specs.RankHandle.{IsSettled}
-use Rattle.turn_run.specs.Seated.{calls_of}
+use Rattle.turn_run.specs.Running.{calls_of}
 use Rattle.thread_run.specs.Threads.{NoneBroke}
 use Rattle.thread_run.proofs.ThreadLists.{alike_take, alike_long}
 use Rattle.std.proofs.lemmas.List.{take-append-drop, length-take-le}

@@ -9,22 +9,22 @@ use Rattle.nc_base.specs.declared.step.Mark.{Mark}
 use Rattle.nc_base.specs.declared.step.OwnerItem.{OwnerItem}
 use Rattle.nc_base.specs.declared.step.StepErr.{StepErr}
 use Rattle.nc_outside.specs.Told.{with_end}
-use Rattle.serial_spec.specs.Desk.{Desk}
+use Rattle.serial_spec.specs.Owner.{Owner}
 use Rattle.serial_spec.specs.SoundHeaders.{is_sound}
 use Rattle.serial_spec.specs.History.{Arrival}
-use Rattle.serial_spec.specs.Joined.{opening_desk}
+use Rattle.serial_spec.specs.Joined.{opening_owner}
 use Rattle.serial_spec.specs.Lawful.{is_lawful}
-use Rattle.serial_spec.specs.Reading.{told_of}
+use Rattle.serial_spec.specs.Readings.{told_of}
 use Rattle.serial_spec.specs.SerialEnd.{setting_of}
 use Rattle.collective_round.specs.Rounds.{counted}
-use Rattle.turn_run.specs.Telling.{told_marks, HasTold}
-use Rattle.thread_run.specs.Owned.{desk_told}
+use Rattle.turn_run.specs.Told.{told_marks, HasTold}
+use Rattle.thread_run.specs.Owned.{owner_told}
 use Rattle.thread_run.specs.Refused.{HasCutService}
-use Rattle.thread_run.specs.Serving.{opening, HasToldAlong, IsDone, IsDoneSo}
+use Rattle.thread_run.specs.Service.{opening, HasToldAlong, IsDone, IsDoneSo}
 use Rattle.turn_run.proofs.TellLaws.{marks_ended}
 use Rattle.thread_run.proofs.TellLaws.{marks_along, same_told}
 use Rattle.thread_run.proofs.ServiceCut.{service_cut, service_done, Service}
-use Rattle.thread_run.proofs.ThreadCut.{desk_is, ranks_are, told_is}
+use Rattle.thread_run.proofs.ThreadCut.{owner_is, ranks_are, told_is}
 use Rattle.thread_run.proofs.ThreadTies.{Told}
 
 module _ (script : Script) (header : Header) (arrivals : List Arrival) (given : ℕ → List OwnerItem) (ends : List RankEnd) (sound : is_sound header ≡ true) (lawful : is_lawful script ≡ true)
@@ -37,24 +37,24 @@ module _ (script : Script) (header : Header) (arrivals : List Arrival) (given : 
       → heard ≡ with_end told (told_of script header file before.order)
   run_counts file along done so cut = by_service (by_fault before.fault refl)
     where
-      is : opening script.ranks (counted file header.records) ≡ opening_desk script header file
-      is = desk_is script header arrivals given ends sound lawful t file
+      is : opening script.ranks (counted file header.records) ≡ opening_owner script header file
+      is = owner_is script header arrivals given ends sound lawful t file
 
-      by_fault : (m : Option StepErr) → before.fault ≡ m → Service (setting_of script header) (opening_desk script header file) script.ranks arrivals given before.order
+      by_fault : (m : Option StepErr) → before.fault ≡ m → Service (setting_of script header) (opening_owner script header file) script.ranks arrivals given before.order
       by_fault None none =
-          (service_done script.hints (setting_of script header) (opening_desk script header file) script.ranks arrivals given before.order
-          (subst (λ (d : Desk). IsDone (setting_of script header) d arrivals script.ranks given before.order before.stranger) is (done none file)).order
-          (subst (λ (d : Desk). IsDoneSo (setting_of script header) d arrivals script.ranks given held count) is (so none)).given).0
+          (service_done script.hints (setting_of script header) (opening_owner script header file) script.ranks arrivals given before.order
+          (subst (λ (d : Owner). IsDone (setting_of script header) d arrivals script.ranks given before.order before.stranger) is (done none file)).order
+          (subst (λ (d : Owner). IsDoneSo (setting_of script header) d arrivals script.ranks given held count) is (so none)).given).0
       by_fault (Some x) some =
-          service_cut (setting_of script header) (opening_desk script header file) script.ranks count x arrivals given before.order held (ranks_are script header arrivals given ends sound lawful t file)
-          (subst (λ (d : Desk). HasCutService (setting_of script header) x d arrivals before.order held count given) is (cut x some))
+          service_cut (setting_of script header) (opening_owner script header file) script.ranks count x arrivals given before.order held (ranks_are script header arrivals given ends sound lawful t file)
+          (subst (λ (d : Owner). HasCutService (setting_of script header) x d arrivals before.order held count given) is (cut x some))
 
-      by_service : Service (setting_of script header) (opening_desk script header file) script.ranks arrivals given before.order → heard ≡ with_end told (told_of script header file before.order)
+      by_service : Service (setting_of script header) (opening_owner script header file) script.ranks arrivals given before.order → heard ≡ with_end told (told_of script header file before.order)
       by_service h =
-          let a = subst (λ (d : Desk). HasToldAlong (setting_of script header) d arrivals before.order told heard) is (along file) in
+          let a = subst (λ (d : Owner). HasToldAlong (setting_of script header) d arrivals before.order told heard) is (along file) in
           a.heard
           ∙ ap (λ (more : List (Mark × ℕ)). with_end told more)
-          (same_told (setting_of script header) a.first a.later h.first h.later (opening_desk script header file) (sym a.all ∙ h.all) a.none_strange h.none (sym a.order ∙ h.order_is)
+          (same_told (setting_of script header) a.first a.later h.first h.later (opening_owner script header file) (sym a.all ∙ h.all) a.none_strange h.none (sym a.order ∙ h.order_is)
           ∙ told_is script header arrivals given ends sound lawful t file before.order h)
 
   by_ranks : (found : Option (List ℕ)) → ((file : List ℕ) → HasToldAlong (setting_of script header) (opening script.ranks (counted file header.records)) arrivals before.order told heard)
@@ -63,7 +63,7 @@ module _ (script : Script) (header : Header) (arrivals : List Arrival) (given : 
       → ((x : StepErr) → before.fault ≡ Some x → IfSome found (λ file. HasCutService (setting_of script header) x (opening script.ranks (counted file header.records)) arrivals before.order held count given))
       → HasTold script header found told heard before.order
   by_ranks found along done so cut = record {
-    marks = ap told_marks (along []).heard ∙ marks_ended told (desk_told (setting_of script header) (opening script.ranks (counted [] header.records)) (along []).first)
+    marks = ap told_marks (along []).heard ∙ marks_ended told (owner_told (setting_of script header) (opening script.ranks (counted [] header.records)) (along []).first)
         ∙ ap (λ (ms : List Mark). with_end (told_marks told) ms)
         (marks_along (setting_of script header) (along []).first (opening script.ranks (counted [] header.records)) ∙ sym (along []).order);
     counts = by_told found so cut;

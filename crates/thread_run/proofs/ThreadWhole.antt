@@ -9,13 +9,13 @@ use Rattle.nc_base.specs.declared.script.Script.{Script}
 use Rattle.nc_base.specs.declared.step.MeetKind.{MeetKind}
 use Rattle.nc_base.specs.declared.step.Offer.{Offer}
 use Rattle.nc_base.specs.declared.step.OfferKind.TheVariants as offer
-use Rattle.serial_spec.specs.Desk.{Desk, Seat, free_seat, own_items, owed, served}
+use Rattle.serial_spec.specs.Owner.{Owner, Client, free_client, own_items, owed, served}
 use Rattle.serial_spec.specs.DeviceCalls.{run_calls, store_records}
 use Rattle.serial_spec.specs.FileStep.{Counted, Setting}
 use Rattle.serial_spec.specs.HeaderBytes.{header_len}
 use Rattle.serial_spec.specs.SoundHeaders.{is_sound}
 use Rattle.serial_spec.specs.History.{Arrival}
-use Rattle.serial_spec.specs.Joined.{IsJoined, back_of, opening_desk, rank_ends, run_of}
+use Rattle.serial_spec.specs.Joined.{IsJoined, back_of, opening_owner, rank_ends, run_of}
 use Rattle.serial_spec.specs.Lawful.{is_lawful}
 use Rattle.serial_spec.specs.Layout.{end_of, greatest}
 use Rattle.serial_spec.specs.Limits.{record_limit}
@@ -27,11 +27,11 @@ use Rattle.run_laws.proofs.OrderLaws.{calls_close}
 use Rattle.join_laws.proofs.CountLaws.{sound_small}
 use Rattle.join_laws.proofs.GoodLaws.{Good, good_first, lasting}
 use Rattle.join_laws.proofs.JoinLaws.{Joins, Stands, join}
-use Rattle.join_laws.proofs.StreamLaws.{closes, seat_end}
-use Rattle.join_laws.proofs.SeatTurns.{Sits}
-use Rattle.join_laws.proofs.TurnLaws.{Seated}
+use Rattle.join_laws.proofs.StreamLaws.{closes, client_end}
+use Rattle.join_laws.proofs.ClientTurns.{Sits}
+use Rattle.join_laws.proofs.TurnLaws.{Client}
 use Rattle.join_laws.proofs.WholeLaws.{get_replicate, lawful_agrees, get_map as from_map, none_first}
-use Rattle.thread_run.specs.Owned.{AreSingle, desk_calls}
+use Rattle.thread_run.specs.Owned.{AreSingle, owner_calls}
 use Rattle.thread_run.proofs.ThreadCalls.{calls_along, single_along}
 use Rattle.thread_run.proofs.ThreadKnown.{EndsNear, good_along, near_along, near_first, small_along}
 use Rattle.list_laws.proofs.Maps.{entry_map, map_map}
@@ -53,8 +53,8 @@ module _ (script : Script) (header : Header) (file : List ℕ) (arrivals : List 
   abbrev s : Setting
   s = setting_of script header
 
-  abbrev desk : Desk
-  desk = opening_desk script header file
+  abbrev owner : Owner
+  owner = opening_owner script header file
 
   abbrev goings : List Going
   goings = map (first_going header) script.calls
@@ -62,28 +62,28 @@ module _ (script : Script) (header : Header) (file : List ℕ) (arrivals : List 
   abbrev meetings : List MeetKind
   meetings = (lawful_agrees script lawful).meetings
 
-  seats_long : length (replicate (length script.calls) free_seat) ≡ length (map (first_going header) script.calls)
-  seats_long = length-replicate (length script.calls) free_seat ∙ sym (length-map script.calls (first_going header))
+  clients_long : length (replicate (length script.calls) free_client) ≡ length (map (first_going header) script.calls)
+  clients_long = length-replicate (length script.calls) free_client ∙ sym (length-map script.calls (first_going header))
 
-  seated : Seated header (Good header script.ranks) (lawful_agrees script lawful).meetings header.records (replicate (length script.calls) free_seat) (map (first_going header) script.calls)
-      (λ q. own_items q arrivals) (owed (setting_of script header) (opening_desk script header file) arrivals)
-  seated = record { long = seats_long; sits = sits }
+  cliented : Client header (Good header script.ranks) (lawful_agrees script lawful).meetings header.records (replicate (length script.calls) free_client) (map (first_going header) script.calls)
+      (λ q. own_items q arrivals) (owed (setting_of script header) (opening_owner script header file) arrivals)
+  cliented = record { long = clients_long; sits = sits }
     where
-      sits : (q : ℕ) (x : Seat) (g : Going) → slice_get (replicate (length script.calls) free_seat) q ≡ Some x → slice_get (map (first_going header) script.calls) q ≡ Some g
-          → Sits header (Good header script.ranks) (lawful_agrees script lawful).meetings header.records x g (own_items q arrivals) (owed (setting_of script header) (opening_desk script header file) arrivals q)
+      sits : (q : ℕ) (x : Client) (g : Going) → slice_get (replicate (length script.calls) free_client) q ≡ Some x → slice_get (map (first_going header) script.calls) q ≡ Some g
+          → Sits header (Good header script.ranks) (lawful_agrees script lawful).meetings header.records x g (own_items q arrivals) (owed (setting_of script header) (opening_owner script header file) arrivals q)
       sits q x g a b =
           let own = from_map (first_going header) script.calls q g b in
-          let free = get_replicate (length script.calls) free_seat q x a in
-          subst (λ (z : Seat). Sits header (Good header script.ranks) (lawful_agrees script lawful).meetings header.records z g (own_items q arrivals) (owed (setting_of script header) (opening_desk script header file) arrivals q)) (sym free)
-          (subst (λ (z : Going). Sits header (Good header script.ranks) (lawful_agrees script lawful).meetings header.records free_seat z (own_items q arrivals) (owed (setting_of script header) (opening_desk script header file) arrivals q)) (sym own.1.1)
+          let free = get_replicate (length script.calls) free_client q x a in
+          subst (λ (z : Client). Sits header (Good header script.ranks) (lawful_agrees script lawful).meetings header.records z g (own_items q arrivals) (owed (setting_of script header) (opening_owner script header file) arrivals q)) (sym free)
+          (subst (λ (z : Going). Sits header (Good header script.ranks) (lawful_agrees script lawful).meetings header.records free_client z (own_items q arrivals) (owed (setting_of script header) (opening_owner script header file) arrivals q)) (sym own.1.1)
           (record { stream = joined.each q own.0 own.1.0; waits = none_waits own.0; kind_list = (lawful_agrees script lawful).agree q own.0 own.1.0; good = good_first script header q own.0 lawful own.1.0 }))
         where
           none_waits : (own : List Call) (o : Offer) → None ≡ Some o → ((advance header (first_going header own)).1 ≡ Some o) × ((kind : MeetKind) × (o.kind ≡ offer.Meet kind))
           none_waits own o e = cc
 
-  stands : Stands s (Good header script.ranks) meetings desk goings arrivals
+  stands : Stands s (Good header script.ranks) meetings owner goings arrivals
   stands = record {
-    seated = seated;
+    cliented = cliented;
     counted = le_refl header.records;
     small = sound_small header sound;
     not_full = none_first (length script.calls) some;
@@ -96,36 +96,36 @@ module _ (script : Script) (header : Header) (file : List ℕ) (arrivals : List 
       some : 0 < length script.calls
       some = let a = (lawful_agrees script lawful).some_rank in let b = (lawful_agrees script lawful).one_list_each in omega arith
 
-  whole : Joins s desk goings arrivals
-  whole = join s (Good header script.ranks) (lasting header sound script.ranks) meetings desk goings arrivals stands
+  whole : Joins s owner goings arrivals
+  whole = join s (Good header script.ranks) (lasting header sound script.ranks) meetings owner goings arrivals stands
 
   pub single_all : AreSingle arrivals
-  single_all = single_along s (Good header script.ranks) (lasting header sound script.ranks) meetings desk goings arrivals stands
+  single_all = single_along s (Good header script.ranks) (lasting header sound script.ranks) meetings owner goings arrivals stands
 
   -- the device calls of the run are the owner's, and that of the close
   pub calls_all : run_calls script header file (run_of script header file arrivals).marks
-      ≡ desk_calls script.hints (setting_of script header) (opening_desk script header file) arrivals
-      ++ store_records (setting_of script header) (nat_lt (run_of script header file arrivals).desk.state.records (serial_from script header file (run_of script header file arrivals).marks).records)
+      ≡ owner_calls script.hints (setting_of script header) (opening_owner script header file) arrivals
+      ++ store_records (setting_of script header) (nat_lt (run_of script header file arrivals).owner.state.records (serial_from script header file (run_of script header file arrivals).marks).records)
   calls_all =
       let marks = (run_of script header file arrivals).marks in
       let state = first_state header file script.calls in
-      let along = calls_along script.hints s (Good header script.ranks) (lasting header sound script.ranks) meetings desk goings arrivals stands in
-      let count : (fold (after_mark s) state marks).0.records ≡ (run_of script header file arrivals).desk.state.records = ap (λ (z : Counted × List Going). z.0.records) whole.folded in
+      let along = calls_along script.hints s (Good header script.ranks) (lasting header sound script.ranks) meetings owner goings arrivals stands in
+      let count : (fold (after_mark s) state marks).0.records ≡ (run_of script header file arrivals).owner.state.records = ap (λ (z : Counted × List Going). z.0.records) whole.folded in
       calls_close script.hints s state marks
       ∙ (λ i. sym along i ++ store_records s (nat_lt (count i) (serial_from script header file marks).records))
 
   known_each : (q : ℕ) (own : List Call) → slice_get script.calls q ≡ Some own
-      → (rank_end header (first_going header own) (back_of script header file arrivals q)).rank.known ≤ (run_of script header file arrivals).desk.reached
+      → (rank_end header (first_going header own) (back_of script header file arrivals q)).rank.known ≤ (run_of script header file arrivals).owner.reached
   known_each q own e =
       let back = back_of script header file arrivals q in
       let g = entry_map (first_going header) script.calls q own e in
-      let x = entry_beside goings (replicate (length script.calls) free_seat) q (first_going header own) (sym seats_long) g in
+      let x = entry_beside goings (replicate (length script.calls) free_client) q (first_going header own) (sym clients_long) g in
       let cm = whole.ranks q x.0 (first_going header own) x.1 g in
       let ends : advance header cm.going ≡ (rank_end header (first_going header own) back, None) =
-      cm.ends ∙ ap (λ (z : Seat). (seat_end header z.held (first_going header own) back, None)) (get_replicate (length script.calls) free_seat q x.0 x.1) in
-      let last : slice_get (fold (after_mark s) (desk.state, goings) (served s desk arrivals).marks).1 q ≡ Some cm.going =
+      cm.ends ∙ ap (λ (z : Client). (client_end header z.held (first_going header own) back, None)) (get_replicate (length script.calls) free_client q x.0 x.1) in
+      let last : slice_get (fold (after_mark s) (owner.state, goings) (served s owner arrivals).marks).1 q ≡ Some cm.going =
       ap (λ (u : Counted × List Going). slice_get u.1 q) whole.folded ∙ cm.at_last in
-      let good = good_along s (Good header script.ranks) (lasting header sound script.ranks) meetings desk goings arrivals stands q cm.going last in
+      let good = good_along s (Good header script.ranks) (lasting header sound script.ranks) meetings owner goings arrivals stands q cm.going last in
       let kept = (closes header q 0 cm.going (ap (λ (p : Going × Option Offer). p.1) ends)).known in
       let same = ap (λ (p : Going × Option Offer). p.0.rank.known) ends in
       within _ _ _ _ good.known kept same
@@ -137,13 +137,13 @@ module _ (script : Script) (header : Header) (file : List ℕ) (arrivals : List 
   pub known_sound : is_sound (record header { records = greatest (map (λ g. g.rank.known) (rank_ends script header file arrivals)) }) ≡ true
   unfolding EndsNear
   known_sound =
-      let reached = (run_of script header file arrivals).desk.reached in
+      let reached = (run_of script header file arrivals).owner.reached in
       let most = greatest (map (λ g. g.rank.known) (rank_ends script header file arrivals)) in
       let below : most ≤ reached = subst (λ (ns : List ℕ). greatest ns ≤ reached) (sym (map_map (λ (g : Going). g.rank.known) (λ (p : ℕ × List Call). rank_end header (first_going header p.1) (back_of script header file arrivals p.0)) (enumerate_from 0 script.calls)))
       (rows_within (λ (p : ℕ × List Call). (rank_end header (first_going header p.1) (back_of script header file arrivals p.0)).rank.known) reached script.calls 0
       (λ q own e. let same : q ≡ 0 + q = omega arith in subst (λ (k : ℕ). (rank_end header (first_going header own) (back_of script header file arrivals k)).rank.known ≤ reached) same (known_each q own e))) in
-      let small = small_along s (Good header script.ranks) (lasting header sound script.ranks) meetings desk goings arrivals stands in
-      let near = near_along s sound (Good header script.ranks) (lasting header sound script.ranks) meetings desk goings arrivals stands (near_first header sound) in
+      let small = small_along s (Good header script.ranks) (lasting header sound script.ranks) meetings owner goings arrivals stands in
+      let near = near_along s sound (Good header script.ranks) (lasting header sound script.ranks) meetings owner goings arrivals stands (near_first header sound) in
       let grows = end_grows header (header_len header) most reached below in
       counted_sound header most sound (less most reached (record_limit header.version) below small)
       (less (end_of header (header_len header) most) (end_of header (header_len header) reached) (2 ^ 62) grows near)

@@ -17,17 +17,17 @@ use Rattle.nc_outside.specs.Cause.{Rose}
 use Rattle.nc_outside.specs.declared.disk.Disk.{Ghosts as DiskGhosts}
 use Rattle.nc_outside.specs.declared.told.Told.{Ghosts as ToldGhosts}
 use Rattle.ruled_line.specs.Ends.{End, Receiver}
-use Rattle.serial_spec.specs.Desk.{is_strange, stops}
+use Rattle.serial_spec.specs.Owner.{is_strange, stops}
 use Rattle.serial_spec.specs.FileStep.{Setting}
 use Rattle.serial_spec.specs.History.{Arrival}
 use Rattle.thread_run.specs.Lent.{setting_of}
-use Rattle.thread_run.specs.Owned.{desk_at, Grows, HasRun, Standing}
+use Rattle.thread_run.specs.Owned.{owner_at, Grows, HasRun, Standing}
 use Rattle.thread_run.specs.Refused.{IsFaultAt}
-use Rattle.thread_run.specs.Stopping.{stops_for, AllHaveEnded, HaveEnded, IsMore}
+use Rattle.thread_run.specs.Stops.{stops_for, AllHaveEnded, HaveEnded, IsMore}
 use Rattle.collective_round.specs.declared.lent.Dataset.{Dataset}
 use Rattle.thread_run.specs.declared.lent.Outlets.{Outlets}
-use Rattle.thread_run.specs.declared.serving.Halt.{Halt}
-use Rattle.thread_run.specs.declared.serving.Halt.TheVariants as halt
+use Rattle.thread_run.specs.declared.service.Halt.{Halt}
+use Rattle.thread_run.specs.declared.service.Halt.TheVariants as halt
 
 abbrev pub of_fault : Halt → Option StepErr
 of_fault (halt.Fault e) = Some e
@@ -48,7 +48,7 @@ pub record IsLeft (middle : Standing) (n : ℕ) (held : Option (List ℕ)) (made
 pub record IsStrangeAt (s : Setting) (middle : Standing) (later : List Arrival) (number : ℕ) : Type 0 where
   pub item : RankItem
   pub last : later ≡ (number, item) ∷ []
-  pub strange : (file : List ℕ) → is_strange s (desk_at middle file) (number, item) ≡ true
+  pub strange : (file : List ℕ) → is_strange s (owner_at middle file) (number, item) ≡ true
 
 -- where it ended, each number has
 abbrev pub HasSeenAll : ℕ → List Bool → Halt → Type 0
@@ -71,7 +71,7 @@ pub record HasHalted (hints : Hints) (s : Setting) (old now : Receiver RankItem)
   pub run : HasRun hints s first before middle
   pub order : marks ≡ middle.order
   pub heard_all : heard ≡ middle.heard
-  pub stopped : Grows middle.lines (stops (desk_at middle []) later) lines
+  pub stopped : Grows middle.lines (stops (owner_at middle []) later) lines
   pub halted : IsHaltAt s middle later n held made halt
   pub seen : HasSeenAll old.senders flags halt
 
@@ -113,7 +113,7 @@ pub record Outcome (hints : Hints) (s : Setting) (old now : Receiver RankItem) (
   pub run : HasRun hints s first before middle
   pub order : marks ≡ middle.order
   pub heard_all : heard ≡ middle.heard
-  pub stopped : Grows middle.lines (stops (desk_at middle []) last) lines
+  pub stopped : Grows middle.lines (stops (owner_at middle []) last) lines
   pub later : List Arrival
   pub more : List Arrival
   pub parts : last ≡ later ++ more

@@ -1,10 +1,10 @@
-pub mod Attending
+pub mod RankSides
 pub mod Halted
 pub mod Lent
 pub mod Owned
 pub mod Refused
-pub mod Serving
-pub mod Stopping
+pub mod Service
+pub mod Stops
 pub mod Strange
 pub mod RankHandle
 pub mod Threads

@@ -17,8 +17,8 @@ use Rattle.nc_base.specs.declared.step.OwnerItem.{OwnerItem}
 use Rattle.nc_base.specs.declared.step.RankItem.{RankItem}
 use Rattle.ruled_line.specs.Ends.{End, Line, items_under}
 use Rattle.serial_spec.specs.History.{Arrival}
-use Rattle.thread_run.specs.Attending.{HasAttended}
-use Rattle.turn_run.specs.Seated.{calls_of}
+use Rattle.thread_run.specs.RankSides.{HasAttended}
+use Rattle.turn_run.specs.Running.{calls_of}
 use Rattle.thread_run.specs.declared.rank_handle.Ends.{Ends}
 use Rattle.thread_run.specs.declared.rank_handle.RankHandle.{RankHandle}
 use Rattle.thread_run.specs.declared.rank_handle.Returned.{Returned}

@@ -9,40 +9,40 @@ use Rattle.nc_base.specs.declared.step.Mark.{Mark}
 use Rattle.nc_base.specs.declared.step.Offer.{Offer}
 use Rattle.nc_base.specs.declared.step.OwnerItem.{OwnerItem}
 use Rattle.nc_base.specs.declared.step.StepErr.{StepErr}
-use Rattle.serial_spec.specs.Desk.{Desk, Event, does_meeting, does_solo, event, offers_held, step_offers}
+use Rattle.serial_spec.specs.Owner.{Owner, Event, does_meeting, does_solo, event, offers_held, step_offers}
 use Rattle.serial_spec.specs.FileStep.{Setting, puts_of}
 use Rattle.serial_spec.specs.History.{Arrival}
 use Rattle.serial_spec.specs.SharedByte.{covered}
 use Rattle.serial_spec.specs.Torn.{IsCutService, IsLeft, OwnerStoodAt}
 use Rattle.collective_round.specs.Rounds.{counted}
-use Rattle.thread_run.specs.Owned.{desk_at, AreSingle, HoldSingle, Standing}
+use Rattle.thread_run.specs.Owned.{owner_at, AreSingle, HoldSingle, Standing}
 
 -- where the bytes were told
 abbrev pub IsRefused : Setting → (List ℕ → List ℕ) → (List ℕ → Event) → Standing → Option (List ℕ) → ℕ → Type 0
 IsRefused s bytes to before left n =
-    IfSome before.told (λ file. (now : List ℕ) × (left ≡ Some now) × IsLeft s.header (bytes file) (counted file before.records) (to file).desk.state now n)
+    IfSome before.told (λ file. (now : List ℕ) × (left ≡ Some now) × IsLeft s.header (bytes file) (counted file before.records) (to file).owner.state now n)
 
 abbrev pub IsRefusedAlone : Setting → ℕ → ℕ → Offer → Standing → Option (List ℕ) → ℕ → Type 0
-IsRefusedAlone s r c o before left n = IsRefused s (λ file. covered s.header (puts_of (r, o))) (λ file. does_solo s (desk_at before file) r c o) before left n
+IsRefusedAlone s r c o before left n = IsRefused s (λ file. covered s.header (puts_of (r, o))) (λ file. does_solo s (owner_at before file) r c o) before left n
 
 abbrev pub IsRefusedTogether : Setting → Standing → Option (List ℕ) → ℕ → Type 0
 IsRefusedTogether s before left n =
-    IsRefused s (λ file. covered s.header (flat_map puts_of (enumerate_from 0 (offers_held before.seats)))) (λ file. does_meeting s (desk_at before file) before.seats) before left n
+    IsRefused s (λ file. covered s.header (flat_map puts_of (enumerate_from 0 (offers_held before.clients)))) (λ file. does_meeting s (owner_at before file) before.clients) before left n
 
 abbrev pub IsRefusedArrival : Setting → Arrival → Standing → Option (List ℕ) → ℕ → Type 0
 IsRefusedArrival s a before left n =
-    IsRefused s (λ file. covered s.header (flat_map puts_of (step_offers (desk_at before file) a))) (λ file. event s (desk_at before file) a) before left n
+    IsRefused s (λ file. covered s.header (flat_map puts_of (step_offers (owner_at before file) a))) (λ file. event s (owner_at before file) a) before left n
 
 -- where no offer both raises the count and brings puts
 abbrev pub IsFaultAt : Setting → StepErr → Standing → List Arrival → ℕ → Option (List ℕ) → Type 0
 IsFaultAt s fault middle later n held =
-    HoldSingle middle.seats → AreSingle later → IfSome middle.told (λ file. (left : List ℕ) × (held ≡ Some left) × OwnerStoodAt s fault (desk_at middle file) later left n)
+    HoldSingle middle.clients → AreSingle later → IfSome middle.told (λ file. (left : List ℕ) × (held ≡ Some left) × OwnerStoodAt s fault (owner_at middle file) later left n)
 
-pub record HasCutService (s : Setting) (fault : StepErr) (d : Desk) (arrivals : List Arrival) (order : List Mark) (held : Option (List ℕ)) (records : ℕ) (put : ℕ → List OwnerItem) : Type 0 where
+pub record HasCutService (s : Setting) (fault : StepErr) (d : Owner) (arrivals : List Arrival) (order : List Mark) (held : Option (List ℕ)) (records : ℕ) (put : ℕ → List OwnerItem) : Type 0 where
   pub first : List Arrival
   pub later : List Arrival
   pub all : arrivals ≡ first ++ later
   pub left : List ℕ
   pub told : AreSingle arrivals → held ≡ Some left
   pub service : IsCutService s fault d first later order left records put
-  pub all_heard : (q : ℕ) (low : q < length d.seats) → (service.gives q low).unheard ≡ []
+  pub all_heard : (q : ℕ) (low : q < length d.clients) → (service.gives q low).unheard ≡ []

@@ -1,18 +1,18 @@
 //! The run of all ranks, each on a thread of its own: a rank's side, the owner of the file, and the run that ties them.
 #![tactic(auto)]
 
-mod attending;
-mod desk;
 mod lent;
+mod owner;
 mod rank_ends;
 mod rank_handle;
+mod rank_side;
 mod rank_threads;
 mod returned;
-mod serving;
+mod service;
 mod steps;
-mod stopping;
+mod stops;
 mod strange;
 
-pub use attending::attend;
+pub use rank_side::attend;
 pub use rank_threads::{run_ranks, run_ranks_told};
-pub use serving::serve;
+pub use service::serve;

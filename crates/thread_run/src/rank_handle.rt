@@ -6,8 +6,8 @@ ghost use Rattle.serial_spec.specs.Lawful.{is_lawful};
 ghost use Rattle.thread_run.specs.Lent.{IsRunnable};
 ghost use Rattle.thread_run.specs.RankHandle.{HasReturned, IsFresh, IsOf, IsRankHandle};
 
-use crate::attending::attend;
 use crate::lent::Lent;
+use crate::rank_side::attend;
 use nc_base::{Header, OwnerItem, RankEnd, Script};
 use nc_outside::Gate;
 use rank_items::SentItem;

@@ -2,19 +2,19 @@
 ghost use Rattle.std.specs.Prelude.{◌≡◌, ◌+◌, ◌≤◌, ◌<◌, ◌++◌, ◌∷◌, [], ℕ, List, length, map, false, true, IfOk, OnOk, OnErr};
 ghost use Rattle.std.specs.List.{list_all};
 ghost use Rattle.nc_base.specs.declared.step.RankItem.TheVariants as item;
-ghost use Rattle.serial_spec.specs.Desk.{Seat, freed, holds, is_strange, offers_held, stops};
+ghost use Rattle.serial_spec.specs.Owner.{Client, freed, holds, is_strange, offers_held, stops};
 ghost use Rattle.collective_round.specs.Rounds.{HasStepCause};
 ghost use Rattle.rank_items.specs.Own.{HasOwnPuts};
 ghost use Rattle.turn_run.specs.Counts.{IsCount, IsFit};
 ghost use Rattle.thread_run.specs.Lent.{setting_of, AreSame, IsReadable};
-ghost use Rattle.thread_run.specs.Owned.{desk_of, replies, standing, Grows, HasDone, HoldSingle, IsAlone, IsSingle, IsSteady, IsTogether};
+ghost use Rattle.thread_run.specs.Owned.{owner_of, replies, standing, Grows, HasDone, HoldSingle, IsAlone, IsSingle, IsSteady, IsTogether};
 ghost use Rattle.thread_run.specs.Refused.{IsRefusedAlone, IsRefusedArrival, IsRefusedTogether};
 ghost use Rattle.turn_run.specs.Steps.{batches_of, known_of};
-ghost use Rattle.thread_run.specs.Stopping.{held_stops, stop_each, stops_for};
+ghost use Rattle.thread_run.specs.Stops.{held_stops, stop_each, stops_for};
 
-use crate::desk::{Desk, all_hold, take_all};
 use crate::lent::Outlets;
-use crate::stopping::{stop_each, stop_held};
+use crate::owner::{Owner, all_hold, take_all};
+use crate::stops::{stop_each, stop_held};
 use collective_round::Dataset;
 use nc_base::{
     GotTable, Job, Mark, Memory, Offer, OfferKind, OwnerItem, Pair, RankItem, Reply, StepErr,
@@ -35,7 +35,7 @@ pub(crate) struct Solo<'a> {
     pub offer: &'a Offer,
 }
 
-impl Desk {
+impl Owner {
     /// Does what an arrival brings that is not strange. After an error each offer that is held, and the one that arrived, has a stop.
     pub(crate) fn arrive<R: Threads + Wait + Sync, D: Disk, G: Gate, T: Told>(
         &mut self,
@@ -46,9 +46,9 @@ impl Desk {
         item: RankItem,
     ) -> Result<(), StepErr>
         requires dataset { IsReadable dataset.now }
-        requires number { number < length self.old.seats.items }
+        requires number { number < length self.old.clients.items }
         requires own { HasOwnPuts item }
-        requires fit { (file : List ℕ) → is_strange (setting_of dataset.now) (desk_of self.old file out.old.records.now) (number, item) ≡ false }
+        requires fit { (file : List ℕ) → is_strange (setting_of dataset.now) (owner_of self.old file out.old.records.now) (number, item) ≡ false }
         requires steady { IsSteady dataset.now.header.now (D.len out.old.disk.now) (standing D.Disk T.Told self.old out.old) }
         requires from { D.from out.old.disk.now ≡ 0 }
         ensures same { AreSame out.old out.new }
@@ -57,8 +57,8 @@ impl Desk {
         ensures steady { OnOk result (IsSteady dataset.now.header.now (D.len out.new.disk.now) (standing D.Disk T.Told self.new out.new)) }
         ensures order { OnErr result (self.new.order ≡ self.old.order) }
         ensures untold { OnErr result (T.heard out.new.told.now ≡ T.heard out.old.told.now) }
-        ensures stopped { OnErr result (Grows out.old.back.now (stops (desk_of self.old [] 0) ((number, item) ∷ [])) out.new.back.now) }
-        ensures refused { OnErr result (HoldSingle self.old.seats.items → IsSingle item → IsRefusedArrival (setting_of dataset.now) (number, item)
+        ensures stopped { OnErr result (Grows out.old.back.now (stops (owner_of self.old [] 0) ((number, item) ∷ [])) out.new.back.now) }
+        ensures refused { OnErr result (HoldSingle self.old.clients.items → IsSingle item → IsRefusedArrival (setting_of dataset.now) (number, item)
             (standing D.Disk T.Told self.old out.old) (D.held out.new.disk.now) out.new.records.now) }
         ensures count { IsCount dataset.now.header.now (D.len out.new.disk.now) out.new.records.now }
         ensures from { D.from out.new.disk.now ≡ 0 }
@@ -68,10 +68,10 @@ impl Desk {
         match item {
             RankItem::Ended { memory } => {
                 if memory {
-                    stop_held(tools.rt, out.back, &self.seats);
+                    stop_held(tools.rt, out.back, &self.clients);
                     return Err(StepErr::Memory);
                 }
-                self.seats[number as usize].end(memory);
+                self.clients[number as usize].end(memory);
                 Ok(())
             }
             RankItem::Offer(call, offer) => match offer.kind {
@@ -84,8 +84,8 @@ impl Desk {
                     self.do_alone(tools, dataset, out, &solo)
                 }
                 OfferKind::Meet(_) => {
-                    self.seats[number as usize].hold(offer);
-                    if all_hold(&self.seats) {
+                    self.clients[number as usize].hold(offer);
+                    if all_hold(&self.clients) {
                         self.do_together(tools, dataset, out)
                     } else {
                         Ok(())
@@ -104,21 +104,21 @@ impl Desk {
         solo: &Solo,
     ) -> Result<(), StepErr>
         requires dataset { IsReadable dataset.now }
-        requires number { solo.now.number < length self.old.seats.items }
-        requires lines { length out.old.back.now ≡ length self.old.seats.items }
+        requires number { solo.now.number < length self.old.clients.items }
+        requires lines { length out.old.back.now ≡ length self.old.clients.items }
         requires fit { IsFit dataset.now.header.now (D.len out.old.disk.now) solo.now.offer.now }
         requires known { solo.now.offer.now.known ≤ self.old.reached }
         requires from { D.from out.old.disk.now ≡ 0 }
         ensures same { AreSame out.old out.new }
         ensures records { out.new.records.now ≡ out.old.records.now }
-        ensures seats { self.new.seats ≡ self.old.seats }
+        ensures clients { self.new.clients ≡ self.old.clients }
         ensures done { OnOk result (IsAlone dataset.now.hints.now (setting_of dataset.now) solo.now.number solo.now.call solo.now.offer.now
             (standing D.Disk T.Told self.old out.old) (standing D.Disk T.Told self.new out.new)) }
         ensures reached { OnOk result (IsCount dataset.now.header.now (D.len out.old.disk.now) self.old.reached → IsCount dataset.now.header.now (D.len out.new.disk.now) self.new.reached) }
         ensures more { OnOk result (self.old.reached ≤ self.new.reached) }
         ensures order { OnErr result (self.new.order ≡ self.old.order) }
         ensures untold { OnErr result (T.heard out.new.told.now ≡ T.heard out.old.told.now) }
-        ensures stopped { OnErr result (Grows out.old.back.now (λ q. held_stops self.old.seats.items q ++ stops_for ((solo.now.number, item.Offer solo.now.call solo.now.offer.now) ∷ []) q) out.new.back.now) }
+        ensures stopped { OnErr result (Grows out.old.back.now (λ q. held_stops self.old.clients.items q ++ stops_for ((solo.now.number, item.Offer solo.now.call solo.now.offer.now) ∷ []) q) out.new.back.now) }
         ensures refused { OnErr result (IsRefusedAlone (setting_of dataset.now) solo.now.number solo.now.call solo.now.offer.now
             (standing D.Disk T.Told self.old out.old) (D.held out.new.disk.now) out.new.records.now) }
         ensures from { D.from out.new.disk.now ≡ 0 }
@@ -128,7 +128,7 @@ impl Desk {
         match self.reply_alone(tools, dataset, out, solo) {
             Ok(()) => Ok(()),
             Err(fault) => {
-                stop_held(tools.rt, out.back, &self.seats);
+                stop_held(tools.rt, out.back, &self.clients);
                 out.back
                     .put_on(tools.rt, solo.number as usize, OwnerItem::Stop);
                 Err(fault)
@@ -151,7 +151,7 @@ impl Desk {
         requires from { D.from out.old.disk.now ≡ 0 }
         ensures same { AreSame out.old out.new }
         ensures records { out.new.records.now ≡ out.old.records.now }
-        ensures seats { self.new.seats ≡ self.old.seats }
+        ensures clients { self.new.clients ≡ self.old.clients }
         ensures done { OnOk result (IsAlone dataset.now.hints.now (setting_of dataset.now) solo.now.number solo.now.call solo.now.offer.now
             (standing D.Disk T.Told self.old out.old) (standing D.Disk T.Told self.new out.new)) }
         ensures reached { OnOk result (IsCount dataset.now.header.now (D.len out.old.disk.now) self.old.reached → IsCount dataset.now.header.now (D.len out.new.disk.now) self.new.reached) }
@@ -190,7 +190,7 @@ impl Desk {
         out: &mut Outlets<D, T>,
     ) -> Result<(), StepErr>
         requires dataset { IsReadable dataset.now }
-        requires all { list_all holds self.old.seats.items ≡ true }
+        requires all { list_all holds self.old.clients.items ≡ true }
         requires steady { IsSteady dataset.now.header.now (D.len out.old.disk.now) (standing D.Disk T.Told self.old out.old) }
         requires from { D.from out.old.disk.now ≡ 0 }
         ensures same { AreSame out.old out.new }
@@ -200,7 +200,7 @@ impl Desk {
         ensures order { OnErr result (self.new.order ≡ self.old.order) }
         ensures untold { OnErr result (T.heard out.new.told.now ≡ T.heard out.old.told.now) }
         ensures stopped { OnErr result (Grows out.old.back.now stop_each out.new.back.now) }
-        ensures refused { OnErr result (HoldSingle self.old.seats.items → IsRefusedTogether (setting_of dataset.now)
+        ensures refused { OnErr result (HoldSingle self.old.clients.items → IsRefusedTogether (setting_of dataset.now)
             (standing D.Disk T.Told self.old out.old) (D.held out.new.disk.now) out.new.records.now) }
         ensures count { IsCount dataset.now.header.now (D.len out.new.disk.now) out.new.records.now }
         ensures from { D.from out.new.disk.now ≡ 0 }
@@ -218,14 +218,14 @@ impl Desk {
 
     /// Takes the offers that are held: their batches, and the count to which a meeting of them raises that of the file.
     fn take_job(&mut self, alloc: Global) -> Result<(Job, u64), Memory>
-        ensures batches { IfOk result (λ taken. taken.0.batches ≡ batches_of (offers_held self.old.seats.items)) }
-        ensures known { IfOk result (λ taken. taken.1 ≡ known_of (offers_held self.old.seats.items)) }
-        ensures freed { OnOk result (self.new.seats.items ≡ map freed self.old.seats.items) }
+        ensures batches { IfOk result (λ taken. taken.0.batches ≡ batches_of (offers_held self.old.clients.items)) }
+        ensures known { IfOk result (λ taken. taken.1 ≡ known_of (offers_held self.old.clients.items)) }
+        ensures freed { OnOk result (self.new.clients.items ≡ map freed self.old.clients.items) }
         ensures met { self.new.met ≡ self.old.met }
         ensures reached { self.new.reached ≡ self.old.reached }
         ensures order { self.new.order ≡ self.old.order }
     {
-        take_all(alloc, &mut self.seats)
+        take_all(alloc, &mut self.clients)
     }
 
     /// Does the meeting whose offers are held, and puts their replies.
@@ -236,7 +236,7 @@ impl Desk {
         out: &mut Outlets<D, T>,
     ) -> Result<(), StepErr>
         requires dataset { IsReadable dataset.now }
-        requires all { list_all holds self.old.seats.items ≡ true }
+        requires all { list_all holds self.old.clients.items ≡ true }
         requires steady { IsSteady dataset.now.header.now (D.len out.old.disk.now) (standing D.Disk T.Told self.old out.old) }
         requires from { D.from out.old.disk.now ≡ 0 }
         ensures same { AreSame out.old out.new }
@@ -246,7 +246,7 @@ impl Desk {
         ensures order { OnErr result (self.new.order ≡ self.old.order) }
         ensures untold { OnErr result (T.heard out.new.told.now ≡ T.heard out.old.told.now) }
         ensures lines { OnErr result (out.new.back.now ≡ out.old.back.now) }
-        ensures refused { OnErr result (HoldSingle self.old.seats.items → IsRefusedTogether (setting_of dataset.now)
+        ensures refused { OnErr result (HoldSingle self.old.clients.items → IsRefusedTogether (setting_of dataset.now)
             (standing D.Disk T.Told self.old out.old) (D.held out.new.disk.now) out.new.records.now) }
         ensures count { IsCount dataset.now.header.now (D.len out.new.disk.now) out.new.records.now }
         ensures from { D.from out.new.disk.now ≡ 0 }

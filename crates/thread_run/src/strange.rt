@@ -2,23 +2,23 @@
 ghost use Rattle.std.specs.Prelude.{◌≡◌, ◌+◌, ◌*◌, ◌^◌, ◌<◌, ◌≤◌, ◌&&◌, ◌||◌, ℕ, List, length, not, nat_le, nat_lt, slice_get, true, Some, IfSome};
 ghost use Rattle.std.specs.List.{list_any};
 ghost use Rattle.nc_base.specs.declared.request.Direction.TheVariants as way;
-ghost use Rattle.serial_spec.specs.Desk.{bad_batch, differs, has_left, holds, is_strange, kind_held, refused, strange_offer, wrong_length};
+ghost use Rattle.serial_spec.specs.Owner.{bad_batch, differs, has_left, holds, is_strange, kind_held, refused, strange_offer, wrong_length};
 ghost use Rattle.serial_spec.specs.ExternalForm as external;
 ghost use Rattle.serial_spec.specs.FileStep.{Setting};
 ghost use Rattle.serial_spec.specs.History.{kind_of_meeting};
 ghost use Rattle.serial_spec.specs.Layout.{product};
 ghost use Rattle.serial_spec.specs.Limits.{most_elements};
 ghost use Rattle.thread_run.specs.Strange.{fails_as_offer, fails_test, leaves_behind};
-ghost use Rattle.thread_run.specs.Owned.{desk_of};
+ghost use Rattle.thread_run.specs.Owned.{owner_of};
 ghost use Rattle.var_layout.specs.Measures.{AreMeasures};
 
-use crate::desk::{Desk, DeskSeat};
+use crate::owner::{Client, Owner};
 use nc_base::{Direction, Header, Offer, OfferKind, Post, RankItem};
 use type_external::{element_count, size_of};
 use var_layout::Measures;
 use vara_extents::check;
 
-impl Desk {
+impl Owner {
     /// Whether no rank of a script makes this arrival.
     pub(crate) fn is_strange(
         &self,
@@ -28,45 +28,45 @@ impl Desk {
         item: &RankItem,
     ) -> bool
         requires measured { AreMeasures header.now measures.now }
-        requires number { number < length self.now.seats.items }
+        requires number { number < length self.now.clients.items }
         ensures { (s : Setting) (file : List ℕ) (records : ℕ) → s.header ≡ header.now
-            → is_strange s (desk_of self.now file records) (number, item.now) ≡ result }
+            → is_strange s (owner_of self.now file records) (number, item.now) ≡ result }
     {
-        self.fails_test(header, measures, &self.seats[number as usize], item)
+        self.fails_test(header, measures, &self.clients[number as usize], item)
     }
 
-    /// Whether an item of a seat fails a test.
+    /// Whether an item of a client fails a test.
     fn fails_test(
         &self,
         header: &Header,
         measures: &Measures,
-        seat: &DeskSeat,
+        client: &Client,
         item: &RankItem,
     ) -> bool
         requires measured { AreMeasures header.now measures.now }
-        ensures { result ≡ fails_test header.now self.now.seats.items self.now.reached seat.now item.now }
+        ensures { result ≡ fails_test header.now self.now.clients.items self.now.reached client.now item.now }
     {
-        seat.has_ended()
-            || leaves_behind(&self.seats, seat, item)
-            || self.fails_as_offer(header, measures, seat, item)
+        client.has_ended()
+            || leaves_behind(&self.clients, client, item)
+            || self.fails_as_offer(header, measures, client, item)
     }
 
-    /// Whether an item of a seat is an offer that is none at this time, or that no step takes.
+    /// Whether an item of a client is an offer that is none at this time, or that no step takes.
     fn fails_as_offer(
         &self,
         header: &Header,
         measures: &Measures,
-        seat: &DeskSeat,
+        client: &Client,
         item: &RankItem,
     ) -> bool
         requires measured { AreMeasures header.now measures.now }
-        ensures { result ≡ fails_as_offer header.now self.now.seats.items self.now.reached seat.now item.now }
+        ensures { result ≡ fails_as_offer header.now self.now.clients.items self.now.reached client.now item.now }
     {
         match item {
             RankItem::Ended { memory: _ } => false,
             RankItem::Offer(_, offer) => {
-                seat.holds()
-                    || differs(&self.seats, offer.kind)
+                client.holds()
+                    || differs(&self.clients, offer.kind)
                     || offer.known > self.reached
                     || is_bad(header, measures, offer)
             }
@@ -74,41 +74,41 @@ impl Desk {
     }
 }
 
-/// Whether with this item some number has left while another one's offer is held. The seat is that of its number, which has not
+/// Whether with this item some number has left while another one's offer is held. The client is that of its number, which has not
 /// ended.
-fn leaves_behind(seats: &[DeskSeat], seat: &DeskSeat, item: &RankItem) -> bool
-    ensures { result ≡ leaves_behind seats.now seat.now item.now }
+fn leaves_behind(clients: &[Client], client: &Client, item: &RankItem) -> bool
+    ensures { result ≡ leaves_behind clients.now client.now item.now }
 {
     match item {
         RankItem::Ended { memory } => {
-            (some_left(seats) || (!*memory && !seat.holds())) && some_holds(seats)
+            (some_left(clients) || (!*memory && !client.holds())) && some_holds(clients)
         }
         RankItem::Offer(_, offer) => {
-            some_left(seats) && (offer.kind != OfferKind::Solo || some_holds(seats))
+            some_left(clients) && (offer.kind != OfferKind::Solo || some_holds(clients))
         }
     }
 }
 
-fn some_left(seats: &[DeskSeat]) -> bool
-    ensures { result ≡ list_any has_left seats.now }
+fn some_left(clients: &[Client]) -> bool
+    ensures { result ≡ list_any has_left clients.now }
 {
-    seats.iter().any(|seat| seat.has_left())
+    clients.iter().any(|client| client.has_left())
 }
 
-fn some_holds(seats: &[DeskSeat]) -> bool
-    ensures { result ≡ list_any holds seats.now }
+fn some_holds(clients: &[Client]) -> bool
+    ensures { result ≡ list_any holds clients.now }
 {
-    seats.iter().any(|seat| seat.holds())
+    clients.iter().any(|client| client.holds())
 }
 
 /// Whether an offer of another kind of meeting is held.
-fn differs(seats: &[DeskSeat], kind: OfferKind) -> bool
-    ensures { result ≡ list_any (λ y. differs (kind_held y) (kind_of_meeting kind)) seats.now }
+fn differs(clients: &[Client], kind: OfferKind) -> bool
+    ensures { result ≡ list_any (λ y. differs (kind_held y) (kind_of_meeting kind)) clients.now }
 {
     match kind {
         OfferKind::Solo => false,
-        OfferKind::Meet(kind) => seats.iter().any(
-            |seat| matches!(seat.kind_held(), Some(held) if held != kind),
+        OfferKind::Meet(kind) => clients.iter().any(
+            |client| matches!(client.kind_held(), Some(held) if held != kind),
         ),
     }
 }

@@ -22,36 +22,36 @@ use Rattle.serial_spec.specs.RankMachine.{Open}
 use Rattle.serial_spec.specs.RankSide.{wanted}
 use Rattle.serial_spec.specs.SerialEnd.{Going, advance, hears}
 use Rattle.collective_round.specs.Rounds.{counted}
-use Rattle.run_laws.specs.Standing.{is_solo_of}
+use Rattle.run_laws.specs.Ahead.{is_solo_of}
 use Rattle.run_laws.specs.Ways.{IsOnWay}
 use Rattle.run_laws.proofs.CallLaws.{hears_keeps, solo_keeps}
 use Rattle.turn_run.specs.Counts.{IsAsked}
-use Rattle.turn_run.specs.Seated.{asking, between, calls_of, going_of, AsksAlone, HasHeard, IsPlaced, IsPlacedWith, IsSeat}
+use Rattle.turn_run.specs.Running.{asking, between, calls_of, going_of, AsksAlone, HasHeard, IsPlaced, IsPlacedWith, IsRunner}
 use Rattle.run_laws.specs.Arrivals.{solo_to, step_calls, step_to, Arrived}
 use Rattle.turn_run.specs.Stages.{arrived, stage, HasGone, IsGrownBy, Leads}
-use Rattle.turn_run.specs.declared.seats.Seat.{Seat}
-use Rattle.turn_run.proofs.SeatLaws.{advance_ended}
+use Rattle.turn_run.specs.declared.runners.Runner.{Runner}
+use Rattle.turn_run.proofs.RunnerLaws.{advance_ended}
 use Rattle.turn_run.proofs.StageLaws.{led_none, led_then}
 use Rattle.list_laws.proofs.Places.{entry_set, set_own}
 use Rattle.run_laws.proofs.WayLaws.{one_of}
 use Rattle.join_laws.proofs.Completing.{all_joined}
 
--- ---- a seat, by the offer that it holds
+-- ---- a runner, by the offer that it holds
 
-pub arrived_free : (header : Header) (own : List Call) (seat : Seat) → seat.held ≡ None → arrived header own seat ≡ advance header (between own seat)
-arrived_free header own seat e = ap (λ (m : Option Offer). elim m [ None ↦ advance header (between own seat) | Some o ↦ (asking own seat, Some o) ]) e
+pub arrived_free : (header : Header) (own : List Call) (runner : Runner) → runner.held ≡ None → arrived header own runner ≡ advance header (between own runner)
+arrived_free header own runner e = ap (λ (m : Option Offer). elim m [ None ↦ advance header (between own runner) | Some o ↦ (asking own runner, Some o) ]) e
 
-pub arrived_held : (header : Header) (own : List Call) (seat : Seat) (o : Offer) → seat.held ≡ Some o → arrived header own seat ≡ (asking own seat, Some o)
-arrived_held header own seat o e = ap (λ (m : Option Offer). elim m [ None ↦ advance header (between own seat) | Some o ↦ (asking own seat, Some o) ]) e
+pub arrived_held : (header : Header) (own : List Call) (runner : Runner) (o : Offer) → runner.held ≡ Some o → arrived header own runner ≡ (asking own runner, Some o)
+arrived_held header own runner o e = ap (λ (m : Option Offer). elim m [ None ↦ advance header (between own runner) | Some o ↦ (asking own runner, Some o) ]) e
 
-pub going_free : (own : List Call) (seat : Seat) → seat.held ≡ None → going_of own seat ≡ between own seat
-going_free own seat e = ap (λ (m : Option Offer). elim m [ None ↦ between own seat | Some o ↦ asking own seat ]) e
+pub going_free : (own : List Call) (runner : Runner) → runner.held ≡ None → going_of own runner ≡ between own runner
+going_free own runner e = ap (λ (m : Option Offer). elim m [ None ↦ between own runner | Some o ↦ asking own runner ]) e
 
-pub going_held : (own : List Call) (seat : Seat) (o : Offer) → seat.held ≡ Some o → going_of own seat ≡ asking own seat
-going_held own seat o e = ap (λ (m : Option Offer). elim m [ None ↦ between own seat | Some o ↦ asking own seat ]) e
+pub going_held : (own : List Call) (runner : Runner) (o : Offer) → runner.held ≡ Some o → going_of own runner ≡ asking own runner
+going_held own runner o e = ap (λ (m : Option Offer). elim m [ None ↦ between own runner | Some o ↦ asking own runner ]) e
 
 -- going through its calls leads to no other offer
-pub arrived_gone : (header : Header) (own : List Call) (old new : Seat) → old.held ≡ None → advance header (between own old) ≡ (going_of own new, new.held)
+pub arrived_gone : (header : Header) (own : List Call) (old new : Runner) → old.held ≡ None → advance header (between own old) ≡ (going_of own new, new.held)
     → (new.held ≡ None → drop (length new.answers) own ≡ []) → arrived header own old ≡ arrived header own new
 arrived_gone header own old new free gone ended = arrived_free header own old free ∙ gone ∙ sym (by_held new.held refl)
   where
@@ -153,41 +153,41 @@ pub fits_open : (m : Option Open) (header same : Header) (gets : List Post) (got
 fits_open None header same gets got e h f = tt
 fits_open (Some w) header same gets got e h f = f ∙ (λ i. map (wanted (sym e i)) (sym h i))
 
-pub heard_known : (before now : Seat) (reply : Reply) → is_some before.rank.state.«open» ≡ true → HasHeard before now reply
+pub heard_known : (before now : Runner) (reply : Reply) → is_some before.rank.state.«open» ≡ true → HasHeard before now reply
     → now.rank.state.known ≡ max before.rank.state.known reply.records
 heard_known before now reply e h = (hears_keeps before.rank.header before.rank.state now.rank.state reply h.answer e h.heard).0
 
 pub order_is : (r n : ℕ) (answers : List Answer) (before now : List Mark) → now ≡ before ++ Solo r n ∷ [] → n ≡ length answers → now ≡ before ++ Solo r (length answers) ∷ []
 order_is r n answers before now e f = e ∙ ap (λ (k : ℕ). before ++ Solo r k ∷ []) f
 
--- ---- a seat that has gone on through its calls
+-- ---- a runner that has gone on through its calls
 
-pub went_seat : (script : Script) (header : Header) (order : List Mark) (r : ℕ) (own : List Call) (new : Seat) → own ≡ calls_of script r → new.rank.header ≡ header
-    → IsPlaced script header order r (going_of own new) new.held → IfSome new.held (IsAsked header new.rank.state.known) → IsSeat script header order r new
-went_seat script header order r own new e h p a =
+pub went_runner : (script : Script) (header : Header) (order : List Mark) (r : ℕ) (own : List Call) (new : Runner) → own ≡ calls_of script r → new.rank.header ≡ header
+    → IsPlaced script header order r (going_of own new) new.held → IfSome new.held (IsAsked header new.rank.state.known) → IsRunner script header order r new
+went_runner script header order r own new e h p a =
     record { of_header = h; placed = subst (λ (o : List Call). IsPlaced script header order r (going_of o new) new.held) e p; asked = a }
 
-pub went_gone : (hints : Hints) (s : Setting) (r : ℕ) (order : List Mark) (held : Option (List ℕ)) (calls : Option (List DiskCall)) (header : Header) (own all : List Call) (old new : Seat)
+pub went_gone : (hints : Hints) (s : Setting) (r : ℕ) (order : List Mark) (held : Option (List ℕ)) (calls : Option (List DiskCall)) (header : Header) (own all : List Call) (old new : Runner)
     → own ≡ all → old.held ≡ None → advance header (between own old) ≡ (going_of own new, new.held) → (new.held ≡ None → drop (length new.answers) own ≡ [])
     → HasGone hints s r order order held calls held calls (arrived header all old) (arrived header all new)
 went_gone hints s r order held calls header own all old new e free gone ended =
     gone_same hints s r order held calls (arrived header all old) (arrived header all new)
     (subst (λ (o : List Call). arrived header o old ≡ arrived header o new) e (arrived_gone header own old new free gone ended))
 
-pub taken_asks : (header : Header) (own : List Call) (a b : Seat) (o : Offer) → a.held ≡ Some o → b.rank ≡ a.rank → b.answers ≡ a.answers → (asking own b, Some o) ≡ arrived header own a
+pub taken_asks : (header : Header) (own : List Call) (a b : Runner) (o : Offer) → a.held ≡ Some o → b.rank ≡ a.rank → b.answers ≡ a.answers → (asking own b, Some o) ≡ arrived header own a
 taken_asks header own a b o e f h =
     (λ i. (let g : Going = record { rank = (f i).state; answers = h i; calls = drop (suc (length (h i))) own } in g, Some o)) ∙ sym (arrived_held header own a o e)
 
-pub same_seat : (a b : Seat) → b.rank ≡ a.rank → b.answers ≡ a.answers → b.held ≡ a.held → b ≡ a
-same_seat a b e f h = λ i. record { rank = e i; answers = f i; held = h i }
+pub same_runner : (a b : Runner) → b.rank ≡ a.rank → b.answers ≡ a.answers → b.held ≡ a.held → b ≡ a
+same_runner a b e f h = λ i. record { rank = e i; answers = f i; held = h i }
 
-pub alone_asks : (script : Script) (header : Header) (order : List Mark) (r : ℕ) (own : List Call) (seat : Seat) (o : Offer) → seat.held ≡ Some o → o.kind ≡ offer.Solo
-    → IsPlaced script header order r (going_of own seat) seat.held → AsksAlone script header order r (asking own seat) o
-alone_asks script header order r own seat o e k w =
-    subst (λ (j : OfferKind). IsPlacedWith script header order r (asking own seat) o j) k
-    (subst (λ (s : Going). IsPlaced script header order r s (Some o)) (going_held own seat o e) (subst (λ (m : Option Offer). IsPlaced script header order r (going_of own seat) m) e w))
+pub alone_asks : (script : Script) (header : Header) (order : List Mark) (r : ℕ) (own : List Call) (runner : Runner) (o : Offer) → runner.held ≡ Some o → o.kind ≡ offer.Solo
+    → IsPlaced script header order r (going_of own runner) runner.held → AsksAlone script header order r (asking own runner) o
+alone_asks script header order r own runner o e k w =
+    subst (λ (j : OfferKind). IsPlacedWith script header order r (asking own runner) o j) k
+    (subst (λ (s : Going). IsPlaced script header order r s (Some o)) (going_held own runner o e) (subst (λ (m : Option Offer). IsPlaced script header order r (going_of own runner) m) e w))
 
-pub way_free : (script : Script) (header : Header) (order : List Mark) (r : ℕ) (own : List Call) (seat : Seat) → seat.held ≡ None
-    → IsPlaced script header order r (going_of own seat) seat.held → IsOnWay script order r (between own seat) None
-way_free script header order r own seat e w =
-    subst (λ (s : Going). IsOnWay script order r s None) (going_free own seat e) (subst (λ (m : Option Offer). IsPlaced script header order r (going_of own seat) m) e w)
+pub way_free : (script : Script) (header : Header) (order : List Mark) (r : ℕ) (own : List Call) (runner : Runner) → runner.held ≡ None
+    → IsPlaced script header order r (going_of own runner) runner.held → IsOnWay script order r (between own runner) None
+way_free script header order r own runner e w =
+    subst (λ (s : Going). IsOnWay script order r s None) (going_free own runner e) (subst (λ (m : Option Offer). IsPlaced script header order r (going_of own runner) m) e w)

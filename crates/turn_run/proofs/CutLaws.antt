@@ -22,13 +22,13 @@ use Rattle.collective_round.proofs.TornFiles.{torn_wider}
 use Rattle.nc_base.specs.declared.header.Header.{Header}
 use Rattle.nc_base.specs.declared.step.DiskCall.{DiskCall}
 use Rattle.serial_spec.specs.Lawful.{is_lawful}
-use Rattle.run_laws.specs.Standing.{is_solo_of}
+use Rattle.run_laws.specs.Ahead.{is_solo_of}
 use Rattle.join_laws.proofs.Completing.{completed_by}
-use Rattle.turn_run.specs.Seated.{AreSeats}
+use Rattle.turn_run.specs.Running.{AreRunners}
 use Rattle.run_laws.specs.Arrivals.{Arrived, Stand, step_to, solo_to}
 use Rattle.turn_run.specs.Stages.{Stage, Leads, IsLed, HasGone, IsGrownBy, stage}
 use Rattle.turn_run.specs.Cuts.{StopsAt, HasStopped, MayFollow, IsNext, bytes_at}
-use Rattle.turn_run.specs.declared.seats.Seat.{Seat}
+use Rattle.turn_run.specs.declared.runners.Runner.{Runner}
 use Rattle.turn_run.proofs.AloneLaws.{grown_then}
 use Rattle.turn_run.proofs.TurnSteps.{step_begun}
 use Rattle.turn_run.specs.Cuts.StopsAt.{in_step, between}
@@ -162,11 +162,11 @@ gone_stopped F hints s r fault before mid now held left last calls made from to 
     (next records (set ranks r to) (entry_set ranks r from to e))
 
 -- a step that rank n may do next is one that a history of the script has next
-pub follows_next : (script : Script) (header : Header) (len : ℕ) (before now : List Mark) (seats : List Seat) (n : ℕ) → is_lawful script ≡ true
-    → AreSeats script header len before seats → n < script.ranks → IsGrownBy n before now → (m : Mark) → MayFollow script n now m → IsNext script now m
-follows_next script header len before now seats n lawful a l g m f =
+pub follows_next : (script : Script) (header : Header) (len : ℕ) (before now : List Mark) (runners : List Runner) (n : ℕ) → is_lawful script ≡ true
+    → AreRunners script header len before runners → n < script.ranks → IsGrownBy n before now → (m : Mark) → MayFollow script n now m → IsNext script now m
+follows_next script header len before now runners n lawful a l g m f =
     let one : IsGrownBy n now (now ++ m ∷ []) = record { more = m ∷ []; grown = refl; own = ap (λ (t : Bool). t && true) f.0 } in
-    let b = step_begun script header len before (now ++ m ∷ []) seats n a l (grown_then n before now (now ++ m ∷ []) g one) f.1 in
+    let b = step_begun script header len before (now ++ m ∷ []) runners n a l (grown_then n before now (now ++ m ∷ []) g one) f.1 in
     completed_by script now m lawful b.known_ranks b.each_rank
 
 -- an error that is handed on

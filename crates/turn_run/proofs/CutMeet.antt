@@ -13,7 +13,7 @@ use Rattle.nc_base.specs.declared.step.Offer.{Offer}
 use Rattle.nc_base.specs.declared.step.StepErr.{StepErr}
 use Rattle.nc_base.specs.declared.step.StepErr.TheVariants.{Memory}
 use Rattle.nc_outside.specs.Told.{after, BothTold}
-use Rattle.serial_spec.specs.Desk.{needed_now}
+use Rattle.serial_spec.specs.Owner.{needed_now}
 use Rattle.serial_spec.specs.File.{at}
 use Rattle.serial_spec.specs.FileStep.{Setting, Counted, after_puts, meeting, puts_of, raised, told}
 use Rattle.serial_spec.specs.HeaderBytes.{count, count_width}
@@ -32,14 +32,14 @@ use Rattle.nc_base.specs.declared.script.Script.{Script}
 use Rattle.serial_spec.specs.Lawful.{is_lawful}
 use Rattle.run_laws.specs.Ways.{meetings}
 use Rattle.join_laws.proofs.Completing.{completed_by}
-use Rattle.turn_run.specs.Seated.{AreSeats, HaveArrived, HaveMet}
+use Rattle.turn_run.specs.Running.{AreRunners, HaveArrived, HaveMet}
 use Rattle.turn_run.proofs.MeetDone.{begun_after}
 use Rattle.turn_run.specs.Cuts.{StopsAt, HasStopped, IsNext, bytes_at}
 use Rattle.turn_run.specs.Cuts.StopsAt.{in_step, between}
 use Rattle.run_laws.specs.Arrivals.{step_to}
 use Rattle.turn_run.specs.Stages.{arrived_all}
 use Rattle.turn_run.specs.Steps.{batches_of, held_offers, known_of, met}
-use Rattle.turn_run.specs.declared.seats.Seat.{Seat}
+use Rattle.turn_run.specs.declared.runners.Runner.{Runner}
 use Rattle.turn_run.proofs.MeetFile.{one_raises, raised_none, twice_raised}
 use Rattle.turn_run.proofs.MeetOffers.{AllHold}
 use Rattle.turn_run.proofs.MeetStep.{met_is, offers_are, puts_same}
@@ -212,59 +212,59 @@ count_met s batches r n known (Some old) mid now one e k b =
           (twice_raised s (laid s (puts_in batches) old r) n (needed_now s (puts_in batches)) known k) q.2),
     )
 
--- ---- the step of the seats
+-- ---- the step of the runners
 
-pub meet_at : (s : Setting) (calls : List (List Call)) (seats : List Seat) (batches : List Batch) (known k : ℕ) (c : Counted) → length calls ≡ length seats → AllHold seats
-    → batches ≡ batches_of (held_offers seats) → known ≡ known_of (held_offers seats) → met s batches known c ≡ (step_to s (c, arrived_all s.header calls seats) (Meet k)).0
-meet_at s calls seats batches known k c l hold e f =
-    sym (ap (λ (os : List Offer). (meeting s os c).0) (offers_are s.header calls seats l hold) ∙ met_is s (held_offers seats) batches known c e f)
+pub meet_at : (s : Setting) (calls : List (List Call)) (runners : List Runner) (batches : List Batch) (known k : ℕ) (c : Counted) → length calls ≡ length runners → AllHold runners
+    → batches ≡ batches_of (held_offers runners) → known ≡ known_of (held_offers runners) → met s batches known c ≡ (step_to s (c, arrived_all s.header calls runners) (Meet k)).0
+meet_at s calls runners batches known k c l hold e f =
+    sym (ap (λ (os : List Offer). (meeting s os c).0) (offers_are s.header calls runners l hold) ∙ met_is s (held_offers runners) batches known c e f)
 
-bytes_meet : (s : Setting) (calls : List (List Call)) (seats : List Seat) (batches : List Batch) (k : ℕ) → length calls ≡ length seats → AllHold seats
-    → batches ≡ batches_of (held_offers seats) → covered s.header (puts_in batches) ≡ bytes_at s (arrived_all s.header calls seats) (Meet k)
-bytes_meet s calls seats batches k l hold e =
-    sym (ap (λ (os : List Offer). covered s.header (flat_map puts_of (enumerate_from 0 os))) (offers_are s.header calls seats l hold)
-    ∙ ap (λ (ps : Puts). covered s.header ps) (puts_same 0 (held_offers seats)) ∙ ap (λ (bs : List Batch). covered s.header (puts_in bs)) (sym e))
+bytes_meet : (s : Setting) (calls : List (List Call)) (runners : List Runner) (batches : List Batch) (k : ℕ) → length calls ≡ length runners → AllHold runners
+    → batches ≡ batches_of (held_offers runners) → covered s.header (puts_in batches) ≡ bytes_at s (arrived_all s.header calls runners) (Meet k)
+bytes_meet s calls runners batches k l hold e =
+    sym (ap (λ (os : List Offer). covered s.header (flat_map puts_of (enumerate_from 0 os))) (offers_are s.header calls runners l hold)
+    ∙ ap (λ (ps : Puts). covered s.header ps) (puts_same 0 (held_offers runners)) ∙ ap (λ (bs : List Batch). covered s.header (puts_in bs)) (sym e))
 
 pub met_count : (s : Setting) (batches : List Batch) (known : ℕ) (file : List ℕ) (r : ℕ) → (met s batches known (counted file r)).records ≡ max r (max (needed_now s (puts_in batches)) known)
 met_count s batches known file r = raised_records s (laid s (puts_in batches) file r) (max (needed_now s (puts_in batches)) known)
 
-pub stopped_meet : (F : Mark → Type 0) (s : Setting) (fault : StepErr) (k : ℕ) (before now : List Mark) (held left : Option (List ℕ)) (calls : List (List Call)) (seats : List Seat)
-    (batches : List Batch) (known r n : ℕ) → F (Meet k) → now ≡ before → length calls ≡ length seats → AllHold seats → batches ≡ batches_of (held_offers seats) → known ≡ known_of (held_offers seats)
+pub stopped_meet : (F : Mark → Type 0) (s : Setting) (fault : StepErr) (k : ℕ) (before now : List Mark) (held left : Option (List ℕ)) (calls : List (List Call)) (runners : List Runner)
+    (batches : List Batch) (known r n : ℕ) → F (Meet k) → now ≡ before → length calls ≡ length runners → AllHold runners → batches ≡ batches_of (held_offers runners) → known ≡ known_of (held_offers runners)
     → BothTold (λ old left. IsTorn (covered s.header (puts_in batches)) (byte_len (count_width s.header.version)) old (met s batches known (counted old r)).file left) held left
-    → (n ≡ r) ⊎ (n ≡ max r (max (needed_now s (puts_in batches)) known)) → HasStopped F s fault before now held r (arrived_all s.header calls seats) left n
-stopped_meet F s fault k before now held left calls seats batches known r n f same l hold e g torn count = record { more = []; grown = same ∙ sym (append-nil before); stops = by_held held torn }
+    → (n ≡ r) ⊎ (n ≡ max r (max (needed_now s (puts_in batches)) known)) → HasStopped F s fault before now held r (arrived_all s.header calls runners) left n
+stopped_meet F s fault k before now held left calls runners batches known r n f same l hold e g torn count = record { more = []; grown = same ∙ sym (append-nil before); stops = by_held held torn }
   where
     by_count : (file : List ℕ) → (n ≡ r) ⊎ (n ≡ max r (max (needed_now s (puts_in batches)) known)) → (n ≡ r) ⊎ (n ≡ (met s batches known (counted file r)).records)
     by_count file (inl q) = inl q
     by_count file (inr q) = inr (q ∙ sym (met_count s batches known file r))
 
     by_held : (m : Option (List ℕ)) → BothTold (λ old left. IsTorn (covered s.header (puts_in batches)) (byte_len (count_width s.header.version)) old (met s batches known (counted old r)).file left) m left
-        → IfSome m (λ file. (bytes : List ℕ) × (left ≡ Some bytes) × StopsAt F s fault (counted file r, arrived_all s.header calls seats) bytes n)
+        → IfSome m (λ file. (bytes : List ℕ) × (left ≡ Some bytes) × StopsAt F s fault (counted file r, arrived_all s.header calls runners) bytes n)
     by_held None b = tt
     by_held (Some file) b = (
       b.0,
       b.1,
       in_step (Meet k) f
-          (subst (λ (own : List ℕ). IsLeft s.header own (counted file r) (step_to s (counted file r, arrived_all s.header calls seats) (Meet k)).0 b.0 n) (bytes_meet s calls seats batches k l hold e)
-          (subst (λ (new : Counted). IsLeft s.header (covered s.header (puts_in batches)) (counted file r) new b.0 n) (meet_at s calls seats batches known k (counted file r) l hold e g)
+          (subst (λ (own : List ℕ). IsLeft s.header own (counted file r) (step_to s (counted file r, arrived_all s.header calls runners) (Meet k)).0 b.0 n) (bytes_meet s calls runners batches k l hold e)
+          (subst (λ (new : Counted). IsLeft s.header (covered s.header (puts_in batches)) (counted file r) new b.0 n) (meet_at s calls runners batches known k (counted file r) l hold e g)
           (b.2, by_count file count))),
     )
 
 -- the meeting was done, and some ranks did not hear
-pub stopped_deaf : (F : Mark → Type 0) (s : Setting) (fault : StepErr) (k : ℕ) (before now : List Mark) (held left : Option (List ℕ)) (calls : List (List Call)) (seats : List Seat)
-    (batches : List Batch) (known r n : ℕ) → fault ≡ Memory → now ≡ before ++ Meet k ∷ [] → length calls ≡ length seats → AllHold seats → batches ≡ batches_of (held_offers seats)
-    → known ≡ known_of (held_offers seats) → left ≡ after (λ file. (met s batches known (counted file r)).file) held → n ≡ max r (max (needed_now s (puts_in batches)) known)
-    → HasStopped F s fault before now held r (arrived_all s.header calls seats) left n
-stopped_deaf F s fault k before now held left calls seats batches known r n memory grown l hold e g bytes count = record { more = Meet k ∷ []; grown = grown; stops = by_held held bytes }
+pub stopped_deaf : (F : Mark → Type 0) (s : Setting) (fault : StepErr) (k : ℕ) (before now : List Mark) (held left : Option (List ℕ)) (calls : List (List Call)) (runners : List Runner)
+    (batches : List Batch) (known r n : ℕ) → fault ≡ Memory → now ≡ before ++ Meet k ∷ [] → length calls ≡ length runners → AllHold runners → batches ≡ batches_of (held_offers runners)
+    → known ≡ known_of (held_offers runners) → left ≡ after (λ file. (met s batches known (counted file r)).file) held → n ≡ max r (max (needed_now s (puts_in batches)) known)
+    → HasStopped F s fault before now held r (arrived_all s.header calls runners) left n
+stopped_deaf F s fault k before now held left calls runners batches known r n memory grown l hold e g bytes count = record { more = Meet k ∷ []; grown = grown; stops = by_held held bytes }
   where
     by_held : (m : Option (List ℕ)) → left ≡ after (λ file. (met s batches known (counted file r)).file) m
-        → IfSome m (λ file. (bytes : List ℕ) × (left ≡ Some bytes) × StopsAt F s fault (step_to s (counted file r, arrived_all s.header calls seats) (Meet k)) bytes n)
+        → IfSome m (λ file. (bytes : List ℕ) × (left ≡ Some bytes) × StopsAt F s fault (step_to s (counted file r, arrived_all s.header calls runners) (Meet k)) bytes n)
     by_held None q = tt
     by_held (Some file) q = (
       (met s batches known (counted file r)).file,
       q,
-      between memory (ap (λ (c : Counted). c.file) (meet_at s calls seats batches known k (counted file r) l hold e g))
-          (count ∙ sym (met_count s batches known file r) ∙ ap (λ (c : Counted). c.records) (meet_at s calls seats batches known k (counted file r) l hold e g)),
+      between memory (ap (λ (c : Counted). c.file) (meet_at s calls runners batches known k (counted file r) l hold e g))
+          (count ∙ sym (met_count s batches known file r) ∙ ap (λ (c : Counted). c.records) (meet_at s calls runners batches known k (counted file r) l hold e g)),
     )
 
 -- the count that is left where that of the ranks was not written
@@ -277,10 +277,10 @@ count_left s puts r n m known e f (inr z) = by_need (one_raises s puts 1 (inr z)
     by_need (inr q) = inl (omega arith)
 
 -- a meeting may follow
-pub next_meets : (script : Script) (header : Header) (len : ℕ) (order same : List Mark) (seats : List Seat) → is_lawful script ≡ true → AreSeats script header len order seats → HaveMet seats
-    → HaveArrived script seats → same ≡ order → IsNext script same (Meet (meetings order))
-next_meets script header len order same seats lawful a m come e =
-    let b = begun_after script header len order (order ++ Meet (meetings order) ∷ []) seats a m come refl in
+pub next_meets : (script : Script) (header : Header) (len : ℕ) (order same : List Mark) (runners : List Runner) → is_lawful script ≡ true → AreRunners script header len order runners → HaveMet runners
+    → HaveArrived script runners → same ≡ order → IsNext script same (Meet (meetings order))
+next_meets script header len order same runners lawful a m come e =
+    let b = begun_after script header len order (order ++ Meet (meetings order) ∷ []) runners a m come refl in
     subst (λ (ms : List Mark). IsNext script ms (Meet (meetings order))) (sym e) (completed_by script order (Meet (meetings order)) lawful b.known_ranks b.each_rank)
 
 pub count_kept : (s : Setting) (puts : Puts) (r n known : ℕ) → n ≡ r → (known ≡ 0) ⊎ (puts ≡ []) → (n ≡ r) ⊎ (n ≡ max r (max (needed_now s puts) known))

@@ -27,7 +27,7 @@ use Rattle.serial_spec.specs.Torn.StoodAt.{in_step as stood_step, in_close as st
 use Rattle.collective_round.specs.Rounds.{as_setting, counted}
 use Rattle.collective_round.proofs.TornFiles.{torn_by}
 use Rattle.run_laws.proofs.LawfulLaws.{ranks_lawful}
-use Rattle.run_laws.specs.Standing.{close_by}
+use Rattle.run_laws.specs.Ahead.{close_by}
 use Rattle.join_laws.proofs.Completing.{completed}
 use Rattle.turn_run.specs.Begun.{HasBegun}
 use Rattle.turn_run.specs.Cuts.{StopsAt, HasStopped, EndsAt, IsNext, bytes_at, closed_at}
@@ -36,8 +36,8 @@ use Rattle.turn_run.specs.Cuts.EndsAt.{before_close, in_close}
 use Rattle.run_laws.specs.Arrivals.{Arrived, Stand, step_to}
 use Rattle.turn_run.specs.Stages.{HasLed, IsLed, Leads, arrived_all, stage}
 use Rattle.turn_run.specs.Said.{all_between, HaveAnswers}
-use Rattle.turn_run.specs.Steps.{first_seat, most_known}
-use Rattle.turn_run.specs.declared.seats.Seat.{Seat}
+use Rattle.turn_run.specs.Steps.{first_runner, most_known}
+use Rattle.turn_run.specs.declared.runners.Runner.{Runner}
 use Rattle.turn_run.proofs.CutMeet.{raised_kept}
 use Rattle.turn_run.proofs.StageLaws.{gone_up, mark_up, marks_up}
 use Rattle.turn_run.proofs.TurnEnds.{AreOver, map_ended}
@@ -67,21 +67,21 @@ ends_before script s e before order held records ranks left count none h =
 
 -- ---- in the close
 
-closing_at : (script : Script) (header : Header) (c : Counted) (seats : List Seat) → length script.calls ≡ length seats → AreOver script.calls seats
-    → raised (setting_of script header) c (most_known seats) ≡ closed_at (setting_of script header) (c, arrived_all header script.calls seats)
-closing_at script header c seats long over =
-    let known : greatest (map (λ g. g.rank.known) (map (λ (a : Arrived). a.0) (arrived_all header script.calls seats))) ≡ most_known seats =
-    ap greatest (map_ended (λ (rank : machine.Rank) (answers : List Answer). rank.known) header script.calls seats long over) in
+closing_at : (script : Script) (header : Header) (c : Counted) (runners : List Runner) → length script.calls ≡ length runners → AreOver script.calls runners
+    → raised (setting_of script header) c (most_known runners) ≡ closed_at (setting_of script header) (c, arrived_all header script.calls runners)
+closing_at script header c runners long over =
+    let known : greatest (map (λ g. g.rank.known) (map (λ (a : Arrived). a.0) (arrived_all header script.calls runners))) ≡ most_known runners =
+    ap greatest (map_ended (λ (rank : machine.Rank) (answers : List Answer). rank.known) header script.calls runners long over) in
     sym (ap (λ (n : ℕ). raised (setting_of script header) c n) known)
 
-pub ends_closing : (script : Script) (header : Header) (e : StepErr) (before order : List Mark) (calls made : Option (List DiskCall)) (told left now : Option (List ℕ)) (count from last : ℕ) (seats : List Seat)
-    (ranks : List Arrived) → before ≡ [] → length script.calls ≡ length seats → AreOver script.calls seats → IsLegal script order
-    → HasLed script.hints (setting_of script header) before order (stage told calls from ranks) (stage left made count (arrived_all header script.calls seats))
-    → BothTold (λ old bytes. IsTorn [] (byte_len (count_width header.version)) old (raised (as_setting header) (counted old count) (most_known seats)).file bytes) left now
-    → (last ≡ count) ⊎ (last ≡ (raised (as_setting header) (counted [] count) (most_known seats)).records)
+pub ends_closing : (script : Script) (header : Header) (e : StepErr) (before order : List Mark) (calls made : Option (List DiskCall)) (told left now : Option (List ℕ)) (count from last : ℕ) (runners : List Runner)
+    (ranks : List Arrived) → before ≡ [] → length script.calls ≡ length runners → AreOver script.calls runners → IsLegal script order
+    → HasLed script.hints (setting_of script header) before order (stage told calls from ranks) (stage left made count (arrived_all header script.calls runners))
+    → BothTold (λ old bytes. IsTorn [] (byte_len (count_width header.version)) old (raised (as_setting header) (counted old count) (most_known runners)).file bytes) left now
+    → (last ≡ count) ⊎ (last ≡ (raised (as_setting header) (counted [] count) (most_known runners)).records)
     → IfSome told (λ file. (bytes : List ℕ) × (now ≡ Some bytes) × EndsAt script (setting_of script header) e (fold (step_to (setting_of script header)) (counted file from, ranks) order) order bytes last)
-ends_closing script header e before order calls made told left now count from last seats ranks none long over legal h torn records =
-    by_told told (subst (λ (ms : List Mark). Leads script.hints s ms (stage told calls from ranks) (stage left made count (arrived_all header script.calls seats))) all h.led)
+ends_closing script header e before order calls made told left now count from last runners ranks none long over legal h torn records =
+    by_told told (subst (λ (ms : List Mark). Leads script.hints s ms (stage told calls from ranks) (stage left made count (arrived_all header script.calls runners))) all h.led)
   where
     s : Setting
     s = setting_of script header
@@ -89,23 +89,23 @@ ends_closing script header e before order calls made told left now count from la
     all : h.more ≡ order
     all = sym (h.grown ∙ ap (λ (ms : List Mark). ms ++ h.more) none)
 
-    same_count : (file : List ℕ) → (raised (as_setting header) (counted [] count) (most_known seats)).records ≡ (raised (setting_of script header) (counted file count) (most_known seats)).records
-    same_count file = by_test (nat_lt count (most_known seats))
+    same_count : (file : List ℕ) → (raised (as_setting header) (counted [] count) (most_known runners)).records ≡ (raised (setting_of script header) (counted file count) (most_known runners)).records
+    same_count file = by_test (nat_lt count (most_known runners))
       where
-        by_test : (t : Bool) → (cond t (record { file = with_records header.version [] (most_known seats); records = most_known seats }) (counted [] count)).records
-            ≡ (cond t (record { file = with_records header.version file (most_known seats); records = most_known seats }) (counted file count)).records
+        by_test : (t : Bool) → (cond t (record { file = with_records header.version [] (most_known runners); records = most_known runners }) (counted [] count)).records
+            ≡ (cond t (record { file = with_records header.version file (most_known runners); records = most_known runners }) (counted file count)).records
         by_test true = refl
         by_test false = refl
 
-    by_count : (file : List ℕ) → (last ≡ count) ⊎ (last ≡ (raised (as_setting header) (counted [] count) (most_known seats)).records)
-        → (last ≡ count) ⊎ (last ≡ (closed_at (setting_of script header) (counted file count, arrived_all header script.calls seats)).records)
+    by_count : (file : List ℕ) → (last ≡ count) ⊎ (last ≡ (raised (as_setting header) (counted [] count) (most_known runners)).records)
+        → (last ≡ count) ⊎ (last ≡ (closed_at (setting_of script header) (counted file count, arrived_all header script.calls runners)).records)
     by_count file (inl q) = inl q
-    by_count file (inr q) = inr (q ∙ same_count file ∙ ap (λ (c : Counted). c.records) (closing_at script header (counted file count) seats long over))
+    by_count file (inr q) = inr (q ∙ same_count file ∙ ap (λ (c : Counted). c.records) (closing_at script header (counted file count) runners long over))
 
-    at : (file : List ℕ) → left ≡ Some file → BothTold (λ old bytes. IsTorn [] (byte_len (count_width header.version)) old (raised (as_setting header) (counted old count) (most_known seats)).file bytes) (Some file) now
-    at file q = subst (λ (m : Option (List ℕ)). BothTold (λ old bytes. IsTorn [] (byte_len (count_width header.version)) old (raised (as_setting header) (counted old count) (most_known seats)).file bytes) m now) q torn
+    at : (file : List ℕ) → left ≡ Some file → BothTold (λ old bytes. IsTorn [] (byte_len (count_width header.version)) old (raised (as_setting header) (counted old count) (most_known runners)).file bytes) (Some file) now
+    at file q = subst (λ (m : Option (List ℕ)). BothTold (λ old bytes. IsTorn [] (byte_len (count_width header.version)) old (raised (as_setting header) (counted old count) (most_known runners)).file bytes) m now) q torn
 
-    by_told : (m : Option (List ℕ)) → IfSome m (λ file. IsLed script.hints (setting_of script header) order file (stage m calls from ranks) (stage left made count (arrived_all header script.calls seats)))
+    by_told : (m : Option (List ℕ)) → IfSome m (λ file. IsLed script.hints (setting_of script header) order file (stage m calls from ranks) (stage left made count (arrived_all header script.calls runners)))
         → IfSome m (λ file. (bytes : List ℕ) × (now ≡ Some bytes) × EndsAt script (setting_of script header) e (fold (step_to (setting_of script header)) (counted file from, ranks) order) order bytes last)
     by_told None led = tt
     by_told (Some file) led =
@@ -115,7 +115,7 @@ ends_closing script header e before order calls made told left now count from la
           subst (λ (stand : Stand). EndsAt script (setting_of script header) e stand order q.0 last) (sym led.state)
               (in_close legal (
                 subst (λ (new : Counted). IsTorn [] (byte_len (count_width header.version)) led.left new.file q.0)
-                    (closing_at script header (counted led.left count) seats long over) q.2,
+                    (closing_at script header (counted led.left count) runners long over) q.2,
                 by_count led.left records,
               )),
         )
@@ -165,15 +165,15 @@ stood_at script s e state order left records lawful begun (before_close (between
 stood_at script s e state order left records lawful begun (in_close legal l) =
     stood_close legal (subst (λ (new : Counted). IsLeft s.header [] state.0 new left records) (closed_up s state.0 state.1) l)
 
-pub ends_stood : (script : Script) (header : Header) (e : StepErr) (records : ℕ) (seats : List Seat) (order : List Mark) (held left : Option (List ℕ)) (count : ℕ) → is_lawful script ≡ true
-    → records ≡ header.records → seats ≡ replicate script.ranks (first_seat header records) → HasBegun script order
+pub ends_stood : (script : Script) (header : Header) (e : StepErr) (records : ℕ) (runners : List Runner) (order : List Mark) (held left : Option (List ℕ)) (count : ℕ) → is_lawful script ≡ true
+    → records ≡ header.records → runners ≡ replicate script.ranks (first_runner header records) → HasBegun script order
     → IfSome held (λ file. (bytes : List ℕ) × (left ≡ Some bytes) × EndsAt script (setting_of script header) e
-    (fold (step_to (setting_of script header)) (counted file records, arrived_all header script.calls seats) order) order bytes count)
+    (fold (step_to (setting_of script header)) (counted file records, arrived_all header script.calls runners) order) order bytes count)
     → IfSome held (λ file. (bytes : List ℕ) × (left ≡ Some bytes) × StoodAt script (setting_of script header) e (state_after script header file order) order bytes count)
-ends_stood script header e records seats order None left count lawful first all begun h = tt
-ends_stood script header e records seats order (Some file) left count lawful first all begun h =
-    let up : fold (step_to (setting_of script header)) (counted file records, arrived_all header script.calls seats) order ≡ gone_up (setting_of script header) (state_after script header file order) =
-    ap (λ (stand : Stand). fold (step_to (setting_of script header)) stand order) (first_stage script header file records seats lawful first all)
+ends_stood script header e records runners order None left count lawful first all begun h = tt
+ends_stood script header e records runners order (Some file) left count lawful first all begun h =
+    let up : fold (step_to (setting_of script header)) (counted file records, arrived_all header script.calls runners) order ≡ gone_up (setting_of script header) (state_after script header file order) =
+    ap (λ (stand : Stand). fold (step_to (setting_of script header)) stand order) (first_stage script header file records runners lawful first all)
     ∙ sym (marks_up (setting_of script header) (first_state header file script.calls) order) in (
       h.0,
       h.1,
@@ -194,9 +194,9 @@ stood_first script header e order (Some file) left records count lawful memory n
 )
 
 -- the answers that are left
-pub cut_answers : (script : Script) (header : Header) (e x : StepErr) (records : ℕ) (first last : List Seat) (before order : List Mark) (file : List ℕ) (answers : List (List Answer))
-    → is_lawful script ≡ true → records ≡ header.records → first ≡ replicate script.ranks (first_seat header records) → before ≡ [] → (e ≡ x) ⊎ (e ≡ fault.Memory)
-    → HaveAnswers (setting_of script header) x before order (Some file) records (all_between script.calls first) last → (answers ≡ map (λ seat. seat.answers) last) ⊎ (answers ≡ [])
+pub cut_answers : (script : Script) (header : Header) (e x : StepErr) (records : ℕ) (first last : List Runner) (before order : List Mark) (file : List ℕ) (answers : List (List Answer))
+    → is_lawful script ≡ true → records ≡ header.records → first ≡ replicate script.ranks (first_runner header records) → before ≡ [] → (e ≡ x) ⊎ (e ≡ fault.Memory)
+    → HaveAnswers (setting_of script header) x before order (Some file) records (all_between script.calls first) last → (answers ≡ map (λ runner. runner.answers) last) ⊎ (answers ≡ [])
     → (r : ℕ) (g : Going) (own : List Answer) → slice_get (state_after script header file order).1 r ≡ Some g → slice_get answers r ≡ Some own → HasAnswers header e g own
 cut_answers script header e x records first last before order file answers lawful count all none which h are r g own at is = by_answers are
   where
@@ -208,33 +208,33 @@ cut_answers script header e x records first last before order file answers lawfu
 
     goings : all_between script.calls first ≡ map (first_going header) script.calls
     goings =
-        ap (λ (ss : List Seat). all_between script.calls ss) all
-        ∙ ap (λ (n : ℕ). all_between script.calls (replicate n (first_seat header records))) (sym (ranks_lawful script lawful).one_each) ∙ first_goings header records script.calls count
+        ap (λ (ss : List Runner). all_between script.calls ss) all
+        ∙ ap (λ (n : ℕ). all_between script.calls (replicate n (first_runner header records))) (sym (ranks_lawful script lawful).one_each) ∙ first_goings header records script.calls count
 
     state : fold (after_mark s) (counted file records, all_between script.calls first) h.more ≡ state_after script header file order
     state =
         ap (λ (ms : List Mark). fold (after_mark s) (counted file records, all_between script.calls first) ms) all_marks
         ∙ (λ i. fold (after_mark s) (counted file (count i), goings i) order)
 
-    by_cause : (e ≡ x) ⊎ (e ≡ fault.Memory) → (seat : Seat) → HasAnswers header x g seat.answers → HasAnswers header e g seat.answers
-    by_cause (inl q) seat k = subst (λ (y : StepErr). HasAnswers header y g seat.answers) (sym q) k
-    by_cause (inr q) seat k = subst (λ (y : StepErr). HasAnswers header y g seat.answers) (sym q) (k.0, tt)
+    by_cause : (e ≡ x) ⊎ (e ≡ fault.Memory) → (runner : Runner) → HasAnswers header x g runner.answers → HasAnswers header e g runner.answers
+    by_cause (inl q) runner k = subst (λ (y : StepErr). HasAnswers header y g runner.answers) (sym q) k
+    by_cause (inr q) runner k = subst (λ (y : StepErr). HasAnswers header y g runner.answers) (sym q) (k.0, tt)
 
-    by_answers : (answers ≡ map (λ seat. seat.answers) last) ⊎ (answers ≡ []) → HasAnswers header e g own
+    by_answers : (answers ≡ map (λ runner. runner.answers) last) ⊎ (answers ≡ []) → HasAnswers header e g own
     by_answers (inl q) =
-        let seat = mapped_entry (λ (seat : Seat). seat.answers) last r own (ap (λ (table : List (List Answer)). slice_get table r) (sym q) ∙ is) in
-        subst (λ (xs : List Answer). HasAnswers header e g xs) seat.1.1
-        (by_cause which seat.0 (h.said r g seat.0 (ap (λ (st : Counted × List Going). slice_get st.1 r) state ∙ at) seat.1.0))
+        let runner = mapped_entry (λ (runner : Runner). runner.answers) last r own (ap (λ (table : List (List Answer)). slice_get table r) (sym q) ∙ is) in
+        subst (λ (xs : List Answer). HasAnswers header e g xs) runner.1.1
+        (by_cause which runner.0 (h.said r g runner.0 (ap (λ (st : Counted × List Going). slice_get st.1 r) state ∙ at) runner.1.0))
     by_answers (inr q) = no_row (ap (λ (table : List (List Answer)). slice_get table r) (sym q) ∙ is)
       where
         no_row : None ≡ Some own → HasAnswers header e g own
         no_row k = absurd cc
 
 -- as many rows as ranks
-pub cut_rows : (script : Script) (e : StepErr) (last : List Seat) (answers : List (List Answer)) → length last ≡ length script.calls
-    → (e ≡ fault.Disk → answers ≡ map (λ seat. seat.answers) last) → (answers ≡ map (λ seat. seat.answers) last) ⊎ (answers ≡ []) → HasAnswersOfEach e script answers
-cut_rows script fault.Disk last answers long disk are = let k = ap (λ (table : List (List Answer)). length table) (disk refl) in let l = length-map last (λ (seat : Seat). seat.answers) in omega arith
-cut_rows script fault.Memory last answers long disk (inl q) = let k = ap (λ (table : List (List Answer)). length table) q in let l = length-map last (λ (seat : Seat). seat.answers) in omega arith
+pub cut_rows : (script : Script) (e : StepErr) (last : List Runner) (answers : List (List Answer)) → length last ≡ length script.calls
+    → (e ≡ fault.Disk → answers ≡ map (λ runner. runner.answers) last) → (answers ≡ map (λ runner. runner.answers) last) ⊎ (answers ≡ []) → HasAnswersOfEach e script answers
+cut_rows script fault.Disk last answers long disk are = let k = ap (λ (table : List (List Answer)). length table) (disk refl) in let l = length-map last (λ (runner : Runner). runner.answers) in omega arith
+cut_rows script fault.Memory last answers long disk (inl q) = let k = ap (λ (table : List (List Answer)). length table) q in let l = length-map last (λ (runner : Runner). runner.answers) in omega arith
 cut_rows script fault.Memory last answers long disk (inr q) = let k = ap (λ (table : List (List Answer)). length table) q in omega arith
 
 -- of a run that stood there, with these answers
@@ -251,14 +251,14 @@ cut_run script header e order held left count answers rows some h = by_held held
     by_held None f k = tt
     by_held (Some file) f k = (k.0, k.1, record { stood = k.2; each_rank = rows; some_answers = f file refl })
 
-pub answers_as : (s : Setting) (fault : StepErr) (before order same : List Mark) (held now : Option (List ℕ)) (records : ℕ) (goings : List Going) (seats : List Seat) → held ≡ now → same ≡ order
-    → HaveAnswers s fault before order held records goings seats → HaveAnswers s fault before same now records goings seats
-answers_as s fault before order same held now records goings seats e f h =
-    subst (λ (ms : List Mark). HaveAnswers s fault before ms now records goings seats) (sym f) (subst (λ (m : Option (List ℕ)). HaveAnswers s fault before order m records goings seats) e h)
+pub answers_as : (s : Setting) (fault : StepErr) (before order same : List Mark) (held now : Option (List ℕ)) (records : ℕ) (goings : List Going) (runners : List Runner) → held ≡ now → same ≡ order
+    → HaveAnswers s fault before order held records goings runners → HaveAnswers s fault before same now records goings runners
+answers_as s fault before order same held now records goings runners e f h =
+    subst (λ (ms : List Mark). HaveAnswers s fault before ms now records goings runners) (sym f) (subst (λ (m : Option (List ℕ)). HaveAnswers s fault before order m records goings runners) e h)
 
-pub first_long : (script : Script) → length script.calls ≡ script.ranks → (header : Header) (records : ℕ) (seats last : List Seat) → seats ≡ replicate script.ranks (first_seat header records) → length last ≡ length seats
+pub first_long : (script : Script) → length script.calls ≡ script.ranks → (header : Header) (records : ℕ) (runners last : List Runner) → runners ≡ replicate script.ranks (first_runner header records) → length last ≡ length runners
     → length last ≡ length script.calls
-first_long script one header records seats last e l = l ∙ ap (λ (ss : List Seat). length ss) e ∙ length-replicate script.ranks (first_seat header records) ∙ sym one
+first_long script one header records runners last e l = l ∙ ap (λ (ss : List Runner). length ss) e ∙ length-replicate script.ranks (first_runner header records) ∙ sym one
 
 pub rows_as : (answers table same : List (List Answer)) → table ≡ same → (answers ≡ table) ⊎ (answers ≡ []) → (answers ≡ same) ⊎ (answers ≡ [])
 rows_as answers table same e (inl q) = inl (q ∙ e)

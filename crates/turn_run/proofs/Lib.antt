@@ -1,7 +1,7 @@
 pub mod WrittenTwice
 pub mod StageLaws
 pub mod CountLaws
-pub mod SeatLaws
+pub mod RunnerLaws
 pub mod AloneLaws
 pub mod MeetPosts
 pub mod MeetSolo

@@ -1,4 +1,4 @@
--- The seats after a meeting.
+-- The runners after a meeting.
 use Rattle.std.proofs.Common.{◌≡◌, ℕ, ◌<◌, ◌≤◌, refl, sym, ◌∙◌, ap, subst, List, [], ◌∷◌, ◌++◌, length, map, Option, Some, None, inr, arith}
 use Rattle.std.specs.Prelude.{slice_get, is_some, IfSome}
 use Rattle.std.proofs.lemmas.List.{length-map}
@@ -22,38 +22,38 @@ use Rattle.run_laws.proofs.TogetherLaws.{call_waits, meeting_of_known}
 use Rattle.run_laws.proofs.WayLaws.{way_hears}
 use Rattle.turn_run.specs.Begun.{HasBegun}
 use Rattle.turn_run.specs.Counts.{IsAsked, IsCount}
-use Rattle.turn_run.specs.Seated.{asking, between, calls_of, going_of, reply_of, AreFreed, AreHeard, AreSeats, HasHeard, HaveArrived, HaveMet, IsPlaced, IsToHear}
+use Rattle.turn_run.specs.Running.{asking, between, calls_of, going_of, reply_of, AreFreed, AreHeard, AreRunners, HasHeard, HaveArrived, HaveMet, IsPlaced, IsToHear}
 use Rattle.turn_run.specs.Steps.{batches_of, held_offers}
-use Rattle.turn_run.specs.declared.seats.Seat.{Seat}
+use Rattle.turn_run.specs.declared.runners.Runner.{Runner}
 use Rattle.turn_run.proofs.CountLaws.{count_longer, count_max}
 use Rattle.turn_run.proofs.MeetOffers.{held_at, held_long, meets_at}
 use Rattle.turn_run.proofs.MeetStep.{AreDone}
-use Rattle.turn_run.proofs.SeatLaws.{answered_is, way_rest}
+use Rattle.turn_run.proofs.RunnerLaws.{answered_is, way_rest}
 use Rattle.list_laws.proofs.Places.{entry_below}
 use Rattle.list_laws.proofs.Maps.{entry_map}
-use Rattle.turn_run.proofs.TurnSteps.{seats_begun}
+use Rattle.turn_run.proofs.TurnSteps.{runners_begun}
 
 -- ---- what the meeting requires
 
-pub table_long : (header : Header) (seats : List Seat) (batches : List Batch) (table : List (List (List ℕ))) → HaveMet seats → batches ≡ batches_of (held_offers seats)
-    → map (λ blobs. map (λ blob. length blob) blobs) table ≡ map (λ b. map (wanted header) b.gets) batches → length table ≡ length seats
-table_long header seats batches table met e f =
+pub table_long : (header : Header) (runners : List Runner) (batches : List Batch) (table : List (List (List ℕ))) → HaveMet runners → batches ≡ batches_of (held_offers runners)
+    → map (λ blobs. map (λ blob. length blob) blobs) table ≡ map (λ b. map (wanted header) b.gets) batches → length table ≡ length runners
+table_long header runners batches table met e f =
     sym (length-map table (λ (blobs : List (List ℕ)). map (λ blob. length blob) blobs)) ∙ ap (λ (xs : List (List ℕ)). length xs) f
     ∙ length-map batches (λ (b : Batch). map (wanted header) b.gets) ∙ ap (λ (bs : List Batch). length bs) e
-    ∙ length-map (held_offers seats) (λ (o : Offer). o.batch) ∙ held_long seats met
+    ∙ length-map (held_offers runners) (λ (o : Offer). o.batch) ∙ held_long runners met
 
-pub to_hear : (script : Script) (header : Header) (len : ℕ) (order : List Mark) (seats mid : List Seat) (batches : List Batch) (table : List (List (List ℕ)))
-    → AreSeats script header len order seats → HaveMet seats → HaveArrived script seats → AreFreed seats mid → batches ≡ batches_of (held_offers seats)
+pub to_hear : (script : Script) (header : Header) (len : ℕ) (order : List Mark) (runners mid : List Runner) (batches : List Batch) (table : List (List (List ℕ)))
+    → AreRunners script header len order runners → HaveMet runners → HaveArrived script runners → AreFreed runners mid → batches ≡ batches_of (held_offers runners)
     → map (λ blobs. map (λ blob. length blob) blobs) table ≡ map (λ b. map (wanted header) b.gets) batches
-    → (r : ℕ) (seat : Seat) (blobs : List (List ℕ)) → slice_get mid r ≡ Some seat → slice_get table r ≡ Some blobs → IsToHear seat blobs
-to_hear script header len order seats mid batches table all met come freed e f r seat blobs h t =
-    let a = entry_below seats r (within (slice_get_within mid r seat h) freed.long) in
-    let m = meets_at script header len order seats all met come r a.0 a.1 in
+    → (r : ℕ) (runner : Runner) (blobs : List (List ℕ)) → slice_get mid r ≡ Some runner → slice_get table r ≡ Some blobs → IsToHear runner blobs
+to_hear script header len order runners mid batches table all met come freed e f r runner blobs h t =
+    let a = entry_below runners r (within (slice_get_within mid r runner h) freed.long) in
+    let m = meets_at script header len order runners all met come r a.0 a.1 in
     let o = m.0 in
     let keeps = call_waits script order r (asking (calls_of script r) a.0) o m.1.way in
-    let rank = (freed.each r a.0 seat a.1 h).rank in
+    let rank = (freed.each r a.0 runner a.1 h).rank in
     let own : slice_get batches r ≡ Some o.batch = ap (λ (bs : List Batch). slice_get bs r) e
-    ∙ entry_map (λ (p : Offer). p.batch) (held_offers seats) r o (held_at seats met r a.0 o a.1 m.1.held) in
+    ∙ entry_map (λ (p : Offer). p.batch) (held_offers runners) r o (held_at runners met r a.0 o a.1 m.1.held) in
     let row : map (λ blob. length blob) blobs ≡ map (wanted header) o.batch.gets = same_Some _ _
     (sym (entry_map (λ (bs : List (List ℕ)). map (λ blob. length blob) bs) table r blobs t) ∙ ap (λ (xs : List (List ℕ)). slice_get xs r) f
     ∙ entry_map (λ (b : Batch). map (wanted header) b.gets) batches r o.batch own) in
@@ -73,18 +73,18 @@ to_hear script header len order seats mid batches table all met come freed e f r
 
 -- ---- one rank after the meeting
 
-pub heard_before : (m a b : Seat) (reply : Reply) → m.rank ≡ a.rank → m.answers ≡ a.answers → HasHeard m b reply → HasHeard a b reply
+pub heard_before : (m a b : Runner) (reply : Reply) → m.rank ≡ a.rank → m.answers ≡ a.answers → HasHeard m b reply → HasHeard a b reply
 heard_before m a b reply e f h = record {
   answer = h.answer;
   heard = h.heard ∙ ap (λ (k : Ranked). hear k.header k.state reply) e;
   answers = h.answers ∙ ap (λ (xs : List Answer). xs ++ h.answer ∷ []) f;
 }
 
-pub are_done : (script : Script) (header : Header) (len : ℕ) (order : List Mark) (seats mid now : List Seat) (pair : Option Pair) (n : ℕ) (table : List (List (List ℕ)))
-    → AreSeats script header len order seats → HaveMet seats → HaveArrived script seats → AreFreed seats mid → AreHeard pair n table mid now → AreDone header pair n seats now table
-are_done script header len order seats mid now pair n table all met come freed heard r a b blobs g h t =
-    let m = entry_below mid r (within (slice_get_within seats r a g) freed.long) in
-    let o = meets_at script header len order seats all met come r a g in
+pub are_done : (script : Script) (header : Header) (len : ℕ) (order : List Mark) (runners mid now : List Runner) (pair : Option Pair) (n : ℕ) (table : List (List (List ℕ)))
+    → AreRunners script header len order runners → HaveMet runners → HaveArrived script runners → AreFreed runners mid → AreHeard pair n table mid now → AreDone header pair n runners now table
+are_done script header len order runners mid now pair n table all met come freed heard r a b blobs g h t =
+    let m = entry_below mid r (within (slice_get_within runners r a g) freed.long) in
+    let o = meets_at script header len order runners all met come r a g in
     let free = freed.each r a m.0 g m.1 in
     let said = heard.each r m.0 b blobs m.1 h t in (
       o.0,
@@ -100,25 +100,25 @@ are_done script header len order seats mid now pair n table all met come freed h
     within : {n k : ℕ} → r < n → k ≡ n → r < k
     within l e = subst (λ (m : ℕ). r < m) (sym e) l
 
-placed_free : (script : Script) (header : Header) (order : List Mark) (r : ℕ) (own : List _) (b : Seat) → b.held ≡ None → IsOnWay script order r (between own b) None
+placed_free : (script : Script) (header : Header) (order : List Mark) (r : ℕ) (own : List _) (b : Runner) → b.held ≡ None → IsOnWay script order r (between own b) None
     → IsPlaced script header order r (going_of own b) b.held
 placed_free script header order r own b e w =
     subst (λ (m : _). IsPlaced script header order r (elim m [ None ↦ between own b | Some o ↦ asking own b ]) m) (sym e) w
 
 -- ---- all ranks after the meeting
 
-pub seats_after : (script : Script) (header : Header) (before len : ℕ) (order now_order : List Mark) (seats mid now : List Seat) (pair : Option Pair) (n : ℕ) (table : List (List (List ℕ)))
-    → AreSeats script header before order seats → HaveMet seats → HaveArrived script seats → AreFreed seats mid → AreHeard pair n table mid now → length table ≡ length seats
-    → before ≤ len → IsCount header len n → now_order ≡ order ++ Meet (meetings order) ∷ [] → AreSeats script header len now_order now
-seats_after script header before len order now_order seats mid now pair n table all met come freed heard wide longer count e =
-    subst (λ (ms : List Mark). AreSeats script header len ms now) (sym e) (record {
+pub runners_after : (script : Script) (header : Header) (before len : ℕ) (order now_order : List Mark) (runners mid now : List Runner) (pair : Option Pair) (n : ℕ) (table : List (List (List ℕ)))
+    → AreRunners script header before order runners → HaveMet runners → HaveArrived script runners → AreFreed runners mid → AreHeard pair n table mid now → length table ≡ length runners
+    → before ≤ len → IsCount header len n → now_order ≡ order ++ Meet (meetings order) ∷ [] → AreRunners script header len now_order now
+runners_after script header before len order now_order runners mid now pair n table all met come freed heard wide longer count e =
+    subst (λ (ms : List Mark). AreRunners script header len ms now) (sym e) (record {
       all = heard.long ∙ freed.long ∙ all.all;
       known_ranks = meeting_of_known script.ranks (meetings order) order all.known_ranks;
       each = λ r b h.
-          let a = entry_below seats r (within r b h) in
+          let a = entry_below runners r (within r b h) in
           let row = entry_below table r (across r b h) in
           let d = done r a.0 b row.0 a.1 h row.1 in
-          let m = meets_at script header before order seats all met come r a.0 a.1 in
+          let m = meets_at script header before order runners all met come r a.0 a.1 in
           record {
             of_header = d.1.same_header ∙ d.1.of_header;
             placed = placed_free script header (order ++ Meet (meetings order) ∷ []) r (calls_of script r) b d.1.free
@@ -126,64 +126,64 @@ seats_after script header before len order now_order seats mid now pair n table 
             asked = subst (λ (o : Option Offer). IfSome o (IsAsked header b.rank.state.known)) (sym d.1.free) tt;
           };
       known = λ r b h.
-          let a = entry_below seats r (within r b h) in
+          let a = entry_below runners r (within r b h) in
           let row = entry_below table r (across r b h) in
           let d = done r a.0 b row.0 a.1 h row.1 in
-          let m = meets_at script header before order seats all met come r a.0 a.1 in
+          let m = meets_at script header before order runners all met come r a.0 a.1 in
           let waits = call_waits script order r (asking (calls_of script r) a.0) m.0 m.1.way in
           let keeps = hears_keeps header a.0.rank.state b.rank.state (reply_of pair n row.0) d.1.heard.answer waits.0 (said a.0 b (reply_of pair n row.0) d.1.of_header d.1.heard) in
           subst (λ (k : ℕ). IsCount header len k) (sym keeps.0)
           (count_max header len a.0.rank.state.known n (count_longer header before len a.0.rank.state.known longer m.1.known) (inr count));
     })
   where
-    done : AreDone header pair n seats now table
-    done = are_done script header before order seats mid now pair n table all met come freed heard
+    done : AreDone header pair n runners now table
+    done = are_done script header before order runners mid now pair n table all met come freed heard
 
-    within : (r : ℕ) (b : Seat) → slice_get now r ≡ Some b → r < length seats
+    within : (r : ℕ) (b : Runner) → slice_get now r ≡ Some b → r < length runners
     within r b h = let l = slice_get_within now r b h in let p = heard.long in let q = freed.long in omega arith
 
-    across : (r : ℕ) (b : Seat) → slice_get now r ≡ Some b → r < length table
+    across : (r : ℕ) (b : Runner) → slice_get now r ≡ Some b → r < length table
     across r b h = let l = within r b h in omega arith
 
-    said : (a b : Seat) (reply : Reply) → a.rank.header ≡ header → (h : HasHeard a b reply) → (b.rank.state, h.answer) ≡ hear header a.rank.state reply
+    said : (a b : Runner) (reply : Reply) → a.rank.header ≡ header → (h : HasHeard a b reply) → (b.rank.state, h.answer) ≡ hear header a.rank.state reply
     said a b reply f h = h.heard ∙ ap (λ (k : Header). hear k a.rank.state reply) f
 
-    on_way : (r : ℕ) (a b : Seat) (o : Offer) (reply : Reply) → IsOnWay script order r (asking (calls_of script r) a) (Some o) → a.rank.header ≡ header → HasHeard a b reply
+    on_way : (r : ℕ) (a b : Runner) (o : Offer) (reply : Reply) → IsOnWay script order r (asking (calls_of script r) a) (Some o) → a.rank.header ≡ header → HasHeard a b reply
         → IsOnWay script (order ++ Meet (meetings order) ∷ []) r (between (calls_of script r) b) None
     on_way r a b o reply w f h =
         subst (λ (s : Going). IsOnWay script (order ++ Meet (meetings order) ∷ []) r s None)
         (answered_is (calls_of script r) a.rank.state b.rank.state a.answers b.answers h.answer h.answers)
         (way_hears script order r header (asking (calls_of script r) a) b.rank.state o reply h.answer w (said a b reply f h))
 
-pub free_after : (seats mid now : List Seat) (pair : Option Pair) (n : ℕ) (table : List (List (List ℕ)))
-    → AreFreed seats mid → AreHeard pair n table mid now → length table ≡ length seats → (r : ℕ) (b : Seat) → slice_get now r ≡ Some b → b.held ≡ None
-free_after seats mid now pair n table freed heard wide r b h =
+pub free_after : (runners mid now : List Runner) (pair : Option Pair) (n : ℕ) (table : List (List (List ℕ)))
+    → AreFreed runners mid → AreHeard pair n table mid now → length table ≡ length runners → (r : ℕ) (b : Runner) → slice_get now r ≡ Some b → b.held ≡ None
+free_after runners mid now pair n table freed heard wide r b h =
     let l = slice_get_within now r b h in
     let p = heard.long in
     let q = freed.long in
-    let a = entry_below seats r (omega arith) in
+    let a = entry_below runners r (omega arith) in
     let m = entry_below mid r (omega arith) in
     let row = entry_below table r (omega arith) in
     (heard.each r m.0 b row.0 m.1 h row.1).held ∙ (freed.each r a.0 m.0 a.1 m.1).held
 
 -- ---- the marks
 
-pub begun_after : (script : Script) (header : Header) (len : ℕ) (order now_order : List Mark) (seats : List Seat) → AreSeats script header len order seats → HaveMet seats → HaveArrived script seats
+pub begun_after : (script : Script) (header : Header) (len : ℕ) (order now_order : List Mark) (runners : List Runner) → AreRunners script header len order runners → HaveMet runners → HaveArrived script runners
     → now_order ≡ order ++ Meet (meetings order) ∷ [] → HasBegun script now_order
-begun_after script header len order now_order seats all met come e = subst (λ (ms : List Mark). HasBegun script ms) (sym e) (record {
+begun_after script header len order now_order runners all met come e = subst (λ (ms : List Mark). HasBegun script ms) (sym e) (record {
   known_ranks = meeting_of_known script.ranks (meetings order) order all.known_ranks;
   each_rank = λ r l.
       let long = all.all in
-      let a = entry_below seats r (omega arith) in
-      let m = meets_at script header len order seats all met come r a.0 a.1 in
+      let a = entry_below runners r (omega arith) in
+      let m = meets_at script header len order runners all met come r a.0 a.1 in
       let none = reply_of None 0 [] in
       let said = hear header a.0.rank.state none in
       way_rest script (order ++ Meet (meetings order) ∷ []) r _ None
       (way_hears script order r header (asking (calls_of script r) a.0) said.0 m.0 none said.1 m.1.way refl);
 })
 
-pub begun_still : (script : Script) (header : Header) (len : ℕ) (order now_order : List Mark) (seats : List Seat) → AreSeats script header len order seats → now_order ≡ order → HasBegun script now_order
-begun_still script header len order now_order seats all e = subst (λ (ms : List Mark). HasBegun script ms) (sym e) (seats_begun script header len order seats all)
+pub begun_still : (script : Script) (header : Header) (len : ℕ) (order now_order : List Mark) (runners : List Runner) → AreRunners script header len order runners → now_order ≡ order → HasBegun script now_order
+begun_still script header len order now_order runners all e = subst (λ (ms : List Mark). HasBegun script ms) (sym e) (runners_begun script header len order runners all)
 
 -- the meeting's number
 pub order_at : (order now_order : List Mark) (number : ℕ) → number ≡ meetings order → now_order ≡ order ++ Meet number ∷ [] → now_order ≡ order ++ Meet (meetings order) ∷ []

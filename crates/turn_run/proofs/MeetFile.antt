@@ -9,7 +9,7 @@ use Rattle.nc_base.specs.declared.plan.Post.{Post}
 use Rattle.nc_base.specs.declared.script.Hints.{Hints}
 use Rattle.nc_base.specs.declared.step.DiskCall.{DiskCall}
 use Rattle.nc_outside.specs.Told.{after, with_end}
-use Rattle.serial_spec.specs.Desk.{needed_now}
+use Rattle.serial_spec.specs.Owner.{needed_now}
 use Rattle.serial_spec.specs.DeviceCalls.{collective_windows, get_bytes, loads, put_calls, store_records}
 use Rattle.serial_spec.specs.FileStep.{Counted, Setting, after_puts, end_for, needs, raised, told}
 use Rattle.serial_spec.specs.SoundHeaders.{is_sound}

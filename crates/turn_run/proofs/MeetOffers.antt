@@ -1,4 +1,4 @@
--- The offers of a meeting, as the seats hold them: together they are a job that a meeting takes.
+-- The offers of a meeting, as the runners hold them: together they are a job that a meeting takes.
 use Rattle.std.proofs.Common.{◌≡◌, ℕ, zero, suc, ◌+◌, ◌^◌, ◌<◌, ◌≤◌, refl, sym, ◌∙◌, ap, subst, List, [], ◌∷◌, ◌++◌, length, map, Bool, true, false, Option, Some, None, inl, inr, arith}
 use Rattle.std.proofs.lemmas.List.{map-append, length-map}
 use Rattle.std.specs.Prelude.{◌⊎◌, slice_get, flat_map, is_some, IfSome}
@@ -25,76 +25,76 @@ use Rattle.run_laws.proofs.LawfulLaws.{ranks_lawful}
 use Rattle.run_laws.proofs.TogetherLaws.{together_kind}
 use Rattle.collective_round.specs.Rounds.{gets_in, posts_in, puts_of_batch, AreGets, ArePuts, IsGet, IsPut}
 use Rattle.turn_run.specs.Counts.{raises, IsAsked, IsCount, IsFit, IsRise}
-use Rattle.turn_run.specs.Seated.{asking, calls_of, going_of, AreSeats, HaveArrived, HaveMet, IsMet, IsPlaced, IsPlacedWith}
+use Rattle.turn_run.specs.Running.{asking, calls_of, going_of, AreRunners, HaveArrived, HaveMet, IsMet, IsPlaced, IsPlacedWith}
 use Rattle.turn_run.specs.Steps.{batches_of, held_offers, known_of, IsJob, IsOneRise}
-use Rattle.turn_run.specs.declared.seats.Seat.{Seat}
+use Rattle.turn_run.specs.declared.runners.Runner.{Runner}
 use Rattle.turn_run.proofs.AloneLaws.{going_held}
 use Rattle.turn_run.proofs.CountLaws.{rise_max}
 use Rattle.turn_run.proofs.MeetPosts.{get_of, put_of, ranked_puts}
-use Rattle.serial_spec.specs.Desk.{IsSingleOffer}
+use Rattle.serial_spec.specs.Owner.{IsSingleOffer}
 use Rattle.list_laws.proofs.Optional.{value_of_some}
 
--- ---- the offers that seats hold
+-- ---- the offers that runners hold
 
-abbrev pub AllHold : List Seat → Type 0
-AllHold seats = (r : ℕ) (seat : Seat) → slice_get seats r ≡ Some seat → is_some seat.held ≡ true
+abbrev pub AllHold : List Runner → Type 0
+AllHold runners = (r : ℕ) (runner : Runner) → slice_get runners r ≡ Some runner → is_some runner.held ≡ true
 
-pub held_first : (seat : Seat) (seats : List Seat) (o : Offer) → seat.held ≡ Some o → held_offers (seat ∷ seats) ≡ o ∷ held_offers seats
-held_first seat seats o e = ap (λ (m : Option Offer). option_to_list m ++ held_offers seats) e
+pub held_first : (runner : Runner) (runners : List Runner) (o : Offer) → runner.held ≡ Some o → held_offers (runner ∷ runners) ≡ o ∷ held_offers runners
+held_first runner runners o e = ap (λ (m : Option Offer). option_to_list m ++ held_offers runners) e
 
-pub held_at : (seats : List Seat) → AllHold seats → (r : ℕ) (seat : Seat) (o : Offer) → slice_get seats r ≡ Some seat → seat.held ≡ Some o → slice_get (held_offers seats) r ≡ Some o
-held_at [] m r seat o e h = absurd cc
-held_at (x ∷ seats) m zero seat o e h =
+pub held_at : (runners : List Runner) → AllHold runners → (r : ℕ) (runner : Runner) (o : Offer) → slice_get runners r ≡ Some runner → runner.held ≡ Some o → slice_get (held_offers runners) r ≡ Some o
+held_at [] m r runner o e h = absurd cc
+held_at (x ∷ runners) m zero runner o e h =
     let p = value_of_some x.held (m 0 x refl) in
-    let own : p.0 ≡ o = same_Some p.0 o (sym p.1 ∙ ap (λ (s : Seat). s.held) (same_Some x seat e) ∙ h) in
-    ap (λ (os : List Offer). slice_get os 0) (held_first x seats p.0 p.1) ∙ ap (λ (q : Offer). Some q) own
-held_at (x ∷ seats) m (suc r) seat o e h =
+    let own : p.0 ≡ o = same_Some p.0 o (sym p.1 ∙ ap (λ (s : Runner). s.held) (same_Some x runner e) ∙ h) in
+    ap (λ (os : List Offer). slice_get os 0) (held_first x runners p.0 p.1) ∙ ap (λ (q : Offer). Some q) own
+held_at (x ∷ runners) m (suc r) runner o e h =
     let p = value_of_some x.held (m 0 x refl) in
-    ap (λ (os : List Offer). slice_get os (suc r)) (held_first x seats p.0 p.1) ∙ held_at seats (λ q s g. m (suc q) s g) r seat o e h
+    ap (λ (os : List Offer). slice_get os (suc r)) (held_first x runners p.0 p.1) ∙ held_at runners (λ q s g. m (suc q) s g) r runner o e h
 
-pub held_long : (seats : List Seat) → AllHold seats → length (held_offers seats) ≡ length seats
+pub held_long : (runners : List Runner) → AllHold runners → length (held_offers runners) ≡ length runners
 held_long [] m = refl
-held_long (x ∷ seats) m =
+held_long (x ∷ runners) m =
     let p = value_of_some x.held (m 0 x refl) in
-    ap (λ (os : List Offer). length os) (held_first x seats p.0 p.1) ∙ ap (λ (n : ℕ). suc n) (held_long seats (λ q s g. m (suc q) s g))
+    ap (λ (os : List Offer). length os) (held_first x runners p.0 p.1) ∙ ap (λ (n : ℕ). suc n) (held_long runners (λ q s g. m (suc q) s g))
 
-held_all : (P : Offer → Type 0) (seats : List Seat) → ((r : ℕ) (seat : Seat) → slice_get seats r ≡ Some seat → (o : Offer) × ((seat.held ≡ Some o) × P o))
-    → AllByRecursion P (held_offers seats)
+held_all : (P : Offer → Type 0) (runners : List Runner) → ((r : ℕ) (runner : Runner) → slice_get runners r ≡ Some runner → (o : Offer) × ((runner.held ≡ Some o) × P o))
+    → AllByRecursion P (held_offers runners)
 held_all P [] f = tt
-held_all P (x ∷ seats) f =
+held_all P (x ∷ runners) f =
     let p = f 0 x refl in
-    subst (λ (os : List Offer). AllByRecursion P os) (sym (held_first x seats p.0 p.1.0)) (p.1.1, held_all P seats (λ q s g. f (suc q) s g))
+    subst (λ (os : List Offer). AllByRecursion P os) (sym (held_first x runners p.0 p.1.0)) (p.1.1, held_all P runners (λ q s g. f (suc q) s g))
 
--- ---- a seat in a meeting
+-- ---- a runner in a meeting
 
-pub record Meets (script : Script) (header : Header) (len : ℕ) (order : List Mark) (r : ℕ) (seat : Seat) (o : Offer) : Type 0 where
-  pub held : seat.held ≡ Some o
-  pub way : IsOnWay script order r (asking (calls_of script r) seat) (Some o)
-  pub asked : IsAsked header seat.rank.state.known o
-  pub known : IsCount header len seat.rank.state.known
-  pub of_header : seat.rank.header ≡ header
+pub record Meets (script : Script) (header : Header) (len : ℕ) (order : List Mark) (r : ℕ) (runner : Runner) (o : Offer) : Type 0 where
+  pub held : runner.held ≡ Some o
+  pub way : IsOnWay script order r (asking (calls_of script r) runner) (Some o)
+  pub asked : IsAsked header runner.rank.state.known o
+  pub known : IsCount header len runner.rank.state.known
+  pub of_header : runner.rank.header ≡ header
 
-pub meets_at : (script : Script) (header : Header) (len : ℕ) (order : List Mark) (seats : List Seat) → AreSeats script header len order seats → HaveMet seats → HaveArrived script seats
-    → (r : ℕ) (seat : Seat) → slice_get seats r ≡ Some seat → (o : Offer) × Meets script header len order r seat o
-meets_at script header len order seats all met come r seat e =
-    let s = all.each r seat e in
-    by_held seat.held refl (met r seat e) (come r seat e).met s.placed s.asked s.of_header
+pub meets_at : (script : Script) (header : Header) (len : ℕ) (order : List Mark) (runners : List Runner) → AreRunners script header len order runners → HaveMet runners → HaveArrived script runners
+    → (r : ℕ) (runner : Runner) → slice_get runners r ≡ Some runner → (o : Offer) × Meets script header len order r runner o
+meets_at script header len order runners all met come r runner e =
+    let s = all.each r runner e in
+    by_held runner.held refl (met r runner e) (come r runner e).met s.placed s.asked s.of_header
   where
     by_kind : (s : Going) (o : Offer) (k : OfferKind) → (k ≡ offer.Solo → ⊥) → IsPlacedWith script header order r s o k → IsOnWay script order r s (Some o)
     by_kind s o offer.Solo n p = absurd (n refl)
     by_kind s o (offer.Meet kind) n p = p
 
-    by_held : (held : Option Offer) → seat.held ≡ held → is_some held ≡ true → IsMet held → IsPlaced script header order r (going_of (calls_of script r) seat) held
-        → IfSome held (IsAsked header seat.rank.state.known) → seat.rank.header ≡ header → (o : Offer) × Meets script header len order r seat o
+    by_held : (held : Option Offer) → runner.held ≡ held → is_some held ≡ true → IsMet held → IsPlaced script header order r (going_of (calls_of script r) runner) held
+        → IfSome held (IsAsked header runner.rank.state.known) → runner.rank.header ≡ header → (o : Offer) × Meets script header len order r runner o
     by_held None f i n p k h = absurd cc
     by_held (Some o) f i n p k h =
         let own = calls_of script r in (
           o,
           record {
             held = f;
-            way = subst (λ (s : Going). IsOnWay script order r s (Some o)) (going_held own seat o f) (by_kind (going_of own seat) o o.kind n p);
+            way = subst (λ (s : Going). IsOnWay script order r s (Some o)) (going_held own runner o f) (by_kind (going_of own runner) o o.kind n p);
             asked = k;
-            known = all.known r seat e;
+            known = all.known r runner e;
             of_header = h;
           },
         )
@@ -106,11 +106,11 @@ asked_fit header len known o asked count =
     let few = asked.few in
     record { sound = asked.sound; known = subst (λ (n : ℕ). IsCount header len n) (sym asked.told) count; few = omega arith }
 
-brought : (script : Script) (header : Header) (len : ℕ) (order : List Mark) (r : ℕ) (seat : Seat) (o : Offer) → Meets script header len order r seat o → IsFit header len o
-brought script header len order r seat o m = asked_fit header len seat.rank.state.known o m.asked m.known
+brought : (script : Script) (header : Header) (len : ℕ) (order : List Mark) (r : ℕ) (runner : Runner) (o : Offer) → Meets script header len order r runner o → IsFit header len o
+brought script header len order r runner o m = asked_fit header len runner.rank.state.known o m.asked m.known
 
-single : (script : Script) (header : Header) (len : ℕ) (order : List Mark) (r : ℕ) (seat : Seat) (o : Offer) → Meets script header len order r seat o → IsSingleOffer o
-single script header len order r seat o m = m.asked.one
+single : (script : Script) (header : Header) (len : ℕ) (order : List Mark) (r : ℕ) (runner : Runner) (o : Offer) → Meets script header len order r runner o → IsSingleOffer o
+single script header len order r runner o m = m.asked.one
 
 -- the puts of ranks from one on
 abbrev puts_from : ℕ → List Offer → Puts
@@ -280,44 +280,44 @@ offers_job header len offers most own =
 
 -- ---- the job
 
-pub all_brought : (script : Script) (header : Header) (len : ℕ) (order : List Mark) (seats : List Seat) → AreSeats script header len order seats → HaveMet seats → HaveArrived script seats
-    → AllByRecursion (IsFit header len) (held_offers seats)
-all_brought script header len order seats all met come =
-    held_all (IsFit header len) seats (λ r seat e.
-    let m = meets_at script header len order seats all met come r seat e in
-    (m.0, (m.1.held, brought script header len order r seat m.0 m.1)))
+pub all_brought : (script : Script) (header : Header) (len : ℕ) (order : List Mark) (runners : List Runner) → AreRunners script header len order runners → HaveMet runners → HaveArrived script runners
+    → AllByRecursion (IsFit header len) (held_offers runners)
+all_brought script header len order runners all met come =
+    held_all (IsFit header len) runners (λ r runner e.
+    let m = meets_at script header len order runners all met come r runner e in
+    (m.0, (m.1.held, brought script header len order r runner m.0 m.1)))
 
-one_kind : (script : Script) (header : Header) (len : ℕ) (order : List Mark) (seats : List Seat) → AreSeats script header len order seats → HaveMet seats → HaveArrived script seats
-    → (kind : OfferKind) × AllByRecursion (λ o. o.kind ≡ kind) (held_offers seats)
-one_kind script header len order seats all met come = by_list seats refl
+one_kind : (script : Script) (header : Header) (len : ℕ) (order : List Mark) (runners : List Runner) → AreRunners script header len order runners → HaveMet runners → HaveArrived script runners
+    → (kind : OfferKind) × AllByRecursion (λ o. o.kind ≡ kind) (held_offers runners)
+one_kind script header len order runners all met come = by_list runners refl
   where
-    by_list : (ss : List Seat) → seats ≡ ss → (kind : OfferKind) × AllByRecursion (λ o. o.kind ≡ kind) (held_offers seats)
-    by_list [] e = (offer.Solo, subst (λ (ss : List Seat). AllByRecursion (λ o. o.kind ≡ offer.Solo) (held_offers ss)) (sym e) tt)
+    by_list : (ss : List Runner) → runners ≡ ss → (kind : OfferKind) × AllByRecursion (λ o. o.kind ≡ kind) (held_offers runners)
+    by_list [] e = (offer.Solo, subst (λ (ss : List Runner). AllByRecursion (λ o. o.kind ≡ offer.Solo) (held_offers ss)) (sym e) tt)
     by_list (x ∷ xs) e =
-        let first = meets_at script header len order seats all met come 0 x (ap (λ (ss : List Seat). slice_get ss 0) e) in (
+        let first = meets_at script header len order runners all met come 0 x (ap (λ (ss : List Runner). slice_get ss 0) e) in (
           first.0.kind,
-          held_all (λ o. o.kind ≡ first.0.kind) seats (λ r seat f.
-              let m = meets_at script header len order seats all met come r seat f in
-              (m.0, (m.1.held, together_kind script order 0 r (asking (calls_of script 0) x) (asking (calls_of script r) seat) first.0 m.0 first.1.way m.1.way))),
+          held_all (λ o. o.kind ≡ first.0.kind) runners (λ r runner f.
+              let m = meets_at script header len order runners all met come r runner f in
+              (m.0, (m.1.held, together_kind script order 0 r (asking (calls_of script 0) x) (asking (calls_of script r) runner) first.0 m.0 first.1.way m.1.way))),
         )
 
-pub meets_job : (script : Script) (header : Header) (len : ℕ) (order : List Mark) (seats : List Seat) (batches : List Batch) → is_lawful script ≡ true
-    → AreSeats script header len order seats → HaveMet seats → HaveArrived script seats → batches ≡ batches_of (held_offers seats) → IsJob header len batches
-meets_job script header len order seats batches lawful all met come f =
+pub meets_job : (script : Script) (header : Header) (len : ℕ) (order : List Mark) (runners : List Runner) (batches : List Batch) → is_lawful script ≡ true
+    → AreRunners script header len order runners → HaveMet runners → HaveArrived script runners → batches ≡ batches_of (held_offers runners) → IsJob header len batches
+meets_job script header len order runners batches lawful all met come f =
     let most = (ranks_lawful script lawful).most in
     let long = all.all in
-    let held = held_long seats met in
-    subst (λ (bs : List Batch). IsJob header len bs) (sym f) (offers_job header len (held_offers seats) (omega arith) (all_brought script header len order seats all met come))
+    let held = held_long runners met in
+    subst (λ (bs : List Batch). IsJob header len bs) (sym f) (offers_job header len (held_offers runners) (omega arith) (all_brought script header len order runners all met come))
 
-pub meets_once : (script : Script) (header : Header) (len : ℕ) (order : List Mark) (seats : List Seat) (known : ℕ) (batches : List Batch) → AreSeats script header len order seats → HaveMet seats
-    → HaveArrived script seats → known ≡ known_of (held_offers seats) → batches ≡ batches_of (held_offers seats) → IsOneRise known batches
-meets_once script header len order seats known batches all met come e f =
-    let same = one_kind script header len order seats all met come in
-    let alone = held_all IsSingleOffer seats (λ r seat g.
-    let m = meets_at script header len order seats all met come r seat g in (m.0, (m.1.held, single script header len order r seat m.0 m.1))) in
-    subst (λ (n : ℕ). IsOneRise n batches) (sym e) (subst (λ (bs : List Batch). IsOneRise (known_of (held_offers seats)) bs) (sym f) (one_rise same.0 (held_offers seats) alone same.1))
+pub meets_once : (script : Script) (header : Header) (len : ℕ) (order : List Mark) (runners : List Runner) (known : ℕ) (batches : List Batch) → AreRunners script header len order runners → HaveMet runners
+    → HaveArrived script runners → known ≡ known_of (held_offers runners) → batches ≡ batches_of (held_offers runners) → IsOneRise known batches
+meets_once script header len order runners known batches all met come e f =
+    let same = one_kind script header len order runners all met come in
+    let alone = held_all IsSingleOffer runners (λ r runner g.
+    let m = meets_at script header len order runners all met come r runner g in (m.0, (m.1.held, single script header len order r runner m.0 m.1))) in
+    subst (λ (n : ℕ). IsOneRise n batches) (sym e) (subst (λ (bs : List Batch). IsOneRise (known_of (held_offers runners)) bs) (sym f) (one_rise same.0 (held_offers runners) alone same.1))
 
-pub meets_rise : (script : Script) (header : Header) (len : ℕ) (order : List Mark) (seats : List Seat) (known : ℕ) → AreSeats script header len order seats → HaveMet seats → HaveArrived script seats
-    → known ≡ known_of (held_offers seats) → IsRise header len known
-meets_rise script header len order seats known all met come e =
-    subst (λ (n : ℕ). IsRise header len n) (sym e) (rise_brought header len (held_offers seats) (all_brought script header len order seats all met come))
+pub meets_rise : (script : Script) (header : Header) (len : ℕ) (order : List Mark) (runners : List Runner) (known : ℕ) → AreRunners script header len order runners → HaveMet runners → HaveArrived script runners
+    → known ≡ known_of (held_offers runners) → IsRise header len known
+meets_rise script header len order runners known all met come e =
+    subst (λ (n : ℕ). IsRise header len n) (sym e) (rise_brought header len (held_offers runners) (all_brought script header len order runners all met come))

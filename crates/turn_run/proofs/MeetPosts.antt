@@ -10,7 +10,7 @@ use Rattle.nc_base.specs.declared.request.Direction.TheVariants.{Put, Get}
 use Rattle.nc_base.specs.declared.answer.Code.TheVariants as code
 use Rattle.nc_base.specs.declared.step.Offer.{Offer}
 use Rattle.overlay_laws.specs.Entries.{In}
-use Rattle.serial_spec.specs.Desk.{needed_now}
+use Rattle.serial_spec.specs.Owner.{needed_now}
 use Rattle.serial_spec.specs.FileStep.{Setting, end_for, needs, puts_of, told}
 use Rattle.serial_spec.specs.HeaderBytes.{header_len}
 use Rattle.serial_spec.specs.SoundHeaders.{is_sound}

@@ -8,7 +8,7 @@ use Rattle.serial_spec.specs.FileStep.{Setting, after_puts, get_post, puts_of, s
 use Rattle.collective_round.specs.Ended.{pair_of}
 use Rattle.collective_round.specs.Rounds.{counted}
 use Rattle.collective_round.specs.declared.collective.PutEnd.{PutEnd}
-use Rattle.turn_run.specs.Seated.{reply_of}
+use Rattle.turn_run.specs.Running.{reply_of}
 use Rattle.turn_run.specs.Steps.{needed_after}
 use Rattle.turn_run.proofs.MeetPosts.{needed_solo}
 use Rattle.list_laws.proofs.Optional.{if_some_at}

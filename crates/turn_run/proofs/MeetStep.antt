@@ -1,4 +1,4 @@
--- A meeting of the serial run, by the offers that the seats hold.
+-- A meeting of the serial run, by the offers that the runners hold.
 use Rattle.std.proofs.Common.{◌≡◌, ℕ, suc, ◌+◌, refl, sym, ◌∙◌, ap, List, [], ◌∷◌, ◌++◌, length, map, max, Option, Some, None, arith}
 use Rattle.std.proofs.lemmas.List.{append-nil}
 use Rattle.std.specs.Prelude.{slice_get, flat_map, zip, nat_lt, IfSome}
@@ -15,20 +15,20 @@ use Rattle.nc_base.specs.declared.step.Mark.TheVariants.{Meet}
 use Rattle.nc_base.specs.declared.step.Offer.{Offer}
 use Rattle.nc_base.specs.declared.step.Reply.{Reply}
 use Rattle.nc_outside.specs.Told.{after, with_end}
-use Rattle.serial_spec.specs.Desk.{needed_now}
+use Rattle.serial_spec.specs.Owner.{needed_now}
 use Rattle.serial_spec.specs.DeviceCalls.{collective_windows, get_bytes, gets_of, loads, meeting_calls, put_calls, store_records}
 use Rattle.serial_spec.specs.FileStep.{Counted, Setting, after_puts, get_post, meeting, puts_of, raised, told}
 use Rattle.serial_spec.specs.SerialEnd.{advance, offers_of}
 use Rattle.serial_spec.specs.SharedByte.{Puts}
 use Rattle.collective_round.specs.Rounds.{counted, gets_in, puts_in, puts_of_batch}
-use Rattle.turn_run.specs.Seated.{reply_of, HasHeard}
+use Rattle.turn_run.specs.Running.{reply_of, HasHeard}
 use Rattle.run_laws.specs.Arrivals.{heard, step_to, Arrived}
 use Rattle.turn_run.specs.Stages.{arrived, arrived_all, stage, HasLed, Leads}
 use Rattle.turn_run.specs.Steps.{batches_of, held_offers, known_of, met, met_calls}
-use Rattle.turn_run.specs.declared.seats.Seat.{Seat}
+use Rattle.turn_run.specs.declared.runners.Runner.{Runner}
 use Rattle.turn_run.proofs.AloneLaws.{arrived_free, arrived_held}
 use Rattle.turn_run.proofs.MeetOffers.{held_first, AllHold}
-use Rattle.turn_run.proofs.SeatLaws.{heard_seat}
+use Rattle.turn_run.proofs.RunnerLaws.{heard_runner}
 use Rattle.list_laws.proofs.Optional.{value_of_some, if_some_at}
 use Rattle.list_laws.proofs.Maps.{map_map}
 use Rattle.serial_spec.proofs.CountLaws.{raised_records}
@@ -77,88 +77,88 @@ replies_are s offers batches known n c pair table e f p r t =
 -- ---- the ranks
 
 -- it held this offer, and has heard this reply
-pub record IsDone (header : Header) (reply : Reply) (o : Offer) (a b : Seat) : Type 0 where
+pub record IsDone (header : Header) (reply : Reply) (o : Offer) (a b : Runner) : Type 0 where
   pub held : a.held ≡ Some o
   pub free : b.held ≡ None
   pub of_header : a.rank.header ≡ header
   pub same_header : b.rank.header ≡ a.rank.header
   pub heard : HasHeard a b reply
 
-arrived_done : (header : Header) (own : List Call) (reply : Reply) (o : Offer) (a b : Seat) → IsDone header reply o a b → heard header (arrived header own a, reply) ≡ arrived header own b
+arrived_done : (header : Header) (own : List Call) (reply : Reply) (o : Offer) (a b : Runner) → IsDone header reply o a b → heard header (arrived header own a, reply) ≡ arrived header own b
 arrived_done header own reply o a b d =
     ap (λ (x : Arrived). heard header (x, reply)) (arrived_held header own a o d.held)
-    ∙ ap (advance header) (sym (heard_seat header own a b reply d.of_header d.heard)) ∙ sym (arrived_free header own b d.free)
+    ∙ ap (advance header) (sym (heard_runner header own a b reply d.of_header d.heard)) ∙ sym (arrived_free header own b d.free)
 
-abbrev pub AreDone : Header → Option Pair → ℕ → List Seat → List Seat → List (List (List ℕ)) → Type 0
-AreDone header pair n seats now table = (r : ℕ) (a b : Seat) (blobs : List (List ℕ)) → slice_get seats r ≡ Some a → slice_get now r ≡ Some b → slice_get table r ≡ Some blobs
+abbrev pub AreDone : Header → Option Pair → ℕ → List Runner → List Runner → List (List (List ℕ)) → Type 0
+AreDone header pair n runners now table = (r : ℕ) (a b : Runner) (blobs : List (List ℕ)) → slice_get runners r ≡ Some a → slice_get now r ≡ Some b → slice_get table r ≡ Some blobs
     → (o : Offer) × IsDone header (reply_of pair n blobs) o a b
 
-ranks_done : (header : Header) (pair : Option Pair) (n : ℕ) (calls : List (List Call)) (seats now : List Seat) (table : List (List (List ℕ)))
-    → length now ≡ length seats → length table ≡ length seats → AreDone header pair n seats now table
-    → map (heard header) (zip (arrived_all header calls seats) (map (reply_of pair n) table)) ≡ arrived_all header calls now
-ranks_done header pair n [] seats now table l m d = refl
+ranks_done : (header : Header) (pair : Option Pair) (n : ℕ) (calls : List (List Call)) (runners now : List Runner) (table : List (List (List ℕ)))
+    → length now ≡ length runners → length table ≡ length runners → AreDone header pair n runners now table
+    → map (heard header) (zip (arrived_all header calls runners) (map (reply_of pair n) table)) ≡ arrived_all header calls now
+ranks_done header pair n [] runners now table l m d = refl
 ranks_done header pair n (own ∷ calls) [] [] table l m d = refl
 ranks_done header pair n (own ∷ calls) [] (b ∷ now) table l m d = absurd (omega arith)
-ranks_done header pair n (own ∷ calls) (a ∷ seats) [] table l m d = absurd (omega arith)
-ranks_done header pair n (own ∷ calls) (a ∷ seats) (b ∷ now) [] l m d = absurd (omega arith)
-ranks_done header pair n (own ∷ calls) (a ∷ seats) (b ∷ now) (blobs ∷ table) l m d =
+ranks_done header pair n (own ∷ calls) (a ∷ runners) [] table l m d = absurd (omega arith)
+ranks_done header pair n (own ∷ calls) (a ∷ runners) (b ∷ now) [] l m d = absurd (omega arith)
+ranks_done header pair n (own ∷ calls) (a ∷ runners) (b ∷ now) (blobs ∷ table) l m d =
     let first = d 0 a b blobs refl refl refl in
     let own_done = arrived_done header own (reply_of pair n blobs) first.0 a b first.1 in
-    let others = ranks_done header pair n calls seats now table (omega arith) (omega arith) (λ r x y z e f g. d (suc r) x y z e f g) in
+    let others = ranks_done header pair n calls runners now table (omega arith) (omega arith) (λ r x y z e f g. d (suc r) x y z e f g) in
     λ i. own_done i ∷ others i
 
-pub offers_are : (header : Header) (calls : List (List Call)) (seats : List Seat) → length calls ≡ length seats → AllHold seats → offers_of (arrived_all header calls seats) ≡ held_offers seats
+pub offers_are : (header : Header) (calls : List (List Call)) (runners : List Runner) → length calls ≡ length runners → AllHold runners → offers_of (arrived_all header calls runners) ≡ held_offers runners
 offers_are header [] [] l m = refl
-offers_are header [] (x ∷ seats) l m = absurd (omega arith)
+offers_are header [] (x ∷ runners) l m = absurd (omega arith)
 offers_are header (own ∷ calls) [] l m = absurd (omega arith)
-offers_are header (own ∷ calls) (x ∷ seats) l m =
+offers_are header (own ∷ calls) (x ∷ runners) l m =
     let p = value_of_some x.held (m 0 x refl) in
-    ap (λ (a : Arrived). offers_of (a ∷ arrived_all header calls seats)) (arrived_held header own x p.0 p.1)
-    ∙ ap (λ (os : List Offer). p.0 ∷ os) (offers_are header calls seats (omega arith) (λ q s g. m (suc q) s g))
-    ∙ sym (held_first x seats p.0 p.1)
+    ap (λ (a : Arrived). offers_of (a ∷ arrived_all header calls runners)) (arrived_held header own x p.0 p.1)
+    ∙ ap (λ (os : List Offer). p.0 ∷ os) (offers_are header calls runners (omega arith) (λ q s g. m (suc q) s g))
+    ∙ sym (held_first x runners p.0 p.1)
 
 -- ---- the step
 
-step_over : (s : Setting) (calls : List (List Call)) (seats now : List Seat) (batches : List Batch) (known n k : ℕ) (c : Counted) (pair : Option Pair) (table : List (List (List ℕ)))
-    → length calls ≡ length seats → length now ≡ length seats → length table ≡ length seats → AllHold seats → AreDone s.header pair n seats now table
-    → batches ≡ batches_of (held_offers seats) → known ≡ known_of (held_offers seats) → pair ≡ told s (puts_in batches) → n ≡ (met s batches known c).records
+step_over : (s : Setting) (calls : List (List Call)) (runners now : List Runner) (batches : List Batch) (known n k : ℕ) (c : Counted) (pair : Option Pair) (table : List (List (List ℕ)))
+    → length calls ≡ length runners → length now ≡ length runners → length table ≡ length runners → AllHold runners → AreDone s.header pair n runners now table
+    → batches ≡ batches_of (held_offers runners) → known ≡ known_of (held_offers runners) → pair ≡ told s (puts_in batches) → n ≡ (met s batches known c).records
     → table ≡ map (λ b. map (get_post s (met s batches known c).file) b.gets) batches
-    → step_to s (c, arrived_all s.header calls seats) (Meet k) ≡ (counted (met s batches known c).file n, arrived_all s.header calls now)
-step_over s calls seats now batches known n k c pair table l m w hold d e f p r t =
-    let ranks = arrived_all s.header calls seats in
-    let file = met_is s (held_offers seats) batches known c e f in
-    let replies = replies_are s (held_offers seats) batches known n c pair table e f p r t in
-    let done = ranks_done s.header pair n calls seats now table m w d in
-    ap (λ (os : List Offer). ((meeting s os c).0, map (heard s.header) (zip ranks (meeting s os c).1))) (offers_are s.header calls seats l hold)
+    → step_to s (c, arrived_all s.header calls runners) (Meet k) ≡ (counted (met s batches known c).file n, arrived_all s.header calls now)
+step_over s calls runners now batches known n k c pair table l m w hold d e f p r t =
+    let ranks = arrived_all s.header calls runners in
+    let file = met_is s (held_offers runners) batches known c e f in
+    let replies = replies_are s (held_offers runners) batches known n c pair table e f p r t in
+    let done = ranks_done s.header pair n calls runners now table m w d in
+    ap (λ (os : List Offer). ((meeting s os c).0, map (heard s.header) (zip ranks (meeting s os c).1))) (offers_are s.header calls runners l hold)
     ∙ (λ i. (file i, map (heard s.header) (zip ranks (replies i))))
     ∙ (λ i. (counted (met s batches known c).file (sym r i), done i))
 
-pub meeting_led : (hints : Hints) (s : Setting) (order now_order : List Mark) (calls : List (List Call)) (seats now : List Seat) (batches : List Batch) (known r n k : ℕ)
+pub meeting_led : (hints : Hints) (s : Setting) (order now_order : List Mark) (calls : List (List Call)) (runners now : List Runner) (batches : List Batch) (known r n k : ℕ)
     (held left : Option (List ℕ)) (before made : Option (List DiskCall)) (pair : Option Pair) (table : List (List (List ℕ)))
-    → length calls ≡ length seats → length now ≡ length seats → length table ≡ length seats → AllHold seats → AreDone s.header pair n seats now table
-    → batches ≡ batches_of (held_offers seats) → known ≡ known_of (held_offers seats) → pair ≡ told s (puts_in batches)
+    → length calls ≡ length runners → length now ≡ length runners → length table ≡ length runners → AllHold runners → AreDone s.header pair n runners now table
+    → batches ≡ batches_of (held_offers runners) → known ≡ known_of (held_offers runners) → pair ≡ told s (puts_in batches)
     → n ≡ max r (max (needed_now s (puts_in batches)) known) → left ≡ after (λ file. (met s batches known (counted file r)).file) held
     → IfSome left (λ file. table ≡ map (λ b. map (get_post s file) b.gets) batches)
     → IfSome held (λ file. made ≡ with_end before (met_calls hints s batches known (counted file r))) → now_order ≡ order ++ Meet k ∷ []
-    → HasLed hints s order now_order (stage held before r (arrived_all s.header calls seats)) (stage left made n (arrived_all s.header calls now))
-meeting_led hints s order now_order calls seats now batches known r n k held left before made pair table l m w hold d e f p count bytes got over o =
+    → HasLed hints s order now_order (stage held before r (arrived_all s.header calls runners)) (stage left made n (arrived_all s.header calls now))
+meeting_led hints s order now_order calls runners now batches known r n k held left before made pair table l m w hold d e f p count bytes got over o =
     record { more = Meet k ∷ []; grown = o; led = led held bytes over }
   where
     led : (held : Option (List ℕ)) → left ≡ after (λ file. (met s batches known (counted file r)).file) held
         → IfSome held (λ file. made ≡ with_end before (met_calls hints s batches known (counted file r)))
-        → Leads hints s (Meet k ∷ []) (stage held before r (arrived_all s.header calls seats)) (stage left made n (arrived_all s.header calls now))
+        → Leads hints s (Meet k ∷ []) (stage held before r (arrived_all s.header calls runners)) (stage left made n (arrived_all s.header calls now))
     led None b v = tt
     led (Some file) b v =
         let c = counted file r in
         let after_puts' = counted (after_puts s (puts_in batches) (told s (puts_in batches)) file) r in
         let same : n ≡ (met s batches known c).records = count ∙ sym (raised_records s after_puts' (max (needed_now s (puts_in batches)) known)) in
-        let offers = offers_are s.header calls seats l hold in
-        let its = met_calls_are hints s (held_offers seats) batches known c e f in
+        let offers = offers_are s.header calls runners l hold in
+        let its = met_calls_are hints s (held_offers runners) batches known c e f in
         record {
           left = (met s batches known c).file;
           told = b;
-          state = step_over s calls seats now batches known n k c pair table l m w hold d e f p same
+          state = step_over s calls runners now batches known n k c pair table l m w hold d e f p same
               (if_some_at (λ x. table ≡ map (λ b. map (get_post s x) b.gets) batches) left (met s batches known c).file b got);
           calls = v ∙ ap (with_end before) (sym its ∙ ap (λ (os : List Offer). meeting_calls hints s os c) (sym offers)
-              ∙ sym (append-nil (meeting_calls hints s (offers_of (arrived_all s.header calls seats)) c)));
+              ∙ sym (append-nil (meeting_calls hints s (offers_of (arrived_all s.header calls runners)) c)));
         }

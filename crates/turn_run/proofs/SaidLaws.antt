@@ -27,11 +27,11 @@ use Rattle.collective_round.specs.Rounds.{counted}
 use Rattle.run_laws.specs.Arrivals.{Arrived, Stand, solo_to, step_to}
 use Rattle.run_laws.proofs.WayLaws.{others_filter as solos_beside}
 use Rattle.turn_run.specs.Said.{HasSaid, SaysAt, AllSay, HasReached, AreAnswers, HaveAnswers, all_between}
-use Rattle.turn_run.specs.Seated.{between, calls_of, AreFree, HasArrived}
+use Rattle.turn_run.specs.Running.{between, calls_of, AreFree, HasArrived}
 use Rattle.turn_run.specs.Stages.{Stage, Leads, IsLed, HasGone, HasLed, IsGrownBy, arrived, arrived_all, stage}
-use Rattle.turn_run.specs.declared.seats.Seat.{Seat}
+use Rattle.turn_run.specs.declared.runners.Runner.{Runner}
 use Rattle.turn_run.proofs.AloneLaws.{arrived_free, arrived_held, step_at}
-use Rattle.turn_run.proofs.SeatLaws.{advance_ended, answers_begin}
+use Rattle.turn_run.proofs.RunnerLaws.{advance_ended, answers_begin}
 use Rattle.turn_run.proofs.StageLaws.{gone_up, marks_up}
 use Rattle.turn_run.proofs.TurnSteps.{calls_there, get_arrived, own_or_other}
 use Rattle.list_laws.proofs.Optional.{if_some_at}
@@ -79,19 +79,19 @@ said_between header Disk g answers e = (
 )
 said_between header Memory g answers e = (subst (λ (xs : List Answer). Begins xs (advance header g).0.answers) (sym e) (begins_up header g), tt)
 
-pub arrived_said : (header : Header) (own : List Call) (seat : Seat) → HasArrived own seat → (arrived header own seat).0.answers ≡ seat.answers
-arrived_said header own seat h = by_held seat.held refl
+pub arrived_said : (header : Header) (own : List Call) (runner : Runner) → HasArrived own runner → (arrived header own runner).0.answers ≡ runner.answers
+arrived_said header own runner h = by_held runner.held refl
   where
-    by_held : (m : Option Offer) → seat.held ≡ m → (arrived header own seat).0.answers ≡ seat.answers
-    by_held None e = ap (λ (a : Arrived). a.0.answers) (arrived_free header own seat e ∙ advance_ended header own seat.rank.state seat.answers (h.ended e))
-    by_held (Some o) e = ap (λ (a : Arrived). a.0.answers) (arrived_held header own seat o e)
+    by_held : (m : Option Offer) → runner.held ≡ m → (arrived header own runner).0.answers ≡ runner.answers
+    by_held None e = ap (λ (a : Arrived). a.0.answers) (arrived_free header own runner e ∙ advance_ended header own runner.rank.state runner.answers (h.ended e))
+    by_held (Some o) e = ap (λ (a : Arrived). a.0.answers) (arrived_held header own runner o e)
 
 pub says_here : (r : ℕ) (fault : StepErr) (answers : List Answer) (from : Arrived) (c : Counted) (ranks : List Arrived) → slice_get ranks r ≡ Some from → HasSaid fault from answers
     → SaysAt r fault answers (c, ranks)
 says_here r fault answers from c ranks e h a g = subst (λ (x : Arrived). HasSaid fault x answers) (same_Some from a (sym e ∙ g)) h
 
 -- the answers of a rank that went on through its calls, and was cut off
-pub part_arrived : (header : Header) (own all : List Call) (old : Seat) (answers : List Answer) → own ≡ all → old.held ≡ None
+pub part_arrived : (header : Header) (own all : List Call) (old : Runner) (answers : List Answer) → own ≡ all → old.held ≡ None
     → (rest : List Answer) × (answers ++ rest ≡ (advance header (between own old)).0.answers) → Begins answers (arrived header all old).0.answers
 part_arrived header own all old answers e free (rest, h) = (
   rest,
@@ -213,53 +213,53 @@ pub up_after : (s : Setting) (c : Counted) (goings : List Going) (ranks : List A
     → gone_up s (fold (after_mark s) (c, goings) order) ≡ fold (step_to s) (c, ranks) order
 up_after s c goings ranks order e = marks_up s (c, goings) order ∙ ap (λ (rs : List Arrived). fold (step_to s) (c, rs) order) e
 
-pub answers_up : (header : Header) (fault : StepErr) (goings : List Going) (seats : List Seat) (stand : Stand) → map (advance header) goings ≡ stand.1 → AllSay fault seats stand
-    → AreAnswers header fault goings seats
-answers_up header fault goings seats stand e h r g seat f k =
-    said_up header fault g seat.answers (h r seat k (advance header g) (ap (λ (rs : List Arrived). slice_get rs r) (sym e) ∙ entry_map (advance header) goings r g f))
+pub answers_up : (header : Header) (fault : StepErr) (goings : List Going) (runners : List Runner) (stand : Stand) → map (advance header) goings ≡ stand.1 → AllSay fault runners stand
+    → AreAnswers header fault goings runners
+answers_up header fault goings runners stand e h r g runner f k =
+    said_up header fault g runner.answers (h r runner k (advance header g) (ap (λ (rs : List Arrived). slice_get rs r) (sym e) ∙ entry_map (advance header) goings r g f))
 
-pub have_reached : (s : Setting) (fault : StepErr) (before now : List Mark) (held : Option (List ℕ)) (records : ℕ) (goings : List Going) (ranks : List Arrived) (seats : List Seat)
-    → map (advance s.header) goings ≡ ranks → HasReached (AllSay fault seats) s before now held records ranks → HaveAnswers s fault before now held records goings seats
-have_reached s fault before now held records goings ranks seats e h = record { more = h.more; grown = h.grown; said = by_held held h.ends }
+pub have_reached : (s : Setting) (fault : StepErr) (before now : List Mark) (held : Option (List ℕ)) (records : ℕ) (goings : List Going) (ranks : List Arrived) (runners : List Runner)
+    → map (advance s.header) goings ≡ ranks → HasReached (AllSay fault runners) s before now held records ranks → HaveAnswers s fault before now held records goings runners
+have_reached s fault before now held records goings ranks runners e h = record { more = h.more; grown = h.grown; said = by_held held h.ends }
   where
-    by_held : (m : Option (List ℕ)) → IfSome m (λ file. AllSay fault seats (fold (step_to s) (counted file records, ranks) h.more))
-        → IfSome m (λ file. AreAnswers s.header fault (fold (after_mark s) (counted file records, goings) h.more).1 seats)
+    by_held : (m : Option (List ℕ)) → IfSome m (λ file. AllSay fault runners (fold (step_to s) (counted file records, ranks) h.more))
+        → IfSome m (λ file. AreAnswers s.header fault (fold (after_mark s) (counted file records, goings) h.more).1 runners)
     by_held None k = tt
     by_held (Some file) k =
-        answers_up s.header fault (fold (after_mark s) (counted file records, goings) h.more).1 seats (fold (step_to s) (counted file records, ranks) h.more)
+        answers_up s.header fault (fold (after_mark s) (counted file records, goings) h.more).1 runners (fold (step_to s) (counted file records, ranks) h.more)
         (ap (λ (stand : Stand). stand.1) (up_after s (counted file records) goings ranks h.more e)) k
 
 -- those that hold no offer wait where they heard their last reply
-pub between_up : (header : Header) (calls : List (List Call)) (seats : List Seat) → AreFree seats → map (advance header) (all_between calls seats) ≡ arrived_all header calls seats
-between_up header [] seats f = refl
+pub between_up : (header : Header) (calls : List (List Call)) (runners : List Runner) → AreFree runners → map (advance header) (all_between calls runners) ≡ arrived_all header calls runners
+between_up header [] runners f = refl
 between_up header (own ∷ calls) [] f = refl
-between_up header (own ∷ calls) (seat ∷ seats) f =
-    let first : advance header (between own seat) ≡ arrived header own seat = sym (arrived_free header own seat (f 0 seat refl)) in
-    let others = between_up header calls seats (λ r s e. f (suc r) s e) in
+between_up header (own ∷ calls) (runner ∷ runners) f =
+    let first : advance header (between own runner) ≡ arrived header own runner = sym (arrived_free header own runner (f 0 runner refl)) in
+    let others = between_up header calls runners (λ r s e. f (suc r) s e) in
     λ i. first i ∷ others i
 
-get_between : (calls : List (List Call)) (seats : List Seat) (r : ℕ) (own : List Call) (seat : Seat) → slice_get calls r ≡ Some own → slice_get seats r ≡ Some seat
-    → slice_get (all_between calls seats) r ≡ Some (between own seat)
-get_between [] seats r own seat e f = absurd cc
-get_between (c ∷ calls) [] r own seat e f = absurd cc
-get_between (c ∷ calls) (s ∷ seats) zero own seat e f =
+get_between : (calls : List (List Call)) (runners : List Runner) (r : ℕ) (own : List Call) (runner : Runner) → slice_get calls r ≡ Some own → slice_get runners r ≡ Some runner
+    → slice_get (all_between calls runners) r ≡ Some (between own runner)
+get_between [] runners r own runner e f = absurd cc
+get_between (c ∷ calls) [] r own runner e f = absurd cc
+get_between (c ∷ calls) (s ∷ runners) zero own runner e f =
     let a : c ≡ own = same_Some c own e in
-    let b : s ≡ seat = same_Some s seat f in
+    let b : s ≡ runner = same_Some s runner f in
     λ i. Some (between (a i) (b i))
-get_between (c ∷ calls) (s ∷ seats) (suc r) own seat e f = get_between calls seats r own seat e f
+get_between (c ∷ calls) (s ∷ runners) (suc r) own runner e f = get_between calls runners r own runner e f
 
 -- ---- ranks that go on one after another
 
 -- one was cut off: those before it have arrived, and those after it wait where they were
-pub answers_cut : (script : Script) (fault : StepErr) (n : ℕ) (before mid now : List Mark) (first seats : List Seat) (was new : Seat) (s : Setting)
-    (held left : Option (List ℕ)) (calls made : Option (List DiskCall)) (records : ℕ) → length script.calls ≡ length seats → AreFree first → slice_get seats n ≡ Some was
-    → HasLed script.hints s before mid (stage held calls records (arrived_all s.header script.calls first)) (stage left made records (arrived_all s.header script.calls seats))
+pub answers_cut : (script : Script) (fault : StepErr) (n : ℕ) (before mid now : List Mark) (first runners : List Runner) (was new : Runner) (s : Setting)
+    (held left : Option (List ℕ)) (calls made : Option (List DiskCall)) (records : ℕ) → length script.calls ≡ length runners → AreFree first → slice_get runners n ≡ Some was
+    → HasLed script.hints s before mid (stage held calls records (arrived_all s.header script.calls first)) (stage left made records (arrived_all s.header script.calls runners))
     → IsGrownBy n mid now → ((r : ℕ) → n ≤ r → filter (concerns r) mid ≡ filter (concerns r) before)
-    → ((r : ℕ) (seat : Seat) → r < n → slice_get seats r ≡ Some seat → HasArrived (calls_of script r) seat)
-    → ((r : ℕ) → n ≤ r → slice_get seats r ≡ slice_get first r)
-    → HasReached (SaysAt n fault new.answers) s mid now left records (arrived_all s.header script.calls seats)
-    → HaveAnswers s fault before now held records (all_between script.calls first) (set seats n new)
-answers_cut script fault n before mid now first seats was new s held left calls made records long free there led grown others come same reached = record {
+    → ((r : ℕ) (runner : Runner) → r < n → slice_get runners r ≡ Some runner → HasArrived (calls_of script r) runner)
+    → ((r : ℕ) → n ≤ r → slice_get runners r ≡ slice_get first r)
+    → HasReached (SaysAt n fault new.answers) s mid now left records (arrived_all s.header script.calls runners)
+    → HaveAnswers s fault before now held records (all_between script.calls first) (set runners n new)
+answers_cut script fault n before mid now first runners was new s held left calls made records long free there led grown others come same reached = record {
   more = led.more ++ reached.more;
   grown = reached.grown ∙ ap (λ (ms : List Mark). ms ++ reached.more) led.grown ∙ append_assoc before led.more reached.more;
   said = by_held held led.led;
@@ -271,8 +271,8 @@ answers_cut script fault n before mid now first seats was new s held left calls 
     goings : List Going
     goings = all_between script.calls first
 
-    ends_at : (file : List ℕ) → left ≡ Some file → SaysAt n fault new.answers (fold (step_to s) (counted file records, arrived_all s.header script.calls seats) reached.more)
-    ends_at file e = if_some_at (λ (f : List ℕ). SaysAt n fault new.answers (fold (step_to s) (counted f records, arrived_all s.header script.calls seats) reached.more)) left file e reached.ends
+    ends_at : (file : List ℕ) → left ≡ Some file → SaysAt n fault new.answers (fold (step_to s) (counted file records, arrived_all s.header script.calls runners) reached.more)
+    ends_at file e = if_some_at (λ (f : List ℕ). SaysAt n fault new.answers (fold (step_to s) (counted f records, arrived_all s.header script.calls runners) reached.more)) left file e reached.ends
 
     own_none : (r : ℕ) → n ≢ r → filter (concerns r) reached.more ≡ []
     own_none r ne = none_added r mid now reached.more reached.grown (grown_beside n r mid now ne grown)
@@ -282,52 +282,52 @@ answers_cut script fault n before mid now first seats was new s held left calls 
         filter-append (concerns r) led.more reached.more
         ∙ ap (λ (ms : List Mark). ms ++ filter (concerns r) reached.more) (none_added r before mid led.more led.grown (others r l)) ∙ own_none r ne
 
-    by_held : (m : Option (List ℕ)) → IfSome m (λ file. IsLed script.hints s led.more file (stage m calls records (arrived_all s.header script.calls first)) (stage left made records (arrived_all s.header script.calls seats)))
-        → IfSome m (λ file. AreAnswers s.header fault (fold (after_mark s) (counted file records, goings) more).1 (set seats n new))
+    by_held : (m : Option (List ℕ)) → IfSome m (λ file. IsLed script.hints s led.more file (stage m calls records (arrived_all s.header script.calls first)) (stage left made records (arrived_all s.header script.calls runners)))
+        → IfSome m (λ file. AreAnswers s.header fault (fold (after_mark s) (counted file records, goings) more).1 (set runners n new))
     by_held None l = tt
-    by_held (Some file) l = λ r g seat f k. own_or_other (HasAnswers s.header fault g seat.answers) n r (λ e. at_own r g seat f k e) (λ ne. at_other r g seat f k ne)
+    by_held (Some file) l = λ r g runner f k. own_or_other (HasAnswers s.header fault g runner.answers) n r (λ e. at_own r g runner f k e) (λ ne. at_other r g runner f k ne)
       where
         up : map (advance s.header) (fold (after_mark s) (counted file records, goings) more).1
-            ≡ (fold (step_to s) (counted l.left records, arrived_all s.header script.calls seats) reached.more).1
+            ≡ (fold (step_to s) (counted l.left records, arrived_all s.header script.calls runners) reached.more).1
         up =
             ap (λ (stand : Stand). stand.1) (up_after s (counted file records) goings (arrived_all s.header script.calls first) more (between_up s.header script.calls first free)
             ∙ fold-append (step_to s) (counted file records, arrived_all s.header script.calls first) led.more reached.more
             ∙ ap (λ (stand : Stand). fold (step_to s) stand reached.more) l.state)
 
         gets : (r : ℕ) (g : Going) → slice_get (fold (after_mark s) (counted file records, goings) more).1 r ≡ Some g
-            → slice_get (fold (step_to s) (counted l.left records, arrived_all s.header script.calls seats) reached.more).1 r ≡ Some (advance s.header g)
+            → slice_get (fold (step_to s) (counted l.left records, arrived_all s.header script.calls runners) reached.more).1 r ≡ Some (advance s.header g)
         gets r g f = ap (λ (rs : List Arrived). slice_get rs r) (sym up) ∙ entry_map (advance s.header) (fold (after_mark s) (counted file records, goings) more).1 r g f
 
-        at_own : (r : ℕ) (g : Going) (seat : Seat) → slice_get (fold (after_mark s) (counted file records, goings) more).1 r ≡ Some g → slice_get (set seats n new) r ≡ Some seat → n ≡ r
-            → HasAnswers s.header fault g seat.answers
-        at_own r g seat f k e =
-            let same_seat : new ≡ seat = same_Some new seat (sym (entry_set seats n was new there) ∙ ap (λ (q : ℕ). slice_get (set seats n new) q) e ∙ k) in
-            subst (λ (x : Seat). HasAnswers s.header fault g x.answers) same_seat
+        at_own : (r : ℕ) (g : Going) (runner : Runner) → slice_get (fold (after_mark s) (counted file records, goings) more).1 r ≡ Some g → slice_get (set runners n new) r ≡ Some runner → n ≡ r
+            → HasAnswers s.header fault g runner.answers
+        at_own r g runner f k e =
+            let same_runner : new ≡ runner = same_Some new runner (sym (entry_set runners n was new there) ∙ ap (λ (q : ℕ). slice_get (set runners n new) q) e ∙ k) in
+            subst (λ (x : Runner). HasAnswers s.header fault g x.answers) same_runner
             (said_up s.header fault g new.answers (ends_at l.left l.told (advance s.header g)
-            (ap (λ (q : ℕ). slice_get (fold (step_to s) (counted l.left records, arrived_all s.header script.calls seats) reached.more).1 q) e ∙ gets r g f)))
+            (ap (λ (q : ℕ). slice_get (fold (step_to s) (counted l.left records, arrived_all s.header script.calls runners) reached.more).1 q) e ∙ gets r g f)))
 
-        at_other : (r : ℕ) (g : Going) (seat : Seat) → slice_get (fold (after_mark s) (counted file records, goings) more).1 r ≡ Some g → slice_get (set seats n new) r ≡ Some seat → n ≢ r
-            → HasAnswers s.header fault g seat.answers
-        at_other r g seat f k ne = by_order (nat_lt r n) refl
+        at_other : (r : ℕ) (g : Going) (runner : Runner) → slice_get (fold (after_mark s) (counted file records, goings) more).1 r ≡ Some g → slice_get (set runners n new) r ≡ Some runner → n ≢ r
+            → HasAnswers s.header fault g runner.answers
+        at_other r g runner f k ne = by_order (nat_lt r n) refl
           where
-            here : slice_get seats r ≡ Some seat
-            here = sym (entry_set_other seats n r new (λ e. ne (sym e))) ∙ k
+            here : slice_get runners r ≡ Some runner
+            here = sym (entry_set_other runners n r new (λ e. ne (sym e))) ∙ k
 
             its_calls : slice_get script.calls r ≡ Some (calls_of script r)
-            its_calls = calls_there script r (let w = slice_get_within seats r seat here in omega arith)
+            its_calls = calls_there script r (let w = slice_get_within runners r runner here in omega arith)
 
-            by_order : (t : Bool) → nat_lt r n ≡ t → HasAnswers s.header fault g seat.answers
+            by_order : (t : Bool) → nat_lt r n ≡ t → HasAnswers s.header fault g runner.answers
             by_order true t =
                 let below : r < n = grind (arith, nat_tests) in
-                let is : advance s.header g ≡ arrived s.header (calls_of script r) seat =
+                let is : advance s.header g ≡ arrived s.header (calls_of script r) runner =
                 same_Some _ _ (sym (gets r g f)
-                ∙ marks_beside s r reached.more (counted l.left records, arrived_all s.header script.calls seats) (own_none r ne)
-                ∙ get_arrived s.header script.calls seats r (calls_of script r) seat its_calls here) in
-                said_up s.header fault g seat.answers (said_here fault (advance s.header g) seat.answers
-                (sym (ap (λ (a : Arrived). a.0.answers) is ∙ arrived_said s.header (calls_of script r) seat (come r seat below here))))
+                ∙ marks_beside s r reached.more (counted l.left records, arrived_all s.header script.calls runners) (own_none r ne)
+                ∙ get_arrived s.header script.calls runners r (calls_of script r) runner its_calls here) in
+                said_up s.header fault g runner.answers (said_here fault (advance s.header g) runner.answers
+                (sym (ap (λ (a : Arrived). a.0.answers) is ∙ arrived_said s.header (calls_of script r) runner (come r runner below here))))
             by_order false t =
                 let past : n ≤ r = grind (arith, nat_tests) in
-                let is : g ≡ between (calls_of script r) seat =
+                let is : g ≡ between (calls_of script r) runner =
                 same_Some _ _ (sym f ∙ goings_beside s r more (counted file records, goings) (all_none r ne past)
-                ∙ get_between script.calls first r (calls_of script r) seat its_calls (sym (same r past) ∙ here)) in
-                said_between s.header fault g seat.answers (sym (ap (λ (x : Going). x.answers) is))
+                ∙ get_between script.calls first r (calls_of script r) runner its_calls (sym (same r past) ∙ here)) in
+                said_between s.header fault g runner.answers (sym (ap (λ (x : Going). x.answers) is))

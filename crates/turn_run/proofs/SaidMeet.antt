@@ -19,23 +19,23 @@ use Rattle.nc_base.specs.declared.step.Reply.{Reply}
 use Rattle.nc_base.specs.declared.step.StepErr.{StepErr}
 use Rattle.nc_base.specs.declared.step.StepErr.TheVariants.{Memory}
 use Rattle.nc_outside.specs.Told.{after}
-use Rattle.serial_spec.specs.Desk.{needed_now}
+use Rattle.serial_spec.specs.Owner.{needed_now}
 use Rattle.serial_spec.specs.FileStep.{Setting, Counted, after_puts, get_post, meeting, told}
 use Rattle.serial_spec.specs.SerialEnd.{Going, advance, after_mark, hears, offers_of}
 use Rattle.serial_spec.specs.Torn.{Begins}
 use Rattle.collective_round.specs.Rounds.{counted, puts_in}
 use Rattle.run_laws.specs.Arrivals.{Arrived, Stand, heard, step_to}
 use Rattle.turn_run.specs.Said.{HasSaid, AllSay, HasReached, AreAnswers, HaveAnswers, HaveHeardInPart, KeepAnswers, all_between}
-use Rattle.turn_run.specs.Seated.{asking, between, calls_of, reply_of, AreFreed, HasHeard, HaveArrived, HaveMet, AreSeats}
+use Rattle.turn_run.specs.Running.{asking, between, calls_of, reply_of, AreFreed, HasHeard, HaveArrived, HaveMet, AreRunners}
 use Rattle.turn_run.specs.Stages.{Stage, Leads, IsLed, HasLed, arrived, arrived_all, stand_of}
 use Rattle.turn_run.specs.Steps.{batches_of, held_offers, known_of, met}
-use Rattle.turn_run.specs.declared.seats.Seat.{Seat}
+use Rattle.turn_run.specs.declared.runners.Runner.{Runner}
 use Rattle.turn_run.proofs.AloneLaws.{arrived_held}
 use Rattle.turn_run.proofs.MeetDone.{heard_before}
 use Rattle.turn_run.proofs.MeetOffers.{meets_at, AllHold}
 use Rattle.turn_run.proofs.MeetStep.{offers_are, replies_are, AreDone}
 use Rattle.turn_run.proofs.SaidLaws.{arrived_said, begins_heard, begins_up, said_here, said_part, up_after}
-use Rattle.turn_run.proofs.SeatLaws.{heard_seat}
+use Rattle.turn_run.proofs.RunnerLaws.{heard_runner}
 use Rattle.turn_run.proofs.StageLaws.{gone_up, led_then}
 use Rattle.turn_run.proofs.TurnSteps.{calls_there, get_arrived, set_each}
 use Rattle.list_laws.proofs.Optional.{if_some_at}
@@ -45,34 +45,34 @@ use Rattle.serial_spec.proofs.CountLaws.{raised_records}
 
 -- ---- before its step is done
 
-pub all_say_here : (script : Script) (header : Header) (fault : StepErr) (seats now : List Seat) (c : Counted) → length script.calls ≡ length seats → length now ≡ length seats
-    → HaveArrived script seats → KeepAnswers seats now → AllSay fault now (c, arrived_all header script.calls seats)
-all_say_here script header fault seats now c long same come kept r b k a g =
-    let within : r < length seats = (let l = slice_get_within now r b k in omega arith) in
-    let was = entry_below seats r within in
+pub all_say_here : (script : Script) (header : Header) (fault : StepErr) (runners now : List Runner) (c : Counted) → length script.calls ≡ length runners → length now ≡ length runners
+    → HaveArrived script runners → KeepAnswers runners now → AllSay fault now (c, arrived_all header script.calls runners)
+all_say_here script header fault runners now c long same come kept r b k a g =
+    let within : r < length runners = (let l = slice_get_within now r b k in omega arith) in
+    let was = entry_below runners r within in
     let is : arrived header (calls_of script r) was.0 ≡ a =
-    same_Some _ _ (sym (get_arrived header script.calls seats r (calls_of script r) was.0 (calls_there script r (omega arith)) was.1) ∙ g) in
+    same_Some _ _ (sym (get_arrived header script.calls runners r (calls_of script r) was.0 (calls_there script r (omega arith)) was.1) ∙ g) in
     said_here fault a b.answers
     (kept r was.0 b was.1 k ∙ sym (arrived_said header (calls_of script r) was.0 (come r was.0 was.1)) ∙ ap (λ (x : Arrived). x.0.answers) is)
 
-pub keep_own : (seats : List Seat) → KeepAnswers seats seats
-keep_own seats r a b e f = ap (λ (x : Seat). x.answers) (sym (same_Some a b (sym e ∙ f)))
+pub keep_own : (runners : List Runner) → KeepAnswers runners runners
+keep_own runners r a b e f = ap (λ (x : Runner). x.answers) (sym (same_Some a b (sym e ∙ f)))
 
-pub keep_freed : (seats now : List Seat) → AreFreed seats now → KeepAnswers seats now
-keep_freed seats now f r a b e g = (f.each r a b e g).answers
+pub keep_freed : (runners now : List Runner) → AreFreed runners now → KeepAnswers runners now
+keep_freed runners now f r a b e g = (f.each r a b e g).answers
 
 -- those before one element were kept, and those after it are as they were
-pub keep_part : (old now : List Seat) (i : ℕ) (was new : Seat) → slice_get now i ≡ Some was
-    → ((r : ℕ) (a b : Seat) → r < i → slice_get old r ≡ Some a → slice_get now r ≡ Some b → b.answers ≡ a.answers)
+pub keep_part : (old now : List Runner) (i : ℕ) (was new : Runner) → slice_get now i ≡ Some was
+    → ((r : ℕ) (a b : Runner) → r < i → slice_get old r ≡ Some a → slice_get now r ≡ Some b → b.answers ≡ a.answers)
     → ((r : ℕ) → i ≤ r → slice_get now r ≡ slice_get old r) → new.answers ≡ was.answers → KeepAnswers old (set now i new)
 keep_part old now i was new there before left same r a b g h =
-    set_each (λ (q : ℕ) (x : Seat). (y : Seat) → slice_get old q ≡ Some y → x.answers ≡ y.answers) now i was new there
-    (λ y e. same ∙ ap (λ (x : Seat). x.answers) (same_Some was y (sym there ∙ left i (omega arith) ∙ e)))
+    set_each (λ (q : ℕ) (x : Runner). (y : Runner) → slice_get old q ≡ Some y → x.answers ≡ y.answers) now i was new there
+    (λ y e. same ∙ ap (λ (x : Runner). x.answers) (same_Some was y (sym there ∙ left i (omega arith) ∙ e)))
     (λ q x other f y e. by_order q x y f e (nat_lt q i) refl) r b h a g
   where
-    by_order : (q : ℕ) (x y : Seat) → slice_get now q ≡ Some x → slice_get old q ≡ Some y → (t : Bool) → nat_lt q i ≡ t → x.answers ≡ y.answers
+    by_order : (q : ℕ) (x y : Runner) → slice_get now q ≡ Some x → slice_get old q ≡ Some y → (t : Bool) → nat_lt q i ≡ t → x.answers ≡ y.answers
     by_order q x y f e true t = before q y x (grind (arith, nat_tests)) e f
-    by_order q x y f e false t = ap (λ (z : Seat). z.answers) (same_Some x y (sym f ∙ left q (grind (arith, nat_tests)) ∙ e))
+    by_order q x y f e false t = ap (λ (z : Runner). z.answers) (same_Some x y (sym f ∙ left q (grind (arith, nat_tests)) ∙ e))
 
 -- ---- its step
 
@@ -86,21 +86,21 @@ get_zip f (a ∷ xs) (b ∷ ys) zero x y z e g h =
     (λ i. f (sym p i, sym q i)) ∙ same_Some (f (a, b)) z h
 get_zip f (a ∷ xs) (b ∷ ys) (suc r) x y z e g h = get_zip f xs ys r x y z e g h
 
--- the replies, where the offers that the seats hold are those of the ranks
-replies_of : (s : Setting) (calls : List (List Call)) (seats : List Seat) (batches : List Batch) (known r n : ℕ) (file : List ℕ) (pair : Option Pair) (table : List (List (List ℕ)))
-    (left : Option (List ℕ)) → length calls ≡ length seats → AllHold seats → batches ≡ batches_of (held_offers seats) → known ≡ known_of (held_offers seats) → pair ≡ told s (puts_in batches)
+-- the replies, where the offers that the runners hold are those of the ranks
+replies_of : (s : Setting) (calls : List (List Call)) (runners : List Runner) (batches : List Batch) (known r n : ℕ) (file : List ℕ) (pair : Option Pair) (table : List (List (List ℕ)))
+    (left : Option (List ℕ)) → length calls ≡ length runners → AllHold runners → batches ≡ batches_of (held_offers runners) → known ≡ known_of (held_offers runners) → pair ≡ told s (puts_in batches)
     → n ≡ max r (max (needed_now s (puts_in batches)) known) → left ≡ Some (met s batches known (counted file r)).file → IfSome left (λ f. table ≡ map (λ b. map (get_post s f) b.gets) batches)
-    → (meeting s (offers_of (arrived_all s.header calls seats)) (counted file r)).1 ≡ map (reply_of pair n) table
-replies_of s calls seats batches known r n file pair table left l hold e f p count bytes got =
+    → (meeting s (offers_of (arrived_all s.header calls runners)) (counted file r)).1 ≡ map (reply_of pair n) table
+replies_of s calls runners batches known r n file pair table left l hold e f p count bytes got =
     let after' = counted (after_puts s (puts_in batches) (told s (puts_in batches)) file) r in
     let same : n ≡ (met s batches known (counted file r)).records = count ∙ sym (raised_records s after' (max (needed_now s (puts_in batches)) known)) in
-    ap (λ (os : List Offer). (meeting s os (counted file r)).1) (offers_are s.header calls seats l hold)
-    ∙ replies_are s (held_offers seats) batches known n (counted file r) pair table e f p same
+    ap (λ (os : List Offer). (meeting s os (counted file r)).1) (offers_are s.header calls runners l hold)
+    ∙ replies_are s (held_offers runners) batches known n (counted file r) pair table e f p same
     (if_some_at (λ x. table ≡ map (λ b. map (get_post s x) b.gets) batches) left (met s batches known (counted file r)).file bytes got)
 
 -- ---- some have heard
 
-said_in_part : (header : Header) (fault : StepErr) (own : List Call) (a b : Seat) (o : Offer) (reply : Reply) → fault ≡ Memory → a.held ≡ Some o → a.rank.header ≡ header
+said_in_part : (header : Header) (fault : StepErr) (own : List Call) (a b : Runner) (o : Offer) (reply : Reply) → fault ≡ Memory → a.held ≡ Some o → a.rank.header ≡ header
     → (b.answers ≡ a.answers) ⊎ HasHeard a b reply → HasSaid fault (heard header (arrived header own a, reply)) b.answers
 said_in_part header fault own a b o reply memory held same part =
     let up : advance header (hears header (asking own a) reply) ≡ heard header (arrived header own a, reply) =
@@ -109,96 +109,96 @@ said_in_part header fault own a b o reply memory held same part =
   where
     by_part : (b.answers ≡ a.answers) ⊎ HasHeard a b reply → Begins b.answers (advance header (hears header (asking own a) reply)).0.answers
     by_part (inl e) = subst (λ (xs : List Answer). Begins xs (advance header (hears header (asking own a) reply)).0.answers) (sym e) (begins_heard header (asking own a) reply)
-    by_part (inr h) = subst (λ (g : Going). Begins b.answers (advance header g).0.answers) (heard_seat header own a b reply same h) (begins_up header (between own b))
+    by_part (inr h) = subst (λ (g : Going). Begins b.answers (advance header g).0.answers) (heard_runner header own a b reply same h) (begins_up header (between own b))
 
-pub heard_part : (pair : Option Pair) (n : ℕ) (table : List (List (List ℕ))) (old now : List Seat) (i : ℕ) (was new : Seat) → slice_get now i ≡ Some was
-    → ((r : ℕ) (a b : Seat) (blobs : List (List ℕ)) → r < i → slice_get old r ≡ Some a → slice_get now r ≡ Some b → slice_get table r ≡ Some blobs → HasHeard a b (reply_of pair n blobs))
+pub heard_part : (pair : Option Pair) (n : ℕ) (table : List (List (List ℕ))) (old now : List Runner) (i : ℕ) (was new : Runner) → slice_get now i ≡ Some was
+    → ((r : ℕ) (a b : Runner) (blobs : List (List ℕ)) → r < i → slice_get old r ≡ Some a → slice_get now r ≡ Some b → slice_get table r ≡ Some blobs → HasHeard a b (reply_of pair n blobs))
     → ((r : ℕ) → i ≤ r → slice_get now r ≡ slice_get old r) → new.answers ≡ was.answers → HaveHeardInPart pair n table old (set now i new)
 heard_part pair n table old now i was new there before left same r a b blobs g h t =
-    set_each (λ (q : ℕ) (x : Seat). (y : Seat) (row : List (List ℕ)) → slice_get old q ≡ Some y → slice_get table q ≡ Some row → (x.answers ≡ y.answers) ⊎ HasHeard y x (reply_of pair n row)) now i was new there
-    (λ y row e f. inl (same ∙ ap (λ (x : Seat). x.answers) (same_Some was y (sym there ∙ left i (omega arith) ∙ e))))
+    set_each (λ (q : ℕ) (x : Runner). (y : Runner) (row : List (List ℕ)) → slice_get old q ≡ Some y → slice_get table q ≡ Some row → (x.answers ≡ y.answers) ⊎ HasHeard y x (reply_of pair n row)) now i was new there
+    (λ y row e f. inl (same ∙ ap (λ (x : Runner). x.answers) (same_Some was y (sym there ∙ left i (omega arith) ∙ e))))
     (λ q x other f y row e k. by_order q x y row f e k (nat_lt q i) refl) r b h a blobs g t
   where
-    by_order : (q : ℕ) (x y : Seat) (row : List (List ℕ)) → slice_get now q ≡ Some x → slice_get old q ≡ Some y → slice_get table q ≡ Some row → (t : Bool) → nat_lt q i ≡ t
+    by_order : (q : ℕ) (x y : Runner) (row : List (List ℕ)) → slice_get now q ≡ Some x → slice_get old q ≡ Some y → slice_get table q ≡ Some row → (t : Bool) → nat_lt q i ≡ t
         → (x.answers ≡ y.answers) ⊎ HasHeard y x (reply_of pair n row)
     by_order q x y row f e k true t = inr (before q y x row (grind (arith, nat_tests)) e f k)
-    by_order q x y row f e k false t = inl (ap (λ (z : Seat). z.answers) (same_Some x y (sym f ∙ left q (grind (arith, nat_tests)) ∙ e)))
+    by_order q x y row f e k false t = inl (ap (λ (z : Runner). z.answers) (same_Some x y (sym f ∙ left q (grind (arith, nat_tests)) ∙ e)))
 
-pub part_of_freed : (pair : Option Pair) (n : ℕ) (table : List (List (List ℕ))) (seats mid now : List Seat) → length mid ≡ length seats → AreFreed seats mid → HaveHeardInPart pair n table mid now
-    → HaveHeardInPart pair n table seats now
-part_of_freed pair n table seats mid now long freed part r a b blobs e g t =
-    let m = entry_below mid r (let l = slice_get_within seats r a e in omega arith) in
+pub part_of_freed : (pair : Option Pair) (n : ℕ) (table : List (List (List ℕ))) (runners mid now : List Runner) → length mid ≡ length runners → AreFreed runners mid → HaveHeardInPart pair n table mid now
+    → HaveHeardInPart pair n table runners now
+part_of_freed pair n table runners mid now long freed part r a b blobs e g t =
+    let m = entry_below mid r (let l = slice_get_within runners r a e in omega arith) in
     let free = freed.each r a m.0 e m.1 in
     by_part m.0 free.rank free.answers (part r m.0 b blobs m.1 g t)
   where
-    by_part : (m : Seat) → m.rank ≡ a.rank → m.answers ≡ a.answers → (b.answers ≡ m.answers) ⊎ HasHeard m b (reply_of pair n blobs) → (b.answers ≡ a.answers) ⊎ HasHeard a b (reply_of pair n blobs)
+    by_part : (m : Runner) → m.rank ≡ a.rank → m.answers ≡ a.answers → (b.answers ≡ m.answers) ⊎ HasHeard m b (reply_of pair n blobs) → (b.answers ≡ a.answers) ⊎ HasHeard a b (reply_of pair n blobs)
     by_part m k h (inl q) = inl (q ∙ h)
     by_part m k h (inr q) = inr (heard_before m a b (reply_of pair n blobs) k h q)
 
-pub reached_deaf : (script : Script) (header : Header) (len : ℕ) (fault : StepErr) (order now_order : List Mark) (seats now : List Seat) (batches : List Batch) (known r n k : ℕ) (s : Setting)
+pub reached_deaf : (script : Script) (header : Header) (len : ℕ) (fault : StepErr) (order now_order : List Mark) (runners now : List Runner) (batches : List Batch) (known r n k : ℕ) (s : Setting)
     (held left : Option (List ℕ)) (pair : Option Pair) (table : List (List (List ℕ))) → s.header ≡ header → fault ≡ Memory → now_order ≡ order ++ Meet k ∷ []
-    → length script.calls ≡ length seats → length now ≡ length seats → length table ≡ length seats → AreSeats script header len order seats → HaveMet seats → HaveArrived script seats
-    → batches ≡ batches_of (held_offers seats) → known ≡ known_of (held_offers seats) → pair ≡ told s (puts_in batches)
+    → length script.calls ≡ length runners → length now ≡ length runners → length table ≡ length runners → AreRunners script header len order runners → HaveMet runners → HaveArrived script runners
+    → batches ≡ batches_of (held_offers runners) → known ≡ known_of (held_offers runners) → pair ≡ told s (puts_in batches)
     → n ≡ max r (max (needed_now s (puts_in batches)) known) → left ≡ after (λ file. (met s batches known (counted file r)).file) held
-    → IfSome left (λ file. table ≡ map (λ b. map (get_post s file) b.gets) batches) → HaveHeardInPart pair n table seats now
-    → HasReached (AllSay fault now) s order now_order held r (arrived_all s.header script.calls seats)
-reached_deaf script header len fault order now_order seats now batches known r n k s held left pair table of_header memory grown l m w all hold come e f p count bytes got part =
+    → IfSome left (λ file. table ≡ map (λ b. map (get_post s file) b.gets) batches) → HaveHeardInPart pair n table runners now
+    → HasReached (AllSay fault now) s order now_order held r (arrived_all s.header script.calls runners)
+reached_deaf script header len fault order now_order runners now batches known r n k s held left pair table of_header memory grown l m w all hold come e f p count bytes got part =
     record { more = Meet k ∷ []; grown = grown; ends = by_held held bytes }
   where
     by_held : (h : Option (List ℕ)) → left ≡ after (λ file. (met s batches known (counted file r)).file) h
-        → IfSome h (λ file. AllSay fault now (step_to s (counted file r, arrived_all s.header script.calls seats) (Meet k)))
+        → IfSome h (λ file. AllSay fault now (step_to s (counted file r, arrived_all s.header script.calls runners) (Meet k)))
     by_held None b = tt
     by_held (Some file) b = λ q x h a g.
-        let within : q < length seats = (let i = slice_get_within now q x h in omega arith) in
-        let was = entry_below seats q within in
+        let within : q < length runners = (let i = slice_get_within now q x h in omega arith) in
+        let was = entry_below runners q within in
         let row = entry_below table q (omega arith) in
-        let o = meets_at script header len order seats all hold come q was.0 was.1 in
-        let replies = replies_of s script.calls seats batches known r n file pair table left l hold e f p count b got in
+        let o = meets_at script header len order runners all hold come q was.0 was.1 in
+        let replies = replies_of s script.calls runners batches known r n file pair table left l hold e f p count b got in
         let is : heard s.header (arrived s.header (calls_of script q) was.0, reply_of pair n row.0) ≡ a =
-        get_zip (heard s.header) (arrived_all s.header script.calls seats) (map (reply_of pair n) table) q (arrived s.header (calls_of script q) was.0) (reply_of pair n row.0) a
-        (get_arrived s.header script.calls seats q (calls_of script q) was.0 (calls_there script q (omega arith)) was.1) (entry_map (reply_of pair n) table q row.0 row.1)
-        (ap (λ (ys : List Reply). slice_get (map (heard s.header) (zip (arrived_all s.header script.calls seats) ys)) q) (sym replies) ∙ g) in
+        get_zip (heard s.header) (arrived_all s.header script.calls runners) (map (reply_of pair n) table) q (arrived s.header (calls_of script q) was.0) (reply_of pair n row.0) a
+        (get_arrived s.header script.calls runners q (calls_of script q) was.0 (calls_there script q (omega arith)) was.1) (entry_map (reply_of pair n) table q row.0 row.1)
+        (ap (λ (ys : List Reply). slice_get (map (heard s.header) (zip (arrived_all s.header script.calls runners) ys)) q) (sym replies) ∙ g) in
         subst (λ (y : Arrived). HasSaid fault y x.answers) is
         (said_in_part s.header fault (calls_of script q) was.0 x o.0 (reply_of pair n row.0) memory o.1.held (o.1.of_header ∙ sym of_header) (part q was.0 x row.0 was.1 h row.1))
 
 -- ---- all have heard
 
-between_done : (header : Header) (pair : Option Pair) (n : ℕ) (calls : List (List Call)) (seats now : List Seat) (table : List (List (List ℕ)))
-    → length now ≡ length seats → length table ≡ length seats → AreDone header pair n seats now table
-    → map (λ p. hears header p.0.0 p.1) (zip (arrived_all header calls seats) (map (reply_of pair n) table)) ≡ all_between calls now
-between_done header pair n [] seats now table l m d = refl
+between_done : (header : Header) (pair : Option Pair) (n : ℕ) (calls : List (List Call)) (runners now : List Runner) (table : List (List (List ℕ)))
+    → length now ≡ length runners → length table ≡ length runners → AreDone header pair n runners now table
+    → map (λ p. hears header p.0.0 p.1) (zip (arrived_all header calls runners) (map (reply_of pair n) table)) ≡ all_between calls now
+between_done header pair n [] runners now table l m d = refl
 between_done header pair n (own ∷ calls) [] [] table l m d = refl
 between_done header pair n (own ∷ calls) [] (b ∷ now) table l m d = absurd (omega arith)
-between_done header pair n (own ∷ calls) (a ∷ seats) [] table l m d = absurd (omega arith)
-between_done header pair n (own ∷ calls) (a ∷ seats) (b ∷ now) [] l m d = absurd (omega arith)
-between_done header pair n (own ∷ calls) (a ∷ seats) (b ∷ now) (blobs ∷ table) l m d =
+between_done header pair n (own ∷ calls) (a ∷ runners) [] table l m d = absurd (omega arith)
+between_done header pair n (own ∷ calls) (a ∷ runners) (b ∷ now) [] l m d = absurd (omega arith)
+between_done header pair n (own ∷ calls) (a ∷ runners) (b ∷ now) (blobs ∷ table) l m d =
     let first = d 0 a b blobs refl refl refl in
     let reply = reply_of pair n blobs in
     let one : hears header (arrived header own a).0 reply ≡ between own b =
-    ap (λ (x : Arrived). hears header x.0 reply) (arrived_held header own a first.0 first.1.held) ∙ sym (heard_seat header own a b reply first.1.of_header first.1.heard) in
-    let others = between_done header pair n calls seats now table (omega arith) (omega arith) (λ r x y z e f g. d (suc r) x y z e f g) in
+    ap (λ (x : Arrived). hears header x.0 reply) (arrived_held header own a first.0 first.1.held) ∙ sym (heard_runner header own a b reply first.1.of_header first.1.heard) in
+    let others = between_done header pair n calls runners now table (omega arith) (omega arith) (λ r x y z e f g. d (suc r) x y z e f g) in
     λ i. one i ∷ others i
 
-pub meeting_between : (s : Setting) (calls : List (List Call)) (seats now : List Seat) (batches : List Batch) (known r n k : ℕ) (held left : Option (List ℕ)) (pair : Option Pair)
-    (table : List (List (List ℕ))) → length calls ≡ length seats → length now ≡ length seats → length table ≡ length seats → AllHold seats → AreDone s.header pair n seats now table
-    → batches ≡ batches_of (held_offers seats) → known ≡ known_of (held_offers seats) → pair ≡ told s (puts_in batches)
+pub meeting_between : (s : Setting) (calls : List (List Call)) (runners now : List Runner) (batches : List Batch) (known r n k : ℕ) (held left : Option (List ℕ)) (pair : Option Pair)
+    (table : List (List (List ℕ))) → length calls ≡ length runners → length now ≡ length runners → length table ≡ length runners → AllHold runners → AreDone s.header pair n runners now table
+    → batches ≡ batches_of (held_offers runners) → known ≡ known_of (held_offers runners) → pair ≡ told s (puts_in batches)
     → n ≡ max r (max (needed_now s (puts_in batches)) known) → left ≡ after (λ file. (met s batches known (counted file r)).file) held
     → IfSome left (λ file. table ≡ map (λ b. map (get_post s file) b.gets) batches)
-    → (goings : List Going) → map (advance s.header) goings ≡ arrived_all s.header calls seats
+    → (goings : List Going) → map (advance s.header) goings ≡ arrived_all s.header calls runners
     → IfSome held (λ file. (after_mark s (counted file r, goings) (Meet k)).1 ≡ all_between calls now)
-meeting_between s calls seats now batches known r n k held left pair table l m w hold d e f p count bytes got goings up = by_held held bytes
+meeting_between s calls runners now batches known r n k held left pair table l m w hold d e f p count bytes got goings up = by_held held bytes
   where
     by_held : (h : Option (List ℕ)) → left ≡ after (λ file. (met s batches known (counted file r)).file) h → IfSome h (λ file. (after_mark s (counted file r, goings) (Meet k)).1 ≡ all_between calls now)
     by_held None b = tt
     by_held (Some file) b =
-        let replies = replies_of s calls seats batches known r n file pair table left l hold e f p count b got in
+        let replies = replies_of s calls runners batches known r n file pair table left l hold e f p count b got in
         (λ i. map (λ p. hears s.header p.0.0 p.1) (zip (up i) (meeting s (offers_of (up i)) (counted file r)).1))
-        ∙ (λ i. map (λ p. hears s.header p.0.0 p.1) (zip (arrived_all s.header calls seats) (replies i)))
-        ∙ between_done s.header pair n calls seats now table m w d
+        ∙ (λ i. map (λ p. hears s.header p.0.0 p.1) (zip (arrived_all s.header calls runners) (replies i)))
+        ∙ between_done s.header pair n calls runners now table m w d
 
 -- ---- steps before
 
--- the ranks of the serial run wait where these seats heard, after steps and a meeting
+-- the ranks of the serial run wait where these runners heard, after steps and a meeting
 between_led : (hints : Hints) (s : Setting) (before order now_order : List Mark) (k : ℕ) (a b c : Stage) (goings : List Going) (bs : List Going)
     → (first : HasLed hints s before order a b) → (second : HasLed hints s order now_order b c) → now_order ≡ order ++ Meet k ∷ [] → map (advance s.header) goings ≡ a.ranks
     → ((gs : List Going) → map (advance s.header) gs ≡ b.ranks → IfSome b.held (λ file. (after_mark s (counted file b.records, gs) (Meet k)).1 ≡ bs))
@@ -221,33 +221,33 @@ between_led hints s before order now_order k a b c goings bs first second e up s
         ∙ if_some_at (λ (f : List ℕ). (after_mark s (counted f b.records, state.1) (Meet k)).1 ≡ bs) b.held l.left l.told (step state.1 (ap (λ (x : Stand). x.1) stand))
 
 -- and then others go on
-answers_then : (hints : Hints) (s : Setting) (fault : StepErr) (before mid now more : List Mark) (a b : Stage) (goings bs : List Going) (seats : List Seat)
+answers_then : (hints : Hints) (s : Setting) (fault : StepErr) (before mid now more : List Mark) (a b : Stage) (goings bs : List Going) (runners : List Runner)
     → Leads hints s more a b → mid ≡ before ++ more → map (advance s.header) goings ≡ a.ranks
-    → IfSome a.held (λ file. (fold (after_mark s) (counted file a.records, goings) more).1 ≡ bs) → HaveAnswers s fault mid now b.held b.records bs seats
-    → HaveAnswers s fault before now a.held a.records goings seats
-answers_then hints s fault before mid now more a b goings bs seats led grown up same h = record {
+    → IfSome a.held (λ file. (fold (after_mark s) (counted file a.records, goings) more).1 ≡ bs) → HaveAnswers s fault mid now b.held b.records bs runners
+    → HaveAnswers s fault before now a.held a.records goings runners
+answers_then hints s fault before mid now more a b goings bs runners led grown up same h = record {
   more = more ++ h.more;
   grown = h.grown ∙ ap (λ (ms : List Mark). ms ++ h.more) grown ∙ append_assoc before more h.more;
   said = by_held a.held led same;
 }
   where
     by_held : (m : Option (List ℕ)) → IfSome m (λ file. IsLed hints s more file a b) → IfSome m (λ file. (fold (after_mark s) (counted file a.records, goings) more).1 ≡ bs)
-        → IfSome m (λ file. AreAnswers s.header fault (fold (after_mark s) (counted file a.records, goings) (more ++ h.more)).1 seats)
+        → IfSome m (λ file. AreAnswers s.header fault (fold (after_mark s) (counted file a.records, goings) (more ++ h.more)).1 runners)
     by_held None l e = tt
     by_held (Some file) l e =
         let state = fold (after_mark s) (counted file a.records, goings) more in
         let count : state.0 ≡ counted l.left b.records = ap (λ (x : Stand). x.0) (up_after s (counted file a.records) goings a.ranks more up ∙ l.state) in
         let there : (counted l.left b.records, bs) ≡ state = λ i. (sym count i, sym e i) in
-        subst (λ (gs : List Going). AreAnswers s.header fault gs seats)
+        subst (λ (gs : List Going). AreAnswers s.header fault gs runners)
         (ap (λ (x : Counted × List Going). (fold (after_mark s) x h.more).1) there
         ∙ sym (ap (λ (x : Counted × List Going). x.1) (fold-append (after_mark s) (counted file a.records, goings) more h.more)))
-        (if_some_at (λ (f : List ℕ). AreAnswers s.header fault (fold (after_mark s) (counted f b.records, bs) h.more).1 seats) b.held l.left l.told h.said)
+        (if_some_at (λ (f : List ℕ). AreAnswers s.header fault (fold (after_mark s) (counted f b.records, bs) h.more).1 runners) b.held l.left l.told h.said)
 
-pub answers_after : (hints : Hints) (s : Setting) (fault : StepErr) (before order now_order later : List Mark) (k : ℕ) (a b c : Stage) (goings bs : List Going) (seats : List Seat)
+pub answers_after : (hints : Hints) (s : Setting) (fault : StepErr) (before order now_order later : List Mark) (k : ℕ) (a b c : Stage) (goings bs : List Going) (runners : List Runner)
     → HasLed hints s before order a b → HasLed hints s order now_order b c → now_order ≡ order ++ Meet k ∷ [] → map (advance s.header) goings ≡ a.ranks
     → ((gs : List Going) → map (advance s.header) gs ≡ b.ranks → IfSome b.held (λ file. (after_mark s (counted file b.records, gs) (Meet k)).1 ≡ bs))
-    → HaveAnswers s fault now_order later c.held c.records bs seats → HaveAnswers s fault before later a.held a.records goings seats
-answers_after hints s fault before order now_order later k a b c goings bs seats first second e up step h =
-    answers_then hints s fault before now_order later (first.more ++ second.more) a c goings bs seats (led_then hints s first.more second.more a b c first.led second.led)
+    → HaveAnswers s fault now_order later c.held c.records bs runners → HaveAnswers s fault before later a.held a.records goings runners
+answers_after hints s fault before order now_order later k a b c goings bs runners first second e up step h =
+    answers_then hints s fault before now_order later (first.more ++ second.more) a c goings bs runners (led_then hints s first.more second.more a b c first.led second.led)
     (second.grown ∙ ap (λ (ms : List Mark). ms ++ second.more) first.grown ∙ append_assoc before first.more second.more) up
     (between_led hints s before order now_order k a b c goings bs first second e up step) h

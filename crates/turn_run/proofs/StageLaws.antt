@@ -15,11 +15,11 @@ use Rattle.nc_outside.specs.Told.{with_end}
 use Rattle.serial_spec.specs.FileStep.{Setting, Counted, meeting}
 use Rattle.serial_spec.specs.DeviceCalls.{mark_calls, store_records, run_calls, solo_calls}
 use Rattle.serial_spec.specs.SerialEnd.{Going, setting_of, first_going, first_state, state_after, after_mark, solo_of, hears, advance, offers_of, closed, serial_from}
-use Rattle.run_laws.specs.Standing.{calls_so_far, close_by}
+use Rattle.run_laws.specs.Ahead.{calls_so_far, close_by}
 use Rattle.run_laws.proofs.OrderLaws.{calls_close}
 use Rattle.run_laws.specs.Arrivals.{calls_over, solo_to, step_calls, step_to, Arrived, Stand, all_calls_over, ended_from}
 use Rattle.turn_run.specs.Stages.{arrived, arrived_all, stage, stand_of, HasLed, IsLed, Leads, Stage}
-use Rattle.turn_run.specs.Steps.{first_seat}
+use Rattle.turn_run.specs.Steps.{first_runner}
 use Rattle.list_laws.proofs.Maps.{entry_map, map_map, entry_map_none}
 use Rattle.nc_outside.proofs.ToldLaws.{with_end-with_end, with_end-nil}
 
@@ -103,10 +103,10 @@ calls_are script header file order =
 -- ---- the first stage
 
 pub first_ranks : (header : Header) (records : ℕ) (calls : List (List Call)) → records ≡ header.records
-    → arrived_all header calls (replicate (length calls) (first_seat header records)) ≡ map (advance header) (map (first_going header) calls)
+    → arrived_all header calls (replicate (length calls) (first_runner header records)) ≡ map (advance header) (map (first_going header) calls)
 first_ranks header records [] e = refl
 first_ranks header records (own ∷ calls) e =
-    let first : arrived header own (first_seat header records) ≡ advance header (first_going header own) = ap (λ (n : ℕ). arrived header own (first_seat header n)) e in
+    let first : arrived header own (first_runner header records) ≡ advance header (first_going header own) = ap (λ (n : ℕ). arrived header own (first_runner header n)) e in
     let others = first_ranks header records calls e in
     λ i. first i ∷ others i
 

@@ -14,17 +14,17 @@ use Rattle.nc_base.specs.declared.step.Mark.{Mark}
 use Rattle.nc_base.specs.declared.step.Mark.TheVariants.{Meet, Solo}
 use Rattle.nc_base.specs.declared.step.Offer.{Offer}
 use Rattle.nc_outside.specs.Told.{with_end}
-use Rattle.serial_spec.specs.Desk.{needed_now}
+use Rattle.serial_spec.specs.Owner.{needed_now}
 use Rattle.serial_spec.specs.FileStep.{Counted, Setting}
 use Rattle.serial_spec.specs.Lawful.{is_lawful}
-use Rattle.serial_spec.specs.Reading.{told_of}
+use Rattle.serial_spec.specs.Readings.{told_of}
 use Rattle.serial_spec.specs.SerialEnd.{Going, after_mark, first_state, setting_of}
 use Rattle.collective_round.specs.Rounds.{counted, puts_in}
 use Rattle.run_laws.specs.Arrivals.{step_to, Arrived, Stand}
 use Rattle.turn_run.specs.Stages.{arrived_all, stage, stand_of, HasGone, HasLed, IsLed, Stage}
-use Rattle.turn_run.specs.Steps.{batches_of, first_seat, held_offers, known_of}
-use Rattle.turn_run.specs.Telling.{counts_along, told_marks, told_over, HasTold, HasToldMore}
-use Rattle.turn_run.specs.declared.seats.Seat.{Seat}
+use Rattle.turn_run.specs.Steps.{batches_of, first_runner, held_offers, known_of}
+use Rattle.turn_run.specs.Told.{counts_along, told_marks, told_over, HasTold, HasToldMore}
+use Rattle.turn_run.specs.declared.runners.Runner.{Runner}
 use Rattle.turn_run.proofs.CutLaws.{solo_at}
 use Rattle.turn_run.proofs.CutMeet.{meet_at, met_count}
 use Rattle.turn_run.proofs.MeetOffers.{AllHold}
@@ -78,13 +78,13 @@ told_alone s r n held records before now told heard t o e f ranks at =
     told_one s (Solo r n) records held records ranks before now told heard e f
     (λ file. ap (λ (c : Counted). c.records) (sym (solo_at s r n (counted file records) ranks t o at)))
 
-pub told_meeting : (s : Setting) (k : ℕ) (held : Option (List ℕ)) (calls : List (List Call)) (seats : List Seat) (batches : List Batch) (known r n : ℕ) (before now : List Mark)
-    (told heard : Option (List (Mark × ℕ))) → now ≡ before ++ Meet k ∷ [] → heard ≡ with_end told ((Meet k, n) ∷ []) → length calls ≡ length seats → AllHold seats
-    → batches ≡ batches_of (held_offers seats) → known ≡ known_of (held_offers seats) → n ≡ max r (max (needed_now s (puts_in batches)) known)
-    → HasToldMore s held r (arrived_all s.header calls seats) before now told heard
-told_meeting s k held calls seats batches known r n before now told heard e f l hold b m count =
-    told_one s (Meet k) n held r (arrived_all s.header calls seats) before now told heard e f
-    (λ file. sym (count ∙ sym (met_count s batches known file r) ∙ ap (λ (c : Counted). c.records) (meet_at s calls seats batches known k (counted file r) l hold b m)))
+pub told_meeting : (s : Setting) (k : ℕ) (held : Option (List ℕ)) (calls : List (List Call)) (runners : List Runner) (batches : List Batch) (known r n : ℕ) (before now : List Mark)
+    (told heard : Option (List (Mark × ℕ))) → now ≡ before ++ Meet k ∷ [] → heard ≡ with_end told ((Meet k, n) ∷ []) → length calls ≡ length runners → AllHold runners
+    → batches ≡ batches_of (held_offers runners) → known ≡ known_of (held_offers runners) → n ≡ max r (max (needed_now s (puts_in batches)) known)
+    → HasToldMore s held r (arrived_all s.header calls runners) before now told heard
+told_meeting s k held calls runners batches known r n before now told heard e f l hold b m count =
+    told_one s (Meet k) n held r (arrived_all s.header calls runners) before now told heard e f
+    (λ file. sym (count ∙ sym (met_count s batches known file r) ∙ ap (λ (c : Counted). c.records) (meet_at s calls runners batches known k (counted file r) l hold b m)))
 
 -- ---- steps one after another
 
@@ -167,11 +167,11 @@ counts_up s state (m ∷ order) =
     let others = counts_up s (after_mark s state m) order ∙ ap (λ (stand : Stand). told_over s stand order) up in
     λ i. (m, first i) ∷ others i
 
-told_from_first : (script : Script) (header : Header) (file : List ℕ) (records : ℕ) (seats : List Seat) (order : List Mark) → is_lawful script ≡ true
-    → records ≡ header.records → seats ≡ replicate script.ranks (first_seat header records)
-    → told_over (setting_of script header) (counted file records, arrived_all header script.calls seats) order ≡ told_of script header file order
-told_from_first script header file records seats order lawful e first =
-    ap (λ (stand : Stand). told_over (setting_of script header) stand order) (first_stage script header file records seats lawful e first)
+told_from_first : (script : Script) (header : Header) (file : List ℕ) (records : ℕ) (runners : List Runner) (order : List Mark) → is_lawful script ≡ true
+    → records ≡ header.records → runners ≡ replicate script.ranks (first_runner header records)
+    → told_over (setting_of script header) (counted file records, arrived_all header script.calls runners) order ≡ told_of script header file order
+told_from_first script header file records runners order lawful e first =
+    ap (λ (stand : Stand). told_over (setting_of script header) stand order) (first_stage script header file records runners lawful e first)
     ∙ sym (told_along script header file order ∙ counts_up (setting_of script header) (first_state header file script.calls) order)
 
 -- before the first step
@@ -185,10 +185,10 @@ told_nothing script header held told order e = subst (λ (ms : List Mark). HasTo
     by_held None = tt
     by_held (Some file) = sym (with_end-nil told)
 
-pub told_whole : (script : Script) (header : Header) (held : Option (List ℕ)) (records : ℕ) (seats : List Seat) (none made order : List Mark) (told heard : Option (List (Mark × ℕ)))
-    → is_lawful script ≡ true → records ≡ header.records → seats ≡ replicate script.ranks (first_seat header records) → none ≡ [] → order ≡ made
-    → HasToldMore (setting_of script header) held records (arrived_all header script.calls seats) none made told heard → HasTold script header held told heard order
-told_whole script header held records seats none made order told heard lawful e first n o h = record {
+pub told_whole : (script : Script) (header : Header) (held : Option (List ℕ)) (records : ℕ) (runners : List Runner) (none made order : List Mark) (told heard : Option (List (Mark × ℕ)))
+    → is_lawful script ≡ true → records ≡ header.records → runners ≡ replicate script.ranks (first_runner header records) → none ≡ [] → order ≡ made
+    → HasToldMore (setting_of script header) held records (arrived_all header script.calls runners) none made told heard → HasTold script header held told heard order
+told_whole script header held records runners none made order told heard lawful e first n o h = record {
   marks = h.marks ∙ ap (λ (ms : List Mark). with_end (told_marks told) ms) same;
   counts = by_held held h.counts;
 }
@@ -196,10 +196,10 @@ told_whole script header held records seats none made order told heard lawful e 
     same : h.more ≡ order
     same = sym (o ∙ h.grown ∙ ap (λ (ms : List Mark). ms ++ h.more) n)
 
-    by_held : (m : Option (List ℕ)) → IfSome m (λ file. heard ≡ with_end told (told_over (setting_of script header) (counted file records, arrived_all header script.calls seats) h.more))
+    by_held : (m : Option (List ℕ)) → IfSome m (λ file. heard ≡ with_end told (told_over (setting_of script header) (counted file records, arrived_all header script.calls runners) h.more))
         → IfSome m (λ file. heard ≡ with_end told (told_of script header file order))
     by_held None k = tt
     by_held (Some file) k =
         k ∙ ap (λ (ts : List (Mark × ℕ)). with_end told ts)
-        (ap (λ (ms : List Mark). told_over (setting_of script header) (counted file records, arrived_all header script.calls seats) ms) same
-        ∙ told_from_first script header file records seats order lawful e first)
+        (ap (λ (ms : List Mark). told_over (setting_of script header) (counted file records, arrived_all header script.calls runners) ms) same
+        ∙ told_from_first script header file records runners order lawful e first)

@@ -20,18 +20,18 @@ use Rattle.serial_spec.specs.Layout.{end_of, greatest}
 use Rattle.serial_spec.specs.RankMachine as machine
 use Rattle.serial_spec.specs.SerialEnd.{End, advance, first_going, first_state, serial_from, setting_of}
 use Rattle.collective_round.specs.Rounds.{as_setting, counted}
-use Rattle.run_laws.specs.Standing.{close_by}
+use Rattle.run_laws.specs.Ahead.{close_by}
 use Rattle.run_laws.specs.Ways.{IsOnWay}
 use Rattle.run_laws.proofs.LawfulLaws.{ranks_lawful}
 use Rattle.run_laws.proofs.WayLaws.{way_begins}
 use Rattle.turn_run.specs.Begun.{HasBegun}
 use Rattle.turn_run.specs.Counts.{IsCount}
 use Rattle.turn_run.specs.Said.{all_between}
-use Rattle.turn_run.specs.Seated.{between, calls_of, AreFree, AreSeats, HaveArrived, IsSeat}
+use Rattle.turn_run.specs.Running.{between, calls_of, AreFree, AreRunners, HaveArrived, IsRunner}
 use Rattle.run_laws.specs.Arrivals.{calls_over, step_to, Arrived, Stand, all_calls_over, ended_from}
 use Rattle.turn_run.specs.Stages.{arrived_all, stage, HasLed, IsLed, Leads}
-use Rattle.turn_run.specs.Steps.{first_seat, most_known}
-use Rattle.turn_run.specs.declared.seats.Seat.{Seat}
+use Rattle.turn_run.specs.Steps.{first_runner, most_known}
+use Rattle.turn_run.specs.declared.runners.Runner.{Runner}
 use Rattle.turn_run.proofs.StageLaws.{calls_are, first_ranks, gone_up, serial_is}
 use Rattle.turn_run.proofs.TurnEnds.{are_over, map_ended, AreOver}
 use Rattle.turn_run.proofs.TurnSteps.{calls_there}
@@ -50,120 +50,120 @@ pub first_count : (header : Header) (len records : ℕ) → is_sound header ≡ 
 first_count header len records h e l = subst (λ (n : ℕ). IsCount header len n) (sym e) (record { sound = h; long = l })
 
 first_placed : (script : Script) (header : Header) (r records : ℕ) → is_lawful script ≡ true → r < script.ranks → records ≡ header.records
-    → IsOnWay script [] r (between (calls_of script r) (first_seat header records)) None
+    → IsOnWay script [] r (between (calls_of script r) (first_runner header records)) None
 first_placed script header r records lawful l e =
-    subst (λ (n : ℕ). IsOnWay script [] r (between (calls_of script r) (first_seat header n)) None) (sym e)
+    subst (λ (n : ℕ). IsOnWay script [] r (between (calls_of script r) (first_runner header n)) None) (sym e)
     (way_begins script header r (calls_of script r) lawful (calls_there script r (below (length script.calls) (ranks_lawful script lawful).one_each)))
   where
     below : (k : ℕ) → k ≡ script.ranks → r < k
     below k f = omega arith
 
-pub first_seats : (script : Script) (header : Header) (len records : ℕ) (seats : List Seat) → is_lawful script ≡ true → is_sound header ≡ true → records ≡ header.records
-    → end_of header (header_len header) header.records ≤ len → seats ≡ replicate script.ranks (first_seat header records) → AreSeats script header len [] seats
-first_seats script header len records seats lawful sound e l s =
-    subst (λ (ss : List Seat). AreSeats script header len [] ss) (sym s) (record {
-      all = length-replicate script.ranks (first_seat header records);
+pub first_runners : (script : Script) (header : Header) (len records : ℕ) (runners : List Runner) → is_lawful script ≡ true → is_sound header ≡ true → records ≡ header.records
+    → end_of header (header_len header) header.records ≤ len → runners ≡ replicate script.ranks (first_runner header records) → AreRunners script header len [] runners
+first_runners script header len records runners lawful sound e l s =
+    subst (λ (ss : List Runner). AreRunners script header len [] ss) (sym s) (record {
+      all = length-replicate script.ranks (first_runner header records);
       known_ranks = refl;
       each = each;
-      known = λ r seat f.
-          let same : first_seat header records ≡ seat = sym (entry_replicate script.ranks r (first_seat header records) seat f) in
-          subst (λ (x : Seat). IsCount header len x.rank.state.known) same (first_count header len records sound e l);
+      known = λ r runner f.
+          let same : first_runner header records ≡ runner = sym (entry_replicate script.ranks r (first_runner header records) runner f) in
+          subst (λ (x : Runner). IsCount header len x.rank.state.known) same (first_count header len records sound e l);
     })
   where
-    each : (r : ℕ) (seat : Seat) → slice_get (replicate script.ranks (first_seat header records)) r ≡ Some seat → IsSeat script header [] r seat
-    each r seat f =
-        let same : first_seat header records ≡ seat = sym (entry_replicate script.ranks r (first_seat header records) seat f) in
-        let long = slice_get_within (replicate script.ranks (first_seat header records)) r seat f in
-        let all = length-replicate script.ranks (first_seat header records) in
-        subst (λ (x : Seat). IsSeat script header [] r x) same (record {
+    each : (r : ℕ) (runner : Runner) → slice_get (replicate script.ranks (first_runner header records)) r ≡ Some runner → IsRunner script header [] r runner
+    each r runner f =
+        let same : first_runner header records ≡ runner = sym (entry_replicate script.ranks r (first_runner header records) runner f) in
+        let long = slice_get_within (replicate script.ranks (first_runner header records)) r runner f in
+        let all = length-replicate script.ranks (first_runner header records) in
+        subst (λ (x : Runner). IsRunner script header [] r x) same (record {
           of_header = refl;
           placed = first_placed script header r records lawful (omega arith) e;
           asked = tt;
         })
 
-pub first_free : (header : Header) (ranks records : ℕ) (seats : List Seat) → seats ≡ replicate ranks (first_seat header records) → AreFree seats
-first_free header ranks records seats s r seat f =
-    let same : seat ≡ first_seat header records =
-    entry_replicate ranks r (first_seat header records) seat (ap (λ (ss : List Seat). slice_get ss r) (sym s) ∙ f) in
-    ap (λ (x : Seat). x.held) same
+pub first_free : (header : Header) (ranks records : ℕ) (runners : List Runner) → runners ≡ replicate ranks (first_runner header records) → AreFree runners
+first_free header ranks records runners s r runner f =
+    let same : runner ≡ first_runner header records =
+    entry_replicate ranks r (first_runner header records) runner (ap (λ (ss : List Runner). slice_get ss r) (sym s) ∙ f) in
+    ap (λ (x : Runner). x.held) same
 
 pub first_goings : (header : Header) (records : ℕ) (calls : List (List Call)) → records ≡ header.records
-    → all_between calls (replicate (length calls) (first_seat header records)) ≡ map (first_going header) calls
+    → all_between calls (replicate (length calls) (first_runner header records)) ≡ map (first_going header) calls
 first_goings header records [] e = refl
 first_goings header records (own ∷ calls) e =
-    let first : between own (first_seat header records) ≡ first_going header own = ap (λ (n : ℕ). between own (first_seat header n)) e in
+    let first : between own (first_runner header records) ≡ first_going header own = ap (λ (n : ℕ). between own (first_runner header n)) e in
     let others = first_goings header records calls e in
     λ i. first i ∷ others i
 
-pub first_stage : (script : Script) (header : Header) (file : List ℕ) (records : ℕ) (seats : List Seat) → is_lawful script ≡ true → records ≡ header.records
-    → seats ≡ replicate script.ranks (first_seat header records)
-    → (counted file records, arrived_all header script.calls seats) ≡ gone_up (setting_of script header) (first_state header file script.calls)
-first_stage script header file records seats lawful e s =
+pub first_stage : (script : Script) (header : Header) (file : List ℕ) (records : ℕ) (runners : List Runner) → is_lawful script ≡ true → records ≡ header.records
+    → runners ≡ replicate script.ranks (first_runner header records)
+    → (counted file records, arrived_all header script.calls runners) ≡ gone_up (setting_of script header) (first_state header file script.calls)
+first_stage script header file records runners lawful e s =
     let one : script.ranks ≡ length script.calls = sym (ranks_lawful script lawful).one_each in
-    let ranks : arrived_all header script.calls seats ≡ map (advance header) (map (first_going header) script.calls) =
-    ap (λ (ss : List Seat). arrived_all header script.calls ss) s
-    ∙ ap (λ (n : ℕ). arrived_all header script.calls (replicate n (first_seat header records))) one
+    let ranks : arrived_all header script.calls runners ≡ map (advance header) (map (first_going header) script.calls) =
+    ap (λ (ss : List Runner). arrived_all header script.calls ss) s
+    ∙ ap (λ (n : ℕ). arrived_all header script.calls (replicate n (first_runner header records))) one
     ∙ first_ranks header records script.calls e in
     λ i. (counted file (e i), ranks i)
 
 -- the run is that of the script
-pub serial_from_first : (script : Script) (header : Header) (file : List ℕ) (records : ℕ) (seats : List Seat) (order : List Mark) → is_lawful script ≡ true
-    → records ≡ header.records → seats ≡ replicate script.ranks (first_seat header records)
-    → ended_from (setting_of script header) (counted file records, arrived_all header script.calls seats) order ≡ serial_from script header file order
-serial_from_first script header file records seats order lawful e s =
-    ap (λ (stand : Stand). ended_from (setting_of script header) stand order) (first_stage script header file records seats lawful e s)
+pub serial_from_first : (script : Script) (header : Header) (file : List ℕ) (records : ℕ) (runners : List Runner) (order : List Mark) → is_lawful script ≡ true
+    → records ≡ header.records → runners ≡ replicate script.ranks (first_runner header records)
+    → ended_from (setting_of script header) (counted file records, arrived_all header script.calls runners) order ≡ serial_from script header file order
+serial_from_first script header file records runners order lawful e s =
+    ap (λ (stand : Stand). ended_from (setting_of script header) stand order) (first_stage script header file records runners lawful e s)
     ∙ sym (serial_is script header file order)
 
-pub calls_from_first : (script : Script) (header : Header) (file : List ℕ) (records : ℕ) (seats : List Seat) (order : List Mark) → is_lawful script ≡ true
-    → records ≡ header.records → seats ≡ replicate script.ranks (first_seat header records)
-    → all_calls_over script.hints (setting_of script header) (counted file records, arrived_all header script.calls seats) order ≡ run_calls script header file order
-calls_from_first script header file records seats order lawful e s =
-    ap (λ (stand : Stand). all_calls_over script.hints (setting_of script header) stand order) (first_stage script header file records seats lawful e s)
+pub calls_from_first : (script : Script) (header : Header) (file : List ℕ) (records : ℕ) (runners : List Runner) (order : List Mark) → is_lawful script ≡ true
+    → records ≡ header.records → runners ≡ replicate script.ranks (first_runner header records)
+    → all_calls_over script.hints (setting_of script header) (counted file records, arrived_all header script.calls runners) order ≡ run_calls script header file order
+calls_from_first script header file records runners order lawful e s =
+    ap (λ (stand : Stand). all_calls_over script.hints (setting_of script header) stand order) (first_stage script header file records runners lawful e s)
     ∙ sym (calls_are script header file order)
 
 -- ---- the close
 
 -- the end of a run, where it was closed
 pub record IsClosed (hints : Hints) (s : Setting) (stand : Stand) (order : List Mark) (begun : Option (List DiskCall)) (held : Option (List ℕ))
-    (made : Option (List DiskCall)) (count : ℕ) (seats : List Seat) : Type 0 where
+    (made : Option (List DiskCall)) (count : ℕ) (runners : List Runner) : Type 0 where
   pub bytes : held ≡ Some (ended_from s stand order).bytes
   pub records : count ≡ (ended_from s stand order).records
-  pub answers : map (λ seat. seat.answers) seats ≡ (ended_from s stand order).answers
-  pub pending : map (λ seat. machine.pending seat.rank.state) seats ≡ (ended_from s stand order).pending
+  pub answers : map (λ runner. runner.answers) runners ≡ (ended_from s stand order).answers
+  pub pending : map (λ runner. machine.pending runner.rank.state) runners ≡ (ended_from s stand order).pending
   pub calls : made ≡ with_end begun (all_calls_over hints s stand order)
 
 -- file and count were raised to what the ranks know, which stand at the ends of their calls
 pub record IsRaised (header : Header) (left : Option (List ℕ)) (made : Option (List DiskCall)) (count : ℕ) (held : Option (List ℕ)) (later : Option (List DiskCall))
-    (now : ℕ) (seats : List Seat) : Type 0 where
-  pub bytes : held ≡ after (λ file. (raised (as_setting header) (counted file count) (most_known seats)).file) left
-  pub records : now ≡ max count (most_known seats)
+    (now : ℕ) (runners : List Runner) : Type 0 where
+  pub bytes : held ≡ after (λ file. (raised (as_setting header) (counted file count) (most_known runners)).file) left
+  pub records : now ≡ max count (most_known runners)
   pub calls : later ≡ with_end made (store_records (as_setting header) (nat_lt count now))
 
 led_closed : (script : Script) (header : Header) (order : List Mark) (calls made later : Option (List DiskCall)) (left held : Option (List ℕ)) (count records from : ℕ)
-    (seats : List Seat) (ranks : List Arrived) (file : List ℕ) (told : Option (List ℕ)) → length script.calls ≡ length seats → AreOver script.calls seats
-    → IsRaised header left made count held later records seats
-    → IsLed script.hints (setting_of script header) order file (stage told calls from ranks) (stage left made count (arrived_all header script.calls seats))
-    → IsClosed script.hints (setting_of script header) (counted file from, ranks) order calls held later records seats
-led_closed script header order calls made later left held count records from seats ranks file told long over r led =
+    (runners : List Runner) (ranks : List Arrived) (file : List ℕ) (told : Option (List ℕ)) → length script.calls ≡ length runners → AreOver script.calls runners
+    → IsRaised header left made count held later records runners
+    → IsLed script.hints (setting_of script header) order file (stage told calls from ranks) (stage left made count (arrived_all header script.calls runners))
+    → IsClosed script.hints (setting_of script header) (counted file from, ranks) order calls held later records runners
+led_closed script header order calls made later left held count records from runners ranks file told long over r led =
     let s = setting_of script header in
     let stand : Stand = (counted file from, ranks) in
-    let ends = map (λ (a : Arrived). a.0) (arrived_all header script.calls seats) in
-    let known : greatest (map (λ g. g.rank.known) ends) ≡ most_known seats =
-    ap greatest (map_ended (λ (rank : machine.Rank) (answers : List Answer). rank.known) header script.calls seats long over) in
+    let ends = map (λ (a : Arrived). a.0) (arrived_all header script.calls runners) in
+    let known : greatest (map (λ g. g.rank.known) ends) ≡ most_known runners =
+    ap greatest (map_ended (λ (rank : machine.Rank) (answers : List Answer). rank.known) header script.calls runners long over) in
     let last : ended_from s stand order ≡ close_by s (counted led.left count) ends =
     ap (λ (t : Stand). close_by s t.0 (map (λ a. a.0) t.1)) led.state in
-    let file_is : (close_by s (counted led.left count) ends).bytes ≡ (raised s (counted led.left count) (most_known seats)).file =
+    let file_is : (close_by s (counted led.left count) ends).bytes ≡ (raised s (counted led.left count) (most_known runners)).file =
     ap (λ (n : ℕ). (raised s (counted led.left count) n).file) known in
-    let count_is : (close_by s (counted led.left count) ends).records ≡ max count (most_known seats) =
-    ap (λ (n : ℕ). (raised s (counted led.left count) n).records) known ∙ raised_records s (counted led.left count) (most_known seats) in
+    let count_is : (close_by s (counted led.left count) ends).records ≡ max count (most_known runners) =
+    ap (λ (n : ℕ). (raised s (counted led.left count) n).records) known ∙ raised_records s (counted led.left count) (most_known runners) in
     let records_are : records ≡ (ended_from s stand order).records = r.records ∙ sym count_is ∙ sym (ap (λ (e : End). e.records) last) in
     let before : count ≡ (fold (step_to s) stand order).0.records = sym (ap (λ (t : Stand). t.0.records) led.state) in
     record {
-      bytes = r.bytes ∙ ap (λ (m : Option (List ℕ)). after (λ f. (raised s (counted f count) (most_known seats)).file) m) led.told
+      bytes = r.bytes ∙ ap (λ (m : Option (List ℕ)). after (λ f. (raised s (counted f count) (most_known runners)).file) m) led.told
           ∙ ap (λ (f : List ℕ). Some f) (sym file_is ∙ sym (ap (λ (e : End). e.bytes) last));
       records = records_are;
-      answers = sym (map_ended (λ (rank : machine.Rank) (answers : List Answer). answers) header script.calls seats long over) ∙ sym (ap (λ (e : End). e.answers) last);
-      pending = sym (map_ended (λ (rank : machine.Rank) (answers : List Answer). machine.pending rank) header script.calls seats long over)
+      answers = sym (map_ended (λ (rank : machine.Rank) (answers : List Answer). answers) header script.calls runners long over) ∙ sym (ap (λ (e : End). e.answers) last);
+      pending = sym (map_ended (λ (rank : machine.Rank) (answers : List Answer). machine.pending rank) header script.calls runners long over)
           ∙ sym (ap (λ (e : End). e.pending) last);
       calls = r.calls ∙ ap (λ (m : Option (List DiskCall)). with_end m (store_records s (nat_lt count records))) led.calls
           ∙ with_end-with_end calls (calls_over script.hints s stand order) (store_records s (nat_lt count records))
@@ -172,22 +172,22 @@ led_closed script header order calls made later left held count records from sea
 
 -- where the bytes were told when the run began
 pub run_closed : (script : Script) (header : Header) (before order : List Mark) (calls made later : Option (List DiskCall)) (told left held : Option (List ℕ))
-    (count records from : ℕ) (seats : List Seat) (ranks : List Arrived) → before ≡ [] → length script.calls ≡ length seats → AreOver script.calls seats
-    → HasLed script.hints (setting_of script header) before order (stage told calls from ranks) (stage left made count (arrived_all header script.calls seats))
-    → IsRaised header left made count held later records seats
-    → IfSome told (λ file. IsClosed script.hints (setting_of script header) (counted file from, ranks) order calls held later records seats)
-run_closed script header before order calls made later told left held count records from seats ranks none long over h r =
+    (count records from : ℕ) (runners : List Runner) (ranks : List Arrived) → before ≡ [] → length script.calls ≡ length runners → AreOver script.calls runners
+    → HasLed script.hints (setting_of script header) before order (stage told calls from ranks) (stage left made count (arrived_all header script.calls runners))
+    → IsRaised header left made count held later records runners
+    → IfSome told (λ file. IsClosed script.hints (setting_of script header) (counted file from, ranks) order calls held later records runners)
+run_closed script header before order calls made later told left held count records from runners ranks none long over h r =
     let all : h.more ≡ order = sym (h.grown ∙ ap (λ (ms : List Mark). ms ++ h.more) none) in
     let s = setting_of script header in
     let a = stage told calls from ranks in
-    let b = stage left made count (arrived_all header script.calls seats) in
+    let b = stage left made count (arrived_all header script.calls runners) in
     by_told told (subst (λ (ms : List Mark). Leads script.hints s ms a b) all h.led)
   where
     by_told : (m : Option (List ℕ))
-        → IfSome m (λ file. IsLed script.hints (setting_of script header) order file (stage told calls from ranks) (stage left made count (arrived_all header script.calls seats)))
-        → IfSome m (λ file. IsClosed script.hints (setting_of script header) (counted file from, ranks) order calls held later records seats)
+        → IfSome m (λ file. IsLed script.hints (setting_of script header) order file (stage told calls from ranks) (stage left made count (arrived_all header script.calls runners)))
+        → IfSome m (λ file. IsClosed script.hints (setting_of script header) (counted file from, ranks) order calls held later records runners)
     by_told None led = tt
-    by_told (Some file) led = led_closed script header order calls made later left held count records from seats ranks file told long over r led
+    by_told (Some file) led = led_closed script header order calls made later left held count records from runners ranks file told long over r led
 
 pub if_told : {X : Type 0} {P Q : X → Type 0} (m : Option X) → IfSome m P → ((x : X) → P x → Q x) → IfSome m Q
 if_told None h f = tt
@@ -195,14 +195,14 @@ if_told (Some x) h f = f x h
 
 -- all ranks have ended, and the file was closed
 pub run_ended : (script : Script) (header : Header) (len : ℕ) (before order : List Mark) (calls made later : Option (List DiskCall)) (told left held : Option (List ℕ))
-    (count records from : ℕ) (seats : List Seat) (ranks : List Arrived) → is_lawful script ≡ true → before ≡ [] → AreSeats script header len order seats
-    → AreFree seats → HaveArrived script seats
-    → HasLed script.hints (setting_of script header) before order (stage told calls from ranks) (stage left made count (arrived_all header script.calls seats))
-    → IsRaised header left made count held later records seats
-    → IfSome told (λ file. IsClosed script.hints (setting_of script header) (counted file from, ranks) order calls held later records seats)
-run_ended script header len before order calls made later told left held count records from seats ranks lawful none a f h led r =
-    run_closed script header before order calls made later told left held count records from seats ranks none ((ranks_lawful script lawful).one_each ∙ sym a.all)
-    (are_over script seats f h) led r
+    (count records from : ℕ) (runners : List Runner) (ranks : List Arrived) → is_lawful script ≡ true → before ≡ [] → AreRunners script header len order runners
+    → AreFree runners → HaveArrived script runners
+    → HasLed script.hints (setting_of script header) before order (stage told calls from ranks) (stage left made count (arrived_all header script.calls runners))
+    → IsRaised header left made count held later records runners
+    → IfSome told (λ file. IsClosed script.hints (setting_of script header) (counted file from, ranks) order calls held later records runners)
+run_ended script header len before order calls made later told left held count records from runners ranks lawful none a f h led r =
+    run_closed script header before order calls made later told left held count records from runners ranks none ((ranks_lawful script lawful).one_each ∙ sym a.all)
+    (are_over script runners f h) led r
 
 next_same : {X : Type 0} (n : ℕ) (x : X) → replicate n x ++ x ∷ [] ≡ replicate (suc n) x
 next_same zero x = refl

@@ -20,18 +20,18 @@ use Rattle.nc_base.specs.declared.step.OfferKind.TheVariants as offer
 use Rattle.serial_spec.specs.History.{is_of_rank_below}
 use Rattle.serial_spec.specs.Lawful.{is_lawful}
 use Rattle.serial_spec.specs.SerialEnd.{Going, setting_of}
-use Rattle.run_laws.specs.Standing.{is_solo_of}
+use Rattle.run_laws.specs.Ahead.{is_solo_of}
 use Rattle.run_laws.specs.Ways.{is_meeting, meetings}
 use Rattle.run_laws.proofs.LawfulLaws.{ranks_lawful}
 use Rattle.run_laws.proofs.WayLaws.{way_others, others_meetings}
 use Rattle.turn_run.specs.Begun.{HasBegun}
 use Rattle.turn_run.specs.Counts.{IsCount}
-use Rattle.turn_run.specs.Seated.{calls_of, going_of, AreSeats, IsPlaced, IsPlacedWith, IsSeat}
+use Rattle.turn_run.specs.Running.{calls_of, going_of, AreRunners, IsPlaced, IsPlacedWith, IsRunner}
 use Rattle.run_laws.specs.Arrivals.{Arrived}
 use Rattle.turn_run.specs.Stages.{arrived, arrived_all, stage, HasGone, HasLed, IsGrownBy, Leads}
-use Rattle.turn_run.specs.declared.seats.Seat.{Seat}
+use Rattle.turn_run.specs.declared.runners.Runner.{Runner}
 use Rattle.turn_run.proofs.CountLaws.{count_longer}
-use Rattle.turn_run.proofs.SeatLaws.{placed_rest, HasRest}
+use Rattle.turn_run.proofs.RunnerLaws.{placed_rest, HasRest}
 use Rattle.list_laws.proofs.Places.{entry_below, entry_set, entry_set_other}
 use Rattle.std.proofs.lemmas.List.{length-set}
 
@@ -77,12 +77,12 @@ placed_more : (script : Script) (header : Header) (order more : List Mark) (r q 
 placed_more script header order more r q s None n h w = way_others script order more r q s None n h w
 placed_more script header order more r q s (Some o) n h w = placed_with_more script header order more r q s o o.kind n h w
 
-seat_beside : (script : Script) (header : Header) (before now : List Mark) (r q : ℕ) (seat : Seat) → q ≢ r → IsGrownBy q before now
-    → IsSeat script header before r seat → IsSeat script header now r seat
-seat_beside script header before now r q seat n g h = record {
+runner_beside : (script : Script) (header : Header) (before now : List Mark) (r q : ℕ) (runner : Runner) → q ≢ r → IsGrownBy q before now
+    → IsRunner script header before r runner → IsRunner script header now r runner
+runner_beside script header before now r q runner n g h = record {
   of_header = h.of_header;
-  placed = subst (λ (order : List Mark). IsPlaced script header order r (going_of (calls_of script r) seat) seat.held) (sym g.grown)
-      (placed_more script header before g.more r q (going_of (calls_of script r) seat) seat.held n g.own h.placed);
+  placed = subst (λ (order : List Mark). IsPlaced script header order r (going_of (calls_of script r) runner) runner.held) (sym g.grown)
+      (placed_more script header before g.more r q (going_of (calls_of script r) runner) runner.held n g.own h.placed);
   asked = h.asked;
 }
 
@@ -115,83 +115,83 @@ set_each P xs n was x e own others r y f =
     subst (λ (k : ℕ). P k y) same (subst (P n) (same_Some x y g) own))
     (λ other. others r y other (sym (entry_set_other xs n r x (λ z. other (sym z))) ∙ f))
 
-pub seats_step : (script : Script) (header : Header) (len later : ℕ) (before now : List Mark) (seats : List Seat) (n : ℕ) (was seat : Seat)
-    → AreSeats script header len before seats → slice_get seats n ≡ Some was → IsGrownBy n before now → len ≤ later
-    → IsSeat script header now n seat → IsCount header later seat.rank.state.known → AreSeats script header later now (set seats n seat)
-seats_step script header len later before now seats n was seat a e g l own count = record {
-  all = length-set seats n seat ∙ a.all;
-  known_ranks = grown_known script.ranks n before now (number seats n was e a.all) g a.known_ranks;
-  each = set_each (λ (r : ℕ) (s : Seat). IsSeat script header now r s) seats n was seat e own
-      (λ r s other f. seat_beside script header before now r n s other g (a.each r s f));
-  known = set_each (λ (r : ℕ) (s : Seat). IsCount header later s.rank.state.known) seats n was seat e count
+pub runners_step : (script : Script) (header : Header) (len later : ℕ) (before now : List Mark) (runners : List Runner) (n : ℕ) (was runner : Runner)
+    → AreRunners script header len before runners → slice_get runners n ≡ Some was → IsGrownBy n before now → len ≤ later
+    → IsRunner script header now n runner → IsCount header later runner.rank.state.known → AreRunners script header later now (set runners n runner)
+runners_step script header len later before now runners n was runner a e g l own count = record {
+  all = length-set runners n runner ∙ a.all;
+  known_ranks = grown_known script.ranks n before now (number runners n was e a.all) g a.known_ranks;
+  each = set_each (λ (r : ℕ) (s : Runner). IsRunner script header now r s) runners n was runner e own
+      (λ r s other f. runner_beside script header before now r n s other g (a.each r s f));
+  known = set_each (λ (r : ℕ) (s : Runner). IsCount header later s.rank.state.known) runners n was runner e count
       (λ r s other f. count_longer header len later s.rank.state.known l (a.known r s f));
 }
   where
-    number : (xs : List Seat) (r : ℕ) (x : Seat) → slice_get xs r ≡ Some x → length xs ≡ script.ranks → r < script.ranks
+    number : (xs : List Runner) (r : ℕ) (x : Runner) → slice_get xs r ≡ Some x → length xs ≡ script.ranks → r < script.ranks
     number xs r x e h = let k = slice_get_within xs r x e in omega arith
 
 -- ---- beginnings of the marks
 
-pub seats_begun : (script : Script) (header : Header) (len : ℕ) (order : List Mark) (seats : List Seat) → AreSeats script header len order seats → HasBegun script order
-seats_begun script header len order seats a = record {
+pub runners_begun : (script : Script) (header : Header) (len : ℕ) (order : List Mark) (runners : List Runner) → AreRunners script header len order runners → HasBegun script order
+runners_begun script header len order runners a = record {
   known_ranks = a.known_ranks;
   each_rank = λ r l.
-      let s = entry_below seats r (omega arith) in
+      let s = entry_below runners r (omega arith) in
       let h = a.each r s.0 s.1 in
       placed_rest script header order r (going_of (calls_of script r) s.0) s.0.held h.placed;
 }
 
 -- also where the rank that went on was cut off
-pub step_begun : (script : Script) (header : Header) (len : ℕ) (before now : List Mark) (seats : List Seat) (n : ℕ) → AreSeats script header len before seats
+pub step_begun : (script : Script) (header : Header) (len : ℕ) (before now : List Mark) (runners : List Runner) (n : ℕ) → AreRunners script header len before runners
     → n < script.ranks → IsGrownBy n before now → HasRest script now n → HasBegun script now
-step_begun script header len before now seats n a l g own = record {
+step_begun script header len before now runners n a l g own = record {
   known_ranks = grown_known script.ranks n before now l g a.known_ranks;
   each_rank = λ r m. own_or_other (HasRest script now r) n r (λ same. subst (λ (k : ℕ). HasRest script now k) same own)
-      (λ other. let s = entry_below seats r (omega arith) in
-      let h = seat_beside script header before now r n s.0 other g (a.each r s.0 s.1) in
+      (λ other. let s = entry_below runners r (omega arith) in
+      let h = runner_beside script header before now r n s.0 other g (a.each r s.0 s.1) in
       placed_rest script header now r (going_of (calls_of script r) s.0) s.0.held h.placed);
 }
 
 -- ---- the stage after it
 
-pub get_arrived : (header : Header) (calls : List (List Call)) (seats : List Seat) (r : ℕ) (own : List Call) (seat : Seat) → slice_get calls r ≡ Some own
-    → slice_get seats r ≡ Some seat → slice_get (arrived_all header calls seats) r ≡ Some (arrived header own seat)
-get_arrived header [] seats r own seat e f = absurd cc
-get_arrived header (c ∷ calls) [] r own seat e f = absurd cc
-get_arrived header (c ∷ calls) (s ∷ seats) zero own seat e f =
+pub get_arrived : (header : Header) (calls : List (List Call)) (runners : List Runner) (r : ℕ) (own : List Call) (runner : Runner) → slice_get calls r ≡ Some own
+    → slice_get runners r ≡ Some runner → slice_get (arrived_all header calls runners) r ≡ Some (arrived header own runner)
+get_arrived header [] runners r own runner e f = absurd cc
+get_arrived header (c ∷ calls) [] r own runner e f = absurd cc
+get_arrived header (c ∷ calls) (s ∷ runners) zero own runner e f =
     let a : c ≡ own = same_Some c own e in
-    let b : s ≡ seat = same_Some s seat f in
+    let b : s ≡ runner = same_Some s runner f in
     λ i. Some (arrived header (a i) (b i))
-get_arrived header (c ∷ calls) (s ∷ seats) (suc r) own seat e f = get_arrived header calls seats r own seat e f
+get_arrived header (c ∷ calls) (s ∷ runners) (suc r) own runner e f = get_arrived header calls runners r own runner e f
 
-pub set_arrived : (header : Header) (calls : List (List Call)) (seats : List Seat) (r : ℕ) (own : List Call) (seat : Seat) → slice_get calls r ≡ Some own
-    → arrived_all header calls (set seats r seat) ≡ set (arrived_all header calls seats) r (arrived header own seat)
-set_arrived header [] seats r own seat e = absurd cc
-set_arrived header (c ∷ calls) [] r own seat e = refl
-set_arrived header (c ∷ calls) (s ∷ seats) zero own seat e =
+pub set_arrived : (header : Header) (calls : List (List Call)) (runners : List Runner) (r : ℕ) (own : List Call) (runner : Runner) → slice_get calls r ≡ Some own
+    → arrived_all header calls (set runners r runner) ≡ set (arrived_all header calls runners) r (arrived header own runner)
+set_arrived header [] runners r own runner e = absurd cc
+set_arrived header (c ∷ calls) [] r own runner e = refl
+set_arrived header (c ∷ calls) (s ∷ runners) zero own runner e =
     let a : c ≡ own = same_Some c own e in
-    ap (λ (cs : List Call). arrived header cs seat ∷ arrived_all header calls seats) a
-set_arrived header (c ∷ calls) (s ∷ seats) (suc r) own seat e =
-    ap (λ (ranks : List Arrived). arrived header c s ∷ ranks) (set_arrived header calls seats r own seat e)
+    ap (λ (cs : List Call). arrived header cs runner ∷ arrived_all header calls runners) a
+set_arrived header (c ∷ calls) (s ∷ runners) (suc r) own runner e =
+    ap (λ (ranks : List Arrived). arrived header c s ∷ ranks) (set_arrived header calls runners r own runner e)
 
 pub calls_there : (script : Script) (r : ℕ) → r < length script.calls → slice_get script.calls r ≡ Some (calls_of script r)
 calls_there script r l =
     let h = entry_below script.calls r l in
     h.1 ∙ ap (λ (own : Option (List Call)). Some (elim own [ None ↦ [] | Some cs ↦ cs ])) (sym h.1)
 
-pub gone_led : (script : Script) (header : Header) (seats : List Seat) (n : ℕ) (was seat : Seat) (before now : List Mark) (held left : Option (List ℕ))
-    (calls made : Option (List DiskCall)) → is_lawful script ≡ true → n < script.ranks → slice_get seats n ≡ Some was
-    → HasGone script.hints (setting_of script header) n before now held calls left made (arrived header (calls_of script n) was) (arrived header (calls_of script n) seat)
+pub gone_led : (script : Script) (header : Header) (runners : List Runner) (n : ℕ) (was runner : Runner) (before now : List Mark) (held left : Option (List ℕ))
+    (calls made : Option (List DiskCall)) → is_lawful script ≡ true → n < script.ranks → slice_get runners n ≡ Some was
+    → HasGone script.hints (setting_of script header) n before now held calls left made (arrived header (calls_of script n) was) (arrived header (calls_of script n) runner)
     → (records : ℕ) → HasLed script.hints (setting_of script header) before now
-    (stage held calls records (arrived_all header script.calls seats)) (stage left made records (arrived_all header script.calls (set seats n seat)))
-gone_led script header seats n was seat before now held left calls made lawful l e g records =
+    (stage held calls records (arrived_all header script.calls runners)) (stage left made records (arrived_all header script.calls (set runners n runner)))
+gone_led script header runners n was runner before now held left calls made lawful l e g records =
     let there = calls_there script n (below (length script.calls) (ranks_lawful script lawful).one_each) in
     record {
       more = g.more;
       grown = g.grown;
-      led = subst (λ (ranks : List Arrived). Leads script.hints (setting_of script header) g.more (stage held calls records (arrived_all header script.calls seats))
-          (stage left made records ranks)) (sym (set_arrived header script.calls seats n (calls_of script n) seat there))
-          (g.led records (arrived_all header script.calls seats) (get_arrived header script.calls seats n (calls_of script n) was there e));
+      led = subst (λ (ranks : List Arrived). Leads script.hints (setting_of script header) g.more (stage held calls records (arrived_all header script.calls runners))
+          (stage left made records ranks)) (sym (set_arrived header script.calls runners n (calls_of script n) runner there))
+          (g.led records (arrived_all header script.calls runners) (get_arrived header script.calls runners n (calls_of script n) was there e));
     }
   where
     below : (k : ℕ) → k ≡ script.ranks → n < k

@@ -18,7 +18,7 @@ use Rattle.serial_spec.specs.SerialEnd.{offers_of}
 use Rattle.serial_spec.specs.SharedByte.{covered}
 use Rattle.serial_spec.specs.Torn.{IsLeft}
 use Rattle.collective_round.specs.Rounds.{counted}
-use Rattle.run_laws.specs.Standing.{close_by, is_solo_of}
+use Rattle.run_laws.specs.Ahead.{close_by, is_solo_of}
 use Rattle.run_laws.specs.Arrivals.{Arrived, Stand, offer_at, step_to}
 
 abbrev pub bytes_at : Setting → List Arrived → Mark → List ℕ

@@ -1,10 +1,10 @@
 pub mod Begun
 pub mod Run
 pub mod Counts
-pub mod Seated
+pub mod Running
 pub mod Stages
 pub mod Steps
 pub mod Cuts
 pub mod Said
-pub mod Telling
+pub mod Told
 pub mod Setups

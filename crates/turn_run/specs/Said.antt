@@ -18,8 +18,8 @@ use Rattle.serial_spec.specs.SerialEnd.{Going, after_mark}
 use Rattle.serial_spec.specs.Torn.{Begins, HasAnswers}
 use Rattle.collective_round.specs.Rounds.{counted}
 use Rattle.run_laws.specs.Arrivals.{Arrived, Stand, step_to}
-use Rattle.turn_run.specs.Seated.{between, reply_of, HasHeard}
-use Rattle.turn_run.specs.declared.seats.Seat.{Seat}
+use Rattle.turn_run.specs.Running.{between, reply_of, HasHeard}
+use Rattle.turn_run.specs.declared.runners.Runner.{Runner}
 
 pub record HasSaid (fault : StepErr) (a : Arrived) (answers : List Answer) : Type 0 where
   pub begins : Begins answers a.0.answers
@@ -28,8 +28,8 @@ pub record HasSaid (fault : StepErr) (a : Arrived) (answers : List Answer) : Typ
 abbrev pub SaysAt : ℕ → StepErr → List Answer → Stand → Type 0
 SaysAt r fault answers stand = (a : Arrived) → slice_get stand.1 r ≡ Some a → HasSaid fault a answers
 
-abbrev pub AllSay : StepErr → List Seat → Stand → Type 0
-AllSay fault seats stand = (r : ℕ) (seat : Seat) → slice_get seats r ≡ Some seat → SaysAt r fault seat.answers stand
+abbrev pub AllSay : StepErr → List Runner → Stand → Type 0
+AllSay fault runners stand = (r : ℕ) (runner : Runner) → slice_get runners r ≡ Some runner → SaysAt r fault runner.answers stand
 
 -- from bytes, if they are told, a count and ranks at their next offers
 pub record HasReached (P : Stand → Type 0) (s : Setting) (before now : List Mark) (held : Option (List ℕ)) (records : ℕ) (ranks : List Arrived) : Type 0 where
@@ -37,24 +37,24 @@ pub record HasReached (P : Stand → Type 0) (s : Setting) (before now : List Ma
   pub grown : now ≡ before ++ more
   pub ends : IfSome held (λ file. P (fold (step_to s) (counted file records, ranks) more))
 
-abbrev pub all_between : List (List Call) → List Seat → List Going
-all_between [] seats = []
+abbrev pub all_between : List (List Call) → List Runner → List Going
+all_between [] runners = []
 all_between (own ∷ calls) [] = []
-all_between (own ∷ calls) (seat ∷ seats) = between own seat ∷ all_between calls seats
+all_between (own ∷ calls) (runner ∷ runners) = between own runner ∷ all_between calls runners
 
-abbrev pub AreAnswers : Header → StepErr → List Going → List Seat → Type 0
-AreAnswers header fault goings seats = (r : ℕ) (g : Going) (seat : Seat) → slice_get goings r ≡ Some g → slice_get seats r ≡ Some seat → HasAnswers header fault g seat.answers
+abbrev pub AreAnswers : Header → StepErr → List Going → List Runner → Type 0
+AreAnswers header fault goings runners = (r : ℕ) (g : Going) (runner : Runner) → slice_get goings r ≡ Some g → slice_get runners r ≡ Some runner → HasAnswers header fault g runner.answers
 
 -- from bytes, if they are told, a count and ranks between two calls
-pub record HaveAnswers (s : Setting) (fault : StepErr) (before now : List Mark) (held : Option (List ℕ)) (records : ℕ) (goings : List Going) (seats : List Seat) : Type 0 where
+pub record HaveAnswers (s : Setting) (fault : StepErr) (before now : List Mark) (held : Option (List ℕ)) (records : ℕ) (goings : List Going) (runners : List Runner) : Type 0 where
   pub more : List Mark
   pub grown : now ≡ before ++ more
-  pub said : IfSome held (λ file. AreAnswers s.header fault (fold (after_mark s) (counted file records, goings) more).1 seats)
+  pub said : IfSome held (λ file. AreAnswers s.header fault (fold (after_mark s) (counted file records, goings) more).1 runners)
 
-abbrev pub KeepAnswers : List Seat → List Seat → Type 0
-KeepAnswers before now = (r : ℕ) (a b : Seat) → slice_get before r ≡ Some a → slice_get now r ≡ Some b → b.answers ≡ a.answers
+abbrev pub KeepAnswers : List Runner → List Runner → Type 0
+KeepAnswers before now = (r : ℕ) (a b : Runner) → slice_get before r ≡ Some a → slice_get now r ≡ Some b → b.answers ≡ a.answers
 
 -- a meeting's reply was heard by some of its ranks
-abbrev pub HaveHeardInPart : Option Pair → ℕ → List (List (List ℕ)) → List Seat → List Seat → Type 0
-HaveHeardInPart pair records table before now = (r : ℕ) (a b : Seat) (blobs : List (List ℕ)) → slice_get before r ≡ Some a → slice_get now r ≡ Some b → slice_get table r ≡ Some blobs
+abbrev pub HaveHeardInPart : Option Pair → ℕ → List (List (List ℕ)) → List Runner → List Runner → Type 0
+HaveHeardInPart pair records table before now = (r : ℕ) (a b : Runner) (blobs : List (List ℕ)) → slice_get before r ≡ Some a → slice_get now r ≡ Some b → slice_get table r ≡ Some blobs
     → (b.answers ≡ a.answers) ⊎ HasHeard a b (reply_of pair records blobs)

@@ -1,5 +1,5 @@
 -- The stages of a run: what stands between two steps, with ranks that have gone up to their next offers. (own)
---     arrived header own seat   the rank of a seat at its next offer, if there is one
+--     arrived header own runner   the rank of a runner at its next offer, if there is one
 --     arrived_all               the same of all ranks
 --     Leads hints s marks a b   where the bytes are told, the steps of these marks lead from one stage to the other
 --     IsGrownBy r before now    an order to which solo steps of rank r were added
@@ -16,18 +16,18 @@ use Rattle.serial_spec.specs.FileStep.{Setting}
 use Rattle.serial_spec.specs.SerialEnd.{advance}
 use Rattle.collective_round.specs.Rounds.{counted}
 use Rattle.run_laws.specs.Arrivals.{Arrived, Stand, calls_over, step_to}
-use Rattle.run_laws.specs.Standing.{is_solo_of}
-use Rattle.turn_run.specs.Seated.{asking, between}
-use Rattle.turn_run.specs.declared.seats.Seat.{Seat}
+use Rattle.run_laws.specs.Ahead.{is_solo_of}
+use Rattle.turn_run.specs.Running.{asking, between}
+use Rattle.turn_run.specs.declared.runners.Runner.{Runner}
 
 -- a rank that has gone up to its next offer, if there is one
-abbrev pub arrived : Header → List Call → Seat → Arrived
-arrived header own seat = elim (seat.held) [ None ↦ advance header (between own seat) | Some o ↦ (asking own seat, Some o) ]
+abbrev pub arrived : Header → List Call → Runner → Arrived
+arrived header own runner = elim (runner.held) [ None ↦ advance header (between own runner) | Some o ↦ (asking own runner, Some o) ]
 
-abbrev pub arrived_all : Header → List (List Call) → List Seat → List Arrived
-arrived_all header [] seats = []
+abbrev pub arrived_all : Header → List (List Call) → List Runner → List Arrived
+arrived_all header [] runners = []
 arrived_all header (own ∷ calls) [] = []
-arrived_all header (own ∷ calls) (seat ∷ seats) = arrived header own seat ∷ arrived_all header calls seats
+arrived_all header (own ∷ calls) (runner ∷ runners) = arrived header own runner ∷ arrived_all header calls runners
 
 -- bytes and device calls, where they are told, the record count, and the ranks
 pub record Stage : Type 0 where

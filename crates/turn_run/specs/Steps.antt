@@ -1,18 +1,18 @@
 -- A step of the file by the batches of its ranks. (own; the step itself is that of serial_spec)
---     held_offers seats         the offers that the seats hold, in order
+--     held_offers runners         the offers that the runners hold, in order
 --     met s batches known c     file and count after a meeting of these batches, whose ranks know so many records
 --     met_calls ..              its device calls
 --     IsJob ..                  batches that a meeting takes
 --     IsOneRise ..              it is not both the puts and what the ranks know that raise the count
 --     needed_after ..           the count that puts need, 0 where a pair was told
---     most_known seats          the greatest count that a rank knows
+--     most_known runners          the greatest count that a rank knows
 use Rattle.std.specs.Prelude.{◌≡◌, ℕ, max, List, [], ◌++◌, ◌⊎◌, map, flat_map, length, nat_lt, None}
 use Rattle.std.specs.Option.{option_to_list}
 use Rattle.nc_base.specs.declared.plan.Batch.{Batch}
 use Rattle.nc_base.specs.declared.script.Hints.{Hints}
 use Rattle.nc_base.specs.declared.step.DiskCall.{DiskCall}
 use Rattle.nc_base.specs.declared.step.Offer.{Offer}
-use Rattle.serial_spec.specs.Desk.{needed_now}
+use Rattle.serial_spec.specs.Owner.{needed_now}
 use Rattle.serial_spec.specs.DeviceCalls.{collective_windows, get_bytes, loads, put_calls, store_records}
 use Rattle.serial_spec.specs.FileStep.{Setting, Counted, after_puts, known_by, raised, told}
 use Rattle.serial_spec.specs.Layout.{greatest}
@@ -25,10 +25,10 @@ use Rattle.nc_base.specs.declared.plan.Post.{Post}
 use Rattle.serial_spec.specs.RankMachine.{new_rank}
 use Rattle.serial_spec.specs.Records.{needed}
 use Rattle.serial_spec.specs.SharedByte.{holdings, IsOwnOnce}
-use Rattle.turn_run.specs.declared.seats.Seat.{Seat}
+use Rattle.turn_run.specs.declared.runners.Runner.{Runner}
 
-abbrev pub held_offers : List Seat → List Offer
-held_offers seats = flat_map (λ seat. option_to_list seat.held) seats
+abbrev pub held_offers : List Runner → List Offer
+held_offers runners = flat_map (λ runner. option_to_list runner.held) runners
 
 abbrev pub batches_of : List Offer → List Batch
 batches_of offers = map (λ o. o.batch) offers
@@ -62,8 +62,8 @@ abbrev pub needed_after : Header → List Post → PutEnd → ℕ
 needed_after header puts Done = greatest (map (λ p. needed header p) puts)
 needed_after header puts (Overlap pair) = 0
 
-abbrev pub most_known : List Seat → ℕ
-most_known seats = greatest (map (λ seat. seat.rank.state.known) seats)
+abbrev pub most_known : List Runner → ℕ
+most_known runners = greatest (map (λ runner. runner.rank.state.known) runners)
 
-abbrev pub first_seat : Header → ℕ → Seat
-first_seat header records = record { rank = record { header = header; state = new_rank records }; answers = []; held = None }
+abbrev pub first_runner : Header → ℕ → Runner
+first_runner header records = record { rank = record { header = header; state = new_rank records }; answers = []; held = None }

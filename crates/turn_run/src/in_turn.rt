@@ -15,16 +15,16 @@ ghost use Rattle.run_laws.specs.Ways.{meetings};
 ghost use Rattle.turn_run.specs.Begun.{HasBegun};
 ghost use Rattle.turn_run.specs.Counts.{IsCount};
 ghost use Rattle.turn_run.specs.Run.{IsRun};
-ghost use Rattle.turn_run.specs.Seated.{AreFree, AreSeats, HaveArrived, HaveMet};
-ghost use Rattle.turn_run.specs.Telling.{HasTold};
-ghost use Rattle.turn_run.specs.Steps.{first_seat};
+ghost use Rattle.turn_run.specs.Running.{AreFree, AreRunners, HaveArrived, HaveMet};
+ghost use Rattle.turn_run.specs.Told.{HasTold};
+ghost use Rattle.turn_run.specs.Steps.{first_runner};
 ghost use Rattle.turn_run.specs.Setups.{all_calls_on, ended_on, stage_at, EndsOn, HasLedOn, HasToldOn, HaveSaidUpTo, IsCutOff};
 ghost use Rattle.var_layout.specs.Measures.{AreMeasures};
 
-use crate::closing::{answers_of, close, pending_of};
+use crate::end::{answers_of, close, pending_of};
 use crate::lent::{Lent, Progress, Setup};
 use crate::meeting::meet;
-use crate::seats::Seat;
+use crate::runners::Runner;
 use nc_base::{AnswerTable, Header, MarkList, Memory, RunEnd, Script, SizeList, StepErr};
 use nc_outside::{Deaf, Disk, Gate, Told};
 use piece_exchange::Tools;
@@ -83,8 +83,8 @@ pub fn run_in_turn_told<R: Threads + Wait + Sync, D: Disk, G: Gate, T: Told>(
         Ok(names) => names,
         Err(_) => return stopped(alloc, order, StepErr::Memory),
     };
-    let mut seats = match seats_of(alloc, header, &names, *records, script.ranks) {
-        Ok(seats) => seats,
+    let mut runners = match runners_of(alloc, header, &names, *records, script.ranks) {
+        Ok(runners) => runners,
         Err(_) => return stopped(alloc, order, StepErr::Memory),
     };
     let lent = Lent {
@@ -99,31 +99,31 @@ pub fn run_in_turn_told<R: Threads + Wait + Sync, D: Disk, G: Gate, T: Told>(
         records: *records,
         order,
     };
-    let done = make_calls(&lent, disk, told, &mut progress, &mut seats);
+    let done = make_calls(&lent, disk, told, &mut progress, &mut runners);
     *records = progress.records;
     match done {
-        Ok(()) => ended(alloc, progress.order, seats),
-        Err(cause) => cut_off(alloc, progress.order, seats, cause),
+        Ok(()) => ended(alloc, progress.order, runners),
+        Err(cause) => cut_off(alloc, progress.order, runners, cause),
     }
 }
 
-/// A seat for each rank.
-fn seats_of<'a>(
+/// A runner for each rank.
+fn runners_of<'a>(
     alloc: Global,
     header: &'a Header,
     names: &'a Names,
     records: u64,
     ranks: u32,
-) -> Result<Vec<Seat<'a>>, Memory>
+) -> Result<Vec<Runner<'a>>, Memory>
     requires sound { is_sound header.now ≡ true }
     requires names { IsIndexOf header.now names.now }
-    ensures { IfOk result (λ seats. seats.items ≡ replicate ranks (first_seat header.now records)) }
+    ensures { IfOk result (λ runners. runners.items ≡ replicate ranks (first_runner header.now records)) }
 {
-    let mut seats = Vec::new(alloc);
+    let mut runners = Vec::new(alloc);
     for _rank in 0..ranks {
-        seats.push(Seat::new(alloc, header, names, records))?;
+        runners.push(Runner::new(alloc, header, names, records))?;
     }
-    Ok(seats)
+    Ok(runners)
 }
 
 /// Makes the calls of all ranks, and closes the file.
@@ -132,37 +132,37 @@ fn make_calls<R: Threads + Wait + Sync, D: Disk, G: Gate, T: Told>(
     disk: &mut D,
     told: &mut T,
     progress: &mut Progress,
-    seats: &mut [Seat],
+    runners: &mut [Runner],
 ) -> Result<(), StepErr>
     requires sound { is_sound lent.now.setup.header.now ≡ true }
     requires measured { AreMeasures lent.now.setup.header.now lent.now.setup.measures.now }
     requires lawful { is_lawful lent.now.setup.script.now ≡ true }
     requires none { progress.old.order ≡ [] }
-    requires seats { AreSeats lent.now.setup.script.now lent.now.setup.header.now (D.len disk.old) progress.old.order seats.old }
-    requires free { AreFree seats.old }
+    requires runners { AreRunners lent.now.setup.script.now lent.now.setup.header.now (D.len disk.old) progress.old.order runners.old }
+    requires free { AreFree runners.old }
     requires records { IsCount lent.now.setup.header.now (D.len disk.old) progress.old.records }
     requires from { D.from disk.old ≡ 0 }
     ensures legal { OnOk result (IsLegal lent.now.setup.script.now progress.new.order) }
-    ensures bytes { OnOk result (IfSome (D.held disk.old) (λ file. D.held disk.new ≡ Some (ended_on lent.now.setup file progress.old seats.old progress.new).bytes)) }
-    ensures records { OnOk result (IfSome (D.held disk.old) (λ file. progress.new.records ≡ (ended_on lent.now.setup file progress.old seats.old progress.new).records)) }
-    ensures answers { OnOk result (IfSome (D.held disk.old) (λ file. map (λ seat. seat.answers) seats.new ≡ (ended_on lent.now.setup file progress.old seats.old progress.new).answers)) }
-    ensures pending { OnOk result (IfSome (D.held disk.old) (λ file. map (λ seat. machine.pending seat.rank.state) seats.new ≡ (ended_on lent.now.setup file progress.old seats.old progress.new).pending)) }
-    ensures calls { OnOk result (IfSome (D.held disk.old) (λ file. D.calls disk.new ≡ with_end (D.calls disk.old) (all_calls_on lent.now.setup file progress.old seats.old progress.new))) }
+    ensures bytes { OnOk result (IfSome (D.held disk.old) (λ file. D.held disk.new ≡ Some (ended_on lent.now.setup file progress.old runners.old progress.new).bytes)) }
+    ensures records { OnOk result (IfSome (D.held disk.old) (λ file. progress.new.records ≡ (ended_on lent.now.setup file progress.old runners.old progress.new).records)) }
+    ensures answers { OnOk result (IfSome (D.held disk.old) (λ file. map (λ runner. runner.answers) runners.new ≡ (ended_on lent.now.setup file progress.old runners.old progress.new).answers)) }
+    ensures pending { OnOk result (IfSome (D.held disk.old) (λ file. map (λ runner. machine.pending runner.rank.state) runners.new ≡ (ended_on lent.now.setup file progress.old runners.old progress.new).pending)) }
+    ensures calls { OnOk result (IfSome (D.held disk.old) (λ file. D.calls disk.new ≡ with_end (D.calls disk.old) (all_calls_on lent.now.setup file progress.old runners.old progress.new))) }
     ensures count { OnOk result (IsCount lent.now.setup.header.now (D.len disk.new) progress.new.records) }
-    ensures raised { OnOk result ((e : Fault) → EndsOn lent.now.setup e progress.old progress.new (D.held disk.old) seats.old (D.held disk.new)) }
-    ensures cut { (e : Fault) → result ≡ Err e → EndsOn lent.now.setup e progress.old progress.new (D.held disk.old) seats.old (D.held disk.new) }
-    ensures answered { (e : Fault) → result ≡ Err e → HaveSaidUpTo lent.now.setup e progress.old progress.new (D.held disk.old) seats.old seats.new }
-    ensures told { HasToldOn lent.now.setup progress.old progress.new (D.held disk.old) seats.old (T.heard told.old) (T.heard told.new) }
+    ensures raised { OnOk result ((e : Fault) → EndsOn lent.now.setup e progress.old progress.new (D.held disk.old) runners.old (D.held disk.new)) }
+    ensures cut { (e : Fault) → result ≡ Err e → EndsOn lent.now.setup e progress.old progress.new (D.held disk.old) runners.old (D.held disk.new) }
+    ensures answered { (e : Fault) → result ≡ Err e → HaveSaidUpTo lent.now.setup e progress.old progress.new (D.held disk.old) runners.old runners.new }
+    ensures told { HasToldOn lent.now.setup progress.old progress.new (D.held disk.old) runners.old (T.heard told.old) (T.heard told.new) }
     ensures begun { HasBegun lent.now.setup.script.now progress.new.order }
     ensures cause { HasStepCause (D.faults disk.old) (D.faults disk.new) result }
 {
-    hold_meetings(lent, disk, told, progress, seats)?;
+    hold_meetings(lent, disk, told, progress, runners)?;
     close(
         lent.tools.alloc,
         disk,
         lent.setup.header,
         &mut progress.records,
-        seats,
+        runners,
     )?;
     Ok(())
 }
@@ -173,24 +173,24 @@ fn hold_meetings<R: Threads + Wait + Sync, D: Disk, G: Gate, T: Told>(
     disk: &mut D,
     told: &mut T,
     progress: &mut Progress,
-    seats: &mut [Seat],
+    runners: &mut [Runner],
 ) -> Result<(), StepErr>
     requires sound { is_sound lent.now.setup.header.now ≡ true }
     requires measured { AreMeasures lent.now.setup.header.now lent.now.setup.measures.now }
     requires lawful { is_lawful lent.now.setup.script.now ≡ true }
     requires none { progress.old.order ≡ [] }
-    requires seats { AreSeats lent.now.setup.script.now lent.now.setup.header.now (D.len disk.old) progress.old.order seats.old }
-    requires free { AreFree seats.old }
+    requires runners { AreRunners lent.now.setup.script.now lent.now.setup.header.now (D.len disk.old) progress.old.order runners.old }
+    requires free { AreFree runners.old }
     requires records { IsCount lent.now.setup.header.now (D.len disk.old) progress.old.records }
     requires from { D.from disk.old ≡ 0 }
-    ensures seats { OnOk result (AreSeats lent.now.setup.script.now lent.now.setup.header.now (D.len disk.new) progress.new.order seats.new) }
-    ensures free { OnOk result (AreFree seats.new) }
-    ensures arrived { OnOk result (HaveArrived lent.now.setup.script.now seats.new) }
-    ensures led { OnOk result (HasLedOn lent.now.setup progress.old progress.new (stage_at lent.now.setup (D.held disk.old) (D.calls disk.old) progress.old seats.old)
-        (stage_at lent.now.setup (D.held disk.new) (D.calls disk.new) progress.new seats.new)) }
-    ensures cut { (e : Fault) → result ≡ Err e → IsCutOff lent.now.setup e progress.old progress.new (D.held disk.old) seats.old (D.held disk.new) }
-    ensures answered { (e : Fault) → result ≡ Err e → HaveSaidUpTo lent.now.setup e progress.old progress.new (D.held disk.old) seats.old seats.new }
-    ensures told { HasToldOn lent.now.setup progress.old progress.new (D.held disk.old) seats.old (T.heard told.old) (T.heard told.new) }
+    ensures runners { OnOk result (AreRunners lent.now.setup.script.now lent.now.setup.header.now (D.len disk.new) progress.new.order runners.new) }
+    ensures free { OnOk result (AreFree runners.new) }
+    ensures arrived { OnOk result (HaveArrived lent.now.setup.script.now runners.new) }
+    ensures led { OnOk result (HasLedOn lent.now.setup progress.old progress.new (stage_at lent.now.setup (D.held disk.old) (D.calls disk.old) progress.old runners.old)
+        (stage_at lent.now.setup (D.held disk.new) (D.calls disk.new) progress.new runners.new)) }
+    ensures cut { (e : Fault) → result ≡ Err e → IsCutOff lent.now.setup e progress.old progress.new (D.held disk.old) runners.old (D.held disk.new) }
+    ensures answered { (e : Fault) → result ≡ Err e → HaveSaidUpTo lent.now.setup e progress.old progress.new (D.held disk.old) runners.old runners.new }
+    ensures told { HasToldOn lent.now.setup progress.old progress.new (D.held disk.old) runners.old (T.heard told.old) (T.heard told.new) }
     ensures records { OnOk result (IsCount lent.now.setup.header.now (D.len disk.new) progress.new.records) }
     ensures begun { HasBegun lent.now.setup.script.now progress.new.order }
     ensures from { D.from disk.new ≡ 0 }
@@ -198,11 +198,11 @@ fn hold_meetings<R: Threads + Wait + Sync, D: Disk, G: Gate, T: Told>(
     ensures cause { HasStepCause (D.faults disk.old) (D.faults disk.new) result }
 {
     let mut meetings = 0;
-    arrive_all(lent, disk, told, progress, seats)?;
-    'meetings: while all_hold(seats) {
-        meet(lent, disk, told, progress, seats, meetings)?;
+    arrive_all(lent, disk, told, progress, runners)?;
+    'meetings: while all_hold(runners) {
+        meet(lent, disk, told, progress, runners, meetings)?;
         meetings += 1;
-        arrive_all(lent, disk, told, progress, seats)?;
+        arrive_all(lent, disk, told, progress, runners)?;
     }
     Ok(())
 }
@@ -213,55 +213,55 @@ fn arrive_all<R: Threads + Wait + Sync, D: Disk, G: Gate, T: Told>(
     disk: &mut D,
     told: &mut T,
     progress: &mut Progress,
-    seats: &mut [Seat],
+    runners: &mut [Runner],
 ) -> Result<(), StepErr>
     requires sound { is_sound lent.now.setup.header.now ≡ true }
     requires measured { AreMeasures lent.now.setup.header.now lent.now.setup.measures.now }
     requires lawful { is_lawful lent.now.setup.script.now ≡ true }
-    requires seats { AreSeats lent.now.setup.script.now lent.now.setup.header.now (D.len disk.old) progress.old.order seats.old }
-    requires free { AreFree seats.old }
+    requires runners { AreRunners lent.now.setup.script.now lent.now.setup.header.now (D.len disk.old) progress.old.order runners.old }
+    requires free { AreFree runners.old }
     requires records { IsCount lent.now.setup.header.now (D.len disk.old) progress.old.records }
     requires from { D.from disk.old ≡ 0 }
-    ensures seats { OnOk result (AreSeats lent.now.setup.script.now lent.now.setup.header.now (D.len disk.new) progress.new.order seats.new) }
-    ensures arrived { OnOk result (HaveArrived lent.now.setup.script.now seats.new) }
+    ensures runners { OnOk result (AreRunners lent.now.setup.script.now lent.now.setup.header.now (D.len disk.new) progress.new.order runners.new) }
+    ensures arrived { OnOk result (HaveArrived lent.now.setup.script.now runners.new) }
     ensures meetings { meetings progress.new.order ≡ meetings progress.old.order }
-    ensures led { OnOk result (HasLedOn lent.now.setup progress.old progress.new (stage_at lent.now.setup (D.held disk.old) (D.calls disk.old) progress.old seats.old)
-        (stage_at lent.now.setup (D.held disk.new) (D.calls disk.new) progress.new seats.new)) }
-    ensures cut { (e : Fault) → result ≡ Err e → IsCutOff lent.now.setup e progress.old progress.new (D.held disk.old) seats.old (D.held disk.new) }
-    ensures answered { (e : Fault) → result ≡ Err e → HaveSaidUpTo lent.now.setup e progress.old progress.new (D.held disk.old) seats.old seats.new }
-    ensures told { HasToldOn lent.now.setup progress.old progress.new (D.held disk.old) seats.old (T.heard told.old) (T.heard told.new) }
+    ensures led { OnOk result (HasLedOn lent.now.setup progress.old progress.new (stage_at lent.now.setup (D.held disk.old) (D.calls disk.old) progress.old runners.old)
+        (stage_at lent.now.setup (D.held disk.new) (D.calls disk.new) progress.new runners.new)) }
+    ensures cut { (e : Fault) → result ≡ Err e → IsCutOff lent.now.setup e progress.old progress.new (D.held disk.old) runners.old (D.held disk.new) }
+    ensures answered { (e : Fault) → result ≡ Err e → HaveSaidUpTo lent.now.setup e progress.old progress.new (D.held disk.old) runners.old runners.new }
+    ensures told { HasToldOn lent.now.setup progress.old progress.new (D.held disk.old) runners.old (T.heard told.old) (T.heard told.new) }
     ensures records { OnOk result (IsCount lent.now.setup.header.now (D.len disk.new) progress.new.records) }
     ensures begun { HasBegun lent.now.setup.script.now progress.new.order }
     ensures from { D.from disk.new ≡ 0 }
     ensures longer { D.len disk.old ≤ D.len disk.new }
     ensures cause { HasStepCause (D.faults disk.old) (D.faults disk.new) result }
 {
-    for (number, seat) in seats.iter_mut().enumerate() {
-        seat.arrive(lent, disk, told, progress, number as u32)?;
+    for (number, runner) in runners.iter_mut().enumerate() {
+        runner.arrive(lent, disk, told, progress, number as u32)?;
     }
     Ok(())
 }
 
 /// Each rank holds an offer.
-fn all_hold(seats: &[Seat]) -> bool
-    ensures { IsTrue result ↔ HaveMet seats.now }
+fn all_hold(runners: &[Runner]) -> bool
+    ensures { IsTrue result ↔ HaveMet runners.now }
 {
-    seats.iter().all(|seat| seat.held.is_some())
+    runners.iter().all(|runner| runner.held.is_some())
 }
 
 /// The end of a run in which all was done.
-fn ended(alloc: Global, order: MarkList, seats: Vec<Seat>) -> RunEnd
+fn ended(alloc: Global, order: MarkList, runners: Vec<Runner>) -> RunEnd
     ensures order { result.order ≡ order }
-    ensures answers { result.fault ≡ None → result.answers ≡ map (λ seat. seat.answers) seats.entry.items }
-    ensures pending { result.fault ≡ None → result.pending ≡ map (λ seat. machine.pending seat.rank.state) seats.entry.items }
+    ensures answers { result.fault ≡ None → result.answers ≡ map (λ runner. runner.answers) runners.entry.items }
+    ensures pending { result.fault ≡ None → result.pending ≡ map (λ runner. machine.pending runner.rank.state) runners.entry.items }
     ensures memory { result.fault ≡ Some fault.Disk → ⊥ }
     ensures none { (e : Fault) → result.fault ≡ Some e → result.answers ≡ [] }
 {
-    let pending = match pending_of(alloc, &seats) {
+    let pending = match pending_of(alloc, &runners) {
         Ok(pending) => pending,
         Err(_) => return stopped(alloc, order, StepErr::Memory),
     };
-    match answers_of(alloc, seats) {
+    match answers_of(alloc, runners) {
         Ok(answers) => RunEnd {
             order,
             answers,
@@ -273,14 +273,14 @@ fn ended(alloc: Global, order: MarkList, seats: Vec<Seat>) -> RunEnd
 }
 
 /// The end of a run that was cut off, with the answers so far. Where there is no memory for them, want of memory is its fault.
-fn cut_off(alloc: Global, order: MarkList, seats: Vec<Seat>, cause: StepErr) -> RunEnd
+fn cut_off(alloc: Global, order: MarkList, runners: Vec<Runner>, cause: StepErr) -> RunEnd
     ensures order { result.order ≡ order }
     ensures some { result.fault ≡ None → ⊥ }
     ensures fault { (e : Fault) → result.fault ≡ Some e → (e ≡ cause) ⊎ (e ≡ fault.Memory) }
-    ensures disk { result.fault ≡ Some fault.Disk → (cause ≡ fault.Disk) × (result.answers ≡ map (λ seat. seat.answers) seats.entry.items) }
-    ensures answers { (result.answers ≡ map (λ seat. seat.answers) seats.entry.items) ⊎ (result.answers ≡ []) }
+    ensures disk { result.fault ≡ Some fault.Disk → (cause ≡ fault.Disk) × (result.answers ≡ map (λ runner. runner.answers) runners.entry.items) }
+    ensures answers { (result.answers ≡ map (λ runner. runner.answers) runners.entry.items) ⊎ (result.answers ≡ []) }
 {
-    match answers_of(alloc, seats) {
+    match answers_of(alloc, runners) {
         Ok(answers) => RunEnd {
             order,
             answers,

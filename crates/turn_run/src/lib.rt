@@ -2,16 +2,16 @@
 //! of all, and the step of one rank alone.
 #![tactic(auto)]
 
-mod closing;
+mod end;
 mod in_turn;
 mod lent;
+mod mark;
 mod meeting;
-mod noting;
-mod seats;
+mod runners;
 mod solo;
 
 pub use in_turn::{run_in_turn, run_in_turn_told, stopped};
+pub use mark::note_step;
 pub use meeting::{add_offer, meet_on_file};
-pub use noting::note_step;
-pub use seats::{Seat, own_calls};
+pub use runners::{Runner, own_calls};
 pub use solo::solo_reply;

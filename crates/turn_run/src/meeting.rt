@@ -5,7 +5,7 @@ ghost use Rattle.std.specs.Option.{option_to_list};
 ghost use Rattle.nc_base.specs.declared.step.Mark.TheVariants as mark;
 ghost use Rattle.nc_base.specs.declared.step.StepErr.{StepErr as Fault};
 ghost use Rattle.nc_outside.specs.Told.{after, with_end, BothTold};
-ghost use Rattle.serial_spec.specs.Desk.{needed_now};
+ghost use Rattle.serial_spec.specs.Owner.{needed_now};
 ghost use Rattle.serial_spec.specs.FileStep.{get_post, known_by, told};
 ghost use Rattle.serial_spec.specs.HeaderBytes.{count_width};
 ghost use Rattle.serial_spec.specs.SoundHeaders.{is_sound};
@@ -19,14 +19,14 @@ ghost use Rattle.run_laws.specs.Ways.{meetings};
 ghost use Rattle.turn_run.specs.Begun.{HasBegun};
 ghost use Rattle.turn_run.specs.Counts.{IsCount, IsRise};
 ghost use Rattle.turn_run.specs.Said.{all_between, HaveHeardInPart, KeepAnswers};
-ghost use Rattle.turn_run.specs.Seated.{AreFree, AreFreed, IsFreed, AreHeard, AreSeats, AreToHear, HaveArrived, HaveMet};
+ghost use Rattle.turn_run.specs.Running.{AreFree, AreFreed, IsFreed, AreHeard, AreRunners, AreToHear, HaveArrived, HaveMet};
 ghost use Rattle.turn_run.specs.Steps.{batches_of, held_offers, known_of, met, met_calls, IsJob, IsOneRise};
 ghost use Rattle.turn_run.specs.Setups.{all_at_next, setting_in, stage_at, AllSayUpTo, HasLedOn, HasToldOn, IsCutOff};
 ghost use Rattle.var_layout.specs.Measures.{AreMeasures};
 
 use crate::lent::{Lent, Progress};
-use crate::noting::note_step;
-use crate::seats::Seat;
+use crate::mark::note_step;
+use crate::runners::Runner;
 use crate::solo::told_pair;
 use collective_round::{Dataset, get_all, put_all, raise_records};
 use nc_base::{
@@ -44,36 +44,36 @@ pub(crate) fn meet<R: Threads + Wait + Sync, D: Disk, G: Gate, T: Told>(
     disk: &mut D,
     told: &mut T,
     progress: &mut Progress,
-    seats: &mut [Seat],
+    runners: &mut [Runner],
     number: u32,
 ) -> Result<(), StepErr>
     requires sound { is_sound lent.now.setup.header.now ≡ true }
     requires measured { AreMeasures lent.now.setup.header.now lent.now.setup.measures.now }
     requires lawful { is_lawful lent.now.setup.script.now ≡ true }
     requires number { number ≡ meetings progress.old.order }
-    requires seats { AreSeats lent.now.setup.script.now lent.now.setup.header.now (D.len disk.old) progress.old.order seats.old }
-    requires met { HaveMet seats.old }
-    requires arrived { HaveArrived lent.now.setup.script.now seats.old }
+    requires runners { AreRunners lent.now.setup.script.now lent.now.setup.header.now (D.len disk.old) progress.old.order runners.old }
+    requires met { HaveMet runners.old }
+    requires arrived { HaveArrived lent.now.setup.script.now runners.old }
     requires records { IsCount lent.now.setup.header.now (D.len disk.old) progress.old.records }
     requires from { D.from disk.old ≡ 0 }
-    ensures seats { OnOk result (AreSeats lent.now.setup.script.now lent.now.setup.header.now (D.len disk.new) progress.new.order seats.new) }
-    ensures free { OnOk result (AreFree seats.new) }
+    ensures runners { OnOk result (AreRunners lent.now.setup.script.now lent.now.setup.header.now (D.len disk.new) progress.new.order runners.new) }
+    ensures free { OnOk result (AreFree runners.new) }
     ensures order { OnOk result (progress.new.order ≡ progress.old.order ++ mark.Meet (meetings progress.old.order) ∷ []) }
-    ensures led { OnOk result (HasLedOn lent.now.setup progress.old progress.new (stage_at lent.now.setup (D.held disk.old) (D.calls disk.old) progress.old seats.old)
-        (stage_at lent.now.setup (D.held disk.new) (D.calls disk.new) progress.new seats.new)) }
-    ensures cut { (e : Fault) → result ≡ Err e → IsCutOff lent.now.setup e progress.old progress.new (D.held disk.old) seats.old (D.held disk.new) }
-    ensures answered { (e : Fault) → result ≡ Err e → AllSayUpTo lent.now.setup e progress.old progress.new (D.held disk.old) seats.old seats.new }
-    ensures between { OnOk result ((goings : List Going) → map (advance lent.now.setup.header.now) goings ≡ all_at_next lent.now.setup seats.old
+    ensures led { OnOk result (HasLedOn lent.now.setup progress.old progress.new (stage_at lent.now.setup (D.held disk.old) (D.calls disk.old) progress.old runners.old)
+        (stage_at lent.now.setup (D.held disk.new) (D.calls disk.new) progress.new runners.new)) }
+    ensures cut { (e : Fault) → result ≡ Err e → IsCutOff lent.now.setup e progress.old progress.new (D.held disk.old) runners.old (D.held disk.new) }
+    ensures answered { (e : Fault) → result ≡ Err e → AllSayUpTo lent.now.setup e progress.old progress.new (D.held disk.old) runners.old runners.new }
+    ensures between { OnOk result ((goings : List Going) → map (advance lent.now.setup.header.now) goings ≡ all_at_next lent.now.setup runners.old
         → IfSome (D.held disk.old) (λ file. (after_mark (setting_in lent.now.setup) (counted file progress.old.records, goings) (mark.Meet (meetings progress.old.order))).1
-        ≡ all_between lent.now.setup.script.now.calls seats.new)) }
-    ensures told { HasToldOn lent.now.setup progress.old progress.new (D.held disk.old) seats.old (T.heard told.old) (T.heard told.new) }
+        ≡ all_between lent.now.setup.script.now.calls runners.new)) }
+    ensures told { HasToldOn lent.now.setup progress.old progress.new (D.held disk.old) runners.old (T.heard told.old) (T.heard told.new) }
     ensures records { OnOk result (IsCount lent.now.setup.header.now (D.len disk.new) progress.new.records) }
     ensures begun { HasBegun lent.now.setup.script.now progress.new.order }
     ensures from { D.from disk.new ≡ 0 }
     ensures longer { D.len disk.old ≤ D.len disk.new }
     ensures cause { HasStepCause (D.faults disk.old) (D.faults disk.new) result }
 {
-    let (job, known) = take_job(lent.tools.alloc, seats)?;
+    let (job, known) = take_job(lent.tools.alloc, runners)?;
     let dataset = Dataset {
         header: lent.setup.header,
         measures: lent.setup.measures,
@@ -96,21 +96,21 @@ pub(crate) fn meet<R: Threads + Wait + Sync, D: Disk, G: Gate, T: Told>(
         Mark::Meet(number),
         records,
     )?;
-    hear_all(seats, pair, records, table)?;
+    hear_all(runners, pair, records, table)?;
     Ok(())
 }
 
 /// Takes the offers of a meeting: their batches, and the count to which it raises that of the file.
-fn take_job(alloc: Global, seats: &mut [Seat]) -> Result<(Job, u64), Memory>
-    ensures batches { IfOk result (λ taken. taken.0.batches ≡ batches_of (held_offers seats.old)) }
-    ensures known { IfOk result (λ taken. taken.1 ≡ known_of (held_offers seats.old)) }
-    ensures freed { OnOk result (AreFreed seats.old seats.new) }
-    ensures kept { KeepAnswers seats.old seats.new }
+fn take_job(alloc: Global, runners: &mut [Runner]) -> Result<(Job, u64), Memory>
+    ensures batches { IfOk result (λ taken. taken.0.batches ≡ batches_of (held_offers runners.old)) }
+    ensures known { IfOk result (λ taken. taken.1 ≡ known_of (held_offers runners.old)) }
+    ensures freed { OnOk result (AreFreed runners.old runners.new) }
+    ensures kept { KeepAnswers runners.old runners.new }
 {
     let mut batches = Vec::new(alloc);
     let mut known: u64 = 0;
-    for seat in seats.iter_mut() {
-        known = known.max(take_offer(seat, &mut batches)?);
+    for runner in runners.iter_mut() {
+        known = known.max(take_offer(runner, &mut batches)?);
     }
     Ok((
         Job {
@@ -121,13 +121,13 @@ fn take_job(alloc: Global, seats: &mut [Seat]) -> Result<(Job, u64), Memory>
 }
 
 /// Takes the offer of a rank into the batches: the count to which it raises that of the file.
-fn take_offer(seat: &mut Seat, batches: &mut Vec<Batch>) -> Result<u64, Memory>
-    ensures freed { OnOk result (IsFreed seat.old seat.new) }
-    ensures kept { seat.new.answers ≡ seat.old.answers }
-    ensures batches { OnOk result (batches.new.items ≡ batches.old.items ++ batches_of (option_to_list seat.old.held)) }
-    ensures known { IfOk result (λ known. known ≡ known_of (option_to_list seat.old.held)) }
+fn take_offer(runner: &mut Runner, batches: &mut Vec<Batch>) -> Result<u64, Memory>
+    ensures freed { OnOk result (IsFreed runner.old runner.new) }
+    ensures kept { runner.new.answers ≡ runner.old.answers }
+    ensures batches { OnOk result (batches.new.items ≡ batches.old.items ++ batches_of (option_to_list runner.old.held)) }
+    ensures known { IfOk result (λ known. known ≡ known_of (option_to_list runner.old.held)) }
 {
-    add_offer(seat.held.take(), batches)
+    add_offer(runner.held.take(), batches)
 }
 
 /// Adds the batch of an offer to the batches: the count to which it raises that of the file.
@@ -195,20 +195,20 @@ pub fn meet_on_file<R: Threads + Wait + Sync, D: Disk, G: Gate>(
 
 /// Lets each rank hear its reply.
 fn hear_all(
-    seats: &mut [Seat],
+    runners: &mut [Runner],
     pair: Option<Pair>,
     records: u64,
     table: GotTable,
 ) -> Result<(), Memory>
-    requires long { length table ≡ length seats.old }
-    requires fit { AreToHear seats.old table }
-    ensures all { OnOk result (AreHeard pair records table seats.old seats.new) }
-    ensures part { OnErr result (HaveHeardInPart pair records table seats.old seats.new) }
+    requires long { length table ≡ length runners.old }
+    requires fit { AreToHear runners.old table }
+    ensures all { OnOk result (AreHeard pair records table runners.old runners.new) }
+    ensures part { OnErr result (HaveHeardInPart pair records table runners.old runners.new) }
 {
     let mut table = table.into_vec();
-    for (number, seat) in seats.iter_mut().enumerate() {
+    for (number, runner) in runners.iter_mut().enumerate() {
         let got = table[number].take();
-        seat.hear(Reply { pair, records, got })?;
+        runner.hear(Reply { pair, records, got })?;
     }
     Ok(())
 }

@@ -1,7 +1,7 @@
 // The step of one rank alone.
 ghost use Rattle.std.specs.Prelude.{◌≡◌, ◌≤◌, ◌<◌, map, max, length, true, IfOk, IfSome, OnOk, OnErr};
 ghost use Rattle.nc_outside.specs.Told.{after, with_end, BothTold};
-ghost use Rattle.serial_spec.specs.Desk.{needed_now};
+ghost use Rattle.serial_spec.specs.Owner.{needed_now};
 ghost use Rattle.serial_spec.specs.DeviceCalls.{solo_calls};
 ghost use Rattle.serial_spec.specs.FileStep.{needs, puts_of, solo, told};
 ghost use Rattle.serial_spec.specs.SoundHeaders.{is_sound};

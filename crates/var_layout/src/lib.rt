@@ -8,23 +8,23 @@
 //! the end of a file cost no walk.
 #![tactic(auto)]
 
+mod begins;
 mod bounds;
 pub mod capped;
 mod elements;
 mod end;
 mod measures;
 mod names;
-mod placing;
 mod record;
 mod sizes;
 mod written;
 
+pub use begins::{first_large, lay_out};
 pub use bounds::{keeps_bound, measure};
 pub use elements::{elements_lie_apart, place};
 pub use end::{end_of, file_end, sound_files_end};
 pub use measures::Measures;
 pub use names::{find_dim, find_var};
-pub use placing::{first_large, lay_out};
 pub use record::{is_lone, record_limit, record_share, recsize, recsize_of};
 pub use sizes::{is_record, length_of, slab, slab_of, vsize, vsize_of};
 pub use written::header_len;

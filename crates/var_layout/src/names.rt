@@ -1,6 +1,6 @@
 // Variables and dimensions by their names.
 ghost use Rattle.std.specs.Prelude.{◌≡◌};
-ghost use Rattle.serial_spec.specs.Looking as looks;
+ghost use Rattle.serial_spec.specs.Looks as looks;
 
 use nc_base::Header;
 

@@ -23,7 +23,7 @@ use Rattle.serial_spec.specs.SoundHeaders.{is_sound}
 use Rattle.serial_spec.specs.Layout.{fixed_variables, inner_lengths, is_record}
 use Rattle.serial_spec.specs.Lists.{In}
 use Rattle.serial_spec.specs.Place.{AreApart, HasRecord, IsElement, IsIndex, place, row, within_record}
-use Rattle.serial_spec.specs.Looking.{fills}
+use Rattle.serial_spec.specs.Looks.{fills}
 use Rattle.serial_spec.specs.Request.{cells, coordinates}
 use Rattle.serial_spec.specs.Said.{byte_or, Cell, said_at, said_by, write_cells}
 use Rattle.serial_spec.specs.SerialEnd.{serial, setting_of, start}

@@ -26,8 +26,8 @@ use Rattle.serial_spec.specs.Layout.{inner_lengths, is_record, product}
 use Rattle.serial_spec.specs.Limits.{most_elements}
 use Rattle.serial_spec.specs.Lists.{In}
 use Rattle.serial_spec.specs.Place.{IsIndex, place}
-use Rattle.serial_spec.specs.Looking as looks
-use Rattle.serial_spec.specs.Looking.{box_post, box_region, fills, is_record_past, look_record}
+use Rattle.serial_spec.specs.Looks as looks
+use Rattle.serial_spec.specs.Looks.{box_post, box_region, fills, is_record_past, look_record}
 use Rattle.serial_spec.specs.RankMachine.{code_of_look, posts_of}
 use Rattle.serial_spec.specs.Request.{cells, coordinates, elements, index_at}
 use Rattle.serial_spec.specs.Said.{byte_or, Cell, said_at, said_by}

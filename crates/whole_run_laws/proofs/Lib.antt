@@ -9,7 +9,7 @@ pub mod AnswersStay
 pub mod FilledFile
 pub mod FilledRecord
 pub mod FillCalls
-pub mod HeldSeats
+pub mod HeldClients
 pub mod StrangerLaws
 pub mod PastLaws
 pub mod FieldLaws

@@ -23,7 +23,7 @@ use Rattle.nc_base.specs.declared.step.Mark.{Mark}
 use Rattle.nc_base.specs.declared.step.Mark.TheVariants.{Meet, Solo}
 use Rattle.nc_base.specs.declared.step.Offer.{Offer}
 use Rattle.nc_base.specs.declared.step.Reply.{Reply}
-use Rattle.serial_spec.specs.Desk.{refused, wrong_length}
+use Rattle.serial_spec.specs.Owner.{refused, wrong_length}
 use Rattle.serial_spec.specs.ExternalForm.{size_of}
 use Rattle.serial_spec.specs.File.{at}
 use Rattle.serial_spec.specs.FileStep.{Counted, puts_of, Setting, solo, told}

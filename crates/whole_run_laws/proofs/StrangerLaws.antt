@@ -16,7 +16,7 @@ use Rattle.nc_base.specs.declared.step.OfferKind.{OfferKind}
 use Rattle.nc_base.specs.declared.step.OfferKind.TheVariants as offer
 use Rattle.nc_base.specs.declared.step.RankItem.{RankItem}
 use Rattle.nc_base.specs.declared.step.RankItem.TheVariants as item
-use Rattle.serial_spec.specs.Desk.{at_item, at_offer, Desk, differs, event, Event, first_desk, free_seat, freed, has_ended, has_held, holds, is_strange, kind_held, left_behind, meets_if, needed_now, offers_held, Seat, served, some_true, strange_offer}
+use Rattle.serial_spec.specs.Owner.{at_item, at_offer, Owner, differs, event, Event, first_owner, free_client, freed, has_ended, has_held, holds, is_strange, kind_held, left_behind, meets_if, needed_now, offers_held, Client, served, some_true, strange_offer}
 use Rattle.serial_spec.specs.FileStep.{Counted, puts_of, Setting}
 use Rattle.serial_spec.specs.History.{Arrival, is_offer, kind_of_meeting, meeting_kind, offer_of}
 use Rattle.serial_spec.specs.Joined.{run_of}
@@ -28,20 +28,20 @@ use Rattle.join_laws.proofs.WholeLaws.{get_replicate, get_map as mapped_from}
 use Rattle.join_laws.proofs.DoneLaws.{all_holds as all_hold, holds_one as one_held}
 use Rattle.whole_run_laws.specs.Completed.{puts_met}
 use Rattle.whole_run_laws.proofs.Courses.{set_cases}
-use Rattle.whole_run_laws.proofs.HeldSeats.{one_or_none, brought_here, brought_other, brought_none, last_here, one_if, Kept, Next, nothing_reached, Free, free_set, not_all, some_holds, held_all, kinds_are, left_is, numbers_any, waits_is}
+use Rattle.whole_run_laws.proofs.HeldClients.{one_or_none, brought_here, brought_other, brought_none, last_here, one_if, Kept, Next, nothing_reached, Free, free_set, not_all, some_holds, held_all, kinds_are, left_is, numbers_any, waits_is}
 use Rattle.whole_run_laws.specs.Strangers.{are_left_behind, end_of_item, ends, first_stranger, first_stranger_from, is_strange_after, last, meeting_offer, meeting_offers, puts_brought, puts_complete, waits}
 use Rattle.list_laws.proofs.Maps.{entry_map}
 
 -- ---- an end
 
-abbrev ended_seat : Seat → Bool → Seat
-ended_seat x m = record { held = x.held; ended = Some m }
+abbrev ended_client : Client → Bool → Client
+ended_client x m = record { held = x.held; ended = Some m }
 
-abbrev held_seat : Seat → Offer → Seat
-held_seat x o = record { held = Some o; ended = x.ended }
+abbrev held_client : Client → Offer → Client
+held_client x o = record { held = Some o; ended = x.ended }
 
-module _ (s : Setting) (ranks : ℕ) (before : List Arrival) (d : Desk) (kept : Kept ranks before d) (r : ℕ) (x : Seat) (at : slice_get d.seats r ≡ Some x) where
-  free_now : Free d.seats
+module _ (s : Setting) (ranks : ℕ) (before : List Arrival) (d : Owner) (kept : Kept ranks before d) (r : ℕ) (x : Client) (at : slice_get d.clients r ≡ Some x) where
+  free_now : Free d.clients
   free_now = record { number = kept.number; free = kept.free; at_free = kept.at_free; is_free = kept.is_free }
 
   apart : (q : ℕ) → (r == q) ≡ false → q ≡ r → ⊥
@@ -53,34 +53,34 @@ module _ (s : Setting) (ranks : ℕ) (before : List Arrival) (d : Desk) (kept : 
 
   end_next : (m : Bool) → Next s ranks before d r (item.Ended m) (at_item s d r x (item.Ended m))
   end_next m =
-      let f = free_set d.seats r x (ended_seat x m) at refl free_now in
+      let f = free_set d.clients r x (ended_client x m) at refl free_now in
       record {
         kept = record {
-          long = length-set d.seats r (ended_seat x m) ∙ kept.long;
+          long = length-set d.clients r (ended_client x m) ∙ kept.long;
           number = f.number;
           free = f.free;
           at_free = f.at_free;
           is_free = f.is_free;
-          count = λ q y e. ap (λ (xs : List Offer). length xs) (same_offers q (item.Ended m) refl) ∙ count_by q y (set_cases d.seats r q (ended_seat x m) y e);
-          held = λ q y o e h. ap (λ (xs : List Offer). last xs) (same_offers q (item.Ended m) refl) ∙ held_by q y o h (set_cases d.seats r q (ended_seat x m) y e);
-          ended = λ q y e. ended_by q y (set_cases d.seats r q (ended_seat x m) y e);
+          count = λ q y e. ap (λ (xs : List Offer). length xs) (same_offers q (item.Ended m) refl) ∙ count_by q y (set_cases d.clients r q (ended_client x m) y e);
+          held = λ q y o e h. ap (λ (xs : List Offer). last xs) (same_offers q (item.Ended m) refl) ∙ held_by q y o h (set_cases d.clients r q (ended_client x m) y e);
+          ended = λ q y e. ended_by q y (set_cases d.clients r q (ended_client x m) y e);
         };
         reached = nothing_reached s d.reached [] refl;
       }
     where
-      count_by : (q : ℕ) (y : Seat) → ((q ≡ r) × (y ≡ ended_seat x m)) ⊎ (((r == q) ≡ false) × (slice_get d.seats q ≡ Some y)) → length (meeting_offers q before) ≡ d.met + one_if y.held
+      count_by : (q : ℕ) (y : Client) → ((q ≡ r) × (y ≡ ended_client x m)) ⊎ (((r == q) ≡ false) × (slice_get d.clients q ≡ Some y)) → length (meeting_offers q before) ≡ d.met + one_if y.held
       count_by q y (inl (z, w)) =
-          ap (λ (k : ℕ). length (meeting_offers k before)) z ∙ kept.count r x at ∙ sym (ap (λ (v : Seat). d.met + one_if v.held) w)
+          ap (λ (k : ℕ). length (meeting_offers k before)) z ∙ kept.count r x at ∙ sym (ap (λ (v : Client). d.met + one_if v.held) w)
       count_by q y (inr (b, g)) = kept.count q y g
 
-      held_by : (q : ℕ) (y : Seat) (o : Offer) → y.held ≡ Some o → ((q ≡ r) × (y ≡ ended_seat x m)) ⊎ (((r == q) ≡ false) × (slice_get d.seats q ≡ Some y)) → last (meeting_offers q before) ≡ Some o
+      held_by : (q : ℕ) (y : Client) (o : Offer) → y.held ≡ Some o → ((q ≡ r) × (y ≡ ended_client x m)) ⊎ (((r == q) ≡ false) × (slice_get d.clients q ≡ Some y)) → last (meeting_offers q before) ≡ Some o
       held_by q y o h (inl (z, w)) =
-          ap (λ (k : ℕ). last (meeting_offers k before)) z ∙ kept.held r x o at (sym (ap (λ (v : Seat). v.held) w) ∙ h)
+          ap (λ (k : ℕ). last (meeting_offers k before)) z ∙ kept.held r x o at (sym (ap (λ (v : Client). v.held) w) ∙ h)
       held_by q y o h (inr (b, g)) = kept.held q y o g h
 
-      ended_by : (q : ℕ) (y : Seat) → ((q ≡ r) × (y ≡ ended_seat x m)) ⊎ (((r == q) ≡ false) × (slice_get d.seats q ≡ Some y)) → y.ended ≡ last (ends q (before ++ (r, item.Ended m) ∷ []))
+      ended_by : (q : ℕ) (y : Client) → ((q ≡ r) × (y ≡ ended_client x m)) ⊎ (((r == q) ≡ false) × (slice_get d.clients q ≡ Some y)) → y.ended ≡ last (ends q (before ++ (r, item.Ended m) ∷ []))
       ended_by q y (inl (z, w)) =
-          ap (λ (v : Seat). v.ended) w ∙ sym (last_here end_of_item r (item.Ended m) before m refl) ∙ ap (λ (k : ℕ). last (ends k (before ++ (r, item.Ended m) ∷ []))) (sym z)
+          ap (λ (v : Client). v.ended) w ∙ sym (last_here end_of_item r (item.Ended m) before m refl) ∙ ap (λ (k : ℕ). last (ends k (before ++ (r, item.Ended m) ∷ []))) (sym z)
       ended_by q y (inr (b, g)) = kept.ended q y g ∙ ap (λ (xs : List Bool). last xs) (sym (brought_other end_of_item q r (item.Ended m) before (apart q b)))
 
   -- ---- a solo offer
@@ -111,8 +111,8 @@ module _ (s : Setting) (ranks : ℕ) (before : List Arrival) (d : Desk) (kept : 
   -- ---- a meeting offer
 
   module _ (c : ℕ) (o : Offer) (kind : MeetKind) (k : o.kind ≡ offer.Meet kind) (idle : x.held ≡ None) where
-    abbrev seats_now : List Seat
-    seats_now = set d.seats r (held_seat x o)
+    abbrev clients_now : List Client
+    clients_now = set d.clients r (held_client x o)
 
     abbrev after : List Arrival
     after = before ++ (r, item.Offer c o) ∷ []
@@ -130,30 +130,30 @@ module _ (s : Setting) (ranks : ℕ) (before : List Arrival) (d : Desk) (kept : 
         let none : one_if x.held ≡ 0 = ap one_if idle in
         omega (arith, both, long, own, was, none)
 
-    count_now : (q : ℕ) (y : Seat) → slice_get (set d.seats r (held_seat x o)) q ≡ Some y → length (meeting_offers q after) ≡ d.met + one_if y.held
-    count_now q y e = by (set_cases d.seats r q (held_seat x o) y e)
+    count_now : (q : ℕ) (y : Client) → slice_get (set d.clients r (held_client x o)) q ≡ Some y → length (meeting_offers q after) ≡ d.met + one_if y.held
+    count_now q y e = by (set_cases d.clients r q (held_client x o) y e)
       where
-        by : ((q ≡ r) × (y ≡ held_seat x o)) ⊎ (((r == q) ≡ false) × (slice_get d.seats q ≡ Some y)) → length (meeting_offers q after) ≡ d.met + one_if y.held
-        by (inl (z, w)) = ap (λ (j : ℕ). length (meeting_offers j after)) z ∙ one_longer ∙ sym (ap (λ (v : Seat). d.met + one_if v.held) w)
+        by : ((q ≡ r) × (y ≡ held_client x o)) ⊎ (((r == q) ≡ false) × (slice_get d.clients q ≡ Some y)) → length (meeting_offers q after) ≡ d.met + one_if y.held
+        by (inl (z, w)) = ap (λ (j : ℕ). length (meeting_offers j after)) z ∙ one_longer ∙ sym (ap (λ (v : Client). d.met + one_if v.held) w)
         by (inr (b, g)) = ap (λ (xs : List Offer). length xs) (brought_other meeting_offer q r (item.Offer c o) before (apart q b)) ∙ kept.count q y g
 
-    held_now : (q : ℕ) (y : Seat) (p : Offer) → slice_get (set d.seats r (held_seat x o)) q ≡ Some y → y.held ≡ Some p → last (meeting_offers q after) ≡ Some p
-    held_now q y p e h = by (set_cases d.seats r q (held_seat x o) y e)
+    held_now : (q : ℕ) (y : Client) (p : Offer) → slice_get (set d.clients r (held_client x o)) q ≡ Some y → y.held ≡ Some p → last (meeting_offers q after) ≡ Some p
+    held_now q y p e h = by (set_cases d.clients r q (held_client x o) y e)
       where
-        by : ((q ≡ r) × (y ≡ held_seat x o)) ⊎ (((r == q) ≡ false) × (slice_get d.seats q ≡ Some y)) → last (meeting_offers q after) ≡ Some p
+        by : ((q ≡ r) × (y ≡ held_client x o)) ⊎ (((r == q) ≡ false) × (slice_get d.clients q ≡ Some y)) → last (meeting_offers q after) ≡ Some p
         by (inl (z, w)) =
-            ap (λ (j : ℕ). last (meeting_offers j after)) z ∙ last_here meeting_offer r (item.Offer c o) before o brings ∙ sym (ap (λ (v : Seat). v.held) w) ∙ h
+            ap (λ (j : ℕ). last (meeting_offers j after)) z ∙ last_here meeting_offer r (item.Offer c o) before o brings ∙ sym (ap (λ (v : Client). v.held) w) ∙ h
         by (inr (b, g)) = ap (λ (xs : List Offer). last xs) (brought_other meeting_offer q r (item.Offer c o) before (apart q b)) ∙ kept.held q y p g h
 
-    ended_now : (q : ℕ) (y : Seat) → slice_get (set d.seats r (held_seat x o)) q ≡ Some y → y.ended ≡ last (ends q after)
-    ended_now q y e = by (set_cases d.seats r q (held_seat x o) y e) ∙ ap (λ (xs : List Bool). last xs) (sym (same_ends q c o))
+    ended_now : (q : ℕ) (y : Client) → slice_get (set d.clients r (held_client x o)) q ≡ Some y → y.ended ≡ last (ends q after)
+    ended_now q y e = by (set_cases d.clients r q (held_client x o) y e) ∙ ap (λ (xs : List Bool). last xs) (sym (same_ends q c o))
       where
-        by : ((q ≡ r) × (y ≡ held_seat x o)) ⊎ (((r == q) ≡ false) × (slice_get d.seats q ≡ Some y)) → y.ended ≡ last (ends q before)
-        by (inl (z, w)) = ap (λ (v : Seat). v.ended) w ∙ kept.ended r x at ∙ ap (λ (j : ℕ). last (ends j before)) (sym z)
+        by : ((q ≡ r) × (y ≡ held_client x o)) ⊎ (((r == q) ≡ false) × (slice_get d.clients q ≡ Some y)) → y.ended ≡ last (ends q before)
+        by (inl (z, w)) = ap (λ (v : Client). v.ended) w ∙ kept.ended r x at ∙ ap (λ (j : ℕ). last (ends j before)) (sym z)
         by (inr (b, g)) = kept.ended q y g
 
-    there : slice_get (set d.seats r (held_seat x o)) r ≡ Some (held_seat x o)
-    there = entry_set d.seats r x (held_seat x o) at
+    there : slice_get (set d.clients r (held_client x o)) r ≡ Some (held_client x o)
+    there = entry_set d.clients r x (held_client x o) at
 
     abbrev complete_by : Bool → Puts
     complete_by t = cond t [] (puts_met (filter_map (λ q. last (meeting_offers q after)) (range_with_len 0 ranks)))
@@ -161,11 +161,11 @@ module _ (s : Setting) (ranks : ℕ) (before : List Arrival) (d : Desk) (kept : 
     puts_are : puts_brought ranks before (r, item.Offer c o) ≡ puts_complete ranks after
     puts_are = ap (λ (z : OfferKind). puts_by c o z) k
 
-    waits_next : list_all holds (set d.seats r (held_seat x o)) ≡ false → Next s ranks before d r (item.Offer c o) (meets_if s d (set d.seats r (held_seat x o)) false)
+    waits_next : list_all holds (set d.clients r (held_client x o)) ≡ false → Next s ranks before d r (item.Offer c o) (meets_if s d (set d.clients r (held_client x o)) false)
     waits_next e =
-        let f = not_all (set d.seats r (held_seat x o)) e in
-        let now : Kept ranks after (meets_if s d (set d.seats r (held_seat x o)) false).desk = record {
-          long = length-set d.seats r (held_seat x o) ∙ kept.long;
+        let f = not_all (set d.clients r (held_client x o)) e in
+        let now : Kept ranks after (meets_if s d (set d.clients r (held_client x o)) false).owner = record {
+          long = length-set d.clients r (held_client x o) ∙ kept.long;
           number = f.number;
           free = f.free;
           at_free = f.at_free;
@@ -175,69 +175,69 @@ module _ (s : Setting) (ranks : ℕ) (before : List Arrival) (d : Desk) (kept : 
           ended = ended_now;
         } in
         let some : list_any (waits ranks after) (range_with_len 0 ranks) ≡ true =
-        sym (numbers_any ranks after (meets_if s d (set d.seats r (held_seat x o)) false).desk now holds (waits ranks after)
-        (λ q y g. sym (waits_is ranks after (meets_if s d (set d.seats r (held_seat x o)) false).desk now q y g)))
-        ∙ some_holds (set d.seats r (held_seat x o)) r (held_seat x o) there refl in
+        sym (numbers_any ranks after (meets_if s d (set d.clients r (held_client x o)) false).owner now holds (waits ranks after)
+        (λ q y g. sym (waits_is ranks after (meets_if s d (set d.clients r (held_client x o)) false).owner now q y g)))
+        ∙ some_holds (set d.clients r (held_client x o)) r (held_client x o) there refl in
         record { kept = now; reached = nothing_reached s d.reached (puts_brought ranks before (r, item.Offer c o)) (puts_are ∙ ap complete_by some) }
 
-    meets_next : list_all holds (set d.seats r (held_seat x o)) ≡ true → Next s ranks before d r (item.Offer c o) (meets_if s d (set d.seats r (held_seat x o)) true)
+    meets_next : list_all holds (set d.clients r (held_client x o)) ≡ true → Next s ranks before d r (item.Offer c o) (meets_if s d (set d.clients r (held_client x o)) true)
     meets_next e =
-        let now : Kept ranks after (meets_if s d (set d.seats r (held_seat x o)) true).desk = record {
-          long = length-map (set d.seats r (held_seat x o)) freed ∙ length-set d.seats r (held_seat x o) ∙ kept.long;
+        let now : Kept ranks after (meets_if s d (set d.clients r (held_client x o)) true).owner = record {
+          long = length-map (set d.clients r (held_client x o)) freed ∙ length-set d.clients r (held_client x o) ∙ kept.long;
           number = r;
-          free = freed (held_seat x o);
-          at_free = entry_map freed (set d.seats r (held_seat x o)) r (held_seat x o) there;
+          free = freed (held_client x o);
+          at_free = entry_map freed (set d.clients r (held_client x o)) r (held_client x o) there;
           is_free = refl;
           count = λ q y g.
-              let z = mapped_from freed (set d.seats r (held_seat x o)) q y g in
-              full q y z.0 z.1.1 (count_now q z.0 z.1.0) (one_held z.0 (all_hold (set d.seats r (held_seat x o)) q z.0 e z.1.0));
+              let z = mapped_from freed (set d.clients r (held_client x o)) q y g in
+              full q y z.0 z.1.1 (count_now q z.0 z.1.0) (one_held z.0 (all_hold (set d.clients r (held_client x o)) q z.0 e z.1.0));
           held = λ q y p g h.
-              let z = mapped_from freed (set d.seats r (held_seat x o)) q y g in
-              never q p (sym (ap (λ (v : Seat). v.held) z.1.1) ∙ h);
+              let z = mapped_from freed (set d.clients r (held_client x o)) q y g in
+              never q p (sym (ap (λ (v : Client). v.held) z.1.1) ∙ h);
           ended = λ q y g.
-              let z = mapped_from freed (set d.seats r (held_seat x o)) q y g in
-              ap (λ (v : Seat). v.ended) z.1.1 ∙ ended_now q z.0 z.1.0;
+              let z = mapped_from freed (set d.clients r (held_client x o)) q y g in
+              ap (λ (v : Client). v.ended) z.1.1 ∙ ended_now q z.0 z.1.0;
         } in
         let none : list_any (waits ranks after) (range_with_len 0 ranks) ≡ false =
-        sym (numbers_any ranks after (meets_if s d (set d.seats r (held_seat x o)) true).desk now holds (waits ranks after)
-        (λ q y g. sym (waits_is ranks after (meets_if s d (set d.seats r (held_seat x o)) true).desk now q y g)))
-        ∙ none_hold (set d.seats r (held_seat x o)) in
-        let brought_puts : puts_brought ranks before (r, item.Offer c o) ≡ puts_met (offers_held (set d.seats r (held_seat x o))) =
+        sym (numbers_any ranks after (meets_if s d (set d.clients r (held_client x o)) true).owner now holds (waits ranks after)
+        (λ q y g. sym (waits_is ranks after (meets_if s d (set d.clients r (held_client x o)) true).owner now q y g)))
+        ∙ none_hold (set d.clients r (held_client x o)) in
+        let brought_puts : puts_brought ranks before (r, item.Offer c o) ≡ puts_met (offers_held (set d.clients r (held_client x o))) =
         puts_are ∙ ap complete_by none ∙ sym (ap puts_met offers_are) in
         record { kept = now; reached = ap (λ (ps : Puts). max d.reached (needed_now s ps)) (sym brought_puts) }
       where
-        full : (q : ℕ) (y z : Seat) → y ≡ freed z → length (meeting_offers q after) ≡ d.met + one_if z.held → one_if z.held ≡ 1 → length (meeting_offers q after) ≡ suc d.met + one_if y.held
+        full : (q : ℕ) (y z : Client) → y ≡ freed z → length (meeting_offers q after) ≡ d.met + one_if z.held → one_if z.held ≡ 1 → length (meeting_offers q after) ≡ suc d.met + one_if y.held
         full q y z f a b =
-            let none : one_if y.held ≡ 0 = ap (λ (v : Seat). one_if v.held) f in
+            let none : one_if y.held ≡ 0 = ap (λ (v : Client). one_if v.held) f in
             omega (arith, a, b, none)
 
         never : (q : ℕ) (p : Offer) → None ≡ Some p → last (meeting_offers q after) ≡ Some p
         never q p f = absurd cc
 
-        held_is : (q : ℕ) (y : Seat) → slice_get (set d.seats r (held_seat x o)) q ≡ Some y → y.held ≡ last (meeting_offers q after)
+        held_is : (q : ℕ) (y : Client) → slice_get (set d.clients r (held_client x o)) q ≡ Some y → y.held ≡ last (meeting_offers q after)
         held_is q y g = by y.held refl
           where
             by : (m : Option Offer) → y.held ≡ m → y.held ≡ last (meeting_offers q after)
-            by None f = absurd (empty (sym (ap (λ (m : Option Offer). is_some m) f) ∙ all_hold (set d.seats r (held_seat x o)) q y e g))
+            by None f = absurd (empty (sym (ap (λ (m : Option Offer). is_some m) f) ∙ all_hold (set d.clients r (held_client x o)) q y e g))
               where
                 empty : false ≡ true → ⊥
                 empty w = cc
             by (Some p) f = f ∙ sym (held_now q y p g f)
 
-        offers_are : offers_held (set d.seats r (held_seat x o)) ≡ filter_map (λ q. last (meeting_offers q after)) (range_with_len 0 ranks)
+        offers_are : offers_held (set d.clients r (held_client x o)) ≡ filter_map (λ q. last (meeting_offers q after)) (range_with_len 0 ranks)
         offers_are =
-            let long : length (set d.seats r (held_seat x o)) ≡ ranks = length-set d.seats r (held_seat x o) ∙ kept.long in
-            held_all (set d.seats r (held_seat x o)) (λ q. last (meeting_offers q after)) 0
+            let long : length (set d.clients r (held_client x o)) ≡ ranks = length-set d.clients r (held_client x o) ∙ kept.long in
+            held_all (set d.clients r (held_client x o)) (λ q. last (meeting_offers q after)) 0
             (λ q y g. let z : q ≡ 0 + q = omega arith in held_is q y g ∙ ap (λ (j : ℕ). last (meeting_offers j after)) z)
             ∙ ap (λ (n : ℕ). filter_map (λ q. last (meeting_offers q after)) (range_with_len 0 n)) long
 
-    meeting_next : (t : Bool) → list_all holds (set d.seats r (held_seat x o)) ≡ t → Next s ranks before d r (item.Offer c o) (meets_if s d (set d.seats r (held_seat x o)) t)
+    meeting_next : (t : Bool) → list_all holds (set d.clients r (held_client x o)) ≡ t → Next s ranks before d r (item.Offer c o) (meets_if s d (set d.clients r (held_client x o)) t)
     meeting_next true e = meets_next e
     meeting_next false e = waits_next e
 
   offer_next : (c : ℕ) (o : Offer) (k : OfferKind) → o.kind ≡ k → x.held ≡ None → Next s ranks before d r (item.Offer c o) (at_offer s d r c o x k)
   offer_next c o offer.Solo e h = solo_next c o e
-  offer_next c o (offer.Meet kind) e h = meeting_next c o kind e h (list_all holds (set d.seats r (held_seat x o))) refl
+  offer_next c o (offer.Meet kind) e h = meeting_next c o kind e h (list_all holds (set d.clients r (held_client x o))) refl
 
   item_next : (i : RankItem) → (is_offer i ≡ true → x.held ≡ None) → Next s ranks before d r i (at_item s d r x i)
   item_next (item.Ended m) h = end_next m
@@ -246,11 +246,11 @@ module _ (s : Setting) (ranks : ℕ) (before : List Arrival) (d : Desk) (kept : 
   event_next : (i : RankItem) → (is_offer i ≡ true → x.held ≡ None) → Next s ranks before d r i (event s d (r, i))
   event_next i h = subst (λ (e : Event). Next s ranks before d r i e) (sym (event_is s d r i x at)) (item_next i h)
 
-  alone : (i : RankItem) → (is_offer i && has_held (slice_get d.seats r)) ≡ false → is_offer i ≡ true → x.held ≡ None
+  alone : (i : RankItem) → (is_offer i && has_held (slice_get d.clients r)) ≡ false → is_offer i ≡ true → x.held ≡ None
   alone i e f = by x.held refl
     where
       holds_not : is_some x.held ≡ false
-      holds_not = sym (ap has_held at) ∙ sym (ap (λ (t : Bool). t && has_held (slice_get d.seats r)) f) ∙ e
+      holds_not = sym (ap has_held at) ∙ sym (ap (λ (t : Bool). t && has_held (slice_get d.clients r)) f) ∙ e
 
       by : (m : Option Offer) → x.held ≡ m → x.held ≡ None
       by None g = g
@@ -266,16 +266,16 @@ five true b c d d' e f = refl
 five false true c d d' e f = refl
 five false false c d d' e f = ap (λ (t : Bool). some_true (false ∷ false ∷ c ∷ t ∷ e ∷ [])) (f refl)
 
-module _ (s : Setting) (ranks : ℕ) (before : List Arrival) (d : Desk) (kept : Kept ranks before d) (r : ℕ) (x : Seat) (at : slice_get d.seats r ≡ Some x) (i : RankItem) where
+module _ (s : Setting) (ranks : ℕ) (before : List Arrival) (d : Owner) (kept : Kept ranks before d) (r : ℕ) (x : Client) (at : slice_get d.clients r ≡ Some x) (i : RankItem) where
   same_strange : is_strange s d (r, i) ≡ is_strange_after s ranks d.reached before (r, i)
   unfolding is_strange
   same_strange =
-      let ended : has_ended (slice_get d.seats r) ≡ is_some (last (ends r before)) = ap has_ended at ∙ ap (λ (m : Option Bool). is_some m) (kept.ended r x at) in
-      let held : has_held (slice_get d.seats r) ≡ waits ranks before r = ap has_held at ∙ sym (waits_is ranks before d kept r x at) in
+      let ended : has_ended (slice_get d.clients r) ≡ is_some (last (ends r before)) = ap has_ended at ∙ ap (λ (m : Option Bool). is_some m) (kept.ended r x at) in
+      let held : has_held (slice_get d.clients r) ≡ waits ranks before r = ap has_held at ∙ sym (waits_is ranks before d kept r x at) in
       let others = kinds_are ranks before d kept (meeting_kind i) in
-      five (has_ended (slice_get d.seats r)) (is_offer i && has_held (slice_get d.seats r)) (list_any (λ y. differs (kind_held y) (meeting_kind i)) d.seats)
-      (left_behind (event s d (r, i)).desk.seats) (are_left_behind ranks (before ++ (r, i) ∷ [])) (strange_offer s.header d.reached (offer_of i))
-      (λ e. left_is ranks (before ++ (r, i) ∷ []) (event s d (r, i)).desk (event_next s ranks before d kept r x at i (alone s ranks before d kept r x at i e)).kept)
+      five (has_ended (slice_get d.clients r)) (is_offer i && has_held (slice_get d.clients r)) (list_any (λ y. differs (kind_held y) (meeting_kind i)) d.clients)
+      (left_behind (event s d (r, i)).owner.clients) (are_left_behind ranks (before ++ (r, i) ∷ [])) (strange_offer s.header d.reached (offer_of i))
+      (λ e. left_is ranks (before ++ (r, i) ∷ []) (event s d (r, i)).owner (event_next s ranks before d kept r x at i (alone s ranks before d kept r x at i e)).kept)
       ∙ (λ j. some_true (ended j ∷ (is_offer i && held j) ∷ others j ∷ are_left_behind ranks (before ++ (r, i) ∷ []) ∷ strange_offer s.header d.reached (offer_of i) ∷ []))
 
   not_taken : is_strange s d (r, i) ≡ false → is_offer i ≡ true → x.held ≡ None
@@ -283,20 +283,20 @@ module _ (s : Setting) (ranks : ℕ) (before : List Arrival) (d : Desk) (kept : 
 
 -- ---- a run
 
-found : (s : Setting) (ranks reached : ℕ) (before : List Arrival) (d : Desk) (arrivals : List Arrival) → list_all (λ a. nat_lt a.0 ranks) arrivals ≡ true → Kept ranks before d → d.reached ≡ reached
+found : (s : Setting) (ranks reached : ℕ) (before : List Arrival) (d : Owner) (arrivals : List Arrival) → list_all (λ a. nat_lt a.0 ranks) arrivals ≡ true → Kept ranks before d → d.reached ≡ reached
     → (served s d arrivals).stranger ≡ first_stranger_from s ranks reached before arrivals
 found s ranks reached before d [] n kept e = refl
 found s ranks reached before d ((r, i) ∷ rest) n kept e =
     by (is_strange s d (r, i)) refl (λ reached' before' d' kept' e'. found s ranks reached' before' d' rest (and_second (nat_lt r ranks) _ n) kept' e')
   where
-    seat : (y : Seat) × (slice_get d.seats r ≡ Some y)
-    seat =
+    client : (y : Client) × (slice_get d.clients r ≡ Some y)
+    client =
         let low : r < ranks = ltb-true r ranks (and_first (nat_lt r ranks) _ n) in
         let long = kept.long in
-        entry_below d.seats r (omega arith)
+        entry_below d.clients r (omega arith)
 
     told_so : is_strange s d (r, i) ≡ is_strange_after s ranks reached before (r, i)
-    told_so = same_strange s ranks before d kept r seat.0 seat.1 i ∙ ap (λ (m : ℕ). is_strange_after s ranks m before (r, i)) e
+    told_so = same_strange s ranks before d kept r client.0 client.1 i ∙ ap (λ (m : ℕ). is_strange_after s ranks m before (r, i)) e
 
     goes : Bool → Option ℕ
     goes t = elim t as (λ z. Option ℕ) [
@@ -305,33 +305,33 @@ found s ranks reached before d ((r, i) ∷ rest) n kept e =
     ]
 
     by : (t : Bool) → is_strange s d (r, i) ≡ t
-        → ((reached' : ℕ) (before' : List Arrival) (d' : Desk) → Kept ranks before' d' → d'.reached ≡ reached' → (served s d' rest).stranger ≡ first_stranger_from s ranks reached' before' rest)
+        → ((reached' : ℕ) (before' : List Arrival) (d' : Owner) → Kept ranks before' d' → d'.reached ≡ reached' → (served s d' rest).stranger ≡ first_stranger_from s ranks reached' before' rest)
         → (served s d ((r, i) ∷ rest)).stranger ≡ first_stranger_from s ranks reached before ((r, i) ∷ rest)
     by true f again = stranger_on s d (r, i) rest f ∙ sym (ap goes (sym told_so ∙ f))
     by false f again =
-        let next = event_next s ranks before d kept r seat.0 seat.1 i (not_taken s ranks before d kept r seat.0 seat.1 i f) in
+        let next = event_next s ranks before d kept r client.0 client.1 i (not_taken s ranks before d kept r client.0 client.1 i f) in
         (served_on s d (r, i) rest f).stranger
-        ∙ again (max reached (needed_now s (puts_brought ranks before (r, i)))) (before ++ (r, i) ∷ []) (event s d (r, i)).desk next.kept
+        ∙ again (max reached (needed_now s (puts_brought ranks before (r, i)))) (before ++ (r, i) ∷ []) (event s d (r, i)).owner next.kept
         (next.reached ∙ ap (λ (m : ℕ). max m (needed_now s (puts_brought ranks before (r, i)))) e)
         ∙ sym (ap goes (sym told_so ∙ f))
 
-first_kept : (ranks r : ℕ) (c : Counted) → r < ranks → Kept ranks [] (first_desk (replicate ranks free_seat) c)
+first_kept : (ranks r : ℕ) (c : Counted) → r < ranks → Kept ranks [] (first_owner (replicate ranks free_client) c)
 first_kept ranks r c l =
-    let long = length-replicate ranks free_seat in
-    let own = entry_below (replicate ranks free_seat) r (omega arith) in
+    let long = length-replicate ranks free_client in
+    let own = entry_below (replicate ranks free_client) r (omega arith) in
     record {
       long = long;
       number = r;
       free = own.0;
       at_free = own.1;
-      is_free = ap (λ (x : Seat). x.held) (is_first r own.0 own.1);
-      count = λ q x e. sym (ap (λ (z : Seat). 0 + one_if z.held) (is_first q x e) ∙ (omega arith));
-      held = λ q x o e h. never q o (sym (ap (λ (z : Seat). z.held) (is_first q x e)) ∙ h);
-      ended = λ q x e. ap (λ (z : Seat). z.ended) (is_first q x e);
+      is_free = ap (λ (x : Client). x.held) (is_first r own.0 own.1);
+      count = λ q x e. sym (ap (λ (z : Client). 0 + one_if z.held) (is_first q x e) ∙ (omega arith));
+      held = λ q x o e h. never q o (sym (ap (λ (z : Client). z.held) (is_first q x e)) ∙ h);
+      ended = λ q x e. ap (λ (z : Client). z.ended) (is_first q x e);
     }
   where
-    is_first : (q : ℕ) (x : Seat) → slice_get (replicate ranks free_seat) q ≡ Some x → x ≡ free_seat
-    is_first q x e = get_replicate ranks free_seat q x e
+    is_first : (q : ℕ) (x : Client) → slice_get (replicate ranks free_client) q ≡ Some x → x ≡ free_client
+    is_first q x e = get_replicate ranks free_client q x e
 
     never : (q : ℕ) (o : Offer) → None ≡ Some o → last (meeting_offers q []) ≡ Some o
     never q o f = absurd cc
@@ -340,12 +340,12 @@ pub stranger_found : (script : Script) (header : Header) (file : List ℕ) (arri
     → list_all (λ a. nat_lt a.0 script.ranks) arrivals ≡ true
     → (run_of script header file arrivals).stranger ≡ first_stranger (setting_of script header) script.ranks header.records arrivals
 stranger_found script header file arrivals long n =
-    ap (λ (k : ℕ). (served (setting_of script header) (first_desk (replicate k free_seat) (record { file = file; records = header.records })) arrivals).stranger) long ∙ by arrivals n
+    ap (λ (k : ℕ). (served (setting_of script header) (first_owner (replicate k free_client) (record { file = file; records = header.records })) arrivals).stranger) long ∙ by arrivals n
   where
     by : (arrivals : List Arrival) → list_all (λ a. nat_lt a.0 script.ranks) arrivals ≡ true
-        → (served (setting_of script header) (first_desk (replicate script.ranks free_seat) (record { file = file; records = header.records })) arrivals).stranger
+        → (served (setting_of script header) (first_owner (replicate script.ranks free_client) (record { file = file; records = header.records })) arrivals).stranger
         ≡ first_stranger (setting_of script header) script.ranks header.records arrivals
     by [] h = refl
     by (a ∷ rest) h =
-        found (setting_of script header) script.ranks header.records [] (first_desk (replicate script.ranks free_seat) (record { file = file; records = header.records })) (a ∷ rest) h
+        found (setting_of script header) script.ranks header.records [] (first_owner (replicate script.ranks free_client) (record { file = file; records = header.records })) (a ∷ rest) h
         (first_kept script.ranks a.0 (record { file = file; records = header.records }) (ltb-true a.0 script.ranks (and_first (nat_lt a.0 script.ranks) _ h))) refl

@@ -14,10 +14,10 @@ use Rattle.nc_base.specs.declared.request.Part.{Part}
 use Rattle.nc_base.specs.declared.step.Offer.{Offer}
 use Rattle.serial_spec.specs.Fill.{boxes, share_begin}
 use Rattle.serial_spec.specs.Layout.{inner_lengths, product}
-use Rattle.serial_spec.specs.Looking.{box_post, look_fill}
+use Rattle.serial_spec.specs.Looks.{box_post, look_fill}
 use Rattle.serial_spec.specs.RankMachine.{code_of_look}
 use Rattle.serial_spec.specs.SerialEnd.{Going}
-use Rattle.run_laws.specs.Standing.{HasCome}
+use Rattle.run_laws.specs.Ahead.{HasCome}
 
 abbrev pub share_boxes : List ℕ → ℕ → ℕ → List Part
 share_boxes lengths r ranks = boxes lengths (share_begin (product lengths) r ranks) (share_begin (product lengths) (r + 1) ranks)

@@ -13,7 +13,7 @@ use Rattle.nc_base.specs.declared.step.MeetKind.{MeetKind}
 use Rattle.nc_base.specs.declared.step.Offer.{Offer}
 use Rattle.nc_base.specs.declared.step.RankItem.{RankItem}
 use Rattle.nc_base.specs.declared.step.RankItem.TheVariants as item
-use Rattle.serial_spec.specs.Desk.{differs, left_by, needed_now, some_true, strange_offer}
+use Rattle.serial_spec.specs.Owner.{differs, left_by, needed_now, some_true, strange_offer}
 use Rattle.serial_spec.specs.FileStep.{puts_of, Setting}
 use Rattle.serial_spec.specs.History.{Arrival, is_from, is_offer, kind_of_meeting, meeting_kind, offer_of, option_then}
 use Rattle.serial_spec.specs.SharedByte.{Puts}

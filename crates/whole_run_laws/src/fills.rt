@@ -18,7 +18,7 @@ ghost use Rattle.serial_spec.specs.History.{IsLegal};
 ghost use Rattle.serial_spec.specs.Lawful.{is_lawful};
 ghost use Rattle.serial_spec.specs.Layout.{inner_lengths, is_record};
 ghost use Rattle.serial_spec.specs.Place.{IsIndex, place};
-ghost use Rattle.serial_spec.specs.Looking.{find_var, look_record};
+ghost use Rattle.serial_spec.specs.Looks.{find_var, look_record};
 ghost use Rattle.serial_spec.specs.RankMachine.{code_of_look, posts_of};
 ghost use Rattle.serial_spec.specs.Request.{coordinates};
 ghost use Rattle.serial_spec.specs.SerialEnd.{Going, serial, state_after};

@@ -4,19 +4,19 @@ ghost use Rattle.serial_spec.specs.File.{written};
 ghost use Rattle.nc_outside.specs.declared.disk.DiskErr.TheVariants.{Memory};
 ghost use Rattle.overlay_laws.specs.Lines.{extents, EndBelow};
 ghost use Rattle.data_sieving.specs.Sieving.{AreFilled};
-ghost use Rattle.data_sieving.specs.Serving.{buffer_cell};
+ghost use Rattle.data_sieving.specs.Walked.{buffer_cell};
 ghost use Rattle.piece_exchange.specs.Blobs.{blob_at, with_blob, AreAsLong, FitTable, HasCollected, HaveOnePlaces};
 ghost use Rattle.piece_exchange.specs.Cursor.{entries_in};
 ghost use Rattle.piece_exchange.specs.Gets.{IsGetPlanned};
 ghost use Rattle.piece_exchange.specs.Lenders.{AreReady};
 ghost use Rattle.piece_exchange.specs.Logs.{HasTakenTurn, HaveTakenTurns, IsKept, IsShelfIn};
 ghost use Rattle.piece_exchange.specs.Shelves.{turns_due};
-ghost use Rattle.piece_exchange.specs.declared.gets.starting.ReadSeat.{ReadSeat};
+ghost use Rattle.piece_exchange.specs.declared.gets.starting.ReadWorker.{ReadWorker};
 
-use crate::gets::lending::Lenders;
+use crate::gets::buffers::Lenders;
 use crate::gets::reading::Reading;
 use crate::gets::shelf::Shelf;
-use crate::gets::starting::ReadSeat;
+use crate::gets::starting::ReadWorker;
 use crate::gets::walk::ReadTurn;
 use crate::plan::GetPlan;
 use crate::walk::next_window;
@@ -30,25 +30,25 @@ use std::sync::Wait;
 pub(crate) fn take_all<R: Wait, D: Disk>(
     rt: &R,
     plan: &GetPlan,
-    seats: &mut [ReadSeat<D>],
+    workers: &mut [ReadWorker<D>],
     lenders: &mut Lenders,
     table: &mut [BlobList],
 ) -> Result<(), DiskErr>
     requires plan { IsGetPlanned plan.now }
     requires one_place { HaveOnePlaces plan.now.list.now }
     requires lenders { AreReady lenders.old.each.items }
-    requires ready { (k : ℕ) (seat : ReadSeat D) → slice_get seats.old k ≡ Some seat → IsShelfIn plan.now.list.now seat.shelf }
+    requires ready { (k : ℕ) (worker : ReadWorker D) → slice_get workers.old k ≡ Some worker → IsShelfIn plan.now.list.now worker.shelf }
     requires fit { FitTable table.old plan.now.list.now }
-    ensures long { length seats.new ≡ length seats.old }
-    ensures kept { (k : ℕ) (old new : ReadSeat D) → slice_get seats.old k ≡ Some old → slice_get seats.new k ≡ Some new → IsKept old new }
-    ensures none { (k : ℕ) (seat : ReadSeat D) → slice_get seats.new k ≡ Some seat → turns_due seat.shelf ≡ [] }
+    ensures long { length workers.new ≡ length workers.old }
+    ensures kept { (k : ℕ) (old new : ReadWorker D) → slice_get workers.old k ≡ Some old → slice_get workers.new k ≡ Some new → IsKept old new }
+    ensures none { (k : ℕ) (worker : ReadWorker D) → slice_get workers.new k ≡ Some worker → turns_due worker.shelf ≡ [] }
     ensures blobs { AreAsLong table.old table.new }
-    ensures taken { OnOk result (HaveTakenTurns plan.now.list.now seats.old seats.new table.old table.new) }
+    ensures taken { OnOk result (HaveTakenTurns plan.now.list.now workers.old workers.new table.old table.new) }
     ensures memory { IfErr result (λ e. e ≡ Memory) }
 {
     let mut end = Ok(());
-    'rounds: while let Some(k) = least_round(seats) {
-        let shelf = &mut seats[k].shelf;
+    'rounds: while let Some(k) = least_round(workers) {
+        let shelf = &mut workers[k].shelf;
         let (came, blob) = take_turn(rt, plan, shelf, table);
         end = end.and(came);
         hand_on(rt, lenders, k, shelf.next.is_none(), blob);
@@ -68,14 +68,14 @@ fn hand_on<R: Wait>(rt: &R, lenders: &mut Lenders, number: usize, ended: bool, b
 }
 
 // The first of the helpers whose next window is of the least round.
-fn least_round<D: Disk>(seats: &[ReadSeat<D>]) -> Option<usize>
-    ensures some { IfSome result (λ k. (k < length seats.now) × ((seat : ReadSeat D) → slice_get seats.now k ≡ Some seat → turns_due seat.shelf ≡ [] → ⊥)) }
-    ensures none { IfNone result ((k : ℕ) (seat : ReadSeat D) → slice_get seats.now k ≡ Some seat → turns_due seat.shelf ≡ []) }
+fn least_round<D: Disk>(workers: &[ReadWorker<D>]) -> Option<usize>
+    ensures some { IfSome result (λ k. (k < length workers.now) × ((worker : ReadWorker D) → slice_get workers.now k ≡ Some worker → turns_due worker.shelf ≡ [] → ⊥)) }
+    ensures none { IfNone result ((k : ℕ) (worker : ReadWorker D) → slice_get workers.now k ≡ Some worker → turns_due worker.shelf ≡ []) }
 {
     let mut least = None;
     let mut round = None;
-    for (k, seat) in seats.iter().enumerate() {
-        let earlier = round_before(&seat.shelf, round);
+    for (k, worker) in workers.iter().enumerate() {
+        let earlier = round_before(&worker.shelf, round);
         if earlier.is_some() {
             least = Some(k);
             round = earlier;

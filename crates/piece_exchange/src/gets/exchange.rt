@@ -6,7 +6,7 @@ ghost use Rattle.nc_outside.specs.Cause.{Rose};
 ghost use Rattle.nc_outside.specs.declared.disk.DiskErr.TheVariants.{Failed};
 ghost use Rattle.overlay_laws.specs.Entries.{In};
 ghost use Rattle.serial_spec.specs.File.{read};
-ghost use Rattle.data_sieving.specs.Serving.{IsCovered};
+ghost use Rattle.data_sieving.specs.Walked.{IsCovered};
 ghost use Rattle.piece_exchange.specs.Blobs.{AreAsLong, FitTable, HasRead, HaveOnePlaces};
 ghost use Rattle.piece_exchange.specs.Gets.{get_turns, HasGot, IsGetPlanned};
 ghost use Rattle.piece_exchange.specs.Lenders.{AreReady};
@@ -16,11 +16,11 @@ ghost use Rattle.piece_exchange.specs.Put.{SomeZip};
 ghost use Rattle.piece_exchange.specs.Rooms.{HasRooms};
 
 use crate::crew::{Crew, give_back, make_rooms};
+use crate::gets::buffers::{Lending, lending_of};
 use crate::gets::collecting::take_all;
 use crate::gets::in_turn::get_in_turn;
-use crate::gets::joining::{join_all, tell_all};
-use crate::gets::lending::{Lending, lending_of};
-use crate::gets::starting::{ReadSeat, Supply, start_all, stop_all};
+use crate::gets::results::{join_all, tell_all};
+use crate::gets::starting::{ReadWorker, Supply, start_all, stop_all};
 use crate::plan::{GetPlan, Tools};
 use nc_base::{BlobList, Extent, GotTable};
 use nc_outside::{Disk, DiskErr, Gate};
@@ -74,7 +74,7 @@ pub fn exchange_get<R: Threads + Wait + Sync, D: Disk, G: Gate>(
 struct Fetching<'a, D: Disk> {
     parts: Vec<D>,
     table: Vec<BlobList>,
-    crew: Crew<ReadSeat<'a, D>, D>,
+    crew: Crew<ReadWorker<'a, D>, D>,
     lending: Lending<'a>,
 }
 
@@ -140,7 +140,7 @@ fn get_on_threads<R: Threads + Wait + Sync, D: Disk, G: Gate>(
             requires { IsGetPlanned plan.now × AreReady work.lending.lenders.each.items × (1 ≤ plan.now.hints.now.line_room) × (plan.now.hints.now.line_room ≤ 64) × (length domains.now ≤ 64) × (length domains.now ≡ length work.parts.items)
                 × ((k : ℕ) (part : D) (domain : Extent) → slice_get work.parts.items k ≡ Some part → slice_get domains.now k ≡ Some domain → IsDomainOf plan.now.list.now (D.from part) (D.len part) domain)
                 × FitTable work.table.items plan.now.list.now × HaveOnePlaces plan.now.list.now
-                × HasRooms (length work.parts.items) work.crew.seats.items work.crew.rest.items work.crew.back.items (vec_capacity work.crew.seats) (vec_capacity work.crew.rest) (vec_capacity work.crew.back) }
+                × HasRooms (length work.parts.items) work.crew.workers.items work.crew.rest.items work.crew.back.items (vec_capacity work.crew.workers) (vec_capacity work.crew.rest) (vec_capacity work.crew.back) }
             ensures got { IfSome result.end (λ end. AllZip (λ p new. HasGot (get_turns plan.entry.now p.1)
                 (record { from = D.from p.0; len = D.len p.0; held = D.held p.0; calls = D.calls p.0; faults = D.faults p.0 })
                 (record { from = D.from new; len = D.len new; held = D.held new; calls = D.calls new; faults = D.faults new }) end) (zip work.entry.parts.items domains.entry.now) result.back.items) }
@@ -169,7 +169,7 @@ fn get_in_scope<'s, E, R: Threads + Wait + Sync, D: Disk + 's, G: Gate>(
     requires fit { FitTable work.table.items plan.now.list.now }
     requires one_place { HaveOnePlaces plan.now.list.now }
     requires lenders { AreReady work.lending.lenders.each.items }
-    requires rooms { HasRooms (length work.parts.items) work.crew.seats.items work.crew.rest.items work.crew.back.items (vec_capacity work.crew.seats) (vec_capacity work.crew.rest) (vec_capacity work.crew.back) }
+    requires rooms { HasRooms (length work.parts.items) work.crew.workers.items work.crew.rest.items work.crew.back.items (vec_capacity work.crew.workers) (vec_capacity work.crew.rest) (vec_capacity work.crew.back) }
     ensures got { IfSome result.end (λ end. AllZip (λ p new. HasGot (get_turns plan.now p.1)
         (record { from = D.from p.0; len = D.len p.0; held = D.held p.0; calls = D.calls p.0; faults = D.faults p.0 })
         (record { from = D.from new; len = D.len new; held = D.held new; calls = D.calls new; faults = D.faults new }) end) (zip work.entry.parts.items domains.now) result.back.items) }
@@ -197,18 +197,18 @@ fn get_in_scope<'s, E, R: Threads + Wait + Sync, D: Disk + 's, G: Gate>(
         &mut crew,
     );
     let Crew {
-        mut seats,
+        mut workers,
         rest,
         mut back,
     } = crew;
     if !rest.is_empty() || lenders.lend_first(tools, plan, domains).is_err() {
-        stop_all(tools.rt, plan, seats, &mut back);
+        stop_all(tools.rt, plan, workers, &mut back);
         give_back(rest, &mut back);
         return untouched(back, table);
     }
-    tell_all(tools.rt, &mut seats);
-    let came = take_all(tools.rt, plan, &mut seats, &mut lenders, &mut table);
-    let end = join_all(tools.rt, plan, seats, &mut back);
+    tell_all(tools.rt, &mut workers);
+    let came = take_all(tools.rt, plan, &mut workers, &mut lenders, &mut table);
+    let end = join_all(tools.rt, plan, workers, &mut back);
     Fetched {
         back,
         table,

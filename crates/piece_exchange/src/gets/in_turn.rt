@@ -30,7 +30,7 @@ use std::sync::Wait;
 
 /// What the parts are read with, one after another: the blobs, and a buffer that holds the longest hull.
 #[derive(Drop)]
-struct Desk {
+struct ReadRoom {
     table: Vec<BlobList>,
     buf: Vec<u8>,
 }
@@ -62,12 +62,12 @@ pub(crate) fn get_in_turn<R: Wait, D: Disk, G: Gate>(
     let Ok(buf) = vec![in tools.alloc; 0; longest(plan.hints.cb_buffer, domains) as usize] else {
         return (parts, Err(DiskErr::Memory));
     };
-    let mut desk = Desk {
+    let mut room = ReadRoom {
         table: into.take().into_vec(),
         buf,
     };
-    let came = read_parts(tools, plan, domains, parts, back, &mut desk);
-    *into = GotTable::from_vec(desk.table);
+    let came = read_parts(tools, plan, domains, parts, back, &mut room);
+    *into = GotTable::from_vec(room.table);
     came
 }
 
@@ -78,7 +78,7 @@ fn read_parts<R: Wait, D: Disk, G: Gate>(
     domains: &[Extent],
     parts: Vec<D>,
     back: Vec<D>,
-    desk: &mut Desk,
+    room: &mut ReadRoom,
 ) -> (Vec<D>, Result<(), DiskErr>)
     requires plan { IsGetPlanned plan.now }
     requires few { length domains.now ≤ 64 }
@@ -86,14 +86,14 @@ fn read_parts<R: Wait, D: Disk, G: Gate>(
     requires domains { (k : ℕ) (part : D) (domain : Extent) → slice_get parts.items k ≡ Some part → slice_get domains.now k ≡ Some domain → IsDomainOf plan.now.list.now (D.from part) (D.len part) domain }
     requires none { back.items ≡ [] }
     requires back_room { length parts.items ≤ vec_capacity back }
-    requires buf_room { (domain : Extent) → In domains.now domain → min plan.now.hints.now.cb_buffer domain.len ≤ length desk.old.buf.items }
-    requires fit { FitTable desk.old.table.items plan.now.list.now }
+    requires buf_room { (domain : Extent) → In domains.now domain → min plan.now.hints.now.cb_buffer domain.len ≤ length room.old.buf.items }
+    requires fit { FitTable room.old.table.items plan.now.list.now }
     requires one_place { HaveOnePlaces plan.now.list.now }
     ensures got { AllZip (λ p new. HasGot (get_turns plan.now p.1)
         (record { from = D.from p.0; len = D.len p.0; held = D.held p.0; calls = D.calls p.0; faults = D.faults p.0 })
         (record { from = D.from new; len = D.len new; held = D.held new; calls = D.calls new; faults = D.faults new }) result.1) (zip parts.items domains.now) result.0.items }
-    ensures read { OnOk result.1 (HasReadParts (λ part. D.from part) (λ part. D.held part) plan.now (zip parts.items domains.now) desk.old.table.items desk.new.table.items) }
-    ensures blobs { AreAsLong desk.old.table.items desk.new.table.items }
+    ensures read { OnOk result.1 (HasReadParts (λ part. D.from part) (λ part. D.held part) plan.now (zip parts.items domains.now) room.old.table.items room.new.table.items) }
+    ensures blobs { AreAsLong room.old.table.items room.new.table.items }
     ensures failed { IsErrOf result.1 Failed → SomeZip (λ old new. Rose (D.faults old) (D.faults new)) parts.items result.0.items }
 {
     let mut back = back;
@@ -104,7 +104,7 @@ fn read_parts<R: Wait, D: Disk, G: Gate>(
             number: number as u32,
             domain: domains[number],
         };
-        let (part, came) = read_next(tools, plan, aggregator, part, desk, end);
+        let (part, came) = read_next(tools, plan, aggregator, part, room, end);
         back.push_reserved(part);
         end = came;
     }
@@ -117,21 +117,21 @@ fn read_next<R: Wait, D: Disk, G: Gate>(
     plan: &GetPlan,
     aggregator: Aggregator,
     part: D,
-    desk: &mut Desk,
+    room: &mut ReadRoom,
     before: Result<(), DiskErr>,
 ) -> (D, Result<(), DiskErr>)
     requires plan { IsGetPlanned plan.now }
     requires domain { IsDomainOf plan.now.list.now (D.from part) (D.len part) aggregator.domain }
-    requires room { min plan.now.hints.now.cb_buffer aggregator.domain.len ≤ length desk.old.buf.items }
-    requires fit { FitTable desk.old.table.items plan.now.list.now }
+    requires room { min plan.now.hints.now.cb_buffer aggregator.domain.len ≤ length room.old.buf.items }
+    requires fit { FitTable room.old.table.items plan.now.list.now }
     requires one_place { HaveOnePlaces plan.now.list.now }
     ensures got { HasGot (get_turns plan.now aggregator.domain)
         (record { from = D.from part; len = D.len part; held = D.held part; calls = D.calls part; faults = D.faults part })
         (record { from = D.from result.0; len = D.len result.0; held = D.held result.0; calls = D.calls result.0; faults = D.faults result.0 }) result.1 }
     ensures ok { OnOk result.1 (IsOk before) }
-    ensures read { OnOk result.1 (HasReadTurns plan.now.list.now (get_turns plan.now aggregator.domain) (D.from part) (D.held part) desk.old.table.items desk.new.table.items) }
-    ensures blobs { AreAsLong desk.old.table.items desk.new.table.items }
-    ensures buf { length desk.new.buf.items ≡ length desk.old.buf.items }
+    ensures read { OnOk result.1 (HasReadTurns plan.now.list.now (get_turns plan.now aggregator.domain) (D.from part) (D.held part) room.old.table.items room.new.table.items) }
+    ensures blobs { AreAsLong room.old.table.items room.new.table.items }
+    ensures buf { length room.new.buf.items ≡ length room.old.buf.items }
     ensures failed { IsErrOf result.1 Failed → IsErrOf before Failed ⊎ Rose (D.faults part) (D.faults result.0) }
 {
     if let Err(fault) = before {
@@ -143,8 +143,8 @@ fn read_next<R: Wait, D: Disk, G: Gate>(
         plan,
         aggregator,
         &mut part,
-        &mut desk.buf,
-        &mut desk.table,
+        &mut room.buf,
+        &mut room.table,
     );
     (part, end)
 }

@@ -5,7 +5,7 @@ ghost use Rattle.overlay_laws.specs.Entries.{In};
 ghost use Rattle.piece_exchange.specs.Gets.{IsGetPlanned};
 ghost use Rattle.piece_exchange.specs.Plan.{IsDomainOf};
 ghost use Rattle.piece_exchange.specs.Shelves.{domain_of, part_of, IsFresh};
-ghost use Rattle.piece_exchange.specs.declared.gets.starting.ReadSeat.{ReadSeat};
+ghost use Rattle.piece_exchange.specs.declared.gets.starting.ReadWorker.{ReadWorker};
 
 use crate::crew::{Crew, Ends, Word, stopped};
 use crate::gets::helper::{GetHelper, GetLines, start};
@@ -20,7 +20,7 @@ use std::thread::{Scope, Threads};
 
 /// A helper, and the calling thread's end of its line of readings.
 #[derive(Drop)]
-pub(crate) struct ReadSeat<'a, D: Disk> {
+pub(crate) struct ReadWorker<'a, D: Disk> {
     pub helper: GetHelper<D>,
     pub shelf: Shelf<'a>,
 }
@@ -39,7 +39,7 @@ pub(crate) fn start_all<'s, E, D: Disk + 's, G: Gate, R: Threads + Wait + Sync>(
     plan: &'s GetPlan<'s>,
     domains: &[Extent],
     supply: Supply<D>,
-    crew: &mut Crew<ReadSeat<'s, D>, D>,
+    crew: &mut Crew<ReadWorker<'s, D>, D>,
 )
     requires plan { IsGetPlanned plan.now }
     requires line_low { 1 ≤ plan.now.hints.now.line_room }
@@ -47,25 +47,25 @@ pub(crate) fn start_all<'s, E, D: Disk + 's, G: Gate, R: Threads + Wait + Sync>(
     requires few { length domains.now ≤ 64 }
     requires one_each { length domains.now ≡ length supply.parts.items }
     requires domains { (k : ℕ) (part : D) (domain : Extent) → slice_get supply.parts.items k ≡ Some part → slice_get domains.now k ≡ Some domain → IsDomainOf plan.now.list.now (D.from part) (D.len part) domain }
-    requires seats { crew.old.seats.items ≡ [] }
+    requires workers { crew.old.workers.items ≡ [] }
     requires rest { crew.old.rest.items ≡ [] }
-    requires seats_room { length supply.parts.items ≤ vec_capacity crew.old.seats }
+    requires workers_room { length supply.parts.items ≤ vec_capacity crew.old.workers }
     requires rest_room { length supply.parts.items ≤ vec_capacity crew.old.rest }
-    ensures parts { map (λ seat. part_of seat) crew.new.seats.items ++ crew.new.rest.items ≡ supply.parts.items }
+    ensures parts { map (λ worker. part_of worker) crew.new.workers.items ++ crew.new.rest.items ≡ supply.parts.items }
     ensures back { crew.new.back ≡ crew.old.back }
-    ensures domains { map (λ seat. domain_of seat) crew.new.seats.items ≡ take (length crew.new.seats.items) domains.now }
-    ensures seats { (seat : ReadSeat D) → In crew.new.seats.items seat → IsFresh plan.now seat }
+    ensures domains { map (λ worker. domain_of worker) crew.new.workers.items ≡ take (length crew.new.workers.items) domains.now }
+    ensures workers { (worker : ReadWorker D) → In crew.new.workers.items worker → IsFresh plan.now worker }
 {
     let Supply { parts, mut spares } = supply;
     for part in parts {
         if crew.rest.is_empty() {
-            let number = crew.seats.len();
+            let number = crew.workers.len();
             let aggregator = Aggregator {
                 number: number as u32,
                 domain: domains[number],
             };
             match start_one(scope, tools, plan, aggregator, part, spares.pop()) {
-                Ok(seat) => crew.seats.push_reserved(seat),
+                Ok(worker) => crew.workers.push_reserved(worker),
                 Err(part) => crew.rest.push_reserved(part),
             }
         } else {
@@ -82,15 +82,15 @@ fn start_one<'s, E, D: Disk + 's, G: Gate, R: Threads + Wait + Sync>(
     aggregator: Aggregator,
     part: D,
     spare: Option<LineTake<Blob>>,
-) -> Result<ReadSeat<'s, D>, D>
+) -> Result<ReadWorker<'s, D>, D>
     requires plan { IsGetPlanned plan.now }
     requires line_low { 1 ≤ plan.now.hints.now.line_room }
     requires line_high { plan.now.hints.now.line_room ≤ 64 }
     requires domain { IsDomainOf plan.now.list.now (D.from part) (D.len part) aggregator.domain }
     ensures kept { IfErr result (λ back. back ≡ part) }
-    ensures seat { IfOk result (λ seat. IsFresh plan.now seat) }
-    ensures part { IfOk result (λ seat. part_of seat ≡ part) }
-    ensures domain { IfOk result (λ seat. domain_of seat ≡ aggregator.domain) }
+    ensures worker { IfOk result (λ worker. IsFresh plan.now worker) }
+    ensures part { IfOk result (λ worker. part_of worker ≡ part) }
+    ensures domain { IfOk result (λ worker. domain_of worker ≡ aggregator.domain) }
 {
     let Ok((go, word)) = line::<Word>(tools.alloc, 1) else {
         return Err(part);
@@ -108,23 +108,23 @@ fn start_one<'s, E, D: Disk + 's, G: Gate, R: Threads + Wait + Sync>(
     };
     let helper = start(scope, tools, plan, aggregator, go, ends)?;
     let shelf = shelf_of(tools.alloc, plan, aggregator.domain, taken);
-    Ok(ReadSeat { helper, shelf })
+    Ok(ReadWorker { helper, shelf })
 }
 
 /// Tells the helpers to stop, and joins them. Their parts come back as they were, in order.
 pub(crate) fn stop_all<R: Threads + Wait, D: Disk>(
     rt: &R,
     plan: &GetPlan,
-    seats: Vec<ReadSeat<D>>,
+    workers: Vec<ReadWorker<D>>,
     back: &mut Vec<D>,
 )
-    requires each { (seat : ReadSeat D) → In seats.items seat → IsFresh plan.now seat }
-    requires room { length back.old.items + length seats.items ≤ vec_capacity back.old }
-    ensures parts { back.new.items ≡ back.old.items ++ map (λ seat. part_of seat) seats.entry.items }
+    requires each { (worker : ReadWorker D) → In workers.items worker → IsFresh plan.now worker }
+    requires room { length back.old.items + length workers.items ≤ vec_capacity back.old }
+    ensures parts { back.new.items ≡ back.old.items ++ map (λ worker. part_of worker) workers.entry.items }
     ensures room { vec_capacity back.new ≡ vec_capacity back.old }
 {
-    for seat in seats {
-        back.push_reserved(stop_one(rt, seat.helper));
+    for worker in workers {
+        back.push_reserved(stop_one(rt, worker.helper));
     }
 }
 

@@ -2,7 +2,7 @@
 ghost use Rattle.std.specs.Prelude.{◌≡◌, ◌+◌, ◌^◌, ◌<◌, min};
 ghost use Rattle.overlay_laws.specs.Lines.{extents, EndBelow, IsByPlace};
 ghost use Rattle.file_domains.specs.Rounds.{IsWalk};
-ghost use Rattle.data_sieving.specs.Serving.{entries_left, IsPast};
+ghost use Rattle.data_sieving.specs.Walked.{entries_left, IsPast};
 ghost use Rattle.data_sieving.specs.Sieving.{AreFilled};
 ghost use Rattle.piece_exchange.specs.Cursor.{entries_in, AreInFront, IsAt};
 ghost use Rattle.piece_exchange.specs.Gets.{get_turns, IsGetPlanned};

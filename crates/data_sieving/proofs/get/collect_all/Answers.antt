@@ -5,7 +5,7 @@ use Rattle.overlay_laws.proofs.Members.{entry_in}
 use Rattle.nc_base.specs.declared.plan.Owned.{Owned}
 use Rattle.serial_spec.specs.Said.{write_cells}
 use Rattle.data_sieving.specs.Sieving.{of_slot, blob_at}
-use Rattle.data_sieving.specs.Serving.{buffer_cell}
+use Rattle.data_sieving.specs.Walked.{buffer_cell}
 use Rattle.data_sieving.proofs.SplitSteps.{entry_ends}
 use Rattle.data_sieving.proofs.CollectedSteps.{fit_as_long, as_long_twice, slot_below, collected_more, collected_long}
 use Rattle.data_sieving.proofs.get.collect_all.Goals as goal

@@ -8,7 +8,7 @@ use Rattle.nc_outside.specs.Told.{with_end}
 use Rattle.nc_base.specs.declared.step.DiskCall.{DiskCall}
 use Rattle.overlay_laws.specs.Changes.{IsBegun}
 use Rattle.data_sieving.specs.Sieving.{windows_of, AreAsLong, HasGot}
-use Rattle.data_sieving.specs.Serving.{entries_in, entries_left, HasDone, HasGotPart, IsNext, windows_from}
+use Rattle.data_sieving.specs.Walked.{entries_in, entries_left, HasDone, HasGotPart, IsNext, windows_from}
 use Rattle.data_sieving.proofs.PastSteps.{past_twice}
 use Rattle.data_sieving.proofs.WindowSteps.{goes_on}
 use Rattle.data_sieving.proofs.CallSteps.{none_begun}

@@ -3,7 +3,7 @@ use Rattle.std.proofs.Common.{◌≡◌, ◌-◌, ◌^◌, ◌≤◌, length}
 use Rattle.std.specs.Prelude.{flat_map, IfSome}
 use Rattle.serial_spec.specs.DeviceCalls.{loads}
 use Rattle.data_sieving.specs.Sieving.{windows_of, AreAsLong}
-use Rattle.data_sieving.specs.Serving.{entries_left, IsPast, AreLeft, HasDone, HaveBegun, HasGotPart, windows_from}
+use Rattle.data_sieving.specs.Walked.{entries_left, IsPast, AreLeft, HasDone, HaveBegun, HasGotPart, windows_from}
 use Rattle.data_sieving.proofs.get.sieve_get.Given as goal
 
 abbrev pub invariant-windows : goal.invariant-windows

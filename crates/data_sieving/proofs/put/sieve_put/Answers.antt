@@ -5,7 +5,7 @@ use Rattle.serial_spec.specs.DeviceCalls.{overlays}
 use Rattle.nc_outside.specs.Told.{with_end}
 use Rattle.overlay_laws.specs.Changes.{IsBegun}
 use Rattle.data_sieving.specs.Sieving.{source_of, windows_of}
-use Rattle.data_sieving.specs.Serving.{entries_in, entries_left, HasDone, IsNext, windows_from}
+use Rattle.data_sieving.specs.Walked.{entries_in, entries_left, HasDone, IsNext, windows_from}
 use Rattle.data_sieving.proofs.PastSteps.{past_twice}
 use Rattle.data_sieving.proofs.WindowSteps.{goes_on}
 use Rattle.data_sieving.proofs.PutSteps.{covered_place}

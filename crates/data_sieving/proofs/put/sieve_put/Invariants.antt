@@ -4,7 +4,7 @@ use Rattle.std.specs.Prelude.{flat_map}
 use Rattle.nc_outside.specs.Told.{after}
 use Rattle.serial_spec.specs.DeviceCalls.{overlays}
 use Rattle.data_sieving.specs.Sieving.{put_cells, windows_of}
-use Rattle.data_sieving.specs.Serving.{entries_left, IsPast, AreLeft, HasDone, HaveBegun, windows_from}
+use Rattle.data_sieving.specs.Walked.{entries_left, IsPast, AreLeft, HasDone, HaveBegun, windows_from}
 use Rattle.data_sieving.proofs.PutSteps.{file_to}
 use Rattle.data_sieving.proofs.put.sieve_put.Given as goal
 

@@ -2,7 +2,7 @@
 use Rattle.std.proofs.Common.{◌∙◌, ap, subst, List, max, min, arith, ℕ}
 use Rattle.std.proofs.lemmas.List.{take_all}
 use Rattle.nc_base.specs.declared.plan.Owned.{Owned}
-use Rattle.data_sieving.specs.Serving.{Reach}
+use Rattle.data_sieving.specs.Walked.{Reach}
 use Rattle.data_sieving.proofs.SplitSteps.{entry_ends}
 use Rattle.data_sieving.proofs.HullSteps.{reach_none, reach_more}
 use Rattle.data_sieving.proofs.walk.reach.Goals as goal

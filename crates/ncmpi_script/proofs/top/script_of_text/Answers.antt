@@ -5,7 +5,7 @@ use Rattle.std.proofs.lemmas.Bool.Decides.{nat_tests}
 use Rattle.nc_base.specs.declared.errors.ScriptErr.{ScriptErr}
 use Rattle.nc_base.specs.declared.script.Script.{Script}
 use Rattle.script_spec.specs.ScriptGrammar.{most_bytes}
-use Rattle.script_words.specs.Reading.{GivesAt}
+use Rattle.script_words.specs.Given.{GivesAt}
 use Rattle.ncmpi_script.proofs.TopLaws.{text_is}
 use Rattle.ncmpi_script.proofs.top.script_of_text.Goals as goal
 

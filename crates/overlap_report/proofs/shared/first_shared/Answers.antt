@@ -1,7 +1,7 @@
 -- An entry shares a byte with those before it where one of another request reaches past its begin.
 use Rattle.std.proofs.Common.{◌≡◌, ℕ, ◌+◌, ◌^◌, ◌<◌, ◌≤◌, take, get_or, subst, sym, ◌∙◌, cond, arith}
 use Rattle.overlap_report.specs.declared.shared.Reach.{Reach}
-use Rattle.overlap_report.specs.Reaching.{same_as}
+use Rattle.overlap_report.specs.Reach.{same_as}
 use Rattle.overlap_report.proofs.CoverSteps.{entry_ends}
 use Rattle.overlap_report.proofs.KeySteps.{nothing, next_at}
 use Rattle.overlap_report.proofs.SharedSteps.{Reaches, reach_next, reach_same, first_found, all_clear}

@@ -9,79 +9,79 @@ use Rattle.overlay_laws.specs.Entries.{In}
 use Rattle.overlay_laws.proofs.Members.{at_in}
 use Rattle.piece_exchange.specs.Plan.{planned_turns, source_in}
 use Rattle.piece_exchange.specs.Put.{HasPut, PartState, SomeZip}
-use Rattle.piece_exchange.specs.Seats.{domain_of, part_of, HasFed, IsToldToGo}
-use Rattle.piece_exchange.specs.declared.starting.Seat.{Seat}
+use Rattle.piece_exchange.specs.Workers.{domain_of, part_of, HasFed, IsToldToGo}
+use Rattle.piece_exchange.specs.declared.starting.Worker.{Worker}
 use Rattle.piece_exchange.proofs.BackLaws.{no_items, slice_kept}
 use Rattle.piece_exchange.proofs.FeedLaws.{fits_more}
-use Rattle.piece_exchange.proofs.SeatLaws.{all_failed, all_put, done_by, fed_seats, told_seats}
+use Rattle.piece_exchange.proofs.WorkerLaws.{all_failed, all_put, done_by, fed_workers, told_workers}
 use Rattle.piece_exchange.proofs.exchange.put_in_scope.Goals as goal
 
 pub pack_all-requires-clause-ready : goal.pack_all-requires-clause-ready
 pack_all-requires-clause-ready g c κs within =
-    let first = c.start_all.new.crew.seats.items in
-    let mid = c.tell_all.new.seats in
-    let n : c.start_all.new.crew.seats.len ≡ length first = first_of (search rules, grind (arith, common_steps)) in
+    let first = c.start_all.new.crew.workers.items in
+    let mid = c.tell_all.new.workers in
+    let n : c.start_all.new.crew.workers.len ≡ length first = first_of (search rules, grind (arith, common_steps)) in
     let lent = c.deref_mut.ensures.value in
-    let long : length mid ≡ length first = c.tell_all.ensures.long ∙ ap (λ (ss : List (Seat g.row.D.Denot)). length ss) lent in
-    let again : c.deref_mut-2.result.now ≡ mid = c.deref_mut-2.ensures.value ∙ slice_kept c.start_all.new.crew.seats.len mid first n long in
-    let told = subst (λ (ss : List (Seat g.row.D.Denot)). (k : ℕ) (a b : Seat g.row.D.Denot) → slice_get ss k ≡ Some a → slice_get mid k ≡ Some b → IsToldToGo a b) lent c.tell_all.ensures.told in
-    λ k seat e.
-    (told_seats c.args.plan.now first mid long told c.start_all.ensures.seats seat
-    (at_in mid k seat (subst (λ (ss : List (Seat g.row.D.Denot)). slice_get ss k ≡ Some seat) again e))).ready
+    let long : length mid ≡ length first = c.tell_all.ensures.long ∙ ap (λ (ss : List (Worker g.row.D.Denot)). length ss) lent in
+    let again : c.deref_mut-2.result.now ≡ mid = c.deref_mut-2.ensures.value ∙ slice_kept c.start_all.new.crew.workers.len mid first n long in
+    let told = subst (λ (ss : List (Worker g.row.D.Denot)). (k : ℕ) (a b : Worker g.row.D.Denot) → slice_get ss k ≡ Some a → slice_get mid k ≡ Some b → IsToldToGo a b) lent c.tell_all.ensures.told in
+    λ k worker e.
+    (told_workers c.args.plan.now first mid long told c.start_all.ensures.workers worker
+    (at_in mid k worker (subst (λ (ss : List (Worker g.row.D.Denot)). slice_get ss k ≡ Some worker) again e))).ready
 
 pub pack_all-requires-clause-fits : goal.pack_all-requires-clause-fits
 pack_all-requires-clause-fits g c κs within =
-    let first = c.start_all.new.crew.seats.items in
-    let mid = c.tell_all.new.seats in
-    let n : c.start_all.new.crew.seats.len ≡ length first = first_of (search rules, grind (arith, common_steps)) in
+    let first = c.start_all.new.crew.workers.items in
+    let mid = c.tell_all.new.workers in
+    let n : c.start_all.new.crew.workers.len ≡ length first = first_of (search rules, grind (arith, common_steps)) in
     let lent = c.deref_mut.ensures.value in
-    let long : length mid ≡ length first = c.tell_all.ensures.long ∙ ap (λ (ss : List (Seat g.row.D.Denot)). length ss) lent in
-    let again : c.deref_mut-2.result.now ≡ mid = c.deref_mut-2.ensures.value ∙ slice_kept c.start_all.new.crew.seats.len mid first n long in
-    let told = subst (λ (ss : List (Seat g.row.D.Denot)). (k : ℕ) (a b : Seat g.row.D.Denot) → slice_get ss k ≡ Some a → slice_get mid k ≡ Some b → IsToldToGo a b) lent c.tell_all.ensures.told in
+    let long : length mid ≡ length first = c.tell_all.ensures.long ∙ ap (λ (ss : List (Worker g.row.D.Denot)). length ss) lent in
+    let again : c.deref_mut-2.result.now ≡ mid = c.deref_mut-2.ensures.value ∙ slice_kept c.start_all.new.crew.workers.len mid first n long in
+    let told = subst (λ (ss : List (Worker g.row.D.Denot)). (k : ℕ) (a b : Worker g.row.D.Denot) → slice_get ss k ≡ Some a → slice_get mid k ≡ Some b → IsToldToGo a b) lent c.tell_all.ensures.told in
     let entries : c.len-entries.result ≡ length c.args.plan.now.list.now = c.len-entries.ensures in
     let reserved = c.in-Ok.ensures.capacity in
     let room : length c.args.plan.now.list.now ≤ vec_capacity c.in-Ok.order = omega arith in
-    λ k seat e.
-    fits_more (length c.args.plan.now.list.now) (vec_capacity c.in-Ok.order) seat.feed.turn seat.feed.walk room
-    (told_seats c.args.plan.now first mid long told c.start_all.ensures.seats seat
-    (at_in mid k seat (subst (λ (ss : List (Seat g.row.D.Denot)). slice_get ss k ≡ Some seat) again e))).fits
+    λ k worker e.
+    fits_more (length c.args.plan.now.list.now) (vec_capacity c.in-Ok.order) worker.feed.turn worker.feed.walk room
+    (told_workers c.args.plan.now first mid long told c.start_all.ensures.workers worker
+    (at_in mid k worker (subst (λ (ss : List (Worker g.row.D.Denot)). slice_get ss k ≡ Some worker) again e))).fits
 
-pub join_all-end-requires-clause-seats : goal.join_all-end-requires-clause-seats
-join_all-end-requires-clause-seats g c κs within =
-    let first = c.start_all.new.crew.seats.items in
-    let mid = c.tell_all.new.seats in
-    let last = c.pack_all.new.seats in
-    let count = c.start_all.new.crew.seats.len in
+pub join_all-end-requires-clause-workers : goal.join_all-end-requires-clause-workers
+join_all-end-requires-clause-workers g c κs within =
+    let first = c.start_all.new.crew.workers.items in
+    let mid = c.tell_all.new.workers in
+    let last = c.pack_all.new.workers in
+    let count = c.start_all.new.crew.workers.len in
     let n : count ≡ length first = first_of (search rules, grind (arith, common_steps)) in
     let lent = c.deref_mut.ensures.value in
-    let long : length mid ≡ length first = c.tell_all.ensures.long ∙ ap (λ (ss : List (Seat g.row.D.Denot)). length ss) lent in
+    let long : length mid ≡ length first = c.tell_all.ensures.long ∙ ap (λ (ss : List (Worker g.row.D.Denot)). length ss) lent in
     let kept = slice_kept count mid first n long in
     let again : c.deref_mut-2.result.now ≡ mid = c.deref_mut-2.ensures.value ∙ kept in
-    let told = subst (λ (ss : List (Seat g.row.D.Denot)). (k : ℕ) (a b : Seat g.row.D.Denot) → slice_get ss k ≡ Some a → slice_get mid k ≡ Some b → IsToldToGo a b) lent c.tell_all.ensures.told in
-    let fed = subst (λ (ss : List (Seat g.row.D.Denot)). (k : ℕ) (a b : Seat g.row.D.Denot) → slice_get ss k ≡ Some a → slice_get last k ≡ Some b → HasFed c.len.result a b) again c.pack_all.ensures.fed in
-    let longer : length last ≡ length mid = c.pack_all.ensures.long ∙ ap (λ (ss : List (Seat g.row.D.Denot)). length ss) again in
-    let before : length (take count (mid ++ drop (length mid) first)) ≡ length mid = ap (λ (ss : List (Seat g.row.D.Denot)). length ss) kept in
+    let told = subst (λ (ss : List (Worker g.row.D.Denot)). (k : ℕ) (a b : Worker g.row.D.Denot) → slice_get ss k ≡ Some a → slice_get mid k ≡ Some b → IsToldToGo a b) lent c.tell_all.ensures.told in
+    let fed = subst (λ (ss : List (Worker g.row.D.Denot)). (k : ℕ) (a b : Worker g.row.D.Denot) → slice_get ss k ≡ Some a → slice_get last k ≡ Some b → HasFed c.len.result a b) again c.pack_all.ensures.fed in
+    let longer : length last ≡ length mid = c.pack_all.ensures.long ∙ ap (λ (ss : List (Worker g.row.D.Denot)). length ss) again in
+    let before : length (take count (mid ++ drop (length mid) first)) ≡ length mid = ap (λ (ss : List (Worker g.row.D.Denot)). length ss) kept in
     let whole = slice_kept count last (take count (mid ++ drop (length mid) first)) (n ∙ sym long ∙ sym before) (longer ∙ sym before) in
-    λ seat m.
-    fed_seats c.args.plan.now c.len.result mid last c.len.ensures longer fed (told_seats c.args.plan.now first mid long told c.start_all.ensures.seats) seat
-    (subst (λ (ss : List (Seat g.row.D.Denot)). In ss seat) whole m)
+    λ worker m.
+    fed_workers c.args.plan.now c.len.result mid last c.len.ensures longer fed (told_workers c.args.plan.now first mid long told c.start_all.ensures.workers) worker
+    (subst (λ (ss : List (Worker g.row.D.Denot)). In ss worker) whole m)
 
 pub returns-clause-put : goal.returns-clause-put
 returns-clause-put g c =
     let plan = c.args.plan.now in
-    let first = c.start_all.new.crew.seats.items in
-    let mid = c.tell_all.new.seats in
-    let last = c.pack_all.new.seats in
-    let count = c.start_all.new.crew.seats.len in
+    let first = c.start_all.new.crew.workers.items in
+    let mid = c.tell_all.new.workers in
+    let last = c.pack_all.new.workers in
+    let count = c.start_all.new.crew.workers.len in
     let back = c.join_all-end.new.back.items in
     let n : count ≡ length first = first_of (search rules, grind (arith, common_steps)) in
     let empty : length c.start_all.new.crew.rest.items ≡ 0 = first_of (search rules, grind (arith, common_steps)) in
     let lent = c.deref_mut.ensures.value in
-    let long : length mid ≡ length first = c.tell_all.ensures.long ∙ ap (λ (ss : List (Seat g.row.D.Denot)). length ss) lent in
+    let long : length mid ≡ length first = c.tell_all.ensures.long ∙ ap (λ (ss : List (Worker g.row.D.Denot)). length ss) lent in
     let kept = slice_kept count mid first n long in
     let again : c.deref_mut-2.result.now ≡ mid = c.deref_mut-2.ensures.value ∙ kept in
-    let longer : length last ≡ length mid = c.pack_all.ensures.long ∙ ap (λ (ss : List (Seat g.row.D.Denot)). length ss) again in
-    let before : length (take count (mid ++ drop (length mid) first)) ≡ length mid = ap (λ (ss : List (Seat g.row.D.Denot)). length ss) kept in
+    let longer : length last ≡ length mid = c.pack_all.ensures.long ∙ ap (λ (ss : List (Worker g.row.D.Denot)). length ss) again in
+    let before : length (take count (mid ++ drop (length mid) first)) ≡ length mid = ap (λ (ss : List (Worker g.row.D.Denot)). length ss) kept in
     let whole = slice_kept count last (take count (mid ++ drop (length mid) first)) (n ∙ sym long ∙ sym before) (longer ∙ sym before) in
     let state : g.row.D.Denot → PartState
     = λ d. record { from = g.D.Disk.from d; len = g.D.Disk.len d; held = g.D.Disk.held d; calls = g.D.Disk.calls d; faults = g.D.Disk.faults d } in
@@ -91,23 +91,23 @@ returns-clause-put g c =
     (done_by c.len.result first c.deref_mut.result.now mid c.deref_mut-2.result.now last c.start_all.new.crew.rest.items c.args.parts.items c.args.domains.now lent again
     c.tell_all.ensures.long c.tell_all.ensures.told c.pack_all.ensures.long c.pack_all.ensures.fed (no_items c.start_all.new.crew.rest.items empty)
     c.start_all.ensures.parts c.start_all.ensures.domains c.requires.one_each)
-    (subst (λ (ss : List (Seat g.row.D.Denot)). AllZip (λ seat d. Put (part_of seat, domain_of seat) d) ss back) whole c.join_all-end.ensures.put)
+    (subst (λ (ss : List (Worker g.row.D.Denot)). AllZip (λ worker d. Put (part_of worker, domain_of worker) d) ss back) whole c.join_all-end.ensures.put)
 
 pub returns-clause-failed : goal.returns-clause-failed
 returns-clause-failed g c =
-    let first = c.start_all.new.crew.seats.items in
-    let mid = c.tell_all.new.seats in
-    let last = c.pack_all.new.seats in
-    let count = c.start_all.new.crew.seats.len in
+    let first = c.start_all.new.crew.workers.items in
+    let mid = c.tell_all.new.workers in
+    let last = c.pack_all.new.workers in
+    let count = c.start_all.new.crew.workers.len in
     let back = c.join_all-end.new.back.items in
     let n : count ≡ length first = first_of (search rules, grind (arith, common_steps)) in
     let empty : length c.start_all.new.crew.rest.items ≡ 0 = first_of (search rules, grind (arith, common_steps)) in
     let lent = c.deref_mut.ensures.value in
-    let long : length mid ≡ length first = c.tell_all.ensures.long ∙ ap (λ (ss : List (Seat g.row.D.Denot)). length ss) lent in
+    let long : length mid ≡ length first = c.tell_all.ensures.long ∙ ap (λ (ss : List (Worker g.row.D.Denot)). length ss) lent in
     let kept = slice_kept count mid first n long in
     let again : c.deref_mut-2.result.now ≡ mid = c.deref_mut-2.ensures.value ∙ kept in
-    let longer : length last ≡ length mid = c.pack_all.ensures.long ∙ ap (λ (ss : List (Seat g.row.D.Denot)). length ss) again in
-    let before : length (take count (mid ++ drop (length mid) first)) ≡ length mid = ap (λ (ss : List (Seat g.row.D.Denot)). length ss) kept in
+    let longer : length last ≡ length mid = c.pack_all.ensures.long ∙ ap (λ (ss : List (Worker g.row.D.Denot)). length ss) again in
+    let before : length (take count (mid ++ drop (length mid) first)) ≡ length mid = ap (λ (ss : List (Worker g.row.D.Denot)). length ss) kept in
     let whole = slice_kept count last (take count (mid ++ drop (length mid) first)) (n ∙ sym long ∙ sym before) (longer ∙ sym before) in
     let Failing : g.row.D.Denot → g.row.D.Denot → Type 0 = λ a b. Rose (g.D.Disk.faults a) (g.D.Disk.faults b) in
     λ f.
@@ -115,4 +115,4 @@ returns-clause-failed g c =
     (done_by c.len.result first c.deref_mut.result.now mid c.deref_mut-2.result.now last c.start_all.new.crew.rest.items c.args.parts.items c.args.domains.now lent again
     c.tell_all.ensures.long c.tell_all.ensures.told c.pack_all.ensures.long c.pack_all.ensures.fed (no_items c.start_all.new.crew.rest.items empty)
     c.start_all.ensures.parts c.start_all.ensures.domains c.requires.one_each)
-    (subst (λ (ss : List (Seat g.row.D.Denot)). SomeZip (λ seat d. Failing (part_of seat) d) ss back) whole (c.join_all-end.ensures.failed f))
+    (subst (λ (ss : List (Worker g.row.D.Denot)). SomeZip (λ worker d. Failing (part_of worker) d) ss back) whole (c.join_all-end.ensures.failed f))

@@ -3,31 +3,31 @@ use Rattle.std.proofs.Common.{◌∙◌, ℕ, sym, subst, get_or, vec_capacity, 
 use Rattle.std.proofs.lemmas.Option.{slice_get-get_or, slice_get_within}
 use Rattle.piece_exchange.specs.Feeds.{FitsIn, HasPacked, HaveFed}
 use Rattle.piece_exchange.specs.declared.packing.Feed.{Feed}
-use Rattle.piece_exchange.specs.declared.starting.Seat.{Seat}
+use Rattle.piece_exchange.specs.declared.starting.Worker.{Worker}
 use Rattle.piece_exchange.proofs.FeedLaws.{each_twice}
 use Rattle.piece_exchange.proofs.packing.pack_all.Goals as goal
 
 fed_twice : (ranks : ℕ) (a b c : Feed) → HaveFed ranks a b → HaveFed ranks b c → HaveFed ranks a c
 fed_twice ranks a b c f h = record { of = h.of ∙ f.of; put = h.put ∙ f.put }
 
-packed_twice : {D : Type 0} (ranks : ℕ) (x y z : Seat D) → HasPacked ranks x y → HasPacked ranks y z → HasPacked ranks x z
+packed_twice : {D : Type 0} (ranks : ℕ) (x y z : Worker D) → HasPacked ranks x y → HasPacked ranks y z → HasPacked ranks x z
 packed_twice ranks x y z f h = record { helper = h.helper ∙ f.helper; ready = h.ready; fed = fed_twice ranks x.feed y.feed z.feed f.fed h.fed; fits = λ room q. h.fits room (f.fits room q) }
 
 pub pack_round-requires-clause-ready : goal.pack_round-requires-clause-ready
-pack_round-requires-clause-ready g c κs within = λ k seat e.
-    let there = slice_get_within c.rounds.seats k seat e in
+pack_round-requires-clause-ready g c κs within = λ k worker e.
+    let there = slice_get_within c.rounds.workers k worker e in
     let long = c.rounds.invariant.long in
-    let first = slice_get-get_or c.args.seats.now k seat (omega arith) in
-    (c.rounds.invariant.packed k (get_or c.args.seats.now k seat) seat first e).ready
+    let first = slice_get-get_or c.args.workers.now k worker (omega arith) in
+    (c.rounds.invariant.packed k (get_or c.args.workers.now k worker) worker first e).ready
 
 pub pack_round-requires-clause-fits : goal.pack_round-requires-clause-fits
-pack_round-requires-clause-fits g c κs within = λ k seat e.
-    let there = slice_get_within c.rounds.seats k seat e in
+pack_round-requires-clause-fits g c κs within = λ k worker e.
+    let there = slice_get_within c.rounds.workers k worker e in
     let long = c.rounds.invariant.long in
-    let old = get_or c.args.seats.now k seat in
-    let first = slice_get-get_or c.args.seats.now k seat (omega arith) in
-    subst (λ (n : ℕ). FitsIn n seat.feed) (sym c.rounds.invariant.room)
-    ((c.rounds.invariant.packed k old seat first e).fits (vec_capacity c.args.order.now) (c.requires.fits k old first))
+    let old = get_or c.args.workers.now k worker in
+    let first = slice_get-get_or c.args.workers.now k worker (omega arith) in
+    subst (λ (n : ℕ). FitsIn n worker.feed) (sym c.rounds.invariant.room)
+    ((c.rounds.invariant.packed k old worker first e).fits (vec_capacity c.args.order.now) (c.requires.fits k old first))
 
 pub rounds-smaller : goal.rounds-smaller
 rounds-smaller g c = c.pack_round.ensures.fewer c.in-Some.ensures.some
@@ -36,7 +36,7 @@ pub rounds-preserved : goal.rounds-preserved
 rounds-preserved g c = record {
   room = c.pack_round.ensures.room ∙ c.rounds.invariant.room;
   long = c.pack_round.ensures.long ∙ c.rounds.invariant.long;
-  packed = each_twice (HasPacked c.args.ranks) (HasPacked c.args.ranks) (HasPacked c.args.ranks) c.args.seats.now c.rounds.seats c.pack_round.new.seats c.pack_round.ensures.long
+  packed = each_twice (HasPacked c.args.ranks) (HasPacked c.args.ranks) (HasPacked c.args.ranks) c.args.workers.now c.rounds.workers c.pack_round.new.workers c.pack_round.ensures.long
       c.rounds.invariant.packed c.pack_round.ensures.packed (packed_twice c.args.ranks);
 }
 

@@ -1,5 +1,5 @@
 use Rattle.std.proofs.Common.{◌≡◌, take}
-use Rattle.redef_mover.specs.Placing.{pairs}
+use Rattle.redef_mover.specs.NewBegins.{pairs}
 use Rattle.redef_mover.proofs.Written.{with_last}
 use Rattle.redef_mover.proofs.begins.write_begins.Given as goal
 

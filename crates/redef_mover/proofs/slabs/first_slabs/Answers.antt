@@ -8,7 +8,7 @@ use Rattle.std.proofs.lemmas.Iterator.Consumers.{YieldsList-from_enumerate, Yiel
 use mathlib.Core.Bool.{beq}
 use Rattle.nc_base.specs.declared.header.Var.{Var}
 use Rattle.serial_spec.specs.Layout.{is_record}
-use Rattle.redef_laws.specs.Rising.{first_slab}
+use Rattle.redef_laws.specs.RisingSlabs.{first_slab}
 use Rattle.redef_mover.specs.Moves.{is_kind}
 use Rattle.redef_mover.proofs.SortLaws.{all_listed, kind_listed, pair_at, pairs_end, same_kind}
 use Rattle.redef_mover.proofs.slabs.first_slabs.Goals as goal

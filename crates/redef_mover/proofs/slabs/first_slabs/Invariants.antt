@@ -2,7 +2,7 @@
 use Rattle.std.proofs.Common.{◌≡◌, length, map, take}
 use Rattle.std.specs.List.{filter, zip}
 use Rattle.serial_spec.specs.Layout.{is_record}
-use Rattle.redef_laws.specs.Rising.{first_slab}
+use Rattle.redef_laws.specs.RisingSlabs.{first_slab}
 use Rattle.redef_mover.specs.Moves.{is_kind, slab_of}
 use Rattle.redef_mover.proofs.slabs.first_slabs.Given as goal
 

@@ -4,7 +4,7 @@ use Rattle.crossbeam_utils.specs.Register.{TurnsAt}
 use Rattle.run_watch.specs.declared.rule.Heard.{Heard}
 use Rattle.run_watch.specs.declared.rule.Shown.{Shown}
 use Rattle.run_watch.specs.Heard.{summary}
-use Rattle.run_watch.specs.Watching.{Keeps, TellsMore}
+use Rattle.run_watch.specs.BoardRule.{Keeps, TellsMore}
 use Rattle.run_watch.proofs.Moves.{tells}
 use Rattle.run_watch.proofs.Results.{ok_of, done, last_shown, shown, summed, told_more}
 use Rattle.run_watch.proofs.board.show.Goals as goal

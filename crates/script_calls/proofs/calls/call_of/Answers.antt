@@ -1,7 +1,7 @@
 use Rattle.std.proofs.Common.{◌≡◌, Result, subst}
 use Rattle.nc_base.specs.declared.errors.ScriptKind.{ScriptKind}
 use Rattle.nc_base.specs.declared.request.Call.{Call}
-use Rattle.script_words.specs.Reading.{Gives}
+use Rattle.script_words.specs.Given.{Gives}
 use Rattle.script_calls.proofs.CallWordLaws.{same_call}
 use Rattle.script_calls.proofs.calls.call_of.Goals as goal
 

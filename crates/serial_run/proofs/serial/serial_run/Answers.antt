@@ -9,9 +9,9 @@ use Rattle.serial_spec.specs.SerialEnd.{serial_from, setting_of}
 use Rattle.element_steps.specs.Requests.{counted, setting}
 use Rattle.run_laws.specs.Arrivals as arrivals
 use Rattle.run_laws.specs.Arrivals.{first_stand, step_to}
-use Rattle.run_laws.specs.Standing.{close_by}
+use Rattle.run_laws.specs.Ahead.{close_by}
 use Rattle.serial_run.specs.Ended.{as_end}
-use Rattle.serial_run.specs.Seated.{going_of}
+use Rattle.serial_run.specs.Running.{going_of}
 use Rattle.serial_run.proofs.EndLaws.{closes}
 use Rattle.serial_run.proofs.serial.serial_run.Goals as goal
 
@@ -29,13 +29,13 @@ loop-place-preserved c =
     }
 
 pub closed-requires : goal.closed-requires
-closed-requires c = record { known = λ r seat e. (c.loop-place.invariant.stands.each r seat e).low }
+closed-requires c = record { known = λ r runner e. (c.loop-place.invariant.stands.each r runner e).low }
 
 pub returns : goal.returns
 returns c =
     let stand = c.loop-place.stand in
     IfOk-weaker c.closed.result
-    (λ end. (rule : Rule) → as_end end ≡ close_by (setting c.args.header.now rule) (counted stand.file.items stand.records) (map going_of stand.seats.items))
+    (λ end. (rule : Rule) → as_end end ≡ close_by (setting c.args.header.now rule) (counted stand.file.items stand.records) (map going_of stand.runners.items))
     (λ end. as_end end ≡ serial_from c.args.script.now c.args.header.now c.args.bytes.now c.args.order.now)
     (λ end h. h c.args.script.now.hints.overlap
     ∙ closes c.args.script.now c.args.header.now c.args.bytes.now c.args.order.now c.loop-place.place stand c.loop-place-test.false c.loop-place.invariant.state) c.closed.ensures

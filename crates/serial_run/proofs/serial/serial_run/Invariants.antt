@@ -2,7 +2,7 @@
 use Rattle.std.proofs.Common.{◌≡◌, take, fold}
 use Rattle.serial_spec.specs.SerialEnd.{setting_of}
 use Rattle.run_laws.specs.Arrivals.{first_stand, step_to}
-use Rattle.serial_run.specs.Standing.{stand_of, IsStanding}
+use Rattle.serial_run.specs.Stands.{stand_of, IsStanding}
 use Rattle.serial_run.proofs.serial.serial_run.Given as goal
 
 abbrev pub invariant-loop-place : goal.invariant-loop-place

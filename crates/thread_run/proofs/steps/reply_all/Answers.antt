@@ -3,7 +3,7 @@ use Rattle.std.proofs.Common.{◌∙◌, ◌∷◌, [], sym, ap, arith, length, 
 use Rattle.std.proofs.lemmas.List.{length-set}
 use Rattle.nc_base.specs.declared.step.OwnerItem.TheVariants.{Reply}
 use Rattle.thread_run.specs.Owned.{replies}
-use Rattle.turn_run.specs.Seated.{reply_of}
+use Rattle.turn_run.specs.Running.{reply_of}
 use Rattle.thread_run.proofs.PutLaws.{all_below, put_below}
 use Rattle.thread_run.proofs.steps.reply_all.Goals as goal
 use Rattle.std.proofs.lemmas.Option.{slice_get-get_or}

@@ -1,11 +1,11 @@
 -- One rank more has arrived.
 use Rattle.std.proofs.Common.{◌≡◌, ◌<◌, ◌≤◌, ◌+◌, ℕ, refl, sym, ◌∙◌, subst, Some, None, arith}
 use Rattle.std.specs.Prelude.{slice_get, slice_index_or}
-use Rattle.turn_run.specs.declared.seats.Seat.{Seat}
-use Rattle.turn_run.specs.Seated.{calls_of, HasArrived}
+use Rattle.turn_run.specs.declared.runners.Runner.{Runner}
+use Rattle.turn_run.specs.Running.{calls_of, HasArrived}
 use Rattle.turn_run.proofs.CountLaws.{count_longer}
 use Rattle.turn_run.proofs.StageLaws.{has_led_at, has_led_none, has_led_then}
-use Rattle.turn_run.proofs.TurnSteps.{below_other, get_at, gone_led, grown_meetings, seats_begun, seats_step, set_each, step_begun}
+use Rattle.turn_run.proofs.TurnSteps.{below_other, get_at, gone_led, grown_meetings, runners_begun, runners_step, set_each, step_begun}
 use Rattle.std.proofs.lemmas.Result.{err_from_is_err_and}
 use Rattle.serial_spec.specs.SerialEnd.{setting_of}
 use Rattle.run_laws.proofs.LawfulLaws.{ranks_lawful}
@@ -25,10 +25,10 @@ loop-number-init g c = record {
   from = c.requires.from;
   longer = omega arith;
   faults = omega arith;
-  seats = c.requires.seats;
+  runners = c.requires.runners;
   met = refl;
-  arrived = λ r seat l e. absurd (omega arith);
-  free = λ r seat l e. c.requires.free r seat e;
+  arrived = λ r runner l e. absurd (omega arith);
+  free = λ r runner l e. c.requires.free r runner e;
   same = λ r l. refl;
   others = λ r l. refl;
   led = λ records. has_led_none _ _ _ _;
@@ -38,15 +38,15 @@ loop-number-init g c = record {
 
 pub arrive-requires-clause-free : goal.arrive-requires-clause-free
 arrive-requires-clause-free g c κs within =
-    c.loop-number.invariant.free c.loop-number.number _ (omega arith) (get_at c.loop-number.seats c.loop-number.number c.index-seats-number.result (omega arith))
+    c.loop-number.invariant.free c.loop-number.number _ (omega arith) (get_at c.loop-number.runners c.loop-number.number c.index-runners-number.result (omega arith))
 
-pub arrive-requires-clause-seat : goal.arrive-requires-clause-seat
-arrive-requires-clause-seat g c κs within =
-    c.loop-number.invariant.seats.each c.loop-number.number _ (get_at c.loop-number.seats c.loop-number.number c.index-seats-number.result (omega arith))
+pub arrive-requires-clause-runner : goal.arrive-requires-clause-runner
+arrive-requires-clause-runner g c κs within =
+    c.loop-number.invariant.runners.each c.loop-number.number _ (get_at c.loop-number.runners c.loop-number.number c.index-runners-number.result (omega arith))
 
 pub arrive-requires-clause-known : goal.arrive-requires-clause-known
 arrive-requires-clause-known g c κs within =
-    c.loop-number.invariant.seats.known c.loop-number.number _ (get_at c.loop-number.seats c.loop-number.number c.index-seats-number.result (omega arith))
+    c.loop-number.invariant.runners.known c.loop-number.number _ (get_at c.loop-number.runners c.loop-number.number c.index-runners-number.result (omega arith))
 
 pub returns-in_err-arrive-clause-meetings : goal.returns-in_err-arrive-clause-meetings
 returns-in_err-arrive-clause-meetings g c =
@@ -54,41 +54,41 @@ returns-in_err-arrive-clause-meetings g c =
 
 pub returns-in_err-arrive-clause-begun : goal.returns-in_err-arrive-clause-begun
 returns-in_err-arrive-clause-begun g c =
-    step_begun c.args.lent.now.setup.script.now c.args.lent.now.setup.header.now _ c.loop-number.progress.order c.arrive.new.progress.order c.loop-number.seats c.loop-number.number c.loop-number.invariant.seats
+    step_begun c.args.lent.now.setup.script.now c.args.lent.now.setup.header.now _ c.loop-number.progress.order c.arrive.new.progress.order c.loop-number.runners c.loop-number.number c.loop-number.invariant.runners
     (omega arith) c.arrive.ensures.grown c.in_err-arrive.ensures.begun
 
 pub loop-number-preserved : goal.loop-number-preserved
 loop-number-preserved g c =
     let n = c.loop-number.number in
-    let seats = c.loop-number.seats in
-    let was = slice_index_or seats n c.index-seats-number.result in
-    let seat = c.arrive.new.self in
+    let runners = c.loop-number.runners in
+    let was = slice_index_or runners n c.index-runners-number.result in
+    let runner = c.arrive.new.self in
     let before = c.loop-number.invariant in
     let done = c.in_ok-arrive.ensures in
-    let there : slice_get seats n ≡ Some was = get_at seats n c.index-seats-number.result (omega arith) in
+    let there : slice_get runners n ≡ Some was = get_at runners n c.index-runners-number.result (omega arith) in
     let long = (ranks_lawful c.args.lent.now.setup.script.now c.requires.lawful).one_each in
     record {
       from = done.from;
       longer = omega arith;
       faults = omega arith;
-      seats = seats_step c.args.lent.now.setup.script.now c.args.lent.now.setup.header.now _ _ c.loop-number.progress.order c.arrive.new.progress.order seats n was seat before.seats there done.grown done.longer done.seat done.known;
+      runners = runners_step c.args.lent.now.setup.script.now c.args.lent.now.setup.header.now _ _ c.loop-number.progress.order c.arrive.new.progress.order runners n was runner before.runners there done.grown done.longer done.runner done.known;
       met = grown_meetings n c.loop-number.progress.order c.arrive.new.progress.order done.grown ∙ before.met;
-      arrived = λ r s l e. set_each (λ (q : ℕ) (x : Seat). q < n + 1 → HasArrived (calls_of c.args.lent.now.setup.script.now q) x) seats n was seat there (λ k. done.arrived)
+      arrived = λ r s l e. set_each (λ (q : ℕ) (x : Runner). q < n + 1 → HasArrived (calls_of c.args.lent.now.setup.script.now q) x) runners n was runner there (λ k. done.arrived)
           (λ q x other f k. before.arrived q x (below_other q n other k) f) r s e l;
-      free = λ r s l e. set_each (λ (q : ℕ) (x : Seat). n + 1 ≤ q → x.held ≡ None) seats n was seat there (λ k. absurd (omega arith))
+      free = λ r s l e. set_each (λ (q : ℕ) (x : Runner). n + 1 ≤ q → x.held ≡ None) runners n was runner there (λ k. absurd (omega arith))
           (λ q x other f k. before.free q x (omega arith) f) r s e l;
-      same = left_more c.args.seats.now seats n seat before.same;
+      same = left_more c.args.runners.now runners n runner before.same;
       others = λ r l. grown_beside n r c.loop-number.progress.order c.arrive.new.progress.order (λ e. absurd (omega arith)) done.grown ∙ before.others r (omega arith);
       led = λ records. has_led_then _ _ _ c.loop-number.progress.order _ _ _ _ (before.led records)
-          (gone_led c.args.lent.now.setup.script.now c.args.lent.now.setup.header.now seats n was seat c.loop-number.progress.order c.arrive.new.progress.order _ _ _ _ c.requires.lawful (omega arith) there done.gone records);
+          (gone_led c.args.lent.now.setup.script.now c.args.lent.now.setup.header.now runners n was runner c.loop-number.progress.order c.arrive.new.progress.order _ _ _ _ c.requires.lawful (omega arith) there done.gone records);
       count = c.arrive.ensures.records ∙ before.count;
       told = told_then _ _ _ _ _ _ _ _ _ _ before.told (before.led c.args.progress.now.records)
-          (told_at _ _ _ _ _ _ _ _ _ before.count (c.arrive.ensures.told (arrived_all c.args.lent.now.setup.header.now c.args.lent.now.setup.script.now.calls seats)
-          (get_arrived c.args.lent.now.setup.header.now c.args.lent.now.setup.script.now.calls seats n (calls_of c.args.lent.now.setup.script.now n) was (calls_there c.args.lent.now.setup.script.now n (omega arith)) there)));
+          (told_at _ _ _ _ _ _ _ _ _ before.count (c.arrive.ensures.told (arrived_all c.args.lent.now.setup.header.now c.args.lent.now.setup.script.now.calls runners)
+          (get_arrived c.args.lent.now.setup.header.now c.args.lent.now.setup.script.now.calls runners n (calls_of c.args.lent.now.setup.script.now n) was (calls_there c.args.lent.now.setup.script.now n (omega arith)) there)));
     }
 
 pub returns-clause-arrived : goal.returns-clause-arrived
-returns-clause-arrived g c r seat e = let l = slice_get_within c.loop-number.seats r seat e in c.loop-number.invariant.arrived r seat (omega arith) e
+returns-clause-arrived g c r runner e = let l = slice_get_within c.loop-number.runners r runner e in c.loop-number.invariant.arrived r runner (omega arith) e
 
 pub returns-clause-records : goal.returns-clause-records
 returns-clause-records g c =
@@ -100,7 +100,7 @@ returns-clause-led g c =
     has_led_at _ _ _ _ _ _ _ _ _ _ (sym c.loop-number.invariant.count) (c.loop-number.invariant.led c.args.progress.now.records)
 
 pub returns-clause-begun : goal.returns-clause-begun
-returns-clause-begun g c = seats_begun c.args.lent.now.setup.script.now c.args.lent.now.setup.header.now _ c.loop-number.progress.order c.loop-number.seats c.loop-number.invariant.seats
+returns-clause-begun g c = runners_begun c.args.lent.now.setup.script.now c.args.lent.now.setup.header.now _ c.loop-number.progress.order c.loop-number.runners c.loop-number.invariant.runners
 
 pub returns-in_err-arrive-clause-cut : goal.returns-in_err-arrive-clause-cut
 returns-in_err-arrive-clause-cut g c e is =
@@ -109,22 +109,22 @@ returns-in_err-arrive-clause-cut g c e is =
     let header = c.args.lent.now.setup.header.now in
     let s = setting_of script header in
     let n = c.loop-number.number in
-    let seats = c.loop-number.seats in
-    let was = slice_index_or seats n c.index-seats-number.result in
-    let there : slice_get seats n ≡ Some was = get_at seats n c.index-seats-number.result (omega arith) in
+    let runners = c.loop-number.runners in
+    let was = slice_index_or runners n c.index-runners-number.result in
+    let there : slice_get runners n ≡ Some was = get_at runners n c.index-runners-number.result (omega arith) in
     let led = c.loop-number.invariant.led records in
     let long = (ranks_lawful script c.requires.lawful).one_each in
     let p = err_from_is_err_and c.from_residual.result c.from_residual.ensures.1 in
     stopped_at _ _ _ _ _ _ _ _ _ _ _ (sym (c.arrive.ensures.records ∙ c.loop-number.invariant.count))
     (stopped_then (IsNext script c.arrive.new.progress.order) script.hints s e c.args.progress.now.order c.loop-number.progress.order c.arrive.new.progress.order led.more
-    (stage (g.D.Disk.held c.args.disk.now) (g.D.Disk.calls c.args.disk.now) records (arrived_all header script.calls c.args.seats.now))
-    (stage (g.D.Disk.held c.loop-number.disk) (g.D.Disk.calls c.loop-number.disk) records (arrived_all header script.calls seats)) (g.D.Disk.held c.arrive.new.disk) records
+    (stage (g.D.Disk.held c.args.disk.now) (g.D.Disk.calls c.args.disk.now) records (arrived_all header script.calls c.args.runners.now))
+    (stage (g.D.Disk.held c.loop-number.disk) (g.D.Disk.calls c.loop-number.disk) records (arrived_all header script.calls runners)) (g.D.Disk.held c.arrive.new.disk) records
     led.led led.grown
     (stopped_as (MayFollow script n c.arrive.new.progress.order) (IsNext script c.arrive.new.progress.order) s e c.loop-number.progress.order c.arrive.new.progress.order (g.D.Disk.held c.loop-number.disk) records
-    (arrived_all header script.calls seats) (g.D.Disk.held c.arrive.new.disk) records
-    (follows_next script header _ c.loop-number.progress.order c.arrive.new.progress.order seats n c.requires.lawful c.loop-number.invariant.seats (omega arith) c.arrive.ensures.grown)
-    (c.in_err-arrive.ensures.cut e (same_err c.from_residual.result e _ p.0 is p.1 p.2) records (arrived_all header script.calls seats)
-    (get_arrived header script.calls seats n (calls_of script n) was (calls_there script n (omega arith)) there))))
+    (arrived_all header script.calls runners) (g.D.Disk.held c.arrive.new.disk) records
+    (follows_next script header _ c.loop-number.progress.order c.arrive.new.progress.order runners n c.requires.lawful c.loop-number.invariant.runners (omega arith) c.arrive.ensures.grown)
+    (c.in_err-arrive.ensures.cut e (same_err c.from_residual.result e _ p.0 is p.1 p.2) records (arrived_all header script.calls runners)
+    (get_arrived header script.calls runners n (calls_of script n) was (calls_there script n (omega arith)) there))))
 
 pub returns-in_err-arrive-clause-answered : goal.returns-in_err-arrive-clause-answered
 returns-in_err-arrive-clause-answered g c e is =
@@ -133,28 +133,28 @@ returns-in_err-arrive-clause-answered g c e is =
     let header = c.args.lent.now.setup.header.now in
     let s = setting_of script header in
     let n = c.loop-number.number in
-    let seats = c.loop-number.seats in
+    let runners = c.loop-number.runners in
     let before = c.loop-number.invariant in
-    let was = slice_index_or seats n c.index-seats-number.result in
-    let there : slice_get seats n ≡ Some was = get_at seats n c.index-seats-number.result (omega arith) in
+    let was = slice_index_or runners n c.index-runners-number.result in
+    let there : slice_get runners n ≡ Some was = get_at runners n c.index-runners-number.result (omega arith) in
     let long = (ranks_lawful script c.requires.lawful).one_each in
     let p = err_from_is_err_and c.from_residual.result c.from_residual.ensures.1 in
-    answers_cut script e n c.args.progress.now.order c.loop-number.progress.order c.arrive.new.progress.order c.args.seats.now seats was c.arrive.new.self s (g.D.Disk.held c.args.disk.now) (g.D.Disk.held c.loop-number.disk)
-    (g.D.Disk.calls c.args.disk.now) (g.D.Disk.calls c.loop-number.disk) records (long ∙ sym before.seats.all) c.requires.free there (before.led records) c.arrive.ensures.grown before.others before.arrived
+    answers_cut script e n c.args.progress.now.order c.loop-number.progress.order c.arrive.new.progress.order c.args.runners.now runners was c.arrive.new.self s (g.D.Disk.held c.args.disk.now) (g.D.Disk.held c.loop-number.disk)
+    (g.D.Disk.calls c.args.disk.now) (g.D.Disk.calls c.loop-number.disk) records (long ∙ sym before.runners.all) c.requires.free there (before.led records) c.arrive.ensures.grown before.others before.arrived
     before.same
-    (c.in_err-arrive.ensures.answered e (same_err c.from_residual.result e _ p.0 is p.1 p.2) records (arrived_all header script.calls seats)
-    (get_arrived header script.calls seats n (calls_of script n) was (calls_there script n (omega arith)) there))
+    (c.in_err-arrive.ensures.answered e (same_err c.from_residual.result e _ p.0 is p.1 p.2) records (arrived_all header script.calls runners)
+    (get_arrived header script.calls runners n (calls_of script n) was (calls_there script n (omega arith)) there))
 
 pub returns-in_err-arrive-clause-told : goal.returns-in_err-arrive-clause-told
 returns-in_err-arrive-clause-told g c =
     let script = c.args.lent.now.setup.script.now in
     let header = c.args.lent.now.setup.header.now in
     let n = c.loop-number.number in
-    let seats = c.loop-number.seats in
+    let runners = c.loop-number.runners in
     let before = c.loop-number.invariant in
-    let was = slice_index_or seats n c.index-seats-number.result in
-    let there : slice_get seats n ≡ Some was = get_at seats n c.index-seats-number.result (omega arith) in
+    let was = slice_index_or runners n c.index-runners-number.result in
+    let there : slice_get runners n ≡ Some was = get_at runners n c.index-runners-number.result (omega arith) in
     let long = (ranks_lawful script c.requires.lawful).one_each in
     told_then _ _ _ _ _ _ _ _ _ _ before.told (before.led c.args.progress.now.records)
-    (told_at _ _ _ _ _ _ _ _ _ before.count (c.arrive.ensures.told (arrived_all header script.calls seats)
-    (get_arrived header script.calls seats n (calls_of script n) was (calls_there script n (omega arith)) there)))
+    (told_at _ _ _ _ _ _ _ _ _ before.count (c.arrive.ensures.told (arrived_all header script.calls runners)
+    (get_arrived header script.calls runners n (calls_of script n) was (calls_there script n (omega arith)) there)))

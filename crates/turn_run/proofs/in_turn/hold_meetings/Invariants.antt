@@ -4,9 +4,9 @@ use Rattle.serial_spec.specs.Lawful.{most_calls}
 use Rattle.serial_spec.specs.SerialEnd.{setting_of}
 use Rattle.run_laws.specs.Ways.{meetings}
 use Rattle.turn_run.specs.Counts.{IsCount}
-use Rattle.turn_run.specs.Seated.{AreSeats, HaveArrived}
+use Rattle.turn_run.specs.Running.{AreRunners, HaveArrived}
 use Rattle.turn_run.specs.Stages.{arrived_all, stage, HasLed}
-use Rattle.turn_run.specs.Telling.{HasToldMore}
+use Rattle.turn_run.specs.Told.{HasToldMore}
 use Rattle.turn_run.proofs.in_turn.hold_meetings.Given as goal
 
 abbrev pub invariant-meetings : goal.invariant-meetings
@@ -15,13 +15,13 @@ invariant-meetings g l = record {
   longer : g.D.Disk.len l.fn.disk ≤ g.D.Disk.len l.disk;
   faults : g.D.Disk.faults l.fn.disk ≤ g.D.Disk.faults l.disk;
   number : l.meetings ≡ meetings l.progress.order;
-  seats : AreSeats l.lent.setup.script.now l.lent.setup.header.now (g.D.Disk.len l.disk) l.progress.order l.seats;
-  arrived : HaveArrived l.lent.setup.script.now l.seats;
+  runners : AreRunners l.lent.setup.script.now l.lent.setup.header.now (g.D.Disk.len l.disk) l.progress.order l.runners;
+  arrived : HaveArrived l.lent.setup.script.now l.runners;
   records : IsCount l.lent.setup.header.now (g.D.Disk.len l.disk) l.progress.records;
   led : HasLed l.lent.setup.script.now.hints (setting_of l.lent.setup.script.now l.lent.setup.header.now) l.fn.progress.order l.progress.order
-      (stage (g.D.Disk.held l.fn.disk) (g.D.Disk.calls l.fn.disk) l.fn.progress.records (arrived_all l.lent.setup.header.now l.lent.setup.script.now.calls l.fn.seats))
-      (stage (g.D.Disk.held l.disk) (g.D.Disk.calls l.disk) l.progress.records (arrived_all l.lent.setup.header.now l.lent.setup.script.now.calls l.seats));
-  told : HasToldMore (setting_of l.lent.setup.script.now l.lent.setup.header.now) (g.D.Disk.held l.fn.disk) l.fn.progress.records (arrived_all l.lent.setup.header.now l.lent.setup.script.now.calls l.fn.seats) l.fn.progress.order l.progress.order
+      (stage (g.D.Disk.held l.fn.disk) (g.D.Disk.calls l.fn.disk) l.fn.progress.records (arrived_all l.lent.setup.header.now l.lent.setup.script.now.calls l.fn.runners))
+      (stage (g.D.Disk.held l.disk) (g.D.Disk.calls l.disk) l.progress.records (arrived_all l.lent.setup.header.now l.lent.setup.script.now.calls l.runners));
+  told : HasToldMore (setting_of l.lent.setup.script.now l.lent.setup.header.now) (g.D.Disk.held l.fn.disk) l.fn.progress.records (arrived_all l.lent.setup.header.now l.lent.setup.script.now.calls l.fn.runners) l.fn.progress.order l.progress.order
       (g.T.Told.heard l.fn.told) (g.T.Told.heard l.told);
 }
 

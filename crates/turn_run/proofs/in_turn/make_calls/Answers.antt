@@ -22,7 +22,7 @@ use Rattle.serial_spec.proofs.CountLaws.{raised_records}
 pub returns-clause-legal : goal.returns-clause-legal
 returns-clause-legal g c =
     let h = c.in_ok-hold_meetings.ensures in
-    ended_legal c.args.lent.now.setup.script.now c.args.lent.now.setup.header.now _ c.hold_meetings.new.progress.order c.hold_meetings.new.seats c.requires.lawful h.seats h.free h.arrived
+    ended_legal c.args.lent.now.setup.script.now c.args.lent.now.setup.header.now _ c.hold_meetings.new.progress.order c.hold_meetings.new.runners c.requires.lawful h.runners h.free h.arrived
 
 pub returns-clause-bytes : goal.returns-clause-bytes
 returns-clause-bytes g c =
@@ -30,8 +30,8 @@ returns-clause-bytes g c =
     let k = c.in_ok-close.ensures in
     if_told (g.D.Disk.held c.args.disk.now) (run_ended c.args.lent.now.setup.script.now c.args.lent.now.setup.header.now _ c.args.progress.now.order c.hold_meetings.new.progress.order (g.D.Disk.calls c.args.disk.now)
     (g.D.Disk.calls c.hold_meetings.new.disk) (g.D.Disk.calls c.close.new.disk) (g.D.Disk.held c.args.disk.now) (g.D.Disk.held c.hold_meetings.new.disk)
-    (g.D.Disk.held c.close.new.disk) c.hold_meetings.new.progress.records c.close.new.records c.args.progress.now.records c.hold_meetings.new.seats
-    (arrived_all c.args.lent.now.setup.header.now c.args.lent.now.setup.script.now.calls c.args.seats.now) c.requires.lawful c.requires.none h.seats h.free h.arrived h.led
+    (g.D.Disk.held c.close.new.disk) c.hold_meetings.new.progress.records c.close.new.records c.args.progress.now.records c.hold_meetings.new.runners
+    (arrived_all c.args.lent.now.setup.header.now c.args.lent.now.setup.script.now.calls c.args.runners.now) c.requires.lawful c.requires.none h.runners h.free h.arrived h.led
     (record { bytes = k.bytes; records = k.records; calls = k.calls })) (λ file e. e.bytes)
 
 pub returns-clause-records : goal.returns-clause-records
@@ -40,8 +40,8 @@ returns-clause-records g c =
     let k = c.in_ok-close.ensures in
     if_told (g.D.Disk.held c.args.disk.now) (run_ended c.args.lent.now.setup.script.now c.args.lent.now.setup.header.now _ c.args.progress.now.order c.hold_meetings.new.progress.order (g.D.Disk.calls c.args.disk.now)
     (g.D.Disk.calls c.hold_meetings.new.disk) (g.D.Disk.calls c.close.new.disk) (g.D.Disk.held c.args.disk.now) (g.D.Disk.held c.hold_meetings.new.disk)
-    (g.D.Disk.held c.close.new.disk) c.hold_meetings.new.progress.records c.close.new.records c.args.progress.now.records c.hold_meetings.new.seats
-    (arrived_all c.args.lent.now.setup.header.now c.args.lent.now.setup.script.now.calls c.args.seats.now) c.requires.lawful c.requires.none h.seats h.free h.arrived h.led
+    (g.D.Disk.held c.close.new.disk) c.hold_meetings.new.progress.records c.close.new.records c.args.progress.now.records c.hold_meetings.new.runners
+    (arrived_all c.args.lent.now.setup.header.now c.args.lent.now.setup.script.now.calls c.args.runners.now) c.requires.lawful c.requires.none h.runners h.free h.arrived h.led
     (record { bytes = k.bytes; records = k.records; calls = k.calls })) (λ file e. e.records)
 
 pub returns-clause-answers : goal.returns-clause-answers
@@ -50,8 +50,8 @@ returns-clause-answers g c =
     let k = c.in_ok-close.ensures in
     if_told (g.D.Disk.held c.args.disk.now) (run_ended c.args.lent.now.setup.script.now c.args.lent.now.setup.header.now _ c.args.progress.now.order c.hold_meetings.new.progress.order (g.D.Disk.calls c.args.disk.now)
     (g.D.Disk.calls c.hold_meetings.new.disk) (g.D.Disk.calls c.close.new.disk) (g.D.Disk.held c.args.disk.now) (g.D.Disk.held c.hold_meetings.new.disk)
-    (g.D.Disk.held c.close.new.disk) c.hold_meetings.new.progress.records c.close.new.records c.args.progress.now.records c.hold_meetings.new.seats
-    (arrived_all c.args.lent.now.setup.header.now c.args.lent.now.setup.script.now.calls c.args.seats.now) c.requires.lawful c.requires.none h.seats h.free h.arrived h.led
+    (g.D.Disk.held c.close.new.disk) c.hold_meetings.new.progress.records c.close.new.records c.args.progress.now.records c.hold_meetings.new.runners
+    (arrived_all c.args.lent.now.setup.header.now c.args.lent.now.setup.script.now.calls c.args.runners.now) c.requires.lawful c.requires.none h.runners h.free h.arrived h.led
     (record { bytes = k.bytes; records = k.records; calls = k.calls })) (λ file e. e.answers)
 
 pub returns-clause-pending : goal.returns-clause-pending
@@ -60,8 +60,8 @@ returns-clause-pending g c =
     let k = c.in_ok-close.ensures in
     if_told (g.D.Disk.held c.args.disk.now) (run_ended c.args.lent.now.setup.script.now c.args.lent.now.setup.header.now _ c.args.progress.now.order c.hold_meetings.new.progress.order (g.D.Disk.calls c.args.disk.now)
     (g.D.Disk.calls c.hold_meetings.new.disk) (g.D.Disk.calls c.close.new.disk) (g.D.Disk.held c.args.disk.now) (g.D.Disk.held c.hold_meetings.new.disk)
-    (g.D.Disk.held c.close.new.disk) c.hold_meetings.new.progress.records c.close.new.records c.args.progress.now.records c.hold_meetings.new.seats
-    (arrived_all c.args.lent.now.setup.header.now c.args.lent.now.setup.script.now.calls c.args.seats.now) c.requires.lawful c.requires.none h.seats h.free h.arrived h.led
+    (g.D.Disk.held c.close.new.disk) c.hold_meetings.new.progress.records c.close.new.records c.args.progress.now.records c.hold_meetings.new.runners
+    (arrived_all c.args.lent.now.setup.header.now c.args.lent.now.setup.script.now.calls c.args.runners.now) c.requires.lawful c.requires.none h.runners h.free h.arrived h.led
     (record { bytes = k.bytes; records = k.records; calls = k.calls })) (λ file e. e.pending)
 
 pub returns-clause-calls : goal.returns-clause-calls
@@ -70,8 +70,8 @@ returns-clause-calls g c =
     let k = c.in_ok-close.ensures in
     if_told (g.D.Disk.held c.args.disk.now) (run_ended c.args.lent.now.setup.script.now c.args.lent.now.setup.header.now _ c.args.progress.now.order c.hold_meetings.new.progress.order (g.D.Disk.calls c.args.disk.now)
     (g.D.Disk.calls c.hold_meetings.new.disk) (g.D.Disk.calls c.close.new.disk) (g.D.Disk.held c.args.disk.now) (g.D.Disk.held c.hold_meetings.new.disk)
-    (g.D.Disk.held c.close.new.disk) c.hold_meetings.new.progress.records c.close.new.records c.args.progress.now.records c.hold_meetings.new.seats
-    (arrived_all c.args.lent.now.setup.header.now c.args.lent.now.setup.script.now.calls c.args.seats.now) c.requires.lawful c.requires.none h.seats h.free h.arrived h.led
+    (g.D.Disk.held c.close.new.disk) c.hold_meetings.new.progress.records c.close.new.records c.args.progress.now.records c.hold_meetings.new.runners
+    (arrived_all c.args.lent.now.setup.header.now c.args.lent.now.setup.script.now.calls c.args.runners.now) c.requires.lawful c.requires.none h.runners h.free h.arrived h.led
     (record { bytes = k.bytes; records = k.records; calls = k.calls })) (λ file e. e.calls)
 
 pub returns-in_err-hold_meetings-clause-cut : goal.returns-in_err-hold_meetings-clause-cut
@@ -79,7 +79,7 @@ returns-in_err-hold_meetings-clause-cut g c e is =
     let script = c.args.lent.now.setup.script.now in
     let header = c.args.lent.now.setup.header.now in
     let p = err_from_is_err_and c.from_residual.result c.from_residual.ensures.1 in
-    ends_before script (setting_of script header) e c.args.progress.now.order c.hold_meetings.new.progress.order (g.D.Disk.held c.args.disk.now) c.args.progress.now.records (arrived_all header script.calls c.args.seats.now)
+    ends_before script (setting_of script header) e c.args.progress.now.order c.hold_meetings.new.progress.order (g.D.Disk.held c.args.disk.now) c.args.progress.now.records (arrived_all header script.calls c.args.runners.now)
     (g.D.Disk.held c.hold_meetings.new.disk) c.hold_meetings.new.progress.records c.requires.none (c.in_err-hold_meetings.ensures.cut e (same_err c.from_residual.result e _ p.0 is p.1 p.2))
 
 pub returns-in_err-close-clause-cut : goal.returns-in_err-close-clause-cut
@@ -88,9 +88,9 @@ returns-in_err-close-clause-cut g c e is =
     let header = c.args.lent.now.setup.header.now in
     let h = c.in_ok-hold_meetings.ensures in
     ends_closing script header e c.args.progress.now.order c.hold_meetings.new.progress.order (g.D.Disk.calls c.args.disk.now) (g.D.Disk.calls c.hold_meetings.new.disk) (g.D.Disk.held c.args.disk.now)
-    (g.D.Disk.held c.hold_meetings.new.disk) (g.D.Disk.held c.close.new.disk) c.hold_meetings.new.progress.records c.args.progress.now.records c.close.new.records c.hold_meetings.new.seats
-    (arrived_all header script.calls c.args.seats.now) c.requires.none ((ranks_lawful script c.requires.lawful).one_each ∙ sym h.seats.all) (are_over script c.hold_meetings.new.seats h.free h.arrived)
-    (ended_legal script header _ c.hold_meetings.new.progress.order c.hold_meetings.new.seats c.requires.lawful h.seats h.free h.arrived) h.led c.in_err-close.ensures.refused (inl c.in_err-close.ensures.kept)
+    (g.D.Disk.held c.hold_meetings.new.disk) (g.D.Disk.held c.close.new.disk) c.hold_meetings.new.progress.records c.args.progress.now.records c.close.new.records c.hold_meetings.new.runners
+    (arrived_all header script.calls c.args.runners.now) c.requires.none ((ranks_lawful script c.requires.lawful).one_each ∙ sym h.runners.all) (are_over script c.hold_meetings.new.runners h.free h.arrived)
+    (ended_legal script header _ c.hold_meetings.new.progress.order c.hold_meetings.new.runners c.requires.lawful h.runners h.free h.arrived) h.led c.in_err-close.ensures.refused (inl c.in_err-close.ensures.kept)
 
 pub returns-clause-raised : goal.returns-clause-raised
 returns-clause-raised g c = λ e.
@@ -99,11 +99,11 @@ returns-clause-raised g c = λ e.
     let h = c.in_ok-hold_meetings.ensures in
     let k = c.in_ok-close.ensures in
     ends_closing script header e c.args.progress.now.order c.hold_meetings.new.progress.order (g.D.Disk.calls c.args.disk.now) (g.D.Disk.calls c.hold_meetings.new.disk) (g.D.Disk.held c.args.disk.now)
-    (g.D.Disk.held c.hold_meetings.new.disk) (g.D.Disk.held c.close.new.disk) c.hold_meetings.new.progress.records c.args.progress.now.records c.close.new.records c.hold_meetings.new.seats
-    (arrived_all header script.calls c.args.seats.now) c.requires.none ((ranks_lawful script c.requires.lawful).one_each ∙ sym h.seats.all) (are_over script c.hold_meetings.new.seats h.free h.arrived)
-    (ended_legal script header _ c.hold_meetings.new.progress.order c.hold_meetings.new.seats c.requires.lawful h.seats h.free h.arrived) h.led
-    (raised_torn header (g.D.Disk.held c.hold_meetings.new.disk) (g.D.Disk.held c.close.new.disk) c.hold_meetings.new.progress.records (most_known c.hold_meetings.new.seats) k.bytes)
-    (inr (k.records ∙ sym (raised_records (as_setting header) (counted [] c.hold_meetings.new.progress.records) (most_known c.hold_meetings.new.seats))))
+    (g.D.Disk.held c.hold_meetings.new.disk) (g.D.Disk.held c.close.new.disk) c.hold_meetings.new.progress.records c.args.progress.now.records c.close.new.records c.hold_meetings.new.runners
+    (arrived_all header script.calls c.args.runners.now) c.requires.none ((ranks_lawful script c.requires.lawful).one_each ∙ sym h.runners.all) (are_over script c.hold_meetings.new.runners h.free h.arrived)
+    (ended_legal script header _ c.hold_meetings.new.progress.order c.hold_meetings.new.runners c.requires.lawful h.runners h.free h.arrived) h.led
+    (raised_torn header (g.D.Disk.held c.hold_meetings.new.disk) (g.D.Disk.held c.close.new.disk) c.hold_meetings.new.progress.records (most_known c.hold_meetings.new.runners) k.bytes)
+    (inr (k.records ∙ sym (raised_records (as_setting header) (counted [] c.hold_meetings.new.progress.records) (most_known c.hold_meetings.new.runners))))
 
 pub returns-in_err-hold_meetings-clause-answered : goal.returns-in_err-hold_meetings-clause-answered
 returns-in_err-hold_meetings-clause-answered g c e is =
@@ -115,8 +115,8 @@ returns-in_err-close-clause-answered g c e is =
     let script = c.args.lent.now.setup.script.now in
     let header = c.args.lent.now.setup.header.now in
     let s = setting_of script header in
-    let first = c.args.seats.now in
-    let last = c.hold_meetings.new.seats in
+    let first = c.args.runners.now in
+    let last = c.hold_meetings.new.runners in
     let order = c.hold_meetings.new.progress.order in
     let h = c.in_ok-hold_meetings.ensures in
     have_reached s e c.args.progress.now.order order (g.D.Disk.held c.args.disk.now) c.args.progress.now.records (all_between script.calls first) (arrived_all header script.calls first) last
@@ -126,4 +126,4 @@ returns-in_err-close-clause-answered g c e is =
     (stage (g.D.Disk.held c.hold_meetings.new.disk) (g.D.Disk.calls c.hold_meetings.new.disk) c.hold_meetings.new.progress.records (arrived_all header script.calls last))
     h.led.led h.led.grown
     (reached_here (AllSay e last) s order order (g.D.Disk.held c.hold_meetings.new.disk) c.hold_meetings.new.progress.records (arrived_all header script.calls last) refl
-    (λ n. all_say_here script header e last last n ((ranks_lawful script c.requires.lawful).one_each ∙ sym h.seats.all) refl h.arrived (keep_own last))))
+    (λ n. all_say_here script header e last last n ((ranks_lawful script c.requires.lawful).one_each ∙ sym h.runners.all) refl h.arrived (keep_own last))))

@@ -3,7 +3,7 @@ use Rattle.std.proofs.Common.{◌≡◌, ℕ, sym, ◌∙◌, subst, map, length
 use Rattle.std.specs.Prelude.{slice_get, IfSome}
 use Rattle.std.proofs.lemmas.Option.{same_Some, slice_get_within, slice_get-get_or}
 use Rattle.serial_spec.specs.RankSide.{wanted}
-use Rattle.turn_run.specs.Seated.{reply_of, IsAnswered}
+use Rattle.turn_run.specs.Running.{reply_of, IsAnswered}
 use Rattle.turn_run.proofs.MeetHear.{answered_by}
 use Rattle.turn_run.proofs.SaidMeet.{heard_part}
 use Rattle.turn_run.proofs.meeting.hear_all.Goals as goal
@@ -14,10 +14,10 @@ pub hear-requires-clause-waits : goal.hear-requires-clause-waits
 hear-requires-clause-waits c =
     let i = c.loop-number.number in
     let test = c.loop-number-test.true in
-    let long = c.loop-number.auto.seats in
+    let long = c.loop-number.auto.runners in
     let rows = c.loop-number.invariant.long in
     let all = c.requires.long in
-    let own = slice_get-get_or c.loop-number.seats i c.index-seats-number.result (omega arith) in
+    let own = slice_get-get_or c.loop-number.runners i c.index-runners-number.result (omega arith) in
     let row = slice_get-get_or c.loop-number.table.items i c.index_mut.result.now (omega arith) in
     (c.requires.fit i _ _ (sym (c.loop-number.invariant.left i (omega arith)) ∙ own) (sym (c.loop-number.invariant.blobs i (omega arith)) ∙ row)).waits
 
@@ -25,27 +25,27 @@ pub hear-requires-clause-fits : goal.hear-requires-clause-fits
 hear-requires-clause-fits c =
     let i = c.loop-number.number in
     let test = c.loop-number-test.true in
-    let long = c.loop-number.auto.seats in
+    let long = c.loop-number.auto.runners in
     let rows = c.loop-number.invariant.long in
     let all = c.requires.long in
-    let seat = get_or c.loop-number.seats i c.index-seats-number.result in
-    let own = slice_get-get_or c.loop-number.seats i c.index-seats-number.result (omega arith) in
+    let runner = get_or c.loop-number.runners i c.index-runners-number.result in
+    let own = slice_get-get_or c.loop-number.runners i c.index-runners-number.result (omega arith) in
     let row = slice_get-get_or c.loop-number.table.items i c.index_mut.result.now (omega arith) in
-    subst (λ (blobs : List (List ℕ)). IfSome seat.rank.state.«open» (λ o. map (λ blob. length blob) blobs ≡ map (wanted seat.rank.header) o.gets))
+    subst (λ (blobs : List (List ℕ)). IfSome runner.rank.state.«open» (λ o. map (λ blob. length blob) blobs ≡ map (wanted runner.rank.header) o.gets))
     (sym (c.take-got.ensures.taken ∙ c.index_mut.ensures.value))
     (c.requires.fit i _ _ (sym (c.loop-number.invariant.left i (omega arith)) ∙ own) (sym (c.loop-number.invariant.blobs i (omega arith)) ∙ row)).fits
 
 pub loop-number-preserved : goal.loop-number-preserved
 loop-number-preserved c =
-    let old = c.args.seats.now in
-    let now = c.loop-number.seats in
+    let old = c.args.runners.now in
+    let now = c.loop-number.runners in
     let i = c.loop-number.number in
     let test = c.loop-number-test.true in
-    let long = c.loop-number.auto.seats in
+    let long = c.loop-number.auto.runners in
     let rows = c.loop-number.invariant.long in
     let all = c.requires.long in
-    let seat = get_or now i c.index-seats-number.result in
-    let own = slice_get-get_or now i c.index-seats-number.result (omega arith) in
+    let runner = get_or now i c.index-runners-number.result in
+    let own = slice_get-get_or now i c.index-runners-number.result (omega arith) in
     let row = slice_get-get_or c.loop-number.table.items i c.index_mut.result.now (omega arith) in
     let first = sym (c.loop-number.invariant.left i (omega arith)) ∙ own in
     let its = sym (c.loop-number.invariant.blobs i (omega arith)) ∙ row in
@@ -54,8 +54,8 @@ loop-number-preserved c =
       blobs = left_more c.args.table c.loop-number.table.items i c.take-got.new.self c.loop-number.invariant.blobs;
       heard = λ r a b blobs l g h t.
           each_more (λ q x y. (bs : List (List ℕ)) → slice_get c.args.table q ≡ Some bs → IsAnswered (reply_of c.args.pair c.args.records bs) x y)
-          old now i seat c.hear.new.self first own
-          (λ bs e. answered_by c.args.pair c.args.records c.take-got.result bs seat c.hear.new.self
+          old now i runner c.hear.new.self first own
+          (λ bs e. answered_by c.args.pair c.args.records c.take-got.result bs runner c.hear.new.self
           ((c.take-got.ensures.taken ∙ c.index_mut.ensures.value) ∙ same_Some _ _ (sym its ∙ e))
           c.in_ok-hear.ensures.heard c.in_ok-hear.ensures.header c.in_ok-hear.ensures.held)
           (λ q x y k u v bs w. c.loop-number.invariant.heard q x y bs k u v w) r a b l g h blobs t;
@@ -64,24 +64,24 @@ loop-number-preserved c =
 
 pub returns-clause-all : goal.returns-clause-all
 returns-clause-all c = record {
-  long = c.loop-number.auto.seats;
+  long = c.loop-number.auto.runners;
   each = λ r a b blobs g h t.
-      let l = slice_get_within c.loop-number.seats r b h in
-      let long = c.loop-number.auto.seats in
+      let l = slice_get_within c.loop-number.runners r b h in
+      let long = c.loop-number.auto.runners in
       let past = c.loop-number-test.false in
       c.loop-number.invariant.heard r a b blobs (omega arith) g h t;
 }
 
 pub returns-in_err-hear-clause-part : goal.returns-in_err-hear-clause-part
 returns-in_err-hear-clause-part c =
-    let old = c.args.seats.now in
-    let now = c.loop-number.seats in
+    let old = c.args.runners.now in
+    let now = c.loop-number.runners in
     let i = c.loop-number.number in
     let test = c.loop-number-test.true in
-    let long = c.loop-number.auto.seats in
+    let long = c.loop-number.auto.runners in
     let rows = c.loop-number.invariant.long in
     let all = c.requires.long in
-    let seat = get_or now i c.index-seats-number.result in
-    let own = slice_get-get_or now i c.index-seats-number.result (omega arith) in
-    on_err c.from_residual.result (heard_part c.args.pair c.args.records c.args.table old now i seat c.hear.new.self own
+    let runner = get_or now i c.index-runners-number.result in
+    let own = slice_get-get_or now i c.index-runners-number.result (omega arith) in
+    on_err c.from_residual.result (heard_part c.args.pair c.args.records c.args.table old now i runner c.hear.new.self own
     (λ r a b blobs l g h t. (c.loop-number.invariant.heard r a b blobs l g h t).heard) c.loop-number.invariant.left c.in_err-hear.ensures.kept)

@@ -1,15 +1,15 @@
--- The offers of the seats so far are taken, and the other seats are as they were.
+-- The offers of the runners so far are taken, and the other runners are as they were.
 use Rattle.std.proofs.Common.{◌≡◌, ℕ, ◌<◌, ◌≤◌, take, Some}
 use Rattle.std.specs.Prelude.{slice_get}
-use Rattle.turn_run.specs.Seated.{IsFreed}
+use Rattle.turn_run.specs.Running.{IsFreed}
 use Rattle.turn_run.specs.Steps.{batches_of, held_offers, known_of}
-use Rattle.turn_run.specs.declared.seats.Seat.{Seat}
+use Rattle.turn_run.specs.declared.runners.Runner.{Runner}
 use Rattle.turn_run.proofs.meeting.take_job.Given as goal
 
-abbrev pub invariant-loop-seat : goal.invariant-loop-seat
-invariant-loop-seat l = record {
-  batches : l.batches.items ≡ batches_of (held_offers (take l.seat-index l.initial.seats));
-  known : l.known ≡ known_of (held_offers (take l.seat-index l.initial.seats));
-  freed : (r : ℕ) (a b : Seat) → r < l.seat-index → slice_get l.initial.seats r ≡ Some a → slice_get l.seats r ≡ Some b → IsFreed a b;
-  left : (r : ℕ) → l.seat-index ≤ r → slice_get l.seats r ≡ slice_get l.initial.seats r;
+abbrev pub invariant-loop-runner : goal.invariant-loop-runner
+invariant-loop-runner l = record {
+  batches : l.batches.items ≡ batches_of (held_offers (take l.runner-index l.initial.runners));
+  known : l.known ≡ known_of (held_offers (take l.runner-index l.initial.runners));
+  freed : (r : ℕ) (a b : Runner) → r < l.runner-index → slice_get l.initial.runners r ≡ Some a → slice_get l.runners r ≡ Some b → IsFreed a b;
+  left : (r : ℕ) → l.runner-index ≤ r → slice_get l.runners r ≡ slice_get l.initial.runners r;
 }

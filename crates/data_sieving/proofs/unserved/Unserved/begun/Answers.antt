@@ -1,7 +1,7 @@
 -- Those in front that begin before the place.
 use Rattle.std.proofs.Common.{List, subst, sym}
 use Rattle.nc_base.specs.declared.plan.Owned.{Owned}
-use Rattle.data_sieving.specs.Serving.{AreBegun}
+use Rattle.data_sieving.specs.Walked.{AreBegun}
 use Rattle.data_sieving.proofs.SplitSteps.{taken_begun}
 use Rattle.data_sieving.proofs.unserved.Unserved.begun.Goals as goal
 

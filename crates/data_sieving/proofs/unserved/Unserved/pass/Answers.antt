@@ -2,7 +2,7 @@
 use Rattle.std.proofs.Common.{◌⊎◌, ◌++◌, ◌<◌, List, sym, subst}
 use Rattle.nc_base.specs.declared.plan.Owned.{Owned}
 use Rattle.overlay_laws.specs.Entries.{In}
-use Rattle.data_sieving.specs.Serving.{entries_left, IsPast}
+use Rattle.data_sieving.specs.Walked.{entries_left, IsPast}
 use Rattle.data_sieving.proofs.PastSteps.{ahead_in, past_filter, passed_past, passed_begun, kept_begun, first_further, first_ahead, none_ahead}
 use Rattle.data_sieving.proofs.SplitSteps.{extents_left}
 use Rattle.data_sieving.proofs.unserved.Unserved.pass.Goals as goal

@@ -2,7 +2,7 @@
 use Rattle.std.proofs.Common.{◌⊎◌, ◌+◌, ◌<◌, length}
 use Rattle.nc_base.specs.declared.plan.Owned.{Owned}
 use Rattle.overlay_laws.specs.Entries.{In}
-use Rattle.data_sieving.specs.Serving.{entries_left, IsPast}
+use Rattle.data_sieving.specs.Walked.{entries_left, IsPast}
 use Rattle.data_sieving.proofs.unserved.Unserved.pass.Given as goal
 
 abbrev pub invariant-ahead : goal.invariant-ahead

@@ -2,7 +2,7 @@
 use Rattle.std.proofs.Common.{◌++◌, List, sym, subst, arith}
 use Rattle.nc_base.specs.declared.plan.Owned.{Owned}
 use Rattle.overlay_laws.proofs.HullLaws.{in_right}
-use Rattle.data_sieving.specs.Serving.{entries_left, IsNext}
+use Rattle.data_sieving.specs.Walked.{entries_left, IsNext}
 use Rattle.data_sieving.proofs.SplitSteps.{none_got, sorted_right, begun_sorted}
 use Rattle.data_sieving.proofs.ReachSteps.{begun_ends, begun_filled}
 use Rattle.data_sieving.proofs.NextSteps.{first_below, some_begun, carried_at, is_next, is_ready, Ready}

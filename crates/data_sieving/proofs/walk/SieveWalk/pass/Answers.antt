@@ -1,5 +1,5 @@
 -- What is left behind the place is left of what was left before.
-use Rattle.data_sieving.specs.Serving.{entries_left}
+use Rattle.data_sieving.specs.Walked.{entries_left}
 use Rattle.data_sieving.proofs.NextSteps.{past_left, begun_further}
 use Rattle.data_sieving.proofs.walk.SieveWalk.pass.Goals as goal
 

@@ -6,19 +6,19 @@ use Rattle.piece_exchange.specs.Blobs.{AreAsLong}
 use Rattle.piece_exchange.specs.Lenders.{AreReady}
 use Rattle.piece_exchange.specs.Logs.{HaveTakenTurns, IsKept, IsShelfIn}
 use Rattle.piece_exchange.specs.Shelves.{turns_due}
-use Rattle.piece_exchange.specs.declared.gets.starting.ReadSeat.{ReadSeat}
+use Rattle.piece_exchange.specs.declared.gets.starting.ReadWorker.{ReadWorker}
 use Rattle.piece_exchange.proofs.gets.collecting.take_all.Given as goal
 
 abbrev pub invariant-rounds : goal.invariant-rounds
 invariant-rounds g l = record {
-  long : length l.seats ≡ length l.initial.seats;
-  ready : (k : ℕ) (seat : ReadSeat _) → slice_get l.seats k ≡ Some seat → IsShelfIn l.plan.list.now seat.shelf;
-  kept : (k : ℕ) (old new : ReadSeat _) → slice_get l.initial.seats k ≡ Some old → slice_get l.seats k ≡ Some new → IsKept old new;
+  long : length l.workers ≡ length l.initial.workers;
+  ready : (k : ℕ) (worker : ReadWorker _) → slice_get l.workers k ≡ Some worker → IsShelfIn l.plan.list.now worker.shelf;
+  kept : (k : ℕ) (old new : ReadWorker _) → slice_get l.initial.workers k ≡ Some old → slice_get l.workers k ≡ Some new → IsKept old new;
   blobs : AreAsLong l.initial.table l.table;
-  taken : OnOk l.end (HaveTakenTurns l.plan.list.now l.initial.seats l.seats l.initial.table l.table);
+  taken : OnOk l.end (HaveTakenTurns l.plan.list.now l.initial.workers l.workers l.initial.table l.table);
   memory : IfErr l.end (λ e. e ≡ Memory);
   lenders : AreReady l.lenders.each.items;
 }
 
 abbrev pub decreases-rounds : goal.decreases-rounds
-decreases-rounds g l = length (flat_map (λ seat. turns_due seat.shelf) l.seats)
+decreases-rounds g l = length (flat_map (λ worker. turns_due worker.shelf) l.workers)

@@ -14,65 +14,65 @@ use Rattle.piece_exchange.specs.Gets.{get_turns, AreRead, HasGot}
 use Rattle.piece_exchange.specs.Logs.{HasReadParts, HaveTakenTurns, IsKept}
 use Rattle.piece_exchange.specs.Put.{PartState, SomeZip}
 use Rattle.piece_exchange.specs.Shelves.{domain_of, part_of, IsToldToGo}
-use Rattle.piece_exchange.specs.declared.gets.starting.ReadSeat.{ReadSeat}
+use Rattle.piece_exchange.specs.declared.gets.starting.ReadWorker.{ReadWorker}
 use Rattle.piece_exchange.proofs.BackLaws.{and_first_ok, no_items, slice_kept}
 use Rattle.piece_exchange.proofs.PartReads.{all_got, all_got_later, all_read, and_memory, rows_long, some_failed, taken_by}
-use Rattle.piece_exchange.proofs.TakeLaws.{ready_seats, sent_seats}
+use Rattle.piece_exchange.proofs.TakeLaws.{ready_workers, sent_workers}
 use Rattle.piece_exchange.proofs.gets.exchange.get_in_scope.Goals as goal
 
 pub take_all-came-requires-clause-ready : goal.take_all-came-requires-clause-ready
 take_all-came-requires-clause-ready g c κs within =
-    let first = c.start_all.new.crew.seats.items in
-    let mid = c.tell_all.new.seats in
-    let count = c.start_all.new.crew.seats.len in
+    let first = c.start_all.new.crew.workers.items in
+    let mid = c.tell_all.new.workers in
+    let count = c.start_all.new.crew.workers.len in
     let n : count ≡ length first = first_of (search rules, grind (arith, common_steps)) in
     let lent = c.deref_mut.ensures.value in
-    let long : length mid ≡ length first = c.tell_all.ensures.long ∙ ap (λ (ss : List (ReadSeat g.row.D.Denot)). length ss) lent in
+    let long : length mid ≡ length first = c.tell_all.ensures.long ∙ ap (λ (ss : List (ReadWorker g.row.D.Denot)). length ss) lent in
     let kept = slice_kept count mid first n long in
     let again : c.deref_mut-2.result.now ≡ mid = c.deref_mut-2.ensures.value ∙ kept in
-    let told = subst (λ (ss : List (ReadSeat g.row.D.Denot)). (k : ℕ) (a b : ReadSeat g.row.D.Denot) → slice_get ss k ≡ Some a → slice_get mid k ≡ Some b → IsToldToGo a b) lent c.tell_all.ensures.told in
-    λ k seat e.
-    (ready_seats c.args.plan.now first mid long told c.start_all.ensures.seats seat
-    (at_in mid k seat (subst (λ (ss : List (ReadSeat g.row.D.Denot)). slice_get ss k ≡ Some seat) again e))).ready
+    let told = subst (λ (ss : List (ReadWorker g.row.D.Denot)). (k : ℕ) (a b : ReadWorker g.row.D.Denot) → slice_get ss k ≡ Some a → slice_get mid k ≡ Some b → IsToldToGo a b) lent c.tell_all.ensures.told in
+    λ k worker e.
+    (ready_workers c.args.plan.now first mid long told c.start_all.ensures.workers worker
+    (at_in mid k worker (subst (λ (ss : List (ReadWorker g.row.D.Denot)). slice_get ss k ≡ Some worker) again e))).ready
 
 pub take_all-came-requires-clause-fit : goal.take_all-came-requires-clause-fit
 take_all-came-requires-clause-fit g c κs within =
     subst (λ (t : List (List (List ℕ))). FitTable t c.args.plan.now.list.now) (sym c.deref_mut-3.ensures.value) c.requires.fit
 
-pub join_all-end-requires-clause-seats : goal.join_all-end-requires-clause-seats
-join_all-end-requires-clause-seats g c κs within =
-    let first = c.start_all.new.crew.seats.items in
-    let mid = c.tell_all.new.seats in
-    let last = c.take_all-came.new.seats in
-    let count = c.start_all.new.crew.seats.len in
+pub join_all-end-requires-clause-workers : goal.join_all-end-requires-clause-workers
+join_all-end-requires-clause-workers g c κs within =
+    let first = c.start_all.new.crew.workers.items in
+    let mid = c.tell_all.new.workers in
+    let last = c.take_all-came.new.workers in
+    let count = c.start_all.new.crew.workers.len in
     let n : count ≡ length first = first_of (search rules, grind (arith, common_steps)) in
     let lent = c.deref_mut.ensures.value in
-    let long : length mid ≡ length first = c.tell_all.ensures.long ∙ ap (λ (ss : List (ReadSeat g.row.D.Denot)). length ss) lent in
+    let long : length mid ≡ length first = c.tell_all.ensures.long ∙ ap (λ (ss : List (ReadWorker g.row.D.Denot)). length ss) lent in
     let kept = slice_kept count mid first n long in
     let again : c.deref_mut-2.result.now ≡ mid = c.deref_mut-2.ensures.value ∙ kept in
-    let told = subst (λ (ss : List (ReadSeat g.row.D.Denot)). (k : ℕ) (a b : ReadSeat g.row.D.Denot) → slice_get ss k ≡ Some a → slice_get mid k ≡ Some b → IsToldToGo a b) lent c.tell_all.ensures.told in
-    let held = subst (λ (ss : List (ReadSeat g.row.D.Denot)). (k : ℕ) (a b : ReadSeat g.row.D.Denot) → slice_get ss k ≡ Some a → slice_get last k ≡ Some b → IsKept a b) again c.take_all-came.ensures.kept in
-    let longer : length last ≡ length mid = c.take_all-came.ensures.long ∙ ap (λ (ss : List (ReadSeat g.row.D.Denot)). length ss) again in
-    let before : length (take count (mid ++ drop (length mid) first)) ≡ length mid = ap (λ (ss : List (ReadSeat g.row.D.Denot)). length ss) kept in
+    let told = subst (λ (ss : List (ReadWorker g.row.D.Denot)). (k : ℕ) (a b : ReadWorker g.row.D.Denot) → slice_get ss k ≡ Some a → slice_get mid k ≡ Some b → IsToldToGo a b) lent c.tell_all.ensures.told in
+    let held = subst (λ (ss : List (ReadWorker g.row.D.Denot)). (k : ℕ) (a b : ReadWorker g.row.D.Denot) → slice_get ss k ≡ Some a → slice_get last k ≡ Some b → IsKept a b) again c.take_all-came.ensures.kept in
+    let longer : length last ≡ length mid = c.take_all-came.ensures.long ∙ ap (λ (ss : List (ReadWorker g.row.D.Denot)). length ss) again in
+    let before : length (take count (mid ++ drop (length mid) first)) ≡ length mid = ap (λ (ss : List (ReadWorker g.row.D.Denot)). length ss) kept in
     let whole = slice_kept count last (take count (mid ++ drop (length mid) first)) (n ∙ sym long ∙ sym before) (longer ∙ sym before) in
-    λ seat m.
-    sent_seats c.args.plan.now mid last longer held (ready_seats c.args.plan.now first mid long told c.start_all.ensures.seats) seat
-    (subst (λ (ss : List (ReadSeat g.row.D.Denot)). In ss seat) whole m)
+    λ worker m.
+    sent_workers c.args.plan.now mid last longer held (ready_workers c.args.plan.now first mid long told c.start_all.ensures.workers) worker
+    (subst (λ (ss : List (ReadWorker g.row.D.Denot)). In ss worker) whole m)
 
 pub returns-clause-got : goal.returns-clause-got
 returns-clause-got g c =
     let plan = c.args.plan.now in
-    let first = c.start_all.new.crew.seats.items in
-    let mid = c.tell_all.new.seats in
-    let last = c.take_all-came.new.seats in
-    let count = c.start_all.new.crew.seats.len in
+    let first = c.start_all.new.crew.workers.items in
+    let mid = c.tell_all.new.workers in
+    let last = c.take_all-came.new.workers in
+    let count = c.start_all.new.crew.workers.len in
     let n : count ≡ length first = first_of (search rules, grind (arith, common_steps)) in
     let lent = c.deref_mut.ensures.value in
-    let long : length mid ≡ length first = c.tell_all.ensures.long ∙ ap (λ (ss : List (ReadSeat g.row.D.Denot)). length ss) lent in
+    let long : length mid ≡ length first = c.tell_all.ensures.long ∙ ap (λ (ss : List (ReadWorker g.row.D.Denot)). length ss) lent in
     let kept = slice_kept count mid first n long in
     let again : c.deref_mut-2.result.now ≡ mid = c.deref_mut-2.ensures.value ∙ kept in
-    let longer : length last ≡ length mid = c.take_all-came.ensures.long ∙ ap (λ (ss : List (ReadSeat g.row.D.Denot)). length ss) again in
-    let before : length (take count (mid ++ drop (length mid) first)) ≡ length mid = ap (λ (ss : List (ReadSeat g.row.D.Denot)). length ss) kept in
+    let longer : length last ≡ length mid = c.take_all-came.ensures.long ∙ ap (λ (ss : List (ReadWorker g.row.D.Denot)). length ss) again in
+    let before : length (take count (mid ++ drop (length mid) first)) ≡ length mid = ap (λ (ss : List (ReadWorker g.row.D.Denot)). length ss) kept in
     let whole = slice_kept count last (take count (mid ++ drop (length mid) first)) (n ∙ sym long ∙ sym before) (longer ∙ sym before) in
     let empty : length c.start_all.new.crew.rest.items ≡ 0 = first_of (search rules, grind (arith, common_steps)) in
     let back = c.join_all-end.new.back.items in
@@ -86,21 +86,21 @@ returns-clause-got g c =
     (taken_by first c.deref_mut.result.now mid c.deref_mut-2.result.now last c.start_all.new.crew.rest.items c.args.work.parts.items c.args.domains.now lent again
     c.tell_all.ensures.long c.tell_all.ensures.told c.take_all-came.ensures.long c.take_all-came.ensures.kept (no_items c.start_all.new.crew.rest.items empty)
     c.start_all.ensures.parts c.start_all.ensures.domains c.requires.one_each)
-    (subst (λ (ss : List (ReadSeat g.row.D.Denot)). AllZip (λ seat d. Got (part_of seat, domain_of seat) d) ss back) whole c.join_all-end.ensures.got))
+    (subst (λ (ss : List (ReadWorker g.row.D.Denot)). AllZip (λ worker d. Got (part_of worker, domain_of worker) d) ss back) whole c.join_all-end.ensures.got))
 
 pub returns-clause-failed : goal.returns-clause-failed
 returns-clause-failed g c =
-    let first = c.start_all.new.crew.seats.items in
-    let mid = c.tell_all.new.seats in
-    let last = c.take_all-came.new.seats in
-    let count = c.start_all.new.crew.seats.len in
+    let first = c.start_all.new.crew.workers.items in
+    let mid = c.tell_all.new.workers in
+    let last = c.take_all-came.new.workers in
+    let count = c.start_all.new.crew.workers.len in
     let n : count ≡ length first = first_of (search rules, grind (arith, common_steps)) in
     let lent = c.deref_mut.ensures.value in
-    let long : length mid ≡ length first = c.tell_all.ensures.long ∙ ap (λ (ss : List (ReadSeat g.row.D.Denot)). length ss) lent in
+    let long : length mid ≡ length first = c.tell_all.ensures.long ∙ ap (λ (ss : List (ReadWorker g.row.D.Denot)). length ss) lent in
     let kept = slice_kept count mid first n long in
     let again : c.deref_mut-2.result.now ≡ mid = c.deref_mut-2.ensures.value ∙ kept in
-    let longer : length last ≡ length mid = c.take_all-came.ensures.long ∙ ap (λ (ss : List (ReadSeat g.row.D.Denot)). length ss) again in
-    let before : length (take count (mid ++ drop (length mid) first)) ≡ length mid = ap (λ (ss : List (ReadSeat g.row.D.Denot)). length ss) kept in
+    let longer : length last ≡ length mid = c.take_all-came.ensures.long ∙ ap (λ (ss : List (ReadWorker g.row.D.Denot)). length ss) again in
+    let before : length (take count (mid ++ drop (length mid) first)) ≡ length mid = ap (λ (ss : List (ReadWorker g.row.D.Denot)). length ss) kept in
     let whole = slice_kept count last (take count (mid ++ drop (length mid) first)) (n ∙ sym long ∙ sym before) (longer ∙ sym before) in
     let empty : length c.start_all.new.crew.rest.items ≡ 0 = first_of (search rules, grind (arith, common_steps)) in
     let back = c.join_all-end.new.back.items in
@@ -110,7 +110,7 @@ returns-clause-failed g c =
     (taken_by first c.deref_mut.result.now mid c.deref_mut-2.result.now last c.start_all.new.crew.rest.items c.args.work.parts.items c.args.domains.now lent again
     c.tell_all.ensures.long c.tell_all.ensures.told c.take_all-came.ensures.long c.take_all-came.ensures.kept (no_items c.start_all.new.crew.rest.items empty)
     c.start_all.ensures.parts c.start_all.ensures.domains c.requires.one_each)
-    (subst (λ (ss : List (ReadSeat g.row.D.Denot)). SomeZip (λ seat d. Failing (part_of seat) d) ss back) whole (c.join_all-end.ensures.failed
+    (subst (λ (ss : List (ReadWorker g.row.D.Denot)). SomeZip (λ worker d. Failing (part_of worker) d) ss back) whole (c.join_all-end.ensures.failed
     (and_memory c.join_all-end.result c.take_all-came.result c.take_all-came.ensures.memory (subst (λ (r : Result (Unit {0}) DiskErr). IsErrOf r Failed) c.and.ensures f))))
 
 pub returns-clause-blobs : goal.returns-clause-blobs
@@ -126,18 +126,18 @@ returns-clause-blobs g c =
 pub returns-clause-read : goal.returns-clause-read
 returns-clause-read g c =
     let plan = c.args.plan.now in
-    let first = c.start_all.new.crew.seats.items in
-    let mid = c.tell_all.new.seats in
-    let last = c.take_all-came.new.seats in
-    let count = c.start_all.new.crew.seats.len in
+    let first = c.start_all.new.crew.workers.items in
+    let mid = c.tell_all.new.workers in
+    let last = c.take_all-came.new.workers in
+    let count = c.start_all.new.crew.workers.len in
     let n : count ≡ length first = first_of (search rules, grind (arith, common_steps)) in
     let lent = c.deref_mut.ensures.value in
-    let long : length mid ≡ length first = c.tell_all.ensures.long ∙ ap (λ (ss : List (ReadSeat g.row.D.Denot)). length ss) lent in
+    let long : length mid ≡ length first = c.tell_all.ensures.long ∙ ap (λ (ss : List (ReadWorker g.row.D.Denot)). length ss) lent in
     let kept = slice_kept count mid first n long in
     let again : c.deref_mut-2.result.now ≡ mid = c.deref_mut-2.ensures.value ∙ kept in
-    let told = subst (λ (ss : List (ReadSeat g.row.D.Denot)). (k : ℕ) (a b : ReadSeat g.row.D.Denot) → slice_get ss k ≡ Some a → slice_get mid k ≡ Some b → IsToldToGo a b) lent c.tell_all.ensures.told in
-    let longer : length last ≡ length mid = c.take_all-came.ensures.long ∙ ap (λ (ss : List (ReadSeat g.row.D.Denot)). length ss) again in
-    let before : length (take count (mid ++ drop (length mid) first)) ≡ length mid = ap (λ (ss : List (ReadSeat g.row.D.Denot)). length ss) kept in
+    let told = subst (λ (ss : List (ReadWorker g.row.D.Denot)). (k : ℕ) (a b : ReadWorker g.row.D.Denot) → slice_get ss k ≡ Some a → slice_get mid k ≡ Some b → IsToldToGo a b) lent c.tell_all.ensures.told in
+    let longer : length last ≡ length mid = c.take_all-came.ensures.long ∙ ap (λ (ss : List (ReadWorker g.row.D.Denot)). length ss) again in
+    let before : length (take count (mid ++ drop (length mid) first)) ≡ length mid = ap (λ (ss : List (ReadWorker g.row.D.Denot)). length ss) kept in
     let whole = slice_kept count last (take count (mid ++ drop (length mid) first)) (n ∙ sym long ∙ sym before) (longer ∙ sym before) in
     let empty : length c.start_all.new.crew.rest.items ≡ 0 = first_of (search rules, grind (arith, common_steps)) in
     let table = c.args.work.table.items in
@@ -154,8 +154,8 @@ returns-clause-read g c =
     (taken_by first c.deref_mut.result.now mid c.deref_mut-2.result.now last c.start_all.new.crew.rest.items c.args.work.parts.items c.args.domains.now lent again
     c.tell_all.ensures.long c.tell_all.ensures.told c.take_all-came.ensures.long c.take_all-came.ensures.kept (no_items c.start_all.new.crew.rest.items empty)
     c.start_all.ensures.parts c.start_all.ensures.domains c.requires.one_each)
-    (ready_seats plan first mid long told c.start_all.ensures.seats) c.take_all-came.ensures.none
+    (ready_workers plan first mid long told c.start_all.ensures.workers) c.take_all-came.ensures.none
     (subst (λ (t : List (List (List ℕ))). OnOk c.take_all-came.result (HaveTakenTurns plan.list.now mid last t filled)) given
-    (subst (λ (ss : List (ReadSeat g.row.D.Denot)). OnOk c.take_all-came.result (HaveTakenTurns plan.list.now ss last c.deref_mut-3.result.now filled)) again c.take_all-came.ensures.taken))
-    (subst (λ (ss : List (ReadSeat g.row.D.Denot)). OnOk c.join_all-end.result ((seat : ReadSeat g.row.D.Denot) → In ss seat
-    → AreRead (get_turns plan (domain_of seat)) (from (part_of seat)) (held (part_of seat)) seat.shelf.line.items)) whole c.join_all-end.ensures.read)))
+    (subst (λ (ss : List (ReadWorker g.row.D.Denot)). OnOk c.take_all-came.result (HaveTakenTurns plan.list.now ss last c.deref_mut-3.result.now filled)) again c.take_all-came.ensures.taken))
+    (subst (λ (ss : List (ReadWorker g.row.D.Denot)). OnOk c.join_all-end.result ((worker : ReadWorker g.row.D.Denot) → In ss worker
+    → AreRead (get_turns plan (domain_of worker)) (from (part_of worker)) (held (part_of worker)) worker.shelf.line.items)) whole c.join_all-end.ensures.read)))

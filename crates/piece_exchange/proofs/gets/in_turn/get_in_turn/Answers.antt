@@ -22,7 +22,7 @@ returns-in_default-vec-clause-got g c =
 
 pub returns-clause-read : goal.returns-clause-read
 returns-clause-read g c =
-    let made = c.read_parts-came.new.desk.table.items in
+    let made = c.read_parts-came.new.room.table.items in
     let given : c.into_vec.result.items ≡ c.args.into.now = first_of (search rules, grind (arith, common_steps)) in
     let whole : c.from_vec.result ≡ made = first_of (search rules, grind (arith, common_steps)) in
     let pairs = zip c.args.parts.items c.args.domains.now in

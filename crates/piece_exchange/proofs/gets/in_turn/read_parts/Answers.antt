@@ -32,7 +32,7 @@ loop-part-init g c =
       room = refl;
       buf = refl;
       got = none_zip (Got (Ok tt)) c.args.back.items c.requires.none;
-      read = parts_none (λ d. g.D.Disk.from d) (λ d. g.D.Disk.held d) c.args.plan.now c.args.desk.now.table.items;
+      read = parts_none (λ d. g.D.Disk.from d) (λ d. g.D.Disk.held d) c.args.plan.now c.args.room.now.table.items;
       blobs = refl;
       failed = λ f. absurd cc;
     }
@@ -63,7 +63,7 @@ read_next-part-requires-clause-room g c κs within =
 
 pub read_next-part-requires-clause-fit : goal.read_next-part-requires-clause-fit
 read_next-part-requires-clause-fit g c κs within =
-    fit_as_long c.args.desk.now.table.items c.loop-part.desk.table.items c.args.plan.now.list.now c.loop-part.invariant.blobs c.requires.fit
+    fit_as_long c.args.room.now.table.items c.loop-part.room.table.items c.args.plan.now.list.now c.loop-part.invariant.blobs c.requires.fit
 
 pub loop-part-preserved : goal.loop-part-preserved
 loop-part-preserved g c =
@@ -94,7 +94,7 @@ loop-part-preserved g c =
           (λ p d h. got_later (get_turns plan p.1) (state p.0) (state d) c.loop-part.end came c.read_next-part.ensures.ok h) c.loop-part.invariant.got
           c.read_next-part.ensures.got pushed);
       read = parts_on (λ d. g.D.Disk.from d) (λ d. g.D.Disk.held d) plan (zip c.loop-part.yielded c.args.domains.now) (zip (c.loop-part.yielded ++ c.in-Some.part ∷ []) c.args.domains.now)
-          (c.in-Some.part, domain) c.args.desk.now.table.items c.loop-part.desk.table.items c.read_next-part.new.desk.table.items c.loop-part.end came
+          (c.in-Some.part, domain) c.args.room.now.table.items c.loop-part.room.table.items c.read_next-part.new.room.table.items c.loop-part.end came
           more c.read_next-part.ensures.ok c.loop-part.invariant.read c.read_next-part.ensures.read;
       blobs = c.read_next-part.ensures.blobs ∙ c.loop-part.invariant.blobs;
       failed = failed_more (λ (a b : g.row.D.Denot). Rose (g.D.Disk.faults a) (g.D.Disk.faults b)) c.loop-part.yielded c.loop-part.back.items _ c.in-Some.part part c.loop-part.end came
@@ -104,5 +104,5 @@ loop-part-preserved g c =
 pub returns-clause-read : goal.returns-clause-read
 returns-clause-read g c =
     let whole : c.loop-part.yielded ≡ c.args.parts.items = first_of (search rules, grind (arith, common_steps)) in
-    subst (λ (ps : List g.row.D.Denot). OnOk c.loop-part.end (HasReadParts (λ d. g.D.Disk.from d) (λ d. g.D.Disk.held d) c.args.plan.now (zip ps c.args.domains.now) c.args.desk.now.table.items c.loop-part.desk.table.items))
+    subst (λ (ps : List g.row.D.Denot). OnOk c.loop-part.end (HasReadParts (λ d. g.D.Disk.from d) (λ d. g.D.Disk.held d) c.args.plan.now (zip ps c.args.domains.now) c.args.room.now.table.items c.loop-part.room.table.items))
     whole c.loop-part.invariant.read

@@ -15,12 +15,12 @@ invariant-loop-part g l = record {
   all : l.yielded ++ l.part-iterator.rest.items ≡ l.fn.parts.items;
   long : length l.back.items ≡ length l.yielded;
   room : vec_capacity l.back ≡ vec_capacity l.initial.back;
-  buf : length l.desk.buf.items ≡ length l.initial.desk.buf.items;
+  buf : length l.room.buf.items ≡ length l.initial.room.buf.items;
   got : AllZip
       (λ p new. HasGot (get_turns l.plan p.1)
       (record { from = g.D.Disk.from p.0; len = g.D.Disk.len p.0; held = g.D.Disk.held p.0; calls = g.D.Disk.calls p.0; faults = g.D.Disk.faults p.0 })
       (record { from = g.D.Disk.from new; len = g.D.Disk.len new; held = g.D.Disk.held new; calls = g.D.Disk.calls new; faults = g.D.Disk.faults new }) l.end) (zip l.yielded l.domains) l.back.items;
-  read : OnOk l.end (HasReadParts (λ part. g.D.Disk.from part) (λ part. g.D.Disk.held part) l.plan (zip l.yielded l.domains) l.initial.desk.table.items l.desk.table.items);
-  blobs : AreAsLong l.initial.desk.table.items l.desk.table.items;
+  read : OnOk l.end (HasReadParts (λ part. g.D.Disk.from part) (λ part. g.D.Disk.held part) l.plan (zip l.yielded l.domains) l.initial.room.table.items l.room.table.items);
+  blobs : AreAsLong l.initial.room.table.items l.room.table.items;
   failed : IsErrOf l.end Failed → SomeZip (λ old new. Rose (g.D.Disk.faults old) (g.D.Disk.faults new)) l.yielded l.back.items;
 }

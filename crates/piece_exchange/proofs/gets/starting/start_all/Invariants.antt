@@ -2,16 +2,16 @@
 use Rattle.std.proofs.Common.{◌≡◌, ◌++◌, length, map, take, vec_capacity}
 use Rattle.overlay_laws.specs.Entries.{In}
 use Rattle.piece_exchange.specs.Shelves.{domain_of, part_of, IsFresh}
-use Rattle.piece_exchange.specs.declared.gets.starting.ReadSeat.{ReadSeat}
+use Rattle.piece_exchange.specs.declared.gets.starting.ReadWorker.{ReadWorker}
 use Rattle.piece_exchange.proofs.gets.starting.start_all.Given as goal
 
 abbrev pub invariant-loop-part : goal.invariant-loop-part
 invariant-loop-part g l = record {
   all : l.yielded ++ l.part-iterator.rest.items ≡ l.fn.supply.parts.items;
-  parts : map (λ seat. part_of seat) l.crew.seats.items ++ l.crew.rest.items ≡ l.yielded;
-  domains : map (λ seat. domain_of seat) l.crew.seats.items ≡ take (length l.crew.seats.items) l.domains;
-  seats : (seat : ReadSeat _) → In l.crew.seats.items seat → IsFresh l.plan seat;
-  seats_room : vec_capacity l.crew.seats ≡ vec_capacity l.initial.crew.seats;
+  parts : map (λ worker. part_of worker) l.crew.workers.items ++ l.crew.rest.items ≡ l.yielded;
+  domains : map (λ worker. domain_of worker) l.crew.workers.items ≡ take (length l.crew.workers.items) l.domains;
+  workers : (worker : ReadWorker _) → In l.crew.workers.items worker → IsFresh l.plan worker;
+  workers_room : vec_capacity l.crew.workers ≡ vec_capacity l.initial.crew.workers;
   rest_room : vec_capacity l.crew.rest ≡ vec_capacity l.initial.crew.rest;
   back : l.crew.back ≡ l.initial.crew.back;
 }

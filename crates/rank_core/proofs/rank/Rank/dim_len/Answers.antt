@@ -4,7 +4,7 @@ use Rattle.std.proofs.lemmas.Bool.{cond-true, cond-false, eq-eqb, ne_eqb}
 use Rattle.std.proofs.lemmas.List.Quantifiers.{position-Some}
 use Rattle.std.proofs.lemmas.Option.{slice_get_read}
 use Rattle.nc_base.specs.declared.header.Dim.{Dim}
-use Rattle.serial_spec.specs.Looking.{find_dim}
+use Rattle.serial_spec.specs.Looks.{find_dim}
 use Rattle.serial_spec.specs.RankMachine.{dim_at}
 use Rattle.rank_core.specs.Ranked.{Ranked}
 use Rattle.rank_core.proofs.StepLaws.{dim_is, dim_there}

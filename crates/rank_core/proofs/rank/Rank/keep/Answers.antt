@@ -4,7 +4,7 @@ use Rattle.nc_base.specs.declared.plan.Post.{Post}
 use Rattle.request_queue.specs.Queued.{Queued, id_of, with_request}
 use Rattle.std.proofs.lemmas.Result.{on_ok_weaker}
 use Rattle.serial_spec.specs.RankMachine.{Waiting, status_of, with_posted}
-use Rattle.rank_core.specs.Keeping.{state_of}
+use Rattle.rank_core.specs.Kept.{state_of}
 use Rattle.rank_core.specs.Ranked.{Ranked}
 use Rattle.rank_core.specs.Requests.{AreTowards, direction_of_kind}
 use Rattle.rank_core.proofs.StepLaws.{requests_kept, id_is}

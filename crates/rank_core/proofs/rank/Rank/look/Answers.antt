@@ -2,13 +2,13 @@ use Rattle.std.proofs.Common.{◌≡◌, subst}
 use Rattle.std.specs.Prelude.{IfOk}
 use Rattle.std.specs.Option.{option_copied}
 use Rattle.std.proofs.lemmas.Result.{IfOk-weaker}
-use Rattle.serial_spec.specs.Looking as looks
-use Rattle.serial_spec.specs.Looking.{direction_of}
+use Rattle.serial_spec.specs.Looks as looks
+use Rattle.serial_spec.specs.Looks.{direction_of}
 use Rattle.rank_core.specs.Looked.{as_look, posts_of, AreLooked}
 use Rattle.rank_core.specs.Ranked.{Ranked}
 use Rattle.rank_core.specs.Requests.{AreTowards, HaveId}
 use Rattle.rank_core.specs.Stepped.{IsSomeLook}
-use Rattle.rank_core.specs.declared.looking.Look.{Look}
+use Rattle.rank_core.specs.declared.look.Look.{Look}
 use Rattle.rank_core.proofs.AskedLaws.{look_is}
 use Rattle.rank_core.proofs.StepLaws.{ok_both, towards}
 use Rattle.rank_core.proofs.rank.Rank.look.Goals as goal

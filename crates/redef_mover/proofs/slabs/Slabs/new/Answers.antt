@@ -1,6 +1,6 @@
 -- The lists stand for all slabs.
 use Rattle.std.proofs.Common.{◌≡◌, ◌∙◌, ap, length, List, arith}
-use Rattle.redef_laws.specs.Rising.{rising}
+use Rattle.redef_laws.specs.RisingSlabs.{rising}
 use Rattle.redef_mover.specs.declared.slabs.Shift.{Shift}
 use Rattle.redef_mover.specs.declared.slabs.Slabs.{Slabs}
 use Rattle.redef_mover.specs.Moves.{listed}

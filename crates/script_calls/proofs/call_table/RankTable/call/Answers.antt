@@ -3,7 +3,7 @@ use Rattle.nc_base.specs.declared.errors.ScriptKind.{ScriptKind}
 use Rattle.nc_base.specs.declared.request.Call.{Call}
 use Rattle.script_spec.specs.ScriptWords.{Word}
 use Rattle.script_spec.specs.ScriptCalls.{Called, call_of, calls_of}
-use Rattle.script_words.specs.Reading.{Gives}
+use Rattle.script_words.specs.Given.{Gives}
 use Rattle.script_calls.proofs.CallLaws.{found_own}
 use Rattle.script_calls.proofs.LineOfCall.{line_of_next}
 use Rattle.script_calls.proofs.call_table.RankTable.call.Goals as goal

@@ -1,6 +1,6 @@
 -- No entry is gone.
 use Rattle.std.proofs.Common.{List, min, subst, sym, ◌∙◌, arith}
-use Rattle.data_sieving.specs.Serving.{entries_left}
+use Rattle.data_sieving.specs.Walked.{entries_left}
 use Rattle.data_sieving.proofs.LoopSteps.{all_left, walk_begin}
 use Rattle.piece_exchange.specs.Hulls.{AreTurns}
 use Rattle.piece_exchange.specs.Turns.{Told, turns_ahead}

@@ -1,7 +1,7 @@
 -- Those carried, and those behind them that have begun before the hull ends.
 use Rattle.std.proofs.Common.{◌+◌, ◌++◌, List, sym, subst}
 use Rattle.nc_base.specs.declared.plan.Owned.{Owned}
-use Rattle.data_sieving.specs.Serving.{entries_left}
+use Rattle.data_sieving.specs.Walked.{entries_left}
 use Rattle.data_sieving.proofs.SplitSteps.{sorted_right}
 use Rattle.piece_exchange.specs.Cursor.{AreInFront}
 use Rattle.piece_exchange.proofs.TurnLaws.{front_carried}

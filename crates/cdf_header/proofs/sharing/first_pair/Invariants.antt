@@ -1,6 +1,0 @@
-use Rattle.std.proofs.Common.{◌≡◌, drop}
-use Rattle.cdf_header.specs.Spans.{shared_pair}
-use Rattle.cdf_header.proofs.sharing.first_pair.Given as goal
-
-abbrev pub invariant-loop-k : goal.invariant-loop-k
-invariant-loop-k l = shared_pair l.size l.header_end (drop l.k l.spans) ≡ shared_pair l.size l.header_end l.spans

@@ -1,6 +1,0 @@
-use Rattle.std.proofs.Common.{◌≡◌, drop}
-use Rattle.cdf_header.specs.Spans.{partner}
-use Rattle.cdf_header.proofs.sharing.partner.Given as goal
-
-abbrev pub invariant-loop-q : goal.invariant-loop-q
-invariant-loop-q l = partner l.size l.p (drop l.q-index l.behind) ≡ partner l.size l.p l.behind

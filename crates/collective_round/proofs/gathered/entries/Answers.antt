@@ -1,0 +1,29 @@
+-- A rank after another.
+use Rattle.std.proofs.Common.{ℕ, ◌+◌, ◌++◌, List, length, subst, sym, ap, ◌∙◌, arith}
+use Rattle.overlay_laws.proofs.Members.{read_in}
+use Rattle.nc_base.specs.declared.plan.Batch.{Batch}
+use Rattle.nc_base.specs.declared.plan.Post.{Post}
+use Rattle.overlay_laws.specs.Entries.{In}
+use Rattle.collective_round.specs.Gathered.{entries_of_posts, posts_of}
+use Rattle.collective_round.proofs.StepEntries.{few_posts}
+use Rattle.collective_round.proofs.gathered.entries.Goals as goal
+use Rattle.list_laws.proofs.Maps.{next_numbered}
+
+pub push_posts-requires-clause-few : goal.push_posts-requires-clause-few
+push_posts-requires-clause-few c =
+    let few = c.requires.few c.index-batches-k.result (read_in c.args.batches.now c.loop-k.k c.index-batches-k.result c.loop-k-test.true c.index-batches-k.is) in
+    let long = ap (λ (ps : List Post). length ps) c.posts_of.ensures in
+    let part = few_posts c.args.direction c.index-batches-k.result in
+    omega arith
+
+pub push_posts-requires-clause-accepted : goal.push_posts-requires-clause-accepted
+push_posts-requires-clause-accepted c = λ p m.
+    c.requires.accepted c.index-batches-k.result p (read_in c.args.batches.now c.loop-k.k c.index-batches-k.result c.loop-k-test.true c.index-batches-k.is)
+    (subst (λ (ps : List Post). In ps p) c.posts_of.ensures m)
+
+pub loop-k-preserved : goal.loop-k-preserved
+loop-k-preserved c =
+    next_numbered (λ (b : ℕ × Batch). entries_of_posts c.args.dataset.now.header.now b.0 (posts_of c.args.direction b.1)) c.args.batches.now c.loop-k.k (c.args.first + c.loop-k.k)
+    (c.args.first + (c.loop-k.k + 1)) c.index-batches-k.result c.index-batches-k.result c.loop-k.list.items c.push_posts.new.list.items _ c.loop-k-test.true (sym c.index-batches-k.is) (omega arith)
+    (c.in_ok-push_posts.ensures ∙ ap (λ (ps : List Post). c.loop-k.list.items ++ entries_of_posts c.args.dataset.now.header.now (c.args.first + c.loop-k.k) ps) c.posts_of.ensures)
+    c.loop-k.invariant

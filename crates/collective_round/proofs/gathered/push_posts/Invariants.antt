@@ -1,0 +1,11 @@
+-- The entries so far, and those of the posts that are left, are all.
+use Rattle.std.proofs.Common.{◌≡◌, ◌++◌, drop}
+use Rattle.std.specs.Prelude.{flat_map}
+use Rattle.std.specs.List.{enumerate_from}
+use Rattle.collective_round.specs.Gathered.{entries_of, entries_of_posts}
+use Rattle.collective_round.proofs.gathered.push_posts.Given as goal
+
+abbrev pub invariant-loop-slot : goal.invariant-loop-slot
+invariant-loop-slot l =
+    l.list.items ++ flat_map (λ p. entries_of l.dataset.header.now l.rank p.0 p.1) (enumerate_from l.slot (drop l.slot l.posts))
+    ≡ l.initial.list.items ++ entries_of_posts l.dataset.header.now l.rank l.posts

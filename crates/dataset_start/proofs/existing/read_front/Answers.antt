@@ -1,0 +1,16 @@
+use Rattle.std.proofs.Common.{◌≡◌, ◌-◌, ◌^◌, min, ℕ, List, take, drop, length, sym, subst, arith, rules}
+use Rattle.std.specs.Prelude.{IfSome}
+use Rattle.std.specs.Vec.{with_items}
+use Rattle.std.proofs.lemmas.List.{with_items_is}
+use Rattle.dataset_start.specs.Dataset.{front}
+use Rattle.dataset_start.proofs.Opened.{read_front}
+use Rattle.dataset_start.proofs.existing.read_front.Goals as goal
+
+pub returns-clause-bytes : goal.returns-clause-bytes
+returns-clause-bytes g c =
+    let back : (with_items c.in_ok-bytes.bytes c.read_at.new.into).items ≡ c.read_at.new.into = with_items_is c.in_ok-bytes.bytes _ (search rules) in
+    let len : length c.deref_mut.result.now ≡ min (g.D.Disk.len c.args.disk.now) (2 ^ 20) = search rules in
+    let place : 0 - g.D.Disk.from c.args.disk.now ≡ 0 = omega arith in
+    subst (λ (t : List ℕ). IfSome (g.D.Disk.held c.args.disk.now) (λ file. t ≡ front file)) (sym back)
+    (read_front (g.D.Disk.held c.args.disk.now) (g.D.Disk.len c.args.disk.now) (length c.deref_mut.result.now) c.read_at.new.into c.size.ensures.told len
+    (subst (λ (x : ℕ). IfSome (g.D.Disk.held c.args.disk.now) (λ bytes. c.read_at.new.into ≡ take (length c.deref_mut.result.now) (drop x bytes))) place c.in_ok-read_at.ensures.read))

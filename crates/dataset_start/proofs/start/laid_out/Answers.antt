@@ -1,0 +1,23 @@
+use Rattle.std.proofs.Common.{◌≡◌, true, sym, subst, arith}
+use Rattle.nc_base.specs.declared.header.Header.{Header}
+use Rattle.var_layout.specs.Unplaced.{has_writable_parts, is_unplaced}
+use Rattle.dataset_start.proofs.Keeping.{kept_header_align, kept_var_align}
+use Rattle.dataset_start.proofs.start.laid_out.Goals as goal
+
+pub lay_out-requires-clause-unplaced : goal.lay_out-requires-clause-unplaced
+lay_out-requires-clause-unplaced c =
+    subst (λ (h : Header). is_unplaced h ≡ true) (sym c.in_ok-header.ensures) (c.requires.kept.unplaced c.requires.fresh)
+
+pub lay_out-requires-clause-header_align : goal.lay_out-requires-clause-header_align
+lay_out-requires-clause-header_align c =
+    let own = kept_header_align c.args.script.now c.requires.kept in
+    (omega (arith, own.0), omega (arith, own.1))
+
+pub lay_out-requires-clause-var_align : goal.lay_out-requires-clause-var_align
+lay_out-requires-clause-var_align c =
+    let own = kept_var_align c.args.script.now c.requires.kept in
+    (omega (arith, own.0), omega (arith, own.1))
+
+pub returns-clause-writable : goal.returns-clause-writable
+returns-clause-writable c =
+    c.in_ok-lay_out.ensures.writable (subst (λ (h : Header). has_writable_parts h ≡ true) (sym c.in_ok-header.ensures) (c.requires.kept.writable c.requires.fresh))

@@ -1,0 +1,45 @@
+use Rattle.std.proofs.Common.{◌∙◌}
+use Rattle.redef_laws.proofs.MovedLaws.{writable_is_sound}
+use Rattle.dataset_start.proofs.Keeping.{kept_created, kept_hints, kept_records}
+use Rattle.dataset_start.proofs.NotReady.{create_refused, fill_refused, not_laid, open_refused}
+use Rattle.dataset_start.proofs.Ready.{created_long, ready-created}
+use Rattle.dataset_start.proofs.start.make_ready.Goals as goal
+use Rattle.list_laws.proofs.Results.{on_err}
+use Rattle.std.proofs.lemmas.Result.{on_err_weaker}
+
+pub returns-in_ok-fill-clause-ready : goal.returns-in_ok-fill-clause-ready
+returns-in_ok-fill-clause-ready g c =
+    ready-created c.args.script.now c.in_ok-header.header _ (g.D.Disk.held c.create.new.disk) _ _ (g.D.Disk.calls c.create.new.disk) _ c.if-script.true
+    (kept_created c.args.script.now c.requires.kept c.if-script.true) c.in_ok-header.ensures.header
+    (writable_is_sound c.in_ok-header.header c.in_ok-header.ensures.writable) c.in_ok-header.ensures.faultless c.in_ok-create.ensures.bytes c.in_ok-fill.ensures.bytes
+    c.in_ok-create.ensures.calls c.in_ok-fill.ensures.calls
+
+pub fill-requires-clause-sound : goal.fill-requires-clause-sound
+fill-requires-clause-sound g c = λ _ _. writable_is_sound c.in_ok-header.header c.in_ok-header.ensures.writable
+
+pub fill-requires-clause-hints : goal.fill-requires-clause-hints
+fill-requires-clause-hints g c = λ _ _. kept_hints c.args.script.now c.requires.kept
+
+pub returns-in_ok-fill-clause-len : goal.returns-in_ok-fill-clause-len
+returns-in_ok-fill-clause-len g c =
+    created_long c.args.script.now c.in_ok-header.header (g.D.Disk.len c.fill.new.disk) (kept_records c.args.script.now c.requires.kept) c.in_ok-header.ensures.header
+    (c.fill.ensures.len ∙ c.in_ok-create.ensures.len)
+
+pub returns-in_err-header-clause-refused : goal.returns-in_err-header-clause-refused
+returns-in_err-header-clause-refused g c = on_err c.from_residual.result (not_laid c.args.script.now (g.D.Disk.held c.args.disk.now) c.if-script.true)
+
+pub returns-in_err-create-clause-refused : goal.returns-in_err-create-clause-refused
+returns-in_err-create-clause-refused g c =
+    on_err c.from_residual-in_err-create.result
+    (create_refused c.args.script.now c.in_ok-header.header (g.D.Disk.held c.args.disk.now) (g.D.Disk.held c.create.new.disk) c.if-script.true c.in_ok-header.ensures.header
+    c.in_err-create.ensures.refused)
+
+pub returns-in_err-fill-clause-refused : goal.returns-in_err-fill-clause-refused
+returns-in_err-fill-clause-refused g c =
+    on_err c.from_residual-in_err-fill.result
+    (fill_refused c.args.script.now c.in_ok-header.header (g.D.Disk.held c.args.disk.now) (g.D.Disk.held c.create.new.disk) (g.D.Disk.held c.fill.new.disk) c.if-script.true
+    c.in_ok-header.ensures.header c.in_ok-create.ensures.bytes c.in_err-fill.ensures.refused)
+
+pub returns-else-script-clause-refused : goal.returns-else-script-clause-refused
+returns-else-script-clause-refused g c =
+    on_err_weaker c.open.result (open_refused c.args.script.now (g.D.Disk.held c.args.disk.now) (g.D.Disk.held c.open.new.disk) c.if-script.false) c.open.ensures.refused

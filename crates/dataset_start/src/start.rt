@@ -1,0 +1,108 @@
+// What comes before the ranks: the script and the dataset.
+ghost use Rattle.std.specs.Prelude.{◌≡◌, ◌≤◌, ℕ, [], true, IfOk, IfErr, OnOk, OnErr, IfSome, IsErrOf, Err, Some, None};
+ghost use Rattle.nc_outside.specs.Told.{after, BothTold};
+ghost use Rattle.nc_outside.specs.Cause.{Rose};
+ghost use Rattle.serial_spec.specs.HeaderBytes.{header_len};
+ghost use Rattle.serial_spec.specs.SoundHeaders.{is_sound, is_writable};
+ghost use Rattle.serial_spec.specs.Layout.{end_of};
+ghost use Rattle.dataset_start.specs.Dataset.{align_of, Asks, created_header, IsBeforeStart, IsKept, IsRead, refusal, TellsDataset};
+ghost use Rattle.dataset_start.specs.Readiness.{IsLeftUnready, IsNotReady, IsReady};
+ghost use Rattle.dataset_start.specs.Stops.{IsOfDataset, IsOfLayout, line_of, status_of};
+ghost use Rattle.nc_base.specs.declared.errors.LayoutErr.{LayoutErr};
+ghost use Rattle.nc_base.specs.declared.script.Script.{Script};
+ghost use Rattle.script_spec.specs.ScriptGrammar.{Reads};
+ghost use Rattle.serial_spec.specs.Redefinition.{layout_fault};
+
+use crate::existing::open;
+use crate::fresh::{create, fill};
+use crate::script::take_script;
+use crate::stop::Stop;
+use nc_base::{Align, Header, Script};
+use nc_outside::{Disk, Source};
+use std::alloc::Global;
+use var_layout::lay_out;
+
+/// A script, and the header of its dataset, which is ready for the ranks.
+#[derive(Debug, Drop)]
+pub struct Begun {
+    pub script: Script,
+    pub header: Header,
+}
+
+/// Reads the script, and makes its dataset ready.
+pub fn begin<S: Source, D: Disk>(
+    alloc: Global,
+    dataset: &str,
+    source: &mut S,
+    disk: &mut D,
+) -> Result<Begun, Stop>
+    ensures asks { IfOk result (λ b. Asks (S.left source.old) b.script) }
+    ensures read { IfOk result (λ b. IsRead b.script) }
+    ensures taken { OnOk result (S.left source.new ≡ after (λ _. []) (S.left source.old)) }
+    ensures ready { IfOk result (λ b. IsReady b.script b.header (D.held disk.old) (D.held disk.new) (D.calls disk.old) (D.calls disk.new)) }
+    ensures from { OnOk result (D.from disk.new ≡ 0) }
+    ensures len { IfOk result (λ b. end_of b.header (header_len b.header) b.header.records ≤ D.len disk.new) }
+    ensures formed { ¬ (IsErrOf result Stop.Usage) }
+    ensures refused { IfErr result (λ stop. status_of stop ≡ 3 → IfSome (S.left source.old) (λ text. refusal text ≡ line_of stop)) }
+    ensures bad { IfErr result (λ stop. status_of stop ≡ 4 → (script : Script) × (Asks (S.left source.old) script × IfSome (line_of stop) (TellsDataset script (D.held disk.old)))) }
+    ensures asked { IfErr result (λ stop. status_of stop ≡ 7 → (script : Script) × Asks (S.left source.old) script) }
+    ensures unlaid { IfErr result (λ stop. status_of stop ≡ 4 → IfSome (S.left source.old) (λ text. (s : Script) → Reads text s → s.fresh ≡ true → disk.new ≡ disk.old)) }
+    ensures unchanged { IfErr result (λ stop. status_of stop ≡ 4 → D.held disk.new ≡ D.held disk.old) }
+    ensures torn { OnErr result (IsLeftUnready (S.left source.old) (D.held disk.old) (D.held disk.new)) }
+    ensures source { IsErrOf result Stop.Source → Rose (S.faults source.old) (S.faults source.new) }
+    ensures disk { IsErrOf result Stop.Disk → Rose (D.faults disk.old) (D.faults disk.new) }
+    ensures later { D.faults disk.old ≤ D.faults disk.new }
+    ensures not_started { IfErr result (λ stop. IsBeforeStart (status_of stop) → disk.new ≡ disk.old) }
+{
+    let script = take_script(alloc, source)?;
+    let header = make_ready(alloc, disk, dataset, &script)?;
+    Ok(Begun { script, header })
+}
+
+/// Makes the dataset of the script ready for the ranks.
+pub fn make_ready<D: Disk>(
+    alloc: Global,
+    disk: &mut D,
+    name: &str,
+    script: &Script,
+) -> Result<Header, Stop>
+    requires kept { IsKept script.now }
+    ensures ready { IfOk result (λ header. IsReady script.now header (D.held disk.old) (D.held disk.new) (D.calls disk.old) (D.calls disk.new)) }
+    ensures from { OnOk result (D.from disk.new ≡ 0) }
+    ensures len { IfOk result (λ header. end_of header (header_len header) header.records ≤ D.len disk.new) }
+    ensures bad { IfErr result (λ stop. status_of stop ≡ 4 → IfSome (line_of stop) (TellsDataset script.now (D.held disk.old))) }
+    ensures unlaid { IfErr result (λ stop. status_of stop ≡ 4 → script.now.fresh ≡ true → disk.new ≡ disk.old) }
+    ensures unchanged { IfErr result (λ stop. status_of stop ≡ 4 → D.held disk.new ≡ D.held disk.old) }
+    ensures refused { OnErr result (BothTold (IsNotReady script.now) (D.held disk.old) (D.held disk.new)) }
+    ensures disk { IsErrOf result Stop.Disk → Rose (D.faults disk.old) (D.faults disk.new) }
+    ensures later { D.faults disk.old ≤ D.faults disk.new }
+    ensures only { IfErr result IsOfDataset }
+{
+    if script.fresh {
+        let header = laid_out(alloc, script)?;
+        create(alloc, disk, name, &header)?;
+        fill(alloc, disk, script, &header)?;
+        Ok(header)
+    } else {
+        open(alloc, disk, name, script)
+    }
+}
+
+// The header of the dataset that the script creates.
+fn laid_out(alloc: Global, script: &Script) -> Result<Header, Stop>
+    requires kept { IsKept script.now }
+    requires fresh { script.now.fresh ≡ true }
+    ensures header { IfOk result (λ header. header ≡ created_header script.now) }
+    ensures writable { IfOk result (λ header. is_writable header ≡ true) }
+    ensures faultless { OnOk result (layout_fault script.now.header (align_of script.now.hints) ≡ None) }
+    ensures refused { (e : LayoutErr) → result ≡ Err (Stop.Layout e) → layout_fault script.now.header (align_of script.now.hints) ≡ Some e }
+    ensures only { IfErr result IsOfLayout }
+{
+    let mut header = script.header.clone(alloc)?;
+    let align = Align {
+        header: script.hints.header_align,
+        var: script.hints.var_align,
+    };
+    lay_out(&mut header, &align)?;
+    Ok(header)
+}

@@ -1,0 +1,6 @@
+use Rattle.std.proofs.Common.{◌≡◌, take}
+use Rattle.ncmpi_cli.specs.Watched.{seen_counts}
+use Rattle.ncmpi_cli.proofs.watched_run.counts_of.Given as goal
+
+abbrev pub invariant-loop-pair : goal.invariant-loop-pair
+invariant-loop-pair l = l.counts.items ≡ seen_counts (take l.pair-index l.pairs)

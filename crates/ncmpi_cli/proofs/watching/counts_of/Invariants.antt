@@ -1,6 +1,0 @@
-use Rattle.std.proofs.Common.{◌≡◌, take}
-use Rattle.ncmpi_cli.specs.Watching.{seen_counts}
-use Rattle.ncmpi_cli.proofs.watching.counts_of.Given as goal
-
-abbrev pub invariant-loop-pair : goal.invariant-loop-pair
-invariant-loop-pair l = l.counts.items ≡ seen_counts (take l.pair-index l.pairs)

@@ -1,6 +1,0 @@
-use Rattle.std.proofs.Common.{◌≡◌, List, map, length, take}
-use Rattle.serial_spec.specs.RankSide.{wanted}
-use Rattle.rank_core.proofs.fitting.are_as_long.Given as goal
-
-abbrev pub invariant-loop-index : goal.invariant-loop-index
-invariant-loop-index l = map (λ blob. length blob) (take l.index l.blobs) ≡ map (wanted l.header) (take l.index l.gets)

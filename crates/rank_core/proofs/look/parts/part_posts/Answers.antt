@@ -1,0 +1,38 @@
+use Rattle.std.proofs.Common.{◌≡◌, ◌+◌, ◌≤◌, ◌∙◌, ap, List, ℕ, arith}
+use Rattle.std.specs.Option.{option_copied}
+use Rattle.std.specs.Vec.Iter.{into_iter_items}
+use Rattle.std.proofs.lemmas.List.Sums.{sum_by-cons, sum_by_push}
+use Rattle.std.proofs.lemmas.Result.{err_from_is_err_and}
+use Rattle.nc_base.specs.declared.request.Region.{Region}
+use Rattle.serial_spec.specs.Layout.{product}
+use Rattle.serial_spec.specs.RegionCheck.{elements_of_all}
+use Rattle.rank_core.proofs.ValueLaws.{part_more, part_unfit, still_fit, unfit_append}
+use Rattle.rank_core.proofs.look.parts.part_posts.Goals as goal
+
+pub returns-in_err-bytes-clause-refused : goal.returns-in_err-bytes-clause-refused
+returns-in_err-bytes-clause-refused c =
+    let elements : c.element_count-elements.result ≡ product c.in-Some.region.count = c.element_count-elements.ensures ∙ ap (λ (l : List ℕ). product l) c.as_slice.ensures in
+    let next = ap elements_of_all c.in-Some.ensures.steps.0 in
+    let one = sum_by-cons (λ (g : Region). product g.count) c.in-Some.region (into_iter_items c.next.new.self) in
+    let within : c.loop-region.before + c.element_count-elements.result ≤ elements_of_all c.args.regions.items = omega (arith, elements, next, one, c.loop-region.invariant.rest) in
+    let why = part_unfit c.args.target.now.var.now.kind (option_copied c.args.values) c.loop-region.before c.element_count-elements.result (elements_of_all c.args.regions.items)
+    c.in_err-bytes.field-0.0 within c.in_err-bytes.ensures.refused in
+    let p = err_from_is_err_and c.from_residual.result c.from_residual.ensures.1 in
+    rw (p.1, p.2) why
+
+pub loop-region-preserved : goal.loop-region-preserved
+loop-region-preserved c =
+    let kind = c.args.target.now.var.now.kind in
+    let values = option_copied c.args.values in
+    let elements : c.element_count-elements.result ≡ product c.in-Some.region.count = c.element_count-elements.ensures ∙ ap (λ (l : List ℕ). product l) c.as_slice.ensures in
+    let next = ap elements_of_all c.in-Some.ensures.steps.0 in
+    let one = sum_by-cons (λ (g : Region). product g.count) c.in-Some.region (into_iter_items c.next.new.self) in
+    let more = sum_by_push (λ (g : Region). product g.count) c.loop-region.yielded c.in-Some.region in
+    record {
+      posts = part_more c.args.target.now.id c.args.target.now.place kind values c.loop-region.yielded c.in-Some.region c.loop-region.posts c.push.new.self c.loop-region.before
+          c.element_count-elements.result c.in_ok-bytes.bytes c.loop-region.invariant.posts c.loop-region.invariant.before elements c.in_ok-bytes.ensures.ok c.in_ok-push.ensures.ok;
+      before = omega (arith, more, elements, c.loop-region.invariant.before);
+      rest = omega (arith, elements, next, one, c.loop-region.invariant.rest);
+      fit = still_fit _ _ _ (unfit_append kind values 0 c.loop-region.before c.element_count-elements.result c.loop-region.before (omega arith))
+          c.loop-region.invariant.fit c.in_ok-bytes.ensures.right;
+    }

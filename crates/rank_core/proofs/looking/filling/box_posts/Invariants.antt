@@ -1,6 +1,0 @@
-use Rattle.std.proofs.Common.{◌≡◌, map, take}
-use Rattle.serial_spec.specs.Looking as looks
-use Rattle.rank_core.proofs.looking.filling.box_posts.Given as goal
-
-abbrev pub invariant-loop-part : goal.invariant-loop-part
-invariant-loop-part l = l.posts ≡ map (looks.box_post l.target.place l.target.var.now l.number) (take l.part-index l.parts)

@@ -1,6 +1,0 @@
-use Rattle.std.proofs.Common.{◌≡◌, take}
-use Rattle.rank_core.specs.Targets.{lengths_of}
-use Rattle.rank_core.proofs.looking.filling.lengths_of.Given as goal
-
-abbrev pub invariant-loop-id : goal.invariant-loop-id
-invariant-loop-id l = l.lengths.items ≡ lengths_of l.header (take l.id-index l.ids)

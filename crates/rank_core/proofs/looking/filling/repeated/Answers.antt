@@ -1,8 +1,0 @@
-use Rattle.std.proofs.Common.{◌++◌, ◌∙◌, ap, sym, List, ℕ}
-use Rattle.imap_extents.proofs.PositionLaws.{rows_more}
-use Rattle.rank_core.proofs.looking.filling.repeated.Goals as goal
-
-pub loop-number-preserved : goal.loop-number-preserved
-loop-number-preserved c =
-    c.in_ok-extend_from_slice.ensures.items ∙ ap (λ (l : List ℕ). l ++ c.args.value.now) c.loop-number.invariant
-    ∙ sym (rows_more (λ m. c.args.value.now) c.loop-number._number)

@@ -1,0 +1,182 @@
+// A call on many regions.
+ghost use Rattle.std.specs.Prelude.{◌≡◌, ◌+◌, ◌≤◌, ◌<◌, ◌++◌, false, map, filter, Some, IfOk, IfErr, OnOk};
+ghost use Rattle.std.specs.Option.{option_copied};
+ghost use Rattle.nc_base.specs.declared.answer.Code.TheVariants as code;
+ghost use Rattle.imap_extents.specs.Refusals.{IsRangeRefusal};
+ghost use Rattle.serial_spec.specs.ExternalForm.{class_of};
+ghost use Rattle.serial_spec.specs.Layout.{product};
+ghost use Rattle.serial_spec.specs.Limits.{most_elements};
+ghost use Rattle.serial_spec.specs.Looks as looks;
+ghost use Rattle.serial_spec.specs.RegionCheck as spec;
+ghost use Rattle.serial_spec.specs.Request as request;
+ghost use Rattle.rank_core.specs.Looked.{ext_at, some_unfit, unfit_at, ComesTo, HasValues, IsCode};
+ghost use Rattle.rank_core.specs.Targets as targets;
+ghost use Rattle.rank_core.specs.Targets.{IsMeasured, IsTarget};
+
+use super::region::has_element;
+use super::target::{Target, direction_of};
+use nc_base::{
+    Blob, CallErr, Code, Given, Memory, NcType, Part, Post, PostList, Region, SizeList, Values, Var,
+};
+use std::alloc::Global;
+use type_external::{element_count, encode_into, kind_fits, size_of};
+use vara_extents::{Ends, check_parts, elements_of_all};
+
+pub(super) fn look_parts(
+    alloc: Global,
+    target: &Target,
+    given: &Given,
+    values: Option<&Values>,
+) -> Result<PostList, CallErr>
+    requires there { IsTarget target.now }
+    requires measured { IsMeasured target.now }
+    ensures { ComesTo (targets.look_parts target.now given.now (option_copied values.entry)) result }
+{
+    let direction = direction_of(values);
+    let ends = Ends {
+        direction,
+        known: target.known,
+    };
+    let place = target.place as usize;
+    check_parts(alloc, target.header, target.measures, place, given, ends)?;
+    let regions = asked_regions(alloc, target.var, given.parts.as_slice())?;
+    if regions.is_empty() {
+        return Ok(PostList::new(alloc));
+    }
+    let elements = elements_of_all(regions.as_slice());
+    check_values(target.var.kind, values, elements)?;
+    part_posts(alloc, target, values, regions)
+}
+
+/// The parts that have an element, as regions of their own.
+fn asked_regions(alloc: Global, var: &Var, parts: &[Part]) -> Result<Vec<Region>, Memory>
+    ensures { IfOk result (λ regions. regions.items ≡ filter spec.has_element (map (spec.part_region var.now) parts.now)) }
+{
+    let mut regions = Vec::new(alloc);
+    for part in parts {
+        if has_element(part.count.as_slice()) {
+            regions.push(part_region(alloc, var, part)?)?;
+        }
+    }
+    Ok(regions)
+}
+
+fn part_region(alloc: Global, var: &Var, part: &Part) -> Result<Region, Memory>
+    ensures { IfOk result (λ region. region ≡ spec.part_region var.now part.now) }
+{
+    Ok(Region {
+        start: part.start.clone(alloc)?,
+        count: part.count.clone(alloc)?,
+        stride: SizeList::from_vec(vec![in alloc; 1; var.dims.len()]?),
+        imap: SizeList::new(alloc),
+        packed: true,
+    })
+}
+
+/// Whether the values of a put are of another kind than the type, or fewer than the elements.
+fn check_values(kind: NcType, values: Option<&Values>, elements: u64) -> Result<(), Code>
+    ensures right { OnOk result (HasValues kind (option_copied values.entry) elements) }
+    ensures refused { IfErr result (IsCode (looks.parts_code kind elements (option_copied values.entry))) }
+{
+    let Some(values) = values else { return Ok(()) };
+    kind_fits(kind, values)?;
+    if (values.len() as u64) < elements {
+        return Err(Code::EMapSize);
+    }
+    Ok(())
+}
+
+/// One post for each region. The values go to the elements of one region after another.
+fn part_posts(
+    alloc: Global,
+    target: &Target,
+    values: Option<&Values>,
+    regions: Vec<Region>,
+) -> Result<PostList, CallErr>
+    requires few { spec.elements_of_all regions.items ≤ most_elements }
+    requires values { HasValues target.now.var.now.kind (option_copied values) (spec.elements_of_all regions.items) }
+    ensures ok { IfOk result (λ posts. posts ≡ looks.part_posts target.now.id target.now.place target.now.var.now.kind (option_copied values.entry) 0 regions.items) }
+    ensures right { OnOk result (some_unfit target.now.var.now.kind (option_copied values.entry) 0 (spec.elements_of_all regions.items) ≡ false) }
+    ensures refused { IfErr result (IsRangeRefusal (some_unfit target.now.var.now.kind (option_copied values.entry) 0 (spec.elements_of_all regions.items))) }
+{
+    let mut posts = PostList::new(alloc);
+    let mut before = 0;
+    for region in regions {
+        let elements = element_count(region.count.as_slice());
+        let bytes = values_bytes(alloc, target.var.kind, values, before, elements)?;
+        posts.push(Post {
+            id: target.id,
+            var: target.place,
+            region,
+            bytes,
+        })?;
+        before += elements;
+    }
+    Ok(posts)
+}
+
+/// The bytes of some of the values, `before` others standing before them; none for a get.
+fn values_bytes(
+    alloc: Global,
+    kind: NcType,
+    values: Option<&Values>,
+    before: u64,
+    count: u64,
+) -> Result<Blob, CallErr>
+    requires few { before + count ≤ most_elements }
+    requires values { HasValues kind (option_copied values) (before + count) }
+    ensures ok { IfOk result (λ bytes. bytes ≡ looks.values_bytes kind (option_copied values.entry) before count) }
+    ensures right { OnOk result (some_unfit kind (option_copied values.entry) before count ≡ false) }
+    ensures refused { IfErr result (IsRangeRefusal (some_unfit kind (option_copied values.entry) before count)) }
+{
+    match values {
+        None => Ok(Blob::new(alloc)),
+        Some(values) => encode_all(alloc, kind, values, before, count),
+    }
+}
+
+fn encode_all(
+    alloc: Global,
+    kind: NcType,
+    values: &Values,
+    before: u64,
+    count: u64,
+) -> Result<Blob, CallErr>
+    requires few { before + count ≤ most_elements }
+    requires values { HasValues kind (Some values.now) (before + count) }
+    ensures ok { IfOk result (λ bytes. bytes ≡ looks.values_bytes kind (Some values.now) before count) }
+    ensures right { OnOk result (some_unfit kind (Some values.now) before count ≡ false) }
+    ensures refused { IfErr result (IsRangeRefusal (some_unfit kind (Some values.now) before count)) }
+{
+    let mut bytes = Vec::new(alloc);
+    for number in 0..count {
+        push_value(kind, values, before + number, &mut bytes)?;
+    }
+    Ok(Blob::from_vec(bytes))
+}
+
+/// Adds a value in external form.
+fn push_value(
+    kind: NcType,
+    values: &Values,
+    number: u64,
+    bytes: &mut Vec<u8>,
+) -> Result<(), CallErr>
+    requires values { HasValues kind (Some values.now) (number + 1) }
+    ensures ok { OnOk result (bytes.new.items ≡ bytes.old.items ++ ext_at kind values.now number) }
+    ensures right { OnOk result (unfit_at kind values.now number ≡ false) }
+    ensures refused { IfErr result (IsRangeRefusal (unfit_at kind values.now number)) }
+{
+    let mut form = [0; 8];
+    let into = &mut form[..size_of(kind) as usize];
+    encode_into(kind, values, number as usize, into)?;
+    push_bytes(bytes, into)?;
+    Ok(())
+}
+
+fn push_bytes(bytes: &mut Vec<u8>, more: &[u8]) -> Result<(), Memory>
+    ensures { OnOk result (bytes.new.items ≡ bytes.old.items ++ more.now) }
+{
+    bytes.extend_from_slice(more)?;
+    Ok(())
+}

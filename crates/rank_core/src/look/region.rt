@@ -1,0 +1,91 @@
+// A call on one region.
+ghost use Rattle.std.specs.Prelude.{◌≡◌, ◌==◌, ◌∷◌, [], nat_lt, Some, slice_get, IfOk, IfErr, OnOk};
+ghost use Rattle.std.specs.List.{list_any};
+ghost use Rattle.std.specs.Option.{option_copied};
+ghost use Rattle.nc_base.specs.declared.answer.Code.TheVariants as code;
+ghost use Rattle.imap_extents.specs.Mapped.{IsMapped};
+ghost use Rattle.imap_extents.specs.Refusals.{IsRefusal};
+ghost use Rattle.serial_spec.specs.Layout.{product};
+ghost use Rattle.serial_spec.specs.Looks as looks;
+ghost use Rattle.rank_core.specs.Looked.{ComesTo};
+ghost use Rattle.rank_core.specs.Targets as targets;
+ghost use Rattle.rank_core.specs.Targets.{IsMeasured, IsTarget};
+
+use super::target::{Target, direction_of};
+use imap_extents::pack;
+use nc_base::{Blob, CallErr, Given, Memory, NcType, Post, PostList, Region, Values};
+use std::alloc::Global;
+use vara_extents::{check, widen};
+
+pub(super) fn look_region(
+    alloc: Global,
+    target: &Target,
+    given: &Given,
+    values: Option<&Values>,
+) -> Result<PostList, CallErr>
+    requires there { IsTarget target.now }
+    requires measured { IsMeasured target.now }
+    ensures { ComesTo (targets.look_region target.now given.now (option_copied values.entry)) result }
+{
+    let place = target.place as usize;
+    let region = widen(alloc, target.header, place, given, target.known)?;
+    check(
+        target.header,
+        target.measures,
+        place,
+        &region,
+        target.known,
+        direction_of(values),
+    )?;
+    if !has_element(region.count.as_slice()) {
+        return Ok(PostList::new(alloc));
+    }
+    let bytes = data_bytes(alloc, target.var.kind, &region, values)?;
+    let post = Post {
+        id: target.id,
+        var: target.place,
+        region,
+        bytes,
+    };
+    Ok(only(alloc, post)?)
+}
+
+/// Whether no count is 0.
+pub(super) fn has_element(counts: &[u64]) -> bool
+    ensures { result ≡ nat_lt 0 (product counts.now) }
+{
+    !has_zero(counts)
+}
+
+fn has_zero(counts: &[u64]) -> bool
+    ensures { result ≡ list_any (λ n. n == 0) counts.now }
+{
+    counts.iter().any(|count| *count == 0)
+}
+
+/// The bytes of a put; none for a get.
+fn data_bytes(
+    alloc: Global,
+    kind: NcType,
+    region: &Region,
+    values: Option<&Values>,
+) -> Result<Blob, CallErr>
+    requires mapped { IsMapped region.now }
+    ensures ok { IfOk result (λ bytes. bytes ≡ looks.data_bytes kind region.now (option_copied values.entry)) }
+    ensures right { OnOk result (looks.data_code kind region.now (option_copied values.entry) ≡ code.Ok) }
+    ensures refused { IfErr result (IsRefusal (looks.data_code kind region.now (option_copied values.entry))) }
+{
+    match values {
+        None => Ok(Blob::new(alloc)),
+        Some(values) => pack(alloc, kind, region, values),
+    }
+}
+
+/// The list of one post.
+fn only(alloc: Global, post: Post) -> Result<PostList, Memory>
+    ensures { IfOk result (λ posts. posts ≡ post ∷ []) }
+{
+    let mut posts = PostList::new(alloc);
+    posts.push(post)?;
+    Ok(posts)
+}

@@ -1,6 +1,0 @@
-use Rattle.std.proofs.Common.{◌≡◌, take, map}
-use Rattle.serial_spec.specs.Redefinition.{dim_id}
-use Rattle.redef_mover.proofs.adding.dim_ids.Given as goal
-
-abbrev pub invariant-loop-name : goal.invariant-loop-name
-invariant-loop-name l = l.ids ≡ map (dim_id l.header) (take l.name-index l.names)

@@ -1,0 +1,7 @@
+use Rattle.std.proofs.Common.{◌≡◌, ◌++◌, map}
+use Rattle.redef_mover.specs.NewBegins.{fixed_var}
+use Rattle.redef_mover.proofs.Places.{fixed_before}
+use Rattle.redef_mover.proofs.new_begins.push_fixed.Given as goal
+
+abbrev pub invariant-loop-number : goal.invariant-loop-number
+invariant-loop-number l = l.order ≡ l.fn.order ++ map (fixed_var l.header) (fixed_before l.header l.n l.side l.number)

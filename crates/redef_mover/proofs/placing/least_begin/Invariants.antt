@@ -1,9 +1,0 @@
-use Rattle.std.proofs.Common.{◌≡◌, map}
-use Rattle.serial_spec.specs.SharedByte.{least}
-use Rattle.serial_spec.specs.Redefinition.{Numbered}
-use Rattle.redef_mover.specs.declared.placing.Side.TheVariants.{Old}
-use Rattle.redef_mover.proofs.Places.{records_before}
-use Rattle.redef_mover.proofs.placing.least_begin.Given as goal
-
-abbrev pub invariant-loop-number : goal.invariant-loop-number
-invariant-loop-number l = l.least ≡ least (map (λ (w : Numbered). w.1.begin) (records_before l.header l.n Old l.number))

@@ -1,7 +1,0 @@
-use Rattle.std.proofs.Common.{◌≡◌, ◌++◌, map}
-use Rattle.redef_mover.specs.Placing.{fixed_var}
-use Rattle.redef_mover.proofs.Places.{fixed_before}
-use Rattle.redef_mover.proofs.placing.push_fixed.Given as goal
-
-abbrev pub invariant-loop-number : goal.invariant-loop-number
-invariant-loop-number l = l.order ≡ l.fn.order ++ map (fixed_var l.header) (fixed_before l.header l.n l.side l.number)

@@ -1,0 +1,29 @@
+use Rattle.std.proofs.Common.{List, ℕ, [], ◌∷◌, ◌++◌, cond, codes, decimal, ap, ◌∙◌}
+use Rattle.std.specs.List.{enumerate_from, flat_map}
+use Rattle.nc_base.specs.declared.request.Call.{Call}
+use Rattle.script_spec.specs.Shown.{shown_call, shown_definitions, shown_extra, shown_hints}
+use Rattle.script_spec.specs.Texts.{line}
+use Rattle.script_text.proofs.canonical.print_script.Goals as goal
+use Rattle.list_laws.proofs.Appends.{then_append}
+
+pub returns : goal.returns
+returns c =
+    let s = c.args.script.now in
+    let o : List ℕ = c.new-out.result.items in
+    let head : List ℕ = cond s.fresh (line (codes "create" ∷ decimal s.header.version ∷ [])) (line (codes "open" ∷ [])) in
+    let ranks : List ℕ = line (codes "ranks" ∷ decimal s.ranks ∷ []) in
+    let opening : List ℕ = head ++ ranks ++ shown_hints s.hints ++ cond s.filled (line (codes "fill" ∷ [])) [] in
+    let extras : List ℕ = flat_map shown_extra s.extra in
+    let definitions : List ℕ = shown_definitions s.header in
+    let mark : List ℕ = line (codes "data" ∷ []) in
+    let calls : List ℕ = flat_map (λ (p : ℕ × List Call). flat_map (shown_call p.0) p.1) (enumerate_from 0 s.calls) in
+    let end : List ℕ = line (codes "end" ∷ []) in
+    let second = rw c.as_slice.ensures at c.in_ok-push_extras.ensures in
+    let fifth = rw c.as_slice-2.ensures at c.in_ok-push_ranks.ensures in
+    let two = then_append o _ _ opening extras c.in_ok-push_opening.ensures second in
+    let three = then_append o _ _ (opening ++ extras) definitions two c.in_ok-push_definitions.ensures in
+    let four = then_append o _ _ (opening ++ extras ++ definitions) mark three c.in_ok-push_bytes.ensures in
+    let five = then_append o _ _ (opening ++ extras ++ definitions ++ mark) calls four fifth in
+    c.from_vec.ensures
+    ∙ then_append o _ _ (opening ++ extras ++ definitions ++ mark ++ calls) end five c.in_ok-push_bytes-2.ensures
+    ∙ ap (λ (t : List ℕ). t ++ (opening ++ extras ++ definitions ++ mark ++ calls ++ end)) c.new-out.ensures.items

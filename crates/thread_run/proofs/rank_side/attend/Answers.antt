@@ -1,0 +1,54 @@
+-- What was put before the last item, and the last item.
+use Rattle.std.proofs.Common.{◌≡◌, ap, sym, subst, refl, ◌∙◌, [], ◌∷◌, ◌++◌, Bool, true, false, Result}
+use Rattle.nc_base.specs.declared.memory.Memory.{Memory}
+use Rattle.nc_base.specs.declared.run.RankStop.{RankStop}
+use Rattle.nc_base.specs.declared.run.RankStop.TheVariants as stop
+use Rattle.nc_base.specs.declared.step.RankItem.TheVariants as item
+use Rattle.thread_run.specs.RankSides.{HasAttended, HasStood}
+use Rattle.turn_run.specs.Running.{calls_of}
+use Rattle.thread_run.proofs.AttendLaws.{attended_broken, attended_through}
+use Rattle.thread_run.proofs.AttendWay.{items_more}
+use Rattle.thread_run.proofs.rank_side.attend.Given.{Over}
+use Rattle.thread_run.proofs.rank_side.attend.Goals.{in-Ok, in-Err}
+use Rattle.thread_run.proofs.rank_side.attend.Goals as goal
+
+-- whether its last item says that it wanted memory
+not_wanted : (g : Over) (c : goal.Joined-runner-2 g) (end : RankStop) → c.match-make_calls.end ≡ end → (end ≡ stop.Memory → ⊥) → c.eq.result ≡ false
+not_wanted g c stop.Done e n = rw (c.eq.ensures, e) refl
+not_wanted g c stop.Stopped e n = rw (c.eq.ensures, e) refl
+not_wanted g c stop.Misfit e n = rw (c.eq.ensures, e) refl
+not_wanted g c stop.Memory e n = absurd (n refl)
+
+wanted : (g : Over) (c : goal.Joined-runner-2 g) → c.match-make_calls.end ≡ stop.Memory → c.eq.result ≡ true
+wanted g c e = rw (c.eq.ensures, e) refl
+
+pub returns-clause-attended : goal.returns-clause-attended
+returns-clause-attended g c =
+    let stood = c.make_calls.ensures.stood in
+    let runner = c.make_calls.new.runner in
+    let header = c.args.header.now in
+    let own = calls_of c.args.script.now c.args.out.now.number in
+    elim c.match-make_calls.branch [
+      | in-Ok w ↦
+          let here = subst (λ (r : Result RankStop Memory). HasStood header own stood.0 stood.1 runner r) w.in-Ok.is stood.4 in
+          let put = stood.0 ++ item.Ended false ∷ [] in (
+            put,
+            stood.1,
+            items_more c.args.out.now.items c.make_calls.new.out.items c.put.new.self.items stood.0 c.ended.result (item.Ended false) stood.2 c.put.ensures.items
+                (c.ended.ensures ∙ ap (λ (b : Bool). item.Ended b) (not_wanted g c w.in-Ok.end w.end-is here.stands.not_broken)),
+            stood.3,
+            subst (λ (end : RankStop). HasAttended header own put stood.1 (record { known = c.known.result; pending = c.pending.result; answers = runner.answers; end = end })) (sym w.end-is)
+                (attended_through header own stood.0 stood.1 runner w.in-Ok.end c.known.result c.pending.result here c.known.ensures c.pending.ensures),
+          )
+      | in-Err w ↦
+          let here = subst (λ (r : Result RankStop Memory). HasStood header own stood.0 stood.1 runner r) w.in-Err.is stood.4 in
+          let put = stood.0 ++ item.Ended true ∷ [] in (
+            put,
+            stood.1,
+            items_more c.args.out.now.items c.make_calls.new.out.items c.put.new.self.items stood.0 c.ended.result (item.Ended true) stood.2 c.put.ensures.items
+                (c.ended.ensures ∙ ap (λ (b : Bool). item.Ended b) (wanted g c w.end-is)),
+            stood.3,
+            subst (λ (end : RankStop). HasAttended header own put stood.1 (record { known = c.known.result; pending = c.pending.result; answers = runner.answers; end = end })) (sym w.end-is)
+                (attended_broken header own stood.0 stood.1 runner _ c.known.result c.pending.result here),
+          )
+    ]

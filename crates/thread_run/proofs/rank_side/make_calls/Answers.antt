@@ -1,0 +1,265 @@
+-- From one offer to the next, or to the end.
+use Rattle.std.proofs.Common.{◌≡◌, ℕ, ◌<◌, ap, sym, subst, refl, ◌∙◌, length, List, [], ◌∷◌, ◌++◌, Ok, length-append, arith}
+use Rattle.std.proofs.lemmas.List.{append-nil}
+use Rattle.nc_base.specs.declared.answer.Answer.{Answer}
+use Rattle.nc_base.specs.declared.request.Call.{Call}
+use Rattle.nc_base.specs.declared.run.RankStop.TheVariants as stop
+use Rattle.nc_base.specs.declared.step.OwnerItem.TheVariants as sent
+use Rattle.nc_base.specs.declared.step.RankItem.TheVariants as item
+use Rattle.serial_spec.specs.SerialEnd.{advance}
+use Rattle.thread_run.specs.RankSides.{HasStood}
+use Rattle.turn_run.specs.Running.{asking, between, calls_of, going_of}
+use Rattle.turn_run.specs.declared.runners.Runner.{Runner}
+use Rattle.turn_run.proofs.AloneLaws.{fits_open}
+use Rattle.thread_run.proofs.AttendLaws.{accounted_first, accounted_free, accounted_held, accounted_on, broken_at, broken_first, stood_done, stood_misfit, stood_stopped, unheard_begins}
+use Rattle.thread_run.proofs.AttendWay.{asked_own, first_between, first_some, first_way, fits_is, fits_long, items_more, later_some, placed_heard, placed_held, placed_number, placed_waits}
+use Rattle.turn_run.proofs.RunnerLaws.{heard_runner}
+use Rattle.thread_run.proofs.rank_side.make_calls.Goals as goal
+
+pub go_on-requires-clause-way : goal.go_on-requires-clause-way
+go_on-requires-clause-way g c κs within = (
+  [],
+  first_way c.args.script.now c.args.header.now c.number-number.result c.own_calls-calls.result.now c.args.runner.now c.requires.lawful (omega (arith, c.requires.number, c.number-number.ensures))
+      c.own_calls-calls.ensures c.requires.first,
+)
+
+pub returns-in_err-go_on-clause-stood : goal.returns-in_err-go_on-clause-stood
+returns-in_err-go_on-clause-stood g c = (
+  [],
+  [],
+  sym (append-nil _),
+  sym (append-nil _),
+  broken_first c.args.header.now (calls_of c.args.script.now c.args.out.now.number) c.go_on.new.self c.from_residual.result c.from_residual.ensures.0
+      (first_some c.args.header.now c.own_calls-calls.result.now (calls_of c.args.script.now c.args.out.now.number) c.args.runner.now c.go_on.new.self.answers
+      (c.own_calls-calls.ensures ∙ ap (calls_of c.args.script.now) c.number-number.ensures) c.requires.first c.in_err-go_on.ensures.some),
+)
+
+pub offers-init : goal.offers-init
+offers-init g c =
+    let own = c.own_calls-calls.result.now in
+    let header = c.args.header.now in
+    let below : c.number-number.result < c.args.script.now.ranks = omega (arith, c.requires.number, c.number-number.ensures) in
+    let way = first_way c.args.script.now header c.number-number.result own c.args.runner.now c.requires.lawful below c.own_calls-calls.ensures c.requires.first in
+    let went = ap (advance header) (sym (first_between header own c.args.runner.now c.requires.first)) ∙ c.in_ok-go_on.ensures.advanced in
+    record {
+      of_header = c.go_on.ensures.header;
+      out = (refl, refl);
+      back = refl;
+      placed = ([], c.in_ok-go_on.ensures.placed [] way);
+      asked = c.in_ok-go_on.ensures.asked;
+      ended = c.in_ok-go_on.ensures.ended;
+      accounted = ([], [], sym (append-nil _), sym (append-nil _), accounted_first header own _ went);
+    }
+
+pub offer-requires : goal.offer-requires
+offer-requires g c = asked_own c.args.header.now c.offers.runner.rank.state.known c.offers.runner.held c.in-Some.offer (sym c.in-Some.ensures.value) c.offers.invariant.asked
+
+pub returns-in-Stop-clause-stood : goal.returns-in-Stop-clause-stood
+returns-in-Stop-clause-stood g c =
+    let own = c.own_calls-calls.result.now in
+    let header = c.args.header.now in
+    let runner = c.offers.runner in
+    let o = c.in-Some.offer in
+    let account = c.offers.invariant.accounted in
+    let here = accounted_held header own account.0 account.1 runner o (sym c.in-Some.ensures.value) account.4 in
+    let sent : c.offer.result ≡ item.Offer (length runner.answers) o = c.offer.ensures ∙ ap (λ (n : ℕ). item.Offer n o) c.len.ensures in
+    let all = c.own_calls-calls.ensures ∙ ap (calls_of c.args.script.now) c.number-number.ensures in
+    let left : Runner = record { rank = runner.rank; answers = runner.answers; held = c.take.new.self } in
+    let put = account.0 ++ item.Offer (length runner.answers) o ∷ [] in
+    let taken = account.1 ++ sent.Stop ∷ [] in (
+      put,
+      taken,
+      items_more c.args.out.now.items c.offers.out.items c.put.new.self.items account.0 _ _ account.2 c.put.ensures.items sent,
+      items_more c.args.back.now.items c.offers.back.items c.take-in-Some.new.self.items account.1 _ _ account.3 c.in-Stop.ensures.items refl,
+      subst (λ (cs : List Call). HasStood header cs put taken left (Ok stop.Stopped)) all
+          (stood_stopped header own account.0 account.1 (asking own runner) o left here refl refl),
+    )
+
+pub fits-requires : goal.fits-requires
+fits-requires g c =
+    let own = c.own_calls-calls.result.now in
+    let header = c.args.header.now in
+    let runner = c.offers.runner in
+    let o = c.in-Some.offer in
+    let placed = c.offers.invariant.placed in
+    let with_offer = placed_held c.args.script.now header placed.0 c.number-number.result own runner o (sym c.in-Some.ensures.value) placed.1 in
+    let waits = placed_waits c.args.script.now header placed.0 c.number-number.result (asking own runner) o with_offer in
+    record { waits = waits.0 }
+
+pub returns-then-not-fits-clause-stood : goal.returns-then-not-fits-clause-stood
+returns-then-not-fits-clause-stood g c =
+    let own = c.own_calls-calls.result.now in
+    let header = c.args.header.now in
+    let runner = c.offers.runner in
+    let o = c.in-Some.offer in
+    let account = c.offers.invariant.accounted in
+    let here = accounted_held header own account.0 account.1 runner o (sym c.in-Some.ensures.value) account.4 in
+    let sent : c.offer.result ≡ item.Offer (length runner.answers) o = c.offer.ensures ∙ ap (λ (n : ℕ). item.Offer n o) c.len.ensures in
+    let all = c.own_calls-calls.ensures ∙ ap (calls_of c.args.script.now) c.number-number.ensures in
+    let placed = c.offers.invariant.placed in
+    let with_offer = placed_held c.args.script.now header placed.0 c.number-number.result own runner o (sym c.in-Some.ensures.value) placed.1 in
+    let waits = placed_waits c.args.script.now header placed.0 c.number-number.result (asking own runner) o with_offer in
+    let fits = fits_is runner.rank.state.«open» header runner.rank.header o c.in-Reply.reply c.fits.result c.offers.invariant.of_header waits c.fits.ensures in
+    let left : Runner = record { rank = runner.rank; answers = runner.answers; held = c.take.new.self } in
+    let put = account.0 ++ item.Offer (length runner.answers) o ∷ [] in
+    let taken = account.1 ++ (sent.Reply c.in-Reply.reply) ∷ [] in (
+      put,
+      taken,
+      items_more c.args.out.now.items c.offers.out.items c.put.new.self.items account.0 _ _ account.2 c.put.ensures.items sent,
+      items_more c.args.back.now.items c.offers.back.items c.take-in-Some.new.self.items account.1 _ _ account.3 c.in-Reply.ensures.items refl,
+      subst (λ (cs : List Call). HasStood header cs put taken left (Ok stop.Misfit)) all
+          (stood_misfit header own account.0 account.1 (asking own runner) o c.in-Reply.reply left here (sym fits ∙ c.if-not-fits.true) refl refl),
+    )
+
+pub hear-requires-clause-waits : goal.hear-requires-clause-waits
+hear-requires-clause-waits g c =
+    let own = c.own_calls-calls.result.now in
+    let header = c.args.header.now in
+    let runner = c.offers.runner in
+    let o = c.in-Some.offer in
+    let placed = c.offers.invariant.placed in
+    let with_offer = placed_held c.args.script.now header placed.0 c.number-number.result own runner o (sym c.in-Some.ensures.value) placed.1 in
+    let waits = placed_waits c.args.script.now header placed.0 c.number-number.result (asking own runner) o with_offer in
+    waits.0
+
+pub hear-requires-clause-fits : goal.hear-requires-clause-fits
+hear-requires-clause-fits g c =
+    let own = c.own_calls-calls.result.now in
+    let header = c.args.header.now in
+    let runner = c.offers.runner in
+    let o = c.in-Some.offer in
+    let placed = c.offers.invariant.placed in
+    let with_offer = placed_held c.args.script.now header placed.0 c.number-number.result own runner o (sym c.in-Some.ensures.value) placed.1 in
+    let waits = placed_waits c.args.script.now header placed.0 c.number-number.result (asking own runner) o with_offer in
+    let fits = fits_is runner.rank.state.«open» header runner.rank.header o c.in-Reply.reply c.fits.result c.offers.invariant.of_header waits c.fits.ensures in
+    fits_open runner.rank.state.«open» header runner.rank.header o.batch.gets c.in-Reply.reply.got c.offers.invariant.of_header waits.1
+    (fits_long header o c.in-Reply.reply (sym fits ∙ c.if-not-fits.false))
+
+pub returns-in_err-hear-clause-stood : goal.returns-in_err-hear-clause-stood
+returns-in_err-hear-clause-stood g c =
+    let own = c.own_calls-calls.result.now in
+    let header = c.args.header.now in
+    let runner = c.offers.runner in
+    let o = c.in-Some.offer in
+    let account = c.offers.invariant.accounted in
+    let here = accounted_held header own account.0 account.1 runner o (sym c.in-Some.ensures.value) account.4 in
+    let sent : c.offer.result ≡ item.Offer (length runner.answers) o = c.offer.ensures ∙ ap (λ (n : ℕ). item.Offer n o) c.len.ensures in
+    let all = c.own_calls-calls.ensures ∙ ap (calls_of c.args.script.now) c.number-number.ensures in
+    let placed = c.offers.invariant.placed in
+    let with_offer = placed_held c.args.script.now header placed.0 c.number-number.result own runner o (sym c.in-Some.ensures.value) placed.1 in
+    let waits = placed_waits c.args.script.now header placed.0 c.number-number.result (asking own runner) o with_offer in
+    let fits = fits_is runner.rank.state.«open» header runner.rank.header o c.in-Reply.reply c.fits.result c.offers.invariant.of_header waits c.fits.ensures in
+    let put = account.0 ++ item.Offer (length runner.answers) o ∷ [] in
+    let taken = account.1 ++ (sent.Reply c.in-Reply.reply) ∷ [] in (
+      put,
+      taken,
+      items_more c.args.out.now.items c.offers.out.items c.put.new.self.items account.0 _ _ account.2 c.put.ensures.items sent,
+      items_more c.args.back.now.items c.offers.back.items c.take-in-Some.new.self.items account.1 _ _ account.3 c.in-Reply.ensures.items refl,
+      subst (λ (cs : List Call). HasStood header cs put taken c.hear.new.self c.from_residual-in_err-hear.result) all
+          (broken_at header own account.0 account.1 (asking own runner) o c.in-Reply.reply c.hear.new.self c.from_residual-in_err-hear.result here (sym fits ∙ c.if-not-fits.false)
+          c.from_residual-in_err-hear.ensures.0 (unheard_begins header (asking own runner) c.in-Reply.reply c.hear.new.self.answers c.in_err-hear.ensures.kept)),
+    )
+
+pub go_on-requires-in-Some-clause-way : goal.go_on-requires-in-Some-clause-way
+go_on-requires-in-Some-clause-way g c κs within =
+    let own = c.own_calls-calls.result.now in
+    let header = c.args.header.now in
+    let runner = c.offers.runner in
+    let o = c.in-Some.offer in
+    let placed = c.offers.invariant.placed in
+    let with_offer = placed_held c.args.script.now header placed.0 c.number-number.result own runner o (sym c.in-Some.ensures.value) placed.1 in
+    placed_heard c.args.script.now header placed.0 c.number-number.result own (record { rank = runner.rank; answers = runner.answers; held = c.take.new.self }) c.hear.new.self o c.in-Reply.reply
+    c.offers.invariant.of_header with_offer c.in_ok-hear.ensures.heard
+
+pub offers-smaller : goal.offers-smaller
+offers-smaller g c =
+    let own = c.own_calls-calls.result.now in
+    let header = c.args.header.now in
+    let runner = c.offers.runner in
+    let o = c.in-Some.offer in
+    let placed = c.offers.invariant.placed in
+    let with_offer = placed_held c.args.script.now header placed.0 c.number-number.result own runner o (sym c.in-Some.ensures.value) placed.1 in
+    let few = placed_number c.args.script.now header placed.0 c.number-number.result (asking own runner) o with_offer in
+    let heard = c.in_ok-hear.ensures.heard in
+    let one = ap (λ (xs : List Answer). length xs) heard.answers ∙ length-append runner.answers (heard.answer ∷ []) in
+    let more = c.in_ok-go_on-2.ensures.more in
+    omega arith
+
+pub offers-preserved : goal.offers-preserved
+offers-preserved g c =
+    let own = c.own_calls-calls.result.now in
+    let header = c.args.header.now in
+    let runner = c.offers.runner in
+    let o = c.in-Some.offer in
+    let account = c.offers.invariant.accounted in
+    let here = accounted_held header own account.0 account.1 runner o (sym c.in-Some.ensures.value) account.4 in
+    let sent : c.offer.result ≡ item.Offer (length runner.answers) o = c.offer.ensures ∙ ap (λ (n : ℕ). item.Offer n o) c.len.ensures in
+    let placed = c.offers.invariant.placed in
+    let with_offer = placed_held c.args.script.now header placed.0 c.number-number.result own runner o (sym c.in-Some.ensures.value) placed.1 in
+    let waits = placed_waits c.args.script.now header placed.0 c.number-number.result (asking own runner) o with_offer in
+    let fits = fits_is runner.rank.state.«open» header runner.rank.header o c.in-Reply.reply c.fits.result c.offers.invariant.of_header waits c.fits.ensures in
+    let before : Runner = record { rank = runner.rank; answers = runner.answers; held = c.take.new.self } in
+    let mid = c.hear.new.self in
+    let new = c.go_on-in-Some.new.self in
+    let heard = c.in_ok-hear.ensures.heard in
+    let way = placed_heard c.args.script.now header placed.0 c.number-number.result own before mid o c.in-Reply.reply c.offers.invariant.of_header with_offer heard in
+    let went = ap (advance header) (sym (heard_runner header own before mid c.in-Reply.reply c.offers.invariant.of_header heard)) ∙ c.in_ok-go_on-2.ensures.advanced in
+    record {
+      of_header = c.go_on-in-Some.ensures.header;
+      out = (c.put.ensures.of ∙ c.offers.invariant.out.0, c.put.ensures.number ∙ c.offers.invariant.out.1);
+      back = c.in-Reply.ensures.of ∙ c.offers.invariant.back;
+      placed = (way.0, c.in_ok-go_on-2.ensures.placed way.0 way.1);
+      asked = c.in_ok-go_on-2.ensures.asked;
+      ended = c.in_ok-go_on-2.ensures.ended;
+      accounted = (
+        account.0 ++ item.Offer (length runner.answers) o ∷ [],
+        account.1 ++ sent.Reply c.in-Reply.reply ∷ [],
+        items_more c.args.out.now.items c.offers.out.items c.put.new.self.items account.0 _ _ account.2 c.put.ensures.items sent,
+        items_more c.args.back.now.items c.offers.back.items c.take-in-Some.new.self.items account.1 _ _ account.3 c.in-Reply.ensures.items refl,
+        accounted_on header own account.0 account.1 (asking own runner) o c.in-Reply.reply (going_of own new, new.held) here (sym fits ∙ c.if-not-fits.false) went,
+      );
+    }
+
+pub returns-in_err-go_on-2-clause-stood : goal.returns-in_err-go_on-2-clause-stood
+returns-in_err-go_on-2-clause-stood g c =
+    let own = c.own_calls-calls.result.now in
+    let header = c.args.header.now in
+    let runner = c.offers.runner in
+    let o = c.in-Some.offer in
+    let account = c.offers.invariant.accounted in
+    let here = accounted_held header own account.0 account.1 runner o (sym c.in-Some.ensures.value) account.4 in
+    let sent : c.offer.result ≡ item.Offer (length runner.answers) o = c.offer.ensures ∙ ap (λ (n : ℕ). item.Offer n o) c.len.ensures in
+    let all = c.own_calls-calls.ensures ∙ ap (calls_of c.args.script.now) c.number-number.ensures in
+    let placed = c.offers.invariant.placed in
+    let with_offer = placed_held c.args.script.now header placed.0 c.number-number.result own runner o (sym c.in-Some.ensures.value) placed.1 in
+    let waits = placed_waits c.args.script.now header placed.0 c.number-number.result (asking own runner) o with_offer in
+    let fits = fits_is runner.rank.state.«open» header runner.rank.header o c.in-Reply.reply c.fits.result c.offers.invariant.of_header waits c.fits.ensures in
+    let before : Runner = record { rank = runner.rank; answers = runner.answers; held = c.take.new.self } in
+    let put = account.0 ++ item.Offer (length runner.answers) o ∷ [] in
+    let taken = account.1 ++ (sent.Reply c.in-Reply.reply) ∷ [] in (
+      put,
+      taken,
+      items_more c.args.out.now.items c.offers.out.items c.put.new.self.items account.0 _ _ account.2 c.put.ensures.items sent,
+      items_more c.args.back.now.items c.offers.back.items c.take-in-Some.new.self.items account.1 _ _ account.3 c.in-Reply.ensures.items refl,
+      subst (λ (cs : List Call). HasStood header cs put taken c.go_on-in-Some.new.self c.from_residual-in_err-go_on-2.result) all
+          (broken_at header own account.0 account.1 (asking own runner) o c.in-Reply.reply c.go_on-in-Some.new.self c.from_residual-in_err-go_on-2.result here (sym fits ∙ c.if-not-fits.false)
+          c.from_residual-in_err-go_on-2.ensures.0 (later_some header own before c.hear.new.self c.in-Reply.reply c.go_on-in-Some.new.self.answers c.offers.invariant.of_header c.in_ok-hear.ensures.heard
+          c.in_err-go_on-2.ensures.some)),
+    )
+
+pub returns-clause-stood : goal.returns-clause-stood
+returns-clause-stood g c =
+    let own = c.own_calls-calls.result.now in
+    let header = c.args.header.now in
+    let runner = c.offers.runner in
+    let account = c.offers.invariant.accounted in
+    let here = accounted_free header own account.0 account.1 runner (sym c.in_default.ensures.value) account.4 in
+    let all = c.own_calls-calls.ensures ∙ ap (calls_of c.args.script.now) c.number-number.ensures in
+    let left : Runner = record { rank = runner.rank; answers = runner.answers; held = c.take.new.self } in (
+      account.0,
+      account.1,
+      account.2,
+      account.3,
+      subst (λ (cs : List Call). HasStood header cs account.0 account.1 left (Ok stop.Done)) all
+          (stood_done header own account.0 account.1 (between own runner) left here refl refl),
+    )

@@ -1,0 +1,20 @@
+-- What was taken so far is done, and nothing of it was strange.
+use Rattle.std.proofs.Common.{◌≡◌, ◌≤◌, length}
+use Rattle.thread_run.specs.Halted.{HasServed}
+use Rattle.thread_run.specs.Lent.{setting_of, AreSame}
+use Rattle.thread_run.specs.Owned.{standing, IsSteady}
+use Rattle.thread_run.proofs.service.serve_all.Given as goal
+
+abbrev pub invariant-loop : goal.invariant-loop
+invariant-loop g l = record {
+  same : AreSame l.initial.out l.out;
+  served : HasServed l.dataset.hints.now (setting_of l.dataset) l.initial.inbox l.inbox l.senders.ended
+      (standing g.D.Disk g.T.Told l.initial.owner l.initial.out)
+      (standing g.D.Disk g.T.Told l.owner l.out);
+  steady : IsSteady l.dataset.header.now (g.D.Disk.len l.out.disk.now) (standing g.D.Disk g.T.Told l.owner l.out);
+  lines : length l.out.back.now ≡ length l.initial.out.back.now;
+  senders : l.inbox.senders ≡ l.initial.inbox.senders;
+  from : g.D.Disk.from l.out.disk.now ≡ 0;
+  longer : g.D.Disk.len l.initial.out.disk.now ≤ g.D.Disk.len l.out.disk.now;
+  later : g.D.Disk.faults l.initial.out.disk.now ≤ g.D.Disk.faults l.out.disk.now;
+}

@@ -1,0 +1,203 @@
+-- How the rank of a runner goes on.
+use Rattle.std.proofs.Common.{◌≡◌, ℕ, suc, ◌+◌, ◌^◌, ◌<◌, ◌≤◌, refl, sym, ◌∙◌, ap, subst, List, [], ◌∷◌, ◌++◌, length, drop, get_or, true, false, Option, Some, None, length-append, append_assoc, arith}
+use Rattle.std.proofs.lemmas.List.{append-nil}
+use Rattle.std.specs.Prelude.{slice_get, filter}
+use Rattle.nc_base.specs.declared.header.Header.{Header}
+use Rattle.nc_base.specs.declared.request.Call.{Call}
+use Rattle.nc_base.specs.declared.answer.Answer.{Answer}
+use Rattle.nc_base.specs.declared.script.Script.{Script}
+use Rattle.nc_base.specs.declared.step.Mark.{Mark}
+use Rattle.nc_base.specs.declared.step.Mark.TheVariants as mark
+use Rattle.nc_base.specs.declared.step.Offer.{Offer}
+use Rattle.nc_base.specs.declared.step.OfferKind.{OfferKind}
+use Rattle.nc_base.specs.declared.step.OfferKind.TheVariants as offer
+use Rattle.nc_base.specs.declared.step.Reply.{Reply}
+use Rattle.nc_base.specs.declared.step.Want.{Want}
+use Rattle.nc_base.specs.declared.step.Want.TheVariants as want
+use Rattle.serial_spec.specs.History.{concerns, marks}
+use Rattle.serial_spec.specs.Lawful.{most_parts}
+use Rattle.serial_spec.specs.RankMachine as machine
+use Rattle.serial_spec.specs.RankMachine.{step, hear}
+use Rattle.serial_spec.specs.SerialEnd.{Going, go, advance, hears}
+use Rattle.run_laws.specs.Requests.{posts_held}
+use Rattle.run_laws.specs.Ahead.{answered}
+use Rattle.run_laws.specs.Ways.{IsOnWay}
+use Rattle.rank_core.specs.Offered.{posts_offered, IsSoundOffer, IsSoundWant}
+use Rattle.run_laws.proofs.CallLaws.{meets_keeps, says_at, solo_keeps}
+use Rattle.run_laws.proofs.StandingLaws.{comes_on, comes_to_meeting, comes_to_solo}
+use Rattle.run_laws.proofs.WayLaws.{way_answers, way_meets, way_solo}
+use Rattle.turn_run.specs.Counts.{raises, IsAsked}
+use Rattle.turn_run.specs.Running.{asking, between, AsksAlone, HasHeard, IsPlaced, IsPlacedWith}
+use Rattle.turn_run.specs.declared.runners.Runner.{Runner}
+use Rattle.join_laws.proofs.QuietLaws.{meets_quiet}
+use Rattle.list_laws.proofs.Places.{drop_at, entry_read}
+
+-- between two calls, by the state and the answers
+abbrev pub at : List Call → machine.Rank → List Answer → Going
+at own rank answers = record { rank = rank; answers = answers; calls = drop (length answers) own }
+
+-- at a call that is begun
+abbrev pub at_call : List Call → machine.Rank → List Answer → Going
+at_call own rank answers = record { rank = rank; answers = answers; calls = drop (suc (length answers)) own }
+
+pub answered_is : (own : List Call) (rank next : machine.Rank) (answers more : List Answer) (a : Answer) → more ≡ answers ++ a ∷ []
+    → answered (at own rank answers) next a (drop (suc (length answers)) own) ≡ at own next more
+answered_is own rank next answers more a e =
+    let n : suc (length answers) ≡ length (answers ++ a ∷ []) = omega (arith, length-append answers (a ∷ [])) in
+    ap (λ (k : ℕ). record { rank = next; answers = answers ++ a ∷ []; calls = drop k own }) n ∙ ap (λ (as' : List Answer). at own next as') (sym e)
+
+pub way_on : (script : Script) (order : List Mark) (r : ℕ) (header : Header) (own : List Call) (rank next : machine.Rank) (answers more : List Answer) (a : Answer) (c : Call)
+    → IsOnWay script order r (at own rank answers) None → slice_get own (length answers) ≡ Some c → (next, want.Answered a) ≡ step header rank c
+    → posts_held next ≤ posts_held rank + most_parts → more ≡ answers ++ a ∷ [] → IsOnWay script order r (at own next more) None
+way_on script order r header own rank next answers more a c w g e p m =
+    subst (λ (s : Going). IsOnWay script order r s None) (answered_is own rank next answers more a m)
+    (way_answers script order r header (at own rank answers) next a c (drop (suc (length answers)) own) w (drop_at own (length answers) c g) e p)
+
+pub advance_on : (header : Header) (own : List Call) (rank next : machine.Rank) (answers more : List Answer) (a : Answer) (c : Call)
+    → slice_get own (length answers) ≡ Some c → (next, want.Answered a) ≡ step header rank c → more ≡ answers ++ a ∷ []
+    → advance header (at own rank answers) ≡ advance header (at own next more)
+advance_on header own rank next answers more a c g e m =
+    sym (comes_on header (at own rank answers) (at own rank answers) next a c (drop (suc (length answers)) own) refl (drop_at own (length answers) c g) e)
+    ∙ ap (advance header) (answered_is own rank next answers more a m)
+
+-- a rank that goes on adds to its answers
+pub answers_begin : (header : Header) (rank : machine.Rank) (answers : List Answer) (calls : List Call) → (rest : List Answer) × (answers ++ rest ≡ (go header rank answers calls).0.answers)
+answers_begin header rank answers [] = ([], append-nil answers)
+answers_begin header rank answers (c ∷ calls) = by (step header rank c) (λ r more. answers_begin header r more calls)
+  where
+    by : (next : machine.Rank × Want) → ((r : machine.Rank) (more : List Answer) → (rest : List Answer) × (more ++ rest ≡ (go header r more calls).0.answers))
+        → (rest : List Answer) × (answers ++ rest ≡ (elim next.1 as (λ (x : Want). Going × Option Offer) [
+          | want.Answered a ↦ go header next.0 (answers ++ a ∷ []) calls
+          | want.Meet p ↦ (record { rank = next.0; answers = answers; calls = calls }, Some p)
+          | want.Solo p ↦ (record { rank = next.0; answers = answers; calls = calls }, Some p)
+        ]).0.answers)
+    by (r, want.Answered a) again = let e = again r (answers ++ a ∷ []) in (a ∷ e.0, sym (append_assoc answers (a ∷ []) e.0) ∙ e.1)
+    by (r, want.Meet p) again = ([], append-nil answers)
+    by (r, want.Solo p) again = ([], append-nil answers)
+
+-- so the answers that it has begin those that it comes to
+pub answers_on_way : (header : Header) (from : Going × Option Offer) (own : List Call) (rank : machine.Rank) (answers now : List Answer) → from ≡ advance header (at own rank answers) → now ≡ answers
+    → (rest : List Answer) × (now ++ rest ≡ from.0.answers)
+answers_on_way header from own rank answers now e f =
+    let b = answers_begin header rank answers (drop (length answers) own) in
+    (b.0, ap (λ (as' : List Answer). as' ++ b.0) f ∙ b.1 ∙ sym (ap (λ (a : Going × Option Offer). a.0.answers) e))
+
+-- the call that is next
+pub next_call : (own : List Call) (answers : List Answer) (n : ℕ) (c : Call) → n ≡ length answers → n < length own → c ≡ get_or own n c → slice_get own (length answers) ≡ Some c
+next_call own answers n c e l g = subst (λ (k : ℕ). slice_get own k ≡ Some c) e (entry_read own n c l g)
+
+-- ---- at an offer
+
+placed_with : (script : Script) (header : Header) (order : List Mark) (r : ℕ) (s : Going) (o : Offer) (k : OfferKind) → k ≡ o.kind
+    → IsPlacedWith script header order r s o k → IsPlaced script header order r s (Some o)
+placed_with script header order r s o k e h = subst (λ (j : OfferKind). IsPlacedWith script header order r s o j) e h
+
+pub placed_meeting : (script : Script) (order : List Mark) (r : ℕ) (header : Header) (own : List Call) (rank next : machine.Rank) (answers : List Answer) (o : Offer) (c : Call)
+    → IsOnWay script order r (at own rank answers) None → slice_get own (length answers) ≡ Some c → (next, want.Meet o) ≡ step header rank c
+    → posts_held next ≤ posts_held rank + most_parts → IsPlaced script header order r (at_call own next answers) (Some o)
+placed_meeting script order r header own rank next answers o c w g e p =
+    let says = says_at header rank c (next, want.Meet o) e in
+    placed_with script header order r (at_call own next answers) o (offer.Meet says.of_kind) (sym says.meets)
+    (way_meets script order r header (at own rank answers) next o c (drop (suc (length answers)) own) w (drop_at own (length answers) c g) e p)
+
+pub placed_alone : (script : Script) (order : List Mark) (r : ℕ) (header : Header) (own : List Call) (rank next : machine.Rank) (answers : List Answer) (o : Offer) (c : Call)
+    → IsOnWay script order r (at own rank answers) None → slice_get own (length answers) ≡ Some c → (next, want.Solo o) ≡ step header rank c
+    → posts_held next ≤ posts_held rank + most_parts → IsPlaced script header order r (at_call own next answers) (Some o)
+placed_alone script order r header own rank next answers o c w g e p =
+    let says = says_at header rank c (next, want.Solo o) e in
+    placed_with script header order r (at_call own next answers) o offer.Solo (sym says.is_solo) (record {
+      before = rank;
+      call = c;
+      way = subst (λ (cs : List Call). IsOnWay script order r (record { rank = rank; answers = answers; calls = cs }) None) (drop_at own (length answers) c g) w;
+      step = e;
+      few = p;
+    })
+
+pub advance_meeting : (header : Header) (own : List Call) (rank next : machine.Rank) (answers : List Answer) (o : Offer) (c : Call)
+    → slice_get own (length answers) ≡ Some c → (next, want.Meet o) ≡ step header rank c → advance header (at own rank answers) ≡ (at_call own next answers, Some o)
+advance_meeting header own rank next answers o c g e =
+    comes_to_meeting header (at own rank answers) (at own rank answers) next o c (drop (suc (length answers)) own) refl (drop_at own (length answers) c g) e
+
+pub advance_alone : (header : Header) (own : List Call) (rank next : machine.Rank) (answers : List Answer) (o : Offer) (c : Call)
+    → slice_get own (length answers) ≡ Some c → (next, want.Solo o) ≡ step header rank c → advance header (at own rank answers) ≡ (at_call own next answers, Some o)
+advance_alone header own rank next answers o c g e =
+    comes_to_solo header (at own rank answers) (at own rank answers) next o c (drop (suc (length answers)) own) refl (drop_at own (length answers) c g) e
+
+-- at the end of its calls it is where it has gone up to
+pub advance_ended : (header : Header) (own : List Call) (rank : machine.Rank) (answers : List Answer) → drop (length answers) own ≡ []
+    → advance header (at own rank answers) ≡ (at own rank answers, None)
+advance_ended header own rank answers e =
+    let f = sym e in
+    ap (λ (cs : List Call). go header rank answers cs) e ∙ (λ i. (record { rank = rank; answers = answers; calls = f i }, None))
+
+-- ---- what it hears
+
+pub heard_runner : (header : Header) (own : List Call) (before now : Runner) (reply : Reply) → before.rank.header ≡ header → HasHeard before now reply
+    → between own now ≡ hears header (asking own before) reply
+heard_runner header own before now reply e h =
+    let said : (now.rank.state, h.answer) ≡ hear header before.rank.state reply = h.heard ∙ ap (λ (k : Header). hear k before.rank.state reply) e in
+    sym (answered_is own before.rank.state now.rank.state before.answers now.answers h.answer h.answers)
+    ∙ ap (λ (p : machine.Rank × Answer). answered (at own before.rank.state before.answers) p.0 p.1 (drop (suc (length before.answers)) own)) said
+
+-- it is on its way after a solo step
+pub alone_heard : (script : Script) (header : Header) (order : List Mark) (r : ℕ) (own : List Call) (before now : Runner) (o : Offer) (reply : Reply) → before.rank.header ≡ header
+    → AsksAlone script header order r (asking own before) o → HasHeard before now reply
+    → IsOnWay script (order ++ mark.Solo r (length before.answers) ∷ []) r (between own now) None
+alone_heard script header order r own before now o reply e asks h =
+    let said : (now.rank.state, h.answer) ≡ hear header before.rank.state reply = h.heard ∙ ap (λ (k : Header). hear k before.rank.state reply) e in
+    subst (λ (s : Going). IsOnWay script (order ++ mark.Solo r (length before.answers) ∷ []) r s None)
+    (answered_is own asks.before now.rank.state before.answers now.answers h.answer h.answers)
+    (way_solo script order r header (record { rank = asks.before; answers = before.answers; calls = asks.call ∷ drop (suc (length before.answers)) own })
+    before.rank.state now.rank.state o reply h.answer asks.call (drop (suc (length before.answers)) own) asks.way refl asks.step asks.few said)
+
+-- ---- the marks of its calls
+
+abbrev pub HasRest : Script → List Mark → ℕ → Type 0
+HasRest script order r = (rest : List Mark) × (filter (concerns r) order ++ rest ≡ marks script.calls r)
+
+pub way_rest : (script : Script) (order : List Mark) (r : ℕ) (s : Going) (held : Option Offer) → IsOnWay script order r s held → HasRest script order r
+way_rest script order r s held w = (_, w.marks)
+
+pub alone_rest : (script : Script) (header : Header) (order : List Mark) (r : ℕ) (s : Going) (o : Offer) → AsksAlone script header order r s o → HasRest script order r
+alone_rest script header order r s o asks = way_rest script order r _ None asks.way
+
+-- also where the step is done and its reply was not heard
+pub alone_done : (script : Script) (header : Header) (order : List Mark) (r : ℕ) (s : Going) (o : Offer) (reply : Reply) → AsksAlone script header order r s o
+    → HasRest script (order ++ mark.Solo r (length s.answers) ∷ []) r
+alone_done script header order r s o reply asks =
+    let said = hear header s.rank reply in
+    way_rest script _ r _ None
+    (way_solo script order r header (record { rank = asks.before; answers = s.answers; calls = asks.call ∷ s.calls })
+    s.rank said.0 o reply said.1 asks.call s.calls asks.way refl asks.step asks.few refl)
+
+pub placed_rest : (script : Script) (header : Header) (order : List Mark) (r : ℕ) (s : Going) (held : Option Offer) → IsPlaced script header order r s held → HasRest script order r
+placed_rest script header order r s None w = way_rest script order r s None w
+placed_rest script header order r s (Some o) w = by_kind o.kind w
+  where
+    by_kind : (k : OfferKind) → IsPlacedWith script header order r s o k → HasRest script order r
+    by_kind offer.Solo h = alone_rest script header order r s o h
+    by_kind (offer.Meet kind) h = way_rest script order r s (Some o) h
+
+-- ---- what the rank wants at its next call
+
+pub asked_meeting : (header : Header) (rank next : machine.Rank) (o : Offer) (c : Call) → (next, want.Meet o) ≡ step header rank c → IsSoundOffer header o
+    → length o.batch.puts + length o.batch.gets ≤ 2 ^ 30 → IsAsked header next.known o
+asked_meeting header rank next o c e sound few =
+    let kept = meets_keeps header rank next c o e in
+    record { sound = sound; told = kept.1.0 ∙ sym kept.0; few = few; one = meets_quiet header rank next c o e }
+
+pub asked_alone : (header : Header) (rank next : machine.Rank) (o : Offer) (c : Call) → (next, want.Solo o) ≡ step header rank c → IsSoundOffer header o
+    → length o.batch.puts + length o.batch.gets ≤ 2 ^ 30 → IsAsked header next.known o
+asked_alone header rank next o c e sound few =
+    let kept = solo_keeps header rank next c o e in
+    record { sound = sound; told = kept.1.1.0 ∙ sym kept.1.0; few = few; one = λ raised. absurd (not_solo o.kind kept.0 raised) }
+  where
+    not_solo : (k : OfferKind) → k ≡ offer.Solo → raises k ≡ true → ⊥
+    not_solo k e h = let f : false ≡ true = sym (ap raises e) ∙ h in cc
+
+-- a sound want, at what it is
+pub sound_at : (header same : Header) (w v : Want) → same ≡ header → w ≡ v → IsSoundWant same w → IsSoundWant header v
+sound_at header same w v e f h = subst (λ (k : Header). IsSoundWant k v) e (subst (λ (x : Want). IsSoundWant same x) f h)
+
+pub few_at : (w v : Want) (held : ℕ) → w ≡ v → posts_offered w ≤ held + most_parts → held + most_parts ≤ 2 ^ 30 → posts_offered v ≤ 2 ^ 30
+few_at w v held e h l = let f = ap posts_offered e in omega arith

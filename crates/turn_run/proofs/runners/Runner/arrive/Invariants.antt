@@ -1,0 +1,29 @@
+-- The rank stands at its next offer, or at its end.
+use Rattle.std.proofs.Common.{◌≡◌, ◌-◌, ◌≤◌, drop, length, List, [], None, Some}
+use Rattle.std.specs.Prelude.{slice_get}
+use Rattle.serial_spec.specs.Lawful.{most_calls}
+use Rattle.serial_spec.specs.SerialEnd.{setting_of}
+use Rattle.turn_run.specs.Counts.{IsCount}
+use Rattle.turn_run.specs.Running.{calls_of, IsRunner}
+use Rattle.run_laws.specs.Arrivals.{Arrived}
+use Rattle.turn_run.specs.Stages.{arrived, HasGone}
+use Rattle.turn_run.specs.Told.{HasToldMore}
+use Rattle.turn_run.proofs.runners.Runner.arrive.Given as goal
+
+abbrev pub invariant-alone : goal.invariant-alone
+invariant-alone g l = record {
+  from : g.D.Disk.from l.disk ≡ 0;
+  longer : g.D.Disk.len l.fn.disk ≤ g.D.Disk.len l.disk;
+  faults : g.D.Disk.faults l.fn.disk ≤ g.D.Disk.faults l.disk;
+  runner : IsRunner l.lent.setup.script.now l.lent.setup.header.now l.progress.order l.number l.self;
+  ended : l.self.held ≡ None → drop (length l.self.answers) (calls_of l.lent.setup.script.now l.number) ≡ [];
+  known : IsCount l.lent.setup.header.now (g.D.Disk.len l.disk) l.self.rank.state.known;
+  gone : HasGone l.lent.setup.script.now.hints (setting_of l.lent.setup.script.now l.lent.setup.header.now) l.number l.fn.progress.order l.progress.order (g.D.Disk.held l.fn.disk) (g.D.Disk.calls l.fn.disk)
+      (g.D.Disk.held l.disk) (g.D.Disk.calls l.disk) (arrived l.lent.setup.header.now (calls_of l.lent.setup.script.now l.number) l.fn.self) (arrived l.lent.setup.header.now (calls_of l.lent.setup.script.now l.number) l.self);
+  count : l.progress.records ≡ l.fn.progress.records;
+  told : (ranks : List Arrived) → slice_get ranks l.number ≡ Some (arrived l.lent.setup.header.now (calls_of l.lent.setup.script.now l.number) l.fn.self)
+      → HasToldMore (setting_of l.lent.setup.script.now l.lent.setup.header.now) (g.D.Disk.held l.fn.disk) l.fn.progress.records ranks l.fn.progress.order l.progress.order (g.T.Told.heard l.fn.told) (g.T.Told.heard l.told);
+}
+
+abbrev pub decreases-alone : goal.decreases-alone
+decreases-alone g l = most_calls - length l.self.answers

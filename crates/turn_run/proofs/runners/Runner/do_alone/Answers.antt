@@ -1,0 +1,178 @@
+-- The step is done, and the rank has heard its reply.
+use Rattle.std.proofs.Common.{◌≡◌, refl, sym, ◌∙◌, ap, subst, List, Some, inr}
+use Rattle.nc_base.specs.declared.step.Mark.{Mark}
+use Rattle.serial_spec.specs.SerialEnd.{advance, setting_of}
+use Rattle.run_laws.specs.Ways.{IsOnWay}
+use Rattle.turn_run.proofs.CountLaws.{count_longer, count_max}
+use Rattle.turn_run.proofs.MeetOffers.{asked_fit}
+use Rattle.turn_run.proofs.RunnerLaws.{alone_done, alone_heard, alone_rest, heard_runner, HasRest}
+use Rattle.turn_run.proofs.AloneLaws.{alone_led, alone_waits, arrived_free, fits_open, gone_alone, grown_one, heard_known, order_is}
+use Rattle.turn_run.specs.Counts.{IsCount}
+use Rattle.turn_run.specs.Running.{asking, between, calls_of}
+use Rattle.turn_run.specs.Stages.{arrived}
+use Rattle.turn_run.specs.Cuts.{MayFollow}
+use Rattle.std.proofs.Common.{length, [], ◌∷◌, ◌++◌}
+use Rattle.std.proofs.lemmas.Result.{err_from_is_err_and}
+use Rattle.nc_base.specs.declared.step.Mark.TheVariants.{Solo}
+use Rattle.nc_base.specs.declared.step.Reply.{Reply}
+use Rattle.serial_spec.specs.FileStep.{puts_of, told}
+use Rattle.collective_round.proofs.TornLaws.{done_torn}
+use Rattle.turn_run.proofs.CutLaws.{stopped_solo, stopped_unheard, memory_of, own_is}
+use Rattle.turn_run.specs.Said.{SaysAt}
+use Rattle.turn_run.proofs.SaidLaws.{reached_here, reached_unheard, said_here, says_here}
+use Rattle.turn_run.proofs.TellLaws.{told_alone, told_none}
+use Rattle.turn_run.proofs.runners.Runner.do_alone.Goals as goal
+use Rattle.std.proofs.Common.{None, ℕ}
+use Rattle.list_laws.proofs.Results.{on_err}
+use Rattle.serial_spec.proofs.LawfulTests.{lawful_hints}
+
+pub solo_reply-requires-clause-hints : goal.solo_reply-requires-clause-hints
+solo_reply-requires-clause-hints g c κs within = lawful_hints c.args.lent.now.setup.script.now c.requires.lawful
+
+pub solo_reply-requires-clause-fit : goal.solo_reply-requires-clause-fit
+solo_reply-requires-clause-fit g c κs within = asked_fit c.args.lent.now.setup.header.now _ c.args.self.now.rank.state.known c.args.ask.offer c.requires.asked c.requires.known
+
+pub returns-in_err-reply-clause-begun : goal.returns-in_err-reply-clause-begun
+returns-in_err-reply-clause-begun g c =
+    on_err _ (alone_rest c.args.lent.now.setup.script.now c.args.lent.now.setup.header.now c.args.progress.now.order c.args.ask.number _ c.args.ask.offer c.requires.asks)
+
+pub returns-in_err-note_step-clause-begun : goal.returns-in_err-note_step-clause-begun
+returns-in_err-note_step-clause-begun g c =
+    on_err _ (subst (λ (ms : List Mark). HasRest c.args.lent.now.setup.script.now ms c.args.ask.number) (sym c.in_err-note_step.ensures.kept)
+    (alone_rest c.args.lent.now.setup.script.now c.args.lent.now.setup.header.now c.args.progress.now.order c.args.ask.number _ c.args.ask.offer c.requires.asks))
+
+pub hear-requires-clause-waits : goal.hear-requires-clause-waits
+hear-requires-clause-waits g c = (alone_waits c.args.lent.now.setup.script.now c.args.lent.now.setup.header.now c.args.progress.now.order c.args.ask.number _ c.args.ask.offer c.requires.asks).0
+
+pub hear-requires-clause-fits : goal.hear-requires-clause-fits
+hear-requires-clause-fits g c =
+    fits_open _ c.args.lent.now.setup.header.now c.args.self.now.rank.header c.args.ask.offer.batch.gets c.in_ok-reply.reply.got c.requires.header
+    (alone_waits c.args.lent.now.setup.script.now c.args.lent.now.setup.header.now c.args.progress.now.order c.args.ask.number _ c.args.ask.offer c.requires.asks).1 c.in_ok-reply.ensures.fits
+
+pub returns-in_err-hear-clause-grown : goal.returns-in_err-hear-clause-grown
+returns-in_err-hear-clause-grown g c = grown_one _ _ _ _ c.in_ok-note_step.ensures.order
+
+pub returns-in_err-hear-clause-begun : goal.returns-in_err-hear-clause-begun
+returns-in_err-hear-clause-begun g c =
+    on_err _ (subst (λ (ms : List Mark). HasRest c.args.lent.now.setup.script.now ms c.args.ask.number)
+    (sym (order_is _ _ c.args.self.now.answers c.args.progress.now.order c.note_step.new.order c.in_ok-note_step.ensures.order c.len.ensures))
+    (alone_done c.args.lent.now.setup.script.now c.args.lent.now.setup.header.now c.args.progress.now.order c.args.ask.number _ c.args.ask.offer c.in_ok-reply.reply c.requires.asks))
+
+pub returns-clause-way : goal.returns-clause-way
+returns-clause-way g c =
+    let own = calls_of c.args.lent.now.setup.script.now c.args.ask.number in
+    subst (λ (ms : List Mark). IsOnWay c.args.lent.now.setup.script.now ms c.args.ask.number (between own c.hear.new.self) None)
+    (sym (order_is _ _ c.args.self.now.answers c.args.progress.now.order c.note_step.new.order c.in_ok-note_step.ensures.order c.len.ensures))
+    (alone_heard c.args.lent.now.setup.script.now c.args.lent.now.setup.header.now c.args.progress.now.order c.args.ask.number own c.args.self.now c.hear.new.self c.args.ask.offer c.in_ok-reply.reply c.requires.header c.requires.asks
+    c.in_ok-hear.ensures.heard)
+
+pub returns-clause-known : goal.returns-clause-known
+returns-clause-known g c =
+    let waits = (alone_waits c.args.lent.now.setup.script.now c.args.lent.now.setup.header.now c.args.progress.now.order c.args.ask.number _ c.args.ask.offer c.requires.asks).0 in
+    subst (λ (n : ℕ). IsCount c.args.lent.now.setup.header.now (g.D.Disk.len c.solo_reply.new.disk) n) (sym (heard_known c.args.self.now c.hear.new.self c.in_ok-reply.reply waits c.in_ok-hear.ensures.heard))
+    (count_max c.args.lent.now.setup.header.now (g.D.Disk.len c.solo_reply.new.disk) c.args.self.now.rank.state.known c.in_ok-reply.reply.records
+    (count_longer c.args.lent.now.setup.header.now (g.D.Disk.len c.args.disk.now) (g.D.Disk.len c.solo_reply.new.disk) c.args.self.now.rank.state.known c.in_ok-reply.ensures.longer c.requires.known)
+    (inr c.in_ok-reply.ensures.count))
+
+pub returns-clause-gone : goal.returns-clause-gone
+returns-clause-gone g c =
+    let own = calls_of c.args.lent.now.setup.script.now c.args.ask.number in
+    let header = c.args.lent.now.setup.header.now in
+    let up : arrived header own c.hear.new.self ≡ _ =
+    arrived_free header own c.hear.new.self (c.hear.ensures.held ∙ c.requires.free)
+    ∙ ap (advance header) (heard_runner header own c.args.self.now c.hear.new.self c.in_ok-reply.reply c.requires.header c.in_ok-hear.ensures.heard) in
+    gone_alone c.args.lent.now.setup.script.now.hints (setting_of c.args.lent.now.setup.script.now header) c.args.ask.number _ c.args.progress.now.order c.note_step.new.order _ _ _ _ (asking own c.args.self.now) c.args.ask.offer
+    (arrived header own c.hear.new.self) c.in_ok-note_step.ensures.order
+    (alone_led c.args.lent.now.setup.script.now.hints (setting_of c.args.lent.now.setup.script.now header) c.args.ask.number _ (g.D.Disk.held c.args.disk.now) (g.D.Disk.held c.solo_reply.new.disk)
+    (g.D.Disk.calls c.args.disk.now) (g.D.Disk.calls c.solo_reply.new.disk) (asking own c.args.self.now) c.args.ask.offer c.in_ok-reply.reply (arrived header own c.hear.new.self)
+    c.in_ok-reply.ensures.reply c.in_ok-reply.ensures.bytes c.in_ok-reply.ensures.calls up)
+
+pub returns-clause-grown : goal.returns-clause-grown
+returns-clause-grown g c = grown_one _ _ _ _ c.in_ok-note_step.ensures.order
+
+-- a reply to try an offer with
+some_reply : Reply
+some_reply = record { pair = None; records = 0; got = [] }
+
+pub returns-in_err-reply-clause-cut : goal.returns-in_err-reply-clause-cut
+returns-in_err-reply-clause-cut g c e is records ranks at =
+    let script = c.args.lent.now.setup.script.now in
+    let own = calls_of script c.args.ask.number in
+    stopped_solo (MayFollow script c.args.ask.number c.args.progress.now.order) (setting_of script c.args.lent.now.setup.header.now) e c.args.ask.number (length c.args.self.now.answers) c.args.progress.now.order c.args.progress.now.order
+    (g.D.Disk.held c.args.disk.now) (g.D.Disk.held c.solo_reply.new.disk) (asking own c.args.self.now) c.args.ask.offer
+    (own_is c.args.ask.number (length c.args.self.now.answers), alone_done script c.args.lent.now.setup.header.now c.args.progress.now.order c.args.ask.number _ c.args.ask.offer some_reply c.requires.asks)
+    refl c.in_err-reply.ensures.refused records ranks at
+
+pub returns-in_err-note_step-clause-cut : goal.returns-in_err-note_step-clause-cut
+returns-in_err-note_step-clause-cut g c e is records ranks at =
+    let script = c.args.lent.now.setup.script.now in
+    let own = calls_of script c.args.ask.number in
+    let s = setting_of script c.args.lent.now.setup.header.now in
+    stopped_solo (MayFollow script c.args.ask.number c.note_step.new.order) s e c.args.ask.number (length c.args.self.now.answers) c.args.progress.now.order c.note_step.new.order
+    (g.D.Disk.held c.args.disk.now) (g.D.Disk.held c.solo_reply.new.disk) (asking own c.args.self.now) c.args.ask.offer (
+      own_is c.args.ask.number (length c.args.self.now.answers),
+      subst (λ (ms : List Mark). HasRest script (ms ++ Solo c.args.ask.number (length c.args.self.now.answers) ∷ []) c.args.ask.number) (sym c.in_err-note_step.ensures.kept)
+          (alone_done script c.args.lent.now.setup.header.now c.args.progress.now.order c.args.ask.number _ c.args.ask.offer some_reply c.requires.asks),
+    )
+    c.in_err-note_step.ensures.kept
+    (done_torn s (puts_of (c.args.ask.number, c.args.ask.offer)) (told s (puts_of (c.args.ask.number, c.args.ask.offer))) (g.D.Disk.held c.args.disk.now) (g.D.Disk.held c.solo_reply.new.disk)
+    c.in_ok-reply.ensures.bytes)
+    records ranks at
+
+pub returns-in_err-hear-clause-cut : goal.returns-in_err-hear-clause-cut
+returns-in_err-hear-clause-cut g c e is records ranks at =
+    let script = c.args.lent.now.setup.script.now in
+    let own = calls_of script c.args.ask.number in
+    let p = err_from_is_err_and c.from_residual-in_err-hear.result c.from_residual-in_err-hear.ensures.1 in
+    stopped_unheard (MayFollow script c.args.ask.number c.note_step.new.order) (setting_of script c.args.lent.now.setup.header.now) e c.args.ask.number (length c.args.self.now.answers) c.args.progress.now.order c.note_step.new.order
+    (g.D.Disk.held c.args.disk.now) (g.D.Disk.held c.solo_reply.new.disk) (asking own c.args.self.now) c.args.ask.offer
+    (memory_of c.from_residual-in_err-hear.result e p.0 is p.1 p.2)
+    (order_is _ _ c.args.self.now.answers c.args.progress.now.order c.note_step.new.order c.in_ok-note_step.ensures.order c.len.ensures)
+    c.in_ok-reply.ensures.bytes records ranks at
+
+pub returns-in_err-reply-clause-answered : goal.returns-in_err-reply-clause-answered
+returns-in_err-reply-clause-answered g c e is records ranks at =
+    let script = c.args.lent.now.setup.script.now in
+    let answers = c.args.self.now.answers in
+    reached_here (SaysAt c.args.ask.number e answers) (setting_of script c.args.lent.now.setup.header.now) c.args.progress.now.order c.args.progress.now.order (g.D.Disk.held c.args.disk.now) records ranks refl
+    (λ n. says_here c.args.ask.number e answers (asking (calls_of script c.args.ask.number) c.args.self.now, Some c.args.ask.offer) n ranks at (said_here e _ answers refl))
+
+pub returns-in_err-note_step-clause-answered : goal.returns-in_err-note_step-clause-answered
+returns-in_err-note_step-clause-answered g c e is records ranks at =
+    let script = c.args.lent.now.setup.script.now in
+    let answers = c.args.self.now.answers in
+    reached_here (SaysAt c.args.ask.number e answers) (setting_of script c.args.lent.now.setup.header.now) c.args.progress.now.order c.note_step.new.order (g.D.Disk.held c.args.disk.now) records ranks c.in_err-note_step.ensures.kept
+    (λ n. says_here c.args.ask.number e answers (asking (calls_of script c.args.ask.number) c.args.self.now, Some c.args.ask.offer) n ranks at (said_here e _ answers refl))
+
+pub returns-in_err-hear-clause-answered : goal.returns-in_err-hear-clause-answered
+returns-in_err-hear-clause-answered g c e is records ranks at =
+    let script = c.args.lent.now.setup.script.now in
+    let own = calls_of script c.args.ask.number in
+    let p = err_from_is_err_and c.from_residual-in_err-hear.result c.from_residual-in_err-hear.ensures.1 in
+    reached_unheard (setting_of script c.args.lent.now.setup.header.now) e c.args.ask.number (length c.args.self.now.answers) c.args.progress.now.order c.note_step.new.order
+    (g.D.Disk.held c.args.disk.now) (asking own c.args.self.now) c.args.ask.offer c.hear.new.self.answers
+    (memory_of c.from_residual-in_err-hear.result e p.0 is p.1 p.2)
+    (order_is _ _ c.args.self.now.answers c.args.progress.now.order c.note_step.new.order c.in_ok-note_step.ensures.order c.len.ensures)
+    c.in_err-hear.ensures.kept records ranks at
+
+pub returns-in_err-reply-clause-told : goal.returns-in_err-reply-clause-told
+returns-in_err-reply-clause-told g c ranks at =
+    told_none (setting_of c.args.lent.now.setup.script.now c.args.lent.now.setup.header.now) (g.D.Disk.held c.args.disk.now) c.args.progress.now.records ranks c.args.progress.now.order c.args.progress.now.order
+    (g.T.Told.heard c.args.told.now) (g.T.Told.heard c.args.told.now) refl refl
+
+pub returns-in_err-note_step-clause-told : goal.returns-in_err-note_step-clause-told
+returns-in_err-note_step-clause-told g c ranks at =
+    told_none (setting_of c.args.lent.now.setup.script.now c.args.lent.now.setup.header.now) (g.D.Disk.held c.args.disk.now) c.args.progress.now.records ranks c.args.progress.now.order c.note_step.new.order
+    (g.T.Told.heard c.args.told.now) (g.T.Told.heard c.note_step.new.told) c.in_err-note_step.ensures.kept c.in_err-note_step.ensures.untold
+
+pub returns-in_err-hear-clause-told : goal.returns-in_err-hear-clause-told
+returns-in_err-hear-clause-told g c =
+    told_alone (setting_of c.args.lent.now.setup.script.now c.args.lent.now.setup.header.now) c.args.ask.number _ (g.D.Disk.held c.args.disk.now) c.args.progress.now.records c.args.progress.now.order c.note_step.new.order
+    (g.T.Told.heard c.args.told.now) (g.T.Told.heard c.note_step.new.told) (asking (calls_of c.args.lent.now.setup.script.now c.args.ask.number) c.args.self.now) c.args.ask.offer
+    c.in_ok-note_step.ensures.order c.in_ok-note_step.ensures.heard
+
+pub returns-clause-told : goal.returns-clause-told
+returns-clause-told g c =
+    told_alone (setting_of c.args.lent.now.setup.script.now c.args.lent.now.setup.header.now) c.args.ask.number _ (g.D.Disk.held c.args.disk.now) c.args.progress.now.records c.args.progress.now.order c.note_step.new.order
+    (g.T.Told.heard c.args.told.now) (g.T.Told.heard c.note_step.new.told) (asking (calls_of c.args.lent.now.setup.script.now c.args.ask.number) c.args.self.now) c.args.ask.offer
+    c.in_ok-note_step.ensures.order c.in_ok-note_step.ensures.heard

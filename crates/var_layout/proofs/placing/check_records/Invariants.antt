@@ -1,5 +1,0 @@
-use Rattle.var_layout.proofs.CreatedFiles.{RecordsSoFar}
-use Rattle.var_layout.proofs.placing.check_records.Given as goal
-
-abbrev pub invariant-loop-k : goal.invariant-loop-k
-invariant-loop-k l = RecordsSoFar l.header l.align l.len l.k l.begin
