@@ -1,12 +1,12 @@
 -- Parts that come back one after another.
 use Rattle.std.proofs.Common.{◌≡◌, ℕ, zero, suc, ◌+◌, ◌<◌, ◌≤◌, ◌⊎◌, min, get_or, inl, inr, refl, sym, ◌∙◌, ap, subst, List, [], ◌∷◌, ◌++◌, length, map, take, drop, Some, Result, Ok, Err, arith}
-use Rattle.std.proofs.lemmas.List.{append-nil, length-append, length-drop, take_all, take_more}
-use Rattle.std.proofs.lemmas.Option.{get_or_from_slice_get, slice_get-get_or}
+use Rattle.std.proofs.lemmas.List.{append-nil, length-append, length-drop, nil_from_length, take_all, take_more}
+use Rattle.std.proofs.lemmas.Option.{slice_get_within, slice_get-get_or}
 use Rattle.std.proofs.lemmas.Slice.Zip.{all_zipped_more}
 use Rattle.std.specs.Prelude.{slice_get, zip, OnOk, IsErr, IsErrOf, IsOk}
 use Rattle.std.specs.List.{AllZip}
 use Rattle.std.specs.Result.{result_and}
-use Rattle.list_laws.proofs.Places.{entry_below}
+use Rattle.list_laws.proofs.Places.{entry_below, get_right}
 use Rattle.nc_base.specs.declared.plan.Extent.{Extent}
 use Rattle.nc_base.specs.declared.plan.Owned.{Owned}
 use Rattle.nc_outside.specs.declared.disk.DiskErr.{DiskErr}
@@ -16,7 +16,6 @@ use Rattle.overlay_laws.proofs.HullLaws.{in_either, in_right}
 use Rattle.overlay_laws.proofs.Members.{at_in, in_at}
 use Rattle.piece_exchange.specs.Put.{put_part, HasPut, PartState, SomeZip}
 use Rattle.piece_exchange.specs.Turns.{Told}
-use Rattle.piece_exchange.proofs.FeedLaws.{get_long}
 use Rattle.piece_exchange.proofs.PutLaws.{told_nothing}
 use Rattle.list_laws.proofs.Each.{zip_weaker}
 
@@ -64,11 +63,7 @@ pub middle_in : {A : Type 0} (xs rest whole : List A) (x : A) → xs ++ x ∷ re
 middle_in {A} xs rest whole x e = subst (λ (v : List A). In v x) e (in_right xs (x ∷ rest) x (inl refl))
 
 pub middle_at : {A : Type 0} (xs rest whole : List A) (x : A) → xs ++ x ∷ rest ≡ whole → slice_get whole (length xs) ≡ Some x
-middle_at {A} xs rest whole x e = ap (λ (v : List A). slice_get v (length xs)) (sym e) ∙ here xs
-  where
-    here : (zs : List A) → slice_get (zs ++ x ∷ rest) (length zs) ≡ Some x
-    here [] = refl
-    here (z ∷ zs) = here zs
+middle_at {A} xs rest whole x e = ap (λ (v : List A). slice_get v (length xs)) (sym e) ∙ get_right xs (x ∷ rest) 0 (length xs) (omega arith)
 
 -- ---- puts that were done, or cut off by what came later
 
@@ -94,7 +89,7 @@ pub each_new : {X : Type 0} (P Q : X → Type 0) (R : X → X → Type 0) (old n
     → ((k : ℕ) (x y : X) → slice_get old k ≡ Some x → slice_get new k ≡ Some y → R x y) → ((x : X) → In old x → P x) → ((x y : X) → R x y → P x → Q y) → (y : X) → In new y → Q y
 each_new P Q R old new long each all f y m =
     let k = in_at new y m in
-    let l = get_long new k.0 y k.1 in
+    let l = slice_get_within new k.0 y k.1 in
     let x = entry_below old k.0 (omega arith) in
     f x.0 y (each k.0 x.0 y x.1 k.1) (all x.0 (at_in old k.0 x.0 x.1))
 
@@ -148,13 +143,6 @@ err_not_ok P (Err x) e = tt
 pub at_index : {X : Type 0} (xs : List X) (i k : ℕ) (d : X) → i < length xs → k ≡ i → slice_get xs k ≡ Some (get_or xs i d)
 at_index xs i k d l e = ap (λ (n : ℕ). slice_get xs n) e ∙ slice_get-get_or xs i d l
 
-pub take_at : {X : Type 0} (xs : List X) (i : ℕ) (x : X) → slice_get xs i ≡ Some x → take (i + 1) xs ≡ take i xs ++ x ∷ []
-take_at xs i x e = take_more xs i x (get_long xs i x e) ∙ ap (λ y. take i xs ++ y ∷ []) (get_or_from_slice_get xs i x x e)
-
-pub no_items : {X : Type 0} (xs : List X) → length xs ≡ 0 → xs ≡ []
-no_items [] e = refl
-no_items (x ∷ xs) e = absurd (omega arith)
-
 pub zip_same : {A B : Type 0} (Q : A × B → A → Type 0) (xs : List A) (ds : List B) → length ds ≡ length xs → ((x : A) (d : B) → Q (x, d) x) → AllZip Q (zip xs ds) xs
 zip_same Q [] [] long f = tt
 zip_same Q [] (d ∷ ds) long f = tt
@@ -168,5 +156,5 @@ put_untouched source list ts old e = record { from = refl; len = refl; bytes = t
 -- what a vector has after its slice was lent and came back as long
 pub slice_kept : {X : Type 0} (n : ℕ) (new old : List X) → n ≡ length old → length new ≡ length old → take n (new ++ drop (length new) old) ≡ new
 slice_kept {X} n new old e l =
-    let none : drop (length new) old ≡ [] = no_items (drop (length new) old) (length-drop (length new) old ∙ omega arith) in
+    let none : drop (length new) old ≡ [] = nil_from_length (drop (length new) old) (length-drop (length new) old ∙ omega arith) in
     ap (λ (r : List X). take n (new ++ r)) none ∙ ap (λ (r : List X). take n r) (append-nil new) ∙ take_all n new (omega arith)

@@ -7,7 +7,7 @@ use Rattle.std.proofs.Math.Seq.{map-set_same}
 use Rattle.std.specs.Prelude.{map, ◌==◌}
 use Rattle.std.proofs.lemmas.Bool.{and_from}
 use borrow.Author.Tests.{eqb-true, eqb-false}
-use Rattle.list_laws.proofs.Truth.{equal_true, and_first, and_second}
+use Rattle.list_laws.proofs.Truth.{equal_true, and_first, and_second, no_both}
 use Rattle.nc_base.specs.declared.plan.Owned.{Owned}
 use Rattle.serial_spec.proofs.FileLaws.{length-written_inside}
 use Rattle.serial_spec.specs.File.{written}
@@ -97,10 +97,7 @@ blob_other : (table : List (List (List ℕ))) (rank slot r s : ℕ) (blob : List
 blob_other table rank slot r s blob some e = by_rank (rank == r) refl
   where
     by_slot : rank ≡ r → (t : Bool) → (slot == s) ≡ t → (rank == r) ≡ true → blob_at (with_blob table rank slot blob) r s ≡ blob_at table r s
-    by_slot g true f h = absurd (no_both (rank == r && slot == s) (and_from (rank == r) (slot == s) h f) e)
-      where
-        no_both : (t : Bool) → t ≡ true → t ≡ false → ⊥
-        no_both t h k = cc
+    by_slot g true f h = no_both (rank == r && slot == s) (and_from (rank == r) (slot == s) h f) e
     by_slot g false f h =
         let other : s ≢ slot = λ i. eqb-false _ _ f (sym i) in
         ap (λ (k : ℕ). blob_at (with_blob table rank slot blob) k s) (sym g)

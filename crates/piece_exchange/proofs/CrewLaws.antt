@@ -1,11 +1,11 @@
 -- Helpers that were started one after another, each for the next part.
 use Rattle.std.proofs.Common.{◌≡◌, ℕ, ◌+◌, inl, inr, sym, ◌∙◌, ap, subst, List, [], ◌∷◌, ◌++◌, length, map, take, Some, Result, Ok, Err, arith}
+use Rattle.list_laws.proofs.Places.{take_next}
 use Rattle.std.proofs.lemmas.List.{append-nil, length-append, length-map, map-append, take_all}
 use Rattle.std.specs.Prelude.{slice_get, IsOk, OnOk}
 use Rattle.nc_base.specs.declared.plan.Extent.{Extent}
 use Rattle.overlay_laws.specs.Entries.{In}
 use Rattle.overlay_laws.proofs.HullLaws.{in_either}
-use Rattle.piece_exchange.proofs.BackLaws.{take_at}
 
 -- where a helper was started for each part, they are those of the parts and domains
 pub all_started : {S D : Type 0} (part : S → D) (share : S → Extent) (workers : List S) (rest parts : List D) (domains : List Extent) → rest ≡ [] → map part workers ++ rest ≡ parts
@@ -44,7 +44,7 @@ crew_domains {S} share workers now worker domains domain e is at shares =
     ∙ map-append share workers (worker ∷ [])
     ∙ ap (λ (r : List Extent). r ++ share worker ∷ []) shares
     ∙ ap (λ (d : Extent). take (length workers) domains ++ d ∷ []) is
-    ∙ sym (take_at domains (length workers) domain at)
+    ∙ sym (take_next domains (length workers) domain at)
     ∙ ap (λ (n : ℕ). take n domains) (sym long)
 
 pub crew_each : {S : Type 0} (P : S → Type 0) (workers now : List S) (worker : S) → now ≡ workers ++ worker ∷ [] → ((s : S) → In workers s → P s) → P worker → (s : S) → In now s → P s

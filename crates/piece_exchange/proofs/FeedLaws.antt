@@ -2,7 +2,7 @@
 use Rattle.std.proofs.Common.{◌≡◌, ℕ, zero, suc, ◌+◌, ◌<◌, ◌≤◌, ◌⊎◌, min, inl, inr, refl, sym, ◌∙◌, ap, subst, List, [], ◌∷◌, ◌++◌, length, get_or, set, Bool, true, false, Option, Some, None, append_assoc, arith}
 use Rattle.std.proofs.lemmas.Bool.Decides.{nat_tests}
 use Rattle.std.proofs.lemmas.List.{append-nil, length-append}
-use Rattle.std.proofs.lemmas.Option.{slice_get-get_or}
+use Rattle.std.proofs.lemmas.Option.{same_Some, slice_get_within, slice_get-get_or}
 use Rattle.std.specs.Prelude.{flat_map, nat_lt, slice_get, IfSome, IfNone}
 use Rattle.list_laws.proofs.Places.{entry_set, entry_set_other}
 use Rattle.nc_base.specs.declared.plan.Owned.{Owned}
@@ -121,9 +121,6 @@ no_more_all f (z ∷ xs) (suc i) x y e h =
     let b = length-append (f z) (flat_map f (set xs i y)) in
     omega arith
 
-some_same : {X : Type 0} (x y : X) → Some x ≡ Some y → x ≡ y
-some_same x y e = cc
-
 -- an element changed, of which the changed one is so
 pub set_each : {X : Type 0} (P : ℕ → X → Type 0) (xs : List X) (i : ℕ) (x y : X) → slice_get xs i ≡ Some x → P i y → ((r : ℕ) (z : X) → slice_get xs r ≡ Some z → P r z)
     → (r : ℕ) (z : X) → slice_get (set xs i y) r ≡ Some z → P r z
@@ -137,32 +134,8 @@ set_each {X} P xs i x y e p each r z g = by_order (nat_lt r i) (nat_lt i r) refl
     by_order false true u v = let l : i < r = grind (arith, nat_tests) in other (λ s. absurd (omega arith))
     by_order false false u v =
         let same : r ≡ i = grind (arith, nat_tests) in
-        let own : y ≡ z = some_same y z (sym (entry_set xs i x y e) ∙ ap (slice_get (set xs i y)) (sym same) ∙ g) in
+        let own : y ≡ z = same_Some y z (sym (entry_set xs i x y e) ∙ ap (slice_get (set xs i y)) (sym same) ∙ g) in
         subst (λ (k : ℕ). P k z) (sym same) (subst (λ (w : X). P i w) own p)
-
--- one element more of a list was changed, in order
-pub each_more : {X : Type 0} (R : X → X → Type 0) (old now : List X) (i : ℕ) (a b : X) → slice_get old i ≡ Some a → slice_get now i ≡ Some a → R a b
-    → ((k : ℕ) (x y : X) → k < i → slice_get old k ≡ Some x → slice_get now k ≡ Some y → R x y)
-    → (k : ℕ) (x y : X) → k < i + 1 → slice_get old k ≡ Some x → slice_get (set now i b) k ≡ Some y → R x y
-each_more {X} R old now i a b e f r each k x y l g h = by_order (nat_lt k i) refl
-  where
-    by_order : (t : Bool) → nat_lt k i ≡ t → R x y
-    by_order true u =
-        let less : k < i = grind (arith, nat_tests) in
-        each k x y less g (sym (entry_set_other now i k b (λ s. absurd (omega arith))) ∙ h)
-    by_order false u =
-        let same : k ≡ i = grind (arith, nat_tests) in
-        let first : a ≡ x = some_same a x (sym e ∙ ap (slice_get old) (sym same) ∙ g) in
-        let second : b ≡ y = some_same b y (sym (entry_set now i a b f) ∙ ap (slice_get (set now i b)) (sym same) ∙ h) in
-        subst (λ (z : X). R z y) first (subst (λ (z : X). R a z) second r)
-
-pub left_more : {X : Type 0} (old now : List X) (i : ℕ) (b : X) → ((k : ℕ) → i ≤ k → slice_get now k ≡ slice_get old k) → (k : ℕ) → i + 1 ≤ k → slice_get (set now i b) k ≡ slice_get old k
-left_more old now i b left k l = entry_set_other now i k b (λ s. absurd (omega arith)) ∙ left k (omega arith)
-
-pub get_long : {X : Type 0} (xs : List X) (k : ℕ) (x : X) → slice_get xs k ≡ Some x → k < length xs
-get_long [] k x e = absurd cc
-get_long (z ∷ xs) zero x e = omega arith
-get_long (z ∷ xs) (suc k) x e = let l = get_long xs k x e in omega arith
 
 -- what holds of two lists and of two more, place by place, joined
 pub each_twice : {X : Type 0} (R S T : X → X → Type 0) (xs ys zs : List X) → length zs ≡ length ys
@@ -170,7 +143,7 @@ pub each_twice : {X : Type 0} (R S T : X → X → Type 0) (xs ys zs : List X) �
     → ((x y z : X) → R x y → S y z → T x z)
     → (k : ℕ) (x z : X) → slice_get xs k ≡ Some x → slice_get zs k ≡ Some z → T x z
 each_twice R S T xs ys zs long first second join k x z e f =
-    let within = get_long zs k z f in
+    let within = slice_get_within zs k z f in
     let y = get_or ys k z in
     let mid = slice_get-get_or ys k z (omega arith) in
     join x y z (first k x y e mid) (second k y z mid f)

@@ -1,5 +1,6 @@
 -- The windows of all parts, each read of its own part, are the file's bytes of all entries.
 use Rattle.std.proofs.Common.{◌≡◌, ℕ, ◌+◌, ◌-◌, ◌<◌, ◌≤◌, ◌⊎◌, inl, inr, refl, sym, ◌∙◌, ap, subst, List, [], ◌∷◌, ◌++◌, length, map, take, Option, Some, None, Result, Ok, Err, arith}
+use Rattle.std.proofs.lemmas.Option.{slice_get_within}
 use Rattle.std.proofs.lemmas.List.{append-nil, length-map}
 use Rattle.std.specs.Prelude.{slice_get, zip, IfErr, IfSome, IsErrOf, IsOk, OnOk}
 use Rattle.std.specs.List.{AllZip}
@@ -28,7 +29,6 @@ use Rattle.piece_exchange.specs.declared.plan.GetPlan.{GetPlan}
 use Rattle.piece_exchange.proofs.BackLaws.{map_new, some_mapped, zip_mapped}
 use Rattle.piece_exchange.proofs.CrewLaws.{all_started}
 use Rattle.piece_exchange.proofs.DomainTurns.{domain_part, domain_windows}
-use Rattle.piece_exchange.proofs.FeedLaws.{get_long}
 use Rattle.piece_exchange.proofs.FetchLaws.{got_later}
 use Rattle.piece_exchange.proofs.ReadLaws.{log_joined, read_law}
 use Rattle.piece_exchange.proofs.TakeLaws.{items_read, IsReady}
@@ -143,7 +143,7 @@ workers_read {D} from held plan mids lasts old now long ready kept none t read =
     all_in : (p : D × Extent) (u : Told) → (worker : ReadWorker D) × In lasts worker × ((part_of worker, domain_of worker) ≡ p) → In (get_turns plan p.1) u → In (told_in t.log) u
     all_in p u s m =
         let last = in_at lasts s.0 s.1 in
-        let low = get_long lasts last.0 s.0 last.1 in
+        let low = slice_get_within lasts last.0 s.0 last.1 in
         let mid = entry_below mids last.0 (omega arith) in
         let w = t.each last.0 mid.0 s.0 mid.1 last.1 in
         let told = own_told plan mid.0 s.0 w.own (ready mid.0 (at_in mids last.0 mid.0 mid.1)) (kept last.0 mid.0 s.0 mid.1 last.1) (none last.0 s.0 last.1) w.taken in
@@ -185,7 +185,7 @@ parts_read {D} from len held plan parts domains file old now p long each whole f
         → (t : Told) × In (told_in h.log) t × (t.0 ≤ x) × (x < t.0 + t.1)
     has_hull x c w =
         let k = in_at parts w.0 w.1 in
-        let low = get_long parts k.0 w.0 k.1 in
+        let low = slice_get_within parts k.0 w.0 k.1 in
         let d = entry_below domains k.0 (omega arith) in
         let here = each k.0 w.0 d.0 k.1 d.1 in
         let t = domain_windows size (from w.0) (len w.0) d.0 plan.list.now cover p.some p.covers p.cover_bytes here.whole x w.2 w.3 c in

@@ -1,7 +1,7 @@
 -- Hulls that are taken off the lines of helpers, one after another.
 use Rattle.std.proofs.Common.{◌≡◌, ℕ, ◌+◌, ◌-◌, min, inl, inr, refl, sym, ◌∙◌, ap, subst, List, [], ◌∷◌, ◌++◌, length, map, set, Bool, true, false, Option, Some, None, Result, Ok, Err, append_assoc, arith}
 use Rattle.std.proofs.lemmas.List.{append-nil, length-map, map-append}
-use Rattle.std.proofs.lemmas.Option.{same_Some}
+use Rattle.std.proofs.lemmas.Option.{same_Some, slice_get_within}
 use Rattle.std.specs.Prelude.{slice_get, ◌==◌, IfErr, IfSome, OnOk}
 use Rattle.std.specs.Result.{result_and}
 use borrow.Author.Tests.{eqb-true, eqb-false}
@@ -25,7 +25,7 @@ use Rattle.piece_exchange.specs.declared.gets.shelf.Shelf.{Shelf}
 use Rattle.piece_exchange.specs.declared.gets.starting.ReadWorker.{ReadWorker}
 use Rattle.piece_exchange.specs.declared.plan.GetPlan.{GetPlan}
 use Rattle.piece_exchange.proofs.BackLaws.{each_new}
-use Rattle.piece_exchange.proofs.FeedLaws.{get_long, set_each}
+use Rattle.piece_exchange.proofs.FeedLaws.{set_each}
 use Rattle.piece_exchange.proofs.ReadLaws.{hull_collected, log_joined, log_one}
 
 -- ---- hulls of one helper
@@ -82,7 +82,7 @@ taken_more {D} list olds mids k mid new before between now long at h t = record 
 
     newest : (e : Told × List ℕ) → In t.own e → IsTakenOf olds (set mids k new) e
     newest e m =
-        let low = get_long mids k mid at in
+        let low = slice_get_within mids k mid at in
         let first = entry_below olds k (omega arith) in
         let w = h.each k first.0 mid first.1 at in
         record {

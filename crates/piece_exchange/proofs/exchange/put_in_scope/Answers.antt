@@ -1,5 +1,6 @@
 -- The helpers that were started, told to go, fed and joined.
 use Rattle.std.proofs.Common.{◌≡◌, ◌≤◌, ◌∙◌, ◌++◌, ℕ, List, sym, ap, subst, length, take, drop, vec_capacity, Some, rules, arith}
+use Rattle.std.proofs.lemmas.List.{nil_from_length}
 use Rattle.std.proofs.lemmas.Grind.{common_steps}
 use Rattle.std.specs.Prelude.{slice_get}
 use Rattle.std.specs.List.{AllZip}
@@ -11,7 +12,7 @@ use Rattle.piece_exchange.specs.Plan.{planned_turns, source_in}
 use Rattle.piece_exchange.specs.Put.{HasPut, PartState, SomeZip}
 use Rattle.piece_exchange.specs.Workers.{domain_of, part_of, HasFed, IsToldToGo}
 use Rattle.piece_exchange.specs.declared.starting.Worker.{Worker}
-use Rattle.piece_exchange.proofs.BackLaws.{no_items, slice_kept}
+use Rattle.piece_exchange.proofs.BackLaws.{slice_kept}
 use Rattle.piece_exchange.proofs.FeedLaws.{fits_more}
 use Rattle.piece_exchange.proofs.WorkerLaws.{all_failed, all_put, done_by, fed_workers, told_workers}
 use Rattle.piece_exchange.proofs.exchange.put_in_scope.Goals as goal
@@ -89,7 +90,7 @@ returns-clause-put g c =
     = λ p d. HasPut (source_in plan) plan.list.now (planned_turns plan p.1) (state p.0) (state d) c.join_all-end.result in
     all_put c.len.result first mid last c.args.parts.items back c.args.domains.now Put
     (done_by c.len.result first c.deref_mut.result.now mid c.deref_mut-2.result.now last c.start_all.new.crew.rest.items c.args.parts.items c.args.domains.now lent again
-    c.tell_all.ensures.long c.tell_all.ensures.told c.pack_all.ensures.long c.pack_all.ensures.fed (no_items c.start_all.new.crew.rest.items empty)
+    c.tell_all.ensures.long c.tell_all.ensures.told c.pack_all.ensures.long c.pack_all.ensures.fed (nil_from_length c.start_all.new.crew.rest.items empty)
     c.start_all.ensures.parts c.start_all.ensures.domains c.requires.one_each)
     (subst (λ (ss : List (Worker g.row.D.Denot)). AllZip (λ worker d. Put (part_of worker, domain_of worker) d) ss back) whole c.join_all-end.ensures.put)
 
@@ -113,6 +114,6 @@ returns-clause-failed g c =
     λ f.
     all_failed c.len.result first mid last c.args.parts.items back c.args.domains.now Failing
     (done_by c.len.result first c.deref_mut.result.now mid c.deref_mut-2.result.now last c.start_all.new.crew.rest.items c.args.parts.items c.args.domains.now lent again
-    c.tell_all.ensures.long c.tell_all.ensures.told c.pack_all.ensures.long c.pack_all.ensures.fed (no_items c.start_all.new.crew.rest.items empty)
+    c.tell_all.ensures.long c.tell_all.ensures.told c.pack_all.ensures.long c.pack_all.ensures.fed (nil_from_length c.start_all.new.crew.rest.items empty)
     c.start_all.ensures.parts c.start_all.ensures.domains c.requires.one_each)
     (subst (λ (ss : List (Worker g.row.D.Denot)). SomeZip (λ worker d. Failing (part_of worker) d) ss back) whole (c.join_all-end.ensures.failed f))

@@ -1,5 +1,6 @@
 -- One part more was served.
 use Rattle.std.proofs.Common.{◌≡◌, ◌<◌, ◌∙◌, ◌++◌, ◌∷◌, [], sym, ap, subst, length, append_assoc, get_or, List, Result, rules, arith}
+use Rattle.std.proofs.lemmas.Option.{slice_get_within}
 use Rattle.std.proofs.lemmas.Grind.{common_steps}
 use Rattle.std.specs.Prelude.{zip}
 use Rattle.std.specs.List.{AllZip}
@@ -10,7 +11,6 @@ use Rattle.overlay_laws.proofs.Members.{at_in}
 use Rattle.piece_exchange.specs.Plan.{planned_turns, source_in}
 use Rattle.piece_exchange.specs.Put.{HasPut, PartState}
 use Rattle.piece_exchange.proofs.BackLaws.{at_index, back_more, both_long, failed_more, middle_at, put_later, put_untouched, zip_push, zip_same}
-use Rattle.piece_exchange.proofs.FeedLaws.{get_long}
 use Rattle.piece_exchange.proofs.in_turn.put_in_turn.Goals as goal
 
 abbrev none : Extent
@@ -32,7 +32,7 @@ pub serve_next-part-requires-clause-domain : goal.serve_next-part-requires-claus
 serve_next-part-requires-clause-domain g c κs within =
     let middle = ap (λ v. c.loop-part.yielded ++ v) (sym c.in-Some.ensures.steps.0) ∙ c.loop-part.invariant.all in
     let here = middle_at c.loop-part.yielded _ c.args.parts.items c.in-Some.part middle in
-    let low : length c.loop-part.yielded < length c.args.parts.items = get_long c.args.parts.items (length c.loop-part.yielded) c.in-Some.part here in
+    let low : length c.loop-part.yielded < length c.args.parts.items = slice_get_within c.args.parts.items (length c.loop-part.yielded) c.in-Some.part here in
     let many = c.loop-part.invariant.long in
     let number : c.len-number.result ≡ length c.loop-part.back.items = first_of (search rules, grind (arith, common_steps)) in
     let long = c.requires.one_each in
@@ -42,7 +42,7 @@ pub serve_next-part-requires-clause-room : goal.serve_next-part-requires-clause-
 serve_next-part-requires-clause-room g c κs within =
     let middle = ap (λ v. c.loop-part.yielded ++ v) (sym c.in-Some.ensures.steps.0) ∙ c.loop-part.invariant.all in
     let here = middle_at c.loop-part.yielded _ c.args.parts.items c.in-Some.part middle in
-    let low : length c.loop-part.yielded < length c.args.parts.items = get_long c.args.parts.items (length c.loop-part.yielded) c.in-Some.part here in
+    let low : length c.loop-part.yielded < length c.args.parts.items = slice_get_within c.args.parts.items (length c.loop-part.yielded) c.in-Some.part here in
     let many = c.loop-part.invariant.long in
     let number : c.len-number.result ≡ length c.loop-part.back.items = first_of (search rules, grind (arith, common_steps)) in
     let long = c.requires.one_each in
@@ -58,7 +58,7 @@ pub loop-part-preserved : goal.loop-part-preserved
 loop-part-preserved g c =
     let middle = ap (λ v. c.loop-part.yielded ++ v) (sym c.in-Some.ensures.steps.0) ∙ c.loop-part.invariant.all in
     let here = middle_at c.loop-part.yielded _ c.args.parts.items c.in-Some.part middle in
-    let low : length c.loop-part.yielded < length c.args.parts.items = get_long c.args.parts.items (length c.loop-part.yielded) c.in-Some.part here in
+    let low : length c.loop-part.yielded < length c.args.parts.items = slice_get_within c.args.parts.items (length c.loop-part.yielded) c.in-Some.part here in
     let many = c.loop-part.invariant.long in
     let number : c.len-number.result ≡ length c.loop-part.back.items = first_of (search rules, grind (arith, common_steps)) in
     let long = c.requires.one_each in

@@ -1,5 +1,6 @@
 -- The helpers that were started, told to go, taken of and joined.
 use Rattle.std.proofs.Common.{◌≡◌, ◌∙◌, ◌++◌, ℕ, List, sym, ap, subst, length, take, drop, Some, Result, rules, arith}
+use Rattle.std.proofs.lemmas.List.{nil_from_length}
 use Rattle.std.proofs.lemmas.Grind.{common_steps}
 use Rattle.std.specs.Prelude.{slice_get, zip, IsErrOf, IsOk, OnOk}
 use Rattle.std.specs.List.{AllZip}
@@ -15,7 +16,7 @@ use Rattle.piece_exchange.specs.Logs.{HasReadParts, HaveTakenTurns, IsKept}
 use Rattle.piece_exchange.specs.Put.{PartState, SomeZip}
 use Rattle.piece_exchange.specs.Shelves.{domain_of, part_of, IsToldToGo}
 use Rattle.piece_exchange.specs.declared.gets.starting.ReadWorker.{ReadWorker}
-use Rattle.piece_exchange.proofs.BackLaws.{and_first_ok, no_items, slice_kept}
+use Rattle.piece_exchange.proofs.BackLaws.{and_first_ok, slice_kept}
 use Rattle.piece_exchange.proofs.PartReads.{all_got, all_got_later, all_read, and_memory, rows_long, some_failed, taken_by}
 use Rattle.piece_exchange.proofs.TakeLaws.{ready_workers, sent_workers}
 use Rattle.piece_exchange.proofs.gets.exchange.get_in_scope.Goals as goal
@@ -84,7 +85,7 @@ returns-clause-got g c =
     (subst (λ (r : Result (Unit {0}) DiskErr). OnOk r (IsOk c.join_all-end.result)) (sym c.and.ensures) (and_first_ok c.join_all-end.result c.take_all-came.result))
     (all_got first mid last c.args.work.parts.items back c.args.domains.now Got
     (taken_by first c.deref_mut.result.now mid c.deref_mut-2.result.now last c.start_all.new.crew.rest.items c.args.work.parts.items c.args.domains.now lent again
-    c.tell_all.ensures.long c.tell_all.ensures.told c.take_all-came.ensures.long c.take_all-came.ensures.kept (no_items c.start_all.new.crew.rest.items empty)
+    c.tell_all.ensures.long c.tell_all.ensures.told c.take_all-came.ensures.long c.take_all-came.ensures.kept (nil_from_length c.start_all.new.crew.rest.items empty)
     c.start_all.ensures.parts c.start_all.ensures.domains c.requires.one_each)
     (subst (λ (ss : List (ReadWorker g.row.D.Denot)). AllZip (λ worker d. Got (part_of worker, domain_of worker) d) ss back) whole c.join_all-end.ensures.got))
 
@@ -108,7 +109,7 @@ returns-clause-failed g c =
     λ f.
     some_failed first mid last c.args.work.parts.items back c.args.domains.now Failing
     (taken_by first c.deref_mut.result.now mid c.deref_mut-2.result.now last c.start_all.new.crew.rest.items c.args.work.parts.items c.args.domains.now lent again
-    c.tell_all.ensures.long c.tell_all.ensures.told c.take_all-came.ensures.long c.take_all-came.ensures.kept (no_items c.start_all.new.crew.rest.items empty)
+    c.tell_all.ensures.long c.tell_all.ensures.told c.take_all-came.ensures.long c.take_all-came.ensures.kept (nil_from_length c.start_all.new.crew.rest.items empty)
     c.start_all.ensures.parts c.start_all.ensures.domains c.requires.one_each)
     (subst (λ (ss : List (ReadWorker g.row.D.Denot)). SomeZip (λ worker d. Failing (part_of worker) d) ss back) whole (c.join_all-end.ensures.failed
     (and_memory c.join_all-end.result c.take_all-came.result c.take_all-came.ensures.memory (subst (λ (r : Result (Unit {0}) DiskErr). IsErrOf r Failed) c.and.ensures f))))
@@ -152,7 +153,7 @@ returns-clause-read g c =
     (subst (λ (r : Result (Unit {0}) DiskErr). OnOk r (HasReadParts from held plan (zip c.args.work.parts.items c.args.domains.now) table filled)) (sym c.and.ensures)
     (all_read from held plan first mid last c.args.work.parts.items c.args.domains.now table filled c.join_all-end.result c.take_all-came.result
     (taken_by first c.deref_mut.result.now mid c.deref_mut-2.result.now last c.start_all.new.crew.rest.items c.args.work.parts.items c.args.domains.now lent again
-    c.tell_all.ensures.long c.tell_all.ensures.told c.take_all-came.ensures.long c.take_all-came.ensures.kept (no_items c.start_all.new.crew.rest.items empty)
+    c.tell_all.ensures.long c.tell_all.ensures.told c.take_all-came.ensures.long c.take_all-came.ensures.kept (nil_from_length c.start_all.new.crew.rest.items empty)
     c.start_all.ensures.parts c.start_all.ensures.domains c.requires.one_each)
     (ready_workers plan first mid long told c.start_all.ensures.workers) c.take_all-came.ensures.none
     (subst (λ (t : List (List (List ℕ))). OnOk c.take_all-came.result (HaveTakenTurns plan.list.now mid last t filled)) given

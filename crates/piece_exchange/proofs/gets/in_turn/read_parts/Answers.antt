@@ -1,5 +1,6 @@
 -- One part more was read.
 use Rattle.std.proofs.Common.{◌≡◌, ◌<◌, ◌∙◌, ◌++◌, ◌∷◌, [], refl, sym, ap, subst, length, append_assoc, get_or, List, Result, Ok, rules, arith}
+use Rattle.std.proofs.lemmas.Option.{slice_get_within}
 use Rattle.std.proofs.lemmas.Grind.{common_steps}
 use Rattle.std.specs.Prelude.{zip, OnOk}
 use Rattle.std.specs.List.{AllZip}
@@ -12,7 +13,6 @@ use Rattle.piece_exchange.specs.Logs.{HasReadParts}
 use Rattle.piece_exchange.specs.Put.{PartState}
 use Rattle.piece_exchange.proofs.BackLaws.{at_index, back_more, both_long, failed_more, middle_at, zip_push}
 use Rattle.piece_exchange.proofs.CollectLaws.{fit_as_long}
-use Rattle.piece_exchange.proofs.FeedLaws.{get_long}
 use Rattle.piece_exchange.proofs.FetchLaws.{got_later}
 use Rattle.piece_exchange.proofs.PartReads.{none_zip, parts_none, parts_on}
 use Rattle.piece_exchange.proofs.gets.in_turn.read_parts.Goals as goal
@@ -41,7 +41,7 @@ pub read_next-part-requires-clause-domain : goal.read_next-part-requires-clause-
 read_next-part-requires-clause-domain g c κs within =
     let middle = ap (λ v. c.loop-part.yielded ++ v) (sym c.in-Some.ensures.steps.0) ∙ c.loop-part.invariant.all in
     let here = middle_at c.loop-part.yielded _ c.args.parts.items c.in-Some.part middle in
-    let low : length c.loop-part.yielded < length c.args.parts.items = get_long c.args.parts.items (length c.loop-part.yielded) c.in-Some.part here in
+    let low : length c.loop-part.yielded < length c.args.parts.items = slice_get_within c.args.parts.items (length c.loop-part.yielded) c.in-Some.part here in
     let many = c.loop-part.invariant.long in
     let number : c.len-number.result ≡ length c.loop-part.back.items = first_of (search rules, grind (arith, common_steps)) in
     let long = c.requires.one_each in
@@ -51,7 +51,7 @@ pub read_next-part-requires-clause-room : goal.read_next-part-requires-clause-ro
 read_next-part-requires-clause-room g c κs within =
     let middle = ap (λ v. c.loop-part.yielded ++ v) (sym c.in-Some.ensures.steps.0) ∙ c.loop-part.invariant.all in
     let here = middle_at c.loop-part.yielded _ c.args.parts.items c.in-Some.part middle in
-    let low : length c.loop-part.yielded < length c.args.parts.items = get_long c.args.parts.items (length c.loop-part.yielded) c.in-Some.part here in
+    let low : length c.loop-part.yielded < length c.args.parts.items = slice_get_within c.args.parts.items (length c.loop-part.yielded) c.in-Some.part here in
     let many = c.loop-part.invariant.long in
     let number : c.len-number.result ≡ length c.loop-part.back.items = first_of (search rules, grind (arith, common_steps)) in
     let long = c.requires.one_each in
@@ -69,7 +69,7 @@ pub loop-part-preserved : goal.loop-part-preserved
 loop-part-preserved g c =
     let middle = ap (λ v. c.loop-part.yielded ++ v) (sym c.in-Some.ensures.steps.0) ∙ c.loop-part.invariant.all in
     let here = middle_at c.loop-part.yielded _ c.args.parts.items c.in-Some.part middle in
-    let low : length c.loop-part.yielded < length c.args.parts.items = get_long c.args.parts.items (length c.loop-part.yielded) c.in-Some.part here in
+    let low : length c.loop-part.yielded < length c.args.parts.items = slice_get_within c.args.parts.items (length c.loop-part.yielded) c.in-Some.part here in
     let many = c.loop-part.invariant.long in
     let number : c.len-number.result ≡ length c.loop-part.back.items = first_of (search rules, grind (arith, common_steps)) in
     let long = c.requires.one_each in
