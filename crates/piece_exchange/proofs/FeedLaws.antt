@@ -91,35 +91,29 @@ fits_more n m (Some t) walk l h = let a = h.0 in let b = h.1 in (omega arith, om
 
 -- ---- many feeds
 
-pub fewer_all : {X Y : Type 0} (f : X → List Y) (xs : List X) (i : ℕ) (x y : X) → slice_get xs i ≡ Some x → length (f y) < length (f x)
-    → length (flat_map f (set xs i y)) < length (flat_map f xs)
-fewer_all f [] i x y e h = absurd cc
-fewer_all f (z ∷ xs) zero x y e h =
+-- what an element changed has more or less, the whole has
+set_all : {X Y : Type 0} (f : X → List Y) (xs : List X) (i : ℕ) (x y : X) → slice_get xs i ≡ Some x
+    → length (flat_map f (set xs i y)) + length (f x) ≡ length (flat_map f xs) + length (f y)
+set_all f [] i x y e = absurd cc
+set_all f (z ∷ xs) zero x y e =
     let same : z ≡ x = cc in
     let long = ap (λ w. length (f w)) same in
     let a = length-append (f z) (flat_map f xs) in
     let b = length-append (f y) (flat_map f xs) in
     omega arith
-fewer_all f (z ∷ xs) (suc i) x y e h =
-    let rest = fewer_all f xs i x y e h in
+set_all f (z ∷ xs) (suc i) x y e =
+    let rest = set_all f xs i x y e in
     let a = length-append (f z) (flat_map f xs) in
     let b = length-append (f z) (flat_map f (set xs i y)) in
     omega arith
 
+pub fewer_all : {X Y : Type 0} (f : X → List Y) (xs : List X) (i : ℕ) (x y : X) → slice_get xs i ≡ Some x → length (f y) < length (f x)
+    → length (flat_map f (set xs i y)) < length (flat_map f xs)
+fewer_all f xs i x y e h = let whole = set_all f xs i x y e in omega arith
+
 pub no_more_all : {X Y : Type 0} (f : X → List Y) (xs : List X) (i : ℕ) (x y : X) → slice_get xs i ≡ Some x → length (f y) ≤ length (f x)
     → length (flat_map f (set xs i y)) ≤ length (flat_map f xs)
-no_more_all f [] i x y e h = absurd cc
-no_more_all f (z ∷ xs) zero x y e h =
-    let same : z ≡ x = cc in
-    let long = ap (λ w. length (f w)) same in
-    let a = length-append (f z) (flat_map f xs) in
-    let b = length-append (f y) (flat_map f xs) in
-    omega arith
-no_more_all f (z ∷ xs) (suc i) x y e h =
-    let rest = no_more_all f xs i x y e h in
-    let a = length-append (f z) (flat_map f xs) in
-    let b = length-append (f z) (flat_map f (set xs i y)) in
-    omega arith
+no_more_all f xs i x y e h = let whole = set_all f xs i x y e in omega arith
 
 -- an element changed, of which the changed one is so
 pub set_each : {X : Type 0} (P : ℕ → X → Type 0) (xs : List X) (i : ℕ) (x y : X) → slice_get xs i ≡ Some x → P i y → ((r : ℕ) (z : X) → slice_get xs r ≡ Some z → P r z)

@@ -9,7 +9,7 @@ use Rattle.nc_outside.specs.Cause.{Rose}
 use Rattle.overlay_laws.specs.Entries.{In}
 use Rattle.overlay_laws.proofs.Members.{at_in}
 use Rattle.piece_exchange.specs.Plan.{planned_turns, source_in}
-use Rattle.piece_exchange.specs.Put.{HasPut, PartState, SomeZip}
+use Rattle.piece_exchange.specs.Put.{part_state, HasPut, PartState, SomeZip}
 use Rattle.piece_exchange.specs.Workers.{domain_of, part_of, HasFed, IsToldToGo}
 use Rattle.piece_exchange.specs.declared.starting.Worker.{Worker}
 use Rattle.piece_exchange.proofs.BackLaws.{slice_kept}
@@ -85,7 +85,7 @@ returns-clause-put g c =
     let before : length (take count (mid ++ drop (length mid) first)) ≡ length mid = ap (λ (ss : List (Worker g.row.D.Denot)). length ss) kept in
     let whole = slice_kept count last (take count (mid ++ drop (length mid) first)) (n ∙ sym long ∙ sym before) (longer ∙ sym before) in
     let state : g.row.D.Denot → PartState
-    = λ d. record { from = g.D.Disk.from d; len = g.D.Disk.len d; held = g.D.Disk.held d; calls = g.D.Disk.calls d; faults = g.D.Disk.faults d } in
+    = part_state g.D.Disk in
     let Put : g.row.D.Denot × Extent → g.row.D.Denot → Type 0
     = λ p d. HasPut (source_in plan) plan.list.now (planned_turns plan p.1) (state p.0) (state d) c.join_all-end.result in
     all_put c.len.result first mid last c.args.parts.items back c.args.domains.now Put

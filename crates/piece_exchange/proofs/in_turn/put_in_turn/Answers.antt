@@ -9,7 +9,7 @@ use Rattle.nc_outside.specs.Cause.{Rose}
 use Rattle.nc_outside.specs.declared.disk.DiskErr.{DiskErr}
 use Rattle.overlay_laws.proofs.Members.{at_in}
 use Rattle.piece_exchange.specs.Plan.{planned_turns, source_in}
-use Rattle.piece_exchange.specs.Put.{HasPut, PartState}
+use Rattle.piece_exchange.specs.Put.{part_state, HasPut, PartState}
 use Rattle.piece_exchange.proofs.BackLaws.{at_index, back_more, both_long, failed_more, middle_at, put_later, put_untouched, zip_push, zip_same}
 use Rattle.piece_exchange.proofs.in_turn.put_in_turn.Goals as goal
 
@@ -20,13 +20,13 @@ pub returns-in-Err-clause-put : goal.returns-in-Err-clause-put
 returns-in-Err-clause-put g c =
     zip_same _ c.args.parts.items c.args.domains.now c.requires.one_each
     (λ p domain. put_untouched (source_in c.args.plan.now) c.args.plan.now.list.now (planned_turns c.args.plan.now domain)
-    (record { from = g.D.Disk.from p; len = g.D.Disk.len p; held = g.D.Disk.held p; calls = g.D.Disk.calls p; faults = g.D.Disk.faults p }) _)
+    (part_state g.D.Disk p) _)
 
 pub returns-in-Err-vec-clause-put : goal.returns-in-Err-vec-clause-put
 returns-in-Err-vec-clause-put g c =
     zip_same _ c.args.parts.items c.args.domains.now c.requires.one_each
     (λ p domain. put_untouched (source_in c.args.plan.now) c.args.plan.now.list.now (planned_turns c.args.plan.now domain)
-    (record { from = g.D.Disk.from p; len = g.D.Disk.len p; held = g.D.Disk.held p; calls = g.D.Disk.calls p; faults = g.D.Disk.faults p }) _)
+    (part_state g.D.Disk p) _)
 
 pub serve_next-part-requires-clause-domain : goal.serve_next-part-requires-clause-domain
 serve_next-part-requires-clause-domain g c κs within =
@@ -69,7 +69,7 @@ loop-part-preserved g c =
     let came = c.serve_next-part.result.1 in
     let plan = c.args.plan.now in
     let state : g.row.D.Denot → PartState
-    = λ d. record { from = g.D.Disk.from d; len = g.D.Disk.len d; held = g.D.Disk.held d; calls = g.D.Disk.calls d; faults = g.D.Disk.faults d } in
+    = part_state g.D.Disk in
     let Put : Result (Unit {0}) DiskErr → g.row.D.Denot × Extent → g.row.D.Denot → Type 0
     = λ r p d. HasPut (source_in plan) plan.list.now (planned_turns plan p.1) (state p.0) (state d) r in
     record {
