@@ -1,12 +1,13 @@
 -- Parts that come back one after another.
 use Rattle.std.proofs.Common.{◌≡◌, ℕ, zero, suc, ◌+◌, ◌<◌, ◌≤◌, ◌⊎◌, min, get_or, inl, inr, refl, sym, ◌∙◌, ap, subst, List, [], ◌∷◌, ◌++◌, length, map, take, drop, Some, Result, Ok, Err, arith}
-use Rattle.std.proofs.lemmas.List.{append-nil, length-append, length-drop, nil_from_length, take_all, take_more}
+use Rattle.std.proofs.lemmas.List.{length-append, take_more}
 use Rattle.std.proofs.lemmas.Option.{slice_get_within, slice_get-get_or}
 use Rattle.std.proofs.lemmas.Slice.Zip.{all_zipped_more}
 use Rattle.std.specs.Prelude.{slice_get, zip, OnOk, IsErr, IsErrOf, IsOk}
 use Rattle.std.specs.List.{AllZip}
 use Rattle.std.specs.Result.{result_and}
 use Rattle.list_laws.proofs.Places.{entry_below, get_right}
+use Rattle.list_laws.proofs.Refills.{refilled}
 use Rattle.nc_base.specs.declared.plan.Extent.{Extent}
 use Rattle.nc_base.specs.declared.plan.Owned.{Owned}
 use Rattle.nc_outside.specs.declared.disk.DiskErr.{DiskErr}
@@ -153,8 +154,28 @@ zip_same Q (x ∷ xs) (d ∷ ds) long f = (f x d, zip_same Q xs ds (omega arith)
 pub put_untouched : {T E : Type 0} (source : Source) (list : List Owned) (ts : List Told) (old : PartState) (e : E) → HasPut {T = T} source list ts old old (Err e)
 put_untouched source list ts old e = record { from = refl; len = refl; bytes = tt; between = told_nothing old.held (put_part source list old.from); device = tt; later = omega arith }
 
--- what a vector has after its slice was lent and came back as long
+-- ---- a vector whose slice was lent, and came back as long
+
 pub slice_kept : {X : Type 0} (n : ℕ) (new old : List X) → n ≡ length old → length new ≡ length old → take n (new ++ drop (length new) old) ≡ new
-slice_kept {X} n new old e l =
-    let none : drop (length new) old ≡ [] = nil_from_length (drop (length new) old) (length-drop (length new) old ∙ omega arith) in
-    ap (λ (r : List X). take n (new ++ r)) none ∙ ap (λ (r : List X). take n r) (append-nil new) ∙ take_all n new (omega arith)
+slice_kept {X} n new old e l = ap (λ (m : ℕ). take m (new ++ drop (length new) old)) e ∙ refilled old new l
+
+-- it was lent twice: what came back first is what was lent again, and what came back then stands there
+pub record WasLentTwice {X : Type 0} (n : ℕ) (first mid again last : List X) : Type 0 where
+  pub long : length mid ≡ length first
+  pub same : again ≡ mid
+  pub longer : length last ≡ length mid
+  pub whole : take n (last ++ drop (length last) (take n (mid ++ drop (length mid) first))) ≡ last
+
+pub lent_twice : {X : Type 0} (n : ℕ) (first lent mid again last : List X) → n ≡ length first → lent ≡ first → length mid ≡ length lent
+    → again ≡ take n (mid ++ drop (length mid) first) → length last ≡ length again → WasLentTwice n first mid again last
+lent_twice {X} n first lent mid again last e f l g m =
+    let long = l ∙ ap (λ (xs : List X). length xs) f in
+    let kept = slice_kept n mid first e long in
+    let stands = ap (λ (xs : List X). length xs) kept in
+    let longer = m ∙ ap (λ (xs : List X). length xs) (g ∙ kept) in
+    record {
+      long = long;
+      same = g ∙ kept;
+      longer = longer;
+      whole = slice_kept n last (take n (mid ++ drop (length mid) first)) (e ∙ sym long ∙ sym stands) (longer ∙ sym stands);
+    }

@@ -129,16 +129,16 @@ workers_read {D} from held plan mids lasts old now long ready kept none t read =
       );
 }
   where
-    zip_worker : (ss : List (ReadWorker D)) (p : D × Extent) → In (zip (map (λ worker. part_of worker) ss) (map (λ worker. domain_of worker) ss)) p
-        → (worker : ReadWorker D) × In ss worker × ((part_of worker, domain_of worker) ≡ p)
+    zip_worker : (ws : List (ReadWorker D)) (p : D × Extent) → In (zip (map (λ worker. part_of worker) ws) (map (λ worker. domain_of worker) ws)) p
+        → (worker : ReadWorker D) × In ws worker × ((part_of worker, domain_of worker) ≡ p)
     zip_worker [] p m = absurd m
-    zip_worker (s ∷ ss) p (inl e) = (s, inl refl, e)
-    zip_worker (s ∷ ss) p (inr m) = let r = zip_worker ss p m in (r.0, inr r.1, r.2)
+    zip_worker (s ∷ ws) p (inl e) = (s, inl refl, e)
+    zip_worker (s ∷ ws) p (inr m) = let r = zip_worker ws p m in (r.0, inr r.1, r.2)
 
-    worker_zip : (ss : List (ReadWorker D)) (worker : ReadWorker D) → In ss worker → In {X = D × Extent} (zip (map (λ worker. part_of worker) ss) (map (λ worker. domain_of worker) ss)) (part_of worker, domain_of worker)
+    worker_zip : (ws : List (ReadWorker D)) (worker : ReadWorker D) → In ws worker → In {X = D × Extent} (zip (map (λ worker. part_of worker) ws) (map (λ worker. domain_of worker) ws)) (part_of worker, domain_of worker)
     worker_zip [] worker m = absurd m
-    worker_zip (s ∷ ss) worker (inl e) = inl (λ i. (part_of (e i), domain_of (e i)))
-    worker_zip (s ∷ ss) worker (inr m) = inr (worker_zip ss worker m)
+    worker_zip (s ∷ ws) worker (inl e) = inl (λ i. (part_of (e i), domain_of (e i)))
+    worker_zip (s ∷ ws) worker (inr m) = inr (worker_zip ws worker m)
 
     all_in : (p : D × Extent) (u : Told) → (worker : ReadWorker D) × In lasts worker × ((part_of worker, domain_of worker) ≡ p) → In (get_turns plan p.1) u → In (told_in t.log) u
     all_in p u s m =
@@ -229,10 +229,10 @@ taken_by {D} first lent mid again last rest parts domains e f long told longer k
     record {
       of_parts = started.0;
       of_domains = started.1;
-      long = long ∙ ap (λ (ss : List (ReadWorker D)). length ss) e;
-      longer = longer ∙ ap (λ (ss : List (ReadWorker D)). length ss) f;
-      told = subst (λ (ss : List (ReadWorker D)). (k : ℕ) (a b : ReadWorker D) → slice_get ss k ≡ Some a → slice_get mid k ≡ Some b → IsToldToGo a b) e told;
-      kept = subst (λ (ss : List (ReadWorker D)). (k : ℕ) (a b : ReadWorker D) → slice_get ss k ≡ Some a → slice_get last k ≡ Some b → IsKept a b) f kept;
+      long = long ∙ ap (λ (ws : List (ReadWorker D)). length ws) e;
+      longer = longer ∙ ap (λ (ws : List (ReadWorker D)). length ws) f;
+      told = subst (λ (ws : List (ReadWorker D)). (k : ℕ) (a b : ReadWorker D) → slice_get ws k ≡ Some a → slice_get mid k ≡ Some b → IsToldToGo a b) e told;
+      kept = subst (λ (ws : List (ReadWorker D)). (k : ℕ) (a b : ReadWorker D) → slice_get ws k ≡ Some a → slice_get last k ≡ Some b → IsKept a b) f kept;
     }
 
 last_parts : {D : Type 0} (first mid last : List (ReadWorker D)) (parts : List D) (domains : List Extent) → AreTaken first mid last parts domains

@@ -9,7 +9,7 @@ use Rattle.overlay_laws.specs.Entries.{In}
 use Rattle.piece_exchange.specs.Feeds.{feed_left, pieces_left_of, turns_left_of, FitsIn, IsFeed}
 use Rattle.piece_exchange.specs.Plan.{planned_pieces}
 use Rattle.piece_exchange.specs.Put.{SomeZip}
-use Rattle.piece_exchange.specs.Workers.{domain_of, part_of, HasFed, IsFed, IsFresh, IsWorker, IsToldToGo}
+use Rattle.piece_exchange.specs.Workers.{domain_of, part_of, HasFed, IsFed, IsFresh, IsStartedFor, IsToldToGo}
 use Rattle.piece_exchange.specs.declared.crew.Word.TheVariants.{Go}
 use Rattle.piece_exchange.specs.declared.packing.Feed.{Feed}
 use Rattle.piece_exchange.specs.declared.plan.PutPlan.{PutPlan}
@@ -21,7 +21,7 @@ use Rattle.piece_exchange.proofs.CrewLaws.{all_started}
 
 -- told to go, with all its pieces left
 pub record IsTold {D : Type 0} (plan : PutPlan) (worker : Worker D) : Type 0 where
-  pub worker_is : IsWorker plan worker
+  pub started : IsStartedFor plan worker
   pub word : worker.helper.word.items ≡ Go ∷ []
   pub ready : IsFeed worker.feed
   pub fits : FitsIn (length plan.list.now) worker.feed
@@ -30,9 +30,9 @@ pub record IsTold {D : Type 0} (plan : PutPlan) (worker : Worker D) : Type 0 whe
 
 go_worker : {D : Type 0} (plan : PutPlan) (old new : Worker D) → IsToldToGo old new → IsFresh plan old → IsTold plan new
 go_worker plan old new t f =
-    let s = f.worker_is in
+    let s = f.started in
     record {
-      worker_is = record {
+      started = record {
         list = ap (λ child. child.promise.list.value) t.child ∙ s.list;
         cover = ap (λ child. child.promise.cover.value) t.child ∙ s.cover;
         job = ap (λ child. child.promise.job.value) t.child ∙ s.job;
@@ -54,9 +54,9 @@ none_left ranks (Some t) walk e = absurd cc
 fed_worker : {D : Type 0} (plan : PutPlan) (old new : Worker D) → HasFed (length plan.job.now.batches) old new → IsTold plan old → IsFed plan new
 fed_worker plan old new h t =
     let ranks = length plan.job.now.batches in
-    let s = t.worker_is in
+    let s = t.started in
     record {
-      worker_is = record {
+      started = record {
         list = ap (λ helper. helper.child.promise.list.value) h.helper ∙ s.list;
         cover = ap (λ helper. helper.child.promise.cover.value) h.helper ∙ s.cover;
         job = ap (λ helper. helper.child.promise.job.value) h.helper ∙ s.job;
@@ -134,8 +134,8 @@ done_by {D} ranks first lent mid again last rest parts domains e f long told lon
     record {
       of_parts = started.0;
       of_domains = started.1;
-      long = long ∙ ap (λ (ss : List (Worker D)). length ss) e;
-      longer = longer ∙ ap (λ (ss : List (Worker D)). length ss) f;
-      told = subst (λ (ss : List (Worker D)). (k : ℕ) (a b : Worker D) → slice_get ss k ≡ Some a → slice_get mid k ≡ Some b → IsToldToGo a b) e told;
-      fed = subst (λ (ss : List (Worker D)). (k : ℕ) (a b : Worker D) → slice_get ss k ≡ Some a → slice_get last k ≡ Some b → HasFed ranks a b) f fed;
+      long = long ∙ ap (λ (ws : List (Worker D)). length ws) e;
+      longer = longer ∙ ap (λ (ws : List (Worker D)). length ws) f;
+      told = subst (λ (ws : List (Worker D)). (k : ℕ) (a b : Worker D) → slice_get ws k ≡ Some a → slice_get mid k ≡ Some b → IsToldToGo a b) e told;
+      fed = subst (λ (ws : List (Worker D)). (k : ℕ) (a b : Worker D) → slice_get ws k ≡ Some a → slice_get last k ≡ Some b → HasFed ranks a b) f fed;
     }

@@ -13,7 +13,7 @@ returns-clause-got g c =
     let ends = c.join-ends.result.ends in
     let state : g.row.D.Denot → PartState
     = part_state g.D.Disk in
-    (joined_fetched c.args.plan.now worker (state (part_of worker)) (state ends.part) ends.lines.line.items c.in-Some.end c.requires.worker_is
+    (joined_fetched c.args.plan.now worker (state (part_of worker)) (state ends.part) ends.lines.line.items c.in-Some.end c.requires.started
     (told_fetched (turns_of promise.size.value (domain_of worker) promise.cover.value) (state (part_of worker)) (state ends.part) ends.word.items ends.lines.line.items
     c.join-ends.result.end c.in-Some.end c.in-Some.is c.join-ends.ensures.0.part)).got
 
@@ -25,7 +25,7 @@ returns-clause-read g c =
     let state : g.row.D.Denot → PartState
     = part_state g.D.Disk in
     taken_read (get_turns c.args.plan.now (domain_of worker)) (state (part_of worker)) (state ends.part) ends.lines.line.items worker.shelf.line.items c.in-Some.end
-    (joined_fetched c.args.plan.now worker (state (part_of worker)) (state ends.part) ends.lines.line.items c.in-Some.end c.requires.worker_is
+    (joined_fetched c.args.plan.now worker (state (part_of worker)) (state ends.part) ends.lines.line.items c.in-Some.end c.requires.started
     (told_fetched (turns_of promise.size.value (domain_of worker) promise.cover.value) (state (part_of worker)) (state ends.part) ends.word.items ends.lines.line.items
     c.join-ends.result.end c.in-Some.end c.in-Some.is c.join-ends.ensures.0.part))
     c.settle-2.ensures.prefix c.settle-2.ensures.equal
