@@ -13,8 +13,9 @@ use Rattle.piece_exchange.specs.Put.{part_state, HasPut, PartState, SomeZip}
 use Rattle.piece_exchange.specs.Workers.{domain_of, part_of, HasFed, IsToldToGo}
 use Rattle.piece_exchange.specs.declared.starting.Worker.{Worker}
 use Rattle.piece_exchange.proofs.BackLaws.{lent_twice, slice_kept}
+use Rattle.piece_exchange.proofs.CrewLaws.{all_of, some_of}
 use Rattle.piece_exchange.proofs.FeedLaws.{fits_more}
-use Rattle.piece_exchange.proofs.WorkerLaws.{all_failed, all_put, done_by, fed_workers, told_workers}
+use Rattle.piece_exchange.proofs.WorkerLaws.{fed_of, fed_workers, told_workers}
 use Rattle.piece_exchange.proofs.exchange.put_in_scope.Goals as goal
 
 pub pack_all-requires-clause-ready : goal.pack_all-requires-clause-ready
@@ -76,8 +77,8 @@ returns-clause-put g c =
     = part_state g.D.Disk in
     let Put : g.row.D.Denot × Extent → g.row.D.Denot → Type 0
     = λ p d. HasPut (source_in plan) plan.list.now (planned_turns plan p.1) (state p.0) (state d) c.join_all-end.result in
-    all_put c.len.result first mid last c.args.parts.items back c.args.domains.now Put
-    (done_by c.len.result first c.deref_mut.result.now mid c.deref_mut-2.result.now last c.start_all.new.crew.rest.items c.args.parts.items c.args.domains.now c.deref_mut.ensures.value twice.same
+    all_of (λ worker. part_of worker) (λ worker. domain_of worker) last c.args.parts.items back c.args.domains.now Put
+    (fed_of c.len.result first c.deref_mut.result.now mid c.deref_mut-2.result.now last c.start_all.new.crew.rest.items c.args.parts.items c.args.domains.now c.deref_mut.ensures.value twice.same
     c.tell_all.ensures.long c.tell_all.ensures.told c.pack_all.ensures.long c.pack_all.ensures.fed (nil_from_length c.start_all.new.crew.rest.items empty)
     c.start_all.ensures.parts c.start_all.ensures.domains c.requires.one_each)
     (subst (λ (ws : List (Worker g.row.D.Denot)). AllZip (λ worker d. Put (part_of worker, domain_of worker) d) ws back) twice.whole c.join_all-end.ensures.put)
@@ -94,8 +95,8 @@ returns-clause-failed g c =
     let twice = lent_twice count first c.deref_mut.result.now mid c.deref_mut-2.result.now last n c.deref_mut.ensures.value c.tell_all.ensures.long c.deref_mut-2.ensures.value c.pack_all.ensures.long in
     let Failing : g.row.D.Denot → g.row.D.Denot → Type 0 = λ a b. Rose (g.D.Disk.faults a) (g.D.Disk.faults b) in
     λ f.
-    all_failed c.len.result first mid last c.args.parts.items back c.args.domains.now Failing
-    (done_by c.len.result first c.deref_mut.result.now mid c.deref_mut-2.result.now last c.start_all.new.crew.rest.items c.args.parts.items c.args.domains.now c.deref_mut.ensures.value twice.same
+    some_of (λ worker. part_of worker) (λ worker. domain_of worker) last c.args.parts.items back c.args.domains.now Failing
+    (fed_of c.len.result first c.deref_mut.result.now mid c.deref_mut-2.result.now last c.start_all.new.crew.rest.items c.args.parts.items c.args.domains.now c.deref_mut.ensures.value twice.same
     c.tell_all.ensures.long c.tell_all.ensures.told c.pack_all.ensures.long c.pack_all.ensures.fed (nil_from_length c.start_all.new.crew.rest.items empty)
     c.start_all.ensures.parts c.start_all.ensures.domains c.requires.one_each)
     (subst (λ (ws : List (Worker g.row.D.Denot)). SomeZip (λ worker d. Failing (part_of worker) d) ws back) twice.whole (c.join_all-end.ensures.failed f))

@@ -17,7 +17,8 @@ use Rattle.piece_exchange.specs.Put.{part_state, PartState, SomeZip}
 use Rattle.piece_exchange.specs.Shelves.{domain_of, part_of, IsToldToGo}
 use Rattle.piece_exchange.specs.declared.gets.starting.ReadWorker.{ReadWorker}
 use Rattle.piece_exchange.proofs.BackLaws.{and_first_ok, lent_twice, slice_kept}
-use Rattle.piece_exchange.proofs.PartReads.{all_got, all_got_later, all_read, and_memory, rows_long, some_failed, taken_by}
+use Rattle.piece_exchange.proofs.CrewLaws.{all_of, some_of}
+use Rattle.piece_exchange.proofs.PartReads.{all_got_later, all_read, and_memory, rows_long, taken_of}
 use Rattle.piece_exchange.proofs.TakeLaws.{ready_workers, sent_workers}
 use Rattle.piece_exchange.proofs.gets.exchange.get_in_scope.Goals as goal
 
@@ -71,8 +72,8 @@ returns-clause-got g c =
     = λ p d. HasGot (get_turns plan p.1) (state p.0) (state d) c.join_all-end.result in
     all_got_later (λ (p : g.row.D.Denot × Extent). get_turns plan p.1) state _ back c.join_all-end.result c.and.result
     (subst (λ (r : Result (Unit {0}) DiskErr). OnOk r (IsOk c.join_all-end.result)) (sym c.and.ensures) (and_first_ok c.join_all-end.result c.take_all-came.result))
-    (all_got first mid last c.args.work.parts.items back c.args.domains.now Got
-    (taken_by first c.deref_mut.result.now mid c.deref_mut-2.result.now last c.start_all.new.crew.rest.items c.args.work.parts.items c.args.domains.now c.deref_mut.ensures.value twice.same
+    (all_of (λ worker. part_of worker) (λ worker. domain_of worker) last c.args.work.parts.items back c.args.domains.now Got
+    (taken_of first c.deref_mut.result.now mid c.deref_mut-2.result.now last c.start_all.new.crew.rest.items c.args.work.parts.items c.args.domains.now c.deref_mut.ensures.value twice.same
     c.tell_all.ensures.long c.tell_all.ensures.told c.take_all-came.ensures.long c.take_all-came.ensures.kept (nil_from_length c.start_all.new.crew.rest.items empty)
     c.start_all.ensures.parts c.start_all.ensures.domains c.requires.one_each)
     (subst (λ (ws : List (ReadWorker g.row.D.Denot)). AllZip (λ worker d. Got (part_of worker, domain_of worker) d) ws back) twice.whole c.join_all-end.ensures.got))
@@ -89,8 +90,8 @@ returns-clause-failed g c =
     let back = c.join_all-end.new.back.items in
     let Failing : g.row.D.Denot → g.row.D.Denot → Type 0 = λ a b. Rose (g.D.Disk.faults a) (g.D.Disk.faults b) in
     λ f.
-    some_failed first mid last c.args.work.parts.items back c.args.domains.now Failing
-    (taken_by first c.deref_mut.result.now mid c.deref_mut-2.result.now last c.start_all.new.crew.rest.items c.args.work.parts.items c.args.domains.now c.deref_mut.ensures.value twice.same
+    some_of (λ worker. part_of worker) (λ worker. domain_of worker) last c.args.work.parts.items back c.args.domains.now Failing
+    (taken_of first c.deref_mut.result.now mid c.deref_mut-2.result.now last c.start_all.new.crew.rest.items c.args.work.parts.items c.args.domains.now c.deref_mut.ensures.value twice.same
     c.tell_all.ensures.long c.tell_all.ensures.told c.take_all-came.ensures.long c.take_all-came.ensures.kept (nil_from_length c.start_all.new.crew.rest.items empty)
     c.start_all.ensures.parts c.start_all.ensures.domains c.requires.one_each)
     (subst (λ (ws : List (ReadWorker g.row.D.Denot)). SomeZip (λ worker d. Failing (part_of worker) d) ws back) twice.whole (c.join_all-end.ensures.failed
@@ -116,6 +117,7 @@ returns-clause-read g c =
     let n : count ≡ length first = first_of (search rules, grind (arith, common_steps)) in
     let twice = lent_twice count first c.deref_mut.result.now mid c.deref_mut-2.result.now last n c.deref_mut.ensures.value c.tell_all.ensures.long c.deref_mut-2.ensures.value c.take_all-came.ensures.long in
     let told = subst (λ (ws : List (ReadWorker g.row.D.Denot)). (k : ℕ) (a b : ReadWorker g.row.D.Denot) → slice_get ws k ≡ Some a → slice_get mid k ≡ Some b → IsToldToGo a b) c.deref_mut.ensures.value c.tell_all.ensures.told in
+    let kept = subst (λ (ws : List (ReadWorker g.row.D.Denot)). (k : ℕ) (a b : ReadWorker g.row.D.Denot) → slice_get ws k ≡ Some a → slice_get last k ≡ Some b → IsKept a b) twice.same c.take_all-came.ensures.kept in
     let empty : length c.start_all.new.crew.rest.items ≡ 0 = first_of (search rules, grind (arith, common_steps)) in
     let table = c.args.work.table.items in
     let filled = c.take_all-came.new.table in
@@ -127,11 +129,11 @@ returns-clause-read g c =
     let held = λ (d : g.row.D.Denot). g.D.Disk.held d in
     subst (λ (t : List (List (List ℕ))). OnOk c.and.result (HasReadParts from held plan (zip c.args.work.parts.items c.args.domains.now) table t)) (sym stays)
     (subst (λ (r : Result (Unit {0}) DiskErr). OnOk r (HasReadParts from held plan (zip c.args.work.parts.items c.args.domains.now) table filled)) (sym c.and.ensures)
-    (all_read from held plan first mid last c.args.work.parts.items c.args.domains.now table filled c.join_all-end.result c.take_all-came.result
-    (taken_by first c.deref_mut.result.now mid c.deref_mut-2.result.now last c.start_all.new.crew.rest.items c.args.work.parts.items c.args.domains.now c.deref_mut.ensures.value twice.same
+    (all_read from held plan mid last c.args.work.parts.items c.args.domains.now table filled c.join_all-end.result c.take_all-came.result
+    (taken_of first c.deref_mut.result.now mid c.deref_mut-2.result.now last c.start_all.new.crew.rest.items c.args.work.parts.items c.args.domains.now c.deref_mut.ensures.value twice.same
     c.tell_all.ensures.long c.tell_all.ensures.told c.take_all-came.ensures.long c.take_all-came.ensures.kept (nil_from_length c.start_all.new.crew.rest.items empty)
     c.start_all.ensures.parts c.start_all.ensures.domains c.requires.one_each)
-    (ready_workers plan first mid twice.long told c.start_all.ensures.workers) c.take_all-came.ensures.none
+    twice.longer (ready_workers plan first mid twice.long told c.start_all.ensures.workers) kept c.take_all-came.ensures.none
     (subst (λ (t : List (List (List ℕ))). OnOk c.take_all-came.result (HaveTakenTurns plan.list.now mid last t filled)) given
     (subst (λ (ws : List (ReadWorker g.row.D.Denot)). OnOk c.take_all-came.result (HaveTakenTurns plan.list.now ws last c.deref_mut-3.result.now filled)) twice.same c.take_all-came.ensures.taken))
     (subst (λ (ws : List (ReadWorker g.row.D.Denot)). OnOk c.join_all-end.result ((worker : ReadWorker g.row.D.Denot) → In ws worker
