@@ -10,7 +10,7 @@ use Rattle.overlay_laws.specs.Entries.{In}
 use Rattle.aggregator_rounds.specs.Pieces.{told_window}
 use Rattle.data_sieving.specs.Walked.{IsPast}
 use Rattle.data_sieving.proofs.PastSteps.{past_later, past_none, past_short}
-use Rattle.piece_exchange.specs.Feeds.{earlier_of, pieces_left_of, turns_left_of, AreApart, FitsInFor, IsAhead, IsFeedOf}
+use Rattle.piece_exchange.specs.Feeds.{earlier_of, pieces_left_of, AreApart, FitsInFor, IsAhead, IsFeedOf}
 use Rattle.piece_exchange.specs.Pieces.{pieces_in, pieces_of}
 use Rattle.piece_exchange.specs.Turns.{Told, turns_ahead, IsTurnWalk}
 use Rattle.piece_exchange.specs.declared.walk.Turn.{Turn}
@@ -66,11 +66,6 @@ feed_next (Some t) w v walk apart ready some begun =
       ends = served_ends w.entries.now t.entries.now told.0 (told.0 + told.1) (begun_served w.entries.now t.entries.now told.0 (told.0 + told.1) begun) walk.ends;
       limit = walk.limit told (subst (λ (ts : List Told). In ts told) (sym some) (inl refl));
     }
-
-pub fewer_next : (next : Option Turn) (w v : TurnWalk) (t : Told) → IfSome next (λ t. turns_ahead w.windows ≡ told_window t.window ∷ turns_ahead v.windows)
-    → length (turns_left_of next v) < length (t ∷ turns_ahead w.windows)
-fewer_next None w v t some = omega arith
-fewer_next (Some u) w v t some = let same = ap (λ (ts : List Told). length ts) some in omega arith
 
 -- ---- room for the entries
 
@@ -153,11 +148,6 @@ earlier_some (Some a) (Some b) round e = by_order (nat_lt b a) refl
 earlier_some (Some a) None round e = inl e
 earlier_some None other round e = inr e
 
-pub earlier_first : (one other : Option ℕ) (round next : ℕ) → earlier_of one other ≡ Some round → one ≡ Some next → round ≤ next
-earlier_first (Some a) (Some b) round next e f = let p : min a b ≡ round = cc in let q : a ≡ next = cc in omega arith
-earlier_first (Some a) None round next e f = let p : a ≡ round = cc in let q : a ≡ next = cc in omega arith
-earlier_first None other round next e f = absurd cc
-
 pub earlier_second : (one other : Option ℕ) (round next : ℕ) → earlier_of one other ≡ Some round → other ≡ Some next → round ≤ next
 earlier_second (Some a) (Some b) round next e f = let p : min a b ≡ round = cc in let q : b ≡ next = cc in omega arith
 earlier_second (Some a) None round next e f = absurd cc
@@ -180,8 +170,3 @@ fed_next ranks old next t w v before now is ready put left =
     ∙ append_assoc before (pieces_in ranks t.entries.now (told_window t.window)) rest
     ∙ ap (λ (os : List Owned). before ++ (pieces_in ranks t.entries.now (told_window t.window) ++ os)) (left ahead.apart)
     ∙ sym (ap (λ (o : Option Turn). before ++ pieces_left_of ranks o w) is)
-
-pub fewer_left : (old next : Option Turn) (t : Turn) (w v : TurnWalk) → old ≡ Some t → IfSome next (λ t. turns_ahead w.windows ≡ told_window t.window ∷ turns_ahead v.windows)
-    → length (turns_left_of next v) < length (turns_left_of old w)
-fewer_left old next t w v is some =
-    subst (λ (o : Option Turn). length (turns_left_of next v) < length (turns_left_of o w)) (sym is) (fewer_next next w v (told_window t.window) some)

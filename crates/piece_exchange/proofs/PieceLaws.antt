@@ -1,6 +1,6 @@
 -- The pieces of a window are those of the entries that a walk gives with it, and have each covered byte of it.
-use Rattle.std.proofs.Common.{◌≡◌, ℕ, zero, suc, ◌+◌, ◌<◌, ◌≤◌, ◌⊎◌, inl, inr, refl, sym, ◌∙◌, ap, List, [], ◌∷◌, ◌++◌, length, take, get_or, Bool, true, false, cond, ◌&&◌, arith}
-use Rattle.std.proofs.lemmas.List.{append-nil, length-append, take_more}
+use Rattle.std.proofs.Common.{◌≡◌, ℕ, zero, suc, ◌+◌, ◌<◌, ◌≤◌, ◌⊎◌, inl, inr, refl, sym, ◌∙◌, ap, List, [], ◌∷◌, ◌++◌, length, Bool, true, false, cond, ◌&&◌, arith}
+use Rattle.std.proofs.lemmas.List.{append-nil, length-append}
 use Rattle.std.specs.Prelude.{filter, flat_map, nat_lt, nat_le, ◌==◌}
 use Rattle.std.specs.List.{range_with_len}
 use Rattle.std.proofs.lemmas.Bool.{and_from, and_right, ltb-true, ltb-false, eqb-true, lt-ltb, le-ltb, leb-true, le-leb, lt-leb}
@@ -155,31 +155,3 @@ counted a (suc n) lo hi list =
 -- one pass over the entries counts them
 pub pieces_many : (ranks : ℕ) (list : List Owned) (t : Told) → length (pieces_in ranks list t) ≡ length (filter (of_some_rank 0 ranks t.0 (t.0 + t.1)) list)
 pieces_many ranks list t = counted 0 ranks t.0 (t.0 + t.1) list
-
-same_test : (ranks lo hi : ℕ) (o : Owned) → of_some_rank 0 ranks lo hi o ≡ (nat_lt o.rank ranks && meets lo hi o)
-same_test ranks lo hi o =
-    let low : nat_le 0 o.rank ≡ true = le-leb 0 o.rank (omega arith) in
-    let end : 0 + ranks ≡ ranks = omega arith in
-    (λ i. (low i && nat_lt o.rank (end i)) && meets lo hi o)
-
--- one entry more is counted, or not
-pub counted_more : (ranks lo hi i n : ℕ) (list : List Owned) (o : Owned) → i < length list → n ≡ length (filter (of_some_rank 0 ranks lo hi) (take i list))
-    → (nat_lt (get_or list i o).rank ranks && meets lo hi (get_or list i o)) ≡ true → n + 1 ≡ length (filter (of_some_rank 0 ranks lo hi) (take (i + 1) list))
-counted_more ranks lo hi i n list o l e test =
-    sym (ap (λ (os : List Owned). length (filter (of_some_rank 0 ranks lo hi) os)) (take_more list i o l)
-    ∙ ap (λ (os : List Owned). length os) (filter-append (of_some_rank 0 ranks lo hi) (take i list) (get_or list i o ∷ []))
-    ∙ length-append (filter (of_some_rank 0 ranks lo hi) (take i list)) (filter (of_some_rank 0 ranks lo hi) (get_or list i o ∷ []))
-    ∙ ap (λ (b : Bool). length (filter (of_some_rank 0 ranks lo hi) (take i list)) + length (cond b (get_or list i o ∷ []) [])) (same_test ranks lo hi (get_or list i o) ∙ test)
-    ∙ ap (λ (k : ℕ). k + 1) (sym e))
-
-pub counted_same : (ranks lo hi i n : ℕ) (list : List Owned) (o : Owned) → i < length list → n ≡ length (filter (of_some_rank 0 ranks lo hi) (take i list))
-    → (nat_lt (get_or list i o).rank ranks && meets lo hi (get_or list i o)) ≡ false → n ≡ length (filter (of_some_rank 0 ranks lo hi) (take (i + 1) list))
-counted_same ranks lo hi i n list o l e test =
-    sym (ap (λ (os : List Owned). length (filter (of_some_rank 0 ranks lo hi) os)) (take_more list i o l)
-    ∙ ap (λ (os : List Owned). length os) (filter-append (of_some_rank 0 ranks lo hi) (take i list) (get_or list i o ∷ []))
-    ∙ length-append (filter (of_some_rank 0 ranks lo hi) (take i list)) (filter (of_some_rank 0 ranks lo hi) (get_or list i o ∷ []))
-    ∙ ap (λ (b : Bool). length (filter (of_some_rank 0 ranks lo hi) (take i list)) + length (cond b (get_or list i o ∷ []) [])) (same_test ranks lo hi (get_or list i o) ∙ test)
-    ∙ none (length (filter (of_some_rank 0 ranks lo hi) (take i list))) ∙ sym e)
-  where
-    none : (k : ℕ) → k + 0 ≡ k
-    none k = omega arith
