@@ -12,11 +12,8 @@ use Rattle.overlay_laws.specs.Lines.{extents, EndBelow}
 use Rattle.overlay_laws.proofs.EntryLaws.{says_left, says_right, says_cases, in_extents}
 use Rattle.overlay_laws.proofs.SaidLaws.{same_said, said_in_any_order}
 use Rattle.overlay_laws.proofs.WindowLaws.{append_within, said_by_joined}
-use Rattle.data_sieving.specs.Sieving.{got_cells, places_of}
-use Rattle.data_sieving.specs.Walked.{buffer_cell, part_in, IsCovered}
-use Rattle.data_sieving.proofs.ReadParts.{IsRead, got_says, says_got, read_once}
-use Rattle.data_sieving.proofs.GetSteps.{parts_within, whole_parts}
-use Rattle.data_sieving.proofs.CollectedSteps.{buffer_cells, got_whole}
+use Rattle.aggregator_rounds.specs.EntryParts.{got_cells, places_of, buffer_cell, part_in, IsCovered}
+use Rattle.aggregator_rounds.proofs.ReadParts.{IsRead, got_says, says_got, read_once, parts_within, whole_parts, buffer_cells, got_whole}
 use Rattle.piece_exchange.specs.Blobs.{blob_at, got_in_hull, of_request, FitTable, HasCollected, HasRead, HaveOnePlaces}
 use Rattle.piece_exchange.specs.Logs.{log_cells, told_in, HasCollectedLog, Log}
 use Rattle.piece_exchange.specs.Turns.{Told}
