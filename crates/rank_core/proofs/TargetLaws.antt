@@ -26,7 +26,8 @@ use Rattle.vara_extents.specs.Parts as parts
 use Rattle.vara_extents.specs.Parts.{parts_code_at}
 use Rattle.rank_core.specs.declared.look.target.Target.{Target}
 use Rattle.rank_core.specs.Looked.{look_of, some_unfit, ComesTo, HasValues, IsCode}
-use Rattle.rank_core.specs.Targets.{look_at, look_parts, look_region, IsTarget}
+use Rattle.rank_core.specs.Ranked.{Ranked}
+use Rattle.rank_core.specs.Targets.{look_at, look_parts, look_region, IsTarget, IsTargetOf}
 use Rattle.rank_core.proofs.LookLaws.{asked_few}
 use Rattle.rank_core.proofs.MappedLaws.{accepted_mapped}
 use Rattle.rank_core.proofs.OutcomeLaws.{all_right, checked_refused, data_refused, no_element, outcome, parts_ask}
@@ -174,10 +175,10 @@ pub look_missing : (header : Header) (known id : ℕ) (name : List ℕ) (given :
     → looks.Refused code.ENotVar ≡ looks.look header known id name given values
 look_missing header known id name given values e = ap (by_place header known id given values) e
 
-pub look_found : (header : Header) (known id k : ℕ) (name : List ℕ) (given : Given) (values : Option Values) (t : Target) → Some k ≡ find_var header name
-    → t.header.now ≡ header → t.place ≡ k → t.known ≡ known → t.id ≡ id → IsTarget t → look_at t given values ≡ looks.look header known id name given values
+pub look_found : (rank : Ranked) (id : ℕ) (name : List ℕ) (given : Given) (values : Option Values) (t : Target) → Some t.place ≡ find_var rank.header name
+    → IsTargetOf rank id t → look_at t given values ≡ looks.look rank.header rank.state.known id name given values
 unfolding look_at
-look_found header known id k name given values t e h p n i there =
-    ap (λ (o : Option Var). looks.look_at t.header.now t.known t.id t.place given values o) (sym there)
-    ∙ (λ j. looks.look_at (h j) (n j) (i j) (p j) given values (slice_get (h j).vars (p j)))
-    ∙ ap (by_place header known id given values) e
+look_found rank id name given values t e is =
+    ap (λ (o : Option Var). looks.look_at t.header.now t.known t.id t.place given values o) (sym is.there)
+    ∙ (λ j. looks.look_at (is.header j) (is.known j) (is.posts j) t.place given values (slice_get (is.header j).vars t.place))
+    ∙ ap (by_place rank.header rank.state.known id given values) e
