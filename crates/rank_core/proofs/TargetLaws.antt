@@ -22,6 +22,7 @@ use Rattle.serial_spec.specs.Limits.{most_elements}
 use Rattle.serial_spec.specs.Looks as looks
 use Rattle.serial_spec.specs.Looks.{data_bytes, data_code, direction_of, find_var, is_varn, part_posts, parts_code}
 use Rattle.serial_spec.specs.RegionCheck.{check, check_parts, check_some, check_var, elements_of_all, has_element, part_regions, widen}
+use Rattle.var_layout.specs.Capped.{capped}
 use Rattle.vara_extents.specs.Parts as parts
 use Rattle.vara_extents.specs.Parts.{parts_code_at}
 use Rattle.rank_core.specs.declared.look.target.Target.{Target}
@@ -32,6 +33,12 @@ use Rattle.rank_core.proofs.LookLaws.{asked_few}
 use Rattle.rank_core.proofs.MappedLaws.{accepted_mapped}
 use Rattle.rank_core.proofs.OutcomeLaws.{all_right, checked_refused, data_refused, no_element, outcome, parts_ask}
 use Rattle.rank_core.proofs.ValueLaws.{parts_code-has_values}
+
+-- a count that is exact below 2^62 counts the elements of one request
+pub all_counted : (lent gs : List Region) (n : ℕ) → lent ≡ gs → elements_of_all gs ≤ most_elements → n ≡ capped (elements_of_all lent) → n ≡ elements_of_all gs
+all_counted lent gs n same few counted =
+    let total = ap elements_of_all same in
+    omega (arith, total, few, counted)
 
 module _ (t : Target) (given : Given) (values : Option Values) (there : IsTarget t) (way : Direction) (is_way : way ≡ direction_of values) where
   -- ---- one region
