@@ -2,9 +2,10 @@
 --     IsTarget t                        the header has it at its place
 --     IsMeasured t                      the measures are the header's
 --     IsTargetOf rank id t              it is one of the rank's header, with the record count that the rank knows, for posts of this id
+--     place_of t                        its place, if there is one
 --     look_at, look_region, look_parts  what serial_spec says of a call on it
 --     look_record                       what it says of the filling of a share of a record
-use Rattle.std.specs.Prelude.{◌≡◌, ◌≤◌, ℕ, List, map, Option, Some, slice_get}
+use Rattle.std.specs.Prelude.{◌≡◌, ◌≤◌, ℕ, List, map, Option, Some, option_map, slice_get}
 use Rattle.nc_base.specs.declared.header.Header.{Header}
 use Rattle.nc_base.specs.declared.request.Given.{Given}
 use Rattle.nc_base.specs.declared.request.Part.{Part}
@@ -28,6 +29,9 @@ pub record IsTargetOf (rank : Ranked) (id : ℕ) (t : Target) : Type 0 where
   pub measured : IsMeasured t
   pub known : t.known ≡ rank.state.known
   pub posts : t.id ≡ id
+
+abbrev pub place_of : Option Target → Option ℕ
+place_of target = option_map (λ (t : Target). t.place) target
 
 unfoldable pub look_at : Target → Given → Option Values → looks.Look
 look_at t given values = looks.look_at t.header.now t.known t.id t.place given values (Some t.var.now)

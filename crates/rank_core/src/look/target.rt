@@ -1,8 +1,8 @@
 // The variable that a call is on.
-ghost use Rattle.std.specs.Prelude.{◌≡◌, true, option_map, IfSome};
+ghost use Rattle.std.specs.Prelude.{◌≡◌, true, IfSome};
 ghost use Rattle.serial_spec.specs.SoundHeaders.{is_sound};
 ghost use Rattle.serial_spec.specs.Looks as looks;
-ghost use Rattle.rank_core.specs.Targets.{IsTargetOf};
+ghost use Rattle.rank_core.specs.Targets.{place_of, IsTargetOf};
 
 use crate::Rank;
 use nc_base::{Header, Var};
@@ -25,7 +25,7 @@ impl<'a> Rank<'a> {
     /// The variable of this name, for posts under this id.
     pub(super) fn target(&self, id: u32, name: &[u8]) -> Option<Target<'a>>
         ensures sound { is_sound self.now.header ≡ true }
-        ensures found { option_map (λ t. t.place) result ≡ looks.find_var self.now.header name.now }
+        ensures found { place_of result ≡ looks.find_var self.now.header name.now }
         ensures target { IfSome result (IsTargetOf self.now id) }
     {
         let place = self.names.find_var(self.header, name)?;
