@@ -1,5 +1,5 @@
 -- One element more.
-use Rattle.std.proofs.Common.{◌++◌, ◌∙◌, ℕ, List, Some, ap, sym, arith}
+use Rattle.std.proofs.Common.{◌++◌, ◌∙◌, ℕ, Some, ap, sym, arith}
 use Rattle.serial_spec.specs.ExternalForm.{size_of}
 use Rattle.serial_spec.specs.File.{read}
 use Rattle.serial_spec.specs.Request.{places}
