@@ -238,6 +238,8 @@ pub fn push_value(kind: NcType, values: &Values, k: u64, bytes: &mut Vec<u8>) ->
     let mut form = [0; 8];
     let into = &mut form[..size_of(kind) as usize];
     encode_into(kind, values, k as usize, into)?;
-    bytes.extend_from_slice(into)?;
-    Ok(())
+    match bytes.extend_from_slice(into) {
+        Ok(()) => Ok(()),
+        Err(_) => Err(CallErr::Memory),
+    }
 }
