@@ -2,7 +2,7 @@
 ghost use Rattle.std.specs.Prelude.{◌≡◌, ◌≤◌, ◌^◌, ◌+◌, [], IfOk, None, false};
 ghost use Rattle.serial_spec.specs.Lawful.{values_in_call};
 ghost use Rattle.script_spec.specs.ScriptSteps.{whole};
-ghost use Rattle.script_spec.specs.ScriptCalls.{posted, id_of_post, choice, one_id, ids, fill_call, attach_call, inquiry, lone_call, other_call, call_of};
+ghost use Rattle.script_spec.specs.ScriptCalls.{posted, id_of_post, choice, one_id, ids, fill_call, attach_call, inquiry, lone_call, other_call};
 ghost use Rattle.script_calls.specs.CallWords.{plain_by, post_or_plain_by, call_by};
 ghost use Rattle.script_words.specs.Given.{Gives, word_of};
 ghost use Rattle.script_calls.specs.Posts.{IsNew};
@@ -197,8 +197,9 @@ fn post_or_plain(
     post_call(alloc, kind, own, form, place.before, words)
 }
 
+/// Reads a call of a rank by its word, where the rank has had these calls.
 #[tactic(auto, unfolding(crate::specs::CallWords::call_by))]
-fn call_named(
+pub fn call_of(
     alloc: Global,
     place: CallPlace,
     own: &RankCalls,
@@ -223,20 +224,4 @@ fn call_named(
         return get_call(alloc, all, form, words);
     }
     post_or_plain(alloc, place, own, word, words)
-}
-
-/// Reads a call of a rank by its word, where the rank has had these calls.
-pub fn call_of(
-    alloc: Global,
-    place: CallPlace,
-    own: &RankCalls,
-    word: &[u8],
-    words: &mut Words<'_>,
-) -> Result<Call, ReadErr>
-    requires { place.before ≤ 2 ^ 24 }
-    ensures read { Gives (λ c. c) result (call_of place.ranks place.rank own.now place.before word.now words.old) }
-    ensures bound { IfOk result (λ c. place.before + values_in_call c ≤ 2 ^ 24) }
-    ensures new { IfOk result (λ c. IsNew (posted own.now) c) }
-{
-    call_named(alloc, place, own, word, words)
 }
