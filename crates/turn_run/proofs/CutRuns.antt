@@ -36,11 +36,12 @@ use Rattle.turn_run.specs.Cuts.EndsAt.{before_close, in_close}
 use Rattle.run_laws.specs.Arrivals.{Arrived, Stand, step_to}
 use Rattle.turn_run.specs.Stages.{HasLed, IsLed, Leads, arrived_all, stage}
 use Rattle.turn_run.specs.Said.{all_between, HaveAnswers}
-use Rattle.turn_run.specs.Steps.{first_runner, most_known}
+use Rattle.turn_run.specs.Steps.{first_runner}
 use Rattle.turn_run.specs.declared.runners.Runner.{Runner}
 use Rattle.turn_run.proofs.CutMeet.{raised_kept}
 use Rattle.turn_run.proofs.StageLaws.{gone_up, mark_up, marks_up}
 use Rattle.turn_run.proofs.TurnEnds.{AreOver, map_ended}
+use Rattle.turn_run.proofs.TurnKnown.{most_known}
 use Rattle.turn_run.proofs.TurnRuns.{first_goings, first_stage, none_begun}
 use Rattle.list_laws.proofs.Maps.{entry_map, map_map, entry_map_none, mapped_entry}
 use Rattle.serial_spec.proofs.GrowLaws.{raised_grows}
@@ -64,6 +65,33 @@ ends_before script s e before order held records ranks left count none h =
         → IfSome m (λ file. (bytes : List ℕ) × (left ≡ Some bytes) × EndsAt script s e (fold (step_to s) (counted file records, ranks) order) order bytes count)
     by_held None k = tt
     by_held (Some file) k = (k.0, k.1, before_close k.2)
+
+-- no memory was left once all steps were done
+pub ends_between : (script : Script) (header : Header) (e : StepErr) (before order : List Mark) (calls made : Option (List DiskCall)) (told left : Option (List ℕ)) (count from : ℕ) (runners : List Runner)
+    (ranks : List Arrived) → before ≡ [] → e ≡ fault.Memory
+    → HasLed script.hints (setting_of script header) before order (stage told calls from ranks) (stage left made count (arrived_all header script.calls runners))
+    → IfSome told (λ file. (bytes : List ℕ) × (left ≡ Some bytes) × EndsAt script (setting_of script header) e (fold (step_to (setting_of script header)) (counted file from, ranks) order) order bytes count)
+ends_between script header e before order calls made told left count from runners ranks none memory h =
+    by_told told (subst (λ (ms : List Mark). Leads script.hints (setting_of script header) ms (stage told calls from ranks) (stage left made count (arrived_all header script.calls runners))) all h.led)
+  where
+    all : h.more ≡ order
+    all = sym (h.grown ∙ ap (λ (ms : List Mark). ms ++ h.more) none)
+
+    by_told : (m : Option (List ℕ)) → IfSome m (λ file. IsLed script.hints (setting_of script header) order file (stage m calls from ranks) (stage left made count (arrived_all header script.calls runners)))
+        → IfSome m (λ file. (bytes : List ℕ) × (left ≡ Some bytes) × EndsAt script (setting_of script header) e (fold (step_to (setting_of script header)) (counted file from, ranks) order) order bytes count)
+    by_told None led = tt
+    by_told (Some file) led = (
+      led.left,
+      led.told,
+      subst (λ (stand : Stand). EndsAt script (setting_of script header) e stand order led.left count) (sym led.state) (before_close (between memory refl refl)),
+    )
+
+-- bytes and count stayed as they were
+pub ends_same : (script : Script) (s : Setting) (e : StepErr) (held : Option (List ℕ)) (records : ℕ) (ranks : List Arrived) (order : List Mark) (left now : Option (List ℕ)) (count last : ℕ) → now ≡ left → last ≡ count
+    → IfSome held (λ file. (bytes : List ℕ) × (left ≡ Some bytes) × EndsAt script s e (fold (step_to s) (counted file records, ranks) order) order bytes count)
+    → IfSome held (λ file. (bytes : List ℕ) × (now ≡ Some bytes) × EndsAt script s e (fold (step_to s) (counted file records, ranks) order) order bytes last)
+ends_same script s e held records ranks order left now count last l k h =
+    subst (λ (m : Option (List ℕ)). Ends script s e held records ranks order m last) (sym l) (subst (λ (n : ℕ). Ends script s e held records ranks order left n) (sym k) h)
 
 -- ---- in the close
 
