@@ -49,8 +49,9 @@ use Rattle.thread_run.specs.Owned.{owner_told, AreSingle}
 use Rattle.thread_run.specs.Refused.{HasCutService}
 use Rattle.thread_run.specs.Service.{IsDone, IsDoneSo, opening}
 use Rattle.turn_run.specs.Run.{HasCut}
-use Rattle.thread_run.specs.Threads.{EndedAt, NoneBroke, most_known_of}
-use Rattle.thread_run.specs.Threads.EndedAt.{as_left, in_close as in_closing}
+use Rattle.turn_run.specs.RankEnds.{EndedAt, NoneBroke, most_known_of}
+use Rattle.turn_run.specs.RankEnds.EndedAt.{as_left, in_close as in_closing}
+use Rattle.turn_run.proofs.EndedLaws.{EndOfCut}
 use Rattle.thread_run.proofs.CutRank.{last_end}
 use Rattle.thread_run.proofs.CutJoin.{Ran, cut_run, end_of_rank}
 use Rattle.thread_run.proofs.CutStood.{single_begun, stood_run}
@@ -209,14 +210,6 @@ module _ (script : Script) (header : Header) (arrivals : List Arrival) (given : 
   single = single_begun script header (h.first ++ h.later) (takes script header arrivals given ends t) t.calls offered_of
 
 -- ---- the run
-
--- what is told of the end of a run with a fault
-pub record EndOfCut (header : Header) (ends : List RankEnd) (before : ServeEnd) (e : StepErr) (held : Option (List ℕ)) (count : ℕ) (left : Option (List ℕ)) (records : ℕ) (end : RunEnd) : Type 0 where
-  pub order : end.order ≡ before.order
-  pub at : EndedAt header ends before.fault e held count left records
-  pub rows : (end.answers ≡ map (λ x. x.answers) ends) ⊎ (end.answers ≡ [])
-  pub whole : e ≡ fault.Disk → NoneBroke ends
-  pub kept : e ≡ fault.Disk → end.answers ≡ map (λ x. x.answers) ends
 
 module _ (script : Script) (header : Header) (arrivals : List Arrival) (given : ℕ → List OwnerItem) (ends : List RankEnd) (sound : is_sound header ≡ true) (lawful : is_lawful script ≡ true)
     (t : Told script header arrivals given ends) (file : List ℕ) where
