@@ -197,12 +197,3 @@ pub run_ended : (script : Script) (header : Header) (len : ℕ) (before order : 
 run_ended script header len before order calls made later told left held count records from runners ranks lawful none a f h led r =
     run_closed script header before order calls made later told left held count records from runners ranks none ((ranks_lawful script lawful).one_each ∙ sym a.all)
     (are_over script runners f h) led r
-
-next_same : {X : Type 0} (n : ℕ) (x : X) → replicate n x ++ x ∷ [] ≡ replicate (suc n) x
-next_same zero x = refl
-next_same (suc n) x = ap (λ (xs : List _). x ∷ xs) (next_same n x)
-
-pub same_more : {X : Type 0} (n : ℕ) (x y : X) (xs now : List X) → xs ≡ replicate n x → y ≡ x → now ≡ xs ++ y ∷ [] → now ≡ replicate (n + 1) x
-same_more n x y xs now e f h =
-    let next : suc n ≡ n + 1 = omega arith in
-    h ∙ (λ i. e i ++ f i ∷ []) ∙ next_same n x ∙ ap (λ (k : ℕ). replicate k x) next

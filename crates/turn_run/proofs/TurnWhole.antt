@@ -1,5 +1,6 @@
 -- A run in turn as a whole: its meetings, and then the end by the ends of its ranks.
 use Rattle.std.proofs.Common.{◌≡◌, ℕ, ◌≤◌, refl, sym, ◌∙◌, ap, subst, inl, inr, ◌⊎◌, List, [], length, map, max, replicate, true, Option, Some, None, Result, Ok, Err, arith}
+use Rattle.std.proofs.lemmas.List.{length-map}
 use Rattle.std.specs.Prelude.{fold, IfSome, OnOk}
 use Rattle.std.specs.Result.{result_err}
 use Rattle.std.specs.Int.{byte_len}
@@ -32,7 +33,7 @@ use Rattle.run_laws.specs.Arrivals.{all_calls_over, ended_from, step_to}
 use Rattle.run_laws.proofs.LawfulLaws.{ranks_lawful}
 use Rattle.turn_run.specs.Begun.{HasBegun}
 use Rattle.turn_run.specs.Counts.{IsCount}
-use Rattle.turn_run.specs.Cuts.{EndsAt, HasStopped, IsNext}
+use Rattle.turn_run.specs.Cuts.{HasStopped, IsNext}
 use Rattle.turn_run.specs.RankEnds.{most_known_of, runner_end, EndedAt, HasClosed}
 use Rattle.turn_run.specs.RankEnds.EndedAt.{as_left, in_close as in_closing}
 use Rattle.turn_run.specs.Run.{IsRun}
@@ -42,7 +43,7 @@ use Rattle.turn_run.specs.Stages.{arrived_all, stage, HasLed}
 use Rattle.turn_run.specs.Steps.{first_runner}
 use Rattle.turn_run.specs.declared.runners.Runner.{Runner}
 use Rattle.turn_run.proofs.CutEnds.{same_cause, unbegun_run}
-use Rattle.turn_run.proofs.CutRuns.{cut_answers, cut_rows, cut_run, ends_as, ends_before, ends_between, ends_closing, ends_same, ends_stood, no_answers, no_rows, stood_first}
+use Rattle.turn_run.proofs.CutRuns.{cut_answers, cut_rows, cut_run, ends_as, ends_before, ends_between, ends_closing, ends_same, ends_stood, no_answers, no_rows, stood_first, EndsAt}
 use Rattle.turn_run.proofs.EndedLaws.{Closing, EndOfCut}
 use Rattle.turn_run.proofs.SaidLaws.{between_up, have_reached, reached_here, reached_then}
 use Rattle.turn_run.proofs.SaidMeet.{all_say_here, keep_own}
@@ -163,7 +164,7 @@ module _ (script : Script) (header : Header) (len : ℕ) (before : List Mark) (s
       → IfSome held (λ file. (bytes : List ℕ) × (now ≡ Some bytes) × IsCutRun script header file e end.order bytes total end.answers)
   cut_in_turn e now total end c =
       subst (λ (ms : List Mark). IfSome held (λ file. (bytes : List ℕ) × (now ≡ Some bytes) × IsCutRun script header file e ms bytes total end.answers)) (sym c.order)
-      (cut_run script header e served.order held now total end.answers (cut_rows script e last end.answers h.long (λ disk. c.kept disk ∙ answers_are) rows)
+      (cut_run script header e served.order held now total end.answers (cut_rows script e (map (λ runner. runner.answers) last) end.answers (length-map last (λ (runner : Runner). runner.answers) ∙ h.long) (λ disk. c.kept disk ∙ answers_are) rows)
       (λ file there. cut_answers script header e said.0 records first last before served.order file end.answers lawful same_count all none said.1.0
       (subst (λ (m : Option (List ℕ)). HaveAnswers (setting_of script header) said.0 before served.order m records (all_between script.calls first) last) there said.1.1) rows)
       (ends_stood script header e records first served.order held now total lawful same_count all h.begun (ends_at e now total c.at)))
