@@ -13,7 +13,7 @@ use Rattle.nc_base.specs.declared.step.StepErr.{StepErr}
 use Rattle.nc_base.specs.declared.step.StepErr.TheVariants.{Memory}
 use Rattle.serial_spec.specs.FileStep.{Setting, puts_of}
 use Rattle.serial_spec.specs.History.{IsLegal, concerns, marks}
-use Rattle.serial_spec.specs.SerialEnd.{offers_of, close_by}
+use Rattle.serial_spec.specs.SerialEnd.{offers_of}
 use Rattle.serial_spec.specs.SharedByte.{covered}
 use Rattle.serial_spec.specs.Torn.{IsLeft}
 use Rattle.collective_round.specs.Rounds.{counted}
