@@ -341,7 +341,10 @@ fn run_started<R: Threads + Wait + Sync, D: Disk, G: Gate, T: Told>(
     ensures told { HasTold lent.now.script.now lent.now.header.now (D.held disk.old) (T.heard told.old) (T.heard told.new) result.order }
 {
     let Lent {
-        rt, alloc, header, ..
+        rt,
+        alloc,
+        header,
+        ..
     } = *lent;
     let measures = lent.names.measures(header);
     let hints = &lent.script.hints;
