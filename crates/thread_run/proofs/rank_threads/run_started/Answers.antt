@@ -31,6 +31,9 @@ join_all-requires-clause-handles g c =
     (subst (λ (v : List (End OwnerItem)). AreRankHandles c.serve-served.new.inbox.of (Go ∷ []) now v) (sym c.into_vec.ensures)
     (handles_told c.args.started.inbox.of c.serve-served.new.inbox.of c.args.started.ones.items now lines back c.serve-served.ensures.taken.of long told c.serve-served.ensures.put handles))
 
+pub end_run-requires-clause-count : goal.end_run-requires-clause-count
+end_run-requires-clause-count g c κs within = λ none. c.serve-served.ensures.count
+
 pub end_run-requires-clause-known : goal.end_run-requires-clause-known
 end_run-requires-clause-known g c κs within =
     let now = c.tell_all.new.ones in
