@@ -1,7 +1,7 @@
 -- One rank more.
 use Rattle.std.proofs.Common.{arith}
-use Rattle.thread_run.proofs.ThreadEnds.{known_more}
-use Rattle.thread_run.proofs.rank_ends.greatest_known.Goals as goal
+use Rattle.turn_run.proofs.TurnKnown.{known_more}
+use Rattle.turn_run.proofs.rank_ends.greatest_known.Goals as goal
 
 pub loop-end-preserved : goal.loop-end-preserved
 loop-end-preserved c =

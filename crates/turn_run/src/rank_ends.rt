@@ -1,17 +1,11 @@
-// The end of a run by the ends of its ranks.
-ghost use Rattle.std.specs.Prelude.{◌≡◌, ◌≤◌, ◌⊎◌, [], map, None, Some, IfOk, OnOk, OnErr, Err, true, false};
-ghost use Rattle.std.specs.Int.{byte_len};
+// The end of a run, in turn or on threads, by the ends of its ranks.
+ghost use Rattle.std.specs.Prelude.{◌≡◌, ◌≤◌, ◌⊎◌, [], map, None, Some, IfOk, OnOk, Err, true, false};
 ghost use Rattle.nc_base.specs.declared.step.StepErr.{StepErr as Fault};
 ghost use Rattle.nc_base.specs.declared.step.StepErr.TheVariants as fault;
 ghost use Rattle.nc_outside.specs.Cause.{Rose};
-ghost use Rattle.nc_outside.specs.Told.{BothTold};
-ghost use Rattle.serial_spec.specs.FileStep.{raised};
-ghost use Rattle.serial_spec.specs.HeaderBytes.{count_width};
 ghost use Rattle.serial_spec.specs.SoundHeaders.{is_sound};
-ghost use Rattle.serial_spec.specs.Torn.{IsTorn};
-ghost use Rattle.collective_round.specs.Rounds.{as_setting, counted};
 ghost use Rattle.turn_run.specs.Counts.{IsCount};
-ghost use Rattle.thread_run.specs.Threads.{most_known_of, EndedAt, HasClosed, NoneBroke};
+ghost use Rattle.turn_run.specs.RankEnds.{most_known_of, EndedAt, HasClosed, NoneBroke};
 
 use collective_round::raise_records;
 use nc_base::{
@@ -19,10 +13,9 @@ use nc_base::{
 };
 use nc_outside::Disk;
 use std::alloc::Global;
-use turn_run::stopped;
 
-/// Ends a run that was served. Where nothing went wrong, it raises the record count of the file to the greatest that a rank knew.
-pub(crate) fn end_run<D: Disk>(
+/// Ends a run whose steps were served. Where nothing went wrong, it raises the record count of the file to the greatest that a rank knew.
+pub fn end_run<D: Disk>(
     alloc: Global,
     disk: &mut D,
     header: &Header,
@@ -31,7 +24,7 @@ pub(crate) fn end_run<D: Disk>(
     ends: Vec<RankEnd>,
 ) -> RunEnd
     requires sound { is_sound header.now ≡ true }
-    requires count { IsCount header.now (D.len disk.old) records.old }
+    requires count { served.fault ≡ None → IsCount header.now (D.len disk.old) records.old }
     requires known { served.fault ≡ None → NoneBroke ends.items → is_sound (record header.now { records = most_known_of ends.items }) ≡ true }
     requires from { D.from disk.old ≡ 0 }
     ensures order { result.order ≡ served.order }
@@ -53,14 +46,15 @@ pub(crate) fn end_run<D: Disk>(
         fault,
         stranger: _,
     } = served;
-    match close_after(alloc, disk, header, records, fault, &ends) {
+    match close(alloc, disk, header, records, fault, &ends) {
         Ok(()) => ended(alloc, order, ends),
         Err(fault) => cut_off(alloc, order, ends, fault),
     }
 }
 
-/// Closes the file after the ranks' ends, if nothing went wrong before. A rank's want of memory counts before a fault of the disk.
-fn close_after<D: Disk>(
+/// Closes the file after the ranks' ends, if nothing went wrong before: raises its record count to the greatest that a rank knew. A rank's
+/// want of memory counts before a fault of the disk.
+fn close<D: Disk>(
     alloc: Global,
     disk: &mut D,
     header: &Header,
@@ -69,7 +63,7 @@ fn close_after<D: Disk>(
     ends: &[RankEnd],
 ) -> Result<(), StepErr>
     requires sound { is_sound header.now ≡ true }
-    requires count { IsCount header.now (D.len disk.old) records.old }
+    requires count { before ≡ None → IsCount header.now (D.len disk.old) records.old }
     requires known { before ≡ None → NoneBroke ends.now → is_sound (record header.now { records = most_known_of ends.now }) ≡ true }
     requires from { D.from disk.old ≡ 0 }
     ensures served { OnOk result ((before ≡ None) × NoneBroke ends.now) }
@@ -87,30 +81,7 @@ fn close_after<D: Disk>(
     if let Some(fault) = before {
         return Err(fault);
     }
-    close_by(alloc, disk, header, records, greatest_known(ends))
-}
-
-/// Raises the record count of the file to one that ranks knew.
-fn close_by<D: Disk>(
-    alloc: Global,
-    disk: &mut D,
-    header: &Header,
-    records: &mut u64,
-    known: u64,
-) -> Result<(), StepErr>
-    requires sound { is_sound header.now ≡ true }
-    requires count { IsCount header.now (D.len disk.old) records.old }
-    requires known { is_sound (record header.now { records = known }) ≡ true }
-    requires from { D.from disk.old ≡ 0 }
-    ensures closed { OnOk result (HasClosed header.now known records.old (D.held disk.old) (D.calls disk.old) records.new (D.held disk.new) (D.calls disk.new)) }
-    ensures sound { OnOk result (is_sound (record header.now { records = records.new }) ≡ true) }
-    ensures refused { OnErr result (BothTold (λ old left. IsTorn [] (byte_len (count_width header.now.version)) old
-        (raised (as_setting header.now) (counted old records.old) known).file left) (D.held disk.old) (D.held disk.new)) }
-    ensures kept { OnErr result (records.new ≡ records.old) }
-    ensures cause { result ≡ Err fault.Disk → Rose (D.faults disk.old) (D.faults disk.new) }
-    ensures later { D.faults disk.old ≤ D.faults disk.new }
-{
-    raise_records(alloc, disk, header, records, known)
+    raise_records(alloc, disk, header, records, greatest_known(ends))
 }
 
 /// Whether a rank ended for want of memory.
@@ -177,7 +148,7 @@ fn ended(alloc: Global, order: MarkList, ends: Vec<RankEnd>) -> RunEnd
     }
 }
 
-/// The end of a run that was cut off, with the answers so far.
+/// The end of a run that was cut off, with the answers so far. Where there is no memory for them, want of memory is its fault.
 fn cut_off(alloc: Global, order: MarkList, ends: Vec<RankEnd>, cause: StepErr) -> RunEnd
     ensures order { result.order ≡ order }
     ensures some { result.fault ≡ None → ⊥ }
@@ -193,5 +164,19 @@ fn cut_off(alloc: Global, order: MarkList, ends: Vec<RankEnd>, cause: StepErr) -
             fault: Some(cause),
         },
         Err(_) => stopped(alloc, order, StepErr::Memory),
+    }
+}
+
+/// The end of a run that was cut off, without answers.
+pub fn stopped(alloc: Global, order: MarkList, fault: StepErr) -> RunEnd
+    ensures order { result.order ≡ order }
+    ensures fault { result.fault ≡ Some fault }
+    ensures answers { result.answers ≡ [] }
+{
+    RunEnd {
+        order,
+        answers: AnswerTable::new(alloc),
+        pending: SizeList::new(alloc),
+        fault: Some(fault),
     }
 }

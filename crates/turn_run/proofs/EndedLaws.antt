@@ -1,20 +1,45 @@
--- How a run with a fault ended.
-use Rattle.std.proofs.Common.{◌≡◌, ℕ, refl, sym, subst, inl, inr, ◌⊎◌, List, [], Option, Some, None, Result, Err}
+-- How a run ended, by the ends of its ranks.
+use Rattle.std.proofs.Common.{◌≡◌, ℕ, ◌≤◌, refl, sym, subst, inl, inr, ◌⊎◌, List, [], map, true, Option, Some, None, Result, Err}
 use Rattle.std.specs.Prelude.{OnErr}
 use Rattle.std.specs.Int.{byte_len}
 use Rattle.nc_base.specs.declared.header.Header.{Header}
 use Rattle.nc_base.specs.declared.run.RankEnd.{RankEnd}
+use Rattle.nc_base.specs.declared.run.RunEnd.{RunEnd}
+use Rattle.nc_base.specs.declared.run.ServeEnd.{ServeEnd}
 use Rattle.nc_base.specs.declared.step.DiskCall.{DiskCall}
 use Rattle.nc_base.specs.declared.step.StepErr.{StepErr}
 use Rattle.nc_base.specs.declared.step.StepErr.TheVariants as fault
+use Rattle.nc_outside.specs.Cause.{Rose}
 use Rattle.nc_outside.specs.Told.{BothTold}
 use Rattle.serial_spec.specs.FileStep.{raised}
 use Rattle.serial_spec.specs.HeaderBytes.{count_width}
+use Rattle.serial_spec.specs.SoundHeaders.{is_sound}
 use Rattle.serial_spec.specs.Torn.{IsTorn}
 use Rattle.collective_round.specs.Rounds.{as_setting, counted}
 use Rattle.turn_run.proofs.CutRuns.{raised_torn}
-use Rattle.thread_run.specs.Threads.{EndedAt, HasClosed, NoneBroke, most_known_of}
-use Rattle.thread_run.specs.Threads.EndedAt.{as_left, in_close}
+use Rattle.turn_run.specs.RankEnds.{EndedAt, HasClosed, NoneBroke, most_known_of}
+use Rattle.turn_run.specs.RankEnds.EndedAt.{as_left, in_close}
+
+-- what the end of a run tells
+pub record Closing (header : Header) (ends : List RankEnd) (before : ServeEnd) (held : Option (List ℕ)) (calls : Option (List DiskCall)) (faults count : ℕ)
+    (left : Option (List ℕ)) (made : Option (List DiskCall)) (failed records : ℕ) (end : RunEnd) : Type 0 where
+  pub order : end.order ≡ before.order
+  pub went : end.fault ≡ None → (before.fault ≡ None) × NoneBroke ends
+  pub closed : end.fault ≡ None → HasClosed header (most_known_of ends) count held calls records left made
+  pub sound : end.fault ≡ None → is_sound (record header { records = records }) ≡ true
+  pub answers : end.fault ≡ None → end.answers ≡ map (λ x. x.answers) ends
+  pub pending : end.fault ≡ None → end.pending ≡ map (λ x. x.pending) ends
+  pub first : (e : StepErr) → before.fault ≡ Some e → end.fault ≡ Some fault.Disk → e ≡ fault.Disk
+  pub cause : before.fault ≡ None → end.fault ≡ Some fault.Disk → Rose faults failed
+  pub later : faults ≤ failed
+
+-- the same with a fault
+pub record EndOfCut (header : Header) (ends : List RankEnd) (before : ServeEnd) (e : StepErr) (held : Option (List ℕ)) (count : ℕ) (left : Option (List ℕ)) (records : ℕ) (end : RunEnd) : Type 0 where
+  pub order : end.order ≡ before.order
+  pub at : EndedAt header ends before.fault e held count left records
+  pub rows : (end.answers ≡ map (λ x. x.answers) ends) ⊎ (end.answers ≡ [])
+  pub whole : e ≡ fault.Disk → NoneBroke ends
+  pub kept : e ≡ fault.Disk → end.answers ≡ map (λ x. x.answers) ends
 
 pub ended_memory : (header : Header) (ends : List RankEnd) (before : Option StepErr) (e : StepErr) (held : Option (List ℕ)) (count : ℕ) → e ≡ fault.Memory → EndedAt header ends before e held count held count
 ended_memory header ends before e held count memory = as_left (inr memory) refl refl
