@@ -3,13 +3,13 @@ use Rattle.std.proofs.Common.{◌≡◌, ℕ, ◌<◌, ◌≤◌, ◌⊎◌, inl
 use Rattle.std.specs.Prelude.{nat_le}
 use Rattle.std.specs.List.{range_with_len}
 use Rattle.std.proofs.lemmas.Bool.{le-leb, leb-true}
-use Rattle.overlay_laws.proofs.Members.{in_filter}
+use Rattle.serial_spec.proofs.MemberLaws.{in_filter, filter_in}
 use Rattle.nc_base.specs.declared.plan.Owned.{Owned}
 use Rattle.serial_spec.specs.DeviceCalls.{in_order}
 use Rattle.overlay_laws.specs.Entries.{In, ranges}
 use Rattle.overlay_laws.specs.Hulls.{IsAscending}
 use Rattle.overlay_laws.specs.Lines.{extents, EndBelow}
-use Rattle.overlay_laws.proofs.HullLaws.{filter_in, filter_ascends, in_left, in_right, in_either, in_flat, flat_in, in_range, range_low, range_high, in_in_order, in_order_in, in_order_ascends, first_least}
+use Rattle.overlay_laws.proofs.HullLaws.{filter_ascends, in_left, in_right, in_either, in_flat, flat_in, in_range, range_low, range_high, in_in_order, in_order_in, in_order_ascends, first_least}
 use Rattle.overlay_laws.proofs.CoverLaws.{same_ascending}
 use Rattle.data_sieving.specs.Walked.{IsCovered, IsPast, AreBegun, bytes_from}
 use Rattle.data_sieving.proofs.PastSteps.{past_in, past_kept}

@@ -3,7 +3,7 @@ use Rattle.std.proofs.Common.{◌≡◌, ℕ, ◌+◌, ◌-◌, ◌<◌, ◌≤�
 use Rattle.std.proofs.lemmas.Grind.{fold-append}
 use Rattle.std.specs.Prelude.{map, nat_lt, ◌==◌}
 use borrow.Author.Tests.{ltb-true, ltb-false, eqb-true}
-use Rattle.overlay_laws.proofs.Members.{in_filter}
+use Rattle.serial_spec.proofs.MemberLaws.{in_filter, filter_in}
 use Rattle.list_laws.proofs.Truth.{equal_true}
 use Rattle.serial_spec.proofs.CellLaws.{read_long}
 use Rattle.nc_base.specs.declared.plan.Owned.{Owned}
@@ -14,7 +14,7 @@ use Rattle.overlay_laws.specs.Entries.{In}
 use Rattle.overlay_laws.proofs.SaidLaws.{same_said, said_is, said_in_any_order}
 use Rattle.overlay_laws.proofs.WindowLaws.{append_within, said_by_joined}
 use Rattle.overlay_laws.proofs.EntryLaws.{says_left, says_right, says_cases}
-use Rattle.overlay_laws.proofs.HullLaws.{filter_in, in_either}
+use Rattle.overlay_laws.proofs.HullLaws.{in_either}
 use Rattle.data_sieving.specs.Sieving.{of_slot, got_cells, blob_at, HasGot, FitBlobs, places_of, HaveOnePlace}
 use Rattle.data_sieving.specs.Walked.{part_at, part_in, IsCovered, IsPast, IsNext, HasGotPart}
 use Rattle.data_sieving.proofs.CoveredBytes.{past_covered}

@@ -1,7 +1,7 @@
 -- One window of a loop over all windows.
 use Rattle.std.proofs.Common.{◌≡◌, ℕ, ◌+◌, ◌^◌, ◌≤◌, sym, ◌∙◌, ap, subst, List, [], ◌++◌, length, Option, arith}
 use Rattle.std.specs.Prelude.{IfSome, flat_map}
-use Rattle.overlay_laws.proofs.Members.{at_in}
+use Rattle.serial_spec.proofs.MemberLaws.{at_in}
 use Rattle.overlay_laws.specs.Entries.{In}
 use Rattle.nc_base.specs.declared.plan.Owned.{Owned}
 use Rattle.nc_base.specs.declared.plan.Post.{Post}

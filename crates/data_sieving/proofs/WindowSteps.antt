@@ -5,7 +5,7 @@ use Rattle.std.specs.List.{range_with_len}
 use Rattle.std.proofs.lemmas.List.FromFn.{length-range_with_len}
 use Rattle.std.proofs.lemmas.Bool.{lt-ltb, le-leb, lt-leb, leb-true}
 use borrow.Author.Tests.{ltb-true, ltb-false}
-use Rattle.overlay_laws.proofs.Members.{in_filter}
+use Rattle.serial_spec.proofs.MemberLaws.{in_filter, filter_in}
 use Rattle.list_laws.proofs.Truth.{equal_below, equal_true}
 use Rattle.nc_base.specs.declared.plan.Owned.{Owned}
 use Rattle.file_domains.specs.declared.walk.Window.{Window}
@@ -13,7 +13,8 @@ use Rattle.serial_spec.specs.DeviceCalls.{in_order, first_of, hull_len, sieved, 
 use Rattle.overlay_laws.specs.Entries.{In, ranges}
 use Rattle.overlay_laws.specs.Hulls.{IsAscending}
 use Rattle.overlay_laws.specs.Walks.{told_of}
-use Rattle.overlay_laws.proofs.HullLaws.{filter_in, filter_ascends, filter_short, in_range, range_low, range_high, range_ascends, last_most, last_below}
+use Rattle.list_laws.proofs.Maps.{filter_at_most}
+use Rattle.overlay_laws.proofs.HullLaws.{filter_ascends, in_range, range_low, range_high, range_ascends, last_most, last_below}
 use Rattle.overlay_laws.proofs.WalkLaws.{drop_first, filter_all, sieved_walked}
 use Rattle.overlay_laws.proofs.CoverLaws.{same_ascending, triple_same}
 use Rattle.file_domains.proofs.WalkSteps.{walked_enough}
@@ -163,7 +164,7 @@ sieve_first : (size a : ℕ) (ys xs : List ℕ) → 1 ≤ size → xs ≡ a ∷ 
 sieve_first size a ys xs h e =
     subst (λ (l : List ℕ). sieving_windows size l ≡ filter (λ (y : ℕ). nat_lt y (a + size)) l ∷ sieving_windows size (filter (λ (y : ℕ). nat_le (a + size) y) l)) (sym e)
     (ap (λ (r : List (List ℕ)). filter (λ (y : ℕ). nat_lt y (a + size)) (a ∷ ys) ∷ r)
-    (enough (length ys) size (filter (λ (y : ℕ). nat_le (a + size) y) ys) (filter_short (λ (y : ℕ). nat_le (a + size) y) ys)
+    (enough (length ys) size (filter (λ (y : ℕ). nat_le (a + size) y) ys) (filter_at_most (λ (y : ℕ). nat_le (a + size) y) ys)
     ∙ ap (λ (b : List ℕ). sieving_windows size b)
     (sym (drop_first a (filter (λ (y : ℕ). nat_le (a + size) y) ys) (nat_le (a + size) a) (lt-leb (a + size) a (omega arith))))))
 

@@ -7,7 +7,7 @@ use Rattle.std.specs.List.{range_with_len, AllWithin}
 use Rattle.std.specs.List.Sorted.{IsPartitionedBy}
 use Rattle.std.proofs.lemmas.Option.{same_Some, slice_get-get_or}
 use Rattle.std.proofs.lemmas.Bool.{le-leb, leb-true, leb-false}
-use Rattle.overlay_laws.proofs.Members.{at_in}
+use Rattle.serial_spec.proofs.MemberLaws.{at_in}
 use Rattle.list_laws.proofs.Truth.{equal_above}
 use Rattle.list_laws.proofs.Optional.{no_none_some}
 use Rattle.nc_base.specs.declared.plan.Extent.{Extent}

@@ -12,7 +12,9 @@ use Rattle.overlay_laws.specs.Entries.{In}
 use Rattle.overlay_laws.specs.Lines.{EndBelow}
 use Rattle.overlay_laws.specs.Walks.{spans, below, above, IsCover, end_after, is_single, first_at, told_of, walked, round_end}
 use Rattle.overlay_laws.proofs.WalkLaws.{filter_same, take_first, drop_first, windows_walked}
-use Rattle.overlay_laws.proofs.HullLaws.{filter_short, filter_in, filter_ascends, flat_in, range_high, range_low, in_either}
+use Rattle.serial_spec.proofs.MemberLaws.{filter_in}
+use Rattle.list_laws.proofs.Maps.{filter_at_most}
+use Rattle.overlay_laws.proofs.HullLaws.{filter_ascends, flat_in, range_high, range_low, in_either}
 use Rattle.overlay_laws.proofs.DomainLaws.{filter_two}
 use Rattle.overlay_laws.proofs.CoverLaws.{spans_below, spans_above, below_told, range_first, past_round, spans_below_none, spans_ascend, spans_past, triple_same}
 use Rattle.std.specs.Iterator.{MakesProgress, item_count}
@@ -32,7 +34,7 @@ walked_enough stop (suc f) zero [] h k = refl
 walked_enough stop (suc f) zero (x ∷ xs) h k = absurd (omega arith)
 walked_enough stop (suc f) (suc g) [] h k = refl
 walked_enough stop (suc f) (suc g) (x ∷ xs) h k =
-    let short = filter_short (λ y. nat_le (stop x) y) xs in
+    let short = filter_at_most (λ y. nat_le (stop x) y) xs in
     ap (λ r. filter (λ y. nat_lt y (stop x)) (x ∷ xs) ∷ r) (walked_enough stop f g (filter (λ y. nat_le (stop x) y) xs) (omega arith) (omega arith))
 
 -- the first window of a walk over these bytes, and the others
@@ -44,7 +46,7 @@ walked_first stop x ys bytes h e =
     (ap (λ r. filter (λ y. nat_lt y (stop x)) (x ∷ ys) ∷ r)
     (let dropped : filter (λ y. nat_le (stop x) y) (x ∷ ys) ≡ filter (λ y. nat_le (stop x) y) ys
     = drop_first x (filter (λ y. nat_le (stop x) y) ys) (nat_le (stop x) x) (lt-leb (stop x) x h) in
-    let short = filter_short (λ y. nat_le (stop x) y) ys in
+    let short = filter_at_most (λ y. nat_le (stop x) y) ys in
     walked_enough stop (length ys) (length (filter (λ y. nat_le (stop x) y) ys)) (filter (λ y. nat_le (stop x) y) ys) short (omega arith)
     ∙ ap (λ (b : List ℕ). walked stop (length b) b) (sym dropped)))
 

@@ -12,9 +12,10 @@ use Rattle.overlay_laws.specs.Entries.{In, ranges, HaveSame}
 use Rattle.overlay_laws.specs.Hulls.{IsAscending}
 use Rattle.overlay_laws.specs.Parts.{joined}
 use Rattle.overlay_laws.specs.Walks.{spans, told_of, IsCover}
-use Rattle.overlay_laws.proofs.HullLaws.{windows_have, filter_in, filter_ascends, in_left, in_right, in_either, in_flat, flat_in, in_range, range_low, any_in, in_any, first_least, last_most, div_grows}
+use Rattle.overlay_laws.proofs.HullLaws.{windows_have, filter_ascends, in_left, in_right, in_either, in_flat, flat_in, in_range, range_low, any_in, in_any, first_least, last_most, div_grows}
 use Rattle.list_laws.proofs.Truth.{equal_true}
-use Rattle.overlay_laws.proofs.Members.{in_filter, in_map, map_in}
+use Rattle.serial_spec.proofs.MemberLaws.{in_filter, filter_in}
+use Rattle.overlay_laws.proofs.Members.{in_map, map_in}
 use Rattle.overlay_laws.proofs.CoverLaws.{same_ascending, spans_ascend}
 use Rattle.file_domains.specs.Domains.{LiesIn}
 use Rattle.file_domains.specs.Rounds.{bytes_in, window_told, windows_of}

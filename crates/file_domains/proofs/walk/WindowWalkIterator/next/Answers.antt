@@ -1,6 +1,7 @@
 -- A window is the first of those left.
 use Rattle.std.proofs.Common.{ℕ, ◌-◌, ◌^◌, sym, ◌∙◌, ap, min, arith}
-use Rattle.overlay_laws.proofs.Members.{entry_in, at_in}
+use Rattle.serial_spec.proofs.MemberLaws.{at_in}
+use Rattle.overlay_laws.proofs.Members.{entry_in}
 use Rattle.file_domains.specs.Rounds.{IsWalk, windows_left}
 use Rattle.file_domains.proofs.CoverParts.{get_is, long_enough}
 use Rattle.file_domains.proofs.WalkSteps.{next_window_at, empty_left, none_left_at, goes_on, first_ends, stops_past}

@@ -1,6 +1,6 @@
 -- A row has one dimension less.
 use Rattle.std.proofs.Common.{◌+◌, ◌*◌, length}
-use Rattle.fill_records.proofs.boxes.Cutter.+cutting.Given as goal
+use Rattle.fill_records.proofs.box_parts.Cutter.+cutting.Given as goal
 
 abbrev pub decreases-cut : goal.decreases-cut
 decreases-cut l = 4 * length l.counts.now
