@@ -136,4 +136,4 @@ returns-clause-read g c =
     (subst (λ (t : List (List (List ℕ))). OnOk c.take_all-came.result (HaveTakenTurns plan.list.now mid last t filled)) given
     (subst (λ (ws : List (ReadWorker g.row.D.Denot)). OnOk c.take_all-came.result (HaveTakenTurns plan.list.now ws last c.deref_mut-3.result.now filled)) twice.same c.take_all-came.ensures.taken))
     (subst (λ (ws : List (ReadWorker g.row.D.Denot)). OnOk c.join_all-end.result ((worker : ReadWorker g.row.D.Denot) → In ws worker
-    → AreRead (get_turns plan (domain_of worker)) (from (part_of worker)) (held (part_of worker)) worker.shelf.line.items)) whole c.join_all-end.ensures.read)))
+    → AreRead (get_turns plan (domain_of worker)) (from (part_of worker)) (held (part_of worker)) worker.shelf.line.items)) twice.whole c.join_all-end.ensures.read)))
