@@ -18,7 +18,8 @@ use Rattle.overlay_laws.specs.Entries.{In}
 use Rattle.overlay_laws.specs.Lines.{EndBelow}
 use Rattle.overlay_laws.specs.Walks.{end_after, first_at, spans, told_of, IsCover}
 use Rattle.overlay_laws.proofs.CoverLaws.{hull_told, spans_ascend}
-use Rattle.overlay_laws.proofs.HullLaws.{ceil_covers, filter_in, first_least, in_left, in_range, last_most}
+use Rattle.serial_spec.proofs.MemberLaws.{filter_in}
+use Rattle.overlay_laws.proofs.HullLaws.{ceil_covers, first_least, in_left, in_range, last_most}
 use Rattle.overlay_laws.proofs.WalkLaws.{filter_none, windows_walked}
 use Rattle.file_domains.specs.Domains.{border, low_of, share_of}
 use Rattle.file_domains.specs.Rounds.{bytes_in}

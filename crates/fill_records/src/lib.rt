@@ -2,7 +2,7 @@
 //! format specification, the default fill values of its types and the attribute `_FillValue`).
 #![tactic(auto)]
 
-mod boxes;
+mod box_parts;
 mod shares;
 mod slabs;
 mod values;

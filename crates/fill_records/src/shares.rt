@@ -5,7 +5,7 @@ ghost use Rattle.serial_spec.specs.Fill.{share_begin};
 ghost use Rattle.serial_spec.specs.Layout as layout;
 ghost use Rattle.serial_spec.specs.Layout.{product};
 
-use crate::boxes::Cutter;
+use crate::box_parts::Cutter;
 use nc_base::{Memory, PartList, SizeList};
 use std::alloc::Global;
 

@@ -79,3 +79,7 @@ next_numbered {X} {Y} f xs i m next x d done now whole there is more step all =
     ∙ ap (λ (y : X). done ++ flat_map f (enumerate_from m (y ∷ drop (i + 1) xs))) (sym is)
     ∙ ap (λ (ys : List X). done ++ flat_map f (enumerate_from m ys)) (sym (drop_more xs i d there))
     ∙ all
+
+pub flat_same : {A B : Type 0} (f g : A → List B) → ((x : A) → f x ≡ g x) → (xs : List A) → flat_map f xs ≡ flat_map g xs
+flat_same f g h [] = refl
+flat_same f g h (x ∷ xs) = λ t. h x t ++ flat_same f g h xs t

@@ -70,3 +70,7 @@ not_some (Some x) h = absurd (cc)
 
 pub some_same : {A : Type 0} (x y : A) → Some x ≡ Some y → x ≡ y
 some_same x y h = cc
+
+pub some_of_map : {A B : Type 0} (g : A → B) (o : Option A) (y : B) → option_map g o ≡ Some y → (x : A) × (o ≡ Some x) × (g x ≡ y)
+some_of_map g None y h = absurd (cc)
+some_of_map g (Some x) y h = let same : g x ≡ y = cc in (x, refl, same)

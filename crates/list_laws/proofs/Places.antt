@@ -1,6 +1,6 @@
 -- The entries of a list by their places.
 use Rattle.std.proofs.Common.{◌≡◌, ℕ, zero, suc, ◌<◌, ◌≤◌, refl, ap, List, [], ◌∷◌, length, take, set, Some, arith, Bool, subst, nat_lt, position, drop, replicate, sym, get_or, ◌+◌, ◌∙◌, ◌++◌, true, false}
-use Rattle.std.specs.List.{position_or_len}
+use Rattle.std.specs.List.{position_or_len, enumerate_from}
 use Rattle.std.specs.Prelude.{slice_get, zip}
 use Rattle.std.proofs.lemmas.Bool.{ltb-true}
 use Rattle.std.proofs.lemmas.Option.{cond_some, slice_get_within, get_or_from_slice_get, same_Some}
@@ -109,3 +109,21 @@ pub get_right : {A : Type 0} (xs ys : List A) (k m : ℕ) → m ≡ length xs + 
 get_right [] ys k m h = let e : m ≡ k = omega arith in ap (λ (n : ℕ). slice_get ys n) e
 get_right (x ∷ xs) ys k zero h = absurd (omega arith)
 get_right (x ∷ xs) ys k (suc m) h = get_right xs ys k m (omega arith)
+
+-- the entry of a numbered list
+pub entry_numbered : {X : Type 0} (n : ℕ) (xs : List X) (k : ℕ) (x : X) → slice_get xs k ≡ Some x → slice_get (enumerate_from n xs) k ≡ Some (n + k, x)
+entry_numbered n [] k x h = absurd cc
+entry_numbered n (y ∷ xs) zero x h =
+    let same : y ≡ x = cc in
+    let plain : n ≡ n + 0 = omega arith in
+    λ t. Some (plain t, same t)
+entry_numbered n (y ∷ xs) (suc k) x h =
+    let next : n + 1 + k ≡ n + suc k = omega arith in
+    entry_numbered (n + 1) xs k x h ∙ (λ t. Some (next t, x))
+
+pub middle_at : {A : Type 0} (xs rest whole : List A) (x : A) → xs ++ x ∷ rest ≡ whole → slice_get whole (length xs) ≡ Some x
+middle_at {A} xs rest whole x e = ap (λ (v : List A). slice_get v (length xs)) (sym e) ∙ here xs
+  where
+    here : (zs : List A) → slice_get (zs ++ x ∷ rest) (length zs) ≡ Some x
+    here [] = refl
+    here (z ∷ zs) = here zs

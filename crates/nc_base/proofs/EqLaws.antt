@@ -22,20 +22,11 @@ not_true false h = refl
 pub equal_numbers : (xs ys : List ℤ) → length xs ≡ length ys → ((k : ℕ) → k < length xs → slice_get xs k ≡ slice_get ys k) → true ≡ pointwise int_eq xs ys
 equal_numbers xs ys h each = sym ((signed_items xs ys).1 (same_lists xs ys h each))
 
-pub longer_numbers : (xs ys : List ℤ) → (length xs ≡ length ys → ⊥) → false ≡ pointwise int_eq xs ys
-longer_numbers xs ys h = sym (not_true (pointwise int_eq xs ys) (λ e. h (ap (λ (l : List ℤ). length l) ((signed_items xs ys).0 e))))
-
 pub other_numbers : (xs ys : List ℤ) (k : ℕ) → (slice_get xs k ≡ slice_get ys k → ⊥) → false ≡ pointwise int_eq xs ys
 other_numbers xs ys k h = sym (not_true (pointwise int_eq xs ys) (λ e. h (ap (λ (l : List ℤ). slice_get l k) ((signed_items xs ys).0 e))))
 
 pub equal_bits : (xs ys : List ℕ) → length xs ≡ length ys → ((k : ℕ) → k < length xs → slice_get xs k ≡ slice_get ys k) → true ≡ pointwise nat_eq xs ys
 equal_bits xs ys h each = sym ((bytes_decides xs ys).1 (same_lists xs ys h each))
-
-pub longer_bits : (xs ys : List ℕ) → (length xs ≡ length ys → ⊥) → false ≡ pointwise nat_eq xs ys
-longer_bits xs ys h = sym (not_true (pointwise nat_eq xs ys) (λ e. h (ap (λ (l : List ℕ). length l) ((bytes_decides xs ys).0 e))))
-
-pub other_bits : (xs ys : List ℕ) (k : ℕ) → (slice_get xs k ≡ slice_get ys k → ⊥) → false ≡ pointwise nat_eq xs ys
-other_bits xs ys k h = sym (not_true (pointwise nat_eq xs ys) (λ e. h (ap (λ (l : List ℕ). slice_get l k) ((bytes_decides xs ys).0 e))))
 
 pub after_some : {A : Type 0} (first old new xs : List A) (k : ℕ) (x : A) → slice_get xs k ≡ Some x → old ≡ first ++ take k xs → new ≡ old ++ x ∷ [] → new ≡ first ++ take (k + 1) xs
 after_some {A} first old new xs k x there before added =

@@ -7,7 +7,8 @@ use Rattle.std.specs.Prelude.{fold, flat_map, filter, map, zip, nat_lt, nat_le, 
 use Rattle.std.specs.List.{range_with_len, list_any}
 use Rattle.std.proofs.lemmas.Bool.{or_left, or_right, or_cases}
 use borrow.Author.Tests.{ltb-false, eqb-true}
-use Rattle.overlay_laws.proofs.Members.{in_filter, in_map}
+use Rattle.serial_spec.proofs.MemberLaws.{in_filter, filter_in}
+use Rattle.overlay_laws.proofs.Members.{in_map}
 use Rattle.list_laws.proofs.Truth.{no_false, equal_true}
 use Rattle.serial_spec.proofs.SaidLaws.{puts_are_cells, puts_say}
 use Rattle.nc_base.specs.declared.header.Header.{Header}
@@ -24,18 +25,9 @@ use Rattle.overlay_laws.specs.Hulls.{hulls, IsAscending, written_over, AreHints}
 use Rattle.overlay_laws.proofs.SaidLaws.{said_is, same_said}
 use Rattle.overlay_laws.proofs.EntryLaws.{says_cases}
 use Rattle.overlay_laws.proofs.WindowLaws.{windows_done}
+use Rattle.list_laws.proofs.Maps.{filter_at_most}
 
 -- ---- members of lists
-
-kept_in : {X : Type 0} (t : X → Bool) (y x : X) (ys rest : List X) (b : Bool) → t y ≡ b → (In rest x → In ys x × (t x ≡ true))
-    → In (cond b (y ∷ rest) rest) x → In (y ∷ ys) x × (t x ≡ true)
-kept_in {X} t y x ys rest true e ih (inl g) = (inl g, subst (λ (z : X). t z ≡ true) g e)
-kept_in t y x ys rest true e ih (inr h) = let r = ih h in (inr r.0, r.1)
-kept_in t y x ys rest false e ih h = let r = ih h in (inr r.0, r.1)
-
-pub filter_in : {X : Type 0} (t : X → Bool) (xs : List X) (x : X) → In (filter t xs) x → In xs x × (t x ≡ true)
-filter_in t [] x h = absurd h
-filter_in t (y ∷ ys) x h = kept_in t y x ys (filter t ys) (t y) refl (filter_in t ys x) h
 
 map_in : {X Y : Type 0} (f : X → Y) (xs : List X) (y : Y) → In (map f xs) y → (x : X) × (f x ≡ y)
 map_in f [] y h = absurd h
@@ -270,14 +262,6 @@ collective_only hints bytes w x h k =
 
 -- ---- sieving windows
 
-kept_short : (t : ℕ → Bool) (y : ℕ) (ys rest : List ℕ) (b : Bool) → length rest ≤ length ys → length (cond b (y ∷ rest) rest) ≤ suc (length ys)
-kept_short t y ys rest true h = omega arith
-kept_short t y ys rest false h = omega arith
-
-pub filter_short : (t : ℕ → Bool) (xs : List ℕ) → length (filter t xs) ≤ length xs
-filter_short t [] = omega arith
-filter_short t (y ∷ ys) = kept_short t y ys (filter t ys) (t y) (filter_short t ys)
-
 later_window : (w : List ℕ) (ws : List (List ℕ)) (x : ℕ) → HasWindow ws x → HasWindow (w ∷ ws) x
 later_window w ws x h = record { window = h.window; is_one = inr h.is_one; has = h.has; ascends = h.ascends }
 
@@ -287,7 +271,7 @@ sieved_have zero buffer (y ∷ ys) x h l asc k = absurd (omega arith)
 sieved_have (suc fuel) buffer [] x h l asc k = absurd k
 sieved_have (suc fuel) buffer (y ∷ ys) x h l asc k =
     by_test
-    (λ g. sieved_have fuel buffer (filter (λ z. nat_le (y + buffer) z) ys) x h (let m = filter_short (λ z. nat_le (y + buffer) z) ys in omega arith)
+    (λ g. sieved_have fuel buffer (filter (λ z. nat_le (y + buffer) z) ys) x h (let m = filter_at_most (λ z. nat_le (y + buffer) z) ys in omega arith)
     (filter_ascends (λ z. nat_le (y + buffer) z) ys asc.1) g)
     k (nat_lt x (y + buffer)) refl
   where

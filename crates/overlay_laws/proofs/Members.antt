@@ -1,22 +1,11 @@
--- Members of lists: of filtered, mapped, numbered and paired ones, by place, of a list's first entries.
+-- Members of lists: of filtered, mapped, entry_numbered and paired ones, by place, of a list's first entries.
 use Rattle.std.proofs.Common.{◌≡◌, ℕ, zero, suc, ◌+◌, ◌<◌, refl, subst, length, take, get_or, ◌∙◌, ap, inl, inr, List, [], ◌∷◌, map, Bool, true, false, cond, Some, arith}
 use Rattle.std.specs.Prelude.{filter, zip, slice_get}
 use Rattle.std.specs.List.{enumerate_from, AllByRecursion}
 use Rattle.std.proofs.lemmas.Option.{slice_get_read}
 use Rattle.overlay_laws.specs.Entries.{In}
-
-pub in_filter : {X : Type 0} (t : X → Bool) (xs : List X) (x : X) → In xs x → t x ≡ true → In (filter t xs) x
-in_filter t [] x h e = absurd h
-in_filter {X} t (y ∷ ys) x (inl g) e = kept (t y) (ap t g ∙ e)
-  where
-    kept : (b : Bool) → b ≡ true → In (cond b (y ∷ filter t ys) (filter t ys)) x
-    kept true f = inl g
-    kept false f = cc
-in_filter {X} t (y ∷ ys) x (inr h) e = kept (in_filter t ys x h e) (t y)
-  where
-    kept : In (filter t ys) x → (b : Bool) → In (cond b (y ∷ filter t ys) (filter t ys)) x
-    kept k true = inr k
-    kept k false = k
+use Rattle.serial_spec.proofs.MemberLaws.{at_in}
+use Rattle.list_laws.proofs.Places.{entry_numbered}
 
 pub in_map : {X Y : Type 0} (f : X → Y) (xs : List X) (x : X) → In xs x → In (map f xs) (f x)
 in_map f [] x h = absurd h
@@ -35,16 +24,6 @@ each_in P (y ∷ ys) x h (inr m) = each_in P ys x h.1 m
 
 -- ---- by place
 
-pub in_at : {X : Type 0} (xs : List X) (x : X) → In xs x → (k : ℕ) × (slice_get xs k ≡ Some x)
-in_at [] x h = absurd h
-in_at (y ∷ xs) x (inl e) = (0, ap Some e)
-in_at (y ∷ xs) x (inr h) = let r = in_at xs x h in (suc r.0, r.1)
-
-pub at_in : {X : Type 0} (xs : List X) (k : ℕ) (x : X) → slice_get xs k ≡ Some x → In xs x
-at_in [] k x h = absurd cc
-at_in (y ∷ xs) zero x h = inl cc
-at_in (y ∷ xs) (suc k) x h = inr (at_in xs k x h)
-
 -- an entry that is read is a member
 pub read_in : {X : Type 0} (xs : List X) (i : ℕ) (x : X) → i < length xs → x ≡ get_or xs i x → In xs x
 read_in xs i x there is = at_in xs i x (slice_get_read xs (length xs) i x refl there is)
@@ -62,20 +41,10 @@ in_taken (suc n) (y ∷ xs) x (inr h) = inr (in_taken n xs x h)
 
 -- ---- numbers
 
-numbered : {X : Type 0} (n : ℕ) (xs : List X) (k : ℕ) (x : X) → slice_get xs k ≡ Some x → slice_get (enumerate_from n xs) k ≡ Some (n + k, x)
-numbered n [] k x h = absurd cc
-numbered n (y ∷ xs) zero x h =
-    let same : y ≡ x = cc in
-    let plain : n ≡ n + 0 = omega arith in
-    λ t. Some (plain t, same t)
-numbered n (y ∷ xs) (suc k) x h =
-    let next : n + 1 + k ≡ n + suc k = omega arith in
-    numbered (n + 1) xs k x h ∙ (λ t. Some (next t, x))
-
 pub numbered_at : {X : Type 0} (xs : List X) (k : ℕ) (x : X) → slice_get xs k ≡ Some x → slice_get (enumerate_from 0 xs) k ≡ Some (k, x)
 numbered_at xs k x h =
     let plain : 0 + k ≡ k = omega arith in
-    numbered 0 xs k x h ∙ (λ t. Some (plain t, x))
+    entry_numbered 0 xs k x h ∙ (λ t. Some (plain t, x))
 
 pub in_numbered : {X : Type 0} (xs : List X) (k : ℕ) (x : X) → slice_get xs k ≡ Some x → In (enumerate_from 0 xs) (k, x)
 in_numbered xs k x h = at_in (enumerate_from 0 xs) k (k, x) (numbered_at xs k x h)

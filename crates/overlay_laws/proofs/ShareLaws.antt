@@ -5,7 +5,7 @@ use Rattle.std.specs.Prelude.{zip, slice_get, option_map, ◌==◌}
 use Rattle.std.specs.List.{list_any}
 use Rattle.std.proofs.lemmas.Bool.{or_left, or_right, and_from}
 use Rattle.list_laws.proofs.Truth.{equal_true}
-use Rattle.list_laws.proofs.Optional.{no_none_some}
+use Rattle.list_laws.proofs.Optional.{no_none_some, some_of_map}
 use Rattle.nc_base.specs.declared.header.Header.{Header}
 use Rattle.nc_base.specs.declared.plan.Post.{Post}
 use Rattle.serial_spec.specs.SharedByte.{Puts, Key, Holding, bytes_of, holdings, same_key, has_byte, Holds, IsUnshared, shared_pair, said_by_puts, IsOwnOnce}
@@ -77,14 +77,10 @@ no_pair_once header puts none own = unshared_once header puts (pair_none (holdin
 
 -- ---- no request holds a byte twice
 
-some_of : (puts : Puts) (f : ℕ × Post → Holding) (i : ℕ) (g : Holding) (o : Option (ℕ × Post)) → option_map f o ≡ Some g → (p : ℕ × Post) × (o ≡ Some p) × (f p ≡ g)
-some_of puts f i g None e = no_none_some g e
-some_of puts f i g (Some p) e = (p, refl, same_Some (f p) g e)
-
 put_at : (header : Header) (puts : Puts) (i : ℕ) (g : Holding) → slice_get (holdings header puts) i ≡ Some g
     → (p : ℕ × Post) × (slice_get puts i ≡ Some p) × (((p.0, p.1.id), bytes_of header p.1) ≡ g)
 put_at header puts i g e =
-    some_of puts (λ (q : ℕ × Post). ((q.0, q.1.id), bytes_of header q.1)) i g (slice_get puts i)
+    some_of_map (λ (q : ℕ × Post). ((q.0, q.1.id), bytes_of header q.1)) (slice_get puts i) g
     (sym (slice_get-map (λ (q : ℕ × Post). ((q.0, q.1.id), bytes_of header q.1)) puts i) ∙ e)
 
 -- it is so where no two posts are of one request, and no post holds a byte twice

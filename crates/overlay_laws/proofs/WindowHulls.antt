@@ -7,7 +7,8 @@ use Rattle.std.specs.List.{range_with_len}
 use Rattle.serial_spec.specs.DeviceCalls.{first_of, hull_len, is_empty, last_of, windows}
 use Rattle.overlay_laws.specs.Entries.{In}
 use Rattle.overlay_laws.specs.Hulls.{IsAscending}
-use Rattle.overlay_laws.proofs.HullLaws.{filter_in, first_least, last_below}
+use Rattle.serial_spec.proofs.MemberLaws.{filter_in}
+use Rattle.overlay_laws.proofs.HullLaws.{first_least, last_below}
 use Rattle.overlay_laws.proofs.Members.{map_in}
 
 hull_short : (w : List ℕ) (n : ℕ) → 1 ≤ n → ((x y : ℕ) → In w x → In w y → x < y + n) → hull_len w ≤ n

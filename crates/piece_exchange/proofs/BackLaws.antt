@@ -6,7 +6,7 @@ use Rattle.std.proofs.lemmas.Slice.Zip.{all_zipped_more}
 use Rattle.std.specs.Prelude.{slice_get, zip, OnOk, IsErr, IsErrOf, IsOk}
 use Rattle.std.specs.List.{AllZip}
 use Rattle.std.specs.Result.{result_and}
-use Rattle.list_laws.proofs.Places.{entry_below, get_right}
+use Rattle.list_laws.proofs.Places.{entry_below}
 use Rattle.list_laws.proofs.Refills.{refilled}
 use Rattle.nc_base.specs.declared.plan.Extent.{Extent}
 use Rattle.nc_base.specs.declared.plan.Owned.{Owned}
@@ -14,7 +14,7 @@ use Rattle.nc_outside.specs.declared.disk.DiskErr.{DiskErr}
 use Rattle.nc_outside.specs.declared.disk.DiskErr.TheVariants.{Failed}
 use Rattle.overlay_laws.specs.Entries.{In, Source}
 use Rattle.overlay_laws.proofs.HullLaws.{in_either, in_right}
-use Rattle.overlay_laws.proofs.Members.{at_in, in_at}
+use Rattle.serial_spec.proofs.MemberLaws.{at_in, in_at}
 use Rattle.piece_exchange.specs.Put.{put_part, HasPut, PartState, SomeZip}
 use Rattle.piece_exchange.specs.Turns.{Told}
 use Rattle.piece_exchange.proofs.PutLaws.{told_nothing}
@@ -62,9 +62,6 @@ some_mapped f R (s ∷ ss) (y ∷ ys) (inr h) = inr (some_mapped f R ss ys h)
 
 pub middle_in : {A : Type 0} (xs rest whole : List A) (x : A) → xs ++ x ∷ rest ≡ whole → In whole x
 middle_in {A} xs rest whole x e = subst (λ (v : List A). In v x) e (in_right xs (x ∷ rest) x (inl refl))
-
-pub middle_at : {A : Type 0} (xs rest whole : List A) (x : A) → xs ++ x ∷ rest ≡ whole → slice_get whole (length xs) ≡ Some x
-middle_at {A} xs rest whole x e = ap (λ (v : List A). slice_get v (length xs)) (sym e) ∙ get_right xs (x ∷ rest) 0 (length xs) (omega arith)
 
 -- ---- puts that were done, or cut off by what came later
 

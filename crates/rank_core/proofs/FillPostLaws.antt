@@ -29,6 +29,7 @@ use Rattle.serial_spec.proofs.ElementLaws.{length-coordinates}
 use Rattle.rank_core.specs.Targets.{IsSmall}
 use Rattle.rank_core.proofs.SeparateLaws.{AreSeparate}
 use Rattle.list_laws.proofs.Places.{get_left, get_right}
+use Rattle.serial_spec.proofs.MemberLaws.{in_at}
 
 -- ---- how many elements they have
 
@@ -166,11 +167,6 @@ boxes_once lengths from to h k = subst StandOnce (sym (boxes_right lengths from 
 
     once : StandOnce (take (to - from) (drop from (coordinates lengths)))
     once i j a e f = let x = number i a e in let y = number j a f in omega arith
-
-in_at : (xs : List (List ℕ)) (x : List ℕ) → In xs x → (k : ℕ) × (slice_get xs k ≡ Some x)
-in_at [] x h = absurd h
-in_at (y ∷ xs) x (inl e) = (0, ap Some e)
-in_at (y ∷ xs) x (inr h) = let r = in_at xs x h in (suc r.0, r.1)
 
 not_in_both : (xs ys : List (List ℕ)) (a : List ℕ) → StandOnce (xs ++ ys) → In xs a → In ys a → ⊥
 not_in_both xs ys a once i j =

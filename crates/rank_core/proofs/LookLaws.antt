@@ -19,7 +19,7 @@ use Rattle.nc_base.specs.declared.request.Given.{Given}
 use Rattle.nc_base.specs.declared.request.Region.{Region}
 use Rattle.nc_base.specs.declared.request.Values.{Values}
 use Rattle.overlay_laws.specs.Entries.{In}
-use Rattle.overlay_laws.proofs.HullLaws.{filter_in}
+use Rattle.serial_spec.proofs.MemberLaws.{filter_in}
 use Rattle.serial_spec.specs.ExternalForm.{class_of, size_of}
 use Rattle.serial_spec.specs.SoundHeaders.{is_sound}
 use Rattle.serial_spec.specs.Layout.{product}

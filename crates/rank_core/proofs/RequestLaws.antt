@@ -12,7 +12,8 @@ use Rattle.nc_base.specs.declared.request.PostKind.TheVariants.{Iput, Iget, Bput
 use Rattle.nc_base.specs.declared.request.Direction.{Direction}
 use Rattle.nc_base.specs.declared.request.Direction.TheVariants as way
 use Rattle.overlay_laws.specs.Entries.{In}
-use Rattle.overlay_laws.proofs.HullLaws.{filter_in, flat_in}
+use Rattle.serial_spec.proofs.MemberLaws.{filter_in}
+use Rattle.overlay_laws.proofs.HullLaws.{flat_in}
 use Rattle.serial_spec.specs.RankMachine as machine
 use Rattle.serial_spec.specs.RankMachine.{Posted, Status, NullRequest, Waiting, Gone, named, puts_in, gets_in, status_of, item_code, items_from, items_of, has_id}
 use Rattle.serial_spec.specs.RegionCheck.{is_ok_code}

@@ -4,7 +4,8 @@ use Rattle.std.specs.Prelude.{filter, flat_map, slice_get, bytes_eq}
 use Rattle.std.specs.List.{list_any, range_with_len}
 use Rattle.std.proofs.lemmas.Bool.{both_ways, cases_order, or_left, or_parts, or_right}
 use Rattle.std.proofs.lemmas.Slice.Eq.{bytes_eq-Decides}
-use Rattle.overlay_laws.proofs.Members.{each_in, map_in, at_in}
+use Rattle.serial_spec.proofs.MemberLaws.{at_in, filter_in, any_member}
+use Rattle.overlay_laws.proofs.Members.{each_in, map_in}
 use Rattle.nc_base.specs.declared.answer.Code.TheVariants as code
 use Rattle.nc_base.specs.declared.header.Header.{Header}
 use Rattle.nc_base.specs.declared.header.Var.{Var}
@@ -12,7 +13,7 @@ use Rattle.nc_base.specs.declared.plan.Post.{Post}
 use Rattle.nc_base.specs.declared.request.Direction.TheVariants.{Put}
 use Rattle.nc_base.specs.declared.request.Region.{Region}
 use Rattle.overlay_laws.specs.Entries.{In}
-use Rattle.overlay_laws.proofs.HullLaws.{filter_in, flat_in, in_flat, range_high, range_low}
+use Rattle.overlay_laws.proofs.HullLaws.{flat_in, in_flat, range_high, range_low}
 use Rattle.serial_spec.specs.ExternalForm.{size_of}
 use Rattle.serial_spec.specs.SoundHeaders.{is_sound}
 use Rattle.serial_spec.specs.Place.{place, AreApart, IsElement, IsElementBelow}
@@ -26,11 +27,6 @@ use Rattle.vara_extents.proofs.OnceLaws.{post_once}
 
 -- ---- members
 
-some_in : {A : Type 0} (test : A → Bool) (xs : List A) (x : A) → In xs x → test x ≡ true → list_any test xs ≡ true
-some_in test [] x h e = absurd h
-some_in test (y ∷ ys) x (inl f) e = or_left (test y) (list_any test ys) (ap test f ∙ e)
-some_in test (y ∷ ys) x (inr h) e = or_right (test y) (list_any test ys) (some_in test ys x h e)
-
 -- ---- regions and posts, no two of which share an element
 
 abbrev pub ShareNone : Region → Region → Type 0
@@ -42,14 +38,14 @@ AreSeparate (g ∷ gs) = ((h : Region) → In gs h → ShareNone g h) × AreSepa
 
 in_some : (gs : List Region) (h : Region) (a : List ℕ) → In gs h → In (elements h) a → has_index (flat_map elements gs) a ≡ true
 in_some gs h a i j =
-    some_in (λ index. bytes_eq index a) (flat_map elements gs) a (in_flat elements gs h a i j) ((bytes_eq-Decides a a).1 refl)
+    any_member (λ index. bytes_eq index a) (flat_map elements gs) a (in_flat elements gs h a i j) ((bytes_eq-Decides a a).1 refl)
 
 separate_more : (b : Bool) (g : Region) (gs : List Region) → list_any (has_index (flat_map elements gs)) (elements g) ≡ false
     → AreSeparate (filter has_element gs) → AreSeparate (cond b (g ∷ filter has_element gs) (filter has_element gs))
 separate_more false g gs h rest = rest
 separate_more true g gs h rest = (
   λ r i a j k. both_ways (list_any (has_index (flat_map elements gs)) (elements g)) h
-      (some_in (has_index (flat_map elements gs)) (elements g) a j (in_some gs r a (filter_in has_element gs r i).0 k)),
+      (any_member (has_index (flat_map elements gs)) (elements g) a j (in_some gs r a (filter_in has_element gs r i).0 k)),
   rest,
 )
 

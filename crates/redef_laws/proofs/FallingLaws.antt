@@ -5,7 +5,8 @@ use Rattle.std.specs.Prelude.{filter, nat_le}
 use Rattle.std.proofs.lemmas.Bool.{leb-true, leb-false}
 use Rattle.serial_spec.specs.DeviceCalls.{Slab, placed_slab, highest_first}
 use Rattle.overlay_laws.specs.Entries.{In, HaveSame}
-use Rattle.overlay_laws.proofs.HullLaws.{filter_in, in_left, in_right, in_either}
+use Rattle.serial_spec.proofs.MemberLaws.{filter_in, in_filter}
+use Rattle.overlay_laws.proofs.HullLaws.{in_left, in_right, in_either}
 use Rattle.redef_laws.specs.RisingSlabs.{changes, IsRisen}
 use Rattle.redef_laws.proofs.ChainLaws.{Ascends, AreDistinct, below, risen_ascends, ascends_distinct}
 use Rattle.redef_laws.proofs.SumLaws.{HaveSameSums, sums_members, sums_back, sums_distinct}
@@ -16,19 +17,6 @@ Descends [] = Unit {0}
 Descends (s ∷ ss) = ((t : Slab) → In ss t → t.from < s.from) × Descends ss
 
 -- ---- what stays of a list
-
-in_filter : (t : Slab → Bool) (ss : List Slab) (s : Slab) → In ss s → t s ≡ true → In (filter t ss) s
-in_filter t [] s h k = absurd h
-in_filter t (u ∷ ss) s (inl e) k = by_test (t u) (ap t e ∙ k)
-  where
-    by_test : (b : Bool) → b ≡ true → In (cond b (u ∷ filter t ss) (filter t ss)) s
-    by_test true f = inl e
-    by_test false f = cc
-in_filter t (u ∷ ss) s (inr h) k = by_test (t u) (in_filter t ss s h k)
-  where
-    by_test : (b : Bool) → In (filter t ss) s → In (cond b (u ∷ filter t ss) (filter t ss)) s
-    by_test true m = inr m
-    by_test false m = m
 
 filter_distinct : (t : Slab → Bool) (ss : List Slab) → AreDistinct ss → AreDistinct (filter t ss)
 filter_distinct t [] h = tt

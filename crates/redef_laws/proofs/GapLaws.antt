@@ -16,6 +16,7 @@ use Rattle.overlay_laws.proofs.WalkLaws.{filter_same, filter_none, filter_all}
 use Rattle.redef_laws.specs.RisingSlabs.{gaps, IsRisen}
 use Rattle.redef_laws.proofs.ChainLaws.{risen_past}
 use Rattle.std.proofs.lemmas.List.Elements.{filter-append}
+use Rattle.serial_spec.proofs.MemberLaws.{any_member}
 
 -- x is one of the slab's bytes in the new file
 abbrev pub covers : ℕ → Slab → Bool
@@ -184,11 +185,6 @@ stores_of_gaps z at ((from, suc n) ∷ gs) h k =
     ∙ ap (λ c. stores z from (suc n) ++ c) (stores_of_gaps z (from + suc n + 1) gs h k.1)
 
 -- ---- lists with the same members
-
-any_member : (t : Slab → Bool) (ss : List Slab) (s : Slab) → In ss s → t s ≡ true → list_any t ss ≡ true
-any_member t [] s h k = absurd h
-any_member t (u ∷ ss) s (inl e) k = or_left (t u) (list_any t ss) (ap t e ∙ k)
-any_member t (u ∷ ss) s (inr h) k = or_right (t u) (list_any t ss) (any_member t ss s h k)
 
 any_found : (t : Slab → Bool) (ss : List Slab) → list_any t ss ≡ true → (s : Slab) × In ss s × (t s ≡ true)
 any_found t [] h = cc

@@ -8,7 +8,7 @@ use Rattle.nc_base.specs.declared.header.Header.{Header}
 use Rattle.nc_base.specs.declared.header.Var.{Var}
 use Rattle.serial_spec.specs.Layout.{is_record, recsize, slab, meet, share, records_meet, sharing_with, sharing_from}
 use Rattle.overlay_laws.specs.Entries.{In}
-use Rattle.overlay_laws.proofs.HullLaws.{filter_in}
+use Rattle.serial_spec.proofs.MemberLaws.{filter_in}
 use Rattle.overlay_laws.proofs.Members.{zip_left}
 
 -- any two places of the list have variables that share none

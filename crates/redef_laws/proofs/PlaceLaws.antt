@@ -9,7 +9,8 @@ use Rattle.std.specs.Option.{option_or}
 use Rattle.std.proofs.lemmas.List.Folds.{find-append}
 use Rattle.std.proofs.lemmas.Bool.{not-true, lt-ltb, le-leb, leb-true, ltb-true, ltb-false, leb-false}
 use Rattle.list_laws.proofs.Each.{each_append, each_weaker}
-use Rattle.overlay_laws.proofs.Members.{in_filter, in_map, map_in}
+use Rattle.serial_spec.proofs.MemberLaws.{in_filter}
+use Rattle.overlay_laws.proofs.Members.{in_map, map_in}
 use Rattle.nc_base.specs.declared.header.Header.{Header}
 use Rattle.nc_base.specs.declared.header.Var.{Var}
 use Rattle.serial_spec.specs.Layout.{slab, vsize, is_record, round_up}

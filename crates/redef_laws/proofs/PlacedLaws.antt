@@ -16,8 +16,9 @@ use Rattle.serial_spec.specs.HeaderBytes.{header_len}
 use Rattle.serial_spec.specs.SharedByte.{least}
 use Rattle.serial_spec.specs.Redefinition.{Numbered, fixed_of, records_in, old_of, new_of, by_begin, fixed_order, begin_at, fixed_begins, front_after, first_record, record_begins, begins_by_number, begin_of_number}
 use Rattle.overlay_laws.specs.Entries.{In}
-use Rattle.overlay_laws.proofs.HullLaws.{filter_in, in_either}
-use Rattle.overlay_laws.proofs.Members.{in_filter, in_map, in_numbered, numbered_in}
+use Rattle.overlay_laws.proofs.HullLaws.{in_either}
+use Rattle.serial_spec.proofs.MemberLaws.{in_filter, filter_in}
+use Rattle.overlay_laws.proofs.Members.{in_map, in_numbered, numbered_in}
 use Rattle.redef_laws.proofs.Ordered.{AreOrdered, by_begin_same, by_begin_ordered}
 
 -- ---- numbered variables

@@ -16,7 +16,8 @@ use Rattle.serial_spec.specs.SoundHeaders.{is_sound}
 use Rattle.serial_spec.specs.Layout.{is_record, recsize, slab, share}
 use Rattle.serial_spec.proofs.ApartLaws.{none_shared, slab_fits}
 use Rattle.overlay_laws.specs.Entries.{In}
-use Rattle.overlay_laws.proofs.HullLaws.{filter_in, in_left, in_right, in_flat, flat_in, in_range, range_low, range_high}
+use Rattle.serial_spec.proofs.MemberLaws.{filter_in}
+use Rattle.overlay_laws.proofs.HullLaws.{in_left, in_right, in_flat, flat_in, in_range, range_low, range_high}
 use Rattle.redef_laws.specs.RisingSlabs.{first_slab, lowest_first, fixed_slabs, record_slabs, in_record, slabs_of_record, rising, changes, gaps, IsRisen}
 use Rattle.redef_laws.specs.Shifted.{new_end, AreShifted}
 use Rattle.redef_laws.proofs.ChainLaws.{Ascends, AreDistinct, ascends_joined, lowest_members, lowest_ascends, shifted_risen}

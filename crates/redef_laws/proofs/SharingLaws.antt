@@ -25,7 +25,7 @@ use Rattle.serial_spec.proofs.ApartLaws.{none_from}
 use Rattle.var_layout.proofs.Soundness.{recsize_shared}
 use Rattle.var_layout.proofs.LaidApart.{shares_by, count_two}
 use Rattle.overlay_laws.specs.Entries.{In}
-use Rattle.overlay_laws.proofs.HullLaws.{filter_in}
+use Rattle.serial_spec.proofs.MemberLaws.{filter_in}
 use Rattle.redef_laws.proofs.GrownLaws.{IsFitVar, is_record_at}
 use Rattle.redef_laws.proofs.FitLaws.{checked}
 use Rattle.redef_laws.proofs.BeginLaws.{same_var, vsizes}

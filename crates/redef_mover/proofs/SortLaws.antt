@@ -19,6 +19,7 @@ use Rattle.redef_mover.specs.declared.slabs.Shift.{Shift}
 use Rattle.redef_mover.specs.Moves.{is_kind, slab_of}
 use Rattle.list_laws.proofs.Places.{first_same}
 use Rattle.std.proofs.lemmas.Bool.{cases_lt}
+use Rattle.list_laws.proofs.Appends.{cons_rest, nil_cons}
 
 -- ---- listing
 
@@ -107,12 +108,6 @@ none_below n k (s ∷ ss) h l =
 up_less : (m n : ℕ) (ss : List Slab) → m ≤ n → AreUp n ss → AreUp m ss
 up_less m n [] l h = tt
 up_less m n (s ∷ ss) l h = let low : n ≤ s.from = h.0 in (omega arith, h.1)
-
-cons_rest : {A : Type 0} (x y : A) (xs ys : List A) → x ∷ xs ≡ y ∷ ys → xs ≡ ys
-cons_rest x y xs ys e = cc
-
-nil_cons : {A : Type 0} {P : Type 0} (x : A) (xs : List A) → [] ≡ x ∷ xs → P
-nil_cons x xs e = absurd cc
 
 -- both begin with the same slab
 same_first : (n : ℕ) (s t : Slab) (ss ts : List Slab) → AreUp n (s ∷ ss) → AreUp n (t ∷ ts)

@@ -25,7 +25,8 @@ use Rattle.script_text.proofs.Steps.{went, same_ok, is_end, whole_value, carried
 use Rattle.script_text.proofs.Places.{bytes_same}
 use Rattle.script_spelling.specs.SpelledValues.{Each}
 use Rattle.script_spelling.specs.SpelledCalls.{SpellsPosted, SpellsChoice, SpellsPlace, SpellsCall}
-use Rattle.script_spelling.proofs.WordsRead.{some_of_map, WordRead, word_is, one_is, name_is, size_is}
+use Rattle.list_laws.proofs.Optional.{some_of_map}
+use Rattle.script_spelling.proofs.WordsRead.{WordRead, word_is, one_is, name_is, size_is}
 use Rattle.script_spelling.proofs.ValuesRead.{EachRead, each_on, values_spelled, region_spelled, region_of_form}
 
 -- ---- the words of calls

@@ -5,7 +5,7 @@ use borrow.Author.Tests.{not-false, leb-false, ltb-false}
 use Rattle.std.proofs.lemmas.Bool.{and_parts}
 use Rattle.std.proofs.lemmas.List.{length-map}
 use Rattle.std.proofs.lemmas.Option.{cond_some}
-use Rattle.list_laws.proofs.Optional.{none_of_test, not_some}
+use Rattle.list_laws.proofs.Optional.{none_of_test, not_some, some_of_map}
 use Rattle.script_spec.proofs.TextLaws.{faultless_some}
 use Rattle.nc_base.specs.declared.errors.ScriptKind.TheVariants as kind
 use Rattle.nc_base.specs.declared.errors.LimitName.TheVariants as limit
@@ -22,7 +22,7 @@ use Rattle.script_spec.specs.ScriptDefinitions.{hint_value, hint_line, ranks_lin
 use Rattle.script_text.proofs.Steps.{went, same_ok, not_refused, is_end, whole_value}
 use Rattle.script_text.proofs.Places.{bytes_same}
 use Rattle.script_spelling.specs.Statements.{VarLine, RanksAre, HintIs, DimIs, VarIs, AttIs, hint_value_of, owner_word, IsOwner, Says, DimStands, VarStands}
-use Rattle.script_spelling.proofs.WordsRead.{some_of_map, WordRead, word_is, NameRead, name_is}
+use Rattle.script_spelling.proofs.WordsRead.{WordRead, word_is, NameRead, name_is}
 use Rattle.script_spelling.proofs.ValuesRead.{values_spelled}
 
 pub two_words : (first one : List ℕ) (ws a : List Word) → ws ≡ Plain one ∷ a → a ≡ [] → Plain first ∷ ws ≡ Plain first ∷ Plain one ∷ []

@@ -8,10 +8,7 @@ use Rattle.script_spec.specs.ScriptWords.{Word, Plain, Quoted, Broken, is_name, 
 use Rattle.script_spec.specs.ScriptSteps.{◌>>=◌, or_fault, bare, reads_as, size, list, name, name_of_text}
 use Rattle.script_text.proofs.Steps.{went, same_ok}
 use Rattle.script_spelling.specs.SpelledValues.{SpellsOne}
-
-pub some_of_map : {A B : Type 0} (g : A → B) (o : Option A) (y : B) → option_map g o ≡ Some y → (x : A) × (o ≡ Some x) × (g x ≡ y)
-some_of_map g None y h = absurd (cc)
-some_of_map g (Some x) y h = let same : g x ≡ y = cc in (x, refl, same)
+use Rattle.list_laws.proofs.Optional.{some_of_map}
 
 -- the word that is read, and what follows it
 pub record WordRead {A : Type 0} (f : List ℕ → Option A) (ws : List Word) (r : A × List Word) : Type 0 where

@@ -21,7 +21,7 @@ use Rattle.element_steps.proofs.MeetSteps.{needs_low, own_right, puts_right}
 use Rattle.join_laws.proofs.CountLaws.{less_max}
 use Rattle.join_laws.proofs.ReplyLaws.{meeting_fits, solo_fits}
 use Rattle.join_laws.proofs.StepLaws.{meeting_within, replied, replies_long}
-use Rattle.overlay_laws.proofs.Members.{at_in}
+use Rattle.serial_spec.proofs.MemberLaws.{at_in}
 use Rattle.run_laws.specs.Arrivals.{Arrived, heard, solo_to, step_to}
 use Rattle.serial_run.specs.Running.{arrived, going_of, HasGone, IsAsked, IsWaiting, MayGoOn}
 use Rattle.serial_run.specs.Stands.{all_arrived, AllHear, AreWaiting, DoFit, HasHeard, HaveHeard, Heard, HeardOne}

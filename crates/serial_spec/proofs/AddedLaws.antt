@@ -18,9 +18,10 @@ use Rattle.serial_spec.specs.Layout.{length_of}
 use Rattle.serial_spec.specs.HeaderFaults.{first_check, first_with, fault_if, two_record_dims, record_later, bad_id}
 use Rattle.serial_spec.specs.SoundHeaders.{is_sound}
 use Rattle.serial_spec.specs.Redefinition.{with_attr, with_extra, added, begins_by_number, begin_of_number, with_begins, redefined_header, KeepsVars}
-use Rattle.serial_spec.proofs.RoomLaws.{untested, none_any}
+use Rattle.list_laws.proofs.Each.{fails_each}
+use Rattle.serial_spec.proofs.RoomLaws.{untested}
 use Rattle.list_laws.proofs.Maps.{entry_map}
-use Rattle.list_laws.proofs.Places.{get_left}
+use Rattle.list_laws.proofs.Places.{get_left, entry_numbered}
 
 -- ---- a header of which another is a part
 
@@ -75,16 +76,6 @@ all_more h (e ∷ extras) = grew_on h (with_extra h e) (added (with_extra h e) e
 
 -- ---- begins
 
-numbered : (n : ℕ) (vs : List Var) (k : ℕ) (v : Var) → slice_get vs k ≡ Some v → slice_get (enumerate_from n vs) k ≡ Some (n + k, v)
-numbered n [] k v h = absurd cc
-numbered n (x ∷ vs) zero v h =
-    let same : x ≡ v = cc in
-    let plain : n ≡ n + 0 = omega arith in
-    λ t. Some (plain t, same t)
-numbered n (x ∷ vs) (suc k) v h =
-    let next : n + 1 + k ≡ n + suc k = omega arith in
-    numbered (n + 1) vs k v h ∙ ap (λ (m : ℕ). Some (m, v)) next
-
 placed_more : (h : Header) (found : List (ℕ × ℕ)) → Grew h (with_begins h found)
 placed_more h found =
     record {
@@ -92,7 +83,7 @@ placed_more h found =
       dims = sym (append-nil h.dims);
       vars = λ k v e. (
         record v { begin = begin_of_number found (0 + k) },
-        entry_map (λ p. record p.1 { begin = begin_of_number found p.0 }) (enumerate_from 0 h.vars) k (0 + k, v) (numbered 0 h.vars k v e),
+        entry_map (λ p. record p.1 { begin = begin_of_number found p.0 }) (enumerate_from 0 h.vars) k (0 + k, v) (entry_numbered 0 h.vars k v e),
         refl,
         refl,
       );
@@ -114,7 +105,7 @@ ids_known header k v h g =
     let b = (both_none (first_with (record_later header) (λ n. fault.RecordDimNotFirst n) header.vars) _ a).1 in
     let c = (both_none (first_with (bad_id header) (λ n. fault.BadDimId n) header.vars) _ b).0 in
     let none : position (bad_id header) header.vars ≡ None = none_before_map (λ n. fault.BadDimId n) _ c in
-    none_any (λ id. nat_le (length header.dims) id) v.dims
+    fails_each (λ id. nat_le (length header.dims) id) v.dims
     (untested (bad_id header) 0 header.vars k v (sym (position_from-zero (bad_id header) header.vars) ∙ none) g)
 
 pub redefined_keeps : (old : Header) (extras : List Extra) → is_sound old ≡ true → KeepsVars old (redefined_header old extras)

@@ -10,7 +10,7 @@ use Rattle.std.specs.List.{range_with_len}
 use Rattle.std.proofs.lemmas.Bool.{eqb-false}
 use borrow.Author.Tests.{ltb-true, ltb-false, eqb-true}
 use Rattle.list_laws.proofs.Numbers.{some_factor}
-use Rattle.list_laws.proofs.Maps.{map_map}
+use Rattle.list_laws.proofs.Maps.{map_map, flat_same}
 use Rattle.nc_base.specs.declared.request.Part.{Part}
 use Rattle.serial_spec.specs.Layout.{product}
 use Rattle.serial_spec.specs.Request.{coordinates}
@@ -115,10 +115,6 @@ slice_long lengths i = length-map (coordinates lengths) (λ c. i ∷ c) ∙ leng
 map_flat : {A B C : Type 0} (f : B → C) (g : A → List B) (xs : List A) → map f (flat_map g xs) ≡ flat_map (λ x. map f (g x)) xs
 map_flat f g [] = refl
 map_flat f g (x ∷ xs) = map-append f (g x) (flat_map g xs) ∙ ap (λ ys. map f (g x) ++ ys) (map_flat f g xs)
-
-flat_same : {A B : Type 0} (f g : A → List B) → ((x : A) → f x ≡ g x) → (xs : List A) → flat_map f xs ≡ flat_map g xs
-flat_same f g h [] = refl
-flat_same f g h (x ∷ xs) = λ t. h x t ++ flat_same f g h xs t
 
 rows_from : {B : Type 0} (f : ℕ → List B) (first a n : ℕ) → flat_map (λ i. f (first + i)) (range_with_len a n) ≡ flat_map f (range_with_len (first + a) n)
 rows_from f first a zero = refl

@@ -133,7 +133,7 @@ still : (old new : Header) (k : ℕ) (v w : Var) (n : ℕ) (index : List ℕ) �
 still old new k v w n index sound g a i =
     index_is_element new k w n index sound g (subst (λ (ls : List ℕ). IsIndex (map (known_of n) ls) index) (sym a.lens) i)
 
-resized : (a n b m s t : ℕ) → n ≡ s → m ≡ t → AreApart a n b m → AreApart a s b t
+pub resized : (a n b m s t : ℕ) → n ≡ s → m ≡ t → AreApart a n b m → AreApart a s b t
 resized a n b m s t p q (inl h) = inl (omega arith)
 resized a n b m s t p q (inr h) = inr (omega arith)
 

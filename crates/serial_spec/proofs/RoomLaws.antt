@@ -18,6 +18,7 @@ use Rattle.serial_spec.specs.SoundHeaders.{is_sound}
 use Rattle.serial_spec.specs.RegionCheck.{known_lengths}
 use Rattle.serial_spec.proofs.ApartLaws.{span_fixed, span_record}
 use Rattle.list_laws.proofs.Maps.{entry_map}
+use Rattle.list_laws.proofs.Each.{fails_each}
 
 -- ---- the end of a file
 
@@ -148,22 +149,10 @@ untested test n (y ∷ xs) (suc k) x h g = untested test (n + 1) xs k x (by_test
     by_test true h = absurd cc
     by_test false h = h
 
-pub none_any : (test : ℕ → Bool) (ids : List ℕ) → list_any test ids ≡ false → AllByRecursion (λ id. test id ≡ false) ids
-none_any test [] h = tt
-none_any test (id ∷ ids) h = (neither_left (test id) (list_any test ids) h, none_any test ids (neither_right (test id) (list_any test ids) h))
-  where
-    neither_left : (a b : Bool) → (a || b) ≡ false → a ≡ false
-    neither_left true b h = h
-    neither_left false b h = refl
-
-    neither_right : (a b : Bool) → (a || b) ≡ false → b ≡ false
-    neither_right true b h = absurd cc
-    neither_right false b h = h
-
 later_some : (header : Header) (ids : List ℕ) → list_any (λ id. is_record_id header id) (drop 1 ids) ≡ false
     → AllByRecursion (λ n. (n == 0) ≡ false) (drop 1 (map (λ id. length_of (slice_get header.dims id)) ids))
 later_some header [] h = tt
-later_some header (id ∷ ids) h = each ids (none_any (λ id. is_record_id header id) ids h)
+later_some header (id ∷ ids) h = each ids (fails_each (λ id. is_record_id header id) ids h)
   where
     each : (ids : List ℕ) → AllByRecursion (λ id. is_record_id header id ≡ false) ids → AllByRecursion (λ n. (n == 0) ≡ false) (map (λ id. length_of (slice_get header.dims id)) ids)
     each [] h = tt

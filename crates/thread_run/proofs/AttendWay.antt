@@ -2,7 +2,7 @@
 use Rattle.std.proofs.Common.{◌≡◌, ℕ, ◌<◌, ap, sym, subst, refl, ◌∙◌, List, [], ◌∷◌, ◌++◌, length, map, Bool, true, Option, Some, None, append_assoc, arith}
 use Rattle.std.specs.Prelude.{slice_get, is_some, IfSome}
 use Rattle.std.proofs.lemmas.Slice.Eq.{bytes_eq-Decides}
-use Rattle.overlay_laws.proofs.Members.{at_in}
+use Rattle.serial_spec.proofs.MemberLaws.{at_in}
 use Rattle.list_laws.proofs.Truth.{and_first}
 use Rattle.nc_base.specs.declared.header.Header.{Header}
 use Rattle.nc_base.specs.declared.header.Var.{Var}

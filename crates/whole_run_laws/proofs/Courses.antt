@@ -30,6 +30,7 @@ use Rattle.join_laws.proofs.RankLaws.{Went, Kinded, at_meeting, at_solo, go_went
 use Rattle.join_laws.proofs.StepLaws.{going_after, goings_long, replied, solo_of_is}
 use Rattle.join_laws.proofs.WholeLaws.{get_map as mapped_from}
 use Rattle.list_laws.proofs.Maps.{entry_map}
+use Rattle.list_laws.proofs.Appends.{cons_rest, nil_cons}
 
 -- ---- one rank
 
@@ -59,18 +60,12 @@ pub record AtSolo (q k n : ℕ) (ks : List MeetKind) (rest : List Mark) (p : Goi
   pub of_kind : asks.offer.kind ≡ offer.Solo
   pub kinds : ks ≡ kinds p.0.calls
 
-tails : (a b : Mark) (xs ys : List Mark) → a ∷ xs ≡ b ∷ ys → xs ≡ ys
-tails a b xs ys e = cc
-
 not_solo : {A : Type 0} (k q n : ℕ) (xs ys : List Mark) → Solo q n ∷ xs ≡ Meet k ∷ ys → A
 not_solo k q n xs ys e = absurd cc
 
-not_nothing : {A : Type 0} (m : Mark) (ys : List Mark) → [] ≡ m ∷ ys → A
-not_nothing m ys e = absurd cc
-
 to_meeting : (q k n j : ℕ) (ks ks' : List MeetKind) (ms rest : List Mark) (p : Going × Option Offer) → Went q k n ks ms p → ks ≡ ks'
     → ms ≡ Meet j ∷ filter (concerns q) rest → AtMeeting q k n ks' rest p
-to_meeting q k n j ks ks' ms rest (g, None) w f e = not_nothing (Meet j) (filter (concerns q) rest) (sym w.marks_none ∙ e)
+to_meeting q k n j ks ks' ms rest (g, None) w f e = nil_cons (Meet j) (filter (concerns q) rest) (sym w.marks_none ∙ e)
 to_meeting q k n j ks ks' ms rest (g, Some o) w f e = by w.kinded
   where
     by : Kinded q k ks ms g w.open_with.independent o → AtMeeting q k n ks' rest (g, Some o)
@@ -82,7 +77,7 @@ to_meeting q k n j ks ks' ms rest (g, Some o) w f e = by w.kinded
         told = w.told;
         open_with = w.open_with;
         is_open = w.is_open;
-        left = tails (Meet k) (Meet j) _ _ (sym d ∙ e);
+        left = cons_rest (Meet k) (Meet j) _ _ (sym d ∙ e);
       };
       kind = kind;
       of_kind = a;
@@ -92,7 +87,7 @@ to_meeting q k n j ks ks' ms rest (g, Some o) w f e = by w.kinded
 
 -- the next meeting has the number of those before it
 to_number : (q k n j : ℕ) (ks : List MeetKind) (ms rest : List Mark) (p : Going × Option Offer) → Went q k n ks ms p → ms ≡ Meet j ∷ filter (concerns q) rest → k ≡ j
-to_number q k n j ks ms rest (g, None) w e = not_nothing (Meet j) (filter (concerns q) rest) (sym w.marks_none ∙ e)
+to_number q k n j ks ms rest (g, None) w e = nil_cons (Meet j) (filter (concerns q) rest) (sym w.marks_none ∙ e)
 to_number q k n j ks ms rest (g, Some o) w e = by w.kinded
   where
     heads : (xs ys : List Mark) → Meet k ∷ xs ≡ Meet j ∷ ys → k ≡ j
@@ -104,7 +99,7 @@ to_number q k n j ks ms rest (g, Some o) w e = by w.kinded
 
 -- its own step is that of its next call
 to_call : (q k n c : ℕ) (ks : List MeetKind) (ms rest : List Mark) (p : Going × Option Offer) → Went q k n ks ms p → ms ≡ Solo q c ∷ filter (concerns q) rest → length p.0.answers ≡ c
-to_call q k n c ks ms rest (g, None) w e = not_nothing (Solo q c) (filter (concerns q) rest) (sym w.marks_none ∙ e)
+to_call q k n c ks ms rest (g, None) w e = nil_cons (Solo q c) (filter (concerns q) rest) (sym w.marks_none ∙ e)
 to_call q k n c ks ms rest (g, Some o) w e = by w.kinded
   where
     heads : (xs ys : List Mark) → Solo q (length g.answers) ∷ xs ≡ Solo q c ∷ ys → length g.answers ≡ c
@@ -116,7 +111,7 @@ to_call q k n c ks ms rest (g, Some o) w e = by w.kinded
 
 to_solo : (q k n c : ℕ) (ks ks' : List MeetKind) (ms rest : List Mark) (p : Going × Option Offer) → Went q k n ks ms p → ks ≡ ks'
     → ms ≡ Solo q c ∷ filter (concerns q) rest → AtSolo q k n ks' rest p
-to_solo q k n c ks ks' ms rest (g, None) w f e = not_nothing (Solo q c) (filter (concerns q) rest) (sym w.marks_none ∙ e)
+to_solo q k n c ks ks' ms rest (g, None) w f e = nil_cons (Solo q c) (filter (concerns q) rest) (sym w.marks_none ∙ e)
 to_solo q k n c ks ks' ms rest (g, Some o) w f e = by w.kinded
   where
     by : Kinded q k ks ms g w.open_with.independent o → AtSolo q k n ks' rest (g, Some o)
@@ -128,7 +123,7 @@ to_solo q k n c ks ks' ms rest (g, Some o) w f e = by w.kinded
         told = w.told;
         open_with = w.open_with;
         is_open = w.is_open;
-        left = tails (Solo q (length g.answers)) (Solo q c) _ _ (sym d ∙ e);
+        left = cons_rest (Solo q (length g.answers)) (Solo q c) _ _ (sym d ∙ e);
       };
       of_kind = a;
       kinds = sym f ∙ b;

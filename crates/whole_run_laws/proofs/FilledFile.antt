@@ -8,8 +8,9 @@ use Rattle.std.specs.Prelude.{flat_map, fold, slice_get, ◌==◌, MatchBool}
 use Rattle.std.specs.List.{enumerate_from}
 use Rattle.std.specs.Option.{option_or}
 use Rattle.list_laws.proofs.Optional.{first_counts, second_counts}
-use Rattle.overlay_laws.proofs.HullLaws.{filter_in, flat_in, in_flat}
-use Rattle.overlay_laws.proofs.Members.{at_in, each_in, in_at, in_filter, in_map, map_in}
+use Rattle.overlay_laws.proofs.HullLaws.{flat_in, in_flat}
+use Rattle.serial_spec.proofs.MemberLaws.{at_in, in_at, in_filter, filter_in}
+use Rattle.overlay_laws.proofs.Members.{each_in, in_map, map_in}
 use Rattle.nc_base.specs.declared.header.Header.{Header}
 use Rattle.nc_base.specs.declared.header.Var.{Var}
 use Rattle.nc_base.specs.declared.script.Script.{Script}
@@ -36,6 +37,7 @@ use Rattle.var_layout.proofs.WrittenLengths.{canon_len}
 use Rattle.whole_run_laws.specs.Completed.{completed_puts, IsBesideCount, is_held}
 use Rattle.whole_run_laws.proofs.KeptLaws.{end_kept}
 use Rattle.serial_spec.proofs.ValueLaws.{found_long}
+use Rattle.serial_spec.proofs.MoveLaws.{resized}
 
 -- ---- cells of which each is another one's or apart from it
 
@@ -106,17 +108,13 @@ cell_of header v index = (place header v index, fill_bytes v)
 pub fill_long : (v : Var) → length (fill_bytes v) ≡ size_of v.kind
 fill_long v = found_long v.kind v.attrs
 
-apart_long : (a n n' b m m' : ℕ) → n ≡ n' → m ≡ m' → AreApart a n b m → AreApart a n' b m'
-apart_long a n n' b m m' e f (inl h) = inl (omega arith)
-apart_long a n n' b m m' e f (inr h) = inr (omega arith)
-
 pub cells_apart : (header : Header) (k m : ℕ) (v w : Var) (i j : List ℕ) → is_sound header ≡ true → slice_get header.vars k ≡ Some v → slice_get header.vars m ≡ Some w
     → IsElement header v i → IsElement header w j → ((m ≡ k) × (j ≡ i)) ⊎ (((k ≡ m) × (i ≡ j)) → ⊥) → IsThatOrApart (cell_of header v i) (cell_of header w j)
 cells_apart header k m v w i j sound e f p q (inl (a, b)) =
     let same : w ≡ v = same_Some w v (sym f ∙ ap (λ (z : ℕ). slice_get header.vars z) a ∙ e) in
     inl (λ t. cell_of header (same t) (b t))
 cells_apart header k m v w i j sound e f p q (inr n) =
-    inr (turned (place header v i) (length (fill_bytes v)) (place header w j) (length (fill_bytes w)) (apart_long (place header v i) (size_of v.kind) (length (fill_bytes v)) (place header w j) (size_of w.kind) (length (fill_bytes w)) (sym (fill_long v)) (sym (fill_long w))
+    inr (turned (place header v i) (length (fill_bytes v)) (place header w j) (length (fill_bytes w)) (resized (place header v i) (size_of v.kind) (length (fill_bytes v)) (place header w j) (size_of w.kind) (length (fill_bytes w)) (sym (fill_long v)) (sym (fill_long w))
     (elements_apart header k m v w i j sound e f p q n)))
   where
     turned : (a n b m : ℕ) → AreApart a n b m → AreApart b m a n

@@ -7,7 +7,8 @@ use Rattle.std.specs.Int.{byte_len}
 use borrow.Author.Tests.{eqb-true, ltb-true, ltb-false}
 use Rattle.list_laws.proofs.Truth.{equal_itself}
 use Rattle.overlay_laws.specs.Hulls.{IsAscending}
-use Rattle.overlay_laws.proofs.HullLaws.{filter_ascends, filter_in, first_least, flat_in, in_either, in_order_ascends, last_below}
+use Rattle.serial_spec.proofs.MemberLaws.{filter_in}
+use Rattle.overlay_laws.proofs.HullLaws.{filter_ascends, first_least, flat_in, in_either, in_order_ascends, last_below}
 use Rattle.overlay_laws.proofs.Members.{map_in}
 use Rattle.nc_base.specs.declared.header.Header.{Header}
 use Rattle.nc_base.specs.declared.plan.Post.{Post}

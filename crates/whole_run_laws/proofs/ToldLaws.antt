@@ -7,7 +7,7 @@ use Rattle.std.specs.List.{enumerate_from, list_all}
 use borrow.Author.Tests.{ltb-true}
 use Rattle.list_laws.proofs.Places.{entry_below, entry_set}
 use Rattle.list_laws.proofs.Truth.{and_first, and_second}
-use Rattle.overlay_laws.proofs.Members.{in_at}
+use Rattle.serial_spec.proofs.MemberLaws.{in_at}
 use Rattle.nc_base.specs.declared.answer.Answer.{Answer}
 use Rattle.nc_base.specs.declared.answer.Pair.{Pair}
 use Rattle.nc_base.specs.declared.header.Header.{Header}

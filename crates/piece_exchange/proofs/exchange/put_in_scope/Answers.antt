@@ -7,7 +7,7 @@ use Rattle.std.specs.List.{AllZip}
 use Rattle.nc_base.specs.declared.plan.Extent.{Extent}
 use Rattle.nc_outside.specs.Cause.{Rose}
 use Rattle.overlay_laws.specs.Entries.{In}
-use Rattle.overlay_laws.proofs.Members.{at_in}
+use Rattle.serial_spec.proofs.MemberLaws.{at_in}
 use Rattle.piece_exchange.specs.Plan.{planned_turns, source_in}
 use Rattle.piece_exchange.specs.Put.{part_state, HasPut, SomeZip}
 use Rattle.piece_exchange.specs.Workers.{domain_of, part_of, HasFed, IsToldToGo}

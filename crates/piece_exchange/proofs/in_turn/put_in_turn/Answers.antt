@@ -7,10 +7,11 @@ use Rattle.std.specs.List.{AllZip}
 use Rattle.nc_base.specs.declared.plan.Extent.{Extent}
 use Rattle.nc_outside.specs.Cause.{Rose}
 use Rattle.nc_outside.specs.declared.disk.DiskErr.{DiskErr}
-use Rattle.overlay_laws.proofs.Members.{at_in}
+use Rattle.serial_spec.proofs.MemberLaws.{at_in}
 use Rattle.piece_exchange.specs.Plan.{planned_turns, source_in}
 use Rattle.piece_exchange.specs.Put.{part_state, HasPut}
-use Rattle.piece_exchange.proofs.BackLaws.{at_index, back_more, both_long, failed_more, middle_at, put_later, put_untouched, zip_push, zip_same}
+use Rattle.list_laws.proofs.Places.{middle_at}
+use Rattle.piece_exchange.proofs.BackLaws.{at_index, back_more, both_long, failed_more, put_later, put_untouched, zip_push, zip_same}
 use Rattle.piece_exchange.proofs.in_turn.put_in_turn.Goals as goal
 
 abbrev none : Extent

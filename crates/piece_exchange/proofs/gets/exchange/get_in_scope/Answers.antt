@@ -9,7 +9,7 @@ use Rattle.nc_outside.specs.Cause.{Rose}
 use Rattle.nc_outside.specs.declared.disk.DiskErr.{DiskErr}
 use Rattle.nc_outside.specs.declared.disk.DiskErr.TheVariants.{Failed}
 use Rattle.overlay_laws.specs.Entries.{In}
-use Rattle.overlay_laws.proofs.Members.{at_in}
+use Rattle.serial_spec.proofs.MemberLaws.{at_in}
 use Rattle.piece_exchange.specs.Blobs.{AreAsLong, FitTable}
 use Rattle.piece_exchange.specs.Gets.{get_turns, AreRead, HasGot}
 use Rattle.piece_exchange.specs.Logs.{HasReadParts, HaveTakenTurns, IsKept}

@@ -7,11 +7,12 @@ use Rattle.std.specs.List.{AllZip}
 use Rattle.nc_base.specs.declared.plan.Extent.{Extent}
 use Rattle.nc_outside.specs.Cause.{Rose}
 use Rattle.nc_outside.specs.declared.disk.DiskErr.{DiskErr}
-use Rattle.overlay_laws.proofs.Members.{at_in}
+use Rattle.serial_spec.proofs.MemberLaws.{at_in}
 use Rattle.piece_exchange.specs.Gets.{get_turns, HasGot}
 use Rattle.piece_exchange.specs.Logs.{HasReadParts}
 use Rattle.piece_exchange.specs.Put.{part_state}
-use Rattle.piece_exchange.proofs.BackLaws.{at_index, back_more, both_long, failed_more, middle_at, zip_push}
+use Rattle.list_laws.proofs.Places.{middle_at}
+use Rattle.piece_exchange.proofs.BackLaws.{at_index, back_more, both_long, failed_more, zip_push}
 use Rattle.piece_exchange.proofs.CollectLaws.{fit_as_long}
 use Rattle.piece_exchange.proofs.FetchLaws.{got_later}
 use Rattle.piece_exchange.proofs.PartReads.{none_zip, parts_none, parts_on}

@@ -5,7 +5,8 @@ use Rattle.std.proofs.lemmas.List.{nil_from_length}
 use Rattle.std.proofs.lemmas.Grind.{common_steps}
 use Rattle.nc_base.specs.declared.plan.Extent.{Extent}
 use Rattle.piece_exchange.specs.Shelves.{domain_of, part_of, IsFresh}
-use Rattle.piece_exchange.proofs.BackLaws.{at_index, middle_at}
+use Rattle.list_laws.proofs.Places.{middle_at}
+use Rattle.piece_exchange.proofs.BackLaws.{at_index}
 use Rattle.piece_exchange.proofs.CrewLaws.{crew_domains, crew_each, crew_parts, workers_few}
 use Rattle.piece_exchange.proofs.gets.starting.start_all.Goals as goal
 
