@@ -107,6 +107,18 @@ onward s Good lasting ks d goings r i rest t = by (entry_below goings r low)
     by : (g : Going) × (slice_get goings r ≡ Some g) → Onward s Good d goings r i rest
     by (g, b) = let x = entry_beside goings d.clients r g (sym t.paired.long) b in by_two x.0 g x.1 b
 
+-- with one offer more, each that is held is still the next of its rank
+pub held_next : (s : Setting) (d : Owner) (goings : List Going) (r : ℕ) (x : Client) (g : Going) (o : Offer) → slice_get goings r ≡ Some g → (advance s.header g).1 ≡ Some o
+    → ((q : ℕ) (x' : Client) (g' : Going) (o' : Offer) → slice_get d.clients q ≡ Some x' → slice_get goings q ≡ Some g' → x'.held ≡ Some o' → (advance s.header g').1 ≡ Some o')
+    → (q : ℕ) (x' : Client) (g' : Going) (o' : Offer) → slice_get (set d.clients r (client_held x o)) q ≡ Some x' → slice_get goings q ≡ Some g' → x'.held ≡ Some o' → (advance s.header g').1 ≡ Some o'
+held_next s d goings r x g o at_going e waits q x' g' o' a b w = by (get_set d.clients r q (client_held x o) x' a)
+  where
+    by : ((q ≡ r) × (x' ≡ client_held x o)) ⊎ (slice_get d.clients q ≡ Some x') → (advance s.header g').1 ≡ Some o'
+    by (inl (n, f)) =
+        let same : g' ≡ g = same_Some g' g (sym b ∙ ap (λ (k : ℕ). slice_get goings k) n ∙ at_going) in
+        ap (λ (z : Going). (advance s.header z).1) same ∙ e ∙ sym (ap (λ (z : Client). z.held) f) ∙ w
+    by (inr f) = waits q x' g' o' f b w
+
 -- ---- device calls
 
 module _ (hints : Hints) (s : Setting) (d : Owner) (goings : List Going) (r : ℕ) (x : Client) (g : Going) (at_client : slice_get d.clients r ≡ Some x) (at_going : slice_get goings r ≡ Some g)
@@ -123,17 +135,8 @@ module _ (hints : Hints) (s : Setting) (d : Owner) (goings : List Going) (r : �
   meets_is o true e h =
       sym (append-nil (meeting_calls hints s (offers_of (map (advance s.header) goings)) d.state)
       ∙ ap (λ (offers : List Offer). meeting_calls hints s offers d.state)
-      (same_offers s.header (set d.clients r (client_held x o)) goings (length-set d.clients r (client_held x o) ∙ long) h held))
-    where
-      held : (q : ℕ) (x' : Client) (g' : Going) (o' : Offer) → slice_get (set d.clients r (client_held x o)) q ≡ Some x' → slice_get goings q ≡ Some g' → x'.held ≡ Some o'
-          → (advance s.header g').1 ≡ Some o'
-      held q x' g' o' a b w = by (get_set d.clients r q (client_held x o) x' a)
-        where
-          by : ((q ≡ r) × (x' ≡ client_held x o)) ⊎ (slice_get d.clients q ≡ Some x') → (advance s.header g').1 ≡ Some o'
-          by (inl (n, f)) =
-              let same : g' ≡ g = same_Some g' g (sym b ∙ ap (λ (k : ℕ). slice_get goings k) n ∙ at_going) in
-              ap (λ (z : Going). (advance s.header z).1) same ∙ e ∙ sym (ap (λ (z : Client). z.held) f) ∙ w
-          by (inr f) = waits q x' g' o' f b w
+      (same_offers s.header (set d.clients r (client_held x o)) goings (length-set d.clients r (client_held x o) ∙ long) h
+      (held_next s d goings r x g o at_going e waits)))
 
   offer_is : (c : ℕ) (o : Offer) (k : OfferKind) → (advance s.header g).1 ≡ Some o → calls_at_offer hints s d r o x k ≡ calls_so_far hints s (d.state, goings) (at_offer s d r c o x k).marks
   offer_is c o offer.Solo e = solo_is c o e

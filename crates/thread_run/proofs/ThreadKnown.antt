@@ -138,23 +138,13 @@ module _ (s : Setting) (sound : is_sound s.header ≡ true) (d : Owner) (goings 
       (near_needs s sound (flat_map puts_of (enumerate_from 0 (offers_held (set d.clients r (client_held x o)))))
       (near_all s.header sound d.reached (offers_held (set d.clients r (client_held x o))) 0 each))
     where
-      held : (q : ℕ) (x' : Client) (g' : Going) (o' : Offer) → slice_get (set d.clients r (client_held x o)) q ≡ Some x' → slice_get goings q ≡ Some g' → x'.held ≡ Some o'
-          → (advance s.header g').1 ≡ Some o'
-      held q x' g' o' a b w = by (get_set d.clients r q (client_held x o) x' a)
-        where
-          by : ((q ≡ r) × (x' ≡ client_held x o)) ⊎ (slice_get d.clients q ≡ Some x') → (advance s.header g').1 ≡ Some o'
-          by (inl (n, f)) =
-              let same : g' ≡ g = same_Some g' g (sym b ∙ ap (λ (k : ℕ). slice_get goings k) n ∙ at_going) in
-              ap (λ (z : Going). (advance s.header z).1) same ∙ e ∙ sym (ap (λ (z : Client). z.held) f) ∙ w
-          by (inr f) = waits q x' g' o' f b w
-
       each : (q : ℕ) (o' : Offer) → slice_get (offers_held (set d.clients r (client_held x o))) q ≡ Some o' → strange_offer s.header d.reached (Some o') ≡ false
       each q o' a =
           let y = entry_beside (offers_held (set d.clients r (client_held x o))) (set d.clients r (client_held x o)) q o' (offers_long (set d.clients r (client_held x o)) h) a in
           let z = entry_beside (set d.clients r (client_held x o)) goings q y.0 (length-set d.clients r (client_held x o) ∙ long) y.1 in
           let w = one_held (set d.clients r (client_held x o)) q y.0 h y.1 in
           let same : w.0 ≡ o' = same_Some w.0 o' (sym (offer_at (set d.clients r (client_held x o)) q y.0 w.0 h y.1 w.1) ∙ a) in
-          subst (λ (p : Offer). strange_offer s.header d.reached (Some p) ≡ false) same (fits q z.0 w.0 z.1 (held q y.0 z.0 w.0 y.1 z.1 w.1))
+          subst (λ (p : Offer). strange_offer s.header d.reached (Some p) ≡ false) same (fits q z.0 w.0 z.1 (held_next s d goings r x g o at_going e waits q y.0 z.0 w.0 y.1 z.1 w.1))
 
   near_offer : (c : ℕ) (o : Offer) (k : OfferKind) → (advance s.header g).1 ≡ Some o → EndsNear s.header sound (at_offer s d r c o x k).owner.reached
   near_offer c o offer.Solo e =
