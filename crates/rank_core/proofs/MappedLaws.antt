@@ -1,7 +1,7 @@
 -- A region that a check accepts has its positions in memory within the limits.
 use Rattle.std.proofs.Common.{◌≡◌, ℕ, zero, suc, ◌+◌, ◌-◌, ◌*◌, ◌<◌, ◌≤◌, refl, sym, ap, subst, ◌∙◌, inl, inr, ◌⊎◌, List, [], ◌∷◌, length, map, zip, Bool, true, false, not, cond, ltb, leb, eqb, ◌&&◌, ◌||◌, arith}
-use Rattle.std.specs.List.{range_with_len, list_any, AllByRecursion}
-use Rattle.std.proofs.lemmas.Bool.{or_parts, and_parts, not-false, ltb-false, leb-false, eqb-true, lt-ltb, ne_eqb, cases_lt}
+use Rattle.std.specs.List.{range_with_len, AllByRecursion}
+use Rattle.std.proofs.lemmas.Bool.{or_parts, and_parts, not-false, ltb-false, leb-false, eqb-true, lt-ltb, cases_lt}
 use Rattle.std.proofs.lemmas.List.Sums.{sum_by-cons}
 use Rattle.std.proofs.Math.Nat.{mul-le-mul_left}
 use Rattle.nc_base.specs.declared.answer.Code.TheVariants as code

@@ -1,5 +1,5 @@
 -- What a call on a variable comes to, as its parts find it out.
-use Rattle.std.proofs.Common.{◌≡◌, ℕ, ◌<◌, ◌≤◌, refl, sym, ap, subst, ◌∙◌, List, [], ◌∷◌, length, map, Bool, true, false, cond, ltb, Option, None, Some, Result, Ok, Err, IfSome, IfOk, arith}
+use Rattle.std.proofs.Common.{◌≡◌, ℕ, ◌<◌, ◌≤◌, refl, sym, ap, subst, ◌∙◌, List, [], ◌∷◌, length, Bool, true, false, cond, ltb, Option, None, Some, Result, Ok, Err, IfSome, IfOk, arith}
 use Rattle.std.specs.Prelude.{filter, slice_get, IfErr, OnOk}
 use Rattle.std.proofs.lemmas.Bool.{le-ltb, lt-ltb}
 use Rattle.nc_base.specs.declared.answer.CallErr.{CallErr}

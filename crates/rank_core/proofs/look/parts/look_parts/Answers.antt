@@ -1,12 +1,10 @@
-use Rattle.std.proofs.Common.{◌≡◌, ◌<◌, ◌≤◌, ◌∙◌, sym, ap, subst, eqb, List, ℕ, length, map, arith}
+use Rattle.std.proofs.Common.{◌∙◌, sym, ap, subst, List, ℕ, map, arith}
 use Rattle.std.specs.Prelude.{filter}
 use Rattle.std.specs.Option.{option_copied}
 use Rattle.std.proofs.lemmas.Bool.{eqb-false, eqb-true}
 use Rattle.std.proofs.lemmas.Result.{err_from_is_err_and}
 use Rattle.nc_base.specs.declared.request.Part.{Part}
-use Rattle.nc_base.specs.declared.request.Region.{Region}
-use Rattle.serial_spec.specs.Limits.{most_elements}
-use Rattle.serial_spec.specs.RegionCheck.{elements_of_all, has_element, part_region}
+use Rattle.serial_spec.specs.RegionCheck.{has_element, part_region}
 use Rattle.rank_core.specs.Looked.{look_of, HasValues}
 use Rattle.rank_core.proofs.OutcomeLaws.{is_error, is_refused}
 use Rattle.rank_core.proofs.TargetLaws.{all_counted, parts_come, parts_empty, parts_refused, parts_short, regions_few}
