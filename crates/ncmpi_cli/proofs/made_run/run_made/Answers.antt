@@ -56,9 +56,9 @@ returns-in-None-clause-ends g c =
     let summed = c.sum_up.ensures in
     let status : ℕ = c.sum_up.result.status in
     let did = made_ran seed size c.in-Ok.ready.script c.in-Ok.ready.header
-        (record { held = g.D.Disk.held c.args.disk.now; calls = g.D.Disk.calls c.args.disk.now; disk_faults = g.D.Disk.faults c.args.disk.now; given = g.K.Sink.given c.args.out.now; sink_faults = g.K.Sink.faults c.args.out.now })
-        (record { held = g.D.Disk.held c.run_ranks-end.new.disk; calls = g.D.Disk.calls c.run_ranks-end.new.disk; disk_faults = g.D.Disk.faults c.run_ranks-end.new.disk; given = g.K.Sink.given c.sum_up.new.out; sink_faults = g.K.Sink.faults c.sum_up.new.out })
-        mid calls _ _ c.run_ranks-end.new.records end c.sum_up.result.order own.script own.ready summed.order run c.in-None.is in
+    (record { held = g.D.Disk.held c.args.disk.now; calls = g.D.Disk.calls c.args.disk.now; disk_faults = g.D.Disk.faults c.args.disk.now; given = g.K.Sink.given c.args.out.now; sink_faults = g.K.Sink.faults c.args.out.now })
+    (record { held = g.D.Disk.held c.run_ranks-end.new.disk; calls = g.D.Disk.calls c.run_ranks-end.new.disk; disk_faults = g.D.Disk.faults c.run_ranks-end.new.disk; given = g.K.Sink.given c.sum_up.new.out; sink_faults = g.K.Sink.faults c.sum_up.new.out })
+    mid calls _ _ c.run_ranks-end.new.records end c.sum_up.result.order own.script own.ready summed.order run c.in-None.is in
     record {
       statuses = made_end status summed.statuses;
       well = λ s. record { text = _; ran = did; given = summed.whole s };
