@@ -1,5 +1,5 @@
 -- Rows and runs of elements by their numbers, one dimension more.
-use Rattle.std.proofs.Common.{◌≡◌, ℕ, zero, suc, ◌+◌, ◌-◌, ◌*◌, ◌/◌, ◌%◌, ◌^◌, ◌<◌, ◌≤◌, ◌⊎◌, inr, refl, sym, ap, subst, ◌∙◌, List, [], ◌∷◌, length, take, drop, get_or, true, false, arith}
+use Rattle.std.proofs.Common.{◌≡◌, ℕ, zero, suc, ◌+◌, ◌-◌, ◌*◌, ◌/◌, ◌%◌, ◌^◌, ◌<◌, ◌≤◌, ◌⊎◌, min, inr, refl, sym, ap, subst, ◌∙◌, List, [], ◌∷◌, length, take, drop, get_or, true, false, arith}
 use Rattle.std.specs.Prelude.{slice_get}
 use Rattle.std.proofs.lemmas.List.{take_rest}
 use Rattle.std.proofs.lemmas.Nat.{mod_below, mul-le}
