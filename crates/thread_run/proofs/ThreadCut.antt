@@ -140,7 +140,7 @@ module _ (script : Script) (header : Header) (arrivals : List Arrival) (given : 
       let same : o.end ≡ end = same_Some o.end end (sym o.at_end ∙ b) in
       let x = entry_beside run.last (run_of script header file h.first).owner.clients r g (sym run.stands.long) a in
       let ended : (advance header g).0 ≡ end_of_rank script header (takes script header arrivals given ends t) r =
-      last_end header x.0 g (own_items r h.later) (stopped r) (end_of_rank script header (takes script header arrivals given ends t) r) (run.stands.sits r x.0 g x.1 a) in
+      last_end header x.0 g (own_items r h.later) (stopped r) (end_of_rank script header (takes script header arrivals given ends t) r) (run.stands.paired_at r x.0 g x.1 a) in
       let its : calls_of script r ≡ own.0 = ap (λ (m : Option (List Call)). elim m [ None ↦ [] | Some cs ↦ cs ]) own.1 in
       let all : (advance header g).0.answers ≡ (rank_end header (first_going header own.0) (takes script header arrivals given ends t r)).answers =
       ap (λ (v : Going). v.answers) ended ∙ ap (λ (cs : List Call). (rank_end header (first_going header cs) (takes script header arrivals given ends t r)).answers) its in

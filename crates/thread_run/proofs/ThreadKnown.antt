@@ -168,17 +168,17 @@ near_along s sound Good lasting ks d goings ((r, i) ∷ rest) t near =
         → ((ks' : List MeetKind) (d' : Owner) (goings' : List Going) → Stands s Good ks' d' goings' rest → EndsNear s.header sound d'.reached → EndsNear s.header sound (served s d' rest).owner.reached)
         → EndsNear s.header sound (served s d ((r, i) ∷ rest)).owner.reached
     by o again =
-        let here = near_item s sound d goings r o.client o.going o.at_client o.at_going t.cliented.long (λ q g' p b e. fits q g' p b e) (λ q x' g' p a b w. ((t.cliented.sits q x' g' a b).waits p w).0) near i o.offers in
+        let here = near_item s sound d goings r o.client o.going o.at_client o.at_going t.paired.long (λ q g' p b e. fits q g' p b e) (λ q x' g' p a b w. ((t.paired.paired_at q x' g' a b).waits p w).0) near i o.offers in
         subst (λ (z : Owner). EndsNear s.header sound z.reached) (sym (served_on s d (r, i) rest o.not_strange).owner)
         (again o.kinds_left (event s d (r, i)).owner o.after o.stands (subst (λ (u : Event). EndsNear s.header sound u.owner.reached) (sym o.is) here))
       where
         fits : (q : ℕ) (g' : Going) (p : Offer) → slice_get goings q ≡ Some g' → (advance s.header g').1 ≡ Some p → strange_offer s.header d.reached (Some p) ≡ false
-        fits q g' p b e = let y = entry_beside goings d.clients q g' (sym t.cliented.long) b in lasting.fits d.reached g' p (t.cliented.sits q y.0 g' y.1 b).good e
+        fits q g' p b e = let y = entry_beside goings d.clients q g' (sym t.paired.long) b in lasting.fits d.reached g' p (t.paired.paired_at q y.0 g' y.1 b).good e
 
 -- what is true of the ranks at their ends
 pub good_along : (s : Setting) (Good : ℕ → Going → Type 0) (lasting : Lasting s.header Good) (ks : List MeetKind) (d : Owner) (goings : List Going) (arrivals : List Arrival)
     → Stands s Good ks d goings arrivals → (q : ℕ) (g : Going) → slice_get (fold (after_mark s) (d.state, goings) (served s d arrivals).marks).1 q ≡ Some g → Good (served s d arrivals).owner.reached g
-good_along s Good lasting ks d goings [] t q g b = let y = entry_beside goings d.clients q g (sym t.cliented.long) b in (t.cliented.sits q y.0 g y.1 b).good
+good_along s Good lasting ks d goings [] t q g b = let y = entry_beside goings d.clients q g (sym t.paired.long) b in (t.paired.paired_at q y.0 g y.1 b).good
 good_along s Good lasting ks d goings ((r, i) ∷ rest) t q g b =
     by (onward s Good lasting ks d goings r i rest t) (λ ks' d' goings' u b'. good_along s Good lasting ks' d' goings' rest u q g b')
   where

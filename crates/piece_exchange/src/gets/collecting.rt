@@ -3,8 +3,7 @@ ghost use Rattle.std.specs.Prelude.{◌≡◌, ◌+◌, ◌^◌, ◌<◌, ◌≤
 ghost use Rattle.serial_spec.specs.File.{written};
 ghost use Rattle.nc_outside.specs.declared.disk.DiskErr.TheVariants.{Memory};
 ghost use Rattle.overlay_laws.specs.Lines.{extents, EndBelow};
-ghost use Rattle.data_sieving.specs.Sieving.{AreFilled};
-ghost use Rattle.data_sieving.specs.Walked.{buffer_cell};
+ghost use Rattle.aggregator_rounds.specs.EntryParts.{AreFilled, buffer_cell};
 ghost use Rattle.piece_exchange.specs.Blobs.{blob_at, with_blob, AreAsLong, FitTable, HasCollected, HaveOnePlaces};
 ghost use Rattle.piece_exchange.specs.Cursor.{entries_in};
 ghost use Rattle.piece_exchange.specs.Gets.{IsGetPlanned};
@@ -20,7 +19,7 @@ use crate::gets::starting::ReadWorker;
 use crate::gets::walk::ReadTurn;
 use crate::plan::GetPlan;
 use crate::walk::next_window;
-use data_sieving::collect_entry;
+use aggregator_rounds::collect_entry;
 use nc_base::{Blob, BlobList, Extent, Owned};
 use nc_outside::{Disk, DiskErr};
 use std::sync::Wait;
@@ -189,8 +188,6 @@ fn collect_get(hull: Extent, entry: &Owned, buf: &[u8], table: &mut [BlobList])
     requires fit { entry.now.from + entry.now.extent.len ≤ length (blob_at table.old entry.now.rank entry.now.slot) }
     ensures { table.new ≡ with_blob table.old entry.now.rank entry.now.slot (written (blob_at table.old entry.now.rank entry.now.slot) (buffer_cell hull.at (hull.at + hull.len) buf.now entry.now).0 (buffer_cell hull.at (hull.at + hull.len) buf.now entry.now).1) }
 {
-    let rank = entry.rank as usize;
-    let mut blobs = table[rank].take().into_vec();
-    collect_entry(hull, entry, buf, &mut blobs);
-    table[rank] = BlobList::from_vec(blobs);
+    let blobs = table[entry.rank as usize].as_mut_slice();
+    collect_entry(hull, entry, buf, blobs);
 }
