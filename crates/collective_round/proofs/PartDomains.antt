@@ -14,7 +14,7 @@ use Rattle.overlay_laws.specs.Entries.{cell_of, ranges, In, HaveSame, Source}
 use Rattle.overlay_laws.specs.Walks.{end_after, first_at, spans, IsCover}
 use Rattle.overlay_laws.proofs.HullLaws.{in_flat, in_range}
 use Rattle.overlay_laws.proofs.Members.{in_map, map_in}
-use Rattle.data_sieving.specs.Walked.{IsCovered}
+use Rattle.aggregator_rounds.specs.EntryParts.{IsCovered}
 use Rattle.piece_exchange.specs.Plan.{IsDomainOf}
 use Rattle.piece_exchange.specs.Put.{PartState, SomeZip}
 use Rattle.collective_round.specs.Parts.{begin_or, part_between, parts_of, Adjoin, AreDomains}
