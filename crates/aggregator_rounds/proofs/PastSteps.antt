@@ -9,8 +9,8 @@ use Rattle.nc_base.specs.declared.plan.Owned.{Owned}
 use Rattle.overlay_laws.specs.Entries.{In, Source}
 use Rattle.overlay_laws.specs.Lines.{extents, EndBelow, IsByPlace}
 use Rattle.overlay_laws.specs.Origins.{AreFound}
-use Rattle.overlay_laws.proofs.HullLaws.{in_either, in_right}
 use Rattle.serial_spec.proofs.MemberLaws.{filter_in}
+use Rattle.overlay_laws.proofs.HullLaws.{in_either, in_right}
 use Rattle.aggregator_rounds.specs.Left.{filter_past, IsPast}
 
 -- ---- what is gone

@@ -13,7 +13,7 @@ use Rattle.serial_spec.proofs.FileLaws.{length-written_inside}
 use Rattle.serial_spec.specs.File.{written}
 use Rattle.serial_spec.specs.Said.{Cell, write_cells}
 use Rattle.overlay_laws.specs.Entries.{In}
-use Rattle.serial_spec.proofs.MemberLaws.{filter_in, in_filter}
+use Rattle.serial_spec.proofs.MemberLaws.{in_filter, filter_in}
 use Rattle.aggregator_rounds.specs.EntryParts.{AreFilled, buffer_cell, part_in}
 use Rattle.piece_exchange.specs.Blobs.{blob_at, of_request, with_blob, AreAsLong, FitTable, HasCollected}
 use Rattle.piece_exchange.specs.Cursor.{AreServed}

@@ -13,8 +13,8 @@ use Rattle.serial_spec.specs.File.{at, read}
 use Rattle.serial_spec.proofs.CellLaws.{read_at, read_same}
 use Rattle.overlay_laws.specs.Entries.{In}
 use Rattle.overlay_laws.proofs.HullLaws.{in_either, in_left, in_right}
-use Rattle.overlay_laws.proofs.Members.{in_map, in_zip, map_in, zip_in}
 use Rattle.serial_spec.proofs.MemberLaws.{at_in, in_at}
+use Rattle.overlay_laws.proofs.Members.{in_map, in_zip, map_in, zip_in}
 use Rattle.aggregator_rounds.specs.EntryParts.{IsCovered}
 use Rattle.piece_exchange.specs.Blobs.{AreAsLong, FitTable, HasRead, HaveOnePlaces}
 use Rattle.piece_exchange.specs.Gets.{get_turns, AreRead, HasGot, IsGetPlanned}

@@ -1,9 +1,8 @@
 -- Numbers of two lists that are the same, place by place.
-use Rattle.std.proofs.Common.{◌≡◌, ℕ, suc, ◌+◌, ◌<◌, ◌∙◌, ap, sym, subst, refl, List, [], ◌∷◌, ◌++◌, length, map, take, Bool, true, false, bytes_eq, get_or, arith}
-use Rattle.std.proofs.Math.Seq.{take-length, take-suc}
+use Rattle.std.proofs.Common.{◌≡◌, ℕ, suc, ◌+◌, ◌<◌, ◌∙◌, ap, sym, refl, List, [], ◌∷◌, ◌++◌, length, map, take, Bool, true, false, bytes_eq, get_or, arith}
+use Rattle.std.proofs.Math.Seq.{take-suc}
 use Rattle.std.proofs.lemmas.List.{map-append}
 use Rattle.std.proofs.lemmas.Slice.Eq.{bytes_eq-Decides}
-use Rattle.rank_core.proofs.HeardLaws.{same_at, same_long}
 
 pub are_same : (xs ys : List ℕ) → xs ≡ ys → bytes_eq xs ys ≡ true
 are_same xs ys e = (bytes_eq-Decides xs ys).1 e

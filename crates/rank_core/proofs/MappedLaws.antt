@@ -1,7 +1,7 @@
 -- A region that a check accepts has its positions in memory within the limits.
 use Rattle.std.proofs.Common.{◌≡◌, ℕ, zero, suc, ◌+◌, ◌-◌, ◌*◌, ◌<◌, ◌≤◌, refl, sym, ap, subst, ◌∙◌, inl, inr, ◌⊎◌, List, [], ◌∷◌, length, map, zip, Bool, true, false, not, cond, ltb, leb, eqb, ◌&&◌, ◌||◌, arith}
-use Rattle.std.specs.List.{range_with_len, list_any, AllByRecursion}
-use Rattle.std.proofs.lemmas.Bool.{or_parts, and_parts, not-false, ltb-false, leb-false, eqb-true, lt-ltb, ne_eqb, cases_lt}
+use Rattle.std.specs.List.{range_with_len, AllByRecursion}
+use Rattle.std.proofs.lemmas.Bool.{or_parts, and_parts, not-false, ltb-false, leb-false, eqb-true, lt-ltb, cases_lt}
 use Rattle.std.proofs.lemmas.List.Sums.{sum_by-cons}
 use Rattle.std.proofs.Math.Nat.{mul-le-mul_left}
 use Rattle.nc_base.specs.declared.answer.Code.TheVariants as code
@@ -20,19 +20,6 @@ use Rattle.serial_spec.proofs.AcceptLaws.{coordinates_all}
 use Rattle.imap_extents.specs.Mapped.{IsMapped}
 use Rattle.imap_extents.proofs.PositionLaws.{no_coordinates, range_below}
 use Rattle.vara_extents.proofs.AcceptedLaws.{passed}
-
--- ---- whether there is an element
-
-pub some_product : (counts : List ℕ) → not (list_any (λ n. eqb n 0) counts) ≡ ltb 0 (product counts)
-some_product [] = refl
-some_product (zero ∷ counts) = let none : 0 * product counts ≡ 0 = omega arith in sym (ap (λ (n : ℕ). ltb 0 n) none)
-some_product (suc n ∷ counts) =
-    ap (λ (b : Bool). not (b || list_any (λ m. eqb m 0) counts)) (ne_eqb (suc n) 0 (λ e. omega arith))
-    ∙ some_product counts ∙ sym (by_rest (product counts))
-  where
-    by_rest : (p : ℕ) → ltb 0 (suc n * p) ≡ ltb 0 p
-    by_rest zero = let none : suc n * 0 ≡ 0 = omega arith in ap (λ (n : ℕ). ltb 0 n) none
-    by_rest (suc p) = lt-ltb 0 (suc n * suc p) (omega arith) ∙ sym (lt-ltb 0 (suc p) (omega arith))
 
 -- ---- positions
 

@@ -2,7 +2,7 @@
 use Rattle.std.proofs.Common.{◌≡◌, ℕ, zero, suc, ◌+◌, ◌<◌, ◌≤◌, refl, sym, ap, subst, ◌∙◌, inl, inr, ◌⊎◌, List, [], ◌∷◌, map, Bool, true, false, cond, Option, Some, arith}
 use Rattle.std.specs.Prelude.{filter, flat_map, slice_get, bytes_eq}
 use Rattle.std.specs.List.{list_any, range_with_len}
-use Rattle.std.proofs.lemmas.Bool.{both_ways, cases_order, or_left, or_parts, or_right}
+use Rattle.std.proofs.lemmas.Bool.{both_ways, cases_order, or_parts}
 use Rattle.std.proofs.lemmas.Slice.Eq.{bytes_eq-Decides}
 use Rattle.serial_spec.proofs.MemberLaws.{at_in, filter_in, any_member}
 use Rattle.overlay_laws.proofs.Members.{each_in, map_in}
@@ -24,8 +24,6 @@ use Rattle.serial_spec.specs.SharedByte.{bytes_of, bytes_of_some, holdings, Hold
 use Rattle.serial_spec.proofs.AcceptLaws.{accepted_elements}
 use Rattle.serial_spec.proofs.ApartLaws.{elements_apart}
 use Rattle.vara_extents.proofs.OnceLaws.{post_once}
-
--- ---- members
 
 -- ---- regions and posts, no two of which share an element
 

@@ -2,7 +2,7 @@
 --     IsPut, IsGet              a request of an accepted region; a put with the bytes of its elements
 --     IsSoundOffer header o     its requests are such, and no request of its puts holds a byte twice
 --     IsSoundWant header want   the same of what a rank wants
-use Rattle.std.specs.Prelude.{◌≡◌, ℕ, ◌*◌, ◌+◌, List, map, length, IfSome, slice_get}
+use Rattle.std.specs.Prelude.{◌≡◌, ℕ, ◌*◌, ◌+◌, map, length, IfSome, slice_get}
 use Rattle.nc_base.specs.declared.header.Header.{Header}
 use Rattle.nc_base.specs.declared.plan.Post.{Post}
 use Rattle.nc_base.specs.declared.request.Direction.TheVariants as way

@@ -5,7 +5,7 @@
 --     AreRequests header known posted   such are the posts of each request that waits, under its id; the ids are different
 --     AreOnce items                     no two items that are Ok have one id
 --     IsOpen header known o             what the answer to the reply needs
-use Rattle.std.specs.Prelude.{◌≡◌, ℕ, List, [], ◌∷◌, map, true, Option, Some, None}
+use Rattle.std.specs.Prelude.{◌≡◌, ℕ, List, [], ◌∷◌, map, true, None}
 use Rattle.nc_base.specs.declared.header.Header.{Header}
 use Rattle.nc_base.specs.declared.plan.Post.{Post}
 use Rattle.nc_base.specs.declared.answer.Item.{Item}

@@ -1,5 +1,5 @@
 // Whether a reply is one to the offer of a rank.
-ghost use Rattle.std.specs.Prelude.{◌≡◌, List, map, length, true, bytes_eq, is_some, IfSome};
+ghost use Rattle.std.specs.Prelude.{◌≡◌, map, length, true, bytes_eq, is_some, IfSome};
 ghost use Rattle.serial_spec.specs.RankSide.{wanted};
 ghost use Rattle.rank_core.specs.Fit.{fits_gets};
 ghost use Rattle.rank_core.specs.Heard.{AreGetsOf, IsGetOf};

@@ -1,5 +1,5 @@
 // The filling of a rank's share of a record.
-ghost use Rattle.std.specs.Prelude.{◌≡◌, ◌+◌, ◌<◌, ◌≤◌, ◌^◌, ◌∷◌, ◌||◌, nat_lt, true, map, length, flat_map, IfOk};
+ghost use Rattle.std.specs.Prelude.{◌≡◌, ◌+◌, ◌<◌, ◌≤◌, ◌^◌, ◌∷◌, ◌||◌, nat_lt, true, map, flat_map, IfOk};
 ghost use Rattle.std.specs.List.{range_with_len, AllByRecursion};
 ghost use Rattle.serial_spec.specs.Fill as fill;
 ghost use Rattle.serial_spec.specs.SoundHeaders.{is_sound};

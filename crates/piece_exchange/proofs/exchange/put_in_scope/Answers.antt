@@ -9,7 +9,7 @@ use Rattle.nc_outside.specs.Cause.{Rose}
 use Rattle.overlay_laws.specs.Entries.{In}
 use Rattle.serial_spec.proofs.MemberLaws.{at_in}
 use Rattle.piece_exchange.specs.Plan.{planned_turns, source_in}
-use Rattle.piece_exchange.specs.Put.{part_state, HasPut, PartState, SomeZip}
+use Rattle.piece_exchange.specs.Put.{part_state, HasPut, SomeZip}
 use Rattle.piece_exchange.specs.Workers.{domain_of, part_of, HasFed, IsToldToGo}
 use Rattle.piece_exchange.specs.declared.starting.Worker.{Worker}
 use Rattle.piece_exchange.proofs.BackLaws.{lent_twice, slice_kept}
@@ -73,8 +73,7 @@ returns-clause-put g c =
     let n : count ≡ length first = first_of (search rules, grind (arith, common_steps)) in
     let empty : length c.start_all.new.crew.rest.items ≡ 0 = first_of (search rules, grind (arith, common_steps)) in
     let twice = lent_twice count first c.deref_mut.result.now mid c.deref_mut-2.result.now last n c.deref_mut.ensures.value c.tell_all.ensures.long c.deref_mut-2.ensures.value c.pack_all.ensures.long in
-    let state : g.row.D.Denot → PartState
-    = part_state g.D.Disk in
+    let state = part_state g.D.Disk in
     let Put : g.row.D.Denot × Extent → g.row.D.Denot → Type 0
     = λ p d. HasPut (source_in plan) plan.list.now (planned_turns plan p.1) (state p.0) (state d) c.join_all-end.result in
     all_of (λ worker. part_of worker) (λ worker. domain_of worker) last c.args.parts.items back c.args.domains.now Put

@@ -9,7 +9,7 @@ use Rattle.nc_outside.specs.Cause.{Rose}
 use Rattle.nc_outside.specs.declared.disk.DiskErr.{DiskErr}
 use Rattle.serial_spec.proofs.MemberLaws.{at_in}
 use Rattle.piece_exchange.specs.Plan.{planned_turns, source_in}
-use Rattle.piece_exchange.specs.Put.{part_state, HasPut, PartState}
+use Rattle.piece_exchange.specs.Put.{part_state, HasPut}
 use Rattle.list_laws.proofs.Places.{middle_at}
 use Rattle.piece_exchange.proofs.BackLaws.{at_index, back_more, both_long, failed_more, put_later, put_untouched, zip_push, zip_same}
 use Rattle.piece_exchange.proofs.in_turn.put_in_turn.Goals as goal
@@ -69,8 +69,7 @@ loop-part-preserved g c =
     let part = c.serve_next-part.result.0 in
     let came = c.serve_next-part.result.1 in
     let plan = c.args.plan.now in
-    let state : g.row.D.Denot → PartState
-    = part_state g.D.Disk in
+    let state = part_state g.D.Disk in
     let Put : Result (Unit {0}) DiskErr → g.row.D.Denot × Extent → g.row.D.Denot → Type 0
     = λ r p d. HasPut (source_in plan) plan.list.now (planned_turns plan p.1) (state p.0) (state d) r in
     record {

@@ -1,9 +1,9 @@
 -- One part more.
 use Rattle.std.proofs.Common.{◌≡◌, ℕ, ◌+◌, ◌<◌, ◌≤◌, refl, sym, ◌∙◌, ap, subst, List, get_or, length, set, length-set, Bool, true, false, Some, arith}
-use Rattle.list_laws.proofs.Places.{each_more, left_more}
 use Rattle.std.proofs.lemmas.Bool.Decides.{nat_tests}
 use Rattle.std.proofs.lemmas.Option.{same_Some, slice_get-get_or, slice_get_within}
 use Rattle.std.specs.Prelude.{nat_lt, slice_get}
+use Rattle.list_laws.proofs.Places.{each_more, left_more}
 use Rattle.piece_exchange.specs.Feeds.{next_round_of, turns_in, turns_left, FitsIn, HasPacked}
 use Rattle.piece_exchange.specs.Turns.{Told}
 use Rattle.piece_exchange.specs.declared.starting.Worker.{Worker}

@@ -1,7 +1,7 @@
 -- One helper more was told.
 use Rattle.std.proofs.Common.{refl, sym, ◌∙◌, get_or, length-set, arith}
-use Rattle.list_laws.proofs.Places.{each_more, left_more}
 use Rattle.std.proofs.lemmas.Option.{slice_get-get_or, slice_get_within}
+use Rattle.list_laws.proofs.Places.{each_more, left_more}
 use Rattle.piece_exchange.specs.Workers.{IsToldToGo}
 use Rattle.piece_exchange.proofs.results.tell_all.Goals as goal
 

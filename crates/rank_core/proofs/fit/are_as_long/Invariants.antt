@@ -1,4 +1,4 @@
-use Rattle.std.proofs.Common.{◌≡◌, List, map, length, take}
+use Rattle.std.proofs.Common.{◌≡◌, map, length, take}
 use Rattle.serial_spec.specs.RankSide.{wanted}
 use Rattle.rank_core.proofs.fit.are_as_long.Given as goal
 

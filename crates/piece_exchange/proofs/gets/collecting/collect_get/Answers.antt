@@ -12,7 +12,7 @@ returns c =
     let table = c.args.table.now in
     let rank = c.args.entry.now.rank in
     let lent = c.as_mut_slice-blobs.ensures.seen in
-    let whole = refilled (get_or table rank c.index-table-entry-rank.result) c.collect_entry.new.blobs (c.collect_entry.auto.blobs ∙ ap (λ (bs : List (List ℕ)). length bs) lent) in
+    let whole = refilled (get_or table rank c.index-table-entry.result) c.collect_entry.new.blobs (c.collect_entry.auto.blobs ∙ ap (λ (bs : List (List ℕ)). length bs) lent) in
     ap (λ (bs : List (List ℕ)). set table rank bs) whole
-    ∙ collected table rank c.args.entry.now.slot c.index-table-entry-rank.result c.as_mut_slice-blobs.result.now c.collect_entry.new.blobs
+    ∙ collected table rank c.args.entry.now.slot c.index-table-entry.result c.as_mut_slice-blobs.result.now c.collect_entry.new.blobs
     (buffer_cell c.args.hull.at (c.args.hull.at + c.args.hull.len) c.args.buf.now c.args.entry.now) (rank_in table rank c.args.entry.now.slot (omega arith)) lent c.collect_entry.ensures

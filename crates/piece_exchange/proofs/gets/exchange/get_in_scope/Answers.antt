@@ -13,7 +13,7 @@ use Rattle.serial_spec.proofs.MemberLaws.{at_in}
 use Rattle.piece_exchange.specs.Blobs.{AreAsLong, FitTable}
 use Rattle.piece_exchange.specs.Gets.{get_turns, AreRead, HasGot}
 use Rattle.piece_exchange.specs.Logs.{HasReadParts, HaveTakenTurns, IsKept}
-use Rattle.piece_exchange.specs.Put.{part_state, PartState, SomeZip}
+use Rattle.piece_exchange.specs.Put.{part_state, SomeZip}
 use Rattle.piece_exchange.specs.Shelves.{domain_of, part_of, IsToldToGo}
 use Rattle.piece_exchange.specs.declared.gets.starting.ReadWorker.{ReadWorker}
 use Rattle.piece_exchange.proofs.BackLaws.{and_first_ok, lent_twice, slice_kept}
@@ -66,8 +66,7 @@ returns-clause-got g c =
     let twice = lent_twice count first c.deref_mut.result.now mid c.deref_mut-2.result.now last n c.deref_mut.ensures.value c.tell_all.ensures.long c.deref_mut-2.ensures.value c.take_all-came.ensures.long in
     let empty : length c.start_all.new.crew.rest.items ≡ 0 = first_of (search rules, grind (arith, common_steps)) in
     let back = c.join_all-end.new.back.items in
-    let state : g.row.D.Denot → PartState
-    = part_state g.D.Disk in
+    let state = part_state g.D.Disk in
     let Got : g.row.D.Denot × Extent → g.row.D.Denot → Type 0
     = λ p d. HasGot (get_turns plan p.1) (state p.0) (state d) c.join_all-end.result in
     all_got_later (λ (p : g.row.D.Denot × Extent). get_turns plan p.1) state _ back c.join_all-end.result c.and.result
@@ -137,4 +136,4 @@ returns-clause-read g c =
     (subst (λ (t : List (List (List ℕ))). OnOk c.take_all-came.result (HaveTakenTurns plan.list.now mid last t filled)) given
     (subst (λ (ws : List (ReadWorker g.row.D.Denot)). OnOk c.take_all-came.result (HaveTakenTurns plan.list.now ws last c.deref_mut-3.result.now filled)) twice.same c.take_all-came.ensures.taken))
     (subst (λ (ws : List (ReadWorker g.row.D.Denot)). OnOk c.join_all-end.result ((worker : ReadWorker g.row.D.Denot) → In ws worker
-    → AreRead (get_turns plan (domain_of worker)) (from (part_of worker)) (held (part_of worker)) worker.shelf.line.items)) whole c.join_all-end.ensures.read)))
+    → AreRead (get_turns plan (domain_of worker)) (from (part_of worker)) (held (part_of worker)) worker.shelf.line.items)) twice.whole c.join_all-end.ensures.read)))

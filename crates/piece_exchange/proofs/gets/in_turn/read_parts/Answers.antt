@@ -10,7 +10,7 @@ use Rattle.nc_outside.specs.declared.disk.DiskErr.{DiskErr}
 use Rattle.serial_spec.proofs.MemberLaws.{at_in}
 use Rattle.piece_exchange.specs.Gets.{get_turns, HasGot}
 use Rattle.piece_exchange.specs.Logs.{HasReadParts}
-use Rattle.piece_exchange.specs.Put.{part_state, PartState}
+use Rattle.piece_exchange.specs.Put.{part_state}
 use Rattle.list_laws.proofs.Places.{middle_at}
 use Rattle.piece_exchange.proofs.BackLaws.{at_index, back_more, both_long, failed_more, zip_push}
 use Rattle.piece_exchange.proofs.CollectLaws.{fit_as_long}
@@ -23,8 +23,7 @@ none = record { at = 0; len = 0 }
 
 pub loop-part-init : goal.loop-part-init
 loop-part-init g c =
-    let state : g.row.D.Denot → PartState
-    = part_state g.D.Disk in
+    let state = part_state g.D.Disk in
     let Got : Result (Unit {0}) DiskErr → g.row.D.Denot × Extent → g.row.D.Denot → Type 0
     = λ r p d. HasGot (get_turns c.args.plan.now p.1) (state p.0) (state d) r in
     record {
@@ -81,8 +80,7 @@ loop-part-preserved g c =
     let came = c.read_next-part.result.1 in
     let plan = c.args.plan.now in
     let more = zip_push c.loop-part.yielded c.args.domains.now c.in-Some.part domain at in
-    let state : g.row.D.Denot → PartState
-    = part_state g.D.Disk in
+    let state = part_state g.D.Disk in
     let Got : Result (Unit {0}) DiskErr → g.row.D.Denot × Extent → g.row.D.Denot → Type 0
     = λ r p d. HasGot (get_turns plan p.1) (state p.0) (state d) r in
     record {

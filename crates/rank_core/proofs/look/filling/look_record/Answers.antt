@@ -1,4 +1,4 @@
-use Rattle.std.proofs.Common.{◌≡◌, ◌≤◌, ◌∙◌, sym, ap, ℕ, List, map, subst, arith}
+use Rattle.std.proofs.Common.{◌∙◌, sym, ap, ℕ, List, map, subst, arith}
 use Rattle.std.specs.List.{AllByRecursion}
 use Rattle.nc_base.specs.declared.request.Part.{Part}
 use Rattle.serial_spec.specs.Layout.{product}

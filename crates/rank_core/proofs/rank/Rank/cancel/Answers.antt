@@ -1,4 +1,4 @@
-use Rattle.std.proofs.Common.{◌≡◌, ap, arith, None}
+use Rattle.std.proofs.Common.{ap, arith, None}
 use Rattle.nc_base.specs.declared.answer.Code.TheVariants as code
 use Rattle.nc_base.specs.declared.step.Want.TheVariants.{Answered}
 use Rattle.serial_spec.specs.RankMachine.{is_chosen, named}

@@ -1,8 +1,6 @@
 use Rattle.std.proofs.Common.{◌≡◌, ◌∙◌, ap, subst, sym, cond, eqb, List, Some, get_or}
-use Rattle.std.specs.Prelude.{option_map, slice_get}
+use Rattle.std.specs.Prelude.{option_map}
 use Rattle.std.proofs.lemmas.Bool.{cond-true, cond-false, eq-eqb, ne_eqb}
-use Rattle.std.proofs.lemmas.List.Quantifiers.{position-Some}
-use Rattle.std.proofs.lemmas.Option.{slice_get_read}
 use Rattle.nc_base.specs.declared.header.Dim.{Dim}
 use Rattle.serial_spec.specs.Looks.{find_dim}
 use Rattle.serial_spec.specs.RankMachine.{dim_at}

@@ -1,7 +1,6 @@
-use Rattle.std.proofs.Common.{◌≡◌, ◌∙◌, ap, subst, sym, ℕ, List}
+use Rattle.std.proofs.Common.{◌≡◌, ◌∙◌, ap, subst, sym, ℕ}
 use Rattle.std.specs.Prelude.{OnOk}
-use Rattle.nc_base.specs.declared.plan.Post.{Post}
-use Rattle.request_queue.specs.Queued.{Queued, id_of, with_request}
+use Rattle.request_queue.specs.Queued.{Queued, with_request}
 use Rattle.std.proofs.lemmas.Result.{on_ok_weaker}
 use Rattle.serial_spec.specs.RankMachine.{Waiting, status_of, with_posted}
 use Rattle.rank_core.specs.Kept.{state_of}

@@ -1,8 +1,7 @@
-use Rattle.std.proofs.Common.{ap, subst, sym, List}
+use Rattle.std.proofs.Common.{subst, sym}
 use Rattle.std.specs.Prelude.{IfOk}
 use Rattle.std.proofs.lemmas.Result.{IfOk-weaker}
 use Rattle.nc_base.specs.declared.plan.Batch.{Batch}
-use Rattle.nc_base.specs.declared.plan.Post.{Post}
 use Rattle.serial_spec.specs.RankMachine.{is_chosen, named}
 use Rattle.request_queue.specs.Queued.{rank_with}
 use Rattle.rank_core.specs.Ranked.{Ranked}
