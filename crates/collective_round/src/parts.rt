@@ -7,6 +7,7 @@ ghost use Rattle.serial_spec.specs.DeviceCalls.{collective_windows};
 ghost use Rattle.serial_spec.specs.Lawful.{are_lawful_hints};
 ghost use Rattle.piece_exchange.specs.Turns.{turns_of};
 ghost use Rattle.collective_round.specs.Parts.{parts_of, with_parts, Adjoin, AreDomains, Follow, IsFront, IsSplit};
+ghost use Rattle.piece_exchange.specs.Put.{part_state};
 
 use file_domains::cut;
 use nc_base::{Extent, Hints, Memory};
@@ -72,10 +73,10 @@ pub(crate) fn split<D: Disk>(
     requires from { D.from disk.old ≡ 0 }
     requires domains { Adjoin domains.now }
     requires room { end_after 0 domains.now ≤ D.len disk.old }
-    ensures parts { IfOk result (λ parts. map (λ p. record { from = D.from p; len = D.len p; held = D.held p; calls = D.calls p; faults = D.faults p }) parts.items
-        ≡ parts_of (record { from = D.from disk.old; len = D.len disk.old; held = D.held disk.old; calls = D.calls disk.old; faults = D.faults disk.old }) domains.now) }
-    ensures front { OnOk result (IsFront domains.now (record { from = D.from disk.old; len = D.len disk.old; held = D.held disk.old; calls = D.calls disk.old; faults = D.faults disk.old })
-        (record { from = D.from disk.new; len = D.len disk.new; held = D.held disk.new; calls = D.calls disk.new; faults = D.faults disk.new })) }
+    ensures parts { IfOk result (λ parts. map (λ p. part_state D.Disk p) parts.items
+        ≡ parts_of (part_state D.Disk disk.old) domains.now) }
+    ensures front { OnOk result (IsFront domains.now (part_state D.Disk disk.old)
+        (part_state D.Disk disk.new)) }
     ensures kept { OnErr result ((D.from disk.new ≡ D.from disk.old) × (D.len disk.new ≡ D.len disk.old) × (D.held disk.new ≡ D.held disk.old) × (D.calls disk.new ≡ D.calls disk.old)) }
     ensures cause { D.faults disk.old < 2 ^ 64 → HasDiskCause (D.faults disk.old) (D.faults disk.new) result }
 {
@@ -103,9 +104,9 @@ fn split_backwards<D: Disk>(
     requires room { end_after 0 domains.now ≤ D.len disk.old }
     requires none { parts.old.items ≡ [] }
     requires capacity { length domains.now ≤ vec_capacity parts.old }
-    ensures split { IsSplit domains.now (record { from = D.from disk.old; len = D.len disk.old; held = D.held disk.old; calls = D.calls disk.old; faults = D.faults disk.old })
-        (record { from = D.from disk.new; len = D.len disk.new; held = D.held disk.new; calls = D.calls disk.new; faults = D.faults disk.new })
-        (map (λ p. record { from = D.from p; len = D.len p; held = D.held p; calls = D.calls p; faults = D.faults p }) (reverse parts.new.items)) result }
+    ensures split { IsSplit domains.now (part_state D.Disk disk.old)
+        (part_state D.Disk disk.new)
+        (map (λ p. part_state D.Disk p) (reverse parts.new.items)) result }
     ensures cause { HasDiskCause (D.faults disk.old) (D.faults disk.new) result }
 {
     let _size = disk.size();
@@ -117,10 +118,10 @@ fn split_backwards<D: Disk>(
 
 /// Takes the parts back behind the disk, one after another. It takes no memory.
 pub(crate) fn append_all<D: Disk>(disk: &mut D, parts: Vec<D>)
-    requires { Follow (D.from disk.old + D.len disk.old) (map (λ p. record { from = D.from p; len = D.len p; held = D.held p; calls = D.calls p; faults = D.faults p }) parts.items) }
-    ensures { record { from = D.from disk.new; len = D.len disk.new; held = D.held disk.new; calls = D.calls disk.new; faults = D.faults disk.new }
-        ≡ with_parts (record { from = D.from disk.old; len = D.len disk.old; held = D.held disk.old; calls = D.calls disk.old; faults = D.faults disk.old })
-        (map (λ p. record { from = D.from p; len = D.len p; held = D.held p; calls = D.calls p; faults = D.faults p }) parts.items) }
+    requires { Follow (D.from disk.old + D.len disk.old) (map (λ p. part_state D.Disk p) parts.items) }
+    ensures { part_state D.Disk disk.new
+        ≡ with_parts (part_state D.Disk disk.old)
+        (map (λ p. part_state D.Disk p) parts.items) }
 {
     for part in parts {
         disk.append(part);

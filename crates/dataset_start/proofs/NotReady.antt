@@ -19,7 +19,7 @@ use Rattle.redef_mover.specs.Relocation.{KeepsPlaces}
 use Rattle.dataset_start.specs.Dataset.{created_header, header_of_run, AreHeadersOf}
 use Rattle.dataset_start.specs.Readiness.{blank_file, dataset_end, empty_end, filled_if, IsCutRedefinition, IsNotReady, IsOpened, IsPartlyOpened, IsPartlyRedefined}
 use Rattle.dataset_start.proofs.Created.{front-of-zeros}
-use Rattle.dataset_start.proofs.Ready.{at_front, header-changed, header-kept, start-created}
+use Rattle.dataset_start.proofs.ReadyLaws.{at_front, header-changed, header-kept, start-created}
 use Rattle.nc_outside.proofs.ToldLaws.{told_as}
 use Rattle.std.proofs.lemmas.Bool.{both_ways}
 

@@ -29,7 +29,7 @@ use Rattle.dataset_start.specs.Stops.{IsOfDataset, line_of, status_of}
 use Rattle.dataset_start.specs.declared.stop.Stop.{Stop}
 use Rattle.dataset_start.specs.declared.stop.Stop.TheVariants as stops
 use Rattle.ncmpi_cli.proofs.Ran.{all_told, at_start}
-use Rattle.dataset_start.proofs.Ready.{file-kept, header-kept}
+use Rattle.dataset_start.proofs.ReadyLaws.{file-kept, header-kept}
 
 -- ---- what is so of the script
 

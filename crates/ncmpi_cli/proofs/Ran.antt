@@ -18,7 +18,7 @@ use Rattle.ncmpi_cli.specs.Headline.{BeginsFor, file_at_start, Ran, text_of, wat
 use Rattle.ncmpi_cli.specs.Outside.{Seen}
 use Rattle.dataset_start.specs.Dataset.{Asks}
 use Rattle.dataset_start.specs.Readiness.{first_calls, CanHaveBegun, IsReady}
-use Rattle.dataset_start.proofs.Ready.{same_script}
+use Rattle.dataset_start.proofs.ReadyLaws.{same_script}
 
 -- ---- a file that is told
 

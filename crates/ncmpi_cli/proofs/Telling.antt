@@ -13,7 +13,7 @@ use Rattle.dataset_start.specs.Readiness.{IsFaultless}
 use Rattle.dataset_start.specs.Stops.{line_of, status_of}
 use Rattle.dataset_start.specs.declared.stop.Stop.{Stop}
 use Rattle.dataset_start.specs.declared.stop.Stop.TheVariants as stops
-use Rattle.dataset_start.proofs.Ready.{same_script}
+use Rattle.dataset_start.proofs.ReadyLaws.{same_script}
 use Rattle.std.proofs.lemmas.Bool.{both_ways}
 
 -- ---- a text that is read is refused by nothing
@@ -109,12 +109,12 @@ told-in : (P : List ℕ → Type 0) (o : Option (List ℕ)) (line : List ℕ) �
 told-in P o line e p = subst (λ (x : Option (List ℕ)). IfSome x P) e p
 
 -- the fault of a script
-pub script : {Gives : List ℕ → Type 0} (left : Option (List ℕ)) (stop : Stop) (status : ℕ) → (status ≡ status_of stop) ⊎ (status ≡ 8)
+pub told_script : (Gives : List ℕ → Type 0) (left : Option (List ℕ)) (stop : Stop) (status : ℕ) → (status ≡ status_of stop) ⊎ (status ≡ 8)
     → (status_of stop ≡ 3 → IfSome left (λ text. refusal text ≡ line_of stop)) → (status ≡ status_of stop → IfSome (line_of stop) Gives)
     → status ≡ 3 → IfSome left (λ text. IsSomeAnd (refusal text) Gives)
-script left stop status (inr e) told gives s = absurd (omega (arith, e, s))
-script None stop status (inl e) told gives s = tt
-script {Gives} (Some text) stop status (inl e) told gives s =
+told_script Gives left stop status (inr e) told gives s = absurd (omega (arith, e, s))
+told_script Gives None stop status (inl e) told gives s = tt
+told_script Gives (Some text) stop status (inl e) told gives s =
     let own : status_of stop ≡ 3 = sym e ∙ s in
     let line = some_line stop own in
     subst (λ (o : Option (List ℕ)). IsSomeAnd o Gives) (sym (told own ∙ line.1)) (told-in Gives (line_of stop) line.0 line.1 (gives e))

@@ -2,7 +2,7 @@
 ghost use Rattle.std.specs.Prelude.{◌≡◌, ◌≤◌, [], length, true, All, IfSome};
 ghost use Rattle.nc_outside.specs.Cause.{Rose};
 ghost use Rattle.nc_base.specs.declared.script.Script.{Script};
-ghost use Rattle.rank_meeting.specs.Run.{IsRun};
+ghost use Rattle.rank_meeting.specs.Run.{RunsOn};
 ghost use Rattle.script_spec.specs.ScriptGrammar.{Reads};
 ghost use Rattle.serial_spec.specs.SoundHeaders.{is_sound};
 ghost use Rattle.serial_spec.specs.Lawful.{is_lawful};
@@ -91,7 +91,7 @@ fn run_beside<R: Threads + Wait + Sync, D: Disk, G: Gate>(
     requires from { D.from disk.old ≡ 0 }
     requires long { dataset_end header.now ≤ D.len disk.old }
     requires few { watchers ≤ 8 }
-    ensures run { IsRun script.now header.now (D.held disk.old) (D.calls disk.old) (D.faults disk.old) (D.held disk.new) (D.calls disk.new) (D.faults disk.new) records.new result.end }
+    ensures run { RunsOn D.Disk script.now header.now disk.old disk.new records.new result.end }
     ensures readings { IfSome result.seen (λ seen. (length seen.readings ≡ watchers) × All (AreReadings (length result.end.order)) seen.readings) }
     ensures counted { IfSome (D.held disk.old) (AreCounted script.now header.now result) }
 {

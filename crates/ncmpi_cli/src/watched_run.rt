@@ -5,7 +5,7 @@ ghost use Rattle.serial_spec.specs.SoundHeaders.{is_sound};
 ghost use Rattle.serial_spec.specs.Lawful.{is_lawful};
 ghost use Rattle.dataset_start.specs.Readiness.{dataset_end};
 ghost use Rattle.serial_spec.specs.Readings.{told_of};
-ghost use Rattle.turn_run.specs.Run.{IsRun};
+ghost use Rattle.turn_run.specs.Run.{RunsOn};
 ghost use Rattle.turn_run.specs.Told.{HasTold};
 ghost use Rattle.ncmpi_cli.specs.Watched.{AreReadings, seen_counts};
 ghost use Rattle.ncmpi_cli.specs.BeforeRun.{IsMade};
@@ -112,8 +112,7 @@ fn watch_in_scope<'s, 'd, E, R: Threads + Wait + Sync, B: Wait + Drop, D: Disk, 
     requires from { D.from disk.old ≡ 0 }
     requires long { dataset_end header.now ≤ D.len disk.old }
     requires made { IsMade header.now.records made }
-    ensures run { IsRun script.now header.now (D.held disk.old) (D.calls disk.old) (D.faults disk.old)
-        (D.held result.disk.now) (D.calls result.disk.now) (D.faults result.disk.now) result.records result.end }
+    ensures run { RunsOn D.Disk script.now header.now disk.old result.disk.now result.records result.end }
     ensures told { HasTold script.now header.now (D.held disk.old) (Some []) (Some result.board.pairs) result.end.order }
     ensures watched { result.end.fault ≡ None → length result.watched.items ≡ length made.views.items }
     ensures same { result.disk.ghost_name ≡ disk.entry.ghost_name }
@@ -197,7 +196,7 @@ fn not_begun<D: Disk>(
 ) -> RunEnd
     requires lawful { is_lawful script.now ≡ true }
     requires records { records ≡ header.now.records }
-    ensures run { IsRun script.now header.now (D.held disk.now) (D.calls disk.now) (D.faults disk.now) (D.held disk.now) (D.calls disk.now) (D.faults disk.now) records result }
+    ensures run { RunsOn D.Disk script.now header.now disk.now disk.now records result }
     ensures order { result.order ≡ [] }
     ensures fault { result.fault ≡ Some fault.Memory }
 {
@@ -220,7 +219,7 @@ fn run_watched<R: Threads + Wait + Sync, D: Disk, G: Gate>(
     requires from { D.from disk.old ≡ 0 }
     requires long { dataset_end header.now ≤ D.len disk.old }
     requires made { IsMade header.now.records made }
-    ensures run { IsRun script.now header.now (D.held disk.old) (D.calls disk.old) (D.faults disk.old) (D.held disk.new) (D.calls disk.new) (D.faults disk.new) records.new result.end }
+    ensures run { RunsOn D.Disk script.now header.now disk.old disk.new records.new result.end }
     ensures readings { IfSome result.seen (λ seen. (length seen.readings ≡ length made.entry.views.items) × All (AreReadings (length result.end.order)) seen.readings) }
     ensures counts { IfSome result.seen (λ seen. length seen.counts ≡ length result.end.order) }
     ensures told { IfSome result.seen (λ seen. IfSome (D.held disk.old) (λ file. seen.counts ≡ seen_counts (told_of script.now header.now file result.end.order))) }
@@ -237,8 +236,7 @@ fn run_watched<R: Threads + Wait + Sync, D: Disk, G: Gate>(
         |scope| -> Scoped<D, &R>
             requires { (is_sound header.now ≡ true) × (is_lawful script.now ≡ true) × (D.from disk.now ≡ 0)
                 × (dataset_end header.now ≤ D.len disk.now) × IsMade header.now.records made }
-            ensures run { IsRun script.entry.now header.entry.now (D.held disk.entry.now) (D.calls disk.entry.now) (D.faults disk.entry.now)
-                (D.held result.disk.now) (D.calls result.disk.now) (D.faults result.disk.now) result.records result.end }
+            ensures run { RunsOn D.Disk script.entry.now header.entry.now disk.entry.now result.disk.now result.records result.end }
             ensures told { HasTold script.entry.now header.entry.now (D.held disk.entry.now) (Some []) (Some result.board.pairs) result.end.order }
             ensures watched { result.end.fault ≡ None → length result.watched.items ≡ length made.entry.views.items }
             ensures same { result.disk.ghost_name ≡ disk.entry.ghost_name }
@@ -271,7 +269,7 @@ pub(crate) fn watch_ranks<R: Threads + Wait + Sync, D: Disk, G: Gate>(
     requires long { dataset_end header.now ≤ D.len disk.old }
     requires low { 1 ≤ watchers }
     requires high { watchers ≤ 8 }
-    ensures run { IsRun script.now header.now (D.held disk.old) (D.calls disk.old) (D.faults disk.old) (D.held disk.new) (D.calls disk.new) (D.faults disk.new) records.new result.end }
+    ensures run { RunsOn D.Disk script.now header.now disk.old disk.new records.new result.end }
     ensures readings { IfSome result.seen (λ seen. (length seen.readings ≡ watchers) × All (AreReadings (length result.end.order)) seen.readings) }
     ensures counts { IfSome result.seen (λ seen. length seen.counts ≡ length result.end.order) }
     ensures told { IfSome result.seen (λ seen. IfSome (D.held disk.old) (λ file. seen.counts ≡ seen_counts (told_of script.now header.now file result.end.order))) }

@@ -34,7 +34,7 @@ use Rattle.thread_run.proofs.ThreadTies.{Told, begun}
 use Rattle.nc_outside.proofs.ToldLaws.{with_end-with_end, rose_before}
 
 -- what the owner tells
-pub record Owner (script : Script) (header : Header) (arrivals : List Arrival) (given : ℕ → List OwnerItem) (held : Option (List ℕ)) (calls : Option (List DiskCall)) (faults : ℕ)
+pub record OwnerSide (script : Script) (header : Header) (arrivals : List Arrival) (given : ℕ → List OwnerItem) (held : Option (List ℕ)) (calls : Option (List DiskCall)) (faults : ℕ)
     (left : Option (List ℕ)) (made : Option (List DiskCall)) (failed records : ℕ) (end : ServeEnd) : Type 0 where
   pub done : end.fault ≡ None → (file : List ℕ) → IsDone (setting_of script header) (opening script.ranks (counted file header.records)) arrivals script.ranks given end.order end.stranger
   pub bytes : end.fault ≡ None → IfSome held (λ file. IsDoneSo (setting_of script header) (opening script.ranks (counted file header.records)) arrivals script.ranks given left records)
@@ -58,7 +58,7 @@ module _ (script : Script) (header : Header) (arrivals : List Arrival) (given : 
 
   -- the owner's order begins one of the script's
   pub order_begun : (held : Option (List ℕ)) (calls : Option (List DiskCall)) (faults : ℕ) (left : Option (List ℕ)) (made : Option (List DiskCall)) (failed records : ℕ) (end : ServeEnd)
-      → Owner script header arrivals given held calls faults left made failed records end → HasBegun script end.order
+      → OwnerSide script header arrivals given held calls faults left made failed records end → HasBegun script end.order
   order_begun held calls faults left made failed records end o = by (some_fault end.fault)
     where
       append_none : (xs : List Arrival) → xs ≡ xs ++ []
@@ -80,7 +80,7 @@ module _ (script : Script) (header : Header) (arrivals : List Arrival) (given : 
 
   pub run_all : (held : Option (List ℕ)) (calls : Option (List DiskCall)) (faults : ℕ) (held' : Option (List ℕ)) (calls' : Option (List DiskCall)) (faults' count : ℕ) (before : ServeEnd)
       (left : Option (List ℕ)) (made : Option (List DiskCall)) (failed records : ℕ) (end : RunEnd)
-      → Owner script header arrivals given held calls faults held' calls' faults' count before → Closing header ends before held' calls' faults' count left made failed records end
+      → OwnerSide script header arrivals given held calls faults held' calls' faults' count before → Closing header ends before held' calls' faults' count left made failed records end
       → HasCut script header held left records end → IsRun script header held calls faults left made failed records end
   run_all held calls faults held' calls' faults' count before left made failed records end o c cut_off = record {
     legal = λ none. subst (λ (ms : List Mark). IsLegal script ms) (sym c.order) (fin none).legal;
@@ -137,7 +137,7 @@ pub owner_of : (script : Script) (header : Header) (arrivals : List Arrival) (gi
     → (end.fault ≡ None → IfSome held (λ file. IsDoneSo (setting_of script header) (opening n (counted file header.records)) arrivals n given left records))
     → (end.fault ≡ None → AreSingle arrivals → IfSome held (λ file. made ≡ with_end calls (owner_calls script.hints (setting_of script header) (opening n (counted file header.records)) arrivals)))
     → ((e : StepErr) → end.fault ≡ Some e → HasFailed (setting_of script header) (opening n) header.records arrivals n given end.order end.stranger)
-    → (end.fault ≡ Some fault.Disk → Rose faults failed) → faults ≤ failed → Owner script header arrivals given held calls faults left made failed records end
+    → (end.fault ≡ Some fault.Disk → Rose faults failed) → faults ≤ failed → OwnerSide script header arrivals given held calls faults left made failed records end
 owner_of script header arrivals given held calls faults left made failed records end n e done bytes device cut_off cause later = record {
   done = λ none file. subst (λ (m : ℕ). IsDone (setting_of script header) (opening m (counted file header.records)) arrivals m given end.order end.stranger) e (done none file);
   bytes = λ none. subst (λ (m : ℕ). IfSome held (λ file. IsDoneSo (setting_of script header) (opening m (counted file header.records)) arrivals m given left records)) e (bytes none);

@@ -14,7 +14,7 @@ ghost use Rattle.serial_spec.specs.RankSide.{wanted};
 ghost use Rattle.serial_spec.specs.SerialEnd.{advance, after_mark, Going};
 ghost use Rattle.serial_spec.specs.SharedByte.{covered};
 ghost use Rattle.serial_spec.specs.Torn.{IsTorn};
-ghost use Rattle.collective_round.specs.Rounds.{counted, puts_in, setting, HasStepCause};
+ghost use Rattle.collective_round.specs.Rounds.{dataset_setting, counted, puts_in, HasStepCause};
 ghost use Rattle.run_laws.specs.Ways.{meetings};
 ghost use Rattle.turn_run.specs.Begun.{HasBegun};
 ghost use Rattle.turn_run.specs.Counts.{IsCount, IsRise};
@@ -172,15 +172,15 @@ pub fn meet_on_file<R: Threads + Wait + Sync, D: Disk, G: Gate>(
     requires known { IsRise dataset.now.header.now (D.len disk.old) known }
     requires records { IsCount dataset.now.header.now (D.len disk.old) records.old }
     requires from { D.from disk.old ≡ 0 }
-    ensures told { IfOk result (λ end. end.0 ≡ told (setting dataset.now.header.now dataset.now.hints.now) (puts_in job.now.batches)) }
-    ensures bytes { OnOk result (D.held disk.new ≡ after (λ file. (met (setting dataset.now.header.now dataset.now.hints.now) job.now.batches known (counted file records.old)).file) (D.held disk.old)) }
-    ensures records { OnOk result (records.new ≡ max records.old (max (needed_now (setting dataset.now.header.now dataset.now.hints.now) (puts_in job.now.batches)) known)) }
-    ensures got { IfOk result (λ end. IfSome (D.held disk.new) (λ file. end.1 ≡ map (λ b. map (get_post (setting dataset.now.header.now dataset.now.hints.now) file) b.gets) job.now.batches)) }
+    ensures told { IfOk result (λ end. end.0 ≡ told (dataset_setting dataset.now) (puts_in job.now.batches)) }
+    ensures bytes { OnOk result (D.held disk.new ≡ after (λ file. (met (dataset_setting dataset.now) job.now.batches known (counted file records.old)).file) (D.held disk.old)) }
+    ensures records { OnOk result (records.new ≡ max records.old (max (needed_now (dataset_setting dataset.now) (puts_in job.now.batches)) known)) }
+    ensures got { IfOk result (λ end. IfSome (D.held disk.new) (λ file. end.1 ≡ map (λ b. map (get_post (dataset_setting dataset.now) file) b.gets) job.now.batches)) }
     ensures fits { IfOk result (λ end. map (λ blobs. map (λ blob. length blob) blobs) end.1 ≡ map (λ b. map (wanted dataset.now.header.now) b.gets) job.now.batches) }
-    ensures calls { OnOk result (IsOneRise known job.now.batches → IfSome (D.held disk.old) (λ file. D.calls disk.new ≡ with_end (D.calls disk.old) (met_calls dataset.now.hints.now (setting dataset.now.header.now dataset.now.hints.now) job.now.batches known (counted file records.old)))) }
+    ensures calls { OnOk result (IsOneRise known job.now.batches → IfSome (D.held disk.old) (λ file. D.calls disk.new ≡ with_end (D.calls disk.old) (met_calls dataset.now.hints.now (dataset_setting dataset.now) job.now.batches known (counted file records.old)))) }
     ensures refused { OnErr result (IsOneRise known job.now.batches → BothTold (λ old left. IsTorn (covered dataset.now.header.now (puts_in job.now.batches)) (byte_len (count_width dataset.now.header.now.version)) old
-        (met (setting dataset.now.header.now dataset.now.hints.now) job.now.batches known (counted old records.old)).file left) (D.held disk.old) (D.held disk.new)) }
-    ensures kept { OnErr result (IsOneRise known job.now.batches → (records.new ≡ records.old) ⊎ (records.new ≡ max records.old (max (needed_now (setting dataset.now.header.now dataset.now.hints.now) (puts_in job.now.batches)) known))) }
+        (met (dataset_setting dataset.now) job.now.batches known (counted old records.old)).file left) (D.held disk.old) (D.held disk.new)) }
+    ensures kept { OnErr result (IsOneRise known job.now.batches → (records.new ≡ records.old) ⊎ (records.new ≡ max records.old (max (needed_now (dataset_setting dataset.now) (puts_in job.now.batches)) known))) }
     ensures count { IsCount dataset.now.header.now (D.len disk.new) records.new }
     ensures from { D.from disk.new ≡ 0 }
     ensures longer { D.len disk.old ≤ D.len disk.new }

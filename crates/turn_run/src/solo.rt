@@ -11,7 +11,7 @@ ghost use Rattle.serial_spec.specs.SharedByte.{covered};
 ghost use Rattle.serial_spec.specs.Torn.{IsTorn};
 ghost use Rattle.rank_core.specs.Offered.{IsSoundOffer};
 ghost use Rattle.collective_round.specs.Ended.{pair_of};
-ghost use Rattle.collective_round.specs.Rounds.{counted, setting, HasStepCause};
+ghost use Rattle.collective_round.specs.Rounds.{dataset_setting, counted, HasStepCause};
 ghost use Rattle.turn_run.specs.Counts.{IsCount, IsFit};
 ghost use Rattle.turn_run.specs.Steps.{needed_after};
 ghost use Rattle.var_layout.specs.Measures.{AreMeasures};
@@ -35,13 +35,13 @@ pub fn solo_reply<D: Disk>(
     requires hints { are_lawful_hints dataset.now.hints.now ≡ true }
     requires fit { IsFit dataset.now.header.now (D.len disk.old) offer.now }
     requires from { D.from disk.old ≡ 0 }
-    ensures reply { IfOk result (λ reply. IfSome (D.held disk.old) (λ file. reply ≡ (solo (setting dataset.now.header.now dataset.now.hints.now) number offer.now (counted file 0)).1)) }
-    ensures told { IfOk result (λ reply. reply.pair ≡ told (setting dataset.now.header.now dataset.now.hints.now) (puts_of (number, offer.now))) }
-    ensures records { IfOk result (λ reply. reply.records ≡ max offer.now.known (needed_now (setting dataset.now.header.now dataset.now.hints.now) (puts_of (number, offer.now)))) }
-    ensures bytes { OnOk result (D.held disk.new ≡ after (λ file. (solo (setting dataset.now.header.now dataset.now.hints.now) number offer.now (counted file 0)).0.file) (D.held disk.old)) }
+    ensures reply { IfOk result (λ reply. IfSome (D.held disk.old) (λ file. reply ≡ (solo (dataset_setting dataset.now) number offer.now (counted file 0)).1)) }
+    ensures told { IfOk result (λ reply. reply.pair ≡ told (dataset_setting dataset.now) (puts_of (number, offer.now))) }
+    ensures records { IfOk result (λ reply. reply.records ≡ max offer.now.known (needed_now (dataset_setting dataset.now) (puts_of (number, offer.now)))) }
+    ensures bytes { OnOk result (D.held disk.new ≡ after (λ file. (solo (dataset_setting dataset.now) number offer.now (counted file 0)).0.file) (D.held disk.old)) }
     ensures refused { OnErr result (BothTold (λ old left. IsTorn (covered dataset.now.header.now (puts_of (number, offer.now))) 0 old
-        (solo (setting dataset.now.header.now dataset.now.hints.now) number offer.now (counted old 0)).0.file left) (D.held disk.old) (D.held disk.new)) }
-    ensures calls { OnOk result (IfSome (D.held disk.old) (λ file. D.calls disk.new ≡ with_end (D.calls disk.old) (solo_calls dataset.now.hints.now (setting dataset.now.header.now dataset.now.hints.now) number offer.now (counted file 0)))) }
+        (solo (dataset_setting dataset.now) number offer.now (counted old 0)).0.file left) (D.held disk.old) (D.held disk.new)) }
+    ensures calls { OnOk result (IfSome (D.held disk.old) (λ file. D.calls disk.new ≡ with_end (D.calls disk.old) (solo_calls dataset.now.hints.now (dataset_setting dataset.now) number offer.now (counted file 0)))) }
     ensures fits { IfOk result (λ reply. map (λ blob. length blob) reply.got ≡ map (wanted dataset.now.header.now) offer.now.batch.gets) }
     ensures count { IfOk result (λ reply. IsCount dataset.now.header.now (D.len disk.new) reply.records) }
     ensures from { D.from disk.new ≡ 0 }

@@ -1,13 +1,13 @@
 -- One part more is taken back.
 use Rattle.std.proofs.Common.{◌+◌, arith}
-use Rattle.piece_exchange.specs.Put.{PartState}
+use Rattle.piece_exchange.specs.Put.{PartState, part_state}
 use Rattle.collective_round.proofs.PartSplits.{follow_at, follow_first, joined_next, joined_one}
 use Rattle.collective_round.proofs.parts.append_all.Goals as goal
 
 pub loop-part-preserved : goal.loop-part-preserved
 loop-part-preserved g c =
     let state : g.row.D.Denot → PartState
-    = λ d. record { from = g.D.Disk.from d; len = g.D.Disk.len d; held = g.D.Disk.held d; calls = g.D.Disk.calls d; faults = g.D.Disk.faults d } in
+    = λ d. part_state g.D.Disk d in
     let old = c.loop-part.disk in
     let new = c.append.new.self in
     let part = c.in-Some.part in

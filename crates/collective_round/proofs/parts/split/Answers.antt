@@ -1,7 +1,7 @@
 -- What was split off goes back.
 use Rattle.std.proofs.Common.{◌≡◌, ◌+◌, ◌-◌, ◌^◌, ◌∙◌, min, sym, ap, subst, List, drop, map, arith}
 use Rattle.nc_outside.specs.declared.disk.DiskErr.TheVariants.{Failed}
-use Rattle.piece_exchange.specs.Put.{PartState}
+use Rattle.piece_exchange.specs.Put.{PartState, part_state}
 use Rattle.collective_round.specs.Parts.{parts_of, with_parts, Follow}
 use Rattle.collective_round.proofs.PartLaws.{parts_follow, parts_rejoined}
 use Rattle.collective_round.proofs.PartSplits.{adjoin_dropped, end_dropped, joined_at_least, same_fault}
@@ -10,7 +10,7 @@ use Rattle.collective_round.proofs.parts.split.Goals as goal
 pub append_all-requires-after_bounds : goal.append_all-requires-after_bounds
 append_all-requires-after_bounds g c κs within =
     let state : g.row.D.Denot → PartState
-    = λ d. record { from = g.D.Disk.from d; len = g.D.Disk.len d; held = g.D.Disk.held d; calls = g.D.Disk.calls d; faults = g.D.Disk.faults d } in
+    = λ d. part_state g.D.Disk d in
     let split = c.split_backwards-end.ensures.split in
     let left = drop split.at c.args.domains.now in
     subst (λ (ps : List PartState). Follow (g.D.Disk.from c.split_backwards-end.new.disk + g.D.Disk.len c.split_backwards-end.new.disk) ps)
@@ -21,7 +21,7 @@ append_all-requires-after_bounds g c κs within =
 pub returns-in-Err-clause-kept : goal.returns-in-Err-clause-kept
 returns-in-Err-clause-kept g c =
     let state : g.row.D.Denot → PartState
-    = λ d. record { from = g.D.Disk.from d; len = g.D.Disk.len d; held = g.D.Disk.held d; calls = g.D.Disk.calls d; faults = g.D.Disk.faults d } in
+    = λ d. part_state g.D.Disk d in
     let split = c.split_backwards-end.ensures.split in
     let left = drop split.at c.args.domains.now in
     let mid = state c.split_backwards-end.new.disk in
@@ -38,7 +38,7 @@ returns-in-Err-clause-kept g c =
 pub returns-in-Err-clause-cause : goal.returns-in-Err-clause-cause
 returns-in-Err-clause-cause g c = λ counted.
     let state : g.row.D.Denot → PartState
-    = λ d. record { from = g.D.Disk.from d; len = g.D.Disk.len d; held = g.D.Disk.held d; calls = g.D.Disk.calls d; faults = g.D.Disk.faults d } in
+    = λ d. part_state g.D.Disk d in
     let mid = state c.split_backwards-end.new.disk in
     let parts = map state c.reverse.new.self.items in
     let cause = c.in-Err.ensures.cause in

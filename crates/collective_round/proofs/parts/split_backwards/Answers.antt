@@ -2,7 +2,7 @@
 use Rattle.std.proofs.Common.{◌≡◌, ◌-◌, ◌∙◌, sym, ap, subst, List, [], ◌∷◌, ◌++◌, drop, get_or, length, arith}
 use Rattle.std.proofs.lemmas.List.{length_push}
 use Rattle.nc_base.specs.declared.plan.Extent.{Extent}
-use Rattle.piece_exchange.specs.Put.{PartState}
+use Rattle.piece_exchange.specs.Put.{PartState, part_state}
 use Rattle.collective_round.specs.Parts.{begin_or, part_between, parts_of, IsFront}
 use Rattle.collective_round.proofs.PartSplits.{begins_there, front_more, last_left, part_split, turned_more}
 use Rattle.collective_round.proofs.parts.split_backwards.Goals as goal
@@ -13,7 +13,7 @@ none = record { at = 0; len = 0 }
 pub split_off-requires-clause-high : goal.split_off-requires-clause-high
 split_off-requires-clause-high g c =
     let state : g.row.D.Denot → PartState
-    = λ d. record { from = g.D.Disk.from d; len = g.D.Disk.len d; held = g.D.Disk.held d; calls = g.D.Disk.calls d; faults = g.D.Disk.faults d } in
+    = λ d. part_state g.D.Disk d in
     let domain = get_or c.args.domains.now (c.loop-k.k - 1) none in
     let rest = drop c.loop-k.k c.args.domains.now in
     let last = last_left c.args.domains.now c.loop-k.k (g.D.Disk.len c.args.disk.now) none c.requires.domains c.requires.room (omega arith) (omega arith) in
@@ -22,7 +22,7 @@ split_off-requires-clause-high g c =
 pub loop-k-preserved : goal.loop-k-preserved
 loop-k-preserved g c =
     let state : g.row.D.Denot → PartState
-    = λ d. record { from = g.D.Disk.from d; len = g.D.Disk.len d; held = g.D.Disk.held d; calls = g.D.Disk.calls d; faults = g.D.Disk.faults d } in
+    = λ d. part_state g.D.Disk d in
     let disk = state c.args.disk.now in
     let mid = state c.loop-k.disk in
     let new = state c.split_off.new.self in

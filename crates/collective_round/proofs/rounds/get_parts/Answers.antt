@@ -5,7 +5,7 @@ use Rattle.std.specs.Prelude.{flat_map}
 use Rattle.list_laws.proofs.Optional.{if_some_at}
 use Rattle.piece_exchange.specs.Gets.{get_turns}
 use Rattle.piece_exchange.specs.Blobs.{HasRead}
-use Rattle.piece_exchange.specs.Put.{PartState}
+use Rattle.piece_exchange.specs.Put.{PartState, part_state}
 use Rattle.collective_round.proofs.PartDomains.{as_many_parts, domain_of_part, on_some_part}
 use Rattle.collective_round.proofs.PutPartLaws.{are_split, cover_room, parts_cause, plan_room, AreSplit}
 use Rattle.collective_round.proofs.GetPartLaws.{gets_follow, part_read, parts_got, told_read, HasGotWhole}
@@ -13,7 +13,7 @@ use Rattle.collective_round.proofs.rounds.get_parts.Given.{Over}
 use Rattle.collective_round.proofs.rounds.get_parts.Goals as goal
 
 abbrev state : (g : Over) → g.row.D.Denot → PartState
-state g d = record { from = g.D.Disk.from d; len = g.D.Disk.len d; held = g.D.Disk.held d; calls = g.D.Disk.calls d; faults = g.D.Disk.faults d }
+state g d = part_state g.D.Disk d
 
 pub split-requires-clause-room : goal.split-requires-clause-room
 split-requires-clause-room g c κs within =

@@ -3,7 +3,7 @@ use Rattle.std.proofs.Common.{◌∙◌, rules, arith}
 use Rattle.std.proofs.lemmas.Grind.{common_steps}
 use Rattle.std.specs.Prelude.{flat_map}
 use Rattle.piece_exchange.specs.Plan.{planned_turns, source_in}
-use Rattle.piece_exchange.specs.Put.{PartState}
+use Rattle.piece_exchange.specs.Put.{PartState, part_state}
 use Rattle.collective_round.proofs.PartDomains.{as_many_parts, domain_of_part}
 use Rattle.collective_round.proofs.PutParts.{HasPutWhole}
 use Rattle.collective_round.proofs.PutPartLaws.{are_split, cover_room, parts_cause, parts_follow, parts_put, plan_room}
@@ -11,7 +11,7 @@ use Rattle.collective_round.proofs.rounds.put_parts.Given.{Over}
 use Rattle.collective_round.proofs.rounds.put_parts.Goals as goal
 
 abbrev state : (g : Over) → g.row.D.Denot → PartState
-state g d = record { from = g.D.Disk.from d; len = g.D.Disk.len d; held = g.D.Disk.held d; calls = g.D.Disk.calls d; faults = g.D.Disk.faults d }
+state g d = part_state g.D.Disk d
 
 pub split-requires-clause-room : goal.split-requires-clause-room
 split-requires-clause-room g c κs within =

@@ -6,11 +6,12 @@ use Rattle.nc_base.specs.declared.step.StepErr.TheVariants as fault
 use Rattle.dataset_start.specs.declared.stop.Stop.{Stop}
 use Rattle.dataset_start.specs.declared.stop.Stop.TheVariants as stops
 use Rattle.script_laws.proofs.LawfulLaws.{read_lawful}
+use Rattle.ncmpi_cli.specs.Headline.{GivesLine}
 use Rattle.ncmpi_cli.specs.Readings.{pairs_of, readings_of}
 use Rattle.ncmpi_cli.proofs.CutOff.{cut_off}
 use Rattle.ncmpi_cli.proofs.Ran.{begins, begins_none, can_have_begun, nobody_read, ran}
 use Rattle.ncmpi_cli.proofs.Reading.{read, told_by_no_text, untold}
-use Rattle.ncmpi_cli.proofs.Telling.{dataset, faulty, no_dataset, no_disk, no_script, not_unread, not_wrong, refused, script, wants_memory, whole_or_memory}
+use Rattle.ncmpi_cli.proofs.Telling.{dataset, faulty, no_dataset, no_disk, no_script, not_unread, not_wrong, refused, told_script, wants_memory, whole_or_memory}
 use Rattle.ncmpi_cli.proofs.script_run.run_script.Goals as goal
 use Rattle.nc_outside.proofs.ToldLaws.{rose_before}
 
@@ -32,7 +33,8 @@ returns-in-Err-clause-ends g c =
     record {
       well = λ s. absurd (told_by_no_text stop status told (inl s));
       cut = λ s. absurd (told_by_no_text stop status told (inr s));
-      script = script left stop status told own.refused c.tell.ensures.line;
+      script = told_script (GivesLine (g.K.Sink.faults c.args.out.now) (g.K.Sink.faults c.tell.new.out) (g.K.Sink.given c.args.out.now) (g.K.Sink.given c.tell.new.out))
+          left stop status told own.refused c.tell.ensures.line;
       dataset = dataset left held stop status told own.bad c.tell.ensures.line;
       refused = λ asks source. refused left held stop status told formed (λ x. source (own.source (ap (λ (s : Stop). Err s) x))) own.bad own.asked asks;
       faulty = λ asks source disk.

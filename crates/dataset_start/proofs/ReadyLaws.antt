@@ -33,7 +33,7 @@ use Rattle.dataset_start.specs.declared.stop.Stop.{Stop}
 use Rattle.dataset_start.specs.declared.stop.Stop.TheVariants as stops
 use Rattle.dataset_start.proofs.Opened.{begins_once}
 use Rattle.dataset_start.proofs.Redefinable.{redefined_sound}
-use Rattle.dataset_start.proofs.Redefined.{long_enough, same_end}
+use Rattle.dataset_start.proofs.RedefinedLaws.{long_enough, same_end}
 use Rattle.std.proofs.lemmas.Bool.{both_ways}
 
 -- ---- nothing is added to a dataset, or something
