@@ -10,20 +10,15 @@ ghost use Rattle.cdf_header.specs.Spans.{span_of, spans_of};
 
 use crate::shared::first_shared;
 use crate::spans::Span;
-use nc_base::{CLASSIC_RECORD_LIMIT, Header, HeaderErr, Memory, RECORD_LIMIT, Var};
+use nc_base::{Header, HeaderErr, Memory, Var};
 use std::alloc::Global;
-use var_layout::{is_record, measure, recsize_of, slab_of};
+use var_layout::{is_record, measure, record_limit, recsize_of, slab_of};
 
 /// Whether a variable does not keep its bound or the record count passes its limit.
 fn is_too_large(header: &Header) -> bool
     ensures { result ≡ is_too_large header.now }
 {
-    let limit = if header.version == 5 {
-        RECORD_LIMIT
-    } else {
-        CLASSIC_RECORD_LIMIT
-    };
-    measure(header).is_err() || header.records >= limit
+    measure(header).is_err() || header.records >= record_limit(header.version)
 }
 
 fn span_of(header: &Header, number: usize, var: &Var) -> Span

@@ -1,11 +1,12 @@
 -- Lists that are made a block at a time.
-use Rattle.std.proofs.Common.{◌≡◌, ℕ, zero, suc, ◌+◌, ◌<◌, refl, ◌∙◌, ap, sym, arith, List, [], ◌∷◌, ◌++◌, length, map, take, set, append_assoc}
+use Rattle.std.proofs.Common.{◌≡◌, ℕ, ◌+◌, ◌<◌, refl, ◌∙◌, ap, sym, arith, List, [], ◌∷◌, ◌++◌, length, map, take, set, append_assoc}
 use Rattle.std.specs.Prelude.{flat_map}
 use Rattle.std.specs.List.{range_with_len}
 use Rattle.std.proofs.lemmas.List.{take_more_set}
 use Rattle.std.proofs.lemmas.List.Concat.{flat_map-append}
 use Rattle.std.proofs.lemmas.List.Folds.{flat_map-map}
 use Rattle.std.proofs.lemmas.List.FromFn.{map-range_with_len_more}
+use Rattle.list_laws.proofs.Ranges.{range_append}
 
 -- one element more is written
 pub written_more : {X : Type 0} (f : ℕ → X) (s i : ℕ) (xs : List X) (y : X) → i < length xs → take i xs ≡ map f (range_with_len s i) → y ≡ f (s + i)
@@ -24,18 +25,6 @@ block_bytes f forms s n m is long =
     ∙ flat_map-map (λ form. form) f (range_with_len s m)
     ∙ ap (λ (k : ℕ). flat_map f (range_with_len s k)) long
 
-both_ranges : (s m n : ℕ) → range_with_len s (m + n) ≡ range_with_len s m ++ range_with_len (s + m) n
-both_ranges s zero n =
-    let here : s ≡ s + 0 = omega arith in
-    let all : 0 + n ≡ n = omega arith in
-    ap (λ (k : ℕ). range_with_len s k) all ∙ ap (λ (k : ℕ). range_with_len k n) here
-both_ranges s (suc m) n =
-    let next : suc m + n ≡ suc (m + n) = omega arith in
-    let start : s + 1 + m ≡ s + suc m = omega arith in
-    ap (λ (k : ℕ). range_with_len s k) next
-    ∙ ap (λ (l : List ℕ). s ∷ l) (both_ranges (s + 1) m n)
-    ∙ ap (λ (k : ℕ). s ∷ (range_with_len (s + 1) m ++ range_with_len k n)) start
-
 -- one block more
 pub blocks_more : (f : ℕ → List ℕ) (old now new : List ℕ) (done here : ℕ) → now ≡ old ++ flat_map f (range_with_len 0 done)
     → new ≡ now ++ flat_map f (range_with_len done here) → new ≡ old ++ flat_map f (range_with_len 0 (done + here))
@@ -46,4 +35,4 @@ blocks_more f old now new done here before added =
     ∙ append_assoc old (flat_map f (range_with_len 0 done)) (flat_map f (range_with_len done here))
     ∙ ap (λ (l : List ℕ). old ++ l) (sym (flat_map-append f (range_with_len 0 done) (range_with_len done here)))
     ∙ ap (λ (k : ℕ). old ++ flat_map f (range_with_len 0 done ++ range_with_len k here)) (sym start)
-    ∙ ap (λ (l : List ℕ). old ++ flat_map f l) (sym (both_ranges 0 done here))
+    ∙ ap (λ (l : List ℕ). old ++ flat_map f l) (sym (range_append 0 done here))

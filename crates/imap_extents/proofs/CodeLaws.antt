@@ -1,10 +1,10 @@
 -- The lowest bytes of a number: those of a value, where the value is in a type's range.
-use Rattle.std.proofs.Common.{◌≡◌, ℕ, zero, suc, ◌+◌, ◌*◌, ◌^◌, ◌<◌, ◌≤◌, refl, ◌∙◌, ap, sym, List, ◌∷◌, ◌++◌, map, ◌||◌, Bool, true, false, not, arith, ℤ, pos, negsuc, ◌+ℤ◌, ◌*ℤ◌, FitsSigned, to_z, of_z}
-use Rattle.std.specs.Prelude.{◌%◌, flat_map, nat_lt}
+use Rattle.std.proofs.Common.{◌≡◌, ℕ, zero, suc, ◌+◌, ◌*◌, ◌^◌, ◌<◌, ◌≤◌, refl, ◌∙◌, ap, sym, List, ◌∷◌, ◌++◌, map, true, false, not, arith, ℤ, pos, negsuc, ◌+ℤ◌, ◌*ℤ◌, FitsSigned, to_z, of_z}
+use Rattle.std.specs.Prelude.{◌%◌, flat_map}
 use Rattle.std.specs.List.{list_any, range_with_len}
 use Rattle.std.specs.Int.{Width, w8, w16, w32, w64, byte_len, byte_at, bytes_high_first, to_be_bytes, cast_unsigned, cast_signed, int_wrap, int_rem_euclid}
 use Rattle.std.specs.Int.RustNames.{unsigned_abs}
-use Rattle.std.proofs.lemmas.Bool.Decides.{nat_tests}
+use Rattle.std.proofs.lemmas.Bool.{not-false, or_parts, ltb-true}
 use Rattle.std.proofs.lemmas.Int.{of_z-to_z, to_z-of_z, wrapping_add-bits, wrapping_mul-bits, int_wrap-add_right}
 use Rattle.nc_base.specs.declared.header.NcType.{NcType}
 use Rattle.nc_base.specs.declared.header.NcType.TheVariants.{Byte, Char, Short, Int, Float, Double, UByte, UShort, UInt, Int64, UInt64}
@@ -84,9 +84,6 @@ small (negsuc n) = omega arith
 wrapped : (z : ℤ) → cast_unsigned w64 (int_wrap w64 z) ≡ unsigned_abs (int_rem_euclid z (pos (2 ^ bits w64)))
 wrapped z = ap (λ (y : ℤ). cast_unsigned w64 y) (opened z) ∙ of_z-to_z w64 (unsigned_abs (int_rem_euclid z (pos (2 ^ bits w64)))) (small z)
 
-below : (m n : ℕ) → nat_lt m n ≡ true → m < n
-below m n h = grind (arith, nat_tests)
-
 complement_8 : (n : ℕ) → 2 * n < 256 ^ 1 → to_be_bytes w8 (cast_unsigned w64 (int_wrap w64 (negsuc n))) ≡ to_be_bytes w8 (cast_unsigned w8 (negsuc n))
 complement_8 n h =
     let e : unsigned_abs (int_rem_euclid (negsuc n) (pos (2 ^ bits w64))) % 2 ^ 8 ≡ cast_unsigned w8 (negsuc n) = omega (arith, h) in
@@ -110,10 +107,10 @@ complement_64 n h =
 -- a number in the range of a type has there the lowest bytes that it has in 64 bits
 pub number_form : (kind : NcType) (z : ℤ) → fits kind (value.Number z) ≡ true → to_be_bytes (width_of kind) (cast_unsigned w64 (int_wrap w64 z)) ≡ ext kind (value.Number z)
 number_form kind (pos n) h = ap (λ (m : ℕ). to_be_bytes (width_of kind) m) (wrapped (pos n)) ∙ lowest_64 (width_of kind) n (narrow kind)
-number_form Byte (negsuc n) h = complement_8 n (below _ _ h)
-number_form Short (negsuc n) h = complement_16 n (below _ _ h)
-number_form Int (negsuc n) h = complement_32 n (below _ _ h)
-number_form Int64 (negsuc n) h = complement_64 n (below _ _ h)
+number_form Byte (negsuc n) h = complement_8 n (ltb-true _ _ h)
+number_form Short (negsuc n) h = complement_16 n (ltb-true _ _ h)
+number_form Int (negsuc n) h = complement_32 n (ltb-true _ _ h)
+number_form Int64 (negsuc n) h = complement_64 n (ltb-true _ _ h)
 number_form Char (negsuc n) h = absurd (cc)
 number_form Float (negsuc n) h = absurd (cc)
 number_form Double (negsuc n) h = absurd (cc)
@@ -137,20 +134,12 @@ wrapped_step a b z k fa fb fz is =
     ∙ ap (λ (y : ℤ). int_wrap w64 (a +ℤ (y *ℤ to_z w64 (of_z w64 z)))) (to_z-of_z w64 b fb)
     ∙ ap (λ (y : ℤ). int_wrap w64 (a +ℤ (b *ℤ y))) (to_z-of_z w64 z fz ∙ is)
 
-neither : (a b : Bool) → (a || b) ≡ false → (a ≡ false) × (b ≡ false)
-neither true b h = absurd (cc)
-neither false b h = (refl, h)
-
-not_false : (b : Bool) → not b ≡ false → b ≡ true
-not_false true h = refl
-not_false false h = absurd (cc)
-
 -- values that all are in the range, from numbers that have their lowest bytes
 pub fitting_forms : (kind : NcType) (at : ℕ → Value) (code : ℕ → ℕ) (s n : ℕ) → ((k : ℕ) → fits kind (at k) ≡ true → to_be_bytes (width_of kind) (code k) ≡ ext kind (at k))
     → list_any (λ v. not (fits kind v)) (map at (range_with_len s n)) ≡ false
     → flat_map (λ k. to_be_bytes (width_of kind) (code k)) (range_with_len s n) ≡ flat_map (λ v. ext kind v) (map at (range_with_len s n))
 fitting_forms kind at code s zero h fit = refl
 fitting_forms kind at code s (suc n) h fit =
-    let both = neither (not (fits kind (at s))) (list_any (λ v. not (fits kind v)) (map at (range_with_len (s + 1) n))) fit in
-    ap (λ (l : List ℕ). l ++ flat_map (λ k. to_be_bytes (width_of kind) (code k)) (range_with_len (s + 1) n)) (h s (not_false (fits kind (at s)) both.0))
+    let both = or_parts (not (fits kind (at s))) (list_any (λ v. not (fits kind v)) (map at (range_with_len (s + 1) n))) fit in
+    ap (λ (l : List ℕ). l ++ flat_map (λ k. to_be_bytes (width_of kind) (code k)) (range_with_len (s + 1) n)) (h s (not-false (fits kind (at s)) both.0))
     ∙ ap (λ (l : List ℕ). ext kind (at s) ++ l) (fitting_forms kind at code (s + 1) n h both.1)

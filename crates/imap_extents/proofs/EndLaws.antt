@@ -2,6 +2,7 @@
 use Rattle.std.proofs.Common.{◌≡◌, ℕ, zero, suc, ◌+◌, ◌*◌, ◌^◌, ◌<◌, ◌≤◌, refl, ◌∙◌, ap, map, ◌||◌, Bool, true, false, not, arith, ℤ, pos, negsuc, ◌≤ℤ◌, ◌+ℤ◌}
 use Rattle.std.specs.Prelude.{◌*ℤ◌, ◌%◌}
 use Rattle.std.specs.List.{list_any, range_with_len}
+use Rattle.std.proofs.lemmas.Bool.{not-false, not_from_true}
 use Rattle.std.proofs.lemmas.Bool.Decides.{nat_tests}
 use Rattle.std.proofs.lemmas.Int.{ints}
 use Rattle.std.proofs.Math.IntN.{neg_ℤ}
@@ -10,6 +11,7 @@ use Rattle.nc_base.specs.declared.header.NcType.{NcType}
 use Rattle.nc_base.specs.declared.request.Value.{Value}
 use Rattle.nc_base.specs.declared.request.Value.TheVariants as value
 use Rattle.serial_spec.specs.ExternalForm.{Class, Signed, Unsigned, Text, Pattern, class_of, size_of, fits_in, fits}
+use Rattle.type_external.proofs.PatternLaws.{bits_in}
 use Rattle.imap_extents.proofs.RunLaws.{step_hit}
 
 none_hit : (test : Value → Bool) (at : ℕ → Value) (s n : ℕ) → ((k : ℕ) → s ≤ k → k < s + n → test (at k) ≡ false) → list_any test (map at (range_with_len s n)) ≡ false
@@ -32,13 +34,6 @@ by_value test at n m false count none h = none_hit test at 0 n (λ k low high. h
 pub by_last : (test : Value → Bool) (at : ℕ → Value) (n m : ℕ) → n ≡ m + 1 → ((k : ℕ) → k ≤ m → test (at m) ≡ false → test (at k) ≡ false)
     → list_any test (map at (range_with_len 0 n)) ≡ test (at m)
 by_last test at n m count h = by_value test at n m (test (at m)) count refl h
-
-not_of : (b : Bool) → b ≡ true → not b ≡ false
-not_of b h = ap (λ (c : Bool). not c) h
-
-fit_of : (b : Bool) → not b ≡ false → b ≡ true
-fit_of true h = refl
-fit_of false h = absurd (cc)
 
 -- ---- numbers
 signed_between : (size : ℕ) (x y z : ℤ) → x ≤ℤ y → y ≤ℤ z → fits_in Signed size (value.Number x) ≡ true → fits_in Signed size (value.Number z) ≡ true → fits_in Signed size (value.Number y) ≡ true
@@ -79,24 +74,18 @@ pub numbers_by_last : (kind : NcType) (a b : ℤ) (n m : ℕ) → n ≡ m + 1 �
     → list_any (λ v. not (fits kind v)) (map (λ k. value.Number (a +ℤ (b *ℤ pos k))) (range_with_len 0 n)) ≡ not (fits kind (value.Number (a +ℤ (b *ℤ pos m))))
 numbers_by_last kind a b n m count first =
     by_last (λ v. not (fits kind v)) (λ k. value.Number (a +ℤ (b *ℤ pos k))) n m count
-    (λ k le last. not_of _ (number_fits (class_of kind) (size_of kind) a b k m le (fit_of _ first) (fit_of _ last)))
+    (λ k le last. not_from_true _ (number_fits (class_of kind) (size_of kind) a b k m le (not-false _ first) (not-false _ last)))
 
 -- ---- bit patterns
-pattern_below : (class : Class) (size m n : ℕ) → m ≤ n → fits_in class size (value.Bits n) ≡ true → fits_in class size (value.Bits m) ≡ true
-pattern_below Signed size m n le h = h
-pattern_below Unsigned size m n le h = h
-pattern_below Text size m n le h = h
-pattern_below Pattern size m n le h = grind (arith, nat_tests)
-
 pattern_fits : (class : Class) (size a b k m : ℕ) → k ≤ m → a + b * m < 2 ^ 64 → fits_in class size (value.Bits ((a + b * m) % 2 ^ 64)) ≡ true → fits_in class size (value.Bits ((a + b * k) % 2 ^ 64)) ≡ true
 pattern_fits class size a b k m le small h =
     let more : b * k ≤ b * m = mul-le-mul_left b le in
-    pattern_below class size ((a + b * k) % 2 ^ 64) ((a + b * m) % 2 ^ 64) (omega (arith, small, more)) h
+    bits_in class size ((a + b * k) % 2 ^ 64) ((a + b * m) % 2 ^ 64) (omega (arith, small, more)) h
 
 pub patterns_by_last : (kind : NcType) (a b n m last : ℕ) → n ≡ m + 1 → last ≡ a + b * m → last < 2 ^ 64
     → list_any (λ v. not (fits kind v)) (map (λ k. value.Bits ((a + b * k) % 2 ^ 64)) (range_with_len 0 n)) ≡ not (fits kind (value.Bits last))
 patterns_by_last kind a b n m last count is small =
     let whole : (a + b * m) % 2 ^ 64 ≡ last = omega (arith, is, small) in
     by_last (λ v. not (fits kind v)) (λ k. value.Bits ((a + b * k) % 2 ^ 64)) n m count
-    (λ k le fit. not_of _ (pattern_fits (class_of kind) (size_of kind) a b k m le (omega (arith, is, small)) (fit_of _ fit)))
+    (λ k le fit. not_from_true _ (pattern_fits (class_of kind) (size_of kind) a b k m le (omega (arith, is, small)) (not-false _ fit)))
     ∙ ap (λ (p : ℕ). not (fits kind (value.Bits p))) whole

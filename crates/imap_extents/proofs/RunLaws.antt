@@ -2,10 +2,13 @@
 use Rattle.std.proofs.Common.{◌≡◌, ℕ, zero, suc, ◌+◌, ◌-◌, ◌<◌, refl, ◌∙◌, ap, sym, arith, List, [], ◌∷◌, ◌++◌, ◌||◌, length, map, take, drop, get_or, append-nil, append_assoc, length-append, Bool, true, false}
 use Rattle.std.specs.Prelude.{flat_map, min, pos, ◌+ℤ◌, ◌*ℤ◌, ◌*◌, ◌%◌, ◌^◌}
 use Rattle.std.specs.List.{list_any, range_with_len}
-use Rattle.std.proofs.lemmas.List.{take_more, length-map, take-append-drop}
+use Rattle.std.proofs.lemmas.Bool.{or_left, or_right}
+use Rattle.std.proofs.lemmas.List.{take_more, map-append, take-append-drop, take-map}
 use Rattle.std.proofs.lemmas.List.Concat.{flat_map-append}
-use Rattle.std.proofs.lemmas.List.Folds.{list_any-append}
-use Rattle.std.proofs.lemmas.List.FromFn.{length-range_with_len, map-range_with_len_more}
+use Rattle.std.proofs.lemmas.List.Folds.{flat_map-map, list_any-append}
+use Rattle.std.proofs.lemmas.List.FromFn.{length-map-range_with_len, map-range_with_len_more}
+use Rattle.list_laws.proofs.Maps.{any_map, map_map}
+use Rattle.list_laws.proofs.Truth.{or_false}
 use Rattle.nc_base.specs.declared.bits.BitRun.{BitRun}
 use Rattle.nc_base.specs.declared.numbers.NumberRun.{NumberRun}
 use Rattle.nc_base.specs.declared.request.Value.{Value}
@@ -37,9 +40,6 @@ first_of_both {A} (x ∷ xs) ys (suc n) =
     let left : n - length xs ≡ suc n - suc (length xs) = omega arith in
     ap (λ (l : List A). x ∷ l) (first_of_both xs ys n)
     ∙ ap (λ (k : ℕ). x ∷ (take n xs ++ take k ys)) left
-
-length_run : {R : Type 0} (at : R → ℕ → Value) (size : R → ℕ) (r : R) → length (map (at r) (range_with_len 0 (size r))) ≡ size r
-length_run at size r = length-map (range_with_len 0 (size r)) (at r) ∙ length-range_with_len 0 (size r)
 
 one_run : {R : Type 0} (at : R → ℕ → Value) (size : R → ℕ) (rs : List R) (i : ℕ) (d : R) → i < length rs
     → told at size (take (i + 1) rs) ≡ told at size (take i rs) ++ map (at (get_or rs i d)) (range_with_len 0 (size (get_or rs i d)))
@@ -94,15 +94,11 @@ pub rest_more : {R : Type 0} (at : R → ℕ → Value) (size : R → ℕ) (rs :
 rest_more at size rs i count left here later d h rest part after =
     let r = get_or rs i d in
     let whole = ap (λ (l : List Value). length l) (one_run at size rs i d h) ∙ length-append (told at size (take i rs)) (map (at r) (range_with_len 0 (size r))) in
-    let long = length_run at size r in
+    let long = length-map-range_with_len (at r) 0 (size r) in
     omega (arith, rest, part, after, whole, long)
 
-or_last : (b : Bool) → (b || true) ≡ true
-or_last true = refl
-or_last false = refl
-
 hit_front : (test : Value → Bool) (xs ys : List Value) → list_any test xs ≡ true → list_any test (xs ++ ys) ≡ true
-hit_front test xs ys hit = list_any-append test xs ys ∙ ap (λ (b : Bool). b || list_any test ys) hit
+hit_front test xs ys hit = list_any-append test xs ys ∙ or_left (list_any test xs) (list_any test ys) hit
 
 -- a value that a part lacks, the whole lacks
 pub part_hit : {R : Type 0} (at : R → ℕ → Value) (size : R → ℕ) (test : Value → Bool) (rs : List R) (i count left here : ℕ) (d : R) → i < length rs
@@ -120,15 +116,10 @@ part_hit {R} at size test rs i count left here d h rest part hit =
     let there : list_any test (take count next) ≡ true =
     ap (λ (l : List Value). list_any test l) (first_more at size rs i count left here d h rest part)
     ∙ list_any-append test front more
-    ∙ ap (λ (b : Bool). list_any test front || b) hit
-    ∙ or_last (list_any test front) in
+    ∙ or_right (list_any test front) (list_any test more) hit in
     ap (λ (l : List Value). list_any test (take count l)) whole
     ∙ ap (λ (l : List Value). list_any test l) (first_of_both next later count)
     ∙ hit_front test (take count next) (take (count - length next) later) there
-
-or_none : (b : Bool) → (b || false) ≡ b
-or_none true = refl
-or_none false = refl
 
 pub step_fits : (test : Value → Bool) (at : ℕ → Value) (k : ℕ) → list_any test (map at (range_with_len 0 k)) ≡ false → test (at k) ≡ false
     → list_any test (map at (range_with_len 0 (k + 1))) ≡ false
@@ -136,7 +127,7 @@ step_fits test at k before now =
     ap (λ (l : List Value). list_any test l) (map-range_with_len_more at 0 k k (omega arith))
     ∙ list_any-append test (map at (range_with_len 0 k)) (at k ∷ [])
     ∙ ap (λ (b : Bool). b || (test (at k) || false)) before
-    ∙ or_none (test (at k))
+    ∙ or_false (test (at k))
     ∙ now
 
 pub step_hit : (test : Value → Bool) (at : ℕ → Value) (s n k : ℕ) → k < n → test (at (s + k)) ≡ true → list_any test (map at (range_with_len s n)) ≡ true
@@ -146,26 +137,17 @@ step_hit test at s (suc n) zero h hit =
     ap (λ (b : Bool). b || list_any test (map at (range_with_len (s + 1) n))) (ap (λ (m : ℕ). test (at m)) (sym here) ∙ hit)
 step_hit test at s (suc n) (suc k) h hit =
     let here : s + 1 + k ≡ s + suc k = omega arith in
-    ap (λ (b : Bool). test (at s) || b) (step_hit test at (s + 1) n k (omega (arith, h)) (ap (λ (m : ℕ). test (at m)) here ∙ hit))
-    ∙ or_last (test (at s))
+    or_right (test (at s)) (list_any test (map at (range_with_len (s + 1) n))) (step_hit test at (s + 1) n k (omega (arith, h)) (ap (λ (m : ℕ). test (at m)) here ∙ hit))
 
 -- values of one kind
-twice : {X Y Z : Type 0} (g : Y → Z) (f : X → Y) (xs : List X) → map g (map f xs) ≡ map (λ x. g (f x)) xs
-twice g f [] = refl
-twice {Z = Z} g f (x ∷ xs) = ap (λ (l : List Z). g (f x) ∷ l) (twice g f xs)
-
-both : {A B : Type 0} (g : A → B) (xs ys : List A) → map g (xs ++ ys) ≡ map g xs ++ map g ys
-both g [] ys = refl
-both {B = B} g (x ∷ xs) ys = ap (λ (l : List B). g x ∷ l) (both g xs ys)
-
 pub told_numbers : (rs : List NumberRun) → told (λ (r : NumberRun) k. value.Number (r.first +ℤ (r.step *ℤ pos k))) (λ (r : NumberRun). r.count) rs ≡ map (λ z. value.Number z) (numbers_of_runs rs)
 told_numbers [] = refl
 told_numbers (r ∷ rs) =
     let run = range_with_len 0 r.count in
     let zs = map (λ k. r.first +ℤ (r.step *ℤ pos k)) run in
     ap (λ (l : List Value). map (λ k. value.Number (r.first +ℤ (r.step *ℤ pos k))) run ++ l) (told_numbers rs)
-    ∙ ap (λ (l : List Value). l ++ map (λ z. value.Number z) (numbers_of_runs rs)) (sym (twice (λ z. value.Number z) (λ k. r.first +ℤ (r.step *ℤ pos k)) run))
-    ∙ sym (both (λ z. value.Number z) zs (numbers_of_runs rs))
+    ∙ ap (λ (l : List Value). l ++ map (λ z. value.Number z) (numbers_of_runs rs)) (sym (map_map (λ z. value.Number z) (λ k. r.first +ℤ (r.step *ℤ pos k)) run))
+    ∙ sym (map-append (λ z. value.Number z) zs (numbers_of_runs rs))
 
 pub told_bits : (rs : List BitRun) → told (λ (r : BitRun) k. value.Bits ((r.first + r.step * k) % 2 ^ 64)) (λ (r : BitRun). r.count) rs ≡ map (λ n. value.Bits n) (bits_of_runs rs)
 told_bits [] = refl
@@ -173,24 +155,11 @@ told_bits (r ∷ rs) =
     let run = range_with_len 0 r.count in
     let ns = map (λ k. (r.first + r.step * k) % 2 ^ 64) run in
     ap (λ (l : List Value). map (λ k. value.Bits ((r.first + r.step * k) % 2 ^ 64)) run ++ l) (told_bits rs)
-    ∙ ap (λ (l : List Value). l ++ map (λ n. value.Bits n) (bits_of_runs rs)) (sym (twice (λ n. value.Bits n) (λ k. (r.first + r.step * k) % 2 ^ 64) run))
-    ∙ sym (both (λ n. value.Bits n) ns (bits_of_runs rs))
-
-take_of : {A B : Type 0} (g : A → B) (xs : List A) (n : ℕ) → take n (map g xs) ≡ map g (take n xs)
-take_of g xs zero = refl
-take_of g [] (suc n) = refl
-take_of {B = B} g (x ∷ xs) (suc n) = ap (λ (l : List B). g x ∷ l) (take_of g xs n)
-
-flat_of : {A : Type 0} (f : Value → List ℕ) (g : A → Value) (xs : List A) → flat_map f (map g xs) ≡ flat_map (λ x. f (g x)) xs
-flat_of f g [] = refl
-flat_of f g (x ∷ xs) = ap (λ (l : List ℕ). f (g x) ++ l) (flat_of f g xs)
-
-any_of : {A : Type 0} (test : Value → Bool) (g : A → Value) (xs : List A) → list_any test (map g xs) ≡ list_any (λ x. test (g x)) xs
-any_of test g [] = refl
-any_of test g (x ∷ xs) = ap (λ (b : Bool). test (g x) || b) (any_of test g xs)
+    ∙ ap (λ (l : List Value). l ++ map (λ n. value.Bits n) (bits_of_runs rs)) (sym (map_map (λ n. value.Bits n) (λ k. (r.first + r.step * k) % 2 ^ 64) run))
+    ∙ sym (map-append (λ n. value.Bits n) ns (bits_of_runs rs))
 
 pub kind_forms : {A : Type 0} (f : Value → List ℕ) (g : A → Value) (vs : List Value) (xs : List A) (n : ℕ) → vs ≡ map g xs → flat_map f (take n vs) ≡ flat_map (λ x. f (g x)) (take n xs)
-kind_forms f g vs xs n is = ap (λ (l : List Value). flat_map f (take n l)) is ∙ ap (λ (l : List Value). flat_map f l) (take_of g xs n) ∙ flat_of f g (take n xs)
+kind_forms f g vs xs n is = ap (λ (l : List Value). flat_map f (take n l)) is ∙ ap (λ (l : List Value). flat_map f l) (take-map g n xs) ∙ flat_map-map f g (take n xs)
 
 pub kind_unfit : {A : Type 0} (test : Value → Bool) (g : A → Value) (vs : List Value) (xs : List A) (n : ℕ) → vs ≡ map g xs → list_any test (take n vs) ≡ list_any (λ x. test (g x)) (take n xs)
-kind_unfit test g vs xs n is = ap (λ (l : List Value). list_any test (take n l)) is ∙ ap (λ (l : List Value). list_any test l) (take_of g xs n) ∙ any_of test g (take n xs)
+kind_unfit test g vs xs n is = ap (λ (l : List Value). list_any test (take n l)) is ∙ ap (λ (l : List Value). list_any test l) (take-map g n xs) ∙ any_map test g (take n xs)

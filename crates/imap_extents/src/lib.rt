@@ -13,5 +13,5 @@ mod runs;
 mod unpacking;
 mod words;
 
-pub use packing::pack;
+pub use packing::{pack, push_value};
 pub use unpacking::unpack;

@@ -226,7 +226,9 @@ fn encode_all(
 }
 
 /// Adds value `k` in external form.
-fn push_value(kind: NcType, values: &Values, k: u64, bytes: &mut Vec<u8>) -> Result<(), CallErr>
+///
+/// `ERange`: it is not in the type's range. The values are of the type's kind, which `kind_fits` tells.
+pub fn push_value(kind: NcType, values: &Values, k: u64, bytes: &mut Vec<u8>) -> Result<(), CallErr>
     requires kinds { kind_code (class_of kind) values.now ≡ code.Ok }
     requires there { k < count_of values.now }
     ensures ok { OnOk result (bytes.new.items ≡ bytes.old.items ++ ext_of kind (value_at values.now k)) }
@@ -236,14 +238,8 @@ fn push_value(kind: NcType, values: &Values, k: u64, bytes: &mut Vec<u8>) -> Res
     let mut form = [0; 8];
     let into = &mut form[..size_of(kind) as usize];
     encode_into(kind, values, k as usize, into)?;
-    push_bytes(bytes, into)?;
-    Ok(())
-}
-
-/// Adds bytes.
-fn push_bytes(bytes: &mut Vec<u8>, more: &[u8]) -> Result<(), Memory>
-    ensures { OnOk result (bytes.new.items ≡ bytes.old.items ++ more.now) }
-{
-    bytes.extend_from_slice(more)?;
-    Ok(())
+    match bytes.extend_from_slice(into) {
+        Ok(()) => Ok(()),
+        Err(_) => Err(CallErr::Memory),
+    }
 }

@@ -1,12 +1,13 @@
 -- Parts that come back one after another.
 use Rattle.std.proofs.Common.{◌≡◌, ℕ, zero, suc, ◌+◌, ◌<◌, ◌≤◌, ◌⊎◌, min, get_or, inl, inr, refl, sym, ◌∙◌, ap, subst, List, [], ◌∷◌, ◌++◌, length, map, take, drop, Some, Result, Ok, Err, arith}
-use Rattle.std.proofs.lemmas.List.{append-nil, length-append, length-drop, take_all, take_more}
-use Rattle.std.proofs.lemmas.Option.{get_or_from_slice_get, slice_get-get_or}
+use Rattle.std.proofs.lemmas.List.{length-append, take_more}
+use Rattle.std.proofs.lemmas.Option.{slice_get_within, slice_get-get_or}
 use Rattle.std.proofs.lemmas.Slice.Zip.{all_zipped_more}
 use Rattle.std.specs.Prelude.{slice_get, zip, OnOk, IsErr, IsErrOf, IsOk}
 use Rattle.std.specs.List.{AllZip}
 use Rattle.std.specs.Result.{result_and}
-use Rattle.list_laws.proofs.Places.{entry_below, middle_at}
+use Rattle.list_laws.proofs.Places.{entry_below}
+use Rattle.list_laws.proofs.Refills.{refilled}
 use Rattle.nc_base.specs.declared.plan.Extent.{Extent}
 use Rattle.nc_base.specs.declared.plan.Owned.{Owned}
 use Rattle.nc_outside.specs.declared.disk.DiskErr.{DiskErr}
@@ -16,7 +17,6 @@ use Rattle.overlay_laws.proofs.HullLaws.{in_either, in_right}
 use Rattle.serial_spec.proofs.MemberLaws.{at_in, in_at}
 use Rattle.piece_exchange.specs.Put.{put_part, HasPut, PartState, SomeZip}
 use Rattle.piece_exchange.specs.Turns.{Told}
-use Rattle.piece_exchange.proofs.FeedLaws.{get_long}
 use Rattle.piece_exchange.proofs.PutLaws.{told_nothing}
 use Rattle.list_laws.proofs.Each.{zip_weaker}
 
@@ -87,7 +87,7 @@ pub each_new : {X : Type 0} (P Q : X → Type 0) (R : X → X → Type 0) (old n
     → ((k : ℕ) (x y : X) → slice_get old k ≡ Some x → slice_get new k ≡ Some y → R x y) → ((x : X) → In old x → P x) → ((x y : X) → R x y → P x → Q y) → (y : X) → In new y → Q y
 each_new P Q R old new long each all f y m =
     let k = in_at new y m in
-    let l = get_long new k.0 y k.1 in
+    let l = slice_get_within new k.0 y k.1 in
     let x = entry_below old k.0 (omega arith) in
     f x.0 y (each k.0 x.0 y x.1 k.1) (all x.0 (at_in old k.0 x.0 x.1))
 
@@ -141,13 +141,6 @@ err_not_ok P (Err x) e = tt
 pub at_index : {X : Type 0} (xs : List X) (i k : ℕ) (d : X) → i < length xs → k ≡ i → slice_get xs k ≡ Some (get_or xs i d)
 at_index xs i k d l e = ap (λ (n : ℕ). slice_get xs n) e ∙ slice_get-get_or xs i d l
 
-pub take_at : {X : Type 0} (xs : List X) (i : ℕ) (x : X) → slice_get xs i ≡ Some x → take (i + 1) xs ≡ take i xs ++ x ∷ []
-take_at xs i x e = take_more xs i x (get_long xs i x e) ∙ ap (λ y. take i xs ++ y ∷ []) (get_or_from_slice_get xs i x x e)
-
-pub no_items : {X : Type 0} (xs : List X) → length xs ≡ 0 → xs ≡ []
-no_items [] e = refl
-no_items (x ∷ xs) e = absurd (omega arith)
-
 pub zip_same : {A B : Type 0} (Q : A × B → A → Type 0) (xs : List A) (ds : List B) → length ds ≡ length xs → ((x : A) (d : B) → Q (x, d) x) → AllZip Q (zip xs ds) xs
 zip_same Q [] [] long f = tt
 zip_same Q [] (d ∷ ds) long f = tt
@@ -158,8 +151,28 @@ zip_same Q (x ∷ xs) (d ∷ ds) long f = (f x d, zip_same Q xs ds (omega arith)
 pub put_untouched : {T E : Type 0} (source : Source) (list : List Owned) (ts : List Told) (old : PartState) (e : E) → HasPut {T = T} source list ts old old (Err e)
 put_untouched source list ts old e = record { from = refl; len = refl; bytes = tt; between = told_nothing old.held (put_part source list old.from); device = tt; later = omega arith }
 
--- what a vector has after its slice was lent and came back as long
+-- ---- a vector whose slice was lent, and came back as long
+
 pub slice_kept : {X : Type 0} (n : ℕ) (new old : List X) → n ≡ length old → length new ≡ length old → take n (new ++ drop (length new) old) ≡ new
-slice_kept {X} n new old e l =
-    let none : drop (length new) old ≡ [] = no_items (drop (length new) old) (length-drop (length new) old ∙ omega arith) in
-    ap (λ (r : List X). take n (new ++ r)) none ∙ ap (λ (r : List X). take n r) (append-nil new) ∙ take_all n new (omega arith)
+slice_kept {X} n new old e l = ap (λ (m : ℕ). take m (new ++ drop (length new) old)) e ∙ refilled old new l
+
+-- it was lent twice: what came back first is what was lent again, and what came back then stands there
+pub record WasLentTwice {X : Type 0} (n : ℕ) (first mid again last : List X) : Type 0 where
+  pub long : length mid ≡ length first
+  pub same : again ≡ mid
+  pub longer : length last ≡ length mid
+  pub whole : take n (last ++ drop (length last) (take n (mid ++ drop (length mid) first))) ≡ last
+
+pub lent_twice : {X : Type 0} (n : ℕ) (first lent mid again last : List X) → n ≡ length first → lent ≡ first → length mid ≡ length lent
+    → again ≡ take n (mid ++ drop (length mid) first) → length last ≡ length again → WasLentTwice n first mid again last
+lent_twice {X} n first lent mid again last e f l g m =
+    let long = l ∙ ap (λ (xs : List X). length xs) f in
+    let kept = slice_kept n mid first e long in
+    let stands = ap (λ (xs : List X). length xs) kept in
+    let longer = m ∙ ap (λ (xs : List X). length xs) (g ∙ kept) in
+    record {
+      long = long;
+      same = g ∙ kept;
+      longer = longer;
+      whole = slice_kept n last (take n (mid ++ drop (length mid) first)) (e ∙ sym long ∙ sym stands) (longer ∙ sym stands);
+    }

@@ -1,13 +1,13 @@
 -- Entries that are collected out of a buffer, each into its blob of a table.
 use Rattle.std.proofs.Common.{◌≡◌, ◌≢◌, ℕ, zero, suc, ◌+◌, ◌-◌, ◌<◌, ◌≤◌, refl, sym, ◌∙◌, ap, subst, List, [], ◌∷◌, ◌++◌, length, take, drop, get_or, set, Bool, true, false, ◌&&◌, cond, arith}
 use Rattle.std.proofs.lemmas.Grind.{fold-append}
-use Rattle.std.proofs.lemmas.List.{map-append, set-set, get_or_default, length-take, get_or-set_same, get_or-set_other, take_more}
+use Rattle.std.proofs.lemmas.List.{map-append, get_or_default, length-take, get_or-set_same, get_or-set_other, take_more}
 use Rattle.std.proofs.Math.ListN.{get_or-map}
 use Rattle.std.proofs.Math.Seq.{map-set_same}
 use Rattle.std.specs.Prelude.{map, ◌==◌}
 use Rattle.std.proofs.lemmas.Bool.{and_from}
 use borrow.Author.Tests.{eqb-true, eqb-false}
-use Rattle.list_laws.proofs.Truth.{equal_true, and_first, and_second}
+use Rattle.list_laws.proofs.Truth.{equal_true, and_first, and_second, no_both}
 use Rattle.nc_base.specs.declared.plan.Owned.{Owned}
 use Rattle.serial_spec.proofs.FileLaws.{length-written_inside}
 use Rattle.serial_spec.specs.File.{written}
@@ -71,14 +71,13 @@ rank_in [] rank slot h = absurd (omega arith)
 rank_in (bs ∷ table) zero slot h = omega arith
 rank_in (bs ∷ table) (suc rank) slot h = let l = rank_in table rank slot h in omega arith
 
--- the blobs of a rank, taken out and put back with the cell in one of them
-pub collected : (table : List (List (List ℕ))) (rank slot : ℕ) (emptied d given filled now : List (List ℕ)) (cell : Cell) → rank < length table → given ≡ get_or table rank d
-    → filled ≡ set given slot (written (get_or given slot []) cell.0 cell.1) → now ≡ filled
-    → set (set table rank emptied) rank now ≡ set table rank (set (get_or table rank []) slot (written (blob_at table rank slot) cell.0 cell.1))
-collected table rank slot emptied d given filled now cell l e f g =
-    set-set table rank emptied now
-    ∙ ap (λ (blobs : List (List ℕ)). set table rank blobs)
-    (g ∙ f ∙ ap (λ (blobs : List (List ℕ)). set blobs slot (written (get_or blobs slot []) cell.0 cell.1)) (e ∙ get_or_default table rank d [] l))
+-- the blobs of a rank, lent and with the cell in one of them
+pub collected : (table : List (List (List ℕ))) (rank slot : ℕ) (d lent now : List (List ℕ)) (cell : Cell) → rank < length table → lent ≡ get_or table rank d
+    → now ≡ set lent slot (written (get_or lent slot []) cell.0 cell.1)
+    → set table rank now ≡ set table rank (set (get_or table rank []) slot (written (blob_at table rank slot) cell.0 cell.1))
+collected table rank slot d lent now cell l e f =
+    ap (λ (blobs : List (List ℕ)). set table rank blobs)
+    (f ∙ ap (λ (blobs : List (List ℕ)). set blobs slot (written (get_or blobs slot []) cell.0 cell.1)) (e ∙ get_or_default table rank d [] l))
 
 pub blob_long_kept : (table : List (List (List ℕ))) (rank slot : ℕ) (blob : List ℕ) → length blob ≡ length (blob_at table rank slot)
     → AreAsLong table (with_blob table rank slot blob)
@@ -96,10 +95,7 @@ blob_other : (table : List (List (List ℕ))) (rank slot r s : ℕ) (blob : List
 blob_other table rank slot r s blob some e = by_rank (rank == r) refl
   where
     by_slot : rank ≡ r → (t : Bool) → (slot == s) ≡ t → (rank == r) ≡ true → blob_at (with_blob table rank slot blob) r s ≡ blob_at table r s
-    by_slot g true f h = absurd (no_both (rank == r && slot == s) (and_from (rank == r) (slot == s) h f) e)
-      where
-        no_both : (t : Bool) → t ≡ true → t ≡ false → ⊥
-        no_both t h k = cc
+    by_slot g true f h = no_both (rank == r && slot == s) (and_from (rank == r) (slot == s) h f) e
     by_slot g false f h =
         let other : s ≢ slot = λ i. eqb-false _ _ f (sym i) in
         ap (λ (k : ℕ). blob_at (with_blob table rank slot blob) k s) (sym g)

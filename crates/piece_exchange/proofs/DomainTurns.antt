@@ -1,6 +1,5 @@
 -- The windows of a part stand one after another, begin and end with a covered byte, and have each covered byte once.
-use Rattle.std.proofs.Common.{◌≡◌, ℕ, zero, suc, ◌+◌, ◌-◌, ◌*◌, ◌/◌, ◌<◌, ◌≤◌, ◌⊎◌, min, inl, inr, refl, sym, ◌∙◌, ap, subst, List, [], ◌∷◌, ◌++◌, length, Bool, true, false, not, arith}
-use Rattle.std.proofs.lemmas.Nat.{mod_below, div-add-mod'}
+use Rattle.std.proofs.Common.{◌≡◌, ℕ, zero, suc, ◌+◌, ◌-◌, ◌/◌, ◌<◌, ◌≤◌, ◌⊎◌, min, inl, inr, refl, sym, ◌∙◌, ap, subst, List, [], ◌∷◌, ◌++◌, length, Bool, true, false, not, arith}
 use Rattle.std.proofs.lemmas.List.Folds.{flat_map-map}
 use Rattle.std.specs.Prelude.{filter, flat_map, map, nat_lt, nat_le, ◌==◌}
 use Rattle.std.specs.List.{range_with_len, list_any}
@@ -13,10 +12,11 @@ use Rattle.overlay_laws.specs.Hulls.{IsAscending}
 use Rattle.overlay_laws.specs.Parts.{joined}
 use Rattle.overlay_laws.specs.Walks.{spans, told_of, IsCover}
 use Rattle.overlay_laws.proofs.HullLaws.{windows_have, filter_ascends, in_left, in_right, in_either, in_flat, flat_in, in_range, range_low, any_in, in_any, first_least, last_most, div_grows}
-use Rattle.list_laws.proofs.Truth.{equal_true}
+use Rattle.list_laws.proofs.Truth.{equal_true, no_both}
 use Rattle.serial_spec.proofs.MemberLaws.{in_filter, filter_in}
 use Rattle.overlay_laws.proofs.Members.{in_map, map_in}
 use Rattle.overlay_laws.proofs.CoverLaws.{same_ascending, spans_ascend}
+use Rattle.overlay_laws.proofs.WindowHulls.{window_short}
 use Rattle.file_domains.specs.Domains.{LiesIn}
 use Rattle.file_domains.specs.Rounds.{bytes_in, window_told, windows_of}
 use Rattle.aggregator_rounds.specs.Pieces.{told_window}
@@ -74,9 +74,6 @@ last_in (x ∷ xs) h = by_last xs (λ l. last_in xs l) (nat_lt x (last_of xs)) r
 pub in_or_out : (xs : List ℕ) (x : ℕ) → In xs x ⊎ (In xs x → ⊥)
 in_or_out xs x = by_any (list_any (λ z. z == x) xs) refl
   where
-    no_both : (t : Bool) → t ≡ true → t ≡ false → ⊥
-    no_both t h k = cc
-
     by_any : (t : Bool) → list_any (λ z. z == x) xs ≡ t → In xs x ⊎ (In xs x → ⊥)
     by_any true e = inl (any_in xs x e)
     by_any false e = inr (λ m. no_both (list_any (λ z. z == x) xs) (in_any xs x m) e)
@@ -144,27 +141,6 @@ window_of size bytes w m =
     let f = filter_in (λ (v : List ℕ). not (is_empty v)) (map (λ j. share (first_of bytes) size bytes j) (range_with_len 0 ((last_of bytes - first_of bytes) / size + 1))) w m in
     let r = map_in (λ j. share (first_of bytes) size bytes j) (range_with_len 0 ((last_of bytes - first_of bytes) / size + 1)) w f.0 in
     (some_kept w f.1, r.0, r.2)
-
--- two bytes of one share stand less than a share apart
-near : (c k j x y : ℕ) → 1 ≤ k → c ≤ x → c ≤ y → (x - c) / k ≡ j → (y - c) / k ≡ j → y + 1 - x ≤ k
-near c k j x y h l m e f =
-    let whole = div-add-mod' (x - c) k in
-    let other = div-add-mod' (y - c) k in
-    let part = mod_below (y - c) k (omega arith) in
-    let same : (x - c) / k * k ≡ (y - c) / k * k = ap (λ (n : ℕ). n * k) (e ∙ sym f) in
-    omega arith
-
-window_short : (size : ℕ) (bytes w : List ℕ) → 1 ≤ size → IsAscending bytes → In (windows size bytes) w → hull_len w ≤ size
-window_short size bytes w h asc m =
-    let r = window_of size bytes w m in
-    let a = in_share r.1 r.2 (first_of w) (first_in w r.0) in
-    let b = in_share r.1 r.2 (last_of w) (last_in w r.0) in
-    near (first_of bytes) size r.1 (first_of w) (last_of w) h (first_least bytes (first_of w) asc a.0) (first_least bytes (last_of w) asc b.0) a.1 b.1
-  where
-    in_share : (j : ℕ) → share (first_of bytes) size bytes j ≡ w → (x : ℕ) → In w x → In bytes x × ((x - first_of bytes) / size ≡ j)
-    in_share j e x k =
-        let f = filter_in (λ y. (y - first_of bytes) / size == j) bytes x (subst (λ (v : List ℕ). In v x) (sym e) k) in
-        (f.0, eqb-true _ _ f.1)
 
 -- ---- windows as turns
 

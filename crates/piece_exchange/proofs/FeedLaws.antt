@@ -2,7 +2,7 @@
 use Rattle.std.proofs.Common.{◌≡◌, ℕ, zero, suc, ◌+◌, ◌<◌, ◌≤◌, ◌⊎◌, min, inl, inr, refl, sym, ◌∙◌, ap, subst, List, [], ◌∷◌, ◌++◌, length, get_or, set, Bool, true, false, Option, Some, None, append_assoc, arith}
 use Rattle.std.proofs.lemmas.Bool.Decides.{nat_tests}
 use Rattle.std.proofs.lemmas.List.{append-nil, length-append}
-use Rattle.std.proofs.lemmas.Option.{slice_get-get_or}
+use Rattle.std.proofs.lemmas.Option.{same_Some, slice_get_within, slice_get-get_or}
 use Rattle.std.specs.Prelude.{flat_map, nat_lt, slice_get, IfSome, IfNone}
 use Rattle.list_laws.proofs.Places.{entry_set, entry_set_other}
 use Rattle.nc_base.specs.declared.plan.Owned.{Owned}
@@ -10,7 +10,7 @@ use Rattle.overlay_laws.specs.Entries.{In}
 use Rattle.aggregator_rounds.specs.Pieces.{told_window}
 use Rattle.data_sieving.specs.Walked.{IsPast}
 use Rattle.data_sieving.proofs.PastSteps.{past_later, past_none, past_short}
-use Rattle.piece_exchange.specs.Feeds.{earlier_of, pieces_left_of, turns_left_of, AreApart, FitsInFor, IsAhead, IsFeedOf}
+use Rattle.piece_exchange.specs.Feeds.{earlier_of, pieces_left_of, AreApart, FitsInFor, IsAhead, IsFeedOf}
 use Rattle.piece_exchange.specs.Pieces.{pieces_in, pieces_of}
 use Rattle.piece_exchange.specs.Turns.{Told, turns_ahead, IsTurnWalk}
 use Rattle.piece_exchange.specs.declared.walk.Turn.{Turn}
@@ -67,11 +67,6 @@ feed_next (Some t) w v walk apart ready some begun =
       limit = walk.limit told (subst (λ (ts : List Told). In ts told) (sym some) (inl refl));
     }
 
-pub fewer_next : (next : Option Turn) (w v : TurnWalk) (t : Told) → IfSome next (λ t. turns_ahead w.windows ≡ told_window t.window ∷ turns_ahead v.windows)
-    → length (turns_left_of next v) < length (t ∷ turns_ahead w.windows)
-fewer_next None w v t some = omega arith
-fewer_next (Some u) w v t some = let same = ap (λ (ts : List Told). length ts) some in omega arith
-
 -- ---- room for the entries
 
 pub fits_next : (room : ℕ) (next : Option Turn) (w v : TurnWalk) → length w.entries.now ≤ room
@@ -91,38 +86,29 @@ fits_more n m (Some t) walk l h = let a = h.0 in let b = h.1 in (omega arith, om
 
 -- ---- many feeds
 
-pub fewer_all : {X Y : Type 0} (f : X → List Y) (xs : List X) (i : ℕ) (x y : X) → slice_get xs i ≡ Some x → length (f y) < length (f x)
-    → length (flat_map f (set xs i y)) < length (flat_map f xs)
-fewer_all f [] i x y e h = absurd cc
-fewer_all f (z ∷ xs) zero x y e h =
+-- what an element changed has more or less, the whole has
+set_all : {X Y : Type 0} (f : X → List Y) (xs : List X) (i : ℕ) (x y : X) → slice_get xs i ≡ Some x
+    → length (flat_map f (set xs i y)) + length (f x) ≡ length (flat_map f xs) + length (f y)
+set_all f [] i x y e = absurd cc
+set_all f (z ∷ xs) zero x y e =
     let same : z ≡ x = cc in
     let long = ap (λ w. length (f w)) same in
     let a = length-append (f z) (flat_map f xs) in
     let b = length-append (f y) (flat_map f xs) in
     omega arith
-fewer_all f (z ∷ xs) (suc i) x y e h =
-    let rest = fewer_all f xs i x y e h in
+set_all f (z ∷ xs) (suc i) x y e =
+    let rest = set_all f xs i x y e in
     let a = length-append (f z) (flat_map f xs) in
     let b = length-append (f z) (flat_map f (set xs i y)) in
     omega arith
+
+pub fewer_all : {X Y : Type 0} (f : X → List Y) (xs : List X) (i : ℕ) (x y : X) → slice_get xs i ≡ Some x → length (f y) < length (f x)
+    → length (flat_map f (set xs i y)) < length (flat_map f xs)
+fewer_all f xs i x y e h = let whole = set_all f xs i x y e in omega arith
 
 pub no_more_all : {X Y : Type 0} (f : X → List Y) (xs : List X) (i : ℕ) (x y : X) → slice_get xs i ≡ Some x → length (f y) ≤ length (f x)
     → length (flat_map f (set xs i y)) ≤ length (flat_map f xs)
-no_more_all f [] i x y e h = absurd cc
-no_more_all f (z ∷ xs) zero x y e h =
-    let same : z ≡ x = cc in
-    let long = ap (λ w. length (f w)) same in
-    let a = length-append (f z) (flat_map f xs) in
-    let b = length-append (f y) (flat_map f xs) in
-    omega arith
-no_more_all f (z ∷ xs) (suc i) x y e h =
-    let rest = no_more_all f xs i x y e h in
-    let a = length-append (f z) (flat_map f xs) in
-    let b = length-append (f z) (flat_map f (set xs i y)) in
-    omega arith
-
-some_same : {X : Type 0} (x y : X) → Some x ≡ Some y → x ≡ y
-some_same x y e = cc
+no_more_all f xs i x y e h = let whole = set_all f xs i x y e in omega arith
 
 -- an element changed, of which the changed one is so
 pub set_each : {X : Type 0} (P : ℕ → X → Type 0) (xs : List X) (i : ℕ) (x y : X) → slice_get xs i ≡ Some x → P i y → ((r : ℕ) (z : X) → slice_get xs r ≡ Some z → P r z)
@@ -137,32 +123,8 @@ set_each {X} P xs i x y e p each r z g = by_order (nat_lt r i) (nat_lt i r) refl
     by_order false true u v = let l : i < r = grind (arith, nat_tests) in other (λ s. absurd (omega arith))
     by_order false false u v =
         let same : r ≡ i = grind (arith, nat_tests) in
-        let own : y ≡ z = some_same y z (sym (entry_set xs i x y e) ∙ ap (slice_get (set xs i y)) (sym same) ∙ g) in
+        let own : y ≡ z = same_Some y z (sym (entry_set xs i x y e) ∙ ap (slice_get (set xs i y)) (sym same) ∙ g) in
         subst (λ (k : ℕ). P k z) (sym same) (subst (λ (w : X). P i w) own p)
-
--- one element more of a list was changed, in order
-pub each_more : {X : Type 0} (R : X → X → Type 0) (old now : List X) (i : ℕ) (a b : X) → slice_get old i ≡ Some a → slice_get now i ≡ Some a → R a b
-    → ((k : ℕ) (x y : X) → k < i → slice_get old k ≡ Some x → slice_get now k ≡ Some y → R x y)
-    → (k : ℕ) (x y : X) → k < i + 1 → slice_get old k ≡ Some x → slice_get (set now i b) k ≡ Some y → R x y
-each_more {X} R old now i a b e f r each k x y l g h = by_order (nat_lt k i) refl
-  where
-    by_order : (t : Bool) → nat_lt k i ≡ t → R x y
-    by_order true u =
-        let less : k < i = grind (arith, nat_tests) in
-        each k x y less g (sym (entry_set_other now i k b (λ s. absurd (omega arith))) ∙ h)
-    by_order false u =
-        let same : k ≡ i = grind (arith, nat_tests) in
-        let first : a ≡ x = some_same a x (sym e ∙ ap (slice_get old) (sym same) ∙ g) in
-        let second : b ≡ y = some_same b y (sym (entry_set now i a b f) ∙ ap (slice_get (set now i b)) (sym same) ∙ h) in
-        subst (λ (z : X). R z y) first (subst (λ (z : X). R a z) second r)
-
-pub left_more : {X : Type 0} (old now : List X) (i : ℕ) (b : X) → ((k : ℕ) → i ≤ k → slice_get now k ≡ slice_get old k) → (k : ℕ) → i + 1 ≤ k → slice_get (set now i b) k ≡ slice_get old k
-left_more old now i b left k l = entry_set_other now i k b (λ s. absurd (omega arith)) ∙ left k (omega arith)
-
-pub get_long : {X : Type 0} (xs : List X) (k : ℕ) (x : X) → slice_get xs k ≡ Some x → k < length xs
-get_long [] k x e = absurd cc
-get_long (z ∷ xs) zero x e = omega arith
-get_long (z ∷ xs) (suc k) x e = let l = get_long xs k x e in omega arith
 
 -- what holds of two lists and of two more, place by place, joined
 pub each_twice : {X : Type 0} (R S T : X → X → Type 0) (xs ys zs : List X) → length zs ≡ length ys
@@ -170,7 +132,7 @@ pub each_twice : {X : Type 0} (R S T : X → X → Type 0) (xs ys zs : List X) �
     → ((x y z : X) → R x y → S y z → T x z)
     → (k : ℕ) (x z : X) → slice_get xs k ≡ Some x → slice_get zs k ≡ Some z → T x z
 each_twice R S T xs ys zs long first second join k x z e f =
-    let within = get_long zs k z f in
+    let within = slice_get_within zs k z f in
     let y = get_or ys k z in
     let mid = slice_get-get_or ys k z (omega arith) in
     join x y z (first k x y e mid) (second k y z mid f)
@@ -185,11 +147,6 @@ earlier_some (Some a) (Some b) round e = by_order (nat_lt b a) refl
     by_order false u = let l : a ≤ b = grind (arith, nat_tests) in let same : min a b ≡ a = omega arith in inl (ap (λ (n : ℕ). Some n) (sym same) ∙ e)
 earlier_some (Some a) None round e = inl e
 earlier_some None other round e = inr e
-
-pub earlier_first : (one other : Option ℕ) (round next : ℕ) → earlier_of one other ≡ Some round → one ≡ Some next → round ≤ next
-earlier_first (Some a) (Some b) round next e f = let p : min a b ≡ round = cc in let q : a ≡ next = cc in omega arith
-earlier_first (Some a) None round next e f = let p : a ≡ round = cc in let q : a ≡ next = cc in omega arith
-earlier_first None other round next e f = absurd cc
 
 pub earlier_second : (one other : Option ℕ) (round next : ℕ) → earlier_of one other ≡ Some round → other ≡ Some next → round ≤ next
 earlier_second (Some a) (Some b) round next e f = let p : min a b ≡ round = cc in let q : b ≡ next = cc in omega arith
@@ -213,8 +170,3 @@ fed_next ranks old next t w v before now is ready put left =
     ∙ append_assoc before (pieces_in ranks t.entries.now (told_window t.window)) rest
     ∙ ap (λ (os : List Owned). before ++ (pieces_in ranks t.entries.now (told_window t.window) ++ os)) (left ahead.apart)
     ∙ sym (ap (λ (o : Option Turn). before ++ pieces_left_of ranks o w) is)
-
-pub fewer_left : (old next : Option Turn) (t : Turn) (w v : TurnWalk) → old ≡ Some t → IfSome next (λ t. turns_ahead w.windows ≡ told_window t.window ∷ turns_ahead v.windows)
-    → length (turns_left_of next v) < length (turns_left_of old w)
-fewer_left old next t w v is some =
-    subst (λ (o : Option Turn). length (turns_left_of next v) < length (turns_left_of o w)) (sym is) (fewer_next next w v (told_window t.window) some)

@@ -19,7 +19,7 @@ use Rattle.piece_exchange.specs.Gets.{get_turns, reading_of, AreRead, HasGot, Is
 use Rattle.piece_exchange.specs.Hulls.{LieOnPart}
 use Rattle.piece_exchange.specs.Plan.{IsDomainOf}
 use Rattle.piece_exchange.specs.Put.{PartState}
-use Rattle.piece_exchange.specs.Shelves.{domain_of, IsReadWorker}
+use Rattle.piece_exchange.specs.Shelves.{domain_of, IsStartedFor}
 use Rattle.piece_exchange.specs.Turns.{Told, turns_ahead, turns_of}
 use Rattle.piece_exchange.specs.declared.crew.Word.{Word}
 use Rattle.piece_exchange.specs.declared.gets.reading.Reading.{Reading}
@@ -126,7 +126,7 @@ pub told_fetched : {T : Type 0} (ts : List Told) (old new : PartState) (words : 
     → DidAsTold ts old new words put came → HasFetched ts old new put end
 told_fetched {T} ts old new words put came end is did = (subst (λ (o : Option (Result T DiskErr)). DidAsTold ts old new words put o) is did).1
 
-pub joined_fetched : {D T : Type 0} (plan : GetPlan) (worker : ReadWorker D) (old new : PartState) (put : List Reading) (end : Result T DiskErr) → IsReadWorker plan worker
+pub joined_fetched : {D T : Type 0} (plan : GetPlan) (worker : ReadWorker D) (old new : PartState) (put : List Reading) (end : Result T DiskErr) → IsStartedFor plan worker
     → HasFetched (turns_of worker.helper.child.promise.size.value (domain_of worker) worker.helper.child.promise.cover.value) old new put end
     → HasFetched (get_turns plan (domain_of worker)) old new put end
 joined_fetched plan worker old new put end is fetched =

@@ -3,6 +3,7 @@ use Rattle.std.proofs.Common.{◌≡◌, ℕ, ◌+◌, ◌≤◌, inl, inr, refl
 use Rattle.std.specs.Prelude.{map, flat_map, IfSome}
 use Rattle.nc_base.specs.declared.plan.Owned.{Owned}
 use Rattle.nc_base.specs.declared.step.DiskCall.{DiskCall}
+use Rattle.nc_outside.proofs.ToldLaws.{with_end-nil}
 use Rattle.nc_outside.specs.Told.{after, with_end, BothTold}
 use Rattle.serial_spec.specs.Said.{said_by, IsOneValued}
 use Rattle.overlay_laws.specs.Changes.{store_calls, IsBetween}
@@ -17,7 +18,7 @@ use Rattle.piece_exchange.specs.Turns.{Told, turns_ahead, IsTurnWalk}
 use Rattle.piece_exchange.specs.Hulls.{HaveWindows, IsTurn, LieOnPart}
 use Rattle.piece_exchange.proofs.PieceLaws.{pieces_found}
 use Rattle.piece_exchange.proofs.PutLaws.{IsPutSoFar, told_begin, told_between, told_end, told_more, told_next}
-use Rattle.piece_exchange.proofs.ServeLaws.{calls_more, calls_none}
+use Rattle.piece_exchange.proofs.ServeLaws.{calls_more}
 use Rattle.piece_exchange.specs.Cursor.{AreInFront, AreServed, IsAt}
 use Rattle.piece_exchange.proofs.TurnLaws.{at_next, served_are, served_covered, served_now, served_picked}
 
@@ -79,7 +80,7 @@ pub in_turn_end : (source : Source) (from len room : ℕ) (list : List Owned) (a
     → IsInTurn source from len room list all w held now calls made → turns_ahead w.windows ≡ [] → (now ≡ after (put_part source list from) held) × (made ≡ with_end calls (flat_map store_calls all))
 in_turn_end source from len room list all w held now calls made s none = (
   told_end source list from held now (subst (λ (ts : List Told). BothTold (λ old left. IsPutSoFar source list from ts old left) held now) none s.bytes),
-  sym (ap (λ (ts : List Told). with_end made (flat_map store_calls ts)) none ∙ calls_none made) ∙ s.device,
+  sym (ap (λ (ts : List Told). with_end made (flat_map store_calls ts)) none ∙ with_end-nil made) ∙ s.device,
 )
 
 pub in_turn_whole : (source : Source) (from len room : ℕ) (list : List Owned) (all : List Told) (w : TurnWalk) (held now : Option (List ℕ)) (calls made : Option (List DiskCall))

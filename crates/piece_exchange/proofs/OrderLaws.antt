@@ -1,17 +1,19 @@
 -- The entries of a window in order of their ranks, and then of their places: a sorted list of where they stand gives them in that order.
 use Rattle.std.proofs.Common.{◌≡◌, ℕ, zero, suc, ◌+◌, ◌<◌, ◌≤◌, ◌⊎◌, inl, inr, refl, sym, ◌∙◌, ap, subst, List, [], ◌∷◌, ◌++◌, length, take, get_or, Bool, true, false, cond, ◌&&◌, append_assoc, is_lt, arith}
 use Rattle.std.proofs.lemmas.Bool.{eqb-true, lt-ltb, le-ltb, cases_lt}
-use Rattle.std.proofs.lemmas.Bool.Decides.{nat_tests}
 use Rattle.std.proofs.lemmas.List.{append-nil, length-append, length-take-le, map-append, take_more}
+use Rattle.std.proofs.lemmas.List.Concat.{flat_map-append}
 use Rattle.std.proofs.lemmas.List.Sorted.{sum_by-IsPermutation}
 use Rattle.std.proofs.lemmas.List.Sums.{sum_by-append, sum_by-cons}
 use Rattle.std.specs.Prelude.{filter, flat_map, map, nat_lt, ◌==◌}
 use Rattle.std.specs.List.{range_with_len, sum_by}
 use Rattle.std.specs.List.Sorted.{IsPermutation, IsSorted}
+use Rattle.std.specs.Cmp.{nat_cmp_is}
 use Rattle.std.specs.Ordering.{nat_cmp, ordering_then}
 use Rattle.std.specs.declared.cmp.Ordering.{Ordering}
 use Rattle.std.specs.declared.cmp.Ordering.TheVariants.{Less, Equal, Greater}
-use Rattle.list_laws.proofs.Truth.{and_first, and_second, equal_above, equal_below, equal_true}
+use Rattle.list_laws.proofs.Ranges.{range_push}
+use Rattle.list_laws.proofs.Truth.{and_first, and_second, equal_above, equal_below, equal_true, no_both}
 use Rattle.nc_base.specs.declared.plan.Owned.{Owned}
 use Rattle.overlay_laws.specs.Entries.{In}
 use Rattle.overlay_laws.proofs.HullLaws.{flat_in, in_either, range_high}
@@ -25,16 +27,11 @@ goes_of rank lo hi o = o.rank == rank && meets lo hi o
 
 -- ---- ranks one after another
 
-flat_next : {X : Type 0} (f : ℕ → List X) (a n : ℕ) → flat_map f (range_with_len a (suc n)) ≡ flat_map f (range_with_len a n) ++ f (a + n)
-flat_next f a zero = let same : a ≡ a + zero = omega arith in append-nil (f a) ∙ ap f same
-flat_next f a (suc n) =
-    let same : a + 1 + n ≡ a + suc n = omega arith in
-    ap (λ xs. f a ++ xs) (flat_next f (a + 1) n)
-    ∙ sym (append_assoc (f a) (flat_map f (range_with_len (a + 1) n)) (f (a + 1 + n)))
-    ∙ ap (λ (k : ℕ). (f a ++ flat_map f (range_with_len (a + 1) n)) ++ f k) same
-
 flat_last : {X : Type 0} (f : ℕ → List X) (n : ℕ) → flat_map f (range_with_len 0 (suc n)) ≡ flat_map f (range_with_len 0 n) ++ f n
-flat_last f n = let same : 0 + n ≡ n = omega arith in flat_next f 0 n ∙ ap (λ (k : ℕ). flat_map f (range_with_len 0 n) ++ f k) same
+flat_last f n =
+    ap (flat_map f) (range_push 0 n n (omega arith))
+    ∙ flat_map-append f (range_with_len 0 n) (n ∷ [])
+    ∙ ap (λ xs. flat_map f (range_with_len 0 n) ++ xs) (append-nil (f n))
 
 of_values : (p q r u v t m : Bool) (w : ℕ) → p ≡ u → q ≡ v → r ≡ t → cond (u && m) w 0 ≡ cond (v && m) w 0 + cond (t && m) w 0
     → cond (p && m) w 0 ≡ cond (q && m) w 0 + cond (r && m) w 0
@@ -234,15 +231,6 @@ then_equal Less b e = cc
 then_equal Equal b e = refl
 then_equal Greater b e = cc
 
-less_is : (x y : ℕ) → x < y → nat_cmp x y ≡ Less
-less_is x y h = grind (arith, nat_tests)
-
-equal_is : (x y : ℕ) → x ≡ y → nat_cmp x y ≡ Equal
-equal_is x y h = grind (arith, nat_tests)
-
-no_both : (t : Bool) → t ≡ true → t ≡ false → ⊥
-no_both t e f = cc
-
 not_after : (a b : Ranked) → is_lt (ranked_cmp b a) ≡ false → IsUnder a b
 not_after a b h = by_ranks (cases_lt b.rank a.rank) (cases_lt a.rank b.rank)
   where
@@ -251,11 +239,11 @@ not_after a b h = by_ranks (cases_lt b.rank a.rank) (cases_lt a.rank b.rank)
 
     by_places : b.rank ≡ a.rank → (b.place < a.place) ⊎ (a.place ≤ b.place) → IsUnder a b
     by_places e (inl l) =
-        absurd (no_both lt (then_equal (nat_cmp b.rank a.rank) (nat_cmp b.place a.place) (equal_is b.rank a.rank e) ∙ ap (λ (o : Ordering). is_lt o) (less_is b.place a.place l)) h)
+        no_both lt (then_equal (nat_cmp b.rank a.rank) (nat_cmp b.place a.place) (sym (nat_cmp_is b.rank a.rank Equal e)) ∙ ap (λ (o : Ordering). is_lt o) (sym (nat_cmp_is b.place a.place Less l))) h
     by_places e (inr l) = inr (sym e, l)
 
     by_ranks : (b.rank < a.rank) ⊎ (a.rank ≤ b.rank) → (a.rank < b.rank) ⊎ (b.rank ≤ a.rank) → IsUnder a b
-    by_ranks (inl l) m = absurd (no_both lt (then_less (nat_cmp b.rank a.rank) (nat_cmp b.place a.place) (less_is b.rank a.rank l)) h)
+    by_ranks (inl l) m = no_both lt (then_less (nat_cmp b.rank a.rank) (nat_cmp b.place a.place) (sym (nat_cmp_is b.rank a.rank Less l))) h
     by_ranks (inr l) (inl m) = inl m
     by_ranks (inr l) (inr m) = by_places (omega arith) (cases_lt b.place a.place)
 

@@ -1,5 +1,6 @@
 -- The windows of all parts, each read of its own part, are the file's bytes of all entries.
-use Rattle.std.proofs.Common.{◌≡◌, ℕ, ◌+◌, ◌-◌, ◌<◌, ◌≤◌, ◌⊎◌, inl, inr, refl, sym, ◌∙◌, ap, subst, List, [], ◌∷◌, ◌++◌, length, map, take, Option, Some, None, Result, Ok, Err, arith}
+use Rattle.std.proofs.Common.{◌≡◌, ℕ, ◌+◌, ◌-◌, ◌<◌, ◌≤◌, ◌⊎◌, inl, inr, refl, sym, ◌∙◌, ap, subst, List, [], ◌∷◌, ◌++◌, length, map, Option, Some, None, Result, Ok, Err, arith}
+use Rattle.std.proofs.lemmas.Option.{slice_get_within}
 use Rattle.std.proofs.lemmas.List.{append-nil, length-map}
 use Rattle.std.specs.Prelude.{slice_get, zip, IfErr, IfSome, IsErrOf, IsOk, OnOk}
 use Rattle.std.specs.List.{AllZip}
@@ -19,17 +20,15 @@ use Rattle.piece_exchange.specs.Blobs.{AreAsLong, FitTable, HasRead, HaveOnePlac
 use Rattle.piece_exchange.specs.Gets.{get_turns, AreRead, HasGot, IsGetPlanned}
 use Rattle.piece_exchange.specs.Logs.{told_in, HasReadParts, HasReadTurns, HasTaken, HaveTakenTurns, IsKept, IsReadOf, Log}
 use Rattle.piece_exchange.specs.Plan.{IsDomainOf}
-use Rattle.piece_exchange.specs.Put.{PartState, SomeZip}
+use Rattle.piece_exchange.specs.Put.{PartState}
 use Rattle.piece_exchange.specs.Shelves.{domain_of, part_of, turns_due, IsToldToGo}
 use Rattle.piece_exchange.specs.Turns.{Told}
 use Rattle.piece_exchange.specs.declared.gets.reading.Reading.{Reading}
 use Rattle.piece_exchange.specs.declared.gets.reading.Reading.TheVariants.{Hull}
 use Rattle.piece_exchange.specs.declared.gets.starting.ReadWorker.{ReadWorker}
 use Rattle.piece_exchange.specs.declared.plan.GetPlan.{GetPlan}
-use Rattle.piece_exchange.proofs.BackLaws.{map_new, some_mapped, zip_mapped}
-use Rattle.piece_exchange.proofs.CrewLaws.{all_started}
+use Rattle.piece_exchange.proofs.CrewLaws.{stay_of, AreOf, Keeps, StayOf}
 use Rattle.piece_exchange.proofs.DomainTurns.{domain_part, domain_windows}
-use Rattle.piece_exchange.proofs.FeedLaws.{get_long}
 use Rattle.piece_exchange.proofs.FetchLaws.{got_later}
 use Rattle.piece_exchange.proofs.ReadLaws.{log_joined, read_law}
 use Rattle.piece_exchange.proofs.TakeLaws.{items_read, IsReady}
@@ -130,21 +129,21 @@ workers_read {D} from held plan mids lasts old now long ready kept none t read =
       );
 }
   where
-    zip_worker : (ss : List (ReadWorker D)) (p : D × Extent) → In (zip (map (λ worker. part_of worker) ss) (map (λ worker. domain_of worker) ss)) p
-        → (worker : ReadWorker D) × In ss worker × ((part_of worker, domain_of worker) ≡ p)
+    zip_worker : (ws : List (ReadWorker D)) (p : D × Extent) → In (zip (map (λ worker. part_of worker) ws) (map (λ worker. domain_of worker) ws)) p
+        → (worker : ReadWorker D) × In ws worker × ((part_of worker, domain_of worker) ≡ p)
     zip_worker [] p m = absurd m
-    zip_worker (s ∷ ss) p (inl e) = (s, inl refl, e)
-    zip_worker (s ∷ ss) p (inr m) = let r = zip_worker ss p m in (r.0, inr r.1, r.2)
+    zip_worker (s ∷ ws) p (inl e) = (s, inl refl, e)
+    zip_worker (s ∷ ws) p (inr m) = let r = zip_worker ws p m in (r.0, inr r.1, r.2)
 
-    worker_zip : (ss : List (ReadWorker D)) (worker : ReadWorker D) → In ss worker → In {X = D × Extent} (zip (map (λ worker. part_of worker) ss) (map (λ worker. domain_of worker) ss)) (part_of worker, domain_of worker)
+    worker_zip : (ws : List (ReadWorker D)) (worker : ReadWorker D) → In ws worker → In {X = D × Extent} (zip (map (λ worker. part_of worker) ws) (map (λ worker. domain_of worker) ws)) (part_of worker, domain_of worker)
     worker_zip [] worker m = absurd m
-    worker_zip (s ∷ ss) worker (inl e) = inl (λ i. (part_of (e i), domain_of (e i)))
-    worker_zip (s ∷ ss) worker (inr m) = inr (worker_zip ss worker m)
+    worker_zip (s ∷ ws) worker (inl e) = inl (λ i. (part_of (e i), domain_of (e i)))
+    worker_zip (s ∷ ws) worker (inr m) = inr (worker_zip ws worker m)
 
     all_in : (p : D × Extent) (u : Told) → (worker : ReadWorker D) × In lasts worker × ((part_of worker, domain_of worker) ≡ p) → In (get_turns plan p.1) u → In (told_in t.log) u
     all_in p u s m =
         let last = in_at lasts s.0 s.1 in
-        let low = get_long lasts last.0 s.0 last.1 in
+        let low = slice_get_within lasts last.0 s.0 last.1 in
         let mid = entry_below mids last.0 (omega arith) in
         let w = t.each last.0 mid.0 s.0 mid.1 last.1 in
         let told = own_told plan mid.0 s.0 w.own (ready mid.0 (at_in mids last.0 mid.0 mid.1)) (kept last.0 mid.0 s.0 mid.1 last.1) (none last.0 s.0 last.1) w.taken in
@@ -186,7 +185,7 @@ parts_read {D} from len held plan parts domains file old now p long each whole f
         → (t : Told) × In (told_in h.log) t × (t.0 ≤ x) × (x < t.0 + t.1)
     has_hull x c w =
         let k = in_at parts w.0 w.1 in
-        let low = get_long parts k.0 w.0 k.1 in
+        let low = slice_get_within parts k.0 w.0 k.1 in
         let d = entry_below domains k.0 (omega arith) in
         let here = each k.0 w.0 d.0 k.1 d.1 in
         let t = domain_windows size (from w.0) (len w.0) d.0 plan.list.now cover p.some p.covers p.cover_bytes here.whole x w.2 w.3 c in
@@ -211,55 +210,14 @@ parts_done from len held plan parts domains file old now (Ok x) p long each whol
 
 -- ---- the helpers of all parts
 
--- the workers that were started, as they were told to go, and as all was taken of them
-pub record AreTaken {D : Type 0} (first mid last : List (ReadWorker D)) (parts : List D) (domains : List Extent) : Type 0 where
-  pub of_parts : map (λ worker. part_of worker) first ≡ parts
-  pub of_domains : map (λ worker. domain_of worker) first ≡ domains
-  pub long : length mid ≡ length first
-  pub longer : length last ≡ length mid
-  pub told : (k : ℕ) (a b : ReadWorker D) → slice_get first k ≡ Some a → slice_get mid k ≡ Some b → IsToldToGo a b
-  pub kept : (k : ℕ) (a b : ReadWorker D) → slice_get mid k ≡ Some a → slice_get last k ≡ Some b → IsKept a b
+told_stays : {D : Type 0} → Keeps {S = ReadWorker D} (λ worker. part_of worker) (λ worker. domain_of worker) (λ a b. IsToldToGo a b)
+told_stays a b t = (ap (λ child. child.promise.ends.value.part) t.child, ap (λ child. child.promise.domain.value) t.child)
 
-pub taken_by : {D : Type 0} (first lent mid again last : List (ReadWorker D)) (rest parts : List D) (domains : List Extent) → lent ≡ first → again ≡ mid
-    → length mid ≡ length lent → ((k : ℕ) (a b : ReadWorker D) → slice_get lent k ≡ Some a → slice_get mid k ≡ Some b → IsToldToGo a b)
-    → length last ≡ length again → ((k : ℕ) (a b : ReadWorker D) → slice_get again k ≡ Some a → slice_get last k ≡ Some b → IsKept a b)
-    → rest ≡ [] → map (λ worker. part_of worker) first ++ rest ≡ parts → map (λ worker. domain_of worker) first ≡ take (length first) domains → length domains ≡ length parts
-    → AreTaken first mid last parts domains
-taken_by {D} first lent mid again last rest parts domains e f long told longer kept none whole share one_each =
-    let started = all_started (λ (worker : ReadWorker D). part_of worker) (λ worker. domain_of worker) first rest parts domains none whole share one_each in
-    record {
-      of_parts = started.0;
-      of_domains = started.1;
-      long = long ∙ ap (λ (ss : List (ReadWorker D)). length ss) e;
-      longer = longer ∙ ap (λ (ss : List (ReadWorker D)). length ss) f;
-      told = subst (λ (ss : List (ReadWorker D)). (k : ℕ) (a b : ReadWorker D) → slice_get ss k ≡ Some a → slice_get mid k ≡ Some b → IsToldToGo a b) e told;
-      kept = subst (λ (ss : List (ReadWorker D)). (k : ℕ) (a b : ReadWorker D) → slice_get ss k ≡ Some a → slice_get last k ≡ Some b → IsKept a b) f kept;
-    }
+kept_stays : {D : Type 0} → Keeps {S = ReadWorker D} (λ worker. part_of worker) (λ worker. domain_of worker) (λ a b. IsKept a b)
+kept_stays a b k = (ap (λ helper. helper.child.promise.ends.value.part) k.helper, ap (λ helper. helper.child.promise.domain.value) k.helper)
 
-last_parts : {D : Type 0} (first mid last : List (ReadWorker D)) (parts : List D) (domains : List Extent) → AreTaken first mid last parts domains
-    → (map (λ worker. part_of worker) last ≡ parts) × (map (λ worker. domain_of worker) last ≡ domains)
-last_parts first mid last parts domains t = (
-  map_new (λ worker. part_of worker) (λ a b. IsKept a b) mid last t.longer t.kept (λ a b k. ap (λ helper. helper.child.promise.ends.value.part) k.helper)
-      ∙ map_new (λ worker. part_of worker) (λ a b. IsToldToGo a b) first mid t.long t.told (λ a b g. ap (λ child. child.promise.ends.value.part) g.child)
-      ∙ t.of_parts,
-  map_new (λ worker. domain_of worker) (λ a b. IsKept a b) mid last t.longer t.kept (λ a b k. ap (λ helper. helper.child.promise.domain.value) k.helper)
-      ∙ map_new (λ worker. domain_of worker) (λ a b. IsToldToGo a b) first mid t.long t.told (λ a b g. ap (λ child. child.promise.domain.value) g.child)
-      ∙ t.of_domains,
-)
-
-pub all_got : {D : Type 0} (first mid last : List (ReadWorker D)) (parts back : List D) (domains : List Extent) (Q : D × Extent → D → Type 0) → AreTaken first mid last parts domains
-    → AllZip (λ worker new. Q (part_of worker, domain_of worker) new) last back → AllZip Q (zip parts domains) back
-all_got {D} first mid last parts back domains Q t h =
-    let stay = last_parts first mid last parts domains t in
-    subst (λ (ds : List Extent). AllZip Q (zip parts ds) back) stay.1
-    (subst (λ (ps : List D). AllZip Q (zip ps (map (λ worker. domain_of worker) last)) back) stay.0
-    (zip_mapped (λ worker. part_of worker) (λ worker. domain_of worker) Q last back h))
-
-pub some_failed : {D : Type 0} (first mid last : List (ReadWorker D)) (parts back : List D) (domains : List Extent) (R : D → D → Type 0) → AreTaken first mid last parts domains
-    → SomeZip (λ worker new. R (part_of worker) new) last back → SomeZip R parts back
-some_failed {D} first mid last parts back domains R t h =
-    let stay = last_parts first mid last parts domains t in
-    subst (λ (ps : List D). SomeZip R ps back) stay.0 (some_mapped (λ worker. part_of worker) R last back h)
+pub taken_of : {D : Type 0} → StayOf {S = ReadWorker D} (λ worker. part_of worker) (λ worker. domain_of worker) (λ a b. IsToldToGo a b) (λ a b. IsKept a b)
+taken_of = stay_of (λ worker. part_of worker) (λ worker. domain_of worker) (λ a b. IsToldToGo a b) (λ a b. IsKept a b) told_stays kept_stays
 
 -- reads that were done, where the later end is no better
 pub all_got_later : {D T E : Type 0} (turns : D × Extent → List Told) (state : D → PartState) (pairs : List (D × Extent)) (back : List D) (end came : Result T E) → OnOk came (IsOk end)
@@ -270,19 +228,19 @@ all_got_later turns state (p ∷ pairs) [] end came ok h = h
 all_got_later turns state (p ∷ pairs) (d ∷ back) end came ok h =
     (got_later (turns p) (state p.0) (state d) end came ok h.0, all_got_later turns state pairs back end came ok h.1)
 
-pub all_read : {D T E : Type 0} (from : D → ℕ) (held : D → Option (List ℕ)) (plan : GetPlan) (first mid last : List (ReadWorker D)) (parts : List D) (domains : List Extent)
-    (old now : List (List (List ℕ))) (end came : Result T E) → AreTaken first mid last parts domains → ((worker : ReadWorker D) → In mid worker → IsReady plan worker)
+pub all_read : {D T E : Type 0} (from : D → ℕ) (held : D → Option (List ℕ)) (plan : GetPlan) (mid last : List (ReadWorker D)) (parts : List D) (domains : List Extent)
+    (old now : List (List (List ℕ))) (end came : Result T E) → AreOf (λ worker. part_of worker) (λ worker. domain_of worker) last parts domains → length last ≡ length mid
+    → ((worker : ReadWorker D) → In mid worker → IsReady plan worker) → ((k : ℕ) (a b : ReadWorker D) → slice_get mid k ≡ Some a → slice_get last k ≡ Some b → IsKept a b)
     → ((k : ℕ) (worker : ReadWorker D) → slice_get last k ≡ Some worker → turns_due worker.shelf ≡ [])
     → OnOk came (HaveTakenTurns plan.list.now mid last old now)
     → OnOk end ((worker : ReadWorker D) → In last worker → AreRead (get_turns plan (domain_of worker)) (from (part_of worker)) (held (part_of worker)) worker.shelf.line.items)
     → OnOk (result_and end came) (HasReadParts from held plan (zip parts domains) old now)
-all_read from held plan first mid last parts domains old now (Err x) came t ready none taken read = tt
-all_read from held plan first mid last parts domains old now (Ok y) (Err x) t ready none taken read = tt
-all_read {D} from held plan first mid last parts domains old now (Ok y) (Ok x) t ready none taken read =
-    let stay = last_parts first mid last parts domains t in
-    subst (λ (ds : List Extent). HasReadParts from held plan (zip parts ds) old now) stay.1
-    (subst (λ (ps : List D). HasReadParts from held plan (zip ps (map (λ worker. domain_of worker) last)) old now) stay.0
-    (workers_read from held plan mid last old now t.longer ready t.kept none taken read))
+all_read from held plan mid last parts domains old now (Err x) came of long ready kept none taken read = tt
+all_read from held plan mid last parts domains old now (Ok y) (Err x) of long ready kept none taken read = tt
+all_read {D} from held plan mid last parts domains old now (Ok y) (Ok x) of long ready kept none taken read =
+    subst (λ (ds : List Extent). HasReadParts from held plan (zip parts ds) old now) of.of_domains
+    (subst (λ (ps : List D). HasReadParts from held plan (zip ps (map (λ worker. domain_of worker) last)) old now) of.of_parts
+    (workers_read from held plan mid last old now long ready kept none taken read))
 
 -- want of memory is no fault
 pub and_memory : {T : Type 0} (end came : Result T DiskErr) → IfErr came (λ e. e ≡ Memory) → IsErrOf (result_and end came) Failed → IsErrOf end Failed

@@ -1,15 +1,15 @@
 -- The pieces of a window are those of the entries that a walk gives with it, and have each covered byte of it.
-use Rattle.std.proofs.Common.{◌≡◌, ℕ, zero, suc, ◌+◌, ◌<◌, ◌≤◌, ◌⊎◌, inl, inr, refl, sym, ◌∙◌, ap, List, [], ◌∷◌, ◌++◌, length, take, get_or, Bool, true, false, cond, ◌&&◌, arith}
-use Rattle.std.proofs.lemmas.List.{append-nil, length-append, take_more}
+use Rattle.std.proofs.Common.{◌≡◌, ℕ, zero, suc, ◌+◌, ◌<◌, ◌≤◌, ◌⊎◌, inl, inr, refl, sym, ◌∙◌, ap, List, [], ◌∷◌, ◌++◌, length, Bool, true, false, cond, ◌&&◌, arith}
+use Rattle.std.proofs.lemmas.List.{append-nil, length-append}
 use Rattle.std.specs.Prelude.{filter, flat_map, nat_lt, nat_le, ◌==◌}
 use Rattle.std.specs.List.{range_with_len}
-use Rattle.std.proofs.lemmas.Bool.{ltb-true, ltb-false, eqb-true, lt-ltb, le-ltb, leb-true, le-leb, lt-leb}
+use Rattle.std.proofs.lemmas.Bool.{and_from, and_right, ltb-true, ltb-false, eqb-true, lt-ltb, le-ltb, leb-true, le-leb, lt-leb}
 use Rattle.std.proofs.lemmas.List.Elements.{filter-append}
 use Rattle.nc_base.specs.declared.plan.Owned.{Owned}
 use Rattle.overlay_laws.specs.Entries.{In, Source}
 use Rattle.overlay_laws.specs.Origins.{AreFound}
 use Rattle.overlay_laws.proofs.HullLaws.{in_flat, flat_in, in_range}
-use Rattle.list_laws.proofs.Truth.{equal_true}
+use Rattle.list_laws.proofs.Truth.{equal_true, no_both}
 use Rattle.serial_spec.proofs.MemberLaws.{in_filter, filter_in}
 use Rattle.overlay_laws.proofs.WalkLaws.{filter_none}
 use Rattle.data_sieving.specs.Walked.{IsCovered}
@@ -21,35 +21,21 @@ use Rattle.piece_exchange.specs.Cursor.{AreServed}
 
 -- ---- tests
 
-and_false : (a b : Bool) → b ≡ false → (a && b) ≡ false
-and_false true b e = e
-and_false false b e = refl
-
-both : (a b : Bool) → a ≡ true → b ≡ true → (a && b) ≡ true
-both true b e f = f
-both false b e f = absurd cc
-
 -- an entry that ends before a window, or begins after it, has no byte in it
 ended_out : (lo hi : ℕ) (o : Owned) → o.extent.at + o.extent.len ≤ lo → meets lo hi o ≡ false
-ended_out lo hi o h = and_false (nat_lt o.extent.at hi) (nat_lt lo (o.extent.at + o.extent.len)) (le-ltb lo (o.extent.at + o.extent.len) h)
+ended_out lo hi o h = and_right (nat_lt o.extent.at hi) (nat_lt lo (o.extent.at + o.extent.len)) (le-ltb lo (o.extent.at + o.extent.len) h)
 
 later_out : (lo hi : ℕ) (o : Owned) → hi ≤ o.extent.at → meets lo hi o ≡ false
 later_out lo hi o h = ap (λ (t : Bool). t && nat_lt lo (o.extent.at + o.extent.len)) (le-ltb o.extent.at hi h)
-
--- ---- lists that are filtered
-
-flat_same : {X Y : Type 0} (f g : X → List Y) (xs : List X) → ((x : X) → f x ≡ g x) → flat_map f xs ≡ flat_map g xs
-flat_same f g [] h = refl
-flat_same f g (x ∷ xs) h = (λ i. h x i ++ flat_map f xs) ∙ ap (λ r. g x ++ r) (flat_same f g xs h)
 
 -- ---- the pieces of a window
 
 rank_served : (list begun : List Owned) (lo hi r : ℕ) → AreServed list begun lo hi → of_rank lo hi r begun ≡ of_rank lo hi r list
 rank_served list begun lo hi r s =
-    sym (past_same t lo list s.left (λ o e. and_false (o.rank == r) (meets lo hi o) (ended_out lo hi o e)) s.past
+    sym (past_same t lo list s.left (λ o e. and_right (o.rank == r) (meets lo hi o) (ended_out lo hi o e)) s.past
     ∙ ap (λ (es : List Owned). filter t es) s.front.joined
     ∙ filter-append t begun s.front.rest
-    ∙ ap (λ (es : List Owned). filter t begun ++ es) (filter_none t s.front.rest (λ o m. and_false (o.rank == r) (meets lo hi o) (later_out lo hi o (s.front.later o m))))
+    ∙ ap (λ (es : List Owned). filter t begun ++ es) (filter_none t s.front.rest (λ o m. and_right (o.rank == r) (meets lo hi o) (later_out lo hi o (s.front.later o m))))
     ∙ append-nil (filter t begun))
   where
     t : Owned → Bool
@@ -57,7 +43,7 @@ rank_served list begun lo hi r s =
 
 pub pieces_served : (ranks : ℕ) (list begun : List Owned) (t : Told) → AreServed list begun t.0 (t.0 + t.1) → pieces_in ranks begun t ≡ pieces_in ranks list t
 pieces_served ranks list begun t s =
-    flat_same (λ r. of_rank t.0 (t.0 + t.1) r begun) (λ r. of_rank t.0 (t.0 + t.1) r list) (range_with_len 0 ranks) (λ r. rank_served list begun t.0 (t.0 + t.1) r s)
+    λ i. flat_map (λ r. rank_served list begun t.0 (t.0 + t.1) r s i) (range_with_len 0 ranks)
 
 pub piece_from : (ranks : ℕ) (list : List Owned) (t : Told) (o : Owned) → In (pieces_in ranks list t) o → In list o
 piece_from ranks list t o m =
@@ -76,8 +62,8 @@ pub in_pieces : (ranks : ℕ) (list : List Owned) (t : Told) (o : Owned) → In 
 in_pieces ranks list t o m r b e =
     in_flat (λ r. of_rank t.0 (t.0 + t.1) r list) (range_with_len 0 ranks) o.rank o (in_range 0 ranks o.rank (omega arith) (omega arith))
     (in_filter (λ p. p.rank == o.rank && meets t.0 (t.0 + t.1) p) list o m
-    (both (o.rank == o.rank) (meets t.0 (t.0 + t.1) o) (equal_true o.rank o.rank refl)
-    (both (nat_lt o.extent.at (t.0 + t.1)) (nat_lt t.0 (o.extent.at + o.extent.len)) (lt-ltb o.extent.at (t.0 + t.1) b) (lt-ltb t.0 (o.extent.at + o.extent.len) e))))
+    (and_from (o.rank == o.rank) (meets t.0 (t.0 + t.1) o) (equal_true o.rank o.rank refl)
+    (and_from (nat_lt o.extent.at (t.0 + t.1)) (nat_lt t.0 (o.extent.at + o.extent.len)) (lt-ltb o.extent.at (t.0 + t.1) b) (lt-ltb t.0 (o.extent.at + o.extent.len) e))))
 
 pub pieces_picked : (ranks : ℕ) (list : List Owned) (t : Told) → ((o : Owned) → In list o → o.rank < ranks) → ArePicked list t (pieces_in ranks list t)
 pieces_picked ranks list t below = record {
@@ -109,7 +95,7 @@ first_rank a n k = by_test (k == a) refl
         → (((k == a) ≡ true) × (is_among (a + 1) n k ≡ false) × (is_among a (suc n) k ≡ true)) ⊎ (((k == a) ≡ false) × (is_among (a + 1) n k ≡ is_among a (suc n) k))
     by_test true e =
         let same : k ≡ a = eqb-true _ _ e in
-        inl (e, ap (λ (t : Bool). t && nat_lt k (a + 1 + n)) (lt-leb (a + 1) k (omega arith)), both (nat_le a k) (nat_lt k (a + suc n)) (le-leb a k (omega arith)) (lt-ltb k (a + suc n) (omega arith)))
+        inl (e, ap (λ (t : Bool). t && nat_lt k (a + 1 + n)) (lt-leb (a + 1) k (omega arith)), and_from (nat_le a k) (nat_lt k (a + suc n)) (le-leb a k (omega arith)) (lt-ltb k (a + suc n) (omega arith)))
     by_test false e =
         let end : a + 1 + n ≡ a + suc n = omega arith in
         inr (e, ap (λ (m : ℕ). nat_le (a + 1) k && nat_lt k m) end ∙ ap (λ (t : Bool). t && nat_lt k (a + suc n)) (by_place (nat_lt a k) refl))
@@ -121,14 +107,11 @@ first_rank a n k = by_test (k == a) refl
             let less : k < a = less_than (nat_lt k a) refl l in
             lt-leb (a + 1) k (omega arith) ∙ sym (lt-leb a k (omega arith))
           where
-            no_both : (t : Bool) → t ≡ true → t ≡ false → ⊥
-            no_both t h k = cc
-
             less_than : (t : Bool) → nat_lt k a ≡ t → k ≤ a → k < a
             less_than true g l = ltb-true _ _ g
             less_than false g l =
                 let m : a ≤ k = ltb-false _ _ g in
-                absurd (no_both (k == a) (equal_true k a (omega arith)) e)
+                no_both (k == a) (equal_true k a (omega arith)) e
 
 one_rank : (u v w m : Bool) (a b c : List Owned) (o : Owned) → ((u ≡ true) × (v ≡ false) × (w ≡ true)) ⊎ ((u ≡ false) × (v ≡ w)) → length a + length b ≡ length c
     → length (cond (u && m) (o ∷ a) a) + length (cond (v && m) (o ∷ b) b) ≡ length (cond (w && m) (o ∷ c) c)
@@ -159,7 +142,7 @@ no_ranks a lo hi list = ap (λ (os : List Owned). length os) (filter_none (of_so
     none : (o : Owned) (t : Bool) → nat_le a o.rank ≡ t → of_some_rank a 0 lo hi o ≡ false
     none o true e =
         let low : a ≤ o.rank = leb-true a o.rank e in
-        ap (λ (t : Bool). (nat_le a o.rank && t) && meets lo hi o) (le-ltb o.rank (a + 0) (omega arith)) ∙ ap (λ (t : Bool). t && meets lo hi o) (and_false (nat_le a o.rank) false refl)
+        ap (λ (t : Bool). (nat_le a o.rank && t) && meets lo hi o) (le-ltb o.rank (a + 0) (omega arith)) ∙ ap (λ (t : Bool). t && meets lo hi o) (and_right (nat_le a o.rank) false refl)
     none o false e = ap (λ (t : Bool). (t && nat_lt o.rank (a + 0)) && meets lo hi o) e
 
 counted : (a n lo hi : ℕ) (list : List Owned) → length (flat_map (λ r. of_rank lo hi r list) (range_with_len a n)) ≡ length (filter (of_some_rank a n lo hi) list)
@@ -172,31 +155,3 @@ counted a (suc n) lo hi list =
 -- one pass over the entries counts them
 pub pieces_many : (ranks : ℕ) (list : List Owned) (t : Told) → length (pieces_in ranks list t) ≡ length (filter (of_some_rank 0 ranks t.0 (t.0 + t.1)) list)
 pieces_many ranks list t = counted 0 ranks t.0 (t.0 + t.1) list
-
-same_test : (ranks lo hi : ℕ) (o : Owned) → of_some_rank 0 ranks lo hi o ≡ (nat_lt o.rank ranks && meets lo hi o)
-same_test ranks lo hi o =
-    let low : nat_le 0 o.rank ≡ true = le-leb 0 o.rank (omega arith) in
-    let end : 0 + ranks ≡ ranks = omega arith in
-    (λ i. (low i && nat_lt o.rank (end i)) && meets lo hi o)
-
--- one entry more is counted, or not
-pub counted_more : (ranks lo hi i n : ℕ) (list : List Owned) (o : Owned) → i < length list → n ≡ length (filter (of_some_rank 0 ranks lo hi) (take i list))
-    → (nat_lt (get_or list i o).rank ranks && meets lo hi (get_or list i o)) ≡ true → n + 1 ≡ length (filter (of_some_rank 0 ranks lo hi) (take (i + 1) list))
-counted_more ranks lo hi i n list o l e test =
-    sym (ap (λ (os : List Owned). length (filter (of_some_rank 0 ranks lo hi) os)) (take_more list i o l)
-    ∙ ap (λ (os : List Owned). length os) (filter-append (of_some_rank 0 ranks lo hi) (take i list) (get_or list i o ∷ []))
-    ∙ length-append (filter (of_some_rank 0 ranks lo hi) (take i list)) (filter (of_some_rank 0 ranks lo hi) (get_or list i o ∷ []))
-    ∙ ap (λ (b : Bool). length (filter (of_some_rank 0 ranks lo hi) (take i list)) + length (cond b (get_or list i o ∷ []) [])) (same_test ranks lo hi (get_or list i o) ∙ test)
-    ∙ ap (λ (k : ℕ). k + 1) (sym e))
-
-pub counted_same : (ranks lo hi i n : ℕ) (list : List Owned) (o : Owned) → i < length list → n ≡ length (filter (of_some_rank 0 ranks lo hi) (take i list))
-    → (nat_lt (get_or list i o).rank ranks && meets lo hi (get_or list i o)) ≡ false → n ≡ length (filter (of_some_rank 0 ranks lo hi) (take (i + 1) list))
-counted_same ranks lo hi i n list o l e test =
-    sym (ap (λ (os : List Owned). length (filter (of_some_rank 0 ranks lo hi) os)) (take_more list i o l)
-    ∙ ap (λ (os : List Owned). length os) (filter-append (of_some_rank 0 ranks lo hi) (take i list) (get_or list i o ∷ []))
-    ∙ length-append (filter (of_some_rank 0 ranks lo hi) (take i list)) (filter (of_some_rank 0 ranks lo hi) (get_or list i o ∷ []))
-    ∙ ap (λ (b : Bool). length (filter (of_some_rank 0 ranks lo hi) (take i list)) + length (cond b (get_or list i o ∷ []) [])) (same_test ranks lo hi (get_or list i o) ∙ test)
-    ∙ none (length (filter (of_some_rank 0 ranks lo hi) (take i list))) ∙ sym e)
-  where
-    none : (k : ℕ) → k + 0 ≡ k
-    none k = omega arith

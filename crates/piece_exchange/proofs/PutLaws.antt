@@ -1,5 +1,5 @@
 -- A window that is put on a part: each byte is old or new, and once no window is ahead each byte that the entries say is new.
-use Rattle.std.proofs.Common.{◌≡◌, ℕ, ◌+◌, ◌-◌, ◌<◌, ◌≤◌, ◌⊎◌, inl, inr, refl, sym, ◌∙◌, ap, subst, List, [], ◌∷◌, ◌++◌, length, drop, Bool, true, false, Option, Some, None, arith}
+use Rattle.std.proofs.Common.{◌≡◌, ℕ, ◌+◌, ◌-◌, ◌<◌, ◌≤◌, ◌⊎◌, inl, inr, refl, sym, ◌∙◌, ap, subst, List, [], ◌∷◌, length, drop, Bool, true, false, Option, Some, None, arith}
 use Rattle.std.proofs.lemmas.List.{length-take}
 use Rattle.std.proofs.lemmas.Bool.{ltb-true, ltb-false}
 use Rattle.std.specs.Prelude.{map, nat_lt, IfSome}
@@ -13,8 +13,11 @@ use Rattle.serial_spec.proofs.SaidLaws.{cells_said}
 use Rattle.overlay_laws.specs.Changes.{IsBetween}
 use Rattle.overlay_laws.specs.Entries.{In, Source, cell_of}
 use Rattle.overlay_laws.specs.Windows.{clips, IsPart}
+use Rattle.overlay_laws.proofs.ChangeLaws.{between_next}
+use Rattle.overlay_laws.proofs.EntryLaws.{says_cases, says_left, says_right}
 use Rattle.overlay_laws.proofs.SaidLaws.{cells_long, one_said, said_is, same_file}
 use Rattle.overlay_laws.proofs.WindowLaws.{clips_from, clips_in, clips_within, moved_said, none_below, none_past, within_lowered, within_more}
+use Rattle.aggregator_rounds.proofs.RoundLaws.{from_less}
 use Rattle.piece_exchange.specs.Put.{put_part}
 use Rattle.piece_exchange.specs.Taken.{cells_in, put_window}
 use Rattle.piece_exchange.specs.Turns.{Told}
@@ -24,20 +27,6 @@ abbrev cells_of : Source → List Owned → List Cell
 cells_of source list = map (λ o. cell_of source o) list
 
 -- ---- which entry says a byte
-
-says_left : (ps qs : List (ℕ × ℕ)) (x v : ℕ) → Says ps x v → Says (ps ++ qs) x v
-says_left [] qs x v h = absurd h
-says_left (p ∷ ps) qs x v (inl h) = inl h
-says_left (p ∷ ps) qs x v (inr h) = inr (says_left ps qs x v h)
-
-says_right : (ps qs : List (ℕ × ℕ)) (x v : ℕ) → Says qs x v → Says (ps ++ qs) x v
-says_right [] qs x v h = h
-says_right (p ∷ ps) qs x v h = inr (says_right ps qs x v h)
-
-says_either : (ps qs : List (ℕ × ℕ)) (x v : ℕ) → Says (ps ++ qs) x v → Says ps x v ⊎ Says qs x v
-says_either [] qs x v h = inr h
-says_either (p ∷ ps) qs x v (inl h) = inl (inl h)
-says_either (p ∷ ps) qs x v (inr h) = elim (says_either ps qs x v h) [ inl a ↦ inl (inr a) | inr b ↦ inr b ]
 
 says_at : (p : ℕ) (b : List ℕ) (x v : ℕ) → Says (enumerate_from p b) x v → (p ≤ x) × (x < p + length b)
 says_at p [] x v h = absurd h
@@ -52,7 +41,7 @@ record IsSaidBy (source : Source) (list : List Owned) (x v : ℕ) : Type 0 where
 says_by : (source : Source) (list : List Owned) (x v : ℕ) → Says (said_by (cells_of source list)) x v → IsSaidBy source list x v
 says_by source [] x v h = absurd h
 says_by source (o ∷ list) x v h =
-    elim (says_either (enumerate_from (cell_of source o).0 (cell_of source o).1) (said_by (cells_of source list)) x v h) [
+    elim (says_cases (enumerate_from (cell_of source o).0 (cell_of source o).1) (said_by (cells_of source list)) x v h) [
       | inl a ↦ record { by = o; inside = inl refl; says = a }
       | inr b ↦ (let r = says_by source list x v b in record { by = r.by; inside = inr r.inside; says = r.says })
     ]
@@ -97,10 +86,6 @@ entry_says source list picked t x v p l k h =
 
 -- ---- cells seen from the part's begin
 
-from_low : (m n : ℕ) (cs : List Cell) → n ≤ m → IsFrom m cs → IsFrom n cs
-from_low m n [] l f = tt
-from_low m n (c ∷ cs) l f = let a : m ≤ c.0 = f.0 in (omega arith, from_low m n cs l f.1)
-
 -- what is said of cells in a hull, seen from the part's begin, is said of them where they lie
 hull_said : (cells : List Cell) (from lo hi y v : ℕ) → from ≤ lo → lo ≤ hi → said_at (said_by (moved_down from (clips lo hi cells))) y ≡ Some v
     → (lo ≤ y + from) × (y + from < hi) × (said_at (said_by cells) (y + from) ≡ Some v)
@@ -114,7 +99,7 @@ hull_said cells from lo hi y v low order h = by_front (nat_lt (y + from) lo) ref
 
     here : said_at (said_by (clips lo hi cells)) (y + from) ≡ Some v
     here =
-        sym (moved_said from (clips lo hi cells) (y + from) (from_low lo from (clips lo hi cells) low least) (omega arith))
+        sym (moved_said from (clips lo hi cells) (y + from) (from_less from lo (clips lo hi cells) low least) (omega arith))
         ∙ ap (λ (k : ℕ). said_at (said_by (moved_down from (clips lo hi cells))) k) place ∙ h
 
     by_back : (t : Bool) → nat_lt (y + from) hi ≡ t → lo ≤ y + from → (lo ≤ y + from) × (y + from < hi) × (said_at (said_by cells) (y + from) ≡ Some v)
@@ -131,7 +116,7 @@ said_hull : (cells : List Cell) (from lo hi y v : ℕ) → from ≤ lo → lo �
 said_hull cells from lo hi y v low l h e =
     let place : (y + from) - from ≡ y = omega arith in
     ap (λ (k : ℕ). said_at (said_by (moved_down from (clips lo hi cells))) k) (sym place)
-    ∙ moved_said from (clips lo hi cells) (y + from) (from_low lo from (clips lo hi cells) low (clips_from lo hi cells (omega arith))) (omega arith)
+    ∙ moved_said from (clips lo hi cells) (y + from) (from_less from lo (clips lo hi cells) low (clips_from lo hi cells (omega arith))) (omega arith)
     ∙ clips_in lo hi cells (y + from) l h ∙ e
 
 -- the cells of a part that has so many bytes
@@ -149,7 +134,7 @@ part_within source list from len =
 turn_within : (source : Source) (picked : List Owned) (from len : ℕ) (t : Told) → from ≤ t.0 → t.0 + t.1 ≤ from + len → IsWithin (turn_cells source picked from t) len
 turn_within source picked from len t low high =
     let cells = cells_in source t picked in
-    within_lowered from len cells (from_low t.0 from cells low (clips_from t.0 (t.0 + t.1) (cells_of source picked) (omega arith)))
+    within_lowered from len cells (from_less from t.0 cells low (clips_from t.0 (t.0 + t.1) (cells_of source picked) (omega arith)))
     (within_more cells (t.0 + t.1) (from + len) high (clips_within t.0 (t.0 + t.1) (cells_of source picked) (omega arith)))
 
 -- what a window's cells say the part's cells say
@@ -213,13 +198,6 @@ between_more whole cells old mid part within b = record {
     by_said : (x : ℕ) (o : Option ℕ) → said_at (said_by cells) x ≡ o → (at (write_cells mid cells) x ≡ at old x) ⊎ (at (write_cells mid cells) x ≡ at (write_cells old whole) x)
     by_said x None e = elim (b.each x) [ inl k ↦ inl (unsaid cells mid x e ∙ k) | inr k ↦ inr (unsaid cells mid x e ∙ k) ]
     by_said x (Some v) e = inr (said cells mid x v e ∙ sym (said whole old x v (part x v e)))
-
-between_twice : (old whole mid next left : List ℕ) → IsBetween old whole mid → IsBetween old whole next → IsBetween mid next left → IsBetween old whole left
-between_twice old whole mid next left a b c = record { len = c.len ∙ a.len; each = λ x. by_next x (c.each x) }
-  where
-    by_next : (x : ℕ) → (at left x ≡ at mid x) ⊎ (at left x ≡ at next x) → (at left x ≡ at old x) ⊎ (at left x ≡ at whole x)
-    by_next x (inl e) = elim (a.each x) [ inl k ↦ inl (e ∙ k) | inr k ↦ inr (e ∙ k) ]
-    by_next x (inr e) = elim (b.each x) [ inl k ↦ inl (e ∙ k) | inr k ↦ inr (e ∙ k) ]
 
 window_between : (source : Source) (list picked : List Owned) (from : ℕ) (t : Told) (old mid : List ℕ) → IsOneValued (said_by (cells_of source list)) → ArePicked list t picked
     → from ≤ t.0 → t.0 + t.1 ≤ from + length old → IsBetween old (put_part source list from old) mid → IsBetween old (put_part source list from old) (put_window source from t picked mid)
@@ -319,7 +297,7 @@ told_more source list picked from len t (Some old) mid now told one p low high b
     let d = subst (λ (m : Option (List ℕ)). BothTold (λ old left. IsBetween old (put_window source from t picked old) left) m now) b.1 c in (
       d.0,
       d.1,
-      between_twice old (put_part source list from old) b.0 (put_window source from t picked b.0) d.0 b.2
+      between_next old (put_part source list from old) b.0 (put_window source from t picked b.0) d.0 b.2
           (window_between source list picked from t old b.0 one p low (subst (λ (n : ℕ). t.0 + t.1 ≤ from + n) (sym told) high) b.2) d.2,
     )
 

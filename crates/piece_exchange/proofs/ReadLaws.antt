@@ -185,9 +185,6 @@ parts_whole file top os ts blob below each once fit =
 
 -- ---- a log of hulls
 
-pub log_none : (list : List Owned) (table : List (List (List ℕ))) → HasCollectedLog list [] table table
-log_none list table = λ r s. refl
-
 pub log_joined : (list : List Owned) (first second : Log) (old mid now : List (List (List ℕ))) → HasCollectedLog list first old mid → HasCollectedLog list second mid now
     → HasCollectedLog list (first ++ second) old now
 log_joined list first second old mid now f g = λ r s.

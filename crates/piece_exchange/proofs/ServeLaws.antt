@@ -4,6 +4,7 @@ use Rattle.std.proofs.lemmas.List.{append-nil, length-append}
 use Rattle.std.specs.Prelude.{map, flat_map, IfSome, IsOk, IsErr, OnOk}
 use Rattle.nc_base.specs.declared.plan.Owned.{Owned}
 use Rattle.nc_base.specs.declared.step.DiskCall.{DiskCall}
+use Rattle.nc_outside.proofs.ToldLaws.{with_end-nil}
 use Rattle.nc_outside.specs.Told.{after, with_end, BothTold}
 use Rattle.serial_spec.specs.Said.{said_by, IsOneValued}
 use Rattle.overlay_laws.specs.Changes.{store_calls, IsBetween}
@@ -23,10 +24,6 @@ use Rattle.piece_exchange.specs.Cursor.{AreInFront, IsAt}
 use Rattle.piece_exchange.proofs.TurnLaws.{at_next, served_now, turn_now}
 
 -- ---- calls
-
-pub calls_none : (calls : Option (List DiskCall)) → with_end calls [] ≡ calls
-calls_none None = refl
-calls_none (Some calls) = ap Some (append-nil calls)
 
 pub calls_more : (t : Told) (ts : List Told) (mid now : Option (List DiskCall)) → now ≡ with_end mid (store_calls t)
     → with_end now (flat_map store_calls ts) ≡ with_end mid (flat_map store_calls (t ∷ ts))
@@ -188,7 +185,7 @@ bytes_end source from list taken done ts held now (Ok x) none e b =
 bytes_end source from list taken done ts held now (Err x) none e b = tt
 
 calls_end : {T E : Type 0} (ts : List Told) (whole made : Option (List DiskCall)) (end : Result T E) → ts ≡ [] → OnOk end (with_end made (flat_map store_calls ts) ≡ whole) → OnOk end (made ≡ whole)
-calls_end ts whole made (Ok x) none b = sym (ap (λ (us : List Told). with_end made (flat_map store_calls us)) none ∙ calls_none made) ∙ b
+calls_end ts whole made (Ok x) none b = sym (ap (λ (us : List Told). with_end made (flat_map store_calls us)) none ∙ with_end-nil made) ∙ b
 calls_end ts whole made (Err x) none b = tt
 
 pub served_end : {T E : Type 0} (source : Source) (from len ranks room : ℕ) (list : List Owned) (all : List Told) (w : TurnWalk) (taken : List Owned)

@@ -1,7 +1,7 @@
 -- Hulls that are taken off the lines of helpers, one after another.
 use Rattle.std.proofs.Common.{◌≡◌, ℕ, ◌+◌, ◌-◌, min, inl, inr, refl, sym, ◌∙◌, ap, subst, List, [], ◌∷◌, ◌++◌, length, map, set, Bool, true, false, Option, Some, None, Result, Ok, Err, append_assoc, arith}
 use Rattle.std.proofs.lemmas.List.{append-nil, length-map, map-append}
-use Rattle.std.proofs.lemmas.Option.{same_Some}
+use Rattle.std.proofs.lemmas.Option.{same_Some, slice_get_within}
 use Rattle.std.specs.Prelude.{slice_get, ◌==◌, IfErr, IfSome, OnOk}
 use Rattle.std.specs.Result.{result_and}
 use borrow.Author.Tests.{eqb-true, eqb-false}
@@ -12,7 +12,7 @@ use Rattle.nc_outside.specs.declared.disk.DiskErr.TheVariants.{Memory}
 use Rattle.serial_spec.specs.File.{read}
 use Rattle.overlay_laws.specs.Entries.{In}
 use Rattle.overlay_laws.proofs.HullLaws.{in_either, in_left, in_right}
-use Rattle.piece_exchange.specs.Shelves.{domain_of, turns_due, IsFresh, IsReadWorker, IsSent, IsShelf, IsToldToGo}
+use Rattle.piece_exchange.specs.Shelves.{domain_of, turns_due, IsFresh, IsStartedFor, IsSent, IsShelf, IsToldToGo}
 use Rattle.piece_exchange.specs.Blobs.{FitTable, HasCollected, HaveOnePlaces}
 use Rattle.piece_exchange.specs.Cursor.{AreServed}
 use Rattle.piece_exchange.specs.Gets.{get_turns, reading_of, AreRead}
@@ -25,7 +25,7 @@ use Rattle.piece_exchange.specs.declared.gets.shelf.Shelf.{Shelf}
 use Rattle.piece_exchange.specs.declared.gets.starting.ReadWorker.{ReadWorker}
 use Rattle.piece_exchange.specs.declared.plan.GetPlan.{GetPlan}
 use Rattle.piece_exchange.proofs.BackLaws.{each_new}
-use Rattle.piece_exchange.proofs.FeedLaws.{get_long, set_each}
+use Rattle.piece_exchange.proofs.FeedLaws.{set_each}
 use Rattle.piece_exchange.proofs.ReadLaws.{hull_collected, log_joined, log_one}
 
 -- ---- hulls of one helper
@@ -82,7 +82,7 @@ taken_more {D} list olds mids k mid new before between now long at h t = record 
 
     newest : (e : Told × List ℕ) → In t.own e → IsTakenOf olds (set mids k new) e
     newest e m =
-        let low = get_long mids k mid at in
+        let low = slice_get_within mids k mid at in
         let first = entry_below olds k (omega arith) in
         let w = h.each k first.0 mid first.1 at in
         record {
@@ -178,7 +178,7 @@ items_read from held own items is taken = by_held held (taken.whole long)
 
 -- a helper that was told to go, and of which nothing was taken
 pub record IsReady {D : Type 0} (plan : GetPlan) (worker : ReadWorker D) : Type 0 where
-  pub worker_is : IsReadWorker plan worker
+  pub started : IsStartedFor plan worker
   pub word : worker.helper.word.items ≡ Go ∷ []
   pub ready : IsShelfIn plan.list.now worker.shelf
   pub taken : worker.shelf.line.items ≡ []
@@ -186,9 +186,9 @@ pub record IsReady {D : Type 0} (plan : GetPlan) (worker : ReadWorker D) : Type 
 
 go_worker : {D : Type 0} (plan : GetPlan) (old new : ReadWorker D) → IsToldToGo old new → IsFresh plan old → IsReady plan new
 go_worker plan old new t f =
-    let s = f.worker_is in
+    let s = f.started in
     record {
-      worker_is = record {
+      started = record {
         cover = ap (λ child. child.promise.cover.value) t.child ∙ s.cover;
         size = ap (λ child. child.promise.size.value) t.child ∙ s.size;
         word_of = t.of ∙ s.word_of ∙ sym (ap (λ child. child.promise.ends.value.word.of) t.child);
@@ -208,9 +208,9 @@ ready_workers plan old new long told fresh =
 
 kept_worker : {D : Type 0} (plan : GetPlan) (old new : ReadWorker D) → IsKept old new → IsReady plan old → IsSent plan new
 kept_worker plan old new k r =
-    let s = r.worker_is in
+    let s = r.started in
     record {
-      worker_is = record {
+      started = record {
         cover = ap (λ helper. helper.child.promise.cover.value) k.helper ∙ s.cover;
         size = ap (λ helper. helper.child.promise.size.value) k.helper ∙ s.size;
         word_of = ap (λ helper. helper.word.of) k.helper ∙ s.word_of ∙ sym (ap (λ helper. helper.child.promise.ends.value.word.of) k.helper);

@@ -1,7 +1,8 @@
 -- Pieces that were taken off a line, and laid one after another.
-use Rattle.std.proofs.Common.{◌≡◌, ℕ, ◌+◌, ◌<◌, inl, refl, sym, ◌∙◌, ap, List, [], ◌∷◌, ◌++◌, length, take, get_or, append_assoc, arith}
+use Rattle.std.proofs.Common.{◌≡◌, ℕ, ◌+◌, ◌<◌, inl, refl, sym, ◌∙◌, ap, List, [], ◌∷◌, ◌++◌, length, take, drop, get_or, append_assoc}
 use Rattle.std.proofs.lemmas.Grind.{fold-append}
-use Rattle.std.proofs.lemmas.List.{append-nil, length-append, take_more}
+use Rattle.std.proofs.Math.Seq.{drop-append_seam, take-append_seam}
+use Rattle.std.proofs.lemmas.List.{length-append, take_more}
 use Rattle.std.specs.Prelude.{map}
 use Rattle.nc_base.specs.declared.plan.Owned.{Owned}
 use Rattle.serial_spec.specs.File.{written}
@@ -10,35 +11,15 @@ use Rattle.overlay_laws.specs.Entries.{Source, cell_of}
 use Rattle.overlay_laws.specs.Windows.{clip, clips}
 use Rattle.overlay_laws.proofs.HullLaws.{in_left, in_right}
 use Rattle.piece_exchange.specs.Pieces.{IsPiece}
-use Rattle.piece_exchange.specs.Taken.{HasLaid, HasTaken}
+use Rattle.piece_exchange.specs.Taken.{HasLaid}
 
 -- ---- lists of what was taken
 
-same_tail : {X : Type 0} (x y : X) (xs ys : List X) → x ∷ xs ≡ y ∷ ys → (x ≡ y) × (xs ≡ ys)
-same_tail x y xs ys e = (cc, cc)
-
 pub append_parts : {X : Type 0} (a b c d : List X) → length a ≡ length c → a ++ b ≡ c ++ d → (a ≡ c) × (b ≡ d)
-append_parts [] b [] d l e = (refl, e)
-append_parts [] b (y ∷ c) d l e = absurd (omega arith)
-append_parts (x ∷ a) b [] d l e = absurd (omega arith)
-append_parts (x ∷ a) b (y ∷ c) d l e =
-    let r = same_tail x y (a ++ b) (c ++ d) e in
-    let t = append_parts a b c d (omega arith) r.1 in
-    ((λ i. r.0 i ∷ t.0 i), t.1)
-
-pub taken_begin : (xs : List Owned) → HasTaken 0 xs xs
-taken_begin xs = record { got = []; taken = sym (append-nil xs); many = refl }
-
-pub taken_more : (n m : ℕ) (before mid now : List Owned) (o : Owned) → HasTaken n before mid → now ≡ mid ++ o ∷ [] → m ≡ n + 1 → HasTaken m before now
-taken_more n m before mid now o h e f =
-    record {
-      got = h.got ++ o ∷ [];
-      taken = e ∙ ap (λ (xs : List Owned). xs ++ o ∷ []) h.taken ∙ append_assoc before h.got (o ∷ []);
-      many = length-append h.got (o ∷ []) ∙ ap (λ (k : ℕ). k + 1) h.many ∙ sym f;
-    }
-
-pub laid_begin : (source : Source) (lo hi : ℕ) (xs : List Owned) (buf : List ℕ) → HasLaid source lo hi 0 xs xs buf buf
-laid_begin source lo hi xs buf = record { got = []; taken = sym (append-nil xs); many = refl; laid = λ h. refl }
+append_parts a b c d l e = (
+  sym (take-append_seam a b) ∙ (λ i. take (l i) (e i)) ∙ take-append_seam c d,
+  sym (drop-append_seam a b) ∙ (λ i. drop (l i) (e i)) ∙ drop-append_seam c d,
+)
 
 -- the cells of one entry more
 cells_more : (source : Source) (lo hi : ℕ) (got : List Owned) (o : Owned)

@@ -1,27 +1,24 @@
 -- Helpers that were started, told to go, and fed.
-use Rattle.std.proofs.Common.{◌≡◌, ℕ, refl, sym, ◌∙◌, ap, subst, List, [], ◌∷◌, ◌++◌, length, map, take, Option, Some, None}
+use Rattle.std.proofs.Common.{◌≡◌, ℕ, refl, sym, ◌∙◌, ap, subst, List, [], ◌∷◌, ◌++◌, length, Option, Some, None}
 use Rattle.std.proofs.lemmas.List.{append-nil}
-use Rattle.std.specs.Prelude.{slice_get, zip}
-use Rattle.std.specs.List.{AllZip}
-use Rattle.nc_base.specs.declared.plan.Extent.{Extent}
+use Rattle.std.specs.Prelude.{slice_get}
 use Rattle.nc_base.specs.declared.plan.Owned.{Owned}
 use Rattle.overlay_laws.specs.Entries.{In}
 use Rattle.piece_exchange.specs.Feeds.{feed_left, pieces_left_of, turns_left_of, FitsIn, IsFeed}
 use Rattle.piece_exchange.specs.Plan.{planned_pieces}
-use Rattle.piece_exchange.specs.Put.{SomeZip}
-use Rattle.piece_exchange.specs.Workers.{domain_of, part_of, HasFed, IsFed, IsFresh, IsWorker, IsToldToGo}
+use Rattle.piece_exchange.specs.Workers.{domain_of, part_of, HasFed, IsFed, IsFresh, IsStartedFor, IsToldToGo}
 use Rattle.piece_exchange.specs.declared.crew.Word.TheVariants.{Go}
 use Rattle.piece_exchange.specs.declared.packing.Feed.{Feed}
 use Rattle.piece_exchange.specs.declared.plan.PutPlan.{PutPlan}
 use Rattle.piece_exchange.specs.declared.starting.Worker.{Worker}
 use Rattle.piece_exchange.specs.declared.walk.Turn.{Turn}
 use Rattle.piece_exchange.specs.declared.walk.TurnWalk.{TurnWalk}
-use Rattle.piece_exchange.proofs.BackLaws.{each_new, map_new, some_mapped, zip_mapped}
-use Rattle.piece_exchange.proofs.CrewLaws.{all_started}
+use Rattle.piece_exchange.proofs.BackLaws.{each_new}
+use Rattle.piece_exchange.proofs.CrewLaws.{stay_of, Keeps, StayOf}
 
 -- told to go, with all its pieces left
 pub record IsTold {D : Type 0} (plan : PutPlan) (worker : Worker D) : Type 0 where
-  pub worker_is : IsWorker plan worker
+  pub started : IsStartedFor plan worker
   pub word : worker.helper.word.items ≡ Go ∷ []
   pub ready : IsFeed worker.feed
   pub fits : FitsIn (length plan.list.now) worker.feed
@@ -30,9 +27,9 @@ pub record IsTold {D : Type 0} (plan : PutPlan) (worker : Worker D) : Type 0 whe
 
 go_worker : {D : Type 0} (plan : PutPlan) (old new : Worker D) → IsToldToGo old new → IsFresh plan old → IsTold plan new
 go_worker plan old new t f =
-    let s = f.worker_is in
+    let s = f.started in
     record {
-      worker_is = record {
+      started = record {
         list = ap (λ child. child.promise.list.value) t.child ∙ s.list;
         cover = ap (λ child. child.promise.cover.value) t.child ∙ s.cover;
         job = ap (λ child. child.promise.job.value) t.child ∙ s.job;
@@ -54,9 +51,9 @@ none_left ranks (Some t) walk e = absurd cc
 fed_worker : {D : Type 0} (plan : PutPlan) (old new : Worker D) → HasFed (length plan.job.now.batches) old new → IsTold plan old → IsFed plan new
 fed_worker plan old new h t =
     let ranks = length plan.job.now.batches in
-    let s = t.worker_is in
+    let s = t.started in
     record {
-      worker_is = record {
+      started = record {
         list = ap (λ helper. helper.child.promise.list.value) h.helper ∙ s.list;
         cover = ap (λ helper. helper.child.promise.cover.value) h.helper ∙ s.cover;
         job = ap (λ helper. helper.child.promise.job.value) h.helper ∙ s.job;
@@ -86,56 +83,13 @@ fed_workers {D} plan ranks old new same long fed told =
     each_new (λ worker. IsTold plan worker) (λ worker. IsFed plan worker) (λ a b. HasFed ranks a b) old new long fed told
     (λ a b h t. fed_worker plan a b (subst (λ (n : ℕ). HasFed n a b) same h) t)
 
--- ---- parts and domains stay
+-- ---- they stay those of their parts
 
-pub parts_stay : {D : Type 0} (ranks : ℕ) (first mid last : List (Worker D)) → length mid ≡ length first → length last ≡ length mid
-    → ((k : ℕ) (a b : Worker D) → slice_get first k ≡ Some a → slice_get mid k ≡ Some b → IsToldToGo a b)
-    → ((k : ℕ) (a b : Worker D) → slice_get mid k ≡ Some a → slice_get last k ≡ Some b → HasFed ranks a b)
-    → (map (λ worker. part_of worker) last ≡ map (λ worker. part_of worker) first) × (map (λ worker. domain_of worker) last ≡ map (λ worker. domain_of worker) first)
-parts_stay ranks first mid last long longer told fed = (
-  map_new (λ worker. part_of worker) (λ a b. HasFed ranks a b) mid last longer fed (λ a b h. ap (λ helper. helper.child.promise.ends.value.part) h.helper)
-      ∙ map_new (λ worker. part_of worker) (λ a b. IsToldToGo a b) first mid long told (λ a b t. ap (λ child. child.promise.ends.value.part) t.child),
-  map_new (λ worker. domain_of worker) (λ a b. HasFed ranks a b) mid last longer fed (λ a b h. ap (λ helper. helper.child.promise.domain.value) h.helper)
-      ∙ map_new (λ worker. domain_of worker) (λ a b. IsToldToGo a b) first mid long told (λ a b t. ap (λ child. child.promise.domain.value) t.child),
-)
+told_stays : {D : Type 0} → Keeps {S = Worker D} (λ worker. part_of worker) (λ worker. domain_of worker) (λ a b. IsToldToGo a b)
+told_stays a b t = (ap (λ child. child.promise.ends.value.part) t.child, ap (λ child. child.promise.domain.value) t.child)
 
--- ---- all of them
+fed_stays : {D : Type 0} (ranks : ℕ) → Keeps {S = Worker D} (λ worker. part_of worker) (λ worker. domain_of worker) (λ a b. HasFed ranks a b)
+fed_stays ranks a b h = (ap (λ helper. helper.child.promise.ends.value.part) h.helper, ap (λ helper. helper.child.promise.domain.value) h.helper)
 
--- the workers that were started, as they were told to go and fed
-pub record AreDone {D : Type 0} (ranks : ℕ) (first mid last : List (Worker D)) (parts : List D) (domains : List Extent) : Type 0 where
-  pub of_parts : map (λ worker. part_of worker) first ≡ parts
-  pub of_domains : map (λ worker. domain_of worker) first ≡ domains
-  pub long : length mid ≡ length first
-  pub longer : length last ≡ length mid
-  pub told : (k : ℕ) (a b : Worker D) → slice_get first k ≡ Some a → slice_get mid k ≡ Some b → IsToldToGo a b
-  pub fed : (k : ℕ) (a b : Worker D) → slice_get mid k ≡ Some a → slice_get last k ≡ Some b → HasFed ranks a b
-
-pub all_put : {D : Type 0} (ranks : ℕ) (first mid last : List (Worker D)) (parts back : List D) (domains : List Extent) (Q : D × Extent → D → Type 0) → AreDone ranks first mid last parts domains
-    → AllZip (λ worker new. Q (part_of worker, domain_of worker) new) last back → AllZip Q (zip parts domains) back
-all_put {D} ranks first mid last parts back domains Q d h =
-    let stay = parts_stay ranks first mid last d.long d.longer d.told d.fed in
-    subst (λ (ds : List Extent). AllZip Q (zip parts ds) back) (stay.1 ∙ d.of_domains)
-    (subst (λ (ps : List D). AllZip Q (zip ps (map (λ worker. domain_of worker) last)) back) (stay.0 ∙ d.of_parts)
-    (zip_mapped (λ worker. part_of worker) (λ worker. domain_of worker) Q last back h))
-
-pub all_failed : {D : Type 0} (ranks : ℕ) (first mid last : List (Worker D)) (parts back : List D) (domains : List Extent) (R : D → D → Type 0) → AreDone ranks first mid last parts domains
-    → SomeZip (λ worker new. R (part_of worker) new) last back → SomeZip R parts back
-all_failed {D} ranks first mid last parts back domains R d h =
-    let stay = parts_stay ranks first mid last d.long d.longer d.told d.fed in
-    subst (λ (ps : List D). SomeZip R ps back) (stay.0 ∙ d.of_parts) (some_mapped (λ worker. part_of worker) R last back h)
-
-pub done_by : {D : Type 0} (ranks : ℕ) (first lent mid again last : List (Worker D)) (rest parts : List D) (domains : List Extent) → lent ≡ first → again ≡ mid
-    → length mid ≡ length lent → ((k : ℕ) (a b : Worker D) → slice_get lent k ≡ Some a → slice_get mid k ≡ Some b → IsToldToGo a b)
-    → length last ≡ length again → ((k : ℕ) (a b : Worker D) → slice_get again k ≡ Some a → slice_get last k ≡ Some b → HasFed ranks a b)
-    → rest ≡ [] → map (λ worker. part_of worker) first ++ rest ≡ parts → map (λ worker. domain_of worker) first ≡ take (length first) domains → length domains ≡ length parts
-    → AreDone ranks first mid last parts domains
-done_by {D} ranks first lent mid again last rest parts domains e f long told longer fed none whole share one_each =
-    let started = all_started (λ worker. part_of worker) (λ worker. domain_of worker) first rest parts domains none whole share one_each in
-    record {
-      of_parts = started.0;
-      of_domains = started.1;
-      long = long ∙ ap (λ (ss : List (Worker D)). length ss) e;
-      longer = longer ∙ ap (λ (ss : List (Worker D)). length ss) f;
-      told = subst (λ (ss : List (Worker D)). (k : ℕ) (a b : Worker D) → slice_get ss k ≡ Some a → slice_get mid k ≡ Some b → IsToldToGo a b) e told;
-      fed = subst (λ (ss : List (Worker D)). (k : ℕ) (a b : Worker D) → slice_get ss k ≡ Some a → slice_get last k ≡ Some b → HasFed ranks a b) f fed;
-    }
+pub fed_of : {D : Type 0} (ranks : ℕ) → StayOf {S = Worker D} (λ worker. part_of worker) (λ worker. domain_of worker) (λ a b. IsToldToGo a b) (λ a b. HasFed ranks a b)
+fed_of ranks = stay_of (λ worker. part_of worker) (λ worker. domain_of worker) (λ a b. IsToldToGo a b) (λ a b. HasFed ranks a b) told_stays (fed_stays ranks)

@@ -1,18 +1,18 @@
 -- What of the pieces of a part is left to be put on its line. (own)
---     turns_left feed           the windows of which no piece was put
---     feed_left ranks feed      their pieces
---     IsFeed feed               what holds of a feed at every moment
---     HaveFed ranks old new     what was left is what was put, and what is left now
---     next_round_of feed        the round of its next window
---     HasRound workers round      some part's next window is of the round
---     IsNotBefore round feed    its next window is of the round or a later one
---     turns_in workers            how many windows are left
---     HasPacked ranks old new   pieces of a part were put, and the rest is left
---     FitsIn room feed          no window has more entries than there is room for
---     goes_in ranks lo hi o     an entry of one of these ranks has a byte from lo to hi
---     ranked_from goes i list   where those entries stand, which begin at place i
---     ranked_cmp                the order by rank, and then by place
---     entry_at list place       the entry there
+--     turns_left feed            the windows of which no piece was put
+--     feed_left ranks feed       their pieces
+--     IsFeed feed                what holds of a feed at every moment
+--     HaveFed ranks old new      what was left is what was put, and what is left now
+--     next_round_of feed         the round of its next window
+--     HasRound workers round     some part's next window is of the round
+--     IsNotBefore round feed     its next window is of the round or a later one
+--     turns_in workers           how many windows are left
+--     HasPacked ranks old new    pieces of a part were put, and the rest is left
+--     FitsIn room feed           no window has more entries than there is room for
+--     goes_in ranks lo hi o      an entry of one of these ranks has a byte from lo to hi
+--     ranked_from goes i list    where those entries stand, which begin at place i
+--     ranked_cmp                 the order by rank, and then by place
+--     entry_at list place        the entry there
 use Rattle.std.specs.Prelude.{◌≡◌, ℕ, ◌+◌, ◌^◌, ◌<◌, ◌≤◌, min, List, [], ◌∷◌, ◌++◌, flat_map, length, slice_get, slice_index_or, Bool, true, false, ◌&&◌, nat_lt, Option, Some, None}
 use Rattle.std.specs.Ordering.{nat_cmp, ordering_then}
 use Rattle.std.specs.declared.cmp.Ordering.{Ordering}

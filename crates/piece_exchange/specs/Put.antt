@@ -1,12 +1,14 @@
 -- What puts make of a part of a disk. (own)
 --     put_part source list from file     the part that begins at `from`, with the bytes that entries say of it
 --     PartState                          a part, by what contracts see of it
+--     part_state disk part               that of a disk's part
 --     SomeZip R xs ys                    R holds of the items of two lists at some place
 --     HasPut source list ts old new end  the puts of windows were done on a part, or were cut off
 use Rattle.std.specs.Prelude.{◌≡◌, ℕ, ◌+◌, ◌≤◌, ◌⊎◌, List, [], ◌∷◌, map, flat_map, length, Option, Result, OnOk}
 use Rattle.nc_base.specs.declared.plan.Owned.{Owned}
 use Rattle.nc_base.specs.declared.step.DiskCall.{DiskCall}
 use Rattle.nc_outside.specs.Told.{after, with_end, BothTold}
+use Rattle.nc_outside.specs.declared.disk.Disk.{Ghosts as DiskGhosts}
 use Rattle.overlay_laws.specs.Changes.{store_calls, IsBetween}
 use Rattle.overlay_laws.specs.Entries.{Source, cell_of}
 use Rattle.overlay_laws.specs.Windows.{clips}
@@ -22,6 +24,9 @@ pub record PartState : Type 0 where
   pub held : Option (List ℕ)
   pub calls : Option (List DiskCall)
   pub faults : ℕ
+
+abbrev pub part_state : {D : Type 0} → DiskGhosts D → D → PartState
+part_state disk part = record { from = disk.from part; len = disk.len part; held = disk.held part; calls = disk.calls part; faults = disk.faults part }
 
 pub record HasPut {T E : Type 0} (source : Source) (list : List Owned) (ts : List Told) (old new : PartState) (end : Result T E) : Type 0 where
   pub from : new.from ≡ old.from

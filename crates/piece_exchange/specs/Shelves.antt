@@ -1,12 +1,12 @@
 -- What of the windows of a part is still to be taken, and what the calling thread has of a helper of gets. (own)
---     turns_due shelf              the windows of which the hull was not taken
---     IsShelf list room shelf      what holds of a shelf at every moment
---     part_of worker                 the part that the helper was given
---     domain_of worker               the bytes that it serves
---     IsReadWorker plan worker         it was started for the plan, and has the other ends of these lines
---     IsFresh plan worker            it was told nothing, and all windows of its domain are left to be taken
---     IsSent plan worker             it was told to go
---     IsToldToGo old new           it was told to go, and nothing else was done
+--     turns_due shelf             the windows of which the hull was not taken
+--     IsShelf list room shelf     what holds of a shelf at every moment
+--     part_of worker              the part that the helper was given
+--     domain_of worker            the bytes that it serves
+--     IsStartedFor plan worker    it was started for the plan, and has the other ends of these lines
+--     IsFresh plan worker         it was told nothing, and all windows of its domain are left to be taken
+--     IsSent plan worker          it was told to go
+--     IsToldToGo old new          it was told to go, and nothing else was done
 use Rattle.std.specs.Prelude.{◌≡◌, ℕ, ◌++◌, ◌∷◌, [], min, List, Option, Some, None}
 use Rattle.nc_base.specs.declared.plan.Extent.{Extent}
 use Rattle.nc_base.specs.declared.plan.Owned.{Owned}
@@ -51,21 +51,21 @@ part_of worker = worker.helper.child.promise.ends.value.part
 abbrev pub domain_of : {D : Type 0} → ReadWorker D → Extent
 domain_of worker = worker.helper.child.promise.domain.value
 
-pub record IsReadWorker {D : Type 0} (plan : GetPlan) (worker : ReadWorker D) : Type 0 where
+pub record IsStartedFor {D : Type 0} (plan : GetPlan) (worker : ReadWorker D) : Type 0 where
   pub cover : worker.helper.child.promise.cover.value ≡ plan.cover.now
   pub size : worker.helper.child.promise.size.value ≡ plan.hints.now.cb_buffer
   pub word_of : worker.helper.word.of ≡ worker.helper.child.promise.ends.value.word.of
   pub line_of : worker.helper.child.promise.ends.value.lines.line.of ≡ worker.shelf.line.of
 
 pub record IsFresh {D : Type 0} (plan : GetPlan) (worker : ReadWorker D) : Type 0 where
-  pub worker_is : IsReadWorker plan worker
+  pub started : IsStartedFor plan worker
   pub word : worker.helper.word.items ≡ []
   pub ready : IsShelf plan.list.now (min plan.hints.now.cb_buffer (domain_of worker).len) worker.shelf
   pub taken : worker.shelf.line.items ≡ []
   pub due : turns_due worker.shelf ≡ get_turns plan (domain_of worker)
 
 pub record IsSent {D : Type 0} (plan : GetPlan) (worker : ReadWorker D) : Type 0 where
-  pub worker_is : IsReadWorker plan worker
+  pub started : IsStartedFor plan worker
   pub word : worker.helper.word.items ≡ Go ∷ []
 
 pub record IsToldToGo {D : Type 0} (old new : ReadWorker D) : Type 0 where

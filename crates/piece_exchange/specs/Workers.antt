@@ -1,11 +1,11 @@
 -- What the calling thread has of a helper. (own)
---     part_of worker            the part that the helper was given
---     domain_of worker          the bytes that it serves
---     IsWorker plan worker        it was started for the plan, and has the other ends of these lines
---     IsFresh plan worker       it was told nothing, and all pieces of its domain are left to be put
---     IsFed plan worker         it was told to go, and all pieces of its domain were put
---     IsToldToGo old new      it was told to go
---     HasFed ranks old new    what was left to be put was put
+--     part_of worker              the part that the helper was given
+--     domain_of worker            the bytes that it serves
+--     IsStartedFor plan worker    it was started for the plan, and has the other ends of these lines
+--     IsFresh plan worker         it was told nothing, and all pieces of its domain are left to be put
+--     IsFed plan worker           it was told to go, and all pieces of its domain were put
+--     IsToldToGo old new          it was told to go
+--     HasFed ranks old new        what was left to be put was put
 use Rattle.std.specs.Prelude.{◌≡◌, ℕ, ◌++◌, ◌∷◌, [], length}
 use Rattle.nc_base.specs.declared.plan.Extent.{Extent}
 use Rattle.piece_exchange.specs.Feeds.{feed_left, turns_left, FitsIn, HaveFed, IsFeed}
@@ -20,7 +20,7 @@ part_of worker = worker.helper.child.promise.ends.value.part
 abbrev pub domain_of : {D : Type 0} → Worker D → Extent
 domain_of worker = worker.helper.child.promise.domain.value
 
-pub record IsWorker {D : Type 0} (plan : PutPlan) (worker : Worker D) : Type 0 where
+pub record IsStartedFor {D : Type 0} (plan : PutPlan) (worker : Worker D) : Type 0 where
   pub list : worker.helper.child.promise.list.value ≡ plan.list.now
   pub cover : worker.helper.child.promise.cover.value ≡ plan.cover.now
   pub job : worker.helper.child.promise.job.value ≡ plan.job.now
@@ -29,7 +29,7 @@ pub record IsWorker {D : Type 0} (plan : PutPlan) (worker : Worker D) : Type 0 w
   pub line_of : worker.feed.line.of ≡ worker.helper.child.promise.ends.value.lines.line.of
 
 pub record IsFresh {D : Type 0} (plan : PutPlan) (worker : Worker D) : Type 0 where
-  pub worker_is : IsWorker plan worker
+  pub started : IsStartedFor plan worker
   pub word : worker.helper.word.items ≡ []
   pub ready : IsFeed worker.feed
   pub fits : FitsIn (length plan.list.now) worker.feed
@@ -37,7 +37,7 @@ pub record IsFresh {D : Type 0} (plan : PutPlan) (worker : Worker D) : Type 0 wh
   pub left : feed_left (length plan.job.now.batches) worker.feed ≡ planned_pieces plan (domain_of worker)
 
 pub record IsFed {D : Type 0} (plan : PutPlan) (worker : Worker D) : Type 0 where
-  pub worker_is : IsWorker plan worker
+  pub started : IsStartedFor plan worker
   pub word : worker.helper.word.items ≡ Go ∷ []
   pub put : worker.feed.line.items ≡ planned_pieces plan (domain_of worker)
 

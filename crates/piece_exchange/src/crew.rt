@@ -38,17 +38,17 @@ pub(crate) struct Returned<D: Drop, L: Drop> {
 /// The helpers that were started, in order of their parts, the parts behind them, for which none could be started, and the parts that
 /// came back.
 #[derive(Drop)]
-pub(crate) struct Crew<S: Drop, D: Drop> {
-    pub workers: Vec<S>,
+pub(crate) struct Crew<W: Drop, D: Drop> {
+    pub workers: Vec<W>,
     pub rest: Vec<D>,
     pub back: Vec<D>,
 }
 
 /// Room for so many helpers, and for their parts.
-pub(crate) fn make_rooms<S: Drop, D: Drop>(
+pub(crate) fn make_rooms<W: Drop, D: Drop>(
     alloc: Global,
     count: usize,
-) -> Result<Crew<S, D>, Memory>
+) -> Result<Crew<W, D>, Memory>
     ensures { IfOk result (λ crew. HasRooms count crew.workers.items crew.rest.items crew.back.items (vec_capacity crew.workers) (vec_capacity crew.rest) (vec_capacity crew.back)) }
 {
     Ok(Crew {

@@ -5,7 +5,7 @@ ghost use Rattle.nc_base.specs.declared.plan.Extent.{Extent};
 ghost use Rattle.nc_outside.specs.Cause.{Rose};
 ghost use Rattle.nc_outside.specs.declared.disk.DiskErr.TheVariants.{Failed};
 ghost use Rattle.piece_exchange.specs.Plan.{planned_turns, source_in, IsDomainOf, IsPlanned};
-ghost use Rattle.piece_exchange.specs.Put.{HasPut, SomeZip};
+ghost use Rattle.piece_exchange.specs.Put.{part_state, HasPut, SomeZip};
 ghost use Rattle.piece_exchange.specs.Rooms.{HasRooms};
 
 use crate::crew::{Crew, give_back, make_rooms};
@@ -39,8 +39,7 @@ pub fn exchange_put<R: Threads + Wait + Sync, D: Disk, G: Gate>(
     requires one_each { length domains.now ≡ length parts.items }
     requires domains { (k : ℕ) (part : D) (domain : Extent) → slice_get parts.items k ≡ Some part → slice_get domains.now k ≡ Some domain → IsDomainOf plan.now.list.now (D.from part) (D.len part) domain }
     ensures put { AllZip (λ p new. HasPut (source_in plan.now) plan.now.list.now (planned_turns plan.now p.1)
-        (record { from = D.from p.0; len = D.len p.0; held = D.held p.0; calls = D.calls p.0; faults = D.faults p.0 })
-        (record { from = D.from new; len = D.len new; held = D.held new; calls = D.calls new; faults = D.faults new }) result.1) (zip parts.items domains.now) result.0.items }
+        (part_state D.Disk p.0) (part_state D.Disk new) result.1) (zip parts.items domains.now) result.0.items }
     ensures failed { IsErrOf result.1 Failed → SomeZip (λ old new. Rose (D.faults old) (D.faults new)) parts.items result.0.items }
 {
     if !plan.hints.threads || parts.len() < 2 {
@@ -67,8 +66,7 @@ fn put_on_threads<R: Threads + Wait + Sync, D: Disk, G: Gate>(
     requires one_each { length domains.now ≡ length parts.items }
     requires domains { (k : ℕ) (part : D) (domain : Extent) → slice_get parts.items k ≡ Some part → slice_get domains.now k ≡ Some domain → IsDomainOf plan.now.list.now (D.from part) (D.len part) domain }
     ensures put { IfSome result.1 (λ end. AllZip (λ p new. HasPut (source_in plan.now) plan.now.list.now (planned_turns plan.now p.1)
-        (record { from = D.from p.0; len = D.len p.0; held = D.held p.0; calls = D.calls p.0; faults = D.faults p.0 })
-        (record { from = D.from new; len = D.len new; held = D.held new; calls = D.calls new; faults = D.faults new }) end) (zip parts.items domains.now) result.0.items) }
+        (part_state D.Disk p.0) (part_state D.Disk new) end) (zip parts.items domains.now) result.0.items) }
     ensures failed { IfSome result.1 (λ end. IsErrOf end Failed → SomeZip (λ old new. Rose (D.faults old) (D.faults new)) parts.items result.0.items) }
     ensures kept { IfNone result.1 (result.0.items ≡ parts.items) }
 {
@@ -83,8 +81,7 @@ fn put_on_threads<R: Threads + Wait + Sync, D: Disk, G: Gate>(
                 × ((k : ℕ) (part : D) (domain : Extent) → slice_get parts.items k ≡ Some part → slice_get domains.now k ≡ Some domain → IsDomainOf plan.now.list.now (D.from part) (D.len part) domain)
                 × HasRooms (length parts.items) crew.workers.items crew.rest.items crew.back.items (vec_capacity crew.workers) (vec_capacity crew.rest) (vec_capacity crew.back) }
             ensures put { IfSome result.1 (λ end. AllZip (λ p new. HasPut (source_in plan.entry.now) plan.entry.now.list.now (planned_turns plan.entry.now p.1)
-                (record { from = D.from p.0; len = D.len p.0; held = D.held p.0; calls = D.calls p.0; faults = D.faults p.0 })
-                (record { from = D.from new; len = D.len new; held = D.held new; calls = D.calls new; faults = D.faults new }) end) (zip parts.items domains.entry.now) result.0.items) }
+                (part_state D.Disk p.0) (part_state D.Disk new) end) (zip parts.items domains.entry.now) result.0.items) }
             ensures failed { IfSome result.1 (λ end. IsErrOf end Failed → SomeZip (λ old new. Rose (D.faults old) (D.faults new)) parts.items result.0.items) }
             ensures kept { IfNone result.1 (result.0.items ≡ parts.items) }
         { put_in_scope(scope, tools, plan, domains, parts, crew) },
@@ -108,8 +105,7 @@ fn put_in_scope<'s, E, R: Threads + Wait + Sync, D: Disk + 's, G: Gate>(
     requires domains { (k : ℕ) (part : D) (domain : Extent) → slice_get parts.items k ≡ Some part → slice_get domains.now k ≡ Some domain → IsDomainOf plan.now.list.now (D.from part) (D.len part) domain }
     requires rooms { HasRooms (length parts.items) crew.workers.items crew.rest.items crew.back.items (vec_capacity crew.workers) (vec_capacity crew.rest) (vec_capacity crew.back) }
     ensures put { IfSome result.1 (λ end. AllZip (λ p new. HasPut (source_in plan.now) plan.now.list.now (planned_turns plan.now p.1)
-        (record { from = D.from p.0; len = D.len p.0; held = D.held p.0; calls = D.calls p.0; faults = D.faults p.0 })
-        (record { from = D.from new; len = D.len new; held = D.held new; calls = D.calls new; faults = D.faults new }) end) (zip parts.items domains.now) result.0.items) }
+        (part_state D.Disk p.0) (part_state D.Disk new) end) (zip parts.items domains.now) result.0.items) }
     ensures failed { IfSome result.1 (λ end. IsErrOf end Failed → SomeZip (λ old new. Rose (D.faults old) (D.faults new)) parts.items result.0.items) }
     ensures kept { IfNone result.1 (result.0.items ≡ parts.items) }
 {

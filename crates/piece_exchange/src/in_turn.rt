@@ -12,7 +12,7 @@ ghost use Rattle.serial_spec.specs.Said.{write_cells, moved_down};
 ghost use Rattle.aggregator_rounds.specs.Pieces.{told_window};
 ghost use Rattle.piece_exchange.specs.Pieces.{ArePieces};
 ghost use Rattle.piece_exchange.specs.Plan.{planned_turns, source_in, IsDomainOf, IsPlanned};
-ghost use Rattle.piece_exchange.specs.Put.{HasPut, SomeZip};
+ghost use Rattle.piece_exchange.specs.Put.{part_state, HasPut, SomeZip};
 ghost use Rattle.piece_exchange.specs.Taken.{cells_in, put_window, IsFilledBy};
 ghost use Rattle.piece_exchange.specs.Turns.{source_of};
 
@@ -37,8 +37,7 @@ pub(crate) fn lay_in_turn<R: Wait, D: Disk, G: Gate>(
     requires domain { IsDomainOf plan.now.list.now (D.from part.old) (D.len part.old) aggregator.domain }
     requires room { min plan.now.hints.now.cb_buffer aggregator.domain.len ≤ length buf.old }
     ensures put { HasPut (source_in plan.now) plan.now.list.now (planned_turns plan.now aggregator.domain)
-        (record { from = D.from part.old; len = D.len part.old; held = D.held part.old; calls = D.calls part.old; faults = D.faults part.old })
-        (record { from = D.from part.new; len = D.len part.new; held = D.held part.new; calls = D.calls part.new; faults = D.faults part.new }) result }
+        (part_state D.Disk part.old) (part_state D.Disk part.new) result }
     ensures failed { IsErrOf result Failed → Rose (D.faults part.old) (D.faults part.new) }
 {
     let _size = part.size();
@@ -107,8 +106,7 @@ pub(crate) fn put_in_turn<R: Wait, D: Disk, G: Gate>(
     requires one_each { length domains.now ≡ length parts.items }
     requires domains { (k : ℕ) (part : D) (domain : Extent) → slice_get parts.items k ≡ Some part → slice_get domains.now k ≡ Some domain → IsDomainOf plan.now.list.now (D.from part) (D.len part) domain }
     ensures put { AllZip (λ p new. HasPut (source_in plan.now) plan.now.list.now (planned_turns plan.now p.1)
-        (record { from = D.from p.0; len = D.len p.0; held = D.held p.0; calls = D.calls p.0; faults = D.faults p.0 })
-        (record { from = D.from new; len = D.len new; held = D.held new; calls = D.calls new; faults = D.faults new }) result.1) (zip parts.items domains.now) result.0.items }
+        (part_state D.Disk p.0) (part_state D.Disk new) result.1) (zip parts.items domains.now) result.0.items }
     ensures failed { IsErrOf result.1 Failed → SomeZip (λ old new. Rose (D.faults old) (D.faults new)) parts.items result.0.items }
 {
     let mut back = match Vec::with_capacity(tools.alloc, parts.len()) {
@@ -157,8 +155,7 @@ fn serve_next<R: Wait, D: Disk, G: Gate>(
     requires domain { IsDomainOf plan.now.list.now (D.from part) (D.len part) aggregator.domain }
     requires room { min plan.now.hints.now.cb_buffer aggregator.domain.len ≤ length buf.old }
     ensures put { HasPut (source_in plan.now) plan.now.list.now (planned_turns plan.now aggregator.domain)
-        (record { from = D.from part; len = D.len part; held = D.held part; calls = D.calls part; faults = D.faults part })
-        (record { from = D.from result.0; len = D.len result.0; held = D.held result.0; calls = D.calls result.0; faults = D.faults result.0 }) result.1 }
+        (part_state D.Disk part) (part_state D.Disk result.0) result.1 }
     ensures ok { OnOk result.1 (IsOk before) }
     ensures failed { IsErrOf result.1 Failed → IsErrOf before Failed ⊎ Rose (D.faults part) (D.faults result.0) }
 {

@@ -6,7 +6,7 @@ ghost use Rattle.nc_outside.specs.Told.{with_end};
 ghost use Rattle.overlay_laws.specs.Changes.{store_calls};
 ghost use Rattle.aggregator_rounds.specs.Pieces.{told_window};
 ghost use Rattle.piece_exchange.specs.Plan.{planned_pieces, planned_turns, source_in, IsDomainOf, IsPlanned};
-ghost use Rattle.piece_exchange.specs.Put.{HasPut};
+ghost use Rattle.piece_exchange.specs.Put.{part_state, HasPut};
 ghost use Rattle.piece_exchange.specs.Taken.{HasTaken, HasPutTaken};
 ghost use Rattle.piece_exchange.specs.Turns.{source_of};
 
@@ -47,8 +47,7 @@ pub(crate) fn lay_part<R: Wait, D: Disk, G: Gate>(
     ensures of { line.new.of ≡ line.old.of }
     ensures many { length line.new.items ≡ length (planned_pieces plan.now aggregator.domain) }
     ensures put { line.new.items ≡ planned_pieces plan.now aggregator.domain → HasPut (source_in plan.now) plan.now.list.now (planned_turns plan.now aggregator.domain)
-        (record { from = D.from part.old; len = D.len part.old; held = D.held part.old; calls = D.calls part.old; faults = D.faults part.old })
-        (record { from = D.from part.new; len = D.len part.new; held = D.held part.new; calls = D.calls part.new; faults = D.faults part.new }) result }
+        (part_state D.Disk part.old) (part_state D.Disk part.new) result }
     ensures failed { IsErrOf result Failed → Rose (D.faults part.old) (D.faults part.new) }
 {
     let _size = part.size();

@@ -5,7 +5,7 @@ ghost use Rattle.nc_outside.specs.Cause.{Rose};
 ghost use Rattle.overlay_laws.specs.Entries.{In};
 ghost use Rattle.nc_outside.specs.declared.disk.DiskErr.TheVariants.{Failed};
 ghost use Rattle.piece_exchange.specs.Plan.{planned_turns, source_in};
-ghost use Rattle.piece_exchange.specs.Put.{HasPut, SomeZip};
+ghost use Rattle.piece_exchange.specs.Put.{part_state, HasPut, SomeZip};
 ghost use Rattle.piece_exchange.specs.Workers.{domain_of, part_of, IsFed, IsToldToGo};
 ghost use Rattle.piece_exchange.specs.declared.starting.Worker.{Worker};
 
@@ -41,8 +41,7 @@ pub(crate) fn join_all<R: Threads, D: Disk>(
     requires none { back.old.items ≡ [] }
     requires room { length workers.items ≤ vec_capacity back.old }
     ensures put { AllZip (λ worker new. HasPut (source_in plan.now) plan.now.list.now (planned_turns plan.now (domain_of worker))
-        (record { from = D.from (part_of worker); len = D.len (part_of worker); held = D.held (part_of worker); calls = D.calls (part_of worker); faults = D.faults (part_of worker) })
-        (record { from = D.from new; len = D.len new; held = D.held new; calls = D.calls new; faults = D.faults new }) result) workers.entry.items back.new.items }
+        (part_state D.Disk (part_of worker)) (part_state D.Disk new) result) workers.entry.items back.new.items }
     ensures failed { IsErrOf result Failed → SomeZip (λ worker new. Rose (D.faults (part_of worker)) (D.faults new)) workers.entry.items back.new.items }
 {
     let mut end = Ok(());
@@ -62,8 +61,7 @@ fn join_one<R: Threads, D: Disk>(
 ) -> (D, Result<(), DiskErr>)
     requires { IsFed plan.now worker }
     ensures put { HasPut (source_in plan.now) plan.now.list.now (planned_turns plan.now (domain_of worker.entry))
-        (record { from = D.from (part_of worker.entry); len = D.len (part_of worker.entry); held = D.held (part_of worker.entry); calls = D.calls (part_of worker.entry); faults = D.faults (part_of worker.entry) })
-        (record { from = D.from result.0; len = D.len result.0; held = D.held result.0; calls = D.calls result.0; faults = D.faults result.0 }) result.1 }
+        (part_state D.Disk (part_of worker.entry)) (part_state D.Disk result.0) result.1 }
     ensures failed { IsErrOf result.1 Failed → Rose (D.faults (part_of worker.entry)) (D.faults result.0) }
 {
     let Worker { helper, feed } = worker;

@@ -12,8 +12,8 @@ use Rattle.nc_base.specs.declared.step.Mark.TheVariants.{Meet, Solo}
 use Rattle.nc_base.specs.declared.step.Offer.{Offer}
 use Rattle.serial_spec.specs.DeviceCalls.{mark_calls, solo_calls, store_records, run_calls}
 use Rattle.serial_spec.specs.FileStep.{Setting, Counted, meeting}
-use Rattle.serial_spec.specs.SerialEnd.{Going, advance, hears, offers_of, solo_of, after_mark, first_going, first_state, setting_of, closed, serial_from}
-use Rattle.run_laws.specs.Ahead.{calls_so_far, close_by}
+use Rattle.serial_spec.specs.SerialEnd.{Going, advance, hears, offers_of, solo_of, after_mark, first_going, first_state, setting_of, closed, serial_from, close_by}
+use Rattle.run_laws.specs.Ahead.{calls_so_far}
 use Rattle.run_laws.specs.Arrivals.{Arrived, Stand, solo_to, step_to, step_calls, calls_over, ended_from, all_calls_over, first_stand}
 use Rattle.run_laws.proofs.OrderLaws.{calls_close}
 

@@ -16,8 +16,8 @@ use Rattle.serial_spec.specs.FileStep.{Setting, Counted, meeting, solo}
 use Rattle.serial_spec.specs.DeviceCalls.{mark_calls, meeting_calls, solo_calls}
 use Rattle.serial_spec.specs.RankMachine as machine
 use Rattle.serial_spec.specs.RankMachine.{step, hear, pending}
-use Rattle.serial_spec.specs.SerialEnd.{Going, go, advance, hears, offers_of, after_meeting, after_solo, solo_of, closed}
-use Rattle.run_laws.specs.Ahead.{answered, asking, HasCome, AreAt, AreEnded, all_hear, own_step, close_by}
+use Rattle.serial_spec.specs.SerialEnd.{Going, go, advance, hears, offers_of, after_meeting, after_solo, solo_of, closed, close_by}
+use Rattle.run_laws.specs.Ahead.{answered, asking, HasCome, AreAt, AreEnded, all_hear, own_step}
 
 -- ---- one rank
 

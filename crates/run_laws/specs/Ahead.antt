@@ -5,7 +5,6 @@
 --     all_hear                  each rank hears its reply
 --     own_step, own_calls       a solo step of a rank by itself, and the device calls of its solo steps
 --     calls_so_far              the device calls of an order's steps, without the close
---     close_by                  the end of a run whose ranks are at their ends
 use Rattle.std.specs.Prelude.{◌≡◌, ℕ, List, [], ◌∷◌, ◌++◌, map, zip, length, Bool, false, ◌==◌, Some, None, slice_get}
 use Rattle.nc_base.specs.declared.header.Header.{Header}
 use Rattle.nc_base.specs.declared.request.Call.{Call}
@@ -16,12 +15,10 @@ use Rattle.nc_base.specs.declared.step.Mark.TheVariants.{Meet, Solo}
 use Rattle.nc_base.specs.declared.step.Offer.{Offer}
 use Rattle.nc_base.specs.declared.step.Reply.{Reply}
 use Rattle.nc_base.specs.declared.step.DiskCall.{DiskCall}
-use Rattle.serial_spec.specs.Layout.{greatest}
-use Rattle.serial_spec.specs.FileStep.{Setting, Counted, raised}
+use Rattle.serial_spec.specs.FileStep.{Setting, Counted}
 use Rattle.serial_spec.specs.DeviceCalls.{mark_calls, solo_calls}
 use Rattle.serial_spec.specs.RankMachine as machine
-use Rattle.serial_spec.specs.RankMachine.{pending}
-use Rattle.serial_spec.specs.SerialEnd.{Going, End, advance, hears, after_mark, solo_of}
+use Rattle.serial_spec.specs.SerialEnd.{Going, advance, hears, after_mark, solo_of}
 
 -- ---- one rank
 
@@ -70,13 +67,3 @@ own_calls hints s r state (m ∷ order) =
 abbrev pub calls_so_far : Hints → Setting → Counted × List Going → List Mark → List DiskCall
 calls_so_far hints s state [] = []
 calls_so_far hints s state (m ∷ order) = mark_calls hints s state m ++ calls_so_far hints s (after_mark s state m) order
-
-abbrev pub close_by : Setting → Counted → List Going → End
-close_by s c ss =
-    let last = raised s c (greatest (map (λ g. g.rank.known) ss)) in
-    record {
-      bytes = last.file;
-      records = last.records;
-      answers = map (λ g. g.answers) ss;
-      pending = map (λ g. pending g.rank) ss;
-    }

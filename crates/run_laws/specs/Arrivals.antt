@@ -16,8 +16,7 @@ use Rattle.nc_base.specs.declared.step.Offer.{Offer}
 use Rattle.nc_base.specs.declared.step.Reply.{Reply}
 use Rattle.serial_spec.specs.DeviceCalls.{meeting_calls, solo_calls, store_records}
 use Rattle.serial_spec.specs.FileStep.{Setting, Counted, meeting}
-use Rattle.serial_spec.specs.SerialEnd.{Going, End, advance, first_going, hears, offers_of, solo_of}
-use Rattle.run_laws.specs.Ahead.{close_by}
+use Rattle.serial_spec.specs.SerialEnd.{Going, End, advance, first_going, hears, offers_of, solo_of, close_by}
 
 -- a rank that has gone up to its next offer, if there is one
 abbrev pub Arrived : Type 0

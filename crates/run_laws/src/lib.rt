@@ -20,9 +20,9 @@ ghost use Rattle.serial_spec.specs.History.{IsLegal, is_of_rank_below};
 ghost use Rattle.serial_spec.specs.Lawful.{is_lawful, is_lawful_call, most_calls, most_parts};
 ghost use Rattle.serial_spec.specs.RankMachine as machine;
 ghost use Rattle.serial_spec.specs.RankMachine.{step, hear};
-ghost use Rattle.serial_spec.specs.SerialEnd.{Going, first_going, advance, hears, after_meeting, after_solo, after_mark, state_after, setting_of, closed, serial_from};
+ghost use Rattle.serial_spec.specs.SerialEnd.{Going, first_going, advance, hears, after_meeting, after_solo, after_mark, state_after, setting_of, closed, serial_from, close_by};
 ghost use Rattle.run_laws.specs.Requests.{IsFresh, IsShare, posts_held};
-ghost use Rattle.run_laws.specs.Ahead.{answered, asking, HasCome, AreAt, AreEnded, all_hear, is_solo_of, own_step, own_calls, calls_so_far, close_by};
+ghost use Rattle.run_laws.specs.Ahead.{answered, asking, HasCome, AreAt, AreEnded, all_hear, is_solo_of, own_step, own_calls, calls_so_far};
 ghost use Rattle.run_laws.specs.Ways.{meetings, IsOnWay};
 ghost use Rattle.run_laws.specs.Arrivals.{step_to, step_calls, calls_over, ended_from, all_calls_over, first_stand};
 

@@ -19,12 +19,11 @@ use Rattle.serial_spec.specs.Layout.{greatest}
 use Rattle.serial_spec.specs.Limits.{record_limit}
 use Rattle.serial_spec.specs.RankMachine as machine
 use Rattle.serial_spec.specs.Records.{with_records}
-use Rattle.serial_spec.specs.SerialEnd.{End, Going, serial_from, setting_of}
+use Rattle.serial_spec.specs.SerialEnd.{End, Going, serial_from, setting_of, close_by}
 use Rattle.element_steps.specs.Requests.{counted}
 use Rattle.join_laws.proofs.CountLaws.{less_max}
 use Rattle.run_laws.specs.Arrivals as arrivals
 use Rattle.run_laws.specs.Arrivals.{Arrived, ended_from, first_stand, step_to}
-use Rattle.run_laws.specs.Ahead.{close_by}
 use Rattle.run_laws.proofs.ArrivalLaws.{serial_of_arrivals}
 use Rattle.serial_run.specs.Ended.{most_known, AreLow}
 use Rattle.serial_run.specs.Running.{arrived, going_of, IsRunner, IsWaiting}

@@ -3,7 +3,7 @@ ghost use Rattle.std.specs.Prelude.{◌≡◌, map, IfOk};
 ghost use Rattle.nc_base.specs.declared.script.OverlapRule.{OverlapRule as Rule};
 ghost use Rattle.serial_spec.specs.RankMachine as machine;
 ghost use Rattle.element_steps.specs.Requests.{counted, setting};
-ghost use Rattle.run_laws.specs.Ahead.{close_by};
+ghost use Rattle.serial_spec.specs.SerialEnd.{close_by};
 ghost use Rattle.serial_run.specs.Ended.{as_end, most_known, AreLow};
 ghost use Rattle.serial_run.specs.Running.{going_of};
 

@@ -7,7 +7,6 @@ use Rattle.std.proofs.lemmas.Bool.{or_cases, or_right, or_left, not-true, not_fr
 use borrow.Author.Tests.{eqb-true}
 use Rattle.list_laws.proofs.Truth.{and_first, and_second, no_false, or_first_false}
 use Rattle.serial_spec.specs.SharedByte.{Key, same_key, key_below, distinct, lesser_key, least_key}
-use Rattle.serial_spec.proofs.MemberLaws.{in_filter, filter_in}
 
 -- ---- keys
 
@@ -130,6 +129,27 @@ two_of (a ∷ []) n l = absurd (omega arith)
 two_of (a ∷ b ∷ ks) n l =
     (a, b, in_head a a (b ∷ ks) refl, in_tail a b (b ∷ ks) (in_head b b ks refl), or_first_false (same_key b a) _ n.0)
 
+filter_in_by : (j k : Key) (ks rest : List Key) (t u : Bool) → ((j ≡ k) ⊎ In ks k) → (j ≡ k → t ≡ true) → (In ks k → In rest k) → In (cond t (j ∷ rest) rest) k
+filter_in_by j k ks rest true u (inl e) f g = in_head j k rest e
+filter_in_by j k ks rest true u (inr h) f g = in_tail j k rest (g h)
+filter_in_by j k ks rest false u (inl e) f g = no_false (f e)
+filter_in_by j k ks rest false u (inr h) f g = g h
+
+filter_in : (test : Key → Bool) (ks : List Key) (k : Key) → In ks k → test k ≡ true → In (filter test ks) k
+filter_in test [] k h t = no_false h
+filter_in test (j ∷ ks) k h t =
+    filter_in_by j k ks (filter test ks) (test j) true (in_cases j k ks h) (λ e. ap test e ∙ t) (λ g. filter_in test ks k g t)
+
+filter_from_by : (test : Key → Bool) (j k : Key) (ks rest : List Key) (t : Bool) → test j ≡ t → (In rest k → In ks k × (test k ≡ true))
+    → In (cond t (j ∷ rest) rest) k → In (j ∷ ks) k × (test k ≡ true)
+filter_from_by test j k ks rest false e g h = (in_tail j k ks (g h).0, (g h).1)
+filter_from_by test j k ks rest true e g h =
+    elim (in_cases j k rest h) [ inl p ↦ (in_head j k ks p, sym (ap test p) ∙ e) | inr q ↦ (in_tail j k ks (g q).0, (g q).1) ]
+
+filter_from : (test : Key → Bool) (ks : List Key) (k : Key) → In (filter test ks) k → In ks k × (test k ≡ true)
+filter_from test [] k h = no_false h
+filter_from test (j ∷ ks) k h = filter_from_by test j k ks (filter test ks) (test j) refl (filter_from test ks k) h
+
 least_key_is : (ks : List Key) (j : Key) → In ks j → In ks (least_key ks) × ((i : Key) → In ks i → key_below i (least_key ks) ≡ false)
 least_key_is [] j h = no_false h
 least_key_is (k ∷ ks) j h =
@@ -162,10 +182,10 @@ two_least ks n l =
     let o = one_other ks two.0 two.1 f two.2 two.3 two.4 in
     let test : Key → Bool = λ k. not (same_key k f) in
     let rest = filter test ks in
-    let there : In rest o.0 = in_filter test ks o.0 o.1 (not_from_false (same_key o.0 f) o.2) in
+    let there : In rest o.0 = filter_in test ks o.0 o.1 (not_from_false (same_key o.0 f) o.2) in
     let low2 = least_key_is rest o.0 there in
     let s = least_key rest in
-    let from = filter_in test ks s low2.0 in
+    let from = filter_from test ks s low2.0 in
     let differs : same_key s f ≡ false = not-true (same_key s f) from.1 in
     record {
       has_first = low.0;
@@ -182,4 +202,4 @@ two_least ks n l =
         → (t : Bool) → same_key a f ≡ t → (a ≡ f) ⊎ (a ≡ s) ⊎ (key_below s a ≡ true)
     by_first ks a f s h low true e = inl (key_equal a f e)
     by_first ks a f s h low false e =
-        inr (by_second a s (low a (in_filter (λ k. not (same_key k f)) ks a h (not_from_false (same_key a f) e))) (same_key a s) refl)
+        inr (by_second a s (low a (filter_in (λ k. not (same_key k f)) ks a h (not_from_false (same_key a f) e))) (same_key a s) refl)

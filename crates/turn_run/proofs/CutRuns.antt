@@ -20,14 +20,13 @@ use Rattle.serial_spec.specs.Lawful.{is_lawful}
 use Rattle.serial_spec.specs.Layout.{greatest}
 use Rattle.serial_spec.specs.Records.{with_records}
 use Rattle.serial_spec.specs.RankMachine as machine
-use Rattle.serial_spec.specs.SerialEnd.{Going, advance, after_mark, closed, first_going, first_state, setting_of, state_after}
+use Rattle.serial_spec.specs.SerialEnd.{Going, advance, after_mark, closed, first_going, first_state, setting_of, state_after, close_by}
 use Rattle.serial_spec.specs.SharedByte.{covered}
 use Rattle.serial_spec.specs.Torn.{IsTorn, IsLeft, StoodAt, IsCutRun, HasAnswers, HasAnswersOfEach, bytes_of_mark}
 use Rattle.serial_spec.specs.Torn.StoodAt.{in_step as stood_step, in_close as stood_close, between as stood_between}
 use Rattle.collective_round.specs.Rounds.{as_setting, counted}
 use Rattle.collective_round.proofs.TornFiles.{torn_by}
 use Rattle.run_laws.proofs.LawfulLaws.{ranks_lawful}
-use Rattle.run_laws.specs.Ahead.{close_by}
 use Rattle.join_laws.proofs.Completing.{completed}
 use Rattle.turn_run.specs.Begun.{HasBegun}
 use Rattle.turn_run.specs.Cuts.{StopsAt, HasStopped, EndsAt, IsNext, bytes_at, closed_at}

@@ -14,8 +14,8 @@ use Rattle.nc_base.specs.declared.step.Offer.{Offer}
 use Rattle.nc_outside.specs.Told.{with_end}
 use Rattle.serial_spec.specs.FileStep.{Setting, Counted, meeting}
 use Rattle.serial_spec.specs.DeviceCalls.{mark_calls, store_records, run_calls, solo_calls}
-use Rattle.serial_spec.specs.SerialEnd.{Going, setting_of, first_going, first_state, state_after, after_mark, solo_of, hears, advance, offers_of, closed, serial_from}
-use Rattle.run_laws.specs.Ahead.{calls_so_far, close_by}
+use Rattle.serial_spec.specs.SerialEnd.{Going, setting_of, first_going, first_state, state_after, after_mark, solo_of, hears, advance, offers_of, closed, serial_from, close_by}
+use Rattle.run_laws.specs.Ahead.{calls_so_far}
 use Rattle.run_laws.proofs.OrderLaws.{calls_close}
 use Rattle.run_laws.specs.Arrivals.{calls_over, solo_to, step_calls, step_to, Arrived, Stand, all_calls_over, ended_from}
 use Rattle.turn_run.specs.Stages.{arrived, arrived_all, stage, stand_of, HasLed, IsLed, Leads, Stage}

@@ -18,9 +18,8 @@ use Rattle.serial_spec.specs.History.{marks}
 use Rattle.serial_spec.specs.Lawful.{is_lawful}
 use Rattle.serial_spec.specs.Layout.{end_of, greatest}
 use Rattle.serial_spec.specs.RankMachine as machine
-use Rattle.serial_spec.specs.SerialEnd.{End, advance, first_going, first_state, serial_from, setting_of}
+use Rattle.serial_spec.specs.SerialEnd.{End, advance, first_going, first_state, serial_from, setting_of, close_by}
 use Rattle.collective_round.specs.Rounds.{as_setting, counted}
-use Rattle.run_laws.specs.Ahead.{close_by}
 use Rattle.run_laws.specs.Ways.{IsOnWay}
 use Rattle.run_laws.proofs.LawfulLaws.{ranks_lawful}
 use Rattle.run_laws.proofs.WayLaws.{way_begins}

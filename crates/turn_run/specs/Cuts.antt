@@ -14,11 +14,11 @@ use Rattle.nc_base.specs.declared.step.StepErr.{StepErr}
 use Rattle.nc_base.specs.declared.step.StepErr.TheVariants.{Memory}
 use Rattle.serial_spec.specs.FileStep.{Setting, Counted, puts_of}
 use Rattle.serial_spec.specs.History.{IsLegal, concerns, marks}
-use Rattle.serial_spec.specs.SerialEnd.{offers_of}
+use Rattle.serial_spec.specs.SerialEnd.{offers_of, close_by}
 use Rattle.serial_spec.specs.SharedByte.{covered}
 use Rattle.serial_spec.specs.Torn.{IsLeft}
 use Rattle.collective_round.specs.Rounds.{counted}
-use Rattle.run_laws.specs.Ahead.{close_by, is_solo_of}
+use Rattle.run_laws.specs.Ahead.{is_solo_of}
 use Rattle.run_laws.specs.Arrivals.{Arrived, Stand, offer_at, step_to}
 
 abbrev pub bytes_at : Setting → List Arrived → Mark → List ℕ

@@ -215,5 +215,5 @@ pub fn elements_of_all(regions: &[Region]) -> u64
 fn elements_of(region: &Region) -> u64
     ensures { result ≡ capped (product region.now.count) }
 {
-    element_count(region.count.as_slice())
+    capped::cap(u128::from(element_count(region.count.as_slice())))
 }

@@ -189,8 +189,6 @@ fn collect_get(hull: Extent, entry: &Owned, buf: &[u8], table: &mut [BlobList])
     requires fit { entry.now.from + entry.now.extent.len ≤ length (blob_at table.old entry.now.rank entry.now.slot) }
     ensures { table.new ≡ with_blob table.old entry.now.rank entry.now.slot (written (blob_at table.old entry.now.rank entry.now.slot) (buffer_cell hull.at (hull.at + hull.len) buf.now entry.now).0 (buffer_cell hull.at (hull.at + hull.len) buf.now entry.now).1) }
 {
-    let rank = entry.rank as usize;
-    let mut blobs = table[rank].take().into_vec();
-    collect_entry(hull, entry, buf, &mut blobs);
-    table[rank] = BlobList::from_vec(blobs);
+    let blobs = table[entry.rank as usize].as_mut_slice();
+    collect_entry(hull, entry, buf, blobs);
 }

@@ -12,7 +12,7 @@ ghost use Rattle.piece_exchange.specs.Gets.{get_turns, HasGot, IsGetPlanned};
 ghost use Rattle.piece_exchange.specs.Lenders.{AreReady};
 ghost use Rattle.piece_exchange.specs.Logs.{HasReadParts};
 ghost use Rattle.piece_exchange.specs.Plan.{IsDomainOf};
-ghost use Rattle.piece_exchange.specs.Put.{SomeZip};
+ghost use Rattle.piece_exchange.specs.Put.{part_state, SomeZip};
 ghost use Rattle.piece_exchange.specs.Rooms.{HasRooms};
 
 use crate::crew::{Crew, give_back, make_rooms};
@@ -51,8 +51,7 @@ pub fn exchange_get<R: Threads + Wait + Sync, D: Disk, G: Gate>(
     requires fit { FitTable into.old plan.now.list.now }
     requires one_place { HaveOnePlaces plan.now.list.now }
     ensures got { AllZip (λ p new. HasGot (get_turns plan.now p.1)
-        (record { from = D.from p.0; len = D.len p.0; held = D.held p.0; calls = D.calls p.0; faults = D.faults p.0 })
-        (record { from = D.from new; len = D.len new; held = D.held new; calls = D.calls new; faults = D.faults new }) result.1) (zip parts.items domains.now) result.0.items }
+        (part_state D.Disk p.0) (part_state D.Disk new) result.1) (zip parts.items domains.now) result.0.items }
     ensures read { (file : List ℕ) → ((part : D) → In parts.items part → D.held part ≡ Some (read file (D.from part) (D.len part))) → OnOk result.1 (HasRead file plan.now.list.now into.old into.new) }
     ensures blobs { AreAsLong into.old into.new }
     ensures failed { IsErrOf result.1 Failed → SomeZip (λ old new. Rose (D.faults old) (D.faults new)) parts.items result.0.items }
@@ -114,8 +113,7 @@ fn get_on_threads<R: Threads + Wait + Sync, D: Disk, G: Gate>(
     requires fit { FitTable table.items plan.now.list.now }
     requires one_place { HaveOnePlaces plan.now.list.now }
     ensures got { IfSome result.end (λ end. AllZip (λ p new. HasGot (get_turns plan.now p.1)
-        (record { from = D.from p.0; len = D.len p.0; held = D.held p.0; calls = D.calls p.0; faults = D.faults p.0 })
-        (record { from = D.from new; len = D.len new; held = D.held new; calls = D.calls new; faults = D.faults new }) end) (zip parts.items domains.now) result.back.items) }
+        (part_state D.Disk p.0) (part_state D.Disk new) end) (zip parts.items domains.now) result.back.items) }
     ensures read { IfSome result.end (λ end. OnOk end (HasReadParts (λ part. D.from part) (λ part. D.held part) plan.now (zip parts.items domains.now) table.items result.table.items)) }
     ensures blobs { AreAsLong table.items result.table.items }
     ensures failed { IfSome result.end (λ end. IsErrOf end Failed → SomeZip (λ old new. Rose (D.faults old) (D.faults new)) parts.items result.back.items) }
@@ -142,8 +140,7 @@ fn get_on_threads<R: Threads + Wait + Sync, D: Disk, G: Gate>(
                 × FitTable work.table.items plan.now.list.now × HaveOnePlaces plan.now.list.now
                 × HasRooms (length work.parts.items) work.crew.workers.items work.crew.rest.items work.crew.back.items (vec_capacity work.crew.workers) (vec_capacity work.crew.rest) (vec_capacity work.crew.back) }
             ensures got { IfSome result.end (λ end. AllZip (λ p new. HasGot (get_turns plan.entry.now p.1)
-                (record { from = D.from p.0; len = D.len p.0; held = D.held p.0; calls = D.calls p.0; faults = D.faults p.0 })
-                (record { from = D.from new; len = D.len new; held = D.held new; calls = D.calls new; faults = D.faults new }) end) (zip work.entry.parts.items domains.entry.now) result.back.items) }
+                (part_state D.Disk p.0) (part_state D.Disk new) end) (zip work.entry.parts.items domains.entry.now) result.back.items) }
             ensures read { IfSome result.end (λ end. OnOk end (HasReadParts (λ part. D.from part) (λ part. D.held part) plan.entry.now (zip work.entry.parts.items domains.entry.now) work.entry.table.items result.table.items)) }
             ensures blobs { AreAsLong work.entry.table.items result.table.items }
             ensures failed { IfSome result.end (λ end. IsErrOf end Failed → SomeZip (λ old new. Rose (D.faults old) (D.faults new)) work.entry.parts.items result.back.items) }
@@ -171,8 +168,7 @@ fn get_in_scope<'s, E, R: Threads + Wait + Sync, D: Disk + 's, G: Gate>(
     requires lenders { AreReady work.lending.lenders.each.items }
     requires rooms { HasRooms (length work.parts.items) work.crew.workers.items work.crew.rest.items work.crew.back.items (vec_capacity work.crew.workers) (vec_capacity work.crew.rest) (vec_capacity work.crew.back) }
     ensures got { IfSome result.end (λ end. AllZip (λ p new. HasGot (get_turns plan.now p.1)
-        (record { from = D.from p.0; len = D.len p.0; held = D.held p.0; calls = D.calls p.0; faults = D.faults p.0 })
-        (record { from = D.from new; len = D.len new; held = D.held new; calls = D.calls new; faults = D.faults new }) end) (zip work.entry.parts.items domains.now) result.back.items) }
+        (part_state D.Disk p.0) (part_state D.Disk new) end) (zip work.entry.parts.items domains.now) result.back.items) }
     ensures read { IfSome result.end (λ end. OnOk end (HasReadParts (λ part. D.from part) (λ part. D.held part) plan.now (zip work.entry.parts.items domains.now) work.entry.table.items result.table.items)) }
     ensures blobs { AreAsLong work.entry.table.items result.table.items }
     ensures failed { IfSome result.end (λ end. IsErrOf end Failed → SomeZip (λ old new. Rose (D.faults old) (D.faults new)) work.entry.parts.items result.back.items) }

@@ -3,6 +3,7 @@ ghost use Rattle.std.specs.Prelude.{◌≡◌, [], None, IfOk, IfErr};
 ghost use Rattle.piece_exchange.specs.Fetched.{HasGivenBack};
 ghost use Rattle.piece_exchange.specs.Gets.{get_turns, IsGetPlanned};
 ghost use Rattle.piece_exchange.specs.Plan.{IsDomainOf};
+ghost use Rattle.piece_exchange.specs.Put.{part_state};
 ghost use Rattle.piece_exchange.specs.Turns.{turns_of};
 
 use crate::crew::{Ends, Returned, STACK_SIZE, Word, stopped};
@@ -34,8 +35,7 @@ pub(crate) struct GetDuty<D: Drop> {
 
 impl<D: Disk> Promise<Returned<D, GetLines>> for GetDuty<D> {
     ghost kept_by = { λ p r. HasGivenBack (turns_of p.size.value p.domain.value p.cover.value)
-        (record { from = D.from p.ends.value.part; len = D.len p.ends.value.part; held = D.held p.ends.value.part; calls = D.calls p.ends.value.part; faults = D.faults p.ends.value.part })
-        (record { from = D.from r.ends.part; len = D.len r.ends.part; held = D.held r.ends.part; calls = D.calls r.ends.part; faults = D.faults r.ends.part })
+        (part_state D.Disk p.ends.value.part) (part_state D.Disk r.ends.part)
         p.ends.value.word r.ends.word p.ends.value.lines.line r.ends.lines.line r.end
         × (r.end ≡ None → r.ends.part ≡ p.ends.value.part) };
 }
@@ -106,8 +106,7 @@ fn take_part<R: Wait, D: Disk, G: Gate>(
     requires word { ends.word.items ≡ [] }
     requires line { ends.lines.line.items ≡ [] }
     ensures returned { HasGivenBack (get_turns plan.now aggregator.domain)
-        (record { from = D.from ends.part; len = D.len ends.part; held = D.held ends.part; calls = D.calls ends.part; faults = D.faults ends.part })
-        (record { from = D.from result.ends.part; len = D.len result.ends.part; held = D.held result.ends.part; calls = D.calls result.ends.part; faults = D.faults result.ends.part })
+        (part_state D.Disk ends.part) (part_state D.Disk result.ends.part)
         ends.word result.ends.word ends.lines.line result.ends.lines.line result.end }
     ensures untouched { result.end ≡ None → result.ends.part ≡ ends.part }
 {

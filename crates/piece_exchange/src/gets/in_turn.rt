@@ -15,7 +15,7 @@ ghost use Rattle.piece_exchange.specs.Cursor.{entries_in};
 ghost use Rattle.piece_exchange.specs.Gets.{get_turns, HasGot, IsGetPlanned};
 ghost use Rattle.piece_exchange.specs.Logs.{HasReadParts, HasReadTurn, HasReadTurns};
 ghost use Rattle.piece_exchange.specs.Plan.{IsDomainOf};
-ghost use Rattle.piece_exchange.specs.Put.{SomeZip};
+ghost use Rattle.piece_exchange.specs.Put.{part_state, SomeZip};
 
 use crate::gets::collecting::collect_entries;
 use crate::gets::walk::{ReadTurn, ReadWalk};
@@ -50,8 +50,7 @@ pub(crate) fn get_in_turn<R: Wait, D: Disk, G: Gate>(
     requires fit { FitTable into.old plan.now.list.now }
     requires one_place { HaveOnePlaces plan.now.list.now }
     ensures got { AllZip (λ p new. HasGot (get_turns plan.now p.1)
-        (record { from = D.from p.0; len = D.len p.0; held = D.held p.0; calls = D.calls p.0; faults = D.faults p.0 })
-        (record { from = D.from new; len = D.len new; held = D.held new; calls = D.calls new; faults = D.faults new }) result.1) (zip parts.items domains.now) result.0.items }
+        (part_state D.Disk p.0) (part_state D.Disk new) result.1) (zip parts.items domains.now) result.0.items }
     ensures read { OnOk result.1 (HasReadParts (λ part. D.from part) (λ part. D.held part) plan.now (zip parts.items domains.now) into.old into.new) }
     ensures blobs { AreAsLong into.old into.new }
     ensures failed { IsErrOf result.1 Failed → SomeZip (λ old new. Rose (D.faults old) (D.faults new)) parts.items result.0.items }
@@ -90,8 +89,7 @@ fn read_parts<R: Wait, D: Disk, G: Gate>(
     requires fit { FitTable room.old.table.items plan.now.list.now }
     requires one_place { HaveOnePlaces plan.now.list.now }
     ensures got { AllZip (λ p new. HasGot (get_turns plan.now p.1)
-        (record { from = D.from p.0; len = D.len p.0; held = D.held p.0; calls = D.calls p.0; faults = D.faults p.0 })
-        (record { from = D.from new; len = D.len new; held = D.held new; calls = D.calls new; faults = D.faults new }) result.1) (zip parts.items domains.now) result.0.items }
+        (part_state D.Disk p.0) (part_state D.Disk new) result.1) (zip parts.items domains.now) result.0.items }
     ensures read { OnOk result.1 (HasReadParts (λ part. D.from part) (λ part. D.held part) plan.now (zip parts.items domains.now) room.old.table.items room.new.table.items) }
     ensures blobs { AreAsLong room.old.table.items room.new.table.items }
     ensures failed { IsErrOf result.1 Failed → SomeZip (λ old new. Rose (D.faults old) (D.faults new)) parts.items result.0.items }
@@ -126,8 +124,7 @@ fn read_next<R: Wait, D: Disk, G: Gate>(
     requires fit { FitTable room.old.table.items plan.now.list.now }
     requires one_place { HaveOnePlaces plan.now.list.now }
     ensures got { HasGot (get_turns plan.now aggregator.domain)
-        (record { from = D.from part; len = D.len part; held = D.held part; calls = D.calls part; faults = D.faults part })
-        (record { from = D.from result.0; len = D.len result.0; held = D.held result.0; calls = D.calls result.0; faults = D.faults result.0 }) result.1 }
+        (part_state D.Disk part) (part_state D.Disk result.0) result.1 }
     ensures ok { OnOk result.1 (IsOk before) }
     ensures read { OnOk result.1 (HasReadTurns plan.now.list.now (get_turns plan.now aggregator.domain) (D.from part) (D.held part) room.old.table.items room.new.table.items) }
     ensures blobs { AreAsLong room.old.table.items room.new.table.items }
@@ -164,8 +161,7 @@ fn collect_part<R: Wait, D: Disk, G: Gate>(
     requires fit { FitTable table.old plan.now.list.now }
     requires one_place { HaveOnePlaces plan.now.list.now }
     ensures got { HasGot (get_turns plan.now aggregator.domain)
-        (record { from = D.from part.old; len = D.len part.old; held = D.held part.old; calls = D.calls part.old; faults = D.faults part.old })
-        (record { from = D.from part.new; len = D.len part.new; held = D.held part.new; calls = D.calls part.new; faults = D.faults part.new }) result }
+        (part_state D.Disk part.old) (part_state D.Disk part.new) result }
     ensures read { OnOk result (HasReadTurns plan.now.list.now (get_turns plan.now aggregator.domain) (D.from part.old) (D.held part.old) table.old table.new) }
     ensures blobs { AreAsLong table.old table.new }
     ensures failed { IsErrOf result Failed → Rose (D.faults part.old) (D.faults part.new) }

@@ -8,6 +8,7 @@ ghost use Rattle.serial_spec.specs.File.{read};
 ghost use Rattle.aggregator_rounds.specs.Pieces.{told_window};
 ghost use Rattle.piece_exchange.specs.Gets.{get_turns, reading_of, HasGot, IsGetPlanned};
 ghost use Rattle.piece_exchange.specs.Plan.{IsDomainOf};
+ghost use Rattle.piece_exchange.specs.Put.{part_state};
 
 use crate::plan::{Aggregator, GetPlan, Tools};
 use crate::walk::{domain_windows, next_window};
@@ -48,8 +49,7 @@ pub(crate) fn read_part<R: Wait, D: Disk, G: Gate>(
     ensures many { OnOk result (length line.new.items ≡ length (get_turns plan.now aggregator.domain)) }
     ensures read { OnOk result (IfSome (D.held part.old) (λ file. line.new.items ≡ map (λ t. reading_of (D.from part.old) file t) (get_turns plan.now aggregator.domain))) }
     ensures got { HasGot (get_turns plan.now aggregator.domain)
-        (record { from = D.from part.old; len = D.len part.old; held = D.held part.old; calls = D.calls part.old; faults = D.faults part.old })
-        (record { from = D.from part.new; len = D.len part.new; held = D.held part.new; calls = D.calls part.new; faults = D.faults part.new }) result }
+        (part_state D.Disk part.old) (part_state D.Disk part.new) result }
     ensures failed { IsErrOf result Failed → Rose (D.faults part.old) (D.faults part.new) }
 {
     let mut walk = domain_windows(plan.cover, plan.hints.cb_buffer, aggregator.domain);

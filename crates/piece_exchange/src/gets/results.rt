@@ -5,7 +5,7 @@ ghost use Rattle.nc_outside.specs.Cause.{Rose};
 ghost use Rattle.overlay_laws.specs.Entries.{In};
 ghost use Rattle.nc_outside.specs.declared.disk.DiskErr.TheVariants.{Failed};
 ghost use Rattle.piece_exchange.specs.Gets.{get_turns, AreRead, HasGot};
-ghost use Rattle.piece_exchange.specs.Put.{SomeZip};
+ghost use Rattle.piece_exchange.specs.Put.{part_state, SomeZip};
 ghost use Rattle.piece_exchange.specs.Shelves.{domain_of, part_of, IsSent, IsToldToGo};
 ghost use Rattle.piece_exchange.specs.declared.gets.starting.ReadWorker.{ReadWorker};
 
@@ -40,8 +40,7 @@ pub(crate) fn join_all<R: Threads, D: Disk>(
     requires none { back.old.items ≡ [] }
     requires room { length workers.items ≤ vec_capacity back.old }
     ensures got { AllZip (λ worker new. HasGot (get_turns plan.now (domain_of worker))
-        (record { from = D.from (part_of worker); len = D.len (part_of worker); held = D.held (part_of worker); calls = D.calls (part_of worker); faults = D.faults (part_of worker) })
-        (record { from = D.from new; len = D.len new; held = D.held new; calls = D.calls new; faults = D.faults new }) result) workers.entry.items back.new.items }
+        (part_state D.Disk (part_of worker)) (part_state D.Disk new) result) workers.entry.items back.new.items }
     ensures failed { IsErrOf result Failed → SomeZip (λ worker new. Rose (D.faults (part_of worker)) (D.faults new)) workers.entry.items back.new.items }
     ensures read { OnOk result ((worker : ReadWorker D) → In workers.entry.items worker → AreRead (get_turns plan.now (domain_of worker)) (D.from (part_of worker)) (D.held (part_of worker)) worker.shelf.line.items) }
 {
@@ -62,8 +61,7 @@ pub(crate) fn join_one<R: Threads, D: Disk>(
 ) -> (D, Result<(), DiskErr>)
     requires { IsSent plan.now worker }
     ensures got { HasGot (get_turns plan.now (domain_of worker.entry))
-        (record { from = D.from (part_of worker.entry); len = D.len (part_of worker.entry); held = D.held (part_of worker.entry); calls = D.calls (part_of worker.entry); faults = D.faults (part_of worker.entry) })
-        (record { from = D.from result.0; len = D.len result.0; held = D.held result.0; calls = D.calls result.0; faults = D.faults result.0 }) result.1 }
+        (part_state D.Disk (part_of worker.entry)) (part_state D.Disk result.0) result.1 }
     ensures failed { IsErrOf result.1 Failed → Rose (D.faults (part_of worker.entry)) (D.faults result.0) }
     ensures read { OnOk result.1 (AreRead (get_turns plan.now (domain_of worker.entry)) (D.from (part_of worker.entry)) (D.held (part_of worker.entry)) worker.entry.shelf.line.items) }
 {

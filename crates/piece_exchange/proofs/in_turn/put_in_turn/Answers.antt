@@ -1,5 +1,6 @@
 -- One part more was served.
 use Rattle.std.proofs.Common.{◌≡◌, ◌<◌, ◌∙◌, ◌++◌, ◌∷◌, [], sym, ap, subst, length, append_assoc, get_or, List, Result, rules, arith}
+use Rattle.std.proofs.lemmas.Option.{slice_get_within}
 use Rattle.std.proofs.lemmas.Grind.{common_steps}
 use Rattle.std.specs.Prelude.{zip}
 use Rattle.std.specs.List.{AllZip}
@@ -8,10 +9,9 @@ use Rattle.nc_outside.specs.Cause.{Rose}
 use Rattle.nc_outside.specs.declared.disk.DiskErr.{DiskErr}
 use Rattle.serial_spec.proofs.MemberLaws.{at_in}
 use Rattle.piece_exchange.specs.Plan.{planned_turns, source_in}
-use Rattle.piece_exchange.specs.Put.{HasPut, PartState}
+use Rattle.piece_exchange.specs.Put.{part_state, HasPut, PartState}
 use Rattle.list_laws.proofs.Places.{middle_at}
 use Rattle.piece_exchange.proofs.BackLaws.{at_index, back_more, both_long, failed_more, put_later, put_untouched, zip_push, zip_same}
-use Rattle.piece_exchange.proofs.FeedLaws.{get_long}
 use Rattle.piece_exchange.proofs.in_turn.put_in_turn.Goals as goal
 
 abbrev none : Extent
@@ -21,19 +21,19 @@ pub returns-in-Err-clause-put : goal.returns-in-Err-clause-put
 returns-in-Err-clause-put g c =
     zip_same _ c.args.parts.items c.args.domains.now c.requires.one_each
     (λ p domain. put_untouched (source_in c.args.plan.now) c.args.plan.now.list.now (planned_turns c.args.plan.now domain)
-    (record { from = g.D.Disk.from p; len = g.D.Disk.len p; held = g.D.Disk.held p; calls = g.D.Disk.calls p; faults = g.D.Disk.faults p }) _)
+    (part_state g.D.Disk p) _)
 
 pub returns-in-Err-vec-clause-put : goal.returns-in-Err-vec-clause-put
 returns-in-Err-vec-clause-put g c =
     zip_same _ c.args.parts.items c.args.domains.now c.requires.one_each
     (λ p domain. put_untouched (source_in c.args.plan.now) c.args.plan.now.list.now (planned_turns c.args.plan.now domain)
-    (record { from = g.D.Disk.from p; len = g.D.Disk.len p; held = g.D.Disk.held p; calls = g.D.Disk.calls p; faults = g.D.Disk.faults p }) _)
+    (part_state g.D.Disk p) _)
 
 pub serve_next-part-requires-clause-domain : goal.serve_next-part-requires-clause-domain
 serve_next-part-requires-clause-domain g c κs within =
     let middle = ap (λ v. c.loop-part.yielded ++ v) (sym c.in-Some.ensures.steps.0) ∙ c.loop-part.invariant.all in
     let here = middle_at c.loop-part.yielded _ c.args.parts.items c.in-Some.part middle in
-    let low : length c.loop-part.yielded < length c.args.parts.items = get_long c.args.parts.items (length c.loop-part.yielded) c.in-Some.part here in
+    let low : length c.loop-part.yielded < length c.args.parts.items = slice_get_within c.args.parts.items (length c.loop-part.yielded) c.in-Some.part here in
     let many = c.loop-part.invariant.long in
     let number : c.len-number.result ≡ length c.loop-part.back.items = first_of (search rules, grind (arith, common_steps)) in
     let long = c.requires.one_each in
@@ -43,7 +43,7 @@ pub serve_next-part-requires-clause-room : goal.serve_next-part-requires-clause-
 serve_next-part-requires-clause-room g c κs within =
     let middle = ap (λ v. c.loop-part.yielded ++ v) (sym c.in-Some.ensures.steps.0) ∙ c.loop-part.invariant.all in
     let here = middle_at c.loop-part.yielded _ c.args.parts.items c.in-Some.part middle in
-    let low : length c.loop-part.yielded < length c.args.parts.items = get_long c.args.parts.items (length c.loop-part.yielded) c.in-Some.part here in
+    let low : length c.loop-part.yielded < length c.args.parts.items = slice_get_within c.args.parts.items (length c.loop-part.yielded) c.in-Some.part here in
     let many = c.loop-part.invariant.long in
     let number : c.len-number.result ≡ length c.loop-part.back.items = first_of (search rules, grind (arith, common_steps)) in
     let long = c.requires.one_each in
@@ -59,7 +59,7 @@ pub loop-part-preserved : goal.loop-part-preserved
 loop-part-preserved g c =
     let middle = ap (λ v. c.loop-part.yielded ++ v) (sym c.in-Some.ensures.steps.0) ∙ c.loop-part.invariant.all in
     let here = middle_at c.loop-part.yielded _ c.args.parts.items c.in-Some.part middle in
-    let low : length c.loop-part.yielded < length c.args.parts.items = get_long c.args.parts.items (length c.loop-part.yielded) c.in-Some.part here in
+    let low : length c.loop-part.yielded < length c.args.parts.items = slice_get_within c.args.parts.items (length c.loop-part.yielded) c.in-Some.part here in
     let many = c.loop-part.invariant.long in
     let number : c.len-number.result ≡ length c.loop-part.back.items = first_of (search rules, grind (arith, common_steps)) in
     let long = c.requires.one_each in
@@ -70,7 +70,7 @@ loop-part-preserved g c =
     let came = c.serve_next-part.result.1 in
     let plan = c.args.plan.now in
     let state : g.row.D.Denot → PartState
-    = λ d. record { from = g.D.Disk.from d; len = g.D.Disk.len d; held = g.D.Disk.held d; calls = g.D.Disk.calls d; faults = g.D.Disk.faults d } in
+    = part_state g.D.Disk in
     let Put : Result (Unit {0}) DiskErr → g.row.D.Denot × Extent → g.row.D.Denot → Type 0
     = λ r p d. HasPut (source_in plan) plan.list.now (planned_turns plan p.1) (state p.0) (state d) r in
     record {

@@ -5,7 +5,7 @@ use Rattle.std.specs.List.{AllZip}
 use Rattle.nc_outside.specs.Cause.{Rose}
 use Rattle.nc_outside.specs.declared.disk.DiskErr.TheVariants.{Failed}
 use Rattle.piece_exchange.specs.Plan.{planned_turns, source_in}
-use Rattle.piece_exchange.specs.Put.{HasPut, SomeZip}
+use Rattle.piece_exchange.specs.Put.{part_state, HasPut, SomeZip}
 use Rattle.piece_exchange.proofs.in_turn.put_in_turn.Given as goal
 
 abbrev pub invariant-loop-part : goal.invariant-loop-part
@@ -16,7 +16,6 @@ invariant-loop-part g l = record {
   buf : length l.buf.items ≡ length l.initial.buf.items;
   put : AllZip
       (λ p new. HasPut (source_in l.plan) l.plan.list.now (planned_turns l.plan p.1)
-      (record { from = g.D.Disk.from p.0; len = g.D.Disk.len p.0; held = g.D.Disk.held p.0; calls = g.D.Disk.calls p.0; faults = g.D.Disk.faults p.0 })
-      (record { from = g.D.Disk.from new; len = g.D.Disk.len new; held = g.D.Disk.held new; calls = g.D.Disk.calls new; faults = g.D.Disk.faults new }) l.end) (zip l.yielded l.domains) l.back.items;
+      (part_state g.D.Disk p.0) (part_state g.D.Disk new) l.end) (zip l.yielded l.domains) l.back.items;
   failed : IsErrOf l.end Failed → SomeZip (λ old new. Rose (g.D.Disk.faults old) (g.D.Disk.faults new)) l.yielded l.back.items;
 }

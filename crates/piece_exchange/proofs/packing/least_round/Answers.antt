@@ -1,13 +1,13 @@
 -- One part more.
 use Rattle.std.proofs.Common.{◌≡◌, ◌∙◌, ℕ, ◌+◌, ◌<◌, ◌≤◌, min, [], List, refl, sym, ap, subst, Bool, true, false, inl, inr, ◌⊎◌, Option, Some, None, length, get_or, arith}
 use Rattle.std.proofs.lemmas.Bool.Decides.{nat_tests}
-use Rattle.std.proofs.lemmas.Option.{same_Some, slice_get-get_or}
+use Rattle.std.proofs.lemmas.Option.{same_Some, slice_get-get_or, slice_get_within}
 use Rattle.std.specs.Prelude.{nat_lt, slice_get, IfSome, IfNone}
 use Rattle.piece_exchange.specs.Feeds.{earlier_of, next_round_of, round_of, turns_left, turns_left_of, HasRound, IsNotBefore}
 use Rattle.piece_exchange.specs.declared.starting.Worker.{Worker}
 use Rattle.piece_exchange.specs.declared.walk.Turn.{Turn}
 use Rattle.piece_exchange.specs.declared.walk.TurnWalk.{TurnWalk}
-use Rattle.piece_exchange.proofs.FeedLaws.{earlier_none, earlier_second, earlier_some, get_long}
+use Rattle.piece_exchange.proofs.FeedLaws.{earlier_none, earlier_second, earlier_some}
 use Rattle.piece_exchange.proofs.packing.least_round.Goals as goal
 
 no_turn : (turn : Option Turn) (walk : TurnWalk) → round_of turn ≡ None → turns_left_of turn walk ≡ []
@@ -90,7 +90,7 @@ all_parts : {D : Type 0} (workers : List (Worker D)) (i : ℕ) (least : Option �
     → IfSome least (λ round. (k : ℕ) (s : Worker D) → k < i → slice_get workers k ≡ Some s → IsNotBefore round s.feed)
     → IfSome least (λ round. (k : ℕ) (s : Worker D) → slice_get workers k ≡ Some s → IsNotBefore round s.feed)
 all_parts workers i None past h = tt
-all_parts workers i (Some round) past h = λ k s e. let l = get_long workers k s e in h k s (omega arith) e
+all_parts workers i (Some round) past h = λ k s e. let l = slice_get_within workers k s e in h k s (omega arith) e
 
 pub returns-clause-least : goal.returns-clause-least
 returns-clause-least g c = all_parts c.args.workers.now c.loop-worker.worker-index c.loop-worker.least c.loop-worker-test.false c.loop-worker.invariant.least

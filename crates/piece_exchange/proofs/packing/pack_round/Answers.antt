@@ -1,12 +1,13 @@
 -- One part more.
 use Rattle.std.proofs.Common.{◌≡◌, ℕ, ◌+◌, ◌<◌, ◌≤◌, refl, sym, ◌∙◌, ap, subst, List, get_or, length, set, length-set, Bool, true, false, Some, arith}
+use Rattle.list_laws.proofs.Places.{each_more, left_more}
 use Rattle.std.proofs.lemmas.Bool.Decides.{nat_tests}
-use Rattle.std.proofs.lemmas.Option.{same_Some, slice_get-get_or}
+use Rattle.std.proofs.lemmas.Option.{same_Some, slice_get-get_or, slice_get_within}
 use Rattle.std.specs.Prelude.{nat_lt, slice_get}
 use Rattle.piece_exchange.specs.Feeds.{next_round_of, turns_in, turns_left, FitsIn, HasPacked}
 use Rattle.piece_exchange.specs.Turns.{Told}
 use Rattle.piece_exchange.specs.declared.starting.Worker.{Worker}
-use Rattle.piece_exchange.proofs.FeedLaws.{each_more, fewer_all, get_long, left_more, no_more_all}
+use Rattle.piece_exchange.proofs.FeedLaws.{fewer_all, no_more_all}
 use Rattle.piece_exchange.proofs.packing.pack_round.Goals as goal
 
 -- the parts so far, or the one that was packed, have a window fewer
@@ -68,7 +69,7 @@ loop-worker-preserved g c =
       room = c.pack_turn.ensures.room ∙ c.loop-worker.invariant.room;
       long = length-set now i new ∙ c.loop-worker.invariant.long;
       packed = λ r a b l e f.
-          each_more (λ x y. HasPacked c.args.ranks x y) old now i worker new first own (record { helper = refl; ready = c.pack_turn.ensures.ready; fed = c.pack_turn.ensures.fed; fits = c.pack_turn.ensures.fits })
+          each_more (λ k x y. HasPacked c.args.ranks x y) old now i worker new first own (record { helper = refl; ready = c.pack_turn.ensures.ready; fed = c.pack_turn.ensures.fed; fits = c.pack_turn.ensures.fits })
           (λ q x y k u v. c.loop-worker.invariant.packed q x y k u v) r a b l e f;
       left = left_more old now i new c.loop-worker.invariant.left;
       no_more = omega arith;
@@ -77,14 +78,14 @@ loop-worker-preserved g c =
 
 pub returns-clause-packed : goal.returns-clause-packed
 returns-clause-packed g c = λ r a b e f.
-    let l = get_long c.loop-worker.workers r b f in
+    let l = slice_get_within c.loop-worker.workers r b f in
     let long = c.loop-worker.auto.workers in
     let past = c.loop-worker-test.false in
     c.loop-worker.invariant.packed r a b (omega arith) e f
 
 pub returns-clause-fewer : goal.returns-clause-fewer
 returns-clause-fewer g c = λ h.
-    let l = get_long c.args.workers.now h.place h.worker h.found in
+    let l = slice_get_within c.args.workers.now h.place h.worker h.found in
     let long = c.loop-worker.invariant.long in
     let past = c.loop-worker-test.false in
     let end = c.loop-worker.auto.workers in

@@ -5,7 +5,7 @@ use Rattle.nc_outside.specs.Cause.{Rose}
 use Rattle.nc_outside.specs.declared.disk.DiskErr.{DiskErr}
 use Rattle.nc_outside.specs.declared.disk.DiskErr.TheVariants.{Failed}
 use Rattle.piece_exchange.specs.Plan.{planned_turns, source_in}
-use Rattle.piece_exchange.specs.Put.{HasPut, PartState}
+use Rattle.piece_exchange.specs.Put.{part_state, HasPut, PartState}
 use Rattle.piece_exchange.specs.Workers.{domain_of, part_of}
 use Rattle.piece_exchange.specs.declared.starting.Worker.{Worker}
 use Rattle.piece_exchange.proofs.BackLaws.{and_failed, and_first_ok, and_second_ok, back_more, both_long, failed_more, middle_in, put_later}
@@ -27,7 +27,7 @@ loop-worker-preserved g c =
     let both = c.and-end.result in
     let plan = c.args.plan.now in
     let state : g.row.D.Denot → PartState
-    = λ d. record { from = g.D.Disk.from d; len = g.D.Disk.len d; held = g.D.Disk.held d; calls = g.D.Disk.calls d; faults = g.D.Disk.faults d } in
+    = part_state g.D.Disk in
     let Put : Result (Unit {0}) DiskErr → Worker g.row.D.Denot → g.row.D.Denot → Type 0
     = λ r s d. HasPut (source_in plan) plan.list.now (planned_turns plan (domain_of s)) (state (part_of s)) (state d) r in
     let first : OnOk both (IsOk end) = subst (λ (r : Result (Unit {0}) DiskErr). OnOk r (IsOk end)) (sym c.and-end.ensures) (and_first_ok end came) in

@@ -5,7 +5,7 @@ use Rattle.std.specs.List.{AllZip}
 use Rattle.nc_outside.specs.Cause.{Rose}
 use Rattle.nc_outside.specs.declared.disk.DiskErr.TheVariants.{Failed}
 use Rattle.piece_exchange.specs.Plan.{planned_turns, source_in}
-use Rattle.piece_exchange.specs.Put.{HasPut, SomeZip}
+use Rattle.piece_exchange.specs.Put.{part_state, HasPut, SomeZip}
 use Rattle.piece_exchange.specs.Workers.{domain_of, part_of}
 use Rattle.piece_exchange.proofs.results.join_all.Given as goal
 
@@ -16,7 +16,6 @@ invariant-loop-worker g l = record {
   room : vec_capacity l.back ≡ vec_capacity l.initial.back;
   put : AllZip
       (λ worker new. HasPut (source_in l.plan) l.plan.list.now (planned_turns l.plan (domain_of worker))
-      (record { from = g.D.Disk.from (part_of worker); len = g.D.Disk.len (part_of worker); held = g.D.Disk.held (part_of worker); calls = g.D.Disk.calls (part_of worker); faults = g.D.Disk.faults (part_of worker) })
-      (record { from = g.D.Disk.from new; len = g.D.Disk.len new; held = g.D.Disk.held new; calls = g.D.Disk.calls new; faults = g.D.Disk.faults new }) l.end) l.yielded l.back.items;
+      (part_state g.D.Disk (part_of worker)) (part_state g.D.Disk new) l.end) l.yielded l.back.items;
   failed : IsErrOf l.end Failed → SomeZip (λ worker new. Rose (g.D.Disk.faults (part_of worker)) (g.D.Disk.faults new)) l.yielded l.back.items;
 }

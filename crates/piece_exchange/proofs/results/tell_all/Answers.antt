@@ -1,8 +1,8 @@
 -- One helper more was told.
 use Rattle.std.proofs.Common.{refl, sym, ◌∙◌, get_or, length-set, arith}
-use Rattle.std.proofs.lemmas.Option.{slice_get-get_or}
+use Rattle.list_laws.proofs.Places.{each_more, left_more}
+use Rattle.std.proofs.lemmas.Option.{slice_get-get_or, slice_get_within}
 use Rattle.piece_exchange.specs.Workers.{IsToldToGo}
-use Rattle.piece_exchange.proofs.FeedLaws.{each_more, get_long, left_more}
 use Rattle.piece_exchange.proofs.results.tell_all.Goals as goal
 
 pub loop-worker-preserved : goal.loop-worker-preserved
@@ -18,14 +18,14 @@ loop-worker-preserved g c =
     record {
       long = length-set now i _ ∙ c.loop-worker.invariant.long;
       told = λ r a b l e f.
-          each_more (λ x y. IsToldToGo x y) old now i worker _ first own (record { child = refl; feed = refl; of = c.put.ensures.of; words = c.put.ensures.items })
+          each_more (λ k x y. IsToldToGo x y) old now i worker _ first own (record { child = refl; feed = refl; of = c.put.ensures.of; words = c.put.ensures.items })
           (λ q x y k u v. c.loop-worker.invariant.told q x y k u v) r a b l e f;
       left = left_more old now i _ c.loop-worker.invariant.left;
     }
 
 pub returns-clause-told : goal.returns-clause-told
 returns-clause-told g c = λ r a b e f.
-    let l = get_long c.loop-worker.workers r b f in
+    let l = slice_get_within c.loop-worker.workers r b f in
     let long = c.loop-worker.auto.workers in
     let past = c.loop-worker-test.false in
     c.loop-worker.invariant.told r a b (omega arith) e f

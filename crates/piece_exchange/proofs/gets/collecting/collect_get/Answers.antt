@@ -1,6 +1,6 @@
 -- The blob with the entry's bytes stands in its place.
-use Rattle.std.proofs.Common.{◌+◌, ◌∙◌, rules, arith}
-use Rattle.std.proofs.lemmas.Grind.{common_steps}
+use Rattle.std.proofs.Common.{◌+◌, ◌∙◌, ℕ, List, ap, get_or, length, set, arith}
+use Rattle.list_laws.proofs.Refills.{refilled}
 use Rattle.data_sieving.specs.Walked.{buffer_cell}
 use Rattle.piece_exchange.proofs.CollectLaws.{rank_in, collected}
 use Rattle.piece_exchange.proofs.gets.collecting.collect_get.Goals as goal
@@ -9,7 +9,10 @@ pub returns : goal.returns
 returns c =
     let some = c.requires.filled in
     let fit = c.requires.fit in
-    collected c.args.table.now c.args.entry.now.rank c.args.entry.now.slot c.take.new.self c.index-table-rank.result c.deref_mut.result.now c.collect_entry.new.blobs c.from_vec.result
-    (buffer_cell c.args.hull.at (c.args.hull.at + c.args.hull.len) c.args.buf.now c.args.entry.now)
-    (rank_in c.args.table.now c.args.entry.now.rank c.args.entry.now.slot (omega arith))
-    (c.deref_mut.ensures.value ∙ c.into_vec-blobs.ensures ∙ c.take.ensures.taken) c.collect_entry.ensures (first_of (search rules, grind (arith, common_steps)))
+    let table = c.args.table.now in
+    let rank = c.args.entry.now.rank in
+    let lent = c.as_mut_slice-blobs.ensures.seen in
+    let whole = refilled (get_or table rank c.index-table-entry-rank.result) c.collect_entry.new.blobs (c.collect_entry.auto.blobs ∙ ap (λ (bs : List (List ℕ)). length bs) lent) in
+    ap (λ (bs : List (List ℕ)). set table rank bs) whole
+    ∙ collected table rank c.args.entry.now.slot c.index-table-entry-rank.result c.as_mut_slice-blobs.result.now c.collect_entry.new.blobs
+    (buffer_cell c.args.hull.at (c.args.hull.at + c.args.hull.len) c.args.buf.now c.args.entry.now) (rank_in table rank c.args.entry.now.slot (omega arith)) lent c.collect_entry.ensures

@@ -4,6 +4,7 @@ use Rattle.std.proofs.lemmas.Grind.{common_steps}
 use Rattle.std.specs.Prelude.{zip, OnOk}
 use Rattle.piece_exchange.specs.Gets.{get_turns}
 use Rattle.piece_exchange.specs.Logs.{HasReadParts}
+use Rattle.piece_exchange.specs.Put.{part_state}
 use Rattle.piece_exchange.proofs.BackLaws.{zip_same}
 use Rattle.piece_exchange.proofs.PartReads.{got_untouched}
 use Rattle.piece_exchange.proofs.gets.in_turn.get_in_turn.Goals as goal
@@ -12,13 +13,13 @@ pub returns-in_default-clause-got : goal.returns-in_default-clause-got
 returns-in_default-clause-got g c =
     zip_same _ c.args.parts.items c.args.domains.now c.requires.one_each
     (λ p domain. got_untouched (get_turns c.args.plan.now domain)
-    (record { from = g.D.Disk.from p; len = g.D.Disk.len p; held = g.D.Disk.held p; calls = g.D.Disk.calls p; faults = g.D.Disk.faults p }) _)
+    (part_state g.D.Disk p) _)
 
 pub returns-in_default-vec-clause-got : goal.returns-in_default-vec-clause-got
 returns-in_default-vec-clause-got g c =
     zip_same _ c.args.parts.items c.args.domains.now c.requires.one_each
     (λ p domain. got_untouched (get_turns c.args.plan.now domain)
-    (record { from = g.D.Disk.from p; len = g.D.Disk.len p; held = g.D.Disk.held p; calls = g.D.Disk.calls p; faults = g.D.Disk.faults p }) _)
+    (part_state g.D.Disk p) _)
 
 pub returns-clause-read : goal.returns-clause-read
 returns-clause-read g c =

@@ -1,5 +1,6 @@
 -- One part more was read.
 use Rattle.std.proofs.Common.{◌≡◌, ◌<◌, ◌∙◌, ◌++◌, ◌∷◌, [], refl, sym, ap, subst, length, append_assoc, get_or, List, Result, Ok, rules, arith}
+use Rattle.std.proofs.lemmas.Option.{slice_get_within}
 use Rattle.std.proofs.lemmas.Grind.{common_steps}
 use Rattle.std.specs.Prelude.{zip, OnOk}
 use Rattle.std.specs.List.{AllZip}
@@ -9,11 +10,10 @@ use Rattle.nc_outside.specs.declared.disk.DiskErr.{DiskErr}
 use Rattle.serial_spec.proofs.MemberLaws.{at_in}
 use Rattle.piece_exchange.specs.Gets.{get_turns, HasGot}
 use Rattle.piece_exchange.specs.Logs.{HasReadParts}
-use Rattle.piece_exchange.specs.Put.{PartState}
+use Rattle.piece_exchange.specs.Put.{part_state, PartState}
 use Rattle.list_laws.proofs.Places.{middle_at}
 use Rattle.piece_exchange.proofs.BackLaws.{at_index, back_more, both_long, failed_more, zip_push}
 use Rattle.piece_exchange.proofs.CollectLaws.{fit_as_long}
-use Rattle.piece_exchange.proofs.FeedLaws.{get_long}
 use Rattle.piece_exchange.proofs.FetchLaws.{got_later}
 use Rattle.piece_exchange.proofs.PartReads.{none_zip, parts_none, parts_on}
 use Rattle.piece_exchange.proofs.gets.in_turn.read_parts.Goals as goal
@@ -24,7 +24,7 @@ none = record { at = 0; len = 0 }
 pub loop-part-init : goal.loop-part-init
 loop-part-init g c =
     let state : g.row.D.Denot → PartState
-    = λ d. record { from = g.D.Disk.from d; len = g.D.Disk.len d; held = g.D.Disk.held d; calls = g.D.Disk.calls d; faults = g.D.Disk.faults d } in
+    = part_state g.D.Disk in
     let Got : Result (Unit {0}) DiskErr → g.row.D.Denot × Extent → g.row.D.Denot → Type 0
     = λ r p d. HasGot (get_turns c.args.plan.now p.1) (state p.0) (state d) r in
     record {
@@ -42,7 +42,7 @@ pub read_next-part-requires-clause-domain : goal.read_next-part-requires-clause-
 read_next-part-requires-clause-domain g c κs within =
     let middle = ap (λ v. c.loop-part.yielded ++ v) (sym c.in-Some.ensures.steps.0) ∙ c.loop-part.invariant.all in
     let here = middle_at c.loop-part.yielded _ c.args.parts.items c.in-Some.part middle in
-    let low : length c.loop-part.yielded < length c.args.parts.items = get_long c.args.parts.items (length c.loop-part.yielded) c.in-Some.part here in
+    let low : length c.loop-part.yielded < length c.args.parts.items = slice_get_within c.args.parts.items (length c.loop-part.yielded) c.in-Some.part here in
     let many = c.loop-part.invariant.long in
     let number : c.len-number.result ≡ length c.loop-part.back.items = first_of (search rules, grind (arith, common_steps)) in
     let long = c.requires.one_each in
@@ -52,7 +52,7 @@ pub read_next-part-requires-clause-room : goal.read_next-part-requires-clause-ro
 read_next-part-requires-clause-room g c κs within =
     let middle = ap (λ v. c.loop-part.yielded ++ v) (sym c.in-Some.ensures.steps.0) ∙ c.loop-part.invariant.all in
     let here = middle_at c.loop-part.yielded _ c.args.parts.items c.in-Some.part middle in
-    let low : length c.loop-part.yielded < length c.args.parts.items = get_long c.args.parts.items (length c.loop-part.yielded) c.in-Some.part here in
+    let low : length c.loop-part.yielded < length c.args.parts.items = slice_get_within c.args.parts.items (length c.loop-part.yielded) c.in-Some.part here in
     let many = c.loop-part.invariant.long in
     let number : c.len-number.result ≡ length c.loop-part.back.items = first_of (search rules, grind (arith, common_steps)) in
     let long = c.requires.one_each in
@@ -70,7 +70,7 @@ pub loop-part-preserved : goal.loop-part-preserved
 loop-part-preserved g c =
     let middle = ap (λ v. c.loop-part.yielded ++ v) (sym c.in-Some.ensures.steps.0) ∙ c.loop-part.invariant.all in
     let here = middle_at c.loop-part.yielded _ c.args.parts.items c.in-Some.part middle in
-    let low : length c.loop-part.yielded < length c.args.parts.items = get_long c.args.parts.items (length c.loop-part.yielded) c.in-Some.part here in
+    let low : length c.loop-part.yielded < length c.args.parts.items = slice_get_within c.args.parts.items (length c.loop-part.yielded) c.in-Some.part here in
     let many = c.loop-part.invariant.long in
     let number : c.len-number.result ≡ length c.loop-part.back.items = first_of (search rules, grind (arith, common_steps)) in
     let long = c.requires.one_each in
@@ -82,7 +82,7 @@ loop-part-preserved g c =
     let plan = c.args.plan.now in
     let more = zip_push c.loop-part.yielded c.args.domains.now c.in-Some.part domain at in
     let state : g.row.D.Denot → PartState
-    = λ d. record { from = g.D.Disk.from d; len = g.D.Disk.len d; held = g.D.Disk.held d; calls = g.D.Disk.calls d; faults = g.D.Disk.faults d } in
+    = part_state g.D.Disk in
     let Got : Result (Unit {0}) DiskErr → g.row.D.Denot × Extent → g.row.D.Denot → Type 0
     = λ r p d. HasGot (get_turns plan p.1) (state p.0) (state d) r in
     record {

@@ -7,7 +7,7 @@ use Rattle.nc_outside.specs.declared.disk.DiskErr.TheVariants.{Failed}
 use Rattle.piece_exchange.specs.Blobs.{AreAsLong}
 use Rattle.piece_exchange.specs.Gets.{get_turns, HasGot}
 use Rattle.piece_exchange.specs.Logs.{HasReadParts}
-use Rattle.piece_exchange.specs.Put.{SomeZip}
+use Rattle.piece_exchange.specs.Put.{part_state, SomeZip}
 use Rattle.piece_exchange.proofs.gets.in_turn.read_parts.Given as goal
 
 abbrev pub invariant-loop-part : goal.invariant-loop-part
@@ -18,8 +18,7 @@ invariant-loop-part g l = record {
   buf : length l.room.buf.items ≡ length l.initial.room.buf.items;
   got : AllZip
       (λ p new. HasGot (get_turns l.plan p.1)
-      (record { from = g.D.Disk.from p.0; len = g.D.Disk.len p.0; held = g.D.Disk.held p.0; calls = g.D.Disk.calls p.0; faults = g.D.Disk.faults p.0 })
-      (record { from = g.D.Disk.from new; len = g.D.Disk.len new; held = g.D.Disk.held new; calls = g.D.Disk.calls new; faults = g.D.Disk.faults new }) l.end) (zip l.yielded l.domains) l.back.items;
+      (part_state g.D.Disk p.0) (part_state g.D.Disk new) l.end) (zip l.yielded l.domains) l.back.items;
   read : OnOk l.end (HasReadParts (λ part. g.D.Disk.from part) (λ part. g.D.Disk.held part) l.plan (zip l.yielded l.domains) l.initial.room.table.items l.room.table.items);
   blobs : AreAsLong l.initial.room.table.items l.room.table.items;
   failed : IsErrOf l.end Failed → SomeZip (λ old new. Rose (g.D.Disk.faults old) (g.D.Disk.faults new)) l.yielded l.back.items;

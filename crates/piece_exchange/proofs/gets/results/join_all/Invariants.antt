@@ -6,7 +6,7 @@ use Rattle.nc_outside.specs.Cause.{Rose}
 use Rattle.nc_outside.specs.declared.disk.DiskErr.TheVariants.{Failed}
 use Rattle.overlay_laws.specs.Entries.{In}
 use Rattle.piece_exchange.specs.Gets.{get_turns, AreRead, HasGot}
-use Rattle.piece_exchange.specs.Put.{SomeZip}
+use Rattle.piece_exchange.specs.Put.{part_state, SomeZip}
 use Rattle.piece_exchange.specs.Shelves.{domain_of, part_of}
 use Rattle.piece_exchange.specs.declared.gets.starting.ReadWorker.{ReadWorker}
 use Rattle.piece_exchange.proofs.gets.results.join_all.Given as goal
@@ -18,8 +18,7 @@ invariant-loop-worker g l = record {
   room : vec_capacity l.back ≡ vec_capacity l.initial.back;
   got : AllZip
       (λ worker new. HasGot (get_turns l.plan (domain_of worker))
-      (record { from = g.D.Disk.from (part_of worker); len = g.D.Disk.len (part_of worker); held = g.D.Disk.held (part_of worker); calls = g.D.Disk.calls (part_of worker); faults = g.D.Disk.faults (part_of worker) })
-      (record { from = g.D.Disk.from new; len = g.D.Disk.len new; held = g.D.Disk.held new; calls = g.D.Disk.calls new; faults = g.D.Disk.faults new }) l.end) l.yielded l.back.items;
+      (part_state g.D.Disk (part_of worker)) (part_state g.D.Disk new) l.end) l.yielded l.back.items;
   failed : IsErrOf l.end Failed → SomeZip (λ worker new. Rose (g.D.Disk.faults (part_of worker)) (g.D.Disk.faults new)) l.yielded l.back.items;
   read : OnOk l.end ((worker : ReadWorker _) → In l.yielded worker → AreRead (get_turns l.plan (domain_of worker)) (g.D.Disk.from (part_of worker)) (g.D.Disk.held (part_of worker)) worker.shelf.line.items);
 }

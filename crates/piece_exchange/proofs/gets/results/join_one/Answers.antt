@@ -1,6 +1,6 @@
 -- The helper was told to go, and what was taken are the first of what it put.
 use Rattle.piece_exchange.specs.Gets.{get_turns}
-use Rattle.piece_exchange.specs.Put.{PartState}
+use Rattle.piece_exchange.specs.Put.{part_state, PartState}
 use Rattle.piece_exchange.specs.Shelves.{domain_of, part_of}
 use Rattle.piece_exchange.specs.Turns.{turns_of}
 use Rattle.piece_exchange.proofs.FetchLaws.{joined_fetched, taken_read, told_fetched}
@@ -12,8 +12,8 @@ returns-clause-got g c =
     let promise = worker.helper.child.promise in
     let ends = c.join-ends.result.ends in
     let state : g.row.D.Denot → PartState
-    = λ d. record { from = g.D.Disk.from d; len = g.D.Disk.len d; held = g.D.Disk.held d; calls = g.D.Disk.calls d; faults = g.D.Disk.faults d } in
-    (joined_fetched c.args.plan.now worker (state (part_of worker)) (state ends.part) ends.lines.line.items c.in-Some.end c.requires.worker_is
+    = part_state g.D.Disk in
+    (joined_fetched c.args.plan.now worker (state (part_of worker)) (state ends.part) ends.lines.line.items c.in-Some.end c.requires.started
     (told_fetched (turns_of promise.size.value (domain_of worker) promise.cover.value) (state (part_of worker)) (state ends.part) ends.word.items ends.lines.line.items
     c.join-ends.result.end c.in-Some.end c.in-Some.is c.join-ends.ensures.0.part)).got
 
@@ -23,9 +23,9 @@ returns-clause-read g c =
     let promise = worker.helper.child.promise in
     let ends = c.join-ends.result.ends in
     let state : g.row.D.Denot → PartState
-    = λ d. record { from = g.D.Disk.from d; len = g.D.Disk.len d; held = g.D.Disk.held d; calls = g.D.Disk.calls d; faults = g.D.Disk.faults d } in
+    = part_state g.D.Disk in
     taken_read (get_turns c.args.plan.now (domain_of worker)) (state (part_of worker)) (state ends.part) ends.lines.line.items worker.shelf.line.items c.in-Some.end
-    (joined_fetched c.args.plan.now worker (state (part_of worker)) (state ends.part) ends.lines.line.items c.in-Some.end c.requires.worker_is
+    (joined_fetched c.args.plan.now worker (state (part_of worker)) (state ends.part) ends.lines.line.items c.in-Some.end c.requires.started
     (told_fetched (turns_of promise.size.value (domain_of worker) promise.cover.value) (state (part_of worker)) (state ends.part) ends.word.items ends.lines.line.items
     c.join-ends.result.end c.in-Some.end c.in-Some.is c.join-ends.ensures.0.part))
     c.settle-2.ensures.prefix c.settle-2.ensures.equal
