@@ -1,2 +1,8 @@
-pub mod PieceLaws
 pub mod RoundLaws
+pub mod PieceLaws
+pub mod PastSteps
+pub mod SplitSteps
+pub mod CoveredBytes
+pub mod EntryCells
+pub mod PartSteps
+pub mod ReadParts

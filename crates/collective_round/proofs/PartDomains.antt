@@ -5,6 +5,7 @@ use Rattle.std.proofs.lemmas.Option.{same_Some}
 use borrow.Author.Tests.{ltb-true, ltb-false}
 use Rattle.std.specs.Prelude.{nat_lt, zip}
 use Rattle.std.specs.List.{range_with_len, AllZip}
+use Rattle.list_laws.proofs.Maps.{entry_map}
 use Rattle.list_laws.proofs.Optional.{no_none_some}
 use Rattle.nc_base.specs.declared.plan.Extent.{Extent}
 use Rattle.nc_base.specs.declared.plan.Owned.{Owned}
@@ -14,7 +15,7 @@ use Rattle.overlay_laws.specs.Entries.{cell_of, ranges, In, HaveSame, Source}
 use Rattle.overlay_laws.specs.Walks.{end_after, first_at, spans, IsCover}
 use Rattle.overlay_laws.proofs.HullLaws.{in_flat, in_range}
 use Rattle.overlay_laws.proofs.Members.{in_map, map_in}
-use Rattle.data_sieving.specs.Walked.{IsCovered}
+use Rattle.aggregator_rounds.specs.EntryParts.{IsCovered}
 use Rattle.piece_exchange.specs.Plan.{IsDomainOf}
 use Rattle.piece_exchange.specs.Put.{PartState, SomeZip}
 use Rattle.collective_round.specs.Parts.{begin_or, part_between, parts_of, Adjoin, AreDomains}
@@ -64,18 +65,13 @@ part_domain list hi m disk (d ∷ rest) line end room high zero p domain e f =
 part_domain list hi m disk (d ∷ rest) line end room high (suc k) p domain e f =
     part_domain list hi (d.at + d.len) disk rest line.2 end room high k p domain e f
 
-state_at : {D : Type 0} (state : D → PartState) (parts : List D) (k : ℕ) (part : D) → slice_get parts k ≡ Some part → slice_get (map state parts) k ≡ Some (state part)
-state_at state [] k part e = no_none_some part e
-state_at state (p ∷ parts) zero part e = ap (λ d. Some (state d)) (same_Some p part e)
-state_at state (p ∷ parts) (suc k) part e = state_at state parts k part e
-
 -- each domain has all covered bytes of its part
 pub domain_of_part : {D : Type 0} (state : D → PartState) (list : List Owned) (cover domains : List Extent) (disk : PartState) (parts : List D) → map state parts ≡ parts_of disk domains
     → IsCover cover → HaveSame (spans cover) (ranges list) → AreDomains cover domains → end_after 0 cover ≤ disk.len
     → (k : ℕ) (part : D) (domain : Extent) → slice_get parts k ≡ Some part → slice_get domains k ≡ Some domain → IsDomainOf list (state part).from (state part).len domain
 domain_of_part state list cover domains disk parts are h same div room k part domain at_part at_domain =
     part_domain list (end_after 0 cover) (first_at cover) disk domains div.line div.end room (λ x covered. (within_reach cover x h (covered_in list cover x same covered)).1)
-    k (state part) domain (subst (λ (ps : List PartState). slice_get ps k ≡ Some (state part)) are (state_at state parts k part at_part)) at_domain
+    k (state part) domain (subst (λ (ps : List PartState). slice_get ps k ≡ Some (state part)) are (entry_map state parts k part at_part)) at_domain
 
 -- the first domain begins at the first covered byte
 begins_first : (cover domains : List Extent) (n x : ℕ) → IsCover cover → AreDomains cover domains → In (spans cover) x → begin_or n domains ≤ x

@@ -6,7 +6,7 @@ use Rattle.nc_base.specs.declared.header.Header.{Header}
 use Rattle.nc_base.specs.declared.plan.Batch.{Batch}
 use Rattle.nc_base.specs.declared.plan.Extent.{Extent}
 use Rattle.nc_base.specs.declared.plan.Owned.{Owned}
-use Rattle.data_sieving.specs.Sieving.{bytes_of_post}
+use Rattle.aggregator_rounds.specs.EntryParts.{bytes_of_post}
 use Rattle.overlay_laws.specs.Entries.{Source, In, HaveSame, ranges}
 use Rattle.overlay_laws.specs.Origins.{AreFound}
 use Rattle.overlay_laws.specs.Walks.{spans, IsCover}

@@ -7,8 +7,9 @@ use Rattle.nc_base.specs.declared.plan.Owned.{Owned}
 use Rattle.nc_outside.specs.Cause.{HasDiskCause, Rose}
 use Rattle.nc_outside.specs.declared.disk.DiskErr.{DiskErr}
 use Rattle.nc_outside.specs.declared.disk.DiskErr.TheVariants.{Failed}
-use Rattle.data_sieving.specs.Sieving.{AreFilled, LieOn}
-use Rattle.data_sieving.proofs.PutSteps.{entries_within}
+use Rattle.aggregator_rounds.specs.EntryParts.{AreFilled}
+use Rattle.data_sieving.specs.Sieving.{LieOn}
+use Rattle.aggregator_rounds.proofs.EntryCells.{entries_within}
 use Rattle.overlay_laws.specs.Entries.{ranges, In, HaveSame, Source}
 use Rattle.overlay_laws.specs.Walks.{end_after, spans, IsCover}
 use Rattle.overlay_laws.proofs.HullLaws.{flat_in, in_left, in_range, in_right, range_high}

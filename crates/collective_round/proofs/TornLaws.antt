@@ -6,6 +6,7 @@ use Rattle.std.specs.Int.{byte_len}
 use Rattle.nc_base.specs.declared.answer.Pair.{Pair}
 use Rattle.nc_outside.specs.DiskState.{PartlyWritten}
 use Rattle.nc_outside.specs.Told.{after, BothTold}
+use Rattle.nc_outside.proofs.ToldLaws.{told_as}
 use Rattle.serial_spec.specs.File.{at, longer}
 use Rattle.serial_spec.specs.FileStep.{Setting, end_for, after_puts, told}
 use Rattle.serial_spec.specs.HeaderBytes.{count, count_width}
@@ -18,7 +19,6 @@ use Rattle.serial_spec.specs.Owner.{needed_now}
 use Rattle.collective_round.specs.Rounds.{ArePuts, after_round, counted}
 use Rattle.collective_round.proofs.PutLaws.{laid_round}
 use Rattle.collective_round.proofs.StepLaws.{round_by}
-use Rattle.collective_round.proofs.ResultSteps.{told_as}
 use Rattle.collective_round.proofs.TornFiles.{covered_past, torn_by, torn_still, torn_grown, torn_laid, torn_wider, counted_past, torn_counted, torn_after, torn_stored}
 use Rattle.serial_spec.proofs.KeepLaws.{after_keeps}
 use Rattle.serial_spec.proofs.FileLaws.{longer_long}

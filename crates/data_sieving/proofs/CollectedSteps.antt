@@ -1,7 +1,7 @@
 -- The entries of one window, which are collected from its buffer one after another.
-use Rattle.std.proofs.Common.{◌≡◌, ◌≢◌, ℕ, zero, suc, ◌+◌, ◌-◌, ◌<◌, ◌≤◌, refl, sym, ◌∙◌, ap, subst, List, [], ◌∷◌, ◌++◌, length, take, drop, get_or, set, Bool, true, false, cond, Option, Some, None, arith}
+use Rattle.std.proofs.Common.{◌≡◌, ◌≢◌, ℕ, ◌+◌, ◌-◌, ◌<◌, ◌≤◌, refl, sym, ◌∙◌, ap, subst, List, [], ◌∷◌, ◌++◌, length, take, drop, get_or, set, Bool, true, false, cond, Option, Some, None, arith}
 use Rattle.std.proofs.lemmas.Grind.{fold-append}
-use Rattle.std.proofs.lemmas.List.{map-append, length-take, length-set, take_more, get_or-set_same, get_or-set_other, get_or_default}
+use Rattle.std.proofs.lemmas.List.{map-append, length-take, length-set, take_more, get_or-set_same, get_or-set_other}
 use Rattle.std.specs.Prelude.{map, ◌==◌, IfSome}
 use borrow.Author.Tests.{eqb-true, eqb-false}
 use Rattle.serial_spec.proofs.FileLaws.{length-written_inside}
@@ -9,12 +9,13 @@ use Rattle.nc_base.specs.declared.plan.Owned.{Owned}
 use Rattle.file_domains.specs.declared.walk.Window.{Window}
 use Rattle.serial_spec.specs.File.{read, written}
 use Rattle.serial_spec.specs.Said.{Cell, write_cells}
-use Rattle.overlay_laws.specs.Entries.{got_cell}
-use Rattle.data_sieving.specs.Sieving.{of_slot, got_cells, blob_at, HasGot, FitBlobs, HaveOnePlace, AreAsLong, LieOn}
-use Rattle.data_sieving.specs.Walked.{part_in, IsPast, IsNext, buffer_cell, HasGotPart}
-use Rattle.data_sieving.proofs.ReadParts.{read_part, parts_got}
+use Rattle.data_sieving.specs.Sieving.{of_slot, HasGot, FitBlobs, HaveOnePlace, AreAsLong, LieOn}
+use Rattle.aggregator_rounds.specs.EntryParts.{blob_at, part_in, buffer_cell}
+use Rattle.aggregator_rounds.specs.Left.{IsPast}
+use Rattle.data_sieving.specs.Walked.{IsNext, HasGotPart}
 use Rattle.data_sieving.proofs.GetSteps.{got_step, got_begin, got_end}
 use Rattle.std.proofs.lemmas.List.Elements.{filter-append}
+use Rattle.aggregator_rounds.proofs.ReadParts.{buffer_cells}
 
 -- ---- one entry more
 
@@ -26,26 +27,6 @@ fit_as_long old now list h fit o m = subst (λ (n : ℕ). o.from + o.extent.len 
 
 buffer_fits : (lo hi : ℕ) (buf : List ℕ) (o : Owned) (n : ℕ) → o.from + o.extent.len ≤ n → (buffer_cell lo hi buf o).0 + length (buffer_cell lo hi buf o).1 ≤ n
 buffer_fits lo hi buf o n h = omega (arith, length-take (part_in lo hi o).extent.len (drop ((part_in lo hi o).extent.at - lo) buf))
-
-blob_in : (blobs : List (List ℕ)) (slot : ℕ) → 1 ≤ length (blob_at blobs slot) → slot < length blobs
-blob_in [] slot h = absurd (omega arith)
-blob_in (b ∷ blobs) zero h = omega arith
-blob_in (b ∷ blobs) (suc slot) h = let l = blob_in blobs slot h in omega arith
-
-pub slot_below : (blobs : List (List ℕ)) (o : Owned) → 1 ≤ o.extent.len → o.from + o.extent.len ≤ length (blob_at blobs o.slot) → o.slot < length blobs
-slot_below blobs o h k = blob_in blobs o.slot (omega arith)
-
--- the bytes of an entry's part put into its blob
-pub collected_entry : (lo hi : ℕ) (buf : List ℕ) (o p : Owned) (blobs : List (List ℕ)) (d taken bytes now : List ℕ) → 1 ≤ o.extent.len
-    → o.from + o.extent.len ≤ length (blob_at blobs o.slot) → taken ≡ get_or blobs o.slot d → p ≡ part_in lo hi o
-    → bytes ≡ take p.extent.len (drop (p.extent.at - lo) buf) → now ≡ written taken p.from bytes
-    → set blobs o.slot now ≡ set blobs o.slot (written (blob_at blobs o.slot) (buffer_cell lo hi buf o).0 (buffer_cell lo hi buf o).1)
-collected_entry lo hi buf o p blobs d taken bytes now some fit is part of e =
-    ap (λ (b : List ℕ). set blobs o.slot b)
-    (e
-    ∙ ap (λ (b : List ℕ). written b p.from bytes) (is ∙ get_or_default blobs o.slot d [] (slot_below blobs o some fit))
-    ∙ ap (λ (b : List ℕ). written (blob_at blobs o.slot) p.from b) of
-    ∙ ap (λ (q : Owned). written (blob_at blobs o.slot) q.from (take q.extent.len (drop (q.extent.at - lo) buf))) part)
 
 one_slot : (k : ℕ) (list : List Owned) (i : ℕ) (o d : Owned) → i < length list → o ≡ get_or list i d
     → of_slot k (take (i + 1) list) ≡ of_slot k (take i list) ++ of_slot k (o ∷ [])
@@ -121,20 +102,6 @@ collected_twice lo hi buf a b old mid now k h g =
 
 -- ---- a buffer that has the file's bytes
 
-buffer_is_read : (base : ℕ) (file buf : List ℕ) (lo n : ℕ) (o : Owned) → base ≤ lo → buf ≡ read file (lo - base) n
-    → buffer_cell lo (lo + n) buf o ≡ ((part_in lo (lo + n) o).from, read file ((part_in lo (lo + n) o).extent.at - base) (part_in lo (lo + n) o).extent.len)
-buffer_is_read base file buf lo n o h e =
-    let place : lo - base + ((part_in lo (lo + n) o).extent.at - lo) ≡ (part_in lo (lo + n) o).extent.at - base = omega arith in
-    ap (λ (b : List ℕ). let c : Cell = ((part_in lo (lo + n) o).from, b) in c)
-    (ap (λ (b : List ℕ). take (part_in lo (lo + n) o).extent.len (drop ((part_in lo (lo + n) o).extent.at - lo) b)) e
-    ∙ read_part file (lo - base) n ((part_in lo (lo + n) o).extent.at - lo) (part_in lo (lo + n) o).extent.len (omega arith)
-    ∙ ap (λ (x : ℕ). read file x (part_in lo (lo + n) o).extent.len) place)
-
-pub buffer_cells : (base : ℕ) (file buf : List ℕ) (lo n : ℕ) (os : List Owned) → base ≤ lo → buf ≡ read file (lo - base) n
-    → map (λ o. buffer_cell lo (lo + n) buf o) os ≡ parts_got base file lo (lo + n) os
-buffer_cells base file buf lo n [] h e = refl
-buffer_cells base file buf lo n (o ∷ os) h e = λ i. buffer_is_read base file buf lo n o h e i ∷ buffer_cells base file buf lo n os h e i
-
 -- blobs that were filled from a buffer which was read, where the bytes are told
 pub collected_read : (held : Option (List ℕ)) (base : ℕ) (buf : List ℕ) (lo n : ℕ) (list : List Owned) (old now : List (List ℕ)) → base ≤ lo
     → IfSome held (λ file. buf ≡ read file (lo - base) n)
@@ -157,17 +124,17 @@ told_all None P f = tt
 told_all (Some file) P f = f file
 
 -- blobs that were filled up to a window, and from it
-pub got_more : (held here : Option (List ℕ)) (base there n : ℕ) (list left : List Owned) (place size : ℕ) (w : Window) (begun : List Owned) (stop : ℕ)
+pub got_more : (held here : Option (List ℕ)) (base there n : ℕ) (list left : List Owned) (place size : ℕ) (w : Window) (served : List Owned) (stop : ℕ)
     (old mid now : List (List ℕ)) → here ≡ held → there ≡ base → LieOn base n list → HaveOnePlace list → FitBlobs old list → IsPast place list left
-    → IsNext left place size w begun stop → IfSome held (λ file. HasGotPart 0 place base file list old mid)
-    → IfSome here (λ file. HasGotPart w.hull.at (w.hull.at + w.hull.len) there file begun mid now) → IfSome held (λ file. HasGotPart 0 stop base file list old now)
-got_more held here base there n list left place size w begun stop old mid now same begin on once fit p k got read =
-    told_step held (λ file. HasGotPart 0 place base file list old mid) (λ file. HasGotPart w.hull.at (w.hull.at + w.hull.len) base file begun mid now)
+    → IsNext left place size w served stop → IfSome held (λ file. HasGotPart 0 place base file list old mid)
+    → IfSome here (λ file. HasGotPart w.hull.at (w.hull.at + w.hull.len) there file served mid now) → IfSome held (λ file. HasGotPart 0 stop base file list old now)
+got_more held here base there n list left place size w served stop old mid now same begin on once fit p k got read =
+    told_step held (λ file. HasGotPart 0 place base file list old mid) (λ file. HasGotPart w.hull.at (w.hull.at + w.hull.len) base file served mid now)
     (λ file. HasGotPart 0 stop base file list old now)
-    (λ file g h. got_step base file list left place size w begun stop old mid now (λ o m. (on o m).0) once fit p k g h)
+    (λ file g h. got_step base file list left place size w served stop old mid now (λ o m. (on o m).0) once fit p k g h)
     got
-    (subst (λ (b : ℕ). IfSome held (λ file. HasGotPart w.hull.at (w.hull.at + w.hull.len) b file begun mid now)) begin
-    (subst (λ (m : Option (List ℕ)). IfSome m (λ file. HasGotPart w.hull.at (w.hull.at + w.hull.len) there file begun mid now)) same read))
+    (subst (λ (b : ℕ). IfSome held (λ file. HasGotPart w.hull.at (w.hull.at + w.hull.len) b file served mid now)) begin
+    (subst (λ (m : Option (List ℕ)). IfSome m (λ file. HasGotPart w.hull.at (w.hull.at + w.hull.len) there file served mid now)) same read))
 
 pub got_all : (held : Option (List ℕ)) (base : ℕ) (list left : List Owned) (place : ℕ) (old now : List (List ℕ)) → left ≡ [] → IsPast place list left
     → IfSome held (λ file. HasGotPart 0 place base file list old now) → IfSome held (λ file. HasGot base file list old now)
@@ -179,10 +146,3 @@ pub got_none : (held : Option (List ℕ)) (base n : ℕ) (list : List Owned) (bl
     → IfSome held (λ file. HasGotPart 0 0 base file list blobs blobs)
 got_none held base n list blobs on fit =
     told_all held (λ file. HasGotPart 0 0 base file list blobs blobs) (λ file. got_begin base file list blobs (λ o m. (on o m).0) fit)
-
--- what is read of a file that begins at 0
-pub got_whole : (file : List ℕ) (list : List Owned) → got_cells 0 file list ≡ map (λ o. got_cell file o) list
-got_whole file [] = refl
-got_whole file (o ∷ list) =
-    let place : o.extent.at - 0 ≡ o.extent.at = omega arith in
-    λ i. (o.from, read file (place i) o.extent.len) ∷ got_whole file list i

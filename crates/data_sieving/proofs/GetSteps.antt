@@ -1,26 +1,27 @@
 -- Entries that are read window by window, each into its blob: before the first window, one window more, after the last.
-use Rattle.std.proofs.Common.{◌≡◌, ℕ, ◌+◌, ◌-◌, ◌<◌, ◌≤◌, inl, inr, refl, sym, ◌∙◌, ap, subst, List, [], ◌∷◌, ◌++◌, length, Bool, true, false, min, Option, Some, None, arith}
+use Rattle.std.proofs.Common.{◌≡◌, ℕ, ◌+◌, ◌-◌, ◌<◌, ◌≤◌, inl, inr, refl, sym, ◌∙◌, ap, subst, List, [], ◌++◌, length, Bool, true, false, Option, Some, None, arith}
 use Rattle.std.proofs.lemmas.Grind.{fold-append}
-use Rattle.std.specs.Prelude.{map, nat_lt, ◌==◌}
+use Rattle.std.specs.Prelude.{nat_lt, ◌==◌}
 use borrow.Author.Tests.{ltb-true, ltb-false, eqb-true}
 use Rattle.serial_spec.proofs.MemberLaws.{in_filter, filter_in}
 use Rattle.list_laws.proofs.Truth.{equal_true}
-use Rattle.serial_spec.proofs.CellLaws.{read_long}
 use Rattle.nc_base.specs.declared.plan.Owned.{Owned}
 use Rattle.file_domains.specs.declared.walk.Window.{Window}
 use Rattle.serial_spec.specs.File.{written}
-use Rattle.serial_spec.specs.Said.{said_at, said_by, Says, IsOneValued, write_cells, IsWithin}
+use Rattle.serial_spec.specs.Said.{said_at, said_by, Says, IsOneValued, write_cells}
 use Rattle.overlay_laws.specs.Entries.{In}
 use Rattle.overlay_laws.proofs.SaidLaws.{same_said, said_is, said_in_any_order}
 use Rattle.overlay_laws.proofs.WindowLaws.{append_within, said_by_joined}
 use Rattle.overlay_laws.proofs.EntryLaws.{says_left, says_right, says_cases}
 use Rattle.overlay_laws.proofs.HullLaws.{in_either}
-use Rattle.data_sieving.specs.Sieving.{of_slot, got_cells, blob_at, HasGot, FitBlobs, places_of, HaveOnePlace}
-use Rattle.data_sieving.specs.Walked.{part_at, part_in, IsCovered, IsPast, IsNext, HasGotPart}
-use Rattle.data_sieving.proofs.CoveredBytes.{past_covered}
-use Rattle.data_sieving.proofs.PastSteps.{past_all, past_kept}
-use Rattle.data_sieving.proofs.ReachSteps.{begun_in}
-use Rattle.data_sieving.proofs.ReadParts.{parts_got, IsRead, got_says, says_got, read_once}
+use Rattle.data_sieving.specs.Sieving.{of_slot, HasGot, FitBlobs, HaveOnePlace}
+use Rattle.aggregator_rounds.specs.EntryParts.{got_cells, blob_at, places_of, IsCovered}
+use Rattle.aggregator_rounds.specs.Left.{IsPast}
+use Rattle.data_sieving.specs.Walked.{IsNext, HasGotPart}
+use Rattle.aggregator_rounds.proofs.CoveredBytes.{past_covered}
+use Rattle.aggregator_rounds.proofs.PastSteps.{past_all, past_kept}
+use Rattle.data_sieving.proofs.ReachSteps.{served_in}
+use Rattle.aggregator_rounds.proofs.ReadParts.{parts_got, IsRead, got_says, says_got, read_as, read_once, parts_within, whole_parts}
 
 -- ---- the entries of a slot
 
@@ -30,94 +31,69 @@ in_slot k list o m = let r = filter_in (λ (q : Owned). q.slot == k) list o m in
 pub slot_in : (k : ℕ) (list : List Owned) (o : Owned) → In list o → o.slot ≡ k → In (of_slot k list) o
 slot_in k list o m e = in_filter (λ (q : Owned). q.slot == k) list o m (equal_true o.slot k e)
 
-pub parts_within : (base : ℕ) (file : List ℕ) (lo hi n : ℕ) (os : List Owned) → ((o : Owned) → In os o → o.from + o.extent.len ≤ n) → IsWithin (parts_got base file lo hi os) n
-parts_within base file lo hi n [] h = tt
-parts_within base file lo hi n (o ∷ os) h =
-    let room = h o (inl refl) in
-    (omega (arith, read_long file ((part_in lo hi o).extent.at - base) (part_in lo hi o).extent.len), parts_within base file lo hi n os (λ q m. h q (inr m)))
-
 -- ---- one window more
 
-slot_said : (base : ℕ) (file : List ℕ) (k : ℕ) (list left : List Owned) (place size : ℕ) (w : Window) (begun : List Owned) (stop y : ℕ)
-    → ((o : Owned) → In list o → base ≤ o.extent.at) → IsOneValued (places_of (of_slot k list)) → IsPast place list left → IsNext left place size w begun stop
+slot_said : (base : ℕ) (file : List ℕ) (k : ℕ) (list left : List Owned) (place size : ℕ) (w : Window) (served : List Owned) (stop y : ℕ)
+    → ((o : Owned) → In list o → base ≤ o.extent.at) → IsOneValued (places_of (of_slot k list)) → IsPast place list left → IsNext left place size w served stop
     → said_at (said_by (parts_got base file 0 stop (of_slot k list))) y
-    ≡ said_at (said_by (parts_got base file 0 place (of_slot k list) ++ parts_got base file w.hull.at (w.hull.at + w.hull.len) (of_slot k begun))) y
-slot_said base file k list left place size w begun stop y on once p n =
+    ≡ said_at (said_by (parts_got base file 0 place (of_slot k list) ++ parts_got base file w.hull.at (w.hull.at + w.hull.len) (of_slot k served))) y
+slot_said base file k list left place size w served stop y on once p n =
     said_in_any_order (said_by (parts_got base file 0 stop (of_slot k list)))
-    (said_by (parts_got base file 0 place (of_slot k list) ++ parts_got base file w.hull.at (w.hull.at + w.hull.len) (of_slot k begun)))
+    (said_by (parts_got base file 0 place (of_slot k list) ++ parts_got base file w.hull.at (w.hull.at + w.hull.len) (of_slot k served)))
     (read_once base file 0 stop (of_slot k list) slot_on once) there back y
   where
     slot_on : (o : Owned) → In (of_slot k list) o → base ≤ o.extent.at
     slot_on o m = on o (in_slot k list o m).0
 
-    begun_on : (o : Owned) → In (of_slot k begun) o → base ≤ o.extent.at
-    begun_on o m = on o (begun_in place stop list left begun o p n.begun (in_slot k begun o m).0)
+    served_on : (o : Owned) → In (of_slot k served) o → base ≤ o.extent.at
+    served_on o m = on o (served_in place stop list left served o p n.front (in_slot k served o m).0)
 
-    joined : said_by (parts_got base file 0 place (of_slot k list) ++ parts_got base file w.hull.at (w.hull.at + w.hull.len) (of_slot k begun))
-        ≡ said_by (parts_got base file 0 place (of_slot k list)) ++ said_by (parts_got base file w.hull.at (w.hull.at + w.hull.len) (of_slot k begun))
-    joined = said_by_joined (parts_got base file 0 place (of_slot k list)) (parts_got base file w.hull.at (w.hull.at + w.hull.len) (of_slot k begun))
+    joined : said_by (parts_got base file 0 place (of_slot k list) ++ parts_got base file w.hull.at (w.hull.at + w.hull.len) (of_slot k served))
+        ≡ said_by (parts_got base file 0 place (of_slot k list)) ++ said_by (parts_got base file w.hull.at (w.hull.at + w.hull.len) (of_slot k served))
+    joined = said_by_joined (parts_got base file 0 place (of_slot k list)) (parts_got base file w.hull.at (w.hull.at + w.hull.len) (of_slot k served))
 
-    has_begun : (r : Owned) (x : ℕ) → In list r → place ≤ x → x < stop → r.extent.at ≤ x → x < r.extent.at + r.extent.len → In begun r
-    has_begun r x m l h b e =
-        elim (in_either begun n.begun.rest r (subst (λ (q : List Owned). In q r) n.begun.joined (past_kept place list left r p m (omega arith)))) [
+    is_served : (r : Owned) (x : ℕ) → In list r → place ≤ x → x < stop → r.extent.at ≤ x → x < r.extent.at + r.extent.len → In served r
+    is_served r x m l h b e =
+        elim (in_either served n.front.rest r (subst (λ (q : List Owned). In q r) n.front.joined (past_kept place list left r p m (omega arith)))) [
           | inl i ↦ i
-          | inr i ↦ (let f = n.begun.later r i in absurd (omega arith))
+          | inr i ↦ (let f = n.front.later r i in absurd (omega arith))
         ]
 
-    in_window : (x v : ℕ) (r : IsRead base file 0 stop (of_slot k list) x v) → place ≤ r.place → IsRead base file w.hull.at (w.hull.at + w.hull.len) (of_slot k begun) x v
+    in_window : (x v : ℕ) (r : IsRead base file 0 stop (of_slot k list) x v) → place ≤ r.place → IsRead base file w.hull.at (w.hull.at + w.hull.len) (of_slot k served) x v
     in_window x v r l =
         let m = in_slot k list r.by r.inside in
-        let b = has_begun r.by r.place m.0 l r.high r.begin r.end in
+        let b = is_served r.by r.place m.0 l r.high r.begin r.end in
         let c : IsCovered list r.place = record { by = r.by; inside = m.0; low = r.begin; high = r.end } in
-        let d : IsCovered begun r.place = record { by = r.by; inside = b; low = r.begin; high = r.end } in
-        record {
-          by = r.by;
-          inside = slot_in k begun r.by b m.1;
-          place = r.place;
-          low = n.least r.place (past_covered place list left r.place p l c) l;
-          high = n.hull.each r.place d r.high;
-          begin = r.begin;
-          end = r.end;
-          from = r.from;
-          byte = r.byte;
-        }
+        let d : IsCovered served r.place = record { by = r.by; inside = b; low = r.begin; high = r.end } in
+        read_as base file 0 stop w.hull.at (w.hull.at + w.hull.len) (of_slot k list) (of_slot k served) x v r
+        (n.least r.place (past_covered place list left r.place p l c) l) (n.hull.each r.place d r.high) (slot_in k served r.by b m.1)
 
     earlier : (x v : ℕ) (r : IsRead base file 0 stop (of_slot k list) x v) → r.place < place → IsRead base file 0 place (of_slot k list) x v
-    earlier x v r l = record {
-      by = r.by;
-      inside = r.inside;
-      place = r.place;
-      low = omega arith;
-      high = l;
-      begin = r.begin;
-      end = r.end;
-      from = r.from;
-      byte = r.byte;
-    }
+    earlier x v r l = read_as base file 0 stop 0 place (of_slot k list) (of_slot k list) x v r (omega arith) l r.inside
 
     there_by : (x v : ℕ) (r : IsRead base file 0 stop (of_slot k list) x v) (t : Bool) → nat_lt r.place place ≡ t
-        → Says (said_by (parts_got base file 0 place (of_slot k list)) ++ said_by (parts_got base file w.hull.at (w.hull.at + w.hull.len) (of_slot k begun))) x v
+        → Says (said_by (parts_got base file 0 place (of_slot k list)) ++ said_by (parts_got base file w.hull.at (w.hull.at + w.hull.len) (of_slot k served))) x v
     there_by x v r true e =
-        says_left (said_by (parts_got base file 0 place (of_slot k list))) (said_by (parts_got base file w.hull.at (w.hull.at + w.hull.len) (of_slot k begun))) x v
+        says_left (said_by (parts_got base file 0 place (of_slot k list))) (said_by (parts_got base file w.hull.at (w.hull.at + w.hull.len) (of_slot k served))) x v
         (says_got base file 0 place (of_slot k list) x v slot_on (earlier x v r (ltb-true _ _ e)))
     there_by x v r false e =
-        says_right (said_by (parts_got base file 0 place (of_slot k list))) (said_by (parts_got base file w.hull.at (w.hull.at + w.hull.len) (of_slot k begun))) x v
-        (says_got base file w.hull.at (w.hull.at + w.hull.len) (of_slot k begun) x v begun_on (in_window x v r (ltb-false _ _ e)))
+        says_right (said_by (parts_got base file 0 place (of_slot k list))) (said_by (parts_got base file w.hull.at (w.hull.at + w.hull.len) (of_slot k served))) x v
+        (says_got base file w.hull.at (w.hull.at + w.hull.len) (of_slot k served) x v served_on (in_window x v r (ltb-false _ _ e)))
 
     there : (x v : ℕ) → Says (said_by (parts_got base file 0 stop (of_slot k list))) x v
-        → Says (said_by (parts_got base file 0 place (of_slot k list) ++ parts_got base file w.hull.at (w.hull.at + w.hull.len) (of_slot k begun))) x v
+        → Says (said_by (parts_got base file 0 place (of_slot k list) ++ parts_got base file w.hull.at (w.hull.at + w.hull.len) (of_slot k served))) x v
     there x v h =
         let r = got_says base file 0 stop (of_slot k list) x v slot_on h in
         subst (λ ps. Says ps x v) (sym joined) (there_by x v r (nat_lt r.place place) refl)
 
-    back : (x v : ℕ) → Says (said_by (parts_got base file 0 place (of_slot k list) ++ parts_got base file w.hull.at (w.hull.at + w.hull.len) (of_slot k begun))) x v
+    back : (x v : ℕ) → Says (said_by (parts_got base file 0 place (of_slot k list) ++ parts_got base file w.hull.at (w.hull.at + w.hull.len) (of_slot k served))) x v
         → Says (said_by (parts_got base file 0 stop (of_slot k list))) x v
     back x v h =
-        elim (says_cases (said_by (parts_got base file 0 place (of_slot k list))) (said_by (parts_got base file w.hull.at (w.hull.at + w.hull.len) (of_slot k begun))) x v
+        elim (says_cases (said_by (parts_got base file 0 place (of_slot k list))) (said_by (parts_got base file w.hull.at (w.hull.at + w.hull.len) (of_slot k served))) x v
         (subst (λ ps. Says ps x v) joined h)) [
           | inl g ↦ says_got base file 0 stop (of_slot k list) x v slot_on (grown (got_says base file 0 place (of_slot k list) x v slot_on g))
           | inr g ↦ says_got base file 0 stop (of_slot k list) x v slot_on
-              (widened (got_says base file w.hull.at (w.hull.at + w.hull.len) (of_slot k begun) x v begun_on g))
+              (widened (got_says base file w.hull.at (w.hull.at + w.hull.len) (of_slot k served) x v served_on g))
         ]
       where
         short : w.hull.at + w.hull.len ≤ stop
@@ -127,30 +103,14 @@ slot_said base file k list left place size w begun stop y on once p n =
         low = n.from
 
         grown : IsRead base file 0 place (of_slot k list) x v → IsRead base file 0 stop (of_slot k list) x v
-        grown r = record {
-          by = r.by;
-          inside = r.inside;
-          place = r.place;
-          low = omega arith;
-          high = (let l = r.high in omega arith);
-          begin = r.begin;
-          end = r.end;
-          from = r.from;
-          byte = r.byte;
-        }
+        grown r = let l = r.high in read_as base file 0 place 0 stop (of_slot k list) (of_slot k list) x v r (omega arith) (omega arith) r.inside
 
-        widened : IsRead base file w.hull.at (w.hull.at + w.hull.len) (of_slot k begun) x v → IsRead base file 0 stop (of_slot k list) x v
-        widened r = record {
-          by = r.by;
-          inside = (let m = in_slot k begun r.by r.inside in slot_in k list r.by (begun_in place stop list left begun r.by p n.begun m.0) m.1);
-          place = r.place;
-          low = omega arith;
-          high = (let l = r.high in omega arith);
-          begin = r.begin;
-          end = r.end;
-          from = r.from;
-          byte = r.byte;
-        }
+        widened : IsRead base file w.hull.at (w.hull.at + w.hull.len) (of_slot k served) x v → IsRead base file 0 stop (of_slot k list) x v
+        widened r =
+            let l = r.high in
+            let m = in_slot k served r.by r.inside in
+            read_as base file w.hull.at (w.hull.at + w.hull.len) 0 stop (of_slot k served) (of_slot k list) x v r (omega arith) (omega arith)
+            (slot_in k list r.by (served_in place stop list left served r.by p n.front m.0) m.1)
 
 fit_slot : (k : ℕ) (blobs : List (List ℕ)) (list : List Owned) → FitBlobs blobs list → (o : Owned) → In (of_slot k list) o → o.from + o.extent.len ≤ length (blob_at blobs k)
 fit_slot k blobs list fit o m =
@@ -158,22 +118,22 @@ fit_slot k blobs list fit o m =
     subst (λ (j : ℕ). o.from + o.extent.len ≤ length (blob_at blobs j)) r.1 (fit o r.0)
 
 -- blobs with what lies below a place
-pub got_step : (base : ℕ) (file : List ℕ) (list left : List Owned) (place size : ℕ) (w : Window) (begun : List Owned) (stop : ℕ) (old mid now : List (List ℕ))
-    → ((o : Owned) → In list o → base ≤ o.extent.at) → HaveOnePlace list → FitBlobs old list → IsPast place list left → IsNext left place size w begun stop
-    → HasGotPart 0 place base file list old mid → HasGotPart w.hull.at (w.hull.at + w.hull.len) base file begun mid now → HasGotPart 0 stop base file list old now
-got_step base file list left place size w begun stop old mid now on once fit p n g h k =
+pub got_step : (base : ℕ) (file : List ℕ) (list left : List Owned) (place size : ℕ) (w : Window) (served : List Owned) (stop : ℕ) (old mid now : List (List ℕ))
+    → ((o : Owned) → In list o → base ≤ o.extent.at) → HaveOnePlace list → FitBlobs old list → IsPast place list left → IsNext left place size w served stop
+    → HasGotPart 0 place base file list old mid → HasGotPart w.hull.at (w.hull.at + w.hull.len) base file served mid now → HasGotPart 0 stop base file list old now
+got_step base file list left place size w served stop old mid now on once fit p n g h k =
     h k
-    ∙ ap (λ (b : List ℕ). write_cells b (parts_got base file w.hull.at (w.hull.at + w.hull.len) (of_slot k begun))) (g k)
+    ∙ ap (λ (b : List ℕ). write_cells b (parts_got base file w.hull.at (w.hull.at + w.hull.len) (of_slot k served))) (g k)
     ∙ sym (fold-append (λ f cell. written f cell.0 cell.1) (blob_at old k) (parts_got base file 0 place (of_slot k list))
-    (parts_got base file w.hull.at (w.hull.at + w.hull.len) (of_slot k begun)))
-    ∙ same_said (parts_got base file 0 place (of_slot k list) ++ parts_got base file w.hull.at (w.hull.at + w.hull.len) (of_slot k begun))
+    (parts_got base file w.hull.at (w.hull.at + w.hull.len) (of_slot k served)))
+    ∙ same_said (parts_got base file 0 place (of_slot k list) ++ parts_got base file w.hull.at (w.hull.at + w.hull.len) (of_slot k served))
     (parts_got base file 0 stop (of_slot k list)) (blob_at old k)
-    (append_within (parts_got base file 0 place (of_slot k list)) (parts_got base file w.hull.at (w.hull.at + w.hull.len) (of_slot k begun)) (length (blob_at old k))
+    (append_within (parts_got base file 0 place (of_slot k list)) (parts_got base file w.hull.at (w.hull.at + w.hull.len) (of_slot k served)) (length (blob_at old k))
     (parts_within base file 0 place (length (blob_at old k)) (of_slot k list) (fit_slot k old list fit))
-    (parts_within base file w.hull.at (w.hull.at + w.hull.len) (length (blob_at old k)) (of_slot k begun)
-    (λ o m. let r = in_slot k begun o m in fit_slot k old list fit o (slot_in k list o (begun_in place stop list left begun o p n.begun r.0) r.1))))
+    (parts_within base file w.hull.at (w.hull.at + w.hull.len) (length (blob_at old k)) (of_slot k served)
+    (λ o m. let r = in_slot k served o m in fit_slot k old list fit o (slot_in k list o (served_in place stop list left served o p n.front r.0) r.1))))
     (parts_within base file 0 stop (length (blob_at old k)) (of_slot k list) (fit_slot k old list fit))
-    (λ y. sym (slot_said base file k list left place size w begun stop y on (once k) p n))
+    (λ y. sym (slot_said base file k list left place size w served stop y on (once k) p n))
 
 -- ---- before the first window, and after the last
 
@@ -192,21 +152,10 @@ got_begin base file list blobs on fit k =
     (λ y. sym (said_none (said_by (parts_got base file 0 0 (of_slot k list))) y
     (λ v h. let r = got_says base file 0 0 (of_slot k list) y v (λ o m. on o (in_slot k list o m).0) h in let l = r.high in absurd (omega arith))))
 
-whole_part : (place : ℕ) (o : Owned) → o.extent.at + o.extent.len ≤ place → part_in 0 place o ≡ o
-whole_part place o h =
-    let begin : part_at 0 place o ≡ o.extent.at = omega arith in
-    let long : min place (o.extent.at + o.extent.len) - part_at 0 place o ≡ o.extent.len = omega arith in
-    let from : o.from + min o.extent.len (part_at 0 place o - o.extent.at) ≡ o.from = omega arith in
-    λ i. record { extent = record { at = begin i; len = long i }; rank = o.rank; request = o.request; slot = o.slot; from = from i }
-
-pub whole_parts : (place : ℕ) (os : List Owned) → ((o : Owned) → In os o → o.extent.at + o.extent.len ≤ place) → map (λ o. part_in 0 place o) os ≡ os
-whole_parts place [] h = refl
-whole_parts place (o ∷ os) h = λ i. whole_part place o (h o (inl refl)) i ∷ whole_parts place os (λ q m. h q (inr m)) i
-
 pub got_end : (base : ℕ) (file : List ℕ) (list left : List Owned) (place : ℕ) (old now : List (List ℕ)) → left ≡ [] → IsPast place list left
     → HasGotPart 0 place base file list old now → HasGot base file list old now
 got_end base file list left place old now none p g k =
-    g k ∙ ap (λ (os : List Owned). write_cells (blob_at old k) (got_cells base file os)) (whole_parts place (of_slot k list) ended)
+    g k ∙ ap (λ (os : List Owned). write_cells (blob_at old k) (got_cells base file os)) (whole_parts place (of_slot k list) ends)
   where
-    ended : (o : Owned) → In (of_slot k list) o → o.extent.at + o.extent.len ≤ place
-    ended o m = past_all place list left o none p (in_slot k list o m).0
+    ends : (o : Owned) → In (of_slot k list) o → o.extent.at + o.extent.len ≤ place
+    ends o m = past_all place list left o none p (in_slot k list o m).0

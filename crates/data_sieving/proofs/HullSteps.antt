@@ -10,10 +10,10 @@ use Rattle.file_domains.specs.declared.walk.Window.{Window}
 use Rattle.overlay_laws.specs.Entries.{In}
 use Rattle.overlay_laws.specs.Lines.{extents, IsByPlace}
 use Rattle.overlay_laws.proofs.HullLaws.{in_either, in_left, in_right}
-use Rattle.data_sieving.specs.Sieving.{AreFilled}
-use Rattle.data_sieving.specs.Walked.{IsCovered, IsHull, Reach}
-use Rattle.data_sieving.proofs.CoveredBytes.{covered_left}
-use Rattle.data_sieving.proofs.SplitSteps.{before_or_later}
+use Rattle.aggregator_rounds.specs.EntryParts.{AreFilled, IsCovered}
+use Rattle.data_sieving.specs.Walked.{IsHull, Reach}
+use Rattle.aggregator_rounds.proofs.CoveredBytes.{covered_left}
+use Rattle.aggregator_rounds.proofs.SplitSteps.{before_or_later}
 
 -- the entries seen so far reach up to a place, with a hole before it or not
 pub record Scanned (at stop end : ℕ) (solid : Bool) (whole seen : List Owned) (count : ℕ) : Type 0 where
@@ -77,7 +77,7 @@ scan at stop end next count solid more_solid whole seen more o e apart filled be
     full_by s x l m true f = more_seen seen more o x e (h.full (keeps s).0 x l (ltb-true _ _ f))
     full_by s x l m false f =
         let past : end ≤ x = ltb-false _ _ f in
-        let begun = (keeps s).1 in
+        let near = (keeps s).1 in
         more_by seen more o x e (omega arith) (omega arith)
 
     gap : end < o.extent.at → IsCovered whole end → ⊥
@@ -126,7 +126,7 @@ scanned_more at stop end next i solid more_solid carried fresh o d l e sorted fi
 -- those that were carried leave no hole
 pub reach_scanned : (at stop end : ℕ) (carried fresh : List Owned) → at < stop → ((o : Owned) → In carried o → (o.extent.at ≤ at) × (at < o.extent.at + o.extent.len))
     → Reach at stop carried end → Scanned at stop end true (carried ++ fresh) (carried ++ take 0 fresh) (length carried + 0)
-reach_scanned at stop end carried fresh room begun r = record {
+reach_scanned at stop end carried fresh room across r = record {
   low = r.low;
   high = r.high;
   some = λ g. further carried (λ o m. m) (omega arith);
@@ -138,7 +138,7 @@ reach_scanned at stop end carried fresh room begun r = record {
   where
     further : (list : List Owned) → ((o : Owned) → In list o → In carried o) → 0 < length list → at < end
     further [] h g = absurd (omega arith)
-    further (o ∷ list) h g = let m = r.each o (h o (inl refl)) in let past = (begun o (h o (inl refl))).1 in omega arith
+    further (o ∷ list) h g = let m = r.each o (h o (inl refl)) in let past = (across o (h o (inl refl))).1 in omega arith
 
 pub reach_none : (at stop : ℕ) (list : List Owned) → at < stop → Reach at stop (take 0 list) at
 reach_none at stop list room = record { low = omega arith; high = omega arith; each = λ o m. absurd m; all = λ x l m. absurd (omega arith) }
@@ -147,7 +147,7 @@ pub reach_more : (at stop end next i : ℕ) (list : List Owned) (d : Owned) → 
     → ((o : Owned) → In list o → (o.extent.at ≤ at) × (at < o.extent.at + o.extent.len))
     → next ≡ max end (min ((get_or list i d).extent.at + (get_or list i d).extent.len) stop) → at < stop
     → Reach at stop (take i list) end → Reach at stop (take (i + 1) list) next
-reach_more at stop end next i list d l begun n room r = record {
+reach_more at stop end next i list d l across n room r = record {
   low = (let h = r.low in omega arith);
   high = (let h = r.high in omega arith);
   each = λ o m. elim (more_in (take i list) (take (i + 1) list) (get_or list i d) o (take_more list i d l) m) [
@@ -161,7 +161,7 @@ reach_more at stop end next i list d l begun n room r = record {
     by_end x h m true f = more_seen (take i list) (take (i + 1) list) (get_or list i d) x (take_more list i d l) (r.all x h (ltb-true _ _ f))
     by_end x h m false f =
         let past : end ≤ x = ltb-false _ _ f in
-        let begin = (begun (get_or list i d) (entry_in list i d l)).0 in
+        let begin = (across (get_or list i d) (entry_in list i d l)).0 in
         more_by (take i list) (take (i + 1) list) (get_or list i d) x (take_more list i d l) (omega arith) (omega arith)
 
 pub all_scanned : (at stop end i : ℕ) (solid : Bool) (carried fresh : List Owned) (w : Window) → length fresh ≤ i → 1 ≤ length carried + i

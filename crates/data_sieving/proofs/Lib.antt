@@ -1,13 +1,9 @@
-pub mod PastSteps
-pub mod CoveredBytes
-pub mod SplitSteps
+pub mod LeftBytes
 pub mod HullSteps
 pub mod WindowSteps
 pub mod CallSteps
 pub mod PutSteps
-pub mod PartSteps
 pub mod ReachSteps
-pub mod ReadParts
 pub mod GetSteps
 pub mod CollectedSteps
 pub mod NextSteps

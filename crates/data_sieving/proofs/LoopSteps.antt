@@ -1,5 +1,5 @@
 -- One window of a loop over all windows.
-use Rattle.std.proofs.Common.{◌≡◌, ℕ, ◌+◌, ◌^◌, ◌≤◌, sym, ◌∙◌, ap, subst, List, [], ◌++◌, length, Option, arith}
+use Rattle.std.proofs.Common.{Bool, ◌≡◌, ℕ, ◌+◌, ◌^◌, ◌≤◌, ◌∙◌, ap, subst, List, [], ◌++◌, length, Option, arith}
 use Rattle.std.specs.Prelude.{IfSome, flat_map}
 use Rattle.serial_spec.proofs.MemberLaws.{at_in}
 use Rattle.overlay_laws.specs.Entries.{In}
@@ -8,29 +8,26 @@ use Rattle.nc_base.specs.declared.plan.Post.{Post}
 use Rattle.nc_base.specs.declared.step.DiskCall.{DiskCall}
 use Rattle.file_domains.specs.declared.walk.Window.{Window}
 use Rattle.nc_outside.specs.Told.{after, with_end, BothTold}
-use Rattle.serial_spec.specs.DeviceCalls.{overlays, loads}
+use Rattle.serial_spec.specs.DeviceCalls.{overlays}
 use Rattle.serial_spec.specs.Said.{write_cells, moved_down}
+use Rattle.overlay_laws.specs.Walks.{told_of}
 use Rattle.overlay_laws.specs.Windows.{clips}
 use Rattle.overlay_laws.specs.Lines.{extents, IsByPlace, EndBelow}
-use Rattle.overlay_laws.specs.Changes.{IsBetween, IsBegun, load_calls, store_calls}
+use Rattle.overlay_laws.specs.Changes.{IsBetween, IsBegun, store_calls}
 use Rattle.aggregator_rounds.specs.Pieces.{told_window}
-use Rattle.data_sieving.specs.Sieving.{source_of, put_cells, windows_of, AreFilled, LieOn}
-use Rattle.data_sieving.specs.Walked.{IsPast, AreLeft, HaveBegun, IsNext, HasDone, windows_from}
-use Rattle.data_sieving.proofs.PastSteps.{past_none}
+use Rattle.aggregator_rounds.specs.EntryParts.{source_of, AreFilled}
+use Rattle.data_sieving.specs.Sieving.{put_cells, entry_windows, LieOn}
+use Rattle.aggregator_rounds.specs.Left.{IsPast}
+use Rattle.data_sieving.specs.Walked.{AreLeft, LieAcross, IsNext, HasDone, windows_from}
 use Rattle.data_sieving.proofs.WindowSteps.{window_bytes, next_told, windows_next, all_windows, no_window}
 use Rattle.data_sieving.proofs.CallSteps.{none_done, done_more, all_done, done_begun}
-use Rattle.data_sieving.proofs.PutSteps.{AreCells, entries_from, entries_within, file_to, file_step, to_begin, to_end, mixed_to, held_same, held_begin, held_twice, held_refused}
+use Rattle.data_sieving.proofs.PutSteps.{AreCells, file_to, file_step, to_begin, to_end, mixed_to, held_same, held_begin, held_twice, held_refused}
+use Rattle.aggregator_rounds.proofs.EntryCells.{entries_from, entries_within}
 use Rattle.data_sieving.proofs.ReachSteps.{hull_low, hull_high}
 
 -- ---- the walk
 
-pub all_left : (list carried ahead : List Owned) → carried ≡ [] → ahead ≡ list → list ≡ carried ++ ahead
-all_left list carried ahead none all = sym (ap (λ (l : List Owned). l ++ ahead) none ∙ all)
-
-pub walk_begin : (list left : List Owned) → list ≡ left → IsPast 0 list left
-walk_begin list left all = subst (λ (l : List Owned). IsPast 0 list l) all (past_none 0 list)
-
-pub none_carried : (carried : List Owned) → carried ≡ [] → HaveBegun 0 carried
+pub none_carried : (carried : List Owned) → carried ≡ [] → LieAcross 0 carried
 none_carried carried none = λ o m. absurd (subst (λ (l : List Owned). In l o) none m)
 
 pub walk_ready : (list left : List Owned) (size : ℕ) → list ≡ left → IsByPlace (extents list) → EndBelow (2 ^ 62) (extents list) → AreFilled list → 1 ≤ size → AreLeft left 0 size
@@ -41,31 +38,24 @@ walk_ready list left size all sorted ends filled some =
 -- ---- the calls
 
 pub calls_begin : (f : List ℕ → List DiskCall) (size : ℕ) (list : List Owned) (old : Option (List DiskCall))
-    → HasDone (flat_map f (windows_of size list)) (flat_map f (windows_from size 0 list)) old old
+    → HasDone (flat_map f (entry_windows size list)) (flat_map f (windows_from size 0 list)) old old
 calls_begin f size list old =
-    none_done (flat_map f (windows_of size list)) (flat_map f (windows_from size 0 list)) old (ap (λ (ws : List (List ℕ)). flat_map f ws) (all_windows size list))
+    none_done (flat_map f (entry_windows size list)) (flat_map f (windows_from size 0 list)) old (ap (λ (ws : List (List ℕ)). flat_map f ws) (all_windows size list))
 
-pub stores_more : (list left : List Owned) (place size : ℕ) (w : Window) (begun : List Owned) (stop : ℕ) (plan : List DiskCall) (old mid now : Option (List DiskCall))
-    → IsPast place list left → AreLeft left place size → IsNext left place size w begun stop → now ≡ with_end mid (store_calls (told_window w))
-    → HasDone plan (flat_map overlays (windows_from size place list)) old mid → HasDone plan (flat_map overlays (windows_from size stop list)) old now
-stores_more list left place size w begun stop plan old mid now p l n e h =
-    done_more overlays (window_bytes left place size w) (windows_from size place list) (windows_from size stop list) plan (store_calls (told_window w)) old mid now
-    (windows_next list left place size w begun stop p l n) (ap store_calls (next_told left place size w begun stop l n)) e h
+pub calls_more : (calls : ℕ × ℕ × Bool → List DiskCall) (list left : List Owned) (place size : ℕ) (w : Window) (served : List Owned) (stop : ℕ) (plan : List DiskCall) (old mid now : Option (List DiskCall))
+    → IsPast place list left → AreLeft left place size → IsNext left place size w served stop → now ≡ with_end mid (calls (told_window w))
+    → HasDone plan (flat_map (λ ws. calls (told_of ws)) (windows_from size place list)) old mid → HasDone plan (flat_map (λ ws. calls (told_of ws)) (windows_from size stop list)) old now
+calls_more calls list left place size w served stop plan old mid now p l n e h =
+    done_more (λ ws. calls (told_of ws)) (window_bytes left place size w) (windows_from size place list) (windows_from size stop list) plan (calls (told_window w)) old mid now
+    (windows_next list left place size w served stop p l n) (ap calls (next_told left place size w served stop l n)) e h
 
-pub stores_begun : (list left : List Owned) (place size : ℕ) (w : Window) (begun : List Owned) (stop : ℕ) (plan : List DiskCall) (old mid now : Option (List DiskCall))
-    → IsPast place list left → AreLeft left place size → IsNext left place size w begun stop → IsBegun (store_calls (told_window w)) mid now
+pub stores_begun : (list left : List Owned) (place size : ℕ) (w : Window) (served : List Owned) (stop : ℕ) (plan : List DiskCall) (old mid now : Option (List DiskCall))
+    → IsPast place list left → AreLeft left place size → IsNext left place size w served stop → IsBegun (store_calls (told_window w)) mid now
     → HasDone plan (flat_map overlays (windows_from size place list)) old mid → IsBegun plan old now
-stores_begun list left place size w begun stop plan old mid now p l n b h =
+stores_begun list left place size w served stop plan old mid now p l n b h =
     done_begun plan (store_calls (told_window w)) (flat_map overlays (windows_from size stop list)) old mid now
-    (subst (λ (c : List DiskCall). HasDone plan (c ++ flat_map overlays (windows_from size stop list)) old mid) (ap store_calls (next_told left place size w begun stop l n))
-    (subst (λ (ws : List (List ℕ)). HasDone plan (flat_map overlays ws) old mid) (windows_next list left place size w begun stop p l n) h)) b
-
-pub loads_more : (list left : List Owned) (place size : ℕ) (w : Window) (begun : List Owned) (stop : ℕ) (plan : List DiskCall) (old mid now : Option (List DiskCall))
-    → IsPast place list left → AreLeft left place size → IsNext left place size w begun stop → now ≡ with_end mid (load_calls (told_window w))
-    → HasDone plan (flat_map loads (windows_from size place list)) old mid → HasDone plan (flat_map loads (windows_from size stop list)) old now
-loads_more list left place size w begun stop plan old mid now p l n e h =
-    done_more loads (window_bytes left place size w) (windows_from size place list) (windows_from size stop list) plan (load_calls (told_window w)) old mid now
-    (windows_next list left place size w begun stop p l n) (ap load_calls (next_told left place size w begun stop l n)) e h
+    (subst (λ (c : List DiskCall). HasDone plan (c ++ flat_map overlays (windows_from size stop list)) old mid) (ap store_calls (next_told left place size w served stop l n))
+    (subst (λ (ws : List (List ℕ)). HasDone plan (flat_map overlays ws) old mid) (windows_next list left place size w served stop p l n) h)) b
 
 pub calls_end : (f : List ℕ → List DiskCall) (size place : ℕ) (list left : List Owned) (plan : List DiskCall) (old now : Option (List DiskCall)) → left ≡ []
     → IsPast place list left → HasDone plan (flat_map f (windows_from size place list)) old now → now ≡ with_end old plan
@@ -85,35 +75,35 @@ pub put_begin : (held : Option (List ℕ)) (posts : List Post) (list : List Owne
 put_begin held posts list base n told on =
     held_begin held n (λ file. file_to base 0 (put_cells posts list) file) told (λ file e. to_begin base n (put_cells posts list) file (are_cells posts list base n on) e)
 
-pub put_more : (held mid now : Option (List ℕ)) (posts : List Post) (list left : List Owned) (place size : ℕ) (w : Window) (begun : List Owned) (stop base here n : ℕ)
-    → IfSome held (λ b. length b ≡ n) → LieOn base n list → here ≡ base → IsPast place list left → IsNext left place size w begun stop
+pub put_more : (held mid now : Option (List ℕ)) (posts : List Post) (list left : List Owned) (place size : ℕ) (w : Window) (served : List Owned) (stop base here n : ℕ)
+    → IfSome held (λ b. length b ≡ n) → LieOn base n list → here ≡ base → IsPast place list left → IsNext left place size w served stop
     → mid ≡ after (λ file. file_to base place (put_cells posts list) file) held
-    → now ≡ after (λ file. write_cells file (moved_down here (clips w.hull.at (w.hull.at + w.hull.len) (put_cells posts begun)))) mid
+    → now ≡ after (λ file. write_cells file (moved_down here (clips w.hull.at (w.hull.at + w.hull.len) (put_cells posts served)))) mid
     → now ≡ after (λ file. file_to base stop (put_cells posts list) file) held
-put_more held mid now posts list left place size w begun stop base here n told on same p k e f =
+put_more held mid now posts list left place size w served stop base here n told on same p k e f =
     held_twice held mid now n (λ file. file_to base place (put_cells posts list) file)
-    (λ file. write_cells file (moved_down base (clips w.hull.at (w.hull.at + w.hull.len) (put_cells posts begun))))
+    (λ file. write_cells file (moved_down base (clips w.hull.at (w.hull.at + w.hull.len) (put_cells posts served))))
     (λ file. file_to base stop (put_cells posts list) file) told
-    (λ file long. file_step (source_of posts) list left place size w begun stop base n file p k (are_cells posts list base n on)
-    (hull_low list left place size w begun stop base n on p k) (hull_high list left place size w begun stop base n on p k) long)
+    (λ file long. file_step (source_of posts) list left place size w served stop base n file p k (are_cells posts list base n on)
+    (hull_low list left place size w served stop base n on p k) (hull_high list left place size w served stop base n on p k) long)
     e
-    (subst (λ (b : ℕ). now ≡ after (λ file. write_cells file (moved_down b (clips w.hull.at (w.hull.at + w.hull.len) (put_cells posts begun)))) mid) same f)
+    (subst (λ (b : ℕ). now ≡ after (λ file. write_cells file (moved_down b (clips w.hull.at (w.hull.at + w.hull.len) (put_cells posts served)))) mid) same f)
 
-pub put_refused : (held mid now : Option (List ℕ)) (posts : List Post) (list left : List Owned) (place size : ℕ) (w : Window) (begun : List Owned) (stop base here n : ℕ)
-    → IfSome held (λ b. length b ≡ n) → LieOn base n list → here ≡ base → IsPast place list left → IsNext left place size w begun stop
+pub put_refused : (held mid now : Option (List ℕ)) (posts : List Post) (list left : List Owned) (place size : ℕ) (w : Window) (served : List Owned) (stop base here n : ℕ)
+    → IfSome held (λ b. length b ≡ n) → LieOn base n list → here ≡ base → IsPast place list left → IsNext left place size w served stop
     → mid ≡ after (λ file. file_to base place (put_cells posts list) file) held
-    → BothTold (λ old left. IsBetween old (write_cells old (moved_down here (clips w.hull.at (w.hull.at + w.hull.len) (put_cells posts begun)))) left) mid now
+    → BothTold (λ old left. IsBetween old (write_cells old (moved_down here (clips w.hull.at (w.hull.at + w.hull.len) (put_cells posts served)))) left) mid now
     → BothTold (λ old left. IsBetween old (write_cells old (moved_down base (put_cells posts list))) left) held now
-put_refused held mid now posts list left place size w begun stop base here n told on same p k e f =
+put_refused held mid now posts list left place size w served stop base here n told on same p k e f =
     held_refused held mid now n (λ file. file_to base place (put_cells posts list) file)
-    (λ file. write_cells file (moved_down base (clips w.hull.at (w.hull.at + w.hull.len) (put_cells posts begun))))
+    (λ file. write_cells file (moved_down base (clips w.hull.at (w.hull.at + w.hull.len) (put_cells posts served))))
     (λ file. file_to base stop (put_cells posts list) file) (λ file. write_cells file (moved_down base (put_cells posts list))) told
-    (λ file long. file_step (source_of posts) list left place size w begun stop base n file p k (are_cells posts list base n on)
-    (hull_low list left place size w begun stop base n on p k) (hull_high list left place size w begun stop base n on p k) long)
+    (λ file long. file_step (source_of posts) list left place size w served stop base n file p k (are_cells posts list base n on)
+    (hull_low list left place size w served stop base n on p k) (hull_high list left place size w served stop base n on p k) long)
     (λ file long. mixed_to base place n (put_cells posts list) file (are_cells posts list base n on) long)
     (λ file long. mixed_to base stop n (put_cells posts list) file (are_cells posts list base n on) long)
     e
-    (subst (λ (b : ℕ). BothTold (λ old left. IsBetween old (write_cells old (moved_down b (clips w.hull.at (w.hull.at + w.hull.len) (put_cells posts begun)))) left) mid now) same f)
+    (subst (λ (b : ℕ). BothTold (λ old left. IsBetween old (write_cells old (moved_down b (clips w.hull.at (w.hull.at + w.hull.len) (put_cells posts served)))) left) mid now) same f)
 
 pub put_end : (held now : Option (List ℕ)) (posts : List Post) (list left : List Owned) (place base n : ℕ) → IfSome held (λ b. length b ≡ n) → LieOn base n list
     → left ≡ [] → IsPast place list left → now ≡ after (λ file. file_to base place (put_cells posts list) file) held

@@ -5,9 +5,10 @@ use Rattle.serial_spec.proofs.MemberLaws.{at_in}
 use Rattle.nc_base.specs.declared.plan.Owned.{Owned}
 use Rattle.overlay_laws.specs.Entries.{In}
 use Rattle.file_domains.specs.declared.walk.Window.{Window}
-use Rattle.data_sieving.specs.Walked.{IsPast, AreLeft, AreBegun, HaveBegun, IsHull, IsNext}
-use Rattle.data_sieving.proofs.PastSteps.{past_in, past_extents, past_sorted}
-use Rattle.data_sieving.proofs.SplitSteps.{begun_all, first_begins, first_joined}
+use Rattle.aggregator_rounds.specs.Left.{IsPast, BeginBefore}
+use Rattle.data_sieving.specs.Walked.{AreLeft, LieAcross, IsHull, IsNext}
+use Rattle.aggregator_rounds.proofs.PastSteps.{past_in, past_extents, past_sorted}
+use Rattle.aggregator_rounds.proofs.SplitSteps.{front_all, first_begins, first_joined}
 use Rattle.overlay_laws.proofs.EntryLaws.{in_extents}
 
 -- the first byte that is not served lies in the first entry
@@ -19,11 +20,11 @@ at_below left place size at first l e is =
     omega arith
 
 -- what begins a window begins what is left
-pub first_below : (left begun : List Owned) (place size at stop : ℕ) (first o : Owned) → AreLeft left place size → AreBegun stop left begun → slice_get left 0 ≡ Some first
-    → at ≡ max first.extent.at place → slice_get begun 0 ≡ Some o → at < o.extent.at + o.extent.len
-first_below left begun place size at stop first o l b e is g =
+pub first_below : (left served : List Owned) (place size at stop : ℕ) (first o : Owned) → AreLeft left place size → BeginBefore stop left served → slice_get left 0 ≡ Some first
+    → at ≡ max first.extent.at place → slice_get served 0 ≡ Some o → at < o.extent.at + o.extent.len
+first_below left served place size at stop first o l b e is g =
     subst (λ (p : Owned). at < p.extent.at + p.extent.len)
-    (same_Some first o (sym e ∙ ap (λ (list : List Owned). slice_get list 0) b.joined ∙ first_joined begun b.rest o g))
+    (same_Some first o (sym e ∙ ap (λ (list : List Owned). slice_get list 0) b.joined ∙ first_joined served b.rest o g))
     (at_below left place size at first l e is)
 
 pub stop_past : (left : List Owned) (place size at stop : ℕ) (first : Owned) → AreLeft left place size → slice_get left 0 ≡ Some first → at ≡ max first.extent.at place
@@ -34,20 +35,20 @@ stop_past left place size at stop first l e is ends =
     let some = l.some in
     omega arith
 
--- the first entry has begun, so there is one
-pub some_begun : (left begun : List Owned) (at stop : ℕ) (first : Owned) → slice_get left 0 ≡ Some first → first.extent.at ≤ at → at < stop → AreBegun stop left begun
-    → 1 ≤ length begun
-some_begun left [] at stop first e begin room b =
+-- the first entry begins before the stop, so there is one
+pub some_served : (left served : List Owned) (at stop : ℕ) (first : Owned) → slice_get left 0 ≡ Some first → first.extent.at ≤ at → at < stop → BeginBefore stop left served
+    → 1 ≤ length served
+some_served left [] at stop first e begin room b =
     let past = b.later first (at_in b.rest 0 first (ap (λ (list : List Owned). slice_get list 0) (sym b.joined) ∙ e)) in
     absurd (omega arith)
-some_begun left (o ∷ begun) at stop first e begin room b = omega arith
+some_served left (o ∷ served) at stop first e begin room b = omega arith
 
 -- where entries are carried the window begins behind the one before
-pub carried_at : (carried ahead : List Owned) (place at : ℕ) (first o : Owned) → HaveBegun place carried → slice_get (carried ++ ahead) 0 ≡ Some first
+pub carried_at : (carried ahead : List Owned) (place at : ℕ) (first o : Owned) → LieAcross place carried → slice_get (carried ++ ahead) 0 ≡ Some first
     → at ≡ max first.extent.at place → In carried o → (o.extent.at ≤ at) × (at < o.extent.at + o.extent.len)
 carried_at [] ahead place at first o h e is m = absurd m
 carried_at (p ∷ carried) ahead place at first o h e is m =
-    let begun : first.extent.at < place = subst (λ (q : Owned). q.extent.at < place) (same_Some p first e) (h p (inl refl)).0 in
+    let low : first.extent.at < place = subst (λ (q : Owned). q.extent.at < place) (same_Some p first e) (h p (inl refl)).0 in
     let r = h o m in
     let before = r.0 in
     let past = r.1 in
@@ -56,13 +57,13 @@ carried_at (p ∷ carried) ahead place at first o h e is m =
 -- what is known of the next window before its hull is, the carried entries being those of a list
 pub record Ready (carried ahead fresh : List Owned) (place size at stop : ℕ) (first : Owned) : Type 0 where
   pub left : AreLeft (carried ++ ahead) place size
-  pub before : HaveBegun place carried
+  pub before : LieAcross place carried
   pub at_first : slice_get (carried ++ ahead) 0 ≡ Some first
   pub room : at < stop
-  pub begun : AreBegun stop (carried ++ ahead) (carried ++ fresh)
+  pub front : BeginBefore stop (carried ++ ahead) (carried ++ fresh)
 
-ready_now : (carried ahead fresh : List Owned) (place size at stop : ℕ) (first : Owned) → AreLeft (carried ++ ahead) place size → HaveBegun place carried
-    → slice_get (carried ++ ahead) 0 ≡ Some first → at ≡ max first.extent.at place → stop ≡ min (at + size) (2 ^ 64 - 1) → AreBegun stop ahead fresh
+ready_now : (carried ahead fresh : List Owned) (place size at stop : ℕ) (first : Owned) → AreLeft (carried ++ ahead) place size → LieAcross place carried
+    → slice_get (carried ++ ahead) 0 ≡ Some first → at ≡ max first.extent.at place → stop ≡ min (at + size) (2 ^ 64 - 1) → BeginBefore stop ahead fresh
     → Ready carried ahead fresh place size at stop first
 ready_now carried ahead fresh place size at stop first l h e is ends b =
     let room = stop_past (carried ++ ahead) place size at stop first l e is ends in
@@ -71,19 +72,19 @@ ready_now carried ahead fresh place size at stop first l h e is ends b =
       before = h;
       at_first = e;
       room = room;
-      begun = begun_all stop carried ahead fresh (λ o m. let before = (h o m).0 in omega arith) b;
+      front = front_all stop carried ahead fresh (λ o m. let before = (h o m).0 in omega arith) b;
     }
 
-pub is_ready : (items carried ahead fresh : List Owned) (place size at stop : ℕ) (first : Owned) → carried ≡ items → AreLeft (items ++ ahead) place size → HaveBegun place items
-    → Some first ≡ slice_get (items ++ ahead) 0 → at ≡ max first.extent.at place → stop ≡ min (at + size) (2 ^ 64 - 1) → AreBegun stop ahead fresh
+pub is_ready : (items carried ahead fresh : List Owned) (place size at stop : ℕ) (first : Owned) → carried ≡ items → AreLeft (items ++ ahead) place size → LieAcross place items
+    → Some first ≡ slice_get (items ++ ahead) 0 → at ≡ max first.extent.at place → stop ≡ min (at + size) (2 ^ 64 - 1) → BeginBefore stop ahead fresh
     → Ready carried ahead fresh place size at stop first
 is_ready items carried ahead fresh place size at stop first same l h e is ends b =
     subst (λ (list : List Owned). Ready list ahead fresh place size at stop first) (sym same) (ready_now items ahead fresh place size at stop first l h (sym e) is ends b)
 
-pub is_next : (left begun : List Owned) (place size at stop : ℕ) (first : Owned) (w : Window) → AreLeft left place size → slice_get left 0 ≡ Some first
-    → at ≡ max first.extent.at place → stop ≡ min (at + size) (2 ^ 64 - 1) → AreBegun stop left begun → IsHull at stop begun w
-    → IsNext left place size w begun stop
-is_next left begun place size at stop first w l e is ends begins hull =
+pub is_next : (left served : List Owned) (place size at stop : ℕ) (first : Owned) (w : Window) → AreLeft left place size → slice_get left 0 ≡ Some first
+    → at ≡ max first.extent.at place → stop ≡ min (at + size) (2 ^ 64 - 1) → BeginBefore stop left served → IsHull at stop served w
+    → IsNext left place size w served stop
+is_next left served place size at stop first w l e is ends begins hull =
     let begin = hull.begin in
     let low = at_below left place size at first l e is in
     record {
@@ -91,8 +92,8 @@ is_next left begun place size at stop first w l e is ends begins hull =
       first = record { by = first; inside = at_in left 0 first e; low = omega arith; high = omega arith };
       least = λ x c m. (let b = first_begins left first c.by l.sorted e c.inside in let g = c.low in omega arith);
       ends = omega arith;
-      begun = begins;
-      hull = subst (λ (a : ℕ). IsHull a stop begun w) (sym begin) hull;
+      front = begins;
+      hull = subst (λ (a : ℕ). IsHull a stop served w) (sym begin) hull;
     }
 
 -- ---- what is left behind it
@@ -107,8 +108,8 @@ past_left left later place stop size l p next = record {
   some = l.some;
 }
 
-pub begun_further : (carried now : List Owned) (place stop : ℕ) → place ≤ stop → HaveBegun place carried
-    → ((o : Owned) → In now o → (In carried o ⊎ (o.extent.at < stop)) × (stop < o.extent.at + o.extent.len)) → HaveBegun stop now
-begun_further carried now place stop l h k o m =
+pub across_further : (carried now : List Owned) (place stop : ℕ) → place ≤ stop → LieAcross place carried
+    → ((o : Owned) → In now o → (In carried o ⊎ (o.extent.at < stop)) × (stop < o.extent.at + o.extent.len)) → LieAcross stop now
+across_further carried now place stop l h k o m =
     let r = k o m in
     (elim r.0 [ inl g ↦ (let b = (h o g).0 in omega arith) | inr g ↦ g ], r.1)

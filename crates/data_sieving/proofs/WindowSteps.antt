@@ -1,11 +1,11 @@
 -- The first window of what is left, as it is told and as one of the windows of sieving.
-use Rattle.std.proofs.Common.{◌≡◌, ℕ, ◌+◌, ◌-◌, ◌^◌, ◌<◌, ◌≤◌, inl, inr, refl, sym, ◌∙◌, ap, subst, List, [], ◌∷◌, length, Bool, true, false, arith}
+use Rattle.std.proofs.Common.{◌≡◌, ℕ, ◌+◌, ◌-◌, ◌^◌, ◌<◌, ◌≤◌, refl, sym, ◌∙◌, ap, subst, List, [], ◌∷◌, length, Bool, true, false, arith}
 use Rattle.std.specs.Prelude.{filter, nat_lt, nat_le, ◌==◌}
 use Rattle.std.specs.List.{range_with_len}
 use Rattle.std.proofs.lemmas.List.FromFn.{length-range_with_len}
 use Rattle.std.proofs.lemmas.Bool.{lt-ltb, le-leb, lt-leb, leb-true}
-use borrow.Author.Tests.{ltb-true, ltb-false}
-use Rattle.serial_spec.proofs.MemberLaws.{in_filter, filter_in}
+use borrow.Author.Tests.{ltb-true}
+use Rattle.serial_spec.proofs.MemberLaws.{in_filter}
 use Rattle.list_laws.proofs.Truth.{equal_below, equal_true}
 use Rattle.nc_base.specs.declared.plan.Owned.{Owned}
 use Rattle.file_domains.specs.declared.walk.Window.{Window}
@@ -19,91 +19,55 @@ use Rattle.overlay_laws.proofs.WalkLaws.{drop_first, filter_all, sieved_walked}
 use Rattle.overlay_laws.proofs.CoverLaws.{same_ascending, triple_same}
 use Rattle.file_domains.proofs.WalkSteps.{walked_enough}
 use Rattle.aggregator_rounds.specs.Pieces.{told_window}
-use Rattle.data_sieving.specs.Sieving.{windows_of}
-use Rattle.data_sieving.specs.Walked.{IsCovered, IsPast, AreLeft, IsNext, bytes_from, windows_from}
-use Rattle.data_sieving.proofs.CoveredBytes.{covered_below, byte_from, from_byte, bytes_ascend, same_bytes, begins, past_covered, covered_past, begun_covered, covered_begun}
-
--- ---- how many numbers there are between two
-
-within_short : (xs : List ℕ) (a e : ℕ) → IsAscending xs → ((x : ℕ) → In xs x → (a ≤ x) × (x < e)) → length xs ≤ e - a
-within_short [] a e h k = omega arith
-within_short (x ∷ xs) a e h k =
-    let first = k x (inl refl) in
-    let low = first.0 in
-    let high = first.1 in
-    let rest = within_short xs (x + 1) e h.1 (λ y m. let l = h.0 y m in let r = k y (inr m) in let g = r.1 in (omega arith, omega arith)) in
-    omega arith
-
-pub hole_short : (xs : List ℕ) (a e y : ℕ) → IsAscending xs → ((x : ℕ) → In xs x → (a ≤ x) × (x < e)) → a ≤ y → y < e → (In xs y → ⊥) → length xs + 1 ≤ e - a
-hole_short [] a e y h k l m n = omega arith
-hole_short (x ∷ xs) a e y h k l m n =
-    by_test
-    (λ g. hole_short xs (x + 1) e y h.1 (λ z i. let low = h.0 z i in let r = k z (inr i) in let high = r.1 in (omega arith, omega arith)) (omega arith) m (λ i. n (inr i)))
-    (nat_lt y x) refl
-  where
-    after : (z : ℕ) → y < x → In (x ∷ xs) z → y + 1 ≤ z
-    after z g (inl e) = omega arith
-    after z g (inr i) = let low = h.0 z i in omega arith
-
-    apart : (t : Bool) → nat_lt x y ≡ t → x ≤ y → x < y
-    apart true f g = ltb-true _ _ f
-    apart false f g = let high : y ≤ x = ltb-false _ _ f in let same : x ≡ y = omega arith in absurd (n (inl same))
-
-    by_test : (x < y → length xs + 1 ≤ e - (x + 1)) → (t : Bool) → nat_lt y x ≡ t → length (x ∷ xs) + 1 ≤ e - a
-    by_test rest true f =
-        let g : y < x = ltb-true _ _ f in
-        let short = within_short (x ∷ xs) (y + 1) e h (λ z i. let r = k z i in (after z g i, r.1)) in
-        omega arith
-    by_test rest false f =
-        let low : x ≤ y = ltb-false _ _ f in
-        let past : x < y = apart (nat_lt x y) refl low in
-        let short = rest past in
-        let first = k x (inl refl) in
-        let begin = first.0 in
-        omega arith
+use Rattle.data_sieving.specs.Sieving.{entry_windows}
+use Rattle.aggregator_rounds.specs.EntryParts.{IsCovered}
+use Rattle.aggregator_rounds.specs.Left.{IsPast}
+use Rattle.data_sieving.specs.Walked.{AreLeft, IsNext, bytes_from, windows_from}
+use Rattle.aggregator_rounds.proofs.CoveredBytes.{covered_below, past_covered, covered_past, front_covered, covered_front, hole_short}
+use Rattle.data_sieving.proofs.LeftBytes.{byte_from, from_byte, bytes_ascend, same_bytes, begins}
 
 -- ---- the bytes of the window
 
 abbrev pub window_bytes : List Owned → ℕ → ℕ → Window → List ℕ
 window_bytes left place size w = filter (λ (y : ℕ). nat_lt y (w.hull.at + size)) (bytes_from place left)
 
-before_stop : (left : List Owned) (place size : ℕ) (w : Window) (begun : List Owned) (stop x : ℕ) → AreLeft left place size
-    → IsNext left place size w begun stop → IsCovered left x → x < w.hull.at + size → x < stop
-before_stop left place size w begun stop x l n c h =
+before_stop : (left : List Owned) (place size : ℕ) (w : Window) (served : List Owned) (stop x : ℕ) → AreLeft left place size
+    → IsNext left place size w served stop → IsCovered left x → x < w.hull.at + size → x < stop
+before_stop left place size w served stop x l n c h =
     let below = covered_below (2 ^ 62) left x l.ends c in
     let is = n.ends in
     omega arith
 
-in_window : (left : List Owned) (place size : ℕ) (w : Window) (begun : List Owned) (stop x : ℕ) → AreLeft left place size
-    → IsNext left place size w begun stop → In (window_bytes left place size w) x
-    → (w.hull.at ≤ x) × (x < w.hull.at + w.hull.len) × IsCovered begun x
-in_window left place size w begun stop x l n m =
+in_window : (left : List Owned) (place size : ℕ) (w : Window) (served : List Owned) (stop x : ℕ) → AreLeft left place size
+    → IsNext left place size w served stop → In (window_bytes left place size w) x
+    → (w.hull.at ≤ x) × (x < w.hull.at + w.hull.len) × IsCovered served x
+in_window left place size w served stop x l n m =
     let r = filter_in (λ (y : ℕ). nat_lt y (w.hull.at + size)) (bytes_from place left) x m in
     let room : x < w.hull.at + size = ltb-true _ _ r.1 in
     let b = from_byte place left x r.0 in
-    let before = before_stop left place size w begun stop x l n b.1 room in
-    let c = begun_covered stop left begun x n.begun before b.1 in
+    let before = before_stop left place size w served stop x l n b.1 room in
+    let c = front_covered stop left served x n.front before b.1 in
     (n.least x b.1 b.0, n.hull.each x c before, c)
 
-window_in : (left : List Owned) (place size : ℕ) (w : Window) (begun : List Owned) (stop x : ℕ) → IsNext left place size w begun stop
-    → w.hull.at ≤ x → x < w.hull.at + w.hull.len → IsCovered begun x → In (window_bytes left place size w) x
-window_in left place size w begun stop x n h k c =
+window_in : (left : List Owned) (place size : ℕ) (w : Window) (served : List Owned) (stop x : ℕ) → IsNext left place size w served stop
+    → w.hull.at ≤ x → x < w.hull.at + w.hull.len → IsCovered served x → In (window_bytes left place size w) x
+window_in left place size w served stop x n h k c =
     let short = n.hull.short in
     let is = n.ends in
     let low = n.from in
     in_filter (λ (y : ℕ). nat_lt y (w.hull.at + size)) (bytes_from place left) x
-    (byte_from place left x (omega arith) (covered_begun stop left begun x n.begun c)) (lt-ltb x (w.hull.at + size) (omega arith))
+    (byte_from place left x (omega arith) (covered_front stop left served x n.front c)) (lt-ltb x (w.hull.at + size) (omega arith))
 
-begin_window : (left : List Owned) (place size : ℕ) (w : Window) (begun : List Owned) (stop : ℕ) → AreLeft left place size
-    → IsNext left place size w begun stop → (ys : List ℕ) × (bytes_from place left ≡ w.hull.at ∷ ys)
-begin_window left place size w begun stop l n =
+begin_window : (left : List Owned) (place size : ℕ) (w : Window) (served : List Owned) (stop : ℕ) → AreLeft left place size
+    → IsNext left place size w served stop → (ys : List ℕ) × (bytes_from place left ≡ w.hull.at ∷ ys)
+begin_window left place size w served stop l n =
     begins (bytes_from place left) w.hull.at (bytes_ascend place left) (byte_from place left w.hull.at n.from n.first)
     (λ x m. let b = from_byte place left x m in n.least x b.1 b.0)
 
 -- what is told of the bytes of the window is its hull, and whether it has a hole
-pub next_told : (left : List Owned) (place size : ℕ) (w : Window) (begun : List Owned) (stop : ℕ) → AreLeft left place size
-    → IsNext left place size w begun stop → told_of (window_bytes left place size w) ≡ told_window w
-next_told left place size w begun stop l n =
+pub next_told : (left : List Owned) (place size : ℕ) (w : Window) (served : List Owned) (stop : ℕ) → AreLeft left place size
+    → IsNext left place size w served stop → told_of (window_bytes left place size w) ≡ told_window w
+next_told left place size w served stop l n =
     triple_same (first_of (window_bytes left place size w)) (hull_len (window_bytes left place size w)) w.hull.at w.hull.len
     (length (window_bytes left place size w) == hull_len (window_bytes left place size w)) w.full first long (by_full w.full refl)
   where
@@ -120,8 +84,8 @@ next_told left place size w begun stop l n =
     first =
         let s = n.hull.some in
         let b = begins (window_bytes left place size w) w.hull.at asc
-        (window_in left place size w begun stop w.hull.at n (omega arith) (omega arith) (begun_covered stop left begun w.hull.at n.begun room n.first))
-        (λ x m. (in_window left place size w begun stop x l n m).0) in
+        (window_in left place size w served stop w.hull.at n (omega arith) (omega arith) (front_covered stop left served w.hull.at n.front room n.first))
+        (λ x m. (in_window left place size w served stop x l n m).0) in
         ap (λ (xs : List ℕ). first_of xs) b.1
 
     long : hull_len (window_bytes left place size w) ≡ w.hull.len
@@ -129,17 +93,17 @@ next_told left place size w begun stop l n =
         let s = n.hull.some in
         let f = first in
         let most = last_most (window_bytes left place size w) (w.hull.at + w.hull.len - 1)
-        (window_in left place size w begun stop (w.hull.at + w.hull.len - 1) n (omega arith) (omega arith) n.hull.last) in
+        (window_in left place size w served stop (w.hull.at + w.hull.len - 1) n (omega arith) (omega arith) n.hull.last) in
         let least = last_below (window_bytes left place size w) (w.hull.at + w.hull.len) (omega arith)
-        (λ x m. (in_window left place size w begun stop x l n m).1) in
+        (λ x m. (in_window left place size w served stop x l n m).1) in
         omega arith
 
     solid : w.full ≡ true → window_bytes left place size w ≡ range_with_len w.hull.at w.hull.len
     solid t =
         same_ascending (window_bytes left place size w) (range_with_len w.hull.at w.hull.len) asc (range_ascends w.hull.at w.hull.len)
-        (λ x m. let r = in_window left place size w begun stop x l n m in in_range w.hull.at w.hull.len x r.0 r.1)
+        (λ x m. let r = in_window left place size w served stop x l n m in in_range w.hull.at w.hull.len x r.0 r.1)
         (λ x m. let low = range_low w.hull.at w.hull.len x m in let high = range_high w.hull.at w.hull.len x m in
-        window_in left place size w begun stop x n low high (n.hull.full t x low high))
+        window_in left place size w served stop x n low high (n.hull.full t x low high))
 
     by_full : (t : Bool) → w.full ≡ t → (length (window_bytes left place size w) == hull_len (window_bytes left place size w)) ≡ t
     by_full true f =
@@ -148,8 +112,8 @@ next_told left place size w begun stop l n =
     by_full false f =
         let r = n.hull.hole f in
         let short = hole_short (window_bytes left place size w) w.hull.at (w.hull.at + w.hull.len) r.0 asc
-        (λ x m. let g = in_window left place size w begun stop x l n m in (g.0, g.1)) r.1 r.2
-        (λ m. r.3 (in_window left place size w begun stop r.0 l n m).2) in
+        (λ x m. let g = in_window left place size w served stop x l n m in (g.0, g.1)) r.1 r.2
+        (λ m. r.3 (in_window left place size w served stop r.0 l n m).2) in
         let is = long in
         equal_below (length (window_bytes left place size w)) (hull_len (window_bytes left place size w)) (omega arith)
 
@@ -168,10 +132,10 @@ sieve_first size a ys xs h e =
     ∙ ap (λ (b : List ℕ). sieving_windows size b)
     (sym (drop_first a (filter (λ (y : ℕ). nat_le (a + size) y) ys) (nat_le (a + size) a) (lt-leb (a + size) a (omega arith))))))
 
-rest_bytes : (left : List Owned) (place size : ℕ) (w : Window) (begun : List Owned) (stop : ℕ) → AreLeft left place size
-    → IsNext left place size w begun stop
+rest_bytes : (left : List Owned) (place size : ℕ) (w : Window) (served : List Owned) (stop : ℕ) → AreLeft left place size
+    → IsNext left place size w served stop
     → filter (λ (y : ℕ). nat_le (w.hull.at + size) y) (bytes_from place left) ≡ bytes_from stop left
-rest_bytes left place size w begun stop l n =
+rest_bytes left place size w served stop l n =
     same_ascending (filter (λ (y : ℕ). nat_le (w.hull.at + size) y) (bytes_from place left)) (bytes_from stop left)
     (filter_ascends (λ (y : ℕ). nat_le (w.hull.at + size) y) (bytes_from place left) (bytes_ascend place left)) (bytes_ascend stop left)
     (λ x m.
@@ -190,8 +154,8 @@ rest_bytes left place size w begun stop l n =
     (le-leb (w.hull.at + size) x (omega arith)))
 
 -- a window ends past what was served before it
-pub goes_on : (left : List Owned) (place size : ℕ) (w : Window) (begun : List Owned) (stop : ℕ) → IsNext left place size w begun stop → place < stop
-goes_on left place size w begun stop n =
+pub goes_on : (left : List Owned) (place size : ℕ) (w : Window) (served : List Owned) (stop : ℕ) → IsNext left place size w served stop → place < stop
+goes_on left place size w served stop n =
     let low = n.from in
     let some = n.hull.some in
     let short = n.hull.short in
@@ -202,18 +166,18 @@ past_bytes place list left stop h p =
     same_bytes stop list left (λ x l c. past_covered place list left x p (omega arith) c) (λ x l c. covered_past place list left x p c)
 
 -- the first of the windows that are left, and the others
-pub windows_next : (list left : List Owned) (place size : ℕ) (w : Window) (begun : List Owned) (stop : ℕ) → IsPast place list left
-    → AreLeft left place size → IsNext left place size w begun stop
+pub windows_next : (list left : List Owned) (place size : ℕ) (w : Window) (served : List Owned) (stop : ℕ) → IsPast place list left
+    → AreLeft left place size → IsNext left place size w served stop
     → windows_from size place list ≡ window_bytes left place size w ∷ windows_from size stop list
-windows_next list left place size w begun stop p l n =
-    let b = begin_window left place size w begun stop l n in
-    let further = goes_on left place size w begun stop n in
+windows_next list left place size w served stop p l n =
+    let b = begin_window left place size w served stop l n in
+    let further = goes_on left place size w served stop n in
     ap (λ (xs : List ℕ). sieving_windows size xs) (past_bytes place list left place (omega arith) p)
     ∙ sieve_first size w.hull.at b.0 (bytes_from place left) l.some b.1
     ∙ ap (λ (xs : List ℕ). window_bytes left place size w ∷ sieving_windows size xs)
-    (rest_bytes left place size w begun stop l n ∙ sym (past_bytes place list left stop (omega arith) p))
+    (rest_bytes left place size w served stop l n ∙ sym (past_bytes place list left stop (omega arith) p))
 
-pub all_windows : (size : ℕ) (list : List Owned) → windows_of size list ≡ windows_from size 0 list
+pub all_windows : (size : ℕ) (list : List Owned) → entry_windows size list ≡ windows_from size 0 list
 all_windows size list =
     ap (λ (xs : List ℕ). sieving_windows size xs)
     (sym (filter_all (λ (y : ℕ). nat_le 0 y) (in_order (ranges list)) (λ y m. le-leb 0 y (omega arith))))

@@ -1,47 +1,27 @@
 -- How a cursor goes over sorted entries. (own)
---     part_in lo hi entry             the part of an entry from lo to hi; it is empty where the entry has no byte there
 --     bytes_from place list           the covered bytes from a place on, in order
 --     windows_from size place list    the windows that are left when the bytes before the place were served
---     IsCovered list x                some entry has the byte
---     IsPast place whole left         what is left of entries without some that end at the place or before
---     entries_left u                  those that are carried, and those ahead
+--     LieAcross place list            each begins before the place and ends past it
 --     AreLeft left place size         entries of which the first goes past the place
 --     entries_in w                    the entries of a window
 --     IsHull at stop list w           a window's hull is from the byte at to the last covered byte before stop
 --     HasDone plan rest old now       of the planned calls the rest is left
 --     HasGotPart lo hi from file list old new    each blob with the file's bytes of its entries' parts from lo to hi
-use Rattle.std.specs.Prelude.{◌≡◌, ℕ, ◌+◌, ◌-◌, ◌^◌, ◌<◌, ◌≤◌, min, max, List, [], ◌∷◌, ◌++◌, ◌⊎◌, map, take, drop, filter, nat_le, nat_lt, true, false, Option, Some, slice_get}
+use Rattle.std.specs.Prelude.{◌≡◌, ℕ, ◌+◌, ◌-◌, ◌^◌, ◌<◌, ◌≤◌, min, List, ◌++◌, map, filter, nat_le, true, false, Option, Some, slice_get}
 use Rattle.nc_base.specs.declared.plan.Owned.{Owned}
 use Rattle.nc_base.specs.declared.step.DiskCall.{DiskCall}
 use Rattle.file_domains.specs.declared.walk.Window.{Window}
-use Rattle.data_sieving.specs.declared.unserved.Unserved.{Unserved}
 use Rattle.data_sieving.specs.declared.walk.SieveWindow.{SieveWindow}
 use Rattle.nc_outside.specs.Told.{with_end}
 use Rattle.serial_spec.specs.DeviceCalls.{in_order, sieving_windows}
-use Rattle.serial_spec.specs.Said.{Cell, write_cells}
+use Rattle.serial_spec.specs.Said.{write_cells}
 use Rattle.overlay_laws.specs.Entries.{In, ranges}
 use Rattle.overlay_laws.specs.Lines.{extents, IsByPlace, EndBelow}
-use Rattle.data_sieving.specs.Sieving.{AreFilled, blob_at, of_slot, got_cells}
-
-abbrev pub part_at : ℕ → ℕ → Owned → ℕ
-part_at lo hi o = min hi (max lo o.extent.at)
-
-abbrev pub part_in : ℕ → ℕ → Owned → Owned
-part_in lo hi o = record {
-  extent = record { at = part_at lo hi o; len = min hi (o.extent.at + o.extent.len) - part_at lo hi o };
-  rank = o.rank;
-  request = o.request;
-  slot = o.slot;
-  from = o.from + min o.extent.len (part_at lo hi o - o.extent.at);
-}
+use Rattle.aggregator_rounds.specs.EntryParts.{blob_at, got_cells, part_in, AreFilled, IsCovered}
+use Rattle.aggregator_rounds.specs.Left.{BeginBefore}
+use Rattle.data_sieving.specs.Sieving.{of_slot}
 
 -- ---- covered bytes
-
-pub record IsCovered (list : List Owned) (x : ℕ) : Type 0 where
-  pub by : Owned
-  pub inside : In list by
-  pub low : by.extent.at ≤ x
-  pub high : x < by.extent.at + by.extent.len
 
 abbrev pub bytes_from : ℕ → List Owned → List ℕ
 bytes_from place list = filter (λ y. nat_le place y) (in_order (ranges list))
@@ -51,21 +31,8 @@ windows_from size place list = sieving_windows size (bytes_from place list)
 
 -- ---- what is left
 
-abbrev pub IsPast : ℕ → List Owned → List Owned → Type 0
-IsPast place [] left = left ≡ []
-IsPast place (o ∷ whole) left =
-    ((o.extent.at + o.extent.len ≤ place) × IsPast place whole left) ⊎ ((rest : List Owned) × (left ≡ o ∷ rest) × IsPast place whole rest)
-
--- those that end past the place
-abbrev pub filter_past : ℕ → List Owned → List Owned
-filter_past place list = filter (λ o. nat_lt place (o.extent.at + o.extent.len)) list
-
--- each begins before the place and ends past it
-abbrev pub HaveBegun : ℕ → List Owned → Type 0
-HaveBegun place list = (o : Owned) → In list o → (o.extent.at < place) × (place < o.extent.at + o.extent.len)
-
-abbrev pub entries_left : Unserved → List Owned
-entries_left u = u.carried.items ++ u.ahead.now
+abbrev pub LieAcross : ℕ → List Owned → Type 0
+LieAcross place list = (o : Owned) → In list o → (o.extent.at < place) × (place < o.extent.at + o.extent.len)
 
 pub record AreLeft (left : List Owned) (place size : ℕ) : Type 0 where
   pub sorted : IsByPlace (extents left)
@@ -73,13 +40,6 @@ pub record AreLeft (left : List Owned) (place size : ℕ) : Type 0 where
   pub filled : AreFilled left
   pub next : (o : Owned) → slice_get left 0 ≡ Some o → place < o.extent.at + o.extent.len
   pub some : 1 ≤ size
-
--- the entries in front that begin before the place
-pub record AreBegun (place : ℕ) (left begun : List Owned) : Type 0 where
-  pub rest : List Owned
-  pub joined : left ≡ begun ++ rest
-  pub before : (o : Owned) → In begun o → o.extent.at < place
-  pub later : (o : Owned) → In rest o → place ≤ o.extent.at
 
 -- ---- a window
 
@@ -108,7 +68,7 @@ pub record IsNext (left : List Owned) (place size : ℕ) (w : Window) (served : 
   pub first : IsCovered left w.hull.at
   pub least : (x : ℕ) → IsCovered left x → place ≤ x → w.hull.at ≤ x
   pub ends : stop ≡ min (w.hull.at + size) (2 ^ 64 - 1)
-  pub begun : AreBegun stop left served
+  pub front : BeginBefore stop left served
   pub hull : IsHull w.hull.at stop served w
 
 -- ---- the calls
@@ -119,10 +79,6 @@ pub record HasDone (plan rest : List DiskCall) (old now : Option (List DiskCall)
   pub whole : plan ≡ done ++ rest
 
 -- ---- gets
-
--- the bytes that an entry has in a buffer of the bytes from lo to hi, at their place in the blob
-abbrev pub buffer_cell : ℕ → ℕ → List ℕ → Owned → Cell
-buffer_cell lo hi buf o = ((part_in lo hi o).from, take (part_in lo hi o).extent.len (drop ((part_in lo hi o).extent.at - lo) buf))
 
 abbrev pub HasGotPart : ℕ → ℕ → ℕ → List ℕ → List Owned → List (List ℕ) → List (List ℕ) → Type 0
 HasGotPart lo hi from file list old new =

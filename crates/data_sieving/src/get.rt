@@ -1,20 +1,18 @@
 // Gets by data sieving.
-ghost use Rattle.std.specs.Prelude.{◌≡◌, ◌+◌, ◌^◌, ◌<◌, ◌≤◌, length, map, flat_map, ℕ, is_ok, if◌then◌else◌, IsOk, OnOk, OnErr, IfSome, slice_set};
+ghost use Rattle.std.specs.Prelude.{◌≡◌, ◌+◌, ◌^◌, ◌<◌, ◌≤◌, length, map, flat_map, ℕ, is_ok, if◌then◌else◌, IsOk, OnOk, OnErr, IfSome};
 ghost use Rattle.serial_spec.specs.DeviceCalls.{loads};
-ghost use Rattle.serial_spec.specs.File.{written};
 ghost use Rattle.serial_spec.specs.Said.{write_cells};
 ghost use Rattle.overlay_laws.specs.Lines.{extents, IsByPlace, EndBelow};
 ghost use Rattle.overlay_laws.specs.Changes.{IsBegun, load_calls};
 ghost use Rattle.nc_outside.specs.Told.{with_end};
 ghost use Rattle.nc_outside.specs.Cause.{HasDiskCause};
 ghost use Rattle.aggregator_rounds.specs.Pieces.{told_window};
-ghost use Rattle.data_sieving.specs.Sieving.{windows_of, AreFilled, LieOn, of_slot, blob_at, HasGot, FitBlobs, HaveOnePlace, AreAsLong};
-ghost use Rattle.data_sieving.specs.Walked.{buffer_cell, entries_in, HasGotPart};
+ghost use Rattle.aggregator_rounds.specs.EntryParts.{blob_at, buffer_cell, AreFilled};
+ghost use Rattle.data_sieving.specs.Sieving.{entry_windows, of_slot, AreAsLong, FitBlobs, HasGot, HaveOnePlace, LieOn};
+ghost use Rattle.data_sieving.specs.Walked.{entries_in, HasGotPart};
 
-use crate::entry::{copy_to, cut, part_of};
-use crate::unserved::Unserved;
 use crate::walk::{SieveWalk, SieveWindow};
-use aggregator_rounds::get_window;
+use aggregator_rounds::{Unserved, collect_entry, get_window};
 use nc_base::{Blob, BlobList, Extent, Owned};
 use nc_outside::{Disk, DiskErr};
 use std::alloc::Global;
@@ -45,8 +43,8 @@ pub fn sieve_get<D: Disk>(
     ensures bytes { D.held disk.new ≡ D.held disk.old }
     ensures read { OnOk result (IfSome (D.held disk.old) (λ file. HasGot (D.from disk.old) file list.now into.old into.new)) }
     ensures blobs { AreAsLong into.old into.new }
-    ensures calls { OnOk result (D.calls disk.new ≡ with_end (D.calls disk.old) (flat_map loads (windows_of (length buf.old) list.now))) }
-    ensures begun { OnErr result (IsBegun (flat_map loads (windows_of (length buf.old) list.now)) (D.calls disk.old) (D.calls disk.new)) }
+    ensures calls { OnOk result (D.calls disk.new ≡ with_end (D.calls disk.old) (flat_map loads (entry_windows (length buf.old) list.now))) }
+    ensures begun { OnErr result (IsBegun (flat_map loads (entry_windows (length buf.old) list.now)) (D.calls disk.old) (D.calls disk.new)) }
     ensures certain { D.sure disk.old → IsOk result }
     ensures sure { D.sure disk.old → D.sure disk.new }
     ensures cause { HasDiskCause (D.faults disk.old) (D.faults disk.new) result }
@@ -123,21 +121,4 @@ fn collect_all(hull: Extent, entries: &[Owned], buf: &[u8], blobs: &mut [Blob])
     for entry in entries {
         collect_entry(hull, entry, buf, blobs);
     }
-}
-
-/// Copies the bytes that an entry has in the hull out of a buffer, which is as long, into the blob of its slot.
-pub fn collect_entry(hull: Extent, entry: &Owned, buf: &[u8], blobs: &mut [Blob])
-    requires hull { hull.at + hull.len < 2 ^ 62 }
-    requires room { length buf.now ≡ hull.len }
-    requires end { entry.now.extent.at + entry.now.extent.len < 2 ^ 62 }
-    requires filled { 1 ≤ entry.now.extent.len }
-    requires fit { entry.now.from + entry.now.extent.len ≤ length (blob_at blobs.old entry.now.slot) }
-    ensures { blobs.new ≡ slice_set blobs.old entry.now.slot (written (blob_at blobs.old entry.now.slot) (buffer_cell hull.at (hull.at + hull.len) buf.now entry.now).0 (buffer_cell hull.at (hull.at + hull.len) buf.now entry.now).1) }
-{
-    let slot = entry.slot as usize;
-    let blob = blobs[slot].as_mut_slice();
-    let part = cut(entry, hull);
-    let at = (part.extent.at - hull.at) as usize;
-    let bytes = part_of(buf, at, part.extent.len as usize);
-    copy_to(blob, part.from as usize, bytes);
 }

@@ -5,12 +5,9 @@
 //! Collective I/O in ROMIO", 1999, section 4).
 #![tactic(auto)]
 
-mod entry;
 mod get;
 mod put;
-mod unserved;
 mod walk;
 
-pub use get::{collect_entry, sieve_get};
-pub use put::{lay_entry, sieve_put};
-pub use unserved::{Unserved, begun_before, ended_by};
+pub use get::sieve_get;
+pub use put::sieve_put;

@@ -1,22 +1,20 @@
 // Puts by data sieving.
-ghost use Rattle.std.specs.Prelude.{◌≡◌, ◌+◌, ◌^◌, ◌<◌, ◌≤◌, [], ◌∷◌, length, flat_map, true, ℕ, IsOk, OnOk, OnErr};
+ghost use Rattle.std.specs.Prelude.{◌≡◌, ◌+◌, ◌^◌, ◌<◌, ◌≤◌, length, flat_map, true, ℕ, IsOk, OnOk, OnErr};
 ghost use Rattle.serial_spec.specs.DeviceCalls.{overlays};
 ghost use Rattle.serial_spec.specs.Said.{write_cells, moved_down};
-ghost use Rattle.overlay_laws.specs.Windows.{clip, clips, HasPlace};
-ghost use Rattle.overlay_laws.specs.Entries.{cell_of};
+ghost use Rattle.overlay_laws.specs.Windows.{clips, HasPlace};
 ghost use Rattle.overlay_laws.specs.Origins.{AreFound};
 ghost use Rattle.overlay_laws.specs.Lines.{extents, IsByPlace, EndBelow};
 ghost use Rattle.overlay_laws.specs.Changes.{IsBetween, IsBegun, store_calls};
 ghost use Rattle.nc_outside.specs.Told.{after, with_end, BothTold};
 ghost use Rattle.nc_outside.specs.Cause.{HasDiskCause};
 ghost use Rattle.aggregator_rounds.specs.Pieces.{told_window};
-ghost use Rattle.data_sieving.specs.Sieving.{source_of, put_cells, windows_of, AreFilled, LieOn};
+ghost use Rattle.aggregator_rounds.specs.EntryParts.{source_of, AreFilled};
+ghost use Rattle.data_sieving.specs.Sieving.{entry_windows, put_cells, LieOn};
 ghost use Rattle.data_sieving.specs.Walked.{entries_in};
 
-use crate::entry::{copy_to, cut, part_of};
-use crate::unserved::Unserved;
 use crate::walk::{SieveWalk, SieveWindow};
-use aggregator_rounds::{close_window, open_window};
+use aggregator_rounds::{Unserved, close_window, lay_entry, open_window};
 use nc_base::{Extent, Owned, PostList};
 use nc_outside::{Disk, DiskErr};
 use std::alloc::Global;
@@ -45,8 +43,8 @@ pub fn sieve_put<D: Disk>(
     ensures len { D.len disk.new ≡ D.len disk.old }
     ensures bytes { OnOk result (D.held disk.new ≡ after (λ file. write_cells file (moved_down (D.from disk.old) (put_cells puts.now list.now))) (D.held disk.old)) }
     ensures refused { OnErr result (BothTold (λ old left. IsBetween old (write_cells old (moved_down (D.from disk.old) (put_cells puts.now list.now))) left) (D.held disk.old) (D.held disk.new)) }
-    ensures calls { OnOk result (D.calls disk.new ≡ with_end (D.calls disk.old) (flat_map overlays (windows_of (length buf.old) list.now))) }
-    ensures begun { OnErr result (IsBegun (flat_map overlays (windows_of (length buf.old) list.now)) (D.calls disk.old) (D.calls disk.new)) }
+    ensures calls { OnOk result (D.calls disk.new ≡ with_end (D.calls disk.old) (flat_map overlays (entry_windows (length buf.old) list.now))) }
+    ensures begun { OnErr result (IsBegun (flat_map overlays (entry_windows (length buf.old) list.now)) (D.calls disk.old) (D.calls disk.new)) }
     ensures certain { D.sure disk.old → IsOk result }
     ensures sure { D.sure disk.old → D.sure disk.new }
     ensures cause { HasDiskCause (D.faults disk.old) (D.faults disk.new) result }
@@ -124,19 +122,4 @@ fn lay_all(hull: Extent, entries: &[Owned], puts: &PostList, buf: &mut [u8])
     for entry in entries {
         lay_entry(hull, entry, puts, buf);
     }
-}
-
-/// Lays the bytes that an entry has in the hull over those of a buffer, which is as long. They are found in the post of its slot.
-pub fn lay_entry(hull: Extent, entry: &Owned, puts: &PostList, buf: &mut [u8])
-    requires hull { hull.at + hull.len < 2 ^ 62 }
-    requires room { length buf.old ≡ hull.len }
-    requires end { entry.now.extent.at + entry.now.extent.len < 2 ^ 62 }
-    requires filled { 1 ≤ entry.now.extent.len }
-    requires found { entry.now.from + entry.now.extent.len ≤ length (source_of puts.now entry.now.rank entry.now.slot) }
-    ensures { buf.new ≡ write_cells buf.old (moved_down hull.at (clip hull.at (hull.at + hull.len) (cell_of (source_of puts.now) entry.now) ∷ [])) }
-{
-    let bytes = puts.as_slice()[entry.slot as usize].bytes.as_slice();
-    let part = cut(entry, hull);
-    let bytes = part_of(bytes, part.from as usize, part.extent.len as usize);
-    copy_to(buf, (part.extent.at - hull.at) as usize, bytes);
 }

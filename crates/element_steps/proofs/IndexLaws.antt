@@ -1,8 +1,9 @@
 -- The index of an element, one dimension after another, and how great its entries are.
-use Rattle.std.proofs.Common.{◌≡◌, ℕ, ◌+◌, ◌-◌, ◌*◌, ◌/◌, ◌%◌, ◌^◌, ◌<◌, ◌≤◌, refl, sym, ap, ◌∙◌, subst, List, [], ◌∷◌, ◌++◌, length, take, drop, get_or, Bool, true, false, Option, Some, arith}
+use Rattle.std.proofs.Common.{◌≡◌, ℕ, ◌+◌, ◌-◌, ◌*◌, ◌/◌, ◌%◌, ◌^◌, ◌<◌, ◌≤◌, refl, sym, ap, ◌∙◌, subst, List, [], ◌∷◌, ◌++◌, length, take, drop, get_or, min, Bool, true, false, Some, arith}
 use Rattle.std.specs.Prelude.{slice_get}
 use Rattle.std.specs.List.{AllByRecursion}
 use Rattle.std.proofs.lemmas.Nat.{mod_below, mul-le}
+use Rattle.std.proofs.lemmas.Option.{same_Some}
 use Rattle.list_laws.proofs.Each.{each_weaker}
 use Rattle.nc_base.specs.declared.header.Header.{Header}
 use Rattle.nc_base.specs.declared.header.Var.{Var}
@@ -16,7 +17,7 @@ use Rattle.var_layout.proofs.ElementPlaces.{product_pos, place_fixed, place_reco
 use Rattle.serial_spec.specs.SoundHeaders.{is_sound}
 use Rattle.vara_extents.specs.Accepted.{IsAccepted}
 use Rattle.vara_extents.specs.Numbered.{coordinates_of, index_of}
-use Rattle.vara_extents.proofs.PlaceLaws.{accepted_place, wide_records}
+use Rattle.vara_extents.proofs.PlaceLaws.{accepted_place, small_of, wide_records}
 use Rattle.element_steps.specs.Requests.{AreBelow}
 use Rattle.vara_extents.proofs.RowSteps.{split, some_block}
 
@@ -49,12 +50,21 @@ step_at number s n t starts counts strides starts' counts' strides' e f g =
     (step_of number s n t starts' counts' strides')))
 
 pub index_step : (starts counts strides : List ℕ) (number inner : ℕ) → 1 ≤ length starts → 1 ≤ length counts → 1 ≤ length strides
-    → number < product counts → product counts ≤ 2 ^ 20 → inner ≡ product (rest counts)
+    → number < product counts → product counts ≤ 2 ^ 20 → inner ≡ min (product (rest counts)) (2 ^ 64 - 1)
     → IndexStep starts counts strides number inner (get_or starts 0 0) (get_or strides 0 0) (rest starts) (rest counts) (rest strides)
 index_step starts counts strides number inner a b c below few e =
-    subst (λ (m : ℕ). IndexStep starts counts strides number m (get_or starts 0 0) (get_or strides 0 0) (rest starts) (rest counts) (rest strides)) (sym e)
-    (step_at number (get_or starts 0 0) (get_or counts 0 0) (get_or strides 0 0) starts counts strides (rest starts) (rest counts) (rest strides)
-    (split starts a) (split counts b) (split strides c) below few)
+    let step = step_at number (get_or starts 0 0) (get_or counts 0 0) (get_or strides 0 0) starts counts strides (rest starts) (rest counts) (rest strides)
+    (split starts a) (split counts b) (split strides c) below few in
+    let same : product (rest counts) ≡ inner = omega (arith, e, step.few) in
+    subst (λ (m : ℕ). IndexStep starts counts strides number m (get_or starts 0 0) (get_or strides 0 0) (rest starts) (rest counts) (rest strides)) same step
+
+-- all elements of a region that a check accepts are counted
+pub counted : (header : Header) (k : ℕ) (v : Var) (g : Region) (counts : List ℕ) (n : ℕ) → slice_get header.vars k ≡ Some v → IsAccepted header k g → counts ≡ g.count
+    → n ≡ min (product counts) (2 ^ 64 - 1) → n ≡ product g.count
+counted header k v g counts n there accepted same e =
+    let small = small_of header k v g there accepted in
+    let all : product counts ≡ product g.count = ap product same in
+    omega (arith, small.elements, all, e)
 
 -- ---- none left
 
@@ -105,9 +115,6 @@ index_below header v index n h wide low = by_kind (is_record header v) refl
 
 -- ---- the element with a number
 
-pub same_one : {X : Type 0} (a b : X) (o : Option X) → o ≡ Some a → o ≡ Some b → a ≡ b
-same_one a b o e f = let s : Some a ≡ Some b = sym e ∙ f in cc
-
 pub index_is : (g : Region) (n : ℕ) (old starts counts strides index : List ℕ) → old ≡ [] → starts ≡ g.start → counts ≡ g.count → strides ≡ g.stride
     → index ≡ old ++ index_at starts strides (coordinates_of counts n) → index ≡ index_of g n
 index_is g n old starts counts strides index a b d e f =
@@ -127,11 +134,11 @@ pub numbered_element : (header : Header) (k : ℕ) (v x : Var) (g : Region) (n :
     → IsAccepted header k g → n < product g.count → index ≡ index_of g n → slice_get header.vars k ≡ Some x → IsElement header x index
 numbered_element header k v x g n index sound is h below e there =
     let p = accepted_place header k v g n sound is h below in
-    subst (λ (i : List ℕ). IsElement header x i) (sym e) (subst (λ (w : Var). IsElement header w (index_of g n)) (same_one v x _ is there) p.element)
+    subst (λ (i : List ℕ). IsElement header x i) (sym e) (subst (λ (w : Var). IsElement header w (index_of g n)) (same_Some v x (sym is ∙ there)) p.element)
 
 pub numbered_low : (header : Header) (k : ℕ) (v x : Var) (g : Region) (n : ℕ) (index : List ℕ) → is_sound header ≡ true → slice_get header.vars k ≡ Some v
     → IsAccepted header k g → n < product g.count → index ≡ index_of g n → slice_get header.vars k ≡ Some x → place header x index + size_of x.kind < 2 ^ 62
 numbered_low header k v x g n index sound is h below e there =
     let p = accepted_place header k v g n sound is h below in
     subst (λ (i : List ℕ). place header x i + size_of x.kind < 2 ^ 62) (sym e)
-    (subst (λ (w : Var). place header w (index_of g n) + size_of w.kind < 2 ^ 62) (same_one v x _ is there) p.low)
+    (subst (λ (w : Var). place header w (index_of g n) + size_of w.kind < 2 ^ 62) (same_Some v x (sym is ∙ there)) p.low)

@@ -71,22 +71,22 @@ dropped k place cover h ends before after = record {
   ends = λ e m. ends e (in_dropped k cover e m);
 }
 
--- the last extent that has begun is not past
-pub left_from_last : (begun place : ℕ) (last : Extent) (cover : List Extent) → IsCover cover → EndBelow (2 ^ 62) cover → 0 < begun
-    → slice_get cover (begun - 1) ≡ Some last → place < last.at + last.len
-    → ((i : ℕ) (e : Extent) → i < begun → slice_get cover i ≡ Some e → e.at ≤ place)
-    → IsLeft place cover (drop (begun - 1) cover)
-left_from_last begun place last cover h ends some at_last long before =
-    dropped (begun - 1) place cover h ends
-    (λ i e l g. let gap = ends_before cover i (begun - 1) e last h l g at_last in let low = before (begun - 1) last (omega arith) at_last in omega arith)
+-- the last extent in front is not past
+pub left_from_last : (count place : ℕ) (last : Extent) (cover : List Extent) → IsCover cover → EndBelow (2 ^ 62) cover → 0 < count
+    → slice_get cover (count - 1) ≡ Some last → place < last.at + last.len
+    → ((i : ℕ) (e : Extent) → i < count → slice_get cover i ≡ Some e → e.at ≤ place)
+    → IsLeft place cover (drop (count - 1) cover)
+left_from_last count place last cover h ends some at_last long before =
+    dropped (count - 1) place cover h ends
+    (λ i e l g. let gap = ends_before cover i (count - 1) e last h l g at_last in let low = before (count - 1) last (omega arith) at_last in omega arith)
     (λ e g. subst (λ (z : Extent). place < z.at + z.len) (same_Some last e (sym at_last ∙ g)) long)
 
--- the last extent that has begun is past, or none has begun
-pub left_from_next : (begun place : ℕ) (cover : List Extent) → IsCover cover → EndBelow (2 ^ 62) cover
-    → ((e : Extent) → 0 < begun → slice_get cover (begun - 1) ≡ Some e → e.at + e.len ≤ place)
-    → begun ≤ length cover
-    → ((e : Extent) → slice_get cover begun ≡ Some e → place ≤ e.at)
-    → IsLeft place cover (drop begun cover)
+-- the last extent in front is past, or there is none
+pub left_from_next : (count place : ℕ) (cover : List Extent) → IsCover cover → EndBelow (2 ^ 62) cover
+    → ((e : Extent) → 0 < count → slice_get cover (count - 1) ≡ Some e → e.at + e.len ≤ place)
+    → count ≤ length cover
+    → ((e : Extent) → slice_get cover count ≡ Some e → place ≤ e.at)
+    → IsLeft place cover (drop count cover)
 left_from_next zero place cover h ends last bound after =
     dropped zero place cover h ends (λ i e l g. absurd (omega arith))
     (λ e g. let low = after e g in let long = long_enough cover e h (at_in cover zero e g) in omega arith)
@@ -130,22 +130,22 @@ get_is [] i e h = no_none_some e h
 get_is (x ∷ xs) zero e h = (omega arith, same_Some x e h)
 get_is (x ∷ xs) (suc i) e h = let r = get_is xs i e h in let l = r.0 in (omega arith, r.1)
 
-pub begun_low : (cover : List Extent) (place k : ℕ) → AllWithin (λ e. nat_le e.at place ≡ true) cover 0 k
+pub front_low : (cover : List Extent) (place k : ℕ) → AllWithin (λ e. nat_le e.at place ≡ true) cover 0 k
     → (i : ℕ) (e : Extent) → i < k → slice_get cover i ≡ Some e → e.at ≤ place
-begun_low cover place k h i e l g =
+front_low cover place k h i e l g =
     leb-true e.at place (subst (λ (z : Extent). nat_le z.at place ≡ true) (get_is cover i e g).1 (h i e (omega arith) l))
 
-pub begun_high : (cover : List Extent) (place k : ℕ) → AllWithin (λ e. nat_le e.at place ≡ false) cover k (length cover)
+pub front_high : (cover : List Extent) (place k : ℕ) → AllWithin (λ e. nat_le e.at place ≡ false) cover k (length cover)
     → (e : Extent) → slice_get cover k ≡ Some e → place ≤ e.at
-begun_high cover place k h e g =
+front_high cover place k h e g =
     let r = get_is cover k e g in
     let past = leb-false e.at place (subst (λ (z : Extent). nat_le z.at place ≡ false) r.1 (h k e (omega arith) r.0)) in
     omega arith
 
--- a half below a place where an extent has begun, and a half from a place on where one has not
-pub half_begun : (cover : List Extent) (place middle i : ℕ) (none d : Extent) → IsPartitionedBy (λ e. nat_le e.at place) cover → middle < length cover
+-- a half below a place where an extent begins by then, and a half from a place on where one does not
+pub half_front : (cover : List Extent) (place middle i : ℕ) (none d : Extent) → IsPartitionedBy (λ e. nat_le e.at place) cover → middle < length cover
     → (get_or cover middle none).at ≤ place → i ≤ middle → nat_le (get_or cover i d).at place ≡ true
-half_begun cover place middle i none d h room e l =
+half_front cover place middle i none d h room e l =
     h i middle d l room (subst (λ (z : Extent). nat_le z.at place ≡ true) (get_or_default cover middle none d room) (le-leb (get_or cover middle none).at place e))
 
 pub half_left : (cover : List Extent) (place middle i : ℕ) (none d : Extent) → IsPartitionedBy (λ e. nat_le e.at place) cover → i < length cover

@@ -21,7 +21,7 @@ use Rattle.std.specs.Iterator.{MakesProgress, item_count}
 use Rattle.std.proofs.lemmas.Option.{same_Some, slice_get-get_or}
 use Rattle.std.proofs.lemmas.Bool.{lt-ltb, le-ltb, le-leb, lt-leb, leb-true, leb-false}
 use Rattle.file_domains.specs.declared.walk.Window.{Window}
-use Rattle.file_domains.specs.Rounds.{window_told, windows_of}
+use Rattle.file_domains.specs.Rounds.{window_told, round_windows}
 use Rattle.file_domains.proofs.CoverParts.{counted_below, ends_before}
 
 -- ---- walks
@@ -216,50 +216,50 @@ first_ends (c ∷ cover) zero e d h g l =
 first_ends (c ∷ cover) (suc k) e d h g l =
     let gap = ends_before (c ∷ cover) 0 (suc k) e (get_or cover k d) h (omega arith) g (slice_get-get_or cover k d (omega arith)) in omega arith
 
-one_more : (begun : ℕ) → 1 ≤ begun → (begun - 1 == 0) ≡ (begun == 1)
-one_more begun h = grind (arith, nat_tests)
+one_more : (count : ℕ) → 1 ≤ count → (count - 1 == 0) ≡ (count == 1)
+one_more count h = grind (arith, nat_tests)
 
-pub next_window : (first size from end stop top begun last : ℕ) (e d : Extent) (cover left : List Extent) → 1 ≤ size → first ≤ from
+pub next_window : (first size from end stop top count last : ℕ) (e d : Extent) (cover left : List Extent) → 1 ≤ size → first ≤ from
     → IsCover cover → ((c : Extent) → In cover c → from < c.at + c.len) → slice_get cover 0 ≡ Some e → max e.at from < end → end ≤ top
-    → stop ≡ min (min (round_end first size (max e.at from)) top) end → begun ≤ length cover
-    → ((i : ℕ) (c : Extent) → i < begun → slice_get cover i ≡ Some c → c.at < stop)
-    → ((c : Extent) → slice_get cover begun ≡ Some c → stop ≤ c.at)
-    → last ≡ min ((get_or cover (begun - 1) d).at + (get_or cover (begun - 1) d).len) stop
+    → stop ≡ min (min (round_end first size (max e.at from)) top) end → count ≤ length cover
+    → ((i : ℕ) (c : Extent) → i < count → slice_get cover i ≡ Some c → c.at < stop)
+    → ((c : Extent) → slice_get cover count ≡ Some c → stop ≤ c.at)
+    → last ≡ min ((get_or cover (count - 1) d).at + (get_or cover (count - 1) d).len) stop
     → filter (λ y. nat_le stop y) (spans left) ≡ filter (λ y. nat_le stop y) (spans cover)
     → told_windows first size (filter (λ y. nat_lt y end) (filter (λ y. nat_le from y) (spans cover)))
-    ≡ record { round = (max e.at from - first) / size; hull = record { at = max e.at from; len = last - max e.at from }; full = begun == 1 }
+    ≡ record { round = (max e.at from - first) / size; hull = record { at = max e.at from; len = last - max e.at from }; full = count == 1 }
     ∷ told_windows first size (filter (λ y. nat_lt y end) (filter (λ y. nat_le stop y) (spans left)))
-next_window first size from end stop top begun last e d [] left big low h past g room cap is_stop bound before after is_last same = no_none_some e g
-next_window first size from end stop top begun last e d (c ∷ cover) left big low h past g room cap is_stop bound before after is_last same =
+next_window first size from end stop top count last e d [] left big low h past g room cap is_stop bound before after is_last same = no_none_some e g
+next_window first size from end stop top count last e d (c ∷ cover) left big low h past g room cap is_stop bound before after is_last same =
     let first_is : c ≡ e = same_Some c e g in
     let re : max e.at from < round_end first size (max e.at from) = past_round first size (max e.at from) big in
     let stops : stop ≡ min (round_end first size (max e.at from)) end = omega arith in
-    let some : 1 ≤ begun = by_none begun e g before after (omega arith) in
-    let index : suc (begun - 1) ≡ begun = omega arith in
-    let window = first_window first size from end stop (begun - 1) e (get_or (e ∷ cover) (begun - 1) d) cover left big (omega arith)
+    let some : 1 ≤ count = by_none count e g before after (omega arith) in
+    let index : suc (count - 1) ≡ count = omega arith in
+    let window = first_window first size from end stop (count - 1) e (get_or (e ∷ cover) (count - 1) d) cover left big (omega arith)
     (subst (λ (z : Extent). IsCover (z ∷ cover)) first_is h) (subst (λ (z : Extent). from < z.at + z.len) first_is (past c (inl refl))) room stops
-    (slice_get-get_or (e ∷ cover) (begun - 1) d (omega arith))
+    (slice_get-get_or (e ∷ cover) (count - 1) d (omega arith))
     (λ i z l q. before i z (omega arith) (subst (λ (y : Extent). slice_get (y ∷ cover) i ≡ Some z) (sym first_is) q))
     (λ z q. after z (ap (λ (n : ℕ). slice_get (c ∷ cover) n) (sym index) ∙ q))
     (same ∙ ap (λ (y : Extent). filter (λ x. nat_le stop x) (spans (y ∷ cover))) first_is) in
-    let ends : min ((get_or (e ∷ cover) (begun - 1) d).at + (get_or (e ∷ cover) (begun - 1) d).len) stop ≡ last
-    = ap (λ (y : Extent). min ((get_or (y ∷ cover) (begun - 1) d).at + (get_or (y ∷ cover) (begun - 1) d).len) stop) (sym first_is) ∙ sym is_last in
+    let ends : min ((get_or (e ∷ cover) (count - 1) d).at + (get_or (e ∷ cover) (count - 1) d).len) stop ≡ last
+    = ap (λ (y : Extent). min ((get_or (y ∷ cover) (count - 1) d).at + (get_or (y ∷ cover) (count - 1) d).len) stop) (sym first_is) ∙ sym is_last in
     ap (λ (y : Extent). told_windows first size (filter (λ x. nat_lt x end) (filter (λ x. nat_le from x) (spans (y ∷ cover))))) first_is
     ∙ window
-    ∙ (λ i. window_told first size (max e.at from, ends i - max e.at from, one_more begun some i) ∷ told_windows first size (filter (λ y. nat_lt y end) (filter (λ y. nat_le stop y) (spans left))))
+    ∙ (λ i. window_told first size (max e.at from, ends i - max e.at from, one_more count some i) ∷ told_windows first size (filter (λ y. nat_lt y end) (filter (λ y. nat_le stop y) (spans left))))
   where
-    by_none : (begun : ℕ) (e : Extent) → slice_get (c ∷ cover) 0 ≡ Some e
-        → ((i : ℕ) (z : Extent) → i < begun → slice_get (c ∷ cover) i ≡ Some z → z.at < stop) → ((z : Extent) → slice_get (c ∷ cover) begun ≡ Some z → stop ≤ z.at)
-        → e.at < stop → 1 ≤ begun
+    by_none : (count : ℕ) (e : Extent) → slice_get (c ∷ cover) 0 ≡ Some e
+        → ((i : ℕ) (z : Extent) → i < count → slice_get (c ∷ cover) i ≡ Some z → z.at < stop) → ((z : Extent) → slice_get (c ∷ cover) count ≡ Some z → stop ≤ z.at)
+        → e.at < stop → 1 ≤ count
     by_none zero e g b a l = let high = a e g in absurd (omega arith)
     by_none (suc n) e g b a l = omega arith
 
 -- ---- the windows of a domain
 
-no_windows : (size : ℕ) → 1 ≤ size → windows_of size [] ≡ []
+no_windows : (size : ℕ) → 1 ≤ size → round_windows size [] ≡ []
 no_windows size h = ap (λ (ws : List (List ℕ)). map (window_told 0 size) (map told_of ws)) (windows_walked size [] h tt)
 
-same_windows : (from size x : ℕ) (ys bytes : List ℕ) → 1 ≤ size → IsAscending bytes → bytes ≡ from ∷ ys → told_windows from size bytes ≡ windows_of size bytes
+same_windows : (from size x : ℕ) (ys bytes : List ℕ) → 1 ≤ size → IsAscending bytes → bytes ≡ from ∷ ys → told_windows from size bytes ≡ round_windows size bytes
 same_windows from size x ys bytes h asc e =
     let first : from ≡ first_of bytes = ap first_of (sym e) in
     ap (λ (n : ℕ). map (window_told n size) (map told_of (walked (round_end n size) (length bytes) bytes))) first
@@ -293,7 +293,7 @@ spans_low e cover y h k =
 pub begin_windows : (size low from end top : ℕ) (cover : List Extent) → 1 ≤ size → IsCover cover → EndBelow (2 ^ 62) cover → 2 ^ 62 ≤ top
     → ((c : Extent) → In cover c → low < c.at + c.len) → ((e : Extent) → slice_get cover 0 ≡ Some e → from ≡ max e.at low)
     → told_windows from size (filter (λ y. nat_lt y (min end top)) (filter (λ y. nat_le from y) (spans cover)))
-    ≡ windows_of size (filter (λ y. nat_lt y end) (filter (λ y. nat_le low y) (spans cover)))
+    ≡ round_windows size (filter (λ y. nat_lt y end) (filter (λ y. nat_le low y) (spans cover)))
 begin_windows size low from end top [] big h ends cap past begins = sym (no_windows size big)
 begin_windows size low from end top (e ∷ cover) big h ends cap past begins =
     let is : from ≡ max e.at low = begins e refl in
@@ -306,7 +306,7 @@ begin_windows size low from end top (e ∷ cover) big h ends cap past begins =
     (λ y m. let high = spans_high (e ∷ cover) (2 ^ 62) y ends (filter_in (λ z. nat_le from z) (spans (e ∷ cover)) y m).0 in same_end y end top (omega arith)) in
     ap (told_windows from size) same
     ∙ by_end is (omega arith) (nat_lt from end) refl
-    ∙ ap (λ (b : List ℕ). windows_of size (filter (λ y. nat_lt y end) b)) from_low
+    ∙ ap (λ (b : List ℕ). round_windows size (filter (λ y. nat_lt y end) b)) from_low
   where
     by_low : from ≡ max e.at low → (t : Bool) → nat_le low e.at ≡ t → filter (λ y. nat_le from y) (spans (e ∷ cover)) ≡ filter (λ y. nat_le low y) (spans (e ∷ cover))
     by_low is true f =
@@ -320,7 +320,7 @@ begin_windows size low from end top (e ∷ cover) big h ends cap past begins =
 
     by_end : from ≡ max e.at low → from < e.at + e.len → (t : Bool) → nat_lt from end ≡ t
         → told_windows from size (filter (λ y. nat_lt y end) (filter (λ y. nat_le from y) (spans (e ∷ cover))))
-        ≡ windows_of size (filter (λ y. nat_lt y end) (filter (λ y. nat_le from y) (spans (e ∷ cover))))
+        ≡ round_windows size (filter (λ y. nat_lt y end) (filter (λ y. nat_le from y) (spans (e ∷ cover))))
     by_end is l true f =
         let room : from < end = ltb-true _ _ f in
         let begin : max e.at from ≡ from = omega arith in
@@ -333,7 +333,7 @@ begin_windows size low from end top (e ∷ cover) big h ends cap past begins =
         let nothing : filter (λ y. nat_lt y end) (filter (λ y. nat_le from y) (spans (e ∷ cover))) ≡ []
         = ap (λ (b : List ℕ). filter (λ y. nat_lt y end) b) (spans_above from (e ∷ cover) h ∙ ap spans (above_first from e cover l))
         ∙ spans_below_none end (head_from from e ∷ cover) (all_past past_end) in
-        ap (told_windows from size) nothing ∙ sym (ap (windows_of size) nothing ∙ no_windows size big)
+        ap (told_windows from size) nothing ∙ sym (ap (round_windows size) nothing ∙ no_windows size big)
       where
         all_past : end ≤ from → (d : Extent) → In (head_from from e ∷ cover) d → end ≤ d.at
         all_past p d (inl m) = subst (λ (z : Extent). end ≤ z.at) m (omega arith)
@@ -355,20 +355,20 @@ none_left_at first size from end e (c ∷ cover) h past g room =
 pub stops_past : (first size at end top : ℕ) → 1 ≤ size → at < end → end ≤ top → at < min (min (round_end first size at) top) end
 stops_past first size at end top big room cap = let past = past_round first size at big in omega arith
 
-pub next_window_at : (first size from end sat stop top begun last at : ℕ) (e d : Extent) (cover left : List Extent) → at ≡ max e.at from → 1 ≤ size → first ≤ from
+pub next_window_at : (first size from end sat stop top count last at : ℕ) (e d : Extent) (cover left : List Extent) → at ≡ max e.at from → 1 ≤ size → first ≤ from
     → IsCover cover → ((c : Extent) → In cover c → from < c.at + c.len) → slice_get cover 0 ≡ Some e → at < end → end ≤ top
-    → sat ≡ min (round_end first size at) top → stop ≡ min sat end → begun ≤ length cover
-    → ((i : ℕ) (c : Extent) → i < begun → slice_get cover i ≡ Some c → c.at < stop)
-    → ((c : Extent) → slice_get cover begun ≡ Some c → stop ≤ c.at)
-    → last ≡ min ((get_or cover (begun - 1) d).at + (get_or cover (begun - 1) d).len) stop
+    → sat ≡ min (round_end first size at) top → stop ≡ min sat end → count ≤ length cover
+    → ((i : ℕ) (c : Extent) → i < count → slice_get cover i ≡ Some c → c.at < stop)
+    → ((c : Extent) → slice_get cover count ≡ Some c → stop ≤ c.at)
+    → last ≡ min ((get_or cover (count - 1) d).at + (get_or cover (count - 1) d).len) stop
     → filter (λ y. nat_le stop y) (spans left) ≡ filter (λ y. nat_le stop y) (spans cover)
     → told_windows first size (filter (λ y. nat_lt y end) (filter (λ y. nat_le from y) (spans cover)))
-    ≡ record { round = (at - first) / size; hull = record { at = at; len = last - at }; full = begun == 1 }
+    ≡ record { round = (at - first) / size; hull = record { at = at; len = last - at }; full = count == 1 }
     ∷ told_windows first size (filter (λ y. nat_lt y end) (filter (λ y. nat_le stop y) (spans left)))
-next_window_at first size from end sat stop top begun last at e d cover left is big low h past g room cap is_sat is_stop bound before after is_last same =
-    next_window first size from end stop top begun last e d cover left big low h past g (subst (λ (n : ℕ). n < end) is room) cap
+next_window_at first size from end sat stop top count last at e d cover left is big low h past g room cap is_sat is_stop bound before after is_last same =
+    next_window first size from end stop top count last e d cover left big low h past g (subst (λ (n : ℕ). n < end) is room) cap
     (is_stop ∙ ap (λ (n : ℕ). min n end) is_sat ∙ ap (λ (n : ℕ). min (min (round_end first size n) top) end) is) bound before after is_last same
-    ∙ (λ i. record { round = (sym is i - first) / size; hull = record { at = sym is i; len = last - sym is i }; full = begun == 1 }
+    ∙ (λ i. record { round = (sym is i - first) / size; hull = record { at = sym is i; len = last - sym is i }; full = count == 1 }
     ∷ told_windows first size (filter (λ y. nat_lt y end) (filter (λ y. nat_le stop y) (spans left))))
 
 -- every extent of a walk that begins has bytes left

@@ -2,7 +2,7 @@
 -- Collective I/O in ROMIO", 1999, section 5)
 --     bytes_in domain cover          the covered bytes of a domain
 --     window_told first size w       a window, told by its hull, as a round from the domain's first covered byte on
---     windows_of size bytes          the windows of a domain's covered bytes
+--     round_windows size bytes       the windows of a domain's covered bytes
 --     windows_left walk              the windows that a walk has still to give
 use Rattle.std.specs.Prelude.{◌≡◌, ℕ, ◌+◌, ◌-◌, ◌/◌, ◌^◌, ◌<◌, ◌≤◌, List, map, filter, length, Bool, nat_lt, nat_le}
 use Rattle.nc_base.specs.declared.plan.Extent.{Extent}
@@ -19,8 +19,8 @@ bytes_in domain cover = filter (λ y. nat_lt y (domain.at + domain.len)) (filter
 abbrev pub window_told : ℕ → ℕ → ℕ × ℕ × Bool → Window
 window_told first size w = record { round = (w.0 - first) / size; hull = record { at = w.0; len = w.1 }; full = w.2 }
 
-abbrev pub windows_of : ℕ → List ℕ → List Window
-windows_of size bytes = map (window_told (first_of bytes) size) (map told_of (windows size bytes))
+abbrev pub round_windows : ℕ → List ℕ → List Window
+round_windows size bytes = map (window_told (first_of bytes) size) (map told_of (windows size bytes))
 
 -- the part of a cover that has bytes from a place on, in whole extents
 pub record IsLeft (place : ℕ) (whole left : List Extent) : Type 0 where

@@ -5,7 +5,7 @@ ghost use Rattle.overlay_laws.specs.Lines.{EndBelow};
 ghost use Rattle.overlay_laws.specs.Walks.{IsCover, round_end};
 ghost use Rattle.overlay_laws.specs.Entries.{In};
 ghost use Rattle.nc_base.specs.declared.plan.Extent.{Extent};
-ghost use Rattle.file_domains.specs.Rounds.{bytes_in, windows_of, windows_left, IsLeft, IsWalk};
+ghost use Rattle.file_domains.specs.Rounds.{bytes_in, round_windows, windows_left, IsLeft, IsWalk};
 
 use nc_base::Extent;
 
@@ -40,11 +40,11 @@ pub fn windows<'a>(domain: Extent, cover: &'a [Extent], size: u64) -> WindowWalk
     requires cover { IsCover cover.now }
     requires ends { EndBelow (2 ^ 62) cover.now }
     requires size { 1 ≤ size }
-    ensures windows { windows_left result ≡ windows_of size (bytes_in domain cover.now) }
+    ensures windows { windows_left result ≡ round_windows size (bytes_in domain cover.now) }
     ensures ready { IsWalk result }
 {
-    let begun = begun_by(cover, domain.at);
-    let cover = past(cover, begun, domain.at);
+    let count = begins_by(cover, domain.at);
+    let cover = past(cover, count, domain.at);
     let end = domain.at.saturating_add(domain.len);
     let first = match front(cover) {
         Some(extent) => extent.at.max(domain.at),
@@ -81,14 +81,14 @@ impl<'a> Iterator for WindowWalk<'a> {
             return None;
         }
         let stop = end_of_round(self.first, self.size, at).min(self.end);
-        let begun = begun_before(self.cover, stop);
-        let end = end_of(&self.cover[begun - 1]).min(stop);
+        let count = begins_before(self.cover, stop);
+        let end = end_of(&self.cover[count - 1]).min(stop);
         let window = Window {
             round: (at - self.first) / self.size,
             hull: Extent { at, len: end - at },
-            full: begun == 1,
+            full: count == 1,
         };
-        self.cover = past(self.cover, begun, stop);
+        self.cover = past(self.cover, count, stop);
         self.from = stop;
         Some(window)
     }
@@ -111,7 +111,7 @@ fn end_of_round(first: u64, size: u64, at: u64) -> u64
 }
 
 // How many extents of a cover begin at the place or before, by halves.
-fn begun_by(cover: &[Extent], place: u64) -> usize
+fn begins_by(cover: &[Extent], place: u64) -> usize
     requires { IsPartitionedBy (λ e. nat_le e.at place) cover.now }
     ensures bound { result ≤ length cover.now }
     ensures point { IsPartitionPoint (λ e. nat_le e.at place ≡ true) (λ e. nat_le e.at place ≡ false) cover.now result }
@@ -130,7 +130,7 @@ fn begun_by(cover: &[Extent], place: u64) -> usize
 }
 
 // How many extents of the front begin before the place.
-fn begun_before(cover: &[Extent], place: u64) -> usize
+fn begins_before(cover: &[Extent], place: u64) -> usize
     ensures bound { result ≤ length cover.now }
     ensures before { (i : ℕ) (e : Extent) → i < result → slice_get cover.now i ≡ Some e → e.at < place }
     ensures after { (e : Extent) → slice_get cover.now result ≡ Some e → place ≤ e.at }
@@ -144,18 +144,18 @@ fn begun_before(cover: &[Extent], place: u64) -> usize
 }
 
 // What is left of a cover from a place on, of which so many extents begin before it or there.
-fn past<'a>(cover: &'a [Extent], begun: usize, place: u64) -> &'a [Extent]
-    requires bound { begun ≤ length cover.now }
+fn past<'a>(cover: &'a [Extent], count: usize, place: u64) -> &'a [Extent]
+    requires bound { count ≤ length cover.now }
     requires cover { IsCover cover.now }
     requires ends { EndBelow (2 ^ 62) cover.now }
-    requires before { (i : ℕ) (e : Extent) → i < begun → slice_get cover.now i ≡ Some e → e.at ≤ place }
-    requires after { (e : Extent) → slice_get cover.now begun ≡ Some e → place ≤ e.at }
+    requires before { (i : ℕ) (e : Extent) → i < count → slice_get cover.now i ≡ Some e → e.at ≤ place }
+    requires after { (e : Extent) → slice_get cover.now count ≡ Some e → place ≤ e.at }
     ensures { IsLeft place cover.now result.now }
 {
-    if begun > 0 && end_of(&cover[begun - 1]) > place {
-        tail(cover, begun - 1)
+    if count > 0 && end_of(&cover[count - 1]) > place {
+        tail(cover, count - 1)
     } else {
-        tail(cover, begun)
+        tail(cover, count)
     }
 }
 

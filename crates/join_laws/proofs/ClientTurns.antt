@@ -30,24 +30,24 @@ pub record Lasting (header : Header) (Good : ℕ → Going → Type 0) : Type 0 
 
 -- ---- one number
 
-pub record Sits (header : Header) (Good : ℕ → Going → Type 0) (ks : List MeetKind) (n : ℕ) (x : Client) (g : Going) (coming : List RankItem) (back : List OwnerItem) : Type 0 where
+pub record IsPaired (header : Header) (Good : ℕ → Going → Type 0) (ks : List MeetKind) (n : ℕ) (x : Client) (g : Going) (coming : List RankItem) (back : List OwnerItem) : Type 0 where
   pub stream : ended_item x.ended ++ coming ≡ to_come header x.held g back
   pub waits : (o : Offer) → x.held ≡ Some o → ((advance header g).1 ≡ Some o) × ((kind : MeetKind) × (o.kind ≡ offer.Meet kind))
   pub kind_list : kinds g.calls ≡ ks
   pub good : Good n g
 
 pub record Turn (header : Header) (Good : ℕ → Going → Type 0) (ks : List MeetKind) (n q k k' : ℕ) (x : Client) (g : Going) (x' : Client) (g' : Going) (coming : List RankItem) (back : List OwnerItem) (given : List OwnerItem) (marks : List Mark) : Type 0 where
-  pub sits : Sits header Good ks n x' g' coming back
+  pub paired_at : IsPaired header Good ks n x' g' coming back
   pub ends : client_end header x.held g (given ++ back) ≡ client_end header x'.held g' back
   pub stops : client_stop header x.held g (given ++ back) ≡ client_stop header x'.held g' back
   pub in_order : filter (concerns q) marks ++ marks_of q k' g' ≡ marks_of q k g
 
 -- a number that has no part in an event
 pub turn_stays : (header : Header) (Good : ℕ → Going → Type 0) (lasting : Lasting header Good) (ks : List MeetKind) (m n q k : ℕ) (x : Client) (g : Going) (coming : List RankItem) (back : List OwnerItem) (marks : List Mark)
-    → m ≤ n → filter (concerns q) marks ≡ [] → Sits header Good ks m x g coming back
+    → m ≤ n → filter (concerns q) marks ≡ [] → IsPaired header Good ks m x g coming back
     → Turn header Good ks n q k k x g x g coming back [] marks
 turn_stays header Good lasting ks m n q k x g coming back marks l e s = record {
-  sits = record { stream = s.stream; waits = s.waits; kind_list = s.kind_list; good = lasting.grows m n g l s.good };
+  paired_at = record { stream = s.stream; waits = s.waits; kind_list = s.kind_list; good = lasting.grows m n g l s.good };
   ends = refl;
   stops = refl;
   in_order = ap (λ (ms : List Mark). ms ++ marks_of q k g) e;
@@ -61,10 +61,10 @@ client_held x o = record { held = Some o; ended = x.ended }
 
 -- its end arrives
 pub turn_ended : (header : Header) (Good : ℕ → Going → Type 0) (ks : List MeetKind) (n q k : ℕ) (x : Client) (g : Going) (m : Bool) (coming : List RankItem) (back : List OwnerItem)
-    → x.ended ≡ None → Sits header Good ks n x g (item.Ended m ∷ coming) back
+    → x.ended ≡ None → IsPaired header Good ks n x g (item.Ended m ∷ coming) back
     → Turn header Good ks n q k k x g (client_ended x m) g coming back [] []
 turn_ended header Good ks n q k x g m coming back e s = record {
-  sits = record {
+  paired_at = record {
     stream = sym (ap (λ (z : Option Bool). ended_item z ++ item.Ended m ∷ coming) e) ∙ s.stream;
     waits = s.waits;
     kind_list = s.kind_list;
@@ -77,17 +77,17 @@ turn_ended header Good ks n q k x g m coming back e s = record {
 
 -- what its offer tells
 pub offered_now : (header : Header) (Good : ℕ → Going → Type 0) (ks : List MeetKind) (n : ℕ) (x : Client) (g : Going) (c : ℕ) (o : Offer) (coming : List RankItem) (back : List OwnerItem)
-    → x.ended ≡ None → x.held ≡ None → Sits header Good ks n x g (item.Offer c o ∷ coming) back → Offered header (advance header g) back c o coming
+    → x.ended ≡ None → x.held ≡ None → IsPaired header Good ks n x g (item.Offer c o ∷ coming) back → Offered header (advance header g) back c o coming
 offered_now header Good ks n x g c o coming back e h s =
     offered_offer header (advance header g) back c o coming
     (sym (ap (λ (z : Option Bool). ended_item z ++ item.Offer c o ∷ coming) e) ∙ s.stream ∙ ap (λ (z : Option Offer). to_come header z g back) h)
 
 -- its meeting offer arrives and is held
 pub turn_held : (header : Header) (Good : ℕ → Going → Type 0) (ks : List MeetKind) (n q k : ℕ) (x : Client) (g : Going) (c : ℕ) (o : Offer) (kind : MeetKind) (coming : List RankItem) (back : List OwnerItem)
-    → x.ended ≡ None → x.held ≡ None → o.kind ≡ offer.Meet kind → Sits header Good ks n x g (item.Offer c o ∷ coming) back
+    → x.ended ≡ None → x.held ≡ None → o.kind ≡ offer.Meet kind → IsPaired header Good ks n x g (item.Offer c o ∷ coming) back
     → Turn header Good ks n q k k x g (client_held x o) g coming back [] []
 turn_held header Good ks n q k x g c o kind coming back e h m s = record {
-  sits = record {
+  paired_at = record {
     stream = ap (λ (z : Option Bool). ended_item z ++ coming) e ∙ now.after;
     waits = λ o' f. (now.is ∙ f, (kind, ap (λ (z : Offer). z.kind) (sym (some_is o o' f)) ∙ m));
     kind_list = s.kind_list;
@@ -152,10 +152,10 @@ heard header Good n q k g o y e = by f.kinded
 -- its solo offer arrives and is done
 pub turn_solo : (header : Header) (Good : ℕ → Going → Type 0) (lasting : Lasting header Good) (ks : List MeetKind) (m n q k : ℕ) (x : Client) (g : Going) (c : ℕ) (o : Offer) (y : reply.Reply) (coming : List RankItem) (back : List OwnerItem) (marks : List Mark)
     → x.ended ≡ None → x.held ≡ None → o.kind ≡ offer.Solo → m ≤ n → y.records ≤ n → fits_offer header o y ≡ true → filter (concerns q) marks ≡ Solo q c ∷ []
-    → Sits header Good ks m x g (item.Offer c o ∷ coming) (Reply y ∷ back)
+    → IsPaired header Good ks m x g (item.Offer c o ∷ coming) (Reply y ∷ back)
     → Turn header Good ks n q k k x g x (hears header (advance header g).0 y) coming back (Reply y ∷ []) marks
 turn_solo header Good lasting ks m n q k x g c o y coming back marks e h d l r fit f s = record {
-  sits = record {
+  paired_at = record {
     stream = ap (λ (z : Option Bool). ended_item z ++ coming) e ∙ now.after ∙ waiting_reply header (advance header g).0 o y back fit
         ∙ sym (ap (λ (z : Option Offer). to_come header z (hears header (advance header g).0 y) back) h);
     waits = λ o' z. none_waits o' (sym h ∙ z);
@@ -189,10 +189,10 @@ turn_solo header Good lasting ks m n q k x g c o y coming back marks e h d l r f
 
 -- the meeting of its held offer is done
 pub turn_met : (header : Header) (Good : ℕ → Going → Type 0) (lasting : Lasting header Good) (ks : List MeetKind) (kind : MeetKind) (m n q k : ℕ) (x : Client) (g : Going) (o : Offer) (y : reply.Reply) (coming : List RankItem) (back : List OwnerItem)
-    → x.held ≡ Some o → m ≤ n → y.records ≤ n → fits_offer header o y ≡ true → Sits header Good (kind ∷ ks) m x g coming (Reply y ∷ back)
+    → x.held ≡ Some o → m ≤ n → y.records ≤ n → fits_offer header o y ≡ true → IsPaired header Good (kind ∷ ks) m x g coming (Reply y ∷ back)
     → Turn header Good ks n q k (suc k) x g (freed x) (hears header (advance header g).0 y) coming back (Reply y ∷ []) (Meet k ∷ [])
 turn_met header Good lasting ks kind m n q k x g o y coming back h l r fit s = record {
-  sits = record {
+  paired_at = record {
     stream = s.stream ∙ ap (λ (z : Option Offer). to_come header z g (Reply y ∷ back)) h ∙ waiting_reply header (advance header g).0 o y back fit;
     waits = λ o' z. none_waits o' z;
     kind_list = rest_same (sym both.0 ∙ s.kind_list);

@@ -1,8 +1,9 @@
 -- Every form ends as the words ask for.
 use Rattle.std.proofs.Common.{◌≡◌, ℕ, List, [], Option, Some, None, inl, inr, subst, arith}
 use Rattle.nc_base.specs.declared.step.Mark.{Mark}
-use Rattle.ncmpi_cli.specs.Ends.{EndsAs, Seen}
+use Rattle.ncmpi_cli.specs.Ends.{EndsAs}
 use Rattle.ncmpi_cli.specs.OffsetList.{IsOfReadHeader}
+use Rattle.ncmpi_cli.specs.Outside.{Seen}
 use Rattle.program_words.specs.Words.{Asked, run, offsets, generate}
 use Rattle.ncmpi_cli.proofs.CutOff.{made_unready}
 use Rattle.ncmpi_cli.proofs.Made.{made_begins_none}
@@ -19,7 +20,7 @@ not_read status e (inr (inl s)) = absurd (omega (arith, e, s))
 not_read status e (inr (inr s)) = absurd (omega (arith, e, s))
 
 -- want of memory before anything was done is an end of every form
-pub wanting : (form : Option Asked) (before now : Seen) (status : ℕ) (order : List Mark) (readings : List (List ℕ)) → now.held ≡ before.held → status ≡ 8
+pub wanting : (form : Option Asked) (before now : Seen) (status : ℕ) (order : List Mark) (readings : List (List ℕ)) → now.output.held ≡ before.output.held → status ≡ 8
     → order ≡ [] → EndsAs form before now status order readings
 wanting None before now status order readings h e o = (inr e, o)
 wanting (Some (run watchers name)) before now status order readings h e o = record {
@@ -55,5 +56,5 @@ wanting (Some (generate seed size name)) before now status order readings h e o 
   complete = λ _ _. inr e;
   steps = made_begins_none seed size order o;
   torn = λ s. absurd (omega (arith, e, s));
-  wanting = λ _. inl (inl (o, made_unready seed size before.held now.held h));
+  wanting = λ _. inl (inl (o, made_unready seed size before.output.held now.output.held h));
 }

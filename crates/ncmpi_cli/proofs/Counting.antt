@@ -11,7 +11,7 @@ use Rattle.serial_spec.specs.SerialEnd.{count_after}
 use Rattle.ncmpi_cli.specs.Headline.{with_counts}
 use Rattle.ncmpi_cli.specs.Readings.{AreCounted, count_at, counted, pairs_of, readings_of}
 use Rattle.ncmpi_cli.specs.Watched.{AreReadings, seen_counts}
-use Rattle.ncmpi_cli.specs.declared.watched_run.Seen.{Seen}
+use Rattle.ncmpi_cli.specs.declared.watched_run.RunReadings.{RunReadings}
 use Rattle.ncmpi_cli.specs.declared.watched_run.WatchedRun.{WatchedRun}
 
 -- the k-th of the numbers that a function gives for the places of a list
@@ -76,7 +76,7 @@ are_counted script header (Some file) watchers run r c = by_seen run.seen r c
     order : List Mark
     order = run.end.order
 
-    by_seen : (seen : Option Seen) → IfSome seen (λ s. (length s.readings ≡ watchers) × All (AreReadings (length order)) s.readings)
+    by_seen : (seen : Option RunReadings) → IfSome seen (λ s. (length s.readings ≡ watchers) × All (AreReadings (length order)) s.readings)
         → IfSome seen (λ s. s.counts ≡ seen_counts (told_of script header file order))
         → pairs_of header.records seen ≡ map (with_counts script header file order) (readings_of seen)
     by_seen None r c = refl

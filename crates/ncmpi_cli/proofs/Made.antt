@@ -1,30 +1,34 @@
 -- A run of a made script.
-use Rattle.std.proofs.Common.{◌≡◌, ℕ, ◌≤◌, true, List, [], ◌++◌, length, Option, Some, None, inl, inr, ◌⊎◌, refl, sym, ap, ap₂, subst, ◌∙◌, arith}
+use Rattle.std.proofs.Common.{◌≡◌, ℕ, ◌≤◌, true, List, [], length, Option, Some, None, inl, inr, ◌⊎◌, refl, sym, ap, ap₂, subst, ◌∙◌, arith}
+use Rattle.std.proofs.lemmas.Option.{IfSome_then}
 use Rattle.std.specs.Prelude.{IfSome, ◌==◌, Result, Ok, Err, IfErr, IsErrAnd}
 use Rattle.nc_base.specs.declared.answer.Answer.{Answer}
 use Rattle.nc_base.specs.declared.errors.LayoutErr.{LayoutErr}
 use Rattle.nc_base.specs.declared.header.Header.{Header}
+use Rattle.nc_base.specs.declared.run.RunEnd.{RunEnd}
 use Rattle.nc_base.specs.declared.script.Script.{Script}
 use Rattle.nc_base.specs.declared.step.DiskCall.{DiskCall}
 use Rattle.nc_base.specs.declared.step.Mark.{Mark}
 use Rattle.nc_outside.specs.Told.{after, with_end}
 use Rattle.serial_spec.specs.DeviceCalls.{all_calls, run_calls}
 use Rattle.serial_spec.specs.History.{IsLegal}
-use Rattle.serial_spec.specs.Redefinition.{brought, layout_fault}
-use Rattle.serial_spec.specs.SerialEnd.{End, serial, serial_from, start}
+use Rattle.serial_spec.specs.Redefinition.{layout_fault}
+use Rattle.serial_spec.specs.SerialEnd.{End, serial, serial_from}
 use Rattle.rank_meeting.specs.Begun.{HasBegun}
+use Rattle.rank_meeting.specs.Run.{IsRun}
 use Rattle.script_spec.specs.Generator.{has_counts, made_script, summary_text}
-use Rattle.script_spec.specs.Texts.{header_line, layout_line, redef_line, run_text}
+use Rattle.script_spec.specs.Texts.{header_line, layout_line, redef_line}
 use Rattle.generated_run.proofs.LawfulLaws.{made_counted, made_lawful}
 use Rattle.generated_run.proofs.MadeLaws.{made_laid}
-use Rattle.ncmpi_cli.specs.Generated.{IsMadeStatus, IsSummed, new_end, RanMade, script_made}
-use Rattle.ncmpi_cli.specs.Headline.{end_of_run, IsDone}
+use Rattle.ncmpi_cli.specs.Generated.{IsMadeStatus, new_end, RanMade, script_made, summed}
+use Rattle.ncmpi_cli.specs.Headline.{end_of_run}
+use Rattle.ncmpi_cli.specs.Outside.{Output}
 use Rattle.dataset_start.specs.Dataset.{align_of, created_header, IsKept, TellsDataset}
 use Rattle.dataset_start.specs.Readiness.{IsReady}
 use Rattle.dataset_start.specs.Stops.{IsOfDataset, line_of, status_of}
 use Rattle.dataset_start.specs.declared.stop.Stop.{Stop}
 use Rattle.dataset_start.specs.declared.stop.Stop.TheVariants as stops
-use Rattle.ncmpi_cli.proofs.Ran.{done, nobody_read}
+use Rattle.ncmpi_cli.proofs.Ran.{all_told, at_start}
 use Rattle.dataset_start.proofs.Ready.{file-kept, header-kept}
 
 -- ---- what is so of the script
@@ -72,63 +76,67 @@ module _ (seed size : ℕ) where
   never_told script held stops.Disk is bad s = absurd (omega (arith, s))
   never_told script held stops.Memory is bad s = absurd (omega (arith, s))
 
--- ---- what is done of a script that creates a dataset
-
-module _ (seed size : ℕ) (script : Script) (header : Header) (order : List Mark) (records : ℕ) (answers : List (List Answer)) (pending : List ℕ) (text : List ℕ)
-    (fresh : script.fresh ≡ true) (alone : (length script.extra == 0) ≡ true) where
-  pub made : (held_before held_mid held_after : Option (List ℕ)) (calls_before calls_mid calls_after : Option (List DiskCall))
-      → IsReady script header held_before held_mid calls_before calls_mid
-      → IfSome held_mid (λ file. held_after ≡ Some (serial_from script header file order).bytes)
-      → IfSome held_mid (λ file. records ≡ (serial_from script header file order).records)
-      → IfSome held_mid (λ file. answers ≡ (serial_from script header file order).answers)
-      → IfSome held_mid (λ file. pending ≡ (serial_from script header file order).pending)
-      → IfSome held_mid (λ file. calls_after ≡ with_end calls_mid (run_calls script header file order))
-      → text ≡ summary_text seed size script (record header { records = records }) order answers
-      → IfSome held_before (λ file. IsSummed seed size script file held_after calls_before calls_after order text)
-  made None held_mid held_after calls_before calls_mid calls_after ready b r a p k t = tt
-  made (Some file) held_mid held_after calls_before calls_mid calls_after ready b r a p k t =
-      let own : Header = created_header script in
-      let old_is : ready.old ≡ own = ready.heads.created fresh in
-      let header_is : header ≡ own = ready.heads.made ∙ header-kept script ready.old alone ∙ old_is in
-      let mid : held_mid ≡ Some (start script header (brought script ready.old header file)) = ready.bytes in
-      let end : End = end_of_run script ready.old header file order in
-      let count : records ≡ end.records = subst (λ (h : Option (List ℕ)). IfSome h (λ f. records ≡ (serial_from script header f order).records)) mid r in
-      let told : answers ≡ end.answers = subst (λ (h : Option (List ℕ)). IfSome h (λ f. answers ≡ (serial_from script header f order).answers)) mid a in
-      let well : IsDone script ready.old header file held_after calls_before calls_after order [] (run_text script (record header { records = records }) order answers pending ++ []) =
-      done script header (Some file) held_mid held_after calls_before calls_mid calls_after order [] [] records answers pending _ ready b r a p k (nobody_read held_mid) refl in
-      let end_is : end ≡ new_end script file order =
-      ap₂ (λ (o h : Header). end_of_run script o h file order) old_is header_is ∙ ap (λ (f : List ℕ). serial script own f order) (file-kept script own own file alone) in
-      record {
-        bytes = well.bytes ∙ ap (λ (e : End). Some e.bytes) end_is;
-        calls = well.calls ∙ ap₂ (λ (o h : Header). after (λ _. all_calls script o h file order) calls_before) old_is header_is;
-        lines =
-            t
-            ∙ ap₂ (λ (n : ℕ) (x : List (List Answer)). summary_text seed size script (record header { records = n }) order x) count told
-            ∙ ap₂ (λ (h : Header) (e : End). summary_text seed size script (record h { records = e.records }) order e.answers) header_is end_is;
-      }
-
 -- ---- the run of a made script
 
-pub made_ran : (seed size : ℕ) (script : Script) (header : Header) (held_before held_mid held_after : Option (List ℕ)) (calls_before calls_mid calls_after : Option (List DiskCall))
-    (order end_order : List Mark) (records : ℕ) (answers : List (List Answer)) (pending : List ℕ) (text : List ℕ)
-    → script ≡ script_made seed size → IsReady script header held_before held_mid calls_before calls_mid
-    → order ≡ end_order → IsLegal script end_order
-    → IfSome held_mid (λ file. held_after ≡ Some (serial_from script header file end_order).bytes)
-    → IfSome held_mid (λ file. records ≡ (serial_from script header file end_order).records)
-    → IfSome held_mid (λ file. answers ≡ (serial_from script header file end_order).answers)
-    → IfSome held_mid (λ file. pending ≡ (serial_from script header file end_order).pending)
-    → IfSome held_mid (λ file. calls_after ≡ with_end calls_mid (run_calls script header file end_order))
-    → text ≡ summary_text seed size script (record header { records = records }) end_order answers
-    → RanMade seed size held_before held_after calls_before calls_after order text
-made_ran seed size script header held_before held_mid held_after calls_before calls_mid calls_after order end_order records answers pending text is ready same legal b r a p k t =
+-- what a run with this header comes to, summed up
+abbrev sums : ℕ → ℕ → Script → Header → List Mark → End → List ℕ
+sums seed size script header order end = summary_text seed size script (record header { records = end.records }) order end.answers
+
+-- the text of a run that had no fault
+told_sums : (seed size : ℕ) (script : Script) (header : Header) (held : Option (List ℕ)) (records : ℕ) (end : RunEnd)
+    → IfSome held (λ file. records ≡ (serial_from script header file end.order).records)
+    → IfSome held (λ file. end.answers ≡ (serial_from script header file end.order).answers)
+    → IfSome held (λ file. summary_text seed size script (record header { records = records }) end.order end.answers ≡ sums seed size script header end.order (serial_from script header file end.order))
+told_sums seed size script header None records end r a = tt
+told_sums seed size script header (Some file) records end r a =
+    ap₂ (λ (n : ℕ) (x : List (List Answer)). summary_text seed size script (record header { records = n }) end.order x) r a
+
+module _ (script : Script) (old header : Header) (order : List Mark) (alone : (length script.extra == 0) ≡ true) (old_is : old ≡ created_header script) (header_is : header ≡ created_header script) where
+  -- the headers of a created dataset to which nothing is added are its first one
+  one_end : (file : List ℕ) → end_of_run script old header file order ≡ new_end script file order
+  one_end file =
+      let own : Header = created_header script in
+      ap₂ (λ (o h : Header). end_of_run script o h file order) old_is header_is ∙ ap (λ (f : List ℕ). serial script own f order) (file-kept script own own file alone)
+
+  made_bytes : (held held_now : Option (List ℕ)) → IfSome held (λ file. held_now ≡ Some (end_of_run script old header file order).bytes)
+      → IfSome held (λ file. held_now ≡ Some (new_end script file order).bytes)
+  made_bytes held held_now h = IfSome_then held h (λ file b. b ∙ ap (λ (e : End). Some e.bytes) (one_end file))
+
+  made_calls : (held : Option (List ℕ)) (calls calls_now : Option (List DiskCall)) → IfSome held (λ file. calls_now ≡ after (λ _. all_calls script old header file order) calls)
+      → IfSome held (λ file. calls_now ≡ after (λ _. all_calls script (created_header script) (created_header script) file order) calls)
+  made_calls held calls calls_now h = IfSome_then held h (λ file c. c ∙ ap₂ (λ (o h : Header). after (λ _. all_calls script o h file order) calls) old_is header_is)
+
+  made_lines : (seed size : ℕ) (held : Option (List ℕ)) (text : List ℕ) → IfSome held (λ file. text ≡ sums seed size script header order (end_of_run script old header file order))
+      → IfSome held (λ file. text ≡ summed seed size script order (new_end script file order))
+  made_lines seed size held text h = IfSome_then held h (λ file t. t ∙ ap₂ (λ (h : Header) (e : End). sums seed size script h order e) header_is (one_end file))
+
+pub made_ran : (seed size : ℕ) (script : Script) (header : Header) (before now : Output) (held_mid : Option (List ℕ)) (calls_mid : Option (List DiskCall)) (faults failed records : ℕ)
+    (end : RunEnd) (order : List Mark) → script ≡ script_made seed size → IsReady script header before.held held_mid before.calls calls_mid → order ≡ end.order
+    → IsRun script header held_mid calls_mid faults now.held now.calls failed records end → end.fault ≡ None
+    → RanMade seed size before now order (summary_text seed size script (record header { records = records }) end.order end.answers)
+made_ran seed size script header before now held_mid calls_mid faults failed records end order is ready same run whole =
     let fresh : script.fresh ≡ true = ap (λ (s : Script). s.fresh) is ∙ made_fresh seed size in
     let alone : (length script.extra == 0) ≡ true = ap (λ (s : Script). length s.extra == 0) is ∙ made_alone seed size in
-    let own : IfSome held_before (λ file. IsSummed seed size script file held_after calls_before calls_after end_order text) =
-    made seed size script header end_order records answers pending text fresh alone held_before held_mid held_after calls_before calls_mid calls_after ready b r a p k t in
-    subst (λ (o : List Mark). RanMade seed size held_before held_after calls_before calls_after o text) (sym same)
+    let old_is : ready.old ≡ created_header script = ready.heads.created fresh in
+    let header_is : header ≡ created_header script = ready.heads.made ∙ header-kept script ready.old alone ∙ old_is in
+    let text : List ℕ = summary_text seed size script (record header { records = records }) end.order end.answers in
+    let bytes : IfSome before.held (λ file. now.held ≡ Some (new_end script file end.order).bytes) =
+    made_bytes script ready.old header end.order alone old_is header_is before.held now.held
+    (at_start (λ file. now.held ≡ Some (serial_from script header file end.order).bytes) script header before.held held_mid before.calls calls_mid ready (run.bytes whole)) in
+    let calls : IfSome before.held (λ file. now.calls ≡ after (λ _. all_calls script (created_header script) (created_header script) file end.order) before.calls) =
+    made_calls script ready.old header end.order alone old_is header_is before.held before.calls now.calls
+    (all_told script ready.old header before.held before.calls calls_mid now.calls end.order ready.calls
+    (at_start (λ file. now.calls ≡ with_end calls_mid (run_calls script header file end.order)) script header before.held held_mid before.calls calls_mid ready (run.calls whole))) in
+    let lines : IfSome before.held (λ file. text ≡ summed seed size script end.order (new_end script file end.order)) =
+    made_lines script ready.old header end.order alone old_is header_is seed size before.held text
+    (at_start (λ file. text ≡ sums seed size script header end.order (serial_from script header file end.order)) script header before.held held_mid before.calls calls_mid ready
+    (told_sums seed size script header held_mid records end (run.records whole) (run.answers whole))) in
+    subst (λ (o : List Mark). RanMade seed size before now o text) (sym same)
     (record {
-      legal = subst (λ (s : Script). IsLegal s end_order) is legal;
-      done = subst (λ (s : Script). IfSome held_before (λ file. IsSummed seed size s file held_after calls_before calls_after end_order text)) is own;
+      legal = subst (λ (s : Script). IsLegal s end.order) is (run.legal whole);
+      bytes = subst (λ (s : Script). IfSome before.held (λ file. now.held ≡ Some (new_end s file end.order).bytes)) is bytes;
+      calls = subst (λ (s : Script). IfSome before.held (λ file. now.calls ≡ after (λ _. all_calls s (created_header s) (created_header s) file end.order) before.calls)) is calls;
+      lines = subst (λ (s : Script). IfSome before.held (λ file. text ≡ summed seed size s end.order (new_end s file end.order))) is lines;
     })
 
 pub made_begins : (seed size : ℕ) (script : Script) (order end_order : List Mark) → script ≡ script_made seed size → order ≡ end_order → HasBegun script end_order

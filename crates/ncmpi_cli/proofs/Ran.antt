@@ -3,28 +3,48 @@ use Rattle.std.proofs.Common.{◌≡◌, ℕ, List, [], ◌++◌, map, Option, S
 use Rattle.std.specs.Prelude.{IfSome}
 use Rattle.nc_base.specs.declared.answer.Answer.{Answer}
 use Rattle.nc_base.specs.declared.header.Header.{Header}
+use Rattle.nc_base.specs.declared.run.RunEnd.{RunEnd}
 use Rattle.nc_base.specs.declared.script.Script.{Script}
 use Rattle.nc_base.specs.declared.step.DiskCall.{DiskCall}
 use Rattle.nc_base.specs.declared.step.Mark.{Mark}
 use Rattle.nc_outside.specs.Told.{after, with_end}
-use Rattle.serial_spec.specs.DeviceCalls.{run_calls}
-use Rattle.serial_spec.specs.History.{IsLegal}
-use Rattle.serial_spec.specs.Redefinition.{brought}
-use Rattle.serial_spec.specs.SerialEnd.{End, serial_from, start}
+use Rattle.serial_spec.specs.DeviceCalls.{all_calls, run_calls}
+use Rattle.serial_spec.specs.SerialEnd.{End, serial_from}
 use Rattle.script_spec.specs.Texts.{run_text, watch_text}
 use Rattle.script_spec.specs.ScriptGrammar.{Reads}
 use Rattle.rank_meeting.specs.Begun.{HasBegun}
-use Rattle.ncmpi_cli.specs.Headline.{BeginsFor, IsDone, Ran, with_counts}
+use Rattle.rank_meeting.specs.Run.{IsRun}
+use Rattle.ncmpi_cli.specs.Headline.{BeginsFor, file_at_start, Ran, text_of, watched_text, with_counts}
+use Rattle.ncmpi_cli.specs.Outside.{Seen}
 use Rattle.dataset_start.specs.Dataset.{Asks}
 use Rattle.dataset_start.specs.Readiness.{first_calls, CanHaveBegun, IsReady}
 use Rattle.dataset_start.proofs.Ready.{same_script}
 
 -- ---- a file that is told
 
+after_told : (P : List ℕ → Type 0) (change : List ℕ → List ℕ) (held : Option (List ℕ)) → IfSome (after change held) P → IfSome held (λ file. P (change file))
+after_told P change None h = tt
+after_told P change (Some file) h = h
+
+-- what is so of the file when the ranks begin
+pub at_start : (P : List ℕ → Type 0) (script : Script) (header : Header) (held held_mid : Option (List ℕ)) (calls calls_mid : Option (List DiskCall))
+    → (ready : IsReady script header held held_mid calls calls_mid) → IfSome held_mid P → IfSome held (λ file. P (file_at_start script ready.old header file))
+at_start P script header held held_mid calls calls_mid ready h =
+    after_told P (λ file. file_at_start script ready.old header file) held (subst (λ (told : Option (List ℕ)). IfSome told P) ready.bytes h)
+
 joined : (calls before : Option (List DiskCall)) (opening run : List DiskCall) → calls ≡ after (λ _. opening) before
     → with_end calls run ≡ after (λ _. opening ++ run) before
 joined calls None opening run e = ap (λ (c : Option (List DiskCall)). with_end c run) e
 joined calls (Some old) opening run e = ap (λ (c : Option (List DiskCall)). with_end c run) e
+
+-- the device calls before the ranks begin, and theirs
+pub all_told : (script : Script) (old header : Header) (held : Option (List ℕ)) (calls calls_mid calls_now : Option (List DiskCall)) (order : List Mark)
+    → IfSome held (λ file. calls_mid ≡ after (λ _. first_calls script old header file) calls)
+    → IfSome held (λ file. calls_now ≡ with_end calls_mid (run_calls script header (file_at_start script old header file) order))
+    → IfSome held (λ file. calls_now ≡ after (λ _. all_calls script old header file order) calls)
+all_told script old header None calls calls_mid calls_now order opened made = tt
+all_told script old header (Some file) calls calls_mid calls_now order opened made =
+    made ∙ joined calls_mid calls (first_calls script old header file) (run_calls script header (file_at_start script old header file) order) opened
 
 -- nothing is told of readings where nobody read
 abbrev no_readings : List (List (ℕ × ℕ))
@@ -34,39 +54,21 @@ pub nobody_read : (held : Option (List ℕ)) → IfSome held (λ file. no_readin
 nobody_read None = tt
 nobody_read (Some file) = refl
 
-pub done : (script : Script) (header : Header) (held_before held_mid held_after : Option (List ℕ)) (calls_before calls_mid calls_after : Option (List DiskCall))
-    (order : List Mark) (readings : List (List ℕ)) (pairs : List (List (ℕ × ℕ))) (records : ℕ) (answers : List (List Answer)) (pending : List ℕ) (text : List ℕ)
-    → (ready : IsReady script header held_before held_mid calls_before calls_mid)
-    → IfSome held_mid (λ file. held_after ≡ Some (serial_from script header file order).bytes)
-    → IfSome held_mid (λ file. records ≡ (serial_from script header file order).records)
-    → IfSome held_mid (λ file. answers ≡ (serial_from script header file order).answers)
-    → IfSome held_mid (λ file. pending ≡ (serial_from script header file order).pending)
-    → IfSome held_mid (λ file. calls_after ≡ with_end calls_mid (run_calls script header file order))
-    → IfSome held_mid (λ file. pairs ≡ map (with_counts script header file order) readings)
-    → text ≡ run_text script (record header { records = records }) order answers pending ++ watch_text pairs
-    → IfSome held_before (λ bytes. IsDone script ready.old header bytes held_after calls_before calls_after order readings text)
-done script header None held_mid held_after calls_before calls_mid calls_after order readings pairs records answers pending text ready b r a p k w t = tt
-done script header (Some file) held_mid held_after calls_before calls_mid calls_after order readings pairs records answers pending text ready b r a p k w t =
-    let begun : List ℕ = start script header (brought script ready.old header file) in
-    let mid : held_mid ≡ Some begun = ready.bytes in
-    let end : End = serial_from script header begun order in
-    let count : records ≡ end.records = subst (λ (h : Option (List ℕ)). IfSome h (λ f. records ≡ (serial_from script header f order).records)) mid r in
-    let told : answers ≡ end.answers = subst (λ (h : Option (List ℕ)). IfSome h (λ f. answers ≡ (serial_from script header f order).answers)) mid a in
-    let left : pending ≡ end.pending = subst (λ (h : Option (List ℕ)). IfSome h (λ f. pending ≡ (serial_from script header f order).pending)) mid p in
-    let made : calls_after ≡ with_end calls_mid (run_calls script header begun order) =
-    subst (λ (h : Option (List ℕ)). IfSome h (λ f. calls_after ≡ with_end calls_mid (run_calls script header f order))) mid k in
-    let watched : pairs ≡ map (with_counts script header begun order) readings =
-    subst (λ (h : Option (List ℕ)). IfSome h (λ f. pairs ≡ map (with_counts script header f order) readings)) mid w in
-    record {
-      bytes = subst (λ (h : Option (List ℕ)). IfSome h (λ f. held_after ≡ Some (serial_from script header f order).bytes)) mid b;
-      calls = made ∙ joined calls_mid calls_before (first_calls script ready.old header file) (run_calls script header begun order) ready.calls;
-      lines =
-          t
-          ∙ ap (λ (n : ℕ). run_text script (record header { records = n }) order answers pending ++ watch_text pairs) count
-          ∙ ap (λ (x : List (List Answer)). run_text script (record header { records = end.records }) order x pending ++ watch_text pairs) told
-          ∙ ap (λ (x : List ℕ). run_text script (record header { records = end.records }) order end.answers x ++ watch_text pairs) left
-          ∙ ap (λ (x : List (List (ℕ × ℕ))). run_text script (record header { records = end.records }) order end.answers end.pending ++ watch_text x) watched;
-    }
+-- the text of a run that had no fault
+told_lines : (script : Script) (header : Header) (held : Option (List ℕ)) (records : ℕ) (end : RunEnd) (readings : List (List ℕ)) (pairs : List (List (ℕ × ℕ)))
+    → IfSome held (λ file. records ≡ (serial_from script header file end.order).records)
+    → IfSome held (λ file. end.answers ≡ (serial_from script header file end.order).answers)
+    → IfSome held (λ file. end.pending ≡ (serial_from script header file end.order).pending)
+    → IfSome held (λ file. pairs ≡ map (with_counts script header file end.order) readings)
+    → IfSome held (λ file. run_text script (record header { records = records }) end.order end.answers end.pending ++ watch_text pairs
+    ≡ text_of script header end.order (serial_from script header file end.order) ++ watched_text script header file end.order readings)
+told_lines script header None records end readings pairs r a p w = tt
+told_lines script header (Some file) records end readings pairs r a p w =
+    let last : End = serial_from script header file end.order in
+    ap (λ (n : ℕ). run_text script (record header { records = n }) end.order end.answers end.pending ++ watch_text pairs) r
+    ∙ ap (λ (x : List (List Answer)). run_text script (record header { records = last.records }) end.order x end.pending ++ watch_text pairs) a
+    ∙ ap (λ (x : List ℕ). run_text script (record header { records = last.records }) end.order last.answers x ++ watch_text pairs) p
+    ∙ ap (λ (x : List (List (ℕ × ℕ))). run_text script (record header { records = last.records }) end.order last.answers last.pending ++ watch_text x) w
 
 -- the order, which is this one, begins one of the script that the text spells
 pub begins : (left : Option (List ℕ)) (script : Script) (order end_order : List Mark) → IfSome left (λ text. Reads text script) → order ≡ end_order
@@ -96,21 +98,18 @@ can_have_begun script header left_before left_after held_before held_mid calls_b
   faultless = ready.faultless;
 }
 
-pub ran : (script : Script) (header : Header) (left_before left_after held_before held_mid held_after : Option (List ℕ)) (calls_before calls_mid calls_after : Option (List DiskCall))
-    (order end_order : List Mark) (readings end_readings : List (List ℕ)) (pairs : List (List (ℕ × ℕ))) (records : ℕ) (answers : List (List Answer)) (pending : List ℕ) (text : List ℕ)
-    → Asks left_before script → IsReady script header held_before held_mid calls_before calls_mid → left_after ≡ after (λ _. []) left_before
-    → order ≡ end_order → readings ≡ end_readings → IsLegal script end_order
-    → IfSome held_mid (λ file. held_after ≡ Some (serial_from script header file end_order).bytes)
-    → IfSome held_mid (λ file. records ≡ (serial_from script header file end_order).records)
-    → IfSome held_mid (λ file. answers ≡ (serial_from script header file end_order).answers)
-    → IfSome held_mid (λ file. pending ≡ (serial_from script header file end_order).pending)
-    → IfSome held_mid (λ file. calls_after ≡ with_end calls_mid (run_calls script header file end_order))
-    → IfSome held_mid (λ file. pairs ≡ map (with_counts script header file end_order) end_readings)
-    → text ≡ run_text script (record header { records = records }) end_order answers pending ++ watch_text pairs
-    → Ran left_before left_after held_before held_after calls_before calls_after order readings text
-ran script header left_before left_after held_before held_mid held_after calls_before calls_mid calls_after order end_order readings end_readings pairs records answers pending text asks ready taken same same_readings legal b r a p k w t =
-    subst (λ (o : List Mark). Ran left_before left_after held_before held_after calls_before calls_after o readings text) (sym same)
-    (subst (λ (x : List (List ℕ)). Ran left_before left_after held_before held_after calls_before calls_after end_order x text) (sym same_readings)
+-- a run without a fault, on a dataset that was made ready
+pub ran : (script : Script) (header : Header) (before now : Seen) (held_mid : Option (List ℕ)) (calls_mid : Option (List DiskCall)) (faults failed records : ℕ) (end : RunEnd)
+    (order : List Mark) (readings end_readings : List (List ℕ)) (pairs : List (List (ℕ × ℕ)))
+    → Asks before.left script → IsReady script header before.output.held held_mid before.output.calls calls_mid → now.left ≡ after (λ _. []) before.left
+    → IsRun script header held_mid calls_mid faults now.output.held now.output.calls failed records end → end.fault ≡ None
+    → order ≡ end.order → readings ≡ end_readings
+    → IfSome held_mid (λ file. pairs ≡ map (with_counts script header file end.order) end_readings)
+    → Ran before now order readings (run_text script (record header { records = records }) end.order end.answers end.pending ++ watch_text pairs)
+ran script header before now held_mid calls_mid faults failed records end order readings end_readings pairs asks ready taken run whole same same_readings watched =
+    let text : List ℕ = run_text script (record header { records = records }) end.order end.answers end.pending ++ watch_text pairs in
+    subst (λ (o : List Mark). Ran before now o readings text) (sym same)
+    (subst (λ (x : List (List ℕ)). Ran before now end.order x text) (sym same_readings)
     (record {
       script = script;
       old = ready.old;
@@ -120,6 +119,13 @@ ran script header left_before left_after held_before held_mid held_after calls_b
       taken = taken;
       held = ready.held;
       heads = ready.heads;
-      legal = legal;
-      done = done script header held_before held_mid held_after calls_before calls_mid calls_after end_order end_readings pairs records answers pending text ready b r a p k w t;
+      legal = run.legal whole;
+      bytes = at_start (λ file. now.output.held ≡ Some (serial_from script header file end.order).bytes)
+          script header before.output.held held_mid before.output.calls calls_mid ready (run.bytes whole);
+      calls = all_told script ready.old header before.output.held before.output.calls calls_mid now.output.calls end.order ready.calls
+          (at_start (λ file. now.output.calls ≡ with_end calls_mid (run_calls script header file end.order))
+          script header before.output.held held_mid before.output.calls calls_mid ready (run.calls whole));
+      lines = at_start (λ file. text ≡ text_of script header end.order (serial_from script header file end.order) ++ watched_text script header file end.order end_readings)
+          script header before.output.held held_mid before.output.calls calls_mid ready
+          (told_lines script header held_mid records end end_readings pairs (run.records whole) (run.answers whole) (run.pending whole) watched);
     }))

@@ -11,7 +11,7 @@ use Rattle.ncmpi_cli.specs.Watched.{AreReadings}
 use Rattle.program_words.specs.Words.{Asked}
 use Rattle.dataset_start.specs.declared.stop.Stop.{Stop}
 use Rattle.dataset_start.specs.declared.stop.Stop.TheVariants as stops
-use Rattle.ncmpi_cli.specs.declared.watched_run.Seen.{Seen}
+use Rattle.ncmpi_cli.specs.declared.watched_run.RunReadings.{RunReadings}
 
 -- ---- where no text is given
 
@@ -47,7 +47,7 @@ untold watchers status steps readings never e = record { each = λ gives. absurd
 
 -- ---- where the ranks' run ended without a fault
 
-pub read : (watchers status : ℕ) (order end_order : List Mark) (readings : List (List ℕ)) (seen : Option Seen)
+pub read : (watchers status : ℕ) (order end_order : List Mark) (readings : List (List ℕ)) (seen : Option RunReadings)
     → (status ≡ 0) ⊎ ((status ≡ 6) ⊎ (status ≡ 8)) → order ≡ end_order → (GivesText status → IsSome seen) → (GivesText status → readings ≡ readings_of seen)
     → (status ≡ 8 → readings ≡ []) → IfSome seen (λ s. (length s.readings ≡ watchers) × All (AreReadings (length end_order)) s.readings)
     → HasReadings watchers status (length order) readings
@@ -59,7 +59,7 @@ read watchers status order end_order readings seen statuses same some same_readi
     AreRead : List (List ℕ) → Type 0
     AreRead r = (length r ≡ watchers) × All (AreReadings (length order)) r
 
-    by_seen : (o : Option Seen) → IsSome o → IfSome o (λ s. (length s.readings ≡ watchers) × All (AreReadings (length end_order)) s.readings) → AreRead (readings_of o)
+    by_seen : (o : Option RunReadings) → IsSome o → IfSome o (λ s. (length s.readings ≡ watchers) × All (AreReadings (length end_order)) s.readings) → AreRead (readings_of o)
     by_seen None there h = let e : false ≡ true = there in absurd cc
     by_seen (Some s) there h = (h.0, subst (λ (o : List Mark). All (AreReadings (length o)) s.readings) (sym same) h.1)
 

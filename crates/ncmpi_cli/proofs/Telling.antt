@@ -7,6 +7,7 @@ use Rattle.nc_base.specs.declared.script.Script.{Script}
 use Rattle.script_spec.specs.ScriptGrammar.{fault_of, Reads}
 use Rattle.script_spec.specs.Texts.{script_line}
 use Rattle.serial_spec.specs.Redefinition.{layout_fault}
+use Rattle.ncmpi_cli.specs.Generated.{IsMadeStatus}
 use Rattle.dataset_start.specs.Dataset.{align_of, Asks, AsksFor, IsBadDataset, IsFaultyFile, IsRight, IsSoundFile, IsWrong, refusal, TellsDataset, TellsHeader, TellsRedefinition}
 use Rattle.dataset_start.specs.Readiness.{IsFaultless}
 use Rattle.dataset_start.specs.Stops.{line_of, status_of}
@@ -107,6 +108,17 @@ four_line stops.Memory s = absurd (omega (arith, s))
 told-in : (P : List ℕ → Type 0) (o : Option (List ℕ)) (line : List ℕ) → o ≡ Some line → IfSome o P → P line
 told-in P o line e p = subst (λ (x : Option (List ℕ)). IfSome x P) e p
 
+-- the fault of a script
+pub script : {Gives : List ℕ → Type 0} (left : Option (List ℕ)) (stop : Stop) (status : ℕ) → (status ≡ status_of stop) ⊎ (status ≡ 8)
+    → (status_of stop ≡ 3 → IfSome left (λ text. refusal text ≡ line_of stop)) → (status ≡ status_of stop → IfSome (line_of stop) Gives)
+    → status ≡ 3 → IfSome left (λ text. IsSomeAnd (refusal text) Gives)
+script left stop status (inr e) told gives s = absurd (omega (arith, e, s))
+script None stop status (inl e) told gives s = tt
+script {Gives} (Some text) stop status (inl e) told gives s =
+    let own : status_of stop ≡ 3 = sym e ∙ s in
+    let line = some_line stop own in
+    subst (λ (o : Option (List ℕ)). IsSomeAnd o Gives) (sym (told own ∙ line.1)) (told-in Gives (line_of stop) line.0 line.1 (gives e))
+
 pub dataset : {Gives : List ℕ → Type 0} (left held : Option (List ℕ)) (stop : Stop) (status : ℕ) → (status ≡ status_of stop) ⊎ (status ≡ 8)
     → (status_of stop ≡ 4 → (script : Script) × (Asks left script × IfSome (line_of stop) (TellsDataset script held)))
     → (status ≡ status_of stop → IfSome (line_of stop) Gives)
@@ -139,6 +151,25 @@ refused (Some text) held stop status (inl e) u s d k r = by_stop stop refl
     by_stop (stops.Redefinition f) x = let told = d (ap status_of x) in absurd (none-some told.0 told.1.0)
     by_stop stops.Source x = absurd (s x)
     by_stop stops.Disk x = let told = k (ap status_of x) in absurd (none-some told.0 told.1)
+    by_stop stops.Memory x = inr (e ∙ ap status_of x)
+
+-- a dataset with a fault is refused
+pub faulty : (left held : Option (List ℕ)) (stop : Stop) (status : ℕ) → (status ≡ status_of stop) ⊎ (status ≡ 8)
+    → (stop ≡ stops.Usage → ⊥) → (stop ≡ stops.Source → ⊥) → (stop ≡ stops.Disk → ⊥)
+    → (status_of stop ≡ 3 → IfSome left (λ text. refusal text ≡ line_of stop))
+    → IsSomeAnd left (λ text. AsksFor IsWrong text held) → (status ≡ 4) ⊎ (status ≡ 8)
+faulty left held stop status (inr e) u s k r a = inr e
+faulty None held stop status (inl e) u s k r a = absurd a
+faulty (Some text) held stop status (inl e) u s k r a = by_stop stop refl
+  where
+    by_stop : (other : Stop) → stop ≡ other → (status ≡ 4) ⊎ (status ≡ 8)
+    by_stop stops.Usage x = absurd (u x)
+    by_stop (stops.Script f) x = absurd (refused-asks text a.0 stop a.1 (ap status_of x) (r (ap status_of x)))
+    by_stop (stops.Header f) x = inl (e ∙ ap status_of x)
+    by_stop (stops.Layout f) x = inl (e ∙ ap status_of x)
+    by_stop (stops.Redefinition f) x = inl (e ∙ ap status_of x)
+    by_stop stops.Source x = absurd (s x)
+    by_stop stops.Disk x = absurd (k x)
     by_stop stops.Memory x = inr (e ∙ ap status_of x)
 
 -- a run of which nothing is at fault wants memory
@@ -182,3 +213,30 @@ pub not_unread : {Q : Type 0} (left : Option (List ℕ)) (script : Script) → A
 not_unread None script a r = absurd r
 not_unread (Some text) script a r =
     absurd (both_ways (is_some (refusal text)) (ap (λ (o : Option (List ℕ)). is_some o) (not_refused text script a)) r)
+
+-- ---- the statuses of a run whose text is given, or wants memory
+
+pub whole_or_memory : (status : ℕ) → (status ≡ 0) ⊎ ((status ≡ 6) ⊎ (status ≡ 8)) → (status ≡ 6 → ⊥) → (status ≡ 0) ⊎ (status ≡ 8)
+whole_or_memory status (inl s) still = inl s
+whole_or_memory status (inr (inl s)) still = absurd (still s)
+whole_or_memory status (inr (inr s)) still = inr s
+
+pub made_end : (status : ℕ) → (status ≡ 0) ⊎ ((status ≡ 6) ⊎ (status ≡ 8)) → IsMadeStatus status
+made_end status (inl s) = inl s
+made_end status (inr (inl s)) = inr (inl s)
+made_end status (inr (inr s)) = inr (inr (inr s))
+
+pub no_script : {Q : Type 0} (status : ℕ) → (status ≡ 0) ⊎ ((status ≡ 6) ⊎ (status ≡ 8)) → status ≡ 3 → Q
+no_script status (inl s) e = absurd (omega (arith, s, e))
+no_script status (inr (inl s)) e = absurd (omega (arith, s, e))
+no_script status (inr (inr s)) e = absurd (omega (arith, s, e))
+
+pub no_dataset : {Q : Type 0} (status : ℕ) → (status ≡ 0) ⊎ ((status ≡ 6) ⊎ (status ≡ 8)) → status ≡ 4 → Q
+no_dataset status (inl s) e = absurd (omega (arith, s, e))
+no_dataset status (inr (inl s)) e = absurd (omega (arith, s, e))
+no_dataset status (inr (inr s)) e = absurd (omega (arith, s, e))
+
+pub no_disk : {Q : Type 0} (status : ℕ) → (status ≡ 0) ⊎ ((status ≡ 6) ⊎ (status ≡ 8)) → status ≡ 7 → Q
+no_disk status (inl s) e = absurd (omega (arith, s, e))
+no_disk status (inr (inl s)) e = absurd (omega (arith, s, e))
+no_disk status (inr (inr s)) e = absurd (omega (arith, s, e))

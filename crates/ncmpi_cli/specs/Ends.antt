@@ -1,82 +1,61 @@
 -- What each form does, by the status with which it ends.
---     Seen                             what source, disk and sink tell at one time, and how often each failed
 --     HasRun, HasListed, HasGenerated  the ends of a run of the source's script, of a list of offsets, and of a run of a made script
 --     EndsAs form                      the end that the words ask for
 --     watchers_of form                 how many watch
 --     HasReadings                      the numbers that they read
 use Rattle.std.specs.Prelude.{ℕ, ◌≡◌, ◌⊎◌, List, [], length, All, Option, Some, None, IfSome, IsSomeAnd, is_some, true}
-use Rattle.nc_base.specs.declared.step.DiskCall.{DiskCall}
 use Rattle.nc_base.specs.declared.step.Mark.{Mark}
 use Rattle.nc_base.specs.declared.step.StepErr.TheVariants.{Disk}
-use Rattle.nc_outside.specs.Cause.{Rose}
 use Rattle.nc_outside.specs.Told.{after}
 use Rattle.serial_spec.specs.DeviceCalls.{head_load}
 use Rattle.rank_meeting.specs.Begun.{HasBegun}
 use Rattle.ncmpi_cli.specs.Faults.{EndsEarly, MadeEndsEarly, MadeWantsMemory, WantsMemory}
 use Rattle.ncmpi_cli.specs.Generated.{IsMadeStatus, MadeFront, MadeWhole, script_made}
 use Rattle.ncmpi_cli.specs.Headline.{BeginsFor, GivesLine, GivesText, RanToSink, RanWell}
+use Rattle.ncmpi_cli.specs.Outside.{DiskFailed, Output, Seen, SinkFailed, SourceFailed}
 use Rattle.dataset_start.specs.Dataset.{AsksFor, IsBadDataset, IsRight, IsWrong, refusal, TellsHeader}
 use Rattle.ncmpi_cli.specs.OffsetList.{IsFaultyFront, IsListStatus, IsOfReadHeader, IsSoundFront, ListsFront, ListsWhole}
 use Rattle.dataset_start.specs.Readiness.{CanHaveBegun}
 use Rattle.ncmpi_cli.specs.Watched.{AreReadings}
 use Rattle.program_words.specs.Words.{Asked, run, offsets, generate}
 
-pub record Seen : Type 0 where
-  pub left : Option (List ℕ)
-  pub held : Option (List ℕ)
-  pub calls : Option (List DiskCall)
-  pub given : Option (List ℕ)
-  pub source_faults : ℕ
-  pub disk_faults : ℕ
-  pub sink_faults : ℕ
-
-module _ (before now : Seen) where
-  abbrev pub SourceFailed : Type 0
-  SourceFailed = Rose before.source_faults now.source_faults
-
-  abbrev pub DiskFailed : Type 0
-  DiskFailed = Rose before.disk_faults now.disk_faults
-
-  abbrev pub SinkFailed : Type 0
-  SinkFailed = Rose before.sink_faults now.sink_faults
-
-  -- a line was given whole, or a front of it where the sink failed
-  abbrev pub Gives : List ℕ → Type 0
-  Gives line = GivesLine before.sink_faults now.sink_faults before.given now.given line
+-- a line was given whole, or a front of it where the sink failed
+abbrev pub Gives : Output → Output → List ℕ → Type 0
+Gives before now line = GivesLine before.sink_faults now.sink_faults before.given now.given line
 
 -- ---- a run of the script that the source has
 
 pub record HasRun (before now : Seen) (status : ℕ) (order : List Mark) (readings : List (List ℕ)) : Type 0 where
   -- file, text and device calls are those of the calls done one after another in the order
-  pub well : status ≡ 0 → RanWell before.left now.left before.held now.held before.calls now.calls before.given now.given order readings
+  pub well : status ≡ 0 → RanWell before now order readings
   -- where the sink fails, the file is the same, and a front of the text was given
-  pub cut : status ≡ 6 → RanToSink before.left now.left before.held now.held before.calls now.calls before.given now.given order readings
+  pub cut : status ≡ 6 → RanToSink before now order readings
   -- the fault of the script, or of its dataset, is told
-  pub script : status ≡ 3 → IfSome before.left (λ text. IsSomeAnd (refusal text) (Gives before now))
-  pub dataset : status ≡ 4 → (line : List ℕ) × (IsBadDataset before.left before.held line × Gives before now line)
+  pub script : status ≡ 3 → IfSome before.left (λ text. IsSomeAnd (refusal text) (Gives before.output now.output))
+  pub dataset : status ≡ 4 → (line : List ℕ) × (IsBadDataset before.left before.output.held line × Gives before.output now.output line)
   -- where the source is not at fault, a text with a fault is refused
   pub refused : IsSomeAnd before.left (λ text. is_some (refusal text) ≡ true) → ¬ (SourceFailed before now) → (status ≡ 3) ⊎ (status ≡ 8)
   -- where the disk is not at fault either, a dataset with a fault is refused
-  pub faulty : IsSomeAnd before.left (λ text. AsksFor IsWrong text before.held) → ¬ (SourceFailed before now) → ¬ (DiskFailed before now)
-      → (status ≡ 4) ⊎ (status ≡ 8)
+  pub faulty : IsSomeAnd before.left (λ text. AsksFor IsWrong text before.output.held) → ¬ (SourceFailed before now)
+      → ¬ (DiskFailed before.output now.output) → (status ≡ 4) ⊎ (status ≡ 8)
   -- where nothing is at fault, the run ends well or wants memory
-  pub complete : IsSomeAnd before.left (λ text. AsksFor IsRight text before.held) → ¬ (SourceFailed before now) → ¬ (SinkFailed before now)
-      → ¬ (DiskFailed before now) → (status ≡ 0) ⊎ (status ≡ 8)
+  pub complete : IsSomeAnd before.left (λ text. AsksFor IsRight text before.output.held) → ¬ (SourceFailed before now)
+      → ¬ (SinkFailed before.output now.output) → ¬ (DiskFailed before.output now.output) → (status ≡ 0) ⊎ (status ≡ 8)
   -- the steps that were finished begin an order of the script
   pub steps : IfSome before.left (λ text. BeginsFor text order)
   -- whatever the status, a step was done only where the ranks can have begun
-  pub began : (order ≡ []) ⊎ CanHaveBegun before.left now.left before.held
+  pub began : (order ≡ []) ⊎ CanHaveBegun before.left now.left before.output.held
   -- and so none where the text is refused or its dataset is
   pub unread : IsSomeAnd before.left (λ text. is_some (refusal text) ≡ true) → order ≡ []
-  pub unfit : IsSomeAnd before.left (λ text. AsksFor IsWrong text before.held) → order ≡ []
+  pub unfit : IsSomeAnd before.left (λ text. AsksFor IsWrong text before.output.held) → order ≡ []
   -- where the disk fails, the dataset was not made ready, or the run of its ranks was cut off behind the steps of the order
-  pub torn : status ≡ 7 → EndsEarly before.left now.left before.held now.held Disk order
+  pub torn : status ≡ 7 → EndsEarly Disk before now order
   -- where memory is wanting, the same, or all but the text was done
-  pub wanting : status ≡ 8 → WantsMemory before.left now.left before.held now.held before.calls now.calls order
+  pub wanting : status ≡ 8 → WantsMemory before now order
 
 -- ---- a list of offsets
 
-pub record HasListed (before now : Seen) (status : ℕ) (order : List Mark) : Type 0 where
+pub record HasListed (before now : Output) (status : ℕ) (order : List Mark) : Type 0 where
   pub statuses : IsListStatus status
   pub whole : status ≡ 0 → ListsWhole before.held before.given now.given
   pub cut : status ≡ 6 → ListsFront before.held before.given now.given
@@ -91,26 +70,26 @@ pub record HasListed (before now : Seen) (status : ℕ) (order : List Mark) : Ty
 
 -- ---- a run of a made script
 
-pub record HasGenerated (seed size : ℕ) (before now : Seen) (status : ℕ) (order : List Mark) : Type 0 where
+pub record HasGenerated (seed size : ℕ) (before now : Output) (status : ℕ) (order : List Mark) : Type 0 where
   -- it reads nothing, and nothing is wrong with the layout of its dataset
   pub statuses : IsMadeStatus status
-  pub well : status ≡ 0 → MadeWhole seed size before.held now.held before.calls now.calls before.given now.given order
-  pub cut : status ≡ 6 → MadeFront seed size before.held now.held before.calls now.calls before.given now.given order
+  pub well : status ≡ 0 → MadeWhole seed size before now order
+  pub cut : status ≡ 6 → MadeFront seed size before now order
   pub complete : ¬ (SinkFailed before now) → ¬ (DiskFailed before now) → (status ≡ 0) ⊎ (status ≡ 8)
   -- the steps that were finished begin an order of the script
   pub steps : HasBegun (script_made seed size) order
   -- where the disk fails, the dataset was not made ready, or the run of its ranks was cut off behind the steps of the order
-  pub torn : status ≡ 7 → MadeEndsEarly seed size before.held now.held Disk order
+  pub torn : status ≡ 7 → MadeEndsEarly seed size Disk before now order
   -- where memory is wanting, the same, or all but the text was done
-  pub wanting : status ≡ 8 → MadeWantsMemory seed size before.held now.held before.calls now.calls order
+  pub wanting : status ≡ 8 → MadeWantsMemory seed size before now order
 
 -- ---- every form
 
 abbrev pub EndsAs : Option Asked → Seen → Seen → ℕ → List Mark → List (List ℕ) → Type 0
 EndsAs None before now status order readings = ((status ≡ 2) ⊎ (status ≡ 8)) × (order ≡ [])
 EndsAs (Some (run watchers name)) before now status order readings = HasRun before now status order readings
-EndsAs (Some (offsets name)) before now status order readings = HasListed before now status order
-EndsAs (Some (generate seed size name)) before now status order readings = HasGenerated seed size before now status order
+EndsAs (Some (offsets name)) before now status order readings = HasListed before.output now.output status order
+EndsAs (Some (generate seed size name)) before now status order readings = HasGenerated seed size before.output now.output status order
 
 -- the form reads the script that the source has
 abbrev pub TakesScript : Option Asked → Type 0

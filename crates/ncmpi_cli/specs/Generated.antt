@@ -1,11 +1,12 @@
 -- What a run of a made script did.
 --     script_made seed size      the script
+--     made_header seed size      the header of its dataset
 --     new_end, summed            what its calls lead to in an order, and the text that sums that up
 --     RanMade                    the order is legal, and file, device calls and text are those of the calls done one after another in it
 --     MadeWhole, MadeFront       the text was given whole, or a front of it
-use Rattle.std.specs.Prelude.{ℕ, ◌≡◌, ◌⊎◌, List, take, Option, Some, IfSome}
+use Rattle.std.specs.Prelude.{ℕ, ◌≡◌, ◌⊎◌, List, take, Some, IfSome}
+use Rattle.nc_base.specs.declared.header.Header.{Header}
 use Rattle.nc_base.specs.declared.script.Script.{Script}
-use Rattle.nc_base.specs.declared.step.DiskCall.{DiskCall}
 use Rattle.nc_base.specs.declared.step.Mark.{Mark}
 use Rattle.nc_outside.specs.Told.{after, with_end}
 use Rattle.serial_spec.specs.DeviceCalls.{all_calls}
@@ -13,10 +14,14 @@ use Rattle.serial_spec.specs.History.{IsLegal}
 use Rattle.serial_spec.specs.SerialEnd.{End, serial}
 use Rattle.script_spec.specs.Generator.{made_script, summary_text}
 use Rattle.dataset_start.specs.Dataset.{created_header}
+use Rattle.ncmpi_cli.specs.Outside.{Output}
 
 -- the script that the seed makes, with so many records
 unfoldable pub script_made : ℕ → ℕ → Script
 script_made seed size = made_script seed size
+
+abbrev pub made_header : ℕ → ℕ → Header
+made_header seed size = created_header (script_made seed size)
 
 -- what the calls of a script lead to, done one after another in the order, on a new dataset
 abbrev pub new_end : Script → List ℕ → List Mark → End
@@ -25,28 +30,25 @@ new_end script file order = serial script (created_header script) file order
 abbrev pub summed : ℕ → ℕ → Script → List Mark → End → List ℕ
 summed seed size script order end = summary_text seed size script (record (created_header script) { records = end.records }) order end.answers
 
--- what was done to a file that is told
-pub record IsSummed (seed size : ℕ) (script : Script) (file : List ℕ) (held_after : Option (List ℕ)) (calls_before calls_after : Option (List DiskCall)) (order : List Mark) (text : List ℕ) : Type 0 where
-  pub bytes : held_after ≡ Some (new_end script file order).bytes
-  pub calls : calls_after ≡ after (λ _. all_calls script (created_header script) (created_header script) file order) calls_before
-  pub lines : text ≡ summed seed size script order (new_end script file order)
-
-pub record RanMade (seed size : ℕ) (held_before held_after : Option (List ℕ)) (calls_before calls_after : Option (List DiskCall)) (order : List Mark) (text : List ℕ) : Type 0 where
+-- what was done, to a file that is told
+pub record RanMade (seed size : ℕ) (before now : Output) (order : List Mark) (text : List ℕ) : Type 0 where
   pub legal : IsLegal (script_made seed size) order
-  pub done : IfSome held_before (λ file. IsSummed seed size (script_made seed size) file held_after calls_before calls_after order text)
+  pub bytes : IfSome before.held (λ file. now.held ≡ Some (new_end (script_made seed size) file order).bytes)
+  pub calls : IfSome before.held (λ file. now.calls ≡ after (λ _. all_calls (script_made seed size) (made_header seed size) (made_header seed size) file order) before.calls)
+  pub lines : IfSome before.held (λ file. text ≡ summed seed size (script_made seed size) order (new_end (script_made seed size) file order))
 
 -- the same, with the text given whole
-pub record MadeWhole (seed size : ℕ) (held_before held_after : Option (List ℕ)) (calls_before calls_after : Option (List DiskCall)) (given_before given_after : Option (List ℕ)) (order : List Mark) : Type 0 where
+pub record MadeWhole (seed size : ℕ) (before now : Output) (order : List Mark) : Type 0 where
   pub text : List ℕ
-  pub ran : RanMade seed size held_before held_after calls_before calls_after order text
-  pub given : given_after ≡ with_end given_before text
+  pub ran : RanMade seed size before now order text
+  pub given : now.given ≡ with_end before.given text
 
 -- the same, with a front of the text given
-pub record MadeFront (seed size : ℕ) (held_before held_after : Option (List ℕ)) (calls_before calls_after : Option (List DiskCall)) (given_before given_after : Option (List ℕ)) (order : List Mark) : Type 0 where
+pub record MadeFront (seed size : ℕ) (before now : Output) (order : List Mark) : Type 0 where
   pub text : List ℕ
   pub count : ℕ
-  pub ran : RanMade seed size held_before held_after calls_before calls_after order text
-  pub given : given_after ≡ with_end given_before (take count text)
+  pub ran : RanMade seed size before now order text
+  pub given : now.given ≡ with_end before.given (take count text)
 
 -- the statuses with which such a run may end
 abbrev pub IsMadeStatus : ℕ → Type 0

@@ -1,11 +1,11 @@
 -- What a run that ended well did, and what each status leaves.
+--     file_at_start, end_of_run              the file when the ranks begin, and what the calls lead to
 --     with_counts, watched_text              what watchers read, and its lines
---     IsDone, Ran, RanWell, RanToSink        what a run did to the file, and what it gave
+--     Ran, RanWell, RanToSink                what a run did to the file, and what it gave
 --     BeginsFor, GivesLine                   the steps that were done, and the line that was given
 use Rattle.std.specs.Prelude.{ℕ, ◌≡◌, ◌⊎◌, List, [], ◌++◌, map, take, Option, Some, IfSome}
 use Rattle.nc_base.specs.declared.header.Header.{Header}
 use Rattle.nc_base.specs.declared.script.Script.{Script}
-use Rattle.nc_base.specs.declared.step.DiskCall.{DiskCall}
 use Rattle.nc_base.specs.declared.step.Mark.{Mark}
 use Rattle.nc_outside.specs.Told.{after, with_end}
 use Rattle.nc_outside.specs.Cause.{Rose}
@@ -16,7 +16,8 @@ use Rattle.serial_spec.specs.SerialEnd.{count_after, End, serial, start}
 use Rattle.rank_meeting.specs.Begun.{HasBegun}
 use Rattle.script_spec.specs.ScriptGrammar.{Reads}
 use Rattle.script_spec.specs.Texts.{run_text, watch_text}
-use Rattle.dataset_start.specs.Dataset.{AreHeadersOf, IsBeforeStart, front}
+use Rattle.dataset_start.specs.Dataset.{AreHeadersOf, IsBeforeStart}
+use Rattle.ncmpi_cli.specs.Outside.{Seen}
 
 -- ---- a run that ended well
 
@@ -25,50 +26,50 @@ text_of script header order end = run_text script (record header { records = end
 
 -- a watcher's numbers of steps, each with the record count after so many, from the bytes when the ranks begin
 abbrev pub with_counts : Script → Header → List ℕ → List Mark → List ℕ → List (ℕ × ℕ)
-with_counts script header begun order numbers = map (λ steps. (steps, count_after script header begun order steps)) numbers
+with_counts script header file order numbers = map (λ steps. (steps, count_after script header file order steps)) numbers
 
 -- the lines of what watchers read, none where nobody watched
 abbrev pub watched_text : Script → Header → List ℕ → List Mark → List (List ℕ) → List ℕ
-watched_text script header begun order readings = watch_text (map (with_counts script header begun order) readings)
+watched_text script header file order readings = watch_text (map (with_counts script header file order) readings)
 
--- what the calls lead to, done one after another in the order: on what the file held or, where the script adds to it, on the
--- redefined file
+-- the file when the ranks begin: what it held or, where the script adds to it, the redefined file, made ready for them
+abbrev pub file_at_start : Script → Header → Header → List ℕ → List ℕ
+file_at_start script old header file = start script header (brought script old header file)
+
+-- what the calls lead to, done one after another in the order
 abbrev pub end_of_run : Script → Header → Header → List ℕ → List Mark → End
 end_of_run script old header file order = serial script header (brought script old header file) order
 
--- What was done to a file that is told: its bytes and the text are those of the calls done one after another in the order, and
--- the device calls are those of the plan. What watchers read stands behind the text.
-pub record IsDone (script : Script) (old header : Header) (file : List ℕ) (held_after : Option (List ℕ)) (calls_before calls_after : Option (List DiskCall)) (order : List Mark) (readings : List (List ℕ)) (text : List ℕ) : Type 0 where
-  pub bytes : held_after ≡ Some (end_of_run script old header file order).bytes
-  pub calls : calls_after ≡ after (λ _. all_calls script old header file order) calls_before
-  pub lines : text ≡ text_of script header order (end_of_run script old header file order) ++ watched_text script header (start script header (brought script old header file)) order readings
-
--- The script is the one that the source's text spells, which was taken to its end. The order is legal, and file, text and device
--- calls are those of the calls done one after another in it, on what the dataset held.
-pub record Ran (left_before left_after held_before held_after : Option (List ℕ)) (calls_before calls_after : Option (List DiskCall)) (order : List Mark) (readings : List (List ℕ)) (text : List ℕ) : Type 0 where
+-- The script is the one that the source's text spells, which was taken to its end. The order is legal. Of a file that is told, bytes
+-- and text are those of the calls done one after another in the order, on what the dataset held, and the device calls are those of
+-- the plan. What watchers read stands behind the text.
+pub record Ran (before now : Seen) (order : List Mark) (readings : List (List ℕ)) (text : List ℕ) : Type 0 where
   pub script : Script
   pub old : Header
   pub header : Header
   pub file : List ℕ
-  pub reads : IfSome left_before (λ text. Reads text script)
-  pub taken : left_after ≡ after (λ _. []) left_before
-  pub held : IfSome held_before (λ bytes. bytes ≡ file)
+  pub reads : IfSome before.left (λ text. Reads text script)
+  pub taken : now.left ≡ after (λ _. []) before.left
+  pub held : IfSome before.output.held (λ bytes. bytes ≡ file)
   pub heads : AreHeadersOf script file old header
   pub legal : IsLegal script order
-  pub done : IfSome held_before (λ bytes. IsDone script old header bytes held_after calls_before calls_after order readings text)
+  pub bytes : IfSome before.output.held (λ bytes. now.output.held ≡ Some (end_of_run script old header bytes order).bytes)
+  pub calls : IfSome before.output.held (λ bytes. now.output.calls ≡ after (λ _. all_calls script old header bytes order) before.output.calls)
+  pub lines : IfSome before.output.held (λ bytes. text
+      ≡ text_of script header order (end_of_run script old header bytes order) ++ watched_text script header (file_at_start script old header bytes) order readings)
 
 -- the same, with the text given whole
-pub record RanWell (left_before left_after held_before held_after : Option (List ℕ)) (calls_before calls_after : Option (List DiskCall)) (given_before given_after : Option (List ℕ)) (order : List Mark) (readings : List (List ℕ)) : Type 0 where
+pub record RanWell (before now : Seen) (order : List Mark) (readings : List (List ℕ)) : Type 0 where
   pub text : List ℕ
-  pub ran : Ran left_before left_after held_before held_after calls_before calls_after order readings text
-  pub given : given_after ≡ with_end given_before text
+  pub ran : Ran before now order readings text
+  pub given : now.output.given ≡ with_end before.output.given text
 
 -- the same, with a front of the text given
-pub record RanToSink (left_before left_after held_before held_after : Option (List ℕ)) (calls_before calls_after : Option (List DiskCall)) (given_before given_after : Option (List ℕ)) (order : List Mark) (readings : List (List ℕ)) : Type 0 where
+pub record RanToSink (before now : Seen) (order : List Mark) (readings : List (List ℕ)) : Type 0 where
   pub text : List ℕ
   pub count : ℕ
-  pub ran : Ran left_before left_after held_before held_after calls_before calls_after order readings text
-  pub given : given_after ≡ with_end given_before (take count text)
+  pub ran : Ran before now order readings text
+  pub given : now.output.given ≡ with_end before.output.given (take count text)
 
 -- ---- what each status leaves
 

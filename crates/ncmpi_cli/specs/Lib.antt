@@ -1,3 +1,4 @@
+pub mod Outside
 pub mod Headline
 pub mod Watched
 pub mod BeforeRun

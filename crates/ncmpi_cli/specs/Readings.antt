@@ -8,7 +8,7 @@ use Rattle.nc_base.specs.declared.header.Header.{Header}
 use Rattle.nc_base.specs.declared.script.Script.{Script}
 use Rattle.script_spec.specs.Texts.{run_text, watch_text}
 use Rattle.ncmpi_cli.specs.Headline.{with_counts}
-use Rattle.ncmpi_cli.specs.declared.watched_run.Seen.{Seen}
+use Rattle.ncmpi_cli.specs.declared.watched_run.RunReadings.{RunReadings}
 use Rattle.ncmpi_cli.specs.declared.watched_run.WatchedRun.{WatchedRun}
 
 -- the opening count, or the one after the last of the steps
@@ -19,11 +19,11 @@ count_at opening counts (suc k) = get_or counts k opening
 abbrev pub counted : ℕ → List ℕ → List ℕ → List (ℕ × ℕ)
 counted opening counts numbers = map (λ steps. (steps, count_at opening counts steps)) numbers
 
-abbrev pub readings_of : Option Seen → List (List ℕ)
+abbrev pub readings_of : Option RunReadings → List (List ℕ)
 readings_of None = []
 readings_of (Some seen) = seen.readings
 
-abbrev pub pairs_of : ℕ → Option Seen → List (List (ℕ × ℕ))
+abbrev pub pairs_of : ℕ → Option RunReadings → List (List (ℕ × ℕ))
 pairs_of opening None = []
 pairs_of opening (Some seen) = map (counted opening seen.counts) seen.readings
 
@@ -34,4 +34,4 @@ whole_text script header opening run =
 
 -- from the bytes when the ranks begin
 abbrev pub AreCounted : Script → Header → WatchedRun → List ℕ → Type 0
-AreCounted script header run begun = pairs_of header.records run.seen ≡ map (with_counts script header begun run.end.order) (readings_of run.seen)
+AreCounted script header run file = pairs_of header.records run.seen ≡ map (with_counts script header file run.end.order) (readings_of run.seen)

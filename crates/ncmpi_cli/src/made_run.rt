@@ -1,22 +1,19 @@
 // A run of a script that is made by a seed.
 ghost use Rattle.std.specs.Prelude.{◌≡◌, ◌≤◌, ◌⊎◌, ℕ, [], true, take, IfErr, IfOk, IfSome, IsErrOf, OnErr, OnOk};
-ghost use Rattle.nc_base.specs.declared.step.StepErr.TheVariants as fault;
 ghost use Rattle.nc_outside.specs.Told.{with_end, BothTold};
 ghost use Rattle.script_spec.specs.Generator as spec;
 ghost use Rattle.nc_outside.specs.Cause.{Rose};
-ghost use Rattle.rank_meeting.specs.Begun.{HasBegun};
-ghost use Rattle.serial_spec.specs.HeaderBytes.{header_len};
 ghost use Rattle.serial_spec.specs.SoundHeaders.{is_sound};
-ghost use Rattle.serial_spec.specs.Layout.{end_of};
-ghost use Rattle.ncmpi_cli.specs.Faults.{MadeEndsEarly, MadeWantsMemory};
-ghost use Rattle.ncmpi_cli.specs.Generated.{IsMadeStatus, MadeFront, MadeWhole, script_made};
+ghost use Rattle.ncmpi_cli.specs.Ends.{HasGenerated};
+ghost use Rattle.ncmpi_cli.specs.Generated.{IsMadeStatus, script_made};
 ghost use Rattle.ncmpi_cli.specs.Headline.{GivesLine};
-ghost use Rattle.dataset_start.specs.Readiness.{IsNotReady, IsReady};
+ghost use Rattle.ncmpi_cli.specs.Outside.{output_at};
+ghost use Rattle.dataset_start.specs.Readiness.{dataset_end, IsNotReady, IsReady};
 ghost use Rattle.dataset_start.specs.Stops.{IsOfDataset, line_of_status, status_of};
 
 use crate::report::{give, tell};
 use crate::top::Outcome;
-use dataset_start::{Begun, Stop, make_ready};
+use dataset_start::{Ready, Stop, make_ready};
 use generated_run::{make_script, summary_text};
 use nc_base::{MarkList, ReadingTable, RunEnd, StepErr};
 use nc_outside::{Disk, Gate, Sink};
@@ -37,38 +34,33 @@ pub(crate) fn run_made<R: Threads + Wait + Sync, K: Sink, D: Disk, G: Gate>(
 ) -> Outcome
     requires some { 1 ≤ size }
     requires few { size ≤ 64 }
-    ensures well { result.status ≡ 0 → MadeWhole seed size (D.held disk.old) (D.held disk.new) (D.calls disk.old) (D.calls disk.new) (K.given out.old) (K.given out.new) result.order }
-    ensures cut { result.status ≡ 6 → MadeFront seed size (D.held disk.old) (D.held disk.new) (D.calls disk.old) (D.calls disk.new) (K.given out.old) (K.given out.new) result.order }
+    ensures ends { HasGenerated seed size (output_at D.Disk K.Sink disk.old out.old) (output_at D.Disk K.Sink disk.new out.new) result.status result.order }
     ensures statuses { IsMadeStatus result.status }
     ensures sink { result.status ≡ 6 → Rose (K.faults out.old) (K.faults out.new) }
     ensures disk { result.status ≡ 7 → Rose (D.faults disk.old) (D.faults disk.new) }
-    ensures complete { ¬ (Rose (K.faults out.old) (K.faults out.new)) → ¬ (Rose (D.faults disk.old) (D.faults disk.new)) → (result.status ≡ 0) ⊎ (result.status ≡ 8) }
-    ensures torn { result.status ≡ 7 → MadeEndsEarly seed size (D.held disk.old) (D.held disk.new) fault.Disk result.order }
-    ensures wanting { result.status ≡ 8 → MadeWantsMemory seed size (D.held disk.old) (D.held disk.new) (D.calls disk.old) (D.calls disk.new) result.order }
     ensures silent { result.status ≡ 8 → out.new ≡ out.old }
-    ensures steps { HasBegun (script_made seed size) result.order }
     ensures readings { result.readings ≡ [] }
     ensures told { IfSome (line_of_status result.status) (λ line. GivesLine (K.faults out.old) (K.faults out.new) (K.given out.old) (K.given out.new) line) }
 {
     let alloc = tools.alloc;
-    let mut begun = match begin_made(alloc, seed, size, dataset, disk) {
-        Ok(begun) => begun,
+    let mut ready = match begin_made(alloc, seed, size, dataset, disk) {
+        Ok(ready) => ready,
         Err(stop) => return tell(alloc, out, stop, MarkList::new(alloc)),
     };
-    let mut records = begun.header.records;
+    let mut records = ready.header.records;
     let end = run_ranks(
         tools.rt,
         alloc,
         disk,
-        &begun.header,
+        &ready.header,
         &mut records,
-        &begun.script,
+        &ready.script,
         tools.gate,
     );
     match end.fault {
         None => {
-            begun.header.records = records;
-            sum_up(alloc, out, seed, size, &begun, end)
+            ready.header.records = records;
+            sum_up(alloc, out, seed, size, &ready, end)
         }
         Some(StepErr::Disk) => tell(alloc, out, Stop::Disk, end.order),
         Some(StepErr::Memory) => tell(alloc, out, Stop::Memory, end.order),
@@ -82,13 +74,13 @@ fn begin_made<D: Disk>(
     size: u32,
     dataset: &str,
     disk: &mut D,
-) -> Result<Begun, Stop>
+) -> Result<Ready, Stop>
     requires some { 1 ≤ size }
     requires few { size ≤ 64 }
-    ensures script { IfOk result (λ b. b.script ≡ script_made seed size) }
-    ensures ready { IfOk result (λ b. IsReady b.script b.header (D.held disk.old) (D.held disk.new) (D.calls disk.old) (D.calls disk.new)) }
+    ensures script { IfOk result (λ ready. ready.script ≡ script_made seed size) }
+    ensures ready { IfOk result (λ ready. IsReady ready.script ready.header (D.held disk.old) (D.held disk.new) (D.calls disk.old) (D.calls disk.new)) }
     ensures from { OnOk result (D.from disk.new ≡ 0) }
-    ensures len { IfOk result (λ b. end_of b.header (header_len b.header) b.header.records ≤ D.len disk.new) }
+    ensures len { IfOk result (λ ready. dataset_end ready.header ≤ D.len disk.new) }
     ensures laid { IfErr result (λ stop. ¬ (status_of stop ≡ 4)) }
     ensures torn { OnErr result (BothTold (IsNotReady (script_made seed size)) (D.held disk.old) (D.held disk.new)) }
     ensures disk { IsErrOf result Stop.Disk → Rose (D.faults disk.old) (D.faults disk.new) }
@@ -97,7 +89,7 @@ fn begin_made<D: Disk>(
 {
     let script = make_script(alloc, seed, size)?;
     let header = make_ready(alloc, disk, dataset, &script)?;
-    Ok(Begun { script, header })
+    Ok(Ready { script, header })
 }
 
 // Gives the text that sums up a run that ended without a fault.
@@ -106,20 +98,20 @@ fn sum_up<K: Sink>(
     out: &mut K,
     seed: u64,
     size: u32,
-    begun: &Begun,
+    ready: &Ready,
     end: RunEnd,
 ) -> Outcome
-    requires counted { spec.has_counts begun.now.script ≡ true }
-    requires sound { is_sound begun.now.header ≡ true }
-    ensures whole { result.status ≡ 0 → K.given out.new ≡ with_end (K.given out.old) (spec.summary_text seed size begun.now.script begun.now.header end.order end.answers) }
-    ensures front { result.status ≡ 6 → (n : ℕ) × (K.given out.new ≡ with_end (K.given out.old) (take n (spec.summary_text seed size begun.now.script begun.now.header end.order end.answers))) }
+    requires counted { spec.has_counts ready.now.script ≡ true }
+    requires sound { is_sound ready.now.header ≡ true }
+    ensures whole { result.status ≡ 0 → K.given out.new ≡ with_end (K.given out.old) (spec.summary_text seed size ready.now.script ready.now.header end.order end.answers) }
+    ensures front { result.status ≡ 6 → (n : ℕ) × (K.given out.new ≡ with_end (K.given out.old) (take n (spec.summary_text seed size ready.now.script ready.now.header end.order end.answers))) }
     ensures sink { result.status ≡ 6 → Rose (K.faults out.old) (K.faults out.new) }
     ensures silent { result.status ≡ 8 → out.new ≡ out.old }
     ensures statuses { (result.status ≡ 0) ⊎ ((result.status ≡ 6) ⊎ (result.status ≡ 8)) }
     ensures order { result.order ≡ end.order }
     ensures readings { result.readings ≡ [] }
 {
-    match summary_text(alloc, seed, size, &begun.script, &begun.header, &end) {
+    match summary_text(alloc, seed, size, &ready.script, &ready.header, &end) {
         Ok(text) => give(out, text.as_slice(), end.order, ReadingTable::new(alloc)),
         Err(_) => tell(alloc, out, Stop::Memory, end.order),
     }

@@ -8,7 +8,7 @@ ghost use Rattle.ncmpi_cli.specs.Readings as spec;
 ghost use Rattle.dataset_start.specs.Stops.{fixed_line_of, line_of, status_of};
 
 use crate::top::Outcome;
-use crate::watched_run::{Seen, WatchedRun};
+use crate::watched_run::{RunReadings, WatchedRun};
 use crate::watcher_lines::push_watchers;
 use dataset_start::{Stop, give_all};
 use nc_base::{Blob, Header, MarkList, Memory, ReadingTable, RunEnd, Script};
@@ -54,7 +54,7 @@ fn whole_text(
     header: &Header,
     end: &RunEnd,
     opening: u64,
-    seen: &Seen,
+    seen: &RunReadings,
 ) -> Result<Blob, Memory>
     requires sound { is_sound header.now ≡ true }
     ensures { IfOk result (λ text. text ≡ spec.whole_text script.now header.now opening (record { end = end.now; seen = Some seen.now })) }
@@ -102,19 +102,20 @@ pub(crate) fn tell<K: Sink>(alloc: Global, out: &mut K, stop: Stop, order: MarkL
 {
     if let Some(line) = stop.fixed_line() {
         let _ = give_all(out, line);
-        return ended(alloc, stop.status(), order);
+        return outcome(alloc, stop.status(), order);
     }
     match stop.made_line(alloc) {
         Ok(Some(line)) => {
             let _ = give_all(out, line.as_slice());
-            ended(alloc, stop.status(), order)
+            outcome(alloc, stop.status(), order)
         }
-        Ok(None) => ended(alloc, stop.status(), order),
-        Err(_) => ended(alloc, 8, order),
+        Ok(None) => outcome(alloc, stop.status(), order),
+        Err(_) => outcome(alloc, 8, order),
     }
 }
 
-fn ended(alloc: Global, status: u8, order: MarkList) -> Outcome
+// An outcome of which no watcher has readings.
+fn outcome(alloc: Global, status: u8, order: MarkList) -> Outcome
     ensures status { result.status ≡ status }
     ensures order { result.order ≡ order }
     ensures readings { result.readings ≡ [] }

@@ -1,10 +1,11 @@
 // The top call.
-ghost use Rattle.std.specs.Prelude.{◌≡◌, ℕ, List, [], length, None, true, IfSome};
+ghost use Rattle.std.specs.Prelude.{◌≡◌, [], length, None, true, IfSome};
 ghost use Rattle.nc_outside.specs.Cause.{Rose};
 ghost use Rattle.nc_base.specs.declared.script.Script.{Script};
 ghost use Rattle.script_spec.specs.ScriptGrammar.{Reads};
 ghost use Rattle.ncmpi_cli.specs.Ends.{EndsAs, HasReadings, TakesScript, watchers_of};
 ghost use Rattle.ncmpi_cli.specs.Headline.{GivesLine, IsBeforeRanks, IsSilent, IsStatus};
+ghost use Rattle.ncmpi_cli.specs.Outside.{seen_at};
 ghost use Rattle.dataset_start.specs.Dataset.{IsBeforeStart};
 ghost use Rattle.dataset_start.specs.Stops.{line_of_status};
 ghost use Rattle.program_words.specs.Words.{form_of, texts};
@@ -56,8 +57,7 @@ pub fn ncrun<R: Threads + Wait + Sync, S: Source, K: Sink, D: Disk, G: Gate>(
 ) -> Outcome
     // What is done is what the words ask for.
     ensures ends { EndsAs (form_of (texts words.now))
-        (record { left = S.left script.old; held = D.held disk.old; calls = D.calls disk.old; given = K.given out.old; source_faults = S.faults script.old; disk_faults = D.faults disk.old; sink_faults = K.faults out.old })
-        (record { left = S.left script.new; held = D.held disk.new; calls = D.calls disk.new; given = K.given out.new; source_faults = S.faults script.new; disk_faults = D.faults disk.new; sink_faults = K.faults out.new })
+        (seen_at S.Source D.Disk K.Sink script.old disk.old out.old) (seen_at S.Source D.Disk K.Sink script.new disk.new out.new)
         result.status result.order result.readings }
 
     // Each status has its cause.

@@ -1,12 +1,10 @@
 // A run that is watched: threads beside it read how far it has come.
-ghost use Rattle.std.specs.Prelude.{◌≡◌, ◌≤◌, ◌<◌, ◌+◌, [], ℕ, length, map, slice_index, vec_len, vec_capacity, true, None, Some, All, IfOk, IfSome};
+ghost use Rattle.std.specs.Prelude.{◌≡◌, ◌≤◌, ◌<◌, ◌+◌, [], length, vec_capacity, true, None, Some, All, IfOk, IfSome};
 ghost use Rattle.nc_base.specs.declared.step.StepErr.TheVariants as fault;
-ghost use Rattle.serial_spec.specs.HeaderBytes.{header_len};
 ghost use Rattle.serial_spec.specs.SoundHeaders.{is_sound};
 ghost use Rattle.serial_spec.specs.Lawful.{is_lawful};
-ghost use Rattle.serial_spec.specs.Layout.{end_of};
+ghost use Rattle.dataset_start.specs.Readiness.{dataset_end};
 ghost use Rattle.serial_spec.specs.Readings.{told_of};
-ghost use Rattle.run_watch.specs.Heard.{opened};
 ghost use Rattle.turn_run.specs.Run.{IsRun};
 ghost use Rattle.turn_run.specs.Told.{HasTold};
 ghost use Rattle.ncmpi_cli.specs.Watched.{AreReadings, seen_counts};
@@ -26,7 +24,7 @@ use turn_run::stopped;
 
 /// What the watchers of a run read: the numbers of each, and the record count after each step of the run.
 #[derive(Drop)]
-pub(crate) struct Seen {
+pub(crate) struct RunReadings {
     pub readings: ReadingTable,
     pub counts: SizeList,
 }
@@ -35,7 +33,7 @@ pub(crate) struct Seen {
 #[derive(Drop)]
 pub(crate) struct WatchedRun {
     pub end: RunEnd,
-    pub seen: Option<Seen>,
+    pub seen: Option<RunReadings>,
 }
 
 /// The record count after each step that was told.
@@ -55,7 +53,7 @@ fn seen_of<R: Wait + Drop>(
     alloc: Global,
     board: &mut Board<R>,
     watched: Vec<Watched>,
-) -> Result<Seen, Memory>
+) -> Result<RunReadings, Memory>
     ensures readings { IfOk result (λ seen. (length seen.readings ≡ length watched.items) × All (AreReadings (length board.old.pairs)) seen.readings) }
     ensures counts { IfOk result (λ seen. seen.counts ≡ seen_counts board.old.pairs) }
     ensures long { IfOk result (λ seen. length seen.counts ≡ length board.old.pairs) }
@@ -66,7 +64,7 @@ fn seen_of<R: Wait + Drop>(
     for one in watched {
         readings.push(numbers_of(alloc, one, board.note(), told)?)?;
     }
-    Ok(Seen {
+    Ok(RunReadings {
         readings: ReadingTable::from_vec(readings),
         counts,
     })
@@ -78,7 +76,7 @@ fn seen_after<R: Wait + Drop>(
     end: &RunEnd,
     board: &mut Board<R>,
     watched: Vec<Watched>,
-) -> Option<Seen>
+) -> Option<RunReadings>
     requires { length board.old.pairs ≡ length end.now.order }
     ensures whole { IfSome result (λ _. end.now.fault ≡ None) }
     ensures readings { IfSome result (λ seen. (length seen.readings ≡ length watched.items) × All (AreReadings (length end.now.order)) seen.readings) }
@@ -112,7 +110,7 @@ fn watch_in_scope<'s, 'd, E, R: Threads + Wait + Sync, B: Wait + Drop, D: Disk, 
     requires sound { is_sound header.now ≡ true }
     requires lawful { is_lawful script.now ≡ true }
     requires from { D.from disk.old ≡ 0 }
-    requires long { end_of header.now (header_len header.now) header.now.records ≤ D.len disk.old }
+    requires long { dataset_end header.now ≤ D.len disk.old }
     requires made { IsMade header.now.records made }
     ensures run { IsRun script.now header.now (D.held disk.old) (D.calls disk.old) (D.faults disk.old)
         (D.held result.disk.now) (D.calls result.disk.now) (D.faults result.disk.now) result.records result.end }
@@ -220,7 +218,7 @@ fn run_watched<R: Threads + Wait + Sync, D: Disk, G: Gate>(
     requires lawful { is_lawful script.now ≡ true }
     requires records { records.old ≡ header.now.records }
     requires from { D.from disk.old ≡ 0 }
-    requires long { end_of header.now (header_len header.now) header.now.records ≤ D.len disk.old }
+    requires long { dataset_end header.now ≤ D.len disk.old }
     requires made { IsMade header.now.records made }
     ensures run { IsRun script.now header.now (D.held disk.old) (D.calls disk.old) (D.faults disk.old) (D.held disk.new) (D.calls disk.new) (D.faults disk.new) records.new result.end }
     ensures readings { IfSome result.seen (λ seen. (length seen.readings ≡ length made.entry.views.items) × All (AreReadings (length result.end.order)) seen.readings) }
@@ -238,7 +236,7 @@ fn run_watched<R: Threads + Wait + Sync, D: Disk, G: Gate>(
         tools.rt,
         |scope| -> Scoped<D, &R>
             requires { (is_sound header.now ≡ true) × (is_lawful script.now ≡ true) × (D.from disk.now ≡ 0)
-                × (end_of header.now (header_len header.now) header.now.records ≤ D.len disk.now) × IsMade header.now.records made }
+                × (dataset_end header.now ≤ D.len disk.now) × IsMade header.now.records made }
             ensures run { IsRun script.entry.now header.entry.now (D.held disk.entry.now) (D.calls disk.entry.now) (D.faults disk.entry.now)
                 (D.held result.disk.now) (D.calls result.disk.now) (D.faults result.disk.now) result.records result.end }
             ensures told { HasTold script.entry.now header.entry.now (D.held disk.entry.now) (Some []) (Some result.board.pairs) result.end.order }
@@ -270,7 +268,7 @@ pub(crate) fn watch_ranks<R: Threads + Wait + Sync, D: Disk, G: Gate>(
     requires lawful { is_lawful script.now ≡ true }
     requires records { records.old ≡ header.now.records }
     requires from { D.from disk.old ≡ 0 }
-    requires long { end_of header.now (header_len header.now) header.now.records ≤ D.len disk.old }
+    requires long { dataset_end header.now ≤ D.len disk.old }
     requires low { 1 ≤ watchers }
     requires high { watchers ≤ 8 }
     ensures run { IsRun script.now header.now (D.held disk.old) (D.calls disk.old) (D.faults disk.old) (D.held disk.new) (D.calls disk.new) (D.faults disk.new) records.new result.end }

@@ -10,7 +10,7 @@ ghost use Rattle.ncmpi_script.specs.TopWords.{head_by};
 use nc_base::{ScriptErr, ScriptKind};
 use script_calls::RankTable;
 use script_definitions::Draft;
-use script_words::word_forms::{bare, ended, version};
+use script_words::word_forms::{bare, no_more, version};
 use script_words::{Line, LineErr, ReadErr, TextLines, Token, Words, significant_line};
 use std::alloc::Global;
 
@@ -23,11 +23,11 @@ fn head(first: &Token<'_>, words: &mut Words<'_>) -> Result<u8, ReadErr>
     };
     if *first == b"create".as_slice() {
         let version = version(words)?;
-        ended(words)?;
+        no_more(words)?;
         return Ok(version);
     }
     if *first == b"open".as_slice() {
-        ended(words)?;
+        no_more(words)?;
         return Ok(0);
     }
     Err(ReadErr::Fault(ScriptKind::NoHead))
@@ -82,7 +82,7 @@ fn data_line(draft: &Draft<'_>, words: &mut Words<'_>) -> Result<u32, ReadErr>
     let Some(ranks) = draft.ranks() else {
         return Err(ReadErr::Fault(ScriptKind::MissingWord));
     };
-    ended(words)?;
+    no_more(words)?;
     Ok(ranks)
 }
 
@@ -155,7 +155,7 @@ fn call_step<'a>(
 {
     let first = bare(first)?;
     if first == b"end".as_slice() {
-        ended(words)?;
+        no_more(words)?;
         return Ok(true);
     }
     table.read(alloc, first, words)?;

@@ -14,8 +14,7 @@ use Rattle.serial_spec.specs.File.{written}
 use Rattle.serial_spec.specs.Said.{Cell, write_cells}
 use Rattle.overlay_laws.specs.Entries.{In}
 use Rattle.serial_spec.proofs.MemberLaws.{in_filter, filter_in}
-use Rattle.data_sieving.specs.Sieving.{AreFilled}
-use Rattle.data_sieving.specs.Walked.{buffer_cell, part_in}
+use Rattle.aggregator_rounds.specs.EntryParts.{AreFilled, buffer_cell, part_in}
 use Rattle.piece_exchange.specs.Blobs.{blob_at, of_request, with_blob, AreAsLong, FitTable, HasCollected}
 use Rattle.piece_exchange.specs.Cursor.{AreServed}
 use Rattle.piece_exchange.proofs.TurnLaws.{served_in}

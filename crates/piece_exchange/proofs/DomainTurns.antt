@@ -18,11 +18,10 @@ use Rattle.overlay_laws.proofs.Members.{in_map, map_in}
 use Rattle.overlay_laws.proofs.CoverLaws.{same_ascending, spans_ascend}
 use Rattle.overlay_laws.proofs.WindowHulls.{window_short}
 use Rattle.file_domains.specs.Domains.{LiesIn}
-use Rattle.file_domains.specs.Rounds.{bytes_in, window_told, windows_of}
+use Rattle.file_domains.specs.Rounds.{bytes_in, window_told, round_windows}
 use Rattle.aggregator_rounds.specs.Pieces.{told_window}
-use Rattle.data_sieving.specs.Walked.{IsCovered}
-use Rattle.data_sieving.proofs.CoveredBytes.{in_ranges, ranges_in}
-use Rattle.data_sieving.proofs.WindowSteps.{hole_short}
+use Rattle.aggregator_rounds.specs.EntryParts.{IsCovered}
+use Rattle.aggregator_rounds.proofs.CoveredBytes.{in_ranges, ranges_in, hole_short}
 use Rattle.piece_exchange.specs.Hulls.{AreTurns, HaveWindows, IsTurn, LieOnPart}
 use Rattle.piece_exchange.specs.Turns.{Told}
 use Rattle.piece_exchange.specs.Feeds.{AreApart}
@@ -193,7 +192,7 @@ told_again : (first size : ℕ) (ts : List Told) → map told_window (map (windo
 told_again first size [] = refl
 told_again first size (t ∷ ts) = ap (λ (r : List Told). t ∷ r) (told_again first size ts)
 
-pub told_windows : (size : ℕ) (bytes : List ℕ) → map told_window (windows_of size bytes) ≡ map told_of (windows size bytes)
+pub told_windows : (size : ℕ) (bytes : List ℕ) → map told_window (round_windows size bytes) ≡ map told_of (windows size bytes)
 told_windows size bytes = told_again (first_of bytes) size (map told_of (windows size bytes))
 
 in_domain : (domain : Extent) (cover : List Extent) (x : ℕ) → In (bytes_in domain cover) x → In (spans cover) x × (domain.at ≤ x) × (x < domain.at + domain.len)

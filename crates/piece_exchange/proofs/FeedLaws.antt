@@ -8,9 +8,9 @@ use Rattle.list_laws.proofs.Places.{entry_set, entry_set_other}
 use Rattle.nc_base.specs.declared.plan.Owned.{Owned}
 use Rattle.overlay_laws.specs.Entries.{In}
 use Rattle.aggregator_rounds.specs.Pieces.{told_window}
-use Rattle.data_sieving.specs.Walked.{IsPast}
-use Rattle.data_sieving.proofs.PastSteps.{past_later, past_none, past_short}
-use Rattle.piece_exchange.specs.Feeds.{earlier_of, pieces_left_of, AreApart, FitsInFor, IsAhead, IsFeedOf}
+use Rattle.aggregator_rounds.specs.Left.{IsPast}
+use Rattle.aggregator_rounds.proofs.PastSteps.{past_later, past_none, past_short}
+use Rattle.piece_exchange.specs.Feeds.{earlier_of, pieces_left_of, turns_left_of, AreApart, FitsInFor, IsAhead, IsFeedOf}
 use Rattle.piece_exchange.specs.Pieces.{pieces_in, pieces_of}
 use Rattle.piece_exchange.specs.Turns.{Told, turns_ahead, IsTurnWalk}
 use Rattle.piece_exchange.specs.declared.walk.Turn.{Turn}

@@ -8,8 +8,8 @@ use Rattle.nc_outside.specs.Told.{after, with_end, BothTold}
 use Rattle.serial_spec.specs.Said.{said_by, IsOneValued}
 use Rattle.overlay_laws.specs.Changes.{store_calls, IsBetween}
 use Rattle.overlay_laws.specs.Entries.{In, Source, cell_of}
-use Rattle.data_sieving.specs.Walked.{IsPast}
-use Rattle.data_sieving.proofs.PutSteps.{covered_place}
+use Rattle.aggregator_rounds.specs.Left.{IsPast}
+use Rattle.aggregator_rounds.proofs.EntryCells.{covered_place}
 use Rattle.piece_exchange.specs.declared.walk.TurnWalk.{TurnWalk}
 use Rattle.piece_exchange.specs.Pieces.{ArePieces}
 use Rattle.piece_exchange.specs.Put.{put_part}

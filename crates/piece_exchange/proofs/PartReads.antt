@@ -15,7 +15,7 @@ use Rattle.overlay_laws.specs.Entries.{In}
 use Rattle.overlay_laws.proofs.HullLaws.{in_either, in_left, in_right}
 use Rattle.serial_spec.proofs.MemberLaws.{at_in, in_at}
 use Rattle.overlay_laws.proofs.Members.{in_map, in_zip, map_in, zip_in}
-use Rattle.data_sieving.specs.Walked.{IsCovered}
+use Rattle.aggregator_rounds.specs.EntryParts.{IsCovered}
 use Rattle.piece_exchange.specs.Blobs.{AreAsLong, FitTable, HasRead, HaveOnePlaces}
 use Rattle.piece_exchange.specs.Gets.{get_turns, AreRead, HasGot, IsGetPlanned}
 use Rattle.piece_exchange.specs.Logs.{told_in, HasReadParts, HasReadTurns, HasTaken, HaveTakenTurns, IsKept, IsReadOf, Log}

@@ -12,8 +12,8 @@ use Rattle.overlay_laws.proofs.HullLaws.{in_flat, flat_in, in_range}
 use Rattle.list_laws.proofs.Truth.{equal_true, no_both}
 use Rattle.serial_spec.proofs.MemberLaws.{in_filter, filter_in}
 use Rattle.overlay_laws.proofs.WalkLaws.{filter_none}
-use Rattle.data_sieving.specs.Walked.{IsCovered}
-use Rattle.data_sieving.proofs.PastSteps.{past_same}
+use Rattle.aggregator_rounds.specs.EntryParts.{IsCovered}
+use Rattle.aggregator_rounds.proofs.PastSteps.{past_same}
 use Rattle.piece_exchange.specs.Pieces.{meets, of_rank, pieces_in, ArePieces}
 use Rattle.piece_exchange.specs.Turns.{Told}
 use Rattle.piece_exchange.proofs.PutLaws.{ArePicked}

@@ -12,11 +12,8 @@ use Rattle.overlay_laws.specs.Lines.{extents, EndBelow}
 use Rattle.overlay_laws.proofs.EntryLaws.{says_left, says_right, says_cases, in_extents}
 use Rattle.overlay_laws.proofs.SaidLaws.{same_said, said_in_any_order}
 use Rattle.overlay_laws.proofs.WindowLaws.{append_within, said_by_joined}
-use Rattle.data_sieving.specs.Sieving.{got_cells, places_of}
-use Rattle.data_sieving.specs.Walked.{buffer_cell, part_in, IsCovered}
-use Rattle.data_sieving.proofs.ReadParts.{IsRead, got_says, says_got, read_once}
-use Rattle.data_sieving.proofs.GetSteps.{parts_within, whole_parts}
-use Rattle.data_sieving.proofs.CollectedSteps.{buffer_cells, got_whole}
+use Rattle.aggregator_rounds.specs.EntryParts.{got_cells, places_of, buffer_cell, part_in, IsCovered}
+use Rattle.aggregator_rounds.proofs.ReadParts.{IsRead, got_says, says_got, read_as, read_once, parts_within, whole_parts, buffer_cells, got_whole}
 use Rattle.piece_exchange.specs.Blobs.{blob_at, got_in_hull, of_request, FitTable, HasCollected, HasRead, HaveOnePlaces}
 use Rattle.piece_exchange.specs.Logs.{log_cells, told_in, HasCollectedLog, Log}
 use Rattle.piece_exchange.specs.Turns.{Told}
@@ -40,26 +37,13 @@ hull_said file rank slot lo hi list begun y once served =
     (said_by (got_cells 0 file (map (λ o. part_in lo hi o) (of_request rank slot begun))))
     (read_once 0 file lo hi (of_request rank slot list) (from_0 (of_request rank slot list)) once) there back y
   where
-    moved : (os bs : List Owned) (x v : ℕ) (r : IsRead 0 file lo hi os x v) → In bs r.by → IsRead 0 file lo hi bs x v
-    moved os bs x v r m = record {
-      by = r.by;
-      inside = m;
-      place = r.place;
-      low = r.low;
-      high = r.high;
-      begin = r.begin;
-      end = r.end;
-      from = r.from;
-      byte = r.byte;
-    }
-
     there : (x v : ℕ) → Says (said_by (got_cells 0 file (map (λ o. part_in lo hi o) (of_request rank slot list)))) x v
         → Says (said_by (got_cells 0 file (map (λ o. part_in lo hi o) (of_request rank slot begun)))) x v
     there x v h =
         let r = got_says 0 file lo hi (of_request rank slot list) x v (from_0 (of_request rank slot list)) h in
         let m = in_request rank slot list r.by r.inside in
         says_got 0 file lo hi (of_request rank slot begun) x v (from_0 (of_request rank slot begun))
-        (moved (of_request rank slot list) (of_request rank slot begun) x v r
+        (read_as 0 file lo hi lo hi (of_request rank slot list) (of_request rank slot begun) x v r r.low r.high
         (request_in rank slot begun r.by (meets_served list begun lo hi r.place r.by served m.0 r.low r.high r.begin r.end) m.1 m.2))
 
     back : (x v : ℕ) → Says (said_by (got_cells 0 file (map (λ o. part_in lo hi o) (of_request rank slot begun)))) x v
@@ -68,7 +52,7 @@ hull_said file rank slot lo hi list begun y once served =
         let r = got_says 0 file lo hi (of_request rank slot begun) x v (from_0 (of_request rank slot begun)) h in
         let m = in_request rank slot begun r.by r.inside in
         says_got 0 file lo hi (of_request rank slot list) x v (from_0 (of_request rank slot list))
-        (moved (of_request rank slot begun) (of_request rank slot list) x v r (request_in rank slot list r.by (served_in list begun lo hi r.by served m.0) m.1 m.2))
+        (read_as 0 file lo hi lo hi (of_request rank slot begun) (of_request rank slot list) x v r r.low r.high (request_in rank slot list r.by (served_in list begun lo hi r.by served m.0) m.1 m.2))
 
 hull_same : (file blob : List ℕ) (rank slot : ℕ) (t : Told) (list begun : List Owned) → IsOneValued (places_of (of_request rank slot list)) → AreServed list begun t.0 (t.0 + t.1)
     → ((o : Owned) → In (of_request rank slot list) o → o.from + o.extent.len ≤ length blob)
@@ -123,19 +107,6 @@ parts_fit file os [] n fit = tt
 parts_fit file os (t ∷ ts) n fit =
     append_within (got_in_hull file os t) (all_parts file os ts) n (parts_within 0 file t.0 (t.0 + t.1) n os fit) (parts_fit file os ts n fit)
 
-other_hull : (file : List ℕ) (lo hi low high : ℕ) (os : List Owned) (y v : ℕ) (r : IsRead 0 file lo hi os y v) → low ≤ r.place → r.place < high → IsRead 0 file low high os y v
-other_hull file lo hi low high os y v r l h = record {
-  by = r.by;
-  inside = r.inside;
-  place = r.place;
-  low = l;
-  high = h;
-  begin = r.begin;
-  end = r.end;
-  from = r.from;
-  byte = r.byte;
-}
-
 parts_say : (file : List ℕ) (top : ℕ) (os : List Owned) (ts : List Told) (y v : ℕ) → ((o : Owned) → In os o → o.extent.at + o.extent.len ≤ top)
     → Says (said_by (all_parts file os ts)) y v → IsRead 0 file 0 top os y v
 parts_say file top os [] y v below h = absurd h
@@ -146,7 +117,7 @@ parts_say file top os (t ∷ ts) y v below h =
           let r = got_says 0 file t.0 (t.0 + t.1) os y v (from_0 os) g in
           let b = below r.by r.inside in
           let e = r.end in
-          other_hull file t.0 (t.0 + t.1) 0 top os y v r (omega arith) (omega arith))
+          read_as 0 file t.0 (t.0 + t.1) 0 top os os y v r (omega arith) (omega arith) r.inside)
       | inr g ↦ parts_say file top os ts y v below g
     ]
 
@@ -157,7 +128,7 @@ say_parts file top os (u ∷ ts) t y v r (inl e) l h =
     subst (λ (ps : List (ℕ × ℕ)). Says ps y v) (sym (said_by_joined (got_in_hull file os u) (all_parts file os ts)))
     (says_left (said_by (got_in_hull file os u)) (said_by (all_parts file os ts)) y v
     (subst (λ (z : Told). Says (said_by (got_in_hull file os z)) y v) (sym e)
-    (says_got 0 file t.0 (t.0 + t.1) os y v (from_0 os) (other_hull file 0 top t.0 (t.0 + t.1) os y v r l h))))
+    (says_got 0 file t.0 (t.0 + t.1) os y v (from_0 os) (read_as 0 file 0 top t.0 (t.0 + t.1) os os y v r l h r.inside))))
 say_parts file top os (u ∷ ts) t y v r (inr m) l h =
     subst (λ (ps : List (ℕ × ℕ)). Says ps y v) (sym (said_by_joined (got_in_hull file os u) (all_parts file os ts)))
     (says_right (said_by (got_in_hull file os u)) (said_by (all_parts file os ts)) y v (say_parts file top os ts t y v r m l h))

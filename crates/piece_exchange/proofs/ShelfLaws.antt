@@ -6,7 +6,7 @@ use Rattle.file_domains.specs.Rounds.{IsWalk}
 use Rattle.file_domains.specs.declared.walk.Window.{Window}
 use Rattle.file_domains.specs.declared.walk.WindowWalk.{WindowWalk}
 use Rattle.aggregator_rounds.specs.Pieces.{told_window}
-use Rattle.data_sieving.specs.Walked.{entries_left}
+use Rattle.aggregator_rounds.specs.Left.{entries_left}
 use Rattle.piece_exchange.specs.Cursor.{IsAt}
 use Rattle.piece_exchange.specs.Shelves.{turns_due_of, IsShelfOf}
 use Rattle.piece_exchange.specs.Turns.{Told, turns_ahead}

@@ -5,9 +5,9 @@ use Rattle.nc_base.specs.declared.plan.Owned.{Owned}
 use Rattle.overlay_laws.specs.Entries.{In, Source}
 use Rattle.overlay_laws.specs.Lines.{extents, EndBelow, IsByPlace}
 use Rattle.overlay_laws.proofs.HullLaws.{in_left, in_either}
-use Rattle.data_sieving.specs.Walked.{IsCovered, AreBegun, IsPast}
-use Rattle.data_sieving.specs.Sieving.{AreFilled}
-use Rattle.data_sieving.proofs.PastSteps.{past_extents, past_in, past_kept, past_later, past_sorted, past_twice}
+use Rattle.aggregator_rounds.specs.EntryParts.{IsCovered, AreFilled}
+use Rattle.aggregator_rounds.specs.Left.{BeginBefore, IsPast}
+use Rattle.aggregator_rounds.proofs.PastSteps.{past_extents, past_in, past_kept, past_later, past_sorted, past_twice}
 use Rattle.piece_exchange.specs.Cursor.{AreInFront, AreServed, IsAt}
 use Rattle.piece_exchange.specs.Pieces.{ArePieces}
 use Rattle.piece_exchange.specs.Turns.{Told}
@@ -45,11 +45,11 @@ at_next list left later room ahead rest t a e p =
       turns = turns.2;
     }
 
-pub begun_front : (place : ℕ) (left begun : List Owned) → AreBegun place left begun → AreInFront place left begun
+pub begun_front : (place : ℕ) (left begun : List Owned) → BeginBefore place left begun → AreInFront place left begun
 begun_front place left begun b = record { rest = b.rest; joined = b.joined; later = b.later }
 
 -- those carried are in front of all others
-pub front_carried : (place : ℕ) (carried ahead begun : List Owned) → AreBegun place ahead begun → AreInFront place (carried ++ ahead) (carried ++ begun)
+pub front_carried : (place : ℕ) (carried ahead begun : List Owned) → BeginBefore place ahead begun → AreInFront place (carried ++ ahead) (carried ++ begun)
 front_carried place carried ahead begun b = record {
   rest = b.rest;
   joined = ap (λ (os : List Owned). carried ++ os) b.joined ∙ sym (append_assoc carried begun b.rest);

@@ -11,7 +11,7 @@ use Rattle.file_domains.specs.Rounds.{IsWalk}
 use Rattle.overlay_laws.specs.Changes.{load_calls}
 use Rattle.overlay_laws.specs.Entries.{In}
 use Rattle.overlay_laws.proofs.HullLaws.{in_either}
-use Rattle.data_sieving.specs.Walked.{entries_left, IsPast}
+use Rattle.aggregator_rounds.specs.Left.{entries_left, IsPast}
 use Rattle.piece_exchange.specs.Blobs.{AreAsLong, FitTable, HaveOnePlaces}
 use Rattle.piece_exchange.specs.Cursor.{AreInFront, IsAt}
 use Rattle.piece_exchange.specs.Hulls.{LieOnPart}

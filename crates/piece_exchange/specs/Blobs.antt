@@ -12,8 +12,7 @@ use Rattle.std.specs.Prelude.{◌≡◌, ℕ, ◌+◌, ◌≤◌, List, [], map,
 use Rattle.nc_base.specs.declared.plan.Owned.{Owned}
 use Rattle.serial_spec.specs.Said.{Cell, write_cells, IsOneValued}
 use Rattle.overlay_laws.specs.Entries.{got_cell, In}
-use Rattle.data_sieving.specs.Walked.{buffer_cell, part_in}
-use Rattle.data_sieving.specs.Sieving.{got_cells, places_of}
+use Rattle.aggregator_rounds.specs.EntryParts.{buffer_cell, part_in, got_cells, places_of}
 use Rattle.piece_exchange.specs.Turns.{Told}
 
 abbrev pub of_request : ℕ → ℕ → List Owned → List Owned

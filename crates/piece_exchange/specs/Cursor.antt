@@ -5,7 +5,7 @@
 --     entries_in turn                the entries of a window of gets
 use Rattle.std.specs.Prelude.{◌≡◌, ℕ, ◌≤◌, List, ◌++◌}
 use Rattle.nc_base.specs.declared.plan.Owned.{Owned}
-use Rattle.data_sieving.specs.Walked.{IsPast}
+use Rattle.aggregator_rounds.specs.Left.{IsPast}
 use Rattle.overlay_laws.specs.Entries.{In}
 use Rattle.piece_exchange.specs.Hulls.{AreTurns}
 use Rattle.piece_exchange.specs.Turns.{Told}

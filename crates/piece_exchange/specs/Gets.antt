@@ -14,7 +14,7 @@ use Rattle.overlay_laws.specs.Entries.{ranges, HaveSame}
 use Rattle.overlay_laws.specs.Lines.{extents, EndBelow, IsByPlace}
 use Rattle.overlay_laws.specs.Walks.{spans, IsCover}
 use Rattle.serial_spec.specs.File.{read}
-use Rattle.data_sieving.specs.Sieving.{AreFilled}
+use Rattle.aggregator_rounds.specs.EntryParts.{AreFilled}
 use Rattle.piece_exchange.specs.Put.{PartState}
 use Rattle.piece_exchange.specs.Turns.{Told, turns_of}
 use Rattle.piece_exchange.specs.declared.gets.reading.Reading.{Reading}

@@ -5,7 +5,7 @@
 use Rattle.std.specs.Prelude.{◌≡◌, ℕ, ◌+◌, ◌-◌, ◌<◌, ◌≤◌, List, [], ◌∷◌, true}
 use Rattle.nc_base.specs.declared.plan.Owned.{Owned}
 use Rattle.overlay_laws.specs.Entries.{In}
-use Rattle.data_sieving.specs.Walked.{IsCovered}
+use Rattle.aggregator_rounds.specs.EntryParts.{IsCovered}
 use Rattle.piece_exchange.specs.Turns.{Told}
 
 pub record IsTurn (list : List Owned) (room : ℕ) (t : Told) : Type 0 where

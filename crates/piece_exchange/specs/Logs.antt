@@ -17,7 +17,7 @@
 use Rattle.std.specs.Prelude.{◌≡◌, ℕ, ◌+◌, ◌-◌, List, ◌++◌, map, flat_map, length, Option, Some, IfSome, slice_get}
 use Rattle.nc_base.specs.declared.plan.Extent.{Extent}
 use Rattle.nc_base.specs.declared.plan.Owned.{Owned}
-use Rattle.data_sieving.specs.Walked.{buffer_cell}
+use Rattle.aggregator_rounds.specs.EntryParts.{buffer_cell}
 use Rattle.overlay_laws.specs.Entries.{In}
 use Rattle.serial_spec.specs.File.{read}
 use Rattle.serial_spec.specs.Said.{Cell, write_cells}

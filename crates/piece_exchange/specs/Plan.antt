@@ -13,7 +13,7 @@ use Rattle.overlay_laws.specs.Lines.{extents, EndBelow, IsByPlace}
 use Rattle.overlay_laws.specs.Walks.{spans, IsCover}
 use Rattle.serial_spec.specs.Said.{said_by, IsOneValued}
 use Rattle.file_domains.specs.Domains.{LiesIn}
-use Rattle.data_sieving.specs.Walked.{IsCovered}
+use Rattle.aggregator_rounds.specs.EntryParts.{IsCovered}
 use Rattle.piece_exchange.specs.Pieces.{pieces_of, ArePieces}
 use Rattle.piece_exchange.specs.Turns.{Told, source_of, turns_of}
 use Rattle.piece_exchange.specs.declared.plan.PutPlan.{PutPlan}

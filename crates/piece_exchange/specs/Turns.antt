@@ -14,7 +14,7 @@ use Rattle.overlay_laws.specs.Walks.{told_of}
 use Rattle.serial_spec.specs.DeviceCalls.{windows}
 use Rattle.file_domains.specs.Rounds.{bytes_in, windows_left, IsWalk}
 use Rattle.aggregator_rounds.specs.Pieces.{told_window}
-use Rattle.data_sieving.specs.Sieving.{bytes_of_post}
+use Rattle.aggregator_rounds.specs.EntryParts.{bytes_of_post}
 use Rattle.file_domains.specs.declared.walk.WindowWalk.{WindowWalk}
 use Rattle.piece_exchange.specs.declared.walk.TurnWalk.{TurnWalk}
 

@@ -5,13 +5,13 @@ ghost use Rattle.overlay_laws.specs.Lines.{extents, EndBelow};
 ghost use Rattle.overlay_laws.specs.Windows.{clip};
 ghost use Rattle.serial_spec.specs.Said.{write_cells, moved_down};
 ghost use Rattle.aggregator_rounds.specs.Pieces.{told_window};
-ghost use Rattle.data_sieving.specs.Sieving as sieved;
+ghost use Rattle.aggregator_rounds.specs.EntryParts as parts;
 ghost use Rattle.piece_exchange.specs.Pieces.{meets, pieces_in, IsPiece};
 ghost use Rattle.piece_exchange.specs.Taken.{HasLaid, HasTaken};
 ghost use Rattle.piece_exchange.specs.Turns.{source_of};
 
 use crate::walk::Turn;
-use data_sieving::lay_entry;
+use aggregator_rounds::lay_entry;
 use nc_base::{Batch, Extent, Owned, PostList};
 use ruled_line::LineTake;
 use std::sync::Wait;
@@ -94,8 +94,8 @@ pub(crate) fn lay_piece(hull: Extent, piece: &Owned, batches: &[Batch], buf: &mu
 
 // Whether an entry has its bytes in its put.
 fn is_piece(piece: &Owned, puts: &PostList) -> bool
-    ensures yes { result ≡ true → IsPiece (sieved.source_of puts.now) piece.now }
-    ensures no { IsPiece (sieved.source_of puts.now) piece.now → result ≡ true }
+    ensures yes { result ≡ true → IsPiece (parts.source_of puts.now) piece.now }
+    ensures no { IsPiece (parts.source_of puts.now) piece.now → result ≡ true }
 {
     let Some(post) = puts.as_slice().get(piece.slot as usize) else {
         return false;

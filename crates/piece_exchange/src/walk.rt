@@ -2,7 +2,7 @@
 ghost use Rattle.std.specs.Prelude.{◌≡◌, ◌∷◌, [], ◌+◌, ◌^◌, ◌≤◌, length, min, take, drop, IfNone, IfSome};
 ghost use Rattle.file_domains.specs.Rounds.{IsWalk};
 ghost use Rattle.aggregator_rounds.specs.Pieces.{told_window};
-ghost use Rattle.data_sieving.specs.Walked.{IsPast};
+ghost use Rattle.aggregator_rounds.specs.Left.{IsPast};
 ghost use Rattle.overlay_laws.specs.Lines.{EndBelow};
 ghost use Rattle.overlay_laws.specs.Walks.{IsCover};
 ghost use Rattle.piece_exchange.specs.Cursor.{AreInFront, IsAt};
@@ -10,7 +10,7 @@ ghost use Rattle.piece_exchange.specs.Plan.{planned_turns, IsPlanned};
 ghost use Rattle.piece_exchange.specs.Turns.{turns_ahead, turns_of, IsTurnWalk};
 
 use crate::plan::PutPlan;
-use data_sieving::{begun_before, ended_by};
+use aggregator_rounds::{begins_before, ends_by};
 use file_domains::{Window, WindowWalk, windows};
 use nc_base::{Extent, ExtentList, Owned};
 
@@ -55,8 +55,8 @@ impl<'a> TurnWalk<'a> {
     {
         let window = next_window(&mut self.windows)?;
         let stop = window.hull.at + window.hull.len;
-        let entries = head(self.entries, begun_before(self.entries, stop));
-        self.entries = tail(self.entries, ended_by(self.entries, stop));
+        let entries = head(self.entries, begins_before(self.entries, stop));
+        self.entries = tail(self.entries, ends_by(self.entries, stop));
         Some(Turn { window, entries })
     }
 }

@@ -1,5 +1,5 @@
 // How many digits the bits of a get are printed with: 8 for a float variable, else 16.
-ghost use Rattle.std.specs.Prelude.{◌≡◌, IfOk, nat_eq};
+ghost use Rattle.std.specs.Prelude.{◌≡◌, IfOk};
 ghost use Rattle.std.specs.HashMap.{get};
 ghost use Rattle.script_spec.specs.Texts.{digits_of};
 ghost use Rattle.printed_text.specs.Digits.{FindsNames, FindsPosts};

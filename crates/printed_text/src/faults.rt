@@ -128,9 +128,7 @@ fn push_header_words(out: &mut Vec<u8>, fault: &HeaderErr) -> Result<(), Memory>
 pub fn layout_line(alloc: Global, fault: &LayoutErr) -> Result<Blob, Memory>
     ensures { IfOk result (λ text. text ≡ layout_line fault.now) }
 {
-    let mut out = Vec::new(alloc);
-    push_layout_line(&mut out, fault)?;
-    Ok(Blob::from_vec(out))
+    redef_line(alloc, &RedefErr::Layout(*fault))
 }
 
 fn push_layout_line(out: &mut Vec<u8>, fault: &LayoutErr) -> Result<(), Memory>

@@ -1,6 +1,5 @@
 // Where the variables of a dataset lie.
 ghost use Rattle.std.specs.Prelude.{◌≡◌, ◌+◌, ◌<◌, ◌^◌, ◌++◌, ◌∷◌, IfOk, OnOk, codes, decimal, filter, flat_map, map, true};
-ghost use Rattle.serial_spec.specs.HeaderBytes.{header_len};
 ghost use Rattle.serial_spec.specs.SoundHeaders.{is_sound};
 ghost use Rattle.serial_spec.specs.Layout.{slab};
 ghost use Rattle.script_spec.specs.Shown.{dim_name};
@@ -42,7 +41,7 @@ fn push_head(out: &mut Vec<u8>, header: &Header) -> Result<(), Memory>
     requires { is_sound header.now ≡ true }
     ensures { OnOk result (out.new.items ≡ out.old.items ++ head_lines header.now) }
 {
-    let len = len_of(header);
+    let len = header_len(header);
     push_number_line(out, b"// file format: CDF-", u64::from(header.version))?;
     push_bytes(out, b"file header:\n")?;
     push_measure(out, b"  size = ", len)?;
@@ -58,15 +57,6 @@ fn push_measure(out: &mut Vec<u8>, words: &[u8], size: u64) -> Result<(), Memory
     push_bytes(out, b" bytes")?;
     out.push(b'\n')?;
     Ok(())
-}
-
-/// The bytes of the written header.
-#[tactic(auto, using(var_layout::proofs::Soundness::header_short))]
-fn len_of(header: &Header) -> u64
-    requires { is_sound header.now ≡ true }
-    ensures { result ≡ header_len header.now }
-{
-    header_len(header)
 }
 
 /// The least begin, or the header's length where there is no variable.
@@ -146,19 +136,11 @@ fn is_listed(header: &Header, var: &Var, of_records: bool) -> bool
     }
 }
 
-/// The bytes of a variable, or of one of its records.
-fn size_of(header: &Header, var: &Var) -> u64
-    requires { slab header.now var.now < 2 ^ 62 }
-    ensures { result ≡ slab header.now var.now }
-{
-    slab_of(header, var)
-}
-
 fn push_var(out: &mut Vec<u8>, header: &Header, var: &Var) -> Result<(), Memory>
     requires { var.now.begin + slab header.now var.now < 2 ^ 62 }
     ensures { OnOk result (out.new.items ≡ out.old.items ++ var_lines header.now var.now) }
 {
-    let size = size_of(header, var);
+    let size = slab_of(header, var);
     push_title(out, header, var)?;
     push_number_line(out, b"    start file offset = ", var.begin)?;
     push_number_line(out, b"    end file offset = ", var.begin + size)?;

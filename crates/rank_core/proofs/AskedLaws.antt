@@ -13,13 +13,14 @@ use Rattle.nc_base.specs.declared.answer.Code.{Code}
 use Rattle.nc_base.specs.declared.answer.Code.TheVariants as code
 use Rattle.overlay_laws.specs.Entries.{In}
 use Rattle.serial_spec.specs.Layout.{product}
+use Rattle.serial_spec.specs.SoundHeaders.{is_sound}
 use Rattle.serial_spec.specs.Looks as looks
 use Rattle.serial_spec.specs.Looks.{looked, look_region, look_parts, look_at, part_posts, parts_code, data_code, data_bytes, direction_of, is_varn, find_var}
 use Rattle.serial_spec.specs.RegionCheck.{widen, check_var, check_parts, part_regions, elements_of_all, has_element, is_ok_code}
-use Rattle.rank_core.proofs.LookLaws.{length-part_posts}
+use Rattle.rank_core.proofs.LookLaws.{length-part_posts, look_few, look_posts, ArePosts}
 use Rattle.rank_core.specs.Looked as rank
-use Rattle.rank_core.specs.Requests.{HaveId}
-use Rattle.rank_core.specs.Stepped.{IsSomeLook}
+use Rattle.rank_core.specs.Requests.{AreTowards, HaveId}
+use Rattle.rank_core.specs.Stepped.{most_of, IsSomeLook}
 use Rattle.rank_core.specs.declared.look.Look.{Look}
 use Rattle.rank_core.specs.declared.look.Look.TheVariants as variant
 
@@ -114,17 +115,36 @@ look_one header known id name given values = by_place (find_var header name)
     by_place None = tt
     by_place (Some k) = at_one header known id k given values (slice_get header.vars k)
 
--- what a look that is the machine's has
-pub record IsLookOf (id : ℕ) (l : Look) : Type 0 where
-  pub some : IsSomeLook l
-  pub ids : HaveId id (rank.posts_of l)
-  pub var : (p q : Post) → In (rank.posts_of l) p → In (rank.posts_of l) q → p.var ≡ q.var
+-- the same in words of a look
+record IsOneOf (id : ℕ) (l : Look) : Type 0 where
+  some : IsSomeLook l
+  ids : HaveId id (rank.posts_of l)
+  var : (p q : Post) → In (rank.posts_of l) p → In (rank.posts_of l) q → p.var ≡ q.var
 
-of_look : (id : ℕ) (l : Look) → IsOneLook id (rank.as_look l) → IsLookOf id l
+of_look : (id : ℕ) (l : Look) → IsOneLook id (rank.as_look l) → IsOneOf id l
 of_look id (variant.Refused c) h = record { some = tt; ids = λ p m. absurd m; var = λ p q m n. absurd m }
 of_look id variant.Empty h = record { some = tt; ids = λ p m. absurd m; var = λ p q m n. absurd m }
 of_look id (variant.Asks posts) h = record { some = h.some; ids = h.ids; var = h.var }
 
-pub look_is : (header : Header) (known id : ℕ) (name : List ℕ) (given : Given) (values : Option Values) (l : Look)
-    → rank.as_look l ≡ looks.look header known id name given values → IsLookOf id l
-look_is header known id name given values l e = of_look id l (subst (IsOneLook id) (sym e) (look_one header known id name given values))
+towards : (header : Header) (known id : ℕ) (values : Option Values) (l : Look) → IsOneOf id l → ArePosts header known values (rank.posts_of l)
+    → AreTowards (direction_of values) header known (rank.posts_of l)
+towards header known id None l one h = record { each = h; var = λ p q m n e. one.var p q m n }
+towards header known id (Some values) l one h = h
+
+-- what a look that is the machine's has
+pub record IsLookOf (header : Header) (known id : ℕ) (given : Given) (values : Option Values) (l : Look) : Type 0 where
+  pub posts : AreTowards (direction_of values) header known (rank.posts_of l)
+  pub ids : HaveId id (rank.posts_of l)
+  pub few : length (rank.posts_of l) ≤ most_of given
+  pub some : IsSomeLook l
+
+pub look_is : (header : Header) (known id : ℕ) (name : List ℕ) (given : Given) (values : Option Values) (l : Look) → is_sound header ≡ true
+    → rank.as_look l ≡ looks.look header known id name given values → IsLookOf header known id given values l
+look_is header known id name given values l sound e =
+    let one = of_look id l (subst (IsOneLook id) (sym e) (look_one header known id name given values)) in
+    record {
+      posts = towards header known id values l one (look_posts header known id name given values l sound e);
+      ids = one.ids;
+      few = look_few header known id name given values l sound e;
+      some = one.some;
+    }

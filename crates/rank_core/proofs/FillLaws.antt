@@ -84,10 +84,14 @@ at_var header k number rank ranks o = elim o [ None ↦ looks.Refused code.ENotV
 abbrev by_place : Header → ℕ → ℕ → ℕ → Option ℕ → looks.Look
 by_place header number rank ranks o = elim o [ None ↦ looks.Refused code.ENotVar | Some k ↦ at_var header k number rank ranks (slice_get header.vars k) ]
 
-pub fill_found : (header : Header) (k : ℕ) (name : List ℕ) (number rank ranks : ℕ) (t : Target) → Some k ≡ find_var header name
-    → t.header.now ≡ header → t.place ≡ k → IsTarget t → look_record t number rank ranks ≡ looks.look_fill header name number rank ranks
+pub fill_missing : (header : Header) (name : List ℕ) (number rank ranks : ℕ) → None ≡ find_var header name
+    → looks.Refused code.ENotVar ≡ looks.look_fill header name number rank ranks
+fill_missing header name number rank ranks e = ap (by_place header number rank ranks) e
+
+pub fill_found : (header : Header) (name : List ℕ) (number rank ranks : ℕ) (t : Target) → Some t.place ≡ find_var header name
+    → t.header.now ≡ header → IsTarget t → look_record t number rank ranks ≡ looks.look_fill header name number rank ranks
 unfolding look_record
-fill_found header k name number rank ranks t e h p there =
+fill_found header name number rank ranks t e h there =
     ap (λ (o : Option Var). at_var t.header.now t.place number rank ranks o) (sym there)
-    ∙ (λ i. at_var (h i) (p i) number rank ranks (slice_get (h i).vars (p i)))
+    ∙ (λ i. at_var (h i) t.place number rank ranks (slice_get (h i).vars t.place))
     ∙ ap (by_place header number rank ranks) e

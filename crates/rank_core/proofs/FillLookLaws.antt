@@ -1,10 +1,11 @@
 -- The posts that fill a share of a record are puts that a step takes, and hold no byte twice.
 use Rattle.std.proofs.Common.{◌≡◌, ℕ, zero, suc, ◌+◌, ◌-◌, ◌*◌, ◌<◌, ◌≤◌, refl, sym, ap, subst, ◌∙◌, List, [], ◌∷◌, length, map, replicate, Bool, true, false, not, cond, ltb, leb, eqb, ◌&&◌, ◌||◌, Option, None, Some, add-one, arith}
 use Rattle.std.specs.Prelude.{flat_map, slice_get, slice_index}
-use Rattle.std.specs.List.{list_all, list_any, range_with_len}
+use Rattle.std.specs.List.{list_any, range_with_len}
 use Rattle.std.proofs.lemmas.Bool.{and_from, and_left, and_parts, and_right, eq-eqb, eqb-true, le-ltb, leb-false, leb-true, lt-leb, ne_eqb, not_from_true, or_from, or_parts}
 use Rattle.std.proofs.lemmas.List.{length-map, length-replicate}
 use Rattle.overlay_laws.proofs.Members.{each_in, map_in}
+use Rattle.list_laws.proofs.Each.{passes_at}
 use Rattle.list_laws.proofs.Ranges.{pieces_long}
 use Rattle.nc_base.specs.declared.answer.Code.TheVariants as code
 use Rattle.nc_base.specs.declared.header.Header.{Header}
@@ -28,12 +29,13 @@ use Rattle.serial_spec.specs.Records.{records_of}
 use Rattle.serial_spec.specs.RegionCheck.{bad_edge, bad_start, bound, bounds, check_var, first_code, is_too_large, other_shape, some_edge, some_start}
 use Rattle.serial_spec.proofs.RoomLaws.{end_grows}
 use Rattle.rank_core.specs.declared.look.Look.{Look}
-use Rattle.rank_core.specs.Looked.{as_look, posts_of, posts_looked, ArePutsLooked}
+use Rattle.rank_core.specs.Looked.{as_look, posts_of}
 use Rattle.rank_core.specs.Offered.{IsPut}
+use Rattle.rank_core.specs.Requests.{ArePuts}
 use Rattle.rank_core.specs.Targets.{IsSmall}
 use Rattle.rank_core.proofs.FillLaws.{record_outcome, share_grows, share_within}
 use Rattle.rank_core.proofs.FillPostLaws.{boxes_fit, boxes_once, boxes_small, separate_boxes, Fits, FitsPart}
-use Rattle.rank_core.proofs.LookLaws.{alike, no_puts, put_right, puts_looked, ArePuts}
+use Rattle.rank_core.proofs.LookLaws.{alike, no_puts, put_right}
 use Rattle.rank_core.proofs.SeparateLaws.{own_once, AreSeparate, IsPostOf}
 use Rattle.serial_spec.proofs.ValueLaws.{found_long}
 
@@ -157,18 +159,13 @@ regions_of_boxes : (k : ℕ) (v : Var) (number : ℕ) (parts : List Part) → ma
 regions_of_boxes k v number [] = refl
 regions_of_boxes k v number (p ∷ parts) = ap (λ (l : List Region). box_region number p ∷ l) (regions_of_boxes k v number parts)
 
-all_at : (test : Var → Bool) (vs : List Var) (k : ℕ) (v : Var) → list_all test vs ≡ true → slice_get vs k ≡ Some v → test v ≡ true
-all_at test [] k v h e = absurd cc
-all_at test (w ∷ vs) zero v h e = let same : w ≡ v = cc in ap test (sym same) ∙ (and_parts (test w) (list_all test vs) h).0
-all_at test (w ∷ vs) (suc k) v h e = all_at test vs k v (and_parts (test w) (list_all test vs) h).1 e
-
 pub few_dims : (header : Header) (k : ℕ) (v : Var) → is_sound header ≡ true → slice_get header.vars k ≡ Some v → length v.dims ≤ 32
 few_dims header k v sound there =
     let three = and_parts _ _ sound in
     let two = and_parts _ _ three.0 in
     let one = and_parts _ _ two.0 in
     let small = and_parts _ _ one.1 in
-    leb-true (length v.dims) 32 (all_at (λ w. leb (length w.dims) 32) header.vars k v small.1 there)
+    leb-true (length v.dims) 32 (passes_at (λ w. leb (length w.dims) 32) header.vars small.1 k v there)
 
 abbrev Right : Header → looks.Look → Type 0
 Right header m = ArePuts header 0 (machine.posts_of m) × (length (machine.posts_of m) ≤ 65)
@@ -212,7 +209,7 @@ module _ (header : Header) (k : ℕ) (v : Var) (number : ℕ) (sound : is_sound 
         let long = length-map parts (box_post k v number) in
         let most = few_dims header k v sound there in (
           subst (ArePuts header 0) (sym same) (record {
-            puts = put_of;
+            each = put_of;
             own = own_once header k v 0 sound there (map (box_post k v number) parts) post_of
                 (subst AreSeparate (sym (regions_of_boxes k v number parts)) (separate_boxes number parts (boxes_once (inner_lengths header v) from to grows within)));
           }),
@@ -255,13 +252,12 @@ module _ (header : Header) (number rank ranks : ℕ) (sound : is_sound header �
   place_right (Some k) = var_right k (slice_get header.vars k) refl
 
 pub fill_posts : (header : Header) (name : List ℕ) (number rank ranks : ℕ) (l : Look) → is_sound header ≡ true → rank < ranks
-    → as_look l ≡ look_fill header name number rank ranks → ArePutsLooked header 0 l
+    → as_look l ≡ look_fill header name number rank ranks → ArePuts header 0 (posts_of l)
 fill_posts header name number rank ranks l sound less e =
-    puts_looked header 0 l
-    (subst (ArePuts header 0) (alike (look_fill header name number rank ranks) l e) (place_right header number rank ranks sound less (find_var header name)).0)
+    subst (ArePuts header 0) (alike (look_fill header name number rank ranks) l e) (place_right header number rank ranks sound less (find_var header name)).0
 
 pub fill_few : (header : Header) (name : List ℕ) (number rank ranks : ℕ) (l : Look) → is_sound header ≡ true → rank < ranks
-    → as_look l ≡ look_fill header name number rank ranks → posts_looked l ≤ 65
+    → as_look l ≡ look_fill header name number rank ranks → length (posts_of l) ≤ 65
 fill_few header name number rank ranks l sound less e =
     subst (λ (posts : List Post). length posts ≤ 65) (alike (look_fill header name number rank ranks) l e)
     (place_right header number rank ranks sound less (find_var header name)).1

@@ -10,6 +10,7 @@ use Rattle.std.proofs.lemmas.Option.{slice_get_within}
 use Rattle.overlay_laws.proofs.Members.{in_map, each_in, map_in}
 use Rattle.var_layout.proofs.ElementPlaces.{same_len}
 use Rattle.list_laws.proofs.Each.{each_append}
+use Rattle.list_laws.proofs.Numbers.{some_factor}
 use Rattle.nc_base.specs.declared.header.Header.{Header}
 use Rattle.nc_base.specs.declared.request.Part.{Part}
 use Rattle.nc_base.specs.declared.request.Region.{Region}
@@ -83,10 +84,6 @@ three P true u a b c x y z = x refl
 three P false true a b c x y z = y
 three P false false a b c x y z = z
 
-some_factor : (n s : ℕ) → 1 ≤ n * s → 1 ≤ s
-some_factor n zero h = absurd (omega arith)
-some_factor n (suc s) h = omega arith
-
 below_factor : (q n s x : ℕ) → q * s < x → x ≤ n * s → q < n
 below_factor q n s x h k = by_case (cases_lt q n)
   where
@@ -107,7 +104,7 @@ last_fit n lengths q r to all e k (inr m) =
 rows_of : (n : ℕ) (lengths : List ℕ) (from to : ℕ) → Fitting lengths → from < to → to ≤ n * product lengths → AllByRecursion (FitsPart (n ∷ lengths)) (boxes (n ∷ lengths) from to)
 rows_of n lengths from to ih l k =
     let size = product lengths in
-    let some : 1 ≤ product lengths = some_factor n (product lengths) (omega arith) in
+    let some : 1 ≤ product lengths = some_factor n (product lengths) 0 (omega arith) in
     let front = div-add-mod' from (product lengths) in
     let back = div-add-mod' to (product lengths) in
     let low = mod_below from (product lengths) some in

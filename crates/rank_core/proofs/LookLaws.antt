@@ -33,11 +33,13 @@ use Rattle.serial_spec.specs.SharedByte.{holdings, IsOwnOnce}
 use Rattle.vara_extents.specs.Parts.{refusal_of}
 use Rattle.rank_core.specs.declared.look.Look.{Look}
 use Rattle.rank_core.specs.declared.look.Look.TheVariants.{Asks, Empty, Refused}
-use Rattle.rank_core.specs.Looked.{as_look, posts_of, posts_looked, some_unfit, AreLooked, ArePutsLooked, HasValues}
+use Rattle.rank_core.specs.Looked.{as_look, posts_of, some_unfit, HasValues}
 use Rattle.rank_core.specs.Offered.{IsGet, IsPut}
+use Rattle.rank_core.specs.Requests.{ArePuts}
+use Rattle.rank_core.specs.Stepped.{most_of}
 use Rattle.rank_core.proofs.OutcomeLaws.{outcome, outcome_posts}
 use Rattle.rank_core.proofs.SeparateLaws.{own_once, separate_from_parts, AreSeparate, IsPostOf}
-use Rattle.rank_core.proofs.ValueLaws.{length-packed_bytes, length-values_bytes}
+use Rattle.rank_core.proofs.ValueLaws.{code_passes, length-packed_bytes, length-values_bytes}
 
 -- ---- what the check of many regions says
 
@@ -141,10 +143,6 @@ module _ (header : Header) (k : ℕ) (v : Var) (known : ℕ) (there : slice_get 
 
 -- ---- what posts are, without the look that they stand in
 
-pub record ArePuts (header : Header) (known : ℕ) (posts : List Post) : Type 0 where
-  pub puts : (p : Post) → In posts p → IsPut header known p
-  pub own : (rank : ℕ) → IsOwnOnce (holdings header (map (λ p. (rank, p)) posts))
-
 abbrev pub ArePosts : Header → ℕ → Option Values → List Post → Type 0
 ArePosts header known None posts = (p : Post) → In posts p → IsGet header known p
 ArePosts header known (Some values) posts = ArePuts header known posts
@@ -153,7 +151,7 @@ no_held : (header : Header) (rank : ℕ) → IsOwnOnce (holdings header (map (λ
 no_held header rank i j g h m n x e = absurd cc
 
 pub no_puts : (header : Header) (known : ℕ) → ArePuts header known []
-no_puts header known = record { puts = λ p i. absurd i; own = λ rank. no_held header rank }
+no_puts header known = record { each = λ p i. absurd i; own = λ rank. no_held header rank }
 
 no_posts : (header : Header) (known : ℕ) (values : Option Values) → ArePosts header known values []
 no_posts header known None = λ p i. absurd i
@@ -171,7 +169,7 @@ module _ (header : Header) (k : ℕ) (v : Var) (known id : ℕ) (sound : is_soun
   region_posts (Some values) g ok right =
       let post : Post = record { id = id; var = k; region = g; bytes = data_bytes v.kind g (Some values) } in
       record {
-        puts = λ p i. in_one p post (IsPut header known) i (put_right header k v known there id g (data_bytes v.kind g (Some values)) ok (length-packed_bytes v.kind g values right));
+        each = λ p i. in_one p post (IsPut header known) i (put_right header k v known there id g (data_bytes v.kind g (Some values)) ok (length-packed_bytes v.kind g values right));
         own = own_once header k v known sound there (post ∷ []) (λ p i. in_one p post (IsPostOf header k v known) i (record { var = refl; accepted = ok })) (λ h i. absurd i, tt);
       }
 
@@ -188,7 +186,7 @@ module _ (header : Header) (k : ℕ) (v : Var) (known id : ℕ) (sound : is_soun
   parts_posts (Some values) parts pass right =
       let asked = filter has_element parts in
       record {
-        puts = λ p i. let r = part_in id k v.kind (Some values) 0 (elements_of_all asked) asked p (omega arith) i in
+        each = λ p i. let r = part_in id k v.kind (Some values) 0 (elements_of_all asked) asked p (omega arith) i in
             subst (IsPut header known) r.is (put_right header k v known there id r.region (values_bytes v.kind (Some values) r.before (product r.region.count))
             (part_accepted (Some values) parts r.region pass r.is_one)
             (length-values_bytes v.kind values r.before (product r.region.count) (omega (arith, r.within, right.1))));
@@ -200,27 +198,22 @@ module _ (header : Header) (k : ℕ) (v : Var) (known id : ℕ) (sound : is_soun
 
 -- ---- a call
 
-all_right : (c : Code) (lacking unfit : Bool) → cond (not (is_ok_code c)) c (cond lacking code.EMapSize (cond unfit code.ERange code.Ok)) ≡ code.Ok → (c ≡ code.Ok) × (lacking ≡ false)
-all_right code.Ok true unfit h = absurd cc
-all_right code.Ok false unfit h = (refl, refl)
-all_right c lacking unfit h = absurd cc
-
 has_values : (kind : NcType) (values : Option Values) (n : ℕ) → parts_code kind n values ≡ code.Ok → HasValues kind values n
 has_values kind None n h = tt
 has_values kind (Some values) n h =
-    let both = all_right (kind_code (class_of kind) values) (ltb (count_of values) n) (some_unfit kind (Some values) 0 n) h in
+    let both = code_passes (kind_code (class_of kind) values) (ltb (count_of values) n) (some_unfit kind (Some values) 0 n) h in
     (both.0, ltb-false (count_of values) n both.1)
 
 module _ (header : Header) (known id : ℕ) (given : Given) (values : Option Values) where
   abbrev Right : looks.Look → Type 0
-  Right m = ArePosts header known values (machine.posts_of m) × (length (machine.posts_of m) ≤ max 1 (length given.parts))
+  Right m = ArePosts header known values (machine.posts_of m) × (length (machine.posts_of m) ≤ most_of given)
 
   none_right : (m : looks.Look) → machine.posts_of m ≡ [] → Right m
   none_right m e =
-      (subst (ArePosts header known values) (sym e) (no_posts header known values), subst (λ (l : List Post). length l ≤ max 1 (length given.parts)) (sym e) (omega arith))
+      (subst (ArePosts header known values) (sym e) (no_posts header known values), subst (λ (l : List Post). length l ≤ most_of given) (sym e) (omega arith))
 
   outcome_right : (checked : Code) (some : Bool) (asked : List Post) (last : Code)
-      → (checked ≡ code.Ok → last ≡ code.Ok → ArePosts header known values asked × (length asked ≤ max 1 (length given.parts))) → Right (outcome checked some asked last)
+      → (checked ≡ code.Ok → last ≡ code.Ok → ArePosts header known values asked × (length asked ≤ most_of given)) → Right (outcome checked some asked last)
   outcome_right checked some asked last right = by_posts (outcome_posts checked some asked last)
     where
       by_posts : (machine.posts_of (outcome checked some asked last) ≡ []) ⊎ ((machine.posts_of (outcome checked some asked last) ≡ asked) × (checked ≡ code.Ok) × (last ≡ code.Ok))
@@ -228,7 +221,7 @@ module _ (header : Header) (known id : ℕ) (given : Given) (values : Option Val
       by_posts (inl e) = none_right (outcome checked some asked last) e
       by_posts (inr e) =
           let all = right e.1 e.2 in
-          (subst (ArePosts header known values) (sym e.0) all.0, subst (λ (l : List Post). length l ≤ max 1 (length given.parts)) (sym e.0) all.1)
+          (subst (ArePosts header known values) (sym e.0) all.0, subst (λ (l : List Post). length l ≤ most_of given) (sym e.0) all.1)
 
   module _ (k : ℕ) (v : Var) (sound : is_sound header ≡ true) (there : slice_get header.vars k ≡ Some v) where
     region_right : Right (look_region header known id k given values v)
@@ -275,24 +268,16 @@ posts_alike (Refused c) = refl
 posts_alike Empty = refl
 posts_alike (Asks posts) = refl
 
-pub puts_looked : (header : Header) (known : ℕ) (l : Look) → ArePuts header known (posts_of l) → ArePutsLooked header known l
-puts_looked header known l h = record { puts = h.puts; own = h.own }
-
-looked_of : (header : Header) (known : ℕ) (values : Option Values) (l : Look) → ArePosts header known values (posts_of l) → AreLooked header known values l
-looked_of header known None l h = h
-looked_of header known (Some values) l h = puts_looked header known l h
-
 pub alike : (m : looks.Look) (l : Look) → as_look l ≡ m → machine.posts_of m ≡ posts_of l
 alike m l e = ap machine.posts_of (sym e) ∙ posts_alike l
 
 pub look_posts : (header : Header) (known id : ℕ) (name : List ℕ) (given : Given) (values : Option Values) (l : Look) → is_sound header ≡ true
-    → as_look l ≡ looks.look header known id name given values → AreLooked header known values l
+    → as_look l ≡ looks.look header known id name given values → ArePosts header known values (posts_of l)
 look_posts header known id name given values l sound e =
-    looked_of header known values l
-    (subst (ArePosts header known values) (alike (looks.look header known id name given values) l e) (look_right header known id given values name sound).0)
+    subst (ArePosts header known values) (alike (looks.look header known id name given values) l e) (look_right header known id given values name sound).0
 
 pub look_few : (header : Header) (known id : ℕ) (name : List ℕ) (given : Given) (values : Option Values) (l : Look) → is_sound header ≡ true
-    → as_look l ≡ looks.look header known id name given values → posts_looked l ≤ max 1 (length given.parts)
+    → as_look l ≡ looks.look header known id name given values → length (posts_of l) ≤ most_of given
 look_few header known id name given values l sound e =
-    subst (λ (posts : List Post). length posts ≤ max 1 (length given.parts)) (alike (looks.look header known id name given values) l e)
+    subst (λ (posts : List Post). length posts ≤ most_of given) (alike (looks.look header known id name given values) l e)
     (look_right header known id given values name sound).1

@@ -21,19 +21,6 @@ use Rattle.imap_extents.specs.Mapped.{IsMapped}
 use Rattle.imap_extents.proofs.PositionLaws.{no_coordinates, range_below}
 use Rattle.vara_extents.proofs.AcceptedLaws.{passed}
 
--- ---- whether there is an element
-
-pub some_product : (counts : List ℕ) → not (list_any (λ n. eqb n 0) counts) ≡ ltb 0 (product counts)
-some_product [] = refl
-some_product (zero ∷ counts) = let none : 0 * product counts ≡ 0 = omega arith in sym (ap (λ (n : ℕ). ltb 0 n) none)
-some_product (suc n ∷ counts) =
-    ap (λ (b : Bool). not (b || list_any (λ m. eqb m 0) counts)) (ne_eqb (suc n) 0 (λ e. omega arith))
-    ∙ some_product counts ∙ sym (by_rest (product counts))
-  where
-    by_rest : (p : ℕ) → ltb 0 (suc n * p) ≡ ltb 0 p
-    by_rest zero = let none : suc n * 0 ≡ 0 = omega arith in ap (λ (n : ℕ). ltb 0 n) none
-    by_rest (suc p) = lt-ltb 0 (suc n * suc p) (omega arith) ∙ sym (lt-ltb 0 (suc p) (omega arith))
-
 -- ---- positions
 
 times_below : (i n s : ℕ) → i < n → s * i ≤ (n - 1) * s

@@ -25,8 +25,6 @@ use Rattle.serial_spec.proofs.AcceptLaws.{accepted_elements}
 use Rattle.serial_spec.proofs.ApartLaws.{elements_apart}
 use Rattle.vara_extents.proofs.OnceLaws.{post_once}
 
--- ---- members
-
 -- ---- regions and posts, no two of which share an element
 
 abbrev pub ShareNone : Region → Region → Type 0

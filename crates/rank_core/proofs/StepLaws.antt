@@ -1,7 +1,7 @@
--- What the calls of the queue and of a look leave, by what they answered.
-use Rattle.std.proofs.Common.{◌≡◌, ℕ, ◌+◌, ◌<◌, ◌≤◌, ◌∙◌, ap, sym, refl, subst, inl, List, [], ◌∷◌, ◌++◌, map, length, get_or, Bool, true, cond, eqb, ltb, leb, ◌&&◌, Option, Some, None, Result, Ok, Err, arith}
+-- What the calls of the queue leave, by what they answered.
+use Rattle.std.proofs.Common.{◌≡◌, ℕ, ◌<◌, ◌≤◌, ◌∙◌, ap, sym, refl, subst, inl, List, [], ◌∷◌, length, get_or, true, cond, eqb, leb, ◌&&◌, Option, Some, None, Result, Ok, Err, arith}
 use Rattle.std.specs.List.{list_all}
-use Rattle.std.specs.Prelude.{IfOk, OnOk, OnErr, max, option_map, slice_get, bytes_eq}
+use Rattle.std.specs.Prelude.{IfOk, OnOk, OnErr, option_map, slice_get, bytes_eq}
 use Rattle.std.proofs.lemmas.List.Quantifiers.{position-Some}
 use Rattle.std.proofs.lemmas.Option.{slice_get_read}
 use Rattle.std.proofs.lemmas.Bool.{and_parts, leb-true}
@@ -11,21 +11,14 @@ use Rattle.nc_base.specs.declared.header.Dim.{Dim}
 use Rattle.nc_base.specs.declared.request.Call.{Call}
 use Rattle.nc_base.specs.declared.request.Call.TheVariants as call
 use Rattle.nc_base.specs.declared.request.Given.{Given}
-use Rattle.nc_base.specs.declared.request.PostKind.{PostKind}
 use Rattle.nc_base.specs.declared.request.Choice.{Choice}
-use Rattle.nc_base.specs.declared.request.Direction.TheVariants as way
-use Rattle.nc_base.specs.declared.request.Values.{Values}
-use Rattle.overlay_laws.specs.Entries.{In}
 use Rattle.request_queue.specs.Queued.{Queued, rank_with, with_request, id_of}
-use Rattle.serial_spec.specs.Looks.{direction_of, find_dim}
+use Rattle.serial_spec.specs.Looks.{find_dim}
 use Rattle.serial_spec.specs.RankMachine.{Status, is_chosen, named, without_chosen, status_of, dim_at}
-use Rattle.serial_spec.specs.Lawful.{is_lawful_call, is_given, most_parts, has_its_lists, are_sizes, is_part, are_values, is_post_of, is_size}
-use Rattle.rank_core.specs.Looked.{AreLooked, ArePutsLooked, posts_of}
-use Rattle.rank_core.specs.Requests.{AreGets, ArePuts, AreTowards, HaveId, IsRequest, AreRequests}
+use Rattle.serial_spec.specs.Lawful.{is_lawful_call, is_given, most_parts, has_its_lists, are_sizes, is_part, are_values, is_post_of}
+use Rattle.rank_core.specs.Requests.{HaveId, IsRequest, AreRequests}
 use Rattle.rank_core.specs.Stepped.{most_of, most_posts}
-use Rattle.rank_core.specs.declared.look.Look.{Look}
-use Rattle.rank_core.proofs.AskedLaws.{IsLookOf}
-use Rattle.rank_core.proofs.RequestLaws.{requests_without, requests_push, puts_more}
+use Rattle.rank_core.proofs.RequestLaws.{requests_without, requests_push}
 
 pub ok_both : {A E : Type 0} (r : Result A E) (P Q R : A → Type 0) → ((x : A) → P x → Q x → R x) → IfOk r P → IfOk r Q → IfOk r R
 ok_both (Ok x) P Q R f p q = f x p q
@@ -48,13 +41,6 @@ requests_kept (Err x) header known id s before after fresh new h e f = subst (λ
 pub id_is : (id : ℕ) (posts : List Post) → 0 < length posts → HaveId id posts → id_of posts ≡ id
 id_is id [] some h = absurd (omega arith)
 id_is id (p ∷ posts) some h = h p (inl refl)
-
-pub towards : (header : Header) (known id : ℕ) (values : Option Values) (l : Look) → IsLookOf id l → AreLooked header known values l → AreTowards (direction_of values) header known (posts_of l)
-towards header known id None l one h = record { each = h; var = λ p q m n e. one.var p q m n }
-towards header known id (Some values) l one h = record { each = h.puts; own = h.own }
-
-pub share_towards : (header : Header) (known : ℕ) (l : Look) → ArePutsLooked header 0 l → ArePuts header known (posts_of l)
-share_towards header known l h = puts_more header 0 known (posts_of l) (omega arith) (record { each = h.puts; own = h.own })
 
 -- the length of a dimension that is found
 pub dim_is : (header : Header) (name : List ℕ) (known k : ℕ) (d : Dim) → find_dim header name ≡ Some k → slice_get header.dims k ≡ Some d

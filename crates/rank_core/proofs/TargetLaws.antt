@@ -22,15 +22,23 @@ use Rattle.serial_spec.specs.Limits.{most_elements}
 use Rattle.serial_spec.specs.Looks as looks
 use Rattle.serial_spec.specs.Looks.{data_bytes, data_code, direction_of, find_var, is_varn, part_posts, parts_code}
 use Rattle.serial_spec.specs.RegionCheck.{check, check_parts, check_some, check_var, elements_of_all, has_element, part_regions, widen}
+use Rattle.var_layout.specs.Capped.{capped}
 use Rattle.vara_extents.specs.Parts as parts
 use Rattle.vara_extents.specs.Parts.{parts_code_at}
 use Rattle.rank_core.specs.declared.look.target.Target.{Target}
 use Rattle.rank_core.specs.Looked.{look_of, some_unfit, ComesTo, HasValues, IsCode}
-use Rattle.rank_core.specs.Targets.{look_at, look_parts, look_region, IsTarget}
+use Rattle.rank_core.specs.Ranked.{Ranked}
+use Rattle.rank_core.specs.Targets.{look_at, look_parts, look_region, IsTarget, IsTargetOf}
 use Rattle.rank_core.proofs.LookLaws.{asked_few}
 use Rattle.rank_core.proofs.MappedLaws.{accepted_mapped}
 use Rattle.rank_core.proofs.OutcomeLaws.{all_right, checked_refused, data_refused, no_element, outcome, parts_ask}
 use Rattle.rank_core.proofs.ValueLaws.{parts_code-has_values}
+
+-- a count that is exact below 2^62 counts the elements of one request
+pub all_counted : (lent gs : List Region) (n : ℕ) → lent ≡ gs → elements_of_all gs ≤ most_elements → n ≡ capped (elements_of_all lent) → n ≡ elements_of_all gs
+all_counted lent gs n same few counted =
+    let total = ap elements_of_all same in
+    omega (arith, total, few, counted)
 
 module _ (t : Target) (given : Given) (values : Option Values) (there : IsTarget t) (way : Direction) (is_way : way ≡ direction_of values) where
   -- ---- one region
@@ -174,10 +182,10 @@ pub look_missing : (header : Header) (known id : ℕ) (name : List ℕ) (given :
     → looks.Refused code.ENotVar ≡ looks.look header known id name given values
 look_missing header known id name given values e = ap (by_place header known id given values) e
 
-pub look_found : (header : Header) (known id k : ℕ) (name : List ℕ) (given : Given) (values : Option Values) (t : Target) → Some k ≡ find_var header name
-    → t.header.now ≡ header → t.place ≡ k → t.known ≡ known → t.id ≡ id → IsTarget t → look_at t given values ≡ looks.look header known id name given values
+pub look_found : (rank : Ranked) (id : ℕ) (name : List ℕ) (given : Given) (values : Option Values) (t : Target) → Some t.place ≡ find_var rank.header name
+    → IsTargetOf rank id t → look_at t given values ≡ looks.look rank.header rank.state.known id name given values
 unfolding look_at
-look_found header known id k name given values t e h p n i there =
-    ap (λ (o : Option Var). looks.look_at t.header.now t.known t.id t.place given values o) (sym there)
-    ∙ (λ j. looks.look_at (h j) (n j) (i j) (p j) given values (slice_get (h j).vars (p j)))
-    ∙ ap (by_place header known id given values) e
+look_found rank id name given values t e is =
+    ap (λ (o : Option Var). looks.look_at t.header.now t.known t.id t.place given values o) (sym is.there)
+    ∙ (λ j. looks.look_at (is.header j) (is.known j) (is.posts j) t.place given values (slice_get (is.header j).vars t.place))
+    ∙ ap (by_place rank.header rank.state.known id given values) e

@@ -1,16 +1,16 @@
 -- The values of a put and their bytes, one after another and part by part.
-use Rattle.std.proofs.Common.{◌≡◌, ℕ, zero, suc, ◌+◌, ◌-◌, ◌*◌, ◌<◌, ◌≤◌, refl, sym, ap, ◌∙◌, List, [], ◌∷◌, ◌++◌, length, map, append-nil, Bool, true, false, not, cond, leb, ltb, ◌||◌, Option, Some, None, is_none, arith}
+use Rattle.std.proofs.Common.{◌≡◌, ℕ, zero, suc, ◌+◌, ◌-◌, ◌*◌, ◌<◌, ◌≤◌, refl, sym, ap, subst, ◌∙◌, List, [], ◌∷◌, ◌++◌, length, map, append-nil, Bool, true, false, not, cond, leb, ltb, ◌||◌, Option, Some, None, is_none, arith}
 use Rattle.std.specs.Prelude.{flat_map}
 use Rattle.std.specs.List.{list_any, range_with_len}
 use Rattle.std.proofs.lemmas.Bool.{le-ltb, or_parts, or_from, or_left, or_right, lt-leb}
 use Rattle.std.proofs.lemmas.List.{length-append}
 use Rattle.std.proofs.lemmas.List.Concat.{flat_map-append}
 use Rattle.std.proofs.lemmas.List.Folds.{list_any-append}
-use Rattle.std.proofs.lemmas.List.FromFn.{length-range_with_len}
+use Rattle.std.proofs.lemmas.List.FromFn.{get_or-range_with_len, length-range_with_len}
 use Rattle.std.proofs.lemmas.List.Sums.{sum_by-cons}
+use Rattle.list_laws.proofs.Maps.{any_map}
 use Rattle.list_laws.proofs.Ranges.{range_append, all_below}
 use Rattle.nc_base.specs.declared.answer.CallErr.{CallErr}
-use Rattle.nc_base.specs.declared.answer.CallErr.TheVariants as refusal
 use Rattle.nc_base.specs.declared.answer.Code.{Code}
 use Rattle.nc_base.specs.declared.answer.Code.TheVariants as code
 use Rattle.nc_base.specs.declared.header.NcType.{NcType}
@@ -20,13 +20,13 @@ use Rattle.nc_base.specs.declared.request.Value.{Value}
 use Rattle.nc_base.specs.declared.request.Values.{Values}
 use Rattle.serial_spec.specs.ExternalForm.{class_of, code_of, size_of, width_of}
 use Rattle.serial_spec.specs.Layout.{product}
-use Rattle.serial_spec.specs.Looks.{kind_code, part_posts, parts_code, values_bytes, values_code}
+use Rattle.serial_spec.specs.Looks.{kind_code, part_posts, parts_code, some_fits, values_bytes, values_code}
 use Rattle.serial_spec.specs.RegionCheck.{elements_of_all, is_ok_code}
 use Rattle.nc_base.specs.Values.{count_of}
 use Rattle.serial_spec.specs.Request.{ext_of, packed_bytes, positions, value_at}
 use Rattle.imap_extents.specs.Refusals.{IsRangeRefusal}
 use Rattle.imap_extents.proofs.PositionLaws.{length-positions, range_more}
-use Rattle.imap_extents.proofs.RefusalLaws.{lacks}
+use Rattle.imap_extents.proofs.RefusalLaws.{lacks, part_refused, range_refused}
 use Rattle.rank_core.specs.Looked.{ext_at, some_unfit, unfit_at, HasValues}
 use Rattle.list_laws.proofs.Truth.{or_false}
 use Rattle.serial_spec.proofs.ValueLaws.{be_long}
@@ -52,17 +52,16 @@ all_long kind values (p ∷ ps) h =
     one_row : (n s : ℕ) → s + n * s ≡ suc n * s
     one_row n s = omega arith
 
-right_kind : (c rest : Code) → cond (not (is_ok_code c)) c rest ≡ code.Ok → rest ≡ code.Ok
-right_kind code.Ok rest h = h
-right_kind c rest h = absurd (cc)
-
-none_lacks : (b : Bool) (rest : Code) → cond b code.EMapSize rest ≡ code.Ok → b ≡ false
-none_lacks true rest h = absurd (cc)
-none_lacks false rest h = refl
+-- the kinds are alike, and no value lacks
+pub code_passes : (c : Code) (lacking unfit : Bool) → cond (not (is_ok_code c)) c (cond lacking code.EMapSize (cond unfit code.ERange code.Ok)) ≡ code.Ok
+    → (c ≡ code.Ok) × (lacking ≡ false)
+code_passes code.Ok true unfit h = absurd cc
+code_passes code.Ok false unfit h = (refl, refl)
+code_passes c lacking unfit h = absurd cc
 
 pub length-packed_bytes : (kind : NcType) (g : Region) (values : Values) → values_code kind g values ≡ code.Ok → length (packed_bytes kind g values) ≡ product g.count * size_of kind
 length-packed_bytes kind g values h =
-    all_long kind values (positions g) (none_lacks _ _ (right_kind (kind_code (class_of kind) values) _ h))
+    all_long kind values (positions g) (code_passes (kind_code (class_of kind) values) _ _ h).1
     ∙ ap (λ (n : ℕ). n * size_of kind) (length-positions g)
 
 pub length-values_bytes : (kind : NcType) (values : Values) (k n : ℕ) → k + n ≤ count_of values → length (values_bytes kind (Some values) k n) ≡ n * size_of kind
@@ -105,31 +104,25 @@ unfit_append kind (Some values) k n m j h =
 -- where some of the values do not fit, some of all do not
 pub part_unfit : (kind : NcType) (values : Option Values) (k n all : ℕ) (e : CallErr) → k + n ≤ all
     → IsRangeRefusal (some_unfit kind values k n) e → IsRangeRefusal (some_unfit kind values 0 all) e
-part_unfit kind values k n all refusal.Memory h r = r
-part_unfit kind values k n all (refusal.Code c) h r =
+part_unfit kind values k n all e h =
     let whole : all ≡ k + (n + (all - (k + n))) = omega arith in
-    let after = some_unfit kind values (k + n) (all - (k + n)) in (
-      r.0,
-      ap (λ (m : ℕ). some_unfit kind values 0 m) whole
-          ∙ unfit_append kind values 0 k (n + (all - (k + n))) k (omega arith)
-          ∙ or_right (some_unfit kind values 0 k) (some_unfit kind values k (n + (all - (k + n))))
-          (unfit_append kind values k n (all - (k + n)) (k + n) refl ∙ or_left (some_unfit kind values k n) after r.1),
-    )
+    let after = some_unfit kind values (k + n) (all - (k + n)) in
+    part_refused (some_unfit kind values 0 all) (some_unfit kind values k n) e
+    (λ unfit. ap (λ (m : ℕ). some_unfit kind values 0 m) whole
+    ∙ unfit_append kind values 0 k (n + (all - (k + n))) k (omega arith)
+    ∙ or_right (some_unfit kind values 0 k) (some_unfit kind values k (n + (all - (k + n))))
+    (unfit_append kind values k n (all - (k + n)) (k + n) refl ∙ or_left (some_unfit kind values k n) after unfit))
 
--- one value that does not fit
+-- where one value does not fit
 pub one_unfit : (kind : NcType) (values : Values) (k n j all : ℕ) (e : CallErr) → n < all → k + n ≡ j
     → IsRangeRefusal (unfit_at kind values j) e → IsRangeRefusal (some_unfit kind (Some values) k all) e
-one_unfit kind values k n j all refusal.Memory l h r = r
-one_unfit kind values k n j all (refusal.Code c) l h r =
-    let whole : all ≡ n + (1 + (all - (n + 1))) = omega arith in
-    let rest = some_unfit kind (Some values) (j + 1) (all - (n + 1)) in (
-      r.0,
-      ap (λ (m : ℕ). some_unfit kind (Some values) k m) whole
-          ∙ unfit_append kind (Some values) k n (1 + (all - (n + 1))) j h
-          ∙ or_right (some_unfit kind (Some values) k n) (some_unfit kind (Some values) j (1 + (all - (n + 1))))
-          (unfit_append kind (Some values) j 1 (all - (n + 1)) (j + 1) refl
-          ∙ or_left (unfit_at kind values j || false) rest (or_left (unfit_at kind values j) false r.1)),
-    )
+one_unfit kind values k n j all e l h r =
+    let test : Option Value → Bool = λ o. not (some_fits kind o) in
+    let place = get_or-range_with_len k all n 0 l ∙ h in
+    let long = length-range_with_len k all in
+    subst (λ (b : Bool). IsRangeRefusal b e) (any_map test (value_at values) (range_with_len k all))
+    (range_refused test values (range_with_len k all) n e (omega (arith, long, l))
+    (subst (λ (m : ℕ). IsRangeRefusal (unfit_at kind values m) e) (sym place) r))
 
 -- ---- one part more
 

@@ -1,30 +1,24 @@
 -- What a call on a region comes to. (own)
 --     as_look l                         the same as the word of serial_spec
 --     ComesTo l looked                  posts or a refusal that come to it; want of memory is free
---     ArePutsLooked header known l      its posts are puts that a step takes, and hold no byte twice
---     AreLooked header known values l   the same by the direction of the call, which has no values where it is a get
 --     HasValues kind values n           a put has n values of the type's kind
 --     some_unfit kind values k n        one of n values from number k on is not in the type's range
-use Rattle.std.specs.Prelude.{◌≡◌, ◌≤◌, ℕ, Bool, false, not, List, [], ◌∷◌, map, length, Option, Some, None, Result, Ok, Err}
+use Rattle.std.specs.Prelude.{◌≡◌, ◌≤◌, ℕ, Bool, false, not, List, [], ◌∷◌, Option, Some, None, Result, Ok, Err}
 use Rattle.std.specs.List.{list_any, range_with_len}
 use Rattle.nc_base.specs.declared.answer.CallErr.{CallErr}
 use Rattle.nc_base.specs.declared.answer.CallErr.TheVariants as refusal
 use Rattle.nc_base.specs.declared.answer.Code.{Code}
 use Rattle.nc_base.specs.declared.answer.Code.TheVariants as code
-use Rattle.nc_base.specs.declared.header.Header.{Header}
 use Rattle.nc_base.specs.declared.header.NcType.{NcType}
 use Rattle.nc_base.specs.declared.plan.Post.{Post}
 use Rattle.nc_base.specs.declared.request.Values.{Values}
-use Rattle.overlay_laws.specs.Entries.{In}
 use Rattle.serial_spec.specs.ExternalForm.{class_of}
 use Rattle.serial_spec.specs.Looks as looks
 use Rattle.serial_spec.specs.Looks.{kind_code, some_fits}
 use Rattle.nc_base.specs.Values.{count_of}
 use Rattle.serial_spec.specs.Request.{ext_of, value_at}
-use Rattle.serial_spec.specs.SharedByte.{holdings, IsOwnOnce}
 use Rattle.rank_core.specs.declared.look.Look.{Look}
 use Rattle.rank_core.specs.declared.look.Look.TheVariants.{Refused, Empty, Asks}
-use Rattle.rank_core.specs.Offered.{IsPut, IsGet}
 
 abbrev pub as_look : Look → looks.Look
 as_look (Refused code) = looks.Refused code
@@ -34,17 +28,6 @@ as_look (Asks posts) = looks.Asks posts
 abbrev pub posts_of : Look → List Post
 posts_of (Asks posts) = posts
 posts_of _ = []
-
-abbrev pub posts_looked : Look → ℕ
-posts_looked l = length (posts_of l)
-
-pub record ArePutsLooked (header : Header) (known : ℕ) (l : Look) : Type 0 where
-  pub puts : (p : Post) → In (posts_of l) p → IsPut header known p
-  pub own : (rank : ℕ) → IsOwnOnce (holdings header (map (λ p. (rank, p)) (posts_of l)))
-
-abbrev pub AreLooked : Header → ℕ → Option Values → Look → Type 0
-AreLooked header known None l = (p : Post) → In (posts_of l) p → IsGet header known p
-AreLooked header known (Some values) l = ArePutsLooked header known l
 
 -- ---- posts, or a refusal
 

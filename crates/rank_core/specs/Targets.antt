@@ -1,9 +1,11 @@
 -- The variable that a call is on. (own)
 --     IsTarget t                        the header has it at its place
 --     IsMeasured t                      the measures are the header's
+--     IsTargetOf rank id t              it is one of the rank's header, with the record count that the rank knows, for posts of this id
+--     place_of t                        its place, if there is one
 --     look_at, look_region, look_parts  what serial_spec says of a call on it
 --     look_record                       what it says of the filling of a share of a record
-use Rattle.std.specs.Prelude.{◌≡◌, ◌≤◌, ℕ, List, map, Option, Some, slice_get}
+use Rattle.std.specs.Prelude.{◌≡◌, ◌≤◌, ℕ, List, map, Option, Some, option_map, slice_get}
 use Rattle.nc_base.specs.declared.header.Header.{Header}
 use Rattle.nc_base.specs.declared.request.Given.{Given}
 use Rattle.nc_base.specs.declared.request.Part.{Part}
@@ -12,6 +14,7 @@ use Rattle.serial_spec.specs.Layout.{length_of, product}
 use Rattle.serial_spec.specs.Limits.{most_elements}
 use Rattle.serial_spec.specs.Looks as looks
 use Rattle.var_layout.specs.Measures.{AreMeasures}
+use Rattle.rank_core.specs.Ranked.{Ranked}
 use Rattle.rank_core.specs.declared.look.target.Target.{Target}
 
 abbrev pub IsTarget : Target → Type 0
@@ -19,6 +22,16 @@ IsTarget t = slice_get t.header.now.vars t.place ≡ Some t.var.now
 
 abbrev pub IsMeasured : Target → Type 0
 IsMeasured t = AreMeasures t.header.now t.measures.now
+
+pub record IsTargetOf (rank : Ranked) (id : ℕ) (t : Target) : Type 0 where
+  pub header : t.header.now ≡ rank.header
+  pub there : IsTarget t
+  pub measured : IsMeasured t
+  pub known : t.known ≡ rank.state.known
+  pub posts : t.id ≡ id
+
+abbrev pub place_of : Option Target → Option ℕ
+place_of target = option_map (λ (t : Target). t.place) target
 
 unfoldable pub look_at : Target → Given → Option Values → looks.Look
 look_at t given values = looks.look_at t.header.now t.known t.id t.place given values (Some t.var.now)

@@ -1,10 +1,9 @@
 // What each call of a rank comes to.
-ghost use Rattle.std.specs.Prelude.{◌≡◌, ◌≤◌, ◌<◌, [], true, false, length, if◌then◌else◌, None, IfOk};
+ghost use Rattle.std.specs.Prelude.{◌≡◌, ◌≤◌, ◌<◌, [], true, false, length, None, IfOk};
 ghost use Rattle.std.specs.Option.{option_copied};
 ghost use Rattle.nc_base.specs.declared.answer.Code.TheVariants as code;
 ghost use Rattle.nc_base.specs.declared.request.Call.TheVariants as call;
 ghost use Rattle.nc_base.specs.declared.step.OfferKind.TheVariants as offer;
-ghost use Rattle.nc_base.specs.declared.step.MeetKind.TheVariants as meets;
 ghost use Rattle.serial_spec.specs.Looks as looks;
 ghost use Rattle.serial_spec.specs.RankMachine as machine;
 ghost use Rattle.serial_spec.specs.Looks.{direction_of, Asks};
@@ -14,7 +13,7 @@ ghost use Rattle.rank_core.specs.Requests.{AreTowards, HaveId, direction_of_kind
 ghost use Rattle.rank_core.specs.Stepped.{most_of, offers_towards, IsStepTo};
 
 use crate::Rank;
-use crate::look::Look;
+use crate::look::{Look, direction_of};
 use crate::open_offer::OpenOffer;
 use crate::own_answers::{answer, answered};
 use nc_base::{
@@ -275,15 +274,6 @@ impl<'a> Rank<'a> {
                 Want::Answered(told)
             }
         }
-    }
-}
-
-fn direction_of(values: Option<&Values>) -> Direction
-    ensures { result ≡ direction_of (option_copied values.entry) }
-{
-    match values {
-        None => Direction::Get,
-        Some(_) => Direction::Put,
     }
 }
 

@@ -1,29 +1,24 @@
-// The calls that change what a rank keeps, and those that only read it.
-ghost use Rattle.std.specs.Prelude.{◌≡◌, ◌≤◌, ◌<◌, ◌+◌, [], true, length, if◌then◌else◌, ◌==◌, None, Some, option_map, IfOk, IfErr, OnOk, OnErr};
-ghost use Rattle.std.specs.Option.{option_copied};
+// The calls that change what a rank keeps, and those that only read it. `keep`, `take` and `drop_chosen` say of the rank what its queue
+// says of itself, so that the calls of calls.rt see no more of the rank than its state.
+ghost use Rattle.std.specs.Prelude.{◌≡◌, ◌<◌, ◌+◌, [], true, length, if◌then◌else◌, ◌==◌, None, Some, option_map, IfOk, IfErr, OnOk, OnErr};
 ghost use Rattle.nc_base.specs.declared.answer.Code.TheVariants as code;
 ghost use Rattle.nc_base.specs.declared.request.Call.TheVariants as call;
 ghost use Rattle.nc_base.specs.declared.header.Dim.{Dim};
-ghost use Rattle.nc_base.specs.declared.request.Direction.TheVariants as way;
 ghost use Rattle.nc_base.specs.declared.request.PostKind.TheVariants as kind;
 ghost use Rattle.serial_spec.specs.Looks as looks;
 ghost use Rattle.serial_spec.specs.RankMachine as machine;
-ghost use Rattle.serial_spec.specs.Looks.{direction_of, Empty};
+ghost use Rattle.serial_spec.specs.Looks.{Empty};
 ghost use Rattle.serial_spec.specs.RankMachine.{posts, buffer_code, bytes_in, wants, dim_at, status_of, with_posted, without_chosen, chosen, batch_chosen, items_of, Waiting};
 ghost use Rattle.request_queue.specs.Queued.{IsRefusal};
-ghost use Rattle.rank_core.specs.Looked.{as_look, posts_of};
 ghost use Rattle.rank_core.specs.OpenOffers.{as_open};
-ghost use Rattle.run_laws.specs.Requests.{posts_held};
 ghost use Rattle.rank_core.specs.Requests.{ArePuts, AreGets, AreTowards, HaveId, AreOnce, direction_of_kind};
-ghost use Rattle.rank_core.specs.Stepped.{most_of, IsStepTo, IsSomeLook};
+ghost use Rattle.rank_core.specs.Stepped.{IsStepTo};
 
 use crate::Rank;
-use crate::look::{Look, look_fill, look_over};
 use crate::open_offer::OpenOffer;
 use crate::own_answers::answered;
 use nc_base::{
-    Batch, CallErr, Choice, Code, Given, ItemList, Memory, Offer, OfferKind, PostKind, PostList,
-    Values, Want,
+    Batch, CallErr, Choice, Code, ItemList, Memory, Offer, OfferKind, PostKind, PostList, Want,
 };
 use request_queue::Taken;
 use std::alloc::Global;
@@ -37,49 +32,6 @@ impl<'a> Rank<'a> {
         ensures { result ≡ self.now.state.independent }
     {
         self.independent
-    }
-
-    /// Looks a call on regions of a variable over.
-    pub(crate) fn look(
-        &self,
-        id: u32,
-        name: &[u8],
-        given: &Given,
-        values: Option<&Values>,
-    ) -> Result<Look, Memory>
-        ensures looked { IfOk result (λ l. as_look l ≡ looks.look self.now.header self.now.state.known id name.now given.now (option_copied values.entry)) }
-        ensures posts { IfOk result (λ l. AreTowards (direction_of (option_copied values.entry)) self.now.header self.now.state.known (posts_of l)) }
-        ensures ids { IfOk result (λ l. HaveId id (posts_of l)) }
-        ensures few { IfOk result (λ l. length (posts_of l) ≤ most_of given.now) }
-        ensures some { IfOk result IsSomeLook }
-    {
-        look_over(
-            self.alloc,
-            self.header,
-            self.names,
-            self.known,
-            id,
-            name,
-            given,
-            values,
-        )
-    }
-
-    /// Looks the filling of a rank's share of a record over.
-    pub(crate) fn look_share(
-        &self,
-        name: &[u8],
-        number: u64,
-        share: u32,
-        of: u32,
-    ) -> Result<Look, Memory>
-        requires share { share < of }
-        requires ranks { of ≤ 64 }
-        ensures looked { IfOk result (λ l. as_look l ≡ looks.look_fill self.now.header name.now number share of) }
-        ensures posts { IfOk result (λ l. AreTowards way.Put self.now.header self.now.state.known (posts_of l)) }
-        ensures few { IfOk result (λ l. length (posts_of l) ≤ 65) }
-    {
-        look_fill(self.alloc, self.header, self.names, name, number, share, of)
     }
 
     /// Makes an offer, and keeps what the answer to its reply needs.

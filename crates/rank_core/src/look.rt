@@ -1,10 +1,12 @@
 // What a call on a region comes to.
-ghost use Rattle.std.specs.Prelude.{◌≡◌, ◌≤◌, ◌<◌, max, true, length, slice_get, Some, IfOk};
+ghost use Rattle.std.specs.Prelude.{◌≡◌, ◌≤◌, ◌<◌, length, Some, IfOk};
 ghost use Rattle.std.specs.Option.{option_copied};
-ghost use Rattle.serial_spec.specs.SoundHeaders.{is_sound};
+ghost use Rattle.nc_base.specs.declared.request.Direction.TheVariants as way;
 ghost use Rattle.serial_spec.specs.Looks as looks;
-ghost use Rattle.rank_core.specs.Indexed.{IsIndexOf};
-ghost use Rattle.rank_core.specs.Looked.{as_look, posts_looked, settled, AreLooked, ArePutsLooked, ComesTo};
+ghost use Rattle.serial_spec.specs.Looks.{direction_of};
+ghost use Rattle.rank_core.specs.Looked.{as_look, posts_of, settled, ComesTo};
+ghost use Rattle.rank_core.specs.Requests.{AreTowards, HaveId};
+ghost use Rattle.rank_core.specs.Stepped.{most_of, IsSomeLook};
 ghost use Rattle.rank_core.specs.Targets as targets;
 ghost use Rattle.rank_core.specs.Targets.{IsMeasured, IsTarget};
 
@@ -13,13 +15,13 @@ mod parts;
 mod region;
 mod target;
 
-use crate::Names;
+use crate::Rank;
 use filling::look_record;
-use nc_base::{CallErr, Code, Form, Given, Header, Memory, PostList, Values};
+use nc_base::{CallErr, Code, Direction, Form, Given, Memory, PostList, Values};
 use parts::look_parts;
 use region::look_region;
 use std::alloc::Global;
-use target::{Target, target_at};
+use target::Target;
 
 /// What a put, a get or a post comes to.
 #[derive(Debug, Drop)]
@@ -32,29 +34,46 @@ pub(crate) enum Look {
     Asks(PostList),
 }
 
-/// Looks a call on regions of a variable over: the first code that refuses it, or its posts under this id. `values` are none for a get.
-/// The values of a put of many regions go to the elements of one region after another.
-pub(crate) fn look_over(
-    alloc: Global,
-    header: &Header,
-    names: &Names,
-    known: u64,
-    id: u32,
-    name: &[u8],
-    given: &Given,
-    values: Option<&Values>,
-) -> Result<Look, Memory>
-    requires sound { is_sound header.now ≡ true }
-    requires names { IsIndexOf header.now names.now }
-    ensures looked { IfOk result (λ l. as_look l ≡ looks.look header.now known id name.now given.now (option_copied values.entry)) }
-    ensures posts { IfOk result (AreLooked header.now known (option_copied values.entry)) }
-    ensures few { IfOk result (λ l. posts_looked l ≤ max 1 (length given.now.parts)) }
-{
-    match names.find_var(header, name) {
-        None => Ok(Look::Refused(Code::ENotVar)),
-        Some(place) => {
-            let target = target_at(header, names.measures(header), place, known, id);
-            settle(look_at(alloc, &target, given, values))
+impl<'a> Rank<'a> {
+    /// Looks a call on regions of a variable over: the first code that refuses it, or its posts under this id. `values` are none for a get.
+    /// The values of a put of many regions go to the elements of one region after another.
+    pub(crate) fn look(
+        &self,
+        id: u32,
+        name: &[u8],
+        given: &Given,
+        values: Option<&Values>,
+    ) -> Result<Look, Memory>
+        ensures looked { IfOk result (λ l. as_look l ≡ looks.look self.now.header self.now.state.known id name.now given.now (option_copied values.entry)) }
+        ensures posts { IfOk result (λ l. AreTowards (direction_of (option_copied values.entry)) self.now.header self.now.state.known (posts_of l)) }
+        ensures ids { IfOk result (λ l. HaveId id (posts_of l)) }
+        ensures few { IfOk result (λ l. length (posts_of l) ≤ most_of given.now) }
+        ensures some { IfOk result IsSomeLook }
+    {
+        match self.target(id, name) {
+            None => Ok(Look::Refused(Code::ENotVar)),
+            Some(target) => settle(look_at(self.allocator(), &target, given, values)),
+        }
+    }
+
+    /// Looks the filling of a rank's share of a record over: the first code that refuses it, or the boxes of the share, each with the
+    /// fill value as every element.
+    pub(crate) fn look_share(
+        &self,
+        name: &[u8],
+        number: u64,
+        share: u32,
+        of: u32,
+    ) -> Result<Look, Memory>
+        requires share { share < of }
+        requires ranks { of ≤ 64 }
+        ensures looked { IfOk result (λ l. as_look l ≡ looks.look_fill self.now.header name.now number share of) }
+        ensures posts { IfOk result (λ l. AreTowards way.Put self.now.header self.now.state.known (posts_of l)) }
+        ensures few { IfOk result (λ l. length (posts_of l) ≤ 65) }
+    {
+        match self.target(0, name) {
+            None => Ok(Look::Refused(Code::ENotVar)),
+            Some(target) => settle(look_record(self.allocator(), &target, number, share, of)),
         }
     }
 }
@@ -88,30 +107,12 @@ fn settle(looked: Result<PostList, CallErr>) -> Result<Look, Memory>
     }
 }
 
-/// Looks the filling of a rank's share of a record over: the first code that refuses it, or the boxes of the share, each with the fill
-/// value as every element.
-pub(crate) fn look_fill(
-    alloc: Global,
-    header: &Header,
-    names: &Names,
-    name: &[u8],
-    number: u64,
-    rank: u32,
-    ranks: u32,
-) -> Result<Look, Memory>
-    requires sound { is_sound header.now ≡ true }
-    requires names { IsIndexOf header.now names.now }
-    requires rank { rank < ranks }
-    requires ranks { ranks ≤ 64 }
-    ensures looked { IfOk result (λ l. as_look l ≡ looks.look_fill header.now name.now number rank ranks) }
-    ensures posts { IfOk result (ArePutsLooked header.now 0) }
-    ensures few { IfOk result (λ l. posts_looked l ≤ 65) }
+/// A put has values, and a get has none.
+pub(crate) fn direction_of(values: Option<&Values>) -> Direction
+    ensures { result ≡ direction_of (option_copied values.entry) }
 {
-    match names.find_var(header, name) {
-        None => Ok(Look::Refused(Code::ENotVar)),
-        Some(place) => {
-            let target = target_at(header, names.measures(header), place, 0, 0);
-            settle(look_record(alloc, &target, number, rank, ranks))
-        }
+    match values {
+        None => Direction::Get,
+        Some(_) => Direction::Put,
     }
 }

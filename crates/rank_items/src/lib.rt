@@ -41,7 +41,7 @@ impl SentItem {
     }
 
     /// The last item of a rank, which ended for want of memory or not.
-    pub fn ended(memory: bool) -> Self
+    pub fn last_item(memory: bool) -> Self
         ensures { result ≡ item.Ended memory }
     {
         SentItem {

@@ -1,5 +1,5 @@
 -- The calls of the definitions, with names for their parts that proofs keep shut.
-use Rattle.std.specs.Prelude.{ℕ, List, Bool, Option, Some, None, Result, Ok, codes}
+use Rattle.std.specs.Prelude.{ℕ, List, Bool, Some, None, Result, Ok, codes}
 use Rattle.nc_base.specs.declared.errors.ScriptKind.{ScriptKind}
 use Rattle.nc_base.specs.declared.errors.ScriptKind.TheVariants as kind
 use Rattle.nc_base.specs.declared.request.Form.{Form}

@@ -1,5 +1,5 @@
 // The calls that name a region of a variable: puts, gets and posts.
-ghost use Rattle.std.specs.Prelude.{◌≡◌, ◌≤◌, ◌^◌, ◌+◌, [], IfOk, None, option_map, false};
+ghost use Rattle.std.specs.Prelude.{◌≡◌, ◌≤◌, ◌^◌, ◌+◌, IfOk, None, option_map, false};
 ghost use Rattle.serial_spec.specs.Lawful.{values_in_call};
 ghost use Rattle.script_spec.specs.ScriptCalls.{after_prefix, before_suffix, form_and_all, posted, id_of_post, post_of_text, is_posted};
 ghost use Rattle.nc_base.specs.Values.{count_of};
@@ -11,7 +11,7 @@ use crate::rank_calls::RankCalls;
 use nc_base::{Call, Form, Given, Name, NumberList, PostKind, ScriptKind, Values};
 use script_values::regions::{form_of_text, region};
 use script_values::values::values;
-use script_words::word_forms::{ended, id, name};
+use script_words::word_forms::{no_more, id, name};
 use script_words::{ReadErr, Words};
 use std::alloc::Global;
 
@@ -89,7 +89,7 @@ pub fn get_call(
 {
     let var = name(words)?;
     let given = call_region(alloc, form, words)?;
-    ended(words)?;
+    no_more(words)?;
     Ok(Call::Get {
         all,
         var: Name::from_slice(alloc, var)?,
@@ -111,7 +111,7 @@ fn post_values(
 {
     match kind {
         PostKind::Iget => {
-            ended(words)?;
+            no_more(words)?;
             Ok(Values::Numbers(NumberList::new(alloc)))
         }
         PostKind::Iput | PostKind::Bput => values(alloc, None, before, words),

@@ -3,14 +3,13 @@ ghost use Rattle.std.specs.Prelude.{◌≡◌, ◌≤◌, ◌<◌, ◌^◌, ◌+
 ghost use Rattle.std.specs.List.{All};
 ghost use Rattle.serial_spec.specs.History.{kinds};
 ghost use Rattle.serial_spec.specs.Lawful.{values_in_call};
-ghost use Rattle.nc_base.specs.Values.{count_of};
 ghost use Rattle.script_spec.specs.ScriptCalls.{Called, rank_of_text, call_line, called_after, calls_of, posted, with_call};
 ghost use Rattle.script_calls.specs.Posts.{IsNew};
 ghost use Rattle.script_words.specs.Given.{Gives};
 
 use crate::calls::{CallPlace, call_of};
 use crate::rank_calls::{RankCalls, kinds};
-use nc_base::{Call, CallTable, Items, MeetKind, Memory, ScriptKind, Values};
+use nc_base::{Call, CallTable, Items, MeetKind, Memory, ScriptKind};
 use script_words::numbers::{begins_rank, digits_below};
 use script_words::word_forms::next;
 use script_words::{ReadErr, Words};

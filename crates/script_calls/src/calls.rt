@@ -1,8 +1,8 @@
 // The calls of a line.
-ghost use Rattle.std.specs.Prelude.{◌≡◌, ◌≤◌, ◌^◌, ◌+◌, [], IfOk, None, option_map, false};
+ghost use Rattle.std.specs.Prelude.{◌≡◌, ◌≤◌, ◌^◌, ◌+◌, [], IfOk, None, false};
 ghost use Rattle.serial_spec.specs.Lawful.{values_in_call};
 ghost use Rattle.script_spec.specs.ScriptSteps.{whole};
-ghost use Rattle.script_spec.specs.ScriptCalls.{posted, id_of_post, choice, one_id, ids, fill_call, attach_call, inquiry, lone_call, other_call, call_of};
+ghost use Rattle.script_spec.specs.ScriptCalls.{posted, id_of_post, choice, one_id, ids, fill_call, attach_call, inquiry, lone_call, other_call};
 ghost use Rattle.script_calls.specs.CallWords.{plain_by, post_or_plain_by, call_by};
 ghost use Rattle.script_words.specs.Given.{Gives, word_of};
 ghost use Rattle.script_calls.specs.Posts.{IsNew};
@@ -12,7 +12,7 @@ use crate::rank_calls::RankCalls;
 use nc_base::{Call, Choice, IdList, Name, ScriptKind};
 use script_values::regions::form_of_text;
 use script_words::numbers::id_of_text;
-use script_words::word_forms::{bare, ended, name, size};
+use script_words::word_forms::{bare, no_more, name, size};
 use script_words::{ReadErr, Token, Words};
 use std::alloc::Global;
 
@@ -53,7 +53,7 @@ fn choice(alloc: Global, words: &mut Words<'_>) -> Result<Choice, ReadErr>
     let mut after = words.again();
     if let Some(Token::Plain(word)) = after.take()? {
         if word == b"all".as_slice() {
-            ended(&mut after)?;
+            no_more(&mut after)?;
             return Ok(Choice::Every);
         }
     }
@@ -66,7 +66,7 @@ fn fill_call(alloc: Global, ranks: u32, rank: u32, words: &mut Words<'_>) -> Res
 {
     let var = name(words)?;
     let number = size(words)?;
-    ended(words)?;
+    no_more(words)?;
     Ok(Call::FillRec {
         var: Name::from_slice(alloc, var)?,
         number,
@@ -80,7 +80,7 @@ fn attach_call(words: &mut Words<'_>) -> Result<Call, ReadErr>
     ensures none { IfOk result (λ c. (values_in_call c ≡ 0) × (id_of_post c ≡ None)) }
 {
     let size = size(words)?;
-    ended(words)?;
+    no_more(words)?;
     Ok(Call::Attach { size })
 }
 
@@ -90,7 +90,7 @@ fn inquiry(alloc: Global, words: &mut Words<'_>) -> Result<Call, ReadErr>
     ensures none { IfOk result (λ c. (values_in_call c ≡ 0) × (id_of_post c ≡ None)) }
 {
     let name = name(words)?;
-    ended(words)?;
+    no_more(words)?;
     Ok(Call::InqDim {
         name: Name::from_slice(alloc, name)?,
     })
@@ -101,7 +101,7 @@ fn alone(call: Call, words: &mut Words<'_>) -> Result<Call, ReadErr>
     ensures read { Gives (λ c. c) result (whole (call, words.old)) }
     ensures same { IfOk result (λ c. c ≡ call) }
 {
-    ended(words)?;
+    no_more(words)?;
     Ok(call)
 }
 
@@ -197,8 +197,9 @@ fn post_or_plain(
     post_call(alloc, kind, own, form, place.before, words)
 }
 
+/// Reads a call of a rank by its word, where the rank has had these calls.
 #[tactic(auto, unfolding(crate::specs::CallWords::call_by))]
-fn call_named(
+pub fn call_of(
     alloc: Global,
     place: CallPlace,
     own: &RankCalls,
@@ -223,20 +224,4 @@ fn call_named(
         return get_call(alloc, all, form, words);
     }
     post_or_plain(alloc, place, own, word, words)
-}
-
-/// Reads a call of a rank by its word, where the rank has had these calls.
-pub fn call_of(
-    alloc: Global,
-    place: CallPlace,
-    own: &RankCalls,
-    word: &[u8],
-    words: &mut Words<'_>,
-) -> Result<Call, ReadErr>
-    requires { place.before ≤ 2 ^ 24 }
-    ensures read { Gives (λ c. c) result (call_of place.ranks place.rank own.now place.before word.now words.old) }
-    ensures bound { IfOk result (λ c. place.before + values_in_call c ≤ 2 ^ 24) }
-    ensures new { IfOk result (λ c. IsNew (posted own.now) c) }
-{
-    call_named(alloc, place, own, word, words)
 }

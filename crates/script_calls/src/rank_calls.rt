@@ -1,5 +1,5 @@
 // The calls of one rank, with the ids that it posts beside them.
-ghost use Rattle.std.specs.Prelude.{◌≡◌, ◌++◌, ◌∷◌, [], OnOk, IfOk, IfSome, None, Some, false, filter_map, length, ◌<◌, ◌≤◌, ◌+◌, ◌^◌};
+ghost use Rattle.std.specs.Prelude.{◌≡◌, ◌++◌, ◌∷◌, [], OnOk, IfOk, None, Some, false, length, ◌<◌, ◌≤◌, ◌+◌, ◌^◌};
 ghost use Rattle.serial_spec.specs.History.{kinds, kind_of_call};
 ghost use Rattle.script_spec.specs.ScriptCalls.{posted, id_of_post, is_posted};
 ghost use Rattle.script_calls.specs.Posts.{IsNew};

@@ -1,5 +1,5 @@
 -- Lines before `data`, with names for their parts that proofs keep shut.
-use Rattle.std.specs.Prelude.{ℕ, ◌+◌, List, Bool, true, false, Result, Ok, ◌==◌}
+use Rattle.std.specs.Prelude.{ℕ, ◌+◌, List, true, false, Result, Ok, ◌==◌}
 use Rattle.nc_base.specs.declared.errors.ScriptKind.{ScriptKind}
 use Rattle.script_spec.specs.ScriptWords.{Word}
 use Rattle.script_spec.specs.ScriptSteps.{◌>>=◌}

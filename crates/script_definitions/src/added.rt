@@ -1,7 +1,8 @@
 // What a script adds to an existing dataset.
 ghost use Rattle.std.specs.Prelude.{◌≡◌, ◌≤◌, ◌^◌, ◌+◌, IfOk, length, drop, nat_lt};
 ghost use Rattle.std.specs.List.{list_any};
-ghost use Rattle.script_spec.specs.ScriptDefinitions.{Added, nothing_added, is_added_record, added_shape, owner_name, dim_addition, var_addition, att_addition, addition};
+ghost use Rattle.script_spec.specs.ScriptDefinitions.{Added, nothing_added, is_added_record, added_shape, owner_name, dim_addition, var_addition, att_addition};
+ghost use Rattle.script_definitions.specs.DraftWords.{addition_by};
 ghost use Rattle.script_words.specs.Given.{Gives};
 
 use crate::attributes::attribute;
@@ -9,7 +10,7 @@ use crate::dims::Dims;
 use crate::titles::Titles;
 use crate::vars::{name_list, var_head};
 use nc_base::{Dim, Extra, ExtraList, LimitName, MAX_VAR_DIMS, Memory, Name, NameList, ScriptKind};
-use script_words::word_forms::{ended, owner};
+use script_words::word_forms::{no_more, owner};
 use script_words::{ListParts, Names, ReadErr, Words};
 use std::alloc::Global;
 use std::marker::Model;
@@ -140,7 +141,7 @@ impl<'a> Additions<'a> {
     {
         let (kind, name) = var_head(5, &self.vars, words)?;
         let mut dims = shape(&self.dims, words)?;
-        ended(words)?;
+        no_more(words)?;
         let var = Extra::Var {
             kind,
             name: Name::from_slice(self.alloc, name)?,
@@ -169,14 +170,15 @@ impl<'a> Additions<'a> {
     }
 
     /// Reads a line: how many values it has.
-    pub fn read(
+    #[tactic(auto, unfolding(crate::specs::DraftWords::addition_by))]
+    pub(crate) fn read(
         &mut self,
         before: u64,
         first: &'a [u8],
         words: &mut Words<'a>,
     ) -> Result<u64, ReadErr>
         requires { before ≤ 2 ^ 24 }
-        ensures read { Gives (λ n. (n, self.new)) result (addition before self.old first.now words.old) }
+        ensures read { Gives (λ n. (n, self.new)) result (addition_by before self.old first.now words.old) }
         ensures bound { IfOk result (λ n. before + n ≤ 2 ^ 24) }
     {
         if first == b"dim".as_slice() {

@@ -1,6 +1,7 @@
 // The definitions of a new dataset.
 ghost use Rattle.std.specs.Prelude.{◌≡◌, ◌≤◌, ◌<◌, ◌^◌, ◌+◌, IfOk, IfSome, Some, None, length};
-ghost use Rattle.script_spec.specs.ScriptDefinitions.{Defined, no_definition, owner_place, att_line, fill_line, dim_definition, var_definition, definition};
+ghost use Rattle.script_spec.specs.ScriptDefinitions.{Defined, no_definition, owner_place, att_line, fill_line, dim_definition, var_definition};
+ghost use Rattle.script_definitions.specs.DraftWords.{definition_by};
 ghost use Rattle.script_spec.specs.ScriptGrammar.{header_of};
 ghost use Rattle.script_words.specs.Given.{Gives};
 
@@ -9,7 +10,7 @@ use crate::dims::Dims;
 use crate::titles::Titles;
 use crate::vars::Vars;
 use nc_base::{AttrList, Header, ScriptKind};
-use script_words::word_forms::{ended, owner};
+use script_words::word_forms::{no_more, owner};
 use script_words::{ReadErr, Words};
 use std::alloc::Global;
 use std::marker::Model;
@@ -124,13 +125,14 @@ impl<'a> Definitions<'a> {
         if self.filled {
             return Err(ReadErr::Fault(ScriptKind::TwiceNamed));
         }
-        ended(words)?;
+        no_more(words)?;
         self.filled = true;
         Ok(0)
     }
 
     /// Reads a line: how many values it has.
-    pub fn read(
+    #[tactic(auto, unfolding(crate::specs::DraftWords::definition_by))]
+    pub(crate) fn read(
         &mut self,
         version: u8,
         before: u64,
@@ -138,7 +140,7 @@ impl<'a> Definitions<'a> {
         words: &mut Words<'a>,
     ) -> Result<u64, ReadErr>
         requires { before ≤ 2 ^ 24 }
-        ensures read { Gives (λ n. (n, self.new)) result (definition version before self.old first.now words.old) }
+        ensures read { Gives (λ n. (n, self.new)) result (definition_by version before self.old first.now words.old) }
         ensures bound { IfOk result (λ n. before + n ≤ 2 ^ 24) }
     {
         if first == b"dim".as_slice() {

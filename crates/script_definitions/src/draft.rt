@@ -1,14 +1,14 @@
 // What is known before `data`.
 ghost use Rattle.std.specs.Prelude.{◌≡◌, ◌≤◌, ◌^◌, ◌+◌, IfOk, IfSome};
-ghost use Rattle.script_spec.specs.ScriptDefinitions.{Known, nothing_known, ranks_line, definition_or_addition, known_after};
-ghost use Rattle.script_definitions.specs.DraftWords.{addition_by, definition_by, known_added, known_defined, known_by};
+ghost use Rattle.script_spec.specs.ScriptDefinitions.{Known, nothing_known, ranks_line, known_after};
+ghost use Rattle.script_definitions.specs.DraftWords.{known_added, known_defined, known_by};
 ghost use Rattle.script_words.specs.Given.{Gives};
 
 use crate::added::Additions;
 use crate::defined::Definitions;
 use crate::hints::GivenHints;
 use nc_base::ScriptKind;
-use script_words::word_forms::{ended, size_within};
+use script_words::word_forms::{no_more, size_within};
 use script_words::{ReadErr, Words};
 use std::alloc::{AllocError, Global};
 use std::marker::Model;
@@ -71,7 +71,7 @@ impl<'a> Draft<'a> {
             return Err(ReadErr::Fault(ScriptKind::TwiceNamed));
         }
         let ranks = size_within(1, 64, 1, words)?;
-        ended(words)?;
+        no_more(words)?;
         Ok(ranks)
     }
 
@@ -79,7 +79,7 @@ impl<'a> Draft<'a> {
     fn add(&mut self, first: &'a [u8], words: &mut Words<'a>) -> Result<(), ReadErr>
         ensures { Gives (λ _. self.new) result (known_added self.old first.now words.old) }
     {
-        let count = read_addition(&mut self.added, self.values, first, words)?;
+        let count = self.added.read(self.values, first, words)?;
         self.values += count;
         Ok(())
     }
@@ -88,7 +88,7 @@ impl<'a> Draft<'a> {
     fn define(&mut self, version: u8, first: &'a [u8], words: &mut Words<'a>) -> Result<(), ReadErr>
         ensures { Gives (λ _. self.new) result (known_defined version self.old first.now words.old) }
     {
-        let count = read_definition(&mut self.defined, version, self.values, first, words)?;
+        let count = self.defined.read(version, self.values, first, words)?;
         self.values += count;
         Ok(())
     }
@@ -109,19 +109,8 @@ impl<'a> Draft<'a> {
         self.define(version, first, words)
     }
 
-    #[tactic(auto, using(crate::proofs::DraftWordLaws::same_known))]
-    fn read_definition_line(
-        &mut self,
-        version: u8,
-        first: &'a [u8],
-        words: &mut Words<'a>,
-    ) -> Result<(), ReadErr>
-        ensures { Gives (λ _. self.new) result (definition_or_addition version self.old first.now words.old) }
-    {
-        self.define_or_add(version, first, words)
-    }
-
     /// Reads a line.
+    #[tactic(auto, using(crate::proofs::DraftWordLaws::same_known))]
     pub fn read(
         &mut self,
         version: u8,
@@ -140,35 +129,6 @@ impl<'a> Draft<'a> {
             self.hints.set(name, value);
             return Ok(());
         }
-        self.read_definition_line(version, first, words)
+        self.define_or_add(version, first, words)
     }
-}
-
-#[tactic(auto, unfolding(crate::specs::DraftWords::addition_by))]
-fn read_addition<'a>(
-    added: &mut Additions<'a>,
-    before: u64,
-    first: &'a [u8],
-    words: &mut Words<'a>,
-) -> Result<u64, ReadErr>
-    requires { before ≤ 2 ^ 24 }
-    ensures read { Gives (λ n. (n, added.new)) result (addition_by before added.old first.now words.old) }
-    ensures bound { IfOk result (λ n. before + n ≤ 2 ^ 24) }
-{
-    added.read(before, first, words)
-}
-
-#[tactic(auto, unfolding(crate::specs::DraftWords::definition_by))]
-fn read_definition<'a>(
-    defined: &mut Definitions<'a>,
-    version: u8,
-    before: u64,
-    first: &'a [u8],
-    words: &mut Words<'a>,
-) -> Result<u64, ReadErr>
-    requires { before ≤ 2 ^ 24 }
-    ensures read { Gives (λ n. (n, defined.new)) result (definition_by version before defined.old first.now words.old) }
-    ensures bound { IfOk result (λ n. before + n ≤ 2 ^ 24) }
-{
-    defined.read(version, before, first, words)
 }

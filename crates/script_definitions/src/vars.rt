@@ -13,7 +13,7 @@ use nc_base::{
     Var, VarList,
 };
 use script_words::numbers::is_name;
-use script_words::word_forms::{bracketed, ended, name, type_name};
+use script_words::word_forms::{bracketed, no_more, name, type_name};
 use script_words::{ListParts, Names, ReadErr, Words};
 use std::alloc::Global;
 use std::marker::Model;
@@ -74,7 +74,7 @@ impl<'a> Vars<'a> {
     {
         let (kind, name) = var_head(version, &self.names, words)?;
         let ids = shape(self.alloc, dims, words)?;
-        ended(words)?;
+        no_more(words)?;
         Ok((kind, name, ids))
     }
 

@@ -1,5 +1,5 @@
 // How many values a line may have, and of what kind.
-ghost use Rattle.std.specs.Prelude.{◌≡◌, ◌≤◌, ◌<◌, ◌+◌, ◌^◌, ◌∷◌, [], OnOk, IfOk, IfSome, length, List, ℤ, pos, ◌+ℤ◌, ◌*ℤ◌, unsigned_abs, nat_lt, ◌*◌, ◌-◌, ◌==◌, Ok};
+ghost use Rattle.std.specs.Prelude.{◌≡◌, ◌≤◌, ◌+◌, ◌^◌, OnOk, ◌-◌, Ok};
 ghost use Rattle.script_spec.specs.ScriptValues.{within_limits, may_be, are_numbers, are_patterns, are_text, wrong_kind};
 ghost use Rattle.script_words.specs.Given.{Gives};
 

@@ -1,13 +1,13 @@
 // Values that are told as a sequence: how many there are, the first one and the step.
-ghost use Rattle.std.specs.Prelude.{◌≡◌, ◌≤◌, ◌<◌, ◌+◌, ◌^◌, ◌∷◌, [], OnOk, IfOk, IfSome, length, List, ℤ, pos, ◌+ℤ◌, ◌*ℤ◌, unsigned_abs, nat_lt, ◌*◌, ◌-◌, ◌==◌, Ok};
+ghost use Rattle.std.specs.Prelude.{◌≡◌, ◌≤◌, ◌<◌, ◌+◌, ◌^◌, IfOk, IfSome, length, ℤ, pos, ◌+ℤ◌, ◌*ℤ◌, unsigned_abs, ◌*◌, ◌-◌, ◌==◌, Ok};
 ghost use Rattle.nc_base.specs.Values.{count_of};
-ghost use Rattle.script_spec.specs.ScriptValues.{may_have, sequence_count, sequence, last_number, is_term, term, numbers_between, pattern_sequence, last_pattern, is_pattern_term, pattern_term, patterns_between, seq_values, seqx_values, pattern_values};
+ghost use Rattle.script_spec.specs.ScriptValues.{sequence_count, sequence, last_number, is_term, term, numbers_between, pattern_sequence, last_pattern, is_pattern_term, pattern_term, patterns_between, seq_values, seqx_values, pattern_values};
 ghost use Rattle.script_words.specs.Given.{Gives};
 
 use crate::fits::{may_have_bits, may_have_number};
 use crate::limits::{may_be_bits, may_be_numbers, within_limits, wrong_kind};
 use nc_base::{BitList, BitRun, NcType, NumberList, NumberRun, ScriptKind, Values};
-use script_words::word_forms::{bits, ended, number, size};
+use script_words::word_forms::{bits, no_more, number, size};
 use script_words::{ReadErr, Words};
 use std::alloc::Global;
 
@@ -134,7 +134,7 @@ fn numbers_between(
     if !is_last_term(kind, n, first, step) {
         return Err(ReadErr::Fault(ScriptKind::BadNumber));
     }
-    ended(words)?;
+    no_more(words)?;
     sequence(alloc, first, step, n)
 }
 
@@ -192,7 +192,7 @@ fn patterns_between(
     if !is_pattern_term(kind, n, pattern_at(first, step, n.saturating_sub(1))) {
         return Err(ReadErr::Fault(ScriptKind::BadNumber));
     }
-    ended(words)?;
+    no_more(words)?;
     pattern_sequence(alloc, first, step, n)
 }
 

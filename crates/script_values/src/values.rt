@@ -1,8 +1,8 @@
 // The values of a call, or of an attribute of a type.
-ghost use Rattle.std.specs.Prelude.{◌≡◌, ◌≤◌, ◌<◌, ◌+◌, ◌^◌, ◌∷◌, [], OnOk, IfOk, IfSome, length, List, ℤ, pos, ◌+ℤ◌, ◌*ℤ◌, unsigned_abs, nat_lt, ◌*◌, ◌-◌, ◌==◌, Ok};
+ghost use Rattle.std.specs.Prelude.{◌≡◌, ◌≤◌, ◌<◌, ◌+◌, ◌^◌, ◌∷◌, OnOk, IfOk, ◌-◌, ◌==◌, Ok};
 ghost use Rattle.nc_base.specs.Values.{count_of};
 ghost use Rattle.script_spec.specs.ScriptWords.{Plain};
-ghost use Rattle.script_spec.specs.ScriptValues.{number_for, pattern_for, one_value, each_value, text_values, number_values, bits_values, begins_x, listed_kind, listed_values, values};
+ghost use Rattle.script_spec.specs.ScriptValues.{number_for, pattern_for, one_value, text_values, number_values, bits_values, begins_x, listed_kind, listed_values, values};
 ghost use Rattle.script_words.specs.Given.{Gives, word_of};
 
 use crate::fits::{may_have_bits, may_have_number};
@@ -10,7 +10,7 @@ use crate::limits::{may_be_text, within_limits};
 use crate::sequences::{seq_values, seqx_values};
 use nc_base::{BitList, Blob, NcType, NumberList, ScriptKind, Values};
 use script_words::numbers::{bits_of_text, number_of_text};
-use script_words::word_forms::{bare, ended};
+use script_words::word_forms::{bare, no_more};
 use script_words::{ReadErr, Token, Words};
 use std::alloc::Global;
 
@@ -73,7 +73,7 @@ fn text_values(
         return Err(ReadErr::Fault(ScriptKind::BadNumber));
     }
     within_limits(kind, before, text.len() as u64)?;
-    ended(words)?;
+    no_more(words)?;
     Ok(Values::Text(Blob::from_vec(text)))
 }
 

@@ -1,5 +1,5 @@
 // What single words mean.
-ghost use Rattle.std.specs.Prelude.{◌≡◌, ◌<◌, ◌^◌, IsTrue, IfSome, true, length, ◌≤◌, fold, Some, ◌==◌, nat_lt, ◌&&◌, ◌%◌, option_map, unsigned_abs};
+ghost use Rattle.std.specs.Prelude.{◌≡◌, ◌<◌, ◌^◌, IfSome, true, length, ◌≤◌, fold, Some, ◌==◌, ◌&&◌, ◌%◌, option_map, unsigned_abs};
 ghost use Rattle.std.specs.List.{list_all};
 ghost use Rattle.script_spec.specs.ScriptWords.{is_digit, digits_value, is_digits, natural_of, size_of_text, number_of_text, bits_of_text, hex_sum, is_name, starts_name, in_name, is_letter, between_brackets, begins_rank, below};
 ghost use Rattle.script_spec.specs.ScriptDefinitions.{number_within};

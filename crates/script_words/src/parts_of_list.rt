@@ -1,5 +1,5 @@
 // The parts of a list, one after the other.
-ghost use Rattle.std.specs.Prelude.{◌≡◌, position, length};
+ghost use Rattle.std.specs.Prelude.{◌≡◌, position};
 ghost use Rattle.std.specs.List.{slice_split};
 ghost use Rattle.script_spec.specs.ScriptWords.{parts, is_comma};
 ghost use Rattle.script_words.specs.Given.{TakesFirst};

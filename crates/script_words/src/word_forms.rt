@@ -164,7 +164,7 @@ pub fn dim_length(version: u8, words: &mut Words<'_>) -> Result<u64, ReadErr>
 }
 
 /// No word may follow.
-pub fn ended(words: &mut Words<'_>) -> Result<(), ReadErr>
+pub fn no_more(words: &mut Words<'_>) -> Result<(), ReadErr>
     ensures { Gives (λ _. tt) result (ended words.old) }
 {
     match words.take()? {

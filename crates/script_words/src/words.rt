@@ -1,5 +1,5 @@
 // The words of a line, one after the other.
-ghost use Rattle.std.specs.Prelude.{◌≡◌, ◌∷◌, [], IfOk, IfSome, position, ◌<◌, ◌≤◌, length, drop, not, MatchOption, option_map, if◌then◌else◌};
+ghost use Rattle.std.specs.Prelude.{◌≡◌, [], IfOk, position, ◌≤◌, length, not};
 ghost use Rattle.std.specs.List.{position_or_len};
 ghost use Rattle.script_spec.specs.ScriptWords.{is_blank, begins_blank, quoted_word, after_blanks, text_from, Between, words};
 ghost use Rattle.script_words.specs.Given.{word_of, TakesWord};

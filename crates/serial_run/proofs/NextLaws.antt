@@ -150,10 +150,10 @@ heard_low header runner o y e asked low few =
     let known = (hears_keeps header runner.rank.state heard.0 y heard.1 waits refl).0 in
     subst (λ (n : ℕ). n < record_limit header.version) (sym known) (less_max runner.rank.state.known y.records (record_limit header.version) low few)
 
-runnered : (script : Script) (header : Header) (done : List Mark) (r : ℕ) (a b : Runner) (o : Offer) (one : HeardOne header a b) → a.held ≡ Some o
+running : (script : Script) (header : Header) (done : List Mark) (r : ℕ) (a b : Runner) (o : Offer) (one : HeardOne header a b) → a.held ≡ Some o
     → IfSome a.held (IsAsked header a.rank.state) → a.rank.state.known < record_limit header.version
     → IsOnWay script done r (hears header (going_of a) one.reply) None → IsRunner script header done r b
-runnered script header done r a b o one e asked low way = record {
+running script header done r a b o one e asked low way = record {
   of_header = one.heard.of_header;
   low = subst (λ (n : ℕ). n < record_limit header.version) (sym one.heard.gone.known) (heard_low header a o one.reply e asked low one.low);
   asked = one.heard.gone.asked;
@@ -164,7 +164,7 @@ pub meeting_runner : (script : Script) (header : Header) (done rest : List Mark)
     → IsRunner script header done r a → HeardOne header a b → IsRunner script header (done ++ mark.Meet k ∷ []) r b
 meeting_runner script header done rest r k a b legal below is one =
     let at = meeting_next script header done r k (going_of a) a.held (filter (concerns r) rest) (next_left script done rest (mark.Meet k) r legal below refl) is.placed in
-    runnered script header (done ++ mark.Meet k ∷ []) r a b at.offer one at.holds is.asked is.low
+    running script header (done ++ mark.Meet k ∷ []) r a b at.offer one at.holds is.asked is.low
     (subst (λ (j : ℕ). IsOnWay script (done ++ mark.Meet j ∷ []) r (hears header (going_of a) one.reply) None) at.number
     (meeting_done script header done r (going_of a) at.offer one.reply at.way))
 
@@ -172,7 +172,7 @@ pub own_runner : (script : Script) (header : Header) (done rest : List Mark) (r 
     → IsRunner script header done r a → HeardOne header a b → IsRunner script header (done ++ mark.Solo r n ∷ []) r b
 own_runner script header done rest r n a b legal below is one =
     let at = own_next script header done r n (going_of a) a.held (filter (concerns r) rest) (next_left script done rest (mark.Solo r n) r legal below (equal_itself r)) is.placed in
-    runnered script header (done ++ mark.Solo r n ∷ []) r a b at.offer one at.holds is.asked is.low
+    running script header (done ++ mark.Solo r n ∷ []) r a b at.offer one at.holds is.asked is.low
     (subst (λ (j : ℕ). IsOnWay script (done ++ mark.Solo r j ∷ []) r (hears header (going_of a) one.reply) None) at.number
     (alone_done script header done r (going_of a) at.offer one.reply at.asks))
 

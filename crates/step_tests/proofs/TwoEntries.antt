@@ -7,7 +7,8 @@ use Rattle.overlay_laws.specs.Origins.{AreFound}
 use Rattle.serial_spec.specs.Said.{Says}
 use Rattle.overlay_laws.specs.Entries.{In}
 use Rattle.overlay_laws.proofs.EntryLaws.{says_cases}
-use Rattle.data_sieving.specs.Sieving.{bytes_of_post, source_of, HaveOnePlace, places_of, of_slot}
+use Rattle.aggregator_rounds.specs.EntryParts.{bytes_of_post, source_of, places_of}
+use Rattle.data_sieving.specs.Sieving.{HaveOnePlace, of_slot}
 use Rattle.data_sieving.proofs.GetSteps.{in_slot}
 
 -- ---- the bytes of a put

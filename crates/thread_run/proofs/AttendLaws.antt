@@ -22,6 +22,7 @@ use Rattle.serial_spec.specs.RankMachine.{hear}
 use Rattle.serial_spec.specs.RankSide.{end_by, fits_offer, offered, offered_by, rank_end, rank_stop, stop_by, waiting, waiting_end, waiting_stop}
 use Rattle.serial_spec.specs.SerialEnd.{Going, advance, first_going, hears}
 use Rattle.thread_run.specs.RankSides.{HasAttended, HasStood, IsAccounted, IsBroken, Stands}
+use Rattle.turn_run.specs.RankEnds.{runner_end}
 use Rattle.turn_run.specs.Running.{asking, between, going_of}
 use Rattle.turn_run.specs.declared.runners.Runner.{Runner}
 use Rattle.turn_run.proofs.AloneLaws.{going_free, going_held}
@@ -180,25 +181,23 @@ no_offer : (put : List RankItem) (taken : List OwnerItem) (memory : Bool) → le
 no_offer put taken memory h =
     h ∙ sym (ap (λ (xs : List RankItem). length xs) (filter-append is_offer put (item.Ended memory ∷ []) ∙ append-nil (filter is_offer put)))
 
-pub attended_through : (header : Header) (own : List Call) (put : List RankItem) (taken : List OwnerItem) (runner : Runner) (end : RankStop) (known pending : ℕ)
-    → HasStood header own put taken runner (Ok end) → known ≡ runner.rank.state.known → pending ≡ machine.pending runner.rank.state
-    → HasAttended header own (put ++ item.Ended false ∷ []) taken (record { known = known; pending = pending; answers = runner.answers; end = end })
-attended_through header own put taken runner end known pending h e f = record {
+pub attended_through : (header : Header) (own : List Call) (put : List RankItem) (taken : List OwnerItem) (runner : Runner) (end : RankStop)
+    → HasStood header own put taken runner (Ok end) → HasAttended header own (put ++ item.Ended false ∷ []) taken (runner_end end runner)
+attended_through header own put taken runner end h = record {
   one_each = no_offer put taken false h.one_each;
   finished = λ k. record {
     put_all = h.stands.put_all;
     stop = h.stands.stop;
     answers = h.stands.answers;
-    known = e ∙ ap (λ (r : machine.Rank). r.known) h.stands.state;
-    pending = f ∙ ap (λ (r : machine.Rank). machine.pending r) h.stands.state;
+    known = ap (λ (r : machine.Rank). r.known) h.stands.state;
+    pending = ap (λ (r : machine.Rank). machine.pending r) h.stands.state;
   };
   broken = λ k. absurd (h.stands.not_broken k);
 }
 
-pub attended_broken : (header : Header) (own : List Call) (put : List RankItem) (taken : List OwnerItem) (runner : Runner) (m : Memory) (known pending : ℕ)
-    → HasStood header own put taken runner (Err m)
-    → HasAttended header own (put ++ item.Ended true ∷ []) taken (record { known = known; pending = pending; answers = runner.answers; end = stop.Memory })
-attended_broken header own put taken runner m known pending h = record {
+pub attended_broken : (header : Header) (own : List Call) (put : List RankItem) (taken : List OwnerItem) (runner : Runner) (m : Memory)
+    → HasStood header own put taken runner (Err m) → HasAttended header own (put ++ item.Ended true ∷ []) taken (runner_end stop.Memory runner)
+attended_broken header own put taken runner m h = record {
   one_each = no_offer put taken true h.one_each;
   finished = λ k. absurd (k refl);
   broken = λ k. record { sent = put; unsent = h.stands.unsent; put_some = refl; begins = h.stands.begins; unanswered = h.stands.unanswered; answers = h.stands.answers };

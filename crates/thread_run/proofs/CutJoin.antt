@@ -32,7 +32,7 @@ use Rattle.turn_run.specs.Told.{counts_along}
 use Rattle.thread_run.specs.Owned.{owner_told}
 use Rattle.join_laws.proofs.GoingOnLaws.{given_on}
 use Rattle.thread_run.proofs.TellLaws.{count_of, tells_more}
-use Rattle.thread_run.proofs.CutRank.{Sits, sits_as}
+use Rattle.thread_run.proofs.CutRank.{IsPaired, sits_as}
 use Rattle.thread_run.proofs.CutSteps.{Stands, Stepped, arrival_stands}
 use Rattle.list_laws.proofs.Maps.{mapped_entry}
 
@@ -85,11 +85,11 @@ ran s ((r, i) ∷ first) later d goings n end none low t = by (is_strange s d (r
         whole : Stands s d goings (λ q. own_items q ((r, i) ∷ (first ++ later))) (λ q. (event s d (r, i)).given q ++ (given_along s (event s d (r, i)).owner first q ++ replicate (n q) Stop)) end
         whole = record {
           long = t.long;
-          sits = λ q x g a b.
+          paired_at = λ q x g a b.
               sits_as s.header x x g (own_items q ((r, i) ∷ (first ++ later))) (own_items q ((r, i) ∷ (first ++ later))) (given_along s d ((r, i) ∷ first) q ++ replicate (n q) Stop)
               ((event s d (r, i)).given q ++ (given_along s (event s d (r, i)).owner first q ++ replicate (n q) Stop)) (end q) refl refl
               (ap (λ (xs : List OwnerItem). xs ++ replicate (n q) Stop) (given_on s d (r, i) first q f)
-              ∙ append_assoc ((event s d (r, i)).given q) (given_along s (event s d (r, i)).owner first q) (replicate (n q) Stop)) (t.sits q x g a b);
+              ∙ append_assoc ((event s d (r, i)).given q) (given_along s (event s d (r, i)).owner first q) (replicate (n q) Stop)) (t.paired_at q x g a b);
           held = t.held;
           counted = t.counted;
           small = t.small;
@@ -119,7 +119,7 @@ cut_run script header file first later taken n sound long none offered enough ca
     (ap (λ (k : ℕ). list_all (λ (a : Arrival). nat_lt a.0 k) first) (length-replicate (length script.calls) free_client ∙ long) ∙ front)
     (record {
       long = length-replicate (length script.calls) free_client ∙ sym (length-map script.calls (first_going header));
-      sits = λ q x g a b. sits q x g a b;
+      paired_at = λ q x g a b. paired_at q x g a b;
       held = λ q x o a h. absurd (not_held q x o a h);
       counted = omega arith;
       small = sound_small header sound;
@@ -131,15 +131,15 @@ cut_run script header file first later taken n sound long none offered enough ca
     not_held : (q : ℕ) (x : Client) (o : Offer) → slice_get (replicate (length script.calls) free_client) q ≡ Some x → x.held ≡ Some o → ⊥
     not_held q x o a h = let free = entry_replicate (length script.calls) q free_client x a in let none : x.held ≡ None = ap (λ (y : Client). y.held) free in cc
 
-    sits : (q : ℕ) (x : Client) (g : Going) → slice_get (replicate (length script.calls) free_client) q ≡ Some x → slice_get (map (first_going header) script.calls) q ≡ Some g
-        → Sits header x g (own_items q (first ++ later)) (given_along (setting_of script header) (opening_owner script header file) first q ++ replicate (n q) Stop) (end_of_rank script header taken q)
-    sits q x g a b =
+    paired_at : (q : ℕ) (x : Client) (g : Going) → slice_get (replicate (length script.calls) free_client) q ≡ Some x → slice_get (map (first_going header) script.calls) q ≡ Some g
+        → IsPaired header x g (own_items q (first ++ later)) (given_along (setting_of script header) (opening_owner script header file) first q ++ replicate (n q) Stop) (end_of_rank script header taken q)
+    paired_at q x g a b =
         let own = mapped_entry (first_going header) script.calls q g b in
         let low : q < script.ranks = (let l = slice_get_within script.calls q own.0 own.1.0 in omega arith) in
         let its : calls_of script q ≡ own.0 = ap (λ (m : Option (List Call)). elim m [ None ↦ [] | Some cs ↦ cs ]) own.1.0 in
-        subst (λ (z : Client). Sits header z g (own_items q (first ++ later)) (given_along (setting_of script header) (opening_owner script header file) first q ++ replicate (n q) Stop) (end_of_rank script header taken q))
+        subst (λ (z : Client). IsPaired header z g (own_items q (first ++ later)) (given_along (setting_of script header) (opening_owner script header file) first q ++ replicate (n q) Stop) (end_of_rank script header taken q))
         (sym (entry_replicate (length script.calls) q free_client x a))
-        (subst (λ (z : Going). Sits header free_client z (own_items q (first ++ later)) (given_along (setting_of script header) (opening_owner script header file) first q ++ replicate (n q) Stop) (end_of_rank script header taken q))
+        (subst (λ (z : Going). IsPaired header free_client z (own_items q (first ++ later)) (given_along (setting_of script header) (opening_owner script header file) first q ++ replicate (n q) Stop) (end_of_rank script header taken q))
         own.1.1 (record {
           back = taken q;
           begins = came q low;

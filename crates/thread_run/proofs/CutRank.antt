@@ -75,7 +75,7 @@ begin_ended header held g back m items (f ∷ front, (more, b), inr e) =
 -- ---- one rank
 
 -- what it still puts, by what it takes of these items, and where it ends
-pub record Sits (header : Header) (x : Client) (g : Going) (items : List RankItem) (given : List OwnerItem) (end : Going) : Type 0 where
+pub record IsPaired (header : Header) (x : Client) (g : Going) (items : List RankItem) (given : List OwnerItem) (end : Going) : Type 0 where
   pub back : List OwnerItem
   pub begins : Begins back given
   pub stream : IsBeginning items (to_come header x.held g back)
@@ -92,7 +92,7 @@ pub record Waits (header : Header) (t : Going) (o : Offer) (items : List RankIte
 
 -- an offer of it arrives
 pub offered_now : (header : Header) (x : Client) (g : Going) (c : ℕ) (o : Offer) (items : List RankItem) (given : List OwnerItem) (end : Going) → x.held ≡ None
-    → Sits header x g (item.Offer c o ∷ items) given end → ((advance header g).1 ≡ Some o) × Waits header (advance header g).0 o items given end
+    → IsPaired header x g (item.Offer c o ∷ items) given end → ((advance header g).1 ≡ Some o) × Waits header (advance header g).0 o items given end
 offered_now header x g c o items given end free t =
     let b = begin_offer header (advance header g) t.back c o items (subst (λ (m : Option Offer). IsBeginning (item.Offer c o ∷ items) (to_come header m g t.back)) free t.stream) in (
       b.0,
@@ -109,7 +109,7 @@ offered_now header x g c o items given end free t =
     ended (h, None) e = cc
     ended (h, Some q) e = ap (λ (z : Offer). waiting_end header h z t.back) (sym (same_Some q o e))
 
-pub held_now : (header : Header) (x : Client) (g : Going) (o : Offer) (items : List RankItem) (given : List OwnerItem) (end : Going) → x.held ≡ Some o → Sits header x g items given end
+pub held_now : (header : Header) (x : Client) (g : Going) (o : Offer) (items : List RankItem) (given : List OwnerItem) (end : Going) → x.held ≡ Some o → IsPaired header x g items given end
     → Waits header (advance header g).0 o items given end
 held_now header x g o items given end held t = record {
   back = t.back;
@@ -120,7 +120,7 @@ held_now header x g o items given end held t = record {
 }
 
 pub hold_it : (header : Header) (x : Client) (g : Going) (o : Offer) (items : List RankItem) (given : List OwnerItem) (end : Going) → x.held ≡ Some o → (advance header g).1 ≡ Some o
-    → Waits header (advance header g).0 o items given end → Sits header x g items given end
+    → Waits header (advance header g).0 o items given end → IsPaired header x g items given end
 hold_it header x g o items given end held next t = record {
   back = t.back;
   begins = t.begins;
@@ -132,11 +132,11 @@ hold_it header x g o items given end held next t = record {
 
 -- it takes its reply
 pub heard_now : (header : Header) (x : Client) (t : Going) (o : Offer) (y : reply.Reply) (items : List RankItem) (more : List OwnerItem) (end : Going) → x.held ≡ None → fits_offer header o y ≡ true
-    → Waits header t o items (Reply y ∷ more) end → Sits header x (hears header t y) items more end
+    → Waits header t o items (Reply y ∷ more) end → IsPaired header x (hears header t y) items more end
 heard_now header x t o y items more end free fits w = by_back w.back w.begins w.stream w.enough w.ends
   where
     by_back : (back : List OwnerItem) → Begins back (Reply y ∷ more) → IsBeginning items (waiting header t o back) → suc (offers_in items) ≤ length back → waiting_end header t o back ≡ end
-        → Sits header x (hears header t y) items more end
+        → IsPaired header x (hears header t y) items more end
     by_back [] b i n e = absurd (omega arith)
     by_back (z ∷ back) (left, b) i n e =
         let first : z ≡ Reply y = cc in
@@ -157,7 +157,7 @@ heard_now header x t o y items more end free fits w = by_back w.back w.begins w.
         none_held k = cc
 
 pub sits_as : (header : Header) (x y : Client) (g : Going) (items same : List RankItem) (given more : List OwnerItem) (end : Going) → x.held ≡ y.held → items ≡ same → given ≡ more
-    → Sits header x g items given end → Sits header y g same more end
+    → IsPaired header x g items given end → IsPaired header y g same more end
 sits_as header x y g items same given more end h e f t = record {
   back = t.back;
   begins = subst (λ (xs : List OwnerItem). Begins t.back xs) f t.begins;
@@ -168,7 +168,7 @@ sits_as header x y g items same given more end h e f t = record {
 }
 
 -- where no reply is left, it ended where it goes up to
-pub last_end : (header : Header) (x : Client) (g : Going) (items : List RankItem) (n : ℕ) (end : Going) → Sits header x g items (replicate n Stop) end → (advance header g).0 ≡ end
+pub last_end : (header : Header) (x : Client) (g : Going) (items : List RankItem) (n : ℕ) (end : Going) → IsPaired header x g items (replicate n Stop) end → (advance header g).0 ≡ end
 last_end header x g items n end t = sym (by_held x.held) ∙ t.ends
   where
     waits_still : (back : List OwnerItem) (k : ℕ) → Begins back (replicate k Stop) → (h : Going) (o : Offer) → waiting_end header h o back ≡ h

@@ -31,13 +31,13 @@ use Rattle.join_laws.proofs.ReplyLaws.{fit_passes, meeting_fits, solo_fits}
 use Rattle.join_laws.proofs.StepLaws.{going_after, goings_after, goings_long, meeting_is, meeting_within, offer_at, offers_long, replied, same_offers, solo_of_is, solo_within, Replied}
 use Rattle.join_laws.proofs.StrangeLaws.{event_is, strange_alone}
 use Rattle.thread_run.proofs.OwnerRuns.{client_ended, client_held}
-use Rattle.thread_run.proofs.CutRank.{begin_ended, Sits, Waits, offered_now, held_now, hold_it, heard_now, sits_as}
+use Rattle.thread_run.proofs.CutRank.{begin_ended, IsPaired, Waits, offered_now, held_now, hold_it, heard_now, sits_as}
 
 -- ---- all ranks
 
 pub record Stands (s : Setting) (d : Owner) (goings : List Going) (coming : ℕ → List RankItem) (given : ℕ → List OwnerItem) (end : ℕ → Going) : Type 0 where
   pub long : length d.clients ≡ length goings
-  pub sits : (q : ℕ) (x : Client) (g : Going) → slice_get d.clients q ≡ Some x → slice_get goings q ≡ Some g → Sits s.header x g (coming q) (given q) (end q)
+  pub paired_at : (q : ℕ) (x : Client) (g : Going) → slice_get d.clients q ≡ Some x → slice_get goings q ≡ Some g → IsPaired s.header x g (coming q) (given q) (end q)
   pub held : (q : ℕ) (x : Client) (o : Offer) → slice_get d.clients q ≡ Some x → x.held ≡ Some o → strange_offer s.header d.reached (Some o) ≡ false
   pub counted : d.state.records ≤ d.reached
   pub small : d.reached < record_limit s.header.version
@@ -84,12 +84,12 @@ fits_now s d r c o h =
 -- ---- an end, or an offer that is held
 
 set_one : (s : Setting) (d : Owner) (goings : List Going) (r : ℕ) (i : RankItem) (rest : List Arrival) (x y : Client) (g : Going) (given : ℕ → List OwnerItem) (end : ℕ → Going)
-    → slice_get d.clients r ≡ Some x → slice_get goings r ≡ Some g → Sits s.header y g (own_items r rest) (given r) (end r)
+    → slice_get d.clients r ≡ Some x → slice_get goings r ≡ Some g → IsPaired s.header y g (own_items r rest) (given r) (end r)
     → ((o : Offer) → y.held ≡ Some o → strange_offer s.header d.reached (Some o) ≡ false)
     → Stands s d goings (λ q. own_items q ((r, i) ∷ rest)) given end → Stands s (keeps d (set d.clients r y)).owner goings (λ q. own_items q rest) given end
 set_one s d goings r i rest x y g given end a b mine own t = record {
   long = length-set d.clients r y ∙ t.long;
-  sits = λ q z h c e. by_number (λ p. slice_get (set d.clients r y) p ≡ Some z → slice_get goings p ≡ Some h → Sits s.header z h (own_items p rest) (given p) (end p)) q r here (λ n. there q z h n) c e;
+  paired_at = λ q z h c e. by_number (λ p. slice_get (set d.clients r y) p ≡ Some z → slice_get goings p ≡ Some h → IsPaired s.header z h (own_items p rest) (given p) (end p)) q r here (λ n. there q z h n) c e;
   held = λ q z o c e. by_number (λ p. slice_get (set d.clients r y) p ≡ Some z → strange_offer s.header d.reached (Some o) ≡ false) q r
       (λ f. own o (ap (λ (w : Client). w.held) (same_Some y z (sym (entry_set d.clients r x y a) ∙ f)) ∙ e))
       (λ n f. t.held q z o (sym (entry_set_other d.clients r q y n) ∙ f) e) c;
@@ -97,23 +97,23 @@ set_one s d goings r i rest x y g given end a b mine own t = record {
   small = t.small;
 }
   where
-    here : {z : Client} {h : Going} → slice_get (set d.clients r y) r ≡ Some z → slice_get goings r ≡ Some h → Sits s.header z h (own_items r rest) (given r) (end r)
+    here : {z : Client} {h : Going} → slice_get (set d.clients r y) r ≡ Some z → slice_get goings r ≡ Some h → IsPaired s.header z h (own_items r rest) (given r) (end r)
     here {z} {h} c e =
-        subst (λ (w : Client). Sits s.header w h (own_items r rest) (given r) (end r)) (same_Some y z (sym (entry_set d.clients r x y a) ∙ c))
-        (subst (λ (w : Going). Sits s.header y w (own_items r rest) (given r) (end r)) (same_Some g h (sym b ∙ e)) mine)
+        subst (λ (w : Client). IsPaired s.header w h (own_items r rest) (given r) (end r)) (same_Some y z (sym (entry_set d.clients r x y a) ∙ c))
+        (subst (λ (w : Going). IsPaired s.header y w (own_items r rest) (given r) (end r)) (same_Some g h (sym b ∙ e)) mine)
 
-    there : (q : ℕ) (z : Client) (h : Going) → (q ≡ r → ⊥) → slice_get (set d.clients r y) q ≡ Some z → slice_get goings q ≡ Some h → Sits s.header z h (own_items q rest) (given q) (end q)
+    there : (q : ℕ) (z : Client) (h : Going) → (q ≡ r → ⊥) → slice_get (set d.clients r y) q ≡ Some z → slice_get goings q ≡ Some h → IsPaired s.header z h (own_items q rest) (given q) (end q)
     there q z h n c e =
         sits_as s.header z z h (own_items q ((r, i) ∷ rest)) (own_items q rest) (given q) (given q) (end q) refl (own_other q r i rest n) refl
-        (t.sits q z h (sym (entry_set_other d.clients r q y n) ∙ c) e)
+        (t.paired_at q z h (sym (entry_set_other d.clients r q y n) ∙ c) e)
 
 mine_first : (s : Setting) (d : Owner) (goings : List Going) (r : ℕ) (i : RankItem) (rest : List Arrival) (x : Client) (g : Going) (given : ℕ → List OwnerItem) (end : ℕ → Going) → slice_get d.clients r ≡ Some x
-    → slice_get goings r ≡ Some g → Stands s d goings (λ q. own_items q ((r, i) ∷ rest)) given end → Sits s.header x g (i ∷ own_items r rest) (given r) (end r)
+    → slice_get goings r ≡ Some g → Stands s d goings (λ q. own_items q ((r, i) ∷ rest)) given end → IsPaired s.header x g (i ∷ own_items r rest) (given r) (end r)
 mine_first s d goings r i rest x g given end a b t =
-    sits_as s.header x x g (own_items r ((r, i) ∷ rest)) (i ∷ own_items r rest) (given r) (given r) (end r) refl (own_here r i rest) refl (t.sits r x g a b)
+    sits_as s.header x x g (own_items r ((r, i) ∷ rest)) (i ∷ own_items r rest) (given r) (given r) (end r) refl (own_here r i rest) refl (t.paired_at r x g a b)
 
-ended_sits : (header : Header) (x : Client) (g : Going) (m : Bool) (items : List RankItem) (given : List OwnerItem) (end : Going) → Sits header x g (item.Ended m ∷ items) given end
-    → Sits header (client_ended x m) g items given end
+ended_sits : (header : Header) (x : Client) (g : Going) (m : Bool) (items : List RankItem) (given : List OwnerItem) (end : Going) → IsPaired header x g (item.Ended m ∷ items) given end
+    → IsPaired header (client_ended x m) g items given end
 ended_sits header x g m items given end t =
     record { back = t.back; begins = t.begins; stream = begin_ended header x.held g t.back m items t.stream; waits = t.waits; enough = t.enough; ends = t.ends }
 
@@ -134,7 +134,7 @@ solo_stands s d goings r c o rest x g given end a b free fit t = record {
   ranks = refl;
   stands = record {
     long = t.long ∙ sym (length-set goings r heard);
-    sits = λ q z h e f. by_number (λ p. slice_get d.clients p ≡ Some z → slice_get (set goings r heard) p ≡ Some h → Sits s.header z h (own_items p rest) (given p) (end p)) q r here (λ n. there q z h n) e f;
+    paired_at = λ q z h e f. by_number (λ p. slice_get d.clients p ≡ Some z → slice_get (set goings r heard) p ≡ Some h → IsPaired s.header z h (own_items p rest) (given p) (end p)) q r here (λ n. there q z h n) e f;
     held = λ q z p e f. not_stray s.header d.reached (max d.reached (needed_now s (puts_of (r, o)))) p (omega arith) (t.held q z p e f);
     counted = let k = t.counted in omega arith;
     small = within;
@@ -147,7 +147,7 @@ solo_stands s d goings r c o rest x g given end a b free fit t = record {
     heard : Going
     heard = hears s.header (advance s.header g).0 (solo s r o d.state).1
 
-    mine : Sits s.header x g (item.Offer c o ∷ own_items r rest) (Reply (solo s r o d.state).1 ∷ given r) (end r)
+    mine : IsPaired s.header x g (item.Offer c o ∷ own_items r rest) (Reply (solo s r o d.state).1 ∷ given r) (end r)
     mine =
         sits_as s.header x x g (item.Offer c o ∷ own_items r rest) (item.Offer c o ∷ own_items r rest) ((does_solo s d r c o).given r ++ given r) (Reply (solo s r o d.state).1 ∷ given r) (end r) refl refl
         (ap (λ (xs : List OwnerItem). xs ++ given r) (to_one_here r (solo s r o d.state).1))
@@ -165,16 +165,16 @@ solo_stands s d goings r c o rest x g given end a b free fit t = record {
         below : {n k l : ℕ} → n ≤ k → k < l → n < l
         below h k = omega arith
 
-    here : {z : Client} {h : Going} → slice_get d.clients r ≡ Some z → slice_get (set goings r heard) r ≡ Some h → Sits s.header z h (own_items r rest) (given r) (end r)
+    here : {z : Client} {h : Going} → slice_get d.clients r ≡ Some z → slice_get (set goings r heard) r ≡ Some h → IsPaired s.header z h (own_items r rest) (given r) (end r)
     here {z} {h} e f =
-        subst (λ (w : Client). Sits s.header w h (own_items r rest) (given r) (end r)) (same_Some x z (sym a ∙ e))
-        (subst (λ (w : Going). Sits s.header x w (own_items r rest) (given r) (end r)) (same_Some heard h (sym (entry_set goings r g heard b) ∙ f))
+        subst (λ (w : Client). IsPaired s.header w h (own_items r rest) (given r) (end r)) (same_Some x z (sym a ∙ e))
+        (subst (λ (w : Going). IsPaired s.header x w (own_items r rest) (given r) (end r)) (same_Some heard h (sym (entry_set goings r g heard b) ∙ f))
         (heard_now s.header x (advance s.header g).0 o (solo s r o d.state).1 (own_items r rest) (given r) (end r) free (fit_passes s o (solo s r o d.state).1 (solo_fits s r o d.state) few) now.1))
 
-    there : (q : ℕ) (z : Client) (h : Going) → (q ≡ r → ⊥) → slice_get d.clients q ≡ Some z → slice_get (set goings r heard) q ≡ Some h → Sits s.header z h (own_items q rest) (given q) (end q)
+    there : (q : ℕ) (z : Client) (h : Going) → (q ≡ r → ⊥) → slice_get d.clients q ≡ Some z → slice_get (set goings r heard) q ≡ Some h → IsPaired s.header z h (own_items q rest) (given q) (end q)
     there q z h n e f =
         sits_as s.header z z h (own_items q ((r, item.Offer c o) ∷ rest)) (own_items q rest) ((does_solo s d r c o).given q ++ given q) (given q) (end q) refl (own_other q r (item.Offer c o) rest n)
-        (ap (λ (xs : List OwnerItem). xs ++ given q) (to_one_other q r (solo s r o d.state).1 n)) (t.sits q z h e (sym (entry_set_other goings r q heard n) ∙ f))
+        (ap (λ (xs : List OwnerItem). xs ++ given q) (to_one_other q r (solo s r o d.state).1 n)) (t.paired_at q z h e (sym (entry_set_other goings r q heard n) ∙ f))
 
 -- ---- a meeting of all
 
@@ -200,7 +200,7 @@ meeting_stands s d goings coming clients given end all same t = record {
   ranks = length-map clients freed ∙ same;
   stands = record {
     long = length-map clients freed ∙ t.long ∙ sym (goings_long s (offers_held clients) d.state goings (offers_long clients all ∙ t.long));
-    sits = λ q z h e f. sits q z h e f;
+    paired_at = λ q z h e f. paired_at q z h e f;
     held = λ q z o e f. absurd (none_freed clients q z o e f);
     counted = within;
     small = below;
@@ -208,7 +208,7 @@ meeting_stands s d goings coming clients given end all same t = record {
 }
   where
     offers : offers_of (map (advance s.header) goings) ≡ offers_held clients
-    offers = same_offers s.header clients goings t.long all (λ q x g o a b h. (t.sits q x g a b).waits o h)
+    offers = same_offers s.header clients goings t.long all (λ q x g o a b h. (t.paired_at q x g a b).waits o h)
 
     within : (meeting s (offers_held clients) d.state).0.records ≤ max d.reached (needed_now s (flat_map puts_of (enumerate_from 0 (offers_held clients))))
     within = meeting_within s (offers_held clients) d.state d.reached t.counted (held_each clients (λ o. o.known ≤ d.reached) all (λ q x o a h. known_low s.header d.reached o (t.held q x o a h)))
@@ -227,13 +227,13 @@ meeting_stands s d goings coming clients given end all same t = record {
     none_freed (x ∷ xs) (suc q) z o e f = none_freed xs q z o e f
 
     one : (q : ℕ) (x : Client) (g : Going) (o : Offer) → slice_get clients q ≡ Some x → slice_get goings q ≡ Some g → x.held ≡ Some o → (y : Replied s (offers_held clients) d.state q)
-        → Sits s.header (freed x) (hears s.header (advance s.header g).0 y.reply) (coming q) (given q) (end q)
+        → IsPaired s.header (freed x) (hears s.header (advance s.header g).0 y.reply) (coming q) (given q) (end q)
     one q x g o a b h y =
         heard_now s.header (freed x) (advance s.header g).0 o y.reply (coming q) (given q) (end q) refl
         (fit_passes s o y.reply (meeting_fits s (offers_held clients) d.state q o y.reply (offer_at clients q x o all a h) y.is) (few y.reply y.records))
         (held_now s.header x g o (coming q) (Reply y.reply ∷ given q) (end q) h
         (sits_as s.header x x g (coming q) (coming q) (to_each (meeting s (offers_held clients) d.state).1 q ++ given q) (Reply y.reply ∷ given q) (end q) refl refl
-        (ap (λ (m : Option reply.Reply). elim m [ None ↦ [] | Some z ↦ Reply z ∷ [] ] ++ given q) y.is) (t.sits q x g a b)))
+        (ap (λ (m : Option reply.Reply). elim m [ None ↦ [] | Some z ↦ Reply z ∷ [] ] ++ given q) y.is) (t.paired_at q x g a b)))
       where
         few : (z : reply.Reply) → z.records ≡ (meeting s (offers_held clients) d.state).0.records → z.records < record_limit s.header.version
         few z w = least z.records _ _ _ w within below
@@ -241,13 +241,13 @@ meeting_stands s d goings coming clients given end all same t = record {
             least : (n k m l : ℕ) → n ≡ k → k ≤ m → m < l → n < l
             least n k m l e f g = omega arith
 
-    sits : (q : ℕ) (z : Client) (h : Going) → slice_get (map freed clients) q ≡ Some z → slice_get (goings_after s (offers_held clients) d.state goings) q ≡ Some h → Sits s.header z h (coming q) (given q) (end q)
-    sits q z h e f =
+    paired_at : (q : ℕ) (z : Client) (h : Going) → slice_get (map freed clients) q ≡ Some z → slice_get (goings_after s (offers_held clients) d.state goings) q ≡ Some h → IsPaired s.header z h (coming q) (given q) (end q)
+    paired_at q z h e f =
         let x = entry_beside (map freed clients) clients q z (length-map clients freed) e in
         let g = entry_beside clients goings q x.0 t.long x.1 in
         by_held x.0 x.1 g.0 g.1 (some_or_none x.0.held)
       where
-        by_held : (x : Client) → slice_get clients q ≡ Some x → (g : Going) → slice_get goings q ≡ Some g → (x.held ≡ None) ⊎ ((o : Offer) × (x.held ≡ Some o)) → Sits s.header z h (coming q) (given q) (end q)
+        by_held : (x : Client) → slice_get clients q ≡ Some x → (g : Going) → slice_get goings q ≡ Some g → (x.held ≡ None) ⊎ ((o : Offer) × (x.held ≡ Some o)) → IsPaired s.header z h (coming q) (given q) (end q)
         by_held x a g b (inl none) = absurd (never (sym (ap (λ (m : Option Offer). is_some m) none) ∙ passes_at holds clients all q x a))
           where
             never : false ≡ true → ⊥
@@ -256,8 +256,8 @@ meeting_stands s d goings coming clients given end all same t = record {
             let y = replied s (offers_held clients) d.state q o (offer_at clients q x o all a k) in
             let at_client : slice_get (map freed clients) q ≡ Some (freed x) = slice_get-map freed clients q ∙ ap (λ (m : Option Client). elim m [ None ↦ None | Some w ↦ Some (freed w) ]) a in
             let at_going = going_after s (offers_held clients) d.state goings q g y.reply b y.is in
-            subst (λ (w : Client). Sits s.header w h (coming q) (given q) (end q)) (same_Some (freed x) z (sym at_client ∙ e))
-            (subst (λ (w : Going). Sits s.header (freed x) w (coming q) (given q) (end q)) (same_Some _ h (sym at_going ∙ f)) (one q x g o a b k y))
+            subst (λ (w : Client). IsPaired s.header w h (coming q) (given q) (end q)) (same_Some (freed x) z (sym at_client ∙ e))
+            (subst (λ (w : Going). IsPaired s.header (freed x) w (coming q) (given q) (end q)) (same_Some _ h (sym at_going ∙ f)) (one q x g o a b k y))
 
 -- an offer that arrives is its rank's next
 pub own_offer : (s : Setting) (d : Owner) (goings : List Going) (r c : ℕ) (o : Offer) (rest : List Arrival) (x : Client) (g : Going) (given : ℕ → List OwnerItem) (end : ℕ → Going) → slice_get d.clients r ≡ Some x

@@ -113,7 +113,7 @@ brings s d goings r (item.Offer c o) others x g given end a b fit t = by_kind o.
     by_full kind k true e =
         let u = held_keeps s d goings r c o others x g given end a b free (fits_now s d r c o fit) t in
         inr (brings_meeting s d goings r c o x g a b next kind k e
-        (same_offers s.header (set d.clients r (client_held x o)) goings u.long e (λ q y h p f j k'. (u.sits q y h f j).waits p k')))
+        (same_offers s.header (set d.clients r (client_held x o)) goings u.long e (λ q y h p f j k'. (u.paired_at q y h f j).waits p k')))
 
     by_kind : (kind : OfferKind) → o.kind ≡ kind → Brings s d goings (r, item.Offer c o)
     by_kind offer.Solo k = inr (brings_solo s d goings r c o x g a b next k)

@@ -22,7 +22,6 @@ pub mod CutStood
 pub mod AttendLaws
 pub mod AttendWay
 mod ThreadCalls
-mod ThreadEnds
 mod ThreadKnown
 mod ThreadWhole
 mod ThreadRuns
@@ -32,7 +31,6 @@ mod ThreadAll
 mod ServiceCut
 mod ThreadCut
 mod ThreadTold
-mod EndedLaws
 mod ThreadSettles
 mod ThreadLists
 mod ThreadTies

@@ -26,7 +26,9 @@ use Rattle.turn_run.specs.Begun.{HasBegun}
 use Rattle.turn_run.specs.Run.{HasCut, IsRun}
 use Rattle.thread_run.specs.Owned.{AreSingle, owner_calls}
 use Rattle.thread_run.specs.Service.{HasFailed, IsDone, IsDoneSo, opening}
-use Rattle.thread_run.specs.Threads.{HasClosed, NoneBroke, most_known_of}
+use Rattle.turn_run.specs.RankEnds.{NoneBroke, most_known_of}
+use Rattle.turn_run.proofs.EndedLaws.{Closing}
+use Rattle.turn_run.proofs.TurnCauses.{rose_later}
 use Rattle.thread_run.proofs.ThreadRuns.{Finished, FinishedSo, finished, finished_so}
 use Rattle.thread_run.proofs.ThreadTies.{Told, begun}
 use Rattle.nc_outside.proofs.ToldLaws.{with_end-with_end, rose_before}
@@ -41,19 +43,6 @@ pub record Owner (script : Script) (header : Header) (arrivals : List Arrival) (
   pub cause : end.fault ≡ Some fault.Disk → Rose faults failed
   pub later : faults ≤ failed
 
--- what the close tells
-pub record Closing (header : Header) (ends : List RankEnd) (before : ServeEnd) (held : Option (List ℕ)) (calls : Option (List DiskCall)) (faults count : ℕ)
-    (left : Option (List ℕ)) (made : Option (List DiskCall)) (failed records : ℕ) (end : RunEnd) : Type 0 where
-  pub order : end.order ≡ before.order
-  pub went : end.fault ≡ None → (before.fault ≡ None) × NoneBroke ends
-  pub closed : end.fault ≡ None → HasClosed header (most_known_of ends) count held calls records left made
-  pub sound : end.fault ≡ None → is_sound (record header { records = records }) ≡ true
-  pub answers : end.fault ≡ None → end.answers ≡ map (λ x. x.answers) ends
-  pub pending : end.fault ≡ None → end.pending ≡ map (λ x. x.pending) ends
-  pub first : (e : StepErr) → before.fault ≡ Some e → end.fault ≡ Some fault.Disk → e ≡ fault.Disk
-  pub cause : before.fault ≡ None → end.fault ≡ Some fault.Disk → Rose faults failed
-  pub later : faults ≤ failed
-
 some_fault : (m : Option StepErr) → (m ≡ None) ⊎ ((e : StepErr) × (m ≡ Some e))
 some_fault None = inl refl
 some_fault (Some e) = inr (e, refl)
@@ -61,9 +50,6 @@ some_fault (Some e) = inr (e, refl)
 if_both : {X : Type 0} {P Q R : X → Type 0} (m : Option X) → IfSome m P → IfSome m Q → ((x : X) → P x → Q x → R x) → IfSome m R
 if_both None p q f = tt
 if_both (Some x) p q f = f x p q
-
-rose_later : (a b c : ℕ) → Rose a b → b ≤ c → Rose a c
-rose_later a b c h l = omega arith
 
 module _ (script : Script) (header : Header) (arrivals : List Arrival) (given : ℕ → List OwnerItem) (ends : List RankEnd)
     (sound : is_sound header ≡ true) (lawful : is_lawful script ≡ true) (t : Told script header arrivals given ends) where

@@ -34,7 +34,7 @@ use Rattle.join_laws.proofs.EventLaws.{get_set, own_here}
 use Rattle.join_laws.proofs.JoinLaws.{Arrived, Stands, arrived, join, served_on, stranger_on}
 use Rattle.join_laws.proofs.StepLaws.{same_offers}
 use Rattle.join_laws.proofs.StrangeLaws.{event_is, not_ended, strange_alone}
-use Rattle.join_laws.proofs.ClientTurns.{Lasting, Sits, offered_now, client_held}
+use Rattle.join_laws.proofs.ClientTurns.{Lasting, IsPaired, offered_now, client_held}
 use Rattle.thread_run.specs.Owned.{AreSingle, IsSingle, calls_at, calls_at_offer, calls_if, owner_calls, event_calls, IsSingleOffer}
 use Rattle.join_laws.proofs.QuietLaws.{IsQuiet, quiet_step}
 use Rattle.thread_run.proofs.OwnerRuns.{calls_on}
@@ -92,8 +92,8 @@ onward s Good lasting ks d goings r i rest t = by (entry_below goings r low)
         done : Arrived s Good d goings r i rest
         done = arrived s Good lasting ks d goings r i rest x g a b t e
 
-        mine : Sits s.header Good ks d.reached x g (i ∷ own_items r rest) (owed s d ((r, i) ∷ rest) r)
-        mine = subst (λ (u : List RankItem). Sits s.header Good ks d.reached x g u (owed s d ((r, i) ∷ rest) r)) (own_here r i rest) (t.cliented.sits r x g a b)
+        mine : IsPaired s.header Good ks d.reached x g (i ∷ own_items r rest) (owed s d ((r, i) ∷ rest) r)
+        mine = subst (λ (u : List RankItem). IsPaired s.header Good ks d.reached x g u (owed s d ((r, i) ∷ rest) r)) (own_here r i rest) (t.paired.paired_at r x g a b)
 
         ended : x.ended ≡ None
         ended = not_ended s.header Good ks d.reached x g i (own_items r rest) (owed s d ((r, i) ∷ rest) r) mine
@@ -102,10 +102,22 @@ onward s Good lasting ks d goings r i rest t = by (entry_below goings r low)
         offers c o f =
             (offered_now s.header Good ks d.reached x g c o (own_items r rest) (owed s d ((r, i) ∷ rest) r) ended
             (strange_alone s d r i x a e (ap (λ (z : RankItem). is_offer z) f))
-            (subst (λ (z : RankItem). Sits s.header Good ks d.reached x g (z ∷ own_items r rest) (owed s d ((r, i) ∷ rest) r)) f mine)).is
+            (subst (λ (z : RankItem). IsPaired s.header Good ks d.reached x g (z ∷ own_items r rest) (owed s d ((r, i) ∷ rest) r)) f mine)).is
 
     by : (g : Going) × (slice_get goings r ≡ Some g) → Onward s Good d goings r i rest
-    by (g, b) = let x = entry_beside goings d.clients r g (sym t.cliented.long) b in by_two x.0 g x.1 b
+    by (g, b) = let x = entry_beside goings d.clients r g (sym t.paired.long) b in by_two x.0 g x.1 b
+
+-- with one offer more, each that is held is still the next of its rank
+pub held_next : (s : Setting) (d : Owner) (goings : List Going) (r : ℕ) (x : Client) (g : Going) (o : Offer) → slice_get goings r ≡ Some g → (advance s.header g).1 ≡ Some o
+    → ((q : ℕ) (x' : Client) (g' : Going) (o' : Offer) → slice_get d.clients q ≡ Some x' → slice_get goings q ≡ Some g' → x'.held ≡ Some o' → (advance s.header g').1 ≡ Some o')
+    → (q : ℕ) (x' : Client) (g' : Going) (o' : Offer) → slice_get (set d.clients r (client_held x o)) q ≡ Some x' → slice_get goings q ≡ Some g' → x'.held ≡ Some o' → (advance s.header g').1 ≡ Some o'
+held_next s d goings r x g o at_going e waits q x' g' o' a b w = by (get_set d.clients r q (client_held x o) x' a)
+  where
+    by : ((q ≡ r) × (x' ≡ client_held x o)) ⊎ (slice_get d.clients q ≡ Some x') → (advance s.header g').1 ≡ Some o'
+    by (inl (n, f)) =
+        let same : g' ≡ g = same_Some g' g (sym b ∙ ap (λ (k : ℕ). slice_get goings k) n ∙ at_going) in
+        ap (λ (z : Going). (advance s.header z).1) same ∙ e ∙ sym (ap (λ (z : Client). z.held) f) ∙ w
+    by (inr f) = waits q x' g' o' f b w
 
 -- ---- device calls
 
@@ -123,17 +135,8 @@ module _ (hints : Hints) (s : Setting) (d : Owner) (goings : List Going) (r : �
   meets_is o true e h =
       sym (append-nil (meeting_calls hints s (offers_of (map (advance s.header) goings)) d.state)
       ∙ ap (λ (offers : List Offer). meeting_calls hints s offers d.state)
-      (same_offers s.header (set d.clients r (client_held x o)) goings (length-set d.clients r (client_held x o) ∙ long) h held))
-    where
-      held : (q : ℕ) (x' : Client) (g' : Going) (o' : Offer) → slice_get (set d.clients r (client_held x o)) q ≡ Some x' → slice_get goings q ≡ Some g' → x'.held ≡ Some o'
-          → (advance s.header g').1 ≡ Some o'
-      held q x' g' o' a b w = by (get_set d.clients r q (client_held x o) x' a)
-        where
-          by : ((q ≡ r) × (x' ≡ client_held x o)) ⊎ (slice_get d.clients q ≡ Some x') → (advance s.header g').1 ≡ Some o'
-          by (inl (n, f)) =
-              let same : g' ≡ g = same_Some g' g (sym b ∙ ap (λ (k : ℕ). slice_get goings k) n ∙ at_going) in
-              ap (λ (z : Going). (advance s.header z).1) same ∙ e ∙ sym (ap (λ (z : Client). z.held) f) ∙ w
-          by (inr f) = waits q x' g' o' f b w
+      (same_offers s.header (set d.clients r (client_held x o)) goings (length-set d.clients r (client_held x o) ∙ long) h
+      (held_next s d goings r x g o at_going e waits)))
 
   offer_is : (c : ℕ) (o : Offer) (k : OfferKind) → (advance s.header g).1 ≡ Some o → calls_at_offer hints s d r o x k ≡ calls_so_far hints s (d.state, goings) (at_offer s d r c o x k).marks
   offer_is c o offer.Solo e = solo_is c o e
@@ -157,7 +160,7 @@ calls_along hints s Good lasting ks d goings ((r, i) ∷ rest) t =
     by o again =
         let here : event_calls hints s d (r, i) ≡ calls_so_far hints s (d.state, goings) (event s d (r, i)).marks =
         ap (λ (m : Option Client). calls_at hints s d r i m) o.at_client
-        ∙ item_is hints s d goings r o.client o.going o.at_client o.at_going t.cliented.long (λ q x' g' o' a b w. ((t.cliented.sits q x' g' a b).waits o' w).0) i o.offers
+        ∙ item_is hints s d goings r o.client o.going o.at_client o.at_going t.paired.long (λ q x' g' o' a b w. ((t.paired.paired_at q x' g' a b).waits o' w).0) i o.offers
         ∙ ap (λ (u : Event). calls_so_far hints s (d.state, goings) u.marks) (sym o.is) in
         let later = again o.kinds_left (event s d (r, i)).owner o.after o.stands in
         calls_on hints s d (r, i) rest o.not_strange

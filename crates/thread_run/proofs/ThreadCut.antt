@@ -41,7 +41,7 @@ use Rattle.join_laws.proofs.Completing.{completed, completed_by}
 use Rattle.turn_run.specs.Begun.{HasBegun}
 use Rattle.turn_run.specs.Said.{HasSaid}
 use Rattle.turn_run.specs.Running.{calls_of}
-use Rattle.turn_run.proofs.CutRuns.{no_answers}
+use Rattle.turn_run.proofs.CutRuns.{cut_rows, no_answers}
 use Rattle.turn_run.proofs.SaidLaws.{said_here, said_part, said_up}
 use Rattle.turn_run.proofs.TellLaws.{told_along}
 use Rattle.turn_run.specs.Told.{counts_along}
@@ -49,8 +49,9 @@ use Rattle.thread_run.specs.Owned.{owner_told, AreSingle}
 use Rattle.thread_run.specs.Refused.{HasCutService}
 use Rattle.thread_run.specs.Service.{IsDone, IsDoneSo, opening}
 use Rattle.turn_run.specs.Run.{HasCut}
-use Rattle.thread_run.specs.Threads.{EndedAt, NoneBroke, most_known_of}
-use Rattle.thread_run.specs.Threads.EndedAt.{as_left, in_close as in_closing}
+use Rattle.turn_run.specs.RankEnds.{EndedAt, NoneBroke, most_known_of}
+use Rattle.turn_run.specs.RankEnds.EndedAt.{as_left, in_close as in_closing}
+use Rattle.turn_run.proofs.EndedLaws.{EndOfCut}
 use Rattle.thread_run.proofs.CutRank.{last_end}
 use Rattle.thread_run.proofs.CutJoin.{Ran, cut_run, end_of_rank}
 use Rattle.thread_run.proofs.CutStood.{single_begun, stood_run}
@@ -70,11 +71,6 @@ stood_as script s x e state order left records which (in_step m later legal l) =
 stood_as script s x e state order left records which (in_close legal l) = in_close legal l
 stood_as script s x e state order left records (inl same) (between later legal memory l k) = between later legal (sym same ∙ memory) l k
 stood_as script s x e state order left records (inr memory') (between later legal memory l k) = between later legal memory' l k
-
-rows_of : (script : Script) (e : StepErr) (table answers : List (List Answer)) → length table ≡ length script.calls → (e ≡ fault.Disk → answers ≡ table) → (answers ≡ table) ⊎ (answers ≡ []) → HasAnswersOfEach e script answers
-rows_of script fault.Disk table answers long disk are = let k = ap (λ (rows : List (List Answer)). length rows) (disk refl) in omega arith
-rows_of script fault.Memory table answers long disk (inl q) = let k = ap (λ (rows : List (List Answer)). length rows) q in omega arith
-rows_of script fault.Memory table answers long disk (inr q) = let k = ap (λ (rows : List (List Answer)). length rows) q in omega arith
 
 module _ (script : Script) (header : Header) (arrivals : List Arrival) (given : ℕ → List OwnerItem) (ends : List RankEnd) (sound : is_sound header ≡ true) (lawful : is_lawful script ≡ true)
     (t : Told script header arrivals given ends) (file : List ℕ) (order : List Mark) (h : Service (setting_of script header) (opening_owner script header file) script.ranks arrivals given order) where
@@ -144,7 +140,7 @@ module _ (script : Script) (header : Header) (arrivals : List Arrival) (given : 
       let same : o.end ≡ end = same_Some o.end end (sym o.at_end ∙ b) in
       let x = entry_beside run.last (run_of script header file h.first).owner.clients r g (sym run.stands.long) a in
       let ended : (advance header g).0 ≡ end_of_rank script header (takes script header arrivals given ends t) r =
-      last_end header x.0 g (own_items r h.later) (stopped r) (end_of_rank script header (takes script header arrivals given ends t) r) (run.stands.sits r x.0 g x.1 a) in
+      last_end header x.0 g (own_items r h.later) (stopped r) (end_of_rank script header (takes script header arrivals given ends t) r) (run.stands.paired_at r x.0 g x.1 a) in
       let its : calls_of script r ≡ own.0 = ap (λ (m : Option (List Call)). elim m [ None ↦ [] | Some cs ↦ cs ]) own.1 in
       let all : (advance header g).0.answers ≡ (rank_end header (first_going header own.0) (takes script header arrivals given ends t r)).answers =
       ap (λ (v : Going). v.answers) ended ∙ ap (λ (cs : List Call). (rank_end header (first_going header cs) (takes script header arrivals given ends t r)).answers) its in
@@ -210,14 +206,6 @@ module _ (script : Script) (header : Header) (arrivals : List Arrival) (given : 
 
 -- ---- the run
 
--- what is told of the end of a run with a fault
-pub record EndOfCut (header : Header) (ends : List RankEnd) (before : ServeEnd) (e : StepErr) (held : Option (List ℕ)) (count : ℕ) (left : Option (List ℕ)) (records : ℕ) (end : RunEnd) : Type 0 where
-  pub order : end.order ≡ before.order
-  pub at : EndedAt header ends before.fault e held count left records
-  pub rows : (end.answers ≡ map (λ x. x.answers) ends) ⊎ (end.answers ≡ [])
-  pub whole : e ≡ fault.Disk → NoneBroke ends
-  pub kept : e ≡ fault.Disk → end.answers ≡ map (λ x. x.answers) ends
-
 module _ (script : Script) (header : Header) (arrivals : List Arrival) (given : ℕ → List OwnerItem) (ends : List RankEnd) (sound : is_sound header ≡ true) (lawful : is_lawful script ≡ true)
     (t : Told script header arrivals given ends) (file : List ℕ) where
   abbrev owner : Owner
@@ -234,7 +222,7 @@ module _ (script : Script) (header : Header) (arrivals : List Arrival) (given : 
       → StoodAt script (setting_of script header) e (state_after script header file before.order) before.order bytes records → IsCutRun script header file e end.order bytes records end.answers
   as_run e before held count left records end c h bytes at = subst (λ (ms : List Mark). IsCutRun script header file e ms bytes records end.answers) (sym c.order) (record {
     stood = at;
-    each_rank = rows_of script e (map (λ (x : RankEnd). x.answers) ends) end.answers (length-map ends (λ (x : RankEnd). x.answers) ∙ t.long ∙ sym t.calls) c.kept c.rows;
+    each_rank = cut_rows script e (map (λ (x : RankEnd). x.answers) ends) end.answers (length-map ends (λ (x : RankEnd). x.answers) ∙ t.long ∙ sym t.calls) c.kept c.rows;
     some_answers = all_answers script header arrivals given ends sound lawful t file before.order h e c.whole end.answers c.rows;
   })
 

@@ -138,23 +138,13 @@ module _ (s : Setting) (sound : is_sound s.header ≡ true) (d : Owner) (goings 
       (near_needs s sound (flat_map puts_of (enumerate_from 0 (offers_held (set d.clients r (client_held x o)))))
       (near_all s.header sound d.reached (offers_held (set d.clients r (client_held x o))) 0 each))
     where
-      held : (q : ℕ) (x' : Client) (g' : Going) (o' : Offer) → slice_get (set d.clients r (client_held x o)) q ≡ Some x' → slice_get goings q ≡ Some g' → x'.held ≡ Some o'
-          → (advance s.header g').1 ≡ Some o'
-      held q x' g' o' a b w = by (get_set d.clients r q (client_held x o) x' a)
-        where
-          by : ((q ≡ r) × (x' ≡ client_held x o)) ⊎ (slice_get d.clients q ≡ Some x') → (advance s.header g').1 ≡ Some o'
-          by (inl (n, f)) =
-              let same : g' ≡ g = same_Some g' g (sym b ∙ ap (λ (k : ℕ). slice_get goings k) n ∙ at_going) in
-              ap (λ (z : Going). (advance s.header z).1) same ∙ e ∙ sym (ap (λ (z : Client). z.held) f) ∙ w
-          by (inr f) = waits q x' g' o' f b w
-
       each : (q : ℕ) (o' : Offer) → slice_get (offers_held (set d.clients r (client_held x o))) q ≡ Some o' → strange_offer s.header d.reached (Some o') ≡ false
       each q o' a =
           let y = entry_beside (offers_held (set d.clients r (client_held x o))) (set d.clients r (client_held x o)) q o' (offers_long (set d.clients r (client_held x o)) h) a in
           let z = entry_beside (set d.clients r (client_held x o)) goings q y.0 (length-set d.clients r (client_held x o) ∙ long) y.1 in
           let w = one_held (set d.clients r (client_held x o)) q y.0 h y.1 in
           let same : w.0 ≡ o' = same_Some w.0 o' (sym (offer_at (set d.clients r (client_held x o)) q y.0 w.0 h y.1 w.1) ∙ a) in
-          subst (λ (p : Offer). strange_offer s.header d.reached (Some p) ≡ false) same (fits q z.0 w.0 z.1 (held q y.0 z.0 w.0 y.1 z.1 w.1))
+          subst (λ (p : Offer). strange_offer s.header d.reached (Some p) ≡ false) same (fits q z.0 w.0 z.1 (held_next s d goings r x g o at_going e waits q y.0 z.0 w.0 y.1 z.1 w.1))
 
   near_offer : (c : ℕ) (o : Offer) (k : OfferKind) → (advance s.header g).1 ≡ Some o → EndsNear s.header sound (at_offer s d r c o x k).owner.reached
   near_offer c o offer.Solo e =
@@ -178,17 +168,17 @@ near_along s sound Good lasting ks d goings ((r, i) ∷ rest) t near =
         → ((ks' : List MeetKind) (d' : Owner) (goings' : List Going) → Stands s Good ks' d' goings' rest → EndsNear s.header sound d'.reached → EndsNear s.header sound (served s d' rest).owner.reached)
         → EndsNear s.header sound (served s d ((r, i) ∷ rest)).owner.reached
     by o again =
-        let here = near_item s sound d goings r o.client o.going o.at_client o.at_going t.cliented.long (λ q g' p b e. fits q g' p b e) (λ q x' g' p a b w. ((t.cliented.sits q x' g' a b).waits p w).0) near i o.offers in
+        let here = near_item s sound d goings r o.client o.going o.at_client o.at_going t.paired.long (λ q g' p b e. fits q g' p b e) (λ q x' g' p a b w. ((t.paired.paired_at q x' g' a b).waits p w).0) near i o.offers in
         subst (λ (z : Owner). EndsNear s.header sound z.reached) (sym (served_on s d (r, i) rest o.not_strange).owner)
         (again o.kinds_left (event s d (r, i)).owner o.after o.stands (subst (λ (u : Event). EndsNear s.header sound u.owner.reached) (sym o.is) here))
       where
         fits : (q : ℕ) (g' : Going) (p : Offer) → slice_get goings q ≡ Some g' → (advance s.header g').1 ≡ Some p → strange_offer s.header d.reached (Some p) ≡ false
-        fits q g' p b e = let y = entry_beside goings d.clients q g' (sym t.cliented.long) b in lasting.fits d.reached g' p (t.cliented.sits q y.0 g' y.1 b).good e
+        fits q g' p b e = let y = entry_beside goings d.clients q g' (sym t.paired.long) b in lasting.fits d.reached g' p (t.paired.paired_at q y.0 g' y.1 b).good e
 
 -- what is true of the ranks at their ends
 pub good_along : (s : Setting) (Good : ℕ → Going → Type 0) (lasting : Lasting s.header Good) (ks : List MeetKind) (d : Owner) (goings : List Going) (arrivals : List Arrival)
     → Stands s Good ks d goings arrivals → (q : ℕ) (g : Going) → slice_get (fold (after_mark s) (d.state, goings) (served s d arrivals).marks).1 q ≡ Some g → Good (served s d arrivals).owner.reached g
-good_along s Good lasting ks d goings [] t q g b = let y = entry_beside goings d.clients q g (sym t.cliented.long) b in (t.cliented.sits q y.0 g y.1 b).good
+good_along s Good lasting ks d goings [] t q g b = let y = entry_beside goings d.clients q g (sym t.paired.long) b in (t.paired.paired_at q y.0 g y.1 b).good
 good_along s Good lasting ks d goings ((r, i) ∷ rest) t q g b =
     by (onward s Good lasting ks d goings r i rest t) (λ ks' d' goings' u b'. good_along s Good lasting ks' d' goings' rest u q g b')
   where

@@ -28,7 +28,7 @@ use Rattle.join_laws.specs.Alike as own
 use Rattle.thread_run.specs.RankSides.{HasFinished}
 use Rattle.thread_run.specs.Owned.{AreSingle, owner_calls}
 use Rattle.thread_run.specs.Service.{IsDone, IsDoneSo, opening}
-use Rattle.thread_run.specs.Threads.{most_known_of, NoneBroke}
+use Rattle.turn_run.specs.RankEnds.{most_known_of, NoneBroke}
 use Rattle.thread_run.proofs.ThreadLists.{alike_from}
 use Rattle.thread_run.proofs.ThreadTies.{Told, finished_of, joined, low_rank, own_of, puts, takes, took_all}
 use Rattle.thread_run.proofs.ThreadWhole.{calls_all, known_sound, single_all}

@@ -28,8 +28,8 @@ use Rattle.join_laws.proofs.CountLaws.{sound_small}
 use Rattle.join_laws.proofs.GoodLaws.{Good, good_first, lasting}
 use Rattle.join_laws.proofs.JoinLaws.{Joins, Stands, join}
 use Rattle.join_laws.proofs.StreamLaws.{closes, client_end}
-use Rattle.join_laws.proofs.ClientTurns.{Sits}
-use Rattle.join_laws.proofs.TurnLaws.{Client}
+use Rattle.join_laws.proofs.ClientTurns.{IsPaired}
+use Rattle.join_laws.proofs.TurnLaws.{ArePaired}
 use Rattle.join_laws.proofs.WholeLaws.{get_replicate, lawful_agrees, get_map as from_map, none_first}
 use Rattle.thread_run.specs.Owned.{AreSingle, owner_calls}
 use Rattle.thread_run.proofs.ThreadCalls.{calls_along, single_along}
@@ -65,17 +65,17 @@ module _ (script : Script) (header : Header) (file : List ℕ) (arrivals : List 
   clients_long : length (replicate (length script.calls) free_client) ≡ length (map (first_going header) script.calls)
   clients_long = length-replicate (length script.calls) free_client ∙ sym (length-map script.calls (first_going header))
 
-  cliented : Client header (Good header script.ranks) (lawful_agrees script lawful).meetings header.records (replicate (length script.calls) free_client) (map (first_going header) script.calls)
+  paired : ArePaired header (Good header script.ranks) (lawful_agrees script lawful).meetings header.records (replicate (length script.calls) free_client) (map (first_going header) script.calls)
       (λ q. own_items q arrivals) (owed (setting_of script header) (opening_owner script header file) arrivals)
-  cliented = record { long = clients_long; sits = sits }
+  paired = record { long = clients_long; paired_at = paired_at }
     where
-      sits : (q : ℕ) (x : Client) (g : Going) → slice_get (replicate (length script.calls) free_client) q ≡ Some x → slice_get (map (first_going header) script.calls) q ≡ Some g
-          → Sits header (Good header script.ranks) (lawful_agrees script lawful).meetings header.records x g (own_items q arrivals) (owed (setting_of script header) (opening_owner script header file) arrivals q)
-      sits q x g a b =
+      paired_at : (q : ℕ) (x : Client) (g : Going) → slice_get (replicate (length script.calls) free_client) q ≡ Some x → slice_get (map (first_going header) script.calls) q ≡ Some g
+          → IsPaired header (Good header script.ranks) (lawful_agrees script lawful).meetings header.records x g (own_items q arrivals) (owed (setting_of script header) (opening_owner script header file) arrivals q)
+      paired_at q x g a b =
           let own = from_map (first_going header) script.calls q g b in
           let free = get_replicate (length script.calls) free_client q x a in
-          subst (λ (z : Client). Sits header (Good header script.ranks) (lawful_agrees script lawful).meetings header.records z g (own_items q arrivals) (owed (setting_of script header) (opening_owner script header file) arrivals q)) (sym free)
-          (subst (λ (z : Going). Sits header (Good header script.ranks) (lawful_agrees script lawful).meetings header.records free_client z (own_items q arrivals) (owed (setting_of script header) (opening_owner script header file) arrivals q)) (sym own.1.1)
+          subst (λ (z : Client). IsPaired header (Good header script.ranks) (lawful_agrees script lawful).meetings header.records z g (own_items q arrivals) (owed (setting_of script header) (opening_owner script header file) arrivals q)) (sym free)
+          (subst (λ (z : Going). IsPaired header (Good header script.ranks) (lawful_agrees script lawful).meetings header.records free_client z (own_items q arrivals) (owed (setting_of script header) (opening_owner script header file) arrivals q)) (sym own.1.1)
           (record { stream = joined.each q own.0 own.1.0; waits = none_waits own.0; kind_list = (lawful_agrees script lawful).agree q own.0 own.1.0; good = good_first script header q own.0 lawful own.1.0 }))
         where
           none_waits : (own : List Call) (o : Offer) → None ≡ Some o → ((advance header (first_going header own)).1 ≡ Some o) × ((kind : MeetKind) × (o.kind ≡ offer.Meet kind))
@@ -83,7 +83,7 @@ module _ (script : Script) (header : Header) (file : List ℕ) (arrivals : List 
 
   stands : Stands s (Good header script.ranks) meetings owner goings arrivals
   stands = record {
-    cliented = cliented;
+    paired = paired;
     counted = le_refl header.records;
     small = sound_small header sound;
     not_full = none_first (length script.calls) some;

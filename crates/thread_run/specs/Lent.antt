@@ -3,18 +3,12 @@
 --     IsReadable dataset       a sound header with its measures, and lawful hints
 --     AreSame old now          outlets that still lend the same
 --     IsRunnable lent          a sound header with an index of its names, and a lawful script
---     RunsOn disk .. end       what came of a run on a disk
-use Rattle.std.specs.Prelude.{◌≡◌, ℕ, true}
-use Rattle.nc_base.specs.declared.header.Header.{Header}
-use Rattle.nc_base.specs.declared.run.RunEnd.{RunEnd}
-use Rattle.nc_base.specs.declared.script.Script.{Script}
-use Rattle.nc_outside.specs.declared.disk.Disk.{Ghosts as DiskGhosts}
+use Rattle.std.specs.Prelude.{◌≡◌, true}
 use Rattle.serial_spec.specs.FileStep.{Setting}
 use Rattle.serial_spec.specs.SoundHeaders.{is_sound}
 use Rattle.serial_spec.specs.Lawful.{are_lawful_hints, is_lawful}
 use Rattle.collective_round.specs.Rounds.{setting}
 use Rattle.rank_core.specs.Indexed.{IsIndexOf}
-use Rattle.turn_run.specs.Run.{IsRun}
 use Rattle.var_layout.specs.Measures.{AreMeasures}
 use Rattle.collective_round.specs.declared.lent.Dataset.{Dataset}
 use Rattle.thread_run.specs.declared.lent.Lent.{Lent}
@@ -38,7 +32,3 @@ pub record IsRunnable {R G : Type 0} (lent : Lent R G) : Type 0 where
   pub sound : is_sound lent.header.now ≡ true
   pub lawful : is_lawful lent.script.now ≡ true
   pub names : IsIndexOf lent.header.now lent.names.now
-
-abbrev pub RunsOn : {D : Type 0} → DiskGhosts D → Script → Header → D → D → ℕ → RunEnd → Type 0
-RunsOn disk script header old now records end =
-    IsRun script header (disk.held old) (disk.calls old) (disk.faults old) (disk.held now) (disk.calls now) (disk.faults now) records end

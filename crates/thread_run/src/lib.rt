@@ -3,7 +3,6 @@
 
 mod lent;
 mod owner;
-mod rank_ends;
 mod rank_handle;
 mod rank_side;
 mod rank_threads;

@@ -49,13 +49,8 @@ pub fn attend<R: Wait, G: Gate>(
         Ok(end) => end,
         Err(_) => RankStop::Memory,
     };
-    out.put(rt, SentItem::ended(end == RankStop::Memory));
-    RankEnd {
-        known: runner.rank.known(),
-        pending: runner.rank.pending(),
-        answers: runner.answers,
-        end,
-    }
+    out.put(rt, SentItem::last_item(end == RankStop::Memory));
+    runner.into_end(end)
 }
 
 /// Goes through the calls of the rank, and puts each offer.

@@ -10,15 +10,14 @@ ghost use Rattle.nc_base.specs.declared.script.Script.{Script};
 ghost use Rattle.nc_base.specs.declared.step.OwnerItem.{OwnerItem};
 ghost use Rattle.nc_base.specs.declared.step.RankItem.{RankItem};
 ghost use Rattle.ruled_line.specs.Ends.{End, Line};
-ghost use Rattle.turn_run.specs.Run.{IsRun};
+ghost use Rattle.turn_run.specs.Run.{RunsOn};
 ghost use Rattle.turn_run.specs.Told.{HasTold};
-ghost use Rattle.thread_run.specs.Lent.{IsRunnable, RunsOn};
+ghost use Rattle.thread_run.specs.Lent.{IsRunnable};
 ghost use Rattle.thread_run.specs.RankHandle.{AreOf, AreRankHandles, IsToldToGo};
 ghost use Rattle.thread_run.specs.Threads.{HasRooms};
 ghost use Rattle.thread_run.specs.declared.rank_handle.RankHandle.{RankHandle};
 
 use crate::lent::Lent;
-use crate::rank_ends::end_run;
 use crate::rank_handle::{RankHandle, Word, start};
 use crate::returned::join_all;
 use crate::service::serve;
@@ -32,7 +31,7 @@ use std::alloc::Global;
 use std::sync::Wait;
 use std::thread;
 use std::thread::{Scope, Threads};
-use turn_run::run_in_turn_told;
+use turn_run::{end_run, run_in_turn_told};
 
 /// Runs the ranks of a script, each on a thread of its own, whose offers this thread takes as they come. Where the threads are off, or
 /// one can't be started, the ranks run in turn.
@@ -52,7 +51,7 @@ pub fn run_ranks<R: Threads + Wait + Sync, D: Disk, G: Gate>(
     requires records { records.old ≡ header.now.records }
     requires from { D.from disk.old ≡ 0 }
     requires long { end_of header.now (header_len header.now) header.now.records ≤ D.len disk.old }
-    ensures run { IsRun script.now header.now (D.held disk.old) (D.calls disk.old) (D.faults disk.old) (D.held disk.new) (D.calls disk.new) (D.faults disk.new) records.new result }
+    ensures run { RunsOn D.Disk script.now header.now disk.old disk.new records.new result }
 {
     run_ranks_told(rt, alloc, disk, header, records, script, gate, &mut Deaf)
 }
@@ -74,7 +73,7 @@ pub fn run_ranks_told<R: Threads + Wait + Sync, D: Disk, G: Gate, T: Told>(
     requires records { records.old ≡ header.now.records }
     requires from { D.from disk.old ≡ 0 }
     requires long { end_of header.now (header_len header.now) header.now.records ≤ D.len disk.old }
-    ensures run { IsRun script.now header.now (D.held disk.old) (D.calls disk.old) (D.faults disk.old) (D.held disk.new) (D.calls disk.new) (D.faults disk.new) records.new result }
+    ensures run { RunsOn D.Disk script.now header.now disk.old disk.new records.new result }
     ensures told { HasTold script.now header.now (D.held disk.old) (T.heard told.old) (T.heard told.new) result.order }
 {
     if !script.hints.threads {
@@ -99,7 +98,7 @@ pub(crate) struct Rooms {
 
 /// The threads of a run that were all started, and this thread's ends of their lines.
 #[derive(Drop)]
-pub(crate) struct Crew {
+pub(crate) struct StartedRanks {
     pub inbox: InTake<SentItem>,
     pub ones: Vec<RankHandle>,
     pub lines: Vec<LinePut<OwnerItem>>,
@@ -248,14 +247,14 @@ fn run_in_scope<'s, 'd, 't, E, R: Threads + Wait + Sync, D: Disk, G: Gate, T: To
             end: None,
         };
     }
-    let crew = Crew {
+    let started = StartedRanks {
         inbox,
         ones,
         lines,
         ends,
     };
     let mut records = records;
-    let end = run_started(lent, disk, &mut records, told, crew);
+    let end = run_started(lent, disk, &mut records, told, started);
     Scoped {
         disk,
         records,
@@ -324,43 +323,41 @@ fn run_started<R: Threads + Wait + Sync, D: Disk, G: Gate, T: Told>(
     disk: &mut D,
     records: &mut u64,
     told: &mut T,
-    crew: Crew,
+    started: StartedRanks,
 ) -> RunEnd
     requires runnable { IsRunnable lent.now }
     requires records { records.old ≡ lent.now.header.now.records }
     requires from { D.from disk.old ≡ 0 }
     requires long { end_of lent.now.header.now (header_len lent.now.header.now) lent.now.header.now.records ≤ D.len disk.old }
-    requires of { AreOf lent.now.header.now lent.now.script.now crew.ones.items }
-    requires handles { AreRankHandles crew.inbox.of [] crew.ones.items crew.lines.items }
-    requires all { length crew.ones.items ≡ lent.now.script.now.ranks }
-    requires empty { All (λ line. line.items ≡ []) crew.lines.items }
-    requires taken { crew.inbox.items ≡ [] }
-    requires senders { crew.inbox.senders ≡ lent.now.script.now.ranks }
-    requires none { crew.ends.items ≡ [] }
-    requires room { lent.now.script.now.ranks ≤ vec_capacity crew.ends }
+    requires of { AreOf lent.now.header.now lent.now.script.now started.ones.items }
+    requires handles { AreRankHandles started.inbox.of [] started.ones.items started.lines.items }
+    requires all { length started.ones.items ≡ lent.now.script.now.ranks }
+    requires empty { All (λ line. line.items ≡ []) started.lines.items }
+    requires taken { started.inbox.items ≡ [] }
+    requires senders { started.inbox.senders ≡ lent.now.script.now.ranks }
+    requires none { started.ends.items ≡ [] }
+    requires room { lent.now.script.now.ranks ≤ vec_capacity started.ends }
     ensures run { RunsOn D.Disk lent.now.script.now lent.now.header.now disk.old disk.new records.new result }
     ensures told { HasTold lent.now.script.now lent.now.header.now (D.held disk.old) (T.heard told.old) (T.heard told.new) result.order }
 {
     let Lent {
         rt,
         alloc,
-        gate,
         header,
-        names,
-        script,
+        ..
     } = *lent;
-    let measures = names.measures(header);
-    let hints = &script.hints;
-    let Crew {
+    let measures = lent.names.measures(header);
+    let hints = &lent.script.hints;
+    let StartedRanks {
         mut inbox,
         mut ones,
         lines,
         mut ends,
-    } = crew;
+    } = started;
     let mut back = LinePutList::from_vec(lines);
     tell_all(rt, &mut ones);
     let served = serve(
-        rt, alloc, disk, header, measures, records, hints, &mut inbox, &mut back, gate, told,
+        rt, alloc, disk, header, measures, records, hints, &mut inbox, &mut back, lent.gate, told,
     );
     join_all(rt, ones, back.into_vec(), inbox, &mut ends);
     end_run(alloc, disk, header, records, served, ends)

@@ -26,7 +26,7 @@ use Rattle.overlay_laws.proofs.SaidLaws.{same_file}
 use Rattle.collective_round.specs.Rounds.{after_round, counted, puts_in}
 use Rattle.collective_round.proofs.TornFiles.{counted_past, torn_by, torn_sides}
 use Rattle.collective_round.proofs.TornLaws.{round_grows}
-use Rattle.collective_round.proofs.ResultSteps.{told_as}
+use Rattle.nc_outside.proofs.ToldLaws.{told_as}
 use Rattle.nc_base.specs.declared.header.Header.{Header}
 use Rattle.nc_base.specs.declared.script.Script.{Script}
 use Rattle.serial_spec.specs.Lawful.{is_lawful}

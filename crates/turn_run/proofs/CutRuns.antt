@@ -1,7 +1,7 @@
 -- A run in turn that was cut off, from its first stage on.
 use Rattle.std.proofs.Common.{◌≡◌, ℕ, refl, sym, ◌∙◌, ap, subst, inl, inr, ◌⊎◌, List, [], ◌++◌, length, map, Bool, true, false, cond, Option, Some, None, arith, replicate}
 use Rattle.std.specs.Prelude.{slice_get, fold, nat_lt, IfSome}
-use Rattle.std.proofs.lemmas.List.{length-map, length-replicate}
+use Rattle.std.proofs.lemmas.List.{length-replicate}
 use Rattle.std.specs.Int.{byte_len}
 use Rattle.nc_base.specs.declared.answer.Answer.{Answer}
 use Rattle.nc_base.specs.declared.header.Header.{Header}
@@ -29,20 +29,31 @@ use Rattle.collective_round.proofs.TornFiles.{torn_by}
 use Rattle.run_laws.proofs.LawfulLaws.{ranks_lawful}
 use Rattle.join_laws.proofs.Completing.{completed}
 use Rattle.turn_run.specs.Begun.{HasBegun}
-use Rattle.turn_run.specs.Cuts.{StopsAt, HasStopped, EndsAt, IsNext, bytes_at, closed_at}
+use Rattle.turn_run.specs.Cuts.{StopsAt, HasStopped, IsNext, bytes_at}
 use Rattle.turn_run.specs.Cuts.StopsAt.{in_step, between}
-use Rattle.turn_run.specs.Cuts.EndsAt.{before_close, in_close}
 use Rattle.run_laws.specs.Arrivals.{Arrived, Stand, step_to}
 use Rattle.turn_run.specs.Stages.{HasLed, IsLed, Leads, arrived_all, stage}
 use Rattle.turn_run.specs.Said.{all_between, HaveAnswers}
-use Rattle.turn_run.specs.Steps.{first_runner, most_known}
+use Rattle.turn_run.specs.Steps.{first_runner}
 use Rattle.turn_run.specs.declared.runners.Runner.{Runner}
 use Rattle.turn_run.proofs.CutMeet.{raised_kept}
 use Rattle.turn_run.proofs.StageLaws.{gone_up, mark_up, marks_up}
 use Rattle.turn_run.proofs.TurnEnds.{AreOver, map_ended}
+use Rattle.turn_run.proofs.TurnKnown.{most_known}
 use Rattle.turn_run.proofs.TurnRuns.{first_goings, first_stage, none_begun}
 use Rattle.list_laws.proofs.Maps.{entry_map, map_map, entry_map_none, mapped_entry}
 use Rattle.serial_spec.proofs.GrowLaws.{raised_grows}
+
+-- ---- where a whole run was cut off
+
+-- file and count after the close
+abbrev pub closed_at : Setting → Stand → Counted
+closed_at s stand = let last = close_by s stand.0 (map (λ a. a.0) stand.1) in record { file = last.bytes; records = last.records }
+
+-- before the close, or in it
+pub data EndsAt (script : Script) (s : Setting) (fault : StepErr) (stand : Stand) (order : List Mark) (left : List ℕ) (records : ℕ) : Type 0 where
+  before_close : StopsAt (IsNext script order) s fault stand left records → EndsAt script s fault stand order left records
+  in_close : IsLegal script order → IsLeft s.header [] stand.0 (closed_at s stand) left records → EndsAt script s fault stand order left records
 
 abbrev Ends : Script → Setting → StepErr → Option (List ℕ) → ℕ → List Arrived → List Mark → Option (List ℕ) → ℕ → Type 0
 Ends script s e held records ranks order left count =
@@ -63,6 +74,33 @@ ends_before script s e before order held records ranks left count none h =
         → IfSome m (λ file. (bytes : List ℕ) × (left ≡ Some bytes) × EndsAt script s e (fold (step_to s) (counted file records, ranks) order) order bytes count)
     by_held None k = tt
     by_held (Some file) k = (k.0, k.1, before_close k.2)
+
+-- no memory was left once all steps were done
+pub ends_between : (script : Script) (header : Header) (e : StepErr) (before order : List Mark) (calls made : Option (List DiskCall)) (told left : Option (List ℕ)) (count from : ℕ) (runners : List Runner)
+    (ranks : List Arrived) → before ≡ [] → e ≡ fault.Memory
+    → HasLed script.hints (setting_of script header) before order (stage told calls from ranks) (stage left made count (arrived_all header script.calls runners))
+    → IfSome told (λ file. (bytes : List ℕ) × (left ≡ Some bytes) × EndsAt script (setting_of script header) e (fold (step_to (setting_of script header)) (counted file from, ranks) order) order bytes count)
+ends_between script header e before order calls made told left count from runners ranks none memory h =
+    by_told told (subst (λ (ms : List Mark). Leads script.hints (setting_of script header) ms (stage told calls from ranks) (stage left made count (arrived_all header script.calls runners))) all h.led)
+  where
+    all : h.more ≡ order
+    all = sym (h.grown ∙ ap (λ (ms : List Mark). ms ++ h.more) none)
+
+    by_told : (m : Option (List ℕ)) → IfSome m (λ file. IsLed script.hints (setting_of script header) order file (stage m calls from ranks) (stage left made count (arrived_all header script.calls runners)))
+        → IfSome m (λ file. (bytes : List ℕ) × (left ≡ Some bytes) × EndsAt script (setting_of script header) e (fold (step_to (setting_of script header)) (counted file from, ranks) order) order bytes count)
+    by_told None led = tt
+    by_told (Some file) led = (
+      led.left,
+      led.told,
+      subst (λ (stand : Stand). EndsAt script (setting_of script header) e stand order led.left count) (sym led.state) (before_close (between memory refl refl)),
+    )
+
+-- bytes and count stayed as they were
+pub ends_same : (script : Script) (s : Setting) (e : StepErr) (held : Option (List ℕ)) (records : ℕ) (ranks : List Arrived) (order : List Mark) (left now : Option (List ℕ)) (count last : ℕ) → now ≡ left → last ≡ count
+    → IfSome held (λ file. (bytes : List ℕ) × (left ≡ Some bytes) × EndsAt script s e (fold (step_to s) (counted file records, ranks) order) order bytes count)
+    → IfSome held (λ file. (bytes : List ℕ) × (now ≡ Some bytes) × EndsAt script s e (fold (step_to s) (counted file records, ranks) order) order bytes last)
+ends_same script s e held records ranks order left now count last l k h =
+    subst (λ (m : Option (List ℕ)). Ends script s e held records ranks order m last) (sym l) (subst (λ (n : ℕ). Ends script s e held records ranks order left n) (sym k) h)
 
 -- ---- in the close
 
@@ -230,11 +268,11 @@ cut_answers script header e x records first last before order file answers lawfu
         no_row k = absurd cc
 
 -- as many rows as ranks
-pub cut_rows : (script : Script) (e : StepErr) (last : List Runner) (answers : List (List Answer)) → length last ≡ length script.calls
-    → (e ≡ fault.Disk → answers ≡ map (λ runner. runner.answers) last) → (answers ≡ map (λ runner. runner.answers) last) ⊎ (answers ≡ []) → HasAnswersOfEach e script answers
-cut_rows script fault.Disk last answers long disk are = let k = ap (λ (table : List (List Answer)). length table) (disk refl) in let l = length-map last (λ (runner : Runner). runner.answers) in omega arith
-cut_rows script fault.Memory last answers long disk (inl q) = let k = ap (λ (table : List (List Answer)). length table) q in let l = length-map last (λ (runner : Runner). runner.answers) in omega arith
-cut_rows script fault.Memory last answers long disk (inr q) = let k = ap (λ (table : List (List Answer)). length table) q in omega arith
+pub cut_rows : (script : Script) (e : StepErr) (table answers : List (List Answer)) → length table ≡ length script.calls → (e ≡ fault.Disk → answers ≡ table) → (answers ≡ table) ⊎ (answers ≡ [])
+    → HasAnswersOfEach e script answers
+cut_rows script fault.Disk table answers long disk are = let k = ap (λ (rows : List (List Answer)). length rows) (disk refl) in omega arith
+cut_rows script fault.Memory table answers long disk (inl q) = let k = ap (λ (rows : List (List Answer)). length rows) q in omega arith
+cut_rows script fault.Memory table answers long disk (inr q) = let k = ap (λ (rows : List (List Answer)). length rows) q in omega arith
 
 -- of a run that stood there, with these answers
 pub cut_run : (script : Script) (header : Header) (e : StepErr) (order : List Mark) (held left : Option (List ℕ)) (count : ℕ) (answers : List (List Answer)) → HasAnswersOfEach e script answers
@@ -250,22 +288,9 @@ cut_run script header e order held left count answers rows some h = by_held held
     by_held None f k = tt
     by_held (Some file) f k = (k.0, k.1, record { stood = k.2; each_rank = rows; some_answers = f file refl })
 
-pub answers_as : (s : Setting) (fault : StepErr) (before order same : List Mark) (held now : Option (List ℕ)) (records : ℕ) (goings : List Going) (runners : List Runner) → held ≡ now → same ≡ order
-    → HaveAnswers s fault before order held records goings runners → HaveAnswers s fault before same now records goings runners
-answers_as s fault before order same held now records goings runners e f h =
-    subst (λ (ms : List Mark). HaveAnswers s fault before ms now records goings runners) (sym f) (subst (λ (m : Option (List ℕ)). HaveAnswers s fault before order m records goings runners) e h)
-
 pub first_long : (script : Script) → length script.calls ≡ script.ranks → (header : Header) (records : ℕ) (runners last : List Runner) → runners ≡ replicate script.ranks (first_runner header records) → length last ≡ length runners
     → length last ≡ length script.calls
 first_long script one header records runners last e l = l ∙ ap (λ (ss : List Runner). length ss) e ∙ length-replicate script.ranks (first_runner header records) ∙ sym one
-
-pub rows_as : (answers table same : List (List Answer)) → table ≡ same → (answers ≡ table) ⊎ (answers ≡ []) → (answers ≡ same) ⊎ (answers ≡ [])
-rows_as answers table same e (inl q) = inl (q ∙ e)
-rows_as answers table same e (inr q) = inr q
-
-pub ended_memory : (e : StepErr) (m : Option StepErr) → m ≡ Some e → (m ≡ Some fault.Disk → ⊥) → e ≡ fault.Memory
-ended_memory fault.Memory m h f = refl
-ended_memory fault.Disk m h f = absurd (f h)
 
 pub no_answers : (script : Script) (header : Header) (e : StepErr) (order : List Mark) (file : List ℕ) (answers : List (List Answer)) → answers ≡ []
     → (r : ℕ) (g : Going) (own : List Answer) → slice_get (state_after script header file order).1 r ≡ Some g → slice_get answers r ≡ Some own → HasAnswers header e g own

@@ -20,6 +20,8 @@ pub mod CutLaws
 pub mod CutMeet
 pub mod CutEnds
 pub mod CutRuns
+pub mod EndedLaws
+pub mod TurnWhole
 pub mod SaidLaws
 pub mod SaidMeet
 pub mod TellLaws

@@ -1,28 +1,22 @@
--- The greatest count that ranks know.
-use Rattle.std.proofs.Common.{◌≡◌, ℕ, zero, suc, ◌+◌, ◌<◌, refl, sym, ◌∙◌, ap, subst, inl, inr, List, [], ◌∷◌, length, take, max, Some, Result, Ok, Err, arith}
-use Rattle.std.specs.Prelude.{slice_get, slice_index_or, OnOk}
+-- The greatest count that ranks know, of their runners and at their ends.
+use Rattle.std.proofs.Common.{◌≡◌, ℕ, zero, suc, ◌+◌, ◌<◌, refl, sym, ◌∙◌, ap, subst, inl, inr, List, [], ◌∷◌, length, map, take, max, Bool, true, false, Some, Result, Ok, Err, arith}
+use Rattle.std.proofs.lemmas.Bool.Decides.{nat_tests}
+use Rattle.std.specs.Prelude.{slice_get, slice_index_or, nat_lt, OnOk}
+use Rattle.list_laws.proofs.Maps.{map_map}
 use Rattle.nc_base.specs.declared.header.Header.{Header}
+use Rattle.nc_base.specs.declared.run.RankEnd.{RankEnd}
+use Rattle.nc_base.specs.declared.run.RankStop.{RankStop}
+use Rattle.serial_spec.specs.Layout.{greatest}
+use Rattle.serial_spec.specs.SoundHeaders.{is_sound}
 use Rattle.turn_run.specs.Counts.{IsCount, IsRise}
-use Rattle.turn_run.specs.Steps.{most_known}
+use Rattle.turn_run.specs.RankEnds.{most_known_of, runner_end}
 use Rattle.turn_run.specs.declared.runners.Runner.{Runner}
-use Rattle.turn_run.proofs.CountLaws.{count_max, rise_max}
+use Rattle.turn_run.proofs.CountLaws.{count_less, rise_max}
 
-one_more : (runners : List Runner) (i : ℕ) (runner : Runner) → i < length runners → runner ≡ slice_index_or runners i runner
-    → most_known (take (suc i) runners) ≡ max (most_known (take i runners)) runner.rank.state.known
-one_more [] i runner l e = absurd (omega arith)
-one_more (s ∷ runners) zero runner l e = let k : runner.rank.state.known ≡ s.rank.state.known = ap (λ (x : Runner). x.rank.state.known) e in omega arith
-one_more (s ∷ runners) (suc i) runner l e =
-    joined s.rank.state.known (most_known (take i runners)) runner.rank.state.known (most_known (take (suc i) runners)) (one_more runners i runner (omega arith) e)
-  where
-    joined : (a b c m : ℕ) → m ≡ max b c → max a m ≡ max (max a b) c
-    joined a b c m h = omega arith
+-- ---- runners
 
--- with one rank more
-pub known_more : (runners : List Runner) (i : ℕ) (runner : Runner) (before known now : ℕ) → i < length runners → runner ≡ slice_index_or runners i runner → before ≡ most_known (take i runners)
-    → known ≡ runner.rank.state.known → now ≡ max before known → now ≡ most_known (take (i + 1) runners)
-known_more runners i runner before known now l e f g h =
-    let next : suc i ≡ i + 1 = omega arith in
-    h ∙ (λ j. max (f j) (g j)) ∙ sym (one_more runners i runner l e) ∙ ap (λ (n : ℕ). most_known (take n runners)) next
+abbrev pub most_known : List Runner → ℕ
+most_known runners = greatest (map (λ runner. runner.rank.state.known) runners)
 
 pub most_rise : (header : Header) (len : ℕ) (runners : List Runner) → ((r : ℕ) (runner : Runner) → slice_get runners r ≡ Some runner → IsCount header len runner.rank.state.known)
     → IsRise header len (most_known runners)
@@ -30,8 +24,40 @@ most_rise header len [] h = inl refl
 most_rise header len (s ∷ runners) h =
     rise_max header len s.rank.state.known (most_known runners) (inr (h 0 s refl)) (most_rise header len runners (λ r runner e. h (suc r) runner e))
 
-pub raised_count : {T E : Type 0} (result : Result T E) (header : Header) (len later before known now : ℕ) → IsCount header len before → IsRise header len known → later ≡ len
-    → OnOk result (now ≡ max before known) → OnOk result (IsCount header later now)
-raised_count (Ok x) header len later before known now h k e f =
-    subst (λ (n : ℕ). IsCount header n now) (sym e) (subst (λ (n : ℕ). IsCount header len n) (sym f) (count_max header len before known h k))
-raised_count (Err x) header len later before known now h k e f = tt
+pub rise_sound : (header : Header) (len records n : ℕ) → is_sound header ≡ true → IsCount header len records → IsRise header len n → is_sound (record header { records = n }) ≡ true
+rise_sound header len records n sound h (inl e) =
+    let none = count_less header len records 0 sound h (omega arith) in
+    subst (λ (m : ℕ). is_sound (record header { records = m }) ≡ true) (sym e) none.sound
+rise_sound header len records n sound h (inr k) = k.sound
+
+-- what the runners know, their ends know
+pub ends_known : (why : RankStop) (runners : List Runner) → most_known_of (map (runner_end why) runners) ≡ most_known runners
+ends_known why runners = ap greatest (map_map (λ (end : RankEnd). end.known) (runner_end why) runners)
+
+-- ---- ends
+
+one_more : (ends : List RankEnd) (i : ℕ) (end : RankEnd) → i < length ends → end ≡ slice_index_or ends i end → most_known_of (take (suc i) ends) ≡ max (most_known_of (take i ends)) end.known
+one_more [] i end l e = absurd (omega arith)
+one_more (x ∷ ends) zero end l e = let k : end.known ≡ x.known = ap (λ (y : RankEnd). y.known) e in omega arith
+one_more (x ∷ ends) (suc i) end l e =
+    joined x.known (most_known_of (take i ends)) end.known (most_known_of (take (suc i) ends)) (one_more ends i end (omega arith) e)
+  where
+    joined : (a b c m : ℕ) → m ≡ max b c → max a m ≡ max (max a b) c
+    joined a b c m h = omega arith
+
+-- with one rank more
+pub known_more : (ends : List RankEnd) (i : ℕ) (end : RankEnd) (before now : ℕ) → i < length ends → end ≡ slice_index_or ends i end → before ≡ most_known_of (take i ends)
+    → now ≡ max before end.known → now ≡ most_known_of (take (i + 1) ends)
+known_more ends i end before now l e f h =
+    let next : suc i ≡ i + 1 = omega arith in
+    h ∙ ap (λ (n : ℕ). max n end.known) f ∙ sym (one_more ends i end l e) ∙ ap (λ (n : ℕ). most_known_of (take n ends)) next
+
+-- the greater of two counts that a header can have
+pub raised_sound : {T E : Type 0} (result : Result T E) (header : Header) (before known now : ℕ) → is_sound (record header { records = before }) ≡ true
+    → is_sound (record header { records = known }) ≡ true → OnOk result (now ≡ max before known) → OnOk result (is_sound (record header { records = now }) ≡ true)
+raised_sound (Ok x) header before known now h k e = by (nat_lt before known) refl
+  where
+    by : (t : Bool) → nat_lt before known ≡ t → is_sound (record header { records = now }) ≡ true
+    by true f = let n : known ≡ now = grind (arith, nat_tests) in subst (λ (m : ℕ). is_sound (record header { records = m }) ≡ true) n k
+    by false f = let n : before ≡ now = grind (arith, nat_tests) in subst (λ (m : ℕ). is_sound (record header { records = m }) ≡ true) n h
+raised_sound (Err x) header before known now h k e = tt

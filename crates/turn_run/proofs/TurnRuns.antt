@@ -29,9 +29,11 @@ use Rattle.turn_run.specs.Said.{all_between}
 use Rattle.turn_run.specs.Running.{between, calls_of, AreFree, AreRunners, HaveArrived, IsRunner}
 use Rattle.run_laws.specs.Arrivals.{calls_over, step_to, Arrived, Stand, all_calls_over, ended_from}
 use Rattle.turn_run.specs.Stages.{arrived_all, stage, HasLed, IsLed, Leads}
-use Rattle.turn_run.specs.Steps.{first_runner, most_known}
+use Rattle.turn_run.specs.RankEnds.{HasClosed}
+use Rattle.turn_run.specs.Steps.{first_runner}
 use Rattle.turn_run.specs.declared.runners.Runner.{Runner}
 use Rattle.turn_run.proofs.StageLaws.{calls_are, first_ranks, gone_up, serial_is}
+use Rattle.turn_run.proofs.TurnKnown.{most_known}
 use Rattle.turn_run.proofs.TurnEnds.{are_over, map_ended, AreOver}
 use Rattle.turn_run.proofs.TurnSteps.{calls_there}
 use Rattle.std.proofs.lemmas.Option.{slice_get_within}
@@ -131,16 +133,9 @@ pub record IsClosed (hints : Hints) (s : Setting) (stand : Stand) (order : List 
   pub pending : map (λ runner. machine.pending runner.rank.state) runners ≡ (ended_from s stand order).pending
   pub calls : made ≡ with_end begun (all_calls_over hints s stand order)
 
--- file and count were raised to what the ranks know, which stand at the ends of their calls
-pub record IsRaised (header : Header) (left : Option (List ℕ)) (made : Option (List DiskCall)) (count : ℕ) (held : Option (List ℕ)) (later : Option (List DiskCall))
-    (now : ℕ) (runners : List Runner) : Type 0 where
-  pub bytes : held ≡ after (λ file. (raised (as_setting header) (counted file count) (most_known runners)).file) left
-  pub records : now ≡ max count (most_known runners)
-  pub calls : later ≡ with_end made (store_records (as_setting header) (nat_lt count now))
-
 led_closed : (script : Script) (header : Header) (order : List Mark) (calls made later : Option (List DiskCall)) (left held : Option (List ℕ)) (count records from : ℕ)
     (runners : List Runner) (ranks : List Arrived) (file : List ℕ) (told : Option (List ℕ)) → length script.calls ≡ length runners → AreOver script.calls runners
-    → IsRaised header left made count held later records runners
+    → HasClosed header (most_known runners) count left made records held later
     → IsLed script.hints (setting_of script header) order file (stage told calls from ranks) (stage left made count (arrived_all header script.calls runners))
     → IsClosed script.hints (setting_of script header) (counted file from, ranks) order calls held later records runners
 led_closed script header order calls made later left held count records from runners ranks file told long over r led =
@@ -155,7 +150,7 @@ led_closed script header order calls made later left held count records from run
     ap (λ (n : ℕ). (raised s (counted led.left count) n).file) known in
     let count_is : (close_by s (counted led.left count) ends).records ≡ max count (most_known runners) =
     ap (λ (n : ℕ). (raised s (counted led.left count) n).records) known ∙ raised_records s (counted led.left count) (most_known runners) in
-    let records_are : records ≡ (ended_from s stand order).records = r.records ∙ sym count_is ∙ sym (ap (λ (e : End). e.records) last) in
+    let records_are : records ≡ (ended_from s stand order).records = r.count ∙ sym count_is ∙ sym (ap (λ (e : End). e.records) last) in
     let before : count ≡ (fold (step_to s) stand order).0.records = sym (ap (λ (t : Stand). t.0.records) led.state) in
     record {
       bytes = r.bytes ∙ ap (λ (m : Option (List ℕ)). after (λ f. (raised s (counted f count) (most_known runners)).file) m) led.told
@@ -164,7 +159,7 @@ led_closed script header order calls made later left held count records from run
       answers = sym (map_ended (λ (rank : machine.Rank) (answers : List Answer). answers) header script.calls runners long over) ∙ sym (ap (λ (e : End). e.answers) last);
       pending = sym (map_ended (λ (rank : machine.Rank) (answers : List Answer). machine.pending rank) header script.calls runners long over)
           ∙ sym (ap (λ (e : End). e.pending) last);
-      calls = r.calls ∙ ap (λ (m : Option (List DiskCall)). with_end m (store_records s (nat_lt count records))) led.calls
+      calls = r.device ∙ ap (λ (m : Option (List DiskCall)). with_end m (store_records s (nat_lt count records))) led.calls
           ∙ with_end-with_end calls (calls_over script.hints s stand order) (store_records s (nat_lt count records))
           ∙ (λ i. with_end calls (calls_over script.hints s stand order ++ store_records s (nat_lt (before i) (records_are i))));
     }
@@ -173,7 +168,7 @@ led_closed script header order calls made later left held count records from run
 pub run_closed : (script : Script) (header : Header) (before order : List Mark) (calls made later : Option (List DiskCall)) (told left held : Option (List ℕ))
     (count records from : ℕ) (runners : List Runner) (ranks : List Arrived) → before ≡ [] → length script.calls ≡ length runners → AreOver script.calls runners
     → HasLed script.hints (setting_of script header) before order (stage told calls from ranks) (stage left made count (arrived_all header script.calls runners))
-    → IsRaised header left made count held later records runners
+    → HasClosed header (most_known runners) count left made records held later
     → IfSome told (λ file. IsClosed script.hints (setting_of script header) (counted file from, ranks) order calls held later records runners)
 run_closed script header before order calls made later told left held count records from runners ranks none long over h r =
     let all : h.more ≡ order = sym (h.grown ∙ ap (λ (ms : List Mark). ms ++ h.more) none) in
@@ -197,17 +192,8 @@ pub run_ended : (script : Script) (header : Header) (len : ℕ) (before order : 
     (count records from : ℕ) (runners : List Runner) (ranks : List Arrived) → is_lawful script ≡ true → before ≡ [] → AreRunners script header len order runners
     → AreFree runners → HaveArrived script runners
     → HasLed script.hints (setting_of script header) before order (stage told calls from ranks) (stage left made count (arrived_all header script.calls runners))
-    → IsRaised header left made count held later records runners
+    → HasClosed header (most_known runners) count left made records held later
     → IfSome told (λ file. IsClosed script.hints (setting_of script header) (counted file from, ranks) order calls held later records runners)
 run_ended script header len before order calls made later told left held count records from runners ranks lawful none a f h led r =
     run_closed script header before order calls made later told left held count records from runners ranks none ((ranks_lawful script lawful).one_each ∙ sym a.all)
     (are_over script runners f h) led r
-
-next_same : {X : Type 0} (n : ℕ) (x : X) → replicate n x ++ x ∷ [] ≡ replicate (suc n) x
-next_same zero x = refl
-next_same (suc n) x = ap (λ (xs : List _). x ∷ xs) (next_same n x)
-
-pub same_more : {X : Type 0} (n : ℕ) (x y : X) (xs now : List X) → xs ≡ replicate n x → y ≡ x → now ≡ xs ++ y ∷ [] → now ≡ replicate (n + 1) x
-same_more n x y xs now e f h =
-    let next : suc n ≡ n + 1 = omega arith in
-    h ∙ (λ i. e i ++ f i ∷ []) ∙ next_same n x ∙ ap (λ (k : ℕ). replicate k x) next

@@ -2,19 +2,18 @@
 --     bytes_at s ranks mark     the bytes that the puts of a step hold, of ranks at their next offers
 --     StopsAt ..                in a step whose mark may follow, or, for want of memory, between two
 --     HasStopped ..             the steps that were added before that
---     EndsAt ..                 the same of a whole run, which may have stopped in the close
 --     MayFollow script r order m      the mark is a step of rank r, and its next
 --     IsNext script order m     with the mark, the order begins one of the script's histories
-use Rattle.std.specs.Prelude.{◌≡◌, ℕ, List, [], ◌∷◌, ◌++◌, flat_map, filter, fold, map, true, Option, Some, None, IfSome}
+use Rattle.std.specs.Prelude.{◌≡◌, ℕ, List, [], ◌∷◌, ◌++◌, flat_map, filter, fold, true, Option, Some, None, IfSome}
 use Rattle.std.specs.List.{enumerate_from}
 use Rattle.nc_base.specs.declared.script.Script.{Script}
 use Rattle.nc_base.specs.declared.step.Mark.{Mark}
 use Rattle.nc_base.specs.declared.step.Mark.TheVariants.{Meet, Solo}
 use Rattle.nc_base.specs.declared.step.StepErr.{StepErr}
 use Rattle.nc_base.specs.declared.step.StepErr.TheVariants.{Memory}
-use Rattle.serial_spec.specs.FileStep.{Setting, Counted, puts_of}
+use Rattle.serial_spec.specs.FileStep.{Setting, puts_of}
 use Rattle.serial_spec.specs.History.{IsLegal, concerns, marks}
-use Rattle.serial_spec.specs.SerialEnd.{offers_of, close_by}
+use Rattle.serial_spec.specs.SerialEnd.{offers_of}
 use Rattle.serial_spec.specs.SharedByte.{covered}
 use Rattle.serial_spec.specs.Torn.{IsLeft}
 use Rattle.collective_round.specs.Rounds.{counted}
@@ -41,11 +40,3 @@ MayFollow script r order m = (is_solo_of r m ≡ true) × ((rest : List Mark) ×
 
 abbrev pub IsNext : Script → List Mark → Mark → Type 0
 IsNext script order m = (later : List Mark) × IsLegal script (order ++ m ∷ later)
-
--- file and count after the close
-abbrev pub closed_at : Setting → Stand → Counted
-closed_at s stand = let last = close_by s stand.0 (map (λ a. a.0) stand.1) in record { file = last.bytes; records = last.records }
-
-pub data EndsAt (script : Script) (s : Setting) (fault : StepErr) (stand : Stand) (order : List Mark) (left : List ℕ) (records : ℕ) : Type 0 where
-  before_close : StopsAt (IsNext script order) s fault stand left records → EndsAt script s fault stand order left records
-  in_close : IsLegal script order → IsLeft s.header [] stand.0 (closed_at s stand) left records → EndsAt script s fault stand order left records

@@ -4,6 +4,7 @@ pub mod Counts
 pub mod Running
 pub mod Stages
 pub mod Steps
+pub mod RankEnds
 pub mod Cuts
 pub mod Said
 pub mod Told

@@ -3,6 +3,8 @@
 --         The run found the bytes `held` and the device calls `done`, where the disk tells them, and `faults` faults. It left the bytes `left`, the
 --         device calls `made`, `failed` faults and the record count `count`. Without a fault its order is one of the script's histories, and all the
 --         rest is that of the serial run along it. With one, the order begins as the ranks' calls do, and `cut` says what is left.
+--     RunsOn disk script header old now count end
+--         the same from a disk as it was to the disk as it is
 --     HasCut script header held left count end
 --         what a run with a fault leaves, where the bytes were told
 use Rattle.std.specs.Prelude.{◌≡◌, ℕ, ◌≤◌, List, true, IfSome, None, Option, Some}
@@ -13,6 +15,7 @@ use Rattle.nc_base.specs.declared.step.DiskCall.{DiskCall}
 use Rattle.nc_base.specs.declared.step.StepErr.{StepErr}
 use Rattle.nc_base.specs.declared.step.StepErr.TheVariants.{Disk}
 use Rattle.nc_outside.specs.Cause.{Rose}
+use Rattle.nc_outside.specs.declared.disk.Disk.{Ghosts as DiskGhosts}
 use Rattle.nc_outside.specs.Told.{with_end}
 use Rattle.serial_spec.specs.DeviceCalls.{run_calls}
 use Rattle.serial_spec.specs.SoundHeaders.{is_sound}
@@ -38,3 +41,7 @@ pub record IsRun (script : Script) (header : Header) (held : Option (List ℕ)) 
   pub fault : end.fault ≡ Some Disk → Rose faults failed
   pub later : faults ≤ failed
   pub cut : HasCut script header held left count end
+
+abbrev pub RunsOn : {D : Type 0} → DiskGhosts D → Script → Header → D → D → ℕ → RunEnd → Type 0
+RunsOn disk script header old now count end =
+    IsRun script header (disk.held old) (disk.calls old) (disk.faults old) (disk.held now) (disk.calls now) (disk.faults now) count end

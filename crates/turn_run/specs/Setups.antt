@@ -1,28 +1,28 @@
 -- What a run is set up with, and how far it has come, in the words of its steps. (own)
 --     setting_in setup                  the setting of its steps
 --     at_next, all_at_next              a rank of its runner, and all, at their next offers
+--     at_ask                            a rank at an offer that it makes alone
 --     stage_at ..                       the stage that stands between two steps
 --     HasGoneOn, HasLedOn               the steps that one rank, or all, added
 --     IsCutAt, IsCutOff                 the same where a fault cut them off
 --     HasSaidUpTo, AllSayUpTo, HaveSaidUpTo      the answers so far, where a fault cut them off
 --     TellsOf, HasToldOn                what is told of the steps that were added
---     ended_on, all_calls_on, EndsOn    the end of a run and its device calls, and where a fault cut it off
-use Rattle.std.specs.Prelude.{◌≡◌, ℕ, List, fold, Option, Some, IfSome, slice_get}
+use Rattle.std.specs.Prelude.{◌≡◌, ℕ, List, Option, Some, slice_get}
 use Rattle.nc_base.specs.declared.answer.Answer.{Answer}
 use Rattle.nc_base.specs.declared.step.DiskCall.{DiskCall}
 use Rattle.nc_base.specs.declared.step.Mark.{Mark}
 use Rattle.nc_base.specs.declared.step.StepErr.{StepErr}
 use Rattle.serial_spec.specs.FileStep.{Setting}
-use Rattle.serial_spec.specs.SerialEnd.{End, setting_of}
-use Rattle.collective_round.specs.Rounds.{counted}
-use Rattle.run_laws.specs.Arrivals.{Arrived, all_calls_over, ended_from, step_to}
-use Rattle.turn_run.specs.Cuts.{EndsAt, HasStopped, IsNext, MayFollow}
+use Rattle.serial_spec.specs.SerialEnd.{setting_of}
+use Rattle.run_laws.specs.Arrivals.{Arrived}
+use Rattle.turn_run.specs.Cuts.{HasStopped, IsNext, MayFollow}
 use Rattle.turn_run.specs.Said.{all_between, AllSay, HasReached, HaveAnswers, SaysAt}
-use Rattle.turn_run.specs.Running.{calls_of}
+use Rattle.turn_run.specs.Running.{asking, calls_of}
 use Rattle.turn_run.specs.Stages.{arrived, arrived_all, stage, HasGone, HasLed, Stage}
 use Rattle.turn_run.specs.Told.{HasToldMore}
 use Rattle.turn_run.specs.declared.lent.Progress.{Progress}
 use Rattle.turn_run.specs.declared.lent.Setup.{Setup}
+use Rattle.turn_run.specs.declared.runners.Ask.{Ask}
 use Rattle.turn_run.specs.declared.runners.Runner.{Runner}
 
 abbrev pub setting_in : Setup → Setting
@@ -30,6 +30,9 @@ setting_in setup = setting_of setup.script.now setup.header.now
 
 abbrev pub at_next : Setup → ℕ → Runner → Arrived
 at_next setup r runner = arrived setup.header.now (calls_of setup.script.now r) runner
+
+abbrev pub at_ask : Setup → Ask → Runner → Arrived
+at_ask setup ask runner = (asking (calls_of setup.script.now ask.number) runner, Some ask.offer)
 
 abbrev pub all_at_next : Setup → List Runner → List Arrived
 all_at_next setup runners = arrived_all setup.header.now setup.script.now.calls runners
@@ -74,15 +77,3 @@ AllSayUpTo setup fault before now held runners last =
 
 abbrev pub HasToldOn : Setup → Progress → Progress → Option (List ℕ) → List Runner → Option (List (Mark × ℕ)) → Option (List (Mark × ℕ)) → Type 0
 HasToldOn setup before now held runners told heard = HasToldMore (setting_in setup) held before.records (all_at_next setup runners) before.order now.order told heard
-
--- ---- a whole run
-
-abbrev pub ended_on : Setup → List ℕ → Progress → List Runner → Progress → End
-ended_on setup file before runners now = ended_from (setting_in setup) (counted file before.records, all_at_next setup runners) now.order
-
-abbrev pub all_calls_on : Setup → List ℕ → Progress → List Runner → Progress → List DiskCall
-all_calls_on setup file before runners now = all_calls_over setup.script.now.hints (setting_in setup) (counted file before.records, all_at_next setup runners) now.order
-
-abbrev pub EndsOn : Setup → StepErr → Progress → Progress → Option (List ℕ) → List Runner → Option (List ℕ) → Type 0
-EndsOn setup fault before now held runners left = IfSome held (λ file. (bytes : List ℕ) × (left ≡ Some bytes) × EndsAt setup.script.now (setting_in setup) fault
-    (fold (step_to (setting_in setup)) (counted file before.records, all_at_next setup runners) now.order) now.order bytes now.records)

@@ -5,7 +5,6 @@
 --     IsJob ..                  batches that a meeting takes
 --     IsOneRise ..              it is not both the puts and what the ranks know that raise the count
 --     needed_after ..           the count that puts need, 0 where a pair was told
---     most_known runners          the greatest count that a rank knows
 use Rattle.std.specs.Prelude.{◌≡◌, ℕ, max, List, [], ◌++◌, ◌⊎◌, map, flat_map, length, nat_lt, None}
 use Rattle.std.specs.Option.{option_to_list}
 use Rattle.nc_base.specs.declared.plan.Batch.{Batch}
@@ -61,9 +60,6 @@ IsOneRise known batches = (known ≡ 0) ⊎ (puts_in batches ≡ [])
 abbrev pub needed_after : Header → List Post → PutEnd → ℕ
 needed_after header puts Done = greatest (map (λ p. needed header p) puts)
 needed_after header puts (Overlap pair) = 0
-
-abbrev pub most_known : List Runner → ℕ
-most_known runners = greatest (map (λ runner. runner.rank.state.known) runners)
 
 abbrev pub first_runner : Header → ℕ → Runner
 first_runner header records = record { rank = record { header = header; state = new_rank records }; answers = []; held = None }

@@ -1,31 +1,29 @@
 // A run of the ranks in turn.
-ghost use Rattle.std.specs.Prelude.{◌≡◌, ◌≤◌, ◌<◌, ◌++◌, ◌∷◌, [], map, replicate, None, Some, true, IfOk, IfSome, OnOk, IsTrue, ◌↔◌, ◌⊎◌, Err};
+ghost use Rattle.std.specs.Prelude.{◌≡◌, ◌≤◌, [], length, map, replicate, vec_capacity, true, IfOk, OnOk, IsTrue, ◌↔◌, Err};
+ghost use Rattle.nc_base.specs.declared.run.RankStop.TheVariants as stop;
 ghost use Rattle.nc_base.specs.declared.step.StepErr.{StepErr as Fault};
-ghost use Rattle.nc_base.specs.declared.step.StepErr.TheVariants as fault;
-ghost use Rattle.nc_outside.specs.Told.{with_end};
 ghost use Rattle.serial_spec.specs.HeaderBytes.{header_len};
 ghost use Rattle.serial_spec.specs.SoundHeaders.{is_sound};
-ghost use Rattle.serial_spec.specs.History.{IsLegal};
 ghost use Rattle.serial_spec.specs.Lawful.{is_lawful};
 ghost use Rattle.serial_spec.specs.Layout.{end_of};
-ghost use Rattle.serial_spec.specs.RankMachine as machine;
 ghost use Rattle.collective_round.specs.Rounds.{HasStepCause};
 ghost use Rattle.rank_core.specs.Indexed.{IsIndexOf};
 ghost use Rattle.run_laws.specs.Ways.{meetings};
 ghost use Rattle.turn_run.specs.Begun.{HasBegun};
 ghost use Rattle.turn_run.specs.Counts.{IsCount};
-ghost use Rattle.turn_run.specs.Run.{IsRun};
+ghost use Rattle.turn_run.specs.RankEnds.{runner_end};
+ghost use Rattle.turn_run.specs.Run.{RunsOn};
 ghost use Rattle.turn_run.specs.Running.{AreFree, AreRunners, HaveArrived, HaveMet};
 ghost use Rattle.turn_run.specs.Told.{HasTold};
 ghost use Rattle.turn_run.specs.Steps.{first_runner};
-ghost use Rattle.turn_run.specs.Setups.{all_calls_on, ended_on, stage_at, EndsOn, HasLedOn, HasToldOn, HaveSaidUpTo, IsCutOff};
+ghost use Rattle.turn_run.specs.Setups.{stage_at, HasLedOn, HasToldOn, HaveSaidUpTo, IsCutOff};
 ghost use Rattle.var_layout.specs.Measures.{AreMeasures};
 
-use crate::end::{answers_of, close, pending_of};
 use crate::lent::{Lent, Progress, Setup};
 use crate::meeting::meet;
+use crate::rank_ends::{end_run, stopped};
 use crate::runners::Runner;
-use nc_base::{AnswerTable, Header, MarkList, Memory, RunEnd, Script, SizeList, StepErr};
+use nc_base::{Header, MarkList, Memory, RankEnd, RankStop, RunEnd, Script, ServeEnd, StepErr};
 use nc_outside::{Deaf, Disk, Gate, Told};
 use piece_exchange::Tools;
 use rank_core::Names;
@@ -51,7 +49,7 @@ pub fn run_in_turn<R: Threads + Wait + Sync, D: Disk, G: Gate>(
     requires records { records.old ≡ header.now.records }
     requires from { D.from disk.old ≡ 0 }
     requires long { end_of header.now (header_len header.now) header.now.records ≤ D.len disk.old }
-    ensures run { IsRun script.now header.now (D.held disk.old) (D.calls disk.old) (D.faults disk.old) (D.held disk.new) (D.calls disk.new) (D.faults disk.new) records.new result }
+    ensures run { RunsOn D.Disk script.now header.now disk.old disk.new records.new result }
 {
     run_in_turn_told(rt, alloc, disk, header, records, script, gate, &mut Deaf)
 }
@@ -75,7 +73,7 @@ pub fn run_in_turn_told<R: Threads + Wait + Sync, D: Disk, G: Gate, T: Told>(
     requires records { records.old ≡ header.now.records }
     requires from { D.from disk.old ≡ 0 }
     requires long { end_of header.now (header_len header.now) header.now.records ≤ D.len disk.old }
-    ensures run { IsRun script.now header.now (D.held disk.old) (D.calls disk.old) (D.faults disk.old) (D.held disk.new) (D.calls disk.new) (D.faults disk.new) records.new result }
+    ensures run { RunsOn D.Disk script.now header.now disk.old disk.new records.new result }
     ensures told { HasTold script.now header.now (D.held disk.old) (T.heard told.old) (T.heard told.new) result.order }
 {
     let order = MarkList::new(alloc);
@@ -85,6 +83,10 @@ pub fn run_in_turn_told<R: Threads + Wait + Sync, D: Disk, G: Gate, T: Told>(
     };
     let mut runners = match runners_of(alloc, header, &names, *records, script.ranks) {
         Ok(runners) => runners,
+        Err(_) => return stopped(alloc, order, StepErr::Memory),
+    };
+    let mut ends = match Vec::with_capacity(alloc, script.ranks as usize) {
+        Ok(ends) => ends,
         Err(_) => return stopped(alloc, order, StepErr::Memory),
     };
     let lent = Lent {
@@ -99,12 +101,15 @@ pub fn run_in_turn_told<R: Threads + Wait + Sync, D: Disk, G: Gate, T: Told>(
         records: *records,
         order,
     };
-    let done = make_calls(&lent, disk, told, &mut progress, &mut runners);
+    let done = hold_meetings(&lent, disk, told, &mut progress, &mut runners);
     *records = progress.records;
-    match done {
-        Ok(()) => ended(alloc, progress.order, runners),
-        Err(cause) => cut_off(alloc, progress.order, runners, cause),
-    }
+    end_all(runners, stop_after(&done), &mut ends);
+    let served = ServeEnd {
+        order: progress.order,
+        fault: done.err(),
+        stranger: None,
+    };
+    end_run(alloc, disk, header, records, served, ends)
 }
 
 /// A runner for each rank.
@@ -124,47 +129,6 @@ fn runners_of<'a>(
         runners.push(Runner::new(alloc, header, names, records))?;
     }
     Ok(runners)
-}
-
-/// Makes the calls of all ranks, and closes the file.
-fn make_calls<R: Threads + Wait + Sync, D: Disk, G: Gate, T: Told>(
-    lent: &Lent<R, G>,
-    disk: &mut D,
-    told: &mut T,
-    progress: &mut Progress,
-    runners: &mut [Runner],
-) -> Result<(), StepErr>
-    requires sound { is_sound lent.now.setup.header.now ≡ true }
-    requires measured { AreMeasures lent.now.setup.header.now lent.now.setup.measures.now }
-    requires lawful { is_lawful lent.now.setup.script.now ≡ true }
-    requires none { progress.old.order ≡ [] }
-    requires runners { AreRunners lent.now.setup.script.now lent.now.setup.header.now (D.len disk.old) progress.old.order runners.old }
-    requires free { AreFree runners.old }
-    requires records { IsCount lent.now.setup.header.now (D.len disk.old) progress.old.records }
-    requires from { D.from disk.old ≡ 0 }
-    ensures legal { OnOk result (IsLegal lent.now.setup.script.now progress.new.order) }
-    ensures bytes { OnOk result (IfSome (D.held disk.old) (λ file. D.held disk.new ≡ Some (ended_on lent.now.setup file progress.old runners.old progress.new).bytes)) }
-    ensures records { OnOk result (IfSome (D.held disk.old) (λ file. progress.new.records ≡ (ended_on lent.now.setup file progress.old runners.old progress.new).records)) }
-    ensures answers { OnOk result (IfSome (D.held disk.old) (λ file. map (λ runner. runner.answers) runners.new ≡ (ended_on lent.now.setup file progress.old runners.old progress.new).answers)) }
-    ensures pending { OnOk result (IfSome (D.held disk.old) (λ file. map (λ runner. machine.pending runner.rank.state) runners.new ≡ (ended_on lent.now.setup file progress.old runners.old progress.new).pending)) }
-    ensures calls { OnOk result (IfSome (D.held disk.old) (λ file. D.calls disk.new ≡ with_end (D.calls disk.old) (all_calls_on lent.now.setup file progress.old runners.old progress.new))) }
-    ensures count { OnOk result (IsCount lent.now.setup.header.now (D.len disk.new) progress.new.records) }
-    ensures raised { OnOk result ((e : Fault) → EndsOn lent.now.setup e progress.old progress.new (D.held disk.old) runners.old (D.held disk.new)) }
-    ensures cut { (e : Fault) → result ≡ Err e → EndsOn lent.now.setup e progress.old progress.new (D.held disk.old) runners.old (D.held disk.new) }
-    ensures answered { (e : Fault) → result ≡ Err e → HaveSaidUpTo lent.now.setup e progress.old progress.new (D.held disk.old) runners.old runners.new }
-    ensures told { HasToldOn lent.now.setup progress.old progress.new (D.held disk.old) runners.old (T.heard told.old) (T.heard told.new) }
-    ensures begun { HasBegun lent.now.setup.script.now progress.new.order }
-    ensures cause { HasStepCause (D.faults disk.old) (D.faults disk.new) result }
-{
-    hold_meetings(lent, disk, told, progress, runners)?;
-    close(
-        lent.tools.alloc,
-        disk,
-        lent.setup.header,
-        &mut progress.records,
-        runners,
-    )?;
-    Ok(())
 }
 
 /// Holds the meetings of all ranks, one after another, until all calls are made.
@@ -249,58 +213,23 @@ fn all_hold(runners: &[Runner]) -> bool
     runners.iter().all(|runner| runner.held.is_some())
 }
 
-/// The end of a run in which all was done.
-fn ended(alloc: Global, order: MarkList, runners: Vec<Runner>) -> RunEnd
-    ensures order { result.order ≡ order }
-    ensures answers { result.fault ≡ None → result.answers ≡ map (λ runner. runner.answers) runners.entry.items }
-    ensures pending { result.fault ≡ None → result.pending ≡ map (λ runner. machine.pending runner.rank.state) runners.entry.items }
-    ensures memory { result.fault ≡ Some fault.Disk → ⊥ }
-    ensures none { (e : Fault) → result.fault ≡ Some e → result.answers ≡ [] }
+/// Why the ranks of a run in turn went no further.
+fn stop_after(done: &Result<(), StepErr>) -> RankStop
+    ensures not_broken { result ≡ stop.Memory → ⊥ }
 {
-    let pending = match pending_of(alloc, &runners) {
-        Ok(pending) => pending,
-        Err(_) => return stopped(alloc, order, StepErr::Memory),
-    };
-    match answers_of(alloc, runners) {
-        Ok(answers) => RunEnd {
-            order,
-            answers,
-            pending,
-            fault: None,
-        },
-        Err(_) => stopped(alloc, order, StepErr::Memory),
+    match done {
+        Ok(()) => RankStop::Done,
+        Err(_) => RankStop::Stopped,
     }
 }
 
-/// The end of a run that was cut off, with the answers so far. Where there is no memory for them, want of memory is its fault.
-fn cut_off(alloc: Global, order: MarkList, runners: Vec<Runner>, cause: StepErr) -> RunEnd
-    ensures order { result.order ≡ order }
-    ensures some { result.fault ≡ None → ⊥ }
-    ensures fault { (e : Fault) → result.fault ≡ Some e → (e ≡ cause) ⊎ (e ≡ fault.Memory) }
-    ensures disk { result.fault ≡ Some fault.Disk → (cause ≡ fault.Disk) × (result.answers ≡ map (λ runner. runner.answers) runners.entry.items) }
-    ensures answers { (result.answers ≡ map (λ runner. runner.answers) runners.entry.items) ⊎ (result.answers ≡ []) }
+/// Ends each rank.
+fn end_all(runners: Vec<Runner>, why: RankStop, ends: &mut Vec<RankEnd>)
+    requires none { ends.old.items ≡ [] }
+    requires room { length runners.items ≤ vec_capacity ends.old }
+    ensures { ends.new.items ≡ map (runner_end why) runners.entry.items }
 {
-    match answers_of(alloc, runners) {
-        Ok(answers) => RunEnd {
-            order,
-            answers,
-            pending: SizeList::new(alloc),
-            fault: Some(cause),
-        },
-        Err(_) => stopped(alloc, order, StepErr::Memory),
-    }
-}
-
-/// The end of a run that was cut off, without answers.
-pub fn stopped(alloc: Global, order: MarkList, fault: StepErr) -> RunEnd
-    ensures order { result.order ≡ order }
-    ensures fault { result.fault ≡ Some fault }
-    ensures answers { result.answers ≡ [] }
-{
-    RunEnd {
-        order,
-        answers: AnswerTable::new(alloc),
-        pending: SizeList::new(alloc),
-        fault: Some(fault),
+    for runner in runners {
+        ends.push_reserved(runner.into_end(why));
     }
 }

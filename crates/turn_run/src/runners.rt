@@ -16,15 +16,17 @@ ghost use Rattle.rank_core.specs.Indexed.{IsIndexOf};
 ghost use Rattle.run_laws.specs.Ways.{IsOnWay};
 ghost use Rattle.turn_run.specs.Counts.{IsAsked, IsCount};
 ghost use Rattle.turn_run.specs.Running.{asking, between, calls_of, going_of, AsksAlone, HasArrived, HasHeard, IsMet, IsPlaced, IsRunner};
+ghost use Rattle.turn_run.specs.RankEnds.{runner_end};
 ghost use Rattle.turn_run.specs.Stages.{IsGrownBy};
-ghost use Rattle.turn_run.specs.Setups.{at_next, HasGoneOn, HasSaidUpTo, IsCutAt, TellsOf};
+ghost use Rattle.turn_run.specs.Setups.{at_ask, at_next, HasGoneOn, HasSaidUpTo, IsCutAt, TellsOf};
 
 use crate::lent::{Lent, Progress, Setup};
 use crate::mark::note_step;
 use crate::solo::solo_reply;
 use collective_round::Dataset;
 use nc_base::{
-    AnswerList, Call, Header, Mark, Memory, Offer, OfferKind, Reply, Script, StepErr, Want,
+    AnswerList, Call, Header, Mark, Memory, Offer, OfferKind, RankEnd, RankStop, Reply, Script,
+    StepErr, Want,
 };
 use nc_outside::{Disk, Gate, Point, Told};
 use piece_exchange::Tools;
@@ -185,12 +187,12 @@ impl<'a> Runner<'a> {
         ensures way { OnOk result (IsOnWay lent.now.setup.script.now progress.new.order ask.number (between (calls_of lent.now.setup.script.now ask.number) self.new) None) }
         ensures known { OnOk result (IsCount lent.now.setup.header.now (D.len disk.new) self.new.rank.state.known) }
         ensures gone { OnOk result (HasGoneOn lent.now.setup ask.number progress.old progress.new (D.held disk.old) (D.calls disk.old) (D.held disk.new) (D.calls disk.new)
-            (asking (calls_of lent.now.setup.script.now ask.number) self.old, Some ask.offer) (at_next lent.now.setup ask.number self.new)) }
+            (at_ask lent.now.setup ask self.old) (at_next lent.now.setup ask.number self.new)) }
         ensures cut { (e : Fault) → result ≡ Err e → IsCutAt lent.now.setup ask.number e progress.old progress.new (D.held disk.old) (D.held disk.new)
-            (asking (calls_of lent.now.setup.script.now ask.number) self.old, Some ask.offer) }
+            (at_ask lent.now.setup ask self.old) }
         ensures answered { (e : Fault) → result ≡ Err e → HasSaidUpTo lent.now.setup ask.number e progress.old progress.new (D.held disk.old)
-            (asking (calls_of lent.now.setup.script.now ask.number) self.old, Some ask.offer) self.new.answers }
-        ensures told { TellsOf lent.now.setup ask.number progress.old progress.new (D.held disk.old) (asking (calls_of lent.now.setup.script.now ask.number) self.old, Some ask.offer) (T.heard told.old) (T.heard told.new) }
+            (at_ask lent.now.setup ask self.old) self.new.answers }
+        ensures told { TellsOf lent.now.setup ask.number progress.old progress.new (D.held disk.old) (at_ask lent.now.setup ask self.old) (T.heard told.old) (T.heard told.new) }
         ensures grown { IsGrownBy ask.number progress.old.order progress.new.order }
         ensures begun { OnErr result ((rest : List Mark) × (filter (concerns ask.number) progress.new.order ++ rest ≡ marks lent.now.setup.script.now.calls ask.number)) }
         ensures from { D.from disk.new ≡ 0 }
@@ -227,6 +229,18 @@ impl<'a> Runner<'a> {
         let answer = self.rank.hear(reply)?;
         self.answers.push(answer)?;
         Ok(())
+    }
+
+    /// The end of its rank.
+    pub fn into_end(self, why: RankStop) -> RankEnd
+        ensures { result ≡ runner_end why self }
+    {
+        RankEnd {
+            known: self.rank.known(),
+            pending: self.rank.pending(),
+            answers: self.answers,
+            end: why,
+        }
     }
 }
 

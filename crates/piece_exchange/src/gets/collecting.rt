@@ -3,8 +3,7 @@ ghost use Rattle.std.specs.Prelude.{◌≡◌, ◌+◌, ◌^◌, ◌<◌, ◌≤
 ghost use Rattle.serial_spec.specs.File.{written};
 ghost use Rattle.nc_outside.specs.declared.disk.DiskErr.TheVariants.{Memory};
 ghost use Rattle.overlay_laws.specs.Lines.{extents, EndBelow};
-ghost use Rattle.data_sieving.specs.Sieving.{AreFilled};
-ghost use Rattle.data_sieving.specs.Walked.{buffer_cell};
+ghost use Rattle.aggregator_rounds.specs.EntryParts.{AreFilled, buffer_cell};
 ghost use Rattle.piece_exchange.specs.Blobs.{blob_at, with_blob, AreAsLong, FitTable, HasCollected, HaveOnePlaces};
 ghost use Rattle.piece_exchange.specs.Cursor.{entries_in};
 ghost use Rattle.piece_exchange.specs.Gets.{IsGetPlanned};
@@ -20,7 +19,7 @@ use crate::gets::starting::ReadWorker;
 use crate::gets::walk::ReadTurn;
 use crate::plan::GetPlan;
 use crate::walk::next_window;
-use data_sieving::collect_entry;
+use aggregator_rounds::collect_entry;
 use nc_base::{Blob, BlobList, Extent, Owned};
 use nc_outside::{Disk, DiskErr};
 use std::sync::Wait;

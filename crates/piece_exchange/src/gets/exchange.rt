@@ -6,7 +6,7 @@ ghost use Rattle.nc_outside.specs.Cause.{Rose};
 ghost use Rattle.nc_outside.specs.declared.disk.DiskErr.TheVariants.{Failed};
 ghost use Rattle.overlay_laws.specs.Entries.{In};
 ghost use Rattle.serial_spec.specs.File.{read};
-ghost use Rattle.data_sieving.specs.Walked.{IsCovered};
+ghost use Rattle.aggregator_rounds.specs.EntryParts.{IsCovered};
 ghost use Rattle.piece_exchange.specs.Blobs.{AreAsLong, FitTable, HasRead, HaveOnePlaces};
 ghost use Rattle.piece_exchange.specs.Gets.{get_turns, HasGot, IsGetPlanned};
 ghost use Rattle.piece_exchange.specs.Lenders.{AreReady};

@@ -9,7 +9,7 @@ ghost use Rattle.overlay_laws.specs.Changes.{load_calls};
 ghost use Rattle.overlay_laws.specs.Entries.{In};
 ghost use Rattle.overlay_laws.specs.Lines.{extents, EndBelow};
 ghost use Rattle.aggregator_rounds.specs.Pieces.{told_window};
-ghost use Rattle.data_sieving.specs.Sieving.{AreFilled};
+ghost use Rattle.aggregator_rounds.specs.EntryParts.{AreFilled};
 ghost use Rattle.piece_exchange.specs.Blobs.{AreAsLong, FitTable, HaveOnePlaces};
 ghost use Rattle.piece_exchange.specs.Cursor.{entries_in};
 ghost use Rattle.piece_exchange.specs.Gets.{get_turns, HasGot, IsGetPlanned};

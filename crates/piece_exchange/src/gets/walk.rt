@@ -2,15 +2,15 @@
 ghost use Rattle.std.specs.Prelude.{◌≡◌, ◌+◌, ◌^◌, ◌<◌, min};
 ghost use Rattle.overlay_laws.specs.Lines.{extents, EndBelow, IsByPlace};
 ghost use Rattle.file_domains.specs.Rounds.{IsWalk};
-ghost use Rattle.data_sieving.specs.Walked.{entries_left, IsPast};
-ghost use Rattle.data_sieving.specs.Sieving.{AreFilled};
+ghost use Rattle.aggregator_rounds.specs.Left.{entries_left, IsPast};
+ghost use Rattle.aggregator_rounds.specs.EntryParts.{AreFilled};
 ghost use Rattle.piece_exchange.specs.Cursor.{entries_in, AreInFront, IsAt};
 ghost use Rattle.piece_exchange.specs.Gets.{get_turns, IsGetPlanned};
 ghost use Rattle.piece_exchange.specs.Turns.{turns_ahead};
 
 use crate::plan::GetPlan;
 use crate::walk::domain_windows;
-use data_sieving::Unserved;
+use aggregator_rounds::Unserved;
 use file_domains::{Window, WindowWalk};
 use nc_base::{Extent, Owned};
 use std::alloc::Global;
@@ -57,7 +57,7 @@ impl<'a> ReadWalk<'a> {
         ReadTurn {
             window,
             carried: self.entries.carried.as_slice(),
-            fresh: self.entries.begun(window.hull.at + window.hull.len),
+            fresh: self.entries.ahead_before(window.hull.at + window.hull.len),
         }
     }
 

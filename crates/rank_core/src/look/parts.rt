@@ -1,25 +1,23 @@
 // A call on many regions.
-ghost use Rattle.std.specs.Prelude.{◌≡◌, ◌+◌, ◌≤◌, ◌<◌, ◌++◌, false, map, filter, Some, IfOk, IfErr, OnOk};
+ghost use Rattle.std.specs.Prelude.{◌≡◌, ◌+◌, ◌≤◌, false, map, filter, Some, IfOk, IfErr, OnOk};
 ghost use Rattle.std.specs.Option.{option_copied};
-ghost use Rattle.nc_base.specs.declared.answer.Code.TheVariants as code;
 ghost use Rattle.imap_extents.specs.Refusals.{IsRangeRefusal};
-ghost use Rattle.serial_spec.specs.ExternalForm.{class_of};
-ghost use Rattle.serial_spec.specs.Layout.{product};
 ghost use Rattle.serial_spec.specs.Limits.{most_elements};
 ghost use Rattle.serial_spec.specs.Looks as looks;
 ghost use Rattle.serial_spec.specs.RegionCheck as spec;
-ghost use Rattle.serial_spec.specs.Request as request;
-ghost use Rattle.rank_core.specs.Looked.{ext_at, some_unfit, unfit_at, ComesTo, HasValues, IsCode};
+ghost use Rattle.rank_core.specs.Looked.{some_unfit, ComesTo, HasValues, IsCode};
 ghost use Rattle.rank_core.specs.Targets as targets;
 ghost use Rattle.rank_core.specs.Targets.{IsMeasured, IsTarget};
 
+use super::direction_of;
 use super::region::has_element;
-use super::target::{Target, direction_of};
+use super::target::Target;
+use imap_extents::push_value;
 use nc_base::{
     Blob, CallErr, Code, Given, Memory, NcType, Part, Post, PostList, Region, SizeList, Values, Var,
 };
 use std::alloc::Global;
-use type_external::{element_count, encode_into, kind_fits, size_of};
+use type_external::{element_count, kind_fits};
 use vara_extents::{Ends, check_parts, elements_of_all};
 
 pub(super) fn look_parts(
@@ -153,30 +151,4 @@ fn encode_all(
         push_value(kind, values, before + number, &mut bytes)?;
     }
     Ok(Blob::from_vec(bytes))
-}
-
-/// Adds a value in external form.
-fn push_value(
-    kind: NcType,
-    values: &Values,
-    number: u64,
-    bytes: &mut Vec<u8>,
-) -> Result<(), CallErr>
-    requires values { HasValues kind (Some values.now) (number + 1) }
-    ensures ok { OnOk result (bytes.new.items ≡ bytes.old.items ++ ext_at kind values.now number) }
-    ensures right { OnOk result (unfit_at kind values.now number ≡ false) }
-    ensures refused { IfErr result (IsRangeRefusal (unfit_at kind values.now number)) }
-{
-    let mut form = [0; 8];
-    let into = &mut form[..size_of(kind) as usize];
-    encode_into(kind, values, number as usize, into)?;
-    push_bytes(bytes, into)?;
-    Ok(())
-}
-
-fn push_bytes(bytes: &mut Vec<u8>, more: &[u8]) -> Result<(), Memory>
-    ensures { OnOk result (bytes.new.items ≡ bytes.old.items ++ more.now) }
-{
-    bytes.extend_from_slice(more)?;
-    Ok(())
 }

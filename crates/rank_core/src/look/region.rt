@@ -1,6 +1,5 @@
 // A call on one region.
-ghost use Rattle.std.specs.Prelude.{◌≡◌, ◌==◌, ◌∷◌, [], nat_lt, Some, slice_get, IfOk, IfErr, OnOk};
-ghost use Rattle.std.specs.List.{list_any};
+ghost use Rattle.std.specs.Prelude.{◌≡◌, ◌∷◌, [], nat_lt, IfOk, IfErr, OnOk};
 ghost use Rattle.std.specs.Option.{option_copied};
 ghost use Rattle.nc_base.specs.declared.answer.Code.TheVariants as code;
 ghost use Rattle.imap_extents.specs.Mapped.{IsMapped};
@@ -11,10 +10,12 @@ ghost use Rattle.rank_core.specs.Looked.{ComesTo};
 ghost use Rattle.rank_core.specs.Targets as targets;
 ghost use Rattle.rank_core.specs.Targets.{IsMeasured, IsTarget};
 
-use super::target::{Target, direction_of};
+use super::direction_of;
+use super::target::Target;
 use imap_extents::pack;
 use nc_base::{Blob, CallErr, Given, Memory, NcType, Post, PostList, Region, Values};
 use std::alloc::Global;
+use type_external::element_count;
 use vara_extents::{check, widen};
 
 pub(super) fn look_region(
@@ -54,13 +55,7 @@ pub(super) fn look_region(
 pub(super) fn has_element(counts: &[u64]) -> bool
     ensures { result ≡ nat_lt 0 (product counts.now) }
 {
-    !has_zero(counts)
-}
-
-fn has_zero(counts: &[u64]) -> bool
-    ensures { result ≡ list_any (λ n. n == 0) counts.now }
-{
-    counts.iter().any(|count| *count == 0)
+    element_count(counts) > 0
 }
 
 /// The bytes of a put; none for a get.

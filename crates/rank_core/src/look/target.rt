@@ -1,12 +1,11 @@
 // The variable that a call is on.
-ghost use Rattle.std.specs.Prelude.{◌≡◌, ◌<◌, true, length};
-ghost use Rattle.std.specs.Option.{option_copied};
+ghost use Rattle.std.specs.Prelude.{◌≡◌, true, IfSome};
 ghost use Rattle.serial_spec.specs.SoundHeaders.{is_sound};
 ghost use Rattle.serial_spec.specs.Looks as looks;
-ghost use Rattle.var_layout.specs.Measures.{AreMeasures};
-ghost use Rattle.rank_core.specs.Targets.{IsMeasured, IsTarget};
+ghost use Rattle.rank_core.specs.Targets.{place_of, IsTargetOf};
 
-use nc_base::{Direction, Header, Values, Var};
+use crate::Rank;
+use nc_base::{Header, Var};
 use var_layout::Measures;
 
 /// The variable that a call is on, with the id of its posts.
@@ -22,38 +21,21 @@ pub(super) struct Target<'a> {
     pub(super) id: u32,
 }
 
-pub(super) fn target_at<'a>(
-    header: &'a Header,
-    measures: &'a Measures,
-    place: usize,
-    known: u64,
-    id: u32,
-) -> Target<'a>
-    requires sound { is_sound header.now ≡ true }
-    requires measured { AreMeasures header.now measures.now }
-    requires there { place < length header.now.vars }
-    ensures header { result.header.now ≡ header.now }
-    ensures place { result.place ≡ place }
-    ensures there { IsTarget result }
-    ensures measured { IsMeasured result }
-    ensures known { result.known ≡ known }
-    ensures id { result.id ≡ id }
-{
-    Target {
-        header,
-        measures,
-        place: place as u32,
-        var: &header.vars.as_slice()[place],
-        known,
-        id,
-    }
-}
-
-pub(super) fn direction_of(values: Option<&Values>) -> Direction
-    ensures { result ≡ looks.direction_of (option_copied values.entry) }
-{
-    match values {
-        None => Direction::Get,
-        Some(_) => Direction::Put,
+impl<'a> Rank<'a> {
+    /// The variable of this name, for posts under this id.
+    pub(super) fn target(&self, id: u32, name: &[u8]) -> Option<Target<'a>>
+        ensures sound { is_sound self.now.header ≡ true }
+        ensures found { place_of result ≡ looks.find_var self.now.header name.now }
+        ensures target { IfSome result (IsTargetOf self.now id) }
+    {
+        let place = self.names.find_var(self.header, name)?;
+        Some(Target {
+            header: self.header,
+            measures: self.names.measures(self.header),
+            place: place as u32,
+            var: &self.header.vars.as_slice()[place],
+            known: self.known,
+            id,
+        })
     }
 }

@@ -87,7 +87,7 @@ fn a_count_that_nobody_reached_is_strange(rt: HostRuntime) -> Result<(), Fail> {
         if sender.number() == 0 {
             sender.put(&rt, begins(alloc, 5));
         }
-        sender.put(&rt, SentItem::ended(false));
+        sender.put(&rt, SentItem::last_item(false));
     }
     let mut disk = disk_of_zeros(alloc)?;
     let end = served(&rt, alloc, &mut disk, &mut taken, &mut lines, &mut Deaf)?;
@@ -115,7 +115,7 @@ fn want_of_memory_of_one_rank_stops_the_other(rt: HostRuntime) -> Result<(), Fai
         if !is_second {
             sender.put(&rt, begins(alloc, 0));
         }
-        sender.put(&rt, SentItem::ended(is_second));
+        sender.put(&rt, SentItem::last_item(is_second));
     }
     let mut disk = disk_of_zeros(alloc)?;
     let end = served(&rt, alloc, &mut disk, &mut taken, &mut lines, &mut Deaf)?;

@@ -1,6 +1,6 @@
 // Elements of one rank alone, window by window.
 ghost use Rattle.std.specs.Prelude.{◌≡◌, ◌+◌, ◌*◌, ◌<◌, ◌≤◌, slice_get, length};
-ghost use Rattle.data_sieving.specs.Sieving.{bytes_of_post, blob_at};
+ghost use Rattle.aggregator_rounds.specs.EntryParts.{bytes_of_post, blob_at};
 
 use super::{failing_disk, has_bytes, has_call_count, has_calls, numbered_disk};
 use data_sieving::{sieve_get, sieve_put};

@@ -2,8 +2,8 @@
 use Rattle.std.proofs.Common.{◌∙◌}
 use Rattle.aggregator_rounds.specs.Pieces.{cells_of_pieces}
 use Rattle.aggregator_rounds.proofs.RoundLaws.{window_told_by, window_refused_by, window_begun}
-use Rattle.aggregator_rounds.proofs.round.put_window.Goals as goal
 use Rattle.list_laws.proofs.Results.{on_err}
+use Rattle.aggregator_rounds.proofs.round.put_window.Goals as goal
 
 pub returns-clause-bytes : goal.returns-clause-bytes
 returns-clause-bytes g c =

@@ -4,10 +4,11 @@ use Rattle.std.proofs.lemmas.List.{take_all}
 use Rattle.overlay_laws.proofs.Members.{entry_in}
 use Rattle.nc_base.specs.declared.plan.Owned.{Owned}
 use Rattle.serial_spec.specs.Said.{write_cells}
-use Rattle.data_sieving.specs.Sieving.{of_slot, blob_at}
-use Rattle.data_sieving.specs.Walked.{buffer_cell}
-use Rattle.data_sieving.proofs.SplitSteps.{entry_ends}
-use Rattle.data_sieving.proofs.CollectedSteps.{fit_as_long, as_long_twice, slot_below, collected_more, collected_long}
+use Rattle.data_sieving.specs.Sieving.{of_slot}
+use Rattle.aggregator_rounds.specs.EntryParts.{blob_at, buffer_cell}
+use Rattle.aggregator_rounds.proofs.SplitSteps.{entry_ends}
+use Rattle.data_sieving.proofs.CollectedSteps.{fit_as_long, as_long_twice, collected_more, collected_long}
+use Rattle.aggregator_rounds.proofs.PartSteps.{slot_below}
 use Rattle.data_sieving.proofs.get.collect_all.Goals as goal
 
 abbrev none : Owned

@@ -6,17 +6,18 @@ use Rattle.std.proofs.Math.Seq.{take-append_seam}
 use Rattle.serial_spec.specs.DeviceCalls.{loads}
 use Rattle.nc_outside.specs.Told.{with_end}
 use Rattle.nc_base.specs.declared.step.DiskCall.{DiskCall}
-use Rattle.overlay_laws.specs.Changes.{IsBegun}
-use Rattle.data_sieving.specs.Sieving.{windows_of, AreAsLong, HasGot}
-use Rattle.data_sieving.specs.Walked.{entries_in, entries_left, HasDone, HasGotPart, IsNext, windows_from}
-use Rattle.data_sieving.proofs.PastSteps.{past_twice}
+use Rattle.overlay_laws.specs.Changes.{IsBegun, load_calls}
+use Rattle.data_sieving.specs.Sieving.{entry_windows, AreAsLong, HasGot}
+use Rattle.data_sieving.specs.Walked.{entries_in, HasDone, HasGotPart, IsNext, windows_from}
+use Rattle.aggregator_rounds.specs.Left.{entries_left}
+use Rattle.aggregator_rounds.proofs.PastSteps.{past_twice, all_left, walk_begin}
 use Rattle.data_sieving.proofs.WindowSteps.{goes_on}
 use Rattle.data_sieving.proofs.CallSteps.{none_begun}
-use Rattle.data_sieving.proofs.ReachSteps.{begun_in, hull_low, hull_high, hull_end, begun_ends, begun_filled}
+use Rattle.data_sieving.proofs.ReachSteps.{served_in, hull_low, hull_high, hull_end, served_ends, served_filled}
 use Rattle.data_sieving.proofs.CollectedSteps.{as_long_twice, fit_as_long, got_none, got_more, got_all}
-use Rattle.data_sieving.proofs.LoopSteps.{all_left, none_carried, walk_begin, walk_ready, calls_begin, loads_more, calls_end}
-use Rattle.data_sieving.proofs.get.sieve_get.Goals as goal
+use Rattle.data_sieving.proofs.LoopSteps.{none_carried, walk_ready, calls_begin, calls_more, calls_end}
 use Rattle.list_laws.proofs.Results.{on_err}
+use Rattle.data_sieving.proofs.get.sieve_get.Goals as goal
 
 -- the blobs that were lent, as they come back
 returned : (old now : List (List ℕ)) → AreAsLong old now → refill (length old) old now ≡ now
@@ -29,7 +30,7 @@ pub windows-init : goal.windows-init
 windows-init g c = let lent = c.as_mut_slice-blobs.ensures.seen in record {
   past = walk_begin c.args.list.now (entries_left c.new.result) (all_left c.args.list.now c.new.result.carried.items c.new.result.ahead.now c.new.ensures.carried c.new.ensures.ahead);
   left = walk_ready c.args.list.now (entries_left c.new.result) (length c.args.buf.now) (all_left c.args.list.now c.new.result.carried.items c.new.result.ahead.now c.new.ensures.carried c.new.ensures.ahead) c.requires.sorted c.requires.ends c.requires.filled c.requires.buffer;
-  begun = none_carried c.new.result.carried.items c.new.ensures.carried;
+  across = none_carried c.new.result.carried.items c.new.ensures.carried;
   size = refl;
   from = refl;
   len = refl;
@@ -61,16 +62,16 @@ read_window-requires-clause-hull g c κs within =
 
 pub read_window-requires-clause-ends : goal.read_window-requires-clause-ends
 read_window-requires-clause-ends g c κs within =
-    begun_ends (entries_left c.windows.walk.entries) c.windows.walk.from c.windows.walk.size c.in-Some.next.stop (entries_in c.in-Some.next) c.windows.invariant.left c.in-Some.ensures.next.begun
+    served_ends (entries_left c.windows.walk.entries) c.windows.walk.from c.windows.walk.size c.in-Some.next.stop (entries_in c.in-Some.next) c.windows.invariant.left c.in-Some.ensures.next.front
 
 pub read_window-requires-clause-filled : goal.read_window-requires-clause-filled
 read_window-requires-clause-filled g c κs within =
-    begun_filled (entries_left c.windows.walk.entries) c.windows.walk.from c.windows.walk.size c.in-Some.next.stop (entries_in c.in-Some.next) c.windows.invariant.left c.in-Some.ensures.next.begun
+    served_filled (entries_left c.windows.walk.entries) c.windows.walk.from c.windows.walk.size c.in-Some.next.stop (entries_in c.in-Some.next) c.windows.invariant.left c.in-Some.ensures.next.front
 
 pub read_window-requires-clause-fit : goal.read_window-requires-clause-fit
 read_window-requires-clause-fit g c κs within = λ o m.
     fit_as_long c.args.into.now c.windows.blobs c.args.list.now c.windows.invariant.long c.requires.fit o
-    (begun_in c.windows.walk.from c.in-Some.next.stop c.args.list.now (entries_left c.windows.walk.entries) (entries_in c.in-Some.next) o c.windows.invariant.past c.in-Some.ensures.next.begun m)
+    (served_in c.windows.walk.from c.in-Some.next.stop c.args.list.now (entries_left c.windows.walk.entries) (entries_in c.in-Some.next) o c.windows.invariant.past c.in-Some.ensures.next.front m)
 
 pub windows-preserved : goal.windows-preserved
 windows-preserved g c =
@@ -83,7 +84,7 @@ windows-preserved g c =
       past = past_twice c.windows.walk.from c.pass.new.self.from c.args.list.now (entries_left c.windows.walk.entries) (entries_left c.pass.new.self.entries) (omega arith)
           c.windows.invariant.past c.pass.ensures.past;
       left = c.pass.ensures.left;
-      begun = c.pass.ensures.begun;
+      across = c.pass.ensures.across;
       size = c.pass.ensures.size ∙ c.windows.invariant.size;
       from = c.in_ok-read_window.ensures.from ∙ c.windows.invariant.from;
       len = c.in_ok-read_window.ensures.len ∙ c.windows.invariant.len;
@@ -93,9 +94,9 @@ windows-preserved g c =
           c.pass.new.self.from c.args.into.now c.windows.blobs c.read_window.new.blobs c.windows.invariant.bytes c.windows.invariant.from c.requires.on_disk
           c.requires.one_place c.requires.fit c.windows.invariant.past next c.windows.invariant.got c.in_ok-read_window.ensures.read;
       long = as_long_twice c.args.into.now c.windows.blobs c.read_window.new.blobs c.windows.invariant.long c.in_ok-read_window.ensures.blobs;
-      calls = subst (λ (n : ℕ). HasDone (flat_map loads (windows_of n c.args.list.now)) (flat_map loads (windows_from n c.pass.new.self.from c.args.list.now))
+      calls = subst (λ (n : ℕ). HasDone (flat_map loads (entry_windows n c.args.list.now)) (flat_map loads (windows_from n c.pass.new.self.from c.args.list.now))
           (g.D.Disk.calls c.args.disk.now) (g.D.Disk.calls c.read_window.new.disk)) (sym c.pass.ensures.size)
-          (loads_more c.args.list.now (entries_left c.windows.walk.entries) c.windows.walk.from c.windows.walk.size c.in-Some.next.window (entries_in c.in-Some.next) c.pass.new.self.from (flat_map loads (windows_of c.windows.walk.size c.args.list.now))
+          (calls_more load_calls c.args.list.now (entries_left c.windows.walk.entries) c.windows.walk.from c.windows.walk.size c.in-Some.next.window (entries_in c.in-Some.next) c.pass.new.self.from (flat_map loads (entry_windows c.windows.walk.size c.args.list.now))
           (g.D.Disk.calls c.args.disk.now) (g.D.Disk.calls c.windows.disk) (g.D.Disk.calls c.read_window.new.disk)
           c.windows.invariant.past c.windows.invariant.left next c.in_ok-read_window.ensures.calls c.windows.invariant.calls);
       sure = λ s. c.in_ok-read_window.ensures.sure (c.windows.invariant.sure s);
@@ -105,9 +106,9 @@ windows-preserved g c =
 pub returns-in_err-read_window-clause-begun : goal.returns-in_err-read_window-clause-begun
 returns-in_err-read_window-clause-begun g c =
     on_err c.from_residual.result
-    (subst (λ (n : ℕ). IsBegun (flat_map loads (windows_of n c.args.list.now)) (g.D.Disk.calls c.args.disk.now) (g.D.Disk.calls c.read_window.new.disk)) c.windows.invariant.size
-    (subst (λ (m : Option (List DiskCall)). IsBegun (flat_map loads (windows_of c.windows.walk.size c.args.list.now)) (g.D.Disk.calls c.args.disk.now) m) (sym c.in_err-read_window.ensures.calls)
-    (none_begun (flat_map loads (windows_of c.windows.walk.size c.args.list.now)) (flat_map loads (windows_from c.windows.walk.size c.windows.walk.from c.args.list.now))
+    (subst (λ (n : ℕ). IsBegun (flat_map loads (entry_windows n c.args.list.now)) (g.D.Disk.calls c.args.disk.now) (g.D.Disk.calls c.read_window.new.disk)) c.windows.invariant.size
+    (subst (λ (m : Option (List DiskCall)). IsBegun (flat_map loads (entry_windows c.windows.walk.size c.args.list.now)) (g.D.Disk.calls c.args.disk.now) m) (sym c.in_err-read_window.ensures.calls)
+    (none_begun (flat_map loads (entry_windows c.windows.walk.size c.args.list.now)) (flat_map loads (windows_from c.windows.walk.size c.windows.walk.from c.args.list.now))
     (g.D.Disk.calls c.args.disk.now) (g.D.Disk.calls c.windows.disk) c.windows.invariant.calls)))
 
 pub returns-in_err-read_window-clause-blobs : goal.returns-in_err-read_window-clause-blobs
@@ -126,6 +127,6 @@ returns-clause-blobs g c = returned_long c.args.into.now c.windows.blobs c.windo
 
 pub returns-clause-calls : goal.returns-clause-calls
 returns-clause-calls g c =
-    calls_end loads c.windows.walk.size c.windows.walk.from c.args.list.now (entries_left c.windows.walk.entries) (flat_map loads (windows_of c.windows.walk.size c.args.list.now))
+    calls_end loads c.windows.walk.size c.windows.walk.from c.args.list.now (entries_left c.windows.walk.entries) (flat_map loads (entry_windows c.windows.walk.size c.args.list.now))
     (g.D.Disk.calls c.args.disk.now) (g.D.Disk.calls c.windows.disk) c.in_default.ensures.none c.windows.invariant.past c.windows.invariant.calls
-    ∙ ap (λ (n : ℕ). with_end (g.D.Disk.calls c.args.disk.now) (flat_map loads (windows_of n c.args.list.now))) c.windows.invariant.size
+    ∙ ap (λ (n : ℕ). with_end (g.D.Disk.calls c.args.disk.now) (flat_map loads (entry_windows n c.args.list.now))) c.windows.invariant.size

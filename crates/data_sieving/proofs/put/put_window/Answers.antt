@@ -6,8 +6,8 @@ use Rattle.overlay_laws.proofs.WindowLaws.{clips_from, clips_within}
 use Rattle.aggregator_rounds.proofs.RoundLaws.{window_told_by, window_refused_by, window_begun}
 use Rattle.data_sieving.specs.Sieving.{put_cells}
 use Rattle.data_sieving.specs.Walked.{entries_in}
-use Rattle.data_sieving.proofs.put.put_window.Goals as goal
 use Rattle.list_laws.proofs.Results.{on_err}
+use Rattle.data_sieving.proofs.put.put_window.Goals as goal
 
 pub returns-clause-bytes : goal.returns-clause-bytes
 returns-clause-bytes g c =

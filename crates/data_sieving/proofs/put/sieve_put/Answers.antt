@@ -3,22 +3,24 @@ use Rattle.std.proofs.Common.{◌+◌, ◌∙◌, refl, sym, ap, subst, length, 
 use Rattle.std.specs.Prelude.{flat_map}
 use Rattle.serial_spec.specs.DeviceCalls.{overlays}
 use Rattle.nc_outside.specs.Told.{with_end}
-use Rattle.overlay_laws.specs.Changes.{IsBegun}
-use Rattle.data_sieving.specs.Sieving.{source_of, windows_of}
-use Rattle.data_sieving.specs.Walked.{entries_in, entries_left, HasDone, IsNext, windows_from}
-use Rattle.data_sieving.proofs.PastSteps.{past_twice}
+use Rattle.overlay_laws.specs.Changes.{IsBegun, store_calls}
+use Rattle.aggregator_rounds.specs.EntryParts.{source_of}
+use Rattle.data_sieving.specs.Sieving.{entry_windows}
+use Rattle.data_sieving.specs.Walked.{entries_in, HasDone, IsNext, windows_from}
+use Rattle.aggregator_rounds.specs.Left.{entries_left}
+use Rattle.aggregator_rounds.proofs.PastSteps.{past_twice, all_left, walk_begin}
 use Rattle.data_sieving.proofs.WindowSteps.{goes_on}
-use Rattle.data_sieving.proofs.PutSteps.{covered_place}
-use Rattle.data_sieving.proofs.ReachSteps.{hull_low, hull_high, hull_end, begun_ends, begun_filled, begun_found}
-use Rattle.data_sieving.proofs.LoopSteps.{all_left, none_carried, walk_begin, walk_ready, calls_begin, stores_more, stores_begun, calls_end, put_begin, put_more, put_refused, put_end}
-use Rattle.data_sieving.proofs.put.sieve_put.Goals as goal
+use Rattle.aggregator_rounds.proofs.EntryCells.{covered_place}
+use Rattle.data_sieving.proofs.ReachSteps.{hull_low, hull_high, hull_end, served_ends, served_filled, served_found}
+use Rattle.data_sieving.proofs.LoopSteps.{none_carried, walk_ready, calls_begin, calls_more, stores_begun, calls_end, put_begin, put_more, put_refused, put_end}
 use Rattle.list_laws.proofs.Results.{on_err}
+use Rattle.data_sieving.proofs.put.sieve_put.Goals as goal
 
 pub windows-init : goal.windows-init
 windows-init g c = record {
   past = walk_begin c.args.list.now (entries_left c.new.result) (all_left c.args.list.now c.new.result.carried.items c.new.result.ahead.now c.new.ensures.carried c.new.ensures.ahead);
   left = walk_ready c.args.list.now (entries_left c.new.result) (length c.args.buf.now) (all_left c.args.list.now c.new.result.carried.items c.new.result.ahead.now c.new.ensures.carried c.new.ensures.ahead) c.requires.sorted c.requires.ends c.requires.filled c.requires.buffer;
-  begun = none_carried c.new.result.carried.items c.new.ensures.carried;
+  across = none_carried c.new.result.carried.items c.new.ensures.carried;
   size = refl;
   from = refl;
   len = refl;
@@ -47,22 +49,22 @@ put_window-requires-clause-hull g c κs within =
 
 pub put_window-requires-clause-ends : goal.put_window-requires-clause-ends
 put_window-requires-clause-ends g c κs within =
-    begun_ends (entries_left c.windows.walk.entries) c.windows.walk.from c.windows.walk.size c.in-Some.next.stop (entries_in c.in-Some.next) c.windows.invariant.left c.in-Some.ensures.next.begun
+    served_ends (entries_left c.windows.walk.entries) c.windows.walk.from c.windows.walk.size c.in-Some.next.stop (entries_in c.in-Some.next) c.windows.invariant.left c.in-Some.ensures.next.front
 
 pub put_window-requires-clause-filled : goal.put_window-requires-clause-filled
 put_window-requires-clause-filled g c κs within =
-    begun_filled (entries_left c.windows.walk.entries) c.windows.walk.from c.windows.walk.size c.in-Some.next.stop (entries_in c.in-Some.next) c.windows.invariant.left c.in-Some.ensures.next.begun
+    served_filled (entries_left c.windows.walk.entries) c.windows.walk.from c.windows.walk.size c.in-Some.next.stop (entries_in c.in-Some.next) c.windows.invariant.left c.in-Some.ensures.next.front
 
 pub put_window-requires-clause-found : goal.put_window-requires-clause-found
 put_window-requires-clause-found g c κs within =
-    begun_found (source_of c.args.puts.now) c.args.list.now (entries_left c.windows.walk.entries) c.windows.walk.from c.in-Some.next.stop (entries_in c.in-Some.next)
-    c.requires.found c.windows.invariant.past c.in-Some.ensures.next.begun
+    served_found (source_of c.args.puts.now) c.args.list.now (entries_left c.windows.walk.entries) c.windows.walk.from c.in-Some.next.stop (entries_in c.in-Some.next)
+    c.requires.found c.windows.invariant.past c.in-Some.ensures.next.front
 
 pub put_window-requires-clause-whole : goal.put_window-requires-clause-whole
 put_window-requires-clause-whole g c κs within = λ t x l h.
     covered_place (source_of c.args.puts.now) (entries_in c.in-Some.next) c.in-Some.next.window.hull.at (c.in-Some.next.window.hull.at + c.in-Some.next.window.hull.len) x
-    (begun_found (source_of c.args.puts.now) c.args.list.now (entries_left c.windows.walk.entries) c.windows.walk.from c.in-Some.next.stop (entries_in c.in-Some.next)
-    c.requires.found c.windows.invariant.past c.in-Some.ensures.next.begun) l h (c.in-Some.ensures.next.hull.full t x l h)
+    (served_found (source_of c.args.puts.now) c.args.list.now (entries_left c.windows.walk.entries) c.windows.walk.from c.in-Some.next.stop (entries_in c.in-Some.next)
+    c.requires.found c.windows.invariant.past c.in-Some.ensures.next.front) l h (c.in-Some.ensures.next.hull.full t x l h)
 
 pub windows-preserved : goal.windows-preserved
 windows-preserved g c =
@@ -75,7 +77,7 @@ windows-preserved g c =
       past = past_twice c.windows.walk.from c.pass.new.self.from c.args.list.now (entries_left c.windows.walk.entries) (entries_left c.pass.new.self.entries) (omega arith)
           c.windows.invariant.past c.pass.ensures.past;
       left = c.pass.ensures.left;
-      begun = c.pass.ensures.begun;
+      across = c.pass.ensures.across;
       size = c.pass.ensures.size ∙ c.windows.invariant.size;
       from = c.in_ok-put_window.ensures.from ∙ c.windows.invariant.from;
       len = c.in_ok-put_window.ensures.len ∙ c.windows.invariant.len;
@@ -83,9 +85,9 @@ windows-preserved g c =
           (entries_left c.windows.walk.entries) c.windows.walk.from c.windows.walk.size c.in-Some.next.window (entries_in c.in-Some.next) c.pass.new.self.from
           (g.D.Disk.from c.args.disk.now) (g.D.Disk.from c.windows.disk) (g.D.Disk.len c.args.disk.now) c.size-size.ensures.told c.requires.on_disk c.windows.invariant.from
           c.windows.invariant.past next c.windows.invariant.bytes c.in_ok-put_window.ensures.bytes;
-      calls = subst (λ (n : ℕ). HasDone (flat_map overlays (windows_of n c.args.list.now)) (flat_map overlays (windows_from n c.pass.new.self.from c.args.list.now))
+      calls = subst (λ (n : ℕ). HasDone (flat_map overlays (entry_windows n c.args.list.now)) (flat_map overlays (windows_from n c.pass.new.self.from c.args.list.now))
           (g.D.Disk.calls c.args.disk.now) (g.D.Disk.calls c.put_window.new.disk)) (sym c.pass.ensures.size)
-          (stores_more c.args.list.now (entries_left c.windows.walk.entries) c.windows.walk.from c.windows.walk.size c.in-Some.next.window (entries_in c.in-Some.next) c.pass.new.self.from (flat_map overlays (windows_of c.windows.walk.size c.args.list.now))
+          (calls_more store_calls c.args.list.now (entries_left c.windows.walk.entries) c.windows.walk.from c.windows.walk.size c.in-Some.next.window (entries_in c.in-Some.next) c.pass.new.self.from (flat_map overlays (entry_windows c.windows.walk.size c.args.list.now))
           (g.D.Disk.calls c.args.disk.now) (g.D.Disk.calls c.windows.disk) (g.D.Disk.calls c.put_window.new.disk)
           c.windows.invariant.past c.windows.invariant.left next c.in_ok-put_window.ensures.calls c.windows.invariant.calls);
       sure = λ s. c.in_ok-put_window.ensures.sure (c.windows.invariant.sure s);
@@ -103,8 +105,8 @@ returns-in_err-put_window-clause-refused g c =
 pub returns-in_err-put_window-clause-begun : goal.returns-in_err-put_window-clause-begun
 returns-in_err-put_window-clause-begun g c =
     on_err c.from_residual.result
-    (subst (λ (n : ℕ). IsBegun (flat_map overlays (windows_of n c.args.list.now)) (g.D.Disk.calls c.args.disk.now) (g.D.Disk.calls c.put_window.new.disk)) c.windows.invariant.size
-    (stores_begun c.args.list.now (entries_left c.windows.walk.entries) c.windows.walk.from c.windows.walk.size c.in-Some.next.window (entries_in c.in-Some.next) c.in-Some.next.stop (flat_map overlays (windows_of c.windows.walk.size c.args.list.now))
+    (subst (λ (n : ℕ). IsBegun (flat_map overlays (entry_windows n c.args.list.now)) (g.D.Disk.calls c.args.disk.now) (g.D.Disk.calls c.put_window.new.disk)) c.windows.invariant.size
+    (stores_begun c.args.list.now (entries_left c.windows.walk.entries) c.windows.walk.from c.windows.walk.size c.in-Some.next.window (entries_in c.in-Some.next) c.in-Some.next.stop (flat_map overlays (entry_windows c.windows.walk.size c.args.list.now))
     (g.D.Disk.calls c.args.disk.now) (g.D.Disk.calls c.windows.disk) (g.D.Disk.calls c.put_window.new.disk)
     c.windows.invariant.past c.windows.invariant.left c.in-Some.ensures.next c.in_err-put_window.ensures.begun c.windows.invariant.calls))
 
@@ -115,6 +117,6 @@ returns-clause-bytes g c =
 
 pub returns-clause-calls : goal.returns-clause-calls
 returns-clause-calls g c =
-    calls_end overlays c.windows.walk.size c.windows.walk.from c.args.list.now (entries_left c.windows.walk.entries) (flat_map overlays (windows_of c.windows.walk.size c.args.list.now))
+    calls_end overlays c.windows.walk.size c.windows.walk.from c.args.list.now (entries_left c.windows.walk.entries) (flat_map overlays (entry_windows c.windows.walk.size c.args.list.now))
     (g.D.Disk.calls c.args.disk.now) (g.D.Disk.calls c.windows.disk) c.in_default.ensures.none c.windows.invariant.past c.windows.invariant.calls
-    ∙ ap (λ (n : ℕ). with_end (g.D.Disk.calls c.args.disk.now) (flat_map overlays (windows_of n c.args.list.now))) c.windows.invariant.size
+    ∙ ap (λ (n : ℕ). with_end (g.D.Disk.calls c.args.disk.now) (flat_map overlays (entry_windows n c.args.list.now))) c.windows.invariant.size

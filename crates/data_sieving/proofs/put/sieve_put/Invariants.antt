@@ -3,8 +3,9 @@ use Rattle.std.proofs.Common.{◌≡◌, ◌-◌, ◌^◌, ◌≤◌, length}
 use Rattle.std.specs.Prelude.{flat_map}
 use Rattle.nc_outside.specs.Told.{after}
 use Rattle.serial_spec.specs.DeviceCalls.{overlays}
-use Rattle.data_sieving.specs.Sieving.{put_cells, windows_of}
-use Rattle.data_sieving.specs.Walked.{entries_left, IsPast, AreLeft, HasDone, HaveBegun, windows_from}
+use Rattle.data_sieving.specs.Sieving.{put_cells, entry_windows}
+use Rattle.aggregator_rounds.specs.Left.{entries_left, IsPast}
+use Rattle.data_sieving.specs.Walked.{AreLeft, HasDone, LieAcross, windows_from}
 use Rattle.data_sieving.proofs.PutSteps.{file_to}
 use Rattle.data_sieving.proofs.put.sieve_put.Given as goal
 
@@ -12,12 +13,12 @@ abbrev pub invariant-windows : goal.invariant-windows
 invariant-windows g l = record {
   past : IsPast l.walk.from l.list (entries_left l.walk.entries);
   left : AreLeft (entries_left l.walk.entries) l.walk.from l.walk.size;
-  begun : HaveBegun l.walk.from l.walk.entries.carried.items;
+  across : LieAcross l.walk.from l.walk.entries.carried.items;
   size : l.walk.size ≡ length l.initial.buf;
   from : g.D.Disk.from l.disk ≡ g.D.Disk.from l.initial.disk;
   len : g.D.Disk.len l.disk ≡ g.D.Disk.len l.initial.disk;
   bytes : g.D.Disk.held l.disk ≡ after (λ file. file_to (g.D.Disk.from l.initial.disk) l.walk.from (put_cells l.puts l.list) file) (g.D.Disk.held l.initial.disk);
-  calls : HasDone (flat_map overlays (windows_of l.walk.size l.list)) (flat_map overlays (windows_from l.walk.size l.walk.from l.list)) (g.D.Disk.calls l.initial.disk) (g.D.Disk.calls l.disk);
+  calls : HasDone (flat_map overlays (entry_windows l.walk.size l.list)) (flat_map overlays (windows_from l.walk.size l.walk.from l.list)) (g.D.Disk.calls l.initial.disk) (g.D.Disk.calls l.disk);
   sure : g.D.Disk.sure l.initial.disk → g.D.Disk.sure l.disk;
   faults : g.D.Disk.faults l.initial.disk ≤ g.D.Disk.faults l.disk;
 }

@@ -3,7 +3,7 @@ use Rattle.std.proofs.Common.{◌∙◌, ap, subst, List, max, min, arith, ℕ}
 use Rattle.std.proofs.lemmas.List.{take_all}
 use Rattle.nc_base.specs.declared.plan.Owned.{Owned}
 use Rattle.data_sieving.specs.Walked.{Reach}
-use Rattle.data_sieving.proofs.SplitSteps.{entry_ends}
+use Rattle.aggregator_rounds.proofs.SplitSteps.{entry_ends}
 use Rattle.data_sieving.proofs.HullSteps.{reach_none, reach_more}
 use Rattle.data_sieving.proofs.walk.reach.Goals as goal
 
@@ -20,7 +20,7 @@ loop-entry-init c = reach_none c.args.at c.args.stop c.args.carried.now c.requir
 
 pub loop-entry-preserved : goal.loop-entry-preserved
 loop-entry-preserved c =
-    reach_more c.args.at c.args.stop c.loop-entry.end c.max-end.result c.loop-entry.entry-index c.args.carried.now none c.loop-entry-test.true c.requires.begun
+    reach_more c.args.at c.args.stop c.loop-entry.end c.max-end.result c.loop-entry.entry-index c.args.carried.now none c.loop-entry-test.true c.requires.across
     (c.max-end.ensures ∙ ap (λ (n : ℕ). max c.loop-entry.end n) (c.min.ensures ∙ ap (λ (n : ℕ). min n c.args.stop) c.end_of.ensures))
     c.requires.order c.loop-entry.invariant
 

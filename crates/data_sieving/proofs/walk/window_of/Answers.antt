@@ -2,10 +2,10 @@
 use Rattle.std.proofs.Common.{inl, inr, ◌∙◌, ap, sym, refl, max, min, get_or, arith, ℕ}
 use Rattle.std.proofs.lemmas.List.{length-append}
 use Rattle.nc_base.specs.declared.plan.Owned.{Owned}
-use Rattle.data_sieving.proofs.SplitSteps.{entry_ends, extents_left, extents_right}
+use Rattle.aggregator_rounds.proofs.SplitSteps.{entry_ends, extents_left, extents_right}
 use Rattle.data_sieving.proofs.HullSteps.{reach_scanned, scanned_more, all_scanned}
-use Rattle.data_sieving.proofs.walk.window_of.Goals as goal
 use Rattle.data_sieving.proofs.walk.window_of.Goals.{then-entry-end, else-entry-end}
+use Rattle.data_sieving.proofs.walk.window_of.Goals as goal
 
 abbrev none : Owned
 none = record { extent = record { at = 0; len = 0 }; rank = 0; request = 0; slot = 0; from = 0 }
@@ -19,7 +19,7 @@ end_of-requires c =
     omega arith
 
 pub loop-entry-init : goal.loop-entry-init
-loop-entry-init c = reach_scanned c.args.at c.args.stop c.reach-end.result c.args.carried.now c.args.fresh.now c.requires.order c.requires.begun c.reach-end.ensures
+loop-entry-init c = reach_scanned c.args.at c.args.stop c.reach-end.result c.args.carried.now c.args.fresh.now c.requires.order c.requires.across c.reach-end.ensures
 
 pub loop-entry-preserved : goal.loop-entry-preserved
 loop-entry-preserved c =

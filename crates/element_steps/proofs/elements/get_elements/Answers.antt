@@ -1,16 +1,17 @@
 -- One element more.
-use Rattle.std.proofs.Common.{◌++◌, ◌∙◌, ℕ, List, Some, ap, sym, arith}
+use Rattle.std.proofs.Common.{◌++◌, ◌∙◌, ℕ, Some, ap, sym, arith}
 use Rattle.serial_spec.specs.ExternalForm.{size_of}
 use Rattle.serial_spec.specs.File.{read}
-use Rattle.serial_spec.specs.Layout.{product}
 use Rattle.serial_spec.specs.Request.{places}
 use Rattle.vara_extents.proofs.NumberLaws.{length-places, place_at}
 use Rattle.element_steps.proofs.GatherLaws.{gather_end, gather_step}
+use Rattle.element_steps.proofs.IndexLaws.{counted}
 use Rattle.element_steps.proofs.elements.get_elements.Goals as goal
 
 pub loop-number-preserved : goal.loop-number-preserved
 loop-number-preserved c =
-    let count = c.element_count-number-end.ensures ∙ ap (λ (l : List ℕ). product l) c.as_slice.ensures in
+    let count = counted c.args.header.now c.args.post.now.var c.args.of.now c.args.post.now.region c.as_slice.result.now c.element_count-number-end.result
+    c.requires.there c.requires.accepted c.as_slice.ensures c.element_count-number-end.ensures in
     gather_step (λ x. read c.args.file.now x (size_of c.args.of.now.kind)) (places c.args.header.now c.args.of.now c.args.post.now.region) c.loop-number.number c.in_ok-at.at
     c.loop-number.bytes.items _ _
     (place_at c.args.header.now c.args.of.now c.args.post.now.region c.loop-number.number (omega (arith, c.loop-number-test.true, count)) ∙ ap Some (sym c.in_ok-at.ensures.place))
@@ -19,7 +20,8 @@ loop-number-preserved c =
 
 pub returns : goal.returns
 returns c =
-    let count = c.element_count-number-end.ensures ∙ ap (λ (l : List ℕ). product l) c.as_slice.ensures in
+    let count = counted c.args.header.now c.args.post.now.var c.args.of.now c.args.post.now.region c.as_slice.result.now c.element_count-number-end.result
+    c.requires.there c.requires.accepted c.as_slice.ensures c.element_count-number-end.ensures in
     let long = length-places c.args.header.now c.args.of.now c.args.post.now.region in
     c.from_vec.ensures
     ∙ gather_end (λ x. read c.args.file.now x (size_of c.args.of.now.kind)) (places c.args.header.now c.args.of.now c.args.post.now.region) c.loop-number.number

@@ -1,15 +1,16 @@
 -- One element more.
 use Rattle.std.proofs.Common.{◌*◌, ◌∙◌, ℕ, List, Some, ap, sym, take, drop, arith}
 use Rattle.serial_spec.specs.ExternalForm.{size_of}
-use Rattle.serial_spec.specs.Layout.{product}
 use Rattle.serial_spec.specs.Request.{places}
 use Rattle.vara_extents.proofs.NumberLaws.{length-places, place_at}
+use Rattle.element_steps.proofs.IndexLaws.{counted}
 use Rattle.element_steps.proofs.WriteSteps.{put_end, put_step}
 use Rattle.element_steps.proofs.elements.put_elements.Goals as goal
 
 pub loop-number-preserved : goal.loop-number-preserved
 loop-number-preserved c =
-    let count = c.element_count-number-end.ensures ∙ ap (λ (l : List ℕ). product l) c.as_slice.ensures in
+    let count = counted c.args.header.now c.args.post.now.var c.args.of.now c.args.post.now.region c.as_slice.result.now c.element_count-number-end.result
+    c.requires.there c.requires.accepted c.as_slice.ensures c.element_count-number-end.ensures in
     let k = c.loop-number.number in
     put_step (size_of c.args.of.now.kind) (places c.args.header.now c.args.of.now c.args.post.now.region) c.args.post.now.bytes c.loop-number.file.items _ _ c.element.result.now
     k c.in_ok-at.at
@@ -21,7 +22,8 @@ loop-number-preserved c =
 
 pub returns : goal.returns
 returns c =
-    let count = c.element_count-number-end.ensures ∙ ap (λ (l : List ℕ). product l) c.as_slice.ensures in
+    let count = counted c.args.header.now c.args.post.now.var c.args.of.now c.args.post.now.region c.as_slice.result.now c.element_count-number-end.result
+    c.requires.there c.requires.accepted c.as_slice.ensures c.element_count-number-end.ensures in
     let long = length-places c.args.header.now c.args.of.now c.args.post.now.region in
     put_end (size_of c.args.of.now.kind) (places c.args.header.now c.args.of.now c.args.post.now.region) _ c.loop-number.file.items _ c.loop-number.number
     (omega (arith, c.loop-number-test.false, count, long)) c.loop-number.invariant

@@ -1,4 +1,4 @@
--- The last extent that has begun goes past the place, or it does not.
+-- The last extent in front goes past the place, or it does not.
 use Rattle.std.proofs.Common.{◌+◌, ◌-◌, ◌≤◌, slice_index_or, subst, sym, ◌∙◌, arith}
 use Rattle.std.proofs.lemmas.Option.{same_Some, slice_get-get_or}
 use Rattle.overlay_laws.proofs.Members.{entry_in}
@@ -6,28 +6,28 @@ use Rattle.nc_base.specs.declared.plan.Extent.{Extent}
 use Rattle.file_domains.specs.Rounds.{IsLeft}
 use Rattle.file_domains.proofs.CoverParts.{left_from_last, left_from_next}
 use Rattle.file_domains.proofs.walk.past.Goals as goal
-use Rattle.file_domains.proofs.walk.past.Goals.{else-begun-gt0-via-then-begun-gt0+else-end_of-place, else-begun-gt0-via-else-begun-gt0}
+use Rattle.file_domains.proofs.walk.past.Goals.{else-count-gt0-via-then-count-gt0+else-end_of-place, else-count-gt0-via-else-count-gt0}
 
 pub end_of-requires : goal.end_of-requires
 end_of-requires c =
-    let low = c.requires.ends _ (entry_in c.args.cover.now (c.args.begun - 1) (record { at = 0; len = 0 }) (omega (arith, c.requires.bound))) in
+    let low = c.requires.ends _ (entry_in c.args.cover.now (c.args.count - 1) (record { at = 0; len = 0 }) (omega (arith, c.requires.bound))) in
     omega arith
 
 pub returns-then-end_of-place : goal.returns-then-end_of-place
 returns-then-end_of-place c =
     subst (IsLeft c.args.place c.args.cover.now) (sym c.tail.ensures)
-    (left_from_last c.args.begun c.args.place (slice_index_or c.args.cover.now (c.args.begun - 1) (record { at = 0; len = 0 })) c.args.cover.now
-    c.requires.cover c.requires.ends (omega arith) (slice_get-get_or c.args.cover.now (c.args.begun - 1) (record { at = 0; len = 0 }) (omega (arith, c.requires.bound)))
+    (left_from_last c.args.count c.args.place (slice_index_or c.args.cover.now (c.args.count - 1) (record { at = 0; len = 0 })) c.args.cover.now
+    c.requires.cover c.requires.ends (omega arith) (slice_get-get_or c.args.cover.now (c.args.count - 1) (record { at = 0; len = 0 }) (omega (arith, c.requires.bound)))
     (omega arith) c.requires.before)
 
-pub returns-else-begun-gt0 : goal.returns-else-begun-gt0
-returns-else-begun-gt0 c =
-    subst (IsLeft c.args.place c.args.cover.now) (sym c.tail-else-begun-gt0.ensures)
-    (left_from_next c.args.begun c.args.place c.args.cover.now c.requires.cover c.requires.ends
-    (elim c.else-begun-gt0.branch [
-      | else-begun-gt0-via-then-begun-gt0+else-end_of-place w ↦ (λ e some g.
-          let at_last = slice_get-get_or c.args.cover.now (c.args.begun - 1) (record { at = 0; len = 0 }) (omega (arith, c.requires.bound)) in
+pub returns-else-count-gt0 : goal.returns-else-count-gt0
+returns-else-count-gt0 c =
+    subst (IsLeft c.args.place c.args.cover.now) (sym c.tail-else-count-gt0.ensures)
+    (left_from_next c.args.count c.args.place c.args.cover.now c.requires.cover c.requires.ends
+    (elim c.else-count-gt0.branch [
+      | else-count-gt0-via-then-count-gt0+else-end_of-place w ↦ (λ e some g.
+          let at_last = slice_get-get_or c.args.cover.now (c.args.count - 1) (record { at = 0; len = 0 }) (omega (arith, c.requires.bound)) in
           subst (λ (z : Extent). z.at + z.len ≤ c.args.place) (same_Some _ e (sym at_last ∙ g)) (omega arith))
-      | else-begun-gt0-via-else-begun-gt0 w ↦ (λ e some g. absurd (omega arith))
+      | else-count-gt0-via-else-count-gt0 w ↦ (λ e some g. absurd (omega arith))
     ])
     c.requires.bound c.requires.after)

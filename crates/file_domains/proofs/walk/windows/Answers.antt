@@ -5,20 +5,20 @@ use Rattle.nc_base.specs.declared.plan.Extent.{Extent}
 use Rattle.std.specs.Prelude.{filter, nat_lt, nat_le}
 use Rattle.std.proofs.lemmas.Option.{same_Some}
 use Rattle.overlay_laws.specs.Walks.{spans}
-use Rattle.file_domains.specs.Rounds.{windows_of}
-use Rattle.file_domains.proofs.CoverParts.{cover_rises, begun_low, begun_high}
+use Rattle.file_domains.specs.Rounds.{round_windows}
+use Rattle.file_domains.proofs.CoverParts.{cover_rises, front_low, front_high}
 use Rattle.file_domains.proofs.WalkSteps.{begin_windows, told_windows, left_from}
 use Rattle.file_domains.proofs.walk.windows.Goals as goal
 use Rattle.file_domains.proofs.walk.windows.Goals.{in-Some, in-None}
 
-pub begun_by-begun-requires : goal.begun_by-begun-requires
-begun_by-begun-requires c = λ i j d. cover_rises c.args.cover.now c.args.domain.at i j d c.requires.cover
+pub begins_by-count-requires : goal.begins_by-count-requires
+begins_by-count-requires c = λ i j d. cover_rises c.args.cover.now c.args.domain.at i j d c.requires.cover
 
 pub past-cover-requires-clause-before : goal.past-cover-requires-clause-before
-past-cover-requires-clause-before c = begun_low c.args.cover.now c.args.domain.at c.begun_by-begun.result c.begun_by-begun.ensures.point.0
+past-cover-requires-clause-before c = front_low c.args.cover.now c.args.domain.at c.begins_by-count.result c.begins_by-count.ensures.point.0
 
 pub past-cover-requires-clause-after : goal.past-cover-requires-clause-after
-past-cover-requires-clause-after c = begun_high c.args.cover.now c.args.domain.at c.begun_by-begun.result c.begun_by-begun.ensures.point.1
+past-cover-requires-clause-after c = front_high c.args.cover.now c.args.domain.at c.begins_by-count.result c.begins_by-count.ensures.point.1
 
 begins : (c : goal.Joined-front) → (e : Extent) → slice_get c.past-cover.result.now 0 ≡ Some e → c.match-front.first ≡ max e.at c.args.domain.at
 begins c =
@@ -33,7 +33,7 @@ returns-clause-windows c =
     ∙ begin_windows c.args.size c.args.domain.at c.match-front.first (c.args.domain.at + c.args.domain.len) (2 ^ 64 - 1) c.past-cover.result.now c.requires.size
     c.past-cover.ensures.cover c.past-cover.ensures.ends (omega arith) c.past-cover.ensures.past
     (begins c)
-    ∙ ap (λ (b : List ℕ). windows_of c.args.size (filter (λ y. nat_lt y (c.args.domain.at + c.args.domain.len)) b)) c.past-cover.ensures.bytes
+    ∙ ap (λ (b : List ℕ). round_windows c.args.size (filter (λ y. nat_lt y (c.args.domain.at + c.args.domain.len)) b)) c.past-cover.ensures.bytes
 
 pub returns-clause-ready : goal.returns-clause-ready
 returns-clause-ready c = record { cover = c.past-cover.ensures.cover; ends = c.past-cover.ensures.ends; left = left_from c.args.domain.at c.match-front.first c.past-cover.result.now c.past-cover.ensures.cover c.past-cover.ensures.past (begins c); first = omega arith; size = c.requires.size }

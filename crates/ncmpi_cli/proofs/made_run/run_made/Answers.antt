@@ -1,13 +1,15 @@
-use Rattle.std.proofs.Common.{◌≡◌, ◌∙◌, ap, inl, inr, refl, subst, sym, true, List, ℕ, Some, rules}
+use Rattle.std.proofs.Common.{◌≡◌, ◌∙◌, [], ap, inl, inr, refl, subst, sym, true, ℕ, Some, arith, rules}
 use Rattle.std.specs.Prelude.{Err}
 use Rattle.nc_base.specs.declared.run.RunEnd.{RunEnd}
 use Rattle.nc_base.specs.declared.script.Script.{Script}
 use Rattle.nc_base.specs.declared.step.StepErr.TheVariants as fault
 use Rattle.dataset_start.specs.declared.stop.Stop.{Stop}
 use Rattle.serial_spec.specs.Lawful.{is_lawful}
-use Rattle.script_spec.specs.Generator.{has_counts, summary_text}
+use Rattle.script_spec.specs.Generator.{has_counts}
 use Rattle.ncmpi_cli.proofs.CutOff.{made_cut}
 use Rattle.ncmpi_cli.proofs.Made.{made_begins, made_begins_none, made_counts, made_kept, made_ran, made_status, made_wants}
+use Rattle.ncmpi_cli.proofs.Reading.{told_by_no_text}
+use Rattle.ncmpi_cli.proofs.Telling.{made_end, no_disk, whole_or_memory}
 use Rattle.ncmpi_cli.proofs.made_run.run_made.Goals as goal
 use Rattle.nc_outside.proofs.ToldLaws.{rose_before}
 
@@ -18,102 +20,106 @@ run_ranks-end-requires-clause-lawful g c =
 pub sum_up-requires-clause-counted : goal.sum_up-requires-clause-counted
 sum_up-requires-clause-counted g c = subst (λ (s : Script). has_counts s ≡ true) (sym c.in-Ok.ensures.script) (made_counts c.args.seed c.args.size)
 
+-- ---- where the ranks didn't begin
+
 pub returns-in-Err-clause-statuses : goal.returns-in-Err-clause-statuses
 returns-in-Err-clause-statuses g c = made_status c.in-Err.stop c.tell.result.status c.tell.ensures.status c.in-Err.ensures.only c.in-Err.ensures.laid
 
-pub returns-in-Err-clause-complete : goal.returns-in-Err-clause-complete
-returns-in-Err-clause-complete g c = λ sink disk.
-    made_wants c.in-Err.stop c.tell.result.status c.tell.ensures.status c.in-Err.ensures.only c.in-Err.ensures.laid
-    (λ x. disk (c.in-Err.ensures.disk (ap (λ (s : Stop). Err s) x)))
-
-pub returns-in-None-clause-well : goal.returns-in-None-clause-well
-returns-in-None-clause-well g c = λ ended.
-    let script : Script = c.in-Ok.begun.script in
-    let end : RunEnd = c.run_ranks-end.result in
-    let run = c.run_ranks-end.ensures.run in
-    let text : List ℕ = summary_text c.args.seed c.args.size script (record c.in-Ok.begun.header { records = c.run_ranks-end.new.records }) end.order end.answers in
+pub returns-in-Err-clause-ends : goal.returns-in-Err-clause-ends
+returns-in-Err-clause-ends g c =
+    let stop : Stop = c.in-Err.stop in
+    let status : ℕ = c.tell.result.status in
+    let told = c.tell.ensures.status in
+    let own = c.in-Err.ensures in
+    let none : c.tell.result.order ≡ [] = c.tell.ensures.order ∙ c.new.ensures in
     record {
-      text = text;
-      ran = made_ran c.args.seed c.args.size script c.in-Ok.begun.header _ (g.D.Disk.held c.begin_made.new.disk) _ _ (g.D.Disk.calls c.begin_made.new.disk) _ c.sum_up.result.order end.order
-          c.run_ranks-end.new.records end.answers end.pending text c.in-Ok.ensures.script c.in-Ok.ensures.ready c.sum_up.ensures.order
-          (run.legal c.in-None.is) (run.bytes c.in-None.is) (run.records c.in-None.is) (run.answers c.in-None.is) (run.pending c.in-None.is) (run.calls c.in-None.is) refl;
-      given = c.sum_up.ensures.whole ended;
+      statuses = made_status stop status told own.only own.laid;
+      well = λ s. absurd (told_by_no_text stop status told (inl s));
+      cut = λ s. absurd (told_by_no_text stop status told (inr s));
+      complete = λ _ disk. made_wants stop status told own.only own.laid (λ x. disk (own.disk (ap (λ (s : Stop). Err s) x)));
+      steps = made_begins_none c.args.seed c.args.size c.tell.result.order none;
+      torn = λ _. inl (none, own.torn);
+      wanting = λ _. inl (inl (none, own.torn));
     }
 
-pub returns-in-None-clause-cut : goal.returns-in-None-clause-cut
-returns-in-None-clause-cut g c = λ ended.
-    let script : Script = c.in-Ok.begun.script in
+-- ---- where their run ended without a fault
+
+pub returns-in-None-clause-ends : goal.returns-in-None-clause-ends
+returns-in-None-clause-ends g c =
+    let seed : ℕ = c.args.seed in
+    let size : ℕ = c.args.size in
+    let mid = g.D.Disk.held c.begin_made.new.disk in
+    let calls = g.D.Disk.calls c.begin_made.new.disk in
+    let own = c.in-Ok.ensures in
     let end : RunEnd = c.run_ranks-end.result in
     let run = c.run_ranks-end.ensures.run in
-    let text : List ℕ = summary_text c.args.seed c.args.size script (record c.in-Ok.begun.header { records = c.run_ranks-end.new.records }) end.order end.answers in
-    let given = c.sum_up.ensures.front ended in
+    let summed = c.sum_up.ensures in
+    let status : ℕ = c.sum_up.result.status in
+    let did = made_ran seed size c.in-Ok.ready.script c.in-Ok.ready.header
+        (record { held = g.D.Disk.held c.args.disk.now; calls = g.D.Disk.calls c.args.disk.now; disk_faults = g.D.Disk.faults c.args.disk.now; given = g.K.Sink.given c.args.out.now; sink_faults = g.K.Sink.faults c.args.out.now })
+        (record { held = g.D.Disk.held c.run_ranks-end.new.disk; calls = g.D.Disk.calls c.run_ranks-end.new.disk; disk_faults = g.D.Disk.faults c.run_ranks-end.new.disk; given = g.K.Sink.given c.sum_up.new.out; sink_faults = g.K.Sink.faults c.sum_up.new.out })
+        mid calls _ _ c.run_ranks-end.new.records end c.sum_up.result.order own.script own.ready summed.order run c.in-None.is in
     record {
-      text = text;
-      count = given.0;
-      ran = made_ran c.args.seed c.args.size script c.in-Ok.begun.header _ (g.D.Disk.held c.begin_made.new.disk) _ _ (g.D.Disk.calls c.begin_made.new.disk) _ c.sum_up.result.order end.order
-          c.run_ranks-end.new.records end.answers end.pending text c.in-Ok.ensures.script c.in-Ok.ensures.ready c.sum_up.ensures.order
-          (run.legal c.in-None.is) (run.bytes c.in-None.is) (run.records c.in-None.is) (run.answers c.in-None.is) (run.pending c.in-None.is) (run.calls c.in-None.is) refl;
-      given = given.1;
+      statuses = made_end status summed.statuses;
+      well = λ s. record { text = _; ran = did; given = summed.whole s };
+      cut = λ s. record { text = _; count = (summed.front s).0; ran = did; given = (summed.front s).1 };
+      complete = λ sink _. whole_or_memory status summed.statuses (λ s. sink (summed.sink s));
+      steps = made_begins seed size c.in-Ok.ready.script _ end.order own.script summed.order run.begun;
+      torn = λ s. no_disk status summed.statuses s;
+      wanting = λ _. inr (_, did);
     }
+
+-- ---- where the disk failed
 
 pub returns-in-Some-Disk-clause-disk : goal.returns-in-Some-Disk-clause-disk
 returns-in-Some-Disk-clause-disk g c = λ _.
     let failed : c.run_ranks-end.result.fault ≡ Some fault.Disk = search rules in
     rose_before _ (g.D.Disk.faults c.begin_made.new.disk) _ c.in-Ok.ensures.later (c.run_ranks-end.ensures.run.fault failed)
 
-pub returns-in-Some-Disk-clause-complete : goal.returns-in-Some-Disk-clause-complete
-returns-in-Some-Disk-clause-complete g c = λ sink disk.
-    let failed : c.run_ranks-end.result.fault ≡ Some fault.Disk = search rules in
-    absurd (disk (rose_before _ (g.D.Disk.faults c.begin_made.new.disk) _ c.in-Ok.ensures.later (c.run_ranks-end.ensures.run.fault failed)))
-
--- ---- the steps so far
-
-pub returns-in-Err-clause-steps : goal.returns-in-Err-clause-steps
-returns-in-Err-clause-steps g c = made_begins_none c.args.seed c.args.size c.tell.result.order (c.tell.ensures.order ∙ c.new.ensures)
-
-pub returns-in-None-clause-steps : goal.returns-in-None-clause-steps
-returns-in-None-clause-steps g c =
-    made_begins c.args.seed c.args.size c.in-Ok.begun.script _ c.run_ranks-end.result.order c.in-Ok.ensures.script c.sum_up.ensures.order c.run_ranks-end.ensures.run.begun
-
-pub returns-in-Some-Disk-clause-steps : goal.returns-in-Some-Disk-clause-steps
-returns-in-Some-Disk-clause-steps g c =
-    made_begins c.args.seed c.args.size c.in-Ok.begun.script _ c.run_ranks-end.result.order c.in-Ok.ensures.script c.tell-in-Some-Disk.ensures.order c.run_ranks-end.ensures.run.begun
-
-pub returns-clause-steps : goal.returns-clause-steps
-returns-clause-steps g c =
-    made_begins c.args.seed c.args.size c.in-Ok.begun.script _ c.run_ranks-end.result.order c.in-Ok.ensures.script c.tell-in-Some-Memory.ensures.order c.run_ranks-end.ensures.run.begun
-
--- ---- where the run ended early
-
-pub returns-in-Err-clause-torn : goal.returns-in-Err-clause-torn
-returns-in-Err-clause-torn g c = λ _. inl (c.tell.ensures.order ∙ c.new.ensures, c.in-Err.ensures.torn)
-
-pub returns-in-Err-clause-wanting : goal.returns-in-Err-clause-wanting
-returns-in-Err-clause-wanting g c = λ _. inl (inl (c.tell.ensures.order ∙ c.new.ensures, c.in-Err.ensures.torn))
-
-pub returns-in-None-clause-wanting : goal.returns-in-None-clause-wanting
-returns-in-None-clause-wanting g c = λ _.
-    let script : Script = c.in-Ok.begun.script in
+pub returns-in-Some-Disk-clause-ends : goal.returns-in-Some-Disk-clause-ends
+returns-in-Some-Disk-clause-ends g c =
+    let seed : ℕ = c.args.seed in
+    let size : ℕ = c.args.size in
+    let mid = g.D.Disk.held c.begin_made.new.disk in
+    let calls = g.D.Disk.calls c.begin_made.new.disk in
+    let own = c.in-Ok.ensures in
     let end : RunEnd = c.run_ranks-end.result in
     let run = c.run_ranks-end.ensures.run in
-    let text : List ℕ = summary_text c.args.seed c.args.size script (record c.in-Ok.begun.header { records = c.run_ranks-end.new.records }) end.order end.answers in
-    inr (
-      text,
-      made_ran c.args.seed c.args.size script c.in-Ok.begun.header _ (g.D.Disk.held c.begin_made.new.disk) _ _ (g.D.Disk.calls c.begin_made.new.disk) _ c.sum_up.result.order end.order
-          c.run_ranks-end.new.records end.answers end.pending text c.in-Ok.ensures.script c.in-Ok.ensures.ready c.sum_up.ensures.order
-          (run.legal c.in-None.is) (run.bytes c.in-None.is) (run.records c.in-None.is) (run.answers c.in-None.is) (run.pending c.in-None.is) (run.calls c.in-None.is) refl,
-    )
-
-pub returns-in-Some-Disk-clause-torn : goal.returns-in-Some-Disk-clause-torn
-returns-in-Some-Disk-clause-torn g c = λ _.
+    let same = c.tell-in-Some-Disk.ensures.order in
+    let is : c.tell-in-Some-Disk.result.status ≡ 7 = c.tell-in-Some-Disk.ensures.fixed refl in
     let failed : c.run_ranks-end.result.fault ≡ Some fault.Disk = search rules in
-    inr (made_cut c.args.seed c.args.size fault.Disk c.in-Ok.begun.script c.in-Ok.begun.header (g.D.Disk.held c.args.disk.now) (g.D.Disk.held c.begin_made.new.disk) (g.D.Disk.held c.run_ranks-end.new.disk) (g.D.Disk.calls c.args.disk.now)
-    (g.D.Disk.calls c.begin_made.new.disk) c.tell-in-Some-Disk.result.order c.run_ranks-end.new.records c.run_ranks-end.result c.in-Ok.ensures.script
-    c.in-Ok.ensures.ready c.tell-in-Some-Disk.ensures.order failed c.run_ranks-end.ensures.run.cut)
+    record {
+      statuses = inr (inr (inl is));
+      well = λ s. absurd (omega (arith, is, s));
+      cut = λ s. absurd (omega (arith, is, s));
+      complete = λ _ disk. absurd (disk (rose_before _ (g.D.Disk.faults c.begin_made.new.disk) _ own.later (run.fault failed)));
+      steps = made_begins seed size c.in-Ok.ready.script _ end.order own.script same run.begun;
+      torn = λ _. inr (made_cut seed size fault.Disk c.in-Ok.ready.script c.in-Ok.ready.header _ _ mid calls c.tell-in-Some-Disk.result.order c.run_ranks-end.new.records end
+          own.script own.ready same failed run.cut);
+      wanting = λ s. absurd (omega (arith, is, s));
+    }
 
-pub returns-clause-wanting : goal.returns-clause-wanting
-returns-clause-wanting g c = λ _.
+-- ---- where memory was wanting
+
+pub returns-clause-ends : goal.returns-clause-ends
+returns-clause-ends g c =
+    let seed : ℕ = c.args.seed in
+    let size : ℕ = c.args.size in
+    let mid = g.D.Disk.held c.begin_made.new.disk in
+    let calls = g.D.Disk.calls c.begin_made.new.disk in
+    let own = c.in-Ok.ensures in
+    let end : RunEnd = c.run_ranks-end.result in
+    let run = c.run_ranks-end.ensures.run in
+    let same = c.tell-in-Some-Memory.ensures.order in
+    let is : c.tell-in-Some-Memory.result.status ≡ 8 = (c.tell-in-Some-Memory.ensures.unlined refl).0 in
     let failed : c.run_ranks-end.result.fault ≡ Some fault.Memory = search rules in
-    inl (inr (made_cut c.args.seed c.args.size fault.Memory c.in-Ok.begun.script c.in-Ok.begun.header (g.D.Disk.held c.args.disk.now) (g.D.Disk.held c.begin_made.new.disk) (g.D.Disk.held c.run_ranks-end.new.disk) (g.D.Disk.calls c.args.disk.now)
-    (g.D.Disk.calls c.begin_made.new.disk) c.tell-in-Some-Memory.result.order c.run_ranks-end.new.records c.run_ranks-end.result c.in-Ok.ensures.script
-    c.in-Ok.ensures.ready c.tell-in-Some-Memory.ensures.order failed c.run_ranks-end.ensures.run.cut))
+    record {
+      statuses = inr (inr (inr is));
+      well = λ s. absurd (omega (arith, is, s));
+      cut = λ s. absurd (omega (arith, is, s));
+      complete = λ _ _. inr is;
+      steps = made_begins seed size c.in-Ok.ready.script _ end.order own.script same run.begun;
+      torn = λ s. absurd (omega (arith, is, s));
+      wanting = λ _. inl (inr (made_cut seed size fault.Memory c.in-Ok.ready.script c.in-Ok.ready.header _ _ mid calls c.tell-in-Some-Memory.result.order
+          c.run_ranks-end.new.records end own.script own.ready same failed run.cut));
+    }

@@ -1,7 +1,7 @@
 use Rattle.std.proofs.Common.{◌≡◌, ◌∙◌, ap, subst, sym, take, List, ℕ, Option, Some, rules}
 use Rattle.nc_outside.specs.Told.{with_end}
 use Rattle.ncmpi_cli.specs.Readings.{whole_text}
-use Rattle.ncmpi_cli.specs.declared.watched_run.Seen.{Seen}
+use Rattle.ncmpi_cli.specs.declared.watched_run.RunReadings.{RunReadings}
 use Rattle.ncmpi_cli.proofs.report.finish.Goals as goal
 
 pub returns-in-Ok-clause-front : goal.returns-in-Ok-clause-front
@@ -11,5 +11,5 @@ returns-in-Ok-clause-front g c = λ ended.
     let text : c.as_slice.result.now ≡ whole_text c.args.script.now c.args.header.now c.args.opening c.args.run =
     c.as_slice.ensures
     ∙ c.in-Ok.ensures
-    ∙ ap (λ (s : Option Seen). whole_text c.args.script.now c.args.header.now c.args.opening (record { end = c.args.run.end; seen = s })) (sym seen) in
+    ∙ ap (λ (s : Option RunReadings). whole_text c.args.script.now c.args.header.now c.args.opening (record { end = c.args.run.end; seen = s })) (sym seen) in
     (given.0, subst (λ (t : List ℕ). g.K.Sink.given c.give.new.out ≡ with_end (g.K.Sink.given c.args.out.now) (take given.0 t)) text given.1)

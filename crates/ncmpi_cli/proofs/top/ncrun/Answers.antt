@@ -9,25 +9,10 @@ use Rattle.ncmpi_cli.proofs.top.ncrun.Goals as goal
 
 pub returns-in-Ok-Some-Run-clause-ends : goal.returns-in-Ok-Some-Run-clause-ends
 returns-in-Ok-Some-Run-clause-ends g c =
-    let run_is = c.run_script.ensures in
     let own = c.in-Ok-Some-Run in
     let is : own.field-0 ≡ Some (form.Run own.watchers own.dataset) = search rules in
     ends (form_of (texts c.args.words.now)) (Some (run own.watchers own.dataset.now)) _ _ _ _ _ (sym (ap (option_map asked_of) is) ∙ own.ensures.asked)
-    (record {
-      well = run_is.ok;
-      cut = run_is.front;
-      script = run_is.script;
-      dataset = run_is.dataset;
-      refused = run_is.refused;
-      faulty = run_is.faulty;
-      complete = run_is.complete;
-      steps = run_is.steps;
-      began = run_is.began;
-      unread = run_is.unread;
-      unfit = run_is.unfit;
-      torn = run_is.torn;
-      wanting = run_is.wanting;
-    })
+    c.run_script.ensures.ends
 
 pub returns-in-Ok-Some-Offsets-clause-ends : goal.returns-in-Ok-Some-Offsets-clause-ends
 returns-in-Ok-Some-Offsets-clause-ends g c =
@@ -48,19 +33,10 @@ returns-in-Ok-Some-Offsets-clause-ends g c =
 
 pub returns-in-Ok-Some-Generate-clause-ends : goal.returns-in-Ok-Some-Generate-clause-ends
 returns-in-Ok-Some-Generate-clause-ends g c =
-    let made = c.run_made.ensures in
     let own = c.in-Ok-Some-Generate in
     let is : own.field-0 ≡ Some (form.Generate own.seed own.size own.dataset) = search rules in
     ends (form_of (texts c.args.words.now)) (Some (generate own.seed own.size own.dataset.now)) _ _ _ _ _ (sym (ap (option_map asked_of) is) ∙ own.ensures.asked)
-    (record {
-      statuses = made.statuses;
-      well = made.well;
-      cut = made.cut;
-      complete = made.complete;
-      steps = made.steps;
-      torn = made.torn;
-      wanting = made.wanting;
-    })
+    c.run_made.ensures.ends
 
 -- words of no form
 pub returns-in-Ok-None-clause-ends : goal.returns-in-Ok-None-clause-ends

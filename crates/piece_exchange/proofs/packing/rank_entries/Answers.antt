@@ -2,7 +2,7 @@
 use Rattle.std.proofs.Common.{◌≡◌, ◌∙◌, ◌+◌, ◌++◌, ap, sym, get_or, Bool, true, false, ◌&&◌, vec_capacity}
 use Rattle.std.proofs.lemmas.Bool.{lt-ltb, le-ltb}
 use Rattle.std.proofs.lemmas.List.{append-nil}
-use Rattle.data_sieving.proofs.SplitSteps.{entry_ends}
+use Rattle.aggregator_rounds.proofs.SplitSteps.{entry_ends}
 use Rattle.piece_exchange.specs.Feeds.{goes_in, no_entry, one_ranked}
 use Rattle.piece_exchange.specs.Pieces.{meets}
 use Rattle.piece_exchange.proofs.OrderLaws.{few_more, ranked_more}

@@ -3,7 +3,7 @@ use Rattle.std.proofs.Common.{◌+◌, ◌∙◌, sym, ap, length, List}
 use Rattle.std.proofs.lemmas.List.{take_all}
 use Rattle.std.specs.Prelude.{filter}
 use Rattle.nc_base.specs.declared.plan.Owned.{Owned}
-use Rattle.data_sieving.proofs.SplitSteps.{entry_ends}
+use Rattle.aggregator_rounds.proofs.SplitSteps.{entry_ends}
 use Rattle.aggregator_rounds.specs.Pieces.{told_window}
 use Rattle.piece_exchange.proofs.PieceLaws.{of_some_rank, pieces_many}
 use Rattle.piece_exchange.proofs.pieces.piece_count.Goals as goal

@@ -1,4 +1,4 @@
-use Rattle.std.proofs.Common.{List, ℕ, ◌+◌, ◌++◌, codes, decimal}
+use Rattle.std.proofs.Common.{◌≡◌, List, ℕ, ◌+◌, ◌++◌, arith, codes, decimal}
 use Rattle.serial_spec.specs.Layout.{slab}
 use Rattle.script_spec.specs.Texts.{text_line}
 use Rattle.printed_text.specs.Offsets.{title_line}
@@ -14,7 +14,8 @@ returns c =
     let begin : List ℕ = text_line (codes "    start file offset = " ++ decimal v.begin) in
     let end : List ℕ = text_line (codes "    end file offset = " ++ decimal (v.begin + slab h v)) in
     let size : List ℕ = text_line (codes "    size in bytes = " ++ decimal (slab h v)) in
-    let third = rw c.size_of-size.ensures at c.in_ok-push_number_line-2.ensures in
-    let last = rw c.size_of-size.ensures at c.in_ok-push_number_line-3.ensures in
+    let whole : c.slab_of-size.result ≡ slab h v = omega (arith, c.slab_of-size.ensures, c.requires) in
+    let third = rw whole at c.in_ok-push_number_line-2.ensures in
+    let last = rw whole at c.in_ok-push_number_line-3.ensures in
     then_append o _ _ (title ++ begin ++ end) size
     (then_append o _ _ (title ++ begin) end (then_append o _ _ title begin c.in_ok-push_title.ensures c.in_ok-push_number_line.ensures) third) last

@@ -11,5 +11,5 @@ loop-k-preserved c = bytes_more c.args.kind c.args.values.now c.loop-k.bytes.ite
 pub returns : goal.returns
 returns c =
     let values = c.args.values.now in
-    let whole : c.loop-k.k ≡ count_of values = omega (arith, c.count_of-count.ensures) in
+    let whole : c.loop-k.k ≡ count_of values = omega (arith, c.len-count.ensures) in
     c.loop-k.invariant ∙ ap (λ (n : ℕ). flat_map (λ k. ext_of c.args.kind (value_at values k)) (range_with_len 0 n)) whole ∙ bytes_of_all c.args.kind values

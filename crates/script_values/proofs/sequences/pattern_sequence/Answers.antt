@@ -1,4 +1,4 @@
-use Rattle.std.proofs.Common.{◌≡◌, ◌++◌, ◌∙◌, ap, length, sym}
+use Rattle.std.proofs.Common.{◌++◌, ◌∙◌, ap, length, sym}
 use Rattle.std.specs.Prelude.{ℕ, List, Ok, Result}
 use Rattle.nc_base.proofs.BitLaws.{length_bit_steps, no_wrap}
 use Rattle.nc_base.specs.BitForms.{bit_steps}

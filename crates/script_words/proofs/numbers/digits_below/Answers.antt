@@ -1,4 +1,4 @@
-use Rattle.std.proofs.Common.{◌≡◌, ℕ, ◌<◌, ◌≤◌, ◌+◌, ◌*◌, ◌-◌, arith, length, get_or, take, suc, add-one, min}
+use Rattle.std.proofs.Common.{◌≡◌, ◌≤◌, ◌+◌, ◌*◌, ◌-◌, arith, get_or, take}
 use Rattle.script_spec.specs.ScriptWords.{digits_value}
 use Rattle.script_words.proofs.NumberLaws.{digit_at, value_more}
 use Rattle.script_words.proofs.numbers.digits_below.Goals as goal

@@ -1,6 +1,5 @@
-use Rattle.std.proofs.Common.{◌≡◌, ℕ, ◌<◌, ◌≤◌, ◌+◌, ◌*◌, ◌-◌, arith, length, get_or, None, sym, ◌∙◌}
+use Rattle.std.proofs.Common.{arith}
 use Rattle.std.proofs.lemmas.Grind.{common_steps}
-use Rattle.script_spec.specs.ScriptWords.{hex_value}
 use Rattle.script_words.proofs.NumberLaws.{sixteens-more, bad_digit}
 use Rattle.script_words.proofs.numbers.hex_number.Goals as goal
 

@@ -1,10 +1,12 @@
 -- What was put before the last item, and the last item.
 use Rattle.std.proofs.Common.{◌≡◌, ap, sym, subst, refl, ◌∙◌, [], ◌∷◌, ◌++◌, Bool, true, false, Result}
 use Rattle.nc_base.specs.declared.memory.Memory.{Memory}
+use Rattle.nc_base.specs.declared.run.RankEnd.{RankEnd}
 use Rattle.nc_base.specs.declared.run.RankStop.{RankStop}
 use Rattle.nc_base.specs.declared.run.RankStop.TheVariants as stop
 use Rattle.nc_base.specs.declared.step.RankItem.TheVariants as item
 use Rattle.thread_run.specs.RankSides.{HasAttended, HasStood}
+use Rattle.turn_run.specs.RankEnds.{runner_end}
 use Rattle.turn_run.specs.Running.{calls_of}
 use Rattle.thread_run.proofs.AttendLaws.{attended_broken, attended_through}
 use Rattle.thread_run.proofs.AttendWay.{items_more}
@@ -34,21 +36,21 @@ returns-clause-attended g c =
           let put = stood.0 ++ item.Ended false ∷ [] in (
             put,
             stood.1,
-            items_more c.args.out.now.items c.make_calls.new.out.items c.put.new.self.items stood.0 c.ended.result (item.Ended false) stood.2 c.put.ensures.items
-                (c.ended.ensures ∙ ap (λ (b : Bool). item.Ended b) (not_wanted g c w.in-Ok.end w.end-is here.stands.not_broken)),
+            items_more c.args.out.now.items c.make_calls.new.out.items c.put.new.self.items stood.0 c.last_item.result (item.Ended false) stood.2 c.put.ensures.items
+                (c.last_item.ensures ∙ ap (λ (b : Bool). item.Ended b) (not_wanted g c w.in-Ok.end w.end-is here.stands.not_broken)),
             stood.3,
-            subst (λ (end : RankStop). HasAttended header own put stood.1 (record { known = c.known.result; pending = c.pending.result; answers = runner.answers; end = end })) (sym w.end-is)
-                (attended_through header own stood.0 stood.1 runner w.in-Ok.end c.known.result c.pending.result here c.known.ensures c.pending.ensures),
+            subst (λ (x : RankEnd). HasAttended header own put stood.1 x) (sym c.into_end.ensures)
+                (subst (λ (end : RankStop). HasAttended header own put stood.1 (runner_end end runner)) (sym w.end-is) (attended_through header own stood.0 stood.1 runner w.in-Ok.end here)),
           )
       | in-Err w ↦
           let here = subst (λ (r : Result RankStop Memory). HasStood header own stood.0 stood.1 runner r) w.in-Err.is stood.4 in
           let put = stood.0 ++ item.Ended true ∷ [] in (
             put,
             stood.1,
-            items_more c.args.out.now.items c.make_calls.new.out.items c.put.new.self.items stood.0 c.ended.result (item.Ended true) stood.2 c.put.ensures.items
-                (c.ended.ensures ∙ ap (λ (b : Bool). item.Ended b) (wanted g c w.end-is)),
+            items_more c.args.out.now.items c.make_calls.new.out.items c.put.new.self.items stood.0 c.last_item.result (item.Ended true) stood.2 c.put.ensures.items
+                (c.last_item.ensures ∙ ap (λ (b : Bool). item.Ended b) (wanted g c w.end-is)),
             stood.3,
-            subst (λ (end : RankStop). HasAttended header own put stood.1 (record { known = c.known.result; pending = c.pending.result; answers = runner.answers; end = end })) (sym w.end-is)
-                (attended_broken header own stood.0 stood.1 runner _ c.known.result c.pending.result here),
+            subst (λ (x : RankEnd). HasAttended header own put stood.1 x) (sym c.into_end.ensures)
+                (subst (λ (end : RankStop). HasAttended header own put stood.1 (runner_end end runner)) (sym w.end-is) (attended_broken header own stood.0 stood.1 runner _ here)),
           )
     ]

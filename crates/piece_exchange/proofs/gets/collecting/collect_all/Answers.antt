@@ -4,8 +4,8 @@ use Rattle.std.proofs.lemmas.List.{take_all}
 use Rattle.overlay_laws.proofs.Members.{entry_in}
 use Rattle.nc_base.specs.declared.plan.Owned.{Owned}
 use Rattle.serial_spec.specs.Said.{write_cells}
-use Rattle.data_sieving.specs.Walked.{buffer_cell}
-use Rattle.data_sieving.proofs.SplitSteps.{entry_ends}
+use Rattle.aggregator_rounds.specs.EntryParts.{buffer_cell}
+use Rattle.aggregator_rounds.proofs.SplitSteps.{entry_ends}
 use Rattle.piece_exchange.specs.Blobs.{blob_at, of_request}
 use Rattle.piece_exchange.proofs.CollectLaws.{fit_as_long, collected_more, collected_long}
 use Rattle.piece_exchange.proofs.gets.collecting.collect_all.Goals as goal

@@ -1,7 +1,7 @@
 -- The blobs have the bytes of the entries so far.
 use Rattle.std.proofs.Common.{◌≡◌, ℕ, ◌+◌, take, map}
 use Rattle.serial_spec.specs.Said.{write_cells}
-use Rattle.data_sieving.specs.Walked.{buffer_cell}
+use Rattle.aggregator_rounds.specs.EntryParts.{buffer_cell}
 use Rattle.piece_exchange.specs.Blobs.{blob_at, of_request, AreAsLong}
 use Rattle.piece_exchange.proofs.gets.collecting.collect_all.Given as goal
 

@@ -1,7 +1,7 @@
 -- The blob with the entry's bytes stands in its place.
 use Rattle.std.proofs.Common.{◌+◌, ◌∙◌, ℕ, List, ap, get_or, length, set, arith}
 use Rattle.list_laws.proofs.Refills.{refilled}
-use Rattle.data_sieving.specs.Walked.{buffer_cell}
+use Rattle.aggregator_rounds.specs.EntryParts.{buffer_cell}
 use Rattle.piece_exchange.proofs.CollectLaws.{rank_in, collected}
 use Rattle.piece_exchange.proofs.gets.collecting.collect_get.Goals as goal
 

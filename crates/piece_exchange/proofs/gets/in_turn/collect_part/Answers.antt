@@ -4,7 +4,7 @@ use Rattle.file_domains.specs.Rounds.{IsWalk}
 use Rattle.file_domains.specs.declared.walk.Window.{Window}
 use Rattle.file_domains.specs.declared.walk.WindowWalk.{WindowWalk}
 use Rattle.aggregator_rounds.specs.Pieces.{told_window}
-use Rattle.data_sieving.specs.Walked.{entries_left, IsPast}
+use Rattle.aggregator_rounds.specs.Left.{entries_left, IsPast}
 use Rattle.piece_exchange.specs.Cursor.{entries_in}
 use Rattle.piece_exchange.specs.Gets.{get_turns}
 use Rattle.piece_exchange.specs.Turns.{Told, turns_ahead}

@@ -1,6 +1,6 @@
 -- The first window is the walk's next.
 use Rattle.std.proofs.Common.{◌∙◌, min, refl}
-use Rattle.data_sieving.specs.Walked.{entries_left}
+use Rattle.aggregator_rounds.specs.Left.{entries_left}
 use Rattle.piece_exchange.specs.Turns.{turns_ahead}
 use Rattle.piece_exchange.proofs.ShelfLaws.{due_next, shelf_first}
 use Rattle.piece_exchange.proofs.gets.shelf.shelf_of.Goals as goal

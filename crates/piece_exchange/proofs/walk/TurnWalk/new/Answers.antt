@@ -1,8 +1,8 @@
 -- No entry is gone.
 use Rattle.std.proofs.Common.{◌^◌, List, min, subst, sym, arith}
 use Rattle.nc_base.specs.declared.plan.Owned.{Owned}
-use Rattle.data_sieving.specs.Walked.{IsPast}
-use Rattle.data_sieving.proofs.PastSteps.{past_none}
+use Rattle.aggregator_rounds.specs.Left.{IsPast}
+use Rattle.aggregator_rounds.proofs.PastSteps.{past_none}
 use Rattle.overlay_laws.specs.Lines.{extents, EndBelow, IsByPlace}
 use Rattle.piece_exchange.specs.Hulls.{AreTurns}
 use Rattle.piece_exchange.specs.Turns.{Told, turns_ahead}

@@ -1,4 +1,4 @@
-use Rattle.std.proofs.Common.{List, ℕ, ◌+◌, ◌++◌, ap, refl, sym, ◌∙◌}
+use Rattle.std.proofs.Common.{List, ℕ, ◌+◌, ◌++◌, Bool, not, ap, refl, sym, ◌∙◌}
 use Rattle.std.proofs.lemmas.Result.{err_from_is_err_and}
 use Rattle.rank_core.specs.Looked.{ext_at}
 use Rattle.rank_core.proofs.ValueLaws.{one_unfit, still_fit, unfit_more, values_more}
@@ -11,7 +11,7 @@ loop-number-preserved c =
     record {
       bytes = c.in_ok-push_value.ensures.ok ∙ ap (λ (l : List ℕ). l ++ ext_at c.args.kind values place) c.loop-number.invariant.bytes
           ∙ sym (values_more c.args.kind values c.args.before c.loop-number.number place refl);
-      fit = still_fit _ _ _ (unfit_more c.args.kind values c.args.before c.loop-number.number place refl) c.loop-number.invariant.fit c.in_ok-push_value.ensures.right;
+      fit = still_fit _ _ _ (unfit_more c.args.kind values c.args.before c.loop-number.number place refl) c.loop-number.invariant.fit (ap (λ (b : Bool). not b) c.in_ok-push_value.ensures.right);
     }
 
 pub returns-in_err-push_value-clause-refused : goal.returns-in_err-push_value-clause-refused

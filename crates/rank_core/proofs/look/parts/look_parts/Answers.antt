@@ -9,7 +9,7 @@ use Rattle.serial_spec.specs.Limits.{most_elements}
 use Rattle.serial_spec.specs.RegionCheck.{elements_of_all, has_element, part_region}
 use Rattle.rank_core.specs.Looked.{look_of, HasValues}
 use Rattle.rank_core.proofs.OutcomeLaws.{is_error, is_refused}
-use Rattle.rank_core.proofs.TargetLaws.{parts_come, parts_empty, parts_refused, parts_short, regions_few}
+use Rattle.rank_core.proofs.TargetLaws.{all_counted, parts_come, parts_empty, parts_refused, parts_short, regions_few}
 use Rattle.rank_core.proofs.look.parts.look_parts.Goals as goal
 
 pub returns-in_err-check_parts : goal.returns-in_err-check_parts
@@ -28,20 +28,14 @@ returns-then-is_empty c =
     ∙ parts_empty c.args.target.now c.args.given.now (option_copied c.args.values) c.requires.there c.direction_of-direction.result c.direction_of-direction.ensures
     c.in_ok-check_parts.ensures.ok regions.items asked (omega (arith, none, regions.ok.0))
 
-pub elements_of_all-elements-requires : goal.elements_of_all-elements-requires
-elements_of_all-elements-requires c =
-    let regions = c.in_ok-regions.regions in
-    let asked = c.in_ok-regions.ensures ∙ ap (λ (ps : List Part). filter has_element (map (part_region c.args.target.now.var.now) ps)) c.as_slice.ensures in
-    let few = regions_few c.args.target.now c.args.given.now (option_copied c.args.values) c.requires.there c.direction_of-direction.result c.direction_of-direction.ensures
-    c.in_ok-check_parts.ensures.ok regions.items asked in
-    record { few = subst (λ (gs : List Region). elements_of_all gs ≤ most_elements) (sym c.as_slice-2.ensures.value) few }
-
 pub returns-in_err-check_values : goal.returns-in_err-check_values
 returns-in_err-check_values c =
     let regions = c.in_ok-regions.regions in
     let asked = c.in_ok-regions.ensures ∙ ap (λ (ps : List Part). filter has_element (map (part_region c.args.target.now.var.now) ps)) c.as_slice.ensures in
     let some = eqb-false _ 0 (sym c.is_empty.ensures ∙ c.if-is_empty.false) in
-    let elements = c.elements_of_all-elements.ensures ∙ ap elements_of_all c.as_slice-2.ensures.value in
+    let few = regions_few c.args.target.now c.args.given.now (option_copied c.args.values) c.requires.there c.direction_of-direction.result c.direction_of-direction.ensures
+    c.in_ok-check_parts.ensures.ok regions.items asked in
+    let elements = all_counted c.as_slice-2.result.now regions.items c.elements_of_all-elements.result c.as_slice-2.ensures.value few c.elements_of_all-elements.ensures in
     let p = err_from_is_err_and c.from_residual-in_err-check_values.result c.from_residual-in_err-check_values.ensures.1 in
     is_refused _ _ p.0 c.in_err-check_values.field-0.0 p.1 p.2
     (parts_short c.args.target.now c.args.given.now (option_copied c.args.values) c.requires.there c.direction_of-direction.result c.direction_of-direction.ensures
@@ -51,10 +45,11 @@ pub part_posts-requires : goal.part_posts-requires
 part_posts-requires c =
     let regions = c.in_ok-regions.regions in
     let asked = c.in_ok-regions.ensures ∙ ap (λ (ps : List Part). filter has_element (map (part_region c.args.target.now.var.now) ps)) c.as_slice.ensures in
-    let elements = c.elements_of_all-elements.ensures ∙ ap elements_of_all c.as_slice-2.ensures.value in
+    let few = regions_few c.args.target.now c.args.given.now (option_copied c.args.values) c.requires.there c.direction_of-direction.result c.direction_of-direction.ensures
+    c.in_ok-check_parts.ensures.ok regions.items asked in
+    let elements = all_counted c.as_slice-2.result.now regions.items c.elements_of_all-elements.result c.as_slice-2.ensures.value few c.elements_of_all-elements.ensures in
     record {
-      few = regions_few c.args.target.now c.args.given.now (option_copied c.args.values) c.requires.there c.direction_of-direction.result c.direction_of-direction.ensures
-          c.in_ok-check_parts.ensures.ok regions.items asked;
+      few = few;
       values = subst (λ (n : ℕ). HasValues c.args.target.now.var.now.kind (option_copied c.args.values) n) elements c.in_ok-check_values.ensures.right;
     }
 
@@ -63,7 +58,9 @@ returns c =
     let regions = c.in_ok-regions.regions in
     let asked = c.in_ok-regions.ensures ∙ ap (λ (ps : List Part). filter has_element (map (part_region c.args.target.now.var.now) ps)) c.as_slice.ensures in
     let some = eqb-false _ 0 (sym c.is_empty.ensures ∙ c.if-is_empty.false) in
-    let elements = c.elements_of_all-elements.ensures ∙ ap elements_of_all c.as_slice-2.ensures.value in
+    let few = regions_few c.args.target.now c.args.given.now (option_copied c.args.values) c.requires.there c.direction_of-direction.result c.direction_of-direction.ensures
+    c.in_ok-check_parts.ensures.ok regions.items asked in
+    let elements = all_counted c.as_slice-2.result.now regions.items c.elements_of_all-elements.result c.as_slice-2.ensures.value few c.elements_of_all-elements.ensures in
     parts_come c.args.target.now c.args.given.now (option_copied c.args.values) c.requires.there c.direction_of-direction.result c.direction_of-direction.ensures
     c.in_ok-check_parts.ensures.ok regions.items asked (omega (arith, some, regions.ok.0)) c.part_posts.result
     (subst (λ (n : ℕ). HasValues c.args.target.now.var.now.kind (option_copied c.args.values) n) elements c.in_ok-check_values.ensures.right)

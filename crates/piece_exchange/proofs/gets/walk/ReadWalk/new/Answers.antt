@@ -1,7 +1,7 @@
 -- No entry is gone.
 use Rattle.std.proofs.Common.{List, min, subst, sym, ◌∙◌, arith}
-use Rattle.data_sieving.specs.Walked.{entries_left}
-use Rattle.data_sieving.proofs.LoopSteps.{all_left, walk_begin}
+use Rattle.aggregator_rounds.specs.Left.{entries_left}
+use Rattle.aggregator_rounds.proofs.PastSteps.{all_left, walk_begin}
 use Rattle.piece_exchange.specs.Hulls.{AreTurns}
 use Rattle.piece_exchange.specs.Turns.{Told, turns_ahead}
 use Rattle.piece_exchange.proofs.DomainTurns.{domain_turns}

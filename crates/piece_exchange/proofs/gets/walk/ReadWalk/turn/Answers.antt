@@ -1,17 +1,17 @@
--- Those carried, and those behind them that have begun before the hull ends.
+-- Those carried, and those behind them that begin before the hull ends.
 use Rattle.std.proofs.Common.{◌+◌, ◌++◌, List, sym, subst}
 use Rattle.nc_base.specs.declared.plan.Owned.{Owned}
-use Rattle.data_sieving.specs.Walked.{entries_left}
-use Rattle.data_sieving.proofs.SplitSteps.{sorted_right}
+use Rattle.aggregator_rounds.specs.Left.{entries_left}
+use Rattle.aggregator_rounds.proofs.SplitSteps.{sorted_right}
 use Rattle.piece_exchange.specs.Cursor.{AreInFront}
 use Rattle.piece_exchange.proofs.TurnLaws.{front_carried}
 use Rattle.piece_exchange.proofs.gets.walk.ReadWalk.turn.Goals as goal
 
-pub begun-requires : goal.begun-requires
-begun-requires c = record { sorted = sorted_right c.args.self.now.entries.carried.items c.args.self.now.entries.ahead.now c.requires.sorted }
+pub ahead_before-requires : goal.ahead_before-requires
+ahead_before-requires c = record { sorted = sorted_right c.args.self.now.entries.carried.items c.args.self.now.entries.ahead.now c.requires.sorted }
 
 pub returns-clause-front : goal.returns-clause-front
 returns-clause-front c =
     let stop = c.args.window.hull.at + c.args.window.hull.len in
-    subst (λ (os : List Owned). AreInFront stop (entries_left c.args.self.now.entries) (os ++ c.begun.result.now)) (sym c.as_slice.ensures.value)
-    (front_carried stop c.args.self.now.entries.carried.items c.args.self.now.entries.ahead.now c.begun.result.now c.begun.ensures)
+    subst (λ (os : List Owned). AreInFront stop (entries_left c.args.self.now.entries) (os ++ c.ahead_before.result.now)) (sym c.as_slice.ensures.value)
+    (front_carried stop c.args.self.now.entries.carried.items c.args.self.now.entries.ahead.now c.ahead_before.result.now c.ahead_before.ensures)

@@ -1,0 +1,105 @@
+-- The bytes that entries have.
+use Rattle.std.proofs.Common.{◌≡◌, ℕ, ◌<◌, ◌≤◌, ◌⊎◌, inl, inr, refl, sym, subst, List, [], ◌∷◌, ◌++◌, arith, ◌+◌, ◌-◌, length, Bool, true, false}
+use Rattle.std.specs.List.{range_with_len}
+use Rattle.nc_base.specs.declared.plan.Owned.{Owned}
+use Rattle.overlay_laws.specs.Entries.{In, ranges}
+use Rattle.overlay_laws.specs.Hulls.{IsAscending}
+use Rattle.overlay_laws.specs.Lines.{extents, EndBelow}
+use Rattle.overlay_laws.proofs.HullLaws.{in_left, in_right, in_either, in_flat, flat_in, in_range, range_low, range_high}
+use Rattle.aggregator_rounds.specs.EntryParts.{IsCovered}
+use Rattle.aggregator_rounds.specs.Left.{IsPast, BeginBefore}
+use Rattle.aggregator_rounds.proofs.PastSteps.{past_in, past_kept}
+use Rattle.overlay_laws.proofs.EntryLaws.{in_extents}
+use Rattle.std.specs.Prelude.{nat_lt}
+use borrow.Author.Tests.{ltb-true, ltb-false}
+
+-- ---- covered bytes
+
+pub covered_left : (a b : List Owned) (x : ℕ) → IsCovered a x → IsCovered (a ++ b) x
+covered_left a b x h = record { by = h.by; inside = in_left a b h.by h.inside; low = h.low; high = h.high }
+
+pub covered_right : (a b : List Owned) (x : ℕ) → IsCovered b x → IsCovered (a ++ b) x
+covered_right a b x h = record { by = h.by; inside = in_right a b h.by h.inside; low = h.low; high = h.high }
+
+pub covered_either : (a b : List Owned) (x : ℕ) → IsCovered (a ++ b) x → IsCovered a x ⊎ IsCovered b x
+covered_either a b x h =
+    elim (in_either a b h.by h.inside) [
+      | inl g ↦ inl (record { by = h.by; inside = g; low = h.low; high = h.high })
+      | inr g ↦ inr (record { by = h.by; inside = g; low = h.low; high = h.high })
+    ]
+
+pub in_ranges : (list : List Owned) (x : ℕ) → IsCovered list x → In (ranges list) x
+in_ranges list x h =
+    in_flat (λ (o : Owned). range_with_len o.extent.at o.extent.len) list h.by x h.inside (in_range h.by.extent.at h.by.extent.len x h.low h.high)
+
+pub ranges_in : (list : List Owned) (x : ℕ) → In (ranges list) x → IsCovered list x
+ranges_in list x h =
+    let r = flat_in (λ (o : Owned). range_with_len o.extent.at o.extent.len) list x h in
+    record { by = r.0; inside = r.1; low = range_low r.0.extent.at r.0.extent.len x r.2; high = range_high r.0.extent.at r.0.extent.len x r.2 }
+
+pub covered_below : (n : ℕ) (list : List Owned) (x : ℕ) → EndBelow n (extents list) → IsCovered list x → x < n
+covered_below n list x h c =
+    let e = h c.by.extent (in_extents list c.by c.inside) in
+    let l = c.high in
+    omega arith
+
+-- ---- what is left
+
+pub past_covered : (place : ℕ) (whole left : List Owned) (x : ℕ) → IsPast place whole left → place ≤ x → IsCovered whole x → IsCovered left x
+past_covered place whole left x h l c =
+    let end = c.high in
+    record { by = c.by; inside = past_kept place whole left c.by h c.inside (omega arith); low = c.low; high = c.high }
+
+pub covered_past : (place : ℕ) (whole left : List Owned) (x : ℕ) → IsPast place whole left → IsCovered left x → IsCovered whole x
+covered_past place whole left x h c = record { by = c.by; inside = past_in place whole left c.by h c.inside; low = c.low; high = c.high }
+
+-- ---- what has front
+
+pub front_covered : (place : ℕ) (left front : List Owned) (x : ℕ) → BeginBefore place left front → x < place → IsCovered left x → IsCovered front x
+front_covered place left front x h l c =
+    elim (covered_either front h.rest x (subst (λ (w : List Owned). IsCovered w x) h.joined c)) [
+      | inl g ↦ g
+      | inr g ↦ (let e = h.later g.by g.inside in let m = g.low in absurd (omega arith))
+    ]
+
+pub covered_front : (place : ℕ) (left front : List Owned) (x : ℕ) → BeginBefore place left front → IsCovered front x → IsCovered left x
+covered_front place left front x h c = subst (λ (w : List Owned). IsCovered w x) (sym h.joined) (covered_left front h.rest x c)
+
+-- ---- how many numbers there are between two
+
+within_short : (xs : List ℕ) (a e : ℕ) → IsAscending xs → ((x : ℕ) → In xs x → (a ≤ x) × (x < e)) → length xs ≤ e - a
+within_short [] a e h k = omega arith
+within_short (x ∷ xs) a e h k =
+    let first = k x (inl refl) in
+    let low = first.0 in
+    let high = first.1 in
+    let rest = within_short xs (x + 1) e h.1 (λ y m. let l = h.0 y m in let r = k y (inr m) in let g = r.1 in (omega arith, omega arith)) in
+    omega arith
+
+pub hole_short : (xs : List ℕ) (a e y : ℕ) → IsAscending xs → ((x : ℕ) → In xs x → (a ≤ x) × (x < e)) → a ≤ y → y < e → (In xs y → ⊥) → length xs + 1 ≤ e - a
+hole_short [] a e y h k l m n = omega arith
+hole_short (x ∷ xs) a e y h k l m n =
+    by_test
+    (λ g. hole_short xs (x + 1) e y h.1 (λ z i. let low = h.0 z i in let r = k z (inr i) in let high = r.1 in (omega arith, omega arith)) (omega arith) m (λ i. n (inr i)))
+    (nat_lt y x) refl
+  where
+    after : (z : ℕ) → y < x → In (x ∷ xs) z → y + 1 ≤ z
+    after z g (inl e) = omega arith
+    after z g (inr i) = let low = h.0 z i in omega arith
+
+    apart : (t : Bool) → nat_lt x y ≡ t → x ≤ y → x < y
+    apart true f g = ltb-true _ _ f
+    apart false f g = let high : y ≤ x = ltb-false _ _ f in let same : x ≡ y = omega arith in absurd (n (inl same))
+
+    by_test : (x < y → length xs + 1 ≤ e - (x + 1)) → (t : Bool) → nat_lt y x ≡ t → length (x ∷ xs) + 1 ≤ e - a
+    by_test rest true f =
+        let g : y < x = ltb-true _ _ f in
+        let short = within_short (x ∷ xs) (y + 1) e h (λ z i. let r = k z i in (after z g i, r.1)) in
+        omega arith
+    by_test rest false f =
+        let low : x ≤ y = ltb-false _ _ f in
+        let past : x < y = apart (nat_lt x y) refl low in
+        let short = rest past in
+        let first = k x (inl refl) in
+        let begin = first.0 in
+        omega arith

@@ -1,0 +1,100 @@
+-- Entries as cells: what they say, and where they lie.
+use Rattle.std.proofs.Common.{◌≡◌, ℕ, ◌+◌, ◌-◌, ◌<◌, ◌≤◌, inl, inr, refl, sym, ◌∙◌, ap, subst, List, [], ◌∷◌, ◌++◌, length, take, drop, get_or, Bool, true, false, Option, Some, None, arith}
+use Rattle.std.proofs.lemmas.List.{map-append, length-take, length-drop}
+use Rattle.std.specs.Prelude.{map, nat_lt}
+use Rattle.std.specs.List.{enumerate_from}
+use Rattle.std.specs.Option.{option_or}
+use borrow.Author.Tests.{ltb-true, ltb-false}
+use Rattle.serial_spec.proofs.SaidLaws.{said_below, said_past, said_inside, said_append}
+use Rattle.list_laws.proofs.Optional.{neither_some, second_counts, first_counts}
+use Rattle.nc_base.specs.declared.plan.Owned.{Owned}
+use Rattle.serial_spec.specs.Said.{Cell, said_at, said_by, IsFrom, IsWithin}
+use Rattle.overlay_laws.specs.Windows.{clips, HasPlace}
+use Rattle.overlay_laws.specs.Entries.{In, Source, cell_of}
+use Rattle.overlay_laws.specs.Origins.{AreFound}
+use Rattle.overlay_laws.proofs.WindowLaws.{clips_in, said_joined}
+use Rattle.aggregator_rounds.specs.EntryParts.{IsCovered}
+use Rattle.aggregator_rounds.proofs.CoveredBytes.{covered_right}
+
+-- ---- what entries say
+
+abbrev pub entry_cells : Source → List Owned → List Cell
+entry_cells source list = map (λ o. cell_of source o) list
+
+pub entries_two : (source : Source) (a b : List Owned) (x : ℕ)
+    → said_at (said_by (entry_cells source (a ++ b))) x ≡ option_or (said_at (said_by (entry_cells source b)) x) (said_at (said_by (entry_cells source a)) x)
+entries_two source a b x =
+    ap (λ cells. said_at (said_by cells) x) (map-append (λ o. cell_of source o) a b) ∙ said_joined (entry_cells source a) (entry_cells source b) x
+
+outside : (p n x : ℕ) (b : List ℕ) → length b ≤ n → (p ≤ x → x < p + n → ⊥) → said_at (enumerate_from p b) x ≡ None
+outside p n x b l h = by_front (nat_lt x p) refl
+  where
+    by_back : (t : Bool) → nat_lt x (p + n) ≡ t → p ≤ x → said_at (enumerate_from p b) x ≡ None
+    by_back true e g = absurd (h g (ltb-true _ _ e))
+    by_back false e g = let past : p + n ≤ x = ltb-false _ _ e in said_past p b x (omega arith)
+
+    by_front : (t : Bool) → nat_lt x p ≡ t → said_at (enumerate_from p b) x ≡ None
+    by_front true e = said_below p b x (ltb-true _ _ e)
+    by_front false e = by_back (nat_lt x (p + n)) refl (ltb-false _ _ e)
+
+-- nothing is said of a byte that no entry has
+pub unsaid : (source : Source) (list : List Owned) (x : ℕ) → (IsCovered list x → ⊥) → said_at (said_by (entry_cells source list)) x ≡ None
+unsaid source [] x h = refl
+unsaid source (o ∷ list) x h =
+    said_append (enumerate_from o.extent.at (take o.extent.len (drop o.from (source o.rank o.slot)))) (said_by (entry_cells source list)) x
+    ∙ neither_some (said_at (said_by (entry_cells source list)) x) _ (unsaid source list x (λ c. h (covered_right (o ∷ []) list x c)))
+    (outside o.extent.at o.extent.len x (take o.extent.len (drop o.from (source o.rank o.slot)))
+    (omega (arith, length-take o.extent.len (drop o.from (source o.rank o.slot))))
+    (λ l k. h (record { by = o; inside = inl refl; low = l; high = k })))
+
+said_of : (source : Source) (list : List Owned) (x : ℕ) (o : Owned) → AreFound source list → In list o → o.extent.at ≤ x → x < o.extent.at + o.extent.len
+    → HasPlace (entry_cells source list) x
+said_of source [] x o f m l h = absurd m
+said_of source (p ∷ list) x o f (inr m) l h =
+    let r = said_of source list x o f.1 m l h in (
+      r.0,
+      said_append (enumerate_from p.extent.at (take p.extent.len (drop p.from (source p.rank p.slot)))) (said_by (entry_cells source list)) x
+          ∙ first_counts (said_at (said_by (entry_cells source list)) x) _ r.0 r.1,
+    )
+said_of source (p ∷ list) x o f (inl e) l h = by_rest (said_at (said_by (entry_cells source list)) x) refl
+  where
+    low : p.extent.at ≤ x
+    low = subst (λ (z : Owned). z.extent.at ≤ x) (sym e) l
+
+    high : x < p.extent.at + length (take p.extent.len (drop p.from (source p.rank p.slot)))
+    high =
+        let k : x < p.extent.at + p.extent.len = subst (λ (z : Owned). x < z.extent.at + z.extent.len) (sym e) h in
+        let room = f.0 in
+        omega (arith, length-take p.extent.len (drop p.from (source p.rank p.slot)), length-drop p.from (source p.rank p.slot))
+
+    by_rest : (r : Option ℕ) → said_at (said_by (entry_cells source list)) x ≡ r → HasPlace (entry_cells source (p ∷ list)) x
+    by_rest (Some v) g = (
+      v,
+      said_append (enumerate_from p.extent.at (take p.extent.len (drop p.from (source p.rank p.slot)))) (said_by (entry_cells source list)) x
+          ∙ first_counts (said_at (said_by (entry_cells source list)) x) _ v g,
+    )
+    by_rest None g = (
+      get_or (take p.extent.len (drop p.from (source p.rank p.slot))) (x - p.extent.at) 0,
+      said_append (enumerate_from p.extent.at (take p.extent.len (drop p.from (source p.rank p.slot)))) (said_by (entry_cells source list)) x
+          ∙ second_counts (said_at (said_by (entry_cells source list)) x) _ g
+          ∙ said_inside p.extent.at (take p.extent.len (drop p.from (source p.rank p.slot))) x 0 low high,
+    )
+
+-- a covered byte has a place in the cells of a window that has it
+pub covered_place : (source : Source) (list : List Owned) (lo hi x : ℕ) → AreFound source list → lo ≤ x → x < hi → IsCovered list x
+    → HasPlace (clips lo hi (entry_cells source list)) x
+covered_place source list lo hi x f l h c =
+    let r = said_of source list x c.by f c.inside c.low c.high in
+    (r.0, clips_in lo hi (entry_cells source list) x l h ∙ r.1)
+
+-- ---- where they lie
+
+pub entries_from : (source : Source) (list : List Owned) (lo : ℕ) → ((o : Owned) → In list o → lo ≤ o.extent.at) → IsFrom lo (entry_cells source list)
+entries_from source [] lo h = tt
+entries_from source (o ∷ list) lo h = (h o (inl refl), entries_from source list lo (λ p m. h p (inr m)))
+
+pub entries_within : (source : Source) (list : List Owned) (n : ℕ) → ((o : Owned) → In list o → o.extent.at + o.extent.len ≤ n) → IsWithin (entry_cells source list) n
+entries_within source [] n h = tt
+entries_within source (o ∷ list) n h =
+    let end = h o (inl refl) in
+    (omega (arith, length-take o.extent.len (drop o.from (source o.rank o.slot))), entries_within source list n (λ p m. h p (inr m)))

@@ -1,0 +1,130 @@
+-- Parts of entries, and entries laid over a buffer one by one.
+use Rattle.std.proofs.Common.{◌≡◌, ℕ, zero, suc, ◌+◌, ◌-◌, ◌<◌, ◌≤◌, refl, sym, ◌∙◌, ap, subst, List, [], ◌∷◌, length, take, drop, get_or, Bool, true, false, min, slice_get, arith, set}
+use Rattle.std.proofs.lemmas.List.{take-take, take_all, drop-drop, length-take, get_or_default}
+use Rattle.std.specs.Prelude.{nat_lt}
+use Rattle.std.proofs.lemmas.Option.{slice_get-get_or}
+use borrow.Author.Tests.{ltb-true, ltb-false}
+use Rattle.nc_base.specs.declared.plan.Owned.{Owned}
+use Rattle.nc_base.specs.declared.plan.Post.{Post}
+use Rattle.serial_spec.specs.File.{written}
+use Rattle.serial_spec.specs.Said.{Cell, write_cells, moved_down}
+use Rattle.overlay_laws.specs.Windows.{clip}
+use Rattle.overlay_laws.specs.Entries.{Source, cell_of}
+use Rattle.overlay_laws.specs.Origins.{AreFound}
+use Rattle.aggregator_rounds.specs.EntryParts.{bytes_of_post, source_of, part_at, part_in, blob_at, buffer_cell}
+
+-- ---- slices of slices
+
+take_none : {X : Type 0} (n : ℕ) → take {A = X} n [] ≡ []
+take_none zero = refl
+take_none (suc n) = refl
+
+drop_taken : {X : Type 0} (k n : ℕ) (xs : List X) → drop k (take n xs) ≡ take (n - k) (drop k xs)
+drop_taken zero n xs = let e : n ≡ n - 0 = omega arith in ap (λ (m : ℕ). take m xs) e
+drop_taken (suc k) zero xs = let e : zero ≡ zero - suc k = omega arith in ap (λ (m : ℕ). take m (drop (suc k) xs)) e
+drop_taken (suc k) (suc n) [] = sym (take_none (suc n - suc k))
+drop_taken (suc k) (suc n) (x ∷ xs) = let e : n - k ≡ suc n - suc k = omega arith in drop_taken k n xs ∙ ap (λ (m : ℕ). take m (drop k xs)) e
+
+take_least : {X : Type 0} (m n : ℕ) (xs : List X) → take m (take n xs) ≡ take (min m n) xs
+take_least {X} m n xs = by_least (nat_lt n m) refl
+  where
+    by_least : (t : Bool) → nat_lt n m ≡ t → take m (take n xs) ≡ take (min m n) xs
+    by_least true f =
+        let more : n < m = ltb-true _ _ f in
+        let same : n ≡ min m n = omega arith in
+        take_all m (take n xs) (omega (arith, length-take n xs)) ∙ ap (λ (k : ℕ). take k xs) same
+    by_least false f =
+        let less : m ≤ n = ltb-false _ _ f in
+        let same : m ≡ min m n = omega arith in
+        take-take m n xs less ∙ ap (λ (k : ℕ). take k xs) same
+
+-- ---- the part of an entry
+
+-- its bytes are those that the entry's cell has there
+pub part_bytes : (lo hi : ℕ) (o : Owned) (b : List ℕ)
+    → take (part_in lo hi o).extent.len (drop (part_in lo hi o).from b)
+    ≡ take (hi - part_at lo hi o) (drop (lo - o.extent.at) (take o.extent.len (drop o.from b)))
+part_bytes lo hi o b =
+    by_len (min (hi - part_at lo hi o) (o.extent.len - (lo - o.extent.at))) refl
+    ∙ sym (ap (λ (xs : List ℕ). take (hi - part_at lo hi o) xs) (drop_taken (lo - o.extent.at) o.extent.len (drop o.from b))
+    ∙ take_least (hi - part_at lo hi o) (o.extent.len - (lo - o.extent.at)) (drop (lo - o.extent.at) (drop o.from b))
+    ∙ ap (λ (xs : List ℕ). take (min (hi - part_at lo hi o) (o.extent.len - (lo - o.extent.at))) xs) (drop-drop (lo - o.extent.at) o.from b))
+  where
+    long : (part_in lo hi o).extent.len ≡ min (hi - part_at lo hi o) (o.extent.len - (lo - o.extent.at))
+    long = omega arith
+
+    by_len : (m : ℕ) → min (hi - part_at lo hi o) (o.extent.len - (lo - o.extent.at)) ≡ m
+        → take (part_in lo hi o).extent.len (drop (part_in lo hi o).from b)
+        ≡ take (min (hi - part_at lo hi o) (o.extent.len - (lo - o.extent.at))) (drop (o.from + (lo - o.extent.at)) b)
+    by_len zero e =
+        ap (λ (k : ℕ). take k (drop (part_in lo hi o).from b)) (long ∙ e)
+        ∙ sym (ap (λ (k : ℕ). take k (drop (o.from + (lo - o.extent.at)) b)) e)
+    by_len (suc m) e =
+        let begin : (part_in lo hi o).from ≡ o.from + (lo - o.extent.at) = omega arith in
+        ap (λ (k : ℕ). take (part_in lo hi o).extent.len (drop k b)) begin
+        ∙ ap (λ (k : ℕ). take k (drop (o.from + (lo - o.extent.at)) b)) long
+
+-- ---- a post's bytes
+
+pub slot_in : (posts : List Post) (slot : ℕ) → 1 ≤ length (bytes_of_post (slice_get posts slot)) → slot < length posts
+slot_in [] slot h = absurd (omega arith)
+slot_in (p ∷ posts) zero h = omega arith
+slot_in (p ∷ posts) (suc slot) h = let l = slot_in posts slot h in omega arith
+
+pub slot_bytes : (posts : List Post) (slot : ℕ) (p : Post) → slot < length posts → (get_or posts slot p).bytes ≡ bytes_of_post (slice_get posts slot)
+slot_bytes posts slot p l = sym (ap bytes_of_post (slice_get-get_or posts slot p l))
+
+-- the bytes of the post that an entry names
+pub found_bytes : (posts given : List Post) (o : Owned) (p : Post) (bytes : List ℕ) → 1 ≤ o.extent.len → o.from + o.extent.len ≤ length (source_of posts o.rank o.slot)
+    → given ≡ posts → bytes ≡ (get_or given o.slot p).bytes → bytes ≡ source_of posts o.rank o.slot
+found_bytes posts given o p bytes some room e of =
+    of ∙ ap (λ (ps : List Post). (get_or ps o.slot p).bytes) e ∙ slot_bytes posts o.slot p (slot_in posts o.slot (omega arith))
+
+pub found_at : (source : Source) (list : List Owned) (i : ℕ) (d : Owned) → i < length list → AreFound source list
+    → (get_or list i d).from + (get_or list i d).extent.len ≤ length (source (get_or list i d).rank (get_or list i d).slot)
+found_at source [] i d l f = absurd (omega arith)
+found_at source (o ∷ list) zero d l f = f.0
+found_at source (o ∷ list) (suc i) d l f = found_at source list i d (omega arith) f.1
+
+-- the part of an entry laid over a buffer is its cell in the window
+pub laid_entry : (lo hi : ℕ) (source : Source) (o p : Owned) (post bytes buf now : List ℕ) → p ≡ part_in lo hi o → bytes ≡ take p.extent.len (drop p.from post)
+    → post ≡ source o.rank o.slot → now ≡ written buf (p.extent.at - lo) bytes → now ≡ write_cells buf (moved_down lo (clip lo hi (cell_of source o) ∷ []))
+laid_entry lo hi source o p post bytes buf now part is of laid =
+    laid
+    ∙ ap (λ (b : List ℕ). written buf (p.extent.at - lo) b) (is ∙ ap (λ (b : List ℕ). take p.extent.len (drop p.from b)) of)
+    ∙ ap (λ (q : Owned). written buf (q.extent.at - lo) (take q.extent.len (drop q.from (source o.rank o.slot)))) part
+    ∙ ap (λ (b : List ℕ). written buf (part_at lo hi o - lo) b) (part_bytes lo hi o (source o.rank o.slot))
+
+-- a part lies in its window, and in its entry's bytes
+pub part_high : (lo n : ℕ) (o p : Owned) → p ≡ part_in lo (lo + n) o → (lo ≤ p.extent.at) × (p.extent.at - lo + p.extent.len ≤ n) × (p.from + p.extent.len ≤ o.from + o.extent.len)
+part_high lo n o p e =
+    subst (λ (q : Owned). (lo ≤ q.extent.at) × (q.extent.at - lo + q.extent.len ≤ n) × (q.from + q.extent.len ≤ o.from + o.extent.len)) (sym e)
+    (omega arith, omega arith, omega arith)
+
+-- ---- one entry more
+
+-- the cells of entries in a window, as the buffer sees them
+abbrev pub laid_cell : Source → ℕ → ℕ → Owned → Cell
+laid_cell source lo hi o = ((clip lo hi (cell_of source o)).0 - lo, (clip lo hi (cell_of source o)).1)
+
+-- ---- the part of an entry that goes into its blob
+
+blob_in : (blobs : List (List ℕ)) (slot : ℕ) → 1 ≤ length (blob_at blobs slot) → slot < length blobs
+blob_in [] slot h = absurd (omega arith)
+blob_in (b ∷ blobs) zero h = omega arith
+blob_in (b ∷ blobs) (suc slot) h = let l = blob_in blobs slot h in omega arith
+
+pub slot_below : (blobs : List (List ℕ)) (o : Owned) → 1 ≤ o.extent.len → o.from + o.extent.len ≤ length (blob_at blobs o.slot) → o.slot < length blobs
+slot_below blobs o h k = blob_in blobs o.slot (omega arith)
+
+-- the bytes of an entry's part put into its blob
+pub collected_entry : (lo hi : ℕ) (buf : List ℕ) (o p : Owned) (blobs : List (List ℕ)) (d taken bytes now : List ℕ) → 1 ≤ o.extent.len
+    → o.from + o.extent.len ≤ length (blob_at blobs o.slot) → taken ≡ get_or blobs o.slot d → p ≡ part_in lo hi o
+    → bytes ≡ take p.extent.len (drop (p.extent.at - lo) buf) → now ≡ written taken p.from bytes
+    → set blobs o.slot now ≡ set blobs o.slot (written (blob_at blobs o.slot) (buffer_cell lo hi buf o).0 (buffer_cell lo hi buf o).1)
+collected_entry lo hi buf o p blobs d taken bytes now some fit is part of e =
+    ap (λ (b : List ℕ). set blobs o.slot b)
+    (e
+    ∙ ap (λ (b : List ℕ). written b p.from bytes) (is ∙ get_or_default blobs o.slot d [] (slot_below blobs o some fit))
+    ∙ ap (λ (b : List ℕ). written (blob_at blobs o.slot) p.from b) of
+    ∙ ap (λ (q : Owned). written (blob_at blobs o.slot) q.from (take q.extent.len (drop (q.extent.at - lo) buf))) part)

@@ -1,0 +1,185 @@
+-- What is left of entries when some that end there or before are gone.
+use Rattle.std.proofs.Common.{◌≡◌, ℕ, ◌+◌, ◌^◌, ◌<◌, ◌≤◌, ◌⊎◌, inl, inr, refl, sym, ◌∙◌, ap, append_assoc, length, subst, Some, slice_get, List, [], ◌∷◌, ◌++◌, Bool, true, false, cond, min, arith}
+use Rattle.std.specs.Prelude.{filter, nat_lt}
+use Rattle.std.proofs.lemmas.Option.{same_Some}
+use Rattle.list_laws.proofs.Optional.{no_none_some}
+use borrow.Author.Tests.{ltb-true, ltb-false}
+use Rattle.nc_base.specs.declared.plan.Extent.{Extent}
+use Rattle.nc_base.specs.declared.plan.Owned.{Owned}
+use Rattle.overlay_laws.specs.Entries.{In, Source}
+use Rattle.overlay_laws.specs.Lines.{extents, EndBelow, IsByPlace}
+use Rattle.overlay_laws.specs.Origins.{AreFound}
+use Rattle.serial_spec.proofs.MemberLaws.{filter_in}
+use Rattle.overlay_laws.proofs.HullLaws.{in_either, in_right}
+use Rattle.aggregator_rounds.specs.Left.{filter_past, IsPast}
+
+-- ---- what is gone
+
+pub past_none : (place : ℕ) (list : List Owned) → IsPast place list list
+past_none place [] = refl
+past_none place (o ∷ list) = inr (list, refl, past_none place list)
+
+pub past_front : (place : ℕ) (front left : List Owned) → ((o : Owned) → In front o → o.extent.at + o.extent.len ≤ place) → IsPast place (front ++ left) left
+past_front place [] left h = past_none place left
+past_front place (o ∷ front) left h = inl (h o (inl refl), past_front place front left (λ p m. h p (inr m)))
+
+pub past_gone : (place : ℕ) (list rest : List Owned) (o : Owned) → o.extent.at + o.extent.len ≤ place → IsPast place (list ++ o ∷ rest) (list ++ rest)
+past_gone place [] rest o h = inl (h, past_none place rest)
+past_gone place (p ∷ list) rest o h = inr (list ++ rest, refl, past_gone place list rest o h)
+
+pub past_filter : (place : ℕ) (list rest : List Owned) → IsPast place (list ++ rest) (filter_past place list ++ rest)
+past_filter place [] rest = past_none place rest
+past_filter place (o ∷ list) rest = by_end (past_filter place list rest) (nat_lt place (o.extent.at + o.extent.len)) refl
+  where
+    by_end : IsPast place (list ++ rest) (filter_past place list ++ rest) → (t : Bool) → nat_lt place (o.extent.at + o.extent.len) ≡ t
+        → IsPast place (o ∷ (list ++ rest)) (cond t (o ∷ filter_past place list) (filter_past place list) ++ rest)
+    by_end h true e = inr (filter_past place list ++ rest, refl, h)
+    by_end h false e = inl (ltb-false _ _ e, h)
+
+pub past_twice : (p q : ℕ) (whole left later : List Owned) → p ≤ q → IsPast p whole left → IsPast q left later → IsPast q whole later
+past_twice p q [] left later l h k = subst (λ (list : List Owned). IsPast q list later) h k
+past_twice p q (o ∷ whole) left later l (inl h) k = let end = h.0 in inl (omega arith, past_twice p q whole left later l h.1 k)
+past_twice p q (o ∷ whole) left later l (inr h) k =
+    further (λ rest g. past_twice p q whole h.0 rest l h.2 g) (subst (λ (list : List Owned). IsPast q list later) h.1 k)
+  where
+    further : ((rest : List Owned) → IsPast q h.0 rest → IsPast q whole rest) → IsPast q (o ∷ h.0) later → IsPast q (o ∷ whole) later
+    further f (inl g) = inl (g.0, f later g.1)
+    further f (inr g) = inr (g.0, g.1, f g.0 g.2)
+
+pub past_later : (p q : ℕ) (whole left : List Owned) → p ≤ q → IsPast p whole left → IsPast q whole left
+past_later p q whole left l h = past_twice p q whole left left l h (past_none q left)
+
+-- what is gone doesn't count where no entry does that ends there
+pub past_same : (test : Owned → Bool) (place : ℕ) (whole left : List Owned) → ((o : Owned) → o.extent.at + o.extent.len ≤ place → test o ≡ false) → IsPast place whole left
+    → filter test whole ≡ filter test left
+past_same test place [] left out h = ap (λ (l : List Owned). filter test l) (sym h)
+past_same test place (o ∷ whole) left out (inl h) =
+    ap (λ (b : Bool). cond b (o ∷ filter test whole) (filter test whole)) (out o h.0) ∙ past_same test place whole left out h.1
+past_same test place (o ∷ whole) left out (inr h) =
+    ap (λ (l : List Owned). cond (test o) (o ∷ l) l) (past_same test place whole h.0 out h.2) ∙ ap (λ (l : List Owned). filter test l) (sym h.1)
+
+-- ---- before anything was served
+
+pub all_left : (list carried ahead : List Owned) → carried ≡ [] → ahead ≡ list → list ≡ carried ++ ahead
+all_left list carried ahead none all = sym (ap (λ (l : List Owned). l ++ ahead) none ∙ all)
+
+pub walk_begin : (list left : List Owned) → list ≡ left → IsPast 0 list left
+walk_begin list left all = subst (λ (l : List Owned). IsPast 0 list l) all (past_none 0 list)
+
+-- ---- members
+
+pub past_in : (place : ℕ) (whole left : List Owned) (o : Owned) → IsPast place whole left → In left o → In whole o
+past_in place [] left o h m = subst (λ (list : List Owned). In list o) h m
+past_in place (p ∷ whole) left o (inl h) m = inr (past_in place whole left o h.1 m)
+past_in place (p ∷ whole) left o (inr h) m =
+    elim (subst (λ (list : List Owned). In list o) h.1 m) [ inl e ↦ inl e | inr n ↦ inr (past_in place whole h.0 o h.2 n) ]
+
+pub past_kept : (place : ℕ) (whole left : List Owned) (o : Owned) → IsPast place whole left → In whole o → place < o.extent.at + o.extent.len → In left o
+past_kept place [] left o h m l = absurd m
+past_kept place (p ∷ whole) left o (inl h) (inl e) l =
+    let end : o.extent.at + o.extent.len ≤ place = subst (λ (q : Owned). q.extent.at + q.extent.len ≤ place) e h.0 in
+    absurd (omega arith)
+past_kept place (p ∷ whole) left o (inl h) (inr m) l = past_kept place whole left o h.1 m l
+past_kept place (p ∷ whole) left o (inr h) (inl e) l = subst (λ (list : List Owned). In list o) (sym h.1) (inl e)
+past_kept place (p ∷ whole) left o (inr h) (inr m) l = subst (λ (list : List Owned). In list o) (sym h.1) (inr (past_kept place whole h.0 o h.2 m l))
+
+-- the first of those behind a list
+pub ahead_in : (place : ℕ) (whole list ahead rest : List Owned) (entry : Owned) → ahead ≡ entry ∷ rest → IsPast place whole (list ++ ahead) → In whole entry
+ahead_in place whole list ahead rest entry e h =
+    past_in place whole (list ++ ahead) entry h (in_right list ahead entry (subst (λ (l : List Owned). In l entry) (sym e) (inl refl)))
+
+-- where nothing is left all end there
+pub past_all : (place : ℕ) (whole left : List Owned) (o : Owned) → left ≡ [] → IsPast place whole left → In whole o → o.extent.at + o.extent.len ≤ place
+past_all place whole left o none h m = by_end (nat_lt place (o.extent.at + o.extent.len)) refl
+  where
+    by_end : (t : Bool) → nat_lt place (o.extent.at + o.extent.len) ≡ t → o.extent.at + o.extent.len ≤ place
+    by_end true e = absurd (subst (λ (list : List Owned). In list o) none (past_kept place whole left o h m (ltb-true _ _ e)))
+    by_end false e = ltb-false _ _ e
+
+pub past_extents : (place : ℕ) (whole left : List Owned) (e : Extent) → IsPast place whole left → In (extents left) e → In (extents whole) e
+past_extents place [] left e h m = subst (λ (list : List Owned). In (extents list) e) h m
+past_extents place (p ∷ whole) left e (inl h) m = inr (past_extents place whole left e h.1 m)
+past_extents place (p ∷ whole) left e (inr h) m =
+    elim (subst (λ (list : List Owned). In (extents list) e) h.1 m) [ inl g ↦ inl g | inr n ↦ inr (past_extents place whole h.0 e h.2 n) ]
+
+pub past_sorted : (place : ℕ) (whole left : List Owned) → IsByPlace (extents whole) → IsPast place whole left → IsByPlace (extents left)
+past_sorted place [] left s h = subst (λ (list : List Owned). IsByPlace (extents list)) (sym h) tt
+past_sorted place (o ∷ whole) left s (inl h) = past_sorted place whole left s.1 h.1
+past_sorted place (o ∷ whole) left s (inr h) =
+    subst (λ (list : List Owned). IsByPlace (extents list)) (sym h.1)
+    ((λ e m. s.0 e (past_extents place whole h.0 e h.2 m)), past_sorted place whole h.0 s.1 h.2)
+
+pub past_found : (source : Source) (place : ℕ) (whole left : List Owned) → AreFound source whole → IsPast place whole left → AreFound source left
+past_found source place [] left f h = subst (λ (list : List Owned). AreFound source list) (sym h) f
+past_found source place (o ∷ whole) left f (inl h) = past_found source place whole left f.1 h.1
+past_found source place (o ∷ whole) left f (inr h) =
+    subst (λ (list : List Owned). AreFound source list) (sym h.1) (f.0, past_found source place whole h.0 f.1 h.2)
+
+-- ---- ends below 2 ^ 62
+
+pub filter_ends : (place : ℕ) (list : List Owned) → EndBelow (2 ^ 62) (extents list)
+    → filter (λ (o : Owned). nat_lt place (min (o.extent.at + o.extent.len) 18446744073709551615)) list ≡ filter_past place list
+filter_ends place [] h = refl
+filter_ends place (o ∷ list) h =
+    let end = h o.extent (inl refl) in
+    let same : min (o.extent.at + o.extent.len) 18446744073709551615 ≡ o.extent.at + o.extent.len = omega arith in
+    λ i. cond (nat_lt place (same i)) (o ∷ filter_ends place list (λ e m. h e (inr m)) i) (filter_ends place list (λ e m. h e (inr m)) i)
+
+-- ---- one entry more that a walk has passed: it ends there, or is carried
+
+abbrev pub HasPassed : ℕ → List Owned → Owned → List Owned → Type 0
+HasPassed stop carried entry now =
+    ((now ≡ carried) × (entry.extent.at + entry.extent.len ≤ stop))
+    ⊎ ((now ≡ carried ++ entry ∷ []) × (entry.extent.at < stop) × (stop < entry.extent.at + entry.extent.len))
+
+pub passed_past : (stop : ℕ) (whole carried now ahead rest : List Owned) (entry : Owned) → ahead ≡ entry ∷ rest → HasPassed stop carried entry now
+    → IsPast stop whole (carried ++ ahead) → IsPast stop whole (now ++ rest)
+passed_past stop whole carried now ahead rest entry e (inl h) p =
+    past_twice stop stop whole (carried ++ entry ∷ rest) (now ++ rest) (omega arith) (subst (λ (l : List Owned). IsPast stop whole (carried ++ l)) e p)
+    (subst (λ (l : List Owned). IsPast stop (carried ++ entry ∷ rest) (l ++ rest)) (sym h.0) (past_gone stop carried rest entry h.1))
+passed_past stop whole carried now ahead rest entry e (inr h) p =
+    subst (λ (l : List Owned). IsPast stop whole l) (sym (ap (λ (l : List Owned). l ++ rest) h.0 ∙ append_assoc carried (entry ∷ []) rest))
+    (subst (λ (l : List Owned). IsPast stop whole (carried ++ l)) e p)
+
+pub passed_carried : (stop : ℕ) (old carried now : List Owned) (entry : Owned) → HasPassed stop carried entry now
+    → ((o : Owned) → In carried o → (In old o ⊎ (o.extent.at < stop)) × (stop < o.extent.at + o.extent.len))
+    → (o : Owned) → In now o → (In old o ⊎ (o.extent.at < stop)) × (stop < o.extent.at + o.extent.len)
+passed_carried stop old carried now entry (inl h) b o m = b o (subst (λ (l : List Owned). In l o) h.0 m)
+passed_carried stop old carried now entry (inr h) b o m =
+    elim (in_either carried (entry ∷ []) o (subst (λ (l : List Owned). In l o) h.0 m)) [
+      | inl g ↦ b o g
+      | inr g ↦ elim g [
+        | inl e ↦ subst (λ (q : Owned). (In old q ⊎ (q.extent.at < stop)) × (stop < q.extent.at + q.extent.len)) e (inr h.1, h.2)
+        | inr n ↦ absurd n
+      ]
+    ]
+
+pub kept_carried : (stop : ℕ) (old now : List Owned) → now ≡ filter_past stop old
+    → (o : Owned) → In now o → (In old o ⊎ (o.extent.at < stop)) × (stop < o.extent.at + o.extent.len)
+kept_carried stop old now e o m =
+    let r = filter_in (λ (q : Owned). nat_lt stop (q.extent.at + q.extent.len)) old o (subst (λ (l : List Owned). In l o) e m) in
+    (inl r.0, ltb-true _ _ r.1)
+
+-- what was there in front of the others ends past the place, if nothing was carried then the first of those ahead does
+pub first_further : (stop : ℕ) (carried ahead : List Owned) (P : Owned → Type 0)
+    → ((o : Owned) → In carried o → P o × (stop < o.extent.at + o.extent.len)) → ((o : Owned) → slice_get ahead 0 ≡ Some o → stop < o.extent.at + o.extent.len)
+    → (o : Owned) → slice_get (carried ++ ahead) 0 ≡ Some o → stop < o.extent.at + o.extent.len
+first_further stop [] ahead P h k o e = k o e
+first_further stop (p ∷ carried) ahead P h k o e = subst (λ (q : Owned). stop < q.extent.at + q.extent.len) (same_Some p o e) (h p (inl refl)).1
+
+pub first_ahead : (stop : ℕ) (ahead rest : List Owned) (entry : Owned) → ahead ≡ entry ∷ rest → stop < entry.extent.at + entry.extent.len
+    → (o : Owned) → slice_get ahead 0 ≡ Some o → stop < o.extent.at + o.extent.len
+first_ahead stop ahead rest entry e h o g =
+    subst (λ (q : Owned). stop < q.extent.at + q.extent.len) (same_Some entry o (ap (λ (l : List Owned). slice_get l 0) (sym e) ∙ g)) h
+
+pub none_ahead : (stop : ℕ) (ahead : List Owned) → length ahead ≡ 0 → (o : Owned) → slice_get ahead 0 ≡ Some o → stop < o.extent.at + o.extent.len
+none_ahead stop [] e o g = no_none_some o g
+none_ahead stop (p ∷ ahead) e o g = absurd (omega arith)
+
+pub past_short : (place : ℕ) (whole left : List Owned) → IsPast place whole left → length left ≤ length whole
+past_short place [] left h = let none = ap (λ (l : List Owned). length l) h in omega arith
+past_short place (o ∷ whole) left (inl h) = let short = past_short place whole left h.1 in omega arith
+past_short place (o ∷ whole) left (inr h) =
+    let same = ap (λ (l : List Owned). length l) h.1 in
+    let short = past_short place whole h.0 h.2 in
+    omega arith

@@ -1,0 +1,211 @@
+-- Entries of which a piece of the file was read: what their parts say, each byte once.
+use Rattle.std.proofs.Common.{◌≡◌, ℕ, zero, suc, ◌+◌, ◌-◌, ◌<◌, ◌≤◌, inl, inr, refl, sym, ◌∙◌, ap, subst, List, [], ◌∷◌, take, drop, arith, min}
+use Rattle.std.specs.Prelude.{map}
+use Rattle.std.specs.List.{enumerate_from, range_with_len}
+use Rattle.nc_base.specs.declared.plan.Owned.{Owned}
+use Rattle.serial_spec.specs.File.{at, read}
+use Rattle.serial_spec.specs.Said.{Cell, said_by, Says, IsOneValued, IsWithin}
+use Rattle.overlay_laws.specs.Entries.{In, got_cell}
+use Rattle.overlay_laws.proofs.EntryLaws.{says_left, says_right, says_cases}
+use Rattle.aggregator_rounds.specs.EntryParts.{got_cells, places_of, part_at, part_in, buffer_cell}
+use Rattle.serial_spec.proofs.CellLaws.{read_long}
+
+-- ---- parts of bytes that were read
+
+take_read : (file : List ℕ) (x n m : ℕ) → m ≤ n → take m (read file x n) ≡ read file x m
+take_read file x n zero h = refl
+take_read file x zero (suc m) h = absurd (omega arith)
+take_read file x (suc n) (suc m) h = ap (λ (r : List ℕ). at file x ∷ r) (take_read file (x + 1) n m (omega arith))
+
+pub read_part : (file : List ℕ) (x n j m : ℕ) → j + m ≤ n → take m (drop j (read file x n)) ≡ read file (x + j) m
+read_part file x n zero m h = let e : x ≡ x + 0 = omega arith in take_read file x n m (omega arith) ∙ ap (λ (k : ℕ). read file k m) e
+read_part file x zero (suc j) m h = absurd (omega arith)
+read_part file x (suc n) (suc j) m h = let e : x + 1 + j ≡ x + suc j = omega arith in read_part file (x + 1) n j m (omega arith) ∙ ap (λ (k : ℕ). read file k m) e
+
+-- ---- what is read of entries, from lo to hi
+
+abbrev pub parts_got : ℕ → List ℕ → ℕ → ℕ → List Owned → List Cell
+parts_got base file lo hi os = got_cells base file (map (λ o. part_in lo hi o) os)
+
+pub record IsRead (base : ℕ) (file : List ℕ) (lo hi : ℕ) (os : List Owned) (y v : ℕ) : Type 0 where
+  pub by : Owned
+  pub inside : In os by
+  pub place : ℕ
+  pub low : lo ≤ place
+  pub high : place < hi
+  pub begin : by.extent.at ≤ place
+  pub end : place < by.extent.at + by.extent.len
+  pub from : by.from + (place - by.extent.at) ≡ y
+  pub byte : at file (place - base) ≡ v
+
+pub record IsByte (file : List ℕ) (p a m y v : ℕ) : Type 0 where
+  pub index : ℕ
+  pub within : index < m
+  pub place : p + index ≡ y
+  pub byte : at file (a + index) ≡ v
+
+read_says : (file : List ℕ) (p a m y v : ℕ) → Says (enumerate_from p (read file a m)) y v → IsByte file p a m y v
+read_says file p a zero y v h = absurd h
+read_says file p a (suc m) y v (inl h) =
+    let same : p ≡ y = h.0 in
+    let e : a + 0 ≡ a = omega arith in
+    record { index = 0; within = omega arith; place = omega arith; byte = ap (λ (k : ℕ). at file k) e ∙ h.1 }
+read_says file p a (suc m) y v (inr h) =
+    let r = read_says file (p + 1) (a + 1) m y v h in
+    let l = r.within in
+    let f = r.place in
+    let e : a + suc r.index ≡ a + 1 + r.index = omega arith in
+    record { index = suc r.index; within = omega arith; place = omega arith; byte = ap (λ (k : ℕ). at file k) e ∙ r.byte }
+
+says_read : (file : List ℕ) (p a m j y v : ℕ) → j < m → p + j ≡ y → at file (a + j) ≡ v → Says (enumerate_from p (read file a m)) y v
+says_read file p a zero j y v h e f = absurd (omega arith)
+says_read file p a (suc m) zero y v h e f = let g : a ≡ a + 0 = omega arith in inl (omega arith, ap (λ (k : ℕ). at file k) g ∙ f)
+says_read file p a (suc m) (suc j) y v h e f =
+    let g : a + 1 + j ≡ a + suc j = omega arith in
+    inr (says_read file (p + 1) (a + 1) m j y v (omega arith) (omega arith) (ap (λ (k : ℕ). at file k) g ∙ f))
+
+one_read : (base : ℕ) (file : List ℕ) (lo hi : ℕ) (o : Owned) (y v : ℕ) → base ≤ o.extent.at
+    → Says (enumerate_from (part_in lo hi o).from (read file ((part_in lo hi o).extent.at - base) (part_in lo hi o).extent.len)) y v
+    → IsRead base file lo hi (o ∷ []) y v
+one_read base file lo hi o y v on h =
+    let r = read_says file (part_in lo hi o).from ((part_in lo hi o).extent.at - base) (part_in lo hi o).extent.len y v h in
+    let l = r.within in
+    let f = r.place in
+    let e : part_at lo hi o + r.index - base ≡ part_at lo hi o - base + r.index = omega arith in
+    record {
+      by = o;
+      inside = inl refl;
+      place = part_at lo hi o + r.index;
+      low = omega arith;
+      high = omega arith;
+      begin = omega arith;
+      end = omega arith;
+      from = omega arith;
+      byte = ap (λ (k : ℕ). at file k) e ∙ r.byte;
+    }
+
+-- the same between other places, of other entries, where they have the byte
+pub read_as : (base : ℕ) (file : List ℕ) (lo hi from to : ℕ) (os more : List Owned) (y v : ℕ) (r : IsRead base file lo hi os y v) → from ≤ r.place → r.place < to
+    → In more r.by → IsRead base file from to more y v
+read_as base file lo hi from to os more y v r l h m = record {
+  by = r.by;
+  inside = m;
+  place = r.place;
+  low = l;
+  high = h;
+  begin = r.begin;
+  end = r.end;
+  from = r.from;
+  byte = r.byte;
+}
+
+read_more : (base : ℕ) (file : List ℕ) (lo hi : ℕ) (os more : List Owned) (y v : ℕ) → ((o : Owned) → In os o → In more o) → IsRead base file lo hi os y v
+    → IsRead base file lo hi more y v
+read_more base file lo hi os more y v s r = read_as base file lo hi lo hi os more y v r r.low r.high (s r.by r.inside)
+
+pub got_says : (base : ℕ) (file : List ℕ) (lo hi : ℕ) (os : List Owned) (y v : ℕ) → ((o : Owned) → In os o → base ≤ o.extent.at)
+    → Says (said_by (parts_got base file lo hi os)) y v → IsRead base file lo hi os y v
+got_says base file lo hi [] y v on h = absurd h
+got_says base file lo hi (o ∷ os) y v on h =
+    elim (says_cases (enumerate_from (part_in lo hi o).from (read file ((part_in lo hi o).extent.at - base) (part_in lo hi o).extent.len))
+    (said_by (parts_got base file lo hi os)) y v h) [
+      | inl g ↦ read_more base file lo hi (o ∷ []) (o ∷ os) y v (λ q m. elim m [ inl e ↦ inl e | inr n ↦ absurd n ]) (one_read base file lo hi o y v (on o (inl refl)) g)
+      | inr g ↦ read_more base file lo hi os (o ∷ os) y v (λ q m. inr m) (got_says base file lo hi os y v (λ q m. on q (inr m)) g)
+    ]
+
+says_got_of : (base : ℕ) (file : List ℕ) (lo hi : ℕ) (os : List Owned) (o : Owned) (x y v : ℕ) → In os o → base ≤ o.extent.at → lo ≤ x → x < hi
+    → o.extent.at ≤ x → x < o.extent.at + o.extent.len → o.from + (x - o.extent.at) ≡ y → at file (x - base) ≡ v → Says (said_by (parts_got base file lo hi os)) y v
+says_got_of base file lo hi [] o x y v m on l h b e f g = absurd m
+says_got_of base file lo hi (p ∷ os) o x y v (inr m) on l h b e f g =
+    says_right (enumerate_from (part_in lo hi p).from (read file ((part_in lo hi p).extent.at - base) (part_in lo hi p).extent.len))
+    (said_by (parts_got base file lo hi os)) y v (says_got_of base file lo hi os o x y v m on l h b e f g)
+says_got_of base file lo hi (p ∷ os) o x y v (inl m) on l h b e f g =
+    says_left (enumerate_from (part_in lo hi p).from (read file ((part_in lo hi p).extent.at - base) (part_in lo hi p).extent.len))
+    (said_by (parts_got base file lo hi os)) y v
+    (subst (λ (q : Owned). Says (enumerate_from (part_in lo hi q).from (read file ((part_in lo hi q).extent.at - base) (part_in lo hi q).extent.len)) y v) (sym m) here)
+  where
+    here : Says (enumerate_from (part_in lo hi o).from (read file ((part_in lo hi o).extent.at - base) (part_in lo hi o).extent.len)) y v
+    here =
+        let k : part_at lo hi o - base + (x - part_at lo hi o) ≡ x - base = omega arith in
+        says_read file (part_in lo hi o).from ((part_in lo hi o).extent.at - base) (part_in lo hi o).extent.len (x - part_at lo hi o) y v
+        (omega arith) (omega arith) (ap (λ (j : ℕ). at file j) k ∙ g)
+
+pub says_got : (base : ℕ) (file : List ℕ) (lo hi : ℕ) (os : List Owned) (y v : ℕ) → ((o : Owned) → In os o → base ≤ o.extent.at)
+    → IsRead base file lo hi os y v → Says (said_by (parts_got base file lo hi os)) y v
+says_got base file lo hi os y v on r =
+    says_got_of base file lo hi os r.by r.place y v r.inside (on r.by r.inside) r.low r.high r.begin r.end r.from r.byte
+
+-- ---- no byte of a blob has two places
+
+range_says : (p a m j : ℕ) → j < m → Says (enumerate_from p (range_with_len a m)) (p + j) (a + j)
+range_says p a zero j h = absurd (omega arith)
+range_says p a (suc m) zero h = inl (omega arith, omega arith)
+range_says p a (suc m) (suc j) h =
+    let e : p + 1 + j ≡ p + suc j = omega arith in
+    let f : a + 1 + j ≡ a + suc j = omega arith in
+    inr (subst (λ (k : ℕ). Says (enumerate_from (p + 1) (range_with_len (a + 1) m)) (p + suc j) k) f
+    (subst (λ (k : ℕ). Says (enumerate_from (p + 1) (range_with_len (a + 1) m)) k (a + 1 + j)) e (range_says (p + 1) (a + 1) m j (omega arith))))
+
+place_said : (os : List Owned) (o : Owned) (x : ℕ) → In os o → o.extent.at ≤ x → x < o.extent.at + o.extent.len → Says (places_of os) (o.from + (x - o.extent.at)) x
+place_said [] o x m l h = absurd m
+place_said (p ∷ os) o x (inr m) l h = says_right (enumerate_from p.from (range_with_len p.extent.at p.extent.len)) (places_of os) (o.from + (x - o.extent.at)) x (place_said os o x m l h)
+place_said (p ∷ os) o x (inl m) l h =
+    says_left (enumerate_from p.from (range_with_len p.extent.at p.extent.len)) (places_of os) (o.from + (x - o.extent.at)) x
+    (subst (λ (q : Owned). Says (enumerate_from q.from (range_with_len q.extent.at q.extent.len)) (o.from + (x - o.extent.at)) x) (sym m)
+    (subst (λ (k : ℕ). Says (enumerate_from o.from (range_with_len o.extent.at o.extent.len)) (o.from + (x - o.extent.at)) k) place
+    (range_says o.from o.extent.at o.extent.len (x - o.extent.at) (omega arith))))
+  where
+    place : o.extent.at + (x - o.extent.at) ≡ x
+    place = omega arith
+
+pub read_once : (base : ℕ) (file : List ℕ) (lo hi : ℕ) (os : List Owned) → ((o : Owned) → In os o → base ≤ o.extent.at) → IsOneValued (places_of os)
+    → IsOneValued (said_by (parts_got base file lo hi os))
+read_once base file lo hi os on once y v u h k =
+    let r = got_says base file lo hi os y v on h in
+    let s = got_says base file lo hi os y u on k in
+    let same = once y r.place s.place
+    (subst (λ (z : ℕ). Says (places_of os) z r.place) r.from (place_said os r.by r.place r.inside r.begin r.end))
+    (subst (λ (z : ℕ). Says (places_of os) z s.place) s.from (place_said os s.by s.place s.inside s.begin s.end)) in
+    sym r.byte ∙ ap (λ (z : ℕ). at file (z - base)) same ∙ s.byte
+
+-- ---- where parts lie in a blob, and parts that are whole
+
+pub parts_within : (base : ℕ) (file : List ℕ) (lo hi n : ℕ) (os : List Owned) → ((o : Owned) → In os o → o.from + o.extent.len ≤ n) → IsWithin (parts_got base file lo hi os) n
+parts_within base file lo hi n [] h = tt
+parts_within base file lo hi n (o ∷ os) h =
+    let room = h o (inl refl) in
+    (omega (arith, read_long file ((part_in lo hi o).extent.at - base) (part_in lo hi o).extent.len), parts_within base file lo hi n os (λ q m. h q (inr m)))
+
+whole_part : (place : ℕ) (o : Owned) → o.extent.at + o.extent.len ≤ place → part_in 0 place o ≡ o
+whole_part place o h =
+    let begin : part_at 0 place o ≡ o.extent.at = omega arith in
+    let long : min place (o.extent.at + o.extent.len) - part_at 0 place o ≡ o.extent.len = omega arith in
+    let from : o.from + min o.extent.len (part_at 0 place o - o.extent.at) ≡ o.from = omega arith in
+    λ i. record { extent = record { at = begin i; len = long i }; rank = o.rank; request = o.request; slot = o.slot; from = from i }
+
+pub whole_parts : (place : ℕ) (os : List Owned) → ((o : Owned) → In os o → o.extent.at + o.extent.len ≤ place) → map (λ o. part_in 0 place o) os ≡ os
+whole_parts place [] h = refl
+whole_parts place (o ∷ os) h = λ i. whole_part place o (h o (inl refl)) i ∷ whole_parts place os (λ q m. h q (inr m)) i
+
+-- what is read of a file that begins at 0
+pub got_whole : (file : List ℕ) (list : List Owned) → got_cells 0 file list ≡ map (λ o. got_cell file o) list
+got_whole file [] = refl
+got_whole file (o ∷ list) =
+    let place : o.extent.at - 0 ≡ o.extent.at = omega arith in
+    λ i. (o.from, read file (place i) o.extent.len) ∷ got_whole file list i
+
+-- ---- a buffer that has the file's bytes
+
+buffer_is_read : (base : ℕ) (file buf : List ℕ) (lo n : ℕ) (o : Owned) → base ≤ lo → buf ≡ read file (lo - base) n
+    → buffer_cell lo (lo + n) buf o ≡ ((part_in lo (lo + n) o).from, read file ((part_in lo (lo + n) o).extent.at - base) (part_in lo (lo + n) o).extent.len)
+buffer_is_read base file buf lo n o h e =
+    let place : lo - base + ((part_in lo (lo + n) o).extent.at - lo) ≡ (part_in lo (lo + n) o).extent.at - base = omega arith in
+    ap (λ (b : List ℕ). let c : Cell = ((part_in lo (lo + n) o).from, b) in c)
+    (ap (λ (b : List ℕ). take (part_in lo (lo + n) o).extent.len (drop ((part_in lo (lo + n) o).extent.at - lo) b)) e
+    ∙ read_part file (lo - base) n ((part_in lo (lo + n) o).extent.at - lo) (part_in lo (lo + n) o).extent.len (omega arith)
+    ∙ ap (λ (x : ℕ). read file x (part_in lo (lo + n) o).extent.len) place)
+
+pub buffer_cells : (base : ℕ) (file buf : List ℕ) (lo n : ℕ) (os : List Owned) → base ≤ lo → buf ≡ read file (lo - base) n
+    → map (λ o. buffer_cell lo (lo + n) buf o) os ≡ parts_got base file lo (lo + n) os
+buffer_cells base file buf lo n [] h e = refl
+buffer_cells base file buf lo n (o ∷ os) h e = λ i. buffer_is_read base file buf lo n o h e i ∷ buffer_cells base file buf lo n os h e i

@@ -1,0 +1,157 @@
+-- Sorted entries before and from an index on.
+use Rattle.std.proofs.Common.{◌≡◌, ℕ, zero, suc, ◌+◌, ◌^◌, ◌<◌, ◌≤◌, ◌⊎◌, inl, inr, refl, sym, ap, subst, List, [], ◌∷◌, length, take, drop, get_or, ◌++◌, append_assoc, Some, None, slice_get, Bool, true, false, ◌∙◌, arith}
+use Rattle.std.specs.Prelude.{nat_lt}
+use borrow.Author.Tests.{ltb-true, ltb-false}
+use Rattle.std.proofs.lemmas.List.{take-append-drop}
+use Rattle.std.proofs.lemmas.Option.{same_Some, slice_get-get_or}
+use Rattle.overlay_laws.proofs.Members.{entry_in}
+use Rattle.overlay_laws.proofs.HullLaws.{in_either}
+use Rattle.list_laws.proofs.Optional.{no_none_some}
+use Rattle.nc_base.specs.declared.plan.Extent.{Extent}
+use Rattle.nc_base.specs.declared.plan.Owned.{Owned}
+use Rattle.overlay_laws.specs.Entries.{In}
+use Rattle.overlay_laws.specs.Lines.{extents, IsByPlace, EndBelow}
+use Rattle.file_domains.proofs.CoverParts.{get_is}
+use Rattle.aggregator_rounds.specs.Left.{IsPast, BeginBefore}
+use Rattle.aggregator_rounds.proofs.PastSteps.{past_front}
+use Rattle.overlay_laws.proofs.EntryLaws.{in_extents}
+
+-- ---- members by index
+
+pub taken_at : {X : Type 0} (n : ℕ) (xs : List X) (x : X) → In (take n xs) x → (i : ℕ) × (i < n) × (slice_get xs i ≡ Some x)
+taken_at zero xs x h = absurd h
+taken_at (suc n) [] x h = absurd h
+taken_at (suc n) (y ∷ xs) x (inl e) = (zero, omega arith, ap Some e)
+taken_at (suc n) (y ∷ xs) x (inr h) = let r = taken_at n xs x h in let l = r.1 in (suc r.0, omega arith, r.2)
+
+pub none_got : {X : Type 0} (xs : List X) → slice_get xs 0 ≡ None → xs ≡ []
+none_got [] h = refl
+none_got (x ∷ xs) h = no_none_some x (sym h)
+
+-- ---- in order
+
+pub sorted_dropped : (n : ℕ) (list : List Owned) → IsByPlace (extents list) → IsByPlace (extents (drop n list))
+sorted_dropped zero list h = h
+sorted_dropped (suc n) [] h = tt
+sorted_dropped (suc n) (o ∷ list) h = sorted_dropped n list h.1
+
+pub extents_dropped : (n : ℕ) (list : List Owned) (e : Extent) → In (extents (drop n list)) e → In (extents list) e
+extents_dropped zero list e h = h
+extents_dropped (suc n) [] e h = h
+extents_dropped (suc n) (o ∷ list) e h = inr (extents_dropped n list e h)
+
+-- those from the one on that begins at the place or later
+later_all : (n place : ℕ) (list : List Owned) → IsByPlace (extents list) → ((o : Owned) → slice_get list n ≡ Some o → place ≤ o.extent.at)
+    → (o : Owned) → In (drop n list) o → place ≤ o.extent.at
+later_all zero place [] h k o m = absurd m
+later_all zero place (p ∷ list) h k o (inl e) = k o (ap Some e)
+later_all zero place (p ∷ list) h k o (inr m) =
+    let first = k p refl in
+    let above = h.0 o.extent (in_extents list o m) in
+    omega arith
+later_all (suc n) place [] h k o m = absurd m
+later_all (suc n) place (p ∷ list) h k o m = later_all n place list h.1 k o m
+
+-- no entry begins before the first
+pub first_begins : (list : List Owned) (first o : Owned) → IsByPlace (extents list) → slice_get list 0 ≡ Some first → In list o → first.extent.at ≤ o.extent.at
+first_begins [] first o h e m = absurd m
+first_begins (p ∷ list) first o h e (inl g) =
+    let begin : first.extent.at ≡ p.extent.at = ap (λ (q : Owned). q.extent.at) (sym (same_Some p first e)) in
+    let same : p.extent.at ≡ o.extent.at = ap (λ (q : Owned). q.extent.at) g in
+    omega arith
+first_begins (p ∷ list) first o h e (inr m) =
+    let begin : first.extent.at ≡ p.extent.at = ap (λ (q : Owned). q.extent.at) (sym (same_Some p first e)) in
+    let above = h.0 o.extent (in_extents list o m) in
+    omega arith
+
+-- an entry stands before an index, or begins where the one at the index does, or later
+pub before_or_later : (list : List Owned) (i : ℕ) (d p : Owned) → i < length list → IsByPlace (extents list) → In list p
+    → In (take i list) p ⊎ ((get_or list i d).extent.at ≤ p.extent.at)
+before_or_later [] i d p l h m = absurd m
+before_or_later (o ∷ list) zero d p l h (inl e) =
+    let same : o.extent.at ≡ p.extent.at = ap (λ (q : Owned). q.extent.at) e in
+    inr (omega arith)
+before_or_later (o ∷ list) zero d p l h (inr m) = inr (h.0 p.extent (in_extents list p m))
+before_or_later (o ∷ list) (suc i) d p l h (inl e) = inl (inl e)
+before_or_later (o ∷ list) (suc i) d p l h (inr m) =
+    elim (before_or_later list i d p (omega arith) h.1 m) [ inl g ↦ inl (inr g) | inr g ↦ inr g ]
+
+-- ---- the parts of a list
+
+pub taken_before : (n place : ℕ) (list : List Owned) → IsByPlace (extents list)
+    → ((i : ℕ) (o : Owned) → i < n → slice_get list i ≡ Some o → o.extent.at < place)
+    → ((o : Owned) → slice_get list n ≡ Some o → place ≤ o.extent.at) → BeginBefore place list (take n list)
+taken_before n place list h before after = record {
+  rest = drop n list;
+  joined = sym (take-append-drop n list);
+  before = λ o m. (let r = taken_at n list o m in before r.0 o r.1 r.2);
+  later = later_all n place list h after;
+}
+
+pub dropped_past : (n place : ℕ) (list : List Owned) → ((i : ℕ) (o : Owned) → i < n → slice_get list i ≡ Some o → o.extent.at + o.extent.len ≤ place)
+    → IsPast place list (drop n list)
+dropped_past n place list before =
+    subst (λ (l : List Owned). IsPast place l (drop n list)) (take-append-drop n list)
+    (past_front place (take n list) (drop n list) (λ o m. let r = taken_at n list o m in before r.0 o r.1 r.2))
+
+-- ---- entries of two lists, one after another
+
+pub first_joined : (a b : List Owned) (o : Owned) → slice_get a 0 ≡ Some o → slice_get (a ++ b) 0 ≡ Some o
+first_joined [] b o h = no_none_some o h
+first_joined (p ∷ a) b o h = h
+
+pub extents_left : (a b : List Owned) (e : Extent) → In (extents a) e → In (extents (a ++ b)) e
+extents_left [] b e m = absurd m
+extents_left (o ∷ a) b e (inl g) = inl g
+extents_left (o ∷ a) b e (inr m) = inr (extents_left a b e m)
+
+pub extents_right : (a b : List Owned) (e : Extent) → In (extents b) e → In (extents (a ++ b)) e
+extents_right [] b e m = m
+extents_right (o ∷ a) b e m = inr (extents_right a b e m)
+
+sorted_left : (a b : List Owned) → IsByPlace (extents (a ++ b)) → IsByPlace (extents a)
+sorted_left [] b h = tt
+sorted_left (o ∷ a) b h = ((λ e m. h.0 e (extents_left a b e m)), sorted_left a b h.1)
+
+pub sorted_right : (a b : List Owned) → IsByPlace (extents (a ++ b)) → IsByPlace (extents b)
+sorted_right [] b h = h
+sorted_right (o ∷ a) b h = sorted_right a b h.1
+
+pub front_sorted : (place : ℕ) (left front : List Owned) → IsByPlace (extents left) → BeginBefore place left front → IsByPlace (extents front)
+front_sorted place left front s b = sorted_left front b.rest (subst (λ (l : List Owned). IsByPlace (extents l)) b.joined s)
+
+-- those that are carried have front too
+pub front_all : (place : ℕ) (carried ahead fresh : List Owned) → ((o : Owned) → In carried o → o.extent.at < place) → BeginBefore place ahead fresh
+    → BeginBefore place (carried ++ ahead) (carried ++ fresh)
+front_all place carried ahead fresh before b = record {
+  rest = b.rest;
+  joined = ap (λ (r : List Owned). carried ++ r) b.joined ∙ sym (append_assoc carried fresh b.rest);
+  before = λ o m. elim (in_either carried fresh o m) [ inl g ↦ before o g | inr g ↦ b.before o g ];
+  later = b.later;
+}
+
+-- ---- entries that end at a place or before
+
+pub entry_ends : (list : List Owned) (i : ℕ) (d : Owned) → EndBelow (2 ^ 62) (extents list) → i < length list
+    → (get_or list i d).extent.at + (get_or list i d).extent.len < 2 ^ 62
+entry_ends list i d h l = h (get_or list i d).extent (in_extents list (get_or list i d) (entry_in list i d l))
+
+pub ends_more : (place i : ℕ) (list : List Owned) (d : Owned) → i < length list → (get_or list i d).extent.at + (get_or list i d).extent.len ≤ place
+    → ((k : ℕ) (o : Owned) → k < i → slice_get list k ≡ Some o → o.extent.at + o.extent.len ≤ place)
+    → (k : ℕ) (o : Owned) → k < i + 1 → slice_get list k ≡ Some o → o.extent.at + o.extent.len ≤ place
+ends_more place i list d l e h k o m g = by_index (nat_lt k i) refl
+  where
+    by_index : (t : Bool) → nat_lt k i ≡ t → o.extent.at + o.extent.len ≤ place
+    by_index true f = h k o (ltb-true _ _ f) g
+    by_index false f =
+        let past : i ≤ k = ltb-false _ _ f in
+        let same : k ≡ i = omega arith in
+        subst (λ (z : Owned). z.extent.at + z.extent.len ≤ place)
+        (same_Some (get_or list i d) o (sym (slice_get-get_or list i d l) ∙ ap (λ (n : ℕ). slice_get list n) (sym same) ∙ g)) e
+
+pub goes_past : (place i : ℕ) (list : List Owned) (d o : Owned) → i < length list → place < (get_or list i d).extent.at + (get_or list i d).extent.len
+    → slice_get list i ≡ Some o → place < o.extent.at + o.extent.len
+goes_past place i list d o l e g = subst (λ (z : Owned). place < z.extent.at + z.extent.len) (same_Some (get_or list i d) o (sym (slice_get-get_or list i d l) ∙ g)) e
+
+pub none_after : {A : Type 0} (list : List Owned) (o : Owned) → slice_get list (length list) ≡ Some o → A
+none_after list o g = let l = (get_is list (length list) o g).0 in absurd (omega arith)

@@ -1,0 +1,42 @@
+-- The bytes that entries have from a place on.
+use Rattle.std.proofs.Common.{◌≡◌, ℕ, ◌≤◌, inl, refl, ap, List, [], ◌∷◌, arith}
+use Rattle.std.specs.Prelude.{nat_le}
+use Rattle.std.proofs.lemmas.Bool.{le-leb, leb-true}
+use Rattle.serial_spec.proofs.MemberLaws.{in_filter, filter_in}
+use Rattle.nc_base.specs.declared.plan.Owned.{Owned}
+use Rattle.serial_spec.specs.DeviceCalls.{in_order}
+use Rattle.overlay_laws.specs.Entries.{In, ranges}
+use Rattle.overlay_laws.specs.Hulls.{IsAscending}
+use Rattle.overlay_laws.proofs.HullLaws.{filter_ascends, in_in_order, in_order_in, in_order_ascends, first_least}
+use Rattle.overlay_laws.proofs.CoverLaws.{same_ascending}
+use Rattle.aggregator_rounds.specs.EntryParts.{IsCovered}
+use Rattle.aggregator_rounds.proofs.CoveredBytes.{in_ranges, ranges_in}
+use Rattle.data_sieving.specs.Walked.{bytes_from}
+
+pub byte_from : (place : ℕ) (list : List Owned) (x : ℕ) → place ≤ x → IsCovered list x → In (bytes_from place list) x
+byte_from place list x h c =
+    in_filter (λ (y : ℕ). nat_le place y) (in_order (ranges list)) x (in_in_order (ranges list) x (in_ranges list x c)) (le-leb place x h)
+
+pub from_byte : (place : ℕ) (list : List Owned) (x : ℕ) → In (bytes_from place list) x → (place ≤ x) × IsCovered list x
+from_byte place list x h =
+    let r = filter_in (λ (y : ℕ). nat_le place y) (in_order (ranges list)) x h in
+    (leb-true place x r.1, ranges_in list x (in_order_in (ranges list) x r.0))
+
+pub bytes_ascend : (place : ℕ) (list : List Owned) → IsAscending (bytes_from place list)
+bytes_ascend place list = filter_ascends (λ (y : ℕ). nat_le place y) (in_order (ranges list)) (in_order_ascends (ranges list))
+
+pub same_bytes : (place : ℕ) (a b : List Owned) → ((x : ℕ) → place ≤ x → IsCovered a x → IsCovered b x)
+    → ((x : ℕ) → place ≤ x → IsCovered b x → IsCovered a x) → bytes_from place a ≡ bytes_from place b
+same_bytes place a b there back =
+    same_ascending (bytes_from place a) (bytes_from place b) (bytes_ascend place a) (bytes_ascend place b)
+    (λ x h. let r = from_byte place a x h in byte_from place b x r.0 (there x r.0 r.1))
+    (λ x h. let r = from_byte place b x h in byte_from place a x r.0 (back x r.0 r.1))
+
+-- numbers in order with a least one begin with it
+pub begins : (xs : List ℕ) (a : ℕ) → IsAscending xs → In xs a → ((x : ℕ) → In xs x → a ≤ x) → (ys : List ℕ) × (xs ≡ a ∷ ys)
+begins [] a h k l = absurd k
+begins (y ∷ ys) a h k l =
+    let low = first_least (y ∷ ys) a h k in
+    let high = l y (inl refl) in
+    let same : y ≡ a = omega arith in
+    (ys, ap (λ (z : ℕ). z ∷ ys) same)

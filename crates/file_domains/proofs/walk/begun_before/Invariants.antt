@@ -1,7 +1,0 @@
--- The extents so far begin before the place.
-use Rattle.std.proofs.Common.{◌≡◌, ℕ, ◌<◌, slice_get, Some}
-use Rattle.nc_base.specs.declared.plan.Extent.{Extent}
-use Rattle.file_domains.proofs.walk.begun_before.Given as goal
-
-abbrev pub invariant-loop-i : goal.invariant-loop-i
-invariant-loop-i l = (k : ℕ) (e : Extent) → k < l.i → slice_get l.cover k ≡ Some e → e.at < l.place

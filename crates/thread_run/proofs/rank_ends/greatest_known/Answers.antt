@@ -1,9 +1,0 @@
--- One rank more.
-use Rattle.std.proofs.Common.{arith}
-use Rattle.thread_run.proofs.ThreadEnds.{known_more}
-use Rattle.thread_run.proofs.rank_ends.greatest_known.Goals as goal
-
-pub loop-end-preserved : goal.loop-end-preserved
-loop-end-preserved c =
-    known_more c.args.ends.now c.loop-end.end-index c.end-item.result c.loop-end.known c.max-known.result (omega arith) c.end-item.is c.loop-end.invariant
-    c.max-known.ensures

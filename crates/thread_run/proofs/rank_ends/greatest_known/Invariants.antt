@@ -1,7 +1,0 @@
--- The greatest of those so far.
-use Rattle.std.proofs.Common.{◌≡◌, take}
-use Rattle.thread_run.specs.Threads.{most_known_of}
-use Rattle.thread_run.proofs.rank_ends.greatest_known.Given as goal
-
-abbrev pub invariant-loop-end : goal.invariant-loop-end
-invariant-loop-end l = l.known ≡ most_known_of (take l.end-index l.ends)

@@ -1,0 +1,218 @@
+-- A run in turn as a whole: its meetings, and then the end by the ends of its ranks.
+use Rattle.std.proofs.Common.{◌≡◌, ℕ, ◌≤◌, refl, sym, ◌∙◌, ap, subst, inl, inr, ◌⊎◌, List, [], length, map, max, replicate, true, Option, Some, None, Result, Ok, Err, arith}
+use Rattle.std.proofs.lemmas.List.{length-map}
+use Rattle.std.specs.Prelude.{fold, IfSome, OnOk}
+use Rattle.std.specs.Result.{result_err}
+use Rattle.std.specs.Int.{byte_len}
+use Rattle.list_laws.proofs.Maps.{map_map}
+use Rattle.nc_base.specs.declared.header.Header.{Header}
+use Rattle.nc_base.specs.declared.run.RankEnd.{RankEnd}
+use Rattle.nc_base.specs.declared.run.RankStop.{RankStop}
+use Rattle.nc_base.specs.declared.run.RunEnd.{RunEnd}
+use Rattle.nc_base.specs.declared.run.ServeEnd.{ServeEnd}
+use Rattle.nc_base.specs.declared.script.Script.{Script}
+use Rattle.nc_base.specs.declared.step.DiskCall.{DiskCall}
+use Rattle.nc_base.specs.declared.step.Mark.{Mark}
+use Rattle.nc_base.specs.declared.step.StepErr.{StepErr}
+use Rattle.nc_base.specs.declared.step.StepErr.TheVariants as fault
+use Rattle.nc_outside.specs.Cause.{Rose}
+use Rattle.nc_outside.specs.Told.{with_end, BothTold}
+use Rattle.nc_outside.proofs.ToldLaws.{rose_before}
+use Rattle.serial_spec.specs.DeviceCalls.{run_calls}
+use Rattle.serial_spec.specs.FileStep.{raised}
+use Rattle.serial_spec.specs.HeaderBytes.{count_width}
+use Rattle.serial_spec.specs.History.{IsLegal}
+use Rattle.serial_spec.specs.Lawful.{is_lawful}
+use Rattle.serial_spec.specs.SoundHeaders.{is_sound}
+use Rattle.serial_spec.specs.RankMachine as machine
+use Rattle.serial_spec.specs.SerialEnd.{End, serial_from, setting_of}
+use Rattle.serial_spec.specs.Torn.{IsCutRun, IsTorn}
+use Rattle.serial_spec.proofs.CountLaws.{raised_records}
+use Rattle.collective_round.specs.Rounds.{as_setting, counted}
+use Rattle.run_laws.specs.Arrivals.{all_calls_over, ended_from, step_to}
+use Rattle.run_laws.proofs.LawfulLaws.{ranks_lawful}
+use Rattle.turn_run.specs.Begun.{HasBegun}
+use Rattle.turn_run.specs.Counts.{IsCount}
+use Rattle.turn_run.specs.Cuts.{HasStopped, IsNext}
+use Rattle.turn_run.specs.RankEnds.{most_known_of, runner_end, EndedAt, HasClosed}
+use Rattle.turn_run.specs.RankEnds.EndedAt.{as_left, in_close as in_closing}
+use Rattle.turn_run.specs.Run.{IsRun}
+use Rattle.turn_run.specs.Running.{AreFree, AreRunners, HaveArrived}
+use Rattle.turn_run.specs.Said.{all_between, AllSay, HaveAnswers}
+use Rattle.turn_run.specs.Stages.{arrived_all, stage, HasLed}
+use Rattle.turn_run.specs.Steps.{first_runner}
+use Rattle.turn_run.specs.declared.runners.Runner.{Runner}
+use Rattle.turn_run.proofs.CutEnds.{same_cause, unbegun_run}
+use Rattle.turn_run.proofs.CutRuns.{cut_answers, cut_rows, cut_run, ends_as, ends_before, ends_between, ends_closing, ends_same, ends_stood, no_answers, no_rows, stood_first, EndsAt}
+use Rattle.turn_run.proofs.EndedLaws.{Closing, EndOfCut}
+use Rattle.turn_run.proofs.SaidLaws.{between_up, have_reached, reached_here, reached_then}
+use Rattle.turn_run.proofs.SaidMeet.{all_say_here, keep_own}
+use Rattle.turn_run.proofs.TurnCauses.{rose_later}
+use Rattle.turn_run.proofs.TurnEnds.{are_over, ended_legal}
+use Rattle.turn_run.proofs.TurnKnown.{ends_known, most_known, most_rise, rise_sound}
+use Rattle.turn_run.proofs.TurnRuns.{calls_from_first, first_free, if_told, none_begun, run_ended, serial_from_first, IsClosed}
+
+-- ---- how it went
+
+pub ok_there : {T E P : Type 0} (result : Result T E) → OnOk result P → result_err result ≡ None → P
+ok_there (Ok x) h none = h
+ok_there (Err e) h none = absurd cc
+
+pub err_there : {T E : Type 0} (result : Result T E) (e : E) → result_err result ≡ Some e → result ≡ Err e
+err_there (Ok x) e is = absurd cc
+err_there (Err x) e is = cc
+
+-- the run was stopped before its first step
+pub stopped_first : (script : Script) (header : Header) (held : Option (List ℕ)) (done : Option (List DiskCall)) (faults records : ℕ) (end : RunEnd) → is_lawful script ≡ true → records ≡ header.records
+    → end.order ≡ [] → end.fault ≡ Some fault.Memory → end.answers ≡ [] → IsRun script header held done faults held done faults records end
+stopped_first script header held done faults records end lawful count none memory empty =
+    unbegun_run script header held done faults held done records end memory (subst (λ (ms : List Mark). HasBegun script ms) (sym none) (none_begun script)) (λ e is.
+    let wanted = sym (same_cause fault.Memory e (sym memory ∙ is)) in
+    cut_run script header e end.order held held records end.answers (no_rows script e end.answers wanted empty) (λ file there. no_answers script header e end.order file end.answers empty)
+    (stood_first script header e end.order held held records records lawful wanted none refl refl count))
+
+-- all ranks have made their calls
+pub record IsThrough (script : Script) (header : Header) (len : ℕ) (before order : List Mark) (held : Option (List ℕ)) (calls : Option (List DiskCall)) (records : ℕ) (first : List Runner)
+    (left : Option (List ℕ)) (made : Option (List DiskCall)) (count : ℕ) (last : List Runner) : Type 0 where
+  pub runners : AreRunners script header len order last
+  pub free : AreFree last
+  pub arrived : HaveArrived script last
+  pub led : HasLed script.hints (setting_of script header) before order (stage held calls records (arrived_all header script.calls first)) (stage left made count (arrived_all header script.calls last))
+
+-- what is told of the meetings
+pub record HasMet (script : Script) (header : Header) (len : ℕ) (before : List Mark) (served : ServeEnd) (held : Option (List ℕ)) (calls : Option (List DiskCall)) (faults records : ℕ) (first : List Runner)
+    (left : Option (List ℕ)) (made : Option (List DiskCall)) (failed count : ℕ) (last : List Runner) : Type 0 where
+  pub through : served.fault ≡ None → IsThrough script header len before served.order held calls records first left made count last
+  pub cut : (e : StepErr) → served.fault ≡ Some e
+      → HasStopped (IsNext script served.order) (setting_of script header) e before served.order held records (arrived_all header script.calls first) left count
+  pub answered : (e : StepErr) → served.fault ≡ Some e → HaveAnswers (setting_of script header) e before served.order held records (all_between script.calls first) last
+  pub begun : HasBegun script served.order
+  pub long : length last ≡ length script.calls
+  pub cause : served.fault ≡ Some fault.Disk → Rose faults failed
+  pub later : faults ≤ failed
+
+-- the counts that the ranks know are such that the header can have
+pub known_sound : (script : Script) (header : Header) (len count : ℕ) (order : List Mark) (why : RankStop) (last : List Runner) (ends : List RankEnd) → is_sound header ≡ true → IsCount header len count
+    → AreRunners script header len order last → ends ≡ map (runner_end why) last → is_sound (record header { records = most_known_of ends }) ≡ true
+known_sound script header len count order why last ends sound h a are =
+    subst (λ (n : ℕ). is_sound (record header { records = n }) ≡ true) (sym (ap (λ (es : List RankEnd). most_known_of es) are ∙ ends_known why last))
+    (rise_sound header len count (most_known last) sound h (most_rise header len last a.known))
+
+module _ (script : Script) (header : Header) (len : ℕ) (before : List Mark) (served : ServeEnd) (held : Option (List ℕ)) (calls : Option (List DiskCall)) (faults records : ℕ) (first : List Runner)
+    (left : Option (List ℕ)) (made : Option (List DiskCall)) (failed count : ℕ) (last : List Runner) (why : RankStop) (ends : List RankEnd)
+    (lawful : is_lawful script ≡ true) (same_count : records ≡ header.records) (all : first ≡ replicate script.ranks (first_runner header records)) (none : before ≡ [])
+    (ends_are : ends ≡ map (runner_end why) last) (h : HasMet script header len before served held calls faults records first left made failed count last) where
+  known_is : most_known_of ends ≡ most_known last
+  known_is = ap (λ (es : List RankEnd). most_known_of es) ends_are ∙ ends_known why last
+
+  answers_are : map (λ end. end.answers) ends ≡ map (λ runner. runner.answers) last
+  answers_are = ap (λ (es : List RankEnd). map (λ (end : RankEnd). end.answers) es) ends_are ∙ map_map (λ (end : RankEnd). end.answers) (runner_end why) last
+
+  pending_are : map (λ end. end.pending) ends ≡ map (λ runner. machine.pending runner.rank.state) last
+  pending_are = ap (λ (es : List RankEnd). map (λ (end : RankEnd). end.pending) es) ends_are ∙ map_map (λ (end : RankEnd). end.pending) (runner_end why) last
+
+  -- ---- with a fault
+
+  all_said : (e : StepErr) → IsThrough script header len before served.order held calls records first left made count last
+      → HaveAnswers (setting_of script header) e before served.order held records (all_between script.calls first) last
+  all_said e t =
+      have_reached (setting_of script header) e before served.order held records (all_between script.calls first) (arrived_all header script.calls first) last
+      (between_up header script.calls first (first_free header script.ranks records first all))
+      (reached_then (AllSay e last) script.hints (setting_of script header) before served.order served.order t.led.more (stage held calls records (arrived_all header script.calls first))
+      (stage left made count (arrived_all header script.calls last)) t.led.led t.led.grown
+      (reached_here (AllSay e last) (setting_of script header) served.order served.order left count (arrived_all header script.calls last) refl
+      (λ n. all_say_here script header e last last n ((ranks_lawful script lawful).one_each ∙ sym t.runners.all) refl t.arrived (keep_own last))))
+
+  -- the answers may be those of a fault before it
+  said_at : (e : StepErr) (now : Option (List ℕ)) (total : ℕ) → EndedAt header ends served.fault e left count now total
+      → (x : StepErr) × (((e ≡ x) ⊎ (e ≡ fault.Memory)) × HaveAnswers (setting_of script header) x before served.order held records (all_between script.calls first) last)
+  said_at e now total (in_closing no_fault whole torn k) = (e, (inl refl, all_said e (h.through no_fault)))
+  said_at e now total (as_left (inl some) l k) = (e, (inl refl, h.answered e some))
+  said_at e now total (as_left (inr memory) l k) = by_fault served.fault refl
+    where
+      by_fault : (m : Option StepErr) → served.fault ≡ m
+          → (x : StepErr) × (((e ≡ x) ⊎ (e ≡ fault.Memory)) × HaveAnswers (setting_of script header) x before served.order held records (all_between script.calls first) last)
+      by_fault None f = (e, (inl refl, all_said e (h.through f)))
+      by_fault (Some x) f = (x, (inr memory, h.answered x f))
+
+  ends_at : (e : StepErr) (now : Option (List ℕ)) (total : ℕ) → EndedAt header ends served.fault e left count now total
+      → IfSome held (λ file. (bytes : List ℕ) × (now ≡ Some bytes) × EndsAt script (setting_of script header) e
+      (fold (step_to (setting_of script header)) (counted file records, arrived_all header script.calls first) served.order) served.order bytes total)
+  ends_at e now total (in_closing no_fault whole torn which) =
+      let t = h.through no_fault in
+      ends_closing script header e before served.order calls made held left now count records total last (arrived_all header script.calls first) none
+      ((ranks_lawful script lawful).one_each ∙ sym t.runners.all) (are_over script last t.free t.arrived) (ended_legal script header len served.order last lawful t.runners t.free t.arrived) t.led
+      (subst (λ (n : ℕ). BothTold (λ old bytes. IsTorn [] (byte_len (count_width header.version)) old (raised (as_setting header) (counted old count) n).file bytes) left now) known_is torn) (by_count which)
+    where
+      by_count : (total ≡ count) ⊎ (total ≡ max count (most_known_of ends)) → (total ≡ count) ⊎ (total ≡ (raised (as_setting header) (counted [] count) (most_known last)).records)
+      by_count (inl q) = inl q
+      by_count (inr q) = inr (q ∙ ap (λ (n : ℕ). max count n) known_is ∙ sym (raised_records (as_setting header) (counted [] count) (most_known last)))
+  ends_at e now total (as_left (inl some) l k) =
+      ends_same script (setting_of script header) e held records (arrived_all header script.calls first) served.order left now count total l k
+      (ends_before script (setting_of script header) e before served.order held records (arrived_all header script.calls first) left count none (h.cut e some))
+  ends_at e now total (as_left (inr memory) l k) =
+      ends_same script (setting_of script header) e held records (arrived_all header script.calls first) served.order left now count total l k (by_fault served.fault refl)
+    where
+      by_fault : (m : Option StepErr) → served.fault ≡ m → IfSome held (λ file. (bytes : List ℕ) × (left ≡ Some bytes) × EndsAt script (setting_of script header) e
+          (fold (step_to (setting_of script header)) (counted file records, arrived_all header script.calls first) served.order) served.order bytes count)
+      by_fault None f = ends_between script header e before served.order calls made held left count records last (arrived_all header script.calls first) none memory (h.through f).led
+      by_fault (Some x) f =
+          ends_as script (setting_of script header) x e held records (arrived_all header script.calls first) served.order served.order left count (inr memory) refl
+          (ends_before script (setting_of script header) x before served.order held records (arrived_all header script.calls first) left count none (h.cut x f))
+
+  cut_in_turn : (e : StepErr) (now : Option (List ℕ)) (total : ℕ) (end : RunEnd) → EndOfCut header ends served e left count now total end
+      → IfSome held (λ file. (bytes : List ℕ) × (now ≡ Some bytes) × IsCutRun script header file e end.order bytes total end.answers)
+  cut_in_turn e now total end c =
+      subst (λ (ms : List Mark). IfSome held (λ file. (bytes : List ℕ) × (now ≡ Some bytes) × IsCutRun script header file e ms bytes total end.answers)) (sym c.order)
+      (cut_run script header e served.order held now total end.answers (cut_rows script e (map (λ runner. runner.answers) last) end.answers (length-map last (λ (runner : Runner). runner.answers) ∙ h.long) (λ disk. c.kept disk ∙ answers_are) rows)
+      (λ file there. cut_answers script header e said.0 records first last before served.order file end.answers lawful same_count all none said.1.0
+      (subst (λ (m : Option (List ℕ)). HaveAnswers (setting_of script header) said.0 before served.order m records (all_between script.calls first) last) there said.1.1) rows)
+      (ends_stood script header e records first served.order held now total lawful same_count all h.begun (ends_at e now total c.at)))
+    where
+      said : (x : StepErr) × (((e ≡ x) ⊎ (e ≡ fault.Memory)) × HaveAnswers (setting_of script header) x before served.order held records (all_between script.calls first) last)
+      said = said_at e now total c.at
+
+      by_rows : (end.answers ≡ map (λ x. x.answers) ends) ⊎ (end.answers ≡ []) → (end.answers ≡ map (λ runner. runner.answers) last) ⊎ (end.answers ≡ [])
+      by_rows (inl q) = inl (q ∙ answers_are)
+      by_rows (inr q) = inr q
+
+      rows : (end.answers ≡ map (λ runner. runner.answers) last) ⊎ (end.answers ≡ [])
+      rows = by_rows c.rows
+
+  -- ---- the run
+
+  pub run_in_turn : (now : Option (List ℕ)) (later : Option (List DiskCall)) (risen total : ℕ) (end : RunEnd) → Closing header ends served left made failed count now later risen total end
+      → ((e : StepErr) → end.fault ≡ Some e → EndOfCut header ends served e left count now total end) → IsRun script header held calls faults now later risen total end
+  run_in_turn now later risen total end c cut = record {
+    legal = λ good. let t = h.through (c.went good).0 in subst (λ (ms : List Mark). IsLegal script ms) (sym c.order) (ended_legal script header len served.order last lawful t.runners t.free t.arrived);
+    bytes = λ good. if_told held (closed_so good) (λ file k. k.bytes ∙ ap (λ (x : End). Some x.bytes) (serial file));
+    records = λ good. if_told held (closed_so good) (λ file k. k.records ∙ ap (λ (x : End). x.records) (serial file));
+    answers = λ good. if_told held (closed_so good) (λ file k. c.answers good ∙ answers_are ∙ k.answers ∙ ap (λ (x : End). x.answers) (serial file));
+    pending = λ good. if_told held (closed_so good) (λ file k. c.pending good ∙ pending_are ∙ k.pending ∙ ap (λ (x : End). x.pending) (serial file));
+    calls = λ good. if_told held (closed_so good) (λ file k. k.calls ∙ ap (λ (cs : List DiskCall). with_end calls cs) (device file));
+    sound = c.sound;
+    begun = subst (λ (ms : List Mark). HasBegun script ms) (sym c.order) h.begun;
+    fault = λ disk. by_fault disk served.fault refl;
+    later = le_both faults failed risen h.later c.later;
+    cut = λ e is. cut_in_turn e now total end (cut e is);
+  }
+    where
+      le_both : (a b d : ℕ) → a ≤ b → b ≤ d → a ≤ d
+      le_both a b d k l = omega arith
+
+      serial : (file : List ℕ) → ended_from (setting_of script header) (counted file records, arrived_all header script.calls first) served.order ≡ serial_from script header file end.order
+      serial file = serial_from_first script header file records first served.order lawful same_count all ∙ ap (λ (ms : List Mark). serial_from script header file ms) (sym c.order)
+
+      device : (file : List ℕ) → all_calls_over script.hints (setting_of script header) (counted file records, arrived_all header script.calls first) served.order ≡ run_calls script header file end.order
+      device file = calls_from_first script header file records first served.order lawful same_count all ∙ ap (λ (ms : List Mark). run_calls script header file ms) (sym c.order)
+
+      closed_so : end.fault ≡ None
+          → IfSome held (λ file. IsClosed script.hints (setting_of script header) (counted file records, arrived_all header script.calls first) served.order calls now later total last)
+      closed_so good =
+          let t = h.through (c.went good).0 in
+          run_ended script header len before served.order calls made later held left now count total records last (arrived_all header script.calls first) lawful none t.runners t.free t.arrived t.led
+          (subst (λ (n : ℕ). HasClosed header n count left made total now later) known_is (c.closed good))
+
+      by_fault : end.fault ≡ Some fault.Disk → (m : Option StepErr) → served.fault ≡ m → Rose faults risen
+      by_fault disk None f = rose_before faults failed risen h.later (c.cause f disk)
+      by_fault disk (Some x) f = rose_later faults failed risen (h.cause (f ∙ ap (λ (y : StepErr). Some y) (c.first x f disk))) c.later
