@@ -2,7 +2,7 @@
 use Rattle.overlay_laws.proofs.Members.{each_in}
 use Rattle.list_laws.proofs.Truth.{and_first, and_second, no_false, or_first_false, or_second_false}
 use Rattle.std.proofs.lemmas.Bool.{leb-true, le-leb, lt-ltb, or_right}
-use Rattle.std.proofs.Common.{◌≡◌, ℕ, ◌+◌, ◌-◌, ◌<◌, ◌≤◌, refl, sym, ap, subst, ◌∙◌, inl, inr, ◌⊎◌, List, [], ◌∷◌, length, Bool, true, false, ◌||◌, ◌&&◌, max, Option, Some, None, arith}
+use Rattle.std.proofs.Common.{◌≡◌, ℕ, ◌+◌, ◌<◌, ◌≤◌, refl, sym, ap, subst, ◌∙◌, inl, inr, ◌⊎◌, List, [], ◌∷◌, length, Bool, true, false, ◌||◌, ◌&&◌, max, Option, Some, None, arith}
 use Rattle.std.proofs.lemmas.Grind.{common_steps}
 use Rattle.std.proofs.lemmas.Bool.Decides.{nat_tests}
 use Rattle.std.specs.Prelude.{map, nat_lt, nat_le, ◌==◌, slice_get}
