@@ -2,8 +2,8 @@ pub mod Taken
 pub mod Keeping
 pub mod Created
 pub mod Opened
-pub mod Redefined
+pub mod RedefinedLaws
 pub mod Redefinable
-pub mod Ready
+pub mod ReadyLaws
 pub mod NotReady
 pub mod Untold

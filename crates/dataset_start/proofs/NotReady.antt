@@ -7,7 +7,6 @@ use Rattle.nc_outside.specs.DiskState.{PartlyWritten}
 use Rattle.nc_outside.specs.Told.{after, BothTold}
 use Rattle.serial_spec.specs.File.{at, longer, written}
 use Rattle.serial_spec.specs.HeaderBytes.{canon, header_len}
-use Rattle.serial_spec.specs.Layout.{end_of}
 use Rattle.serial_spec.specs.SerialEnd.{start}
 use Rattle.serial_spec.specs.Redefinition.{redefined}
 use Rattle.serial_spec.specs.Torn.{IsBegun, IsLengthened, IsTornCreation, IsTornRedefinition}
@@ -18,9 +17,9 @@ use Rattle.redef_laws.specs.Applied.{IsApplied}
 use Rattle.redef_laws.specs.Shifted.{new_end}
 use Rattle.redef_mover.specs.Relocation.{KeepsPlaces}
 use Rattle.dataset_start.specs.Dataset.{created_header, header_of_run, AreHeadersOf}
-use Rattle.dataset_start.specs.Readiness.{filled_if, IsCutRedefinition, IsNotReady, IsOpened, IsPartlyOpened, IsPartlyRedefined}
+use Rattle.dataset_start.specs.Readiness.{blank_file, dataset_end, empty_end, filled_if, IsCutRedefinition, IsNotReady, IsOpened, IsPartlyOpened, IsPartlyRedefined}
 use Rattle.dataset_start.proofs.Created.{front-of-zeros}
-use Rattle.dataset_start.proofs.Ready.{begun, header-changed, header-kept, start-created}
+use Rattle.dataset_start.proofs.ReadyLaws.{at_front, header-changed, header-kept, start-created}
 use Rattle.nc_outside.proofs.ToldLaws.{told_as}
 use Rattle.std.proofs.lemmas.Bool.{both_ways}
 
@@ -89,66 +88,66 @@ pub not_laid : (script : script_type.Script) (held : Option (List ℕ)) → scri
 not_laid script None f = refl
 not_laid script (Some file) f = (file, refl, as_created script file file f (inl refl))
 
-begun_file : head.Header → List ℕ
-begun_file header = longer (canon header) (end_of header (header_len header) 0)
+unfilled_file : head.Header → List ℕ
+unfilled_file header = blank_file header
 
-filled_as_long : (asked : Bool) (header : head.Header) → length (filled_if asked header (begun_file header)) ≡ length (begun_file header)
-unfolding begun_file
+filled_as_long : (asked : Bool) (header : head.Header) → length (filled_if asked header (unfilled_file header)) ≡ length (unfilled_file header)
+unfolding unfilled_file
 filled_as_long false header = refl
-filled_as_long true header = filled_long header (longer (canon header) (end_of header (header_len header) 0)) (let l = longer_long (canon header) (end_of header (header_len header) 0) in omega arith)
+filled_as_long true header = filled_long header (blank_file header) (let l = longer_long (canon header) (empty_end header) in omega arith)
 
-start_as_long : (script : script_type.Script) (header : head.Header) (file : List ℕ) → script.fresh ≡ true → length (start script header file) ≡ length (begun_file header)
-unfolding begun_file
+start_as_long : (script : script_type.Script) (header : head.Header) (file : List ℕ) → script.fresh ≡ true → length (start script header file) ≡ length (unfilled_file header)
+unfolding unfilled_file
 start_as_long script header file f = ap (λ (g : List ℕ). length g) (start-created script header file f) ∙ filled_as_long script.filled header
 
 -- the creation was cut off before the fill
-begun_more : (script : script_type.Script) (header : head.Header) (file left : List ℕ) → script.fresh ≡ true
-    → IsTornCreation (canon header) (longer (canon header) (end_of header (header_len header) 0)) file left → IsTornCreation (canon header) (start script header file) file left
-unfolding begun_file
-begun_more script header file left f (inl e) = inl e
-begun_more script header file left f (inr b) = inr (record {
+unfilled_part : (script : script_type.Script) (header : head.Header) (file left : List ℕ) → script.fresh ≡ true
+    → IsTornCreation (canon header) (blank_file header) file left → IsTornCreation (canon header) (start script header file) file left
+unfolding unfilled_file
+unfilled_part script header file left f (inl e) = inl e
+unfilled_part script header file left f (inr b) = inr (record {
   short = (let same = start_as_long script header file f in let few = b.short in omega arith);
   each = λ x l. by_byte x (b.each x l);
 })
   where
-    by_byte : (x : ℕ) → (at left x ≡ 0) ⊎ (at left x ≡ at (canon header) x) ⊎ (at left x ≡ at (longer (canon header) (end_of header (header_len header) 0)) x)
+    by_byte : (x : ℕ) → (at left x ≡ 0) ⊎ (at left x ≡ at (canon header) x) ⊎ (at left x ≡ at (blank_file header) x)
         → (at left x ≡ 0) ⊎ (at left x ≡ at (canon header) x) ⊎ (at left x ≡ at (start script header file) x)
     by_byte x (inl e) = inl e
     by_byte x (inr (inl e)) = inr (inl e)
-    by_byte x (inr (inr e)) = inr (inl (e ∙ at-longer (canon header) (end_of header (header_len header) 0) x))
+    by_byte x (inr (inr e)) = inr (inl (e ∙ at-longer (canon header) (empty_end header) x))
 
 pub create_refused : (script : script_type.Script) (header : head.Header) (held now : Option (List ℕ)) → script.fresh ≡ true → header ≡ created_header script
-    → BothTold (λ old left. IsTornCreation (canon header) (longer (canon header) (end_of header (header_len header) 0)) old left) held now
+    → BothTold (λ old left. IsTornCreation (canon header) (blank_file header) old left) held now
     → BothTold (IsNotReady script) held now
 create_refused script header held now f h b =
-    told_as (λ old left. IsTornCreation (canon header) (longer (canon header) (end_of header (header_len header) 0)) old left) (IsNotReady script) held now
-    (λ old left t. as_created script old left f (subst (λ (k : head.Header). IsTornCreation (canon k) (start script k old) old left) h (begun_more script header old left f t))) b
+    told_as (λ old left. IsTornCreation (canon header) (blank_file header) old left) (IsNotReady script) held now
+    (λ old left t. as_created script old left f (subst (λ (k : head.Header). IsTornCreation (canon k) (start script k old) old left) h (unfilled_part script header old left f t))) b
 
 -- the fill was cut off
 filled_part : (script : script_type.Script) (header : head.Header) (file left : List ℕ) → script.fresh ≡ true
-    → IsBetween (longer (canon header) (end_of header (header_len header) 0)) (filled_if script.filled header (longer (canon header) (end_of header (header_len header) 0))) left
+    → IsBetween (blank_file header) (filled_if script.filled header (blank_file header)) left
     → IsBegun (canon header) (start script header file) left
-unfolding begun_file
+unfolding unfilled_file
 filled_part script header file left f b = record {
   short = (let same = start_as_long script header file f in let few = b.len in omega arith);
   each = λ x l. by_byte x (b.each x);
 }
   where
     by_byte : (x : ℕ)
-        → (at left x ≡ at (longer (canon header) (end_of header (header_len header) 0)) x)
-        ⊎ (at left x ≡ at (filled_if script.filled header (longer (canon header) (end_of header (header_len header) 0))) x)
+        → (at left x ≡ at (blank_file header) x)
+        ⊎ (at left x ≡ at (filled_if script.filled header (blank_file header)) x)
         → (at left x ≡ 0) ⊎ (at left x ≡ at (canon header) x) ⊎ (at left x ≡ at (start script header file) x)
-    by_byte x (inl e) = inr (inl (e ∙ at-longer (canon header) (end_of header (header_len header) 0) x))
+    by_byte x (inl e) = inr (inl (e ∙ at-longer (canon header) (empty_end header) x))
     by_byte x (inr e) = inr (inr (e ∙ sym (ap (λ (g : List ℕ). at g x) (start-created script header file f))))
 
 pub fill_refused : (script : script_type.Script) (header : head.Header) (held mid now : Option (List ℕ)) → script.fresh ≡ true → header ≡ created_header script
-    → mid ≡ after (λ _. longer (canon header) (end_of header (header_len header) 0)) held
+    → mid ≡ after (λ _. blank_file header) held
     → BothTold (λ old left. IsBetween old (filled_if script.filled header old) left) mid now → BothTold (IsNotReady script) held now
 fill_refused script header None mid now f h e b = subst (λ (m : Option (List ℕ)). BothTold (λ old left. IsBetween old (filled_if script.filled header old) left) m now) e b
 fill_refused script header (Some file) mid now f h e b =
     by_told (subst (λ (m : Option (List ℕ)). BothTold (λ old left. IsBetween old (filled_if script.filled header old) left) m now) e b)
   where
-    by_told : BothTold (λ old left. IsBetween old (filled_if script.filled header old) left) (Some (longer (canon header) (end_of header (header_len header) 0))) now
+    by_told : BothTold (λ old left. IsBetween old (filled_if script.filled header old) left) (Some (blank_file header)) now
         → BothTold (IsNotReady script) (Some file) now
     by_told c = (
       c.0,
@@ -178,7 +177,7 @@ heads_of : (script : script_type.Script) (old header : head.Header) (file : List
     → ((length script.extra == 0) ≡ true → header ≡ old) → ((length script.extra == 0) ≡ false → IsApplied old script.extra header) → AreHeadersOf script file old header
 heads_of script old header file f o same changed = record {
   created = λ c. absurd (both_ways script.fresh f c);
-  opened = λ _. begun (Some file) old o;
+  opened = λ _. at_front (Some file) old o;
   made = by_extras (length script.extra == 0) refl;
 }
   where
@@ -187,11 +186,11 @@ heads_of script old header file f o same changed = record {
     by_extras false e = header-changed script old header e (changed e)
 
 pub lengthen_refused : (script : script_type.Script) (header : head.Header) (held mid now : Option (List ℕ)) → script.fresh ≡ false → (length script.extra == 0) ≡ true
-    → IsOpened held header → mid ≡ held → BothTold (IsLengthened (end_of header (header_len header) header.records)) mid now → BothTold (IsPartlyOpened script) held now
+    → IsOpened held header → mid ≡ held → BothTold (IsLengthened (dataset_end header)) mid now → BothTold (IsPartlyOpened script) held now
 lengthen_refused script header held mid now f x o e b =
-    by_held held o (subst (λ (m : Option (List ℕ)). BothTold (IsLengthened (end_of header (header_len header) header.records)) m now) e b)
+    by_held held o (subst (λ (m : Option (List ℕ)). BothTold (IsLengthened (dataset_end header)) m now) e b)
   where
-    by_held : (t : Option (List ℕ)) → IsOpened t header → BothTold (IsLengthened (end_of header (header_len header) header.records)) t now → BothTold (IsPartlyOpened script) t now
+    by_held : (t : Option (List ℕ)) → IsOpened t header → BothTold (IsLengthened (dataset_end header)) t now → BothTold (IsPartlyOpened script) t now
     by_held None p c = c
     by_held (Some file) p c = (
       c.0,

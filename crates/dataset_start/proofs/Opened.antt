@@ -119,14 +119,14 @@ tells held bytes (Err stop) err e f why s r = by_cause why
 
 -- ---- the calls of an opening
 
-pub begun_calls : (held mid : Option (List ℕ)) (before begun now : Option (List DiskCall)) → mid ≡ held → begun ≡ after (λ _. []) before
-    → IfSome mid (λ file. now ≡ with_end begun (head_load file)) → IfSome held (λ file. now ≡ after (λ _. head_load file) before)
-begun_calls held mid before begun now same b h = by_held held (subst (λ (t : Option (List ℕ)). IfSome t (λ file. now ≡ with_end begun (head_load file))) same h)
+pub front_calls : (held mid : Option (List ℕ)) (before started now : Option (List DiskCall)) → mid ≡ held → started ≡ after (λ _. []) before
+    → IfSome mid (λ file. now ≡ with_end started (head_load file)) → IfSome held (λ file. now ≡ after (λ _. head_load file) before)
+front_calls held mid before started now same b h = by_held held (subst (λ (t : Option (List ℕ)). IfSome t (λ file. now ≡ with_end started (head_load file))) same h)
   where
     from_none : (calls : List DiskCall) (old : Option (List DiskCall)) → with_end (after (λ _. []) old) calls ≡ after (λ _. calls) old
     from_none calls None = refl
     from_none calls (Some others) = refl
 
-    by_held : (t : Option (List ℕ)) → IfSome t (λ file. now ≡ with_end begun (head_load file)) → IfSome t (λ file. now ≡ after (λ _. head_load file) before)
+    by_held : (t : Option (List ℕ)) → IfSome t (λ file. now ≡ with_end started (head_load file)) → IfSome t (λ file. now ≡ after (λ _. head_load file) before)
     by_held None g = tt
     by_held (Some file) g = g ∙ ap (λ (c : Option (List DiskCall)). with_end c (head_load file)) b ∙ from_none (head_load file) before

@@ -1,6 +1,8 @@
 -- How a dataset is made ready.
 --     IsOpened held header                  the front of an existing file spells the header
 --     filled_if, fill_calls_if              the fill of a new dataset, where it is asked for
+--     dataset_end header                    where a dataset with this header ends
+--     empty_end, blank_file header          where it ends without a record; a created dataset before it is filled
 --     opened_calls header file              the device calls that open an existing dataset to which nothing is added
 --     first_calls script old header file    the device calls before the ranks begin
 --     IsFaultless script held               nothing is wrong with the dataset
@@ -18,6 +20,7 @@ use Rattle.nc_base.specs.declared.script.Script.{Script}
 use Rattle.nc_base.specs.declared.step.DiskCall.{DiskCall}
 use Rattle.nc_outside.specs.Told.{after, BothTold}
 use Rattle.serial_spec.specs.DeviceCalls.{fill_calls, grow_to, head_load, opening_calls, redefining_calls}
+use Rattle.serial_spec.specs.File.{longer}
 use Rattle.serial_spec.specs.Fill.{filled}
 use Rattle.serial_spec.specs.HeaderBytes.{canon, header_len}
 use Rattle.serial_spec.specs.SoundHeaders.{is_sound}
@@ -38,6 +41,18 @@ pub record IsOpened (held : Option (List ℕ)) (header : Header) : Type 0 where
   pub count : ℕ
   pub begins : BeginsWith (front file) header count
 
+-- where a dataset with this header ends
+abbrev pub dataset_end : Header → ℕ
+dataset_end header = end_of header (header_len header) header.records
+
+-- the same without a record
+abbrev pub empty_end : Header → ℕ
+empty_end header = end_of header (header_len header) 0
+
+-- a created dataset before it is filled: its header, and zeros up to its end
+abbrev pub blank_file : Header → List ℕ
+blank_file header = longer (canon header) (empty_end header)
+
 abbrev pub filled_if : Bool → Header → List ℕ → List ℕ
 filled_if asked header file = if asked then filled header file else file
 
@@ -45,7 +60,7 @@ abbrev pub fill_calls_if : Bool → Hints → Header → List DiskCall
 fill_calls_if asked hints header = if asked then fill_calls hints header else []
 
 abbrev pub opened_calls : Header → List ℕ → List DiskCall
-opened_calls header file = head_load file ++ grow_to (length file) (end_of header (header_len header) header.records)
+opened_calls header file = head_load file ++ grow_to (length file) (dataset_end header)
 
 -- the device calls before the ranks begin
 abbrev pub first_calls : Script → Header → Header → List ℕ → List DiskCall
@@ -97,7 +112,7 @@ IsPartlyRedefined old extras file left = (left ≡ file) ⊎ ((new : Header) × 
 
 -- an existing dataset, whose first header is read: made longer in part or, where something is added to it, redefined in part
 pub record IsTornOpening (script : Script) (old header : Header) (file left : List ℕ) : Type 0 where
-  pub kept : (length script.extra == 0) ≡ true → IsLengthened (end_of header (header_len header) header.records) file left
+  pub kept : (length script.extra == 0) ≡ true → IsLengthened (dataset_end header) file left
   pub moved : (length script.extra == 0) ≡ false → IsCutRedefinition old header file left
 
 -- an existing dataset as it was, or opened in part

@@ -1,18 +1,16 @@
 // An existing dataset.
-ghost use Rattle.std.specs.Prelude.{◌≡◌, ◌≤◌, ◌^◌, ℕ, List, true, false, length, take, OnOk, OnErr, IfOk, IfErr, IfSome, IsErrOf, Err};
+ghost use Rattle.std.specs.Prelude.{◌≡◌, ◌≤◌, ◌^◌, true, false, length, OnOk, OnErr, IfOk, IfErr, IfSome, IsErrOf, Err};
 ghost use Rattle.nc_base.specs.declared.errors.HeaderErr.{HeaderErr};
 ghost use Rattle.nc_outside.specs.Told.{after, with_end, BothTold};
 ghost use Rattle.nc_outside.specs.Cause.{HasDiskCause, Rose};
 ghost use Rattle.serial_spec.specs.DeviceCalls.{grow_to, head_load};
 ghost use Rattle.serial_spec.specs.File.{longer};
-ghost use Rattle.serial_spec.specs.HeaderBytes.{header_len};
 ghost use Rattle.serial_spec.specs.HeaderFaults.{HasFault};
 ghost use Rattle.serial_spec.specs.SoundHeaders.{is_sound};
-ghost use Rattle.serial_spec.specs.Layout.{end_of};
 ghost use Rattle.serial_spec.specs.Redefinition.{is_redefinable};
 ghost use Rattle.serial_spec.specs.Torn.{IsLengthened};
 ghost use Rattle.dataset_start.specs.Dataset.{front, IsKept, TellsDataset};
-ghost use Rattle.dataset_start.specs.Readiness.{IsOpened, IsPartlyOpened, IsReady};
+ghost use Rattle.dataset_start.specs.Readiness.{dataset_end, IsOpened, IsPartlyOpened, IsReady};
 ghost use Rattle.dataset_start.specs.Stops.{line_of, status_of, IsOfHeader, IsOfOpening};
 
 use crate::redefined::redefine;
@@ -35,7 +33,7 @@ pub(crate) fn open<D: Disk>(
     requires opened { script.now.fresh ≡ false }
     ensures ready { IfOk result (λ header. IsReady script.now header (D.held disk.old) (D.held disk.new) (D.calls disk.old) (D.calls disk.new)) }
     ensures from { OnOk result (D.from disk.new ≡ 0) }
-    ensures len { IfOk result (λ header. end_of header (header_len header) header.records ≤ D.len disk.new) }
+    ensures len { IfOk result (λ header. dataset_end header ≤ D.len disk.new) }
     ensures bad { IfErr result (λ stop. status_of stop ≡ 4 → IfSome (line_of stop) (TellsDataset script.now (D.held disk.old))) }
     ensures unchanged { IfErr result (λ stop. status_of stop ≡ 4 → D.held disk.new ≡ D.held disk.old) }
     ensures refused { OnErr result (BothTold (IsPartlyOpened script.now) (D.held disk.old) (D.held disk.new)) }
@@ -108,11 +106,11 @@ fn read_front<D: Disk>(alloc: Global, disk: &mut D) -> Result<Vec<u8>, DiskErr>
 fn lengthen<D: Disk>(alloc: Global, disk: &mut D, header: &Header) -> Result<(), DiskErr>
     requires sound { is_sound header.now ≡ true }
     requires from { D.from disk.old ≡ 0 }
-    ensures bytes { OnOk result (D.held disk.new ≡ after (λ file. longer file (end_of header.now (header_len header.now) header.now.records)) (D.held disk.old)) }
-    ensures lengthened { BothTold (IsLengthened (end_of header.now (header_len header.now) header.now.records)) (D.held disk.old) (D.held disk.new) }
-    ensures calls { OnOk result (IfSome (D.held disk.old) (λ file. D.calls disk.new ≡ with_end (D.calls disk.old) (grow_to (length file) (end_of header.now (header_len header.now) header.now.records)))) }
+    ensures bytes { OnOk result (D.held disk.new ≡ after (λ file. longer file (dataset_end header.now)) (D.held disk.old)) }
+    ensures lengthened { BothTold (IsLengthened (dataset_end header.now)) (D.held disk.old) (D.held disk.new) }
+    ensures calls { OnOk result (IfSome (D.held disk.old) (λ file. D.calls disk.new ≡ with_end (D.calls disk.old) (grow_to (length file) (dataset_end header.now)))) }
     ensures from { D.from disk.new ≡ 0 }
-    ensures len { OnOk result (end_of header.now (header_len header.now) header.now.records ≤ D.len disk.new) }
+    ensures len { OnOk result (dataset_end header.now ≤ D.len disk.new) }
     ensures cause { HasDiskCause (D.faults disk.old) (D.faults disk.new) result }
 {
     let end = end_of(header, header.records);

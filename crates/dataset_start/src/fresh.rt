@@ -1,16 +1,14 @@
 // A new dataset.
-ghost use Rattle.std.specs.Prelude.{◌≡◌, ◌≤◌, ◌∷◌, [], true, OnOk, OnErr, IfOk, IfErr};
+ghost use Rattle.std.specs.Prelude.{◌≡◌, ◌≤◌, ◌∷◌, [], true, OnOk, OnErr};
 ghost use Rattle.nc_base.specs.declared.step.DiskCall.TheVariants.{Grow, Store};
 ghost use Rattle.nc_outside.specs.Told.{after, with_end, BothTold};
 ghost use Rattle.overlay_laws.specs.Changes.{IsBetween};
 ghost use Rattle.nc_outside.specs.Cause.{HasDiskCause};
-ghost use Rattle.serial_spec.specs.File.{longer};
 ghost use Rattle.serial_spec.specs.HeaderBytes.{canon, header_len};
 ghost use Rattle.serial_spec.specs.SoundHeaders.{is_writable, is_sound};
 ghost use Rattle.serial_spec.specs.Lawful.{are_lawful_hints};
-ghost use Rattle.serial_spec.specs.Layout.{end_of};
 ghost use Rattle.serial_spec.specs.Torn.{IsTornCreation};
-ghost use Rattle.dataset_start.specs.Readiness.{fill_calls_if, filled_if};
+ghost use Rattle.dataset_start.specs.Readiness.{blank_file, empty_end, fill_calls_if, filled_if};
 
 use cdf_header::encode;
 use fill_records::prefill;
@@ -19,7 +17,7 @@ use nc_outside::{Disk, DiskErr};
 use std::alloc::Global;
 use var_layout::end_of;
 
-/// Creates the dataset: zeros up to its end, and the header. Nothing is begun before the header's bytes are made.
+/// Creates the dataset: zeros up to its end, and the header. Nothing is done before the header's bytes are made.
 pub(crate) fn create<D: Disk>(
     alloc: Global,
     disk: &mut D,
@@ -27,11 +25,11 @@ pub(crate) fn create<D: Disk>(
     header: &Header,
 ) -> Result<(), DiskErr>
     requires writable { is_writable header.now ≡ true }
-    ensures bytes { OnOk result (D.held disk.new ≡ after (λ _. longer (canon header.now) (end_of header.now (header_len header.now) 0)) (D.held disk.old)) }
-    ensures refused { OnErr result (BothTold (λ old left. IsTornCreation (canon header.now) (longer (canon header.now) (end_of header.now (header_len header.now) 0)) old left) (D.held disk.old) (D.held disk.new)) }
-    ensures calls { OnOk result (D.calls disk.new ≡ after (λ _. Grow (end_of header.now (header_len header.now) 0) ∷ Store 0 (header_len header.now) ∷ []) (D.calls disk.old)) }
+    ensures bytes { OnOk result (D.held disk.new ≡ after (λ _. blank_file header.now) (D.held disk.old)) }
+    ensures refused { OnErr result (BothTold (λ old left. IsTornCreation (canon header.now) (blank_file header.now) old left) (D.held disk.old) (D.held disk.new)) }
+    ensures calls { OnOk result (D.calls disk.new ≡ after (λ _. Grow (empty_end header.now) ∷ Store 0 (header_len header.now) ∷ []) (D.calls disk.old)) }
     ensures from { OnOk result (D.from disk.new ≡ 0) }
-    ensures len { OnOk result (D.len disk.new ≡ end_of header.now (header_len header.now) 0) }
+    ensures len { OnOk result (D.len disk.new ≡ empty_end header.now) }
     ensures cause { HasDiskCause (D.faults disk.old) (D.faults disk.new) result }
 {
     let bytes = encode(alloc, header)?;
@@ -52,7 +50,7 @@ pub(crate) fn fill<D: Disk>(
     requires sound { is_sound header.now ≡ true }
     requires hints { are_lawful_hints script.now.hints ≡ true }
     requires from { D.from disk.old ≡ 0 }
-    requires long { end_of header.now (header_len header.now) 0 ≤ D.len disk.old }
+    requires long { empty_end header.now ≤ D.len disk.old }
     ensures bytes { OnOk result (D.held disk.new ≡ after (filled_if script.now.filled header.now) (D.held disk.old)) }
     ensures refused { OnErr result (BothTold (λ old left. IsBetween old (filled_if script.now.filled header.now old) left) (D.held disk.old) (D.held disk.new)) }
     ensures calls { OnOk result (D.calls disk.new ≡ with_end (D.calls disk.old) (fill_calls_if script.now.filled script.now.hints header.now)) }

@@ -11,6 +11,6 @@ mod stop;
 mod streams;
 
 pub use existing::read_header;
-pub use start::{Begun, begin, make_ready};
+pub use start::{Ready, begin, make_ready};
 pub use stop::Stop;
 pub use streams::{TakeErr, give_all};

@@ -1,12 +1,10 @@
 // What comes before the ranks: the script and the dataset.
-ghost use Rattle.std.specs.Prelude.{◌≡◌, ◌≤◌, ℕ, [], true, IfOk, IfErr, OnOk, OnErr, IfSome, IsErrOf, Err, Some, None};
+ghost use Rattle.std.specs.Prelude.{◌≡◌, ◌≤◌, [], true, IfOk, IfErr, OnOk, OnErr, IfSome, IsErrOf, Err, Some, None};
 ghost use Rattle.nc_outside.specs.Told.{after, BothTold};
 ghost use Rattle.nc_outside.specs.Cause.{Rose};
-ghost use Rattle.serial_spec.specs.HeaderBytes.{header_len};
-ghost use Rattle.serial_spec.specs.SoundHeaders.{is_sound, is_writable};
-ghost use Rattle.serial_spec.specs.Layout.{end_of};
+ghost use Rattle.serial_spec.specs.SoundHeaders.{is_writable};
 ghost use Rattle.dataset_start.specs.Dataset.{align_of, Asks, created_header, IsBeforeStart, IsKept, IsRead, refusal, TellsDataset};
-ghost use Rattle.dataset_start.specs.Readiness.{IsLeftUnready, IsNotReady, IsReady};
+ghost use Rattle.dataset_start.specs.Readiness.{dataset_end, IsLeftUnready, IsNotReady, IsReady};
 ghost use Rattle.dataset_start.specs.Stops.{IsOfDataset, IsOfLayout, line_of, status_of};
 ghost use Rattle.nc_base.specs.declared.errors.LayoutErr.{LayoutErr};
 ghost use Rattle.nc_base.specs.declared.script.Script.{Script};
@@ -24,7 +22,7 @@ use var_layout::lay_out;
 
 /// A script, and the header of its dataset, which is ready for the ranks.
 #[derive(Debug, Drop)]
-pub struct Begun {
+pub struct Ready {
     pub script: Script,
     pub header: Header,
 }
@@ -35,13 +33,13 @@ pub fn begin<S: Source, D: Disk>(
     dataset: &str,
     source: &mut S,
     disk: &mut D,
-) -> Result<Begun, Stop>
-    ensures asks { IfOk result (λ b. Asks (S.left source.old) b.script) }
-    ensures read { IfOk result (λ b. IsRead b.script) }
+) -> Result<Ready, Stop>
+    ensures asks { IfOk result (λ ready. Asks (S.left source.old) ready.script) }
+    ensures read { IfOk result (λ ready. IsRead ready.script) }
     ensures taken { OnOk result (S.left source.new ≡ after (λ _. []) (S.left source.old)) }
-    ensures ready { IfOk result (λ b. IsReady b.script b.header (D.held disk.old) (D.held disk.new) (D.calls disk.old) (D.calls disk.new)) }
+    ensures ready { IfOk result (λ ready. IsReady ready.script ready.header (D.held disk.old) (D.held disk.new) (D.calls disk.old) (D.calls disk.new)) }
     ensures from { OnOk result (D.from disk.new ≡ 0) }
-    ensures len { IfOk result (λ b. end_of b.header (header_len b.header) b.header.records ≤ D.len disk.new) }
+    ensures len { IfOk result (λ ready. dataset_end ready.header ≤ D.len disk.new) }
     ensures formed { ¬ (IsErrOf result Stop.Usage) }
     ensures refused { IfErr result (λ stop. status_of stop ≡ 3 → IfSome (S.left source.old) (λ text. refusal text ≡ line_of stop)) }
     ensures bad { IfErr result (λ stop. status_of stop ≡ 4 → (script : Script) × (Asks (S.left source.old) script × IfSome (line_of stop) (TellsDataset script (D.held disk.old)))) }
@@ -56,7 +54,7 @@ pub fn begin<S: Source, D: Disk>(
 {
     let script = take_script(alloc, source)?;
     let header = make_ready(alloc, disk, dataset, &script)?;
-    Ok(Begun { script, header })
+    Ok(Ready { script, header })
 }
 
 /// Makes the dataset of the script ready for the ranks.
@@ -69,7 +67,7 @@ pub fn make_ready<D: Disk>(
     requires kept { IsKept script.now }
     ensures ready { IfOk result (λ header. IsReady script.now header (D.held disk.old) (D.held disk.new) (D.calls disk.old) (D.calls disk.new)) }
     ensures from { OnOk result (D.from disk.new ≡ 0) }
-    ensures len { IfOk result (λ header. end_of header (header_len header) header.records ≤ D.len disk.new) }
+    ensures len { IfOk result (λ header. dataset_end header ≤ D.len disk.new) }
     ensures bad { IfErr result (λ stop. status_of stop ≡ 4 → IfSome (line_of stop) (TellsDataset script.now (D.held disk.old))) }
     ensures unlaid { IfErr result (λ stop. status_of stop ≡ 4 → script.now.fresh ≡ true → disk.new ≡ disk.old) }
     ensures unchanged { IfErr result (λ stop. status_of stop ≡ 4 → D.held disk.new ≡ D.held disk.old) }

@@ -1,5 +1,5 @@
 // A whole source, and a whole text to a sink.
-ghost use Rattle.std.specs.Prelude.{◌≡◌, ◌<◌, ◌≤◌, ℕ, List, [], length, take, IfOk, OnOk, OnErr, IsErrOf};
+ghost use Rattle.std.specs.Prelude.{◌≡◌, ◌<◌, ◌≤◌, ℕ, [], length, take, IfOk, OnOk, IsErrOf};
 ghost use Rattle.nc_outside.specs.Told.{after, with_front, with_end};
 ghost use Rattle.nc_outside.specs.Cause.{HasCause, Rose};
 ghost use Rattle.dataset_start.specs.Limits.{max_text};

@@ -19,7 +19,7 @@ use Rattle.dataset_start.specs.Readiness.{IsNotReady, IsReady}
 use Rattle.ncmpi_cli.proofs.Made.{made_alone, made_fresh}
 use Rattle.dataset_start.proofs.NotReady.{not_laid}
 use Rattle.ncmpi_cli.proofs.Ran.{can_have_begun}
-use Rattle.dataset_start.proofs.Ready.{header-kept}
+use Rattle.dataset_start.proofs.ReadyLaws.{header-kept}
 
 -- the file, where it is told
 pub cut_file : (fault : StepErr) (script : Script) (header : Header) (held_before held_mid held_after : Option (List ℕ)) (calls_before calls_mid : Option (List DiskCall))

@@ -25,7 +25,7 @@ use Rattle.dataset_start.specs.Stops.{IsOfDataset, line_of, status_of}
 use Rattle.dataset_start.specs.declared.stop.Stop.{Stop}
 use Rattle.dataset_start.specs.declared.stop.Stop.TheVariants as stops
 use Rattle.ncmpi_cli.proofs.Ran.{done, nobody_read}
-use Rattle.dataset_start.proofs.Ready.{file-kept, header-kept}
+use Rattle.dataset_start.proofs.ReadyLaws.{file-kept, header-kept}
 
 -- ---- what is so of the script
 

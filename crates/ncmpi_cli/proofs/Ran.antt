@@ -17,7 +17,7 @@ use Rattle.rank_meeting.specs.Begun.{HasBegun}
 use Rattle.ncmpi_cli.specs.Headline.{BeginsFor, IsDone, Ran, with_counts}
 use Rattle.dataset_start.specs.Dataset.{Asks}
 use Rattle.dataset_start.specs.Readiness.{first_calls, CanHaveBegun, IsReady}
-use Rattle.dataset_start.proofs.Ready.{same_script}
+use Rattle.dataset_start.proofs.ReadyLaws.{same_script}
 
 -- ---- a file that is told
 

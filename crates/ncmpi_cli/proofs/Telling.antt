@@ -12,7 +12,7 @@ use Rattle.dataset_start.specs.Readiness.{IsFaultless}
 use Rattle.dataset_start.specs.Stops.{line_of, status_of}
 use Rattle.dataset_start.specs.declared.stop.Stop.{Stop}
 use Rattle.dataset_start.specs.declared.stop.Stop.TheVariants as stops
-use Rattle.dataset_start.proofs.Ready.{same_script}
+use Rattle.dataset_start.proofs.ReadyLaws.{same_script}
 use Rattle.std.proofs.lemmas.Bool.{both_ways}
 
 -- ---- a text that is read is refused by nothing

@@ -16,7 +16,7 @@ ghost use Rattle.dataset_start.specs.Stops.{IsOfDataset, line_of_status, status_
 
 use crate::report::{give, tell};
 use crate::top::Outcome;
-use dataset_start::{Begun, Stop, make_ready};
+use dataset_start::{Ready, Stop, make_ready};
 use generated_run::{make_script, summary_text};
 use nc_base::{MarkList, ReadingTable, RunEnd, StepErr};
 use nc_outside::{Disk, Gate, Sink};
@@ -82,7 +82,7 @@ fn begin_made<D: Disk>(
     size: u32,
     dataset: &str,
     disk: &mut D,
-) -> Result<Begun, Stop>
+) -> Result<Ready, Stop>
     requires some { 1 ≤ size }
     requires few { size ≤ 64 }
     ensures script { IfOk result (λ b. b.script ≡ script_made seed size) }
@@ -97,7 +97,7 @@ fn begin_made<D: Disk>(
 {
     let script = make_script(alloc, seed, size)?;
     let header = make_ready(alloc, disk, dataset, &script)?;
-    Ok(Begun { script, header })
+    Ok(Ready { script, header })
 }
 
 // Gives the text that sums up a run that ended without a fault.
@@ -106,7 +106,7 @@ fn sum_up<K: Sink>(
     out: &mut K,
     seed: u64,
     size: u32,
-    begun: &Begun,
+    begun: &Ready,
     end: RunEnd,
 ) -> Outcome
     requires counted { spec.has_counts begun.now.script ≡ true }

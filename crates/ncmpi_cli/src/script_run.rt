@@ -21,7 +21,7 @@ ghost use Rattle.ncmpi_cli.specs.Watched.{AreReadings};
 use crate::report::{finish, tell};
 use crate::top::Outcome;
 use crate::watched_run::{Seen, WatchedRun, watch_ranks};
-use dataset_start::{Begun, Stop, begin};
+use dataset_start::{Ready, Stop, begin};
 use nc_base::{Header, MarkList, ReadingTable, Script, SizeList, StepErr};
 use nc_outside::{Disk, Gate, Sink, Source};
 use piece_exchange::Tools;
@@ -89,7 +89,7 @@ pub(crate) fn run_script<R: Threads + Wait + Sync, S: Source, K: Sink, D: Disk, 
     ensures told { IfSome (line_of_status result.status) (λ line. GivesLine (K.faults out.old) (K.faults out.new) (K.given out.old) (K.given out.new) line) }
 {
     let alloc = tools.alloc;
-    let Begun { script, mut header } = match begin(alloc, dataset, script, disk) {
+    let Ready { script, mut header } = match begin(alloc, dataset, script, disk) {
         Ok(begun) => begun,
         Err(stop) => return tell(alloc, out, stop, MarkList::new(alloc)),
     };

@@ -3,7 +3,7 @@ use Rattle.std.specs.Prelude.{IfSome}
 use Rattle.dataset_start.specs.Dataset.{TellsDataset}
 use Rattle.dataset_start.specs.Stops.{line_of}
 use Rattle.dataset_start.proofs.NotReady.{lengthen_refused, not_opened, redefine_refused}
-use Rattle.dataset_start.proofs.Ready.{bad-header, bad-redefinition, no_extras, ready-kept, redefined-ready, redefined_long, some_extras}
+use Rattle.dataset_start.proofs.ReadyLaws.{bad-header, bad-redefinition, no_extras, ready-kept, redefined-ready, redefined_long, some_extras}
 use Rattle.dataset_start.proofs.Untold.{disk-untold, redefinition-leaves}
 use Rattle.dataset_start.proofs.existing.open.Goals as goal
 use Rattle.list_laws.proofs.Results.{on_err}

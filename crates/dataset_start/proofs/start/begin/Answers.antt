@@ -1,6 +1,6 @@
 use Rattle.dataset_start.proofs.Keeping.{read_kept}
 use Rattle.std.proofs.Common.{inl, inr, refl}
-use Rattle.dataset_start.proofs.Ready.{unlaid}
+use Rattle.dataset_start.proofs.ReadyLaws.{unlaid}
 use Rattle.dataset_start.proofs.start.begin.Goals as goal
 use Rattle.list_laws.proofs.Results.{on_err}
 

@@ -2,7 +2,7 @@ use Rattle.std.proofs.Common.{◌∙◌}
 use Rattle.redef_laws.proofs.MovedLaws.{writable_is_sound}
 use Rattle.dataset_start.proofs.Keeping.{kept_created, kept_hints, kept_records}
 use Rattle.dataset_start.proofs.NotReady.{create_refused, fill_refused, not_laid, open_refused}
-use Rattle.dataset_start.proofs.Ready.{created_long, ready-created}
+use Rattle.dataset_start.proofs.ReadyLaws.{created_long, ready-created}
 use Rattle.dataset_start.proofs.start.make_ready.Goals as goal
 use Rattle.list_laws.proofs.Results.{on_err}
 use Rattle.std.proofs.lemmas.Result.{on_err_weaker}

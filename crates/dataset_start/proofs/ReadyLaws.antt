@@ -14,7 +14,7 @@ use Rattle.nc_outside.proofs.ToldLaws.{after-after, after-same}
 use Rattle.serial_spec.specs.DeviceCalls.{grow_to, head_load, move_calls, opening_calls, redefining_calls, zero_calls}
 use Rattle.serial_spec.specs.File.{longer}
 use Rattle.serial_spec.specs.Fill.{filled}
-use Rattle.serial_spec.specs.HeaderBytes.{canon, header_len}
+use Rattle.serial_spec.specs.HeaderBytes.{header_len}
 use Rattle.serial_spec.specs.HeaderFaults.{HasFault}
 use Rattle.serial_spec.specs.SoundHeaders.{is_sound}
 use Rattle.serial_spec.specs.Layout.{end_of}
@@ -27,13 +27,13 @@ use Rattle.redef_laws.specs.Shifted.{new_end}
 use Rattle.redef_mover.specs.Relocation.{relocation_calls}
 use Rattle.script_spec.specs.ScriptGrammar.{Reads}
 use Rattle.dataset_start.specs.Dataset.{align_of, created_header, front, header_of_run, redefinition_fault, HasRedefinitionFault, IsSoundFile, TellsDataset}
-use Rattle.dataset_start.specs.Readiness.{fill_calls_if, filled_if, first_calls, opened_calls, IsFaultless, IsOpened, IsReady}
+use Rattle.dataset_start.specs.Readiness.{blank_file, dataset_end, empty_end, fill_calls_if, filled_if, first_calls, opened_calls, IsFaultless, IsOpened, IsReady}
 use Rattle.dataset_start.specs.Stops.{line_of, status_of, IsOfHeader, IsOfRedefinition}
 use Rattle.dataset_start.specs.declared.stop.Stop.{Stop}
 use Rattle.dataset_start.specs.declared.stop.Stop.TheVariants as stops
 use Rattle.dataset_start.proofs.Opened.{begins_once}
 use Rattle.dataset_start.proofs.Redefinable.{redefined_sound}
-use Rattle.dataset_start.proofs.Redefined.{long_enough, same_end}
+use Rattle.dataset_start.proofs.RedefinedLaws.{long_enough, same_end}
 use Rattle.std.proofs.lemmas.Bool.{both_ways}
 
 -- ---- nothing is added to a dataset, or something
@@ -87,28 +87,25 @@ some-none e o f g = clash (sym f ∙ g)
 -- ---- the file before the ranks begin
 
 pub start-created : (script : script_type.Script) (header : head.Header) (file : List ℕ) → script.fresh ≡ true
-    → start script header file ≡ filled_if script.filled header (longer (canon header) (end_of header (header_len header) 0))
-start-created script header file f = ap (λ (b : Bool). elim b [ false ↦ longer file (end_of header (header_len header) header.records) | true ↦ begun ]) f ∙ by_filled script.filled
+    → start script header file ≡ filled_if script.filled header (blank_file header)
+start-created script header file f = ap (λ (b : Bool). elim b [ false ↦ longer file (dataset_end header) | true ↦ made ]) f ∙ by_filled script.filled
   where
-    whole : List ℕ
-    whole = longer (canon header) (end_of header (header_len header) 0)
+    made : List ℕ
+    made = elim (script.filled) [ false ↦ blank_file header | true ↦ filled header (blank_file header) ]
 
-    begun : List ℕ
-    begun = elim (script.filled) [ false ↦ longer (canon header) (end_of header (header_len header) 0) | true ↦ filled header (longer (canon header) (end_of header (header_len header) 0)) ]
-
-    by_filled : (b : Bool) → elim b [ false ↦ longer (canon header) (end_of header (header_len header) 0) | true ↦ filled header (longer (canon header) (end_of header (header_len header) 0)) ]
-        ≡ filled_if b header (longer (canon header) (end_of header (header_len header) 0))
+    by_filled : (b : Bool) → elim b [ false ↦ blank_file header | true ↦ filled header (blank_file header) ]
+        ≡ filled_if b header (blank_file header)
     by_filled true = refl
     by_filled false = refl
 
 start-opened : (script : script_type.Script) (header : head.Header) (file : List ℕ) → script.fresh ≡ false
-    → start script header file ≡ longer file (end_of header (header_len header) header.records)
+    → start script header file ≡ longer file (dataset_end header)
 start-opened script header file f = rw f refl
 
 -- ---- the calls before the ranks begin
 
 created-calls : script_type.Script → head.Header → List DiskCall
-created-calls script header = Grow (end_of header (header_len header) 0) ∷ Store 0 (header_len header) ∷ fill_calls_if script.filled script.hints header
+created-calls script header = Grow (empty_end header) ∷ Store 0 (header_len header) ∷ fill_calls_if script.filled script.hints header
 
 opening-created : (script : script_type.Script) (header : head.Header) (file : List ℕ) → script.fresh ≡ true
     → opening_calls script header file ≡ created-calls script header
@@ -121,7 +118,7 @@ opening-opened script header file f = rw f refl
 
 calls-created : (script : script_type.Script) (header : head.Header) (held : Option (List ℕ)) (before mid now : Option (List DiskCall)) → script.fresh ≡ true
     → AddsNothing script true
-    → mid ≡ after (λ _. Grow (end_of header (header_len header) 0) ∷ Store 0 (header_len header) ∷ []) before
+    → mid ≡ after (λ _. Grow (empty_end header) ∷ Store 0 (header_len header) ∷ []) before
     → now ≡ with_end mid (fill_calls_if script.filled script.hints header)
     → IfSome held (λ bytes. now ≡ after (λ _. first_calls script header header bytes) before)
 unfolding created-calls
@@ -130,7 +127,7 @@ calls-created script header (Some bytes) before mid now f x m n =
     n ∙ ap (λ (c : Option (List DiskCall)). with_end c (fill_calls_if script.filled script.hints header)) m ∙ together before
   where
     together : (old : Option (List DiskCall))
-        → with_end (after (λ _. Grow (end_of header (header_len header) 0) ∷ Store 0 (header_len header) ∷ []) old) (fill_calls_if script.filled script.hints header)
+        → with_end (after (λ _. Grow (empty_end header) ∷ Store 0 (header_len header) ∷ []) old) (fill_calls_if script.filled script.hints header)
         ≡ after (λ _. first_calls script header header bytes) old
     together None = refl
     together (Some calls) = ap (λ (c : List DiskCall). Some c) (sym (opening-created script header bytes f) ∙ sym (first-calls script header header bytes true x))
@@ -142,11 +139,11 @@ extended (Some calls) mid now first more m n = n ∙ ap (λ (c : Option (List Di
 
 calls-opened : (script : script_type.Script) (header : head.Header) (held : Option (List ℕ)) (before mid now : Option (List DiskCall)) → script.fresh ≡ false
     → AddsNothing script true → IfSome held (λ file. mid ≡ after (λ _. head_load file) before)
-    → IfSome held (λ file. now ≡ with_end mid (grow_to (length file) (end_of header (header_len header) header.records)))
+    → IfSome held (λ file. now ≡ with_end mid (grow_to (length file) (dataset_end header)))
     → IfSome held (λ bytes. now ≡ after (λ _. first_calls script header header bytes) before)
 calls-opened script header None before mid now f x m n = tt
 calls-opened script header (Some bytes) before mid now f x m n =
-    extended before mid now (head_load bytes) (grow_to (length bytes) (end_of header (header_len header) header.records)) m n
+    extended before mid now (head_load bytes) (grow_to (length bytes) (dataset_end header)) m n
     ∙ ap (λ (c : List DiskCall). after (λ _. c) before) (sym (opening-opened script header bytes f) ∙ sym (first-calls script header header bytes true x))
 
 joined-calls : (script : script_type.Script) (old new : head.Header) (file : List ℕ)
@@ -183,8 +180,8 @@ told-is (Some file) = refl
 pub ready-created : (script : script_type.Script) (header : head.Header) (before mid now : Option (List ℕ)) (calls_before calls_mid calls_now : Option (List DiskCall))
     → script.fresh ≡ true → AddsNothing script true
     → header ≡ created_header script → is_sound header ≡ true → layout_fault script.header (align_of script.hints) ≡ None
-    → mid ≡ after (λ _. longer (canon header) (end_of header (header_len header) 0)) before → now ≡ after (filled_if script.filled header) mid
-    → calls_mid ≡ after (λ _. Grow (end_of header (header_len header) 0) ∷ Store 0 (header_len header) ∷ []) calls_before
+    → mid ≡ after (λ _. blank_file header) before → now ≡ after (filled_if script.filled header) mid
+    → calls_mid ≡ after (λ _. Grow (empty_end header) ∷ Store 0 (header_len header) ∷ []) calls_before
     → calls_now ≡ with_end calls_mid (fill_calls_if script.filled script.hints header)
     → IsReady script header before now calls_before calls_now
 ready-created script header before mid now calls_before calls_mid calls_now f x h s l e g m n = record {
@@ -196,8 +193,8 @@ ready-created script header before mid now calls_before calls_mid calls_now f x 
   faultless = record { created = λ _. l; opened = λ o. absurd (both_ways script.fresh o f) };
   bytes =
       g ∙ ap (λ (t : Option (List ℕ)). after (filled_if script.filled header) t) e
-      ∙ after-after (filled_if script.filled header) (λ _. longer (canon header) (end_of header (header_len header) 0)) before
-      ∙ after-same (λ _. filled_if script.filled header (longer (canon header) (end_of header (header_len header) 0)))
+      ∙ after-after (filled_if script.filled header) (λ _. blank_file header) before
+      ∙ after-same (λ _. filled_if script.filled header (blank_file header))
       (λ file. start script header (brought script header header file)) before
       (λ file. sym (start-created script header (brought script header header file) f));
   calls = calls-created script header before calls_before calls_mid calls_now f x m n;
@@ -206,9 +203,9 @@ ready-created script header before mid now calls_before calls_mid calls_now f x 
 -- ---- an existing dataset
 
 -- the header at the front of what is held
-pub begun : (held : Option (List ℕ)) (header : head.Header) → IsOpened held header → IfSome held (λ file. (n : ℕ) × BeginsWith (front file) header n)
-begun None header o = tt
-begun (Some file) header o = (o.count, subst (λ (t : List ℕ). BeginsWith (front t) header o.count) (sym o.told) o.begins)
+pub at_front : (held : Option (List ℕ)) (header : head.Header) → IsOpened held header → IfSome held (λ file. (n : ℕ) × BeginsWith (front file) header n)
+at_front None header o = tt
+at_front (Some file) header o = (o.count, subst (λ (t : List ℕ). BeginsWith (front t) header o.count) (sym o.told) o.begins)
 
 -- where nothing is at fault in the header, and it refuses nothing, nothing is at fault
 sound-file : (script : script_type.Script) (old : head.Header) (held : Option (List ℕ)) → IsOpened held old → redefinition_fault script old ≡ None
@@ -218,7 +215,7 @@ sound-file script old (Some file) o r n = record { header = n; redefinition = re
   where
     refuses : (e : RedefErr) → HasRedefinitionFault script file e → ⊥
     refuses e h =
-        let b = begun (Some file) old o in
+        let b = at_front (Some file) old o in
         let same : h.old ≡ old = begins_once h.old old (front file) h.count b.0 h.begins b.1 in
         some-none e (redefinition_fault script h.old) h.refuses (ap (λ (x : head.Header). redefinition_fault script x) same ∙ r)
 
@@ -230,9 +227,9 @@ opened-faultless script old held f o r n =
 pub ready-kept : (script : script_type.Script) (header : head.Header) (before mid now : Option (List ℕ)) (calls_before calls_mid calls_now : Option (List DiskCall))
     → script.fresh ≡ false → AddsNothing script true → IsOpened before header → is_sound header ≡ true
     → IfSome before (λ file. (e : HeaderErr) → HasFault (front file) e → ⊥) → mid ≡ before
-    → now ≡ after (λ file. longer file (end_of header (header_len header) header.records)) mid
+    → now ≡ after (λ file. longer file (dataset_end header)) mid
     → IfSome before (λ file. calls_mid ≡ after (λ _. head_load file) calls_before)
-    → IfSome mid (λ file. calls_now ≡ with_end calls_mid (grow_to (length file) (end_of header (header_len header) header.records)))
+    → IfSome mid (λ file. calls_now ≡ with_end calls_mid (grow_to (length file) (dataset_end header)))
     → IsReady script header before now calls_before calls_now
 ready-kept script header before mid now calls_before calls_mid calls_now f x o s n h e m k = record {
   old = header;
@@ -241,12 +238,12 @@ ready-kept script header before mid now calls_before calls_mid calls_now f x o s
   heads = record { created = λ c. absurd (both_ways script.fresh f c); opened = λ _. (o.count, o.begins); made = sym (header-kept script header x) };
   sound = s;
   faultless = opened-faultless script header before f o (fault-none script header x) n;
-  bytes = e ∙ ap (λ (t : Option (List ℕ)). after (λ file. longer file (end_of header (header_len header) header.records)) t) h
-      ∙ after-same (λ file. longer file (end_of header (header_len header) header.records)) (λ file. start script header (brought script header header file)) before
+  bytes = e ∙ ap (λ (t : Option (List ℕ)). after (λ file. longer file (dataset_end header)) t) h
+      ∙ after-same (λ file. longer file (dataset_end header)) (λ file. start script header (brought script header header file)) before
       (λ file. sym (start-opened script header (brought script header header file) f
-      ∙ ap (λ (t : List ℕ). longer t (end_of header (header_len header) header.records)) (file-kept script header header file x)));
+      ∙ ap (λ (t : List ℕ). longer t (dataset_end header)) (file-kept script header header file x)));
   calls = calls-opened script header before calls_before calls_mid calls_now f x m
-      (subst (λ (t : Option (List ℕ)). IfSome t (λ file. calls_now ≡ with_end calls_mid (grow_to (length file) (end_of header (header_len header) header.records)))) h k);
+      (subst (λ (t : Option (List ℕ)). IfSome t (λ file. calls_now ≡ with_end calls_mid (grow_to (length file) (dataset_end header)))) h k);
 }
 
 -- the redefined file is as long as its end
@@ -254,8 +251,8 @@ redefined-start : (script : script_type.Script) (old new : head.Header) (file : 
     → start script new (brought script old new file) ≡ redefined file old new
 redefined-start script old new file f x a =
     start-opened script new (brought script old new file) f
-    ∙ ap (λ (t : List ℕ). longer t (end_of new (header_len new) new.records)) (file-changed script old new file x)
-    ∙ longer-enough (redefined file old new) (end_of new (header_len new) new.records)
+    ∙ ap (λ (t : List ℕ). longer t (dataset_end new)) (file-changed script old new file x)
+    ∙ longer-enough (redefined file old new) (dataset_end new)
     (omega (arith, same_end old new script.extra a.made, long_enough old new file))
 
 ready-redefined : (script : script_type.Script) (old new : head.Header) (before mid now : Option (List ℕ)) (calls_before calls_mid calls_now : Option (List DiskCall))
@@ -292,7 +289,7 @@ redefined-ready script old before mid now calls_before calls_mid calls_now (Err 
 
 pub redefined_long : (old : head.Header) (len : ℕ) (extras : List Extra) (result : Result head.Header Stop)
     → IfOk result (λ new. IsApplied old extras new) → IfOk result (λ new. new_end old new ≤ len)
-    → IfOk result (λ new. end_of new (header_len new) new.records ≤ len)
+    → IfOk result (λ new. dataset_end new ≤ len)
 redefined_long old len extras (Ok new) a h = omega (arith, same_end old new extras a.made, h)
 redefined_long old len extras (Err stop) a h = tt
 
@@ -325,7 +322,7 @@ redefinition-told : (script : script_type.Script) (old : head.Header) (held : Op
     → redefined_fault old script.extra ≡ Some e → IfSome held (λ file. HasRedefinitionFault script file e)
 redefinition-told script old None e x o r = tt
 redefinition-told script old (Some file) e x o r =
-    let b = begun (Some file) old o in
+    let b = at_front (Some file) old o in
     record { old = old; count = b.0; begins = b.1; refuses = fault-some script old x ∙ r }
 
 bad-redefinition-stop : (script : script_type.Script) (old : head.Header) (held : Option (List ℕ)) (stop : Stop) → script.fresh ≡ false → AddsNothing script false
@@ -360,10 +357,10 @@ of_any (Some text) script r h = λ s q f. h (ap (λ (x : script_type.Script). x.
 
 -- a created dataset has no record
 pub created_long : (script : script_type.Script) (header : head.Header) (len : ℕ) → script.header.records ≡ 0 → header ≡ created_header script
-    → len ≡ end_of header (header_len header) 0 → end_of header (header_len header) header.records ≤ len
+    → len ≡ empty_end header → dataset_end header ≤ len
 created_long script header len r h l =
     let none : header.records ≡ 0 = ap (λ (x : head.Header). x.records) h ∙ r in
-    let same : end_of header (header_len header) header.records ≡ end_of header (header_len header) 0 = ap (λ (n : ℕ). end_of header (header_len header) n) none in
+    let same : dataset_end header ≡ empty_end header = ap (λ (n : ℕ). end_of header (header_len header) n) none in
     omega (arith, same, l)
 
 pub unlaid : {T Q : Type 0} (left : Option (List ℕ)) (script : script_type.Script) (result : Result T Stop) (err : Stop) → IfSome left (λ text. Reads text script)
