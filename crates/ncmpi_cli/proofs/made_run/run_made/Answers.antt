@@ -6,6 +6,7 @@ use Rattle.nc_base.specs.declared.step.StepErr.TheVariants as fault
 use Rattle.dataset_start.specs.declared.stop.Stop.{Stop}
 use Rattle.serial_spec.specs.Lawful.{is_lawful}
 use Rattle.script_spec.specs.Generator.{has_counts}
+use Rattle.ncmpi_cli.specs.Outside.{Output, output_at}
 use Rattle.ncmpi_cli.proofs.CutOff.{made_cut}
 use Rattle.ncmpi_cli.proofs.Made.{made_begins, made_begins_none, made_counts, made_kept, made_ran, made_status, made_wants}
 use Rattle.ncmpi_cli.proofs.Reading.{told_by_no_text}
@@ -55,10 +56,9 @@ returns-in-None-clause-ends g c =
     let run = c.run_ranks-end.ensures.run in
     let summed = c.sum_up.ensures in
     let status : ℕ = c.sum_up.result.status in
-    let did = made_ran seed size c.in-Ok.ready.script c.in-Ok.ready.header
-    (record { held = g.D.Disk.held c.args.disk.now; calls = g.D.Disk.calls c.args.disk.now; disk_faults = g.D.Disk.faults c.args.disk.now; given = g.K.Sink.given c.args.out.now; sink_faults = g.K.Sink.faults c.args.out.now })
-    (record { held = g.D.Disk.held c.run_ranks-end.new.disk; calls = g.D.Disk.calls c.run_ranks-end.new.disk; disk_faults = g.D.Disk.faults c.run_ranks-end.new.disk; given = g.K.Sink.given c.sum_up.new.out; sink_faults = g.K.Sink.faults c.sum_up.new.out })
-    mid calls _ _ c.run_ranks-end.new.records end c.sum_up.result.order own.script own.ready summed.order run c.in-None.is in
+    let before : Output = output_at g.D.Disk g.K.Sink c.args.disk.now c.args.out.now in
+    let now : Output = output_at g.D.Disk g.K.Sink c.run_ranks-end.new.disk c.sum_up.new.out in
+    let did = made_ran seed size c.in-Ok.ready.script c.in-Ok.ready.header before now mid calls _ _ c.run_ranks-end.new.records end c.sum_up.result.order own.script own.ready summed.order run c.in-None.is in
     record {
       statuses = made_end status summed.statuses;
       well = λ s. record { text = _; ran = did; given = summed.whole s };
@@ -87,6 +87,8 @@ returns-in-Some-Disk-clause-ends g c =
     let run = c.run_ranks-end.ensures.run in
     let same = c.tell-in-Some-Disk.ensures.order in
     let is : c.tell-in-Some-Disk.result.status ≡ 7 = c.tell-in-Some-Disk.ensures.fixed refl in
+    let before : Output = output_at g.D.Disk g.K.Sink c.args.disk.now c.args.out.now in
+    let now : Output = output_at g.D.Disk g.K.Sink c.run_ranks-end.new.disk c.tell-in-Some-Disk.new.out in
     let failed : c.run_ranks-end.result.fault ≡ Some fault.Disk = search rules in
     record {
       statuses = inr (inr (inl is));
@@ -94,7 +96,7 @@ returns-in-Some-Disk-clause-ends g c =
       cut = λ s. absurd (omega (arith, is, s));
       complete = λ _ disk. absurd (disk (rose_before _ (g.D.Disk.faults c.begin_made.new.disk) _ own.later (run.fault failed)));
       steps = made_begins seed size c.in-Ok.ready.script _ end.order own.script same run.begun;
-      torn = λ _. inr (made_cut seed size fault.Disk c.in-Ok.ready.script c.in-Ok.ready.header _ _ mid calls c.tell-in-Some-Disk.result.order c.run_ranks-end.new.records end
+      torn = λ _. inr (made_cut seed size fault.Disk c.in-Ok.ready.script c.in-Ok.ready.header before now mid calls c.tell-in-Some-Disk.result.order c.run_ranks-end.new.records end
           own.script own.ready same failed run.cut);
       wanting = λ s. absurd (omega (arith, is, s));
     }
@@ -112,6 +114,8 @@ returns-clause-ends g c =
     let run = c.run_ranks-end.ensures.run in
     let same = c.tell-in-Some-Memory.ensures.order in
     let is : c.tell-in-Some-Memory.result.status ≡ 8 = (c.tell-in-Some-Memory.ensures.unlined refl).0 in
+    let before : Output = output_at g.D.Disk g.K.Sink c.args.disk.now c.args.out.now in
+    let now : Output = output_at g.D.Disk g.K.Sink c.run_ranks-end.new.disk c.tell-in-Some-Memory.new.out in
     let failed : c.run_ranks-end.result.fault ≡ Some fault.Memory = search rules in
     record {
       statuses = inr (inr (inr is));
@@ -120,6 +124,6 @@ returns-clause-ends g c =
       complete = λ _ _. inr is;
       steps = made_begins seed size c.in-Ok.ready.script _ end.order own.script same run.begun;
       torn = λ s. absurd (omega (arith, is, s));
-      wanting = λ _. inl (inr (made_cut seed size fault.Memory c.in-Ok.ready.script c.in-Ok.ready.header _ _ mid calls c.tell-in-Some-Memory.result.order
+      wanting = λ _. inl (inr (made_cut seed size fault.Memory c.in-Ok.ready.script c.in-Ok.ready.header before now mid calls c.tell-in-Some-Memory.result.order
           c.run_ranks-end.new.records end own.script own.ready same failed run.cut));
     }
