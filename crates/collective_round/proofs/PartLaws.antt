@@ -37,7 +37,7 @@ follow_from disk (d ∷ rest) (n ∷ news) m line room h =
 pub follow_again : (disk front : PartState) (domains : List Extent) (news : List PartState) → disk.from ≡ 0 → Adjoin domains → end_after 0 domains ≤ disk.len
     → IsFront domains disk front → AllZip (λ p new. IsInPlace p.0 new) (zip (parts_of disk domains) domains) news → Follow (front.from + front.len) news
 follow_again disk front domains news whole line room f h =
-    let begun = f.from in
+    let start = f.from in
     let long = f.len in
     let same : begin_or disk.len domains ≡ front.from + front.len = omega arith in
     subst (λ (k : ℕ). Follow k news) same (follow_from disk domains news 0 line room h)

@@ -50,7 +50,7 @@ take_both a b file l =
 pub front_more : (disk mid new : PartState) (d : Extent) (rest : List Extent) → disk.from ≡ 0 → Adjoin (d ∷ rest) → end_after 0 (d ∷ rest) ≤ disk.len → IsFront rest disk mid
     → new.from ≡ mid.from → new.len ≡ d.at - mid.from → new.held ≡ after (take (d.at - mid.from)) mid.held → new.calls ≡ mid.calls → IsFront (d ∷ rest) disk new
 front_more disk mid new d rest whole line room f from len held calls =
-    let begun = f.from in
+    let start = f.from in
     let next = next_begin d rest 0 disk.len line room in
     let low = next.0 in
     let first : d.at - mid.from ≡ d.at = omega arith in
@@ -70,7 +70,7 @@ pub part_split : (disk mid part : PartState) (d : Extent) (rest : List Extent) �
     → part.from ≡ d.at → part.len ≡ mid.from + mid.len - d.at → part.held ≡ after (drop (d.at - mid.from)) mid.held → part.calls ≡ after (λ _. []) mid.calls → part.faults ≡ 0
     → part ≡ part_between disk d.at (begin_or disk.len rest)
 part_split disk mid part d rest whole line room f from len held calls faults =
-    let begun = f.from in
+    let start = f.from in
     let long = f.len in
     let next = next_begin d rest 0 disk.len line room in
     let low = next.0 in
@@ -117,7 +117,7 @@ last_left domains k n none line room some within =
 pub begins_there : (disk mid : PartState) (domains : List Extent) (k : ℕ) (d : Extent) (rest : List Extent) → disk.from ≡ 0 → IsLast domains k disk.len d rest → IsFront rest disk mid
     → (mid.from ≤ d.at) × (d.at ≤ mid.from + mid.len)
 begins_there disk mid domains k d rest whole h f =
-    let begun = f.from in
+    let start = f.from in
     let long = f.len in
     let next = next_begin d rest 0 disk.len h.line h.room in
     let low = next.0 in

@@ -5,7 +5,7 @@ use Rattle.std.specs.List.{range_with_len}
 use Rattle.std.proofs.lemmas.List.FromFn.{length-range_with_len}
 use Rattle.std.proofs.lemmas.Bool.{lt-ltb, le-leb, lt-leb, leb-true}
 use borrow.Author.Tests.{ltb-true}
-use Rattle.serial_spec.proofs.MemberLaws.{in_filter}
+use Rattle.serial_spec.proofs.MemberLaws.{in_filter, filter_in}
 use Rattle.list_laws.proofs.Truth.{equal_below, equal_true}
 use Rattle.nc_base.specs.declared.plan.Owned.{Owned}
 use Rattle.file_domains.specs.declared.walk.Window.{Window}

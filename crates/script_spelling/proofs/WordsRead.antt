@@ -8,7 +8,6 @@ use Rattle.script_spec.specs.ScriptWords.{Word, Plain, Quoted, Broken, is_name, 
 use Rattle.script_spec.specs.ScriptSteps.{◌>>=◌, or_fault, bare, reads_as, size, list, name, name_of_text}
 use Rattle.script_text.proofs.Steps.{went, same_ok}
 use Rattle.script_spelling.specs.SpelledValues.{SpellsOne}
-use Rattle.list_laws.proofs.Optional.{some_of_map}
 
 -- the word that is read, and what follows it
 pub record WordRead {A : Type 0} (f : List ℕ → Option A) (ws : List Word) (r : A × List Word) : Type 0 where
