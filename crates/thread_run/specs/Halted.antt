@@ -20,7 +20,7 @@ use Rattle.ruled_line.specs.Ends.{End, Receiver}
 use Rattle.serial_spec.specs.Owner.{is_strange, stops}
 use Rattle.serial_spec.specs.FileStep.{Setting}
 use Rattle.serial_spec.specs.History.{Arrival}
-use Rattle.thread_run.specs.Lent.{setting_of}
+use Rattle.collective_round.specs.Rounds.{dataset_setting}
 use Rattle.thread_run.specs.Owned.{owner_at, Grows, HasRun, Standing}
 use Rattle.thread_run.specs.Refused.{IsFaultAt}
 use Rattle.thread_run.specs.Stops.{stops_for, AllHaveEnded, HaveEnded, IsMore}
@@ -78,7 +78,7 @@ pub record HasHalted (hints : Hints) (s : Setting) (old now : Receiver RankItem)
 -- the same by what an owner's steps change, and the order of the steps
 abbrev pub HasHaltedBy : {D T : Type 0} → DiskGhosts D → ToldGhosts T → Dataset → Receiver RankItem → Receiver RankItem → List Bool → Standing → Outlets D T → List Mark → Halt → Type 0
 HasHaltedBy disk told dataset old now flags before out marks halt =
-    HasHalted dataset.hints.now (setting_of dataset) old now flags before out.records.now (disk.held out.disk.now) (disk.calls out.disk.now) marks (told.heard out.told.now) out.back.now halt
+    HasHalted dataset.hints.now (dataset_setting dataset) old now flags before out.records.now (disk.held out.disk.now) (disk.calls out.disk.now) marks (told.heard out.told.now) out.back.now halt
 
 -- these were taken, none of them strange
 pub record HasServed (hints : Hints) (s : Setting) (old now : Receiver RankItem) (flags : List Bool) (before after : Standing) : Type 0 where
@@ -123,7 +123,7 @@ pub record Outcome (hints : Hints) (s : Setting) (old now : Receiver RankItem) (
 -- the same by what an owner's steps change, and the order of the steps
 abbrev pub HasEndedBy : {D T : Type 0} → DiskGhosts D → ToldGhosts T → Dataset → Receiver RankItem → Receiver RankItem → Standing → Outlets D T → List Mark → Halt → Type 0
 HasEndedBy disk told dataset old now before out marks halt =
-    (left : List Bool) × Outcome dataset.hints.now (setting_of dataset) old now left before out.records.now (disk.held out.disk.now) (disk.calls out.disk.now) marks (told.heard out.told.now) out.back.now halt
+    (left : List Bool) × Outcome dataset.hints.now (dataset_setting dataset) old now left before out.records.now (disk.held out.disk.now) (disk.calls out.disk.now) marks (told.heard out.told.now) out.back.now halt
 
 pub record HasHaltCause (before now : ℕ) (halt : Halt) : Type 0 where
   pub later : before ≤ now

@@ -1,21 +1,15 @@
 -- What a run lends to its steps. (own)
---     setting_of dataset       what a step goes by
 --     IsReadable dataset       a sound header with its measures, and lawful hints
 --     AreSame old now          outlets that still lend the same
 --     IsRunnable lent          a sound header with an index of its names, and a lawful script
 use Rattle.std.specs.Prelude.{◌≡◌, true}
-use Rattle.serial_spec.specs.FileStep.{Setting}
 use Rattle.serial_spec.specs.SoundHeaders.{is_sound}
 use Rattle.serial_spec.specs.Lawful.{are_lawful_hints, is_lawful}
-use Rattle.collective_round.specs.Rounds.{setting}
 use Rattle.rank_core.specs.Indexed.{IsIndexOf}
 use Rattle.var_layout.specs.Measures.{AreMeasures}
 use Rattle.collective_round.specs.declared.lent.Dataset.{Dataset}
 use Rattle.thread_run.specs.declared.lent.Lent.{Lent}
 use Rattle.thread_run.specs.declared.lent.Outlets.{Outlets}
-
-abbrev pub setting_of : Dataset → Setting
-setting_of dataset = setting dataset.header.now dataset.hints.now
 
 pub record IsReadable (dataset : Dataset) : Type 0 where
   pub sound : is_sound dataset.header.now ≡ true

@@ -3,10 +3,10 @@ ghost use Rattle.std.specs.Prelude.{◌≡◌, ◌+◌, ◌≤◌, ◌<◌, ◌+
 ghost use Rattle.std.specs.List.{list_all};
 ghost use Rattle.nc_base.specs.declared.step.RankItem.TheVariants as item;
 ghost use Rattle.serial_spec.specs.Owner.{Client, freed, holds, is_strange, offers_held, stops};
-ghost use Rattle.collective_round.specs.Rounds.{HasStepCause};
+ghost use Rattle.collective_round.specs.Rounds.{dataset_setting, HasStepCause};
 ghost use Rattle.rank_items.specs.Own.{HasOwnPuts};
 ghost use Rattle.turn_run.specs.Counts.{IsCount, IsFit};
-ghost use Rattle.thread_run.specs.Lent.{setting_of, AreSame, IsReadable};
+ghost use Rattle.thread_run.specs.Lent.{AreSame, IsReadable};
 ghost use Rattle.thread_run.specs.Owned.{owner_of, replies, standing, Grows, HasDone, HoldSingle, IsAlone, IsSingle, IsSteady, IsTogether};
 ghost use Rattle.thread_run.specs.Refused.{IsRefusedAlone, IsRefusedArrival, IsRefusedTogether};
 ghost use Rattle.turn_run.specs.Steps.{batches_of, known_of};
@@ -48,17 +48,17 @@ impl Owner {
         requires dataset { IsReadable dataset.now }
         requires number { number < length self.old.clients.items }
         requires own { HasOwnPuts item }
-        requires fit { (file : List ℕ) → is_strange (setting_of dataset.now) (owner_of self.old file out.old.records.now) (number, item) ≡ false }
+        requires fit { (file : List ℕ) → is_strange (dataset_setting dataset.now) (owner_of self.old file out.old.records.now) (number, item) ≡ false }
         requires steady { IsSteady dataset.now.header.now (D.len out.old.disk.now) (standing D.Disk T.Told self.old out.old) }
         requires from { D.from out.old.disk.now ≡ 0 }
         ensures same { AreSame out.old out.new }
-        ensures done { OnOk result (HasDone dataset.now.hints.now (setting_of dataset.now) (number, item)
+        ensures done { OnOk result (HasDone dataset.now.hints.now (dataset_setting dataset.now) (number, item)
             (standing D.Disk T.Told self.old out.old) (standing D.Disk T.Told self.new out.new)) }
         ensures steady { OnOk result (IsSteady dataset.now.header.now (D.len out.new.disk.now) (standing D.Disk T.Told self.new out.new)) }
         ensures order { OnErr result (self.new.order ≡ self.old.order) }
         ensures untold { OnErr result (T.heard out.new.told.now ≡ T.heard out.old.told.now) }
         ensures stopped { OnErr result (Grows out.old.back.now (stops (owner_of self.old [] 0) ((number, item) ∷ [])) out.new.back.now) }
-        ensures refused { OnErr result (HoldSingle self.old.clients.items → IsSingle item → IsRefusedArrival (setting_of dataset.now) (number, item)
+        ensures refused { OnErr result (HoldSingle self.old.clients.items → IsSingle item → IsRefusedArrival (dataset_setting dataset.now) (number, item)
             (standing D.Disk T.Told self.old out.old) (D.held out.new.disk.now) out.new.records.now) }
         ensures count { IsCount dataset.now.header.now (D.len out.new.disk.now) out.new.records.now }
         ensures from { D.from out.new.disk.now ≡ 0 }
@@ -112,14 +112,14 @@ impl Owner {
         ensures same { AreSame out.old out.new }
         ensures records { out.new.records.now ≡ out.old.records.now }
         ensures clients { self.new.clients ≡ self.old.clients }
-        ensures done { OnOk result (IsAlone dataset.now.hints.now (setting_of dataset.now) solo.now.number solo.now.call solo.now.offer.now
+        ensures done { OnOk result (IsAlone dataset.now.hints.now (dataset_setting dataset.now) solo.now.number solo.now.call solo.now.offer.now
             (standing D.Disk T.Told self.old out.old) (standing D.Disk T.Told self.new out.new)) }
         ensures reached { OnOk result (IsCount dataset.now.header.now (D.len out.old.disk.now) self.old.reached → IsCount dataset.now.header.now (D.len out.new.disk.now) self.new.reached) }
         ensures more { OnOk result (self.old.reached ≤ self.new.reached) }
         ensures order { OnErr result (self.new.order ≡ self.old.order) }
         ensures untold { OnErr result (T.heard out.new.told.now ≡ T.heard out.old.told.now) }
         ensures stopped { OnErr result (Grows out.old.back.now (λ q. held_stops self.old.clients.items q ++ stops_for ((solo.now.number, item.Offer solo.now.call solo.now.offer.now) ∷ []) q) out.new.back.now) }
-        ensures refused { OnErr result (IsRefusedAlone (setting_of dataset.now) solo.now.number solo.now.call solo.now.offer.now
+        ensures refused { OnErr result (IsRefusedAlone (dataset_setting dataset.now) solo.now.number solo.now.call solo.now.offer.now
             (standing D.Disk T.Told self.old out.old) (D.held out.new.disk.now) out.new.records.now) }
         ensures from { D.from out.new.disk.now ≡ 0 }
         ensures longer { D.len out.old.disk.now ≤ D.len out.new.disk.now }
@@ -152,14 +152,14 @@ impl Owner {
         ensures same { AreSame out.old out.new }
         ensures records { out.new.records.now ≡ out.old.records.now }
         ensures clients { self.new.clients ≡ self.old.clients }
-        ensures done { OnOk result (IsAlone dataset.now.hints.now (setting_of dataset.now) solo.now.number solo.now.call solo.now.offer.now
+        ensures done { OnOk result (IsAlone dataset.now.hints.now (dataset_setting dataset.now) solo.now.number solo.now.call solo.now.offer.now
             (standing D.Disk T.Told self.old out.old) (standing D.Disk T.Told self.new out.new)) }
         ensures reached { OnOk result (IsCount dataset.now.header.now (D.len out.old.disk.now) self.old.reached → IsCount dataset.now.header.now (D.len out.new.disk.now) self.new.reached) }
         ensures more { OnOk result (self.old.reached ≤ self.new.reached) }
         ensures order { OnErr result (self.new.order ≡ self.old.order) }
         ensures untold { OnErr result (T.heard out.new.told.now ≡ T.heard out.old.told.now) }
         ensures lines { OnErr result (out.new.back.now ≡ out.old.back.now) }
-        ensures refused { OnErr result (IsRefusedAlone (setting_of dataset.now) solo.now.number solo.now.call solo.now.offer.now
+        ensures refused { OnErr result (IsRefusedAlone (dataset_setting dataset.now) solo.now.number solo.now.call solo.now.offer.now
             (standing D.Disk T.Told self.old out.old) (D.held out.new.disk.now) out.new.records.now) }
         ensures from { D.from out.new.disk.now ≡ 0 }
         ensures longer { D.len out.old.disk.now ≤ D.len out.new.disk.now }
@@ -194,13 +194,13 @@ impl Owner {
         requires steady { IsSteady dataset.now.header.now (D.len out.old.disk.now) (standing D.Disk T.Told self.old out.old) }
         requires from { D.from out.old.disk.now ≡ 0 }
         ensures same { AreSame out.old out.new }
-        ensures done { OnOk result (IsTogether dataset.now.hints.now (setting_of dataset.now)
+        ensures done { OnOk result (IsTogether dataset.now.hints.now (dataset_setting dataset.now)
             (standing D.Disk T.Told self.old out.old) (standing D.Disk T.Told self.new out.new)) }
         ensures steady { OnOk result (IsSteady dataset.now.header.now (D.len out.new.disk.now) (standing D.Disk T.Told self.new out.new)) }
         ensures order { OnErr result (self.new.order ≡ self.old.order) }
         ensures untold { OnErr result (T.heard out.new.told.now ≡ T.heard out.old.told.now) }
         ensures stopped { OnErr result (Grows out.old.back.now stop_each out.new.back.now) }
-        ensures refused { OnErr result (HoldSingle self.old.clients.items → IsRefusedTogether (setting_of dataset.now)
+        ensures refused { OnErr result (HoldSingle self.old.clients.items → IsRefusedTogether (dataset_setting dataset.now)
             (standing D.Disk T.Told self.old out.old) (D.held out.new.disk.now) out.new.records.now) }
         ensures count { IsCount dataset.now.header.now (D.len out.new.disk.now) out.new.records.now }
         ensures from { D.from out.new.disk.now ≡ 0 }
@@ -240,13 +240,13 @@ impl Owner {
         requires steady { IsSteady dataset.now.header.now (D.len out.old.disk.now) (standing D.Disk T.Told self.old out.old) }
         requires from { D.from out.old.disk.now ≡ 0 }
         ensures same { AreSame out.old out.new }
-        ensures done { OnOk result (IsTogether dataset.now.hints.now (setting_of dataset.now)
+        ensures done { OnOk result (IsTogether dataset.now.hints.now (dataset_setting dataset.now)
             (standing D.Disk T.Told self.old out.old) (standing D.Disk T.Told self.new out.new)) }
         ensures steady { OnOk result (IsSteady dataset.now.header.now (D.len out.new.disk.now) (standing D.Disk T.Told self.new out.new)) }
         ensures order { OnErr result (self.new.order ≡ self.old.order) }
         ensures untold { OnErr result (T.heard out.new.told.now ≡ T.heard out.old.told.now) }
         ensures lines { OnErr result (out.new.back.now ≡ out.old.back.now) }
-        ensures refused { OnErr result (HoldSingle self.old.clients.items → IsRefusedTogether (setting_of dataset.now)
+        ensures refused { OnErr result (HoldSingle self.old.clients.items → IsRefusedTogether (dataset_setting dataset.now)
             (standing D.Disk T.Told self.old out.old) (D.held out.new.disk.now) out.new.records.now) }
         ensures count { IsCount dataset.now.header.now (D.len out.new.disk.now) out.new.records.now }
         ensures from { D.from out.new.disk.now ≡ 0 }

@@ -1,6 +1,6 @@
 -- One more arrival is done, or it is the last one.
 use Rattle.std.proofs.Common.{ℕ, Err, refl, ◌∙◌, subst, arith}
-use Rattle.thread_run.specs.Lent.{setting_of}
+use Rattle.collective_round.specs.Rounds.{dataset_setting}
 use Rattle.thread_run.specs.Owned.{standing, Grows}
 use Rattle.thread_run.specs.Stops.{held_stops, AllHaveEnded}
 use Rattle.thread_run.proofs.LentLaws.{same_then}
@@ -11,7 +11,7 @@ use Rattle.thread_run.proofs.service.serve_all.Goals as goal
 pub loop-init : goal.loop-init
 loop-init g c = record {
   same = record { disk = refl; records = refl; told = refl; back = refl };
-  served = served_none c.args.dataset.now.hints.now (setting_of c.args.dataset.now) c.args.inbox.now c.args.senders.now.ended
+  served = served_none c.args.dataset.now.hints.now (dataset_setting c.args.dataset.now) c.args.inbox.now c.args.senders.now.ended
       (standing g.D.Disk g.T.Told c.args.owner.now c.args.out.now) c.requires.ended;
   steady = c.requires.steady;
   lines = refl;
@@ -23,7 +23,7 @@ loop-init g c = record {
 
 pub returns-then-all_ended-clause-halted : goal.returns-then-all_ended-clause-halted
 returns-then-all_ended-clause-halted g c =
-    halt_ended c.args.dataset.now.hints.now (setting_of c.args.dataset.now) c.args.inbox.now c.loop.inbox c.loop.senders.ended
+    halt_ended c.args.dataset.now.hints.now (dataset_setting c.args.dataset.now) c.args.inbox.now c.loop.inbox c.loop.senders.ended
     (standing g.D.Disk g.T.Told c.args.owner.now c.args.out.now)
     (standing g.D.Disk g.T.Told c.loop.owner c.loop.out) c.stop_held.new.back c.loop.invariant.served
     (subst (λ clients. Grows c.loop.out.back.now (held_stops clients) c.stop_held.new.back) c.deref.ensures.value c.stop_held.ensures)
@@ -34,11 +34,11 @@ returns-then-all_ended-clause-cause g c = no_cause (g.D.Disk.faults c.args.out.n
 
 pub returns-then-is_strange-clause-halted : goal.returns-then-is_strange-clause-halted
 returns-then-is_strange-clause-halted g c =
-    halt_strange c.args.dataset.now.hints.now (setting_of c.args.dataset.now) c.args.inbox.now c.loop.inbox c.take-number.new.inbox c.loop.senders.ended c.take-number.new.self.ended
+    halt_strange c.args.dataset.now.hints.now (dataset_setting c.args.dataset.now) c.args.inbox.now c.loop.inbox c.take-number.new.inbox c.loop.senders.ended c.take-number.new.self.ended
     (standing g.D.Disk g.T.Told c.args.owner.now c.args.out.now)
     (standing g.D.Disk g.T.Told c.loop.owner c.loop.out) c.take-number.result.0 c.take-number.result.1 c.stop_held-then-is_strange.new.back c.stop_arrival.new.back c.loop.invariant.served
     (record { items = c.take-number.ensures.items; senders = c.take-number.ensures.senders; of = c.take-number.ensures.of; low = c.take-number.ensures.number; noted = c.take-number.ensures.noted })
-    (λ file. c.is_strange.ensures (setting_of c.args.dataset.now) file c.loop.out.records.now refl ∙ c.if-is_strange.true)
+    (λ file. c.is_strange.ensures (dataset_setting c.args.dataset.now) file c.loop.out.records.now refl ∙ c.if-is_strange.true)
     (subst (λ clients. Grows c.loop.out.back.now (held_stops clients) c.stop_held-then-is_strange.new.back) c.deref-then-is_strange.ensures.value c.stop_held-then-is_strange.ensures) c.stop_arrival.ensures
 
 pub returns-then-is_strange-clause-cause : goal.returns-then-is_strange-clause-cause
@@ -46,15 +46,15 @@ returns-then-is_strange-clause-cause g c = stranger_cause (g.D.Disk.faults c.arg
 
 pub returns-in-Err-clause-halted : goal.returns-in-Err-clause-halted
 returns-in-Err-clause-halted g c =
-    halt_fault c.args.dataset.now.hints.now (setting_of c.args.dataset.now) c.args.inbox.now c.loop.inbox c.take-number.new.inbox c.loop.senders.ended c.take-number.new.self.ended
+    halt_fault c.args.dataset.now.hints.now (dataset_setting c.args.dataset.now) c.args.inbox.now c.loop.inbox c.take-number.new.inbox c.loop.senders.ended c.take-number.new.self.ended
     (standing g.D.Disk g.T.Told c.args.owner.now c.args.out.now)
     (standing g.D.Disk g.T.Told c.loop.owner c.loop.out) c.take-number.result c.in-Err.fault c.arrive-done.new.out.records.now (g.D.Disk.held c.arrive-done.new.out.disk.now) (g.D.Disk.calls c.arrive-done.new.out.disk.now) c.arrive-done.new.self.order (g.T.Told.heard c.arrive-done.new.out.told.now) c.arrive-done.new.out.back.now
     c.loop.invariant.served
     (record { items = c.take-number.ensures.items; senders = c.take-number.ensures.senders; of = c.take-number.ensures.of; low = c.take-number.ensures.number; noted = c.take-number.ensures.noted })
     c.in-Err.ensures.order c.in-Err.ensures.untold c.in-Err.ensures.stopped
-    (fault_at (setting_of c.args.dataset.now) c.in-Err.fault (standing g.D.Disk g.T.Told c.loop.owner c.loop.out) c.take-number.result
+    (fault_at (dataset_setting c.args.dataset.now) c.in-Err.fault (standing g.D.Disk g.T.Told c.loop.owner c.loop.out) c.take-number.result
     c.arrive-done.new.out.records.now (g.D.Disk.held c.arrive-done.new.out.disk.now)
-    (λ file. c.is_strange.ensures (setting_of c.args.dataset.now) file c.loop.out.records.now refl ∙ c.if-is_strange.false) c.in-Err.ensures.refused)
+    (λ file. c.is_strange.ensures (dataset_setting c.args.dataset.now) file c.loop.out.records.now refl ∙ c.if-is_strange.false) c.in-Err.ensures.refused)
 
 pub returns-in-Err-clause-cause : goal.returns-in-Err-clause-cause
 returns-in-Err-clause-cause g c =
@@ -68,12 +68,12 @@ loop-preserved g c =
     let rest = c.in_default.ensures.cause.later in
     record {
       same = same_then c.loop.invariant.same c.arrive-done.ensures.same;
-      served = served_more c.args.dataset.now.hints.now (setting_of c.args.dataset.now) c.args.inbox.now c.loop.inbox c.take-number.new.inbox c.loop.senders.ended c.take-number.new.self.ended
+      served = served_more c.args.dataset.now.hints.now (dataset_setting c.args.dataset.now) c.args.inbox.now c.loop.inbox c.take-number.new.inbox c.loop.senders.ended c.take-number.new.self.ended
           (standing g.D.Disk g.T.Told c.args.owner.now c.args.out.now)
           (standing g.D.Disk g.T.Told c.loop.owner c.loop.out)
           (standing g.D.Disk g.T.Told c.arrive-done.new.self c.arrive-done.new.out) c.take-number.result c.loop.invariant.served
           (record { items = c.take-number.ensures.items; senders = c.take-number.ensures.senders; of = c.take-number.ensures.of; low = c.take-number.ensures.number; noted = c.take-number.ensures.noted })
-          (λ file. c.is_strange.ensures (setting_of c.args.dataset.now) file c.loop.out.records.now refl ∙ c.if-is_strange.false) c.in_default.ensures.done;
+          (λ file. c.is_strange.ensures (dataset_setting c.args.dataset.now) file c.loop.out.records.now refl ∙ c.if-is_strange.false) c.in_default.ensures.done;
       steady = c.in_default.ensures.steady;
       lines = c.in_default.ensures.done.lines.long ∙ c.loop.invariant.lines;
       senders = c.take-number.ensures.senders ∙ c.loop.invariant.senders;

@@ -1,14 +1,15 @@
 -- What was taken so far is done, and nothing of it was strange.
 use Rattle.std.proofs.Common.{◌≡◌, ◌≤◌, length}
 use Rattle.thread_run.specs.Halted.{HasServed}
-use Rattle.thread_run.specs.Lent.{setting_of, AreSame}
+use Rattle.collective_round.specs.Rounds.{dataset_setting}
+use Rattle.thread_run.specs.Lent.{AreSame}
 use Rattle.thread_run.specs.Owned.{standing, IsSteady}
 use Rattle.thread_run.proofs.service.serve_all.Given as goal
 
 abbrev pub invariant-loop : goal.invariant-loop
 invariant-loop g l = record {
   same : AreSame l.initial.out l.out;
-  served : HasServed l.dataset.hints.now (setting_of l.dataset) l.initial.inbox l.inbox l.senders.ended
+  served : HasServed l.dataset.hints.now (dataset_setting l.dataset) l.initial.inbox l.inbox l.senders.ended
       (standing g.D.Disk g.T.Told l.initial.owner l.initial.out)
       (standing g.D.Disk g.T.Told l.owner l.out);
   steady : IsSteady l.dataset.header.now (g.D.Disk.len l.out.disk.now) (standing g.D.Disk g.T.Told l.owner l.out);

@@ -1,6 +1,6 @@
 -- Where it stopped, and what came after.
 use Rattle.std.proofs.Common.{ℕ, ◌≤◌, sym, subst}
-use Rattle.thread_run.specs.Lent.{setting_of}
+use Rattle.collective_round.specs.Rounds.{dataset_setting}
 use Rattle.thread_run.specs.Owned.{first_standing}
 use Rattle.thread_run.proofs.GainedLaws.{outcome}
 use Rattle.thread_run.proofs.HaltedLaws.{halted_lines, seen_all}
@@ -11,7 +11,7 @@ finish-requires-clause-few g c κs within = subst (λ (n : ℕ). n ≤ 64) (sym 
 
 pub finish-requires-clause-lines : goal.finish-requires-clause-lines
 finish-requires-clause-lines g c κs within =
-    halted_lines c.args.dataset.now.hints.now (setting_of c.args.dataset.now) c.args.inbox.now c.open_owner-order.new.inbox c.open_owner-order.new.senders.ended
+    halted_lines c.args.dataset.now.hints.now (dataset_setting c.args.dataset.now) c.args.inbox.now c.open_owner-order.new.inbox c.open_owner-order.new.senders.ended
     (first_standing g.D.Disk g.T.Told c.args.inbox.now.senders c.args.out.now)
     c.open_owner-order.new.out.records.now (g.D.Disk.held c.open_owner-order.new.out.disk.now) (g.D.Disk.calls c.open_owner-order.new.out.disk.now) c.open_owner-order.result.0 (g.T.Told.heard c.open_owner-order.new.out.told.now) c.open_owner-order.new.out.back.now c.open_owner-order.result.1 c.open_owner-order.ensures.halted c.requires.lines
 
@@ -22,7 +22,7 @@ finish-requires-clause-ended g c κs within =
 pub returns-clause-outcome : goal.returns-clause-outcome
 returns-clause-outcome g c = (
   c.finish.new.senders.ended,
-  outcome c.args.dataset.now.hints.now (setting_of c.args.dataset.now) c.args.inbox.now c.open_owner-order.new.inbox c.finish.new.inbox c.open_owner-order.new.senders.ended c.finish.new.senders.ended
+  outcome c.args.dataset.now.hints.now (dataset_setting c.args.dataset.now) c.args.inbox.now c.open_owner-order.new.inbox c.finish.new.inbox c.open_owner-order.new.senders.ended c.finish.new.senders.ended
       (first_standing g.D.Disk g.T.Told c.args.inbox.now.senders c.args.out.now)
       c.open_owner-order.new.out.records.now (g.D.Disk.held c.open_owner-order.new.out.disk.now) (g.D.Disk.calls c.open_owner-order.new.out.disk.now) c.open_owner-order.result.0 (g.T.Told.heard c.open_owner-order.new.out.told.now) c.open_owner-order.new.out.back.now c.finish.new.back c.open_owner-order.result.1 c.open_owner-order.ensures.halted c.finish.ensures,
 )

@@ -2,7 +2,7 @@
 use Rattle.std.proofs.Common.{ℕ, sym, refl, subst, inr}
 use Rattle.nc_base.specs.declared.step.OwnerItem.TheVariants.{Reply}
 use Rattle.turn_run.specs.Counts.{IsCount}
-use Rattle.thread_run.specs.Lent.{setting_of}
+use Rattle.collective_round.specs.Rounds.{dataset_setting}
 use Rattle.thread_run.specs.Owned.{standing}
 use Rattle.thread_run.proofs.AloneSteps.{alone}
 use Rattle.turn_run.proofs.CountLaws.{count_longer, count_max}
@@ -15,7 +15,7 @@ use Rattle.list_laws.proofs.Results.{on_err}
 
 pub returns-clause-done : goal.returns-clause-done
 returns-clause-done g c =
-    alone (setting_of c.args.dataset.now) c.args.dataset.now.hints.now c.args.solo.now.number c.args.solo.now.call c.args.solo.now.offer.now
+    alone (dataset_setting c.args.dataset.now) c.args.dataset.now.hints.now c.args.solo.now.number c.args.solo.now.call c.args.solo.now.offer.now
     (standing g.D.Disk g.T.Told c.args.self.now c.args.out.now) _ c.in_ok-reply.reply (record {
       known_low = c.requires.known;
       pair = c.in_ok-reply.ensures.told;
@@ -41,13 +41,13 @@ returns-clause-reached g c h =
 
 pub returns-in_err-reply-clause-refused : goal.returns-in_err-reply-clause-refused
 returns-in_err-reply-clause-refused g c =
-    on_err _ (refused_alone (setting_of c.args.dataset.now) c.args.solo.now.number c.args.solo.now.call c.args.solo.now.offer.now
+    on_err _ (refused_alone (dataset_setting c.args.dataset.now) c.args.solo.now.number c.args.solo.now.call c.args.solo.now.offer.now
     (standing g.D.Disk g.T.Told c.args.self.now c.args.out.now)
     (g.D.Disk.held c.solo_reply.new.disk) c.in_err-reply.ensures.refused)
 
 pub returns-in_err-note_step-clause-refused : goal.returns-in_err-note_step-clause-refused
 returns-in_err-note_step-clause-refused g c =
-    let s = setting_of c.args.dataset.now in
+    let s = dataset_setting c.args.dataset.now in
     let puts = puts_of (c.args.solo.now.number, c.args.solo.now.offer.now) in
     on_err _ (refused_alone s c.args.solo.now.number c.args.solo.now.call c.args.solo.now.offer.now
     (standing g.D.Disk g.T.Told c.args.self.now c.args.out.now)

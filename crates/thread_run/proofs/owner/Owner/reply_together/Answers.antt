@@ -9,7 +9,7 @@ use Rattle.serial_spec.specs.Owner.{offers_held}
 use Rattle.serial_spec.specs.RankSide.{wanted}
 use Rattle.turn_run.specs.Counts.{IsRise}
 use Rattle.join_laws.proofs.StepLaws.{offers_long}
-use Rattle.thread_run.specs.Lent.{setting_of}
+use Rattle.collective_round.specs.Rounds.{dataset_setting}
 use Rattle.thread_run.specs.Owned.{standing, standing_at}
 use Rattle.turn_run.specs.Steps.{IsJob}
 use Rattle.thread_run.proofs.HeldLaws.{held_job, held_low, held_once, held_rise, steady_freed}
@@ -34,7 +34,7 @@ reply_all-requires g c =
 pub returns-clause-done : goal.returns-clause-done
 returns-clause-done g c =
     let b = standing g.D.Disk g.T.Told c.args.self.now c.args.out.now in
-    together (setting_of c.args.dataset.now) c.args.dataset.now.hints.now b
+    together (dataset_setting c.args.dataset.now) c.args.dataset.now.hints.now b
     (standing_at (record { clients = c.take_job.new.self.clients; met = c.in_ok-met.met; reached = c.max-self.result; order = c.note_step.new.order }) c.meet_on_file.new.records (g.D.Disk.held c.meet_on_file.new.disk) (g.D.Disk.calls c.meet_on_file.new.disk) (g.T.Told.heard c.note_step.new.told) c.reply_all.new.back) c.in_ok-job.job.batches c.in_ok-job.known c.in_ok-pair.pair c.in_ok-pair.table (record {
       batches_are = c.in_ok-job.ensures.batches;
       known_is = c.in_ok-job.ensures.known;
@@ -64,22 +64,22 @@ returns-clause-steady g c =
 pub returns-in_err-job-clause-refused : goal.returns-in_err-job-clause-refused
 returns-in_err-job-clause-refused g c =
     let b = standing g.D.Disk g.T.Told c.args.self.now c.args.out.now in
-    on_err _ (none_once (setting_of c.args.dataset.now) b c.args.out.now.records.now (g.D.Disk.held c.args.out.now.disk.now) refl refl)
+    on_err _ (none_once (dataset_setting c.args.dataset.now) b c.args.out.now.records.now (g.D.Disk.held c.args.out.now.disk.now) refl refl)
 
 pub returns-in_err-pair-clause-refused : goal.returns-in_err-pair-clause-refused
 returns-in_err-pair-clause-refused g c =
     let b = standing g.D.Disk g.T.Told c.args.self.now c.args.out.now in
-    on_err _ (refused_once (setting_of c.args.dataset.now) b c.in_ok-job.job.batches c.in_ok-job.known c.meet_on_file.new.records (g.D.Disk.held c.meet_on_file.new.disk)
+    on_err _ (refused_once (dataset_setting c.args.dataset.now) b c.in_ok-job.job.batches c.in_ok-job.known c.meet_on_file.new.records (g.D.Disk.held c.meet_on_file.new.disk)
     c.in_ok-job.ensures.batches c.in_ok-job.ensures.known (held_once c.args.dataset.now.header.now (g.D.Disk.len c.args.out.now.disk.now) b c.requires.steady c.requires.all) c.in_err-pair.ensures.refused c.in_err-pair.ensures.kept)
 
 pub returns-in_err-met-clause-refused : goal.returns-in_err-met-clause-refused
 returns-in_err-met-clause-refused g c =
     let b = standing g.D.Disk g.T.Told c.args.self.now c.args.out.now in
-    on_err _ (done_once (setting_of c.args.dataset.now) b c.in_ok-job.job.batches c.in_ok-job.known c.meet_on_file.new.records (g.D.Disk.held c.meet_on_file.new.disk)
+    on_err _ (done_once (dataset_setting c.args.dataset.now) b c.in_ok-job.job.batches c.in_ok-job.known c.meet_on_file.new.records (g.D.Disk.held c.meet_on_file.new.disk)
     c.in_ok-job.ensures.batches c.in_ok-job.ensures.known c.in_ok-pair.ensures.bytes c.in_ok-pair.ensures.records)
 
 pub returns-in_err-note_step-clause-refused : goal.returns-in_err-note_step-clause-refused
 returns-in_err-note_step-clause-refused g c =
     let b = standing g.D.Disk g.T.Told c.args.self.now c.args.out.now in
-    on_err _ (done_once (setting_of c.args.dataset.now) b c.in_ok-job.job.batches c.in_ok-job.known c.meet_on_file.new.records (g.D.Disk.held c.meet_on_file.new.disk)
+    on_err _ (done_once (dataset_setting c.args.dataset.now) b c.in_ok-job.job.batches c.in_ok-job.known c.meet_on_file.new.records (g.D.Disk.held c.meet_on_file.new.disk)
     c.in_ok-job.ensures.batches c.in_ok-job.ensures.known c.in_ok-pair.ensures.bytes c.in_ok-pair.ensures.records)
