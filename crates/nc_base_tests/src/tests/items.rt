@@ -5,7 +5,7 @@ use std::alloc::Global;
 use std::process::Abort;
 
 fn sizes(rt: &impl Abort, alloc: Global, sizes: &[u64]) -> SizeList {
-    SizeList::from_vec(Vec::from_slice(alloc, sizes).expect(rt, NO_MEMORY))
+    SizeList::from_slice(alloc, sizes).expect(rt, NO_MEMORY)
 }
 
 #[test]
@@ -13,6 +13,7 @@ fn items_are_changed_in_place(rt: HostRuntime) {
     let mut list = sizes(&rt, rt.alloc(), &[2, 3]);
     list.as_mut_slice().reverse();
     assert!(rt; list == sizes(&rt, rt.alloc(), &[3, 2]));
+    assert!(rt; list != sizes(&rt, rt.alloc(), &[2, 3]));
 }
 
 #[test]
