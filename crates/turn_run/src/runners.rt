@@ -233,7 +233,7 @@ impl<'a> Runner<'a> {
 
     /// The end of its rank.
     pub fn into_end(self, why: RankStop) -> RankEnd
-        ensures { result ≡ runner_end why self }
+        ensures { result ≡ runner_end why self.entry }
     {
         RankEnd {
             known: self.rank.known(),

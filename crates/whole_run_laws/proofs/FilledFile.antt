@@ -114,7 +114,7 @@ cells_apart header k m v w i j sound e f p q (inl (a, b)) =
     let same : w ≡ v = same_Some w v (sym f ∙ ap (λ (z : ℕ). slice_get header.vars z) a ∙ e) in
     inl (λ t. cell_of header (same t) (b t))
 cells_apart header k m v w i j sound e f p q (inr n) =
-    inr (turned (place header v i) (length (fill_bytes v)) (place header w j) (length (fill_bytes w)) (resized (place header v i) (size_of v.kind) (length (fill_bytes v)) (place header w j) (size_of w.kind) (length (fill_bytes w)) (sym (fill_long v)) (sym (fill_long w))
+    inr (turned (place header v i) (length (fill_bytes v)) (place header w j) (length (fill_bytes w)) (resized (place header v i) (size_of v.kind) (place header w j) (size_of w.kind) (length (fill_bytes v)) (length (fill_bytes w)) (sym (fill_long v)) (sym (fill_long w))
     (elements_apart header k m v w i j sound e f p q n)))
   where
     turned : (a n b m : ℕ) → AreApart a n b m → AreApart b m a n
