@@ -11,7 +11,7 @@ use crate::rank_calls::RankCalls;
 use nc_base::{Call, Form, Given, Name, NumberList, PostKind, ScriptKind, Values};
 use script_values::regions::{form_of_text, region};
 use script_values::values::values;
-use script_words::word_forms::{no_more, id, name};
+use script_words::word_forms::{id, name, no_more};
 use script_words::{ReadErr, Words};
 use std::alloc::Global;
 

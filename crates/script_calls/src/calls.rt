@@ -12,7 +12,7 @@ use crate::rank_calls::RankCalls;
 use nc_base::{Call, Choice, IdList, Name, ScriptKind};
 use script_values::regions::form_of_text;
 use script_words::numbers::id_of_text;
-use script_words::word_forms::{bare, no_more, name, size};
+use script_words::word_forms::{bare, name, no_more, size};
 use script_words::{ReadErr, Token, Words};
 use std::alloc::Global;
 

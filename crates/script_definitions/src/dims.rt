@@ -5,7 +5,7 @@ ghost use Rattle.script_spec.specs.ScriptDefinitions.{is_among, is_unlimited, di
 ghost use Rattle.script_words.specs.Given.{Gives};
 
 use nc_base::{Dim, DimList, LimitName, MAX_DIMS, Memory, Name, ScriptKind};
-use script_words::word_forms::{dim_length, no_more, name};
+use script_words::word_forms::{dim_length, name, no_more};
 use script_words::{Names, ReadErr, Words};
 use std::alloc::Global;
 use std::marker::Model;

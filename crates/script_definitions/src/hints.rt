@@ -9,7 +9,7 @@ ghost use Rattle.script_words.specs.Given.{Gives};
 
 use hint_table::{HintForm, HintName, hints_of};
 use nc_base::{Hints, ScriptKind};
-use script_words::word_forms::{no_more, next, size_within};
+use script_words::word_forms::{next, no_more, size_within};
 use script_words::{ReadErr, Words};
 use std::alloc::{AllocError, Global};
 use std::marker::Model;

@@ -13,7 +13,7 @@ use nc_base::{
     Var, VarList,
 };
 use script_words::numbers::is_name;
-use script_words::word_forms::{bracketed, no_more, name, type_name};
+use script_words::word_forms::{bracketed, name, no_more, type_name};
 use script_words::{ListParts, Names, ReadErr, Words};
 use std::alloc::Global;
 use std::marker::Model;
