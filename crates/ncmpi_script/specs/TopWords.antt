@@ -1,5 +1,5 @@
 -- Whole scripts, with names for their parts that proofs keep shut.
-use Rattle.std.specs.Prelude.{ℕ, ◌+◌, List, length, true, false, Result, Ok, Err, nat_lt, take, ◌==◌}
+use Rattle.std.specs.Prelude.{ℕ, ◌+◌, List, length, Bool, true, false, Result, Ok, Err, nat_lt, nat_le, take, not, ◌&&◌, ◌==◌}
 use Rattle.std.specs.Str.Lossy.{utf8_valid_len}
 use Rattle.nc_base.specs.declared.errors.ScriptErr.{ScriptErr}
 use Rattle.nc_base.specs.declared.errors.ScriptKind.TheVariants as kind

@@ -1,6 +1,6 @@
 // A whole text.
-ghost use Rattle.std.specs.Prelude.{◌≡◌, ◌≢◌, ◌≤◌, ◌<◌, ◌^◌, ◌+◌, IfOk, IfErr, length, Ok};
-ghost use Rattle.script_spec.specs.ScriptWords.{text_lines, significant_of};
+ghost use Rattle.std.specs.Prelude.{◌≡◌, ◌≢◌, ◌≤◌, ◌<◌, ◌^◌, ◌+◌, IfOk, IfErr, length, filter, Ok};
+ghost use Rattle.script_spec.specs.ScriptWords.{text_lines, significant_of, is_newline};
 ghost use Rattle.script_spec.specs.ScriptGrammar.{is_mismatch, newlines, without_head, Reads, script_fault};
 ghost use Rattle.ncmpi_script.specs.TopWords.{definitions_by, data_part_by, finish_by, made_by, end_by, calls_by, rest_by, headed_by, lines_by, utf8_by, text_by};
 ghost use Rattle.script_words.specs.Seen.{line_seen};
@@ -67,7 +67,9 @@ fn finish<'a>(
         }
         Err(_) => return Err(LineErr::Memory),
     }
-    let kinds = table.kinds(alloc)?;
+    let Ok(kinds) = table.kinds(alloc) else {
+        return Err(LineErr::Memory);
+    };
     match mismatch(kinds.as_slice()) {
         None => Ok(()),
         Some(kind) => Err(LineErr::Fault(ScriptErr { line: number, kind })),
@@ -121,8 +123,10 @@ fn read_definitions<'a>(
     ensures bound { IfOk result (λ d. d.0 ≤ 64) }
 {
     let mut draft = Draft::new(alloc)?;
-    let ranks = definitions(alloc, past, version, &mut draft, lines)?;
-    Ok((ranks, draft))
+    match definitions(alloc, past, version, &mut draft, lines) {
+        Ok(ranks) => Ok((ranks, draft)),
+        Err(fault) => Err(fault),
+    }
 }
 
 /// Reads the calls into a new table: the line of `end`, and the table.
@@ -146,8 +150,10 @@ fn read_calls(
 fn made(alloc: Global, opening: Opening<'_>, table: RankTable) -> Result<Script, LineErr>
     ensures { GivesAt (λ script. script) result (Ok (made_by opening.entry.version opening.entry.ranks opening.entry.draft table.calls)) }
 {
-    let calls = table.into_calls(alloc)?;
-    Ok(script_of(opening, calls))
+    match table.into_calls(alloc) {
+        Ok(calls) => Ok(script_of(opening, calls)),
+        Err(_) => Err(LineErr::Memory),
+    }
 }
 
 /// Reads what follows `end`, which stands on this line, and makes the script.
@@ -161,8 +167,10 @@ fn read_after_end(
 ) -> Result<Script, LineErr>
     ensures { GivesAt (λ script. script) result (end_by opening.entry.version opening.entry.ranks opening.entry.draft number table.calls (significant_of lines.old)) }
 {
-    finish(alloc, number, &table, lines)?;
-    made(alloc, opening, table)
+    match finish(alloc, number, &table, lines) {
+        Ok(()) => made(alloc, opening, table),
+        Err(fault) => Err(fault),
+    }
 }
 
 /// Reads what follows `data`.
@@ -176,8 +184,10 @@ fn read_after_data(
     requires { opening.ranks ≤ 64 }
     ensures { GivesAt (λ script. script) result (calls_by past opening.entry.version opening.entry.ranks opening.entry.draft (significant_of lines.old)) }
 {
-    let (number, table) = read_calls(alloc, past, opening.ranks, &opening.draft, lines)?;
-    read_after_end(alloc, opening, number, table, lines)
+    match read_calls(alloc, past, opening.ranks, &opening.draft, lines) {
+        Ok((number, table)) => read_after_end(alloc, opening, number, table, lines),
+        Err(fault) => Err(fault),
+    }
 }
 
 /// Reads what follows the head.
@@ -190,13 +200,17 @@ fn read_rest(
 ) -> Result<Script, LineErr>
     ensures { GivesAt (λ script. script) result (rest_by past version (significant_of lines.old)) }
 {
-    let (ranks, draft) = read_definitions(alloc, past, version, lines)?;
-    let opening = Opening {
-        version,
-        ranks,
-        draft,
-    };
-    read_after_data(alloc, past, opening, lines)
+    match read_definitions(alloc, past, version, lines) {
+        Ok((ranks, draft)) => {
+            let opening = Opening {
+                version,
+                ranks,
+                draft,
+            };
+            read_after_data(alloc, past, opening, lines)
+        }
+        Err(fault) => Err(fault),
+    }
 }
 
 /// Reads a script whose head stands on this line.
@@ -209,8 +223,10 @@ fn read_from_head<'a>(
 ) -> Result<Script, LineErr>
     ensures { GivesAt (λ script. script) result (headed_by past (line_seen line.entry) (significant_of lines.old)) }
 {
-    let version = head_line(line)?;
-    read_rest(alloc, past, version, lines)
+    match head_line(line) {
+        Ok(version) => read_rest(alloc, past, version, lines),
+        Err(fault) => Err(fault),
+    }
 }
 
 /// The fault of a text without a significant line, which is seen at its end; `past` is the number past its last line.

@@ -6,6 +6,7 @@ use Rattle.std.proofs.lemmas.Bool.{and_parts}
 use Rattle.std.proofs.lemmas.List.{length-map}
 use Rattle.std.proofs.lemmas.Option.{cond_some}
 use Rattle.list_laws.proofs.Optional.{none_of_test, not_some, some_of_map}
+use Rattle.script_spec.proofs.TextLaws.{faultless_some}
 use Rattle.nc_base.specs.declared.errors.ScriptKind.TheVariants as kind
 use Rattle.nc_base.specs.declared.errors.LimitName.TheVariants as limit
 use Rattle.nc_base.specs.declared.header.NcType.{NcType}
@@ -14,13 +15,12 @@ use Rattle.nc_base.specs.declared.header.Attr.{Attr}
 use Rattle.nc_base.specs.declared.header.Var.{Var}
 use Rattle.serial_spec.specs.Limits.{most_dims, most_dims_of_var, most_vars}
 use Rattle.script_spec.specs.ScriptWords.{Word, Plain, is_name, between_brackets, parts, all_some}
-use Rattle.script_spec.specs.ScriptSteps.{refuse_if, reads_as, name, name_of_text, ended}
+use Rattle.script_spec.specs.ScriptSteps.{refuse_if, or_fault, reads_as, name, name_of_text, ended}
 use Rattle.script_spec.specs.ScriptValues.{values}
 use Rattle.script_spec.specs.HintTable.{HintForm, Within, Either, HintRow, hint_table, hint_form, hint_of_text, no_row, hint_in}
-use Rattle.script_spec.specs.ScriptDefinitions.{hint_value, hint_line, ranks_line, number_within, one_of_two, type_of, length_of_text, is_among, dim_names, dim_ids, is_unlimited, is_added_record, dim_line, var_head, name_list, added_shape, var_names, var_line, owner_of_text, owner_name, Title, same_title, attr_of, attribute_name, attribute}
+use Rattle.script_spec.specs.ScriptDefinitions.{hint_value, hint_line, ranks_line, number_within, one_of_two, type_of, length_of_text, is_among, dim_names, dim_ids, is_unlimited, is_record_dim, is_added_record, dim_line, var_head, name_list, shape, added_shape, var_names, var_line, owner_of_text, owner_name, Title, same_title, attr_of, attribute_name, attribute}
 use Rattle.script_text.proofs.Steps.{went, same_ok, not_refused, is_end, whole_value}
 use Rattle.script_text.proofs.Places.{bytes_same}
-use Rattle.script_text.proofs.DefinedChains.{var_parts}
 use Rattle.script_spelling.specs.Statements.{VarLine, RanksAre, HintIs, DimIs, VarIs, AttIs, hint_value_of, owner_word, IsOwner, Says, DimStands, VarStands}
 use Rattle.script_spelling.proofs.WordsRead.{WordRead, word_is, NameRead, name_is}
 use Rattle.script_spelling.proofs.ValuesRead.{values_spelled}
@@ -165,16 +165,26 @@ pub record VarSaid (version : ℕ) (dims : List Dim) (names : List (List ℕ)) (
 
 pub var_said : (version : ℕ) (dims : List Dim) (vars : List Var) (ws : List Word) (v : Var) → var_line version dims vars ws ≡ Ok v → VarSaid version dims (var_names vars) (Plain (codes "var") ∷ ws) v
 var_said version dims vars ws v h =
-    let p = var_parts version dims vars ws v h in
-    let head = head_said version (var_names vars) ws p.head p.head_is in
-    let names = names_said p.head.1 p.listed p.listed_is in
-    record {
-      line = record { kind = p.head.0.0; name = p.head.0.1; dims = p.listed.0 };
-      says = var_says version (var_names vars) ws p.head p.listed head names p.end;
-      stands = (head.fresh, head.room, few_dims dims p.listed.0 v.dims p.found (ltb-false most_dims_of_var (length v.dims) p.few), (v.dims, p.found, p.records));
-      found = p.found;
-      same = p.same;
-    }
+    let a = went (var_head version (var_names vars) ws) _ v h in
+    let b = went (shape dims a.value.1) _ v a.rest in
+    let c = went (ended b.value.1) _ v b.rest in
+    let n = went (name_list a.value.1) _ b.value b.first in
+    let i = went (or_fault kind.UnknownName (dim_ids dims n.value.0)) _ b.value n.rest in
+    let f = went (refuse_if (nat_lt most_dims_of_var (length i.value)) (kind.Limit limit.VarDims)) _ b.value i.rest in
+    let g = went (refuse_if (list_any (is_record_dim dims) (drop 1 i.value)) kind.BadShape) _ b.value f.rest in
+    let pair = same_ok (i.value, n.value.1) b.value g.rest in
+    let ids = ap (λ (x : List ℕ × List Word). x.0) pair in
+    let rest = ap (λ (x : List ℕ × List Word). x.1) pair in
+    let head = head_said version (var_names vars) ws a.value a.first in
+    let names = names_said a.value.1 n.value n.first in
+    let found = faultless_some kind.UnknownName (dim_ids dims n.value.0) i.value i.first in
+    subst (VarSaid version dims (var_names vars) (Plain (codes "var") ∷ ws)) (same_ok (record { name = a.value.0.1; dims = b.value.0; attrs = []; kind = a.value.0.0; begin = 0 }) v c.rest) (record {
+      line = record { kind = a.value.0.0; name = a.value.0.1; dims = n.value.0 };
+      says = var_says version (var_names vars) ws a.value n.value head names (rest ∙ is_end b.value.1 c.value c.first);
+      stands = (head.fresh, head.room, few_dims dims n.value.0 i.value found (ltb-false most_dims_of_var (length i.value) (not_refused _ _ f.value f.first)), (i.value, found, not_refused _ _ g.value g.first));
+      found = found ∙ ap (λ (xs : List ℕ). Some xs) ids;
+      same = refl;
+    })
 
 -- what is added to a dataset that is opened
 pub record LineSaid (dims : List Dim) (names : List (List ℕ)) (words : List Word) (v : (NcType × List ℕ) × List Word) (ns : List (List ℕ) × List Word) : Type 0 where

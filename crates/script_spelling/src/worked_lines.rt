@@ -1,6 +1,6 @@
 //! Lines and what they spell, and lines that spell nothing of the kind.
 
-ghost use Rattle.std.specs.Prelude.{◌≡◌, [], ◌∷◌, ◌++◌, length, true, false, None, codes, pos, neg_ℤ};
+ghost use Rattle.std.specs.Prelude.{◌≡◌, ℕ, List, [], ◌∷◌, ◌++◌, length, map, replicate, true, false, None, Some, codes, pos, neg_ℤ};
 ghost use Rattle.std.specs.Str.Lossy.{utf8_valid_len};
 ghost use Rattle.nc_base.specs.declared.header.NcType.TheVariants.{Char, Short, UByte};
 ghost use Rattle.nc_base.specs.declared.request.Values.TheVariants.{Numbers, Bits};

@@ -16,7 +16,7 @@ use Rattle.serial_spec.specs.Lawful.{most_values}
 use Rattle.script_spec.specs.ScriptWords.{Word, is_name}
 use Rattle.script_spec.specs.ScriptSteps.{◌>>=◌, refuse_if, or_fault, reads_as, ended}
 use Rattle.script_spec.specs.ScriptDefinitions.{is_among, dim_line, var_head, name_list, dim_ids, is_record_dim, var_names, shape, var_line, owner_of_text, owner_place, Title, same_title, attribute, Defined, with_dim, with_var, with_attr_at, with_title, with_attr, att_line, dim_definition, var_definition, fill_line, definition}
-use Rattle.script_text.proofs.Steps.{went, same_ok, not_refused, is_end}
+use Rattle.script_text.proofs.Steps.{went, same_ok, not_refused}
 use Rattle.script_text.proofs.Lines.{all_more, all_joined}
 use Rattle.script_text.proofs.PrintedValues.{is_read}
 use Rattle.script_text.proofs.PrintedRegions.{kept}
@@ -230,20 +230,8 @@ dim_on version values d ws r low ok h =
       few = omega arith;
     })
 
--- what the line of a variable that is read says, part by part
-pub record VarParts (version : ℕ) (dims : List Dim) (names : List (List ℕ)) (ws : List Word) (v : Var) : Type 0 where
-  pub head : (NcType × List ℕ) × List Word
-  pub head_is : var_head version names ws ≡ Ok head
-  pub listed : List (List ℕ) × List Word
-  pub listed_is : name_list head.1 ≡ Ok listed
-  pub found : dim_ids dims listed.0 ≡ Some v.dims
-  pub few : nat_lt most_dims_of_var (length v.dims) ≡ false
-  pub records : list_any (is_record_dim dims) (drop 1 v.dims) ≡ false
-  pub end : listed.1 ≡ []
-  pub same : v ≡ record { name = head.0.1; dims = v.dims; attrs = []; kind = head.0.0; begin = 0 }
-
-pub var_parts : (version : ℕ) (dims : List Dim) (vars : List Var) (ws : List Word) (v : Var) → var_line version dims vars ws ≡ Ok v → VarParts version dims (var_names vars) ws v
-var_parts version dims vars ws v h =
+var_read : (version : ℕ) (dims : List Dim) (vars : List Var) (ws : List Word) (v : Var) → var_line version dims vars ws ≡ Ok v → VarOk version dims (var_names vars) v × (v.attrs ≡ [])
+var_read version dims vars ws v h =
     let a = went (var_head version (var_names vars) ws) _ v h in
     let b = went (shape dims a.value.1) _ v a.rest in
     let c = went (ended b.value.1) _ v b.rest in
@@ -251,36 +239,20 @@ var_parts version dims vars ws v h =
     let i = went (or_fault kind.UnknownName (dim_ids dims n.value.0)) _ b.value n.rest in
     let f = went (refuse_if (nat_lt most_dims_of_var (length i.value)) (kind.Limit limit.VarDims)) _ b.value i.rest in
     let g = went (refuse_if (list_any (is_record_dim dims) (drop 1 i.value)) kind.BadShape) _ b.value f.rest in
-    let pair = same_ok (i.value, n.value.1) b.value g.rest in
-    let ids : i.value ≡ b.value.0 = ap (λ (x : List ℕ × List Word). x.0) pair in
-    let rest : n.value.1 ≡ b.value.1 = ap (λ (x : List ℕ × List Word). x.1) pair in
+    let ids : i.value ≡ b.value.0 = ap (λ (x : List ℕ × List Word). x.0) (same_ok (i.value, n.value.1) b.value g.rest) in
     let x : Var = record { name = a.value.0.1; dims = b.value.0; attrs = []; kind = a.value.0.0; begin = 0 } in
-    subst (VarParts version dims (var_names vars) ws) (same_ok x v c.rest) (record {
-      head = a.value;
-      head_is = a.first;
-      listed = n.value;
-      listed_is = n.first;
-      found = faultless_some kind.UnknownName (dim_ids dims n.value.0) i.value i.first ∙ ap (λ xs. Some xs) ids;
-      few = subst (λ xs. nat_lt most_dims_of_var (length xs) ≡ false) ids (not_refused _ _ f.value f.first);
-      records = subst (λ xs. list_any (is_record_dim dims) (drop 1 xs) ≡ false) ids (not_refused _ _ g.value g.first);
-      end = rest ∙ is_end b.value.1 c.value c.first;
-      same = refl;
-    })
-
-var_read : (version : ℕ) (dims : List Dim) (vars : List Var) (ws : List Word) (v : Var) → var_line version dims vars ws ≡ Ok v → VarOk version dims (var_names vars) v × (v.attrs ≡ [])
-var_read version dims vars ws v h =
-    let p = var_parts version dims vars ws v h in
-    let x : Var = record { name = p.head.0.1; dims = v.dims; attrs = []; kind = p.head.0.0; begin = 0 } in
-    let again : VarOk version dims (var_names vars) x = record {
-      dim_list = p.listed.0;
-      named = names_read p.head.1 p.listed p.listed_is;
-      found = p.found;
-      few = p.few;
-      records = p.records;
-      head = head_read version (var_names vars) ws p.head p.head_is;
-      no_start = refl;
-    } in
-    (subst (VarOk version dims (var_names vars)) (sym p.same) again, ap (λ (y : Var). y.attrs) p.same)
+    subst (λ (y : Var). VarOk version dims (var_names vars) y × (y.attrs ≡ [])) (same_ok x v c.rest) (
+      record {
+        dim_list = n.value.0;
+        named = names_read a.value.1 n.value n.first;
+        found = faultless_some kind.UnknownName (dim_ids dims n.value.0) i.value i.first ∙ ap (λ (xs : List ℕ). Some xs) ids;
+        few = subst (λ xs. nat_lt most_dims_of_var (length xs) ≡ false) ids (not_refused _ _ f.value f.first);
+        records = subst (λ xs. list_any (is_record_dim dims) (drop 1 xs) ≡ false) ids (not_refused _ _ g.value g.first);
+        head = head_read version (var_names vars) ws a.value a.first;
+        no_start = refl;
+      },
+      refl,
+    )
 
 var_on : (version values : ℕ) (d : Defined) (ws : List Word) (r : ℕ × Defined) → values ≤ most_values → DefinedOk version values d → var_definition version d ws ≡ Ok r → DefinedOn version values r
 var_on version values d ws r low ok h =

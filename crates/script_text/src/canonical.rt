@@ -1,5 +1,5 @@
 // The canonical text of a script.
-ghost use Rattle.std.specs.Prelude.{◌≡◌, ◌++◌, ◌∷◌, [], true, IfOk, OnOk, if◌then◌else◌, codes, decimal};
+ghost use Rattle.std.specs.Prelude.{◌≡◌, ◌++◌, ◌∷◌, [], true, IfOk, OnOk, if◌then◌else◌, codes, decimal, flat_map};
 ghost use Rattle.serial_spec.specs.Lawful.{has_whole_attrs};
 ghost use Rattle.script_spec.specs.Texts.{line};
 ghost use Rattle.script_spec.specs.HintTable.{shown_value};
@@ -70,7 +70,13 @@ fn push_fill(out: &mut Vec<u8>, filled: bool) -> Result<(), Memory>
 fn push_hints(out: &mut Vec<u8>, hints: &Hints) -> Result<(), Memory>
     ensures { OnOk result (out.new.items ≡ out.old.items ++ shown_hints hints.now) }
 {
-    for name in &HINTS {
+    push_each_hint(out, &HINTS, hints)
+}
+
+fn push_each_hint(out: &mut Vec<u8>, names: &[HintName], hints: &Hints) -> Result<(), Memory>
+    ensures { OnOk result (out.new.items ≡ out.old.items ++ flat_map (λ name. shown_hint hints.now (row_of name)) names.now) }
+{
+    for name in names {
         push_hint(out, *name, hints)?;
     }
     Ok(())

@@ -1,4 +1,4 @@
-use Rattle.std.proofs.Common.{◌≡◌, Result, true, false, length, nat_lt, ◌==◌, sym, subst, arith}
+use Rattle.std.proofs.Common.{◌≡◌, ◌∙◌, Result, Bool, true, false, length, nat_lt, ◌==◌, sym, subst, arith}
 use Rattle.std.specs.Str.Lossy.{utf8_valid_len}
 use Rattle.std.proofs.lemmas.Str.{utf8_valid_len-IsUtf8}
 use Rattle.std.proofs.lemmas.Bool.Decides.{nat_tests}
