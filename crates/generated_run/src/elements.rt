@@ -1,6 +1,5 @@
 // The elements of the puts and gets that were done.
 ghost use Rattle.std.specs.Prelude.{◌≡◌, ◌+◌, IfOk, map, sum, zip};
-ghost use Rattle.serial_spec.specs.Layout.{product};
 ghost use Rattle.serial_spec.specs.RegionCheck.{is_ok_code};
 ghost use Rattle.script_spec.specs.Generator.{call_got, call_put, elements_given, is_done, over_calls, posted_elements};
 ghost use Rattle.generated_run.specs.Counting.{FindsGiven, call_done, item_done, items_done};

@@ -1,5 +1,5 @@
 -- The first number at which the ranks differ.
-use Rattle.std.proofs.Common.{◌≡◌, ◌∙◌, ◌≤◌, ◌<◌, ℕ, zero, suc, ◌+◌, ◌-◌, List, [], ◌∷◌, length, Bool, true, false, Option, Some, None, find, refl, sym, ap, arith, cond, is_some, option_map, subst}
+use Rattle.std.proofs.Common.{◌≡◌, ◌∙◌, ◌≤◌, ◌<◌, ℕ, suc, ◌+◌, ◌-◌, List, length, Bool, true, false, Option, Some, None, find, refl, sym, ap, arith, cond, is_some, option_map, subst}
 use Rattle.nc_base.specs.declared.step.MeetKind.{MeetKind}
 use Rattle.script_spec.specs.ScriptCalls.{differs_at, is_difference, first_difference}
 use Rattle.std.specs.List.{range_with_len}

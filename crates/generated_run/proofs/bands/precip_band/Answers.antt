@@ -1,4 +1,4 @@
-use Rattle.std.proofs.Common.{◌≡◌, ◌+◌, ◌-◌, List, [], ℕ, subst, ◌∙◌, arith}
+use Rattle.std.proofs.Common.{◌≡◌, ◌+◌, ◌-◌, List, [], subst, ◌∙◌, arith}
 use Rattle.std.specs.Prelude.{ℤ, IfOk}
 use Rattle.nc_base.specs.NumberForms.{numbers_of_runs}
 use Rattle.script_spec.specs.Generator.{first_row}

@@ -1,4 +1,4 @@
-use Rattle.std.proofs.Common.{◌≡◌, List, ℕ, subst}
+use Rattle.std.proofs.Common.{◌≡◌, List, subst}
 use Rattle.std.specs.Prelude.{ℤ, OnOk}
 use Rattle.nc_base.specs.NumberForms.{numbers_of_runs}
 use Rattle.generated_run.proofs.TurnLaws.{precip_row_pushed}

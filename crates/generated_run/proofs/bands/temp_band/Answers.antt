@@ -1,5 +1,5 @@
 use Rattle.std.proofs.Common.{◌≡◌, ◌+◌, ◌-◌, List, [], ℕ, subst, ◌∙◌, arith}
-use Rattle.std.specs.Prelude.{ℤ, IfOk}
+use Rattle.std.specs.Prelude.{IfOk}
 use Rattle.nc_base.specs.BitForms.{bits_of_runs}
 use Rattle.script_spec.specs.Generator.{first_row}
 use Rattle.generated_run.specs.Made.{temp_row}
