@@ -11,7 +11,7 @@ use Rattle.nc_base.specs.declared.run.RankStop.{RankStop}
 use Rattle.nc_base.specs.declared.run.RankStop.TheVariants as stop
 use Rattle.nc_base.specs.declared.step.Offer.{Offer}
 use Rattle.nc_base.specs.declared.step.OwnerItem.{OwnerItem}
-use Rattle.nc_base.specs.declared.step.OwnerItem.TheVariants as sent
+use Rattle.nc_base.specs.declared.step.OwnerItem.TheVariants as owner_item
 use Rattle.nc_base.specs.declared.step.RankItem.{RankItem}
 use Rattle.nc_base.specs.declared.step.RankItem.TheVariants as item
 use Rattle.nc_base.specs.declared.step.Reply.{Reply}
@@ -58,23 +58,23 @@ one_more put taken n o x h =
 
 pub accounted_on : (header : Header) (own : List Call) (put : List RankItem) (taken : List OwnerItem) (g : Going) (o : Offer) (y : Reply) (to : Going × Option Offer)
     → IsAccounted header own put taken (g, Some o) → fits_offer header o y ≡ true → advance header (hears header g y) ≡ to
-    → IsAccounted header own (put ++ item.Offer (length g.answers) o ∷ []) (taken ++ sent.Reply y ∷ []) to
+    → IsAccounted header own (put ++ item.Offer (length g.answers) o ∷ []) (taken ++ owner_item.Reply y ∷ []) to
 accounted_on header own put taken g o y to h fits e = record {
   offers = λ later.
-      ap (λ (back : List OwnerItem). offered header (first_going header own) back) (append_assoc taken (sent.Reply y ∷ []) later)
-      ∙ h.offers (sent.Reply y ∷ later)
+      ap (λ (back : List OwnerItem). offered header (first_going header own) back) (append_assoc taken (owner_item.Reply y ∷ []) later)
+      ∙ h.offers (owner_item.Reply y ∷ later)
       ∙ ap (λ (more : List RankItem). put ++ item.Offer (length g.answers) o ∷ more)
       (waiting_reply header g o y later fits ∙ ap (λ (a : Going × Option Offer). offered_by header a later) e)
       ∙ sym (append_assoc put (item.Offer (length g.answers) o ∷ []) (offered_by header to later));
   ends = λ later.
-      ap (λ (back : List OwnerItem). rank_end header (first_going header own) back) (append_assoc taken (sent.Reply y ∷ []) later)
-      ∙ h.ends (sent.Reply y ∷ later)
+      ap (λ (back : List OwnerItem). rank_end header (first_going header own) back) (append_assoc taken (owner_item.Reply y ∷ []) later)
+      ∙ h.ends (owner_item.Reply y ∷ later)
       ∙ waiting_end_reply header g o y later fits ∙ ap (λ (a : Going × Option Offer). end_by header a later) e;
   stops = λ later.
-      ap (λ (back : List OwnerItem). rank_stop header (first_going header own) back) (append_assoc taken (sent.Reply y ∷ []) later)
-      ∙ h.stops (sent.Reply y ∷ later)
+      ap (λ (back : List OwnerItem). rank_stop header (first_going header own) back) (append_assoc taken (owner_item.Reply y ∷ []) later)
+      ∙ h.stops (owner_item.Reply y ∷ later)
       ∙ waiting_stop_reply header g o y later fits ∙ ap (λ (a : Going × Option Offer). stop_by header a later) e;
-  one_each = one_more put taken (length g.answers) o (sent.Reply y) h.one_each;
+  one_each = one_more put taken (length g.answers) o (owner_item.Reply y) h.one_each;
 }
 
 -- ---- the end of the calls
@@ -117,14 +117,14 @@ stood_left header own put taken g o x end runner h not_broken last ended stopped
 
 pub stood_stopped : (header : Header) (own : List Call) (put : List RankItem) (taken : List OwnerItem) (g : Going) (o : Offer) (runner : Runner)
     → IsAccounted header own put taken (g, Some o) → runner.answers ≡ g.answers → runner.rank.state ≡ g.rank
-    → HasStood header own (put ++ item.Offer (length g.answers) o ∷ []) (taken ++ sent.Stop ∷ []) runner (Ok stop.Stopped)
-stood_stopped header own put taken g o runner h e f = stood_left header own put taken g o sent.Stop stop.Stopped runner h (λ k. cc) refl refl refl e f
+    → HasStood header own (put ++ item.Offer (length g.answers) o ∷ []) (taken ++ owner_item.Stop ∷ []) runner (Ok stop.Stopped)
+stood_stopped header own put taken g o runner h e f = stood_left header own put taken g o owner_item.Stop stop.Stopped runner h (λ k. cc) refl refl refl e f
 
 pub stood_misfit : (header : Header) (own : List Call) (put : List RankItem) (taken : List OwnerItem) (g : Going) (o : Offer) (y : Reply) (runner : Runner)
     → IsAccounted header own put taken (g, Some o) → fits_offer header o y ≡ false → runner.answers ≡ g.answers → runner.rank.state ≡ g.rank
-    → HasStood header own (put ++ item.Offer (length g.answers) o ∷ []) (taken ++ sent.Reply y ∷ []) runner (Ok stop.Misfit)
+    → HasStood header own (put ++ item.Offer (length g.answers) o ∷ []) (taken ++ owner_item.Reply y ∷ []) runner (Ok stop.Misfit)
 stood_misfit header own put taken g o y runner h fits e f =
-    stood_left header own put taken g o (sent.Reply y) stop.Misfit runner h (λ k. cc) (rw (fits, waiting) refl) (rw (fits, waiting_end) refl) (rw (fits, waiting_stop) refl) e f
+    stood_left header own put taken g o (owner_item.Reply y) stop.Misfit runner h (λ k. cc) (rw (fits, waiting) refl) (rw (fits, waiting_end) refl) (rw (fits, waiting_stop) refl) e f
 
 -- ---- want of memory
 
@@ -150,16 +150,16 @@ broken_first header own runner result e (rest, h) =
 pub broken_at : (header : Header) (own : List Call) (put : List RankItem) (taken : List OwnerItem) (g : Going) (o : Offer) (y : Reply) (runner : Runner) (result : Result RankStop Memory)
     → IsAccounted header own put taken (g, Some o) → fits_offer header o y ≡ true → is_err result ≡ true
     → (rest : List Answer) × (runner.answers ++ rest ≡ (advance header (hears header g y)).0.answers)
-    → HasStood header own (put ++ item.Offer (length g.answers) o ∷ []) (taken ++ sent.Reply y ∷ []) runner result
+    → HasStood header own (put ++ item.Offer (length g.answers) o ∷ []) (taken ++ owner_item.Reply y ∷ []) runner result
 broken_at header own put taken g o y runner result h fits e (rest, k) =
     let here = accounted_on header own put taken g o y (advance header (hears header g y)) h fits refl in
-    broken header own (put ++ item.Offer (length g.answers) o ∷ []) (taken ++ sent.Reply y ∷ []) runner result e here.one_each
+    broken header own (put ++ item.Offer (length g.answers) o ∷ []) (taken ++ owner_item.Reply y ∷ []) runner result e here.one_each
     (record {
       unsent = offered_by header (advance header (hears header g y)) [];
-      begins = sym (here.offers []) ∙ ap (λ (back : List OwnerItem). offered header (first_going header own) back) (append-nil (taken ++ sent.Reply y ∷ []));
+      begins = sym (here.offers []) ∙ ap (λ (back : List OwnerItem). offered header (first_going header own) back) (append-nil (taken ++ owner_item.Reply y ∷ []));
       unanswered = rest;
       answers = k ∙ at_once (advance header (hears header g y)) ∙ sym (ap (λ (s : Going). s.answers) (here.ends []))
-          ∙ ap (λ (back : List OwnerItem). (rank_end header (first_going header own) back).answers) (append-nil (taken ++ sent.Reply y ∷ []));
+          ∙ ap (λ (back : List OwnerItem). (rank_end header (first_going header own) back).answers) (append-nil (taken ++ owner_item.Reply y ∷ []));
     })
   where
     at_once : (a : Going × Option Offer) → a.0.answers ≡ (end_by header a []).answers

@@ -37,7 +37,7 @@ use Rattle.join_laws.proofs.JoinLaws.{Stands, served_on, fold_two}
 use Rattle.join_laws.proofs.StepLaws.{offer_at, offers_long}
 use Rattle.join_laws.proofs.ClientTurns.{Lasting, client_held}
 use Rattle.join_laws.proofs.TieLaws.{one_held}
-use Rattle.thread_run.proofs.ThreadCalls.{Onward, onward}
+use Rattle.thread_run.proofs.ThreadCalls.{Onward, onward, held_next}
 use Rattle.list_laws.proofs.Places.{entry_beside}
 
 -- ---- counts whose file does not end too far

@@ -1,5 +1,8 @@
 // One rank's thread, which waits for its word, and what the calling thread has of it.
-ghost use Rattle.std.specs.Prelude.{◌≡◌, ◌<◌, [], IfSome};
+ghost use Rattle.std.specs.Prelude.{◌≡◌, ◌<◌, [], true, IfSome};
+ghost use Rattle.rank_core.specs.Indexed.{IsIndexOf};
+ghost use Rattle.serial_spec.specs.SoundHeaders.{is_sound};
+ghost use Rattle.serial_spec.specs.Lawful.{is_lawful};
 ghost use Rattle.thread_run.specs.Lent.{IsRunnable};
 ghost use Rattle.thread_run.specs.RankHandle.{HasReturned, IsFresh, IsOf, IsRankHandle};
 
@@ -92,9 +95,27 @@ fn spawn<'s, E, G: Gate, R: Threads + Wait + Sync>(
         script: Snapshot::of(lent.script),
         ends: Snapshot::of(&ends),
     };
+    let Lent {
+        rt,
+        alloc,
+        gate,
+        header,
+        names,
+        script,
+    } = *lent;
     let work = move || -> Returned
-        requires { IsRunnable lent.now × (ends.out.number < lent.now.script.now.ranks) × IsFresh ends }
-    { take_part(lent, ends) };
+        requires { (is_sound header.now ≡ true) × (is_lawful script.now ≡ true) × IsIndexOf header.now names.now × (ends.out.number < script.now.ranks) × IsFresh ends }
+    {
+        let lent = Lent {
+            rt,
+            alloc,
+            gate,
+            header,
+            names,
+            script,
+        };
+        take_part(&lent, ends)
+    };
     scope.spawn_with(part, work).ok()
 }
 

@@ -13,7 +13,7 @@ ghost use Rattle.thread_run.specs.Owned.{owner_of};
 ghost use Rattle.var_layout.specs.Measures.{AreMeasures};
 
 use crate::owner::{Client, Owner};
-use nc_base::{Direction, Header, Offer, OfferKind, Post, RankItem};
+use nc_base::{Direction, Header, Offer, OfferKind, Post, RankItem, Region};
 use type_external::{element_count, size_of};
 use var_layout::Measures;
 use vara_extents::check;
@@ -183,8 +183,16 @@ fn has_other_length(header: &Header, known: u64, put: &Post) -> bool
     match header.vars.as_slice().get(put.var as usize) {
         None => true,
         Some(var) => {
-            let elements = element_count(put.region.count.as_slice());
+            let elements = elements_of(&put.region);
             put.bytes.len() as u64 != elements * size_of(var.kind)
         }
     }
+}
+
+/// How many elements an accepted region has.
+fn elements_of(region: &Region) -> u64
+    requires few { product region.now.count ≤ most_elements }
+    ensures { result ≡ product region.now.count }
+{
+    element_count(region.count.as_slice())
 }

@@ -10,19 +10,8 @@ use Rattle.turn_run.specs.RankEnds.{runner_end}
 use Rattle.turn_run.specs.Running.{calls_of}
 use Rattle.thread_run.proofs.AttendLaws.{attended_broken, attended_through}
 use Rattle.thread_run.proofs.AttendWay.{items_more}
-use Rattle.thread_run.proofs.rank_side.attend.Given.{Over}
 use Rattle.thread_run.proofs.rank_side.attend.Goals.{in-Ok, in-Err}
 use Rattle.thread_run.proofs.rank_side.attend.Goals as goal
-
--- whether its last item says that it wanted memory
-not_wanted : (g : Over) (c : goal.Joined-runner-2 g) (end : RankStop) → c.match-make_calls.end ≡ end → (end ≡ stop.Memory → ⊥) → c.eq.result ≡ false
-not_wanted g c stop.Done e n = rw (c.eq.ensures, e) refl
-not_wanted g c stop.Stopped e n = rw (c.eq.ensures, e) refl
-not_wanted g c stop.Misfit e n = rw (c.eq.ensures, e) refl
-not_wanted g c stop.Memory e n = absurd (n refl)
-
-wanted : (g : Over) (c : goal.Joined-runner-2 g) → c.match-make_calls.end ≡ stop.Memory → c.eq.result ≡ true
-wanted g c e = rw (c.eq.ensures, e) refl
 
 pub returns-clause-attended : goal.returns-clause-attended
 returns-clause-attended g c =
@@ -37,7 +26,7 @@ returns-clause-attended g c =
             put,
             stood.1,
             items_more c.args.out.now.items c.make_calls.new.out.items c.put.new.self.items stood.0 c.last_item.result (item.Ended false) stood.2 c.put.ensures.items
-                (c.last_item.ensures ∙ ap (λ (b : Bool). item.Ended b) (not_wanted g c w.in-Ok.end w.end-is here.stands.not_broken)),
+                (c.last_item.ensures ∙ ap (λ (b : Bool). item.Ended b) (not_wanted w.in-Ok.end w.end-is here.stands.not_broken)),
             stood.3,
             subst (λ (x : RankEnd). HasAttended header own put stood.1 x) (sym c.into_end.ensures)
                 (subst (λ (end : RankStop). HasAttended header own put stood.1 (runner_end end runner)) (sym w.end-is) (attended_through header own stood.0 stood.1 runner w.in-Ok.end here)),
@@ -48,9 +37,19 @@ returns-clause-attended g c =
             put,
             stood.1,
             items_more c.args.out.now.items c.make_calls.new.out.items c.put.new.self.items stood.0 c.last_item.result (item.Ended true) stood.2 c.put.ensures.items
-                (c.last_item.ensures ∙ ap (λ (b : Bool). item.Ended b) (wanted g c w.end-is)),
+                (c.last_item.ensures ∙ ap (λ (b : Bool). item.Ended b) (wanted w.end-is)),
             stood.3,
             subst (λ (x : RankEnd). HasAttended header own put stood.1 x) (sym c.into_end.ensures)
                 (subst (λ (end : RankStop). HasAttended header own put stood.1 (runner_end end runner)) (sym w.end-is) (attended_broken header own stood.0 stood.1 runner _ here)),
           )
     ]
+  where
+    -- whether its last item says that it wanted memory
+    not_wanted : (end : RankStop) → c.match-make_calls.end ≡ end → (end ≡ stop.Memory → ⊥) → c.eq.result ≡ false
+    not_wanted stop.Done e n = rw (c.eq.ensures, e) refl
+    not_wanted stop.Stopped e n = rw (c.eq.ensures, e) refl
+    not_wanted stop.Misfit e n = rw (c.eq.ensures, e) refl
+    not_wanted stop.Memory e n = absurd (n refl)
+
+    wanted : c.match-make_calls.end ≡ stop.Memory → c.eq.result ≡ true
+    wanted e = rw (c.eq.ensures, e) refl

@@ -4,7 +4,7 @@ use Rattle.std.proofs.lemmas.List.{append-nil}
 use Rattle.nc_base.specs.declared.answer.Answer.{Answer}
 use Rattle.nc_base.specs.declared.request.Call.{Call}
 use Rattle.nc_base.specs.declared.run.RankStop.TheVariants as stop
-use Rattle.nc_base.specs.declared.step.OwnerItem.TheVariants as sent
+use Rattle.nc_base.specs.declared.step.OwnerItem.TheVariants as owner_item
 use Rattle.nc_base.specs.declared.step.RankItem.TheVariants as item
 use Rattle.serial_spec.specs.SerialEnd.{advance}
 use Rattle.thread_run.specs.RankSides.{HasStood}
@@ -66,7 +66,7 @@ returns-in-Stop-clause-stood g c =
     let all = c.own_calls-calls.ensures ∙ ap (calls_of c.args.script.now) c.number-number.ensures in
     let left : Runner = record { rank = runner.rank; answers = runner.answers; held = c.take.new.self } in
     let put = account.0 ++ item.Offer (length runner.answers) o ∷ [] in
-    let taken = account.1 ++ sent.Stop ∷ [] in (
+    let taken = account.1 ++ owner_item.Stop ∷ [] in (
       put,
       taken,
       items_more c.args.out.now.items c.offers.out.items c.put.new.self.items account.0 _ _ account.2 c.put.ensures.items sent,
@@ -102,7 +102,7 @@ returns-then-not-fits-clause-stood g c =
     let fits = fits_is runner.rank.state.«open» header runner.rank.header o c.in-Reply.reply c.fits.result c.offers.invariant.of_header waits c.fits.ensures in
     let left : Runner = record { rank = runner.rank; answers = runner.answers; held = c.take.new.self } in
     let put = account.0 ++ item.Offer (length runner.answers) o ∷ [] in
-    let taken = account.1 ++ (sent.Reply c.in-Reply.reply) ∷ [] in (
+    let taken = account.1 ++ (owner_item.Reply c.in-Reply.reply) ∷ [] in (
       put,
       taken,
       items_more c.args.out.now.items c.offers.out.items c.put.new.self.items account.0 _ _ account.2 c.put.ensures.items sent,
@@ -150,7 +150,7 @@ returns-in_err-hear-clause-stood g c =
     let waits = placed_waits c.args.script.now header placed.0 c.number-number.result (asking own runner) o with_offer in
     let fits = fits_is runner.rank.state.«open» header runner.rank.header o c.in-Reply.reply c.fits.result c.offers.invariant.of_header waits c.fits.ensures in
     let put = account.0 ++ item.Offer (length runner.answers) o ∷ [] in
-    let taken = account.1 ++ (sent.Reply c.in-Reply.reply) ∷ [] in (
+    let taken = account.1 ++ (owner_item.Reply c.in-Reply.reply) ∷ [] in (
       put,
       taken,
       items_more c.args.out.now.items c.offers.out.items c.put.new.self.items account.0 _ _ account.2 c.put.ensures.items sent,
@@ -213,7 +213,7 @@ offers-preserved g c =
       ended = c.in_ok-go_on-2.ensures.ended;
       accounted = (
         account.0 ++ item.Offer (length runner.answers) o ∷ [],
-        account.1 ++ sent.Reply c.in-Reply.reply ∷ [],
+        account.1 ++ owner_item.Reply c.in-Reply.reply ∷ [],
         items_more c.args.out.now.items c.offers.out.items c.put.new.self.items account.0 _ _ account.2 c.put.ensures.items sent,
         items_more c.args.back.now.items c.offers.back.items c.take-in-Some.new.self.items account.1 _ _ account.3 c.in-Reply.ensures.items refl,
         accounted_on header own account.0 account.1 (asking own runner) o c.in-Reply.reply (going_of own new, new.held) here (sym fits ∙ c.if-not-fits.false) went,
@@ -236,7 +236,7 @@ returns-in_err-go_on-2-clause-stood g c =
     let fits = fits_is runner.rank.state.«open» header runner.rank.header o c.in-Reply.reply c.fits.result c.offers.invariant.of_header waits c.fits.ensures in
     let before : Runner = record { rank = runner.rank; answers = runner.answers; held = c.take.new.self } in
     let put = account.0 ++ item.Offer (length runner.answers) o ∷ [] in
-    let taken = account.1 ++ (sent.Reply c.in-Reply.reply) ∷ [] in (
+    let taken = account.1 ++ (owner_item.Reply c.in-Reply.reply) ∷ [] in (
       put,
       taken,
       items_more c.args.out.now.items c.offers.out.items c.put.new.self.items account.0 _ _ account.2 c.put.ensures.items sent,
