@@ -18,7 +18,7 @@ use Rattle.nc_base.specs.declared.script.Extra.{Extra}
 use Rattle.nc_base.specs.declared.script.Extra.TheVariants as extra
 use Rattle.nc_base.specs.declared.errors.RedefErr.{RedefErr}
 use Rattle.nc_base.specs.declared.errors.RedefErr.TheVariants as redef
-use Rattle.serial_spec.specs.Limits.{most_dims, most_vars, file_limit}
+use Rattle.serial_spec.specs.Limits.{most_dims, most_vars, file_limit, record_limit}
 use Rattle.serial_spec.specs.ExternalForm.{size_of}
 use Rattle.serial_spec.specs.Layout.{length_of}
 use Rattle.serial_spec.specs.HeaderFaults.{is_record_id}
@@ -151,11 +151,14 @@ one_record_still dims d l h =
         omega arith
     by_test false e s = let one = ap (λ (t : Bool). length (cond t (d ∷ []) [])) e in omega arith
 
-length_fits : (version : ℕ) (d : Dim) → nat_lt d.len (2 ^ 62) ≡ true → (not (version == 5) && nat_le (2 ^ 31) d.len) ≡ false → HasFitLength version d
+length_fits : (version : ℕ) (d : Dim) → nat_lt d.len (record_limit 5) ≡ true → (not (version == 5) && nat_le (record_limit version) d.len) ≡ false → HasFitLength version d
 length_fits version d lawful h =
-    let small : d.len < 2 ^ 62 = ltb-true d.len (2 ^ 62) lawful in
+    let small : d.len < 2 ^ 62 = ltb-true d.len (record_limit 5) lawful in
     record {
-      fits = count_fits version d.len small (λ e. leb-false (2 ^ 31) d.len (not_both (not (version == 5)) _ h (ap (λ (t : Bool). not t) e)));
+      fits =
+          count_fits version d.len small
+          (λ e. subst (λ (n : ℕ). d.len < n) (ap (λ (t : Bool). cond t (2 ^ 62) (2 ^ 31)) e)
+          (leb-false (record_limit version) d.len (not_both (not (version == 5)) _ h (ap (λ (t : Bool). not t) e))));
       small = omega arith;
     }
 
