@@ -11,9 +11,9 @@ use Rattle.nc_base.specs.declared.script.Extra.{Extra}
 use Rattle.nc_base.specs.declared.script.Extra.TheVariants as extra
 use Rattle.serial_spec.specs.DeviceCalls.{slabs}
 use Rattle.serial_spec.specs.HeaderBytes.{header_len}
-use Rattle.serial_spec.specs.SoundHeaders.{is_sound}
+use Rattle.serial_spec.specs.SoundHeaders.{is_sound, is_redefinable}
 use Rattle.serial_spec.specs.Layout.{is_record}
-use Rattle.serial_spec.specs.Redefinition.{with_attr, with_extra, added, begins_by_number, begin_of_number, with_begins, redefined_header, is_redefinable}
+use Rattle.serial_spec.specs.Redefinition.{with_attr, with_extra, added, begins_by_number, begin_of_number, with_begins, redefined_header}
 use Rattle.serial_spec.proofs.AddedLaws.{redefined_keeps}
 use Rattle.redef_laws.specs.Applied.{IsApplied}
 use Rattle.redef_laws.specs.Shifted.{AreShifted, new_end}

@@ -2,6 +2,7 @@
 --     In xs x                 the item stands in the list
 --     HaveSame xs ys          the same items stand in both, in whatever order
 --     sorted_by before xs     the items in order, where `before x y` says that x may stand before y
+--     first_true tests other  what stands beside the first test that is true, else the other
 use Rattle.std.specs.Prelude.{◌≡◌, List, [], ◌∷◌, ◌⊎◌, Bool, if◌then◌else◌}
 
 abbrev pub In : {X : Type 0} → List X → X → Type 0
@@ -18,3 +19,7 @@ inserted_by before x (y ∷ ys) = if before x y then x ∷ y ∷ ys else y ∷ i
 abbrev pub sorted_by : {X : Type 0} → (X → X → Bool) → List X → List X
 sorted_by before [] = []
 sorted_by before (x ∷ xs) = inserted_by before x (sorted_by before xs)
+
+abbrev pub first_true : {A : Type 0} → List (Bool × A) → A → A
+first_true [] other = other
+first_true (test ∷ tests) other = if test.0 then test.1 else first_true tests other
