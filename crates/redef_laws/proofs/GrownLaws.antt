@@ -25,7 +25,7 @@ use Rattle.serial_spec.specs.HeaderFaults.{is_record_id}
 use Rattle.serial_spec.specs.SoundHeaders.{fits_count, is_type}
 use Rattle.serial_spec.specs.Looks.{find_dim}
 use Rattle.serial_spec.specs.Lawful.{is_lawful_extra, is_whole_extra}
-use Rattle.serial_spec.specs.Redefinition.{with_attr, with_extra, added, dim_id, is_taken, is_unknown, has_bad_shape, is_one_too_many, has_bad_kind, extra_fault, extras_from}
+use Rattle.serial_spec.specs.Redefinition.{with_var_attr, with_extra, added, dim_id, is_taken, is_unknown, has_bad_shape, is_one_too_many, has_bad_kind, extra_fault, extras_from}
 use Rattle.redef_laws.proofs.FieldLaws.{not_both, each_both, count_fits}
 use Rattle.list_laws.proofs.Places.{get_left}
 
@@ -244,19 +244,19 @@ typed : (h : Header) (owner : Option (List ℕ)) (a : Attr) → HasNoFault h (ex
 typed h owner a none whole = record { kind = le-leb _ _ (ltb-false _ _ none.kind); whole = eqb-true (length a.bytes) (a.count * size_of a.kind) whole }
 
 pub attr_pushed : (P : Var → Type 0) (name : List ℕ) (a : Attr) (vs : List Var) → ((v : Var) → P v → P (record v { attrs = v.attrs ++ a ∷ [] }))
-    → AllByRecursion P vs → AllByRecursion P (with_attr name a vs)
+    → AllByRecursion P vs → AllByRecursion P (with_var_attr name a vs)
 attr_pushed P name a [] push all = tt
 attr_pushed P name a (v ∷ vs) push all = by_name (bytes_eq v.name name) (attr_pushed P name a vs push all.1)
   where
-    by_name : (t : Bool) → AllByRecursion P (with_attr name a vs) → AllByRecursion P (cond t (record v { attrs = v.attrs ++ a ∷ [] } ∷ vs) (v ∷ with_attr name a vs))
+    by_name : (t : Bool) → AllByRecursion P (with_var_attr name a vs) → AllByRecursion P (cond t (record v { attrs = v.attrs ++ a ∷ [] } ∷ vs) (v ∷ with_var_attr name a vs))
     by_name true rest = (push v all.0, all.1)
     by_name false rest = (all.0, rest)
 
-attr_long : (name : List ℕ) (a : Attr) (vs : List Var) → length (with_attr name a vs) ≡ length vs
+attr_long : (name : List ℕ) (a : Attr) (vs : List Var) → length (with_var_attr name a vs) ≡ length vs
 attr_long name a [] = refl
 attr_long name a (v ∷ vs) = by_name (bytes_eq v.name name) (attr_long name a vs)
   where
-    by_name : (t : Bool) → length (with_attr name a vs) ≡ length vs → length (cond t (record v { attrs = v.attrs ++ a ∷ [] } ∷ vs) (v ∷ with_attr name a vs)) ≡ length (v ∷ vs)
+    by_name : (t : Bool) → length (with_var_attr name a vs) ≡ length vs → length (cond t (record v { attrs = v.attrs ++ a ∷ [] } ∷ vs) (v ∷ with_var_attr name a vs)) ≡ length (v ∷ vs)
     by_name true rest = refl
     by_name false rest = ap suc rest
 
