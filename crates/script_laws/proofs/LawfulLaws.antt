@@ -9,7 +9,8 @@ use Rattle.nc_base.specs.declared.request.Call.{Call}
 use Rattle.nc_base.specs.declared.script.Script.{Script}
 use Rattle.serial_spec.specs.Limits.{most_dims, most_vars, most_dims_of_var, record_limit}
 use Rattle.serial_spec.specs.HeaderBytes.{is_version}
-use Rattle.serial_spec.specs.Lawful.{most_values, most_calls, is_empty, is_lawful_dim, is_lawful_var, is_nothing_defined, is_lawful_header, is_lawful_extra, is_whole_attr, is_whole_extra, has_whole_attrs, added_dims, added_vars, values_in_script, is_lawful}
+use Rattle.serial_spec.specs.Lawful.{most_values, most_calls, is_lawful_dim, is_lawful_var, is_nothing_defined, is_lawful_header, is_lawful_extra, is_whole_attr, is_whole_extra, has_whole_attrs, added_dims, added_vars, values_in_script, is_lawful}
+use Rattle.serial_spec.specs.Lists.{is_empty}
 use Rattle.script_spec.specs.ScriptDefinitions.{Defined, no_definition, Added, nothing_added, Known}
 use Rattle.script_spec.specs.ScriptGrammar.{script_of, header_of, most_lines, Reads}
 use Rattle.script_laws.proofs.ListLaws.{all_pass}

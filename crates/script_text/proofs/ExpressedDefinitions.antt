@@ -8,7 +8,8 @@ use Rattle.nc_base.specs.declared.header.Var.{Var}
 use Rattle.nc_base.specs.declared.header.Header.{Header}
 use Rattle.serial_spec.specs.Limits.{most_dims, most_vars, most_dims_of_var, record_limit}
 use Rattle.serial_spec.specs.HeaderBytes.{number_of, last_type}
-use Rattle.serial_spec.specs.Lawful.{is_empty, is_lawful_dim, is_lawful_var}
+use Rattle.serial_spec.specs.Lawful.{is_lawful_dim, is_lawful_var}
+use Rattle.serial_spec.specs.Lists.{is_empty}
 use Rattle.script_spec.specs.ScriptWords.{is_name}
 use Rattle.script_spec.specs.ScriptDefinitions.{is_among, dim_names, is_record_dim, is_unlimited, same_title, Defined}
 use Rattle.script_text.specs.Expressible.{is_new_name, are_expressible_dims, is_expressible_var, are_expressible_vars, is_expressible_header}

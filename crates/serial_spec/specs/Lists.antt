@@ -3,7 +3,7 @@
 --     HaveSame xs ys          the same items stand in both, in whatever order
 --     sorted_by before xs     the items in order, where `before x y` says that x may stand before y
 --     first_true tests other  what stands beside the first test that is true, else the other
-use Rattle.std.specs.Prelude.{◌≡◌, List, [], ◌∷◌, ◌⊎◌, Bool, if◌then◌else◌}
+use Rattle.std.specs.Prelude.{◌≡◌, List, [], ◌∷◌, ◌⊎◌, Bool, true, false, if◌then◌else◌}
 
 abbrev pub In : {X : Type 0} → List X → X → Type 0
 In [] x = ⊥
@@ -11,6 +11,10 @@ In (y ∷ ys) x = (y ≡ x) ⊎ In ys x
 
 abbrev pub HaveSame : {X : Type 0} → List X → List X → Type 0
 HaveSame {X} xs ys = ((o : X) → In xs o → In ys o) × ((o : X) → In ys o → In xs o)
+
+abbrev pub is_empty : {A : Type 0} → List A → Bool
+is_empty [] = true
+is_empty (x ∷ xs) = false
 
 abbrev pub inserted_by : {X : Type 0} → (X → X → Bool) → X → List X → List X
 inserted_by before x [] = x ∷ []
