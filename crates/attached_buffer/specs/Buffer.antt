@@ -2,11 +2,12 @@
 --     Account       the bytes of a buffer, and those that are taken
 --     Buffer        what stands under each ticket
 --     new_code      how an attaching is refused
-use Rattle.std.specs.Prelude.{◌≡◌, ◌<◌, ℕ, ◌+◌, ◌^◌, List, length, sum_by, nat_lt, ◌==◌, if◌then◌else◌, Option, Some, None, slice_get}
+use Rattle.std.specs.Prelude.{◌≡◌, ◌<◌, ℕ, ◌+◌, List, length, sum_by, nat_lt, ◌==◌, if◌then◌else◌, Option, Some, None, slice_get}
 use Rattle.nc_base.specs.declared.answer.Code.{Code}
 use Rattle.nc_base.specs.declared.answer.Code.TheVariants as code
 use Rattle.nc_base.specs.declared.answer.CallErr.{CallErr}
 use Rattle.nc_base.specs.declared.answer.CallErr.TheVariants as refusal
+use Rattle.serial_spec.specs.Limits.{most_attached}
 
 pub record Account : Type 0 where
   pub size : ℕ
@@ -32,9 +33,6 @@ unless_freed (Some bytes) = bytes
 -- what stands under a number
 abbrev pub bytes_under : Buffer → ℕ → Option (List ℕ)
 bytes_under buffer number = unless_freed (slice_get buffer.placed number)
-
-abbrev pub most_attached : ℕ
-most_attached = 2 ^ 26
 
 abbrev pub new_code : ℕ → Code
 new_code size = if size == 0 then code.ENullBuf else (if nat_lt most_attached size then code.ETooLarge else code.Ok)

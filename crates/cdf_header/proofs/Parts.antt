@@ -26,9 +26,9 @@ var_parts h v t small =
       dim_count = ids.count;
       ids = ids.each;
       attrs = list_parts h.version (is_writable_attr h.version) v.attrs (and_second _ _ t3);
-      size = and_second _ _ t5;
+      size = and_second _ _ t;
       small = small;
-      begin = and_second _ _ t;
+      begin = and_second _ _ t5;
     }
 
 each_var : (h : Header) (vs : List Var) → list_all (is_writable_var h) vs ≡ true → AllByRecursion (λ v. vsize h v < 2 ^ 62) vs → AllByRecursion (IsWritableVar h) vs

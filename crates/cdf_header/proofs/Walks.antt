@@ -296,7 +296,7 @@ var_walk h v is few asks rest a =
     (attrs_walk version v.attrs (and_second _ _ t3) after_attrs))
     (word_walk version (number_of v.kind) after_attrs after_type after_type VarType refl refl (λ b x. refl) (number_known v.kind).1 (λ x. type_fine version v.kind x (and_second _ _ t4)) refl))
     (walk_field version after_type after_stored after_stored Vsize (count version (vsize h v)) refl (width_long (version == 5) (vsize h v)) (λ b x here. (refl, refl))))
-    (begin_walk version v.begin rest (and_second _ _ is))
+    (begin_walk version v.begin rest (and_second _ _ t5))
 
 -- ---- a header
 

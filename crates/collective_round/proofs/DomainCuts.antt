@@ -16,7 +16,8 @@ use Rattle.serial_spec.specs.DeviceCalls.{first_of, last_of, windows, collective
 use Rattle.serial_spec.specs.Lawful.{are_lawful_hints}
 use Rattle.overlay_laws.specs.Entries.{In}
 use Rattle.overlay_laws.specs.Lines.{EndBelow}
-use Rattle.overlay_laws.specs.Walks.{end_after, first_at, spans, told_of, IsCover}
+use Rattle.overlay_laws.specs.Walks.{end_after, first_at, told_of, IsCover}
+use Rattle.serial_spec.specs.Extents.{spans}
 use Rattle.overlay_laws.proofs.CoverLaws.{hull_told, spans_ascend}
 use Rattle.serial_spec.proofs.MemberLaws.{filter_in}
 use Rattle.overlay_laws.proofs.HullLaws.{ceil_covers, first_least, in_left, in_range, last_most}

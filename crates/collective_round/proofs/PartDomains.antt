@@ -12,7 +12,8 @@ use Rattle.nc_base.specs.declared.plan.Owned.{Owned}
 use Rattle.nc_outside.specs.Told.{after}
 use Rattle.serial_spec.specs.Said.{IsFrom}
 use Rattle.overlay_laws.specs.Entries.{cell_of, ranges, In, HaveSame, Source}
-use Rattle.overlay_laws.specs.Walks.{end_after, first_at, spans, IsCover}
+use Rattle.overlay_laws.specs.Walks.{end_after, first_at, IsCover}
+use Rattle.serial_spec.specs.Extents.{spans}
 use Rattle.overlay_laws.proofs.HullLaws.{in_flat, in_range}
 use Rattle.overlay_laws.proofs.Members.{in_map, map_in}
 use Rattle.aggregator_rounds.specs.EntryParts.{IsCovered}

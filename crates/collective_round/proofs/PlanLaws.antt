@@ -9,7 +9,8 @@ use Rattle.nc_base.specs.declared.plan.Owned.{Owned}
 use Rattle.aggregator_rounds.specs.EntryParts.{bytes_of_post}
 use Rattle.overlay_laws.specs.Entries.{Source, In, HaveSame, ranges}
 use Rattle.overlay_laws.specs.Origins.{AreFound}
-use Rattle.overlay_laws.specs.Walks.{spans, IsCover}
+use Rattle.overlay_laws.specs.Walks.{IsCover}
+use Rattle.serial_spec.specs.Extents.{spans}
 use Rattle.overlay_laws.proofs.Members.{in_map}
 use Rattle.piece_exchange.specs.Gets.{IsGetPlan}
 use Rattle.piece_exchange.specs.Pieces.{ArePieces}

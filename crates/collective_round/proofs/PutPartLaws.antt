@@ -11,7 +11,8 @@ use Rattle.aggregator_rounds.specs.EntryParts.{AreFilled}
 use Rattle.data_sieving.specs.Sieving.{LieOn}
 use Rattle.aggregator_rounds.proofs.EntryCells.{entries_within}
 use Rattle.overlay_laws.specs.Entries.{ranges, In, HaveSame, Source}
-use Rattle.overlay_laws.specs.Walks.{end_after, spans, IsCover}
+use Rattle.overlay_laws.specs.Walks.{end_after, IsCover}
+use Rattle.serial_spec.specs.Extents.{spans}
 use Rattle.overlay_laws.proofs.HullLaws.{flat_in, in_left, in_range, in_right, range_high}
 use Rattle.piece_exchange.specs.Put.{HasPut, PartState, SomeZip}
 use Rattle.piece_exchange.specs.Turns.{Told}

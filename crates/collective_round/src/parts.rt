@@ -2,7 +2,8 @@
 ghost use Rattle.std.specs.Prelude.{◌≡◌, ◌+◌, ◌^◌, ◌<◌, ◌≤◌, [], length, map, flat_map, reverse, true, vec_capacity, vec_len, IfOk, OnOk, OnErr};
 ghost use Rattle.nc_outside.specs.Cause.{HasDiskCause};
 ghost use Rattle.overlay_laws.specs.Lines.{EndBelow};
-ghost use Rattle.overlay_laws.specs.Walks.{end_after, first_at, spans, told_of, IsCover};
+ghost use Rattle.overlay_laws.specs.Walks.{end_after, first_at, told_of, IsCover};
+ghost use Rattle.serial_spec.specs.Extents.{spans};
 ghost use Rattle.serial_spec.specs.DeviceCalls.{collective_windows};
 ghost use Rattle.serial_spec.specs.Lawful.{are_lawful_hints};
 ghost use Rattle.piece_exchange.specs.Turns.{turns_of};

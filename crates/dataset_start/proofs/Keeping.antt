@@ -5,7 +5,8 @@ use Rattle.std.specs.List.{list_all}
 use Rattle.list_laws.proofs.Truth.{and_first, and_second}
 use Rattle.nc_base.specs.declared.script.Extra.{Extra}
 use Rattle.nc_base.specs.declared.script.Script.{Script}
-use Rattle.serial_spec.specs.Lawful.{are_lawful_hints, is_empty, is_lawful_extra, is_lawful_header, is_whole_extra}
+use Rattle.serial_spec.specs.Lawful.{are_lawful_hints, is_lawful_extra, is_lawful_header, is_whole_extra}
+use Rattle.serial_spec.specs.Lists.{is_empty}
 use Rattle.script_spec.specs.ScriptGrammar.{Reads}
 use Rattle.script_laws.proofs.HeaderLaws.{read_unplaced, read_writable}
 use Rattle.script_laws.proofs.LawfulLaws.{read_lawful, read_whole}

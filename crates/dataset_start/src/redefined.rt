@@ -3,7 +3,8 @@ ghost use Rattle.std.specs.Prelude.{◌≡◌, ◌≤◌, Some, true, OnOk, OnEr
 ghost use Rattle.nc_base.specs.declared.errors.RedefErr.{RedefErr};
 ghost use Rattle.nc_outside.specs.Told.{after, with_end, BothTold};
 ghost use Rattle.nc_outside.specs.Cause.{Rose};
-ghost use Rattle.serial_spec.specs.Redefinition.{is_redefinable, redefined, redefined_fault};
+ghost use Rattle.serial_spec.specs.Redefinition.{redefined, redefined_fault};
+ghost use Rattle.serial_spec.specs.SoundHeaders.{is_redefinable};
 ghost use Rattle.redef_laws.specs.Applied.{IsApplied};
 ghost use Rattle.redef_laws.specs.Shifted.{new_end};
 ghost use Rattle.redef_mover.specs.Relocation.{relocation_calls};

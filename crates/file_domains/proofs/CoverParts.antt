@@ -13,7 +13,8 @@ use Rattle.list_laws.proofs.Optional.{no_none_some}
 use Rattle.nc_base.specs.declared.plan.Extent.{Extent}
 use Rattle.overlay_laws.specs.Entries.{In}
 use Rattle.overlay_laws.specs.Lines.{EndBelow}
-use Rattle.overlay_laws.specs.Walks.{spans, below, IsCover, end_after, is_single, first_at}
+use Rattle.overlay_laws.specs.Walks.{below, IsCover, end_after, is_single, first_at}
+use Rattle.serial_spec.specs.Extents.{spans}
 use Rattle.overlay_laws.proofs.CoverLaws.{range_above_none}
 use Rattle.file_domains.specs.Rounds.{IsLeft}
 use Rattle.std.proofs.lemmas.List.Elements.{filter-append}

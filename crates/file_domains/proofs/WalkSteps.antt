@@ -10,7 +10,8 @@ use Rattle.serial_spec.specs.DeviceCalls.{first_of}
 use Rattle.overlay_laws.specs.Hulls.{IsAscending}
 use Rattle.overlay_laws.specs.Entries.{In}
 use Rattle.overlay_laws.specs.Lines.{EndBelow}
-use Rattle.overlay_laws.specs.Walks.{spans, below, above, IsCover, end_after, is_single, first_at, told_of, walked, round_end}
+use Rattle.overlay_laws.specs.Walks.{below, above, IsCover, end_after, is_single, first_at, told_of, walked, round_end}
+use Rattle.serial_spec.specs.Extents.{spans}
 use Rattle.overlay_laws.proofs.WalkLaws.{filter_same, take_first, drop_first, windows_walked}
 use Rattle.serial_spec.proofs.MemberLaws.{filter_in}
 use Rattle.list_laws.proofs.Maps.{filter_at_most}

@@ -11,7 +11,8 @@ use Rattle.file_domains.specs.declared.walk.WindowWalk.{WindowWalk}
 use Rattle.serial_spec.specs.DeviceCalls.{first_of, windows}
 use Rattle.overlay_laws.specs.Entries.{In}
 use Rattle.overlay_laws.specs.Lines.{EndBelow}
-use Rattle.overlay_laws.specs.Walks.{spans, told_of, IsCover, walked, round_end}
+use Rattle.overlay_laws.specs.Walks.{told_of, IsCover, walked, round_end}
+use Rattle.serial_spec.specs.Extents.{spans}
 
 abbrev pub bytes_in : Extent → List Extent → List ℕ
 bytes_in domain cover = filter (λ y. nat_lt y (domain.at + domain.len)) (filter (λ y. nat_le domain.at y) (spans cover))

@@ -4,7 +4,8 @@ ghost use Rattle.std.specs.Fmt.{signed_decimal};
 ghost use Rattle.serial_spec.specs.HeaderBytes.{header_len};
 ghost use Rattle.serial_spec.specs.SoundHeaders.{is_sound};
 ghost use Rattle.serial_spec.specs.Layout.{end_of};
-ghost use Rattle.script_spec.specs.Generator.{call_got, call_put, has_counts, is_meeting, over_calls, refusals, sum_given, summary_text};
+ghost use Rattle.script_spec.specs.Generator.{call_got, call_put, has_counts, over_calls, refusals, sum_given, summary_text};
+ghost use Rattle.serial_spec.specs.History.{is_meeting};
 ghost use Rattle.script_spec.specs.Texts.{line};
 
 use crate::elements::{added, elements_done};

@@ -13,7 +13,8 @@ ghost use Rattle.nc_base.specs.Values.{count_of};
 ghost use Rattle.serial_spec.specs.Request.{value_at, ext_of, packed_bytes};
 ghost use Rattle.serial_spec.specs.Looks.{kind_code, some_fits, values_code};
 ghost use Rattle.imap_extents.specs.Mapped.{IsMapped};
-ghost use Rattle.imap_extents.specs.Refusals.{IsRefusal, IsRangeRefusal};
+ghost use Rattle.imap_extents.specs.Refusals.{IsRangeRefusal};
+ghost use Rattle.serial_spec.specs.Refusal.{IsRefusal};
 
 use crate::positions::positions_of;
 use crate::words::{push_numbers, push_patterns, push_words};

@@ -13,10 +13,10 @@ use Rattle.nc_base.specs.declared.script.Script.{Script}
 use Rattle.nc_base.specs.declared.step.Mark.{Mark}
 use Rattle.nc_base.specs.declared.step.Mark.TheVariants.{Meet, Solo}
 use Rattle.nc_base.specs.declared.step.MeetKind.{MeetKind}
-use Rattle.serial_spec.specs.History.{kinds, marks, marks_from, concerns, is_of_rank_below, kind_of_call, mode_after, is_collective, is_data, IsLegal}
+use Rattle.serial_spec.specs.History.{kinds, marks, marks_from, concerns, is_of_rank_below, kind_of_call, mode_after, is_collective, is_data, IsLegal, is_meeting}
 use Rattle.serial_spec.specs.Lawful.{is_lawful}
 use Rattle.run_laws.specs.Ahead.{is_solo_of}
-use Rattle.run_laws.specs.Ways.{is_meeting, meetings, kinds_of}
+use Rattle.run_laws.specs.Ways.{meetings, kinds_of}
 use Rattle.run_laws.proofs.LawfulLaws.{own_lawful, ranks_lawful}
 use Rattle.list_laws.proofs.Truth.{and_first, and_second, equal_itself}
 use Rattle.run_laws.proofs.WayLaws.{others_filter}

@@ -16,7 +16,7 @@ use Rattle.nc_base.specs.declared.request.Choice.TheVariants.{Every}
 use Rattle.nc_base.specs.declared.request.Given.{Given}
 use Rattle.nc_base.specs.declared.request.PostKind.TheVariants.{Bput}
 use Rattle.nc_base.specs.declared.request.Values.TheVariants.{Bits, Numbers}
-use Rattle.serial_spec.specs.Lawful.{is_empty}
+use Rattle.serial_spec.specs.Lists.{is_empty}
 use Rattle.script_spec.specs.Generator.{first_row, precip_at, temp_at}
 use Rattle.script_spec.specs.Texts.{call_word, hex, line}
 use Rattle.script_spec.specs.Shown.{call_words, region_words, shown_call, shown_values}

@@ -10,7 +10,8 @@ use Rattle.nc_base.specs.declared.plan.Extent.{Extent}
 use Rattle.nc_base.specs.declared.plan.Owned.{Owned}
 use Rattle.overlay_laws.specs.Entries.{In, HaveSame, ranges}
 use Rattle.overlay_laws.specs.Lines.{extents, IsByPlace, EndBelow}
-use Rattle.overlay_laws.specs.Walks.{IsCover, spans}
+use Rattle.overlay_laws.specs.Walks.{IsCover}
+use Rattle.serial_spec.specs.Extents.{spans}
 use Rattle.overlay_laws.proofs.HullLaws.{in_either, in_left, in_right, in_range, range_low, range_high}
 use Rattle.overlap_report.specs.Sorted.{run}
 

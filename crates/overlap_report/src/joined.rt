@@ -3,7 +3,8 @@ ghost use Rattle.std.specs.Prelude.{◌≡◌, ◌++◌, ◌^◌, ◌≤◌, IfO
 ghost use Rattle.overlap_report.specs.Sorted.{run};
 ghost use Rattle.overlay_laws.specs.Entries.{HaveSame, ranges};
 ghost use Rattle.overlay_laws.specs.Lines.{extents, IsByPlace, EndBelow};
-ghost use Rattle.overlay_laws.specs.Walks.{IsCover, spans};
+ghost use Rattle.overlay_laws.specs.Walks.{IsCover};
+ghost use Rattle.serial_spec.specs.Extents.{spans};
 
 use nc_base::{Extent, ExtentList, Memory, Owned};
 use std::alloc::Global;

@@ -12,7 +12,8 @@ use Rattle.nc_base.specs.declared.plan.Extent.{Extent}
 use Rattle.serial_spec.specs.DeviceCalls.{first_of, last_of, hull_len, windows, sieving_windows, in_order}
 use Rattle.overlay_laws.specs.Entries.{In, HaveSame}
 use Rattle.overlay_laws.specs.Hulls.{IsAscending}
-use Rattle.overlay_laws.specs.Walks.{walked, round_end, spans, below, above, IsCover, end_after, is_single, first_at, hull_of, extents_walked, told_of}
+use Rattle.overlay_laws.specs.Walks.{walked, round_end, below, above, IsCover, end_after, is_single, first_at, hull_of, extents_walked, told_of}
+use Rattle.serial_spec.specs.Extents.{spans}
 use Rattle.overlay_laws.proofs.HullLaws.{range_low, range_high, in_either, in_in_order, in_order_in, in_order_ascends}
 use Rattle.overlay_laws.proofs.WalkLaws.{filter_none, filter_all, drop_first, windows_walked, sieved_walked}
 use Rattle.std.proofs.lemmas.List.Elements.{filter-append}

@@ -7,7 +7,8 @@ use borrow.Author.Tests.{ltb-true, ltb-false}
 use Rattle.list_laws.proofs.Truth.{equal_above, equal_below, equal_true}
 use Rattle.nc_base.specs.declared.plan.Extent.{Extent}
 use Rattle.overlay_laws.specs.Entries.{In}
-use Rattle.overlay_laws.specs.Walks.{spans, below, above, IsCover}
+use Rattle.overlay_laws.specs.Walks.{below, above, IsCover}
+use Rattle.serial_spec.specs.Extents.{spans}
 use Rattle.overlay_laws.proofs.WalkLaws.{drop_first, take_first}
 use Rattle.overlay_laws.proofs.CoverLaws.{spans_below, spans_above, above_cover}
 

@@ -16,7 +16,8 @@ use Rattle.nc_base.specs.declared.script.Hints.{Hints}
 use Rattle.serial_spec.specs.Layout.{greatest}
 use Rattle.serial_spec.specs.SharedByte.{Puts, covered, bytes_of}
 use Rattle.serial_spec.specs.FileStep.{Setting, put_post}
-use Rattle.serial_spec.specs.DeviceCalls.{in_order, first_of, last_of, is_empty, not_empty, domain_size, domains, windows, collective_windows, sieved, sieving_windows}
+use Rattle.serial_spec.specs.DeviceCalls.{in_order, first_of, last_of, not_empty, domain_size, domains, windows, collective_windows, sieved, sieving_windows}
+use Rattle.serial_spec.specs.Lists.{is_empty}
 use Rattle.serial_spec.specs.Said.{Cell, said_at, said_by, Says, IsWithin}
 use Rattle.overlay_laws.specs.Windows.{IsInOne, HasEach}
 use Rattle.serial_spec.specs.SharedByte.{said_by_puts}
@@ -195,7 +196,7 @@ windows_have buffer bytes x h asc k =
     let found = in_filter (λ y. (y - lo) / buffer == (x - lo) / buffer) bytes x k (equal_true ((x - lo) / buffer) ((x - lo) / buffer) refl) in
     record {
       window = filter (λ y. (y - lo) / buffer == (x - lo) / buffer) bytes;
-      is_one = in_filter (λ w. not (is_empty w)) (map (λ j. filter (λ y. (y - lo) / buffer == j) bytes) (range_with_len 0 ((last_of bytes - lo) / buffer + 1)))
+      is_one = in_filter (λ (w : List ℕ). not (is_empty w)) (map (λ j. filter (λ y. (y - lo) / buffer == j) bytes) (range_with_len 0 ((last_of bytes - lo) / buffer + 1)))
           (filter (λ y. (y - lo) / buffer == (x - lo) / buffer) bytes)
           (in_map (λ j. filter (λ y. (y - lo) / buffer == j) bytes) (range_with_len 0 ((last_of bytes - lo) / buffer + 1)) ((x - lo) / buffer)
           (in_range 0 ((last_of bytes - lo) / buffer + 1) ((x - lo) / buffer) (omega arith) (omega arith)))
@@ -207,7 +208,7 @@ windows_have buffer bytes x h asc k =
 windows_only : (buffer : ℕ) (bytes w : List ℕ) (x : ℕ) → In (windows buffer bytes) w → In w x → In bytes x
 windows_only buffer bytes w x h k =
     let lo = first_of bytes in
-    let made = filter_in (λ w. not (is_empty w)) (map (λ j. filter (λ y. (y - lo) / buffer == j) bytes) (range_with_len 0 ((last_of bytes - lo) / buffer + 1))) w h in
+    let made = filter_in (λ (w : List ℕ). not (is_empty w)) (map (λ j. filter (λ y. (y - lo) / buffer == j) bytes) (range_with_len 0 ((last_of bytes - lo) / buffer + 1))) w h in
     let r = map_in (λ j. filter (λ y. (y - lo) / buffer == j) bytes) (range_with_len 0 ((last_of bytes - lo) / buffer + 1)) w made.0 in
     (filter_in (λ y. (y - lo) / buffer == r.0) bytes x (subst (λ (u : List ℕ). In u x) (sym r.1) k)).0
 
@@ -249,7 +250,7 @@ collective_have hints bytes x h asc k =
     record {
       window = w.window;
       is_one = in_flat (λ d. windows hints.cb_buffer d) (not_empty (domains hints.cb_nodes hints.striping_unit bytes)) d.window w.window
-          (in_filter (λ w. not (is_empty w)) (domains hints.cb_nodes hints.striping_unit bytes) d.window d.is_one (not_empty_has d.window x d.has)) w.is_one;
+          (in_filter (λ (w : List ℕ). not (is_empty w)) (domains hints.cb_nodes hints.striping_unit bytes) d.window d.is_one (not_empty_has d.window x d.has)) w.is_one;
       has = w.has;
       ascends = w.ascends;
     }
@@ -257,7 +258,7 @@ collective_have hints bytes x h asc k =
 pub collective_only : (hints : Hints) (bytes w : List ℕ) (x : ℕ) → In (collective_windows hints bytes) w → In w x → In bytes x
 collective_only hints bytes w x h k =
     let r = flat_in (λ d. windows hints.cb_buffer d) (not_empty (domains hints.cb_nodes hints.striping_unit bytes)) w h in
-    let d = filter_in (λ w. not (is_empty w)) (domains hints.cb_nodes hints.striping_unit bytes) r.0 r.1 in
+    let d = filter_in (λ (w : List ℕ). not (is_empty w)) (domains hints.cb_nodes hints.striping_unit bytes) r.0 r.1 in
     domains_only hints.cb_nodes hints.striping_unit bytes r.0 x d.0 (windows_only hints.cb_buffer r.0 w x r.2 k)
 
 -- ---- sieving windows

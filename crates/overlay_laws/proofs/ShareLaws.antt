@@ -12,7 +12,8 @@ use Rattle.serial_spec.specs.SharedByte.{Puts, Key, Holding, bytes_of, holdings,
 use Rattle.serial_spec.proofs.KeyLaws.{key_itself}
 use Rattle.serial_spec.proofs.PairLaws.{pair_none}
 use Rattle.serial_spec.specs.Said.{Says, IsOneValued}
-use Rattle.overlay_laws.specs.Entries.{HaveOwnKeys, IsOnce}
+use Rattle.overlay_laws.specs.Entries.{HaveOwnKeys}
+use Rattle.serial_spec.specs.Extents.{IsOnce}
 use Rattle.overlay_laws.proofs.EntryLaws.{says_cases}
 
 has_at : (xs : List ℕ) (k x : ℕ) → slice_get xs k ≡ Some x → list_any (λ y. y == x) xs ≡ true

@@ -4,7 +4,8 @@ use Rattle.std.proofs.lemmas.Nat.{mod_below, div-add-mod'}
 use Rattle.std.proofs.lemmas.Bool.{eqb-true}
 use Rattle.std.specs.Prelude.{filter, map, ◌==◌}
 use Rattle.std.specs.List.{range_with_len}
-use Rattle.serial_spec.specs.DeviceCalls.{first_of, hull_len, is_empty, last_of, windows}
+use Rattle.serial_spec.specs.DeviceCalls.{first_of, hull_len, last_of, windows}
+use Rattle.serial_spec.specs.Lists.{is_empty}
 use Rattle.overlay_laws.specs.Entries.{In}
 use Rattle.overlay_laws.specs.Hulls.{IsAscending}
 use Rattle.serial_spec.proofs.MemberLaws.{filter_in}
@@ -33,7 +34,7 @@ window_at buffer bytes j = filter (λ x. (x - first_of bytes) / buffer == j) byt
 pub window_short : (buffer : ℕ) (bytes w : List ℕ) → 1 ≤ buffer → IsAscending bytes → In (windows buffer bytes) w → hull_len w ≤ buffer
 window_short buffer bytes w l asc h =
     let js = range_with_len 0 ((last_of bytes - first_of bytes) / buffer + 1) in
-    let kept = filter_in (λ w. not (is_empty w)) (map (window_at buffer bytes) js) w h in
+    let kept = filter_in (λ (w : List ℕ). not (is_empty w)) (map (window_at buffer bytes) js) w h in
     let m = map_in (window_at buffer bytes) js w kept.0 in
     let lo : (x : ℕ) → In (window_at buffer bytes m.0) x → first_of bytes ≤ x =
     λ x k. first_least bytes x asc (filter_in (λ x. (x - first_of bytes) / buffer == m.0) bytes x k).0 in

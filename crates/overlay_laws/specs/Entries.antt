@@ -69,9 +69,6 @@ IsRunFrom from (o ∷ os) = (o.from ≡ from) × IsRunFrom (from + o.extent.len)
 
 -- ---- no byte twice within one request
 
-abbrev pub IsOnce : List ℕ → Type 0
-IsOnce xs = (k l x : ℕ) → slice_get xs k ≡ Some x → slice_get xs l ≡ Some x → k ≡ l
-
 -- no two posts are of one request
 abbrev pub HaveOwnKeys : Puts → Type 0
 HaveOwnKeys puts = (i j : ℕ) (p q : ℕ × Post) → slice_get puts i ≡ Some p → slice_get puts j ≡ Some q → p.0 ≡ q.0 → p.1.id ≡ q.1.id → i ≡ j

@@ -1,12 +1,10 @@
 -- A cursor over a cover: extents in order with a gap between any two. (own)
 --     walked stop fuel bytes       windows one after another, the one that begins at x ending before stop x
 --     round_end lo buffer x        the end of the round of x, rounds being of buffer bytes from lo on
---     spans cover                  the bytes of the extents
 --     below stop cover             the part of the cover before stop, above stop cover the part from there on
 --     IsCover cover                in order, with a gap between any two, none empty
 --     hull_of cover                from its first byte, how long to its last, and whether it has no hole
-use Rattle.std.specs.Prelude.{ℕ, zero, suc, ◌+◌, ◌-◌, ◌*◌, ◌/◌, ◌<◌, ◌≤◌, List, [], ◌∷◌, filter, flat_map, length, Bool, true, false, nat_lt, nat_le, ◌==◌, if◌then◌else◌}
-use Rattle.std.specs.List.{range_with_len}
+use Rattle.std.specs.Prelude.{ℕ, zero, suc, ◌+◌, ◌-◌, ◌*◌, ◌/◌, ◌<◌, ◌≤◌, List, [], ◌∷◌, filter, length, Bool, true, false, nat_lt, nat_le, ◌==◌, if◌then◌else◌}
 use Rattle.nc_base.specs.declared.plan.Extent.{Extent}
 use Rattle.serial_spec.specs.DeviceCalls.{first_of, hull_len}
 use Rattle.overlay_laws.specs.Entries.{In}
@@ -19,9 +17,6 @@ walked stop (suc fuel) (x ∷ bytes) =
 
 abbrev pub round_end : ℕ → ℕ → ℕ → ℕ
 round_end lo buffer x = lo + ((x - lo) / buffer + 1) * buffer
-
-abbrev pub spans : List Extent → List ℕ
-spans cover = flat_map (λ e. range_with_len e.at e.len) cover
 
 abbrev pub below : ℕ → List Extent → List Extent
 below stop [] = []

@@ -23,9 +23,10 @@ ghost use Rattle.serial_spec.specs.Place.{IsElement};
 ghost use Rattle.serial_spec.specs.ExternalForm.{size_of};
 ghost use Rattle.serial_spec.specs.SoundHeaders.{is_sound};
 ghost use Rattle.std.specs.List.{range_with_len};
-ghost use Rattle.overlay_laws.specs.Entries.{cells_of_puts, Source, cell_of, IsRun, IsGathered, got_cell, IsRunFrom, ranges, In, HaveSame, HaveOwnKeys, IsOnce};
+ghost use Rattle.overlay_laws.specs.Entries.{cells_of_puts, Source, cell_of, IsRun, IsGathered, got_cell, IsRunFrom, ranges, In, HaveSame, HaveOwnKeys};
+ghost use Rattle.serial_spec.specs.Extents.{IsOnce, spans};
 ghost use Rattle.overlay_laws.specs.Origins.{Origin, origins, byte_at, AreFound, IsGreatest, IsResolved, IsOnceEach, IsInOrder};
-ghost use Rattle.overlay_laws.specs.Walks.{walked, round_end, spans, below, above, IsCover, hull_of, first_at, told_of, extents_walked};
+ghost use Rattle.overlay_laws.specs.Walks.{walked, round_end, below, above, IsCover, hull_of, first_at, told_of, extents_walked};
 ghost use Rattle.nc_base.specs.declared.plan.Extent.{Extent};
 ghost use Rattle.overlay_laws.specs.Parts.{joined, written_parts};
 

@@ -6,11 +6,13 @@ use Rattle.std.specs.List.{range_with_len, list_any}
 use Rattle.std.proofs.lemmas.Bool.{ltb-true, ltb-false, eqb-true, lt-ltb, leb-true, le-leb}
 use Rattle.nc_base.specs.declared.plan.Extent.{Extent}
 use Rattle.nc_base.specs.declared.plan.Owned.{Owned}
-use Rattle.serial_spec.specs.DeviceCalls.{first_of, last_of, hull_len, is_empty, not_empty, windows}
+use Rattle.serial_spec.specs.DeviceCalls.{first_of, last_of, hull_len, not_empty, windows}
+use Rattle.serial_spec.specs.Lists.{is_empty}
 use Rattle.overlay_laws.specs.Entries.{In, ranges, HaveSame}
 use Rattle.overlay_laws.specs.Hulls.{IsAscending}
 use Rattle.overlay_laws.specs.Parts.{joined}
-use Rattle.overlay_laws.specs.Walks.{spans, told_of, IsCover}
+use Rattle.overlay_laws.specs.Walks.{told_of, IsCover}
+use Rattle.serial_spec.specs.Extents.{spans}
 use Rattle.overlay_laws.proofs.HullLaws.{windows_have, filter_ascends, in_left, in_right, in_either, in_flat, flat_in, in_range, range_low, any_in, in_any, first_least, last_most, div_grows}
 use Rattle.list_laws.proofs.Truth.{equal_true, no_both}
 use Rattle.serial_spec.proofs.MemberLaws.{in_filter, filter_in}

@@ -12,7 +12,8 @@ use Rattle.nc_outside.specs.Told.{with_end}
 use Rattle.overlay_laws.specs.Changes.{load_calls}
 use Rattle.overlay_laws.specs.Entries.{ranges, HaveSame}
 use Rattle.overlay_laws.specs.Lines.{extents, EndBelow, IsByPlace}
-use Rattle.overlay_laws.specs.Walks.{spans, IsCover}
+use Rattle.overlay_laws.specs.Walks.{IsCover}
+use Rattle.serial_spec.specs.Extents.{spans}
 use Rattle.serial_spec.specs.File.{read}
 use Rattle.aggregator_rounds.specs.EntryParts.{AreFilled}
 use Rattle.piece_exchange.specs.Put.{PartState}

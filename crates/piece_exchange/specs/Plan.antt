@@ -10,7 +10,8 @@ use Rattle.nc_base.specs.declared.plan.Extent.{Extent}
 use Rattle.nc_base.specs.declared.plan.Owned.{Owned}
 use Rattle.overlay_laws.specs.Entries.{In, Source, cell_of, ranges, HaveSame}
 use Rattle.overlay_laws.specs.Lines.{extents, EndBelow, IsByPlace}
-use Rattle.overlay_laws.specs.Walks.{spans, IsCover}
+use Rattle.overlay_laws.specs.Walks.{IsCover}
+use Rattle.serial_spec.specs.Extents.{spans}
 use Rattle.serial_spec.specs.Said.{said_by, IsOneValued}
 use Rattle.file_domains.specs.Domains.{LiesIn}
 use Rattle.aggregator_rounds.specs.EntryParts.{IsCovered}

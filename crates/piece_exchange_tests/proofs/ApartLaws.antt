@@ -11,7 +11,8 @@ use Rattle.nc_base.specs.declared.plan.Owned.{Owned}
 use Rattle.serial_spec.specs.Said.{said_by, IsOneValued, Says}
 use Rattle.overlay_laws.specs.Entries.{In, Source, cell_of, ranges, HaveSame}
 use Rattle.overlay_laws.specs.Lines.{extents, EndBelow, IsByPlace}
-use Rattle.overlay_laws.specs.Walks.{spans, IsCover}
+use Rattle.overlay_laws.specs.Walks.{IsCover}
+use Rattle.serial_spec.specs.Extents.{spans}
 use Rattle.overlay_laws.proofs.EntryLaws.{says_cases, says_place}
 use Rattle.overlay_laws.proofs.HullLaws.{in_either}
 use Rattle.overlay_laws.proofs.Members.{map_in}

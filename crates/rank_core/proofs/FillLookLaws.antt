@@ -26,7 +26,7 @@ use Rattle.serial_spec.specs.Looks as looks
 use Rattle.serial_spec.specs.RankMachine as machine
 use Rattle.serial_spec.specs.Looks.{box_post, box_region, fills, find_var, is_record_past, look_fill}
 use Rattle.serial_spec.specs.Records.{records_of}
-use Rattle.serial_spec.specs.RegionCheck.{bad_edge, bad_start, bound, bounds, check_var, first_code, is_too_large, other_shape, some_edge, some_start}
+use Rattle.serial_spec.specs.RegionCheck.{bad_edge, bad_start, bound, bounds, check_var, first_code, asks_too_much, other_shape, some_edge, some_start}
 use Rattle.serial_spec.proofs.RoomLaws.{end_grows}
 use Rattle.rank_core.specs.declared.look.Look.{Look}
 use Rattle.rank_core.specs.Looked.{as_look, posts_of}
@@ -131,7 +131,7 @@ module _ (header : Header) (v : Var) (number : ℕ) (is : is_record header v ≡
       by_test true = omega arith
       by_test false = omega arith
 
-  small : is_too_large header v (box_region number p) ≡ false
+  small : asks_too_much header v (box_region number p) ≡ false
   small =
       let both = or_parts (leb (record_limit header.version) (number + 1)) (leb file_limit (end_of header (header_len header) (number + 1))) past in
       let records = leb-false (record_limit header.version) (number + 1) both.0 in

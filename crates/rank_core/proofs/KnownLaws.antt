@@ -12,7 +12,7 @@ use Rattle.nc_base.specs.declared.request.Direction.TheVariants as way
 use Rattle.nc_base.specs.declared.answer.Code.{Code}
 use Rattle.nc_base.specs.declared.answer.Code.TheVariants as code
 use Rattle.serial_spec.specs.Layout.{lengths}
-use Rattle.serial_spec.specs.RegionCheck.{bound, bounds, bad_start, bad_edge, some_start, some_edge, other_shape, is_too_large, check, check_var, check_some}
+use Rattle.serial_spec.specs.RegionCheck.{bound, bounds, bad_start, bad_edge, some_start, some_edge, other_shape, asks_too_much, check, check_var, check_some}
 use Rattle.vara_extents.proofs.AcceptedLaws.{Passes, passed}
 use Rattle.rank_core.specs.Offered.{IsPut, IsGet}
 
@@ -87,7 +87,7 @@ all_pass header var g known d p =
     (fails (list_any (λ n. eqb n 0) g.stride) code.EStride _ p.stride
     (fails (some_start (bounds header var known d) g.start g.count) code.EInvalCoords _ p.start
     (fails (some_edge (bounds header var known d) g.start g.count g.stride) code.EEdge _ p.edge
-    (fails (is_too_large header var g) code.ETooLarge code.Ok p.large refl))))
+    (fails (asks_too_much header var g) code.ETooLarge code.Ok p.large refl))))
 
 var_more : (header : Header) (var : Var) (g : Region) (known more : ℕ) (d : Direction) → known ≤ more
     → check_var header var g known d ≡ code.Ok → check_var header var g more d ≡ code.Ok

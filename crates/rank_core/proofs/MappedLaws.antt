@@ -14,7 +14,7 @@ use Rattle.serial_spec.specs.Layout.{end_of, greatest, product}
 use Rattle.serial_spec.specs.Limits.{file_limit, most_elements, record_limit}
 use Rattle.serial_spec.specs.Place.{IsIndex}
 use Rattle.serial_spec.specs.Records.{records_of}
-use Rattle.serial_spec.specs.RegionCheck.{check_var, is_too_large, last_position, other_shape}
+use Rattle.serial_spec.specs.RegionCheck.{check_var, asks_too_much, last_position, other_shape}
 use Rattle.serial_spec.specs.Request.{coordinates, position_at, reach}
 use Rattle.serial_spec.proofs.AcceptLaws.{coordinates_all}
 use Rattle.imap_extents.specs.Mapped.{IsMapped}
@@ -68,7 +68,7 @@ record IsSmall (g : Region) : Type 0 where
   few : product g.count ≤ most_elements
   near : (not g.packed && ltb 0 (product g.count) && leb most_elements (last_position g.count g.imap)) ≡ false
 
-small : (header : Header) (v : Var) (g : Region) → is_too_large header v g ≡ false → IsSmall g
+small : (header : Header) (v : Var) (g : Region) → asks_too_much header v g ≡ false → IsSmall g
 small header v g h =
     let a = or_parts (ltb most_elements (product g.count) || (not g.packed && ltb 0 (product g.count) && leb most_elements (last_position g.count g.imap)) || leb (record_limit header.version) (records_of header v g))
     (leb file_limit (end_of header (header_len header) (records_of header v g))) h in

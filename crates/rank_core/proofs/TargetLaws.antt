@@ -16,7 +16,8 @@ use Rattle.nc_base.specs.declared.request.Given.{Given}
 use Rattle.nc_base.specs.declared.request.Region.{Region}
 use Rattle.nc_base.specs.declared.request.Values.{Values}
 use Rattle.imap_extents.specs.Mapped.{IsMapped}
-use Rattle.imap_extents.specs.Refusals.{IsRangeRefusal, IsRefusal}
+use Rattle.imap_extents.specs.Refusals.{IsRangeRefusal}
+use Rattle.serial_spec.specs.Refusal.{IsRefusal}
 use Rattle.serial_spec.specs.Layout.{product}
 use Rattle.serial_spec.specs.Limits.{most_elements}
 use Rattle.serial_spec.specs.Looks as looks

@@ -15,6 +15,7 @@ use Rattle.nc_base.specs.declared.request.Values.{Values}
 use Rattle.serial_spec.specs.ExternalForm.{class_of}
 use Rattle.serial_spec.specs.Looks as looks
 use Rattle.serial_spec.specs.Looks.{kind_code, some_fits}
+use Rattle.serial_spec.specs.RankMachine as machine
 use Rattle.nc_base.specs.Values.{count_of}
 use Rattle.serial_spec.specs.Request.{ext_of, value_at}
 use Rattle.rank_core.specs.declared.look.Look.{Look}
@@ -26,8 +27,7 @@ as_look Empty = looks.Empty
 as_look (Asks posts) = looks.Asks posts
 
 abbrev pub posts_of : Look → List Post
-posts_of (Asks posts) = posts
-posts_of _ = []
+posts_of l = machine.posts_of (as_look l)
 
 -- ---- posts, or a refusal
 

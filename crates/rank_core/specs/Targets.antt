@@ -10,7 +10,7 @@ use Rattle.nc_base.specs.declared.header.Header.{Header}
 use Rattle.nc_base.specs.declared.request.Given.{Given}
 use Rattle.nc_base.specs.declared.request.Part.{Part}
 use Rattle.nc_base.specs.declared.request.Values.{Values}
-use Rattle.serial_spec.specs.Layout.{length_of, product}
+use Rattle.serial_spec.specs.Layout.{product}
 use Rattle.serial_spec.specs.Limits.{most_elements}
 use Rattle.serial_spec.specs.Looks as looks
 use Rattle.var_layout.specs.Measures.{AreMeasures}
@@ -44,10 +44,6 @@ look_parts t given values = looks.look_parts t.header.now t.known t.id t.place g
 
 unfoldable pub look_record : Target → ℕ → ℕ → ℕ → looks.Look
 look_record t number rank ranks = looks.look_record t.header.now t.place number rank ranks t.var.now
-
--- the lengths of dimensions
-abbrev pub lengths_of : Header → List ℕ → List ℕ
-lengths_of header ids = map (λ id. length_of (slice_get header.dims id)) ids
 
 -- a box of no more elements than one request may have
 abbrev pub IsSmall : Part → Type 0

@@ -9,7 +9,7 @@ ghost use Rattle.serial_spec.specs.Looks as looks;
 ghost use Rattle.serial_spec.specs.RankMachine as machine;
 ghost use Rattle.serial_spec.specs.Looks.{Empty};
 ghost use Rattle.serial_spec.specs.RankMachine.{posts, buffer_code, bytes_in, wants, dim_at, status_of, with_posted, without_chosen, chosen, batch_chosen, items_of, Waiting};
-ghost use Rattle.request_queue.specs.Queued.{IsRefusal};
+ghost use Rattle.serial_spec.specs.Refusal.{IsRefusal};
 ghost use Rattle.rank_core.specs.OpenOffers.{as_open};
 ghost use Rattle.rank_core.specs.Requests.{ArePuts, AreGets, AreTowards, HaveId, AreOnce, direction_of_kind};
 ghost use Rattle.rank_core.specs.Stepped.{IsStepTo};

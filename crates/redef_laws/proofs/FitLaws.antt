@@ -19,8 +19,7 @@ use Rattle.serial_spec.specs.Layout.{sharing}
 use Rattle.serial_spec.specs.HeaderBytes.{is_version, header_len}
 use Rattle.serial_spec.specs.HeaderGrammar.{all_ones}
 use Rattle.serial_spec.specs.HeaderFaults.{first_check, first_with, fault_if, two_record_dims, record_later, is_record_id, bad_id, is_too_large, measure}
-use Rattle.serial_spec.specs.SoundHeaders.{is_sound, counts_are_small, fits_count, is_writable_dim, is_writable_attr, is_writable_list}
-use Rattle.serial_spec.specs.Redefinition.{is_redefinable, is_redefinable_var}
+use Rattle.serial_spec.specs.SoundHeaders.{is_sound, counts_are_small, fits_count, is_writable_dim, is_writable_attr, is_writable_list, is_redefinable, is_redefinable_var}
 use Rattle.cdf_header.proofs.Pieces.{no_fault}
 use Rattle.redef_laws.proofs.GrownLaws.{IsTyped, HasFitLength, IsFitVar, IsFit, is_record_dim}
 

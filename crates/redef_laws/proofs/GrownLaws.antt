@@ -18,14 +18,14 @@ use Rattle.nc_base.specs.declared.script.Extra.{Extra}
 use Rattle.nc_base.specs.declared.script.Extra.TheVariants as extra
 use Rattle.nc_base.specs.declared.errors.RedefErr.{RedefErr}
 use Rattle.nc_base.specs.declared.errors.RedefErr.TheVariants as redef
-use Rattle.serial_spec.specs.Limits.{most_dims, most_vars, file_limit}
+use Rattle.serial_spec.specs.Limits.{most_dims, most_vars, file_limit, record_limit}
 use Rattle.serial_spec.specs.ExternalForm.{size_of}
 use Rattle.serial_spec.specs.Layout.{length_of}
 use Rattle.serial_spec.specs.HeaderFaults.{is_record_id}
 use Rattle.serial_spec.specs.SoundHeaders.{fits_count, is_type}
 use Rattle.serial_spec.specs.Looks.{find_dim}
 use Rattle.serial_spec.specs.Lawful.{is_lawful_extra, is_whole_extra}
-use Rattle.serial_spec.specs.Redefinition.{with_attr, with_extra, added, dim_id, is_taken, is_unknown, has_bad_shape, is_one_too_many, has_bad_kind, extra_fault, extras_from}
+use Rattle.serial_spec.specs.Redefinition.{with_var_attr, with_extra, added, dim_id, is_taken, is_unknown, has_bad_shape, is_one_too_many, has_bad_kind, extra_fault, extras_from}
 use Rattle.redef_laws.proofs.FieldLaws.{not_both, each_both, count_fits}
 use Rattle.list_laws.proofs.Places.{get_left}
 
@@ -151,11 +151,14 @@ one_record_still dims d l h =
         omega arith
     by_test false e s = let one = ap (λ (t : Bool). length (cond t (d ∷ []) [])) e in omega arith
 
-length_fits : (version : ℕ) (d : Dim) → nat_lt d.len (2 ^ 62) ≡ true → (not (version == 5) && nat_le (2 ^ 31) d.len) ≡ false → HasFitLength version d
+length_fits : (version : ℕ) (d : Dim) → nat_lt d.len (record_limit 5) ≡ true → (not (version == 5) && nat_le (record_limit version) d.len) ≡ false → HasFitLength version d
 length_fits version d lawful h =
-    let small : d.len < 2 ^ 62 = ltb-true d.len (2 ^ 62) lawful in
+    let small : d.len < 2 ^ 62 = ltb-true d.len (record_limit 5) lawful in
     record {
-      fits = count_fits version d.len small (λ e. leb-false (2 ^ 31) d.len (not_both (not (version == 5)) _ h (ap (λ (t : Bool). not t) e)));
+      fits =
+          count_fits version d.len small
+          (λ e. subst (λ (n : ℕ). d.len < n) (ap (λ (t : Bool). cond t (2 ^ 62) (2 ^ 31)) e)
+          (leb-false (record_limit version) d.len (not_both (not (version == 5)) _ h (ap (λ (t : Bool). not t) e))));
       small = omega arith;
     }
 
@@ -241,19 +244,19 @@ typed : (h : Header) (owner : Option (List ℕ)) (a : Attr) → HasNoFault h (ex
 typed h owner a none whole = record { kind = le-leb _ _ (ltb-false _ _ none.kind); whole = eqb-true (length a.bytes) (a.count * size_of a.kind) whole }
 
 pub attr_pushed : (P : Var → Type 0) (name : List ℕ) (a : Attr) (vs : List Var) → ((v : Var) → P v → P (record v { attrs = v.attrs ++ a ∷ [] }))
-    → AllByRecursion P vs → AllByRecursion P (with_attr name a vs)
+    → AllByRecursion P vs → AllByRecursion P (with_var_attr name a vs)
 attr_pushed P name a [] push all = tt
 attr_pushed P name a (v ∷ vs) push all = by_name (bytes_eq v.name name) (attr_pushed P name a vs push all.1)
   where
-    by_name : (t : Bool) → AllByRecursion P (with_attr name a vs) → AllByRecursion P (cond t (record v { attrs = v.attrs ++ a ∷ [] } ∷ vs) (v ∷ with_attr name a vs))
+    by_name : (t : Bool) → AllByRecursion P (with_var_attr name a vs) → AllByRecursion P (cond t (record v { attrs = v.attrs ++ a ∷ [] } ∷ vs) (v ∷ with_var_attr name a vs))
     by_name true rest = (push v all.0, all.1)
     by_name false rest = (all.0, rest)
 
-attr_long : (name : List ℕ) (a : Attr) (vs : List Var) → length (with_attr name a vs) ≡ length vs
+attr_long : (name : List ℕ) (a : Attr) (vs : List Var) → length (with_var_attr name a vs) ≡ length vs
 attr_long name a [] = refl
 attr_long name a (v ∷ vs) = by_name (bytes_eq v.name name) (attr_long name a vs)
   where
-    by_name : (t : Bool) → length (with_attr name a vs) ≡ length vs → length (cond t (record v { attrs = v.attrs ++ a ∷ [] } ∷ vs) (v ∷ with_attr name a vs)) ≡ length (v ∷ vs)
+    by_name : (t : Bool) → length (with_var_attr name a vs) ≡ length vs → length (cond t (record v { attrs = v.attrs ++ a ∷ [] } ∷ vs) (v ∷ with_var_attr name a vs)) ≡ length (v ∷ vs)
     by_name true rest = refl
     by_name false rest = ap suc rest
 

@@ -16,7 +16,7 @@ use Rattle.nc_base.specs.declared.script.Extra.TheVariants as extra
 use Rattle.serial_spec.specs.ExternalForm.{size_of}
 use Rattle.serial_spec.specs.Layout.{product, lengths, starts_with_zero, without_record, is_record, round_up, slab, vsize, recsize, record_share, record_variables}
 use Rattle.serial_spec.specs.SoundHeaders.{is_sound}
-use Rattle.serial_spec.specs.Redefinition.{Numbered, with_attr, with_extra, added, records_in, old_of, begins_by_number}
+use Rattle.serial_spec.specs.Redefinition.{Numbered, with_var_attr, with_extra, added, records_in, old_of, begins_by_number}
 use Rattle.serial_spec.proofs.AddedLaws.{redefined_keeps, in_front}
 use Rattle.var_layout.proofs.Soundness.{recsize_below}
 use Rattle.redef_laws.proofs.RebegunLaws.{rebegun_at}
@@ -28,12 +28,12 @@ use Rattle.redef_laws.proofs.PlaceLaws.{numbered, old_records, new_records}
 abbrev BeginsAt : List Var → ℕ → ℕ → Type 0
 BeginsAt vs k b = (w : Var) × (slice_get vs k ≡ Some w) × (w.begin ≡ b)
 
-attr_begin : (name : List ℕ) (a : Attr) (vs : List Var) (k : ℕ) (v : Var) → slice_get vs k ≡ Some v → BeginsAt (with_attr name a vs) k v.begin
+attr_begin : (name : List ℕ) (a : Attr) (vs : List Var) (k : ℕ) (v : Var) → slice_get vs k ≡ Some v → BeginsAt (with_var_attr name a vs) k v.begin
 attr_begin name a [] k v h = absurd cc
 attr_begin name a (x ∷ vs) k v h = by_name (λ j y g. attr_begin name a vs j y g) (bytes_eq x.name name) k h
   where
-    by_name : ((j : ℕ) (y : Var) → slice_get vs j ≡ Some y → BeginsAt (with_attr name a vs) j y.begin)
-        → (t : Bool) (k : ℕ) → slice_get (x ∷ vs) k ≡ Some v → BeginsAt (cond t (record x { attrs = x.attrs ++ a ∷ [] } ∷ vs) (x ∷ with_attr name a vs)) k v.begin
+    by_name : ((j : ℕ) (y : Var) → slice_get vs j ≡ Some y → BeginsAt (with_var_attr name a vs) j y.begin)
+        → (t : Bool) (k : ℕ) → slice_get (x ∷ vs) k ≡ Some v → BeginsAt (cond t (record x { attrs = x.attrs ++ a ∷ [] } ∷ vs) (x ∷ with_var_attr name a vs)) k v.begin
     by_name rest true zero h = let same : x ≡ v = cc in (record x { attrs = x.attrs ++ a ∷ [] }, refl, ap (λ (y : Var). y.begin) same)
     by_name rest true (suc k) h = (v, h, refl)
     by_name rest false zero h = (v, h, refl)

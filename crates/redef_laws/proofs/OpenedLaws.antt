@@ -22,8 +22,7 @@ use Rattle.serial_spec.specs.Layout.{round_up}
 use Rattle.serial_spec.specs.HeaderBytes.{count_width, begin_width, tag, magic}
 use Rattle.serial_spec.specs.HeaderGrammar.{Joined, ◌▹◌, Exactly, Each, Number, Padded, NameOf, ListOf, DimensionOf, AttributeOf, VariableOf, RecordsOf, all_ones}
 use Rattle.serial_spec.specs.HeaderFaults.{Field, Magic, Records, Tag, Count, NameLength, Block, DimLength, Dimensions, Attributes, Variables, Ask, One, Many, stands, asked, the_header, many, block, wrong, wrong_at, after_field, field_number, field_len, field_fault, version_of, big_endian}
-use Rattle.serial_spec.specs.SoundHeaders.{fits_field, fits_count, is_type, is_sound, is_writable_dim, is_writable_attr, is_writable_list}
-use Rattle.serial_spec.specs.Redefinition.{is_redefinable, is_redefinable_var}
+use Rattle.serial_spec.specs.SoundHeaders.{fits_field, fits_count, is_type, is_sound, is_writable_dim, is_writable_attr, is_writable_list, is_redefinable, is_redefinable_var}
 use Rattle.serial_spec.proofs.FaultLaws.{EndsWrong, ends_later, fault_only}
 use Rattle.cdf_header.specs.Decoded.{BeginsWith}
 use Rattle.cdf_header.proofs.Pieces.{right_number, no_fault}

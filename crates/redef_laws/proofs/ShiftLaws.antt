@@ -11,9 +11,9 @@ use Rattle.nc_base.specs.declared.script.Extra.{Extra}
 use Rattle.nc_base.specs.declared.script.Extra.TheVariants as extra
 use Rattle.serial_spec.specs.DeviceCalls.{slabs}
 use Rattle.serial_spec.specs.HeaderBytes.{header_len}
-use Rattle.serial_spec.specs.SoundHeaders.{is_sound}
+use Rattle.serial_spec.specs.SoundHeaders.{is_sound, is_redefinable}
 use Rattle.serial_spec.specs.Layout.{is_record}
-use Rattle.serial_spec.specs.Redefinition.{with_attr, with_extra, added, begins_by_number, begin_of_number, with_begins, redefined_header, is_redefinable}
+use Rattle.serial_spec.specs.Redefinition.{with_var_attr, with_extra, added, begins_by_number, begin_of_number, with_begins, redefined_header}
 use Rattle.serial_spec.proofs.AddedLaws.{redefined_keeps}
 use Rattle.redef_laws.specs.Applied.{IsApplied}
 use Rattle.redef_laws.specs.Shifted.{AreShifted, new_end}
@@ -37,11 +37,11 @@ begins_in_front [] more k v h = absurd cc
 begins_in_front (x ∷ vs) more zero v h = (v, h, refl)
 begins_in_front (x ∷ vs) more (suc k) v h = begins_in_front vs more k v h
 
-begins_with_attr : (name : List ℕ) (a : Attr) (vs : List Var) → KeepBegins vs (with_attr name a vs)
+begins_with_attr : (name : List ℕ) (a : Attr) (vs : List Var) → KeepBegins vs (with_var_attr name a vs)
 begins_with_attr name a [] k v h = absurd cc
 begins_with_attr name a (x ∷ vs) k v h = by_name (begins_with_attr name a vs) (bytes_eq x.name name) k v h
   where
-    by_name : KeepBegins vs (with_attr name a vs) → (t : Bool) → KeepBegins (x ∷ vs) (cond t (record x { attrs = x.attrs ++ a ∷ [] } ∷ vs) (x ∷ with_attr name a vs))
+    by_name : KeepBegins vs (with_var_attr name a vs) → (t : Bool) → KeepBegins (x ∷ vs) (cond t (record x { attrs = x.attrs ++ a ∷ [] } ∷ vs) (x ∷ with_var_attr name a vs))
     by_name rest true zero v h = let same : x ≡ v = cc in (record x { attrs = x.attrs ++ a ∷ [] }, refl, ap (λ (y : Var). y.begin) same)
     by_name rest true (suc k) v h = (v, h, refl)
     by_name rest false zero v h = (v, h, refl)

@@ -23,7 +23,7 @@ use Rattle.serial_spec.specs.Layout.{vsize, record_share, sharing}
 use Rattle.serial_spec.specs.HeaderBytes.{attribute, list_of, is_version, header_len}
 use Rattle.serial_spec.specs.HeaderGrammar.{all_ones}
 use Rattle.serial_spec.specs.HeaderFaults.{record_later, is_record_id, bad_id, measure, keeps_bound}
-use Rattle.serial_spec.specs.SoundHeaders.{is_sound, counts_are_small, fits_count, is_type, is_writable, is_writable_dim, is_writable_attr, is_writable_list, is_writable_var}
+use Rattle.serial_spec.specs.SoundHeaders.{is_sound, counts_are_small, fits_count, is_type, is_writable, is_writable_dim, is_writable_attr, is_writable_list, is_redefinable_var, is_writable_var}
 use Rattle.serial_spec.specs.Redefinition.{added, extras_fault, begins_by_number, with_begins, redefined_header, redefined_fault, is_large_var, is_far_begin, is_bad_begin, size_fault}
 use Rattle.redef_laws.specs.Applied.{IsApplied}
 use Rattle.redef_laws.proofs.FieldLaws.{not_both, each_both, begin_fits}
@@ -238,15 +238,15 @@ var_written header k v is =
     let dims = is_writable_list version (λ id. fits_count version id) v.dims in
     let attrs = is_writable_list version (is_writable_attr version) v.attrs in
     let end = ltb-true (v.begin + vsize header v) file_limit (and_second (nat_lt (vsize header v) file_limit) _ (and_first (nat_lt (vsize header v) file_limit && nat_lt (v.begin + vsize header v) file_limit) _ is.bound.keeps)) in
-    and_from (names && dims && attrs && is_type version v.kind && fits_count version (vsize header v)) _
+    and_from (is_redefinable_var header v) _
     (and_from (names && dims && attrs && is_type version v.kind) _
     (and_from (names && dims && attrs) _
     (and_from (names && dims) _
     (and_from names _ (small_count version (length v.name) (omega arith)) (dims_of_var header k v is))
     (attrs_written version v.attrs is.fit.typed is.attrs))
     is.fit.known_type)
-    (vsize_fits header v (omega arith) is.stored))
-    (begin_fits version v.begin (omega arith) (λ e. leb-false (2 ^ 31) v.begin (not_both (version == 1) _ is.bound.near e)))
+    (begin_fits version v.begin (omega arith) (λ e. leb-false (2 ^ 31) v.begin (not_both (version == 1) _ is.bound.near e))))
+    (vsize_fits header v (omega arith) is.stored)
 
 vars_written : (old new : Header) → IsKnown old new → is_writable_list new.version (is_writable_var new) new.vars ≡ true
 vars_written old new k =

@@ -5,7 +5,8 @@ use Rattle.std.specs.List.{list_all}
 use Rattle.nc_base.specs.declared.header.Header.{Header}
 use Rattle.nc_base.specs.declared.script.Extra.{Extra}
 use Rattle.serial_spec.specs.Lawful.{is_lawful_extra, is_whole_extra}
-use Rattle.serial_spec.specs.Redefinition.{is_redefinable, redefined_fault, redefined_header}
+use Rattle.serial_spec.specs.Redefinition.{redefined_fault, redefined_header}
+use Rattle.serial_spec.specs.SoundHeaders.{is_redefinable}
 
 pub record IsApplied (old : Header) (extras : List Extra) (new : Header) : Type 0 where
   pub redefinable : is_redefinable old ≡ true

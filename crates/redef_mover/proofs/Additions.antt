@@ -9,7 +9,8 @@ use Rattle.nc_base.specs.declared.script.Extra.TheVariants as extra
 use Rattle.nc_base.specs.declared.errors.RedefErr.{RedefErr}
 use Rattle.nc_base.specs.declared.errors.RedefErr.TheVariants as redef
 use Rattle.serial_spec.specs.Limits.{most_dims}
-use Rattle.serial_spec.specs.Redefinition.{with_extra, first_fault, extra_fault, extras_from, extras_fault, added, is_taken, is_unknown, has_bad_shape, is_one_too_many, has_bad_kind}
+use Rattle.serial_spec.specs.Lists.{first_true}
+use Rattle.serial_spec.specs.Redefinition.{with_extra, extra_fault, extras_from, extras_fault, added, is_taken, is_unknown, has_bad_shape, is_one_too_many, has_bad_kind}
 
 pub extras_goes_on : (header : Header) (k : ℕ) (e : Extra) (es : List Extra) → extra_fault header k e ≡ None
     → extras_from header k (e ∷ es) ≡ extras_from (with_extra header e) (suc k) es
@@ -19,7 +20,7 @@ pub extras_stops : (header : Header) (k : ℕ) (e : Extra) (es : List Extra) (f 
     → extras_from header k (e ∷ es) ≡ Some f
 extras_stops header k e es f h = ap (λ (o : Option RedefErr). elim o [ Some g ↦ Some g | None ↦ extras_from (with_extra header e) (suc k) es ]) h
 
-fourth_passes : (a b c d e : Bool) (p q r s t : RedefErr) → first_fault ((a, p) ∷ (b, q) ∷ (c, r) ∷ (d, s) ∷ (e, t) ∷ []) ≡ None → d ≡ false
+fourth_passes : (a b c d e : Bool) (p q r s t : RedefErr) → first_true ((a, Some p) ∷ (b, Some q) ∷ (c, Some r) ∷ (d, Some s) ∷ (e, Some t) ∷ []) None ≡ None → d ≡ false
 fourth_passes true b c d e p q r s t h = cc
 fourth_passes false true c d e p q r s t h = cc
 fourth_passes false false true d e p q r s t h = cc

@@ -28,7 +28,7 @@ use Rattle.nc_base.specs.declared.header.Dim.{Dim}
 use Rattle.nc_base.specs.declared.header.Header.{Header}
 use Rattle.nc_base.specs.declared.header.Var.{Var}
 use Rattle.serial_spec.specs.Looks.{find_var}
-use Rattle.serial_spec.specs.Redefinition.{attrs_of_var, has_attr, with_attr}
+use Rattle.serial_spec.specs.Redefinition.{attrs_of_var, has_attr, with_var_attr}
 use Rattle.redef_mover.specs.Indexed.{place_of, has_name, is_same, attrs_among, attrs_at, given, IsIndexOf}
 use Rattle.redef_mover.specs.declared.name_index.NameIndex.{NameIndex}
 
@@ -277,17 +277,17 @@ var_attr_indexed header index next k a below is put dims vars =
 -- the first variable of the name
 attr_at : (name : List ℕ) (a : Attr) (vs : List Var) (k : ℕ) (v : Var) → slice_get vs k ≡ Some v → bytes_eq v.name name ≡ true
     → ((j : ℕ) → j < k → bytes_eq (get_or vs j v).name name ≡ false)
-    → with_attr name a vs ≡ set vs k (record v { attrs = v.attrs ++ a ∷ [] })
+    → with_var_attr name a vs ≡ set vs k (record v { attrs = v.attrs ++ a ∷ [] })
 attr_at name a [] k v there e f = absurd cc
 attr_at name a (w ∷ vs) zero v there e f =
-    ap (λ (x : Var). with_attr name a (x ∷ vs)) (ap (λ (o : Option Var). elim o [ None ↦ w | Some x ↦ x ]) there)
-    ∙ ap (λ (t : Bool). cond t (record v { attrs = v.attrs ++ a ∷ [] } ∷ vs) (v ∷ with_attr name a vs)) e
+    ap (λ (x : Var). with_var_attr name a (x ∷ vs)) (ap (λ (o : Option Var). elim o [ None ↦ w | Some x ↦ x ]) there)
+    ∙ ap (λ (t : Bool). cond t (record v { attrs = v.attrs ++ a ∷ [] } ∷ vs) (v ∷ with_var_attr name a vs)) e
 attr_at name a (w ∷ vs) (suc k) v there e f =
-    ap (λ (t : Bool). cond t (record w { attrs = w.attrs ++ a ∷ [] } ∷ vs) (w ∷ with_attr name a vs)) (f 0 (omega arith))
+    ap (λ (t : Bool). cond t (record w { attrs = w.attrs ++ a ∷ [] } ∷ vs) (w ∷ with_var_attr name a vs)) (f 0 (omega arith))
     ∙ ap (λ (ws : List Var). w ∷ ws) (attr_at name a vs k v there e (λ j g. f (suc j) (omega arith)))
 
 -- its place is found, and it gets the attribute there
-pub attr_there : (name : List ℕ) (a : Attr) (vs : List Var) (k : ℕ) → position (λ (v : Var). bytes_eq v.name name) vs ≡ Some k → with_attr name a vs ≡ given vs k a
+pub attr_there : (name : List ℕ) (a : Attr) (vs : List Var) (k : ℕ) → position (λ (v : Var). bytes_eq v.name name) vs ≡ Some k → with_var_attr name a vs ≡ given vs k a
 attr_there name a vs k e =
     let p = λ (v : Var). bytes_eq v.name name in
     let below = position_below p vs k e in
@@ -296,7 +296,7 @@ attr_there name a vs k e =
     attr_at name a vs k there.0 there.1 (ap p (sym (get_or_from_slice_get vs k there.0 there.0 there.1)) ∙ found.1) found.2
     ∙ sym (given_is vs k there.0 a there.1)
 
-pub attr_nowhere : (name : List ℕ) (a : Attr) (vs : List Var) → position (λ (v : Var). bytes_eq v.name name) vs ≡ None → with_attr name a vs ≡ vs
+pub attr_nowhere : (name : List ℕ) (a : Attr) (vs : List Var) → position (λ (v : Var). bytes_eq v.name name) vs ≡ None → with_var_attr name a vs ≡ vs
 attr_nowhere name a vs e = all_other vs (fewer _ _ e)
   where
     fewer : (n m : ℕ) → cond (nat_lt n m) (Some n) None ≡ None → m ≤ n
@@ -306,13 +306,13 @@ attr_nowhere name a vs e = all_other vs (fewer _ _ e)
         by_test true f g = cc
         by_test false f g = grind (arith, nat_tests)
 
-    all_other : (ws : List Var) → length ws ≤ prefix_len (λ (v : Var). not (bytes_eq v.name name)) ws → with_attr name a ws ≡ ws
+    all_other : (ws : List Var) → length ws ≤ prefix_len (λ (v : Var). not (bytes_eq v.name name)) ws → with_var_attr name a ws ≡ ws
     all_other [] h = refl
     all_other (w ∷ ws) h = by_name (bytes_eq w.name name) h (all_other ws)
       where
         by_name : (t : Bool) → length (w ∷ ws) ≤ cond (not t) (1 + prefix_len (λ (v : Var). not (bytes_eq v.name name)) ws) 0
-            → (length ws ≤ prefix_len (λ (v : Var). not (bytes_eq v.name name)) ws → with_attr name a ws ≡ ws)
-            → cond t (record w { attrs = w.attrs ++ a ∷ [] } ∷ ws) (w ∷ with_attr name a ws) ≡ w ∷ ws
+            → (length ws ≤ prefix_len (λ (v : Var). not (bytes_eq v.name name)) ws → with_var_attr name a ws ≡ ws)
+            → cond t (record w { attrs = w.attrs ++ a ∷ [] } ∷ ws) (w ∷ with_var_attr name a ws) ≡ w ∷ ws
         by_name true g rest = absurd (omega arith)
         by_name false g rest = ap (λ vs. w ∷ vs) (rest (omega arith))
 

@@ -3,7 +3,8 @@ ghost use Rattle.std.specs.Prelude.{◌≡◌, ◌⊎◌, Some, true, IfOk, IfEr
 ghost use Rattle.std.specs.List.{list_all};
 ghost use Rattle.nc_base.specs.declared.errors.RedefErr.TheVariants as fault;
 ghost use Rattle.serial_spec.specs.Lawful.{is_lawful_extra, is_whole_extra};
-ghost use Rattle.serial_spec.specs.Redefinition.{is_redefinable, redefined_fault};
+ghost use Rattle.serial_spec.specs.Redefinition.{redefined_fault};
+ghost use Rattle.serial_spec.specs.SoundHeaders.{is_redefinable};
 ghost use Rattle.redef_laws.specs.Applied.{IsApplied};
 
 use crate::begins::set_begins;

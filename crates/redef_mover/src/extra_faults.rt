@@ -9,9 +9,7 @@ ghost use Rattle.serial_spec.specs.Redefinition as spec;
 
 use crate::indexed_header::IndexedHeader;
 use nc_base::{Extra, Header, MAX_DIMS, MAX_VARS, Name, NcType, RedefErr};
-
-/// The first length that a dimension of CDF-1 and CDF-2 can't have.
-const CLASSIC_LENGTH_LIMIT: u64 = 1 << 31;
+use var_layout::record_limit;
 
 /// Whether the first variable of this name has such an attribute.
 fn has_var_attr<'a>(header: &IndexedHeader<'a>, owner: &[u8], name: &'a [u8]) -> bool
@@ -133,7 +131,7 @@ fn has_bad_kind(header: &Header, extra: &Extra) -> bool
     ensures { result ≡ spec.has_bad_kind header.now extra.now }
 {
     match extra {
-        Extra::Dim(dim) => header.version != 5 && CLASSIC_LENGTH_LIMIT <= dim.len,
+        Extra::Dim(dim) => header.version != 5 && record_limit(header.version) <= dim.len,
         Extra::Var { kind, .. } => is_later_type(header, *kind),
         Extra::Att { attr, .. } => is_later_type(header, attr.kind),
     }

@@ -118,7 +118,7 @@ impl<'a> IndexedHeader<'a> {
         owner: &[u8],
         attr: &'a Attr,
     ) -> Result<Self, Memory>
-        ensures { IfOk result (λ new. new ≡ record self.entry { vars = spec.with_attr owner.now attr.now self.entry.vars }) }
+        ensures { IfOk result (λ new. new ≡ record self.entry { vars = spec.with_var_attr owner.now attr.now self.entry.vars }) }
     {
         match self.find_var(owner) {
             None => Ok(self),

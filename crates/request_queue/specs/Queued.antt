@@ -24,11 +24,6 @@ abbrev pub id_of : List Post → ℕ
 id_of [] = 0
 id_of (post ∷ posts) = post.id
 
--- the refusal has this code, which is none of Ok, or is want of memory
-abbrev pub IsRefusal : Code → CallErr → Type 0
-IsRefusal c (refusal.Code d) = (d ≡ c) × (d ≡ code.Ok → ⊥)
-IsRefusal c refusal.Memory = Unit {0}
-
 -- the refusal is this code, which is none of Ok
 abbrev pub IsCode : Code → CallErr → Type 0
 IsCode c e = (e ≡ refusal.Code c) × (c ≡ code.Ok → ⊥)

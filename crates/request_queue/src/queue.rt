@@ -6,7 +6,8 @@ ghost use Rattle.serial_spec.specs.RankMachine.{status_of, buffer_code, bytes_in
 ghost use Rattle.std.specs.Prelude.{vec_len, min, ◌-◌, ◌^◌, false};
 ghost use Rattle.std.specs.Vec.{vec_capacity};
 ghost use Rattle.request_queue.specs.Kept.{is_buffered, claimed, claim_code, freed, HasUsed};
-ghost use Rattle.request_queue.specs.Queued.{rank_with, with_request, id_of, IsCode, IsRefusal};
+ghost use Rattle.request_queue.specs.Queued.{rank_with, with_request, id_of, IsCode};
+ghost use Rattle.serial_spec.specs.Refusal.{IsRefusal};
 
 use crate::requests::Requests;
 use attached_buffer::Room;

@@ -24,11 +24,11 @@ use Rattle.nc_base.specs.declared.step.Want.TheVariants as want
 use Rattle.serial_spec.specs.RankMachine as machine
 use Rattle.serial_spec.specs.RankMachine.{Open, Posted, step, hear}
 use Rattle.serial_spec.specs.SerialEnd.{Going, first_going}
-use Rattle.serial_spec.specs.History.{kinds, marks_from, concerns, kind_of_call, kind_of_meeting, mode_after, is_collective, is_data}
+use Rattle.serial_spec.specs.History.{kinds, marks_from, concerns, kind_of_call, kind_of_meeting, mode_after, is_collective, is_data, is_meeting}
 use Rattle.serial_spec.specs.Lawful.{is_lawful, is_lawful_call, most_calls, most_parts, are_different, posted_ids, id_posted}
 use Rattle.run_laws.specs.Requests.{posts_held}
 use Rattle.run_laws.specs.Ahead.{answered, asking, is_solo_of}
-use Rattle.run_laws.specs.Ways.{is_meeting, meetings, mode_heard, marks_left, kind_of_offer, kinds_of, Waits, AreNew, IsOnWay}
+use Rattle.run_laws.specs.Ways.{meetings, mode_heard, marks_left, kind_of_offer, kinds_of, Waits, AreNew, IsOnWay}
 use Rattle.run_laws.proofs.CallLaws.{Frees, is_free, is_other, says_at, heard_at}
 use Rattle.run_laws.proofs.LawfulLaws.{own_lawful}
 

@@ -2,23 +2,23 @@
 --     meetings order            how many meetings the order has
 --     marks_left, kinds_left    the marks and the kinds of meetings that are left to the rank where it stands
 --     IsOnWay script order r s held    rank r stands at s, between two calls or with the offer that it holds in a meeting
-use Rattle.std.specs.Prelude.{◌≡◌, ℕ, suc, ◌+◌, ◌*◌, ◌≤◌, List, [], ◌∷◌, ◌++◌, filter, drop, length, count_by, Bool, true, false, Option, Some, None, IfSome, is_some, is_none}
+--     AsksAlone .. r s o               it stands at s with an offer that it makes alone
+use Rattle.std.specs.Prelude.{◌≡◌, ℕ, suc, ◌+◌, ◌*◌, ◌≤◌, List, [], ◌∷◌, ◌++◌, filter, drop, length, count_by, Bool, true, Option, Some, None, IfSome, is_some, is_none}
 use Rattle.std.specs.List.{list_all}
+use Rattle.nc_base.specs.declared.header.Header.{Header}
+use Rattle.nc_base.specs.declared.request.Call.{Call}
 use Rattle.nc_base.specs.declared.script.Script.{Script}
 use Rattle.nc_base.specs.declared.step.Mark.{Mark}
-use Rattle.nc_base.specs.declared.step.Mark.TheVariants.{Meet, Solo}
+use Rattle.nc_base.specs.declared.step.Mark.TheVariants.{Meet}
 use Rattle.nc_base.specs.declared.step.MeetKind.{MeetKind}
 use Rattle.nc_base.specs.declared.step.Offer.{Offer}
+use Rattle.nc_base.specs.declared.step.Want.TheVariants as want
 use Rattle.serial_spec.specs.RankMachine as machine
 use Rattle.serial_spec.specs.RankMachine.{Open, status_of}
 use Rattle.serial_spec.specs.SerialEnd.{Going}
-use Rattle.serial_spec.specs.History.{kinds, marks, marks_from, concerns, kind_of_meeting}
+use Rattle.serial_spec.specs.History.{kinds, marks, marks_from, concerns, is_meeting, kind_of_meeting}
 use Rattle.serial_spec.specs.Lawful.{is_lawful_call, most_calls, most_parts, are_different, posted_ids}
 use Rattle.run_laws.specs.Requests.{posts_held}
-
-abbrev pub is_meeting : Mark → Bool
-is_meeting (Meet k) = true
-is_meeting (Solo r c) = false
 
 abbrev pub meetings : List Mark → ℕ
 meetings order = count_by is_meeting order
@@ -68,3 +68,11 @@ pub record IsOnWay (script : Script) (order : List Mark) (r : ℕ) (s : Going) (
   pub new : AreNew s
   pub few : calls_done s held + length s.calls ≤ most_calls
   pub posts : posts_held s.rank ≤ most_parts * calls_done s held
+
+-- it waits with an offer that it makes alone
+pub record AsksAlone (script : Script) (header : Header) (order : List Mark) (r : ℕ) (s : Going) (o : Offer) : Type 0 where
+  pub before : machine.Rank
+  pub call : Call
+  pub way : IsOnWay script order r (record { rank = before; answers = s.answers; calls = call ∷ s.calls }) None
+  pub step : (s.rank, want.Solo o) ≡ machine.step header before call
+  pub few : posts_held s.rank ≤ posts_held before + most_parts

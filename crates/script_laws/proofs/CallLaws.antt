@@ -18,7 +18,8 @@ use Rattle.nc_base.specs.declared.request.PostKind.TheVariants.{Iput, Iget, Bput
 use Rattle.nc_base.specs.declared.request.Call.{Call}
 use Rattle.nc_base.specs.declared.request.Call.TheVariants as call
 use Rattle.nc_base.specs.Values.{count_of}
-use Rattle.serial_spec.specs.Lawful.{most_values, most_parts, is_empty, is_size, are_sizes, is_part, has_lists_of, is_given, is_post_of, is_lawful_call, values_in_call}
+use Rattle.serial_spec.specs.Lawful.{most_values, most_parts, is_size, are_sizes, is_part, has_lists_of, is_given, is_post_of, is_lawful_call, values_in_call}
+use Rattle.serial_spec.specs.Lists.{is_empty}
 use Rattle.script_spec.specs.ScriptWords.{Word, size_of_text, between_brackets, parts, all_some, list_of_text}
 use Rattle.script_spec.specs.ScriptSteps.{refuse_if, or_fault, reads_as, size, list, name, ended, whole}
 use Rattle.script_spec.specs.ScriptValues.{values}

@@ -16,7 +16,7 @@ use Rattle.nc_base.specs.declared.header.Dim.{Dim}
 use Rattle.nc_base.specs.declared.header.Attr.{Attr}
 use Rattle.nc_base.specs.declared.header.Var.{Var}
 use Rattle.nc_base.specs.declared.request.Values.{Values}
-use Rattle.serial_spec.specs.Limits.{most_dims, most_dims_of_var, most_vars}
+use Rattle.serial_spec.specs.Limits.{most_dims, most_dims_of_var, most_vars, record_limit}
 use Rattle.serial_spec.specs.Lawful.{most_values, attr_values, is_whole_attr}
 use Rattle.serial_spec.specs.ExternalForm.{size_of}
 use Rattle.nc_base.specs.Values.{count_of}
@@ -24,7 +24,7 @@ use Rattle.serial_spec.specs.SoundHeaders.{fits_count, is_type, is_writable_dim,
 use Rattle.script_spec.specs.ScriptWords.{Word, is_name}
 use Rattle.script_spec.specs.ScriptSteps.{refuse_if, or_fault, reads_as, name, ended}
 use Rattle.script_spec.specs.ScriptValues.{values}
-use Rattle.script_spec.specs.ScriptDefinitions.{type_of, is_among, length_limit, length_of_text, is_unlimited, dim_names, dim_line, var_head, name_list, dim_ids, is_record_dim, var_names, shape, var_line, Title, attr_of, attribute_name, attribute, external_bytes, same_title, with_attr_at}
+use Rattle.script_spec.specs.ScriptDefinitions.{type_of, is_among, length_of_text, is_unlimited, dim_names, dim_line, var_head, name_list, dim_ids, is_record_dim, var_names, shape, var_line, Title, attr_of, attribute_name, attribute, external_bytes, same_title, with_attr_at}
 use Rattle.script_laws.proofs.ListLaws.{all_both, all_set, count_more, sum_set, sum_more, found_all}
 use Rattle.script_laws.proofs.StepLaws.{first_then, then_with, unless_refused, read_as}
 use Rattle.script_laws.proofs.WordLaws.{name_short, named, type_read, length_read, small_fits, length_fits}
@@ -34,14 +34,14 @@ use Rattle.script_laws.proofs.ValueLaws.{AreWithin, values_within, bytes_long}
 
 pub record FitsDim (version : ℕ) (d : Dim) : Type 0 where
   pub writable : is_writable_dim version d ≡ true
-  pub short : d.len < length_limit version
+  pub short : d.len < record_limit version
 
 pub record NewDim (version : ℕ) (dims : List Dim) (d : Dim) : Type 0 where
   pub fits : FitsDim version d
   pub room : length dims < most_dims
   pub once : (is_unlimited d && list_any is_unlimited dims) ≡ false
 
-dim_fits : (version : ℕ) (n : List ℕ) (len : ℕ) → is_name n ≡ true → len < length_limit version → FitsDim version (record { name = n; len = len })
+dim_fits : (version : ℕ) (n : List ℕ) (len : ℕ) → is_name n ≡ true → len < record_limit version → FitsDim version (record { name = n; len = len })
 dim_fits version n len good short =
     let name_fits : fits_count version (length n) ≡ true = small_fits version (length n) (let h = name_short n good in omega arith) in
     let len_fits = length_fits version len short in
@@ -53,8 +53,8 @@ dim_read version dims ws =
     first_then (refuse_if (is_among n.0 (dim_names dims)) kind.TwiceNamed) _ _ (λ _ _.
     then_with (refuse_if (nat_le most_dims (length dims)) (kind.Limit limit.Dims)) _ _ (λ _. length dims < most_dims)
     (unless_refused _ _ (length dims < most_dims) (λ e. leb-false _ _ e)) (λ _ room.
-    then_with (reads_as (length_of_text version) kind.BadNumber n.1) _ _ (λ r. r.0 < length_limit version)
-    (read_as (length_of_text version) kind.BadNumber n.1 (λ m. m < length_limit version) (length_read version)) (λ len short.
+    then_with (reads_as (length_of_text version) kind.BadNumber n.1) _ _ (λ r. r.0 < record_limit version)
+    (read_as (length_of_text version) kind.BadNumber n.1 (λ m. m < record_limit version) (length_read version)) (λ len short.
     then_with (refuse_if (len.0 == 0 && list_any is_unlimited dims) kind.BadShape) _ _ (λ _. (len.0 == 0 && list_any is_unlimited dims) ≡ false)
     (unless_refused _ _ _ (λ e. e)) (λ _ once.
     first_then (ended len.1) _ _ (λ _ _. record { fits = dim_fits version n.0 len.0 good short; room = room; once = once }))))))

@@ -7,10 +7,11 @@ use Rattle.nc_base.specs.declared.header.Attr.{Attr}
 use Rattle.nc_base.specs.declared.header.Var.{Var}
 use Rattle.nc_base.specs.declared.request.Call.{Call}
 use Rattle.nc_base.specs.declared.script.Script.{Script}
-use Rattle.serial_spec.specs.Limits.{most_dims, most_vars, most_dims_of_var}
+use Rattle.serial_spec.specs.Limits.{most_dims, most_vars, most_dims_of_var, record_limit}
 use Rattle.serial_spec.specs.HeaderBytes.{is_version}
-use Rattle.serial_spec.specs.Lawful.{most_values, most_calls, is_empty, is_lawful_dim, is_lawful_var, is_nothing_defined, is_lawful_header, is_lawful_extra, is_whole_attr, is_whole_extra, has_whole_attrs, added_dims, added_vars, values_in_script, is_lawful}
-use Rattle.script_spec.specs.ScriptDefinitions.{length_limit, Defined, no_definition, Added, nothing_added, Known}
+use Rattle.serial_spec.specs.Lawful.{most_values, most_calls, is_lawful_dim, is_lawful_var, is_nothing_defined, is_lawful_header, is_lawful_extra, is_whole_attr, is_whole_extra, has_whole_attrs, added_dims, added_vars, values_in_script, is_lawful}
+use Rattle.serial_spec.specs.Lists.{is_empty}
+use Rattle.script_spec.specs.ScriptDefinitions.{Defined, no_definition, Added, nothing_added, Known}
 use Rattle.script_spec.specs.ScriptGrammar.{script_of, header_of, most_lines, Reads}
 use Rattle.script_laws.proofs.ListLaws.{all_pass}
 use Rattle.script_laws.proofs.DimLaws.{FitsDim, FitsAttr, FitsVar, attr_whole}
@@ -40,7 +41,7 @@ new_lawful : (version most : ℕ) (known : Known) → is_version version ≡ tru
     && nat_le (length known.defined.vars) most_vars && list_all is_lawful_var known.defined.vars && is_empty known.added.extras) ≡ true
 new_lawful version most known good f none =
     let dims : list_all (is_lawful_dim version) known.defined.dims ≡ true =
-    all_pass (is_lawful_dim version) (FitsDim version) (λ x g. lt-ltb x.len (length_limit version) g.short) known.defined.dims f.dims in
+    all_pass (is_lawful_dim version) (FitsDim version) (λ x g. lt-ltb x.len (record_limit version) g.short) known.defined.dims f.dims in
     let vars : list_all is_lawful_var known.defined.vars ≡ true =
     all_pass is_lawful_var (FitsVar version most known.defined.dims) (var_lawful version most known.defined.dims) known.defined.vars f.vars in
     let a = and_from _ _ good (le-leb (length known.defined.dims) most_dims f.few_dims) in

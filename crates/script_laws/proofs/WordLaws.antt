@@ -8,13 +8,13 @@ use borrow.Author.Tests.{ltb-true, leb-true, eqb-true}
 use Rattle.list_laws.proofs.Truth.{and_first, and_second}
 use Rattle.nc_base.specs.declared.errors.ScriptKind.TheVariants as kind
 use Rattle.nc_base.specs.declared.header.NcType.{NcType}
-use Rattle.serial_spec.specs.Limits.{file_limit}
+use Rattle.serial_spec.specs.Limits.{file_limit, record_limit}
 use Rattle.serial_spec.specs.HeaderBytes.{number_of, last_type}
 use Rattle.serial_spec.specs.SoundHeaders.{fits_count, is_type}
 use Rattle.script_spec.specs.Texts.{type_word}
 use Rattle.script_spec.specs.ScriptWords.{Word, below, size_of_text, is_name, starts_name, in_name}
 use Rattle.script_spec.specs.ScriptSteps.{name, name_of_text}
-use Rattle.script_spec.specs.ScriptDefinitions.{number_within, one_of_two, type_of, types, length_limit, length_of_text}
+use Rattle.script_spec.specs.ScriptDefinitions.{number_within, one_of_two, type_of, types, length_of_text}
 use Rattle.script_laws.proofs.StepLaws.{read_as}
 use Rattle.script_spec.proofs.NumeralLaws.{below_read}
 
@@ -73,20 +73,20 @@ type_read version w t h = by_word (find (λ (k : NcType). bytes_eq w (type_word 
 
 -- ---- the lengths of dimensions
 
-pub length_read : (version : ℕ) (w : List ℕ) (n : ℕ) → length_of_text version w ≡ Some n → n < length_limit version
-length_read version w n h = by_word (bytes_eq w (codes "unlimited")) (below (length_limit version) (size_of_text w)) (λ m e. below_read (length_limit version) (size_of_text w) m e) h
+pub length_read : (version : ℕ) (w : List ℕ) (n : ℕ) → length_of_text version w ≡ Some n → n < record_limit version
+length_read version w n h = by_word (bytes_eq w (codes "unlimited")) (below (record_limit version) (size_of_text w)) (λ m e. below_read (record_limit version) (size_of_text w) m e) h
   where
     some_limit : (t : Bool) → 0 < cond t (2 ^ 62) (2 ^ 31)
     some_limit true = omega arith
     some_limit false = omega arith
 
-    kept : (m : ℕ) (t : Bool) → m < length_limit version → cond t None (Some m) ≡ Some n → n < length_limit version
+    kept : (m : ℕ) (t : Bool) → m < record_limit version → cond t None (Some m) ≡ Some n → n < record_limit version
     kept m true h e = absurd (cc)
-    kept m false h e = let same : m ≡ n = cc in subst (λ (x : ℕ). x < length_limit version) same h
+    kept m false h e = let same : m ≡ n = cc in subst (λ (x : ℕ). x < record_limit version) same h
 
-    by_word : (b : Bool) (o : Option ℕ) → ((m : ℕ) → o ≡ Some m → m < length_limit version)
-        → cond b (Some 0) (elim o as (λ _. Option ℕ) [ None ↦ None | Some m ↦ cond (m == 0) None (Some m) ]) ≡ Some n → n < length_limit version
-    by_word true o f e = let same : 0 ≡ n = cc in subst (λ (x : ℕ). x < length_limit version) same (some_limit (version == 5))
+    by_word : (b : Bool) (o : Option ℕ) → ((m : ℕ) → o ≡ Some m → m < record_limit version)
+        → cond b (Some 0) (elim o as (λ _. Option ℕ) [ None ↦ None | Some m ↦ cond (m == 0) None (Some m) ]) ≡ Some n → n < record_limit version
+    by_word true o f e = let same : 0 ≡ n = cc in subst (λ (x : ℕ). x < record_limit version) same (some_limit (version == 5))
     by_word false None f e = absurd (cc)
     by_word false (Some m) f e = kept m (m == 0) (f m refl) e
 
@@ -99,7 +99,7 @@ small_fits version n h = by_width (version == 5)
     by_width true = grind (arith, nat_tests)
     by_width false = grind (arith, nat_tests)
 
-pub length_fits : (version n : ℕ) → n < length_limit version → (fits_count version n ≡ true) × (nat_le n file_limit ≡ true)
+pub length_fits : (version n : ℕ) → n < record_limit version → (fits_count version n ≡ true) × (nat_le n file_limit ≡ true)
 length_fits version n h = by_width (version == 5) h
   where
     by_width : (t : Bool) → n < cond t (2 ^ 62) (2 ^ 31) → (nat_lt (2 * n) (256 ^ byte_len (cond t w64 w32)) ≡ true) × (nat_le n file_limit ≡ true)

@@ -66,14 +66,11 @@ type_of version w =
 abbrev pub is_among : List ℕ → List (List ℕ) → Bool
 is_among n names = list_any (bytes_eq n) names
 
-abbrev pub length_limit : ℕ → ℕ
-length_limit version = record_limit version
-
 -- a length from 1, or 0 for unlimited
 abbrev pub length_of_text : ℕ → List ℕ → Option ℕ
 length_of_text version w =
     if bytes_eq w (codes "unlimited") then Some 0
-    else (elim (below (length_limit version) (size_of_text w)) [ None ↦ None | Some n ↦ if n == 0 then None else Some n ])
+    else (elim (below (record_limit version) (size_of_text w)) [ None ↦ None | Some n ↦ if n == 0 then None else Some n ])
 
 abbrev pub is_unlimited : Dim → Bool
 is_unlimited d = d.len == 0

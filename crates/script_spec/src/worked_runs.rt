@@ -10,7 +10,7 @@ ghost use Rattle.script_spec.specs.RunScripts.{script_close, printed_close, scri
 ghost use Rattle.script_spec.specs.PostScripts.{script_cancelled, script_left, printed_cancelled, printed_left, script_three, printed_three, script_ten, printed_ten, script_buffer, script_items, printed_buffer, printed_items, script_varn_post, printed_varn_post, script_serial_posts, printed_serial_posts};
 ghost use Rattle.script_spec.specs.ManyRegionScripts.{script_varn, printed_varn, script_varn_self, printed_varn_self, script_varn_empty, printed_varn_empty, script_varn_refused, printed_varn_refused};
 ghost use Rattle.script_spec.specs.DatasetScripts.{script_fill, printed_fill, script_fill_record, printed_fill_record, script_fill_fixed, printed_fill_fixed, script_opened, printed_opened, script_added, printed_added};
-ghost use Rattle.serial_spec.specs.Examples.{int_bytes, dataset_a, file_halves, moved, file_moved};
+ghost use Rattle.serial_spec.specs.Examples.{int_bytes, dataset_a, file_halves, dataset_a_moved, file_moved};
 ghost use Rattle.script_spec.specs.FaultyScripts.{faulty_fill_twice, faulty_no_part, faulty_many_parts, faulty_part};
 ghost use Rattle.nc_base.specs.declared.errors.ScriptKind.TheVariants as kind;
 ghost use Rattle.nc_base.specs.declared.errors.LimitName.TheVariants as limit;
@@ -121,7 +121,7 @@ pub fn worked_orders()
 pub fn worked_opened()
     ensures opened_text { printed_on script_opened dataset_a file_halves (Meet 0 ∷ []) ≡ printed_opened }
     ensures opened_calls { calls_on script_opened dataset_a file_halves (Meet 0 ∷ []) ≡ Load 0 96 ∷ Load 80 16 ∷ [] }
-    ensures room_text { printed_on script_opened moved file_moved (Meet 0 ∷ []) ≡ printed_opened }
+    ensures room_text { printed_on script_opened dataset_a_moved file_moved (Meet 0 ∷ []) ≡ printed_opened }
     ensures added_text { printed_on script_added dataset_a file_halves (Meet 0 ∷ Meet 1 ∷ []) ≡ printed_added }
     ensures added_calls { calls_on script_added dataset_a file_halves (Meet 0 ∷ Meet 1 ∷ [])
         ≡ Load 0 96 ∷ Grow 140 ∷ Load 80 16 ∷ Store 116 16 ∷ Store 132 8 ∷ Store 0 116 ∷ Load 116 16 ∷ Load 132 8 ∷ [] }

@@ -3,7 +3,7 @@
 ghost use Rattle.std.specs.Prelude.{true, ◌≡◌, ◌+◌, [], ◌∷◌, ◌++◌, length, codes, ◌-◌, option_map, Some, take};
 ghost use Rattle.serial_spec.specs.HeaderBytes.{header_len};
 ghost use Rattle.serial_spec.specs.HeaderFaults.{field_fault};
-ghost use Rattle.serial_spec.specs.Examples.{header_a, ended, halves, no_align, thin_script, dataset_b, dim, var, moved, defined};
+ghost use Rattle.serial_spec.specs.Examples.{header_a, ended, halves, no_align, thin_script, dataset_b, dim, var, dataset_a_moved, defined};
 ghost use Rattle.serial_spec.specs.Layout.{recsize, begins};
 ghost use Rattle.script_spec.specs.TextExamples.{with_layout, text_of, text_halves, script_read, thin_lines, thin_answers, thin_printed, offsets_of_record, offsets_with_room, script_summed, summed, text_summed};
 ghost use Rattle.nc_base.specs.declared.step.Mark.TheVariants.{Meet};
@@ -58,7 +58,7 @@ pub fn worked_summary()
 /// What is told of a layout, and of a header or a layout that is refused.
 pub fn worked_offsets()
     ensures record { offsets_text dataset_b ≡ offsets_of_record }
-    ensures room { offsets_text moved ≡ offsets_with_room }
+    ensures room { offsets_text dataset_a_moved ≡ offsets_with_room }
     ensures too_large { option_map layout_line (layout_fault (defined 1 (dim 120 600000000 ∷ []) (var 118 Int (0 ∷ []) ∷ [])) no_align)
         ≡ Some (text_line (codes "ncrun: variable 0 is too large")) }
     ensures cut { option_map header_line (field_fault (take 70 header_a)) ≡ Some (text_line (codes "ncrun: header truncated at byte 68")) }

@@ -17,7 +17,8 @@ use Rattle.nc_base.specs.declared.step.MeetKind.{MeetKind}
 use Rattle.serial_spec.specs.Limits.{most_dims, most_vars}
 use Rattle.serial_spec.specs.HeaderBytes.{is_version}
 use Rattle.serial_spec.specs.History.{kinds, kind_number}
-use Rattle.serial_spec.specs.Lawful.{added_dims, added_vars, agree, are_different, are_lawful_hints, is_alignment, is_empty, is_lawful, is_lawful_call, is_lawful_dim, is_lawful_extra, is_lawful_header, is_lawful_var, is_within, kind_numbers, most_calls, most_ranks, most_values, posted_ids, values_in_script}
+use Rattle.serial_spec.specs.Lawful.{added_dims, added_vars, agree, are_different, are_lawful_hints, is_alignment, is_lawful, is_lawful_call, is_lawful_dim, is_lawful_extra, is_lawful_header, is_lawful_var, is_within, kind_numbers, most_calls, most_ranks, most_values, posted_ids, values_in_script}
+use Rattle.serial_spec.specs.Lists.{is_empty}
 use Rattle.script_spec.specs.Shown.{shown}
 use Rattle.script_spec.specs.ScriptWords.{Word, Plain}
 use Rattle.script_spec.specs.HintTable.{Within}

@@ -12,7 +12,8 @@ use Rattle.nc_base.specs.declared.request.PostKind.TheVariants.{Iput, Iget, Bput
 use Rattle.nc_base.specs.declared.request.Call.{Call}
 use Rattle.nc_base.specs.declared.request.Call.TheVariants as call
 use Rattle.serial_spec.specs.Limits.{most_elements}
-use Rattle.serial_spec.specs.Lawful.{are_values, are_different, id_posted, is_given, is_lawful_call, is_nothing, is_number, is_post_of, is_empty, posted_ids, values_in_call}
+use Rattle.serial_spec.specs.Lawful.{are_values, are_different, id_posted, is_given, is_lawful_call, is_nothing, is_number, is_post_of, posted_ids, values_in_call}
+use Rattle.serial_spec.specs.Lists.{is_empty}
 use Rattle.script_spec.specs.ScriptWords.{is_name}
 use Rattle.script_spec.specs.ScriptCalls.{posted, is_posted}
 use Rattle.script_text.specs.Expressible.{are_expressible_values, is_expressible_call, is_id}

@@ -8,9 +8,10 @@ use Rattle.nc_base.specs.declared.header.Var.{Var}
 use Rattle.nc_base.specs.declared.header.Header.{Header}
 use Rattle.serial_spec.specs.Limits.{most_dims, most_vars, most_dims_of_var, record_limit}
 use Rattle.serial_spec.specs.HeaderBytes.{number_of, last_type}
-use Rattle.serial_spec.specs.Lawful.{is_empty, is_lawful_dim, is_lawful_var}
+use Rattle.serial_spec.specs.Lawful.{is_lawful_dim, is_lawful_var}
+use Rattle.serial_spec.specs.Lists.{is_empty}
 use Rattle.script_spec.specs.ScriptWords.{is_name}
-use Rattle.script_spec.specs.ScriptDefinitions.{is_among, dim_names, is_record_dim, is_unlimited, length_limit, same_title, Defined}
+use Rattle.script_spec.specs.ScriptDefinitions.{is_among, dim_names, is_record_dim, is_unlimited, same_title, Defined}
 use Rattle.script_text.specs.Expressible.{is_new_name, are_expressible_dims, is_expressible_var, are_expressible_vars, is_expressible_header}
 use Rattle.script_text.proofs.Lines.{empty_list}
 use Rattle.script_text.proofs.PrintedAttributes.{type_told}
@@ -31,7 +32,7 @@ length_low : (b : Bool) (n : ℕ) → n < cond b (2 ^ 62) (2 ^ 31) → n < 2 ^ 6
 length_low true n h = omega arith
 length_low false n h = omega arith
 
-length_cases : (version n : ℕ) → n < length_limit version → (n ≡ 0) ⊎ (((n == 0) ≡ false) × (n < length_limit version) × (n < 2 ^ 63))
+length_cases : (version n : ℕ) → n < record_limit version → (n ≡ 0) ⊎ (((n == 0) ≡ false) × (n < record_limit version) × (n < 2 ^ 63))
 length_cases version zero h = inl refl
 length_cases version (suc n) h = inr (ne_eqb (suc n) 0 (omega arith), h, length_low (version == 5) (suc n) h)
 

@@ -11,7 +11,7 @@ use Rattle.std.specs.List.{All, list_all, slice_split, enumerate_from}
 use Rattle.std.specs.Str.{is_utf8}
 use Rattle.std.specs.Str.Lossy.{valid_len_up_to, utf8_valid_len}
 use lib.Utf8.{scalar, scalars, encode, encodes, scalar_cases, next}
-use Rattle.serial_spec.specs.Lawful.{is_empty}
+use Rattle.serial_spec.specs.Lists.{is_empty}
 use Rattle.script_spec.proofs.TextLaws.{first_line_kept}
 use Rattle.script_spec.specs.Texts.{text_char, hex_digit, joined, line}
 use Rattle.script_spec.specs.ScriptWords.{Word, Plain, Quoted, Broken, Line, words, is_comment, is_newline, line_of, significant, significant_of, text_lines, without_empty_end}

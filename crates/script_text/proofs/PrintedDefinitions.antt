@@ -7,13 +7,13 @@ use Rattle.nc_base.specs.declared.errors.ScriptKind.TheVariants as kind
 use Rattle.nc_base.specs.declared.errors.LimitName.TheVariants as limit
 use Rattle.nc_base.specs.declared.header.NcType.{NcType}
 use Rattle.nc_base.specs.declared.header.Dim.{Dim}
-use Rattle.serial_spec.specs.Limits.{most_dims, most_vars}
+use Rattle.serial_spec.specs.Limits.{most_dims, most_vars, record_limit}
 use Rattle.script_spec.specs.Texts.{type_word, joined}
 use Rattle.script_spec.specs.Shown.{bracketed}
 use Rattle.script_spec.specs.ScriptWords.{Word, Plain, is_name, below, size_of_text, between_brackets, parts}
 use Rattle.script_spec.specs.ScriptSteps.{refuse_if, reads_as, name, ended}
 use Rattle.script_spec.specs.HintTable.{HintForm, Within, Either, HintRow, hint_table, hint_of_text, hint_form, hint_in, no_row}
-use Rattle.script_spec.specs.ScriptDefinitions.{number_within, one_of_two, hint_value, hint_line, ranks_line, type_of, is_among, length_limit, length_of_text, is_unlimited, dim_names, dim_line, var_head, name_list}
+use Rattle.script_spec.specs.ScriptDefinitions.{number_within, one_of_two, hint_value, hint_line, ranks_line, type_of, is_among, length_of_text, is_unlimited, dim_names, dim_line, var_head, name_list}
 use Rattle.script_text.proofs.Steps.{went, go_on, same_ok, not_refused, passed, read_word, word_read, whole_value}
 use Rattle.script_text.proofs.Lexing.{is_plain, is_good}
 use Rattle.script_text.proofs.Lines.{all_more}
@@ -133,34 +133,34 @@ abbrev length_by : Option ℕ → Option ℕ
 length_by o = elim o [ None ↦ None | Some n ↦ cond (n == 0) None (Some n) ]
 
 -- a length that is read: unlimited, or a number within the limit
-length_is : (version : ℕ) (w : List ℕ) (n : ℕ) → length_of_text version w ≡ Some n → (n ≡ 0) ⊎ (((n == 0) ≡ false) × (n < length_limit version) × (n < 2 ^ 63))
+length_is : (version : ℕ) (w : List ℕ) (n : ℕ) → length_of_text version w ≡ Some n → (n ≡ 0) ⊎ (((n == 0) ≡ false) × (n < record_limit version) × (n < 2 ^ 63))
 length_is version w n h = by (bytes_eq w (codes "unlimited")) h
   where
-    by_zero : (m : ℕ) (b : Bool) → (m == 0) ≡ b → size_of_text w ≡ Some m → m < length_limit version → cond {A = Option ℕ} b None (Some m) ≡ Some n → (n ≡ 0) ⊎ (((n == 0) ≡ false) × (n < length_limit version) × (n < 2 ^ 63))
+    by_zero : (m : ℕ) (b : Bool) → (m == 0) ≡ b → size_of_text w ≡ Some m → m < record_limit version → cond {A = Option ℕ} b None (Some m) ≡ Some n → (n ≡ 0) ⊎ (((n == 0) ≡ false) × (n < record_limit version) × (n < 2 ^ 63))
     by_zero m true e s low k = absurd (cc)
     by_zero m false e s low k =
         let same : m ≡ n = cc in
-        inr (subst (λ x. ((x == 0) ≡ false) × (x < length_limit version) × (x < 2 ^ 63)) same (e, low, size_read w m s))
+        inr (subst (λ x. ((x == 0) ≡ false) × (x < record_limit version) × (x < 2 ^ 63)) same (e, low, size_read w m s))
 
-    by_size : (o : Option ℕ) → below (length_limit version) (size_of_text w) ≡ o → length_by o ≡ Some n → (n ≡ 0) ⊎ (((n == 0) ≡ false) × (n < length_limit version) × (n < 2 ^ 63))
+    by_size : (o : Option ℕ) → below (record_limit version) (size_of_text w) ≡ o → length_by o ≡ Some n → (n ≡ 0) ⊎ (((n == 0) ≡ false) × (n < record_limit version) × (n < 2 ^ 63))
     by_size None e k = absurd (cc)
-    by_size (Some m) e k = let b = below_bound (length_limit version) (size_of_text w) m e in by_zero m (m == 0) refl b.0 b.1 k
+    by_size (Some m) e k = let b = below_bound (record_limit version) (size_of_text w) m e in by_zero m (m == 0) refl b.0 b.1 k
 
-    by : (b : Bool) → cond {A = Option ℕ} b (Some 0) (length_by (below (length_limit version) (size_of_text w))) ≡ Some n → (n ≡ 0) ⊎ (((n == 0) ≡ false) × (n < length_limit version) × (n < 2 ^ 63))
+    by : (b : Bool) → cond {A = Option ℕ} b (Some 0) (length_by (below (record_limit version) (size_of_text w))) ≡ Some n → (n ≡ 0) ⊎ (((n == 0) ≡ false) × (n < record_limit version) × (n < 2 ^ 63))
     by true k = let same : 0 ≡ n = cc in inl (sym same)
-    by false k = by_size (below (length_limit version) (size_of_text w)) refl k
+    by false k = by_size (below (record_limit version) (size_of_text w)) refl k
 
 pub record LengthAgain (version n : ℕ) : Type 0 where
   pub plain : is_plain (length_word n) ≡ true
   pub again : length_of_text version (length_word n) ≡ Some n
 
-pub length_told : (version n : ℕ) → (n ≡ 0) ⊎ (((n == 0) ≡ false) × (n < length_limit version) × (n < 2 ^ 63)) → LengthAgain version n
+pub length_told : (version n : ℕ) → (n ≡ 0) ⊎ (((n == 0) ≡ false) × (n < record_limit version) × (n < 2 ^ 63)) → LengthAgain version n
 length_told version n h = ⊎_elim
     (λ (e : n ≡ 0). subst (LengthAgain version) (sym e) (record { plain = refl; again = refl }))
-    (λ (k : ((n == 0) ≡ false) × (n < length_limit version) × (n < 2 ^ 63)).
+    (λ (k : ((n == 0) ≡ false) × (n < record_limit version) × (n < 2 ^ 63)).
     let word : length_word n ≡ decimal n = cond-false _ _ _ k.0 in
     let letters = not_letters (decimal n) 117 (110 ∷ 108 ∷ 105 ∷ 109 ∷ 105 ∷ 116 ∷ 101 ∷ 100 ∷ []) (decimal_word n (omega (arith, k.2))) (omega arith) in
-    let small = below_again (length_limit version) (size_of_text (decimal n)) n (size_again n k.2) k.1 in
+    let small = below_again (record_limit version) (size_of_text (decimal n)) n (size_again n k.2) k.1 in
     record {
       plain = ap is_plain word ∙ size_plain n k.2;
       again = ap (length_of_text version) word ∙ (cond-false _ _ _ letters ∙ (ap length_by small ∙ cond-false _ _ _ k.0));

@@ -13,7 +13,8 @@ use Rattle.nc_base.specs.declared.request.Given.{Given}
 use Rattle.nc_base.specs.declared.request.Part.{Part}
 use Rattle.nc_base.specs.declared.request.Choice.{Choice}
 use Rattle.nc_base.specs.declared.request.Choice.TheVariants.{Every, Listed}
-use Rattle.serial_spec.specs.Lawful.{most_parts, is_empty, has_lists_of, has_its_lists, is_given}
+use Rattle.serial_spec.specs.Lawful.{most_parts, has_lists_of, has_its_lists, is_given}
+use Rattle.serial_spec.specs.Lists.{is_empty}
 use Rattle.script_spec.specs.Shown.{size_list, part_words, form_words, choice_words}
 use Rattle.script_spec.specs.ScriptWords.{Word, Plain, is_word, is_name, size_of_text, list_of_text}
 use Rattle.script_spec.specs.ScriptSteps.{◌>>=◌, refuse_if, bare, reads_as, size, list, name, name_of_text, whole}

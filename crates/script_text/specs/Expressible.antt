@@ -15,7 +15,7 @@ use Rattle.nc_base.specs.declared.request.Call.{Call}
 use Rattle.nc_base.specs.declared.request.Call.TheVariants as call
 use Rattle.nc_base.specs.declared.script.Script.{Script}
 use Rattle.serial_spec.specs.HeaderBytes.{number_of, last_type}
-use Rattle.serial_spec.specs.Lawful.{is_empty}
+use Rattle.serial_spec.specs.Lists.{is_empty}
 use Rattle.script_spec.specs.ScriptWords.{is_name}
 use Rattle.script_spec.specs.ScriptDefinitions.{is_among, is_unlimited, is_record_dim, dim_names}
 

@@ -18,10 +18,10 @@ use Rattle.serial_spec.specs.Limits.{record_limit}
 use Rattle.serial_spec.specs.RankMachine.{hear}
 use Rattle.serial_spec.specs.SerialEnd.{Going, hears}
 use Rattle.join_laws.proofs.CountLaws.{less_max}
-use Rattle.run_laws.specs.Ways.{meetings, marks_left, IsOnWay}
+use Rattle.run_laws.specs.Ways.{meetings, marks_left, IsOnWay, AsksAlone}
 use Rattle.run_laws.proofs.CallLaws.{hears_keeps}
 use Rattle.run_laws.proofs.WayLaws.{way_beside, way_hears, way_solo}
-use Rattle.serial_run.specs.Running.{AsksAlone, IsAsked, IsPlaced, IsRunner, IsWaiting, MayGoOn, going_of}
+use Rattle.serial_run.specs.Running.{IsAsked, IsPlaced, IsRunner, IsWaiting, MayGoOn, going_of}
 use Rattle.serial_run.specs.Stands.{HeardOne}
 use Rattle.serial_run.specs.declared.runners.Runner.{Runner}
 

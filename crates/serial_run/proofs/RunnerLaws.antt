@@ -17,12 +17,12 @@ use Rattle.element_steps.specs.Requests.{IsRight}
 use Rattle.rank_core.specs.Offered.{IsSoundOffer, IsSoundWant}
 use Rattle.run_laws.specs.Requests.{posts_held}
 use Rattle.run_laws.specs.Ahead.{answered, asking}
-use Rattle.run_laws.specs.Ways.{IsOnWay}
+use Rattle.run_laws.specs.Ways.{IsOnWay, AsksAlone}
 use Rattle.run_laws.proofs.CallLaws.{alone_keeps, meets_keeps, solo_keeps}
 use Rattle.run_laws.proofs.StandingLaws.{comes_on, comes_to_end, comes_to_meeting, comes_to_solo}
 use Rattle.run_laws.proofs.TogetherLaws.{call_lawful}
 use Rattle.run_laws.proofs.WayLaws.{way_answers, way_meets}
-use Rattle.serial_run.specs.Running.{AsksAlone, HasGone, MayGoOn}
+use Rattle.serial_run.specs.Running.{HasGone, MayGoOn}
 use Rattle.join_laws.proofs.RankLaws.{said_at}
 
 -- from s the rank has come to t by calls that it answers alone

@@ -4,25 +4,22 @@
 --     MayGoOn s                 a rank of a lawful script between two of its calls
 --     IsAsked header rank o     an offer that a step takes, whose reply the rank waits for
 --     HasGone header from s held   from there the rank has gone on to its next offer, or to its end
---     AsksAlone, IsPlaced ..    rank r when a run has done an order of marks: at its offer, or at its end
+--     IsPlaced ..               rank r when a run has done an order of marks: at its offer, or at its end
 --     IsRunner .. r runner          the same with what it knows and asks
 --     IsWaiting header runner     it holds an offer, and may go on after the reply
-use Rattle.std.specs.Prelude.{◌≡◌, ℕ, ◌+◌, ◌<◌, ◌≤◌, ◌⊎◌, List, [], ◌∷◌, true, Option, Some, None, IfSome, IsSomeAnd, is_some}
+use Rattle.std.specs.Prelude.{◌≡◌, ℕ, ◌<◌, ◌⊎◌, List, [], true, Option, Some, None, IfSome, IsSomeAnd, is_some}
 use Rattle.nc_base.specs.declared.header.Header.{Header}
-use Rattle.nc_base.specs.declared.request.Call.{Call}
 use Rattle.nc_base.specs.declared.script.Script.{Script}
 use Rattle.nc_base.specs.declared.step.Mark.{Mark}
 use Rattle.nc_base.specs.declared.step.Offer.{Offer}
 use Rattle.nc_base.specs.declared.step.Reply.{Reply}
-use Rattle.nc_base.specs.declared.step.Want.TheVariants as want
-use Rattle.serial_spec.specs.Lawful.{is_lawful, most_parts}
+use Rattle.serial_spec.specs.Lawful.{is_lawful}
 use Rattle.serial_spec.specs.Limits.{record_limit}
 use Rattle.serial_spec.specs.RankMachine as machine
 use Rattle.serial_spec.specs.SerialEnd.{Going, advance, hears}
 use Rattle.element_steps.specs.Requests.{IsRight}
 use Rattle.run_laws.specs.Arrivals.{Arrived}
-use Rattle.run_laws.specs.Requests.{posts_held}
-use Rattle.run_laws.specs.Ways.{IsOnWay}
+use Rattle.run_laws.specs.Ways.{AsksAlone, IsOnWay}
 use Rattle.serial_run.specs.declared.runners.Runner.{Runner}
 
 abbrev pub going_of : Runner → Going
@@ -44,14 +41,6 @@ pub record IsAsked (header : Header) (rank : machine.Rank) (o : Offer) : Type 0 
   pub known : o.known ≡ rank.known
   pub waits : is_some rank.«open» ≡ true
   pub gets : IfSome rank.«open» (λ w. w.gets ≡ o.batch.gets)
-
--- it waits with an offer that it makes alone
-pub record AsksAlone (script : Script) (header : Header) (order : List Mark) (r : ℕ) (s : Going) (o : Offer) : Type 0 where
-  pub before : machine.Rank
-  pub call : Call
-  pub way : IsOnWay script order r (record { rank = before; answers = s.answers; calls = call ∷ s.calls }) None
-  pub step : (s.rank, want.Solo o) ≡ machine.step header before call
-  pub few : posts_held s.rank ≤ posts_held before + most_parts
 
 abbrev pub IsPlaced : Script → Header → List Mark → ℕ → Going → Option Offer → Type 0
 IsPlaced script header order r s None = IsOnWay script order r s None × (s.calls ≡ [])

@@ -22,7 +22,7 @@ use Rattle.serial_spec.specs.Layout.{product, length_of, lengths, starts_with_ze
 use Rattle.serial_spec.specs.Place.{place, record_of, within_record, HasRecord, IsIndex, IsElementBelow}
 use Rattle.serial_spec.specs.SoundHeaders.{is_sound}
 use Rattle.serial_spec.specs.Request.{coordinates, index_at, elements, places}
-use Rattle.serial_spec.specs.RegionCheck.{bound, bounds, bad_edge, some_edge, some_start, other_shape, is_too_large, first_code, check_var, check_some, check}
+use Rattle.serial_spec.specs.RegionCheck.{bound, bounds, bad_edge, some_edge, some_start, other_shape, asks_too_much, first_code, check_var, check_some, check}
 use Rattle.serial_spec.specs.Records.{records_of, records_of_some, needed, needed_by}
 use Rattle.serial_spec.specs.SharedByte.{Puts, bytes_of, bytes_of_some, covered}
 use Rattle.serial_spec.proofs.RowLaws.{row_below}
@@ -132,11 +132,11 @@ pub record IsAccepted (header : Header) (v : Var) (g : Region) (known : ℕ) (wa
   pub counts : length g.count ≡ length v.dims
   pub strides : length g.stride ≡ length v.dims
   pub edges : some_edge (bounds header v known way) g.start g.count g.stride ≡ false
-  pub small : is_too_large header v g ≡ false
+  pub small : asks_too_much header v g ≡ false
 
 pub accepted : (header : Header) (v : Var) (g : Region) (known : ℕ) (way : Direction) → check_var header v g known way ≡ code.Ok → IsAccepted header v g known way
 accepted header v g known way h =
-    let large : List (Bool × Code) = (is_too_large header v g, code.ETooLarge) ∷ [] in
+    let large : List (Bool × Code) = (asks_too_much header v g, code.ETooLarge) ∷ [] in
     let edges : List (Bool × Code) = (some_edge (bounds header v known way) g.start g.count g.stride, code.EEdge) ∷ large in
     let starts : List (Bool × Code) = (some_start (bounds header v known way) g.start g.count, code.EInvalCoords) ∷ edges in
     let strides : List (Bool × Code) = (list_any (λ d. d == 0) g.stride, code.EStride) ∷ starts in
@@ -144,7 +144,7 @@ accepted header v g known way h =
     let b = first_ok (list_any (λ d. d == 0) g.stride) code.EStride starts (λ e. absurd cc) a.1 in
     let c = first_ok (some_start (bounds header v known way) g.start g.count) code.EInvalCoords edges (λ e. absurd cc) b.1 in
     let d = first_ok (some_edge (bounds header v known way) g.start g.count g.stride) code.EEdge large (λ e. absurd cc) c.1 in
-    let f = first_ok (is_too_large header v g) code.ETooLarge [] (λ e. absurd cc) d.1 in
+    let f = first_ok (asks_too_much header v g) code.ETooLarge [] (λ e. absurd cc) d.1 in
     let shape = not-false _ a.0 in
     let three = and_first _ _ shape in
     let two = and_first _ _ three in

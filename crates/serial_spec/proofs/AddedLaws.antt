@@ -17,7 +17,7 @@ use Rattle.nc_base.specs.declared.errors.HeaderErr.TheVariants as fault
 use Rattle.serial_spec.specs.Layout.{length_of}
 use Rattle.serial_spec.specs.HeaderFaults.{first_check, first_with, fault_if, two_record_dims, record_later, bad_id}
 use Rattle.serial_spec.specs.SoundHeaders.{is_sound}
-use Rattle.serial_spec.specs.Redefinition.{with_attr, with_extra, added, begins_by_number, begin_of_number, with_begins, redefined_header, KeepsVars}
+use Rattle.serial_spec.specs.Redefinition.{with_var_attr, with_extra, added, begins_by_number, begin_of_number, with_begins, redefined_header, KeepsVars}
 use Rattle.list_laws.proofs.Each.{fails_each}
 use Rattle.serial_spec.proofs.RoomLaws.{untested}
 use Rattle.list_laws.proofs.Maps.{entry_map}
@@ -50,13 +50,13 @@ in_front (x ∷ vs) ws zero v h = h
 in_front (x ∷ vs) ws (suc k) v h = in_front vs ws k v h
 
 attr_kept : (name : List ℕ) (a : Attr) (vs : List Var) (k : ℕ) (v : Var) → slice_get vs k ≡ Some v
-    → (w : Var) × (slice_get (with_attr name a vs) k ≡ Some w) × (w.kind ≡ v.kind) × (w.dims ≡ v.dims)
+    → (w : Var) × (slice_get (with_var_attr name a vs) k ≡ Some w) × (w.kind ≡ v.kind) × (w.dims ≡ v.dims)
 attr_kept name a [] k v h = absurd cc
 attr_kept name a (x ∷ vs) k v h = by_name (λ j y g. attr_kept name a vs j y g) (bytes_eq x.name name) k h
   where
-    by_name : ((j : ℕ) (y : Var) → slice_get vs j ≡ Some y → (w : Var) × (slice_get (with_attr name a vs) j ≡ Some w) × (w.kind ≡ y.kind) × (w.dims ≡ y.dims))
+    by_name : ((j : ℕ) (y : Var) → slice_get vs j ≡ Some y → (w : Var) × (slice_get (with_var_attr name a vs) j ≡ Some w) × (w.kind ≡ y.kind) × (w.dims ≡ y.dims))
         → (t : Bool) → (k : ℕ) → slice_get (x ∷ vs) k ≡ Some v
-        → (w : Var) × (slice_get (cond t (record x { attrs = x.attrs ++ a ∷ [] } ∷ vs) (x ∷ with_attr name a vs)) k ≡ Some w) × (w.kind ≡ v.kind) × (w.dims ≡ v.dims)
+        → (w : Var) × (slice_get (cond t (record x { attrs = x.attrs ++ a ∷ [] } ∷ vs) (x ∷ with_var_attr name a vs)) k ≡ Some w) × (w.kind ≡ v.kind) × (w.dims ≡ v.dims)
     by_name rest true zero h =
         let same : x ≡ v = cc in (record x { attrs = x.attrs ++ a ∷ [] }, refl, ap (λ (y : Var). y.kind) same, ap (λ (y : Var). y.dims) same)
     by_name rest true (suc k) h = (v, h, refl, refl)

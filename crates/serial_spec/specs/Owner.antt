@@ -29,7 +29,7 @@ use Rattle.serial_spec.specs.RegionCheck.{check, is_ok_code}
 use Rattle.serial_spec.specs.SharedByte.{Puts}
 use Rattle.serial_spec.specs.FileStep.{Setting, Counted, puts_of, told, needs, raises, meeting, solo}
 use Rattle.serial_spec.specs.Lists.{In}
-use Rattle.serial_spec.specs.History.{Arrival, offer_of, kind_of_meeting, option_then, meeting_kind, is_from, is_offer}
+use Rattle.serial_spec.specs.History.{Arrival, offer_of, kind_number, kind_of_meeting, option_then, meeting_kind, is_from, is_offer}
 
 -- ---- the owner
 
@@ -140,13 +140,7 @@ event s d a = event_at s d a (slice_get d.clients a.0)
 -- ---- strange arrivals
 
 abbrev pub same_kind : MeetKind → MeetKind → Bool
-same_kind meets.Put meets.Put = true
-same_kind meets.Get meets.Get = true
-same_kind meets.Wait meets.Wait = true
-same_kind meets.Begin meets.Begin = true
-same_kind meets.End meets.End = true
-same_kind meets.Sync meets.Sync = true
-same_kind _ _ = false
+same_kind a b = kind_number (Some a) == kind_number (Some b)
 
 abbrev pub differs : Option MeetKind → Option MeetKind → Bool
 differs (Some a) (Some b) = not (same_kind a b)

@@ -2,6 +2,7 @@
 -- those of the netCDF classic format specification.
 --     is_sound header          what the other crates ask of a header
 --     is_writable header       what can be written: each number fits its field
+--     is_redefinable header    what can be written with new begins
 use Rattle.std.specs.Prelude.{ℕ, ◌*◌, ◌^◌, List, length, Bool, ◌&&◌, nat_lt, nat_le, ◌==◌, is_none}
 use Rattle.std.specs.List.{list_all}
 use Rattle.std.specs.Int.{Width, byte_len}
@@ -49,15 +50,27 @@ is_writable_attr version a =
 abbrev pub is_writable_list : {A : Type 0} → ℕ → (A → Bool) → List A → Bool
 is_writable_list version test xs = fits_count version (length xs) && list_all test xs
 
-abbrev pub is_writable_var : Header → Var → Bool
-is_writable_var header v =
+-- all that is asked of a variable to be written, but that its vsize may pass its field
+abbrev pub is_redefinable_var : Header → Var → Bool
+is_redefinable_var header v =
     fits_count header.version (length v.name) && is_writable_list header.version (λ id. fits_count header.version id) v.dims
     && is_writable_list header.version (is_writable_attr header.version) v.attrs
-    && is_type header.version v.kind && fits_count header.version (vsize header v) && fits_field (begin_width header.version) v.begin
+    && is_type header.version v.kind && fits_field (begin_width header.version) v.begin
 
-abbrev pub is_writable : Header → Bool
-is_writable header =
+abbrev pub is_writable_var : Header → Var → Bool
+is_writable_var header v = is_redefinable_var header v && fits_count header.version (vsize header v)
+
+-- by this test of its variables
+abbrev pub is_writable_by : (Header → Var → Bool) → Header → Bool
+is_writable_by test header =
     is_sound header && fits_count header.version header.records
     && is_writable_list header.version (is_writable_dim header.version) header.dims
     && is_writable_list header.version (is_writable_attr header.version) header.attrs
-    && is_writable_list header.version (is_writable_var header) header.vars
+    && is_writable_list header.version (test header) header.vars
+
+abbrev pub is_writable : Header → Bool
+is_writable header = is_writable_by is_writable_var header
+
+-- it can be written once its variables have other begins
+abbrev pub is_redefinable : Header → Bool
+is_redefinable header = is_writable_by is_redefinable_var header

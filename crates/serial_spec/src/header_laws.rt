@@ -4,10 +4,9 @@ ghost use Rattle.std.specs.Prelude.{◌≡◌, ℕ, ◌+◌, List, ◌++◌, len
 ghost use Rattle.serial_spec.specs.HeaderBytes.{canon, header_len};
 ghost use Rattle.serial_spec.specs.HeaderGrammar.{Spells};
 ghost use Rattle.serial_spec.specs.HeaderFaults.{HasFieldFault, field_fault};
-ghost use Rattle.serial_spec.specs.SoundHeaders.{is_writable};
+ghost use Rattle.serial_spec.specs.SoundHeaders.{is_writable, is_redefinable};
 ghost use Rattle.nc_base.specs.declared.errors.HeaderErr.{HeaderErr};
 ghost use Rattle.nc_base.specs.declared.header.Header.{Header};
-ghost use Rattle.serial_spec.specs.Redefinition.{is_redefinable};
 ghost use Rattle.serial_spec.specs.Layout.{sharing, Shares, IsSharing};
 
 /// The function finds the fault after the longest run of right fields, and there is no other.

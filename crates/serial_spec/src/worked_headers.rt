@@ -5,7 +5,7 @@ ghost use Rattle.serial_spec.specs.HeaderBytes.{canon, header_len};
 ghost use Rattle.serial_spec.specs.HeaderGrammar.{Spells};
 ghost use Rattle.serial_spec.specs.HeaderFaults.{field_fault, first_check};
 ghost use Rattle.serial_spec.specs.SoundHeaders.{is_writable};
-ghost use Rattle.serial_spec.specs.Examples.{dataset_2, dataset_a, dataset_b, dataset_bq, header_a, var, int_bytes, device_calls, halves, word, header_a_with, dataset_5, two_bytes, begin_list, end_of_file, aligned, striped, striped_part, file_halves, reopened, moved, one_record, dim, unsound, past_limit, sharing_bytes, odd_header_a};
+ghost use Rattle.serial_spec.specs.Examples.{dataset_2, dataset_a, dataset_b, dataset_bq, header_a, var, int_bytes, device_calls, halves, word, header_a_with, dataset_5, two_bytes, begin_list, end_of_file, aligned, striped, striped_part, file_halves, reopened, dataset_a_moved, one_record, dim, unsound, past_limit, sharing_bytes, odd_header_a};
 ghost use Rattle.serial_spec.specs.Layout.{recsize, end_of, vsize};
 ghost use Rattle.nc_base.specs.declared.header.NcType.TheVariants.{Int};
 ghost use Rattle.nc_base.specs.declared.errors.HeaderErr.TheVariants.{NotCdf, BadVersion, Truncated, BadTag, BadType, BadNumber, BadDimId, Streaming, TooLarge, Shared, TwoRecordDims, RecordDimNotFirst};
@@ -108,5 +108,5 @@ pub fn worked_versions()
     ensures reopening { opening_calls reopened dataset_a file_halves ≡ Load 0 96 ∷ [] }
     ensures again_calls { all_calls reopened dataset_a dataset_a file_halves (Meet 0 ∷ []) ≡ Load 0 96 ∷ Load 80 16 ∷ Store 80 16 ∷ [] }
     ensures again { drop 80 (serial reopened dataset_a file_halves (Meet 0 ∷ [])).bytes ≡ int_bytes (7 ∷ 2 ∷ 3 ∷ 8 ∷ []) }
-    ensures room { end_of_file moved ≡ 528 }
+    ensures room { end_of_file dataset_a_moved ≡ 528 }
 {}

@@ -7,7 +7,8 @@ use Rattle.nc_base.specs.declared.plan.Batch.{Batch}
 use Rattle.nc_base.specs.declared.plan.Post.{Post}
 use Rattle.serial_spec.specs.SoundHeaders.{is_sound}
 use Rattle.serial_spec.specs.SharedByte.{Puts, bytes_of, holdings, IsOwnOnce}
-use Rattle.overlay_laws.specs.Entries.{IsOnce, HaveOwnKeys}
+use Rattle.overlay_laws.specs.Entries.{HaveOwnKeys}
+use Rattle.serial_spec.specs.Extents.{IsOnce}
 use Rattle.overlay_laws.proofs.ShareLaws.{own_once}
 use Rattle.vara_extents.proofs.OnceLaws.{post_once}
 use Rattle.collective_round.specs.Rounds.{gets_in, puts_in, puts_of_batch, AreGets, ArePuts, IsGet, IsPut}

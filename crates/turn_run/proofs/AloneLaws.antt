@@ -23,10 +23,10 @@ use Rattle.serial_spec.specs.RankSide.{wanted}
 use Rattle.serial_spec.specs.SerialEnd.{Going, advance, hears}
 use Rattle.collective_round.specs.Rounds.{counted}
 use Rattle.run_laws.specs.Ahead.{is_solo_of}
-use Rattle.run_laws.specs.Ways.{IsOnWay}
+use Rattle.run_laws.specs.Ways.{IsOnWay, AsksAlone}
 use Rattle.run_laws.proofs.CallLaws.{hears_keeps, solo_keeps}
 use Rattle.turn_run.specs.Counts.{IsAsked}
-use Rattle.turn_run.specs.Running.{asking, between, calls_of, going_of, AsksAlone, HasHeard, IsPlaced, IsPlacedWith, IsRunner}
+use Rattle.turn_run.specs.Running.{asking, between, calls_of, going_of, HasHeard, IsPlaced, IsPlacedWith, IsRunner}
 use Rattle.run_laws.specs.Arrivals.{solo_to, step_calls, step_to, Arrived}
 use Rattle.turn_run.specs.Stages.{arrived, stage, HasGone, IsGrownBy, Leads}
 use Rattle.turn_run.specs.declared.runners.Runner.{Runner}

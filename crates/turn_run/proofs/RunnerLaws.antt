@@ -21,13 +21,13 @@ use Rattle.serial_spec.specs.RankMachine.{step, hear}
 use Rattle.serial_spec.specs.SerialEnd.{Going, go, advance, hears}
 use Rattle.run_laws.specs.Requests.{posts_held}
 use Rattle.run_laws.specs.Ahead.{answered}
-use Rattle.run_laws.specs.Ways.{IsOnWay}
+use Rattle.run_laws.specs.Ways.{IsOnWay, AsksAlone}
 use Rattle.rank_core.specs.Offered.{posts_offered, IsSoundOffer, IsSoundWant}
 use Rattle.run_laws.proofs.CallLaws.{meets_keeps, says_at, solo_keeps}
 use Rattle.run_laws.proofs.StandingLaws.{comes_on, comes_to_meeting, comes_to_solo}
 use Rattle.run_laws.proofs.WayLaws.{way_answers, way_meets, way_solo}
 use Rattle.turn_run.specs.Counts.{raises, IsAsked}
-use Rattle.turn_run.specs.Running.{asking, between, AsksAlone, HasHeard, IsPlaced, IsPlacedWith}
+use Rattle.turn_run.specs.Running.{asking, between, HasHeard, IsPlaced, IsPlacedWith}
 use Rattle.turn_run.specs.declared.runners.Runner.{Runner}
 use Rattle.join_laws.proofs.QuietLaws.{meets_quiet}
 use Rattle.list_laws.proofs.Places.{drop_at, entry_read}

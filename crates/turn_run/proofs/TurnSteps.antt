@@ -17,11 +17,11 @@ use Rattle.nc_base.specs.declared.step.Mark.TheVariants.{Meet, Solo}
 use Rattle.nc_base.specs.declared.step.Offer.{Offer}
 use Rattle.nc_base.specs.declared.step.OfferKind.{OfferKind}
 use Rattle.nc_base.specs.declared.step.OfferKind.TheVariants as offer
-use Rattle.serial_spec.specs.History.{is_of_rank_below}
+use Rattle.serial_spec.specs.History.{is_of_rank_below, is_meeting}
 use Rattle.serial_spec.specs.Lawful.{is_lawful}
 use Rattle.serial_spec.specs.SerialEnd.{Going, setting_of}
 use Rattle.run_laws.specs.Ahead.{is_solo_of}
-use Rattle.run_laws.specs.Ways.{is_meeting, meetings}
+use Rattle.run_laws.specs.Ways.{meetings}
 use Rattle.run_laws.proofs.LawfulLaws.{ranks_lawful}
 use Rattle.run_laws.proofs.WayLaws.{way_others, others_meetings}
 use Rattle.turn_run.specs.Begun.{HasBegun}

@@ -1,12 +1,11 @@
 -- Where the rank of a runner stands. (own)
 --     calls_of script r         the calls of rank r
 --     going_of own runner         its state, its answers, and the calls that are left
---     AsksAlone ..              it waits with an offer that it makes alone
 --     IsPlaced ..               it is on its way, between two calls or with the offer that it holds
 --     IsRunner ..                 the same with what it brings
 --     HasArrived own runner       it holds an offer of a meeting, or has made its calls
 --     AreRunners, HaveArrived     the same of all ranks
-use Rattle.std.specs.Prelude.{◌≡◌, ℕ, suc, ◌+◌, ◌≤◌, List, [], ◌∷◌, ◌++◌, map, drop, length, true, Option, Some, None, IfSome, is_some, slice_get}
+use Rattle.std.specs.Prelude.{◌≡◌, ℕ, suc, ◌+◌, List, [], ◌∷◌, ◌++◌, map, drop, length, true, Option, Some, None, IfSome, is_some, slice_get}
 use Rattle.std.specs.List.{list_all}
 use Rattle.nc_base.specs.declared.header.Header.{Header}
 use Rattle.nc_base.specs.declared.request.Call.{Call}
@@ -19,13 +18,10 @@ use Rattle.nc_base.specs.declared.answer.Pair.{Pair}
 use Rattle.serial_spec.specs.RankSide.{wanted}
 use Rattle.nc_base.specs.declared.step.OfferKind.{OfferKind}
 use Rattle.nc_base.specs.declared.step.OfferKind.TheVariants as offer
-use Rattle.nc_base.specs.declared.step.Want.TheVariants as want
 use Rattle.serial_spec.specs.History.{is_of_rank_below}
-use Rattle.serial_spec.specs.Lawful.{most_parts}
 use Rattle.serial_spec.specs.RankMachine as machine
 use Rattle.serial_spec.specs.SerialEnd.{Going}
-use Rattle.run_laws.specs.Requests.{posts_held}
-use Rattle.run_laws.specs.Ways.{IsOnWay}
+use Rattle.run_laws.specs.Ways.{AsksAlone, IsOnWay}
 use Rattle.turn_run.specs.Counts.{IsAsked, IsCount}
 use Rattle.turn_run.specs.declared.runners.Runner.{Runner}
 
@@ -46,13 +42,6 @@ asking own runner = going_after (suc (length runner.answers)) own runner
 
 abbrev pub going_of : List Call → Runner → Going
 going_of own runner = elim (runner.held) [ None ↦ between own runner | Some o ↦ asking own runner ]
-
-pub record AsksAlone (script : Script) (header : Header) (order : List Mark) (r : ℕ) (s : Going) (o : Offer) : Type 0 where
-  pub before : machine.Rank
-  pub call : Call
-  pub way : IsOnWay script order r (record { rank = before; answers = s.answers; calls = call ∷ s.calls }) None
-  pub step : (s.rank, want.Solo o) ≡ machine.step header before call
-  pub few : posts_held s.rank ≤ posts_held before + most_parts
 
 abbrev pub IsPlacedWith : Script → Header → List Mark → ℕ → Going → Offer → OfferKind → Type 0
 IsPlacedWith script header order r s o offer.Solo = AsksAlone script header order r s o

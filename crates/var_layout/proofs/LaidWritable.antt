@@ -19,7 +19,7 @@ use Rattle.serial_spec.specs.Limits.{most_dims, most_vars, most_dims_of_var}
 use Rattle.serial_spec.specs.Layout.{vsize, is_record, placed, begins}
 use Rattle.serial_spec.specs.HeaderBytes.{begin_width}
 use Rattle.serial_spec.specs.HeaderFaults.{bad_id}
-use Rattle.serial_spec.specs.SoundHeaders.{is_sound, is_writable, is_writable_list, is_writable_dim, is_writable_attr, is_writable_var, fits_field, fits_count, is_type}
+use Rattle.serial_spec.specs.SoundHeaders.{is_sound, is_writable, is_writable_list, is_writable_dim, is_writable_attr, is_redefinable_var, is_writable_var, fits_field, fits_count, is_type}
 use Rattle.serial_spec.specs.Redefinition.{is_large_var, size_fault}
 use Rattle.var_layout.specs.Begins.{lies_too_far, HasPlace}
 use Rattle.var_layout.specs.Unplaced.{is_unplaced, has_writable_names, has_writable_parts}
@@ -104,8 +104,7 @@ ids_fit version count (id ∷ ids) l h =
 laid_var : (header : Header) (align : Align) (len first k : ℕ) (v : Var) → Unplaced header → HasPlace header align len first → position (is_large_var header) header.vars ≡ None
     → list_all (has_writable_names header) header.vars ≡ true → Lies header k v → is_writable_var header (in_place header align len k v) ≡ true
 laid_var header align len first k v u place sizes names lies =
-    and_from (fits_count header.version (length v.name) && is_writable_list header.version (λ id. fits_count header.version id) v.dims
-    && is_writable_list header.version (is_writable_attr header.version) v.attrs && is_type header.version v.kind && fits_count header.version (vsize header v)) _
+    and_from (is_redefinable_var header (in_place header align len k v)) _
     (and_from (fits_count header.version (length v.name) && is_writable_list header.version (λ id. fits_count header.version id) v.dims
     && is_writable_list header.version (is_writable_attr header.version) v.attrs && is_type header.version v.kind) _
     (and_from (fits_count header.version (length v.name) && is_writable_list header.version (λ id. fits_count header.version id) v.dims
@@ -114,8 +113,8 @@ laid_var header align len first k v u place sizes names lies =
     (and_from (fits_count header.version (length v.name)) _ (and_first _ _ (and_first _ _ named)) dims)
     (and_second _ _ (and_first _ _ named)))
     (and_second _ _ named))
-    (vsize_fits header v (let n = near_end header (in_place header align len k v) far in omega arith) (no_position (is_large_var header) header.vars k v sizes there)))
-    (begin_fits header (in_place header align len k v) far)
+    (begin_fits header (in_place header align len k v) far))
+    (vsize_fits header v (let n = near_end header (in_place header align len k v) far in omega arith) (no_position (is_large_var header) header.vars k v sizes there))
   where
     there : slice_get header.vars k ≡ Some v
     there = get_there header k v lies

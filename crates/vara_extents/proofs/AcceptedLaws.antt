@@ -13,7 +13,7 @@ use Rattle.serial_spec.specs.HeaderBytes.{header_len}
 use Rattle.serial_spec.specs.Layout.{product, end_of}
 use Rattle.serial_spec.specs.Limits.{most_elements, record_limit, file_limit}
 use Rattle.serial_spec.specs.Records.{records_of}
-use Rattle.serial_spec.specs.RegionCheck.{check_some, check_var, bounds, other_shape, some_start, some_edge, is_too_large, last_position}
+use Rattle.serial_spec.specs.RegionCheck.{check_some, check_var, bounds, other_shape, some_start, some_edge, asks_too_much, last_position}
 use Rattle.vara_extents.specs.Accepted.{IsAccepted}
 
 passes : (b : Bool) (c rest : Code) → (c ≡ code.Ok → ⊥) → cond b c rest ≡ code.Ok → (b ≡ false) × (rest ≡ code.Ok)
@@ -26,7 +26,7 @@ pub record Passes (header : Header) (var : Var) (g : Region) (known : ℕ) (dire
   pub stride : list_any (λ d. eqb d 0) g.stride ≡ false
   pub start : some_start (bounds header var known direction) g.start g.count ≡ false
   pub edge : some_edge (bounds header var known direction) g.start g.count g.stride ≡ false
-  pub large : is_too_large header var g ≡ false
+  pub large : asks_too_much header var g ≡ false
 
 pub passed : (header : Header) (var : Var) (g : Region) (known : ℕ) (direction : Direction) → check_var header var g known direction ≡ code.Ok → Passes header var g known direction
 passed header var g known direction h =
@@ -34,7 +34,7 @@ passed header var g known direction h =
     let two = passes (list_any (λ d. eqb d 0) g.stride) code.EStride _ (λ e. cc) one.1 in
     let three = passes (some_start (bounds header var known direction) g.start g.count) code.EInvalCoords _ (λ e. cc) two.1 in
     let four = passes (some_edge (bounds header var known direction) g.start g.count g.stride) code.EEdge _ (λ e. cc) three.1 in
-    let five = passes (is_too_large header var g) code.ETooLarge code.Ok (λ e. cc) four.1 in
+    let five = passes (asks_too_much header var g) code.ETooLarge code.Ok (λ e. cc) four.1 in
     record { shape = one.0; stride = two.0; start = three.0; edge = four.0; large = five.0 }
 
 limit_small : (version : ℕ) → record_limit version ≤ 2 ^ 62
@@ -44,7 +44,7 @@ limit_small version = by_test (eqb version 5)
     by_test true = omega arith
     by_test false = omega arith
 
-pub records_below : (header : Header) (var : Var) (g : Region) → is_too_large header var g ≡ false → records_of header var g < record_limit header.version
+pub records_below : (header : Header) (var : Var) (g : Region) → asks_too_much header var g ≡ false → records_of header var g < record_limit header.version
 records_below header var g h =
     let a = or_parts (ltb most_elements (product g.count) || (not g.packed && ltb 0 (product g.count) && leb most_elements (last_position g.count g.imap)) || leb (record_limit header.version) (records_of header var g))
     (leb file_limit (end_of header (header_len header) (records_of header var g))) h in

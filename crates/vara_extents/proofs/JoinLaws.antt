@@ -6,7 +6,8 @@ use Rattle.std.proofs.lemmas.Bool.{eq-eqb, ne_eqb, cases_eq}
 use Rattle.std.proofs.lemmas.List.{append_assoc}
 use Rattle.list_laws.proofs.Ranges.{range_append}
 use Rattle.nc_base.specs.declared.plan.Extent.{Extent}
-use Rattle.vara_extents.specs.Joined.{joined_to, joined, spans, IsNotNext, IsJoined}
+use Rattle.vara_extents.specs.Joined.{joined_to, joined, IsNotNext, IsJoined}
+use Rattle.serial_spec.specs.Extents.{spans}
 use Rattle.list_laws.proofs.Places.{drop_at}
 
 -- ---- one extent before joined ones

@@ -21,7 +21,8 @@ use Rattle.serial_spec.specs.SharedByte.{bytes_of, bytes_of_some}
 use Rattle.serial_spec.proofs.AcceptLaws as accept
 use Rattle.serial_spec.proofs.ApartLaws.{elements_apart}
 use Rattle.vara_extents.specs.Accepted.{IsAccepted}
-use Rattle.vara_extents.specs.Joined.{extents_of, element_extents, spans, IsOnce}
+use Rattle.vara_extents.specs.Joined.{extents_of, element_extents}
+use Rattle.serial_spec.specs.Extents.{spans, IsOnce}
 use Rattle.vara_extents.specs.Numbered.{coordinates_of, index_of}
 use Rattle.vara_extents.proofs.AcceptedLaws.{passed}
 use Rattle.vara_extents.proofs.JoinLaws.{joined_spans}

@@ -1,6 +1,6 @@
 -- Parts of one call: the first refusal, the elements that two of them share, and the code of all.
 use Rattle.std.proofs.Common.{◌≡◌, ℕ, ◌+◌, ◌<◌, ◌≤◌, ◌∙◌, ap, sym, refl, inl, inr, ◌⊎◌, List, [], ◌∷◌, length, map, take, get_or, Bool, true, false, cond, ltb, leb, eqb, ◌||◌, ◌&&◌, replicate, arith}
-use Rattle.std.specs.Prelude.{flat_map, sum_by, All}
+use Rattle.std.specs.Prelude.{flat_map, sum_by, All, not}
 use Rattle.std.specs.List.{list_any}
 use Rattle.std.proofs.lemmas.Bool.{both_ways, and_parts, not-false, eqb-true, lt-ltb, le-ltb, lt-leb, le-leb, cases_lt}
 use Rattle.std.proofs.lemmas.List.Elements.{All-nil, All-cons, All-head, All-tail, All-map}
@@ -24,7 +24,7 @@ use Rattle.vara_extents.proofs.BoxLaws.{box, boxes_share, any_of}
 
 -- ---- the first refusal
 
-pub ok_both : (c rest : Code) → cond (is_ok_code c) rest c ≡ code.Ok → (c ≡ code.Ok) × (rest ≡ code.Ok)
+pub ok_both : (c rest : Code) → cond (not (is_ok_code c)) c rest ≡ code.Ok → (c ≡ code.Ok) × (rest ≡ code.Ok)
 ok_both code.Ok rest h = (refl, h)
 ok_both _ rest h = absurd cc
 

@@ -17,7 +17,7 @@ use Rattle.serial_spec.specs.Layout.{product, end_of, inner_lengths, is_record, 
 use Rattle.serial_spec.specs.Limits.{most_elements, record_limit, file_limit}
 use Rattle.serial_spec.specs.Place.{place, within_record, IsElement, IsElementBelow}
 use Rattle.serial_spec.specs.Records.{records_of}
-use Rattle.serial_spec.specs.RegionCheck.{check_some, check_var, is_too_large, last_position}
+use Rattle.serial_spec.specs.RegionCheck.{check_some, check_var, asks_too_much, last_position}
 use Rattle.serial_spec.specs.Request.{elements, places}
 use Rattle.serial_spec.proofs.AcceptLaws.{accepted_elements}
 use Rattle.serial_spec.proofs.ApartLaws.{slab_fits, index_record}
@@ -38,7 +38,7 @@ pub record IsSmall (header : Header) (v : Var) (g : Region) : Type 0 where
   pub elements : product g.count ≤ 2 ^ 20
   pub ends : end_of header (header_len header) (records_of header v g) < 2 ^ 62
 
-pub accepted_small : (header : Header) (v : Var) (g : Region) → is_too_large header v g ≡ false → IsSmall header v g
+pub accepted_small : (header : Header) (v : Var) (g : Region) → asks_too_much header v g ≡ false → IsSmall header v g
 accepted_small header v g h =
     let a = or_parts (ltb most_elements (product g.count) || (not g.packed && ltb 0 (product g.count) && leb most_elements (last_position g.count g.imap)) || leb (record_limit header.version) (records_of header v g))
     (leb file_limit (end_of header (header_len header) (records_of header v g))) h in

@@ -8,11 +8,11 @@ use Rattle.nc_base.specs.declared.header.Header.{Header}
 use Rattle.nc_base.specs.declared.header.Var.{Var}
 use Rattle.nc_base.specs.declared.request.Region.{Region}
 use Rattle.serial_spec.specs.ExternalForm.{size_of}
-use Rattle.serial_spec.specs.Layout.{product, length_of, recsize, is_record, starts_with_zero}
+use Rattle.serial_spec.specs.Layout.{product, length_of, recsize, is_record, starts_with_zero, lengths_of}
 use Rattle.serial_spec.specs.Place.{place}
 use Rattle.serial_spec.specs.Place as spec
 use Rattle.serial_spec.specs.Request.{index_at}
-use Rattle.vara_extents.specs.Numbered.{coordinates_of, index_of, lengths_of, weighted, AreRuns, HaveRows}
+use Rattle.vara_extents.specs.Numbered.{coordinates_of, index_of, weighted, AreRuns, HaveRows}
 use Rattle.vara_extents.proofs.RowSteps.{rest, rest_is, fixed_is, record_place_is, record_row, same_rests, split}
 use Rattle.vara_extents.proofs.RunLaws.{kept, same_runs}
 

@@ -10,12 +10,12 @@ use Rattle.nc_base.specs.declared.header.Header.{Header}
 use Rattle.nc_base.specs.declared.header.Var.{Var}
 use Rattle.nc_base.specs.declared.request.Region.{Region}
 use Rattle.serial_spec.specs.ExternalForm.{size_of}
-use Rattle.serial_spec.specs.Layout.{product, length_of, recsize, is_record, starts_with_zero, without_record}
+use Rattle.serial_spec.specs.Layout.{product, length_of, recsize, is_record, starts_with_zero, without_record, lengths_of}
 use Rattle.serial_spec.specs.Place.{row, place, record_of, within_record, HasRecord, IsIndex, IsElement}
 use Rattle.serial_spec.specs.Request.{index_at}
 use Rattle.var_layout.proofs.ElementPlaces.{product_pos, place_fixed, place_record}
 use Rattle.var_layout.specs.Capped.{capped}
-use Rattle.vara_extents.specs.Numbered.{coordinates_of, index_of, lengths_of, row_of, AreRuns}
+use Rattle.vara_extents.specs.Numbered.{coordinates_of, index_of, row_of, AreRuns}
 use Rattle.vara_extents.proofs.RunLaws.{kept, merged, same_runs, sized}
 
 -- the list after its first entry, as a pattern takes it

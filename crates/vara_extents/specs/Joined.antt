@@ -3,12 +3,9 @@
 --     joined es                       each extent joined with the one after it where that begins at its end
 --     element_extents header var g    the bytes of each element
 --     extents_of header var g         the extents of a region
---     spans es                        the bytes of extents, one extent after another
 --     cut_by es bytes                 each extent's place with its share of the bytes
 --     IsJoined es                     no extent begins where the one before it ends
---     IsOnce bytes                    no byte stands twice
-use Rattle.std.specs.Prelude.{◌≡◌, ℕ, ◌+◌, List, [], ◌∷◌, map, take, drop, flat_map, ◌==◌, if◌then◌else◌, Some, slice_get}
-use Rattle.std.specs.List.{range_with_len}
+use Rattle.std.specs.Prelude.{◌≡◌, ℕ, ◌+◌, List, [], ◌∷◌, map, take, drop, ◌==◌, if◌then◌else◌}
 use Rattle.nc_base.specs.declared.header.Header.{Header}
 use Rattle.nc_base.specs.declared.header.Var.{Var}
 use Rattle.nc_base.specs.declared.plan.Extent.{Extent}
@@ -34,9 +31,6 @@ extents_of header var g = joined (element_extents header var g)
 
 -- ---- their bytes
 
-abbrev pub spans : List Extent → List ℕ
-spans es = flat_map (λ e. range_with_len e.at e.len) es
-
 abbrev pub cut_by : List Extent → List ℕ → List Cell
 cut_by [] bytes = []
 cut_by (e ∷ es) bytes = (e.at, take e.len bytes) ∷ cut_by es (drop e.len bytes)
@@ -50,6 +44,3 @@ IsNotNext e (d ∷ es) = e.at + e.len ≡ d.at → ⊥
 abbrev pub IsJoined : List Extent → Type 0
 IsJoined [] = Unit {0}
 IsJoined (e ∷ es) = IsNotNext e es × IsJoined es
-
-abbrev pub IsOnce : List ℕ → Type 0
-IsOnce bytes = (k l x : ℕ) → slice_get bytes k ≡ Some x → slice_get bytes l ≡ Some x → k ≡ l

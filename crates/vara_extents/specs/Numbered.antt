@@ -1,15 +1,14 @@
 -- The elements of a region by their numbers in row-major order. (own)
 --     coordinates_of counts k        the coordinates with number k of those below these counts
 --     index_of g k                   the index of element k of a region
---     lengths_of header ids          the lengths of dimensions
 --     row_of header ids .. k         how many indices of the dimensions stand before that of element k
 --     AreRuns place size run total   elements that follow one another in runs
 --     HaveRows place run row total   runs that stand in rows
 --     weighted weights coordinates   the sum of the coordinates by their weights
-use Rattle.std.specs.Prelude.{◌≡◌, ℕ, ◌+◌, ◌*◌, ◌/◌, ◌%◌, ◌<◌, ◌≤◌, ◌⊎◌, List, [], ◌∷◌, map, slice_get}
+use Rattle.std.specs.Prelude.{◌≡◌, ℕ, ◌+◌, ◌*◌, ◌/◌, ◌%◌, ◌<◌, ◌≤◌, ◌⊎◌, List, [], ◌∷◌}
 use Rattle.nc_base.specs.declared.header.Header.{Header}
 use Rattle.nc_base.specs.declared.request.Region.{Region}
-use Rattle.serial_spec.specs.Layout.{length_of, product}
+use Rattle.serial_spec.specs.Layout.{lengths_of, product}
 use Rattle.serial_spec.specs.Place.{row}
 use Rattle.serial_spec.specs.Request.{index_at}
 
@@ -19,9 +18,6 @@ coordinates_of (n ∷ counts) k = k / product counts ∷ coordinates_of counts (
 
 abbrev pub index_of : Region → ℕ → List ℕ
 index_of g k = index_at g.start g.stride (coordinates_of g.count k)
-
-abbrev pub lengths_of : Header → List ℕ → List ℕ
-lengths_of header ids = map (λ id. length_of (slice_get header.dims id)) ids
 
 abbrev pub row_of : Header → List ℕ → List ℕ → List ℕ → List ℕ → ℕ → ℕ
 row_of header ids starts counts strides k = row (lengths_of header ids) (index_at starts strides (coordinates_of counts k))

@@ -10,8 +10,6 @@ use Rattle.nc_base.specs.declared.request.Region.{Region}
 use Rattle.nc_base.specs.declared.request.Direction.{Direction}
 use Rattle.nc_base.specs.declared.answer.Code.{Code}
 use Rattle.nc_base.specs.declared.answer.Code.TheVariants as code
-use Rattle.nc_base.specs.declared.answer.CallErr.{CallErr}
-use Rattle.nc_base.specs.declared.answer.CallErr.TheVariants as refusal
 use Rattle.serial_spec.specs.Limits.{most_elements}
 use Rattle.serial_spec.specs.RegionCheck.{check_parts, check_var, elements_of_all, first_refusal, is_ok_code, is_put, part_regions}
 use Rattle.vara_extents.specs.Boxes.{some_meet}
@@ -39,8 +37,3 @@ unfoldable pub code_by_boxes : Header → Var → List Region → ℕ → Direct
 code_by_boxes header var parts known direction =
     if is_ok_code (refusal_of header var parts known direction) then together_code parts direction
     else refusal_of header var parts known direction
-
--- a call is refused by its code, or by want of memory
-abbrev pub IsRefusal : Code → CallErr → Type 0
-IsRefusal c (refusal.Code d) = (d ≡ c) × (d ≡ code.Ok → ⊥)
-IsRefusal c refusal.Memory = Unit {0}

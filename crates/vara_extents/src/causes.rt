@@ -7,7 +7,7 @@ ghost use Rattle.serial_spec.specs.RegionCheck as spec;
 ghost use Rattle.var_layout.specs.Measures.{AreMeasures};
 ghost use Rattle.vara_extents.specs.Bounds.{bounds_of};
 
-use crate::needs::{is_too_large, variable};
+use crate::needs::{asks_too_much, variable};
 use nc_base::{Code, Direction, Header, Region, Var};
 use var_layout::{Measures, length_of};
 
@@ -64,7 +64,7 @@ pub(crate) fn check_var(
     if some_edge(header, ends, ids, starts, counts, region.stride.as_slice()) {
         return Err(Code::EEdge);
     }
-    if is_too_large(header, measures, var, region) {
+    if asks_too_much(header, measures, var, region) {
         return Err(Code::ETooLarge);
     }
     Ok(())

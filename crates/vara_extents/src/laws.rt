@@ -14,7 +14,8 @@ ghost use Rattle.serial_spec.specs.Request.{places, put};
 ghost use Rattle.serial_spec.specs.Said.{write_cells};
 ghost use Rattle.serial_spec.specs.SharedByte.{bytes_of};
 ghost use Rattle.vara_extents.specs.Accepted.{IsAccepted};
-ghost use Rattle.vara_extents.specs.Joined.{extents_of, spans, cut_by, IsJoined, IsOnce};
+ghost use Rattle.vara_extents.specs.Joined.{extents_of, cut_by, IsJoined};
+ghost use Rattle.serial_spec.specs.Extents.{spans, IsOnce};
 
 /// The bytes of a region's extents, in order, are those of its elements in row-major order. No extent is empty, and none
 /// begins where the one before it ends. No byte of an accepted region, or of a post of one, stands twice, and its extents end

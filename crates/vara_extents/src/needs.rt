@@ -50,10 +50,10 @@ fn records(header: &Header, var: &Var, region: &Region) -> u64
 }
 
 /// Whether a region has too many elements, reaches too far in memory, or needs too many records or too long a file.
-pub(crate) fn is_too_large(header: &Header, measures: &Measures, var: &Var, region: &Region) -> bool
+pub(crate) fn asks_too_much(header: &Header, measures: &Measures, var: &Var, region: &Region) -> bool
     requires measured { AreMeasures header.now measures.now }
     requires shape { spec.other_shape (length var.now.dims) region.now ≡ false }
-    ensures { result ≡ spec.is_too_large header.now var.now region.now }
+    ensures { result ≡ spec.asks_too_much header.now var.now region.now }
 {
     let elements = element_count(region.count.as_slice());
     if elements > MAX_ELEMENTS {

@@ -6,7 +6,8 @@ ghost use Rattle.serial_spec.specs.Limits.{most_elements};
 ghost use Rattle.serial_spec.specs.RegionCheck as spec;
 ghost use Rattle.var_layout.specs.Capped.{capped};
 ghost use Rattle.var_layout.specs.Measures.{AreMeasures};
-ghost use Rattle.vara_extents.specs.Parts.{code_by_boxes, parts_code, together_code, without_variable, IsRefusal};
+ghost use Rattle.vara_extents.specs.Parts.{code_by_boxes, parts_code, together_code, without_variable};
+ghost use Rattle.serial_spec.specs.Refusal.{IsRefusal};
 
 use crate::boxes::some_meet;
 use crate::causes::{Ends, check_var};

@@ -2,11 +2,11 @@
 ghost use Rattle.std.specs.Prelude.{◌≡◌, ℕ, ◌+◌, ◌*◌, ◌<◌, ◌≤◌, ◌^◌, List, length, true, false};
 ghost use Rattle.serial_spec.specs.ExternalForm as external;
 ghost use Rattle.serial_spec.specs.Layout as layout;
-ghost use Rattle.serial_spec.specs.Layout.{product};
+ghost use Rattle.serial_spec.specs.Layout.{product, lengths_of};
 ghost use Rattle.serial_spec.specs.Place as spec;
 ghost use Rattle.serial_spec.specs.Place.{IsIndex, IsElement};
 ghost use Rattle.serial_spec.specs.Request.{index_at};
-ghost use Rattle.vara_extents.specs.Numbered.{coordinates_of, index_of, lengths_of, row_of, weighted, AreRuns, HaveRows};
+ghost use Rattle.vara_extents.specs.Numbered.{coordinates_of, index_of, row_of, weighted, AreRuns, HaveRows};
 
 use nc_base::{Header, Region, Var};
 use type_external::{element_count, size_of};

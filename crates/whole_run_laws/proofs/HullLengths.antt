@@ -19,11 +19,11 @@ use Rattle.nc_base.specs.declared.step.DiskCall.TheVariants.{Grow, Load, Store}
 use Rattle.nc_base.specs.declared.step.Mark.{Mark}
 use Rattle.nc_base.specs.declared.step.Mark.TheVariants.{Meet, Solo}
 use Rattle.nc_base.specs.declared.step.Offer.{Offer}
-use Rattle.serial_spec.specs.DeviceCalls.{calls_from, collective_windows, domain_size, domains, first_of, get_bytes, gets_of, grow_to, hull_len, in_order, is_empty, last_of, loads, mark_calls, meeting_calls, not_empty, overlays, put_calls, run_calls, sieved, sieving_windows, solo_calls, store_records, windows}
+use Rattle.serial_spec.specs.DeviceCalls.{calls_from, collective_windows, domain_size, domains, first_of, get_bytes, gets_of, grow_to, hull_len, in_order, last_of, loads, mark_calls, meeting_calls, not_empty, overlays, put_calls, run_calls, sieved, sieving_windows, solo_calls, store_records, windows}
 use Rattle.serial_spec.specs.FileStep.{Counted, Setting, end_for, meeting, puts_of, told}
 use Rattle.serial_spec.specs.HeaderBytes.{count_width}
 use Rattle.serial_spec.specs.Lawful.{is_lawful}
-use Rattle.serial_spec.specs.Lists.{In}
+use Rattle.serial_spec.specs.Lists.{In, is_empty}
 use Rattle.serial_spec.specs.Records.{needed_by}
 use Rattle.serial_spec.specs.SerialEnd.{Going, advance, after_mark, closed, first_state, offers_of, rank_offer, setting_of}
 use Rattle.serial_spec.specs.SharedByte.{Puts, bytes_of, covered}
@@ -46,7 +46,7 @@ pub collective_short : (hints : Hints) (bytes w : List ℕ) → 1 ≤ hints.cb_b
 collective_short hints bytes w l h =
     let all = domains hints.cb_nodes hints.striping_unit (in_order bytes) in
     let d = flat_in (λ d. windows hints.cb_buffer d) (not_empty all) w h in
-    let kept = filter_in (λ w. not (is_empty w)) all d.0 d.1 in
+    let kept = filter_in (λ (w : List ℕ). not (is_empty w)) all d.0 d.1 in
     window_short hints.cb_buffer d.0 w l (domain_ascends hints.cb_nodes hints.striping_unit (in_order bytes) d.0 (in_order_ascends bytes) kept.0) d.2
 
 front_short : (x buffer : ℕ) (rest : List ℕ) (t : Bool) → 1 ≤ buffer → nat_lt x (x + buffer) ≡ t

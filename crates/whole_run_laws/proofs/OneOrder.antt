@@ -17,10 +17,10 @@ use Rattle.nc_base.specs.declared.script.Script.{Script}
 use Rattle.nc_base.specs.declared.step.Mark.{Mark}
 use Rattle.nc_base.specs.declared.step.Mark.TheVariants.{Meet, Solo}
 use Rattle.nc_base.specs.declared.step.MeetKind.{MeetKind}
-use Rattle.serial_spec.specs.History.{concerns, is_collective, is_data, is_of_rank_below, IsLegal, kind_of_call, kinds, marks, marks_from, mode_after}
+use Rattle.serial_spec.specs.History.{concerns, is_collective, is_data, is_of_rank_below, IsLegal, kind_of_call, kinds, marks, marks_from, mode_after, is_meeting}
 use Rattle.serial_spec.specs.Lawful.{is_lawful}
 use Rattle.serial_spec.specs.SerialEnd.{serial_from}
-use Rattle.run_laws.specs.Ways.{is_meeting, kinds_of}
+use Rattle.run_laws.specs.Ways.{kinds_of}
 use Rattle.run_laws.proofs.LawfulLaws.{own_lawful, ranks_lawful}
 use Rattle.run_laws.proofs.WayLaws.{kinds_skip, kinds_take, marks_alone, marks_meet, marks_solo}
 use Rattle.whole_run_laws.specs.Orders.{all_meetings, has_independent, has_solo, is_independent}

@@ -9,8 +9,8 @@ use Rattle.nc_base.specs.declared.request.Call.{Call}
 use Rattle.nc_base.specs.declared.script.Script.{Script}
 use Rattle.nc_base.specs.declared.step.Mark.{Mark}
 use Rattle.nc_base.specs.declared.step.Mark.TheVariants.{Meet}
-use Rattle.serial_spec.specs.History.{is_collective, is_data, marks}
-use Rattle.run_laws.specs.Ways.{is_meeting, kinds_of}
+use Rattle.serial_spec.specs.History.{is_collective, is_data, marks, is_meeting}
+use Rattle.run_laws.specs.Ways.{kinds_of}
 
 abbrev pub is_independent : Call → Bool
 is_independent c = is_data c && not (is_collective c)

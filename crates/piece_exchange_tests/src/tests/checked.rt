@@ -3,7 +3,8 @@ ghost use Rattle.std.specs.Prelude.{◌≡◌, ◌+◌, ◌^◌, ◌<◌, ◌≤
 ghost use Rattle.nc_base.specs.declared.plan.Owned.{Owned};
 ghost use Rattle.overlay_laws.specs.Entries.{In, HaveSame, ranges};
 ghost use Rattle.overlay_laws.specs.Lines.{extents, IsByPlace, EndBelow};
-ghost use Rattle.overlay_laws.specs.Walks.{spans, IsCover};
+ghost use Rattle.overlay_laws.specs.Walks.{IsCover};
+ghost use Rattle.serial_spec.specs.Extents.{spans};
 ghost use Rattle.piece_exchange.specs.Pieces.{ArePieces, IsPiece};
 ghost use Rattle.piece_exchange.specs.Turns.{source_of};
 ghost use Rattle.piece_exchange_tests.specs.Apart.{AreApart};

@@ -70,7 +70,7 @@ fn inner_lengths(alloc: Global, header: &Header, var: &Var) -> Result<SizeList, 
 }
 
 fn lengths_of(alloc: Global, header: &Header, ids: &[u32]) -> Result<SizeList, Memory>
-    ensures { IfOk result (λ lengths. lengths ≡ targets.lengths_of header.now ids.now) }
+    ensures { IfOk result (λ lengths. lengths ≡ layout.lengths_of header.now ids.now) }
 {
     let mut lengths = Vec::with_capacity(alloc, ids.len())?;
     for id in ids {

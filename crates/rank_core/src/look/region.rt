@@ -3,7 +3,7 @@ ghost use Rattle.std.specs.Prelude.{◌≡◌, ◌∷◌, [], nat_lt, IfOk, IfEr
 ghost use Rattle.std.specs.Option.{option_copied};
 ghost use Rattle.nc_base.specs.declared.answer.Code.TheVariants as code;
 ghost use Rattle.imap_extents.specs.Mapped.{IsMapped};
-ghost use Rattle.imap_extents.specs.Refusals.{IsRefusal};
+ghost use Rattle.serial_spec.specs.Refusal.{IsRefusal};
 ghost use Rattle.serial_spec.specs.Layout.{product};
 ghost use Rattle.serial_spec.specs.Looks as looks;
 ghost use Rattle.rank_core.specs.Looked.{ComesTo};

@@ -3,7 +3,7 @@ ghost use Rattle.std.specs.Prelude.{◌≡◌, ◌<◌, ◌^◌, ◌∷◌, [], 
 ghost use Rattle.std.specs.List.{list_all};
 ghost use Rattle.serial_spec.specs.Examples.{dim, var};
 ghost use Rattle.serial_spec.specs.Lawful.{is_lawful_extra, is_whole_extra};
-ghost use Rattle.serial_spec.specs.Redefinition.{is_redefinable};
+ghost use Rattle.serial_spec.specs.SoundHeaders.{is_redefinable};
 
 use super::{NO_MEMORY, dimension, one, two, variable};
 use nc_base::{AttrList, DimList, Extra, Header, NcType, RedefErr};

@@ -4,7 +4,7 @@ use Rattle.list_laws.proofs.Optional.{no_none_some}
 use Rattle.nc_base.specs.declared.plan.Extent.{Extent}
 use Rattle.std.specs.Prelude.{filter, nat_lt, nat_le}
 use Rattle.std.proofs.lemmas.Option.{same_Some}
-use Rattle.overlay_laws.specs.Walks.{spans}
+use Rattle.serial_spec.specs.Extents.{spans}
 use Rattle.file_domains.specs.Rounds.{round_windows}
 use Rattle.file_domains.proofs.CoverParts.{cover_rises, front_low, front_high}
 use Rattle.file_domains.proofs.WalkSteps.{begin_windows, told_windows, left_from}

@@ -1,5 +1,5 @@
 use Rattle.std.proofs.Common.{◌≡◌, take}
-use Rattle.rank_core.specs.Targets.{lengths_of}
+use Rattle.serial_spec.specs.Layout.{lengths_of}
 use Rattle.rank_core.proofs.look.filling.lengths_of.Given as goal
 
 abbrev pub invariant-loop-id : goal.invariant-loop-id
