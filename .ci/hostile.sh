@@ -1,12 +1,6 @@
 # Headers with the greatest counts, read by the real program in 32 MiB: nothing is allocated by a number before what it counts was read.
 # The places of the fields are those of the netCDF classic format.
 
-# bytes_from HEX: the bytes of a number in base 16 in which blanks may stand
-bytes_from() {
-    local digits=${1//[[:space:]]/}
-    printf '%b' "$(printf '%s' "$digits" | sed 's/../\\x&/g')"
-}
-
 # little NAME DATASET STATUS TEXT: what a list of the dataset's offsets answers in little memory
 little() {
     given=$(ulimit -v 32768 && "$program" --offsets "$2" < /dev/null)

@@ -11,6 +11,12 @@ data_of() {
     tail -c "+$(($2 + 1))" "$1" | od -An -v -tx1 | tr -d ' \n'
 }
 
+# bytes_from HEX: the bytes of a number in base 16 in which blanks may stand
+bytes_from() {
+    local digits=${1//[[:space:]]/}
+    printf '%b' "$(printf '%s' "$digits" | sed 's/../\\x&/g')"
+}
+
 # run NAME FILE FROM SCRIPT ANSWERS DATA: runs the script on the file; its answers, and the file's bytes from a place on
 run() {
     given=$(printf '%s\n' "$4" | "$program" "$2")
@@ -502,6 +508,47 @@ rank 0
 0 get_var_all ok 0 0 0 7
 1 get_var_all ok 0 0 0 0
 pending 0' 0000000000000000000000000000000000000000000000000007000000000000
+
+# A file that no tool writes: its dimensions are x of length 4, x unlimited, and y of length 3; its variable is v(x). The x of a
+# new variable is the first one. The new header has 144 bytes: v moves there, and q of the dimensions 2 and 0 stands behind it.
+dims='00000001 78000000 00000004 00000001 78000000 00000000 00000001 79000000 00000003'
+bytes_from "43444601 00000000 0000000a 00000003 $dims 00000000 00000000
+    0000000b 00000001 00000001 76000000 00000001 00000000 00000000 00000000 00000004 00000010 00000068
+    00000001 00000002 00000003 00000004" > twins
+wanted="43444601 00000000 0000000a 00000003 $dims 00000000 00000000 0000000b 00000002
+    00000001 76000000 00000001 00000000 00000000 00000000 00000004 00000010 00000090
+    00000001 71000000 00000002 00000002 00000000 00000000 00000000 00000004 00000030 000000a0
+    00000001 00000002 00000003 00000004
+    00000000 00000000 00000000 00000000 00000000 00000000 00000000 00000000 00000000 00000000 00000000 00000000"
+run 'of two dimensions of one name the first is meant' twins 0 'open
+ranks 1
+var int q [y,x]
+data
+0 get_var_all q
+end' 'ranks 1
+order m0
+rank 0
+0 get_var_all ok 0 0 0 0 0 0 0 0 0 0 0 0
+pending 0' "${wanted//[[:space:]]/}"
+same 'its offsets' '// file format: CDF-1
+file header:
+  size = 144 bytes
+  extent = 144 bytes
+dimensions:
+  x = 4
+  x = UNLIMITED // (0 currently)
+  y = 3
+fixed-size variables:
+  int v(x):
+    start file offset = 144
+    end file offset = 160
+    size in bytes = 16
+  int q(y, x):
+    start file offset = 160
+    end file offset = 208
+    size in bytes = 48
+record variables:' "$("$program" --offsets twins < /dev/null)"
+rm -f twins
 
 given=$(printf 'open\nranks 1\ndim x 9\ndata\nend\n' | "$program" taken.nc)
 same 'a name that is taken: status' 4 $?

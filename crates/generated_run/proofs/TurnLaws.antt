@@ -98,30 +98,30 @@ temp_parts : (seed t y first n : ℕ) → first ≡ (seed + 64800 * t + 360 * y)
 unfolding temps temp_row
 temp_parts seed t y first n e m =
     let s : ℕ = seed + 64800 * t + 360 * y in
-    row_in_parts (temp_at seed t y) (λ j. 1065353216 + j) first n (omega arith)
-    (λ k low. ap (λ (j : ℕ). 1065353216 + j) (temp_here s k first n e m low))
-    (λ k low. ap (λ (j : ℕ). 1065353216 + j) (temp_behind s k first n e m low))
+    row_in_parts (temp_at seed t y) (λ j. 0x3F800000 + j) first n (omega arith)
+    (λ k low. ap (λ (j : ℕ). 0x3F800000 + j) (temp_here s k first n e m low))
+    (λ k low. ap (λ (j : ℕ). 0x3F800000 + j) (temp_behind s k first n e m low))
 
 pub temp_row_pushed : (front now : List ℕ) (seed t y first n : ℕ) → first ≡ (seed + 64800 * t + 360 * y) % 2 ^ 23 → n ≡ min 360 (2 ^ 23 - first)
     → now ≡ front ++ temps first n → now ++ temps 0 (360 - n) ≡ front ++ temp_row seed t y
 temp_row_pushed front now seed t y first n e least one = two_parts front now (temps first n) (temps 0 (360 - n)) (temp_row seed t y) one (temp_parts seed t y first n e least)
 
-temp_of_run : (first k : ℕ) → first + k < 2 ^ 23 → (1065353216 + first + 1 * k) % 2 ^ 64 ≡ 1065353216 + (first + k)
+temp_of_run : (first k : ℕ) → first + k < 2 ^ 23 → (0x3F800000 + first + 1 * k) % 2 ^ 64 ≡ 0x3F800000 + (first + k)
 temp_of_run first k low = omega arith
 
-temps_of_run : (first n : ℕ) → first + n ≤ 2 ^ 23 → bits_of_run (record { first = 1065353216 + first; step = 1; count = n }) ≡ temps first n
+temps_of_run : (first n : ℕ) → first + n ≤ 2 ^ 23 → bits_of_run (record { first = 0x3F800000 + first; step = 1; count = n }) ≡ temps first n
 unfolding temps
 temps_of_run first n within =
-    maps_agree (λ k. (1065353216 + first + 1 * k) % 2 ^ 64) (λ k. 1065353216 + (first + k)) 0 0 n (λ k low. temp_of_run first (0 + k) (omega arith))
+    maps_agree (λ k. (0x3F800000 + first + 1 * k) % 2 ^ 64) (λ k. 0x3F800000 + (first + k)) 0 0 n (λ k low. temp_of_run first (0 + k) (omega arith))
 
 pub no_temps : (now : List ℕ) (first n : ℕ) → n ≡ 0 → now ≡ now ++ temps first n
 unfolding temps
 no_temps now first n none = sym (append-nil now) ∙ ap (λ (k : ℕ). now ++ temps first k) (sym none)
 
-pub temps_pushed : (old new : List BitRun) (from first n : ℕ) → first + n ≤ 2 ^ 23 → from ≡ 1065353216 + first → new ≡ old ++ record { first = from; step = 1; count = n } ∷ []
+pub temps_pushed : (old new : List BitRun) (from first n : ℕ) → first + n ≤ 2 ^ 23 → from ≡ 0x3F800000 + first → new ≡ old ++ record { first = from; step = 1; count = n } ∷ []
     → bits_of_runs new ≡ bits_of_runs old ++ temps first n
 temps_pushed old new from first n within here pushed =
     let run : ℕ → BitRun = λ x. record { first = x; step = 1; count = n } in
     ap (λ (rs : List BitRun). bits_of_runs rs) (pushed ∙ ap (λ (x : ℕ). old ++ run x ∷ []) here)
-    ∙ flat_map-append bits_of_run old (run (1065353216 + first) ∷ [])
-    ∙ ap (λ (ns : List ℕ). bits_of_runs old ++ ns) (append-nil (bits_of_run (run (1065353216 + first))) ∙ temps_of_run first n within)
+    ∙ flat_map-append bits_of_run old (run (0x3F800000 + first) ∷ [])
+    ∙ ap (λ (ns : List ℕ). bits_of_runs old ++ ns) (append-nil (bits_of_run (run (0x3F800000 + first))) ∙ temps_of_run first n within)

@@ -11,7 +11,7 @@ use Rattle.nc_base.specs.declared.request.Call.{Call}
 use Rattle.script_spec.specs.Generator.{band, block, made_calls, of_band, precip_at, record_calls, temp_at}
 
 unfoldable pub temps : ℕ → ℕ → List ℕ
-temps first n = map (λ k. 1065353216 + (first + k)) (range_with_len 0 n)
+temps first n = map (λ k. 0x3F800000 + (first + k)) (range_with_len 0 n)
 
 unfoldable pub depths : ℕ → ℕ → List ℤ
 depths first n = map (λ k. pos (first + k) -ℤ pos 10000) (range_with_len 0 n)

@@ -1,10 +1,10 @@
 -- Parts of the text that tells where variables lie. (own)
-use Rattle.std.specs.Prelude.{ℕ, List, ◌∷◌, ◌++◌, Bool, true, false, not, ◌==◌, if◌then◌else◌, codes, decimal}
+use Rattle.std.specs.Prelude.{ℕ, List, ◌∷◌, ◌++◌, map, Bool, true, false, not, ◌==◌, if◌then◌else◌, codes, decimal}
 use Rattle.nc_base.specs.declared.header.Header.{Header}
 use Rattle.nc_base.specs.declared.header.Var.{Var}
 use Rattle.serial_spec.specs.HeaderBytes.{header_len}
 use Rattle.serial_spec.specs.Layout.{is_record}
-use Rattle.script_spec.specs.Texts.{dim_names, extent_of, in_brackets, text_line, type_word}
+use Rattle.script_spec.specs.Texts.{dim_name, extent_of, in_brackets, text_line, type_word}
 
 -- the version, and what the header takes
 abbrev pub head_lines : Header → List ℕ
@@ -23,7 +23,7 @@ length_words records len =
 
 -- the first line of a variable
 abbrev pub title_line : Header → Var → List ℕ
-title_line header v = text_line (codes "  " ++ type_word v.kind ++ 32 ∷ v.name ++ in_brackets (dim_names header v) ++ codes ":")
+title_line header v = text_line (codes "  " ++ type_word v.kind ++ 32 ∷ v.name ++ in_brackets (map (dim_name header) v.dims) ++ codes ":")  -- a space
 
 -- whether a variable is one of records, or a fixed one
 abbrev pub is_listed : Bool → Header → Var → Bool

@@ -1,6 +1,6 @@
 // The names of a variable's dimensions.
 ghost use Rattle.std.specs.Prelude.{◌≡◌, ◌++◌, OnOk, flat_map, map};
-ghost use Rattle.script_spec.specs.Shown.{dim_name};
+ghost use Rattle.script_spec.specs.Texts.{dim_name};
 
 use crate::words::push_bytes;
 use nc_base::{Header, Memory};

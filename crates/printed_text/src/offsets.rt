@@ -2,8 +2,7 @@
 ghost use Rattle.std.specs.Prelude.{◌≡◌, ◌+◌, ◌<◌, ◌^◌, ◌++◌, ◌∷◌, IfOk, OnOk, codes, decimal, filter, flat_map, map, true};
 ghost use Rattle.serial_spec.specs.SoundHeaders.{is_sound};
 ghost use Rattle.serial_spec.specs.Layout.{slab};
-ghost use Rattle.script_spec.specs.Shown.{dim_name};
-ghost use Rattle.script_spec.specs.Texts.{dim_line, extent_of, in_brackets, offsets_text, text_line, var_lines};
+ghost use Rattle.script_spec.specs.Texts.{dim_length_line, dim_name, extent_of, in_brackets, offsets_text, text_line, var_lines};
 ghost use Rattle.printed_text.specs.Offsets.{head_lines, is_listed, length_words, title_line};
 
 use crate::dimensions::push_dim_names;
@@ -75,7 +74,7 @@ fn extent(len: u64, vars: &[Var]) -> u64
 }
 
 fn push_dims(out: &mut Vec<u8>, records: u64, dims: &[Dim]) -> Result<(), Memory>
-    ensures { OnOk result (out.new.items ≡ out.old.items ++ flat_map (dim_line records) dims.now) }
+    ensures { OnOk result (out.new.items ≡ out.old.items ++ flat_map (dim_length_line records) dims.now) }
 {
     for dim in dims {
         push_dim(out, records, dim)?;
@@ -84,7 +83,7 @@ fn push_dims(out: &mut Vec<u8>, records: u64, dims: &[Dim]) -> Result<(), Memory
 }
 
 fn push_dim(out: &mut Vec<u8>, records: u64, dim: &Dim) -> Result<(), Memory>
-    ensures { OnOk result (out.new.items ≡ out.old.items ++ dim_line records dim.now) }
+    ensures { OnOk result (out.new.items ≡ out.old.items ++ dim_length_line records dim.now) }
 {
     push_bytes(out, b"  ")?;
     push_bytes(out, dim.name.as_slice())?;

@@ -12,7 +12,7 @@ use Rattle.serial_spec.specs.Lawful.{most_values, attr_values, extra_values}
 use Rattle.script_spec.specs.ScriptWords.{Word}
 use Rattle.script_spec.specs.ScriptSteps.{◌>>=◌, refuse_if, reads_as, ended}
 use Rattle.script_spec.specs.HintTable.{HintForm, Within, Either, hint_form, hint_in, hint_of_text}
-use Rattle.script_spec.specs.ScriptDefinitions.{hint_value, hint_line, ranks_line, number_within, one_of_two, is_unlimited, dim_line, var_line, owner_of_text, owner_place, attribute, Defined, no_definition, with_dim, with_var, with_attr, with_title, att_line, dim_definition, var_definition, fill_line, definition, nothing_added, Known, nothing_known, addition, known_after}
+use Rattle.script_spec.specs.ScriptDefinitions.{hint_value, hint_line, ranks_line, number_within, one_of_two, is_unlimited, dim_line, var_line, owner_of_text, owner_place, attribute, Defined, no_definition, with_dim, with_var, with_attr_of_owner, with_title, att_line, dim_definition, var_definition, fill_line, definition, nothing_added, Known, nothing_known, addition, known_after}
 use Rattle.script_laws.proofs.ListLaws.{sum_more}
 use Rattle.script_laws.proofs.StepLaws.{first_then, then_with, by_test, read_as}
 use Rattle.script_laws.proofs.WordLaws.{InRange, within_read, one_of_two_read}
@@ -71,7 +71,7 @@ var_fits version lines d x f new =
     }
 
 attr_fits : (version lines : ℕ) (d : Defined) (k : Option ℕ) (a : Attr) (owner : List ℕ) → FitsDefined version lines d → FitsAttr version a
-    → FitsDefined version (suc lines) (with_title owner a.name (with_attr k a d))
+    → FitsDefined version (suc lines) (with_title owner a.name (with_attr_of_owner k a d))
 attr_fits version lines d None a owner f fits =
     let more = later_defined version lines (suc lines) (omega arith) d f in
     record {
@@ -106,7 +106,7 @@ defined_values d = attr_values d.attrs + sum (map (λ (v : Var). attr_values v.a
 var_values : (d : Defined) (x : Var) → attr_values x.attrs ≡ 0 → defined_values (with_var x d) ≤ defined_values d
 var_values d x none = omega (arith, sum_more (λ (v : Var). attr_values v.attrs) d.vars x)
 
-more_values : (d : Defined) (k : Option ℕ) (a : Attr) (owner : List ℕ) → defined_values (with_title owner a.name (with_attr k a d)) ≤ defined_values d + a.count
+more_values : (d : Defined) (k : Option ℕ) (a : Attr) (owner : List ℕ) → defined_values (with_title owner a.name (with_attr_of_owner k a d)) ≤ defined_values d + a.count
 more_values d None a owner = omega (arith, sum_more (λ (b : Attr). b.count) d.attrs a)
 more_values d (Some k) a owner = omega (arith, values_placed k a d.vars)
 

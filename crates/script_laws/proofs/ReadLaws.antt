@@ -12,7 +12,7 @@ use Rattle.nc_base.specs.declared.request.Call.{Call}
 use Rattle.nc_base.specs.declared.script.Script.{Script}
 use Rattle.serial_spec.specs.HeaderBytes.{is_version}
 use Rattle.serial_spec.specs.Lawful.{agree}
-use Rattle.script_spec.specs.ScriptWords.{Word, Line, text_lines, significant, significant_of, line_of, words, is_comment, is_word, size_of_text}
+use Rattle.script_spec.specs.ScriptWords.{Word, Plain, Quoted, Broken, Line, text_lines, significant, significant_of, line_of, words, is_comment, size_of_text}
 use Rattle.script_spec.specs.ScriptSteps.{◌>>=◌, or_fault, bare, reads_as, ended, whole}
 use Rattle.script_spec.specs.ScriptDefinitions.{Known, nothing_known, known_after}
 use Rattle.script_spec.specs.ScriptGrammar.{at_line, version_of_text, version_line, head, data_line, definition_step, definitions, data_part, finish, script_of, no_calls, script_of_lines, most_bytes, most_lines, newlines, is_mismatch, too_many_lines, within_lines, script_of_utf8, script_of_text, Reads}
@@ -36,9 +36,11 @@ version_read w n h = by_size (size_of_text w) h
     by_size (Some m) e = let k = cond_some (is_version m) m n e in subst (λ (x : ℕ). is_version x ≡ true) k.1 k.0
 
 head_read : (w : Word) (ws : List Word) → IfOk (head w ws) IsHead
-head_read w ws =
-    by_test (is_word (codes "create") w) (version_line ws) _ IsHead (λ _. of_version) (λ _.
-    by_test (is_word (codes "open") w) (whole (0, ws)) (Err kind.NoHead) IsHead (λ _. whole_line 0 ws IsHead (λ e. absurd (cc))) (λ _. tt))
+head_read Broken ws = tt
+head_read (Quoted text) ws = tt
+head_read (Plain w) ws =
+    by_test (bytes_eq w (codes "create")) (version_line ws) _ IsHead (λ _. of_version) (λ _.
+    by_test (bytes_eq w (codes "open")) (whole (0, ws)) (Err kind.NoHead) IsHead (λ _. whole_line 0 ws IsHead (λ e. absurd (cc))) (λ _. tt))
   where
     of_version : IfOk (version_line ws) IsHead
     of_version = then_with (reads_as version_of_text kind.BadNumber ws) _ _ (λ r. is_version r.0 ≡ true)

@@ -1,6 +1,7 @@
 -- The lines of a script before `data`: hints, ranks, dimensions, variables and attributes of a new dataset, and what is
 -- added to one that is opened. (own)
---     dim_line .. att_line      what the words of a line say, or the first fault among them from the left
+--     hint_line .. fill_line    what the words of a line say, or the first fault among them from the left
+--     definition, addition      what is defined, or added to an opened dataset, after a line
 --     known_after               what is known after a line
 use Rattle.std.specs.Prelude.{bytes_eq, ℕ, ◌+◌, ◌%◌, List, [], ◌∷◌, ◌++◌, map, find, position, drop, length, flat_map, Bool, true, false, not, ◌&&◌, nat_lt, nat_le, ◌==◌, if◌then◌else◌, Option, Some, None, Result, Ok, Err, is_some, slice_get, slice_set, codes}
 use Rattle.std.specs.List.{list_any, list_all}
@@ -24,14 +25,16 @@ use Rattle.nc_base.specs.Values.{count_of}
 use Rattle.script_spec.specs.Texts.{type_word}
 use Rattle.script_spec.specs.HintTable.{HintForm, Within, Either, hint_of_text, hint_form, hint_in, none_given}
 use Rattle.script_spec.specs.ScriptWords.{Word, below, size_of_text, is_name, between_brackets, parts, all_some}
-use Rattle.script_spec.specs.ScriptSteps.{◌>>=◌, refuse_if, or_fault, reads_as, name_of_text, name, ended, whole}
+use Rattle.script_spec.specs.ScriptSteps.{◌>>=◌, refuse_if, or_fault, Readers, refused, by_word, reads_as, name_of_text, name, ended, whole}
 use Rattle.script_spec.specs.ScriptValues.{values}
 
 -- ---- hints
 
+-- a multiple of unit from low to high
 abbrev pub number_within : ℕ → ℕ → ℕ → List ℕ → Option ℕ
 number_within low high unit w = elim (size_of_text w) [ None ↦ None | Some n ↦ if nat_le low n && nat_le n high && n % unit == 0 then Some n else None ]
 
+-- 0 or 1, by its word
 abbrev pub one_of_two : List ℕ → List ℕ → List ℕ → Option ℕ
 one_of_two zero_word one_word w = if bytes_eq w zero_word then Some 0 else (if bytes_eq w one_word then Some 1 else None)
 
@@ -39,7 +42,7 @@ abbrev pub hint_value : HintForm → List Word → Result (ℕ × List Word) Scr
 hint_value (Within low high unit) ws = reads_as (number_within low high unit) kind.BadNumber ws
 hint_value (Either zero_word one_word) ws = reads_as (one_of_two zero_word one_word) kind.UnknownWord ws
 
--- which of the table, and its value
+-- which hint of the table, and its value
 abbrev pub hint_line : List (Option ℕ) → List Word → Result (ℕ × ℕ) ScriptKind
 hint_line given ws = do
   h ← reads_as hint_of_text kind.UnknownWord ws
@@ -59,6 +62,7 @@ ranks_line ranks ws = do
 abbrev pub types : List NcType
 types = Byte ∷ Char ∷ Short ∷ Int ∷ Float ∷ Double ∷ UByte ∷ UShort ∷ UInt ∷ Int64 ∷ UInt64 ∷ []
 
+-- the type of this word, if datasets of this version have it
 abbrev pub type_of : ℕ → List ℕ → Option NcType
 type_of version w =
     elim (find (λ t. bytes_eq w (type_word t)) types) [ None ↦ None | Some t ↦ if nat_le (number_of t) (last_type version) then Some t else None ]
@@ -105,6 +109,7 @@ name_list ws = do
   _ ← refuse_if (not (list_all is_name (parts inside.0))) kind.BadName
   Ok (parts inside.0, inside.1)
 
+-- the place of each name
 abbrev pub dim_ids : List Dim → List (List ℕ) → Option (List ℕ)
 dim_ids dims names = all_some (map (λ n. position (bytes_eq n) (dim_names dims)) names)
 
@@ -134,6 +139,7 @@ var_line version dims vars ws = do
 abbrev pub owner_of_text : List ℕ → Option (List ℕ)
 owner_of_text w = if bytes_eq w (codes ":") then Some w else name_of_text w
 
+-- the variable's name, or none for the dataset
 abbrev pub owner_name : List ℕ → Option (List ℕ)
 owner_name w = if bytes_eq w (codes ":") then None else Some w
 
@@ -165,6 +171,7 @@ attribute_name titles owner ws = do
   _ ← refuse_if (list_any (same_title (owner, n.0)) titles) kind.TwiceNamed
   Ok n
 
+-- what follows the owner: the attribute's name, type and values
 abbrev pub attribute : ℕ → List Title → ℕ → List ℕ → List Word → Result Attr ScriptKind
 attribute version titles before owner ws = do
   n ← attribute_name titles owner ws
@@ -197,9 +204,10 @@ with_attr_at k a vars = elim (slice_get vars k) [ None ↦ vars | Some v ↦ sli
 abbrev pub with_title : List ℕ → List ℕ → Defined → Defined
 with_title owner n d = record d { titles = d.titles ++ (owner, n) ∷ [] }
 
-abbrev pub with_attr : Option ℕ → Attr → Defined → Defined
-with_attr None a d = record d { attrs = d.attrs ++ a ∷ [] }
-with_attr (Some k) a d = record d { vars = with_attr_at k a d.vars }
+-- the dataset has the attribute, or the variable at place k
+abbrev pub with_attr_of_owner : Option ℕ → Attr → Defined → Defined
+with_attr_of_owner None a d = record d { attrs = d.attrs ++ a ∷ [] }
+with_attr_of_owner (Some k) a d = record d { vars = with_attr_at k a d.vars }
 
 -- how many values the line has, and what is defined then
 abbrev pub att_line : ℕ → ℕ → Defined → List Word → Result (ℕ × Defined) ScriptKind
@@ -207,8 +215,9 @@ att_line version before d ws = do
   o ← reads_as owner_of_text kind.BadName ws
   k ← owner_place d.vars o.0
   a ← attribute version d.titles before o.0 o.1
-  Ok (a.count, with_title o.0 a.name (with_attr k a d))
+  Ok (a.count, with_title o.0 a.name (with_attr_of_owner k a d))
 
+-- the same of the other lines, which have no values
 abbrev pub dim_definition : ℕ → Defined → List Word → Result (ℕ × Defined) ScriptKind
 dim_definition version d ws = dim_line version d.dims ws >>= λ x. Ok (0, with_dim x d)
 
@@ -221,19 +230,14 @@ fill_line d ws = do
   _ ← ended ws
   Ok (0, record d { filled = true })
 
--- a line of the definitions, by its first word
+-- the lines that define a new dataset
+abbrev pub definition_readers : ℕ → ℕ → Defined → Readers (ℕ × Defined)
+definition_readers version before d =
+    (codes "dim", dim_definition version d) ∷ (codes "var", var_definition version d)
+    ∷ (codes "att", att_line version before d) ∷ (codes "fill", fill_line d) ∷ []
+
 abbrev pub definition : ℕ → ℕ → Defined → List ℕ → List Word → Result (ℕ × Defined) ScriptKind
-definition version before d first ws =
-    elim (bytes_eq first (codes "dim")) [
-      | true ↦ dim_definition version d ws
-      | false ↦ elim (bytes_eq first (codes "var")) [
-        | true ↦ var_definition version d ws
-        | false ↦ elim (bytes_eq first (codes "att")) [
-          | true ↦ att_line version before d ws
-          | false ↦ elim (bytes_eq first (codes "fill")) [ true ↦ fill_line d ws | false ↦ Err kind.UnknownWord ]
-        ]
-      ]
-    ]
+definition version before d first ws = by_word (definition_readers version before d) (refused kind.UnknownWord) first ws
 
 -- ---- the lines after `open`, which add to what the dataset has, so that names may be those of the dataset
 
@@ -258,6 +262,7 @@ added_shape dims ws = do
   _ ← refuse_if (list_any (is_added_record dims) (drop 1 names.0)) kind.BadShape
   Ok names
 
+-- how many values the line has, and what is added then
 abbrev pub dim_addition : Added → List Word → Result (ℕ × Added) ScriptKind
 dim_addition d ws = do
   x ← dim_line 5 d.dims ws
@@ -276,15 +281,12 @@ att_addition before d ws = do
   a ← attribute 5 d.titles before o.0 o.1
   Ok (a.count, record d { titles = d.titles ++ (o.0, a.name) ∷ []; extras = d.extras ++ extra.Att (owner_name o.0) a ∷ [] })
 
+-- the lines that add to an existing dataset
+abbrev pub addition_readers : ℕ → Added → Readers (ℕ × Added)
+addition_readers before d = (codes "dim", dim_addition d) ∷ (codes "var", var_addition d) ∷ (codes "att", att_addition before d) ∷ []
+
 abbrev pub addition : ℕ → Added → List ℕ → List Word → Result (ℕ × Added) ScriptKind
-addition before d first ws =
-    elim (bytes_eq first (codes "dim")) [
-      | true ↦ dim_addition d ws
-      | false ↦ elim (bytes_eq first (codes "var")) [
-        | true ↦ var_addition d ws
-        | false ↦ elim (bytes_eq first (codes "att")) [ true ↦ att_addition before d ws | false ↦ Err kind.UnknownWord ]
-      ]
-    ]
+addition before d first ws = by_word (addition_readers before d) (refused kind.UnknownWord) first ws
 
 -- ---- what is known before `data`
 
@@ -306,13 +308,12 @@ definition_or_addition version known first ws =
       | false ↦ (definition version known.values known.defined first ws >>= λ x. Ok (record known { defined = x.1; values = known.values + x.0 }))
     ]
 
+-- the lines that say something of the run, for either dataset
+abbrev pub run_readers : Known → Readers Known
+run_readers known =
+    (codes "ranks", λ ws. ranks_line known.ranks ws >>= λ n. Ok (record known { ranks = Some n }))
+    ∷ (codes "hint", λ ws. hint_line known.hints ws >>= λ h. Ok (record known { hints = slice_set known.hints h.0 (Some h.1) })) ∷ []
+
 -- what is known after a line
 abbrev pub known_after : ℕ → Known → List ℕ → List Word → Result Known ScriptKind
-known_after version known first ws =
-    elim (bytes_eq first (codes "ranks")) [
-      | true ↦ (ranks_line known.ranks ws >>= λ n. Ok (record known { ranks = Some n }))
-      | false ↦ elim (bytes_eq first (codes "hint")) [
-        | true ↦ (hint_line known.hints ws >>= λ h. Ok (record known { hints = slice_set known.hints h.0 (Some h.1) }))
-        | false ↦ definition_or_addition version known first ws
-      ]
-    ]
+known_after version known first ws = by_word (run_readers known) (definition_or_addition version known first) first ws

@@ -1,11 +1,16 @@
 -- Steps from word to word of a line of a script: each gives what it says and the words after it, or its fault. (own)
-use Rattle.std.specs.Prelude.{ℕ, List, [], ◌∷◌, Bool, if◌then◌else◌, Option, Some, None, Result, Ok, Err}
+--     reads_as f e words        the next word, by what f reads in it
+--     refuse_if, or_fault       where a line ends with a fault
+--     by_word rows .. w words   what w and the words after it say, by a table of words and what reads those after them
+--     ended, whole              nothing follows
+use Rattle.std.specs.Prelude.{bytes_eq, ℕ, List, [], ◌∷◌, Bool, true, false, if◌then◌else◌, Option, Some, None, Result, Ok, Err}
 use Rattle.nc_base.specs.declared.errors.ScriptKind.{ScriptKind}
 use Rattle.nc_base.specs.declared.errors.ScriptKind.TheVariants as kind
 use Rattle.script_spec.specs.ScriptWords.{Word, Plain, Quoted, Broken, size_of_text, is_name, list_of_text}
 
 -- ---- steps from word to word: each gives what it says and the words after it, or its fault
 
+-- one step and the next, or the first fault
 infixl 10 ◌>>=◌
 abbrev pub ◌>>=◌ : {A B E : Type 0} → Result A E → (A → Result B E) → Result B E
 (Ok x) >>= f = f x
@@ -25,6 +30,7 @@ bare (Plain w) = Ok w
 bare (Quoted text) = Ok (34 ∷ [])
 bare Broken = Err kind.BadText
 
+-- the next word and those after it
 abbrev pub next : List Word → Result (List ℕ × List Word) ScriptKind
 next [] = Err kind.MissingWord
 next (w ∷ ws) = bare w >>= λ x. Ok (x, ws)
@@ -47,6 +53,19 @@ name_of_text w = if is_name w then Some w else None
 
 abbrev pub name : List Word → Result (List ℕ × List Word) ScriptKind
 name ws = reads_as name_of_text kind.BadName ws
+
+-- a table of rows, each a word and what reads the words after it
+abbrev pub Readers : Type 0 → Type 0
+Readers A = List (List ℕ × (List Word → Result A ScriptKind))
+
+-- the word w and the words after it, as the row of w reads them, or as `otherwise` does where there is none
+abbrev pub by_word : {A : Type 0} → Readers A → (List Word → Result A ScriptKind) → List ℕ → List Word → Result A ScriptKind
+by_word [] otherwise w ws = otherwise ws
+by_word ((word, read) ∷ rows) otherwise w ws = elim (bytes_eq w word) [ true ↦ read ws | false ↦ by_word rows otherwise w ws ]
+
+-- no word may stand here
+abbrev pub refused : {A : Type 0} → ScriptKind → List Word → Result A ScriptKind
+refused e ws = Err e
 
 -- nothing may follow a whole line
 abbrev pub ended : List Word → Result (Unit {0}) ScriptKind

@@ -16,10 +16,11 @@ use Rattle.serial_spec.specs.ExternalForm.{Class, class_of, fits}
 use Rattle.serial_spec.specs.Limits.{most_elements}
 use Rattle.serial_spec.specs.Lawful.{most_values}
 use Rattle.script_spec.specs.ScriptWords.{Word, Plain, Quoted, Broken, number_of_text, bits_of_text}
-use Rattle.script_spec.specs.ScriptSteps.{◌>>=◌, refuse_if, or_fault, bare, reads_as, size, ended}
+use Rattle.script_spec.specs.ScriptSteps.{◌>>=◌, refuse_if, or_fault, Readers, by_word, bare, reads_as, size, ended}
 
 -- ---- values of a call, or of an attribute of a type; some have come before
 
+-- n values are not too many, for a call or for a script
 abbrev pub within_limits : Option NcType → ℕ → ℕ → Result (Unit {0}) ScriptKind
 within_limits t before n = do
   _ ← refuse_if (not (is_some t) && nat_lt most_elements n) (kind.Limit limit.Elements)
@@ -43,6 +44,7 @@ abbrev pub may_be : (Class → Bool) → Option NcType → Bool
 may_be test None = true
 may_be test (Some t) = test (class_of t)
 
+-- this value may stand here
 abbrev pub may_have : Option NcType → Value → Bool
 may_have None v = true
 may_have (Some t) v = fits t v
@@ -52,6 +54,7 @@ abbrev pub wrong_kind : Option NcType → ScriptKind
 wrong_kind (Some Char) = kind.BadText
 wrong_kind _ = kind.BadNumber
 
+-- what a word says, if it may stand here
 abbrev pub number_for : Option NcType → List ℕ → Option ℤ
 number_for t w = elim (number_of_text w) [ None ↦ None | Some z ↦ if may_have t (value.Number z) then Some z else None ]
 
@@ -92,12 +95,14 @@ last_number a b n = a +ℤ (b *ℤ pos (n - 1))
 abbrev pub is_term : Option NcType → ℕ → ℤ → Bool
 is_term t n z = n == 0 || (nat_lt (unsigned_abs z) (10 ^ 20) && may_have t (value.Number z))
 
+-- the first of n numbers
 abbrev pub term : Option NcType → ℕ → List Word → Result (ℤ × List Word) ScriptKind
 term t n ws = do
   a ← reads_as number_of_text kind.BadNumber ws
   _ ← refuse_if (not (is_term t n a.0)) kind.BadNumber
   Ok a
 
+-- n numbers by the first of them and the step
 abbrev pub numbers_between : Option NcType → ℕ → List Word → Result (List ℤ) ScriptKind
 numbers_between t n ws = do
   a ← term t n ws
@@ -130,6 +135,7 @@ patterns_between t n ws = do
   _ ← ended b.1
   Ok (pattern_sequence a.0 b.0 n)
 
+-- what follows `seq`, and what follows `seqx`
 abbrev pub seq_values : Option NcType → ℕ → List Word → Result Values ScriptKind
 seq_values t before ws = do
   n ← sequence_count (may_be are_numbers t) t before ws
@@ -160,6 +166,7 @@ number_values t before ws = each_value (number_for t) t before [] ws >>= λ zs. 
 abbrev pub bits_values : Option NcType → ℕ → List Word → Result Values ScriptKind
 bits_values t before ws = each_value (pattern_for t) t before [] ws >>= λ ns. Ok (Bits ns)
 
+-- the word of bits
 abbrev pub begins_x : List ℕ → Bool
 begins_x [] = false
 begins_x (c ∷ cs) = c == 120  -- x
@@ -175,13 +182,13 @@ listed_values class.Pattern t before ws = bits_values t before ws
 listed_values class.Signed t before ws = number_values t before ws
 listed_values class.Unsigned t before ws = number_values t before ws
 
+abbrev pub sequence_readers : Option NcType → ℕ → Readers Values
+sequence_readers t before = (codes "seq", seq_values t before) ∷ (codes "seqx", seqx_values t before) ∷ []
+
 -- values to the line's end, by their first word
 abbrev pub values : Option NcType → ℕ → List Word → Result Values ScriptKind
 values t before [] = Ok (Numbers [])
 values t before (Broken ∷ ws) = Err kind.BadText
 values t before (Quoted text ∷ ws) = text_values t before text ws
 values t before (Plain w ∷ ws) =
-    elim (bytes_eq w (codes "seq")) [
-      | true ↦ seq_values t before ws
-      | false ↦ elim (bytes_eq w (codes "seqx")) [ true ↦ seqx_values t before ws | false ↦ listed_values (listed_kind t w) t before (Plain w ∷ ws) ]
-    ]
+    by_word (sequence_readers t before) (λ rest. listed_values (listed_kind t w) t before (Plain w ∷ rest)) w ws

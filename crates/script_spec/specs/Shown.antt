@@ -1,6 +1,7 @@
 -- The canonical text of a script. (own)
---     shown script
-use Rattle.std.specs.Prelude.{ℕ, zero, suc, List, [], ◌∷◌, ◌++◌, map, take, drop, length, flat_map, ◌==◌, if◌then◌else◌, Some, None, slice_get, codes, decimal}
+--     shown script              the text: the head, `ranks`, all hints, the definitions, and the calls, rank after rank
+--     call_words call           the words behind a call's own
+use Rattle.std.specs.Prelude.{ℕ, zero, suc, List, [], ◌∷◌, ◌++◌, map, take, drop, length, flat_map, ◌==◌, if◌then◌else◌, Some, None, codes, decimal}
 use Rattle.std.specs.List.{enumerate_from}
 use Rattle.nc_base.specs.declared.header.Dim.{Dim}
 use Rattle.nc_base.specs.declared.header.Attr.{Attr}
@@ -21,7 +22,7 @@ use Rattle.nc_base.specs.declared.request.Call.TheVariants as call
 use Rattle.nc_base.specs.declared.script.Script.{Script}
 use Rattle.serial_spec.specs.ExternalForm.{class_of, size_of, val}
 use Rattle.serial_spec.specs.Request.{gathered}
-use Rattle.script_spec.specs.Texts.{type_word, call_word, line, joined, value_words}
+use Rattle.script_spec.specs.Texts.{type_word, call_word, line, joined, value_words, dim_name}
 use Rattle.script_spec.specs.HintTable.{HintRow, hint_table, shown_value}
 
 abbrev pub bracketed : List (List ℕ) → List ℕ
@@ -33,16 +34,14 @@ size_list ns = bracketed (map decimal ns)
 abbrev pub shown_values : Values → List (List ℕ)
 shown_values vs = value_words 16 vs
 
--- values of an attribute, in the external form
+-- bytes cut into n pieces of one size
 abbrev pub pieces : ℕ → ℕ → List ℕ → List (List ℕ)
 pieces zero size bytes = []
 pieces (suc n) size bytes = take size bytes ∷ pieces n size (drop size bytes)
 
+-- the values of an attribute, which holds them in external form
 abbrev pub attr_values : Attr → Values
 attr_values a = gathered (class_of a.kind) (map (λ b. Some (val a.kind b)) (pieces a.count (size_of a.kind) a.bytes))
-
-abbrev pub dim_name : Header → ℕ → List ℕ
-dim_name header id = elim (slice_get header.dims id) [ None ↦ [] | Some d ↦ d.name ]
 
 abbrev pub shown_dim : Dim → List ℕ
 shown_dim d = line (codes "dim" ∷ d.name ∷ (if d.len == 0 then codes "unlimited" else decimal d.len) ∷ [])
@@ -62,6 +61,7 @@ shown_hints h = flat_map (shown_hint h) hint_table
 abbrev pub part_words : Part → List (List ℕ)
 part_words p = size_list p.start ∷ size_list p.count ∷ []
 
+-- the lists of a region of this form
 abbrev pub form_words : Form → Given → List (List ℕ)
 form_words form.Var g = []
 form_words form.Var1 g = size_list g.start ∷ []

@@ -165,7 +165,7 @@ ids_spelled found (w ∷ ws) ns h =
     let a = carried (one_id w) (λ x. ids (found ++ x ∷ []) ws) ns h in
     each_on id_of_text found w ws ns a.value (one_is id_of_text kind.BadNumber w a.value refl a.first) (ids_spelled (found ++ a.value ∷ []) ws ns a.rest)
 
-pub plain_word : (text : List ℕ) (w : Word) → is_word text w ≡ true → w ≡ Plain text
+plain_word : (text : List ℕ) (w : Word) → is_word text w ≡ true → w ≡ Plain text
 plain_word text (Plain w) h = ap (λ (x : List ℕ). Plain x) (bytes_same w text h)
 plain_word text (Quoted t) h = absurd (cc)
 plain_word text Broken h = absurd (cc)

@@ -10,7 +10,7 @@ use Rattle.nc_base.specs.declared.header.Attr.{Attr}
 use Rattle.nc_base.specs.declared.header.Var.{Var}
 use Rattle.script_spec.specs.ScriptWords.{Word, Plain}
 use Rattle.script_spec.specs.ScriptSteps.{◌>>=◌, refuse_if, or_fault, reads_as, ended}
-use Rattle.script_spec.specs.ScriptDefinitions.{is_among, dim_ids, dim_line, var_line, var_names, owner_of_text, owner_place, Title, same_title, attribute, Defined, with_dim, with_var, with_title, with_attr, with_attr_at, att_line, dim_definition, var_definition, fill_line, definition, Known}
+use Rattle.script_spec.specs.ScriptDefinitions.{is_among, dim_ids, dim_line, var_line, var_names, owner_of_text, owner_place, Title, same_title, attribute, Defined, with_dim, with_var, with_title, with_attr_of_owner, with_attr_at, att_line, dim_definition, var_definition, fill_line, definition, Known}
 use Rattle.script_text.proofs.Steps.{went, same_ok, not_refused, is_end}
 use Rattle.script_text.proofs.Places.{Later, bytes_same, more_ids, place_cases}
 use Rattle.script_text.proofs.DefinedChains.{pushes}
@@ -74,7 +74,7 @@ new_var version k ws x fine h =
     })
 
 abbrev defined_with : List ℕ → Option ℕ → Attr → Defined → ℕ × Defined
-defined_with owner place a d = (a.count, with_title owner a.name (with_attr place a d))
+defined_with owner place a d = (a.count, with_title owner a.name (with_attr_of_owner place a d))
 
 pub titles_by : (opened : Bool) (dims : List Dim) (names : List (List ℕ)) (titles : List Title) (ss : List Statement) (word : List ℕ) (owner : Option (List ℕ)) (a : Attr) → word ≡ owner_word owner
     → Stand opened dims names (titles ++ (word, a.name) ∷ []) ss → Stand opened dims names (titles ++ title_of owner a ∷ []) ss

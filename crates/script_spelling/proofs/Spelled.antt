@@ -1,5 +1,5 @@
 -- A text that is read spells its script.
-use Rattle.std.proofs.Common.{◌≡◌, ◌∙◌, ℕ, zero, suc, ◌+◌, List, [], ◌∷◌, ◌++◌, map, replicate, length, Bool, true, false, not, cond, nat_lt, ◌==◌, Option, Some, None, Result, Ok, Err, refl, sym, ap, subst, append_assoc, arith, codes}
+use Rattle.std.proofs.Common.{◌≡◌, ◌∙◌, ℕ, zero, suc, ◌+◌, List, [], ◌∷◌, ◌++◌, map, replicate, length, Bool, true, false, not, cond, nat_lt, ◌==◌, Option, Some, None, Result, Ok, Err, refl, sym, ap, subst, append_assoc, arith, bytes_eq, codes}
 use Rattle.std.specs.Str.Lossy.{utf8_valid_len}
 use Rattle.std.specs.List.{AllZip, list_all, range_with_len}
 use Rattle.std.proofs.lemmas.Bool.{eqb-true, ne_eqb}
@@ -8,7 +8,7 @@ use Rattle.nc_base.specs.declared.errors.ScriptKind.{ScriptKind}
 use Rattle.nc_base.specs.declared.errors.ScriptKind.TheVariants as kind
 use Rattle.nc_base.specs.declared.request.Call.{Call}
 use Rattle.nc_base.specs.declared.script.Script.{Script}
-use Rattle.script_spec.specs.ScriptWords.{Word, Plain, Line, is_word, size_of_text, text_lines, significant}
+use Rattle.script_spec.specs.ScriptWords.{Word, Plain, Quoted, Broken, Line, size_of_text, text_lines, significant}
 use Rattle.serial_spec.specs.HeaderBytes.{is_version}
 use Rattle.script_spec.specs.ScriptSteps.{reads_as, whole}
 use Rattle.script_spec.specs.HintTable.{hint_in}
@@ -18,13 +18,13 @@ use Rattle.script_spec.specs.ScriptGrammar.{at_line, version_of_text, version_li
 use Rattle.script_laws.proofs.LawfulLaws.{read_lawful}
 use Rattle.script_text.proofs.Steps.{went, same_ok, whole_value}
 use Rattle.script_text.proofs.CallLines.{line_ok}
+use Rattle.script_text.proofs.Places.{bytes_same}
 use Rattle.script_text.proofs.Whole.{is_text}
 use Rattle.script_spelling.specs.Statements.{Statement, Says, Stand}
 use Rattle.script_spelling.specs.Described.{calls_in, fills_in, hint_values, at_most_one, ToDataset, Describes}
 use Rattle.script_spelling.specs.SpelledCalls.{SpellsCallLine}
 use Rattle.script_spelling.specs.Spelling.{SpellsHead, version_of_lines, Sections, lines_of, Spells}
 use Rattle.script_spelling.proofs.WordsRead.{word_is}
-use Rattle.script_spelling.proofs.CallsRead.{plain_word}
 use Rattle.script_spelling.proofs.CallLinesRead.{words_of, from_none, CallsRead, calls_read}
 use Rattle.script_spelling.proofs.TakenLines.{flag, Part, Grown}
 use Rattle.script_spelling.proofs.KnownRead.{lines_version, DefinitionsRead, definitions_read}
@@ -48,24 +48,26 @@ no_zero w version h = by (size_of_text w) h
     by (Some n) k = by_test n (is_version n) refl k
 
 head_read : (w : Word) (ws : List Word) (version : ℕ) → head w ws ≡ Ok version → HeadRead (w ∷ ws) version
-head_read w ws version h = by (is_word (codes "create") w) (is_word (codes "open") w) refl refl h
+head_read Broken ws version h = absurd (cc)
+head_read (Quoted text) ws version h = absurd (cc)
+head_read (Plain w) ws version h = by (bytes_eq w (codes "create")) (bytes_eq w (codes "open")) refl refl h
   where
-    by : (i j : Bool) → is_word (codes "create") w ≡ i → is_word (codes "open") w ≡ j → elim i as (λ x. Result ℕ ScriptKind) [
+    by : (i j : Bool) → bytes_eq w (codes "create") ≡ i → bytes_eq w (codes "open") ≡ j → elim i as (λ x. Result ℕ ScriptKind) [
       | true ↦ version_line ws
       | false ↦ elim j as (λ x. Result ℕ ScriptKind) [ true ↦ whole (0, ws) | false ↦ Err kind.NoHead ]
-    ] ≡ Ok version → HeadRead (w ∷ ws) version
+    ] ≡ Ok version → HeadRead (Plain w ∷ ws) version
     by true j a b k =
         let v = went (reads_as version_of_text kind.BadNumber ws) (λ x. whole x) version k in
         let word = word_is version_of_text kind.BadNumber ws v.value refl v.first in
         let end = whole_value v.value version v.rest in
         let says = word.says ∙ ap (λ (x : ℕ). Some x) end.0 in
-        let words = ap (λ (x : Word). x ∷ ws) (plain_word (codes "create") w a)
+        let words = ap (λ (x : List ℕ). Plain x ∷ ws) (bytes_same w (codes "create") a)
         ∙ ap (λ (xs : List Word). Plain (codes "create") ∷ xs) (word.are ∙ ap (λ (xs : List Word). Plain word.word ∷ xs) end.1) in
-        subst (λ (b : Bool). SpellsHead (w ∷ ws) (not b) version) (sym (no_zero word.word version says)) (word.word, words, says)
+        subst (λ (b : Bool). SpellsHead (Plain w ∷ ws) (not b) version) (sym (no_zero word.word version says)) (word.word, words, says)
     by false true a b k =
         let end = whole_value (0, ws) version k in
-        let words = ap (λ (x : Word). x ∷ ws) (plain_word (codes "open") w b) ∙ ap (λ (xs : List Word). Plain (codes "open") ∷ xs) end.1 in
-        subst (HeadRead (w ∷ ws)) end.0 (words, refl)
+        let words = ap (λ (x : List ℕ). Plain x ∷ ws) (bytes_same w (codes "open") b) ∙ ap (λ (xs : List Word). Plain (codes "open") ∷ xs) end.1 in
+        subst (HeadRead (Plain w ∷ ws)) end.0 (words, refl)
     by false false a b k = absurd (cc)
 
 -- ---- what is known at `data` is what the statements say

@@ -45,7 +45,7 @@ pub fn worked_calls()
     ensures wait { SpellsCallLine (words (codes "1 wait 3 7")) (1, call.Wait false (Listed (3 ∷ 7 ∷ []))) }
     ensures all { SpellsCallLine (words (codes "1 wait_all all")) (1, call.Wait true Every) }
     ensures sequence { SpellsValues None (words (codes "seq 3 4 -5")) (Numbers (pos 4 ∷ neg_ℤ (pos 1) ∷ neg_ℤ (pos 6) ∷ [])) }
-    ensures bits { SpellsValues None (words (codes "x3F800000 xf")) (Bits (1065353216 ∷ 15 ∷ [])) }
+    ensures bits { SpellsValues None (words (codes "x3F800000 xf")) (Bits (0x3F800000 ∷ 15 ∷ [])) }
 {}
 
 /// The lines of a text, and the script that it spells.

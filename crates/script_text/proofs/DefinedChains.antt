@@ -15,7 +15,7 @@ use Rattle.serial_spec.specs.Limits.{most_dims_of_var}
 use Rattle.serial_spec.specs.Lawful.{most_values}
 use Rattle.script_spec.specs.ScriptWords.{Word, is_name}
 use Rattle.script_spec.specs.ScriptSteps.{◌>>=◌, refuse_if, or_fault, reads_as, ended}
-use Rattle.script_spec.specs.ScriptDefinitions.{is_among, dim_line, var_head, name_list, dim_ids, is_record_dim, var_names, shape, var_line, owner_of_text, owner_place, Title, same_title, attribute, Defined, with_dim, with_var, with_attr_at, with_title, with_attr, att_line, dim_definition, var_definition, fill_line, definition}
+use Rattle.script_spec.specs.ScriptDefinitions.{is_among, dim_line, var_head, name_list, dim_ids, is_record_dim, var_names, shape, var_line, owner_of_text, owner_place, Title, same_title, attribute, Defined, with_dim, with_var, with_attr_at, with_title, with_attr_of_owner, att_line, dim_definition, var_definition, fill_line, definition}
 use Rattle.script_text.proofs.Steps.{went, same_ok, not_refused}
 use Rattle.script_text.proofs.Lines.{all_more, all_joined}
 use Rattle.script_text.proofs.PrintedValues.{is_read}
@@ -272,7 +272,7 @@ var_on version values d ws r low ok h =
     })
 
 -- an attribute of the dataset, or of the variable at a place
-att_of_dataset : (version values : ℕ) (d : Defined) (owner : List ℕ) (a : Attr) → DefinedOk version values d → owner ≡ codes ":" → AttrRead version d.titles values owner a → DefinedOn version values (a.count, with_title owner a.name (with_attr None a d))
+att_of_dataset : (version values : ℕ) (d : Defined) (owner : List ℕ) (a : Attr) → DefinedOk version values d → owner ≡ codes ":" → AttrRead version d.titles values owner a → DefinedOn version values (a.count, with_title owner a.name (with_attr_of_owner None a d))
 att_of_dataset version values d owner a ok e read =
     let at = codes ":" in
     let fresh = subst (λ o. list_any (same_title (o, a.name)) d.titles ≡ false) e read.fresh in
@@ -288,7 +288,7 @@ att_of_dataset version values d owner a ok e read =
       few = read.few;
     }
 
-att_of_var : (version values : ℕ) (d : Defined) (owner : List ℕ) (k : ℕ) (a : Attr) → DefinedOk version values d → NameAt d.vars k owner → AttrRead version d.titles values owner a → DefinedOn version values (a.count, with_title owner a.name (with_attr (Some k) a d))
+att_of_var : (version values : ℕ) (d : Defined) (owner : List ℕ) (k : ℕ) (a : Attr) → DefinedOk version values d → NameAt d.vars k owner → AttrRead version d.titles values owner a → DefinedOn version values (a.count, with_title owner a.name (with_attr_of_owner (Some k) a d))
 att_of_var version values d owner k a ok at read =
     let same_vars = sym (pushes k a d.vars) in
     record {
@@ -317,7 +317,7 @@ place_read vars owner o h = by (bytes_eq owner (codes ":")) refl h
         let a = went (or_fault kind.UnknownName (position (bytes_eq owner) (var_names vars))) (λ j. Ok (Some j)) o k in
         subst (PlaceOf vars owner) (same_ok (Some a.value) o a.rest) (found_name owner vars a.value (faultless_some kind.UnknownName (position (bytes_eq owner) (var_names vars)) a.value a.first))
 
-att_by_place : (version values : ℕ) (d : Defined) (owner : List ℕ) (o : Option ℕ) (a : Attr) → DefinedOk version values d → PlaceOf d.vars owner o → AttrRead version d.titles values owner a → DefinedOn version values (a.count, with_title owner a.name (with_attr o a d))
+att_by_place : (version values : ℕ) (d : Defined) (owner : List ℕ) (o : Option ℕ) (a : Attr) → DefinedOk version values d → PlaceOf d.vars owner o → AttrRead version d.titles values owner a → DefinedOn version values (a.count, with_title owner a.name (with_attr_of_owner o a d))
 att_by_place version values d owner None a ok at read = att_of_dataset version values d owner a ok at read
 att_by_place version values d owner (Some k) a ok at read = att_of_var version values d owner k a ok at read
 
@@ -326,7 +326,7 @@ att_on version values d ws r low read ok h =
     let o = went (reads_as owner_of_text kind.BadName ws) _ r h in
     let k = went (owner_place d.vars o.value.0) _ r o.rest in
     let a = went (attribute version d.titles values o.value.0 o.value.1) _ r k.rest in
-    subst (DefinedOn version values) (same_ok (a.value.count, with_title o.value.0 a.value.name (with_attr k.value a.value d)) r a.rest)
+    subst (DefinedOn version values) (same_ok (a.value.count, with_title o.value.0 a.value.name (with_attr_of_owner k.value a.value d)) r a.rest)
     (att_by_place version values d o.value.0 k.value a.value ok (place_read d.vars o.value.0 k.value k.first)
     (attr_read version d.titles values o.value.0 o.value.1 a.value low (kept is_read owner_of_text kind.BadName ws o.value o.first read) a.first))
 

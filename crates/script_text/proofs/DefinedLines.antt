@@ -14,7 +14,7 @@ use Rattle.script_spec.specs.Texts.{type_word}
 use Rattle.script_spec.specs.Shown.{bracketed}
 use Rattle.script_spec.specs.ScriptWords.{Word, Plain, is_name, starts_name}
 use Rattle.script_spec.specs.ScriptSteps.{◌>>=◌, refuse_if, or_fault, reads_as}
-use Rattle.script_spec.specs.ScriptDefinitions.{is_among, dim_line, var_head, name_list, dim_ids, is_record_dim, var_names, shape, var_line, owner_of_text, owner_place, Title, same_title, attribute, Defined, with_dim, with_var, with_attr_at, with_title, with_attr, att_line, definition, Known}
+use Rattle.script_spec.specs.ScriptDefinitions.{is_among, dim_line, var_head, name_list, dim_ids, is_record_dim, var_names, shape, var_line, owner_of_text, owner_place, Title, same_title, attribute, Defined, with_dim, with_var, with_attr_at, with_title, with_attr_of_owner, att_line, definition, Known}
 use Rattle.script_text.proofs.Steps.{go_on, passed, faultless, word_read, by_false}
 use Rattle.script_text.proofs.Lexing.{is_plain}
 use Rattle.script_text.proofs.Lines.{is_line, all_joined}
@@ -123,14 +123,14 @@ abbrev with_atts : Defined → List Attr → List Title → Defined
 with_atts d list titles = record d { attrs = list; titles = titles }
 
 att_dataset_again : (version : ℕ) (d : Defined) (v : ℕ) (a : Attr) → AttrAgain version a → list_any (same_title (codes ":", a.name)) d.titles ≡ false → v + a.count ≤ most_values
-    → att_line version v d (Plain (codes ":") ∷ attr_tokens a) ≡ Ok (a.count, with_title (codes ":") a.name (with_attr None a d))
+    → att_line version v d (Plain (codes ":") ∷ attr_tokens a) ≡ Ok (a.count, with_title (codes ":") a.name (with_attr_of_owner None a d))
 att_dataset_again version d v a again fresh few =
     let owner = codes ":" in
-    let r : ℕ × Defined = (a.count, with_title owner a.name (with_attr None a d)) in
+    let r : ℕ × Defined = (a.count, with_title owner a.name (with_attr_of_owner None a d)) in
     go_on (reads_as owner_of_text kind.BadName (Plain owner ∷ attr_tokens a))
-    (λ o. owner_place d.vars o.0 >>= λ k. attribute version d.titles v o.0 o.1 >>= λ x. Ok (x.count, with_title o.0 x.name (with_attr k x d)))
+    (λ o. owner_place d.vars o.0 >>= λ k. attribute version d.titles v o.0 o.1 >>= λ x. Ok (x.count, with_title o.0 x.name (with_attr_of_owner k x d)))
     (owner, attr_tokens a) r (word_read owner_of_text kind.BadName owner owner (attr_tokens a) refl)
-    (go_on (attribute version d.titles v owner (attr_tokens a)) (λ x. Ok (x.count, with_title owner x.name (with_attr None x d))) a r (again.again d.titles v owner fresh few) refl)
+    (go_on (attribute version d.titles v owner (attr_tokens a)) (λ x. Ok (x.count, with_title owner x.name (with_attr_of_owner None x d))) a r (again.again d.titles v owner fresh few) refl)
 
 dataset_run : (version : ℕ) (k : Known) (d : Defined) (list : List Attr) (names : List (List ℕ)) (front : List Attr) (titles : List Title) (v : ℕ) → (version == 0) ≡ false → AttrChain version names list → FreshOwner titles (codes ":") names → v + count_attrs list ≤ most_values
     → Runs version (at_state k (with_atts d front titles) v) (map (line_of_att (codes ":")) list) (at_state k (with_atts d (front ++ list) (titles ++ titles_of (codes ":") list)) (v + count_attrs list))

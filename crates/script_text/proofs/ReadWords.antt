@@ -3,7 +3,7 @@ use Rattle.std.proofs.Common.{◌≡◌, ℕ, zero, suc, ◌+◌, ◌*◌, ◌<�
 use Rattle.std.specs.List.{list_all, slice_split, onto_first, enumerate_from, position_or_len}
 use Rattle.std.proofs.lemmas.Bool.{and_parts, and_from}
 use borrow.Author.Tests.{lt-ltb}
-use Rattle.script_spec.specs.ScriptWords.{Word, Plain, Quoted, Broken, Line, is_blank, is_comment, is_newline, begins_blank, after_blanks, first_word, quoted_word, text_from, Within, Between, AfterBackslash, FirstHex, SecondHex, words, words_within, hex_value, escape, without_empty_end, text_lines, line_of, significant, significant_of}
+use Rattle.script_spec.specs.ScriptWords.{Word, Plain, Quoted, Broken, Line, is_blank, is_comment, is_newline, begins_blank, after_blanks, first_word, quoted_word, text_from, TextState, Between, AfterBackslash, FirstHex, SecondHex, words, words_within, hex_value, escape, without_empty_end, text_lines, line_of, significant, significant_of}
 use Rattle.script_text.proofs.Lexing.{is_byte}
 use Rattle.script_text.proofs.Lines.{all_joined}
 use Rattle.script_text.proofs.Numerals.{hex_value_bound}
@@ -19,7 +19,7 @@ abbrev BytesOf : Option (List ℕ × List ℕ) → Type 0
 BytesOf None = Unit {0}
 BytesOf (Some t) = (are_bytes t.0 ≡ true) × (are_bytes t.1 ≡ true)
 
-abbrev StateOk : Within → Type 0
+abbrev StateOk : TextState → Type 0
 StateOk Between = Unit {0}
 StateOk AfterBackslash = Unit {0}
 StateOk FirstHex = Unit {0}
@@ -38,7 +38,7 @@ escape_byte c x b h = by (c == 34 || c == 92) (c == 110) (c == 116) h
     by false false true e = let same : 9 ≡ x = cc in subst (λ y. is_byte y ≡ true) same refl
     by false false false e = absurd (cc)
 
-text_bytes : (state : Within) (cs : List ℕ) → StateOk state → are_bytes cs ≡ true → BytesOf (text_from state cs)
+text_bytes : (state : TextState) (cs : List ℕ) → StateOk state → are_bytes cs ≡ true → BytesOf (text_from state cs)
 text_bytes state [] ok h = tt
 text_bytes Between (c ∷ cs) ok h =
     let both = and_parts (is_byte c) (are_bytes cs) h in

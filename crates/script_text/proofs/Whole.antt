@@ -1,5 +1,5 @@
 -- A whole script: what is printed of what was read is read as the same script.
-use Rattle.std.proofs.Common.{◌≡◌, ◌∙◌, ℕ, zero, suc, ◌+◌, ◌%◌, ◌^◌, ◌≤◌, ◌<◌, List, [], ◌∷◌, ◌++◌, map, replicate, length, flat_map, Bool, true, false, not, cond, nat_lt, nat_le, ◌==◌, ◌&&◌, ◌||◌, Option, Some, None, Result, Ok, Err, refl, sym, ap, subst, ⊎_elim, arith, codes, decimal, take}
+use Rattle.std.proofs.Common.{◌≡◌, ◌∙◌, ℕ, zero, suc, ◌+◌, ◌%◌, ◌^◌, ◌≤◌, ◌<◌, List, [], ◌∷◌, ◌++◌, map, replicate, length, flat_map, Bool, true, false, not, cond, nat_lt, nat_le, ◌==◌, ◌&&◌, ◌||◌, Option, Some, None, Result, Ok, Err, refl, sym, ap, subst, ⊎_elim, arith, bytes_eq, codes, decimal, take}
 use Rattle.std.specs.List.{list_all}
 use Rattle.std.specs.Str.Lossy.{utf8_valid_len}
 use Rattle.std.proofs.lemmas.Bool.{and_parts, and_from, or_cases, cond-true, ne_eqb, eqb-true}
@@ -17,7 +17,7 @@ use Rattle.serial_spec.specs.HeaderBytes.{is_version}
 use Rattle.serial_spec.specs.History.{kinds}
 use Rattle.serial_spec.specs.Lawful.{most_values}
 use Rattle.script_spec.specs.Shown.{shown}
-use Rattle.script_spec.specs.ScriptWords.{Word, Plain, Line, is_word, size_of_text, text_lines, significant}
+use Rattle.script_spec.specs.ScriptWords.{Word, Plain, Quoted, Broken, Line, size_of_text, text_lines, significant}
 use Rattle.script_spec.specs.ScriptSteps.{◌>>=◌, reads_as, whole}
 use Rattle.script_spec.specs.HintTable.{Within, hints_of}
 use Rattle.script_spec.specs.ScriptDefinitions.{Defined, no_definition, Added, nothing_added, Known, nothing_known, ranks_line}
@@ -123,7 +123,9 @@ version_known (Some n) version h = by (is_version n) refl h
     by false e k = absurd (cc)
 
 head_read : (w : Word) (ws : List Word) (version : ℕ) → head w ws ≡ Ok version → HeadIs version
-head_read w ws version h = by (is_word (codes "create") w) (is_word (codes "open") w) h
+head_read Broken ws version h = absurd (cc)
+head_read (Quoted text) ws version h = absurd (cc)
+head_read (Plain w) ws version h = by (bytes_eq w (codes "create")) (bytes_eq w (codes "open")) h
   where
     by : (i j : Bool) → elim i as (λ x. Result ℕ ScriptKind) [
       | true ↦ version_line ws

@@ -9,4 +9,4 @@ use Rattle.script_spec.specs.Texts.{hex, quoted}
 abbrev pub value_word : Value → List ℕ
 value_word (value.Number z) = signed_decimal z
 value_word (value.Char c) = quoted (c ∷ [])
-value_word (value.Bits n) = 120 ∷ hex 16 n
+value_word (value.Bits n) = 120 ∷ hex 16 n  -- x

@@ -4,8 +4,8 @@ ghost use Rattle.std.specs.List.{list_all};
 ghost use Rattle.nc_base.specs.declared.header.Var.{Var};
 ghost use Rattle.serial_spec.specs.ExternalForm.{size_of, val};
 ghost use Rattle.serial_spec.specs.Lawful.{is_whole_attr, is_whole_extra};
-ghost use Rattle.script_spec.specs.Texts.{joined, type_word};
-ghost use Rattle.script_spec.specs.Shown.{attr_values, bracketed, dim_name, pieces, shown_attr, shown_definitions, shown_dim, shown_extra, shown_values, shown_var};
+ghost use Rattle.script_spec.specs.Texts.{dim_name, joined, type_word};
+ghost use Rattle.script_spec.specs.Shown.{attr_values, bracketed, pieces, shown_attr, shown_definitions, shown_dim, shown_extra, shown_values, shown_var};
 ghost use Rattle.printed_text.specs.Spaced.{spaced};
 ghost use Rattle.script_text.specs.CanonicalParts.{value_word};
 

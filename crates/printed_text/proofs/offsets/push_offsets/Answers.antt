@@ -1,7 +1,7 @@
 use Rattle.std.proofs.Common.{List, ℕ, ◌++◌, codes}
 use Rattle.std.specs.List.{flat_map}
 use Rattle.serial_spec.specs.Layout.{fixed_variables, record_variables}
-use Rattle.script_spec.specs.Texts.{dim_line, text_line, var_lines}
+use Rattle.script_spec.specs.Texts.{dim_length_line, text_line, var_lines}
 use Rattle.printed_text.specs.Offsets.{head_lines}
 use Rattle.printed_text.proofs.offsets.push_offsets.Goals as goal
 use Rattle.list_laws.proofs.Appends.{then_append}
@@ -12,7 +12,7 @@ returns c =
     let h = c.args.header.now in
     let head : List ℕ = head_lines h in
     let t : List ℕ = text_line (codes "dimensions:") in
-    let d : List ℕ = flat_map (dim_line h.records) h.dims in
+    let d : List ℕ = flat_map (dim_length_line h.records) h.dims in
     let u : List ℕ = text_line (codes "fixed-size variables:") in
     let f : List ℕ = flat_map (var_lines h) (fixed_variables h h.vars) in
     let v : List ℕ = text_line (codes "record variables:") in

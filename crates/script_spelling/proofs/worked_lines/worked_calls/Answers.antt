@@ -32,4 +32,4 @@ pub returns-clause-sequence : goal.returns-clause-sequence
 returns-clause-sequence c = OfSequence (codes "3", codes "4", codes "-5", 3, pos 4, neg_ℤ (pos 5), refl, refl, refl, refl, (λ some. refl), refl, refl, refl)
 
 pub returns-clause-bits : goal.returns-clause-bits
-returns-clause-bits c = OfBits (1065353216 ∷ 15 ∷ []) (omega arith) ((codes "x3F800000", refl, refl), ((codes "xf", refl, refl), tt)) refl
+returns-clause-bits c = OfBits (0x3F800000 ∷ 15 ∷ []) (omega arith) ((codes "x3F800000", refl, refl), ((codes "xf", refl, refl), tt)) refl
