@@ -1,2 +1,3 @@
+pub mod CallTableLaws
 pub mod NumeralLaws
 pub mod TextLaws

@@ -26,6 +26,7 @@ use Rattle.script_spec.specs.Texts.{form_word}
 use Rattle.script_spec.specs.ScriptWords.{Word, is_word, begins_rank, digits_value, below, size_of_text, parts}
 use Rattle.script_spec.specs.ScriptSteps.{◌>>=◌, refuse_if, or_fault, bare, next, reads_as, size, list, name, ended, whole}
 use Rattle.script_spec.specs.ScriptValues.{values}
+use Rattle.script_spec.specs.CallTable.{Family, Requests, Size, Name, Record, Nothing, Behind, CallRow, row_of_text}
 
 -- ---- calls
 
@@ -155,52 +156,31 @@ post_call k ids f before ws = do
   vs ← post_values k before g.1
   Ok (call.Post id.0 k v.0 g.0 vs)
 
-abbrev pub fill_call : ℕ → ℕ → List Word → Result Call ScriptKind
-fill_call ranks r ws = do
+-- ---- calls that name no region
+
+-- what stands behind a word of this family
+abbrev pub behind : (f : Family) → List Word → Result (Behind f) ScriptKind
+behind Requests ws = choice ws
+behind Size ws = size ws >>= whole
+behind Name ws = name ws >>= whole
+behind Record ws = do
   v ← name ws
   n ← size v.1
-  _ ← ended n.1
-  Ok (call.FillRec v.0 n.0 r ranks)
+  whole ((v.0, n.0), n.1)
+behind Nothing ws = whole (tt, ws)
 
-abbrev pub attach_call : List Word → Result Call ScriptKind
-attach_call ws = do
-  n ← size ws
-  whole (call.Attach n.0, n.1)
+-- the call of a row, made by rank r, one of so many
+abbrev pub row_call : ℕ → ℕ → CallRow → List Word → Result Call ScriptKind
+row_call ranks r row ws = do
+  b ← behind row.family ws
+  Ok (row.made ranks r b)
 
-abbrev pub inquiry : List Word → Result Call ScriptKind
-inquiry ws = do
-  n ← name ws
-  whole (call.InqDim n.0, n.1)
-
--- calls without a word of their own behind them
-abbrev pub lone_calls : List (List ℕ × Call)
-lone_calls =
-    (codes "buffer_detach", call.Detach) ∷ (codes "begin_indep_data", call.BeginIndep)
-    ∷ (codes "end_indep_data", call.EndIndep) ∷ (codes "sync_numrecs", call.SyncRecords) ∷ []
-
-abbrev pub lone_call : List ℕ → List Word → Result Call ScriptKind
-lone_call w ws = elim (find (λ c. bytes_eq w c.0) lone_calls) [ None ↦ Err kind.UnknownWord | Some c ↦ whole (c.1, ws) ]
-
-abbrev pub other_call : ℕ → ℕ → List ℕ → List Word → Result Call ScriptKind
-other_call ranks r w ws =
-    elim (bytes_eq w (codes "buffer_attach")) [
-      | true ↦ attach_call ws
-      | false ↦ elim (bytes_eq w (codes "inq_dimlen")) [
-        | true ↦ inquiry ws
-        | false ↦ elim (bytes_eq w (codes "fill_var_rec")) [ true ↦ fill_call ranks r ws | false ↦ lone_call w ws ]
-      ]
-    ]
-
--- a call of no form
 abbrev pub plain_call : ℕ → ℕ → List ℕ → List Word → Result Call ScriptKind
-plain_call ranks r w ws =
-    elim (bytes_eq w (codes "wait")) [
-      | true ↦ (choice ws >>= λ c. Ok (call.Wait false c))
-      | false ↦ elim (bytes_eq w (codes "wait_all")) [
-        | true ↦ (choice ws >>= λ c. Ok (call.Wait true c))
-        | false ↦ elim (bytes_eq w (codes "cancel")) [ true ↦ (choice ws >>= λ c. Ok (call.Cancel c)) | false ↦ other_call ranks r w ws ]
-      ]
-    ]
+plain_call ranks r w ws = do
+  row ← or_fault kind.UnknownWord (row_of_text w)
+  row_call ranks r row ws
+
+-- ---- a call by its word
 
 -- the kind of a post, and what follows it
 abbrev pub post_of_text : List ℕ → Option (PostKind × List ℕ)

@@ -24,6 +24,7 @@ use Rattle.serial_spec.specs.ExternalForm.{class_of, size_of, val}
 use Rattle.serial_spec.specs.Request.{gathered}
 use Rattle.script_spec.specs.Texts.{type_word, call_word, line, joined, value_words, dim_name}
 use Rattle.script_spec.specs.HintTable.{HintRow, hint_table, shown_value}
+use Rattle.script_spec.specs.CallTable.{Family, Requests, Size, Name, Record, Nothing, Behind, of_behind}
 
 abbrev pub bracketed : List (List ℕ) → List ℕ
 bracketed ws = 91 ∷ joined 44 ws ++ 93 ∷ []  -- [ and ], with commas between
@@ -77,17 +78,19 @@ abbrev pub choice_words : Choice → List (List ℕ)
 choice_words Every = codes "all" ∷ []
 choice_words (Listed ids) = map decimal ids
 
+abbrev pub words_behind : (f : Family) → Behind f → List (List ℕ)
+words_behind Requests c = choice_words c
+words_behind Size n = decimal n ∷ []
+words_behind Name n = n ∷ []
+words_behind Record v = v.0 ∷ decimal v.1 ∷ []
+words_behind Nothing _ = []
+
 -- what follows a call's word
 abbrev pub call_words : Call → List (List ℕ)
 call_words (call.Put all name g vs) = name ∷ region_words g ++ shown_values vs
 call_words (call.Get all name g) = name ∷ region_words g
 call_words (call.Post id k name g vs) = decimal id ∷ name ∷ region_words g ++ shown_values vs
-call_words (call.Wait all c) = choice_words c
-call_words (call.Cancel c) = choice_words c
-call_words (call.Attach n) = decimal n ∷ []
-call_words (call.InqDim name) = name ∷ []
-call_words (call.FillRec name number share ranks) = name ∷ decimal number ∷ []
-call_words _ = []
+call_words c = of_behind [] words_behind c
 
 abbrev pub shown_call : ℕ → Call → List ℕ
 shown_call r c = line (decimal r ∷ call_word c ∷ call_words c)
