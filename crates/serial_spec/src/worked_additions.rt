@@ -56,6 +56,8 @@ pub fn worked_refusals()
         ≡ canon twice_named_q ++ int_bytes (1 ∷ 2 ∷ 3 ∷ 4 ∷ []) ++ replicate 48 0 }
     ensures attribute { redefined_fault dataset_a (Att None title ∷ Att None title ∷ []) ≡ Some (Taken 1) }
     ensures owner { redefined_fault dataset_a (Att (Some (113 ∷ [])) title ∷ []) ≡ Some (Unknown 0) }
+    ensures same_variable { redefined_fault dataset_a (more_var 118 Short 120 ∷ []) ≡ Some (Taken 0) }
+    ensures later_attribute { redefined_fault dataset_a (Att None (record title { kind = UInt64 }) ∷ []) ≡ Some (Kind 0) }
     ensures inner { redefined_fault dataset_b (Dim (dim 120 4) ∷ Var Int (113 ∷ []) ((120 ∷ []) ∷ (116 ∷ []) ∷ []) ∷ []) ≡ Some (Shape 1) }
     ensures many { redefined_fault (record dataset_a { dims = replicate 1024 (dim 120 4) }) (Dim (dim 121 4) ∷ []) ≡ Some (TooMany 0) }
     ensures long { redefined_fault dataset_a (Dim (dim 121 (2 ^ 31)) ∷ []) ≡ Some (Kind 0) }
