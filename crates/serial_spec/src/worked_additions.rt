@@ -47,7 +47,7 @@ pub fn worked_redefinition()
     ensures none { redefined_fault dataset_a (more_var 113 Short 120 ∷ []) ≡ None }
 {}
 
-/// Two dimensions of one name, of which the first counts, and the other faults of a redefinition.
+/// Two dimensions of one name, of which the first counts, and other faults of a redefinition.
 #[tactic(auto, unfolding(crate::specs::HeaderBytes::canon))]
 pub fn worked_refusals()
     ensures same_name { redefined_fault twice_named inner_x ≡ None }
