@@ -100,7 +100,7 @@ module _ (t : Target) (given : Given) (values : Option Values) (there : IsTarget
       outcome (check_parts t.header.now t.var.now (part_regions t.var.now given) t.known (direction_of values)) (ltb 0 (length gs))
       (part_posts t.id t.place t.var.now.kind values 0 gs) (parts_code t.var.now.kind (elements_of_all gs) values)
 
-  pub parts_refused : (e : CallErr) → parts.IsRefusal (parts.parts_code t.header.now t.place given t.known way) e → ComesTo (look_parts t given values) (Err e)
+  pub parts_refused : (e : CallErr) → IsRefusal (parts.parts_code t.header.now t.place given t.known way) e → ComesTo (look_parts t given values) (Err e)
   unfolding look_parts
   parts_refused (refusal.Code c) r = checked_refused _ _ _ _ c (r.0 ∙ parts_checked) r.1
   parts_refused refusal.Memory r = r

@@ -47,7 +47,7 @@ pub fn worked_redefinition()
     ensures none { redefined_fault dataset_a (more_var 113 Short 120 ∷ []) ≡ None }
 {}
 
-/// Two dimensions of one name, of which the first counts, and the other faults of a redefinition.
+/// Two dimensions of one name, of which the first counts, and other faults of a redefinition.
 #[tactic(auto, unfolding(crate::specs::HeaderBytes::canon))]
 pub fn worked_refusals()
     ensures same_name { redefined_fault twice_named inner_x ≡ None }
@@ -56,8 +56,11 @@ pub fn worked_refusals()
         ≡ canon twice_named_q ++ int_bytes (1 ∷ 2 ∷ 3 ∷ 4 ∷ []) ++ replicate 48 0 }
     ensures attribute { redefined_fault dataset_a (Att None title ∷ Att None title ∷ []) ≡ Some (Taken 1) }
     ensures owner { redefined_fault dataset_a (Att (Some (113 ∷ [])) title ∷ []) ≡ Some (Unknown 0) }
+    ensures same_variable { redefined_fault dataset_a (more_var 118 Short 120 ∷ []) ≡ Some (Taken 0) }
+    ensures later_attribute { redefined_fault dataset_a (Att None (record title { kind = UInt64 }) ∷ []) ≡ Some (Kind 0) }
     ensures inner { redefined_fault dataset_b (Dim (dim 120 4) ∷ Var Int (113 ∷ []) ((120 ∷ []) ∷ (116 ∷ []) ∷ []) ∷ []) ≡ Some (Shape 1) }
     ensures many { redefined_fault (record dataset_a { dims = replicate 1024 (dim 120 4) }) (Dim (dim 121 4) ∷ []) ≡ Some (TooMany 0) }
+    ensures many_variables { redefined_fault (record dataset_a { vars = replicate 8192 (var 118 Int []) }) (more_var 113 Short 120 ∷ []) ≡ Some (TooMany 0) }
     ensures long { redefined_fault dataset_a (Dim (dim 121 (2 ^ 31)) ∷ []) ≡ Some (Kind 0) }
     ensures large { redefined_fault dataset_a (long_var (2 ^ 31 - 3)) ≡ Some (Layout (VarSize 1)) }
     ensures far { redefined_fault second_first (long_var (2 ^ 31 - 4)) ≡ Some (Layout (BeginRange 1)) }
