@@ -3,7 +3,7 @@
 --     hint_line .. fill_line    what the words of a line say, or the first fault among them from the left
 --     definition, addition      what is defined, or added to an opened dataset, after a line
 --     known_after               what is known after a line
-use Rattle.std.specs.Prelude.{bytes_eq, ℕ, ◌+◌, ◌%◌, List, [], ◌∷◌, ◌++◌, map, find, position, drop, length, flat_map, Bool, true, false, not, ◌&&◌, nat_lt, nat_le, ◌==◌, if◌then◌else◌, Option, Some, None, Result, Ok, Err, is_some, slice_get, slice_set, codes}
+use Rattle.std.specs.Prelude.{bytes_eq, ℕ, ◌+◌, ◌%◌, List, [], ◌∷◌, ◌++◌, map, find, position, drop, length, flat_map, Bool, true, false, not, ◌&&◌, nat_lt, nat_le, ◌==◌, if◌then◌else◌, Option, Some, None, Result, Ok, is_some, slice_get, slice_set, codes}
 use Rattle.std.specs.List.{list_any, list_all}
 use Rattle.nc_base.specs.declared.errors.ScriptKind.{ScriptKind}
 use Rattle.nc_base.specs.declared.errors.ScriptKind.TheVariants as kind
