@@ -38,6 +38,7 @@ refuse_or_serial = Either (codes "refuse") (codes "serial")
 
 -- ---- the table
 
+-- windows and units have at most 32 MiB, begins are multiples of at most 1 MiB; the defaults of buffers are those of ROMIO
 abbrev pub hint_table : List HintRow
 hint_table =
     record { word = codes "cb_nodes"; form = Within 1 64 1; default = λ ranks. min ranks 8; seen = λ h. h.cb_nodes; set = λ n h. record h { cb_nodes = n } }
@@ -67,6 +68,7 @@ hint_row h = unwrap_or (slice_get hint_table h) no_row
 abbrev pub hint_form : ℕ → HintForm
 hint_form h = (hint_row h).form
 
+-- the word of a value
 abbrev pub shown_value : HintForm → ℕ → List ℕ
 shown_value (Within low high unit) n = decimal n
 shown_value (Either zero_word one_word) n = if n == 1 then one_word else zero_word

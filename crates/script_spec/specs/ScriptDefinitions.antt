@@ -3,7 +3,7 @@
 --     hint_line .. fill_line    what the words of a line say, or the first fault among them from the left
 --     definition, addition      what is defined, or added to an opened dataset, after a line
 --     known_after               what is known after a line
-use Rattle.std.specs.Prelude.{bytes_eq, ℕ, ◌+◌, ◌%◌, List, [], ◌∷◌, ◌++◌, map, find, position, drop, length, flat_map, Bool, true, false, not, ◌&&◌, nat_lt, nat_le, ◌==◌, if◌then◌else◌, Option, Some, None, Result, Ok, Err, is_some, slice_get, slice_set, codes}
+use Rattle.std.specs.Prelude.{bytes_eq, ℕ, ◌+◌, ◌%◌, List, [], ◌∷◌, ◌++◌, map, find, position, drop, length, flat_map, Bool, true, false, not, ◌&&◌, nat_lt, nat_le, ◌==◌, if◌then◌else◌, Option, Some, None, Result, Ok, is_some, slice_get, slice_set, codes}
 use Rattle.std.specs.List.{list_any, list_all}
 use Rattle.nc_base.specs.declared.errors.ScriptKind.{ScriptKind}
 use Rattle.nc_base.specs.declared.errors.ScriptKind.TheVariants as kind
@@ -38,6 +38,7 @@ number_within low high unit w = elim (size_of_text w) [ None ↦ None | Some n �
 abbrev pub one_of_two : List ℕ → List ℕ → List ℕ → Option ℕ
 one_of_two zero_word one_word w = if bytes_eq w zero_word then Some 0 else (if bytes_eq w one_word then Some 1 else None)
 
+-- the value of a hint of this form
 abbrev pub hint_value : HintForm → List Word → Result (ℕ × List Word) ScriptKind
 hint_value (Within low high unit) ws = reads_as (number_within low high unit) kind.BadNumber ws
 hint_value (Either zero_word one_word) ws = reads_as (one_of_two zero_word one_word) kind.UnknownWord ws
@@ -113,6 +114,7 @@ name_list ws = do
 abbrev pub dim_ids : List Dim → List (List ℕ) → Option (List ℕ)
 dim_ids dims names = all_some (map (λ n. position (bytes_eq n) (dim_names dims)) names)
 
+-- the dimension at this place is unlimited
 abbrev pub is_record_dim : List Dim → ℕ → Bool
 is_record_dim dims id = elim (slice_get dims id) [ None ↦ false | Some d ↦ is_unlimited d ]
 

@@ -16,9 +16,11 @@ abbrev pub ◌>>=◌ : {A B E : Type 0} → Result A E → (A → Result B E) �
 (Ok x) >>= f = f x
 (Err e) >>= f = Err e
 
+-- the fault if the test holds, and else nothing
 abbrev pub refuse_if : Bool → ScriptKind → Result (Unit {0}) ScriptKind
 refuse_if b e = if b then Err e else Ok tt
 
+-- what is there, or the fault
 abbrev pub or_fault : {A : Type 0} → ScriptKind → Option A → Result A ScriptKind
 or_fault e None = Err e
 or_fault e (Some x) = Ok x

@@ -1,6 +1,6 @@
 -- The values of a call or of an attribute: numbers, bits, a text, or a sequence by its terms. (own)
 --     values t before words     what the words say, for an attribute of a type or for a call, or the first fault among them
-use Rattle.std.specs.Prelude.{bytes_eq, ℕ, ◌+◌, ◌-◌, ◌*◌, ◌^◌, List, [], ◌∷◌, ◌++◌, map, length, Bool, true, false, not, ◌&&◌, ◌||◌, nat_lt, ◌==◌, if◌then◌else◌, Option, Some, None, Result, Ok, Err, is_some, ℤ, pos, ◌+ℤ◌, ◌*ℤ◌, unsigned_abs, codes}
+use Rattle.std.specs.Prelude.{ℕ, ◌+◌, ◌-◌, ◌*◌, ◌^◌, List, [], ◌∷◌, ◌++◌, map, length, Bool, true, false, not, ◌&&◌, ◌||◌, nat_lt, ◌==◌, if◌then◌else◌, Option, Some, None, Result, Ok, Err, is_some, ℤ, pos, ◌+ℤ◌, ◌*ℤ◌, unsigned_abs, codes}
 use Rattle.std.specs.List.{range_with_len}
 use Rattle.nc_base.specs.declared.errors.ScriptKind.{ScriptKind}
 use Rattle.nc_base.specs.declared.errors.ScriptKind.TheVariants as kind
