@@ -187,7 +187,8 @@ pub fn push_call_word(out: &mut Vec<u8>, call: &Call) -> Result<(), Memory>
             push_bytes(out, kind_word(*kind))?;
             push_bytes(out, form_word(given.form))
         }
-        Call::Wait { all, .. } => push_collective(out, b"wait", *all),
+        Call::Wait { all: false, .. } => push_bytes(out, b"wait"),
+        Call::Wait { all: true, .. } => push_bytes(out, b"wait_all"),
         Call::Cancel { .. } => push_bytes(out, b"cancel"),
         Call::Attach { .. } => push_bytes(out, b"buffer_attach"),
         Call::Detach => push_bytes(out, b"buffer_detach"),

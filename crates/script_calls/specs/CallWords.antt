@@ -1,5 +1,5 @@
 -- The calls of the definitions, with names for their parts that proofs keep shut.
-use Rattle.std.specs.Prelude.{ℕ, List, Bool, Some, None, Result, Ok, codes}
+use Rattle.std.specs.Prelude.{bytes_eq, ℕ, List, find, drop, Bool, Some, None, Result, Ok, codes}
 use Rattle.nc_base.specs.declared.errors.ScriptKind.{ScriptKind}
 use Rattle.nc_base.specs.declared.errors.ScriptKind.TheVariants as kind
 use Rattle.nc_base.specs.declared.request.Form.{Form}
@@ -11,7 +11,8 @@ use Rattle.nc_base.specs.declared.request.Call.TheVariants as call
 use Rattle.script_spec.specs.ScriptWords.{Word}
 use Rattle.script_spec.specs.ScriptSteps.{◌>>=◌, or_fault, name, ended}
 use Rattle.script_spec.specs.ScriptValues.{values}
-use Rattle.script_spec.specs.ScriptCalls.{region, post_values, new_id, posted, after_prefix, form_and_all, form_of_text, post_of_text, plain_call}
+use Rattle.script_spec.specs.ScriptCalls.{region, post_values, new_id, posted, after_prefix, form_and_all, form_of_text, post_of_text, row_call, plain_call}
+use Rattle.script_spec.specs.CallTable.{CallRow, call_table}
 
 unfoldable pub region_by : Form → List Word → Result (Given × List Word) ScriptKind
 region_by f ws = region f ws
@@ -46,6 +47,16 @@ post_by k ids f before ws = do
   g ← region_by f v.1
   vs ← post_values_by k before g.1
   Ok (call.Post id.0 k v.0 g.0 vs)
+
+-- a call of one of these rows
+abbrev pub call_among : List CallRow → ℕ → ℕ → List ℕ → List Word → Result Call ScriptKind
+call_among rows ranks r w ws = do
+  row ← or_fault kind.UnknownWord (find (λ row. bytes_eq w row.word) rows)
+  row_call ranks r row ws
+
+-- the rows of calls that choose no requests
+abbrev pub other_rows : List CallRow
+other_rows = drop 3 call_table
 
 unfoldable pub plain_by : ℕ → ℕ → List ℕ → List Word → Result Call ScriptKind
 plain_by ranks r w ws = plain_call ranks r w ws

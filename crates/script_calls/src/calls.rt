@@ -1,9 +1,10 @@
 // The calls of a line.
-ghost use Rattle.std.specs.Prelude.{◌≡◌, ◌≤◌, ◌^◌, ◌+◌, [], IfOk, None, false};
+ghost use Rattle.std.specs.Prelude.{◌≡◌, ◌≤◌, ◌^◌, ◌+◌, [], IfOk, None, Ok, false};
 ghost use Rattle.serial_spec.specs.Lawful.{values_in_call};
-ghost use Rattle.script_spec.specs.ScriptSteps.{whole};
-ghost use Rattle.script_spec.specs.ScriptCalls.{posted, id_of_post, choice, one_id, ids, fill_call, attach_call, inquiry, lone_call, other_call};
-ghost use Rattle.script_calls.specs.CallWords.{plain_by, post_or_plain_by, call_by};
+ghost use Rattle.script_spec.specs.ScriptSteps.{◌>>=◌};
+ghost use Rattle.script_spec.specs.CallTable.{Size, Name, Record, Nothing};
+ghost use Rattle.script_spec.specs.ScriptCalls.{posted, id_of_post, choice, one_id, ids, behind};
+ghost use Rattle.script_calls.specs.CallWords.{call_among, other_rows, plain_by, post_or_plain_by, call_by};
 ghost use Rattle.script_words.specs.Given.{Gives, word_of};
 ghost use Rattle.script_calls.specs.Posts.{IsNew};
 
@@ -60,8 +61,9 @@ fn choice(alloc: Global, words: &mut Words<'_>) -> Result<Choice, ReadErr>
     Ok(Choice::Listed(ids(alloc, words)?))
 }
 
+/// Reads which record is filled; this rank fills its share of it, one of so many.
 fn fill_call(alloc: Global, ranks: u32, rank: u32, words: &mut Words<'_>) -> Result<Call, ReadErr>
-    ensures read { Gives (λ c. c) result (fill_call ranks rank words.old) }
+    ensures read { Gives (λ c. c) result (behind Record words.old >>= λ v. Ok (Call.FillRec v.0 v.1 rank ranks)) }
     ensures none { IfOk result (λ c. (values_in_call c ≡ 0) × (id_of_post c ≡ None)) }
 {
     let var = name(words)?;
@@ -76,7 +78,7 @@ fn fill_call(alloc: Global, ranks: u32, rank: u32, words: &mut Words<'_>) -> Res
 }
 
 fn attach_call(words: &mut Words<'_>) -> Result<Call, ReadErr>
-    ensures read { Gives (λ c. c) result (attach_call words.old) }
+    ensures read { Gives (λ c. c) result (behind Size words.old >>= λ n. Ok (Call.Attach n)) }
     ensures none { IfOk result (λ c. (values_in_call c ≡ 0) × (id_of_post c ≡ None)) }
 {
     let size = size(words)?;
@@ -86,7 +88,7 @@ fn attach_call(words: &mut Words<'_>) -> Result<Call, ReadErr>
 
 /// Reads a question for the length of a dimension.
 fn inquiry(alloc: Global, words: &mut Words<'_>) -> Result<Call, ReadErr>
-    ensures read { Gives (λ c. c) result (inquiry words.old) }
+    ensures read { Gives (λ c. c) result (behind Name words.old >>= λ n. Ok (Call.InqDim n)) }
     ensures none { IfOk result (λ c. (values_in_call c ≡ 0) × (id_of_post c ≡ None)) }
 {
     let name = name(words)?;
@@ -98,18 +100,33 @@ fn inquiry(alloc: Global, words: &mut Words<'_>) -> Result<Call, ReadErr>
 
 /// This call, behind whose word none may stand.
 fn alone(call: Call, words: &mut Words<'_>) -> Result<Call, ReadErr>
-    ensures read { Gives (λ c. c) result (whole (call, words.old)) }
+    ensures read { Gives (λ c. c) result (behind Nothing words.old >>= λ _. Ok call) }
     ensures same { IfOk result (λ c. c ≡ call) }
 {
     no_more(words)?;
     Ok(call)
 }
 
-/// Reads a call behind whose word none stands.
-fn lone_call(word: &[u8], words: &mut Words<'_>) -> Result<Call, ReadErr>
-    ensures read { Gives (λ c. c) result (lone_call word.now words.old) }
+/// Reads a call that chooses no requests.
+fn other_call(
+    alloc: Global,
+    ranks: u32,
+    rank: u32,
+    word: &[u8],
+    words: &mut Words<'_>,
+) -> Result<Call, ReadErr>
+    ensures read { Gives (λ c. c) result (call_among other_rows ranks rank word.now words.old) }
     ensures none { IfOk result (λ c. (values_in_call c ≡ 0) × (id_of_post c ≡ None)) }
 {
+    if word == b"buffer_attach".as_slice() {
+        return attach_call(words);
+    }
+    if word == b"inq_dimlen".as_slice() {
+        return inquiry(alloc, words);
+    }
+    if word == b"fill_var_rec".as_slice() {
+        return fill_call(alloc, ranks, rank, words);
+    }
     if word == b"buffer_detach".as_slice() {
         return alone(Call::Detach, words);
     }
@@ -123,28 +140,6 @@ fn lone_call(word: &[u8], words: &mut Words<'_>) -> Result<Call, ReadErr>
         return alone(Call::SyncRecords, words);
     }
     Err(ReadErr::Fault(ScriptKind::UnknownWord))
-}
-
-fn other_call(
-    alloc: Global,
-    ranks: u32,
-    rank: u32,
-    word: &[u8],
-    words: &mut Words<'_>,
-) -> Result<Call, ReadErr>
-    ensures read { Gives (λ c. c) result (other_call ranks rank word.now words.old) }
-    ensures none { IfOk result (λ c. (values_in_call c ≡ 0) × (id_of_post c ≡ None)) }
-{
-    if word == b"buffer_attach".as_slice() {
-        return attach_call(words);
-    }
-    if word == b"inq_dimlen".as_slice() {
-        return inquiry(alloc, words);
-    }
-    if word == b"fill_var_rec".as_slice() {
-        return fill_call(alloc, ranks, rank, words);
-    }
-    lone_call(word, words)
 }
 
 /// Reads a call whose word names no form.

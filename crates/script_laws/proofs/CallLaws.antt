@@ -1,5 +1,5 @@
 -- The calls of a script, each as it is read.
-use Rattle.std.proofs.Common.{◌≡◌, ℕ, zero, suc, ◌+◌, ◌^◌, ◌<◌, ◌≤◌, List, [], ◌∷◌, ◌++◌, length, Bool, true, false, cond, not, Option, Some, None, Result, Err, IfOk, IfSome, refl, subst, arith, nat_lt, nat_le, ◌==◌, find, map, bytes_eq, codes, option_and_then, length-append, lt-ltb, le-leb, ltb-false, eq-eqb}
+use Rattle.std.proofs.Common.{◌≡◌, ℕ, zero, suc, ◌+◌, ◌^◌, ◌<◌, ◌≤◌, List, [], ◌∷◌, ◌++◌, length, Bool, true, false, not, Option, Some, None, Result, Ok, Err, IfOk, IfSome, refl, sym, subst, arith, nat_lt, nat_le, ◌==◌, map, codes, option_and_then, length-append, lt-ltb, le-leb, ltb-false}
 use Rattle.std.specs.List.{AllByRecursion, list_all}
 use Rattle.std.proofs.lemmas.Result.{IfOk-weaker}
 use Rattle.std.proofs.lemmas.Bool.{and_from}
@@ -23,11 +23,14 @@ use Rattle.serial_spec.specs.Lists.{is_empty}
 use Rattle.script_spec.specs.ScriptWords.{Word, size_of_text, between_brackets, parts, all_some, list_of_text}
 use Rattle.script_spec.specs.ScriptSteps.{refuse_if, or_fault, reads_as, size, list, name, ended, whole}
 use Rattle.script_spec.specs.ScriptValues.{values}
-use Rattle.script_spec.specs.ScriptCalls.{after_prefix, form_and_all, form_of_text, given_of, given_parts, part, part_list, many_regions, region, id_of_text, choice, id_of_post, posted, put_call, get_call, post_values, is_posted, new_id, post_call, fill_call, attach_call, inquiry, lone_calls, lone_call, plain_call, post_of_text, call_of}
+use Rattle.script_spec.specs.ScriptCalls.{after_prefix, form_and_all, form_of_text, given_of, given_parts, part, part_list, many_regions, region, id_of_text, choice, id_of_post, posted, put_call, get_call, post_values, is_posted, new_id, post_call, behind, plain_call, post_of_text, call_of}
+use Rattle.script_spec.specs.CallTable.{Family, Requests, Size, Name, Record, Nothing, row_of_text}
 use Rattle.script_laws.proofs.ListLaws.{all_pass, found_all}
-use Rattle.script_laws.proofs.StepLaws.{first_then, then_with, ok_then, by_test, unless_refused, read_as, whole_line}
+use Rattle.script_laws.proofs.StepLaws.{first_then, then_with, ok_then, unless_refused, read_as, whole_line}
 use Rattle.script_laws.proofs.CallValueLaws.{FitsValues, call_values_read}
 use Rattle.script_spec.proofs.NumeralLaws.{size_read}
+use Rattle.script_spec.proofs.TextLaws.{faultless_some}
+use Rattle.script_spec.proofs.CallTableLaws.{is_sized, found_row, made_no_values, made_no_post}
 
 -- ---- sizes and lists of them
 
@@ -149,63 +152,31 @@ post_read ranks r before own k f ws h =
     then_with (post_values k before g.1) _ _ (FitsPost k before) (post_values_read k before g.1 h) (λ vs fits.
     record { lawful = and_from _ _ good fits.lawful; few = fits.few; fresh = new }))))
 
-fill_read : (ranks r before : ℕ) (own : List Call) (ws : List Word) → before ≤ most_values → IfOk (fill_call ranks r ws) (FitsCall ranks r before own)
-fill_read ranks r before own ws h =
+whatever : {A E : Type 0} (r : Result A E) → IfOk r (λ _. true ≡ true)
+whatever (Ok x) = refl
+whatever (Err e) = tt
+
+behind_read : (f : Family) (ws : List Word) → IfOk (behind f ws) (λ b. is_sized f b ≡ true)
+behind_read Requests ws = whatever (choice ws)
+behind_read Size ws =
+    then_with (size ws) _ _ (λ n. n.0 < 2 ^ 63) (size_word ws) (λ n small. whole_line n.0 n.1 (λ x. is_sized Size x ≡ true) (lt-ltb n.0 (2 ^ 63) small))
+behind_read Name ws = whatever (behind Name ws)
+behind_read Record ws =
     first_then (name ws) _ _ (λ v _.
     then_with (size v.1) _ _ (λ n. n.0 < 2 ^ 63) (size_word v.1) (λ n small.
-    first_then (ended n.1) _ _ (λ _ _.
-    record { lawful = and_from _ _ (and_from _ _ (lt-ltb n.0 (2 ^ 63) small) (eq-eqb r r refl)) (eq-eqb ranks ranks refl); few = omega arith; fresh = tt })))
-
-attach_read : (ranks r before : ℕ) (own : List Call) (ws : List Word) → before ≤ most_values → IfOk (attach_call ws) (FitsCall ranks r before own)
-attach_read ranks r before own ws h =
-    then_with (size ws) _ _ (λ n. n.0 < 2 ^ 63) (size_word ws) (λ n small.
-    whole_line (call.Attach n.0) n.1 (FitsCall ranks r before own) (record { lawful = lt-ltb n.0 (2 ^ 63) small; few = omega arith; fresh = tt }))
-
-inquiry_read : (ranks r before : ℕ) (own : List Call) (ws : List Word) → before ≤ most_values → IfOk (inquiry ws) (FitsCall ranks r before own)
-inquiry_read ranks r before own ws h =
-    first_then (name ws) _ _ (λ n _. whole_line (call.InqDim n.0) n.1 (FitsCall ranks r before own) (record { lawful = refl; few = omega arith; fresh = tt }))
-
-found_one : {A : Type 0} (test : A → Bool) (P : A → Type 0) (xs : List A) → AllByRecursion P xs → IfSome (find test xs) P
-found_one test P [] h = tt
-found_one {A} test P (x ∷ xs) h = by_first (test x) (found_one test P xs h.1)
-  where
-    by_first : (b : Bool) → IfSome (find test xs) P → IfSome (cond b (Some x) (find test xs)) P
-    by_first true rest = h.0
-    by_first false rest = rest
-
-lone_read : (ranks r before : ℕ) (own : List Call) (w : List ℕ) (ws : List Word) → before ≤ most_values → IfOk (lone_call w ws) (FitsCall ranks r before own)
-lone_read ranks r before own w ws h =
-    by_found (find (λ (c : List ℕ × Call). bytes_eq w c.0) lone_calls)
-    (found_one (λ (c : List ℕ × Call). bytes_eq w c.0) (λ c. FitsCall ranks r before own c.1) lone_calls (detach, (begin, (end, (sync, tt)))))
-  where
-    detach : FitsCall ranks r before own call.Detach
-    detach = record { lawful = refl; few = omega arith; fresh = tt }
-
-    begin : FitsCall ranks r before own call.BeginIndep
-    begin = record { lawful = refl; few = omega arith; fresh = tt }
-
-    end : FitsCall ranks r before own call.EndIndep
-    end = record { lawful = refl; few = omega arith; fresh = tt }
-
-    sync : FitsCall ranks r before own call.SyncRecords
-    sync = record { lawful = refl; few = omega arith; fresh = tt }
-
-    by_found : (o : Option (List ℕ × Call)) → IfSome o (λ c. FitsCall ranks r before own c.1)
-        → IfOk (elim o as (λ _. Result Call ScriptKind) [ None ↦ Err kind.UnknownWord | Some c ↦ whole (c.1, ws) ]) (FitsCall ranks r before own)
-    by_found None f = tt
-    by_found (Some c) f = whole_line c.1 ws (FitsCall ranks r before own) f
+    whole_line (v.0, n.0) n.1 (λ x. is_sized Record x ≡ true) (lt-ltb n.0 (2 ^ 63) small)))
+behind_read Nothing ws = whatever (behind Nothing ws)
 
 plain_read : (ranks r before : ℕ) (own : List Call) (w : List ℕ) (ws : List Word) → before ≤ most_values → IfOk (plain_call ranks r w ws) (FitsCall ranks r before own)
 plain_read ranks r before own w ws h =
-    by_test (bytes_eq w (codes "wait")) _ _ P (λ _. first_then (choice ws) _ _ (λ c _. record { lawful = refl; few = omega arith; fresh = tt })) (λ _.
-    by_test (bytes_eq w (codes "wait_all")) _ _ P (λ _. first_then (choice ws) _ _ (λ c _. record { lawful = refl; few = omega arith; fresh = tt })) (λ _.
-    by_test (bytes_eq w (codes "cancel")) _ _ P (λ _. first_then (choice ws) _ _ (λ c _. record { lawful = refl; few = omega arith; fresh = tt })) (λ _.
-    by_test (bytes_eq w (codes "buffer_attach")) _ _ P (λ _. attach_read ranks r before own ws h) (λ _.
-    by_test (bytes_eq w (codes "inq_dimlen")) _ _ P (λ _. inquiry_read ranks r before own ws h) (λ _.
-    by_test (bytes_eq w (codes "fill_var_rec")) _ _ P (λ _. fill_read ranks r before own ws h) (λ _. lone_read ranks r before own w ws h))))))
-  where
-    P : Call → Type 0
-    P = FitsCall ranks r before own
+    first_then (or_fault kind.UnknownWord (row_of_text w)) _ _ (λ row e.
+    let is = found_row w row (faultless_some kind.UnknownWord (row_of_text w) row e) in
+    then_with (behind row.family ws) _ _ (λ b. is_sized row.family b ≡ true) (behind_read row.family ws) (λ b sized.
+    record {
+      lawful = is.lawful ranks r b sized;
+      few = let none = made_no_values row is ranks r b in omega (arith, none);
+      fresh = subst (λ (o : Option ℕ). IfSome o (λ id. is_posted id (posted own) ≡ false)) (sym (made_no_post row is ranks r b)) tt;
+    }))
 
 by_some : {A B E : Type 0} (o : Option A) (f : A → Result B E) (q : Result B E) (P : B → Type 0) → ((x : A) → IfOk (f x) P) → IfOk q P
     → IfOk (elim o as (λ _. Result B E) [ Some x ↦ f x | None ↦ q ]) P

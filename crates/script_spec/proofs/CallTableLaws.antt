@@ -4,13 +4,14 @@ use Rattle.std.specs.List.{AllByRecursion}
 use Rattle.std.proofs.lemmas.Bool.{and_from, and_parts, eqb-true}
 use Rattle.std.proofs.lemmas.List.Folds.{find_at}
 use Rattle.list_laws.proofs.Each.{each_at}
+use Rattle.nc_base.specs.declared.request.Choice.{Choice}
 use Rattle.nc_base.specs.declared.request.Call.{Call}
 use Rattle.nc_base.specs.declared.request.Call.TheVariants as call
 use Rattle.serial_spec.specs.Lawful.{is_size, is_lawful_call, values_in_call, id_posted}
 use Rattle.script_spec.specs.ScriptWords.{Word}
 use Rattle.script_spec.specs.ScriptCalls.{row_call, call_of}
 use Rattle.script_spec.specs.Texts.{call_word}
-use Rattle.script_spec.specs.Shown.{words_behind, call_words}
+use Rattle.script_spec.specs.Shown.{choice_words, words_behind, call_words}
 use Rattle.script_spec.specs.CallTable.{Family, Size, Record, Behind, CallRow, call_table, row_of_text, row_of, plain_word, in_row, of_behind}
 
 abbrev pub HasNoRegion : Call → Type 0
@@ -100,6 +101,10 @@ module _ (row : CallRow) (is : IsRow row) (ranks r : ℕ) (b : Behind row.family
 
   pub made_no_post : id_posted (row.made ranks r b) ≡ None
   made_no_post = (plain (row.made ranks r b) (is.apart ranks r b)).3
+
+pub wait_words : (all : Bool) (choice : Choice) → call_words (call.Wait all choice) ≡ choice_words choice
+wait_words false choice = refl
+wait_words true choice = refl
 
 -- ---- the row of a call
 

@@ -1,5 +1,5 @@
 -- The words of calls that are read spell them, and each rank has the calls of its lines.
-use Rattle.std.proofs.Common.{◌≡◌, ◌∙◌, ℕ, ◌+◌, ◌-◌, List, [], ◌∷◌, ◌++◌, take, drop, length, Bool, true, false, cond, Option, Some, None, option_map, Result, Ok, Err, refl, sym, ap, subst, append-nil, bytes_eq, codes}
+use Rattle.std.proofs.Common.{◌≡◌, ◌∙◌, ℕ, ◌+◌, ◌-◌, List, [], ◌∷◌, ◌++◌, take, drop, length, Bool, true, false, Option, Some, None, option_map, Result, Ok, Err, refl, sym, ap, subst, append-nil, bytes_eq, codes}
 use Rattle.std.proofs.lemmas.List.{take-append-drop}
 use Rattle.std.proofs.lemmas.Option.{cond_some}
 use Rattle.list_laws.proofs.Maps.{found_passes}
@@ -20,11 +20,13 @@ use Rattle.script_spec.specs.Texts.{call_word, form_word, kind_word, with_all}
 use Rattle.script_spec.specs.ScriptWords.{Word, Plain, Quoted, Broken, is_word}
 use Rattle.script_spec.specs.ScriptSteps.{◌>>=◌, refuse_if, or_fault, reads_as, size, name, ended, whole}
 use Rattle.script_spec.specs.ScriptValues.{values}
-use Rattle.script_spec.specs.ScriptCalls.{after_prefix, before_suffix, forms, form_of_text, form_and_all, region, id_of_text, one_id, ids, choice, posted, is_posted, new_id, put_call, get_call, post_values, post_call, fill_call, attach_call, inquiry, lone_call, other_call, plain_call, post_of_text, call_of}
+use Rattle.script_spec.specs.ScriptCalls.{after_prefix, before_suffix, forms, form_of_text, form_and_all, region, id_of_text, one_id, ids, choice, posted, is_posted, new_id, put_call, get_call, post_values, post_call, behind, row_call, plain_call, post_of_text, call_of}
+use Rattle.script_spec.specs.CallTable.{Family, Requests, Size, Name, Record, Nothing, Behind, CallRow, call_table, row_of_text}
+use Rattle.script_spec.proofs.CallTableLaws.{HasNoRegion, IsRow, found_row, made_word}
 use Rattle.script_text.proofs.Steps.{went, same_ok, is_end, whole_value, carried}
 use Rattle.script_text.proofs.Places.{bytes_same}
 use Rattle.script_spelling.specs.SpelledValues.{Each}
-use Rattle.script_spelling.specs.SpelledCalls.{SpellsPosted, SpellsChoice, SpellsPlace, SpellsCall}
+use Rattle.script_spelling.specs.SpelledCalls.{SpellsPosted, SpellsChoice, SpellsPlace, SpellsBehind, SpellsInRow, SpellsPlain, SpellsCall}
 use Rattle.list_laws.proofs.Optional.{some_of_map}
 use Rattle.script_spelling.proofs.WordsRead.{WordRead, word_is, one_is, name_is, size_is}
 use Rattle.script_spelling.proofs.ValuesRead.{EachRead, each_on, values_spelled, region_spelled, region_of_form}
@@ -183,89 +185,57 @@ choice_spelled (w ∷ ws) c h = by (is_word (codes "all") w) refl h
         let each = ids_spelled [] (w ∷ ws) a.value a.first in
         subst (SpellsChoice (w ∷ ws)) (same_ok (Listed a.value) c a.rest) (subst (Each id_of_text (w ∷ ws)) (sym each.are) each.spells)
 
-waits : (all : Bool) (ws : List Word) (c : Call) → (choice ws >>= λ x. Ok (call.Wait all x)) ≡ Ok c → IsCall (with_all all (codes "wait")) ws c
-waits all ws c h =
-    let a = went (choice ws) (λ x. Ok (call.Wait all x)) c h in
-    subst (IsCall (with_all all (codes "wait")) ws) (same_ok (call.Wait all a.value) c a.rest) (refl, choice_spelled ws a.value a.first)
-
-cancels : (ws : List Word) (c : Call) → (choice ws >>= λ x. Ok (call.Cancel x)) ≡ Ok c → IsCall (codes "cancel") ws c
-cancels ws c h =
-    let a = went (choice ws) (λ x. Ok (call.Cancel x)) c h in
-    subst (IsCall (codes "cancel") ws) (same_ok (call.Cancel a.value) c a.rest) (refl, choice_spelled ws a.value a.first)
-
 one_word : (w : List ℕ) (ws rest : List Word) → ws ≡ Plain w ∷ rest → rest ≡ [] → ws ≡ Plain w ∷ []
 one_word w ws rest a b = a ∙ ap (λ (xs : List Word). Plain w ∷ xs) b
 
-attaches : (ws : List Word) (c : Call) → attach_call ws ≡ Ok c → IsCall (codes "buffer_attach") ws c
-attaches ws c h =
-    let a = went (size ws) _ c h in
+behind_spelled : (f : Family) (ws : List Word) (b : Behind f) → behind f ws ≡ Ok b → SpellsBehind ws f b
+behind_spelled Requests ws c h = choice_spelled ws c h
+behind_spelled Size ws n h =
+    let a = went (size ws) whole n h in
     let s = size_is ws a.value a.first in
-    let end = whole_value (call.Attach a.value.0, a.value.1) c a.rest in
-    subst (IsCall (codes "buffer_attach") ws) end.0 (refl, (s.word, one_word s.word ws a.value.1 s.are end.1, s.says))
-
-inquires : (ws : List Word) (c : Call) → inquiry ws ≡ Ok c → IsCall (codes "inq_dimlen") ws c
-inquires ws c h =
-    let a = went (name ws) _ c h in
-    let n = name_is ws a.value a.first in
-    let end = whole_value (call.InqDim a.value.0, a.value.1) c a.rest in
-    subst (IsCall (codes "inq_dimlen") ws) end.0 (refl, (one_word a.value.0 ws a.value.1 n.are end.1, n.named))
-
-fills : (ranks r : ℕ) (ws : List Word) (c : Call) → fill_call ranks r ws ≡ Ok c → IsCall (codes "fill_var_rec") ws c
-fills ranks r ws c h =
-    let a = went (name ws) _ c h in
-    let b = went (size a.value.1) _ c a.rest in
-    let u = went (ended b.value.1) _ c b.rest in
+    let end = whole_value a.value n a.rest in
+    subst (SpellsBehind ws Size) end.0 (s.word, one_word s.word ws a.value.1 s.are end.1, s.says)
+behind_spelled Name ws n h =
+    let a = went (name ws) whole n h in
+    let s = name_is ws a.value a.first in
+    let end = whole_value a.value n a.rest in
+    subst (SpellsBehind ws Name) end.0 (one_word a.value.0 ws a.value.1 s.are end.1, s.named)
+behind_spelled Record ws v h =
+    let a = went (name ws) _ v h in
+    let b = went (size a.value.1) _ v a.rest in
     let n = name_is ws a.value a.first in
     let s = size_is a.value.1 b.value b.first in
-    let are = n.are ∙ ap (λ (xs : List Word). Plain a.value.0 ∷ xs) (one_word s.word a.value.1 b.value.1 s.are (is_end b.value.1 u.value u.first)) in
-    subst (IsCall (codes "fill_var_rec") ws) (same_ok (call.FillRec a.value.0 b.value.0 r ranks) c u.rest) (refl, (s.word, are, n.named, s.says))
+    let end = whole_value ((a.value.0, b.value.0), b.value.1) v b.rest in
+    let are = n.are ∙ ap (λ (xs : List Word). Plain a.value.0 ∷ xs) (one_word s.word a.value.1 b.value.1 s.are end.1) in
+    subst (SpellsBehind ws Record) end.0 (s.word, are, n.named, s.says)
+behind_spelled Nothing ws u h = (whole_value (tt, ws) u h).1
 
-at_word : (w word : List ℕ) (ws : List Word) (c : Call) → bytes_eq w word ≡ true → IsCall word ws c → IsCall w ws c
-at_word w word ws c e h = (bytes_same w word e ∙ h.0, h.1)
+-- a call that a row makes is spelled by what stands behind the row's word
+made_spelled : (row : CallRow) → IsRow row → (ranks r : ℕ) (b : Behind row.family) (ws : List Word) → SpellsBehind ws row.family b → SpellsPlain ws (row.made ranks r b)
+made_spelled row is ranks r b ws h =
+    let c = row.made ranks r b in
+    let in_row : SpellsInRow ws row c = subst (λ (o : Option (Behind row.family)). elim o as (λ _. Type 0) [ None ↦ ws ≡ [] | Some x ↦ SpellsBehind ws row.family x ]) (sym (is.again ranks r b)) h in
+    subst (λ (o : Option CallRow). elim o as (λ _. Type 0) [ None ↦ ws ≡ [] | Some x ↦ SpellsInRow ws x c ]) (sym (is.found ranks r b)) in_row
 
-lone_spelled : (w : List ℕ) (ws : List Word) (c : Call) → lone_call w ws ≡ Ok c → IsCall w ws c
-lone_spelled w ws c h = by (bytes_eq w (codes "buffer_detach")) (bytes_eq w (codes "begin_indep_data")) (bytes_eq w (codes "end_indep_data")) (bytes_eq w (codes "sync_numrecs")) refl refl refl refl h
-  where
-    by : (i j k l : Bool) → bytes_eq w (codes "buffer_detach") ≡ i → bytes_eq w (codes "begin_indep_data") ≡ j → bytes_eq w (codes "end_indep_data") ≡ k → bytes_eq w (codes "sync_numrecs") ≡ l
-        → elim (cond {A = Option (List ℕ × Call)} i (Some (codes "buffer_detach", call.Detach)) (cond j (Some (codes "begin_indep_data", call.BeginIndep)) (cond k (Some (codes "end_indep_data", call.EndIndep)) (cond l (Some (codes "sync_numrecs", call.SyncRecords)) None)))) as (λ x. Result Call ScriptKind) [
-          | None ↦ Err kind.UnknownWord
-          | Some p ↦ whole (p.1, ws)
-        ] ≡ Ok c → IsCall w ws c
-    by true j k l a b d e m = let end = whole_value (call.Detach, ws) c m in subst (IsCall w ws) end.0 (bytes_same w (codes "buffer_detach") a, end.1)
-    by false true k l a b d e m = let end = whole_value (call.BeginIndep, ws) c m in subst (IsCall w ws) end.0 (bytes_same w (codes "begin_indep_data") b, end.1)
-    by false false true l a b d e m = let end = whole_value (call.EndIndep, ws) c m in subst (IsCall w ws) end.0 (bytes_same w (codes "end_indep_data") d, end.1)
-    by false false false true a b d e m = let end = whole_value (call.SyncRecords, ws) c m in subst (IsCall w ws) end.0 (bytes_same w (codes "sync_numrecs") e, end.1)
-    by false false false false a b d e m = absurd (cc)
-
-other_spelled : (ranks r : ℕ) (w : List ℕ) (ws : List Word) (c : Call) → other_call ranks r w ws ≡ Ok c → IsCall w ws c
-other_spelled ranks r w ws c h = by (bytes_eq w (codes "buffer_attach")) (bytes_eq w (codes "inq_dimlen")) (bytes_eq w (codes "fill_var_rec")) refl refl refl h
-  where
-    by : (i j k : Bool) → bytes_eq w (codes "buffer_attach") ≡ i → bytes_eq w (codes "inq_dimlen") ≡ j → bytes_eq w (codes "fill_var_rec") ≡ k → elim i as (λ x. Result Call ScriptKind) [
-      | true ↦ attach_call ws
-      | false ↦ elim j as (λ x. Result Call ScriptKind) [
-        | true ↦ inquiry ws
-        | false ↦ elim k as (λ x. Result Call ScriptKind) [ true ↦ fill_call ranks r ws | false ↦ lone_call w ws ]
-      ]
-    ] ≡ Ok c → IsCall w ws c
-    by true j k a b d e = at_word w (codes "buffer_attach") ws c a (attaches ws c e)
-    by false true k a b d e = at_word w (codes "inq_dimlen") ws c b (inquires ws c e)
-    by false false true a b d e = at_word w (codes "fill_var_rec") ws c d (fills ranks r ws c e)
-    by false false false a b d e = lone_spelled w ws c e
+apart_spelled : (c : Call) (ws : List Word) → HasNoRegion c → SpellsPlain ws c → SpellsCall ws c
+apart_spelled (call.Put all n g vs) ws apart h = absurd apart
+apart_spelled (call.Get all n g) ws apart h = absurd apart
+apart_spelled (call.Post id k n g vs) ws apart h = absurd apart
+apart_spelled _ ws apart h = h
 
 plain_spelled : (ranks r : ℕ) (w : List ℕ) (ws : List Word) (c : Call) → plain_call ranks r w ws ≡ Ok c → IsCall w ws c
-plain_spelled ranks r w ws c h = by (bytes_eq w (codes "wait")) (bytes_eq w (codes "wait_all")) (bytes_eq w (codes "cancel")) refl refl refl h
-  where
-    by : (i j k : Bool) → bytes_eq w (codes "wait") ≡ i → bytes_eq w (codes "wait_all") ≡ j → bytes_eq w (codes "cancel") ≡ k → elim i as (λ x. Result Call ScriptKind) [
-      | true ↦ (choice ws >>= λ x. Ok (call.Wait false x))
-      | false ↦ elim j as (λ x. Result Call ScriptKind) [
-        | true ↦ (choice ws >>= λ x. Ok (call.Wait true x))
-        | false ↦ elim k as (λ x. Result Call ScriptKind) [ true ↦ (choice ws >>= λ x. Ok (call.Cancel x)) | false ↦ other_call ranks r w ws ]
-      ]
-    ] ≡ Ok c → IsCall w ws c
-    by true j k a b d e = at_word w (codes "wait") ws c a (waits false ws c e)
-    by false true k a b d e = at_word w (codes "wait_all") ws c b (waits true ws c e)
-    by false false true a b d e = at_word w (codes "cancel") ws c d (cancels ws c e)
-    by false false false a b d e = other_spelled ranks r w ws c e
+plain_spelled ranks r w ws c h =
+    let a = went (or_fault kind.UnknownWord (row_of_text w)) (λ row. row_call ranks r row ws) c h in
+    let row = a.value in
+    let there = faultless_some kind.UnknownWord (row_of_text w) row a.first in
+    let is = found_row w row there in
+    let d = went (behind row.family ws) (λ x. Ok (row.made ranks r x)) c a.rest in
+    let same_word = bytes_same w row.word (found_passes (λ (x : CallRow). bytes_eq w x.word) call_table row there) in
+    let spells = made_spelled row is ranks r d.value ws (behind_spelled row.family ws d.value d.first) in
+    subst (IsCall w ws) (same_ok (row.made ranks r d.value) c d.rest) (
+      same_word ∙ sym (made_word row is ranks r d.value),
+      apart_spelled (row.made ranks r d.value) ws (is.apart ranks r d.value) spells,
+    )
 
 pub call_spelled : (ranks r : ℕ) (own : List Call) (before : ℕ) (w : List ℕ) (ws : List Word) (c : Call) → call_of ranks r own before w ws ≡ Ok c → IsCall w ws c
 call_spelled ranks r own before w ws c h = by (after_prefix (codes "put_") w) (after_prefix (codes "get_") w) (post_of_text w) refl refl refl h

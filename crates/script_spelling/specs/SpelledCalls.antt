@@ -13,6 +13,7 @@ use Rattle.nc_base.specs.declared.request.Call.{Call}
 use Rattle.nc_base.specs.declared.request.Call.TheVariants as call
 use Rattle.script_spec.specs.Texts.{call_word}
 use Rattle.script_spec.specs.ScriptWords.{Word, Plain, begins_rank, digits_value, size_of_text, is_name}
+use Rattle.script_spec.specs.CallTable.{Family, Requests, Size, Name, Record, Nothing, Behind, CallRow, row_of}
 use Rattle.script_spec.specs.ScriptCalls.{id_of_text}
 use Rattle.script_spelling.specs.SpelledValues.{Each, SpellsRegion, SpellsValues}
 
@@ -29,18 +30,27 @@ SpellsChoice words (Listed ids) = Each id_of_text words ids
 abbrev pub SpellsPlace : List Word → List ℕ → Given → Type 0
 SpellsPlace words name given = (region : List Word) × (words ≡ Plain name ∷ region) × (is_name name ≡ true) × SpellsRegion region given
 
+-- what stands behind the word of a call that names no region
+abbrev pub SpellsBehind : List Word → (f : Family) → Behind f → Type 0
+SpellsBehind words Requests choice = SpellsChoice words choice
+SpellsBehind words Size size = (w : List ℕ) × (words ≡ Plain w ∷ []) × (size_of_text w ≡ Some size)
+SpellsBehind words Name name = (words ≡ Plain name ∷ []) × (is_name name ≡ true)
+SpellsBehind words Record (name, number) = (w : List ℕ) × (words ≡ Plain name ∷ Plain w ∷ []) × (is_name name ≡ true) × (size_of_text w ≡ Some number)
+SpellsBehind words Nothing _ = words ≡ []
+
+abbrev pub SpellsInRow : List Word → CallRow → Call → Type 0
+SpellsInRow words row c = elim (row.seen c) [ None ↦ words ≡ [] | Some b ↦ SpellsBehind words row.family b ]
+
+abbrev pub SpellsPlain : List Word → Call → Type 0
+SpellsPlain words c = elim (row_of c) [ None ↦ words ≡ [] | Some row ↦ SpellsInRow words row c ]
+
 abbrev pub SpellsCall : List Word → Call → Type 0
 SpellsCall words (call.Put all name given vs) = (place values : List Word) × (words ≡ place ++ values) × SpellsPlace place name given × SpellsValues None values vs
 SpellsCall words (call.Get all name given) = SpellsPlace words name given
 SpellsCall words (call.Post id kind name given vs) =
     (w : List ℕ) × (place values : List Word) × (words ≡ Plain w ∷ place ++ values) × (id_of_text w ≡ Some id) × SpellsPlace place name given
     × SpellsPosted kind values vs
-SpellsCall words (call.Wait all choice) = SpellsChoice words choice
-SpellsCall words (call.Cancel choice) = SpellsChoice words choice
-SpellsCall words (call.Attach size) = (w : List ℕ) × (words ≡ Plain w ∷ []) × (size_of_text w ≡ Some size)
-SpellsCall words (call.InqDim name) = (words ≡ Plain name ∷ []) × (is_name name ≡ true)
-SpellsCall words (call.FillRec name number share ranks) = (w : List ℕ) × (words ≡ Plain name ∷ Plain w ∷ []) × (is_name name ≡ true) × (size_of_text w ≡ Some number)
-SpellsCall words _ = words ≡ []
+SpellsCall words c = SpellsPlain words c
 
 -- RANK CALL
 abbrev pub SpellsCallLine : List Word → ℕ × Call → Type 0

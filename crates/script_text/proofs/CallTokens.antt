@@ -1,5 +1,5 @@
 -- The words of a call that is printed.
-use Rattle.std.proofs.Common.{◌≡◌, ◌∙◌, ℕ, ◌+◌, List, [], ◌∷◌, ◌++◌, map, Bool, true, false, Ok, refl, ap, codes, decimal}
+use Rattle.std.proofs.Common.{◌≡◌, ◌∙◌, ℕ, ◌+◌, List, [], ◌∷◌, ◌++◌, map, Bool, true, false, Option, Some, None, refl, ap, codes, decimal}
 use Rattle.nc_base.specs.declared.request.Values.{Values}
 use Rattle.nc_base.specs.declared.request.Form.{Form}
 use Rattle.nc_base.specs.declared.request.Form.TheVariants as form
@@ -9,30 +9,61 @@ use Rattle.nc_base.specs.declared.request.PostKind.TheVariants.{Iput, Iget, Bput
 use Rattle.nc_base.specs.declared.request.Call.{Call}
 use Rattle.nc_base.specs.declared.request.Call.TheVariants as call
 use Rattle.script_spec.specs.Texts.{call_word, form_word, kind_word, with_all}
-use Rattle.script_spec.specs.Shown.{call_words, region_words, shown_values}
+use Rattle.script_spec.specs.Shown.{call_words, region_words, shown_values, words_behind}
 use Rattle.script_spec.specs.ScriptWords.{Word, Plain}
-use Rattle.script_spec.specs.ScriptSteps.{◌>>=◌}
-use Rattle.script_spec.specs.ScriptCalls.{choice, posted, put_call, get_call, post_call, call_of}
+use Rattle.script_spec.specs.ScriptCalls.{posted, put_call, get_call, post_call, call_of}
+use Rattle.script_spec.specs.CallTable.{Family, Requests, Size, Name, Record, Nothing, Behind, CallRow, row_of, in_row, of_behind}
+use Rattle.script_spec.proofs.CallTableLaws.{HasNoRegion, IsRow, made_behind}
 use Rattle.script_text.proofs.Lexing.{spelling, is_plain}
 use Rattle.script_text.proofs.PrintedValues.{value_tokens, values_spelled}
 use Rattle.script_text.proofs.PrintedRegions.{region_tokens, region_spelled, choice_tokens, choice_spelled}
 
 -- ---- calls as they are printed
 
+abbrev pub tokens_behind : (f : Family) → Behind f → List Word
+tokens_behind Requests c = choice_tokens c
+tokens_behind Size n = Plain (decimal n) ∷ []
+tokens_behind Name n = Plain n ∷ []
+tokens_behind Record v = Plain v.0 ∷ Plain (decimal v.1) ∷ []
+tokens_behind Nothing _ = []
+
 -- what follows a call's word
 abbrev pub call_tokens : Call → List Word
 call_tokens (call.Put all n g vs) = Plain n ∷ (region_tokens g.form g ++ value_tokens vs)
 call_tokens (call.Get all n g) = Plain n ∷ region_tokens g.form g
 call_tokens (call.Post id k n g vs) = Plain (decimal id) ∷ Plain n ∷ (region_tokens g.form g ++ value_tokens vs)
-call_tokens (call.Wait all c) = choice_tokens c
-call_tokens (call.Cancel c) = choice_tokens c
-call_tokens (call.Attach n) = Plain (decimal n) ∷ []
-call_tokens (call.InqDim n) = Plain n ∷ []
-call_tokens (call.FillRec n number share ranks) = Plain n ∷ Plain (decimal number) ∷ []
-call_tokens call.Detach = []
-call_tokens call.BeginIndep = []
-call_tokens call.EndIndep = []
-call_tokens call.SyncRecords = []
+call_tokens c = of_behind [] tokens_behind c
+
+apart_tokens : (c : Call) → HasNoRegion c → call_tokens c ≡ of_behind [] tokens_behind c
+apart_tokens (call.Put all n g vs) h = absurd h
+apart_tokens (call.Get all n g) h = absurd h
+apart_tokens (call.Post id k n g vs) h = absurd h
+apart_tokens _ h = refl
+
+pub made_tokens : (row : CallRow) → IsRow row → (ranks r : ℕ) (b : Behind row.family) → call_tokens (row.made ranks r b) ≡ tokens_behind row.family b
+made_tokens row is ranks r b = apart_tokens (row.made ranks r b) (is.apart ranks r b) ∙ made_behind row is ranks r b [] tokens_behind
+
+behind_spelled : (f : Family) (b : Behind f) → map spelling (tokens_behind f b) ≡ words_behind f b
+behind_spelled Requests c = choice_spelled c
+behind_spelled Size n = refl
+behind_spelled Name n = refl
+behind_spelled Record v = refl
+behind_spelled Nothing _ = refl
+
+plain_spelled : (c : Call) → map spelling (of_behind [] tokens_behind c) ≡ of_behind [] words_behind c
+plain_spelled c = by_row (row_of c)
+  where
+    by_seen : (row : CallRow) (o : Option (Behind row.family))
+        → map spelling (elim o as (λ _. List Word) [ None ↦ [] | Some b ↦ tokens_behind row.family b ])
+        ≡ elim o as (λ _. List (List ℕ)) [ None ↦ [] | Some b ↦ words_behind row.family b ]
+    by_seen row None = refl
+    by_seen row (Some b) = behind_spelled row.family b
+
+    by_row : (o : Option CallRow)
+        → map spelling (elim o as (λ _. List Word) [ None ↦ [] | Some row ↦ in_row [] tokens_behind row c ])
+        ≡ elim o as (λ _. List (List ℕ)) [ None ↦ [] | Some row ↦ in_row [] words_behind row c ]
+    by_row None = refl
+    by_row (Some row) = by_seen row (row.seen c)
 
 both_spelled : (g : Given) (vs : Values) → map spelling (region_tokens g.form g ++ value_tokens vs) ≡ region_words g ++ shown_values vs
 both_spelled g vs =
@@ -47,15 +78,7 @@ pub call_spelled : (c : Call) → map spelling (call_tokens c) ≡ call_words c
 call_spelled (call.Put all n g vs) = ap (λ (ws : List (List ℕ)). n ∷ ws) (both_spelled g vs)
 call_spelled (call.Get all n g) = ap (λ (ws : List (List ℕ)). n ∷ ws) (region_spelled g.form g)
 call_spelled (call.Post id k n g vs) = ap (λ (ws : List (List ℕ)). decimal id ∷ n ∷ ws) (both_spelled g vs)
-call_spelled (call.Wait all c) = choice_spelled c
-call_spelled (call.Cancel c) = choice_spelled c
-call_spelled (call.Attach n) = refl
-call_spelled (call.InqDim n) = refl
-call_spelled (call.FillRec n number share ranks) = refl
-call_spelled call.Detach = refl
-call_spelled call.BeginIndep = refl
-call_spelled call.EndIndep = refl
-call_spelled call.SyncRecords = refl
+call_spelled c = plain_spelled c
 
 -- ---- the words of calls
 
@@ -93,23 +116,13 @@ post_plain Bput form.Vars = refl
 post_plain Bput form.Varm = refl
 post_plain Bput form.Varn = refl
 
-wait_plain : (all : Bool) → is_plain (with_all all (codes "wait")) ≡ true
-wait_plain true = refl
-wait_plain false = refl
-
 pub call_plain : (c : Call) → is_plain (call_word c) ≡ true
 call_plain (call.Put all n g vs) = (with_all_plain all g.form).0
 call_plain (call.Get all n g) = (with_all_plain all g.form).1
 call_plain (call.Post id k n g vs) = post_plain k g.form
-call_plain (call.Wait all c) = wait_plain all
-call_plain (call.Cancel c) = refl
-call_plain (call.Attach n) = refl
-call_plain (call.InqDim n) = refl
-call_plain (call.FillRec n number share ranks) = refl
-call_plain call.Detach = refl
-call_plain call.BeginIndep = refl
-call_plain call.EndIndep = refl
-call_plain call.SyncRecords = refl
+call_plain (call.Wait true c) = refl
+call_plain (call.Wait false c) = refl
+call_plain _ = refl
 
 module _ (ranks r : ℕ) (own : List Call) (before : ℕ) (ws : List Word) where
   pub put_word : (all : Bool) (f : Form) → call_of ranks r own before (with_all all (codes "put_" ++ form_word f)) ws ≡ put_call all f before ws
@@ -159,7 +172,3 @@ module _ (ranks r : ℕ) (own : List Call) (before : ℕ) (ws : List Word) where
   post_word Bput form.Vars = refl
   post_word Bput form.Varm = refl
   post_word Bput form.Varn = refl
-
-  pub wait_word : (all : Bool) → call_of ranks r own before (with_all all (codes "wait")) ws ≡ (choice ws >>= λ c. Ok (call.Wait all c))
-  wait_word true = refl
-  wait_word false = refl

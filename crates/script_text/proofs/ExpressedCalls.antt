@@ -1,7 +1,7 @@
 -- Calls that words can express, printed rank by rank, are read again.
-use Rattle.std.proofs.Common.{◌≡◌, ◌∙◌, ℕ, ◌+◌, ◌^◌, ◌≤◌, ◌<◌, List, [], ◌∷◌, ◌++◌, map, sum, length, true, false, not, nat_lt, nat_le, ◌==◌, ◌&&◌, ◌||◌, None, refl, sym, subst, append_assoc, arith}
+use Rattle.std.proofs.Common.{◌≡◌, ◌∙◌, ℕ, ◌+◌, ◌^◌, ◌≤◌, ◌<◌, List, [], ◌∷◌, ◌++◌, map, sum, length, true, false, not, nat_lt, nat_le, ◌==◌, ◌&&◌, ◌||◌, None, refl, sym, ap, subst, append_assoc, arith}
 use Rattle.std.specs.List.{list_all, list_any, enumerate_from}
-use Rattle.std.proofs.lemmas.Bool.{and_parts, and_from, or_parts, or_from, not-true, eqb-true, ltb-true, leb-true}
+use Rattle.std.proofs.lemmas.Bool.{and_parts, and_from, or_parts, or_from, not-true, ltb-true, leb-true}
 use Rattle.std.proofs.lemmas.List.Elements.{filter_map-append}
 use Rattle.std.proofs.lemmas.List.Folds.{list_any-append}
 use Rattle.std.proofs.lemmas.List.Sums.{sum_by-cons}
@@ -16,12 +16,14 @@ use Rattle.serial_spec.specs.Lawful.{are_values, are_different, id_posted, is_gi
 use Rattle.serial_spec.specs.Lists.{is_empty}
 use Rattle.script_spec.specs.ScriptWords.{is_name}
 use Rattle.script_spec.specs.ScriptCalls.{posted, is_posted}
-use Rattle.script_text.specs.Expressible.{are_expressible_values, is_expressible_call, is_id}
+use Rattle.script_spec.specs.CallTable.{of_behind}
+use Rattle.script_spec.proofs.CallTableLaws.{HasNoRegion, made_behind, of_row}
+use Rattle.script_text.specs.Expressible.{are_expressible_values, is_expressible_behind, is_expressible_call, is_id}
 use Rattle.script_text.proofs.Lines.{all_more}
 use Rattle.script_text.proofs.Sequences.{is_fit_number, is_fit_pattern}
 use Rattle.script_text.proofs.PrintedValues.{HasRoom, Fitting}
-use Rattle.script_text.proofs.PrintedRegions.{region_told, choice_told}
-use Rattle.script_text.proofs.PrintedCalls.{CallAgain, PostedAgain, put_same, get_same, post_same, put_values, nothing_posted, choice_same, attach_same, inquiry_same, fill_same, lone_same}
+use Rattle.script_text.proofs.PrintedRegions.{region_told}
+use Rattle.script_text.proofs.PrintedCalls.{CallAgain, PostedAgain, put_same, get_same, post_same, put_values, nothing_posted, behind_told, plain_same}
 use Rattle.script_text.proofs.CallLines.{Chain, Chains, count, count_all}
 
 -- ---- values
@@ -66,6 +68,12 @@ abbrev NewId : List Call → Call → Type 0
 NewId own (call.Post id k n g vs) = is_posted id (posted own) ≡ false
 NewId own _ = Unit {0}
 
+plain_told : (ranks r : ℕ) (own : List Call) (c : Call) → HasNoRegion c → is_lawful_call ranks r c ≡ true → of_behind true is_expressible_behind c ≡ true → CallAgain ranks r own c
+plain_told ranks r own c apart lawful h =
+    let o = of_row ranks r c apart lawful in
+    let told = sym (made_behind o.row o.is ranks r o.b true is_expressible_behind) ∙ (ap (of_behind true is_expressible_behind) o.same ∙ h) in
+    subst (CallAgain ranks r own) o.same (plain_same ranks r own o.row o.is o.b (behind_told o.row.family o.b told o.sized))
+
 call_told : (ranks r : ℕ) (own : List Call) (c : Call) → is_lawful_call ranks r c ≡ true → is_expressible_call c ≡ true → NewId own c → CallAgain ranks r own c
 call_told ranks r own (call.Put all n g vs) lawful h new =
     let a = and_parts (is_given g) (are_values vs) lawful in
@@ -77,19 +85,7 @@ call_told ranks r own (call.Post id k n g vs) lawful h new =
     let b = and_parts (is_id id && is_name n) (are_expressible_values vs) h in
     let d = and_parts (is_id id) (is_name n) b.0 in
     post_same ranks r own k id n g.form g 0 vs (ltb-true id (2 ^ 32) d.0) new d.1 (region_told g a.0) (posted_told k vs a.1 b.1)
-call_told ranks r own (call.Wait all c) lawful h new = (choice_same ranks r own c (choice_told c h)).0 all
-call_told ranks r own (call.Cancel c) lawful h new = (choice_same ranks r own c (choice_told c h)).1
-call_told ranks r own (call.Attach n) lawful h new = attach_same ranks r own n (ltb-true n (2 ^ 63) lawful)
-call_told ranks r own (call.InqDim n) lawful h new = inquiry_same ranks r own n h
-call_told ranks r own (call.FillRec n number share others) lawful h new =
-    let a = and_parts _ (others == ranks) lawful in
-    let b = and_parts (nat_lt number (2 ^ 63)) (share == r) a.0 in
-    subst (λ (x : ℕ). CallAgain ranks r own (call.FillRec n number x others)) (sym (eqb-true share r b.1))
-    (subst (λ (x : ℕ). CallAgain ranks r own (call.FillRec n number r x)) (sym (eqb-true others ranks a.1)) (fill_same ranks r own n number h (ltb-true number (2 ^ 63) b.0)))
-call_told ranks r own call.Detach lawful h new = (lone_same ranks r own).0
-call_told ranks r own call.BeginIndep lawful h new = (lone_same ranks r own).1
-call_told ranks r own call.EndIndep lawful h new = (lone_same ranks r own).2
-call_told ranks r own call.SyncRecords lawful h new = (lone_same ranks r own).3
+call_told ranks r own c lawful h new = plain_told ranks r own c tt lawful h
 
 -- ---- the ids of a rank's posts
 

@@ -1,7 +1,7 @@
 -- A call that is printed is read as the same call.
-use Rattle.std.proofs.Common.{◌≡◌, ◌∙◌, ℕ, ◌+◌, ◌^◌, ◌≤◌, ◌<◌, List, [], ◌∷◌, ◌++◌, Bool, true, false, cond, Option, Some, None, Result, Ok, Err, refl, sym, ap, subst, append-nil, arith, bytes_eq, codes, decimal}
+use Rattle.std.proofs.Common.{◌≡◌, ◌∙◌, ℕ, ◌+◌, ◌^◌, ◌≤◌, ◌<◌, List, [], ◌∷◌, ◌++◌, Bool, true, false, Option, Some, None, Result, Ok, refl, sym, ap, subst, append-nil, arith, codes, decimal}
 use Rattle.std.specs.List.{list_all}
-use Rattle.std.proofs.lemmas.Bool.{and_from}
+use Rattle.std.proofs.lemmas.Bool.{and_from, ltb-true}
 use Rattle.nc_base.specs.declared.errors.ScriptKind.{ScriptKind}
 use Rattle.nc_base.specs.declared.errors.ScriptKind.TheVariants as kind
 use Rattle.nc_base.specs.declared.request.Values.{Values}
@@ -19,14 +19,18 @@ use Rattle.script_spec.specs.Texts.{call_word}
 use Rattle.script_spec.specs.ScriptWords.{Word, Plain, is_name}
 use Rattle.script_spec.specs.ScriptSteps.{◌>>=◌, refuse_if, or_fault, reads_as, size, name, name_of_text, ended, whole}
 use Rattle.script_spec.specs.ScriptValues.{values}
-use Rattle.script_spec.specs.ScriptCalls.{after_prefix, form_of_text, form_and_all, region, id_of_text, choice, posted, is_posted, new_id, put_call, get_call, post_values, post_call, fill_call, attach_call, inquiry, lone_call, other_call, plain_call, post_of_text, call_of}
+use Rattle.script_spec.specs.ScriptCalls.{after_prefix, form_of_text, form_and_all, region, id_of_text, choice, posted, is_posted, new_id, put_call, get_call, post_values, post_call, behind, row_call, plain_call, post_of_text, call_of}
+use Rattle.script_spec.specs.CallTable.{Family, Requests, Size, Name, Record, Nothing, Behind, CallRow, row_of_text}
+use Rattle.script_spec.proofs.TextLaws.{faultless_some}
+use Rattle.script_spec.proofs.CallTableLaws.{is_sized, IsRow, found_row, made_word, made_no_values}
+use Rattle.script_text.specs.Expressible.{is_expressible_behind}
 use Rattle.script_text.proofs.Steps.{went, go_on, same_ok, not_refused, passed, read_word, word_read, whole_value}
 use Rattle.script_text.proofs.Lexing.{is_good}
 use Rattle.script_text.proofs.Lines.{all_joined}
 use Rattle.script_text.proofs.Numerals.{name_plain, size_plain}
 use Rattle.script_text.proofs.PrintedValues.{value_tokens, is_read, Fitting, values_fit, values_again, values_good}
-use Rattle.script_text.proofs.PrintedRegions.{kept, name_read, name_again, size_read, size_word, region_tokens, RegionAgain, region_again, region_kept, id_bound, id_again, id_plain, choice_tokens, ChoiceAgain, choice_read}
-use Rattle.script_text.proofs.CallTokens.{call_tokens, get_word, post_word, put_word, wait_word}
+use Rattle.script_text.proofs.PrintedRegions.{kept, name_read, name_again, size_read, size_word, region_tokens, RegionAgain, region_again, region_kept, id_bound, id_again, id_plain, ChoiceAgain, choice_told, choice_read}
+use Rattle.script_text.proofs.CallTokens.{tokens_behind, call_tokens, made_tokens, get_word, post_word, put_word}
 
 -- ---- a call read again
 
@@ -150,120 +154,74 @@ post_read ranks r own k f before ws c low read h =
       few = vs.few;
     })
 
--- ---- calls of no form
+-- ---- calls that name no region
 
-pub choice_same : (ranks r : ℕ) (own : List Call) (c : Choice) → ChoiceAgain c → ((all : Bool) → CallAgain ranks r own (call.Wait all c)) × CallAgain ranks r own (call.Cancel c)
-choice_same ranks r own c k = (
-  λ all. record {
-    good = k.good;
-    again = λ now fits. wait_word ranks r own now (choice_tokens c) all ∙ go_on (choice (choice_tokens c)) (λ x. Ok (call.Wait all x)) c (call.Wait all c) k.again refl;
-  },
-  record { good = k.good; again = λ now fits. go_on (choice (choice_tokens c)) (λ x. Ok (call.Cancel x)) c (call.Cancel c) k.again refl },
-)
+-- what stands behind a word, printed and read again
+pub record BehindAgain (f : Family) (b : Behind f) : Type 0 where
+  pub good : list_all is_good (tokens_behind f b) ≡ true
+  pub again : behind f (tokens_behind f b) ≡ Ok b
 
-pub attach_same : (ranks r : ℕ) (own : List Call) (n : ℕ) → n < 2 ^ 63 → CallAgain ranks r own (call.Attach n)
-attach_same ranks r own n small = record {
-  good = and_from _ _ (size_plain n small) refl;
-  again = λ now few. go_on (size (Plain (decimal n) ∷ [])) _ (n, []) (call.Attach n) (size_word n [] small) refl;
-}
+choice_behind : (c : Choice) → ChoiceAgain c → BehindAgain Requests c
+choice_behind c k = record { good = k.good; again = k.again }
 
-pub inquiry_same : (ranks r : ℕ) (own : List Call) (n : List ℕ) → is_name n ≡ true → CallAgain ranks r own (call.InqDim n)
-inquiry_same ranks r own n named = record {
-  good = and_from _ _ (name_plain n named) refl;
-  again = λ now few. go_on (name (Plain n ∷ [])) _ (n, []) (call.InqDim n) (name_again n [] named) refl;
-}
+size_behind : (n : ℕ) → n < 2 ^ 63 → BehindAgain Size n
+size_behind n small = record { good = and_from _ _ (size_plain n small) refl; again = go_on (size (Plain (decimal n) ∷ [])) whole (n, []) n (size_word n [] small) refl }
 
-pub fill_same : (ranks r : ℕ) (own : List Call) (n : List ℕ) (k : ℕ) → is_name n ≡ true → k < 2 ^ 63 → CallAgain ranks r own (call.FillRec n k r ranks)
-fill_same ranks r own n k named small = record {
+name_behind : (n : List ℕ) → is_name n ≡ true → BehindAgain Name n
+name_behind n named = record { good = and_from _ _ (name_plain n named) refl; again = go_on (name (Plain n ∷ [])) whole (n, []) n (name_again n [] named) refl }
+
+record_behind : (n : List ℕ) (k : ℕ) → is_name n ≡ true → k < 2 ^ 63 → BehindAgain Record (n, k)
+record_behind n k named small = record {
   good = and_from _ _ (name_plain n named) (and_from _ _ (size_plain k small) refl);
-  again = λ now few. go_on (name (Plain n ∷ Plain (decimal k) ∷ [])) _ (n, Plain (decimal k) ∷ []) (call.FillRec n k r ranks) (name_again n (Plain (decimal k) ∷ []) named)
-      (go_on (size (Plain (decimal k) ∷ [])) _ (k, []) (call.FillRec n k r ranks) (size_word k [] small) refl);
+  again = go_on (name (Plain n ∷ Plain (decimal k) ∷ [])) _ (n, Plain (decimal k) ∷ []) (n, k) (name_again n (Plain (decimal k) ∷ []) named)
+      (go_on (size (Plain (decimal k) ∷ [])) _ (k, []) (n, k) (size_word k [] small) refl);
 }
 
--- calls without a word of their own behind them
-pub lone_same : (ranks r : ℕ) (own : List Call) → CallAgain ranks r own call.Detach × CallAgain ranks r own call.BeginIndep × CallAgain ranks r own call.EndIndep × CallAgain ranks r own call.SyncRecords
-lone_same ranks r own = (
-  record { good = refl; again = λ now fits. refl },
-  record { good = refl; again = λ now fits. refl },
-  record { good = refl; again = λ now fits. refl },
-  record { good = refl; again = λ now fits. refl },
-)
+nothing_behind : (u : Unit {0}) → BehindAgain Nothing u
+nothing_behind u = record { good = refl; again = refl }
 
-module _ (ranks r : ℕ) (own : List Call) (before : ℕ) (low : before ≤ most_values) where
-  wait_read : (all : Bool) (ws : List Word) (c : Call) → (choice ws >>= λ x. Ok (call.Wait all x)) ≡ Ok c → CallRead ranks r own before c
-  wait_read all ws c h =
-      let a = went (choice ws) (λ x. Ok (call.Wait all x)) c h in
-      subst (CallRead ranks r own before) (same_ok (call.Wait all a.value) c a.rest) (no_values ranks r own before _ low refl ((choice_same ranks r own a.value (choice_read ws a.value a.first)).0 all))
+behind_read : (f : Family) (ws : List Word) (b : Behind f) → behind f ws ≡ Ok b → BehindAgain f b
+behind_read Requests ws c h = choice_behind c (choice_read ws c h)
+behind_read Size ws n h =
+    let a = went (size ws) whole n h in
+    subst (BehindAgain Size) (whole_value a.value n a.rest).0 (size_behind a.value.0 (size_read ws a.value a.first))
+behind_read Name ws n h =
+    let a = went (name ws) whole n h in
+    subst (BehindAgain Name) (whole_value a.value n a.rest).0 (name_behind a.value.0 (name_read ws a.value a.first))
+behind_read Record ws v h =
+    let a = went (name ws) _ v h in
+    let b = went (size a.value.1) _ v a.rest in
+    subst (BehindAgain Record) (whole_value ((a.value.0, b.value.0), b.value.1) v b.rest).0
+    (record_behind a.value.0 b.value.0 (name_read ws a.value a.first) (size_read a.value.1 b.value b.first))
+behind_read Nothing ws u h = nothing_behind u
 
-  cancel_read : (ws : List Word) (c : Call) → (choice ws >>= λ x. Ok (call.Cancel x)) ≡ Ok c → CallRead ranks r own before c
-  cancel_read ws c h =
-      let a = went (choice ws) (λ x. Ok (call.Cancel x)) c h in
-      subst (CallRead ranks r own before) (same_ok (call.Cancel a.value) c a.rest) (no_values ranks r own before _ low refl (choice_same ranks r own a.value (choice_read ws a.value a.first)).1)
+pub behind_told : (f : Family) (b : Behind f) → is_expressible_behind f b ≡ true → is_sized f b ≡ true → BehindAgain f b
+behind_told Requests c h sized = choice_behind c (choice_told c h)
+behind_told Size n h sized = size_behind n (ltb-true n (2 ^ 63) sized)
+behind_told Name n h sized = name_behind n h
+behind_told Record v h sized = record_behind v.0 v.1 h (ltb-true v.1 (2 ^ 63) sized)
+behind_told Nothing u h sized = nothing_behind u
 
-  attach_read : (ws : List Word) (c : Call) → attach_call ws ≡ Ok c → CallRead ranks r own before c
-  attach_read ws c h =
-      let a = went (size ws) _ c h in
-      subst (CallRead ranks r own before) (whole_value (call.Attach a.value.0, a.value.1) c a.rest).0 (no_values ranks r own before _ low refl (attach_same ranks r own a.value.0 (size_read ws a.value a.first)))
-
-  inquiry_read : (ws : List Word) (c : Call) → inquiry ws ≡ Ok c → CallRead ranks r own before c
-  inquiry_read ws c h =
-      let a = went (name ws) _ c h in
-      subst (CallRead ranks r own before) (whole_value (call.InqDim a.value.0, a.value.1) c a.rest).0 (no_values ranks r own before _ low refl (inquiry_same ranks r own a.value.0 (name_read ws a.value a.first)))
-
-  fill_read : (ws : List Word) (c : Call) → fill_call ranks r ws ≡ Ok c → CallRead ranks r own before c
-  fill_read ws c h =
-      let a = went (name ws) _ c h in
-      let b = went (size a.value.1) _ c a.rest in
-      let d = went (ended b.value.1) _ c b.rest in
-      subst (CallRead ranks r own before) (same_ok (call.FillRec a.value.0 b.value.0 r ranks) c d.rest)
-      (no_values ranks r own before _ low refl (fill_same ranks r own a.value.0 b.value.0 (name_read ws a.value a.first) (size_read a.value.1 b.value b.first)))
-
-  lone_read : (w : List ℕ) (ws : List Word) (c : Call) → lone_call w ws ≡ Ok c → CallRead ranks r own before c
-  lone_read w ws c h = by (bytes_eq w (codes "buffer_detach")) (bytes_eq w (codes "begin_indep_data")) (bytes_eq w (codes "end_indep_data")) (bytes_eq w (codes "sync_numrecs")) h
-    where
-      lone : (k : Call) → values_in_call k ≡ 0 → CallAgain ranks r own k → whole (k, ws) ≡ Ok c → CallRead ranks r own before c
-      lone k none again e = subst (CallRead ranks r own before) (whole_value (k, ws) c e).0 (no_values ranks r own before k low none again)
-
-      by : (i j k l : Bool)
-          → elim (cond {A = Option (List ℕ × Call)} i (Some (codes "buffer_detach", call.Detach)) (cond j (Some (codes "begin_indep_data", call.BeginIndep)) (cond k (Some (codes "end_indep_data", call.EndIndep)) (cond l (Some (codes "sync_numrecs", call.SyncRecords)) None)))) as (λ x. Result Call ScriptKind) [
-            | None ↦ Err kind.UnknownWord
-            | Some p ↦ whole (p.1, ws)
-          ] ≡ Ok c → CallRead ranks r own before c
-      by true j k l e = lone call.Detach refl (lone_same ranks r own).0 e
-      by false true k l e = lone call.BeginIndep refl (lone_same ranks r own).1 e
-      by false false true l e = lone call.EndIndep refl (lone_same ranks r own).2 e
-      by false false false true e = lone call.SyncRecords refl (lone_same ranks r own).3 e
-      by false false false false e = absurd (cc)
-
-other_read : (ranks r : ℕ) (own : List Call) (before : ℕ) (low : before ≤ most_values) (w : List ℕ) (ws : List Word) (c : Call) → other_call ranks r w ws ≡ Ok c → CallRead ranks r own before c
-other_read ranks r own before low w ws c h = by (bytes_eq w (codes "buffer_attach")) (bytes_eq w (codes "inq_dimlen")) (bytes_eq w (codes "fill_var_rec")) h
-  where
-    by : (i j k : Bool) → elim i as (λ x. Result Call ScriptKind) [
-      | true ↦ attach_call ws
-      | false ↦ elim j as (λ x. Result Call ScriptKind) [
-        | true ↦ inquiry ws
-        | false ↦ elim k as (λ x. Result Call ScriptKind) [ true ↦ fill_call ranks r ws | false ↦ lone_call w ws ]
-      ]
-    ] ≡ Ok c → CallRead ranks r own before c
-    by true j k e = attach_read ranks r own before low ws c e
-    by false true k e = inquiry_read ranks r own before low ws c e
-    by false false true e = fill_read ranks r own before low ws c e
-    by false false false e = lone_read ranks r own before low w ws c e
+pub plain_same : (ranks r : ℕ) (own : List Call) (row : CallRow) → IsRow row → (b : Behind row.family) → BehindAgain row.family b → CallAgain ranks r own (row.made ranks r b)
+plain_same ranks r own row is b k =
+    let c = row.made ranks r b in
+    let tokens = made_tokens row is ranks r b in
+    record {
+      good = subst (λ (ws : List Word). list_all is_good ws ≡ true) (sym tokens) k.good;
+      again = λ now few. ap (λ (w : List ℕ). call_of ranks r own now w (call_tokens c)) (made_word row is ranks r b)
+          ∙ (ap (λ (ws : List Word). call_of ranks r own now row.word ws) tokens
+          ∙ (is.is_read ranks r own now (tokens_behind row.family b)
+          ∙ go_on (behind row.family (tokens_behind row.family b)) (λ x. Ok (row.made ranks r x)) b c k.again refl));
+    }
 
 plain_read : (ranks r : ℕ) (own : List Call) (before : ℕ) (low : before ≤ most_values) (w : List ℕ) (ws : List Word) (c : Call) → plain_call ranks r w ws ≡ Ok c → CallRead ranks r own before c
-plain_read ranks r own before low w ws c h = by (bytes_eq w (codes "wait")) (bytes_eq w (codes "wait_all")) (bytes_eq w (codes "cancel")) h
-  where
-    by : (i j k : Bool) → elim i as (λ x. Result Call ScriptKind) [
-      | true ↦ (choice ws >>= λ x. Ok (call.Wait false x))
-      | false ↦ elim j as (λ x. Result Call ScriptKind) [
-        | true ↦ (choice ws >>= λ x. Ok (call.Wait true x))
-        | false ↦ elim k as (λ x. Result Call ScriptKind) [ true ↦ (choice ws >>= λ x. Ok (call.Cancel x)) | false ↦ other_call ranks r w ws ]
-      ]
-    ] ≡ Ok c → CallRead ranks r own before c
-    by true j k e = wait_read ranks r own before low false ws c e
-    by false true k e = wait_read ranks r own before low true ws c e
-    by false false true e = cancel_read ranks r own before low ws c e
-    by false false false e = other_read ranks r own before low w ws c e
+plain_read ranks r own before low w ws c h =
+    let a = went (or_fault kind.UnknownWord (row_of_text w)) (λ row. row_call ranks r row ws) c h in
+    let row = a.value in
+    let is = found_row w row (faultless_some kind.UnknownWord (row_of_text w) row a.first) in
+    let d = went (behind row.family ws) (λ x. Ok (row.made ranks r x)) c a.rest in
+    subst (CallRead ranks r own before) (same_ok (row.made ranks r d.value) c d.rest)
+    (no_values ranks r own before _ low (made_no_values row is ranks r d.value) (plain_same ranks r own row is d.value (behind_read row.family ws d.value d.first)))
 
 pub call_read : (ranks r : ℕ) (own : List Call) (before : ℕ) (w : List ℕ) (ws : List Word) (c : Call)
     → before ≤ most_values → list_all is_read ws ≡ true → call_of ranks r own before w ws ≡ Ok c → CallRead ranks r own before c

@@ -17,6 +17,7 @@ use Rattle.nc_base.specs.declared.script.Script.{Script}
 use Rattle.serial_spec.specs.HeaderBytes.{number_of, last_type}
 use Rattle.serial_spec.specs.Lists.{is_empty}
 use Rattle.script_spec.specs.ScriptWords.{is_name}
+use Rattle.script_spec.specs.CallTable.{Family, Requests, Name, Record, Behind, of_behind}
 use Rattle.script_spec.specs.ScriptDefinitions.{is_among, is_unlimited, is_record_dim, dim_names}
 
 -- ---- definitions
@@ -62,15 +63,18 @@ abbrev pub is_expressible_choice : Choice → Bool
 is_expressible_choice Every = true
 is_expressible_choice (Listed ids) = list_all is_id ids
 
+-- the names and ids behind the word of a call that names no region
+abbrev pub is_expressible_behind : (f : Family) → Behind f → Bool
+is_expressible_behind Requests choice = is_expressible_choice choice
+is_expressible_behind Name name = is_name name
+is_expressible_behind Record place = is_name place.0
+is_expressible_behind _ _ = true
+
 abbrev pub is_expressible_call : Call → Bool
 is_expressible_call (call.Put all name given vs) = is_name name && are_expressible_values vs
 is_expressible_call (call.Get all name given) = is_name name
 is_expressible_call (call.Post id kind name given vs) = is_id id && is_name name && are_expressible_values vs
-is_expressible_call (call.Wait all choice) = is_expressible_choice choice
-is_expressible_call (call.Cancel choice) = is_expressible_choice choice
-is_expressible_call (call.InqDim name) = is_name name
-is_expressible_call (call.FillRec name number share ranks) = is_name name
-is_expressible_call _ = true
+is_expressible_call c = of_behind true is_expressible_behind c
 
 -- ---- a script
 

@@ -39,7 +39,7 @@ fn push_call(out: &mut Vec<u8>, rank: u64, call: &Call) -> Result<(), Memory>
 }
 
 /// What follows a call's word.
-#[tactic(auto, using(printed_text::proofs::WordLaws::spaced_one))]
+#[tactic(auto, using(printed_text::proofs::WordLaws::spaced_one, script_spec::proofs::CallTableLaws::wait_words))]
 fn push_call_words(out: &mut Vec<u8>, call: &Call) -> Result<(), Memory>
     ensures { OnOk result (out.new.items ≡ out.old.items ++ spaced (call_words call.now)) }
 {
