@@ -50,7 +50,12 @@ fn records(header: &Header, var: &Var, region: &Region) -> u64
 }
 
 /// Whether a region has too many elements, reaches too far in memory, or needs too many records or too long a file.
-pub(crate) fn asks_too_much(header: &Header, measures: &Measures, var: &Var, region: &Region) -> bool
+pub(crate) fn asks_too_much(
+    header: &Header,
+    measures: &Measures,
+    var: &Var,
+    region: &Region,
+) -> bool
     requires measured { AreMeasures header.now measures.now }
     requires shape { spec.other_shape (length var.now.dims) region.now ≡ false }
     ensures { result ≡ spec.asks_too_much header.now var.now region.now }
