@@ -5,7 +5,9 @@ ghost use Rattle.serial_spec.specs.SoundHeaders.{is_writable};
 ghost use Rattle.serial_spec.specs.Examples.{laid_out};
 ghost use Rattle.script_spec.specs.TextExamples.{script_halves, halves_read, fault_at, start_lines, script_read};
 ghost use Rattle.script_spec.specs.ScriptGrammar.{fault_of, script_fault, script_of_lines, script_of_utf8, within_lines};
-ghost use Rattle.script_spec.specs.Shown.{shown};
+ghost use Rattle.script_spec.specs.ScriptWords.{words};
+ghost use Rattle.script_spec.specs.ScriptCalls.{call_of};
+ghost use Rattle.script_spec.specs.Shown.{shown, shown_call};
 ghost use Rattle.script_spec.specs.Texts.{text_line};
 ghost use Rattle.script_spec.specs.RunScripts.{script_modes};
 ghost use Rattle.script_spec.specs.ManyRegionScripts.{script_varn};
@@ -15,6 +17,7 @@ ghost use Rattle.serial_spec.specs.Lawful.{is_lawful};
 ghost use Rattle.nc_base.specs.declared.errors.ScriptKind.TheVariants as kind;
 ghost use Rattle.nc_base.specs.declared.script.Script.{Script};
 ghost use Rattle.nc_base.specs.declared.errors.LimitName.TheVariants as limit;
+ghost use Rattle.nc_base.specs.declared.request.Choice.TheVariants.{Listed};
 ghost use Rattle.nc_base.specs.declared.request.Call.TheVariants as call;
 
 /// A script is read, and what is shown of it is read again.
@@ -122,6 +125,20 @@ pub fn worked_words()
     ensures without_end { fault_of (script_of_utf8 faulty_without_end) ≡ fault_at 8 kind.NoEnd }
     ensures text_after_end { fault_of (script_of_utf8 faulty_after_end) ≡ fault_at 9 kind.AfterEnd }
     ensures many_dimensions { fault_of (script_of_utf8 faulty_dimensions) ≡ fault_at 4 (kind.Limit limit.VarDims) }
+{}
+
+/// Calls that name no region, one of each family, as rank 1 of 2 makes them: read, and shown.
+pub fn worked_plain_calls()
+    ensures requests { call_of 2 1 [] 0 (codes "cancel") (words (codes "3 4")) ≡ Ok (call.Cancel (Listed (3 ∷ 4 ∷ []))) }
+    ensures size { call_of 2 1 [] 0 (codes "buffer_attach") (words (codes "64")) ≡ Ok (call.Attach 64) }
+    ensures name { call_of 2 1 [] 0 (codes "inq_dimlen") (words (codes "x")) ≡ Ok (call.InqDim (codes "x")) }
+    ensures record_place { call_of 2 1 [] 0 (codes "fill_var_rec") (words (codes "s 3")) ≡ Ok (call.FillRec (codes "s") 3 1 2) }
+    ensures nothing { call_of 2 1 [] 0 (codes "sync_numrecs") [] ≡ Ok call.SyncRecords }
+    ensures extra_word { call_of 2 1 [] 0 (codes "sync_numrecs") (words (codes "x")) ≡ Err kind.ExtraWord }
+    ensures unknown { call_of 2 1 [] 0 (codes "sync") [] ≡ Err kind.UnknownWord }
+    ensures shown_requests { shown_call 1 (call.Wait true (Listed (3 ∷ []))) ≡ text_line (codes "1 wait_all 3") }
+    ensures shown_record { shown_call 1 (call.FillRec (codes "s") 3 1 2) ≡ text_line (codes "1 fill_var_rec s 3") }
+    ensures shown_nothing { shown_call 1 call.Detach ≡ text_line (codes "1 buffer_detach") }
 {}
 
 /// Lines that add to an existing file.
