@@ -20,6 +20,7 @@ use Rattle.run_laws.specs.Ways.{is_meeting, meetings, kinds_of}
 use Rattle.run_laws.proofs.LawfulLaws.{own_lawful, ranks_lawful}
 use Rattle.list_laws.proofs.Truth.{and_first, and_second, equal_itself}
 use Rattle.run_laws.proofs.WayLaws.{others_filter}
+use Rattle.list_laws.proofs.Each.{all_joined}
 
 -- ---- what is left to a rank: its own steps, and n meetings from the k-th on
 
@@ -130,10 +131,6 @@ own_known s ranks (Solo q c ∷ xs) l h =
     let same : q ≡ s = eqb-true _ _ (and_first (q == s) _ h) in
     let low : nat_lt s ranks ≡ true = grind (arith, nat_tests) in
     and_from _ _ (ap (λ (j : ℕ). nat_lt j ranks) same ∙ low) (own_known s ranks xs l (and_second (q == s) _ h))
-
-pub all_joined : (f : Mark → Bool) (xs ys : List Mark) → list_all f xs ≡ true → list_all f ys ≡ true → list_all f (xs ++ ys) ≡ true
-all_joined f [] ys h k = k
-all_joined f (x ∷ xs) ys h k = and_from _ _ (and_first (f x) _ h) (all_joined f xs ys (and_second (f x) _ h) k)
 
 record AreSolos (m ranks : ℕ) (fronts : ℕ → List Mark) : Type 0 where
   pub all : List Mark

@@ -22,11 +22,11 @@ use Rattle.script_spec.specs.ScriptValues.{values}
 use Rattle.script_spec.specs.ScriptCalls.{after_prefix, form_of_text, form_and_all, region, id_of_text, choice, posted, is_posted, new_id, put_call, get_call, post_values, post_call, fill_call, attach_call, inquiry, lone_call, other_call, plain_call, post_of_text, call_of}
 use Rattle.script_text.proofs.Steps.{went, go_on, same_ok, not_refused, passed, read_word, word_read, whole_value}
 use Rattle.script_text.proofs.Lexing.{is_good}
-use Rattle.script_text.proofs.Lines.{all_joined}
 use Rattle.script_text.proofs.Numerals.{name_plain, size_plain}
 use Rattle.script_text.proofs.PrintedValues.{value_tokens, is_read, Fitting, values_fit, values_again, values_good}
 use Rattle.script_text.proofs.PrintedRegions.{kept, name_read, name_again, size_read, size_word, region_tokens, RegionAgain, region_again, region_kept, id_bound, id_again, id_plain, choice_tokens, ChoiceAgain, choice_read}
 use Rattle.script_text.proofs.CallTokens.{call_tokens, get_word, post_word, put_word, wait_word}
+use Rattle.list_laws.proofs.Each.{all_joined}
 
 -- ---- a call read again
 

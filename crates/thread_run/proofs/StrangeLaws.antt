@@ -37,8 +37,8 @@ use Rattle.list_laws.proofs.Each.{fails_at}
 use Rattle.list_laws.proofs.Places.{entry_set}
 use Rattle.serial_spec.proofs.MemberLaws.{at_in}
 use Rattle.thread_run.specs.Strange.{fails_as_offer, fails_test, leaves_behind, leaves_with}
-use Rattle.thread_run.proofs.OwnerRuns.{client_ended, client_held}
 use Rattle.std.proofs.lemmas.Map.Keys.{any_passes_from_place}
+use Rattle.join_laws.proofs.ClientTurns.{client_ended, client_held}
 
 -- ---- one element of a list is changed
 
