@@ -1,4 +1,3 @@
-pub mod Taken
 pub mod Keeping
 pub mod Created
 pub mod Opened

@@ -1,9 +1,9 @@
 -- An order that a script's ranks have begun can be gone on with to one of its histories: the ranks meet as often, one as the other.
 use Rattle.std.proofs.lemmas.Bool.{and_from}
-use Rattle.std.proofs.Common.{◌≡◌, ℕ, zero, suc, ◌+◌, ◌-◌, ◌<◌, ◌≤◌, ◌≢◌, refl, sym, ◌∙◌, ap, subst, inl, inr, ◌⊎◌, List, [], ◌∷◌, ◌++◌, length, Bool, true, false, cond, ◌&&◌, Option, Some, None, arith, append_assoc}
+use Rattle.std.proofs.Common.{◌≡◌, ℕ, zero, suc, ◌+◌, ◌-◌, ◌<◌, ◌≤◌, refl, sym, ◌∙◌, ap, subst, List, [], ◌∷◌, ◌++◌, length, Bool, true, false, cond, ◌&&◌, Option, Some, None, arith, append_assoc}
 use Rattle.std.proofs.lemmas.List.Elements.{filter-append}
 use Rattle.std.proofs.lemmas.List.Sums.{sum_by-cons}
-use Rattle.std.proofs.lemmas.Bool.Decides.{eqb_tells, nat_tests}
+use Rattle.std.proofs.lemmas.Bool.Decides.{nat_tests}
 use Rattle.std.specs.Prelude.{slice_get, ◌==◌, filter, is_some, nat_lt}
 use Rattle.std.specs.List.{list_all, cons_option}
 use borrow.Author.Tests.{ltb-true, ltb-false, eqb-true}
@@ -116,13 +116,6 @@ own_kept r (Meet k ∷ xs) h = cc
 own_kept r (Solo q n ∷ xs) h =
     ap (λ (b : Bool). cond b (Solo q n ∷ filter (concerns r) xs) (filter (concerns r) xs)) (and_first (q == r) _ h)
     ∙ ap (λ (ys : List Mark). Solo q n ∷ ys) (own_kept r xs (and_second (q == r) _ h))
-
-not_same : (q r s : ℕ) → (q == s) ≡ true → s ≢ r → (q == r) ≡ false
-not_same q r s e n = by_tells (eqb_tells q r)
-  where
-    by_tells : (((q == r) ≡ true) × (q ≡ r)) ⊎ (((q == r) ≡ false) × (q ≡ r → ⊥)) → (q == r) ≡ false
-    by_tells (inl (f, g)) = absurd (n (sym (eqb-true _ _ e) ∙ g))
-    by_tells (inr (f, g)) = f
 
 own_known : (s ranks : ℕ) (xs : List Mark) → s < ranks → list_all (is_solo_of s) xs ≡ true → list_all (is_of_rank_below ranks) xs ≡ true
 own_known s ranks [] l h = refl

@@ -8,7 +8,6 @@ use Rattle.atomic_table.proofs.Lists.{set_else}
 use Rattle.crossbeam_utils.specs.Register.{Turns, TurnsAt, Forks, Merges}
 use Rattle.nc_base.specs.declared.step.Mark.{Mark}
 use Rattle.nc_base.specs.declared.run.Summary.{Summary}
-use Rattle.serial_spec.specs.Readings.{last_count}
 use Rattle.run_watch.specs.declared.rule.Heard.{Heard}
 use Rattle.run_watch.specs.declared.rule.Shown.{Shown}
 use Rattle.run_watch.specs.Heard.{summary, opened, with_pair, IsBeginning}
@@ -51,13 +50,6 @@ goes_on early told mark records begins = let pair : Pairs = (mark, records) ∷ 
 heard_of_more : (told : Heard) (mark : Mark) (records : ℕ) (heard : Option Heard) → HeardOf told heard → HeardOf (with_pair told mark records) heard
 heard_of_more told mark records None h = h
 heard_of_more told mark records (Some early) h = goes_on early told mark records h
-
--- where nothing is shown, nothing was told
-pub nothing : (late : Heard) (records : ℕ) → summary late ≡ summary (opened records) → late ≡ opened records
-nothing late records e =
-    let none : late.pairs ≡ [] = none_left late.pairs (ap (λ (s : Summary). s.steps) e) in
-    let same : late.opening ≡ records = ap (λ (l : Pairs). last_count late.opening l) (sym none) ∙ ap (λ (s : Summary). s.records) e in
-    λ i. record { opening = same i; pairs = none i }
 
 -- the writer is made
 pub begins : (x : Shown) (records : ℕ) → x.summary ≡ summary (opened records) → Keeps x (None ∷ [])

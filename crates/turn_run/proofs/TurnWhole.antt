@@ -1,6 +1,6 @@
 -- A run in turn as a whole: its meetings, and then the end by the ends of its ranks.
 use Rattle.std.proofs.Common.{◌≡◌, ℕ, ◌≤◌, refl, sym, ◌∙◌, ap, subst, inl, inr, ◌⊎◌, List, [], length, map, max, replicate, true, Option, Some, None, Result, Ok, Err, arith}
-use Rattle.std.proofs.lemmas.List.{length-map, length-replicate}
+use Rattle.std.proofs.lemmas.List.{length-map}
 use Rattle.std.specs.Prelude.{fold, IfSome, OnOk}
 use Rattle.std.specs.Result.{result_err}
 use Rattle.std.specs.Int.{byte_len}
@@ -61,14 +61,6 @@ ok_there (Err e) h none = absurd cc
 pub err_there : {T E : Type 0} (result : Result T E) (e : E) → result_err result ≡ Some e → result ≡ Err e
 err_there (Ok x) e is = absurd cc
 err_there (Err x) e is = cc
-
--- a list that was made for so many ranks has room for their ends
-pub room_enough : (header : Header) (ranks records capacity : ℕ) (first last items : List Runner) → first ≡ replicate ranks (first_runner header records) → length last ≡ length first → items ≡ last
-    → ranks ≤ capacity → length items ≤ capacity
-room_enough header ranks records capacity first last items all long are room =
-    let one = ap (λ (ss : List Runner). length ss) all ∙ length-replicate ranks (first_runner header records) in
-    let same = ap (λ (ss : List Runner). length ss) are in
-    omega arith
 
 -- the run was stopped before its first step
 pub stopped_first : (script : Script) (header : Header) (held : Option (List ℕ)) (done : Option (List DiskCall)) (faults records : ℕ) (end : RunEnd) → is_lawful script ≡ true → records ≡ header.records
