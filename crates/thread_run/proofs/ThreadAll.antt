@@ -1,5 +1,5 @@
 -- A run on threads, from what the owner tells and what the close tells.
-use Rattle.std.proofs.Common.{◌≡◌, ℕ, ◌≤◌, refl, sym, ◌∙◌, ap, subst, inl, inr, ◌⊎◌, List, [], ◌∷◌, ◌++◌, max, replicate, true, Option, Some, None, arith}
+use Rattle.std.proofs.Common.{◌≡◌, ℕ, ◌≤◌, refl, sym, ◌∙◌, ap, subst, inl, inr, ◌⊎◌, List, [], ◌∷◌, ◌++◌, max, replicate, true, Option, Some, None}
 use Rattle.std.specs.Prelude.{nat_lt, IfSome}
 use Rattle.nc_base.specs.declared.header.Header.{Header}
 use Rattle.nc_base.specs.declared.run.RankEnd.{RankEnd}
@@ -33,6 +33,7 @@ use Rattle.thread_run.proofs.ThreadRuns.{Finished, FinishedSo, finished, finishe
 use Rattle.thread_run.proofs.ThreadTies.{Told, begun}
 use Rattle.nc_outside.proofs.ToldLaws.{with_end-with_end, rose_before}
 use Rattle.list_laws.proofs.Optional.{some_or_none}
+use Rattle.list_laws.proofs.Numbers.{le_two}
 
 -- what the owner tells
 pub record OwnerSide (script : Script) (header : Header) (arrivals : List Arrival) (given : ℕ → List OwnerItem) (held : Option (List ℕ)) (calls : Option (List DiskCall)) (faults : ℕ)
@@ -100,13 +101,10 @@ module _ (script : Script) (header : Header) (arrivals : List Arrival) (given : 
     sound = c.sound;
     begun = subst (λ (ms : List Mark). HasBegun script ms) (sym c.order) (order_begun held calls faults held' calls' faults' count before o);
     fault = λ disk. cause disk (some_or_none before.fault);
-    later = le_both faults faults' failed o.later c.later;
+    later = le_two faults faults' failed o.later c.later;
     cut = cut_off;
   }
     where
-      le_both : (a b d : ℕ) → a ≤ b → b ≤ d → a ≤ d
-      le_both a b d h k = omega arith
-
       state : List ℕ → Ending
       state file = served (setting_of script header) (opening script.ranks (counted file header.records)) arrivals
 
