@@ -1,5 +1,5 @@
 pub mod RoundLaws
-pub mod PieceLaws
+mod PieceLaws
 pub mod PastSteps
 pub mod SplitSteps
 pub mod CoveredBytes

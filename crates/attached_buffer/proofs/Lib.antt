@@ -1,1 +1,1 @@
-pub mod Freed
+mod Freed

@@ -1,6 +1,5 @@
 -- Bytes have one answer.
 use Rattle.std.proofs.Common.{◌≡◌, ℕ, ◌+◌, ◌-◌, ◌≤◌, ◌^◌, List, [], ◌∷◌, ◌++◌, take, drop, length, true, Option, Some, None, refl, sym, ap, subst, ◌∙◌, length-append, arith, inl, inr}
-use Rattle.std.specs.Prelude.{is_none}
 use Rattle.std.proofs.lemmas.List.{take-append-drop, length-take-le, append-nil}
 use Rattle.std.proofs.Math.Seq.{take-append_seam, take-append-add}
 use Rattle.std.proofs.lemmas.Bool.{leb-true}
@@ -16,6 +15,7 @@ use Rattle.serial_spec.proofs.FaultLaws.{fault_only}
 use Rattle.serial_spec.proofs.OnceLaws.{spells_once}
 use Rattle.cdf_header.specs.Decoded.{BeginsWith}
 use Rattle.cdf_header.proofs.Walks.{no_fault}
+use Rattle.list_laws.proofs.Optional.{none_of_test}
 
 no_some : {A : Type 0} (o : Option A) (x : A) → o ≡ None → o ≡ Some x → ⊥
 no_some o x h k = absurd cc
@@ -42,16 +42,12 @@ never_both bytes h n e p (inr q) =
     let once = spells_once h q.0 (take n bytes) q.1 (drop n bytes) q.2 p.0 q.4 (take-append-drop n bytes ∙ q.3) in
     no_some (first_check h) e p.2 (ap first_check once.0 ∙ q.6)
 
-no_check : (o : Option HeaderErr) → is_none o ≡ true → o ≡ None
-no_check None h = refl
-no_check (Some e) h = absurd cc
-
 pub begins_whole : (header : Header) (more : List ℕ) → is_writable header ≡ true → BeginsWith (canon header ++ more) header (header_len header)
 begins_whole header more is =
     let sound : is_sound header ≡ true = and_first _ _ (and_first _ _ (and_first _ _ (and_first _ _ is))) in
     let whole : take (header_len header) (canon header ++ more) ≡ canon header = take-append_seam (canon header) more in
     let long = length-append (canon header) more in
-    (subst (λ (t : List ℕ). Spells header t) (sym whole) (canon_spelled header is), no_fault header more is, no_check (first_check header) (and_second _ _ sound), omega (arith, long))
+    (subst (λ (t : List ℕ). Spells header t) (sym whole) (canon_spelled header is), no_fault header more is, none_of_test (first_check header) (and_second _ _ sound), omega (arith, long))
 
 -- the first 2^20 bytes
 cut_after : (t more : List ℕ) (n : ℕ) → length t ≤ n → (rest : List ℕ) × (take n (t ++ more) ≡ t ++ rest)

@@ -6,9 +6,9 @@ use Rattle.std.specs.Int.{w32, w64, byte_len, to_be_bytes, from_be_bytes}
 use Rattle.std.proofs.Math.Seq.{drop-append_seam, take-append_seam}
 use Rattle.std.proofs.lemmas.List.{length-drop, length-replicate, drop-drop}
 use Rattle.std.proofs.lemmas.Nat.{from_be_bytes-to_be_bytes_4, from_be_bytes-to_be_bytes_8}
-use Rattle.std.proofs.lemmas.Bool.{ltb-true, eqb-true, eq-eqb, le-ltb, leb-true}
+use Rattle.std.proofs.lemmas.Bool.{ltb-true, eqb-true, le-ltb, leb-true}
 use Rattle.serial_spec.proofs.LengthLaws.{width_long}
-use Rattle.list_laws.proofs.Truth.{and_first, and_second, all_three}
+use Rattle.list_laws.proofs.Truth.{and_first, and_second, all_three, equal_itself}
 use Rattle.nc_base.specs.declared.header.Header.{Header}
 use Rattle.nc_base.specs.declared.header.Dim.{Dim}
 use Rattle.nc_base.specs.declared.header.Attr.{Attr}
@@ -194,11 +194,8 @@ each_walk v e f test one (x ∷ xs) h rest =
     (each_walk v e f test one xs (and_second _ _ h) rest)
 
 tag_fine : (n x : ℕ) → fault_if (not (n == 0 || n == n)) (fault.BadTag x) ≡ None
-tag_fine n x = rw (same n) (either_way (n == 0))
+tag_fine n x = rw (equal_itself n) (either_way (n == 0))
   where
-    same : (n : ℕ) → (n == n) ≡ true
-    same n = eq-eqb n n refl
-
     either_way : (t : Bool) → fault_if (not (t || true)) (fault.BadTag x) ≡ None
     either_way true = refl
     either_way false = refl

@@ -8,11 +8,7 @@ use Rattle.nc_base.specs.declared.step.DiskCall.{DiskCall}
 use Rattle.nc_outside.specs.Told.{with_end}
 use Rattle.overlay_laws.specs.Changes.{IsBegun}
 use Rattle.data_sieving.specs.Walked.{HasDone}
-use Rattle.nc_outside.proofs.ToldLaws.{no_calls}
-
-ends_twice : (old : Option (List DiskCall)) (a b : List DiskCall) → with_end (with_end old a) b ≡ with_end old (a ++ b)
-ends_twice None a b = refl
-ends_twice (Some o) a b = ap Some (append_assoc o a b)
+use Rattle.nc_outside.proofs.ToldLaws.{no_calls, with_end-with_end}
 
 pub none_done : (plan rest : List DiskCall) (old : Option (List DiskCall)) → plan ≡ rest → HasDone plan rest old old
 none_done plan rest old e = record { done = []; told = no_calls old; whole = e }
@@ -21,7 +17,7 @@ pub done_more : (f : List ℕ → List DiskCall) (ws : List ℕ) (here later : L
     → here ≡ ws ∷ later → f ws ≡ calls → now ≡ with_end mid calls → HasDone plan (flat_map f here) old mid → HasDone plan (flat_map f later) old now
 done_more f ws here later plan calls old mid now e g k h = record {
   done = h.done ++ calls;
-  told = k ∙ ap (λ (m : Option (List DiskCall)). with_end m calls) h.told ∙ ends_twice old h.done calls;
+  told = k ∙ ap (λ (m : Option (List DiskCall)). with_end m calls) h.told ∙ with_end-with_end old h.done calls;
   whole = h.whole ∙ ap (λ (r : List DiskCall). h.done ++ r) (ap (λ (l : List (List ℕ)). flat_map f l) e ∙ ap (λ (c : List DiskCall). c ++ flat_map f later) g)
       ∙ sym (append_assoc h.done calls (flat_map f later));
 }

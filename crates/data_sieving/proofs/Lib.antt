@@ -1,10 +1,10 @@
-pub mod LeftBytes
-pub mod HullSteps
-pub mod WindowSteps
-pub mod CallSteps
-pub mod PutSteps
-pub mod ReachSteps
+mod LeftBytes
+mod HullSteps
+mod WindowSteps
+mod CallSteps
+mod PutSteps
+mod ReachSteps
 pub mod GetSteps
-pub mod CollectedSteps
-pub mod NextSteps
-pub mod LoopSteps
+mod CollectedSteps
+mod NextSteps
+mod LoopSteps

@@ -1,9 +1,8 @@
-pub mod Taken
-pub mod Keeping
-pub mod Created
-pub mod Opened
-pub mod RedefinedLaws
-pub mod Redefinable
+mod Keeping
+mod Created
+mod Opened
+mod RedefinedLaws
+mod Redefinable
 pub mod ReadyLaws
 pub mod NotReady
-pub mod Untold
+mod Untold

@@ -35,6 +35,7 @@ use Rattle.dataset_start.proofs.Opened.{begins_once}
 use Rattle.dataset_start.proofs.Redefinable.{redefined_sound}
 use Rattle.dataset_start.proofs.RedefinedLaws.{long_enough, same_end}
 use Rattle.std.proofs.lemmas.Bool.{both_ways}
+use Rattle.list_laws.proofs.Optional.{some_not_none}
 
 -- ---- nothing is added to a dataset, or something
 
@@ -77,12 +78,6 @@ fault-none script old x = ap (λ (b : Bool). elim b [ true ↦ None | false ↦ 
 
 fault-some : (script : script_type.Script) (old : head.Header) → AddsNothing script false → redefinition_fault script old ≡ redefined_fault old script.extra
 fault-some script old x = ap (λ (b : Bool). elim b [ true ↦ None | false ↦ redefined_fault old script.extra ]) x
-
-some-none : (e : RedefErr) (o : Option RedefErr) → o ≡ Some e → o ≡ None → ⊥
-some-none e o f g = clash (sym f ∙ g)
-  where
-    clash : Some e ≡ None → ⊥
-    clash x = cc
 
 -- ---- the file before the ranks begin
 
@@ -217,7 +212,7 @@ sound-file script old (Some file) o r n = record { header = n; redefinition = re
     refuses e h =
         let b = at_front (Some file) old o in
         let same : h.old ≡ old = begins_once h.old old (front file) h.count b.0 h.begins b.1 in
-        some-none e (redefinition_fault script h.old) h.refuses (ap (λ (x : head.Header). redefinition_fault script x) same ∙ r)
+        some_not_none e (redefinition_fault script h.old) h.refuses (ap (λ (x : head.Header). redefinition_fault script x) same ∙ r)
 
 opened-faultless : (script : script_type.Script) (old : head.Header) (held : Option (List ℕ)) → script.fresh ≡ false → IsOpened held old
     → redefinition_fault script old ≡ None → IfSome held (λ file. (e : HeaderErr) → HasFault (front file) e → ⊥) → IsFaultless script held

@@ -1,5 +1,5 @@
 -- The index of an element, one dimension after another, and how great its entries are.
-use Rattle.std.proofs.Common.{◌≡◌, ℕ, ◌+◌, ◌-◌, ◌*◌, ◌/◌, ◌%◌, ◌^◌, ◌<◌, ◌≤◌, refl, sym, ap, ◌∙◌, subst, List, [], ◌∷◌, ◌++◌, length, take, drop, get_or, min, Bool, true, false, Some, arith}
+use Rattle.std.proofs.Common.{◌≡◌, ℕ, ◌+◌, ◌-◌, ◌*◌, ◌/◌, ◌%◌, ◌^◌, ◌<◌, ◌≤◌, refl, sym, ap, ◌∙◌, subst, List, [], ◌∷◌, ◌++◌, length, get_or, min, Bool, true, false, Some, arith}
 use Rattle.std.specs.Prelude.{slice_get}
 use Rattle.std.specs.List.{AllByRecursion}
 use Rattle.std.proofs.lemmas.Nat.{mod_below, mul-le}
@@ -19,14 +19,11 @@ use Rattle.vara_extents.specs.Accepted.{IsAccepted}
 use Rattle.vara_extents.specs.Numbered.{coordinates_of, index_of}
 use Rattle.vara_extents.proofs.PlaceLaws.{accepted_place, small_of, wide_records}
 use Rattle.element_steps.specs.Requests.{AreBelow}
-use Rattle.vara_extents.proofs.RowSteps.{split, some_block}
+use Rattle.vara_extents.proofs.RowSteps.{split, some_block, rest}
 
 -- ---- one dimension more
 
 -- the list after its first entry, as a pattern takes it
-abbrev pub rest : List ℕ → List ℕ
-rest xs = take (length xs - 1) (drop 1 xs)
-
 pub record IndexStep (starts counts strides : List ℕ) (number inner s t : ℕ) (starts' counts' strides' : List ℕ) : Type 0 where
   pub is : index_at starts strides (coordinates_of counts number) ≡ (s + number / inner * t) ∷ index_at starts' strides' (coordinates_of counts' (number % inner))
   pub some : 1 ≤ inner

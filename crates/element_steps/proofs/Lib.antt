@@ -1,7 +1,7 @@
-pub mod GatherLaws
-pub mod IndexLaws
+mod GatherLaws
+mod IndexLaws
 pub mod MeetSteps
-pub mod PairSteps
-pub mod PutSteps
-pub mod StepSteps
-pub mod WriteSteps
+mod PairSteps
+mod PutSteps
+mod StepSteps
+mod WriteSteps

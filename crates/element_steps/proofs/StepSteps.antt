@@ -49,9 +49,3 @@ got_step header posts i post file blob got got' h e a some f so_far s same =
     ∙ ap (λ (b : List ℕ). got ++ (b ∷ rest)) is
     ∙ sym (ap (λ (ps : List Post). got ++ map (get_post s file) ps) (next_left posts i post post h e))
     ∙ so_far s same
-
-pub got_end : (header : Header) (posts : List Post) (i : ℕ) (file : List ℕ) (got : List (List ℕ)) → length posts ≤ i
-    → ((s : Setting) → s.header ≡ header → got ++ map (get_post s file) (drop i posts) ≡ map (get_post s file) posts)
-    → (s : Setting) → s.header ≡ header → got ≡ map (get_post s file) posts
-got_end header posts i file got l h s same =
-    sym (append-nil got) ∙ sym (ap (λ (ps : List Post). got ++ map (get_post s file) ps) (drop_all i posts l)) ∙ h s same

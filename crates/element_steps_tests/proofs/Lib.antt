@@ -1,1 +1,1 @@
-pub mod TwoOffers
+mod TwoOffers

@@ -1,3 +1,3 @@
-pub mod DomainBytes
+mod DomainBytes
 pub mod CoverParts
 pub mod WalkSteps

@@ -18,7 +18,6 @@ use Rattle.list_laws.proofs.Maps.{filter_at_most}
 use Rattle.overlay_laws.proofs.HullLaws.{filter_ascends, flat_in, range_high, range_low, in_either}
 use Rattle.overlay_laws.proofs.DomainLaws.{filter_two}
 use Rattle.overlay_laws.proofs.CoverLaws.{spans_below, spans_above, below_told, range_first, past_round, spans_below_none, spans_ascend, spans_past, triple_same}
-use Rattle.std.specs.Iterator.{MakesProgress, item_count}
 use Rattle.std.proofs.lemmas.Option.{same_Some, slice_get-get_or}
 use Rattle.std.proofs.lemmas.Bool.{lt-ltb, le-ltb, le-leb, lt-leb, leb-true, leb-false}
 use Rattle.file_domains.specs.declared.walk.Window.{Window}
@@ -200,12 +199,6 @@ none_left first size from end e cover h l past =
     all_past : (d : Extent) → In (head_from from e ∷ cover) d → end ≤ d.at
     all_past d (inl m) = subst (λ (z : Extent). end ≤ z.at) m past
     all_past d (inr m) = let gap = h.1 d m in omega arith
-
-pub goes_on : {S : Type 0} (rest : S → List Window) (can : S → Type 0) (s t : S) (w : Window) → rest s ≡ w ∷ rest t → can t
-    → MakesProgress can (item_count rest) s (Some w) t
-goes_on rest can s t w e h =
-    let shorter = ap (λ (ws : List Window). length ws) e in
-    record { on = λ f. (h, tt, omega arith); keeps = h; rests = λ f. tt }
 
 -- ---- a step, of the extents by their numbers
 

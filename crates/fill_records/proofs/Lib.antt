@@ -1,8 +1,8 @@
 pub mod CutLaws
-pub mod Products
-pub mod RepeatedLaws
-pub mod Searches
+mod Products
+mod RepeatedLaws
+mod Searches
 pub mod TornLaws
-pub mod VariableLaws
-pub mod WindowLaws
-pub mod WriteLaws
+mod VariableLaws
+mod WindowLaws
+mod WriteLaws

@@ -18,16 +18,12 @@ use Rattle.serial_spec.specs.Layout.{is_record, slab, vsize, end_of, end_of_var,
 use Rattle.fill_records.specs.Filling.{repeated, filled_variable, variable_stores}
 use Rattle.fill_records.proofs.WriteLaws.{var_filled}
 use Rattle.list_laws.proofs.Maps.{entry_map}
+use Rattle.list_laws.proofs.Places.{entry_read}
 
 -- ---- items of a list
 
 pub got : {A : Type 0} (xs ys : List A) (k : ℕ) (x : A) → ys ≡ xs → k < length xs → x ≡ get_or ys k x → slice_get xs k ≡ Some x
-got {A = A} xs ys k x e h g = got_at xs k x h (g ∙ ap (λ zs. get_or zs k x) e)
-  where
-    got_at : (zs : List A) (i : ℕ) (z : A) → i < length zs → z ≡ get_or zs i z → slice_get zs i ≡ Some z
-    got_at [] i z l f = absurd (omega arith)
-    got_at (w ∷ zs) zero z l f = ap Some (sym f)
-    got_at (w ∷ zs) (suc i) z l f = got_at zs i z (omega arith) f
+got xs ys k x e h g = entry_read xs k x h (g ∙ ap (λ zs. get_or zs k x) e)
 
 -- the item with a number, and what is known of it
 pub known_at : {A : Type 0} (P : A → Type 0) (xs : List A) (k : ℕ) → k < length xs → IfSome (slice_get xs k) P

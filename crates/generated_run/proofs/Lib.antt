@@ -1,9 +1,9 @@
-pub mod BandLaws
+mod BandLaws
 pub mod CallLaws
 pub mod LawfulLaws
 pub mod MadeLaws
-pub mod PostLaws
+mod PostLaws
 pub mod Ranges
 pub mod RankLaws
-pub mod SumLaws
-pub mod TurnLaws
+mod SumLaws
+mod TurnLaws

@@ -1,9 +1,9 @@
-pub mod BlockLaws
-pub mod CodeLaws
-pub mod EndLaws
-pub mod FrontLaws
-pub mod OrderLaws
-pub mod PlacingLaws
+mod BlockLaws
+mod CodeLaws
+mod EndLaws
+mod FrontLaws
+mod OrderLaws
+mod PlacingLaws
 pub mod PositionLaws
 pub mod RefusalLaws
-pub mod RunLaws
+mod RunLaws

@@ -1,9 +1,9 @@
 -- An order that a script's ranks have begun can be gone on with to one of its histories: the ranks meet as often, one as the other.
 use Rattle.std.proofs.lemmas.Bool.{and_from}
-use Rattle.std.proofs.Common.{◌≡◌, ℕ, zero, suc, ◌+◌, ◌-◌, ◌<◌, ◌≤◌, ◌≢◌, refl, sym, ◌∙◌, ap, subst, inl, inr, ◌⊎◌, List, [], ◌∷◌, ◌++◌, length, Bool, true, false, cond, ◌&&◌, Option, Some, None, arith, append_assoc}
+use Rattle.std.proofs.Common.{◌≡◌, ℕ, zero, suc, ◌+◌, ◌-◌, ◌<◌, ◌≤◌, refl, sym, ◌∙◌, ap, subst, List, [], ◌∷◌, ◌++◌, length, Bool, true, false, cond, ◌&&◌, Option, Some, None, arith, append_assoc}
 use Rattle.std.proofs.lemmas.List.Elements.{filter-append}
 use Rattle.std.proofs.lemmas.List.Sums.{sum_by-cons}
-use Rattle.std.proofs.lemmas.Bool.Decides.{eqb_tells, nat_tests}
+use Rattle.std.proofs.lemmas.Bool.Decides.{nat_tests}
 use Rattle.std.specs.Prelude.{slice_get, ◌==◌, filter, is_some, nat_lt}
 use Rattle.std.specs.List.{list_all, cons_option}
 use borrow.Author.Tests.{ltb-true, ltb-false, eqb-true}
@@ -20,6 +20,7 @@ use Rattle.run_laws.specs.Ways.{meetings, kinds_of}
 use Rattle.run_laws.proofs.LawfulLaws.{own_lawful, ranks_lawful}
 use Rattle.list_laws.proofs.Truth.{and_first, and_second, equal_itself}
 use Rattle.run_laws.proofs.WayLaws.{others_filter}
+use Rattle.list_laws.proofs.Each.{all_joined}
 
 -- ---- what is left to a rank: its own steps, and n meetings from the k-th on
 
@@ -116,13 +117,6 @@ own_kept r (Solo q n ∷ xs) h =
     ap (λ (b : Bool). cond b (Solo q n ∷ filter (concerns r) xs) (filter (concerns r) xs)) (and_first (q == r) _ h)
     ∙ ap (λ (ys : List Mark). Solo q n ∷ ys) (own_kept r xs (and_second (q == r) _ h))
 
-not_same : (q r s : ℕ) → (q == s) ≡ true → s ≢ r → (q == r) ≡ false
-not_same q r s e n = by_tells (eqb_tells q r)
-  where
-    by_tells : (((q == r) ≡ true) × (q ≡ r)) ⊎ (((q == r) ≡ false) × (q ≡ r → ⊥)) → (q == r) ≡ false
-    by_tells (inl (f, g)) = absurd (n (sym (eqb-true _ _ e) ∙ g))
-    by_tells (inr (f, g)) = f
-
 own_known : (s ranks : ℕ) (xs : List Mark) → s < ranks → list_all (is_solo_of s) xs ≡ true → list_all (is_of_rank_below ranks) xs ≡ true
 own_known s ranks [] l h = refl
 own_known s ranks (Meet k ∷ xs) l h = cc
@@ -130,10 +124,6 @@ own_known s ranks (Solo q c ∷ xs) l h =
     let same : q ≡ s = eqb-true _ _ (and_first (q == s) _ h) in
     let low : nat_lt s ranks ≡ true = grind (arith, nat_tests) in
     and_from _ _ (ap (λ (j : ℕ). nat_lt j ranks) same ∙ low) (own_known s ranks xs l (and_second (q == s) _ h))
-
-pub all_joined : (f : Mark → Bool) (xs ys : List Mark) → list_all f xs ≡ true → list_all f ys ≡ true → list_all f (xs ++ ys) ≡ true
-all_joined f [] ys h k = k
-all_joined f (x ∷ xs) ys h k = and_from _ _ (and_first (f x) _ h) (all_joined f xs ys (and_second (f x) _ h) k)
 
 record AreSolos (m ranks : ℕ) (fronts : ℕ → List Mark) : Type 0 where
   pub all : List Mark

@@ -1,9 +1,10 @@
 -- What holds of each entry of a list, and the tests that tell it.
-use Rattle.std.proofs.Common.{◌≡◌, ℕ, zero, suc, List, [], ◌∷◌, ◌++◌, drop, map, Bool, true, false, refl, subst, Some, slice_get, ◌||◌, inl, inr, ◌⊎◌}
+use Rattle.std.proofs.Common.{◌≡◌, ℕ, zero, suc, List, [], ◌∷◌, ◌++◌, drop, map, Bool, true, false, refl, subst, Some, slice_get, ◌||◌, inl, inr, ◌⊎◌, ◌∙◌}
 use Rattle.std.specs.List.{AllByRecursion, AllZip, list_any, list_all}
 use Rattle.std.specs.Prelude.{flat_map}
 use Rattle.std.proofs.lemmas.Bool.{and_from, or_from}
 use Rattle.list_laws.proofs.Truth.{and_first, and_second, or_first_false, or_second_false}
+use Rattle.std.proofs.lemmas.List.Folds.{list_all-append}
 
 pub each_weaker : {A : Type 0} (P Q : A → Type 0) → ((x : A) → P x → Q x) → (xs : List A) → AllByRecursion P xs → AllByRecursion Q xs
 each_weaker P Q f [] h = tt
@@ -43,6 +44,9 @@ each_passes test (x ∷ xs) h = and_from (test x) (list_all test xs) h.0 (each_p
 pub passes_each : {A : Type 0} (test : A → Bool) (xs : List A) → list_all test xs ≡ true → AllByRecursion (λ x. test x ≡ true) xs
 passes_each test [] h = tt
 passes_each test (x ∷ xs) h = (and_first (test x) (list_all test xs) h, passes_each test xs (and_second (test x) (list_all test xs) h))
+
+pub all_joined : {A : Type 0} (p : A → Bool) (xs ys : List A) → list_all p xs ≡ true → list_all p ys ≡ true → list_all p (xs ++ ys) ≡ true
+all_joined p xs ys a b = list_all-append p xs ys ∙ and_from _ _ a b
 
 pub each_fails : {A : Type 0} (test : A → Bool) (xs : List A) → AllByRecursion (λ x. test x ≡ false) xs → list_any test xs ≡ false
 each_fails test [] h = refl

@@ -9,3 +9,5 @@ pub mod Results
 pub mod Appends
 pub mod Fronts
 pub mod Refills
+pub mod Walks
+pub mod Parts

@@ -68,9 +68,10 @@ pub not_some : {A : Type 0} (o : Option A) → is_some o ≡ false → o ≡ Non
 not_some None h = refl
 not_some (Some x) h = absurd (cc)
 
-pub some_same : {A : Type 0} (x y : A) → Some x ≡ Some y → x ≡ y
-some_same x y h = cc
-
 pub some_of_map : {A B : Type 0} (g : A → B) (o : Option A) (y : B) → option_map g o ≡ Some y → (x : A) × (o ≡ Some x) × (g x ≡ y)
 some_of_map g None y h = absurd (cc)
 some_of_map g (Some x) y h = let same : g x ≡ y = cc in (x, refl, same)
+
+pub some_not_none : {A : Type 0} (x : A) (o : Option A) → o ≡ Some x → o ≡ None → ⊥
+some_not_none x None e f = cc
+some_not_none x (Some y) e f = cc

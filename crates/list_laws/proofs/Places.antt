@@ -3,9 +3,9 @@ use Rattle.std.proofs.Common.{◌≡◌, ℕ, zero, suc, ◌<◌, ◌≤◌, ref
 use Rattle.std.specs.List.{position_or_len, enumerate_from}
 use Rattle.std.specs.Prelude.{slice_get, zip}
 use Rattle.std.proofs.lemmas.Bool.{ltb-true}
-use Rattle.std.proofs.lemmas.Option.{cond_some, slice_get_within, get_or_from_slice_get, same_Some}
-use Rattle.std.proofs.lemmas.List.{take_more}
+use Rattle.std.proofs.lemmas.Option.{cond_some, same_Some}
 use Rattle.std.proofs.lemmas.Bool.Decides.{nat_tests}
+pub use Rattle.nc_base.proofs.ListPlaces.{get_left, get_right, take_next}
 
 pub entry_below : {X : Type 0} (xs : List X) (k : ℕ) → k < length xs → (x : X) × (slice_get xs k ≡ Some x)
 entry_below [] k l = absurd (omega arith)
@@ -59,9 +59,6 @@ entry_read [] n x h e = absurd (omega arith)
 entry_read (z ∷ xs) zero x h e = ap (λ (y : _). Some y) (sym e)
 entry_read (z ∷ xs) (suc n) x h e = entry_read xs n x (omega arith) e
 
-pub take_next : {X : Type 0} (xs : List X) (i : ℕ) (x : X) → slice_get xs i ≡ Some x → take (i + 1) xs ≡ take i xs ++ x ∷ []
-take_next xs i x e = take_more xs i x (slice_get_within xs i x e) ∙ ap (λ (y : _). take i xs ++ y ∷ []) (get_or_from_slice_get xs i x x e)
-
 pub left_more : {X : Type 0} (old now : List X) (i : ℕ) (y : X) → ((r : ℕ) → i ≤ r → slice_get now r ≡ slice_get old r) → (r : ℕ) → i + 1 ≤ r
     → slice_get (set now i y) r ≡ slice_get old r
 left_more old now i y left r l = entry_set_other now i r y (λ e. absurd (omega arith)) ∙ left r (omega arith)
@@ -97,18 +94,6 @@ entry_zip [] ys q x y e f = cc
 entry_zip (x' ∷ xs) [] q x y e f = cc
 entry_zip (x' ∷ xs) (y' ∷ ys) zero x y e f = let a : x' ≡ x = cc in let b : y' ≡ y = cc in λ i. Some (a i, b i)
 entry_zip (x' ∷ xs) (y' ∷ ys) (suc q) x y e f = entry_zip xs ys q x y e f
-
--- ---- one list behind another
-
-pub get_left : {A : Type 0} (xs ys : List A) (k : ℕ) → k < length xs → slice_get (xs ++ ys) k ≡ slice_get xs k
-get_left [] ys k h = absurd (omega arith)
-get_left (x ∷ xs) ys zero h = refl
-get_left (x ∷ xs) ys (suc k) h = get_left xs ys k (omega arith)
-
-pub get_right : {A : Type 0} (xs ys : List A) (k m : ℕ) → m ≡ length xs + k → slice_get (xs ++ ys) m ≡ slice_get ys k
-get_right [] ys k m h = let e : m ≡ k = omega arith in ap (λ (n : ℕ). slice_get ys n) e
-get_right (x ∷ xs) ys k zero h = absurd (omega arith)
-get_right (x ∷ xs) ys k (suc m) h = get_right xs ys k m (omega arith)
 
 -- the entry of a numbered list
 pub entry_numbered : {X : Type 0} (n : ℕ) (xs : List X) (k : ℕ) (x : X) → slice_get xs k ≡ Some x → slice_get (enumerate_from n xs) k ≡ Some (n + k, x)

@@ -1,5 +1,5 @@
 -- Numbers one after another.
-use Rattle.std.proofs.Common.{◌≡◌, ℕ, zero, suc, ◌+◌, ◌*◌, ◌∙◌, ap, refl, List, ◌∷◌, ◌++◌, length, arith, [], ◌-◌, ◌<◌, ◌≤◌, Some, false, leb}
+use Rattle.std.proofs.Common.{◌≡◌, ℕ, zero, suc, ◌+◌, ◌*◌, ◌∙◌, ap, refl, List, ◌∷◌, ◌++◌, length, arith, [], ◌<◌, ◌≤◌, Some, false, leb}
 use Rattle.std.specs.Prelude.{flat_map, slice_get}
 use Rattle.std.specs.List.{list_any, range_with_len}
 use Rattle.std.proofs.lemmas.Bool.{or_from, lt-leb}

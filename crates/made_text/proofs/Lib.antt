@@ -1,3 +1,3 @@
-pub mod LineLengths
-pub mod MadeLengths
-pub mod MadeText
+mod LineLengths
+mod MadeLengths
+mod MadeText

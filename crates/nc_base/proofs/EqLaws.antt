@@ -1,29 +1,26 @@
 -- Lists that are the same at each place, and lists that are not.
-use Rattle.std.proofs.Common.{◌≡◌, ℕ, zero, suc, ◌+◌, ◌<◌, refl, ◌∙◌, ap, sym, List, [], ◌∷◌, ◌++◌, append_assoc, take, length, Bool, true, false, Option, Some, None, arith}
+use Rattle.std.proofs.Common.{◌≡◌, ℕ, suc, ◌+◌, ◌<◌, refl, ◌∙◌, ap, sym, List, [], ◌∷◌, ◌++◌, append_assoc, take, length, true, false, Some, arith}
 use Rattle.std.specs.Prelude.{ℤ, slice_get, nat_eq}
 use Rattle.std.specs.Ordering.{int_eq}
 use Rattle.std.specs.Cmp.Lexicographic.{pointwise, bytes_decides}
 use Rattle.std.specs.Cmp.Rules.{signed_items}
-use Rattle.list_laws.proofs.Places.{take_next}
-use Rattle.list_laws.proofs.Optional.{some_same}
+use Rattle.nc_base.proofs.ListPlaces.{take_next}
+use Rattle.std.proofs.lemmas.Option.{same_Some}
+use Rattle.std.proofs.lemmas.Bool.{false_from_ne_true}
 
 same_lists : {A : Type 0} (xs ys : List A) → length xs ≡ length ys → ((k : ℕ) → k < length xs → slice_get xs k ≡ slice_get ys k) → xs ≡ ys
 same_lists [] [] h each = refl
 same_lists [] (y ∷ ys) h each = absurd (omega arith)
 same_lists (x ∷ xs) [] h each = absurd (omega arith)
 same_lists {A} (x ∷ xs) (y ∷ ys) h each =
-    ap (λ (z : A). z ∷ xs) (some_same x y (each 0 (omega arith)))
+    ap (λ (z : A). z ∷ xs) (same_Some x y (each 0 (omega arith)))
     ∙ ap (λ (l : List A). y ∷ l) (same_lists xs ys (omega arith) (λ k lt. each (suc k) (omega arith)))
-
-not_true : (b : Bool) → (b ≡ true → ⊥) → b ≡ false
-not_true true h = absurd (h refl)
-not_true false h = refl
 
 pub equal_numbers : (xs ys : List ℤ) → length xs ≡ length ys → ((k : ℕ) → k < length xs → slice_get xs k ≡ slice_get ys k) → true ≡ pointwise int_eq xs ys
 equal_numbers xs ys h each = sym ((signed_items xs ys).1 (same_lists xs ys h each))
 
 pub other_numbers : (xs ys : List ℤ) (k : ℕ) → (slice_get xs k ≡ slice_get ys k → ⊥) → false ≡ pointwise int_eq xs ys
-other_numbers xs ys k h = sym (not_true (pointwise int_eq xs ys) (λ e. h (ap (λ (l : List ℤ). slice_get l k) ((signed_items xs ys).0 e))))
+other_numbers xs ys k h = sym (false_from_ne_true (pointwise int_eq xs ys) (λ e. h (ap (λ (l : List ℤ). slice_get l k) ((signed_items xs ys).0 e))))
 
 pub equal_bits : (xs ys : List ℕ) → length xs ≡ length ys → ((k : ℕ) → k < length xs → slice_get xs k ≡ slice_get ys k) → true ≡ pointwise nat_eq xs ys
 equal_bits xs ys h each = sym ((bytes_decides xs ys).1 (same_lists xs ys h each))

@@ -15,6 +15,7 @@ use Rattle.dataset_start.specs.declared.stop.Stop.{Stop}
 use Rattle.dataset_start.specs.declared.stop.Stop.TheVariants as stops
 use Rattle.dataset_start.proofs.ReadyLaws.{same_script}
 use Rattle.std.proofs.lemmas.Bool.{both_ways}
+use Rattle.list_laws.proofs.Optional.{some_not_none, if_some_at}
 
 -- ---- a text that is read is refused by nothing
 
@@ -32,16 +33,10 @@ some_line stops.Source s = absurd (omega (arith, s))
 some_line stops.Disk s = absurd (omega (arith, s))
 some_line stops.Memory s = absurd (omega (arith, s))
 
-some-none : (line : List ℕ) (o : Option (List ℕ)) → o ≡ Some line → o ≡ None → ⊥
-some-none line o e f = clash (sym e ∙ f)
-  where
-    clash : Some line ≡ None → ⊥
-    clash x = cc
-
 refused-asks : (text : List ℕ) (script : Script) (stop : Stop) → Reads text script → status_of stop ≡ 3 → refusal text ≡ line_of stop → ⊥
 refused-asks text script stop a s e =
     let line = some_line stop s in
-    some-none line.0 (refusal text) (e ∙ line.1) (not_refused text script a)
+    some_not_none line.0 (refusal text) (e ∙ line.1) (not_refused text script a)
 
 -- ---- what is wrong with a dataset is not right
 
@@ -105,9 +100,6 @@ four_line stops.Source s = absurd (omega (arith, s))
 four_line stops.Disk s = absurd (omega (arith, s))
 four_line stops.Memory s = absurd (omega (arith, s))
 
-told-in : (P : List ℕ → Type 0) (o : Option (List ℕ)) (line : List ℕ) → o ≡ Some line → IfSome o P → P line
-told-in P o line e p = subst (λ (x : Option (List ℕ)). IfSome x P) e p
-
 -- the fault of a script
 pub told_script : (Gives : List ℕ → Type 0) (left : Option (List ℕ)) (stop : Stop) (status : ℕ) → (status ≡ status_of stop) ⊎ (status ≡ 8)
     → (status_of stop ≡ 3 → IfSome left (λ text. refusal text ≡ line_of stop)) → (status ≡ status_of stop → IfSome (line_of stop) Gives)
@@ -117,7 +109,7 @@ told_script Gives None stop status (inl e) told gives s = tt
 told_script Gives (Some text) stop status (inl e) told gives s =
     let own : status_of stop ≡ 3 = sym e ∙ s in
     let line = some_line stop own in
-    subst (λ (o : Option (List ℕ)). IsSomeAnd o Gives) (sym (told own ∙ line.1)) (told-in Gives (line_of stop) line.0 line.1 (gives e))
+    subst (λ (o : Option (List ℕ)). IsSomeAnd o Gives) (sym (told own ∙ line.1)) (if_some_at Gives (line_of stop) line.0 line.1 (gives e))
 
 pub dataset : {Gives : List ℕ → Type 0} (left held : Option (List ℕ)) (stop : Stop) (status : ℕ) → (status ≡ status_of stop) ⊎ (status ≡ 8)
     → (status_of stop ≡ 4 → (script : Script) × (Asks left script × IfSome (line_of stop) (TellsDataset script held)))
@@ -128,7 +120,7 @@ dataset left held stop status (inl e) bad gives s =
     let own : status_of stop ≡ 4 = omega (arith, e, s) in
     let line = four_line stop own in
     let told = bad own in
-    (line.0, (record { script = told.0; asks = told.1.0; tells = told-in _ (line_of stop) line.0 line.1 told.1.1 }, told-in _ (line_of stop) line.0 line.1 (gives e)))
+    (line.0, (record { script = told.0; asks = told.1.0; tells = if_some_at _ (line_of stop) line.0 line.1 told.1.1 }, if_some_at _ (line_of stop) line.0 line.1 (gives e)))
 
 -- a script with a fault is refused
 pub refused : (left held : Option (List ℕ)) (stop : Stop) (status : ℕ) → (status ≡ status_of stop) ⊎ (status ≡ 8)
@@ -187,7 +179,7 @@ wants_memory (Some text) held stop status (inl e) u s k r d a = by_stop stop ref
         let told = d x in
         let line = four_line stop x in
         let same : told.0 ≡ a.0 = same_script text told.0 a.0 told.1.0 a.1 in
-        tells-right a.0 held line.0 (subst (λ (z : Script). TellsDataset z held line.0) same (told-in _ (line_of stop) line.0 line.1 told.1.1)) a.2
+        tells-right a.0 held line.0 (subst (λ (z : Script). TellsDataset z held line.0) same (if_some_at _ (line_of stop) line.0 line.1 told.1.1)) a.2
 
     by_stop : (other : Stop) → stop ≡ other → (status ≡ 0) ⊎ (status ≡ 8)
     by_stop stops.Usage x = absurd (u x)

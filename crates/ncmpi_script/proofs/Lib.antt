@@ -1,2 +1,2 @@
-pub mod TopLaws
-pub mod FaultLaws
+mod TopLaws
+mod FaultLaws

@@ -25,6 +25,7 @@ use Rattle.std.proofs.lemmas.Bool.{lt-ltb}
 use Rattle.nc_base.specs.declared.plan.Extent.{Extent}
 use Rattle.overlay_laws.specs.Lines.{extents, IsByPlace, EndBelow}
 use Rattle.overlay_laws.specs.Origins.{origins, IsOnceEach, IsResolved}
+use Rattle.std.proofs.lemmas.Option.{same_Some}
 
 in_entries : (cs : List Claim) (c : Claim) → In cs c → In (entries_of cs) (owned_of c)
 in_entries [] c m = absurd m
@@ -46,10 +47,7 @@ moved_back cs ds p o m = let r = entries_in ds o m in subst (λ (z : Owned). In 
 
 first_in : (cs : List Claim) (t : Claim) → Some t ≡ slice_get cs 0 → In cs t
 first_in [] t e = cc
-first_in (c ∷ cs) t e = inl (sym (some_same t c e))
-  where
-    some_same : (a b : Claim) → Some a ≡ Some b → a ≡ b
-    some_same a b e = cc
+first_in (c ∷ cs) t e = inl (sym (same_Some t c e))
 
 pub top_in : (cs : List Claim) (t : Claim) → Some t ≡ slice_get cs 0 → In (entries_of cs) (owned_of t)
 top_in cs t e = in_entries cs t (first_in cs t e)
@@ -139,10 +137,7 @@ pub popped_rest : (cs ds : List Claim) (r : Option Claim) (n : ℕ) → IfSome r
 popped_rest [] ds r n top perm none long t e = cc
 popped_rest (c ∷ cs) ds None n top perm none long t e = absurd (omega arith)
 popped_rest (c ∷ cs) ds (Some x) n top perm none long t e =
-    subst (λ (z : Claim). IsPermutation (c ∷ cs) (z ∷ ds)) (top ∙ some_same c t e) perm
-  where
-    some_same : (a b : Claim) → Some a ≡ Some b → a ≡ b
-    some_same a b e = cc
+    subst (λ (z : Claim). IsPermutation (c ∷ cs) (z ∷ ds)) (top ∙ same_Some c t e) perm
 
 pub pushed_fit : (cs ds : List Claim) (t : Claim) (o : Owned) (p : ℕ) → owned_of t ≡ o → IsPermutation (t ∷ cs) ds → o.extent.at ≤ p → o.extent.at + o.extent.len < 2 ^ 62
     → o.from + o.extent.len < 2 ^ 62 → AreFit p (entries_of cs) → AreFit p (entries_of ds)

@@ -1,8 +1,8 @@
-pub mod CoverSteps
-pub mod OrderSteps
+mod CoverSteps
+mod OrderSteps
 pub mod KeySteps
-pub mod SharedSteps
-pub mod PairSteps
+mod SharedSteps
+mod PairSteps
 pub mod OriginSteps
-pub mod SweepSteps
-pub mod ClaimSteps
+mod SweepSteps
+mod ClaimSteps

@@ -1,6 +1,6 @@
 -- A cursor that cuts extents goes over the same windows as one that cuts bytes.
 use Rattle.std.proofs.Common.{◌≡◌, ℕ, zero, suc, ◌+◌, ◌-◌, ◌<◌, ◌≤◌, refl, sym, ◌∙◌, ap, subst, inl, inr, List, [], ◌∷◌, ◌++◌, length, Bool, true, false, cond, max, arith}
-use Rattle.std.proofs.lemmas.List.{length-append}
+use Rattle.std.proofs.lemmas.List.{length-append, append-nil}
 use Rattle.std.proofs.lemmas.Nat.{mod_below, div-add-mod'}
 use Rattle.std.specs.Prelude.{filter, map, nat_lt, nat_le, ◌==◌}
 use Rattle.std.specs.List.{range_with_len}
@@ -48,17 +48,13 @@ cut_range stop a n h k =
     let f : a + (stop - a) ≡ stop = omega arith in
     ap (λ (m : ℕ). range_with_len a m) e ∙ range_append a (stop - a) (a + n - stop) ∙ ap (λ (m : ℕ). range_with_len a (stop - a) ++ range_with_len m (a + n - stop)) f
 
-pub no_more : (xs : List ℕ) → xs ++ [] ≡ xs
-no_more [] = refl
-no_more (x ∷ xs) = ap (λ r. x ∷ r) (no_more xs)
-
 range_below_cut : (stop a n : ℕ) → a < stop → stop < a + n → filter (λ y. nat_lt y stop) (range_with_len a n) ≡ range_with_len a (stop - a)
 range_below_cut stop a n h k =
     ap (λ r. filter (λ y. nat_lt y stop) r) (cut_range stop a n h k)
     ∙ filter-append (λ y. nat_lt y stop) (range_with_len a (stop - a)) (range_with_len stop (a + n - stop))
     ∙ ap (λ r. r ++ filter (λ y. nat_lt y stop) (range_with_len stop (a + n - stop))) (range_below_all stop a (stop - a) (omega arith))
     ∙ ap (λ r. range_with_len a (stop - a) ++ r) (range_below_none stop stop (a + n - stop) (omega arith))
-    ∙ no_more (range_with_len a (stop - a))
+    ∙ append-nil (range_with_len a (stop - a))
 
 range_above_cut : (stop a n : ℕ) → a < stop → stop < a + n → filter (λ y. nat_le stop y) (range_with_len a n) ≡ range_with_len stop (a + n - stop)
 range_above_cut stop a n h k =
@@ -205,8 +201,8 @@ end_of_cover : (e : Extent) (cover : List Extent) → IsCover (e ∷ cover)
 end_of_cover e [] h =
     let a = last_of_range e.at e.len h.0 in
     let b : length (range_with_len e.at e.len) ≡ e.len = length-range_with_len e.at e.len in
-    let c : length (range_with_len e.at e.len ++ []) ≡ length (range_with_len e.at e.len) = ap (λ (xs : List ℕ). length xs) (no_more (range_with_len e.at e.len)) in
-    let d : last_of (range_with_len e.at e.len ++ []) ≡ last_of (range_with_len e.at e.len) = ap (λ (xs : List ℕ). last_of xs) (no_more (range_with_len e.at e.len)) in
+    let c : length (range_with_len e.at e.len ++ []) ≡ length (range_with_len e.at e.len) = ap (λ (xs : List ℕ). length xs) (append-nil (range_with_len e.at e.len)) in
+    let d : last_of (range_with_len e.at e.len ++ []) ≡ last_of (range_with_len e.at e.len) = ap (λ (xs : List ℕ). last_of xs) (append-nil (range_with_len e.at e.len)) in
     (omega arith, omega arith)
 end_of_cover e (f ∷ cover) h =
     let r = end_of_cover f cover h.2 in
@@ -245,7 +241,7 @@ hull_told e cover h =
         → (length (spans (e ∷ cover)) == hull_len (spans (e ∷ cover))) ≡ is_single (e ∷ cover)
     by_rest e [] h first ends =
         let b : length (range_with_len e.at e.len) ≡ e.len = length-range_with_len e.at e.len in
-        let c : length (range_with_len e.at e.len ++ []) ≡ length (range_with_len e.at e.len) = ap (λ (xs : List ℕ). length xs) (no_more (range_with_len e.at e.len)) in
+        let c : length (range_with_len e.at e.len ++ []) ≡ length (range_with_len e.at e.len) = ap (λ (xs : List ℕ). length xs) (append-nil (range_with_len e.at e.len)) in
         equal_true (length (spans (e ∷ []))) (hull_len (spans (e ∷ []))) (omega arith)
     by_rest e (f ∷ cover) h first ends =
         let r = end_of_cover f cover h.2 in

@@ -12,6 +12,10 @@ use Rattle.serial_spec.specs.Extents.{spans}
 use Rattle.overlay_laws.proofs.WalkLaws.{drop_first, take_first}
 use Rattle.overlay_laws.proofs.CoverLaws.{spans_below, spans_above, above_cover}
 
+-- the numbers of the share with this number, in shares of k numbers from c on
+abbrev pub share : ℕ → ℕ → List ℕ → ℕ → List ℕ
+share c k bytes j = filter (λ x. (x - c) / k == j) bytes
+
 two_by : {X : Type 0} (t u v : X → Bool) (y : X) (ys : List X) (b c : Bool) → u y ≡ b → v y ≡ c → t y ≡ (b && c) → filter u (filter v ys) ≡ filter t ys
     → filter u (cond c (y ∷ filter v ys) (filter v ys)) ≡ cond (t y) (y ∷ filter t ys) (filter t ys)
 two_by t u v y ys true true e f g h = take_first y (filter u (filter v ys)) (u y) e ∙ ap (λ r. y ∷ r) h ∙ sym (take_first y (filter t ys) (t y) g)

@@ -10,9 +10,9 @@ pub mod WalkLaws
 pub mod CoverLaws
 pub mod HolderLaws
 pub mod DomainLaws
-pub mod StepLaws
+mod StepLaws
 pub mod RoomLaws
-pub mod OnceLaws
+mod OnceLaws
 pub mod RegionLaws
 pub mod ReadLaws
 pub mod WindowCounts

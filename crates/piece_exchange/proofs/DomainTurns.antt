@@ -27,6 +27,7 @@ use Rattle.aggregator_rounds.proofs.CoveredBytes.{in_ranges, ranges_in, hole_sho
 use Rattle.piece_exchange.specs.Hulls.{AreTurns, HaveWindows, IsTurn, LieOnPart}
 use Rattle.piece_exchange.specs.Turns.{Told}
 use Rattle.piece_exchange.specs.Feeds.{AreApart}
+use Rattle.overlay_laws.proofs.DomainLaws.{share}
 
 -- ---- numbers in order, one list after another
 
@@ -80,9 +81,6 @@ in_or_out xs x = by_any (list_any (λ z. z == x) xs) refl
     by_any false e = inr (λ m. no_both (list_any (λ z. z == x) xs) (in_any xs x m) e)
 
 -- ---- shares, counted from c by k
-
-abbrev share : ℕ → ℕ → List ℕ → ℕ → List ℕ
-share c k bytes j = filter (λ x. (x - c) / k == j) bytes
 
 later_share : (c k : ℕ) (bytes : List ℕ) (a n x : ℕ) → In (flat_map (λ j. share c k bytes j) (range_with_len a n)) x → In bytes x × (a ≤ (x - c) / k)
 later_share c k bytes a n x h =

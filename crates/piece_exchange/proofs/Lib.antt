@@ -1,21 +1,21 @@
-pub mod TurnLaws
-pub mod PutLaws
-pub mod PieceLaws
-pub mod TakenLaws
-pub mod ServeLaws
-pub mod InTurnLaws
-pub mod OrderLaws
-pub mod FeedLaws
-pub mod BackLaws
-pub mod WorkerLaws
-pub mod DomainTurns
-pub mod PlanLaws
+mod TurnLaws
+mod PutLaws
+mod PieceLaws
+mod TakenLaws
+mod ServeLaws
+mod InTurnLaws
+mod OrderLaws
+mod FeedLaws
+mod BackLaws
+mod WorkerLaws
+mod DomainTurns
+mod PlanLaws
 pub mod CollectLaws
-pub mod ReadLaws
-pub mod TakeLaws
-pub mod PartReads
-pub mod TurnReads
-pub mod CrewLaws
-pub mod FetchLaws
-pub mod ShelfLaws
-pub mod LenderLaws
+mod ReadLaws
+mod TakeLaws
+mod PartReads
+mod TurnReads
+mod CrewLaws
+mod FetchLaws
+mod ShelfLaws
+mod LenderLaws

@@ -22,9 +22,7 @@ use Rattle.piece_exchange.specs.Put.{put_part}
 use Rattle.piece_exchange.specs.Taken.{cells_in, put_window}
 use Rattle.piece_exchange.specs.Turns.{Told}
 use Rattle.piece_exchange.specs.Hulls.{HaveWindows}
-
-abbrev cells_of : Source → List Owned → List Cell
-cells_of source list = map (λ o. cell_of source o) list
+use Rattle.aggregator_rounds.proofs.EntryCells.{entry_cells}
 
 -- ---- which entry says a byte
 
@@ -38,22 +36,22 @@ record IsSaidBy (source : Source) (list : List Owned) (x v : ℕ) : Type 0 where
   inside : In list by
   says : Says (enumerate_from (cell_of source by).0 (cell_of source by).1) x v
 
-says_by : (source : Source) (list : List Owned) (x v : ℕ) → Says (said_by (cells_of source list)) x v → IsSaidBy source list x v
+says_by : (source : Source) (list : List Owned) (x v : ℕ) → Says (said_by (entry_cells source list)) x v → IsSaidBy source list x v
 says_by source [] x v h = absurd h
 says_by source (o ∷ list) x v h =
-    elim (says_cases (enumerate_from (cell_of source o).0 (cell_of source o).1) (said_by (cells_of source list)) x v h) [
+    elim (says_cases (enumerate_from (cell_of source o).0 (cell_of source o).1) (said_by (entry_cells source list)) x v h) [
       | inl a ↦ record { by = o; inside = inl refl; says = a }
       | inr b ↦ (let r = says_by source list x v b in record { by = r.by; inside = inr r.inside; says = r.says })
     ]
 
 by_says : (source : Source) (list : List Owned) (x v : ℕ) (o : Owned) → In list o → Says (enumerate_from (cell_of source o).0 (cell_of source o).1) x v
-    → Says (said_by (cells_of source list)) x v
+    → Says (said_by (entry_cells source list)) x v
 by_says source [] x v o m h = absurd m
 by_says source (p ∷ list) x v o (inl e) h =
-    says_left (enumerate_from (cell_of source p).0 (cell_of source p).1) (said_by (cells_of source list)) x v
+    says_left (enumerate_from (cell_of source p).0 (cell_of source p).1) (said_by (entry_cells source list)) x v
     (subst (λ (q : Owned). Says (enumerate_from (cell_of source q).0 (cell_of source q).1) x v) (sym e) h)
 by_says source (p ∷ list) x v o (inr m) h =
-    says_right (enumerate_from (cell_of source p).0 (cell_of source p).1) (said_by (cells_of source list)) x v (by_says source list x v o m h)
+    says_right (enumerate_from (cell_of source p).0 (cell_of source p).1) (said_by (entry_cells source list)) x v (by_says source list x v o m h)
 
 said_inside : (source : Source) (list : List Owned) (x v : ℕ) (s : IsSaidBy source list x v) → (s.by.extent.at ≤ x) × (x < s.by.extent.at + s.by.extent.len)
 said_inside source list x v s =
@@ -69,14 +67,14 @@ pub record ArePicked (list : List Owned) (t : Told) (picked : List Owned) : Type
   pub inside : (o : Owned) → In picked o → In list o
   pub all : (o : Owned) → In list o → o.extent.at < t.0 + t.1 → t.0 < o.extent.at + o.extent.len → In picked o
 
-piece_says : (source : Source) (list picked : List Owned) (t : Told) (x v : ℕ) → ArePicked list t picked → Says (said_by (cells_of source picked)) x v
-    → Says (said_by (cells_of source list)) x v
+piece_says : (source : Source) (list picked : List Owned) (t : Told) (x v : ℕ) → ArePicked list t picked → Says (said_by (entry_cells source picked)) x v
+    → Says (said_by (entry_cells source list)) x v
 piece_says source list picked t x v p h =
     let s = says_by source picked x v h in
     by_says source list x v s.by (p.inside s.by s.inside) s.says
 
 entry_says : (source : Source) (list picked : List Owned) (t : Told) (x v : ℕ) → ArePicked list t picked → t.0 ≤ x → x < t.0 + t.1
-    → Says (said_by (cells_of source list)) x v → Says (said_by (cells_of source picked)) x v
+    → Says (said_by (entry_cells source list)) x v → Says (said_by (entry_cells source picked)) x v
 entry_says source list picked t x v p l k h =
     let s = says_by source list x v h in
     let r = said_inside source list x v s in
@@ -121,41 +119,41 @@ said_hull cells from lo hi y v low l h e =
 
 -- the cells of a part that has so many bytes
 abbrev part_cells : Source → List Owned → ℕ → ℕ → List Cell
-part_cells source list from len = moved_down from (clips from (from + len) (cells_of source list))
+part_cells source list from len = moved_down from (clips from (from + len) (entry_cells source list))
 
 abbrev turn_cells : Source → List Owned → ℕ → Told → List Cell
 turn_cells source picked from t = moved_down from (cells_in source t picked)
 
 part_within : (source : Source) (list : List Owned) (from len : ℕ) → IsWithin (part_cells source list from len) len
 part_within source list from len =
-    within_lowered from len (clips from (from + len) (cells_of source list))
-    (clips_from from (from + len) (cells_of source list) (omega arith)) (clips_within from (from + len) (cells_of source list) (omega arith))
+    within_lowered from len (clips from (from + len) (entry_cells source list))
+    (clips_from from (from + len) (entry_cells source list) (omega arith)) (clips_within from (from + len) (entry_cells source list) (omega arith))
 
 turn_within : (source : Source) (picked : List Owned) (from len : ℕ) (t : Told) → from ≤ t.0 → t.0 + t.1 ≤ from + len → IsWithin (turn_cells source picked from t) len
 turn_within source picked from len t low high =
     let cells = cells_in source t picked in
-    within_lowered from len cells (from_less from t.0 cells low (clips_from t.0 (t.0 + t.1) (cells_of source picked) (omega arith)))
-    (within_more cells (t.0 + t.1) (from + len) high (clips_within t.0 (t.0 + t.1) (cells_of source picked) (omega arith)))
+    within_lowered from len cells (from_less from t.0 cells low (clips_from t.0 (t.0 + t.1) (entry_cells source picked) (omega arith)))
+    (within_more cells (t.0 + t.1) (from + len) high (clips_within t.0 (t.0 + t.1) (entry_cells source picked) (omega arith)))
 
 -- what a window's cells say the part's cells say
-turn_part : (source : Source) (list picked : List Owned) (from len : ℕ) (t : Told) → IsOneValued (said_by (cells_of source list)) → ArePicked list t picked → from ≤ t.0 → t.0 + t.1 ≤ from + len
+turn_part : (source : Source) (list picked : List Owned) (from len : ℕ) (t : Told) → IsOneValued (said_by (entry_cells source list)) → ArePicked list t picked → from ≤ t.0 → t.0 + t.1 ≤ from + len
     → IsPart (said_by (part_cells source list from len)) (turn_cells source picked from t)
 turn_part source list picked from len t one p low high y v h =
-    let r = hull_said (cells_of source picked) from t.0 (t.0 + t.1) y v low (omega arith) h in
+    let r = hull_said (entry_cells source picked) from t.0 (t.0 + t.1) y v low (omega arith) h in
     let a = r.0 in
     let b = r.1 in
-    let says = piece_says source list picked t (y + from) v p (said_is (said_by (cells_of source picked)) (y + from) v r.2) in
-    said_hull (cells_of source list) from from (from + len) y v (omega arith) (omega arith) (omega arith) (one_said (said_by (cells_of source list)) one (y + from) v says)
+    let says = piece_says source list picked t (y + from) v p (said_is (said_by (entry_cells source picked)) (y + from) v r.2) in
+    said_hull (entry_cells source list) from from (from + len) y v (omega arith) (omega arith) (omega arith) (one_said (said_by (entry_cells source list)) one (y + from) v says)
 
 -- ... and in the window's hull the other way
-part_turn : (source : Source) (list picked : List Owned) (from len : ℕ) (t : Told) (y v : ℕ) → IsOneValued (said_by (cells_of source list)) → ArePicked list t picked → from ≤ t.0
+part_turn : (source : Source) (list picked : List Owned) (from len : ℕ) (t : Told) (y v : ℕ) → IsOneValued (said_by (entry_cells source list)) → ArePicked list t picked → from ≤ t.0
     → t.0 ≤ y + from → y + from < t.0 + t.1 → said_at (said_by (part_cells source list from len)) y ≡ Some v
     → said_at (said_by (turn_cells source picked from t)) y ≡ Some v
 part_turn source list picked from len t y v one p low l h e =
-    let whole = (hull_said (cells_of source list) from from (from + len) y v (omega arith) (omega arith) e).2 in
-    let says = entry_says source list picked t (y + from) v p l h (said_is (said_by (cells_of source list)) (y + from) v whole) in
-    said_hull (cells_of source picked) from t.0 (t.0 + t.1) y v low l h
-    (one_said (said_by (cells_of source picked))
+    let whole = (hull_said (entry_cells source list) from from (from + len) y v (omega arith) (omega arith) e).2 in
+    let says = entry_says source list picked t (y + from) v p l h (said_is (said_by (entry_cells source list)) (y + from) v whole) in
+    said_hull (entry_cells source picked) from t.0 (t.0 + t.1) y v low l h
+    (one_said (said_by (entry_cells source picked))
     (λ x a b f g. one x a b (piece_says source list picked t x a p f) (piece_says source list picked t x b p g)) (y + from) v says)
 
 -- ---- a part on its way
@@ -182,8 +180,8 @@ put_begin source list from ts old windows = record { between = nothing_put (put_
         → (at old x ≡ at (put_part source list from old) x) ⊎ ((t : Told) × In ts t × (t.0 ≤ x + from) × (x + from < t.0 + t.1))
     by_said x None e = inl (sym (unsaid (part_cells source list from (length old)) old x e))
     by_said x (Some v) e =
-        let r = hull_said (cells_of source list) from from (from + length old) x v (omega arith) (omega arith) e in
-        let s = says_by source list (x + from) v (said_is (said_by (cells_of source list)) (x + from) v r.2) in
+        let r = hull_said (entry_cells source list) from from (from + length old) x v (omega arith) (omega arith) e in
+        let s = says_by source list (x + from) v (said_is (said_by (entry_cells source list)) (x + from) v r.2) in
         let inside = said_inside source list (x + from) v s in
         inr (windows (x + from) r.0 r.1 (record { by = s.by; inside = s.inside; low = inside.0; high = inside.1 }))
 
@@ -199,14 +197,14 @@ between_more whole cells old mid part within b = record {
     by_said x None e = elim (b.each x) [ inl k ↦ inl (unsaid cells mid x e ∙ k) | inr k ↦ inr (unsaid cells mid x e ∙ k) ]
     by_said x (Some v) e = inr (said cells mid x v e ∙ sym (said whole old x v (part x v e)))
 
-window_between : (source : Source) (list picked : List Owned) (from : ℕ) (t : Told) (old mid : List ℕ) → IsOneValued (said_by (cells_of source list)) → ArePicked list t picked
+window_between : (source : Source) (list picked : List Owned) (from : ℕ) (t : Told) (old mid : List ℕ) → IsOneValued (said_by (entry_cells source list)) → ArePicked list t picked
     → from ≤ t.0 → t.0 + t.1 ≤ from + length old → IsBetween old (put_part source list from old) mid → IsBetween old (put_part source list from old) (put_window source from t picked mid)
 window_between source list picked from t old mid one p low high b =
     between_more (part_cells source list from (length old)) (turn_cells source picked from t) old mid (turn_part source list picked from (length old) t one p low high)
     (turn_within source picked from (length mid) t low (subst (λ (n : ℕ). t.0 + t.1 ≤ from + n) (sym b.len) high)) b
 
 -- one window more
-put_next : (source : Source) (list picked : List Owned) (from : ℕ) (t : Told) (ts : List Told) (old mid : List ℕ) → IsOneValued (said_by (cells_of source list)) → ArePicked list t picked
+put_next : (source : Source) (list picked : List Owned) (from : ℕ) (t : Told) (ts : List Told) (old mid : List ℕ) → IsOneValued (said_by (entry_cells source list)) → ArePicked list t picked
     → from ≤ t.0 → t.0 + t.1 ≤ from + length old → IsPutSoFar source list from (t ∷ ts) old mid → IsPutSoFar source list from ts old (put_window source from t picked mid)
 put_next source list picked from t ts old mid one p low high s = record {
   between = window_between source list picked from t old mid one p low high s.between;

@@ -1,1 +1,1 @@
-pub mod ApartLaws
+mod ApartLaws

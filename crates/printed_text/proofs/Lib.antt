@@ -1,3 +1,3 @@
-pub mod DigitLaws
-pub mod OffsetLaws
+mod DigitLaws
+mod OffsetLaws
 pub mod WordLaws

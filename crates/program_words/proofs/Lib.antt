@@ -1,2 +1,2 @@
-pub mod Digits
-pub mod Commands
+mod Digits
+mod Commands

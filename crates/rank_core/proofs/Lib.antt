@@ -1,19 +1,19 @@
 pub mod KnownLaws
-pub mod OwnLaws
+mod OwnLaws
 pub mod RequestLaws
-pub mod GetLaws
-pub mod AskedLaws
-pub mod HeardLaws
+mod GetLaws
+mod AskedLaws
+mod HeardLaws
 pub mod StepLaws
-pub mod WaitLaws
-pub mod NameLaws
+mod WaitLaws
+mod NameLaws
 pub mod OutcomeLaws
-pub mod MappedLaws
+mod MappedLaws
 pub mod ValueLaws
-pub mod SeparateLaws
+mod SeparateLaws
 pub mod FillLaws
 pub mod FillPostLaws
 pub mod FillLookLaws
 pub mod LookLaws
-pub mod TargetLaws
+mod TargetLaws
 mod FittingLaws

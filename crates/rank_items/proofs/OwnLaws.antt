@@ -1,5 +1,5 @@
 -- An element that stood twice would hold its first byte twice.
-use Rattle.std.proofs.Common.{◌≡◌, ℕ, zero, suc, ◌*◌, ◌≤◌, refl, sym, ap, ◌∙◌, List, [], ◌∷◌, map, true, Option, Some, None, arith}
+use Rattle.std.proofs.Common.{◌≡◌, ℕ, zero, suc, ◌*◌, ◌≤◌, refl, sym, ap, ◌∙◌, List, [], ◌∷◌, map, true, Option, Some, arith}
 use Rattle.std.specs.Prelude.{slice_get, flat_map, is_some}
 use Rattle.std.specs.List.{range_with_len}
 use Rattle.std.proofs.lemmas.List.FromFn.{length-range_with_len}
@@ -15,6 +15,7 @@ use Rattle.serial_spec.specs.SharedByte.{bytes_of, bytes_of_some, holdings, Hold
 use Rattle.rank_items.specs.Own.{HasOwnElements}
 use Rattle.list_laws.proofs.Maps.{entry_map}
 use Rattle.list_laws.proofs.Places.{get_left, get_right}
+use Rattle.list_laws.proofs.Optional.{value_of_some}
 
 -- ---- blocks of one length
 
@@ -35,10 +36,6 @@ block_first n h (y ∷ xs) (suc k) m x f e =
 
 -- ---- the first byte of an element
 
-var_there : (m : Option Var) → is_some m ≡ true → (v : Var) × (m ≡ Some v)
-var_there None e = absurd cc
-var_there (Some v) e = (v, refl)
-
 byte_there : (header : Header) (p : Post) (v : Var) (k : ℕ) (index : List ℕ) → slice_get header.vars p.var ≡ Some v → slice_get (elements p.region) k ≡ Some index
     → slice_get (bytes_of header p) (k * size_of v.kind) ≡ Some (place header v index)
 byte_there header p v k index e f =
@@ -53,7 +50,7 @@ held_at header rank puts i p e =
 pub own_elements : (header : Header) (puts : List Post) (rank : ℕ) → ((i : ℕ) (p : Post) → slice_get puts i ≡ Some p → is_some (slice_get header.vars p.var) ≡ true)
     → IsOwnOnce (holdings header (map (λ p. (rank, p)) puts)) → HasOwnElements puts
 own_elements header puts rank vars own = λ i j k l p q index here there id var a b.
-    let found = var_there (slice_get header.vars p.var) (vars i p here) in
+    let found = value_of_some (slice_get header.vars p.var) (vars i p here) in
     let v = found.0 in
     let same = ap (λ (n : ℕ). slice_get header.vars n) (sym var) ∙ found.1 in
     let key = ap (λ (n : ℕ). let pair : ℕ × ℕ = (rank, n) in pair) id in

@@ -1,1 +1,1 @@
-pub mod TestScripts
+mod TestScripts

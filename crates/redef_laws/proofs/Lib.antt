@@ -1,28 +1,28 @@
-pub mod FieldLaws
+mod FieldLaws
 pub mod OpenedLaws
-pub mod GrownLaws
-pub mod ShortLaws
-pub mod FitLaws
+mod GrownLaws
+mod ShortLaws
+mod FitLaws
 pub mod RebegunLaws
 pub mod BeginLaws
-pub mod PlaceLaws
-pub mod KeptLaws
-pub mod SharingLaws
-pub mod ApartLaws
+mod PlaceLaws
+mod KeptLaws
+mod SharingLaws
+mod ApartLaws
 pub mod WrittenLaws
-pub mod SoundVars
-pub mod RecordSizes
-pub mod Ordered
-pub mod PlacedLaws
-pub mod SlabLaws
-pub mod SlabOrder
-pub mod ShiftLaws
-pub mod ElementSlabs
+mod SoundVars
+mod RecordSizes
+mod Ordered
+mod PlacedLaws
+mod SlabLaws
+mod SlabOrder
+mod ShiftLaws
+mod ElementSlabs
 pub mod MovedLaws
-pub mod ChainLaws
-pub mod SumLaws
-pub mod FallingLaws
-pub mod GapLaws
-pub mod OldBegins
+mod ChainLaws
+mod SumLaws
+mod FallingLaws
+mod GapLaws
+mod OldBegins
 pub mod RisingLaws
 pub mod AppliedLaws

@@ -10,6 +10,7 @@ use Rattle.serial_spec.specs.Layout.{is_record, recsize, slab, meet, share, reco
 use Rattle.overlay_laws.specs.Entries.{In}
 use Rattle.serial_spec.proofs.MemberLaws.{filter_in}
 use Rattle.overlay_laws.proofs.Members.{zip_left}
+use Rattle.serial_spec.proofs.ApartLaws.{share_by}
 
 -- any two places of the list have variables that share none
 abbrev pub ShareNone : Header → List (Var × Var) → Type 0
@@ -46,11 +47,6 @@ either_way old (x ∷ ps) p q h (inr m) (inl f) = inr (inr (sym (ap (λ (z : Var
 either_way old (x ∷ ps) p q h (inr m) (inr n) = either_way old ps p q h.1 m n
 
 -- ---- what that says of begins
-
-abbrev share_by : Header → Var → Var → Bool → Bool → Bool
-share_by old v w a b =
-    cond a (cond b (cond (nat_le v.begin w.begin) (records_meet old v w) (records_meet old w v)) (nat_lt v.begin (w.begin + slab old w)))
-    (cond b (nat_lt w.begin (v.begin + slab old v)) (meet v.begin (slab old v) w.begin (slab old w)))
 
 share_known : (old : Header) (v w : Var) (a b : Bool) → is_record old v ≡ a → is_record old w ≡ b → share old v w ≡ share_by old v w a b
 share_known old v w a b e f = λ i. share_by old v w (e i) (f i)

@@ -9,7 +9,7 @@ use Rattle.std.proofs.lemmas.List.Sums.{sum_by-cons}
 use Rattle.std.proofs.lemmas.Bool.{ltb-true, ltb-false, eqb-true}
 use Rattle.serial_spec.proofs.RoomLaws.{slab_below}
 use Rattle.overlay_laws.proofs.Members.{each_in}
-use Rattle.list_laws.proofs.Truth.{equal_true, no_both}
+use Rattle.list_laws.proofs.Truth.{equal_true, no_both, equal_suc}
 use Rattle.nc_base.specs.declared.header.Header.{Header}
 use Rattle.nc_base.specs.declared.header.Dim.{Dim}
 use Rattle.nc_base.specs.declared.header.Var.{Var}
@@ -44,10 +44,7 @@ product_some (n ∷ ns) h = mul-pos (some n h.0) (product_some ns h.1)
 inner_some : (ns : List ℕ) → AllByRecursion (λ n. (n == 0) ≡ false) (drop 1 ns) → AllByRecursion (λ n. (n == 0) ≡ false) (without_record ns)
 inner_some [] h = tt
 inner_some (zero ∷ ns) h = h
-inner_some (suc n ∷ ns) h = (some n, h)
-  where
-    some : (n : ℕ) → (suc n == 0) ≡ false
-    some n = grind (arith, nat_tests)
+inner_some (suc n ∷ ns) h = (equal_suc n, h)
 
 lengths_later : (dims : List Dim) (ids : List ℕ) → AllByRecursion (λ id. is_record_at dims id ≡ false) (drop 1 ids)
     → AllByRecursion (λ n. (n == 0) ≡ false) (drop 1 (map (λ id. length_of (slice_get dims id)) ids))

@@ -15,19 +15,17 @@ use Rattle.serial_spec.specs.HeaderBytes.{header_len}
 use Rattle.serial_spec.specs.SoundHeaders.{is_sound}
 use Rattle.serial_spec.proofs.ApartLaws.{none_from, none_shared, past_header}
 use Rattle.serial_spec.proofs.RoomLaws.{none_later}
+use Rattle.list_laws.proofs.Truth.{not_zero}
 
 -- ---- one variable
 
 product_holds : (ns : List ℕ) → AllByRecursion (λ n. (n == 0) ≡ false) ns → 1 ≤ product ns
 product_holds [] h = omega arith
 product_holds (n ∷ ns) h =
-    let some : 1 ≤ n = above_zero n h.0 in
+    let some : 1 ≤ n = not_zero n h.0 in
     let rest = product_holds ns h.1 in
     let all : 1 * 1 ≤ n * product ns = mul-le 1 1 n (product ns) some rest in
     omega arith
-  where
-    above_zero : (m : ℕ) → (m == 0) ≡ false → 1 ≤ m
-    above_zero m e = grind (arith, nat_tests)
 
 inner_holds : (ls : List ℕ) → AllByRecursion (λ n. (n == 0) ≡ false) (drop 1 ls) → 1 ≤ product (without_record ls)
 inner_holds [] h = omega arith

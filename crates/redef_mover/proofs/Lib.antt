@@ -5,15 +5,15 @@ mod Places
 mod Ranges
 mod Written
 mod Redefined
-pub mod ToldSteps
-pub mod SlabLaws
-pub mod WindowLaws
-pub mod MovesLaws
-pub mod ClearLaws
-pub mod SortLaws
-pub mod ListedLaws
-pub mod CarryLaws
-pub mod CallsLaws
+mod ToldSteps
+mod SlabLaws
+mod WindowLaws
+mod MovesLaws
+mod ClearLaws
+mod SortLaws
+mod ListedLaws
+mod CarryLaws
+mod CallsLaws
 pub mod AppliedLaws
-pub mod KeptLaws
-pub mod CutLaws
+mod KeptLaws
+mod CutLaws

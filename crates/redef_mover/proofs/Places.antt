@@ -1,6 +1,6 @@
 -- The loops that place the variables.
 use Rattle.std.proofs.Common.{◌≡◌, ℕ, ◌+◌, ◌-◌, ◌^◌, ◌<◌, ◌≤◌, List, [], ◌∷◌, ◌++◌, length, take, get_or, map, min, fold, Bool, true, false, cond, Option, Some, refl, sym, ap, subst, ◌∙◌, arith, MatchOption}
-use Rattle.std.specs.Prelude.{filter, sum_by, not, nat_le, ◌&&◌, unwrap_or}
+use Rattle.std.specs.Prelude.{filter, not, nat_le, ◌&&◌, unwrap_or}
 use Rattle.std.specs.List.{enumerate_from}
 use Rattle.std.proofs.lemmas.List.{take_more, take_all, map-append, append_assoc, append-nil, get_or-map, length-map}
 use Rattle.std.proofs.lemmas.List.Sums.{sum_by_push, sum_by-cons}
@@ -20,6 +20,7 @@ use Rattle.redef_mover.specs.declared.new_begins.Place.{Place}
 use Rattle.redef_mover.specs.declared.new_begins.Side.{Side}
 use Rattle.redef_mover.specs.declared.new_begins.Side.TheVariants.{Old, New}
 use Rattle.redef_mover.specs.NewBegins.{on_side, records_at, fixed_var, record_var, pairs, capped_pairs}
+use Rattle.redef_laws.proofs.BeginLaws.{vsizes}
 
 -- ---- the variables that two tests choose, among the first k
 
@@ -207,24 +208,21 @@ least_more header n k v now begin within there test lesser so_far =
 
 -- ---- placing the record variables
 
-abbrev pub shares : Header → List Numbered → ℕ
-shares header vars = sum_by (λ v. vsize header v.1) vars
-
 abbrev pub kept_apart : ℕ → ℕ → List Numbered → List (ℕ × ℕ)
 kept_apart m least vars = map (λ v. (v.0, m + (v.1.begin - least))) vars
 
 end_more : (header : Header) (m : ℕ) (vars : List Numbered) (v : Numbered) (end next bytes : ℕ) → bytes ≡ capped (vsize header v.1) → next ≡ capped (end + bytes)
-    → end ≡ capped (m + shares header vars) → next ≡ capped (m + shares header (vars ++ v ∷ []))
+    → end ≡ capped (m + vsizes header vars) → next ≡ capped (m + vsizes header (vars ++ v ∷ []))
 end_more header m vars v end next bytes e f g =
     let more = sum_by_push (λ (w : Numbered). vsize header w.1) vars v in
     f ∙ ap (λ (i : ℕ). capped (end + i)) e ∙ ap (λ (i : ℕ). capped (i + capped (vsize header v.1))) g
-    ∙ capped_both (m + shares header vars) (vsize header v.1)
+    ∙ capped_both (m + vsizes header vars) (vsize header v.1)
     ∙ ap (λ (i : ℕ). capped i) (omega (arith, more))
 
 -- after the first k of the order
 pub record OldSoFar (order : List NumberedVar) (first least k : ℕ) (old now : List Place) (end : ℕ) : Type 0 where
   pub placed : (header : Header) (vars : List Numbered) (m : ℕ) → order ≡ map (record_var header) vars → first ≡ capped m
-      → (pairs now ≡ pairs old ++ capped_pairs (kept_apart m least (take k vars))) × (end ≡ capped (m + shares header (take k vars)))
+      → (pairs now ≡ pairs old ++ capped_pairs (kept_apart m least (take k vars))) × (end ≡ capped (m + vsizes header (take k vars)))
 
 pub old_none : (order : List NumberedVar) (first least : ℕ) (old : List Place) → OldSoFar order first least 0 old old first
 old_none order first least old =
@@ -237,7 +235,7 @@ pub old_next : (order : List NumberedVar) (first least k : ℕ) (old now after :
 old_next order first least k old now after end begin next item within there at to pushed so_far = record { placed = one_further }
   where
     one_further : (header : Header) (vars : List Numbered) (m : ℕ) → order ≡ map (record_var header) vars → first ≡ capped m
-        → (pairs after ≡ pairs old ++ capped_pairs (kept_apart m least (take (k + 1) vars))) × (next ≡ capped (m + shares header (take (k + 1) vars)))
+        → (pairs after ≡ pairs old ++ capped_pairs (kept_apart m least (take (k + 1) vars))) × (next ≡ capped (m + vsizes header (take (k + 1) vars)))
     one_further header vars m e f =
         let v = get_or vars k nobody in
         let before_k = take k vars in
@@ -254,31 +252,31 @@ old_next order first least k old now after end begin next item within there at t
               ∙ ap (λ (i : ℕ). pairs old ++ capped_pairs (kept_apart m least before_k ++ (i, m + (v.1.begin - least)) ∷ [])) numbered
               ∙ ap (λ bs. pairs old ++ capped_pairs bs)
               (sym (map-append (λ (w : Numbered). (w.0, m + (w.1.begin - least))) before_k (v ∷ [])) ∙ ap (λ vs. kept_apart m least vs) (sym more)),
-          end_more header m before_k v end next item.len sized to before.1 ∙ ap (λ vs. capped (m + shares header vs)) (sym more),
+          end_more header m before_k v end next item.len sized to before.1 ∙ ap (λ vs. capped (m + vsizes header vs)) (sym more),
         )
 
 pub old_whole : (order : List NumberedVar) (first least k : ℕ) (old now : List Place) (end : ℕ) → length order ≤ k → OldSoFar order first least k old now end
     → (header : Header) (vars : List Numbered) (m : ℕ) → order ≡ map (record_var header) vars → first ≡ capped m
-    → (pairs now ≡ pairs old ++ capped_pairs (kept_apart m least vars)) × (end ≡ capped (m + shares header vars))
+    → (pairs now ≡ pairs old ++ capped_pairs (kept_apart m least vars)) × (end ≡ capped (m + vsizes header vars))
 old_whole order first least k old now end past so_far header vars m e f =
     let long = ap (λ (vs : List NumberedVar). length vs) e ∙ length-map vars (record_var header) in
     let all = take_all k vars (omega arith) in
     let before = so_far.placed header vars m e f in
-    (before.0 ∙ ap (λ vs. pairs old ++ capped_pairs (kept_apart m least vs)) all, before.1 ∙ ap (λ vs. capped (m + shares header vs)) all)
+    (before.0 ∙ ap (λ vs. pairs old ++ capped_pairs (kept_apart m least vs)) all, before.1 ∙ ap (λ vs. capped (m + vsizes header vs)) all)
 
-shares_inserted : (header : Header) (v : Numbered) (vars : List Numbered) → shares header (inserted v vars) ≡ shares header (v ∷ vars)
+shares_inserted : (header : Header) (v : Numbered) (vars : List Numbered) → vsizes header (inserted v vars) ≡ vsizes header (v ∷ vars)
 shares_inserted header v [] = refl
 shares_inserted header v (w ∷ vars) = by_test (shares_inserted header v vars) (nat_le v.1.begin w.1.begin)
   where
-    by_test : shares header (inserted v vars) ≡ shares header (v ∷ vars) → (t : Bool)
-        → shares header (cond t (v ∷ w ∷ vars) (w ∷ inserted v vars)) ≡ shares header (v ∷ w ∷ vars)
+    by_test : vsizes header (inserted v vars) ≡ vsizes header (v ∷ vars) → (t : Bool)
+        → vsizes header (cond t (v ∷ w ∷ vars) (w ∷ inserted v vars)) ≡ vsizes header (v ∷ w ∷ vars)
     by_test rest true = refl
     by_test rest false =
         let size = λ (x : Numbered). vsize header x.1 in
         omega (arith, rest, sum_by-cons size w (inserted v vars), sum_by-cons size v vars, sum_by-cons size v (w ∷ vars), sum_by-cons size w vars)
 
 -- the order in which variables stand takes nothing from their sum
-pub shares_sorted : (header : Header) (vars : List Numbered) → shares header (by_begin vars) ≡ shares header vars
+pub shares_sorted : (header : Header) (vars : List Numbered) → vsizes header (by_begin vars) ≡ vsizes header vars
 shares_sorted header [] = refl
 shares_sorted header (v ∷ vars) =
     let size = λ (x : Numbered). vsize header x.1 in
@@ -286,17 +284,17 @@ shares_sorted header (v ∷ vars) =
     omega (arith, one, shares_sorted header vars, sum_by-cons size v (by_begin vars), sum_by-cons size v vars)
 
 record_push : (header : Header) (at : ℕ) (vars : List Numbered) (v : Numbered)
-    → record_begins header at (vars ++ v ∷ []) ≡ record_begins header at vars ++ (v.0, at + shares header vars) ∷ []
+    → record_begins header at (vars ++ v ∷ []) ≡ record_begins header at vars ++ (v.0, at + vsizes header vars) ∷ []
 record_push header at [] v = ap (λ (n : ℕ). (v.0, n) ∷ []) (let e : at ≡ at + 0 = omega arith in e)
 record_push header at (w ∷ vars) v =
     ap (λ bs. (w.0, at) ∷ bs)
     (record_push header (at + vsize header w.1) vars v
     ∙ ap (λ (n : ℕ). record_begins header (at + vsize header w.1) vars ++ (v.0, n) ∷ [])
-    (let more = sum_by-cons (λ (x : Numbered). vsize header x.1) w vars in let e : at + vsize header w.1 + shares header vars ≡ at + shares header (w ∷ vars) = omega (arith, more) in e))
+    (let more = sum_by-cons (λ (x : Numbered). vsize header x.1) w vars in let e : at + vsize header w.1 + vsizes header vars ≡ at + vsizes header (w ∷ vars) = omega (arith, more) in e))
 
 pub record NewSoFar (header : Header) (n first k : ℕ) (old now : List Place) (begin : ℕ) : Type 0 where
   pub placed : (m : ℕ) → first ≡ capped m
-      → (pairs now ≡ pairs old ++ capped_pairs (record_begins header m (records_before header n New k))) × (begin ≡ capped (m + shares header (records_before header n New k)))
+      → (pairs now ≡ pairs old ++ capped_pairs (record_begins header m (records_before header n New k))) × (begin ≡ capped (m + vsizes header (records_before header n New k)))
 
 pub new_none : (header : Header) (n first : ℕ) (old : List Place) → NewSoFar header n first 0 old old first
 new_none header n first old = record { placed = λ m e. (sym (append-nil (pairs old)), e ∙ ap (λ (i : ℕ). capped i) (let z : m ≡ m + 0 = omega arith in z)) }
@@ -310,10 +308,10 @@ new_next header n first k v old now after begin next bytes within there test siz
       let more = sym (chosen_more (λ w. is_record header w.1) (on_side n New) header.vars k v within there test) in
       let before = so_far.placed m e in
       let vars = records_before header n New k in (
-        pairs_more old now after (record { number = k; begin = begin }) (record_begins header m vars) (m + shares header vars) pushed before.1 before.0
+        pairs_more old now after (record { number = k; begin = begin }) (record_begins header m vars) (m + vsizes header vars) pushed before.1 before.0
             ∙ ap (λ bs. pairs old ++ capped_pairs bs) (sym (record_push header m vars (k, v)))
             ∙ ap (λ vs. pairs old ++ capped_pairs (record_begins header m vs)) more,
-        end_more header m vars (k, v) begin next bytes sized to before.1 ∙ ap (λ vs. capped (m + shares header vs)) more,
+        end_more header m vars (k, v) begin next bytes sized to before.1 ∙ ap (λ vs. capped (m + vsizes header vs)) more,
       );
 }
 
@@ -324,7 +322,7 @@ new_passed header n first k v old now begin within there test so_far = record {
   placed = λ m e.
       let same = sym (chosen_same (λ w. is_record header w.1) (on_side n New) header.vars k v within there test) in
       let before = so_far.placed m e in
-      (before.0 ∙ ap (λ vs. pairs old ++ capped_pairs (record_begins header m vs)) same, before.1 ∙ ap (λ vs. capped (m + shares header vs)) same);
+      (before.0 ∙ ap (λ vs. pairs old ++ capped_pairs (record_begins header m vs)) same, before.1 ∙ ap (λ vs. capped (m + vsizes header vs)) same);
 }
 
 pub new_whole : (header : Header) (n first k : ℕ) (old now : List Place) (begin : ℕ) → length header.vars ≤ k → NewSoFar header n first k old now begin
@@ -337,7 +335,7 @@ new_whole header n first k old now begin past so_far m e =
 pub placed_all : (header : Header) (n : ℕ) (p q r s : List Place) (low : Option ℕ) (base : ℕ) → p ≡ [] → low ≡ least (map (λ (v : Numbered). v.1.begin) (records_at header n Old)) → base ≡ unwrap_or low 0
     → pairs q ≡ pairs p ++ capped_pairs (fixed_begins header (header_len header) (fixed_order header n))
     → pairs r ≡ pairs q ++ capped_pairs (kept_apart (first_record (front_after header (header_len header) (fixed_order header n)) low) base (by_begin (records_at header n Old)))
-    → pairs s ≡ pairs r ++ capped_pairs (record_begins header (first_record (front_after header (header_len header) (fixed_order header n)) low + shares header (records_at header n Old)) (records_at header n New))
+    → pairs s ≡ pairs r ++ capped_pairs (record_begins header (first_record (front_after header (header_len header) (fixed_order header n)) low + vsizes header (records_at header n Old)) (records_at header n New))
     → pairs s ≡ capped_pairs (begins_by_number header n)
 placed_all header n p q r s low base none is unwrapped fixed old new = subst Whole is (by_low low base unwrapped old new)
   where
@@ -346,20 +344,20 @@ placed_all header n p q r s low base none is unwrapped fixed old new = subst Who
         pairs s
         ≡ capped_pairs (fixed_begins header (header_len header) (fixed_order header n)
         ++ kept_apart (first_record (front_after header (header_len header) (fixed_order header n)) o) (unwrap_or o 0) (by_begin (records_at header n Old))
-        ++ record_begins header (first_record (front_after header (header_len header) (fixed_order header n)) o + shares header (records_at header n Old)) (records_at header n New))
+        ++ record_begins header (first_record (front_after header (header_len header) (fixed_order header n)) o + vsizes header (records_at header n Old)) (records_at header n New))
 
     by_low : (o : Option ℕ) (b : ℕ) → b ≡ unwrap_or o 0
         → pairs r ≡ pairs q ++ capped_pairs (kept_apart (first_record (front_after header (header_len header) (fixed_order header n)) o) b (by_begin (records_at header n Old)))
-        → pairs s ≡ pairs r ++ capped_pairs (record_begins header (first_record (front_after header (header_len header) (fixed_order header n)) o + shares header (records_at header n Old)) (records_at header n New))
+        → pairs s ≡ pairs r ++ capped_pairs (record_begins header (first_record (front_after header (header_len header) (fixed_order header n)) o + vsizes header (records_at header n Old)) (records_at header n New))
         → pairs s
         ≡ capped_pairs (fixed_begins header (header_len header) (fixed_order header n)
         ++ kept_apart (first_record (front_after header (header_len header) (fixed_order header n)) o) (unwrap_or o 0) (by_begin (records_at header n Old))
-        ++ record_begins header (first_record (front_after header (header_len header) (fixed_order header n)) o + shares header (records_at header n Old)) (records_at header n New))
+        ++ record_begins header (first_record (front_after header (header_len header) (fixed_order header n)) o + vsizes header (records_at header n Old)) (records_at header n New))
     by_low o b e f g =
         let a = fixed_begins header (header_len header) (fixed_order header n) in
         let m = first_record (front_after header (header_len header) (fixed_order header n)) o in
         let x = kept_apart m (unwrap_or o 0) (by_begin (records_at header n Old)) in
-        let y = record_begins header (m + shares header (records_at header n Old)) (records_at header n New) in
+        let y = record_begins header (m + vsizes header (records_at header n Old)) (records_at header n New) in
         let cap : ℕ × ℕ → ℕ × ℕ = λ z. (z.0, capped z.1) in
         let start : pairs q ≡ capped_pairs a = fixed ∙ ap (λ ps. pairs ps ++ capped_pairs a) none in
         let middle : pairs r ≡ capped_pairs a ++ capped_pairs x =

@@ -1,1 +1,1 @@
-pub mod SmallHeaders
+mod SmallHeaders

@@ -151,7 +151,3 @@ pub has_used : (room : Option Account) (taken : List Request) (i len : ℕ) (d :
     → HasUsed (freed room (sum_by held (take i taken))) len
 has_used None taken i len d holds lt le = tt
 has_used (Some room) taken i len d holds lt le = let all = holds.0 in omega (arith, sum_by_more_le held taken i d lt, le, all)
-
-pub detached : (room : Option Account) → is_some room ≡ false → room ≡ None
-detached None h = refl
-detached (Some room) h = cc

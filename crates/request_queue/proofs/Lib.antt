@@ -1,6 +1,6 @@
-pub mod AccountLaws
-pub mod IndexLaws
-pub mod PlaceLaws
+mod AccountLaws
+mod IndexLaws
+mod PlaceLaws
 pub mod PostedLaws
-pub mod TakeLaws
-pub mod LeaveLaws
+mod TakeLaws
+mod LeaveLaws

@@ -1,5 +1,5 @@
-pub mod Views
-pub mod LineMoves
-pub mod ItemsUnder
-pub mod InboxMoves
-pub mod SenderLists
+mod Views
+mod LineMoves
+mod ItemsUnder
+mod InboxMoves
+mod SenderLists

@@ -10,21 +10,18 @@ use Rattle.nc_base.specs.declared.step.DiskCall.{DiskCall}
 use Rattle.nc_base.specs.declared.step.Mark.{Mark}
 use Rattle.nc_base.specs.declared.step.Mark.TheVariants.{Meet, Solo}
 use Rattle.nc_base.specs.declared.step.Offer.{Offer}
-use Rattle.serial_spec.specs.DeviceCalls.{mark_calls, solo_calls, store_records, run_calls}
+use Rattle.serial_spec.specs.DeviceCalls.{mark_calls, store_records, run_calls}
 use Rattle.serial_spec.specs.FileStep.{Setting, Counted, meeting}
 use Rattle.serial_spec.specs.SerialEnd.{Going, advance, hears, offers_of, solo_of, after_mark, first_going, first_state, setting_of, closed, serial_from, close_by}
 use Rattle.run_laws.specs.Ahead.{calls_so_far}
 use Rattle.run_laws.specs.Arrivals.{Arrived, Stand, solo_to, step_to, step_calls, calls_over, ended_from, all_calls_over, first_stand}
 use Rattle.run_laws.proofs.OrderLaws.{calls_close}
+use Rattle.run_laws.proofs.StandingLaws.{calls_at}
+use Rattle.std.proofs.lemmas.List.{map-set}
 
 -- each rank goes up to its next offer
 abbrev pub gone_up : Setting → Counted × List Going → Stand
 gone_up s state = (state.0, map (advance s.header) state.1)
-
-map_set : {X Y : Type 0} (f : X → Y) (xs : List X) (r : ℕ) (x : X) → set (map f xs) r (f x) ≡ map f (set xs r x)
-map_set f [] r x = refl
-map_set f (y ∷ xs) zero x = refl
-map_set f (y ∷ xs) (suc r) x = ap (λ (ys : List _). f y ∷ ys) (map_set f xs r x)
 
 abbrev up : Setting → Option Going → Option Arrived
 up s None = None
@@ -37,10 +34,10 @@ get_up s (g ∷ goings) (suc r) = get_up s goings r
 
 -- ---- one step
 
-abbrev stand_at : Setting → ℕ → Counted → List Arrived → Option Arrived → Stand
+abbrev pub stand_at : Setting → ℕ → Counted → List Arrived → Option Arrived → Stand
 stand_at s r c ranks m = elim m [ None ↦ (c, ranks) | Some a ↦ solo_to s r c ranks a ]
 
-abbrev state_at : Setting → ℕ → Counted → List Going → Option Going → Counted × List Going
+abbrev pub state_at : Setting → ℕ → Counted → List Going → Option Going → Counted × List Going
 state_at s r c goings m = elim m [
   | None ↦ (c, goings)
   | Some g ↦ ((solo_of s r c (advance s.header g)).0, set goings r (solo_of s r c (advance s.header g)).1)
@@ -58,13 +55,10 @@ arrival_step s (c, goings) (Solo r n) =
     by None = refl
     by (Some g) =
         let done = solo_of s r c (advance s.header g) in
-        ap (λ (ranks : List Arrived). (done.0, ranks)) (map_set (advance s.header) goings r done.1)
+        ap (λ (ranks : List Arrived). (done.0, ranks)) (sym (map-set (advance s.header) goings r done.1))
 
-abbrev offer_of : Option Arrived → Option Offer
+abbrev pub offer_of : Option Arrived → Option Offer
 offer_of m = elim m [ None ↦ None | Some a ↦ a.1 ]
-
-abbrev calls_at : Hints → Setting → ℕ → Counted → Option Offer → List DiskCall
-calls_at hints s r c m = elim m [ None ↦ [] | Some o ↦ solo_calls hints s r o c ]
 
 pub arrival_call : (hints : Hints) (s : Setting) (state : Counted × List Going) (m : Mark) → step_calls hints s (gone_up s state) m ≡ mark_calls hints s state m
 arrival_call hints s (c, goings) (Meet k) = refl
@@ -99,7 +93,7 @@ arrival_end s state order =
     ∙ ap (λ (gs : List Going). close_by s (fold (after_mark s) state order).0 gs)
     (map_map (λ (a : Arrived). a.0) (advance s.header) (fold (after_mark s) state order).1)
 
-first_up : (header : Header) (s : Setting) (file : List ℕ) (calls : List (List Call)) → s.header ≡ header
+pub first_up : (header : Header) (s : Setting) (file : List ℕ) (calls : List (List Call)) → s.header ≡ header
     → first_stand header file calls ≡ gone_up s (first_state header file calls)
 first_up header s file calls e =
     ap (λ (ranks : List Arrived). (record { file = file; records = header.records }, ranks))

@@ -1,6 +1,6 @@
 -- Longer orders: their states and device calls, and the solo steps of one rank in a row.
-use Rattle.std.proofs.Common.{◌≡◌, ℕ, zero, suc, refl, sym, ◌∙◌, ap, List, [], ◌∷◌, ◌++◌, set, true, Some, append_assoc}
-use Rattle.std.proofs.lemmas.List.{append-nil}
+use Rattle.std.proofs.Common.{◌≡◌, ℕ, refl, sym, ◌∙◌, ap, List, [], ◌∷◌, ◌++◌, set, true, Some, append_assoc}
+use Rattle.std.proofs.lemmas.List.{append-nil, set-set}
 use Rattle.std.proofs.lemmas.Grind.{fold-append}
 use Rattle.std.specs.Prelude.{slice_get, ◌==◌, nat_lt, fold}
 use Rattle.std.specs.List.{list_all}
@@ -17,6 +17,7 @@ use Rattle.serial_spec.specs.DeviceCalls.{mark_calls, store_records, calls_from}
 use Rattle.serial_spec.specs.SerialEnd.{Going, setting_of, first_state, state_after, after_mark, after_solo, solo_of, advance, closed}
 use Rattle.run_laws.specs.Ahead.{is_solo_of, own_step, own_calls, calls_so_far}
 use Rattle.run_laws.proofs.StandingLaws.{solo_goes, solo_calls_go}
+use Rattle.list_laws.proofs.Places.{entry_set, set_own}
 
 -- ---- states
 
@@ -54,21 +55,6 @@ calls_close hints s state (m ∷ order) =
 
 -- ---- the solo steps of one rank
 
-get_set : (goings : List Going) (r : ℕ) (g h : Going) → slice_get goings r ≡ Some g → slice_get (set goings r h) r ≡ Some h
-get_set [] r g h e = cc
-get_set (x ∷ goings) zero g h e = refl
-get_set (x ∷ goings) (suc r) g h e = get_set goings r g h e
-
-set_set : (goings : List Going) (r : ℕ) (g h : Going) → set (set goings r g) r h ≡ set goings r h
-set_set [] r g h = refl
-set_set (x ∷ goings) zero g h = refl
-set_set (x ∷ goings) (suc r) g h = ap (λ (gs : List Going). x ∷ gs) (set_set goings r g h)
-
-set_own : (goings : List Going) (r : ℕ) (g : Going) → slice_get goings r ≡ Some g → set goings r g ≡ goings
-set_own [] r g e = cc
-set_own (x ∷ goings) zero g e = let a : g ≡ x = cc in λ i. a i ∷ goings
-set_own (x ∷ goings) (suc r) g e = ap (λ (gs : List Going). x ∷ gs) (set_own goings r g e)
-
 pub own_solos : (s : Setting) (r : ℕ) (c : Counted) (goings : List Going) (g : Going) (more : List Mark) → slice_get goings r ≡ Some g → list_all (is_solo_of r) more ≡ true
     → fold (after_mark s) (c, goings) more ≡ ((fold (own_step s r) (c, g) more).0, set goings r (fold (own_step s r) (c, g) more).1)
 own_solos s r c goings g [] e h = let f = sym (set_own goings r g e) in λ i. (c, f i)
@@ -76,10 +62,10 @@ own_solos s r c goings g (Meet k ∷ more) e h = cc
 own_solos s r c goings g (Solo q n ∷ more) e h =
     let done = solo_of s r c (advance s.header g) in
     let q_is = eqb-true q r (and_first (q == r) _ h) in
-    let others = own_solos s r done.0 (set goings r done.1) done.1 more (get_set goings r g done.1 e) (and_second (q == r) _ h) in
+    let others = own_solos s r done.0 (set goings r done.1) done.1 more (entry_set goings r g done.1 e) (and_second (q == r) _ h) in
     ap (λ (j : ℕ). fold (after_mark s) (after_solo s j c goings) more) q_is
     ∙ ap (λ (state : Counted × List Going). fold (after_mark s) state more) (solo_goes s r c goings g e) ∙ others
-    ∙ ap (λ (gs : List Going). ((fold (own_step s r) done more).0, gs)) (set_set goings r done.1 (fold (own_step s r) done more).1)
+    ∙ ap (λ (gs : List Going). ((fold (own_step s r) done more).0, gs)) (set-set goings r done.1 (fold (own_step s r) done more).1)
 
 pub own_solo_calls : (hints : Hints) (s : Setting) (r : ℕ) (c : Counted) (goings : List Going) (g : Going) (more : List Mark) → slice_get goings r ≡ Some g
     → list_all (is_solo_of r) more ≡ true → calls_so_far hints s (c, goings) more ≡ own_calls hints s r (c, g) more
@@ -89,7 +75,7 @@ own_solo_calls hints s r c goings g (Solo q n ∷ more) e h =
     let done = solo_of s r c (advance s.header g) in
     let q_is = eqb-true q r (and_first (q == r) _ h) in
     let first = solo_calls_go hints s r n c goings g e in
-    let others = own_solo_calls hints s r done.0 (set goings r done.1) done.1 more (get_set goings r g done.1 e) (and_second (q == r) _ h) in
+    let others = own_solo_calls hints s r done.0 (set goings r done.1) done.1 more (entry_set goings r g done.1 e) (and_second (q == r) _ h) in
     ap (λ (j : ℕ). mark_calls hints s (c, goings) (Solo j n) ++ calls_so_far hints s (after_solo s j c goings) more) q_is
     ∙ ap (λ (state : Counted × List Going). mark_calls hints s (c, goings) (Solo r n) ++ calls_so_far hints s state more) (solo_goes s r c goings g e)
     ∙ (λ i. first i ++ others i)

@@ -15,7 +15,7 @@ use Rattle.nc_base.specs.declared.step.Want.TheVariants as want
 use Rattle.serial_spec.specs.FileStep.{Setting, Counted, meeting, solo}
 use Rattle.serial_spec.specs.DeviceCalls.{mark_calls, meeting_calls, solo_calls}
 use Rattle.serial_spec.specs.RankMachine as machine
-use Rattle.serial_spec.specs.RankMachine.{step, hear, pending}
+use Rattle.serial_spec.specs.RankMachine.{step, hear}
 use Rattle.serial_spec.specs.SerialEnd.{Going, go, advance, hears, offers_of, after_meeting, after_solo, solo_of, closed, close_by}
 use Rattle.run_laws.specs.Ahead.{answered, asking, HasCome, AreAt, AreEnded, all_hear, own_step}
 
@@ -121,7 +121,7 @@ pub solo_at : (s : Setting) (r : ℕ) (c : Counted) (goings : List Going) (g t :
 solo_at s r c goings g t o e f =
     solo_goes s r c goings g e ∙ ap (λ (p : Going × Option Offer). ((solo_of s r c p).0, set goings r (solo_of s r c p).1)) f
 
-abbrev calls_at : Hints → Setting → ℕ → Counted → Option Offer → List DiskCall
+abbrev pub calls_at : Hints → Setting → ℕ → Counted → Option Offer → List DiskCall
 calls_at hints s r c m = elim m [ None ↦ [] | Some o ↦ solo_calls hints s r o c ]
 
 pub solo_calls_go : (hints : Hints) (s : Setting) (r n : ℕ) (c : Counted) (goings : List Going) (g : Going) → slice_get goings r ≡ Some g

@@ -1,5 +1,5 @@
 -- A rank on its way: how it begins, how its calls and its replies change what is left to it, and what others leave as it was.
-use Rattle.std.proofs.Common.{◌≡◌, ℕ, zero, suc, ◌+◌, ◌*◌, ◌≤◌, ◌≢◌, refl, sym, ◌∙◌, ap, subst, inl, inr, ◌⊎◌, List, [], ◌∷◌, ◌++◌, length, drop, Bool, true, false, not, cond, ◌&&◌, ◌||◌, Option, Some, None, arith, true≢false, append_assoc, length-append}
+use Rattle.std.proofs.Common.{◌≡◌, ℕ, zero, suc, ◌+◌, ◌*◌, ◌≤◌, ◌≢◌, refl, sym, ◌∙◌, ap, subst, inl, inr, ◌⊎◌, List, [], ◌∷◌, ◌++◌, length, drop, Bool, true, false, not, cond, ◌&&◌, ◌||◌, Option, Some, None, arith, true≢false, append_assoc}
 use Rattle.std.proofs.lemmas.List.{append-nil}
 use Rattle.std.proofs.lemmas.List.Sums.{sum_by-append}
 use Rattle.std.proofs.lemmas.List.Elements.{filter-append}
@@ -31,6 +31,7 @@ use Rattle.run_laws.specs.Ahead.{answered, asking, is_solo_of}
 use Rattle.run_laws.specs.Ways.{meetings, mode_heard, marks_left, kind_of_offer, kinds_of, Waits, AreNew, IsOnWay}
 use Rattle.run_laws.proofs.CallLaws.{Frees, is_free, is_other, says_at, heard_at}
 use Rattle.run_laws.proofs.LawfulLaws.{own_lawful}
+use Rattle.list_laws.proofs.Appends.{long_push}
 
 -- ---- the marks of an order
 
@@ -59,9 +60,6 @@ not_own q r n = by (eqb_tells q r)
     by (inr (e, f)) = e
 
 -- ---- one step of the marks and kinds that are left
-
-longer : (answers : List Answer) (a : Answer) → length (answers ++ a ∷ []) ≡ suc (length answers)
-longer answers a = length-append answers (a ∷ []) ∙ (omega arith)
 
 pub kinds_skip : (c : Call) (calls : List Call) → kind_of_call c ≡ None → kinds (c ∷ calls) ≡ kinds calls
 kinds_skip c calls e = ap (λ (m : Option MeetKind). cons_option m (kinds calls)) e
@@ -176,7 +174,7 @@ pub way_answers : (script : Script) (order : List Mark) (r : ℕ) (header : Head
 way_answers script order r header s next a c calls w e f p =
     let says = says_at header s.rank c (next, want.Answered a) f in
     let new = are_new s next c calls w.new e says.frees in
-    let long = longer s.answers a in
+    let long = long_push s.answers a in
     let k = meetings order in
     let left = (λ i. marks_from r (long i) k (says.mode i) calls)
     ∙ sym (marks_alone r (length s.answers) k s.rank.independent c calls says.alone says.solo)
@@ -239,7 +237,7 @@ way_solo script order r header s next heard o reply a c calls w e f p g =
     let asks = says.asking in
     let hears = heard_at header next heard reply a asks.open_with asks.is_open g in
     let new = new_as next heard (posted_ids calls) hears.posted (are_new s next c calls w.new e asks.frees) in
-    let long = longer s.answers a in
+    let long = long_push s.answers a in
     let n = length s.answers in
     let k = meetings order in
     let mode = hears.mode ∙ asks.mode ∙ mode_alone s.rank.independent c says.kind in
@@ -286,7 +284,7 @@ way_hears script order r header s heard o reply a w g =
     let was = waits_open s.rank.«open» o w.waits in
     let hears = heard_at header s.rank heard reply a was.0 was.1.0 g in
     let new = new_as s.rank heard (posted_ids s.calls) hears.posted (w.new.different, w.new.fresh) in
-    let long = longer s.answers a in
+    let long = long_push s.answers a in
     let n = length s.answers in
     let k = meetings order in
     let mode = hears.mode ∙ sym (mode_with s.rank was.0 was.1.0) in

@@ -1,3 +1,3 @@
-pub mod Moves
-pub mod Results
+mod Moves
+mod Results
 pub mod Sent

@@ -8,11 +8,11 @@ use Rattle.atomic_table.proofs.Lists.{set_else}
 use Rattle.crossbeam_utils.specs.Register.{Turns, TurnsAt, Forks, Merges}
 use Rattle.nc_base.specs.declared.step.Mark.{Mark}
 use Rattle.nc_base.specs.declared.run.Summary.{Summary}
-use Rattle.serial_spec.specs.Readings.{last_count}
 use Rattle.run_watch.specs.declared.rule.Heard.{Heard}
 use Rattle.run_watch.specs.declared.rule.Shown.{Shown}
 use Rattle.run_watch.specs.Heard.{summary, opened, with_pair, IsBeginning}
 use Rattle.run_watch.specs.BoardRule.{HeardOf, Keeps, Reads, TellsMore}
+use Rattle.std.proofs.lemmas.List.{append-nil}
 
 abbrev Pairs : Type 0
 Pairs = List (Mark × ℕ)
@@ -23,10 +23,6 @@ at_seat P [] seat v all e = absurd (some-ne-none v (sym e))
 at_seat P (x ∷ xs) zero v all e = subst P (some-injective x v e) (All-head P x xs all)
 at_seat P (x ∷ xs) (suc n) v all e = at_seat P xs n v (All-tail P x xs all) e
 
-append_nil : (l : Pairs) → l ++ [] ≡ l
-append_nil [] = refl
-append_nil (x ∷ xs) = ap (λ l. x ∷ l) (append_nil xs)
-
 none_left : (l : Pairs) → length l ≡ 0 → l ≡ []
 none_left [] e = refl
 none_left (x ∷ xs) e = absurd (omega (arith, e))
@@ -36,7 +32,7 @@ whole_list l m p e =
     let long = length-append l p.0 in
     let sum : length (l ++ p.0) ≡ length m = ap (λ (x : Pairs). length x) p.1 in
     let none : length p.0 ≡ 0 = omega arith in
-    sym (append_nil l) ∙ ap (λ (t : Pairs). l ++ t) (sym (none_left p.0 none)) ∙ p.1
+    sym (append-nil l) ∙ ap (λ (t : Pairs). l ++ t) (sym (none_left p.0 none)) ∙ p.1
 
 -- a beginning with as many steps is the whole
 pub whole : (early late : Heard) → IsBeginning early late → length early.pairs ≡ length late.pairs → early ≡ late
@@ -44,7 +40,7 @@ whole early late begins e = let pairs : early.pairs ≡ late.pairs = whole_list 
     λ i. record { opening = begins.0 i; pairs = pairs i }
 
 pub itself : (told : Heard) → IsBeginning told told
-itself told = (refl, ([], append_nil told.pairs))
+itself told = (refl, ([], append-nil told.pairs))
 
 -- a beginning of this is one of what is told then
 goes_on : (early told : Heard) (mark : Mark) (records : ℕ) → IsBeginning early told → IsBeginning early (with_pair told mark records)
@@ -54,13 +50,6 @@ goes_on early told mark records begins = let pair : Pairs = (mark, records) ∷ 
 heard_of_more : (told : Heard) (mark : Mark) (records : ℕ) (heard : Option Heard) → HeardOf told heard → HeardOf (with_pair told mark records) heard
 heard_of_more told mark records None h = h
 heard_of_more told mark records (Some early) h = goes_on early told mark records h
-
--- where nothing is shown, nothing was told
-pub nothing : (late : Heard) (records : ℕ) → summary late ≡ summary (opened records) → late ≡ opened records
-nothing late records e =
-    let none : late.pairs ≡ [] = none_left late.pairs (ap (λ (s : Summary). s.steps) e) in
-    let same : late.opening ≡ records = ap (λ (l : Pairs). last_count late.opening l) (sym none) ∙ ap (λ (s : Summary). s.records) e in
-    λ i. record { opening = same i; pairs = none i }
 
 -- the writer is made
 pub begins : (x : Shown) (records : ℕ) → x.summary ≡ summary (opened records) → Keeps x (None ∷ [])

@@ -1,4 +1,4 @@
-pub mod CallLaws
-pub mod MismatchLaws
-pub mod CallWordLaws
-pub mod LineOfCall
+mod CallLaws
+mod MismatchLaws
+mod CallWordLaws
+mod LineOfCall

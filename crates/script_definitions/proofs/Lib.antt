@@ -1,3 +1,3 @@
-pub mod VarLaws
-pub mod ListLaws
-pub mod DraftWordLaws
+mod VarLaws
+mod ListLaws
+mod DraftWordLaws

@@ -6,7 +6,7 @@ use Rattle.std.proofs.lemmas.Bool.{and_from}
 use Rattle.script_spec.proofs.TextLaws.{finished}
 use Rattle.list_laws.proofs.Each.{each_weaker}
 use Rattle.list_laws.proofs.Maps.{found_passes}
-use Rattle.list_laws.proofs.Optional.{none_before_map, not_some}
+use Rattle.list_laws.proofs.Optional.{none_before_map, not_some, untold}
 use Rattle.nc_base.specs.declared.errors.ScriptKind.TheVariants as kind
 use Rattle.nc_base.specs.declared.request.Call.{Call}
 use Rattle.nc_base.specs.declared.step.MeetKind.{MeetKind}
@@ -53,12 +53,8 @@ prefix_all {A} q (x ∷ xs) h = by_first (q x) refl h (λ g. prefix_all q xs g)
     by_first true e g rest = (e, rest (omega arith))
     by_first false e g rest = absurd (omega arith)
 
-not_less : (b : Bool) (n : ℕ) → cond b (Some n) None ≡ None → b ≡ false
-not_less true n h = absurd (cc)
-not_less false n h = refl
-
 position_none : {A : Type 0} (p : A → Bool) (xs : List A) → position p xs ≡ None → AllByRecursion (λ x. not (p x) ≡ true) xs
-position_none p xs h = prefix_all (λ x. not (p x)) xs (ltb-false _ _ (not_less (nat_lt (position_or_len p xs) (length xs)) (position_or_len p xs) h))
+position_none p xs h = prefix_all (λ x. not (p x)) xs (ltb-false _ _ (untold (nat_lt (position_or_len p xs) (length xs)) (position_or_len p xs) h))
 
 no_not : (b : Bool) → not (not b) ≡ true → b ≡ true
 no_not true h = refl

@@ -1,16 +1,16 @@
-pub mod StepLaws
+mod StepLaws
 pub mod ListLaws
-pub mod WordLaws
-pub mod ValueLaws
-pub mod DimLaws
-pub mod AddedLaws
-pub mod DefinedLaws
-pub mod CallValueLaws
-pub mod CallLaws
-pub mod CalledLaws
-pub mod AgreeLaws
-pub mod ReadLaws
-pub mod RunLaws
+mod WordLaws
+mod ValueLaws
+mod DimLaws
+mod AddedLaws
+mod DefinedLaws
+mod CallValueLaws
+mod CallLaws
+mod CalledLaws
+mod AgreeLaws
+mod ReadLaws
+mod RunLaws
 pub mod HeaderLaws
-pub mod HintLaws
+mod HintLaws
 pub mod LawfulLaws

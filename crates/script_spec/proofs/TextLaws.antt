@@ -1,10 +1,10 @@
--- Lines of a text, steps that tell a fault, and the ids that are posted.
+-- Lines of a text and their words, steps that tell a fault, and the ids that are posted.
 use Rattle.std.proofs.Common.{◌≡◌, ℕ, ◌<◌, List, [], ◌∷◌, length, map, Option, Some, None, Result, Ok, Err, refl, arith}
 use Rattle.nc_base.specs.declared.errors.ScriptErr.{ScriptErr}
 use Rattle.nc_base.specs.declared.errors.ScriptKind.{ScriptKind}
 use Rattle.nc_base.specs.declared.request.Call.{Call}
 use Rattle.serial_spec.specs.History.{kinds}
-use Rattle.script_spec.specs.ScriptWords.{Line, without_empty_end}
+use Rattle.script_spec.specs.ScriptWords.{Line, Word, first_word, without_empty_end}
 use Rattle.script_spec.specs.ScriptSteps.{or_fault}
 use Rattle.script_spec.specs.ScriptCalls.{posted, id_of_post, mismatch}
 use Rattle.script_spec.specs.ScriptGrammar.{finish}
@@ -12,6 +12,10 @@ use Rattle.script_spec.specs.ScriptGrammar.{finish}
 pub first_line_kept : (x : List ℕ) (zs : List (List ℕ)) → 0 < length zs → without_empty_end (x ∷ zs) ≡ x ∷ without_empty_end zs
 first_line_kept x [] h = absurd (omega arith)
 first_line_kept x (z ∷ zs) h = refl
+
+-- the words of what is left of a line, where f tells those behind the first
+abbrev pub more_words : (List ℕ → List Word) → List ℕ → List Word
+more_words f rest = elim rest [ [] ↦ [] | c ∷ cs ↦ (let w = first_word c cs in w.0 ∷ f w.1) ]
 
 pub faultless_some : {A : Type 0} (e : ScriptKind) (o : Option A) (x : A) → or_fault e o ≡ Ok x → o ≡ Some x
 faultless_some e None x h = absurd (cc)

@@ -12,7 +12,7 @@ use Rattle.script_spec.specs.ScriptCalls.{Called, calls_of, rank_of_text, with_c
 use Rattle.script_spec.specs.ScriptGrammar.{at_line, call_step, data_part}
 use Rattle.script_text.proofs.Steps.{went, same_ok, whole_value}
 use Rattle.script_text.proofs.Places.{bytes_same}
-use Rattle.script_text.proofs.CallLines.{line_ok}
+use Rattle.script_text.proofs.CallLines.{line_ok, data_by}
 use Rattle.script_spelling.specs.SpelledCalls.{SpellsCallLine}
 use Rattle.script_spelling.specs.Described.{calls_in}
 use Rattle.script_spelling.proofs.CallsRead.{call_spelled}
@@ -149,9 +149,6 @@ step_taken d (Plain first) ws s h = by (bytes_eq first (codes "end")) refl h
     by false e k =
         let a = went (called_after d first ws) (λ more. Ok (false, more)) s k in
         subst (StepTaken d (Plain first ∷ ws)) (same_ok (false, a.value) s a.rest) (call_taken d first ws a.value a.first)
-
-abbrev data_by : ℕ → Line → List Line → Result (Bool × Called) ScriptErr → Result (ℕ × (Called × List Line)) ScriptErr
-data_by past l lines r = elim r [ Err e ↦ Err e | Ok s ↦ elim s.0 [ true ↦ Ok (l.number, (s.1, lines)) | false ↦ data_part past s.1 lines ] ]
 
 pub calls_read : (past : ℕ) (d : Called) (lines : List Line) (r : ℕ × (Called × List Line)) → data_part past d lines ≡ Ok r → CallsRead d lines r
 calls_read past d [] r h = absurd (cc)

@@ -20,6 +20,7 @@ use Rattle.script_spelling.proofs.CallLinesRead.{words_of}
 use Rattle.script_spelling.proofs.TakenLines.{Part, Grown, Fine, Taken, ranks_taken, hint_taken}
 use Rattle.script_spelling.proofs.NewDefinitions.{defined_next, at_first, definition_taken}
 use Rattle.script_spelling.proofs.AddedDefinitions.{added_next, addition_taken}
+use Rattle.script_text.proofs.AddedLines.{defined_by}
 
 -- ---- each line
 
@@ -118,9 +119,6 @@ step_taken opened version k (Plain first) ws s e fine h = by (bytes_eq first (co
     by false f g =
         let a = went (known_after version k first ws) (λ more. Ok (None, more)) s g in
         subst (StepTaken opened version k (Plain first ∷ ws)) (same_ok (None, a.value) s a.rest) (known_taken opened version k a.value first ws e fine a.first)
-
-abbrev defined_by : ℕ → ℕ → List Line → Result (Option ℕ × Known) ScriptErr → Result (ℕ × (Known × List Line)) ScriptErr
-defined_by past version lines r = elim r [ Err e ↦ Err e | Ok s ↦ elim s.0 [ Some ranks ↦ Ok (ranks, (s.1, lines)) | None ↦ definitions past version s.1 lines ] ]
 
 more_said : (opened : Bool) (version : ℕ) (k next : Known) (l : Line) (lines : List Line) (r : ℕ × (Known × List Line)) → Taken opened version k (words_of l) next → DefinitionsRead opened version next lines r → DefinitionsRead opened version k (l ∷ lines) r
 more_said opened version k next l lines r taken more = record {

@@ -1,11 +1,11 @@
-pub mod WordsRead
-pub mod ValuesRead
-pub mod CallsRead
-pub mod CallLinesRead
-pub mod LinesRead
-pub mod GrownVars
-pub mod TakenLines
-pub mod NewDefinitions
-pub mod AddedDefinitions
-pub mod KnownRead
-pub mod Spelled
+mod WordsRead
+mod ValuesRead
+mod CallsRead
+mod CallLinesRead
+mod LinesRead
+mod GrownVars
+mod TakenLines
+mod NewDefinitions
+mod AddedDefinitions
+mod KnownRead
+mod Spelled

@@ -16,11 +16,13 @@ use Rattle.script_spec.specs.ScriptSteps.{◌>>=◌, bare, next, whole}
 use Rattle.script_spec.specs.ScriptCalls.{Called, calls_of, rank_of_text, with_call, call_line, call_of, called_after}
 use Rattle.script_spec.specs.ScriptGrammar.{at_line, call_step, data_part}
 use Rattle.script_text.proofs.Steps.{went, go_on, same_ok, whole_value, by_false}
-use Rattle.script_text.proofs.Lines.{is_line, spelled, numbered, all_joined}
+use Rattle.script_text.proofs.Lines.{is_line, spelled, numbered}
 use Rattle.script_text.proofs.Numerals.{decimal_numeral, decimal_plain, decimal_word}
 use Rattle.script_text.proofs.PrintedValues.{is_read, not_letters}
 use Rattle.script_text.proofs.CallTokens.{call_tokens, call_spelled, call_plain}
 use Rattle.script_text.proofs.PrintedCalls.{CallAgain, call_read}
+use Rattle.std.proofs.lemmas.List.Concat.{flat_map-append}
+use Rattle.list_laws.proofs.Each.{all_joined}
 
 -- ---- calls that were read
 
@@ -120,7 +122,7 @@ pub line_ok : {A : Type 0} (n : ℕ) (r : Result A ScriptKind) (x : A) → at_li
 line_ok n (Ok y) x h = ap (λ z. Ok z) (same_ok y x h)
 line_ok n (Err e) x h = absurd (cc)
 
-abbrev data_by : ℕ → Line → List Line → Result (Bool × Called) ScriptErr → Result (ℕ × (Called × List Line)) ScriptErr
+abbrev pub data_by : ℕ → Line → List Line → Result (Bool × Called) ScriptErr → Result (ℕ × (Called × List Line)) ScriptErr
 data_by past l lines r = elim r [ Err e ↦ Err e | Ok s ↦ elim s.0 [ true ↦ Ok (l.number, (s.1, lines)) | false ↦ data_part past s.1 lines ] ]
 
 step_holds : (ranks v : ℕ) (d : Called) (w : Word) (ws : List Word) (s : Bool × Called) → Holds ranks v d → list_all is_read ws ≡ true → call_step d w ws ≡ Ok s → Holds ranks v s.1
@@ -165,14 +167,10 @@ own_spelled r [] = refl
 own_spelled r (c ∷ cs) =
     ap (λ (ws : List (List ℕ)). line (decimal r ∷ call_word c ∷ ws) ++ flat_map spelled (own_lines r cs)) (call_spelled c) ∙ ap (λ (text : List ℕ). shown_call r c ++ text) (own_spelled r cs)
 
-pub flat_joined : {A : Type 0} (f : A → List ℕ) (xs ys : List A) → flat_map f (xs ++ ys) ≡ flat_map f xs ++ flat_map f ys
-flat_joined f [] ys = refl
-flat_joined f (x ∷ xs) ys = ap (λ (text : List ℕ). f x ++ text) (flat_joined f xs ys) ∙ sym (append_assoc (f x) (flat_map f xs) (flat_map f ys))
-
 pub calls_spelled : (r : ℕ) (calls : List (List Call)) → flat_map spelled (call_lines r calls) ≡ flat_map (λ p. flat_map (shown_call p.0) p.1) (enumerate_from r calls)
 calls_spelled r [] = refl
 calls_spelled r (own ∷ more) =
-    flat_joined spelled (own_lines r own) (call_lines (r + 1) more)
+    flat_map-append spelled (own_lines r own) (call_lines (r + 1) more)
     ∙ (ap (λ (text : List ℕ). text ++ flat_map spelled (call_lines (r + 1) more)) (own_spelled r own) ∙ ap (λ (text : List ℕ). flat_map (shown_call r) own ++ text) (calls_spelled (r + 1) more))
 
 digits_no_comment : (ds : List ℕ) → 0 < length ds → list_all is_digit ds ≡ true → is_comment (Plain ds) ≡ false

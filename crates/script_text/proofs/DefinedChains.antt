@@ -17,12 +17,13 @@ use Rattle.script_spec.specs.ScriptWords.{Word, is_name}
 use Rattle.script_spec.specs.ScriptSteps.{◌>>=◌, refuse_if, or_fault, reads_as, ended}
 use Rattle.script_spec.specs.ScriptDefinitions.{is_among, dim_line, var_head, name_list, dim_ids, is_record_dim, var_names, shape, var_line, owner_of_text, owner_place, Title, same_title, attribute, Defined, with_dim, with_var, with_attr_at, with_title, with_attr_of_owner, att_line, dim_definition, var_definition, fill_line, definition}
 use Rattle.script_text.proofs.Steps.{went, same_ok, not_refused}
-use Rattle.script_text.proofs.Lines.{all_more, all_joined}
+use Rattle.script_text.proofs.Lines.{all_more}
 use Rattle.script_text.proofs.PrintedValues.{is_read}
 use Rattle.script_text.proofs.PrintedRegions.{kept}
 use Rattle.script_text.proofs.PrintedAttributes.{AttrAgain, AttrRead, attr_read}
 use Rattle.script_text.proofs.PrintedDefinitions.{DimAgain, dim_read, HeadAgain, head_read, names_read}
 use Rattle.script_text.proofs.Places.{more_ids, more_records, bytes_same, bytes_own, Later, place_cases}
+use Rattle.list_laws.proofs.Each.{all_joined}
 
 -- ---- dimensions
 

@@ -17,13 +17,14 @@ use Rattle.script_spec.specs.ScriptSteps.{◌>>=◌, refuse_if, or_fault, reads_
 use Rattle.script_spec.specs.ScriptDefinitions.{is_among, dim_line, var_head, name_list, dim_ids, is_record_dim, var_names, shape, var_line, owner_of_text, owner_place, Title, same_title, attribute, Defined, with_dim, with_var, with_attr_at, with_title, with_attr_of_owner, att_line, definition, Known}
 use Rattle.script_text.proofs.Steps.{go_on, passed, faultless, word_read, by_false}
 use Rattle.script_text.proofs.Lexing.{is_plain}
-use Rattle.script_text.proofs.Lines.{is_line, all_joined}
+use Rattle.script_text.proofs.Lines.{is_line}
 use Rattle.script_text.proofs.Numerals.{name_plain}
 use Rattle.script_text.proofs.PrintedAttributes.{type_plain, attr_tokens, AttrAgain}
 use Rattle.script_text.proofs.PrintedDefinitions.{dim_tokens, HeadAgain, head_again, names_plain, names_again}
 use Rattle.script_text.proofs.AddedLines.{Leads, Runs, runs_on, owner_again}
 use Rattle.script_text.proofs.Places.{name_at, names_shown, place_of_new}
 use Rattle.script_text.proofs.DefinedChains.{DimChain, VarOk, VarChain, AttrChain, OwnChains, with_own, push_attr, pushes, count_attrs, count_own}
+use Rattle.list_laws.proofs.Each.{all_joined}
 
 -- ---- lines of the definitions
 

@@ -6,6 +6,7 @@ use Rattle.std.proofs.lemmas.List.{take_at, drop_at}
 use Rattle.std.specs.List.{position_or_len, list_all}
 use Rattle.script_spec.specs.Texts.{text_char, quoted, hex, hex_digit, joined}
 use Rattle.script_spec.specs.ScriptWords.{Word, Plain, Quoted, Broken, is_blank, begins_blank, after_blanks, first_word, quoted_word, text_from, Between, AfterBackslash, FirstHex, SecondHex, words, words_within, hex_value}
+use Rattle.script_spec.proofs.TextLaws.{more_words}
 
 -- ---- words as they are printed
 
@@ -183,9 +184,6 @@ joined_words w (x ∷ ws) = ap (λ (rest : List ℕ). spelling w ++ 32 ∷ rest)
 tail_blank : (ws : List Word) → begins_blank (tail_of ws) ≡ true
 tail_blank [] = refl
 tail_blank (w ∷ ws) = refl
-
-abbrev more_words : (List ℕ → List Word) → List ℕ → List Word
-more_words f rest = elim rest [ [] ↦ [] | c ∷ cs ↦ (let w = first_word c cs in w.0 ∷ f w.1) ]
 
 skip_none : (c : ℕ) (cs : List ℕ) → is_blank c ≡ false → after_blanks (c ∷ cs) ≡ c ∷ cs
 skip_none c cs e = ap (λ (b : Bool). drop (cond (not (not b)) (1 + position_or_len (λ x. not (is_blank x)) cs) 0) (c ∷ cs)) e

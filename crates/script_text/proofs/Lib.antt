@@ -1,24 +1,24 @@
 pub mod Steps
-pub mod Lexing
-pub mod Lines
+mod Lexing
+mod Lines
 pub mod Numerals
-pub mod Sequences
-pub mod PrintedValues
-pub mod PrintedRegions
-pub mod CallTokens
-pub mod PrintedCalls
+mod Sequences
+mod PrintedValues
+mod PrintedRegions
+mod CallTokens
+mod PrintedCalls
 pub mod CallLines
-pub mod PrintedAttributes
-pub mod PrintedDefinitions
+mod PrintedAttributes
+mod PrintedDefinitions
 pub mod AddedLines
 pub mod Places
 pub mod DefinedChains
-pub mod DefinedLines
-pub mod ReadWords
-pub mod KnownLines
-pub mod ScriptLines
+mod DefinedLines
+mod ReadWords
+mod KnownLines
+mod ScriptLines
 pub mod Whole
-pub mod ExpressedDefinitions
-pub mod ExpressedCalls
+mod ExpressedDefinitions
+mod ExpressedCalls
 pub mod Expressed
-pub mod PrintingLaws
+mod PrintingLaws

@@ -14,7 +14,8 @@ use Rattle.script_spec.specs.Texts.{hex, hex_digit, joined}
 use Rattle.script_spec.specs.Shown.{bracketed, size_list}
 use Rattle.script_spec.specs.ScriptWords.{is_digit, digits_value, is_digits, natural_of, below, size_of_text, number_of_text, hex_sum, hex_value, bits_of_text, starts_name, in_name, is_name, between_brackets, is_comma, parts, all_some, list_of_text}
 use Rattle.script_text.proofs.Lexing.{is_graphic, is_plain, hex_again}
-use Rattle.script_text.proofs.Lines.{all_more, all_joined}
+use Rattle.script_text.proofs.Lines.{all_more}
+use Rattle.list_laws.proofs.Each.{all_joined}
 
 -- ---- digits
 

@@ -1,10 +1,10 @@
 -- Places of names in a list.
-use Rattle.std.proofs.Common.{◌≡◌, ◌⊎◌, ◌∙◌, ℕ, zero, suc, ◌+◌, ◌≤◌, ◌<◌, List, [], ◌∷◌, ◌++◌, map, position, length, drop, Bool, true, false, not, cond, nat_lt, ◌||◌, Option, Some, None, option_map, slice_get, refl, sym, ap, subst, ⊎_elim, arith, bytes_eq, inl, inr}
+use Rattle.std.proofs.Common.{◌≡◌, ◌⊎◌, ◌∙◌, ℕ, suc, ◌+◌, ◌≤◌, ◌<◌, List, [], ◌∷◌, ◌++◌, map, position, length, drop, Bool, true, false, not, cond, nat_lt, ◌||◌, Option, Some, None, option_map, slice_get, refl, sym, ap, subst, ⊎_elim, arith, bytes_eq, inl, inr}
 use Rattle.std.specs.List.{list_all, list_any, position_or_len}
 use Rattle.std.proofs.lemmas.Bool.{and_parts, and_from, or_parts, cases_lt, cond-true, cond-false}
 use Rattle.std.proofs.lemmas.Slice.Eq.{bytes_eq-Decides}
 use borrow.Author.Tests.{ltb-true, lt-ltb, le-ltb}
-use Rattle.list_laws.proofs.Places.{position_below}
+use Rattle.list_laws.proofs.Places.{position_below, get_left}
 use Rattle.nc_base.specs.declared.header.Dim.{Dim}
 use Rattle.script_spec.specs.ScriptWords.{all_some}
 use Rattle.script_spec.specs.ScriptDefinitions.{is_among, dim_names, dim_ids, is_record_dim, is_unlimited}
@@ -164,11 +164,6 @@ within_zipped dims (n ∷ ns) (i ∷ ids) h =
     let low = position_below (bytes_eq n) (dim_names dims) i h.0 in
     and_from _ _ (lt-ltb i (length dims) (omega (arith, low, length_names dims))) (within_zipped dims ns ids h.1)
 
-got_within : (dims more : List Dim) (i : ℕ) → i < length dims → slice_get (dims ++ more) i ≡ slice_get dims i
-got_within [] more i h = absurd (omega arith)
-got_within (d ∷ dims) more zero h = refl
-got_within (d ∷ dims) more (suc i) h = got_within dims more i (omega arith)
-
 abbrev record_by : Option Dim → Bool
 record_by o = elim o [ None ↦ false | Some d ↦ is_unlimited d ]
 
@@ -176,7 +171,7 @@ same_records : (dims more : List Dim) (ids : List ℕ) → are_within dims ids �
 same_records dims more [] h = refl
 same_records dims more (i ∷ ids) h =
     let both = and_parts (nat_lt i (length dims)) (are_within dims ids) h in
-    ap (λ (o : Option Dim). record_by o || list_any (is_record_dim (dims ++ more)) ids) (got_within dims more i (ltb-true i (length dims) both.0))
+    ap (λ (o : Option Dim). record_by o || list_any (is_record_dim (dims ++ more)) ids) (get_left dims more i (ltb-true i (length dims) both.0))
     ∙ ap (λ (b : Bool). is_record_dim dims i || b) (same_records dims more ids both.1)
 
 rest_within : (dims : List Dim) (ids : List ℕ) → are_within dims ids ≡ true → are_within dims (drop 1 ids) ≡ true

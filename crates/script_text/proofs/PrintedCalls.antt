@@ -26,11 +26,11 @@ use Rattle.script_spec.proofs.CallTableLaws.{is_sized, IsRow, found_row, made_wo
 use Rattle.script_text.specs.Expressible.{is_expressible_behind}
 use Rattle.script_text.proofs.Steps.{went, go_on, same_ok, not_refused, passed, read_word, word_read, whole_value}
 use Rattle.script_text.proofs.Lexing.{is_good}
-use Rattle.script_text.proofs.Lines.{all_joined}
 use Rattle.script_text.proofs.Numerals.{name_plain, size_plain}
 use Rattle.script_text.proofs.PrintedValues.{value_tokens, is_read, Fitting, values_fit, values_again, values_good}
 use Rattle.script_text.proofs.PrintedRegions.{kept, name_read, name_again, size_read, size_word, region_tokens, RegionAgain, region_again, region_kept, id_bound, id_again, id_plain, ChoiceAgain, choice_told, choice_read}
 use Rattle.script_text.proofs.CallTokens.{tokens_behind, call_tokens, made_tokens, get_word, post_word, put_word}
+use Rattle.list_laws.proofs.Each.{all_joined}
 
 -- ---- a call read again
 

@@ -22,10 +22,11 @@ use Rattle.script_spec.specs.ScriptCalls.{given_of, given_parts, part, part_list
 use Rattle.script_text.specs.Expressible.{is_id, is_expressible_choice}
 use Rattle.script_text.proofs.Steps.{went, go_on, same_ok, not_refused, passed, faultless, read_word, word_read, word_before, whole_value, carried, carry_on, by_false}
 use Rattle.script_text.proofs.Lexing.{spelling, is_plain, is_good}
-use Rattle.script_text.proofs.Lines.{all_joined, empty_list}
+use Rattle.script_text.proofs.Lines.{empty_list}
 use Rattle.script_text.proofs.Numerals.{decimal_word, below_bound, below_again, size_again, size_plain, is_size, list_bound, list_again, list_plain}
 use Rattle.script_text.proofs.PrintedValues.{plain_spelled, not_letters}
 use Rattle.script_spec.proofs.NumeralLaws.{size_read as size_bound}
+use Rattle.list_laws.proofs.Each.{all_joined}
 
 -- what holds of each word holds of each that follows the one that is read
 pub kept : {A : Type 0} (p : Word → Bool) (f : List ℕ → Option A) (e : ScriptKind) (ws : List Word) (r : A × List Word) → reads_as f e ws ≡ Ok r → list_all p ws ≡ true → list_all p r.1 ≡ true

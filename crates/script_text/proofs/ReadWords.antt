@@ -5,10 +5,10 @@ use Rattle.std.proofs.lemmas.Bool.{and_parts, and_from}
 use borrow.Author.Tests.{lt-ltb}
 use Rattle.script_spec.specs.ScriptWords.{Word, Plain, Quoted, Broken, Line, is_blank, is_comment, is_newline, begins_blank, after_blanks, first_word, quoted_word, text_from, TextState, Between, AfterBackslash, FirstHex, SecondHex, words, words_within, hex_value, escape, without_empty_end, text_lines, line_of, significant, significant_of}
 use Rattle.script_text.proofs.Lexing.{is_byte}
-use Rattle.script_text.proofs.Lines.{all_joined}
 use Rattle.script_text.proofs.Numerals.{hex_value_bound}
 use Rattle.script_text.proofs.PrintedValues.{is_read}
 use Rattle.script_text.proofs.CallLines.{are_read}
+use Rattle.list_laws.proofs.Each.{all_joined}
 
 abbrev are_bytes : List ℕ → Bool
 are_bytes cs = list_all is_byte cs

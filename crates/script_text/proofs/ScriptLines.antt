@@ -13,10 +13,11 @@ use Rattle.script_spec.specs.ScriptWords.{Word, Plain}
 use Rattle.script_spec.specs.ScriptDefinitions.{Defined}
 use Rattle.script_spec.specs.ScriptGrammar.{header_of}
 use Rattle.script_text.proofs.Lines.{spelled}
-use Rattle.script_text.proofs.CallLines.{call_lines, flat_joined, calls_spelled}
+use Rattle.script_text.proofs.CallLines.{call_lines, calls_spelled}
 use Rattle.script_text.proofs.AddedLines.{extra_line, extras_spelled, att_spelled}
 use Rattle.script_text.proofs.DefinedLines.{line_of_dim, line_of_var, line_of_att, lines_of_own, definition_lines}
 use Rattle.script_text.proofs.KnownLines.{hint_tokens, mapped_spelled, hints_spelled}
+use Rattle.std.proofs.lemmas.List.Concat.{flat_map-append}
 
 -- ---- a script, as its lines
 
@@ -48,7 +49,7 @@ script_with version n h d es calls = record { fresh = not (version == 0); header
 -- ---- they spell what is shown
 
 flat_then : (xs ys : List (List Word)) (text rest : List ℕ) → flat_map spelled xs ≡ text → flat_map spelled ys ≡ rest → flat_map spelled (xs ++ ys) ≡ text ++ rest
-flat_then xs ys text rest a b = flat_joined spelled xs ys ∙ (ap (λ (t : List ℕ). t ++ flat_map spelled ys) a ∙ ap (λ (t : List ℕ). text ++ t) b)
+flat_then xs ys text rest a b = flat_map-append spelled xs ys ∙ (ap (λ (t : List ℕ). t ++ flat_map spelled ys) a ∙ ap (λ (t : List ℕ). text ++ t) b)
 
 own_spelled : (vs : List Var) → flat_map spelled (lines_of_own vs) ≡ flat_map (λ v. flat_map (shown_attr v.name) v.attrs) vs
 own_spelled [] = refl

@@ -25,7 +25,7 @@ use Rattle.script_spec.specs.ScriptCalls.{Called, mismatch}
 use Rattle.script_spec.specs.ScriptGrammar.{at_line, version_of_text, version_line, head, definitions, data_part, finish, script_of, no_calls, script_of_lines, most_bytes, most_lines, newlines, too_many_lines, within_lines, script_of_utf8, Reads, is_mismatch}
 use Rattle.std.proofs.lemmas.List.{length-map}
 use Rattle.script_text.proofs.Steps.{went, go_on, same_ok, read_word, word_read, whole_value}
-use Rattle.script_text.proofs.Lines.{is_line, spelled, body, numbered, all_joined, lines_again, significant_lines, valid_lines, valid_bytes}
+use Rattle.script_text.proofs.Lines.{is_line, spelled, body, numbered, lines_again, significant_lines, valid_lines, valid_bytes}
 use Rattle.script_text.proofs.Numerals.{size_again, size_plain}
 use Rattle.script_text.proofs.PrintedDefinitions.{is_value_of, ranks_again, within_plain}
 use Rattle.script_text.proofs.CallLines.{Chains, count_all, Holds, DataEnd, are_read, data_holds, call_lines, calls_are_lines, data_again, line_ok}
@@ -35,6 +35,7 @@ use Rattle.script_text.proofs.DefinedLines.{at_state, leads_by, definition_lines
 use Rattle.script_text.proofs.ReadWords.{significant_read}
 use Rattle.script_text.proofs.KnownLines.{hint_tokens, all_given, hints_again, HintsFit, hints_fit, with_hints, hints_run, hints_are_lines, What, nothing_ok, definitions_read}
 use Rattle.script_text.proofs.ScriptLines.{ranks_words, fill_lines, before_data, from_data, head_words, all_lines, script_with, all_spelled}
+use Rattle.list_laws.proofs.Each.{all_joined}
 
 -- ---- what is known at `data` is known again
 

@@ -1,4 +1,4 @@
 pub mod FoundLaws
-pub mod FitLaws
-pub mod RangeLaws
-pub mod PartLaws
+mod FitLaws
+mod RangeLaws
+mod PartLaws

@@ -1,5 +1,5 @@
-pub mod WordLaws
-pub mod NumberLaws
+mod WordLaws
+mod NumberLaws
 pub mod NameLaws
-pub mod TextLaws
+mod TextLaws
 pub mod LineLaws

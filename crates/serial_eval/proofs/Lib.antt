@@ -1,1 +1,1 @@
-pub mod MarkLaws
+mod MarkLaws

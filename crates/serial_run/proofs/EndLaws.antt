@@ -2,11 +2,11 @@
 use Rattle.std.proofs.Common.{◌≡◌, ℕ, suc, ◌+◌, ◌<◌, ◌≤◌, refl, sym, ◌∙◌, ap, subst, inl, inr, ◌⊎◌, List, [], ◌∷◌, ◌++◌, length, map, max, drop, take, fold, get_or, Bool, true, false, cond, Some, arith}
 use Rattle.std.proofs.lemmas.Bool.{cases_eq}
 use Rattle.std.proofs.lemmas.Bool.Decides.{nat_tests}
-use Rattle.std.proofs.lemmas.List.{drop_all, drop_more, take_all, take-append-drop, take_more}
+use Rattle.std.proofs.lemmas.List.{drop_all, drop_more, take_all, take-append-drop}
 use Rattle.std.proofs.lemmas.Option.{get_or_from_slice_get, slice_get_within}
 use Rattle.std.specs.Prelude.{slice_get, nat_lt}
 use Rattle.list_laws.proofs.Maps.{map_map}
-use Rattle.list_laws.proofs.Places.{entry_below}
+use Rattle.list_laws.proofs.Places.{entry_below, take_next}
 use Rattle.nc_base.specs.declared.answer.Answer.{Answer}
 use Rattle.nc_base.specs.declared.header.Header.{Header}
 use Rattle.nc_base.specs.declared.script.Script.{Script}
@@ -40,9 +40,6 @@ order_split order n m e =
     ap (λ (x : Mark). take n order ++ x ∷ drop (n + 1) order) (sym (get_or_from_slice_get order n m m e))
     ∙ ap (λ (ms : List Mark). take n order ++ ms) (sym (drop_more order n m (slice_get_within order n m e))) ∙ take-append-drop n order
 
-order_more : (order : List Mark) (n : ℕ) (m : Mark) → slice_get order n ≡ Some m → take (n + 1) order ≡ take n order ++ m ∷ []
-order_more order n m e = take_more order n m (slice_get_within order n m e) ∙ ap (λ (x : Mark). take n order ++ x ∷ []) (get_or_from_slice_get order n m m e)
-
 legal_split : (script : Script) (order : List Mark) (n : ℕ) (m : Mark) → slice_get order n ≡ Some m → IsLegal script order → IsLegal script (take n order ++ m ∷ drop (n + 1) order)
 legal_split script order n m e legal = subst (λ (o : List Mark). IsLegal script o) (sym (order_split order n m e)) legal
 
@@ -62,7 +59,7 @@ pub meeting_stands : (script : Script) (header : Header) (order : List Mark) (n 
     → IsStanding script header (take n order) before → HaveHeard header before.runners.items after.runners.items → after.records < record_limit header.version
     → IsStanding script header (take (n + 1) order) after
 meeting_stands script header order n k before after legal e h heard low =
-    subst (λ (o : List Mark). IsStanding script header o after) (sym (order_more order n (mark.Meet k) e)) (record {
+    subst (λ (o : List Mark). IsStanding script header o after) (sym (take_next order n (mark.Meet k) e)) (record {
       all = heard.long ∙ h.all;
       records = low;
       each = λ r b f.
@@ -85,7 +82,7 @@ pub own_stands : (script : Script) (header : Header) (order : List Mark) (n q k 
     → IsStanding script header (take n order) before → HasHeard header q before.runners.items after.runners.items → after.records ≡ before.records
     → IsStanding script header (take (n + 1) order) after
 own_stands script header order n q k before after legal e h heard same =
-    subst (λ (o : List Mark). IsStanding script header o after) (sym (order_more order n (mark.Solo q k) e)) (record {
+    subst (λ (o : List Mark). IsStanding script header o after) (sym (take_next order n (mark.Solo q k) e)) (record {
       all = heard.long ∙ h.all;
       records = subst (λ (m : ℕ). m < record_limit header.version) (sym same) h.records;
       each = λ r b f. by_place r b f (cases_eq r q);

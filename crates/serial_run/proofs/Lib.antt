@@ -1,5 +1,5 @@
-pub mod RunnerLaws
-pub mod FirstLaws
-pub mod NextLaws
-pub mod StepLaws
-pub mod EndLaws
+mod RunnerLaws
+mod FirstLaws
+mod NextLaws
+mod StepLaws
+mod EndLaws

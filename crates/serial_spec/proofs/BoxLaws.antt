@@ -1,9 +1,9 @@
 -- The boxes of a range of row-major numbers have just the indices with these numbers, in order.
 use Rattle.std.proofs.Common.{◌≡◌, ℕ, zero, suc, ◌+◌, ◌-◌, ◌*◌, ◌/◌, ◌%◌, ◌<◌, ◌≤◌, refl, sym, ◌∙◌, ap, subst, List, [], ◌∷◌, ◌++◌, length, map, take, drop, replicate, Bool, true, false, append_assoc, arith}
 use Rattle.std.proofs.Math.Nat.{add-mul, le_of_mul-le-mul_right, mul-le-mul_right}
-use Rattle.std.proofs.Math.Seq.{take-add, drop-append-add, take-append-add}
+use Rattle.std.proofs.Math.Seq.{drop-append-add, take-append-add}
 use Rattle.std.proofs.lemmas.Nat.{div-add-mod', mod_below, le-div}
-use Rattle.std.proofs.lemmas.List.{drop-drop, drop-append-le, take-append-le, length-drop, drop-map, take-map, map-append, append-nil, length-map}
+use Rattle.std.proofs.lemmas.List.{drop-drop, drop-append-le, take-append-le, length-drop, map-append, append-nil, length-map}
 use Rattle.std.proofs.lemmas.Grind.{flat_map-append}
 use Rattle.std.specs.Prelude.{flat_map, nat_lt, ◌==◌}
 use Rattle.std.specs.List.{range_with_len}
@@ -16,26 +16,7 @@ use Rattle.serial_spec.specs.Layout.{product}
 use Rattle.serial_spec.specs.Request.{coordinates}
 use Rattle.serial_spec.specs.Fill.{boxes, in_row, whole_rows, shifted, box_indices, AreBoxes}
 use Rattle.serial_spec.proofs.ElementLaws.{length-coordinates}
-
--- ---- parts of a list
-
--- the entries from `from` to below `to`
-abbrev part : {A : Type 0} → ℕ → ℕ → List A → List A
-part from to xs = take (to - from) (drop from xs)
-
-part_joined : {A : Type 0} (xs : List A) (from mid to : ℕ) → from ≤ mid → mid ≤ to → part from to xs ≡ part from mid xs ++ part mid to xs
-part_joined xs from mid to h k =
-    let whole : to - from ≡ (mid - from) + (to - mid) = omega arith in
-    let middle : from + (mid - from) ≡ mid = omega arith in
-    ap (λ (n : ℕ). take n (drop from xs)) whole
-    ∙ take-add (mid - from) (to - mid) (drop from xs)
-    ∙ ap (λ ys. take (mid - from) (drop from xs) ++ take (to - mid) ys) (drop-drop (mid - from) from xs ∙ ap (λ (n : ℕ). drop n xs) middle)
-
-part_none : {A : Type 0} (xs : List A) (from to : ℕ) → to ≤ from → part from to xs ≡ []
-part_none xs from to h = let none : to - from ≡ 0 = omega arith in ap (λ (n : ℕ). take n (drop from xs)) none
-
-part_map : {A B : Type 0} (f : A → B) (xs : List A) (from to : ℕ) → part from to (map f xs) ≡ map f (part from to xs)
-part_map f xs from to = ap (λ ys. take (to - from) ys) (drop-map f from xs) ∙ take-map f (to - from) (drop from xs)
+use Rattle.list_laws.proofs.Parts.{part, part_joined, part_none, part_map}
 
 -- ---- rows of one length
 

@@ -1,3 +1,3 @@
-pub mod ManyEntries
-pub mod TwoEntries
-pub mod TwoPosts
+mod ManyEntries
+mod TwoEntries
+mod TwoPosts

@@ -14,7 +14,7 @@ alike_by a b c d e f w = subst (λ (x : List OwnerItem). AreAlike x d) (sym e) (
 
 -- ---- lines
 
-abbrev Lines : Type 0
+abbrev pub Lines : Type 0
 Lines = List (End OwnerItem)
 
 pub lines_twice : (old mid now : Lines) (more last : ℕ → List OwnerItem) → Grows old more mid → Grows mid last now → Grows old (λ q. more q ++ last q) now

@@ -33,11 +33,11 @@ use Rattle.thread_run.specs.Owned.{calls_at, calls_at_offer, calls_if, owner_at,
 use Rattle.thread_run.specs.Stops.{held_stops, put_one, stop_each, stops_for}
 use Rattle.thread_run.proofs.AlikeLaws.{lines_as, lines_none, lines_twice}
 use Rattle.turn_run.proofs.CountLaws.{count_less, count_longer}
-use Rattle.thread_run.proofs.OwnerRuns.{client_ended, client_held}
 use Rattle.thread_run.proofs.PutLaws.{put_here, put_other, stop_for_offer}
 use Rattle.thread_run.proofs.StrangeLaws.{fits, kind_is, passes}
 use Rattle.list_laws.proofs.Places.{entry_below, entry_set, entry_set_other}
 use Rattle.nc_outside.proofs.ToldLaws.{with_end-nil}
+use Rattle.join_laws.proofs.ClientTurns.{client_ended, client_held}
 
 abbrev pub with_clients : Standing → List Client → Standing
 with_clients b clients =

@@ -30,8 +30,8 @@ use Rattle.join_laws.proofs.EventLaws.{to_one_here, to_one_other, own_here, own_
 use Rattle.join_laws.proofs.ReplyLaws.{fit_passes, meeting_fits, solo_fits}
 use Rattle.join_laws.proofs.StepLaws.{going_after, goings_after, goings_long, meeting_is, meeting_within, offer_at, offers_long, replied, same_offers, solo_of_is, solo_within, Replied}
 use Rattle.join_laws.proofs.StrangeLaws.{event_is, strange_alone}
-use Rattle.thread_run.proofs.OwnerRuns.{client_ended, client_held}
 use Rattle.thread_run.proofs.CutRank.{begin_ended, IsPaired, Waits, offered_now, held_now, hold_it, heard_now, sits_as}
+use Rattle.join_laws.proofs.ClientTurns.{client_ended, client_held}
 
 -- ---- all ranks
 

@@ -44,9 +44,10 @@ use Rattle.thread_run.specs.Owned.{AreSingle, IsSingleOffer}
 use Rattle.thread_run.proofs.CutSteps.{Stands, fits_now, held_keeps, own_offer}
 use Rattle.join_laws.proofs.StrangeLaws.{event_is, strange_alone}
 use Rattle.join_laws.proofs.EventLaws.{own_here, own_other}
-use Rattle.thread_run.proofs.OwnerRuns.{client_held}
 use Rattle.thread_run.proofs.ThreadCalls.{single_go}
 use Rattle.serial_spec.proofs.GrowLaws.{raised_grows, mark_grows}
+use Rattle.overlay_laws.proofs.HullLaws.{in_left}
+use Rattle.join_laws.proofs.ClientTurns.{client_held}
 
 -- ---- the step that an arrival brings
 
@@ -242,11 +243,6 @@ single_offered header (Stop ∷ back) g c o i = next_single header (Stop ∷ bac
 single_offered header (Reply y ∷ back) g c o i =
     next_single header (Reply y ∷ back) g c o (λ t p j. waiting_single header t p y back c o (λ u k. single_offered header back u c o k) j) (advance header g) refl i
 
-in_front : (xs ys : List RankItem) (i : RankItem) → In xs i → In (xs ++ ys) i
-in_front [] ys i k = absurd k
-in_front (x ∷ xs) ys i (inl e) = inl e
-in_front (x ∷ xs) ys i (inr k) = inr (in_front xs ys i k)
-
 in_either_part : (xs : List RankItem) (c : ℕ) (o : Offer) → In (xs ++ item.Ended true ∷ []) (item.Offer c o) → In xs (item.Offer c o)
 in_either_part [] c o (inl e) = absurd (apart e)
   where
@@ -284,7 +280,7 @@ single_begun script header arrivals taken long h (r, item.Offer c o) i =
     by_begin : (own : List Call) → IsBeginning (own_items r arrivals) (offered header (first_going header own) (taken r)) → In (own_items r arrivals) (item.Offer c o) → IsSingleOffer o
     by_begin own (front, (more, b), inl e) k =
         single_offered header (taken r) (first_going header own) c o
-        (subst (λ (is : List RankItem). In is (item.Offer c o)) b (in_front front more (item.Offer c o) (subst (λ (is : List RankItem). In is (item.Offer c o)) e k)))
+        (subst (λ (is : List RankItem). In is (item.Offer c o)) b (in_left front more (item.Offer c o) (subst (λ (is : List RankItem). In is (item.Offer c o)) e k)))
     by_begin own (front, (more, b), inr e) k =
         single_offered header (taken r) (first_going header own) c o
-        (subst (λ (is : List RankItem). In is (item.Offer c o)) b (in_front front more (item.Offer c o) (in_either_part front c o (subst (λ (is : List RankItem). In is (item.Offer c o)) e k))))
+        (subst (λ (is : List RankItem). In is (item.Offer c o)) b (in_left front more (item.Offer c o) (in_either_part front c o (subst (λ (is : List RankItem). In is (item.Offer c o)) e k))))

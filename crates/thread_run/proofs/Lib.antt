@@ -1,26 +1,26 @@
-pub mod GainedLaws
-pub mod EndLaws
-pub mod HaltedLaws
-pub mod HaltLaws
-pub mod StopLaws
-pub mod ArriveSteps
-pub mod RefusedSteps
-pub mod PutLaws
-pub mod AloneSteps
-pub mod HeldLaws
-pub mod LentLaws
-pub mod TogetherSteps
-pub mod StrangeLaws
-pub mod AlikeLaws
-pub mod OwnerRuns
-pub mod RunLaws
-pub mod TellLaws
-pub mod CutRank
-pub mod CutSteps
-pub mod CutJoin
-pub mod CutStood
-pub mod AttendLaws
-pub mod AttendWay
+mod GainedLaws
+mod EndLaws
+mod HaltedLaws
+mod HaltLaws
+mod StopLaws
+mod ArriveSteps
+mod RefusedSteps
+mod PutLaws
+mod AloneSteps
+mod HeldLaws
+mod LentLaws
+mod TogetherSteps
+mod StrangeLaws
+mod AlikeLaws
+mod OwnerRuns
+mod RunLaws
+mod TellLaws
+mod CutRank
+mod CutSteps
+mod CutJoin
+mod CutStood
+mod AttendLaws
+mod AttendWay
 mod ThreadCalls
 mod ThreadKnown
 mod ThreadWhole

@@ -5,22 +5,15 @@ use Rattle.std.proofs.lemmas.Bool.Decides.{eqb_tells}
 use Rattle.nc_base.specs.declared.script.Hints.{Hints}
 use Rattle.nc_base.specs.declared.step.DiskCall.{DiskCall}
 use Rattle.nc_base.specs.declared.step.Mark.{Mark}
-use Rattle.nc_base.specs.declared.step.Offer.{Offer}
 use Rattle.nc_base.specs.declared.step.OwnerItem.{OwnerItem}
 use Rattle.serial_spec.specs.FileStep.{Setting}
 use Rattle.serial_spec.specs.History.{Arrival}
-use Rattle.serial_spec.specs.Owner.{Client, Owner, event, given_along, is_strange, owed, served}
+use Rattle.serial_spec.specs.Owner.{Owner, event, given_along, is_strange, owed, served}
 use Rattle.join_laws.proofs.JoinLaws.{owed_on, served_on, stranger_on, ServedOn}
 use Rattle.join_laws.proofs.GoingOnLaws.{given_on}
 use Rattle.thread_run.specs.Owned.{owner_calls, owner_told, each_told, event_calls}
 
 -- ---- one arrival
-
-abbrev pub client_ended : Client → Bool → Client
-client_ended x m = record { held = x.held; ended = Some m }
-
-abbrev pub client_held : Client → Offer → Client
-client_held x o = record { held = Some o; ended = x.ended }
 
 -- ---- by numbers
 

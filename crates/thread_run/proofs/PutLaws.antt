@@ -15,11 +15,8 @@ use Rattle.join_laws.proofs.EventLaws.{own_here, own_other}
 use Rattle.list_laws.proofs.Truth.{equal_itself}
 use Rattle.thread_run.specs.Owned.{Grows}
 use Rattle.thread_run.specs.Stops.{put_one, stops_for}
-use Rattle.thread_run.proofs.AlikeLaws.{lines_as, lines_twice}
+use Rattle.thread_run.proofs.AlikeLaws.{lines_as, lines_twice, Lines}
 use Rattle.thread_run.proofs.OwnerRuns.{other_number}
-
-abbrev Lines : Type 0
-Lines = List (End OwnerItem)
 
 -- ---- one item
 

@@ -1,5 +1,5 @@
 -- What a refused step leaves, as the owner's event has it.
-use Rattle.std.proofs.Common.{◌≡◌, ℕ, zero, suc, ◌<◌, length, refl, sym, ◌∙◌, ap, subst, inl, inr, ◌⊎◌, List, [], ◌∷◌, ◌++◌, max, set, Bool, true, false, Option, Some, None, arith}
+use Rattle.std.proofs.Common.{◌≡◌, ℕ, ◌<◌, length, refl, sym, ◌∙◌, ap, subst, inl, inr, ◌⊎◌, List, [], ◌∷◌, ◌++◌, max, set, Bool, true, false, Option, Some, None, arith}
 use Rattle.std.proofs.lemmas.List.{append-nil}
 use Rattle.std.proofs.lemmas.Option.{same_Some}
 use Rattle.std.specs.Prelude.{slice_get, flat_map, IfSome}
@@ -30,7 +30,8 @@ use Rattle.turn_run.proofs.MeetStep.{met_is, puts_same}
 use Rattle.thread_run.specs.Owned.{owner_at, HoldSingle, IsSingle, IsSingleOffer, Standing}
 use Rattle.thread_run.specs.Refused.{IsFaultAt, IsRefusedAlone, IsRefusedArrival, IsRefusedTogether}
 use Rattle.thread_run.proofs.ArriveSteps.{offer_event, single_set, with_clients}
-use Rattle.thread_run.proofs.OwnerRuns.{client_held}
+use Rattle.list_laws.proofs.Places.{entry_below}
+use Rattle.join_laws.proofs.ClientTurns.{client_held}
 
 -- ---- a number's own step
 
@@ -118,11 +119,6 @@ done_once s b batches known n left e f bytes count single = refused_together s b
 -- ---- an arrival
 
 -- that brings an end, at which nothing is done
-client_there : (clients : List Client) (r : ℕ) → r < length clients → (x : Client) × (slice_get clients r ≡ Some x)
-client_there [] r h = absurd (omega arith)
-client_there (x ∷ clients) zero h = (x, refl)
-client_there (x ∷ clients) (suc r) h = client_there clients r (omega arith)
-
 pub arrival_ended : (s : Setting) (b : Standing) (r n : ℕ) (i : RankItem) (memory : Bool) (left : Option (List ℕ)) → i ≡ item.Ended memory → r < length b.clients → left ≡ b.told → n ≡ b.records
     → IsRefusedArrival s (r, i) b left n
 arrival_ended s b r n i memory left is low same count = subst (λ (j : RankItem). IsRefusedArrival s (r, j) b left n) (sym is) (by_told b.told same)
@@ -140,7 +136,7 @@ arrival_ended s b r n i memory left is low same count = subst (λ (j : RankItem)
         → IfSome m (λ file. (now : List ℕ) × (left ≡ Some now) × IsLeft s.header (held file) (counted file b.records) (event s (owner_at b file) (r, item.Ended memory)).owner.state now n)
     by_told None f = tt
     by_told (Some file) f =
-        let there = client_there b.clients r low in (
+        let there = entry_below b.clients r low in (
           file,
           f,
           subst (λ (v : Event). IsLeft s.header (held file) (counted file b.records) v.owner.state file n) (sym (event_is s (owner_at b file) r (item.Ended memory) there.0 there.1)) (kept file),

@@ -37,8 +37,9 @@ use Rattle.list_laws.proofs.Each.{fails_at}
 use Rattle.list_laws.proofs.Places.{entry_set}
 use Rattle.serial_spec.proofs.MemberLaws.{at_in}
 use Rattle.thread_run.specs.Strange.{fails_as_offer, fails_test, leaves_behind, leaves_with}
-use Rattle.thread_run.proofs.OwnerRuns.{client_ended, client_held}
 use Rattle.std.proofs.lemmas.Map.Keys.{any_passes_from_place}
+use Rattle.join_laws.proofs.ClientTurns.{client_ended, client_held}
+use Rattle.list_laws.proofs.Optional.{not_some}
 
 -- ---- one element of a list is changed
 
@@ -167,12 +168,8 @@ strange_is s d r i x e =
     ∙ ap (λ (m : Option Client). has_ended m || (left_behind (event s d (r, i)).owner.clients || ((is_offer i && has_held m) || (list_any (λ y. differs (kind_held y) (meeting_kind i)) d.clients || strange_offer s.header d.reached (offer_of i))))) e
     ∙ ended_or (is_some x.ended) _ _ (λ f. (λ j. behind f j || offer_tests s.header d.clients d.reached x i j))
   where
-    none : (m : Option Bool) → is_some m ≡ false → m ≡ None
-    none None f = refl
-    none (Some t) f = absurd cc
-
     behind : is_some x.ended ≡ false → left_behind (event s d (r, i)).owner.clients ≡ leaves_behind d.clients x i
-    behind f = ap (λ (ev : Event). left_behind ev.owner.clients) (event_is s d r i x e) ∙ leaves s d r i x e (none x.ended f)
+    behind f = ap (λ (ev : Event). left_behind ev.owner.clients) (event_is s d r i x e) ∙ leaves s d r i x e (not_some x.ended f)
 
 -- ---- an arrival that is not strange
 
@@ -189,12 +186,8 @@ passes s d r c o x e f =
     let a = or_parts (holds x) _ tests.1 in
     let b = or_parts (list_any (λ y. differs (kind_held y) (kind_of_meeting o.kind)) d.clients) _ a.1 in
     let g = or_parts (nat_lt d.reached o.known) (bad_batch s.header o) b.1 in
-    record { free = none x.held a.0; kinds = b.0; known = below d.reached o.known g.0; good = g.1 }
+    record { free = not_some x.held a.0; kinds = b.0; known = below d.reached o.known g.0; good = g.1 }
   where
-    none : (m : Option Offer) → is_some m ≡ false → m ≡ None
-    none None f = refl
-    none (Some p) f = absurd cc
-
     below : (n m : ℕ) → nat_lt n m ≡ false → m ≤ n
     below n m h = grind (arith, nat_tests)
 

@@ -1,5 +1,5 @@
 -- A run on threads, from what the owner tells and what the close tells.
-use Rattle.std.proofs.Common.{◌≡◌, ℕ, ◌≤◌, refl, sym, ◌∙◌, ap, subst, inl, inr, ◌⊎◌, List, [], ◌∷◌, ◌++◌, map, max, replicate, true, Option, Some, None, arith}
+use Rattle.std.proofs.Common.{◌≡◌, ℕ, ◌≤◌, refl, sym, ◌∙◌, ap, subst, inl, inr, ◌⊎◌, List, [], ◌∷◌, ◌++◌, max, replicate, true, Option, Some, None}
 use Rattle.std.specs.Prelude.{nat_lt, IfSome}
 use Rattle.nc_base.specs.declared.header.Header.{Header}
 use Rattle.nc_base.specs.declared.run.RankEnd.{RankEnd}
@@ -32,6 +32,8 @@ use Rattle.turn_run.proofs.TurnCauses.{rose_later}
 use Rattle.thread_run.proofs.ThreadRuns.{Finished, FinishedSo, finished, finished_so}
 use Rattle.thread_run.proofs.ThreadTies.{Told, begun}
 use Rattle.nc_outside.proofs.ToldLaws.{with_end-with_end, rose_before}
+use Rattle.list_laws.proofs.Optional.{some_or_none}
+use Rattle.list_laws.proofs.Numbers.{le_two}
 
 -- what the owner tells
 pub record OwnerSide (script : Script) (header : Header) (arrivals : List Arrival) (given : ℕ → List OwnerItem) (held : Option (List ℕ)) (calls : Option (List DiskCall)) (faults : ℕ)
@@ -42,10 +44,6 @@ pub record OwnerSide (script : Script) (header : Header) (arrivals : List Arriva
   pub cut_off : (e : StepErr) → end.fault ≡ Some e → HasFailed (setting_of script header) (opening script.ranks) header.records arrivals script.ranks given end.order end.stranger
   pub cause : end.fault ≡ Some fault.Disk → Rose faults failed
   pub later : faults ≤ failed
-
-some_fault : (m : Option StepErr) → (m ≡ None) ⊎ ((e : StepErr) × (m ≡ Some e))
-some_fault None = inl refl
-some_fault (Some e) = inr (e, refl)
 
 if_both : {X : Type 0} {P Q R : X → Type 0} (m : Option X) → IfSome m P → IfSome m Q → ((x : X) → P x → Q x → R x) → IfSome m R
 if_both None p q f = tt
@@ -59,7 +57,7 @@ module _ (script : Script) (header : Header) (arrivals : List Arrival) (given : 
   -- the owner's order begins one of the script's
   pub order_begun : (held : Option (List ℕ)) (calls : Option (List DiskCall)) (faults : ℕ) (left : Option (List ℕ)) (made : Option (List DiskCall)) (failed records : ℕ) (end : ServeEnd)
       → OwnerSide script header arrivals given held calls faults left made failed records end → HasBegun script end.order
-  order_begun held calls faults left made failed records end o = by (some_fault end.fault)
+  order_begun held calls faults left made failed records end o = by (some_or_none end.fault)
     where
       append_none : (xs : List Arrival) → xs ≡ xs ++ []
       append_none [] = refl
@@ -102,14 +100,11 @@ module _ (script : Script) (header : Header) (arrivals : List Arrival) (given : 
         ∙ ap (λ (cs : List DiskCall). with_end calls cs) (sym (fin_so none file so).calls) ∙ ap (λ (ms : List Mark). with_end calls (run_calls script header file ms)) (sym c.order));
     sound = c.sound;
     begun = subst (λ (ms : List Mark). HasBegun script ms) (sym c.order) (order_begun held calls faults held' calls' faults' count before o);
-    fault = λ disk. cause disk (some_fault before.fault);
-    later = le_both faults faults' failed o.later c.later;
+    fault = λ disk. cause disk (some_or_none before.fault);
+    later = le_two faults faults' failed o.later c.later;
     cut = cut_off;
   }
     where
-      le_both : (a b d : ℕ) → a ≤ b → b ≤ d → a ≤ d
-      le_both a b d h k = omega arith
-
       state : List ℕ → Ending
       state file = served (setting_of script header) (opening script.ranks (counted file header.records)) arrivals
 

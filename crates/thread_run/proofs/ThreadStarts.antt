@@ -13,6 +13,7 @@ use Rattle.thread_run.specs.RankHandle.{AreOf, AreRankHandles, IsOf, IsRankHandl
 use Rattle.thread_run.specs.declared.rank_handle.RankHandle.{RankHandle}
 use Rattle.thread_run.specs.declared.rank_handle.Word.{Word}
 use Rattle.std.proofs.lemmas.Option.{slice_get_within}
+use Rattle.list_laws.proofs.Appends.{long_push}
 
 -- ---- the middle of a list
 
@@ -52,10 +53,6 @@ number_middle f ys z zs xs n e h = let a = at ys 0 n (ap (map f) e ∙ h) in let
 pub snoc_append : {X : Type 0} (xs : List X) (x : X) (ys : List X) → (xs ++ x ∷ []) ++ ys ≡ xs ++ x ∷ ys
 snoc_append [] x ys = refl
 snoc_append (z ∷ xs) x ys = ap (λ (v : List _). z ∷ v) (snoc_append xs x ys)
-
-pub long_push : {X : Type 0} (xs : List X) (x : X) → length (xs ++ x ∷ []) ≡ suc (length xs)
-long_push [] x = refl
-long_push (z ∷ xs) x = let a = long_push xs x in omega arith
 
 pub both_long : {X Y : Type 0} (xs now : List X) (x : X) (ys : List Y) (y : Y) → now ≡ xs ++ x ∷ [] → length xs ≡ length ys → length now ≡ length (ys ++ y ∷ [])
 both_long xs now x ys y e l = ap (λ (v : List _). length v) e ∙ long_push xs x ∙ ap (λ (n : ℕ). suc n) l ∙ sym (long_push ys y)

@@ -34,7 +34,9 @@ use Rattle.turn_run.proofs.RunnerLaws.{advance_ended}
 use Rattle.turn_run.proofs.StageLaws.{led_none, led_then}
 use Rattle.list_laws.proofs.Places.{entry_set, set_own}
 use Rattle.run_laws.proofs.WayLaws.{one_of}
-use Rattle.join_laws.proofs.Completing.{all_joined}
+use Rattle.list_laws.proofs.Each.{all_joined}
+use Rattle.run_laws.proofs.ArrivalLaws.{offer_of}
+use Rattle.run_laws.proofs.StandingLaws.{calls_at}
 
 -- ---- a runner, by the offer that it holds
 
@@ -63,18 +65,10 @@ arrived_gone header own old new free gone ended = arrived_free header own old fr
 
 -- ---- one solo step
 
-abbrev offer_some : Option Arrived → Option Offer
-offer_some None = None
-offer_some (Some a) = a.1
-
-abbrev calls_some : Hints → Setting → ℕ → Counted → Option Offer → List DiskCall
-calls_some hints s r c None = []
-calls_some hints s r c (Some o) = solo_calls hints s r o c
-
-calls_at : (hints : Hints) (s : Setting) (r n : ℕ) (c : Counted) (ranks : List Arrived) (t : Going) (o : Offer) → slice_get ranks r ≡ Some (t, Some o)
+call_alone : (hints : Hints) (s : Setting) (r n : ℕ) (c : Counted) (ranks : List Arrived) (t : Going) (o : Offer) → slice_get ranks r ≡ Some (t, Some o)
     → step_calls hints s (c, ranks) (Solo r n) ≡ solo_calls hints s r o c
-calls_at hints s r n c ranks t o e =
-    ap (λ (m : Option Arrived). calls_some hints s r c (offer_some m)) e
+call_alone hints s r n c ranks t o e =
+    ap (λ (m : Option Arrived). calls_at hints s r c (offer_of m)) e
 
 pub step_at : (s : Setting) (r n : ℕ) (c : Counted) (ranks : List Arrived) (t : Going) (o : Offer) → slice_get ranks r ≡ Some (t, Some o)
     → step_to s (c, ranks) (Solo r n) ≡ ((solo s r o c).0, set ranks r (advance s.header (hears s.header t (solo s r o c).1)))
@@ -93,7 +87,7 @@ alone_led hints s r n (Some file) left calls made t o reply to heard bytes over 
       left = (solo s r o c).0.file;
       told = bytes;
       state = step_at s r n c ranks t o e ∙ (λ i. ((solo s r o c).0, set ranks r (sym at i)));
-      calls = over ∙ ap (λ (cs : List DiskCall). with_end calls cs) (sym (calls_at hints s r n c ranks t o e) ∙ sym (append-nil (step_calls hints s (c, ranks) (Solo r n))));
+      calls = over ∙ ap (λ (cs : List DiskCall). with_end calls cs) (sym (call_alone hints s r n c ranks t o e) ∙ sym (append-nil (step_calls hints s (c, ranks) (Solo r n))));
     }
 
 -- ---- a rank's own steps, one after another

@@ -34,6 +34,7 @@ use Rattle.turn_run.proofs.TurnSteps.{step_begun}
 use Rattle.turn_run.specs.Cuts.StopsAt.{in_step, between}
 use Rattle.list_laws.proofs.Truth.{equal_itself}
 use Rattle.list_laws.proofs.Places.{entry_set}
+use Rattle.run_laws.proofs.ArrivalLaws.{offer_of}
 
 -- ---- what went before
 
@@ -95,13 +96,9 @@ abbrev bytes_some : Setting → ℕ → Option Offer → List ℕ
 bytes_some s r None = []
 bytes_some s r (Some o) = covered s.header (puts_of (r, o))
 
-abbrev offer_some : Option Arrived → Option Offer
-offer_some None = None
-offer_some (Some a) = a.1
-
 bytes_solo : (s : Setting) (r n : ℕ) (ranks : List Arrived) (t : Going) (o : Offer) → slice_get ranks r ≡ Some (t, Some o)
     → covered s.header (puts_of (r, o)) ≡ bytes_at s ranks (Solo r n)
-bytes_solo s r n ranks t o e = sym (ap (λ (m : Option Arrived). bytes_some s r (offer_some m)) e)
+bytes_solo s r n ranks t o e = sym (ap (λ (m : Option Arrived). bytes_some s r (offer_of m)) e)
 
 pub solo_at : (s : Setting) (r n : ℕ) (c : Counted) (ranks : List Arrived) (t : Going) (o : Offer) → slice_get ranks r ≡ Some (t, Some o)
     → (solo s r o c).0 ≡ (step_to s (c, ranks) (Solo r n)).0

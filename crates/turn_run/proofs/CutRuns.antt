@@ -37,12 +37,12 @@ use Rattle.turn_run.specs.Said.{all_between, HaveAnswers}
 use Rattle.turn_run.specs.Steps.{first_runner}
 use Rattle.turn_run.specs.declared.runners.Runner.{Runner}
 use Rattle.turn_run.proofs.CutMeet.{raised_kept}
-use Rattle.turn_run.proofs.StageLaws.{gone_up, mark_up, marks_up}
 use Rattle.turn_run.proofs.TurnEnds.{AreOver, map_ended}
 use Rattle.turn_run.proofs.TurnKnown.{most_known}
 use Rattle.turn_run.proofs.TurnRuns.{first_goings, first_stage, none_begun}
 use Rattle.list_laws.proofs.Maps.{entry_map, map_map, entry_map_none, mapped_entry}
 use Rattle.serial_spec.proofs.GrowLaws.{raised_grows}
+use Rattle.run_laws.proofs.ArrivalLaws.{gone_up, arrival_step, arrival_steps}
 
 -- ---- where a whole run was cut off
 
@@ -195,7 +195,7 @@ pub stood_at : (script : Script) (s : Setting) (e : StepErr) (state : Counted ×
 stood_at script s e state order left records lawful begun (before_close (in_step m next l)) =
     stood_step m next.0 next.1
     (subst (λ (own : List ℕ). IsLeft s.header own state.0 (after_mark s state m).0 left records) (bytes_up s state.1 m)
-    (subst (λ (new : Counted). IsLeft s.header (bytes_at s (map (advance s.header) state.1) m) state.0 new left records) (sym (ap (λ (stand : Stand). stand.0) (mark_up s state m))) l))
+    (subst (λ (new : Counted). IsLeft s.header (bytes_at s (map (advance s.header) state.1) m) state.0 new left records) (ap (λ (stand : Stand). stand.0) (arrival_step s state m)) l))
 stood_at script s e state order left records lawful begun (before_close (between memory l k)) =
     let c = completed script order lawful begun.known_ranks begun.each_rank in
     stood_between c.0 c.1 memory l k
@@ -211,7 +211,7 @@ ends_stood script header e records runners order None left count lawful first al
 ends_stood script header e records runners order (Some file) left count lawful first all begun h =
     let up : fold (step_to (setting_of script header)) (counted file records, arrived_all header script.calls runners) order ≡ gone_up (setting_of script header) (state_after script header file order) =
     ap (λ (stand : Stand). fold (step_to (setting_of script header)) stand order) (first_stage script header file records runners lawful first all)
-    ∙ sym (marks_up (setting_of script header) (first_state header file script.calls) order) in (
+    ∙ arrival_steps (setting_of script header) (first_state header file script.calls) order in (
       h.0,
       h.1,
       stood_at script (setting_of script header) e (state_after script header file order) order h.0 count lawful begun

@@ -1,27 +1,27 @@
-pub mod WrittenTwice
-pub mod StageLaws
+mod WrittenTwice
+mod StageLaws
 pub mod CountLaws
 pub mod RunnerLaws
 pub mod AloneLaws
-pub mod MeetPosts
-pub mod MeetSolo
-pub mod MeetJob
-pub mod MeetFile
-pub mod MeetHear
+mod MeetPosts
+mod MeetSolo
+mod MeetJob
+mod MeetFile
+mod MeetHear
 pub mod MeetOffers
 pub mod MeetStep
-pub mod MeetDone
-pub mod TurnSteps
-pub mod TurnEnds
-pub mod TurnRuns
+mod MeetDone
+mod TurnSteps
+mod TurnEnds
+mod TurnRuns
 pub mod TurnCauses
-pub mod TurnKnown
-pub mod CutLaws
+mod TurnKnown
+mod CutLaws
 pub mod CutMeet
 pub mod CutEnds
 pub mod CutRuns
 pub mod EndedLaws
-pub mod TurnWhole
+mod TurnWhole
 pub mod SaidLaws
-pub mod SaidMeet
+mod SaidMeet
 pub mod TellLaws

@@ -53,10 +53,6 @@ one_raises s puts known (inr e) = inr (ap (needed_now s) e ∙ no_need s)
 not_below : (a b : ℕ) → b ≤ a → nat_lt a b ≡ false
 not_below a b h = grind (arith, nat_tests)
 
-file_of : (t : Bool) (x y : Counted) → (cond t x y).file ≡ cond t x.file y.file
-file_of true x y = refl
-file_of false x y = refl
-
 pub raised_none : (s : Setting) (c : Counted) (n : ℕ) → n ≤ c.records → raised s c n ≡ c
 raised_none s c n h = ap (λ (t : Bool). cond t (record { file = with_records s.header.version c.file n; records = n }) c) (not_below c.records n h)
 

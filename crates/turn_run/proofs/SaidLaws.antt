@@ -24,7 +24,7 @@ use Rattle.serial_spec.specs.RankMachine.{hear}
 use Rattle.serial_spec.specs.SerialEnd.{Going, advance, after_mark, hears, solo_of}
 use Rattle.serial_spec.specs.Torn.{Begins, HasAnswers}
 use Rattle.collective_round.specs.Rounds.{counted}
-use Rattle.run_laws.specs.Arrivals.{Arrived, Stand, solo_to, step_to}
+use Rattle.run_laws.specs.Arrivals.{Arrived, Stand, step_to}
 use Rattle.run_laws.proofs.WayLaws.{others_filter as solos_beside}
 use Rattle.turn_run.specs.Said.{HasSaid, SaysAt, AllSay, HasReached, AreAnswers, HaveAnswers, all_between}
 use Rattle.turn_run.specs.Running.{between, calls_of, AreFree, HasArrived}
@@ -32,11 +32,11 @@ use Rattle.turn_run.specs.Stages.{Stage, Leads, IsLed, HasGone, HasLed, IsGrownB
 use Rattle.turn_run.specs.declared.runners.Runner.{Runner}
 use Rattle.turn_run.proofs.AloneLaws.{arrived_free, arrived_held, step_at}
 use Rattle.turn_run.proofs.RunnerLaws.{advance_ended, answers_begin}
-use Rattle.turn_run.proofs.StageLaws.{gone_up, marks_up}
 use Rattle.turn_run.proofs.TurnSteps.{calls_there, get_arrived, own_or_other}
 use Rattle.list_laws.proofs.Optional.{if_some_at}
 use Rattle.list_laws.proofs.Places.{entry_set, entry_set_other}
 use Rattle.list_laws.proofs.Maps.{entry_map}
+use Rattle.run_laws.proofs.ArrivalLaws.{stand_at, state_at, gone_up, arrival_steps}
 
 -- ---- one rank
 
@@ -155,11 +155,7 @@ reached_unheard s fault r n before now held t o answers memory grown e records r
 
 -- ---- the ranks that no mark concerns
 
-abbrev solo_some : Setting → ℕ → Counted → List Arrived → Option Arrived → Stand
-solo_some s q c ranks None = (c, ranks)
-solo_some s q c ranks (Some a) = solo_to s q c ranks a
-
-solo_beside : (s : Setting) (q r : ℕ) (c : Counted) (ranks : List Arrived) (m : Option Arrived) → q ≢ r → slice_get (solo_some s q c ranks m).1 r ≡ slice_get ranks r
+solo_beside : (s : Setting) (q r : ℕ) (c : Counted) (ranks : List Arrived) (m : Option Arrived) → q ≢ r → slice_get (stand_at s q c ranks m).1 r ≡ slice_get ranks r
 solo_beside s q r c ranks None n = refl
 solo_beside s q r c ranks (Some a) n = entry_set_other ranks q r (advance s.header (solo_of s q c a).1) (λ e. n (sym e))
 
@@ -177,11 +173,7 @@ marks_beside s r (Solo q n ∷ more) stand e = by_test (q == r) refl e (λ next 
     by_test true t h again = absurd cc
     by_test false t h again = again (step_to s stand (Solo q n)) h ∙ solo_beside s q r stand.0 stand.1 (slice_get stand.1 q) (not_equal q r t)
 
-abbrev going_some : Setting → ℕ → Counted → List Going → Option Going → Counted × List Going
-going_some s q c goings None = (c, goings)
-going_some s q c goings (Some g) = let done = solo_of s q c (advance s.header g) in (done.0, set goings q done.1)
-
-going_beside : (s : Setting) (q r : ℕ) (c : Counted) (goings : List Going) (m : Option Going) → q ≢ r → slice_get (going_some s q c goings m).1 r ≡ slice_get goings r
+going_beside : (s : Setting) (q r : ℕ) (c : Counted) (goings : List Going) (m : Option Going) → q ≢ r → slice_get (state_at s q c goings m).1 r ≡ slice_get goings r
 going_beside s q r c goings None n = refl
 going_beside s q r c goings (Some g) n = entry_set_other goings q r (solo_of s q c (advance s.header g)).1 (λ e. n (sym e))
 
@@ -211,7 +203,7 @@ grown_beside q r before now n g =
 
 pub up_after : (s : Setting) (c : Counted) (goings : List Going) (ranks : List Arrived) (order : List Mark) → map (advance s.header) goings ≡ ranks
     → gone_up s (fold (after_mark s) (c, goings) order) ≡ fold (step_to s) (c, ranks) order
-up_after s c goings ranks order e = marks_up s (c, goings) order ∙ ap (λ (rs : List Arrived). fold (step_to s) (c, rs) order) e
+up_after s c goings ranks order e = sym (arrival_steps s (c, goings) order) ∙ ap (λ (rs : List Arrived). fold (step_to s) (c, rs) order) e
 
 pub answers_up : (header : Header) (fault : StepErr) (goings : List Going) (runners : List Runner) (stand : Stand) → map (advance header) goings ≡ stand.1 → AllSay fault runners stand
     → AreAnswers header fault goings runners

@@ -36,12 +36,13 @@ use Rattle.turn_run.proofs.MeetOffers.{meets_at, AllHold}
 use Rattle.turn_run.proofs.MeetStep.{offers_are, replies_are, AreDone}
 use Rattle.turn_run.proofs.SaidLaws.{arrived_said, begins_heard, begins_up, said_here, said_part, up_after}
 use Rattle.turn_run.proofs.RunnerLaws.{heard_runner}
-use Rattle.turn_run.proofs.StageLaws.{gone_up, led_then}
+use Rattle.turn_run.proofs.StageLaws.{led_then}
 use Rattle.turn_run.proofs.TurnSteps.{calls_there, get_arrived, set_each}
 use Rattle.list_laws.proofs.Optional.{if_some_at}
 use Rattle.list_laws.proofs.Places.{entry_below}
 use Rattle.list_laws.proofs.Maps.{entry_map}
 use Rattle.serial_spec.proofs.CountLaws.{raised_records}
+use Rattle.run_laws.proofs.ArrivalLaws.{gone_up}
 
 -- ---- before its step is done
 

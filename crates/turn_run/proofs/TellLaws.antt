@@ -28,10 +28,10 @@ use Rattle.turn_run.specs.declared.runners.Runner.{Runner}
 use Rattle.turn_run.proofs.CutLaws.{solo_at}
 use Rattle.turn_run.proofs.CutMeet.{meet_at, met_count}
 use Rattle.turn_run.proofs.MeetOffers.{AllHold}
-use Rattle.turn_run.proofs.StageLaws.{gone_up, mark_up}
 use Rattle.turn_run.proofs.TurnRuns.{first_stage}
 use Rattle.list_laws.proofs.Places.{entry_set}
 use Rattle.nc_outside.proofs.ToldLaws.{with_end-with_end, with_end-nil}
+use Rattle.run_laws.proofs.ArrivalLaws.{gone_up, arrival_step}
 
 -- ---- nothing, and one step
 
@@ -162,7 +162,7 @@ told_along script header file order = along (after_mark (setting_of script heade
 counts_up : (s : Setting) (state : Counted × List Going) (order : List Mark) → counts_along (after_mark s) (λ u. u.0.records) state order ≡ told_over s (gone_up s state) order
 counts_up s state [] = refl
 counts_up s state (m ∷ order) =
-    let up = mark_up s state m in
+    let up = sym (arrival_step s state m) in
     let first : (after_mark s state m).0.records ≡ (step_to s (gone_up s state) m).0.records = ap (λ (stand : Stand). stand.0.records) up in
     let others = counts_up s (after_mark s state m) order ∙ ap (λ (stand : Stand). told_over s stand order) up in
     λ i. (m, first i) ∷ others i

@@ -1,5 +1,5 @@
 -- The first and the last stage of a run.
-use Rattle.std.proofs.Common.{◌≡◌, ℕ, zero, suc, ◌+◌, ◌<◌, ◌≤◌, refl, sym, ◌∙◌, ap, subst, List, [], ◌∷◌, ◌++◌, length, map, replicate, max, true, Option, Some, None, arith}
+use Rattle.std.proofs.Common.{◌≡◌, ℕ, ◌+◌, ◌<◌, ◌≤◌, refl, sym, ◌∙◌, ap, subst, List, [], ◌∷◌, ◌++◌, length, map, replicate, max, true, Option, Some, None, arith}
 use Rattle.std.proofs.lemmas.List.{length-replicate}
 use Rattle.std.specs.Prelude.{slice_get, nat_lt, fold, IfSome}
 use Rattle.nc_base.specs.declared.answer.Answer.{Answer}
@@ -19,7 +19,7 @@ use Rattle.serial_spec.specs.Lawful.{is_lawful}
 use Rattle.serial_spec.specs.Layout.{end_of, greatest}
 use Rattle.serial_spec.specs.RankMachine as machine
 use Rattle.serial_spec.specs.SerialEnd.{End, advance, first_going, first_state, serial_from, setting_of, close_by}
-use Rattle.collective_round.specs.Rounds.{as_setting, counted}
+use Rattle.collective_round.specs.Rounds.{counted}
 use Rattle.run_laws.specs.Ways.{IsOnWay}
 use Rattle.run_laws.proofs.LawfulLaws.{ranks_lawful}
 use Rattle.run_laws.proofs.WayLaws.{way_begins}
@@ -32,7 +32,7 @@ use Rattle.turn_run.specs.Stages.{arrived_all, stage, HasLed, IsLed, Leads}
 use Rattle.turn_run.specs.RankEnds.{HasClosed}
 use Rattle.turn_run.specs.Steps.{first_runner}
 use Rattle.turn_run.specs.declared.runners.Runner.{Runner}
-use Rattle.turn_run.proofs.StageLaws.{calls_are, first_ranks, gone_up, serial_is}
+use Rattle.turn_run.proofs.StageLaws.{calls_are, first_ranks, serial_is}
 use Rattle.turn_run.proofs.TurnKnown.{most_known}
 use Rattle.turn_run.proofs.TurnEnds.{are_over, map_ended, AreOver}
 use Rattle.turn_run.proofs.TurnSteps.{calls_there}
@@ -40,6 +40,7 @@ use Rattle.std.proofs.lemmas.Option.{slice_get_within}
 use Rattle.serial_spec.proofs.CountLaws.{raised_records}
 use Rattle.nc_outside.proofs.ToldLaws.{with_end-with_end}
 use Rattle.list_laws.proofs.Places.{entry_replicate}
+use Rattle.run_laws.proofs.ArrivalLaws.{gone_up}
 
 -- ---- before the first step
 

@@ -1,6 +1,6 @@
 -- A run in turn as a whole: its meetings, and then the end by the ends of its ranks.
-use Rattle.std.proofs.Common.{◌≡◌, ℕ, ◌≤◌, refl, sym, ◌∙◌, ap, subst, inl, inr, ◌⊎◌, List, [], length, map, max, replicate, true, Option, Some, None, Result, Ok, Err, arith}
-use Rattle.std.proofs.lemmas.List.{length-map, length-replicate}
+use Rattle.std.proofs.Common.{◌≡◌, ℕ, ◌≤◌, refl, sym, ◌∙◌, ap, subst, inl, inr, ◌⊎◌, List, [], length, map, max, replicate, true, Option, Some, None, Result, Ok, Err}
+use Rattle.std.proofs.lemmas.List.{length-map}
 use Rattle.std.specs.Prelude.{fold, IfSome, OnOk}
 use Rattle.std.specs.Result.{result_err}
 use Rattle.std.specs.Int.{byte_len}
@@ -51,6 +51,7 @@ use Rattle.turn_run.proofs.TurnCauses.{rose_later}
 use Rattle.turn_run.proofs.TurnEnds.{are_over, ended_legal}
 use Rattle.turn_run.proofs.TurnKnown.{ends_known, most_known, most_rise, rise_sound}
 use Rattle.turn_run.proofs.TurnRuns.{calls_from_first, first_free, if_told, none_begun, run_ended, serial_from_first, IsClosed}
+use Rattle.list_laws.proofs.Numbers.{le_two}
 
 -- ---- how it went
 
@@ -61,14 +62,6 @@ ok_there (Err e) h none = absurd cc
 pub err_there : {T E : Type 0} (result : Result T E) (e : E) → result_err result ≡ Some e → result ≡ Err e
 err_there (Ok x) e is = absurd cc
 err_there (Err x) e is = cc
-
--- a list that was made for so many ranks has room for their ends
-pub room_enough : (header : Header) (ranks records capacity : ℕ) (first last items : List Runner) → first ≡ replicate ranks (first_runner header records) → length last ≡ length first → items ≡ last
-    → ranks ≤ capacity → length items ≤ capacity
-room_enough header ranks records capacity first last items all long are room =
-    let one = ap (λ (ss : List Runner). length ss) all ∙ length-replicate ranks (first_runner header records) in
-    let same = ap (λ (ss : List Runner). length ss) are in
-    omega arith
 
 -- the run was stopped before its first step
 pub stopped_first : (script : Script) (header : Header) (held : Option (List ℕ)) (done : Option (List DiskCall)) (faults records : ℕ) (end : RunEnd) → is_lawful script ≡ true → records ≡ header.records
@@ -201,13 +194,10 @@ module _ (script : Script) (header : Header) (len : ℕ) (before : List Mark) (s
     sound = c.sound;
     begun = subst (λ (ms : List Mark). HasBegun script ms) (sym c.order) h.begun;
     fault = λ disk. by_fault disk served.fault refl;
-    later = le_both faults failed risen h.later c.later;
+    later = le_two faults failed risen h.later c.later;
     cut = λ e is. cut_in_turn e now total end (cut e is);
   }
     where
-      le_both : (a b d : ℕ) → a ≤ b → b ≤ d → a ≤ d
-      le_both a b d k l = omega arith
-
       serial : (file : List ℕ) → ended_from (setting_of script header) (counted file records, arrived_all header script.calls first) served.order ≡ serial_from script header file end.order
       serial file = serial_from_first script header file records first served.order lawful same_count all ∙ ap (λ (ms : List Mark). serial_from script header file ms) (sym c.order)
 

@@ -1,12 +1,12 @@
 pub mod Capping
-pub mod EndLaws
+mod EndLaws
 pub mod Soundness
 pub mod WrittenLengths
 pub mod ElementPlaces
-pub mod Searches
+mod Searches
 pub mod CreatedFiles
-pub mod LaidKept
+mod LaidKept
 pub mod LaidPlaces
 pub mod LaidApart
-pub mod LaidOut
+mod LaidOut
 pub mod LaidWritable

@@ -1,1 +1,1 @@
-pub mod SmallFiles
+mod SmallFiles

@@ -1,14 +1,14 @@
 pub mod AcceptedLaws
-pub mod BoxLaws
-pub mod CountLaws
+mod BoxLaws
+mod CountLaws
 pub mod JoinLaws
 pub mod NumberLaws
 pub mod OnceLaws
 pub mod PartLaws
 pub mod PlaceLaws
-pub mod RowLaws
+mod RowLaws
 pub mod RowSteps
-pub mod RunLaws
-pub mod SweepLaws
-pub mod WalkLaws
+mod RunLaws
+mod SweepLaws
+mod WalkLaws
 pub mod WriteLaws

@@ -1,12 +1,10 @@
 -- The extents that are left, one run after another.
-use Rattle.std.proofs.Common.{◌≡◌, ℕ, zero, suc, ◌+◌, ◌*◌, ◌/◌, ◌^◌, ◌<◌, ◌≤◌, refl, sym, ap, ◌∙◌, List, [], ◌∷◌, length, drop, true, Some, ◌-◌, ◌%◌, inl, inr, subst, arith}
-use Rattle.std.specs.Iterator.{MakesProgress, item_count}
+use Rattle.std.proofs.Common.{◌≡◌, ℕ, zero, suc, ◌+◌, ◌*◌, ◌/◌, ◌^◌, ◌<◌, ◌≤◌, refl, sym, ap, ◌∙◌, List, [], length, drop, true, ◌-◌, ◌%◌, inl, inr, subst, arith}
 use Rattle.std.proofs.lemmas.List.{drop_all}
 use Rattle.std.proofs.lemmas.Nat.{div-add-mod', mod_below, mul-le}
 use Rattle.std.proofs.Math.Nat.{mul-div_cancel}
 use Rattle.nc_base.specs.declared.header.Header.{Header}
 use Rattle.nc_base.specs.declared.header.Var.{Var}
-use Rattle.nc_base.specs.declared.plan.Extent.{Extent}
 use Rattle.nc_base.specs.declared.request.Region.{Region}
 use Rattle.serial_spec.specs.ExternalForm.{size_of}
 use Rattle.serial_spec.specs.Layout.{product, recsize, is_record}
@@ -167,9 +165,3 @@ pub no_runs : (f : ℕ → ℕ) (size : ℕ) → AreRuns f size 1 0
 no_runs f size = record { some = omega arith; parts = (0, refl); follow = λ q i l below. absurd (omega arith) }
 
 -- ---- a step
-
-pub goes_on : {S : Type 0} (rest : S → List Extent) (can : S → Type 0) (s t : S) (e : Extent) → rest s ≡ e ∷ rest t → can t
-    → MakesProgress can (item_count rest) s (Some e) t
-goes_on rest can s t e same h =
-    let shorter = ap (λ (es : List Extent). length es) same in
-    record { on = λ f. (h, tt, omega arith); keeps = h; rests = λ f. tt }

@@ -38,11 +38,9 @@ use Rattle.whole_run_laws.specs.Completed.{completed_puts, IsBesideCount, is_hel
 use Rattle.whole_run_laws.proofs.KeptLaws.{end_kept}
 use Rattle.serial_spec.proofs.ValueLaws.{found_long}
 use Rattle.serial_spec.proofs.MoveLaws.{resized}
+use Rattle.serial_spec.proofs.CellLaws.{IsOrApart}
 
 -- ---- cells of which each is another one's or apart from it
-
-abbrev pub IsThatOrApart : Cell → Cell → Type 0
-IsThatOrApart e d = (d ≡ e) ⊎ AreApart d.0 (length d.1) e.0 (length e.1)
 
 module _ (e : Cell) (i : ℕ) (inside : i < length e.1) where
   abbrev x : ℕ
@@ -56,7 +54,7 @@ module _ (e : Cell) (i : ℕ) (inside : i < length e.1) where
       let back : e.0 + i - e.0 ≡ i = omega arith in
       said_inside e.0 e.1 (e.0 + i) 0 (omega arith) (omega arith) ∙ ap (λ (n : ℕ). Some (get_or e.1 n 0)) back
 
-  one : (d : Cell) → IsThatOrApart e d → (said_at (enumerate_from d.0 d.1) (e.0 + i) ≡ None) ⊎ (said_at (enumerate_from d.0 d.1) (e.0 + i) ≡ Some (get_or e.1 i 0))
+  one : (d : Cell) → IsOrApart e d → (said_at (enumerate_from d.0 d.1) (e.0 + i) ≡ None) ⊎ (said_at (enumerate_from d.0 d.1) (e.0 + i) ≡ Some (get_or e.1 i 0))
   one d (inl f) = inr (ap (λ (z : Cell). said_at (enumerate_from z.0 z.1) (e.0 + i)) f ∙ own)
   one d (inr (inl h)) = inl (said_past d.0 d.1 (e.0 + i) (omega arith))
   one d (inr (inr h)) = inl (said_below d.0 d.1 (e.0 + i) (omega arith))
@@ -64,7 +62,7 @@ module _ (e : Cell) (i : ℕ) (inside : i < length e.1) where
   joined : (d : Cell) (cells : List Cell) → said_at (said_by (d ∷ cells)) (e.0 + i) ≡ option_or (said_at (said_by cells) (e.0 + i)) (said_at (enumerate_from d.0 d.1) (e.0 + i))
   joined d cells = said_append (enumerate_from d.0 d.1) (said_by cells) (e.0 + i)
 
-  some_or_that : (cells : List Cell) → ((d : Cell) → In cells d → IsThatOrApart e d)
+  some_or_that : (cells : List Cell) → ((d : Cell) → In cells d → IsOrApart e d)
       → (said_at (said_by cells) (e.0 + i) ≡ None) ⊎ (said_at (said_by cells) (e.0 + i) ≡ Some (get_or e.1 i 0))
   some_or_that [] f = inl refl
   some_or_that (d ∷ cells) f = by (some_or_that cells (λ z h. f z (inr h))) (one d (f d (inl refl)))
@@ -76,7 +74,7 @@ module _ (e : Cell) (i : ℕ) (inside : i < length e.1) where
       by (inl a) (inl b) = inl (joined d cells ∙ second_counts (said_at (said_by cells) (e.0 + i)) _ a ∙ b)
       by (inl a) (inr b) = inr (joined d cells ∙ second_counts (said_at (said_by cells) (e.0 + i)) _ a ∙ b)
 
-  pub says_that : (cells : List Cell) → In cells e → ((d : Cell) → In cells d → IsThatOrApart e d) → said_at (said_by cells) (e.0 + i) ≡ Some (get_or e.1 i 0)
+  pub says_that : (cells : List Cell) → In cells e → ((d : Cell) → In cells d → IsOrApart e d) → said_at (said_by cells) (e.0 + i) ≡ Some (get_or e.1 i 0)
   says_that [] h f = absurd h
   says_that (d ∷ cells) (inr h) f =
       joined d cells ∙ first_counts (said_at (said_by cells) (e.0 + i)) _ _ (says_that cells h (λ z k. f z (inr k)))
@@ -109,7 +107,7 @@ pub fill_long : (v : Var) → length (fill_bytes v) ≡ size_of v.kind
 fill_long v = found_long v.kind v.attrs
 
 pub cells_apart : (header : Header) (k m : ℕ) (v w : Var) (i j : List ℕ) → is_sound header ≡ true → slice_get header.vars k ≡ Some v → slice_get header.vars m ≡ Some w
-    → IsElement header v i → IsElement header w j → ((m ≡ k) × (j ≡ i)) ⊎ (((k ≡ m) × (i ≡ j)) → ⊥) → IsThatOrApart (cell_of header v i) (cell_of header w j)
+    → IsElement header v i → IsElement header w j → ((m ≡ k) × (j ≡ i)) ⊎ (((k ≡ m) × (i ≡ j)) → ⊥) → IsOrApart (cell_of header v i) (cell_of header w j)
 cells_apart header k m v w i j sound e f p q (inl (a, b)) =
     let same : w ≡ v = same_Some w v (sym f ∙ ap (λ (z : ℕ). slice_get header.vars z) a ∙ e) in
     inl (λ t. cell_of header (same t) (b t))
@@ -164,14 +162,14 @@ vars_cells header (v ∷ vars) file =
     ∙ sym (fold-append (λ (f : List ℕ) (cell : Cell). written f cell.0 cell.1) file (cells_of_var header v) (cells_of_vars header vars))
 
 filled_apart : (header : Header) (k : ℕ) (v : Var) (index : List ℕ) → is_sound header ≡ true → slice_get header.vars k ≡ Some v → is_record header v ≡ false
-    → IsIndex (inner_lengths header v) index → (d : Cell) → In (cells_of_vars header (fixed_variables header header.vars)) d → IsThatOrApart (cell_of header v index) d
+    → IsIndex (inner_lengths header v) index → (d : Cell) → In (cells_of_vars header (fixed_variables header header.vars)) d → IsOrApart (cell_of header v index) d
 filled_apart header k v index sound e fixed h d m =
     let w = flat_in (cells_of_var header) (fixed_variables header header.vars) d m in
     let kept = filter_in (λ z. not (is_record header z)) header.vars w.0 w.1 in
     let number = in_at header.vars w.0 kept.0 in
     let j = map_in (cell_of header w.0) (coordinates (inner_lengths header w.0)) d w.2 in
     let other = in_index (inner_lengths header w.0) j.0 j.1 in
-    subst (λ (z : Cell). IsThatOrApart (cell_of header v index) z) j.2
+    subst (λ (z : Cell). IsOrApart (cell_of header v index) z) j.2
     (cells_apart header k number.0 v w.0 index j.0 sound e number.1 (fixed_element header v index fixed h)
     (fixed_element header w.0 j.0 (not_so (is_record header w.0) kept.1) other)
     (by number.0 w.0 j.0 number.1 other (eqb_tells number.0 k)))

@@ -1,9 +1,9 @@
 -- A record that all ranks filled reads its fill values.
 use Rattle.std.proofs.Common.{◌≡◌, ℕ, zero, suc, ◌+◌, ◌-◌, ◌*◌, ◌/◌, ◌<◌, ◌≤◌, refl, sym, ◌∙◌, ap, subst, inl, inr, List, [], ◌∷◌, ◌++◌, length, map, take, drop, replicate, Bool, true, false, Option, Some, None, add-one, arith}
 use Rattle.std.proofs.Math.Nat.{mul-div_cancel, mul-le-mul_left}
-use Rattle.std.proofs.Math.Seq.{drop-append-add, take-add, take_all}
+use Rattle.std.proofs.Math.Seq.{drop-append-add, take_all}
 use Rattle.std.proofs.lemmas.Grind.{flat_map-append}
-use Rattle.std.proofs.lemmas.List.{append-nil, drop-drop, length-map, map-append, take_at}
+use Rattle.std.proofs.lemmas.List.{append-nil, length-map, map-append, take_at}
 use Rattle.std.specs.Prelude.{flat_map, slice_get, zip, ◌||◌, nat_lt}
 use Rattle.std.specs.List.{AllByRecursion, enumerate_from, range_with_len}
 use Rattle.list_laws.proofs.Each.{each_weaker}
@@ -43,25 +43,12 @@ use Rattle.rank_core.proofs.FillPostLaws.{shifted_is}
 use Rattle.whole_run_laws.specs.Completed.{completed, puts_met, unless_told}
 use Rattle.whole_run_laws.specs.Filling.{AllFill, filling, share_boxes}
 use Rattle.whole_run_laws.proofs.KeptLaws.{meeting_said}
-use Rattle.whole_run_laws.proofs.FilledFile.{IsThatOrApart, read_all, cell_of, fill_long, cells_apart, record_element, index_in, in_index, same_or_not, past_count, says_that}
+use Rattle.whole_run_laws.proofs.FilledFile.{read_all, cell_of, fill_long, cells_apart, record_element, index_in, in_index, same_or_not, past_count, says_that}
 use Rattle.rank_core.proofs.FillLookLaws.{posts_filled}
+use Rattle.serial_spec.proofs.CellLaws.{IsOrApart}
+use Rattle.list_laws.proofs.Parts.{part, part_joined, part_none}
 
 -- ---- the shares of all ranks
-
--- the entries from `from` to below `to`
-abbrev part : {A : Type 0} → ℕ → ℕ → List A → List A
-part from to xs = take (to - from) (drop from xs)
-
-part_joined : {A : Type 0} (xs : List A) (from mid to : ℕ) → from ≤ mid → mid ≤ to → part from mid xs ++ part mid to xs ≡ part from to xs
-part_joined xs from mid to h k =
-    let whole : to - from ≡ (mid - from) + (to - mid) = omega arith in
-    let middle : from + (mid - from) ≡ mid = omega arith in
-    sym (ap (λ (n : ℕ). take n (drop from xs)) whole
-    ∙ take-add (mid - from) (to - mid) (drop from xs)
-    ∙ ap (λ ys. take (mid - from) (drop from xs) ++ take (to - mid) ys) (drop-drop (mid - from) from xs ∙ ap (λ (n : ℕ). drop n xs) middle))
-
-part_none : {A : Type 0} (xs : List A) (from to : ℕ) → to ≡ from → [] ≡ part from to xs
-part_none xs from to h = let none : 0 ≡ to - from = omega arith in ap (λ (n : ℕ). take n (drop from xs)) none
 
 share_rises : (total a b ranks : ℕ) → 0 < ranks → a ≤ b → share_begin total a ranks ≤ share_begin total b ranks
 share_rises total a b ranks h k = div_grows (total * a) (total * b) ranks (omega arith) (mul-le-mul_left total k)
@@ -75,16 +62,15 @@ module _ (lengths : List ℕ) (ranks : ℕ) (some : 0 < ranks) where
 
   shares_from : (a n : ℕ) → a + n ≤ ranks → flat_map share (range_with_len a n) ≡ part (begins a) (begins (a + n)) (coordinates lengths)
   shares_from a zero h =
-      let same : a + zero ≡ a = omega arith in
-      part_none (coordinates lengths) (begins a) (begins (a + zero)) (ap begins same)
+      sym (part_none (coordinates lengths) (begins a) (begins (a + zero)) (share_rises (product lengths) (a + zero) a ranks some (omega arith)))
   shares_from a (suc n) h =
       let next : a + 1 + n ≡ a + suc n = omega arith in
       let here : share a ≡ part (begins a) (begins (a + 1)) (coordinates lengths) =
       boxes_right lengths (begins a) (begins (a + 1)) (share_grows (product lengths) a ranks (omega arith)) (share_within (product lengths) a ranks (omega arith)) in
       let later = shares_from (a + 1) n (omega arith) in
       (λ t. here t ++ later t)
-      ∙ part_joined (coordinates lengths) (begins a) (begins (a + 1)) (begins (a + 1 + n)) (share_rises (product lengths) a (a + 1) ranks some (omega arith))
-      (share_rises (product lengths) (a + 1) (a + 1 + n) ranks some (omega arith))
+      ∙ sym (part_joined (coordinates lengths) (begins a) (begins (a + 1)) (begins (a + 1 + n)) (share_rises (product lengths) a (a + 1) ranks some (omega arith))
+      (share_rises (product lengths) (a + 1) (a + 1 + n) ranks some (omega arith)))
       ∙ ap (λ (m : ℕ). part (begins a) (begins m) (coordinates lengths)) next
 
   first_begins : begins 0 ≡ 0
@@ -246,12 +232,12 @@ record_reads s offers c k number v index sound there of_records fill some none h
     ∙ ap (λ (o : Option ℕ). byte_or o (at c.file (place header v (number ∷ index) + i)))
     (says_that (cell index) i l (map cell (coordinates lengths)) mine apart))
   where
-    apart : (d : Cell) → In (map (λ (i : List ℕ). cell_of s.header v (number ∷ i)) (coordinates (inner_lengths s.header v))) d → IsThatOrApart (cell_of s.header v (number ∷ index)) d
+    apart : (d : Cell) → In (map (λ (i : List ℕ). cell_of s.header v (number ∷ i)) (coordinates (inner_lengths s.header v))) d → IsOrApart (cell_of s.header v (number ∷ index)) d
     apart d m =
         let lengths = inner_lengths s.header v in
         let j = map_in (λ (i : List ℕ). cell_of s.header v (number ∷ i)) (coordinates lengths) d m in
         let other = in_index lengths j.0 j.1 in
-        subst (λ (z : Cell). IsThatOrApart (cell_of s.header v (number ∷ index)) z) j.2
+        subst (λ (z : Cell). IsOrApart (cell_of s.header v (number ∷ index)) z) j.2
         (cells_apart s.header k k v v (number ∷ index) (number ∷ j.0) sound there there (record_element s.header v number index of_records h)
         (record_element s.header v number j.0 of_records other)
         (elim (same_or_not lengths index j.0 h other) [

@@ -20,6 +20,7 @@ use Rattle.serial_spec.specs.History.{Arrival, is_from, kind_of_meeting, option_
 use Rattle.serial_spec.specs.SharedByte.{Puts}
 use Rattle.whole_run_laws.specs.Strangers.{are_left_behind, brought, ends, has_fewer, has_left, kind_waiting, last, meeting_offers, puts_brought, waiting, waits}
 use Rattle.serial_spec.proofs.CountLaws.{no_need}
+use Rattle.list_laws.proofs.Optional.{none_last}
 
 -- ---- what numbers brought, with one arrival more
 
@@ -60,11 +61,7 @@ brought_none {A} f q r i before e = by (eqb_tells q r)
     by (inr (b, n)) = brought_other f q r i before n
 
 last_both : {A : Type 0} (xs ys : List A) → last (xs ++ ys) ≡ option_or (last ys) (last xs)
-last_both {A} [] ys = by (last ys)
-  where
-    by : (m : Option A) → m ≡ option_or m None
-    by None = refl
-    by (Some x) = refl
+last_both [] ys = none_last (last ys)
 last_both {A} (x ∷ xs) ys = ap (λ (m : Option A). option_or m (Some x)) (last_both xs ys) ∙ by (last ys) (last xs)
   where
     by : (m n : Option A) → option_or (option_or m n) (Some x) ≡ option_or m (option_or n (Some x))

@@ -1,6 +1,6 @@
 -- What a run leaves of each byte: what the last completed put that holds it says, else the old one.
 use Rattle.std.proofs.Common.{◌≡◌, ℕ, ◌+◌, ◌<◌, ◌≤◌, refl, sym, ◌∙◌, ap, inl, inr, ◌⊎◌, List, [], ◌∷◌, ◌++◌, length, map, set, Bool, true, false, max, Option, Some, None, arith}
-use Rattle.std.proofs.lemmas.Grind.{common_steps, flat_map-append}
+use Rattle.std.proofs.lemmas.Grind.{flat_map-append}
 use Rattle.std.proofs.lemmas.List.{get_or_past}
 use Rattle.std.specs.Prelude.{fold, zip, slice_get}
 use Rattle.nc_base.specs.declared.header.Header.{Header}
@@ -15,7 +15,7 @@ use Rattle.serial_spec.specs.Fill.{filled}
 use Rattle.serial_spec.specs.HeaderBytes.{canon, count}
 use Rattle.serial_spec.specs.Layout.{greatest}
 use Rattle.serial_spec.specs.Records.{needed_by}
-use Rattle.serial_spec.specs.Said.{Cell, said_at, byte_or, write_cells}
+use Rattle.serial_spec.specs.Said.{said_at, byte_or}
 use Rattle.serial_spec.specs.SharedByte.{Puts, bytes_of, said_by_puts}
 use Rattle.serial_spec.specs.FileStep.{Setting, Counted, after_puts, end_for, known_by, meeting, needs, told}
 use Rattle.serial_spec.specs.SerialEnd.{Going, advance, after_mark, closed, first_state, offers_of, serial, serial_from, start, setting_of, solo_of}
@@ -23,7 +23,7 @@ use Rattle.serial_spec.proofs.KeepLaws.{count_long, puts_keep, raised_keeps}
 use Rattle.serial_spec.proofs.FileLaws.{at-longer}
 use Rattle.serial_spec.proofs.SaidLaws.{byte_or_later, puts_said, said_append}
 use Rattle.whole_run_laws.specs.Completed.{completed, completed_from, completed_puts, IsBesideCount, is_held, puts_asked, puts_at, puts_met, unless_told}
-use Rattle.serial_spec.proofs.GrowLaws.{written_grows, raised_grows, mark_grows}
+use Rattle.serial_spec.proofs.GrowLaws.{raised_grows, mark_grows}
 
 -- ---- a step
 
@@ -130,13 +130,6 @@ opened_kept script header file order x opened h k =
     ∙ at-longer file (end_for (setting_of script header) header.records) x
 
 -- ---- lengths
-
-cells_long : (cells : List Cell) (file : List ℕ) → length file ≤ length (write_cells file cells)
-cells_long [] file = omega arith
-cells_long (c ∷ cells) file = let a = written_grows file c.0 c.1 in let b = cells_long cells (written file c.0 c.1) in omega arith
-
-longer_long : (file : List ℕ) (n : ℕ) → length file ≤ length (longer file n)
-longer_long file n = grind (arith, common_steps)
 
 state_long : (s : Setting) (state : Counted × List Going) (order : List Mark) → length state.0.file ≤ length (fold (after_mark s) state order).0.file
 state_long s state [] = omega arith

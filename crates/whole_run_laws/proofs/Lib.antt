@@ -1,16 +1,16 @@
-pub mod KeptLaws
-pub mod Hints
-pub mod OneOrder
-pub mod HullLengths
-pub mod Courses
-pub mod CountLaws
-pub mod ToldLaws
-pub mod AnswersStay
-pub mod FilledFile
-pub mod FilledRecord
-pub mod FillCalls
-pub mod HeldClients
-pub mod StrangerLaws
-pub mod PastLaws
-pub mod FieldLaws
-pub mod AnswerLaws
+mod KeptLaws
+mod Hints
+mod OneOrder
+mod HullLengths
+mod Courses
+mod CountLaws
+mod ToldLaws
+mod AnswersStay
+mod FilledFile
+mod FilledRecord
+mod FillCalls
+mod HeldClients
+mod StrangerLaws
+mod PastLaws
+mod FieldLaws
+mod AnswerLaws

@@ -31,14 +31,9 @@ use Rattle.whole_run_laws.proofs.Courses.{set_cases}
 use Rattle.whole_run_laws.proofs.HeldClients.{one_or_none, brought_here, brought_other, brought_none, last_here, one_if, Kept, Next, nothing_reached, Free, free_set, not_all, some_holds, held_all, kinds_are, left_is, numbers_any, waits_is}
 use Rattle.whole_run_laws.specs.Strangers.{are_left_behind, end_of_item, ends, first_stranger, first_stranger_from, is_strange_after, last, meeting_offer, meeting_offers, puts_brought, puts_complete, waits}
 use Rattle.list_laws.proofs.Maps.{entry_map}
+use Rattle.join_laws.proofs.ClientTurns.{client_ended, client_held}
 
 -- ---- an end
-
-abbrev ended_client : Client → Bool → Client
-ended_client x m = record { held = x.held; ended = Some m }
-
-abbrev held_client : Client → Offer → Client
-held_client x o = record { held = Some o; ended = x.ended }
 
 module _ (s : Setting) (ranks : ℕ) (before : List Arrival) (d : Owner) (kept : Kept ranks before d) (r : ℕ) (x : Client) (at : slice_get d.clients r ≡ Some x) where
   free_now : Free d.clients
@@ -53,32 +48,32 @@ module _ (s : Setting) (ranks : ℕ) (before : List Arrival) (d : Owner) (kept :
 
   end_next : (m : Bool) → Next s ranks before d r (item.Ended m) (at_item s d r x (item.Ended m))
   end_next m =
-      let f = free_set d.clients r x (ended_client x m) at refl free_now in
+      let f = free_set d.clients r x (client_ended x m) at refl free_now in
       record {
         kept = record {
-          long = length-set d.clients r (ended_client x m) ∙ kept.long;
+          long = length-set d.clients r (client_ended x m) ∙ kept.long;
           number = f.number;
           free = f.free;
           at_free = f.at_free;
           is_free = f.is_free;
-          count = λ q y e. ap (λ (xs : List Offer). length xs) (same_offers q (item.Ended m) refl) ∙ count_by q y (set_cases d.clients r q (ended_client x m) y e);
-          held = λ q y o e h. ap (λ (xs : List Offer). last xs) (same_offers q (item.Ended m) refl) ∙ held_by q y o h (set_cases d.clients r q (ended_client x m) y e);
-          ended = λ q y e. ended_by q y (set_cases d.clients r q (ended_client x m) y e);
+          count = λ q y e. ap (λ (xs : List Offer). length xs) (same_offers q (item.Ended m) refl) ∙ count_by q y (set_cases d.clients r q (client_ended x m) y e);
+          held = λ q y o e h. ap (λ (xs : List Offer). last xs) (same_offers q (item.Ended m) refl) ∙ held_by q y o h (set_cases d.clients r q (client_ended x m) y e);
+          ended = λ q y e. ended_by q y (set_cases d.clients r q (client_ended x m) y e);
         };
         reached = nothing_reached s d.reached [] refl;
       }
     where
-      count_by : (q : ℕ) (y : Client) → ((q ≡ r) × (y ≡ ended_client x m)) ⊎ (((r == q) ≡ false) × (slice_get d.clients q ≡ Some y)) → length (meeting_offers q before) ≡ d.met + one_if y.held
+      count_by : (q : ℕ) (y : Client) → ((q ≡ r) × (y ≡ client_ended x m)) ⊎ (((r == q) ≡ false) × (slice_get d.clients q ≡ Some y)) → length (meeting_offers q before) ≡ d.met + one_if y.held
       count_by q y (inl (z, w)) =
           ap (λ (k : ℕ). length (meeting_offers k before)) z ∙ kept.count r x at ∙ sym (ap (λ (v : Client). d.met + one_if v.held) w)
       count_by q y (inr (b, g)) = kept.count q y g
 
-      held_by : (q : ℕ) (y : Client) (o : Offer) → y.held ≡ Some o → ((q ≡ r) × (y ≡ ended_client x m)) ⊎ (((r == q) ≡ false) × (slice_get d.clients q ≡ Some y)) → last (meeting_offers q before) ≡ Some o
+      held_by : (q : ℕ) (y : Client) (o : Offer) → y.held ≡ Some o → ((q ≡ r) × (y ≡ client_ended x m)) ⊎ (((r == q) ≡ false) × (slice_get d.clients q ≡ Some y)) → last (meeting_offers q before) ≡ Some o
       held_by q y o h (inl (z, w)) =
           ap (λ (k : ℕ). last (meeting_offers k before)) z ∙ kept.held r x o at (sym (ap (λ (v : Client). v.held) w) ∙ h)
       held_by q y o h (inr (b, g)) = kept.held q y o g h
 
-      ended_by : (q : ℕ) (y : Client) → ((q ≡ r) × (y ≡ ended_client x m)) ⊎ (((r == q) ≡ false) × (slice_get d.clients q ≡ Some y)) → y.ended ≡ last (ends q (before ++ (r, item.Ended m) ∷ []))
+      ended_by : (q : ℕ) (y : Client) → ((q ≡ r) × (y ≡ client_ended x m)) ⊎ (((r == q) ≡ false) × (slice_get d.clients q ≡ Some y)) → y.ended ≡ last (ends q (before ++ (r, item.Ended m) ∷ []))
       ended_by q y (inl (z, w)) =
           ap (λ (v : Client). v.ended) w ∙ sym (last_here end_of_item r (item.Ended m) before m refl) ∙ ap (λ (k : ℕ). last (ends k (before ++ (r, item.Ended m) ∷ []))) (sym z)
       ended_by q y (inr (b, g)) = kept.ended q y g ∙ ap (λ (xs : List Bool). last xs) (sym (brought_other end_of_item q r (item.Ended m) before (apart q b)))
@@ -112,7 +107,7 @@ module _ (s : Setting) (ranks : ℕ) (before : List Arrival) (d : Owner) (kept :
 
   module _ (c : ℕ) (o : Offer) (kind : MeetKind) (k : o.kind ≡ offer.Meet kind) (idle : x.held ≡ None) where
     abbrev clients_now : List Client
-    clients_now = set d.clients r (held_client x o)
+    clients_now = set d.clients r (client_held x o)
 
     abbrev after : List Arrival
     after = before ++ (r, item.Offer c o) ∷ []
@@ -130,30 +125,30 @@ module _ (s : Setting) (ranks : ℕ) (before : List Arrival) (d : Owner) (kept :
         let none : one_if x.held ≡ 0 = ap one_if idle in
         omega (arith, both, long, own, was, none)
 
-    count_now : (q : ℕ) (y : Client) → slice_get (set d.clients r (held_client x o)) q ≡ Some y → length (meeting_offers q after) ≡ d.met + one_if y.held
-    count_now q y e = by (set_cases d.clients r q (held_client x o) y e)
+    count_now : (q : ℕ) (y : Client) → slice_get (set d.clients r (client_held x o)) q ≡ Some y → length (meeting_offers q after) ≡ d.met + one_if y.held
+    count_now q y e = by (set_cases d.clients r q (client_held x o) y e)
       where
-        by : ((q ≡ r) × (y ≡ held_client x o)) ⊎ (((r == q) ≡ false) × (slice_get d.clients q ≡ Some y)) → length (meeting_offers q after) ≡ d.met + one_if y.held
+        by : ((q ≡ r) × (y ≡ client_held x o)) ⊎ (((r == q) ≡ false) × (slice_get d.clients q ≡ Some y)) → length (meeting_offers q after) ≡ d.met + one_if y.held
         by (inl (z, w)) = ap (λ (j : ℕ). length (meeting_offers j after)) z ∙ one_longer ∙ sym (ap (λ (v : Client). d.met + one_if v.held) w)
         by (inr (b, g)) = ap (λ (xs : List Offer). length xs) (brought_other meeting_offer q r (item.Offer c o) before (apart q b)) ∙ kept.count q y g
 
-    held_now : (q : ℕ) (y : Client) (p : Offer) → slice_get (set d.clients r (held_client x o)) q ≡ Some y → y.held ≡ Some p → last (meeting_offers q after) ≡ Some p
-    held_now q y p e h = by (set_cases d.clients r q (held_client x o) y e)
+    held_now : (q : ℕ) (y : Client) (p : Offer) → slice_get (set d.clients r (client_held x o)) q ≡ Some y → y.held ≡ Some p → last (meeting_offers q after) ≡ Some p
+    held_now q y p e h = by (set_cases d.clients r q (client_held x o) y e)
       where
-        by : ((q ≡ r) × (y ≡ held_client x o)) ⊎ (((r == q) ≡ false) × (slice_get d.clients q ≡ Some y)) → last (meeting_offers q after) ≡ Some p
+        by : ((q ≡ r) × (y ≡ client_held x o)) ⊎ (((r == q) ≡ false) × (slice_get d.clients q ≡ Some y)) → last (meeting_offers q after) ≡ Some p
         by (inl (z, w)) =
             ap (λ (j : ℕ). last (meeting_offers j after)) z ∙ last_here meeting_offer r (item.Offer c o) before o brings ∙ sym (ap (λ (v : Client). v.held) w) ∙ h
         by (inr (b, g)) = ap (λ (xs : List Offer). last xs) (brought_other meeting_offer q r (item.Offer c o) before (apart q b)) ∙ kept.held q y p g h
 
-    ended_now : (q : ℕ) (y : Client) → slice_get (set d.clients r (held_client x o)) q ≡ Some y → y.ended ≡ last (ends q after)
-    ended_now q y e = by (set_cases d.clients r q (held_client x o) y e) ∙ ap (λ (xs : List Bool). last xs) (sym (same_ends q c o))
+    ended_now : (q : ℕ) (y : Client) → slice_get (set d.clients r (client_held x o)) q ≡ Some y → y.ended ≡ last (ends q after)
+    ended_now q y e = by (set_cases d.clients r q (client_held x o) y e) ∙ ap (λ (xs : List Bool). last xs) (sym (same_ends q c o))
       where
-        by : ((q ≡ r) × (y ≡ held_client x o)) ⊎ (((r == q) ≡ false) × (slice_get d.clients q ≡ Some y)) → y.ended ≡ last (ends q before)
+        by : ((q ≡ r) × (y ≡ client_held x o)) ⊎ (((r == q) ≡ false) × (slice_get d.clients q ≡ Some y)) → y.ended ≡ last (ends q before)
         by (inl (z, w)) = ap (λ (v : Client). v.ended) w ∙ kept.ended r x at ∙ ap (λ (j : ℕ). last (ends j before)) (sym z)
         by (inr (b, g)) = kept.ended q y g
 
-    there : slice_get (set d.clients r (held_client x o)) r ≡ Some (held_client x o)
-    there = entry_set d.clients r x (held_client x o) at
+    there : slice_get (set d.clients r (client_held x o)) r ≡ Some (client_held x o)
+    there = entry_set d.clients r x (client_held x o) at
 
     abbrev complete_by : Bool → Puts
     complete_by t = cond t [] (puts_met (filter_map (λ q. last (meeting_offers q after)) (range_with_len 0 ranks)))
@@ -161,11 +156,11 @@ module _ (s : Setting) (ranks : ℕ) (before : List Arrival) (d : Owner) (kept :
     puts_are : puts_brought ranks before (r, item.Offer c o) ≡ puts_complete ranks after
     puts_are = ap (λ (z : OfferKind). puts_by c o z) k
 
-    waits_next : list_all holds (set d.clients r (held_client x o)) ≡ false → Next s ranks before d r (item.Offer c o) (meets_if s d (set d.clients r (held_client x o)) false)
+    waits_next : list_all holds (set d.clients r (client_held x o)) ≡ false → Next s ranks before d r (item.Offer c o) (meets_if s d (set d.clients r (client_held x o)) false)
     waits_next e =
-        let f = not_all (set d.clients r (held_client x o)) e in
-        let now : Kept ranks after (meets_if s d (set d.clients r (held_client x o)) false).owner = record {
-          long = length-set d.clients r (held_client x o) ∙ kept.long;
+        let f = not_all (set d.clients r (client_held x o)) e in
+        let now : Kept ranks after (meets_if s d (set d.clients r (client_held x o)) false).owner = record {
+          long = length-set d.clients r (client_held x o) ∙ kept.long;
           number = f.number;
           free = f.free;
           at_free = f.at_free;
@@ -175,34 +170,34 @@ module _ (s : Setting) (ranks : ℕ) (before : List Arrival) (d : Owner) (kept :
           ended = ended_now;
         } in
         let some : list_any (waits ranks after) (range_with_len 0 ranks) ≡ true =
-        sym (numbers_any ranks after (meets_if s d (set d.clients r (held_client x o)) false).owner now holds (waits ranks after)
-        (λ q y g. sym (waits_is ranks after (meets_if s d (set d.clients r (held_client x o)) false).owner now q y g)))
-        ∙ some_holds (set d.clients r (held_client x o)) r (held_client x o) there refl in
+        sym (numbers_any ranks after (meets_if s d (set d.clients r (client_held x o)) false).owner now holds (waits ranks after)
+        (λ q y g. sym (waits_is ranks after (meets_if s d (set d.clients r (client_held x o)) false).owner now q y g)))
+        ∙ some_holds (set d.clients r (client_held x o)) r (client_held x o) there refl in
         record { kept = now; reached = nothing_reached s d.reached (puts_brought ranks before (r, item.Offer c o)) (puts_are ∙ ap complete_by some) }
 
-    meets_next : list_all holds (set d.clients r (held_client x o)) ≡ true → Next s ranks before d r (item.Offer c o) (meets_if s d (set d.clients r (held_client x o)) true)
+    meets_next : list_all holds (set d.clients r (client_held x o)) ≡ true → Next s ranks before d r (item.Offer c o) (meets_if s d (set d.clients r (client_held x o)) true)
     meets_next e =
-        let now : Kept ranks after (meets_if s d (set d.clients r (held_client x o)) true).owner = record {
-          long = length-map (set d.clients r (held_client x o)) freed ∙ length-set d.clients r (held_client x o) ∙ kept.long;
+        let now : Kept ranks after (meets_if s d (set d.clients r (client_held x o)) true).owner = record {
+          long = length-map (set d.clients r (client_held x o)) freed ∙ length-set d.clients r (client_held x o) ∙ kept.long;
           number = r;
-          free = freed (held_client x o);
-          at_free = entry_map freed (set d.clients r (held_client x o)) r (held_client x o) there;
+          free = freed (client_held x o);
+          at_free = entry_map freed (set d.clients r (client_held x o)) r (client_held x o) there;
           is_free = refl;
           count = λ q y g.
-              let z = mapped_from freed (set d.clients r (held_client x o)) q y g in
-              full q y z.0 z.1.1 (count_now q z.0 z.1.0) (one_held z.0 (all_hold (set d.clients r (held_client x o)) q z.0 e z.1.0));
+              let z = mapped_from freed (set d.clients r (client_held x o)) q y g in
+              full q y z.0 z.1.1 (count_now q z.0 z.1.0) (one_held z.0 (all_hold (set d.clients r (client_held x o)) q z.0 e z.1.0));
           held = λ q y p g h.
-              let z = mapped_from freed (set d.clients r (held_client x o)) q y g in
+              let z = mapped_from freed (set d.clients r (client_held x o)) q y g in
               never q p (sym (ap (λ (v : Client). v.held) z.1.1) ∙ h);
           ended = λ q y g.
-              let z = mapped_from freed (set d.clients r (held_client x o)) q y g in
+              let z = mapped_from freed (set d.clients r (client_held x o)) q y g in
               ap (λ (v : Client). v.ended) z.1.1 ∙ ended_now q z.0 z.1.0;
         } in
         let none : list_any (waits ranks after) (range_with_len 0 ranks) ≡ false =
-        sym (numbers_any ranks after (meets_if s d (set d.clients r (held_client x o)) true).owner now holds (waits ranks after)
-        (λ q y g. sym (waits_is ranks after (meets_if s d (set d.clients r (held_client x o)) true).owner now q y g)))
-        ∙ none_hold (set d.clients r (held_client x o)) in
-        let brought_puts : puts_brought ranks before (r, item.Offer c o) ≡ puts_met (offers_held (set d.clients r (held_client x o))) =
+        sym (numbers_any ranks after (meets_if s d (set d.clients r (client_held x o)) true).owner now holds (waits ranks after)
+        (λ q y g. sym (waits_is ranks after (meets_if s d (set d.clients r (client_held x o)) true).owner now q y g)))
+        ∙ none_hold (set d.clients r (client_held x o)) in
+        let brought_puts : puts_brought ranks before (r, item.Offer c o) ≡ puts_met (offers_held (set d.clients r (client_held x o))) =
         puts_are ∙ ap complete_by none ∙ sym (ap puts_met offers_are) in
         record { kept = now; reached = ap (λ (ps : Puts). max d.reached (needed_now s ps)) (sym brought_puts) }
       where
@@ -214,30 +209,30 @@ module _ (s : Setting) (ranks : ℕ) (before : List Arrival) (d : Owner) (kept :
         never : (q : ℕ) (p : Offer) → None ≡ Some p → last (meeting_offers q after) ≡ Some p
         never q p f = absurd cc
 
-        held_is : (q : ℕ) (y : Client) → slice_get (set d.clients r (held_client x o)) q ≡ Some y → y.held ≡ last (meeting_offers q after)
+        held_is : (q : ℕ) (y : Client) → slice_get (set d.clients r (client_held x o)) q ≡ Some y → y.held ≡ last (meeting_offers q after)
         held_is q y g = by y.held refl
           where
             by : (m : Option Offer) → y.held ≡ m → y.held ≡ last (meeting_offers q after)
-            by None f = absurd (empty (sym (ap (λ (m : Option Offer). is_some m) f) ∙ all_hold (set d.clients r (held_client x o)) q y e g))
+            by None f = absurd (empty (sym (ap (λ (m : Option Offer). is_some m) f) ∙ all_hold (set d.clients r (client_held x o)) q y e g))
               where
                 empty : false ≡ true → ⊥
                 empty w = cc
             by (Some p) f = f ∙ sym (held_now q y p g f)
 
-        offers_are : offers_held (set d.clients r (held_client x o)) ≡ filter_map (λ q. last (meeting_offers q after)) (range_with_len 0 ranks)
+        offers_are : offers_held (set d.clients r (client_held x o)) ≡ filter_map (λ q. last (meeting_offers q after)) (range_with_len 0 ranks)
         offers_are =
-            let long : length (set d.clients r (held_client x o)) ≡ ranks = length-set d.clients r (held_client x o) ∙ kept.long in
-            held_all (set d.clients r (held_client x o)) (λ q. last (meeting_offers q after)) 0
+            let long : length (set d.clients r (client_held x o)) ≡ ranks = length-set d.clients r (client_held x o) ∙ kept.long in
+            held_all (set d.clients r (client_held x o)) (λ q. last (meeting_offers q after)) 0
             (λ q y g. let z : q ≡ 0 + q = omega arith in held_is q y g ∙ ap (λ (j : ℕ). last (meeting_offers j after)) z)
             ∙ ap (λ (n : ℕ). filter_map (λ q. last (meeting_offers q after)) (range_with_len 0 n)) long
 
-    meeting_next : (t : Bool) → list_all holds (set d.clients r (held_client x o)) ≡ t → Next s ranks before d r (item.Offer c o) (meets_if s d (set d.clients r (held_client x o)) t)
+    meeting_next : (t : Bool) → list_all holds (set d.clients r (client_held x o)) ≡ t → Next s ranks before d r (item.Offer c o) (meets_if s d (set d.clients r (client_held x o)) t)
     meeting_next true e = meets_next e
     meeting_next false e = waits_next e
 
   offer_next : (c : ℕ) (o : Offer) (k : OfferKind) → o.kind ≡ k → x.held ≡ None → Next s ranks before d r (item.Offer c o) (at_offer s d r c o x k)
   offer_next c o offer.Solo e h = solo_next c o e
-  offer_next c o (offer.Meet kind) e h = meeting_next c o kind e h (list_all holds (set d.clients r (held_client x o))) refl
+  offer_next c o (offer.Meet kind) e h = meeting_next c o kind e h (list_all holds (set d.clients r (client_held x o))) refl
 
   item_next : (i : RankItem) → (is_offer i ≡ true → x.held ≡ None) → Next s ranks before d r i (at_item s d r x i)
   item_next (item.Ended m) h = end_next m

@@ -41,6 +41,7 @@ use Rattle.whole_run_laws.specs.Completed.{puts_asked, puts_at, puts_met}
 use Rattle.whole_run_laws.proofs.Courses.{AreAlong, AreOn, first_along, hears_then, marks_along, meets, offer_met, offers_met_long, Stepped, steps}
 use Rattle.join_laws.proofs.QuietLaws.{IsQuiet, quiet_step}
 use Rattle.join_laws.proofs.WholeLaws.{get_map as mapped_from}
+use Rattle.list_laws.proofs.Appends.{nil_cons}
 
 -- what rank r has answered when these marks are done
 abbrev pub answers_of : Option Going → List Answer
@@ -202,10 +203,7 @@ module _ (s : Setting) (ranks k j : ℕ) (ks : List MeetKind) (rest : List Mark)
 
       -- where no kind is left there is no rank, and no put
       by_first : (xs : List MeetKind) → ks ≡ xs → (meeting s offers c).0 ≡ c
-      by_first [] f = meeting_nothing s offers c p e (none_known offers (λ q o h. no_kind (offered q o h).kind _ (sym f ∙ (offered q o h).kinds)))
-        where
-          no_kind : {A : Type 0} (kind : MeetKind) (others : List MeetKind) → [] ≡ kind ∷ others → A
-          no_kind kind others g = absurd cc
+      by_first [] f = meeting_nothing s offers c p e (none_known offers (λ q o h. nil_cons (offered q o h).kind _ (sym f ∙ (offered q o h).kinds)))
       by_first (kind ∷ others) f = by_kind kind others f (raises (offer.Meet kind)) refl
 
 -- the pair of the answer to a reply

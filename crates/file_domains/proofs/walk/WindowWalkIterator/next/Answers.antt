@@ -4,8 +4,9 @@ use Rattle.serial_spec.proofs.MemberLaws.{at_in}
 use Rattle.overlay_laws.proofs.Members.{entry_in}
 use Rattle.file_domains.specs.Rounds.{IsWalk, windows_left}
 use Rattle.file_domains.proofs.CoverParts.{get_is, long_enough}
-use Rattle.file_domains.proofs.WalkSteps.{next_window_at, empty_left, none_left_at, goes_on, first_ends, stops_past}
+use Rattle.file_domains.proofs.WalkSteps.{next_window_at, empty_left, none_left_at, first_ends, stops_past}
 use Rattle.file_domains.proofs.walk.WindowWalkIterator.next.Goals as goal
+use Rattle.list_laws.proofs.Walks.{goes_on}
 
 pub returns-then-at-self-clause-steps : goal.returns-then-at-self-clause-steps
 returns-then-at-self-clause-steps c =

@@ -1,13 +1,14 @@
 use Rattle.std.proofs.Common.{◌∙◌, sym, subst, Option, Some}
 use Rattle.attached_buffer.specs.Buffer.{Account}
 use Rattle.request_queue.specs.Kept.{Accounts}
-use Rattle.request_queue.proofs.AccountLaws.{accounts-new, detached}
+use Rattle.request_queue.proofs.AccountLaws.{accounts-new}
 use Rattle.request_queue.proofs.queue.Queue.attach.Goals as goal
+use Rattle.list_laws.proofs.Optional.{not_some}
 
 pub invariant_of-self : goal.invariant_of-self
 invariant_of-self c =
     let a = c.self.inside in
-    let none = detached a.room (sym c.is_some.ensures ∙ c.if-is_some.false) in
+    let none = not_some a.room (sym c.is_some.ensures ∙ c.if-is_some.false) in
     let room = accounts-new a.waiting c.args.size (subst (λ (o : Option Account). Accounts o a.waiting) none c.self.invariant.room) c.in-Ok.ensures.right in
     record {
       nulls = c.self.invariant.nulls;
