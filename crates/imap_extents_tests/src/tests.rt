@@ -1,5 +1,7 @@
 // Memory and bytes side by side. Two rows of three, which memory has column by column: the map 1, 2.
-ghost use Rattle.std.specs.Prelude.{◌≡◌, ◌≤◌, ◌∷◌, []};
+ghost use Rattle.std.specs.Prelude.{◌≡◌, ◌*◌, ◌≤◌, ◌∷◌, [], length};
+ghost use Rattle.serial_spec.specs.ExternalForm as external;
+ghost use Rattle.serial_spec.specs.Layout.{product};
 ghost use Rattle.serial_spec.specs.Limits.{most_elements};
 ghost use Rattle.imap_extents.specs.Mapped.{IsMapped};
 
@@ -19,7 +21,7 @@ const REFUSED: &str = "refused";
 fn sizes(rt: &impl Abort, alloc: Global, sizes: &[u64]) -> SizeList
     ensures { result ≡ sizes.now }
 {
-    SizeList::from_vec(Vec::from_slice(alloc, sizes).expect(rt, NO_MEMORY))
+    SizeList::from_slice(alloc, sizes).expect(rt, NO_MEMORY)
 }
 
 /// Two rows of three; memory has them column by column where it is not packed.
@@ -64,107 +66,6 @@ fn none(rt: &impl Abort, alloc: Global) -> Region
     }
 }
 
-fn numbers(rt: &impl Abort, alloc: Global, numbers: &[i128]) -> Values {
-    Values::Numbers(NumberList::from_vec(Vec::from_slice(alloc, numbers).expect(rt, NO_MEMORY)))
-}
-
-fn bits(rt: &impl Abort, alloc: Global, patterns: &[u64]) -> Values {
-    Values::Bits(BitList::from_vec(Vec::from_slice(alloc, patterns).expect(rt, NO_MEMORY)))
-}
-
-fn text(rt: &impl Abort, alloc: Global, bytes: &[u8]) -> Values {
-    Values::Text(Blob::from_vec(Vec::from_slice(alloc, bytes).expect(rt, NO_MEMORY)))
-}
-
-#[test]
-fn columns_become_rows(rt: HostRuntime) {
-    let alloc = rt.alloc();
-    let values = numbers(&rt, alloc, &[1, 2, 3, 4, 5, 6]);
-    let bytes = pack(alloc, NcType::Byte, &rows(&rt, alloc, false), &values).expect(&rt, REFUSED);
-    assert!(rt; bytes.as_slice() == [1u8, 3, 5, 2, 4, 6].as_slice());
-    let plain = pack(alloc, NcType::Byte, &rows(&rt, alloc, true), &values).expect(&rt, REFUSED);
-    assert!(rt; plain.as_slice() == [1u8, 2, 3, 4, 5, 6].as_slice());
-}
-
-#[test]
-fn rows_become_columns(rt: HostRuntime) {
-    let alloc = rt.alloc();
-    let values = unpack(
-        alloc,
-        NcType::Byte,
-        &rows(&rt, alloc, false),
-        &[1, 3, 5, 2, 4, 6],
-    )
-    .expect(&rt, REFUSED);
-    assert!(rt; values == numbers(&rt, alloc, &[1, 2, 3, 4, 5, 6]));
-}
-
-#[test]
-fn later_element_stands(rt: HostRuntime) {
-    let alloc = rt.alloc();
-    let region = together(&rt, alloc);
-    let floats = unpack(
-        alloc,
-        NcType::Float,
-        &region,
-        &[0, 0, 0, 1, 0x3f, 0x80, 0, 0],
-    )
-    .expect(&rt, REFUSED);
-    assert!(rt; floats == bits(&rt, alloc, &[0x3f80_0000]));
-    let letters = unpack(alloc, NcType::Char, &region, b"ab").expect(&rt, REFUSED);
-    assert!(rt; letters == text(&rt, alloc, b"b"));
-    let empty = unpack(alloc, NcType::Short, &none(&rt, alloc), &[]).expect(&rt, REFUSED);
-    assert!(rt; empty == numbers(&rt, alloc, &[]));
-}
-
-/// The refusal of a put of one or two elements.
-fn refusal(
-    rt: &impl Abort,
-    alloc: Global,
-    kind: NcType,
-    two: bool,
-    values: Values,
-) -> Option<CallErr> {
-    let count = if two { 2 } else { 1 };
-    pack(alloc, kind, &packed(rt, alloc, count), &values).err()
-}
-
-#[test]
-fn causes_of_refusals(rt: HostRuntime) {
-    let alloc = rt.alloc();
-    for (kind, two, values, code) in [
-        (
-            NcType::Short,
-            false,
-            numbers(&rt, alloc, &[40000]),
-            Code::ERange,
-        ),
-        (NcType::Short, false, text(&rt, alloc, b"a"), Code::EChar),
-        (NcType::Char, true, numbers(&rt, alloc, &[]), Code::EChar),
-        (
-            NcType::Float,
-            false,
-            numbers(&rt, alloc, &[1]),
-            Code::EBadType,
-        ),
-        (
-            NcType::Short,
-            true,
-            numbers(&rt, alloc, &[1]),
-            Code::EMapSize,
-        ),
-        (
-            NcType::Short,
-            true,
-            numbers(&rt, alloc, &[40000]),
-            Code::EMapSize,
-        ),
-    ] {
-        let refused = refusal(&rt, alloc, kind, two, values);
-        assert!(rt; refused == Some(CallErr::Code(code)));
-    }
-}
-
 /// So many elements one after another, in packed memory.
 fn packed(rt: &impl Abort, alloc: Global, count: u64) -> Region
     requires { count ≤ most_elements }
@@ -177,6 +78,145 @@ fn packed(rt: &impl Abort, alloc: Global, count: u64) -> Region
         imap: SizeList::new(alloc),
         packed: true,
     }
+}
+
+fn numbers(rt: &impl Abort, alloc: Global, numbers: &[i128]) -> Values {
+    Values::Numbers(NumberList::from_vec(Vec::from_slice(alloc, numbers).expect(rt, NO_MEMORY)))
+}
+
+fn bits(rt: &impl Abort, alloc: Global, patterns: &[u64]) -> Values {
+    Values::Bits(BitList::from_vec(Vec::from_slice(alloc, patterns).expect(rt, NO_MEMORY)))
+}
+
+fn text(rt: &impl Abort, alloc: Global, bytes: &[u8]) -> Values {
+    Values::Text(Blob::from_slice(alloc, bytes).expect(rt, NO_MEMORY))
+}
+
+/// A put has these bytes.
+fn is_packed(
+    rt: &impl Abort,
+    alloc: Global,
+    kind: NcType,
+    region: Region,
+    values: Values,
+    form: &[u8],
+)
+    requires { IsMapped region }
+{
+    let bytes = pack(alloc, kind, &region, &values).expect(rt, REFUSED);
+    assert!(rt; bytes.as_slice() == form);
+}
+
+/// A get of these bytes brings these values.
+fn is_unpacked(
+    rt: &impl Abort,
+    alloc: Global,
+    kind: NcType,
+    region: Region,
+    bytes: &[u8],
+    values: Values,
+)
+    requires mapped { IsMapped region }
+    requires long { length bytes.now ≡ product region.count * external.size_of kind }
+{
+    let found = unpack(alloc, kind, &region, bytes).expect(rt, REFUSED);
+    assert!(rt; found == values);
+}
+
+/// A put of so many elements is refused for this cause.
+fn is_refused(rt: &impl Abort, alloc: Global, kind: NcType, count: u64, values: Values, code: Code)
+    requires { count ≤ most_elements }
+{
+    let refused = pack(alloc, kind, &packed(rt, alloc, count), &values).err();
+    assert!(rt; refused == Some(CallErr::Code(code)));
+}
+
+#[test]
+fn columns_become_rows(rt: HostRuntime) {
+    let alloc = rt.alloc();
+    let values = numbers(&rt, alloc, &[1, 2, 3, 4, 5, 6]);
+    let columns = rows(&rt, alloc, false);
+    is_packed(
+        &rt,
+        alloc,
+        NcType::Byte,
+        columns,
+        values,
+        &[1, 3, 5, 2, 4, 6],
+    );
+    let values = numbers(&rt, alloc, &[1, 2, 3, 4, 5, 6]);
+    let plain = rows(&rt, alloc, true);
+    is_packed(&rt, alloc, NcType::Byte, plain, values, &[1, 2, 3, 4, 5, 6]);
+}
+
+#[test]
+fn rows_become_columns(rt: HostRuntime) {
+    let alloc = rt.alloc();
+    let values = numbers(&rt, alloc, &[1, 2, 3, 4, 5, 6]);
+    let columns = rows(&rt, alloc, false);
+    is_unpacked(
+        &rt,
+        alloc,
+        NcType::Byte,
+        columns,
+        &[1, 3, 5, 2, 4, 6],
+        values,
+    );
+}
+
+// Each kind of value; and no element.
+#[test]
+fn later_element_stands(rt: HostRuntime) {
+    let alloc = rt.alloc();
+    let region = together(&rt, alloc);
+    let one = bits(&rt, alloc, &[0x3f80_0000]);
+    let bytes = [0, 0, 0, 1, 0x3f, 0x80, 0, 0];
+    is_unpacked(&rt, alloc, NcType::Float, region, &bytes, one);
+    let region = together(&rt, alloc);
+    is_unpacked(
+        &rt,
+        alloc,
+        NcType::Char,
+        region,
+        b"ab",
+        text(&rt, alloc, b"b"),
+    );
+    let region = none(&rt, alloc);
+    is_unpacked(
+        &rt,
+        alloc,
+        NcType::Short,
+        region,
+        &[],
+        numbers(&rt, alloc, &[]),
+    );
+}
+
+#[test]
+fn causes_of_refusals(rt: HostRuntime) {
+    let alloc = rt.alloc();
+    let far = numbers(&rt, alloc, &[40000]);
+    is_refused(&rt, alloc, NcType::Short, 1, far, Code::ERange);
+    is_refused(
+        &rt,
+        alloc,
+        NcType::Short,
+        1,
+        text(&rt, alloc, b"a"),
+        Code::EChar,
+    );
+    is_refused(
+        &rt,
+        alloc,
+        NcType::Char,
+        2,
+        numbers(&rt, alloc, &[]),
+        Code::EChar,
+    );
+    let one = numbers(&rt, alloc, &[1]);
+    is_refused(&rt, alloc, NcType::Float, 1, one, Code::EBadType);
+    let far = numbers(&rt, alloc, &[40000]);
+    is_refused(&rt, alloc, NcType::Short, 2, far, Code::EMapSize);
 }
 
 /// The numbers -2 and 1 as one run, and then 300, 299 and 298 as another.
@@ -197,65 +237,90 @@ fn two_runs(rt: &impl Abort, alloc: Global) -> Values {
     Values::Numbers(list)
 }
 
+/// The patterns of 1 and 2 as one run.
+fn run_of_bits(rt: &impl Abort, alloc: Global) -> Values {
+    let mut list = BitList::new(alloc);
+    list.push_run(BitRun {
+        first: 0x3f80_0000,
+        step: 0x0080_0000,
+        count: 2,
+    })
+    .expect(rt, NO_MEMORY);
+    Values::Bits(list)
+}
+
 // Four of the five numbers, so that a run is cut; a byte has no 300.
 #[test]
 fn runs_are_packed(rt: HostRuntime) {
     let alloc = rt.alloc();
-    let values = two_runs(&rt, alloc);
-    let bytes = pack(alloc, NcType::Short, &packed(&rt, alloc, 4), &values).expect(&rt, REFUSED);
-    assert!(rt; bytes.as_slice() == [0xff, 0xfe, 0, 1, 1, 0x2c, 1, 0x2b].as_slice());
-    let bytes = pack(alloc, NcType::Byte, &packed(&rt, alloc, 2), &values).expect(&rt, REFUSED);
-    assert!(rt; bytes.as_slice() == [0xfe, 1].as_slice());
-    let refused = pack(alloc, NcType::Byte, &packed(&rt, alloc, 3), &values).err();
-    assert!(rt; refused == Some(CallErr::Code(Code::ERange)));
-    let mut floats = BitList::new(alloc);
-    floats
-        .push_run(BitRun {
-            first: 0x3f80_0000,
-            step: 0x0080_0000,
-            count: 2,
-        })
-        .expect(&rt, NO_MEMORY);
-    let bytes = pack(
+    let four = [0xff, 0xfe, 0, 1, 1, 0x2c, 1, 0x2b];
+    is_packed(
+        &rt,
+        alloc,
+        NcType::Short,
+        packed(&rt, alloc, 4),
+        two_runs(&rt, alloc),
+        &four,
+    );
+    is_packed(
+        &rt,
+        alloc,
+        NcType::Byte,
+        packed(&rt, alloc, 2),
+        two_runs(&rt, alloc),
+        &[0xfe, 1],
+    );
+    is_refused(
+        &rt,
+        alloc,
+        NcType::Byte,
+        3,
+        two_runs(&rt, alloc),
+        Code::ERange,
+    );
+    let floats = [0x3f, 0x80, 0, 0, 0x40, 0, 0, 0];
+    is_packed(
+        &rt,
         alloc,
         NcType::Float,
-        &packed(&rt, alloc, 2),
-        &Values::Bits(floats),
-    )
-    .expect(&rt, REFUSED);
-    assert!(rt; bytes.as_slice() == [0x3f, 0x80, 0, 0, 0x40, 0, 0, 0].as_slice());
+        packed(&rt, alloc, 2),
+        run_of_bits(&rt, alloc),
+        &floats,
+    );
 }
 
-// The least and the greatest number of a type of each width.
+// The least and the greatest number of types of other widths.
 #[test]
 fn words_of_each_width(rt: HostRuntime) {
     let alloc = rt.alloc();
-    for (kind, values, form) in [
-        (
-            NcType::Int,
-            numbers(&rt, alloc, &[-2147483648]),
-            [0x80, 0, 0, 0].as_slice(),
-        ),
-        (
-            NcType::Int64,
-            numbers(&rt, alloc, &[9223372036854775807]),
-            [0x7f, 0xff, 0xff, 0xff, 0xff, 0xff, 0xff, 0xff].as_slice(),
-        ),
-        (
-            NcType::UInt64,
-            numbers(&rt, alloc, &[18446744073709551615]),
-            [0xff, 0xff, 0xff, 0xff, 0xff, 0xff, 0xff, 0xff].as_slice(),
-        ),
-        (
-            NcType::Double,
-            bits(&rt, alloc, &[0x3ff0_0000_0000_0000]),
-            [0x3f, 0xf0, 0, 0, 0, 0, 0, 0].as_slice(),
-        ),
-    ] {
-        let region = packed(&rt, alloc, 1);
-        let bytes = pack(alloc, kind, &region, &values).expect(&rt, REFUSED);
-        assert!(rt; bytes.as_slice() == form);
-    }
+    let least = numbers(&rt, alloc, &[-2147483648]);
+    is_packed(
+        &rt,
+        alloc,
+        NcType::Int,
+        packed(&rt, alloc, 1),
+        least,
+        &[0x80, 0, 0, 0],
+    );
+    let greatest = numbers(&rt, alloc, &[18446744073709551615]);
+    is_packed(
+        &rt,
+        alloc,
+        NcType::UInt64,
+        packed(&rt, alloc, 1),
+        greatest,
+        &[0xff; 8],
+    );
+    let one = bits(&rt, alloc, &[0x3ff0_0000_0000_0000]);
+    let form = [0x3f, 0xf0, 0, 0, 0, 0, 0, 0];
+    is_packed(
+        &rt,
+        alloc,
+        NcType::Double,
+        packed(&rt, alloc, 1),
+        one,
+        &form,
+    );
 }
 
 // 2^24 numbers of one step are one run; the last of the 2^20 that a request may have is 1048575.
@@ -269,13 +334,8 @@ fn a_long_sequence_is_packed(rt: HostRuntime) {
         count: 16_777_216,
     })
     .expect(&rt, NO_MEMORY);
-    let bytes = pack(
-        alloc,
-        NcType::Int,
-        &packed(&rt, alloc, 1_048_576),
-        &Values::Numbers(list),
-    )
-    .expect(&rt, REFUSED);
+    let region = packed(&rt, alloc, 1_048_576);
+    let bytes = pack(alloc, NcType::Int, &region, &Values::Numbers(list)).expect(&rt, REFUSED);
     assert!(rt; bytes.len() == 4_194_304);
     assert!(rt; bytes.as_slice().ends_with(&[0, 0x0f, 0xff, 0xff]));
 }

@@ -5,7 +5,7 @@ mod limits;
 mod values;
 mod whole;
 
-use nc_base::{Call, IdList, Name, Script, ScriptKind};
+use nc_base::{Call, Script, ScriptKind};
 use ncmpi_script::read_script;
 use std::alloc::Global;
 use std::process::Abort;
@@ -21,21 +21,28 @@ fn fault(alloc: Global, text: &[u8]) -> Option<(u32, ScriptKind)> {
     }
 }
 
+// The fault of a text is this one, or it has none.
+fn found<R: Abort>(
+    rt: &R,
+    alloc: Global,
+    text: &[u8],
+    wanted: Option<(u32, ScriptKind)>,
+    label: &str,
+) {
+    assert_eq!(rt; fault(alloc, text), wanted, "{label}");
+}
+
 // Each text is refused on that line, for that cause.
 fn refused<R: Abort>(rt: &R, alloc: Global, table: &[(&str, u32, ScriptKind)]) {
     for (text, line, kind) in table {
-        assert_eq!(rt;
-            fault(alloc, text.as_bytes()),
-            Some((*line, *kind)),
-            "{text}"
-        );
+        found(rt, alloc, text.as_bytes(), Some((*line, *kind)), text);
     }
 }
 
 // Each text is read.
 fn read<R: Abort>(rt: &R, alloc: Global, table: &[&str]) {
     for text in table {
-        assert_eq!(rt; fault(alloc, text.as_bytes()), None, "{text}");
+        found(rt, alloc, text.as_bytes(), None, text);
     }
 }
 
@@ -59,20 +66,8 @@ fn line_refused<R: Abort>(
 ) {
     for (line, kind) in table {
         let text = of_lines(rt, alloc, before, line, "\n");
-        assert_eq!(rt;
-            fault(alloc, text.as_slice()),
-            Some((number, *kind)),
-            "{line}"
-        );
+        found(rt, alloc, text.as_slice(), Some((number, *kind)), line);
     }
-}
-
-fn name(rt: &impl Abort, alloc: Global, text: &str) -> Name {
-    Name::from_vec(Vec::from_slice(alloc, text.as_bytes()).expect(rt, NO_MEMORY))
-}
-
-fn ids(rt: &impl Abort, alloc: Global, list: &[u32]) -> IdList {
-    IdList::from_vec(Vec::from_slice(alloc, list).expect(rt, NO_MEMORY))
 }
 
 // The calls of a rank.

@@ -104,6 +104,45 @@ data
 end
 ";
 
+// Definitions in an order that is not the canonical one.
+const MIXED: &[u8] = b"create 2
+fill
+dim t unlimited
+dim x 4
+var short s [t,x]
+att s m byte 1 2
+ranks 2
+att : h char \"i\"
+var double d []
+att s k float
+data
+end
+";
+
+const SORTED: &[u8] = b"create 2
+ranks 2
+hint cb_nodes 8
+hint cb_buffer_size 16777216
+hint ind_rd_buffer_size 4194304
+hint ind_wr_buffer_size 524288
+hint line_room 2
+hint threads on
+hint overlap refuse
+hint nc_header_align_size 4
+hint nc_var_align_size 4
+hint striping_unit 1
+fill
+dim t unlimited
+dim x 4
+var short s [t,x]
+var double d []
+att : h char \"i\"
+att s m byte 1 2
+att s k float
+data
+end
+";
+
 fn becomes(alloc: Global, text: &[u8], want: &[u8]) -> bool {
     match canonical_text(alloc, text) {
         Ok(out) => out.as_slice() == want,
@@ -125,6 +164,11 @@ fn additions_are_read_and_printed(rt: HostRuntime) {
 fn a_loose_text_becomes_tight(rt: HostRuntime) {
     assert!(rt; becomes(rt.alloc(), LOOSE, TIGHT));
     assert!(rt; becomes(rt.alloc(), TIGHT, TIGHT));
+}
+
+#[test]
+fn mixed_definitions_are_sorted(rt: HostRuntime) {
+    assert!(rt; becomes(rt.alloc(), MIXED, SORTED));
 }
 
 #[test]

@@ -7,18 +7,17 @@ mod refused;
 mod together;
 
 use cdf_header::decode;
-use nc_base::{Blob, IdList, MarkList, RunEnd};
-use nc_outside::{FailList, MemDisk, MemSink, MemSource, OpenGate};
-use ncmpi_cli::{ncrun, offsets_text, run_text};
+use nc_base::{Blob, MarkList, RunEnd};
+use nc_outside::OpenGate;
 use ncmpi_script::read_script;
+use printed_text::{offsets_text, run_text};
+use run_fixtures::{Ended, NO_MEMORY, PLAIN, Run, ended};
 use serial_eval::legal;
 use serial_run::{SerialEnd, serial_run};
 use std::alloc::Global;
 use std::process::Abort;
 use std::sync::Wait;
 use std::thread::Threads;
-
-const NO_MEMORY: &str = "memory";
 
 // A run, and what was worked out of it.
 #[derive(Clone, Copy)]
@@ -32,48 +31,22 @@ struct Row {
     told: &'static [u8],
 }
 
-// What a run left, and what it printed.
+// What the serial run left, and what it printed.
 #[derive(Drop)]
 struct Left {
     bytes: Blob,
     text: Blob,
 }
 
-fn joined<R: Abort>(rt: &R, alloc: Global, parts: &[&[u8]]) -> Blob {
-    let mut bytes = Vec::new(alloc);
-    for part in parts {
-        bytes.extend_from_slice(part).expect(rt, NO_MEMORY);
-    }
-    Blob::from_vec(bytes)
+fn joined(rt: &impl Abort, alloc: Global, parts: &[&[u8]]) -> Blob {
+    run_fixtures::joined(alloc, parts).expect(rt, NO_MEMORY)
 }
 
-// The program's run by these words, over a dataset that holds these parts before, and the order of its steps.
-fn program<R: Abort + Threads + Wait + Sync>(
-    rt: &R,
-    alloc: Global,
-    words: &[&str],
-    script: &[u8],
-    held: &[&[u8]],
-) -> (Left, MarkList) {
-    let mut source = MemSource::new(joined(rt, alloc, &[script]), IdList::new(alloc));
-    let held = joined(rt, alloc, held);
-    let mut disk = MemDisk::failing(alloc, held, FailList::new(alloc)).expect(rt, NO_MEMORY);
-    let mut sink = MemSink::new(alloc, 4096, IdList::new(alloc)).expect(rt, NO_MEMORY);
-    let ended = ncrun(
-        rt,
-        alloc,
-        words,
-        &mut source,
-        &mut disk,
-        &mut sink,
-        &OpenGate,
-    );
-    assert_eq!(rt; ended.status, 0);
-    let left = Left {
-        bytes: disk.bytes(alloc).expect(rt, NO_MEMORY),
-        text: joined(rt, alloc, &[sink.bytes()]),
-    };
-    (left, ended.order)
+// What the program leaves.
+fn program<R: Abort + Threads + Wait + Sync>(rt: &R, alloc: Global, run: &Run<'_>) -> Ended {
+    let end = ended(rt, alloc, run, &OpenGate).expect(rt, NO_MEMORY);
+    assert_eq!(rt; end.status, 0);
+    end
 }
 
 // The serial run along the order, whose text ends with the lines of the ranks.
@@ -114,12 +87,21 @@ fn serial<R: Abort>(rt: &R, alloc: Global, row: &Row, order: MarkList) -> Left {
 }
 
 fn agrees<R: Abort + Threads + Wait + Sync>(rt: &R, alloc: Global, row: &Row) {
-    let words = ["d.nc"];
-    let (run, order) = program(rt, alloc, words.as_slice(), row.script, row.begun);
+    let run = Run {
+        script: &[row.script],
+        held: row.begun,
+        ..PLAIN
+    };
+    let Ended {
+        held,
+        given,
+        order,
+        ..
+    } = program(rt, alloc, &run);
     let again = serial(rt, alloc, row, order);
-    assert_eq!(rt; run.bytes, joined(rt, alloc, row.left));
-    assert_eq!(rt; again.bytes, run.bytes);
-    assert!(rt; run.text.as_slice().starts_with(again.text.as_slice()));
+    assert_eq!(rt; held, joined(rt, alloc, row.left));
+    assert_eq!(rt; again.bytes, held);
+    assert!(rt; given.as_slice().starts_with(again.text.as_slice()));
     assert!(rt; again.text.as_slice().ends_with(row.told));
 }
 

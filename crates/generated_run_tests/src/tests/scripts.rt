@@ -5,7 +5,6 @@ use generated_run::make_script;
 use nc_base::{Call, Given, PostKind, Script, SizeList, Values};
 use std::alloc::Global;
 use std::process::Abort;
-use std::test::Fail;
 
 /// The call of this number of a rank.
 fn call_of<'a>(rt: &impl Abort, script: &'a Script, rank: usize, number: usize) -> &'a Call {
@@ -14,7 +13,7 @@ fn call_of<'a>(rt: &impl Abort, script: &'a Script, rank: usize, number: usize) 
 }
 
 /// The id, region and values of a call that posts a put by way of the buffer.
-fn posted(call: &Call) -> Result<(u32, &Given, &Values), Fail> {
+fn posted<'a>(rt: &impl Abort, call: &'a Call) -> (u32, &'a Given, &'a Values) {
     match call {
         Call::Post {
             id,
@@ -22,13 +21,13 @@ fn posted(call: &Call) -> Result<(u32, &Given, &Values), Fail> {
             given,
             values,
             ..
-        } => Ok((*id, given, values)),
-        _ => Err(Fail::from("a post")),
+        } => (*id, given, values),
+        _ => panic!(rt; "a post"),
     }
 }
 
 fn region(rt: &impl Abort, alloc: Global, sizes: [u64; 3]) -> SizeList {
-    SizeList::from_vec(Vec::from_slice(alloc, sizes.as_slice()).expect(rt, NO_MEMORY))
+    SizeList::from_slice(alloc, sizes.as_slice()).expect(rt, NO_MEMORY)
 }
 
 #[test]
@@ -42,71 +41,67 @@ fn each_of_eight_ranks_has_seven_calls(rt: HostRuntime) {
 }
 
 #[test]
-fn the_last_rank_puts_the_last_rows(rt: HostRuntime) -> Result<(), Fail> {
+fn the_last_rank_puts_the_last_rows(rt: HostRuntime) {
     let alloc = rt.alloc();
-    let script = make_script(alloc, 0, 1)?;
-    let (id, given, values) = posted(call_of(&rt, &script, 7, 1))?;
+    let script = make_script(alloc, 0, 1).expect(&rt, NO_MEMORY);
+    let (id, given, values) = posted(&rt, call_of(&rt, &script, 7, 1));
     assert_eq!(rt; id, 0);
     assert_eq!(rt; given.start, region(&rt, alloc, [0, 157, 0]));
     assert_eq!(rt; given.count, region(&rt, alloc, [1, 23, 360]));
     let Values::Bits(bits) = values else {
-        return Err(Fail::from("bits"));
+        panic!(rt; "bits")
     };
     assert_eq!(rt; bits.len(), 8280);
     assert_eq!(rt; bits.get(0), Some(0x3F80_0000 + 56520));
     assert_eq!(rt; bits.get(8279), Some(0x3F80_0000 + 64799));
-    Ok(())
 }
 
 #[test]
-fn the_second_record_has_the_next_ids(rt: HostRuntime) -> Result<(), Fail> {
+fn the_second_record_has_the_next_ids(rt: HostRuntime) {
     let alloc = rt.alloc();
-    let script = make_script(alloc, 5, 2)?;
-    let (id, given, values) = posted(call_of(&rt, &script, 0, 5))?;
+    let script = make_script(alloc, 5, 2).expect(&rt, NO_MEMORY);
+    let (id, given, values) = posted(&rt, call_of(&rt, &script, 0, 5));
     assert_eq!(rt; id, 3);
     assert_eq!(rt; given.start, region(&rt, alloc, [1, 0, 0]));
     assert_eq!(rt; given.count, region(&rt, alloc, [1, 22, 360]));
     let Values::Numbers(numbers) = values else {
-        return Err(Fail::from("numbers"));
+        panic!(rt; "numbers")
     };
     assert_eq!(rt; numbers.get(0), Some(106 - 10000));
-    Ok(())
 }
 
 #[test]
-fn values_begin_again_behind_the_greatest(rt: HostRuntime) -> Result<(), Fail> {
+fn values_begin_again_behind_the_greatest(rt: HostRuntime) {
     let alloc = rt.alloc();
-    let script = make_script(alloc, 8_388_600, 1)?;
-    let (_, _, values) = posted(call_of(&rt, &script, 0, 1))?;
+    let script = make_script(alloc, 8_388_600, 1).expect(&rt, NO_MEMORY);
+    let (_, _, values) = posted(&rt, call_of(&rt, &script, 0, 1));
     let Values::Bits(bits) = values else {
-        return Err(Fail::from("bits"));
+        panic!(rt; "bits")
     };
     assert_eq!(rt;
         (bits.get(7), bits.get(8)),
         (Some(0x3FFF_FFFF), Some(0x3F80_0000))
     );
-    let script = make_script(alloc, 19_999, 1)?;
-    let (_, _, values) = posted(call_of(&rt, &script, 0, 2))?;
+    let script = make_script(alloc, 19_999, 1).expect(&rt, NO_MEMORY);
+    let (_, _, values) = posted(&rt, call_of(&rt, &script, 0, 2));
     let Values::Numbers(numbers) = values else {
-        return Err(Fail::from("numbers"));
+        panic!(rt; "numbers")
     };
     assert_eq!(rt;
         (numbers.get(1), numbers.get(2)),
         (Some(10_000), Some(-10_000))
     );
-    Ok(())
 }
 
 #[test]
-fn a_rank_gets_its_column_of_each_record(rt: HostRuntime) -> Result<(), Fail> {
+fn a_rank_gets_its_column_of_each_record(rt: HostRuntime) {
     let alloc = rt.alloc();
-    let script = make_script(alloc, 0, 2)?;
+    let script = make_script(alloc, 0, 2).expect(&rt, NO_MEMORY);
     let Call::Get { all, var, given } = call_of(&rt, &script, 7, 8) else {
-        return Err(Fail::from("a get"));
+        panic!(rt; "a get")
     };
     assert!(rt; *all);
     assert_eq!(rt; var.as_slice(), b"precip".as_slice());
     assert_eq!(rt; given.start, region(&rt, alloc, [0, 0, 315]));
     assert_eq!(rt; given.count, region(&rt, alloc, [2, 180, 1]));
-    Ok(())
 }

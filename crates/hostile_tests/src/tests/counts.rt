@@ -1,7 +1,7 @@
 // Headers with the greatest numbers. Nothing is allocated by a number before what it counts is read, so the answer comes at once.
 use crate::tests::files::{WHOLE_1, WHOLE_2, WHOLE_5};
 use crate::tests::{Change, all_refused, changed, is_listed, is_refused};
-use std::test::*;
+use run_fixtures::NO_MEMORY;
 
 const MOST: &[u8] = b"\x7f\xff\xff\xff";
 
@@ -48,10 +48,10 @@ const MOST_5: [Change; 15] = [
 ];
 
 #[test]
-fn the_greatest_counts_are_refused(rt: HostRuntime) -> Result<(), Fail> {
-    all_refused(&rt, rt.alloc(), WHOLE_1, &MOST_1)?;
-    all_refused(&rt, rt.alloc(), WHOLE_2, &MOST_1)?;
-    all_refused(&rt, rt.alloc(), WHOLE_2, &MOST_2)?;
+fn the_greatest_counts_are_refused(rt: HostRuntime) {
+    all_refused(&rt, rt.alloc(), WHOLE_1, &MOST_1);
+    all_refused(&rt, rt.alloc(), WHOLE_2, &MOST_1);
+    all_refused(&rt, rt.alloc(), WHOLE_2, &MOST_2);
     all_refused(&rt, rt.alloc(), WHOLE_5, &MOST_5)
 }
 
@@ -76,11 +76,10 @@ const BARE: [(&[u8], &str); 7] = [
 ];
 
 #[test]
-fn a_header_that_ends_behind_a_count_is_refused(rt: HostRuntime) -> Result<(), Fail> {
+fn a_header_that_ends_behind_a_count_is_refused(rt: HostRuntime) {
     for (held, fault) in &BARE {
-        is_refused(&rt, rt.alloc(), held, fault)?;
+        is_refused(&rt, rt.alloc(), held, fault);
     }
-    Ok(())
 }
 
 const LONG_1: &[u8] = b"\
@@ -113,10 +112,9 @@ const TAKEN: [(&[u8], usize, &[u8], &[u8]); 5] = [
 ];
 
 #[test]
-fn the_greatest_numbers_that_count_nothing_are_taken(rt: HostRuntime) -> Result<(), Fail> {
+fn the_greatest_numbers_that_count_nothing_are_taken(rt: HostRuntime) {
     for (header, at, bytes, given) in &TAKEN {
-        let held = changed(rt.alloc(), header, *at, bytes)?;
-        is_listed(&rt, rt.alloc(), held.as_slice(), given)?;
+        let held = changed(rt.alloc(), header, *at, bytes).expect(&rt, NO_MEMORY);
+        is_listed(&rt, rt.alloc(), held.as_slice(), given);
     }
-    Ok(())
 }

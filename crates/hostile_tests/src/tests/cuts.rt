@@ -1,10 +1,10 @@
 // Each prefix of a header.
 use crate::tests::files::{WHOLE_1, WHOLE_2, WHOLE_5};
 use crate::tests::is_refused;
+use run_fixtures::NO_MEMORY;
 use std::alloc::Global;
 use std::process::Abort;
 use std::sync::Wait;
-use std::test::*;
 use std::thread::Threads;
 
 // Where the fields begin, and where the header ends. A name and the values of an attribute are one field with their padding.
@@ -32,13 +32,12 @@ fn is_cut<R: Abort + Threads + Wait + Sync>(
     header: &[u8],
     from: usize,
     to: usize,
-) -> Result<(), Fail> {
-    let fault = format!(in alloc; "truncated at byte {from}")?;
+) {
+    let fault = format!(in alloc; "truncated at byte {from}").expect(rt, NO_MEMORY);
     for len in from..to {
-        let held = header.get(..len).ok_or("a prefix")?;
-        is_refused(rt, alloc, held, fault.as_str())?;
+        let held = header.get(..len).expect(rt, "a prefix");
+        is_refused(rt, alloc, held, fault.as_str());
     }
-    Ok(())
 }
 
 fn is_cut_anywhere<R: Abort + Threads + Wait + Sync>(
@@ -46,17 +45,16 @@ fn is_cut_anywhere<R: Abort + Threads + Wait + Sync>(
     alloc: Global,
     header: &[u8],
     fields: &[usize],
-) -> Result<(), Fail> {
+) {
     assert_eq!(rt; fields.last(), Some(&header.len()));
     for (from, to) in fields.iter().zip(fields.iter().skip(1)) {
-        is_cut(rt, alloc, header, *from, *to)?;
+        is_cut(rt, alloc, header, *from, *to);
     }
-    Ok(())
 }
 
 #[test]
-fn each_prefix_is_told_by_the_field_that_is_cut(rt: HostRuntime) -> Result<(), Fail> {
-    is_cut_anywhere(&rt, rt.alloc(), WHOLE_1, &FIELDS_1)?;
-    is_cut_anywhere(&rt, rt.alloc(), WHOLE_2, &FIELDS_2)?;
+fn each_prefix_is_told_by_the_field_that_is_cut(rt: HostRuntime) {
+    is_cut_anywhere(&rt, rt.alloc(), WHOLE_1, &FIELDS_1);
+    is_cut_anywhere(&rt, rt.alloc(), WHOLE_2, &FIELDS_2);
     is_cut_anywhere(&rt, rt.alloc(), WHOLE_5, &FIELDS_5)
 }

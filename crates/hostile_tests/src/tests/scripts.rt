@@ -1,6 +1,6 @@
 // Scripts that are refused.
-use crate::tests::{PLAIN, Run, ends};
-use std::test::*;
+use crate::tests::{PLAIN, ends};
+use run_fixtures::Run;
 
 const REFUSED: [(&[u8], &[u8]); 18] = [
     (b"", b"ncrun: script line 1: no head\n"),
@@ -75,10 +75,12 @@ const REFUSED: [(&[u8], &[u8]); 18] = [
 ];
 
 #[test]
-fn a_script_that_asks_for_too_much_is_told_by_its_line(rt: HostRuntime) -> Result<(), Fail> {
+fn a_script_that_asks_for_too_much_is_told_by_its_line(rt: HostRuntime) {
     for (script, given) in &REFUSED {
-        let run = Run { script, ..PLAIN };
-        ends(&rt, rt.alloc(), &run, 3, given)?;
+        let run = Run {
+            script: &[script],
+            ..PLAIN
+        };
+        ends(&rt, rt.alloc(), &run, 3, given);
     }
-    Ok(())
 }

@@ -1,13 +1,16 @@
 // Sources and sinks that fail at their first or second call, and a dataset that can't be opened.
 use crate::tests::files::SMALL_1;
-use crate::tests::{LIST, PLAIN, Run, ends};
-use std::test::*;
+use crate::tests::{LIST, PLAIN, ends};
+use nc_outside::{Fail, FailOp};
+use run_fixtures::Run;
 
 // A dataset of one dimension alone.
 const OPENED: Run<'static> = Run {
-    held: b"\
+    held: &[
+        b"\
         CDF\x01\x00\x00\x00\x00\x00\x00\x00\x0a\x00\x00\x00\x01\x00\x00\x00\x01x\x00\x00\x00\x00\x00\x00\x04\
         \x00\x00\x00\x00\x00\x00\x00\x00\x00\x00\x00\x00\x00\x00\x00\x00",
+    ],
     ..PLAIN
 };
 
@@ -18,7 +21,7 @@ const TEXT: &[u8] = b"\
 
 const LISTED: Run<'static> = Run {
     words: LIST,
-    held: SMALL_1,
+    held: &[SMALL_1],
     ..PLAIN
 };
 
@@ -51,7 +54,7 @@ const SOURCES: [(Run<'static>, u8, &[u8]); 4] = [
     // The fault of the source comes before that of the script.
     (
         Run {
-            script: b"no script",
+            script: &[b"no script"],
             takes: &[1],
             ..PLAIN
         },
@@ -61,11 +64,10 @@ const SOURCES: [(Run<'static>, u8, &[u8]); 4] = [
 ];
 
 #[test]
-fn a_source_that_fails_is_told_by_the_status(rt: HostRuntime) -> Result<(), Fail> {
+fn a_source_that_fails_is_told_by_the_status(rt: HostRuntime) {
     for (run, status, given) in &SOURCES {
-        ends(&rt, rt.alloc(), run, *status, given)?;
+        ends(&rt, rt.alloc(), run, *status, given);
     }
-    Ok(())
 }
 
 // A sink that takes ten bytes at its first call is called a second time.
@@ -106,11 +108,10 @@ const SINKS: [(Run<'static>, u8, &[u8]); 4] = [
 ];
 
 #[test]
-fn a_sink_that_fails_has_what_it_took(rt: HostRuntime) -> Result<(), Fail> {
+fn a_sink_that_fails_has_what_it_took(rt: HostRuntime) {
     for (run, status, given) in &SINKS {
-        ends(&rt, rt.alloc(), run, *status, given)?;
+        ends(&rt, rt.alloc(), run, *status, given);
     }
-    Ok(())
 }
 
 const NO_WORDS: Run<'static> = Run {
@@ -119,12 +120,15 @@ const NO_WORDS: Run<'static> = Run {
 };
 
 const NO_HEAD: Run<'static> = Run {
-    script: b"",
+    script: &[],
     ..PLAIN
 };
 
 const NO_START: Run<'static> = Run {
-    starts: false,
+    plan: &[Fail {
+        op: FailOp::Start,
+        at: 0,
+    }],
     ..PLAIN
 };
 
@@ -137,15 +141,14 @@ const FAULTS: [(Run<'static>, u8, &[u8]); 4] = [
 ];
 
 #[test]
-fn a_sink_that_fails_on_a_line_leaves_the_status(rt: HostRuntime) -> Result<(), Fail> {
+fn a_sink_that_fails_on_a_line_leaves_the_status(rt: HostRuntime) {
     for (run, status, begun) in &FAULTS {
         let first = Run {
             gives: &[0],
             ..*run
         };
-        ends(&rt, rt.alloc(), &first, *status, b"")?;
+        ends(&rt, rt.alloc(), &first, *status, b"");
         let second = Run { room: 9, ..*run };
-        ends(&rt, rt.alloc(), &second, *status, begun)?;
+        ends(&rt, rt.alloc(), &second, *status, begun);
     }
-    Ok(())
 }

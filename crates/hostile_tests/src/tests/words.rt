@@ -1,7 +1,7 @@
 // Small headers in which a word or two are changed.
 use crate::tests::files::{SMALL_1, SMALL_2, SMALL_5};
 use crate::tests::{Change, all_refused, changed, is_listed};
-use std::test::*;
+use run_fixtures::NO_MEMORY;
 
 const CHANGES_1: [Change; 16] = [
     (0, b"XDF\x01", "is not CDF"),
@@ -123,17 +123,17 @@ const CHANGES_5: [Change; 17] = [
 ];
 
 #[test]
-fn a_changed_word_is_told_in_cdf_1(rt: HostRuntime) -> Result<(), Fail> {
+fn a_changed_word_is_told_in_cdf_1(rt: HostRuntime) {
     all_refused(&rt, rt.alloc(), SMALL_1, &CHANGES_1)
 }
 
 #[test]
-fn a_changed_word_is_told_in_cdf_2(rt: HostRuntime) -> Result<(), Fail> {
+fn a_changed_word_is_told_in_cdf_2(rt: HostRuntime) {
     all_refused(&rt, rt.alloc(), SMALL_2, &CHANGES_2)
 }
 
 #[test]
-fn a_changed_word_is_told_in_cdf_5(rt: HostRuntime) -> Result<(), Fail> {
+fn a_changed_word_is_told_in_cdf_5(rt: HostRuntime) {
     all_refused(&rt, rt.alloc(), SMALL_5, &CHANGES_5)
 }
 
@@ -150,10 +150,9 @@ const UNREAD: [(usize, &[u8]); 3] = [
 ];
 
 #[test]
-fn what_is_not_looked_at_may_be_any_bytes(rt: HostRuntime) -> Result<(), Fail> {
+fn what_is_not_looked_at_may_be_any_bytes(rt: HostRuntime) {
     for (at, bytes) in &UNREAD {
-        let held = changed(rt.alloc(), SMALL_1, *at, bytes)?;
-        is_listed(&rt, rt.alloc(), held.as_slice(), LIST_1)?;
+        let held = changed(rt.alloc(), SMALL_1, *at, bytes).expect(&rt, NO_MEMORY);
+        is_listed(&rt, rt.alloc(), held.as_slice(), LIST_1);
     }
-    Ok(())
 }

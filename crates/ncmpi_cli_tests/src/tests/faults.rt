@@ -1,6 +1,6 @@
 // Runs that are refused, or that something outside fails.
-use crate::tests::{OLD, PLAIN, Run, Want, all_end, ends};
-use std::test::*;
+use crate::tests::{GROWTH_OVER_90, Want, all_end, ends};
+use run_fixtures::{OLD, PLAIN, Run};
 
 const PUT: &[u8] =
     b"create 1\nranks 1\ndim x 4\nvar int v [x]\ndata\n0 put_vara_all v [1] [2] 5 -1\nend\n";
@@ -8,20 +8,23 @@ const PUT: &[u8] =
 const USAGE: &[u8] =
     b"ncrun: usage: ncrun [--offsets] [--generate SEED [--size N]] [--watch N] DATASET\n";
 
+const NO_FORMS: [&[&str]; 3] = [&[], &["-d.nc"], &["d.nc", "e.nc"]];
+
 #[test]
-fn words_of_no_form_are_answered_with_the_usage(rt: HostRuntime) -> Result<(), Fail> {
-    let run = Run {
-        script: PUT,
-        ..PLAIN
-    };
+fn words_of_no_form_are_answered_with_the_usage(rt: HostRuntime) {
     let want = Want {
         status: 2,
         given: USAGE,
         held: OLD,
     };
-    ends(&rt, rt.alloc(), &[], &run, &want)?;
-    ends(&rt, rt.alloc(), &["-d.nc"], &run, &want)?;
-    ends(&rt, rt.alloc(), &["d.nc", "e.nc"], &run, &want)
+    for words in &NO_FORMS {
+        let run = Run {
+            words,
+            script: &[PUT],
+            ..PLAIN
+        };
+        ends(&rt, rt.alloc(), &run, &want);
+    }
 }
 
 // The first fault of a script and its line.
@@ -41,24 +44,26 @@ const REFUSED: [(&[u8], &[u8]); 3] = [
 ];
 
 #[test]
-fn a_script_that_is_refused_leaves_the_dataset(rt: HostRuntime) -> Result<(), Fail> {
+fn a_script_that_is_refused_leaves_the_dataset(rt: HostRuntime) {
     for (script, given) in &REFUSED {
-        let run = Run { script, ..PLAIN };
+        let run = Run {
+            script: &[script],
+            ..PLAIN
+        };
         let want = Want {
             status: 3,
             given,
             held: OLD,
         };
-        ends(&rt, rt.alloc(), &["d.nc"], &run, &want)?;
+        ends(&rt, rt.alloc(), &run, &want);
     }
-    Ok(())
 }
 
 // A variable of 2400000000 bytes passes what a CDF-1 variable may have; the dataset is not started.
 #[test]
-fn a_layout_with_a_fault_is_told(rt: HostRuntime) -> Result<(), Fail> {
+fn a_layout_with_a_fault_is_told(rt: HostRuntime) {
     let run = Run {
-        script: b"create 1\nranks 1\ndim x 600000000\nvar int v [x]\ndata\nend\n",
+        script: &[b"create 1\nranks 1\ndim x 600000000\nvar int v [x]\ndata\nend\n"],
         ..PLAIN
     };
     let want = Want {
@@ -69,12 +74,12 @@ fn a_layout_with_a_fault_is_told(rt: HostRuntime) -> Result<(), Fail> {
     all_end(&rt, rt.alloc(), &[(run, want)])
 }
 
-const OUTSIDE: [(Run, Want); 2] = [
+const OUTSIDE: [(Run<'static>, Want); 2] = [
     // The disk refuses to grow over byte 90, and has been emptied.
     (
         Run {
-            script: PUT,
-            growth: Some(90),
+            script: &[PUT],
+            plan: &[GROWTH_OVER_90],
             ..PLAIN
         },
         Want {
@@ -86,7 +91,7 @@ const OUTSIDE: [(Run, Want); 2] = [
     // The source fails before it was told to have ended.
     (
         Run {
-            script: PUT,
+            script: &[PUT],
             takes: &[1],
             ..PLAIN
         },
@@ -99,6 +104,6 @@ const OUTSIDE: [(Run, Want); 2] = [
 ];
 
 #[test]
-fn faults_of_disk_and_source_are_told_apart(rt: HostRuntime) -> Result<(), Fail> {
+fn faults_of_disk_and_source_are_told_apart(rt: HostRuntime) {
     all_end(&rt, rt.alloc(), &OUTSIDE)
 }

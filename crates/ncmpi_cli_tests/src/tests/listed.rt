@@ -1,9 +1,7 @@
 // Lists of offsets.
 use crate::tests::files::{A_FRONT, A_STREAM, AT_512, ONE_TO_FOUR, ROOM};
-use crate::tests::{PLAIN, Run, Want, ends};
-use std::test::*;
-
-const LIST: &[&str] = &["--offsets", "d.nc"];
+use crate::tests::{Want, all_end};
+use run_fixtures::{PLAIN, Run};
 
 const ROOM_TEXT: &[u8] = b"\
     // file format: CDF-1\nfile header:\n  size = 80 bytes\n  extent = 512 bytes\n\
@@ -11,13 +9,14 @@ const ROOM_TEXT: &[u8] = b"\
     end file offset = 528\n    size in bytes = 16\nrecord variables:\n";
 
 // A script that is not read: it would be refused.
-const UNREAD: Run = Run {
-    script: b"no script\n",
+const UNREAD: Run<'static> = Run {
+    words: &["--offsets", "d.nc"],
+    script: &[b"no script\n"],
     takes: &[0],
     ..PLAIN
 };
 
-const LISTED: [(Run, Want); 5] = [
+const LISTED: [(Run<'static>, Want); 5] = [
     (
         Run {
             held: &[A_FRONT, AT_512, ROOM, ONE_TO_FOUR],
@@ -79,9 +78,6 @@ const LISTED: [(Run, Want); 5] = [
 ];
 
 #[test]
-fn offsets_are_listed_without_a_script(rt: HostRuntime) -> Result<(), Fail> {
-    for (run, want) in &LISTED {
-        ends(&rt, rt.alloc(), LIST, run, want)?;
-    }
-    Ok(())
+fn offsets_are_listed_without_a_script(rt: HostRuntime) {
+    all_end(&rt, rt.alloc(), &LISTED)
 }

@@ -3,11 +3,11 @@ use crate::tests::files::{
     A_FRONT, A_STREAM, AT_80, AT_512, ONE_TO_FOUR, ROOM, ROOM_TEXT, WIDE_COUNT, WIDE_FRONT,
     WIDE_MAGIC, WIDE_REST, WIDE_STREAM, WIDE_TAG, WIDE_UNWRITTEN,
 };
-use crate::tests::{PLAIN, Run, Want, all_end};
-use std::test::*;
+use crate::tests::{GROWTH_OVER_90, Want, all_end};
+use run_fixtures::{PLAIN, Run};
 
-const OPEN: Run = Run {
-    script: b"open\nranks 1\ndata\nend\n",
+const OPEN: Run<'static> = Run {
+    script: &[b"open\nranks 1\ndata\nend\n"],
     ..PLAIN
 };
 
@@ -18,7 +18,7 @@ const A_TEXT: &[u8] = b"\
     end file offset = 96\n    size in bytes = 16\nrecord variables:\n";
 
 // What a dataset holds, and what its offsets are; nothing of it is changed.
-const KEPT: [(Run, Want); 3] = [
+const KEPT: [(Run<'static>, Want); 3] = [
     (
         Run {
             held: &[A_FRONT, AT_80, ONE_TO_FOUR],
@@ -57,12 +57,12 @@ const KEPT: [(Run, Want); 3] = [
 ];
 
 #[test]
-fn an_opened_dataset_is_kept(rt: HostRuntime) -> Result<(), Fail> {
+fn an_opened_dataset_is_kept(rt: HostRuntime) {
     all_end(&rt, rt.alloc(), &KEPT)
 }
 
 // A file without its last ten bytes gets zeros there; where the disk refuses, that is a fault.
-const SHORT: [(Run, Want); 2] = [
+const SHORT: [(Run<'static>, Want); 2] = [
     (
         Run {
             held: &[A_FRONT, AT_80, b"\x00\x00\x00\x01\x00\x00"],
@@ -77,7 +77,7 @@ const SHORT: [(Run, Want); 2] = [
     (
         Run {
             held: &[A_FRONT, AT_80],
-            growth: Some(90),
+            plan: &[GROWTH_OVER_90],
             ..OPEN
         },
         Want {
@@ -89,12 +89,12 @@ const SHORT: [(Run, Want); 2] = [
 ];
 
 #[test]
-fn a_short_dataset_is_made_as_long_as_its_end(rt: HostRuntime) -> Result<(), Fail> {
+fn a_short_dataset_is_made_as_long_as_its_end(rt: HostRuntime) {
     all_end(&rt, rt.alloc(), &SHORT)
 }
 
 // Headers with a fault: the dataset stays as it was.
-const FAULTY: [(Run, Want); 5] = [
+const FAULTY: [(Run<'static>, Want); 5] = [
     (
         Run {
             held: &[b"CDF\x01\x00\x00\x00\x00\x00\x00\x00\x0a\x00\x00\x00\x01"],
@@ -162,7 +162,7 @@ const FAULTY: [(Run, Want); 5] = [
 ];
 
 #[test]
-fn a_header_with_a_fault_is_told(rt: HostRuntime) -> Result<(), Fail> {
+fn a_header_with_a_fault_is_told(rt: HostRuntime) {
     all_end(&rt, rt.alloc(), &FAULTY)
 }
 
@@ -173,7 +173,7 @@ const CUT: &[u8] = b"\
     \x00\x00\x00\x00\x00\x00\x00\x00\x00\x00\x00\x00\x00\x00";
 
 #[test]
-fn a_header_that_is_cut_is_told_by_its_place(rt: HostRuntime) -> Result<(), Fail> {
+fn a_header_that_is_cut_is_told_by_its_place(rt: HostRuntime) {
     let run = Run {
         held: &[CUT],
         ..OPEN

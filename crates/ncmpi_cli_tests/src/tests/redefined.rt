@@ -1,20 +1,15 @@
 // Datasets to which a script adds.
 use crate::tests::files::{A_FRONT, AT_80, ONE_TO_FOUR};
-use crate::tests::{PLAIN, Run, Want, all_end, blob};
-use nc_base::{DiskCall, IdList};
-use nc_outside::{MemDisk, MemSink, MemSource, OpenGate};
-use ncmpi_cli::ncrun;
-use std::alloc::Global;
-use std::process::Abort;
-use std::sync::Wait;
-use std::test::*;
-use std::thread::Threads;
+use crate::tests::{Want, all_end, ends_well};
+use nc_base::DiskCall;
+use nc_outside::OpenGate;
+use run_fixtures::{PLAIN, Run};
 
 // `dim x 4`, `var int v [x]` with the values 1 2 3 4.
 const A_FILE: &[&[u8]] = &[A_FRONT, AT_80, ONE_TO_FOUR];
 
-const ADD_Q: Run = Run {
-    script: b"open\nranks 1\nvar short q [x]\ndata\n0 get_var_all v\n0 get_var_all q\nend\n",
+const ADD_Q: Run<'static> = Run {
+    script: &[b"open\nranks 1\nvar short q [x]\ndata\n0 get_var_all v\n0 get_var_all q\nend\n"],
     held: A_FILE,
     ..PLAIN
 };
@@ -67,7 +62,7 @@ const B_WITH_Q_TEXT: &[u8] = b"\
     int q(t):\n    start file offset = 120\n    end file offset = 124\n    size in bytes = 4\n";
 
 // Old values read as before, and those of an added variable as zeros. A name that is there already is refused, and the file stays.
-const ADDED: [(Run, Want); 3] = [
+const ADDED: [(Run<'static>, Want); 3] = [
     (
         ADD_Q,
         Want {
@@ -78,7 +73,9 @@ const ADDED: [(Run, Want); 3] = [
     ),
     (
         Run {
-            script: b"open\nranks 1\nvar int q [t]\ndata\n0 get_var_all s\n0 get_var_all q\nend\n",
+            script: &[
+                b"open\nranks 1\nvar int q [t]\ndata\n0 get_var_all s\n0 get_var_all q\nend\n",
+            ],
             held: B_FOUR,
             ..PLAIN
         },
@@ -90,7 +87,7 @@ const ADDED: [(Run, Want); 3] = [
     ),
     (
         Run {
-            script: b"open\nranks 1\ndim x 9\ndata\nend\n",
+            script: &[b"open\nranks 1\ndim x 9\ndata\nend\n"],
             held: A_FILE,
             ..PLAIN
         },
@@ -103,66 +100,57 @@ const ADDED: [(Run, Want); 3] = [
 ];
 
 #[test]
-fn a_script_adds_to_a_dataset(rt: HostRuntime) -> Result<(), Fail> {
+fn a_script_adds_to_a_dataset(rt: HostRuntime) {
     all_end(&rt, rt.alloc(), &ADDED)
 }
 
-fn has_calls<R: Abort + Threads + Wait + Sync>(
-    rt: &R,
-    alloc: Global,
-    script: &[u8],
-    calls: &[DiskCall],
-) -> Result<(), Fail> {
-    let mut source = MemSource::new(blob(alloc, &[script])?, IdList::new(alloc));
-    let mut disk = MemDisk::logged(alloc, blob(alloc, A_FILE)?)?;
-    let mut sink = MemSink::new(alloc, 4096, IdList::new(alloc))?;
-    let ended = ncrun(
-        rt,
-        alloc,
-        &["d.nc"],
-        &mut source,
-        &mut disk,
-        &mut sink,
-        &OpenGate,
-    );
-    assert_eq!(rt; ended.status, 0);
-    let told = disk.calls(alloc)?.ok_or("calls")?;
-    assert_eq!(rt; told.as_slice(), calls);
-    Ok(())
-}
+const WHOLE: &[DiskCall] = &[
+    DiskCall::Load(0, 96),
+    DiskCall::Grow(140),
+    DiskCall::Load(80, 16),
+    DiskCall::Store(116, 16),
+    DiskCall::Store(132, 8),
+    DiskCall::Store(0, 116),
+    DiskCall::Load(116, 16),
+    DiskCall::Load(132, 8),
+];
+
+const IN_WINDOWS: &[DiskCall] = &[
+    DiskCall::Load(0, 96),
+    DiskCall::Grow(140),
+    DiskCall::Load(90, 6),
+    DiskCall::Store(126, 6),
+    DiskCall::Load(84, 6),
+    DiskCall::Store(120, 6),
+    DiskCall::Load(80, 4),
+    DiskCall::Store(116, 4),
+    DiskCall::Store(132, 6),
+    DiskCall::Store(138, 2),
+    DiskCall::Store(0, 116),
+];
+
+// Scripts that add q to the dataset, and the calls of the disk in their runs.
+const CALLS: [(&[u8], &[DiskCall]); 2] = [
+    (
+        b"open\nranks 1\nvar short q [x]\ndata\n0 get_var_all v\n0 get_var_all q\nend\n",
+        WHOLE,
+    ),
+    (
+        b"open\nranks 1\nhint ind_wr_buffer_size 6\nvar short q [x]\ndata\nend\n",
+        IN_WINDOWS,
+    ),
+];
 
 // The values move up from their end, zeros follow, and the header is stored last; in one window, and in windows of 6 bytes.
 #[test]
-fn a_dataset_is_redefined_by_these_calls(rt: HostRuntime) -> Result<(), Fail> {
-    let alloc = rt.alloc();
-    let whole = [
-        DiskCall::Load(0, 96),
-        DiskCall::Grow(140),
-        DiskCall::Load(80, 16),
-        DiskCall::Store(116, 16),
-        DiskCall::Store(132, 8),
-        DiskCall::Store(0, 116),
-        DiskCall::Load(116, 16),
-        DiskCall::Load(132, 8),
-    ];
-    has_calls(&rt, alloc, ADD_Q.script, &whole)?;
-    let in_windows = [
-        DiskCall::Load(0, 96),
-        DiskCall::Grow(140),
-        DiskCall::Load(90, 6),
-        DiskCall::Store(126, 6),
-        DiskCall::Load(84, 6),
-        DiskCall::Store(120, 6),
-        DiskCall::Load(80, 4),
-        DiskCall::Store(116, 4),
-        DiskCall::Store(132, 6),
-        DiskCall::Store(138, 2),
-        DiskCall::Store(0, 116),
-    ];
-    has_calls(
-        &rt,
-        alloc,
-        b"open\nranks 1\nhint ind_wr_buffer_size 6\nvar short q [x]\ndata\nend\n",
-        &in_windows,
-    )
+fn a_dataset_is_redefined_by_these_calls(rt: HostRuntime) {
+    for (script, calls) in &CALLS {
+        let run = Run {
+            script: &[script],
+            held: A_FILE,
+            ..PLAIN
+        };
+        let end = ends_well(&rt, rt.alloc(), &run, &OpenGate);
+        assert_eq!(rt; end.calls.as_slice(), *calls);
+    }
 }

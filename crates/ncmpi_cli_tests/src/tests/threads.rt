@@ -1,51 +1,34 @@
 // Ranks on threads of their own.
 use crate::tests::files::{A_FRONT, AT_80, ONE_TO_FOUR};
-use crate::tests::{OLD, blob};
-use nc_base::{Blob, DiskCall, IdList};
-use nc_outside::{DiskCallList, Gate, MeetGate, MemDisk, MemSink, MemSource, OpenGate, Point};
-use ncmpi_cli::ncrun;
+use crate::tests::{blob, ends_well};
+use nc_base::{Blob, DiskCall};
+use nc_outside::{Gate, MeetGate, OpenGate, Point};
+use run_fixtures::{Ended, NO_MEMORY, PLAIN, Run};
 use std::alloc::{AllocError, Global};
 use std::process::Abort;
 use std::sync::Wait;
-use std::test::*;
 use std::thread::Threads;
 
 // How often a thread that is held looks whether the other point was reached.
 const TURNS: u64 = 10_000_000;
 
-// What a run gives and leaves.
-#[derive(Drop)]
-struct Ran {
-    text: Blob,
-    file: Blob,
-    calls: Option<DiskCallList>,
-}
-
+// What a run of these parts of a script gives and leaves.
 fn run<R: Abort + Threads + Wait + Sync, G: Gate>(
     rt: &R,
     alloc: Global,
     script: &[&[u8]],
     gate: &G,
-) -> Result<Ran, Fail> {
-    let mut source = MemSource::new(blob(alloc, script)?, IdList::new(alloc));
-    let mut disk = MemDisk::logged(alloc, blob(alloc, OLD)?)?;
-    let mut sink = MemSink::new(alloc, 1 << 16, IdList::new(alloc))?;
-    let ended = ncrun(
-        rt,
-        alloc,
-        &["d.nc"],
-        &mut source,
-        &mut disk,
-        &mut sink,
-        gate,
-    );
-    assert_eq!(rt; ended.status, 0);
-    Ok(Ran {
-        text: blob(alloc, &[sink.bytes()])?,
-        file: disk.bytes(alloc)?,
-        calls: disk.calls(alloc)?,
-    })
+) -> Ended {
+    let run = Run {
+        script,
+        room: 1 << 16,
+        ..PLAIN
+    };
+    ends_well(rt, alloc, &run, gate)
 }
+
+// The vector's dataset, with the values 1 2 3 4.
+const COUNTED: &[&[u8]] = &[A_FRONT, AT_80, ONE_TO_FOUR];
 
 const TWO_RANKS: &[u8] = b"create 1\nranks 2\n";
 
@@ -54,21 +37,15 @@ const VECTOR: &[u8] = b"dim x 4\nvar int v [x]\ndata\n";
 const HALVES: &[u8] = b"0 put_vara_all v [0] [2] 1 2\n1 put_vara_all v [2] [2] 3 4\nend\n";
 
 // Two ranks put the halves of a vector, while whoever passes the first point waits for the second.
-fn meet<R: Abort + Threads + Wait + Sync>(
-    rt: &R,
-    alloc: Global,
-    first: Point,
-    second: Point,
-) -> Result<(), Fail> {
+fn meet<R: Abort + Threads + Wait + Sync>(rt: &R, alloc: Global, first: Point, second: Point) {
     let gate = MeetGate::new(first, second, TURNS);
-    let ran = run(rt, alloc, &[TWO_RANKS, VECTOR, HALVES], &gate)?;
+    let ran = run(rt, alloc, &[TWO_RANKS, VECTOR, HALVES], &gate);
     assert!(rt; gate.met());
-    assert_eq!(rt; ran.file, blob(alloc, &[A_FRONT, AT_80, ONE_TO_FOUR])?);
-    Ok(())
+    assert_eq!(rt; ran.held, blob(rt, alloc, COUNTED));
 }
 
 #[test]
-fn the_second_rank_steps_while_the_first_waits(rt: HostRuntime) -> Result<(), Fail> {
+fn the_second_rank_steps_while_the_first_waits(rt: HostRuntime) {
     meet(
         &rt,
         rt.alloc(),
@@ -78,7 +55,7 @@ fn the_second_rank_steps_while_the_first_waits(rt: HostRuntime) -> Result<(), Fa
 }
 
 #[test]
-fn the_first_rank_steps_while_the_second_waits(rt: HostRuntime) -> Result<(), Fail> {
+fn the_first_rank_steps_while_the_second_waits(rt: HostRuntime) {
     meet(
         &rt,
         rt.alloc(),
@@ -88,22 +65,22 @@ fn the_first_rank_steps_while_the_second_waits(rt: HostRuntime) -> Result<(), Fa
 }
 
 #[test]
-fn the_owner_takes_while_a_rank_waits(rt: HostRuntime) -> Result<(), Fail> {
+fn the_owner_takes_while_a_rank_waits(rt: HostRuntime) {
     meet(&rt, rt.alloc(), Point::RankStep(0, 0), Point::Arrival(0))
 }
 
 #[test]
-fn a_rank_steps_while_the_owner_waits(rt: HostRuntime) -> Result<(), Fail> {
+fn a_rank_steps_while_the_owner_waits(rt: HostRuntime) {
     meet(&rt, rt.alloc(), Point::Arrival(0), Point::RankStep(0, 0))
 }
 
 #[test]
-fn the_second_aggregator_begins_while_the_first_waits(rt: HostRuntime) -> Result<(), Fail> {
+fn the_second_aggregator_begins_while_the_first_waits(rt: HostRuntime) {
     meet(&rt, rt.alloc(), Point::Window(0, 0), Point::Window(1, 0))
 }
 
 #[test]
-fn the_first_aggregator_begins_while_the_second_waits(rt: HostRuntime) -> Result<(), Fail> {
+fn the_first_aggregator_begins_while_the_second_waits(rt: HostRuntime) {
     meet(&rt, rt.alloc(), Point::Window(1, 0), Point::Window(0, 0))
 }
 
@@ -139,38 +116,44 @@ const SCRIPTS: [[&[u8]; 2]; 5] = [
 // Ways in which ranks and aggregators run.
 const WAYS: [&[u8]; 3] = [OFF, b"hint line_room 1\n", b"hint line_room 64\n"];
 
-#[test]
-fn no_way_changes_a_byte_or_a_call(rt: HostRuntime) -> Result<(), Fail> {
-    let alloc = rt.alloc();
-    for [head, rest] in &SCRIPTS {
-        let plain = run(&rt, alloc, &[head, ON, rest], &OpenGate)?;
-        for way in &WAYS {
-            let ran = run(&rt, alloc, &[head, way, rest], &OpenGate)?;
-            assert_eq!(rt; ran.text, plain.text);
-            assert_eq!(rt; ran.file, plain.file);
-            assert_eq!(rt; ran.calls, plain.calls);
-        }
-    }
-    Ok(())
+fn are_the_same(rt: &impl Abort, one: &Ended, other: &Ended) {
+    assert!(rt; one.given == other.given);
+    assert!(rt; one.held == other.held);
+    assert!(rt; one.calls == other.calls);
 }
 
-// Each aggregator has one byte, and they write side by side: the calls stand in the order of the bytes.
 #[test]
-fn an_aggregator_for_each_byte(rt: HostRuntime) -> Result<(), Fail> {
-    let alloc = rt.alloc();
-    let head = b"create 1\nranks 1\nhint cb_nodes 64\nhint line_room 1\n";
-    let rest = b"dim x 4\nvar int v [x]\ndata\n0 put_var_all v 1 2 3 4\nend\n";
-    let ran = run(&rt, alloc, &[head, rest], &OpenGate)?;
-    let mut wanted = vec![in alloc; DiskCall::Grow(96), DiskCall::Store(0, 80)]?;
+fn no_way_changes_a_byte_or_a_call(rt: HostRuntime) {
+    for [head, rest] in &SCRIPTS {
+        let plain = run(&rt, rt.alloc(), &[head, ON, rest], &OpenGate);
+        for way in &WAYS {
+            let ran = run(&rt, rt.alloc(), &[head, way, rest], &OpenGate);
+            are_the_same(&rt, &ran, &plain);
+        }
+    }
+}
+
+// The dataset is created, and then each byte is written by itself.
+fn calls_by_byte(alloc: Global) -> Result<Vec<DiskCall>, AllocError> {
+    let mut wanted = Vec::from_slice(alloc, &[DiskCall::Grow(96), DiskCall::Store(0, 80)])?;
     for at in 80..96 {
         wanted.push(DiskCall::Store(at, 1))?;
     }
-    assert!(rt;
-        ran.calls
-            .is_some_and(|calls| calls.as_slice() == wanted.as_slice())
-    );
-    assert_eq!(rt; ran.file, blob(alloc, &[A_FRONT, AT_80, ONE_TO_FOUR])?);
-    Ok(())
+    Ok(wanted)
+}
+
+const BY_BYTE: &[&[u8]] = &[
+    b"create 1\nranks 1\nhint cb_nodes 64\nhint line_room 1\n",
+    b"dim x 4\nvar int v [x]\ndata\n0 put_var_all v 1 2 3 4\nend\n",
+];
+
+// Each aggregator has one byte, and they write side by side: the calls stand in the order of the bytes.
+#[test]
+fn an_aggregator_for_each_byte(rt: HostRuntime) {
+    let ran = run(&rt, rt.alloc(), BY_BYTE, &OpenGate);
+    let wanted = calls_by_byte(rt.alloc()).expect(&rt, NO_MEMORY);
+    assert!(rt; ran.calls.as_slice() == wanted.as_slice());
+    assert_eq!(rt; ran.held, blob(&rt, rt.alloc(), COUNTED));
 }
 
 // Each of two ranks puts every other element by itself, through a window that it reads first.
@@ -189,8 +172,15 @@ const ALONE_ANSWERS: &[u8] = b"\
     dimensions:\n  x = 4\nfixed-size variables:\n  int v(x):\n    start file offset = 80\n    \
     end file offset = 96\n    size in bytes = 16\nrecord variables:\n";
 
-// The dataset is created, and then this byte's window and the other one's are read and written.
-fn has_calls<R: Abort>(rt: &R, ran: &Ran, first: u64, second: u64) {
+// The dataset is created, and then this byte's window and the other one's are read and written. The order was told.
+fn came_in_order(
+    rt: &impl Abort,
+    alloc: Global,
+    ran: &Ended,
+    order: &[u8],
+    first: u64,
+    second: u64,
+) {
     let wanted = [
         DiskCall::Grow(96),
         DiskCall::Store(0, 80),
@@ -199,29 +189,22 @@ fn has_calls<R: Abort>(rt: &R, ran: &Ran, first: u64, second: u64) {
         DiskCall::Load(second, 12),
         DiskCall::Store(second, 12),
     ];
-    let Some(calls) = &ran.calls else {
-        panic!(rt; "calls");
-    };
-    assert_eq!(rt; calls.as_slice(), wanted.as_slice());
+    assert_eq!(rt; ran.given, blob(rt, alloc, &[order, ALONE_ANSWERS]));
+    assert_eq!(rt; ran.calls.as_slice(), wanted.as_slice());
+    assert_eq!(rt; ran.held, blob(rt, alloc, COUNTED));
 }
 
 #[test]
-fn the_order_that_is_printed_is_that_of_the_file(rt: HostRuntime) -> Result<(), Fail> {
+fn the_order_that_is_printed_is_that_of_the_file(rt: HostRuntime) {
     let alloc = rt.alloc();
-    let zero = blob(alloc, &[ORDER_ZERO, ALONE_ANSWERS])?;
-    let off = run(&rt, alloc, &[TWO_RANKS, OFF, VECTOR, ALONE], &OpenGate)?;
-    assert_eq!(rt; off.text, zero);
-    has_calls(&rt, &off, 80, 84);
-    let on = run(&rt, alloc, &[TWO_RANKS, ON, VECTOR, ALONE], &OpenGate)?;
-    if on.text == zero {
-        has_calls(&rt, &on, 80, 84);
+    let off = run(&rt, alloc, &[TWO_RANKS, OFF, VECTOR, ALONE], &OpenGate);
+    came_in_order(&rt, alloc, &off, ORDER_ZERO, 80, 84);
+    let on = run(&rt, alloc, &[TWO_RANKS, ON, VECTOR, ALONE], &OpenGate);
+    if on.given == off.given {
+        came_in_order(&rt, alloc, &on, ORDER_ZERO, 80, 84);
     } else {
-        assert_eq!(rt; on.text, blob(alloc, &[ORDER_ONE, ALONE_ANSWERS])?);
-        has_calls(&rt, &on, 84, 80);
+        came_in_order(&rt, alloc, &on, ORDER_ONE, 84, 80);
     }
-    assert_eq!(rt; on.file, blob(alloc, &[A_FRONT, AT_80, ONE_TO_FOUR])?);
-    assert_eq!(rt; on.file, off.file);
-    Ok(())
 }
 
 // Each of 64 ranks puts its number at its place.
@@ -244,13 +227,12 @@ fn numbers(alloc: Global) -> Result<Vec<u8>, AllocError> {
 }
 
 #[test]
-fn sixty_four_ranks_put_in_one_call(rt: HostRuntime) -> Result<(), Fail> {
-    let alloc = rt.alloc();
-    let calls = calls_of_all(alloc)?;
+fn sixty_four_ranks_put_in_one_call(rt: HostRuntime) {
+    let calls = calls_of_all(rt.alloc()).expect(&rt, NO_MEMORY);
     let head = b"create 1\nranks 64\ndim x 64\nvar int v [x]\ndata\n";
-    let ran = run(&rt, alloc, &[head, calls.as_slice(), b"end\n"], &OpenGate)?;
-    let file = ran.file.into_vec();
-    let data = file.get(80..).ok_or("data")?;
-    assert_eq!(rt; data, numbers(alloc)?.as_slice());
-    Ok(())
+    let script = [head.as_slice(), calls.as_slice(), b"end\n"];
+    let ran = run(&rt, rt.alloc(), script.as_slice(), &OpenGate);
+    let data = numbers(rt.alloc()).expect(&rt, NO_MEMORY);
+    assert_eq!(rt; ran.held.len(), 80 + 256);
+    assert!(rt; ran.held.as_slice().ends_with(data.as_slice()));
 }

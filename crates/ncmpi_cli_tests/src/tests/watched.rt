@@ -1,13 +1,12 @@
 // Runs that are watched. That watchers read beside the run no contract says: two tests hold one until the other has come so far.
 use crate::tests::files::B;
-use crate::tests::{OLD, PLAIN, Run, Want, blob, ends};
-use nc_base::{Blob, IdList, ReadingTable};
-use nc_outside::{Gate, MeetGate, MemDisk, MemSink, MemSource, OpenGate, Point};
-use ncmpi_cli::ncrun;
+use crate::tests::{GROWTH_OVER_80, Want, all_end, ends_well};
+use nc_base::{Blob, ReadingTable};
+use nc_outside::{Gate, MeetGate, OpenGate, Point};
+use run_fixtures::{Ended, NO_MEMORY, PLAIN, Run};
 use std::alloc::{AllocError, Global};
 use std::process::Abort;
 use std::sync::Wait;
-use std::test::*;
 use std::thread::Threads;
 
 // How often a thread that is held looks whether the other point was reached.
@@ -15,37 +14,22 @@ const TURNS: u64 = 10_000_000;
 
 const READINGS: usize = 17;
 
-// What a watched run gives.
-#[derive(Drop)]
-struct Watched {
-    text: Blob,
-    readings: ReadingTable,
-}
-
+// What a run gives and leaves that so many watch.
 fn watch<R: Abort + Threads + Wait + Sync, G: Gate>(
     rt: &R,
     alloc: Global,
     watchers: &str,
     script: &[&[u8]],
     gate: &G,
-) -> Result<Watched, Fail> {
-    let mut source = MemSource::new(blob(alloc, script)?, IdList::new(alloc));
-    let mut disk = MemDisk::new(alloc, blob(alloc, OLD)?)?;
-    let mut sink = MemSink::new(alloc, 1 << 20, IdList::new(alloc))?;
-    let ended = ncrun(
-        rt,
-        alloc,
-        &["--watch", watchers, "d.nc"],
-        &mut source,
-        &mut disk,
-        &mut sink,
-        gate,
-    );
-    assert_eq!(rt; ended.status, 0);
-    Ok(Watched {
-        text: blob(alloc, &[sink.bytes()])?,
-        readings: ended.readings,
-    })
+) -> Ended {
+    let words = ["--watch", watchers, "d.nc"];
+    let run = Run {
+        words: words.as_slice(),
+        script,
+        room: 1 << 20,
+        ..PLAIN
+    };
+    ends_well(rt, alloc, &run, gate)
 }
 
 // The numbers of a watcher: 17 that never fall, the last of them the number of steps.
@@ -140,27 +124,31 @@ const ROWS: [Row; 3] = [
     },
 ];
 
-#[test]
-fn what_watchers_read_stands_behind_the_text(rt: HostRuntime) -> Result<(), Fail> {
-    let alloc = rt.alloc();
-    for row in &ROWS {
-        let seen = watch(&rt, alloc, row.watchers, row.script, &OpenGate)?;
-        assert_eq!(rt; seen.readings.len(), row.many);
-        for numbers in seen.readings.as_slice() {
-            are_readings(&rt, numbers.as_slice(), 1);
-        }
-        let wanted = watched_text(alloc, row.text, &seen.readings, row.count)?;
-        assert_eq!(rt; seen.text, wanted);
+// What so many watchers read of a run that had so many steps.
+fn have_read(rt: &impl Abort, seen: &Ended, many: usize, steps: u64) {
+    assert_eq!(rt; seen.readings.len(), many);
+    for numbers in seen.readings.as_slice() {
+        are_readings(rt, numbers.as_slice(), steps);
     }
-    Ok(())
+}
+
+#[test]
+fn what_watchers_read_stands_behind_the_text(rt: HostRuntime) {
+    for row in &ROWS {
+        let seen = watch(&rt, rt.alloc(), row.watchers, row.script, &OpenGate);
+        have_read(&rt, &seen, row.many, 1);
+        let wanted = watched_text(rt.alloc(), row.text, &seen.readings, row.count);
+        assert_eq!(rt; seen.given, wanted.expect(&rt, NO_MEMORY));
+    }
 }
 
 // The disk fails to grow for the record; the sink is full after ten bytes.
-const FAULTS: [(Run, Want); 2] = [
+const FAULTS: [(Run<'static>, Want); 2] = [
     (
         Run {
-            script: RECORD,
-            growth: Some(80),
+            words: &["--watch", "2", "d.nc"],
+            script: &[RECORD],
+            plan: &[GROWTH_OVER_80],
             ..PLAIN
         },
         Want {
@@ -171,7 +159,8 @@ const FAULTS: [(Run, Want); 2] = [
     ),
     (
         Run {
-            script: RECORD,
+            words: &["--watch", "2", "d.nc"],
+            script: &[RECORD],
             room: 10,
             ..PLAIN
         },
@@ -184,12 +173,8 @@ const FAULTS: [(Run, Want); 2] = [
 ];
 
 #[test]
-fn a_watched_run_with_a_fault_ends_as_another(rt: HostRuntime) -> Result<(), Fail> {
-    let alloc = rt.alloc();
-    for (run, want) in &FAULTS {
-        ends(&rt, alloc, &["--watch", "2", "d.nc"], run, want)?;
-    }
-    Ok(())
+fn a_watched_run_with_a_fault_ends_as_another(rt: HostRuntime) {
+    all_end(&rt, rt.alloc(), &FAULTS)
 }
 
 // The number of the first watcher's reading, in a run in which whoever passes the first point waits for the second.
@@ -199,27 +184,25 @@ fn reading_of<R: Abort + Threads + Wait + Sync>(
     script: &[&[u8]],
     gate: &MeetGate,
     number: usize,
-) -> Result<u64, Fail> {
-    let seen = watch(rt, alloc, "1", script, gate)?;
+) -> u64 {
+    let seen = watch(rt, alloc, "1", script, gate);
     assert!(rt; gate.met());
-    let numbers = seen.readings.as_slice().first().ok_or("no watcher")?;
-    Ok(*numbers.as_slice().get(number).ok_or("no reading")?)
+    let numbers = seen.readings.as_slice().first().expect(rt, "no watcher");
+    *numbers.as_slice().get(number).expect(rt, "no reading")
 }
 
 #[test]
-fn a_watcher_reads_before_the_first_step(rt: HostRuntime) -> Result<(), Fail> {
+fn a_watcher_reads_before_the_first_step(rt: HostRuntime) {
     let gate = MeetGate::new(Point::RankStep(0, 0), Point::Reading(0, 1), TURNS);
-    let read = reading_of(&rt, rt.alloc(), &[HEAD, HALVES, END], &gate, 0)?;
+    let read = reading_of(&rt, rt.alloc(), &[HEAD, HALVES, END], &gate, 0);
     assert_eq!(rt; read, 0);
-    Ok(())
 }
 
 #[test]
-fn a_watcher_reads_a_step_before_the_run_ends(rt: HostRuntime) -> Result<(), Fail> {
+fn a_watcher_reads_a_step_before_the_run_ends(rt: HostRuntime) {
     let gate = MeetGate::new(Point::Reading(0, 8), Point::RankStep(0, 1), TURNS);
-    let read = reading_of(&rt, rt.alloc(), &[HEAD, HALVES, HALVES, END], &gate, 8)?;
+    let read = reading_of(&rt, rt.alloc(), &[HEAD, HALVES, HALVES, END], &gate, 8);
     assert!(rt; read >= 1);
-    Ok(())
 }
 
 const STEPS: u64 = 1 << 12;
@@ -234,14 +217,10 @@ fn calls(alloc: Global) -> Result<Blob, AllocError> {
 }
 
 #[test]
-fn no_watcher_of_a_long_run_sees_its_steps_fall(rt: HostRuntime) -> Result<(), Fail> {
-    let alloc = rt.alloc();
-    let calls = calls(alloc)?;
+fn no_watcher_of_a_long_run_sees_its_steps_fall(rt: HostRuntime) {
+    let calls = calls(rt.alloc()).expect(&rt, NO_MEMORY);
     let head = b"create 1\nranks 1\ndim x 4\nvar int v [x]\ndata\n";
-    let seen = watch(&rt, alloc, "2", &[head, calls.as_slice(), END], &OpenGate)?;
-    assert_eq!(rt; seen.readings.len(), 2);
-    for numbers in seen.readings.as_slice() {
-        are_readings(&rt, numbers.as_slice(), STEPS);
-    }
-    Ok(())
+    let script = [head.as_slice(), calls.as_slice(), END];
+    let seen = watch(&rt, rt.alloc(), "2", script.as_slice(), &OpenGate);
+    have_read(&rt, &seen, 2, STEPS);
 }

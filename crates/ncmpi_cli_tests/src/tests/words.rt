@@ -1,9 +1,6 @@
 // What the words of the command line ask for, by the status with which each form ends.
-use crate::tests::{OLD, PLAIN, blob};
-use nc_base::IdList;
-use nc_outside::{MemDisk, MemSink, MemSource, OpenGate};
-use ncmpi_cli::ncrun;
-use std::test::*;
+use nc_outside::OpenGate;
+use run_fixtures::{NO_MEMORY, PLAIN, Run, ended};
 
 // Words of no form.
 const NONE: u8 = 2;
@@ -46,22 +43,10 @@ const FORMS: [(&[&str], u8); 20] = [
 ];
 
 #[test]
-fn words_are_of_a_form_or_of_none(rt: HostRuntime) -> Result<(), Fail> {
-    let alloc = rt.alloc();
+fn words_are_of_a_form_or_of_none(rt: HostRuntime) {
     for (words, status) in &FORMS {
-        let mut source = MemSource::new(blob(alloc, &[PLAIN.script])?, IdList::new(alloc));
-        let mut disk = MemDisk::new(alloc, blob(alloc, OLD)?)?;
-        let mut sink = MemSink::new(alloc, 4096, IdList::new(alloc))?;
-        let ended = ncrun(
-            &rt,
-            alloc,
-            words,
-            &mut source,
-            &mut disk,
-            &mut sink,
-            &OpenGate,
-        );
-        assert_eq!(rt; ended.status, *status);
+        let run = Run { words, ..PLAIN };
+        let end = ended(&rt, rt.alloc(), &run, &OpenGate).expect(&rt, NO_MEMORY);
+        assert_eq!(rt; end.status, *status);
     }
-    Ok(())
 }

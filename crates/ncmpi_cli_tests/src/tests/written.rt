@@ -3,11 +3,13 @@ use crate::tests::files::{
     A_64, A_FRONT, AT_80, AT_512, B, ONE_TO_FOUR, ROOM, ROOM_TEXT, TWO_PUT, UNWRITTEN, WIDE_COUNT,
     WIDE_FRONT, WIDE_MAGIC, WIDE_REST, WIDE_UNWRITTEN,
 };
-use crate::tests::{PLAIN, Run, Want, all_end};
-use std::test::*;
+use crate::tests::{Want, all_end};
+use run_fixtures::{PLAIN, Run};
 
-const PUT: Run = Run {
-    script: b"create 1\nranks 1\ndim x 4\nvar int v [x]\ndata\n0 put_vara_all v [1] [2] 5 -1\nend\n",
+const PUT: Run<'static> = Run {
+    script: &[
+        b"create 1\nranks 1\ndim x 4\nvar int v [x]\ndata\n0 put_vara_all v [1] [2] 5 -1\nend\n",
+    ],
     ..PLAIN
 };
 
@@ -17,7 +19,7 @@ const PUT_TEXT: &[u8] = b"\
     dimensions:\n  x = 4\nfixed-size variables:\n  int v(x):\n    start file offset = 80\n    \
     end file offset = 96\n    size in bytes = 16\nrecord variables:\n";
 
-const PUTS: [(Run, Want); 2] = [
+const PUTS: [(Run<'static>, Want); 2] = [
     (
         PUT,
         Want {
@@ -38,7 +40,7 @@ const PUTS: [(Run, Want); 2] = [
 ];
 
 #[test]
-fn one_rank_puts_two_values(rt: HostRuntime) -> Result<(), Fail> {
+fn one_rank_puts_two_values(rt: HostRuntime) {
     all_end(&rt, rt.alloc(), &PUTS)
 }
 
@@ -56,10 +58,12 @@ const SHARED_TEXT: &[u8] = b"\
     end file offset = 96\n    size in bytes = 16\nrecord variables:\n";
 
 // Two ranks put their halves in one call; where they share an element, nothing is written.
-const SHARED: [(Run, Want); 2] = [
+const SHARED: [(Run<'static>, Want); 2] = [
     (
         Run {
-            script: b"create 1\nranks 2\ndim x 4\nvar int v [x]\ndata\n0 put_vara_all v [0] [2] 1 2\n1 put_vara_all v [2] [2] 3 4\nend\n",
+            script: &[
+                b"create 1\nranks 2\ndim x 4\nvar int v [x]\ndata\n0 put_vara_all v [0] [2] 1 2\n1 put_vara_all v [2] [2] 3 4\nend\n",
+            ],
             ..PLAIN
         },
         Want {
@@ -70,7 +74,9 @@ const SHARED: [(Run, Want); 2] = [
     ),
     (
         Run {
-            script: b"create 1\nranks 2\ndim x 4\nvar int v [x]\ndata\n0 put_vara_all v [0] [3] 1 2 3\n1 put_vara_all v [2] [2] 8 9\nend\n",
+            script: &[
+                b"create 1\nranks 2\ndim x 4\nvar int v [x]\ndata\n0 put_vara_all v [0] [3] 1 2 3\n1 put_vara_all v [2] [2] 8 9\nend\n",
+            ],
             ..PLAIN
         },
         Want {
@@ -82,15 +88,17 @@ const SHARED: [(Run, Want); 2] = [
 ];
 
 #[test]
-fn two_ranks_put_in_one_call(rt: HostRuntime) -> Result<(), Fail> {
+fn two_ranks_put_in_one_call(rt: HostRuntime) {
     all_end(&rt, rt.alloc(), &SHARED)
 }
 
 // Two variables, over three dimensions; an attribute; puts of a box, of a text and of bits.
-const MANY: Run = Run {
-    script: b"create 1\nranks 1\nhint cb_nodes 4\ndim y 2\ndim x 3\nvar short w [y,x]\nvar char c [x]\nvar float f []\n\
+const MANY: Run<'static> = Run {
+    script: &[
+        b"create 1\nranks 1\nhint cb_nodes 4\ndim y 2\ndim x 3\nvar short w [y,x]\nvar char c [x]\nvar float f []\n\
         att w k byte 1\ndata\n0 put_vara_all w [0,1] [2,2] 1 2 3 -4 5\n0 put_vara_all c [1] [2] \"hi\"\n\
         0 put_vara_all f [] [] x3FC00000\n0 put_vara_all w [1,0] [1,1] 7\nend\n",
+    ],
     ..PLAIN
 };
 
@@ -121,7 +129,7 @@ const MANY_FILE: &[&[u8]] = &[
 ];
 
 #[test]
-fn puts_go_to_their_variables(rt: HostRuntime) -> Result<(), Fail> {
+fn puts_go_to_their_variables(rt: HostRuntime) {
     let want = Want {
         status: 0,
         given: MANY_TEXT,
@@ -149,10 +157,10 @@ const CDF_5_TEXT: &[u8] = b"\
     end file offset = 160\n    size in bytes = 32\nrecord variables:\n";
 
 // A record variable, and the three versions, without a call.
-const VERSIONS: [(Run, Want); 3] = [
+const VERSIONS: [(Run<'static>, Want); 3] = [
     (
         Run {
-            script: b"create 1\nranks 1\ndim t unlimited\nvar short s [t]\ndata\nend\n",
+            script: &[b"create 1\nranks 1\ndim t unlimited\nvar short s [t]\ndata\nend\n"],
             ..PLAIN
         },
         Want {
@@ -163,7 +171,7 @@ const VERSIONS: [(Run, Want); 3] = [
     ),
     (
         Run {
-            script: b"create 2\nranks 1\ndim x 4\nvar int v [x]\ndata\nend\n",
+            script: &[b"create 2\nranks 1\ndim x 4\nvar int v [x]\ndata\nend\n"],
             ..PLAIN
         },
         Want {
@@ -174,7 +182,7 @@ const VERSIONS: [(Run, Want); 3] = [
     ),
     (
         Run {
-            script: b"create 5\nranks 1\ndim x 4\nvar uint64 v [x]\ndata\nend\n",
+            script: &[b"create 5\nranks 1\ndim x 4\nvar uint64 v [x]\ndata\nend\n"],
             ..PLAIN
         },
         Want {
@@ -192,7 +200,7 @@ const VERSIONS: [(Run, Want); 3] = [
 ];
 
 #[test]
-fn each_version_is_created(rt: HostRuntime) -> Result<(), Fail> {
+fn each_version_is_created(rt: HostRuntime) {
     all_end(&rt, rt.alloc(), &VERSIONS)
 }
 
@@ -213,10 +221,12 @@ const VAR_ALIGN_FILE: &[&[u8]] = &[
     &[0; 80],
 ];
 
-const ALIGNED: [(Run, Want); 2] = [
+const ALIGNED: [(Run<'static>, Want); 2] = [
     (
         Run {
-            script: b"create 1\nranks 1\nhint nc_header_align_size 512\ndim x 4\nvar int v [x]\ndata\nend\n",
+            script: &[
+                b"create 1\nranks 1\nhint nc_header_align_size 512\ndim x 4\nvar int v [x]\ndata\nend\n",
+            ],
             ..PLAIN
         },
         Want {
@@ -227,7 +237,9 @@ const ALIGNED: [(Run, Want); 2] = [
     ),
     (
         Run {
-            script: b"create 1\nranks 1\nhint nc_var_align_size 64\ndim x 3\nvar byte a [x]\nvar byte b [x]\ndata\nend\n",
+            script: &[
+                b"create 1\nranks 1\nhint nc_var_align_size 64\ndim x 3\nvar byte a [x]\nvar byte b [x]\ndata\nend\n",
+            ],
             ..PLAIN
         },
         Want {
@@ -239,6 +251,6 @@ const ALIGNED: [(Run, Want); 2] = [
 ];
 
 #[test]
-fn hints_align_the_header_and_the_variables(rt: HostRuntime) -> Result<(), Fail> {
+fn hints_align_the_header_and_the_variables(rt: HostRuntime) {
     all_end(&rt, rt.alloc(), &ALIGNED)
 }

@@ -1,5 +1,5 @@
 // One text for each cause of a fault, and texts with two faults.
-use super::{fault, line_refused, read, refused};
+use super::{found, line_refused, read, refused};
 use nc_base::{LimitName, ScriptKind};
 
 const HEADS: [(&str, u32, ScriptKind); 14] = [
@@ -35,7 +35,7 @@ const BYTES: [(&[u8], u32, ScriptKind); 5] = [
 #[test]
 fn bytes_that_are_not_utf_8_come_before_the_lines(rt: HostRuntime) {
     for (text, line, kind) in &BYTES {
-        assert_eq!(rt; fault(rt.alloc(), text), Some((*line, *kind)), "of {line}");
+        found(&rt, rt.alloc(), text, Some((*line, *kind)), "bytes");
     }
 }
 

@@ -1,5 +1,5 @@
 // The limits of a text: what stands at one is read, and what passes it is told at its line.
-use super::{NO_MEMORY, fault, line_refused, of_lines, read};
+use super::{NO_MEMORY, found, line_refused, of_lines, read};
 use nc_base::{LimitName, ScriptKind};
 use std::alloc::Global;
 use std::process::Abort;
@@ -85,19 +85,29 @@ const SHAPES: [(&str, Option<ScriptKind>, Option<ScriptKind>); 5] = [
     ),
 ];
 
-// The fault of this line behind these, if it has one.
-fn fault_of(rt: &impl Abort, alloc: Global, before: &str, line: &str) -> Option<(u32, ScriptKind)> {
+// The fault of this line behind three others, if it has one.
+fn line_found<R: Abort>(
+    rt: &R,
+    alloc: Global,
+    before: &str,
+    line: &str,
+    wanted: Option<ScriptKind>,
+) {
     let text = of_lines(rt, alloc, before, line, "\nranks 1\ndata\nend\n");
-    fault(alloc, text.as_slice())
+    found(
+        rt,
+        alloc,
+        text.as_slice(),
+        wanted.map(|kind| (4, kind)),
+        line,
+    );
 }
 
 #[test]
 fn a_variable_has_up_to_32_dimensions(rt: HostRuntime) {
     for (line, created, opened) in &SHAPES {
-        let found = fault_of(&rt, rt.alloc(), DEFINED, line);
-        assert_eq!(rt; found, created.map(|kind| (4, kind)), "{line}");
-        let found = fault_of(&rt, rt.alloc(), OPENED, line);
-        assert_eq!(rt; found, opened.map(|kind| (4, kind)), "{line}");
+        line_found(&rt, rt.alloc(), DEFINED, line, *created);
+        line_found(&rt, rt.alloc(), OPENED, line, *opened);
     }
 }
 
@@ -120,6 +130,24 @@ fn filled(
     text
 }
 
+// A text of one piece many times, and its fault.
+#[derive(Clone, Copy)]
+struct Filled {
+    before: &'static str,
+    piece: &'static str,
+    count: u32,
+    after: &'static str,
+    fault: Option<(u32, ScriptKind)>,
+}
+
+// Each text has that fault, or none.
+fn all_found<R: Abort>(rt: &R, alloc: Global, table: &[Filled]) {
+    for row in table {
+        let text = filled(rt, alloc, row.before, row.piece, row.count, row.after);
+        found(rt, alloc, text.as_slice(), row.fault, row.before);
+    }
+}
+
 // Sequences of as many values as a script may have, and of numbers past 64 bits.
 const LONG: [&str; 3] = [
     "create 1\nranks 1\natt : a byte seq 16777216 1 0\ndata\nend\n",
@@ -134,30 +162,69 @@ fn long_sequences_are_read(rt: HostRuntime) {
 
 const MANY: ScriptKind = ScriptKind::Limit(LimitName::Elements);
 
-// What follows 2^20 values of a call, and the fault.
-const PAST_ELEMENTS: [(&str, &str, &str, Option<ScriptKind>); 8] = [
-    ("", "1 ", "", None),
-    ("", "1 ", "1", Some(MANY)),
-    ("", "1 ", "1 x", Some(MANY)),
-    ("", "1 ", "x", Some(ScriptKind::BadNumber)),
-    ("", "x1 ", "x1", Some(MANY)),
-    ("\"", "a", "\"", None),
-    ("\"", "a", "b\"", Some(MANY)),
-    ("\"", "a", "b\" x", Some(MANY)),
+// What follows 2^20 values of a call.
+const PAST_ELEMENTS: [Filled; 8] = [
+    Filled {
+        before: "create 1\nranks 1\ndata\n0 put_var v ",
+        piece: "1 ",
+        count: 1 << 20,
+        after: "\nend\n",
+        fault: None,
+    },
+    Filled {
+        before: "create 1\nranks 1\ndata\n0 put_var v ",
+        piece: "1 ",
+        count: 1 << 20,
+        after: "1\nend\n",
+        fault: Some((4, MANY)),
+    },
+    Filled {
+        before: "create 1\nranks 1\ndata\n0 put_var v ",
+        piece: "1 ",
+        count: 1 << 20,
+        after: "1 x\nend\n",
+        fault: Some((4, MANY)),
+    },
+    Filled {
+        before: "create 1\nranks 1\ndata\n0 put_var v ",
+        piece: "1 ",
+        count: 1 << 20,
+        after: "x\nend\n",
+        fault: Some((4, ScriptKind::BadNumber)),
+    },
+    Filled {
+        before: "create 1\nranks 1\ndata\n0 put_var v ",
+        piece: "x1 ",
+        count: 1 << 20,
+        after: "x1\nend\n",
+        fault: Some((4, MANY)),
+    },
+    Filled {
+        before: "create 1\nranks 1\ndata\n0 put_var v \"",
+        piece: "a",
+        count: 1 << 20,
+        after: "\"\nend\n",
+        fault: None,
+    },
+    Filled {
+        before: "create 1\nranks 1\ndata\n0 put_var v \"",
+        piece: "a",
+        count: 1 << 20,
+        after: "b\"\nend\n",
+        fault: Some((4, MANY)),
+    },
+    Filled {
+        before: "create 1\nranks 1\ndata\n0 put_var v \"",
+        piece: "a",
+        count: 1 << 20,
+        after: "b\" x\nend\n",
+        fault: Some((4, MANY)),
+    },
 ];
 
 #[test]
 fn a_call_has_up_to_2_to_the_20_values(rt: HostRuntime) {
-    let alloc = rt.alloc();
-    for (opens, piece, rest, wanted) in &PAST_ELEMENTS {
-        let before = format!(in alloc; "create 1\nranks 1\ndata\n0 put_var v {opens}").expect(
-            &rt, NO_MEMORY,
-        );
-        let after = format!(in alloc; "{rest}\nend\n").expect(&rt, NO_MEMORY);
-        let text = filled(&rt, alloc, before.as_str(), piece, 1 << 20, after.as_str());
-        let found = fault(alloc, text.as_slice());
-        assert_eq!(rt; found, wanted.map(|kind| (4, kind)), "{opens}{rest}");
-    }
+    all_found(&rt, rt.alloc(), &PAST_ELEMENTS);
 }
 
 const SEQUENCES: [(&str, ScriptKind); 4] = [
@@ -174,134 +241,175 @@ fn the_count_of_a_sequence_is_looked_at_first(rt: HostRuntime) {
 
 const TOO_MANY: ScriptKind = ScriptKind::Limit(LimitName::Values);
 
-// What follows an attribute of 2^24 values, and the fault with its line.
-const PAST_VALUES: [(&str, Option<(u32, ScriptKind)>); 6] = [
-    ("\"\natt : b int\ndata\n0 put_var v \"\"\nend\n", None),
-    ("b\"\ndata\nend\n", Some((3, TOO_MANY))),
-    ("\"\natt : b char \"b\" x\n", Some((4, TOO_MANY))),
-    ("\"\natt : b int seq 1 x\n", Some((4, TOO_MANY))),
-    (
-        "\"\ndata\n0 put_var v\n0 iput_var 1 v 1 x\n",
-        Some((6, TOO_MANY)),
-    ),
-    (
-        "\"\ndata\n0 bput_var 1 v x\n",
-        Some((5, ScriptKind::BadNumber)),
-    ),
+// What follows an attribute of 2^24 values.
+const PAST_VALUES: [Filled; 6] = [
+    Filled {
+        before: "create 1\nranks 1\natt : a char \"",
+        piece: "a",
+        count: 1 << 24,
+        after: "\"\natt : b int\ndata\n0 put_var v \"\"\nend\n",
+        fault: None,
+    },
+    Filled {
+        before: "create 1\nranks 1\natt : a char \"",
+        piece: "a",
+        count: 1 << 24,
+        after: "b\"\ndata\nend\n",
+        fault: Some((3, TOO_MANY)),
+    },
+    Filled {
+        before: "create 1\nranks 1\natt : a char \"",
+        piece: "a",
+        count: 1 << 24,
+        after: "\"\natt : b char \"b\" x\n",
+        fault: Some((4, TOO_MANY)),
+    },
+    Filled {
+        before: "create 1\nranks 1\natt : a char \"",
+        piece: "a",
+        count: 1 << 24,
+        after: "\"\natt : b int seq 1 x\n",
+        fault: Some((4, TOO_MANY)),
+    },
+    Filled {
+        before: "create 1\nranks 1\natt : a char \"",
+        piece: "a",
+        count: 1 << 24,
+        after: "\"\ndata\n0 put_var v\n0 iput_var 1 v 1 x\n",
+        fault: Some((6, TOO_MANY)),
+    },
+    Filled {
+        before: "create 1\nranks 1\natt : a char \"",
+        piece: "a",
+        count: 1 << 24,
+        after: "\"\ndata\n0 bput_var 1 v x\n",
+        fault: Some((5, ScriptKind::BadNumber)),
+    },
 ];
 
 #[test]
 fn a_script_has_up_to_2_to_the_24_values(rt: HostRuntime) {
-    let alloc = rt.alloc();
-    for (after, wanted) in &PAST_VALUES {
-        let text = filled(
-            &rt,
-            alloc,
-            "create 1\nranks 1\natt : a char \"",
-            "a",
-            1 << 24,
-            after,
-        );
-        assert_eq!(rt; fault(alloc, text.as_slice()), *wanted, "{after}");
-    }
+    all_found(&rt, rt.alloc(), &PAST_VALUES);
 }
+
+const PARTS: [Filled; 2] = [
+    Filled {
+        before: "create 1\nranks 1\ndata\n0 put_varn v 1024",
+        piece: " [] []",
+        count: 1024,
+        after: "\nend\n",
+        fault: None,
+    },
+    Filled {
+        before: "create 1\nranks 1\ndata\n0 put_varn v 1024",
+        piece: " [] []",
+        count: 1023,
+        after: " []\nend\n",
+        fault: Some((4, ScriptKind::MissingWord)),
+    },
+];
 
 #[test]
 fn a_call_has_up_to_1024_parts(rt: HostRuntime) {
-    let alloc = rt.alloc();
-    let before = "create 1\nranks 1\ndata\n0 put_varn v 1024";
-    let most = filled(&rt, alloc, before, " [] []", 1024, "\nend\n");
-    assert_eq!(rt; fault(alloc, most.as_slice()), None);
-    let short = filled(&rt, alloc, before, " [] []", 1023, " []\nend\n");
-    assert_eq!(rt;
-        fault(alloc, short.as_slice()),
-        Some((4, ScriptKind::MissingWord))
-    );
+    all_found(&rt, rt.alloc(), &PARTS);
 }
+
+const NAMES: [Filled; 2] = [
+    Filled {
+        before: "create 1\nranks 1\ndim d",
+        piece: "i",
+        count: 255,
+        after: " 1\ndata\nend\n",
+        fault: None,
+    },
+    Filled {
+        before: "create 1\nranks 1\ndim d",
+        piece: "i",
+        count: 256,
+        after: " 1\ndata\nend\n",
+        fault: Some((3, ScriptKind::BadName)),
+    },
+];
 
 #[test]
 fn a_name_has_up_to_256_characters(rt: HostRuntime) {
-    let alloc = rt.alloc();
-    let most = filled(
-        &rt,
-        alloc,
-        "create 1\nranks 1\ndim d",
-        "i",
-        255,
-        " 1\ndata\nend\n",
-    );
-    assert_eq!(rt; fault(alloc, most.as_slice()), None);
-    let more = filled(
-        &rt,
-        alloc,
-        "create 1\nranks 1\ndim d",
-        "i",
-        256,
-        " 1\ndata\nend\n",
-    );
-    assert_eq!(rt;
-        fault(alloc, more.as_slice()),
-        Some((3, ScriptKind::BadName))
-    );
+    all_found(&rt, rt.alloc(), &NAMES);
 }
 
 const LINES: ScriptKind = ScriptKind::Limit(LimitName::Lines);
 
-// The lines before and behind 2^20 empty lines, and the fault with its line.
-const PAST_LINES: [(&str, &str, u32, ScriptKind); 7] = [
-    ("create 1\nranks 1\nx\n", "", 3, ScriptKind::UnknownWord),
-    (
-        "create 1\nranks 1\ndata\nend\nx\n",
-        "",
-        5,
-        ScriptKind::AfterEnd,
-    ),
-    ("", "create 1\n", 1_048_577, LINES),
-    ("", "\n", 1_048_577, LINES),
-    ("create 1\nranks 1\ndata\n", "", 1_048_577, LINES),
-    ("create 1\nranks 1\ndata\nend\n", "x", 1_048_577, LINES),
-    (
-        "create 1\nranks 2\ndata\n0 sync_numrecs\nend\n",
-        "",
-        1_048_577,
-        LINES,
-    ),
+// The most lines that a text may have, and what stands before and behind 2^20 empty ones.
+const PAST_LINES: [Filled; 8] = [
+    Filled {
+        before: "create 1\nranks 1\ndata\n",
+        piece: "\n",
+        count: (1 << 20) - 4,
+        after: "end\n",
+        fault: None,
+    },
+    Filled {
+        before: "create 1\nranks 1\nx\n",
+        piece: "\n",
+        count: 1 << 20,
+        after: "",
+        fault: Some((3, ScriptKind::UnknownWord)),
+    },
+    Filled {
+        before: "create 1\nranks 1\ndata\nend\nx\n",
+        piece: "\n",
+        count: 1 << 20,
+        after: "",
+        fault: Some((5, ScriptKind::AfterEnd)),
+    },
+    Filled {
+        before: "",
+        piece: "\n",
+        count: 1 << 20,
+        after: "create 1\n",
+        fault: Some((1_048_577, LINES)),
+    },
+    Filled {
+        before: "",
+        piece: "\n",
+        count: 1 << 20,
+        after: "\n",
+        fault: Some((1_048_577, LINES)),
+    },
+    Filled {
+        before: "create 1\nranks 1\ndata\n",
+        piece: "\n",
+        count: 1 << 20,
+        after: "",
+        fault: Some((1_048_577, LINES)),
+    },
+    Filled {
+        before: "create 1\nranks 1\ndata\nend\n",
+        piece: "\n",
+        count: 1 << 20,
+        after: "x",
+        fault: Some((1_048_577, LINES)),
+    },
+    Filled {
+        before: "create 1\nranks 2\ndata\n0 sync_numrecs\nend\n",
+        piece: "\n",
+        count: 1 << 20,
+        after: "",
+        fault: Some((1_048_577, LINES)),
+    },
 ];
 
 #[test]
 fn a_text_has_up_to_2_to_the_20_lines(rt: HostRuntime) {
-    let alloc = rt.alloc();
-    let most = filled(
-        &rt,
-        alloc,
-        "create 1\nranks 1\ndata\n",
-        "\n",
-        (1 << 20) - 4,
-        "end\n",
-    );
-    assert_eq!(rt; fault(alloc, most.as_slice()), None);
-    for (before, after, line, kind) in &PAST_LINES {
-        let text = filled(&rt, alloc, before, "\n", 1 << 20, after);
-        assert_eq!(rt;
-            fault(alloc, text.as_slice()),
-            Some((*line, *kind)),
-            "{before}"
-        );
-    }
+    all_found(&rt, rt.alloc(), &PAST_LINES);
 }
 
 #[test]
 fn a_text_has_up_to_2_to_the_26_bytes(rt: HostRuntime) {
-    let alloc = rt.alloc();
-    let most = filled(&rt, alloc, "", " ", 1 << 26, "");
-    assert_eq!(rt;
-        fault(alloc, most.as_slice()),
-        Some((1, ScriptKind::NoHead))
-    );
-    let mut more = filled(&rt, alloc, "\n", " ", (1 << 26) - 1, "");
+    let most = filled(&rt, rt.alloc(), "", " ", 1 << 26, "");
+    let no_head = Some((1, ScriptKind::NoHead));
+    found(&rt, rt.alloc(), most.as_slice(), no_head, "most");
+    let mut more = filled(&rt, rt.alloc(), "\n", " ", (1 << 26) - 1, "");
     more.push(0xff).expect(&rt, NO_MEMORY);
-    assert_eq!(rt;
-        fault(alloc, more.as_slice()),
-        Some((1, ScriptKind::Limit(LimitName::Script)))
-    );
+    let past = Some((1, ScriptKind::Limit(LimitName::Script)));
+    found(&rt, rt.alloc(), more.as_slice(), past, "more");
 }

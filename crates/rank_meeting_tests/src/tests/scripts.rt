@@ -1,17 +1,17 @@
 // The dataset of the tests, and scripts of two ranks on it.
-ghost use Rattle.std.specs.Prelude.{◌≡◌, [], ◌∷◌, true, false, IfOk};
-ghost use Rattle.nc_base.specs.declared.header.NcType.TheVariants.{Int};
-ghost use Rattle.nc_base.specs.declared.request.Call.TheVariants as call;
-ghost use Rattle.nc_base.specs.declared.request.Form.TheVariants as form;
-ghost use Rattle.nc_base.specs.declared.request.Values.TheVariants.{Numbers};
+ghost use Rattle.std.specs.Prelude.{◌≡◌, ◌≤◌, true, length};
+ghost use Rattle.serial_spec.specs.HeaderBytes.{header_len};
 ghost use Rattle.serial_spec.specs.Lawful.{is_lawful};
+ghost use Rattle.serial_spec.specs.Layout.{end_of};
+ghost use Rattle.serial_spec.specs.SoundHeaders.{is_sound};
 
-use nc_base::{
-    AttrList, Call, CallList, CallTable, Dim, DimList, ExtraList, Form, Given, Header, Hints,
-    IdList, Memory, Name, NcType, NumberList, OverlapRule, PartList, Script, SizeList, Values, Var,
-    VarList,
-};
+use nc_base::{Blob, Header, Hints, NcType, OverlapRule, Script};
+use nc_outside::{Disk, MemDisk};
+use ncmpi_script::read_script;
 use std::alloc::Global;
+use std::process::Abort;
+use test_fixtures::{NO_LAYOUT, NO_MEMORY, laid_out, one_variable};
+use var_layout::file_end;
 
 pub(crate) const HINTS: Hints = Hints {
     cb_nodes: 1,
@@ -26,112 +26,61 @@ pub(crate) const HINTS: Hints = Hints {
     striping_unit: 1,
 };
 
-// The dimension x of length 4, and the int variable v over it, with this begin.
-pub(crate) fn four_ints(alloc: Global, begin: u64) -> Result<Header, Memory>
-    ensures { IfOk result (λ header. header ≡ record {
-      version = 1;
-      records = 0;
-      dims = record { name = 120 ∷ []; len = 4 } ∷ [];
-      attrs = [];
-      vars = record { name = 118 ∷ []; dims = 0 ∷ []; attrs = []; kind = Int; begin = begin } ∷ [];
-    }) }
+/// The dimension x of length 4, and the int variable v over it, which begins at 80.
+pub(crate) fn four_ints(rt: &impl Abort, alloc: Global) -> Header
+    ensures { is_sound result ≡ true }
 {
-    let name = Name::from_vec(vec![in alloc; b'x']?);
-    let dims = DimList::from_vec(vec![in alloc; Dim { name, len: 4 }]?);
-    let var = Var {
-        name: Name::from_vec(vec![in alloc; b'v']?),
-        dims: IdList::from_vec(vec![in alloc; 0]?),
-        attrs: AttrList::new(alloc),
-        kind: NcType::Int,
-        begin,
-    };
-    Ok(Header {
-        version: 1,
-        records: 0,
-        dims,
-        attrs: AttrList::new(alloc),
-        vars: VarList::from_vec(vec![in alloc; var]?),
-    })
+    let header = one_variable(alloc, 4, NcType::Int, 0).expect(rt, NO_MEMORY);
+    laid_out(header).expect(rt, NO_LAYOUT)
 }
 
-// A put of two values of v, from this one on.
-fn put_two(alloc: Global, start: u64, first: i128, second: i128) -> Result<Call, Memory>
-    ensures { IfOk result (λ c. c ≡ call.Put true (118 ∷ [])
-        (record { form = form.Vara; start = start ∷ []; count = 2 ∷ []; stride = []; imap = []; parts = [] }) (Numbers (first ∷ second ∷ []))) }
-{
-    let given = Given {
-        form: Form::Vara,
-        start: SizeList::from_vec(vec![in alloc; start]?),
-        count: SizeList::from_vec(vec![in alloc; 2]?),
-        stride: SizeList::new(alloc),
-        imap: SizeList::new(alloc),
-        parts: PartList::new(alloc),
-    };
-    Ok(Call::Put {
-        all: true,
-        var: Name::from_vec(vec![in alloc; b'v']?),
-        given,
-        values: Values::Numbers(NumberList::from_vec(vec![in alloc; first, second]?)),
-    })
+pub(crate) fn disk_of_zeros(rt: &impl Abort, alloc: Global) -> MemDisk {
+    let bytes = vec![in alloc; 0; 96].expect(rt, NO_MEMORY);
+    MemDisk::logged(alloc, Blob::from_vec(bytes)).expect(rt, NO_MEMORY)
 }
 
-// Rank 0 puts 1 and 2, and rank 1 puts 3 and 4 behind them.
-pub(crate) fn two_ranks(alloc: Global) -> Result<Script, Memory>
-    ensures lawful { IfOk result (λ script. is_lawful script ≡ true) }
-    ensures ranks { IfOk result (λ script. script.ranks ≡ 2) }
+/// The disk holds the dataset whole.
+pub(crate) fn is_long(rt: &impl Abort, header: &Header, disk: &MemDisk)
+    ensures from { disk.now.from ≡ 0 }
+    ensures long { end_of header.now (header_len header.now) header.now.records ≤ length disk.now.bytes }
 {
-    let first = put_two(alloc, 0, 1, 2)?;
-    let second = put_two(alloc, 2, 3, 4)?;
-    let first = CallList::from_vec(vec![in alloc; first]?);
-    let second = CallList::from_vec(vec![in alloc; second]?);
-    Ok(Script {
-        fresh: true,
-        header: four_ints(alloc, 0)?,
-        ranks: 2,
-        hints: HINTS,
-        filled: false,
-        extra: ExtraList::new(alloc),
-        calls: CallTable::from_vec(vec![in alloc; first, second]?),
-    })
+    let end = file_end(header, header.records);
+    let size = disk.size();
+    let from = disk.first_place();
+    assert!(rt; from == 0 && end <= size && size < 1000);
 }
 
-// The calls of a rank that puts every other value of v by itself, from this one on.
-fn alone(alloc: Global, start: u64, first: i128, second: i128) -> Result<CallList, Memory>
-    ensures { IfOk result (λ calls. calls ≡ call.BeginIndep
-        ∷ call.Put false (118 ∷ []) (record { form = form.Vars; start = start ∷ []; count = 2 ∷ []; stride = 2 ∷ []; imap = []; parts = [] }) (Numbers (first ∷ second ∷ []))
-        ∷ call.EndIndep ∷ []) }
+/// The script of this text, which has two ranks.
+fn script_of(rt: &impl Abort, alloc: Global, text: &[u8]) -> Script
+    ensures lawful { is_lawful result ≡ true }
+    ensures ranks { result.ranks ≡ 2 }
 {
-    let given = Given {
-        form: Form::Vars,
-        start: SizeList::from_vec(vec![in alloc; start]?),
-        count: SizeList::from_vec(vec![in alloc; 2]?),
-        stride: SizeList::from_vec(vec![in alloc; 2]?),
-        imap: SizeList::new(alloc),
-        parts: PartList::new(alloc),
+    let Ok(script) = read_script(alloc, text) else {
+        panic!(rt; "script")
     };
-    let put = Call::Put {
-        all: false,
-        var: Name::from_vec(vec![in alloc; b'v']?),
-        given,
-        values: Values::Numbers(NumberList::from_vec(vec![in alloc; first, second]?)),
-    };
-    Ok(CallList::from_vec(vec![in alloc; Call::BeginIndep, put, Call::EndIndep]?))
+    assert!(rt; script.ranks == 2);
+    script
 }
 
-// Rank 0 puts 1 and 3, and rank 1 puts 2 and 4 between them, each by itself.
-pub(crate) fn two_alone(alloc: Global) -> Result<Script, Memory>
-    ensures lawful { IfOk result (λ script. is_lawful script ≡ true) }
-    ensures ranks { IfOk result (λ script. script.ranks ≡ 2) }
+const TOGETHER: &[u8] = b"create 1\nranks 2\nhint line_room 1\ndim x 4\nvar int v [x]\ndata\n\
+    0 put_vara_all v [0] [2] 1 2\n1 put_vara_all v [2] [2] 3 4\nend\n";
+
+/// Rank 0 puts 1 and 2, and rank 1 puts 3 and 4 behind them.
+pub(crate) fn two_ranks(rt: &impl Abort, alloc: Global) -> Script
+    ensures lawful { is_lawful result ≡ true }
+    ensures ranks { result.ranks ≡ 2 }
 {
-    let first = alone(alloc, 0, 1, 3)?;
-    let second = alone(alloc, 1, 2, 4)?;
-    Ok(Script {
-        fresh: true,
-        header: four_ints(alloc, 0)?,
-        ranks: 2,
-        hints: HINTS,
-        filled: false,
-        extra: ExtraList::new(alloc),
-        calls: CallTable::from_vec(vec![in alloc; first, second]?),
-    })
+    script_of(rt, alloc, TOGETHER)
+}
+
+const ALONE: &[u8] = b"create 1\nranks 2\nhint line_room 1\ndim x 4\nvar int v [x]\ndata\n\
+    0 begin_indep_data\n0 put_vars v [0] [2] [2] 1 3\n0 end_indep_data\n\
+    1 begin_indep_data\n1 put_vars v [1] [2] [2] 2 4\n1 end_indep_data\nend\n";
+
+/// Rank 0 puts 1 and 3, and rank 1 puts 2 and 4 between them, each by itself.
+pub(crate) fn two_alone(rt: &impl Abort, alloc: Global) -> Script
+    ensures lawful { is_lawful result ≡ true }
+    ensures ranks { result.ranks ≡ 2 }
+{
+    script_of(rt, alloc, ALONE)
 }

@@ -1,7 +1,6 @@
 // Runs that make a dataset.
 use crate::tests::files::{A_HEADER, B, ONE_TO_FOUR, SEVEN_TO_EIGHT};
 use crate::tests::torn::{Call, Run, is_refused_anywhere};
-use std::test::*;
 
 const PLAIN: Run = Run {
     script: b"",
@@ -28,7 +27,7 @@ const HOLE: Run = Run {
 };
 
 #[test]
-fn a_put_that_leaves_a_hole(rt: HostRuntime) -> Result<(), Fail> {
+fn a_put_that_leaves_a_hole(rt: HostRuntime) {
     is_refused_anywhere(&rt, rt.alloc(), &HOLE)
 }
 
@@ -62,7 +61,7 @@ const HALVES: Run = Run {
 };
 
 #[test]
-fn a_put_of_two_ranks(rt: HostRuntime) -> Result<(), Fail> {
+fn a_put_of_two_ranks(rt: HostRuntime) {
     is_refused_anywhere(&rt, rt.alloc(), &HALVES)
 }
 
@@ -82,7 +81,7 @@ const RECORDS: Run = Run {
 };
 
 #[test]
-fn a_put_of_a_record(rt: HostRuntime) -> Result<(), Fail> {
+fn a_put_of_a_record(rt: HostRuntime) {
     is_refused_anywhere(&rt, rt.alloc(), &RECORDS)
 }
 
@@ -101,6 +100,6 @@ const FILLED: Run = Run {
 };
 
 #[test]
-fn a_dataset_that_is_filled(rt: HostRuntime) -> Result<(), Fail> {
+fn a_dataset_that_is_filled(rt: HostRuntime) {
     is_refused_anywhere(&rt, rt.alloc(), &FILLED)
 }

@@ -1,7 +1,6 @@
 // Runs on a dataset that is there.
 use crate::tests::files::{A, B, ONE_TO_FOUR, Q_HEADER, SEVEN_TO_EIGHT};
 use crate::tests::torn::{Call, Run, is_refused_anywhere};
-use std::test::*;
 
 const ON_A: Run = Run {
     script: b"",
@@ -23,7 +22,7 @@ const HOLE: Run = Run {
 };
 
 #[test]
-fn a_put_over_old_values(rt: HostRuntime) -> Result<(), Fail> {
+fn a_put_over_old_values(rt: HostRuntime) {
     is_refused_anywhere(&rt, rt.alloc(), &HOLE)
 }
 
@@ -51,7 +50,7 @@ const ALONE: Run = Run {
 };
 
 #[test]
-fn puts_of_ranks_alone(rt: HostRuntime) -> Result<(), Fail> {
+fn puts_of_ranks_alone(rt: HostRuntime) {
     is_refused_anywhere(&rt, rt.alloc(), &ALONE)
 }
 
@@ -71,7 +70,7 @@ const RECORDS: Run = Run {
 };
 
 #[test]
-fn a_record_of_a_rank_alone(rt: HostRuntime) -> Result<(), Fail> {
+fn a_record_of_a_rank_alone(rt: HostRuntime) {
     is_refused_anywhere(&rt, rt.alloc(), &RECORDS)
 }
 
@@ -98,6 +97,6 @@ const REDEFINED: Run = Run {
 };
 
 #[test]
-fn a_redefinition(rt: HostRuntime) -> Result<(), Fail> {
+fn a_redefinition(rt: HostRuntime) {
     is_refused_anywhere(&rt, rt.alloc(), &REDEFINED)
 }

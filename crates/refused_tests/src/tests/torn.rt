@@ -1,10 +1,10 @@
 // What a run's calls make of the dataset until one is refused.
-use crate::tests::{Left, left_by};
+use crate::tests::left_by;
 use nc_outside::{Fail, FailOp};
+use run_fixtures::{Ended, NO_MEMORY};
 use std::alloc::{AllocError, Global};
 use std::process::Abort;
 use std::sync::Wait;
-use std::test::Fail as TestFail;
 use std::thread::Threads;
 
 /// A call of the disk, and what it writes. A split changes no byte.
@@ -97,7 +97,7 @@ fn torn(
 }
 
 /// The run left this of the dataset, in one of its orders.
-fn is_torn(alloc: Global, run: &Run, fault: Fail, left: &Left) -> Result<bool, AllocError> {
+fn is_torn(alloc: Global, run: &Run, fault: Fail, left: &Ended) -> Result<bool, AllocError> {
     for calls in run.orders {
         let (file, refused) = torn(alloc, run.begun, calls, fault)?;
         let status = if refused { 7 } else { 0 };
@@ -113,13 +113,12 @@ pub(crate) fn is_refused_anywhere<R: Abort + Threads + Wait + Sync>(
     rt: &R,
     alloc: Global,
     run: &Run,
-) -> Result<(), TestFail> {
+) {
     for op in [FailOp::Grow, FailOp::Split, FailOp::Load, FailOp::Store] {
         for at in 0..run.len {
             let fault = Fail { op, at };
-            let left = left_by(rt, alloc, run.script, run.held, fault)?;
-            assert!(rt; is_torn(alloc, run, fault, &left)?);
+            let left = left_by(rt, alloc, run.script, run.held, fault);
+            assert!(rt; is_torn(alloc, run, fault, &left).expect(rt, NO_MEMORY));
         }
     }
-    Ok(())
 }

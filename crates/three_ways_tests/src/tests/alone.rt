@@ -1,7 +1,6 @@
 // Steps of one rank alone.
 use crate::tests::datasets::{B, COUNTED_A, MAGIC, NEW_A, NEW_B};
 use crate::tests::{Row, all_agree};
-use std::test::*;
 
 // Every other element by each of two ranks, in whatever order.
 const TURNS: [Row; 1] = [Row {

@@ -1,7 +1,6 @@
 // Requests that are posted.
 use crate::tests::datasets::{A, MAGIC, NEW_A, NO_RECORDS, TEN};
 use crate::tests::{Row, all_agree};
-use std::test::*;
 
 // Ten puts of one element, which one wait completes; the id of one that is done.
 const POSTS: [Row; 1] = [Row {

@@ -1,7 +1,6 @@
 // Calls that are refused, beside others that are not.
 use crate::tests::datasets::{A, MAGIC, NEW_A, NO_RECORDS, SHORT_AND_FLOAT};
 use crate::tests::{Row, all_agree};
-use std::test::*;
 
 const REGIONS: [Row; 1] = [Row {
     script: b"create 1\nranks 2\ndim x 4\nvar int v [x]\ndata\n\

@@ -1,7 +1,6 @@
 // Calls of all ranks.
 use crate::tests::datasets::{A, B, COUNTED_A, MAGIC, NEW_A, NEW_B, NO_RECORDS, TWO_OF_B, W};
 use crate::tests::{Row, all_agree};
-use std::test::*;
 
 // Two ranks put halves, with two aggregators; and each the other's neighbours, in windows of one element.
 const HALVES: [Row; 2] = [

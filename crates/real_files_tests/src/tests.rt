@@ -1,6 +1,6 @@
 // The real source, sink and disk.
 use nc_outside::{Disk, Sink, Source};
-use ncmpi_cli::{FileDisk, StdSink, StdSource};
+use real_files::{FileDisk, StdSink, StdSource};
 use std::io::{ErrorKind, Read, Write};
 use std::test::*;
 use std::{fs, io};

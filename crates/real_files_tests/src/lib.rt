@@ -1,0 +1,5 @@
+//! Tests of real_files.
+#![tactic(auto)]
+
+#[cfg(test)]
+mod tests;
