@@ -106,7 +106,7 @@ collected_twice lo hi buf a b old mid now k h g =
 pub collected_read : (held : Option (List ℕ)) (base : ℕ) (buf : List ℕ) (lo n : ℕ) (list : List Owned) (old now : List (List ℕ)) → base ≤ lo
     → IfSome held (λ file. buf ≡ read file (lo - base) n)
     → ((k : ℕ) → blob_at now k ≡ write_cells (blob_at old k) (map (λ o. buffer_cell lo (lo + n) buf o) (of_slot k list)))
-    → IfSome held (λ file. HasGotPart lo (lo + n) base file list old now)
+    → IfSome held (λ file. HasGotPart (lo, lo + n) base file list old now)
 collected_read None base buf lo n list old now h e g = tt
 collected_read (Some file) base buf lo n list old now h e g = λ k.
     g k ∙ ap (λ (cells : List Cell). write_cells (blob_at old k) cells) (buffer_cells base file buf lo n (of_slot k list) h e)
@@ -126,23 +126,23 @@ told_all (Some file) P f = f file
 -- blobs that were filled up to a window, and from it
 pub got_more : (held here : Option (List ℕ)) (base there n : ℕ) (list left : List Owned) (place size : ℕ) (w : Window) (served : List Owned) (stop : ℕ)
     (old mid now : List (List ℕ)) → here ≡ held → there ≡ base → LieOn base n list → HaveOnePlace list → FitBlobs old list → IsPast place list left
-    → IsNext left place size w served stop → IfSome held (λ file. HasGotPart 0 place base file list old mid)
-    → IfSome here (λ file. HasGotPart w.hull.at (w.hull.at + w.hull.len) there file served mid now) → IfSome held (λ file. HasGotPart 0 stop base file list old now)
+    → IsNext left place size w served stop → IfSome held (λ file. HasGotPart (0, place) base file list old mid)
+    → IfSome here (λ file. HasGotPart (w.hull.at, w.hull.at + w.hull.len) there file served mid now) → IfSome held (λ file. HasGotPart (0, stop) base file list old now)
 got_more held here base there n list left place size w served stop old mid now same begin on once fit p k got read =
-    told_step held (λ file. HasGotPart 0 place base file list old mid) (λ file. HasGotPart w.hull.at (w.hull.at + w.hull.len) base file served mid now)
-    (λ file. HasGotPart 0 stop base file list old now)
+    told_step held (λ file. HasGotPart (0, place) base file list old mid) (λ file. HasGotPart (w.hull.at, w.hull.at + w.hull.len) base file served mid now)
+    (λ file. HasGotPart (0, stop) base file list old now)
     (λ file g h. got_step base file list left place size w served stop old mid now (λ o m. (on o m).0) once fit p k g h)
     got
-    (subst (λ (b : ℕ). IfSome held (λ file. HasGotPart w.hull.at (w.hull.at + w.hull.len) b file served mid now)) begin
-    (subst (λ (m : Option (List ℕ)). IfSome m (λ file. HasGotPart w.hull.at (w.hull.at + w.hull.len) there file served mid now)) same read))
+    (subst (λ (b : ℕ). IfSome held (λ file. HasGotPart (w.hull.at, w.hull.at + w.hull.len) b file served mid now)) begin
+    (subst (λ (m : Option (List ℕ)). IfSome m (λ file. HasGotPart (w.hull.at, w.hull.at + w.hull.len) there file served mid now)) same read))
 
 pub got_all : (held : Option (List ℕ)) (base : ℕ) (list left : List Owned) (place : ℕ) (old now : List (List ℕ)) → left ≡ [] → IsPast place list left
-    → IfSome held (λ file. HasGotPart 0 place base file list old now) → IfSome held (λ file. HasGot base file list old now)
+    → IfSome held (λ file. HasGotPart (0, place) base file list old now) → IfSome held (λ file. HasGot base file list old now)
 got_all held base list left place old now none p got =
-    told_one held (λ file. HasGotPart 0 place base file list old now) (λ file. HasGot base file list old now)
+    told_one held (λ file. HasGotPart (0, place) base file list old now) (λ file. HasGot base file list old now)
     (λ file g. got_end base file list left place old now none p g) got
 
 pub got_none : (held : Option (List ℕ)) (base n : ℕ) (list : List Owned) (blobs : List (List ℕ)) → LieOn base n list → FitBlobs blobs list
-    → IfSome held (λ file. HasGotPart 0 0 base file list blobs blobs)
+    → IfSome held (λ file. HasGotPart (0, 0) base file list blobs blobs)
 got_none held base n list blobs on fit =
-    told_all held (λ file. HasGotPart 0 0 base file list blobs blobs) (λ file. got_begin base file list blobs (λ o m. (on o m).0) fit)
+    told_all held (λ file. HasGotPart (0, 0) base file list blobs blobs) (λ file. got_begin base file list blobs (λ o m. (on o m).0) fit)

@@ -120,7 +120,7 @@ fit_slot k blobs list fit o m =
 -- blobs with what lies below a place
 pub got_step : (base : ℕ) (file : List ℕ) (list left : List Owned) (place size : ℕ) (w : Window) (served : List Owned) (stop : ℕ) (old mid now : List (List ℕ))
     → ((o : Owned) → In list o → base ≤ o.extent.at) → HaveOnePlace list → FitBlobs old list → IsPast place list left → IsNext left place size w served stop
-    → HasGotPart 0 place base file list old mid → HasGotPart w.hull.at (w.hull.at + w.hull.len) base file served mid now → HasGotPart 0 stop base file list old now
+    → HasGotPart (0, place) base file list old mid → HasGotPart (w.hull.at, w.hull.at + w.hull.len) base file served mid now → HasGotPart (0, stop) base file list old now
 got_step base file list left place size w served stop old mid now on once fit p n g h k =
     h k
     ∙ ap (λ (b : List ℕ). write_cells b (parts_got base file w.hull.at (w.hull.at + w.hull.len) (of_slot k served))) (g k)
@@ -145,7 +145,7 @@ said_none ps x h = by_said (said_at ps x) refl
     by_said (Some v) e = absurd (h v (said_is ps x v e))
 
 pub got_begin : (base : ℕ) (file : List ℕ) (list : List Owned) (blobs : List (List ℕ)) → ((o : Owned) → In list o → base ≤ o.extent.at) → FitBlobs blobs list
-    → HasGotPart 0 0 base file list blobs blobs
+    → HasGotPart (0, 0) base file list blobs blobs
 got_begin base file list blobs on fit k =
     same_said [] (parts_got base file 0 0 (of_slot k list)) (blob_at blobs k) tt
     (parts_within base file 0 0 (length (blob_at blobs k)) (of_slot k list) (fit_slot k blobs list fit))
@@ -153,7 +153,7 @@ got_begin base file list blobs on fit k =
     (λ v h. let r = got_says base file 0 0 (of_slot k list) y v (λ o m. on o (in_slot k list o m).0) h in let l = r.high in absurd (omega arith))))
 
 pub got_end : (base : ℕ) (file : List ℕ) (list left : List Owned) (place : ℕ) (old now : List (List ℕ)) → left ≡ [] → IsPast place list left
-    → HasGotPart 0 place base file list old now → HasGot base file list old now
+    → HasGotPart (0, place) base file list old now → HasGot base file list old now
 got_end base file list left place old now none p g k =
     g k ∙ ap (λ (os : List Owned). write_cells (blob_at old k) (got_cells base file os)) (whole_parts place (of_slot k list) ends)
   where

@@ -6,7 +6,7 @@
 --     entries_in w                    the entries of a window
 --     IsHull at stop list w           a window's hull is from the byte at to the last covered byte before stop
 --     HasDone plan rest old now       of the planned calls the rest is left
---     HasGotPart lo hi from file list old new    each blob with the file's bytes of its entries' parts from lo to hi
+--     HasGotPart (lo, hi) from file list old new    each blob with the file's bytes of its entries' parts from lo to hi
 use Rattle.std.specs.Prelude.{◌≡◌, ℕ, ◌+◌, ◌-◌, ◌^◌, ◌<◌, ◌≤◌, min, List, ◌++◌, map, filter, nat_le, true, false, Option, Some, slice_get}
 use Rattle.nc_base.specs.declared.plan.Owned.{Owned}
 use Rattle.nc_base.specs.declared.step.DiskCall.{DiskCall}
@@ -80,6 +80,7 @@ pub record HasDone (plan rest : List DiskCall) (old now : Option (List DiskCall)
 
 -- ---- gets
 
-abbrev pub HasGotPart : ℕ → ℕ → ℕ → List ℕ → List Owned → List (List ℕ) → List (List ℕ) → Type 0
-HasGotPart lo hi from file list old new =
-    (k : ℕ) → blob_at new k ≡ write_cells (blob_at old k) (got_cells from file (map (λ o. part_in lo hi o) (of_slot k list)))
+-- from one place up to another
+abbrev pub HasGotPart : ℕ × ℕ → ℕ → List ℕ → List Owned → List (List ℕ) → List (List ℕ) → Type 0
+HasGotPart part from file list old new =
+    (k : ℕ) → blob_at new k ≡ write_cells (blob_at old k) (got_cells from file (map (λ o. part_in part.0 part.1 o) (of_slot k list)))

@@ -81,7 +81,7 @@ fn read_window<D: Disk>(
     ensures from { D.from disk.new ≡ D.from disk.old }
     ensures len { D.len disk.new ≡ D.len disk.old }
     ensures bytes { D.held disk.new ≡ D.held disk.old }
-    ensures read { OnOk result (IfSome (D.held disk.old) (λ file. HasGotPart next.now.window.hull.at (next.now.window.hull.at + next.now.window.hull.len) (D.from disk.old) file (entries_in next.now) blobs.old blobs.new)) }
+    ensures read { OnOk result (IfSome (D.held disk.old) (λ file. HasGotPart (next.now.window.hull.at, next.now.window.hull.at + next.now.window.hull.len) (D.from disk.old) file (entries_in next.now) blobs.old blobs.new)) }
     ensures blobs { AreAsLong blobs.old blobs.new }
     ensures calls { D.calls disk.new ≡ (if is_ok result then with_end (D.calls disk.old) (load_calls (told_window next.now.window)) else D.calls disk.old) }
     ensures certain { D.sure disk.old → IsOk result }

@@ -35,7 +35,7 @@ windows-init g c = let lent = c.as_mut_slice-blobs.ensures.seen in record {
   from = refl;
   len = refl;
   bytes = refl;
-  got = subst (λ (bs : List (List ℕ)). IfSome (g.D.Disk.held c.args.disk.now) (λ file. HasGotPart 0 0 (g.D.Disk.from c.args.disk.now) file c.args.list.now c.args.into.now bs)) (sym lent)
+  got = subst (λ (bs : List (List ℕ)). IfSome (g.D.Disk.held c.args.disk.now) (λ file. HasGotPart (0, 0) (g.D.Disk.from c.args.disk.now) file c.args.list.now c.args.into.now bs)) (sym lent)
       (got_none (g.D.Disk.held c.args.disk.now) (g.D.Disk.from c.args.disk.now) (g.D.Disk.len c.args.disk.now) c.args.list.now c.args.into.now c.requires.on_disk c.requires.fit);
   long = subst (λ (bs : List (List ℕ)). AreAsLong c.args.into.now bs) (sym lent) (refl, (λ k. refl));
   calls = calls_begin loads (length c.args.buf.now) c.args.list.now (g.D.Disk.calls c.args.disk.now);

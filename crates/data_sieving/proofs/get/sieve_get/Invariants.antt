@@ -16,7 +16,7 @@ invariant-windows g l = record {
   from : g.D.Disk.from l.disk ≡ g.D.Disk.from l.initial.disk;
   len : g.D.Disk.len l.disk ≡ g.D.Disk.len l.initial.disk;
   bytes : g.D.Disk.held l.disk ≡ g.D.Disk.held l.initial.disk;
-  got : IfSome (g.D.Disk.held l.initial.disk) (λ file. HasGotPart 0 l.walk.from (g.D.Disk.from l.initial.disk) file l.list l.fn.into l.blobs);
+  got : IfSome (g.D.Disk.held l.initial.disk) (λ file. HasGotPart (0, l.walk.from) (g.D.Disk.from l.initial.disk) file l.list l.fn.into l.blobs);
   long : AreAsLong l.fn.into l.blobs;
   calls : HasDone (flat_map loads (entry_windows l.walk.size l.list)) (flat_map loads (windows_from l.walk.size l.walk.from l.list)) (g.D.Disk.calls l.initial.disk) (g.D.Disk.calls l.disk);
   sure : g.D.Disk.sure l.initial.disk → g.D.Disk.sure l.disk;
