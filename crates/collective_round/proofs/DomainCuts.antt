@@ -24,7 +24,7 @@ use Rattle.overlay_laws.proofs.HullLaws.{ceil_covers, first_least, in_left, in_r
 use Rattle.overlay_laws.proofs.WalkLaws.{filter_none, windows_walked}
 use Rattle.file_domains.specs.Domains.{border, low_of, share_of}
 use Rattle.file_domains.specs.Rounds.{bytes_in}
-use Rattle.piece_exchange.specs.Turns.{turns_of, Told}
+use Rattle.exchange_crew.specs.Turns.{turns_of, Told}
 use Rattle.collective_round.specs.Parts.{begin_or, Adjoin, AreDomains}
 use Rattle.collective_round.proofs.DomainSteps.{collective_is, in_range_hints, same_domains}
 

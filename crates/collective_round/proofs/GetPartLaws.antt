@@ -9,9 +9,9 @@ use Rattle.overlay_laws.specs.Changes.{load_calls}
 use Rattle.overlay_laws.specs.Entries.{In}
 use Rattle.overlay_laws.specs.Walks.{end_after}
 use Rattle.overlay_laws.proofs.Members.{in_map}
-use Rattle.piece_exchange.specs.Gets.{HasGot}
-use Rattle.piece_exchange.specs.Put.{PartState}
-use Rattle.piece_exchange.specs.Turns.{Told}
+use Rattle.get_exchange.specs.Gets.{HasGot}
+use Rattle.exchange_crew.specs.Parts.{PartState}
+use Rattle.exchange_crew.specs.Turns.{Told}
 use Rattle.serial_spec.specs.File.{read}
 use Rattle.collective_round.specs.Parts.{parts_of, with_parts, Adjoin, Follow}
 use Rattle.collective_round.proofs.PartDomains.{on_states, part_bytes}

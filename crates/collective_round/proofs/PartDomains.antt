@@ -17,8 +17,8 @@ use Rattle.serial_spec.specs.Extents.{spans}
 use Rattle.overlay_laws.proofs.HullLaws.{in_flat, in_range}
 use Rattle.overlay_laws.proofs.Members.{in_map, map_in}
 use Rattle.aggregator_rounds.specs.EntryParts.{IsCovered}
-use Rattle.piece_exchange.specs.Plan.{IsDomainOf}
-use Rattle.piece_exchange.specs.Put.{PartState, SomeZip}
+use Rattle.exchange_crew.specs.Plan.{IsDomainOf}
+use Rattle.exchange_crew.specs.Parts.{PartState, SomeZip}
 use Rattle.collective_round.specs.Parts.{begin_or, part_between, parts_of, Adjoin, AreDomains}
 use Rattle.collective_round.proofs.DomainCuts.{within_reach}
 use Rattle.collective_round.proofs.PartSplits.{end_dropped, next_begin}

@@ -10,7 +10,7 @@ use Rattle.nc_outside.specs.Cause.{Rose}
 use Rattle.nc_outside.specs.Told.{after, joined, with_end}
 use Rattle.nc_outside.proofs.ToldLaws.{with_end-nil}
 use Rattle.overlay_laws.specs.Walks.{end_after}
-use Rattle.piece_exchange.specs.Put.{PartState, SomeZip}
+use Rattle.exchange_crew.specs.Parts.{PartState, SomeZip}
 use Rattle.collective_round.specs.Parts.{begin_or, part_between, parts_of, with_part, with_parts, Adjoin, Follow, IsFront}
 use Rattle.collective_round.proofs.PartSplits.{joined_at_least, next_begin, take_both}
 use Rattle.collective_round.proofs.PartDomains.{some_states}

@@ -8,7 +8,7 @@ use Rattle.nc_outside.specs.Cause.{both_faults}
 use Rattle.nc_outside.specs.Told.{after, joined}
 use Rattle.nc_outside.proofs.ToldLaws.{after-after, after-same}
 use Rattle.overlay_laws.specs.Walks.{end_after}
-use Rattle.piece_exchange.specs.Put.{PartState}
+use Rattle.exchange_crew.specs.Parts.{PartState}
 use Rattle.collective_round.specs.Parts.{begin_or, part_between, with_part, with_parts, Adjoin, Follow, IsFront}
 use Rattle.collective_round.proofs.DomainCuts.{end_grows}
 

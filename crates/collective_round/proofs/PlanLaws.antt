@@ -12,10 +12,10 @@ use Rattle.overlay_laws.specs.Origins.{AreFound}
 use Rattle.overlay_laws.specs.Walks.{IsCover}
 use Rattle.serial_spec.specs.Extents.{spans}
 use Rattle.overlay_laws.proofs.Members.{in_map}
-use Rattle.piece_exchange.specs.Gets.{IsGetPlan}
-use Rattle.piece_exchange.specs.Pieces.{ArePieces}
-use Rattle.piece_exchange.specs.Plan.{IsPlan}
-use Rattle.piece_exchange.specs.Turns as turns
+use Rattle.get_exchange.specs.Gets.{IsGetPlan}
+use Rattle.exchange_crew.specs.Pieces.{ArePieces}
+use Rattle.exchange_crew.specs.Plan.{IsPlan}
+use Rattle.exchange_crew.specs.Turns as turns
 use Rattle.serial_spec.specs.SharedByte.{Puts}
 use Rattle.collective_round.specs.Laid.{source_of, AreGot, AreLaid, AreSorted}
 use Rattle.collective_round.proofs.PutLaws.{cover_ends}

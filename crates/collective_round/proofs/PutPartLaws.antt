@@ -14,8 +14,9 @@ use Rattle.overlay_laws.specs.Entries.{ranges, In, HaveSame, Source}
 use Rattle.overlay_laws.specs.Walks.{end_after, IsCover}
 use Rattle.serial_spec.specs.Extents.{spans}
 use Rattle.overlay_laws.proofs.HullLaws.{flat_in, in_left, in_range, in_right, range_high}
-use Rattle.piece_exchange.specs.Put.{HasPut, PartState, SomeZip}
-use Rattle.piece_exchange.specs.Turns.{Told}
+use Rattle.put_exchange.specs.Put.{HasPut}
+use Rattle.exchange_crew.specs.Parts.{PartState, SomeZip}
+use Rattle.exchange_crew.specs.Turns.{Told}
 use Rattle.collective_round.specs.Parts.{parts_of, with_parts, Adjoin, AreDomains, Follow, IsFront}
 use Rattle.collective_round.proofs.PartSplits.{joined_at_least}
 use Rattle.collective_round.proofs.PartDomains.{cells_behind, domains_room}

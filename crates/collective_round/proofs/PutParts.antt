@@ -19,8 +19,9 @@ use Rattle.overlay_laws.specs.Windows.{clips}
 use Rattle.overlay_laws.proofs.PartLaws.{parts_done}
 use Rattle.overlay_laws.proofs.SaidLaws.{cells_long}
 use Rattle.overlay_laws.proofs.WindowLaws.{within_lowered, clips_within, clips_from}
-use Rattle.piece_exchange.specs.Put.{put_part, HasPut, PartState}
-use Rattle.piece_exchange.specs.Turns.{Told}
+use Rattle.put_exchange.specs.Put.{put_part, HasPut}
+use Rattle.exchange_crew.specs.Parts.{PartState}
+use Rattle.exchange_crew.specs.Turns.{Told}
 use Rattle.collective_round.specs.Parts.{begin_or, parts_of, with_part, with_parts, Adjoin, Follow, IsFront}
 use Rattle.collective_round.proofs.PartSplits.{begin_within, next_begin, take_both}
 use Rattle.collective_round.proofs.PartDomains.{on_states}

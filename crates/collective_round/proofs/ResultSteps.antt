@@ -7,7 +7,7 @@ use Rattle.nc_outside.specs.Told.{with_end}
 use Rattle.serial_spec.specs.DeviceCalls.{overlays, loads}
 use Rattle.overlay_laws.specs.Changes.{load_calls, store_calls}
 use Rattle.overlay_laws.specs.Walks.{told_of}
-use Rattle.piece_exchange.specs.Turns.{Told}
+use Rattle.exchange_crew.specs.Turns.{Told}
 
 pub stores_are : (ws : List (List ℕ)) → flat_map store_calls (map told_of ws) ≡ flat_map overlays ws
 stores_are ws = flat_map-map store_calls told_of ws

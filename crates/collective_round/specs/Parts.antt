@@ -15,7 +15,7 @@ use Rattle.nc_base.specs.declared.plan.Extent.{Extent}
 use Rattle.nc_outside.specs.Cause.{both_faults}
 use Rattle.nc_outside.specs.Told.{after, joined}
 use Rattle.overlay_laws.specs.Walks.{end_after, first_at}
-use Rattle.piece_exchange.specs.Put.{PartState}
+use Rattle.exchange_crew.specs.Parts.{PartState}
 
 -- ---- domains
 

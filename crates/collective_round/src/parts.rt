@@ -6,9 +6,9 @@ ghost use Rattle.overlay_laws.specs.Walks.{end_after, first_at, told_of, IsCover
 ghost use Rattle.serial_spec.specs.Extents.{spans};
 ghost use Rattle.serial_spec.specs.DeviceCalls.{collective_windows};
 ghost use Rattle.serial_spec.specs.Lawful.{are_lawful_hints};
-ghost use Rattle.piece_exchange.specs.Turns.{turns_of};
+ghost use Rattle.exchange_crew.specs.Turns.{turns_of};
 ghost use Rattle.collective_round.specs.Parts.{parts_of, with_parts, Adjoin, AreDomains, Follow, IsFront, IsSplit};
-ghost use Rattle.piece_exchange.specs.Put.{part_state};
+ghost use Rattle.exchange_crew.specs.Parts.{part_state};
 
 use file_domains::cut;
 use nc_base::{Extent, Hints, Memory};

@@ -16,9 +16,9 @@ use Rattle.serial_spec.specs.Extents.{spans}
 use Rattle.overlay_laws.proofs.EntryLaws.{says_cases, says_place}
 use Rattle.overlay_laws.proofs.HullLaws.{in_either}
 use Rattle.overlay_laws.proofs.Members.{map_in}
-use Rattle.piece_exchange.specs.Pieces.{ArePieces}
-use Rattle.piece_exchange.specs.Plan.{IsDomainOf, IsPlan}
-use Rattle.piece_exchange.specs.Turns.{source_of}
+use Rattle.exchange_crew.specs.Pieces.{ArePieces}
+use Rattle.exchange_crew.specs.Plan.{IsDomainOf, IsPlan}
+use Rattle.exchange_crew.specs.Turns.{source_of}
 use Rattle.piece_exchange_tests.specs.Apart.{AreApart}
 
 -- ---- one value of a byte

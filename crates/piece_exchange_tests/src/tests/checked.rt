@@ -5,8 +5,8 @@ ghost use Rattle.overlay_laws.specs.Entries.{In, HaveSame, ranges};
 ghost use Rattle.overlay_laws.specs.Lines.{extents, IsByPlace, EndBelow};
 ghost use Rattle.overlay_laws.specs.Walks.{IsCover};
 ghost use Rattle.serial_spec.specs.Extents.{spans};
-ghost use Rattle.piece_exchange.specs.Pieces.{ArePieces, IsPiece};
-ghost use Rattle.piece_exchange.specs.Turns.{source_of};
+ghost use Rattle.exchange_crew.specs.Pieces.{ArePieces, IsPiece};
+ghost use Rattle.exchange_crew.specs.Turns.{source_of};
 ghost use Rattle.piece_exchange_tests.specs.Apart.{AreApart};
 
 use nc_base::{Batch, Extent, ExtentList, Owned};

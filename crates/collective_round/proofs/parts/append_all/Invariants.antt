@@ -2,7 +2,7 @@
 use Rattle.std.proofs.Common.{◌≡◌, ◌+◌, map}
 use Rattle.collective_round.specs.Parts.{with_parts, Follow}
 use Rattle.collective_round.proofs.parts.append_all.Given as goal
-use Rattle.piece_exchange.specs.Put.{part_state}
+use Rattle.exchange_crew.specs.Parts.{part_state}
 
 abbrev pub invariant-loop-part : goal.invariant-loop-part
 invariant-loop-part g l = record {

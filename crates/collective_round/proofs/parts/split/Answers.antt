@@ -1,7 +1,7 @@
 -- What was split off goes back.
 use Rattle.std.proofs.Common.{◌≡◌, ◌+◌, ◌-◌, ◌^◌, ◌∙◌, min, sym, ap, subst, List, drop, map, arith}
 use Rattle.nc_outside.specs.declared.disk.DiskErr.TheVariants.{Failed}
-use Rattle.piece_exchange.specs.Put.{PartState, part_state}
+use Rattle.exchange_crew.specs.Parts.{PartState, part_state}
 use Rattle.collective_round.specs.Parts.{parts_of, with_parts, Follow}
 use Rattle.collective_round.proofs.PartLaws.{parts_follow, parts_rejoined}
 use Rattle.collective_round.proofs.PartSplits.{adjoin_dropped, end_dropped, joined_at_least, same_fault}

@@ -3,7 +3,7 @@ use Rattle.std.proofs.Common.{◌≡◌, ◌+◌, ◌≤◌, drop, length, map, 
 use Rattle.std.specs.Prelude.{reverse}
 use Rattle.collective_round.specs.Parts.{parts_of, IsFront}
 use Rattle.collective_round.proofs.parts.split_backwards.Given as goal
-use Rattle.piece_exchange.specs.Put.{part_state}
+use Rattle.exchange_crew.specs.Parts.{part_state}
 
 abbrev pub invariant-loop-k : goal.invariant-loop-k
 invariant-loop-k g l = record {

@@ -2,8 +2,8 @@
 use Rattle.std.proofs.Common.{◌∙◌, rules, arith}
 use Rattle.std.proofs.lemmas.Grind.{common_steps}
 use Rattle.std.specs.Prelude.{flat_map}
-use Rattle.piece_exchange.specs.Plan.{planned_turns, source_in}
-use Rattle.piece_exchange.specs.Put.{PartState, part_state}
+use Rattle.exchange_crew.specs.Plan.{planned_turns, source_in}
+use Rattle.exchange_crew.specs.Parts.{PartState, part_state}
 use Rattle.collective_round.proofs.PartDomains.{as_many_parts, domain_of_part}
 use Rattle.collective_round.proofs.PutParts.{HasPutWhole}
 use Rattle.collective_round.proofs.PutPartLaws.{are_split, cover_room, parts_cause, parts_follow, parts_put, plan_room}

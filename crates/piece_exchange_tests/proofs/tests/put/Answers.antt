@@ -1,6 +1,6 @@
 -- The puts were seen to, and each domain is a whole part.
 use Rattle.std.proofs.Common.{length}
-use Rattle.piece_exchange.specs.Turns.{source_of}
+use Rattle.exchange_crew.specs.Turns.{source_of}
 use Rattle.piece_exchange_tests.proofs.ApartLaws.{apart_by_place, pieces_end, planned, whole_domain}
 use Rattle.piece_exchange_tests.proofs.tests.put.Goals as goal
 

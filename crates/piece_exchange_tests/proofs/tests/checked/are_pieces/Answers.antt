@@ -1,8 +1,8 @@
 -- One entry more.
 use Rattle.std.proofs.Common.{◌<◌, length}
 use Rattle.nc_base.specs.declared.plan.Owned.{Owned}
-use Rattle.piece_exchange.specs.Pieces.{IsPiece}
-use Rattle.piece_exchange.specs.Turns.{source_of}
+use Rattle.exchange_crew.specs.Pieces.{IsPiece}
+use Rattle.exchange_crew.specs.Turns.{source_of}
 use Rattle.piece_exchange_tests.proofs.ApartLaws.{each_taken, each_whole}
 use Rattle.piece_exchange_tests.proofs.tests.checked.are_pieces.Goals as goal
 

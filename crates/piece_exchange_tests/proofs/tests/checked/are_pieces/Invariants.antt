@@ -2,8 +2,8 @@
 use Rattle.std.proofs.Common.{◌<◌, length, take}
 use Rattle.nc_base.specs.declared.plan.Owned.{Owned}
 use Rattle.overlay_laws.specs.Entries.{In}
-use Rattle.piece_exchange.specs.Pieces.{ArePieces}
-use Rattle.piece_exchange.specs.Turns.{source_of}
+use Rattle.exchange_crew.specs.Pieces.{ArePieces}
+use Rattle.exchange_crew.specs.Turns.{source_of}
 use Rattle.piece_exchange_tests.proofs.tests.checked.are_pieces.Given as goal
 
 abbrev pub invariant-loop-entry : goal.invariant-loop-entry

@@ -1,0 +1,110 @@
+-- Helpers that were started one after another, each for the next part.
+use Rattle.std.proofs.Common.{◌≡◌, ℕ, ◌+◌, inl, inr, sym, ◌∙◌, ap, subst, List, [], ◌∷◌, ◌++◌, length, map, take, Some, Result, Ok, Err, arith}
+use Rattle.std.proofs.lemmas.List.{append-nil, length-append, length-map, map-append, take_all}
+use Rattle.std.specs.Prelude.{slice_get, zip, IsOk, OnOk}
+use Rattle.std.specs.List.{AllZip}
+use Rattle.list_laws.proofs.Places.{take_next}
+use Rattle.nc_base.specs.declared.plan.Extent.{Extent}
+use Rattle.overlay_laws.specs.Entries.{In}
+use Rattle.overlay_laws.proofs.HullLaws.{in_either}
+use Rattle.exchange_crew.specs.Parts.{SomeZip}
+use Rattle.exchange_crew.proofs.BackLaws.{map_new, some_mapped, zip_mapped}
+
+-- where a helper was started for each part, they are those of the parts and domains
+pub all_started : {S D : Type 0} (part : S → D) (share : S → Extent) (workers : List S) (rest parts : List D) (domains : List Extent) → rest ≡ [] → map part workers ++ rest ≡ parts
+    → map share workers ≡ take (length workers) domains → length domains ≡ length parts → (map part workers ≡ parts) × (map share workers ≡ domains)
+all_started {S} {D} part share workers rest parts domains none whole shares long =
+    let all : map part workers ≡ parts = sym (append-nil (map part workers)) ∙ ap (λ (r : List D). map part workers ++ r) (sym none) ∙ whole in
+    let many = length-map workers part in
+    let same = ap (λ (ds : List D). length ds) all in
+    (all, shares ∙ take_all (length workers) domains (omega arith))
+
+pub workers_few : {S D : Type 0} (part : S → D) (workers : List S) (rest parts : List D) → map part workers ++ rest ≡ parts → length workers + length rest ≡ length parts
+workers_few {S} {D} part workers rest parts whole =
+    let many = length-map workers part in
+    let both = length-append (map part workers) rest in
+    let same = ap (λ (ds : List D). length ds) whole in
+    omega arith
+
+-- ---- one helper more was started
+
+pub crew_parts : {S D : Type 0} (part : S → D) (workers now : List S) (worker : S) (rest yielded : List D) (own : D) → now ≡ workers ++ worker ∷ [] → rest ≡ [] → part worker ≡ own
+    → map part workers ++ rest ≡ yielded → map part now ++ rest ≡ yielded ++ own ∷ []
+crew_parts {S} {D} part workers now worker rest yielded own e none is whole =
+    let all : map part workers ≡ yielded = sym (append-nil (map part workers)) ∙ ap (λ (r : List D). map part workers ++ r) (sym none) ∙ whole in
+    ap (λ (r : List D). map part now ++ r) none
+    ∙ append-nil (map part now)
+    ∙ ap (λ (ss : List S). map part ss) e
+    ∙ map-append part workers (worker ∷ [])
+    ∙ ap (λ (r : List D). r ++ part worker ∷ []) all
+    ∙ ap (λ (p : D). yielded ++ p ∷ []) is
+
+pub crew_domains : {S : Type 0} (share : S → Extent) (workers now : List S) (worker : S) (domains : List Extent) (domain : Extent) → now ≡ workers ++ worker ∷ [] → share worker ≡ domain
+    → slice_get domains (length workers) ≡ Some domain → map share workers ≡ take (length workers) domains → map share now ≡ take (length now) domains
+crew_domains {S} share workers now worker domains domain e is at shares =
+    let long : length now ≡ length workers + 1 = ap (λ (ss : List S). length ss) e ∙ length-append workers (worker ∷ []) in
+    ap (λ (ss : List S). map share ss) e
+    ∙ map-append share workers (worker ∷ [])
+    ∙ ap (λ (r : List Extent). r ++ share worker ∷ []) shares
+    ∙ ap (λ (d : Extent). take (length workers) domains ++ d ∷ []) is
+    ∙ sym (take_next domains (length workers) domain at)
+    ∙ ap (λ (n : ℕ). take n domains) (sym long)
+
+pub crew_each : {S : Type 0} (P : S → Type 0) (workers now : List S) (worker : S) → now ≡ workers ++ worker ∷ [] → ((s : S) → In workers s → P s) → P worker → (s : S) → In now s → P s
+crew_each {S} P workers now worker e all own s m =
+    elim (in_either workers (worker ∷ []) s (subst (λ (ss : List S). In ss s) e m)) [
+      | inl g ↦ all s g
+      | inr (inl is) ↦ subst P is own
+      | inr (inr g) ↦ absurd g
+    ]
+
+-- ---- one helper more was joined
+
+-- what holds of each worker so far and of the last one, where nothing was refused
+pub each_joined : {S T U V E : Type 0} (P : S → Type 0) (workers : List S) (worker : S) (end : Result T E) (came : Result U E) (both : Result V E) → OnOk both (IsOk end) → OnOk both (IsOk came)
+    → OnOk end ((s : S) → In workers s → P s) → OnOk came (P worker) → OnOk both ((s : S) → In (workers ++ worker ∷ []) s → P s)
+each_joined P workers worker end came (Err e) first second all own = tt
+each_joined P workers worker (Ok u) (Ok v) (Ok w) first second all own =
+    crew_each P workers (workers ++ worker ∷ []) worker (λ i. workers ++ worker ∷ []) all own
+each_joined P workers worker (Err u) came (Ok w) first second all own = absurd cc
+each_joined P workers worker (Ok u) (Err v) (Ok w) first second all own = absurd cc
+
+-- ---- helpers that were started, told to go, and done with
+
+-- they are of these parts and domains
+pub record AreOf {S D : Type 0} (part : S → D) (share : S → Extent) (workers : List S) (parts : List D) (domains : List Extent) : Type 0 where
+  pub of_parts : map part workers ≡ parts
+  pub of_domains : map share workers ≡ domains
+
+-- each keeps its part and its domain
+abbrev pub Keeps : {S D : Type 0} → (S → D) → (S → Extent) → (S → S → Type 0) → Type 0
+Keeps {S} part share R = (a b : S) → R a b → (part b ≡ part a) × (share b ≡ share a)
+
+-- those that were started for all parts, as they were lent to be told, and lent again to be done with
+abbrev pub StayOf : {S D : Type 0} → (S → D) → (S → Extent) → (S → S → Type 0) → (S → S → Type 0) → Type 0
+StayOf {S} {D} part share Told Done =
+    (first lent mid again last : List S) (rest parts : List D) (domains : List Extent) → lent ≡ first → again ≡ mid
+    → length mid ≡ length lent → ((k : ℕ) (a b : S) → slice_get lent k ≡ Some a → slice_get mid k ≡ Some b → Told a b)
+    → length last ≡ length again → ((k : ℕ) (a b : S) → slice_get again k ≡ Some a → slice_get last k ≡ Some b → Done a b)
+    → rest ≡ [] → map part first ++ rest ≡ parts → map share first ≡ take (length first) domains → length domains ≡ length parts → AreOf part share last parts domains
+
+pub stay_of : {S D : Type 0} (part : S → D) (share : S → Extent) (Told Done : S → S → Type 0) → Keeps part share Told → Keeps part share Done → StayOf part share Told Done
+stay_of {S} {D} part share Told Done t d first lent mid again last rest parts domains e f long told longer done none whole shares one_each =
+    let started = all_started part share first rest parts domains none whole shares one_each in
+    record {
+      of_parts = map_new part Done again last longer done (λ a b h. (d a b h).0) ∙ ap (λ (ws : List S). map part ws) f
+          ∙ map_new part Told lent mid long told (λ a b h. (t a b h).0) ∙ ap (λ (ws : List S). map part ws) e ∙ started.0;
+      of_domains = map_new share Done again last longer done (λ a b h. (d a b h).1) ∙ ap (λ (ws : List S). map share ws) f
+          ∙ map_new share Told lent mid long told (λ a b h. (t a b h).1) ∙ ap (λ (ws : List S). map share ws) e ∙ started.1;
+    }
+
+pub all_of : {S D : Type 0} (part : S → D) (share : S → Extent) (workers : List S) (parts back : List D) (domains : List Extent) (Q : D × Extent → D → Type 0) → AreOf part share workers parts domains
+    → AllZip (λ worker new. Q (part worker, share worker) new) workers back → AllZip Q (zip parts domains) back
+all_of {S} {D} part share workers parts back domains Q of h =
+    subst (λ (ds : List Extent). AllZip Q (zip parts ds) back) of.of_domains
+    (subst (λ (ps : List D). AllZip Q (zip ps (map share workers)) back) of.of_parts (zip_mapped part share Q workers back h))
+
+pub some_of : {S D : Type 0} (part : S → D) (share : S → Extent) (workers : List S) (parts back : List D) (domains : List Extent) (R : D → D → Type 0) → AreOf part share workers parts domains
+    → SomeZip (λ worker new. R (part worker) new) workers back → SomeZip R parts back
+some_of {S} {D} part share workers parts back domains R of h =
+    subst (λ (ps : List D). SomeZip R ps back) of.of_parts (some_mapped part R workers back h)

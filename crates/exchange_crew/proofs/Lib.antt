@@ -1,0 +1,6 @@
+pub mod TurnLaws
+pub mod BackLaws
+pub mod DomainTurns
+pub mod PlanLaws
+pub mod CrewLaws
+pub mod OneChanged

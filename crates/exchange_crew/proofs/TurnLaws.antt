@@ -1,0 +1,131 @@
+-- A walk over windows and entries: each entry with a byte in a window is among those that the walk gives with it.
+use Rattle.std.proofs.Common.{◌≡◌, ℕ, ◌+◌, ◌^◌, ◌<◌, ◌≤◌, inl, inr, refl, sym, ◌∙◌, ap, subst, List, [], ◌∷◌, ◌++◌, append_assoc, arith}
+use Rattle.nc_base.specs.declared.plan.Extent.{Extent}
+use Rattle.nc_base.specs.declared.plan.Owned.{Owned}
+use Rattle.overlay_laws.specs.Entries.{In, Source}
+use Rattle.overlay_laws.specs.Lines.{extents, EndBelow, IsByPlace}
+use Rattle.overlay_laws.proofs.HullLaws.{in_left, in_either}
+use Rattle.aggregator_rounds.specs.EntryParts.{IsCovered, AreFilled}
+use Rattle.aggregator_rounds.specs.Left.{BeginBefore, IsPast}
+use Rattle.aggregator_rounds.proofs.PastSteps.{past_extents, past_in, past_kept, past_later, past_sorted, past_twice}
+use Rattle.exchange_crew.specs.Cursor.{AreInFront, AreServed, IsAt}
+use Rattle.exchange_crew.specs.Pieces.{ArePieces}
+use Rattle.exchange_crew.specs.Turns.{Told}
+use Rattle.exchange_crew.specs.Hulls.{AreTurns, IsTurn, LieOnPart}
+use Rattle.overlay_laws.proofs.EntryLaws.{in_extents}
+
+pub turn_end : (list : List Owned) (room : ℕ) (t : Told) → EndBelow (2 ^ 62) (extents list) → IsTurn list room t → t.0 + t.1 < 2 ^ 62
+turn_end list room t ends h =
+    let c = h.last in
+    let below = ends c.by.extent (in_extents list c.by c.inside) in
+    let high = c.high in
+    let some = h.some in
+    omega arith
+
+pub turn_in : (list : List Owned) (room : ℕ) (ts : List Told) (t : Told) → AreTurns list room ts → In ts t → IsTurn list room t
+turn_in list room [] t h m = absurd m
+turn_in list room (u ∷ ts) t h (inl e) = subst (λ (z : Told). IsTurn list room z) e h.0
+turn_in list room (u ∷ ts) t h (inr m) = turn_in list room ts t h.2 m
+
+-- ---- the entries
+
+pub at_begin : (list left : List Owned) (room place : ℕ) (ahead : List Told) → IsPast place list left → ((t : Told) → In ahead t → place ≤ t.0) → AreTurns list room ahead
+    → IsAt list room ahead left
+at_begin list left room place ahead p low turns = record { past = λ t m. past_later place t.0 list left (low t m) p; turns = turns }
+
+pub at_next : (list left later : List Owned) (room : ℕ) (ahead rest : List Told) (t : Told) → IsAt list room ahead left → ahead ≡ t ∷ rest → IsPast (t.0 + t.1) left later
+    → IsAt list room rest later
+at_next list left later room ahead rest t a e p =
+    let turns : AreTurns list room (t ∷ rest) = subst (λ (ts : List Told). AreTurns list room ts) e a.turns in
+    record {
+      past = λ u k. (let order = turns.1 u k in
+          past_later (t.0 + t.1) u.0 list later order
+          (past_twice t.0 (t.0 + t.1) list left later (omega arith) (a.past t (subst (λ (ts : List Told). In ts t) (sym e) (inl refl))) p));
+      turns = turns.2;
+    }
+
+pub begun_front : (place : ℕ) (left begun : List Owned) → BeginBefore place left begun → AreInFront place left begun
+begun_front place left begun b = record { rest = b.rest; joined = b.joined; later = b.later }
+
+-- those carried are in front of all others
+pub front_carried : (place : ℕ) (carried ahead begun : List Owned) → BeginBefore place ahead begun → AreInFront place (carried ++ ahead) (carried ++ begun)
+front_carried place carried ahead begun b = record {
+  rest = b.rest;
+  joined = ap (λ (os : List Owned). carried ++ os) b.joined ∙ sym (append_assoc carried begun b.rest);
+  later = b.later;
+}
+
+pub served_now : (list left begun : List Owned) (room : ℕ) (ahead rest : List Told) (t : Told) → IsAt list room ahead left → ahead ≡ t ∷ rest → AreInFront (t.0 + t.1) left begun
+    → AreServed list begun t.0 (t.0 + t.1)
+served_now list left begun room ahead rest t a e f = record { left = left; past = a.past t (subst (λ (ts : List Told). In ts t) (sym e) (inl refl)); front = f }
+
+pub turn_now : (list left : List Owned) (room : ℕ) (ahead rest : List Told) (t : Told) → IsAt list room ahead left → ahead ≡ t ∷ rest → IsTurn list room t
+turn_now list left room ahead rest t a e = (subst (λ (ts : List Told). AreTurns list room ts) e a.turns).0
+
+-- what is left where a window is next is in order, as the list is
+pub left_sorted : (list left : List Owned) (room : ℕ) (ahead rest : List Told) (t : Told) → IsByPlace (extents list) → IsAt list room ahead left → ahead ≡ t ∷ rest → IsByPlace (extents left)
+left_sorted list left room ahead rest t sorted a e = past_sorted t.0 list left sorted (a.past t (subst (λ (ts : List Told). In ts t) (sym e) (inl refl)))
+
+pub left_ends : (list left : List Owned) (room : ℕ) (ahead rest : List Told) (t : Told) → EndBelow (2 ^ 62) (extents list) → IsAt list room ahead left → ahead ≡ t ∷ rest
+    → EndBelow (2 ^ 62) (extents left)
+left_ends list left room ahead rest t ends a e x m = ends x (past_extents t.0 list left x (a.past t (subst (λ (ts : List Told). In ts t) (sym e) (inl refl))) m)
+
+pub left_filled : (list left : List Owned) (room : ℕ) (ahead rest : List Told) (t : Told) → AreFilled list → IsAt list room ahead left → ahead ≡ t ∷ rest → AreFilled left
+left_filled list left room ahead rest t filled a e o m = filled o (past_in t.0 list left o (a.past t (subst (λ (ts : List Told). In ts t) (sym e) (inl refl))) m)
+
+pub turn_limit : (list left : List Owned) (room : ℕ) (ahead rest : List Told) (t : Told) → EndBelow (2 ^ 62) (extents list) → IsAt list room ahead left → ahead ≡ t ∷ rest → t.0 + t.1 < 2 ^ 62
+turn_limit list left room ahead rest t ends a e = turn_end list room t ends (turn_now list left room ahead rest t a e)
+
+pub served_in : (list begun : List Owned) (lo hi : ℕ) (o : Owned) → AreServed list begun lo hi → In begun o → In list o
+served_in list begun lo hi o s m =
+    past_in lo list s.left o s.past (subst (λ (l : List Owned). In l o) (sym s.front.joined) (in_left begun s.front.rest o m))
+
+pub in_served : (list begun : List Owned) (lo hi : ℕ) (o : Owned) → AreServed list begun lo hi → In list o → o.extent.at < hi → lo < o.extent.at + o.extent.len → In begun o
+in_served list begun lo hi o s m b k =
+    elim (in_either begun s.front.rest o (subst (λ (q : List Owned). In q o) s.front.joined (past_kept lo list s.left o s.past m k))) [
+      | inl i ↦ i
+      | inr i ↦ (let e = s.front.later o i in absurd (omega arith))
+    ]
+
+pub served_covered : (list begun : List Owned) (lo hi x : ℕ) → AreServed list begun lo hi → lo ≤ x → x < hi → IsCovered list x → IsCovered begun x
+served_covered list begun lo hi x s l h c =
+    let low = c.low in
+    let high = c.high in
+    record { by = c.by; inside = in_served list begun lo hi c.by s c.inside (omega arith) (omega arith); low = c.low; high = c.high }
+
+pub served_are : (source : Source) (list begun : List Owned) (lo hi : ℕ) → AreServed list begun lo hi → ArePieces source list → ArePieces source begun
+served_are source list begun lo hi s h o m = h o (served_in list begun lo hi o s m)
+
+pub served_ends : (list begun : List Owned) (lo hi : ℕ) → AreServed list begun lo hi → EndBelow (2 ^ 62) (extents list) → EndBelow (2 ^ 62) (extents begun)
+served_ends list begun lo hi s h e m =
+    let r = from_extents begun e m in
+    subst (λ (d : Extent). d.at + d.len < 2 ^ 62) r.2 (h r.0.extent (in_extents list r.0 (served_in list begun lo hi r.0 s r.1)))
+  where
+    from_extents : (os : List Owned) (d : Extent) → In (extents os) d → (o : Owned) × In os o × (o.extent ≡ d)
+    from_extents [] d k = absurd k
+    from_extents (o ∷ os) d (inl g) = (o, inl refl, g)
+    from_extents (o ∷ os) d (inr k) = let r = from_extents os d k in (r.0, inr r.1, r.2)
+
+-- the window that a walk gives next, with its entries
+pub record IsDue (list begun : List Owned) (room from len : ℕ) (t : Told) : Type 0 where
+  pub turn : IsTurn list room t
+  pub low : from ≤ t.0
+  pub high : t.0 + t.1 ≤ from + len
+  pub served : AreServed list begun t.0 (t.0 + t.1)
+  pub ends : EndBelow (2 ^ 62) (extents begun)
+  pub limit : t.0 + t.1 < 2 ^ 62
+
+pub due_now : (list left begun : List Owned) (room from len : ℕ) (ahead rest : List Told) (t : Told) → EndBelow (2 ^ 62) (extents list) → IsAt list room ahead left → LieOnPart from len ahead
+    → ahead ≡ t ∷ rest → AreInFront (t.0 + t.1) left begun → IsDue list begun room from len t
+due_now list left begun room from len ahead rest t ends a on e f =
+    let here = on t (subst (λ (ts : List Told). In ts t) (sym e) (inl refl)) in
+    let served = served_now list left begun room ahead rest t a e f in
+    let turn = turn_now list left room ahead rest t a e in
+    record {
+      turn = turn;
+      low = here.0;
+      high = here.1;
+      served = served;
+      ends = served_ends list begun t.0 (t.0 + t.1) served ends;
+      limit = turn_end list room t ends turn;
+    }

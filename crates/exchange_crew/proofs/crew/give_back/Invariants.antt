@@ -1,0 +1,10 @@
+-- The parts so far came back.
+use Rattle.std.proofs.Common.{◌≡◌, ◌++◌, vec_capacity}
+use Rattle.exchange_crew.proofs.crew.give_back.Given as goal
+
+abbrev pub invariant-loop-part : goal.invariant-loop-part
+invariant-loop-part g l = record {
+  all : l.yielded ++ l.part-iterator.rest.items ≡ l.fn.rest.items;
+  back : l.back.items ≡ l.initial.back.items ++ l.yielded;
+  room : vec_capacity l.back ≡ vec_capacity l.initial.back;
+}

@@ -1,0 +1,8 @@
+-- It holds the windows of the domains so far.
+use Rattle.std.proofs.Common.{◌≤◌, min, take}
+use Rattle.nc_base.specs.declared.plan.Extent.{Extent}
+use Rattle.overlay_laws.specs.Entries.{In}
+use Rattle.exchange_crew.proofs.walk.longest_window.Given as goal
+
+abbrev pub invariant-loop-domain : goal.invariant-loop-domain
+invariant-loop-domain l = (d : Extent) → In (take l.domain-index l.domains) d → min l.size d.len ≤ l.longest

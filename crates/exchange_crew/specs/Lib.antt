@@ -1,0 +1,7 @@
+pub mod Turns
+pub mod Pieces
+pub mod Plan
+pub mod Rooms
+pub mod Hulls
+pub mod Cursor
+pub mod Parts

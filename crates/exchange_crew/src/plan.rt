@@ -1,0 +1,43 @@
+// What an exchange is lent.
+use nc_base::{Extent, ExtentList, Hints, Job, OwnedList};
+use std::alloc::Global;
+
+/// What the puts of a collective step come to. All aggregators are lent it.
+#[derive(Clone, Copy, Drop)]
+pub struct PutPlan<'a> {
+    /// The entries of the puts, sorted by place.
+    pub list: &'a OwnedList,
+    /// The cover of the entries.
+    pub cover: &'a ExtentList,
+    /// The puts, one batch for each rank.
+    pub job: &'a Job,
+    pub hints: &'a Hints,
+}
+
+/// What the gets of a collective step come to. All aggregators are lent it.
+#[derive(Clone, Copy, Drop)]
+pub struct GetPlan<'a> {
+    /// The entries of the gets, sorted by place.
+    pub list: &'a OwnedList,
+    /// The cover of the entries.
+    pub cover: &'a ExtentList,
+    pub hints: &'a Hints,
+}
+
+/// An aggregator by its number, and the bytes of the file that it serves.
+#[derive(Clone, Copy, Debug, PartialEq, Eq)]
+pub struct Aggregator {
+    pub number: u32,
+    pub domain: Extent,
+}
+
+/// What an exchange is done with. All aggregators are lent it.
+#[derive(Drop)]
+pub struct Tools<'a, R, G> {
+    /// Starts threads, and waits for them.
+    pub rt: &'a R,
+    /// Lists, lines and buffers come from it.
+    pub alloc: Global,
+    /// Each aggregator passes it before each of its windows.
+    pub gate: &'a G,
+}

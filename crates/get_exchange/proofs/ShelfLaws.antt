@@ -1,0 +1,36 @@
+-- The next window of a part, whose hull is to be taken, and what is left behind it.
+use Rattle.std.proofs.Common.{◌≡◌, ℕ, ◌<◌, sym, ap, subst, List, [], ◌∷◌, length, Option, Some, None, arith}
+use Rattle.std.specs.Prelude.{IfSome, IfNone}
+use Rattle.nc_base.specs.declared.plan.Owned.{Owned}
+use Rattle.file_domains.specs.Rounds.{IsWalk}
+use Rattle.file_domains.specs.declared.walk.Window.{Window}
+use Rattle.file_domains.specs.declared.walk.WindowWalk.{WindowWalk}
+use Rattle.aggregator_rounds.specs.Pieces.{told_window}
+use Rattle.aggregator_rounds.specs.Left.{entries_left}
+use Rattle.exchange_crew.specs.Cursor.{IsAt}
+use Rattle.get_exchange.specs.Shelves.{turns_due_of, IsShelfOf}
+use Rattle.exchange_crew.specs.Turns.{Told, turns_ahead}
+use Rattle.get_exchange.specs.declared.walk.ReadWalk.{ReadWalk}
+
+-- the first window
+pub shelf_first : (list left : List Owned) (room : ℕ) (next : Option Window) (ahead : List Told) (walk : ReadWalk) → IsAt list room ahead left → entries_left walk.entries ≡ left
+    → IfSome next (λ _. IsWalk walk.windows) → IfSome next (λ w. ahead ≡ told_window w ∷ turns_ahead walk.windows) → IsShelfOf list room next walk
+shelf_first list left room None ahead walk a same ready some = tt
+shelf_first list left room (Some w) ahead walk a same ready some = record {
+  ready = ready;
+  at = subst (λ (os : List Owned). IsAt list room (told_window w ∷ turns_ahead walk.windows) os) (sym same) (subst (λ (ts : List Told). IsAt list room ts left) some a);
+}
+
+pub due_next : (next : Option Window) (ahead : List Told) (rest : WindowWalk) → IfNone next (ahead ≡ []) → IfSome next (λ w. ahead ≡ told_window w ∷ turns_ahead rest) → turns_due_of next rest ≡ ahead
+due_next None ahead rest none some = sym none
+due_next (Some w) ahead rest none some = sym some
+
+fewer_next : (next : Option Window) (t : Told) (ahead : List Told) (rest : WindowWalk) → IfSome next (λ w. ahead ≡ told_window w ∷ turns_ahead rest)
+    → length (turns_due_of next rest) < length (t ∷ ahead)
+fewer_next None t ahead rest some = omega arith
+fewer_next (Some w) t ahead rest some = let same = ap (λ (ts : List Told). length ts) some in omega arith
+
+pub fewer_due : (old next : Option Window) (w : Window) (before rest : WindowWalk) → old ≡ Some w → IfSome next (λ u. turns_ahead before ≡ told_window u ∷ turns_ahead rest)
+    → length (turns_due_of next rest) < length (turns_due_of old before)
+fewer_due old next w before rest is some =
+    subst (λ (o : Option Window). length (turns_due_of next rest) < length (turns_due_of o before)) (sym is) (fewer_next next (told_window w) (turns_ahead before) rest some)

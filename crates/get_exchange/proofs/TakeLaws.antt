@@ -1,0 +1,226 @@
+-- Hulls that are taken off the lines of helpers, one after another.
+use Rattle.std.proofs.Common.{◌≡◌, ℕ, ◌+◌, ◌-◌, min, inl, inr, refl, sym, ◌∙◌, ap, subst, List, [], ◌∷◌, ◌++◌, length, map, set, Bool, true, false, Option, Some, None, Result, Ok, Err, append_assoc, arith}
+use Rattle.std.proofs.lemmas.List.{append-nil, length-map, map-append}
+use Rattle.std.proofs.lemmas.Option.{same_Some, slice_get_within}
+use Rattle.std.specs.Prelude.{slice_get, ◌==◌, IfErr, IfSome, OnOk}
+use Rattle.std.specs.Result.{result_and}
+use borrow.Author.Tests.{eqb-true, eqb-false}
+use Rattle.list_laws.proofs.Places.{entry_below, entry_set, entry_set_other}
+use Rattle.nc_base.specs.declared.plan.Owned.{Owned}
+use Rattle.nc_outside.specs.declared.disk.DiskErr.{DiskErr}
+use Rattle.nc_outside.specs.declared.disk.DiskErr.TheVariants.{Memory}
+use Rattle.serial_spec.specs.File.{read}
+use Rattle.overlay_laws.specs.Entries.{In}
+use Rattle.overlay_laws.proofs.HullLaws.{in_either, in_left, in_right}
+use Rattle.get_exchange.specs.Shelves.{domain_of, turns_due, IsFresh, IsStartedFor, IsSent, IsShelf, IsToldToGo}
+use Rattle.get_exchange.specs.Blobs.{FitTable, HasCollected, HaveOnePlaces}
+use Rattle.exchange_crew.specs.Cursor.{AreServed}
+use Rattle.get_exchange.specs.Gets.{get_turns, reading_of, AreRead}
+use Rattle.get_exchange.specs.Logs.{told_in, HasTaken, HasTakenOf, HasTakenTurn, HaveTakenTurns, IsKept, IsShelfIn, IsTakenOf, Log}
+use Rattle.exchange_crew.specs.Turns.{Told}
+use Rattle.exchange_crew.specs.declared.crew.Word.TheVariants.{Go}
+use Rattle.get_exchange.specs.declared.reading.Reading.{Reading}
+use Rattle.get_exchange.specs.declared.reading.Reading.TheVariants.{Hull}
+use Rattle.get_exchange.specs.declared.shelf.Shelf.{Shelf}
+use Rattle.get_exchange.specs.declared.starting.ReadWorker.{ReadWorker}
+use Rattle.exchange_crew.specs.declared.plan.GetPlan.{GetPlan}
+use Rattle.exchange_crew.proofs.BackLaws.{each_new}
+use Rattle.exchange_crew.proofs.OneChanged.{set_each}
+use Rattle.get_exchange.proofs.ReadLaws.{hull_collected, log_joined, log_one}
+
+-- ---- hulls of one helper
+
+taken_twice : (first second : Log) (old mid new : Shelf) → HasTaken first old mid → HasTaken second mid new → HasTaken (first ++ second) old new
+taken_twice first second old mid new f g = record {
+  turns = ap (λ (ts : List Told). ts ++ turns_due new) (map-append (λ (e : Told × List ℕ). e.0) first second)
+      ∙ append_assoc (told_in first) (told_in second) (turns_due new)
+      ∙ ap (λ (ts : List Told). told_in first ++ ts) g.turns
+      ∙ f.turns;
+  items = g.items
+      ∙ ap (λ (is : List Reading). is ++ map (λ e. Hull e.1) second) f.items
+      ∙ append_assoc old.line.items (map (λ e. Hull e.1) first) (map (λ e. Hull e.1) second)
+      ∙ ap (λ (is : List Reading). old.line.items ++ is) (sym (map-append (λ (e : Told × List ℕ). Hull e.1) first second));
+}
+
+-- a hull that came, where it is as long as it is to be
+pub taken_turn : {T E : Type 0} (list begun : List Owned) (t : Told) (bytes : List ℕ) (old new : Shelf) (before now : List (List (List ℕ))) (came : Result T E)
+    → t ∷ turns_due new ≡ turns_due old → new.line.items ≡ old.line.items ++ Hull bytes ∷ [] → HaveOnePlaces list → FitTable before list → AreServed list begun t.0 (t.0 + t.1)
+    → OnOk came (length bytes ≡ t.1) → OnOk came (HasCollected t.0 (t.0 + t.1) bytes begun before now) → OnOk came (HasTakenTurn list old new before now)
+taken_turn list begun t bytes old new before now (Err e) turns items once fit served long got = tt
+taken_turn list begun t bytes old new before now (Ok x) turns items once fit served long got = record {
+  own = (t, bytes) ∷ [];
+  taken = record { turns = turns; items = items };
+  collected = log_one list t bytes before now (hull_collected t.0 t.1 bytes list begun before now long once fit served got);
+}
+
+-- ---- one hull more of one of the helpers
+
+pub taken_more : {D : Type 0} (list : List Owned) (olds mids : List (ReadWorker D)) (k : ℕ) (mid new : ReadWorker D) (before between now : List (List (List ℕ))) → length mids ≡ length olds
+    → slice_get mids k ≡ Some mid → HaveTakenTurns list olds mids before between → HasTakenTurn list mid.shelf new.shelf between now
+    → HaveTakenTurns list olds (set mids k new) before now
+taken_more {D} list olds mids k mid new before between now long at h t = record {
+  log = h.log ++ t.own;
+  collected = log_joined list h.log t.own before between now h.collected t.collected;
+  each = λ j o n e f.
+      set_each (λ r s. (o : ReadWorker D) → slice_get olds r ≡ Some o → HasTakenOf (h.log ++ t.own) o.shelf s.shelf) mids k mid new at
+      (λ o e. grown o (h.each k o mid e at)) (λ r s e o f. wider o s (h.each r o s f e)) j n f o e;
+  only = λ e m. elim (in_either h.log t.own e m) [
+    | inl g ↦ by_number e (h.only e g) ((h.only e g).number == k) refl
+    | inr g ↦ newest e g
+  ];
+}
+  where
+    grown : (o : ReadWorker D) → HasTakenOf h.log o.shelf mid.shelf → HasTakenOf (h.log ++ t.own) o.shelf new.shelf
+    grown o w = record {
+      own = w.own ++ t.own;
+      taken = taken_twice w.own t.own o.shelf mid.shelf new.shelf w.taken t.taken;
+      inside = λ e m. elim (in_either w.own t.own e m) [ inl g ↦ in_left h.log t.own e (w.inside e g) | inr g ↦ in_right h.log t.own e g ];
+    }
+
+    wider : (o s : ReadWorker D) → HasTakenOf h.log o.shelf s.shelf → HasTakenOf (h.log ++ t.own) o.shelf s.shelf
+    wider o s w = record { own = w.own; taken = w.taken; inside = λ e m. in_left h.log t.own e (w.inside e m) }
+
+    newest : (e : Told × List ℕ) → In t.own e → IsTakenOf olds (set mids k new) e
+    newest e m =
+        let low = slice_get_within mids k mid at in
+        let first = entry_below olds k (omega arith) in
+        let w = h.each k first.0 mid first.1 at in
+        record {
+          number = k;
+          old = first.0;
+          new = new;
+          at_old = first.1;
+          at_new = entry_set mids k mid new at;
+          own = w.own ++ t.own;
+          taken = taken_twice w.own t.own first.0.shelf mid.shelf new.shelf w.taken t.taken;
+          inside = in_right w.own t.own e m;
+        }
+
+    by_number : (e : Told × List ℕ) (r : IsTakenOf olds mids e) (b : Bool) → (r.number == k) ≡ b → IsTakenOf olds (set mids k new) e
+    by_number e r true f =
+        let same : r.number ≡ k = eqb-true _ _ f in
+        let own : r.new ≡ mid = same_Some r.new mid (sym r.at_new ∙ ap (λ (n : ℕ). slice_get mids n) same ∙ at) in
+        record {
+          number = k;
+          old = r.old;
+          new = new;
+          at_old = ap (λ (n : ℕ). slice_get olds n) (sym same) ∙ r.at_old;
+          at_new = entry_set mids k mid new at;
+          own = r.own ++ t.own;
+          taken = taken_twice r.own t.own r.old.shelf mid.shelf new.shelf (subst (λ (s : ReadWorker D). HasTaken r.own r.old.shelf s.shelf) own r.taken) t.taken;
+          inside = in_left r.own t.own e r.inside;
+        }
+    by_number e r false f = record {
+      number = r.number;
+      old = r.old;
+      new = r.new;
+      at_old = r.at_old;
+      at_new = entry_set_other mids k r.number new (λ s. eqb-false _ _ f s) ∙ r.at_new;
+      own = r.own;
+      taken = r.taken;
+      inside = r.inside;
+    }
+
+pub taken_on : {D T E : Type 0} (list : List Owned) (olds mids : List (ReadWorker D)) (k : ℕ) (mid new : ReadWorker D) (before between now : List (List (List ℕ))) (end came : Result T E)
+    → length mids ≡ length olds → slice_get mids k ≡ Some mid → OnOk end (HaveTakenTurns list olds mids before between) → OnOk came (HasTakenTurn list mid.shelf new.shelf between now)
+    → OnOk (result_and end came) (HaveTakenTurns list olds (set mids k new) before now)
+taken_on list olds mids k mid new before between now (Err x) came long at h t = tt
+taken_on list olds mids k mid new before between now (Ok y) (Err x) long at h t = tt
+taken_on list olds mids k mid new before between now (Ok y) (Ok x) long at h t = taken_more list olds mids k mid new before between now long at h t
+
+pub both_memory : {T : Type 0} (end came : Result T DiskErr) → IfErr end (λ e. e ≡ Memory) → IfErr came (λ e. e ≡ Memory) → IfErr (result_and end came) (λ e. e ≡ Memory)
+both_memory (Err x) came h g = h
+both_memory (Ok y) came h g = g
+
+pub kept_more : {D : Type 0} (old mid new : ReadWorker D) → IsKept old mid → new.helper ≡ mid.helper → new.shelf.line.of ≡ mid.shelf.line.of → IsKept old new
+kept_more old mid new k helper of = record { helper = helper ∙ k.helper; of = of ∙ k.of }
+
+-- nothing was taken
+pub kept_none : {D : Type 0} (old new : ReadWorker D) → old ≡ new → IsKept old new
+kept_none old new e = record { helper = ap (λ s. s.helper) (sym e); of = ap (λ s. s.shelf.line.of) (sym e) }
+
+pub taken_none : {D : Type 0} (list : List Owned) (workers : List (ReadWorker D)) (table : List (List (List ℕ))) → HaveTakenTurns list workers workers table table
+taken_none {D} list workers table = record {
+  log = [];
+  collected = λ r s. refl;
+  each = λ k o n e f. record { own = []; taken = subst (λ (s : ReadWorker D). HasTaken [] o.shelf s.shelf) (same_Some o n (sym e ∙ f)) (untouched o.shelf); inside = λ e m. absurd m };
+  only = λ e m. absurd m;
+}
+  where
+    untouched : (shelf : Shelf) → HasTaken [] shelf shelf
+    untouched shelf = record { turns = refl; items = sym (append-nil shelf.line.items) }
+
+-- ---- what was taken is what was read
+
+each_read : (from : ℕ) (file : List ℕ) (own : Log) → map (λ e. Hull e.1) own ≡ map (λ t. reading_of from file t) (told_in own) → (e : Told × List ℕ) → In own e → e.1 ≡ read file (e.0.0 - from) e.0.1
+each_read from file [] h e m = absurd m
+each_read from file (u ∷ own) h e (inl same) = subst (λ (z : Told × List ℕ). z.1 ≡ read file (z.0.0 - from) z.0.1) same (first h)
+  where
+    first : Hull u.1 ∷ map (λ e. Hull e.1) own ≡ Hull (read file (u.0.0 - from) u.0.1) ∷ map (λ t. reading_of from file t) (told_in own) → u.1 ≡ read file (u.0.0 - from) u.0.1
+    first g = cc
+each_read from file (u ∷ own) h e (inr m) = each_read from file own (rest h) e m
+  where
+    rest : Hull u.1 ∷ map (λ e. Hull e.1) own ≡ Hull (read file (u.0.0 - from) u.0.1) ∷ map (λ t. reading_of from file t) (told_in own)
+        → map (λ e. Hull e.1) own ≡ map (λ t. reading_of from file t) (told_in own)
+    rest g = cc
+
+pub items_read : (from : ℕ) (held : Option (List ℕ)) (own : Log) (items : List Reading) → items ≡ map (λ e. Hull e.1) own → AreRead (told_in own) from held items
+    → IfSome held (λ file. (e : Told × List ℕ) → In own e → e.1 ≡ read file (e.0.0 - from) e.0.1)
+items_read from held own items is taken = by_held held (taken.whole long)
+  where
+    long : length items ≡ length (told_in own)
+    long = ap (λ (rs : List Reading). length rs) is ∙ length-map own (λ (e : Told × List ℕ). Hull e.1) ∙ sym (length-map own (λ (e : Told × List ℕ). e.0))
+
+    by_held : (o : Option (List ℕ)) → IfSome o (λ file. items ≡ map (λ t. reading_of from file t) (told_in own))
+        → IfSome o (λ file. (e : Told × List ℕ) → In own e → e.1 ≡ read file (e.0.0 - from) e.0.1)
+    by_held None w = tt
+    by_held (Some file) w = each_read from file own (sym is ∙ w)
+
+-- a helper that was told to go, and of which nothing was taken
+pub record IsReady {D : Type 0} (plan : GetPlan) (worker : ReadWorker D) : Type 0 where
+  pub started : IsStartedFor plan worker
+  pub word : worker.helper.word.items ≡ Go ∷ []
+  pub ready : IsShelfIn plan.list.now worker.shelf
+  pub taken : worker.shelf.line.items ≡ []
+  pub due : turns_due worker.shelf ≡ get_turns plan (domain_of worker)
+
+go_worker : {D : Type 0} (plan : GetPlan) (old new : ReadWorker D) → IsToldToGo old new → IsFresh plan old → IsReady plan new
+go_worker plan old new t f =
+    let s = f.started in
+    record {
+      started = record {
+        cover = ap (λ child. child.promise.cover.value) t.child ∙ s.cover;
+        size = ap (λ child. child.promise.size.value) t.child ∙ s.size;
+        word_of = t.of ∙ s.word_of ∙ sym (ap (λ child. child.promise.ends.value.word.of) t.child);
+        line_of = ap (λ child. child.promise.ends.value.lines.line.of) t.child ∙ s.line_of ∙ sym (ap (λ (shelf : Shelf). shelf.line.of) t.shelf);
+      };
+      word = t.words ∙ ap (λ words. words ++ Go ∷ []) f.word;
+      ready = (min plan.hints.now.cb_buffer (domain_of old).len, subst (λ (shelf : Shelf). IsShelf plan.list.now (min plan.hints.now.cb_buffer (domain_of old).len) shelf) (sym t.shelf) f.ready);
+      taken = ap (λ (shelf : Shelf). shelf.line.items) t.shelf ∙ f.taken;
+      due = ap (λ (shelf : Shelf). turns_due shelf) t.shelf ∙ f.due ∙ sym (ap (λ child. get_turns plan child.promise.domain.value) t.child);
+    }
+
+pub ready_workers : {D : Type 0} (plan : GetPlan) (old new : List (ReadWorker D)) → length new ≡ length old
+    → ((k : ℕ) (a b : ReadWorker D) → slice_get old k ≡ Some a → slice_get new k ≡ Some b → IsToldToGo a b) → ((worker : ReadWorker D) → In old worker → IsFresh plan worker)
+    → (worker : ReadWorker D) → In new worker → IsReady plan worker
+ready_workers plan old new long told fresh =
+    each_new (λ worker. IsFresh plan worker) (λ worker. IsReady plan worker) (λ a b. IsToldToGo a b) old new long told fresh (λ a b t f. go_worker plan a b t f)
+
+kept_worker : {D : Type 0} (plan : GetPlan) (old new : ReadWorker D) → IsKept old new → IsReady plan old → IsSent plan new
+kept_worker plan old new k r =
+    let s = r.started in
+    record {
+      started = record {
+        cover = ap (λ helper. helper.child.promise.cover.value) k.helper ∙ s.cover;
+        size = ap (λ helper. helper.child.promise.size.value) k.helper ∙ s.size;
+        word_of = ap (λ helper. helper.word.of) k.helper ∙ s.word_of ∙ sym (ap (λ helper. helper.child.promise.ends.value.word.of) k.helper);
+        line_of = ap (λ helper. helper.child.promise.ends.value.lines.line.of) k.helper ∙ s.line_of ∙ sym k.of;
+      };
+      word = ap (λ helper. helper.word.items) k.helper ∙ r.word;
+    }
+
+pub sent_workers : {D : Type 0} (plan : GetPlan) (old new : List (ReadWorker D)) → length new ≡ length old
+    → ((k : ℕ) (a b : ReadWorker D) → slice_get old k ≡ Some a → slice_get new k ≡ Some b → IsKept a b) → ((worker : ReadWorker D) → In old worker → IsReady plan worker)
+    → (worker : ReadWorker D) → In new worker → IsSent plan worker
+sent_workers plan old new long kept ready =
+    each_new (λ worker. IsReady plan worker) (λ worker. IsSent plan worker) (λ a b. IsKept a b) old new long kept ready (λ a b k r. kept_worker plan a b k r)

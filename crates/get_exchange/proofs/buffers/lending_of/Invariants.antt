@@ -1,0 +1,6 @@
+-- Each lender so far can go on.
+use Rattle.get_exchange.specs.Lenders.{AreReady}
+use Rattle.get_exchange.proofs.buffers.lending_of.Given as goal
+
+abbrev pub invariant-loop-domain : goal.invariant-loop-domain
+invariant-loop-domain l = AreReady l.each.items

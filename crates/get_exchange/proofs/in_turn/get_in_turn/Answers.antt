@@ -1,0 +1,31 @@
+-- The blobs are taken out, and put back as they were read.
+use Rattle.std.proofs.Common.{◌≡◌, List, ℕ, subst, sym, rules, arith}
+use Rattle.std.proofs.lemmas.Grind.{common_steps}
+use Rattle.std.specs.Prelude.{zip, OnOk}
+use Rattle.get_exchange.specs.Gets.{get_turns}
+use Rattle.get_exchange.specs.Logs.{HasReadParts}
+use Rattle.exchange_crew.specs.Parts.{part_state}
+use Rattle.exchange_crew.proofs.BackLaws.{zip_same}
+use Rattle.get_exchange.proofs.PartReads.{got_untouched}
+use Rattle.get_exchange.proofs.in_turn.get_in_turn.Goals as goal
+
+pub returns-in_default-clause-got : goal.returns-in_default-clause-got
+returns-in_default-clause-got g c =
+    zip_same _ c.args.parts.items c.args.domains.now c.requires.one_each
+    (λ p domain. got_untouched (get_turns c.args.plan.now domain)
+    (part_state g.D.Disk p) _)
+
+pub returns-in_default-vec-clause-got : goal.returns-in_default-vec-clause-got
+returns-in_default-vec-clause-got g c =
+    zip_same _ c.args.parts.items c.args.domains.now c.requires.one_each
+    (λ p domain. got_untouched (get_turns c.args.plan.now domain)
+    (part_state g.D.Disk p) _)
+
+pub returns-clause-read : goal.returns-clause-read
+returns-clause-read g c =
+    let made = c.read_parts-came.new.room.table.items in
+    let given : c.into_vec.result.items ≡ c.args.into.now = first_of (search rules, grind (arith, common_steps)) in
+    let whole : c.from_vec.result ≡ made = first_of (search rules, grind (arith, common_steps)) in
+    let pairs = zip c.args.parts.items c.args.domains.now in
+    subst (λ (t : List (List (List ℕ))). OnOk c.read_parts-came.result.1 (HasReadParts (λ d. g.D.Disk.from d) (λ d. g.D.Disk.held d) c.args.plan.now pairs c.args.into.now t)) (sym whole)
+    (subst (λ (t : List (List (List ℕ))). OnOk c.read_parts-came.result.1 (HasReadParts (λ d. g.D.Disk.from d) (λ d. g.D.Disk.held d) c.args.plan.now pairs t made)) given c.read_parts-came.ensures.read)

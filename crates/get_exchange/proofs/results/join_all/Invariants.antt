@@ -1,0 +1,24 @@
+-- The parts of the helpers so far came back.
+use Rattle.std.proofs.Common.{◌≡◌, ◌++◌, length, vec_capacity}
+use Rattle.std.specs.Prelude.{IsErrOf, OnOk}
+use Rattle.std.specs.List.{AllZip}
+use Rattle.nc_outside.specs.Cause.{Rose}
+use Rattle.nc_outside.specs.declared.disk.DiskErr.TheVariants.{Failed}
+use Rattle.overlay_laws.specs.Entries.{In}
+use Rattle.get_exchange.specs.Gets.{get_turns, AreRead, HasGot}
+use Rattle.exchange_crew.specs.Parts.{part_state, SomeZip}
+use Rattle.get_exchange.specs.Shelves.{domain_of, part_of}
+use Rattle.get_exchange.specs.declared.starting.ReadWorker.{ReadWorker}
+use Rattle.get_exchange.proofs.results.join_all.Given as goal
+
+abbrev pub invariant-loop-worker : goal.invariant-loop-worker
+invariant-loop-worker g l = record {
+  all : l.yielded ++ l.worker-iterator.rest.items ≡ l.fn.workers.items;
+  long : length l.back.items ≡ length l.yielded;
+  room : vec_capacity l.back ≡ vec_capacity l.initial.back;
+  got : AllZip
+      (λ worker new. HasGot (get_turns l.plan (domain_of worker))
+      (part_state g.D.Disk (part_of worker)) (part_state g.D.Disk new) l.end) l.yielded l.back.items;
+  failed : IsErrOf l.end Failed → SomeZip (λ worker new. Rose (g.D.Disk.faults (part_of worker)) (g.D.Disk.faults new)) l.yielded l.back.items;
+  read : OnOk l.end ((worker : ReadWorker _) → In l.yielded worker → AreRead (get_turns l.plan (domain_of worker)) (g.D.Disk.from (part_of worker)) (g.D.Disk.held (part_of worker)) worker.shelf.line.items);
+}

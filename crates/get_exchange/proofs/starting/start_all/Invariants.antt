@@ -1,0 +1,17 @@
+-- A helper was started for each part so far, or the part is among the rest.
+use Rattle.std.proofs.Common.{◌≡◌, ◌++◌, length, map, take, vec_capacity}
+use Rattle.overlay_laws.specs.Entries.{In}
+use Rattle.get_exchange.specs.Shelves.{domain_of, part_of, IsFresh}
+use Rattle.get_exchange.specs.declared.starting.ReadWorker.{ReadWorker}
+use Rattle.get_exchange.proofs.starting.start_all.Given as goal
+
+abbrev pub invariant-loop-part : goal.invariant-loop-part
+invariant-loop-part g l = record {
+  all : l.yielded ++ l.part-iterator.rest.items ≡ l.fn.supply.parts.items;
+  parts : map (λ worker. part_of worker) l.crew.workers.items ++ l.crew.rest.items ≡ l.yielded;
+  domains : map (λ worker. domain_of worker) l.crew.workers.items ≡ take (length l.crew.workers.items) l.domains;
+  workers : (worker : ReadWorker _) → In l.crew.workers.items worker → IsFresh l.plan worker;
+  workers_room : vec_capacity l.crew.workers ≡ vec_capacity l.initial.crew.workers;
+  rest_room : vec_capacity l.crew.rest ≡ vec_capacity l.initial.crew.rest;
+  back : l.crew.back ≡ l.initial.crew.back;
+}

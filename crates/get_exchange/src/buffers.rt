@@ -1,0 +1,204 @@
+// The blobs that hulls are read into. They go round among the helpers of a step.
+ghost use Rattle.std.specs.Prelude.{◌≡◌, ◌<◌, ℕ, length, slice_get, IfOk, IfSome, Some};
+ghost use Rattle.get_exchange.specs.Gets.{IsGetPlanned};
+ghost use Rattle.get_exchange.specs.Lenders.{AreReady, IsReady};
+
+use exchange_crew::{GetPlan, Tools};
+use file_domains::{Window, WindowWalk, windows};
+use nc_base::{Blob, Extent, Memory};
+use ruled_line::{LinePut, LineTake, line};
+use std::alloc::Global;
+use std::sync::Wait;
+
+/// The calling thread's end of the line on which blobs are lent to a helper, and the helper's windows for which none was lent yet: the
+/// next one, and those after it.
+#[derive(Drop)]
+pub(crate) struct Lender<'a> {
+    spare: LinePut<Blob>,
+    next: Option<Window>,
+    windows: WindowWalk<'a>,
+    // Whether the helper has a blob that didn't come back.
+    lent: bool,
+}
+
+/// The lenders of a step, one for each helper.
+#[derive(Drop)]
+pub(crate) struct Lenders<'a> {
+    pub each: Vec<Lender<'a>>,
+}
+
+/// The lenders, and the helpers' ends of their lines, the last one first.
+#[derive(Drop)]
+pub(crate) struct Lending<'a> {
+    pub lenders: Lenders<'a>,
+    pub spares: Vec<LineTake<Blob>>,
+}
+
+/// A line for each domain, on which nothing was lent yet.
+pub(crate) fn lending_of<'a>(
+    alloc: Global,
+    plan: &GetPlan<'a>,
+    domains: &[Extent],
+) -> Result<Lending<'a>, Memory>
+    requires { IsGetPlanned plan.now }
+    ensures { IfOk result (λ lending. AreReady lending.lenders.each.items) }
+{
+    let mut each = Vec::new(alloc);
+    let mut spares = Vec::new(alloc);
+    for domain in domains {
+        let (put, take) = line::<Blob>(alloc, 1)?;
+        each.push(Lender::new(plan, *domain, put))?;
+        spares.push(take)?;
+    }
+    spares.reverse();
+    Ok(Lending {
+        lenders: Lenders { each },
+        spares,
+    })
+}
+
+impl<'a> Lender<'a> {
+    ghost use Rattle.get_exchange.specs.Gets.{IsGetPlanned};
+    ghost use Rattle.get_exchange.specs.Lenders.{IsReady};
+
+    // Of a helper that has none yet, for all windows of its domain.
+    fn new(plan: &GetPlan<'a>, domain: Extent, spare: LinePut<Blob>) -> Self
+        requires { IsGetPlanned plan.now }
+        ensures { IsReady result }
+    {
+        let mut windows = windows(domain, plan.cover.as_slice(), plan.hints.cb_buffer);
+        let next = windows.next();
+        Lender {
+            spare,
+            next,
+            windows,
+            lent: false,
+        }
+    }
+
+    // The round of the window for which a blob can be lent now.
+    fn wanting(&self) -> Option<u64> {
+        if self.lent {
+            return None;
+        }
+        Some(self.next?.round)
+    }
+
+    // Lends a blob for the next window.
+    fn lend<R: Wait>(&mut self, rt: &R, blob: Blob)
+        requires { IsReady self.old }
+        ensures { IsReady self.new }
+    {
+        self.spare.put(rt, blob);
+        self.lent = true;
+        if self.next.is_some() {
+            self.next = self.windows.next();
+        }
+    }
+
+    // The helper's blob came back. One that has ended reads no more windows.
+    fn come_back(&mut self, ended: bool)
+        requires { IsReady self.old }
+        ensures { IsReady self.new }
+    {
+        self.lent = false;
+        if ended {
+            self.next = None;
+        }
+    }
+}
+
+impl<'a> Lenders<'a> {
+    ghost use Rattle.get_exchange.specs.Gets.{IsGetPlanned};
+    ghost use Rattle.get_exchange.specs.Lenders.{AreReady};
+
+    /// Makes blobs, each with room for the longest hull of all, and lends them: one for each item that a line may hold, but no more than
+    /// one to a helper. So many windows are read side by side.
+    pub fn lend_first<R: Wait, G>(
+        &mut self,
+        tools: &Tools<R, G>,
+        plan: &GetPlan,
+        domains: &[Extent],
+    ) -> Result<(), Memory>
+        requires plan { IsGetPlanned plan.now }
+        requires ready { AreReady self.old.each.items }
+        ensures { AreReady self.new.each.items }
+    {
+        let longest = longest_hull(plan, domains) as usize;
+        let count = plan.hints.line_room as usize;
+        for _ in 0..count.min(self.each.len()) {
+            self.lend(tools.rt, Blob::with_capacity(tools.alloc, longest)?);
+        }
+        Ok(())
+    }
+
+    /// The blob of the helper with this number came back. One that has ended reads no more windows.
+    pub fn come_back(&mut self, number: usize, ended: bool)
+        requires { AreReady self.old.each.items }
+        ensures { AreReady self.new.each.items }
+    {
+        if number < self.each.len() {
+            self.each[number].come_back(ended);
+        }
+    }
+
+    /// Lends a blob to the helper whose hull is the next one to be taken of those for which none is lent. Where there is none it is
+    /// dropped.
+    ///
+    /// So blobs are lent in the order in which hulls are taken, and the helper for whose hull the calling thread waits has one.
+    pub fn lend<R: Wait>(&mut self, rt: &R, blob: Blob)
+        requires { AreReady self.old.each.items }
+        ensures { AreReady self.new.each.items }
+    {
+        if let Some(k) = first_wanting(&self.each) {
+            self.each[k].lend(rt, blob);
+        }
+    }
+}
+
+// The first of the lenders whose window is of the least round.
+fn first_wanting(lenders: &[Lender]) -> Option<usize>
+    ensures { IfSome result (λ k. k < length lenders.now) }
+{
+    let mut first = None;
+    let mut least = None;
+    for (k, lender) in lenders.iter().enumerate() {
+        let wanting = lender.wanting();
+        if is_before(wanting, least) {
+            first = Some(k);
+            least = wanting;
+        }
+    }
+    first
+}
+
+// Whether there is a round, and it is before the other, where there is one.
+fn is_before(round: Option<u64>, other: Option<u64>) -> bool {
+    match (round, other) {
+        (Some(round), Some(other)) => round < other,
+        (Some(_), None) => true,
+        (None, _) => false,
+    }
+}
+
+// How long the longest hull of the domains' windows is.
+fn longest_hull(plan: &GetPlan, domains: &[Extent]) -> u64
+    requires { IsGetPlanned plan.now }
+{
+    let mut longest = 0;
+    for domain in domains {
+        longest = longest_in(plan, *domain).max(longest);
+    }
+    longest
+}
+
+// How long the longest hull of a domain's windows is.
+fn longest_in(plan: &GetPlan, domain: Extent) -> u64
+    requires { IsGetPlanned plan.now }
+{
+    let mut longest = 0;
+    for window in windows(domain, plan.cover.as_slice(), plan.hints.cb_buffer) {
+        longest = window.hull.len.max(longest);
+    }
+    longest
+}

@@ -1,6 +1,0 @@
--- Each lender can go on.
-use Rattle.piece_exchange.specs.Lenders.{AreReady}
-use Rattle.piece_exchange.proofs.gets.buffers.Lenders.lend_first.Given as goal
-
-abbrev pub invariant-loop : goal.invariant-loop
-invariant-loop g l = AreReady l.self.each.items

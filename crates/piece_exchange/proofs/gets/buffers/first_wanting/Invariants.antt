@@ -1,6 +1,0 @@
--- The one that was found is one of those gone over.
-use Rattle.std.proofs.Common.{◌<◌, length, IfSome}
-use Rattle.piece_exchange.proofs.gets.buffers.first_wanting.Given as goal
-
-abbrev pub invariant-loop-k : goal.invariant-loop-k
-invariant-loop-k l = IfSome l.first (λ k. k < length l.lenders)

@@ -1,7 +1,0 @@
--- One lender more.
-use Rattle.piece_exchange.specs.Lenders.{IsReady}
-use Rattle.piece_exchange.proofs.LenderLaws.{each_pushed}
-use Rattle.piece_exchange.proofs.gets.buffers.lending_of.Goals as goal
-
-pub loop-domain-preserved : goal.loop-domain-preserved
-loop-domain-preserved c = each_pushed (λ l. IsReady l) c.loop-domain.each.items _ _ c.in_ok-push.ensures.items c.loop-domain.invariant c.new.ensures

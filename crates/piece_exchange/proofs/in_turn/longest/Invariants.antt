@@ -1,8 +1,0 @@
--- It holds the windows of the domains so far.
-use Rattle.std.proofs.Common.{◌≤◌, min, take}
-use Rattle.nc_base.specs.declared.plan.Extent.{Extent}
-use Rattle.overlay_laws.specs.Entries.{In}
-use Rattle.piece_exchange.proofs.in_turn.longest.Given as goal
-
-abbrev pub invariant-loop-domain : goal.invariant-loop-domain
-invariant-loop-domain l = (d : Extent) → In (take l.domain-index l.domains) d → min l.size d.len ≤ l.longest

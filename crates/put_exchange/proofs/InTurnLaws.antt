@@ -1,0 +1,88 @@
+-- A part whose windows are overlaid with the entries, one after another.
+use Rattle.std.proofs.Common.{◌≡◌, ℕ, ◌+◌, ◌≤◌, inl, inr, refl, sym, ◌∙◌, ap, subst, List, [], ◌∷◌, length, Option}
+use Rattle.std.specs.Prelude.{map, flat_map, IfSome}
+use Rattle.nc_base.specs.declared.plan.Owned.{Owned}
+use Rattle.nc_base.specs.declared.step.DiskCall.{DiskCall}
+use Rattle.nc_outside.proofs.ToldLaws.{with_end-nil}
+use Rattle.nc_outside.specs.Told.{after, with_end, BothTold}
+use Rattle.serial_spec.specs.Said.{said_by, IsOneValued}
+use Rattle.overlay_laws.specs.Changes.{store_calls, IsBetween}
+use Rattle.overlay_laws.specs.Entries.{In, Source, cell_of}
+use Rattle.aggregator_rounds.specs.Left.{IsPast}
+use Rattle.aggregator_rounds.proofs.EntryCells.{covered_place}
+use Rattle.exchange_crew.specs.declared.walk.TurnWalk.{TurnWalk}
+use Rattle.exchange_crew.specs.Pieces.{ArePieces}
+use Rattle.put_exchange.specs.Put.{put_part}
+use Rattle.put_exchange.specs.Taken.{cells_in, put_window, IsFilledBy}
+use Rattle.exchange_crew.specs.Turns.{Told, turns_ahead, IsTurnWalk}
+use Rattle.exchange_crew.specs.Hulls.{HaveWindows, IsTurn, LieOnPart}
+use Rattle.put_exchange.proofs.PieceLaws.{pieces_found, served_picked}
+use Rattle.put_exchange.proofs.PutLaws.{IsPutSoFar, told_begin, told_between, told_end, told_more, told_next}
+use Rattle.put_exchange.proofs.ServeLaws.{calls_more}
+use Rattle.exchange_crew.specs.Cursor.{AreInFront, AreServed, IsAt}
+use Rattle.exchange_crew.proofs.TurnLaws.{at_next, served_are, served_covered, served_now}
+
+-- the entries that may have bytes in a window fill it
+pub served_filled : (source : Source) (list begun : List Owned) (room : ℕ) (t : Told) → AreServed list begun t.0 (t.0 + t.1) → ArePieces source list → IsTurn list room t
+    → IsFilledBy t (cells_in source t begun)
+served_filled source list begun room t s pieces turn f x l h =
+    covered_place source begun t.0 (t.0 + t.1) x (pieces_found source begun (served_are source list begun t.0 (t.0 + t.1) s pieces)) l h
+    (served_covered list begun t.0 (t.0 + t.1) x s l h (turn.full f x l h))
+
+pub record IsInTurn (source : Source) (from len room : ℕ) (list : List Owned) (all : List Told) (w : TurnWalk) (held now : Option (List ℕ)) (calls made : Option (List DiskCall)) : Type 0 where
+  pub ready : IsTurnWalk w
+  pub here : IsAt list room (turns_ahead w.windows) w.entries.now
+  pub on_part : LieOnPart from len (turns_ahead w.windows)
+  pub bytes : BothTold (λ old left. IsPutSoFar source list from (turns_ahead w.windows) old left) held now
+  pub device : with_end made (flat_map store_calls (turns_ahead w.windows)) ≡ with_end calls (flat_map store_calls all)
+
+pub in_turn_begin : (source : Source) (from len room : ℕ) (list : List Owned) (all : List Told) (w : TurnWalk) (held : Option (List ℕ)) (calls : Option (List DiskCall))
+    → IsTurnWalk w → IsAt list room (turns_ahead w.windows) w.entries.now → turns_ahead w.windows ≡ all → LieOnPart from len all → HaveWindows from len list all
+    → IfSome held (λ file. length file ≡ len) → IsInTurn source from len room list all w held held calls calls
+in_turn_begin source from len room list all w held calls ready at ahead on windows told = record {
+  ready = ready;
+  here = at;
+  on_part = subst (λ (ts : List Told). LieOnPart from len ts) (sym ahead) on;
+  bytes = told_begin source list from len (turns_ahead w.windows) held told (subst (λ (ts : List Told). HaveWindows from len list ts) (sym ahead) windows);
+  device = ap (λ (ts : List Told). with_end calls (flat_map store_calls ts)) ahead;
+}
+
+ahead_on : (from len : ℕ) (w v : TurnWalk) (t : Told) → LieOnPart from len (turns_ahead w.windows) → turns_ahead w.windows ≡ t ∷ turns_ahead v.windows → (from ≤ t.0) × (t.0 + t.1 ≤ from + len)
+ahead_on from len w v t on e = on t (subst (λ (ts : List Told). In ts t) (sym e) (inl refl))
+
+pub in_turn_next : (source : Source) (from len room : ℕ) (list begun : List Owned) (all : List Told) (w v : TurnWalk) (t : Told) (held mid now : Option (List ℕ)) (calls made drawn : Option (List DiskCall))
+    → IfSome held (λ file. length file ≡ len) → IsOneValued (said_by (map (λ o. cell_of source o) list)) → IsInTurn source from len room list all w held mid calls made
+    → turns_ahead w.windows ≡ t ∷ turns_ahead v.windows → IsTurnWalk v → AreInFront (t.0 + t.1) w.entries.now begun → IsPast (t.0 + t.1) w.entries.now v.entries.now
+    → now ≡ after (put_window source from t begun) mid → drawn ≡ with_end made (store_calls t) → IsInTurn source from len room list all v held now calls drawn
+in_turn_next source from len room list begun all w v t held mid now calls made drawn told one s e ready b past put device =
+    let on = ahead_on from len w v t s.on_part e in
+    let served = served_now list w.entries.now begun room (turns_ahead w.windows) (turns_ahead v.windows) t s.here e b in
+    record {
+      ready = ready;
+      here = at_next list w.entries.now v.entries.now room (turns_ahead w.windows) (turns_ahead v.windows) t s.here e past;
+      on_part = λ u m. s.on_part u (subst (λ (ts : List Told). In ts u) (sym e) (inr m));
+      bytes = told_next source list begun from len t (turns_ahead v.windows) held mid now told one (served_picked list begun t served) on.0 on.1
+          (subst (λ (ts : List Told). BothTold (λ old left. IsPutSoFar source list from ts old left) held mid) e s.bytes) put;
+      device = calls_more t (turns_ahead v.windows) made drawn device ∙ sym (ap (λ (ts : List Told). with_end made (flat_map store_calls ts)) e) ∙ s.device;
+    }
+
+-- a window that was cut off
+pub in_turn_cut : (source : Source) (from len room : ℕ) (list begun : List Owned) (all : List Told) (w v : TurnWalk) (t : Told) (held mid now : Option (List ℕ)) (calls made : Option (List DiskCall))
+    → IfSome held (λ file. length file ≡ len) → IsOneValued (said_by (map (λ o. cell_of source o) list)) → IsInTurn source from len room list all w held mid calls made
+    → turns_ahead w.windows ≡ t ∷ turns_ahead v.windows → AreInFront (t.0 + t.1) w.entries.now begun
+    → BothTold (λ old left. IsBetween old (put_window source from t begun old) left) mid now → BothTold (λ old left. IsBetween old (put_part source list from old) left) held now
+in_turn_cut source from len room list begun all w v t held mid now calls made told one s e b put =
+    let on = ahead_on from len w v t s.on_part e in
+    let served = served_now list w.entries.now begun room (turns_ahead w.windows) (turns_ahead v.windows) t s.here e b in
+    told_more source list begun from len t held mid now told one (served_picked list begun t served) on.0 on.1 (told_between source list from (turns_ahead w.windows) held mid s.bytes) put
+
+pub in_turn_end : (source : Source) (from len room : ℕ) (list : List Owned) (all : List Told) (w : TurnWalk) (held now : Option (List ℕ)) (calls made : Option (List DiskCall))
+    → IsInTurn source from len room list all w held now calls made → turns_ahead w.windows ≡ [] → (now ≡ after (put_part source list from) held) × (made ≡ with_end calls (flat_map store_calls all))
+in_turn_end source from len room list all w held now calls made s none = (
+  told_end source list from held now (subst (λ (ts : List Told). BothTold (λ old left. IsPutSoFar source list from ts old left) held now) none s.bytes),
+  sym (ap (λ (ts : List Told). with_end made (flat_map store_calls ts)) none ∙ with_end-nil made) ∙ s.device,
+)
+
+pub in_turn_whole : (source : Source) (from len room : ℕ) (list : List Owned) (all : List Told) (w : TurnWalk) (held now : Option (List ℕ)) (calls made : Option (List DiskCall))
+    → IsInTurn source from len room list all w held now calls made → BothTold (λ old left. IsBetween old (put_part source list from old) left) held now
+in_turn_whole source from len room list all w held now calls made s = told_between source list from (turns_ahead w.windows) held now s.bytes

@@ -1,0 +1,88 @@
+-- One part more was served.
+use Rattle.std.proofs.Common.{◌≡◌, ◌<◌, ◌∙◌, ◌++◌, ◌∷◌, [], sym, ap, subst, length, append_assoc, get_or, List, Result, rules, arith}
+use Rattle.std.proofs.lemmas.Option.{slice_get_within}
+use Rattle.std.proofs.lemmas.Grind.{common_steps}
+use Rattle.std.specs.Prelude.{zip}
+use Rattle.std.specs.List.{AllZip}
+use Rattle.nc_base.specs.declared.plan.Extent.{Extent}
+use Rattle.nc_outside.specs.Cause.{Rose}
+use Rattle.nc_outside.specs.declared.disk.DiskErr.{DiskErr}
+use Rattle.serial_spec.proofs.MemberLaws.{at_in}
+use Rattle.exchange_crew.specs.Plan.{planned_turns, source_in}
+use Rattle.exchange_crew.specs.Parts.{part_state}
+use Rattle.put_exchange.specs.Put.{HasPut}
+use Rattle.list_laws.proofs.Places.{middle_at}
+use Rattle.exchange_crew.proofs.BackLaws.{at_index, back_more, both_long, failed_more, zip_push, zip_same}
+use Rattle.put_exchange.proofs.PutLaws.{put_later, put_untouched}
+use Rattle.put_exchange.proofs.in_turn.put_in_turn.Goals as goal
+
+abbrev none : Extent
+none = record { at = 0; len = 0 }
+
+pub returns-in-Err-clause-put : goal.returns-in-Err-clause-put
+returns-in-Err-clause-put g c =
+    zip_same _ c.args.parts.items c.args.domains.now c.requires.one_each
+    (λ p domain. put_untouched (source_in c.args.plan.now) c.args.plan.now.list.now (planned_turns c.args.plan.now domain)
+    (part_state g.D.Disk p) _)
+
+pub returns-in-Err-vec-clause-put : goal.returns-in-Err-vec-clause-put
+returns-in-Err-vec-clause-put g c =
+    zip_same _ c.args.parts.items c.args.domains.now c.requires.one_each
+    (λ p domain. put_untouched (source_in c.args.plan.now) c.args.plan.now.list.now (planned_turns c.args.plan.now domain)
+    (part_state g.D.Disk p) _)
+
+pub serve_next-part-requires-clause-domain : goal.serve_next-part-requires-clause-domain
+serve_next-part-requires-clause-domain g c κs within =
+    let middle = ap (λ v. c.loop-part.yielded ++ v) (sym c.in-Some.ensures.steps.0) ∙ c.loop-part.invariant.all in
+    let here = middle_at c.loop-part.yielded _ c.args.parts.items c.in-Some.part middle in
+    let low : length c.loop-part.yielded < length c.args.parts.items = slice_get_within c.args.parts.items (length c.loop-part.yielded) c.in-Some.part here in
+    let many = c.loop-part.invariant.long in
+    let number : c.len-number.result ≡ length c.loop-part.back.items = first_of (search rules, grind (arith, common_steps)) in
+    let long = c.requires.one_each in
+    c.requires.domains (length c.loop-part.yielded) c.in-Some.part _ here (at_index c.args.domains.now c.len-number.result (length c.loop-part.yielded) none (omega arith) (omega arith))
+
+pub serve_next-part-requires-clause-room : goal.serve_next-part-requires-clause-room
+serve_next-part-requires-clause-room g c κs within =
+    let middle = ap (λ v. c.loop-part.yielded ++ v) (sym c.in-Some.ensures.steps.0) ∙ c.loop-part.invariant.all in
+    let here = middle_at c.loop-part.yielded _ c.args.parts.items c.in-Some.part middle in
+    let low : length c.loop-part.yielded < length c.args.parts.items = slice_get_within c.args.parts.items (length c.loop-part.yielded) c.in-Some.part here in
+    let many = c.loop-part.invariant.long in
+    let number : c.len-number.result ≡ length c.loop-part.back.items = first_of (search rules, grind (arith, common_steps)) in
+    let long = c.requires.one_each in
+    let domain = get_or c.args.domains.now c.len-number.result none in
+    let at = at_index c.args.domains.now c.len-number.result c.len-number.result none (omega arith) (omega arith) in
+    let most = c.longest_window.ensures domain (at_in c.args.domains.now c.len-number.result domain at) in
+    let lent = ap (λ (v : List _). length v) c.deref_mut.ensures.value in
+    let kept = c.loop-part.invariant.buf in
+    let made : length c.in-Ok-vec.buf.items ≡ c.longest_window.result = first_of (search rules, grind (arith, common_steps)) in
+    omega arith
+
+pub loop-part-preserved : goal.loop-part-preserved
+loop-part-preserved g c =
+    let middle = ap (λ v. c.loop-part.yielded ++ v) (sym c.in-Some.ensures.steps.0) ∙ c.loop-part.invariant.all in
+    let here = middle_at c.loop-part.yielded _ c.args.parts.items c.in-Some.part middle in
+    let low : length c.loop-part.yielded < length c.args.parts.items = slice_get_within c.args.parts.items (length c.loop-part.yielded) c.in-Some.part here in
+    let many = c.loop-part.invariant.long in
+    let number : c.len-number.result ≡ length c.loop-part.back.items = first_of (search rules, grind (arith, common_steps)) in
+    let long = c.requires.one_each in
+    let domain = get_or c.args.domains.now c.len-number.result none in
+    let at = at_index c.args.domains.now c.len-number.result (length c.loop-part.yielded) none (omega arith) (omega arith) in
+    let pushed = c.push_reserved.ensures.items in
+    let part = c.serve_next-part.result.0 in
+    let came = c.serve_next-part.result.1 in
+    let plan = c.args.plan.now in
+    let state = part_state g.D.Disk in
+    let Put : Result (Unit {0}) DiskErr → g.row.D.Denot × Extent → g.row.D.Denot → Type 0
+    = λ r p d. HasPut (source_in plan) plan.list.now (planned_turns plan p.1) (state p.0) (state d) r in
+    record {
+      all = append_assoc c.loop-part.yielded (c.in-Some.part ∷ []) _ ∙ middle;
+      long = both_long c.loop-part.yielded c.in-Some.part c.loop-part.back.items _ part pushed many;
+      room = c.push_reserved.ensures.capacity ∙ c.loop-part.invariant.room;
+      buf = (let kept = c.loop-part.invariant.buf in first_of (search rules, grind (arith, common_steps)));
+      put = subst (λ (ps : List (g.row.D.Denot × Extent)). AllZip (Put came) ps c.push_reserved.new.self.items) (sym (zip_push c.loop-part.yielded c.args.domains.now c.in-Some.part domain at))
+          (back_more Put (zip c.loop-part.yielded c.args.domains.now) c.loop-part.back.items _ (c.in-Some.part, domain) part c.loop-part.end came
+          (λ p d h. put_later (source_in plan) plan.list.now (planned_turns plan p.1) (state p.0) (state d) c.loop-part.end came c.serve_next-part.ensures.ok h) c.loop-part.invariant.put
+          c.serve_next-part.ensures.put pushed);
+      failed = failed_more (λ (a b : g.row.D.Denot). Rose (g.D.Disk.faults a) (g.D.Disk.faults b)) c.loop-part.yielded c.loop-part.back.items _ c.in-Some.part part c.loop-part.end came
+          many c.loop-part.invariant.failed c.serve_next-part.ensures.failed pushed;
+    }

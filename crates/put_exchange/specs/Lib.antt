@@ -1,0 +1,5 @@
+pub mod Put
+pub mod Taken
+pub mod Feeds
+pub mod Helped
+pub mod Workers

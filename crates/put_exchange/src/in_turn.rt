@@ -1,0 +1,158 @@
+// The parts served in turn, on the calling thread, by no line.
+ghost use Rattle.std.specs.Prelude.{◌≡◌, ◌⊎◌, ◌+◌, ◌^◌, ◌<◌, ◌≤◌, length, map, min, slice_get, zip, ℕ, Some, IsErrOf, IsOk, OnOk};
+ghost use Rattle.std.specs.List.{AllZip};
+ghost use Rattle.nc_base.specs.declared.plan.Extent.{Extent};
+ghost use Rattle.nc_outside.specs.Cause.{HasDiskCause, Rose};
+ghost use Rattle.nc_outside.specs.declared.disk.DiskErr.TheVariants.{Failed};
+ghost use Rattle.nc_outside.specs.Told.{after, with_end, BothTold};
+ghost use Rattle.overlay_laws.specs.Changes.{store_calls, IsBetween};
+ghost use Rattle.overlay_laws.specs.Entries.{cell_of};
+ghost use Rattle.overlay_laws.specs.Windows.{clips};
+ghost use Rattle.serial_spec.specs.Said.{write_cells, moved_down};
+ghost use Rattle.aggregator_rounds.specs.Pieces.{told_window};
+ghost use Rattle.exchange_crew.specs.Pieces.{ArePieces};
+ghost use Rattle.exchange_crew.specs.Plan.{planned_turns, source_in, IsDomainOf, IsPlanned};
+ghost use Rattle.exchange_crew.specs.Parts.{part_state, SomeZip};
+ghost use Rattle.put_exchange.specs.Put.{HasPut};
+ghost use Rattle.put_exchange.specs.Taken.{cells_in, put_window, IsFilledBy};
+ghost use Rattle.exchange_crew.specs.Turns.{source_of};
+
+use crate::pieces::lay_piece;
+use aggregator_rounds::{close_window, open_window};
+use exchange_crew::{Aggregator, PutPlan, Tools, Turn, TurnWalk, longest_window};
+use nc_base::{Batch, Extent, Owned};
+use nc_outside::{Disk, DiskErr, Gate, Point};
+use std::alloc::Global;
+use std::sync::Wait;
+
+/// Serves the windows of an aggregator's domain as a helper does, with the entries at hand. The buffer holds the longest hull.
+pub(crate) fn lay_in_turn<R: Wait, D: Disk, G: Gate>(
+    tools: &Tools<R, G>,
+    plan: &PutPlan,
+    aggregator: Aggregator,
+    part: &mut D,
+    buf: &mut [u8],
+) -> Result<(), DiskErr>
+    requires plan { IsPlanned plan.now }
+    requires domain { IsDomainOf plan.now.list.now (D.from part.old) (D.len part.old) aggregator.domain }
+    requires room { min plan.now.hints.now.cb_buffer aggregator.domain.len ≤ length buf.old }
+    ensures put { HasPut (source_in plan.now) plan.now.list.now (planned_turns plan.now aggregator.domain)
+        (part_state D.Disk part.old) (part_state D.Disk part.new) result }
+    ensures failed { IsErrOf result Failed → Rose (D.faults part.old) (D.faults part.new) }
+{
+    let _size = part.size();
+    let batches = plan.job.batches.as_slice();
+    let mut walk = TurnWalk::new(plan, aggregator.domain);
+    'turns: while let Some(turn) = walk.next_turn() {
+        tools.gate.pass(
+            tools.rt,
+            Point::Window(aggregator.number, turn.window.round),
+        );
+        put_turn(tools.alloc, part, &turn, batches, buf)?;
+    }
+    Ok(())
+}
+
+// Overlays the hull of a window with the entries' bytes, by one read at most and one write.
+fn put_turn<D: Disk>(
+    alloc: Global,
+    part: &mut D,
+    turn: &Turn,
+    batches: &[Batch],
+    buf: &mut [u8],
+) -> Result<(), DiskErr>
+    requires low { D.from part.old ≤ turn.now.window.hull.at }
+    requires high { turn.now.window.hull.at + turn.now.window.hull.len ≤ D.from part.old + D.len part.old }
+    requires hull { turn.now.window.hull.at + turn.now.window.hull.len < 2 ^ 62 }
+    requires room { turn.now.window.hull.len ≤ length buf.old }
+    requires pieces { ArePieces (source_of batches.now) turn.now.entries.now }
+    requires whole { IsFilledBy (told_window turn.now.window) (cells_in (source_of batches.now) (told_window turn.now.window) turn.now.entries.now) }
+    ensures bytes { OnOk result (D.held part.new ≡ after (put_window (source_of batches.now) (D.from part.old) (told_window turn.now.window) turn.now.entries.now) (D.held part.old)) }
+    ensures between { BothTold (λ file left. IsBetween file (put_window (source_of batches.now) (D.from part.old) (told_window turn.now.window) turn.now.entries.now file) left) (D.held part.old) (D.held part.new) }
+    ensures calls { OnOk result (D.calls part.new ≡ with_end (D.calls part.old) (store_calls (told_window turn.now.window))) }
+    ensures from { D.from part.new ≡ D.from part.old }
+    ensures len { D.len part.new ≡ D.len part.old }
+    ensures cause { HasDiskCause (D.faults part.old) (D.faults part.new) result }
+{
+    let _size = part.size();
+    let bytes = &mut buf[..turn.window.hull.len as usize];
+    open_window(alloc, part, &turn.window, bytes)?;
+    lay_entries(turn.window.hull, turn.entries, batches, bytes);
+    close_window(alloc, part, &turn.window, bytes)?;
+    Ok(())
+}
+
+// Lays the entries' bytes over the hull's, one entry after another.
+fn lay_entries(hull: Extent, entries: &[Owned], batches: &[Batch], buf: &mut [u8])
+    requires hull { hull.at + hull.len < 2 ^ 62 }
+    requires room { length buf.old ≡ hull.len }
+    requires pieces { ArePieces (source_of batches.now) entries.now }
+    ensures { buf.new ≡ write_cells buf.old (moved_down hull.at (clips hull.at (hull.at + hull.len) (map (λ o. cell_of (source_of batches.now) o) entries.now))) }
+{
+    for entry in entries {
+        lay_piece(hull, entry, batches, buf);
+    }
+}
+
+/// Serves the parts one after another, by one buffer, up to the first fault. They come back in order.
+pub(crate) fn put_in_turn<R: Wait, D: Disk, G: Gate>(
+    tools: &Tools<R, G>,
+    plan: &PutPlan,
+    domains: &[Extent],
+    parts: Vec<D>,
+) -> (Vec<D>, Result<(), DiskErr>)
+    requires plan { IsPlanned plan.now }
+    requires few { length domains.now ≤ 64 }
+    requires one_each { length domains.now ≡ length parts.items }
+    requires domains { (k : ℕ) (part : D) (domain : Extent) → slice_get parts.items k ≡ Some part → slice_get domains.now k ≡ Some domain → IsDomainOf plan.now.list.now (D.from part) (D.len part) domain }
+    ensures put { AllZip (λ p new. HasPut (source_in plan.now) plan.now.list.now (planned_turns plan.now p.1)
+        (part_state D.Disk p.0) (part_state D.Disk new) result.1) (zip parts.items domains.now) result.0.items }
+    ensures failed { IsErrOf result.1 Failed → SomeZip (λ old new. Rose (D.faults old) (D.faults new)) parts.items result.0.items }
+{
+    let mut back = match Vec::with_capacity(tools.alloc, parts.len()) {
+        Ok(back) => back,
+        Err(_) => return (parts, Err(DiskErr::Memory)),
+    };
+    let size = longest_window(plan.hints.cb_buffer, domains) as usize;
+    let mut buf = match vec![in tools.alloc; 0; size] {
+        Ok(buf) => buf,
+        Err(_) => return (parts, Err(DiskErr::Memory)),
+    };
+    let mut end = Ok(());
+    for part in parts {
+        let number = back.len();
+        let aggregator = Aggregator {
+            number: number as u32,
+            domain: domains[number],
+        };
+        let (part, came) = serve_next(tools, plan, aggregator, part, &mut buf, end);
+        back.push_reserved(part);
+        end = came;
+    }
+    (back, end)
+}
+
+// Serves a part, unless something was refused before.
+fn serve_next<R: Wait, D: Disk, G: Gate>(
+    tools: &Tools<R, G>,
+    plan: &PutPlan,
+    aggregator: Aggregator,
+    part: D,
+    buf: &mut [u8],
+    before: Result<(), DiskErr>,
+) -> (D, Result<(), DiskErr>)
+    requires plan { IsPlanned plan.now }
+    requires domain { IsDomainOf plan.now.list.now (D.from part) (D.len part) aggregator.domain }
+    requires room { min plan.now.hints.now.cb_buffer aggregator.domain.len ≤ length buf.old }
+    ensures put { HasPut (source_in plan.now) plan.now.list.now (planned_turns plan.now aggregator.domain)
+        (part_state D.Disk part) (part_state D.Disk result.0) result.1 }
+    ensures ok { OnOk result.1 (IsOk before) }
+    ensures failed { IsErrOf result.1 Failed → IsErrOf before Failed ⊎ Rose (D.faults part) (D.faults result.0) }
+{
+    if let Err(fault) = before {
+        return (part, Err(fault));
+    }
+    let mut part = part;
+    let end = lay_in_turn(tools, plan, aggregator, &mut part, buf);
+    (part, end)
+}

@@ -1,0 +1,14 @@
+//! Collective puts on a disk in parts. Each part is served by an aggregator, a helper thread of its own, and the pieces of the puts go to it
+//! over a line.
+#![tactic(auto)]
+
+mod exchange;
+mod helper;
+mod in_turn;
+mod laying;
+mod packing;
+mod pieces;
+mod results;
+mod starting;
+
+pub use exchange::exchange_put;
