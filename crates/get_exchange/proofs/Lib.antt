@@ -1,8 +1,8 @@
 pub mod CollectLaws
-pub mod ReadLaws
-pub mod TakeLaws
-pub mod PartReads
-pub mod TurnReads
-pub mod FetchLaws
-pub mod ShelfLaws
-pub mod LenderLaws
+mod ReadLaws
+mod TakeLaws
+mod PartReads
+mod TurnReads
+mod FetchLaws
+mod ShelfLaws
+mod LenderLaws

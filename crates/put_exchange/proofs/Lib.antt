@@ -1,8 +1,8 @@
-pub mod PutLaws
-pub mod PieceLaws
-pub mod TakenLaws
-pub mod ServeLaws
-pub mod InTurnLaws
-pub mod OrderLaws
-pub mod FeedLaws
-pub mod WorkerLaws
+mod PutLaws
+mod PieceLaws
+mod TakenLaws
+mod ServeLaws
+mod InTurnLaws
+mod OrderLaws
+mod FeedLaws
+mod WorkerLaws
