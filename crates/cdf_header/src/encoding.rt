@@ -9,7 +9,7 @@ use crate::number_fields::{push_absent, push_begin, push_count, push_name, push_
 use crate::type_numbers::number_of;
 use nc_base::{Attr, Blob, Dim, Header, Memory, Var};
 use std::alloc::Global;
-use var_layout::vsize_of;
+use var_layout::{header_len, vsize_of};
 
 const DIMS: u32 = 10;
 
@@ -24,7 +24,7 @@ pub fn encode(alloc: Global, header: &Header) -> Result<Blob, Memory>
     requires { is_writable header.now ≡ true }
     ensures { IfOk result (λ bytes. bytes ≡ canon header.now) }
 {
-    let mut out = Vec::new(alloc);
+    let mut out = Vec::with_capacity(alloc, header_len(header) as usize)?;
     out.extend_from_slice(&[b'C', b'D', b'F', header.version])?;
     push_count(&mut out, header.version, header.records)?;
     push_dims(&mut out, header.version, header.dims.as_slice())?;

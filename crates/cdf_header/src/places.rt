@@ -38,7 +38,7 @@ fn spans_of(alloc: Global, header: &Header) -> Result<Vec<Span>, Memory>
     requires { All (λ v. v.begin + slab header.now v < 2 ^ 62) header.now.vars }
     ensures { IfOk result (λ spans. spans.items ≡ spans_of header.now 0 header.now.vars) }
 {
-    let mut spans = Vec::new(alloc);
+    let mut spans = Vec::with_capacity(alloc, header.vars.len())?;
     for (number, var) in header.vars.as_slice().iter().enumerate() {
         spans.push(span_of(header, number, var))?;
     }

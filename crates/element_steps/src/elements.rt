@@ -1,6 +1,5 @@
 // A request's elements one after another, each at its place.
 ghost use Rattle.std.specs.Prelude.{◌≡◌, ◌+◌, ◌*◌, ◌++◌, ◌<◌, ◌≤◌, ◌^◌, true, length, take, drop, flat_map, slice_get, Some, IfOk, IfSome, OnOk};
-ghost use Rattle.std.specs.Option.{option_copied};
 ghost use Rattle.std.specs.List.{range_with_len};
 ghost use Rattle.serial_spec.specs.ExternalForm as external;
 ghost use Rattle.serial_spec.specs.SoundHeaders.{is_sound};
@@ -19,6 +18,7 @@ use nc_base::{Blob, Header, Memory, Post, Region, SizeList, Var};
 use std::alloc::Global;
 use type_external::{element_count, size_of};
 use var_layout::place;
+use vara_extents::{bytes_wanted, variable};
 
 /// Adds the index of the element that has this number in row-major order, dimension after dimension.
 fn push_index(
@@ -74,20 +74,13 @@ fn place_of(
     Ok(place(header, var, index.as_slice()))
 }
 
-/// The variable at this place of the header's list.
-fn variable(header: &Header, var: u32) -> Option<&Var>
-    ensures { option_copied result ≡ slice_get header.now.vars var }
-{
-    header.vars.as_slice().get(var as usize)
-}
-
 /// Does a put: the bytes of each element are written at its place.
 pub fn put(alloc: Global, header: &Header, post: &Post, file: &mut Vec<u8>) -> Result<(), Memory>
     requires sound { is_sound header.now ≡ true }
     requires right { IsPut header.now post.now }
     ensures { OnOk result (IfSome (slice_get header.now.vars post.now.var) (λ v. file.new.items ≡ request.put header.now v post.now.region post.now.bytes file.old.items)) }
 {
-    match variable(header, post.var) {
+    match variable(header, post.var as usize) {
         None => Ok(()),
         Some(of) => put_elements(alloc, header, of, post, file),
     }
@@ -130,7 +123,7 @@ pub fn get(alloc: Global, header: &Header, post: &Post, file: &[u8]) -> Result<B
     requires accepted { IsAccepted header.now post.now.var post.now.region }
     ensures { IfOk result (λ blob. IfSome (slice_get header.now.vars post.now.var) (λ v. blob ≡ request.get header.now v post.now.region file.now)) }
 {
-    match variable(header, post.var) {
+    match variable(header, post.var as usize) {
         None => Ok(Blob::new(alloc)),
         Some(of) => get_elements(alloc, header, of, post, file),
     }
@@ -148,7 +141,7 @@ fn get_elements(
     requires accepted { IsAccepted header.now post.now.var post.now.region }
     ensures { IfOk result (λ blob. blob ≡ request.get header.now of.now post.now.region file.now) }
 {
-    let mut bytes = Vec::new(alloc);
+    let mut bytes = Vec::with_capacity(alloc, bytes_wanted(header, post) as usize)?;
     for number in 0..element_count(post.region.count.as_slice()) {
         let at = place_of(alloc, header, post.var as usize, of, &post.region, number)?;
         read(file, at, size_of(of.kind), &mut bytes)?;
@@ -162,7 +155,7 @@ pub fn bytes_of(alloc: Global, header: &Header, post: &Post) -> Result<SizeList,
     requires accepted { IsAccepted header.now post.now.var post.now.region }
     ensures { IfOk result (λ places. places ≡ shared.bytes_of header.now post.now) }
 {
-    match variable(header, post.var) {
+    match variable(header, post.var as usize) {
         None => Ok(SizeList::new(alloc)),
         Some(of) => bytes_of_elements(alloc, header, of, post),
     }
@@ -179,7 +172,7 @@ fn bytes_of_elements(
     requires accepted { IsAccepted header.now post.now.var post.now.region }
     ensures { IfOk result (λ list. list ≡ flat_map (λ x. range_with_len x (external.size_of of.now.kind)) (request.places header.now of.now post.now.region)) }
 {
-    let mut list = Vec::new(alloc);
+    let mut list = Vec::with_capacity(alloc, bytes_wanted(header, post) as usize)?;
     for number in 0..element_count(post.region.count.as_slice()) {
         let at = place_of(alloc, header, post.var as usize, of, &post.region, number)?;
         push_range(&mut list, at, size_of(of.kind))?;

@@ -40,7 +40,7 @@ fn holdings(alloc: Global, header: &Header, puts: &[(u32, Post)]) -> Result<Vec<
     requires accepted { (p : ℕ × Post) → In puts.now p → IsAccepted header.now p.1.var p.1.region }
     ensures { IfOk result (λ held. held.items ≡ spec.holdings header.now puts.now) }
 {
-    let mut held = Vec::new(alloc);
+    let mut held = Vec::with_capacity(alloc, puts.len())?;
     for put in puts {
         let bytes = bytes_of(alloc, header, &put.1)?;
         held.push(((put.0, put.1.id), bytes))?;

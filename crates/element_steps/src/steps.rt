@@ -77,7 +77,7 @@ pub(crate) fn get_all(
     requires accepted { (p : Post) → In posts.now p → IsAccepted header.now p.var p.region }
     ensures { IfOk result (λ got. (s : Setting) → s.header ≡ header.now → got ≡ map (get_post s file.now) posts.now) }
 {
-    let mut got = Vec::new(alloc);
+    let mut got = Vec::with_capacity(alloc, posts.len())?;
     for post in posts {
         got.push(get(alloc, header, post, file)?)?;
     }

@@ -13,5 +13,5 @@ mod runs;
 mod unpacking;
 mod words;
 
-pub use packing::{pack, push_value};
+pub use packing::{pack, push_value, room_for};
 pub use unpacking::unpack;

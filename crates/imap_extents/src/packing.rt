@@ -83,8 +83,8 @@ fn encode_front(alloc: Global, kind: NcType, values: &Values, count: usize) -> R
     }
 }
 
-/// An empty list with room for so many values.
-fn room_for(alloc: Global, kind: NcType, count: usize) -> Result<Vec<u8>, Memory>
+/// An empty list with room for so many values in external form.
+pub fn room_for(alloc: Global, kind: NcType, count: usize) -> Result<Vec<u8>, Memory>
     ensures { IfOk result (λ bytes. bytes.items ≡ []) }
 {
     Ok(Vec::with_capacity(alloc, count.saturating_mul(size_of(kind) as usize))?)
@@ -219,7 +219,7 @@ fn encode_all(
     ensures right { OnOk result (list_any (λ v. not (some_fits kind v)) (map (λ m. value_at values.now m) positions.now) ≡ false) }
     ensures refused { IfErr result (IsRangeRefusal (list_any (λ v. not (some_fits kind v)) (map (λ m. value_at values.now m) positions.now))) }
 {
-    let mut bytes = Vec::new(alloc);
+    let mut bytes = room_for(alloc, kind, positions.len())?;
     for position in positions {
         push_value(kind, values, *position, &mut bytes)?;
     }

@@ -46,7 +46,8 @@ fn mapped_positions(alloc: Global, counts: &[u64], imap: &[u64]) -> Result<Vec<u
 fn repeated(alloc: Global, inner: &[u64], count: u64, step: u64) -> Result<Vec<u64>, Memory>
     ensures { IfOk result (λ all. all.items ≡ flat_map (λ i. map (λ p. saturated (saturated (i * step) + p)) inner.now) (range_with_len 0 count)) }
 {
-    let mut positions = Vec::new(alloc);
+    let room = inner.len().saturating_mul(count as usize);
+    let mut positions = Vec::with_capacity(alloc, room)?;
     for index in 0..count {
         push_moved(&mut positions, inner, index.saturating_mul(step))?;
     }

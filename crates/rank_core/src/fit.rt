@@ -2,12 +2,12 @@
 ghost use Rattle.std.specs.Prelude.{◌≡◌, map, length, true, bytes_eq, is_some, IfSome};
 ghost use Rattle.serial_spec.specs.RankSide.{wanted};
 ghost use Rattle.rank_core.specs.Fit.{fits_gets};
-ghost use Rattle.rank_core.specs.Heard.{AreGetsOf, IsGetOf};
+ghost use Rattle.rank_core.specs.Heard.{AreGetsOf};
 
 use crate::rank::Rank;
 use nc_base::{Blob, Header, Post, Reply};
-use type_external::{element_count, size_of};
 use var_layout::record_limit;
+use vara_extents::bytes_wanted;
 
 impl<'a> Rank<'a> {
     /// Whether a reply is one to the offer that the rank has made.
@@ -39,13 +39,4 @@ fn are_as_long(header: &Header, blobs: &[Blob], gets: &[Post]) -> bool
         }
     }
     true
-}
-
-/// How many bytes a get asks for.
-fn bytes_wanted(header: &Header, get: &Post) -> u64
-    requires { IsGetOf header.now get.now }
-    ensures { result ≡ wanted header.now get.now }
-{
-    let var = &header.vars.as_slice()[get.var as usize];
-    element_count(get.region.count.as_slice()) * size_of(var.kind)
 }

@@ -57,7 +57,7 @@ fn out_of_range(alloc: Global, header: &Header) -> Result<Items<bool>, Memory>
 {
     let lone = is_lone(header);
     let size = recsize_of(header);
-    let mut bad = Items::new(alloc);
+    let mut bad = Items::with_capacity(alloc, header.vars.len())?;
     let mut before = 0;
     for var in header.vars.as_slice() {
         bad.push(is_out_of_range(header, lone, size, before, var))?;

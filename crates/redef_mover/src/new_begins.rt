@@ -246,7 +246,7 @@ pub(crate) fn place_all(
 {
     let fixed = fixed_order(alloc, header, n)?;
     let records = record_order(alloc, header, n)?;
-    let mut places = Items::new(alloc);
+    let mut places = Items::with_capacity(alloc, header.vars.len())?;
     let front = place_fixed(&mut places, fixed.as_slice(), len)?;
     let least = least_begin(header, n);
     let first = first_record(front, least);

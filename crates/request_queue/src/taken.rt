@@ -92,7 +92,7 @@ fn list_items(
 ) -> Result<ItemList, Memory>
     ensures { IfOk result (λ items. items ≡ items_by (contains nat_cmp nulls.now) (has_waiting waiting.now) (λ _. false) ids.now) }
 {
-    let mut items = ItemList::new(alloc);
+    let mut items = ItemList::with_capacity(alloc, ids.len())?;
     let mut earlier = BTreeSet::new(alloc);
     for id in ids {
         let code = code_of(

@@ -32,7 +32,8 @@ fn in_order(mut regions: Vec<Region>) -> Vec<Region>
     regions
 }
 
-fn has_element(region: &Region) -> bool
+/// Whether no count is 0.
+pub fn has_element(region: &Region) -> bool
     ensures { result ≡ spec.has_element region.now }
 {
     element_count(region.count.as_slice()) > 0

@@ -13,9 +13,10 @@ mod parts;
 mod runs;
 mod walk;
 
+pub use boxes::has_element;
 pub use causes::{Ends, check};
 pub use forms::widen;
 pub use laws::{extents_law, writing_law};
-pub use needs::records_needed;
-pub use parts::{check_parts, elements_of_all};
+pub use needs::{bytes_wanted, records_needed, variable};
+pub use parts::{check_parts, elements_of_all, part_regions};
 pub use walk::Extents;

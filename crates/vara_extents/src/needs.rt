@@ -3,6 +3,7 @@ ghost use Rattle.std.specs.Prelude.{◌≡◌, ◌+◌, ◌-◌, ◌*◌, ◌<�
 ghost use Rattle.std.specs.Option.{option_copied};
 ghost use Rattle.serial_spec.specs.Layout as layout;
 ghost use Rattle.serial_spec.specs.Limits as limits;
+ghost use Rattle.serial_spec.specs.RankSide.{wanted};
 ghost use Rattle.serial_spec.specs.RegionCheck as spec;
 ghost use Rattle.serial_spec.specs.Records.{records_of};
 ghost use Rattle.var_layout.specs.Capped.{capped};
@@ -10,8 +11,8 @@ ghost use Rattle.var_layout.specs.Measures.{AreMeasures};
 ghost use Rattle.vara_extents.specs.Accepted.{IsAccepted};
 
 use crate::causes::last_of;
-use nc_base::{FILE_LIMIT, Header, MAX_ELEMENTS, MAX_REACH, Region, Var};
-use type_external::element_count;
+use nc_base::{FILE_LIMIT, Header, MAX_ELEMENTS, MAX_REACH, Post, Region, Var};
+use type_external::{element_count, size_of};
 use var_layout::{Measures, capped, is_record, record_limit};
 
 /// The place of the last element in memory, or 2^62 where it is farther.
@@ -92,6 +93,17 @@ pub fn records_needed(header: &Header, var: usize, region: &Region) -> u64
     }
 }
 
+/// How many bytes the elements of a request take.
+pub fn bytes_wanted(header: &Header, post: &Post) -> u64
+    requires { IsAccepted header.now post.now.var post.now.region }
+    ensures { result ≡ wanted header.now post.now }
+{
+    match variable(header, post.var as usize) {
+        None => 0,
+        Some(var) => element_count(post.region.count.as_slice()) * size_of(var.kind),
+    }
+}
+
 /// The variable at this place of the header's list, which has one there.
 pub(crate) fn variable_at(header: &Header, var: usize) -> &Var
     requires { var < length header.now.vars }
@@ -101,7 +113,7 @@ pub(crate) fn variable_at(header: &Header, var: usize) -> &Var
 }
 
 /// The variable at this place of the header's list.
-pub(crate) fn variable(header: &Header, var: usize) -> Option<&Var>
+pub fn variable(header: &Header, var: usize) -> Option<&Var>
     ensures { option_copied result ≡ slice_get header.now.vars var }
 {
     header.vars.as_slice().get(var)

@@ -97,8 +97,8 @@ fn code_of(
     Ok(code_by_boxes(header, measures, var, regions, ends))
 }
 
-/// The parts as regions of their own.
-fn part_regions(alloc: Global, var: &Var, parts: &[Part]) -> Result<Vec<Region>, Memory>
+/// The parts as regions of their own, with strides of 1.
+pub fn part_regions(alloc: Global, var: &Var, parts: &[Part]) -> Result<Vec<Region>, Memory>
     ensures { IfOk result (λ regions. regions.items ≡ map (spec.part_region var.now) parts.now) }
 {
     let mut regions = Vec::with_capacity(alloc, parts.len())?;

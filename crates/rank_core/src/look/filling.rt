@@ -110,7 +110,7 @@ fn box_posts(
     requires few { AllByRecursion IsSmall parts.now }
     ensures { IfOk result (λ posts. posts ≡ map (looks.box_post target.now.place target.now.var.now number) parts.now) }
 {
-    let mut posts = PostList::new(alloc);
+    let mut posts = PostList::with_capacity(alloc, parts.len())?;
     for part in parts {
         posts.push(box_post(alloc, target, number, part)?)?;
     }
@@ -171,7 +171,7 @@ fn fill_bytes(alloc: Global, target: &Target, count: u64) -> Result<Blob, Memory
 fn repeated(alloc: Global, value: &[u8], count: u64) -> Result<Blob, Memory>
     ensures { IfOk result (λ bytes. bytes ≡ flat_map (λ m. value.now) (range_with_len 0 count)) }
 {
-    let mut bytes = Vec::new(alloc);
+    let mut bytes = Vec::with_capacity(alloc, value.len().saturating_mul(count as usize))?;
     for _number in 0..count {
         bytes.extend_from_slice(value)?;
     }

@@ -10,15 +10,14 @@ ghost use Rattle.rank_core.specs.Targets as targets;
 ghost use Rattle.rank_core.specs.Targets.{IsMeasured, IsTarget};
 
 use super::direction_of;
-use super::region::has_element;
 use super::target::Target;
-use imap_extents::push_value;
+use imap_extents::{push_value, room_for};
 use nc_base::{
-    Blob, CallErr, Code, Given, Memory, NcType, Part, Post, PostList, Region, SizeList, Values, Var,
+    Blob, CallErr, Code, Given, Memory, NcType, Part, Post, PostList, Region, Values, Var,
 };
 use std::alloc::Global;
 use type_external::{element_count, kind_fits};
-use vara_extents::{Ends, check_parts, elements_of_all};
+use vara_extents::{Ends, check_parts, elements_of_all, has_element, part_regions};
 
 pub(super) fn look_parts(
     alloc: Global,
@@ -50,25 +49,9 @@ pub(super) fn look_parts(
 fn asked_regions(alloc: Global, var: &Var, parts: &[Part]) -> Result<Vec<Region>, Memory>
     ensures { IfOk result (λ regions. regions.items ≡ filter spec.has_element (map (spec.part_region var.now) parts.now)) }
 {
-    let mut regions = Vec::new(alloc);
-    for part in parts {
-        if has_element(part.count.as_slice()) {
-            regions.push(part_region(alloc, var, part)?)?;
-        }
-    }
+    let mut regions = part_regions(alloc, var, parts)?;
+    regions.retain(|region| has_element(region));
     Ok(regions)
-}
-
-fn part_region(alloc: Global, var: &Var, part: &Part) -> Result<Region, Memory>
-    ensures { IfOk result (λ region. region ≡ spec.part_region var.now part.now) }
-{
-    Ok(Region {
-        start: part.start.clone(alloc)?,
-        count: part.count.clone(alloc)?,
-        stride: SizeList::from_vec(vec![in alloc; 1; var.dims.len()]?),
-        imap: SizeList::new(alloc),
-        packed: true,
-    })
 }
 
 /// Whether the values of a put are of another kind than the type, or fewer than the elements.
@@ -97,7 +80,7 @@ fn part_posts(
     ensures right { OnOk result (some_unfit target.now.var.now.kind (option_copied values.entry) 0 (spec.elements_of_all regions.items) ≡ false) }
     ensures refused { IfErr result (IsRangeRefusal (some_unfit target.now.var.now.kind (option_copied values.entry) 0 (spec.elements_of_all regions.items))) }
 {
-    let mut posts = PostList::new(alloc);
+    let mut posts = PostList::with_capacity(alloc, regions.len())?;
     let mut before = 0;
     for region in regions {
         let elements = element_count(region.count.as_slice());
@@ -146,7 +129,7 @@ fn encode_all(
     ensures right { OnOk result (some_unfit kind (Some values.now) before count ≡ false) }
     ensures refused { IfErr result (IsRangeRefusal (some_unfit kind (Some values.now) before count)) }
 {
-    let mut bytes = Vec::new(alloc);
+    let mut bytes = room_for(alloc, kind, count as usize)?;
     for number in 0..count {
         push_value(kind, values, before + number, &mut bytes)?;
     }

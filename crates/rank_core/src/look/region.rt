@@ -1,10 +1,9 @@
 // A call on one region.
-ghost use Rattle.std.specs.Prelude.{◌≡◌, ◌∷◌, [], nat_lt, IfOk, IfErr, OnOk};
+ghost use Rattle.std.specs.Prelude.{◌≡◌, ◌∷◌, [], IfOk, IfErr, OnOk};
 ghost use Rattle.std.specs.Option.{option_copied};
 ghost use Rattle.nc_base.specs.declared.answer.Code.TheVariants as code;
 ghost use Rattle.imap_extents.specs.Mapped.{IsMapped};
 ghost use Rattle.serial_spec.specs.Refusal.{IsRefusal};
-ghost use Rattle.serial_spec.specs.Layout.{product};
 ghost use Rattle.serial_spec.specs.Looks as looks;
 ghost use Rattle.rank_core.specs.Looked.{ComesTo};
 ghost use Rattle.rank_core.specs.Targets as targets;
@@ -15,8 +14,7 @@ use super::target::Target;
 use imap_extents::pack;
 use nc_base::{Blob, CallErr, Given, Memory, NcType, Post, PostList, Region, Values};
 use std::alloc::Global;
-use type_external::element_count;
-use vara_extents::{check, widen};
+use vara_extents::{check, has_element, widen};
 
 pub(super) fn look_region(
     alloc: Global,
@@ -38,7 +36,7 @@ pub(super) fn look_region(
         target.known,
         direction_of(values),
     )?;
-    if !has_element(region.count.as_slice()) {
+    if !has_element(&region) {
         return Ok(PostList::new(alloc));
     }
     let bytes = data_bytes(alloc, target.var.kind, &region, values)?;
@@ -49,13 +47,6 @@ pub(super) fn look_region(
         bytes,
     };
     Ok(only(alloc, post)?)
-}
-
-/// Whether no count is 0.
-pub(super) fn has_element(counts: &[u64]) -> bool
-    ensures { result ≡ nat_lt 0 (product counts.now) }
-{
-    element_count(counts) > 0
 }
 
 /// The bytes of a put; none for a get.

@@ -1,6 +1,7 @@
 -- Each blob so far is as long as its get asks for.
 use Rattle.std.proofs.Common.{◌≡◌, ◌<◌, ◌∙◌, ap, sym, List, ℕ, length, map, take, arith}
 use Rattle.std.proofs.Math.Seq.{take-length}
+use Rattle.nc_base.specs.declared.request.Direction.TheVariants as way
 use Rattle.overlay_laws.proofs.Members.{read_in}
 use Rattle.serial_spec.specs.RankSide.{wanted}
 use Rattle.rank_core.proofs.FittingLaws.{are_same, not_same, same_more}
@@ -10,7 +11,7 @@ use Rattle.rank_core.proofs.fit.are_as_long.Goals as goal
 pub bytes_wanted-requires : goal.bytes_wanted-requires
 bytes_wanted-requires c =
     let get = c.index-gets-index.result in
-    (c.requires.gets.0, c.requires.gets.1.each get (read_in c.args.gets.now c.loop-index.index get c.loop-index-test.true c.index-gets-index.is))
+    (c.requires.gets.0, way.Get, c.requires.gets.1.each get (read_in c.args.gets.now c.loop-index.index get c.loop-index-test.true c.index-gets-index.is))
 
 pub returns-then-len-bytes_wanted : goal.returns-then-len-bytes_wanted
 returns-then-len-bytes_wanted c =

@@ -4,7 +4,7 @@ use Rattle.redef_mover.proofs.Ranges.{ranged_next, ranged_whole}
 use Rattle.redef_mover.proofs.layout_faults.out_of_range.Goals as goal
 
 pub loop-var-init : goal.loop-var-init
-loop-var-init c = record { told = c.new-bad.ensures; sum = refl }
+loop-var-init c = record { told = c.in_ok-bad.ensures; sum = refl }
 
 pub loop-var-preserved : goal.loop-var-preserved
 loop-var-preserved c =

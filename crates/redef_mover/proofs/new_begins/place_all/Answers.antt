@@ -18,5 +18,5 @@ returns c =
     let fixed = c.in_ok-front.ensures.placed header (fixed_order header n) (header_len header) (c.as_slice.ensures ∙ c.in_ok-fixed.ensures) c.requires in
     let old = c.in_ok-end.ensures header (by_begin records) first (c.as_slice-2.ensures ∙ c.in_ok-records.ensures) (c.first_record-first.ensures front fixed.1) in
     let new = c.in_ok-place_new_records.ensures (first + vsizes header records) (old.1 ∙ ap (λ (i : ℕ). capped (first + i)) (shares_sorted header records)) in
-    placed_all header n c.new-places.result c.place_fixed.new.places c.place_old_records.new.places c.place_new_records.new.places c.least_begin-least.result c.unwrap_or.result
-    c.new-places.ensures c.least_begin-least.ensures c.unwrap_or.ensures fixed.0 old.0 new
+    placed_all header n c.in_ok-places.places c.place_fixed.new.places c.place_old_records.new.places c.place_new_records.new.places c.least_begin-least.result c.unwrap_or.result
+    c.in_ok-places.ensures c.least_begin-least.ensures c.unwrap_or.ensures fixed.0 old.0 new

@@ -18,5 +18,5 @@ pub returns-in_err-push_value-clause-refused : goal.returns-in_err-push_value-cl
 returns-in_err-push_value-clause-refused c =
     let why = one_unfit c.args.kind c.args.values.now c.args.before c.loop-number.number (c.args.before + c.loop-number.number) c.args.count c.in_err-push_value.field-0.0
     c.loop-number-test.true refl c.in_err-push_value.ensures.refused in
-    let p = err_from_is_err_and c.from_residual.result c.from_residual.ensures.1 in
+    let p = err_from_is_err_and c.from_residual-in_err-push_value.result c.from_residual-in_err-push_value.ensures.1 in
     rw (p.1, p.2) why

@@ -18,7 +18,7 @@ returns-in_err-bytes-clause-refused c =
     let within : c.loop-region.before + c.element_count-elements.result ≤ elements_of_all c.args.regions.items = omega (arith, elements, next, one, c.loop-region.invariant.rest) in
     let why = part_unfit c.args.target.now.var.now.kind (option_copied c.args.values) c.loop-region.before c.element_count-elements.result (elements_of_all c.args.regions.items)
     c.in_err-bytes.field-0.0 within c.in_err-bytes.ensures.refused in
-    let p = err_from_is_err_and c.from_residual.result c.from_residual.ensures.1 in
+    let p = err_from_is_err_and c.from_residual-in_err-bytes.result c.from_residual-in_err-bytes.ensures.1 in
     rw (p.1, p.2) why
 
 pub loop-region-preserved : goal.loop-region-preserved

@@ -1,4 +1,4 @@
-use Rattle.std.proofs.Common.{◌≡◌, ◌∙◌, sym, ap, List, ℕ, true, false, ltb}
+use Rattle.std.proofs.Common.{◌≡◌, ◌∙◌, sym, ap, true, false, ltb}
 use Rattle.std.specs.Option.{option_copied}
 use Rattle.std.proofs.lemmas.Result.{err_from_is_err_and}
 use Rattle.serial_spec.specs.Layout.{product}
@@ -24,7 +24,7 @@ returns-in_err-check c =
 
 pub returns-then-not-has_element : goal.returns-then-not-has_element
 returns-then-not-has_element c =
-    let none : ltb 0 (product c.in_ok-region.region.count) ≡ false = ap (λ (l : List ℕ). ltb 0 (product l)) (sym c.as_slice.ensures) ∙ sym c.has_element.ensures ∙ c.if-not-has_element.true in
+    let none : ltb 0 (product c.in_ok-region.region.count) ≡ false = sym c.has_element.ensures ∙ c.if-not-has_element.true in
     ap look_of c.new.ensures
     ∙ region_empty c.args.target.now c.args.given.now (option_copied c.args.values) c.requires.there c.direction_of.result c.direction_of.ensures
     c.in_ok-region.region c.in_ok-region.ensures c.in_ok-check.ensures.ok none
@@ -32,13 +32,13 @@ returns-then-not-has_element c =
 pub returns-in_err-bytes : goal.returns-in_err-bytes
 returns-in_err-bytes c =
     let p = err_from_is_err_and c.from_residual-in_err-bytes.result c.from_residual-in_err-bytes.ensures.1 in
-    let some : ltb 0 (product c.in_ok-region.region.count) ≡ true = ap (λ (l : List ℕ). ltb 0 (product l)) (sym c.as_slice.ensures) ∙ sym c.has_element.ensures ∙ c.if-not-has_element.false in
+    let some : ltb 0 (product c.in_ok-region.region.count) ≡ true = sym c.has_element.ensures ∙ c.if-not-has_element.false in
     is_error _ _ p.0 c.in_err-bytes.field-0.0 p.1 p.2
     (region_unfit c.args.target.now c.args.given.now (option_copied c.args.values) c.requires.there c.direction_of.result c.direction_of.ensures
     c.in_ok-region.region c.in_ok-region.ensures c.in_err-bytes.field-0.0 c.in_ok-check.ensures.ok some c.in_err-bytes.ensures.refused)
 
 pub returns : goal.returns
 returns c =
-    let some : ltb 0 (product c.in_ok-region.region.count) ≡ true = ap (λ (l : List ℕ). ltb 0 (product l)) (sym c.as_slice.ensures) ∙ sym c.has_element.ensures ∙ c.if-not-has_element.false in
+    let some : ltb 0 (product c.in_ok-region.region.count) ≡ true = sym c.has_element.ensures ∙ c.if-not-has_element.false in
     region_asks c.args.target.now c.args.given.now (option_copied c.args.values) c.requires.there c.direction_of.result c.direction_of.ensures
     c.in_ok-region.region c.in_ok-region.ensures c.in_ok-bytes.bytes c.in_ok-only.field-0 c.in_ok-check.ensures.ok some c.in_ok-bytes.ensures.right c.in_ok-bytes.ensures.ok c.in_ok-only.ensures

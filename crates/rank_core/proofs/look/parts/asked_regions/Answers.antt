@@ -1,0 +1,10 @@
+-- The parts as regions, those without an element dropped.
+use Rattle.std.proofs.Common.{◌∙◌, ap, rules}
+use Rattle.std.specs.Prelude.{filter}
+use Rattle.std.proofs.lemmas.Fn.{filter_same}
+use Rattle.serial_spec.specs.RegionCheck.{has_element}
+use Rattle.rank_core.proofs.look.parts.asked_regions.Goals as goal
+
+pub returns : goal.returns
+returns c =
+    filter_same _ has_element _ (λ x b h k. search rules) _ _ c.retain.ensures.filtered ∙ ap (filter has_element) c.in_ok-regions.ensures
