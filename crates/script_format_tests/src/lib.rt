@@ -1,4 +1,4 @@
-//! Tests of script_format.
+//! Tests of script_format and made_text.
 #![tactic(auto)]
 
 #[cfg(test)]

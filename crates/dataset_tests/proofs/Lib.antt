@@ -1,0 +1,2 @@
+pub mod FilledHeaders
+pub mod MovedHeaders

@@ -1,0 +1,3 @@
+// Datasets before the ranks begin: filled, and redefined.
+mod filling;
+mod redefining;

@@ -1,5 +1,0 @@
-//! Tests of element_steps.
-#![tactic(auto)]
-
-#[cfg(test)]
-mod tests;

@@ -1,0 +1,3 @@
+// Hostile input, and a disk that refuses a call.
+mod hostile;
+mod refused;

@@ -1,5 +1,0 @@
-//! Tests of fill_records.
-#![tactic(auto)]
-
-#[cfg(test)]
-mod tests;

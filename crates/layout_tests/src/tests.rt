@@ -1,0 +1,3 @@
+// Values in external form, and the places of variables.
+mod places;
+mod values;

@@ -1,5 +1,0 @@
-//! Tests of made_text.
-#![tactic(auto)]
-
-#[cfg(test)]
-mod tests;

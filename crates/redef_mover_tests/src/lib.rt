@@ -1,5 +1,0 @@
-//! Tests of redef_mover.
-#![tactic(auto)]
-
-#[cfg(test)]
-mod tests;

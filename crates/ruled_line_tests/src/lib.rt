@@ -1,5 +1,0 @@
-//! Tests of ruled_line.
-#![tactic(auto)]
-
-#[cfg(test)]
-mod tests;

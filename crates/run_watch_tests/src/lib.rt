@@ -1,5 +1,0 @@
-//! Tests of run_watch.
-#![tactic(auto)]
-
-#[cfg(test)]
-mod tests;

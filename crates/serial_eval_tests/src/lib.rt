@@ -1,5 +1,0 @@
-//! Tests of serial_eval.
-#![tactic(auto)]
-
-#[cfg(test)]
-mod tests;

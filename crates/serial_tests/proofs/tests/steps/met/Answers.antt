@@ -1,0 +1,9 @@
+-- Both offers are right.
+use Rattle.std.proofs.Common.{◌∙◌}
+use Rattle.serial_tests.proofs.TwoOffers.{two_right}
+use Rattle.serial_tests.proofs.tests.steps.met.Goals as goal
+
+pub meeting-requires-clause-right : goal.meeting-requires-clause-right
+meeting-requires-clause-right g c =
+    two_right c.args.header.now c.args.a c.args.b c.in_ok-offer_of.field-0 c.in_ok-offer_of-2.field-0 c.as_slice.result.now
+    (c.as_slice.ensures.value ∙ c.in_ok-offers.ensures.items) c.in_ok-offer_of.ensures c.in_ok-offer_of-2.ensures c.is_put.ensures c.is_put-2.ensures

@@ -1,0 +1,3 @@
+// Steps element by element, and orders of steps.
+mod orders;
+mod steps;

@@ -1,0 +1,3 @@
+// What passes between threads: lines and inboxes, and readings of a board.
+mod boards;
+mod lines;

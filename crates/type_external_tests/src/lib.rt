@@ -1,5 +1,0 @@
-//! Tests of type_external.
-#![tactic(auto)]
-
-#[cfg(test)]
-mod tests;

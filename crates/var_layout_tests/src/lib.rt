@@ -1,5 +1,0 @@
-//! Tests of var_layout.
-#![tactic(auto)]
-
-#[cfg(test)]
-mod tests;
