@@ -112,7 +112,7 @@ module _ (script : Script) (old header : Header) (order : List Mark) (alone : (l
 
 pub made_ran : (seed size : ℕ) (script : Script) (header : Header) (before now : Output) (held_mid : Option (List ℕ)) (calls_mid : Option (List DiskCall)) (faults failed records : ℕ)
     (end : RunEnd) (order : List Mark) → script ≡ script_made seed size → IsReady script header before.held held_mid before.calls calls_mid → order ≡ end.order
-    → IsRun script header held_mid calls_mid faults now.held now.calls failed records end → end.fault ≡ None
+    → IsRun script header (seen held_mid calls_mid faults) (seen now.held now.calls failed) records end → end.fault ≡ None
     → RanMade seed size before now order (summary_text seed size script (record header { records = records }) end.order end.answers)
 made_ran seed size script header before now held_mid calls_mid faults failed records end order is ready same run whole =
     let fresh : script.fresh ≡ true = ap (λ (s : Script). s.fresh) is ∙ made_fresh seed size in

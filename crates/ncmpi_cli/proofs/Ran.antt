@@ -102,7 +102,7 @@ can_have_begun script header left_before left_after held_before held_mid calls_b
 pub ran : (script : Script) (header : Header) (before now : Seen) (held_mid : Option (List ℕ)) (calls_mid : Option (List DiskCall)) (faults failed records : ℕ) (end : RunEnd)
     (order : List Mark) (readings end_readings : List (List ℕ)) (pairs : List (List (ℕ × ℕ)))
     → Asks before.left script → IsReady script header before.output.held held_mid before.output.calls calls_mid → now.left ≡ after (λ _. []) before.left
-    → IsRun script header held_mid calls_mid faults now.output.held now.output.calls failed records end → end.fault ≡ None
+    → IsRun script header (seen held_mid calls_mid faults) (seen now.output.held now.output.calls failed) records end → end.fault ≡ None
     → order ≡ end.order → readings ≡ end_readings
     → IfSome held_mid (λ file. pairs ≡ map (with_counts script header file end.order) end_readings)
     → Ran before now order readings (run_text script (record header { records = records }) end.order end.answers end.pending ++ watch_text pairs)

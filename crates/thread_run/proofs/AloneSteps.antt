@@ -42,7 +42,7 @@ pub record CameAlone (s : Setting) (hints : Hints) (r c : ℕ) (o : Offer) (b n 
   pub reached : n.reached ≡ max b.reached y.records
   pub lines : Grows b.lines (put_one r (Reply y)) n.lines
 
-pub alone : (s : Setting) (hints : Hints) (r c : ℕ) (o : Offer) (b n : Standing) (y : reply.Reply) → CameAlone s hints r c o b n y → IsAlone hints s r c o b n
+pub alone : (s : Setting) (hints : Hints) (r c : ℕ) (o : Offer) (b n : Standing) (y : reply.Reply) → CameAlone s hints r c o b n y → IsAlone hints s c (r, o) b n
 alone s hints r c o b n y h = record {
   more = put_one r (Reply y);
   lines = h.lines;

@@ -93,8 +93,8 @@ pub offer_event : (s : Setting) (d : Owner) (r c : ℕ) (o : Offer) (x : Client)
 offer_event s d r c o x k e f = event_is s d r (item.Offer c o) x e ∙ ap (at_offer s d r c o x) f
 
 offer_calls : (hints : Hints) (s : Setting) (d : Owner) (r c : ℕ) (o : Offer) (x : Client) (k : OfferKind) → slice_get d.clients r ≡ Some x → o.kind ≡ k
-    → event_calls hints s d (r, item.Offer c o) ≡ calls_at_offer hints s d r o x k
-offer_calls hints s d r c o x k e f = calls_are hints s d r (item.Offer c o) x e ∙ ap (calls_at_offer hints s d r o x) f
+    → event_calls hints s d (r, item.Offer c o) ≡ calls_at_offer hints s d (r, o) x k
+offer_calls hints s d r c o x k e f = calls_are hints s d r (item.Offer c o) x e ∙ ap (calls_at_offer hints s d (r, o) x) f
 
 pub done_held : (hints : Hints) (s : Setting) (b : Standing) (r c : ℕ) (o : Offer) (x y : Client) (kind : MeetKind) → slice_get b.clients r ≡ Some x → y ≡ client_held x o → o.kind ≡ offer.Meet kind
     → list_all holds (set b.clients r y) ≡ false → HasDone hints s (r, item.Offer c o) b (with_clients b (set b.clients r y))
@@ -143,7 +143,7 @@ as_event hints s b m n a once to made told calls order heard lines e c alone h =
           calls = λ o. k.calls (alone o) ∙ (λ i. with_end (calls i) (sym (c file) i));
         }
 
-pub done_alone : (hints : Hints) (s : Setting) (b n : Standing) (r c : ℕ) (o : Offer) (x : Client) → slice_get b.clients r ≡ Some x → o.kind ≡ offer.Solo → IsAlone hints s r c o b n
+pub done_alone : (hints : Hints) (s : Setting) (b n : Standing) (r c : ℕ) (o : Offer) (x : Client) → slice_get b.clients r ≡ Some x → o.kind ≡ offer.Solo → IsAlone hints s c (r, o) b n
     → HasDone hints s (r, item.Offer c o) b n
 done_alone hints s b n r c o x e k h =
     as_event hints s b b n (r, item.Offer c o) (HoldSingle b.clients) (λ file. does_solo s (owner_at b file) r c o) (λ file. solo_calls hints s r o (counted file b.records)) refl refl refl refl refl

@@ -70,36 +70,36 @@ later_some header own before mid reply answers e heard (rest, h) =
 -- ---- at an offer
 
 pub placed_held : (script : Script) (header : Header) (order : List Mark) (r : ℕ) (own : List Call) (runner : Runner) (o : Offer) → runner.held ≡ Some o
-    → IsPlaced script header order r (going_of own runner) runner.held → IsPlacedWith script header order r (asking own runner) o o.kind
+    → IsPlaced script header order r (going_of own runner) runner.held → IsPlacedWith script header order r (asking own runner, o) o.kind
 placed_held script header order r own runner o e w =
     subst (λ (s : Going). IsPlaced script header order r s (Some o)) (going_held own runner o e)
     (subst (λ (m : Option Offer). IsPlaced script header order r (going_of own runner) m) e w)
 
-pub placed_waits : (script : Script) (header : Header) (order : List Mark) (r : ℕ) (s : Going) (o : Offer) → IsPlacedWith script header order r s o o.kind → Keeps s.rank.«open» o
+pub placed_waits : (script : Script) (header : Header) (order : List Mark) (r : ℕ) (s : Going) (o : Offer) → IsPlacedWith script header order r (s, o) o.kind → Keeps s.rank.«open» o
 placed_waits script header order r s o w = by o.kind w
   where
-    by : (k : OfferKind) → IsPlacedWith script header order r s o k → Keeps s.rank.«open» o
+    by : (k : OfferKind) → IsPlacedWith script header order r (s, o) k → Keeps s.rank.«open» o
     by offer.Solo h = alone_waits script header order r s o h
     by (offer.Meet kind) h = call_waits script order r s o h
 
-pub placed_number : (script : Script) (header : Header) (order : List Mark) (r : ℕ) (s : Going) (o : Offer) → IsPlacedWith script header order r s o o.kind
+pub placed_number : (script : Script) (header : Header) (order : List Mark) (r : ℕ) (s : Going) (o : Offer) → IsPlacedWith script header order r (s, o) o.kind
     → length s.answers < most_calls
 placed_number script header order r s o w = by o.kind w
   where
-    by : (k : OfferKind) → IsPlacedWith script header order r s o k → length s.answers < most_calls
+    by : (k : OfferKind) → IsPlacedWith script header order r (s, o) k → length s.answers < most_calls
     by offer.Solo h = call_number script order r _ h.call _ h.way refl
     by (offer.Meet kind) h = let few = h.few in omega arith
 
 -- ---- after its reply
 
 pub placed_heard : (script : Script) (header : Header) (order : List Mark) (r : ℕ) (own : List Call) (before now : Runner) (o : Offer) (reply : Reply) → before.rank.header ≡ header
-    → IsPlacedWith script header order r (asking own before) o o.kind → HasHeard before now reply → (later : List Mark) × IsOnWay script later r (between own now) None
+    → IsPlacedWith script header order r (asking own before, o) o.kind → HasHeard before now reply → (later : List Mark) × IsOnWay script later r (between own now) None
 placed_heard script header order r own before now o reply e w h = by o.kind w
   where
     said : (now.rank.state, h.answer) ≡ hear header before.rank.state reply
     said = h.heard ∙ ap (λ (k : Header). hear k before.rank.state reply) e
 
-    by : (k : OfferKind) → IsPlacedWith script header order r (asking own before) o k → (later : List Mark) × IsOnWay script later r (between own now) None
+    by : (k : OfferKind) → IsPlacedWith script header order r (asking own before, o) k → (later : List Mark) × IsOnWay script later r (between own now) None
     by offer.Solo way = (order ++ Solo r (length before.answers) ∷ [], alone_heard script header order r own before now o reply e way h)
     by (offer.Meet kind) way = (
       order ++ Meet (meetings order) ∷ [],

@@ -1,4 +1,5 @@
 -- What the owner's ends tell when it is done.
+use Rattle.turn_run.specs.Known.{point}
 use Rattle.std.proofs.Common.{◌≡◌, ℕ, suc, ◌+◌, ◌<◌, refl, sym, ◌∙◌, ap, subst, inl, inr, List, [], ◌∷◌, ◌++◌, length, map, replicate, Bool, true, false, ◌&&◌, Option, Some, None, arith}
 use Rattle.std.proofs.lemmas.List.{append-nil, length-append, length-map, length-replicate}
 use Rattle.std.specs.Prelude.{slice_get, nat_lt, filter, IfSome, IsTrue}
@@ -22,10 +23,10 @@ use Rattle.serial_spec.specs.History.{Arrival, is_offer}
 use Rattle.serial_spec.specs.Joined.{HasEnd}
 use Rattle.serial_spec.specs.Torn.{OwnerStoodAt}
 use Rattle.collective_round.specs.Rounds.{counted}
-use Rattle.thread_run.specs.Halted.{of_fault, of_stranger, IsHaltAt, Outcome}
+use Rattle.thread_run.specs.Halted.{of_fault, of_stranger, IsHaltAt, Outcome, taken_from, stopped_with}
 use Rattle.thread_run.specs.Owned.{owner_at, owner_calls, run, AreSingle, GoesSo, Grows, HoldSingle, Standing}
 use Rattle.thread_run.specs.Refused.{HasCutService}
-use Rattle.thread_run.specs.Service.{arrived, gained, opening, HasFailed, HasTaken, HasToldAlong, HavePut, IsCutOff, IsDone, IsDoneSo}
+use Rattle.thread_run.specs.Service.{arrived, gained, opening, HasFailed, HasTaken, HasToldAlong, HavePut, IsCutOff, IsDone, IsDoneSo, passed}
 use Rattle.thread_run.specs.Stops.{stops_for}
 use Rattle.thread_run.specs.declared.lent.Outlets.{Outlets}
 use Rattle.thread_run.specs.declared.service.Halt.{Halt}
@@ -45,7 +46,7 @@ use Rattle.thread_run.proofs.ThreadLists.{alike_long}
 -- ---- the clauses
 
 module _ (hints : Hints) (s : Setting) (old now : Receiver RankItem) (left : List Bool) (before : Standing) (n : ℕ) (held : Option (List ℕ)) (made : Option (List DiskCall)) (marks : List Mark)
-    (heard : Option (List (Mark × ℕ))) (lines : List (End OwnerItem)) (h : Halt) (o : Outcome hints s old now left before n held made marks heard lines h) where
+    (heard : Option (List (Mark × ℕ))) (lines : List (End OwnerItem)) (h : Halt) (o : Outcome hints s (taken_from old now left) before (stopped_with n held made marks heard lines) h) where
   all_lines : Grows before.lines (λ q. o.run.moved.more q ++ stops (owner_at o.middle []) o.last q) lines
   all_lines = lines_twice before.lines o.middle.lines lines o.run.moved.more (stops (owner_at o.middle []) o.last) o.run.moved.lines o.stopped
 
@@ -74,7 +75,7 @@ module _ (hints : Hints) (s : Setting) (old now : Receiver RankItem) (left : Lis
   on file = goes_on hints s (owner_at before file) o.first o.last (o.run.none_strange file)
 
   at : (file : List ℕ) → of_fault h ≡ None → StoppedAt hints s (served s (owner_at before file) o.first).owner o.last (of_stranger h)
-  at file f = stopped_at hints s before o.middle o.first o.later o.more o.last n held made h file o.run o.parts o.halted o.none f
+  at file f = stopped_at hints s before o.middle o.first o.later o.more o.last (stopped_with n held made marks heard lines) h file o.run o.parts o.halted o.none f
 
   -- the stops are those of the owner that was reached
   owes_stops : (file : List ℕ) (q : ℕ) → of_fault h ≡ None → owed s (owner_at before file) (o.first ++ o.last) q ≡ given_along s (owner_at before file) o.first q ++ stops (owner_at o.middle []) o.last q
@@ -83,8 +84,8 @@ module _ (hints : Hints) (s : Setting) (old now : Receiver RankItem) (left : Lis
       ∙ ap (λ (items : List OwnerItem). given_along s (owner_at before file) o.first q ++ items)
       ((at file f).owes q ∙ ap (λ (d : Owner). stops d o.last q) (o.run.moved.alike file).owner)
 
-  pub out_done : before.order ≡ [] → of_fault h ≡ None → (file : List ℕ) → IsDone s (owner_at before file) (arrived old now) (length before.lines) (gained before.lines lines) marks (of_stranger h)
-  out_done none f file = subst (λ (xs : List Arrival). IsDone s (owner_at before file) xs (length before.lines) (gained before.lines lines) marks (of_stranger h)) (sym arrivals_are) (record {
+  pub out_done : before.order ≡ [] → of_fault h ≡ None → (file : List ℕ) → IsDone s (owner_at before file) (passed (arrived old now) (length before.lines) (gained before.lines lines)) marks (of_stranger h)
+  out_done none f file = subst (λ (xs : List Arrival). IsDone s (owner_at before file) (passed xs (length before.lines) (gained before.lines lines)) marks (of_stranger h)) (sym arrivals_are) (record {
     order = o.order ∙ (o.run.moved.alike file).marks ∙ ap (λ (ms : List Mark). ms ++ (served s (owner_at before file) o.first).marks) none
         ∙ sym ((on file).marks ∙ ap (λ (ms : List Mark). (served s (owner_at before file) o.first).marks ++ ms) (at file f).marks ∙ append-nil (served s (owner_at before file) o.first).marks);
     stranger = sym ((on file).stranger ∙ (at file f).stranger);
@@ -109,13 +110,13 @@ module _ (hints : Hints) (s : Setting) (old now : Receiver RankItem) (left : Lis
   told_so : (m : Option (List ℕ)) → before.told ≡ m → IfSome m (λ file. GoesSo (HoldSingle before.clients × AreSingle o.first) (run s (owner_at before file) o.first) (owner_calls hints s (owner_at before file) o.first) o.run.moved.more before o.middle)
   told_so m e = subst (λ (t : Option (List ℕ)). IfSome t (λ file. GoesSo (HoldSingle before.clients × AreSingle o.first) (run s (owner_at before file) o.first) (owner_calls hints s (owner_at before file) o.first) o.run.moved.more before o.middle)) e o.run.moved.exact
 
-  pub out_bytes : of_fault h ≡ None → (m : Option (List ℕ)) → before.told ≡ m → IfSome m (λ file. IsDoneSo s (owner_at before file) (arrived old now) (length before.lines) (gained before.lines lines) held n)
+  pub out_bytes : of_fault h ≡ None → (m : Option (List ℕ)) → before.told ≡ m → IfSome m (λ file. IsDoneSo s (owner_at before file) (passed (arrived old now) (length before.lines) (gained before.lines lines)) held n)
   out_bytes f None e = tt
   out_bytes f (Some file) e =
       let g = told_so (Some file) e in
       let same = (on file).owner ∙ (at file f).owner in
-      let was = left_at s o.middle o.later n held made h o.halted f in
-      subst (λ (xs : List Arrival). IsDoneSo s (owner_at before file) xs (length before.lines) (gained before.lines lines) held n) (sym arrivals_are) (record {
+      let was = left_at s o.middle o.later (stopped_with n held made marks heard lines) h o.halted f in
+      subst (λ (xs : List Arrival). IsDoneSo s (owner_at before file) (passed xs (length before.lines) (gained before.lines lines)) held n) (sym arrivals_are) (record {
         told = was.told ∙ g.told ∙ ap (λ (d : Owner). Some d.state.file) (sym same);
         records = was.records ∙ sym (ap (λ (d : Owner). d.state.records) (o.run.moved.alike file).owner) ∙ ap (λ (d : Owner). d.state.records) (sym same);
         given = λ q l. gains q l ∙ ap (λ (items : List OwnerItem). items ++ stops (owner_at o.middle []) o.last q) (g.given q l) ∙ sym (owes_stops file q f);
@@ -134,7 +135,7 @@ module _ (hints : Hints) (s : Setting) (old now : Receiver RankItem) (left : Lis
   out_calls f free alone None e = tt
   out_calls f free alone (Some file) e =
       let g = told_so (Some file) e in
-      (left_at s o.middle o.later n held made h o.halted f).calls ∙ g.calls (free, single_first alone)
+      (left_at s o.middle o.later (stopped_with n held made marks heard lines) h o.halted f).calls ∙ g.calls (free, single_first alone)
       ∙ ap (λ (cs : List DiskCall). with_end before.calls cs)
       (sym ((on file).calls ∙ ap (λ (cs : List DiskCall). owner_calls hints s (owner_at before file) o.first ++ cs) (at file f).calls ∙ append-nil (owner_calls hints s (owner_at before file) o.first)))
       ∙ ap (λ (xs : List Arrival). with_end before.calls (owner_calls hints s (owner_at before file) xs)) (sym arrivals_are)
@@ -212,7 +213,7 @@ module _ (hints : Hints) (s : Setting) (old now : Receiver RankItem) (left : Lis
       by_client (Some x) = by_held x.held x.ended
 
   pub out_failed : (senders k : ℕ) → ((file : List ℕ) → owner_at before file ≡ opening senders (counted file k)) → before.order ≡ [] → before.clients ≡ replicate senders free_client → length before.lines ≡ senders → senders ≡ old.senders
-      → of_stranger h ≡ None → HasFailed s (opening senders) k (arrived old now) (length before.lines) (gained before.lines lines) marks (of_stranger h)
+      → of_stranger h ≡ None → HasFailed s (opening senders) k (passed (arrived old now) (length before.lines) (gained before.lines lines)) marks (of_stranger h)
   out_failed senders k is none clients long same number = record {
     first = o.first;
     later = o.last;
@@ -253,7 +254,7 @@ module _ (hints : Hints) (s : Setting) (old now : Receiver RankItem) (left : Lis
   pub out_stood : (e : StepErr) → h ≡ halt.Fault e → HoldSingle before.clients → AreSingle (arrived old now) → (file : List ℕ) → before.told ≡ Some file
       → (bytes : List ℕ) × (held ≡ Some bytes) × OwnerStoodAt s e (served s (owner_at before file) o.first).owner o.last bytes n
   out_stood e is free alone file there =
-      let fault = subst (λ (k : Halt). IsHaltAt s o.middle o.later n held made k) is o.halted in
+      let fault = subst (λ (k : Halt). IsHaltAt s o.middle o.later (stopped_with n held made marks heard lines) k) is o.halted in
       let told = (told_so (Some file) there).told in
       let at = if_some_at (λ (f : List ℕ). (bytes : List ℕ) × (held ≡ Some bytes) × OwnerStoodAt s e (owner_at o.middle f) o.later bytes n) o.middle.told
       (served s (owner_at before file) o.first).owner.state.file told (fault (o.run.moved.single (free, single_first alone)) single_later) in (
@@ -278,10 +279,10 @@ module _ (hints : Hints) (s : Setting) (old now : Receiver RankItem) (left : Lis
 
   pub out_cut : (senders k : ℕ) (e : StepErr) → h ≡ halt.Fault e → ((file : List ℕ) → owner_at before file ≡ opening senders (counted file k)) → before.order ≡ [] → before.clients ≡ replicate senders free_client
       → HoldSingle before.clients → length before.lines ≡ senders → senders ≡ old.senders → (m : Option (List ℕ)) → before.told ≡ m
-      → IfSome m (λ file. HasCutService s e (opening senders (counted file k)) (arrived old now) marks held n (gained before.lines lines))
+      → IfSome m (λ file. HasCutService s e (opening senders (counted file k)) (passed (arrived old now) senders (gained before.lines lines)) (point marks held n))
   out_cut senders k e is opened none clients free long same None there = tt
   out_cut senders k e is opened none clients free long same (Some file) there =
-      subst (λ (d : Owner). HasCutService s e d (arrived old now) marks held n (gained before.lines lines)) (opened file) (record {
+      subst (λ (d : Owner). HasCutService s e d (passed (arrived old now) senders (gained before.lines lines)) (point marks held n)) (opened file) (record {
         first = o.first;
         later = o.last;
         all = arrivals_are;
@@ -309,10 +310,10 @@ module _ (hints : Hints) (s : Setting) (old now : Receiver RankItem) (left : Lis
 -- the same where what was lent is given back
 pub outcome_given : {D T : Type 0} (disk : DiskGhosts D) (told : ToldGhosts T) (hints : Hints) (s : Setting) (old now : Receiver RankItem) (left : List Bool) (before : Standing) (out : Outlets D T) (marks : List Mark) (h : Halt)
     (d : D) (n : ℕ) (t : T) (lines : List (End OwnerItem)) → d ≡ out.disk.now → n ≡ out.records.now → t ≡ out.told.now → lines ≡ out.back.now
-    → Outcome hints s old now left before out.records.now (disk.held out.disk.now) (disk.calls out.disk.now) marks (told.heard out.told.now) out.back.now h
-    → Outcome hints s old now left before n (disk.held d) (disk.calls d) marks (told.heard t) lines h
+    → Outcome hints s (taken_from old now left) before (stopped_with out.records.now (disk.held out.disk.now) (disk.calls out.disk.now) marks (told.heard out.told.now) out.back.now) h
+    → Outcome hints s (taken_from old now left) before (stopped_with n (disk.held d) (disk.calls d) marks (told.heard t) lines) h
 outcome_given {D} {T} disk told hints s old now left before out marks h d n t lines same_disk same_records same_told same_back o =
-    subst (λ (x : D). Outcome hints s old now left before n (disk.held x) (disk.calls x) marks (told.heard t) lines h) (sym same_disk)
-    (subst (λ (x : ℕ). Outcome hints s old now left before x (disk.held out.disk.now) (disk.calls out.disk.now) marks (told.heard t) lines h) (sym same_records)
-    (subst (λ (x : T). Outcome hints s old now left before out.records.now (disk.held out.disk.now) (disk.calls out.disk.now) marks (told.heard x) lines h) (sym same_told)
-    (subst (λ (x : List (End OwnerItem)). Outcome hints s old now left before out.records.now (disk.held out.disk.now) (disk.calls out.disk.now) marks (told.heard out.told.now) x h) (sym same_back) o)))
+    subst (λ (x : D). Outcome hints s (taken_from old now left) before (stopped_with n (disk.held x) (disk.calls x) marks (told.heard t) lines) h) (sym same_disk)
+    (subst (λ (x : ℕ). Outcome hints s (taken_from old now left) before (stopped_with x (disk.held out.disk.now) (disk.calls out.disk.now) marks (told.heard t) lines) h) (sym same_records)
+    (subst (λ (x : T). Outcome hints s (taken_from old now left) before (stopped_with out.records.now (disk.held out.disk.now) (disk.calls out.disk.now) marks (told.heard x) lines) h) (sym same_told)
+    (subst (λ (x : List (End OwnerItem)). Outcome hints s (taken_from old now left) before (stopped_with out.records.now (disk.held out.disk.now) (disk.calls out.disk.now) marks (told.heard out.told.now) x) h) (sym same_back) o)))

@@ -14,7 +14,7 @@ use Rattle.serial_spec.specs.Owner.{Owner, is_strange, owed, served, stop_held, 
 use Rattle.serial_spec.specs.FileStep.{Setting}
 use Rattle.serial_spec.specs.History.{Arrival}
 use Rattle.join_laws.proofs.JoinLaws.{owed_stop}
-use Rattle.thread_run.specs.Halted.{of_fault, of_stranger, HasFinished, HasHalted, IsHaltAt, IsLeft, IsNoMore, Outcome}
+use Rattle.thread_run.specs.Halted.{of_fault, of_stranger, HasFinished, HasHalted, IsHaltAt, IsLeft, IsNoMore, Outcome, taken_from, stopped_with, Stopped}
 use Rattle.thread_run.specs.Owned.{owner_at, owner_calls, run, Grows, HasRun, Standing}
 use Rattle.thread_run.specs.Service.{arrived, gained, more_on, HavePut}
 use Rattle.thread_run.specs.Stops.{stops_for, AllHaveEnded, HaveEnded, IsMore}
@@ -66,8 +66,8 @@ more_twice old mid now first more h g = record {
 }
 
 pub outcome : (hints : Hints) (s : Setting) (old mid now : Receiver RankItem) (flags left : List Bool) (before : Standing) (n : ℕ) (held : Option (List ℕ)) (made : Option (List DiskCall)) (marks : List Mark)
-    (heard : Option (List (Mark × ℕ))) (mid_lines lines : List (End OwnerItem)) (h : Halt) → HasHalted hints s old mid flags before n held made marks heard mid_lines h
-    → HasFinished mid now mid_lines lines flags left h → Outcome hints s old now left before n held made marks heard lines h
+    (heard : Option (List (Mark × ℕ))) (mid_lines lines : List (End OwnerItem)) (h : Halt) → HasHalted hints s (taken_from old mid flags) before (stopped_with n held made marks heard mid_lines) h
+    → HasFinished (taken_from mid now left) mid_lines lines flags h → Outcome hints s (taken_from old now left) before (stopped_with n held made marks heard lines) h
 outcome hints s old mid now flags left before n held made marks heard mid_lines lines h a b = record {
   first = a.first;
   last = a.later ++ b.more;
@@ -116,17 +116,17 @@ no_fault e f = absurd cc
 abbrev reached_at : Setting → Standing → List Arrival → List ℕ → Owner
 reached_at s before first file = (served s (owner_at before file) first).owner
 
-pub stopped_at : (hints : Hints) (s : Setting) (before middle : Standing) (first later more last : List Arrival) (n : ℕ) (held : Option (List ℕ)) (made : Option (List DiskCall)) (h : Halt) (file : List ℕ)
-    → HasRun hints s first before middle → last ≡ later ++ more → IsHaltAt s middle later n held made h → IsNoMore more h → of_fault h ≡ None
+pub stopped_at : (hints : Hints) (s : Setting) (before middle : Standing) (first later more last : List Arrival) (left : Stopped) (h : Halt) (file : List ℕ)
+    → HasRun hints s first before middle → last ≡ later ++ more → IsHaltAt s middle later left h → IsNoMore more h → of_fault h ≡ None
     → StoppedAt hints s (served s (owner_at before file) first).owner last (of_stranger h)
-stopped_at hints s before middle first later more last n held made halt.Ended file run parts at none f =
+stopped_at hints s before middle first later more last left halt.Ended file run parts at none f =
     stopped_none hints s (reached_at s before first file) last (parts ∙ (λ i. at.0 i ++ none i))
-stopped_at hints s before middle first later more last n held made (halt.Stranger number) file run parts at none f =
+stopped_at hints s before middle first later more last left (halt.Stranger number) file run parts at none f =
     stopped_strange hints s (reached_at s before first file) (number, at.0.item) more last (parts ∙ ap (λ (xs : List Arrival). xs ++ more) at.0.last)
     (ap (λ (d : Owner). is_strange s d (number, at.0.item)) (run.moved.alike file).owner ∙ at.0.strange (reached_at s before first file).state.file)
-stopped_at hints s before middle first later more last n held made (halt.Fault e) file run parts at none f = no_fault e f
+stopped_at hints s before middle first later more last left (halt.Fault e) file run parts at none f = no_fault e f
 
-pub left_at : (s : Setting) (middle : Standing) (later : List Arrival) (n : ℕ) (held : Option (List ℕ)) (made : Option (List DiskCall)) (h : Halt) → IsHaltAt s middle later n held made h → of_fault h ≡ None → IsLeft middle n held made
-left_at s middle later n held made halt.Ended at f = at.1
-left_at s middle later n held made (halt.Stranger number) at f = at.1
-left_at s middle later n held made (halt.Fault e) at f = no_fault e f
+pub left_at : (s : Setting) (middle : Standing) (later : List Arrival) (left : Stopped) (h : Halt) → IsHaltAt s middle later left h → of_fault h ≡ None → IsLeft middle left.records left.told left.calls
+left_at s middle later left halt.Ended at f = at.1
+left_at s middle later left (halt.Stranger number) at f = at.1
+left_at s middle later left (halt.Fault e) at f = no_fault e f

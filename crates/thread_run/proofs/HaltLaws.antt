@@ -17,7 +17,7 @@ use Rattle.serial_spec.specs.Owner.{free_client, is_strange, stop_held, stops, C
 use Rattle.serial_spec.specs.FileStep.{Setting}
 use Rattle.serial_spec.specs.History.{Arrival}
 use Rattle.turn_run.specs.Counts.{IsCount}
-use Rattle.thread_run.specs.Halted.{HasFinished, HasHaltCause, HasHalted, HasSeenAll, HasServed}
+use Rattle.thread_run.specs.Halted.{HasFinished, HasHaltCause, HasHalted, HasSeenAll, HasServed, taken_from, stopped_with}
 use Rattle.thread_run.specs.Owned.{owner_at, opening_standing, standing_at, Grows, HasDone, IsSteady, Standing}
 use Rattle.thread_run.specs.Stops.{held_stops, stops_for, AllHaveEnded, HaveEnded, IsMore}
 use Rattle.thread_run.specs.declared.owner.Owner.{Owner as Held}
@@ -30,7 +30,7 @@ use Rattle.thread_run.proofs.RunLaws.{run_more, run_none}
 use Rattle.thread_run.proofs.StopLaws.{more_none, more_one}
 use Rattle.list_laws.proofs.Places.{entry_replicate}
 
-pub served_none : (hints : Hints) (s : Setting) (old : Receiver RankItem) (flags : List Bool) (x : Standing) → HaveEnded flags [] → HasServed hints s old old flags x x
+pub served_none : (hints : Hints) (s : Setting) (old : Receiver RankItem) (flags : List Bool) (x : Standing) → HaveEnded flags [] → HasServed hints s (taken_from old old flags) x x
 served_none hints s old flags x h = record { more = []; taken = more_none old; ended = h; run = run_none hints s x }
 
 -- what one take and the step at it tell
@@ -41,8 +41,8 @@ pub record HasTakenOne (mid now : Receiver RankItem) (left end : List Bool) (a :
   pub low : a.0 < mid.senders
   pub noted : (arrivals : List Arrival) → HaveEnded left arrivals → HaveEnded end (arrivals ++ a ∷ [])
 
-pub served_more : (hints : Hints) (s : Setting) (old mid now : Receiver RankItem) (left end : List Bool) (before x y : Standing) (a : Arrival) → HasServed hints s old mid left before x → HasTakenOne mid now left end a
-    → ((file : List ℕ) → is_strange s (owner_at x file) a ≡ false) → HasDone hints s a x y → HasServed hints s old now end before y
+pub served_more : (hints : Hints) (s : Setting) (old mid now : Receiver RankItem) (left end : List Bool) (before x y : Standing) (a : Arrival) → HasServed hints s (taken_from old mid left) before x → HasTakenOne mid now left end a
+    → ((file : List ℕ) → is_strange s (owner_at x file) a ≡ false) → HasDone hints s a x y → HasServed hints s (taken_from old now end) before y
 served_more hints s old mid now left end before x y a h t fit done = record {
   more = h.more ++ a ∷ [];
   taken = more_one old mid now h.more a h.taken t.items t.senders t.of t.low;
@@ -52,8 +52,8 @@ served_more hints s old mid now left end before x y a h t fit done = record {
 
 -- ---- where it stops
 
-pub halt_ended : (hints : Hints) (s : Setting) (old mid : Receiver RankItem) (left : List Bool) (before x : Standing) (lines : List (End OwnerItem)) → HasServed hints s old mid left before x
-    → Grows x.lines (held_stops x.clients) lines → AllHaveEnded old.senders left → HasHalted hints s old mid left before x.records x.told x.calls x.order x.heard lines halt.Ended
+pub halt_ended : (hints : Hints) (s : Setting) (old mid : Receiver RankItem) (left : List Bool) (before x : Standing) (lines : List (End OwnerItem)) → HasServed hints s (taken_from old mid left) before x
+    → Grows x.lines (held_stops x.clients) lines → AllHaveEnded old.senders left → HasHalted hints s (taken_from old mid left) before (stopped_with x.records x.told x.calls x.order x.heard lines) halt.Ended
 halt_ended hints s old mid left before x lines h g all = record {
   first = h.more;
   later = [];
@@ -69,9 +69,9 @@ halt_ended hints s old mid left before x lines h g all = record {
 }
 
 pub halt_strange : (hints : Hints) (s : Setting) (old mid now : Receiver RankItem) (left end : List Bool) (before x : Standing) (number : ℕ) (item : RankItem) (first last : List (End OwnerItem))
-    → HasServed hints s old mid left before x → HasTakenOne mid now left end (number, item) → ((file : List ℕ) → is_strange s (owner_at x file) (number, item) ≡ true)
+    → HasServed hints s (taken_from old mid left) before x → HasTakenOne mid now left end (number, item) → ((file : List ℕ) → is_strange s (owner_at x file) (number, item) ≡ true)
     → Grows x.lines (held_stops x.clients) first → Grows first (stops_for ((number, item) ∷ [])) last
-    → HasHalted hints s old now end before x.records x.told x.calls x.order x.heard last (halt.Stranger number)
+    → HasHalted hints s (taken_from old now end) before (stopped_with x.records x.told x.calls x.order x.heard last) (halt.Stranger number)
 halt_strange hints s old mid now left end before x number item first last h t strange g k = record {
   first = h.more;
   later = (number, item) ∷ [];
@@ -87,8 +87,8 @@ halt_strange hints s old mid now left end before x number item first last h t st
 }
 
 pub halt_fault : (hints : Hints) (s : Setting) (old mid now : Receiver RankItem) (left end : List Bool) (before x : Standing) (a : Arrival) (e : StepErr) (n : ℕ) (held : Option (List ℕ)) (made : Option (List DiskCall))
-    (marks : List Mark) (heard : Option (List (Mark × ℕ))) (last : List (End OwnerItem)) → HasServed hints s old mid left before x → HasTakenOne mid now left end a → marks ≡ x.order → heard ≡ x.heard → Grows x.lines (stops (owner_at x []) (a ∷ [])) last
-    → IsFaultAt s e x (a ∷ []) n held → HasHalted hints s old now end before n held made marks heard last (halt.Fault e)
+    (marks : List Mark) (heard : Option (List (Mark × ℕ))) (last : List (End OwnerItem)) → HasServed hints s (taken_from old mid left) before x → HasTakenOne mid now left end a → marks ≡ x.order → heard ≡ x.heard → Grows x.lines (stops (owner_at x []) (a ∷ [])) last
+    → IsFaultAt s e x (a ∷ []) n held → HasHalted hints s (taken_from old now end) before (stopped_with n held made marks heard last) (halt.Fault e)
 halt_fault hints s old mid now left end before x a e n held made marks heard last h t m k g at = record {
   first = h.more;
   later = a ∷ [];
@@ -112,7 +112,7 @@ none_held (suc n) (suc q) = none_held n q
 
 pub halt_none : (hints : Hints) (s : Setting) (old : Receiver RankItem) (flags : List Bool) (e : StepErr) (senders n : ℕ) (held : Option (List ℕ)) (made : Option (List DiskCall)) (marks : List Mark)
     (heard : Option (List (Mark × ℕ))) (lines : List (End OwnerItem)) → HaveEnded flags [] → e ≡ fault.Memory → marks ≡ []
-    → HasHalted hints s old old flags (opening_standing senders n held made heard lines) n held made marks heard lines (halt.Fault e)
+    → HasHalted hints s (taken_from old old flags) (opening_standing senders n held made heard lines) (stopped_with n held made marks heard lines) (halt.Fault e)
 halt_none hints s old flags e senders n held made marks heard lines h memory none = record {
   first = [];
   later = [];
@@ -141,7 +141,7 @@ opening_steady header len senders n held made heard lines few long count = recor
 
 -- ---- what still comes
 
-pub finish_none : (old : Receiver RankItem) (lines : List (End OwnerItem)) (flags : List Bool) → AllHaveEnded old.senders flags → HasFinished old old lines lines flags flags halt.Ended
+pub finish_none : (old : Receiver RankItem) (lines : List (End OwnerItem)) (flags : List Bool) → AllHaveEnded old.senders flags → HasFinished (taken_from old old flags) lines lines flags halt.Ended
 finish_none old lines flags all = record {
   more = [];
   taken = more_none old;
@@ -151,9 +151,9 @@ finish_none old lines flags all = record {
   last = refl;
 }
 
-pub finish_ended : (old : Receiver RankItem) (lines : List (End OwnerItem)) (flags : List Bool) (h : Halt) → h ≡ halt.Ended → HasSeenAll old.senders flags h → HasFinished old old lines lines flags flags h
+pub finish_ended : (old : Receiver RankItem) (lines : List (End OwnerItem)) (flags : List Bool) (h : Halt) → h ≡ halt.Ended → HasSeenAll old.senders flags h → HasFinished (taken_from old old flags) lines lines flags h
 finish_ended old lines flags h e all =
-    subst (λ (k : Halt). HasFinished old old lines lines flags flags k) (sym e) (finish_none old lines flags (subst (λ (k : Halt). HasSeenAll old.senders flags k) e all))
+    subst (λ (k : Halt). HasFinished (taken_from old old flags) lines lines flags k) (sym e) (finish_none old lines flags (subst (λ (k : Halt). HasSeenAll old.senders flags k) e all))
 
 -- no fault is told where there was none
 pub no_cause : (before now : ℕ) → before ≤ now → HasHaltCause before now halt.Ended

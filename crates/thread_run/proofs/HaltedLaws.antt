@@ -1,4 +1,5 @@
 -- What the owner's ends tell of a run from its opening on.
+use Rattle.turn_run.specs.Known.{point}
 use Rattle.std.proofs.Common.{◌≡◌, ℕ, refl, sym, ◌∙◌, ap, subst, List, length, replicate, Bool, Option, Some, None}
 use Rattle.std.proofs.lemmas.Option.{same_Some}
 use Rattle.std.specs.Prelude.{IfSome}
@@ -13,10 +14,10 @@ use Rattle.ruled_line.specs.Ends.{End, Receiver}
 use Rattle.serial_spec.specs.Owner.{Owner, Client, free_client}
 use Rattle.serial_spec.specs.FileStep.{Setting}
 use Rattle.collective_round.specs.Rounds.{counted}
-use Rattle.thread_run.specs.Halted.{of_fault, of_stranger, HasHalted, HasSeenAll, Outcome}
+use Rattle.thread_run.specs.Halted.{of_fault, of_stranger, HasHalted, HasSeenAll, Outcome, taken_from, stopped_with}
 use Rattle.thread_run.specs.Owned.{owner_at, owner_calls, opening_standing, AreSingle, HoldSingle, Standing}
 use Rattle.thread_run.specs.Refused.{HasCutService}
-use Rattle.thread_run.specs.Service.{arrived, gained, opening, HasFailed, HasTaken, HasToldAlong, HavePut, IsDone, IsDoneSo}
+use Rattle.thread_run.specs.Service.{arrived, gained, opening, HasFailed, HasTaken, HasToldAlong, HavePut, IsDone, IsDoneSo, passed}
 use Rattle.thread_run.specs.declared.service.Halt.{Halt}
 use Rattle.thread_run.specs.declared.service.Halt.TheVariants as halt
 use Rattle.thread_run.proofs.EndLaws.{out_taken, out_put, out_done, out_told, out_bytes, out_calls, out_failed, out_cut}
@@ -25,7 +26,7 @@ use Rattle.list_laws.proofs.Places.{entry_replicate}
 -- ---- from the opening
 
 pub halted_lines : (hints : Hints) (s : Setting) (old now : Receiver RankItem) (flags : List Bool) (before : Standing) (n : ℕ) (held : Option (List ℕ)) (made : Option (List DiskCall)) (marks : List Mark)
-    (heard : Option (List (Mark × ℕ))) (lines : List (End OwnerItem)) (h : Halt) → HasHalted hints s old now flags before n held made marks heard lines h → length before.lines ≡ old.senders
+    (heard : Option (List (Mark × ℕ))) (lines : List (End OwnerItem)) (h : Halt) → HasHalted hints s (taken_from old now flags) before (stopped_with n held made marks heard lines) h → length before.lines ≡ old.senders
     → length lines ≡ now.senders
 halted_lines hints s old now flags before n held made marks heard lines h a l = a.stopped.long ∙ a.run.moved.lines.long ∙ l ∙ sym a.taken.senders
 
@@ -34,7 +35,7 @@ seen_all k m flags h e a = subst (λ (j : ℕ). HasSeenAll j flags h) e a
 
 module _ (hints : Hints) (s : Setting) (old now : Receiver RankItem) (left : List Bool) (n0 : ℕ) (held0 : Option (List ℕ)) (made0 : Option (List DiskCall)) (heard0 : Option (List (Mark × ℕ))) (back0 : List (End OwnerItem))
     (n : ℕ) (held : Option (List ℕ)) (made : Option (List DiskCall)) (marks : List Mark) (heard : Option (List (Mark × ℕ))) (lines : List (End OwnerItem)) (h : Halt)
-    (o : Outcome hints s old now left (opening_standing old.senders n0 held0 made0 heard0 back0) n held made marks heard lines h) (k : ℕ) (same : n0 ≡ k) (long : length back0 ≡ old.senders) where
+    (o : Outcome hints s (taken_from old now left) (opening_standing old.senders n0 held0 made0 heard0 back0) (stopped_with n held made marks heard lines) h) (k : ℕ) (same : n0 ≡ k) (long : length back0 ≡ old.senders) where
   first_standing : Standing
   first_standing = opening_standing old.senders n0 held0 made0 heard0 back0
 
@@ -53,23 +54,23 @@ module _ (hints : Hints) (s : Setting) (old now : Receiver RankItem) (left : Lis
       (out_told hints s old now left (opening_standing old.senders n0 held0 made0 heard0 back0) n held made marks heard lines h o refl file)
 
   pub end_done : (fault : Option StepErr) (number : Option ℕ) → fault ≡ of_fault h → number ≡ of_stranger h → fault ≡ None → (file : List ℕ)
-      → IsDone s (opening old.senders (counted file k)) (arrived old now) old.senders (gained back0 lines) marks number
+      → IsDone s (opening old.senders (counted file k)) (passed (arrived old now) old.senders (gained back0 lines)) marks number
   end_done fault number e f g file =
-      subst (λ (m : Option ℕ). IsDone s (opening old.senders (counted file k)) (arrived old now) old.senders (gained back0 lines) marks m) (sym f)
-      (subst (λ (l : ℕ). IsDone s (opening old.senders (counted file k)) (arrived old now) l (gained back0 lines) marks (of_stranger h)) long
-      (subst (λ (d : Owner). IsDone s d (arrived old now) (length back0) (gained back0 lines) marks (of_stranger h)) (opened file)
+      subst (λ (m : Option ℕ). IsDone s (opening old.senders (counted file k)) (passed (arrived old now) old.senders (gained back0 lines)) marks m) (sym f)
+      (subst (λ (l : ℕ). IsDone s (opening old.senders (counted file k)) (passed (arrived old now) l (gained back0 lines)) marks (of_stranger h)) long
+      (subst (λ (d : Owner). IsDone s d (passed (arrived old now) (length back0) (gained back0 lines)) marks (of_stranger h)) (opened file)
       (out_done hints s old now left (opening_standing old.senders n0 held0 made0 heard0 back0) n held made marks heard lines h o refl (sym e ∙ g) file)))
 
   pub end_bytes : (fault : Option StepErr) → fault ≡ of_fault h → fault ≡ None
-      → IfSome held0 (λ file. IsDoneSo s (opening old.senders (counted file k)) (arrived old now) old.senders (gained back0 lines) held n)
+      → IfSome held0 (λ file. IsDoneSo s (opening old.senders (counted file k)) (passed (arrived old now) old.senders (gained back0 lines)) held n)
   end_bytes fault e g = by held0 (out_bytes hints s old now left (opening_standing old.senders n0 held0 made0 heard0 back0) n held made marks heard lines h o (sym e ∙ g) held0 refl)
     where
-      by : (m : Option (List ℕ)) → IfSome m (λ file. IsDoneSo s (owner_at (opening_standing old.senders n0 held0 made0 heard0 back0) file) (arrived old now) (length back0) (gained back0 lines) held n)
-          → IfSome m (λ file. IsDoneSo s (opening old.senders (counted file k)) (arrived old now) old.senders (gained back0 lines) held n)
+      by : (m : Option (List ℕ)) → IfSome m (λ file. IsDoneSo s (owner_at (opening_standing old.senders n0 held0 made0 heard0 back0) file) (passed (arrived old now) (length back0) (gained back0 lines)) held n)
+          → IfSome m (λ file. IsDoneSo s (opening old.senders (counted file k)) (passed (arrived old now) old.senders (gained back0 lines)) held n)
       by None i = tt
       by (Some file) i =
-          subst (λ (l : ℕ). IsDoneSo s (opening old.senders (counted file k)) (arrived old now) l (gained back0 lines) held n) long
-          (subst (λ (d : Owner). IsDoneSo s d (arrived old now) (length back0) (gained back0 lines) held n) (opened file) i)
+          subst (λ (l : ℕ). IsDoneSo s (opening old.senders (counted file k)) (passed (arrived old now) l (gained back0 lines)) held n) long
+          (subst (λ (d : Owner). IsDoneSo s d (passed (arrived old now) (length back0) (gained back0 lines)) held n) (opened file) i)
 
   none_single : HoldSingle (replicate old.senders free_client)
   none_single r x p e f = let free = entry_replicate old.senders r free_client x e in let no : x.held ≡ None = ap (λ (y : Client). y.held) free in absurd cc
@@ -89,10 +90,10 @@ module _ (hints : Hints) (s : Setting) (old now : Receiver RankItem) (left : Lis
   strangers_none (halt.Fault d) e f = refl
 
   pub end_failed : (fault : Option StepErr) (number : Option ℕ) (e : StepErr) → fault ≡ of_fault h → number ≡ of_stranger h → fault ≡ Some e
-      → HasFailed s (opening old.senders) k (arrived old now) old.senders (gained back0 lines) marks number
+      → HasFailed s (opening old.senders) k (passed (arrived old now) old.senders (gained back0 lines)) marks number
   end_failed fault number e f g is =
-      subst (λ (m : Option ℕ). HasFailed s (opening old.senders) k (arrived old now) old.senders (gained back0 lines) marks m) (sym g)
-      (subst (λ (l : ℕ). HasFailed s (opening old.senders) k (arrived old now) l (gained back0 lines) marks (of_stranger h)) long
+      subst (λ (m : Option ℕ). HasFailed s (opening old.senders) k (passed (arrived old now) old.senders (gained back0 lines)) marks m) (sym g)
+      (subst (λ (l : ℕ). HasFailed s (opening old.senders) k (passed (arrived old now) l (gained back0 lines)) marks (of_stranger h)) long
       (out_failed hints s old now left (opening_standing old.senders n0 held0 made0 heard0 back0) n held made marks heard lines h o old.senders k opened refl refl long refl (strangers_none h e (sym is ∙ f))))
 
   fault_is : (g : Halt) (e : StepErr) → Some e ≡ of_fault g → g ≡ halt.Fault e
@@ -101,6 +102,6 @@ module _ (hints : Hints) (s : Setting) (old now : Receiver RankItem) (left : Lis
   fault_is (halt.Fault d) e f = ap (λ (x : StepErr). halt.Fault x) (sym (same_Some e d f))
 
   pub end_cut : (fault : Option StepErr) (e : StepErr) → fault ≡ of_fault h → fault ≡ Some e
-      → IfSome held0 (λ file. HasCutService s e (opening old.senders (counted file k)) (arrived old now) marks held n (gained back0 lines))
+      → IfSome held0 (λ file. HasCutService s e (opening old.senders (counted file k)) (passed (arrived old now) old.senders (gained back0 lines)) (point marks held n))
   end_cut fault e f is =
       out_cut hints s old now left (opening_standing old.senders n0 held0 made0 heard0 back0) n held made marks heard lines h o old.senders k e (fault_is h e (sym is ∙ f)) opened refl refl none_single long refl held0 refl

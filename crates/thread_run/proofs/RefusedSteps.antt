@@ -35,7 +35,7 @@ use Rattle.thread_run.proofs.OwnerRuns.{client_held}
 -- ---- a number's own step
 
 pub refused_alone : (s : Setting) (r c : ℕ) (o : Offer) (b : Standing) (left : Option (List ℕ))
-    → BothTold (λ old left. IsTorn (covered s.header (puts_of (r, o))) 0 old (solo s r o (counted old 0)).0.file left) b.told left → IsRefusedAlone s r c o b left b.records
+    → BothTold (λ old left. IsTorn (covered s.header (puts_of (r, o))) 0 old (solo s r o (counted old 0)).0.file left) b.told left → IsRefusedAlone s c (r, o) b left b.records
 refused_alone s r c o b left torn = by_told b.told torn
   where
     by_told : (m : Option (List ℕ)) → BothTold (λ old left. IsTorn (covered s.header (puts_of (r, o))) 0 old (solo s r o (counted old 0)).0.file left) m left
@@ -148,7 +148,7 @@ arrival_ended s b r n i memory left is low same count = subst (λ (j : RankItem)
 
 -- that brings its number's own step
 pub arrival_alone : (s : Setting) (b : Standing) (r c n : ℕ) (i : RankItem) (o : Offer) (x : Client) (left : Option (List ℕ)) → i ≡ item.Offer c o → slice_get b.clients r ≡ Some x → o.kind ≡ offer.Solo
-    → IsRefusedAlone s r c o b left n → IsRefusedArrival s (r, i) b left n
+    → IsRefusedAlone s c (r, o) b left n → IsRefusedArrival s (r, i) b left n
 arrival_alone s b r c n i o x left is e k h = subst (λ (j : RankItem). IsRefusedArrival s (r, j) b left n) (sym is) (by_told b.told h)
   where
     offers : (file : List ℕ) → step_offers (owner_at b file) (r, item.Offer c o) ≡ (r, o) ∷ []

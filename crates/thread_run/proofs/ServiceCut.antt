@@ -1,4 +1,5 @@
 -- The part of a run on threads that was done when a fault cut it off, from what the owner tells.
+use Rattle.turn_run.specs.Known.{point}
 use Rattle.std.proofs.Common.{◌≡◌, ℕ, suc, ◌-◌, ◌<◌, refl, sym, ◌∙◌, ap, List, [], ◌∷◌, ◌++◌, length, map, replicate, Bool, true, false, Option, Some, None, arith}
 use Rattle.std.proofs.lemmas.List.{append-nil}
 use Rattle.std.specs.Prelude.{slice_get, filter}
@@ -12,6 +13,7 @@ use Rattle.nc_base.specs.declared.step.StepErr.{StepErr}
 use Rattle.serial_spec.specs.Owner.{Owner, Client, event, given_along, is_strange, own_items, owed, served, stop_held, stops}
 use Rattle.serial_spec.specs.FileStep.{Setting}
 use Rattle.serial_spec.specs.History.{Arrival, is_offer}
+use Rattle.thread_run.specs.Service.{passed}
 use Rattle.thread_run.specs.Refused.{HasCutService}
 use Rattle.join_laws.proofs.JoinLaws.{owed_stop, served_on}
 use Rattle.thread_run.proofs.OwnerRuns.{goes_on, stops_at}
@@ -28,7 +30,7 @@ pub record Service (s : Setting) (d : Owner) (ranks : ℕ) (arrivals : List Arri
   pub gives : (q : ℕ) → q < ranks → (k : ℕ) × (given q ≡ given_along s d first q ++ replicate k Stop)
 
 unfoldable pub service_cut : (s : Setting) (d : Owner) (ranks n : ℕ) (e : StepErr) (arrivals : List Arrival) (given : ℕ → List OwnerItem) (order : List Mark) (held : Option (List ℕ)) → ranks ≡ length d.clients
-    → HasCutService s e d arrivals order held n given → Service s d ranks arrivals given order
+    → HasCutService s e d (passed arrivals ranks given) (point order held n) → Service s d ranks arrivals given order
 service_cut s d ranks n e arrivals given order held long h = record {
   first = h.first;
   later = h.later;

@@ -22,10 +22,11 @@ use Rattle.serial_spec.specs.Joined.{opening_owner, run_of}
 use Rattle.serial_spec.specs.Lawful.{is_lawful}
 use Rattle.serial_spec.specs.SerialEnd.{serial_from, setting_of}
 use Rattle.collective_round.specs.Rounds.{as_setting, counted}
+use Rattle.turn_run.specs.Known.{seen}
 use Rattle.turn_run.specs.Begun.{HasBegun}
 use Rattle.turn_run.specs.Run.{HasCut, IsRun}
 use Rattle.thread_run.specs.Owned.{AreSingle, owner_calls}
-use Rattle.thread_run.specs.Service.{HasFailed, IsDone, IsDoneSo, opening}
+use Rattle.thread_run.specs.Service.{HasFailed, IsDone, IsDoneSo, opening, passed}
 use Rattle.turn_run.specs.RankEnds.{NoneBroke, most_known_of}
 use Rattle.turn_run.proofs.EndedLaws.{Closing}
 use Rattle.turn_run.proofs.TurnCauses.{rose_later}
@@ -36,10 +37,10 @@ use Rattle.nc_outside.proofs.ToldLaws.{with_end-with_end, rose_before}
 -- what the owner tells
 pub record OwnerSide (script : Script) (header : Header) (arrivals : List Arrival) (given : ℕ → List OwnerItem) (held : Option (List ℕ)) (calls : Option (List DiskCall)) (faults : ℕ)
     (left : Option (List ℕ)) (made : Option (List DiskCall)) (failed records : ℕ) (end : ServeEnd) : Type 0 where
-  pub done : end.fault ≡ None → (file : List ℕ) → IsDone (setting_of script header) (opening script.ranks (counted file header.records)) arrivals script.ranks given end.order end.stranger
-  pub bytes : end.fault ≡ None → IfSome held (λ file. IsDoneSo (setting_of script header) (opening script.ranks (counted file header.records)) arrivals script.ranks given left records)
+  pub done : end.fault ≡ None → (file : List ℕ) → IsDone (setting_of script header) (opening script.ranks (counted file header.records)) (passed arrivals script.ranks given) end.order end.stranger
+  pub bytes : end.fault ≡ None → IfSome held (λ file. IsDoneSo (setting_of script header) (opening script.ranks (counted file header.records)) (passed arrivals script.ranks given) left records)
   pub device : end.fault ≡ None → AreSingle arrivals → IfSome held (λ file. made ≡ with_end calls (owner_calls script.hints (setting_of script header) (opening script.ranks (counted file header.records)) arrivals))
-  pub cut_off : (e : StepErr) → end.fault ≡ Some e → HasFailed (setting_of script header) (opening script.ranks) header.records arrivals script.ranks given end.order end.stranger
+  pub cut_off : (e : StepErr) → end.fault ≡ Some e → HasFailed (setting_of script header) (opening script.ranks) header.records (passed arrivals script.ranks given) end.order end.stranger
   pub cause : end.fault ≡ Some fault.Disk → Rose faults failed
   pub later : faults ≤ failed
 
@@ -74,14 +75,14 @@ module _ (script : Script) (header : Header) (arrivals : List Arrival) (given : 
           let e : end.order ≡ (run_of script header [] h.first).marks = (h.cut_off []).order ∙ ap (λ (d : Owner). (served (setting_of script header) d h.first).marks) (owner_at []) in
           subst (λ (ms : List Mark). HasBegun script ms) (sym e) (begun script header arrivals given ends t [] h.first h.later h.all lawful)
 
-  pub known_sound : (end : ServeEnd) → ((file : List ℕ) → IsDone (setting_of script header) (opening script.ranks (counted file header.records)) arrivals script.ranks given end.order end.stranger)
+  pub known_sound : (end : ServeEnd) → ((file : List ℕ) → IsDone (setting_of script header) (opening script.ranks (counted file header.records)) (passed arrivals script.ranks given) end.order end.stranger)
       → NoneBroke ends → is_sound (record header { records = most_known_of ends }) ≡ true
   known_sound end done whole = (finished script header arrivals given ends end.order end.stranger sound lawful t whole done).sound
 
   pub run_all : (held : Option (List ℕ)) (calls : Option (List DiskCall)) (faults : ℕ) (held' : Option (List ℕ)) (calls' : Option (List DiskCall)) (faults' count : ℕ) (before : ServeEnd)
       (left : Option (List ℕ)) (made : Option (List DiskCall)) (failed records : ℕ) (end : RunEnd)
       → OwnerSide script header arrivals given held calls faults held' calls' faults' count before → Closing header ends before held' calls' faults' count left made failed records end
-      → HasCut script header held left records end → IsRun script header held calls faults left made failed records end
+      → HasCut script header held left records end → IsRun script header (seen held calls faults) (seen left made failed) records end
   run_all held calls faults held' calls' faults' count before left made failed records end o c cut_off = record {
     legal = λ none. subst (λ (ms : List Mark). IsLegal script ms) (sym c.order) (fin none).legal;
     bytes = λ none. if_both held (o.bytes (c.went none).0) (o.bytes (c.went none).0) (λ file so more.
@@ -116,11 +117,11 @@ module _ (script : Script) (header : Header) (arrivals : List Arrival) (given : 
       fin : end.fault ≡ None → Finished script header arrivals ends before.order
       fin none = finished script header arrivals given ends before.order before.stranger sound lawful t (c.went none).1 (o.done (c.went none).0)
 
-      fin_so : end.fault ≡ None → (file : List ℕ) → IsDoneSo (setting_of script header) (opening script.ranks (counted file header.records)) arrivals script.ranks given held' count
+      fin_so : end.fault ≡ None → (file : List ℕ) → IsDoneSo (setting_of script header) (opening script.ranks (counted file header.records)) (passed arrivals script.ranks given) held' count
           → FinishedSo script header arrivals ends before.order file (served (setting_of script header) (opening script.ranks (counted file header.records)) arrivals).owner
       fin_so none file so = finished_so script header arrivals given ends before.order before.stranger sound lawful t (c.went none).1 (o.done (c.went none).0) file held' count so
 
-      counts : end.fault ≡ None → (file : List ℕ) → IsDoneSo (setting_of script header) (opening script.ranks (counted file header.records)) arrivals script.ranks given held' count
+      counts : end.fault ≡ None → (file : List ℕ) → IsDoneSo (setting_of script header) (opening script.ranks (counted file header.records)) (passed arrivals script.ranks given) held' count
           → records ≡ (serial_from script header file before.order).records
       counts none file so = (c.closed none).count ∙ ap (λ (n : ℕ). max n (most_known_of ends)) so.records ∙ (fin_so none file so).records
 
@@ -133,16 +134,16 @@ module _ (script : Script) (header : Header) (arrivals : List Arrival) (given : 
 -- the owner of as many senders as there are ranks
 pub owner_of : (script : Script) (header : Header) (arrivals : List Arrival) (given : ℕ → List OwnerItem) (held : Option (List ℕ)) (calls : Option (List DiskCall)) (faults : ℕ)
     (left : Option (List ℕ)) (made : Option (List DiskCall)) (failed records : ℕ) (end : ServeEnd) (n : ℕ) → n ≡ script.ranks
-    → (end.fault ≡ None → (file : List ℕ) → IsDone (setting_of script header) (opening n (counted file header.records)) arrivals n given end.order end.stranger)
-    → (end.fault ≡ None → IfSome held (λ file. IsDoneSo (setting_of script header) (opening n (counted file header.records)) arrivals n given left records))
+    → (end.fault ≡ None → (file : List ℕ) → IsDone (setting_of script header) (opening n (counted file header.records)) (passed arrivals n given) end.order end.stranger)
+    → (end.fault ≡ None → IfSome held (λ file. IsDoneSo (setting_of script header) (opening n (counted file header.records)) (passed arrivals n given) left records))
     → (end.fault ≡ None → AreSingle arrivals → IfSome held (λ file. made ≡ with_end calls (owner_calls script.hints (setting_of script header) (opening n (counted file header.records)) arrivals)))
-    → ((e : StepErr) → end.fault ≡ Some e → HasFailed (setting_of script header) (opening n) header.records arrivals n given end.order end.stranger)
+    → ((e : StepErr) → end.fault ≡ Some e → HasFailed (setting_of script header) (opening n) header.records (passed arrivals n given) end.order end.stranger)
     → (end.fault ≡ Some fault.Disk → Rose faults failed) → faults ≤ failed → OwnerSide script header arrivals given held calls faults left made failed records end
 owner_of script header arrivals given held calls faults left made failed records end n e done bytes device cut_off cause later = record {
-  done = λ none file. subst (λ (m : ℕ). IsDone (setting_of script header) (opening m (counted file header.records)) arrivals m given end.order end.stranger) e (done none file);
-  bytes = λ none. subst (λ (m : ℕ). IfSome held (λ file. IsDoneSo (setting_of script header) (opening m (counted file header.records)) arrivals m given left records)) e (bytes none);
+  done = λ none file. subst (λ (m : ℕ). IsDone (setting_of script header) (opening m (counted file header.records)) (passed arrivals m given) end.order end.stranger) e (done none file);
+  bytes = λ none. subst (λ (m : ℕ). IfSome held (λ file. IsDoneSo (setting_of script header) (opening m (counted file header.records)) (passed arrivals m given) left records)) e (bytes none);
   device = λ none single. subst (λ (m : ℕ). IfSome held (λ file. made ≡ with_end calls (owner_calls script.hints (setting_of script header) (opening m (counted file header.records)) arrivals))) e (device none single);
-  cut_off = λ x some. subst (λ (m : ℕ). HasFailed (setting_of script header) (opening m) header.records arrivals m given end.order end.stranger) e (cut_off x some);
+  cut_off = λ x some. subst (λ (m : ℕ). HasFailed (setting_of script header) (opening m) header.records (passed arrivals m given) end.order end.stranger) e (cut_off x some);
   cause = cause;
   later = later;
 }

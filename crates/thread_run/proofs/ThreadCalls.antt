@@ -138,7 +138,7 @@ module _ (hints : Hints) (s : Setting) (d : Owner) (goings : List Going) (r : �
       (same_offers s.header (set d.clients r (client_held x o)) goings (length-set d.clients r (client_held x o) ∙ long) h
       (held_next s d goings r x g o at_going e waits)))
 
-  offer_is : (c : ℕ) (o : Offer) (k : OfferKind) → (advance s.header g).1 ≡ Some o → calls_at_offer hints s d r o x k ≡ calls_so_far hints s (d.state, goings) (at_offer s d r c o x k).marks
+  offer_is : (c : ℕ) (o : Offer) (k : OfferKind) → (advance s.header g).1 ≡ Some o → calls_at_offer hints s d (r, o) x k ≡ calls_so_far hints s (d.state, goings) (at_offer s d r c o x k).marks
   offer_is c o offer.Solo e = solo_is c o e
   offer_is c o (offer.Meet kind) e = meets_is o (list_all holds (set d.clients r (client_held x o))) e refl
 

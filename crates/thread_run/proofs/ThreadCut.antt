@@ -38,6 +38,7 @@ use Rattle.serial_spec.specs.Torn.StoodAt.{in_step, in_close, between}
 use Rattle.collective_round.specs.Rounds.{as_setting, counted}
 use Rattle.join_laws.specs.Begun.{HasOffered}
 use Rattle.join_laws.proofs.Completing.{completed, completed_by}
+use Rattle.turn_run.specs.Known.{contents_of, point}
 use Rattle.turn_run.specs.Begun.{HasBegun}
 use Rattle.turn_run.specs.Said.{HasSaid}
 use Rattle.turn_run.specs.Running.{calls_of}
@@ -47,7 +48,7 @@ use Rattle.turn_run.proofs.TellLaws.{told_along}
 use Rattle.turn_run.specs.Told.{counts_along}
 use Rattle.thread_run.specs.Owned.{owner_told, AreSingle}
 use Rattle.thread_run.specs.Refused.{HasCutService}
-use Rattle.thread_run.specs.Service.{IsDone, IsDoneSo, opening}
+use Rattle.thread_run.specs.Service.{IsDone, IsDoneSo, opening, passed}
 use Rattle.turn_run.specs.Run.{HasCut}
 use Rattle.turn_run.specs.RankEnds.{EndedAt, NoneBroke, most_known_of}
 use Rattle.turn_run.specs.RankEnds.EndedAt.{as_left, in_close as in_closing}
@@ -229,11 +230,11 @@ module _ (script : Script) (header : Header) (arrivals : List Arrival) (given : 
   -- the owner met a fault
   cut_served : (x e : StepErr) (before : ServeEnd) (held : Option (List ℕ)) (count : ℕ) (left : Option (List ℕ)) (records : ℕ) (end : RunEnd) → EndOfCut header ends before e held count left records end
       → (x ≡ e) ⊎ (e ≡ fault.Memory) → left ≡ held → records ≡ count
-      → HasCutService (setting_of script header) x (opening script.ranks (counted file header.records)) arrivals before.order held count given
+      → HasCutService (setting_of script header) x (opening script.ranks (counted file header.records)) (passed arrivals script.ranks given) (point before.order held count)
       → (bytes : List ℕ) × (left ≡ Some bytes) × IsCutRun script header file e end.order bytes records end.answers
   unfolding service_cut
   cut_served x e before held count left records end c which l k service =
-      let g = subst (λ (d : Owner). HasCutService (setting_of script header) x d arrivals before.order held count given) owner_is service in
+      let g = subst (λ (d : Owner). HasCutService (setting_of script header) x d (passed arrivals script.ranks given) (point before.order held count)) owner_is service in
       let h = service_cut (setting_of script header) (opening_owner script header file) script.ranks count x arrivals given before.order held ranks_are g in
       let alone = single script header arrivals given ends sound lawful t file before.order h in
       let told = g.told (subst AreSingle (sym g.all) alone) in
@@ -248,13 +249,13 @@ module _ (script : Script) (header : Header) (arrivals : List Arrival) (given : 
   -- a rank had no memory, and the owner met no fault
   cut_broken : (e : StepErr) (before : ServeEnd) (held : Option (List ℕ)) (count : ℕ) (left : Option (List ℕ)) (records : ℕ) (end : RunEnd) → EndOfCut header ends before e held count left records end
       → e ≡ fault.Memory → left ≡ held → records ≡ count
-      → IsDone (setting_of script header) (opening script.ranks (counted file header.records)) arrivals script.ranks given before.order before.stranger
-      → IsDoneSo (setting_of script header) (opening script.ranks (counted file header.records)) arrivals script.ranks given held count
+      → IsDone (setting_of script header) (opening script.ranks (counted file header.records)) (passed arrivals script.ranks given) before.order before.stranger
+      → IsDoneSo (setting_of script header) (opening script.ranks (counted file header.records)) (passed arrivals script.ranks given) held count
       → (bytes : List ℕ) × (left ≡ Some bytes) × IsCutRun script header file e end.order bytes records end.answers
   cut_broken e before held count left records end c memory l k done so =
       let s = setting_of script header in
-      let d = subst (λ (d : Owner). IsDone s d arrivals script.ranks given before.order before.stranger) owner_is done in
-      let o = subst (λ (d : Owner). IsDoneSo s d arrivals script.ranks given held count) owner_is so in
+      let d = subst (λ (d : Owner). IsDone s d (passed arrivals script.ranks given) before.order before.stranger) owner_is done in
+      let o = subst (λ (d : Owner). IsDoneSo s d (passed arrivals script.ranks given) held count) owner_is so in
       let h = service_done script.hints s (opening_owner script header file) script.ranks arrivals given before.order d.order o.given in
       let state = state_is script header arrivals given ends sound lawful t file before.order h.0 in
       let there : (run_of script header file arrivals).owner.state ≡ (state_after script header file before.order).0 =
@@ -270,13 +271,13 @@ module _ (script : Script) (header : Header) (arrivals : List Arrival) (given : 
   cut_closing : (e : StepErr) (before : ServeEnd) (held : Option (List ℕ)) (count : ℕ) (left : Option (List ℕ)) (records : ℕ) (end : RunEnd) → EndOfCut header ends before e held count left records end
       → NoneBroke ends → BothTold (λ old now. IsTorn [] (byte_len (count_width header.version)) old (raised (as_setting header) (counted old count) (most_known_of ends)).file now) held left
       → (records ≡ count) ⊎ (records ≡ max count (most_known_of ends))
-      → ((f : List ℕ) → IsDone (setting_of script header) (opening script.ranks (counted f header.records)) arrivals script.ranks given before.order before.stranger)
-      → IsDoneSo (setting_of script header) (opening script.ranks (counted file header.records)) arrivals script.ranks given held count
+      → ((f : List ℕ) → IsDone (setting_of script header) (opening script.ranks (counted f header.records)) (passed arrivals script.ranks given) before.order before.stranger)
+      → IsDoneSo (setting_of script header) (opening script.ranks (counted file header.records)) (passed arrivals script.ranks given) held count
       → (bytes : List ℕ) × (left ≡ Some bytes) × IsCutRun script header file e end.order bytes records end.answers
   cut_closing e before held count left records end c whole torn which done so =
       let s = setting_of script header in
-      let d = subst (λ (d : Owner). IsDone s d arrivals script.ranks given before.order before.stranger) owner_is (done file) in
-      let o = subst (λ (d : Owner). IsDoneSo s d arrivals script.ranks given held count) owner_is so in
+      let d = subst (λ (d : Owner). IsDone s d (passed arrivals script.ranks given) before.order before.stranger) owner_is (done file) in
+      let o = subst (λ (d : Owner). IsDoneSo s d (passed arrivals script.ranks given) held count) owner_is so in
       let h = service_done script.hints s (opening_owner script header file) script.ranks arrivals given before.order d.order o.given in
       let state = state_is script header arrivals given ends sound lawful t file before.order h.0 in
       let there : (run_of script header file arrivals).owner.state ≡ (state_after script header file before.order).0 =
@@ -303,10 +304,10 @@ module _ (script : Script) (header : Header) (arrivals : List Arrival) (given : 
       by_count n m e f (inr q) = inr (q ∙ ap (λ (k : ℕ). max k (most_known_of ends)) e ∙ f)
 
   cut_at : (e : StepErr) (before : ServeEnd) (held : Option (List ℕ)) (count : ℕ) (left : Option (List ℕ)) (records : ℕ) (end : RunEnd) → EndOfCut header ends before e held count left records end
-      → EndedAt header ends before.fault e held count left records
-      → (before.fault ≡ None → (f : List ℕ) → IsDone (setting_of script header) (opening script.ranks (counted f header.records)) arrivals script.ranks given before.order before.stranger)
-      → (before.fault ≡ None → IsDoneSo (setting_of script header) (opening script.ranks (counted file header.records)) arrivals script.ranks given held count)
-      → ((x : StepErr) → before.fault ≡ Some x → HasCutService (setting_of script header) x (opening script.ranks (counted file header.records)) arrivals before.order held count given)
+      → EndedAt header ends before.fault e (contents_of held count) (contents_of left records)
+      → (before.fault ≡ None → (f : List ℕ) → IsDone (setting_of script header) (opening script.ranks (counted f header.records)) (passed arrivals script.ranks given) before.order before.stranger)
+      → (before.fault ≡ None → IsDoneSo (setting_of script header) (opening script.ranks (counted file header.records)) (passed arrivals script.ranks given) held count)
+      → ((x : StepErr) → before.fault ≡ Some x → HasCutService (setting_of script header) x (opening script.ranks (counted file header.records)) (passed arrivals script.ranks given) (point before.order held count))
       → (bytes : List ℕ) × (left ≡ Some bytes) × IsCutRun script header file e end.order bytes records end.answers
   cut_at e before held count left records end c (in_closing none whole torn which) done so cut = cut_closing e before held count left records end c whole torn which (done none) (so none)
   cut_at e before held count left records end c (as_left (inl some) l k) done so cut = cut_served e e before held count left records end c (inl refl) l k (cut e some)
@@ -318,27 +319,27 @@ module _ (script : Script) (header : Header) (arrivals : List Arrival) (given : 
 
 pub run_cut : (script : Script) (header : Header) (arrivals : List Arrival) (given : ℕ → List OwnerItem) (ends : List RankEnd) → is_sound header ≡ true → is_lawful script ≡ true
     → Told script header arrivals given ends → (told held : Option (List ℕ)) (count : ℕ) (before : ServeEnd) (left : Option (List ℕ)) (records : ℕ) (end : RunEnd) (n : ℕ) → n ≡ script.ranks
-    → (before.fault ≡ None → (file : List ℕ) → IsDone (setting_of script header) (opening n (counted file header.records)) arrivals n given before.order before.stranger)
-    → (before.fault ≡ None → IfSome told (λ file. IsDoneSo (setting_of script header) (opening n (counted file header.records)) arrivals n given held count))
-    → ((x : StepErr) → before.fault ≡ Some x → IfSome told (λ file. HasCutService (setting_of script header) x (opening n (counted file header.records)) arrivals before.order held count given))
+    → (before.fault ≡ None → (file : List ℕ) → IsDone (setting_of script header) (opening n (counted file header.records)) (passed arrivals n given) before.order before.stranger)
+    → (before.fault ≡ None → IfSome told (λ file. IsDoneSo (setting_of script header) (opening n (counted file header.records)) (passed arrivals n given) held count))
+    → ((x : StepErr) → before.fault ≡ Some x → IfSome told (λ file. HasCutService (setting_of script header) x (opening n (counted file header.records)) (passed arrivals n given) (point before.order held count)))
     → ((e : StepErr) → end.fault ≡ Some e → EndOfCut header ends before e held count left records end) → HasCut script header told left records end
 run_cut script header arrivals given ends sound lawful t told held count before left records end n same done so cut c e is =
     by_ranks n same done so cut
   where
     by_told : (m : Option (List ℕ))
-        → (before.fault ≡ None → (file : List ℕ) → IsDone (setting_of script header) (opening script.ranks (counted file header.records)) arrivals script.ranks given before.order before.stranger)
-        → (before.fault ≡ None → IfSome m (λ file. IsDoneSo (setting_of script header) (opening script.ranks (counted file header.records)) arrivals script.ranks given held count))
-        → ((x : StepErr) → before.fault ≡ Some x → IfSome m (λ file. HasCutService (setting_of script header) x (opening script.ranks (counted file header.records)) arrivals before.order held count given))
+        → (before.fault ≡ None → (file : List ℕ) → IsDone (setting_of script header) (opening script.ranks (counted file header.records)) (passed arrivals script.ranks given) before.order before.stranger)
+        → (before.fault ≡ None → IfSome m (λ file. IsDoneSo (setting_of script header) (opening script.ranks (counted file header.records)) (passed arrivals script.ranks given) held count))
+        → ((x : StepErr) → before.fault ≡ Some x → IfSome m (λ file. HasCutService (setting_of script header) x (opening script.ranks (counted file header.records)) (passed arrivals script.ranks given) (point before.order held count)))
         → IfSome m (λ file. (bytes : List ℕ) × (left ≡ Some bytes) × IsCutRun script header file e end.order bytes records end.answers)
     by_told None done so cut = tt
     by_told (Some file) done so cut = cut_at script header arrivals given ends sound lawful t file e before held count left records end (c e is) (c e is).at done so cut
 
     by_ranks : (k : ℕ) → k ≡ script.ranks
-        → (before.fault ≡ None → (file : List ℕ) → IsDone (setting_of script header) (opening k (counted file header.records)) arrivals k given before.order before.stranger)
-        → (before.fault ≡ None → IfSome told (λ file. IsDoneSo (setting_of script header) (opening k (counted file header.records)) arrivals k given held count))
-        → ((x : StepErr) → before.fault ≡ Some x → IfSome told (λ file. HasCutService (setting_of script header) x (opening k (counted file header.records)) arrivals before.order held count given))
+        → (before.fault ≡ None → (file : List ℕ) → IsDone (setting_of script header) (opening k (counted file header.records)) (passed arrivals k given) before.order before.stranger)
+        → (before.fault ≡ None → IfSome told (λ file. IsDoneSo (setting_of script header) (opening k (counted file header.records)) (passed arrivals k given) held count))
+        → ((x : StepErr) → before.fault ≡ Some x → IfSome told (λ file. HasCutService (setting_of script header) x (opening k (counted file header.records)) (passed arrivals k given) (point before.order held count)))
         → IfSome told (λ file. (bytes : List ℕ) × (left ≡ Some bytes) × IsCutRun script header file e end.order bytes records end.answers)
     by_ranks k e done so cut =
-        by_told told (λ none file. subst (λ (m : ℕ). IsDone (setting_of script header) (opening m (counted file header.records)) arrivals m given before.order before.stranger) e (done none file))
-        (λ none. subst (λ (m : ℕ). IfSome told (λ file. IsDoneSo (setting_of script header) (opening m (counted file header.records)) arrivals m given held count)) e (so none))
-        (λ x some. subst (λ (m : ℕ). IfSome told (λ file. HasCutService (setting_of script header) x (opening m (counted file header.records)) arrivals before.order held count given)) e (cut x some))
+        by_told told (λ none file. subst (λ (m : ℕ). IsDone (setting_of script header) (opening m (counted file header.records)) (passed arrivals m given) before.order before.stranger) e (done none file))
+        (λ none. subst (λ (m : ℕ). IfSome told (λ file. IsDoneSo (setting_of script header) (opening m (counted file header.records)) (passed arrivals m given) held count)) e (so none))
+        (λ x some. subst (λ (m : ℕ). IfSome told (λ file. HasCutService (setting_of script header) x (opening m (counted file header.records)) (passed arrivals m given) (point before.order held count))) e (cut x some))

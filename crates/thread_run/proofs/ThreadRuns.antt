@@ -27,7 +27,7 @@ use Rattle.join_laws.proofs.WholeLaws.{lawful_agrees, whole_run}
 use Rattle.join_laws.specs.Alike as own
 use Rattle.thread_run.specs.RankSides.{HasFinished}
 use Rattle.thread_run.specs.Owned.{AreSingle, owner_calls}
-use Rattle.thread_run.specs.Service.{IsDone, IsDoneSo, opening}
+use Rattle.thread_run.specs.Service.{IsDone, IsDoneSo, opening, passed}
 use Rattle.turn_run.specs.RankEnds.{most_known_of, NoneBroke}
 use Rattle.thread_run.proofs.ThreadLists.{alike_from}
 use Rattle.thread_run.proofs.ThreadTies.{Told, finished_of, joined, low_rank, own_of, puts, takes, took_all}
@@ -53,7 +53,7 @@ pub record FinishedSo (script : Script) (header : Header) (arrivals : List Arriv
 
 module _ (script : Script) (header : Header) (arrivals : List Arrival) (given : ℕ → List OwnerItem) (ends : List RankEnd) (order : List Mark) (stranger : Option ℕ)
     (sound : is_sound header ≡ true) (lawful : is_lawful script ≡ true) (t : Told script header arrivals given ends) (whole : NoneBroke ends)
-    (done : (file : List ℕ) → IsDone (setting_of script header) (opening script.ranks (counted file header.records)) arrivals script.ranks given order stranger) where
+    (done : (file : List ℕ) → IsDone (setting_of script header) (opening script.ranks (counted file header.records)) (passed arrivals script.ranks given) order stranger) where
   owner_is : (file : List ℕ) → opening script.ranks (counted file header.records) ≡ opening_owner script header file
   owner_is file = ap (λ (n : ℕ). first_owner (replicate n free_client) (counted file header.records)) (sym t.calls)
 
@@ -101,7 +101,7 @@ module _ (script : Script) (header : Header) (arrivals : List Arrival) (given : 
   }
 
   pub finished_so : (file : List ℕ) (told : Option (List ℕ)) (records : ℕ)
-      → IsDoneSo (setting_of script header) (opening script.ranks (counted file header.records)) arrivals script.ranks given told records
+      → IsDoneSo (setting_of script header) (opening script.ranks (counted file header.records)) (passed arrivals script.ranks given) told records
       → FinishedSo script header arrivals ends order file (served (setting_of script header) (opening script.ranks (counted file header.records)) arrivals).owner
   finished_so file told records so = subst (λ (d : Owner). FinishedSo script header arrivals ends order file (served (setting_of script header) d arrivals).owner) (sym (owner_is file)) (record {
     bytes = ap (λ (n : ℕ). (raised (as_setting header) (counted state.file state.records) n).file) (known_is file) ∙ sym (ap (λ (e : End). e.bytes) last);

@@ -17,10 +17,11 @@ use Rattle.serial_spec.specs.Lawful.{is_lawful}
 use Rattle.serial_spec.specs.Readings.{told_of}
 use Rattle.serial_spec.specs.SerialEnd.{setting_of}
 use Rattle.collective_round.specs.Rounds.{counted}
+use Rattle.turn_run.specs.Known.{point}
 use Rattle.turn_run.specs.Told.{told_marks, HasTold}
 use Rattle.thread_run.specs.Owned.{owner_told}
 use Rattle.thread_run.specs.Refused.{HasCutService}
-use Rattle.thread_run.specs.Service.{opening, HasToldAlong, IsDone, IsDoneSo}
+use Rattle.thread_run.specs.Service.{opening, HasToldAlong, IsDone, IsDoneSo, passed}
 use Rattle.turn_run.proofs.TellLaws.{marks_ended}
 use Rattle.thread_run.proofs.TellLaws.{marks_along, same_told}
 use Rattle.thread_run.proofs.ServiceCut.{service_cut, service_done, Service}
@@ -31,9 +32,9 @@ module _ (script : Script) (header : Header) (arrivals : List Arrival) (given : 
     (t : Told script header arrivals given ends) (held : Option (List ℕ)) (count : ℕ) (before : ServeEnd) (told heard : Option (List (Mark × ℕ))) where
   -- with the counts, where the bytes are told
   run_counts : (file : List ℕ) → ((f : List ℕ) → HasToldAlong (setting_of script header) (opening script.ranks (counted f header.records)) arrivals before.order told heard)
-      → (before.fault ≡ None → (f : List ℕ) → IsDone (setting_of script header) (opening script.ranks (counted f header.records)) arrivals script.ranks given before.order before.stranger)
-      → (before.fault ≡ None → IsDoneSo (setting_of script header) (opening script.ranks (counted file header.records)) arrivals script.ranks given held count)
-      → ((x : StepErr) → before.fault ≡ Some x → HasCutService (setting_of script header) x (opening script.ranks (counted file header.records)) arrivals before.order held count given)
+      → (before.fault ≡ None → (f : List ℕ) → IsDone (setting_of script header) (opening script.ranks (counted f header.records)) (passed arrivals script.ranks given) before.order before.stranger)
+      → (before.fault ≡ None → IsDoneSo (setting_of script header) (opening script.ranks (counted file header.records)) (passed arrivals script.ranks given) held count)
+      → ((x : StepErr) → before.fault ≡ Some x → HasCutService (setting_of script header) x (opening script.ranks (counted file header.records)) (passed arrivals script.ranks given) (point before.order held count))
       → heard ≡ with_end told (told_of script header file before.order)
   run_counts file along done so cut = by_service (by_fault before.fault refl)
     where
@@ -43,11 +44,11 @@ module _ (script : Script) (header : Header) (arrivals : List Arrival) (given : 
       by_fault : (m : Option StepErr) → before.fault ≡ m → Service (setting_of script header) (opening_owner script header file) script.ranks arrivals given before.order
       by_fault None none =
           (service_done script.hints (setting_of script header) (opening_owner script header file) script.ranks arrivals given before.order
-          (subst (λ (d : Owner). IsDone (setting_of script header) d arrivals script.ranks given before.order before.stranger) is (done none file)).order
-          (subst (λ (d : Owner). IsDoneSo (setting_of script header) d arrivals script.ranks given held count) is (so none)).given).0
+          (subst (λ (d : Owner). IsDone (setting_of script header) d (passed arrivals script.ranks given) before.order before.stranger) is (done none file)).order
+          (subst (λ (d : Owner). IsDoneSo (setting_of script header) d (passed arrivals script.ranks given) held count) is (so none)).given).0
       by_fault (Some x) some =
           service_cut (setting_of script header) (opening_owner script header file) script.ranks count x arrivals given before.order held (ranks_are script header arrivals given ends sound lawful t file)
-          (subst (λ (d : Owner). HasCutService (setting_of script header) x d arrivals before.order held count given) is (cut x some))
+          (subst (λ (d : Owner). HasCutService (setting_of script header) x d (passed arrivals script.ranks given) (point before.order held count)) is (cut x some))
 
       by_service : Service (setting_of script header) (opening_owner script header file) script.ranks arrivals given before.order → heard ≡ with_end told (told_of script header file before.order)
       by_service h =
@@ -58,9 +59,9 @@ module _ (script : Script) (header : Header) (arrivals : List Arrival) (given : 
           ∙ told_is script header arrivals given ends sound lawful t file before.order h)
 
   by_ranks : (found : Option (List ℕ)) → ((file : List ℕ) → HasToldAlong (setting_of script header) (opening script.ranks (counted file header.records)) arrivals before.order told heard)
-      → (before.fault ≡ None → (file : List ℕ) → IsDone (setting_of script header) (opening script.ranks (counted file header.records)) arrivals script.ranks given before.order before.stranger)
-      → (before.fault ≡ None → IfSome found (λ file. IsDoneSo (setting_of script header) (opening script.ranks (counted file header.records)) arrivals script.ranks given held count))
-      → ((x : StepErr) → before.fault ≡ Some x → IfSome found (λ file. HasCutService (setting_of script header) x (opening script.ranks (counted file header.records)) arrivals before.order held count given))
+      → (before.fault ≡ None → (file : List ℕ) → IsDone (setting_of script header) (opening script.ranks (counted file header.records)) (passed arrivals script.ranks given) before.order before.stranger)
+      → (before.fault ≡ None → IfSome found (λ file. IsDoneSo (setting_of script header) (opening script.ranks (counted file header.records)) (passed arrivals script.ranks given) held count))
+      → ((x : StepErr) → before.fault ≡ Some x → IfSome found (λ file. HasCutService (setting_of script header) x (opening script.ranks (counted file header.records)) (passed arrivals script.ranks given) (point before.order held count)))
       → HasTold script header found told heard before.order
   by_ranks found along done so cut = record {
     marks = ap told_marks (along []).heard ∙ marks_ended told (owner_told (setting_of script header) (opening script.ranks (counted [] header.records)) (along []).first)
@@ -70,8 +71,8 @@ module _ (script : Script) (header : Header) (arrivals : List Arrival) (given : 
   }
     where
       by_told : (m : Option (List ℕ))
-          → (before.fault ≡ None → IfSome m (λ file. IsDoneSo (setting_of script header) (opening script.ranks (counted file header.records)) arrivals script.ranks given held count))
-          → ((x : StepErr) → before.fault ≡ Some x → IfSome m (λ file. HasCutService (setting_of script header) x (opening script.ranks (counted file header.records)) arrivals before.order held count given))
+          → (before.fault ≡ None → IfSome m (λ file. IsDoneSo (setting_of script header) (opening script.ranks (counted file header.records)) (passed arrivals script.ranks given) held count))
+          → ((x : StepErr) → before.fault ≡ Some x → IfSome m (λ file. HasCutService (setting_of script header) x (opening script.ranks (counted file header.records)) (passed arrivals script.ranks given) (point before.order held count)))
           → IfSome m (λ file. heard ≡ with_end told (told_of script header file before.order))
       by_told None so cut = tt
       by_told (Some file) so cut = run_counts file along done so cut
@@ -79,14 +80,14 @@ module _ (script : Script) (header : Header) (arrivals : List Arrival) (given : 
   -- by as many senders as there are ranks
   pub run_told : (found : Option (List ℕ)) (n : ℕ) → n ≡ script.ranks
       → ((file : List ℕ) → HasToldAlong (setting_of script header) (opening n (counted file header.records)) arrivals before.order told heard)
-      → (before.fault ≡ None → (file : List ℕ) → IsDone (setting_of script header) (opening n (counted file header.records)) arrivals n given before.order before.stranger)
-      → (before.fault ≡ None → IfSome found (λ file. IsDoneSo (setting_of script header) (opening n (counted file header.records)) arrivals n given held count))
-      → ((x : StepErr) → before.fault ≡ Some x → IfSome found (λ file. HasCutService (setting_of script header) x (opening n (counted file header.records)) arrivals before.order held count given))
+      → (before.fault ≡ None → (file : List ℕ) → IsDone (setting_of script header) (opening n (counted file header.records)) (passed arrivals n given) before.order before.stranger)
+      → (before.fault ≡ None → IfSome found (λ file. IsDoneSo (setting_of script header) (opening n (counted file header.records)) (passed arrivals n given) held count))
+      → ((x : StepErr) → before.fault ≡ Some x → IfSome found (λ file. HasCutService (setting_of script header) x (opening n (counted file header.records)) (passed arrivals n given) (point before.order held count)))
       → (order : List Mark) → order ≡ before.order → HasTold script header found told heard order
   run_told found n e along done so cut order same =
       subst (λ (ms : List Mark). HasTold script header found told heard ms) (sym same)
       (by_ranks found
       (λ file. subst (λ (m : ℕ). HasToldAlong (setting_of script header) (opening m (counted file header.records)) arrivals before.order told heard) e (along file))
-      (λ none file. subst (λ (m : ℕ). IsDone (setting_of script header) (opening m (counted file header.records)) arrivals m given before.order before.stranger) e (done none file))
-      (λ none. subst (λ (m : ℕ). IfSome found (λ file. IsDoneSo (setting_of script header) (opening m (counted file header.records)) arrivals m given held count)) e (so none))
-      (λ x some. subst (λ (m : ℕ). IfSome found (λ file. HasCutService (setting_of script header) x (opening m (counted file header.records)) arrivals before.order held count given)) e (cut x some)))
+      (λ none file. subst (λ (m : ℕ). IsDone (setting_of script header) (opening m (counted file header.records)) (passed arrivals m given) before.order before.stranger) e (done none file))
+      (λ none. subst (λ (m : ℕ). IfSome found (λ file. IsDoneSo (setting_of script header) (opening m (counted file header.records)) (passed arrivals m given) held count)) e (so none))
+      (λ x some. subst (λ (m : ℕ). IfSome found (λ file. HasCutService (setting_of script header) x (opening m (counted file header.records)) (passed arrivals m given) (point before.order held count))) e (cut x some)))

@@ -1,10 +1,13 @@
 -- Where the owner stops doing what arrives. (own)
 --     of_fault, of_stranger    the fault, and the number of the strange arrival
+--     Inbox                    an inbox as it was and is, and which numbers are noted as ended
+--     Stopped                  what can be seen of an owner that stopped
+--     stopped .. out order     the same by what an owner's steps change, and the order of the steps
 --     IsHaltAt ..              what tells that it stopped there
 --     HasHalted ..             along the first arrivals nothing was strange, and with the later ones each offer has its item
---     HasHaltedBy .. out ..   the same by what the owner's steps change
+--     HasHaltedOn dataset ..   the same of an owner of this dataset
 --     Outcome ..               the same of all that was taken
---     HasEndedBy .. out ..     that by what the owner's steps change
+--     HasEndedOn dataset ..    that of an owner of this dataset
 use Rattle.std.specs.Prelude.{◌≡◌, ℕ, ◌≤◌, List, [], ◌∷◌, ◌++◌, Bool, true, Option, Some, None}
 use Rattle.nc_base.specs.declared.script.Hints.{Hints}
 use Rattle.nc_base.specs.declared.step.DiskCall.{DiskCall}
@@ -39,6 +42,29 @@ of_stranger (halt.Stranger number) = Some number
 of_stranger halt.Ended = None
 of_stranger (halt.Fault e) = None
 
+pub record Inbox : Type 0 where
+  pub old : Receiver RankItem
+  pub now : Receiver RankItem
+  pub ended : List Bool
+
+abbrev pub taken_from : Receiver RankItem → Receiver RankItem → List Bool → Inbox
+taken_from old now ended = record { old = old; now = now; ended = ended }
+
+-- the disk and its count, the order, what was told of it, and the lines
+pub record Stopped : Type 0 where
+  pub records : ℕ
+  pub told : Option (List ℕ)
+  pub calls : Option (List DiskCall)
+  pub order : List Mark
+  pub heard : Option (List (Mark × ℕ))
+  pub lines : List (End OwnerItem)
+
+abbrev pub stopped_with : ℕ → Option (List ℕ) → Option (List DiskCall) → List Mark → Option (List (Mark × ℕ)) → List (End OwnerItem) → Stopped
+stopped_with records told calls order heard lines = record { records = records; told = told; calls = calls; order = order; heard = heard; lines = lines }
+
+abbrev pub stopped : {D T : Type 0} → DiskGhosts D → ToldGhosts T → Outlets D T → List Mark → Stopped
+stopped disk told out order = stopped_with out.records.now (disk.held out.disk.now) (disk.calls out.disk.now) order (told.heard out.told.now) out.back.now
+
 -- disk and count are as they were there
 pub record IsLeft (middle : Standing) (n : ℕ) (held : Option (List ℕ)) (made : Option (List DiskCall)) : Type 0 where
   pub records : n ≡ middle.records
@@ -56,35 +82,32 @@ HasSeenAll senders flags halt.Ended = AllHaveEnded senders flags
 HasSeenAll senders flags (halt.Stranger number) = Unit {0}
 HasSeenAll senders flags (halt.Fault e) = Unit {0}
 
-abbrev pub IsHaltAt : Setting → Standing → List Arrival → ℕ → Option (List ℕ) → Option (List DiskCall) → Halt → Type 0
-IsHaltAt s middle later n held made halt.Ended = (later ≡ []) × IsLeft middle n held made
-IsHaltAt s middle later n held made (halt.Stranger number) = IsStrangeAt s middle later number × IsLeft middle n held made
-IsHaltAt s middle later n held made (halt.Fault e) = IsFaultAt s e middle later n held
+abbrev pub IsHaltAt : Setting → Standing → List Arrival → Stopped → Halt → Type 0
+IsHaltAt s middle later left halt.Ended = (later ≡ []) × IsLeft middle left.records left.told left.calls
+IsHaltAt s middle later left (halt.Stranger number) = IsStrangeAt s middle later number × IsLeft middle left.records left.told left.calls
+IsHaltAt s middle later left (halt.Fault e) = IsFaultAt s e middle later left.records left.told
 
-pub record HasHalted (hints : Hints) (s : Setting) (old now : Receiver RankItem) (flags : List Bool) (before : Standing) (n : ℕ) (held : Option (List ℕ))
-    (made : Option (List DiskCall)) (marks : List Mark) (heard : Option (List (Mark × ℕ))) (lines : List (End OwnerItem)) (halt : Halt) : Type 0 where
+pub record HasHalted (hints : Hints) (s : Setting) (inbox : Inbox) (before : Standing) (left : Stopped) (halt : Halt) : Type 0 where
   pub first : List Arrival
   pub later : List Arrival
   pub middle : Standing
-  pub taken : IsMore old (first ++ later) now
-  pub ended : HaveEnded flags (first ++ later)
+  pub taken : IsMore inbox.old (first ++ later) inbox.now
+  pub ended : HaveEnded inbox.ended (first ++ later)
   pub run : HasRun hints s first before middle
-  pub order : marks ≡ middle.order
-  pub heard_all : heard ≡ middle.heard
-  pub stopped : Grows middle.lines (stops (owner_at middle []) later) lines
-  pub halted : IsHaltAt s middle later n held made halt
-  pub seen : HasSeenAll old.senders flags halt
+  pub order : left.order ≡ middle.order
+  pub heard_all : left.heard ≡ middle.heard
+  pub stopped : Grows middle.lines (stops (owner_at middle []) later) left.lines
+  pub halted : IsHaltAt s middle later left halt
+  pub seen : HasSeenAll inbox.old.senders inbox.ended halt
 
--- the same by what an owner's steps change, and the order of the steps
-abbrev pub HasHaltedBy : {D T : Type 0} → DiskGhosts D → ToldGhosts T → Dataset → Receiver RankItem → Receiver RankItem → List Bool → Standing → Outlets D T → List Mark → Halt → Type 0
-HasHaltedBy disk told dataset old now flags before out marks halt =
-    HasHalted dataset.hints.now (dataset_setting dataset) old now flags before out.records.now (disk.held out.disk.now) (disk.calls out.disk.now) marks (told.heard out.told.now) out.back.now halt
+abbrev pub HasHaltedOn : Dataset → Inbox → Standing → Stopped → Halt → Type 0
+HasHaltedOn dataset inbox before left halt = HasHalted dataset.hints.now (dataset_setting dataset) inbox before left halt
 
 -- these were taken, none of them strange
-pub record HasServed (hints : Hints) (s : Setting) (old now : Receiver RankItem) (flags : List Bool) (before after : Standing) : Type 0 where
+pub record HasServed (hints : Hints) (s : Setting) (inbox : Inbox) (before after : Standing) : Type 0 where
   pub more : List Arrival
-  pub taken : IsMore old more now
-  pub ended : HaveEnded flags more
+  pub taken : IsMore inbox.old more inbox.now
+  pub ended : HaveEnded inbox.ended more
   pub run : HasRun hints s more before after
 
 abbrev pub IsNoMore : List Arrival → Halt → Type 0
@@ -92,38 +115,37 @@ IsNoMore more halt.Ended = more ≡ []
 IsNoMore more (halt.Stranger number) = Unit {0}
 IsNoMore more (halt.Fault e) = Unit {0}
 
--- what still came has its stops, and each number has ended
-pub record HasFinished (old now : Receiver RankItem) (before after : List (End OwnerItem)) (flags left : List Bool) (halt : Halt) : Type 0 where
+-- what still came has its stops, and each number has ended; these were noted before
+pub record HasFinished (inbox : Inbox) (before after : List (End OwnerItem)) (noted_before : List Bool) (halt : Halt) : Type 0 where
   pub more : List Arrival
-  pub taken : IsMore old more now
+  pub taken : IsMore inbox.old more inbox.now
   pub stopped : Grows before (stops_for more) after
-  pub noted : (arrivals : List Arrival) → HaveEnded flags arrivals → HaveEnded left (arrivals ++ more)
-  pub all : AllHaveEnded old.senders left
+  pub noted : (arrivals : List Arrival) → HaveEnded noted_before arrivals → HaveEnded inbox.ended (arrivals ++ more)
+  pub all : AllHaveEnded inbox.old.senders inbox.ended
   pub last : IsNoMore more halt
 
 -- along the first of all that was taken nothing was strange, and with the last of it each offer has its item
-pub record Outcome (hints : Hints) (s : Setting) (old now : Receiver RankItem) (left : List Bool) (before : Standing) (n : ℕ) (held : Option (List ℕ)) (made : Option (List DiskCall)) (marks : List Mark)
-    (heard : Option (List (Mark × ℕ))) (lines : List (End OwnerItem)) (halt : Halt) : Type 0 where
+pub record Outcome (hints : Hints) (s : Setting) (inbox : Inbox) (before : Standing) (left : Stopped) (halt : Halt) : Type 0 where
   pub first : List Arrival
   pub last : List Arrival
   pub middle : Standing
-  pub taken : IsMore old (first ++ last) now
-  pub ended : HaveEnded left (first ++ last)
-  pub all : AllHaveEnded old.senders left
+  pub taken : IsMore inbox.old (first ++ last) inbox.now
+  pub ended : HaveEnded inbox.ended (first ++ last)
+  pub all : AllHaveEnded inbox.old.senders inbox.ended
   pub run : HasRun hints s first before middle
-  pub order : marks ≡ middle.order
-  pub heard_all : heard ≡ middle.heard
-  pub stopped : Grows middle.lines (stops (owner_at middle []) last) lines
+  pub order : left.order ≡ middle.order
+  pub heard_all : left.heard ≡ middle.heard
+  pub stopped : Grows middle.lines (stops (owner_at middle []) last) left.lines
   pub later : List Arrival
   pub more : List Arrival
   pub parts : last ≡ later ++ more
-  pub halted : IsHaltAt s middle later n held made halt
+  pub halted : IsHaltAt s middle later left halt
   pub none : IsNoMore more halt
 
--- the same by what an owner's steps change, and the order of the steps
-abbrev pub HasEndedBy : {D T : Type 0} → DiskGhosts D → ToldGhosts T → Dataset → Receiver RankItem → Receiver RankItem → Standing → Outlets D T → List Mark → Halt → Type 0
-HasEndedBy disk told dataset old now before out marks halt =
-    (left : List Bool) × Outcome dataset.hints.now (dataset_setting dataset) old now left before out.records.now (disk.held out.disk.now) (disk.calls out.disk.now) marks (told.heard out.told.now) out.back.now halt
+-- of an inbox as it was and is
+abbrev pub HasEndedOn : Dataset → Receiver RankItem → Receiver RankItem → Standing → Stopped → Halt → Type 0
+HasEndedOn dataset old now before left halt =
+    (ended : List Bool) × Outcome dataset.hints.now (dataset_setting dataset) (taken_from old now ended) before left halt
 
 pub record HasHaltCause (before now : ℕ) (halt : Halt) : Type 0 where
   pub later : before ≤ now

@@ -51,15 +51,16 @@ abbrev pub calls_if : Hints → Setting → Owner → List Client → Bool → L
 calls_if hints s d clients true = meeting_calls hints s (offers_held clients) d.state
 calls_if hints s d clients false = []
 
-abbrev pub calls_at_offer : Hints → Setting → Owner → ℕ → Offer → Client → OfferKind → List DiskCall
-calls_at_offer hints s d r o x offer.Solo = solo_calls hints s r o d.state
-calls_at_offer hints s d r o x (offer.Meet kind) =
-    let clients = set d.clients r (record { held = Some o; ended = x.ended }) in calls_if hints s d clients (list_all holds clients)
+-- of a number with its offer, which is of this kind
+abbrev pub calls_at_offer : Hints → Setting → Owner → ℕ × Offer → Client → OfferKind → List DiskCall
+calls_at_offer hints s d own x offer.Solo = solo_calls hints s own.0 own.1 d.state
+calls_at_offer hints s d own x (offer.Meet kind) =
+    let clients = set d.clients own.0 (record { held = Some own.1; ended = x.ended }) in calls_if hints s d clients (list_all holds clients)
 
 abbrev pub calls_at : Hints → Setting → Owner → ℕ → RankItem → Option Client → List DiskCall
 calls_at hints s d r i None = []
 calls_at hints s d r (item.Ended memory) (Some x) = []
-calls_at hints s d r (item.Offer c o) (Some x) = calls_at_offer hints s d r o x o.kind
+calls_at hints s d r (item.Offer c o) (Some x) = calls_at_offer hints s d (r, o) x o.kind
 
 abbrev pub event_calls : Hints → Setting → Owner → Arrival → List DiskCall
 event_calls hints s d a = calls_at hints s d a.0 a.1 (slice_get d.clients a.0)
@@ -160,10 +161,10 @@ abbrev pub HasDone : Hints → Setting → Arrival → Standing → Standing →
 HasDone hints s a before now =
     HasMovedOnce (HoldSingle before.clients × IsSingle a.1) (λ file. event s (owner_at before file) a) (λ file. event_calls hints s (owner_at before file) a) before now
 
--- an offer that a number makes alone, and a meeting of all
-abbrev pub IsAlone : Hints → Setting → ℕ → ℕ → Offer → Standing → Standing → Type 0
-IsAlone hints s r c o before now =
-    HasMovedOnce (HoldSingle before.clients) (λ file. does_solo s (owner_at before file) r c o) (λ file. solo_calls hints s r o (counted file before.records)) before now
+-- an offer that a number makes alone at a call of it, and a meeting of all
+abbrev pub IsAlone : Hints → Setting → ℕ → ℕ × Offer → Standing → Standing → Type 0
+IsAlone hints s call own before now =
+    HasMovedOnce (HoldSingle before.clients) (λ file. does_solo s (owner_at before file) own.0 call own.1) (λ file. solo_calls hints s own.0 own.1 (counted file before.records)) before now
 
 abbrev pub IsTogether : Hints → Setting → Standing → Standing → Type 0
 IsTogether hints s before now =

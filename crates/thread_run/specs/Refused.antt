@@ -5,9 +5,7 @@
 --     HasCutService ..          what its ends, its disk and its order tell
 use Rattle.std.specs.Prelude.{◌≡◌, ℕ, ◌<◌, List, [], ◌++◌, flat_map, length, Option, Some, IfSome}
 use Rattle.std.specs.List.{enumerate_from}
-use Rattle.nc_base.specs.declared.step.Mark.{Mark}
 use Rattle.nc_base.specs.declared.step.Offer.{Offer}
-use Rattle.nc_base.specs.declared.step.OwnerItem.{OwnerItem}
 use Rattle.nc_base.specs.declared.step.StepErr.{StepErr}
 use Rattle.serial_spec.specs.Owner.{Owner, Event, does_meeting, does_solo, event, offers_held, step_offers}
 use Rattle.serial_spec.specs.FileStep.{Setting, puts_of}
@@ -15,15 +13,18 @@ use Rattle.serial_spec.specs.History.{Arrival}
 use Rattle.serial_spec.specs.SharedByte.{covered}
 use Rattle.serial_spec.specs.Torn.{IsCutService, IsLeft, OwnerStoodAt}
 use Rattle.collective_round.specs.Rounds.{counted}
+use Rattle.turn_run.specs.Known.{Point}
 use Rattle.thread_run.specs.Owned.{owner_at, AreSingle, HoldSingle, Standing}
+use Rattle.thread_run.specs.Service.{Passed}
 
 -- where the bytes were told
 abbrev pub IsRefused : Setting → (List ℕ → List ℕ) → (List ℕ → Event) → Standing → Option (List ℕ) → ℕ → Type 0
 IsRefused s bytes to before left n =
     IfSome before.told (λ file. (now : List ℕ) × (left ≡ Some now) × IsLeft s.header (bytes file) (counted file before.records) (to file).owner.state now n)
 
-abbrev pub IsRefusedAlone : Setting → ℕ → ℕ → Offer → Standing → Option (List ℕ) → ℕ → Type 0
-IsRefusedAlone s r c o before left n = IsRefused s (λ file. covered s.header (puts_of (r, o))) (λ file. does_solo s (owner_at before file) r c o) before left n
+-- a number with its offer, at a call of it
+abbrev pub IsRefusedAlone : Setting → ℕ → ℕ × Offer → Standing → Option (List ℕ) → ℕ → Type 0
+IsRefusedAlone s call own before left n = IsRefused s (λ file. covered s.header (puts_of own)) (λ file. does_solo s (owner_at before file) own.0 call own.1) before left n
 
 abbrev pub IsRefusedTogether : Setting → Standing → Option (List ℕ) → ℕ → Type 0
 IsRefusedTogether s before left n =
@@ -38,11 +39,11 @@ abbrev pub IsFaultAt : Setting → StepErr → Standing → List Arrival → ℕ
 IsFaultAt s fault middle later n held =
     HoldSingle middle.clients → AreSingle later → IfSome middle.told (λ file. (left : List ℕ) × (held ≡ Some left) × OwnerStoodAt s fault (owner_at middle file) later left n)
 
-pub record HasCutService (s : Setting) (fault : StepErr) (d : Owner) (arrivals : List Arrival) (order : List Mark) (held : Option (List ℕ)) (records : ℕ) (put : ℕ → List OwnerItem) : Type 0 where
+pub record HasCutService (s : Setting) (fault : StepErr) (d : Owner) (passed : Passed) (at : Point) : Type 0 where
   pub first : List Arrival
   pub later : List Arrival
-  pub all : arrivals ≡ first ++ later
+  pub all : passed.arrivals ≡ first ++ later
   pub left : List ℕ
-  pub told : AreSingle arrivals → held ≡ Some left
-  pub service : IsCutService s fault d first later order left records put
+  pub told : AreSingle passed.arrivals → at.held ≡ Some left
+  pub service : IsCutService s fault d first later at.order left at.records passed.put
   pub all_heard : (q : ℕ) (low : q < length d.clients) → (service.gives q low).unheard ≡ []

@@ -1,6 +1,8 @@
 -- What the owner of a file tells of its run, by what its ends gained. (own)
 --     arrived old now         what was taken
 --     gained old now q        what was put on line q
+--     Passed                  what passed over the owner's ends
+--     passed arrivals n put   so much, over n lines
 --     HasTaken ..             what was taken, and each number's end is among it
 --     HasToldAlong ..         what was told of the steps that were done
 --     IsDone ..               a run without a fault: its order, and what each line gained up to the bytes of gets
@@ -31,6 +33,15 @@ more_on _ _ = []
 abbrev pub gained : List (End OwnerItem) → List (End OwnerItem) → ℕ → List OwnerItem
 gained old now q = more_on (slice_get old q) (slice_get now q)
 
+-- what was taken, and what was put on each of so many lines
+pub record Passed : Type 0 where
+  pub arrivals : List Arrival
+  pub lines : ℕ
+  pub put : ℕ → List OwnerItem
+
+abbrev pub passed : List Arrival → ℕ → (ℕ → List OwnerItem) → Passed
+passed arrivals lines put = record { arrivals = arrivals; lines = lines; put = put }
+
 -- as many numbers as there are lines, and none of them has arrived
 abbrev pub opening : ℕ → Counted → Owner
 opening senders c = first_owner (replicate senders free_client) c
@@ -56,15 +67,15 @@ pub record HasToldAlong (s : Setting) (d : Owner) (arrivals : List Arrival) (mar
   pub order : marks ≡ (served s d first).marks
   pub heard : now ≡ with_end before (owner_told s d first)
 
-pub record IsDone (s : Setting) (d : Owner) (arrivals : List Arrival) (lines : ℕ) (put : ℕ → List OwnerItem) (marks : List Mark) (number : Option ℕ) : Type 0 where
-  pub order : marks ≡ (served s d arrivals).marks
-  pub stranger : number ≡ (served s d arrivals).stranger
-  pub given : (q : ℕ) → q < lines → AreAlike (put q) (owed s d arrivals q)
+pub record IsDone (s : Setting) (d : Owner) (passed : Passed) (marks : List Mark) (number : Option ℕ) : Type 0 where
+  pub order : marks ≡ (served s d passed.arrivals).marks
+  pub stranger : number ≡ (served s d passed.arrivals).stranger
+  pub given : (q : ℕ) → q < passed.lines → AreAlike (passed.put q) (owed s d passed.arrivals q)
 
-pub record IsDoneSo (s : Setting) (d : Owner) (arrivals : List Arrival) (lines : ℕ) (put : ℕ → List OwnerItem) (held : Option (List ℕ)) (n : ℕ) : Type 0 where
-  pub told : held ≡ Some (served s d arrivals).owner.state.file
-  pub records : n ≡ (served s d arrivals).owner.state.records
-  pub given : (q : ℕ) → q < lines → put q ≡ owed s d arrivals q
+pub record IsDoneSo (s : Setting) (d : Owner) (passed : Passed) (held : Option (List ℕ)) (n : ℕ) : Type 0 where
+  pub told : held ≡ Some (served s d passed.arrivals).owner.state.file
+  pub records : n ≡ (served s d passed.arrivals).owner.state.records
+  pub given : (q : ℕ) → q < passed.lines → passed.put q ≡ owed s d passed.arrivals q
 
 -- Along `first` no arrival is strange, and its replies were given; each other offer has a stop.
 pub record IsCutOff (s : Setting) (d : Owner) (first : List Arrival) (lines : ℕ) (put : ℕ → List OwnerItem) (marks : List Mark) : Type 0 where
@@ -72,10 +83,10 @@ pub record IsCutOff (s : Setting) (d : Owner) (first : List Arrival) (lines : �
   pub order : marks ≡ (served s d first).marks
   pub given : (q : ℕ) → q < lines → (stopped : ℕ) × AreAlike (put q) (given_along s d first q ++ replicate stopped Stop)
 
-pub record HasFailed (s : Setting) (d : Counted → Owner) (records : ℕ) (arrivals : List Arrival) (lines : ℕ) (put : ℕ → List OwnerItem) (marks : List Mark) (number : Option ℕ) : Type 0 where
+pub record HasFailed (s : Setting) (d : Counted → Owner) (records : ℕ) (passed : Passed) (marks : List Mark) (number : Option ℕ) : Type 0 where
   pub first : List Arrival
   pub later : List Arrival
-  pub all : arrivals ≡ first ++ later
-  pub cut_off : (file : List ℕ) → IsCutOff s (d (record { file = file; records = records })) first lines put marks
-  pub one_each : (q : ℕ) → q < lines → length (put q) ≡ offers_in (own_items q arrivals)
+  pub all : passed.arrivals ≡ first ++ later
+  pub cut_off : (file : List ℕ) → IsCutOff s (d (record { file = file; records = records })) first passed.lines passed.put marks
+  pub one_each : (q : ℕ) → q < passed.lines → length (passed.put q) ≡ offers_in (own_items q passed.arrivals)
   pub stranger : number ≡ None

@@ -11,12 +11,13 @@ ghost use Rattle.serial_spec.specs.SoundHeaders.{is_sound};
 ghost use Rattle.serial_spec.specs.Lawful.{are_lawful_hints};
 ghost use Rattle.serial_spec.specs.Layout.{end_of};
 ghost use Rattle.collective_round.specs.Rounds.{counted, setting};
+ghost use Rattle.turn_run.specs.Known.{point};
 ghost use Rattle.turn_run.specs.Counts.{IsCount};
-ghost use Rattle.thread_run.specs.Halted.{of_fault, of_stranger, HasEndedBy, HasFinished, HasHaltedBy, HasHaltCause, HasSeenAll};
+ghost use Rattle.thread_run.specs.Halted.{taken_from, of_fault, of_stranger, stopped, HasEndedOn, HasFinished, HasHaltedOn, HasHaltCause, HasSeenAll};
 ghost use Rattle.thread_run.specs.Lent.{AreSame, IsReadable};
 ghost use Rattle.thread_run.specs.Owned.{owner_calls, first_standing, standing, AreSingle, IsSteady};
 ghost use Rattle.thread_run.specs.Refused.{HasCutService};
-ghost use Rattle.thread_run.specs.Service.{arrived, gained, opening, HasFailed, HasTaken, HasToldAlong, HavePut, IsDone, IsDoneSo};
+ghost use Rattle.thread_run.specs.Service.{arrived, gained, opening, HasFailed, HasTaken, HasToldAlong, HavePut, IsDone, IsDoneSo, passed};
 ghost use Rattle.thread_run.specs.Stops.{HaveEnded};
 ghost use Rattle.var_layout.specs.Measures.{AreMeasures};
 
@@ -79,17 +80,17 @@ pub fn serve<R: Threads + Wait + Sync, D: Disk, G: Gate, T: Told>(
 
     // Without a fault, by the bytes of the file where they are told, and else up to those of gets.
     ensures done { result.fault ≡ None → (file : List ℕ) → IsDone (setting header.now hints.now) (opening inbox.old.senders (counted file header.now.records))
-        (arrived inbox.old inbox.new) inbox.old.senders (gained back.old back.new) result.order result.stranger }
+        (passed (arrived inbox.old inbox.new) inbox.old.senders (gained back.old back.new)) result.order result.stranger }
     ensures bytes { result.fault ≡ None → IfSome (D.held disk.old) (λ file. IsDoneSo (setting header.now hints.now) (opening inbox.old.senders (counted file header.now.records))
-        (arrived inbox.old inbox.new) inbox.old.senders (gained back.old back.new) (D.held disk.new) records.new) }
+        (passed (arrived inbox.old inbox.new) inbox.old.senders (gained back.old back.new)) (D.held disk.new) records.new) }
     ensures calls { result.fault ≡ None → AreSingle (arrived inbox.old inbox.new) → IfSome (D.held disk.old) (λ file. D.calls disk.new ≡ with_end (D.calls disk.old)
         (owner_calls hints.now (setting header.now hints.now) (opening inbox.old.senders (counted file header.now.records)) (arrived inbox.old inbox.new))) }
 
     // With a fault.
     ensures failed { (e : Fault) → result.fault ≡ Some e → HasFailed (setting header.now hints.now) (opening inbox.old.senders) header.now.records
-        (arrived inbox.old inbox.new) inbox.old.senders (gained back.old back.new) result.order result.stranger }
+        (passed (arrived inbox.old inbox.new) inbox.old.senders (gained back.old back.new)) result.order result.stranger }
     ensures cut { (e : Fault) → result.fault ≡ Some e → IfSome (D.held disk.old) (λ file. HasCutService (setting header.now hints.now) e (opening inbox.old.senders (counted file header.now.records))
-        (arrived inbox.old inbox.new) result.order (D.held disk.new) records.new (gained back.old back.new)) }
+        (passed (arrived inbox.old inbox.new) inbox.old.senders (gained back.old back.new)) (point result.order (D.held disk.new) records.new)) }
     ensures cause { result.fault ≡ Some fault.Disk → Rose (D.faults disk.old) (D.faults disk.new) }
 
     ensures count { IsCount header.now (D.len disk.new) records.new }
@@ -130,7 +131,7 @@ fn serve_to_end<R: Threads + Wait + Sync, D: Disk, G: Gate, T: Told>(
     requires lines { length out.old.back.now ≡ inbox.old.senders }
     requires few { inbox.old.senders ≤ 64 }
     ensures same { AreSame out.old out.new }
-    ensures outcome { HasEndedBy D.Disk T.Told dataset.now inbox.old inbox.new (first_standing D.Disk T.Told inbox.old.senders out.old) out.new result.0 result.1 }
+    ensures outcome { HasEndedOn dataset.now inbox.old inbox.new (first_standing D.Disk T.Told inbox.old.senders out.old) (stopped D.Disk T.Told out.new result.0) result.1 }
     ensures count { IsCount dataset.now.header.now (D.len out.new.disk.now) out.new.records.now }
     ensures from { D.from out.new.disk.now ≡ 0 }
     ensures longer { D.len out.old.disk.now ≤ D.len out.new.disk.now }
@@ -154,7 +155,7 @@ fn finish<R: Wait, G: Gate>(
     requires few { inbox.old.senders ≤ 64 }
     requires lines { length back.old ≡ inbox.old.senders }
     requires ended { HasSeenAll inbox.old.senders senders.old.ended halt }
-    ensures { HasFinished inbox.old inbox.new back.old back.new senders.old.ended senders.new.ended halt }
+    ensures { HasFinished (taken_from inbox.old inbox.new senders.new.ended) back.old back.new senders.old.ended halt }
 {
     match halt {
         Halt::Ended => {}
@@ -195,7 +196,8 @@ fn open_owner<R: Threads + Wait + Sync, D: Disk, G: Gate, T: Told>(
     requires few { inbox.old.senders ≤ 64 }
     requires ended { HaveEnded senders.old.ended [] }
     ensures same { AreSame out.old out.new }
-    ensures halted { HasHaltedBy D.Disk T.Told dataset.now inbox.old inbox.new senders.new.ended (first_standing D.Disk T.Told inbox.old.senders out.old) out.new result.0 result.1 }
+    ensures halted { HasHaltedOn dataset.now (taken_from inbox.old inbox.new senders.new.ended)
+        (first_standing D.Disk T.Told inbox.old.senders out.old) (stopped D.Disk T.Told out.new result.0) result.1 }
     ensures count { IsCount dataset.now.header.now (D.len out.new.disk.now) out.new.records.now }
     ensures from { D.from out.new.disk.now ≡ 0 }
     ensures longer { D.len out.old.disk.now ≤ D.len out.new.disk.now }
@@ -226,7 +228,8 @@ fn serve_all<R: Threads + Wait + Sync, D: Disk, G: Gate, T: Told>(
     requires ended { HaveEnded senders.old.ended [] }
     requires steady { IsSteady dataset.now.header.now (D.len out.old.disk.now) (standing D.Disk T.Told owner.old out.old) }
     ensures same { AreSame out.old out.new }
-    ensures halted { HasHaltedBy D.Disk T.Told dataset.now inbox.old inbox.new senders.new.ended (standing D.Disk T.Told owner.old out.old) out.new owner.new.order result }
+    ensures halted { HasHaltedOn dataset.now (taken_from inbox.old inbox.new senders.new.ended)
+        (standing D.Disk T.Told owner.old out.old) (stopped D.Disk T.Told out.new owner.new.order) result }
     ensures count { IsCount dataset.now.header.now (D.len out.new.disk.now) out.new.records.now }
     ensures from { D.from out.new.disk.now ≡ 0 }
     ensures longer { D.len out.old.disk.now ≤ D.len out.new.disk.now }

@@ -112,14 +112,14 @@ impl Owner {
         ensures same { AreSame out.old out.new }
         ensures records { out.new.records.now ≡ out.old.records.now }
         ensures clients { self.new.clients ≡ self.old.clients }
-        ensures done { OnOk result (IsAlone dataset.now.hints.now (dataset_setting dataset.now) solo.now.number solo.now.call solo.now.offer.now
+        ensures done { OnOk result (IsAlone dataset.now.hints.now (dataset_setting dataset.now) solo.now.call (solo.now.number, solo.now.offer.now)
             (standing D.Disk T.Told self.old out.old) (standing D.Disk T.Told self.new out.new)) }
         ensures reached { OnOk result (IsCount dataset.now.header.now (D.len out.old.disk.now) self.old.reached → IsCount dataset.now.header.now (D.len out.new.disk.now) self.new.reached) }
         ensures more { OnOk result (self.old.reached ≤ self.new.reached) }
         ensures order { OnErr result (self.new.order ≡ self.old.order) }
         ensures untold { OnErr result (T.heard out.new.told.now ≡ T.heard out.old.told.now) }
         ensures stopped { OnErr result (Grows out.old.back.now (λ q. held_stops self.old.clients.items q ++ stops_for ((solo.now.number, item.Offer solo.now.call solo.now.offer.now) ∷ []) q) out.new.back.now) }
-        ensures refused { OnErr result (IsRefusedAlone (dataset_setting dataset.now) solo.now.number solo.now.call solo.now.offer.now
+        ensures refused { OnErr result (IsRefusedAlone (dataset_setting dataset.now) solo.now.call (solo.now.number, solo.now.offer.now)
             (standing D.Disk T.Told self.old out.old) (D.held out.new.disk.now) out.new.records.now) }
         ensures from { D.from out.new.disk.now ≡ 0 }
         ensures longer { D.len out.old.disk.now ≤ D.len out.new.disk.now }
@@ -152,14 +152,14 @@ impl Owner {
         ensures same { AreSame out.old out.new }
         ensures records { out.new.records.now ≡ out.old.records.now }
         ensures clients { self.new.clients ≡ self.old.clients }
-        ensures done { OnOk result (IsAlone dataset.now.hints.now (dataset_setting dataset.now) solo.now.number solo.now.call solo.now.offer.now
+        ensures done { OnOk result (IsAlone dataset.now.hints.now (dataset_setting dataset.now) solo.now.call (solo.now.number, solo.now.offer.now)
             (standing D.Disk T.Told self.old out.old) (standing D.Disk T.Told self.new out.new)) }
         ensures reached { OnOk result (IsCount dataset.now.header.now (D.len out.old.disk.now) self.old.reached → IsCount dataset.now.header.now (D.len out.new.disk.now) self.new.reached) }
         ensures more { OnOk result (self.old.reached ≤ self.new.reached) }
         ensures order { OnErr result (self.new.order ≡ self.old.order) }
         ensures untold { OnErr result (T.heard out.new.told.now ≡ T.heard out.old.told.now) }
         ensures lines { OnErr result (out.new.back.now ≡ out.old.back.now) }
-        ensures refused { OnErr result (IsRefusedAlone (dataset_setting dataset.now) solo.now.number solo.now.call solo.now.offer.now
+        ensures refused { OnErr result (IsRefusedAlone (dataset_setting dataset.now) solo.now.call (solo.now.number, solo.now.offer.now)
             (standing D.Disk T.Told self.old out.old) (D.held out.new.disk.now) out.new.records.now) }
         ensures from { D.from out.new.disk.now ≡ 0 }
         ensures longer { D.len out.old.disk.now ≤ D.len out.new.disk.now }

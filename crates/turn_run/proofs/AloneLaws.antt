@@ -28,7 +28,7 @@ use Rattle.run_laws.proofs.CallLaws.{hears_keeps, solo_keeps}
 use Rattle.turn_run.specs.Counts.{IsAsked}
 use Rattle.turn_run.specs.Running.{asking, between, calls_of, going_of, AsksAlone, HasHeard, IsPlaced, IsPlacedWith, IsRunner}
 use Rattle.run_laws.specs.Arrivals.{solo_to, step_calls, step_to, Arrived}
-use Rattle.turn_run.specs.Stages.{arrived, stage, HasGone, IsGrownBy, Leads}
+use Rattle.turn_run.specs.Stages.{arrived, stage, HasGone, IsGrownBy, Leads, rank_stage}
 use Rattle.turn_run.specs.declared.runners.Runner.{Runner}
 use Rattle.turn_run.proofs.RunnerLaws.{advance_ended}
 use Rattle.turn_run.proofs.StageLaws.{led_none, led_then}
@@ -101,11 +101,11 @@ alone_led hints s r n (Some file) left calls made t o reply to heard bytes over 
 pub gone_alone : (hints : Hints) (s : Setting) (r n : ℕ) (before now : List Mark) (held left : Option (List ℕ)) (calls made : Option (List DiskCall)) (t : Going) (o : Offer) (to : Arrived)
     → now ≡ before ++ Solo r n ∷ []
     → ((records : ℕ) (ranks : List Arrived) → slice_get ranks r ≡ Some (t, Some o) → Leads hints s (Solo r n ∷ []) (stage held calls records ranks) (stage left made records (set ranks r to)))
-    → HasGone hints s r before now held calls left made (t, Some o) to
+    → HasGone hints s r (rank_stage before held calls (t, Some o)) (rank_stage now left made to)
 gone_alone hints s r n before now held left calls made t o to e led = record { more = Solo r n ∷ []; grown = e; own = one_of r n; led = led }
 
 pub gone_same : (hints : Hints) (s : Setting) (r : ℕ) (order : List Mark) (held : Option (List ℕ)) (calls : Option (List DiskCall)) (from to : Arrived) → from ≡ to
-    → HasGone hints s r order order held calls held calls from to
+    → HasGone hints s r (rank_stage order held calls from) (rank_stage order held calls to)
 gone_same hints s r order held calls from to e = record {
   more = [];
   grown = sym (append-nil order);
@@ -116,7 +116,7 @@ gone_same hints s r order held calls from to e = record {
 }
 
 pub gone_then : (hints : Hints) (s : Setting) (r : ℕ) (before now later : List Mark) (held left last : Option (List ℕ)) (calls made done : Option (List DiskCall)) (from mid to : Arrived)
-    → HasGone hints s r before now held calls left made from mid → HasGone hints s r now later left made last done mid to → HasGone hints s r before later held calls last done from to
+    → HasGone hints s r (rank_stage before held calls from) (rank_stage now left made mid) → HasGone hints s r (rank_stage now left made mid) (rank_stage later last done to) → HasGone hints s r (rank_stage before held calls from) (rank_stage later last done to)
 gone_then hints s r before now later held left last calls made done from mid to first second = record {
   more = first.more ++ second.more;
   grown = second.grown ∙ ap (λ (ms : List Mark). ms ++ second.more) first.grown ∙ append_assoc before first.more second.more;
@@ -139,7 +139,7 @@ pub grown_one : (r n : ℕ) (before now : List Mark) → now ≡ before ++ Solo 
 grown_one r n before now e = record { more = Solo r n ∷ []; grown = e; own = one_of r n }
 
 pub gone_grown : (hints : Hints) (s : Setting) (r : ℕ) (before now : List Mark) (held left : Option (List ℕ)) (calls made : Option (List DiskCall)) (from to : Arrived)
-    → HasGone hints s r before now held calls left made from to → IsGrownBy r before now
+    → HasGone hints s r (rank_stage before held calls from) (rank_stage now left made to) → IsGrownBy r before now
 gone_grown hints s r before now held left calls made from to h = record { more = h.more; grown = h.grown; own = h.own }
 
 -- ---- the reply to a solo step
@@ -169,7 +169,7 @@ went_runner script header order r own new e h p a =
 
 pub went_gone : (hints : Hints) (s : Setting) (r : ℕ) (order : List Mark) (held : Option (List ℕ)) (calls : Option (List DiskCall)) (header : Header) (own all : List Call) (old new : Runner)
     → own ≡ all → old.held ≡ None → advance header (between own old) ≡ (going_of own new, new.held) → (new.held ≡ None → drop (length new.answers) own ≡ [])
-    → HasGone hints s r order order held calls held calls (arrived header all old) (arrived header all new)
+    → HasGone hints s r (rank_stage order held calls (arrived header all old)) (rank_stage order held calls (arrived header all new))
 went_gone hints s r order held calls header own all old new e free gone ended =
     gone_same hints s r order held calls (arrived header all old) (arrived header all new)
     (subst (λ (o : List Call). arrived header o old ≡ arrived header o new) e (arrived_gone header own old new free gone ended))
@@ -184,7 +184,7 @@ same_runner a b e f h = λ i. record { rank = e i; answers = f i; held = h i }
 pub alone_asks : (script : Script) (header : Header) (order : List Mark) (r : ℕ) (own : List Call) (runner : Runner) (o : Offer) → runner.held ≡ Some o → o.kind ≡ offer.Solo
     → IsPlaced script header order r (going_of own runner) runner.held → AsksAlone script header order r (asking own runner) o
 alone_asks script header order r own runner o e k w =
-    subst (λ (j : OfferKind). IsPlacedWith script header order r (asking own runner) o j) k
+    subst (λ (j : OfferKind). IsPlacedWith script header order r (asking own runner, o) j) k
     (subst (λ (s : Going). IsPlaced script header order r s (Some o)) (going_held own runner o e) (subst (λ (m : Option Offer). IsPlaced script header order r (going_of own runner) m) e w))
 
 pub way_free : (script : Script) (header : Header) (order : List Mark) (r : ℕ) (own : List Call) (runner : Runner) → runner.held ≡ None

@@ -24,9 +24,10 @@ use Rattle.nc_base.specs.declared.step.DiskCall.{DiskCall}
 use Rattle.serial_spec.specs.Lawful.{is_lawful}
 use Rattle.run_laws.specs.Ahead.{is_solo_of}
 use Rattle.join_laws.proofs.Completing.{completed_by}
+use Rattle.turn_run.specs.Known.{point}
 use Rattle.turn_run.specs.Running.{AreRunners}
 use Rattle.run_laws.specs.Arrivals.{Arrived, Stand, step_to, solo_to}
-use Rattle.turn_run.specs.Stages.{Stage, Leads, IsLed, HasGone, IsGrownBy, stage}
+use Rattle.turn_run.specs.Stages.{Stage, Leads, IsLed, HasGone, IsGrownBy, stage, rank_stage}
 use Rattle.turn_run.specs.Cuts.{StopsAt, HasStopped, MayFollow, IsNext, bytes_at}
 use Rattle.turn_run.specs.declared.runners.Runner.{Runner}
 use Rattle.turn_run.proofs.AloneLaws.{grown_then}
@@ -38,8 +39,8 @@ use Rattle.list_laws.proofs.Places.{entry_set}
 -- ---- what went before
 
 pub stopped_then : (F : Mark → Type 0) (hints : Hints) (s : Setting) (fault : StepErr) (before mid now more : List Mark) (a b : Stage) (left : Option (List ℕ)) (count : ℕ)
-    → Leads hints s more a b → mid ≡ before ++ more → HasStopped F s fault mid now b.held b.records b.ranks left count
-    → HasStopped F s fault before now a.held a.records a.ranks left count
+    → Leads hints s more a b → mid ≡ before ++ more → HasStopped F s fault (point mid b.held b.records) b.ranks (point now left count)
+    → HasStopped F s fault (point before a.held a.records) a.ranks (point now left count)
 stopped_then F hints s fault before mid now more a b left count led grown h = record {
   more = more ++ h.more;
   grown = h.grown ∙ ap (λ (ms : List Mark). ms ++ h.more) grown ∙ append_assoc before more h.more;
@@ -64,7 +65,7 @@ stopped_then F hints s fault before mid now more a b left count led grown h = re
 
 -- as the next mark may be known by more
 pub stopped_as : (F G : Mark → Type 0) (s : Setting) (fault : StepErr) (before now : List Mark) (held : Option (List ℕ)) (records : ℕ) (ranks : List Arrived) (left : Option (List ℕ)) (count : ℕ)
-    → ((m : Mark) → F m → G m) → HasStopped F s fault before now held records ranks left count → HasStopped G s fault before now held records ranks left count
+    → ((m : Mark) → F m → G m) → HasStopped F s fault (point before held records) ranks (point now left count) → HasStopped G s fault (point before held records) ranks (point now left count)
 stopped_as F G s fault before now held records ranks left count f h = record { more = h.more; grown = h.grown; stops = by_held held h.stops }
   where
     by_stop : (stand : Stand) (bytes : List ℕ) → StopsAt F s fault stand bytes count → StopsAt G s fault stand bytes count
@@ -77,12 +78,12 @@ stopped_as F G s fault before now held records ranks left count f h = record { m
     by_held (Some file) (bytes, e, k) = (bytes, e, by_stop (fold (step_to s) (counted file records, ranks) h.more) bytes k)
 
 pub stopped_at : (F : Mark → Type 0) (s : Setting) (fault : StepErr) (before now : List Mark) (held left : Option (List ℕ)) (records n m : ℕ) (ranks : List Arrived)
-    → n ≡ m → HasStopped F s fault before now held records ranks left n → HasStopped F s fault before now held records ranks left m
-stopped_at F s fault before now held left records n m ranks e h = subst (λ (k : ℕ). HasStopped F s fault before now held records ranks left k) e h
+    → n ≡ m → HasStopped F s fault (point before held records) ranks (point now left n) → HasStopped F s fault (point before held records) ranks (point now left m)
+stopped_at F s fault before now held left records n m ranks e h = subst (λ (k : ℕ). HasStopped F s fault (point before held records) ranks (point now left k)) e h
 
 -- want of memory where nothing was begun
 pub stopped_between : (F : Mark → Type 0) (s : Setting) (fault : StepErr) (before now : List Mark) (held left : Option (List ℕ)) (records count : ℕ) (ranks : List Arrived)
-    → fault ≡ Memory → now ≡ before → left ≡ held → count ≡ records → HasStopped F s fault before now held records ranks left count
+    → fault ≡ Memory → now ≡ before → left ≡ held → count ≡ records → HasStopped F s fault (point before held records) ranks (point now left count)
 stopped_between F s fault before now held left records count ranks e o l k = record { more = []; grown = o ∙ sym (append-nil before); stops = by_held held l }
   where
     by_held : (m : Option (List ℕ)) → left ≡ m → IfSome m (λ file. (bytes : List ℕ) × (left ≡ Some bytes) × StopsAt F s fault (counted file records, ranks) bytes count)
@@ -110,7 +111,7 @@ solo_at s r n c ranks t o e = sym (ap (λ (m : Option Arrived). (elim m as (λ m
 -- in which the disk was refused, or memory after it
 pub stopped_solo : (F : Mark → Type 0) (s : Setting) (fault : StepErr) (r n : ℕ) (before now : List Mark) (held left : Option (List ℕ)) (t : Going) (o : Offer) → F (Solo r n) → now ≡ before
     → BothTold (λ old left. IsTorn (covered s.header (puts_of (r, o))) 0 old (solo s r o (counted old 0)).0.file left) held left
-    → (records : ℕ) (ranks : List Arrived) → slice_get ranks r ≡ Some (t, Some o) → HasStopped F s fault before now held records ranks left records
+    → (records : ℕ) (ranks : List Arrived) → slice_get ranks r ≡ Some (t, Some o) → HasStopped F s fault (point before held records) ranks (point now left records)
 stopped_solo F s fault r n before now held left t o f same torn records ranks e = record { more = []; grown = same ∙ sym (append-nil before); stops = by_held held torn }
   where
     by_held : (m : Option (List ℕ)) → BothTold (λ old left. IsTorn (covered s.header (puts_of (r, o))) 0 old (solo s r o (counted old 0)).0.file left) m left
@@ -128,7 +129,7 @@ stopped_solo F s fault r n before now held left t o f same torn records ranks e 
 -- the step was done, and its reply was not heard
 pub stopped_unheard : (F : Mark → Type 0) (s : Setting) (fault : StepErr) (r n : ℕ) (before now : List Mark) (held left : Option (List ℕ)) (t : Going) (o : Offer)
     → fault ≡ Memory → now ≡ before ++ Solo r n ∷ [] → left ≡ after (λ file. (solo s r o (counted file 0)).0.file) held
-    → (records : ℕ) (ranks : List Arrived) → slice_get ranks r ≡ Some (t, Some o) → HasStopped F s fault before now held records ranks left records
+    → (records : ℕ) (ranks : List Arrived) → slice_get ranks r ≡ Some (t, Some o) → HasStopped F s fault (point before held records) ranks (point now left records)
 stopped_unheard F s fault r n before now held left t o memory grown bytes records ranks e = record { more = Solo r n ∷ []; grown = grown; stops = by_held held bytes }
   where
     by_held : (m : Option (List ℕ)) → left ≡ after (λ file. (solo s r o (counted file 0)).0.file) m
@@ -154,9 +155,9 @@ own_is r n = equal_itself r
 -- ---- one rank's steps
 
 pub gone_stopped : (F : Mark → Type 0) (hints : Hints) (s : Setting) (r : ℕ) (fault : StepErr) (before mid now : List Mark) (held left last : Option (List ℕ))
-    (calls made : Option (List DiskCall)) (from to : Arrived) → HasGone hints s r before mid held calls left made from to
-    → ((records : ℕ) (ranks : List Arrived) → slice_get ranks r ≡ Some to → HasStopped F s fault mid now left records ranks last records)
-    → (records : ℕ) (ranks : List Arrived) → slice_get ranks r ≡ Some from → HasStopped F s fault before now held records ranks last records
+    (calls made : Option (List DiskCall)) (from to : Arrived) → HasGone hints s r (rank_stage before held calls from) (rank_stage mid left made to)
+    → ((records : ℕ) (ranks : List Arrived) → slice_get ranks r ≡ Some to → HasStopped F s fault (point mid left records) ranks (point now last records))
+    → (records : ℕ) (ranks : List Arrived) → slice_get ranks r ≡ Some from → HasStopped F s fault (point before held records) ranks (point now last records)
 gone_stopped F hints s r fault before mid now held left last calls made from to g next records ranks e =
     stopped_then F hints s fault before mid now g.more (stage held calls records ranks) (stage left made records (set ranks r to)) last records (g.led records ranks e) g.grown
     (next records (set ranks r to) (entry_set ranks r from to e))

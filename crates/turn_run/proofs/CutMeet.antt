@@ -32,6 +32,7 @@ use Rattle.nc_base.specs.declared.script.Script.{Script}
 use Rattle.serial_spec.specs.Lawful.{is_lawful}
 use Rattle.run_laws.specs.Ways.{meetings}
 use Rattle.join_laws.proofs.Completing.{completed_by}
+use Rattle.turn_run.specs.Known.{point}
 use Rattle.turn_run.specs.Running.{AreRunners, HaveArrived, HaveMet}
 use Rattle.turn_run.proofs.MeetDone.{begun_after}
 use Rattle.turn_run.specs.Cuts.{StopsAt, HasStopped, IsNext, bytes_at}
@@ -231,7 +232,7 @@ met_count s batches known file r = raised_records s (laid s (puts_in batches) fi
 pub stopped_meet : (F : Mark → Type 0) (s : Setting) (fault : StepErr) (k : ℕ) (before now : List Mark) (held left : Option (List ℕ)) (calls : List (List Call)) (runners : List Runner)
     (batches : List Batch) (known r n : ℕ) → F (Meet k) → now ≡ before → length calls ≡ length runners → AllHold runners → batches ≡ batches_of (held_offers runners) → known ≡ known_of (held_offers runners)
     → BothTold (λ old left. IsTorn (covered s.header (puts_in batches)) (byte_len (count_width s.header.version)) old (met s batches known (counted old r)).file left) held left
-    → (n ≡ r) ⊎ (n ≡ max r (max (needed_now s (puts_in batches)) known)) → HasStopped F s fault before now held r (arrived_all s.header calls runners) left n
+    → (n ≡ r) ⊎ (n ≡ max r (max (needed_now s (puts_in batches)) known)) → HasStopped F s fault (point before held r) (arrived_all s.header calls runners) (point now left n)
 stopped_meet F s fault k before now held left calls runners batches known r n f same l hold e g torn count = record { more = []; grown = same ∙ sym (append-nil before); stops = by_held held torn }
   where
     by_count : (file : List ℕ) → (n ≡ r) ⊎ (n ≡ max r (max (needed_now s (puts_in batches)) known)) → (n ≡ r) ⊎ (n ≡ (met s batches known (counted file r)).records)
@@ -254,7 +255,7 @@ stopped_meet F s fault k before now held left calls runners batches known r n f 
 pub stopped_deaf : (F : Mark → Type 0) (s : Setting) (fault : StepErr) (k : ℕ) (before now : List Mark) (held left : Option (List ℕ)) (calls : List (List Call)) (runners : List Runner)
     (batches : List Batch) (known r n : ℕ) → fault ≡ Memory → now ≡ before ++ Meet k ∷ [] → length calls ≡ length runners → AllHold runners → batches ≡ batches_of (held_offers runners)
     → known ≡ known_of (held_offers runners) → left ≡ after (λ file. (met s batches known (counted file r)).file) held → n ≡ max r (max (needed_now s (puts_in batches)) known)
-    → HasStopped F s fault before now held r (arrived_all s.header calls runners) left n
+    → HasStopped F s fault (point before held r) (arrived_all s.header calls runners) (point now left n)
 stopped_deaf F s fault k before now held left calls runners batches known r n memory grown l hold e g bytes count = record { more = Meet k ∷ []; grown = grown; stops = by_held held bytes }
   where
     by_held : (m : Option (List ℕ)) → left ≡ after (λ file. (met s batches known (counted file r)).file) m

@@ -28,6 +28,7 @@ use Rattle.collective_round.specs.Rounds.{as_setting, counted}
 use Rattle.collective_round.proofs.TornFiles.{torn_by}
 use Rattle.run_laws.proofs.LawfulLaws.{ranks_lawful}
 use Rattle.join_laws.proofs.Completing.{completed}
+use Rattle.turn_run.specs.Known.{point}
 use Rattle.turn_run.specs.Begun.{HasBegun}
 use Rattle.turn_run.specs.Cuts.{StopsAt, HasStopped, IsNext, bytes_at}
 use Rattle.turn_run.specs.Cuts.StopsAt.{in_step, between}
@@ -62,7 +63,7 @@ Ends script s e held records ranks order left count =
 -- ---- before the close
 
 pub ends_before : (script : Script) (s : Setting) (e : StepErr) (before order : List Mark) (held : Option (List ℕ)) (records : ℕ) (ranks : List Arrived) (left : Option (List ℕ)) (count : ℕ)
-    → before ≡ [] → HasStopped (IsNext script order) s e before order held records ranks left count
+    → before ≡ [] → HasStopped (IsNext script order) s e (point before held records) ranks (point order left count)
     → IfSome held (λ file. (bytes : List ℕ) × (left ≡ Some bytes) × EndsAt script s e (fold (step_to s) (counted file records, ranks) order) order bytes count)
 ends_before script s e before order held records ranks left count none h =
     by_held held (subst (λ (ms : List Mark). IfSome held (λ file. (bytes : List ℕ) × (left ≡ Some bytes) × StopsAt (IsNext script order) s e (fold (step_to s) (counted file records, ranks) ms) bytes count)) all h.stops)
@@ -233,7 +234,7 @@ stood_first script header e order (Some file) left records count lawful memory n
 -- the answers that are left
 pub cut_answers : (script : Script) (header : Header) (e x : StepErr) (records : ℕ) (first last : List Runner) (before order : List Mark) (file : List ℕ) (answers : List (List Answer))
     → is_lawful script ≡ true → records ≡ header.records → first ≡ replicate script.ranks (first_runner header records) → before ≡ [] → (e ≡ x) ⊎ (e ≡ fault.Memory)
-    → HaveAnswers (setting_of script header) x before order (Some file) records (all_between script.calls first) last → (answers ≡ map (λ runner. runner.answers) last) ⊎ (answers ≡ [])
+    → HaveAnswers (setting_of script header) x (point before (Some file) records) (all_between script.calls first) order last → (answers ≡ map (λ runner. runner.answers) last) ⊎ (answers ≡ [])
     → (r : ℕ) (g : Going) (own : List Answer) → slice_get (state_after script header file order).1 r ≡ Some g → slice_get answers r ≡ Some own → HasAnswers header e g own
 cut_answers script header e x records first last before order file answers lawful count all none which h are r g own at is = by_answers are
   where

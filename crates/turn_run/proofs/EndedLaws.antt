@@ -17,6 +17,7 @@ use Rattle.serial_spec.specs.SoundHeaders.{is_sound}
 use Rattle.serial_spec.specs.Torn.{IsTorn}
 use Rattle.collective_round.specs.Rounds.{as_setting, counted}
 use Rattle.turn_run.proofs.CutRuns.{raised_torn}
+use Rattle.turn_run.specs.Known.{contents_of}
 use Rattle.turn_run.specs.RankEnds.{EndedAt, HasClosed, NoneBroke, most_known_of}
 use Rattle.turn_run.specs.RankEnds.EndedAt.{as_left, in_close}
 
@@ -25,7 +26,7 @@ pub record Closing (header : Header) (ends : List RankEnd) (before : ServeEnd) (
     (left : Option (List ℕ)) (made : Option (List DiskCall)) (failed records : ℕ) (end : RunEnd) : Type 0 where
   pub order : end.order ≡ before.order
   pub went : end.fault ≡ None → (before.fault ≡ None) × NoneBroke ends
-  pub closed : end.fault ≡ None → HasClosed header (most_known_of ends) count held calls records left made
+  pub closed : end.fault ≡ None → HasClosed header (most_known_of ends) (contents_of held count) (contents_of left records) calls made
   pub sound : end.fault ≡ None → is_sound (record header { records = records }) ≡ true
   pub answers : end.fault ≡ None → end.answers ≡ map (λ x. x.answers) ends
   pub pending : end.fault ≡ None → end.pending ≡ map (λ x. x.pending) ends
@@ -36,32 +37,32 @@ pub record Closing (header : Header) (ends : List RankEnd) (before : ServeEnd) (
 -- the same with a fault
 pub record EndOfCut (header : Header) (ends : List RankEnd) (before : ServeEnd) (e : StepErr) (held : Option (List ℕ)) (count : ℕ) (left : Option (List ℕ)) (records : ℕ) (end : RunEnd) : Type 0 where
   pub order : end.order ≡ before.order
-  pub at : EndedAt header ends before.fault e held count left records
+  pub at : EndedAt header ends before.fault e (contents_of held count) (contents_of left records)
   pub rows : (end.answers ≡ map (λ x. x.answers) ends) ⊎ (end.answers ≡ [])
   pub whole : e ≡ fault.Disk → NoneBroke ends
   pub kept : e ≡ fault.Disk → end.answers ≡ map (λ x. x.answers) ends
 
-pub ended_memory : (header : Header) (ends : List RankEnd) (before : Option StepErr) (e : StepErr) (held : Option (List ℕ)) (count : ℕ) → e ≡ fault.Memory → EndedAt header ends before e held count held count
+pub ended_memory : (header : Header) (ends : List RankEnd) (before : Option StepErr) (e : StepErr) (held : Option (List ℕ)) (count : ℕ) → e ≡ fault.Memory → EndedAt header ends before e (contents_of held count) (contents_of held count)
 ended_memory header ends before e held count memory = as_left (inr memory) refl refl
 
-pub ended_before : (header : Header) (ends : List RankEnd) (before : Option StepErr) (e : StepErr) (held : Option (List ℕ)) (count : ℕ) → before ≡ Some e → EndedAt header ends before e held count held count
+pub ended_before : (header : Header) (ends : List RankEnd) (before : Option StepErr) (e : StepErr) (held : Option (List ℕ)) (count : ℕ) → before ≡ Some e → EndedAt header ends before e (contents_of held count) (contents_of held count)
 ended_before header ends before e held count some = as_left (inl some) refl refl
 
 pub ended_refused : (header : Header) (ends : List RankEnd) (before : Option StepErr) (e : StepErr) (held left : Option (List ℕ)) (count records known : ℕ) → before ≡ None → NoneBroke ends → known ≡ most_known_of ends
     → BothTold (λ old now. IsTorn [] (byte_len (count_width header.version)) old (raised (as_setting header) (counted old count) known).file now) held left → records ≡ count
-    → EndedAt header ends before e held count left records
+    → EndedAt header ends before e (contents_of held count) (contents_of left records)
 ended_refused header ends before e held left count records known none whole same torn k =
     in_close none whole (subst (λ (n : ℕ). BothTold (λ old now. IsTorn [] (byte_len (count_width header.version)) old (raised (as_setting header) (counted old count) n).file now) held left) same torn) (inl k)
 
 pub ended_closed : (header : Header) (ends : List RankEnd) (before : Option StepErr) (e : StepErr) (held left : Option (List ℕ)) (calls made : Option (List DiskCall)) (count records : ℕ) → before ≡ None → NoneBroke ends
-    → HasClosed header (most_known_of ends) count held calls records left made → EndedAt header ends before e held count left records
+    → HasClosed header (most_known_of ends) (contents_of held count) (contents_of left records) calls made → EndedAt header ends before e (contents_of held count) (contents_of left records)
 ended_closed header ends before e held left calls made count records none whole c =
     in_close none whole (raised_torn header held left count (most_known_of ends) c.bytes) (inr c.count)
 
 -- want of memory may follow it
 pub ended_as : (header : Header) (ends : List RankEnd) (before : Option StepErr) (x e : StepErr) (held left : Option (List ℕ)) (count records : ℕ) → (e ≡ x) ⊎ (e ≡ fault.Memory)
-    → EndedAt header ends before x held count left records → EndedAt header ends before e held count left records
-ended_as header ends before x e held left count records (inl same) at = subst (λ (y : StepErr). EndedAt header ends before y held count left records) (sym same) at
+    → EndedAt header ends before x (contents_of held count) (contents_of left records) → EndedAt header ends before e (contents_of held count) (contents_of left records)
+ended_as header ends before x e held left count records (inl same) at = subst (λ (y : StepErr). EndedAt header ends before y (contents_of held count) (contents_of left records)) (sym same) at
 ended_as header ends before x e held left count records (inr memory) (as_left which l k) = as_left (inr memory) l k
 ended_as header ends before x e held left count records (inr memory) (in_close none whole torn k) = in_close none whole torn k
 
@@ -69,7 +70,7 @@ ended_as header ends before x e held left count records (inr memory) (in_close n
 pub ended_err : {T : Type 0} (header : Header) (ends : List RankEnd) (before : Option StepErr) (r : Result T StepErr) (e : StepErr) (held left : Option (List ℕ)) (count records known : ℕ) → r ≡ Err e → before ≡ None → NoneBroke ends
     → known ≡ most_known_of ends
     → OnErr r (BothTold (λ old now. IsTorn [] (byte_len (count_width header.version)) old (raised (as_setting header) (counted old count) known).file now) held left) → OnErr r (records ≡ count)
-    → EndedAt header ends before e held count left records
+    → EndedAt header ends before e (contents_of held count) (contents_of left records)
 ended_err {T} header ends before r e held left count records known is none whole same torn k =
     ended_refused header ends before e held left count records known none whole same
     (subst (λ (q : Result T StepErr). OnErr q (BothTold (λ old now. IsTorn [] (byte_len (count_width header.version)) old (raised (as_setting header) (counted old count) known).file now) held left)) is torn)

@@ -80,7 +80,7 @@ meets_at script header len order runners all met come r runner e =
     let s = all.each r runner e in
     by_held runner.held refl (met r runner e) (come r runner e).met s.placed s.asked s.of_header
   where
-    by_kind : (s : Going) (o : Offer) (k : OfferKind) → (k ≡ offer.Solo → ⊥) → IsPlacedWith script header order r s o k → IsOnWay script order r s (Some o)
+    by_kind : (s : Going) (o : Offer) (k : OfferKind) → (k ≡ offer.Solo → ⊥) → IsPlacedWith script header order r (s, o) k → IsOnWay script order r s (Some o)
     by_kind s o offer.Solo n p = absurd (n refl)
     by_kind s o (offer.Meet kind) n p = p
 

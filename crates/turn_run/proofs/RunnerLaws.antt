@@ -89,8 +89,8 @@ next_call own answers n c e l g = subst (λ (k : ℕ). slice_get own k ≡ Some 
 -- ---- at an offer
 
 placed_with : (script : Script) (header : Header) (order : List Mark) (r : ℕ) (s : Going) (o : Offer) (k : OfferKind) → k ≡ o.kind
-    → IsPlacedWith script header order r s o k → IsPlaced script header order r s (Some o)
-placed_with script header order r s o k e h = subst (λ (j : OfferKind). IsPlacedWith script header order r s o j) e h
+    → IsPlacedWith script header order r (s, o) k → IsPlaced script header order r s (Some o)
+placed_with script header order r s o k e h = subst (λ (j : OfferKind). IsPlacedWith script header order r (s, o) j) e h
 
 pub placed_meeting : (script : Script) (order : List Mark) (r : ℕ) (header : Header) (own : List Call) (rank next : machine.Rank) (answers : List Answer) (o : Offer) (c : Call)
     → IsOnWay script order r (at own rank answers) None → slice_get own (length answers) ≡ Some c → (next, want.Meet o) ≡ step header rank c
@@ -174,7 +174,7 @@ pub placed_rest : (script : Script) (header : Header) (order : List Mark) (r : �
 placed_rest script header order r s None w = way_rest script order r s None w
 placed_rest script header order r s (Some o) w = by_kind o.kind w
   where
-    by_kind : (k : OfferKind) → IsPlacedWith script header order r s o k → HasRest script order r
+    by_kind : (k : OfferKind) → IsPlacedWith script header order r (s, o) k → HasRest script order r
     by_kind offer.Solo h = alone_rest script header order r s o h
     by_kind (offer.Meet kind) h = way_rest script order r s (Some o) h
 

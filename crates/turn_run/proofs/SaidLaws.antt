@@ -26,9 +26,10 @@ use Rattle.serial_spec.specs.Torn.{Begins, HasAnswers}
 use Rattle.collective_round.specs.Rounds.{counted}
 use Rattle.run_laws.specs.Arrivals.{Arrived, Stand, solo_to, step_to}
 use Rattle.run_laws.proofs.WayLaws.{others_filter as solos_beside}
+use Rattle.turn_run.specs.Known.{point}
 use Rattle.turn_run.specs.Said.{HasSaid, SaysAt, AllSay, HasReached, AreAnswers, HaveAnswers, all_between}
 use Rattle.turn_run.specs.Running.{between, calls_of, AreFree, HasArrived}
-use Rattle.turn_run.specs.Stages.{Stage, Leads, IsLed, HasGone, HasLed, IsGrownBy, arrived, arrived_all, stage}
+use Rattle.turn_run.specs.Stages.{Stage, Leads, IsLed, HasGone, HasLed, IsGrownBy, arrived, arrived_all, stage, rank_stage}
 use Rattle.turn_run.specs.declared.runners.Runner.{Runner}
 use Rattle.turn_run.proofs.AloneLaws.{arrived_free, arrived_held, step_at}
 use Rattle.turn_run.proofs.RunnerLaws.{advance_ended, answers_begin}
@@ -101,7 +102,7 @@ part_arrived header own all old answers e free (rest, h) = (
 -- ---- steps before
 
 pub reached_here : (P : Stand → Type 0) (s : Setting) (before now : List Mark) (held : Option (List ℕ)) (records : ℕ) (ranks : List Arrived) → now ≡ before → ((c : Counted) → P (c, ranks))
-    → HasReached P s before now held records ranks
+    → HasReached P s (point before held records) ranks now
 reached_here P s before now held records ranks e h = record { more = []; grown = e ∙ sym (append-nil before); ends = by_held held }
   where
     by_held : (m : Option (List ℕ)) → IfSome m (λ file. P (counted file records, ranks))
@@ -109,7 +110,7 @@ reached_here P s before now held records ranks e h = record { more = []; grown =
     by_held (Some file) = h (counted file records)
 
 pub reached_then : (P : Stand → Type 0) (hints : Hints) (s : Setting) (before mid now more : List Mark) (a b : Stage)
-    → Leads hints s more a b → mid ≡ before ++ more → HasReached P s mid now b.held b.records b.ranks → HasReached P s before now a.held a.records a.ranks
+    → Leads hints s more a b → mid ≡ before ++ more → HasReached P s (point mid b.held b.records) b.ranks now → HasReached P s (point before a.held a.records) a.ranks now
 reached_then P hints s before mid now more a b led grown h = record {
   more = more ++ h.more;
   grown = h.grown ∙ ap (λ (ms : List Mark). ms ++ h.more) grown ∙ append_assoc before more h.more;
@@ -128,9 +129,9 @@ reached_then P hints s before mid now more a b led grown h = record {
         subst P (ap (λ (stand : Stand). fold (step_to s) stand h.more) (sym l.state) ∙ sym (fold-append (step_to s) (counted file a.records, a.ranks) more h.more)) (at l.left l.told)
 
 pub gone_reached : (P : Stand → Type 0) (hints : Hints) (s : Setting) (r : ℕ) (before mid now : List Mark) (held left : Option (List ℕ)) (calls made : Option (List DiskCall)) (from to : Arrived)
-    → HasGone hints s r before mid held calls left made from to
-    → ((records : ℕ) (ranks : List Arrived) → slice_get ranks r ≡ Some to → HasReached P s mid now left records ranks)
-    → (records : ℕ) (ranks : List Arrived) → slice_get ranks r ≡ Some from → HasReached P s before now held records ranks
+    → HasGone hints s r (rank_stage before held calls from) (rank_stage mid left made to)
+    → ((records : ℕ) (ranks : List Arrived) → slice_get ranks r ≡ Some to → HasReached P s (point mid left records) ranks now)
+    → (records : ℕ) (ranks : List Arrived) → slice_get ranks r ≡ Some from → HasReached P s (point before held records) ranks now
 gone_reached P hints s r before mid now held left calls made from to g next records ranks e =
     reached_then P hints s before mid now g.more (stage held calls records ranks) (stage left made records (set ranks r to)) (g.led records ranks e) g.grown
     (next records (set ranks r to) (entry_set ranks r from to e))
@@ -138,7 +139,7 @@ gone_reached P hints s r before mid now held left calls made from to g next reco
 -- a solo step was done, and its reply was not heard
 pub reached_unheard : (s : Setting) (fault : StepErr) (r n : ℕ) (before now : List Mark) (held : Option (List ℕ)) (t : Going) (o : Offer) (answers : List Answer) → fault ≡ Memory
     → now ≡ before ++ Solo r n ∷ [] → answers ≡ t.answers
-    → (records : ℕ) (ranks : List Arrived) → slice_get ranks r ≡ Some (t, Some o) → HasReached (SaysAt r fault answers) s before now held records ranks
+    → (records : ℕ) (ranks : List Arrived) → slice_get ranks r ≡ Some (t, Some o) → HasReached (SaysAt r fault answers) s (point before held records) ranks now
 reached_unheard s fault r n before now held t o answers memory grown e records ranks there = record { more = Solo r n ∷ []; grown = grown; ends = by_held held }
   where
     at : (c : Counted) → SaysAt r fault answers (step_to s (c, ranks) (Solo r n))
@@ -219,7 +220,7 @@ answers_up header fault goings runners stand e h r g runner f k =
     said_up header fault g runner.answers (h r runner k (advance header g) (ap (λ (rs : List Arrived). slice_get rs r) (sym e) ∙ entry_map (advance header) goings r g f))
 
 pub have_reached : (s : Setting) (fault : StepErr) (before now : List Mark) (held : Option (List ℕ)) (records : ℕ) (goings : List Going) (ranks : List Arrived) (runners : List Runner)
-    → map (advance s.header) goings ≡ ranks → HasReached (AllSay fault runners) s before now held records ranks → HaveAnswers s fault before now held records goings runners
+    → map (advance s.header) goings ≡ ranks → HasReached (AllSay fault runners) s (point before held records) ranks now → HaveAnswers s fault (point before held records) goings now runners
 have_reached s fault before now held records goings ranks runners e h = record { more = h.more; grown = h.grown; said = by_held held h.ends }
   where
     by_held : (m : Option (List ℕ)) → IfSome m (λ file. AllSay fault runners (fold (step_to s) (counted file records, ranks) h.more))
@@ -257,8 +258,8 @@ pub answers_cut : (script : Script) (fault : StepErr) (n : ℕ) (before mid now 
     → IsGrownBy n mid now → ((r : ℕ) → n ≤ r → filter (concerns r) mid ≡ filter (concerns r) before)
     → ((r : ℕ) (runner : Runner) → r < n → slice_get runners r ≡ Some runner → HasArrived (calls_of script r) runner)
     → ((r : ℕ) → n ≤ r → slice_get runners r ≡ slice_get first r)
-    → HasReached (SaysAt n fault new.answers) s mid now left records (arrived_all s.header script.calls runners)
-    → HaveAnswers s fault before now held records (all_between script.calls first) (set runners n new)
+    → HasReached (SaysAt n fault new.answers) s (point mid left records) (arrived_all s.header script.calls runners) now
+    → HaveAnswers s fault (point before held records) (all_between script.calls first) now (set runners n new)
 answers_cut script fault n before mid now first runners was new s held left calls made records long free there led grown others come same reached = record {
   more = led.more ++ reached.more;
   grown = reached.grown ∙ ap (λ (ms : List Mark). ms ++ reached.more) led.grown ∙ append_assoc before led.more reached.more;

@@ -25,6 +25,7 @@ use Rattle.serial_spec.specs.SerialEnd.{Going, advance, after_mark, hears, offer
 use Rattle.serial_spec.specs.Torn.{Begins}
 use Rattle.collective_round.specs.Rounds.{counted, puts_in}
 use Rattle.run_laws.specs.Arrivals.{Arrived, Stand, heard, step_to}
+use Rattle.turn_run.specs.Known.{point}
 use Rattle.turn_run.specs.Said.{HasSaid, AllSay, HasReached, AreAnswers, HaveAnswers, HaveHeardInPart, KeepAnswers, all_between}
 use Rattle.turn_run.specs.Running.{asking, between, calls_of, reply_of, AreFreed, HasHeard, HaveArrived, HaveMet, AreRunners}
 use Rattle.turn_run.specs.Stages.{Stage, Leads, IsLed, HasLed, arrived, arrived_all, stand_of}
@@ -141,7 +142,7 @@ pub reached_deaf : (script : Script) (header : Header) (len : ℕ) (fault : Step
     → batches ≡ batches_of (held_offers runners) → known ≡ known_of (held_offers runners) → pair ≡ told s (puts_in batches)
     → n ≡ max r (max (needed_now s (puts_in batches)) known) → left ≡ after (λ file. (met s batches known (counted file r)).file) held
     → IfSome left (λ file. table ≡ map (λ b. map (get_post s file) b.gets) batches) → HaveHeardInPart pair n table runners now
-    → HasReached (AllSay fault now) s order now_order held r (arrived_all s.header script.calls runners)
+    → HasReached (AllSay fault now) s (point order held r) (arrived_all s.header script.calls runners) now_order
 reached_deaf script header len fault order now_order runners now batches known r n k s held left pair table of_header memory grown l m w all hold come e f p count bytes got part =
     record { more = Meet k ∷ []; grown = grown; ends = by_held held bytes }
   where
@@ -223,8 +224,8 @@ between_led hints s before order now_order k a b c goings bs first second e up s
 -- and then others go on
 answers_then : (hints : Hints) (s : Setting) (fault : StepErr) (before mid now more : List Mark) (a b : Stage) (goings bs : List Going) (runners : List Runner)
     → Leads hints s more a b → mid ≡ before ++ more → map (advance s.header) goings ≡ a.ranks
-    → IfSome a.held (λ file. (fold (after_mark s) (counted file a.records, goings) more).1 ≡ bs) → HaveAnswers s fault mid now b.held b.records bs runners
-    → HaveAnswers s fault before now a.held a.records goings runners
+    → IfSome a.held (λ file. (fold (after_mark s) (counted file a.records, goings) more).1 ≡ bs) → HaveAnswers s fault (point mid b.held b.records) bs now runners
+    → HaveAnswers s fault (point before a.held a.records) goings now runners
 answers_then hints s fault before mid now more a b goings bs runners led grown up same h = record {
   more = more ++ h.more;
   grown = h.grown ∙ ap (λ (ms : List Mark). ms ++ h.more) grown ∙ append_assoc before more h.more;
@@ -246,7 +247,7 @@ answers_then hints s fault before mid now more a b goings bs runners led grown u
 pub answers_after : (hints : Hints) (s : Setting) (fault : StepErr) (before order now_order later : List Mark) (k : ℕ) (a b c : Stage) (goings bs : List Going) (runners : List Runner)
     → HasLed hints s before order a b → HasLed hints s order now_order b c → now_order ≡ order ++ Meet k ∷ [] → map (advance s.header) goings ≡ a.ranks
     → ((gs : List Going) → map (advance s.header) gs ≡ b.ranks → IfSome b.held (λ file. (after_mark s (counted file b.records, gs) (Meet k)).1 ≡ bs))
-    → HaveAnswers s fault now_order later c.held c.records bs runners → HaveAnswers s fault before later a.held a.records goings runners
+    → HaveAnswers s fault (point now_order c.held c.records) bs later runners → HaveAnswers s fault (point before a.held a.records) goings later runners
 answers_after hints s fault before order now_order later k a b c goings bs runners first second e up step h =
     answers_then hints s fault before now_order later (first.more ++ second.more) a c goings bs runners (led_then hints s first.more second.more a b c first.led second.led)
     (second.grown ∙ ap (λ (ms : List Mark). ms ++ second.more) first.grown ∙ append_assoc before first.more second.more) up

@@ -21,7 +21,8 @@ use Rattle.serial_spec.specs.Readings.{told_of}
 use Rattle.serial_spec.specs.SerialEnd.{Going, after_mark, first_state, setting_of}
 use Rattle.collective_round.specs.Rounds.{counted, puts_in}
 use Rattle.run_laws.specs.Arrivals.{step_to, Arrived, Stand}
-use Rattle.turn_run.specs.Stages.{arrived_all, stage, stand_of, HasGone, HasLed, IsLed, Stage}
+use Rattle.turn_run.specs.Known.{point}
+use Rattle.turn_run.specs.Stages.{arrived_all, stage, stand_of, HasGone, HasLed, IsLed, Stage, rank_stage}
 use Rattle.turn_run.specs.Steps.{batches_of, first_runner, held_offers, known_of}
 use Rattle.turn_run.specs.Told.{counts_along, told_marks, told_over, HasTold, HasToldMore}
 use Rattle.turn_run.specs.declared.runners.Runner.{Runner}
@@ -36,11 +37,11 @@ use Rattle.nc_outside.proofs.ToldLaws.{with_end-with_end, with_end-nil}
 -- ---- nothing, and one step
 
 pub told_at : (s : Setting) (held : Option (List ℕ)) (n m : ℕ) (ranks : List Arrived) (before now : List Mark) (told heard : Option (List (Mark × ℕ)))
-    → n ≡ m → HasToldMore s held n ranks before now told heard → HasToldMore s held m ranks before now told heard
-told_at s held n m ranks before now told heard e h = subst (λ (k : ℕ). HasToldMore s held k ranks before now told heard) e h
+    → n ≡ m → HasToldMore s (point before held n) ranks now told heard → HasToldMore s (point before held m) ranks now told heard
+told_at s held n m ranks before now told heard e h = subst (λ (k : ℕ). HasToldMore s (point before held k) ranks now told heard) e h
 
 pub told_none : (s : Setting) (held : Option (List ℕ)) (records : ℕ) (ranks : List Arrived) (before now : List Mark) (told heard : Option (List (Mark × ℕ)))
-    → now ≡ before → heard ≡ told → HasToldMore s held records ranks before now told heard
+    → now ≡ before → heard ≡ told → HasToldMore s (point before held records) ranks now told heard
 told_none s held records ranks before now told heard e f = record {
   more = [];
   grown = e ∙ sym (append-nil before);
@@ -58,7 +59,7 @@ marks_ended (Some front) more = ap (λ (ms : List Mark). Some ms) (map-append (�
 
 told_one : (s : Setting) (m : Mark) (count : ℕ) (held : Option (List ℕ)) (records : ℕ) (ranks : List Arrived) (before now : List Mark) (told heard : Option (List (Mark × ℕ)))
     → now ≡ before ++ m ∷ [] → heard ≡ with_end told ((m, count) ∷ []) → ((file : List ℕ) → (step_to s (counted file records, ranks) m).0.records ≡ count)
-    → HasToldMore s held records ranks before now told heard
+    → HasToldMore s (point before held records) ranks now told heard
 told_one s m count held records ranks before now told heard e f after = record {
   more = m ∷ [];
   grown = e;
@@ -73,7 +74,7 @@ told_one s m count held records ranks before now told heard e f after = record {
 -- a solo step, which leaves the count of the file
 pub told_alone : (s : Setting) (r n : ℕ) (held : Option (List ℕ)) (records : ℕ) (before now : List Mark) (told heard : Option (List (Mark × ℕ))) (t : Going) (o : Offer)
     → now ≡ before ++ Solo r n ∷ [] → heard ≡ with_end told ((Solo r n, records) ∷ [])
-    → (ranks : List Arrived) → slice_get ranks r ≡ Some (t, Some o) → HasToldMore s held records ranks before now told heard
+    → (ranks : List Arrived) → slice_get ranks r ≡ Some (t, Some o) → HasToldMore s (point before held records) ranks now told heard
 told_alone s r n held records before now told heard t o e f ranks at =
     told_one s (Solo r n) records held records ranks before now told heard e f
     (λ file. ap (λ (c : Counted). c.records) (sym (solo_at s r n (counted file records) ranks t o at)))
@@ -81,7 +82,7 @@ told_alone s r n held records before now told heard t o e f ranks at =
 pub told_meeting : (s : Setting) (k : ℕ) (held : Option (List ℕ)) (calls : List (List Call)) (runners : List Runner) (batches : List Batch) (known r n : ℕ) (before now : List Mark)
     (told heard : Option (List (Mark × ℕ))) → now ≡ before ++ Meet k ∷ [] → heard ≡ with_end told ((Meet k, n) ∷ []) → length calls ≡ length runners → AllHold runners
     → batches ≡ batches_of (held_offers runners) → known ≡ known_of (held_offers runners) → n ≡ max r (max (needed_now s (puts_in batches)) known)
-    → HasToldMore s held r (arrived_all s.header calls runners) before now told heard
+    → HasToldMore s (point before held r) (arrived_all s.header calls runners) now told heard
 told_meeting s k held calls runners batches known r n before now told heard e f l hold b m count =
     told_one s (Meet k) n held r (arrived_all s.header calls runners) before now told heard e f
     (λ file. sym (count ∙ sym (met_count s batches known file r) ∙ ap (λ (c : Counted). c.records) (meet_at s calls runners batches known k (counted file r) l hold b m)))
@@ -94,8 +95,8 @@ told_split s stand (m ∷ marks) more =
     ap (λ (ts : List (Mark × ℕ)). (m, (step_to s stand m).0.records) ∷ ts) (told_split s (step_to s stand m) marks more)
 
 pub told_then : (hints : Hints) (s : Setting) (before now later : List Mark) (a b : Stage) (told heard last : Option (List (Mark × ℕ)))
-    → HasToldMore s a.held a.records a.ranks before now told heard → HasLed hints s before now a b → HasToldMore s b.held b.records b.ranks now later heard last
-    → HasToldMore s a.held a.records a.ranks before later told last
+    → HasToldMore s (point before a.held a.records) a.ranks now told heard → HasLed hints s before now a b → HasToldMore s (point now b.held b.records) b.ranks later heard last
+    → HasToldMore s (point before a.held a.records) a.ranks later told last
 told_then hints s before now later a b told heard last first led second = record {
   more = first.more ++ second.more;
   grown = second.grown ∙ ap (λ (ms : List Mark). ms ++ second.more) first.grown ∙ append_assoc before first.more second.more;
@@ -121,10 +122,10 @@ told_then hints s before now later a b told heard last first led second = record
 
 -- one rank's steps, and then others of it
 pub told_gone : (hints : Hints) (s : Setting) (r records : ℕ) (before now later : List Mark) (held left : Option (List ℕ)) (calls made : Option (List DiskCall)) (from to asks : Arrived)
-    (told heard last : Option (List (Mark × ℕ))) → HasGone hints s r before now held calls left made from to
-    → ((ranks : List Arrived) → slice_get ranks r ≡ Some from → HasToldMore s held records ranks before now told heard) → asks ≡ to
-    → ((ranks : List Arrived) → slice_get ranks r ≡ Some asks → HasToldMore s left records ranks now later heard last)
-    → (ranks : List Arrived) → slice_get ranks r ≡ Some from → HasToldMore s held records ranks before later told last
+    (told heard last : Option (List (Mark × ℕ))) → HasGone hints s r (rank_stage before held calls from) (rank_stage now left made to)
+    → ((ranks : List Arrived) → slice_get ranks r ≡ Some from → HasToldMore s (point before held records) ranks now told heard) → asks ≡ to
+    → ((ranks : List Arrived) → slice_get ranks r ≡ Some asks → HasToldMore s (point now left records) ranks later heard last)
+    → (ranks : List Arrived) → slice_get ranks r ≡ Some from → HasToldMore s (point before held records) ranks later told last
 told_gone hints s r records before now later held left calls made from to asks told heard last gone first e second ranks at =
     told_then hints s before now later (stage held calls records ranks) (stage left made records (set ranks r to)) told heard last (first ranks at)
     (record { more = gone.more; grown = gone.grown; led = gone.led records ranks at })
@@ -187,7 +188,7 @@ told_nothing script header held told order e = subst (λ (ms : List Mark). HasTo
 
 pub told_whole : (script : Script) (header : Header) (held : Option (List ℕ)) (records : ℕ) (runners : List Runner) (none made order : List Mark) (told heard : Option (List (Mark × ℕ)))
     → is_lawful script ≡ true → records ≡ header.records → runners ≡ replicate script.ranks (first_runner header records) → none ≡ [] → order ≡ made
-    → HasToldMore (setting_of script header) held records (arrived_all header script.calls runners) none made told heard → HasTold script header held told heard order
+    → HasToldMore (setting_of script header) (point none held records) (arrived_all header script.calls runners) made told heard → HasTold script header held told heard order
 told_whole script header held records runners none made order told heard lawful e first n o h = record {
   marks = h.marks ∙ ap (λ (ms : List Mark). with_end (told_marks told) ms) same;
   counts = by_held held h.counts;

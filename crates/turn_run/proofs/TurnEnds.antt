@@ -31,7 +31,7 @@ use Rattle.serial_spec.proofs.LawfulTests.{some_rank}
 -- ---- a rank that has arrived
 
 met_kind : (script : Script) (header : Header) (order : List Mark) (r : ℕ) (s : Going) (o : Offer) (kind : OfferKind) → (kind ≡ offer.Solo → ⊥)
-    → IsPlacedWith script header order r s o kind → IsOnWay script order r s (Some o)
+    → IsPlacedWith script header order r (s, o) kind → IsOnWay script order r s (Some o)
 met_kind script header order r s o offer.Solo n h = absurd (n refl)
 met_kind script header order r s o (offer.Meet kind) n h = h
 

@@ -23,6 +23,7 @@ use Rattle.collective_round.specs.Rounds.{as_setting, counted}
 use Rattle.run_laws.specs.Ways.{IsOnWay}
 use Rattle.run_laws.proofs.LawfulLaws.{ranks_lawful}
 use Rattle.run_laws.proofs.WayLaws.{way_begins}
+use Rattle.turn_run.specs.Known.{contents_of}
 use Rattle.turn_run.specs.Begun.{HasBegun}
 use Rattle.turn_run.specs.Counts.{IsCount}
 use Rattle.turn_run.specs.Said.{all_between}
@@ -135,7 +136,7 @@ pub record IsClosed (hints : Hints) (s : Setting) (stand : Stand) (order : List 
 
 led_closed : (script : Script) (header : Header) (order : List Mark) (calls made later : Option (List DiskCall)) (left held : Option (List ℕ)) (count records from : ℕ)
     (runners : List Runner) (ranks : List Arrived) (file : List ℕ) (told : Option (List ℕ)) → length script.calls ≡ length runners → AreOver script.calls runners
-    → HasClosed header (most_known runners) count left made records held later
+    → HasClosed header (most_known runners) (contents_of left count) (contents_of held records) made later
     → IsLed script.hints (setting_of script header) order file (stage told calls from ranks) (stage left made count (arrived_all header script.calls runners))
     → IsClosed script.hints (setting_of script header) (counted file from, ranks) order calls held later records runners
 led_closed script header order calls made later left held count records from runners ranks file told long over r led =
@@ -168,7 +169,7 @@ led_closed script header order calls made later left held count records from run
 pub run_closed : (script : Script) (header : Header) (before order : List Mark) (calls made later : Option (List DiskCall)) (told left held : Option (List ℕ))
     (count records from : ℕ) (runners : List Runner) (ranks : List Arrived) → before ≡ [] → length script.calls ≡ length runners → AreOver script.calls runners
     → HasLed script.hints (setting_of script header) before order (stage told calls from ranks) (stage left made count (arrived_all header script.calls runners))
-    → HasClosed header (most_known runners) count left made records held later
+    → HasClosed header (most_known runners) (contents_of left count) (contents_of held records) made later
     → IfSome told (λ file. IsClosed script.hints (setting_of script header) (counted file from, ranks) order calls held later records runners)
 run_closed script header before order calls made later told left held count records from runners ranks none long over h r =
     let all : h.more ≡ order = sym (h.grown ∙ ap (λ (ms : List Mark). ms ++ h.more) none) in
@@ -192,7 +193,7 @@ pub run_ended : (script : Script) (header : Header) (len : ℕ) (before order : 
     (count records from : ℕ) (runners : List Runner) (ranks : List Arrived) → is_lawful script ≡ true → before ≡ [] → AreRunners script header len order runners
     → AreFree runners → HaveArrived script runners
     → HasLed script.hints (setting_of script header) before order (stage told calls from ranks) (stage left made count (arrived_all header script.calls runners))
-    → HasClosed header (most_known runners) count left made records held later
+    → HasClosed header (most_known runners) (contents_of left count) (contents_of held records) made later
     → IfSome told (λ file. IsClosed script.hints (setting_of script header) (counted file from, ranks) order calls held later records runners)
 run_ended script header len before order calls made later told left held count records from runners ranks lawful none a f h led r =
     run_closed script header before order calls made later told left held count records from runners ranks none ((ranks_lawful script lawful).one_each ∙ sym a.all)

@@ -28,7 +28,7 @@ use Rattle.turn_run.specs.Begun.{HasBegun}
 use Rattle.turn_run.specs.Counts.{IsCount}
 use Rattle.turn_run.specs.Running.{calls_of, going_of, AreRunners, IsPlaced, IsPlacedWith, IsRunner}
 use Rattle.run_laws.specs.Arrivals.{Arrived}
-use Rattle.turn_run.specs.Stages.{arrived, arrived_all, stage, HasGone, HasLed, IsGrownBy, Leads}
+use Rattle.turn_run.specs.Stages.{arrived, arrived_all, stage, HasGone, HasLed, IsGrownBy, Leads, rank_stage}
 use Rattle.turn_run.specs.declared.runners.Runner.{Runner}
 use Rattle.turn_run.proofs.CountLaws.{count_longer}
 use Rattle.turn_run.proofs.RunnerLaws.{placed_rest, HasRest}
@@ -62,7 +62,7 @@ grown_meetings n before now g =
 -- ---- where the others are placed
 
 placed_with_more : (script : Script) (header : Header) (order more : List Mark) (r q : ℕ) (s : Going) (o : Offer) (kind : OfferKind) → q ≢ r
-    → list_all (is_solo_of q) more ≡ true → IsPlacedWith script header order r s o kind → IsPlacedWith script header (order ++ more) r s o kind
+    → list_all (is_solo_of q) more ≡ true → IsPlacedWith script header order r (s, o) kind → IsPlacedWith script header (order ++ more) r (s, o) kind
 placed_with_more script header order more r q s o offer.Solo n h w = record {
   before = w.before;
   call = w.call;
@@ -181,7 +181,7 @@ calls_there script r l =
 
 pub gone_led : (script : Script) (header : Header) (runners : List Runner) (n : ℕ) (was runner : Runner) (before now : List Mark) (held left : Option (List ℕ))
     (calls made : Option (List DiskCall)) → is_lawful script ≡ true → n < script.ranks → slice_get runners n ≡ Some was
-    → HasGone script.hints (setting_of script header) n before now held calls left made (arrived header (calls_of script n) was) (arrived header (calls_of script n) runner)
+    → HasGone script.hints (setting_of script header) n (rank_stage before held calls (arrived header (calls_of script n) was)) (rank_stage now left made (arrived header (calls_of script n) runner))
     → (records : ℕ) → HasLed script.hints (setting_of script header) before now
     (stage held calls records (arrived_all header script.calls runners)) (stage left made records (arrived_all header script.calls (set runners n runner)))
 gone_led script header runners n was runner before now held left calls made lawful l e g records =

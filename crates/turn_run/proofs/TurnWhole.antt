@@ -31,6 +31,7 @@ use Rattle.serial_spec.proofs.CountLaws.{raised_records}
 use Rattle.collective_round.specs.Rounds.{as_setting, counted}
 use Rattle.run_laws.specs.Arrivals.{all_calls_over, ended_from, step_to}
 use Rattle.run_laws.proofs.LawfulLaws.{ranks_lawful}
+use Rattle.turn_run.specs.Known.{point, contents_of, seen}
 use Rattle.turn_run.specs.Begun.{HasBegun}
 use Rattle.turn_run.specs.Counts.{IsCount}
 use Rattle.turn_run.specs.Cuts.{HasStopped, IsNext}
@@ -72,7 +73,7 @@ room_enough header ranks records capacity first last items all long are room =
 
 -- the run was stopped before its first step
 pub stopped_first : (script : Script) (header : Header) (held : Option (List ℕ)) (done : Option (List DiskCall)) (faults records : ℕ) (end : RunEnd) → is_lawful script ≡ true → records ≡ header.records
-    → end.order ≡ [] → end.fault ≡ Some fault.Memory → end.answers ≡ [] → IsRun script header held done faults held done faults records end
+    → end.order ≡ [] → end.fault ≡ Some fault.Memory → end.answers ≡ [] → IsRun script header (seen held done faults) (seen held done faults) records end
 stopped_first script header held done faults records end lawful count none memory empty =
     unbegun_run script header held done faults held done records end memory (subst (λ (ms : List Mark). HasBegun script ms) (sym none) (none_begun script)) (λ e is.
     let wanted = sym (same_cause fault.Memory e (sym memory ∙ is)) in
@@ -92,8 +93,8 @@ pub record HasMet (script : Script) (header : Header) (len : ℕ) (before : List
     (left : Option (List ℕ)) (made : Option (List DiskCall)) (failed count : ℕ) (last : List Runner) : Type 0 where
   pub through : served.fault ≡ None → IsThrough script header len before served.order held calls records first left made count last
   pub cut : (e : StepErr) → served.fault ≡ Some e
-      → HasStopped (IsNext script served.order) (setting_of script header) e before served.order held records (arrived_all header script.calls first) left count
-  pub answered : (e : StepErr) → served.fault ≡ Some e → HaveAnswers (setting_of script header) e before served.order held records (all_between script.calls first) last
+      → HasStopped (IsNext script served.order) (setting_of script header) e (point before held records) (arrived_all header script.calls first) (point served.order left count)
+  pub answered : (e : StepErr) → served.fault ≡ Some e → HaveAnswers (setting_of script header) e (point before held records) (all_between script.calls first) served.order last
   pub begun : HasBegun script served.order
   pub long : length last ≡ length script.calls
   pub cause : served.fault ≡ Some fault.Disk → Rose faults failed
@@ -122,7 +123,7 @@ module _ (script : Script) (header : Header) (len : ℕ) (before : List Mark) (s
   -- ---- with a fault
 
   all_said : (e : StepErr) → IsThrough script header len before served.order held calls records first left made count last
-      → HaveAnswers (setting_of script header) e before served.order held records (all_between script.calls first) last
+      → HaveAnswers (setting_of script header) e (point before held records) (all_between script.calls first) served.order last
   all_said e t =
       have_reached (setting_of script header) e before served.order held records (all_between script.calls first) (arrived_all header script.calls first) last
       (between_up header script.calls first (first_free header script.ranks records first all))
@@ -132,18 +133,18 @@ module _ (script : Script) (header : Header) (len : ℕ) (before : List Mark) (s
       (λ n. all_say_here script header e last last n ((ranks_lawful script lawful).one_each ∙ sym t.runners.all) refl t.arrived (keep_own last))))
 
   -- the answers may be those of a fault before it
-  said_at : (e : StepErr) (now : Option (List ℕ)) (total : ℕ) → EndedAt header ends served.fault e left count now total
-      → (x : StepErr) × (((e ≡ x) ⊎ (e ≡ fault.Memory)) × HaveAnswers (setting_of script header) x before served.order held records (all_between script.calls first) last)
+  said_at : (e : StepErr) (now : Option (List ℕ)) (total : ℕ) → EndedAt header ends served.fault e (contents_of left count) (contents_of now total)
+      → (x : StepErr) × (((e ≡ x) ⊎ (e ≡ fault.Memory)) × HaveAnswers (setting_of script header) x (point before held records) (all_between script.calls first) served.order last)
   said_at e now total (in_closing no_fault whole torn k) = (e, (inl refl, all_said e (h.through no_fault)))
   said_at e now total (as_left (inl some) l k) = (e, (inl refl, h.answered e some))
   said_at e now total (as_left (inr memory) l k) = by_fault served.fault refl
     where
       by_fault : (m : Option StepErr) → served.fault ≡ m
-          → (x : StepErr) × (((e ≡ x) ⊎ (e ≡ fault.Memory)) × HaveAnswers (setting_of script header) x before served.order held records (all_between script.calls first) last)
+          → (x : StepErr) × (((e ≡ x) ⊎ (e ≡ fault.Memory)) × HaveAnswers (setting_of script header) x (point before held records) (all_between script.calls first) served.order last)
       by_fault None f = (e, (inl refl, all_said e (h.through f)))
       by_fault (Some x) f = (x, (inr memory, h.answered x f))
 
-  ends_at : (e : StepErr) (now : Option (List ℕ)) (total : ℕ) → EndedAt header ends served.fault e left count now total
+  ends_at : (e : StepErr) (now : Option (List ℕ)) (total : ℕ) → EndedAt header ends served.fault e (contents_of left count) (contents_of now total)
       → IfSome held (λ file. (bytes : List ℕ) × (now ≡ Some bytes) × EndsAt script (setting_of script header) e
       (fold (step_to (setting_of script header)) (counted file records, arrived_all header script.calls first) served.order) served.order bytes total)
   ends_at e now total (in_closing no_fault whole torn which) =
@@ -174,10 +175,10 @@ module _ (script : Script) (header : Header) (len : ℕ) (before : List Mark) (s
       subst (λ (ms : List Mark). IfSome held (λ file. (bytes : List ℕ) × (now ≡ Some bytes) × IsCutRun script header file e ms bytes total end.answers)) (sym c.order)
       (cut_run script header e served.order held now total end.answers (cut_rows script e (map (λ runner. runner.answers) last) end.answers (length-map last (λ (runner : Runner). runner.answers) ∙ h.long) (λ disk. c.kept disk ∙ answers_are) rows)
       (λ file there. cut_answers script header e said.0 records first last before served.order file end.answers lawful same_count all none said.1.0
-      (subst (λ (m : Option (List ℕ)). HaveAnswers (setting_of script header) said.0 before served.order m records (all_between script.calls first) last) there said.1.1) rows)
+      (subst (λ (m : Option (List ℕ)). HaveAnswers (setting_of script header) said.0 (point before m records) (all_between script.calls first) served.order last) there said.1.1) rows)
       (ends_stood script header e records first served.order held now total lawful same_count all h.begun (ends_at e now total c.at)))
     where
-      said : (x : StepErr) × (((e ≡ x) ⊎ (e ≡ fault.Memory)) × HaveAnswers (setting_of script header) x before served.order held records (all_between script.calls first) last)
+      said : (x : StepErr) × (((e ≡ x) ⊎ (e ≡ fault.Memory)) × HaveAnswers (setting_of script header) x (point before held records) (all_between script.calls first) served.order last)
       said = said_at e now total c.at
 
       by_rows : (end.answers ≡ map (λ x. x.answers) ends) ⊎ (end.answers ≡ []) → (end.answers ≡ map (λ runner. runner.answers) last) ⊎ (end.answers ≡ [])
@@ -190,7 +191,7 @@ module _ (script : Script) (header : Header) (len : ℕ) (before : List Mark) (s
   -- ---- the run
 
   pub run_in_turn : (now : Option (List ℕ)) (later : Option (List DiskCall)) (risen total : ℕ) (end : RunEnd) → Closing header ends served left made failed count now later risen total end
-      → ((e : StepErr) → end.fault ≡ Some e → EndOfCut header ends served e left count now total end) → IsRun script header held calls faults now later risen total end
+      → ((e : StepErr) → end.fault ≡ Some e → EndOfCut header ends served e left count now total end) → IsRun script header (seen held calls faults) (seen now later risen) total end
   run_in_turn now later risen total end c cut = record {
     legal = λ good. let t = h.through (c.went good).0 in subst (λ (ms : List Mark). IsLegal script ms) (sym c.order) (ended_legal script header len served.order last lawful t.runners t.free t.arrived);
     bytes = λ good. if_told held (closed_so good) (λ file k. k.bytes ∙ ap (λ (x : End). Some x.bytes) (serial file));
@@ -219,7 +220,7 @@ module _ (script : Script) (header : Header) (len : ℕ) (before : List Mark) (s
       closed_so good =
           let t = h.through (c.went good).0 in
           run_ended script header len before served.order calls made later held left now count total records last (arrived_all header script.calls first) lawful none t.runners t.free t.arrived t.led
-          (subst (λ (n : ℕ). HasClosed header n count left made total now later) known_is (c.closed good))
+          (subst (λ (n : ℕ). HasClosed header n (contents_of left count) (contents_of now total) made later) known_is (c.closed good))
 
       by_fault : end.fault ≡ Some fault.Disk → (m : Option StepErr) → served.fault ≡ m → Rose faults risen
       by_fault disk None f = rose_before faults failed risen h.later (c.cause f disk)

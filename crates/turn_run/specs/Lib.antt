@@ -1,4 +1,5 @@
 pub mod Begun
+pub mod Known
 pub mod Run
 pub mod Counts
 pub mod Running

@@ -21,6 +21,7 @@ use Rattle.serial_spec.specs.Layout.{greatest}
 use Rattle.serial_spec.specs.RankMachine as machine
 use Rattle.serial_spec.specs.Torn.{IsTorn}
 use Rattle.collective_round.specs.Rounds.{as_setting, counted}
+use Rattle.turn_run.specs.Known.{Contents}
 use Rattle.turn_run.specs.declared.runners.Runner.{Runner}
 
 abbrev pub runner_end : RankStop → Runner → RankEnd
@@ -34,14 +35,14 @@ abbrev pub most_known_of : List RankEnd → ℕ
 most_known_of ends = greatest (map (λ end. end.known) ends)
 
 -- the count of a file was raised to what the ranks knew
-pub record HasClosed (header : Header) (known before : ℕ) (held : Option (List ℕ)) (calls : Option (List DiskCall)) (records : ℕ) (left : Option (List ℕ)) (made : Option (List DiskCall)) : Type 0 where
-  pub bytes : left ≡ after (λ file. (raised (as_setting header) (counted file before) known).file) held
-  pub count : records ≡ max before known
-  pub device : made ≡ with_end calls (store_records (as_setting header) (nat_lt before records))
+pub record HasClosed (header : Header) (known : ℕ) (old new : Contents) (calls made : Option (List DiskCall)) : Type 0 where
+  pub bytes : new.held ≡ after (λ file. (raised (as_setting header) (counted file old.records) known).file) old.held
+  pub count : new.records ≡ max old.records known
+  pub device : made ≡ with_end calls (store_records (as_setting header) (nat_lt old.records new.records))
 
 -- How a run ended with a fault: before the close, or in it, which may also have been done.
-pub data EndedAt (header : Header) (ends : List RankEnd) (before : Option StepErr) (cause : StepErr) (held : Option (List ℕ)) (count : ℕ) (left : Option (List ℕ)) (records : ℕ) : Type 0 where
-  as_left : (before ≡ Some cause) ⊎ (cause ≡ fault.Memory) → left ≡ held → records ≡ count → EndedAt header ends before cause held count left records
+pub data EndedAt (header : Header) (ends : List RankEnd) (before : Option StepErr) (cause : StepErr) (old new : Contents) : Type 0 where
+  as_left : (before ≡ Some cause) ⊎ (cause ≡ fault.Memory) → new.held ≡ old.held → new.records ≡ old.records → EndedAt header ends before cause old new
   in_close : before ≡ None → NoneBroke ends
-      → BothTold (λ old now. IsTorn [] (byte_len (count_width header.version)) old (raised (as_setting header) (counted old count) (most_known_of ends)).file now) held left
-      → (records ≡ count) ⊎ (records ≡ max count (most_known_of ends)) → EndedAt header ends before cause held count left records
+      → BothTold (λ file now. IsTorn [] (byte_len (count_width header.version)) file (raised (as_setting header) (counted file old.records) (most_known_of ends)).file now) old.held new.held
+      → (new.records ≡ old.records) ⊎ (new.records ≡ max old.records (most_known_of ends)) → EndedAt header ends before cause old new

@@ -1,8 +1,8 @@
 -- What a run of all ranks tells, in turn or on threads. (own)
---     IsRun script header held done faults left made failed count end
---         The run found the bytes `held` and the device calls `done`, where the disk tells them, and `faults` faults. It left the bytes `left`, the
---         device calls `made`, `failed` faults and the record count `count`. Without a fault its order is one of the script's histories, and all the
---         rest is that of the serial run along it. With one, the order begins as the ranks' calls do, and `cut` says what is left.
+--     IsRun script header old new count end
+--         The run found the disk as `old` has it, and left it as `new` has it, with the record count `count`. Without a fault its order is one of the
+--         script's histories, and all the rest is that of the serial run along it. With one, the order begins as the ranks' calls do, and `cut` says
+--         what is left.
 --     RunsOn disk script header old now count end
 --         the same from a disk as it was to the disk as it is
 --     HasCut script header held left count end
@@ -11,7 +11,6 @@ use Rattle.std.specs.Prelude.{◌≡◌, ℕ, ◌≤◌, List, true, IfSome, Non
 use Rattle.nc_base.specs.declared.header.Header.{Header}
 use Rattle.nc_base.specs.declared.run.RunEnd.{RunEnd}
 use Rattle.nc_base.specs.declared.script.Script.{Script}
-use Rattle.nc_base.specs.declared.step.DiskCall.{DiskCall}
 use Rattle.nc_base.specs.declared.step.StepErr.{StepErr}
 use Rattle.nc_base.specs.declared.step.StepErr.TheVariants.{Disk}
 use Rattle.nc_outside.specs.Cause.{Rose}
@@ -23,25 +22,24 @@ use Rattle.serial_spec.specs.History.{IsLegal}
 use Rattle.serial_spec.specs.SerialEnd.{serial_from}
 use Rattle.serial_spec.specs.Torn.{IsCutRun}
 use Rattle.turn_run.specs.Begun.{HasBegun}
+use Rattle.turn_run.specs.Known.{seen_on, DiskSeen}
 
 abbrev pub HasCut : Script → Header → Option (List ℕ) → Option (List ℕ) → ℕ → RunEnd → Type 0
 HasCut script header held left count end =
     (e : StepErr) → end.fault ≡ Some e → IfSome held (λ file. (bytes : List ℕ) × (left ≡ Some bytes) × IsCutRun script header file e end.order bytes count end.answers)
 
-pub record IsRun (script : Script) (header : Header) (held : Option (List ℕ)) (done : Option (List DiskCall)) (faults : ℕ)
-    (left : Option (List ℕ)) (made : Option (List DiskCall)) (failed count : ℕ) (end : RunEnd) : Type 0 where
+pub record IsRun (script : Script) (header : Header) (old new : DiskSeen) (count : ℕ) (end : RunEnd) : Type 0 where
   pub legal : end.fault ≡ None → IsLegal script end.order
-  pub bytes : end.fault ≡ None → IfSome held (λ file. left ≡ Some (serial_from script header file end.order).bytes)
-  pub records : end.fault ≡ None → IfSome held (λ file. count ≡ (serial_from script header file end.order).records)
-  pub answers : end.fault ≡ None → IfSome held (λ file. end.answers ≡ (serial_from script header file end.order).answers)
-  pub pending : end.fault ≡ None → IfSome held (λ file. end.pending ≡ (serial_from script header file end.order).pending)
-  pub calls : end.fault ≡ None → IfSome held (λ file. made ≡ with_end done (run_calls script header file end.order))
+  pub bytes : end.fault ≡ None → IfSome old.held (λ file. new.held ≡ Some (serial_from script header file end.order).bytes)
+  pub records : end.fault ≡ None → IfSome old.held (λ file. count ≡ (serial_from script header file end.order).records)
+  pub answers : end.fault ≡ None → IfSome old.held (λ file. end.answers ≡ (serial_from script header file end.order).answers)
+  pub pending : end.fault ≡ None → IfSome old.held (λ file. end.pending ≡ (serial_from script header file end.order).pending)
+  pub calls : end.fault ≡ None → IfSome old.held (λ file. new.calls ≡ with_end old.calls (run_calls script header file end.order))
   pub sound : end.fault ≡ None → is_sound (record header { records = count }) ≡ true
   pub begun : HasBegun script end.order
-  pub fault : end.fault ≡ Some Disk → Rose faults failed
-  pub later : faults ≤ failed
-  pub cut : HasCut script header held left count end
+  pub fault : end.fault ≡ Some Disk → Rose old.faults new.faults
+  pub later : old.faults ≤ new.faults
+  pub cut : HasCut script header old.held new.held count end
 
 abbrev pub RunsOn : {D : Type 0} → DiskGhosts D → Script → Header → D → D → ℕ → RunEnd → Type 0
-RunsOn disk script header old now count end =
-    IsRun script header (disk.held old) (disk.calls old) (disk.faults old) (disk.held now) (disk.calls now) (disk.faults now) count end
+RunsOn disk script header old now count end = IsRun script header (seen_on disk old) (seen_on disk now) count end

@@ -54,13 +54,14 @@ pub record AsksAlone (script : Script) (header : Header) (order : List Mark) (r 
   pub step : (s.rank, want.Solo o) ≡ machine.step header before call
   pub few : posts_held s.rank ≤ posts_held before + most_parts
 
-abbrev pub IsPlacedWith : Script → Header → List Mark → ℕ → Going → Offer → OfferKind → Type 0
-IsPlacedWith script header order r s o offer.Solo = AsksAlone script header order r s o
-IsPlacedWith script header order r s o (offer.Meet kind) = IsOnWay script order r s (Some o)
+-- with an offer of this kind
+abbrev pub IsPlacedWith : Script → Header → List Mark → ℕ → Going × Offer → OfferKind → Type 0
+IsPlacedWith script header order r x offer.Solo = AsksAlone script header order r x.0 x.1
+IsPlacedWith script header order r x (offer.Meet kind) = IsOnWay script order r x.0 (Some x.1)
 
 abbrev pub IsPlaced : Script → Header → List Mark → ℕ → Going → Option Offer → Type 0
 IsPlaced script header order r s None = IsOnWay script order r s None
-IsPlaced script header order r s (Some o) = IsPlacedWith script header order r s o o.kind
+IsPlaced script header order r s (Some o) = IsPlacedWith script header order r (s, o) o.kind
 
 pub record IsRunner (script : Script) (header : Header) (order : List Mark) (r : ℕ) (runner : Runner) : Type 0 where
   pub of_header : runner.rank.header ≡ header

@@ -18,6 +18,7 @@ use Rattle.serial_spec.specs.SerialEnd.{Going, after_mark}
 use Rattle.serial_spec.specs.Torn.{Begins, HasAnswers}
 use Rattle.collective_round.specs.Rounds.{counted}
 use Rattle.run_laws.specs.Arrivals.{Arrived, Stand, step_to}
+use Rattle.turn_run.specs.Known.{Point}
 use Rattle.turn_run.specs.Running.{between, reply_of, HasHeard}
 use Rattle.turn_run.specs.declared.runners.Runner.{Runner}
 
@@ -31,11 +32,11 @@ SaysAt r fault answers stand = (a : Arrived) → slice_get stand.1 r ≡ Some a 
 abbrev pub AllSay : StepErr → List Runner → Stand → Type 0
 AllSay fault runners stand = (r : ℕ) (runner : Runner) → slice_get runners r ≡ Some runner → SaysAt r fault runner.answers stand
 
--- from bytes, if they are told, a count and ranks at their next offers
-pub record HasReached (P : Stand → Type 0) (s : Setting) (before now : List Mark) (held : Option (List ℕ)) (records : ℕ) (ranks : List Arrived) : Type 0 where
+-- from a point with ranks at their next offers to an order
+pub record HasReached (P : Stand → Type 0) (s : Setting) (from : Point) (ranks : List Arrived) (now : List Mark) : Type 0 where
   pub more : List Mark
-  pub grown : now ≡ before ++ more
-  pub ends : IfSome held (λ file. P (fold (step_to s) (counted file records, ranks) more))
+  pub grown : now ≡ from.order ++ more
+  pub ends : IfSome from.held (λ file. P (fold (step_to s) (counted file from.records, ranks) more))
 
 abbrev pub all_between : List (List Call) → List Runner → List Going
 all_between [] runners = []
@@ -45,11 +46,11 @@ all_between (own ∷ calls) (runner ∷ runners) = between own runner ∷ all_be
 abbrev pub AreAnswers : Header → StepErr → List Going → List Runner → Type 0
 AreAnswers header fault goings runners = (r : ℕ) (g : Going) (runner : Runner) → slice_get goings r ≡ Some g → slice_get runners r ≡ Some runner → HasAnswers header fault g runner.answers
 
--- from bytes, if they are told, a count and ranks between two calls
-pub record HaveAnswers (s : Setting) (fault : StepErr) (before now : List Mark) (held : Option (List ℕ)) (records : ℕ) (goings : List Going) (runners : List Runner) : Type 0 where
+-- from a point with ranks between two calls to an order
+pub record HaveAnswers (s : Setting) (fault : StepErr) (from : Point) (goings : List Going) (now : List Mark) (runners : List Runner) : Type 0 where
   pub more : List Mark
-  pub grown : now ≡ before ++ more
-  pub said : IfSome held (λ file. AreAnswers s.header fault (fold (after_mark s) (counted file records, goings) more).1 runners)
+  pub grown : now ≡ from.order ++ more
+  pub said : IfSome from.held (λ file. AreAnswers s.header fault (fold (after_mark s) (counted file from.records, goings) more).1 runners)
 
 abbrev pub KeepAnswers : List Runner → List Runner → Type 0
 KeepAnswers before now = (r : ℕ) (a b : Runner) → slice_get before r ≡ Some a → slice_get now r ≡ Some b → b.answers ≡ a.answers

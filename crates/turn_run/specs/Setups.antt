@@ -3,6 +3,7 @@
 --     at_next, all_at_next              a rank of its runner, and all, at their next offers
 --     at_ask                            a rank at an offer that it makes alone
 --     stage_at ..                       the stage that stands between two steps
+--     point_at at held                  how far a run has come
 --     HasGoneOn, HasLedOn               the steps that one rank, or all, added
 --     IsCutAt, IsCutOff                 the same where a fault cut them off
 --     HasSaidUpTo, AllSayUpTo, HaveSaidUpTo      the answers so far, where a fault cut them off
@@ -17,8 +18,9 @@ use Rattle.serial_spec.specs.SerialEnd.{setting_of}
 use Rattle.run_laws.specs.Arrivals.{Arrived}
 use Rattle.turn_run.specs.Cuts.{HasStopped, IsNext, MayFollow}
 use Rattle.turn_run.specs.Said.{all_between, AllSay, HasReached, HaveAnswers, SaysAt}
+use Rattle.turn_run.specs.Known.{point, Point}
 use Rattle.turn_run.specs.Running.{asking, calls_of}
-use Rattle.turn_run.specs.Stages.{arrived, arrived_all, stage, HasGone, HasLed, Stage}
+use Rattle.turn_run.specs.Stages.{arrived, arrived_all, stage, HasGone, HasLed, RankStage, Stage}
 use Rattle.turn_run.specs.Told.{HasToldMore}
 use Rattle.turn_run.specs.declared.lent.Progress.{Progress}
 use Rattle.turn_run.specs.declared.lent.Setup.{Setup}
@@ -40,40 +42,41 @@ all_at_next setup runners = arrived_all setup.header.now setup.script.now.calls 
 abbrev pub stage_at : Setup → Option (List ℕ) → Option (List DiskCall) → Progress → List Runner → Stage
 stage_at setup held calls at runners = stage held calls at.records (all_at_next setup runners)
 
+-- how far a run has come on a file of these bytes, where they are told
+abbrev pub point_at : Progress → Option (List ℕ) → Point
+point_at at held = point at.order held at.records
+
 -- ---- steps of one rank, from one next offer to another, whatever ranks stand beside it
 
-abbrev pub HasGoneOn : Setup → ℕ → Progress → Progress → Option (List ℕ) → Option (List DiskCall) → Option (List ℕ) → Option (List DiskCall) → Arrived → Arrived → Type 0
-HasGoneOn setup r before now held calls left made from to = HasGone setup.script.now.hints (setting_in setup) r before.order now.order held calls left made from to
+abbrev pub HasGoneOn : Setup → ℕ → RankStage → RankStage → Type 0
+HasGoneOn setup r a b = HasGone setup.script.now.hints (setting_in setup) r a b
 
-abbrev pub IsCutAt : Setup → ℕ → StepErr → Progress → Progress → Option (List ℕ) → Option (List ℕ) → Arrived → Type 0
-IsCutAt setup r fault before now held left from = (records : ℕ) (ranks : List Arrived) → slice_get ranks r ≡ Some from
-    → HasStopped (MayFollow setup.script.now r now.order) (setting_in setup) fault before.order now.order held records ranks left records
+-- a rank with its number, whatever count there is
+abbrev pub IsCutAt : Setup → ℕ × Arrived → StepErr → Point → Point → Type 0
+IsCutAt setup own fault from to = (records : ℕ) (ranks : List Arrived) → slice_get ranks own.0 ≡ Some own.1
+    → HasStopped (MayFollow setup.script.now own.0 to.order) (setting_in setup) fault (point from.order from.held records) ranks (point to.order to.held records)
 
-abbrev pub HasSaidUpTo : Setup → ℕ → StepErr → Progress → Progress → Option (List ℕ) → Arrived → List Answer → Type 0
-HasSaidUpTo setup r fault before now held from answers = (records : ℕ) (ranks : List Arrived) → slice_get ranks r ≡ Some from
-    → HasReached (SaysAt r fault answers) (setting_in setup) before.order now.order held records ranks
+abbrev pub HasSaidUpTo : Setup → ℕ × Arrived → StepErr → Point → List Mark → List Answer → Type 0
+HasSaidUpTo setup own fault from now answers = (records : ℕ) (ranks : List Arrived) → slice_get ranks own.0 ≡ Some own.1
+    → HasReached (SaysAt own.0 fault answers) (setting_in setup) (point from.order from.held records) ranks now
 
-abbrev pub TellsOf : Setup → ℕ → Progress → Progress → Option (List ℕ) → Arrived → Option (List (Mark × ℕ)) → Option (List (Mark × ℕ)) → Type 0
-TellsOf setup r before now held from told heard = (ranks : List Arrived) → slice_get ranks r ≡ Some from
-    → HasToldMore (setting_in setup) held before.records ranks before.order now.order told heard
+abbrev pub TellsOf : Setup → ℕ × Arrived → Point → List Mark → Option (List (Mark × ℕ)) → Option (List (Mark × ℕ)) → Type 0
+TellsOf setup own from now told heard = (ranks : List Arrived) → slice_get ranks own.0 ≡ Some own.1 → HasToldMore (setting_in setup) from ranks now told heard
 
 -- ---- steps of all ranks, from one stage to another
 
 abbrev pub HasLedOn : Setup → Progress → Progress → Stage → Stage → Type 0
 HasLedOn setup before now a b = HasLed setup.script.now.hints (setting_in setup) before.order now.order a b
 
-abbrev pub IsCutOff : Setup → StepErr → Progress → Progress → Option (List ℕ) → List Runner → Option (List ℕ) → Type 0
-IsCutOff setup fault before now held runners left =
-    HasStopped (IsNext setup.script.now now.order) (setting_in setup) fault before.order now.order held before.records (all_at_next setup runners) left now.records
+abbrev pub IsCutOff : Setup → StepErr → Point → List Runner → Point → Type 0
+IsCutOff setup fault from runners to = HasStopped (IsNext setup.script.now to.order) (setting_in setup) fault from (all_at_next setup runners) to
 
-abbrev pub HaveSaidUpTo : Setup → StepErr → Progress → Progress → Option (List ℕ) → List Runner → List Runner → Type 0
-HaveSaidUpTo setup fault before now held runners last =
-    HaveAnswers (setting_in setup) fault before.order now.order held before.records (all_between setup.script.now.calls runners) last
+abbrev pub HaveSaidUpTo : Setup → StepErr → Point → List Runner → List Mark → List Runner → Type 0
+HaveSaidUpTo setup fault from runners now last = HaveAnswers (setting_in setup) fault from (all_between setup.script.now.calls runners) now last
 
 -- all ranks in a meeting
-abbrev pub AllSayUpTo : Setup → StepErr → Progress → Progress → Option (List ℕ) → List Runner → List Runner → Type 0
-AllSayUpTo setup fault before now held runners last =
-    HasReached (AllSay fault last) (setting_in setup) before.order now.order held before.records (all_at_next setup runners)
+abbrev pub AllSayUpTo : Setup → StepErr → Point → List Runner → List Mark → List Runner → Type 0
+AllSayUpTo setup fault from runners now last = HasReached (AllSay fault last) (setting_in setup) from (all_at_next setup runners) now
 
-abbrev pub HasToldOn : Setup → Progress → Progress → Option (List ℕ) → List Runner → Option (List (Mark × ℕ)) → Option (List (Mark × ℕ)) → Type 0
-HasToldOn setup before now held runners told heard = HasToldMore (setting_in setup) held before.records (all_at_next setup runners) before.order now.order told heard
+abbrev pub HasToldOn : Setup → Point → List Runner → List Mark → Option (List (Mark × ℕ)) → Option (List (Mark × ℕ)) → Type 0
+HasToldOn setup from runners now told heard = HasToldMore (setting_in setup) from (all_at_next setup runners) now told heard

@@ -3,6 +3,7 @@
 --     arrived_all               the same of all ranks
 --     Leads hints s marks a b   where the bytes are told, the steps of these marks lead from one stage to the other
 --     IsGrownBy r before now    an order to which solo steps of rank r were added
+--     RankStage                 what stands between two steps of one rank, whatever count and ranks stand beside it
 --     HasGone, HasLed           the steps that were added, of one rank and of all
 use Rattle.std.specs.Prelude.{◌≡◌, ℕ, List, [], ◌∷◌, ◌++◌, fold, set, true, Option, Some, None, IfSome, slice_get}
 use Rattle.std.specs.List.{list_all}
@@ -58,14 +59,23 @@ pub record IsGrownBy (r : ℕ) (before now : List Mark) : Type 0 where
   pub grown : now ≡ before ++ more
   pub own : list_all (is_solo_of r) more ≡ true
 
+-- the order, bytes and device calls, where they are told, and the rank at an offer
+pub record RankStage : Type 0 where
+  pub order : List Mark
+  pub held : Option (List ℕ)
+  pub calls : Option (List DiskCall)
+  pub rank : Arrived
+
+abbrev pub rank_stage : List Mark → Option (List ℕ) → Option (List DiskCall) → Arrived → RankStage
+rank_stage order held calls rank = record { order = order; held = held; calls = calls; rank = rank }
+
 -- Rank r goes from one offer to another, whatever count and ranks stand beside it.
-pub record HasGone (hints : Hints) (s : Setting) (r : ℕ) (before now : List Mark) (held : Option (List ℕ)) (calls : Option (List DiskCall))
-    (left : Option (List ℕ)) (made : Option (List DiskCall)) (from to : Arrived) : Type 0 where
+pub record HasGone (hints : Hints) (s : Setting) (r : ℕ) (a b : RankStage) : Type 0 where
   pub more : List Mark
-  pub grown : now ≡ before ++ more
+  pub grown : b.order ≡ a.order ++ more
   pub own : list_all (is_solo_of r) more ≡ true
-  pub led : (records : ℕ) (ranks : List Arrived) → slice_get ranks r ≡ Some from
-      → Leads hints s more (stage held calls records ranks) (stage left made records (set ranks r to))
+  pub led : (records : ℕ) (ranks : List Arrived) → slice_get ranks r ≡ Some a.rank
+      → Leads hints s more (stage a.held a.calls records ranks) (stage b.held b.calls records (set ranks r b.rank))
 
 pub record HasLed (hints : Hints) (s : Setting) (before now : List Mark) (a b : Stage) : Type 0 where
   pub more : List Mark

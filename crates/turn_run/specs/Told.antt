@@ -14,6 +14,7 @@ use Rattle.serial_spec.specs.FileStep.{Setting}
 use Rattle.serial_spec.specs.Readings.{told_of}
 use Rattle.collective_round.specs.Rounds.{counted}
 use Rattle.run_laws.specs.Arrivals.{Arrived, Stand, step_to}
+use Rattle.turn_run.specs.Known.{Point}
 
 abbrev pub counts_along : {U : Type 0} → (U → Mark → U) → (U → ℕ) → U → List Mark → List (Mark × ℕ)
 counts_along step count u [] = []
@@ -25,12 +26,12 @@ told_over s stand marks = counts_along (step_to s) (λ at. at.0.records) stand m
 abbrev pub told_marks : Option (List (Mark × ℕ)) → Option (List Mark)
 told_marks told = option_map (map (λ t. t.0)) told
 
--- from bytes, if they are told, a count and ranks at their next offers
-pub record HasToldMore (s : Setting) (held : Option (List ℕ)) (records : ℕ) (ranks : List Arrived) (before now : List Mark) (told heard : Option (List (Mark × ℕ))) : Type 0 where
+-- from a point with ranks at their next offers to an order
+pub record HasToldMore (s : Setting) (from : Point) (ranks : List Arrived) (now : List Mark) (told heard : Option (List (Mark × ℕ))) : Type 0 where
   pub more : List Mark
-  pub grown : now ≡ before ++ more
+  pub grown : now ≡ from.order ++ more
   pub marks : told_marks heard ≡ with_end (told_marks told) more
-  pub counts : IfSome held (λ file. heard ≡ with_end told (told_over s (counted file records, ranks) more))
+  pub counts : IfSome from.held (λ file. heard ≡ with_end told (told_over s (counted file from.records, ranks) more))
 
 -- With a fault too. Where the bytes are not told, the marks are known, and not the counts.
 pub record HasTold (script : Script) (header : Header) (held : Option (List ℕ)) (before now : Option (List (Mark × ℕ))) (order : List Mark) : Type 0 where

@@ -16,7 +16,7 @@ ghost use Rattle.turn_run.specs.Run.{RunsOn};
 ghost use Rattle.turn_run.specs.Running.{AreFree, AreRunners, HaveArrived, HaveMet};
 ghost use Rattle.turn_run.specs.Told.{HasTold};
 ghost use Rattle.turn_run.specs.Steps.{first_runner};
-ghost use Rattle.turn_run.specs.Setups.{stage_at, HasLedOn, HasToldOn, HaveSaidUpTo, IsCutOff};
+ghost use Rattle.turn_run.specs.Setups.{stage_at, HasLedOn, HasToldOn, HaveSaidUpTo, IsCutOff, point_at};
 ghost use Rattle.var_layout.specs.Measures.{AreMeasures};
 
 use crate::lent::{Lent, Progress, Setup};
@@ -152,9 +152,9 @@ fn hold_meetings<R: Threads + Wait + Sync, D: Disk, G: Gate, T: Told>(
     ensures arrived { OnOk result (HaveArrived lent.now.setup.script.now runners.new) }
     ensures led { OnOk result (HasLedOn lent.now.setup progress.old progress.new (stage_at lent.now.setup (D.held disk.old) (D.calls disk.old) progress.old runners.old)
         (stage_at lent.now.setup (D.held disk.new) (D.calls disk.new) progress.new runners.new)) }
-    ensures cut { (e : Fault) → result ≡ Err e → IsCutOff lent.now.setup e progress.old progress.new (D.held disk.old) runners.old (D.held disk.new) }
-    ensures answered { (e : Fault) → result ≡ Err e → HaveSaidUpTo lent.now.setup e progress.old progress.new (D.held disk.old) runners.old runners.new }
-    ensures told { HasToldOn lent.now.setup progress.old progress.new (D.held disk.old) runners.old (T.heard told.old) (T.heard told.new) }
+    ensures cut { (e : Fault) → result ≡ Err e → IsCutOff lent.now.setup e (point_at progress.old (D.held disk.old)) runners.old (point_at progress.new (D.held disk.new)) }
+    ensures answered { (e : Fault) → result ≡ Err e → HaveSaidUpTo lent.now.setup e (point_at progress.old (D.held disk.old)) runners.old progress.new.order runners.new }
+    ensures told { HasToldOn lent.now.setup (point_at progress.old (D.held disk.old)) runners.old progress.new.order (T.heard told.old) (T.heard told.new) }
     ensures records { OnOk result (IsCount lent.now.setup.header.now (D.len disk.new) progress.new.records) }
     ensures begun { HasBegun lent.now.setup.script.now progress.new.order }
     ensures from { D.from disk.new ≡ 0 }
@@ -191,9 +191,9 @@ fn arrive_all<R: Threads + Wait + Sync, D: Disk, G: Gate, T: Told>(
     ensures meetings { meetings progress.new.order ≡ meetings progress.old.order }
     ensures led { OnOk result (HasLedOn lent.now.setup progress.old progress.new (stage_at lent.now.setup (D.held disk.old) (D.calls disk.old) progress.old runners.old)
         (stage_at lent.now.setup (D.held disk.new) (D.calls disk.new) progress.new runners.new)) }
-    ensures cut { (e : Fault) → result ≡ Err e → IsCutOff lent.now.setup e progress.old progress.new (D.held disk.old) runners.old (D.held disk.new) }
-    ensures answered { (e : Fault) → result ≡ Err e → HaveSaidUpTo lent.now.setup e progress.old progress.new (D.held disk.old) runners.old runners.new }
-    ensures told { HasToldOn lent.now.setup progress.old progress.new (D.held disk.old) runners.old (T.heard told.old) (T.heard told.new) }
+    ensures cut { (e : Fault) → result ≡ Err e → IsCutOff lent.now.setup e (point_at progress.old (D.held disk.old)) runners.old (point_at progress.new (D.held disk.new)) }
+    ensures answered { (e : Fault) → result ≡ Err e → HaveSaidUpTo lent.now.setup e (point_at progress.old (D.held disk.old)) runners.old progress.new.order runners.new }
+    ensures told { HasToldOn lent.now.setup (point_at progress.old (D.held disk.old)) runners.old progress.new.order (T.heard told.old) (T.heard told.new) }
     ensures records { OnOk result (IsCount lent.now.setup.header.now (D.len disk.new) progress.new.records) }
     ensures begun { HasBegun lent.now.setup.script.now progress.new.order }
     ensures from { D.from disk.new ≡ 0 }

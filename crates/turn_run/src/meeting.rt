@@ -21,7 +21,7 @@ ghost use Rattle.turn_run.specs.Counts.{IsCount, IsRise};
 ghost use Rattle.turn_run.specs.Said.{all_between, HaveHeardInPart, KeepAnswers};
 ghost use Rattle.turn_run.specs.Running.{AreFree, AreFreed, IsFreed, AreHeard, AreRunners, AreToHear, HaveArrived, HaveMet};
 ghost use Rattle.turn_run.specs.Steps.{batches_of, held_offers, known_of, met, met_calls, IsJob, IsOneRise};
-ghost use Rattle.turn_run.specs.Setups.{all_at_next, setting_in, stage_at, AllSayUpTo, HasLedOn, HasToldOn, IsCutOff};
+ghost use Rattle.turn_run.specs.Setups.{all_at_next, setting_in, stage_at, AllSayUpTo, HasLedOn, HasToldOn, IsCutOff, point_at};
 ghost use Rattle.var_layout.specs.Measures.{AreMeasures};
 
 use crate::lent::{Lent, Progress};
@@ -61,12 +61,12 @@ pub(crate) fn meet<R: Threads + Wait + Sync, D: Disk, G: Gate, T: Told>(
     ensures order { OnOk result (progress.new.order ≡ progress.old.order ++ mark.Meet (meetings progress.old.order) ∷ []) }
     ensures led { OnOk result (HasLedOn lent.now.setup progress.old progress.new (stage_at lent.now.setup (D.held disk.old) (D.calls disk.old) progress.old runners.old)
         (stage_at lent.now.setup (D.held disk.new) (D.calls disk.new) progress.new runners.new)) }
-    ensures cut { (e : Fault) → result ≡ Err e → IsCutOff lent.now.setup e progress.old progress.new (D.held disk.old) runners.old (D.held disk.new) }
-    ensures answered { (e : Fault) → result ≡ Err e → AllSayUpTo lent.now.setup e progress.old progress.new (D.held disk.old) runners.old runners.new }
+    ensures cut { (e : Fault) → result ≡ Err e → IsCutOff lent.now.setup e (point_at progress.old (D.held disk.old)) runners.old (point_at progress.new (D.held disk.new)) }
+    ensures answered { (e : Fault) → result ≡ Err e → AllSayUpTo lent.now.setup e (point_at progress.old (D.held disk.old)) runners.old progress.new.order runners.new }
     ensures between { OnOk result ((goings : List Going) → map (advance lent.now.setup.header.now) goings ≡ all_at_next lent.now.setup runners.old
         → IfSome (D.held disk.old) (λ file. (after_mark (setting_in lent.now.setup) (counted file progress.old.records, goings) (mark.Meet (meetings progress.old.order))).1
         ≡ all_between lent.now.setup.script.now.calls runners.new)) }
-    ensures told { HasToldOn lent.now.setup progress.old progress.new (D.held disk.old) runners.old (T.heard told.old) (T.heard told.new) }
+    ensures told { HasToldOn lent.now.setup (point_at progress.old (D.held disk.old)) runners.old progress.new.order (T.heard told.old) (T.heard told.new) }
     ensures records { OnOk result (IsCount lent.now.setup.header.now (D.len disk.new) progress.new.records) }
     ensures begun { HasBegun lent.now.setup.script.now progress.new.order }
     ensures from { D.from disk.new ≡ 0 }

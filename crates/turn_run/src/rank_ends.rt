@@ -4,6 +4,7 @@ ghost use Rattle.nc_base.specs.declared.step.StepErr.{StepErr as Fault};
 ghost use Rattle.nc_base.specs.declared.step.StepErr.TheVariants as fault;
 ghost use Rattle.nc_outside.specs.Cause.{Rose};
 ghost use Rattle.serial_spec.specs.SoundHeaders.{is_sound};
+ghost use Rattle.turn_run.specs.Known.{contents};
 ghost use Rattle.turn_run.specs.Counts.{IsCount};
 ghost use Rattle.turn_run.specs.RankEnds.{most_known_of, EndedAt, HasClosed, NoneBroke};
 
@@ -29,14 +30,14 @@ pub fn end_run<D: Disk>(
     requires from { D.from disk.old ≡ 0 }
     ensures order { result.order ≡ served.order }
     ensures served { result.fault ≡ None → (served.fault ≡ None) × NoneBroke ends.items }
-    ensures closed { result.fault ≡ None → HasClosed header.now (most_known_of ends.items) records.old (D.held disk.old) (D.calls disk.old) records.new (D.held disk.new) (D.calls disk.new) }
+    ensures closed { result.fault ≡ None → HasClosed header.now (most_known_of ends.items) (contents D.Disk disk.old records.old) (contents D.Disk disk.new records.new) (D.calls disk.old) (D.calls disk.new) }
     ensures sound { result.fault ≡ None → is_sound (record header.now { records = records.new }) ≡ true }
     ensures answers { result.fault ≡ None → result.answers ≡ map (λ end. end.answers) ends.items }
     ensures pending { result.fault ≡ None → result.pending ≡ map (λ end. end.pending) ends.items }
     ensures first { (e : Fault) → served.fault ≡ Some e → result.fault ≡ Some fault.Disk → e ≡ fault.Disk }
     ensures broke { result.fault ≡ Some fault.Disk → NoneBroke ends.items }
     ensures kept { result.fault ≡ Some fault.Disk → result.answers ≡ map (λ end. end.answers) ends.items }
-    ensures at { (e : Fault) → result.fault ≡ Some e → EndedAt header.now ends.items served.fault e (D.held disk.old) records.old (D.held disk.new) records.new }
+    ensures at { (e : Fault) → result.fault ≡ Some e → EndedAt header.now ends.items served.fault e (contents D.Disk disk.old records.old) (contents D.Disk disk.new records.new) }
     ensures rows { (e : Fault) → result.fault ≡ Some e → (result.answers ≡ map (λ end. end.answers) ends.items) ⊎ (result.answers ≡ []) }
     ensures cause { served.fault ≡ None → result.fault ≡ Some fault.Disk → Rose (D.faults disk.old) (D.faults disk.new) }
     ensures later { D.faults disk.old ≤ D.faults disk.new }
@@ -67,11 +68,11 @@ fn close<D: Disk>(
     requires known { before ≡ None → NoneBroke ends.now → is_sound (record header.now { records = most_known_of ends.now }) ≡ true }
     requires from { D.from disk.old ≡ 0 }
     ensures served { OnOk result ((before ≡ None) × NoneBroke ends.now) }
-    ensures closed { OnOk result (HasClosed header.now (most_known_of ends.now) records.old (D.held disk.old) (D.calls disk.old) records.new (D.held disk.new) (D.calls disk.new)) }
+    ensures closed { OnOk result (HasClosed header.now (most_known_of ends.now) (contents D.Disk disk.old records.old) (contents D.Disk disk.new records.new) (D.calls disk.old) (D.calls disk.new)) }
     ensures sound { OnOk result (is_sound (record header.now { records = records.new }) ≡ true) }
     ensures first { (e : Fault) → before ≡ Some e → result ≡ Err fault.Disk → e ≡ fault.Disk }
     ensures broke { result ≡ Err fault.Disk → NoneBroke ends.now }
-    ensures at { (e : Fault) → result ≡ Err e → EndedAt header.now ends.now before e (D.held disk.old) records.old (D.held disk.new) records.new }
+    ensures at { (e : Fault) → result ≡ Err e → EndedAt header.now ends.now before e (contents D.Disk disk.old records.old) (contents D.Disk disk.new records.new) }
     ensures cause { before ≡ None → result ≡ Err fault.Disk → Rose (D.faults disk.old) (D.faults disk.new) }
     ensures later { D.faults disk.old ≤ D.faults disk.new }
 {

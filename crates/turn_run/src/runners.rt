@@ -17,8 +17,8 @@ ghost use Rattle.run_laws.specs.Ways.{IsOnWay};
 ghost use Rattle.turn_run.specs.Counts.{IsAsked, IsCount};
 ghost use Rattle.turn_run.specs.Running.{asking, between, calls_of, going_of, AsksAlone, HasArrived, HasHeard, IsMet, IsPlaced, IsRunner};
 ghost use Rattle.turn_run.specs.RankEnds.{runner_end};
-ghost use Rattle.turn_run.specs.Stages.{IsGrownBy};
-ghost use Rattle.turn_run.specs.Setups.{at_ask, at_next, HasGoneOn, HasSaidUpTo, IsCutAt, TellsOf};
+ghost use Rattle.turn_run.specs.Stages.{IsGrownBy, rank_stage};
+ghost use Rattle.turn_run.specs.Setups.{at_ask, at_next, HasGoneOn, HasSaidUpTo, IsCutAt, TellsOf, point_at};
 
 use crate::lent::{Lent, Progress, Setup};
 use crate::mark::note_step;
@@ -87,11 +87,12 @@ impl<'a> Runner<'a> {
         ensures runner { OnOk result (IsRunner lent.now.setup.script.now lent.now.setup.header.now progress.new.order number self.new) }
         ensures arrived { OnOk result (HasArrived (calls_of lent.now.setup.script.now number) self.new) }
         ensures known { OnOk result (IsCount lent.now.setup.header.now (D.len disk.new) self.new.rank.state.known) }
-        ensures gone { OnOk result (HasGoneOn lent.now.setup number progress.old progress.new (D.held disk.old) (D.calls disk.old) (D.held disk.new) (D.calls disk.new)
-            (at_next lent.now.setup number self.old) (at_next lent.now.setup number self.new)) }
-        ensures cut { (e : Fault) → result ≡ Err e → IsCutAt lent.now.setup number e progress.old progress.new (D.held disk.old) (D.held disk.new) (at_next lent.now.setup number self.old) }
-        ensures answered { (e : Fault) → result ≡ Err e → HasSaidUpTo lent.now.setup number e progress.old progress.new (D.held disk.old) (at_next lent.now.setup number self.old) self.new.answers }
-        ensures told { TellsOf lent.now.setup number progress.old progress.new (D.held disk.old) (at_next lent.now.setup number self.old) (T.heard told.old) (T.heard told.new) }
+        ensures gone { OnOk result (HasGoneOn lent.now.setup number
+            (rank_stage progress.old.order (D.held disk.old) (D.calls disk.old) (at_next lent.now.setup number self.old))
+            (rank_stage progress.new.order (D.held disk.new) (D.calls disk.new) (at_next lent.now.setup number self.new))) }
+        ensures cut { (e : Fault) → result ≡ Err e → IsCutAt lent.now.setup (number, at_next lent.now.setup number self.old) e (point_at progress.old (D.held disk.old)) (point_at progress.new (D.held disk.new)) }
+        ensures answered { (e : Fault) → result ≡ Err e → HasSaidUpTo lent.now.setup (number, at_next lent.now.setup number self.old) e (point_at progress.old (D.held disk.old)) progress.new.order self.new.answers }
+        ensures told { TellsOf lent.now.setup (number, at_next lent.now.setup number self.old) (point_at progress.old (D.held disk.old)) progress.new.order (T.heard told.old) (T.heard told.new) }
         ensures grown { IsGrownBy number progress.old.order progress.new.order }
         ensures begun { OnErr result ((rest : List Mark) × (filter (concerns number) progress.new.order ++ rest ≡ marks lent.now.setup.script.now.calls number)) }
         ensures from { D.from disk.new ≡ 0 }
@@ -186,13 +187,12 @@ impl<'a> Runner<'a> {
         ensures answers { OnOk result (length self.new.answers ≡ length self.old.answers + 1) }
         ensures way { OnOk result (IsOnWay lent.now.setup.script.now progress.new.order ask.number (between (calls_of lent.now.setup.script.now ask.number) self.new) None) }
         ensures known { OnOk result (IsCount lent.now.setup.header.now (D.len disk.new) self.new.rank.state.known) }
-        ensures gone { OnOk result (HasGoneOn lent.now.setup ask.number progress.old progress.new (D.held disk.old) (D.calls disk.old) (D.held disk.new) (D.calls disk.new)
-            (at_ask lent.now.setup ask self.old) (at_next lent.now.setup ask.number self.new)) }
-        ensures cut { (e : Fault) → result ≡ Err e → IsCutAt lent.now.setup ask.number e progress.old progress.new (D.held disk.old) (D.held disk.new)
-            (at_ask lent.now.setup ask self.old) }
-        ensures answered { (e : Fault) → result ≡ Err e → HasSaidUpTo lent.now.setup ask.number e progress.old progress.new (D.held disk.old)
-            (at_ask lent.now.setup ask self.old) self.new.answers }
-        ensures told { TellsOf lent.now.setup ask.number progress.old progress.new (D.held disk.old) (at_ask lent.now.setup ask self.old) (T.heard told.old) (T.heard told.new) }
+        ensures gone { OnOk result (HasGoneOn lent.now.setup ask.number
+            (rank_stage progress.old.order (D.held disk.old) (D.calls disk.old) (at_ask lent.now.setup ask self.old))
+            (rank_stage progress.new.order (D.held disk.new) (D.calls disk.new) (at_next lent.now.setup ask.number self.new))) }
+        ensures cut { (e : Fault) → result ≡ Err e → IsCutAt lent.now.setup (ask.number, at_ask lent.now.setup ask self.old) e (point_at progress.old (D.held disk.old)) (point_at progress.new (D.held disk.new)) }
+        ensures answered { (e : Fault) → result ≡ Err e → HasSaidUpTo lent.now.setup (ask.number, at_ask lent.now.setup ask self.old) e (point_at progress.old (D.held disk.old)) progress.new.order self.new.answers }
+        ensures told { TellsOf lent.now.setup (ask.number, at_ask lent.now.setup ask self.old) (point_at progress.old (D.held disk.old)) progress.new.order (T.heard told.old) (T.heard told.new) }
         ensures grown { IsGrownBy ask.number progress.old.order progress.new.order }
         ensures begun { OnErr result ((rest : List Mark) × (filter (concerns ask.number) progress.new.order ++ rest ≡ marks lent.now.setup.script.now.calls ask.number)) }
         ensures from { D.from disk.new ≡ 0 }

@@ -1,6 +1,6 @@
 -- What was taken so far is done, and nothing of it was strange.
 use Rattle.std.proofs.Common.{◌≡◌, ◌≤◌, length}
-use Rattle.thread_run.specs.Halted.{HasServed}
+use Rattle.thread_run.specs.Halted.{HasServed, taken_from}
 use Rattle.collective_round.specs.Rounds.{dataset_setting}
 use Rattle.thread_run.specs.Lent.{AreSame}
 use Rattle.thread_run.specs.Owned.{standing, IsSteady}
@@ -9,9 +9,7 @@ use Rattle.thread_run.proofs.service.serve_all.Given as goal
 abbrev pub invariant-loop : goal.invariant-loop
 invariant-loop g l = record {
   same : AreSame l.initial.out l.out;
-  served : HasServed l.dataset.hints.now (dataset_setting l.dataset) l.initial.inbox l.inbox l.senders.ended
-      (standing g.D.Disk g.T.Told l.initial.owner l.initial.out)
-      (standing g.D.Disk g.T.Told l.owner l.out);
+  served : HasServed l.dataset.hints.now (dataset_setting l.dataset) (taken_from l.initial.inbox l.inbox l.senders.ended) (standing g.D.Disk g.T.Told l.initial.owner l.initial.out) (standing g.D.Disk g.T.Told l.owner l.out);
   steady : IsSteady l.dataset.header.now (g.D.Disk.len l.out.disk.now) (standing g.D.Disk g.T.Told l.owner l.out);
   lines : length l.out.back.now ≡ length l.initial.out.back.now;
   senders : l.inbox.senders ≡ l.initial.inbox.senders;

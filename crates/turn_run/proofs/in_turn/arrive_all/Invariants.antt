@@ -4,6 +4,7 @@ use Rattle.std.specs.Prelude.{slice_get, filter}
 use Rattle.serial_spec.specs.History.{concerns}
 use Rattle.serial_spec.specs.SerialEnd.{setting_of}
 use Rattle.run_laws.specs.Ways.{meetings}
+use Rattle.turn_run.specs.Known.{point}
 use Rattle.turn_run.specs.Running.{calls_of, AreRunners, HasArrived}
 use Rattle.turn_run.specs.Stages.{arrived_all, stage, HasLed}
 use Rattle.turn_run.specs.Told.{HasToldMore}
@@ -25,6 +26,5 @@ invariant-loop-number g l = record {
       (stage (g.D.Disk.held l.fn.disk) (g.D.Disk.calls l.fn.disk) records (arrived_all l.lent.setup.header.now l.lent.setup.script.now.calls l.fn.runners))
       (stage (g.D.Disk.held l.disk) (g.D.Disk.calls l.disk) records (arrived_all l.lent.setup.header.now l.lent.setup.script.now.calls l.runners));
   count : l.progress.records ≡ l.fn.progress.records;
-  told : HasToldMore (setting_of l.lent.setup.script.now l.lent.setup.header.now) (g.D.Disk.held l.fn.disk) l.fn.progress.records (arrived_all l.lent.setup.header.now l.lent.setup.script.now.calls l.fn.runners) l.fn.progress.order l.progress.order
-      (g.T.Told.heard l.fn.told) (g.T.Told.heard l.told);
+  told : HasToldMore (setting_of l.lent.setup.script.now l.lent.setup.header.now) (point l.fn.progress.order (g.D.Disk.held l.fn.disk) l.fn.progress.records) (arrived_all l.lent.setup.header.now l.lent.setup.script.now.calls l.fn.runners) l.progress.order (g.T.Told.heard l.fn.told) (g.T.Told.heard l.told);
 }

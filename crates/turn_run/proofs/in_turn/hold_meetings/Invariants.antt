@@ -3,6 +3,7 @@ use Rattle.std.proofs.Common.{◌≡◌, ◌-◌, ◌≤◌}
 use Rattle.serial_spec.specs.Lawful.{most_calls}
 use Rattle.serial_spec.specs.SerialEnd.{setting_of}
 use Rattle.run_laws.specs.Ways.{meetings}
+use Rattle.turn_run.specs.Known.{point}
 use Rattle.turn_run.specs.Counts.{IsCount}
 use Rattle.turn_run.specs.Running.{AreRunners, HaveArrived}
 use Rattle.turn_run.specs.Stages.{arrived_all, stage, HasLed}
@@ -21,8 +22,7 @@ invariant-meetings g l = record {
   led : HasLed l.lent.setup.script.now.hints (setting_of l.lent.setup.script.now l.lent.setup.header.now) l.fn.progress.order l.progress.order
       (stage (g.D.Disk.held l.fn.disk) (g.D.Disk.calls l.fn.disk) l.fn.progress.records (arrived_all l.lent.setup.header.now l.lent.setup.script.now.calls l.fn.runners))
       (stage (g.D.Disk.held l.disk) (g.D.Disk.calls l.disk) l.progress.records (arrived_all l.lent.setup.header.now l.lent.setup.script.now.calls l.runners));
-  told : HasToldMore (setting_of l.lent.setup.script.now l.lent.setup.header.now) (g.D.Disk.held l.fn.disk) l.fn.progress.records (arrived_all l.lent.setup.header.now l.lent.setup.script.now.calls l.fn.runners) l.fn.progress.order l.progress.order
-      (g.T.Told.heard l.fn.told) (g.T.Told.heard l.told);
+  told : HasToldMore (setting_of l.lent.setup.script.now l.lent.setup.header.now) (point l.fn.progress.order (g.D.Disk.held l.fn.disk) l.fn.progress.records) (arrived_all l.lent.setup.header.now l.lent.setup.script.now.calls l.fn.runners) l.progress.order (g.T.Told.heard l.fn.told) (g.T.Told.heard l.told);
 }
 
 abbrev pub decreases-meetings : goal.decreases-meetings

@@ -3,6 +3,7 @@ use Rattle.std.proofs.Common.{◌≡◌, List, sym, subst, None, true, ap, Err, 
 use Rattle.nc_base.specs.declared.step.StepErr.{StepErr}
 use Rattle.nc_base.specs.declared.run.RankEnd.{RankEnd}
 use Rattle.serial_spec.specs.SoundHeaders.{is_sound}
+use Rattle.turn_run.specs.Known.{contents_of}
 use Rattle.turn_run.specs.RankEnds.{most_known_of, NoneBroke, EndedAt}
 use Rattle.turn_run.proofs.EndedLaws.{ended_as, ended_closed}
 use Rattle.turn_run.proofs.rank_ends.end_run.Goals as goal
@@ -44,7 +45,7 @@ returns-in-Err-clause-cause g c = λ none disk. c.in-Err.ensures.cause none (ap 
 
 pub returns-in-Ok-clause-at : goal.returns-in-Ok-clause-at
 returns-in-Ok-clause-at g c = λ e is.
-    subst (λ (ends : List RankEnd). EndedAt c.args.header.now ends c.args.served.fault e (g.D.Disk.held c.args.disk.now) c.args.records.now (g.D.Disk.held c.close.new.disk) c.close.new.records) c.deref.ensures.value
+    subst (λ (ends : List RankEnd). EndedAt c.args.header.now ends c.args.served.fault e (contents_of (g.D.Disk.held c.args.disk.now) c.args.records.now) (contents_of (g.D.Disk.held c.close.new.disk) c.close.new.records)) c.deref.ensures.value
     (ended_closed c.args.header.now c.deref.result.now c.args.served.fault e (g.D.Disk.held c.args.disk.now) (g.D.Disk.held c.close.new.disk) (g.D.Disk.calls c.args.disk.now) (g.D.Disk.calls c.close.new.disk)
     c.args.records.now c.close.new.records c.in-Ok.ensures.served.0 c.in-Ok.ensures.served.1 c.in-Ok.ensures.closed)
 
@@ -53,7 +54,7 @@ returns-in-Ok-clause-rows g c = λ e is. inr (c.ended.ensures.none e is)
 
 pub returns-in-Err-clause-at : goal.returns-in-Err-clause-at
 returns-in-Err-clause-at g c = λ e is.
-    subst (λ (ends : List RankEnd). EndedAt c.args.header.now ends c.args.served.fault e (g.D.Disk.held c.args.disk.now) c.args.records.now (g.D.Disk.held c.close.new.disk) c.close.new.records) c.deref.ensures.value
+    subst (λ (ends : List RankEnd). EndedAt c.args.header.now ends c.args.served.fault e (contents_of (g.D.Disk.held c.args.disk.now) c.args.records.now) (contents_of (g.D.Disk.held c.close.new.disk) c.close.new.records)) c.deref.ensures.value
     (ended_as c.args.header.now c.deref.result.now c.args.served.fault c.in-Err.fault e (g.D.Disk.held c.args.disk.now) (g.D.Disk.held c.close.new.disk) c.args.records.now c.close.new.records
     (c.cut_off.ensures.fault e is) (c.in-Err.ensures.at c.in-Err.fault refl))
 

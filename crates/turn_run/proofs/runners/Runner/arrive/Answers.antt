@@ -7,7 +7,7 @@ use Rattle.run_laws.proofs.LawfulLaws.{ranks_lawful}
 use Rattle.turn_run.specs.Counts.{IsCount}
 use Rattle.turn_run.specs.Running.{asking, between, calls_of}
 use Rattle.run_laws.specs.Arrivals.{Arrived}
-use Rattle.turn_run.specs.Stages.{arrived, HasGone}
+use Rattle.turn_run.specs.Stages.{arrived, HasGone, rank_stage}
 use Rattle.nc_base.specs.declared.answer.Answer.{Answer}
 use Rattle.run_laws.proofs.TogetherLaws.{call_number}
 use Rattle.turn_run.specs.declared.runners.Runner.{Runner}
@@ -96,8 +96,7 @@ alone-preserved g c =
           (arrived header all c.args.self.now) (arrived header all c.alone.self) (arrived header all new) c.alone.invariant.gone
           (gone_then hints s r c.alone.progress.order order order (g.D.Disk.held c.alone.disk) (g.D.Disk.held c.do_alone.new.disk) (g.D.Disk.held c.do_alone.new.disk)
           (g.D.Disk.calls c.alone.disk) (g.D.Disk.calls c.do_alone.new.disk) (g.D.Disk.calls c.do_alone.new.disk) (arrived header all c.alone.self) (arrived header all mid) (arrived header all new)
-          (subst (λ (a : Arrived). HasGone hints s r c.alone.progress.order order (g.D.Disk.held c.alone.disk) (g.D.Disk.calls c.alone.disk)
-          (g.D.Disk.held c.do_alone.new.disk) (g.D.Disk.calls c.do_alone.new.disk) a (arrived header all mid))
+          (subst (λ (a : Arrived). HasGone hints s r (rank_stage c.alone.progress.order (g.D.Disk.held c.alone.disk) (g.D.Disk.calls c.alone.disk) a) (rank_stage order (g.D.Disk.held c.do_alone.new.disk) (g.D.Disk.calls c.do_alone.new.disk) (arrived header all mid)))
           (taken_asks header all c.alone.self c.take_alone.new.self c.in-Some.offer taken.0 c.take_alone.ensures.rank c.take_alone.ensures.answers) c.in_ok-do_alone.ensures.gone)
           (went_gone hints s r order (g.D.Disk.held c.do_alone.new.disk) (g.D.Disk.calls c.do_alone.new.disk) header own all mid new e c.do_alone.ensures.free
           c.in_ok-go_on-2.ensures.advanced c.in_ok-go_on-2.ensures.ended));
@@ -119,9 +118,7 @@ pub returns-clause-gone : goal.returns-clause-gone
 returns-clause-gone g c =
     let all = calls_of c.args.lent.now.setup.script.now c.args.number in
     let same = same_runner c.alone.self c.take_alone.new.self c.take_alone.ensures.rank c.take_alone.ensures.answers c.in_default.ensures.left.0 in
-    subst (λ (x : Runner). HasGone c.args.lent.now.setup.script.now.hints (setting_of c.args.lent.now.setup.script.now c.args.lent.now.setup.header.now) c.args.number c.args.progress.now.order c.alone.progress.order
-    (g.D.Disk.held c.args.disk.now) (g.D.Disk.calls c.args.disk.now) (g.D.Disk.held c.alone.disk) (g.D.Disk.calls c.alone.disk)
-    (arrived c.args.lent.now.setup.header.now all c.args.self.now) (arrived c.args.lent.now.setup.header.now all x)) (sym same) c.alone.invariant.gone
+    subst (λ (x : Runner). HasGone c.args.lent.now.setup.script.now.hints (setting_of c.args.lent.now.setup.script.now c.args.lent.now.setup.header.now) c.args.number (rank_stage c.args.progress.now.order (g.D.Disk.held c.args.disk.now) (g.D.Disk.calls c.args.disk.now) (arrived c.args.lent.now.setup.header.now all c.args.self.now)) (rank_stage c.alone.progress.order (g.D.Disk.held c.alone.disk) (g.D.Disk.calls c.alone.disk) (arrived c.args.lent.now.setup.header.now all x))) (sym same) c.alone.invariant.gone
 
 pub returns-in_err-go_on-clause-cut : goal.returns-in_err-go_on-clause-cut
 returns-in_err-go_on-clause-cut g c e is records ranks at =
@@ -161,8 +158,7 @@ returns-in_err-go_on-2-clause-cut g c e is records ranks at =
     (gone_stopped (MayFollow script r c.do_alone.new.progress.order) script.hints s r e c.alone.progress.order c.do_alone.new.progress.order c.do_alone.new.progress.order
     (g.D.Disk.held c.alone.disk) (g.D.Disk.held c.do_alone.new.disk) (g.D.Disk.held c.do_alone.new.disk) (g.D.Disk.calls c.alone.disk) (g.D.Disk.calls c.do_alone.new.disk)
     (arrived header all c.alone.self) (arrived header all c.do_alone.new.self)
-    (subst (λ (a : Arrived). HasGone script.hints s r c.alone.progress.order c.do_alone.new.progress.order (g.D.Disk.held c.alone.disk) (g.D.Disk.calls c.alone.disk)
-    (g.D.Disk.held c.do_alone.new.disk) (g.D.Disk.calls c.do_alone.new.disk) a (arrived header all c.do_alone.new.self))
+    (subst (λ (a : Arrived). HasGone script.hints s r (rank_stage c.alone.progress.order (g.D.Disk.held c.alone.disk) (g.D.Disk.calls c.alone.disk) a) (rank_stage c.do_alone.new.progress.order (g.D.Disk.held c.do_alone.new.disk) (g.D.Disk.calls c.do_alone.new.disk) (arrived header all c.do_alone.new.self)))
     (taken_asks header all c.alone.self c.take_alone.new.self c.in-Some.offer taken.0 c.take_alone.ensures.rank c.take_alone.ensures.answers) c.in_ok-do_alone.ensures.gone)
     (λ n others there. stopped_between (MayFollow script r c.do_alone.new.progress.order) s e c.do_alone.new.progress.order c.do_alone.new.progress.order (g.D.Disk.held c.do_alone.new.disk) (g.D.Disk.held c.do_alone.new.disk)
     n n others (memory_of c.from_residual-in_err-go_on-2.result e p.0 is p.1 p.2) refl refl refl))
@@ -217,8 +213,7 @@ returns-in_err-go_on-2-clause-answered g c e is records ranks at =
     (gone_reached (SaysAt r e answers) script.hints s r c.alone.progress.order c.do_alone.new.progress.order c.do_alone.new.progress.order
     (g.D.Disk.held c.alone.disk) (g.D.Disk.held c.do_alone.new.disk) (g.D.Disk.calls c.alone.disk) (g.D.Disk.calls c.do_alone.new.disk)
     (arrived header all c.alone.self) from
-    (subst (λ (a : Arrived). HasGone script.hints s r c.alone.progress.order c.do_alone.new.progress.order (g.D.Disk.held c.alone.disk) (g.D.Disk.calls c.alone.disk)
-    (g.D.Disk.held c.do_alone.new.disk) (g.D.Disk.calls c.do_alone.new.disk) a from)
+    (subst (λ (a : Arrived). HasGone script.hints s r (rank_stage c.alone.progress.order (g.D.Disk.held c.alone.disk) (g.D.Disk.calls c.alone.disk) a) (rank_stage c.do_alone.new.progress.order (g.D.Disk.held c.do_alone.new.disk) (g.D.Disk.calls c.do_alone.new.disk) from))
     (taken_asks header all c.alone.self c.take_alone.new.self c.in-Some.offer taken.0 c.take_alone.ensures.rank c.take_alone.ensures.answers) c.in_ok-do_alone.ensures.gone)
     (λ n others there. reached_here (SaysAt r e answers) s c.do_alone.new.progress.order c.do_alone.new.progress.order (g.D.Disk.held c.do_alone.new.disk) n others refl
     (λ m. says_here r e answers from m others there

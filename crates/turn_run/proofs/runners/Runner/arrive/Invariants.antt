@@ -3,10 +3,11 @@ use Rattle.std.proofs.Common.{◌≡◌, ◌-◌, ◌≤◌, drop, length, List,
 use Rattle.std.specs.Prelude.{slice_get}
 use Rattle.serial_spec.specs.Lawful.{most_calls}
 use Rattle.serial_spec.specs.SerialEnd.{setting_of}
+use Rattle.turn_run.specs.Known.{point}
 use Rattle.turn_run.specs.Counts.{IsCount}
 use Rattle.turn_run.specs.Running.{calls_of, IsRunner}
 use Rattle.run_laws.specs.Arrivals.{Arrived}
-use Rattle.turn_run.specs.Stages.{arrived, HasGone}
+use Rattle.turn_run.specs.Stages.{arrived, HasGone, rank_stage}
 use Rattle.turn_run.specs.Told.{HasToldMore}
 use Rattle.turn_run.proofs.runners.Runner.arrive.Given as goal
 
@@ -18,11 +19,10 @@ invariant-alone g l = record {
   runner : IsRunner l.lent.setup.script.now l.lent.setup.header.now l.progress.order l.number l.self;
   ended : l.self.held ≡ None → drop (length l.self.answers) (calls_of l.lent.setup.script.now l.number) ≡ [];
   known : IsCount l.lent.setup.header.now (g.D.Disk.len l.disk) l.self.rank.state.known;
-  gone : HasGone l.lent.setup.script.now.hints (setting_of l.lent.setup.script.now l.lent.setup.header.now) l.number l.fn.progress.order l.progress.order (g.D.Disk.held l.fn.disk) (g.D.Disk.calls l.fn.disk)
-      (g.D.Disk.held l.disk) (g.D.Disk.calls l.disk) (arrived l.lent.setup.header.now (calls_of l.lent.setup.script.now l.number) l.fn.self) (arrived l.lent.setup.header.now (calls_of l.lent.setup.script.now l.number) l.self);
+  gone : HasGone l.lent.setup.script.now.hints (setting_of l.lent.setup.script.now l.lent.setup.header.now) l.number (rank_stage l.fn.progress.order (g.D.Disk.held l.fn.disk) (g.D.Disk.calls l.fn.disk) (arrived l.lent.setup.header.now (calls_of l.lent.setup.script.now l.number) l.fn.self)) (rank_stage l.progress.order (g.D.Disk.held l.disk) (g.D.Disk.calls l.disk) (arrived l.lent.setup.header.now (calls_of l.lent.setup.script.now l.number) l.self));
   count : l.progress.records ≡ l.fn.progress.records;
   told : (ranks : List Arrived) → slice_get ranks l.number ≡ Some (arrived l.lent.setup.header.now (calls_of l.lent.setup.script.now l.number) l.fn.self)
-      → HasToldMore (setting_of l.lent.setup.script.now l.lent.setup.header.now) (g.D.Disk.held l.fn.disk) l.fn.progress.records ranks l.fn.progress.order l.progress.order (g.T.Told.heard l.fn.told) (g.T.Told.heard l.told);
+      → HasToldMore (setting_of l.lent.setup.script.now l.lent.setup.header.now) (point l.fn.progress.order (g.D.Disk.held l.fn.disk) l.fn.progress.records) ranks l.progress.order (g.T.Told.heard l.fn.told) (g.T.Told.heard l.told);
 }
 
 abbrev pub decreases-alone : goal.decreases-alone
