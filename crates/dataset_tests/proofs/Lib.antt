@@ -1,2 +1,2 @@
-pub mod FilledHeaders
-pub mod MovedHeaders
+mod FilledHeaders
+mod MovedHeaders
