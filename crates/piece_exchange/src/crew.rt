@@ -49,7 +49,7 @@ pub(crate) fn make_rooms<W: Drop, D: Drop>(
     alloc: Global,
     count: usize,
 ) -> Result<Crew<W, D>, Memory>
-    ensures { IfOk result (λ crew. HasRooms count crew.workers.items crew.rest.items crew.back.items (vec_capacity crew.workers) (vec_capacity crew.rest) (vec_capacity crew.back)) }
+    ensures { IfOk result (λ crew. HasRooms count crew) }
 {
     Ok(Crew {
         workers: Vec::with_capacity(alloc, count)?,
