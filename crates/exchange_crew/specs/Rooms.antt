@@ -1,11 +1,12 @@
 -- Lists that are made before any helper is started. (own)
---     HasRooms n workers rest back ..     they are empty, and each has room for so many items
-use Rattle.std.specs.Prelude.{◌≡◌, ℕ, ◌≤◌, List, []}
+--     HasRooms n crew     they are empty, and each has room for so many items
+use Rattle.std.specs.Prelude.{◌≡◌, ℕ, ◌≤◌, [], vec_capacity}
+use Rattle.exchange_crew.specs.declared.crew.Crew.{Crew}
 
-pub record HasRooms {S D : Type 0} (n : ℕ) (workers : List S) (rest back : List D) (workers_room rest_room back_room : ℕ) : Type 0 where
-  pub no_workers : workers ≡ []
-  pub no_rest : rest ≡ []
-  pub no_back : back ≡ []
-  pub for_workers : n ≤ workers_room
-  pub for_rest : n ≤ rest_room
-  pub for_back : n ≤ back_room
+pub record HasRooms {W D : Type 0} (n : ℕ) (crew : Crew W D) : Type 0 where
+  pub no_workers : crew.workers.items ≡ []
+  pub no_rest : crew.rest.items ≡ []
+  pub no_back : crew.back.items ≡ []
+  pub for_workers : n ≤ vec_capacity crew.workers
+  pub for_rest : n ≤ vec_capacity crew.rest
+  pub for_back : n ≤ vec_capacity crew.back

@@ -46,7 +46,7 @@ pub struct Crew<W: Drop, D: Drop> {
 
 /// Room for so many helpers, and for their parts.
 pub fn make_rooms<W: Drop, D: Drop>(alloc: Global, count: usize) -> Result<Crew<W, D>, Memory>
-    ensures { IfOk result (λ crew. HasRooms count crew.workers.items crew.rest.items crew.back.items (vec_capacity crew.workers) (vec_capacity crew.rest) (vec_capacity crew.back)) }
+    ensures { IfOk result (λ crew. HasRooms count crew) }
 {
     Ok(Crew {
         workers: Vec::with_capacity(alloc, count)?,

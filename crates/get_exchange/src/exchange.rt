@@ -1,5 +1,5 @@
 // The gets of a collective step, on a disk in parts.
-ghost use Rattle.std.specs.Prelude.{◌≡◌, ◌+◌, ◌<◌, ◌≤◌, ℕ, List, length, slice_get, vec_capacity, zip, IfNone, IfSome, IsErrOf, OnOk, Some};
+ghost use Rattle.std.specs.Prelude.{◌≡◌, ◌+◌, ◌<◌, ◌≤◌, ℕ, List, length, slice_get, zip, IfNone, IfSome, IsErrOf, OnOk, Some};
 ghost use Rattle.std.specs.List.{AllZip};
 ghost use Rattle.nc_base.specs.declared.plan.Extent.{Extent};
 ghost use Rattle.nc_outside.specs.Cause.{Rose};
@@ -137,7 +137,7 @@ fn get_on_threads<R: Threads + Wait + Sync, D: Disk, G: Gate>(
             requires { IsGetPlanned plan.now × AreReady work.lending.lenders.each.items × (1 ≤ plan.now.hints.now.line_room) × (plan.now.hints.now.line_room ≤ 64) × (length domains.now ≤ 64) × (length domains.now ≡ length work.parts.items)
                 × ((k : ℕ) (part : D) (domain : Extent) → slice_get work.parts.items k ≡ Some part → slice_get domains.now k ≡ Some domain → IsDomainOf plan.now.list.now (D.from part) (D.len part) domain)
                 × FitTable work.table.items plan.now.list.now × HaveOnePlaces plan.now.list.now
-                × HasRooms (length work.parts.items) work.crew.workers.items work.crew.rest.items work.crew.back.items (vec_capacity work.crew.workers) (vec_capacity work.crew.rest) (vec_capacity work.crew.back) }
+                × HasRooms (length work.parts.items) work.crew }
             ensures got { IfSome result.end (λ end. AllZip (λ p new. HasGot (get_turns plan.entry.now p.1)
                 (part_state D.Disk p.0) (part_state D.Disk new) end) (zip work.entry.parts.items domains.entry.now) result.back.items) }
             ensures read { IfSome result.end (λ end. OnOk end (HasReadParts (λ part. D.from part) (λ part. D.held part) plan.entry.now (zip work.entry.parts.items domains.entry.now) work.entry.table.items result.table.items)) }
@@ -165,7 +165,7 @@ fn get_in_scope<'s, E, R: Threads + Wait + Sync, D: Disk + 's, G: Gate>(
     requires fit { FitTable work.table.items plan.now.list.now }
     requires one_place { HaveOnePlaces plan.now.list.now }
     requires lenders { AreReady work.lending.lenders.each.items }
-    requires rooms { HasRooms (length work.parts.items) work.crew.workers.items work.crew.rest.items work.crew.back.items (vec_capacity work.crew.workers) (vec_capacity work.crew.rest) (vec_capacity work.crew.back) }
+    requires rooms { HasRooms (length work.parts.items) work.crew }
     ensures got { IfSome result.end (λ end. AllZip (λ p new. HasGot (get_turns plan.now p.1)
         (part_state D.Disk p.0) (part_state D.Disk new) end) (zip work.entry.parts.items domains.now) result.back.items) }
     ensures read { IfSome result.end (λ end. OnOk end (HasReadParts (λ part. D.from part) (λ part. D.held part) plan.now (zip work.entry.parts.items domains.now) work.entry.table.items result.table.items)) }

@@ -3,7 +3,6 @@ ghost use Rattle.std.specs.Prelude.{◌≡◌, [], None, IfOk, IfErr};
 ghost use Rattle.get_exchange.specs.Fetched.{HasGivenBack};
 ghost use Rattle.get_exchange.specs.Gets.{get_turns, IsGetPlanned};
 ghost use Rattle.exchange_crew.specs.Plan.{IsDomainOf};
-ghost use Rattle.exchange_crew.specs.Parts.{part_state};
 ghost use Rattle.exchange_crew.specs.Turns.{turns_of};
 
 use crate::reading::{Reading, read_part};
@@ -33,9 +32,7 @@ pub(crate) struct GetDuty<D: Drop> {
 }
 
 impl<D: Disk> Promise<Returned<D, GetLines>> for GetDuty<D> {
-    ghost kept_by = { λ p r. HasGivenBack (turns_of p.size.value p.domain.value p.cover.value)
-        (part_state D.Disk p.ends.value.part) (part_state D.Disk r.ends.part)
-        p.ends.value.word r.ends.word p.ends.value.lines.line r.ends.lines.line r.end
+    ghost kept_by = { λ p r. HasGivenBack D.Disk (turns_of p.size.value p.domain.value p.cover.value) p.ends.value r
         × (r.end ≡ None → r.ends.part ≡ p.ends.value.part) };
 }
 
@@ -104,9 +101,7 @@ fn take_part<R: Wait, D: Disk, G: Gate>(
     requires domain { IsDomainOf plan.now.list.now (D.from ends.part) (D.len ends.part) aggregator.domain }
     requires word { ends.word.items ≡ [] }
     requires line { ends.lines.line.items ≡ [] }
-    ensures returned { HasGivenBack (get_turns plan.now aggregator.domain)
-        (part_state D.Disk ends.part) (part_state D.Disk result.ends.part)
-        ends.word result.ends.word ends.lines.line result.ends.lines.line result.end }
+    ensures returned { HasGivenBack D.Disk (get_turns plan.now aggregator.domain) ends result }
     ensures untouched { result.end ≡ None → result.ends.part ≡ ends.part }
 {
     let Ends {

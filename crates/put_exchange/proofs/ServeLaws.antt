@@ -14,7 +14,7 @@ use Rattle.aggregator_rounds.proofs.EntryCells.{covered_place}
 use Rattle.exchange_crew.specs.declared.walk.TurnWalk.{TurnWalk}
 use Rattle.exchange_crew.specs.Pieces.{pieces_in, pieces_of, ArePieces}
 use Rattle.put_exchange.specs.Put.{put_part}
-use Rattle.put_exchange.specs.Taken.{cells_in, put_window, HasPutTaken, HasTaken, IsFilledBy}
+use Rattle.put_exchange.specs.Taken.{cells_in, put_window, HasPutTaken, HasTaken, IsFilledBy, turn_pieces}
 use Rattle.exchange_crew.specs.Turns.{Told, turns_ahead, IsTurnWalk}
 use Rattle.exchange_crew.specs.Hulls.{HaveWindows, IsTurn, LieOnPart}
 use Rattle.put_exchange.proofs.PieceLaws.{pieces_are, pieces_covered, pieces_found, pieces_picked, pieces_served}
@@ -77,12 +77,12 @@ served_begin source from len ranks room list all w taken held calls x ready at a
 
 -- where the planned pieces were taken, those of the window are the planned ones
 window_pieces : (source : Source) (from ranks count : ℕ) (list : List Owned) (t : Told) (done before now : List Owned) (held left : Option (List ℕ)) {T E : Type 0} (end : Result T E)
-    (put : HasPutTaken source from t count before now held left end) → length before ≡ length done → now ≡ done ++ pieces_in ranks list t → (before ≡ done) × (put.got ≡ pieces_in ranks list t)
+    (put : HasPutTaken (turn_pieces source from t count) before now held left end) → length before ≡ length done → now ≡ done ++ pieces_in ranks list t → (before ≡ done) × (put.got ≡ pieces_in ranks list t)
 window_pieces source from ranks count list t done before now held left end put many e = append_parts before put.got done (pieces_in ranks list t) many (sym put.taken ∙ e)
 
 -- a window that was put, or cut off
 put_between : {T E : Type 0} (source : Source) (from len ranks room count : ℕ) (list : List Owned) (t : Told) (before now : List Owned) (held mid left : Option (List ℕ)) (end : Result T E)
-    → IsGiven source ranks list from len held → IsTurn list room t → from ≤ t.0 → t.0 + t.1 ≤ from + len → (put : HasPutTaken source from t count before now mid left end)
+    → IsGiven source ranks list from len held → IsTurn list room t → from ≤ t.0 → t.0 + t.1 ≤ from + len → (put : HasPutTaken (turn_pieces source from t count) before now mid left end)
     → put.got ≡ pieces_in ranks list t → BothTold (λ old new. IsBetween old (put_part source list from old) new) held mid
     → BothTold (λ old new. IsBetween old (put_part source list from old) new) held left
 put_between source from len ranks room count list t before now held mid left end given turn low high put got b =
@@ -92,7 +92,7 @@ put_between source from len ranks room count list t before now held mid left end
     (subst (λ (os : List Owned). IsFilledBy t (cells_in source t os)) (sym got) (pieces_filled source ranks room list t given.pieces given.below turn))))
 
 put_bytes : {T E : Type 0} (source : Source) (from len ranks room count : ℕ) (list : List Owned) (t : Told) (ts : List Told) (before now : List Owned) (held mid left : Option (List ℕ)) (x : T)
-    → IsGiven source ranks list from len held → IsTurn list room t → from ≤ t.0 → t.0 + t.1 ≤ from + len → (put : HasPutTaken {E = E} source from t count before now mid left (Ok x))
+    → IsGiven source ranks list from len held → IsTurn list room t → from ≤ t.0 → t.0 + t.1 ≤ from + len → (put : HasPutTaken {E = E} (turn_pieces source from t count) before now mid left (Ok x))
     → put.got ≡ pieces_in ranks list t → BothTold (λ old new. IsPutSoFar source list from (t ∷ ts) old new) held mid → BothTold (λ old new. IsPutSoFar source list from ts old new) held left
 put_bytes source from len ranks room count list t ts before now held mid left x given turn low high put got b =
     told_next source list (pieces_in ranks list t) from len t ts held mid left given.told given.one (pieces_picked ranks list t given.below) low high b
@@ -104,7 +104,7 @@ put_bytes source from len ranks room count list t ts before now held mid left x 
 pub record DidTurn {T E : Type 0} (source : Source) (from count : ℕ) (t : Told) (taken more : List Owned) (mid now : Option (List ℕ)) (made drawn : Option (List DiskCall))
     (before end : Result T E) : Type 0 where
   pub took : HasTaken count taken more
-  pub put : IsOk before → HasPutTaken source from t count taken more mid now end
+  pub put : IsOk before → HasPutTaken (turn_pieces source from t count) taken more mid now end
   pub kept : IsErr before → now ≡ mid
   pub ok : OnOk end (IsOk before)
   pub device : OnOk end (drawn ≡ with_end made (store_calls t))

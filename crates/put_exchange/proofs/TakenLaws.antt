@@ -11,7 +11,7 @@ use Rattle.overlay_laws.specs.Entries.{Source, cell_of}
 use Rattle.overlay_laws.specs.Windows.{clip, clips}
 use Rattle.overlay_laws.proofs.HullLaws.{in_left, in_right}
 use Rattle.exchange_crew.specs.Pieces.{IsPiece}
-use Rattle.put_exchange.specs.Taken.{HasLaid}
+use Rattle.put_exchange.specs.Taken.{HasLaid, range_pieces}
 
 -- ---- lists of what was taken
 
@@ -28,9 +28,9 @@ cells_more : (source : Source) (lo hi : ℕ) (got : List Owned) (o : Owned)
 cells_more source lo hi [] o = refl
 cells_more source lo hi (p ∷ got) o = ap (λ (cells : List Cell). moved_down lo (clip lo hi (cell_of source p) ∷ []) ++ cells) (cells_more source lo hi got o)
 
-pub laid_more : (source : Source) (lo hi n m : ℕ) (before mid now : List Owned) (o : Owned) (old buf new : List ℕ) → HasLaid source lo hi n before mid old buf
+pub laid_more : (source : Source) (lo hi n m : ℕ) (before mid now : List Owned) (o : Owned) (old buf new : List ℕ) → HasLaid (range_pieces source lo hi n) before mid old buf
     → now ≡ mid ++ o ∷ [] → m ≡ n + 1 → (IsPiece source o → new ≡ write_cells buf (moved_down lo (clip lo hi (cell_of source o) ∷ [])))
-    → HasLaid source lo hi m before now old new
+    → HasLaid (range_pieces source lo hi m) before now old new
 laid_more source lo hi n m before mid now o old buf new h e f laid =
     record {
       got = h.got ++ o ∷ [];

@@ -1,5 +1,5 @@
 // The puts of a collective step, on a disk in parts.
-ghost use Rattle.std.specs.Prelude.{◌≡◌, ◌≤◌, ℕ, length, slice_get, vec_capacity, zip, IsErrOf, IfSome, IfNone, Some};
+ghost use Rattle.std.specs.Prelude.{◌≡◌, ◌≤◌, ℕ, length, slice_get, zip, IsErrOf, IfSome, IfNone, Some};
 ghost use Rattle.std.specs.List.{AllZip};
 ghost use Rattle.nc_base.specs.declared.plan.Extent.{Extent};
 ghost use Rattle.nc_outside.specs.Cause.{Rose};
@@ -79,7 +79,7 @@ fn put_on_threads<R: Threads + Wait + Sync, D: Disk, G: Gate>(
         |scope| -> (Vec<D>, Option<Result<(), DiskErr>>)
             requires { IsPlanned plan.now × (1 ≤ plan.now.hints.now.line_room) × (plan.now.hints.now.line_room ≤ 64) × (length domains.now ≤ 64) × (length domains.now ≡ length parts.items)
                 × ((k : ℕ) (part : D) (domain : Extent) → slice_get parts.items k ≡ Some part → slice_get domains.now k ≡ Some domain → IsDomainOf plan.now.list.now (D.from part) (D.len part) domain)
-                × HasRooms (length parts.items) crew.workers.items crew.rest.items crew.back.items (vec_capacity crew.workers) (vec_capacity crew.rest) (vec_capacity crew.back) }
+                × HasRooms (length parts.items) crew }
             ensures put { IfSome result.1 (λ end. AllZip (λ p new. HasPut (source_in plan.entry.now) plan.entry.now.list.now (planned_turns plan.entry.now p.1)
                 (part_state D.Disk p.0) (part_state D.Disk new) end) (zip parts.items domains.entry.now) result.0.items) }
             ensures failed { IfSome result.1 (λ end. IsErrOf end Failed → SomeZip (λ old new. Rose (D.faults old) (D.faults new)) parts.items result.0.items) }
@@ -103,7 +103,7 @@ fn put_in_scope<'s, E, R: Threads + Wait + Sync, D: Disk + 's, G: Gate>(
     requires few { length domains.now ≤ 64 }
     requires one_each { length domains.now ≡ length parts.items }
     requires domains { (k : ℕ) (part : D) (domain : Extent) → slice_get parts.items k ≡ Some part → slice_get domains.now k ≡ Some domain → IsDomainOf plan.now.list.now (D.from part) (D.len part) domain }
-    requires rooms { HasRooms (length parts.items) crew.workers.items crew.rest.items crew.back.items (vec_capacity crew.workers) (vec_capacity crew.rest) (vec_capacity crew.back) }
+    requires rooms { HasRooms (length parts.items) crew }
     ensures put { IfSome result.1 (λ end. AllZip (λ p new. HasPut (source_in plan.now) plan.now.list.now (planned_turns plan.now p.1)
         (part_state D.Disk p.0) (part_state D.Disk new) end) (zip parts.items domains.now) result.0.items) }
     ensures failed { IfSome result.1 (λ end. IsErrOf end Failed → SomeZip (λ old new. Rose (D.faults old) (D.faults new)) parts.items result.0.items) }

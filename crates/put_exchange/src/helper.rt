@@ -1,8 +1,7 @@
 // One helper's thread, which waits for its word.
 ghost use Rattle.std.specs.Prelude.{◌≡◌, [], length, min, None, IfOk, IfErr};
-ghost use Rattle.put_exchange.specs.Helped.{HasReturned};
+ghost use Rattle.put_exchange.specs.Helped.{part_puts, HasReturned};
 ghost use Rattle.exchange_crew.specs.Plan.{IsDomainOf, IsPlanned};
-ghost use Rattle.exchange_crew.specs.Parts.{part_state};
 ghost use Rattle.exchange_crew.specs.Turns.{turns_of};
 
 use crate::laying::lay_part;
@@ -34,9 +33,7 @@ pub(crate) struct Duty<D: Drop> {
 }
 
 impl<D: Disk> Promise<Returned<D, PutLines>> for Duty<D> {
-    ghost kept_by = { λ p r. HasReturned p.job.value.batches p.list.value (turns_of p.size.value p.domain.value p.cover.value)
-        (part_state D.Disk p.ends.value.part) (part_state D.Disk r.ends.part)
-        p.ends.value.word r.ends.word p.ends.value.lines.line r.ends.lines.line r.end
+    ghost kept_by = { λ p r. HasReturned D.Disk (part_puts p.job.value.batches p.list.value (turns_of p.size.value p.domain.value p.cover.value)) p.ends.value r
         × (r.end ≡ None → r.ends.part ≡ p.ends.value.part) };
 }
 
@@ -111,9 +108,7 @@ fn take_part<R: Wait, D: Disk, G: Gate>(
     requires room { length ends.lines.buf.items ≡ min plan.now.hints.now.cb_buffer aggregator.domain.len }
     requires word { ends.word.items ≡ [] }
     requires line { ends.lines.line.items ≡ [] }
-    ensures returned { HasReturned plan.now.job.now.batches plan.now.list.now (turns_of plan.now.hints.now.cb_buffer aggregator.domain plan.now.cover.now)
-        (part_state D.Disk ends.part) (part_state D.Disk result.ends.part)
-        ends.word result.ends.word ends.lines.line result.ends.lines.line result.end }
+    ensures returned { HasReturned D.Disk (part_puts plan.now.job.now.batches plan.now.list.now (turns_of plan.now.hints.now.cb_buffer aggregator.domain plan.now.cover.now)) ends result }
     ensures untouched { result.end ≡ None → result.ends.part ≡ ends.part }
 {
     let Ends {

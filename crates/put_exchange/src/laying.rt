@@ -8,7 +8,7 @@ ghost use Rattle.aggregator_rounds.specs.Pieces.{told_window};
 ghost use Rattle.exchange_crew.specs.Plan.{planned_pieces, planned_turns, source_in, IsDomainOf, IsPlanned};
 ghost use Rattle.exchange_crew.specs.Parts.{part_state};
 ghost use Rattle.put_exchange.specs.Put.{HasPut};
-ghost use Rattle.put_exchange.specs.Taken.{HasTaken, HasPutTaken};
+ghost use Rattle.put_exchange.specs.Taken.{HasTaken, HasPutTaken, turn_pieces};
 ghost use Rattle.exchange_crew.specs.Turns.{source_of};
 
 use crate::pieces::{drop_pieces, piece_count, take_pieces};
@@ -86,7 +86,7 @@ fn serve_turn<R: Wait, D: Disk, G>(
     requires room { due.now.window.hull.len ≤ length buf.old }
     ensures of { line.new.of ≡ line.old.of }
     ensures taken { HasTaken due.now.count line.old.items line.new.items }
-    ensures put { IsOk before → HasPutTaken (source_of due.now.batches.now) (D.from part.old) (told_window due.now.window) due.now.count line.old.items line.new.items (D.held part.old) (D.held part.new) result }
+    ensures put { IsOk before → HasPutTaken (turn_pieces (source_of due.now.batches.now) (D.from part.old) (told_window due.now.window) due.now.count) line.old.items line.new.items (D.held part.old) (D.held part.new) result }
     ensures kept { IsErr before → D.held part.new ≡ D.held part.old }
     ensures ok { OnOk result (IsOk before) }
     ensures calls { OnOk result (D.calls part.new ≡ with_end (D.calls part.old) (store_calls (told_window due.now.window))) }
@@ -115,7 +115,7 @@ fn put_turn<R: Wait, D: Disk, G>(
     requires hull { due.now.window.hull.at + due.now.window.hull.len < 2 ^ 62 }
     requires room { due.now.window.hull.len ≤ length buf.old }
     ensures of { line.new.of ≡ line.old.of }
-    ensures put { HasPutTaken (source_of due.now.batches.now) (D.from part.old) (told_window due.now.window) due.now.count line.old.items line.new.items (D.held part.old) (D.held part.new) result }
+    ensures put { HasPutTaken (turn_pieces (source_of due.now.batches.now) (D.from part.old) (told_window due.now.window) due.now.count) line.old.items line.new.items (D.held part.old) (D.held part.new) result }
     ensures calls { OnOk result (D.calls part.new ≡ with_end (D.calls part.old) (store_calls (told_window due.now.window))) }
     ensures from { D.from part.new ≡ D.from part.old }
     ensures len { D.len part.new ≡ D.len part.old }

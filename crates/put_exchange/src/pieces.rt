@@ -7,7 +7,7 @@ ghost use Rattle.serial_spec.specs.Said.{write_cells, moved_down};
 ghost use Rattle.aggregator_rounds.specs.Pieces.{told_window};
 ghost use Rattle.aggregator_rounds.specs.EntryParts as parts;
 ghost use Rattle.exchange_crew.specs.Pieces.{meets, pieces_in, IsPiece};
-ghost use Rattle.put_exchange.specs.Taken.{HasLaid, HasTaken};
+ghost use Rattle.put_exchange.specs.Taken.{HasLaid, HasTaken, range_pieces};
 ghost use Rattle.exchange_crew.specs.Turns.{source_of};
 
 use aggregator_rounds::lay_entry;
@@ -54,7 +54,7 @@ pub(crate) fn take_pieces<R: Wait>(
     requires hull { hull.at + hull.len < 2 ^ 62 }
     requires room { length buf.old ≡ hull.len }
     ensures of { line.new.of ≡ line.old.of }
-    ensures laid { HasLaid (source_of batches.now) hull.at (hull.at + hull.len) count line.old.items line.new.items buf.old buf.new }
+    ensures laid { HasLaid (range_pieces (source_of batches.now) hull.at (hull.at + hull.len) count) line.old.items line.new.items buf.old buf.new }
     ensures long { length buf.new ≡ length buf.old }
 {
     let mut left = count;

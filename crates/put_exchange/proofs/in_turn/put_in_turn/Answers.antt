@@ -51,10 +51,10 @@ serve_next-part-requires-clause-room g c κs within =
     let long = c.requires.one_each in
     let domain = get_or c.args.domains.now c.len-number.result none in
     let at = at_index c.args.domains.now c.len-number.result c.len-number.result none (omega arith) (omega arith) in
-    let most = c.longest_window.ensures domain (at_in c.args.domains.now c.len-number.result domain at) in
+    let most = c.longest_window-size.ensures domain (at_in c.args.domains.now c.len-number.result domain at) in
     let lent = ap (λ (v : List _). length v) c.deref_mut.ensures.value in
     let kept = c.loop-part.invariant.buf in
-    let made : length c.in-Ok-vec.buf.items ≡ c.longest_window.result = first_of (search rules, grind (arith, common_steps)) in
+    let made : length c.in-Ok-vec.buf.items ≡ c.longest_window-size.result = first_of (search rules, grind (arith, common_steps)) in
     omega arith
 
 pub loop-part-preserved : goal.loop-part-preserved

@@ -4,7 +4,7 @@ use Rattle.nc_base.specs.declared.plan.Batch.{Batch}
 use Rattle.aggregator_rounds.specs.Pieces.{told_window}
 use Rattle.exchange_crew.specs.Pieces.{pieces_in}
 use Rattle.exchange_crew.specs.Plan.{planned_turns, source_in}
-use Rattle.put_exchange.specs.Taken.{HasPutTaken}
+use Rattle.put_exchange.specs.Taken.{HasPutTaken, turn_pieces}
 use Rattle.exchange_crew.specs.Turns.{source_of, turns_ahead}
 use Rattle.exchange_crew.proofs.PlanLaws.{plan_on, plan_windows}
 use Rattle.put_exchange.proofs.ServeLaws.{served_begin, served_next, served_end}
@@ -94,9 +94,9 @@ turns-preserved g c =
           (record {
             took = c.serve_turn-end.ensures.taken;
             put = λ ok.
-                subst (λ (bs : List Batch). HasPutTaken (source_of bs) from t c.piece_count-count.result c.turns.line.items c.serve_turn-end.new.line.items (g.D.Disk.held c.turns.part) (g.D.Disk.held c.serve_turn-end.new.part) c.serve_turn-end.result)
+                subst (λ (bs : List Batch). HasPutTaken (turn_pieces (source_of bs) from t c.piece_count-count.result) c.turns.line.items c.serve_turn-end.new.line.items (g.D.Disk.held c.turns.part) (g.D.Disk.held c.serve_turn-end.new.part) c.serve_turn-end.result)
                 c.as_slice-batches.ensures
-                (subst (λ (n : ℕ). HasPutTaken (source_of c.as_slice-batches.result.now) n t c.piece_count-count.result c.turns.line.items c.serve_turn-end.new.line.items (g.D.Disk.held c.turns.part) (g.D.Disk.held c.serve_turn-end.new.part) c.serve_turn-end.result)
+                (subst (λ (n : ℕ). HasPutTaken (turn_pieces (source_of c.as_slice-batches.result.now) n t c.piece_count-count.result) c.turns.line.items c.serve_turn-end.new.line.items (g.D.Disk.held c.turns.part) (g.D.Disk.held c.serve_turn-end.new.part) c.serve_turn-end.result)
                 c.turns.invariant.from (c.serve_turn-end.ensures.put ok));
             kept = c.serve_turn-end.ensures.kept;
             ok = c.serve_turn-end.ensures.ok;
