@@ -276,8 +276,8 @@ with_file_attr h a fit t =
       vars = fit.vars;
     }
 
-with_var_attr : (h : Header) (owner : List ℕ) (a : Attr) → IsFit h → IsTyped h.version a → IsFit (with_extra h (extra.Att (Some owner) a))
-with_var_attr h owner a fit t =
+with_owned_attr : (h : Header) (owner : List ℕ) (a : Attr) → IsFit h → IsTyped h.version a → IsFit (with_extra h (extra.Att (Some owner) a))
+with_owned_attr h owner a fit t =
     let long = attr_long owner a h.vars in
     record {
       few_dims = fit.few_dims;
@@ -295,7 +295,7 @@ one_more : (h : Header) (e : Extra) → IsFit h → HasNoFault h e → is_lawful
 one_more h (extra.Dim d) fit none lawful whole = with_dim h d fit none lawful
 one_more h (extra.Var kind name names) fit none lawful whole = with_var h kind name names fit none lawful
 one_more h (extra.Att None a) fit none lawful whole = with_file_attr h a fit (typed h None a none whole)
-one_more h (extra.Att (Some owner) a) fit none lawful whole = with_var_attr h owner a fit (typed h (Some owner) a none whole)
+one_more h (extra.Att (Some owner) a) fit none lawful whole = with_owned_attr h owner a fit (typed h (Some owner) a none whole)
 
 no_first : (h : Header) (k : ℕ) (e : Extra) (extras : List Extra) → extras_from h k (e ∷ extras) ≡ None
     → (extra_fault h k e ≡ None) × (extras_from (with_extra h e) (suc k) extras ≡ None)
