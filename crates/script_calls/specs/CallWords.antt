@@ -11,8 +11,8 @@ use Rattle.nc_base.specs.declared.request.Call.TheVariants as call
 use Rattle.script_spec.specs.ScriptWords.{Word}
 use Rattle.script_spec.specs.ScriptSteps.{◌>>=◌, or_fault, name, ended}
 use Rattle.script_spec.specs.ScriptValues.{values}
-use Rattle.script_spec.specs.ScriptCalls.{region, post_values, new_id, posted, after_prefix, form_and_all, form_of_text, post_of_text, row_call, plain_call}
-use Rattle.script_spec.specs.CallTable.{CallRow, call_table}
+use Rattle.script_spec.specs.ScriptCalls.{region, post_values, new_id, posted, after_prefix, form_and_all, form_of_text, post_of_text, behind, row_call, plain_call}
+use Rattle.script_spec.specs.CallTable.{Family, Behind, CallRow, call_table}
 
 unfoldable pub region_by : Form → List Word → Result (Given × List Word) ScriptKind
 region_by f ws = region f ws
@@ -47,6 +47,12 @@ post_by k ids f before ws = do
   g ← region_by f v.1
   vs ← post_values_by k before g.1
   Ok (call.Post id.0 k v.0 g.0 vs)
+
+-- the call that is made of what stands behind a word of a family
+abbrev pub made_of : (f : Family) → (Behind f → Call) → List Word → Result Call ScriptKind
+made_of f make ws = do
+  b ← behind f ws
+  Ok (make b)
 
 -- a call of one of these rows
 abbrev pub call_among : List CallRow → ℕ → ℕ → List ℕ → List Word → Result Call ScriptKind

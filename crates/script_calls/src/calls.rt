@@ -1,10 +1,9 @@
 // The calls of a line.
 ghost use Rattle.std.specs.Prelude.{◌≡◌, ◌≤◌, ◌^◌, ◌+◌, [], IfOk, None, Ok, false};
 ghost use Rattle.serial_spec.specs.Lawful.{values_in_call};
-ghost use Rattle.script_spec.specs.ScriptSteps.{◌>>=◌};
 ghost use Rattle.script_spec.specs.CallTable.{Size, Name, Record, Nothing};
-ghost use Rattle.script_spec.specs.ScriptCalls.{posted, id_of_post, choice, one_id, ids, behind};
-ghost use Rattle.script_calls.specs.CallWords.{call_among, other_rows, plain_by, post_or_plain_by, call_by};
+ghost use Rattle.script_spec.specs.ScriptCalls.{posted, id_of_post, choice, one_id, ids};
+ghost use Rattle.script_calls.specs.CallWords.{call_among, made_of, other_rows, plain_by, post_or_plain_by, call_by};
 ghost use Rattle.script_words.specs.Given.{Gives, word_of};
 ghost use Rattle.script_calls.specs.Posts.{IsNew};
 
@@ -63,7 +62,7 @@ fn choice(alloc: Global, words: &mut Words<'_>) -> Result<Choice, ReadErr>
 
 /// Reads which record is filled; this rank fills its share of it, one of so many.
 fn fill_call(alloc: Global, ranks: u32, rank: u32, words: &mut Words<'_>) -> Result<Call, ReadErr>
-    ensures read { Gives (λ c. c) result (behind Record words.old >>= λ v. Ok (Call.FillRec v.0 v.1 rank ranks)) }
+    ensures read { Gives (λ c. c) result (made_of Record (λ v. Call.FillRec v.0 v.1 rank ranks) words.old) }
     ensures none { IfOk result (λ c. (values_in_call c ≡ 0) × (id_of_post c ≡ None)) }
 {
     let var = name(words)?;
@@ -78,7 +77,7 @@ fn fill_call(alloc: Global, ranks: u32, rank: u32, words: &mut Words<'_>) -> Res
 }
 
 fn attach_call(words: &mut Words<'_>) -> Result<Call, ReadErr>
-    ensures read { Gives (λ c. c) result (behind Size words.old >>= λ n. Ok (Call.Attach n)) }
+    ensures read { Gives (λ c. c) result (made_of Size (λ n. Call.Attach n) words.old) }
     ensures none { IfOk result (λ c. (values_in_call c ≡ 0) × (id_of_post c ≡ None)) }
 {
     let size = size(words)?;
@@ -88,7 +87,7 @@ fn attach_call(words: &mut Words<'_>) -> Result<Call, ReadErr>
 
 /// Reads a question for the length of a dimension.
 fn inquiry(alloc: Global, words: &mut Words<'_>) -> Result<Call, ReadErr>
-    ensures read { Gives (λ c. c) result (behind Name words.old >>= λ n. Ok (Call.InqDim n)) }
+    ensures read { Gives (λ c. c) result (made_of Name (λ n. Call.InqDim n) words.old) }
     ensures none { IfOk result (λ c. (values_in_call c ≡ 0) × (id_of_post c ≡ None)) }
 {
     let name = name(words)?;
@@ -100,7 +99,7 @@ fn inquiry(alloc: Global, words: &mut Words<'_>) -> Result<Call, ReadErr>
 
 /// This call, behind whose word none may stand.
 fn alone(call: Call, words: &mut Words<'_>) -> Result<Call, ReadErr>
-    ensures read { Gives (λ c. c) result (behind Nothing words.old >>= λ _. Ok call) }
+    ensures read { Gives (λ c. c) result (made_of Nothing (λ _. call) words.old) }
     ensures same { IfOk result (λ c. c ≡ call) }
 {
     no_more(words)?;
