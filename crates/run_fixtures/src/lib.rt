@@ -7,7 +7,7 @@ mod outside;
 mod run;
 
 pub use outside::joined;
-pub use run::{Ended, OLD, PLAIN, Run, ended};
+pub use run::{Ended, OLD, PLAIN, Run, end_of};
 
 /// What a test says that has no memory.
 pub const NO_MEMORY: &str = "no memory";

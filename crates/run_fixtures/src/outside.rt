@@ -37,7 +37,7 @@ fn sink_of(alloc: Global, run: &Run<'_>) -> Result<MemSink, Memory> {
     MemSink::new(alloc, run.room, failing)
 }
 
-pub(crate) fn outside(alloc: Global, run: &Run<'_>) -> Result<Outside, Memory> {
+pub(crate) fn outside_of(alloc: Global, run: &Run<'_>) -> Result<Outside, Memory> {
     let source = source_of(alloc, run)?;
     let disk = disk_of(alloc, run)?;
     let sink = sink_of(alloc, run)?;

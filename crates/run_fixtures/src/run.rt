@@ -1,5 +1,5 @@
 // A run, and how it ended.
-use crate::outside::{Outside, calls_of, outside};
+use crate::outside::{Outside, calls_of, outside_of};
 use nc_base::{Blob, MarkList, Memory, ReadingTable};
 use nc_outside::{DiskCallList, Fail, Gate};
 use ncmpi_cli::{Outcome, ncrun};
@@ -54,13 +54,13 @@ pub struct Ended {
 }
 
 /// Runs the program.
-pub fn ended<R: Threads + Wait + Sync, G: Gate>(
+pub fn end_of<R: Threads + Wait + Sync, G: Gate>(
     rt: &R,
     alloc: Global,
     run: &Run<'_>,
     gate: &G,
 ) -> Result<Ended, Memory> {
-    let mut outside = outside(alloc, run)?;
+    let mut outside = outside_of(alloc, run)?;
     let outcome = ncrun(
         rt,
         alloc,

@@ -11,7 +11,7 @@ use nc_base::{Blob, MarkList, RunEnd};
 use nc_outside::OpenGate;
 use ncmpi_script::read_script;
 use printed_text::{offsets_text, run_text};
-use run_fixtures::{Ended, NO_MEMORY, PLAIN, Run, ended};
+use run_fixtures::{Ended, NO_MEMORY, PLAIN, Run, end_of};
 use serial_eval::legal;
 use serial_run::{SerialEnd, serial_run};
 use std::alloc::Global;
@@ -44,7 +44,7 @@ fn joined(rt: &impl Abort, alloc: Global, parts: &[&[u8]]) -> Blob {
 
 // What the program leaves.
 fn program<R: Abort + Threads + Wait + Sync>(rt: &R, alloc: Global, run: &Run<'_>) -> Ended {
-    let end = ended(rt, alloc, run, &OpenGate).expect(rt, NO_MEMORY);
+    let end = end_of(rt, alloc, run, &OpenGate).expect(rt, NO_MEMORY);
     assert_eq!(rt; end.status, 0);
     end
 }

@@ -7,7 +7,7 @@ mod streams;
 mod words;
 
 use nc_outside::OpenGate;
-use run_fixtures::{NO_MEMORY, Run, ended, joined};
+use run_fixtures::{NO_MEMORY, Run, end_of, joined};
 use std::alloc::{AllocError, Global};
 use std::process::Abort;
 use std::sync::Wait;
@@ -27,7 +27,7 @@ fn ends<R: Abort + Threads + Wait + Sync>(
     status: u8,
     given: &[u8],
 ) {
-    let end = ended(rt, alloc, run, &OpenGate).expect(rt, NO_MEMORY);
+    let end = end_of(rt, alloc, run, &OpenGate).expect(rt, NO_MEMORY);
     assert_eq!(rt; end.given.as_slice(), given);
     assert_eq!(rt; end.status, status);
     let kept = joined(alloc, run.held).expect(rt, NO_MEMORY);

@@ -6,7 +6,7 @@ mod single;
 mod torn;
 
 use nc_outside::{Fail, FailOp, OpenGate};
-use run_fixtures::{Ended, NO_MEMORY, PLAIN, Run, ended};
+use run_fixtures::{Ended, NO_MEMORY, PLAIN, Run, end_of};
 use std::alloc::Global;
 use std::process::Abort;
 use std::sync::Wait;
@@ -28,7 +28,7 @@ fn left_by<R: Abort + Threads + Wait + Sync>(
         plan: &[fault],
         ..PLAIN
     };
-    ended(rt, alloc, &run, &OpenGate).expect(rt, NO_MEMORY)
+    end_of(rt, alloc, &run, &OpenGate).expect(rt, NO_MEMORY)
 }
 
 /// The run is stopped by the fault, and leaves these bytes.

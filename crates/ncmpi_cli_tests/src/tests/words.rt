@@ -1,6 +1,6 @@
 // What the words of the command line ask for, by the status with which each form ends.
 use nc_outside::OpenGate;
-use run_fixtures::{NO_MEMORY, PLAIN, Run, ended};
+use run_fixtures::{NO_MEMORY, PLAIN, Run, end_of};
 
 // Words of no form.
 const NONE: u8 = 2;
@@ -46,7 +46,7 @@ const FORMS: [(&[&str], u8); 20] = [
 fn words_are_of_a_form_or_of_none(rt: HostRuntime) {
     for (words, status) in &FORMS {
         let run = Run { words, ..PLAIN };
-        let end = ended(&rt, rt.alloc(), &run, &OpenGate).expect(&rt, NO_MEMORY);
+        let end = end_of(&rt, rt.alloc(), &run, &OpenGate).expect(&rt, NO_MEMORY);
         assert_eq!(rt; end.status, *status);
     }
 }

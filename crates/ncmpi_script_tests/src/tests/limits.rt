@@ -132,7 +132,7 @@ fn filled(
 
 // A text of one piece many times, and its fault.
 #[derive(Clone, Copy)]
-struct Filled {
+struct Pieces {
     before: &'static str,
     piece: &'static str,
     count: u32,
@@ -141,7 +141,7 @@ struct Filled {
 }
 
 // Each text has that fault, or none.
-fn all_found<R: Abort>(rt: &R, alloc: Global, table: &[Filled]) {
+fn all_found<R: Abort>(rt: &R, alloc: Global, table: &[Pieces]) {
     for row in table {
         let text = filled(rt, alloc, row.before, row.piece, row.count, row.after);
         found(rt, alloc, text.as_slice(), row.fault, row.before);
@@ -163,57 +163,57 @@ fn long_sequences_are_read(rt: HostRuntime) {
 const MANY: ScriptKind = ScriptKind::Limit(LimitName::Elements);
 
 // What follows 2^20 values of a call.
-const PAST_ELEMENTS: [Filled; 8] = [
-    Filled {
+const PAST_ELEMENTS: [Pieces; 8] = [
+    Pieces {
         before: "create 1\nranks 1\ndata\n0 put_var v ",
         piece: "1 ",
         count: 1 << 20,
         after: "\nend\n",
         fault: None,
     },
-    Filled {
+    Pieces {
         before: "create 1\nranks 1\ndata\n0 put_var v ",
         piece: "1 ",
         count: 1 << 20,
         after: "1\nend\n",
         fault: Some((4, MANY)),
     },
-    Filled {
+    Pieces {
         before: "create 1\nranks 1\ndata\n0 put_var v ",
         piece: "1 ",
         count: 1 << 20,
         after: "1 x\nend\n",
         fault: Some((4, MANY)),
     },
-    Filled {
+    Pieces {
         before: "create 1\nranks 1\ndata\n0 put_var v ",
         piece: "1 ",
         count: 1 << 20,
         after: "x\nend\n",
         fault: Some((4, ScriptKind::BadNumber)),
     },
-    Filled {
+    Pieces {
         before: "create 1\nranks 1\ndata\n0 put_var v ",
         piece: "x1 ",
         count: 1 << 20,
         after: "x1\nend\n",
         fault: Some((4, MANY)),
     },
-    Filled {
+    Pieces {
         before: "create 1\nranks 1\ndata\n0 put_var v \"",
         piece: "a",
         count: 1 << 20,
         after: "\"\nend\n",
         fault: None,
     },
-    Filled {
+    Pieces {
         before: "create 1\nranks 1\ndata\n0 put_var v \"",
         piece: "a",
         count: 1 << 20,
         after: "b\"\nend\n",
         fault: Some((4, MANY)),
     },
-    Filled {
+    Pieces {
         before: "create 1\nranks 1\ndata\n0 put_var v \"",
         piece: "a",
         count: 1 << 20,
@@ -242,43 +242,43 @@ fn the_count_of_a_sequence_is_looked_at_first(rt: HostRuntime) {
 const TOO_MANY: ScriptKind = ScriptKind::Limit(LimitName::Values);
 
 // What follows an attribute of 2^24 values.
-const PAST_VALUES: [Filled; 6] = [
-    Filled {
+const PAST_VALUES: [Pieces; 6] = [
+    Pieces {
         before: "create 1\nranks 1\natt : a char \"",
         piece: "a",
         count: 1 << 24,
         after: "\"\natt : b int\ndata\n0 put_var v \"\"\nend\n",
         fault: None,
     },
-    Filled {
+    Pieces {
         before: "create 1\nranks 1\natt : a char \"",
         piece: "a",
         count: 1 << 24,
         after: "b\"\ndata\nend\n",
         fault: Some((3, TOO_MANY)),
     },
-    Filled {
+    Pieces {
         before: "create 1\nranks 1\natt : a char \"",
         piece: "a",
         count: 1 << 24,
         after: "\"\natt : b char \"b\" x\n",
         fault: Some((4, TOO_MANY)),
     },
-    Filled {
+    Pieces {
         before: "create 1\nranks 1\natt : a char \"",
         piece: "a",
         count: 1 << 24,
         after: "\"\natt : b int seq 1 x\n",
         fault: Some((4, TOO_MANY)),
     },
-    Filled {
+    Pieces {
         before: "create 1\nranks 1\natt : a char \"",
         piece: "a",
         count: 1 << 24,
         after: "\"\ndata\n0 put_var v\n0 iput_var 1 v 1 x\n",
         fault: Some((6, TOO_MANY)),
     },
-    Filled {
+    Pieces {
         before: "create 1\nranks 1\natt : a char \"",
         piece: "a",
         count: 1 << 24,
@@ -292,15 +292,15 @@ fn a_script_has_up_to_2_to_the_24_values(rt: HostRuntime) {
     all_found(&rt, rt.alloc(), &PAST_VALUES);
 }
 
-const PARTS: [Filled; 2] = [
-    Filled {
+const PARTS: [Pieces; 2] = [
+    Pieces {
         before: "create 1\nranks 1\ndata\n0 put_varn v 1024",
         piece: " [] []",
         count: 1024,
         after: "\nend\n",
         fault: None,
     },
-    Filled {
+    Pieces {
         before: "create 1\nranks 1\ndata\n0 put_varn v 1024",
         piece: " [] []",
         count: 1023,
@@ -314,15 +314,15 @@ fn a_call_has_up_to_1024_parts(rt: HostRuntime) {
     all_found(&rt, rt.alloc(), &PARTS);
 }
 
-const NAMES: [Filled; 2] = [
-    Filled {
+const NAMES: [Pieces; 2] = [
+    Pieces {
         before: "create 1\nranks 1\ndim d",
         piece: "i",
         count: 255,
         after: " 1\ndata\nend\n",
         fault: None,
     },
-    Filled {
+    Pieces {
         before: "create 1\nranks 1\ndim d",
         piece: "i",
         count: 256,
@@ -339,57 +339,57 @@ fn a_name_has_up_to_256_characters(rt: HostRuntime) {
 const LINES: ScriptKind = ScriptKind::Limit(LimitName::Lines);
 
 // The most lines that a text may have, and what stands before and behind 2^20 empty ones.
-const PAST_LINES: [Filled; 8] = [
-    Filled {
+const PAST_LINES: [Pieces; 8] = [
+    Pieces {
         before: "create 1\nranks 1\ndata\n",
         piece: "\n",
         count: (1 << 20) - 4,
         after: "end\n",
         fault: None,
     },
-    Filled {
+    Pieces {
         before: "create 1\nranks 1\nx\n",
         piece: "\n",
         count: 1 << 20,
         after: "",
         fault: Some((3, ScriptKind::UnknownWord)),
     },
-    Filled {
+    Pieces {
         before: "create 1\nranks 1\ndata\nend\nx\n",
         piece: "\n",
         count: 1 << 20,
         after: "",
         fault: Some((5, ScriptKind::AfterEnd)),
     },
-    Filled {
+    Pieces {
         before: "",
         piece: "\n",
         count: 1 << 20,
         after: "create 1\n",
         fault: Some((1_048_577, LINES)),
     },
-    Filled {
+    Pieces {
         before: "",
         piece: "\n",
         count: 1 << 20,
         after: "\n",
         fault: Some((1_048_577, LINES)),
     },
-    Filled {
+    Pieces {
         before: "create 1\nranks 1\ndata\n",
         piece: "\n",
         count: 1 << 20,
         after: "",
         fault: Some((1_048_577, LINES)),
     },
-    Filled {
+    Pieces {
         before: "create 1\nranks 1\ndata\nend\n",
         piece: "\n",
         count: 1 << 20,
         after: "x",
         fault: Some((1_048_577, LINES)),
     },
-    Filled {
+    Pieces {
         before: "create 1\nranks 2\ndata\n0 sync_numrecs\nend\n",
         piece: "\n",
         count: 1 << 20,

@@ -14,7 +14,7 @@ use std::process::Abort;
 use test_fixtures::NO_MEMORY;
 
 /// What a call is answered.
-struct Told {
+struct Answered {
     code: Code,
     pair: Option<Pair>,
     number: Option<u64>,
@@ -23,7 +23,7 @@ struct Told {
     items: &'static [(u32, Code, Option<u64>)],
 }
 
-const PLAIN: Told = Told {
+const PLAIN: Answered = Answered {
     code: Code::Ok,
     pair: None,
     number: None,
@@ -35,7 +35,7 @@ const PLAIN: Told = Told {
 struct Run {
     script: &'static [u8],
     order: &'static [Mark],
-    answers: &'static [&'static [Told]],
+    answers: &'static [&'static [Answered]],
     pending: &'static [u64],
 }
 
@@ -58,7 +58,7 @@ fn items_of(rt: &impl Abort, alloc: Global, told: &[(u32, Code, Option<u64>)]) -
     items
 }
 
-fn answers_of(rt: &impl Abort, alloc: Global, told: &[Told]) -> AnswerList {
+fn answers_of(rt: &impl Abort, alloc: Global, told: &[Answered]) -> AnswerList {
     let mut answers = AnswerList::new(alloc);
     for call in told {
         let answer = Answer {
@@ -73,7 +73,7 @@ fn answers_of(rt: &impl Abort, alloc: Global, told: &[Told]) -> AnswerList {
     answers
 }
 
-fn table_of(rt: &impl Abort, alloc: Global, told: &[&[Told]]) -> AnswerTable {
+fn table_of(rt: &impl Abort, alloc: Global, told: &[&[Answered]]) -> AnswerTable {
     let mut table = AnswerTable::new(alloc);
     for own in told {
         table.push(answers_of(rt, alloc, own)).expect(rt, NO_MEMORY);
@@ -147,11 +147,11 @@ const BITS: Run = Run {
     script: b"open\nranks 1\ndata\n0 get_var_all f\n0 get_var_all d\nend\n",
     order: &[Mark::Meet(0), Mark::Solo(0, 12)],
     answers: &[&[
-        Told {
+        Answered {
             bits: Some(0x7fc00001),
             ..PLAIN
         },
-        Told {
+        Answered {
             bits: Some(0x3ff0000000000000),
             ..PLAIN
         },
@@ -181,7 +181,7 @@ const ITEMS: Run = Run {
     answers: &[&[
         PLAIN,
         PLAIN,
-        Told {
+        Answered {
             items: &[
                 (7, Code::Ok, Some(0xab)),
                 (2, Code::Ok, Some(0xab)),
@@ -225,16 +225,16 @@ const SHARED: Run = Run {
     script: b"open\nranks 1\ndata\n0 put_vara_all s [0] [1] 1\n0 put_vara_all s [0] [1] 1\n0 inq_dimlen t\nend\n",
     order: &[Mark::Meet(0), Mark::Solo(0, 12)],
     answers: &[&[
-        Told {
+        Answered {
             pair: PAIR,
             ..PLAIN
         },
-        Told {
+        Answered {
             code: Code::EEdge,
             pair: PAIR,
             ..PLAIN
         },
-        Told {
+        Answered {
             number: Some(3),
             ..PLAIN
         },

@@ -135,57 +135,42 @@ fn exchanged<R: Threads + Wait + Sync>(
     Ok((puts, take, taken))
 }
 
-fn taken_under(alloc: Global, taken: &[(u32, u64)], number: u32) -> Result<Vec<u64>, AllocError> {
-    let mut items = Vec::new(alloc);
+/// Whether the items of a sender were taken whole and in order.
+fn took_whole(taken: &[(u32, u64)], number: u32) -> bool {
+    let first = 100 * u64::from(number);
+    let mut next = first;
     for (from, item) in taken {
         if *from == number {
-            items.push(*item)?;
+            if *item != next {
+                return false;
+            }
+            next = next.wrapping_add(1);
         }
     }
-    Ok(items)
-}
-
-fn put_under(alloc: Global, number: u32) -> Result<Vec<u64>, AllocError> {
-    let number = u64::from(number);
-    let mut items = Vec::new(alloc);
-    for place in 0..number + 1 {
-        items.push(100 * number + place)?;
-    }
-    Ok(items)
+    next == first + u64::from(number) + 1
 }
 
 /// Settles one sender, and says whether its items were taken whole and in order.
-fn is_whole(
-    alloc: Global,
-    put: InPut<u64>,
-    take: InTake<u64>,
-    taken: &[(u32, u64)],
-) -> Result<(InTake<u64>, bool), AllocError>
+fn is_whole(put: InPut<u64>, take: InTake<u64>, taken: &[(u32, u64)]) -> (InTake<u64>, bool)
     requires { put.of ≡ take.of }
-    ensures { IfOk result (λ r. r.0 ≡ take) }
+    ensures { result.0 ≡ take }
 {
     let number = put.number();
     let take = settle_from(put, take);
-    let whole = taken_under(alloc, taken, number)? == put_under(alloc, number)?;
-    Ok((take, whole))
+    (take, took_whole(taken, number))
 }
 
-fn are_whole(
-    alloc: Global,
-    puts: Vec<InPut<u64>>,
-    take: InTake<u64>,
-    taken: &[(u32, u64)],
-) -> Result<bool, AllocError>
+fn are_whole(puts: Vec<InPut<u64>>, take: InTake<u64>, taken: &[(u32, u64)]) -> bool
     requires { All (λ s. s.of ≡ take.of) puts.items }
 {
     let mut take = take;
     let mut whole = true;
     for put in puts {
-        let (same, is_whole) = is_whole(alloc, put, take, taken)?;
+        let (same, is_whole) = is_whole(put, take, taken);
         take = same;
         whole &= is_whole;
     }
-    Ok(whole)
+    whole
 }
 
 /// Whether so many senders' items pass an inbox of room 1 whole and in order, `count` in all.
@@ -200,7 +185,7 @@ fn pass_whole<R: Threads + Wait + Sync>(
 {
     let (ends, take) = inbox::<u64>(alloc, 1, senders)?;
     let (puts, take, taken) = exchanged(rt, alloc, ends.into_vec(), take, count)?;
-    Ok(are_whole(alloc, puts, take, taken.as_slice())?)
+    Ok(are_whole(puts, take, taken.as_slice()))
 }
 
 #[test]
