@@ -16,6 +16,7 @@ use Rattle.serial_spec.specs.Redefinition.{layout_fault}
 use Rattle.serial_spec.specs.SerialEnd.{End, serial, serial_from}
 use Rattle.rank_meeting.specs.Begun.{HasBegun}
 use Rattle.rank_meeting.specs.Run.{IsRun}
+use Rattle.turn_run.specs.Known.{seen}
 use Rattle.script_spec.specs.Generator.{has_counts, made_script, summary_text}
 use Rattle.script_spec.specs.Texts.{header_line, layout_line, redef_line}
 use Rattle.generated_run.proofs.LawfulLaws.{made_counted, made_lawful}

@@ -14,6 +14,7 @@ use Rattle.script_spec.specs.Texts.{run_text, watch_text}
 use Rattle.script_spec.specs.ScriptGrammar.{Reads}
 use Rattle.rank_meeting.specs.Begun.{HasBegun}
 use Rattle.rank_meeting.specs.Run.{IsRun}
+use Rattle.turn_run.specs.Known.{seen}
 use Rattle.ncmpi_cli.specs.Headline.{BeginsFor, file_at_start, Ran, text_of, watched_text, with_counts}
 use Rattle.ncmpi_cli.specs.Outside.{Seen}
 use Rattle.dataset_start.specs.Dataset.{Asks}
