@@ -87,10 +87,13 @@ fn serial<R: Abort>(rt: &R, alloc: Global, row: &Row, order: MarkList) -> Left {
 }
 
 fn agrees<R: Abort + Threads + Wait + Sync>(rt: &R, alloc: Global, row: &Row) {
-    let run = Run {
-        script: &[row.script],
+    let begun = Run {
         held: row.begun,
         ..PLAIN
+    };
+    let run = Run {
+        script: &[row.script],
+        ..begun
     };
     let Ended {
         held,

@@ -39,11 +39,11 @@ const LIST: &[&str] = &["--offsets", "d.nc"];
 /// A list of the dataset's offsets ends well.
 fn is_listed<R: Abort + Threads + Wait + Sync>(rt: &R, alloc: Global, held: &[u8], given: &[u8]) {
     let run = Run {
-        words: LIST,
         held: &[held],
         ..PLAIN
     };
-    ends(rt, alloc, &run, 0, given)
+    let listed = Run { words: LIST, ..run };
+    ends(rt, alloc, &listed, 0, given)
 }
 
 /// A list of the dataset's offsets and a script that opens it are answered with this line on its header.

@@ -15,19 +15,22 @@ const TURNS: u64 = 10_000_000;
 const READINGS: usize = 17;
 
 // What a run gives and leaves that so many watch.
-fn watch<R: Abort + Threads + Wait + Sync, G: Gate>(
+fn watch<'a, R: Abort + Threads + Wait + Sync, G: Gate>(
     rt: &R,
     alloc: Global,
-    watchers: &str,
-    script: &[&[u8]],
+    watchers: &'a str,
+    script: &'a [&'a [u8]],
     gate: &G,
 ) -> Ended {
     let words = ["--watch", watchers, "d.nc"];
-    let run = Run {
-        words: words.as_slice(),
+    let given = Run {
         script,
         room: 1 << 20,
         ..PLAIN
+    };
+    let run = Run {
+        words: words.as_slice(),
+        ..given
     };
     ends_well(rt, alloc, &run, gate)
 }

@@ -122,7 +122,7 @@ end
 
 const SORTED: &[u8] = b"create 2
 ranks 2
-hint cb_nodes 8
+hint cb_nodes 2
 hint cb_buffer_size 16777216
 hint ind_rd_buffer_size 4194304
 hint ind_wr_buffer_size 524288

@@ -72,7 +72,7 @@ fn agrees<R: Abort + Threads + Wait + Sync>(
     rt: &R,
     alloc: Global,
     size: u32,
-    words: &[&str],
+    words: &'static [&'static str],
 ) -> (Blob, Blob)
     requires some { 1 ≤ size }
     requires few { size ≤ 64 }
