@@ -2,7 +2,7 @@
 -- widths of CDF-1, CDF-2 and CDF-5.
 --     canon header             its bytes, with zero padding, absent empty lists and the vsizes of the layout
 --     header_len header        how many they are
-use Rattle.std.specs.Prelude.{codes, ℕ, ◌+◌, ◌-◌, List, [], ◌∷◌, ◌++◌, length, replicate, Bool, ◌||◌, ◌==◌, if◌then◌else◌}
+use Rattle.std.specs.Prelude.{codes, ℕ, ◌-◌, List, [], ◌∷◌, ◌++◌, length, replicate, Bool, ◌||◌, ◌==◌, if◌then◌else◌}
 use Rattle.std.specs.List.{flat_map}
 use Rattle.std.specs.Int.{Width, w32, w64, to_be_bytes}
 use Rattle.nc_base.specs.declared.header.Header.{Header}

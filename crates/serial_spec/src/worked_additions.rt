@@ -1,6 +1,6 @@
 //! Fill values, added variables and readings.
 
-ghost use Rattle.std.specs.Prelude.{◌≡◌, ◌+◌, ◌-◌, ◌^◌, [], ◌∷◌, ◌++◌, Some, None, replicate, drop, codes};
+ghost use Rattle.std.specs.Prelude.{◌≡◌, ◌+◌, ◌-◌, ◌^◌, ℕ, List, [], ◌∷◌, ◌++◌, Some, None, length, replicate, drop, codes};
 ghost use Rattle.serial_spec.specs.HeaderBytes.{canon, header_len};
 ghost use Rattle.serial_spec.specs.Examples.{dataset_a, dataset_b, var, int_bytes, one_record, begin_list, file_halves, dim, more_var, dataset_aq, dataset_b_4, dataset_b_q, file_records, hints, title, twice_named, twice_named_q, inner_x, second_first, long_var};
 ghost use Rattle.nc_base.specs.declared.header.NcType.TheVariants.{Int, Short, UInt64};
@@ -12,7 +12,7 @@ ghost use Rattle.serial_spec.specs.Redefinition.{redefined, redefined_fault};
 ghost use Rattle.serial_spec.specs.Readings.{summary_of, told_of};
 ghost use Rattle.serial_spec.specs.DeviceCalls.{redefining_calls};
 ghost use Rattle.nc_base.specs.declared.errors.RedefErr.TheVariants.{Taken, Unknown, Shape, TooMany, Kind, Layout};
-ghost use Rattle.nc_base.specs.declared.errors.LayoutErr.TheVariants.{VarSize, BeginRange};
+ghost use Rattle.nc_base.specs.declared.errors.LayoutErr.TheVariants.{VarSize, HeaderRange, BeginRange};
 ghost use Rattle.nc_base.specs.declared.script.Extra.TheVariants.{Dim, Var, Att};
 
 /// Boxes of a range of row-major numbers, and fill values.
@@ -62,6 +62,7 @@ pub fn worked_refusals()
     ensures many { redefined_fault (record dataset_a { dims = replicate 1024 (dim 120 4) }) (Dim (dim 121 4) ∷ []) ≡ Some (TooMany 0) }
     ensures many_variables { redefined_fault (record dataset_a { vars = replicate 8192 (var 118 Int []) }) (more_var 113 Short 120 ∷ []) ≡ Some (TooMany 0) }
     ensures long { redefined_fault dataset_a (Dim (dim 121 (2 ^ 31)) ∷ []) ≡ Some (Kind 0) }
+    ensures long_header { (bytes : List ℕ) → length bytes ≡ 2 ^ 20 → redefined_fault dataset_a (Att None (record title { count = 2 ^ 20; bytes = bytes }) ∷ []) ≡ Some (Layout HeaderRange) }
     ensures large { redefined_fault dataset_a (long_var (2 ^ 31 - 3)) ≡ Some (Layout (VarSize 1)) }
     ensures far { redefined_fault second_first (long_var (2 ^ 31 - 4)) ≡ Some (Layout (BeginRange 1)) }
 {}
