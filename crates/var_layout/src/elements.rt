@@ -12,7 +12,7 @@ ghost use Rattle.serial_spec.specs.Place.{IsElement, IsIndex, AreApart};
 ghost use Rattle.var_layout.specs.Reached.{records_for};
 
 use crate::record::recsize;
-use crate::sizes::{inner_dims, is_record, length_of, variable};
+use crate::sizes::{inner_dims, is_record, length_of, variable_at};
 use nc_base::{Header, Var};
 use type_external::size_of;
 
@@ -55,7 +55,7 @@ pub fn place(header: &Header, var: usize, index: &[u64]) -> u64
     ensures before_end { IfSome (slice_get header.now.vars var) (λ v. (records : ℕ) → records_for header.now v index.now ≤ records
         → result + size_of v.kind ≤ end_of header.now (header_len header.now) records) }
 {
-    place_of(header, variable(header, var), index)
+    place_of(header, variable_at(header, var), index)
 }
 
 /// The bytes of two elements of a sound header's variables have none in common where variable or index differ, none is

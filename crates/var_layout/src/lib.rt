@@ -26,5 +26,5 @@ pub use end::{end_of, file_end, sound_files_end};
 pub use measures::Measures;
 pub use names::{find_dim, find_var};
 pub use record::{is_lone, record_limit, record_share, recsize, recsize_of};
-pub use sizes::{is_record, length_of, slab, slab_of, vsize, vsize_of};
+pub use sizes::{is_record, length_of, slab, slab_of, variable_at, vsize, vsize_of};
 pub use written::header_len;

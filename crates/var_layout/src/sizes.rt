@@ -8,8 +8,8 @@ use crate::capped;
 use nc_base::{Header, Var};
 use type_external::size_of;
 
-/// The variable at this place of the header's list.
-pub(crate) fn variable(header: &Header, var: usize) -> &Var
+/// The variable at this place of the header's list, which has one there.
+pub fn variable_at(header: &Header, var: usize) -> &Var
     requires { var < length header.now.vars }
     ensures { slice_get header.now.vars var ≡ Some result.now }
 {
@@ -83,7 +83,7 @@ pub fn slab(header: &Header, var: usize) -> u64
     ensures value { IfSome (slice_get header.now.vars var) (λ v. result ≡ layout.slab header.now v) }
     ensures small { result < 2 ^ 62 }
 {
-    slab_of(header, variable(header, var))
+    slab_of(header, variable_at(header, var))
 }
 
 /// The slab rounded up to a multiple of 4: what a variable takes of a file, or of a record beside other variables.
@@ -93,5 +93,5 @@ pub fn vsize(header: &Header, var: usize) -> u64
     ensures value { IfSome (slice_get header.now.vars var) (λ v. result ≡ layout.vsize header.now v) }
     ensures small { result < 2 ^ 62 }
 {
-    vsize_of(header, variable(header, var))
+    vsize_of(header, variable_at(header, var))
 }

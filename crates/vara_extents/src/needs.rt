@@ -104,14 +104,6 @@ pub fn bytes_wanted(header: &Header, post: &Post) -> u64
     }
 }
 
-/// The variable at this place of the header's list, which has one there.
-pub(crate) fn variable_at(header: &Header, var: usize) -> &Var
-    requires { var < length header.now.vars }
-    ensures { slice_get header.now.vars var ≡ Some result.now }
-{
-    &header.vars.as_slice()[var]
-}
-
 /// The variable at this place of the header's list.
 pub fn variable(header: &Header, var: usize) -> Option<&Var>
     ensures { option_copied result ≡ slice_get header.now.vars var }

@@ -7,11 +7,10 @@ ghost use Rattle.vara_extents.specs.Joined.{joined_to, extents_of};
 ghost use Rattle.vara_extents.specs.Left.{extents_from, extents_left, run_place, AreReady, IsRunOf, IsReady};
 ghost use Rattle.vara_extents.specs.Numbered.{AreRuns};
 
-use crate::needs::variable_at;
 use crate::runs::{place_of, row_of_runs, run_of};
 use nc_base::{Extent, Header, Region, Var};
 use type_external::{element_count, size_of};
-use var_layout::Measures;
+use var_layout::{Measures, variable_at};
 
 /// The elements of a region as runs, one after another: the elements of a run follow one another in the file.
 #[derive(Clone, Copy, Drop)]
