@@ -3,28 +3,17 @@ ghost use Rattle.std.specs.Prelude.{◌≡◌, [], ◌∷◌, true, IfOk};
 ghost use Rattle.nc_base.specs.declared.step.MeetKind.TheVariants.{Put};
 ghost use Rattle.nc_base.specs.declared.step.OfferKind.TheVariants as kind;
 ghost use Rattle.serial_spec.specs.SoundHeaders.{is_sound};
-ghost use Rattle.vara_extents.specs.Accepted.{IsAccepted};
 ghost use Rattle.element_steps.specs.Requests.{IsPut};
 
-use element_steps::{get, meeting, solo};
+use crate::tests::fixtures::placed;
+use element_steps::meeting;
 use nc_base::{
-    Batch, Direction, Header, MeetKind, NcType, Offer, OfferKind, OverlapRule, Pair, Post,
-    PostList, Reply,
+    Batch, Direction, Header, MeetKind, NcType, Offer, OfferKind, OverlapRule, Pair, Post, PostList,
 };
 use std::alloc::{AllocError, Global};
 use std::process::Abort;
 use std::test::Fail;
-use test_fixtures::{
-    Asked, NO_LAYOUT, NO_MEMORY, has_whole_bytes, is_accepted, laid_out, one_variable, post,
-};
-
-// The dimension x of this length, and the variable v over it, which begins at 80.
-fn placed(rt: &impl Abort, alloc: Global, len: u64, kind: NcType) -> Header
-    ensures { is_sound result ≡ true }
-{
-    let header = one_variable(alloc, len, kind, 0).expect(rt, NO_MEMORY);
-    laid_out(header).expect(rt, NO_LAYOUT)
-}
+use test_fixtures::{Asked, NO_MEMORY, has_whole_bytes, is_accepted, post};
 
 // A request for elements of v.
 fn posted(rt: &impl Abort, alloc: Global, asked: &Asked) -> Post {
@@ -37,13 +26,6 @@ fn is_put(rt: &impl Abort, header: &Header, post: &Post)
 {
     assert!(rt; is_accepted(header, post, Direction::Put));
     assert!(rt; has_whole_bytes(header, post));
-}
-
-// A step takes this get.
-fn is_get(rt: &impl Abort, header: &Header, post: &Post)
-    ensures { IsAccepted header.now post.now.var post.now.region }
-{
-    assert!(rt; is_accepted(header, post, Direction::Get));
 }
 
 fn offer_of(alloc: Global, post: Post) -> Result<Offer, AllocError>
@@ -82,32 +64,16 @@ fn met<R: Abort>(
     }
 }
 
-// The reply to a put of a rank alone.
-fn alone<R: Abort>(
-    rt: &R,
-    alloc: Global,
-    header: &Header,
-    a: Post,
-    file: &mut Vec<u8>,
-) -> Result<Reply, Fail>
-    requires { is_sound header.now ≡ true }
-{
-    is_put(rt, header, &a);
-    let offer = offer_of(alloc, a)?;
-    Ok(solo(alloc, header, OverlapRule::Refuse, 3, &offer, file)?)
-}
-
 // A file of so many zeros.
 fn zeros(rt: &impl Abort, alloc: Global, count: usize) -> Vec<u8> {
     vec![in alloc; 0; count].expect(rt, NO_MEMORY)
 }
 
-// What two ranks put, which two puts share, how many records there are then, and the bytes behind the header.
+// What two ranks put, how many records there are then, and the bytes behind the header.
 struct Case {
     kind: NcType,
     len: u64,
     puts: [Asked; 2],
-    pair: Option<Pair>,
     records: u64,
     bytes: &'static [u8],
 }
@@ -129,37 +95,8 @@ const GAPS: Case = Case {
             bytes: b"\0\0\0\x02\0\0\0\x04",
         },
     ],
-    pair: None,
     records: 0,
     bytes: b"\0\0\0\x01\0\0\0\x02\0\0\0\x03\0\0\0\x04",
-};
-
-const SHARED: Case = Case {
-    kind: NcType::Int,
-    len: 4,
-    puts: [
-        Asked {
-            from: 0,
-            count: 3,
-            stride: 1,
-            bytes: &[1; 12],
-        },
-        Asked {
-            from: 2,
-            count: 2,
-            stride: 1,
-            bytes: &[2; 8],
-        },
-    ],
-    pair: Some(Pair {
-        rank1: 0,
-        request1: 0,
-        rank2: 1,
-        request2: 0,
-        at: 88,
-    }),
-    records: 0,
-    bytes: &[0; 16],
 };
 
 const RECORDS: Case = Case {
@@ -179,7 +116,6 @@ const RECORDS: Case = Case {
             bytes: b"",
         },
     ],
-    pair: None,
     records: 4,
     bytes: b"\0\0\0\0\0\0\0\x07",
 };
@@ -192,7 +128,7 @@ fn case_met<R: Abort>(rt: &R, alloc: Global, case: &Case) -> Result<Vec<u8>, Fai
     let mut file = zeros(rt, alloc, if case.len == 0 { 80 } else { 96 });
     let mut records = 0;
     let pair = met(rt, alloc, &header, a, b, &mut file, &mut records)?;
-    assert!(rt; pair == case.pair);
+    assert!(rt; pair.is_none());
     assert!(rt; records == case.records);
     assert!(rt; file.as_slice().get(80..) == Some(case.bytes));
     Ok(file)
@@ -205,54 +141,8 @@ fn two_ranks_fill_each_others_gaps(rt: HostRuntime) -> Result<(), Fail> {
 }
 
 #[test]
-fn a_shared_byte_is_told_and_nothing_is_written(rt: HostRuntime) -> Result<(), Fail> {
-    let file = case_met(&rt, rt.alloc(), &SHARED)?;
-    assert!(rt; file.iter().all(|byte| *byte == 0));
-    Ok(())
-}
-
-#[test]
 fn a_record_is_put_and_counted(rt: HostRuntime) -> Result<(), Fail> {
     let file = case_met(&rt, rt.alloc(), &RECORDS)?;
     assert!(rt; file.as_slice().get(4..8) == Some([0u8, 0, 0, 4].as_slice()));
     Ok(())
-}
-
-const ONE_RECORD: Asked = Asked {
-    from: 2,
-    count: 1,
-    stride: 1,
-    bytes: b"\0\x05",
-};
-
-#[test]
-fn one_rank_alone_leaves_the_count(rt: HostRuntime) -> Result<(), Fail> {
-    let alloc = rt.alloc();
-    let header = placed(&rt, alloc, 0, NcType::Short);
-    let mut file = zeros(&rt, alloc, 80);
-    let put = posted(&rt, alloc, &ONE_RECORD);
-    let reply = alone(&rt, alloc, &header, put, &mut file)?;
-    assert!(rt; reply.pair.is_none() && reply.records == 3);
-    assert!(rt; file.as_slice().get(80..) == Some([0u8, 0, 0, 0, 0, 5].as_slice()));
-    Ok(())
-}
-
-const EVERY_OTHER: Asked = Asked {
-    from: 1,
-    count: 2,
-    stride: 2,
-    bytes: &[],
-};
-
-#[test]
-fn a_get_reads_each_element(rt: HostRuntime) {
-    let alloc = rt.alloc();
-    let header = placed(&rt, alloc, 4, NcType::Short);
-    let mut file = zeros(&rt, alloc, 80);
-    file.extend_from_slice(&[1, 2, 3, 4, 5, 6, 7, 8])
-        .expect(&rt, NO_MEMORY);
-    let asked = posted(&rt, alloc, &EVERY_OTHER);
-    is_get(&rt, &header, &asked);
-    let blob = get(alloc, &header, &asked, file.as_slice()).expect(&rt, NO_MEMORY);
-    assert!(rt; blob.as_slice() == [3u8, 4, 7, 8].as_slice());
 }

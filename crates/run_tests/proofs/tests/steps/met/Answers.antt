@@ -1,7 +1,7 @@
 -- Both offers are right.
 use Rattle.std.proofs.Common.{◌∙◌}
-use Rattle.serial_tests.proofs.TwoOffers.{two_right}
-use Rattle.serial_tests.proofs.tests.steps.met.Goals as goal
+use Rattle.run_tests.proofs.TwoOffers.{two_right}
+use Rattle.run_tests.proofs.tests.steps.met.Goals as goal
 
 pub meeting-requires-clause-right : goal.meeting-requires-clause-right
 meeting-requires-clause-right g c =

@@ -1,5 +1,0 @@
-//! Tests of rank_core.
-#![tactic(auto)]
-
-#[cfg(test)]
-mod tests;

@@ -1,5 +1,0 @@
-//! Tests of rank_meeting.
-#![tactic(auto)]
-
-#[cfg(test)]
-mod tests;

@@ -1,3 +1,0 @@
-// Steps element by element, and orders of steps.
-mod orders;
-mod steps;
