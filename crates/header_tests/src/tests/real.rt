@@ -200,7 +200,8 @@ const FILES: [Shown; 4] = [
 fn are_shown(attrs: &[Attr], shown: &[ShownAttr]) -> bool {
     let mut same = attrs.len() == shown.len();
     for (attr, (name, kind, bytes)) in attrs.iter().zip(shown) {
-        same &= attr.name.as_slice() == *name && attr.kind == *kind;
+        same &= attr.name.as_slice() == *name;
+        same &= attr.kind == *kind;
         same &= attr.bytes.as_slice() == *bytes;
     }
     same
@@ -209,7 +210,8 @@ fn are_shown(attrs: &[Attr], shown: &[ShownAttr]) -> bool {
 fn has_dims(header: &Header, shown: &Shown) -> bool {
     let mut same = header.dims.len() == shown.dims.len();
     for (dim, (name, len)) in header.dims.as_slice().iter().zip(shown.dims) {
-        same &= dim.name.as_slice() == *name && dim.len == *len;
+        same &= dim.name.as_slice() == *name;
+        same &= dim.len == *len;
     }
     same
 }
@@ -217,8 +219,10 @@ fn has_dims(header: &Header, shown: &Shown) -> bool {
 fn has_vars(header: &Header, shown: &Shown) -> bool {
     let mut same = header.vars.len() == shown.vars.len();
     for (var, wanted) in header.vars.as_slice().iter().zip(shown.vars) {
-        same &= var.name.as_slice() == wanted.name && var.kind == wanted.kind;
-        same &= var.dims.as_slice() == wanted.dims && var.begin == wanted.begin;
+        same &= var.name.as_slice() == wanted.name;
+        same &= var.kind == wanted.kind;
+        same &= var.dims.as_slice() == wanted.dims;
+        same &= var.begin == wanted.begin;
         same &= are_shown(var.attrs.as_slice(), wanted.attrs);
     }
     same

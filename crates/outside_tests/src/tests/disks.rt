@@ -1,6 +1,4 @@
 // A disk in memory.
-ghost use Rattle.std.specs.Prelude.{◌≤◌, ◌<◌, ◌+◌};
-
 use super::{NO_MEMORY, blob};
 use nc_base::DiskCall;
 use nc_outside::{Disk, Fail, FailList, FailOp, MemDisk};

@@ -25,7 +25,7 @@ fn take_three<R: Wait>(rt: &R, mut end: LineTake<u64>) -> [u64; 3] {
 
 /// What one thread takes while another puts 7, 8, 9.
 fn carried<R: Threads + Wait + Sync>(rt: &R, put: LinePut<u64>, take: LineTake<u64>) -> [u64; 3] {
-    let (_put, taken) = thread::join(rt, move || put_three(rt, put), move || take_three(rt, take));
+    let (_, taken) = thread::join(rt, move || put_three(rt, put), move || take_three(rt, take));
     taken
 }
 
