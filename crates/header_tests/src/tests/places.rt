@@ -26,14 +26,14 @@ fn header_of(rt: &impl Abort, alloc: Global, version: u8, len: u64, kind: NcType
     }
 }
 
-/// The header with its begins, of which the first is a `multiple`.
-fn laid_out(rt: &impl Abort, mut header: Header, multiple: u64) -> Header
+/// The header with its begins, of which the first is a multiple of `first`.
+fn laid_out(rt: &impl Abort, mut header: Header, first: u64) -> Header
     requires unplaced { is_unplaced header ≡ true }
-    requires multiple { (0 < multiple) × (multiple ≤ 2 ^ 20) }
+    requires header_align { (0 < first) × (first ≤ 2 ^ 20) }
     ensures { is_sound result ≡ true }
 {
     let align = Align {
-        header: multiple,
+        header: first,
         var: 4,
     };
     lay_out(&mut header, &align).expect(rt, NO_LAYOUT);
