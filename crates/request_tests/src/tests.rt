@@ -1,5 +1,6 @@
-// What calls ask for: regions, an attached buffer, and pending requests.
+// What calls ask for: regions of a file and of memory, an attached buffer, and pending requests.
 mod buffers;
+mod maps;
 mod queues;
 mod regions;
 

@@ -1,5 +1,0 @@
-//! Tests of cdf_header.
-#![tactic(auto)]
-
-#[cfg(test)]
-mod tests;

@@ -1,0 +1,5 @@
+//! Tests of type_external, var_layout and cdf_header.
+#![tactic(auto)]
+
+#[cfg(test)]
+mod tests;

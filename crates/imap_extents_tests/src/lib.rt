@@ -1,5 +1,0 @@
-//! Tests of imap_extents.
-#![tactic(auto)]
-
-#[cfg(test)]
-mod tests;

@@ -1,3 +1,0 @@
-// Values in external form, and the places of variables.
-mod places;
-mod values;

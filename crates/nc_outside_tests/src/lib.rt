@@ -1,5 +1,0 @@
-//! Tests of nc_outside.
-#![tactic(auto)]
-
-#[cfg(test)]
-mod tests;
