@@ -4,7 +4,7 @@ mod WindowSteps
 mod CallSteps
 mod PutSteps
 mod ReachSteps
-pub mod GetSteps
+mod GetSteps
 mod CollectedSteps
 mod NextSteps
 mod LoopSteps

@@ -1,3 +1,2 @@
 mod ManyEntries
-mod TwoEntries
 mod TwoPosts

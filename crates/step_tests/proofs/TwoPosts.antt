@@ -1,4 +1,4 @@
--- Puts and gets of two ranks, one each, and a put of one rank alone, as the tests have them.
+-- Puts and gets of two ranks, one each, and two gets and a put of one rank alone, as the tests have them.
 use Rattle.std.proofs.Common.{◌≡◌, ℕ, zero, suc, refl, sym, subst, inl, inr, List, [], ◌∷◌, true, Some}
 use Rattle.std.specs.Prelude.{slice_get}
 use Rattle.serial_spec.proofs.MemberLaws.{at_in}
@@ -61,7 +61,20 @@ two_gets header len a b batches e p q = subst (λ (bs : List Batch). AreGets hea
     are r (inr (inl h)) = subst (λ (s : Post). IsGet header len s) h q
     are r (inr (inr m)) = absurd m
 
--- ---- one rank alone
+-- ---- two gets of one rank alone
+
+abbrev both : Post → Post → Batch
+both a b = record { puts = []; gets = a ∷ b ∷ [] }
+
+pub two_alone : (header : Header) (len : ℕ) (a b : Post) (batch : Batch) → batch ≡ both a b → IsGet header len a → IsGet header len b → AreGets header len batch.gets
+two_alone header len a b batch e p q = subst (λ (g : Batch). AreGets header len g.gets) (sym e) are
+  where
+    are : AreGets header len (a ∷ b ∷ [])
+    are r (inl h) = subst (λ (s : Post). IsGet header len s) h p
+    are r (inr (inl h)) = subst (λ (s : Post). IsGet header len s) h q
+    are r (inr (inr m)) = absurd m
+
+-- ---- a put of one rank alone
 
 one_are : (header : Header) (rank : ℕ) (a : Post) → IsPut header a → ArePuts header (puts_of_batch (rank, lone a))
 one_are header rank a p r (inl e) = subst (λ (s : ℕ × Post). IsPut header s.1) e p

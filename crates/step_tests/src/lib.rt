@@ -1,4 +1,4 @@
-//! Tests of file_domains, overlap_report, aggregator_rounds, data_sieving and collective_round.
+//! Tests of collective_round, and through it of what it stands on; and of overlap_report.
 #![tactic(auto)]
 
 #[cfg(test)]

@@ -1,4 +1,4 @@
-// Steps of two ranks and of one on small datasets, with the calls and the bytes worked out by hand.
+// Steps of two ranks and of one on small datasets, by two aggregators. Calls and bytes are worked out by hand.
 ghost use Rattle.std.specs.Prelude.{◌≡◌, ◌<◌, ◌≤◌, [], ◌∷◌, true, length};
 ghost use Rattle.serial_spec.specs.HeaderBytes.{header_len};
 ghost use Rattle.serial_spec.specs.SoundHeaders.{is_sound};
@@ -6,14 +6,15 @@ ghost use Rattle.serial_spec.specs.Lawful.{are_lawful_hints};
 ghost use Rattle.serial_spec.specs.Layout.{end_of};
 ghost use Rattle.collective_round.specs.Rounds.{IsGet, IsPut};
 
-pub(crate) mod gets;
+mod alone;
 mod puts;
 
-use collective_round::{Dataset as Lent, PutEnd, get_all, put_all, put_solo};
+use collective_round::{Dataset as Lent, PutEnd, get_all, get_solo, put_all, put_solo};
 use nc_base::{
-    Batch, Direction, GotTable, Header, Hints, Job, NcType, OverlapRule, Post, PostList, StepErr,
+    Batch, BlobList, Direction, GotTable, Header, Hints, Job, NcType, OverlapRule, Post, PostList,
+    StepErr,
 };
-use nc_outside::{Disk, MemDisk, OpenGate};
+use nc_outside::{Disk, Gate, MemDisk, OpenGate};
 use piece_exchange::Tools;
 use std::alloc::Global;
 use std::process::Abort;
@@ -26,13 +27,13 @@ use test_fixtures::{
 use var_layout::{Measures, file_end};
 use vara_extents::records_needed;
 
-/// One aggregator, with windows of one int; one rank alone has windows of eight bytes.
-pub(super) const HINTS: Hints = Hints {
-    cb_nodes: 1,
-    cb_buffer: 4,
+/// Two aggregators, with windows of 12 bytes; one rank alone has windows of eight.
+const HINTS: Hints = Hints {
+    cb_nodes: 2,
+    cb_buffer: 12,
     rd_buffer: 8,
     wr_buffer: 8,
-    line_room: 4,
+    line_room: 2,
     threads: false,
     overlap: OverlapRule::Refuse,
     header_align: 4,
@@ -40,32 +41,29 @@ pub(super) const HINTS: Hints = Hints {
     striping_unit: 1,
 };
 
-/// How a step is done.
+/// The room of the aggregators' lines, whether they have threads, and what becomes of puts that share a byte.
 #[derive(Clone, Copy)]
-enum How {
-    /// By one aggregator, with windows of one int.
-    Plain,
-    /// By two aggregators, whose domains are cut at multiples of 4.
-    Two,
-    /// Requests of later ranks are done over those of ranks before.
-    Serial,
+pub(super) struct Way {
+    pub(super) line_room: u32,
+    pub(super) threads: bool,
+    pub(super) overlap: OverlapRule,
 }
 
-fn hints_of(how: How) -> Hints
+pub(super) const IN_TURN: Way = Way {
+    line_room: 2,
+    threads: false,
+    overlap: OverlapRule::Refuse,
+};
+
+fn hints_of(rt: &impl Abort, way: Way) -> Hints
     ensures { are_lawful_hints result ≡ true }
 {
-    match how {
-        How::Plain => HINTS,
-        How::Two => Hints {
-            cb_nodes: 2,
-            cb_buffer: 16,
-            striping_unit: 4,
-            ..HINTS
-        },
-        How::Serial => Hints {
-            overlap: OverlapRule::Serial,
-            ..HINTS
-        },
+    assert!(rt; 1 <= way.line_room && way.line_room <= 64);
+    Hints {
+        line_room: way.line_room,
+        threads: way.threads,
+        overlap: way.overlap,
+        ..HINTS
     }
 }
 
@@ -77,7 +75,7 @@ pub(super) struct Dataset {
 }
 
 /// The dimension x of this length, and the variable v over it, which begins at 80.
-pub(super) fn placed(rt: &impl Abort, alloc: Global, len: u64, kind: NcType) -> Header
+fn placed(rt: &impl Abort, alloc: Global, len: u64, kind: NcType) -> Header
     ensures { is_sound result ≡ true }
 {
     let header = one_variable(alloc, len, kind, 0).expect(rt, NO_MEMORY);
@@ -104,6 +102,16 @@ fn batch_of_get(rt: &impl Abort, alloc: Global, post: Post) -> Batch
     Batch {
         puts: PostList::new(alloc),
         gets: one(alloc, post).expect(rt, NO_MEMORY),
+    }
+}
+
+/// Two gets of a rank alone.
+fn batch_of_gets(rt: &impl Abort, alloc: Global, a: Post, b: Post) -> Batch
+    ensures { result ≡ record { puts = []; gets = a ∷ b ∷ [] } }
+{
+    Batch {
+        puts: PostList::new(alloc),
+        gets: two(alloc, a, b).expect(rt, NO_MEMORY),
     }
 }
 
@@ -158,9 +166,10 @@ fn is_long(rt: &impl Abort, header: &Header, disk: &MemDisk)
 }
 
 /// How the puts of two ranks end, one each, and the record count then.
-pub(super) fn put_two<R: Abort + Threads + Wait + Sync>(
+pub(super) fn put_two<R: Abort + Threads + Wait + Sync, G: Gate>(
     rt: &R,
     alloc: Global,
+    gate: &G,
     disk: &mut MemDisk,
     set: &Dataset,
     a: Post,
@@ -180,11 +189,7 @@ pub(super) fn put_two<R: Abort + Threads + Wait + Sync>(
         measures: &measures,
         hints: &set.hints,
     };
-    let tools = Tools {
-        rt,
-        alloc,
-        gate: &OpenGate,
-    };
+    let tools = Tools { rt, alloc, gate };
     let mut records = 0;
     let end = put_all(&tools, disk, &dataset, &mut records, &job);
     (end, records)
@@ -244,13 +249,44 @@ fn put_one(
     put_solo(alloc, disk, &dataset, 3, &batch)
 }
 
+/// What a rank alone gets by two requests, one blob each.
+fn get_one(
+    rt: &impl Abort,
+    alloc: Global,
+    disk: &mut MemDisk,
+    header: &Header,
+    a: Post,
+    b: Post,
+) -> Result<BlobList, StepErr>
+    requires { is_sound header.now ≡ true }
+{
+    is_long(rt, header, disk);
+    let len = disk.size();
+    is_get(rt, header, len, &a);
+    is_get(rt, header, len, &b);
+    let batch = batch_of_gets(rt, alloc, a, b);
+    let measures = Measures::of(header);
+    let dataset = Lent {
+        header,
+        measures: &measures,
+        hints: &HINTS,
+    };
+    get_solo(alloc, disk, &dataset, &batch)
+}
+
 /// The dimension x of this length, and the variable v over it.
-fn small_dataset(rt: &impl Abort, alloc: Global, len: u64, kind: NcType, how: How) -> Dataset
+pub(super) fn small_dataset(
+    rt: &impl Abort,
+    alloc: Global,
+    len: u64,
+    kind: NcType,
+    way: Way,
+) -> Dataset
     ensures sound { is_sound result.header ≡ true }
     ensures hints { are_lawful_hints result.hints ≡ true }
 {
     Dataset {
         header: placed(rt, alloc, len, kind),
-        hints: hints_of(how),
+        hints: hints_of(rt, way),
     }
 }

@@ -1,2 +1,0 @@
-mod FilledHeaders
-mod MovedHeaders

@@ -1,5 +1,0 @@
-//! Tests of piece_exchange.
-#![tactic(auto)]
-
-#[cfg(test)]
-mod tests;
