@@ -1,5 +1,5 @@
 // The calls of the ranks.
-ghost use Rattle.std.specs.Prelude.{◌≡◌, ◌+◌, ◌*◌, ◌<◌, ◌≤◌, ◌++◌, IfOk, OnOk, codes, flat_map, map, true};
+ghost use Rattle.std.specs.Prelude.{◌≡◌, ◌+◌, ◌*◌, ◌<◌, ◌≤◌, ◌++◌, ◌∷◌, [], IfOk, OnOk, codes, flat_map, map, true};
 ghost use Rattle.std.specs.List.{range_with_len};
 ghost use Rattle.nc_base.specs.declared.request.Call.TheVariants as call;
 ghost use Rattle.nc_base.specs.declared.request.PostKind.TheVariants.{Bput};
@@ -40,10 +40,18 @@ fn rank_calls(alloc: Global, seed: u64, size: u32, rank: u32) -> Result<CallList
     let mut calls = CallList::new(alloc);
     calls.push(Call::Attach { size: BUFFER })?;
     push_records(alloc, &mut calls, seed, size, rank)?;
-    calls.push(get_columns(alloc, TEMP, size, rank)?)?;
-    calls.push(get_columns(alloc, PRECIP, size, rank)?)?;
+    push_gets(alloc, &mut calls, size, rank)?;
     calls.push(Call::Detach)?;
     Ok(calls)
+}
+
+/// A get of each variable.
+fn push_gets(alloc: Global, calls: &mut CallList, size: u32, rank: u32) -> Result<(), Memory>
+    ensures { OnOk result (calls.new ≡ calls.old ++ call.Get true (codes "temp") (columns_of size rank) ∷ call.Get true (codes "precip") (columns_of size rank) ∷ []) }
+{
+    calls.push(get_columns(alloc, TEMP, size, rank)?)?;
+    calls.push(get_columns(alloc, PRECIP, size, rank)?)?;
+    Ok(())
 }
 
 fn push_records(
