@@ -1,11 +1,11 @@
 // The parts of a script, one after the other.
 ghost use Rattle.std.specs.Prelude.{◌≡◌, ◌≤◌, IfOk, IfSome};
 ghost use Rattle.script_spec.specs.ScriptWords.{significant_of};
-ghost use Rattle.script_spec.specs.ScriptGrammar.{head, data_line, definition_step, definitions, call_step, data_part, at_line};
+ghost use Rattle.script_spec.specs.ScriptGrammar.{head, data_line, definitions, call_step, data_part, at_line};
 ghost use Rattle.script_words.specs.Given.{Gives, GivesAt, word_of};
 ghost use Rattle.script_words.specs.Seen.{line_seen};
 ghost use Rattle.ncmpi_script.specs.LineFaults.{TakesLine, on_line};
-ghost use Rattle.ncmpi_script.specs.TopWords.{head_by};
+ghost use Rattle.ncmpi_script.specs.TopWords.{head_by, known_by, definition_by};
 
 use nc_base::{ScriptErr, ScriptKind};
 use script_calls::RankTable;
@@ -86,14 +86,28 @@ fn data_line(draft: &Draft<'_>, words: &mut Words<'_>) -> Result<u32, ReadErr>
     Ok(ranks)
 }
 
+/// Reads a line of the definitions that is not `data`.
+#[tactic(auto, unfolding(crate::specs::TopWords::known_by))]
+fn definition<'a>(
+    version: u8,
+    draft: &mut Draft<'a>,
+    first: &'a [u8],
+    words: &mut Words<'a>,
+) -> Result<(), ReadErr>
+    ensures { Gives (λ _. draft.new) result (known_by version draft.old first.now words.old) }
+{
+    draft.read(version, first, words)
+}
+
 /// Reads a line of the definitions: the number of ranks at `data`.
+#[tactic(auto, unfolding(crate::specs::TopWords::definition_by))]
 fn definition_step<'a>(
     version: u8,
     draft: &mut Draft<'a>,
     first: Token<'a>,
     words: &mut Words<'a>,
 ) -> Result<Option<u32>, ReadErr>
-    ensures read { Gives (λ ranks. (ranks, draft.new)) result (definition_step version draft.old (word_of first.entry) words.old) }
+    ensures read { Gives (λ ranks. (ranks, draft.new)) result (definition_by version draft.old (word_of first.entry) words.old) }
     ensures bound { IfOk result (λ ranks. IfSome ranks (λ n. n ≤ 64)) }
 {
     let first = bare(first)?;
@@ -101,7 +115,7 @@ fn definition_step<'a>(
         let ranks = data_line(draft, words)?;
         return Ok(Some(ranks));
     }
-    draft.read(version, first, words)?;
+    definition(version, draft, first, words)?;
     Ok(None)
 }
 
@@ -113,7 +127,7 @@ fn definition_line<'a>(
     line: Line<'a>,
 ) -> Result<Option<u32>, LineErr>
     ensures read { GivesAt (λ ranks. (ranks, draft.new)) result
-        (at_line line.entry.number (definition_step version draft.old (word_of line.entry.first) line.entry.rest)) }
+        (at_line line.entry.number (definition_by version draft.old (word_of line.entry.first) line.entry.rest)) }
     ensures bound { IfOk result (λ ranks. IfSome ranks (λ n. n ≤ 64)) }
 {
     let Line {
@@ -125,6 +139,7 @@ fn definition_line<'a>(
 }
 
 /// Reads the definitions, up to `data`: the number of ranks.
+#[tactic(auto, using(crate::proofs::TopLaws::same_definition))]
 pub fn definitions<'a>(
     alloc: Global,
     past: u32,
