@@ -1,11 +1,11 @@
 // The parts of a script, one after the other.
 ghost use Rattle.std.specs.Prelude.{◌≡◌, ◌≤◌, IfOk, IfSome};
 ghost use Rattle.script_spec.specs.ScriptWords.{significant_of};
-ghost use Rattle.script_spec.specs.ScriptGrammar.{head, data_line, definitions, call_step, data_part, at_line};
+ghost use Rattle.script_spec.specs.ScriptGrammar.{head, data_line, definitions, data_part, at_line};
 ghost use Rattle.script_words.specs.Given.{Gives, GivesAt, word_of};
 ghost use Rattle.script_words.specs.Seen.{line_seen};
 ghost use Rattle.ncmpi_script.specs.LineFaults.{TakesLine, on_line};
-ghost use Rattle.ncmpi_script.specs.TopWords.{head_by, known_by, definition_by};
+ghost use Rattle.ncmpi_script.specs.TopWords.{head_by, known_by, definition_by, called_by, call_by};
 
 use nc_base::{ScriptErr, ScriptKind};
 use script_calls::RankTable;
@@ -159,21 +159,35 @@ pub fn definitions<'a>(
     }
 }
 
+/// Reads a line of the calls that is not `end`.
+#[tactic(auto, unfolding(crate::specs::TopWords::called_by))]
+fn call(
+    alloc: Global,
+    table: &mut RankTable,
+    first: &[u8],
+    words: &mut Words<'_>,
+) -> Result<(), ReadErr>
+    ensures { Gives (λ _. table.new) result (called_by table.old first.now words.old) }
+{
+    table.read(alloc, first, words)
+}
+
 /// Reads a line of the calls: whether it is `end`.
+#[tactic(auto, unfolding(crate::specs::TopWords::call_by))]
 fn call_step<'a>(
     alloc: Global,
     table: &mut RankTable,
     first: Token<'a>,
     words: &mut Words<'a>,
 ) -> Result<bool, ReadErr>
-    ensures { Gives (λ ends. (ends, table.new)) result (call_step table.old (word_of first.entry) words.old) }
+    ensures { Gives (λ ends. (ends, table.new)) result (call_by table.old (word_of first.entry) words.old) }
 {
     let first = bare(first)?;
     if first == b"end".as_slice() {
         no_more(words)?;
         return Ok(true);
     }
-    table.read(alloc, first, words)?;
+    call(alloc, table, first, words)?;
     Ok(false)
 }
 
@@ -181,7 +195,7 @@ fn call_step<'a>(
 #[tactic(auto, using(crate::proofs::FaultLaws::given_at))]
 fn call_line<'a>(alloc: Global, table: &mut RankTable, line: Line<'a>) -> Result<bool, LineErr>
     ensures { GivesAt (λ ends. (ends, table.new)) result
-        (at_line line.entry.number (call_step table.old (word_of line.entry.first) line.entry.rest)) }
+        (at_line line.entry.number (call_by table.old (word_of line.entry.first) line.entry.rest)) }
 {
     let Line {
         number,
@@ -192,6 +206,7 @@ fn call_line<'a>(alloc: Global, table: &mut RankTable, line: Line<'a>) -> Result
 }
 
 /// Reads the calls, up to `end`: its line.
+#[tactic(auto, using(crate::proofs::TopLaws::same_call))]
 pub fn data_part<'a>(
     alloc: Global,
     past: u32,
