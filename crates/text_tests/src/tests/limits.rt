@@ -44,6 +44,12 @@ struct Pieces {
     fault: Option<(u32, ScriptKind)>,
 }
 
+// As many characters, and as many blanks.
+const SIXTEEN: &str = "sixteen.letters.";
+
+const BLANKS: &str = "                ";
+
+// Names, dimensions and parts, values of a call, and values of a script.
 const OF_LINES: [Pieces; 10] = [
     Pieces {
         before: "create 1\nranks 1\ndim d",
@@ -103,15 +109,15 @@ const OF_LINES: [Pieces; 10] = [
     },
     Pieces {
         before: "create 1\nranks 1\natt : a char \"",
-        piece: "a",
-        count: 1 << 24,
+        piece: SIXTEEN,
+        count: 1 << 20,
         after: "\"\ndata\n0 put_var v \"\"\nend\n",
         fault: None,
     },
     Pieces {
         before: "create 1\nranks 1\natt : a char \"",
-        piece: "a",
-        count: 1 << 24,
+        piece: SIXTEEN,
+        count: 1 << 20,
         after: "b\"\ndata\nend\n",
         fault: Some((3, ScriptKind::Limit(LimitName::Values))),
     },
@@ -142,15 +148,15 @@ const OF_TEXTS: [Pieces; 5] = [
     },
     Pieces {
         before: "",
-        piece: " ",
-        count: 1 << 26,
+        piece: BLANKS,
+        count: 1 << 22,
         after: "",
         fault: Some((1, ScriptKind::NoHead)),
     },
     Pieces {
         before: "\n",
-        piece: " ",
-        count: 1 << 26,
+        piece: BLANKS,
+        count: 1 << 22,
         after: "",
         fault: Some((1, ScriptKind::Limit(LimitName::Script))),
     },
@@ -165,7 +171,11 @@ fn all_found<R: Abort>(rt: &R, alloc: Global, table: &[Pieces]) {
 }
 
 #[test]
-fn lines_and_texts_have_limits(rt: HostRuntime) {
-    all_found(&rt, rt.alloc(), &OF_LINES);
+fn names_lists_and_values_have_limits(rt: HostRuntime) {
+    all_found(&rt, rt.alloc(), &OF_LINES)
+}
+
+#[test]
+fn a_text_has_limits(rt: HostRuntime) {
     all_found(&rt, rt.alloc(), &OF_TEXTS)
 }
