@@ -1,12 +1,12 @@
-// Texts of made scripts, and the summary of a run.
-ghost use Rattle.std.specs.Prelude.{◌≡◌, ◌≤◌, true};
+// Made scripts, the text of one, and the summary of a run.
+ghost use Rattle.std.specs.Prelude.{◌≡◌, true};
 ghost use Rattle.script_spec.specs.Generator.{has_counts};
 ghost use Rattle.var_layout.specs.Unplaced.{is_unplaced};
 
 use super::ends::{Answered, Got, PLAIN, end_of};
 use generated_run::{made_law, make_script, summary_text};
 use made_text::made_text;
-use nc_base::{Code, Mark, Script};
+use nc_base::{Call, Code, Mark, Script, Values};
 use ncmpi_script::read_script;
 use std::alloc::Global;
 use std::process::Abort;
@@ -36,7 +36,7 @@ data
 0 buffer_attach 65536
 0 bput_vara 0 temp [0,0,0] [1,22,360] x000000003FFFFFFF x000000003F800000 ";
 
-const OF_ONE_RECORD: &[u8] = b" 9899 9900 9901
+const ENDING: &[u8] = b" 9899 9900 9901
 7 wait_all all
 7 get_vara_all temp [0,0,315] [1,180,1]
 7 get_vara_all precip [0,0,315] [1,180,1]
@@ -44,24 +44,13 @@ const OF_ONE_RECORD: &[u8] = b" 9899 9900 9901
 end
 ";
 
-const OF_TWO_RECORDS: &[u8] = b" 10000 -10000 -9999
-7 wait_all all
-7 get_vara_all temp [0,0,315] [2,180,1]
-7 get_vara_all precip [0,0,315] [2,180,1]
-7 buffer_detach
-end
-";
-
-/// Whether the text of a made script begins as it should, ends so, and is read.
-fn is_made(alloc: Global, size: u32, ending: &[u8]) -> bool
-    requires some { 1 ≤ size }
-    requires few { size ≤ 64 }
-{
-    match made_text(alloc, SEED, size) {
+/// Whether the text of a made script of one record begins and ends as it should, and is read.
+fn is_made(alloc: Global) -> bool {
+    match made_text(alloc, SEED, 1) {
         Ok(text) => {
             let bytes = text.as_slice();
             bytes.starts_with(OPENING)
-                && bytes.ends_with(ending)
+                && bytes.ends_with(ENDING)
                 && read_script(alloc, bytes).is_ok()
         }
         Err(_) => false,
@@ -69,9 +58,49 @@ fn is_made(alloc: Global, size: u32, ending: &[u8]) -> bool
 }
 
 #[test]
-fn made_texts_begin_and_end_as_they_should(rt: HostRuntime) {
-    assert!(rt; is_made(rt.alloc(), 1, OF_ONE_RECORD));
-    assert!(rt; is_made(rt.alloc(), 2, OF_TWO_RECORDS));
+fn a_text_of_one_record_is_printed_and_read(rt: HostRuntime) {
+    assert!(rt; is_made(rt.alloc()));
+}
+
+/// The call of this number of a rank.
+fn call_of<'a>(rt: &impl Abort, script: &'a Script, rank: usize, number: usize) -> &'a Call {
+    let own = script.calls.as_slice().get(rank).expect(rt, "rank");
+    own.as_slice().get(number).expect(rt, "call")
+}
+
+/// Where the last rank's rows of the second record begin, and its column of each record.
+const LAST_ROWS: &[u64] = &[1, 157, 0];
+
+const COLUMN: &[u64] = &[0, 0, 315];
+
+const OF_EACH_RECORD: &[u64] = &[2, 180, 1];
+
+#[test]
+fn a_second_record_is_made(rt: HostRuntime) {
+    let script = make_script(rt.alloc(), SEED, 2).expect(&rt, NO_MEMORY);
+    let Call::Post {
+        id,
+        given,
+        values,
+        ..
+    } = call_of(&rt, &script, 7, 5)
+    else {
+        panic!(rt; "a post")
+    };
+    assert_eq!(rt; *id, 3);
+    assert!(rt; given.start.as_slice() == LAST_ROWS);
+    let Values::Numbers(numbers) = values else {
+        panic!(rt; "numbers")
+    };
+    assert_eq!(rt;
+        (numbers.get(8277), numbers.get(8278), numbers.get(8279)),
+        (Some(10_000), Some(-10_000), Some(-9_999))
+    );
+    let Call::Get { given, .. } = call_of(&rt, &script, 7, 8) else {
+        panic!(rt; "a get")
+    };
+    assert!(rt; given.start.as_slice() == COLUMN);
+    assert!(rt; given.count.as_slice() == OF_EACH_RECORD);
 }
 
 /// The script of one record that a seed makes.

@@ -130,7 +130,7 @@ fn faults_of_calls_are_told(rt: HostRuntime) {
     line_refused(&rt, rt.alloc(), CALLED, 7, &OF_CALLED)
 }
 
-const WHOLE: [(&str, u32, ScriptKind); 16] = [
+const WHOLE: [(&str, u32, ScriptKind); 15] = [
     ("# a remark\n \t\r\n", 1, ScriptKind::NoHead),
     ("\n\"create 1\n", 2, ScriptKind::NoHead),
     ("create 3\n", 1, ScriptKind::BadNumber),
@@ -143,11 +143,6 @@ const WHOLE: [(&str, u32, ScriptKind); 16] = [
         "create 1\nranks 1\natt : a byte 1\natt : a 2\n",
         4,
         ScriptKind::TwiceNamed,
-    ),
-    (
-        "create 1\nranks 1\natt : a byte seq 16777216 1 0\ndata\n0 iput_var 1 v 1 x\n",
-        5,
-        ScriptKind::Limit(LimitName::Values),
     ),
     ("create 1", 2, ScriptKind::NoEnd),
     ("create 1\nranks 1\ndata\n\n# end\n", 6, ScriptKind::NoEnd),
@@ -184,7 +179,7 @@ const SOUND: [&str; 6] = [
     "\n \n\t# create 9\r\n\tcreate\t1\r\nranks 1\r\ndata\n#x\nend\r",
     "create 1\nranks 1\ndim x 4\nvar int x [x,x]\natt x x int 1\natt : x int 1\nvar int y []\natt y x int\nhint threads off\ndata\nend\n",
     "create 5\ndim x 4611686018427387903\ndim t unlimited\nvar uint64 v [t,x]\nfill\nranks 064\ndata\nend\n",
-    "create 1\nranks 2\natt : a byte seq 16777216 1 0\ndata\n1 iput_var 4294967295 v\n0 iput_var 4294967295 v\n0 get_vara_all v [9223372036854775807] []\n1 get_varn_all w 1 [] []\nend\n",
+    "create 1\nranks 2\natt : a byte seq 3 1 0\ndata\n1 iput_var 4294967295 v\n0 iput_var 4294967295 v\n0 get_vara_all v [9223372036854775807] []\n1 get_varn_all w 1 [] []\nend\n",
     "open\nranks 1\ndim x 4611686018427387903\nvar uint64 v [q,q,x]\natt q q ubyte 255\natt : q char \"\"\ndata\nend\n",
     "create 1\nranks 1\ndim 0.-+@_ 1\nvar int _ [0.-+@_]\ndata\n0 put_var _\n0 inq_dimlen 9\nend\n",
 ];
