@@ -16,6 +16,15 @@ three_pushed front one two next a b c e f g =
     ∙ ap (λ (t : List Call). t ++ c ∷ []) (append_assoc front (a ∷ []) (b ∷ []))
     ∙ append_assoc front (a ∷ b ∷ []) (c ∷ [])
 
+-- two calls that go last, which are these
+pub two_pushed : (front one next : List Call) (a b x y : Call) → one ≡ front ++ a ∷ [] → next ≡ one ++ b ∷ [] → a ≡ x → b ≡ y → next ≡ front ++ x ∷ y ∷ []
+two_pushed front one next a b x y e f g h =
+    f
+    ∙ ap (λ (t : List Call). t ++ b ∷ []) e
+    ∙ append_assoc front (a ∷ []) (b ∷ [])
+    ∙ ap (λ (c : Call). front ++ c ∷ b ∷ []) g
+    ∙ ap (λ (c : Call). front ++ x ∷ c ∷ []) h
+
 pub record_is : (seed r t : ℕ) (a b : Call) → a ≡ call.Post (2 * t) Bput (codes "temp") (region_of_band r t) (Bits (temp_band seed r t))
     → b ≡ call.Post (2 * t + 1) Bput (codes "precip") (region_of_band r t) (Numbers (precip_band seed r t))
     → a ∷ b ∷ call.Wait true Every ∷ [] ≡ calls_of_record seed r t

@@ -1,10 +1,11 @@
 // The calls of the ranks.
-ghost use Rattle.std.specs.Prelude.{◌≡◌, ◌<◌, ◌≤◌, ◌++◌, IfOk, OnOk, flat_map, map, true};
+ghost use Rattle.std.specs.Prelude.{◌≡◌, ◌+◌, ◌*◌, ◌<◌, ◌≤◌, ◌++◌, ◌∷◌, [], IfOk, OnOk, codes, flat_map, map, true};
 ghost use Rattle.std.specs.List.{range_with_len};
 ghost use Rattle.nc_base.specs.declared.request.Call.TheVariants as call;
 ghost use Rattle.nc_base.specs.declared.request.PostKind.TheVariants.{Bput};
+ghost use Rattle.nc_base.specs.declared.request.Values.TheVariants.{Bits, Numbers};
 ghost use Rattle.script_spec.specs.Generator.{block};
-ghost use Rattle.generated_run.specs.Made.{calls_of_rank, calls_of_record, columns_of, region_of_band};
+ghost use Rattle.generated_run.specs.Made.{calls_of_rank, calls_of_record, columns_of, precip_band, region_of_band, temp_band};
 
 use crate::bands::{first_row, precip_band, temp_band};
 use crate::definitions::{COLUMNS, PRECIP, RANKS, ROWS, TEMP};
@@ -39,10 +40,18 @@ fn rank_calls(alloc: Global, seed: u64, size: u32, rank: u32) -> Result<CallList
     let mut calls = CallList::new(alloc);
     calls.push(Call::Attach { size: BUFFER })?;
     push_records(alloc, &mut calls, seed, size, rank)?;
-    calls.push(get_columns(alloc, TEMP, size, rank)?)?;
-    calls.push(get_columns(alloc, PRECIP, size, rank)?)?;
+    push_gets(alloc, &mut calls, size, rank)?;
     calls.push(Call::Detach)?;
     Ok(calls)
+}
+
+/// A get of each variable.
+fn push_gets(alloc: Global, calls: &mut CallList, size: u32, rank: u32) -> Result<(), Memory>
+    ensures { OnOk result (calls.new ≡ calls.old ++ call.Get true (codes "temp") (columns_of size rank) ∷ call.Get true (codes "precip") (columns_of size rank) ∷ []) }
+{
+    calls.push(get_columns(alloc, TEMP, size, rank)?)?;
+    calls.push(get_columns(alloc, PRECIP, size, rank)?)?;
+    Ok(())
 }
 
 fn push_records(
@@ -74,15 +83,40 @@ fn push_record(
     requires rank { rank < 8 }
     ensures { OnOk result (calls.new ≡ calls.old ++ calls_of_record seed rank time) }
 {
-    let temps = Values::Bits(temp_band(alloc, seed, rank, time)?);
-    calls.push(put_band(alloc, 2 * time, TEMP, rank, time, temps)?)?;
-    let precips = Values::Numbers(precip_band(alloc, seed, rank, time)?);
-    calls.push(put_band(alloc, 2 * time + 1, PRECIP, rank, time, precips)?)?;
+    calls.push(put_temps(alloc, seed, rank, time)?)?;
+    calls.push(put_precips(alloc, seed, rank, time)?)?;
     calls.push(Call::Wait {
         all: true,
         choice: Choice::Every,
     })?;
     Ok(())
+}
+
+/// A put of the rank's rows of `temp` in a record.
+fn put_temps(alloc: Global, seed: u64, rank: u32, time: u32) -> Result<Call, Memory>
+    requires time { time < 64 }
+    requires rank { rank < 8 }
+    ensures { IfOk result (λ c. c ≡ call.Post (2 * time) Bput (codes "temp") (region_of_band rank time) (Bits (temp_band seed rank time))) }
+{
+    let temps = temp_band(alloc, seed, rank, time)?;
+    put_band(alloc, 2 * time, TEMP, rank, time, Values::Bits(temps))
+}
+
+/// A put of the rank's rows of `precip` in a record.
+fn put_precips(alloc: Global, seed: u64, rank: u32, time: u32) -> Result<Call, Memory>
+    requires time { time < 64 }
+    requires rank { rank < 8 }
+    ensures { IfOk result (λ c. c ≡ call.Post (2 * time + 1) Bput (codes "precip") (region_of_band rank time) (Numbers (precip_band seed rank time))) }
+{
+    let precips = precip_band(alloc, seed, rank, time)?;
+    put_band(
+        alloc,
+        2 * time + 1,
+        PRECIP,
+        rank,
+        time,
+        Values::Numbers(precips),
+    )
 }
 
 /// A put of the rank's rows of a record, by way of the attached buffer.

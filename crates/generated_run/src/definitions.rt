@@ -47,20 +47,18 @@ pub(crate) fn made_header(alloc: Global) -> Result<Header, Memory>
 fn made_dims(alloc: Global) -> Result<DimList, Memory>
     ensures { IfOk result (λ dims. dims ≡ made_header.dims) }
 {
-    let mut dims = DimList::new(alloc);
-    dims.push(dim(alloc, b"t", 0)?)?;
-    dims.push(dim(alloc, b"y", u64::from(ROWS))?)?;
-    dims.push(dim(alloc, b"x", u64::from(COLUMNS))?)?;
-    Ok(dims)
+    let t = dim(alloc, b"t", 0)?;
+    let y = dim(alloc, b"y", u64::from(ROWS))?;
+    let x = dim(alloc, b"x", u64::from(COLUMNS))?;
+    Ok(DimList::from_vec(vec![in alloc; t, y, x]?))
 }
 
 fn made_vars(alloc: Global) -> Result<VarList, Memory>
     ensures { IfOk result (λ vars. vars ≡ made_header.vars) }
 {
-    let mut vars = VarList::new(alloc);
-    vars.push(var(alloc, TEMP, NcType::Float)?)?;
-    vars.push(var(alloc, PRECIP, NcType::Short)?)?;
-    Ok(vars)
+    let temp = var(alloc, TEMP, NcType::Float)?;
+    let precip = var(alloc, PRECIP, NcType::Short)?;
+    Ok(VarList::from_vec(vec![in alloc; temp, precip]?))
 }
 
 fn dim(alloc: Global, name: &[u8], len: u64) -> Result<Dim, Memory>

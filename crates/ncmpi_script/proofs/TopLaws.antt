@@ -5,9 +5,19 @@ use Rattle.nc_base.specs.declared.errors.ScriptErr.{ScriptErr}
 use Rattle.nc_base.specs.declared.errors.LimitName.TheVariants as limit
 use Rattle.nc_base.specs.declared.script.Script.{Script}
 use Rattle.nc_base.specs.declared.errors.ScriptKind.TheVariants as kind
-use Rattle.script_spec.specs.ScriptWords.{Line}
-use Rattle.script_spec.specs.ScriptGrammar.{script_of_lines, script_of_text, without_head, most_bytes, newlines}
-use Rattle.ncmpi_script.specs.TopWords.{head_by, definitions_by, data_part_by, finish_by, made_by, end_by, calls_by, rest_by, headed_by, lines_by, utf8_by, text_by}
+use Rattle.script_spec.specs.ScriptWords.{Line, Word}
+use Rattle.script_spec.specs.ScriptDefinitions.{Known}
+use Rattle.script_spec.specs.ScriptCalls.{Called}
+use Rattle.script_spec.specs.ScriptGrammar.{call_step, definition_step, script_of_lines, script_of_text, without_head, most_bytes, newlines}
+use Rattle.ncmpi_script.specs.TopWords.{head_by, known_by, definition_by, called_by, call_by, definitions_by, data_part_by, finish_by, made_by, end_by, calls_by, rest_by, headed_by, lines_by, utf8_by, text_by}
+
+pub same_definition : (version : ℕ) (known : Known) (w : Word) (ws : List Word) → definition_by version known w ws ≡ definition_step version known w ws
+unfolding known_by definition_by
+same_definition version known w ws = refl
+
+pub same_call : (d : Called) (w : Word) (ws : List Word) → call_by d w ws ≡ call_step d w ws
+unfolding called_by call_by
+same_call d w ws = refl
 
 no_line : (past : ℕ) → script_of_lines past [] ≡ Err (without_head past)
 no_line past = refl

@@ -1,11 +1,11 @@
 // The parts of a script, one after the other.
 ghost use Rattle.std.specs.Prelude.{◌≡◌, ◌≤◌, IfOk, IfSome};
 ghost use Rattle.script_spec.specs.ScriptWords.{significant_of};
-ghost use Rattle.script_spec.specs.ScriptGrammar.{head, data_line, definition_step, definitions, call_step, data_part, at_line};
+ghost use Rattle.script_spec.specs.ScriptGrammar.{head, data_line, definitions, data_part, at_line};
 ghost use Rattle.script_words.specs.Given.{Gives, GivesAt, word_of};
 ghost use Rattle.script_words.specs.Seen.{line_seen};
 ghost use Rattle.ncmpi_script.specs.LineFaults.{TakesLine, on_line};
-ghost use Rattle.ncmpi_script.specs.TopWords.{head_by};
+ghost use Rattle.ncmpi_script.specs.TopWords.{head_by, known_by, definition_by, called_by, call_by};
 
 use nc_base::{ScriptErr, ScriptKind};
 use script_calls::RankTable;
@@ -86,14 +86,28 @@ fn data_line(draft: &Draft<'_>, words: &mut Words<'_>) -> Result<u32, ReadErr>
     Ok(ranks)
 }
 
+/// Reads a line of the definitions that is not `data`.
+#[tactic(auto, unfolding(crate::specs::TopWords::known_by))]
+fn definition<'a>(
+    version: u8,
+    draft: &mut Draft<'a>,
+    first: &'a [u8],
+    words: &mut Words<'a>,
+) -> Result<(), ReadErr>
+    ensures { Gives (λ _. draft.new) result (known_by version draft.old first.now words.old) }
+{
+    draft.read(version, first, words)
+}
+
 /// Reads a line of the definitions: the number of ranks at `data`.
+#[tactic(auto, unfolding(crate::specs::TopWords::definition_by))]
 fn definition_step<'a>(
     version: u8,
     draft: &mut Draft<'a>,
     first: Token<'a>,
     words: &mut Words<'a>,
 ) -> Result<Option<u32>, ReadErr>
-    ensures read { Gives (λ ranks. (ranks, draft.new)) result (definition_step version draft.old (word_of first.entry) words.old) }
+    ensures read { Gives (λ ranks. (ranks, draft.new)) result (definition_by version draft.old (word_of first.entry) words.old) }
     ensures bound { IfOk result (λ ranks. IfSome ranks (λ n. n ≤ 64)) }
 {
     let first = bare(first)?;
@@ -101,7 +115,7 @@ fn definition_step<'a>(
         let ranks = data_line(draft, words)?;
         return Ok(Some(ranks));
     }
-    draft.read(version, first, words)?;
+    definition(version, draft, first, words)?;
     Ok(None)
 }
 
@@ -113,7 +127,7 @@ fn definition_line<'a>(
     line: Line<'a>,
 ) -> Result<Option<u32>, LineErr>
     ensures read { GivesAt (λ ranks. (ranks, draft.new)) result
-        (at_line line.entry.number (definition_step version draft.old (word_of line.entry.first) line.entry.rest)) }
+        (at_line line.entry.number (definition_by version draft.old (word_of line.entry.first) line.entry.rest)) }
     ensures bound { IfOk result (λ ranks. IfSome ranks (λ n. n ≤ 64)) }
 {
     let Line {
@@ -125,6 +139,7 @@ fn definition_line<'a>(
 }
 
 /// Reads the definitions, up to `data`: the number of ranks.
+#[tactic(auto, using(crate::proofs::TopLaws::same_definition))]
 pub fn definitions<'a>(
     alloc: Global,
     past: u32,
@@ -144,21 +159,35 @@ pub fn definitions<'a>(
     }
 }
 
+/// Reads a line of the calls that is not `end`.
+#[tactic(auto, unfolding(crate::specs::TopWords::called_by))]
+fn call(
+    alloc: Global,
+    table: &mut RankTable,
+    first: &[u8],
+    words: &mut Words<'_>,
+) -> Result<(), ReadErr>
+    ensures { Gives (λ _. table.new) result (called_by table.old first.now words.old) }
+{
+    table.read(alloc, first, words)
+}
+
 /// Reads a line of the calls: whether it is `end`.
+#[tactic(auto, unfolding(crate::specs::TopWords::call_by))]
 fn call_step<'a>(
     alloc: Global,
     table: &mut RankTable,
     first: Token<'a>,
     words: &mut Words<'a>,
 ) -> Result<bool, ReadErr>
-    ensures { Gives (λ ends. (ends, table.new)) result (call_step table.old (word_of first.entry) words.old) }
+    ensures { Gives (λ ends. (ends, table.new)) result (call_by table.old (word_of first.entry) words.old) }
 {
     let first = bare(first)?;
     if first == b"end".as_slice() {
         no_more(words)?;
         return Ok(true);
     }
-    table.read(alloc, first, words)?;
+    call(alloc, table, first, words)?;
     Ok(false)
 }
 
@@ -166,7 +195,7 @@ fn call_step<'a>(
 #[tactic(auto, using(crate::proofs::FaultLaws::given_at))]
 fn call_line<'a>(alloc: Global, table: &mut RankTable, line: Line<'a>) -> Result<bool, LineErr>
     ensures { GivesAt (λ ends. (ends, table.new)) result
-        (at_line line.entry.number (call_step table.old (word_of line.entry.first) line.entry.rest)) }
+        (at_line line.entry.number (call_by table.old (word_of line.entry.first) line.entry.rest)) }
 {
     let Line {
         number,
@@ -177,6 +206,7 @@ fn call_line<'a>(alloc: Global, table: &mut RankTable, line: Line<'a>) -> Result
 }
 
 /// Reads the calls, up to `end`: its line.
+#[tactic(auto, using(crate::proofs::TopLaws::same_call))]
 pub fn data_part<'a>(
     alloc: Global,
     past: u32,

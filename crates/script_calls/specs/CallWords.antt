@@ -1,5 +1,5 @@
 -- The calls of the definitions, with names for their parts that proofs keep shut.
-use Rattle.std.specs.Prelude.{bytes_eq, ℕ, List, find, drop, Bool, Some, None, Result, Ok, codes}
+use Rattle.std.specs.Prelude.{bytes_eq, ℕ, List, length, find, drop, Bool, Some, None, Result, Ok, codes}
 use Rattle.nc_base.specs.declared.errors.ScriptKind.{ScriptKind}
 use Rattle.nc_base.specs.declared.errors.ScriptKind.TheVariants as kind
 use Rattle.nc_base.specs.declared.request.Form.{Form}
@@ -11,7 +11,7 @@ use Rattle.nc_base.specs.declared.request.Call.TheVariants as call
 use Rattle.script_spec.specs.ScriptWords.{Word}
 use Rattle.script_spec.specs.ScriptSteps.{◌>>=◌, or_fault, name, ended}
 use Rattle.script_spec.specs.ScriptValues.{values}
-use Rattle.script_spec.specs.ScriptCalls.{region, post_values, new_id, posted, after_prefix, form_and_all, form_of_text, post_of_text, behind, row_call, plain_call}
+use Rattle.script_spec.specs.ScriptCalls.{Called, region, post_values, new_id, posted, after_prefix, form_and_all, form_of_text, post_of_text, behind, row_call, plain_call, rank_of_text, call_line, with_call}
 use Rattle.script_spec.specs.CallTable.{Family, Behind, CallRow, call_table}
 
 unfoldable pub region_by : Form → List Word → Result (Given × List Word) ScriptKind
@@ -84,3 +84,14 @@ call_by ranks r own before w ws =
         | None ↦ post_or_plain_by ranks r own before w ws
       ]
     ]
+
+-- the call that a rank's line spells behind the rank
+unfoldable pub line_by : Called → ℕ → List Word → Result Call ScriptKind
+line_by d r ws = call_line d r ws
+
+-- what has been called after a line
+unfoldable pub called_by : Called → List ℕ → List Word → Result Called ScriptKind
+called_by d first ws = do
+  r ← rank_of_text (length d.calls) first
+  c ← line_by d r ws
+  Ok (with_call r c d)

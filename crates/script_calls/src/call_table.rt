@@ -3,7 +3,8 @@ ghost use Rattle.std.specs.Prelude.{◌≡◌, ◌≤◌, ◌<◌, ◌^◌, ◌+
 ghost use Rattle.std.specs.List.{All};
 ghost use Rattle.serial_spec.specs.History.{kinds};
 ghost use Rattle.serial_spec.specs.Lawful.{values_in_call};
-ghost use Rattle.script_spec.specs.ScriptCalls.{Called, rank_of_text, call_line, called_after, calls_of, posted, with_call};
+ghost use Rattle.script_spec.specs.ScriptCalls.{Called, rank_of_text, called_after, calls_of, posted, with_call};
+ghost use Rattle.script_calls.specs.CallWords.{line_by, called_by};
 ghost use Rattle.script_calls.specs.Posts.{IsNew};
 ghost use Rattle.script_words.specs.Given.{Gives};
 
@@ -76,10 +77,10 @@ impl RankTable {
     }
 
     /// Reads a rank's call.
-    #[tactic(auto, using(crate::proofs::CallLaws::found_own))]
+    #[tactic(auto, using(crate::proofs::CallLaws::found_own), unfolding(crate::specs::CallWords::line_by))]
     fn call(&self, alloc: Global, rank: u32, words: &mut Words<'_>) -> Result<Call, ReadErr>
         requires { rank < length self.now.calls }
-        ensures read { Gives (λ c. c) result (call_line self.now rank words.old) }
+        ensures read { Gives (λ c. c) result (line_by self.now rank words.old) }
         ensures bound { IfOk result (λ c. self.now.values + values_in_call c ≤ 2 ^ 24) }
         ensures new { IfOk result (λ c. IsNew (posted (calls_of rank self.now.calls)) c) }
     {
@@ -106,7 +107,19 @@ impl RankTable {
         Ok(())
     }
 
+    /// Adds the call of a line, whose first word this is.
+    #[tactic(auto, unfolding(crate::specs::CallWords::called_by))]
+    fn add(&mut self, alloc: Global, first: &[u8], words: &mut Words<'_>) -> Result<(), ReadErr>
+        ensures { Gives (λ _. self.new) result (called_by self.old first.now words.old) }
+    {
+        let rank = rank_of_text(self.ranks.len() as u32, first)?;
+        let call = self.call(alloc, rank, words)?;
+        self.push(rank, call)?;
+        Ok(())
+    }
+
     /// Reads a line of calls, whose first word this is.
+    #[tactic(auto, using(crate::proofs::CallWordLaws::same_called))]
     pub fn read(
         &mut self,
         alloc: Global,
@@ -115,10 +128,7 @@ impl RankTable {
     ) -> Result<(), ReadErr>
         ensures { Gives (λ _. self.new) result (called_after self.old first.now words.old) }
     {
-        let rank = rank_of_text(self.ranks.len() as u32, first)?;
-        let call = self.call(alloc, rank, words)?;
-        self.push(rank, call)?;
-        Ok(())
+        self.add(alloc, first, words)
     }
 
     /// The kinds of the collective calls of each rank.

@@ -9,7 +9,9 @@ use crate::attributes::attribute;
 use crate::dims::Dims;
 use crate::titles::Titles;
 use crate::vars::{name_list, var_head};
-use nc_base::{Dim, Extra, ExtraList, LimitName, MAX_VAR_DIMS, Memory, Name, NameList, ScriptKind};
+use nc_base::{
+    Dim, Extra, ExtraList, LimitName, MAX_VAR_DIMS, Memory, Name, NameList, NcType, ScriptKind,
+};
 use script_words::word_forms::{no_more, owner};
 use script_words::{ListParts, Names, ReadErr, Words};
 use std::alloc::Global;
@@ -41,6 +43,22 @@ fn owned_names(alloc: Global, names: &mut ListParts<'_>) -> Result<NameList, Mem
         list.push(Name::from_slice(alloc, name)?)?;
     }
     Ok(list)
+}
+
+/// A variable that is added, over the dimensions of these names.
+fn var_extra(
+    alloc: Global,
+    kind: NcType,
+    name: &[u8],
+    dims: &mut ListParts<'_>,
+) -> Result<Extra, Memory>
+    ensures { IfOk result (λ x. x ≡ Extra.Var kind name.now dims.old) }
+{
+    Ok(Extra::Var {
+        kind,
+        name: Name::from_slice(alloc, name)?,
+        dims: owned_names(alloc, dims)?,
+    })
 }
 
 /// The owner of an attribute, none for the dataset.
@@ -142,11 +160,7 @@ impl<'a> Additions<'a> {
         let (kind, name) = var_head(5, &self.vars, words)?;
         let mut dims = shape(&self.dims, words)?;
         no_more(words)?;
-        let var = Extra::Var {
-            kind,
-            name: Name::from_slice(self.alloc, name)?,
-            dims: owned_names(self.alloc, &mut dims)?,
-        };
+        let var = var_extra(self.alloc, kind, name, &mut dims)?;
         self.vars.push(name)?;
         self.extras.push(var)?;
         Ok(0)

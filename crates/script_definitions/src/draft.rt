@@ -1,7 +1,7 @@
 // What is known before `data`.
 ghost use Rattle.std.specs.Prelude.{◌≡◌, ◌≤◌, ◌^◌, ◌+◌, IfOk, IfSome};
 ghost use Rattle.script_spec.specs.ScriptDefinitions.{Known, nothing_known, ranks_line, known_after};
-ghost use Rattle.script_definitions.specs.DraftWords.{known_added, known_defined, known_by};
+ghost use Rattle.script_definitions.specs.DraftWords.{known_added, known_defined, known_by, ranks_by, hint_by, line_by};
 ghost use Rattle.script_words.specs.Given.{Gives};
 
 use crate::added::Additions;
@@ -109,8 +109,40 @@ impl<'a> Draft<'a> {
         self.define(version, first, words)
     }
 
+    #[tactic(auto, unfolding(crate::specs::DraftWords::ranks_by))]
+    fn set_ranks(&mut self, words: &mut Words<'a>) -> Result<(), ReadErr>
+        ensures { Gives (λ _. self.new) result (ranks_by self.old words.old) }
+    {
+        let ranks = self.read_ranks(words)?;
+        self.ranks = Some(ranks);
+        Ok(())
+    }
+
+    #[tactic(auto, unfolding(crate::specs::DraftWords::hint_by))]
+    fn set_hint(&mut self, words: &mut Words<'a>) -> Result<(), ReadErr>
+        ensures { Gives (λ _. self.new) result (hint_by self.old words.old) }
+    {
+        let (name, value) = self.hints.read(words)?;
+        self.hints.set(name, value);
+        Ok(())
+    }
+
+    /// Adds what a line says, whose first word this is.
+    #[tactic(auto, unfolding(crate::specs::DraftWords::line_by))]
+    fn learn(&mut self, version: u8, first: &'a [u8], words: &mut Words<'a>) -> Result<(), ReadErr>
+        ensures { Gives (λ _. self.new) result (line_by version self.old first.now words.old) }
+    {
+        if first == b"ranks".as_slice() {
+            return self.set_ranks(words);
+        }
+        if first == b"hint".as_slice() {
+            return self.set_hint(words);
+        }
+        self.define_or_add(version, first, words)
+    }
+
     /// Reads a line.
-    #[tactic(auto, using(crate::proofs::DraftWordLaws::same_known))]
+    #[tactic(auto, using(crate::proofs::DraftWordLaws::same_line))]
     pub fn read(
         &mut self,
         version: u8,
@@ -119,16 +151,6 @@ impl<'a> Draft<'a> {
     ) -> Result<(), ReadErr>
         ensures { Gives (λ _. self.new) result (known_after version self.old first.now words.old) }
     {
-        if first == b"ranks".as_slice() {
-            let ranks = self.read_ranks(words)?;
-            self.ranks = Some(ranks);
-            return Ok(());
-        }
-        if first == b"hint".as_slice() {
-            let (name, value) = self.hints.read(words)?;
-            self.hints.set(name, value);
-            return Ok(());
-        }
-        self.define_or_add(version, first, words)
+        self.learn(version, first, words)
     }
 }

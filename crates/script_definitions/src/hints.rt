@@ -2,8 +2,9 @@
 ghost use Rattle.std.specs.Prelude.{◌≡◌, Some, slice_set, IfOk};
 ghost use Rattle.nc_base.specs.declared.errors.ScriptKind.TheVariants as kind;
 ghost use Rattle.script_spec.specs.ScriptSteps.{reads_as};
-ghost use Rattle.script_spec.specs.HintTable.{hint_of_text, hint_form, hint_in, hints_of, none_given};
+ghost use Rattle.script_spec.specs.HintTable.{hint_in, hints_of, none_given};
 ghost use Rattle.script_spec.specs.ScriptDefinitions.{hint_value, hint_line, one_of_two};
+ghost use Rattle.script_definitions.specs.DraftWords.{hint_name_by, hint_value_by, hint_line_by};
 ghost use Rattle.hint_table.specs.HintNames.{form_of, hint_place, HasUnit};
 ghost use Rattle.script_words.specs.Given.{Gives};
 
@@ -14,8 +15,9 @@ use script_words::{ReadErr, Words};
 use std::alloc::{AllocError, Global};
 use std::marker::Model;
 
+#[tactic(auto, unfolding(crate::specs::DraftWords::hint_name_by))]
 fn hint_name(words: &mut Words<'_>) -> Result<HintName, ReadErr>
-    ensures { Gives (λ h. (hint_place h, words.new)) result (reads_as hint_of_text kind.UnknownWord words.old) }
+    ensures { Gives (λ h. (hint_place h, words.new)) result (hint_name_by words.old) }
 {
     let word = next(words)?;
     match HintName::of_word(word) {
@@ -39,8 +41,9 @@ fn one_of_two(zero: &[u8], one: &[u8], words: &mut Words<'_>) -> Result<u32, Rea
 }
 
 /// Reads the value of a hint.
+#[tactic(auto, unfolding(crate::specs::DraftWords::hint_value_by))]
 fn hint_value(name: HintName, words: &mut Words<'_>) -> Result<u32, ReadErr>
-    ensures { Gives (λ v. (v, words.new)) result (hint_value (hint_form (hint_place name)) words.old) }
+    ensures { Gives (λ v. (v, words.new)) result (hint_value_by (hint_place name) words.old) }
 {
     value_of_form(name.form(), words)
 }
@@ -87,9 +90,9 @@ impl GivenHints {
         self.values[name.place()]
     }
 
-    /// Reads the rest of a hint's line.
-    pub fn read(&self, words: &mut Words<'_>) -> Result<(HintName, u32), ReadErr>
-        ensures { Gives (λ h. (hint_place h.0, h.1)) result (hint_line self.now words.old) }
+    #[tactic(auto, unfolding(crate::specs::DraftWords::hint_line_by))]
+    fn read_hint(&self, words: &mut Words<'_>) -> Result<(HintName, u32), ReadErr>
+        ensures { Gives (λ h. (hint_place h.0, h.1)) result (hint_line_by self.now words.old) }
     {
         let name = hint_name(words)?;
         if self.get(name).is_some() {
@@ -98,6 +101,14 @@ impl GivenHints {
         let value = hint_value(name, words)?;
         no_more(words)?;
         Ok((name, value))
+    }
+
+    /// Reads the rest of a hint's line.
+    #[tactic(auto, using(crate::proofs::DraftWordLaws::same_hint))]
+    pub fn read(&self, words: &mut Words<'_>) -> Result<(HintName, u32), ReadErr>
+        ensures { Gives (λ h. (hint_place h.0, h.1)) result (hint_line self.now words.old) }
+    {
+        self.read_hint(words)
     }
 
     pub fn set(&mut self, name: HintName, value: u32)

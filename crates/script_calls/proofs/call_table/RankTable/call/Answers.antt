@@ -4,12 +4,14 @@ use Rattle.nc_base.specs.declared.request.Call.{Call}
 use Rattle.script_spec.specs.ScriptWords.{Word}
 use Rattle.script_spec.specs.ScriptCalls.{Called, call_of, calls_of}
 use Rattle.script_words.specs.Given.{Gives}
+use Rattle.script_calls.specs.CallWords.{line_by}
 use Rattle.script_calls.proofs.CallLaws.{found_own}
 use Rattle.script_calls.proofs.CallWordLaws.{same_call}
 use Rattle.script_calls.proofs.LineOfCall.{line_of_next}
 use Rattle.script_calls.proofs.call_table.RankTable.call.Goals as goal
 
 pub returns-clause-read : goal.returns-clause-read
+unfolding line_by
 returns-clause-read c =
     let d : Called = c.args.self.now in
     let own : List Call = c.index-own.result.now in

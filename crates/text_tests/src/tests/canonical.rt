@@ -1,5 +1,4 @@
-// Canonical texts.
-use nc_base::{ScriptErr, ScriptKind};
+// Canonical texts, in which a script's definitions, calls and values are looked at.
 use script_format::canonical_text;
 use std::alloc::Global;
 
@@ -73,21 +72,80 @@ end
 ";
 
 const LOOSE: &[u8] = b"# a field
-create\t1
+create\t2
  hint cb_nodes 2
+fill
+dim t unlimited
 dim  x  0004
 
-ranks 1\r
-var int v [x]
-att : title char \"A\\x42\"
+var short s [t,x]
+att s m byte 1 2
+ranks 2\r
+att : h char \"A\\x42\"
+var double d []
+att s k float
 data
-0 put_vara_all v [1] [2] seq 2 5 -6
+1 get_var d
+0 put_vara_all s [0,1] [1,2] seq 2 5 -6
+1 put_vara_all s [0,0] [0,0]
 end
 # no more";
 
-const TIGHT: &[u8] = b"create 1
+const TIGHT: &[u8] = b"create 2
+ranks 2
+hint cb_nodes 2
+hint cb_buffer_size 16777216
+hint ind_rd_buffer_size 4194304
+hint ind_wr_buffer_size 524288
+hint line_room 2
+hint threads on
+hint overlap refuse
+hint nc_header_align_size 4
+hint nc_var_align_size 4
+hint striping_unit 1
+fill
+dim t unlimited
+dim x 4
+var short s [t,x]
+var double d []
+att : h char \"AB\"
+att s m byte 1 2
+att s k float
+data
+0 put_vara_all s [0,1] [1,2] 5 -1
+1 get_var d
+1 put_vara_all s [0,0] [0,0]
+end
+";
+
+// Values in each of their forms.
+const SAID: &[u8] = b"create 5
 ranks 1
-hint cb_nodes 2
+att : b byte -128 -1 127
+att : c char \"q\\n\\x4a\\xfF\"
+att : e char
+att : d double x3ff0000000000000
+att : f float seqx 2 x1 xFFFFFFFE
+att : s short seq 3 1 -1
+att : i int seqx 0 x1 x1
+att : u uint64 18446744073709551615
+data
+0 put_var v
+0 put_var v 1 -2 -0 007 -99999999999999999999
+0 put_var v x0 xFf x00000000000000a0
+0 put_var v \"a b\t# \xc3\xa9\"
+0 put_var v \"q\\\"\\\\\\n\\t\\x00\"
+0 put_var v seq 3 5 -2
+0 put_var v seq 2 9223372036854775807 1
+0 put_var v seq 0 1 1
+0 put_var v seqx 3 x10 x8
+0 put_var v seqx 2 x0 xFFFFFFFFFFFFFFFF
+end
+";
+
+const WRITTEN: &[u8] = b"create 5
+ranks 1
+hint cb_nodes 1
 hint cb_buffer_size 16777216
 hint ind_rd_buffer_size 4194304
 hint ind_wr_buffer_size 524288
@@ -97,50 +155,25 @@ hint overlap refuse
 hint nc_header_align_size 4
 hint nc_var_align_size 4
 hint striping_unit 1
-dim x 4
-var int v [x]
-att : title char \"AB\"
+att : b byte -128 -1 127
+att : c char \"q\\nJ\\xFF\"
+att : e char \"\"
+att : d double x3FF0000000000000
+att : f float x0000000000000001 x00000000FFFFFFFF
+att : s short 1 0 -1
+att : i int
+att : u uint64 18446744073709551615
 data
-0 put_vara_all v [1] [2] 5 -1
-end
-";
-
-// Definitions in an order that is not the canonical one.
-const MIXED: &[u8] = b"create 2
-fill
-dim t unlimited
-dim x 4
-var short s [t,x]
-att s m byte 1 2
-ranks 2
-att : h char \"i\"
-var double d []
-att s k float
-data
-end
-";
-
-const SORTED: &[u8] = b"create 2
-ranks 2
-hint cb_nodes 2
-hint cb_buffer_size 16777216
-hint ind_rd_buffer_size 4194304
-hint ind_wr_buffer_size 524288
-hint line_room 2
-hint threads on
-hint overlap refuse
-hint nc_header_align_size 4
-hint nc_var_align_size 4
-hint striping_unit 1
-fill
-dim t unlimited
-dim x 4
-var short s [t,x]
-var double d []
-att : h char \"i\"
-att s m byte 1 2
-att s k float
-data
+0 put_var v
+0 put_var v 1 -2 0 7 -99999999999999999999
+0 put_var v x0000000000000000 x00000000000000FF x00000000000000A0
+0 put_var v \"a b\\t# \\xC3\\xA9\"
+0 put_var v \"q\\\"\\\\\\n\\t\\x00\"
+0 put_var v 5 3 1
+0 put_var v 9223372036854775807 9223372036854775808
+0 put_var v
+0 put_var v x0000000000000010 x0000000000000018 x0000000000000020
+0 put_var v x0000000000000000 xFFFFFFFFFFFFFFFF
 end
 ";
 
@@ -152,32 +185,17 @@ fn becomes(alloc: Global, text: &[u8], want: &[u8]) -> bool {
 }
 
 #[test]
-fn every_call_is_read_and_printed(rt: HostRuntime) {
+fn canonical_texts_are_their_own(rt: HostRuntime) {
     assert!(rt; becomes(rt.alloc(), EVERY_CALL, EVERY_CALL));
-}
-
-#[test]
-fn additions_are_read_and_printed(rt: HostRuntime) {
     assert!(rt; becomes(rt.alloc(), ADDITIONS, ADDITIONS));
 }
 
 #[test]
 fn a_loose_text_becomes_tight(rt: HostRuntime) {
     assert!(rt; becomes(rt.alloc(), LOOSE, TIGHT));
-    assert!(rt; becomes(rt.alloc(), TIGHT, TIGHT));
 }
 
 #[test]
-fn mixed_definitions_are_sorted(rt: HostRuntime) {
-    assert!(rt; becomes(rt.alloc(), MIXED, SORTED));
-}
-
-#[test]
-fn a_fault_is_told(rt: HostRuntime) {
-    let fault = canonical_text(rt.alloc(), b"create 1\nranks 1\ndim x 4\ndim x 5\n").err();
-    let wanted = ScriptErr {
-        line: 4,
-        kind: ScriptKind::TwiceNamed,
-    };
-    assert!(rt; fault == Some(wanted));
+fn values_are_those_of_their_words(rt: HostRuntime) {
+    assert!(rt; becomes(rt.alloc(), SAID, WRITTEN));
 }

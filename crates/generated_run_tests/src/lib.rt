@@ -1,5 +1,0 @@
-//! Tests of generated_run.
-#![tactic(auto)]
-
-#[cfg(test)]
-mod tests;

@@ -1,5 +1,0 @@
-//! Tests of ncmpi_script.
-#![tactic(auto)]
-
-#[cfg(test)]
-mod tests;

@@ -1,5 +1,0 @@
-//! Tests of printed_text.
-#![tactic(auto)]
-
-#[cfg(test)]
-mod tests;

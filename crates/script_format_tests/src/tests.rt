@@ -1,3 +1,0 @@
-// Texts of scripts as they are printed.
-mod canonical;
-mod made;
