@@ -61,6 +61,23 @@ ends 'a made run without an input' 0 generated.nc generated_before.nc
 "$program" --generate 0 --size 1 generated.nc <&- >&- 2>&-
 status=$?
 ends 'a made run without input and outputs' 6 generated.nc generated_before.nc
+
+# An input that can't be read, as a folder can't, is a fault of the source: nothing is printed.
+given=$("$program" kept.nc < .)
+status=$?
+same 'an input that fails: text' '' "$given"
+ends 'an input that fails' 5 kept.nc old_before.nc
+
+# Where the line of a fault can't be given, the status is that of the fault.
+"$program" < making > /dev/full
+same 'words of no form, and an output that takes nothing' 2 $?
+"$program" kept.nc < /dev/null > /dev/full
+same 'a script without a head, and an output that takes nothing' 3 $?
+"$program" kept.nc < putting > /dev/full
+same 'a dataset without a header, and an output that takes nothing' 4 $?
+"$program" missing/kept.nc < making > /dev/full
+same 'a path that cannot be opened, and an output that takes nothing' 7 $?
+same 'the file is kept' yes "$(cmp -s kept.nc old_before.nc && echo yes || echo no)"
 rm -f kept.nc old_before.nc
 
 # A dataset that can't be written can be listed and read. Nobody but root may write it all the same, so root runs this as another user.

@@ -27,6 +27,20 @@ run() {
     same "$1: bytes" "$6" "$(data_of "$2" "$3")"
 }
 
+# whole NAME FILE SCRIPT TEXT BYTES: runs the script on the file; its whole text, and all bytes of the file
+whole() {
+    given=$(printf '%s\n' "$3" | "$program" "$2")
+    same "$1: status" 0 $?
+    same "$1: text" "$4" "$given"
+    same "$1: bytes" "${5//[[:space:]]/}" "$(data_of "$2" 0)"
+}
+
+# kept NAME FILE TEXT BYTES: opens the file, adds nothing and calls nothing
+kept() {
+    whole "$1" "$2" "$(cat open)" "$empty
+$3" "$4"
+}
+
 # either NAME FILE FROM SCRIPT ANSWERS DATA OTHER_ANSWERS OTHER_DATA: runs a script of which the independent calls of two ranks may come
 # in either order. The file's bytes are those of the order that is printed.
 either() {
@@ -249,6 +263,24 @@ rank 0
 5 get_var_all ok x7FC00001 x00000000
 pending 0' 000000007fc0000100000000
 
+run 'an aggregator for each byte' bytes.nc 80 "$(vector 1 'hint cb_nodes 64
+hint line_room 1
+' '0 put_var_all v 1 2 3 4')" 'ranks 1
+order m0
+rank 0
+0 put_var_all ok
+pending 0' 00000001000000020000000300000004
+
+run 'sixty-four ranks put in one call' ranks.nc 80 "create 1
+ranks 64
+dim x 64
+var int v [x]
+data
+$(for rank in $(seq 0 63); do echo "$rank put_var1_all v [$rank] $rank"; done)
+end" "ranks 64
+order m0
+$(for rank in $(seq 0 63); do printf 'rank %s\n0 put_var1_all ok\npending 0\n' "$rank"; done)" "$(for rank in $(seq 0 63); do printf '%08x' "$rank"; done)"
+
 # The elements of the two ranks differ, so the bytes are the same in either order.
 text='ranks 2
 order m0 s0.1 s1.1 m1
@@ -268,6 +300,14 @@ either 'independent puts by data sieving' sieved.nc 80 "$(vector 2 '' '0 begin_i
 1 begin_indep_data
 1 put_vars v [1] [2] [2] 2 4
 1 end_indep_data')" "$text" 00000001000000020000000300000004 "$(exchanged "$text")" 00000001000000020000000300000004
+
+run 'ranks in turn come in their order' turns.nc 80 "$(vector 2 'hint threads off
+' '0 begin_indep_data
+0 put_vars v [0] [2] [2] 1 3
+0 end_indep_data
+1 begin_indep_data
+1 put_vars v [1] [2] [2] 2 4
+1 end_indep_data')" "$text" 00000001000000020000000300000004
 
 # Two ranks put to one element and read its neighbour: what stands there is what the later one put, and each of them reads what was put
 # before.
@@ -496,7 +536,7 @@ data
 end' "$both" 000000010000000200000003000000040000000000000000
 same 'and leave the same file' yes "$(cmp -s added.nc windows.nc && echo yes || echo no)"
 
-run 'a variable is added to records' grown.nc 116 'open
+whole 'a variable is added to records' grown.nc 'open
 ranks 1
 var int q [t]
 data
@@ -507,7 +547,26 @@ order m0 m1
 rank 0
 0 get_var_all ok 0 0 0 7
 1 get_var_all ok 0 0 0 0
-pending 0' 0000000000000000000000000000000000000000000000000007000000000000
+pending 0
+// file format: CDF-1
+file header:
+  size = 116 bytes
+  extent = 116 bytes
+dimensions:
+  t = UNLIMITED // (4 currently)
+fixed-size variables:
+record variables:
+  short s(t):
+    start file offset = 116
+    end file offset = 118
+    size in bytes = 2
+  int q(t):
+    start file offset = 120
+    end file offset = 124
+    size in bytes = 4' '43444601 00000004 0000000a 00000001 00000001 74000000 00000000 00000000 00000000 0000000b 00000002
+    00000001 73000000 00000001 00000000 00000000 00000000 00000003 00000004 00000074
+    00000001 71000000 00000001 00000000 00000000 00000000 00000004 00000004 00000078
+    00000000 00000000 00000000 00000000 00000000 00000000 00070000 00000000'
 
 # A file that no tool writes: its dimensions are x of length 4, x unlimited, and y of length 3; its variable is v(x). The x of a
 # new variable is the first one. The new header has 144 bytes: v moves there, and q of the dimensions 2 and 0 stands behind it.
@@ -549,6 +608,194 @@ fixed-size variables:
     size in bytes = 48
 record variables:' "$("$program" --offsets twins < /dev/null)"
 rm -f twins
+
+# Whole texts and whole files of runs that make a dataset. In the first one there are puts of a box, of a text and of bits.
+whole 'puts go to their variables' variables.nc 'create 1
+ranks 1
+hint cb_nodes 4
+dim y 2
+dim x 3
+var short w [y,x]
+var char c [x]
+var float f []
+att w k byte 1
+data
+0 put_vara_all w [0,1] [2,2] 1 2 3 -4 5
+0 put_vara_all c [1] [2] "hi"
+0 put_vara_all f [] [] x3FC00000
+0 put_vara_all w [1,0] [1,1] 7
+end' 'ranks 1
+order m0 m1 m2 m3
+rank 0
+0 put_vara_all ok
+1 put_vara_all ok
+2 put_vara_all ok
+3 put_vara_all ok
+pending 0
+// file format: CDF-1
+file header:
+  size = 184 bytes
+  extent = 184 bytes
+dimensions:
+  y = 2
+  x = 3
+fixed-size variables:
+  short w(y, x):
+    start file offset = 184
+    end file offset = 196
+    size in bytes = 12
+  char c(x):
+    start file offset = 196
+    end file offset = 199
+    size in bytes = 3
+  float f:
+    start file offset = 200
+    end file offset = 204
+    size in bytes = 4
+record variables:' '43444601 00000000 0000000a 00000002 00000001 79000000 00000002 00000001 78000000 00000003 00000000 00000000
+    0000000b 00000003 00000001 77000000 00000002 00000000 00000001 0000000c 00000001 00000001 6b000000 00000001 00000001 01000000
+    00000003 0000000c 000000b8 00000001 63000000 00000001 00000001 00000000 00000000 00000002 00000004 000000c4
+    00000001 66000000 00000000 00000000 00000000 00000005 00000004 000000c8
+    00000001 00020007 0003fffc 00686900 3fc00000'
+
+empty='ranks 1
+order
+rank 0
+pending 0'
+
+whole 'a dataset of records' none.nc "$(records 1 '' | sed '/^$/d')" "$empty
+// file format: CDF-1
+file header:
+  size = 80 bytes
+  extent = 80 bytes
+dimensions:
+  t = UNLIMITED // (0 currently)
+fixed-size variables:
+record variables:
+  short s(t):
+    start file offset = 80
+    end file offset = 82
+    size in bytes = 2" '43444601 00000000 0000000a 00000001 00000001 74000000 00000000 00000000 00000000
+    0000000b 00000001 00000001 73000000 00000001 00000000 00000000 00000000 00000003 00000004 00000050'
+
+whole 'a dataset in CDF-2' second.nc 'create 2
+ranks 1
+dim x 4
+var int v [x]
+data
+end' "$empty
+// file format: CDF-2
+file header:
+  size = 84 bytes
+  extent = 84 bytes
+dimensions:
+  x = 4
+fixed-size variables:
+  int v(x):
+    start file offset = 84
+    end file offset = 100
+    size in bytes = 16
+record variables:" '43444602 00000000 0000000a 00000001 00000001 78000000 00000004 00000000 00000000
+    0000000b 00000001 00000001 76000000 00000001 00000000 00000000 00000000 00000004 00000010 0000000000000054
+    00000000 00000000 00000000 00000000'
+
+whole 'a dataset in CDF-5' fifth.nc 'create 5
+ranks 1
+dim x 4
+var uint64 v [x]
+data
+end' "$empty
+// file format: CDF-5
+file header:
+  size = 128 bytes
+  extent = 128 bytes
+dimensions:
+  x = 4
+fixed-size variables:
+  uint64 v(x):
+    start file offset = 128
+    end file offset = 160
+    size in bytes = 32
+record variables:" '43444605 0000000000000000 0000000a 0000000000000001 0000000000000001 78000000 0000000000000004 00000000 0000000000000000
+    0000000b 0000000000000001 0000000000000001 76000000 0000000000000001 0000000000000000 00000000 0000000000000000
+    0000000b 0000000000000020 0000000000000080
+    0000000000000000 0000000000000000 0000000000000000 0000000000000000'
+
+whole 'a hint aligns the variables' aligned.nc 'create 1
+ranks 1
+hint nc_var_align_size 64
+dim x 3
+var byte a [x]
+var byte b [x]
+data
+end' "$empty
+// file format: CDF-1
+file header:
+  size = 116 bytes
+  extent = 128 bytes
+dimensions:
+  x = 3
+fixed-size variables:
+  byte a(x):
+    start file offset = 128
+    end file offset = 131
+    size in bytes = 3
+  byte b(x):
+    start file offset = 192
+    end file offset = 195
+    size in bytes = 3
+record variables:" "43444601 00000000 0000000a 00000001 00000001 78000000 00000003 00000000 00000000 0000000b 00000002
+    00000001 61000000 00000001 00000000 00000000 00000000 00000001 00000004 00000080
+    00000001 62000000 00000001 00000000 00000000 00000000 00000001 00000004 000000c0 $(printf '%0160d' 0)"
+
+# A header of 80 bytes, behind which there is room up to byte 512.
+front='43444601 00000000 0000000a 00000001 00000001 78000000 00000004 00000000 00000000
+    0000000b 00000001 00000001 76000000 00000001 00000000 00000000 00000000 00000004 00000010'
+room_text='// file format: CDF-1
+file header:
+  size = 80 bytes
+  extent = 512 bytes
+dimensions:
+  x = 4
+fixed-size variables:
+  int v(x):
+    start file offset = 512
+    end file offset = 528
+    size in bytes = 16
+record variables:'
+whole 'a hint aligns the header' roomy.nc 'create 1
+ranks 1
+hint nc_header_align_size 512
+dim x 4
+var int v [x]
+data
+end' "$empty
+$room_text" "$front 00000200 $(printf '%0864d' 0) 00000000 00000000 00000000 00000000"
+
+# A dataset that is opened keeps room behind its header, and bytes past its end; one that is shorter than its end gets zeros there. A list of
+# offsets makes no file longer.
+counted='00000001 00000002 00000003 00000004'
+bytes_from "$front 00000200 $(printf '%0864d' 0) $counted" > there
+kept 'room behind the header stays' there "$room_text" "$front 00000200 $(printf '%0864d' 0) $counted"
+near_text=${room_text//512/80}
+near_text=${near_text//528/96}
+bytes_from "$front 00000050 $counted 6d6f7265" > there
+kept 'bytes past the end stay' there "$near_text" "$front 00000050 $counted 6d6f7265"
+bytes_from "$front 00000050 00000001 0000" > there
+kept 'a short dataset gets zeros' there "$near_text" "$front 00000050 00000001 00000000 00000000 00000000"
+bytes_from "$front 00000200" > there
+given=$("$program" --offsets there < /dev/null)
+same 'offsets of a short dataset: status' 0 $?
+same 'offsets of a short dataset' "$room_text" "$given"
+same 'offsets of a short dataset: its length' 80 "$(wc -c < there | tr -d ' ')"
+
+# A variable of 2400000000 bytes passes what one of CDF-1 may have.
+printf 'old' > there
+given=$(printf 'create 1\nranks 1\ndim x 600000000\nvar int v [x]\ndata\nend\n' | "$program" there)
+same 'a variable that is too large: status' 4 $?
+same 'a variable that is too large: line' 'ncrun: variable 0 is too large' "$given"
+same 'a variable that is too large: the file' old "$(cat there)"
+rm -f there
 
 given=$(printf 'open\nranks 1\ndim x 9\ndata\nend\n' | "$program" taken.nc)
 same 'a name that is taken: status' 4 $?
@@ -597,7 +844,13 @@ sum 18415865808000
 records 12
 file 4665760' "$given"
 
-for words in '--size 3 made.nc' '--offsets --generate 0 made.nc' '--generate 0 --size 65 made.nc' '--generate 0'; do
+given=$("$program" --generate=18446744073709551615 --size 00000000000000000001 made.nc < /dev/null)
+same 'the greatest seed: status' 0 $?
+same 'the greatest seed' 'generated 18446744073709551615 1' "${given%%
+*}"
+
+for words in '' '--help' '-d.nc' 'd.nc e.nc' '--size 3 made.nc' '--offsets --generate 0 made.nc' '--generate 0 --size 65 made.nc' '--generate 0' \
+    '--generate 18446744073709551616 made.nc'; do
     # shellcheck disable=SC2086
     given=$("$program" $words < /dev/null)
     same "words of no form ($words): status" 2 $?

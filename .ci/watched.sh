@@ -19,6 +19,10 @@ watchers=$(printf '%s\n' "$given" | sed -n '/^watcher 0$/,$p' | awk '
     { before = $1 }')
 same 'a watched run: the lines of its watchers' "$(for watcher in 0 1 2 3 4 5 6 7; do printf 'watcher %s\n%s %s\n' $watcher $steps $steps; done)" "$watchers"
 
+printf '%s\n' "$many" | "$program" --watch 8 watched.nc > /dev/full
+same 'a watched run whose output takes nothing: status' 6 $?
+same 'a watched run whose output takes nothing: its file' yes "$(cmp -s plain.nc watched.nc && echo yes || echo no)"
+
 # Words that name too many watchers or none, or watchers of something else than a run of a script.
 for words in '--watch 9 d.nc' '--watch 0 d.nc' '--watch 1 --offsets d.nc' '--watch 1 --generate 0 d.nc'; do
     # shellcheck disable=SC2086

@@ -32,15 +32,10 @@ fn disk_of(alloc: Global, run: &Run<'_>) -> Result<MemDisk, Memory> {
     MemDisk::failing(alloc, held, plan)
 }
 
-fn sink_of(alloc: Global, run: &Run<'_>) -> Result<MemSink, Memory> {
-    let failing = IdList::from_slice(alloc, run.gives)?;
-    MemSink::new(alloc, run.room, failing)
-}
-
 pub(crate) fn outside_of(alloc: Global, run: &Run<'_>) -> Result<Outside, Memory> {
     let source = source_of(alloc, run)?;
     let disk = disk_of(alloc, run)?;
-    let sink = sink_of(alloc, run)?;
+    let sink = MemSink::new(alloc, run.room, IdList::new(alloc))?;
     Ok(Outside { source, disk, sink })
 }
 

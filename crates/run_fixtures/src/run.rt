@@ -1,6 +1,6 @@
 // A run, and how it ended.
 use crate::outside::{Outside, calls_of, outside_of};
-use nc_base::{Blob, MarkList, Memory, ReadingTable};
+use nc_base::{Blob, MarkList, Memory};
 use nc_outside::{DiskCallList, Fail, Gate};
 use ncmpi_cli::{Outcome, ncrun};
 use std::alloc::Global;
@@ -19,8 +19,6 @@ pub struct Run<'a> {
     pub plan: &'a [Fail],
     /// The takes of the source that fail, from 0.
     pub takes: &'a [u32],
-    /// The gives of the sink that fail.
-    pub gives: &'a [u32],
     /// How many bytes the sink has room for.
     pub room: u64,
 }
@@ -35,7 +33,6 @@ pub const PLAIN: Run<'static> = Run {
     held: OLD,
     plan: &[],
     takes: &[],
-    gives: &[],
     room: 4096,
 };
 
@@ -44,7 +41,6 @@ pub const PLAIN: Run<'static> = Run {
 pub struct Ended {
     pub status: u8,
     pub order: MarkList,
-    pub readings: ReadingTable,
     /// What the sink was given.
     pub given: Blob,
     /// What the dataset holds.
@@ -74,13 +70,13 @@ pub fn end_of<R: Threads + Wait + Sync, G: Gate>(
 }
 
 fn left(alloc: Global, outcome: Outcome, outside: &Outside) -> Result<Ended, Memory> {
+    let Outcome { status, order, .. } = outcome;
     let calls = calls_of(alloc, &outside.disk)?;
     let held = outside.disk.bytes(alloc)?;
     let given = Blob::from_slice(alloc, outside.sink.bytes())?;
     Ok(Ended {
-        status: outcome.status,
-        order: outcome.order,
-        readings: outcome.readings,
+        status,
+        order,
         given,
         held,
         calls,

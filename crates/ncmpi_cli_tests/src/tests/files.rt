@@ -1,4 +1,4 @@
-// Datasets as the netCDF classic format specification spells them.
+// Datasets as the netCDF classic format specification spells them, scripts that make them, and their offsets.
 
 /// `dim x 4`, `var int v [x]`, in CDF-1: the header up to the begin of v.
 pub(crate) const A_FRONT: &[u8] = b"\
@@ -6,74 +6,42 @@ pub(crate) const A_FRONT: &[u8] = b"\
     \x00\x00\x00\x00\x00\x00\x00\x00\x00\x00\x00\x0b\x00\x00\x00\x01\x00\x00\x00\x01v\x00\x00\x00\x00\x00\x00\x01\
     \x00\x00\x00\x00\x00\x00\x00\x00\x00\x00\x00\x00\x00\x00\x00\x04\x00\x00\x00\x10";
 
-/// The same, whose record count is that of a stream.
-pub(crate) const A_STREAM: &[u8] = b"\
-    CDF\x01\xff\xff\xff\xff\x00\x00\x00\x0a\x00\x00\x00\x01\x00\x00\x00\x01x\x00\x00\x00\x00\x00\x00\x04\
-    \x00\x00\x00\x00\x00\x00\x00\x00\x00\x00\x00\x0b\x00\x00\x00\x01\x00\x00\x00\x01v\x00\x00\x00\x00\x00\x00\x01\
-    \x00\x00\x00\x00\x00\x00\x00\x00\x00\x00\x00\x00\x00\x00\x00\x04\x00\x00\x00\x10";
-
 /// The begin of v: 80.
 pub(crate) const AT_80: &[u8] = b"\x00\x00\x00\x50";
 
-/// The begin of v: 512.
-pub(crate) const AT_512: &[u8] = b"\x00\x00\x02\x00";
+/// The ints 1 2.
+pub(crate) const ONE_TWO: &[u8] = b"\x00\x00\x00\x01\x00\x00\x00\x02";
 
-/// The ints 1 2 3 4.
-pub(crate) const ONE_TO_FOUR: &[u8] =
-    b"\x00\x00\x00\x01\x00\x00\x00\x02\x00\x00\x00\x03\x00\x00\x00\x04";
+/// The ints 3 4.
+pub(crate) const THREE_FOUR: &[u8] = b"\x00\x00\x00\x03\x00\x00\x00\x04";
 
-/// The ints 0 5 -1 0.
-pub(crate) const TWO_PUT: &[u8] =
-    b"\x00\x00\x00\x00\x00\x00\x00\x05\xff\xff\xff\xff\x00\x00\x00\x00";
+/// The whole of it, with the values 1 2 3 4.
+pub(crate) const A: &[&[u8]] = &[A_FRONT, AT_80, ONE_TWO, THREE_FOUR];
 
-/// Four ints that were never written.
-pub(crate) const UNWRITTEN: &[u8] = &[0; 16];
+/// What a script of two ranks begins with.
+pub(crate) const TWO_RANKS: &[u8] = b"create 1\nranks 2\n";
 
-/// The bytes between a header of 80 bytes and a variable at 512.
-pub(crate) const ROOM: &[u8] = &[0; 432];
+/// The dataset's definitions.
+pub(crate) const VECTOR: &[u8] = b"dim x 4\nvar int v [x]\ndata\n";
 
-/// `dim x 4`, `var int v [x]`, in CDF-2, with v at 84.
-pub(crate) const A_64: &[u8] = b"\
-    CDF\x02\x00\x00\x00\x00\x00\x00\x00\x0a\x00\x00\x00\x01\x00\x00\x00\x01x\x00\x00\x00\x00\x00\x00\x04\
-    \x00\x00\x00\x00\x00\x00\x00\x00\x00\x00\x00\x0b\x00\x00\x00\x01\x00\x00\x00\x01v\x00\x00\x00\x00\x00\x00\x01\
-    \x00\x00\x00\x00\x00\x00\x00\x00\x00\x00\x00\x00\x00\x00\x00\x04\x00\x00\x00\x10\x00\x00\x00\x00\x00\x00\x00\x54";
+/// Each of two ranks puts a half.
+pub(crate) const HALVES: &[u8] =
+    b"0 put_vara_all v [0] [2] 1 2\n1 put_vara_all v [2] [2] 3 4\nend\n";
 
-/// `dim t unlimited`, `var short s [t]`, in CDF-1, with s at 80.
+/// The offsets of the dataset.
+pub(crate) const A_OFFSETS: &[u8] = b"\
+    // file format: CDF-1\nfile header:\n  size = 80 bytes\n  extent = 80 bytes\n\
+    dimensions:\n  x = 4\nfixed-size variables:\n  int v(x):\n    start file offset = 80\n    \
+    end file offset = 96\n    size in bytes = 16\nrecord variables:\n";
+
+/// CDF-1.
+pub(crate) const MAGIC: &[u8] = b"CDF\x01";
+
+/// A record count of 0.
+pub(crate) const NO_RECORDS: &[u8] = &[0; 4];
+
+/// `dim t unlimited`, `var short s [t]`, with s at 80: the header behind its record count.
 pub(crate) const B: &[u8] = b"\
-    CDF\x01\x00\x00\x00\x00\x00\x00\x00\x0a\x00\x00\x00\x01\x00\x00\x00\x01t\x00\x00\x00\x00\x00\x00\x00\
+    \x00\x00\x00\x0a\x00\x00\x00\x01\x00\x00\x00\x01t\x00\x00\x00\x00\x00\x00\x00\
     \x00\x00\x00\x00\x00\x00\x00\x00\x00\x00\x00\x0b\x00\x00\x00\x01\x00\x00\x00\x01s\x00\x00\x00\x00\x00\x00\x01\
     \x00\x00\x00\x00\x00\x00\x00\x00\x00\x00\x00\x00\x00\x00\x00\x03\x00\x00\x00\x04\x00\x00\x00\x50";
-
-/// `dim x 4`, `var uint64 v [x]`, in CDF-5: magic and version.
-pub(crate) const WIDE_MAGIC: &[u8] = b"CDF\x05";
-
-/// Its record count, 0.
-pub(crate) const WIDE_COUNT: &[u8] = &[0; 8];
-
-/// A record count of all ones.
-pub(crate) const WIDE_STREAM: &[u8] = &[0xff; 8];
-
-/// What follows up to byte 96: the dimension, no attribute, and the variable with its dimension.
-pub(crate) const WIDE_FRONT: &[u8] = b"\
-    \x00\x00\x00\x0a\x00\x00\x00\x00\x00\x00\x00\x01\x00\x00\x00\x00\x00\x00\x00\x01x\x00\x00\x00\
-    \x00\x00\x00\x00\x00\x00\x00\x04\x00\x00\x00\x00\x00\x00\x00\x00\x00\x00\x00\x00\
-    \x00\x00\x00\x0b\x00\x00\x00\x00\x00\x00\x00\x01\x00\x00\x00\x00\x00\x00\x00\x01v\x00\x00\x00\
-    \x00\x00\x00\x00\x00\x00\x00\x01\x00\x00\x00\x00\x00\x00\x00\x00";
-
-/// The rest of the header: no attribute of the variable, its type, vsize 32 and begin 128.
-pub(crate) const WIDE_REST: &[u8] = b"\
-    \x00\x00\x00\x00\x00\x00\x00\x00\x00\x00\x00\x00\x00\x00\x00\x0b\x00\x00\x00\x00\x00\x00\x00\x20\
-    \x00\x00\x00\x00\x00\x00\x00\x80";
-
-/// Four values of 64 bits that were never written.
-pub(crate) const WIDE_UNWRITTEN: &[u8] = &[0; 32];
-
-/// The tag of the attributes that the variable doesn't have: bytes 96 to 99.
-pub(crate) const WIDE_TAG: &[u8] = &[0; 4];
-
-/// What is told of a run of one rank without a call where v begins at 512.
-pub(crate) const ROOM_TEXT: &[u8] = b"\
-    ranks 1\norder\nrank 0\npending 0\n\
-    // file format: CDF-1\nfile header:\n  size = 80 bytes\n  extent = 512 bytes\n\
-    dimensions:\n  x = 4\nfixed-size variables:\n  int v(x):\n    start file offset = 512\n    \
-    end file offset = 528\n    size in bytes = 16\nrecord variables:\n";

@@ -1,3 +1,0 @@
-// Hostile input, and a disk that refuses a call.
-mod hostile;
-mod refused;
