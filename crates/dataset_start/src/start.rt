@@ -21,7 +21,7 @@ use std::alloc::Global;
 use var_layout::lay_out;
 
 /// A script, and the header of its dataset, which is ready for the ranks.
-#[derive(Debug, Drop)]
+#[derive(Drop)]
 pub struct Ready {
     pub script: Script,
     pub header: Header,

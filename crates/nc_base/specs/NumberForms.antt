@@ -1,5 +1,5 @@
 -- The numbers of a list, in the forms in which it lies in memory. (own)
-use Rattle.std.specs.Prelude.{ℕ, ◌+◌, ◌*◌, List, map, flat_map, ℤ, pos, ◌+ℤ◌, ◌*ℤ◌}
+use Rattle.std.specs.Prelude.{ℕ, List, map, flat_map, ℤ, pos, ◌+ℤ◌, ◌*ℤ◌}
 use Rattle.std.specs.List.{range_with_len}
 use Rattle.nc_base.specs.declared.numbers.NumberRun.{NumberRun}
 use Rattle.nc_base.specs.declared.numbers.NumberForm.{NumberForm}

@@ -6,10 +6,9 @@ ghost use Rattle.nc_base.specs.BitForms.{bits_of_run, bits_of_runs, bits_in, bit
 use crate::{Memory, TryClone};
 use std::alloc::Global;
 use std::marker::Model;
-use std::mem;
 
 /// The patterns first, first + step, and so on.
-#[derive(Clone, Copy, Debug, PartialEq, Eq)]
+#[derive(Clone, Copy)]
 pub struct BitRun {
     pub first: u64,
     pub step: u64,
@@ -28,7 +27,7 @@ impl BitRun {
 }
 
 /// A list of patterns as it lies in memory.
-#[derive(Clone, Copy, Debug)]
+#[derive(Clone, Copy)]
 pub enum BitWords<'a> {
     Narrow(&'a [u32]),
     Wide(&'a [u64]),
@@ -36,7 +35,7 @@ pub enum BitWords<'a> {
 }
 
 /// How a list has its patterns.
-#[derive(Debug, Drop)]
+#[derive(Drop)]
 enum BitForm {
     Narrow(Vec<u32>),
     Wide(Vec<u64>),
@@ -45,10 +44,11 @@ enum BitForm {
 
 /// A list of bit patterns. It takes as many bytes for each as the one that needs most, and next to nothing
 /// for patterns of one step.
-#[derive(Debug, Drop)]
+#[derive(Drop)]
 pub struct BitList {
     form: BitForm,
     len: usize,
+    alloc: Global,
 }
 
 impl Model for BitList {
@@ -71,6 +71,7 @@ impl BitList {
         BitList {
             form: BitForm::Narrow(Vec::new(alloc)),
             len: 0,
+            alloc,
         }
     }
 
@@ -81,6 +82,7 @@ impl BitList {
         Ok(BitList {
             form: BitForm::Narrow(Vec::with_capacity(alloc, n)?),
             len: 0,
+            alloc,
         })
     }
 
@@ -88,10 +90,11 @@ impl BitList {
     pub fn from_narrow(words: Vec<u32>) -> Self
         ensures { result ≡ words.items }
     {
-        let len = words.len();
+        let (alloc, len) = (*words.allocator(), words.len());
         BitList {
             form: BitForm::Narrow(words),
             len,
+            alloc,
         }
     }
 
@@ -99,10 +102,11 @@ impl BitList {
     pub fn from_vec(words: Vec<u64>) -> Self
         ensures { result ≡ words.items }
     {
-        let len = words.len();
+        let (alloc, len) = (*words.allocator(), words.len());
         BitList {
             form: BitForm::Wide(words),
             len,
+            alloc,
         }
     }
 
@@ -110,10 +114,12 @@ impl BitList {
     pub fn from_runs(runs: Vec<BitRun>) -> Result<Self, Memory>
         ensures { IfOk result (λ list. list ≡ bits_of_runs runs.items) }
     {
+        let alloc = *runs.allocator();
         let len = count_of_runs(&runs).ok_or(Memory)?;
         Ok(BitList {
             form: BitForm::Runs(runs),
             len,
+            alloc,
         })
     }
 
@@ -125,7 +131,7 @@ impl BitList {
         let Some(len) = self.len.checked_add(1) else {
             return Err(Memory);
         };
-        push_to(&mut self.form, pattern)?;
+        push_to(self.alloc, &mut self.form, pattern)?;
         self.len = len;
         Ok(())
     }
@@ -135,7 +141,7 @@ impl BitList {
         ensures { OnOk result (self.new ≡ self.old ++ bits_of_run run) }
     {
         if self.is_empty() {
-            *self = BitList::from_runs(vec![in allocator_of(&self.form); run]?)?;
+            *self = BitList::from_runs(vec![in self.alloc; run]?)?;
             return Ok(());
         }
         if self.add_run(run)? {
@@ -210,11 +216,7 @@ impl BitList {
     pub fn get(&self, k: usize) -> Option<u64>
         ensures { result ≡ slice_get self.now k }
     {
-        match &self.form {
-            BitForm::Narrow(words) => narrow_at(words, k),
-            BitForm::Wide(words) => wide_at(words, k),
-            BitForm::Runs(runs) => pattern_in_runs(runs, k),
-        }
+        if k < self.len { Some(self.at(k)) } else { None }
     }
 
     /// Bit pattern `k`, which there is.
@@ -222,9 +224,10 @@ impl BitList {
         requires { k < length self.now }
         ensures { slice_get self.now k ≡ Some result }
     {
-        match self.get(k) {
-            Some(pattern) => pattern,
-            None => unreachable!(),
+        match &self.form {
+            BitForm::Narrow(words) => u64::from(words[k]),
+            BitForm::Wide(words) => words[k],
+            BitForm::Runs(runs) => pattern_of_runs(runs, k),
         }
     }
 
@@ -240,30 +243,14 @@ impl BitList {
         self.len == 0
     }
 
-    /// The list, of which nothing is left here. It takes no memory.
-    pub fn take(&mut self) -> Self
-        ensures taken { result ≡ self.old }
-        ensures left { self.new ≡ [] }
-    {
-        let alloc = allocator_of(&self.form);
-        mem::replace(self, BitList::new(alloc))
-    }
-
     pub fn clone(&self, alloc: Global) -> Result<Self, Memory>
         ensures { IfOk result (λ copy. copy ≡ self.now) }
     {
         Ok(BitList {
             form: copied(alloc, &self.form)?,
             len: self.len,
+            alloc,
         })
-    }
-}
-
-fn allocator_of(form: &BitForm) -> Global {
-    match form {
-        BitForm::Narrow(words) => *words.allocator(),
-        BitForm::Wide(words) => *words.allocator(),
-        BitForm::Runs(runs) => *runs.allocator(),
     }
 }
 
@@ -318,14 +305,14 @@ fn narrow(pattern: u64) -> Option<u32>
 }
 
 /// Adds a pattern, in words as wide as it needs.
-fn push_to(form: &mut BitForm, pattern: u64) -> Result<(), Memory>
+fn push_to(alloc: Global, form: &mut BitForm, pattern: u64) -> Result<(), Memory>
     ensures ok { OnOk result (bits_of_form form.new ≡ bits_of_form form.old ++ pattern ∷ []) }
     ensures err { OnErr result (bits_of_form form.new ≡ bits_of_form form.old) }
 {
     if push_fitting(form, pattern)? {
         return Ok(());
     }
-    *form = widened(allocator_of(form), form, pattern)?;
+    *form = widened(alloc, form, pattern)?;
     Ok(())
 }
 
@@ -421,23 +408,13 @@ fn push_patterns(out: &mut Vec<u64>, run: BitRun) -> Result<(), Memory>
     Ok(())
 }
 
-fn narrow_at(words: &[u32], k: usize) -> Option<u64>
-    ensures { result ≡ slice_get words.now k }
+fn pattern_of_runs(runs: &[BitRun], k: usize) -> u64
+    requires { k < length (bits_of_runs runs.now) }
+    ensures { slice_get (bits_of_runs runs.now) k ≡ Some result }
 {
-    if k < words.len() {
-        Some(u64::from(words[k]))
-    } else {
-        None
-    }
-}
-
-fn wide_at(words: &[u64], k: usize) -> Option<u64>
-    ensures { result ≡ slice_get words.now k }
-{
-    if k < words.len() {
-        Some(words[k])
-    } else {
-        None
+    match pattern_in_runs(runs, k) {
+        Some(pattern) => pattern,
+        None => unreachable!(),
     }
 }
 
@@ -453,16 +430,6 @@ fn pattern_in_runs(runs: &[BitRun], k: usize) -> Option<u64>
         left -= run.count as usize;
     }
     None
-}
-
-fn is_same(a: Option<u64>, b: Option<u64>) -> bool
-    ensures { IsTrue result ↔ (a ≡ b) }
-{
-    match (a, b) {
-        (Some(a), Some(b)) => a == b,
-        (None, None) => true,
-        _ => false,
-    }
 }
 
 impl TryClone for BitList {
@@ -486,7 +453,7 @@ impl PartialEq for BitList {
             return false;
         }
         for k in 0..self.len() {
-            if !is_same(self.get(k), other.get(k)) {
+            if self.at(k) != other.at(k) {
                 return false;
             }
         }

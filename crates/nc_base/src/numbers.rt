@@ -9,7 +9,7 @@ use std::marker::Model;
 use std::mem;
 
 /// The numbers first, first + step, and so on.
-#[derive(Clone, Copy, Debug, PartialEq, Eq)]
+#[derive(Clone, Copy)]
 pub struct NumberRun {
     pub first: i64,
     pub step: i64,
@@ -27,7 +27,7 @@ impl NumberRun {
 }
 
 /// A list of numbers as it lies in memory.
-#[derive(Clone, Copy, Debug)]
+#[derive(Clone, Copy)]
 pub enum NumberWords<'a> {
     Narrow(&'a [i32]),
     Wide(&'a [i64]),
@@ -36,7 +36,7 @@ pub enum NumberWords<'a> {
 }
 
 /// How a list has its numbers.
-#[derive(Debug, Drop)]
+#[derive(Drop)]
 enum NumberForm {
     Narrow(Vec<i32>),
     Wide(Vec<i64>),
@@ -46,10 +46,11 @@ enum NumberForm {
 
 /// A list of whole numbers. It takes as many bytes for each as the one that needs most, and next to nothing
 /// for numbers of one step.
-#[derive(Debug, Drop)]
+#[derive(Drop)]
 pub struct NumberList {
     form: NumberForm,
     len: usize,
+    alloc: Global,
 }
 
 impl Model for NumberList {
@@ -72,6 +73,7 @@ impl NumberList {
         NumberList {
             form: NumberForm::Narrow(Vec::new(alloc)),
             len: 0,
+            alloc,
         }
     }
 
@@ -82,6 +84,7 @@ impl NumberList {
         Ok(NumberList {
             form: NumberForm::Narrow(Vec::with_capacity(alloc, n)?),
             len: 0,
+            alloc,
         })
     }
 
@@ -89,10 +92,11 @@ impl NumberList {
     pub fn from_narrow(words: Vec<i32>) -> Self
         ensures { result ≡ words.items }
     {
-        let len = words.len();
+        let (alloc, len) = (*words.allocator(), words.len());
         NumberList {
             form: NumberForm::Narrow(words),
             len,
+            alloc,
         }
     }
 
@@ -100,10 +104,11 @@ impl NumberList {
     pub fn from_wide(words: Vec<i64>) -> Self
         ensures { result ≡ words.items }
     {
-        let len = words.len();
+        let (alloc, len) = (*words.allocator(), words.len());
         NumberList {
             form: NumberForm::Wide(words),
             len,
+            alloc,
         }
     }
 
@@ -111,10 +116,11 @@ impl NumberList {
     pub fn from_vec(words: Vec<i128>) -> Self
         ensures { result ≡ words.items }
     {
-        let len = words.len();
+        let (alloc, len) = (*words.allocator(), words.len());
         NumberList {
             form: NumberForm::Widest(words),
             len,
+            alloc,
         }
     }
 
@@ -122,10 +128,12 @@ impl NumberList {
     pub fn from_runs(runs: Vec<NumberRun>) -> Result<Self, Memory>
         ensures { IfOk result (λ list. list ≡ numbers_of_runs runs.items) }
     {
+        let alloc = *runs.allocator();
         let len = count_of_runs(&runs).ok_or(Memory)?;
         Ok(NumberList {
             form: NumberForm::Runs(runs),
             len,
+            alloc,
         })
     }
 
@@ -137,7 +145,7 @@ impl NumberList {
         let Some(len) = self.len.checked_add(1) else {
             return Err(Memory);
         };
-        push_to(&mut self.form, number)?;
+        push_to(self.alloc, &mut self.form, number)?;
         self.len = len;
         Ok(())
     }
@@ -147,7 +155,7 @@ impl NumberList {
         ensures { OnOk result (self.new ≡ self.old ++ numbers_of_run run) }
     {
         if self.is_empty() {
-            *self = NumberList::from_runs(vec![in allocator_of(&self.form); run]?)?;
+            *self = NumberList::from_runs(vec![in self.alloc; run]?)?;
             return Ok(());
         }
         if self.add_run(run)? {
@@ -223,12 +231,7 @@ impl NumberList {
     pub fn get(&self, k: usize) -> Option<i128>
         ensures { result ≡ slice_get self.now k }
     {
-        match &self.form {
-            NumberForm::Narrow(words) => narrow_at(words, k),
-            NumberForm::Wide(words) => wide_at(words, k),
-            NumberForm::Widest(words) => widest_at(words, k),
-            NumberForm::Runs(runs) => number_in_runs(runs, k),
-        }
+        if k < self.len { Some(self.at(k)) } else { None }
     }
 
     /// Number `k`, which there is.
@@ -236,10 +239,7 @@ impl NumberList {
         requires { k < length self.now }
         ensures { slice_get self.now k ≡ Some result }
     {
-        match self.get(k) {
-            Some(number) => number,
-            None => unreachable!(),
-        }
+        number_at(&self.form, k)
     }
 
     pub fn len(&self) -> usize
@@ -259,8 +259,8 @@ impl NumberList {
         ensures taken { result ≡ self.old }
         ensures left { self.new ≡ [] }
     {
-        let alloc = allocator_of(&self.form);
-        mem::replace(self, NumberList::new(alloc))
+        let empty = NumberList::new(self.alloc);
+        mem::replace(self, empty)
     }
 
     pub fn clone(&self, alloc: Global) -> Result<Self, Memory>
@@ -269,16 +269,8 @@ impl NumberList {
         Ok(NumberList {
             form: copied(alloc, &self.form)?,
             len: self.len,
+            alloc,
         })
-    }
-}
-
-fn allocator_of(form: &NumberForm) -> Global {
-    match form {
-        NumberForm::Narrow(words) => *words.allocator(),
-        NumberForm::Wide(words) => *words.allocator(),
-        NumberForm::Widest(words) => *words.allocator(),
-        NumberForm::Runs(runs) => *runs.allocator(),
     }
 }
 
@@ -344,14 +336,14 @@ fn wide(number: i128) -> Option<i64>
 }
 
 /// Adds a number, in words as wide as it needs.
-fn push_to(form: &mut NumberForm, number: i128) -> Result<(), Memory>
+fn push_to(alloc: Global, form: &mut NumberForm, number: i128) -> Result<(), Memory>
     ensures ok { OnOk result (numbers_of_form form.new ≡ numbers_of_form form.old ++ number ∷ []) }
     ensures err { OnErr result (numbers_of_form form.new ≡ numbers_of_form form.old) }
 {
     if push_fitting(form, number)? {
         return Ok(());
     }
-    *form = widened(allocator_of(form), form, number)?;
+    *form = widened(alloc, form, number)?;
     Ok(())
 }
 
@@ -441,29 +433,20 @@ fn widest_words(alloc: Global, form: &NumberForm) -> Result<Vec<i128>, Memory>
     ensures { IfOk result (λ all. all.items ≡ numbers_of_form form.now) }
 {
     match form {
-        NumberForm::Narrow(words) => widest_of_narrow(alloc, words),
-        NumberForm::Wide(words) => widest_of_wide(alloc, words),
-        NumberForm::Widest(words) => Ok(Vec::from_slice(alloc, words)?),
+        NumberForm::Narrow(words) => widest_of_words(alloc, form, words.len()),
+        NumberForm::Wide(words) => widest_of_words(alloc, form, words.len()),
+        NumberForm::Widest(words) => widest_of_words(alloc, form, words.len()),
         NumberForm::Runs(runs) => widest_of_runs(alloc, runs),
     }
 }
 
-fn widest_of_narrow(alloc: Global, words: &[i32]) -> Result<Vec<i128>, Memory>
-    ensures { IfOk result (λ all. all.items ≡ words.now) }
+fn widest_of_words(alloc: Global, form: &NumberForm, len: usize) -> Result<Vec<i128>, Memory>
+    requires { len ≡ length (numbers_of_form form.now) }
+    ensures { IfOk result (λ all. all.items ≡ numbers_of_form form.now) }
 {
-    let mut all = Vec::with_capacity(alloc, words.len().saturating_add(1))?;
-    for word in words {
-        all.push(i128::from(*word))?;
-    }
-    Ok(all)
-}
-
-fn widest_of_wide(alloc: Global, words: &[i64]) -> Result<Vec<i128>, Memory>
-    ensures { IfOk result (λ all. all.items ≡ words.now) }
-{
-    let mut all = Vec::with_capacity(alloc, words.len().saturating_add(1))?;
-    for word in words {
-        all.push(i128::from(*word))?;
+    let mut all = Vec::with_capacity(alloc, len.saturating_add(1))?;
+    for k in 0..len {
+        all.push(number_at(form, k))?;
     }
     Ok(all)
 }
@@ -487,33 +470,25 @@ fn push_numbers(out: &mut Vec<i128>, run: NumberRun) -> Result<(), Memory>
     Ok(())
 }
 
-fn narrow_at(words: &[i32], k: usize) -> Option<i128>
-    ensures { result ≡ slice_get words.now k }
+fn number_at(form: &NumberForm, k: usize) -> i128
+    requires { k < length (numbers_of_form form.now) }
+    ensures { slice_get (numbers_of_form form.now) k ≡ Some result }
 {
-    if k < words.len() {
-        Some(i128::from(words[k]))
-    } else {
-        None
+    match form {
+        NumberForm::Narrow(words) => i128::from(words[k]),
+        NumberForm::Wide(words) => i128::from(words[k]),
+        NumberForm::Widest(words) => words[k],
+        NumberForm::Runs(runs) => number_of_runs(runs, k),
     }
 }
 
-fn wide_at(words: &[i64], k: usize) -> Option<i128>
-    ensures { result ≡ slice_get words.now k }
+fn number_of_runs(runs: &[NumberRun], k: usize) -> i128
+    requires { k < length (numbers_of_runs runs.now) }
+    ensures { slice_get (numbers_of_runs runs.now) k ≡ Some result }
 {
-    if k < words.len() {
-        Some(i128::from(words[k]))
-    } else {
-        None
-    }
-}
-
-fn widest_at(words: &[i128], k: usize) -> Option<i128>
-    ensures { result ≡ slice_get words.now k }
-{
-    if k < words.len() {
-        Some(words[k])
-    } else {
-        None
+    match number_in_runs(runs, k) {
+        Some(number) => number,
+        None => unreachable!(),
     }
 }
 
@@ -529,16 +504,6 @@ fn number_in_runs(runs: &[NumberRun], k: usize) -> Option<i128>
         left -= run.count as usize;
     }
     None
-}
-
-fn is_same(a: Option<i128>, b: Option<i128>) -> bool
-    ensures { IsTrue result ↔ (a ≡ b) }
-{
-    match (a, b) {
-        (Some(a), Some(b)) => a == b,
-        (None, None) => true,
-        _ => false,
-    }
 }
 
 impl TryClone for NumberList {
@@ -562,7 +527,7 @@ impl PartialEq for NumberList {
             return false;
         }
         for k in 0..self.len() {
-            if !is_same(self.get(k), other.get(k)) {
+            if self.at(k) != other.at(k) {
                 return false;
             }
         }

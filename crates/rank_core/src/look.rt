@@ -24,7 +24,7 @@ use std::alloc::Global;
 use target::Target;
 
 /// What a put, a get or a post comes to.
-#[derive(Debug, Drop)]
+#[derive(Drop)]
 pub(crate) enum Look {
     /// It is refused by this code.
     Refused(Code),

@@ -3,7 +3,7 @@
 use nc_base::{Code, ItemList, PostList};
 
 /// What a rank keeps of an offer until its reply.
-#[derive(Debug, Drop)]
+#[derive(Drop)]
 pub(crate) struct OpenOffer {
     /// The code of the answer.
     pub(crate) code: Code,

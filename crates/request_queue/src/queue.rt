@@ -25,7 +25,7 @@ pub(crate) struct Posting {
 }
 
 /// A request that waits: its posts, one after another.
-#[derive(Debug, Drop)]
+#[derive(Drop)]
 pub(crate) struct Request {
     pub(crate) id: u32,
     pub(crate) kind: PostKind,

@@ -16,7 +16,7 @@ use std::alloc::Global;
 use std::collections::BTreeSet;
 
 /// What a wait takes from a queue.
-#[derive(Debug, Drop)]
+#[derive(Drop)]
 pub struct Taken {
     pub batch: Batch,
     /// One item for each id that the wait names.

@@ -14,7 +14,7 @@ use nc_base::{AnswerTable, Blob, Header, Memory, SizeList};
 use std::alloc::Global;
 
 /// What a run came to.
-#[derive(Debug, Drop)]
+#[derive(Drop)]
 pub struct SerialEnd {
     /// The bytes of the dataset.
     pub bytes: Blob,

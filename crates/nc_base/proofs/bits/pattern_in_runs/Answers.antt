@@ -1,9 +1,4 @@
-use Rattle.std.proofs.Common.{◌≡◌, ◌∙◌, sym, ap, ℕ, Some, arith}
-use Rattle.std.specs.Prelude.{ℤ, pos}
-use Rattle.std.proofs.lemmas.Int.{to_z-of_z}
-use mir.Syntax.{w128}
-use mir.Val.{to_z, of_z}
-use Rattle.nc_base.specs.declared.bits.BitRun.{BitRun}
+use Rattle.std.proofs.Common.{◌∙◌, sym, ap, ℕ, Some, arith}
 use Rattle.nc_base.proofs.BitLaws.{found, skipped}
 use Rattle.nc_base.proofs.bits.pattern_in_runs.Goals as goal
 

@@ -1,9 +1,8 @@
-use Rattle.std.proofs.Common.{◌≡◌, ◌∙◌, sym, ap, ℕ, Some, arith}
+use Rattle.std.proofs.Common.{◌≡◌, ◌∙◌, sym, ap, Some, arith}
 use Rattle.std.specs.Prelude.{ℤ, pos}
 use Rattle.std.proofs.lemmas.Int.{to_z-of_z}
 use mir.Syntax.{w128}
 use mir.Val.{to_z, of_z}
-use Rattle.nc_base.specs.declared.numbers.NumberRun.{NumberRun}
 use Rattle.nc_base.proofs.RunLaws.{found, skipped}
 use Rattle.nc_base.proofs.numbers.number_in_runs.Goals as goal
 

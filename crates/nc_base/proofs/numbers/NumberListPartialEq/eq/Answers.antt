@@ -1,11 +1,13 @@
-use Rattle.std.proofs.Common.{◌≡◌, ◌∙◌, sym, arith}
+use Rattle.std.proofs.Common.{◌∙◌, sym, arith}
+use Rattle.std.proofs.lemmas.Option.{same_Some}
+use Rattle.std.proofs.lemmas.Int.{ints}
 use Rattle.nc_base.proofs.EqLaws.{equal_numbers, other_numbers}
 use Rattle.nc_base.proofs.numbers.NumberListPartialEq.eq.Goals as goal
 
-pub returns-then-not-is_same : goal.returns-then-not-is_same
-returns-then-not-is_same c =
+pub returns-then-at : goal.returns-then-at
+returns-then-at c =
     other_numbers c.args.self.now c.args.other.now c.loop-k.k
-    (λ e. let same = c.is_same.ensures.1 (c.get.ensures ∙ e ∙ sym c.get-in-loop-k.ensures) in let not = c.if-not-is_same.true in cc)
+    (λ e. let same = same_Some c.at.result c.at-in-loop-k.result (sym c.at.ensures ∙ e ∙ c.at-in-loop-k.ensures) in let not = c.if-at.true in grind (arith, ints))
 
 pub returns : goal.returns
 returns c =
