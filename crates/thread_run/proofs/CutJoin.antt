@@ -29,7 +29,7 @@ use Rattle.join_laws.proofs.CountLaws.{sound_small}
 use Rattle.turn_run.specs.Running.{calls_of}
 use Rattle.join_laws.proofs.JoinLaws.{stranger_on, served_on, ServedOn, fold_two}
 use Rattle.turn_run.specs.Told.{counts_along}
-use Rattle.thread_run.specs.Owned.{owner_told}
+use Rattle.file_owner.specs.Owned.{owner_told}
 use Rattle.join_laws.proofs.GoingOnLaws.{given_on}
 use Rattle.thread_run.proofs.TellLaws.{count_of, tells_more}
 use Rattle.thread_run.proofs.CutRank.{IsPaired, sits_as}

@@ -40,7 +40,7 @@ use Rattle.run_laws.proofs.StandingLaws.{solo_goes}
 use Rattle.join_laws.specs.Begun.{HasOffered, IsBeginning}
 use Rattle.join_laws.proofs.StreamLaws.{waiting_misfit, waiting_reply}
 use Rattle.join_laws.proofs.StepLaws.{meeting_is, same_offers, solo_of_is}
-use Rattle.thread_run.specs.Owned.{AreSingle, IsSingleOffer}
+use Rattle.file_owner.specs.Owned.{AreSingle, IsSingleOffer}
 use Rattle.thread_run.proofs.CutSteps.{Stands, fits_now, held_keeps, own_offer}
 use Rattle.join_laws.proofs.StrangeLaws.{event_is, strange_alone}
 use Rattle.join_laws.proofs.EventLaws.{own_here, own_other}

@@ -1,19 +1,3 @@
-mod GainedLaws
-mod EndLaws
-mod HaltedLaws
-mod HaltLaws
-mod StopLaws
-mod ArriveSteps
-mod RefusedSteps
-mod PutLaws
-mod AloneSteps
-mod HeldLaws
-mod LentLaws
-mod TogetherSteps
-mod StrangeLaws
-mod AlikeLaws
-mod OwnerRuns
-mod RunLaws
 mod TellLaws
 mod CutRank
 mod CutSteps
@@ -32,5 +16,4 @@ mod ServiceCut
 mod ThreadCut
 mod ThreadTold
 mod ThreadSettles
-mod ThreadLists
 mod ThreadTies

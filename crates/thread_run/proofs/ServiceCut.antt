@@ -13,10 +13,10 @@ use Rattle.nc_base.specs.declared.step.StepErr.{StepErr}
 use Rattle.serial_spec.specs.Owner.{Owner, Client, event, given_along, is_strange, own_items, owed, served, stop_held, stops}
 use Rattle.serial_spec.specs.FileStep.{Setting}
 use Rattle.serial_spec.specs.History.{Arrival, is_offer}
-use Rattle.thread_run.specs.Service.{passed}
-use Rattle.thread_run.specs.Refused.{HasCutService}
+use Rattle.file_owner.specs.Service.{passed}
+use Rattle.file_owner.specs.Refused.{HasCutService}
 use Rattle.join_laws.proofs.JoinLaws.{owed_stop, served_on}
-use Rattle.thread_run.proofs.OwnerRuns.{goes_on, stops_at}
+use Rattle.file_owner.proofs.OwnerRuns.{goes_on, stops_at}
 
 -- ---- the part of a run that was done
 

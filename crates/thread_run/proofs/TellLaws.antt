@@ -15,8 +15,8 @@ use Rattle.serial_spec.specs.History.{Arrival}
 use Rattle.serial_spec.specs.SerialEnd.{Going, after_mark}
 use Rattle.join_laws.proofs.JoinLaws.{served_on, stranger_on}
 use Rattle.turn_run.specs.Told.{counts_along}
-use Rattle.thread_run.specs.Owned.{owner_told, each_told}
-use Rattle.thread_run.proofs.OwnerRuns.{stops_at, told_on, told_stop}
+use Rattle.file_owner.specs.Owned.{owner_told, each_told}
+use Rattle.file_owner.proofs.OwnerRuns.{stops_at, told_on, told_stop}
 use Rattle.join_laws.proofs.ClientTurns.{client_held}
 
 -- ---- the marks alone

@@ -25,8 +25,8 @@ use Rattle.collective_round.specs.Rounds.{as_setting, counted}
 use Rattle.turn_run.specs.Known.{seen}
 use Rattle.turn_run.specs.Begun.{HasBegun}
 use Rattle.turn_run.specs.Run.{HasCut, IsRun}
-use Rattle.thread_run.specs.Owned.{AreSingle, owner_calls}
-use Rattle.thread_run.specs.Service.{HasFailed, IsDone, IsDoneSo, opening, passed}
+use Rattle.file_owner.specs.Owned.{AreSingle, owner_calls}
+use Rattle.file_owner.specs.Service.{HasFailed, IsDone, IsDoneSo, opening, passed}
 use Rattle.turn_run.specs.RankEnds.{NoneBroke, most_known_of}
 use Rattle.turn_run.proofs.EndedLaws.{Closing}
 use Rattle.turn_run.proofs.TurnCauses.{rose_later}

@@ -35,9 +35,9 @@ use Rattle.join_laws.proofs.JoinLaws.{Arrived, Stands, arrived, join, served_on,
 use Rattle.join_laws.proofs.StepLaws.{same_offers}
 use Rattle.join_laws.proofs.StrangeLaws.{event_is, not_ended, strange_alone}
 use Rattle.join_laws.proofs.ClientTurns.{Lasting, IsPaired, offered_now, client_held}
-use Rattle.thread_run.specs.Owned.{AreSingle, IsSingle, calls_at, calls_at_offer, calls_if, owner_calls, event_calls, IsSingleOffer}
+use Rattle.file_owner.specs.Owned.{AreSingle, IsSingle, calls_at, calls_at_offer, calls_if, owner_calls, event_calls, IsSingleOffer}
 use Rattle.join_laws.proofs.QuietLaws.{IsQuiet, quiet_step}
-use Rattle.thread_run.proofs.OwnerRuns.{calls_on}
+use Rattle.file_owner.proofs.OwnerRuns.{calls_on}
 
 -- ---- one arrival
 

@@ -46,9 +46,9 @@ use Rattle.turn_run.proofs.CutRuns.{cut_rows, no_answers}
 use Rattle.turn_run.proofs.SaidLaws.{said_here, said_part, said_up}
 use Rattle.turn_run.proofs.TellLaws.{told_along}
 use Rattle.turn_run.specs.Told.{counts_along}
-use Rattle.thread_run.specs.Owned.{owner_told, AreSingle}
-use Rattle.thread_run.specs.Refused.{HasCutService}
-use Rattle.thread_run.specs.Service.{IsDone, IsDoneSo, opening, passed}
+use Rattle.file_owner.specs.Owned.{owner_told, AreSingle}
+use Rattle.file_owner.specs.Refused.{HasCutService}
+use Rattle.file_owner.specs.Service.{IsDone, IsDoneSo, opening, passed}
 use Rattle.turn_run.specs.Run.{HasCut}
 use Rattle.turn_run.specs.RankEnds.{EndedAt, NoneBroke, most_known_of}
 use Rattle.turn_run.specs.RankEnds.EndedAt.{as_left, in_close as in_closing}
@@ -57,7 +57,7 @@ use Rattle.thread_run.proofs.CutRank.{last_end}
 use Rattle.thread_run.proofs.CutJoin.{Ran, cut_run, end_of_rank}
 use Rattle.thread_run.proofs.CutStood.{single_begun, stood_run}
 use Rattle.join_laws.proofs.JoinLaws.{served_on}
-use Rattle.thread_run.proofs.OwnerRuns.{goes_on}
+use Rattle.file_owner.proofs.OwnerRuns.{goes_on}
 use Rattle.thread_run.proofs.TellLaws.{count_of}
 use Rattle.thread_run.proofs.ThreadRuns.{FinishedSo, finished, finished_so}
 use Rattle.thread_run.proofs.ThreadTies.{Own, Told, begun, broke_or_not, offered_all, own_of, puts, takes}

@@ -24,12 +24,10 @@ use Rattle.collective_round.specs.Rounds.{as_setting, counted}
 use Rattle.join_laws.specs.Alike.{AreAlike}
 use Rattle.join_laws.proofs.AlikeLaws.{end_alike}
 use Rattle.join_laws.proofs.WholeLaws.{lawful_agrees, whole_run}
-use Rattle.join_laws.specs.Alike as own
 use Rattle.thread_run.specs.RankSides.{HasFinished}
-use Rattle.thread_run.specs.Owned.{AreSingle, owner_calls}
-use Rattle.thread_run.specs.Service.{IsDone, IsDoneSo, opening, passed}
+use Rattle.file_owner.specs.Owned.{AreSingle, owner_calls}
+use Rattle.file_owner.specs.Service.{IsDone, IsDoneSo, opening, passed}
 use Rattle.turn_run.specs.RankEnds.{most_known_of, NoneBroke}
-use Rattle.thread_run.proofs.ThreadLists.{alike_from}
 use Rattle.thread_run.proofs.ThreadTies.{Told, finished_of, joined, low_rank, own_of, puts, takes, took_all}
 use Rattle.thread_run.proofs.ThreadWhole.{calls_all, known_sound, single_all}
 use Rattle.list_laws.proofs.Maps.{map_map, rows_same}
@@ -59,8 +57,7 @@ module _ (script : Script) (header : Header) (arrivals : List Arrival) (given : 
 
   alike : (file : List ℕ) (q : ℕ) → q < script.ranks → AreAlike (given q) (back_of script header file arrivals q)
   alike file q low =
-      alike_from (given q) (back_of script header file arrivals q)
-      (subst (λ (d : Owner). own.AreAlike (given q) (owed (setting_of script header) d arrivals q)) (owner_is file) ((done file).given q low))
+      subst (λ (d : Owner). AreAlike (given q) (owed (setting_of script header) d arrivals q)) (owner_is file) ((done file).given q low)
 
   order_is : (file : List ℕ) → order ≡ (run_of script header file arrivals).marks
   order_is file = (done file).order ∙ ap (λ (d : Owner). (served (setting_of script header) d arrivals).marks) (owner_is file)

@@ -16,7 +16,7 @@ use Rattle.serial_spec.specs.Lawful.{is_lawful}
 use Rattle.run_laws.proofs.LawfulLaws.{ranks_lawful}
 use Rattle.thread_run.specs.RankHandle.{AreOf, AreRankHandles, AreSettled, IsSettled, IsSettledOf, IsToldToGo}
 use Rattle.turn_run.specs.Running.{calls_of}
-use Rattle.thread_run.specs.Service.{HasTaken, HavePut, arrived, gained}
+use Rattle.file_owner.specs.Service.{HasTaken, HavePut, arrived, gained}
 use Rattle.thread_run.specs.declared.rank_handle.RankHandle.{RankHandle}
 use Rattle.thread_run.specs.declared.rank_handle.Word.{Word}
 use Rattle.thread_run.specs.declared.rank_handle.Word.TheVariants.{Go}

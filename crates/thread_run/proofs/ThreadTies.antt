@@ -30,7 +30,7 @@ use Rattle.turn_run.specs.Begun.{HasBegun}
 use Rattle.thread_run.specs.RankHandle.{IsSettled}
 use Rattle.turn_run.specs.Running.{calls_of}
 use Rattle.turn_run.specs.RankEnds.{NoneBroke}
-use Rattle.thread_run.proofs.ThreadLists.{alike_take, alike_long}
+use Rattle.file_owner.proofs.AlikeLaws.{alike_take, alike_long}
 use Rattle.std.proofs.lemmas.List.{take-append-drop, length-take-le}
 use Rattle.list_laws.proofs.Fronts.{first_of, prefix_long, front_or_all}
 

@@ -19,9 +19,9 @@ use Rattle.serial_spec.specs.SerialEnd.{setting_of}
 use Rattle.collective_round.specs.Rounds.{counted}
 use Rattle.turn_run.specs.Known.{point}
 use Rattle.turn_run.specs.Told.{told_marks, HasTold}
-use Rattle.thread_run.specs.Owned.{owner_told}
-use Rattle.thread_run.specs.Refused.{HasCutService}
-use Rattle.thread_run.specs.Service.{opening, HasToldAlong, IsDone, IsDoneSo, passed}
+use Rattle.file_owner.specs.Owned.{owner_told}
+use Rattle.file_owner.specs.Refused.{HasCutService}
+use Rattle.file_owner.specs.Service.{opening, HasToldAlong, IsDone, IsDoneSo, passed}
 use Rattle.turn_run.proofs.TellLaws.{marks_ended}
 use Rattle.thread_run.proofs.TellLaws.{marks_along, same_told}
 use Rattle.thread_run.proofs.ServiceCut.{service_cut, service_done, Service}

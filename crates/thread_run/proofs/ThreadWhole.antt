@@ -31,7 +31,7 @@ use Rattle.join_laws.proofs.StreamLaws.{closes, client_end}
 use Rattle.join_laws.proofs.ClientTurns.{IsPaired}
 use Rattle.join_laws.proofs.TurnLaws.{ArePaired}
 use Rattle.join_laws.proofs.WholeLaws.{get_replicate, lawful_agrees, get_map as from_map, none_first}
-use Rattle.thread_run.specs.Owned.{AreSingle, owner_calls}
+use Rattle.file_owner.specs.Owned.{AreSingle, owner_calls}
 use Rattle.thread_run.proofs.ThreadCalls.{calls_along, single_along}
 use Rattle.thread_run.proofs.ThreadKnown.{EndsNear, good_along, near_along, near_first, small_along}
 use Rattle.list_laws.proofs.Maps.{entry_map, map_map}

@@ -1,10 +1,4 @@
 pub mod RankSides
-pub mod Halted
 pub mod Lent
-pub mod Owned
-pub mod Refused
-pub mod Service
-pub mod Stops
-pub mod Strange
 pub mod RankHandle
 pub mod Threads

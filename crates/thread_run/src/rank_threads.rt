@@ -20,7 +20,7 @@ ghost use Rattle.thread_run.specs.declared.rank_handle.RankHandle.{RankHandle};
 use crate::lent::Lent;
 use crate::rank_handle::{RankHandle, Word, start};
 use crate::returned::join_all;
-use crate::service::serve;
+use file_owner::serve;
 use nc_base::{Header, Memory, OwnerItem, RankEnd, RunEnd, Script};
 use nc_outside::{Deaf, Disk, Gate, Told};
 use piece_exchange::Tools;

@@ -4,7 +4,7 @@ use Rattle.std.proofs.lemmas.List.{with_items_is}
 use Rattle.nc_base.specs.declared.step.OwnerItem.{OwnerItem}
 use Rattle.ruled_line.specs.Ends.{End}
 use Rattle.thread_run.specs.RankHandle.{AreRankHandles, AreSettled}
-use Rattle.thread_run.specs.Service.{arrived, gained}
+use Rattle.file_owner.specs.Service.{arrived, gained}
 use Rattle.thread_run.specs.declared.rank_handle.RankHandle.{RankHandle}
 use Rattle.thread_run.specs.declared.rank_handle.Word.TheVariants.{Go}
 use Rattle.thread_run.proofs.ThreadAll.{known_sound, owner_of, run_all}

@@ -1,0 +1,58 @@
+-- Items that are alike, one list after another; and lines on which items are put one after another.
+use Rattle.std.proofs.Common.{◌≡◌, ℕ, zero, suc, ◌<◌, refl, sym, ◌∙◌, ap, subst, List, [], ◌∷◌, ◌++◌, length, take, Some, append_assoc, arith}
+use Rattle.std.proofs.lemmas.List.{append-nil}
+use Rattle.std.specs.Prelude.{slice_get}
+use Rattle.nc_base.specs.declared.step.OwnerItem.{OwnerItem}
+use Rattle.ruled_line.specs.Ends.{End}
+use Rattle.join_laws.specs.Alike.{AreAlike}
+use Rattle.file_owner.specs.Owned.{Grows}
+
+-- ---- alike
+
+pub alike_by : (a b c d : List OwnerItem) → a ≡ b → d ≡ c → AreAlike b c → AreAlike a d
+alike_by a b c d e f w = subst (λ (x : List OwnerItem). AreAlike x d) (sym e) (subst (λ (x : List OwnerItem). AreAlike b x) (sym f) w)
+
+pub alike_take : (n : ℕ) (xs ys : List OwnerItem) → AreAlike xs ys → AreAlike (take n xs) (take n ys)
+alike_take zero xs ys h = tt
+alike_take (suc n) [] [] h = tt
+alike_take (suc n) [] (y ∷ ys) h = absurd h
+alike_take (suc n) (x ∷ xs) [] h = absurd h
+alike_take (suc n) (x ∷ xs) (y ∷ ys) (h, hs) = (h, alike_take n xs ys hs)
+
+pub alike_long : (xs ys : List OwnerItem) → AreAlike xs ys → length xs ≡ length ys
+alike_long [] [] h = refl
+alike_long [] (y ∷ ys) h = absurd h
+alike_long (x ∷ xs) [] h = absurd h
+alike_long (x ∷ xs) (y ∷ ys) (h, hs) = ap (λ (n : ℕ). suc n) (alike_long xs ys hs)
+
+-- ---- lines
+
+abbrev pub Lines : Type 0
+Lines = List (End OwnerItem)
+
+pub lines_twice : (old mid now : Lines) (more last : ℕ → List OwnerItem) → Grows old more mid → Grows mid last now → Grows old (λ q. more q ++ last q) now
+lines_twice old mid now more last g h = record {
+  long = h.long ∙ g.long;
+  each = λ q end e.
+      h.each q (record { of = end.of; items = end.items ++ more q }) (g.each q end e)
+      ∙ ap (λ (items : List OwnerItem). Some (record { of = end.of; items = items })) (append_assoc end.items (more q) (last q));
+}
+
+pub lines_none : (old now : Lines) → now ≡ old → Grows old (λ q. []) now
+lines_none old now e = record {
+  long = ap (λ (l : Lines). length l) e;
+  each = λ q end f.
+      ap (λ (l : Lines). slice_get l q) e ∙ f ∙ ap (λ (items : List OwnerItem). Some (record { of = end.of; items = items })) (sym (append-nil end.items));
+}
+
+-- as much by another word
+pub lines_as : (old now : Lines) (more last : ℕ → List OwnerItem) → ((q : ℕ) → q < length old → last q ≡ more q) → Grows old more now → Grows old last now
+lines_as old now more last same g = record {
+  long = g.long;
+  each = λ q end e. g.each q end e ∙ ap (λ (items : List OwnerItem). Some (record { of = end.of; items = end.items ++ items })) (sym (same q (long old q end e)));
+}
+  where
+    long : (xs : Lines) (q : ℕ) (end : End OwnerItem) → slice_get xs q ≡ Some end → q < length xs
+    long [] q end e = absurd cc
+    long (x ∷ xs) zero end e = omega arith
+    long (x ∷ xs) (suc q) end e = let h = long xs q end e in omega arith

@@ -1,0 +1,70 @@
+-- A number's own step, as the disk, the order and the lines show it.
+use Rattle.std.proofs.Common.{◌≡◌, ℕ, ◌≤◌, refl, sym, ◌∙◌, ap, subst, List, [], ◌∷◌, ◌++◌, length, map, max, Bool, true, false, Option, Some, None, arith}
+use Rattle.std.specs.Prelude.{IfSome, ◌==◌}
+use Rattle.nc_base.specs.declared.script.Hints.{Hints}
+use Rattle.nc_base.specs.declared.step.Mark.TheVariants.{Solo}
+use Rattle.nc_base.specs.declared.step.Offer.{Offer}
+use Rattle.nc_base.specs.declared.step.OwnerItem.TheVariants.{Reply}
+use Rattle.nc_base.specs.declared.step.Reply as reply
+use Rattle.nc_outside.specs.Told.{after, with_end}
+use Rattle.serial_spec.specs.Owner.{does_solo, needed_now, to_one}
+use Rattle.serial_spec.specs.DeviceCalls.{solo_calls}
+use Rattle.serial_spec.specs.FileStep.{Setting, puts_of, solo, told}
+use Rattle.serial_spec.specs.RankSide.{wanted}
+use Rattle.collective_round.specs.Rounds.{counted}
+use Rattle.join_laws.specs.Alike.{AreAlike, TellAlike}
+use Rattle.file_owner.specs.Owned.{owner_at, GoesSo, Grows, HoldSingle, IsAlone, Standing}
+use Rattle.file_owner.specs.Stops.{put_one}
+use Rattle.join_laws.proofs.ReplyLaws.{gots_long}
+use Rattle.list_laws.proofs.Optional.{if_some_at}
+
+one_alike : (r : ℕ) (y z : reply.Reply) (q : ℕ) → TellAlike y z → AreAlike (put_one r (Reply y) q) (to_one r z q)
+one_alike r y z q w = by (q == r)
+  where
+    by : (t : Bool) → AreAlike (elim t [ true ↦ Reply y ∷ [] | false ↦ [] ]) (elim t [ true ↦ Reply z ∷ [] | false ↦ [] ])
+    by true = (w, tt)
+    by false = tt
+
+-- what the step came to
+pub record CameAlone (s : Setting) (hints : Hints) (r c : ℕ) (o : Offer) (b n : Standing) (y : reply.Reply) : Type 0 where
+  pub known_low : o.known ≤ b.reached
+  pub pair : y.pair ≡ told s (puts_of (r, o))
+  pub records : y.records ≡ max o.known (needed_now s (puts_of (r, o)))
+  pub fits : map (λ blob. length blob) y.got ≡ map (wanted s.header) o.batch.gets
+  pub reply : IfSome b.told (λ file. y ≡ (solo s r o (counted file 0)).1)
+  pub bytes : n.told ≡ after (λ file. (solo s r o (counted file 0)).0.file) b.told
+  pub calls : IfSome b.told (λ file. n.calls ≡ with_end b.calls (solo_calls hints s r o (counted file 0)))
+  pub order : n.order ≡ b.order ++ Solo r c ∷ []
+  pub heard : n.heard ≡ with_end b.heard ((Solo r c, b.records) ∷ [])
+  pub clients : n.clients ≡ b.clients
+  pub same_met : n.met ≡ b.met
+  pub same_records : n.records ≡ b.records
+  pub reached : n.reached ≡ max b.reached y.records
+  pub lines : Grows b.lines (put_one r (Reply y)) n.lines
+
+pub alone : (s : Setting) (hints : Hints) (r c : ℕ) (o : Offer) (b n : Standing) (y : reply.Reply) → CameAlone s hints r c o b n y → IsAlone hints s c (r, o) b n
+alone s hints r c o b n y h = record {
+  more = put_one r (Reply y);
+  lines = h.lines;
+  alike = λ file. record {
+    owner = λ i. record { clients = sym h.clients i; met = sym h.same_met i; state = counted (solo s r o (counted file b.records)).0.file (sym h.same_records i); reached = reached_is i };
+    marks = h.order;
+    heard = h.heard;
+    given = λ q l.
+        one_alike r y (solo s r o (counted file b.records)).1 q
+        (record { pair = h.pair; records = h.records; lengths = h.fits ∙ sym (gots_long s (solo s r o (counted file b.records)).0.file o.batch.gets) });
+  };
+  exact = exact b.told refl;
+  single = λ once. subst (λ ss. HoldSingle ss) (sym h.clients) once;
+}
+  where
+    reached_is : max b.reached (needed_now s (puts_of (r, o))) ≡ n.reached
+    reached_is = let a = h.reached in let d = h.records in let e = h.known_low in omega arith
+
+    exact : (m : Option (List ℕ)) → b.told ≡ m → IfSome m (λ file. GoesSo (HoldSingle b.clients) (does_solo s (owner_at b file) r c o) (solo_calls hints s r o (counted file b.records)) (put_one r (Reply y)) b n)
+    exact None e = tt
+    exact (Some file) e = record {
+      told = h.bytes ∙ ap (after (λ file. (solo s r o (counted file 0)).0.file)) e;
+      given = λ q l. ap (λ (z : reply.Reply). put_one r (Reply z) q) (if_some_at (λ x. y ≡ (solo s r o (counted x 0)).1) b.told file e h.reply);
+      calls = λ once. if_some_at (λ x. n.calls ≡ with_end b.calls (solo_calls hints s r o (counted x 0))) b.told file e h.calls;
+    }

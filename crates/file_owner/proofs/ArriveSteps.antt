@@ -1,0 +1,327 @@
+-- An arrival that is not strange, as the clients, the disk, the order and the lines show it.
+use Rattle.std.proofs.Common.{◌≡◌, ℕ, zero, suc, ◌<◌, ◌≤◌, refl, sym, ◌∙◌, ap, subst, inl, inr, ◌⊎◌, List, [], ◌∷◌, ◌++◌, length, set, get_or, Bool, true, false, Option, Some, None, Result, Ok, Err, arith}
+use Rattle.std.proofs.lemmas.Bool.{cases_eq}
+use Rattle.std.proofs.lemmas.List.{append-nil, length-set}
+use Rattle.std.specs.Prelude.{slice_get, is_some, IfSome, OnOk}
+use Rattle.std.specs.List.{list_all, list_any}
+use Rattle.std.proofs.lemmas.Option.{same_Some, get_or_from_slice_get}
+use Rattle.list_laws.proofs.Truth.{and_first, and_second}
+use Rattle.nc_base.specs.declared.header.Header.{Header}
+use Rattle.nc_base.specs.declared.script.Hints.{Hints}
+use Rattle.nc_base.specs.declared.step.DiskCall.{DiskCall}
+use Rattle.nc_base.specs.declared.step.MeetKind.{MeetKind}
+use Rattle.nc_base.specs.declared.step.Offer.{Offer}
+use Rattle.nc_base.specs.declared.step.OfferKind.{OfferKind}
+use Rattle.nc_base.specs.declared.step.OfferKind.TheVariants as offer
+use Rattle.nc_base.specs.declared.step.OwnerItem.{OwnerItem}
+use Rattle.nc_base.specs.declared.step.OwnerItem.TheVariants.{Stop}
+use Rattle.nc_base.specs.declared.step.RankItem.{RankItem}
+use Rattle.nc_base.specs.declared.step.RankItem.TheVariants as item
+use Rattle.nc_outside.specs.Told.{with_end}
+use Rattle.ruled_line.specs.Ends.{End}
+use Rattle.serial_spec.specs.Owner.{Owner, Event, Client, at_offer, differs, does_meeting, does_solo, event, holds, is_strange, keeps, kind_held, meets_if, offers_held, stop_held, stops}
+use Rattle.serial_spec.specs.DeviceCalls.{meeting_calls, solo_calls}
+use Rattle.serial_spec.specs.FileStep.{Setting}
+use Rattle.serial_spec.specs.SoundHeaders.{is_sound}
+use Rattle.serial_spec.specs.History.{Arrival, kind_of_meeting}
+use Rattle.collective_round.specs.Rounds.{counted}
+use Rattle.rank_items.specs.Own.{HasOwnElements, HasOwnPuts}
+use Rattle.join_laws.specs.Alike.{AreAlike}
+use Rattle.turn_run.specs.Counts.{IsCount, IsFit}
+use Rattle.join_laws.proofs.StrangeLaws.{event_is}
+use Rattle.file_owner.specs.Owned.{calls_at, calls_at_offer, calls_if, owner_at, each_told, event_calls, GoesSo, Grows, HasDone, HasMovedOnce, HoldSingle, IsAlone, IsHeld, IsSingle, IsSteady, IsTogether, Standing, IsSingleOffer}
+use Rattle.file_owner.specs.Stops.{held_stops, put_one, stop_each, stops_for}
+use Rattle.file_owner.proofs.AlikeLaws.{lines_as, lines_none, lines_twice}
+use Rattle.turn_run.proofs.CountLaws.{count_less, count_longer}
+use Rattle.file_owner.proofs.PutLaws.{put_here, put_other, stop_for_offer}
+use Rattle.file_owner.proofs.StrangeLaws.{fits, kind_is, passes}
+use Rattle.list_laws.proofs.Places.{entry_below, entry_set, entry_set_other}
+use Rattle.nc_outside.proofs.ToldLaws.{with_end-nil}
+use Rattle.join_laws.proofs.ClientTurns.{client_ended, client_held}
+
+abbrev pub with_clients : Standing → List Client → Standing
+with_clients b clients =
+    record { clients = clients; met = b.met; reached = b.reached; records = b.records; told = b.told; calls = b.calls; order = b.order; heard = b.heard; lines = b.lines }
+
+-- ---- the event, by what arrives
+
+calls_are : (hints : Hints) (s : Setting) (d : Owner) (r : ℕ) (i : RankItem) (x : Client) → slice_get d.clients r ≡ Some x → event_calls hints s d (r, i) ≡ calls_at hints s d r i (Some x)
+calls_are hints s d r i x e = ap (λ (m : Option Client). calls_at hints s d r i m) e
+
+-- only clients change
+done_kept : (hints : Hints) (s : Setting) (b : Standing) (a : Arrival) (clients : List Client) → ((file : List ℕ) → event s (owner_at b file) a ≡ keeps (owner_at b file) clients)
+    → ((file : List ℕ) → event_calls hints s (owner_at b file) a ≡ []) → (HoldSingle b.clients × IsSingle a.1 → HoldSingle clients) → HasDone hints s a b (with_clients b clients)
+done_kept hints s b a clients e c alone = record {
+  more = λ q. [];
+  lines = lines_none b.lines b.lines refl;
+  alike = λ file. record {
+    owner = ap (λ (ev : Event). ev.owner) (e file) ∙ ap (λ (ev : Event). owner_at (with_clients b clients) ev.owner.state.file) (sym (e file));
+    marks = sym (ap (λ (ev : Event). b.order ++ ev.marks) (e file) ∙ append-nil b.order);
+    heard = sym (ap (λ (ev : Event). with_end b.heard (each_told ev)) (e file) ∙ with_end-nil b.heard);
+    given = λ q l. subst (λ (ev : Event). AreAlike [] (ev.given q)) (sym (e file)) tt;
+  };
+  exact = exact b.told refl;
+  single = alone;
+}
+  where
+    exact : (m : Option (List ℕ)) → b.told ≡ m
+        → IfSome m (λ file. GoesSo (HoldSingle b.clients × IsSingle a.1) (event s (owner_at b file) a) (event_calls hints s (owner_at b file) a) (λ q. []) b (with_clients b clients))
+    exact None f = tt
+    exact (Some file) f = record {
+      told = f ∙ ap (λ (ev : Event). Some ev.owner.state.file) (sym (e file));
+      given = λ q l. ap (λ (ev : Event). ev.given q) (sym (e file));
+      calls = λ once. sym (ap (with_end b.calls) (c file) ∙ with_end-nil b.calls);
+    }
+
+pub single_set : (clients : List Client) (r : ℕ) (x y : Client) → slice_get clients r ≡ Some x → HoldSingle clients → ((o : Offer) → y.held ≡ Some o → IsSingleOffer o) → HoldSingle (set clients r y)
+single_set clients r x y e all own q z o f g = by (cases_eq q r)
+  where
+    by : (q ≡ r) ⊎ (q ≡ r → ⊥) → IsSingleOffer o
+    by (inl s) = own o (ap (λ (w : Client). w.held) (same_Some y z (sym (entry_set clients r x y e) ∙ ap (λ (k : ℕ). slice_get (set clients r y) k) (sym s) ∙ f)) ∙ g)
+    by (inr n) = all q z o (sym (entry_set_other clients r q y n) ∙ f) g
+
+pub done_ended : (hints : Hints) (s : Setting) (b : Standing) (r : ℕ) (x y : Client) (memory : Bool) → slice_get b.clients r ≡ Some x → y ≡ client_ended x memory
+    → HasDone hints s (r, item.Ended memory) b (with_clients b (set b.clients r y))
+done_ended hints s b r x y memory e f =
+    subst (λ (z : Client). HasDone hints s (r, item.Ended memory) b (with_clients b (set b.clients r z))) (sym f)
+    (done_kept hints s b (r, item.Ended memory) (set b.clients r (client_ended x memory)) (λ file. event_is s (owner_at b file) r (item.Ended memory) x e)
+    (λ file. calls_are hints s (owner_at b file) r (item.Ended memory) x e) (λ h. single_set b.clients r x (client_ended x memory) e h.0 (λ o g. h.0 r x o e g)))
+
+-- ---- an offer
+
+pub offer_event : (s : Setting) (d : Owner) (r c : ℕ) (o : Offer) (x : Client) (k : OfferKind) → slice_get d.clients r ≡ Some x → o.kind ≡ k → event s d (r, item.Offer c o) ≡ at_offer s d r c o x k
+offer_event s d r c o x k e f = event_is s d r (item.Offer c o) x e ∙ ap (at_offer s d r c o x) f
+
+offer_calls : (hints : Hints) (s : Setting) (d : Owner) (r c : ℕ) (o : Offer) (x : Client) (k : OfferKind) → slice_get d.clients r ≡ Some x → o.kind ≡ k
+    → event_calls hints s d (r, item.Offer c o) ≡ calls_at_offer hints s d (r, o) x k
+offer_calls hints s d r c o x k e f = calls_are hints s d r (item.Offer c o) x e ∙ ap (calls_at_offer hints s d (r, o) x) f
+
+pub done_held : (hints : Hints) (s : Setting) (b : Standing) (r c : ℕ) (o : Offer) (x y : Client) (kind : MeetKind) → slice_get b.clients r ≡ Some x → y ≡ client_held x o → o.kind ≡ offer.Meet kind
+    → list_all holds (set b.clients r y) ≡ false → HasDone hints s (r, item.Offer c o) b (with_clients b (set b.clients r y))
+done_held hints s b r c o x y kind e f k some =
+    subst (λ (z : Client). HasDone hints s (r, item.Offer c o) b (with_clients b (set b.clients r z))) (sym f)
+    (done_kept hints s b (r, item.Offer c o) (set b.clients r (client_held x o))
+    (λ file. offer_event s (owner_at b file) r c o x (offer.Meet kind) e k ∙ ap (meets_if s (owner_at b file) (set b.clients r (client_held x o))) not_all)
+    (λ file. offer_calls hints s (owner_at b file) r c o x (offer.Meet kind) e k ∙ ap (calls_if hints s (owner_at b file) (set b.clients r (client_held x o))) not_all)
+    (λ h. single_set b.clients r x (client_held x o) e h.0 (λ p g. subst IsSingleOffer (same_Some o p g) h.1)))
+  where
+    not_all : list_all holds (set b.clients r (client_held x o)) ≡ false
+    not_all = ap (λ (z : Client). list_all holds (set b.clients r z)) (sym f) ∙ some
+
+-- a step that was done is the arrival's
+as_event : (hints : Hints) (s : Setting) (b m n : Standing) (a : Arrival) (once : Type 0) (to : List ℕ → Event) (made : List ℕ → List DiskCall) → m.told ≡ b.told → m.calls ≡ b.calls → m.order ≡ b.order
+    → m.heard ≡ b.heard → m.lines ≡ b.lines → ((file : List ℕ) → event s (owner_at b file) a ≡ to file) → ((file : List ℕ) → event_calls hints s (owner_at b file) a ≡ made file)
+    → (HoldSingle b.clients × IsSingle a.1 → once) → HasMovedOnce once to made m n → HasDone hints s a b n
+as_event hints s b m n a once to made told calls order heard lines e c alone h = record {
+  more = h.more;
+  lines = subst (λ (l : List (End OwnerItem)). Grows l h.more n.lines) lines h.lines;
+  alike = λ file.
+      let g = h.alike file in
+      record {
+        owner = ap (λ (ev : Event). ev.owner) (e file) ∙ g.owner ∙ ap (λ (ev : Event). owner_at n ev.owner.state.file) (sym (e file));
+        marks = g.marks ∙ (λ i. order i ++ (sym (e file) i).marks);
+        heard = g.heard ∙ (λ i. with_end (heard i) (each_told (sym (e file) i)));
+        given = λ q l. subst (λ (ev : Event). AreAlike (h.more q) (ev.given q)) (sym (e file)) (g.given q (low q l));
+      };
+  exact = exact b.told m.told told h.exact;
+  single = λ o. h.single (alone o);
+}
+  where
+    low : (q : ℕ) → q < length b.lines → q < length m.lines
+    low q l = subst (λ (ls : List (End OwnerItem)). q < length ls) (sym lines) l
+
+    exact : (bt mt : Option (List ℕ)) → mt ≡ bt → IfSome mt (λ file. GoesSo once (to file) (made file) h.more m n)
+        → IfSome bt (λ file. GoesSo (HoldSingle b.clients × IsSingle a.1) (event s (owner_at b file) a) (event_calls hints s (owner_at b file) a) h.more b n)
+    exact None mt f g = tt
+    exact (Some file) None f g = absurd cc
+    exact (Some file) (Some other) f g = whole (subst (λ (y : List ℕ). GoesSo once (to y) (made y) h.more m n) (same_Some other file f) g)
+      where
+        whole : GoesSo once (to file) (made file) h.more m n → GoesSo (HoldSingle b.clients × IsSingle a.1) (event s (owner_at b file) a) (event_calls hints s (owner_at b file) a) h.more b n
+        whole k = record {
+          told = k.told ∙ ap (λ (ev : Event). Some ev.owner.state.file) (sym (e file));
+          given = λ q l. k.given q (low q l) ∙ ap (λ (ev : Event). ev.given q) (sym (e file));
+          calls = λ o. k.calls (alone o) ∙ (λ i. with_end (calls i) (sym (c file) i));
+        }
+
+pub done_alone : (hints : Hints) (s : Setting) (b n : Standing) (r c : ℕ) (o : Offer) (x : Client) → slice_get b.clients r ≡ Some x → o.kind ≡ offer.Solo → IsAlone hints s c (r, o) b n
+    → HasDone hints s (r, item.Offer c o) b n
+done_alone hints s b n r c o x e k h =
+    as_event hints s b b n (r, item.Offer c o) (HoldSingle b.clients) (λ file. does_solo s (owner_at b file) r c o) (λ file. solo_calls hints s r o (counted file b.records)) refl refl refl refl refl
+    (λ file. offer_event s (owner_at b file) r c o x offer.Solo e k) (λ file. offer_calls hints s (owner_at b file) r c o x offer.Solo e k) (λ o. o.0) h
+
+pub done_together : (hints : Hints) (s : Setting) (b n : Standing) (r c : ℕ) (o : Offer) (x y : Client) (kind : MeetKind) → slice_get b.clients r ≡ Some x → y ≡ client_held x o → o.kind ≡ offer.Meet kind
+    → list_all holds (set b.clients r y) ≡ true → IsTogether hints s (with_clients b (set b.clients r y)) n → HasDone hints s (r, item.Offer c o) b n
+done_together hints s b n r c o x y kind e f k all h =
+    as_event hints s b (with_clients b (set b.clients r (client_held x o))) n (r, item.Offer c o) (HoldSingle (set b.clients r (client_held x o)))
+    (λ file. does_meeting s (owner_at b file) (set b.clients r (client_held x o))) (λ file. meeting_calls hints s (offers_held (set b.clients r (client_held x o))) (counted file b.records)) refl refl refl refl refl
+    (λ file. offer_event s (owner_at b file) r c o x (offer.Meet kind) e k ∙ ap (meets_if s (owner_at b file) (set b.clients r (client_held x o))) every)
+    (λ file. offer_calls hints s (owner_at b file) r c o x (offer.Meet kind) e k ∙ ap (calls_if hints s (owner_at b file) (set b.clients r (client_held x o))) every)
+    (λ g. single_set b.clients r x (client_held x o) e g.0 (λ p w. subst IsSingleOffer (same_Some o p w) g.1))
+    (subst (λ (z : Client). IsTogether hints s (with_clients b (set b.clients r z)) n) f h)
+  where
+    every : list_all holds (set b.clients r (client_held x o)) ≡ true
+    every = ap (λ (z : Client). list_all holds (set b.clients r z)) (sym f) ∙ all
+
+-- ---- what is held stays fit
+
+-- an element of a list of which one was changed
+set_cases : (clients : List Client) (r q : ℕ) (x y z : Client) → slice_get clients r ≡ Some x → slice_get (set clients r y) q ≡ Some z → ((q ≡ r) × (y ≡ z)) ⊎ ((q ≡ r → ⊥) × (slice_get clients q ≡ Some z))
+set_cases clients r q x y z e f = by (cases_eq q r)
+  where
+    by : (q ≡ r) ⊎ (q ≡ r → ⊥) → ((q ≡ r) × (y ≡ z)) ⊎ ((q ≡ r → ⊥) × (slice_get clients q ≡ Some z))
+    by (inl s) = inl (s, same_Some y z (sym (entry_set clients r x y e) ∙ ap (λ (k : ℕ). slice_get (set clients r y) k) (sym s) ∙ f))
+    by (inr n) = inr (n, sym (entry_set_other clients r q y n) ∙ f)
+
+-- the offers held are the old ones and perhaps one more
+steady_set : (header : Header) (len : ℕ) (b : Standing) (r : ℕ) (x y : Client) → IsSteady header len b → slice_get b.clients r ≡ Some x → ((o : Offer) → y.held ≡ Some o → IsHeld header len b.reached o)
+    → ((o p : Offer) (q : ℕ) (z : Client) → y.held ≡ Some o → slice_get b.clients q ≡ Some z → z.held ≡ Some p → o.kind ≡ p.kind) → IsSteady header len (with_clients b (set b.clients r y))
+steady_set header len b r x y h e own kinds =
+    let few = h.few in
+    record {
+      few = subst (λ (n : ℕ). n ≤ 64) (sym (length-set b.clients r y)) few;
+      one_each = h.one_each ∙ sym (length-set b.clients r y);
+      count = h.count;
+      reached = h.reached;
+      below = h.below;
+      held = λ q z o f g. held q z o (set_cases b.clients r q x y z e f) g;
+      same = λ q t z w o p f g i j. same q t z w o p (set_cases b.clients r q x y z e f) (set_cases b.clients r t x y w e g) i j;
+    }
+  where
+    held : (q : ℕ) (z : Client) (o : Offer) → ((q ≡ r) × (y ≡ z)) ⊎ ((q ≡ r → ⊥) × (slice_get b.clients q ≡ Some z)) → z.held ≡ Some o → IsHeld header len b.reached o
+    held q z o (inl u) g = own o (ap (λ (w : Client). w.held) u.1 ∙ g)
+    held q z o (inr u) g = h.held q z o u.1 g
+
+    same : (q t : ℕ) (z w : Client) (o p : Offer) → ((q ≡ r) × (y ≡ z)) ⊎ ((q ≡ r → ⊥) × (slice_get b.clients q ≡ Some z)) → ((t ≡ r) × (y ≡ w)) ⊎ ((t ≡ r → ⊥) × (slice_get b.clients t ≡ Some w))
+        → z.held ≡ Some o → w.held ≡ Some p → o.kind ≡ p.kind
+    same q t z w o p (inl u) (inl v) i j =
+        ap (λ (k : Offer). k.kind) (same_Some o p (sym (ap (λ (k : Client). k.held) u.1 ∙ i) ∙ ap (λ (k : Client). k.held) v.1 ∙ j))
+    same q t z w o p (inl u) (inr v) i j = kinds o p t w (ap (λ (k : Client). k.held) u.1 ∙ i) v.1 j
+    same q t z w o p (inr u) (inl v) i j = sym (kinds p o q z (ap (λ (k : Client). k.held) v.1 ∙ j) u.1 i)
+    same q t z w o p (inr u) (inr v) i j = h.same q t z w o p u.1 v.1 i j
+
+pub steady_ended : (header : Header) (len : ℕ) (b : Standing) (r : ℕ) (x y : Client) (memory : Bool) → IsSteady header len b → slice_get b.clients r ≡ Some x → y ≡ client_ended x memory
+    → IsSteady header len (with_clients b (set b.clients r y))
+steady_ended header len b r x y memory h e f =
+    steady_set header len b r x y h e (λ o g. h.held r x o e (ap (λ (k : Client). k.held) (sym f) ∙ g))
+    (λ o p q z g i j. h.same r q x z o p e i (ap (λ (k : Client). k.held) (sym f) ∙ g) j)
+
+-- what an offer is that is not strange
+pub record IsGood (header : Header) (len : ℕ) (b : Standing) (r c : ℕ) (o : Offer) : Type 0 where
+  pub client : Client
+  pub there : slice_get b.clients r ≡ Some client
+  pub free : client.held ≡ None
+  pub fit : IsFit header len o
+  pub known : o.known ≤ b.reached
+  pub kinds : list_any (λ y. differs (kind_held y) (kind_of_meeting o.kind)) b.clients ≡ false
+
+pub is_good : (s : Setting) (len : ℕ) (b : Standing) (r c : ℕ) (o : Offer) → is_sound s.header ≡ true → IsSteady s.header len b → r < length b.clients → HasOwnElements o.batch.puts
+    → ((file : List ℕ) → is_strange s (owner_at b file) (r, item.Offer c o) ≡ false) → IsGood s.header len b r c o
+is_good s len b r c o sound h low own fit =
+    let x = entry_below b.clients r low in
+    let p = passes s (owner_at b []) r c o x.0 x.1 (fit []) in
+    record {
+      client = x.0;
+      there = x.1;
+      free = p.free;
+      fit = fits s.header len b.reached o sound p.good own (count_less s.header len b.reached o.known sound h.reached p.known);
+      known = p.known;
+      kinds = p.kinds;
+    }
+
+pub steady_held : (header : Header) (len : ℕ) (b : Standing) (r c : ℕ) (o : Offer) (y : Client) (kind : MeetKind) → IsSteady header len b → (good : IsGood header len b r c o) → y ≡ client_held good.client o
+    → o.kind ≡ offer.Meet kind → IsSteady header len (with_clients b (set b.clients r y))
+steady_held header len b r c o y kind h good f k =
+    steady_set header len b r good.client y h good.there (λ p g. subst (IsHeld header len b.reached) (own p g) (record { fit = good.fit; known = good.known; meets = (kind, k) }))
+    (λ p q t z g i j. ap (λ (w : Offer). w.kind) (sym (own p g)) ∙ k ∙ others q t z i j)
+  where
+    own : (p : Offer) → y.held ≡ Some p → o ≡ p
+    own p g = same_Some o p (ap (λ (w : Client). w.held) (sym f) ∙ g)
+
+    others : (q : Offer) (t : ℕ) (z : Client) → slice_get b.clients t ≡ Some z → z.held ≡ Some q → offer.Meet kind ≡ q.kind
+    others q t z i j =
+        let m = (h.held t z q i j).meets in
+        let same = kind_is b.clients kind t z q m.0 (ap (λ (w : OfferKind). list_any (λ y. differs (kind_held y) (kind_of_meeting w)) b.clients) (sym k) ∙ good.kinds) i j m.1 in
+        ap offer.Meet (sym same) ∙ sym m.1
+
+pub steady_alone : (header : Header) (len more : ℕ) (b n : Standing) → IsSteady header len b → n.clients ≡ b.clients → length n.lines ≡ length b.lines → n.records ≡ b.records → len ≤ more → b.reached ≤ n.reached
+    → IsCount header more n.reached → IsSteady header more n
+steady_alone header len more b n h clients lines records l m count =
+    let long : length n.clients ≡ length b.clients = ap (λ (ss : List Client). length ss) clients in
+    let few = h.few in
+    let low = h.below in
+    record {
+      few = omega arith;
+      one_each = lines ∙ h.one_each ∙ sym long;
+      count = subst (λ (k : ℕ). IsCount header more k) (sym records) (count_longer header len more b.records l h.count);
+      reached = count;
+      below = omega arith;
+      held = λ r x o e f.
+          let g = h.held r x o (ap (λ (ss : List Client). slice_get ss r) (sym clients) ∙ e) f in
+          let k = g.known in
+          record { fit = record { sound = g.fit.sound; known = count_longer header len more o.known l g.fit.known; few = g.fit.few }; known = omega arith; meets = g.meets };
+      same = λ r q x y o p e f i j. h.same r q x y o p (ap (λ (ss : List Client). slice_get ss r) (sym clients) ∙ e) (ap (λ (ss : List Client). slice_get ss q) (sym clients) ∙ f) i j;
+    }
+
+-- ---- after an error
+
+-- where all hold once this offer is held, each gets one stop
+pub all_stopped : (d : Owner) (r c : ℕ) (o : Offer) (x y : Client) (old now : List (End OwnerItem)) → slice_get d.clients r ≡ Some x → x.held ≡ None → list_all holds (set d.clients r y) ≡ true
+    → length old ≡ length d.clients → Grows old stop_each now → Grows old (stops d ((r, item.Offer c o) ∷ [])) now
+all_stopped d r c o x y old now e free all long g = lines_as old now stop_each (stops d ((r, item.Offer c o) ∷ [])) (λ q l. same q (omega arith)) g
+  where
+    at : (q : ℕ) (z : Client) (clients : List Client) → slice_get clients q ≡ Some z → list_all holds clients ≡ true → holds z ≡ true
+    at q z [] f h = absurd cc
+    at zero z (w ∷ clients) f h = ap holds (sym (same_Some w z f)) ∙ and_first (holds w) (list_all holds clients) h
+    at (suc q) z (w ∷ clients) f h = at q z clients f (and_second (holds w) (list_all holds clients) h)
+
+    one : (m : Option Offer) (t : Option Bool) → is_some m ≡ true → stop_held (Some (record { held = m; ended = t })) ≡ Stop ∷ []
+    one None t f = absurd cc
+    one (Some p) t f = refl
+
+    none : (m : Option Offer) (t : Option Bool) → m ≡ None → stop_held (Some (record { held = m; ended = t })) ≡ []
+    none None t f = refl
+    none (Some p) t f = absurd cc
+
+    same : (q : ℕ) → q < length d.clients → stops d ((r, item.Offer c o) ∷ []) q ≡ Stop ∷ []
+    same q l = by (cases_eq q r)
+      where
+        by : (q ≡ r) ⊎ (q ≡ r → ⊥) → stops d ((r, item.Offer c o) ∷ []) q ≡ Stop ∷ []
+        by (inl s) =
+            (λ i. ((ap (λ (k : ℕ). stop_held (slice_get d.clients k)) s ∙ ap stop_held e ∙ none x.held x.ended free) i) ++ ((stop_for_offer r c o q ∙ ap (λ (k : ℕ). put_one r Stop k) s ∙ put_here r Stop) i))
+        by (inr n) =
+            let z = entry_below d.clients q l in
+            let held = at q z.0 (set d.clients r y) (entry_set_other d.clients r q y n ∙ z.1) all in
+            (λ i. ((ap stop_held z.1 ∙ one z.0.held z.0.ended held) i) ++ ((stop_for_offer r c o q ∙ put_other q r Stop n) i))
+
+-- an offer alone that was not done, and the offers that are held
+pub alone_stopped : (r c : ℕ) (o : Offer) (clients same : List Client) (old mid last now : List (End OwnerItem)) → mid ≡ old → same ≡ clients → Grows mid (held_stops same) last → Grows last (put_one r Stop) now
+    → Grows old (λ q. held_stops clients q ++ stops_for ((r, item.Offer c o) ∷ []) q) now
+alone_stopped r c o clients same old mid last now e f g h =
+    lines_as old now (λ q. held_stops clients q ++ put_one r Stop q) (λ q. held_stops clients q ++ stops_for ((r, item.Offer c o) ∷ []) q) (λ q l. ap (λ (items : List OwnerItem). held_stops clients q ++ items) (stop_for_offer r c o q))
+    (lines_twice old last now (held_stops clients) (put_one r Stop) (subst (λ (ss : List Client). Grows old (held_stops ss) last) f (subst (λ (l : List (End OwnerItem)). Grows l (held_stops same) last) e g)) h)
+
+-- ---- an item, by what it is
+
+pub good_at : (s : Setting) (len : ℕ) (b : Standing) (r c : ℕ) (i : RankItem) (o : Offer) → is_sound s.header ≡ true → IsSteady s.header len b → r < length b.clients → HasOwnPuts i
+    → ((file : List ℕ) → is_strange s (owner_at b file) (r, i) ≡ false) → i ≡ item.Offer c o → IsGood s.header len b r c o
+good_at s len b r c i o sound h low own fit e =
+    is_good s len b r c o sound h low (subst HasOwnPuts e own) (λ file. ap (λ (j : RankItem). is_strange s (owner_at b file) (r, j)) (sym e) ∙ fit file)
+
+pub as_item : (hints : Hints) (s : Setting) (r : ℕ) (i j : RankItem) (b n : Standing) → i ≡ j → HasDone hints s (r, j) b n → HasDone hints s (r, i) b n
+as_item hints s r i j b n e h = subst (λ (k : RankItem). HasDone hints s (r, k) b n) (sym e) h
+
+-- the client that was read is the one there
+pub client_read : (clients : List Client) (r : ℕ) (x read : Client) → slice_get clients r ≡ Some x → read ≡ get_or clients r read → read ≡ x
+client_read clients r x read e f = f ∙ get_or_from_slice_get clients r x read e
+
+pub held_as : (x read y : Client) (o : Offer) → read ≡ x → y ≡ client_held read o → y ≡ client_held x o
+held_as x read y o e f = f ∙ ap (λ (z : Client). client_held z o) e
+
+pub stopped_as : (d : Owner) (r : ℕ) (i j : RankItem) (old now : List (End OwnerItem)) → i ≡ j → Grows old (stops d ((r, j) ∷ [])) now → Grows old (stops d ((r, i) ∷ [])) now
+stopped_as d r i j old now e g = subst (λ (k : RankItem). Grows old (stops d ((r, k) ∷ [])) now) (sym e) g
+
+-- ---- results
+
+pub on_ok_three : {T E P Q R S : Type 0} (r : Result T E) → (P → Q → R → S) → OnOk r P → OnOk r Q → OnOk r R → OnOk r S
+on_ok_three (Ok x) f p q t = f p q t
+on_ok_three (Err e) f p q t = tt

@@ -1,0 +1,318 @@
+-- What the owner's ends tell when it is done.
+use Rattle.turn_run.specs.Known.{point}
+use Rattle.std.proofs.Common.{◌≡◌, ℕ, suc, ◌+◌, ◌<◌, refl, sym, ◌∙◌, ap, subst, inl, inr, List, [], ◌∷◌, ◌++◌, length, map, replicate, Bool, true, false, ◌&&◌, Option, Some, None, arith}
+use Rattle.std.proofs.lemmas.List.{append-nil, length-append, length-map, length-replicate}
+use Rattle.std.specs.Prelude.{slice_get, nat_lt, filter, IfSome, IsTrue}
+use Rattle.std.specs.List.{list_all}
+use Rattle.nc_base.specs.declared.script.Hints.{Hints}
+use Rattle.nc_base.specs.declared.step.DiskCall.{DiskCall}
+use Rattle.nc_base.specs.declared.step.Mark.{Mark}
+use Rattle.nc_base.specs.declared.step.Offer.{Offer}
+use Rattle.nc_base.specs.declared.step.OwnerItem.{OwnerItem}
+use Rattle.nc_base.specs.declared.step.OwnerItem.TheVariants.{Stop}
+use Rattle.nc_base.specs.declared.step.RankItem.{RankItem}
+use Rattle.nc_base.specs.declared.step.StepErr.{StepErr}
+use Rattle.nc_outside.specs.Told.{with_end}
+use Rattle.nc_outside.specs.declared.disk.Disk.{Ghosts as DiskGhosts}
+use Rattle.nc_outside.specs.declared.told.Told.{Ghosts as ToldGhosts}
+use Rattle.overlay_laws.specs.Entries.{In}
+use Rattle.ruled_line.specs.Ends.{End, Receiver}
+use Rattle.serial_spec.specs.Owner.{Owner, Client, free_client, given_along, offers_in, owed, own_items, served, stop_held, stops, IsGivenInPart}
+use Rattle.serial_spec.specs.FileStep.{Setting}
+use Rattle.serial_spec.specs.History.{Arrival, is_offer}
+use Rattle.serial_spec.specs.Joined.{HasEnd}
+use Rattle.serial_spec.specs.Torn.{OwnerStoodAt}
+use Rattle.collective_round.specs.Rounds.{counted}
+use Rattle.file_owner.specs.Halted.{of_fault, of_stranger, IsHaltAt, Outcome, taken_from, stopped_with}
+use Rattle.file_owner.specs.Owned.{owner_at, owner_calls, run, AreSingle, GoesSo, Grows, HoldSingle, Standing}
+use Rattle.file_owner.specs.Refused.{HasCutService}
+use Rattle.file_owner.specs.Service.{arrived, gained, opening, HasFailed, HasTaken, HasToldAlong, HavePut, IsCutOff, IsDone, IsDoneSo, passed}
+use Rattle.file_owner.specs.Stops.{stops_for}
+use Rattle.file_owner.specs.declared.lent.Outlets.{Outlets}
+use Rattle.file_owner.specs.declared.service.Halt.{Halt}
+use Rattle.file_owner.specs.declared.service.Halt.TheVariants as halt
+use Rattle.file_owner.proofs.AlikeLaws.{alike_by, alike_long, lines_twice}
+use Rattle.file_owner.proofs.OwnerRuns.{goes_on, GoesOn}
+use Rattle.file_owner.proofs.RefusedSteps.{stood_later}
+use Rattle.join_laws.proofs.TieLaws.{one_if, owed_count}
+use Rattle.join_laws.proofs.OwnerAlikeLaws.{alike_same, alike_two}
+use Rattle.file_owner.proofs.StopLaws.{filter_joined}
+use Rattle.file_owner.proofs.GainedLaws.{gained_is, have_put, arrived_is, StoppedAt, stopped_at, left_at}
+use Rattle.list_laws.proofs.Optional.{if_some_at}
+use Rattle.list_laws.proofs.Places.{entry_below, entry_replicate}
+use Rattle.join_laws.proofs.BegunLaws.{own_two}
+
+-- ---- the clauses
+
+module _ (hints : Hints) (s : Setting) (old now : Receiver RankItem) (left : List Bool) (before : Standing) (n : ℕ) (held : Option (List ℕ)) (made : Option (List DiskCall)) (marks : List Mark)
+    (heard : Option (List (Mark × ℕ))) (lines : List (End OwnerItem)) (h : Halt) (o : Outcome hints s (taken_from old now left) before (stopped_with n held made marks heard lines) h) where
+  all_lines : Grows before.lines (λ q. o.run.moved.more q ++ stops (owner_at o.middle []) o.last q) lines
+  all_lines = lines_twice before.lines o.middle.lines lines o.run.moved.more (stops (owner_at o.middle []) o.last) o.run.moved.lines o.stopped
+
+  arrivals_are : arrived old now ≡ o.first ++ o.last
+  arrivals_are = arrived_is old now (o.first ++ o.last) o.taken
+
+  pub out_taken : HasTaken old now
+  out_taken = record {
+    items = o.taken.items ∙ ap (λ (xs : List Arrival). old.items ++ xs) (sym arrivals_are);
+    senders = o.taken.senders;
+    of = o.taken.of;
+    numbers = subst (λ (xs : List Arrival). IsTrue (list_all (λ a. nat_lt a.0 old.senders) xs)) (sym arrivals_are) o.taken.numbers;
+    ended = λ q l. o_ended q l;
+  }
+    where
+      o_ended : (q : ℕ) → q < old.senders → HasEnd (own_items q (arrived old now))
+      o_ended q l = subst (λ (xs : List Arrival). HasEnd (own_items q xs)) (sym arrivals_are) (o.ended q (o.all q l))
+
+  pub out_put : HavePut before.lines lines
+  out_put = have_put before.lines lines (λ q. o.run.moved.more q ++ stops (owner_at o.middle []) o.last q) all_lines
+
+  gains : (q : ℕ) → q < length before.lines → gained before.lines lines q ≡ o.run.moved.more q ++ stops (owner_at o.middle []) o.last q
+  gains q l = gained_is before.lines lines (λ q. o.run.moved.more q ++ stops (owner_at o.middle []) o.last q) q all_lines l
+
+  on : (file : List ℕ) → GoesOn hints s (owner_at before file) o.first o.last
+  on file = goes_on hints s (owner_at before file) o.first o.last (o.run.none_strange file)
+
+  at : (file : List ℕ) → of_fault h ≡ None → StoppedAt hints s (served s (owner_at before file) o.first).owner o.last (of_stranger h)
+  at file f = stopped_at hints s before o.middle o.first o.later o.more o.last (stopped_with n held made marks heard lines) h file o.run o.parts o.halted o.none f
+
+  -- the stops are those of the owner that was reached
+  owes_stops : (file : List ℕ) (q : ℕ) → of_fault h ≡ None → owed s (owner_at before file) (o.first ++ o.last) q ≡ given_along s (owner_at before file) o.first q ++ stops (owner_at o.middle []) o.last q
+  owes_stops file q f =
+      (on file).owed_items q
+      ∙ ap (λ (items : List OwnerItem). given_along s (owner_at before file) o.first q ++ items)
+      ((at file f).owes q ∙ ap (λ (d : Owner). stops d o.last q) (o.run.moved.alike file).owner)
+
+  pub out_done : before.order ≡ [] → of_fault h ≡ None → (file : List ℕ) → IsDone s (owner_at before file) (passed (arrived old now) (length before.lines) (gained before.lines lines)) marks (of_stranger h)
+  out_done none f file = subst (λ (xs : List Arrival). IsDone s (owner_at before file) (passed xs (length before.lines) (gained before.lines lines)) marks (of_stranger h)) (sym arrivals_are) (record {
+    order = o.order ∙ (o.run.moved.alike file).marks ∙ ap (λ (ms : List Mark). ms ++ (served s (owner_at before file) o.first).marks) none
+        ∙ sym ((on file).marks ∙ ap (λ (ms : List Mark). (served s (owner_at before file) o.first).marks ++ ms) (at file f).marks ∙ append-nil (served s (owner_at before file) o.first).marks);
+    stranger = sym ((on file).stranger ∙ (at file f).stranger);
+    given = λ q l.
+        alike_by (gained before.lines lines q) (o.run.moved.more q ++ stops (owner_at o.middle []) o.last q) (given_along s (owner_at before file) o.first q ++ stops (owner_at o.middle []) o.last q)
+        (owed s (owner_at before file) (o.first ++ o.last) q) (gains q l) (owes_stops file q f)
+        (alike_two (o.run.moved.more q) (given_along s (owner_at before file) o.first q) (stops (owner_at o.middle []) o.last q) (stops (owner_at o.middle []) o.last q)
+        ((o.run.moved.alike file).given q l) (alike_same (stops (owner_at o.middle []) o.last q)));
+  })
+
+  -- each step was told
+  pub out_told : before.order ≡ [] → (file : List ℕ) → HasToldAlong s (owner_at before file) (arrived old now) marks before.heard heard
+  out_told none file = record {
+    first = o.first;
+    later = o.last;
+    all = arrivals_are;
+    none_strange = o.run.none_strange file;
+    order = o.order ∙ (o.run.moved.alike file).marks ∙ ap (λ (ms : List Mark). ms ++ (served s (owner_at before file) o.first).marks) none;
+    heard = o.heard_all ∙ (o.run.moved.alike file).heard;
+  }
+
+  told_so : (m : Option (List ℕ)) → before.told ≡ m → IfSome m (λ file. GoesSo (HoldSingle before.clients × AreSingle o.first) (run s (owner_at before file) o.first) (owner_calls hints s (owner_at before file) o.first) o.run.moved.more before o.middle)
+  told_so m e = subst (λ (t : Option (List ℕ)). IfSome t (λ file. GoesSo (HoldSingle before.clients × AreSingle o.first) (run s (owner_at before file) o.first) (owner_calls hints s (owner_at before file) o.first) o.run.moved.more before o.middle)) e o.run.moved.exact
+
+  pub out_bytes : of_fault h ≡ None → (m : Option (List ℕ)) → before.told ≡ m → IfSome m (λ file. IsDoneSo s (owner_at before file) (passed (arrived old now) (length before.lines) (gained before.lines lines)) held n)
+  out_bytes f None e = tt
+  out_bytes f (Some file) e =
+      let g = told_so (Some file) e in
+      let same = (on file).owner ∙ (at file f).owner in
+      let was = left_at s o.middle o.later (stopped_with n held made marks heard lines) h o.halted f in
+      subst (λ (xs : List Arrival). IsDoneSo s (owner_at before file) (passed xs (length before.lines) (gained before.lines lines)) held n) (sym arrivals_are) (record {
+        told = was.told ∙ g.told ∙ ap (λ (d : Owner). Some d.state.file) (sym same);
+        records = was.records ∙ sym (ap (λ (d : Owner). d.state.records) (o.run.moved.alike file).owner) ∙ ap (λ (d : Owner). d.state.records) (sym same);
+        given = λ q l. gains q l ∙ ap (λ (items : List OwnerItem). items ++ stops (owner_at o.middle []) o.last q) (g.given q l) ∙ sym (owes_stops file q f);
+      })
+
+  single_first : AreSingle (arrived old now) → AreSingle o.first
+  single_first alone a i = alone a (subst (λ (xs : List Arrival). In xs a) (sym arrivals_are) (joined o.first i))
+    where
+      joined : (xs : List Arrival) → In xs a → In (xs ++ o.last) a
+      joined [] i = absurd i
+      joined (x ∷ xs) (inl e) = inl e
+      joined (x ∷ xs) (inr i) = inr (joined xs i)
+
+  pub out_calls : of_fault h ≡ None → HoldSingle before.clients → AreSingle (arrived old now) → (m : Option (List ℕ)) → before.told ≡ m
+      → IfSome m (λ file. made ≡ with_end before.calls (owner_calls hints s (owner_at before file) (arrived old now)))
+  out_calls f free alone None e = tt
+  out_calls f free alone (Some file) e =
+      let g = told_so (Some file) e in
+      (left_at s o.middle o.later (stopped_with n held made marks heard lines) h o.halted f).calls ∙ g.calls (free, single_first alone)
+      ∙ ap (λ (cs : List DiskCall). with_end before.calls cs)
+      (sym ((on file).calls ∙ ap (λ (cs : List DiskCall). owner_calls hints s (owner_at before file) o.first ++ cs) (at file f).calls ∙ append-nil (owner_calls hints s (owner_at before file) o.first)))
+      ∙ ap (λ (xs : List Arrival). with_end before.calls (owner_calls hints s (owner_at before file) xs)) (sym arrivals_are)
+
+  -- ---- one item for each offer
+
+  stops_long : (d : Owner) (q : ℕ) (later : List Arrival) → length (stops d later q) ≡ length (stops d [] q) + offers_in (own_items q later)
+  stops_long d q later =
+      let a = length-append (stop_held (slice_get d.clients q)) (stops_for later q) in
+      let b = length-map (filter is_offer (own_items q later)) (λ (i : RankItem). Stop) in
+      let c = length-append (stop_held (slice_get d.clients q)) (stops_for [] q) in
+      let e : length (stops_for [] q) ≡ 0 = refl in
+      omega arith
+
+  offers_long : (q : ℕ) (xs ys : List Arrival) → offers_in (own_items q (xs ++ ys)) ≡ offers_in (own_items q xs) + offers_in (own_items q ys)
+  offers_long q xs ys =
+      ap (λ (items : List RankItem). offers_in items) (own_two q xs ys) ∙ ap (λ (items : List RankItem). length items) (filter_joined (own_items q xs) (own_items q ys))
+      ∙ length-append (filter is_offer (own_items q xs)) (filter is_offer (own_items q ys))
+
+  numbers_front : (k : ℕ) (xs ys : List Arrival) → list_all (λ (a : Arrival). nat_lt a.0 k) (xs ++ ys) ≡ true → list_all (λ (a : Arrival). nat_lt a.0 k) xs ≡ true
+  numbers_front k [] ys e = refl
+  numbers_front k (x ∷ xs) ys e = by (nat_lt x.0 k) e (λ g. numbers_front k xs ys g)
+    where
+      by : (t : Bool) → (t && list_all (λ (a : Arrival). nat_lt a.0 k) (xs ++ ys)) ≡ true → (list_all (λ (a : Arrival). nat_lt a.0 k) (xs ++ ys) ≡ true → list_all (λ (a : Arrival). nat_lt a.0 k) xs ≡ true)
+          → (t && list_all (λ (a : Arrival). nat_lt a.0 k) xs) ≡ true
+      by true g again = again g
+      by false g again = absurd cc
+
+  all_given : (q : ℕ) → owed s (owner_at before []) o.first q ≡ given_along s (owner_at before []) o.first q ++ stops (owner_at o.middle []) [] q
+  all_given q =
+      ap (λ (xs : List Arrival). owed s (owner_at before []) xs q) (sym (append-nil o.first))
+      ∙ (goes_on hints s (owner_at before []) o.first [] (o.run.none_strange [])).owed_items q
+      ∙ ap (λ (d : Owner). given_along s (owner_at before []) o.first q ++ stops d [] q) (o.run.moved.alike []).owner
+
+  one_item_each : (senders : ℕ) → before.clients ≡ replicate senders free_client → length before.lines ≡ senders → senders ≡ old.senders → (q : ℕ) → q < length before.lines
+      → length (gained before.lines lines q) ≡ offers_in (own_items q (o.first ++ o.last))
+  one_item_each senders clients long same q l =
+      let client = entry_below before.clients q (clients_long q l) in
+      let free : client.0.held ≡ None = ap (λ (x : Client). x.held) (entry_replicate senders q free_client client.0 (ap (λ (ss : List Client). slice_get ss q) (sym clients) ∙ client.1)) in
+      let count = owed_count s (owner_at before []) o.first q client.0 numbers client.1 in
+      let none = held_none client.0.held free in
+      let given = ap (λ (items : List OwnerItem). length items) (all_given q) ∙ length-append (given_along s (owner_at before []) o.first q) (stops (owner_at o.middle []) [] q) in
+      let like = alike_long (o.run.moved.more q) (given_along s (owner_at before []) o.first q) ((o.run.moved.alike []).given q l) in
+      let whole = ap (λ (items : List OwnerItem). length items) (gains q l) ∙ length-append (o.run.moved.more q) (stops (owner_at o.middle []) o.last q) in
+      let stops = stops_long (owner_at o.middle []) q o.last in
+      let both = offers_long q o.first o.last in
+      omega arith
+    where
+      clients_are_long : length before.clients ≡ senders
+      clients_are_long = ap (λ (ss : List Client). length ss) clients ∙ length-replicate senders free_client
+
+      clients_long : (k : ℕ) → k < length before.lines → k < length before.clients
+      clients_long k m = omega (arith, clients_are_long, long)
+
+      numbers : list_all (λ (a : Arrival). nat_lt a.0 (length before.clients)) o.first ≡ true
+      numbers = subst (λ (k : ℕ). list_all (λ (a : Arrival). nat_lt a.0 k) o.first ≡ true) (sym (clients_are_long ∙ same)) (numbers_front old.senders o.first o.last o.taken.numbers)
+
+      held_none : (m : Option Offer) → m ≡ None → one_if m ≡ 0
+      held_none None e = refl
+      held_none (Some p) e = absurd cc
+
+  only_stops : (m : Option Client) (xs : List RankItem) → (k : ℕ) × (stop_held m ++ map (λ (i : RankItem). Stop) xs ≡ replicate k Stop)
+  only_stops m xs = by_client m
+    where
+      stops_are : (ys : List RankItem) → map (λ (i : RankItem). Stop) ys ≡ replicate (length ys) Stop
+      stops_are [] = refl
+      stops_are (y ∷ ys) = ap (λ (items : List OwnerItem). Stop ∷ items) (stops_are ys)
+
+      by_held : (held : Option Offer) (ended : Option Bool) → (k : ℕ) × (stop_held (Some (record { held = held; ended = ended })) ++ map (λ (i : RankItem). Stop) xs ≡ replicate k Stop)
+      by_held None ended = (length xs, stops_are xs)
+      by_held (Some p) ended = (suc (length xs), ap (λ (items : List OwnerItem). Stop ∷ items) (stops_are xs))
+
+      by_client : (client : Option Client) → (k : ℕ) × (stop_held client ++ map (λ (i : RankItem). Stop) xs ≡ replicate k Stop)
+      by_client None = (length xs, stops_are xs)
+      by_client (Some x) = by_held x.held x.ended
+
+  pub out_failed : (senders k : ℕ) → ((file : List ℕ) → owner_at before file ≡ opening senders (counted file k)) → before.order ≡ [] → before.clients ≡ replicate senders free_client → length before.lines ≡ senders → senders ≡ old.senders
+      → of_stranger h ≡ None → HasFailed s (opening senders) k (passed (arrived old now) (length before.lines) (gained before.lines lines)) marks (of_stranger h)
+  out_failed senders k is none clients long same number = record {
+    first = o.first;
+    later = o.last;
+    all = arrivals_are;
+    cut_off = λ file. subst (λ (d : Owner). IsCutOff s d o.first (length before.lines) (gained before.lines lines) marks) (is file) (record {
+      none_strange = o.run.none_strange file;
+      order = o.order ∙ (o.run.moved.alike file).marks ∙ ap (λ (ms : List Mark). ms ++ (served s (owner_at before file) o.first).marks) none;
+      given = λ q l.
+          let stops = only_stops (slice_get o.middle.clients q) (filter is_offer (own_items q o.last)) in (
+            stops.0,
+            alike_by (gained before.lines lines q) (o.run.moved.more q ++ replicate stops.0 Stop) (given_along s (owner_at before file) o.first q ++ replicate stops.0 Stop)
+                (given_along s (owner_at before file) o.first q ++ replicate stops.0 Stop)
+                (gains q l ∙ ap (λ (items : List OwnerItem). o.run.moved.more q ++ items) stops.1) refl
+                (alike_two (o.run.moved.more q) (given_along s (owner_at before file) o.first q) (replicate stops.0 Stop) (replicate stops.0 Stop) ((o.run.moved.alike file).given q l) (alike_same (replicate stops.0 Stop))),
+          );
+    });
+    one_each = λ q l. one_item_each senders clients long same q l ∙ ap (λ (xs : List Arrival). offers_in (own_items q xs)) (sym arrivals_are);
+    stranger = number;
+  }
+
+  -- the replies are all that the owner made, and the rest are stops
+  pub out_gives : (senders : ℕ) → before.clients ≡ replicate senders free_client → length before.lines ≡ senders → senders ≡ old.senders → (file : List ℕ) → before.told ≡ Some file
+      → (q : ℕ) → q < length before.lines → (given : IsGivenInPart s (owner_at before file) o.first o.last q (gained before.lines lines q)) × (given.unheard ≡ [])
+  out_gives senders clients long same file e q l =
+      let stops = only_stops (slice_get o.middle.clients q) (filter is_offer (own_items q o.last)) in
+      let g = told_so (Some file) e in (
+        record {
+          replies = given_along s (owner_at before file) o.first q;
+          unheard = [];
+          stopped = stops.0;
+          begins = append-nil (given_along s (owner_at before file) o.first q);
+          whole = gains q l ∙ (λ i. g.given q l i ++ stops.1 i);
+          one_each = one_item_each senders clients long same q l;
+        },
+        refl,
+      )
+
+  pub out_stood : (e : StepErr) → h ≡ halt.Fault e → HoldSingle before.clients → AreSingle (arrived old now) → (file : List ℕ) → before.told ≡ Some file
+      → (bytes : List ℕ) × (held ≡ Some bytes) × OwnerStoodAt s e (served s (owner_at before file) o.first).owner o.last bytes n
+  out_stood e is free alone file there =
+      let fault = subst (λ (k : Halt). IsHaltAt s o.middle o.later (stopped_with n held made marks heard lines) k) is o.halted in
+      let told = (told_so (Some file) there).told in
+      let at = if_some_at (λ (f : List ℕ). (bytes : List ℕ) × (held ≡ Some bytes) × OwnerStoodAt s e (owner_at o.middle f) o.later bytes n) o.middle.told
+      (served s (owner_at before file) o.first).owner.state.file told (fault (o.run.moved.single (free, single_first alone)) single_later) in (
+        at.0,
+        at.1,
+        subst (λ (d : Owner). OwnerStoodAt s e d o.last at.0 n) (sym (o.run.moved.alike file).owner)
+            (subst (λ (xs : List Arrival). OwnerStoodAt s e (owner_at o.middle (served s (owner_at before file) o.first).owner.state.file) xs at.0 n) (sym o.parts)
+            (stood_later s e (owner_at o.middle (served s (owner_at before file) o.first).owner.state.file) o.later o.more at.0 n at.2)),
+      )
+    where
+      single_later : AreSingle o.later
+      single_later a i = alone a (subst (λ (xs : List Arrival). In xs a) (sym arrivals_are) (behind o.first (subst (λ (xs : List Arrival). In xs a) (sym o.parts) (front o.later i))))
+        where
+          behind : (xs : List Arrival) → In o.last a → In (xs ++ o.last) a
+          behind [] k = k
+          behind (x ∷ xs) k = inr (behind xs k)
+
+          front : (xs : List Arrival) → In xs a → In (xs ++ o.more) a
+          front [] k = absurd k
+          front (x ∷ xs) (inl k) = inl k
+          front (x ∷ xs) (inr k) = inr (front xs k)
+
+  pub out_cut : (senders k : ℕ) (e : StepErr) → h ≡ halt.Fault e → ((file : List ℕ) → owner_at before file ≡ opening senders (counted file k)) → before.order ≡ [] → before.clients ≡ replicate senders free_client
+      → HoldSingle before.clients → length before.lines ≡ senders → senders ≡ old.senders → (m : Option (List ℕ)) → before.told ≡ m
+      → IfSome m (λ file. HasCutService s e (opening senders (counted file k)) (passed (arrived old now) senders (gained before.lines lines)) (point marks held n))
+  out_cut senders k e is opened none clients free long same None there = tt
+  out_cut senders k e is opened none clients free long same (Some file) there =
+      subst (λ (d : Owner). HasCutService s e d (passed (arrived old now) senders (gained before.lines lines)) (point marks held n)) (opened file) (record {
+        first = o.first;
+        later = o.last;
+        all = arrivals_are;
+        left = bytes_or held;
+        told = λ alone. let at = out_stood e is free alone file there in at.1 ∙ ap (λ (xs : List ℕ). Some xs) (sym (ap bytes_or at.1));
+        service = record {
+          no_stranger = o.run.none_strange file;
+          in_order = o.order ∙ (o.run.moved.alike file).marks ∙ ap (λ (ms : List Mark). ms ++ (served s (owner_at before file) o.first).marks) none;
+          stood = λ alone.
+              let at = out_stood e is free (subst (λ (xs : List Arrival). AreSingle xs) (sym arrivals_are) alone) file there in
+              subst (λ (xs : List ℕ). OwnerStoodAt s e (served s (owner_at before file) o.first).owner o.last xs n) (sym (ap bytes_or at.1)) at.2;
+          gives = λ q l. (out_gives senders clients long same file there q (low q l)).0;
+          all_heard = λ disk q l. (out_gives senders clients long same file there q (low q l)).1;
+        };
+        all_heard = λ q l. (out_gives senders clients long same file there q (low q l)).1;
+      })
+    where
+      bytes_or : Option (List ℕ) → List ℕ
+      bytes_or None = []
+      bytes_or (Some xs) = xs
+
+      low : (q : ℕ) → q < length before.clients → q < length before.lines
+      low q l = let wide = ap (λ (ss : List Client). length ss) clients ∙ length-replicate senders free_client in omega arith
+
+-- the same where what was lent is given back
+pub outcome_given : {D T : Type 0} (disk : DiskGhosts D) (told : ToldGhosts T) (hints : Hints) (s : Setting) (old now : Receiver RankItem) (left : List Bool) (before : Standing) (out : Outlets D T) (marks : List Mark) (h : Halt)
+    (d : D) (n : ℕ) (t : T) (lines : List (End OwnerItem)) → d ≡ out.disk.now → n ≡ out.records.now → t ≡ out.told.now → lines ≡ out.back.now
+    → Outcome hints s (taken_from old now left) before (stopped_with out.records.now (disk.held out.disk.now) (disk.calls out.disk.now) marks (told.heard out.told.now) out.back.now) h
+    → Outcome hints s (taken_from old now left) before (stopped_with n (disk.held d) (disk.calls d) marks (told.heard t) lines) h
+outcome_given {D} {T} disk told hints s old now left before out marks h d n t lines same_disk same_records same_told same_back o =
+    subst (λ (x : D). Outcome hints s (taken_from old now left) before (stopped_with n (disk.held x) (disk.calls x) marks (told.heard t) lines) h) (sym same_disk)
+    (subst (λ (x : ℕ). Outcome hints s (taken_from old now left) before (stopped_with x (disk.held out.disk.now) (disk.calls out.disk.now) marks (told.heard t) lines) h) (sym same_records)
+    (subst (λ (x : T). Outcome hints s (taken_from old now left) before (stopped_with out.records.now (disk.held out.disk.now) (disk.calls out.disk.now) marks (told.heard x) lines) h) (sym same_told)
+    (subst (λ (x : List (End OwnerItem)). Outcome hints s (taken_from old now left) before (stopped_with out.records.now (disk.held out.disk.now) (disk.calls out.disk.now) marks (told.heard out.told.now) x) h) (sym same_back) o)))

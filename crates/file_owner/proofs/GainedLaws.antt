@@ -1,0 +1,132 @@
+-- What the owner's ends gained, what was taken from them, and where nothing more is done.
+use Rattle.std.proofs.Common.{◌≡◌, ℕ, zero, suc, ◌+◌, ◌<◌, refl, sym, ◌∙◌, ap, subst, List, [], ◌∷◌, ◌++◌, length, drop, Bool, true, false, ◌&&◌, Option, Some, None, append_assoc, arith}
+use Rattle.std.proofs.Math.Seq.{drop-append_seam}
+use Rattle.std.specs.Prelude.{slice_get, nat_lt}
+use Rattle.std.specs.List.{list_all}
+use Rattle.nc_base.specs.declared.script.Hints.{Hints}
+use Rattle.nc_base.specs.declared.step.DiskCall.{DiskCall}
+use Rattle.nc_base.specs.declared.step.Mark.{Mark}
+use Rattle.nc_base.specs.declared.step.OwnerItem.{OwnerItem}
+use Rattle.nc_base.specs.declared.step.RankItem.{RankItem}
+use Rattle.nc_base.specs.declared.step.StepErr.{StepErr}
+use Rattle.ruled_line.specs.Ends.{End, Receiver}
+use Rattle.serial_spec.specs.Owner.{Owner, is_strange, owed, served, stop_held, stops}
+use Rattle.serial_spec.specs.FileStep.{Setting}
+use Rattle.serial_spec.specs.History.{Arrival}
+use Rattle.join_laws.proofs.JoinLaws.{owed_stop}
+use Rattle.file_owner.specs.Halted.{of_fault, of_stranger, HasFinished, HasHalted, IsHaltAt, IsLeft, IsNoMore, Outcome, taken_from, stopped_with, Stopped}
+use Rattle.file_owner.specs.Owned.{owner_at, owner_calls, run, Grows, HasRun, Standing}
+use Rattle.file_owner.specs.Service.{arrived, gained, more_on, HavePut}
+use Rattle.file_owner.specs.Stops.{stops_for, AllHaveEnded, HaveEnded, IsMore}
+use Rattle.file_owner.specs.declared.service.Halt.{Halt}
+use Rattle.file_owner.specs.declared.service.Halt.TheVariants as halt
+use Rattle.file_owner.proofs.AlikeLaws.{lines_as, lines_twice}
+use Rattle.file_owner.proofs.OwnerRuns.{calls_stop, stops_at}
+use Rattle.file_owner.proofs.StopLaws.{stops_joined}
+use Rattle.list_laws.proofs.Places.{entry_below}
+
+-- ---- what ends gained
+
+pub gained_is : (old now : List (End OwnerItem)) (more : ℕ → List OwnerItem) (q : ℕ) → Grows old more now → q < length old → gained old now q ≡ more q
+gained_is old now more q g l =
+    let end = entry_below old q l in
+    (λ i. more_on (end.1 i) (g.each q end.0 end.1 i)) ∙ drop-append_seam end.0.items (more q)
+
+pub have_put : (old now : List (End OwnerItem)) (more : ℕ → List OwnerItem) → Grows old more now → HavePut old now
+have_put old now more g = record {
+  long = g.long;
+  each = λ q end e. g.each q end e ∙ ap (λ (items : List OwnerItem). Some (record { of = end.of; items = end.items ++ items })) (sym (gained_is old now more q g (low old q end e)));
+}
+  where
+    low : (xs : List (End OwnerItem)) (q : ℕ) (end : End OwnerItem) → slice_get xs q ≡ Some end → q < length xs
+    low [] q end e = absurd cc
+    low (x ∷ xs) zero end e = omega arith
+    low (x ∷ xs) (suc q) end e = let h = low xs q end e in omega arith
+
+pub arrived_is : (old now : Receiver RankItem) (more : List Arrival) → IsMore old more now → arrived old now ≡ more
+arrived_is old now more h = ap (drop (length old.items)) h.items ∙ drop-append_seam old.items more
+
+-- ---- all that was taken
+
+numbers_joined : (n : ℕ) (xs ys : List Arrival) → list_all (λ (a : Arrival). nat_lt a.0 n) xs ≡ true → list_all (λ (a : Arrival). nat_lt a.0 n) ys ≡ true → list_all (λ (a : Arrival). nat_lt a.0 n) (xs ++ ys) ≡ true
+numbers_joined n [] ys h k = k
+numbers_joined n (x ∷ xs) ys h k = by (nat_lt x.0 n) h (λ g. numbers_joined n xs ys g k)
+  where
+    by : (t : Bool) → (t && list_all (λ (a : Arrival). nat_lt a.0 n) xs) ≡ true → (list_all (λ (a : Arrival). nat_lt a.0 n) xs ≡ true → list_all (λ (a : Arrival). nat_lt a.0 n) (xs ++ ys) ≡ true)
+        → (t && list_all (λ (a : Arrival). nat_lt a.0 n) (xs ++ ys)) ≡ true
+    by true g again = again g
+    by false g again = absurd cc
+
+more_twice : (old mid now : Receiver RankItem) (first more : List Arrival) → IsMore old first mid → IsMore mid more now → IsMore old (first ++ more) now
+more_twice old mid now first more h g = record {
+  items = g.items ∙ ap (λ (xs : List Arrival). xs ++ more) h.items ∙ append_assoc old.items first more;
+  senders = g.senders ∙ h.senders;
+  of = g.of ∙ h.of;
+  numbers = numbers_joined old.senders first more h.numbers (subst (λ (n : ℕ). list_all (λ (a : Arrival). nat_lt a.0 n) more ≡ true) h.senders g.numbers);
+}
+
+pub outcome : (hints : Hints) (s : Setting) (old mid now : Receiver RankItem) (flags left : List Bool) (before : Standing) (n : ℕ) (held : Option (List ℕ)) (made : Option (List DiskCall)) (marks : List Mark)
+    (heard : Option (List (Mark × ℕ))) (mid_lines lines : List (End OwnerItem)) (h : Halt) → HasHalted hints s (taken_from old mid flags) before (stopped_with n held made marks heard mid_lines) h
+    → HasFinished (taken_from mid now left) mid_lines lines flags h → Outcome hints s (taken_from old now left) before (stopped_with n held made marks heard lines) h
+outcome hints s old mid now flags left before n held made marks heard mid_lines lines h a b = record {
+  first = a.first;
+  last = a.later ++ b.more;
+  middle = a.middle;
+  taken = subst (λ (xs : List Arrival). IsMore old xs now) (append_assoc a.first a.later b.more) (more_twice old mid now (a.first ++ a.later) b.more a.taken b.taken);
+  ended = subst (λ (xs : List Arrival). HaveEnded left xs) (append_assoc a.first a.later b.more) (b.noted (a.first ++ a.later) a.ended);
+  all = subst (λ (k : ℕ). AllHaveEnded k left) a.taken.senders b.all;
+  run = a.run;
+  order = a.order;
+  heard_all = a.heard_all;
+  stopped = lines_as a.middle.lines lines (λ q. stops (owner_at a.middle []) a.later q ++ stops_for b.more q) (stops (owner_at a.middle []) (a.later ++ b.more)) (λ q l. joined q)
+      (lines_twice a.middle.lines mid_lines lines (stops (owner_at a.middle []) a.later) (stops_for b.more) a.stopped b.stopped);
+  later = a.later;
+  more = b.more;
+  parts = refl;
+  halted = a.halted;
+  none = b.last;
+}
+  where
+    joined : (q : ℕ) → stops (owner_at a.middle []) (a.later ++ b.more) q ≡ stops (owner_at a.middle []) a.later q ++ stops_for b.more q
+    joined q = ap (λ (items : List OwnerItem). stop_held (slice_get a.middle.clients q) ++ items) (stops_joined q a.later b.more) ∙ sym (append_assoc (stop_held (slice_get a.middle.clients q)) (stops_for a.later q) (stops_for b.more q))
+
+-- ---- where nothing more is done
+
+pub record StoppedAt (hints : Hints) (s : Setting) (d : Owner) (last : List Arrival) (number : Option ℕ) : Type 0 where
+  pub owner : (served s d last).owner ≡ d
+  pub marks : (served s d last).marks ≡ []
+  pub stranger : (served s d last).stranger ≡ number
+  pub owes : (q : ℕ) → owed s d last q ≡ stops d last q
+  pub calls : owner_calls hints s d last ≡ []
+
+stopped_none : (hints : Hints) (s : Setting) (d : Owner) (last : List Arrival) → last ≡ [] → StoppedAt hints s d last None
+stopped_none hints s d last e =
+    subst (λ (xs : List Arrival). StoppedAt hints s d xs None) (sym e) (record { owner = refl; marks = refl; stranger = refl; owes = λ q. refl; calls = refl })
+
+stopped_strange : (hints : Hints) (s : Setting) (d : Owner) (a : Arrival) (rest last : List Arrival) → last ≡ a ∷ rest → is_strange s d a ≡ true → StoppedAt hints s d last (Some a.0)
+stopped_strange hints s d a rest last e f =
+    let at = stops_at s d a rest f in
+    subst (λ (xs : List Arrival). StoppedAt hints s d xs (Some a.0)) (sym e)
+    (record { owner = at.owner; marks = at.marks; stranger = at.stranger; owes = λ q. owed_stop s d a rest q f; calls = calls_stop hints s d a rest f })
+
+no_fault : {A : Type 0} (e : StepErr) → of_fault (halt.Fault e) ≡ None → A
+no_fault e f = absurd cc
+
+-- the owner that the first arrivals lead to
+abbrev reached_at : Setting → Standing → List Arrival → List ℕ → Owner
+reached_at s before first file = (served s (owner_at before file) first).owner
+
+pub stopped_at : (hints : Hints) (s : Setting) (before middle : Standing) (first later more last : List Arrival) (left : Stopped) (h : Halt) (file : List ℕ)
+    → HasRun hints s first before middle → last ≡ later ++ more → IsHaltAt s middle later left h → IsNoMore more h → of_fault h ≡ None
+    → StoppedAt hints s (served s (owner_at before file) first).owner last (of_stranger h)
+stopped_at hints s before middle first later more last left halt.Ended file run parts at none f =
+    stopped_none hints s (reached_at s before first file) last (parts ∙ (λ i. at.0 i ++ none i))
+stopped_at hints s before middle first later more last left (halt.Stranger number) file run parts at none f =
+    stopped_strange hints s (reached_at s before first file) (number, at.0.item) more last (parts ∙ ap (λ (xs : List Arrival). xs ++ more) at.0.last)
+    (ap (λ (d : Owner). is_strange s d (number, at.0.item)) (run.moved.alike file).owner ∙ at.0.strange (reached_at s before first file).state.file)
+stopped_at hints s before middle first later more last left (halt.Fault e) file run parts at none f = no_fault e f
+
+pub left_at : (s : Setting) (middle : Standing) (later : List Arrival) (left : Stopped) (h : Halt) → IsHaltAt s middle later left h → of_fault h ≡ None → IsLeft middle left.records left.told left.calls
+left_at s middle later left halt.Ended at f = at.1
+left_at s middle later left (halt.Stranger number) at f = at.1
+left_at s middle later left (halt.Fault e) at f = no_fault e f

@@ -1,0 +1,161 @@
+-- The offers that are held, one after another.
+use Rattle.std.proofs.Common.{◌≡◌, ℕ, zero, suc, ◌+◌, ◌≤◌, refl, sym, ◌∙◌, ap, subst, inl, inr, ◌⊎◌, List, [], ◌∷◌, ◌++◌, length, map, max, take, drop, set, replicate, true, false, Option, Some, None, arith}
+use Rattle.std.proofs.lemmas.List.{length-map, map-append}
+use Rattle.std.specs.Prelude.{slice_get, is_some}
+use Rattle.std.specs.List.{list_all, AllByRecursion}
+use Rattle.std.specs.Option.{option_to_list}
+use Rattle.std.proofs.lemmas.Option.{same_Some}
+use Rattle.list_laws.proofs.Truth.{and_first}
+use Rattle.nc_base.specs.declared.header.Header.{Header}
+use Rattle.nc_base.specs.declared.plan.Batch.{Batch}
+use Rattle.nc_base.specs.declared.step.Offer.{Offer}
+use Rattle.nc_base.specs.declared.step.OfferKind.TheVariants as offer
+use Rattle.serial_spec.specs.FileStep.{known_by}
+use Rattle.serial_spec.specs.Layout.{greatest}
+use Rattle.serial_spec.specs.Owner.{Client, freed, holds, offers_held}
+use Rattle.turn_run.specs.Counts.{IsCount, IsFit, IsRise}
+use Rattle.list_laws.proofs.Optional.{some_or_none}
+use Rattle.file_owner.specs.Owned.{AreOfOneKind, HoldAll, HoldSingle, IsSteady, Standing, IsSingleOffer}
+use Rattle.turn_run.specs.Steps.{batches_of, known_of, IsJob, IsOneRise}
+use Rattle.turn_run.proofs.CountLaws.{count_longer, count_max}
+use Rattle.turn_run.proofs.MeetOffers.{offers_job, one_rise, rise_brought}
+use Rattle.serial_spec.proofs.CountLaws.{known_less, greatest_joined}
+use Rattle.list_laws.proofs.Places.{take_next}
+
+pub all_held : (P : Offer → Type 0) (clients : List Client) → HoldAll P clients → AllByRecursion P (offers_held clients)
+all_held P [] h = tt
+all_held P (x ∷ clients) h = by x.held refl (all_held P clients (λ r y o e f. h (suc r) y o e f))
+  where
+    by : (m : Option Offer) → x.held ≡ m → AllByRecursion P (offers_held clients) → AllByRecursion P (offers_held (record { held = m; ended = x.ended } ∷ clients))
+    by None e rest = rest
+    by (Some o) e rest = (h 0 x o refl e, rest)
+
+held_few : (clients : List Client) → length (offers_held clients) ≤ length clients
+held_few [] = omega arith
+held_few (x ∷ clients) = by x.held (held_few clients)
+  where
+    by : (m : Option Offer) → length (offers_held clients) ≤ length clients → length (offers_held (record { held = m; ended = x.ended } ∷ clients)) ≤ suc (length clients)
+    by None l = omega arith
+    by (Some o) l = omega arith
+
+-- ---- clients from which the offers are taken, one after another
+
+offers_joined : (xs ys : List Client) → offers_held (xs ++ ys) ≡ offers_held xs ++ offers_held ys
+offers_joined [] ys = refl
+offers_joined (x ∷ xs) ys = by x.held (offers_joined xs ys)
+  where
+    by : (m : Option Offer) → offers_held (xs ++ ys) ≡ offers_held xs ++ offers_held ys
+        → offers_held (record { held = m; ended = x.ended } ∷ (xs ++ ys)) ≡ offers_held (record { held = m; ended = x.ended } ∷ xs) ++ offers_held ys
+    by None e = e
+    by (Some o) e = ap (λ (os : List Offer). o ∷ os) e
+
+offers_of_one : (x : Client) → offers_held (x ∷ []) ≡ option_to_list x.held
+offers_of_one x = by x.held
+  where
+    by : (m : Option Offer) → offers_held (record { held = m; ended = x.ended } ∷ []) ≡ option_to_list m
+    by None = refl
+    by (Some o) = refl
+
+offers_next : (clients : List Client) (i : ℕ) (x : Client) → slice_get clients i ≡ Some x → offers_held (take (i + 1) clients) ≡ offers_held (take i clients) ++ option_to_list x.held
+offers_next clients i x e =
+    ap offers_held (take_next clients i x e) ∙ offers_joined (take i clients) (x ∷ []) ∙ ap (λ (os : List Offer). offers_held (take i clients) ++ os) (offers_of_one x)
+
+pub batches_on : (clients : List Client) (i : ℕ) (x : Client) (batches more : List Batch) → slice_get clients i ≡ Some x → batches ≡ batches_of (offers_held (take i clients))
+    → more ≡ batches ++ batches_of (option_to_list x.held) → more ≡ batches_of (offers_held (take (i + 1) clients))
+batches_on clients i x batches more e b m =
+    m ∙ ap (λ (bs : List Batch). bs ++ batches_of (option_to_list x.held)) b
+    ∙ sym (map-append (λ (o : Offer). o.batch) (offers_held (take i clients)) (option_to_list x.held)) ∙ ap batches_of (sym (offers_next clients i x e))
+
+pub known_on : (clients : List Client) (i : ℕ) (x : Client) (known own more : ℕ) → slice_get clients i ≡ Some x → known ≡ known_of (offers_held (take i clients))
+    → own ≡ known_of (option_to_list x.held) → more ≡ max known own → more ≡ known_of (offers_held (take (i + 1) clients))
+known_on clients i x known own more e k o m =
+    m ∙ ap (λ (n : ℕ). max n own) k ∙ ap (max (known_of (offers_held (take i clients)))) o
+    ∙ sym (greatest_joined (map (λ o. known_by o.kind o.known) (offers_held (take i clients))) (map (λ o. known_by o.kind o.known) (option_to_list x.held)))
+    ∙ ap greatest (sym (map-append (λ (o : Offer). known_by o.kind o.known) (offers_held (take i clients)) (option_to_list x.held)))
+    ∙ ap known_of (sym (offers_next clients i x e))
+
+pub freed_at : (xs : List Client) (i : ℕ) → slice_get (map freed (take i xs) ++ drop i xs) i ≡ slice_get xs i
+freed_at [] zero = refl
+freed_at [] (suc i) = refl
+freed_at (z ∷ xs) zero = refl
+freed_at (z ∷ xs) (suc i) = freed_at xs i
+
+pub freed_on : (xs now : List Client) (i : ℕ) (x y : Client) → slice_get xs i ≡ Some x → now ≡ map freed (take i xs) ++ drop i xs → y ≡ freed x → set now i y ≡ map freed (take (i + 1) xs) ++ drop (i + 1) xs
+freed_on xs now i x y e f g = ap (λ (ss : List Client). set ss i y) f ∙ ap (set (map freed (take i xs) ++ drop i xs) i) g ∙ step xs i e
+  where
+    step : (xs : List Client) (i : ℕ) → slice_get xs i ≡ Some x → set (map freed (take i xs) ++ drop i xs) i (freed x) ≡ map freed (take (i + 1) xs) ++ drop (i + 1) xs
+    step [] i h = absurd cc
+    step (z ∷ xs) zero h = ap (λ (s : Client). freed s ∷ xs) (sym (same_Some z x h))
+    step (z ∷ xs) (suc i) h =
+        let k : suc (i + 1) ≡ suc i + 1 = omega arith in
+        ap (λ (ss : List Client). freed z ∷ ss) (step xs i h) ∙ ap (λ (n : ℕ). map freed (take n (z ∷ xs)) ++ drop n (z ∷ xs)) k
+
+pub replicate_more : (n : ℕ) (x : Client) → replicate n x ++ x ∷ [] ≡ replicate (n + 1) x
+replicate_more zero x = refl
+replicate_more (suc n) x = let k : suc (n + 1) ≡ suc n + 1 = omega arith in ap (λ (ss : List Client). x ∷ ss) (replicate_more n x) ∙ ap (λ (m : ℕ). replicate m x) k
+
+pub freed_none : (clients : List Client) (r : ℕ) (x : Client) → slice_get (map freed clients) r ≡ Some x → x.held ≡ None
+freed_none [] r x e = absurd cc
+freed_none (y ∷ clients) zero x e = ap (λ (z : Client). z.held) (sym (same_Some (freed y) x e))
+freed_none (y ∷ clients) (suc r) x e = freed_none clients r x e
+
+-- ---- what the ranks know
+
+known_low : (n : ℕ) (offers : List Offer) → AllByRecursion (λ o. o.known ≤ n) offers → known_of offers ≤ n
+known_low n [] all = omega arith
+known_low n (o ∷ offers) all =
+    let own = known_less o.kind o.known in
+    let low = all.0 in
+    let rest = known_low n offers all.1 in
+    omega arith
+
+-- ---- a meeting of what is held
+
+pub held_job : (header : Header) (len : ℕ) (x : Standing) → IsSteady header len x → IsJob header len (batches_of (offers_held x.clients))
+held_job header len x h =
+    let few = h.few in
+    let less = held_few x.clients in
+    offers_job header len (offers_held x.clients) (omega arith) (all_held (IsFit header len) x.clients (λ r y o e f. (h.held r y o e f).fit))
+
+pub held_rise : (header : Header) (len : ℕ) (x : Standing) → IsSteady header len x → IsRise header len (known_of (offers_held x.clients))
+held_rise header len x h = rise_brought header len (offers_held x.clients) (all_held (IsFit header len) x.clients (λ r y o e f. (h.held r y o e f).fit))
+
+pub held_low : (header : Header) (len : ℕ) (x : Standing) → IsSteady header len x → known_of (offers_held x.clients) ≤ x.reached
+held_low header len x h = known_low x.reached (offers_held x.clients) (all_held (λ o. o.known ≤ x.reached) x.clients (λ r y o e f. (h.held r y o e f).known))
+
+pub held_once : (header : Header) (len : ℕ) (x : Standing) → IsSteady header len x → list_all holds x.clients ≡ true → HoldSingle x.clients → IsOneRise (known_of (offers_held x.clients)) (batches_of (offers_held x.clients))
+held_once header len x h all single = by_list x.clients h.same all single
+  where
+    by_list : (clients : List Client) → AreOfOneKind clients → list_all holds clients ≡ true → HoldSingle clients → IsOneRise (known_of (offers_held clients)) (batches_of (offers_held clients))
+    by_list [] same a alone = one_rise offer.Solo [] tt tt
+    by_list (y ∷ clients) same a alone = by_held (some_or_none y.held)
+      where
+        none_held : y.held ≡ None → IsOneRise (known_of (offers_held (y ∷ clients))) (batches_of (offers_held (y ∷ clients)))
+        none_held e = let no : holds y ≡ false = ap (λ (m : Option Offer). is_some m) e in let yes = and_first (holds y) (list_all holds clients) a in absurd cc
+
+        by_held : (y.held ≡ None) ⊎ ((o : Offer) × (y.held ≡ Some o)) → IsOneRise (known_of (offers_held (y ∷ clients))) (batches_of (offers_held (y ∷ clients)))
+        by_held (inl e) = none_held e
+        by_held (inr (o, e)) =
+            one_rise o.kind (offers_held (y ∷ clients)) (all_held IsSingleOffer (y ∷ clients) alone)
+            (all_held (λ p. p.kind ≡ o.kind) (y ∷ clients) (λ r z p f g. same r 0 z y p o f refl g e))
+
+-- ---- when nothing is held any more
+
+pub steady_freed : (header : Header) (len more : ℕ) (x y : Standing) → IsSteady header len x → y.clients ≡ map freed x.clients → length y.lines ≡ length x.lines → len ≤ more
+    → IsCount header more y.records → y.reached ≡ max x.reached y.records → IsSteady header more y
+steady_freed header len more x y h clients lines l count reached =
+    let long : length y.clients ≡ length x.clients = ap (λ (ss : List Client). length ss) clients ∙ length-map x.clients freed in
+    let few = h.few in
+    let each = h.one_each in
+    record {
+      few = omega arith;
+      one_each = lines ∙ each ∙ sym long;
+      count = count;
+      reached = subst (λ (n : ℕ). IsCount header more n) (sym reached) (count_max header more x.reached y.records (count_longer header len more x.reached l h.reached) (inr count));
+      below = omega arith;
+      held = λ r z o e f. none r z o e f;
+      same = λ r q z w o p e f g k. none r z o e g;
+    }
+  where
+    none : {A : Type 0} (r : ℕ) (z : Client) (o : Offer) → slice_get y.clients r ≡ Some z → z.held ≡ Some o → A
+    none r z o e f = let no = freed_none x.clients r z (ap (λ (ss : List Client). slice_get ss r) (sym clients) ∙ e) in let never : None ≡ Some o = sym no ∙ f in absurd cc

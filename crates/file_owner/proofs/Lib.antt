@@ -1,0 +1,16 @@
+pub mod AlikeLaws
+mod GainedLaws
+mod EndLaws
+mod HaltedLaws
+mod HaltLaws
+mod StopLaws
+mod ArriveSteps
+mod RefusedSteps
+mod PutLaws
+mod AloneSteps
+mod HeldLaws
+mod LentLaws
+mod TogetherSteps
+mod StrangeLaws
+pub mod OwnerRuns
+mod RunLaws

@@ -1,0 +1,233 @@
+-- What a refused step leaves, as the owner's event has it.
+use Rattle.std.proofs.Common.{◌≡◌, ℕ, ◌<◌, length, refl, sym, ◌∙◌, ap, subst, inl, inr, ◌⊎◌, List, [], ◌∷◌, ◌++◌, max, set, Bool, true, false, Option, Some, None, arith}
+use Rattle.std.proofs.lemmas.List.{append-nil}
+use Rattle.std.proofs.lemmas.Option.{same_Some}
+use Rattle.std.specs.Prelude.{slice_get, flat_map, IfSome}
+use Rattle.std.specs.List.{enumerate_from, list_all}
+use Rattle.std.specs.Int.{byte_len}
+use Rattle.nc_base.specs.declared.plan.Batch.{Batch}
+use Rattle.nc_base.specs.declared.step.MeetKind.{MeetKind}
+use Rattle.nc_base.specs.declared.step.Offer.{Offer}
+use Rattle.nc_base.specs.declared.step.OfferKind.TheVariants as offer
+use Rattle.nc_base.specs.declared.step.RankItem.{RankItem}
+use Rattle.nc_base.specs.declared.step.RankItem.TheVariants as item
+use Rattle.nc_base.specs.declared.step.StepErr.{StepErr}
+use Rattle.nc_base.specs.declared.step.StepErr.TheVariants.{Memory}
+use Rattle.nc_outside.specs.Told.{after, BothTold}
+use Rattle.serial_spec.specs.Owner.{Owner, Event, Client, does_meeting, does_solo, event, holds, is_strange, meets_if, needed_now, offers_at, offers_held, offers_met, step_offers}
+use Rattle.serial_spec.specs.FileStep.{Setting, Counted, meeting, puts_of, solo}
+use Rattle.serial_spec.specs.HeaderBytes.{count_width}
+use Rattle.serial_spec.specs.History.{Arrival}
+use Rattle.serial_spec.specs.SharedByte.{Puts, covered}
+use Rattle.serial_spec.specs.Torn.{IsLeft, IsTorn, OwnerStoodAt}
+use Rattle.serial_spec.specs.Torn.OwnerStoodAt.{at_arrival, between_arrivals}
+use Rattle.collective_round.specs.Rounds.{counted, puts_in}
+use Rattle.collective_round.proofs.TornFiles.{torn_by, torn_wider}
+use Rattle.turn_run.specs.Steps.{batches_of, known_of, met, IsOneRise}
+use Rattle.turn_run.proofs.CutMeet.{met_count, met_done, met_torn}
+use Rattle.join_laws.proofs.StrangeLaws.{event_is}
+use Rattle.turn_run.proofs.MeetStep.{met_is, puts_same}
+use Rattle.file_owner.specs.Owned.{owner_at, HoldSingle, IsSingle, IsSingleOffer, Standing}
+use Rattle.file_owner.specs.Refused.{IsFaultAt, IsRefusedAlone, IsRefusedArrival, IsRefusedTogether}
+use Rattle.file_owner.proofs.ArriveSteps.{offer_event, single_set, with_clients}
+use Rattle.list_laws.proofs.Places.{entry_below}
+use Rattle.join_laws.proofs.ClientTurns.{client_held}
+
+-- ---- a number's own step
+
+pub refused_alone : (s : Setting) (r c : ℕ) (o : Offer) (b : Standing) (left : Option (List ℕ))
+    → BothTold (λ old left. IsTorn (covered s.header (puts_of (r, o))) 0 old (solo s r o (counted old 0)).0.file left) b.told left → IsRefusedAlone s c (r, o) b left b.records
+refused_alone s r c o b left torn = by_told b.told torn
+  where
+    by_told : (m : Option (List ℕ)) → BothTold (λ old left. IsTorn (covered s.header (puts_of (r, o))) 0 old (solo s r o (counted old 0)).0.file left) m left
+        → IfSome m (λ file. (now : List ℕ) × (left ≡ Some now) × IsLeft s.header (covered s.header (puts_of (r, o))) (counted file b.records) (does_solo s (owner_at b file) r c o).owner.state now b.records)
+    by_told None t = tt
+    by_told (Some file) t =
+        (t.0, t.1, (torn_wider (covered s.header (puts_of (r, o))) (byte_len (count_width s.header.version)) file (solo s r o (counted file b.records)).0.file t.0 t.2, inl refl))
+
+-- ---- a meeting
+
+pub refused_together : (s : Setting) (b : Standing) (batches : List Batch) (known n : ℕ) (left : Option (List ℕ)) → batches ≡ batches_of (offers_held b.clients) → known ≡ known_of (offers_held b.clients)
+    → BothTold (λ old left. IsTorn (covered s.header (puts_in batches)) (byte_len (count_width s.header.version)) old (met s batches known (counted old b.records)).file left) b.told left
+    → (n ≡ b.records) ⊎ (n ≡ max b.records (max (needed_now s (puts_in batches)) known)) → IsRefusedTogether s b left n
+refused_together s b batches known n left e f torn count = by_told b.told torn
+  where
+    offers : List Offer
+    offers = offers_held b.clients
+
+    puts_are : covered s.header (puts_in batches) ≡ covered s.header (flat_map puts_of (enumerate_from 0 offers))
+    puts_are = sym (ap (λ (ps : Puts). covered s.header ps) (puts_same 0 offers ∙ ap puts_in (sym e)))
+
+    met_are : (file : List ℕ) → met s batches known (counted file b.records) ≡ (meeting s offers (counted file b.records)).0
+    met_are file = sym (met_is s offers batches known (counted file b.records) e f)
+
+    by_count : (file : List ℕ) → (n ≡ b.records) ⊎ (n ≡ max b.records (max (needed_now s (puts_in batches)) known)) → (n ≡ b.records) ⊎ (n ≡ (met s batches known (counted file b.records)).records)
+    by_count file (inl q) = inl q
+    by_count file (inr q) = inr (q ∙ sym (met_count s batches known file b.records))
+
+    by_told : (m : Option (List ℕ)) → BothTold (λ old left. IsTorn (covered s.header (puts_in batches)) (byte_len (count_width s.header.version)) old (met s batches known (counted old b.records)).file left) m left
+        → IfSome m (λ file. (now : List ℕ) × (left ≡ Some now) × IsLeft s.header (covered s.header (flat_map puts_of (enumerate_from 0 (offers_held b.clients)))) (counted file b.records)
+        (does_meeting s (owner_at b file) b.clients).owner.state now n)
+    by_told None t = tt
+    by_told (Some file) t = (
+      t.0,
+      t.1,
+      subst (λ (held : List ℕ). IsLeft s.header held (counted file b.records) (meeting s offers (counted file b.records)).0 t.0 n) puts_are
+          (subst (λ (new : Counted). IsLeft s.header (covered s.header (puts_in batches)) (counted file b.records) new t.0 n) (met_are file) (t.2, by_count file count)),
+    )
+
+-- nothing was begun
+pub none_together : (s : Setting) (b : Standing) (n : ℕ) (left : Option (List ℕ)) → left ≡ b.told → n ≡ b.records → IsRefusedTogether s b left n
+none_together s b n left same count =
+    refused_together s b (batches_of (offers_held b.clients)) (known_of (offers_held b.clients)) n left refl refl (by_told b.told same) (inl count)
+  where
+    batches : List Batch
+    batches = batches_of (offers_held b.clients)
+
+    known : ℕ
+    known = known_of (offers_held b.clients)
+
+    by_told : (m : Option (List ℕ)) → left ≡ m
+        → BothTold (λ old left. IsTorn (covered s.header (puts_in batches)) (byte_len (count_width s.header.version)) old (met s batches known (counted old b.records)).file left) m left
+    by_told None e = e
+    by_told (Some file) e =
+        let t = met_torn s batches b.records known file in
+        let long = t.long in (
+          file,
+          e,
+          torn_by (covered s.header (puts_in batches)) (byte_len (count_width s.header.version)) file (met s batches known (counted file b.records)).file file (omega arith) (omega arith)
+              (λ x h. inl refl) (λ x h l k. inl refl) (λ x h k. refl),
+        )
+
+-- by the steps of the call
+pub none_once : (s : Setting) (b : Standing) (n : ℕ) (left : Option (List ℕ)) → left ≡ b.told → n ≡ b.records → HoldSingle b.clients → IsRefusedTogether s b left n
+none_once s b n left same count single = none_together s b n left same count
+
+pub refused_once : (s : Setting) (b : Standing) (batches : List Batch) (known n : ℕ) (left : Option (List ℕ)) → batches ≡ batches_of (offers_held b.clients) → known ≡ known_of (offers_held b.clients)
+    → (HoldSingle b.clients → IsOneRise (known_of (offers_held b.clients)) (batches_of (offers_held b.clients)))
+    → (IsOneRise known batches → BothTold (λ old left. IsTorn (covered s.header (puts_in batches)) (byte_len (count_width s.header.version)) old (met s batches known (counted old b.records)).file left) b.told left)
+    → (IsOneRise known batches → (n ≡ b.records) ⊎ (n ≡ max b.records (max (needed_now s (puts_in batches)) known))) → HoldSingle b.clients → IsRefusedTogether s b left n
+refused_once s b batches known n left e f once torn count single =
+    let one : IsOneRise known batches =
+    subst (λ (k : ℕ). IsOneRise k batches) (sym f) (subst (λ (bs : List Batch). IsOneRise (known_of (offers_held b.clients)) bs) (sym e) (once single)) in
+    refused_together s b batches known n left e f (torn one) (count one)
+
+pub done_once : (s : Setting) (b : Standing) (batches : List Batch) (known n : ℕ) (left : Option (List ℕ)) → batches ≡ batches_of (offers_held b.clients) → known ≡ known_of (offers_held b.clients)
+    → left ≡ after (λ file. (met s batches known (counted file b.records)).file) b.told → n ≡ max b.records (max (needed_now s (puts_in batches)) known) → HoldSingle b.clients → IsRefusedTogether s b left n
+done_once s b batches known n left e f bytes count single = refused_together s b batches known n left e f (met_done s batches b.records known b.told left bytes) (inr count)
+
+-- ---- an arrival
+
+-- that brings an end, at which nothing is done
+pub arrival_ended : (s : Setting) (b : Standing) (r n : ℕ) (i : RankItem) (memory : Bool) (left : Option (List ℕ)) → i ≡ item.Ended memory → r < length b.clients → left ≡ b.told → n ≡ b.records
+    → IsRefusedArrival s (r, i) b left n
+arrival_ended s b r n i memory left is low same count = subst (λ (j : RankItem). IsRefusedArrival s (r, j) b left n) (sym is) (by_told b.told same)
+  where
+    held : List ℕ → List ℕ
+    held file = covered s.header (flat_map puts_of (step_offers (owner_at b file) (r, item.Ended memory)))
+
+    kept : (file : List ℕ) → IsLeft s.header (held file) (counted file b.records) (counted file b.records) file n
+    kept file = (
+      torn_by (held file) (byte_len (count_width s.header.version)) file file file (omega arith) (omega arith) (λ x h. inl refl) (λ x h l k. inl refl) (λ x h k. refl),
+      inl count,
+    )
+
+    by_told : (m : Option (List ℕ)) → left ≡ m
+        → IfSome m (λ file. (now : List ℕ) × (left ≡ Some now) × IsLeft s.header (held file) (counted file b.records) (event s (owner_at b file) (r, item.Ended memory)).owner.state now n)
+    by_told None f = tt
+    by_told (Some file) f =
+        let there = entry_below b.clients r low in (
+          file,
+          f,
+          subst (λ (v : Event). IsLeft s.header (held file) (counted file b.records) v.owner.state file n) (sym (event_is s (owner_at b file) r (item.Ended memory) there.0 there.1)) (kept file),
+        )
+
+-- that brings its number's own step
+pub arrival_alone : (s : Setting) (b : Standing) (r c n : ℕ) (i : RankItem) (o : Offer) (x : Client) (left : Option (List ℕ)) → i ≡ item.Offer c o → slice_get b.clients r ≡ Some x → o.kind ≡ offer.Solo
+    → IsRefusedAlone s c (r, o) b left n → IsRefusedArrival s (r, i) b left n
+arrival_alone s b r c n i o x left is e k h = subst (λ (j : RankItem). IsRefusedArrival s (r, j) b left n) (sym is) (by_told b.told h)
+  where
+    offers : (file : List ℕ) → step_offers (owner_at b file) (r, item.Offer c o) ≡ (r, o) ∷ []
+    offers file = ap (λ (m : Option Client). elim m [ None ↦ [] | Some y ↦ offers_at (owner_at b file) r o y o.kind ]) e ∙ ap (offers_at (owner_at b file) r o x) k
+
+    bytes : (file : List ℕ) → covered s.header (puts_of (r, o)) ≡ covered s.header (flat_map puts_of (step_offers (owner_at b file) (r, item.Offer c o)))
+    bytes file = sym (ap (λ (os : List (ℕ × Offer)). covered s.header (flat_map puts_of os)) (offers file) ∙ ap (λ (ps : Puts). covered s.header ps) (append-nil (puts_of (r, o))))
+
+    by_told : (m : Option (List ℕ))
+        → IfSome m (λ file. (now : List ℕ) × (left ≡ Some now) × IsLeft s.header (covered s.header (puts_of (r, o))) (counted file b.records) (does_solo s (owner_at b file) r c o).owner.state now n)
+        → IfSome m (λ file. (now : List ℕ) × (left ≡ Some now) × IsLeft s.header (covered s.header (flat_map puts_of (step_offers (owner_at b file) (r, item.Offer c o)))) (counted file b.records)
+        (event s (owner_at b file) (r, item.Offer c o)).owner.state now n)
+    by_told None t = tt
+    by_told (Some file) t = (
+      t.0,
+      t.1,
+      subst (λ (held : List ℕ). IsLeft s.header held (counted file b.records) (event s (owner_at b file) (r, item.Offer c o)).owner.state t.0 n) (bytes file)
+          (subst (λ (ev : Event). IsLeft s.header (covered s.header (puts_of (r, o))) (counted file b.records) ev.owner.state t.0 n)
+          (sym (offer_event s (owner_at b file) r c o x offer.Solo e k)) t.2),
+    )
+
+-- that brings a meeting
+pub arrival_together : (s : Setting) (b : Standing) (r c n : ℕ) (i : RankItem) (o : Offer) (x y : Client) (kind : MeetKind) (left : Option (List ℕ)) → i ≡ item.Offer c o → slice_get b.clients r ≡ Some x
+    → y ≡ client_held x o → o.kind ≡ offer.Meet kind → list_all holds (set b.clients r y) ≡ true
+    → (HoldSingle (set b.clients r y) → IsRefusedTogether s (with_clients b (set b.clients r y)) left n) → HoldSingle b.clients → IsSingle i → IsRefusedArrival s (r, i) b left n
+arrival_together s b r c n i o x y kind left is e f k all h held single =
+    subst (λ (j : RankItem). IsRefusedArrival s (r, j) b left n) (sym is)
+    (by_told b.told (subst (λ (z : Client). IsRefusedTogether s (with_clients b (set b.clients r z)) left n) f (h alone)))
+  where
+    own : IsSingleOffer o
+    own = subst (λ (j : RankItem). IsSingle j) is single
+
+    alone : HoldSingle (set b.clients r y)
+    alone = single_set b.clients r x y e held (λ p g. subst IsSingleOffer (same_Some o p (sym (ap (λ (z : Client). z.held) f) ∙ g)) own)
+
+    clients : List Client
+    clients = set b.clients r (client_held x o)
+
+    every : list_all holds (set b.clients r (client_held x o)) ≡ true
+    every = ap (λ (z : Client). list_all holds (set b.clients r z)) (sym f) ∙ all
+
+    offers : (file : List ℕ) → step_offers (owner_at b file) (r, item.Offer c o) ≡ enumerate_from 0 (offers_held (set b.clients r (client_held x o)))
+    offers file =
+        ap (λ (m : Option Client). elim m [ None ↦ [] | Some z ↦ offers_at (owner_at b file) r o z o.kind ]) e ∙ ap (offers_at (owner_at b file) r o x) k
+        ∙ ap (offers_met (set b.clients r (client_held x o))) every
+
+    to : (file : List ℕ) → event s (owner_at b file) (r, item.Offer c o) ≡ does_meeting s (owner_at b file) (set b.clients r (client_held x o))
+    to file = offer_event s (owner_at b file) r c o x (offer.Meet kind) e k ∙ ap (meets_if s (owner_at b file) (set b.clients r (client_held x o))) every
+
+    by_told : (m : Option (List ℕ))
+        → IfSome m (λ file. (now : List ℕ) × (left ≡ Some now) × IsLeft s.header (covered s.header (flat_map puts_of (enumerate_from 0 (offers_held (set b.clients r (client_held x o)))))) (counted file b.records)
+        (does_meeting s (owner_at b file) (set b.clients r (client_held x o))).owner.state now n)
+        → IfSome m (λ file. (now : List ℕ) × (left ≡ Some now) × IsLeft s.header (covered s.header (flat_map puts_of (step_offers (owner_at b file) (r, item.Offer c o)))) (counted file b.records)
+        (event s (owner_at b file) (r, item.Offer c o)).owner.state now n)
+    by_told None t = tt
+    by_told (Some file) t = (
+      t.0,
+      t.1,
+      subst (λ (os : List (ℕ × Offer)). IsLeft s.header (covered s.header (flat_map puts_of os)) (counted file b.records) (event s (owner_at b file) (r, item.Offer c o)).owner.state t.0 n) (sym (offers file))
+          (subst (λ (ev : Event). IsLeft s.header (covered s.header (flat_map puts_of (enumerate_from 0 (offers_held (set b.clients r (client_held x o)))))) (counted file b.records) ev.owner.state t.0 n) (sym (to file)) t.2),
+    )
+
+-- ---- where the owner stood
+
+pub fault_at : (s : Setting) (e : StepErr) (b : Standing) (a : Arrival) (n : ℕ) (left : Option (List ℕ)) → ((file : List ℕ) → is_strange s (owner_at b file) a ≡ false)
+    → (HoldSingle b.clients → IsSingle a.1 → IsRefusedArrival s a b left n) → IsFaultAt s e b (a ∷ []) n left
+fault_at s e b a n left fit h = λ held single. by_told b.told (h held (single a (inl refl)))
+  where
+    by_told : (m : Option (List ℕ))
+        → IfSome m (λ file. (now : List ℕ) × (left ≡ Some now) × IsLeft s.header (covered s.header (flat_map puts_of (step_offers (owner_at b file) a))) (counted file b.records) (event s (owner_at b file) a).owner.state now n)
+        → IfSome m (λ file. (now : List ℕ) × (left ≡ Some now) × OwnerStoodAt s e (owner_at b file) (a ∷ []) now n)
+    by_told None t = tt
+    by_told (Some file) t = (t.0, t.1, at_arrival a [] refl (fit file) t.2)
+
+-- nothing arrived yet
+pub fault_none : (s : Setting) (e : StepErr) (b : Standing) (n : ℕ) (left : Option (List ℕ)) → e ≡ Memory → left ≡ b.told → n ≡ b.records → IsFaultAt s e b [] n left
+fault_none s e b n left memory same count = λ held single. by_told b.told same
+  where
+    by_told : (m : Option (List ℕ)) → left ≡ m → IfSome m (λ file. (now : List ℕ) × (left ≡ Some now) × OwnerStoodAt s e (owner_at b file) [] now n)
+    by_told None k = tt
+    by_told (Some file) k = (file, k, between_arrivals memory refl count)
+
+-- whatever comes later
+pub stood_later : (s : Setting) (e : StepErr) (d : Owner) (later more : List Arrival) (left : List ℕ) (n : ℕ) → OwnerStoodAt s e d later left n → OwnerStoodAt s e d (later ++ more) left n
+stood_later s e d later more left n (at_arrival a others is fit l) = at_arrival a (others ++ more) (ap (λ (xs : List Arrival). xs ++ more) is) fit l
+stood_later s e d later more left n (between_arrivals memory l k) = between_arrivals memory l k

@@ -1,0 +1,150 @@
+-- The meeting of what is held, as the disk, the order and the lines show it.
+use Rattle.std.proofs.Common.{◌≡◌, ℕ, zero, suc, ◌+◌, ◌≤◌, refl, sym, ◌∙◌, ap, subst, List, [], ◌∷◌, ◌++◌, length, map, max, Option, Some, None, arith}
+use Rattle.std.specs.Prelude.{slice_get, flat_map, IfSome}
+use Rattle.std.specs.List.{enumerate_from}
+use Rattle.nc_base.specs.declared.answer.Pair.{Pair}
+use Rattle.nc_base.specs.declared.plan.Batch.{Batch}
+use Rattle.nc_base.specs.declared.script.Hints.{Hints}
+use Rattle.nc_base.specs.declared.step.Mark.TheVariants.{Meet}
+use Rattle.nc_base.specs.declared.step.Offer.{Offer}
+use Rattle.nc_base.specs.declared.step.Reply as reply
+use Rattle.nc_outside.specs.Told.{after, with_end}
+use Rattle.serial_spec.specs.Owner.{Client, does_meeting, freed, needed_now, offers_held, to_each}
+use Rattle.serial_spec.specs.DeviceCalls.{meeting_calls}
+use Rattle.serial_spec.specs.FileStep.{Counted, Setting, after_puts, get_post, meeting, puts_of, told}
+use Rattle.serial_spec.specs.RankSide.{wanted}
+use Rattle.serial_spec.specs.SharedByte.{Puts}
+use Rattle.collective_round.specs.Rounds.{counted, puts_in}
+use Rattle.join_laws.specs.Alike.{AreAlike}
+use Rattle.file_owner.specs.Owned.{owner_at, replies, GoesSo, Grows, HoldSingle, IsTogether, Standing}
+use Rattle.turn_run.specs.Running.{reply_of}
+use Rattle.turn_run.specs.Steps.{batches_of, known_of, met, met_calls, IsOneRise}
+use Rattle.join_laws.proofs.ReplyLaws.{gots_long}
+use Rattle.file_owner.proofs.HeldLaws.{freed_none}
+use Rattle.turn_run.proofs.MeetStep.{met_calls_are, met_is, puts_same, replies_are}
+use Rattle.list_laws.proofs.Optional.{if_some_at}
+use Rattle.list_laws.proofs.Maps.{map_map}
+use Rattle.serial_spec.proofs.CountLaws.{raised_records}
+
+abbrev lens : List (List ℕ) → List ℕ
+lens blobs = map (λ blob. length blob) blobs
+
+-- ---- the replies
+
+reply_made : Setting → Option Pair → Counted → Offer → reply.Reply
+reply_made s pair next o = record { pair = pair; records = next.records; got = map (get_post s next.file) o.batch.gets }
+
+each_alike : (s : Setting) (pair same : Option Pair) (n : ℕ) (next : Counted) (table : List (List (List ℕ))) (offers : List Offer) (q : ℕ) → pair ≡ same → n ≡ next.records
+    → map lens table ≡ map (λ (o : Offer). map (wanted s.header) o.batch.gets) offers → AreAlike (replies pair n table q) (to_each (map (reply_made s same next) offers) q)
+unfolding reply_made
+each_alike s pair same n next [] [] q e f g = tt
+each_alike s pair same n next [] (o ∷ offers) q e f g = absurd cc
+each_alike s pair same n next (blobs ∷ table) [] q e f g = absurd cc
+each_alike s pair same n next (blobs ∷ table) (o ∷ offers) zero e f g =
+    (record { pair = e; records = f; lengths = first g ∙ sym (gots_long s next.file o.batch.gets) }, tt)
+  where
+    first : (lens blobs ∷ map lens table) ≡ (map (wanted s.header) o.batch.gets ∷ map (λ (p : Offer). map (wanted s.header) p.batch.gets) offers) → lens blobs ≡ map (wanted s.header) o.batch.gets
+    first h = cc
+each_alike s pair same n next (blobs ∷ table) (o ∷ offers) (suc q) e f g = each_alike s pair same n next table offers q e f (rest g)
+  where
+    rest : (lens blobs ∷ map lens table) ≡ (map (wanted s.header) o.batch.gets ∷ map (λ (p : Offer). map (wanted s.header) p.batch.gets) offers)
+        → map lens table ≡ map (λ (p : Offer). map (wanted s.header) p.batch.gets) offers
+    rest h = cc
+
+replies_each : (pair : Option Pair) (n : ℕ) (table : List (List (List ℕ))) (q : ℕ) → replies pair n table q ≡ to_each (map (reply_of pair n) table) q
+replies_each pair n [] q = refl
+replies_each pair n (blobs ∷ table) zero = refl
+replies_each pair n (blobs ∷ table) (suc q) = replies_each pair n table q
+
+-- ---- the meeting
+
+-- what the meeting of what is held came to
+pub record Came (s : Setting) (hints : Hints) (b n : Standing) (batches : List Batch) (known : ℕ) (pair : Option Pair) (table : List (List (List ℕ))) : Type 0 where
+  pub batches_are : batches ≡ batches_of (offers_held b.clients)
+  pub known_is : known ≡ known_of (offers_held b.clients)
+  pub known_low : known_of (offers_held b.clients) ≤ b.reached
+  pub below : b.records ≤ b.reached
+  pub pair_is : pair ≡ told s (puts_in batches)
+  pub records : n.records ≡ max b.records (max (needed_now s (puts_in batches)) known)
+  pub bytes : n.told ≡ after (λ file. (met s batches known (counted file b.records)).file) b.told
+  pub got : IfSome n.told (λ file. table ≡ map (λ b. map (get_post s file) b.gets) batches)
+  pub fits : map lens table ≡ map (λ b. map (wanted s.header) b.gets) batches
+  pub calls : IsOneRise known batches → IfSome b.told (λ file. n.calls ≡ with_end b.calls (met_calls hints s batches known (counted file b.records)))
+  pub once : HoldSingle b.clients → IsOneRise (known_of (offers_held b.clients)) (batches_of (offers_held b.clients))
+  pub order : n.order ≡ b.order ++ Meet b.met ∷ []
+  pub heard : n.heard ≡ with_end b.heard ((Meet b.met, n.records) ∷ [])
+  pub clients : n.clients ≡ map freed b.clients
+  pub met_more : n.met ≡ b.met + 1
+  pub reached : n.reached ≡ max b.reached n.records
+  pub lines : Grows b.lines (replies pair n.records table) n.lines
+
+pub together : (s : Setting) (hints : Hints) (b n : Standing) (batches : List Batch) (known : ℕ) (pair : Option Pair) (table : List (List (List ℕ)))
+    → Came s hints b n batches known pair table → IsTogether hints s b n
+unfolding reply_made
+together s hints b n batches known pair table h = record {
+  more = replies pair n.records table;
+  lines = h.lines;
+  alike = λ file. record {
+    owner = λ i. record { clients = sym h.clients i; met = met_is_more i; state = counted (meeting s offers (counted file b.records)).0.file (count file i); reached = reached_is i };
+    marks = h.order;
+    heard = h.heard ∙ ap (λ (k : ℕ). with_end b.heard ((Meet b.met, k) ∷ [])) (sym (count file));
+    given = λ q l. each_alike s pair (told s (flat_map puts_of (enumerate_from 0 offers))) n.records (meeting s offers (counted file b.records)).0 table offers q same_pair (sym (count file)) fits;
+  };
+  exact = exact b.told refl;
+  single = λ once r x o e f.
+      let no = freed_none b.clients r x (ap (λ (ss : List Client). slice_get ss r) (sym h.clients) ∙ e) in
+      let never : None ≡ Some o = sym no ∙ f in
+      absurd cc;
+}
+  where
+    offers : List Offer
+    offers = offers_held b.clients
+
+    puts_are : flat_map puts_of (enumerate_from 0 (offers_held b.clients)) ≡ puts_in batches
+    puts_are = puts_same 0 (offers_held b.clients) ∙ ap puts_in (sym h.batches_are)
+
+    same_pair : pair ≡ told s (flat_map puts_of (enumerate_from 0 (offers_held b.clients)))
+    same_pair = h.pair_is ∙ ap (told s) (sym puts_are)
+
+    met_is_more : suc b.met ≡ n.met
+    met_is_more = let e = h.met_more in omega arith
+
+    count_of : (file : List ℕ) → n.records ≡ (met s batches known (counted file b.records)).records
+    count_of file = h.records ∙ sym (raised_records s (counted (after_puts s (puts_in batches) (told s (puts_in batches)) file) b.records) (max (needed_now s (puts_in batches)) known))
+
+    count : (file : List ℕ) → (meeting s (offers_held b.clients) (counted file b.records)).0.records ≡ n.records
+    count file = ap (λ (c : Counted). c.records) (met_is s (offers_held b.clients) batches known (counted file b.records) h.batches_are h.known_is) ∙ sym (count_of file)
+
+    reached_is : max b.reached (needed_now s (flat_map puts_of (enumerate_from 0 (offers_held b.clients)))) ≡ n.reached
+    reached_is =
+        let need = ap (λ (puts : Puts). needed_now s puts) puts_are in
+        let a = h.reached in
+        let d = h.records in
+        let e = h.known_is in
+        let f = h.known_low in
+        let g = h.below in
+        omega arith
+
+    fits : map lens table ≡ map (λ (o : Offer). map (wanted s.header) o.batch.gets) (offers_held b.clients)
+    fits =
+        h.fits ∙ ap (λ (bs : List Batch). map (λ b. map (wanted s.header) b.gets) bs) h.batches_are
+        ∙ map_map (λ (b : Batch). map (wanted s.header) b.gets) (λ (o : Offer). o.batch) (offers_held b.clients)
+
+    once : HoldSingle b.clients → IsOneRise known batches
+    once alone = subst (λ (k : ℕ). IsOneRise k batches) (sym h.known_is) (subst (λ (bs : List Batch). IsOneRise (known_of (offers_held b.clients)) bs) (sym h.batches_are) (h.once alone))
+
+    exact : (m : Option (List ℕ)) → b.told ≡ m
+        → IfSome m (λ file. GoesSo (HoldSingle b.clients) (does_meeting s (owner_at b file) b.clients) (meeting_calls hints s (offers_held b.clients) (counted file b.records)) (replies pair n.records table) b n)
+    exact None e = tt
+    exact (Some file) e =
+        let c = counted file b.records in
+        let left = h.bytes ∙ ap (after (λ file. (met s batches known (counted file b.records)).file)) e in
+        let got = if_some_at (λ x. table ≡ map (λ b. map (get_post s x) b.gets) batches) n.told (met s batches known c).file left h.got in
+        let all = replies_are s (offers_held b.clients) batches known n.records c pair table h.batches_are h.known_is h.pair_is (count_of file) got in
+        record {
+          told = left ∙ ap (λ (d : Counted). Some d.file) (sym (met_is s (offers_held b.clients) batches known c h.batches_are h.known_is));
+          given = λ q l. replies_each pair n.records table q ∙ ap (λ (ys : List reply.Reply). to_each ys q) (sym all);
+          calls = λ alone.
+              if_some_at (λ x. n.calls ≡ with_end b.calls (met_calls hints s batches known (counted x b.records))) b.told file e (h.calls (once alone))
+              ∙ ap (with_end b.calls) (sym (met_calls_are hints s (offers_held b.clients) batches known c h.batches_are h.known_is));
+        }

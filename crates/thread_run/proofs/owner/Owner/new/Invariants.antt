@@ -1,7 +1,0 @@
--- So many clients are free.
-use Rattle.std.proofs.Common.{◌≡◌, replicate}
-use Rattle.serial_spec.specs.Owner.{free_client}
-use Rattle.thread_run.proofs.owner.Owner.new.Given as goal
-
-abbrev pub invariant-loop : goal.invariant-loop
-invariant-loop l = l.clients.items ≡ replicate l.counter free_client

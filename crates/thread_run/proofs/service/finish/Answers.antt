@@ -1,6 +1,0 @@
--- Where each number has ended nothing comes any more.
-use Rattle.thread_run.proofs.HaltLaws.{finish_ended}
-use Rattle.thread_run.proofs.service.finish.Goals as goal
-
-pub returns-in-Ended : goal.returns-in-Ended
-returns-in-Ended g c = finish_ended c.args.inbox.now c.args.back.now c.args.senders.now.ended c.args.halt c.in-Ended.is c.requires.ended

@@ -1,8 +1,0 @@
--- The numbers so far have their stops.
-use Rattle.thread_run.specs.Owned.{Grows}
-use Rattle.thread_run.specs.Stops.{held_stops}
-use Rattle.thread_run.proofs.PutLaws.{below}
-use Rattle.thread_run.proofs.stops.stop_held.Given as goal
-
-abbrev pub invariant-loop-number : goal.invariant-loop-number
-invariant-loop-number g l = Grows l.initial.back (below l.number (held_stops l.clients)) l.back

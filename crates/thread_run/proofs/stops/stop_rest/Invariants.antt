@@ -1,6 +1,0 @@
--- Each offer that was taken so far has its stop.
-use Rattle.thread_run.specs.Stops.{HaveMet}
-use Rattle.thread_run.proofs.stops.stop_rest.Given as goal
-
-abbrev pub invariant-loop : goal.invariant-loop
-invariant-loop g l = HaveMet l.initial.inbox l.inbox l.initial.back l.back l.initial.senders.ended l.senders.ended

@@ -1,6 +1,0 @@
-use Rattle.std.proofs.Common.{ℕ, List, ap, arith}
-use Rattle.serial_spec.specs.Layout.{product}
-use Rattle.thread_run.proofs.strange.elements_of.Goals as goal
-
-pub returns : goal.returns
-returns c = let counted = ap (λ (l : List ℕ). product l) c.as_slice.ensures in omega (arith, c.element_count.ensures, counted, c.requires)
