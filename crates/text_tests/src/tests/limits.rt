@@ -123,8 +123,8 @@ const OF_LINES: [Pieces; 10] = [
     },
 ];
 
-// The most lines and bytes that a text may have, and more.
-const OF_TEXTS: [Pieces; 5] = [
+// The most lines that a text may have, and more.
+const MANY_LINES: [Pieces; 3] = [
     Pieces {
         before: "create 1\nranks 1\ndata\n",
         piece: "\n",
@@ -146,6 +146,10 @@ const OF_TEXTS: [Pieces; 5] = [
         after: "",
         fault: Some((1_048_577, ScriptKind::Limit(LimitName::Lines))),
     },
+];
+
+// The most bytes, and one more.
+const MANY_BYTES: [Pieces; 2] = [
     Pieces {
         before: "",
         piece: BLANKS,
@@ -176,6 +180,11 @@ fn names_lists_and_values_have_limits(rt: HostRuntime) {
 }
 
 #[test]
-fn a_text_has_limits(rt: HostRuntime) {
-    all_found(&rt, rt.alloc(), &OF_TEXTS)
+fn a_text_has_up_to_2_to_the_20_lines(rt: HostRuntime) {
+    all_found(&rt, rt.alloc(), &MANY_LINES)
+}
+
+#[test]
+fn a_text_has_up_to_2_to_the_26_bytes(rt: HostRuntime) {
+    all_found(&rt, rt.alloc(), &MANY_BYTES)
 }
