@@ -1,5 +1,13 @@
-use Rattle.std.proofs.Common.{◌∙◌, sym, ap, ℕ, Some, arith}
+use Rattle.std.proofs.Common.{List, ◌≡◌, ◌∙◌, sym, ap, ℕ, Some, arith}
+use Rattle.std.specs.Prelude.{ℤ, pos}
+use Rattle.std.proofs.lemmas.Int.{to_z-of_z}
+use mir.Syntax.{w128}
+use mir.Val.{to_z, of_z}
+use Rattle.nc_base.specs.declared.bits.BitRun.{BitRun}
 use Rattle.nc_base.proofs.BitLaws.{found, skipped}
+use Rattle.std.specs.Prelude.{slice_get}
+use Rattle.std.proofs.lemmas.List.{at_drop_all}
+use Rattle.nc_base.specs.BitForms.{bits_of_runs}
 use Rattle.nc_base.proofs.bits.pattern_in_runs.Goals as goal
 
 pub returns-then-left-run : goal.returns-then-left-run
@@ -11,4 +19,9 @@ returns-then-left-run c =
 pub loop-run-preserved : goal.loop-run-preserved
 loop-run-preserved c =
     sym (skipped c.args.runs.now c.loop-run.run-index c.loop-run.left _ (record { first = 0; step = 0; count = 0 }) c.loop-run-test.true (omega (arith, c.if-left-run.false)))
+    ∙ c.loop-run.invariant
+
+pub returns : goal.returns
+returns c =
+    sym (at_drop_all (λ (l : List BitRun). slice_get (bits_of_runs l) c.loop-run.left) c.args.runs.now c.loop-run.run-index c.loop-run-test.false)
     ∙ c.loop-run.invariant

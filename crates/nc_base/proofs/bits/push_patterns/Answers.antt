@@ -1,3 +1,5 @@
+use Rattle.std.proofs.Common.{ℕ, ◌∙◌, ◌++◌, ap, arith}
+use Rattle.nc_base.specs.BitForms.{bit_steps}
 use Rattle.nc_base.proofs.BitLaws.{pushed}
 use Rattle.nc_base.proofs.bits.push_patterns.Goals as goal
 
@@ -5,3 +7,6 @@ pub loop-k-preserved : goal.loop-k-preserved
 loop-k-preserved c =
     pushed c.args.out.now.items c.loop-k.out.items c.push.new.self.items c.args.run.first c.args.run.step c.loop-k.k c.at.result
     c.loop-k.invariant c.in_ok-push.ensures.items c.at.ensures
+
+pub returns : goal.returns
+returns c = c.loop-k.invariant ∙ ap (λ (n : ℕ). c.args.out.now.items ++ bit_steps c.args.run.first c.args.run.step n) (omega (arith, c.loop-k-test.false, c.loop-k.auto.k-end))

@@ -1,5 +1,14 @@
+use Rattle.std.proofs.Common.{◌∙◌, ap, List, length}
+use Rattle.std.proofs.lemmas.List.{take_all}
+use Rattle.nc_base.specs.declared.numbers.NumberRun.{NumberRun}
+use Rattle.nc_base.specs.NumberForms.{numbers_of_runs}
 use Rattle.nc_base.proofs.RunLaws.{counted}
 use Rattle.nc_base.proofs.numbers.count_of_runs.Goals as goal
 
 pub loop-run-preserved : goal.loop-run-preserved
 loop-run-preserved c = counted c.args.runs.now c.loop-run.run-index _ _ _ c.loop-run-test.true c.loop-run.invariant c.in_ok-count.ensures.1
+
+pub returns : goal.returns
+returns c =
+    c.loop-run.invariant
+    ∙ ap (λ (l : List NumberRun). length (numbers_of_runs l)) (take_all c.loop-run.run-index c.args.runs.now c.loop-run-test.false)

@@ -1,9 +1,13 @@
-use Rattle.std.proofs.Common.{◌≡◌, ◌∙◌, sym, ap, Some, arith}
+use Rattle.std.proofs.Common.{List, ◌≡◌, ◌∙◌, sym, ap, ℕ, Some, arith}
 use Rattle.std.specs.Prelude.{ℤ, pos}
 use Rattle.std.proofs.lemmas.Int.{to_z-of_z}
 use mir.Syntax.{w128}
 use mir.Val.{to_z, of_z}
+use Rattle.nc_base.specs.declared.numbers.NumberRun.{NumberRun}
 use Rattle.nc_base.proofs.RunLaws.{found, skipped}
+use Rattle.std.specs.Prelude.{slice_get}
+use Rattle.std.proofs.lemmas.List.{at_drop_all}
+use Rattle.nc_base.specs.NumberForms.{numbers_of_runs}
 use Rattle.nc_base.proofs.numbers.number_in_runs.Goals as goal
 
 pub returns-then-left-run : goal.returns-then-left-run
@@ -16,4 +20,9 @@ returns-then-left-run c =
 pub loop-run-preserved : goal.loop-run-preserved
 loop-run-preserved c =
     sym (skipped c.args.runs.now c.loop-run.run-index c.loop-run.left _ (record { first = pos 0; step = pos 0; count = 0 }) c.loop-run-test.true (omega (arith, c.if-left-run.false)))
+    ∙ c.loop-run.invariant
+
+pub returns : goal.returns
+returns c =
+    sym (at_drop_all (λ (l : List NumberRun). slice_get (numbers_of_runs l) c.loop-run.left) c.args.runs.now c.loop-run.run-index c.loop-run-test.false)
     ∙ c.loop-run.invariant

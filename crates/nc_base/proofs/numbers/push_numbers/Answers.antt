@@ -1,4 +1,5 @@
-use Rattle.std.proofs.Common.{◌≡◌, ◌++◌, ◌∷◌, [], arith}
+use Rattle.std.proofs.Common.{◌≡◌, ℕ, ◌∙◌, ◌++◌, ◌∷◌, [], ap, arith}
+use Rattle.nc_base.specs.NumberForms.{steps}
 use Rattle.std.proofs.lemmas.Grind.{common_steps}
 use Rattle.std.proofs.lemmas.Int.{to_z-of_z}
 use Rattle.nc_base.proofs.RunLaws.{pushed}
@@ -9,3 +10,6 @@ loop-k-preserved c =
     let added : c.push.new.self.items ≡ c.loop-k.out.items ++ c.at.result ∷ [] = grind (arith, common_steps, to_z-of_z) in
     pushed c.args.out.now.items c.loop-k.out.items c.push.new.self.items c.args.run.first c.args.run.step c.loop-k.k c.at.result
     c.loop-k.invariant added c.at.ensures
+
+pub returns : goal.returns
+returns c = c.loop-k.invariant ∙ ap (λ (n : ℕ). c.args.out.now.items ++ steps c.args.run.first c.args.run.step n) (omega (arith, c.loop-k-test.false, c.loop-k.auto.k-end))
