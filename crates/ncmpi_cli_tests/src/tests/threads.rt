@@ -155,19 +155,9 @@ const WAYS: [&[u8]; 3] = [
     b"hint line_room 64\n",
 ];
 
-// What a script leaves that ends well by a way.
-fn run<R: Abort + Threads + Wait + Sync>(
-    rt: &R,
-    alloc: Global,
-    head: &[u8],
-    way: &[u8],
-    calls: &[u8],
-) -> Ended {
-    let script = [head, way, VECTOR, calls];
-    let run = Run {
-        script: script.as_slice(),
-        ..PLAIN
-    };
+// What a script of these parts leaves that ends well.
+fn run<R: Abort + Threads + Wait + Sync>(rt: &R, alloc: Global, script: &[&[u8]]) -> Ended {
+    let run = Run { script, ..PLAIN };
     let end = left(rt, alloc, &run, &OpenGate);
     assert_eq!(rt; end.status, 0);
     end
@@ -182,9 +172,9 @@ fn are_the_same(rt: &impl Abort, one: &Ended, other: &Ended) {
 #[test]
 fn no_way_changes_a_byte_or_a_call(rt: HostRuntime) {
     for [head, calls] in &SCRIPTS {
-        let plain = run(&rt, rt.alloc(), head, ON, calls);
+        let plain = run(&rt, rt.alloc(), &[head, ON, VECTOR, calls]);
         for way in &WAYS {
-            let other = run(&rt, rt.alloc(), head, way, calls);
+            let other = run(&rt, rt.alloc(), &[head, way, VECTOR, calls]);
             are_the_same(&rt, &other, &plain);
         }
     }
