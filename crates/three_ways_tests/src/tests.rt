@@ -2,7 +2,7 @@
 mod made;
 mod worked;
 
-ghost use Rattle.std.specs.Prelude.{◌≡◌, true};
+ghost use Rattle.std.specs.Prelude.{◌≡◌, ◌≤◌, true};
 ghost use Rattle.serial_spec.specs.Lawful.{is_lawful};
 ghost use Rattle.serial_spec.specs.SoundHeaders.{is_sound};
 
@@ -31,10 +31,12 @@ fn program<R: Abort + Threads + Wait + Sync>(rt: &R, alloc: Global, run: &Run<'_
 
 fn script_of(rt: &impl Abort, alloc: Global, text: &[u8]) -> Script
     ensures lawful { is_lawful result ≡ true }
+    ensures ranks { 1 ≤ result.ranks }
 {
     let Ok(script) = read_script(alloc, text) else {
         panic!(rt; "script")
     };
+    assert!(rt; script.ranks >= 1);
     script
 }
 

@@ -1,6 +1,7 @@
 // A run of a script that is made from a seed. Its puts share no byte. So a run that lets later puts win ends the same, and the serial run
 // need not look for shared bytes, which takes it a time that grows with the square of what is put.
 ghost use Rattle.std.specs.Prelude.{◌≡◌, ◌≤◌, true};
+ghost use Rattle.script_spec.specs.Generator.{has_counts};
 ghost use Rattle.serial_spec.specs.Lawful.{is_lawful};
 
 use crate::tests::{joined, program, serial};
@@ -16,6 +17,7 @@ fn made<R: Abort>(rt: &R, alloc: Global, size: u32) -> Script
     requires some { 1 ≤ size }
     requires few { size ≤ 64 }
     ensures lawful { is_lawful result ≡ true }
+    ensures counted { has_counts result ≡ true }
 {
     let mut script = make_script(alloc, 0, size).expect(rt, NO_MEMORY);
     script.hints.overlap = OverlapRule::Serial;
