@@ -1,3 +1,4 @@
 mod VarLaws
 mod ListLaws
+mod DimLaws
 mod DraftWordLaws

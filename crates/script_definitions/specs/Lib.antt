@@ -1,1 +1,2 @@
 pub mod DraftWords
+pub mod RecordName

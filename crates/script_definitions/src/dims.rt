@@ -1,8 +1,10 @@
 // The dimensions of a script, in the order of their lines, with their names beside them.
-ghost use Rattle.std.specs.Prelude.{◌≡◌, ◌<◌, ◌++◌, ◌∷◌, [], OnOk, length, false, position, bytes_eq};
+ghost use Rattle.std.specs.Prelude.{◌≡◌, ◌<◌, ◌++◌, ◌∷◌, [], List, OnOk, length, false, position, bytes_eq, option_map};
 ghost use Rattle.std.specs.List.{list_any};
 ghost use Rattle.script_spec.specs.ScriptDefinitions.{is_among, is_unlimited, dim_line, dim_names, is_record_dim, is_added_record};
 ghost use Rattle.script_words.specs.Given.{Gives};
+ghost use Rattle.nc_base.specs.declared.header.Dim.{Dim};
+ghost use Rattle.script_definitions.specs.RecordName.{IsRecordName};
 
 use nc_base::{Dim, DimList, LimitName, MAX_DIMS, Memory, Name, ScriptKind};
 use script_words::word_forms::{dim_length, name, no_more};
@@ -15,20 +17,21 @@ pub struct Dims<'a> {
     alloc: Global,
     list: Vec<Dim>,
     names: Names<'a>,
-    unlimited: bool,
+    /// The name of the unlimited one.
+    unlimited: Option<&'a [u8]>,
 }
 
 impl<'a> Model for Dims<'a> {
-    ghost use Rattle.std.specs.Prelude.{◌≡◌, ◌≤◌, List, length};
-    ghost use Rattle.std.specs.List.{list_any};
-    ghost use Rattle.script_spec.specs.ScriptDefinitions.{is_unlimited, dim_names};
+    ghost use Rattle.std.specs.Prelude.{◌≡◌, ◌≤◌, List, length, option_map};
+    ghost use Rattle.script_spec.specs.ScriptDefinitions.{dim_names};
+    ghost use Rattle.script_definitions.specs.RecordName.{IsRecordName};
     ghost use Rattle.nc_base.specs.declared.header.Dim.{Dim};
 
     ghost Value = { List Dim };
 
     ghost view = { λ d. d.list.items };
 
-    ghost invariant = { λ d. (d.names ≡ dim_names d.list.items) × (d.unlimited ≡ list_any is_unlimited d.list.items) × (length d.list.items ≤ 1024) };
+    ghost invariant = { λ d. (d.names ≡ dim_names d.list.items) × (IsRecordName (option_map (λ n. n.now) d.unlimited) d.list.items) × (length d.list.items ≤ 1024) };
 }
 
 impl<'a> Dims<'a> {
@@ -39,7 +42,7 @@ impl<'a> Dims<'a> {
             alloc,
             list: Vec::new(alloc),
             names: Names::new(alloc),
-            unlimited: false,
+            unlimited: None,
         }
     }
 
@@ -78,10 +81,10 @@ impl<'a> Dims<'a> {
     pub fn is_named_record(&self, name: &[u8]) -> bool
         ensures { result ≡ is_added_record self.now name.now }
     {
-        self.list
-            .as_slice()
-            .iter()
-            .any(|dim| name == dim.name.as_slice() && dim.len == 0)
+        match self.unlimited {
+            Some(own) => name == own,
+            None => false,
+        }
     }
 
     /// The dimensions, in order.
@@ -95,7 +98,7 @@ impl<'a> Dims<'a> {
     pub fn has_unlimited(&self) -> bool
         ensures { result ≡ list_any is_unlimited self.now }
     {
-        self.unlimited
+        self.unlimited.is_some()
     }
 
     /// Reads the rest of a dimension's line.
@@ -117,17 +120,29 @@ impl<'a> Dims<'a> {
         Ok((name, len))
     }
 
-    /// Adds a dimension at the end.
+    /// Adds a dimension at the end. There is one at most that is unlimited.
     pub fn push(&mut self, name: &'a [u8], len: u64) -> Result<(), Memory>
         requires new { is_among name.now (dim_names self.old) ≡ false }
+        requires one { len ≡ 0 → list_any is_unlimited self.old ≡ false }
         requires room { length self.old < 1024 }
         ensures { OnOk result (self.new ≡ self.old ++ record { name = name.now; len = len } ∷ []) }
     {
         let owned = Name::from_slice(self.alloc, name)?;
         self.list.reserve(1)?;
         self.names.push(name)?;
-        self.unlimited = self.unlimited || len == 0;
+        self.unlimited = record_name(self.unlimited, name, len);
         self.list.push(Dim { name: owned, len })?;
         Ok(())
     }
+}
+
+/// The name of the unlimited dimension behind one more.
+fn record_name<'a>(known: Option<&'a [u8]>, name: &'a [u8], len: u64) -> Option<&'a [u8]>
+    ensures { (dims : List Dim) → IsRecordName (option_map (λ n. n.now) known.entry) dims → (len ≡ 0 → list_any is_unlimited dims ≡ false)
+        → IsRecordName (option_map (λ n. n.now) result) (dims ++ record { name = name.now; len = len } ∷ []) }
+{
+    if len == 0 {
+        return Some(name);
+    }
+    known
 }

@@ -1,0 +1,61 @@
+-- The one dimension that is unlimited, by its name.
+use Rattle.std.proofs.Common.{◌≡◌, ◌∙◌, ℕ, List, [], ◌∷◌, ◌++◌, ◌||◌, ◌&&◌, Bool, true, false, bytes_eq, cond, Option, None, Some, refl, sym, ap, ap₂}
+use Rattle.std.specs.Prelude.{◌==◌, is_some, option_map}
+use Rattle.std.specs.List.{list_any, filter}
+use Rattle.std.proofs.lemmas.List.{map-append}
+use Rattle.std.proofs.lemmas.List.Elements.{filter-append}
+use Rattle.nc_base.specs.declared.header.Dim.{Dim}
+use Rattle.script_spec.specs.ScriptDefinitions.{is_unlimited, is_added_record, dim_names}
+use Rattle.script_definitions.specs.RecordName.{IsRecordName}
+use Rattle.list_laws.proofs.Truth.{or_false}
+use Rattle.list_laws.proofs.Maps.{any_map}
+
+any_behind : {A : Type 0} (test : A → Bool) (x : A) (xs : List A) (rest passes kept : Bool) → test x ≡ passes → list_any test xs ≡ rest
+    → list_any test (cond kept (x ∷ xs) xs) ≡ ((passes && kept) || rest)
+any_behind test x xs rest true true e h = ap (λ (b : Bool). b || list_any test xs) e
+any_behind test x xs rest true false e h = h
+any_behind test x xs rest false true e h = ap (λ (b : Bool). b || list_any test xs) e ∙ h
+any_behind test x xs rest false false e h = h
+
+any_of_kept : {A : Type 0} (test keep : A → Bool) (xs : List A) → list_any test (filter keep xs) ≡ list_any (λ x. test x && keep x) xs
+any_of_kept test keep [] = refl
+any_of_kept test keep (x ∷ xs) =
+    any_behind test x (filter keep xs) (list_any (λ y. test y && keep y) xs) (test x) (keep x) refl (any_of_kept test keep xs)
+
+-- a test of names, over the unlimited dimensions
+any_record : (test : List ℕ → Bool) (one : Option (List ℕ)) (dims : List Dim) → IsRecordName one dims
+    → list_any (λ d. test d.name && is_unlimited d) dims ≡ list_any test (elim one [ None ↦ [] | Some name ↦ name ∷ [] ])
+any_record test one dims h =
+    sym (any_of_kept (λ d. test d.name) is_unlimited dims) ∙ sym (any_map test (λ d. d.name) (filter is_unlimited dims))
+    ∙ ap (λ names. list_any test names) h
+
+pub is_record_name : (one : Option (List ℕ)) (dims : List Dim) (n : List ℕ) → IsRecordName one dims
+    → is_added_record dims n ≡ elim one [ None ↦ false | Some own ↦ bytes_eq n own ]
+is_record_name one dims n h = any_record (bytes_eq n) one dims h ∙ own one
+  where
+    own : (r : Option (List ℕ)) → list_any (bytes_eq n) (elim r [ None ↦ [] | Some name ↦ name ∷ [] ]) ≡ elim r [ None ↦ false | Some own ↦ bytes_eq n own ]
+    own None = refl
+    own (Some name) = or_false (bytes_eq n name)
+
+pub some_record : (one : Option (List ℕ)) (dims : List Dim) → IsRecordName one dims → list_any is_unlimited dims ≡ is_some one
+some_record one dims h = any_record (λ name. true) one dims h ∙ own one
+  where
+    own : (r : Option (List ℕ)) → list_any (λ name. true) (elim r [ None ↦ [] | Some name ↦ name ∷ [] ]) ≡ is_some r
+    own None = refl
+    own (Some name) = refl
+
+pub some_of_map : {A B : Type 0} (f : A → B) (o : Option A) → is_some (option_map f o) ≡ is_some o
+some_of_map f None = refl
+some_of_map f (Some x) = refl
+
+none_yet : (one : Option (List ℕ)) (dims : List Dim) → IsRecordName one dims → is_some one ≡ false → dim_names (filter is_unlimited dims) ≡ []
+none_yet None dims h none = h
+none_yet (Some name) dims h none = absurd cc
+
+pub record_pushed : (one : Option (List ℕ)) (dims : List Dim) (d : Dim) → IsRecordName one dims → list_any is_unlimited dims ≡ false → d.len ≡ 0
+    → IsRecordName (Some d.name) (dims ++ d ∷ [])
+record_pushed one dims d h none zero =
+    ap (λ ds. dim_names ds) (filter-append is_unlimited dims (d ∷ []))
+    ∙ map-append (λ (e : Dim). e.name) (filter is_unlimited dims) (filter is_unlimited (d ∷ []))
+    ∙ ap₂ (λ (old new : List (List ℕ)). old ++ new) (none_yet one dims h (sym (some_record one dims h) ∙ none))
+    (ap (λ (n : ℕ). dim_names (cond (n == 0) (d ∷ []) [])) zero)
