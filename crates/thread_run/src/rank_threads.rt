@@ -34,7 +34,7 @@ use std::thread::{Scope, Threads};
 use turn_run::{end_run, run_in_turn_told};
 
 /// Runs the ranks of a script, each on a thread of its own, whose offers this thread takes as they come. Where the threads are off, or
-/// one can't be started, the ranks run in turn.
+/// one can't be started, the ranks run in turn, and so does a rank that is alone: there is nobody to run beside.
 ///
 /// With a fault the run ends in that step, and the order has the finished ones.
 pub fn run_ranks<R: Threads + Wait + Sync, D: Disk, G: Gate>(
@@ -76,7 +76,7 @@ pub fn run_ranks_told<R: Threads + Wait + Sync, D: Disk, G: Gate, T: Told>(
     ensures run { RunsOn D.Disk script.now header.now disk.old disk.new records.new result }
     ensures told { HasTold script.now header.now (D.held disk.old) (T.heard told.old) (T.heard told.new) result.order }
 {
-    if !script.hints.threads {
+    if !script.hints.threads || script.ranks < 2 {
         return run_in_turn_told(rt, alloc, disk, header, records, script, gate, told);
     }
     let tools = Tools { rt, alloc, gate };
