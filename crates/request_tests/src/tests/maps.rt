@@ -110,6 +110,14 @@ fn runs_are_packed(rt: HostRuntime) {
     is_packed(&rt, alloc, NcType::Short, plain, values, &form);
 }
 
+#[test]
+fn as_many_values_as_elements_are_enough(rt: HostRuntime) {
+    let alloc = rt.alloc();
+    let values = numbers(&rt, alloc, &[1, 2, 3, 4, 5, 6]);
+    let plain = rows(&rt, alloc, true);
+    is_packed(&rt, alloc, NcType::Byte, plain, values, &[1, 2, 3, 4, 5, 6]);
+}
+
 /// What a get of these bytes brings.
 fn unpacked(rt: &impl Abort, alloc: Global, kind: NcType, region: &Region, bytes: &[u8]) -> Values
     requires mapped { IsMapped region.now }
