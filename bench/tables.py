@@ -15,6 +15,30 @@ def head(titles, widths):
     return [line(titles, widths), "|---|" + "---:|" * (len(titles) - 1)]
 
 
+class Differs(Exception):
+    """A program did not end well, or two did not do the same."""
+
+
+def measured(sizes, cells, titles, widths, room, runs):
+    """The table, each line of which is printed as it comes, and whether nothing differed. `cells` tells the cells of a row and a size."""
+    table, same = [], True
+    def add(text):
+        table.append(text)
+        print(text, flush=True)
+    for text in head(titles, widths):
+        add(text)
+    for row, counts in sizes.items():
+        for n in counts:
+            try:
+                add(line(cells(row, n), widths))
+            except Differs as fault:
+                print(f"bench: {fault}", file=sys.stderr, flush=True)
+                same = False
+    add("")
+    add(machine(room, runs))
+    return table, same
+
+
 def machine(room, runs):
     """What the numbers depend on."""
     model = "a processor"
