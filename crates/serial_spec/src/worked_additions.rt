@@ -1,14 +1,15 @@
 //! Fill values, added variables and readings.
 
-ghost use Rattle.std.specs.Prelude.{◌≡◌, ◌+◌, ◌-◌, ◌^◌, ℕ, List, [], ◌∷◌, ◌++◌, Some, None, length, replicate, drop, codes};
+ghost use Rattle.std.specs.Prelude.{◌≡◌, ◌+◌, ◌-◌, ◌^◌, ℕ, List, [], ◌∷◌, ◌++◌, Some, None, length, replicate, drop, codes, map};
 ghost use Rattle.serial_spec.specs.HeaderBytes.{canon, header_len};
-ghost use Rattle.serial_spec.specs.Examples.{dataset_a, dataset_b, var, int_bytes, one_record, begin_list, file_halves, dim, more_var, dataset_aq, dataset_b_4, dataset_b_q, file_records, hints, title, twice_named, twice_named_q, inner_x, second_first, long_var};
+ghost use Rattle.serial_spec.specs.Examples.{dataset_a, dataset_b, var, int_bytes, one_record, begin_list, file_halves, dim, more_var, dataset_aq, dataset_b_4, dataset_b_q, file_records, hints, title, twice_named, twice_named_q, inner_x, second_first, long_var, dataset_a_moved};
+ghost use Rattle.serial_spec.specs.EdgeExamples.{each_type, without_fill_value, dataset_a_at, dataset_b_moved, two_puts};
 ghost use Rattle.nc_base.specs.declared.header.NcType.TheVariants.{Int, Short, UInt64};
 ghost use Rattle.nc_base.specs.declared.step.Mark.TheVariants.{Meet, Solo};
 ghost use Rattle.nc_base.specs.declared.step.DiskCall.TheVariants.{Grow, Load, Store};
 ghost use Rattle.serial_spec.specs.SerialEnd.{start};
 ghost use Rattle.serial_spec.specs.Fill.{boxes, AreBoxes, fill_bytes};
-ghost use Rattle.serial_spec.specs.Redefinition.{redefined, redefined_fault};
+ghost use Rattle.serial_spec.specs.Redefinition.{redefined, redefined_fault, redefined_header, IsRedefined};
 ghost use Rattle.serial_spec.specs.Readings.{summary_of, told_of};
 ghost use Rattle.serial_spec.specs.DeviceCalls.{redefining_calls};
 ghost use Rattle.nc_base.specs.declared.errors.RedefErr.TheVariants.{Taken, Unknown, Shape, TooMany, Kind, Layout};
@@ -26,6 +27,15 @@ pub fn worked_boxes()
     ensures own { fill_bytes (record (var 118 Short []) { attrs = record { name = codes "_FillValue"; kind = Short; count = 1; bytes = 255 ∷ 255 ∷ [] } ∷ [] }) ≡ 255 ∷ 255 ∷ [] }
 {}
 
+/// The fill value of each type, and of a variable whose attributes are none.
+pub fn worked_fill_values()
+    ensures each { map (λ kind. fill_bytes (var 118 kind [])) each_type
+        ≡ (129 ∷ []) ∷ (0 ∷ []) ∷ (128 ∷ 1 ∷ []) ∷ (128 ∷ 0 ∷ 0 ∷ 1 ∷ []) ∷ (124 ∷ 240 ∷ 0 ∷ 0 ∷ [])
+        ∷ (71 ∷ 158 ∷ 0 ∷ 0 ∷ 0 ∷ 0 ∷ 0 ∷ 0 ∷ []) ∷ (255 ∷ []) ∷ (255 ∷ 255 ∷ []) ∷ (255 ∷ 255 ∷ 255 ∷ 255 ∷ [])
+        ∷ (128 ∷ 0 ∷ 0 ∷ 0 ∷ 0 ∷ 0 ∷ 0 ∷ 2 ∷ []) ∷ (255 ∷ 255 ∷ 255 ∷ 255 ∷ 255 ∷ 255 ∷ 255 ∷ 254 ∷ []) ∷ [] }
+    ensures no_fill_value { fill_bytes without_fill_value ≡ 128 ∷ 1 ∷ [] }
+{}
+
 /// A variable that is added to an existing file.
 #[tactic(auto, unfolding(crate::specs::HeaderBytes::canon))]
 pub fn worked_redefinition()
@@ -40,11 +50,25 @@ pub fn worked_redefinition()
         ≡ Grow 148 ∷ Load 86 2 ∷ Store 140 2 ∷ Load 84 2 ∷ Store 132 2 ∷ Load 82 2 ∷ Store 124 2 ∷ Load 80 2 ∷ Store 116 2
         ∷ Store 118 6 ∷ Store 126 6 ∷ Store 134 6 ∷ Store 142 6 ∷ Store 0 116 ∷ [] }
     ensures record_values { drop 116 (redefined file_records dataset_b_4 dataset_b_q) ≡ replicate 25 0 ++ 7 ∷ replicate 6 0 }
+    ensures kept { begin_list (redefined_header dataset_a_moved (more_var 113 Short 120 ∷ [])) ≡ 512 ∷ 528 ∷ [] }
+    ensures front { map (λ begin. begin_list (redefined_header (dataset_a_at begin) (more_var 113 Short 120 ∷ []))) (115 ∷ 116 ∷ 117 ∷ [])
+        ≡ (116 ∷ 132 ∷ []) ∷ (116 ∷ 132 ∷ []) ∷ (117 ∷ 136 ∷ []) ∷ [] }
+    ensures records_kept { begin_list (redefined_header dataset_b_moved (more_var 113 Int 116 ∷ [])) ≡ 512 ∷ 516 ∷ [] }
     ensures taken { redefined_fault dataset_a (Dim (dim 120 9) ∷ []) ≡ Some (Taken 0) }
     ensures unknown { redefined_fault dataset_a (more_var 113 Short 120 ∷ more_var 114 Short 121 ∷ []) ≡ Some (Unknown 1) }
     ensures shape { redefined_fault dataset_b (Dim (dim 117 0) ∷ []) ≡ Some (Shape 0) }
     ensures later_type { redefined_fault dataset_a (more_var 113 UInt64 120 ∷ []) ≡ Some (Kind 0) }
     ensures none { redefined_fault dataset_a (more_var 113 Short 120 ∷ []) ≡ None }
+{}
+
+/// What a redefined file is in words, and three that it is not: an old element with another value, a byte of the new variable that is not
+/// zero, a byte too many.
+#[tactic(auto, unfolding(crate::specs::HeaderBytes::canon))]
+pub fn worked_redefined()
+    ensures right { IsRedefined dataset_a dataset_aq file_halves (canon dataset_aq ++ int_bytes (1 ∷ 2 ∷ 3 ∷ 4 ∷ []) ++ replicate 8 0) }
+    ensures other_value { IsRedefined dataset_a dataset_aq file_halves (canon dataset_aq ++ int_bytes (1 ∷ 2 ∷ 3 ∷ 5 ∷ []) ++ replicate 8 0) → ⊥ }
+    ensures not_zero { IsRedefined dataset_a dataset_aq file_halves (canon dataset_aq ++ int_bytes (1 ∷ 2 ∷ 3 ∷ 4 ∷ []) ++ 9 ∷ replicate 7 0) → ⊥ }
+    ensures too_long { IsRedefined dataset_a dataset_aq file_halves (canon dataset_aq ++ int_bytes (1 ∷ 2 ∷ 3 ∷ 4 ∷ []) ++ replicate 9 0) → ⊥ }
 {}
 
 /// Two dimensions of one name, of which the first counts, and other faults of a redefinition.
@@ -72,5 +96,6 @@ pub fn worked_refusals()
 pub fn worked_reading()
     ensures none { summary_of 3 [] ≡ record { steps = 0; records = 3 } }
     ensures two { summary_of 0 ((Meet 0, 1) ∷ (Solo 0 1, 4) ∷ []) ≡ record { steps = 2; records = 4 } }
+    ensures told_two { told_of two_puts two_puts.header (start two_puts two_puts.header []) (Meet 0 ∷ Meet 1 ∷ []) ≡ (Meet 0, 2) ∷ (Meet 1, 4) ∷ [] }
     ensures told { told_of one_record one_record.header (start one_record one_record.header []) (Meet 0 ∷ []) ≡ (Meet 0, 4) ∷ [] }
 {}

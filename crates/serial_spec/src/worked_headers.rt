@@ -1,13 +1,19 @@
 //! Headers and layouts of small datasets.
 
-ghost use Rattle.std.specs.Prelude.{◌≡◌, ◌+◌, ◌^◌, [], ◌∷◌, ◌++◌, Some, None, take, true, drop, ◌/◌, ◌*◌, map};
-ghost use Rattle.serial_spec.specs.HeaderBytes.{canon, header_len};
+ghost use Rattle.std.specs.Prelude.{◌≡◌, ◌+◌, ◌-◌, ◌^◌, [], ◌∷◌, ◌++◌, Some, None, take, true, false, drop, ◌/◌, ◌*◌, map, pos, negsuc};
+ghost use Rattle.serial_spec.specs.HeaderBytes.{canon, header_len, number_of};
+ghost use Rattle.serial_spec.specs.ExternalForm.{fits, size_of};
 ghost use Rattle.serial_spec.specs.HeaderGrammar.{Spells};
-ghost use Rattle.serial_spec.specs.HeaderFaults.{field_fault, first_check};
+ghost use Rattle.serial_spec.specs.HeaderFaults.{field_fault, first_check, measure, HasFault};
+ghost use Rattle.serial_spec.specs.Redefinition.{layout_fault};
 ghost use Rattle.serial_spec.specs.SoundHeaders.{is_writable};
-ghost use Rattle.serial_spec.specs.Examples.{dataset_2, dataset_a, dataset_b, dataset_bq, header_a, var, int_bytes, device_calls, halves, word, header_a_with, dataset_5, two_bytes, begin_list, end_of_file, aligned, striped, striped_part, file_halves, reopened, dataset_a_moved, one_record, dim, unsound, past_limit, sharing_bytes, odd_header_a};
-ghost use Rattle.serial_spec.specs.Layout.{recsize, end_of, vsize};
-ghost use Rattle.nc_base.specs.declared.header.NcType.TheVariants.{Int};
+ghost use Rattle.serial_spec.specs.Examples.{dataset_2, dataset_a, dataset_b, dataset_bq, header_a, var, int_bytes, device_calls, halves, word, header_a_with, dataset_5, two_bytes, begin_list, end_of_file, aligned, striped, striped_part, file_halves, reopened, dataset_a_moved, one_record, dim, unsound, past_limit, sharing_bytes, odd_header_a, no_align};
+ghost use Rattle.serial_spec.specs.EdgeExamples.{each_type, attribute_a, attributes_5, two_records_at, fixed_and_record_at, two_fixed_at, met_by_the_last, dataset_qs, four_bytes_at, byte_records, length_past, scalar_behind, bytes_5, striped_inside};
+ghost use Rattle.serial_spec.specs.Layout.{recsize, end_of, vsize, sharing, IsSharing};
+ghost use Rattle.nc_base.specs.declared.header.NcType.TheVariants.{Byte, Float, Int, UByte};
+ghost use Rattle.nc_base.specs.declared.request.Value.TheVariants.{Bits, Number};
+ghost use Rattle.nc_base.specs.declared.errors.HeaderErr.{HeaderErr};
+ghost use Rattle.nc_base.specs.declared.errors.LayoutErr.TheVariants.{BeginRange};
 ghost use Rattle.nc_base.specs.declared.errors.HeaderErr.TheVariants.{NotCdf, BadVersion, Truncated, BadTag, BadType, BadNumber, BadDimId, Streaming, TooLarge, Shared, TwoRecordDims, RecordDimNotFirst};
 ghost use Rattle.nc_base.specs.declared.step.Mark.TheVariants.{Meet};
 ghost use Rattle.nc_base.specs.declared.step.DiskCall.TheVariants.{Grow, Load, Store};
@@ -39,6 +45,7 @@ pub fn worked_records()
     ensures two_length { header_len dataset_bq ≡ 116 }
     ensures two_begins { begin_list dataset_bq ≡ 116 ∷ 120 ∷ [] }
     ensures end { end_of dataset_bq (header_len dataset_bq) 2 ≡ 132 }
+    ensures last_padded { end_of dataset_qs (header_len dataset_qs) 1 ≡ 124 }
 {}
 
 /// Headers with one word changed.
@@ -63,6 +70,27 @@ pub fn worked_header_faults()
     ensures streaming_fields { field_fault (header_a_with 4 (word 255 255 255 255)) ≡ None }
     ensures streaming_bytes { canon (record dataset_a { records = 4294967295 }) ≡ header_a_with 4 (word 255 255 255 255) }
     ensures streaming { first_check (record dataset_a { records = 4294967295 }) ≡ Some Streaming }
+    ensures attribute_cut { field_fault (take 52 (canon attribute_a)) ≡ Some (Truncated 52) }
+    ensures attribute_types { field_fault (canon attributes_5) ≡ None }
+    ensures long_dimension { map (λ more. field_fault (length_past more)) (0 ∷ 1 ∷ []) ≡ Some (Truncated 44) ∷ Some (BadNumber 36) ∷ [] }
+{}
+
+/// The fault of a file's first bytes: of a field, of the header as a whole, and none.
+#[tactic(auto, unfolding(crate::specs::HeaderBytes::canon))]
+pub fn worked_file_faults()
+    ensures of_a_field { HasFault (take 70 header_a) (Truncated 68) }
+    ensures other_place { HasFault (take 70 header_a) (Truncated 70) → ⊥ }
+    ensures of_the_whole { HasFault (header_a_with 76 (word 0 0 0 76)) (Shared 0 0) }
+    ensures none { (e : HeaderErr) → HasFault header_a e → ⊥ }
+{}
+
+/// The numbers and sizes of the types, and the ends of their ranges.
+pub fn worked_types()
+    ensures numbers { map number_of each_type ≡ 1 ∷ 2 ∷ 3 ∷ 4 ∷ 5 ∷ 6 ∷ 7 ∷ 8 ∷ 9 ∷ 10 ∷ 11 ∷ [] }
+    ensures sizes { map size_of each_type ≡ 1 ∷ 1 ∷ 2 ∷ 4 ∷ 4 ∷ 8 ∷ 1 ∷ 2 ∷ 4 ∷ 8 ∷ 8 ∷ [] }
+    ensures byte { map (λ z. fits Byte (Number z)) (pos 127 ∷ pos 128 ∷ negsuc 127 ∷ negsuc 128 ∷ []) ≡ true ∷ false ∷ true ∷ false ∷ [] }
+    ensures ubyte { map (λ z. fits UByte (Number z)) (pos 0 ∷ pos 255 ∷ pos 256 ∷ negsuc 0 ∷ []) ≡ true ∷ true ∷ false ∷ false ∷ [] }
+    ensures float { map (λ n. fits Float (Bits n)) ((2 ^ 32 - 1) ∷ 2 ^ 32 ∷ []) ≡ true ∷ false ∷ [] }
 {}
 
 /// Headers whose fields are right each, and which are refused as a whole.
@@ -76,6 +104,30 @@ pub fn worked_checks()
     ensures many_records { first_check (record dataset_b { records = 2 ^ 31 }) ≡ Some TooLarge }
     ensures shared { first_check sharing_bytes ≡ Some (Shared 0 1) }
     ensures side_by_side { first_check (aligned 4 4 two_bytes) ≡ None }
+{}
+
+/// Two variables that share a byte and two that do not: of records of 8 bytes, in either order; a fixed one before a record variable at
+/// 200; two fixed ones. The pair is the least.
+pub fn worked_sharing()
+    ensures records { map (λ q. sharing (two_records_at 116 q) 116) (117 ∷ 118 ∷ 120 ∷ 121 ∷ []) ≡ Some (0, 1) ∷ None ∷ None ∷ Some (0, 1) ∷ [] }
+    ensures records_exchanged { map (λ s. sharing (two_records_at s 116) 116) (119 ∷ 120 ∷ 122 ∷ 123 ∷ []) ≡ Some (0, 1) ∷ None ∷ None ∷ Some (0, 1) ∷ [] }
+    ensures fixed_and_record { map (λ v. sharing (fixed_and_record_at v 200) 100) (184 ∷ 185 ∷ 204 ∷ []) ≡ None ∷ Some (0, 1) ∷ Some (0, 1) ∷ [] }
+    ensures fixed { map (λ w. sharing (two_fixed_at 100 w) 100) (115 ∷ 116 ∷ []) ≡ Some (0, 1) ∷ None ∷ [] }
+    ensures pair { IsSharing (two_fixed_at 100 115) 100 0 1 }
+    ensures apart { IsSharing (two_fixed_at 100 116) 100 0 1 → ⊥ }
+    ensures in_header { IsSharing (two_fixed_at 100 116) 101 0 0 }
+    ensures least { IsSharing met_by_the_last 100 0 2 }
+    ensures not_least { IsSharing met_by_the_last 100 1 2 → ⊥ }
+{}
+
+/// Bounds of begins, ends and counts: 2^62 in version 5 and 2^31 in version 1, each a byte or a record within and one past.
+#[tactic(auto, unfolding(crate::specs::HeaderBytes::canon))]
+pub fn worked_bounds()
+    ensures fixed { map (λ begin. measure (four_bytes_at begin)) ((2 ^ 62 - 5) ∷ (2 ^ 62 - 4) ∷ []) ≡ None ∷ Some 0 ∷ [] }
+    ensures records { map (λ n. measure (byte_records n)) ((2 ^ 62 - 201) ∷ (2 ^ 62 - 200) ∷ []) ≡ None ∷ Some 0 ∷ [] }
+    ensures count { map (λ n. first_check (record dataset_5 { records = n })) ((2 ^ 62 - 1) ∷ 2 ^ 62 ∷ []) ≡ None ∷ Some TooLarge ∷ [] }
+    ensures begin { map (λ n. layout_fault (scalar_behind n) no_align) (2147483532 ∷ 2147483533 ∷ []) ≡ None ∷ Some (BeginRange 1) ∷ [] }
+    ensures end { map (λ n. layout_fault (bytes_5 n) no_align) ((2 ^ 62 - 132) ∷ (2 ^ 62 - 131) ∷ []) ≡ None ∷ Some (BeginRange 0) ∷ [] }
 {}
 
 /// A spelling of a header that no program writes, and bytes that are none.
@@ -104,6 +156,7 @@ pub fn worked_versions()
     ensures var_end { end_of_file (aligned 4 64 two_bytes) ≡ 196 }
     ensures stripes { device_calls (striped 3 8) (Meet 0 ∷ []) ≡ Store 80 8 ∷ Store 88 8 ∷ [] }
     ensures stripe { device_calls striped_part (Meet 0 ∷ []) ≡ Store 84 12 ∷ [] }
+    ensures stripe_inside { device_calls striped_inside (Meet 0 ∷ []) ≡ Store 84 4 ∷ Store 88 8 ∷ [] }
     ensures opening { opening_calls halves dataset_a [] ≡ Grow 96 ∷ Store 0 80 ∷ [] }
     ensures reopening { opening_calls reopened dataset_a file_halves ≡ Load 0 96 ∷ [] }
     ensures again_calls { all_calls reopened dataset_a dataset_a file_halves (Meet 0 ∷ []) ≡ Load 0 96 ∷ Load 80 16 ∷ Store 80 16 ∷ [] }

@@ -1,6 +1,6 @@
 //! Small runs: requests, steps, device calls and arrivals.
 
-ghost use Rattle.std.specs.Prelude.{◌≡◌, ◌+◌, [], ◌∷◌, ◌++◌, length, Some, None, pos, replicate, true, map, false, ℕ};
+ghost use Rattle.std.specs.Prelude.{◌≡◌, ◌+◌, ◌-◌, ◌^◌, [], ◌∷◌, ◌++◌, length, Some, None, pos, replicate, true, map, false, ℕ, take};
 ghost use Rattle.serial_spec.specs.File.{at};
 ghost use Rattle.serial_spec.specs.HeaderBytes.{canon};
 ghost use Rattle.serial_spec.specs.Examples.{dataset_a, first_of_halves, offer_of_halves, reply_with, three_holders, header_a, region, setting_a, created, overlapping, side_by_side, int_bytes, ended, device_calls, halves, interleaved, whole, with_hole, one_record, arrived, empty_offer, two_clients, after_five, with_strange, independent_calls, many_bytes, dataset_b, packed_region, given, var, two_alone};
@@ -22,6 +22,10 @@ ghost use Rattle.serial_spec.specs.RankSide.{offered, rank_stop, rank_end};
 ghost use Rattle.nc_base.specs.declared.answer.Code.TheVariants.{Ok, ENotVar, EInvalCoords, EStride, EEdge, ETooLarge};
 ghost use Rattle.nc_base.specs.declared.run.RankStop.TheVariants.{Done, Stopped, Misfit};
 ghost use Rattle.serial_spec.specs.RegionCheck.{check, widen};
+ghost use Rattle.serial_spec.specs.Records.{records_of};
+ghost use Rattle.serial_spec.specs.EdgeExamples.{whole_then_ends, file_a};
+ghost use Rattle.serial_spec.specs.Torn.{IsCutRun};
+ghost use Rattle.nc_base.specs.declared.step.StepErr.TheVariants.{Disk};
 ghost use Rattle.nc_base.specs.declared.request.Direction.TheVariants.{Put, Get};
 ghost use Rattle.nc_base.specs.declared.step.RankItem.TheVariants as item;
 ghost use Rattle.nc_base.specs.declared.step.OfferKind.TheVariants as offer;
@@ -66,6 +70,7 @@ pub fn worked_ends()
     ensures interleaved { (ended interleaved (Meet 0 ∷ [])).bytes ≡ header_a ++ int_bytes (1 ∷ 2 ∷ 3 ∷ 4 ∷ []) }
     ensures count { (ended one_record (Meet 0 ∷ [])).records ≡ 4 }
     ensures len { length (ended one_record (Meet 0 ∷ [])).bytes ≡ 88 }
+    ensures count_field { take 8 (ended one_record (Meet 0 ∷ [])).bytes ≡ 67 ∷ 68 ∷ 70 ∷ 1 ∷ 0 ∷ 0 ∷ 0 ∷ 4 ∷ [] }
 {}
 
 /// Marks, and what arrivals bring.
@@ -110,6 +115,17 @@ pub fn worked_rank()
     ensures no_answer { (rank_end dataset_a first_of_halves (Stop ∷ [])).answers ≡ [] }
 {}
 
+/// What a refused device call leaves of the second of two puts: its bytes old or new, all others old, and the answer of the first put.
+#[tactic(auto, unfolding(crate::specs::HeaderBytes::canon))]
+pub fn worked_cut_run()
+    ensures old { IsCutRun whole_then_ends dataset_a (file_a (0 ∷ 0 ∷ 0 ∷ 0 ∷ [])) Disk (Meet 0 ∷ []) (file_a (1 ∷ 2 ∷ 3 ∷ 4 ∷ [])) 0 ((answer Ok ∷ []) ∷ []) }
+    ensures torn { IsCutRun whole_then_ends dataset_a (file_a (0 ∷ 0 ∷ 0 ∷ 0 ∷ [])) Disk (Meet 0 ∷ []) (file_a (7 ∷ 2 ∷ 3 ∷ 4 ∷ [])) 0 ((answer Ok ∷ []) ∷ []) }
+    ensures neither { IsCutRun whole_then_ends dataset_a (file_a (0 ∷ 0 ∷ 0 ∷ 0 ∷ [])) Disk (Meet 0 ∷ []) (file_a (9 ∷ 2 ∷ 3 ∷ 4 ∷ [])) 0 ((answer Ok ∷ []) ∷ []) → ⊥ }
+    ensures outside { IsCutRun whole_then_ends dataset_a (file_a (0 ∷ 0 ∷ 0 ∷ 0 ∷ [])) Disk (Meet 0 ∷ []) (file_a (1 ∷ 9 ∷ 3 ∷ 4 ∷ [])) 0 ((answer Ok ∷ []) ∷ []) → ⊥ }
+    ensures answered { IsCutRun whole_then_ends dataset_a (file_a (0 ∷ 0 ∷ 0 ∷ 0 ∷ [])) Disk (Meet 0 ∷ []) (file_a (1 ∷ 2 ∷ 3 ∷ 4 ∷ [])) 0 ((answer Ok ∷ answer Ok ∷ []) ∷ []) → ⊥ }
+    ensures unheard { IsCutRun whole_then_ends dataset_a (file_a (0 ∷ 0 ∷ 0 ∷ 0 ∷ [])) Disk (Meet 0 ∷ []) (file_a (1 ∷ 2 ∷ 3 ∷ 4 ∷ [])) 0 ([] ∷ []) → ⊥ }
+{}
+
 /// Bytes that three requests hold, and what pairs say of a place.
 pub fn worked_shared()
     ensures pair { shared_pair_of three_holders ≡ Some (record { rank1 = 0; request1 = 7; rank2 = 1; request2 = 0; at = 2 }) }
@@ -134,5 +150,8 @@ pub fn worked_regions()
     ensures unknown_record { check dataset_b 0 (packed_region (3 ∷ []) (1 ∷ []) (1 ∷ [])) 3 Get ≡ EInvalCoords }
     ensures last_record { check dataset_b 0 (packed_region (2147483646 ∷ []) (1 ∷ []) (1 ∷ [])) 0 Put ≡ Ok }
     ensures past_records { check dataset_b 0 (packed_region (2147483647 ∷ []) (1 ∷ []) (1 ∷ [])) 0 Put ≡ ETooLarge }
+    ensures reach { map (λ step. check many_bytes 0 (region (0 ∷ []) (2 ∷ []) (1 ∷ []) (step ∷ [])) 0 Put) ((2 ^ 20 - 1) ∷ 2 ^ 20 ∷ []) ≡ Ok ∷ ETooLarge ∷ [] }
+    ensures no_reach { check many_bytes 0 (region (0 ∷ []) (0 ∷ []) (1 ∷ []) (2 ^ 20 ∷ [])) 0 Put ≡ Ok }
+    ensures strided_records { records_of dataset_b (var 115 Short (0 ∷ [])) (packed_region (1 ∷ []) (3 ∷ []) (2 ∷ [])) ≡ 6 }
     ensures whole { widen dataset_b (var 115 Short (0 ∷ [])) (given form.Var [] [] []) 3 ≡ packed_region (0 ∷ []) (3 ∷ []) (1 ∷ []) }
 {}

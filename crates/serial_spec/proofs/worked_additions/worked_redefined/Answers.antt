@@ -1,0 +1,50 @@
+use Rattle.std.proofs.Common.{◌≡◌, ℕ, zero, suc, refl, inl, lit<, arith}
+use Rattle.std.specs.Prelude.{List, [], ◌∷◌, slice_get}
+use Rattle.list_laws.proofs.Optional.{if_some_at, no_none_some}
+use Rattle.nc_base.specs.declared.header.Var.{Var}
+use Rattle.nc_base.specs.declared.header.NcType.TheVariants.{Int, Short}
+use Rattle.serial_spec.specs.Examples.{dataset_a, dataset_aq, file_halves, more_var}
+use Rattle.serial_spec.specs.HeaderBytes.{canon}
+use Rattle.serial_spec.specs.EdgeExamples.{var_at}
+use Rattle.serial_spec.specs.ExternalForm.{size_of}
+use Rattle.serial_spec.specs.Place.{AreApart, IsIndex, place}
+use Rattle.serial_spec.specs.RegionCheck.{known_lengths}
+use Rattle.serial_spec.specs.Redefinition.{Moves}
+use Rattle.serial_spec.proofs.AddedLaws.{redefined_keeps}
+use Rattle.serial_spec.proofs.MoveLaws.{redefined_is}
+use Rattle.serial_spec.proofs.worked_additions.worked_redefined.Goals as goal
+
+pub returns-clause-right : goal.returns-clause-right
+unfolding canon
+returns-clause-right c = redefined_is file_halves dataset_a dataset_aq refl (redefined_keeps dataset_a (more_var 113 Short 120 ∷ []) refl)
+
+-- the last element stands at 92 in the old file and at 128 in the new one
+pub returns-clause-other_value : goal.returns-clause-other_value
+unfolding canon
+returns-clause-other_value c h =
+    let same = h.moved 92 128 4 (0, _, _, 3 ∷ [], refl, refl, (lit< tt, tt), refl, refl, refl) in cc
+
+-- the bytes of v's elements at their new places end before byte 132
+ends_before : (index : List ℕ) (to size : ℕ) → IsIndex (4 ∷ []) index → size ≡ 4 → to ≡ place dataset_aq (var_at 118 Int (0 ∷ []) 116) index
+    → AreApart to size 132 1
+unfolding canon
+ends_before [] to size h s t = absurd h
+ends_before (i ∷ []) to size h s t = inl (omega (arith, h.0, s, t))
+ends_before (i ∷ j ∷ index) to size h s t = absurd h.1
+
+behind : (from to size : ℕ) → Moves dataset_a dataset_aq from to size → AreApart to size 132 1
+unfolding canon
+behind from to size (zero, v, w, index, old, new, inside, f, t, s) =
+    if_some_at (λ (u : Var). IsIndex (known_lengths dataset_a u 0) index → size ≡ size_of u.kind → AreApart to size 132 1) (slice_get dataset_a.vars 0) v old
+    (λ within long. if_some_at (λ (u : Var). to ≡ place dataset_aq u index → AreApart to size 132 1) (slice_get dataset_aq.vars 0) w new
+    (ends_before index to size within long) t)
+    inside s
+behind from to size (suc k, v, w, index, old, new, inside, f, t, s) = no_none_some v old
+
+pub returns-clause-not_zero : goal.returns-clause-not_zero
+unfolding canon
+returns-clause-not_zero c h = let zero = h.bare 132 (lit< tt) (lit< tt) behind in cc
+
+pub returns-clause-too_long : goal.returns-clause-too_long
+unfolding canon
+returns-clause-too_long c h = omega (arith, h.long)
