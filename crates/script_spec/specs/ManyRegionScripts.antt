@@ -71,3 +71,20 @@ printed_varn_refused =
     ++ text_line (codes "1 put_varn_all EMAPSIZE")
     ++ text_line (codes "2 iget_varn null")
     ++ text_line (codes "pending 0")
+
+-- the first and the third part share an element
+abbrev pub script_varn_self_far : List ℕ
+script_varn_self_far =
+    text_line (codes "create 1")
+    ++ text_line (codes "ranks 1")
+    ++ text_line (codes "dim x 4")
+    ++ text_line (codes "var int v [x]")
+    ++ text_line (codes "data")
+    ++ text_line (codes "0 put_varn_all v 3 [0] [1] [2] [1] [0] [1] 1 2 3")
+    ++ text_line (codes "end")
+
+abbrev pub printed_varn_self_far : List ℕ
+printed_varn_self_far =
+    text_line (codes "rank 0")
+    ++ text_line (codes "0 put_varn_all ESELF")
+    ++ text_line (codes "pending 0")

@@ -228,3 +228,52 @@ printed_serial_posts =
     ++ text_line (codes "  1 ok")
     ++ text_line (codes "  0 ok")
     ++ text_line (codes "pending 0")
+
+-- an iput beside bputs takes no room of the attached buffer
+abbrev pub script_buffer_of_bputs : List ℕ
+script_buffer_of_bputs =
+    text_line (codes "create 1")
+    ++ text_line (codes "ranks 1")
+    ++ text_line (codes "dim x 4")
+    ++ text_line (codes "var int v [x]")
+    ++ text_line (codes "data")
+    ++ text_line (codes "0 buffer_attach 4")
+    ++ text_line (codes "0 iput_vara 0 v [0] [2] 1 2")
+    ++ text_line (codes "0 bput_var1 1 v [2] 3")
+    ++ text_line (codes "0 bput_var1 2 v [3] 3")
+    ++ text_line (codes "end")
+
+abbrev pub printed_buffer_of_bputs : List ℕ
+printed_buffer_of_bputs =
+    text_line (codes "rank 0")
+    ++ text_line (codes "0 buffer_attach ok")
+    ++ text_line (codes "1 iput_vara ok")
+    ++ text_line (codes "2 bput_var1 ok")
+    ++ text_line (codes "3 bput_var1 NC_EINSUFFBUF")
+    ++ text_line (codes "pending 2")
+
+-- a get beside two puts that overlap
+abbrev pub script_get_beside_pair : List ℕ
+script_get_beside_pair =
+    text_line (codes "create 1")
+    ++ text_line (codes "ranks 1")
+    ++ text_line (codes "dim x 4")
+    ++ text_line (codes "var int v [x]")
+    ++ text_line (codes "data")
+    ++ text_line (codes "0 iput_vara 0 v [0] [2] 1 2")
+    ++ text_line (codes "0 iput_vara 1 v [1] [2] 3 4")
+    ++ text_line (codes "0 iget_vara 2 v [2] [2]")
+    ++ text_line (codes "0 wait_all all")
+    ++ text_line (codes "end")
+
+abbrev pub printed_get_beside_pair : List ℕ
+printed_get_beside_pair =
+    text_line (codes "rank 0")
+    ++ text_line (codes "0 iput_vara ok")
+    ++ text_line (codes "1 iput_vara ok")
+    ++ text_line (codes "2 iget_vara ok")
+    ++ text_line (codes "3 wait_all overlap 0 0 0 1 84")
+    ++ text_line (codes "  0 ok")
+    ++ text_line (codes "  1 ok")
+    ++ text_line (codes "  2 ok 0 0")
+    ++ text_line (codes "pending 0")

@@ -300,3 +300,20 @@ printed_uint64 =
     ++ text_line (codes "0 put_var1_all ok")
     ++ text_line (codes "1 get_var1_all ok 18446744073709551615")
     ++ text_line (codes "pending 0")
+
+abbrev pub script_scalar : List ℕ
+script_scalar =
+    text_line (codes "create 1")
+    ++ text_line (codes "ranks 1")
+    ++ text_line (codes "var int a []")
+    ++ text_line (codes "data")
+    ++ text_line (codes "0 put_var_all a 5")
+    ++ text_line (codes "0 get_var1_all a []")
+    ++ text_line (codes "end")
+
+abbrev pub printed_scalar : List ℕ
+printed_scalar =
+    text_line (codes "rank 0")
+    ++ text_line (codes "0 put_var_all ok")
+    ++ text_line (codes "1 get_var1_all ok 5")
+    ++ text_line (codes "pending 0")

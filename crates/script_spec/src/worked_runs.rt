@@ -6,11 +6,13 @@ ghost use Rattle.nc_base.specs.declared.step.Mark.TheVariants.{Meet, Solo};
 ghost use Rattle.nc_base.specs.declared.step.DiskCall.TheVariants.{Grow, Load, Store};
 ghost use Rattle.script_spec.specs.ScriptGrammar.{fault_of, script_of_utf8};
 ghost use Rattle.script_spec.specs.Shown.{shown};
-ghost use Rattle.script_spec.specs.RunScripts.{script_close, printed_close, script_gets, script_none, script_two_records, script_chars, printed_none, printed_chars, script_overlap, script_refusals, script_kinds, script_independent, script_known, script_modes, script_map, script_serial, printed_overlap, printed_refusals, printed_kinds, printed_known, printed_modes, printed_map, script_uint64, printed_uint64};
-ghost use Rattle.script_spec.specs.PostScripts.{script_cancelled, script_left, printed_cancelled, printed_left, script_three, printed_three, script_ten, printed_ten, script_buffer, script_items, printed_buffer, printed_items, script_varn_post, printed_varn_post, script_serial_posts, printed_serial_posts};
-ghost use Rattle.script_spec.specs.ManyRegionScripts.{script_varn, printed_varn, script_varn_self, printed_varn_self, script_varn_empty, printed_varn_empty, script_varn_refused, printed_varn_refused};
+ghost use Rattle.script_spec.specs.RunScripts.{script_close, printed_close, script_gets, script_none, script_two_records, script_chars, printed_none, printed_chars, script_overlap, script_refusals, script_kinds, script_independent, script_known, script_modes, script_map, script_serial, printed_overlap, printed_refusals, printed_kinds, printed_known, printed_modes, printed_map, script_uint64, printed_uint64, script_scalar, printed_scalar};
+ghost use Rattle.script_spec.specs.ModeScripts.{script_both_modes, printed_both_modes, script_sync, printed_sync, script_put_first, printed_put_first, script_sieved};
+ghost use Rattle.script_spec.specs.RecordScripts.{script_record_twice, printed_record_twice, script_odd_records, script_opened_records, printed_opened_records, script_fill_beside_records};
+ghost use Rattle.script_spec.specs.PostScripts.{script_cancelled, script_left, printed_cancelled, printed_left, script_three, printed_three, script_ten, printed_ten, script_buffer, script_items, printed_buffer, printed_items, script_varn_post, printed_varn_post, script_serial_posts, printed_serial_posts, script_buffer_of_bputs, printed_buffer_of_bputs, script_get_beside_pair, printed_get_beside_pair};
+ghost use Rattle.script_spec.specs.ManyRegionScripts.{script_varn, printed_varn, script_varn_self, printed_varn_self, script_varn_self_far, printed_varn_self_far, script_varn_empty, printed_varn_empty, script_varn_refused, printed_varn_refused};
 ghost use Rattle.script_spec.specs.DatasetScripts.{script_fill, printed_fill, script_fill_record, printed_fill_record, script_fill_fixed, printed_fill_fixed, script_opened, printed_opened, script_added, printed_added};
-ghost use Rattle.serial_spec.specs.Examples.{int_bytes, dataset_a, file_halves, dataset_a_moved, file_moved};
+ghost use Rattle.serial_spec.specs.Examples.{int_bytes, dataset_a, file_halves, dataset_a_moved, file_moved, dataset_b_4, file_records};
 ghost use Rattle.script_spec.specs.FaultyScripts.{faulty_fill_twice, faulty_no_part, faulty_many_parts, faulty_part};
 ghost use Rattle.nc_base.specs.declared.errors.ScriptKind.TheVariants as kind;
 ghost use Rattle.nc_base.specs.declared.errors.LimitName.TheVariants as limit;
@@ -25,6 +27,25 @@ pub fn worked_answers()
     ensures known { printed script_known (Meet 0 ∷ Solo 0 1 ∷ Solo 1 2 ∷ Meet 1 ∷ []) ≡ printed_known }
     ensures modes { printed script_modes (Meet 0 ∷ Meet 1 ∷ Meet 2 ∷ Meet 3 ∷ []) ≡ printed_modes }
     ensures index_map { printed script_map (Meet 0 ∷ Meet 1 ∷ Meet 2 ∷ []) ≡ printed_map }
+    ensures scalar { printed script_scalar (Meet 0 ∷ Meet 1 ∷ []) ≡ printed_scalar }
+{}
+
+/// Calls that a mode refuses or takes, the record count that a sync makes known, an independent wait, an independent put in small windows.
+pub fn worked_modes()
+    ensures both { printed script_both_modes (Meet 0 ∷ Meet 1 ∷ Meet 2 ∷ Meet 3 ∷ Meet 4 ∷ Meet 5 ∷ Solo 0 12 ∷ Meet 6 ∷ []) ≡ printed_both_modes }
+    ensures sync { printed script_sync (Meet 0 ∷ Solo 0 1 ∷ Meet 1 ∷ Meet 2 ∷ []) ≡ printed_sync }
+    ensures put_first { printed script_put_first (Meet 0 ∷ Solo 0 3 ∷ Meet 1 ∷ []) ≡ printed_put_first }
+    ensures sieved { calls_made script_sieved (Meet 0 ∷ Solo 0 1 ∷ Meet 1 ∷ []) ≡ Store 80 4 ∷ Store 88 6 ∷ Store 94 2 ∷ [] }
+{}
+
+/// Records: two puts of the same new record, which make none; every second record; the records of an opened dataset; no fill of records.
+pub fn worked_records()
+    ensures twice_text { printed script_record_twice (Meet 0 ∷ []) ≡ printed_record_twice }
+    ensures twice_data { data_of script_record_twice (Meet 0 ∷ []) ≡ [] }
+    ensures twice_calls { calls_made script_record_twice (Meet 0 ∷ []) ≡ [] }
+    ensures odd_calls { calls_made script_odd_records (Meet 0 ∷ []) ≡ Grow 92 ∷ Load 82 10 ∷ Store 82 10 ∷ Store 4 4 ∷ [] }
+    ensures opened_text { printed_on script_opened_records dataset_b_4 file_records (Meet 0 ∷ Meet 1 ∷ []) ≡ printed_opened_records }
+    ensures fill_data { data_of script_fill_beside_records [] ≡ 129 ∷ 129 ∷ 0 ∷ 0 ∷ [] }
 {}
 
 /// The data of small runs.
@@ -51,6 +72,8 @@ pub fn worked_requests()
     ensures three { printed script_three (Meet 0 ∷ []) ≡ printed_three }
     ensures ten { printed script_ten (Meet 0 ∷ Meet 1 ∷ []) ≡ printed_ten }
     ensures ten_calls { calls_made script_ten (Meet 0 ∷ Meet 1 ∷ []) ≡ Store 80 40 ∷ [] }
+    ensures buffer_of_bputs { printed script_buffer_of_bputs [] ≡ printed_buffer_of_bputs }
+    ensures get_beside_pair { printed script_get_beside_pair (Meet 0 ∷ []) ≡ printed_get_beside_pair }
 {}
 
 /// Runs at the edges.
@@ -82,6 +105,7 @@ pub fn worked_many_regions()
     ensures varn_data { data_of script_varn (Meet 0 ∷ Meet 1 ∷ []) ≡ int_bytes (8 ∷ 9 ∷ 0 ∷ 7 ∷ []) }
     ensures varn_calls { calls_made script_varn (Meet 0 ∷ Meet 1 ∷ []) ≡ Load 80 16 ∷ Store 80 16 ∷ Load 80 16 ∷ [] }
     ensures self_text { printed script_varn_self (Meet 0 ∷ []) ≡ printed_varn_self }
+    ensures self_far { printed script_varn_self_far (Meet 0 ∷ []) ≡ printed_varn_self_far }
     ensures self_data { data_of script_varn_self (Meet 0 ∷ []) ≡ replicate 16 0 }
     ensures empty_text { printed script_varn_empty (Meet 0 ∷ []) ≡ printed_varn_empty }
     ensures empty_data { data_of script_varn_empty (Meet 0 ∷ []) ≡ int_bytes (5 ∷ 0 ∷ 0 ∷ 0 ∷ []) }

@@ -1,11 +1,11 @@
 //! What scripts mean, and which are refused.
 
-ghost use Rattle.std.specs.Prelude.{◌≡◌, ℕ, List, nat_lt, ◌^◌, ◌+◌, [], ◌∷◌, ◌++◌, length, None, true, codes, Ok, Err, false};
+ghost use Rattle.std.specs.Prelude.{◌≡◌, ℕ, List, nat_lt, ◌^◌, ◌+◌, ◌-◌, [], ◌∷◌, ◌++◌, length, map, replicate, Some, None, pos, true, codes, Ok, Err, false};
 ghost use Rattle.serial_spec.specs.SoundHeaders.{is_writable};
 ghost use Rattle.serial_spec.specs.Examples.{laid_out};
-ghost use Rattle.script_spec.specs.TextExamples.{script_halves, halves_read, fault_at, start_lines, script_read};
+ghost use Rattle.script_spec.specs.TextExamples.{script_halves, halves_read, fault_at, start_lines, script_read, hint_read, values_read};
 ghost use Rattle.script_spec.specs.ScriptGrammar.{fault_of, script_fault, script_of_lines, script_of_utf8, within_lines};
-ghost use Rattle.script_spec.specs.ScriptWords.{words};
+ghost use Rattle.script_spec.specs.ScriptWords.{words, is_name, bits_of_text, size_of_text};
 ghost use Rattle.script_spec.specs.ScriptCalls.{call_of};
 ghost use Rattle.script_spec.specs.Shown.{shown, shown_call};
 ghost use Rattle.script_spec.specs.Texts.{text_line};
@@ -18,6 +18,7 @@ ghost use Rattle.nc_base.specs.declared.errors.ScriptKind.TheVariants as kind;
 ghost use Rattle.nc_base.specs.declared.script.Script.{Script};
 ghost use Rattle.nc_base.specs.declared.errors.LimitName.TheVariants as limit;
 ghost use Rattle.nc_base.specs.declared.request.Choice.TheVariants.{Listed};
+ghost use Rattle.nc_base.specs.declared.request.Values.TheVariants.{Bits, Numbers};
 ghost use Rattle.nc_base.specs.declared.request.Call.TheVariants as call;
 
 /// A script is read, and what is shown of it is read again.
@@ -125,6 +126,37 @@ pub fn worked_words()
     ensures without_end { fault_of (script_of_utf8 faulty_without_end) ≡ fault_at 8 kind.NoEnd }
     ensures text_after_end { fault_of (script_of_utf8 faulty_after_end) ≡ fault_at 9 kind.AfterEnd }
     ensures many_dimensions { fault_of (script_of_utf8 faulty_dimensions) ≡ fault_at 4 (kind.Limit limit.VarDims) }
+{}
+
+/// Hints at and past the ends of their ranges: the place of the hint in the table with its value, or the fault.
+pub fn worked_hints()
+    ensures nodes { map hint_read (codes "cb_nodes 64" ∷ codes "cb_nodes 65" ∷ codes "cb_nodes 0" ∷ []) ≡ Ok (0, 64) ∷ Err kind.BadNumber ∷ Err kind.BadNumber ∷ [] }
+    ensures buffers { map hint_read (codes "cb_buffer_size 33554432" ∷ codes "cb_buffer_size 33554433" ∷ codes "ind_rd_buffer_size 33554433" ∷ codes "ind_wr_buffer_size 33554433" ∷ [])
+        ≡ Ok (1, 33554432) ∷ Err kind.BadNumber ∷ Err kind.BadNumber ∷ Err kind.BadNumber ∷ [] }
+    ensures line_room { hint_read (codes "line_room 65") ≡ Err kind.BadNumber }
+    ensures alignments { map hint_read (codes "nc_header_align_size 6" ∷ codes "nc_header_align_size 0" ∷ codes "nc_var_align_size 1048576" ∷ codes "nc_var_align_size 1048580" ∷ [])
+        ≡ Err kind.BadNumber ∷ Err kind.BadNumber ∷ Ok (8, 1048576) ∷ Err kind.BadNumber ∷ [] }
+    ensures striping { hint_read (codes "striping_unit 33554433") ≡ Err kind.BadNumber }
+    ensures other_word { hint_read (codes "overlap no") ≡ Err kind.UnknownWord }
+{}
+
+/// Names, bits and sizes at and past the ends of their forms.
+pub fn worked_forms()
+    ensures names { map is_name (codes "a.-+@_9Z" ∷ codes ".a" ∷ codes "-a" ∷ codes "_" ∷ codes "9" ∷ replicate 256 97 ∷ replicate 257 97 ∷ [])
+        ≡ true ∷ false ∷ false ∷ true ∷ true ∷ true ∷ false ∷ [] }
+    ensures bits { map bits_of_text (codes "xaF09" ∷ codes "x" ∷ codes "xg" ∷ codes "xffffffffffffffff" ∷ codes "x0ffffffffffffffff" ∷ [])
+        ≡ Some 44809 ∷ None ∷ None ∷ Some (2 ^ 64 - 1) ∷ None ∷ [] }
+    ensures sizes { map size_of_text (codes "9223372036854775807" ∷ codes "9223372036854775808" ∷ codes "00000000000000000001" ∷ codes "000000000000000000001" ∷ [])
+        ≡ Some (2 ^ 63 - 1) ∷ None ∷ Some 1 ∷ None ∷ [] }
+{}
+
+/// Sequences of numbers and of bits: their values, their last value within its range and past it, and none.
+pub fn worked_sequences()
+    ensures bits { values_read (codes "seqx 3 x1 xF") ≡ Ok (Bits (1 ∷ 16 ∷ 31 ∷ [])) }
+    ensures last_bits { map values_read (codes "seqx 2 x1 xFFFFFFFFFFFFFFFE" ∷ codes "seqx 2 x1 xFFFFFFFFFFFFFFFF" ∷ []) ≡ Ok (Bits (1 ∷ (2 ^ 64 - 1) ∷ [])) ∷ Err kind.BadNumber ∷ [] }
+    ensures no_bits { map values_read (codes "seqx 0 x1 x1" ∷ codes "seqx 1 1 x1" ∷ codes "seqx 1 x1 1" ∷ []) ≡ Ok (Numbers []) ∷ Err kind.BadNumber ∷ Err kind.BadNumber ∷ [] }
+    ensures last_number { map values_read (codes "seq 2 99999999999999999998 1" ∷ codes "seq 2 99999999999999999999 1" ∷ codes "seq 1 99999999999999999999 1" ∷ [])
+        ≡ Ok (Numbers (pos 99999999999999999998 ∷ pos 99999999999999999999 ∷ [])) ∷ Err kind.BadNumber ∷ Ok (Numbers (pos 99999999999999999999 ∷ [])) ∷ [] }
 {}
 
 /// Calls that name no region, one of each family, as rank 1 of 2 makes them: read, and shown.

@@ -1,13 +1,14 @@
 //! What is printed, and the generated script.
 
-ghost use Rattle.std.specs.Prelude.{true, ◌≡◌, ◌+◌, [], ◌∷◌, ◌++◌, length, codes, ◌-◌, option_map, Some, take};
+ghost use Rattle.std.specs.Prelude.{true, false, map, ◌≡◌, ◌+◌, [], ◌∷◌, ◌++◌, length, codes, ◌-◌, option_map, Some, take};
 ghost use Rattle.serial_spec.specs.HeaderBytes.{header_len};
 ghost use Rattle.serial_spec.specs.HeaderFaults.{field_fault};
 ghost use Rattle.serial_spec.specs.Examples.{header_a, ended, halves, no_align, thin_script, dataset_b, dim, var, dataset_a_moved, defined};
 ghost use Rattle.serial_spec.specs.Layout.{recsize, begins};
 ghost use Rattle.script_spec.specs.TextExamples.{with_layout, text_of, text_halves, script_read, thin_lines, thin_answers, thin_printed, offsets_of_record, offsets_with_room, script_summed, summed, text_summed};
-ghost use Rattle.nc_base.specs.declared.step.Mark.TheVariants.{Meet};
-ghost use Rattle.script_spec.specs.Texts.{text_line, watch_text, script_line, redef_line, layout_line, offsets_text, header_line};
+ghost use Rattle.nc_base.specs.declared.step.Mark.TheVariants.{Meet, Solo};
+ghost use Rattle.script_spec.specs.Texts.{text_line, watch_text, script_line, redef_line, layout_line, offsets_text, header_line, usage_line, disk_line, quoted, mark_word};
+ghost use Rattle.script_spec.specs.PostScripts.{script_left};
 ghost use Rattle.script_spec.specs.Generator.{first_row, has_counts, made_calls, made_header};
 ghost use Rattle.nc_base.specs.declared.header.NcType.TheVariants.{Float, Short, Int};
 ghost use Rattle.serial_spec.specs.Redefinition.{layout_fault};
@@ -36,6 +37,14 @@ pub fn worked_lines()
     ensures taken { redef_line (redef.Taken 0) ≡ text_line (codes "ncrun: redefinition 0: name taken") }
     ensures watchers { watch_text (((0, 0) ∷ (2, 4) ∷ []) ∷ []) ≡ text_line (codes "watcher 0") ++ text_line (codes "0 0") ++ text_line (codes "2 4") }
     ensures large { layout_line (layout.VarSize 2) ≡ text_line (codes "ncrun: variable 2 is too large") }
+    ensures usage { usage_line ≡ codes "ncrun: usage: ncrun [--offsets] [--generate SEED [--size N]] [--watch N] DATASET\n" }
+    ensures disk { disk_line ≡ codes "ncrun: disk fault\n" }
+{}
+
+/// A text in quotes, with the escapes of a quote, a backslash, a newline, a tab and of bytes that are not printed; and the words of marks.
+pub fn worked_quotes()
+    ensures text { quoted (34 ∷ 92 ∷ 10 ∷ 9 ∷ 32 ∷ 126 ∷ 127 ∷ 31 ∷ 0 ∷ 255 ∷ []) ≡ codes "\"\\\"\\\\\\n\\t ~\\x7F\\x1F\\x00\\xFF\"" }
+    ensures marks { map mark_word (Meet 3 ∷ Solo 1 12 ∷ []) ≡ codes "m3" ∷ codes "s1.12" ∷ [] }
 {}
 
 /// The generator.
@@ -52,6 +61,7 @@ pub fn worked_generator()
 /// The ten lines that sum a run up.
 pub fn worked_summary()
     ensures counted { has_counts (script_read script_summed) ≡ true }
+    ensures not_counted { has_counts (script_read script_left) ≡ false }
     ensures text { summed 18446744073709551615 2 script_summed (Meet 0 ∷ Meet 1 ∷ Meet 2 ∷ Meet 3 ∷ []) ≡ text_summed }
 {}
 

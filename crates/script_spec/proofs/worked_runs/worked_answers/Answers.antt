@@ -34,3 +34,7 @@ returns-clause-modes c = refl
 pub returns-clause-index_map : goal.returns-clause-index_map
 unfolding digits canon
 returns-clause-index_map c = refl
+
+pub returns-clause-scalar : goal.returns-clause-scalar
+unfolding digits canon
+returns-clause-scalar c = refl

@@ -62,3 +62,7 @@ returns-clause-many_parts c = refl
 pub returns-clause-missing_part : goal.returns-clause-missing_part
 unfolding digits canon
 returns-clause-missing_part c = refl
+
+pub returns-clause-self_far : goal.returns-clause-self_far
+unfolding digits canon
+returns-clause-self_far c = refl

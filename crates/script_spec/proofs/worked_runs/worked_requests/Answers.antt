@@ -14,3 +14,11 @@ returns-clause-ten c = refl
 pub returns-clause-ten_calls : goal.returns-clause-ten_calls
 unfolding digits canon
 returns-clause-ten_calls c = refl
+
+pub returns-clause-buffer_of_bputs : goal.returns-clause-buffer_of_bputs
+unfolding digits canon
+returns-clause-buffer_of_bputs c = refl
+
+pub returns-clause-get_beside_pair : goal.returns-clause-get_beside_pair
+unfolding digits canon
+returns-clause-get_beside_pair c = refl
