@@ -1,5 +1,5 @@
 -- Worked examples at the ends of ranges: types one by one, variables side by side, begins, lengths and counts just within their bounds.
-use Rattle.std.specs.Prelude.{ℕ, List, [], ◌∷◌, ◌++◌, ◌*◌, ◌+◌, codes, drop, map, replicate, take}
+use Rattle.std.specs.Prelude.{ℕ, List, [], ◌∷◌, ◌++◌, ◌*◌, codes, map, replicate, take}
 use Rattle.nc_base.specs.declared.header.Attr.{Attr}
 use Rattle.nc_base.specs.declared.header.Header.{Header}
 use Rattle.nc_base.specs.declared.header.NcType.{NcType}

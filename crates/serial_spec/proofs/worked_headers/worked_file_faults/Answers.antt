@@ -1,4 +1,4 @@
-use Rattle.std.proofs.Common.{◌≡◌, ℕ, refl, sym, subst, ap, arith, inl, inr, take, Option, Some, None}
+use Rattle.std.proofs.Common.{◌≡◌, ℕ, refl, sym, subst, ap, arith, inl, inr, take, Option, Some}
 use Rattle.list_laws.proofs.Optional.{no_none_some}
 use Rattle.std.specs.Prelude.{[]}
 use Rattle.nc_base.specs.declared.header.Header.{Header}

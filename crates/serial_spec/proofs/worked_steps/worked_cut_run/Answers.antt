@@ -1,4 +1,4 @@
-use Rattle.std.proofs.Common.{◌≡◌, ◌≤◌, ◌<◌, ◌+◌, ℕ, zero, suc, refl, inl, inr, ◌⊎◌, lit<, arith, subst, List, [], ◌∷◌, length, Bool, true, false, Some, ◌++◌}
+use Rattle.std.proofs.Common.{◌≡◌, ◌≤◌, ◌<◌, ◌+◌, ℕ, zero, suc, refl, inl, inr, ◌⊎◌, lit<, arith, subst, List, [], ◌∷◌, length, Bool, true, false, Some}
 use Rattle.std.proofs.lemmas.Bool.Decides.{nat_tests}
 use Rattle.std.specs.Prelude.{filter, slice_get, nat_lt, ◌==◌, ◌||◌, ◌&&◌}
 use Rattle.std.specs.List.{list_all, range_with_len}
