@@ -1,9 +1,9 @@
 //! Small runs: requests, steps, device calls and arrivals.
 
 ghost use Rattle.std.specs.Prelude.{◌≡◌, ◌+◌, ◌-◌, ◌^◌, [], ◌∷◌, ◌++◌, length, Some, None, pos, replicate, true, map, false, ℕ, take};
-ghost use Rattle.serial_spec.specs.File.{at};
+ghost use Rattle.serial_spec.specs.File.{at, written};
 ghost use Rattle.serial_spec.specs.HeaderBytes.{canon};
-ghost use Rattle.serial_spec.specs.Examples.{dataset_a, first_of_halves, offer_of_halves, reply_with, three_holders, header_a, region, setting_a, created, overlapping, side_by_side, int_bytes, ended, device_calls, halves, interleaved, whole, with_hole, one_record, arrived, empty_offer, two_clients, after_five, with_strange, independent_calls, many_bytes, dataset_b, packed_region, given, var, two_alone};
+ghost use Rattle.serial_spec.specs.Examples.{dataset_a, first_of_halves, offer_of_halves, reply_with, three_holders, header_a, region, setting_a, created, overlapping, side_by_side, int_bytes, ended, device_calls, halves, interleaved, whole, with_hole, one_record, arrived, empty_offer, two_clients, after_five, with_strange, independent_calls, many_bytes, dataset_b, packed_region, given, var, two_alone, file_halves, dataset_aq};
 ghost use Rattle.serial_spec.specs.Request.{packed_bytes, spread};
 ghost use Rattle.nc_base.specs.declared.header.NcType.TheVariants.{Int, Short};
 ghost use Rattle.nc_base.specs.declared.request.Values.TheVariants.{Numbers};
@@ -24,7 +24,7 @@ ghost use Rattle.nc_base.specs.declared.run.RankStop.TheVariants.{Done, Stopped,
 ghost use Rattle.serial_spec.specs.RegionCheck.{check, widen};
 ghost use Rattle.serial_spec.specs.Records.{records_of};
 ghost use Rattle.serial_spec.specs.EdgeExamples.{whole_then_ends, file_a};
-ghost use Rattle.serial_spec.specs.Torn.{IsCutRun};
+ghost use Rattle.serial_spec.specs.Torn.{IsCutRun, IsLengthened, IsTornCreation, IsTornRedefinition};
 ghost use Rattle.nc_base.specs.declared.step.StepErr.TheVariants.{Disk};
 ghost use Rattle.nc_base.specs.declared.request.Direction.TheVariants.{Put, Get};
 ghost use Rattle.nc_base.specs.declared.step.RankItem.TheVariants as item;
@@ -124,6 +124,21 @@ pub fn worked_cut_run()
     ensures outside { IsCutRun whole_then_ends dataset_a (file_a (0 ∷ 0 ∷ 0 ∷ 0 ∷ [])) Disk (Meet 0 ∷ []) (file_a (1 ∷ 9 ∷ 3 ∷ 4 ∷ [])) 0 ((answer Ok ∷ []) ∷ []) → ⊥ }
     ensures answered { IsCutRun whole_then_ends dataset_a (file_a (0 ∷ 0 ∷ 0 ∷ 0 ∷ [])) Disk (Meet 0 ∷ []) (file_a (1 ∷ 2 ∷ 3 ∷ 4 ∷ [])) 0 ((answer Ok ∷ answer Ok ∷ []) ∷ []) → ⊥ }
     ensures unheard { IsCutRun whole_then_ends dataset_a (file_a (0 ∷ 0 ∷ 0 ∷ 0 ∷ [])) Disk (Meet 0 ∷ []) (file_a (1 ∷ 2 ∷ 3 ∷ 4 ∷ [])) 0 ([] ∷ []) → ⊥ }
+{}
+
+/// What a run may leave of a file before its ranks begin, with a byte else or one too many: of A's header as a file that is made longer, of
+/// a file of three bytes in whose place A is created, of A's file that is redefined.
+#[tactic(auto, unfolding(crate::specs::HeaderBytes::canon))]
+pub fn worked_torn_opening()
+    ensures longer { IsLengthened 96 header_a (header_a ++ replicate 4 0) }
+    ensures not_zero { IsLengthened 96 header_a (header_a ++ 1 ∷ []) → ⊥ }
+    ensures past_end { IsLengthened 96 header_a (header_a ++ replicate 17 0) → ⊥ }
+    ensures old { IsTornCreation header_a (file_a (0 ∷ 0 ∷ 0 ∷ 0 ∷ [])) (1 ∷ 2 ∷ 3 ∷ []) (1 ∷ 2 ∷ 3 ∷ []) }
+    ensures begun { IsTornCreation header_a (file_a (0 ∷ 0 ∷ 0 ∷ 0 ∷ [])) (1 ∷ 2 ∷ 3 ∷ []) (take 40 header_a ++ replicate 56 0) }
+    ensures other { IsTornCreation header_a (file_a (0 ∷ 0 ∷ 0 ∷ 0 ∷ [])) (1 ∷ 2 ∷ 3 ∷ []) (take 40 header_a ++ 9 ∷ replicate 55 0) → ⊥ }
+    ensures redefining { IsTornRedefinition 116 140 file_halves (canon dataset_aq ++ int_bytes (1 ∷ 2 ∷ 3 ∷ 4 ∷ []) ++ replicate 8 0) (file_halves ++ replicate 44 0) }
+    ensures other_head { IsTornRedefinition 116 140 file_halves (canon dataset_aq ++ int_bytes (1 ∷ 2 ∷ 3 ∷ 4 ∷ []) ++ replicate 8 0)
+        (written (file_halves ++ replicate 44 0) 79 (9 ∷ [])) → ⊥ }
 {}
 
 /// Bytes that three requests hold, and what pairs say of a place.

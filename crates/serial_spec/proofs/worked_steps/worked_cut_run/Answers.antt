@@ -1,9 +1,8 @@
-use Rattle.std.proofs.Common.{◌≡◌, ◌≤◌, ◌<◌, ◌+◌, ℕ, zero, suc, refl, inl, inr, ◌⊎◌, lit<, arith, subst, List, [], ◌∷◌, length, Bool, true, false, Some}
-use Rattle.std.proofs.lemmas.Bool.Decides.{nat_tests}
+use Rattle.std.proofs.Common.{◌≡◌, ◌≤◌, ◌<◌, ℕ, zero, suc, refl, inl, inr, ◌⊎◌, lit<, arith, List, [], ◌∷◌, length, Bool, true, false, Some}
 use Rattle.std.specs.Prelude.{filter, slice_get, nat_lt, ◌==◌, ◌||◌, ◌&&◌}
 use Rattle.std.specs.List.{list_all, range_with_len}
 use borrow.Author.Tests.{eqb-true, ltb-true}
-use Rattle.list_laws.proofs.Truth.{and_first, and_second}
+use Rattle.list_laws.proofs.Truth.{and_first}
 use Rattle.list_laws.proofs.Optional.{if_some_at, no_none_some}
 use Rattle.nc_base.specs.declared.answer.Answer.{Answer}
 use Rattle.nc_base.specs.declared.answer.Code.TheVariants.{Ok}
@@ -18,17 +17,10 @@ use Rattle.serial_spec.specs.History.{IsLegal, concerns, marks}
 use Rattle.serial_spec.specs.RankMachine.{answer}
 use Rattle.serial_spec.specs.SerialEnd.{Going, setting_of, state_after}
 use Rattle.serial_spec.specs.Torn.{HasAnswers, IsTorn, StoodAt, in_step, in_close, between, may_change}
+use Rattle.serial_spec.proofs.EachBelow.{each_below}
 use Rattle.serial_spec.proofs.worked_steps.worked_cut_run.Goals as goal
 
 -- ---- torn files by a test of each byte
-
-each_passes : (test : ℕ → Bool) (a n : ℕ) → list_all test (range_with_len a n) ≡ true → (x : ℕ) → a ≤ x → x < a + n → test x ≡ true
-each_passes test a zero h x low high = absurd (omega (arith, low, high))
-each_passes test a (suc n) h x low high = by_test (a == x) refl (λ above. each_passes test (a + 1) n (and_second (test a) _ h) x above (omega (arith, high)))
-  where
-    by_test : (t : Bool) → (a == x) ≡ t → (a + 1 ≤ x → test x ≡ true) → test x ≡ true
-    by_test true e later = subst (λ y. test y ≡ true) (eqb-true a x e) (and_first (test a) _ h)
-    by_test false e later = later (grind (arith, nat_tests))
 
 either : (old may new : Bool) → (old || (may && new)) ≡ true → (old ≡ true) ⊎ (new ≡ true)
 either true may new h = inl refl
@@ -49,7 +41,7 @@ torn_by_test held old new left long short tests =
     record { long = long; short = short; changed = changed; kept = kept }
   where
     passes : (x : ℕ) → x < length left → is_torn_byte held old new left x ≡ true
-    passes x low = each_passes (is_torn_byte held old new left) 0 (length left) tests x (omega arith) (omega (arith, low))
+    passes x low = each_below (is_torn_byte held old new left) (length left) tests x low
 
     told : (x : ℕ) → (at left x == at old x) ≡ true ⊎ (at left x == at new x) ≡ true → (at left x ≡ at old x) ⊎ (at left x ≡ at new x)
     told x (inl e) = inl (eqb-true _ _ e)
