@@ -36,7 +36,7 @@ most_posts _ = 0
 
 abbrev pub offers_towards : machine.Rank → OfferKind → Direction → looks.Look → machine.Rank × Want
 offers_towards r kind direction l =
-    machine.offers r kind (batch_towards direction (machine.posts_of l)) (machine.code_of_look l) [] true r.independent
+    machine.offers_look r kind l (batch_towards direction (machine.posts_of l))
 
 -- one that asks for regions asks for some
 abbrev pub IsSomeLook : Look → Type 0
