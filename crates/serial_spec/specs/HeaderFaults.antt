@@ -4,7 +4,7 @@
 --     field_fault bytes        the same as a function
 --     first_check header       the first thing that is wrong with a whole header
 --     HasFault bytes e         the fault of a file's first bytes: of a field, or of the whole header
-use Rattle.std.specs.Prelude.{◌≡◌, ℕ, zero, suc, ◌+◌, ◌-◌, ◌*◌, ◌/◌, ◌^◌, List, [], ◌∷◌, ◌++◌, take, drop, fold, length, position, count_by, Bool, true, false, not, ◌&&◌, ◌||◌, ◌⊎◌, nat_lt, nat_le, ◌==◌, if◌then◌else◌, Option, Some, None, option_map, is_none, slice_get}
+use Rattle.std.specs.Prelude.{◌≡◌, ℕ, zero, suc, ◌+◌, ◌-◌, ◌*◌, ◌/◌, ◌^◌, List, [], ◌∷◌, ◌++◌, take, drop, fold, length, position, count_by, find, Bool, true, false, not, ◌&&◌, ◌||◌, ◌⊎◌, nat_lt, nat_le, ◌==◌, if◌then◌else◌, Option, Some, None, option_map, is_none, unwrap_or, slice_get}
 use Rattle.std.specs.List.{list_any}
 use Rattle.std.specs.Option.{option_or}
 use Rattle.std.specs.Int.{byte_len}
@@ -13,8 +13,9 @@ use Rattle.nc_base.specs.declared.header.Var.{Var}
 use Rattle.nc_base.specs.declared.errors.HeaderErr.{HeaderErr}
 use Rattle.nc_base.specs.declared.errors.HeaderErr.TheVariants as fault
 use Rattle.serial_spec.specs.Limits.{most_dims, most_dims_of_var, most_vars, most_header_bytes, file_limit, record_limit}
+use Rattle.serial_spec.specs.ExternalForm.{size_of, types}
 use Rattle.serial_spec.specs.Layout.{round_up, vsize, is_record, recsize, last_share, length_of, record_share, sharing}
-use Rattle.serial_spec.specs.HeaderBytes.{count_width, begin_width, last_type, is_version, dimension_tag, variable_tag, attribute_tag, header_len}
+use Rattle.serial_spec.specs.HeaderBytes.{count_width, begin_width, number_of, last_type, is_version, dimension_tag, variable_tag, attribute_tag, header_len}
 use Rattle.serial_spec.specs.HeaderGrammar.{all_ones, Spells}
 
 -- ---- the fields that the grammar asks for
@@ -67,8 +68,9 @@ abbrev pub block : ℕ → List Ask
 block zero = []
 block (suc n) = One (Block n) ∷ []
 
+-- the size of the type with this number, 0 where none has it
 abbrev pub type_size : ℕ → ℕ
-type_size n = if n == 1 || n == 2 || n == 7 then 1 else (if n == 3 || n == 8 then 2 else (if n == 4 || n == 5 || n == 9 then 4 else 8))
+type_size n = unwrap_or (option_map size_of (find (λ kind. n == number_of kind) types)) 0
 
 -- what a field with this number asks for next
 abbrev pub after_field : Field → ℕ → List Ask
