@@ -1,5 +1,5 @@
 -- The posts that a call comes to are those of one request: there are some, under its id, of one variable.
-use Rattle.std.proofs.Common.{◌≡◌, ℕ, ◌+◌, ◌<◌, ◌≤◌, ◌∙◌, ap, sym, refl, subst, inl, inr, List, [], ◌∷◌, length, Bool, true, false, ltb, ◌&&◌, Option, Some, None, arith}
+use Rattle.std.proofs.Common.{◌≡◌, ℕ, ◌+◌, ◌<◌, ◌≤◌, ◌∙◌, ap, sym, refl, subst, inl, inr, List, [], ◌∷◌, length, Bool, true, false, ltb, Option, Some, None, arith}
 use Rattle.std.specs.Prelude.{filter, slice_get}
 use Rattle.std.proofs.lemmas.Bool.{ltb-true}
 use Rattle.nc_base.specs.declared.header.Header.{Header}
@@ -15,7 +15,7 @@ use Rattle.overlay_laws.specs.Entries.{In}
 use Rattle.serial_spec.specs.Layout.{product}
 use Rattle.serial_spec.specs.SoundHeaders.{is_sound}
 use Rattle.serial_spec.specs.Looks as looks
-use Rattle.serial_spec.specs.Looks.{look_region, look_parts, look_at, part_posts, parts_code, data_code, data_bytes, direction_of, is_varn, find_var}
+use Rattle.serial_spec.specs.Looks.{look_region, look_parts, look_at, part_posts, parts_code, data_code, direction_of, is_varn, find_var}
 use Rattle.serial_spec.specs.RegionCheck.{widen, check_var, check_parts, part_regions, elements_of_all, has_element}
 use Rattle.rank_core.proofs.OutcomeLaws.{outcome}
 use Rattle.rank_core.proofs.LookLaws.{length-part_posts, look_few, look_posts, ArePosts}

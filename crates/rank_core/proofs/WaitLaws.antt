@@ -4,7 +4,6 @@ use Rattle.nc_base.specs.declared.header.Header.{Header}
 use Rattle.nc_base.specs.declared.answer.Answer.{Answer}
 use Rattle.nc_base.specs.declared.answer.Code.{Code}
 use Rattle.nc_base.specs.declared.answer.Code.TheVariants as code
-use Rattle.nc_base.specs.declared.answer.Item.{Item}
 use Rattle.nc_base.specs.declared.plan.Batch.{Batch}
 use Rattle.nc_base.specs.declared.plan.Post.{Post}
 use Rattle.nc_base.specs.declared.request.Call.{Call}
@@ -17,7 +16,7 @@ use Rattle.nc_base.specs.declared.step.MeetKind.TheVariants as meets
 use Rattle.nc_base.specs.declared.step.Want.{Want}
 use Rattle.serial_spec.specs.RankMachine as machine
 use Rattle.serial_spec.specs.Looks.{Look, Refused, Empty, Asks, look, look_fill}
-use Rattle.serial_spec.specs.RankMachine.{Rank, Open, open_blocking, offers, offers_look, answers, answer, posts, post_after, without_chosen, chosen, batch_chosen, buffer_code, bytes_in, attach_code, detach_code, batch_of, code_of_look, posts_of, no_posts, items_of, values_of_post}
+use Rattle.serial_spec.specs.RankMachine.{Rank, Open, open_blocking, offers, offers_look, answers, answer, posts, post_after, without_chosen, chosen, batch_chosen, buffer_code, bytes_in, attach_code, detach_code, batch_of, code_of_look, posts_of, no_posts, values_of_post}
 use Rattle.serial_spec.specs.RegionCheck.{is_ok_code}
 use Rattle.rank_core.specs.Ranked.{WaitsFor}
 

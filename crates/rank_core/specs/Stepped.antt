@@ -2,7 +2,7 @@
 --     IsStepTo before after most stepped want   the model's rank and want; what it offers a step takes; at most so many posts more
 --     offers_towards rank kind direction look   what a blocking call offers
 --     most_posts call                           how many posts a call brings
-use Rattle.std.specs.Prelude.{◌≡◌, ◌≤◌, ◌<◌, ◌+◌, ℕ, [], max, length, true}
+use Rattle.std.specs.Prelude.{◌≡◌, ◌≤◌, ◌<◌, ◌+◌, ℕ, max, length}
 use Rattle.nc_base.specs.declared.step.OfferKind.{OfferKind}
 use Rattle.nc_base.specs.declared.step.Want.{Want}
 use Rattle.nc_base.specs.declared.request.Direction.{Direction}

@@ -3,7 +3,7 @@
 --     changes s                 its place changes
 --     gaps at end slabs         the bytes between the slabs in the new file, from `at` to the end, as place and length; some are empty
 --     IsRisen a b slabs         the slabs stand one behind another, from place a in the old file and b in the new one
-use Rattle.std.specs.Prelude.{ℕ, ◌+◌, ◌-◌, ◌*◌, ◌<◌, ◌≤◌, List, [], ◌∷◌, ◌++◌, map, filter, flat_map, zip, Bool, not, ◌==◌, nat_le, if◌then◌else◌}
+use Rattle.std.specs.Prelude.{ℕ, ◌+◌, ◌-◌, ◌*◌, ◌<◌, ◌≤◌, List, [], ◌∷◌, ◌++◌, map, filter, flat_map, zip, Bool, not, ◌==◌, nat_le}
 use Rattle.std.specs.List.{range_with_len}
 use Rattle.nc_base.specs.declared.header.Header.{Header}
 use Rattle.nc_base.specs.declared.header.Var.{Var}

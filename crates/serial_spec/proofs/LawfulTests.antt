@@ -1,11 +1,10 @@
 -- A lawful script, test by test.
-use Rattle.std.proofs.Common.{◌≡◌, ◌≤◌, length, map, true, ℕ, Bool, ◌&&◌, ◌-◌, refl, arith}
-use Rattle.std.specs.Prelude.{nat_le, sum, ◌==◌}
-use Rattle.std.specs.List.{enumerate_from, list_all}
+use Rattle.std.proofs.Common.{◌≡◌, ◌≤◌, length, map, true, ℕ, ◌-◌}
+use Rattle.std.specs.Prelude.{nat_le, sum}
 use Rattle.std.proofs.lemmas.Bool.{and_from, eq-eqb, eqb-true, le-leb, leb-true}
 use Rattle.list_laws.proofs.Truth.{and_first, and_second}
 use Rattle.nc_base.specs.declared.script.Script.{Script}
-use Rattle.serial_spec.specs.Lawful.{added_dims, added_vars, agree, are_different, are_lawful_hints, is_lawful, is_lawful_call, is_lawful_extra, is_lawful_header, is_within, most_calls, most_ranks, most_values, posted_ids, values_in_script, IsLawful}
+use Rattle.serial_spec.specs.Lawful.{added_dims, added_vars, are_lawful_hints, is_lawful, is_within, most_calls, most_ranks, most_values, values_in_script, IsLawful}
 use Rattle.serial_spec.specs.Limits.{most_dims, most_vars}
 
 -- the tests from the last back

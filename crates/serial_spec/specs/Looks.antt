@@ -2,7 +2,7 @@
 -- errors. The order of the refusals is (own).
 --     look header known id name ..        of a region, or of many: a refusal, nothing, or posts
 --     look_fill header name number ..     of a rank's share of a record
-use Rattle.std.specs.Prelude.{ℕ, ◌+◌, ◌-◌, nat_le, ◌||◌, replicate, List, [], ◌∷◌, map, filter, flat_map, length, position, Bool, true, false, not, ◌&&◌, nat_lt, Option, Some, None, is_none, slice_get, bytes_eq}
+use Rattle.std.specs.Prelude.{ℕ, ◌+◌, ◌-◌, nat_le, ◌||◌, replicate, List, [], ◌∷◌, map, filter, flat_map, length, position, Bool, true, false, not, nat_lt, Option, Some, None, is_none, slice_get, bytes_eq}
 use Rattle.std.specs.List.{list_any, range_with_len}
 use Rattle.nc_base.specs.declared.header.Header.{Header}
 use Rattle.nc_base.specs.declared.header.Var.{Var}

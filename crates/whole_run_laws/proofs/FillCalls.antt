@@ -26,7 +26,7 @@ use Rattle.serial_spec.specs.Limits.{most_elements}
 use Rattle.serial_spec.specs.Place.{IsIndex, place}
 use Rattle.serial_spec.specs.Looks as looks
 use Rattle.serial_spec.specs.Looks.{find_var, fills, is_record_past, look_fill, look_record}
-use Rattle.serial_spec.specs.RankMachine.{code_of_look, fills_record, meets_refused, offers_look, posts_of, Rank, step}
+use Rattle.serial_spec.specs.RankMachine.{code_of_look, meets_refused, offers_look, posts_of, Rank, step}
 use Rattle.serial_spec.specs.SerialEnd.{advance, after_meeting, Going, offers_of, setting_of, state_after}
 use Rattle.run_laws.proofs.OrderLaws.{state_more}
 use Rattle.run_laws.proofs.StandingLaws.{comes_to_meeting}
