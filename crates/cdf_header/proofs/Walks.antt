@@ -222,7 +222,7 @@ variables_tagged : IsTagged Variables
 variables_tagged = record { some = refl; small = omega arith }
 
 list_walk : {A : Type 0} (v : ℕ) (e : Entries) (f : A → List ℕ) (test : A → Bool) → IsTagged e → ((x : A) → test x ≡ true → WalksEntry v e f x)
-    → (xs : List A) → length xs ≤ most_of e → fits_count v (length xs) ≡ true → list_all test xs ≡ true → (rest : List Ask) → Walk v (One (Tag e) ∷ rest) rest (list_of v (tag_of e) f xs)
+    → (xs : List A) → AtMost (most_of e) (length xs) → fits_count v (length xs) ≡ true → list_all test xs ≡ true → (rest : List Ask) → Walk v (One (Tag e) ∷ rest) rest (list_of v (tag_of e) f xs)
 list_walk v e f test tagged one [] few fits all rest =
     walk_then v (One (Tag e) ∷ rest) (One (Count e true) ∷ rest) rest (tag 0) (count v 0)
     (word_walk v 0 (One (Tag e) ∷ rest) rest (One (Count e true) ∷ rest) (Tag e) refl refl (λ b x. refl) (omega arith) (λ x. refl) refl)
@@ -233,20 +233,13 @@ list_walk v e f test tagged one (y ∷ ys) few fits all rest =
     walk_then v (One (Tag e) ∷ rest) (many e n ++ rest) rest (tag (tag_of e) ++ count v n) (flat_map f (y ∷ ys))
     (walk_then v (One (Tag e) ∷ rest) counted (many e n ++ rest) (tag (tag_of e)) (count v n)
     (word_walk v (tag_of e) (One (Tag e) ∷ rest) rest counted (Tag e) refl refl (λ b x. refl) tagged.small (λ x. tag_fine (tag_of e) x) (ap (λ (t : Bool). One (Count e t) ∷ rest) tagged.some))
-    (number_walk v n counted rest (many e n ++ rest) (Count e false) refl refl (λ b x. refl) fits (λ x. few_fine _ _ _ _ (not_negative _ _ fits) (le-ltb (most_of e) n few)) refl))
+    (number_walk v n counted rest (many e n ++ rest) (Count e false) refl refl (λ b x. refl) fits (λ x. few_fine _ _ _ _ (not_negative _ _ fits) (above_none (most_of e) n few)) refl))
     (each_walk v e f test one (y ∷ ys) all rest)
-
-attributes_few : (v n : ℕ) → fits_count v n ≡ true → n ≤ 2 ^ 64
-attributes_few v n h = few_by (v == 5) n h
-  where
-    few_by : (t : Bool) (n : ℕ) → fits_field (cond t w64 w32) n ≡ true → n ≤ 2 ^ 64
-    few_by true n h = let less : 2 * n < 2 ^ 64 = ltb-true _ _ h in omega arith
-    few_by false n h = let less : 2 * n < 2 ^ 32 = ltb-true _ _ h in omega arith
 
 attrs_walk : (v : ℕ) (xs : List Attr) → is_writable_list v (is_writable_attr v) xs ≡ true → (rest : List Ask) → Walk v (One (Tag Attributes) ∷ rest) rest (list_of v 12 (λ a. attribute v a) xs)
 attrs_walk v xs h rest =
     list_walk v Attributes (λ a. attribute v a) (is_writable_attr v) attributes_tagged
-    (λ a k asks more e. attr_walk v a asks more e k) xs (attributes_few v (length xs) (and_first _ _ h)) (and_first _ _ h) (and_second _ _ h) rest
+    (λ a k asks more e. attr_walk v a asks more e k) xs tt (and_first _ _ h) (and_second _ _ h) rest
 
 -- ---- variables
 

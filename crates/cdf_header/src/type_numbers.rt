@@ -25,7 +25,7 @@ pub(crate) fn kind_of(n: u32) -> NcType
     }
 }
 
-/// The bytes of a value of the type with this number.
+/// The bytes of a value of the type with this number; 0 where no type has it.
 pub(crate) fn type_size(n: u32) -> u64
     ensures { result ≡ type_size n }
 {
@@ -33,7 +33,8 @@ pub(crate) fn type_size(n: u32) -> u64
         1 | 2 | 7 => 1,
         3 | 8 => 2,
         4 | 5 | 9 => 4,
-        _ => 8,
+        6 | 10 | 11 => 8,
+        _ => 0,
     }
 }
 

@@ -1,6 +1,6 @@
 -- What is told of an arrival by the tests on it.
 use Rattle.std.proofs.Common.{◌≡◌, ℕ, zero, suc, ◌+◌, ◌*◌, ◌^◌, ◌<◌, ◌≤◌, refl, sym, ◌∙◌, ap, inl, inr, List, [], ◌∷◌, length, map, set, Bool, true, false, not, ◌&&◌, ◌||◌, Option, Some, None, arith}
-use Rattle.std.specs.Prelude.{slice_get, is_some, nat_le, nat_lt, ◌==◌, IfSome}
+use Rattle.std.specs.Prelude.{slice_get, is_some, nat_le, nat_lt, ◌==◌, IfSome, option_and_then}
 use Rattle.std.specs.List.{list_all, list_any}
 use Rattle.std.proofs.lemmas.Bool.{or_parts, and_right, not-false}
 use Rattle.std.proofs.lemmas.Bool.Decides.{nat_tests}
@@ -23,7 +23,7 @@ use Rattle.overlay_laws.specs.Entries.{In}
 use Rattle.serial_spec.specs.ExternalForm.{size_of}
 use Rattle.serial_spec.specs.FileStep.{Setting}
 use Rattle.serial_spec.specs.SoundHeaders.{is_sound}
-use Rattle.serial_spec.specs.History.{is_offer, kind_of_meeting, meeting_kind, offer_of, option_then}
+use Rattle.serial_spec.specs.History.{is_offer, kind_of_meeting, meeting_kind, offer_of}
 use Rattle.serial_spec.specs.Layout.{product}
 use Rattle.serial_spec.specs.RegionCheck.{check, is_ok_code}
 use Rattle.serial_spec.specs.Owner.{Owner, Event, Client, at_item, at_offer, bad_batch, differs, event, freed, has_ended, has_held, has_left, holds, is_strange, kind_held, left_behind, left_by, meets_if, refused, same_kind, some_true, strange_offer, wrong_length}
@@ -252,7 +252,7 @@ pub kind_is : (clients : List Client) (kind : MeetKind) (r : ℕ) (x : Client) (
     → x.held ≡ Some o → o.kind ≡ offer.Meet own → own ≡ kind
 kind_is clients kind r x o own h e f k = one_kind own kind (sym (ap (λ (m : Option MeetKind). differs m (Some kind)) held) ∙ fails_at (λ y. differs (kind_held y) (Some kind)) clients r x h e)
   where
-    by : (m : Option Offer) → m ≡ Some o → option_then m (λ p. kind_of_meeting p.kind) ≡ Some own
+    by : (m : Option Offer) → m ≡ Some o → option_and_then (λ p. kind_of_meeting p.kind) m ≡ Some own
     by None g = absurd cc
     by (Some p) g = ap (λ (q : Offer). kind_of_meeting q.kind) (same_Some p o g) ∙ ap kind_of_meeting k
 

@@ -1,7 +1,7 @@
 -- The posts that a call comes to are those of one request: there are some, under its id, of one variable.
-use Rattle.std.proofs.Common.{◌≡◌, ℕ, ◌+◌, ◌<◌, ◌≤◌, ◌∙◌, ap, sym, refl, subst, inl, inr, List, [], ◌∷◌, length, Bool, true, false, ltb, ◌&&◌, Option, Some, None, arith}
+use Rattle.std.proofs.Common.{◌≡◌, ℕ, ◌+◌, ◌<◌, ◌≤◌, ◌∙◌, ap, sym, refl, subst, inl, inr, List, [], ◌∷◌, length, Bool, true, false, ltb, Option, Some, None, arith}
 use Rattle.std.specs.Prelude.{filter, slice_get}
-use Rattle.std.proofs.lemmas.Bool.{and_parts, ltb-true}
+use Rattle.std.proofs.lemmas.Bool.{ltb-true}
 use Rattle.nc_base.specs.declared.header.Header.{Header}
 use Rattle.nc_base.specs.declared.header.Var.{Var}
 use Rattle.nc_base.specs.declared.header.NcType.{NcType}
@@ -15,8 +15,9 @@ use Rattle.overlay_laws.specs.Entries.{In}
 use Rattle.serial_spec.specs.Layout.{product}
 use Rattle.serial_spec.specs.SoundHeaders.{is_sound}
 use Rattle.serial_spec.specs.Looks as looks
-use Rattle.serial_spec.specs.Looks.{looked, look_region, look_parts, look_at, part_posts, parts_code, data_code, data_bytes, direction_of, is_varn, find_var}
-use Rattle.serial_spec.specs.RegionCheck.{widen, check_var, check_parts, part_regions, elements_of_all, has_element, is_ok_code}
+use Rattle.serial_spec.specs.Looks.{look_region, look_parts, look_at, part_posts, parts_code, data_code, direction_of, is_varn, find_var}
+use Rattle.serial_spec.specs.RegionCheck.{widen, check_var, check_parts, part_regions, elements_of_all, has_element}
+use Rattle.rank_core.proofs.OutcomeLaws.{outcome}
 use Rattle.rank_core.proofs.LookLaws.{length-part_posts, look_few, look_posts, ArePosts}
 use Rattle.rank_core.specs.Looked as rank
 use Rattle.rank_core.specs.Requests.{AreTowards, HaveId}
@@ -33,15 +34,11 @@ abbrev IsOneLook : ℕ → looks.Look → Type 0
 IsOneLook id (looks.Asks posts) = IsOneRequest id posts
 IsOneLook id _ = Unit {0}
 
-looked_one : (id : ℕ) (asked : List Post) (c : Code) (b : Bool) (d : Code) → IsOneRequest id asked → IsOneLook id (looked asked c b d)
-looked_one id asked code.Ok false d h = tt
-looked_one id asked code.Ok true code.Ok h = h
-looked_one id asked code.Ok true d h = tt
-looked_one id asked c b d h = tt
-
-looked_none : (id : ℕ) (asked : List Post) (c d : Code) → IsOneLook id (looked asked c false d)
-looked_none id asked code.Ok d = tt
-looked_none id asked c d = tt
+outcome_one : (id : ℕ) (checked : Code) (some : Bool) (asked : List Post) (last : Code) → (some ≡ true → IsOneRequest id asked) → IsOneLook id (outcome checked some asked last)
+outcome_one id code.Ok false asked last h = tt
+outcome_one id code.Ok true asked code.Ok h = h refl
+outcome_one id code.Ok true asked last h = tt
+outcome_one id checked some asked last h = tt
 
 single : (id : ℕ) (p : Post) → p.id ≡ id → IsOneRequest id (p ∷ [])
 single id p e = record { some = omega arith; ids = is_it; var = one }
@@ -56,17 +53,9 @@ single id p e = record { some = omega arith; ids = is_it; var = one }
     one q r (inr g) h = absurd g
 
 region_one : (header : Header) (known id k : ℕ) (given : Given) (values : Option Values) (var : Var) → IsOneLook id (look_region header known id k given values var)
-region_one header known id k given values var = by_test (is_ok_code (check_var header var (widen header var given known) known (direction_of values)) && has_element (widen header var given known))
-  where
-    g : Region
-    g = widen header var given known
-
-    by_test : (b : Bool) → IsOneLook id (elim b [
-      | true ↦ looked (record { id = id; var = k; region = widen header var given known; bytes = data_bytes var.kind (widen header var given known) values } ∷ []) code.Ok true (data_code var.kind (widen header var given known) values)
-      | false ↦ looked [] (check_var header var (widen header var given known) known (direction_of values)) false code.Ok
-    ])
-    by_test true = looked_one id _ code.Ok true (data_code var.kind (widen header var given known) values) (single id _ refl)
-    by_test false = looked_none id [] (check_var header var (widen header var given known) known (direction_of values)) code.Ok
+region_one header known id k given values var =
+    let g = widen header var given known in
+    outcome_one id (check_var header var g known (direction_of values)) (has_element g) _ (data_code var.kind g values) (λ e. single id _ refl)
 
 -- ---- many regions
 
@@ -83,20 +72,11 @@ several id var kind values regions some = record {
 }
 
 parts_one : (header : Header) (known id k : ℕ) (given : Given) (values : Option Values) (var : Var) → IsOneLook id (look_parts header known id k given values var)
-parts_one header known id k given values var = by_test (is_ok_code (check_parts header var (part_regions var given) known (direction_of values)) && ltb 0 (length asked)) refl
-  where
-    asked : List Region
-    asked = filter has_element (part_regions var given)
-
-    by_test : (b : Bool) → (is_ok_code (check_parts header var (part_regions var given) known (direction_of values)) && ltb 0 (length (filter has_element (part_regions var given)))) ≡ b → IsOneLook id (elim b [
-      | true ↦ looked (part_posts id k var.kind values 0 (filter has_element (part_regions var given))) code.Ok true (parts_code var.kind (elements_of_all (filter has_element (part_regions var given))) values)
-      | false ↦ looked [] (check_parts header var (part_regions var given) known (direction_of values)) false code.Ok
-    ])
-    by_test true e =
-        let parts = and_parts (is_ok_code (check_parts header var (part_regions var given) known (direction_of values))) (ltb 0 (length (filter has_element (part_regions var given)))) e in
-        looked_one id _ code.Ok true (parts_code var.kind (elements_of_all (filter has_element (part_regions var given))) values)
-        (several id k var.kind values (filter has_element (part_regions var given)) (ltb-true 0 (length (filter has_element (part_regions var given))) parts.1))
-    by_test false e = looked_none id [] (check_parts header var (part_regions var given) known (direction_of values)) code.Ok
+parts_one header known id k given values var =
+    let parts = part_regions var given in
+    let asked = filter has_element parts in
+    outcome_one id (check_parts header var parts known (direction_of values)) (ltb 0 (length asked)) _ (parts_code var.kind (elements_of_all asked) values)
+    (λ e. several id k var.kind values asked (ltb-true 0 (length asked) e))
 
 -- ---- the call
 

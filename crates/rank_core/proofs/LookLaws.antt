@@ -1,7 +1,7 @@
 -- Every post that a call comes to is of an accepted region; those of a put have their bytes, and hold none twice.
 use Rattle.std.proofs.Common.{◌≡◌, ℕ, suc, ◌+◌, ◌*◌, ◌<◌, ◌≤◌, refl, sym, ap, subst, ◌∙◌, inl, inr, ◌⊎◌, List, [], ◌∷◌, length, map, Bool, true, false, cond, ltb, ◌&&◌, Option, Some, None, IfSome, arith}
-use Rattle.std.specs.Prelude.{filter, slice_get}
-use Rattle.std.proofs.lemmas.Bool.{cases_lt, le-leb, le-ltb, lt-leb, lt-ltb, ltb-false}
+use Rattle.std.specs.Prelude.{filter, not, slice_get}
+use Rattle.std.proofs.lemmas.Bool.{cases_lt, le-ltb, lt-ltb, ltb-false}
 use Rattle.std.proofs.lemmas.List.{length-map}
 use Rattle.std.proofs.lemmas.List.Sums.{sum_by-cons}
 use Rattle.list_laws.proofs.Maps.{filter_at_most}
@@ -42,22 +42,18 @@ use Rattle.rank_core.proofs.ValueLaws.{code_passes, length-packed_bytes, length-
 
 -- ---- what the check of many regions says
 
-abbrev pick : Code → Bool → Bool → Bool → Bool → Code
-pick refused small put share large =
-    elim (is_ok_code refused && small && put) [
-      | true ↦ cond share code.ESelf code.Ok
-      | false ↦ cond (is_ok_code refused && large) code.ETooLarge refused
-    ]
+abbrev pick : Code → Bool → Bool → Code
+pick refused large shared = cond (not (is_ok_code refused)) refused (cond large code.ETooLarge (cond shared code.ESelf code.Ok))
 
-few_passed : (refused : Code) (put share : Bool) → pick refused true put share false ≡ code.Ok → (refused ≡ code.Ok) × (put ≡ true → share ≡ false)
+few_passed : (refused : Code) (put share : Bool) → pick refused false (put && share) ≡ code.Ok → (refused ≡ code.Ok) × (put ≡ true → share ≡ false)
 few_passed code.Ok true true h = absurd cc
 few_passed code.Ok true false h = (refl, λ e. refl)
 few_passed code.Ok false share h = (refl, λ e. absurd cc)
 few_passed refused put share h = absurd cc
 
-many_refused : (refused : Code) (put share : Bool) → pick refused false put share true ≡ code.Ok → ⊥
-many_refused code.Ok put share h = cc
-many_refused refused put share h = cc
+many_refused : (refused : Code) (shared : Bool) → pick refused true shared ≡ code.Ok → ⊥
+many_refused code.Ok shared h = cc
+many_refused refused shared h = cc
 
 each_in : {A : Type 0} (f : A → Code) (xs : List A) (x : A) → first_refusal (map f xs) ≡ code.Ok → In xs x → f x ≡ code.Ok
 each_in f [] x h i = absurd i
@@ -75,11 +71,11 @@ parts_pass header v parts known direction h = by_size (cases_lt most_elements (e
   where
     by_size : (most_elements < elements_of_all parts) ⊎ (elements_of_all parts ≤ most_elements) → PartsPass header v parts known direction
     by_size (inl more) =
-        absurd (many_refused (refusal_of header v parts known direction) (is_put direction) (share_element parts)
-        ((λ i. pick (refusal_of header v parts known direction) (sym (lt-leb (elements_of_all parts) most_elements more) i) (is_put direction) (share_element parts) (sym (lt-ltb most_elements (elements_of_all parts) more) i)) ∙ h))
+        absurd (many_refused (refusal_of header v parts known direction) (is_put direction && share_element parts)
+        ((λ i. pick (refusal_of header v parts known direction) (sym (lt-ltb most_elements (elements_of_all parts) more) i) (is_put direction && share_element parts)) ∙ h))
     by_size (inr few) =
         let both = few_passed (refusal_of header v parts known direction) (is_put direction) (share_element parts)
-        ((λ i. pick (refusal_of header v parts known direction) (sym (le-leb (elements_of_all parts) most_elements few) i) (is_put direction) (share_element parts) (sym (le-ltb most_elements (elements_of_all parts) few) i)) ∙ h) in
+        ((λ i. pick (refusal_of header v parts known direction) (sym (le-ltb most_elements (elements_of_all parts) few) i) (is_put direction && share_element parts)) ∙ h) in
         record { each = λ g i. each_in (λ g. check_var header v g known direction) parts g both.0 i; few = few; apart = both.1 }
 
 -- ---- posts of parts

@@ -1,5 +1,5 @@
 -- What a call comes to: by its check, by whether it has an element, and by its values.
-use Rattle.std.proofs.Common.{◌≡◌, ℕ, refl, sym, ap, subst, ◌∙◌, inl, inr, ◌⊎◌, List, [], ◌∷◌, length, Bool, true, false, ◌&&◌, ltb, Option, Some, Result, Ok, Err}
+use Rattle.std.proofs.Common.{◌≡◌, ℕ, refl, sym, ap, subst, ◌∙◌, inl, inr, ◌⊎◌, List, [], ◌∷◌, length, Bool, true, false, ltb, Option, Some, None, Result, Ok, Err}
 use Rattle.nc_base.specs.declared.answer.CallErr.{CallErr}
 use Rattle.nc_base.specs.declared.answer.CallErr.TheVariants as refusal
 use Rattle.nc_base.specs.declared.answer.Code.{Code}
@@ -10,13 +10,19 @@ use Rattle.nc_base.specs.declared.request.Region.{Region}
 use Rattle.nc_base.specs.declared.request.Values.{Values}
 use Rattle.serial_spec.specs.Looks as looks
 use Rattle.serial_spec.specs.RankMachine as machine
-use Rattle.serial_spec.specs.Looks.{looked, part_posts}
-use Rattle.serial_spec.specs.RegionCheck.{is_ok_code}
+use Rattle.serial_spec.specs.Looks.{part_posts}
+use Rattle.serial_spec.specs.RegionCheck.{error_of}
 use Rattle.rank_core.specs.Looked.{look_of, settled, ComesTo}
 
 abbrev pub outcome : Code → Bool → List Post → Code → looks.Look
 outcome checked some asked last =
-    elim (is_ok_code checked && some) [ true ↦ looked asked code.Ok true last | false ↦ looked [] checked false code.Ok ]
+    elim (error_of checked) [
+      | Some c ↦ looks.Refused c
+      | None ↦ elim some [
+        | false ↦ looks.Empty
+        | true ↦ elim (error_of last) [ Some c ↦ looks.Refused c | None ↦ looks.Asks asked ]
+      ]
+    ]
 
 pub outcome_refused : (c : Code) (some : Bool) (asked : List Post) (last : Code) → (c ≡ code.Ok → ⊥) → looks.Refused c ≡ outcome c some asked last
 outcome_refused code.Ok some asked last n = absurd (n refl)

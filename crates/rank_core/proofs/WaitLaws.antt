@@ -4,7 +4,6 @@ use Rattle.nc_base.specs.declared.header.Header.{Header}
 use Rattle.nc_base.specs.declared.answer.Answer.{Answer}
 use Rattle.nc_base.specs.declared.answer.Code.{Code}
 use Rattle.nc_base.specs.declared.answer.Code.TheVariants as code
-use Rattle.nc_base.specs.declared.answer.Item.{Item}
 use Rattle.nc_base.specs.declared.plan.Batch.{Batch}
 use Rattle.nc_base.specs.declared.plan.Post.{Post}
 use Rattle.nc_base.specs.declared.request.Call.{Call}
@@ -12,11 +11,12 @@ use Rattle.nc_base.specs.declared.request.Call.TheVariants as call
 use Rattle.nc_base.specs.declared.request.PostKind.{PostKind}
 use Rattle.nc_base.specs.declared.step.OfferKind.{OfferKind}
 use Rattle.nc_base.specs.declared.step.OfferKind.TheVariants as offer
+use Rattle.nc_base.specs.declared.step.MeetKind.{MeetKind}
 use Rattle.nc_base.specs.declared.step.MeetKind.TheVariants as meets
 use Rattle.nc_base.specs.declared.step.Want.{Want}
 use Rattle.serial_spec.specs.RankMachine as machine
 use Rattle.serial_spec.specs.Looks.{Look, Refused, Empty, Asks, look, look_fill}
-use Rattle.serial_spec.specs.RankMachine.{Rank, offers, answers, answer, posts, post_after, without_chosen, chosen, batch_chosen, buffer_code, bytes_in, attach_code, detach_code, batch_of, code_of_look, posts_of, no_posts, items_of, values_of_post}
+use Rattle.serial_spec.specs.RankMachine.{Rank, Open, open_blocking, offers, offers_look, answers, answer, posts, post_after, without_chosen, chosen, batch_chosen, buffer_code, bytes_in, attach_code, detach_code, batch_of, code_of_look, posts_of, no_posts, values_of_post}
 use Rattle.serial_spec.specs.RegionCheck.{is_ok_code}
 use Rattle.rank_core.specs.Ranked.{WaitsFor}
 
@@ -27,9 +27,16 @@ either : (b : Bool) (x y : Rank × Want) → DoesWait x → DoesWait y → DoesW
 either true x y h k = h
 either false x y h k = k
 
-offers_wait : (r : Rank) (kind : OfferKind) (batch : Batch) (c : Code) (items : List Item) (blocking independent : Bool) → DoesWait (offers r kind batch c items blocking independent)
-offers_wait r (offer.Meet kind) batch c items blocking independent = refl
-offers_wait r offer.Solo batch c items blocking independent = refl
+offers_wait : (r : Rank) (kind : OfferKind) (batch : Batch) (kept : Open) → kept.gets ≡ batch.gets → DoesWait (offers r kind batch kept)
+offers_wait r (offer.Meet kind) batch kept e = e
+offers_wait r offer.Solo batch kept e = e
+
+look_waits : (r : Rank) (kind : OfferKind) (l : Look) (batch : Batch) → DoesWait (offers_look r kind l batch)
+look_waits r kind l batch = offers_wait r kind batch (open_blocking r (code_of_look l) batch) refl
+
+-- it meets without a post
+none_waits : (r : Rank) (kind : MeetKind) (kept : Open) → kept.gets ≡ [] → DoesWait (offers r (offer.Meet kind) no_posts kept)
+none_waits r kind kept e = offers_wait r (offer.Meet kind) no_posts kept e
 
 post_waits : (r : Rank) (id : ℕ) (kind : PostKind) (asked : List Post) (c : Code) → r.«open» ≡ None → DoesWait (post_after r id kind asked c)
 post_waits r id kind asked code.Ok h = h
@@ -46,28 +53,27 @@ attached_wait r s false a h k = k
 
 pub step_waits : (header : Header) (r : Rank) (c : Call) → r.«open» ≡ None → DoesWait (machine.step header r c)
 step_waits header r (call.Put all name given values) h =
+    let l = look header r.known 0 name given (Some values) in
     either all _ _
-    (either r.independent _ _ (offers_wait r (offer.Meet meets.Put) no_posts code.EIndep [] true r.independent)
-    (offers_wait r (offer.Meet meets.Put) (batch_of (Some values) (look header r.known 0 name given (Some values))) (code_of_look (look header r.known 0 name given (Some values))) [] true r.independent))
-    (either r.independent _ _ (offers_wait r offer.Solo (batch_of (Some values) (look header r.known 0 name given (Some values))) (code_of_look (look header r.known 0 name given (Some values))) [] true r.independent) h)
+    (either r.independent _ _ (none_waits r meets.Put _ refl) (look_waits r (offer.Meet meets.Put) l (batch_of (Some values) l)))
+    (either r.independent _ _ (look_waits r offer.Solo l (batch_of (Some values) l)) h)
 step_waits header r (call.Get all name given) h =
+    let l = look header r.known 0 name given None in
     either all _ _
-    (either r.independent _ _ (offers_wait r (offer.Meet meets.Get) no_posts code.EIndep [] true r.independent)
-    (offers_wait r (offer.Meet meets.Get) (batch_of None (look header r.known 0 name given None)) (code_of_look (look header r.known 0 name given None)) [] true r.independent))
-    (either r.independent _ _ (offers_wait r offer.Solo (batch_of None (look header r.known 0 name given None)) (code_of_look (look header r.known 0 name given None)) [] true r.independent) h)
+    (either r.independent _ _ (none_waits r meets.Get _ refl) (look_waits r (offer.Meet meets.Get) l (batch_of None l)))
+    (either r.independent _ _ (look_waits r offer.Solo l (batch_of None l)) h)
 step_waits header r (call.Post id kind name given values) h = posts_wait r id kind (look header r.known id name given (values_of_post kind values)) h
 step_waits header r (call.Wait true choice) h =
-    either r.independent _ _ (offers_wait r (offer.Meet meets.Wait) no_posts code.EIndep [] false r.independent)
-    (offers_wait (without_chosen r choice) (offer.Meet meets.Wait) (batch_chosen (chosen r choice)) code.Ok (items_of r choice) false r.independent)
+    either r.independent _ _ (none_waits r meets.Wait _ refl) (offers_wait (without_chosen r choice) (offer.Meet meets.Wait) (batch_chosen (chosen r choice)) _ refl)
 step_waits header r (call.Wait false choice) h =
-    either r.independent _ _ (offers_wait (without_chosen r choice) offer.Solo (batch_chosen (chosen r choice)) code.Ok (items_of r choice) false r.independent) h
+    either r.independent _ _ (offers_wait (without_chosen r choice) offer.Solo (batch_chosen (chosen r choice)) _ refl) h
 step_waits header r (call.Cancel choice) h = h
 step_waits header r (call.Attach size) h = attached_wait (record r { attached = Some size }) r (is_ok_code (attach_code r.attached size)) (answer (attach_code r.attached size)) h h
 step_waits header r call.Detach h = attached_wait (record r { attached = None }) r (is_ok_code (detach_code r)) (answer (detach_code r)) h h
-step_waits header r call.BeginIndep h = offers_wait r (offer.Meet meets.Begin) no_posts (cond r.independent code.EIndep code.Ok) [] false true
-step_waits header r call.EndIndep h = offers_wait r (offer.Meet meets.End) no_posts (cond r.independent code.Ok code.ENotIndep) [] false false
-step_waits header r call.SyncRecords h = offers_wait r (offer.Meet meets.Sync) no_posts code.Ok [] false r.independent
+step_waits header r call.BeginIndep h = none_waits r meets.Begin _ refl
+step_waits header r call.EndIndep h = none_waits r meets.End _ refl
+step_waits header r call.SyncRecords h = none_waits r meets.Sync _ refl
 step_waits header r (call.InqDim name) h = h
 step_waits header r (call.FillRec name number share others) h =
-    either r.independent _ _ (offers_wait r (offer.Meet meets.Put) no_posts code.EIndep [] true r.independent)
-    (offers_wait r (offer.Meet meets.Put) (record { puts = posts_of (look_fill header name number share others); gets = [] }) (code_of_look (look_fill header name number share others)) [] true r.independent)
+    let l = look_fill header name number share others in
+    either r.independent _ _ (none_waits r meets.Put _ refl) (look_waits r (offer.Meet meets.Put) l (record { puts = posts_of l; gets = [] }))

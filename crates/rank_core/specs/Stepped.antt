@@ -2,7 +2,7 @@
 --     IsStepTo before after most stepped want   the model's rank and want; what it offers a step takes; at most so many posts more
 --     offers_towards rank kind direction look   what a blocking call offers
 --     most_posts call                           how many posts a call brings
-use Rattle.std.specs.Prelude.{◌≡◌, ◌≤◌, ◌<◌, ◌+◌, ℕ, [], max, length, true}
+use Rattle.std.specs.Prelude.{◌≡◌, ◌≤◌, ◌<◌, ◌+◌, ℕ, max, length}
 use Rattle.nc_base.specs.declared.step.OfferKind.{OfferKind}
 use Rattle.nc_base.specs.declared.step.Want.{Want}
 use Rattle.nc_base.specs.declared.request.Direction.{Direction}
@@ -36,7 +36,7 @@ most_posts _ = 0
 
 abbrev pub offers_towards : machine.Rank → OfferKind → Direction → looks.Look → machine.Rank × Want
 offers_towards r kind direction l =
-    machine.offers r kind (batch_towards direction (machine.posts_of l)) (machine.code_of_look l) [] true r.independent
+    machine.offers_look r kind l (batch_towards direction (machine.posts_of l))
 
 -- one that asks for regions asks for some
 abbrev pub IsSomeLook : Look → Type 0

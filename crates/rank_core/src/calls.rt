@@ -242,7 +242,8 @@ impl<'a> Rank<'a> {
 
     /// A meeting without a post.
     fn meet(&mut self, kind: MeetKind, code: Code, blocking: bool, independent: bool) -> Want
-        ensures step { IsStepTo self.old self.new 0 (offers self.old.state (offer.Meet kind) no_posts code [] blocking independent) result }
+        ensures step { IsStepTo self.old self.new 0 (offers self.old.state (offer.Meet kind) no_posts
+            (record { code = code; items = []; gets = []; blocking = blocking; independent = independent })) result }
         ensures header { self.new.header ≡ self.old.header }
     {
         let alloc = self.allocator();

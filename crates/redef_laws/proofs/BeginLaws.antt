@@ -14,7 +14,8 @@ use Rattle.nc_base.specs.declared.header.Header.{Header}
 use Rattle.nc_base.specs.declared.header.Var.{Var}
 use Rattle.serial_spec.specs.Layout.{slab, vsize, round_up}
 use Rattle.serial_spec.specs.Place.{AreApart}
-use Rattle.serial_spec.specs.Redefinition.{Numbered, inserted, by_begin, begin_at, fixed_begins, front_after, record_begins}
+use Rattle.serial_spec.specs.Lists.{inserted_by}
+use Rattle.serial_spec.specs.Redefinition.{Numbered, begins_before, by_begin, begin_at, fixed_begins, front_after, record_begins}
 use Rattle.overlay_laws.specs.Entries.{In}
 
 -- ---- members and numbers
@@ -45,11 +46,11 @@ each_filtered p (x ∷ xs) = by_test (p x) refl (each_filtered p xs)
     by_test true e rest = (e, rest)
     by_test false e rest = rest
 
-each_inserted : (P : Numbered → Type 0) (v : Numbered) (vs : List Numbered) → P v → AllByRecursion P vs → AllByRecursion P (inserted v vs)
+each_inserted : (P : Numbered → Type 0) (v : Numbered) (vs : List Numbered) → P v → AllByRecursion P vs → AllByRecursion P (inserted_by begins_before v vs)
 each_inserted P v [] p h = (p, tt)
 each_inserted P v (w ∷ vs) p h = by_test (nat_le v.1.begin w.1.begin) (each_inserted P v vs p h.1)
   where
-    by_test : (t : Bool) → AllByRecursion P (inserted v vs) → AllByRecursion P (cond t (v ∷ w ∷ vs) (w ∷ inserted v vs))
+    by_test : (t : Bool) → AllByRecursion P (inserted_by begins_before v vs) → AllByRecursion P (cond t (v ∷ w ∷ vs) (w ∷ inserted_by begins_before v vs))
     by_test true rest = (p, h)
     by_test false rest = (h.0, rest)
 
@@ -57,11 +58,11 @@ pub each_by_begin : (P : Numbered → Type 0) (vs : List Numbered) → AllByRecu
 each_by_begin P [] h = tt
 each_by_begin P (v ∷ vs) h = each_inserted P v (by_begin vs) h.0 (each_by_begin P vs h.1)
 
-in_inserted : (v : Numbered) (vs : List Numbered) (x : Numbered) → (v ≡ x) ⊎ In vs x → In (inserted v vs) x
+in_inserted : (v : Numbered) (vs : List Numbered) (x : Numbered) → (v ≡ x) ⊎ In vs x → In (inserted_by begins_before v vs) x
 in_inserted v [] x h = h
 in_inserted v (w ∷ vs) x h = by_test (nat_le v.1.begin w.1.begin) (λ g. in_inserted v vs x g) h
   where
-    by_test : (t : Bool) → ((v ≡ x) ⊎ In vs x → In (inserted v vs) x) → (v ≡ x) ⊎ ((w ≡ x) ⊎ In vs x) → In (cond t (v ∷ w ∷ vs) (w ∷ inserted v vs)) x
+    by_test : (t : Bool) → ((v ≡ x) ⊎ In vs x → In (inserted_by begins_before v vs) x) → (v ≡ x) ⊎ ((w ≡ x) ⊎ In vs x) → In (cond t (v ∷ w ∷ vs) (w ∷ inserted_by begins_before v vs)) x
     by_test true rest g = g
     by_test false rest (inl e) = inr (rest (inl e))
     by_test false rest (inr (inl e)) = inl e

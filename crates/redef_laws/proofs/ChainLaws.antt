@@ -6,7 +6,8 @@ use Rattle.std.proofs.lemmas.Bool.{leb-true, leb-false}
 use Rattle.serial_spec.specs.DeviceCalls.{Slab}
 use Rattle.overlay_laws.specs.Entries.{In}
 use Rattle.overlay_laws.proofs.HullLaws.{in_either}
-use Rattle.redef_laws.specs.RisingSlabs.{put_in, lowest_first, IsRisen}
+use Rattle.serial_spec.specs.Lists.{inserted_by}
+use Rattle.redef_laws.specs.RisingSlabs.{stands_below, lowest_first, IsRisen}
 use Rattle.redef_laws.specs.Shifted.{AreShifted}
 
 -- each slab begins below those after it
@@ -73,11 +74,11 @@ ascends_joined (s ∷ ss) ts h k l = (
   ascends_joined ss ts h.1 k (λ u t m n. l u t (inr m) n),
 )
 
-put_members : (s : Slab) (ss : List Slab) (t : Slab) → In (put_in s ss) t → In (s ∷ ss) t
+put_members : (s : Slab) (ss : List Slab) (t : Slab) → In (inserted_by stands_below s ss) t → In (s ∷ ss) t
 put_members s [] t h = h
 put_members s (u ∷ ss) t h = by_test (nat_le s.from u.from) (put_members s ss t) h
   where
-    by_test : (b : Bool) → (In (put_in s ss) t → In (s ∷ ss) t) → In (cond b (s ∷ u ∷ ss) (u ∷ put_in s ss)) t → In (s ∷ u ∷ ss) t
+    by_test : (b : Bool) → (In (inserted_by stands_below s ss) t → In (s ∷ ss) t) → In (cond b (s ∷ u ∷ ss) (u ∷ inserted_by stands_below s ss)) t → In (s ∷ u ∷ ss) t
     by_test true rest g = g
     by_test false rest (inl e) = inr (inl e)
     by_test false rest (inr g) = elim (rest g) [ inl e ↦ inl e | inr m ↦ inr (inr m) ]
@@ -93,7 +94,7 @@ below m n h k = by_test (nat_lt m n) refl
     by_test true e = ltb-true _ _ e
     by_test false e = let l : n ≤ m = ltb-false _ _ e in absurd (k (omega arith))
 
-put_ascends : (s : Slab) (ss : List Slab) → Ascends ss → ((t : Slab) → In ss t → s.from ≡ t.from → ⊥) → Ascends (put_in s ss)
+put_ascends : (s : Slab) (ss : List Slab) → Ascends ss → ((t : Slab) → In ss t → s.from ≡ t.from → ⊥) → Ascends (inserted_by stands_below s ss)
 put_ascends s [] h k = ((λ t g. absurd g), tt)
 put_ascends s (u ∷ ss) h k = by_test (nat_le s.from u.from) refl (put_ascends s ss h.1 (λ t g. k t (inr g)))
   where
@@ -105,7 +106,7 @@ put_ascends s (u ∷ ss) h k = by_test (nat_le s.from u.from) refl (put_ascends 
     under t l (inl f) = subst (λ (z : Slab). u.from < z.from) f l
     under t l (inr g) = h.0 t g
 
-    by_test : (b : Bool) → nat_le s.from u.from ≡ b → Ascends (put_in s ss) → Ascends (cond b (s ∷ u ∷ ss) (u ∷ put_in s ss))
+    by_test : (b : Bool) → nat_le s.from u.from ≡ b → Ascends (inserted_by stands_below s ss) → Ascends (cond b (s ∷ u ∷ ss) (u ∷ inserted_by stands_below s ss))
     by_test true e rest = ((λ t g. over t (below s.from u.from (leb-true s.from u.from e) (k u (inl refl))) g), h)
     by_test false e rest = ((λ t g. under t (leb-false s.from u.from e) (put_members s ss t g)), rest)
 

@@ -3,7 +3,8 @@ use Rattle.std.proofs.Common.{◌≡◌, ℕ, ◌<◌, refl, sym, ◌∙◌, ap,
 use Rattle.std.proofs.lemmas.Grind.{reverse_onto}
 use Rattle.std.specs.Prelude.{filter, nat_le}
 use Rattle.std.proofs.lemmas.Bool.{leb-true, leb-false}
-use Rattle.serial_spec.specs.DeviceCalls.{Slab, placed_slab, highest_first}
+use Rattle.serial_spec.specs.Lists.{inserted_by}
+use Rattle.serial_spec.specs.DeviceCalls.{Slab, stands_above, highest_first}
 use Rattle.overlay_laws.specs.Entries.{In, HaveSame}
 use Rattle.serial_spec.proofs.MemberLaws.{filter_in, in_filter}
 use Rattle.overlay_laws.proofs.HullLaws.{in_left, in_right, in_either}
@@ -68,20 +69,20 @@ reverse_descends (s ∷ ss) h =
 
 -- ---- the highest first
 
-placed_in : (s : Slab) (ss : List Slab) (t : Slab) → In (placed_slab s ss) t → In (s ∷ ss) t
+placed_in : (s : Slab) (ss : List Slab) (t : Slab) → In (inserted_by stands_above s ss) t → In (s ∷ ss) t
 placed_in s [] t h = h
 placed_in s (u ∷ ss) t h = by_test (nat_le u.from s.from) (placed_in s ss t) h
   where
-    by_test : (b : Bool) → (In (placed_slab s ss) t → In (s ∷ ss) t) → In (cond b (s ∷ u ∷ ss) (u ∷ placed_slab s ss)) t → In (s ∷ u ∷ ss) t
+    by_test : (b : Bool) → (In (inserted_by stands_above s ss) t → In (s ∷ ss) t) → In (cond b (s ∷ u ∷ ss) (u ∷ inserted_by stands_above s ss)) t → In (s ∷ u ∷ ss) t
     by_test true rest g = g
     by_test false rest (inl e) = inr (inl e)
     by_test false rest (inr g) = elim (rest g) [ inl e ↦ inl e | inr m ↦ inr (inr m) ]
 
-in_placed : (s : Slab) (ss : List Slab) (t : Slab) → In (s ∷ ss) t → In (placed_slab s ss) t
+in_placed : (s : Slab) (ss : List Slab) (t : Slab) → In (s ∷ ss) t → In (inserted_by stands_above s ss) t
 in_placed s [] t h = h
 in_placed s (u ∷ ss) t h = by_test (nat_le u.from s.from) (in_placed s ss t) h
   where
-    by_test : (b : Bool) → (In (s ∷ ss) t → In (placed_slab s ss) t) → In (s ∷ u ∷ ss) t → In (cond b (s ∷ u ∷ ss) (u ∷ placed_slab s ss)) t
+    by_test : (b : Bool) → (In (s ∷ ss) t → In (inserted_by stands_above s ss) t) → In (s ∷ u ∷ ss) t → In (cond b (s ∷ u ∷ ss) (u ∷ inserted_by stands_above s ss)) t
     by_test true rest g = g
     by_test false rest (inl e) = inr (rest (inl e))
     by_test false rest (inr (inl e)) = inl e
@@ -96,7 +97,7 @@ in_highest [] t h = h
 in_highest (s ∷ ss) t (inl e) = in_placed s (highest_first ss) t (inl e)
 in_highest (s ∷ ss) t (inr m) = in_placed s (highest_first ss) t (inr (in_highest ss t m))
 
-placed_descends : (s : Slab) (ss : List Slab) → Descends ss → ((t : Slab) → In ss t → s.from ≡ t.from → ⊥) → Descends (placed_slab s ss)
+placed_descends : (s : Slab) (ss : List Slab) → Descends ss → ((t : Slab) → In ss t → s.from ≡ t.from → ⊥) → Descends (inserted_by stands_above s ss)
 placed_descends s [] h k = ((λ t m. absurd m), tt)
 placed_descends s (u ∷ ss) h k = by_test (nat_le u.from s.from) refl (placed_descends s ss h.1 (λ t m. k t (inr m)))
   where
@@ -108,7 +109,7 @@ placed_descends s (u ∷ ss) h k = by_test (nat_le u.from s.from) refl (placed_d
     under t l (inl e) = subst (λ (z : Slab). z.from < u.from) e l
     under t l (inr m) = h.0 t m
 
-    by_test : (b : Bool) → nat_le u.from s.from ≡ b → Descends (placed_slab s ss) → Descends (cond b (s ∷ u ∷ ss) (u ∷ placed_slab s ss))
+    by_test : (b : Bool) → nat_le u.from s.from ≡ b → Descends (inserted_by stands_above s ss) → Descends (cond b (s ∷ u ∷ ss) (u ∷ inserted_by stands_above s ss))
     by_test true e rest = ((λ t m. over t (below u.from s.from (leb-true u.from s.from e) (λ f. k u (inl refl) (sym f))) m), h)
     by_test false e rest = ((λ t m. under t (leb-false u.from s.from e) (placed_in s ss t m)), rest)
 

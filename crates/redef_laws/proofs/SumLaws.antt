@@ -7,7 +7,8 @@ use borrow.Author.Tests.{ltb-true, ltb-false, eqb-true}
 use Rattle.list_laws.proofs.Truth.{equal_true}
 use Rattle.serial_spec.specs.DeviceCalls.{Slab}
 use Rattle.overlay_laws.specs.Entries.{In}
-use Rattle.redef_laws.specs.RisingSlabs.{put_in, lowest_first}
+use Rattle.serial_spec.specs.Lists.{inserted_by}
+use Rattle.redef_laws.specs.RisingSlabs.{stands_below, lowest_first}
 use Rattle.redef_laws.proofs.ChainLaws.{AreDistinct}
 
 abbrev pub HaveSameSums : {X : Type 0} → List X → List X → Type 0
@@ -58,13 +59,13 @@ sum_turned f (x ∷ xs) ys =
 
 -- ---- slabs put in order
 
-sum_put : (f : Slab → ℕ) (s : Slab) (ss : List Slab) → sum_by f (put_in s ss) ≡ f s + sum_by f ss
+sum_put : (f : Slab → ℕ) (s : Slab) (ss : List Slab) → sum_by f (inserted_by stands_below s ss) ≡ f s + sum_by f ss
 sum_put f s [] = sum_by-cons f s []
 sum_put f s (t ∷ ss) = by_test (nat_le s.from t.from) (sum_put f s ss)
   where
-    by_test : (b : Bool) → sum_by f (put_in s ss) ≡ f s + sum_by f ss → sum_by f (cond b (s ∷ t ∷ ss) (t ∷ put_in s ss)) ≡ f s + sum_by f (t ∷ ss)
+    by_test : (b : Bool) → sum_by f (inserted_by stands_below s ss) ≡ f s + sum_by f ss → sum_by f (cond b (s ∷ t ∷ ss) (t ∷ inserted_by stands_below s ss)) ≡ f s + sum_by f (t ∷ ss)
     by_test true rest = sum_by-cons f s (t ∷ ss)
-    by_test false rest = let a = sum_by-cons f t (put_in s ss) in let b = sum_by-cons f t ss in omega arith
+    by_test false rest = let a = sum_by-cons f t (inserted_by stands_below s ss) in let b = sum_by-cons f t ss in omega arith
 
 pub sum_lowest : (f : Slab → ℕ) (ss : List Slab) → sum_by f (lowest_first ss) ≡ sum_by f ss
 sum_lowest f [] = refl

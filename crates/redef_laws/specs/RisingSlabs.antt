@@ -3,24 +3,23 @@
 --     changes s                 its place changes
 --     gaps at end slabs         the bytes between the slabs in the new file, from `at` to the end, as place and length; some are empty
 --     IsRisen a b slabs         the slabs stand one behind another, from place a in the old file and b in the new one
-use Rattle.std.specs.Prelude.{ℕ, ◌+◌, ◌-◌, ◌*◌, ◌<◌, ◌≤◌, List, [], ◌∷◌, ◌++◌, map, filter, flat_map, zip, Bool, not, ◌==◌, nat_le, if◌then◌else◌}
+use Rattle.std.specs.Prelude.{ℕ, ◌+◌, ◌-◌, ◌*◌, ◌<◌, ◌≤◌, List, [], ◌∷◌, ◌++◌, map, filter, flat_map, zip, Bool, not, ◌==◌, nat_le}
 use Rattle.std.specs.List.{range_with_len}
 use Rattle.nc_base.specs.declared.header.Header.{Header}
 use Rattle.nc_base.specs.declared.header.Var.{Var}
 use Rattle.serial_spec.specs.DeviceCalls.{Slab}
 use Rattle.serial_spec.specs.Layout.{is_record, recsize, slab}
+use Rattle.serial_spec.specs.Lists.{sorted_by}
 
 -- a variable's slab, or that of record 0
 abbrev pub first_slab : Header → Var × Var → Slab
 first_slab old (v, w) = record { from = v.begin; to = w.begin; len = slab old v }
 
-abbrev pub put_in : Slab → List Slab → List Slab
-put_in s [] = s ∷ []
-put_in s (t ∷ others) = if nat_le s.from t.from then s ∷ t ∷ others else t ∷ put_in s others
+abbrev pub stands_below : Slab → Slab → Bool
+stands_below s t = nat_le s.from t.from
 
 abbrev pub lowest_first : List Slab → List Slab
-lowest_first [] = []
-lowest_first (s ∷ others) = put_in s (lowest_first others)
+lowest_first slabs = sorted_by stands_below slabs
 
 abbrev pub fixed_slabs : Header → Header → List Slab
 fixed_slabs old new = lowest_first (map (first_slab old) (filter (λ p. not (is_record old p.0)) (zip old.vars new.vars)))

@@ -12,7 +12,8 @@ use Rattle.nc_base.specs.declared.header.NcType.TheVariants.{Byte}
 use Rattle.serial_spec.specs.HeaderBytes.{header_len}
 use Rattle.serial_spec.specs.Layout.{is_record, slab, vsize}
 use Rattle.serial_spec.specs.SharedByte.{least}
-use Rattle.serial_spec.specs.Redefinition.{Numbered, fixed_begins, front_after, begin_at, first_record, record_begins, inserted, by_begin, fixed_order, begins_by_number}
+use Rattle.serial_spec.specs.Lists.{inserted_by}
+use Rattle.serial_spec.specs.Redefinition.{Numbered, fixed_begins, front_after, begin_at, first_record, record_begins, begins_before, by_begin, fixed_order, begins_by_number}
 use Rattle.var_layout.specs.Capped.{capped}
 use Rattle.var_layout.proofs.Capping.{capped_sum, capped_both}
 use Rattle.redef_mover.specs.declared.new_begins.NumberedVar.{NumberedVar}
@@ -264,16 +265,16 @@ old_whole order first least k old now end past so_far header vars m e f =
     let before = so_far.placed header vars m e f in
     (before.0 ∙ ap (λ vs. pairs old ++ capped_pairs (kept_apart m least vs)) all, before.1 ∙ ap (λ vs. capped (m + vsizes header vs)) all)
 
-shares_inserted : (header : Header) (v : Numbered) (vars : List Numbered) → vsizes header (inserted v vars) ≡ vsizes header (v ∷ vars)
+shares_inserted : (header : Header) (v : Numbered) (vars : List Numbered) → vsizes header (inserted_by begins_before v vars) ≡ vsizes header (v ∷ vars)
 shares_inserted header v [] = refl
 shares_inserted header v (w ∷ vars) = by_test (shares_inserted header v vars) (nat_le v.1.begin w.1.begin)
   where
-    by_test : vsizes header (inserted v vars) ≡ vsizes header (v ∷ vars) → (t : Bool)
-        → vsizes header (cond t (v ∷ w ∷ vars) (w ∷ inserted v vars)) ≡ vsizes header (v ∷ w ∷ vars)
+    by_test : vsizes header (inserted_by begins_before v vars) ≡ vsizes header (v ∷ vars) → (t : Bool)
+        → vsizes header (cond t (v ∷ w ∷ vars) (w ∷ inserted_by begins_before v vars)) ≡ vsizes header (v ∷ w ∷ vars)
     by_test rest true = refl
     by_test rest false =
         let size = λ (x : Numbered). vsize header x.1 in
-        omega (arith, rest, sum_by-cons size w (inserted v vars), sum_by-cons size v vars, sum_by-cons size v (w ∷ vars), sum_by-cons size w vars)
+        omega (arith, rest, sum_by-cons size w (inserted_by begins_before v vars), sum_by-cons size v vars, sum_by-cons size v (w ∷ vars), sum_by-cons size w vars)
 
 -- the order in which variables stand takes nothing from their sum
 pub shares_sorted : (header : Header) (vars : List Numbered) → vsizes header (by_begin vars) ≡ vsizes header vars

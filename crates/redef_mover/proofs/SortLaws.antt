@@ -14,7 +14,8 @@ use Rattle.std.proofs.lemmas.List.FromFn.{length-enumerate_from}
 use borrow.Author.Tests.{ltb-true, ltb-false, eqb-true, leb-true, leb-false}
 use Rattle.nc_base.specs.declared.header.Var.{Var}
 use Rattle.serial_spec.specs.DeviceCalls.{Slab}
-use Rattle.redef_laws.specs.RisingSlabs.{lowest_first, put_in}
+use Rattle.serial_spec.specs.Lists.{inserted_by}
+use Rattle.redef_laws.specs.RisingSlabs.{lowest_first, stands_below}
 use Rattle.redef_mover.specs.declared.slabs.Shift.{Shift}
 use Rattle.redef_mover.specs.Moves.{is_kind, slab_of}
 use Rattle.list_laws.proofs.Places.{first_same}
@@ -146,11 +147,11 @@ same_sorted n (s ∷ ss) (t ∷ ts) h g e =
 
 -- ---- the sort of the definitions
 
-put_up : (n : ℕ) (s : Slab) (ss : List Slab) → n ≤ s.from → AreUp n ss → AreUp n (put_in s ss)
+put_up : (n : ℕ) (s : Slab) (ss : List Slab) → n ≤ s.from → AreUp n ss → AreUp n (inserted_by stands_below s ss)
 put_up n s [] l h = (l, tt)
 put_up n s (t ∷ ss) l h = by_test (λ k. put_up t.from s ss k h.1) (nat_le s.from t.from) refl
   where
-    by_test : (t.from ≤ s.from → AreUp t.from (put_in s ss)) → (b : Bool) → nat_le s.from t.from ≡ b → AreUp n (cond b (s ∷ t ∷ ss) (t ∷ put_in s ss))
+    by_test : (t.from ≤ s.from → AreUp t.from (inserted_by stands_below s ss)) → (b : Bool) → nat_le s.from t.from ≡ b → AreUp n (cond b (s ∷ t ∷ ss) (t ∷ inserted_by stands_below s ss))
     by_test rest true e = (l, (leb-true _ _ e, h.1))
     by_test rest false e = let m : t.from < s.from = leb-false _ _ e in (h.0, rest (omega arith))
 
@@ -158,12 +159,12 @@ pub lowest_up : (ss : List Slab) → AreUp 0 (lowest_first ss)
 lowest_up [] = tt
 lowest_up (s ∷ ss) = put_up 0 s (lowest_first ss) (omega arith) (lowest_up ss)
 
-put_same : (k : ℕ) (s : Slab) (ss : List Slab) → filter (at_place k) (put_in s ss) ≡ filter (at_place k) (s ∷ ss)
+put_same : (k : ℕ) (s : Slab) (ss : List Slab) → filter (at_place k) (inserted_by stands_below s ss) ≡ filter (at_place k) (s ∷ ss)
 put_same k s [] = refl
 put_same k s (t ∷ ss) = by_test (put_same k s ss) (nat_le s.from t.from) refl (at_place k s) refl (at_place k t) refl
   where
-    by_test : filter (at_place k) (put_in s ss) ≡ filter (at_place k) (s ∷ ss) → (b : Bool) → nat_le s.from t.from ≡ b → (x : Bool) → at_place k s ≡ x → (y : Bool) → at_place k t ≡ y
-        → filter (at_place k) (cond b (s ∷ t ∷ ss) (t ∷ put_in s ss)) ≡ filter (at_place k) (s ∷ t ∷ ss)
+    by_test : filter (at_place k) (inserted_by stands_below s ss) ≡ filter (at_place k) (s ∷ ss) → (b : Bool) → nat_le s.from t.from ≡ b → (x : Bool) → at_place k s ≡ x → (y : Bool) → at_place k t ≡ y
+        → filter (at_place k) (cond b (s ∷ t ∷ ss) (t ∷ inserted_by stands_below s ss)) ≡ filter (at_place k) (s ∷ t ∷ ss)
     by_test rest true e x f y g = refl
     by_test rest false e true f true g =
         let m : t.from < s.from = leb-false _ _ e in
@@ -171,10 +172,10 @@ put_same k s (t ∷ ss) = by_test (put_same k s ss) (nat_le s.from t.from) refl 
         let b : t.from ≡ k = eqb-true _ _ g in
         absurd (omega arith)
     by_test rest false e true f false g =
-        one_more k t (put_in s ss) false g ∙ rest ∙ one_more k s ss true f
+        one_more k t (inserted_by stands_below s ss) false g ∙ rest ∙ one_more k s ss true f
         ∙ ap (λ xs. s ∷ xs) (sym (one_more k t ss false g)) ∙ sym (one_more k s (t ∷ ss) true f)
     by_test rest false e false f y g =
-        one_more k t (put_in s ss) y g ∙ ap (λ xs. cond y (t ∷ xs) xs) (rest ∙ one_more k s ss false f)
+        one_more k t (inserted_by stands_below s ss) y g ∙ ap (λ xs. cond y (t ∷ xs) xs) (rest ∙ one_more k s ss false f)
         ∙ sym (one_more k t ss y g) ∙ sym (one_more k s (t ∷ ss) false f)
 
 pub lowest_same : (k : ℕ) (ss : List Slab) → filter (at_place k) (lowest_first ss) ≡ filter (at_place k) ss

@@ -11,7 +11,8 @@ use Rattle.nc_base.specs.declared.header.Var.{Var}
 use Rattle.serial_spec.specs.HeaderBytes.{header_len}
 use Rattle.serial_spec.specs.Layout.{is_record, slab, vsize}
 use Rattle.serial_spec.specs.SharedByte.{least}
-use Rattle.serial_spec.specs.Redefinition.{Numbered, fixed_of, records_in, old_of, new_of, inserted, by_begin, begin_at, fixed_begins, fixed_order, record_begins, front_after, first_record, begins_by_number, begin_of_number}
+use Rattle.serial_spec.specs.Lists.{inserted_by}
+use Rattle.serial_spec.specs.Redefinition.{Numbered, fixed_of, records_in, old_of, new_of, begins_before, by_begin, begin_at, fixed_begins, fixed_order, record_begins, front_after, first_record, begins_by_number, begin_of_number}
 use Rattle.var_layout.specs.Capped.{capped}
 use Rattle.redef_mover.specs.declared.new_begins.Place.{Place}
 use Rattle.redef_mover.specs.NewBegins.{pairs, capped_pairs, HasOneEach}
@@ -162,15 +163,15 @@ times_capped k [] = refl
 times_capped k (b ∷ found) =
     times_cons k (b.0, capped b.1) (capped_pairs found) ∙ ap (λ (n : ℕ). cond (b.0 == k) 1 0 + n) (times_capped k found) ∙ sym (times_cons k b found)
 
-numbered_inserted : (k : ℕ) (v : Numbered) (vars : List Numbered) → numbered k (inserted v vars) ≡ cond (v.0 == k) 1 0 + numbered k vars
+numbered_inserted : (k : ℕ) (v : Numbered) (vars : List Numbered) → numbered k (inserted_by begins_before v vars) ≡ cond (v.0 == k) 1 0 + numbered k vars
 numbered_inserted k v [] = numbered_cons k v []
 numbered_inserted k v (w ∷ vars) = by_test (nat_le v.1.begin w.1.begin) (numbered_inserted k v vars)
   where
-    by_test : (t : Bool) → numbered k (inserted v vars) ≡ cond (v.0 == k) 1 0 + numbered k vars
-        → numbered k (cond t (v ∷ w ∷ vars) (w ∷ inserted v vars)) ≡ cond (v.0 == k) 1 0 + numbered k (w ∷ vars)
+    by_test : (t : Bool) → numbered k (inserted_by begins_before v vars) ≡ cond (v.0 == k) 1 0 + numbered k vars
+        → numbered k (cond t (v ∷ w ∷ vars) (w ∷ inserted_by begins_before v vars)) ≡ cond (v.0 == k) 1 0 + numbered k (w ∷ vars)
     by_test true rest = numbered_cons k v (w ∷ vars)
     by_test false rest =
-        let a = numbered_cons k w (inserted v vars) in
+        let a = numbered_cons k w (inserted_by begins_before v vars) in
         let b = numbered_cons k w vars in
         omega (arith, a, b, rest)
 

@@ -3,19 +3,17 @@ use Rattle.std.proofs.Common.{◌≡◌, ℕ, zero, suc, ◌+◌, ◌≤◌, ref
 use Rattle.std.proofs.lemmas.Slice.Eq.{bytes_eq-Decides}
 use Rattle.std.specs.Prelude.{slice_get, bytes_eq, fold}
 use Rattle.std.specs.List.{list_all, enumerate_from, cons_option}
-use Rattle.std.proofs.lemmas.Bool.{eqb-true, leb-true}
 use Rattle.std.proofs.lemmas.Option.{same_Some}
 use Rattle.list_laws.proofs.Each.{passes_at}
-use Rattle.list_laws.proofs.Truth.{and_second}
 use Rattle.nc_base.specs.declared.request.Call.{Call}
 use Rattle.nc_base.specs.declared.script.Script.{Script}
 use Rattle.nc_base.specs.declared.step.MeetKind.{MeetKind}
 use Rattle.nc_base.specs.declared.step.MeetKind.TheVariants as meets
 use Rattle.serial_spec.specs.History.{kinds, kind_number, kind_of_call}
-use Rattle.serial_spec.specs.Lawful.{is_lawful, is_lawful_call, agree, kind_numbers, are_different, posted_ids, most_calls}
+use Rattle.serial_spec.specs.Lawful.{is_lawful, is_lawful_call, agree, kind_numbers, are_different, posted_ids, most_calls, IsLawful}
 use Rattle.run_laws.specs.Ways.{kinds_of}
 use Rattle.list_laws.proofs.Numbers.{le_two}
-use Rattle.serial_spec.proofs.LawfulTests.{Tests, tests_of}
+use Rattle.serial_spec.proofs.LawfulTests.{lawful_parts}
 
 -- ---- tests and lists
 
@@ -89,31 +87,31 @@ pub record Ranks (script : Script) : Type 0 where
   pub most : script.ranks ≤ 64
   pub kinds_few : length (kinds_of script) ≤ most_calls
 
-own_few : (script : Script) (r : ℕ) (own : List Call) → Tests script → slice_get script.calls r ≡ Some own → length own ≤ most_calls
+own_few : (script : Script) (r : ℕ) (own : List Call) → IsLawful script → slice_get script.calls r ≡ Some own → length own ≤ most_calls
 own_few script r own t e =
     let h = sum_has 0 (map (λ o. length o) script.calls) r (length own) (get_length script.calls r own e) in
-    le_two (length own) _ most_calls (from_zero _ _ h) (leb-true _ most_calls t.few)
+    le_two (length own) _ most_calls (from_zero _ _ h) t.few_calls
   where
     from_zero : (a b : ℕ) → 0 + a ≤ b → a ≤ b
     from_zero a b h = omega arith
 
 pub own_lawful : (script : Script) (r : ℕ) (own : List Call) → is_lawful script ≡ true → slice_get script.calls r ≡ Some own → Own script r own
 own_lawful script r own h e =
-    let t = tests_of script h in
+    let t = lawful_parts script h in
     record {
-      lawful = passes_at (λ o. list_all (is_lawful_call script.ranks o.0) o.1) (enumerate_from 0 script.calls) t.lawful r (r, own)
+      lawful = passes_at (λ o. list_all (is_lawful_call script.ranks o.0) o.1) (enumerate_from 0 script.calls) t.each_call r (r, own)
           (get_enumerate script.calls 0 r r own e (omega arith));
-      different = passes_at (λ o. are_different (posted_ids o)) script.calls t.different r own e;
+      different = passes_at (λ o. are_different (posted_ids o)) script.calls t.ids_once r own e;
       few = own_few script r own t e;
       agreed = one_list script.calls r own t.agreed e;
     }
 
 pub ranks_lawful : (script : Script) → is_lawful script ≡ true → Ranks script
 ranks_lawful script h =
-    let t = tests_of script h in
+    let t = lawful_parts script h in
     record {
-      one_each = eqb-true (length script.calls) script.ranks t.one_each;
-      most = leb-true script.ranks 64 (and_second _ _ t.within);
+      one_each = t.one_list_each;
+      most = t.few_ranks;
       kinds_few = by script.calls (λ own e. own_few script 0 own t e);
     }
   where

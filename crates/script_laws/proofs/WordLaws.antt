@@ -14,7 +14,8 @@ use Rattle.serial_spec.specs.SoundHeaders.{fits_count, is_type}
 use Rattle.script_spec.specs.Texts.{type_word}
 use Rattle.script_spec.specs.ScriptWords.{Word, below, size_of_text, is_name, starts_name, in_name}
 use Rattle.script_spec.specs.ScriptSteps.{name, name_of_text}
-use Rattle.script_spec.specs.ScriptDefinitions.{number_within, one_of_two, type_of, types, length_of_text}
+use Rattle.serial_spec.specs.ExternalForm.{types}
+use Rattle.script_spec.specs.ScriptDefinitions.{number_within, one_of_two, type_of, length_of_text}
 use Rattle.script_laws.proofs.StepLaws.{read_as}
 use Rattle.script_spec.proofs.NumeralLaws.{below_read}
 

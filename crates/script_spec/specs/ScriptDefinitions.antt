@@ -9,7 +9,6 @@ use Rattle.nc_base.specs.declared.errors.ScriptKind.{ScriptKind}
 use Rattle.nc_base.specs.declared.errors.ScriptKind.TheVariants as kind
 use Rattle.nc_base.specs.declared.errors.LimitName.TheVariants as limit
 use Rattle.nc_base.specs.declared.header.NcType.{NcType}
-use Rattle.nc_base.specs.declared.header.NcType.TheVariants.{Byte, Char, Short, Int, Float, Double, UByte, UShort, UInt, Int64, UInt64}
 use Rattle.nc_base.specs.declared.header.Dim.{Dim}
 use Rattle.nc_base.specs.declared.header.Attr.{Attr}
 use Rattle.nc_base.specs.declared.header.Var.{Var}
@@ -18,7 +17,7 @@ use Rattle.nc_base.specs.declared.request.Values.{Values}
 use Rattle.nc_base.specs.declared.request.Values.TheVariants.{Numbers, Text, Bits}
 use Rattle.nc_base.specs.declared.script.Extra.{Extra}
 use Rattle.nc_base.specs.declared.script.Extra.TheVariants as extra
-use Rattle.serial_spec.specs.ExternalForm.{ext}
+use Rattle.serial_spec.specs.ExternalForm.{ext, types}
 use Rattle.serial_spec.specs.Limits.{most_dims, most_dims_of_var, most_vars, record_limit}
 use Rattle.serial_spec.specs.HeaderBytes.{number_of, last_type}
 use Rattle.nc_base.specs.Values.{count_of}
@@ -59,9 +58,6 @@ ranks_line ranks ws = do
   whole n
 
 -- ---- dimensions, variables and attributes
-
-abbrev pub types : List NcType
-types = Byte ∷ Char ∷ Short ∷ Int ∷ Float ∷ Double ∷ UByte ∷ UShort ∷ UInt ∷ Int64 ∷ UInt64 ∷ []
 
 -- the type of this word, if datasets of this version have it
 abbrev pub type_of : ℕ → List ℕ → Option NcType

@@ -12,7 +12,7 @@ use Rattle.nc_base.specs.declared.request.Value.TheVariants as value
 use Rattle.nc_base.specs.declared.request.Values.{Values}
 use Rattle.nc_base.specs.declared.request.Values.TheVariants.{Numbers, Text, Bits}
 use Rattle.serial_spec.specs.ExternalForm as class
-use Rattle.serial_spec.specs.ExternalForm.{Class, class_of, width_of, size_of, ext, val, fits}
+use Rattle.serial_spec.specs.ExternalForm.{Class, class_of, width_of, size_of, ext, val, fits, types}
 use Rattle.serial_spec.specs.HeaderBytes.{number_of, last_type}
 use Rattle.serial_spec.specs.Lawful.{most_values}
 use Rattle.nc_base.specs.Values.{count_of}
@@ -23,7 +23,7 @@ use Rattle.script_spec.specs.Shown.{pieces, attr_values, shown_values}
 use Rattle.script_spec.specs.ScriptWords.{Word, Plain, is_name}
 use Rattle.script_spec.specs.ScriptSteps.{refuse_if, reads_as, name, name_of_text}
 use Rattle.script_spec.specs.ScriptValues.{are_numbers, are_patterns, are_text, values}
-use Rattle.script_spec.specs.ScriptDefinitions.{types, type_of, Title, same_title, external_bytes, attr_of, attribute_name, attribute}
+use Rattle.script_spec.specs.ScriptDefinitions.{type_of, Title, same_title, external_bytes, attr_of, attribute_name, attribute}
 use Rattle.script_text.proofs.Steps.{went, go_on, same_ok, not_refused, passed, read_word, word_read}
 use Rattle.script_text.proofs.Lexing.{spelling, is_plain, is_good, is_byte}
 use Rattle.script_text.proofs.Numerals.{name_plain}

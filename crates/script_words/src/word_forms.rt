@@ -2,7 +2,8 @@
 ghost use Rattle.std.specs.Prelude.{◌≡◌, ◌<◌, ◌≤◌, option_map, find, bytes_eq, nat_le, ◌^◌, unsigned_abs, IfOk};
 ghost use Rattle.script_spec.specs.ScriptWords.{size_of_text, number_of_text, bits_of_text, between_brackets};
 ghost use Rattle.script_spec.specs.ScriptSteps.{bare, next, name, name_of_text, size, ended, reads_as};
-ghost use Rattle.script_spec.specs.ScriptDefinitions.{length_of_text, number_within, type_of, types, owner_of_text};
+ghost use Rattle.serial_spec.specs.ExternalForm.{types};
+ghost use Rattle.script_spec.specs.ScriptDefinitions.{length_of_text, number_within, type_of, owner_of_text};
 ghost use Rattle.script_spec.specs.ScriptCalls.{id_of_text};
 ghost use Rattle.script_spec.specs.ScriptGrammar.{version_of_text};
 ghost use Rattle.script_spec.specs.Texts.{type_word};

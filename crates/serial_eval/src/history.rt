@@ -149,15 +149,16 @@ fn meetings_after(meetings: usize, call: &Call) -> usize
 fn is_collective(call: &Call) -> bool
     ensures { result ≡ history.is_collective call.now }
 {
-    match call {
-        Call::Put { all, .. } | Call::Get { all, .. } | Call::Wait { all, .. } => *all,
-        Call::BeginIndep | Call::EndIndep | Call::SyncRecords | Call::FillRec { .. } => true,
-        Call::Post { .. }
-        | Call::Cancel { .. }
-        | Call::Attach { .. }
-        | Call::Detach
-        | Call::InqDim { .. } => false,
-    }
+    matches!(
+        call,
+        Call::Put { all: true, .. }
+            | Call::Get { all: true, .. }
+            | Call::Wait { all: true, .. }
+            | Call::BeginIndep
+            | Call::EndIndep
+            | Call::SyncRecords
+            | Call::FillRec { .. }
+    )
 }
 
 /// Whether the call is a put, a get or a wait.

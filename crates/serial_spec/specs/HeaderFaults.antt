@@ -4,7 +4,7 @@
 --     field_fault bytes        the same as a function
 --     first_check header       the first thing that is wrong with a whole header
 --     HasFault bytes e         the fault of a file's first bytes: of a field, or of the whole header
-use Rattle.std.specs.Prelude.{◌≡◌, ℕ, zero, suc, ◌+◌, ◌-◌, ◌*◌, ◌/◌, ◌^◌, List, [], ◌∷◌, ◌++◌, take, drop, fold, length, position, count_by, Bool, true, false, not, ◌&&◌, ◌||◌, ◌⊎◌, nat_lt, nat_le, ◌==◌, if◌then◌else◌, Option, Some, None, option_map, is_none, slice_get}
+use Rattle.std.specs.Prelude.{◌≡◌, ℕ, zero, suc, ◌+◌, ◌-◌, ◌*◌, ◌/◌, ◌^◌, List, [], ◌∷◌, ◌++◌, take, drop, fold, length, position, count_by, find, Bool, true, false, not, ◌&&◌, ◌||◌, ◌⊎◌, nat_lt, nat_le, ◌==◌, if◌then◌else◌, Option, Some, None, option_map, is_none, unwrap_or, slice_get}
 use Rattle.std.specs.List.{list_any}
 use Rattle.std.specs.Option.{option_or}
 use Rattle.std.specs.Int.{byte_len}
@@ -13,8 +13,9 @@ use Rattle.nc_base.specs.declared.header.Var.{Var}
 use Rattle.nc_base.specs.declared.errors.HeaderErr.{HeaderErr}
 use Rattle.nc_base.specs.declared.errors.HeaderErr.TheVariants as fault
 use Rattle.serial_spec.specs.Limits.{most_dims, most_dims_of_var, most_vars, most_header_bytes, file_limit, record_limit}
+use Rattle.serial_spec.specs.ExternalForm.{size_of, types}
 use Rattle.serial_spec.specs.Layout.{round_up, vsize, is_record, recsize, last_share, length_of, record_share, sharing}
-use Rattle.serial_spec.specs.HeaderBytes.{count_width, begin_width, last_type, is_version, dimension_tag, variable_tag, attribute_tag, header_len}
+use Rattle.serial_spec.specs.HeaderBytes.{count_width, begin_width, number_of, last_type, is_version, dimension_tag, variable_tag, attribute_tag, header_len}
 use Rattle.serial_spec.specs.HeaderGrammar.{all_ones, Spells}
 
 -- ---- the fields that the grammar asks for
@@ -67,8 +68,9 @@ abbrev pub block : ℕ → List Ask
 block zero = []
 block (suc n) = One (Block n) ∷ []
 
+-- the size of the type with this number, 0 where none has it
 abbrev pub type_size : ℕ → ℕ
-type_size n = if n == 1 || n == 2 || n == 7 then 1 else (if n == 3 || n == 8 then 2 else (if n == 4 || n == 5 || n == 9 then 4 else 8))
+type_size n = unwrap_or (option_map size_of (find (λ kind. n == number_of kind) types)) 0
 
 -- what a field with this number asks for next
 abbrev pub after_field : Field → ℕ → List Ask
@@ -86,16 +88,16 @@ tag_of Attributes = attribute_tag
 tag_of Variables = variable_tag
 tag_of Ids = 0
 
--- above every number of a field
-abbrev pub no_limit : ℕ
-no_limit = 2 ^ 64
+-- how many entries there may be; None where there is no limit
+abbrev pub most_of : Entries → Option ℕ
+most_of Dimensions = Some most_dims
+most_of Variables = Some most_vars
+most_of Attributes = None
+most_of Ids = Some most_dims_of_var
 
--- a count above this is TooLarge
-abbrev pub most_of : Entries → ℕ
-most_of Dimensions = most_dims
-most_of Variables = most_vars
-most_of Attributes = no_limit
-most_of Ids = most_dims_of_var
+abbrev pub is_above : Option ℕ → ℕ → Bool
+is_above None n = false
+is_above (Some most) n = nat_lt most n
 
 abbrev pub field_len : ℕ → Field → ℕ
 field_len version Magic = 4
@@ -128,6 +130,11 @@ fault_if b e = if b then Some e else None
 abbrev pub bad_type : ℕ → ℕ → ℕ → Option HeaderErr
 bad_type version x n = fault_if (n == 0 || nat_lt (last_type version) n) (fault.BadType x)
 
+-- what is wrong with the count of these entries
+abbrev pub wrong_count : ℕ → Field → Entries → ℕ → ℕ → Option HeaderErr
+wrong_count version f e x n =
+    if is_negative version f n then Some (fault.BadNumber x) else fault_if (is_above (most_of e) n) fault.TooLarge
+
 -- the first three bytes of a header as a number: the characters C, D and F
 abbrev pub cdf : ℕ
 cdf = 0x434446
@@ -139,10 +146,8 @@ wrong version Magic x n =
 wrong version Records x n = fault_if (is_negative version Records n && not (n == all_ones version)) (fault.BadNumber x)
 wrong version (Tag e) x n = fault_if (not (n == 0 || n == tag_of e)) (fault.BadTag x)
 wrong version (Count e true) x n = fault_if (not (n == 0)) (fault.BadNumber x)
-wrong version (Count e false) x n =
-    if is_negative version (Count e false) n then Some (fault.BadNumber x) else fault_if (nat_lt (most_of e) n) fault.TooLarge
-wrong version DimCount x n =
-    if is_negative version DimCount n then Some (fault.BadNumber x) else fault_if (nat_lt most_dims_of_var n) fault.TooLarge
+wrong version (Count e false) x n = wrong_count version (Count e false) e x n
+wrong version DimCount x n = wrong_count version DimCount Ids x n
 wrong version DimLength x n = fault_if (is_negative version DimLength n || nat_lt file_limit n) (fault.BadNumber x)
 wrong version AttrType x n = bad_type version x n
 wrong version VarType x n = bad_type version x n

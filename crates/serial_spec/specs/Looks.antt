@@ -2,7 +2,7 @@
 -- errors. The order of the refusals is (own).
 --     look header known id name ..        of a region, or of many: a refusal, nothing, or posts
 --     look_fill header name number ..     of a rank's share of a record
-use Rattle.std.specs.Prelude.{ℕ, ◌+◌, ◌-◌, nat_le, ◌||◌, replicate, List, [], ◌∷◌, map, filter, flat_map, length, position, Bool, true, false, not, ◌&&◌, nat_lt, Option, Some, None, is_none, slice_get, bytes_eq}
+use Rattle.std.specs.Prelude.{ℕ, ◌+◌, ◌-◌, nat_le, ◌||◌, replicate, List, [], ◌∷◌, map, filter, flat_map, length, position, Bool, true, false, not, nat_lt, Option, Some, None, is_none, slice_get, bytes_eq}
 use Rattle.std.specs.List.{list_any, range_with_len}
 use Rattle.nc_base.specs.declared.header.Header.{Header}
 use Rattle.nc_base.specs.declared.header.Var.{Var}
@@ -21,7 +21,7 @@ use Rattle.serial_spec.specs.ExternalForm as form
 use Rattle.serial_spec.specs.ExternalForm.{Class, class_of, fits}
 use Rattle.nc_base.specs.Values.{count_of}
 use Rattle.serial_spec.specs.Request.{positions, value_at, ext_of, packed_bytes}
-use Rattle.serial_spec.specs.RegionCheck.{widen, check_var, has_element, first_code, is_ok_code, part_regions, elements_of_all, check_parts}
+use Rattle.serial_spec.specs.RegionCheck.{widen, check_var, has_element, first_code, is_ok_code, error_of, part_regions, elements_of_all, check_parts}
 use Rattle.serial_spec.specs.Fill.{fill_bytes, share_begin, boxes}
 use Rattle.serial_spec.specs.Layout.{product, is_record, inner_lengths, end_of}
 use Rattle.serial_spec.specs.HeaderBytes.{header_len}
@@ -73,20 +73,18 @@ abbrev pub direction_of : Option Values → Direction
 direction_of None = way.Get
 direction_of (Some values) = way.Put
 
-abbrev pub looked : List Post → Code → Bool → Code → Look
-looked asked code.Ok false _ = Empty
-looked asked code.Ok true code.Ok = Asks asked
-looked asked code.Ok true c = Refused c
-looked asked c _ _ = Refused c
-
 abbrev pub look_region : Header → ℕ → ℕ → ℕ → Given → Option Values → Var → Look
 look_region header known id k given values var =
     let g = widen header var given known in
-    let checked = check_var header var g known (direction_of values) in
-    -- what is refused is not gone through
-    elim (is_ok_code checked && has_element g) [
-      | true ↦ looked (record { id = id; var = k; region = g; bytes = data_bytes var.kind g values } ∷ []) code.Ok true (data_code var.kind g values)
-      | false ↦ looked [] checked false code.Ok
+    elim (error_of (check_var header var g known (direction_of values))) [
+      | Some c ↦ Refused c
+      | None ↦ elim (has_element g) [
+        | false ↦ Empty
+        | true ↦ elim (error_of (data_code var.kind g values)) [
+          | Some c ↦ Refused c
+          | None ↦ Asks (record { id = id; var = k; region = g; bytes = data_bytes var.kind g values } ∷ [])
+        ]
+      ]
     ]
 
 -- ---- the same of many regions: the values go to the parts' elements one after another
@@ -117,10 +115,15 @@ abbrev pub look_parts : Header → ℕ → ℕ → ℕ → Given → Option Valu
 look_parts header known id k given values var =
     let parts = part_regions var given in
     let asked = filter has_element parts in
-    let checked = check_parts header var parts known (direction_of values) in
-    elim (is_ok_code checked && nat_lt 0 (length asked)) [
-      | true ↦ looked (part_posts id k var.kind values 0 asked) code.Ok true (parts_code var.kind (elements_of_all asked) values)
-      | false ↦ looked [] checked false code.Ok
+    elim (error_of (check_parts header var parts known (direction_of values))) [
+      | Some c ↦ Refused c
+      | None ↦ elim (nat_lt 0 (length asked)) [
+        | false ↦ Empty
+        | true ↦ elim (error_of (parts_code var.kind (elements_of_all asked) values)) [
+          | Some c ↦ Refused c
+          | None ↦ Asks (part_posts id k var.kind values 0 asked)
+        ]
+      ]
     ]
 
 abbrev pub is_varn : Form → Bool

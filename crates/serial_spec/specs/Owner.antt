@@ -5,7 +5,7 @@
 --     served s owner arrivals         the end of a run of the owner
 --     owed s owner arrivals q         what number q is given in that run: replies, then stops
 --     IsGivenInPart ..               what a number is given in a run that a fault cuts off
-use Rattle.std.specs.Prelude.{◌≡◌, ℕ, suc, ◌+◌, ◌*◌, ◌^◌, max, List, [], ◌∷◌, ◌++◌, map, filter, filter_map, flat_map, length, replicate, set, Bool, true, false, not, ◌&&◌, ◌||◌, nat_lt, nat_le, ◌==◌, Option, Some, None, is_some, slice_get}
+use Rattle.std.specs.Prelude.{◌≡◌, ℕ, suc, ◌+◌, ◌*◌, ◌^◌, max, List, [], ◌∷◌, ◌++◌, map, filter, filter_map, flat_map, length, replicate, set, Bool, true, false, not, ◌&&◌, ◌||◌, nat_lt, nat_le, ◌==◌, Option, Some, None, is_some, slice_get, option_and_then}
 use Rattle.std.specs.List.{list_any, list_all, enumerate_from}
 use Rattle.nc_base.specs.declared.header.Header.{Header}
 use Rattle.nc_base.specs.declared.request.Direction.{Direction}
@@ -28,7 +28,7 @@ use Rattle.serial_spec.specs.RegionCheck.{check, is_ok_code}
 use Rattle.serial_spec.specs.SharedByte.{Puts}
 use Rattle.serial_spec.specs.FileStep.{Setting, Counted, puts_of, told, needs, raises, meeting, solo}
 use Rattle.serial_spec.specs.Lists.{In}
-use Rattle.serial_spec.specs.History.{Arrival, offer_of, kind_number, kind_of_meeting, option_then, meeting_kind, is_from, is_offer}
+use Rattle.serial_spec.specs.History.{Arrival, offer_of, kind_number, kind_of_meeting, meeting_kind, is_from, is_offer}
 
 -- ---- the owner
 
@@ -146,7 +146,7 @@ differs (Some a) (Some b) = not (same_kind a b)
 differs _ _ = false
 
 abbrev pub kind_held : Client → Option MeetKind
-kind_held x = option_then x.held (λ o. kind_of_meeting o.kind)
+kind_held x = option_and_then (λ o. kind_of_meeting o.kind) x.held
 
 abbrev pub has_ended : Option Client → Bool
 has_ended None = true

@@ -27,7 +27,7 @@ use Rattle.turn_run.specs.Running.{asking, between, going_of}
 use Rattle.turn_run.specs.declared.runners.Runner.{Runner}
 use Rattle.turn_run.proofs.AloneLaws.{going_free, going_held}
 use Rattle.turn_run.proofs.RunnerLaws.{answers_begin}
-use Rattle.join_laws.proofs.StreamLaws.{waiting_reply, waiting_end_reply, waiting_stop_reply}
+use Rattle.join_laws.proofs.StreamLaws.{waiting_misfit, waiting_reply, waiting_end_misfit, waiting_end_reply, waiting_stop_misfit, waiting_stop_reply}
 
 -- ---- accounts
 
@@ -124,7 +124,7 @@ pub stood_misfit : (header : Header) (own : List Call) (put : List RankItem) (ta
     → IsAccounted header own put taken (g, Some o) → fits_offer header o y ≡ false → runner.answers ≡ g.answers → runner.rank.state ≡ g.rank
     → HasStood header own (put ++ item.Offer (length g.answers) o ∷ []) (taken ++ owner_item.Reply y ∷ []) runner (Ok stop.Misfit)
 stood_misfit header own put taken g o y runner h fits e f =
-    stood_left header own put taken g o (owner_item.Reply y) stop.Misfit runner h (λ k. cc) (rw (fits, waiting) refl) (rw (fits, waiting_end) refl) (rw (fits, waiting_stop) refl) e f
+    stood_left header own put taken g o (owner_item.Reply y) stop.Misfit runner h (λ k. cc) (waiting_misfit header g o y [] fits) (waiting_end_misfit header g o y [] fits) (waiting_stop_misfit header g o y [] fits) e f
 
 -- ---- want of memory
 

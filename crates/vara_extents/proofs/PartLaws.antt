@@ -1,8 +1,8 @@
 -- Parts of one call: the first refusal, the elements that two of them share, and the code of all.
-use Rattle.std.proofs.Common.{◌≡◌, ℕ, ◌+◌, ◌<◌, ◌≤◌, ◌∙◌, ap, sym, refl, inl, inr, ◌⊎◌, List, [], ◌∷◌, length, map, take, get_or, Bool, true, false, cond, ltb, leb, eqb, ◌||◌, ◌&&◌, replicate, arith}
+use Rattle.std.proofs.Common.{◌≡◌, ℕ, ◌+◌, ◌<◌, ◌≤◌, ◌∙◌, ap, sym, refl, inl, inr, ◌⊎◌, List, [], ◌∷◌, length, map, take, get_or, Bool, true, false, cond, ltb, eqb, ◌||◌, ◌&&◌, replicate, arith}
 use Rattle.std.specs.Prelude.{flat_map, sum_by, All, not}
 use Rattle.std.specs.List.{list_any}
-use Rattle.std.proofs.lemmas.Bool.{both_ways, and_parts, not-false, eqb-true, lt-ltb, le-ltb, lt-leb, le-leb, cases_lt}
+use Rattle.std.proofs.lemmas.Bool.{both_ways, and_parts, not-false, eqb-true, lt-ltb, le-ltb, cases_lt}
 use Rattle.std.proofs.lemmas.List.Elements.{All-nil, All-cons, All-head, All-tail, All-map}
 use Rattle.std.proofs.lemmas.List.Sums.{sum_by_more}
 use Rattle.nc_base.specs.declared.header.Header.{Header}
@@ -45,40 +45,29 @@ ok_is_not c h e = absurd (both_ways (is_ok_code c) h (ap is_ok_code e))
 
 -- ---- the code by the answers of the tests
 
-abbrev pick : Bool → Bool → Bool → Bool → Bool → Code → Code
-pick ok small put share large refused =
-    elim (ok && small && put) [
-      | true ↦ cond share code.ESelf code.Ok
-      | false ↦ cond (ok && large) code.ETooLarge refused
-    ]
+abbrev pick : Code → Bool → Bool → Code
+pick refused large shared = cond (not (is_ok_code refused)) refused (cond large code.ETooLarge (cond shared code.ESelf code.Ok))
 
-last_pick : (put share : Bool) → pick true true put share false code.Ok ≡ cond (put && share) code.ESelf code.Ok
-last_pick true true = refl
-last_pick true false = refl
-last_pick false share = refl
-
-not_picked : (small put share large : Bool) (c : Code) → (c ≡ code.Ok → ⊥) → pick (is_ok_code c) small put share large c ≡ c
-not_picked small put share large code.Ok n = absurd (n refl)
-not_picked small put share large _ n = refl
+not_picked : (large shared : Bool) (c : Code) → (c ≡ code.Ok → ⊥) → pick c large shared ≡ c
+not_picked large shared code.Ok n = absurd (n refl)
+not_picked large shared _ n = refl
 
 pub refused_first : (header : Header) (var : Var) (parts : List Region) (known : ℕ) (direction : Direction) (c : Code)
     → c ≡ refusal_of header var parts known direction → (c ≡ code.Ok → ⊥) → c ≡ check_parts header var parts known direction
 refused_first header var parts known direction c h n =
-    h ∙ sym (not_picked (leb (elements_of_all parts) most_elements) (is_put direction) (share_element parts) (ltb most_elements (elements_of_all parts))
+    h ∙ sym (not_picked (ltb most_elements (elements_of_all parts)) (is_put direction && share_element parts)
     (refusal_of header var parts known direction) (λ e. n (h ∙ e)))
 
 pub too_many : (header : Header) (var : Var) (parts : List Region) (known : ℕ) (direction : Direction)
     → refusal_of header var parts known direction ≡ code.Ok → most_elements < elements_of_all parts → code.ETooLarge ≡ check_parts header var parts known direction
 too_many header var parts known direction h more =
-    sym (λ j. pick (is_ok_code (h j)) (lt-leb (elements_of_all parts) most_elements more j) (is_put direction) (share_element parts) (lt-ltb most_elements (elements_of_all parts) more j) (h j))
+    sym (λ j. pick (h j) (lt-ltb most_elements (elements_of_all parts) more j) (is_put direction && share_element parts))
 
 pub by_share : (header : Header) (var : Var) (parts : List Region) (known : ℕ) (direction : Direction) (b : Bool)
     → refusal_of header var parts known direction ≡ code.Ok → elements_of_all parts ≤ most_elements → b ≡ (is_put direction && share_element parts)
     → check_parts header var parts known direction ≡ cond b code.ESelf code.Ok
 by_share header var parts known direction b h few e =
-    (λ j. pick (is_ok_code (h j)) (le-leb (elements_of_all parts) most_elements few j) (is_put direction) (share_element parts) (le-ltb most_elements (elements_of_all parts) few j) (h j))
-    ∙ last_pick (is_put direction) (share_element parts)
-    ∙ ap (λ (x : Bool). cond x code.ESelf code.Ok) (sym e)
+    λ j. pick (h j) (le-ltb most_elements (elements_of_all parts) few j) (sym e j)
 
 -- ---- parts that are accepted are boxes
 

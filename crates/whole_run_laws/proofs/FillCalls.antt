@@ -26,7 +26,7 @@ use Rattle.serial_spec.specs.Limits.{most_elements}
 use Rattle.serial_spec.specs.Place.{IsIndex, place}
 use Rattle.serial_spec.specs.Looks as looks
 use Rattle.serial_spec.specs.Looks.{find_var, fills, is_record_past, look_fill, look_record}
-use Rattle.serial_spec.specs.RankMachine.{code_of_look, fills_record, offers, no_posts, posts_of, Rank, step}
+use Rattle.serial_spec.specs.RankMachine.{code_of_look, meets_refused, offers_look, posts_of, Rank, step}
 use Rattle.serial_spec.specs.SerialEnd.{advance, after_meeting, Going, offers_of, setting_of, state_after}
 use Rattle.run_laws.proofs.OrderLaws.{state_more}
 use Rattle.run_laws.proofs.StandingLaws.{comes_to_meeting}
@@ -53,18 +53,17 @@ share_batch l = record { puts = posts_of l; gets = [] }
 -- in collective mode the rank meets with its share
 step_fills : (header : Header) (rank : Rank) (name : List ℕ) (number r ranks : ℕ) → rank.independent ≡ false
     → step header rank (call.FillRec name number r ranks)
-    ≡ offers rank (offer.Meet meets_as.Put) (share_batch (look_fill header name number r ranks)) (code_of_look (look_fill header name number r ranks)) [] true rank.independent
+    ≡ offers_look rank (offer.Meet meets_as.Put) (look_fill header name number r ranks) (share_batch (look_fill header name number r ranks))
 step_fills header rank name number r ranks e =
     let l = look_fill header name number r ranks in
-    ap (λ (b : Bool). cond b (offers rank (offer.Meet meets_as.Put) no_posts code.EIndep [] true rank.independent)
-    (offers rank (offer.Meet meets_as.Put) (share_batch l) (code_of_look l) [] true rank.independent)) e
+    ap (λ (b : Bool). cond b (meets_refused rank meets_as.Put) (offers_look rank (offer.Meet meets_as.Put) l (share_batch l))) e
 
 -- so its offer brings it
 fill_offer : (header : Header) (name : List ℕ) (number ranks r : ℕ) (g : Going) (o : Offer) → Fills header name number ranks r g → (advance header g).1 ≡ Some o
     → o.batch.puts ≡ posts_of (look_fill header name number r ranks)
 fill_offer header name number ranks r g o f e =
     let l = look_fill header name number r ranks in
-    let own = offers f.there.rank (offer.Meet meets_as.Put) (share_batch l) (code_of_look l) [] true f.there.rank.independent in
+    let own = offers_look f.there.rank (offer.Meet meets_as.Put) l (share_batch l) in
     let at = comes_to_meeting header g f.there own.0 (record { kind = offer.Meet meets_as.Put; known = f.there.rank.known; batch = share_batch l }) (call.FillRec name number r ranks) f.later
     f.comes f.next (sym (step_fills header f.there.rank name number r ranks f.collective)) in
     ap (λ (z : Offer). z.batch.puts) (same_Some o _ (sym e ∙ ap (λ (p : Going × Option Offer). p.1) at))

@@ -5,7 +5,7 @@ use Rattle.std.proofs.lemmas.List.Elements.{filter-append, filter_map-append}
 use Rattle.std.proofs.lemmas.Bool.{ne_eqb}
 use Rattle.std.proofs.lemmas.Bool.Decides.{eqb_tells, nat_tests}
 use Rattle.std.proofs.lemmas.Option.{same_Some, slice_get_within}
-use Rattle.std.specs.Prelude.{slice_get, filter, filter_map, nat_lt, ◌==◌, is_some}
+use Rattle.std.specs.Prelude.{slice_get, filter, filter_map, nat_lt, ◌==◌, is_some, option_and_then}
 use Rattle.std.specs.List.{list_all, list_any, range_with_len, cons_option}
 use Rattle.std.specs.Option.{option_or}
 use Rattle.list_laws.proofs.Places.{entry_below, entry_set, entry_set_other}
@@ -16,7 +16,7 @@ use Rattle.nc_base.specs.declared.step.RankItem.{RankItem}
 use Rattle.serial_spec.specs.Owner.{Owner, differs, Event, holds, kind_held, left_behind, left_by, needed_now, offers_held, Client}
 use Rattle.serial_spec.specs.Owner as owner
 use Rattle.serial_spec.specs.FileStep.{Setting}
-use Rattle.serial_spec.specs.History.{Arrival, is_from, kind_of_meeting, option_then}
+use Rattle.serial_spec.specs.History.{Arrival, is_from, kind_of_meeting}
 use Rattle.serial_spec.specs.SharedByte.{Puts}
 use Rattle.whole_run_laws.specs.Strangers.{are_left_behind, brought, ends, has_fewer, has_left, kind_waiting, last, meeting_offers, puts_brought, waiting, waits}
 use Rattle.serial_spec.proofs.CountLaws.{no_need}
@@ -174,7 +174,7 @@ module _ (ranks : ℕ) (before : List Arrival) (d : Owner) (kept : Kept ranks be
 
   pub kinds_are : (k : Option MeetKind) → list_any (λ y. differs (kind_held y) k) d.clients ≡ list_any (λ q. differs (kind_waiting ranks before q) k) (range_with_len 0 ranks)
   kinds_are k = numbers_any (λ y. differs (kind_held y) k) (λ q. differs (kind_waiting ranks before q) k)
-      (λ q x e. ap (λ (m : Option Offer). differs (option_then m (λ o. kind_of_meeting o.kind)) k) (sym (waiting_is q x e)))
+      (λ q x e. ap (λ (m : Option Offer). differs (option_and_then (λ o. kind_of_meeting o.kind) m) k) (sym (waiting_is q x e)))
 
 -- ---- one arrival
 

@@ -6,7 +6,7 @@ use Rattle.list_laws.proofs.Truth.{and_first, and_second}
 use Rattle.nc_base.specs.declared.script.Hints.{Hints}
 use Rattle.nc_base.specs.declared.script.Script.{Script}
 use Rattle.serial_spec.specs.Lawful.{are_lawful_hints, is_lawful, is_within}
-use Rattle.serial_spec.proofs.LawfulTests.{tests_of}
+use Rattle.serial_spec.proofs.LawfulTests.{lawful_parts}
 
 at_least_one : (high n : ℕ) → is_within 1 high n ≡ true → 1 ≤ n
 at_least_one high n h = leb-true 1 n (and_first (nat_le 1 n) _ h)
@@ -18,7 +18,7 @@ pub record Buffers (hints : Hints) : Type 0 where
 
 pub some_buffers : (script : Script) → is_lawful script ≡ true → Buffers script.hints
 some_buffers script h =
-    let a7 = and_first _ _ (tests_of script h).hints in
+    let a7 = and_first _ _ (lawful_parts script h).hints in
     let a6 = and_first _ _ a7 in
     let a5 = and_first _ _ a6 in
     let a4 = and_first _ _ a5 in

@@ -6,7 +6,7 @@
 --     puts_brought ranks before a           the puts of the step that the arrival brings
 --     is_strange_after s ranks reached before a     the arrival is strange
 --     first_stranger s ranks opening arrivals       the number of the first strange arrival
-use Rattle.std.specs.Prelude.{ℕ, max, List, [], ◌∷◌, ◌++◌, filter, filter_map, length, Bool, true, false, ◌&&◌, nat_lt, if◌then◌else◌, Option, Some, None, is_some, option_map}
+use Rattle.std.specs.Prelude.{ℕ, max, List, [], ◌∷◌, ◌++◌, filter, filter_map, length, Bool, true, false, ◌&&◌, nat_lt, if◌then◌else◌, Option, Some, None, is_some, option_map, option_and_then}
 use Rattle.std.specs.List.{list_any, range_with_len}
 use Rattle.std.specs.Option.{option_or}
 use Rattle.nc_base.specs.declared.step.MeetKind.{MeetKind}
@@ -15,7 +15,7 @@ use Rattle.nc_base.specs.declared.step.RankItem.{RankItem}
 use Rattle.nc_base.specs.declared.step.RankItem.TheVariants as item
 use Rattle.serial_spec.specs.Owner.{differs, left_by, needed_now, some_true, strange_offer}
 use Rattle.serial_spec.specs.FileStep.{puts_of, Setting}
-use Rattle.serial_spec.specs.History.{Arrival, is_from, is_offer, kind_of_meeting, meeting_kind, offer_of, option_then}
+use Rattle.serial_spec.specs.History.{Arrival, is_from, is_offer, kind_of_meeting, meeting_kind, offer_of}
 use Rattle.serial_spec.specs.SharedByte.{Puts}
 use Rattle.whole_run_laws.specs.Completed.{puts_met}
 
@@ -30,7 +30,7 @@ last (x ∷ xs) = option_or (last xs) (Some x)
 -- ---- meeting offers
 
 abbrev pub meeting_offer : RankItem → Option Offer
-meeting_offer i = option_then (offer_of i) (λ o. option_map (λ kind. o) (kind_of_meeting o.kind))
+meeting_offer i = option_and_then (λ o. option_map (λ kind. o) (kind_of_meeting o.kind)) (offer_of i)
 
 abbrev pub meeting_offers : ℕ → List Arrival → List Offer
 meeting_offers q arrivals = brought meeting_offer q arrivals
@@ -45,7 +45,7 @@ abbrev pub waiting : ℕ → List Arrival → ℕ → Option Offer
 waiting ranks arrivals q = if waits ranks arrivals q then last (meeting_offers q arrivals) else None
 
 abbrev pub kind_waiting : ℕ → List Arrival → ℕ → Option MeetKind
-kind_waiting ranks arrivals q = option_then (waiting ranks arrivals q) (λ o. kind_of_meeting o.kind)
+kind_waiting ranks arrivals q = option_and_then (λ o. kind_of_meeting o.kind) (waiting ranks arrivals q)
 
 -- ---- ends
 
