@@ -86,7 +86,8 @@ class CallRefused(NcrunError):
     """A call that was refused, under run(check=True)."""
 
     def __init__(self, answer: Answer) -> None:
-        self.answer, self.place = answer, answer.call.place
+        self.answer = answer
+        self.place: Place = answer.call.place
         super().__init__(f"{answer}\n  {answer.call.place}")
 
 
@@ -130,7 +131,7 @@ class Bits(int):
 class Encoded(NamedTuple):
     """Values as words of a script."""
 
-    count: int
+    number: int
     shape: Shape
     words: str
 
@@ -254,10 +255,9 @@ def bytes_of_float(kind: str, value: Any) -> bytes:
         return int(value).to_bytes(FLOATS[kind], "big")
     try:
         return struct.pack(">" + CODES[kind], value)
-    except OverflowError:
-        raise ScriptError(f"{value!r} does not fit {kind}") from None
-    except (struct.error, TypeError):
-        raise ScriptError(f"{value!r} is no number, and the type is {kind}") from None
+    except (OverflowError, struct.error, TypeError):
+        told = f"does not fit {kind}" if isinstance(value, (int, float)) else f"is no number, and the type is {kind}"
+        raise ScriptError(f"{shortened(repr(value))} {told}") from None
 
 
 def array_of_floats(kind: str, array: Any) -> bytes:
@@ -607,7 +607,8 @@ class Call:
 
     def __init__(self, rank: Rank, word: str, brief: str, var: Optional[Variable], shape: Optional[Shape]) -> None:
         self.rank, self.number, self.word, self.brief = rank.number, len(rank.calls), word, brief
-        self.var, self.shape, self.place = var, shape, caller()
+        self.var, self.shape = var, shape
+        self.place: Place = caller()
         self.kind: Optional[str] = KINDS.get(word) or (word[:3] if word.endswith("_all") else None)
         self.meeting: Optional[int] = None if self.kind is None else len(rank.meetings)
 
@@ -746,9 +747,9 @@ class Rank(Calls[Call, Request]):
         brief = f"{word}{id} {variable.name}{region.words}"
         if made is None:
             return brief, brief, variable, region
-        if region.need is not None and (made.count < region.need or form != "varm" and made.count > region.need):
-            raise ScriptError(f"{brief} wants {region.need} values, and {made.count} are given")
-        self.script.count_values(made.count)
+        if region.need is not None and (made.number < region.need or form != "varm" and made.number > region.need):
+            raise ScriptError(f"{brief} wants {region.need} values, and {made.number} are given")
+        self.script.count_values(made.number)
         return brief, f"{brief} {made.words}".rstrip(), variable, region
 
     def _data(self, word: str, var: Any, region: Tuple[Any, ...], values: object = None) -> Call:
@@ -914,7 +915,7 @@ class Script:
         checked_name(name)
         kind = self.checked_type(attribute_type(name, value, self.version) if type is None else type_name(type))
         made = encoded(kind, value)
-        self.count_values(made.count)
+        self.count_values(made.number)
         owner = ":" if var is None else self.variable(var).name
         words = made.words or ('""' if kind == "char" else "")
         self.definitions.append((f"att {owner} {name} {kind} {words}".rstrip(), caller()))
@@ -966,7 +967,7 @@ class Script:
 
     def counted(self, count: int) -> int:
         if count > MOST_ELEMENTS:
-            raise ScriptError(f"{count} values: a call has at most {MOST_ELEMENTS}. Split it over calls or ranks")
+            raise ScriptError(f"{count} values: a call has at most {MOST_ELEMENTS}: split it over calls or ranks")
         return count
 
     def count_values(self, count: int) -> None:
@@ -1149,9 +1150,10 @@ class Offsets:
         var = re.fullmatch(r"  (\w+) (.*?)(?:\((.*)\))?:", line)
         if number:
             self._number(number[1], number[2], number[3])
-        elif fixed or record:
-            name, length = (fixed or record or [])[1:]      # type: ignore[index]
-            self.dims[name] = Dimension(name, int(length), record is not None)
+        elif fixed:
+            self.dims[fixed[1]] = Dimension(fixed[1], int(fixed[2]), False)
+        elif record:
+            self.dims[record[1]] = Dimension(record[1], int(record[2]), True)
         elif var:
             begin, end, size = (int(re.sub(r".* = ", "", next(lines))) for _ in range(3))
             dims = tuple(self.dims[name] for name in (var[3] or "").split(", ") if name)
