@@ -102,7 +102,7 @@ def shortened(text: str) -> str:
 def caller() -> Place:
     """The first line outside this module."""
     frame = sys._getframe(1)
-    while frame.f_back is not None and frame.f_code.co_filename == __file__:
+    while frame.f_back is not None and frame.f_globals is globals():
         frame = frame.f_back
     return Place(frame.f_code.co_filename, frame.f_lineno)
 
@@ -787,7 +787,7 @@ class Rank(Calls[Call, Request]):
         return "".join(f" {request.id}" for request in found)
 
     def add(self, call: Call, line: str) -> Call:
-        self.script.add_line(f"{self.number} {line}", call.place)
+        self.script.add_line(self.script.called, f"{self.number} {line}", call.place)
         self.script.order.append(call)
         self.calls.append(call)
         if call.kind is not None:
@@ -885,13 +885,13 @@ class Script:
             word = ("off", "on")[value] if isinstance(value, bool) else str(value)
             if not re.fullmatch(r"-?\w+", word):
                 raise ScriptError(f"{value!r} is no value of a hint")
-            self.hints.append((f"hint {name} {word}", caller()))
+            self.add_line(self.hints, f"hint {name} {word}", caller())
 
     def def_dim(self, name: str, length: Optional[int] = UNLIMITED) -> Dimension:
         """A dimension, or the record dimension where the length is None."""
         checked_name(name)
         size = None if length is None else size_of(length, f"the length of {name}")
-        self.definitions.append((f"dim {name} {'unlimited' if size is None else size}", caller()))
+        self.add_line(self.definitions, f"dim {name} {'unlimited' if size is None else size}", caller())
         self.dims[name] = Dimension(name, size or 0, size is None)
         return self.dims[name]
 
@@ -904,7 +904,7 @@ class Script:
         checked_name(name)
         kind = self.checked_type(type_name(type))
         found = tuple(self.dimension(it) for it in (dims.split() if isinstance(dims, str) else dims))
-        self.definitions.append((f"var {kind} {name} [{','.join(dim.name for dim in found)}]", caller()))
+        self.add_line(self.definitions, f"var {kind} {name} [{','.join(dim.name for dim in found)}]", caller())
         self.vars[name] = Variable(name, kind, found, self)
         for attribute, value in attributes.items():
             self.vars[name].put_att(attribute, value)
@@ -918,7 +918,7 @@ class Script:
         self.count_values(made.number)
         owner = ":" if var is None else self.variable(var).name
         words = made.words or ('""' if kind == "char" else "")
-        self.definitions.append((f"att {owner} {name} {kind} {words}".rstrip(), caller()))
+        self.add_line(self.definitions, f"att {owner} {name} {kind} {words}".rstrip(), caller())
 
     def checked_type(self, kind: str) -> str:
         if kind in LATER and self.version != 5:
@@ -975,11 +975,11 @@ class Script:
         if self.values > MOST_VALUES:
             raise ScriptError(f"a script has at most {MOST_VALUES} values: split it over several")
 
-    def add_line(self, line: str, place: Place) -> None:
+    def add_line(self, lines: List[Tuple[str, Place]], line: str, place: Place) -> None:
         self.bytes += len(line) + 1
-        if self.bytes > MOST_BYTES - 2 ** 20:
+        if self.bytes > MOST_BYTES - 100:                # beside the head, `data` and `end`
             raise ScriptError(f"a script has at most {MOST_BYTES} bytes: split it over several")
-        self.called.append((line, place))
+        lines.append((line, place))
 
     # the script
 
@@ -1023,8 +1023,8 @@ class Script:
             made = self.definitions[int(added[1]):][:1]
         of_var = re.match(r"ncrun: variable (\d+) (is too large|begins too far)", line)
         if of_var and status == 4:
-            own = [it for it in self.definitions if it[0].startswith("var ")]
-            made = own[max(int(of_var[1]) - self.known_vars, 0):][:1] if int(of_var[1]) >= self.known_vars else []
+            own = [("", self.head[0][1])] * self.known_vars + [it for it in self.definitions if it[0].startswith("var ")]
+            made = own[int(of_var[1]):][:1]
         return Refused(status, line, explained, script_line, made)
 
     def met(self, rank: int, number: int) -> Tuple[str, Place]:
@@ -1156,10 +1156,8 @@ class Offsets:
             self.dims[record[1]] = Dimension(record[1], int(record[2]), True)
         elif var:
             begin, end, size = (int(re.sub(r".* = ", "", next(lines))) for _ in range(3))
-            dims = tuple(self.dims[name] for name in (var[3] or "").split(", ") if name)
+            dims = tuple(self.dims[name] for name in (var[3] or "").split(", ") if name in self.dims)
             self.vars[var[2]] = Placed(var[2], var[1], dims, begin, end, size)
-        elif not re.fullmatch(r"file header:|dimensions:|fixed-size variables:|record variables:|", line):
-            raise NcrunError(f"this line of the offsets can't be read: {line!r}")
 
     def _number(self, version: Optional[str], name: Optional[str], value: Optional[str]) -> None:
         if version:
@@ -1208,8 +1206,8 @@ class Run:
 
     def __init__(self, script: Script, text: str, explained: str) -> None:
         self.script, self.text, self.explained = script, text, explained
-        told, slash, listing = text.partition("// file format")
-        layout, *watched = re.split(r"^watcher \d+\n", slash + listing, flags=re.M)
+        told, *listing = re.split(r"^(?=// file format)", text, maxsplit=1, flags=re.M)
+        layout, *watched = re.split(r"^watcher \d+\n", "".join(listing), flags=re.M)
         self.offsets = Offsets(layout)
         self.watchers = [[(int(a), int(b)) for a, b in map(str.split, part.splitlines())] for part in watched]
         self.answers: List[List[Answer]] = []
