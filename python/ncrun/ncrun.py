@@ -1033,7 +1033,7 @@ class Script:
         if number < len(own.meetings):
             return repr(own.meetings[number]), own.meetings[number].place
         last = own.calls[-1].place if own.calls else self.head[0][1]
-        return f"rank {rank} has no collective call {number}", last
+        return f"rank {rank} has no collective call {number}: its last call", last
 
 
 def are(names: Mapping[str, object]) -> str:
