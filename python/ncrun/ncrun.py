@@ -42,6 +42,10 @@ C = TypeVar("C", covariant=True)
 R = TypeVar("R", covariant=True)
 Sizes = Union[int, Sequence[int], Any]                  # a list of sizes; of one size the number alone, or a numpy array
 By = Union[T, Callable[[int], T]]                       # one for all ranks, or a function of the rank
+Var = By[Union[str, "Variable"]]
+Index = By[Sizes]
+Lists = By[Optional[Sequence[Sizes]]]
+Values = By[Any]
 Requests = Union[None, "Request", Sequence[Any]]         # all that are pending, one, or a list of them
 Path = Union[str, "os.PathLike[str]"]
 Shape = Tuple[int, ...]
@@ -79,7 +83,7 @@ class Refused(NcrunError):
         self.places: List[Place] = [place for _, place in made]
         told = line or f"ncrun ended with status {status} ({STATUSES.get(status, 'a signal' if status < 0 else 'unknown')})"
         lines = [f"`{shortened(text)}`: {place}" for text, place in made]
-        super().__init__("\n  ".join([told, *explained.splitlines(), *lines]))
+        super().__init__("\n  ".join([told, *lines, *explained.splitlines()]))
 
 
 class CallRefused(NcrunError):
@@ -402,10 +406,10 @@ class Calls(Generic[C, R]):
     Each list and each value is one for all ranks, or a function of the rank's number. Where a put has no count it is the shape of the
     values. One single value stands for as many as are wanted."""
 
-    def _data(self, word: str, var: By[Union[str, Variable]], region: Tuple[Any, ...], values: object = None) -> C:
+    def _data(self, word: str, var: Var, region: Tuple[Any, ...], values: object = None) -> C:
         raise NotImplementedError
 
-    def _post(self, word: str, var: By[Union[str, Variable]], region: Tuple[Any, ...], values: object = None) -> R:
+    def _post(self, word: str, var: Var, region: Tuple[Any, ...], values: object = None) -> R:
         raise NotImplementedError
 
     def _plain(self, word: str, *given: Any) -> C:
@@ -413,150 +417,134 @@ class Calls(Generic[C, R]):
 
     # independent and collective puts
 
-    def put_var1(self, var: By[Union[str, Variable]], index: By[Sizes], value: By[Any]) -> C:
+    def put_var1(self, var: Var, index: Index, value: Values) -> C:
         return self._data("put_var1", var, (index,), value)
 
-    def put_var(self, var: By[Union[str, Variable]], values: By[Any]) -> C:
+    def put_var(self, var: Var, values: Values) -> C:
         return self._data("put_var", var, (), values)
 
-    def put_vara(self, var: By[Union[str, Variable]], start: By[Sizes], count: By[Sizes] = None, values: By[Any] = ()) -> C:
+    def put_vara(self, var: Var, start: Index, count: Index = None, values: Values = ()) -> C:
         return self._data("put_vara", var, (start, count), values)
 
-    def put_vars(self, var: By[Union[str, Variable]], start: By[Sizes], count: By[Sizes] = None, stride: By[Sizes] = None,
-                 values: By[Any] = ()) -> C:
+    def put_vars(self, var: Var, start: Index, count: Index = None, stride: Index = None, values: Values = ()) -> C:
         return self._data("put_vars", var, (start, count, stride), values)
 
-    def put_varm(self, var: By[Union[str, Variable]], start: By[Sizes], count: By[Sizes], stride: By[Sizes] = None,
-                 imap: By[Sizes] = None, values: By[Any] = ()) -> C:
+    def put_varm(self, var: Var, start: Index, count: Index, stride: Index = None, imap: Index = None, values: Values = ()) -> C:
         return self._data("put_varm", var, (start, count, stride, imap), values)
 
-    def put_varn(self, var: By[Union[str, Variable]], starts: By[Sequence[Sizes]], counts: By[Optional[Sequence[Sizes]]] = None,
-                 values: By[Any] = ()) -> C:
+    def put_varn(self, var: Var, starts: Lists, counts: Lists = None, values: Values = ()) -> C:
         return self._data("put_varn", var, (starts, counts), values)
 
-    def put_var1_all(self, var: By[Union[str, Variable]], index: By[Sizes], value: By[Any]) -> C:
+    def put_var1_all(self, var: Var, index: Index, value: Values) -> C:
         return self._data("put_var1_all", var, (index,), value)
 
-    def put_var_all(self, var: By[Union[str, Variable]], values: By[Any]) -> C:
+    def put_var_all(self, var: Var, values: Values) -> C:
         return self._data("put_var_all", var, (), values)
 
-    def put_vara_all(self, var: By[Union[str, Variable]], start: By[Sizes], count: By[Sizes] = None, values: By[Any] = ()) -> C:
+    def put_vara_all(self, var: Var, start: Index, count: Index = None, values: Values = ()) -> C:
         return self._data("put_vara_all", var, (start, count), values)
 
-    def put_vars_all(self, var: By[Union[str, Variable]], start: By[Sizes], count: By[Sizes] = None, stride: By[Sizes] = None,
-                     values: By[Any] = ()) -> C:
+    def put_vars_all(self, var: Var, start: Index, count: Index = None, stride: Index = None, values: Values = ()) -> C:
         return self._data("put_vars_all", var, (start, count, stride), values)
 
-    def put_varm_all(self, var: By[Union[str, Variable]], start: By[Sizes], count: By[Sizes], stride: By[Sizes] = None,
-                     imap: By[Sizes] = None, values: By[Any] = ()) -> C:
+    def put_varm_all(self, var: Var, start: Index, count: Index, stride: Index = None, imap: Index = None, values: Values = ()) -> C:
         return self._data("put_varm_all", var, (start, count, stride, imap), values)
 
-    def put_varn_all(self, var: By[Union[str, Variable]], starts: By[Sequence[Sizes]], counts: By[Optional[Sequence[Sizes]]] = None,
-                     values: By[Any] = ()) -> C:
+    def put_varn_all(self, var: Var, starts: Lists, counts: Lists = None, values: Values = ()) -> C:
         return self._data("put_varn_all", var, (starts, counts), values)
 
     # independent and collective gets
 
-    def get_var1(self, var: By[Union[str, Variable]], index: By[Sizes]) -> C:
+    def get_var1(self, var: Var, index: Index) -> C:
         return self._data("get_var1", var, (index,))
 
-    def get_var(self, var: By[Union[str, Variable]]) -> C:
+    def get_var(self, var: Var) -> C:
         return self._data("get_var", var, ())
 
-    def get_vara(self, var: By[Union[str, Variable]], start: By[Sizes], count: By[Sizes]) -> C:
+    def get_vara(self, var: Var, start: Index, count: Index) -> C:
         return self._data("get_vara", var, (start, count))
 
-    def get_vars(self, var: By[Union[str, Variable]], start: By[Sizes], count: By[Sizes], stride: By[Sizes] = None) -> C:
+    def get_vars(self, var: Var, start: Index, count: Index, stride: Index = None) -> C:
         return self._data("get_vars", var, (start, count, stride))
 
-    def get_varm(self, var: By[Union[str, Variable]], start: By[Sizes], count: By[Sizes], stride: By[Sizes] = None,
-                 imap: By[Sizes] = None) -> C:
+    def get_varm(self, var: Var, start: Index, count: Index, stride: Index = None, imap: Index = None) -> C:
         return self._data("get_varm", var, (start, count, stride, imap))
 
-    def get_varn(self, var: By[Union[str, Variable]], starts: By[Sequence[Sizes]], counts: By[Optional[Sequence[Sizes]]] = None) -> C:
+    def get_varn(self, var: Var, starts: Lists, counts: Lists = None) -> C:
         return self._data("get_varn", var, (starts, counts))
 
-    def get_var1_all(self, var: By[Union[str, Variable]], index: By[Sizes]) -> C:
+    def get_var1_all(self, var: Var, index: Index) -> C:
         return self._data("get_var1_all", var, (index,))
 
-    def get_var_all(self, var: By[Union[str, Variable]]) -> C:
+    def get_var_all(self, var: Var) -> C:
         return self._data("get_var_all", var, ())
 
-    def get_vara_all(self, var: By[Union[str, Variable]], start: By[Sizes], count: By[Sizes]) -> C:
+    def get_vara_all(self, var: Var, start: Index, count: Index) -> C:
         return self._data("get_vara_all", var, (start, count))
 
-    def get_vars_all(self, var: By[Union[str, Variable]], start: By[Sizes], count: By[Sizes], stride: By[Sizes] = None) -> C:
+    def get_vars_all(self, var: Var, start: Index, count: Index, stride: Index = None) -> C:
         return self._data("get_vars_all", var, (start, count, stride))
 
-    def get_varm_all(self, var: By[Union[str, Variable]], start: By[Sizes], count: By[Sizes], stride: By[Sizes] = None,
-                     imap: By[Sizes] = None) -> C:
+    def get_varm_all(self, var: Var, start: Index, count: Index, stride: Index = None, imap: Index = None) -> C:
         return self._data("get_varm_all", var, (start, count, stride, imap))
 
-    def get_varn_all(self, var: By[Union[str, Variable]], starts: By[Sequence[Sizes]],
-                     counts: By[Optional[Sequence[Sizes]]] = None) -> C:
+    def get_varn_all(self, var: Var, starts: Lists, counts: Lists = None) -> C:
         return self._data("get_varn_all", var, (starts, counts))
 
     # posts: what comes back is given to wait, wait_all or cancel
 
-    def iput_var1(self, var: By[Union[str, Variable]], index: By[Sizes], value: By[Any]) -> R:
+    def iput_var1(self, var: Var, index: Index, value: Values) -> R:
         return self._post("iput_var1", var, (index,), value)
 
-    def iput_var(self, var: By[Union[str, Variable]], values: By[Any]) -> R:
+    def iput_var(self, var: Var, values: Values) -> R:
         return self._post("iput_var", var, (), values)
 
-    def iput_vara(self, var: By[Union[str, Variable]], start: By[Sizes], count: By[Sizes] = None, values: By[Any] = ()) -> R:
+    def iput_vara(self, var: Var, start: Index, count: Index = None, values: Values = ()) -> R:
         return self._post("iput_vara", var, (start, count), values)
 
-    def iput_vars(self, var: By[Union[str, Variable]], start: By[Sizes], count: By[Sizes] = None, stride: By[Sizes] = None,
-                  values: By[Any] = ()) -> R:
+    def iput_vars(self, var: Var, start: Index, count: Index = None, stride: Index = None, values: Values = ()) -> R:
         return self._post("iput_vars", var, (start, count, stride), values)
 
-    def iput_varm(self, var: By[Union[str, Variable]], start: By[Sizes], count: By[Sizes], stride: By[Sizes] = None,
-                  imap: By[Sizes] = None, values: By[Any] = ()) -> R:
+    def iput_varm(self, var: Var, start: Index, count: Index, stride: Index = None, imap: Index = None, values: Values = ()) -> R:
         return self._post("iput_varm", var, (start, count, stride, imap), values)
 
-    def iput_varn(self, var: By[Union[str, Variable]], starts: By[Sequence[Sizes]], counts: By[Optional[Sequence[Sizes]]] = None,
-                  values: By[Any] = ()) -> R:
+    def iput_varn(self, var: Var, starts: Lists, counts: Lists = None, values: Values = ()) -> R:
         return self._post("iput_varn", var, (starts, counts), values)
 
-    def bput_var1(self, var: By[Union[str, Variable]], index: By[Sizes], value: By[Any]) -> R:
+    def bput_var1(self, var: Var, index: Index, value: Values) -> R:
         return self._post("bput_var1", var, (index,), value)
 
-    def bput_var(self, var: By[Union[str, Variable]], values: By[Any]) -> R:
+    def bput_var(self, var: Var, values: Values) -> R:
         return self._post("bput_var", var, (), values)
 
-    def bput_vara(self, var: By[Union[str, Variable]], start: By[Sizes], count: By[Sizes] = None, values: By[Any] = ()) -> R:
+    def bput_vara(self, var: Var, start: Index, count: Index = None, values: Values = ()) -> R:
         return self._post("bput_vara", var, (start, count), values)
 
-    def bput_vars(self, var: By[Union[str, Variable]], start: By[Sizes], count: By[Sizes] = None, stride: By[Sizes] = None,
-                  values: By[Any] = ()) -> R:
+    def bput_vars(self, var: Var, start: Index, count: Index = None, stride: Index = None, values: Values = ()) -> R:
         return self._post("bput_vars", var, (start, count, stride), values)
 
-    def bput_varm(self, var: By[Union[str, Variable]], start: By[Sizes], count: By[Sizes], stride: By[Sizes] = None,
-                  imap: By[Sizes] = None, values: By[Any] = ()) -> R:
+    def bput_varm(self, var: Var, start: Index, count: Index, stride: Index = None, imap: Index = None, values: Values = ()) -> R:
         return self._post("bput_varm", var, (start, count, stride, imap), values)
 
-    def bput_varn(self, var: By[Union[str, Variable]], starts: By[Sequence[Sizes]], counts: By[Optional[Sequence[Sizes]]] = None,
-                  values: By[Any] = ()) -> R:
+    def bput_varn(self, var: Var, starts: Lists, counts: Lists = None, values: Values = ()) -> R:
         return self._post("bput_varn", var, (starts, counts), values)
 
-    def iget_var1(self, var: By[Union[str, Variable]], index: By[Sizes]) -> R:
+    def iget_var1(self, var: Var, index: Index) -> R:
         return self._post("iget_var1", var, (index,))
 
-    def iget_var(self, var: By[Union[str, Variable]]) -> R:
+    def iget_var(self, var: Var) -> R:
         return self._post("iget_var", var, ())
 
-    def iget_vara(self, var: By[Union[str, Variable]], start: By[Sizes], count: By[Sizes]) -> R:
+    def iget_vara(self, var: Var, start: Index, count: Index) -> R:
         return self._post("iget_vara", var, (start, count))
 
-    def iget_vars(self, var: By[Union[str, Variable]], start: By[Sizes], count: By[Sizes], stride: By[Sizes] = None) -> R:
+    def iget_vars(self, var: Var, start: Index, count: Index, stride: Index = None) -> R:
         return self._post("iget_vars", var, (start, count, stride))
 
-    def iget_varm(self, var: By[Union[str, Variable]], start: By[Sizes], count: By[Sizes], stride: By[Sizes] = None,
-                  imap: By[Sizes] = None) -> R:
+    def iget_varm(self, var: Var, start: Index, count: Index, stride: Index = None, imap: Index = None) -> R:
         return self._post("iget_varm", var, (start, count, stride, imap))
 
-    def iget_varn(self, var: By[Union[str, Variable]], starts: By[Sequence[Sizes]], counts: By[Optional[Sequence[Sizes]]] = None) -> R:
+    def iget_varn(self, var: Var, starts: Lists, counts: Lists = None) -> R:
         return self._post("iget_varn", var, (starts, counts))
 
     # the other calls
@@ -590,7 +578,7 @@ class Calls(Generic[C, R]):
     def inq_dimlen(self, dim: By[Union[str, Dimension]]) -> C:
         return self._plain("inq_dimlen", dim)
 
-    def fill_var_rec(self, var: By[Union[str, Variable]], record: By[int]) -> C:
+    def fill_var_rec(self, var: Var, record: By[int]) -> C:
         return self._plain("fill_var_rec", var, record)
 
 
@@ -851,7 +839,9 @@ class Script:
         self.version: int = version or (known.version if known is not None else 5)
         self.dataset: Optional[Path] = None
         self.dims: Dict[str, Dimension] = dict(known.dims) if known is not None else {}
-        self.vars: Dict[str, Variable] = {name: Variable(name, it.type, it.dims, self) for name, it in known.vars.items()} if known is not None else {}
+        self.vars: Dict[str, Variable] = {}
+        for name, it in known.vars.items() if known is not None else ():
+            self.vars[name] = Variable(name, it.type, it.dims, self)
         self.ranks = tuple(Rank(self, number) for number in range(ranks))
         self.known_vars = len(self.vars)
         self.head = [(f"create {version}" if version else "open", place), (f"ranks {ranks}", place)] + ([("fill", place)] if fill else [])
@@ -1126,9 +1116,10 @@ class Answer:
         return array if self.call.shape is None else array.reshape(self.call.shape)
 
     def __repr__(self) -> str:
-        told = [self.code] if self.values is None else [self.code, shortened(" ".join(map(str, [self.values] if isinstance(self.values, bytes) else self.values)))]
+        shown = [repr(self.values[:50])] if isinstance(self.values, bytes) else [str(it) for it in (self.values or [])[:20]]
+        more = ["..."] if self.values is not None and len(self.values) > (50 if isinstance(self.values, bytes) else 20) else []
         wrong = [f"{item.call.brief}: {item.code}" for item in self.items if not item.ok]
-        return f"{self.call!r}: {' '.join(told)}" + (f" ({'; '.join(wrong)})" if wrong else "")
+        return " ".join([f"{self.call!r}: {self.code}", *shown, *more, *([f"({'; '.join(wrong)})"] if wrong else [])])
 
 
 class Offsets:

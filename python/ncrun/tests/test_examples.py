@@ -3,8 +3,8 @@ import glob
 import os
 import runpy
 import shutil
+import struct
 import subprocess
-import sys
 import unittest
 from unittest import mock
 
@@ -18,7 +18,7 @@ EXAMPLES = os.path.join(os.path.dirname(os.path.dirname(os.path.abspath(__file__
 
 def f4(value):
     """The float that is nearest."""
-    return __import__("struct").unpack(">f", __import__("struct").pack(">f", value))[0]
+    return struct.unpack(">f", struct.pack(">f", value))[0]
 
 
 class Examples(WithProgram):

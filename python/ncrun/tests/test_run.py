@@ -2,7 +2,6 @@
 import math
 import struct
 import sys
-import unittest
 
 import ncrun
 from ncrun import Bits, CallRefused, Refused, Script
@@ -251,7 +250,7 @@ class Refusals(WithProgram):
         s.rank(1).put_var1_all("v", 1, 1)
         s.rank(2).get_var_all("v")
         s.rank(1).sync_numrecs()
-        fault = self.refused(s, 3, "ncrun: script line 14: ranks 0 and 2 differ at collective call 1".replace("14", str(len(s.lines()))))
+        fault = self.refused(s, 3, f"ncrun: script line {len(s.lines())}: ranks 0 and 2 differ at collective call 1")
         self.assertEqual(fault.places, [(__file__, line), (__file__, line + 2)])
         self.assertRegex(str(fault), "`rank 0 put_var_all v`.*\n.*`rank 2 get_var_all v`")
 
@@ -307,6 +306,3 @@ class Refusals(WithProgram):
         vector().run("--offsets")
         self.assertEqual(Dataset("--offsets").values("v"), [0] * 4)
 
-
-if __name__ == "__main__":
-    unittest.main()

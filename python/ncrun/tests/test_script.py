@@ -214,6 +214,18 @@ class Values(unittest.TestCase):
             self.assertEqual(count, sum(it == 32 for it in values) if kind == "char" else 2 ** 20 - 1)
 
 
+    def test_without_numpy(self):
+        with mock.patch.dict(sys.modules, {"numpy": None}):
+            self.assertEqual(words("float", [1.5, -2]), "x3FC00000 xC0000000")
+            self.assertEqual(line(lambda rank: rank.put_vara("f", [0, 0], values=[[1, 2]])).split()[4], "[1,2]")
+            self.assertEqual(ncrun.type_name("f4"), "float")
+            s = small()
+            call = s.rank(0).get_var("v")
+            with self.assertRaises(ImportError):
+                ncrun.Answer(call, "ok", "1 2 3").array()
+            self.assertEqual(ncrun.Answer(call, "ok", "1 2 3").nested(), [1, 2, 3])
+
+
 class Mistakes(unittest.TestCase):
     def refused(self, told, make):
         s = small()
@@ -286,8 +298,7 @@ class Arrays(unittest.TestCase):
     def test_bits_are_exact(self):
         patterns = numpy.array([0x7FA00001, 0xFFC0BEEF, 1, 0x80000000], "u4")
         self.assertEqual(words("float", patterns.view("f4")), "x7FA00001 xFFC0BEEF x00000001 x80000000")
-        self.assertEqual(words("float", patterns.view("f4").byteswap().newbyteorder() if hasattr(patterns, "newbyteorder") else patterns.view("f4")),
-                         "x7FA00001 xFFC0BEEF x00000001 x80000000")
+        self.assertEqual(words("float", patterns.astype(">u4").view(">f4")), "x7FA00001 xFFC0BEEF x00000001 x80000000")
         self.assertEqual(words("double", numpy.array([0x7FF80000DEADBEEF], "u8").view("f8")), "x7FF80000DEADBEEF")
         self.assertEqual(words("float", [numpy.float32(1.5), numpy.float64(0.1)]), "x3FC00000 x3DCCCCCD")
 
@@ -319,13 +330,3 @@ class Arrays(unittest.TestCase):
         s.put_att("a", numpy.array([1, 2], "i2"))
         s.put_att("b", numpy.float32(0.5))
         self.assertEqual(s.text().splitlines()[-4:-2], ["att : a short 1 2", "att : b float x3F000000"])
-
-    def test_without_numpy(self):
-        with mock.patch.dict(sys.modules, {"numpy": None}):
-            self.assertEqual(words("float", [1.5, -2]), "x3FC00000 xC0000000")
-            self.assertEqual(line(lambda rank: rank.put_vara("f", [0, 0], values=[[1, 2]])).split()[4], "[1,2]")
-            self.assertEqual(ncrun.type_name("f4"), "float")
-            s = small()
-            call = s.rank(0).get_var("v")
-            with self.assertRaises(ImportError):
-                ncrun.Answer(call, "ok", "1 2 3").array()
