@@ -1,5 +1,7 @@
 """Runs of the real program. What is wanted is worked out from what was put, or is the code that docs/OUTPUT.md gives to the cause."""
 import math
+import os
+import random
 import struct
 import sys
 
@@ -72,6 +74,34 @@ class Answers(WithProgram):
         self.assertEqual(run.pending, [0, 0])
         self.assertEqual(Dataset("d.nc").values("var_all"), values["var"])
         self.assertEqual(Dataset("d.nc").values("varn_bput")[2:5], values["varn"])
+
+    def test_any_regions(self):
+        """Boxes, strides, index maps and many regions at random, against a plain list of what stands at which index."""
+        chance, dims = random.Random(7), (4, 3, 5)
+        s = Script(version=1)
+        s.def_dims(z=4, y=3, x=5)
+        s.def_var("v", "double", "z y x")
+        field, gets = {}, []
+        for _ in range(150):
+            stride = [chance.randint(1, 2) for _ in dims]
+            start = [chance.randrange(size) for size in dims]
+            count = [chance.randint(1, (size - 1 - first) // step + 1) for size, first, step in zip(dims, start, stride)]
+            at = [(start[0] + i * stride[0], start[1] + j * stride[1], start[2] + k * stride[2])
+                  for i in range(count[0]) for j in range(count[1]) for k in range(count[2])]
+            imap = chance.choice([None, [1, count[0], count[0] * count[1]]])
+            if imap:                                      # memory by columns
+                at.sort(key=lambda it: it[::-1])
+            ones = [[1, 1, 1]] * len(at)
+            if chance.random() < 0.5:
+                values = [chance.uniform(-1, 1) for _ in at]
+                field.update(zip(at, values))
+                chance.choice([lambda: s.rank(0).put_varm_all("v", start, count, stride, imap, values), lambda: s.rank(0).put_varn_all("v", at, ones, values)])()
+            else:
+                got = chance.choice([lambda: s.rank(0).get_varm_all("v", start, count, stride, imap), lambda: s.rank(0).get_varn_all("v", at)])()
+                gets.append((got, [field.get(it, 0.0) for it in at]))
+        run = s.run("d.nc", check=True)
+        self.assertEqual([run[got].values for got, _ in gets], [wanted for _, wanted in gets])
+        self.assertEqual(Dataset("d.nc").values("v"), [field.get((z, y, x), 0.0) for z in range(4) for y in range(3) for x in range(5)])
 
     def test_floats_come_back_exactly(self):
         doubles = [5e-324, -0.0, 0.1, math.inf, -math.pi, 1.7976931348623157e308, struct.unpack(">d", bytes.fromhex("7FF80000DEADBEEF"))[0]]
@@ -181,6 +211,14 @@ class Answers(WithProgram):
         self.assertEqual(found.element(found.vars["w"].begin + 16 + 4), ("w", (1, 1, 1)))
         self.assertIsNone(found.element(0))
         self.assertEqual(repr(ncrun.offsets("d.nc", "ncrun").vars), repr(found.vars))
+
+    def test_records_of_a_lone_variable_have_no_padding(self):
+        s = Script(version=1)
+        s.def_dims(t=None, x=3)
+        s.def_var("r", "short", "t x")
+        s.rank(0).put_var1_all("r", [2, 1], 7)
+        found = s.run("d.nc", check=True).offsets
+        self.assertEqual((found.record_size, found.element(found.vars["r"].begin + 2 * 6 + 2)), (6, ("r", (2, 1))))
 
     def test_watchers(self):
         s = Script(version=1)
@@ -301,6 +339,18 @@ class Refusals(WithProgram):
             Script.open("notes.txt")
         with self.assertRaises(FileNotFoundError):
             vector().run("d.nc", program="missing/ncrun")
+
+    def test_a_program_that_tells_little(self):
+        """Status 8 prints nothing, a signal neither; what stands on standard error is told."""
+        for command, status, told in [("exit 8", 8, "status 8 (want of memory)"), ("kill -9 $$", -9, "status -9 (a signal)"),
+                                      ("echo ncrun: disk fault; echo no space on d.nc >&2; exit 7", 7, "ncrun: disk fault\n  no space on d.nc")]:
+            with open("other", "w", encoding="ascii") as program:
+                program.write(f"#!/bin/sh\ncat > /dev/null\n{command}\n")
+            os.chmod("other", 0o755)
+            with self.assertRaises(Refused) as caught:
+                vector().run("d.nc", program="./other")
+            self.assertEqual(caught.exception.status, status)
+            self.assertIn(told, str(caught.exception))
 
     def test_a_path_like_an_option(self):
         vector().run("--offsets")
