@@ -799,23 +799,32 @@ class Rank(Calls[Call, Request]):
 class Group(Calls[List[Call], List[Request]]):
     """Some ranks, each of which makes the call: what comes back is a list, one for each rank."""
 
-    def __init__(self, ranks: Sequence[Rank]) -> None:
-        self.ranks = list(ranks)
+    def __init__(self, script: Script, ranks: Sequence[Rank]) -> None:
+        self.script, self.ranks = script, list(ranks)
+
+    def each(self, make: Callable[[Rank], T]) -> List[T]:
+        """What is made of each rank. Where one can't make its call, the script stays as it was."""
+        before = self.script.size()
+        try:
+            return [make(rank) for rank in self.ranks]
+        except Exception:
+            self.script.back_to(before)
+            raise
 
     def _data(self, word: str, var: Any, region: Tuple[Any, ...], values: object = None) -> List[Call]:
-        return [rank._data(word, var, region, values) for rank in self.ranks]
+        return self.each(lambda rank: rank._data(word, var, region, values))
 
     def _post(self, word: str, var: Any, region: Tuple[Any, ...], values: object = None) -> List[Request]:
-        return [rank._post(word, var, region, values) for rank in self.ranks]
+        return self.each(lambda rank: rank._post(word, var, region, values))
 
     def _plain(self, word: str, *given: Any) -> List[Call]:
         if word not in WAITS or given[0] is None or callable(given[0]):
-            return [rank._plain(word, *given) for rank in self.ranks]
+            return self.each(lambda rank: rank._plain(word, *given))
         named = requests_in(given[0])
         for request in named:
             if request.rank not in (rank.number for rank in self.ranks):
                 raise ScriptError(f"{request!r} was posted by a rank that is none of these")
-        return [rank._plain(word, [it for it in named if it.rank == rank.number]) for rank in self.ranks]
+        return self.each(lambda rank: rank._plain(word, [it for it in named if it.rank == rank.number]))
 
 
 # ---- scripts
@@ -947,7 +956,7 @@ class Script:
 
     def every(self, ranks: Optional[Iterable[int]] = None) -> Group:
         """All ranks, or those of these numbers: every().put_vara_all("v", lambda rank: [rank], [1], 7)"""
-        return Group(self.ranks if ranks is None else [self.rank(number) for number in ranks])
+        return Group(self, self.ranks if ranks is None else [self.rank(number) for number in ranks])
 
     def idle(self, *ranks: int) -> List[Call]:
         """The collective calls that other ranks have made and these (or, without an argument, any) have not, without data."""
@@ -970,6 +979,21 @@ class Script:
         if self.bytes > MOST_BYTES - 100:                # beside the head, `data` and `end`
             raise ScriptError(f"a script has at most {MOST_BYTES} bytes: split it over several")
         lines.append((line, place))
+
+    def size(self) -> Tuple[int, int, int]:
+        """How far the calls have come."""
+        return len(self.called), self.values, self.bytes
+
+    def back_to(self, size: Tuple[int, int, int]) -> None:
+        """Takes back the calls that came after."""
+        calls, self.values, self.bytes = size
+        for call in self.order[calls:]:
+            rank = self.ranks[call.rank]
+            rank.calls.remove(call)
+            if call.kind is not None:
+                rank.meetings.remove(call)
+            rank.requests.pop(call.id or 0, None)
+        del self.called[calls:], self.order[calls:]
 
     # the script
 

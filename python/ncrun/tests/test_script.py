@@ -266,6 +266,14 @@ class Mistakes(unittest.TestCase):
             s.rank(0).put_var_all("one", 1)
             s.idle()
 
+    def test_a_call_that_one_rank_cannot_make_is_made_by_none(self):
+        self.refused("128 does not fit|wants 1 values", lambda s: s.every().put_vara_all("v", 0, 1, lambda rank: [0] * (1 + rank // 2)))
+        s = small()
+        with self.assertRaises(ScriptError):
+            s.every().iput_var1("v", lambda rank: 1 - rank, 7)
+        self.assertEqual([(rank.calls, rank.meetings, rank.requests) for rank in s.ranks], [([], [], {})] * 3)
+        self.assertEqual([it.id for it in s.every().iput_var1("v", 0, 7)], [1, 1, 1])
+
     def test_each_line_knows_its_line_of_python(self):
         s = Script(version=1)
         first = here() - 1
