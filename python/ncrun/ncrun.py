@@ -129,7 +129,7 @@ UNESCAPED = {b'"': b'"', b"\\": b"\\", b"n": b"\n", b"t": b"\t"}
 
 
 class Bits(int):
-    """The pattern of a float or double, where no Python float has it: Bits(0x7FA00001) is a signalling NaN of a float variable."""
+    """The pattern of a float or double itself: Bits(0x7FA00001) is a signalling NaN of a float variable, which a Python float can't give."""
 
 
 class Encoded(NamedTuple):
