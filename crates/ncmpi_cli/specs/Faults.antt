@@ -13,7 +13,7 @@ use Rattle.nc_base.specs.declared.step.StepErr.{StepErr}
 use Rattle.nc_base.specs.declared.step.StepErr.TheVariants.{Memory}
 use Rattle.nc_outside.specs.Told.{BothTold}
 use Rattle.serial_spec.specs.Torn.{IsCutRun}
-use Rattle.ncmpi_cli.specs.Generated.{header_made, RanMade, script_made}
+use Rattle.ncmpi_cli.specs.Generated.{made_header, RanMade, script_made}
 use Rattle.ncmpi_cli.specs.Headline.{file_at_start, Ran}
 use Rattle.ncmpi_cli.specs.Outside.{Output, Seen}
 use Rattle.dataset_start.specs.Readiness.{CanHaveBegun, IsLeftUnready, IsNotReady}
@@ -49,8 +49,8 @@ module _ (seed size : ℕ) where
   abbrev pub MadeCutOff : StepErr → Output → Output → List Mark → Type 0
   MadeCutOff fault before now order =
       IfSome before.held
-      (λ file. IsCutFile (script_made seed size) (header_made seed size) fault
-      (file_at_start (script_made seed size) (header_made seed size) (header_made seed size) file) now.held order)
+      (λ file. IsCutFile (script_made seed size) (made_header seed size) fault
+      (file_at_start (script_made seed size) (made_header seed size) (made_header seed size) file) now.held order)
 
   abbrev pub MadeEndsEarly : StepErr → Output → Output → List Mark → Type 0
   MadeEndsEarly fault before now order = ((order ≡ []) × IsMadeUnready before.held now.held) ⊎ MadeCutOff fault before now order
