@@ -27,7 +27,7 @@ use Rattle.redef_laws.specs.Shifted.{new_end}
 use Rattle.redef_mover.specs.Relocation.{relocation_calls}
 use Rattle.script_spec.specs.ScriptGrammar.{Reads}
 use Rattle.dataset_start.specs.Dataset.{align_of, created_header, front, header_of_run, redefinition_fault, HasRedefinitionFault, IsSoundFile, TellsDataset}
-use Rattle.dataset_start.specs.Readiness.{blank_file, dataset_end, empty_end, fill_calls_if, filled_if, first_calls, IsFaultless, IsOpened, IsReady}
+use Rattle.dataset_start.specs.Readiness.{blank_file, dataset_end, empty_end, fill_calls_if, filled_if, first_calls, opened_calls, IsFaultless, IsOpened, IsReady}
 use Rattle.dataset_start.specs.Stops.{line_of, status_of, IsOfHeader, IsOfRedefinition}
 use Rattle.dataset_start.specs.declared.stop.Stop.{Stop}
 use Rattle.dataset_start.specs.declared.stop.Stop.TheVariants as stops
@@ -108,7 +108,7 @@ unfolding created-calls
 opening-created script header file f = rw f refl
 
 opening-opened : (script : script_type.Script) (header : head.Header) (file : List ℕ) → script.fresh ≡ false
-    → opening_calls script header file ≡ head_load file ++ grow_to (length file) (dataset_end header)
+    → opening_calls script header file ≡ opened_calls header file
 opening-opened script header file f = rw f refl
 
 calls-created : (script : script_type.Script) (header : head.Header) (held : Option (List ℕ)) (before mid now : Option (List DiskCall)) → script.fresh ≡ true

@@ -4,7 +4,7 @@
 --     IsSoundFile, IsFaultyFile              whether an existing file can be opened as the script asks
 --     TellsDataset script held line          the line tells what is wrong with the dataset
 --     IsRight, IsWrong                       whether something is wrong with it
-use Rattle.std.specs.Prelude.{ℕ, ◌==◌, ◌≡◌, ◌⊎◌, true, false, List, take, length, Option, Some, None, option_map, IfSome, IsSomeAnd}
+use Rattle.std.specs.Prelude.{ℕ, ◌^◌, ◌==◌, ◌≡◌, ◌⊎◌, true, false, List, take, length, Option, Some, None, option_map, IfSome, IsSomeAnd}
 use Rattle.nc_base.specs.declared.errors.HeaderErr.{HeaderErr}
 use Rattle.nc_base.specs.declared.errors.LayoutErr.{LayoutErr}
 use Rattle.nc_base.specs.declared.errors.RedefErr.{RedefErr}
@@ -12,7 +12,6 @@ use Rattle.nc_base.specs.declared.header.Header.{Header}
 use Rattle.nc_base.specs.declared.script.Align.{Align}
 use Rattle.nc_base.specs.declared.script.Hints.{Hints}
 use Rattle.nc_base.specs.declared.script.Script.{Script}
-use Rattle.serial_spec.specs.Limits.{most_header_bytes}
 use Rattle.serial_spec.specs.Layout.{begins}
 use Rattle.serial_spec.specs.HeaderBytes.{header_len}
 use Rattle.serial_spec.specs.HeaderFaults.{HasFault}
@@ -34,7 +33,7 @@ created_header script = begins script.header (align_of script.hints) (header_len
 
 -- the first bytes of a file, in which its header stands
 abbrev pub front : List ℕ → List ℕ
-front file = take most_header_bytes file
+front file = take (2 ^ 20) file
 
 -- the header with which the ranks run, from the first one
 abbrev pub header_of_run : Script → Header → Header

@@ -3,6 +3,7 @@
 --     filled_if, fill_calls_if              the fill of a new dataset, where it is asked for
 --     dataset_end header                    where a dataset with this header ends
 --     empty_end, blank_file header          where it ends without a record; a created dataset before it is filled
+--     opened_calls header file              the device calls that open an existing dataset to which nothing is added
 --     first_calls script old header file    the device calls before the ranks begin
 --     IsFaultless script held               nothing is wrong with the dataset
 --     IsReady script header ..              what is made of a dataset before the ranks begin
@@ -11,14 +12,14 @@
 --     IsTornOpening ..                      the same of the opening of an existing dataset, whose header is read
 --     IsNotReady script file left           what stands of a dataset that was not made ready
 --     IsLeftUnready left before now         the same where a script was read, or the dataset was not touched
-use Rattle.std.specs.Prelude.{ℕ, ◌==◌, ◌≡◌, ◌⊎◌, List, [], length, Bool, true, false, Option, None, IfSome, if◌then◌else◌}
+use Rattle.std.specs.Prelude.{ℕ, ◌==◌, ◌≡◌, ◌⊎◌, List, [], ◌++◌, length, Bool, true, false, Option, None, IfSome, if◌then◌else◌}
 use Rattle.nc_base.specs.declared.header.Header.{Header}
 use Rattle.nc_base.specs.declared.script.Extra.{Extra}
 use Rattle.nc_base.specs.declared.script.Hints.{Hints}
 use Rattle.nc_base.specs.declared.script.Script.{Script}
 use Rattle.nc_base.specs.declared.step.DiskCall.{DiskCall}
 use Rattle.nc_outside.specs.Told.{after, BothTold}
-use Rattle.serial_spec.specs.DeviceCalls.{fill_calls, opening_calls, redefining_calls}
+use Rattle.serial_spec.specs.DeviceCalls.{fill_calls, grow_to, head_load, opening_calls, redefining_calls}
 use Rattle.serial_spec.specs.File.{longer}
 use Rattle.serial_spec.specs.Fill.{filled}
 use Rattle.serial_spec.specs.HeaderBytes.{canon, header_len}
@@ -57,6 +58,9 @@ filled_if asked header file = if asked then filled header file else file
 
 abbrev pub fill_calls_if : Bool → Hints → Header → List DiskCall
 fill_calls_if asked hints header = if asked then fill_calls hints header else []
+
+abbrev pub opened_calls : Header → List ℕ → List DiskCall
+opened_calls header file = head_load file ++ grow_to (length file) (dataset_end header)
 
 -- the device calls before the ranks begin
 abbrev pub first_calls : Script → Header → Header → List ℕ → List DiskCall
