@@ -12,3 +12,8 @@ mod FillCalls
 mod PastLaws
 mod FieldLaws
 mod AnswerLaws
+mod RedefinedElements
+mod PartPosts
+mod PartSteps
+mod PartValues
+mod WholeFiles

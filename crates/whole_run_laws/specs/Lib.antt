@@ -3,3 +3,5 @@ pub mod Orders
 pub mod Transfers
 pub mod Told
 pub mod Filling
+pub mod Redefined
+pub mod PartCalls

@@ -6,4 +6,6 @@ pub mod counts;
 pub mod fills;
 pub mod orders;
 pub mod overlaps;
+pub mod parts;
+pub mod redefinitions;
 pub mod transfers;

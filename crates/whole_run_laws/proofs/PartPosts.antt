@@ -1,0 +1,343 @@
+-- The posts of a call of form varn are those of calls on its parts, each with its share of the values.
+use Rattle.std.proofs.Common.{◌≡◌, ℕ, zero, suc, ◌+◌, ◌<◌, ◌≤◌, refl, sym, ◌∙◌, ap, subst, inl, inr, List, [], ◌∷◌, ◌++◌, length, map, take, drop, Bool, true, false, not, cond, ltb, ◌||◌, Option, Some, None, option_map, is_none, arith}
+use Rattle.std.specs.Prelude.{ℤ, filter, flat_map, slice_get}
+use Rattle.std.specs.List.{list_any, range_with_len}
+use Rattle.std.proofs.lemmas.Bool.{cases_lt, lt-ltb, ltb-false, ltb-true}
+use Rattle.std.proofs.lemmas.List.Sums.{sum_by-cons}
+use Rattle.list_laws.proofs.Maps.{any_map}
+use Rattle.list_laws.proofs.Places.{entry_below}
+use Rattle.list_laws.proofs.Truth.{no_both, or_first_false, or_second_false}
+use Rattle.nc_base.specs.Values.{count_of}
+use Rattle.nc_base.specs.declared.answer.Code.{Code}
+use Rattle.nc_base.specs.declared.answer.Code.TheVariants as code
+use Rattle.nc_base.specs.declared.header.Header.{Header}
+use Rattle.nc_base.specs.declared.header.NcType.{NcType}
+use Rattle.nc_base.specs.declared.header.Var.{Var}
+use Rattle.nc_base.specs.declared.plan.Post.{Post}
+use Rattle.nc_base.specs.declared.request.Direction.{Direction}
+use Rattle.nc_base.specs.declared.request.Direction.TheVariants.{Get, Put}
+use Rattle.nc_base.specs.declared.request.Form.{Form}
+use Rattle.nc_base.specs.declared.request.Form.TheVariants.{Varn}
+use Rattle.nc_base.specs.declared.request.Given.{Given}
+use Rattle.nc_base.specs.declared.request.Part.{Part}
+use Rattle.nc_base.specs.declared.request.Region.{Region}
+use Rattle.nc_base.specs.declared.request.Value.{Value}
+use Rattle.nc_base.specs.declared.request.Value.TheVariants as value
+use Rattle.nc_base.specs.declared.request.Values.{Values}
+use Rattle.nc_base.specs.declared.request.Values.TheVariants.{Numbers, Text, Bits}
+use Rattle.serial_spec.specs.ExternalForm as form
+use Rattle.serial_spec.specs.ExternalForm.{Class, class_of}
+use Rattle.serial_spec.specs.Layout.{product}
+use Rattle.serial_spec.specs.Lists.{In}
+use Rattle.serial_spec.specs.Looks as looks
+use Rattle.serial_spec.specs.Looks.{data_code, find_var, is_varn, kind_code, look, look_at, look_parts, look_region, part_posts, parts_code, some_fits, values_bytes, values_code}
+use Rattle.serial_spec.specs.RankMachine.{code_of_look, posts_of}
+use Rattle.serial_spec.specs.RegionCheck.{check_parts, check_var, elements_of_all, has_element, is_ok_code, part_region, part_regions}
+use Rattle.serial_spec.specs.Request.{ext_of, packed_bytes, value_at}
+use Rattle.rank_core.proofs.LookLaws.{parts_pass}
+use Rattle.rank_core.proofs.OutcomeLaws.{outcome}
+use Rattle.whole_run_laws.specs.PartCalls.{on_part, own_values, values_from}
+
+-- ---- a call that is not refused
+
+passed : (checked : Code) (some : Bool) (asked : List Post) (last : Code) → code_of_look (outcome checked some asked last) ≡ code.Ok
+    → (checked ≡ code.Ok) × (some ≡ true → last ≡ code.Ok)
+passed code.Ok true asked code.Ok h = (refl, λ t. refl)
+passed code.Ok true asked last h = absurd cc
+passed code.Ok false asked last h = (refl, λ t. absurd cc)
+passed checked some asked last h = absurd cc
+
+asks : (checked : Code) (some : Bool) (asked : List Post) (last : Code) → checked ≡ code.Ok → (some ≡ true → last ≡ code.Ok)
+    → posts_of (outcome checked some asked last) ≡ cond some asked []
+asks checked some asked last e f = ap (λ (c : Code). posts_of (outcome c some asked last)) e ∙ by some f
+  where
+    by : (b : Bool) → (b ≡ true → last ≡ code.Ok) → posts_of (outcome code.Ok b asked last) ≡ cond b asked []
+    by false g = refl
+    by true g = ap (λ (c : Code). posts_of (outcome code.Ok true asked c)) (g refl)
+
+-- ---- a share of the values
+
+taken : {X : Type 0} (xs : List X) (k n i : ℕ) → i < n → slice_get (take n (drop k xs)) i ≡ slice_get xs (k + i)
+taken [] zero zero i l = absurd (omega arith)
+taken [] zero (suc n) i l = refl
+taken [] (suc k) zero i l = absurd (omega arith)
+taken [] (suc k) (suc n) i l = refl
+taken (x ∷ xs) zero zero i l = absurd (omega arith)
+taken (x ∷ xs) zero (suc n) zero l = refl
+taken (x ∷ xs) zero (suc n) (suc i) l =
+    let here : 0 + i ≡ i = omega arith in
+    let there : suc i ≡ 0 + suc i = omega arith in
+    taken xs 0 n i (omega arith) ∙ ap (λ (m : ℕ). slice_get xs m) here ∙ ap (λ (m : ℕ). slice_get (x ∷ xs) m) there
+taken (x ∷ xs) (suc k) n i l =
+    let there : suc (k + i) ≡ suc k + i = omega arith in
+    taken xs k n i l ∙ ap (λ (m : ℕ). slice_get (x ∷ xs) m) there
+
+same_value : (values : Values) (k n i : ℕ) → i < n → value_at (values_from values k n) i ≡ value_at values (k + i)
+same_value (Numbers zs) k n i l = ap (λ (o : Option ℤ). option_map (λ z. value.Number z) o) (taken zs k n i l)
+same_value (Text cs) k n i l = ap (λ (o : Option ℕ). option_map (λ c. value.Char c) o) (taken cs k n i l)
+same_value (Bits ns) k n i l = ap (λ (o : Option ℕ). option_map (λ b. value.Bits b) o) (taken ns k n i l)
+
+same_kind : (c : Class) (values : Values) (k n : ℕ) → kind_code c (values_from values k n) ≡ kind_code c values
+same_kind form.Signed (Numbers zs) k n = refl
+same_kind form.Signed (Text cs) k n = refl
+same_kind form.Signed (Bits ns) k n = refl
+same_kind form.Unsigned (Numbers zs) k n = refl
+same_kind form.Unsigned (Text cs) k n = refl
+same_kind form.Unsigned (Bits ns) k n = refl
+same_kind form.Text (Numbers zs) k n = refl
+same_kind form.Text (Text cs) k n = refl
+same_kind form.Text (Bits ns) k n = refl
+same_kind form.Pattern (Numbers zs) k n = refl
+same_kind form.Pattern (Text cs) k n = refl
+same_kind form.Pattern (Bits ns) k n = refl
+
+-- over two ranges that say the same
+flat_shifted : {A : Type 0} (f h : ℕ → List A) (a b n : ℕ) → ((i : ℕ) → i < n → f (a + i) ≡ h (b + i)) → flat_map f (range_with_len a n) ≡ flat_map h (range_with_len b n)
+flat_shifted f h a b zero e = refl
+flat_shifted f h a b (suc n) e =
+    let one : a ≡ a + 0 = omega arith in
+    let two : b + 0 ≡ b = omega arith in
+    let first : f a ≡ h b = ap f one ∙ e 0 (omega arith) ∙ ap h two in
+    let rest = flat_shifted f h (a + 1) (b + 1) n (λ i l.
+    let three : a + 1 + i ≡ a + suc i = omega arith in
+    let four : b + suc i ≡ b + 1 + i = omega arith in
+    ap f three ∙ e (suc i) (omega arith) ∙ ap h four) in
+    λ t. first t ++ rest t
+
+own_bytes : (kind : NcType) (values : Values) (k n : ℕ)
+    → flat_map (λ m. ext_of kind (value_at (values_from values k n) m)) (range_with_len 0 n) ≡ values_bytes kind (Some values) k n
+own_bytes kind values k n =
+    flat_shifted (λ m. ext_of kind (value_at (values_from values k n) m)) (λ m. ext_of kind (value_at values m)) 0 k n (λ i l.
+    let here : 0 + i ≡ i = omega arith in
+    ap (λ (m : ℕ). ext_of kind (value_at (values_from values k n) m)) here ∙ ap (λ (o : Option Value). ext_of kind o) (same_value values k n i l))
+
+-- ---- the values are enough, and fit
+
+record AreRight (kind : NcType) (values : Values) (all : ℕ) : Type 0 where
+  kinds : kind_code (class_of kind) values ≡ code.Ok
+  enough : all ≤ count_of values
+  fit : (i : ℕ) → i < all → not (some_fits kind (value_at values i)) ≡ false
+
+abbrev of_values : Code → Bool → Bool → Code
+of_values kinds lacking unfit = cond (not (is_ok_code kinds)) kinds (cond lacking code.EMapSize (cond unfit code.ERange code.Ok))
+
+all_right : (kinds : Code) (lacking unfit : Bool) → of_values kinds lacking unfit ≡ code.Ok → (kinds ≡ code.Ok) × (lacking ≡ false) × (unfit ≡ false)
+all_right code.Ok false false h = (refl, refl, refl)
+all_right code.Ok false true h = absurd cc
+all_right code.Ok true unfit h = absurd cc
+all_right kinds lacking unfit h = absurd cc
+
+from_right : (kinds : Code) (lacking unfit : Bool) → kinds ≡ code.Ok → lacking ≡ false → unfit ≡ false → of_values kinds lacking unfit ≡ code.Ok
+from_right kinds lacking unfit e f g =
+    ap (λ (c : Code). of_values c lacking unfit) e ∙ ap (λ (b : Bool). of_values code.Ok b unfit) f ∙ ap (λ (b : Bool). of_values code.Ok false b) g
+
+none_of_range : (test : ℕ → Bool) (a n : ℕ) → list_any test (range_with_len a n) ≡ false → (i : ℕ) → i < n → test (a + i) ≡ false
+none_of_range test a zero h i l = absurd (omega arith)
+none_of_range test a (suc n) h zero l =
+    let here : a + 0 ≡ a = omega arith in
+    ap test here ∙ or_first_false (test a) (list_any test (range_with_len (a + 1) n)) h
+none_of_range test a (suc n) h (suc i) l =
+    let there : a + suc i ≡ a + 1 + i = omega arith in
+    ap test there ∙ none_of_range test (a + 1) n (or_second_false (test a) (list_any test (range_with_len (a + 1) n)) h) i (omega arith)
+
+none_in_range : (test : ℕ → Bool) (a n : ℕ) → ((i : ℕ) → i < n → test (a + i) ≡ false) → list_any test (range_with_len a n) ≡ false
+none_in_range test a zero h = refl
+none_in_range test a (suc n) h =
+    let here : a ≡ a + 0 = omega arith in
+    let first : test a ≡ false = ap test here ∙ h 0 (omega arith) in
+    let later = none_in_range test (a + 1) n (λ i l. let there : a + 1 + i ≡ a + suc i = omega arith in ap test there ∙ h (suc i) (omega arith)) in
+    λ t. first t || later t
+
+right_values : (kind : NcType) (values : Values) (all : ℕ) → parts_code kind all (Some values) ≡ code.Ok → AreRight kind values all
+right_values kind values all h =
+    let test = λ (m : ℕ). not (some_fits kind (value_at values m)) in
+    let r = all_right (kind_code (class_of kind) values) (ltb (count_of values) all) (list_any test (range_with_len 0 all)) h in
+    record {
+      kinds = r.0;
+      enough = ltb-false (count_of values) all r.1;
+      fit = λ i l. let here : i ≡ 0 + i = omega arith in ap test here ∙ none_of_range test 0 all r.2 i l;
+    }
+
+value_there : (values : Values) (i : ℕ) → i < count_of values → is_none (value_at values i) ≡ false
+value_there (Numbers zs) i l = let found = entry_below zs i l in ap (λ (o : Option ℤ). is_none (option_map (λ z. value.Number z) o)) found.1
+value_there (Text cs) i l = let found = entry_below cs i l in ap (λ (o : Option ℕ). is_none (option_map (λ c. value.Char c) o)) found.1
+value_there (Bits ns) i l = let found = entry_below ns i l in ap (λ (o : Option ℕ). is_none (option_map (λ b. value.Bits b) o)) found.1
+
+own_right : (kind : NcType) (values : Values) (all k n : ℕ) → AreRight kind values all → k + n ≤ all
+    → of_values (kind_code (class_of kind) (values_from values k n))
+    (list_any (λ v. is_none v) (map (λ m. value_at (values_from values k n) m) (range_with_len 0 n)))
+    (list_any (λ v. not (some_fits kind v)) (map (λ m. value_at (values_from values k n) m) (range_with_len 0 n))) ≡ code.Ok
+own_right kind values all k n r room =
+    let own = values_from values k n in
+    from_right (kind_code (class_of kind) own) _ _ (same_kind (class_of kind) values k n ∙ r.kinds)
+    (any_map (λ v. is_none v) (λ m. value_at own m) (range_with_len 0 n)
+    ∙ none_in_range (λ m. is_none (value_at own m)) 0 n (λ i l. at_value (λ v. is_none v) i l (value_there values (k + i) (let e = r.enough in omega arith))))
+    (any_map (λ v. not (some_fits kind v)) (λ m. value_at own m) (range_with_len 0 n)
+    ∙ none_in_range (λ m. not (some_fits kind (value_at own m))) 0 n (λ i l. at_value (λ v. not (some_fits kind v)) i l (r.fit (k + i) (omega arith))))
+  where
+    at_value : (test : Option Value → Bool) (i : ℕ) → i < n → test (value_at values (k + i)) ≡ false → test (value_at (values_from values k n) (0 + i)) ≡ false
+    at_value test i l h =
+        let here : 0 + i ≡ i = omega arith in
+        ap (λ (m : ℕ). test (value_at (values_from values k n) m)) here ∙ ap test (same_value values k n i l) ∙ h
+
+-- ---- one part
+
+module _ (header : Header) (known id k : ℕ) (var : Var) where
+  abbrev region : Part → Region
+  region p = part_region var p
+
+  abbrev post : Option Values → ℕ → Region → Post
+  post values n g = record { id = id; var = k; region = g; bytes = values_bytes var.kind values n (product g.count) }
+
+  abbrev of_part : Part → Option Values → List Post
+  of_part p own = posts_of (look_region header known id k (on_part p) own var)
+
+  abbrev asked : List Part → List Region
+  asked parts = filter has_element (map region parts)
+
+  put_part : (p : Part) (values : Values) (n all : ℕ) → check_var header var (region p) known Put ≡ code.Ok
+      → (has_element (region p) ≡ true → AreRight var.kind values all × (n + product p.count ≤ all))
+      → of_part p (Some (values_from values n (product p.count))) ≡ cond (has_element (region p)) (post (Some values) n (region p) ∷ []) []
+  put_part p values n all ok right =
+      let own = values_from values n (product p.count) in
+      let given : List ℕ → Post = λ b. record { id = id; var = k; region = region p; bytes = b } in
+      asks (check_var header var (region p) known Put) (has_element (region p)) (given (packed_bytes var.kind (region p) own) ∷ []) (data_code var.kind (region p) (Some own)) ok
+      (λ t. let r = right t in own_right var.kind values all n (product p.count) r.0 r.1)
+      ∙ ap (λ (b : List ℕ). cond (has_element (region p)) (given b ∷ []) []) (own_bytes var.kind values n (product p.count))
+
+  get_part : (p : Part) (n : ℕ) → check_var header var (region p) known Get ≡ code.Ok
+      → of_part p None ≡ cond (has_element (region p)) (post None n (region p) ∷ []) []
+  get_part p n ok =
+      asks (check_var header var (region p) known Get) (has_element (region p)) (post None n (region p) ∷ []) code.Ok ok (λ t. refl)
+
+  -- ---- all parts
+
+  -- the posts of the first part and the others are its own and theirs
+  first_part : (values : Option Values) (n : ℕ) (p : Part) (rest : List Region) (own later : List Post)
+      → own ≡ cond (has_element (region p)) (post values n (region p) ∷ []) []
+      → part_posts id k var.kind values (n + product p.count) rest ≡ later
+      → part_posts id k var.kind values n (cond (has_element (region p)) (region p ∷ rest) rest) ≡ own ++ later
+  first_part values n p rest own later e f = by (has_element (region p)) refl ∙ ap (λ (ps : List Post). ps ++ later) (sym e)
+    where
+      by : (b : Bool) → has_element (region p) ≡ b
+          → part_posts id k var.kind values n (cond b (region p ∷ rest) rest) ≡ cond b (post values n (region p) ∷ []) [] ++ later
+      by true g = ap (λ (ps : List Post). post values n (region p) ∷ ps) f
+      by false g =
+          let none : product p.count ≤ 0 = ltb-false 0 (product p.count) g in
+          let same : n ≡ n + product p.count = omega arith in
+          ap (λ (m : ℕ). part_posts id k var.kind values m rest) same ∙ f
+
+  abbrev Right : Values → ℕ → List Region → Type 0
+  Right values all regions = 0 < length regions → AreRight var.kind values all
+
+  more_room : (p : Part) (rest : List Region) (n all : ℕ) → n + elements_of_all (cond (has_element (region p)) (region p ∷ rest) rest) ≤ all
+      → (n + product p.count + elements_of_all rest ≤ all)
+  more_room p rest n all room = by (has_element (region p)) refl room
+    where
+      by : (b : Bool) → has_element (region p) ≡ b → n + elements_of_all (cond b (region p ∷ rest) rest) ≤ all → n + product p.count + elements_of_all rest ≤ all
+      by true e r = let one = sum_by-cons (λ (g : Region). product g.count) (region p) rest in omega (arith, one, r)
+      by false e r = let none : product p.count ≤ 0 = ltb-false 0 (product p.count) e in omega (arith, none, r)
+
+  later_right : (p : Part) (rest : List Region) (values : Values) (all : ℕ) (b : Bool) → Right values all (cond b (region p ∷ rest) rest) → Right values all rest
+  later_right p rest values all true r l = r (omega arith)
+  later_right p rest values all false r l = r l
+
+  first_right : (p : Part) (rest : List Region) (values : Values) (all : ℕ) (b : Bool) → Right values all (cond b (region p ∷ rest) rest) → b ≡ true → AreRight var.kind values all
+  first_right p rest values all true r e = r (omega arith)
+  first_right p rest values all false r e = absurd cc
+
+  abbrev AllPass : List Part → Direction → Type 0
+  AllPass parts way = (g : Region) → In (map region parts) g → check_var header var g known way ≡ code.Ok
+
+  puts_of_parts : (parts : List Part) (values : Values) (n all : ℕ) → AllPass parts Put → Right values all (asked parts) → n + elements_of_all (asked parts) ≤ all
+      → part_posts id k var.kind (Some values) n (asked parts) ≡ flat_map (λ part. of_part part.0 (Some part.1)) (own_values values n parts)
+  puts_of_parts [] values n all ok right room = refl
+  puts_of_parts (p ∷ parts) values n all ok right room =
+      let rest = asked parts in
+      let more = more_room p rest n all room in
+      first_part (Some values) n p rest (of_part p (Some (values_from values n (product p.count)))) _
+      (put_part p values n all (ok (region p) (inl refl)) (λ t. (first_right p rest values all (has_element (region p)) right t, omega (arith, more))))
+      (puts_of_parts parts values (n + product p.count) all (λ g i. ok g (inr i)) (later_right p rest values all (has_element (region p)) right) more)
+
+  gets_of_parts : (parts : List Part) (n : ℕ) → AllPass parts Get → part_posts id k var.kind None n (asked parts) ≡ flat_map (λ part. of_part part None) parts
+  gets_of_parts [] n ok = refl
+  gets_of_parts (p ∷ parts) n ok =
+      first_part None n p (asked parts) (of_part p None) _ (get_part p n (ok (region p) (inl refl))) (gets_of_parts parts (n + product p.count) (λ g i. ok g (inr i)))
+
+  if_some : (values : Option Values) (gs : List Region) → cond (ltb 0 (length gs)) (part_posts id k var.kind values 0 gs) [] ≡ part_posts id k var.kind values 0 gs
+  if_some values [] = refl
+  if_some values (g ∷ gs) = ap (λ (b : Bool). cond b (part_posts id k var.kind values 0 (g ∷ gs)) []) (lt-ltb 0 (length (g ∷ gs)) (omega arith))
+
+  parts_put : (given : Given) (values : Values) → code_of_look (look_parts header known id k given (Some values) var) ≡ code.Ok
+      → posts_of (look_parts header known id k given (Some values) var) ≡ flat_map (λ part. of_part part.0 (Some part.1)) (own_values values 0 given.parts)
+  parts_put given values h =
+      let gs = asked given.parts in
+      let all = elements_of_all gs in
+      let checked = check_parts header var (part_regions var given) known Put in
+      let posts = part_posts id k var.kind (Some values) 0 gs in
+      let last = parts_code var.kind all (Some values) in
+      let both = passed checked (ltb 0 (length gs)) posts last h in
+      asks checked (ltb 0 (length gs)) posts last both.0 both.1
+      ∙ if_some (Some values) gs
+      ∙ puts_of_parts given.parts values 0 all (parts_pass header var (part_regions var given) known Put both.0).each
+      (λ l. right_values var.kind values all (both.1 (lt-ltb 0 (length gs) l))) (omega arith)
+
+  parts_get : (given : Given) → code_of_look (look_parts header known id k given None var) ≡ code.Ok
+      → posts_of (look_parts header known id k given None var) ≡ flat_map (λ part. of_part part None) given.parts
+  parts_get given h =
+      let gs = asked given.parts in
+      let checked = check_parts header var (part_regions var given) known Get in
+      let posts = part_posts id k var.kind None 0 gs in
+      let both = passed checked (ltb 0 (length gs)) posts code.Ok h in
+      asks checked (ltb 0 (length gs)) posts code.Ok both.0 both.1
+      ∙ if_some None gs
+      ∙ gets_of_parts given.parts 0 (parts_pass header var (part_regions var given) known Get both.0).each
+
+-- ---- by name
+
+module _ (header : Header) (known id : ℕ) (given : Given) (many : given.form ≡ Varn) where
+  abbrev at_name : Given → Option Values → Option ℕ → looks.Look
+  at_name each values o = elim o [ None ↦ looks.Refused code.ENotVar | Some k ↦ look_at header known id k each values (slice_get header.vars k) ]
+
+  as_parts : (k : ℕ) (values : Option Values) (var : Var) → look_at header known id k given values (Some var) ≡ look_parts header known id k given values var
+  as_parts k values var =
+      ap (λ (f : Form). elim (is_varn f) as (λ z. looks.Look) [
+        | true ↦ look_parts header known id k given values var
+        | false ↦ look_region header known id k given values var
+      ]) many
+
+  puts_at : (values : Values) (o : Option ℕ) → code_of_look (at_name given (Some values) o) ≡ code.Ok
+      → posts_of (at_name given (Some values) o) ≡ flat_map (λ part. posts_of (at_name (on_part part.0) (Some part.1) o)) (own_values values 0 given.parts)
+  puts_at values None h = absurd cc
+  puts_at values (Some k) h = by (slice_get header.vars k) h
+    where
+      by : (v : Option Var) → code_of_look (look_at header known id k given (Some values) v) ≡ code.Ok
+          → posts_of (look_at header known id k given (Some values) v)
+          ≡ flat_map (λ part. posts_of (look_at header known id k (on_part part.0) (Some part.1) v)) (own_values values 0 given.parts)
+      by None g = absurd cc
+      by (Some var) g =
+          let is = as_parts k (Some values) var in
+          ap posts_of is ∙ parts_put header known id k var given values (sym (ap code_of_look is) ∙ g)
+
+  gets_at : (o : Option ℕ) → code_of_look (at_name given None o) ≡ code.Ok
+      → posts_of (at_name given None o) ≡ flat_map (λ part. posts_of (at_name (on_part part) None o)) given.parts
+  gets_at None h = absurd cc
+  gets_at (Some k) h = by (slice_get header.vars k) h
+    where
+      by : (v : Option Var) → code_of_look (look_at header known id k given None v) ≡ code.Ok
+          → posts_of (look_at header known id k given None v) ≡ flat_map (λ part. posts_of (look_at header known id k (on_part part) None v)) given.parts
+      by None g = absurd cc
+      by (Some var) g =
+          let is = as_parts k None var in
+          ap posts_of is ∙ parts_get header known id k var given (sym (ap code_of_look is) ∙ g)
+
+pub varn_puts : (header : Header) (known id : ℕ) (name : List ℕ) (given : Given) (values : Values) → given.form ≡ Varn
+    → code_of_look (look header known id name given (Some values)) ≡ code.Ok
+    → posts_of (look header known id name given (Some values))
+    ≡ flat_map (λ part. posts_of (look header known id name (on_part part.0) (Some part.1))) (own_values values 0 given.parts)
+varn_puts header known id name given values many h = puts_at header known id given many values (find_var header name) h
+
+pub varn_gets : (header : Header) (known id : ℕ) (name : List ℕ) (given : Given) → given.form ≡ Varn
+    → code_of_look (look header known id name given None) ≡ code.Ok
+    → posts_of (look header known id name given None) ≡ flat_map (λ part. posts_of (look header known id name (on_part part) None)) given.parts
+varn_gets header known id name given many h = gets_at header known id given many (find_var header name) h

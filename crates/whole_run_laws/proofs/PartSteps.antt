@@ -1,0 +1,322 @@
+-- The puts of a step one after another, and an independent put of many regions region by region.
+use Rattle.std.proofs.Common.{◌≡◌, ℕ, zero, suc, ◌+◌, ◌<◌, ◌≤◌, max, refl, sym, ◌∙◌, ap, subst, inl, inr, ◌⊎◌, List, [], ◌∷◌, ◌++◌, length, map, Bool, true, false, cond, ltb, Option, Some, None, arith}
+use Rattle.std.proofs.lemmas.Bool.{cases_lt, or_cases}
+use Rattle.std.proofs.lemmas.Bool.Decides.{nat_tests}
+use Rattle.std.proofs.lemmas.Grind.{common_steps, fold-append}
+use Rattle.std.proofs.lemmas.List.{map-append}
+use Rattle.std.specs.List.{AllByRecursion, list_any}
+use Rattle.std.specs.Prelude.{filter, flat_map, fold, slice_get, ◌&&◌, ◌==◌}
+use Rattle.list_laws.proofs.Optional.{some_or_none}
+use Rattle.list_laws.proofs.Truth.{and_first, no_both}
+use Rattle.nc_base.specs.declared.answer.Code.{Code}
+use Rattle.nc_base.specs.declared.answer.Code.TheVariants as code
+use Rattle.nc_base.specs.declared.answer.Pair.{Pair}
+use Rattle.nc_base.specs.declared.header.Header.{Header}
+use Rattle.nc_base.specs.declared.header.NcType.{NcType}
+use Rattle.nc_base.specs.declared.header.Var.{Var}
+use Rattle.nc_base.specs.declared.plan.Post.{Post}
+use Rattle.nc_base.specs.declared.request.Call.{Call}
+use Rattle.nc_base.specs.declared.request.Call.TheVariants as call
+use Rattle.nc_base.specs.declared.request.Direction.TheVariants.{Put}
+use Rattle.nc_base.specs.declared.request.Form.TheVariants.{Varn}
+use Rattle.nc_base.specs.declared.request.Given.{Given}
+use Rattle.nc_base.specs.declared.request.Part.{Part}
+use Rattle.nc_base.specs.declared.request.Region.{Region}
+use Rattle.nc_base.specs.declared.request.Values.{Values}
+use Rattle.nc_base.specs.declared.step.Offer.{Offer}
+use Rattle.nc_base.specs.declared.step.OfferKind.TheVariants as offer
+use Rattle.nc_base.specs.declared.step.Want.{Want}
+use Rattle.nc_base.specs.declared.step.Want.TheVariants as want
+use Rattle.serial_spec.specs.ExternalForm.{size_of}
+use Rattle.serial_spec.specs.File.{at, longer, written}
+use Rattle.serial_spec.specs.FileStep.{Counted, Setting, after_puts, end_for, put_post, put_some, told}
+use Rattle.serial_spec.specs.HeaderBytes.{header_len}
+use Rattle.serial_spec.specs.Layout.{lengths, product}
+use Rattle.serial_spec.specs.Looks as looks
+use Rattle.serial_spec.specs.Looks.{data_bytes, data_code, direction_of, find_var, is_varn, look, look_at, look_parts, look_region, part_posts, parts_code}
+use Rattle.serial_spec.specs.RankMachine.{Rank, answer, answers, batch_of, code_of_look, offers_look, posts_of}
+use Rattle.serial_spec.specs.Records.{needed, needed_by}
+use Rattle.serial_spec.specs.RegionCheck.{asks_too_much, bound, check_parts, check_var, elements_of_all, first_code, has_element, other_shape, part_region, part_regions, some_edge, some_start, widen}
+use Rattle.serial_spec.specs.Request.{cells, places}
+use Rattle.serial_spec.specs.Said.{Cell, byte_or, said_at, said_by, write_cells}
+use Rattle.serial_spec.specs.SerialEnd.{Going, go, solo_of}
+use Rattle.serial_spec.specs.SharedByte.{Holding, Holds, IsSharedPair, Key, Puts, first_end, has_byte, holdings, key_below, same_key, second_end}
+use Rattle.serial_spec.proofs.FileLaws.{at-longer, longer-enough, longer_long}
+use Rattle.serial_spec.proofs.GrowLaws.{after_grows}
+use Rattle.serial_spec.proofs.KeyLaws.{key_equal}
+use Rattle.serial_spec.proofs.RoomLaws.{end_grows}
+use Rattle.serial_spec.proofs.SaidLaws.{cells_said}
+use Rattle.overlay_laws.proofs.SaidLaws.{same_file}
+use Rattle.rank_core.proofs.OutcomeLaws.{outcome, outcome_posts}
+use Rattle.whole_run_laws.specs.PartCalls.{makes, on_part, own_values, put_parts}
+use Rattle.whole_run_laws.proofs.PartPosts.{varn_puts}
+use Rattle.whole_run_laws.proofs.ToldLaws.{pair_is_least}
+
+-- ---- a file and the same one made longer
+
+written_long : (file : List ℕ) (x : ℕ) (b : List ℕ) → length (written file x b) ≡ max (length file) (x + length b)
+written_long file x b = grind (arith, common_steps)
+
+cells_longer : (f g : List ℕ) (n : ℕ) (cs : List Cell) → length f ≡ max (length g) n → length (write_cells f cs) ≡ max (length (write_cells g cs)) n
+cells_longer f g n [] e = e
+cells_longer f g n (c ∷ cs) e =
+    let one = written_long f c.0 c.1 in
+    let two = written_long g c.0 c.1 in
+    cells_longer (written f c.0 c.1) (written g c.0 c.1) n cs (omega (arith, e, one, two))
+
+put_longer : (s : Setting) (v : Option Var) (post : Post) (f g : List ℕ) (n : ℕ) → length f ≡ max (length g) n
+    → length (put_some s v post f) ≡ max (length (put_some s v post g)) n
+put_longer s None post f g n e = e
+put_longer s (Some v) post f g n e = cells_longer f g n (cells (size_of v.kind) (places s.header v post.region) post.bytes) e
+
+put_same : (s : Setting) (v : Option Var) (post : Post) (f g : List ℕ) → ((x : ℕ) → at f x ≡ at g x) → (x : ℕ) → at (put_some s v post f) x ≡ at (put_some s v post g) x
+put_same s None post f g e x = e x
+put_same s (Some v) post f g e x =
+    let cs = cells (size_of v.kind) (places s.header v post.region) post.bytes in
+    cells_said cs f x ∙ ap (λ (b : ℕ). byte_or (said_at (said_by cs) x) b) (e x) ∙ sym (cells_said cs g x)
+
+end_most : (s : Setting) (a b : ℕ) → end_for s (max a b) ≡ max (end_for s a) (end_for s b)
+end_most s a b = by (cases_lt a b)
+  where
+    by : (a < b) ⊎ (b ≤ a) → end_for s (max a b) ≡ max (end_for s a) (end_for s b)
+    by (inl l) =
+        let up = end_grows s.header (header_len s.header) a b (omega arith) in
+        let most : max a b ≡ b = omega arith in
+        let e : end_for s b ≡ max (end_for s a) (end_for s b) = omega (arith, up) in
+        ap (end_for s) most ∙ e
+    by (inr l) =
+        let up = end_grows s.header (header_len s.header) b a l in
+        let most : max a b ≡ a = omega arith in
+        let e : end_for s a ≡ max (end_for s a) (end_for s b) = omega (arith, up) in
+        ap (end_for s) most ∙ e
+
+-- ---- one put after another
+
+abbrev left_by : Setting → List ℕ → ℕ × Post → List ℕ
+left_by s file p = after_puts s (p ∷ []) None file
+
+first_then : (s : Setting) (p : ℕ × Post) (puts : Puts) (file : List ℕ) → after_puts s (p ∷ puts) None file ≡ after_puts s puts None (left_by s file p)
+first_then s p puts file =
+    let v = slice_get s.header.vars p.1.var in
+    let all = longer file (end_for s (max (needed s.header p.1) (needed_by s.header puts))) in
+    let own = longer file (end_for s (max (needed s.header p.1) 0)) in
+    let rest = end_for s (needed_by s.header puts) in
+    ap (λ (f : List ℕ). fold (put_post s) f puts)
+    (same_file (put_some s v p.1 all) (longer (put_some s v p.1 own) rest)
+    (put_longer s v p.1 all own rest long ∙ sym (longer_long (put_some s v p.1 own) rest))
+    (λ x. put_same s v p.1 all own same x ∙ sym (at-longer (put_some s v p.1 own) rest x)))
+  where
+    long : length (longer file (end_for s (max (needed s.header p.1) (needed_by s.header puts))))
+        ≡ max (length (longer file (end_for s (max (needed s.header p.1) 0)))) (end_for s (needed_by s.header puts))
+    long =
+        let a = needed s.header p.1 in
+        let b = needed_by s.header puts in
+        let plain : max a 0 ≡ a = omega arith in
+        omega (arith, longer_long file (end_for s (max a b)), longer_long file (end_for s (max a 0)), end_most s a b, ap (end_for s) plain)
+
+    same : (x : ℕ) → at (longer file (end_for s (max (needed s.header p.1) (needed_by s.header puts)))) x ≡ at (longer file (end_for s (max (needed s.header p.1) 0))) x
+    same x = at-longer file (end_for s (max (needed s.header p.1) (needed_by s.header puts))) x ∙ sym (at-longer file (end_for s (max (needed s.header p.1) 0)) x)
+
+pub in_turn : (s : Setting) (puts : Puts) (file : List ℕ) → end_for s 0 ≤ length file
+    → after_puts s puts None file ≡ fold (λ left put. after_puts s (put ∷ []) None left) file puts
+in_turn s [] file h = longer-enough file (end_for s 0) h
+in_turn s (p ∷ puts) file h =
+    let grown = after_grows s (p ∷ []) None file in
+    first_then s p puts file ∙ in_turn s puts (left_by s file p) (omega (arith, grown, h))
+
+both_in_turn : (s : Setting) (a b : Puts) (file : List ℕ) → end_for s 0 ≤ length file → after_puts s b None (after_puts s a None file) ≡ after_puts s (a ++ b) None file
+both_in_turn s a b file h =
+    let grown = after_grows s a None file in
+    in_turn s b (after_puts s a None file) (omega (arith, grown, h))
+    ∙ ap (λ (f : List ℕ). fold (left_by s) f b) (in_turn s a file h)
+    ∙ sym (fold-append (left_by s) file a b)
+    ∙ sym (in_turn s (a ++ b) file h)
+
+-- ---- one request tells no pair
+
+not_below_itself : (k : Key) → key_below k k ≡ false
+not_below_itself k = grind (arith, nat_tests)
+
+holder_is : (held : List Holding) (k key : Key) (x : ℕ) → AllByRecursion (λ (h : Holding). h.0 ≡ k) held → Holds held key x → k ≡ key
+holder_is [] k key x all h = absurd cc
+holder_is (g ∷ held) k key x all h = by (or_cases (same_key g.0 key && has_byte x g) _ h) (λ e. holder_is held k key x all.1 e)
+  where
+    by : ((same_key g.0 key && has_byte x g) ≡ true) ⊎ Holds held key x → (Holds held key x → k ≡ key) → k ≡ key
+    by (inl e) later = sym all.0 ∙ key_equal g.0 key (and_first (same_key g.0 key) (has_byte x g) e)
+    by (inr e) later = later e
+
+abbrev numbered : ℕ → List Post → Puts
+numbered number posts = map (λ post. (number, post)) posts
+
+abbrev HaveId : ℕ → List Post → Type 0
+HaveId id posts = AllByRecursion (λ (p : Post). p.id ≡ id) posts
+
+own_keys : (header : Header) (number id : ℕ) (posts : List Post) → HaveId id posts
+    → AllByRecursion (λ (h : Holding). h.0 ≡ (number, id)) (holdings header (numbered number posts))
+own_keys header number id [] h = tt
+own_keys header number id (p ∷ posts) h = ((λ t. (number, h.0 t)), own_keys header number id posts h.1)
+
+no_pair_of_one : (s : Setting) (number id : ℕ) (posts : List Post) → HaveId id posts → told s (numbered number posts) ≡ None
+no_pair_of_one s number id posts all = by (some_or_none (told s (numbered number posts)))
+  where
+    by : (told s (numbered number posts) ≡ None) ⊎ ((p : Pair) × (told s (numbered number posts) ≡ Some p)) → told s (numbered number posts) ≡ None
+    by (inl e) = e
+    by (inr (p, e)) =
+        let held = holdings s.header (numbered number posts) in
+        let keys = own_keys s.header number id posts all in
+        let is = pair_is_least s (numbered number posts) p e in
+        let first = holder_is held (number, id) (first_end p) p.at keys is.first in
+        let second = holder_is held (number, id) (second_end p) p.at keys is.second in
+        no_both (key_below (number, id) (number, id)) ((λ t. key_below (first t) (second t)) ∙ is.in_order) (not_below_itself (number, id))
+
+-- ---- the posts of a call have its id
+
+outcome_ids : (id : ℕ) (checked : Code) (some : Bool) (asked : List Post) (last : Code) → HaveId id asked → HaveId id (posts_of (outcome checked some asked last))
+outcome_ids id checked some asked last h = by (outcome_posts checked some asked last)
+  where
+    by : (posts_of (outcome checked some asked last) ≡ []) ⊎ ((posts_of (outcome checked some asked last) ≡ asked) × (checked ≡ code.Ok) × (last ≡ code.Ok))
+        → HaveId id (posts_of (outcome checked some asked last))
+    by (inl e) = subst (HaveId id) (sym e) tt
+    by (inr e) = subst (HaveId id) (sym e.0) h
+
+part_ids : (id k : ℕ) (kind : NcType) (values : Option Values) (n : ℕ) (gs : List Region) → HaveId id (part_posts id k kind values n gs)
+part_ids id k kind values n [] = tt
+part_ids id k kind values n (g ∷ gs) = (refl, part_ids id k kind values (n + product g.count) gs)
+
+look_ids : (header : Header) (known id : ℕ) (name : List ℕ) (given : Given) (values : Option Values) → HaveId id (posts_of (look header known id name given values))
+look_ids header known id name given values = by (find_var header name)
+  where
+    by_form : (k : ℕ) (var : Var) (b : Bool) → HaveId id (posts_of (elim b as (λ z. looks.Look) [
+      | true ↦ look_parts header known id k given values var
+      | false ↦ look_region header known id k given values var
+    ]))
+    by_form k var true =
+        let parts = part_regions var given in
+        let asked = filter has_element parts in
+        outcome_ids id (check_parts header var parts known (direction_of values)) (ltb 0 (length asked)) (part_posts id k var.kind values 0 asked)
+        (parts_code var.kind (elements_of_all asked) values) (part_ids id k var.kind values 0 asked)
+    by_form k var false =
+        let g = widen header var given known in
+        let post : Post = record { id = id; var = k; region = g; bytes = data_bytes var.kind g values } in
+        outcome_ids id (check_var header var g known (direction_of values)) (has_element g) (post ∷ []) (data_code var.kind g values) (refl, tt)
+
+    by_var : (k : ℕ) (v : Option Var) → HaveId id (posts_of (look_at header known id k given values v))
+    by_var k None = tt
+    by_var k (Some var) = by_form k var (is_varn given.form)
+
+    by : (o : Option ℕ) → HaveId id (posts_of (elim o as (λ z. looks.Look) [
+      | None ↦ looks.Refused code.ENotVar
+      | Some k ↦ look_at header known id k given values (slice_get header.vars k)
+    ]))
+    by None = tt
+    by (Some k) = by_var k (slice_get header.vars k)
+
+-- ---- a put of one region does not hang on the known record count
+
+same_bounds : (a b : ℕ) (ns : List ℕ) → map (bound Put a) ns ≡ map (bound Put b) ns
+same_bounds a b [] = refl
+same_bounds a b (zero ∷ ns) = ap (λ (os : List (Option ℕ)). None ∷ os) (same_bounds a b ns)
+same_bounds a b (suc n ∷ ns) = ap (λ (os : List (Option ℕ)). Some (suc n) ∷ os) (same_bounds a b ns)
+
+abbrev code_by : Header → Var → Region → List (Option ℕ) → Code
+code_by header var g ends =
+    first_code (
+    (other_shape (length var.dims) g, code.EInvalCoords)
+    ∷ (list_any (λ d. d == 0) g.stride, code.EStride)
+    ∷ (some_start ends g.start g.count, code.EInvalCoords)
+    ∷ (some_edge ends g.start g.count g.stride, code.EEdge)
+    ∷ (asks_too_much header var g, code.ETooLarge)
+    ∷ [])
+
+known_free : (header : Header) (a b id : ℕ) (name : List ℕ) (p : Part) (values : Values)
+    → look header a id name (on_part p) (Some values) ≡ look header b id name (on_part p) (Some values)
+known_free header a b id name p values = by (find_var header name)
+  where
+    by_var : (k : ℕ) (v : Option Var) → look_at header a id k (on_part p) (Some values) v ≡ look_at header b id k (on_part p) (Some values) v
+    by_var k None = refl
+    by_var k (Some var) =
+        let g = part_region var p in
+        ap (λ (ends : List (Option ℕ)). outcome (code_by header var g ends) (has_element g)
+        (record { id = id; var = k; region = g; bytes = data_bytes var.kind g (Some values) } ∷ []) (data_code var.kind g (Some values)))
+        (same_bounds a b (lengths header var))
+
+    by : (o : Option ℕ)
+        → elim o as (λ z. looks.Look) [
+          | None ↦ looks.Refused code.ENotVar
+          | Some k ↦ look_at header a id k (on_part p) (Some values) (slice_get header.vars k)
+        ]
+        ≡ elim o as (λ z. looks.Look) [
+          | None ↦ looks.Refused code.ENotVar
+          | Some k ↦ look_at header b id k (on_part p) (Some values) (slice_get header.vars k)
+        ]
+    by None = refl
+    by (Some k) = by_var k (slice_get header.vars k)
+
+-- ---- an independent put
+
+module _ (s : Setting) (number : ℕ) (name : List ℕ) where
+  abbrev put_look : ℕ → Given → Values → looks.Look
+  put_look known given values = look s.header known 0 name given (Some values)
+
+  abbrev wanted : Going → Bool → Given → Values → Rank × Want
+  wanted g independent given values =
+      let l = put_look g.rank.known given values in
+      cond independent (offers_look g.rank offer.Solo l (batch_of (Some values) l)) (answers g.rank (answer code.ENotIndep))
+
+  abbrev gone : Going → Rank × Want → Going × Option Offer
+  gone g next =
+      elim next.1 as (λ z. Going × Option Offer) [
+        | want.Answered a ↦ go s.header next.0 (g.answers ++ a ∷ []) []
+        | want.Meet o ↦ (record { rank = next.0; answers = g.answers; calls = [] }, Some o)
+        | want.Solo o ↦ (record { rank = next.0; answers = g.answers; calls = [] }, Some o)
+      ]
+
+  abbrev made : Counted × Going → Bool → Given → Values → Counted × Going
+  made state independent given values = solo_of s number state.0 (gone state.1 (wanted state.1 independent given values))
+
+  put_made : (state : Counted × Going) (given : Given) (values : Values) → state.1.rank.independent ≡ true
+      → makes s number state (call.Put false name given values) ≡ made state true given values
+  put_made state given values e = ap (λ (b : Bool). made state b given values) e
+
+  put_mode : (state : Counted × Going) (given : Given) (values : Values) → state.1.rank.independent ≡ true
+      → (makes s number state (call.Put false name given values)).1.rank.independent ≡ true
+  put_mode state given values e = ap (λ (z : Counted × Going). z.1.rank.independent) (put_made state given values e) ∙ e
+
+  put_file : (state : Counted × Going) (given : Given) (values : Values) → state.1.rank.independent ≡ true
+      → (makes s number state (call.Put false name given values)).0.file
+      ≡ after_puts s (numbered number (posts_of (put_look state.1.rank.known given values))) None state.0.file
+  put_file state given values e =
+      let posts = posts_of (put_look state.1.rank.known given values) in
+      ap (λ (z : Counted × Going). z.0.file) (put_made state given values e)
+      ∙ ap (λ (pair : Option Pair). after_puts s (numbered number posts) pair state.0.file)
+      (no_pair_of_one s number 0 posts (look_ids s.header state.1.rank.known 0 name given (Some values)))
+
+  abbrev put_call : Part × Values → Call
+  put_call q = call.Put false name (on_part q.0) q.1
+
+  puts_left : (qs : List (Part × Values)) (state : Counted × Going) (known : ℕ) → state.1.rank.independent ≡ true → end_for s 0 ≤ length state.0.file
+      → (fold (makes s number) state (map put_call qs)).0.file
+      ≡ after_puts s (numbered number (flat_map (λ q. posts_of (put_look known (on_part q.0) q.1)) qs)) None state.0.file
+  puts_left [] state known e h = sym (longer-enough state.0.file (end_for s 0) h)
+  puts_left (q ∷ qs) state known e h =
+      let next = makes s number state (put_call q) in
+      let own = posts_of (put_look known (on_part q.0) q.1) in
+      let later = flat_map (λ r. posts_of (put_look known (on_part r.0) r.1)) qs in
+      let here : next.0.file ≡ after_puts s (numbered number own) None state.0.file =
+      put_file state (on_part q.0) q.1 e
+      ∙ ap (λ (l : looks.Look). after_puts s (numbered number (posts_of l)) None state.0.file) (known_free s.header state.1.rank.known known 0 name q.0 q.1) in
+      let grown = after_grows s (numbered number own) None state.0.file in
+      let long = ap (λ (f : List ℕ). length f) here in
+      puts_left qs next known (put_mode state (on_part q.0) q.1 e) (omega (arith, long, grown, h))
+      ∙ ap (λ (f : List ℕ). after_puts s (numbered number later) None f) here
+      ∙ both_in_turn s (numbered number own) (numbered number later) state.0.file h
+      ∙ ap (λ (ps : Puts). after_puts s ps None state.0.file) (sym (map-append (λ post. (number, post)) own later))
+
+pub varn_left : (s : Setting) (number : ℕ) (state : Counted × Going) (name : List ℕ) (given : Given) (values : Values)
+    → state.1.rank.independent ≡ true → end_for s 0 ≤ length state.0.file → given.form ≡ Varn
+    → code_of_look (look s.header state.1.rank.known 0 name given (Some values)) ≡ code.Ok
+    → (makes s number state (call.Put false name given values)).0.file ≡ (fold (makes s number) state (put_parts name values given.parts)).0.file
+varn_left s number state name given values e h many ok =
+    put_file s number name state given values e
+    ∙ ap (λ (ps : List Post). after_puts s (numbered number ps) None state.0.file) (varn_puts s.header state.1.rank.known 0 name given values many ok)
+    ∙ sym (puts_left s number name (own_values values 0 given.parts) state state.1.rank.known e h)

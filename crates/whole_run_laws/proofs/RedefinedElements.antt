@@ -1,0 +1,104 @@
+-- What the elements of old and added variables read in a redefined file.
+use Rattle.std.proofs.Common.{◌≡◌, ℕ, ◌+◌, ◌<◌, ◌≤◌, refl, sym, ◌∙◌, ap, subst, inl, inr, List, [], ◌∷◌, length, map, take, replicate, Some, None, arith}
+use Rattle.std.specs.Prelude.{slice_get}
+use Rattle.std.proofs.lemmas.List.{get_or-replicate, length-replicate}
+use Rattle.std.proofs.lemmas.Option.{same_Some, slice_get_within}
+use Rattle.nc_base.specs.declared.header.Header.{Header}
+use Rattle.nc_base.specs.declared.header.Var.{Var}
+use Rattle.nc_base.specs.declared.script.Extra.{Extra}
+use Rattle.nc_base.specs.declared.script.Extra.TheVariants as extra
+use Rattle.serial_spec.specs.ExternalForm.{size_of, val}
+use Rattle.serial_spec.specs.File.{at, read}
+use Rattle.serial_spec.specs.HeaderBytes.{canon, header_len}
+use Rattle.serial_spec.specs.Layout.{end_of, lengths}
+use Rattle.serial_spec.specs.Place.{AreApart, IsElementBelow, IsIndex, place}
+use Rattle.serial_spec.specs.Redefinition.{added, redefined, redefined_header, with_extra, IsRedefined, KeepsVars, Moves}
+use Rattle.serial_spec.proofs.AddedLaws.{redefined_keeps}
+use Rattle.serial_spec.proofs.ApartLaws.{elements_apart, elements_past_header}
+use Rattle.serial_spec.proofs.MoveLaws.{redefined_is}
+use Rattle.serial_spec.proofs.RoomLaws.{element_inside, index_is_element, known_of}
+use Rattle.whole_run_laws.specs.Redefined.{element_value, IsCounted, IsRedefinition}
+use Rattle.whole_run_laws.proofs.FilledFile.{read_all}
+
+-- ---- the record count stays
+
+one_more : (header : Header) (e : Extra) → (with_extra header e).records ≡ header.records
+one_more header (extra.Dim d) = refl
+one_more header (extra.Var kind name dims) = refl
+one_more header (extra.Att None a) = refl
+one_more header (extra.Att (Some owner) a) = refl
+
+records_stay : (header : Header) (extras : List Extra) → (added header extras).records ≡ header.records
+records_stay header [] = refl
+records_stay header (e ∷ extras) = records_stay (with_extra header e) extras ∙ one_more header e
+
+-- ---- an accepted redefinition
+
+module _ (old new : Header) (extras : List Extra) (a : IsRedefinition old extras new) where
+  pub keeps : KeepsVars old new
+  keeps = subst (KeepsVars old) (sym a.made) (redefined_keeps old extras a.old_sound)
+
+  same_count : new.records ≡ old.records
+  same_count = ap (λ (h : Header). h.records) a.made ∙ records_stay old extras
+
+  record IsKept (v w : Var) : Type 0 where
+    kind : w.kind ≡ v.kind
+    lens : lengths new w ≡ lengths old v
+
+  kept : (k : ℕ) (v w : Var) → slice_get old.vars k ≡ Some v → slice_get new.vars k ≡ Some w → IsKept v w
+  kept k v w h g =
+      let found = keeps k v h in
+      let same : found.0 ≡ w = same_Some found.0 w (sym found.1 ∙ g) in
+      subst (IsKept v) same (record { kind = found.2; lens = found.3 })
+
+  still : (k : ℕ) (v w : Var) (index : List ℕ) → slice_get old.vars k ≡ Some v → slice_get new.vars k ≡ Some w → IsCounted old v index
+      → IsElementBelow new w old.records index
+  still k v w index h g i =
+      index_is_element new k w old.records index a.new_sound g (subst (λ (ls : List ℕ). IsIndex (map (known_of old.records) ls) index) (sym (kept k v w h g).lens) i)
+
+  pub counted_still : (k : ℕ) (v w : Var) (index : List ℕ) → slice_get old.vars k ≡ Some v → slice_get new.vars k ≡ Some w → IsCounted old v index → IsCounted new w index
+  counted_still k v w index h g i =
+      subst (λ (n : ℕ). IsIndex (map (known_of n) (lengths new w)) index) (sym same_count)
+      (subst (λ (ls : List ℕ). IsIndex (map (known_of old.records) ls) index) (sym (kept k v w h g).lens) i)
+
+  module _ (file : List ℕ) where
+    is : IsRedefined old new file (redefined file old new)
+    is = redefined_is file old new a.new_sound keeps
+
+    pub old_reads : (k : ℕ) (v w : Var) (index : List ℕ) → slice_get old.vars k ≡ Some v → slice_get new.vars k ≡ Some w → IsCounted old v index
+        → element_value new w index (redefined file old new) ≡ element_value old v index file
+    old_reads k v w index h g i =
+        let kind = (kept k v w h g).kind in
+        (λ t. val (kind t) (read (redefined file old new) (place new w index) (size_of (kind t))))
+        ∙ ap (val v.kind) (is.moved (place old v index) (place new w index) (size_of v.kind) (k, v, w, index, h, g, i, refl, refl, refl))
+
+    -- no old element holds a byte of an added one
+    apart_from_old : (k : ℕ) (w : Var) (index : List ℕ) (i : ℕ) → length old.vars ≤ k → slice_get new.vars k ≡ Some w → IsElementBelow new w old.records index
+        → i < size_of w.kind → (from to size : ℕ) → Moves old new from to size → AreApart to size (place new w index + i) 1
+    apart_from_old k w index i later g e l from to size (j, x, y, other, f, d, o, p, q, r) =
+        let below : j < length old.vars = slice_get_within old.vars j x f in
+        let kind = (kept j x y f d).kind in
+        by (r ∙ ap size_of (sym kind))
+        (elements_apart new j k y w other index a.new_sound d g (still j x y other f d o).0 e.0 (λ same. absurd (omega (arith, below, later, same.0))))
+      where
+        by : size ≡ size_of y.kind → AreApart (place new y other) (size_of y.kind) (place new w index) (size_of w.kind) → AreApart to size (place new w index + i) 1
+        by s (inl h) = inl (omega arith)
+        by s (inr h) = inr (omega arith)
+
+    pub added_zero : (k : ℕ) (w : Var) (index : List ℕ) → length old.vars ≤ k → slice_get new.vars k ≡ Some w → IsCounted new w index
+        → read (redefined file old new) (place new w index) (size_of w.kind) ≡ replicate (size_of w.kind) 0
+    added_zero k w index later g h =
+        let size = size_of w.kind in
+        let zeros : List ℕ = replicate size 0 in
+        let long : length zeros ≡ size = length-replicate {A = ℕ} size 0 in
+        let e : IsElementBelow new w old.records index =
+        index_is_element new k w old.records index a.new_sound g (subst (λ (n : ℕ). IsIndex (map (known_of n) (lengths new w)) index) same_count h) in
+        let low = elements_past_header new k w index a.new_sound g e.0 in
+        let high = element_inside new (header_len new) old.records k w index g e in
+        read_all (redefined file old new) zeros (place new w index) size (sym long) (λ i l.
+        let inside : i < size = omega (arith, l, long) in
+        is.bare (place new w index + i) (omega (arith, low)) (omega (arith, high, inside)) (apart_from_old k w index i later g e inside)
+        ∙ sym (get_or-replicate {A = ℕ} size i 0 0 inside))
+
+    pub header_first : take (header_len new) (redefined file old new) ≡ canon new
+    header_first = is.head

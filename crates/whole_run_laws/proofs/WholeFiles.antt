@@ -1,0 +1,61 @@
+-- The file of a run goes at least to the end for no records.
+use Rattle.std.proofs.Common.{◌≡◌, ℕ, ◌≤◌, List, [], ◌∷◌, length, Bool, true, false, arith}
+use Rattle.std.specs.Prelude.{fold}
+use Rattle.nc_base.specs.declared.header.Header.{Header}
+use Rattle.nc_base.specs.declared.header.Var.{Var}
+use Rattle.nc_base.specs.declared.script.Script.{Script}
+use Rattle.nc_base.specs.declared.step.Mark.{Mark}
+use Rattle.serial_spec.specs.File.{longer, written}
+use Rattle.serial_spec.specs.Fill.{fill_bytes, fill_var, filled}
+use Rattle.serial_spec.specs.FileStep.{Counted, end_for}
+use Rattle.serial_spec.specs.HeaderBytes.{canon, header_len}
+use Rattle.serial_spec.specs.Layout.{fixed_variables, inner_lengths}
+use Rattle.serial_spec.specs.Place.{place}
+use Rattle.serial_spec.specs.Request.{coordinates}
+use Rattle.serial_spec.specs.SerialEnd.{Going, after_mark, first_state, setting_of, start, state_after}
+use Rattle.serial_spec.proofs.FileLaws.{longer_long}
+use Rattle.serial_spec.proofs.GrowLaws.{mark_grows, written_grows}
+use Rattle.serial_spec.proofs.RoomLaws.{end_grows}
+
+fold_grows : {A B : Type 0} (size : B → ℕ) (f : B → A → B) → ((b : B) (x : A) → size b ≤ size (f b x)) → (b : B) (xs : List A) → size b ≤ size (fold f b xs)
+fold_grows size f h b [] = omega arith
+fold_grows size f h b (x ∷ xs) =
+    let one = h b x in
+    let rest = fold_grows size f h (f b x) xs in
+    omega arith
+
+var_grows : (header : Header) (file : List ℕ) (v : Var) → length file ≤ length (fill_var header file v)
+var_grows header file v =
+    fold_grows (λ (f : List ℕ). length f) (λ (f : List ℕ) (index : List ℕ). written f (place header v index) (fill_bytes v))
+    (λ f index. written_grows f (place header v index) (fill_bytes v)) file (coordinates (inner_lengths header v))
+
+filled_grows : (header : Header) (file : List ℕ) → length file ≤ length (filled header file)
+filled_grows header file = fold_grows (λ (f : List ℕ). length f) (fill_var header) (var_grows header) file (fixed_variables header header.vars)
+
+start_long : (script : Script) (header : Header) (file : List ℕ) → end_for (setting_of script header) 0 ≤ length (start script header file)
+start_long script header file = by script.fresh script.filled
+  where
+    by : (fresh fills : Bool) → end_for (setting_of script header) 0 ≤ length (elim fresh as (λ z. List ℕ) [
+      | false ↦ longer file (end_for (setting_of script header) header.records)
+      | true ↦ elim fills as (λ z. List ℕ) [
+        | false ↦ longer (canon header) (end_for (setting_of script header) 0)
+        | true ↦ filled header (longer (canon header) (end_for (setting_of script header) 0))
+      ]
+    ])
+    by false fills =
+        let long = longer_long file (end_for (setting_of script header) header.records) in
+        let more = end_grows header (header_len header) 0 header.records (omega arith) in
+        omega arith
+    by true false = let long = longer_long (canon header) (end_for (setting_of script header) 0) in omega arith
+    by true true =
+        let long = longer_long (canon header) (end_for (setting_of script header) 0) in
+        let more = filled_grows header (longer (canon header) (end_for (setting_of script header) 0)) in
+        omega arith
+
+pub run_long : (script : Script) (header : Header) (file : List ℕ) (order : List Mark)
+    → end_for (setting_of script header) 0 ≤ length (state_after script header (start script header file) order).0.file
+run_long script header file order =
+    let begins = start_long script header file in
+    let grows = fold_grows (λ (state : Counted × List Going). length state.0.file) (after_mark (setting_of script header)) (mark_grows (setting_of script header))
+    (first_state header (start script header file) script.calls) order in
+    omega arith
