@@ -3,11 +3,10 @@ use Rattle.std.proofs.Common.{◌≡◌, ℕ, zero, suc, ◌<◌, refl, sym, ◌
 use Rattle.std.proofs.lemmas.List.{length-map, length-set}
 use Rattle.std.proofs.lemmas.Option.{same_Some}
 use Rattle.std.proofs.lemmas.Option.{slice_get_within}
-use Rattle.std.proofs.lemmas.Bool.Decides.{eqb_tells}
 use Rattle.std.specs.Prelude.{fold, slice_get, filter, ◌==◌}
 use Rattle.std.specs.List.{list_all}
 use borrow.Author.Tests.{ltb-true}
-use Rattle.list_laws.proofs.Places.{entry_below, entry_set, entry_set_other}
+use Rattle.list_laws.proofs.Places.{entry_below}
 use Rattle.list_laws.proofs.Truth.{and_first, and_second, equal_itself}
 use Rattle.nc_base.specs.declared.header.Header.{Header}
 use Rattle.nc_base.specs.declared.request.Call.{Call}

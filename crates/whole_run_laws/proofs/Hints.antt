@@ -5,7 +5,7 @@ use Rattle.std.specs.Prelude.{nat_le}
 use Rattle.list_laws.proofs.Truth.{and_first, and_second}
 use Rattle.nc_base.specs.declared.script.Hints.{Hints}
 use Rattle.nc_base.specs.declared.script.Script.{Script}
-use Rattle.serial_spec.specs.Lawful.{are_lawful_hints, is_lawful, is_within}
+use Rattle.serial_spec.specs.Lawful.{is_lawful, is_within}
 use Rattle.serial_spec.proofs.LawfulTests.{lawful_parts}
 
 at_least_one : (high n : ℕ) → is_within 1 high n ≡ true → 1 ≤ n

@@ -1,14 +1,13 @@
 -- No window's hull is longer than its buffer, and no call of a step transfers more.
-use Rattle.std.proofs.Common.{◌≡◌, ℕ, zero, suc, ◌+◌, ◌-◌, ◌*◌, ◌/◌, ◌%◌, ◌<◌, ◌≤◌, refl, ap, subst, inl, inr, ◌⊎◌, List, [], ◌∷◌, ◌++◌, length, map, Bool, true, false, cond, not, max, ◌&&◌, Option, Some, None, arith}
-use Rattle.std.proofs.lemmas.Nat.{mod_below, div-add-mod'}
+use Rattle.std.proofs.Common.{◌≡◌, ℕ, zero, suc, ◌+◌, ◌-◌, ◌/◌, ◌%◌, ◌<◌, ◌≤◌, refl, ap, subst, inl, inr, ◌⊎◌, List, [], ◌∷◌, ◌++◌, length, map, Bool, true, false, cond, not, max, ◌&&◌, Option, Some, None, arith}
 use Rattle.std.specs.Prelude.{filter, flat_map, nat_le, nat_lt, ◌==◌, is_none}
 use Rattle.std.specs.List.{enumerate_from, range_with_len}
 use Rattle.std.specs.Int.{byte_len}
-use borrow.Author.Tests.{eqb-true, ltb-true, ltb-false}
+use borrow.Author.Tests.{ltb-true, ltb-false}
 use Rattle.list_laws.proofs.Truth.{equal_itself}
 use Rattle.overlay_laws.specs.Hulls.{IsAscending}
 use Rattle.serial_spec.proofs.MemberLaws.{filter_in}
-use Rattle.overlay_laws.proofs.HullLaws.{filter_ascends, first_least, flat_in, in_either, in_order_ascends, last_below}
+use Rattle.overlay_laws.proofs.HullLaws.{filter_ascends, flat_in, in_either, in_order_ascends, last_below}
 use Rattle.overlay_laws.proofs.Members.{map_in}
 use Rattle.nc_base.specs.declared.header.Header.{Header}
 use Rattle.nc_base.specs.declared.plan.Post.{Post}

@@ -10,7 +10,7 @@ use Rattle.nc_base.specs.declared.script.Script.{Script}
 use Rattle.nc_base.specs.declared.step.Mark.{Mark}
 use Rattle.nc_base.specs.declared.step.Mark.TheVariants.{Meet, Solo}
 use Rattle.nc_base.specs.declared.step.Offer.{Offer}
-use Rattle.serial_spec.specs.File.{at, longer, written}
+use Rattle.serial_spec.specs.File.{at, longer}
 use Rattle.serial_spec.specs.Fill.{filled}
 use Rattle.serial_spec.specs.HeaderBytes.{canon, count}
 use Rattle.serial_spec.specs.Layout.{greatest}

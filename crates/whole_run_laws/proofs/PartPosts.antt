@@ -1,12 +1,12 @@
 -- The posts of a call of form varn are those of calls on its parts, each with its share of the values.
-use Rattle.std.proofs.Common.{◌≡◌, ℕ, zero, suc, ◌+◌, ◌<◌, ◌≤◌, refl, sym, ◌∙◌, ap, subst, inl, inr, List, [], ◌∷◌, ◌++◌, length, map, take, drop, Bool, true, false, not, cond, ltb, ◌||◌, Option, Some, None, option_map, is_none, arith}
+use Rattle.std.proofs.Common.{◌≡◌, ℕ, zero, suc, ◌+◌, ◌<◌, ◌≤◌, refl, sym, ◌∙◌, ap, inl, inr, List, [], ◌∷◌, ◌++◌, length, map, take, drop, Bool, true, false, not, cond, ltb, ◌||◌, Option, Some, None, option_map, is_none, arith}
 use Rattle.std.specs.Prelude.{ℤ, filter, flat_map, slice_get}
 use Rattle.std.specs.List.{list_any, range_with_len}
-use Rattle.std.proofs.lemmas.Bool.{cases_lt, lt-ltb, ltb-false, ltb-true}
+use Rattle.std.proofs.lemmas.Bool.{lt-ltb, ltb-false}
 use Rattle.std.proofs.lemmas.List.Sums.{sum_by-cons}
 use Rattle.list_laws.proofs.Maps.{any_map}
 use Rattle.list_laws.proofs.Places.{entry_below}
-use Rattle.list_laws.proofs.Truth.{no_both, or_first_false, or_second_false}
+use Rattle.list_laws.proofs.Truth.{or_first_false, or_second_false}
 use Rattle.nc_base.specs.Values.{count_of}
 use Rattle.nc_base.specs.declared.answer.Code.{Code}
 use Rattle.nc_base.specs.declared.answer.Code.TheVariants as code

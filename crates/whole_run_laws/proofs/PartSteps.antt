@@ -40,7 +40,7 @@ use Rattle.serial_spec.specs.RegionCheck.{asks_too_much, bound, check_parts, che
 use Rattle.serial_spec.specs.Request.{cells, places}
 use Rattle.serial_spec.specs.Said.{Cell, byte_or, said_at, said_by, write_cells}
 use Rattle.serial_spec.specs.SerialEnd.{Going, go, solo_of}
-use Rattle.serial_spec.specs.SharedByte.{Holding, Holds, IsSharedPair, Key, Puts, first_end, has_byte, holdings, key_below, same_key, second_end}
+use Rattle.serial_spec.specs.SharedByte.{Holding, Holds, Key, Puts, first_end, has_byte, holdings, key_below, same_key, second_end}
 use Rattle.serial_spec.proofs.FileLaws.{at-longer, longer-enough, longer_long}
 use Rattle.serial_spec.proofs.GrowLaws.{after_grows}
 use Rattle.serial_spec.proofs.KeyLaws.{key_equal}

@@ -1,5 +1,5 @@
 -- No completed put holds a byte of the header, so its bytes stay but for the record count.
-use Rattle.std.proofs.Common.{◌≡◌, ℕ, ◌<◌, ◌≤◌, refl, sym, ◌∙◌, ap, subst, inl, inr, ◌⊎◌, List, [], ◌∷◌, map, Bool, true, false, not, ◌||◌, Option, Some, None, arith}
+use Rattle.std.proofs.Common.{◌≡◌, ℕ, ◌<◌, ◌≤◌, refl, sym, ◌∙◌, ap, subst, inl, inr, ◌⊎◌, List, [], ◌∷◌, map, Bool, true, false, ◌||◌, Option, Some, None, arith}
 use Rattle.std.proofs.lemmas.Grind.{flat_map-append}
 use Rattle.std.proofs.lemmas.Option.{same_Some, slice_get_within}
 use Rattle.std.specs.Prelude.{slice_get, ◌==◌}
@@ -10,7 +10,6 @@ use Rattle.list_laws.proofs.Places.{entry_below}
 use Rattle.list_laws.proofs.Truth.{and_first, and_second, or_first_false}
 use Rattle.overlay_laws.proofs.HullLaws.{any_in, flat_in, in_either, range_low}
 use Rattle.overlay_laws.proofs.Members.{each_in, map_in, numbered_in}
-use Rattle.nc_base.specs.declared.answer.Code.{Code}
 use Rattle.nc_base.specs.declared.answer.Code.TheVariants as code
 use Rattle.nc_base.specs.declared.answer.Pair.{Pair}
 use Rattle.nc_base.specs.declared.header.Header.{Header}
@@ -34,7 +33,7 @@ use Rattle.serial_spec.specs.Lawful.{is_lawful}
 use Rattle.serial_spec.specs.Lists.{In}
 use Rattle.serial_spec.specs.Place.{IsElementBelow, place}
 use Rattle.serial_spec.specs.Records.{records_of}
-use Rattle.serial_spec.specs.RegionCheck.{check_some, is_ok_code}
+use Rattle.serial_spec.specs.RegionCheck.{check_some}
 use Rattle.serial_spec.specs.Request.{elements, places}
 use Rattle.serial_spec.specs.SerialEnd.{advance, after_mark, first_going, first_state, Going, hears, offers_of, rank_offer, serial_from, setting_of}
 use Rattle.serial_spec.specs.SharedByte.{bytes_of, bytes_of_some, covered, Puts}

@@ -8,11 +8,11 @@ use Rattle.nc_base.specs.declared.header.Var.{Var}
 use Rattle.nc_base.specs.declared.script.Extra.{Extra}
 use Rattle.nc_base.specs.declared.script.Extra.TheVariants as extra
 use Rattle.serial_spec.specs.ExternalForm.{size_of, val}
-use Rattle.serial_spec.specs.File.{at, read}
+use Rattle.serial_spec.specs.File.{read}
 use Rattle.serial_spec.specs.HeaderBytes.{canon, header_len}
-use Rattle.serial_spec.specs.Layout.{end_of, lengths}
+use Rattle.serial_spec.specs.Layout.{lengths}
 use Rattle.serial_spec.specs.Place.{AreApart, IsElementBelow, IsIndex, place}
-use Rattle.serial_spec.specs.Redefinition.{added, redefined, redefined_header, with_extra, IsRedefined, KeepsVars, Moves}
+use Rattle.serial_spec.specs.Redefinition.{added, redefined, with_extra, IsRedefined, KeepsVars, Moves}
 use Rattle.serial_spec.proofs.AddedLaws.{redefined_keeps}
 use Rattle.serial_spec.proofs.ApartLaws.{elements_apart, elements_past_header}
 use Rattle.serial_spec.proofs.MoveLaws.{redefined_is}

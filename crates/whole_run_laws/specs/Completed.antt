@@ -4,8 +4,8 @@
 --     completed_puts script header file order   those of all steps of a run, in order
 --     is_held header puts x                     an element of one of the puts has byte x
 --     IsBesideCount header x                    byte x is none of those of the record count
-use Rattle.std.specs.Prelude.{ℕ, ◌+◌, ◌<◌, ◌≤◌, ◌⊎◌, List, [], ◌∷◌, ◌++◌, map, flat_map, Bool, ◌==◌, Option, Some, None}
-use Rattle.std.specs.List.{enumerate_from, list_any}
+use Rattle.std.specs.Prelude.{ℕ, ◌+◌, ◌<◌, ◌≤◌, ◌⊎◌, List, [], ◌∷◌, ◌++◌, map, Bool, ◌==◌, Option, Some, None}
+use Rattle.std.specs.List.{list_any}
 use Rattle.std.specs.Int.{byte_len}
 use Rattle.nc_base.specs.declared.header.Header.{Header}
 use Rattle.nc_base.specs.declared.answer.Pair.{Pair}

@@ -6,7 +6,7 @@
 --     makes s number state call       the file and a rank after its independent call
 --     request_values s file id gets   the values that these gets of request id read from the file
 --     joined vs                       lists of values, one after another, as one
-use Rattle.std.specs.Prelude.{ℕ, ◌+◌, List, [], ◌∷◌, map, zip, fold, take, drop, false, true, Option, Some, None}
+use Rattle.std.specs.Prelude.{ℕ, ◌+◌, List, [], ◌∷◌, map, zip, fold, take, drop, false, Option, Some, None}
 use Rattle.nc_base.specs.declared.plan.Post.{Post}
 use Rattle.nc_base.specs.declared.request.Call.{Call}
 use Rattle.nc_base.specs.declared.request.Call.TheVariants.{Put}

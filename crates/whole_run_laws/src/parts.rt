@@ -45,8 +45,8 @@ pub fn varn_put_law()
         → (makes s number state (Put false name given values)).0.file ≡ (fold (makes s number) state (put_parts name values given.parts)).0.file }
 {}
 
-/// A get of many regions gives the values of gets of the regions, joined: by a wait or in a blocking call, and so in the answer to an
-/// independent one.
+/// A get of many regions gives the values of gets of the regions, joined: as a request, blocking or not, and in the answer to an
+/// independent get.
 pub fn varn_get_law()
     ensures request { (s : Setting) (file : List ℕ) (known id : ℕ) (name : List ℕ) (given : Given) → given.form ≡ Varn
         → code_of_look (look s.header known id name given None) ≡ Ok
