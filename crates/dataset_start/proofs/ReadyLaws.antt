@@ -379,10 +379,10 @@ pub bad-dataset : {Untouched : Type 0} (left held : Option (List ℕ)) (script :
 bad-dataset left held script None a h t = tt
 bad-dataset left held script (Some line) a h t = record { script = script; asks = a; tells = t; unlaid = untouched script held line t h }
 
-pub bad-asked : {T Untouched : Type 0} (left held : Option (List ℕ)) (script : script_type.Script) (result : Result T Stop) (err : Stop)
+pub bad-asked : {T : Type 0} (Untouched : Type 0) (left held : Option (List ℕ)) (script : script_type.Script) (result : Result T Stop) (err : Stop)
     → IsErrAnd result (λ stop. stop ≡ err) → Asks left script → (IsMislaid script → Untouched)
     → (status_of err ≡ 4 → IfSome (line_of err) (TellsDataset script held))
     → IfErr result (λ stop. status_of stop ≡ 4 → IfSome (line_of stop) (IsBadDataset left held Untouched))
-bad-asked left held script (Ok x) err e a h t = tt
-bad-asked left held script (Err stop) err e a h t = λ s.
-    subst (λ (o : Stop). IfSome (line_of o) (IsBadDataset left held _)) (sym e) (bad-dataset left held script (line_of err) a h (t (ap status_of (sym e) ∙ s)))
+bad-asked Untouched left held script (Ok x) err e a h t = tt
+bad-asked Untouched left held script (Err stop) err e a h t = λ s.
+    subst (λ (o : Stop). IfSome (line_of o) (IsBadDataset left held Untouched)) (sym e) (bad-dataset left held script (line_of err) a h (t (ap status_of (sym e) ∙ s)))

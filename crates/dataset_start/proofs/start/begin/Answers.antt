@@ -12,7 +12,7 @@ make_ready-requires-clause-kept g c = λ _ _. read_kept c.in_ok-script.ensures.r
 
 pub returns-in_err-header-clause-bad : goal.returns-in_err-header-clause-bad
 returns-in_err-header-clause-bad g c =
-    bad-asked (g.S.Source.left c.args.source.now) (g.D.Disk.held c.args.disk.now) c.in_ok-script.script c.from_residual-in_err-header.result c.in_err-header.field-0.0
+    bad-asked _ (g.S.Source.left c.args.source.now) (g.D.Disk.held c.args.disk.now) c.in_ok-script.script c.from_residual-in_err-header.result c.in_err-header.field-0.0
     c.from_residual-in_err-header.ensures.1 c.in_ok-script.ensures.asks c.in_err-header.ensures.unlaid c.in_err-header.ensures.bad
 
 pub returns-in_err-header-clause-unlaid : goal.returns-in_err-header-clause-unlaid
