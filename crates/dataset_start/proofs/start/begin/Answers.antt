@@ -2,6 +2,7 @@ use Rattle.dataset_start.proofs.Keeping.{read_kept}
 use Rattle.std.proofs.Common.{inl, inr, refl}
 use Rattle.dataset_start.proofs.NotReady.{left_unready}
 use Rattle.dataset_start.proofs.ReadyLaws.{bad-asked, laid-mislaid, of_bad_layout}
+use Rattle.dataset_start.proofs.Untold.{laid-asked, not-before}
 use Rattle.dataset_start.proofs.start.begin.Goals as goal
 use Rattle.list_laws.proofs.Results.{on_err}
 
@@ -27,6 +28,15 @@ returns-in_err-header-clause-torn g c =
     on_err c.from_residual-in_err-header.result
     (left_unready (g.S.Source.left c.args.source.now) (g.D.Disk.held c.args.disk.now) (g.D.Disk.held c.make_ready.new.disk) c.in_ok-script.script c.in_ok-script.ensures.asks
     c.in_err-header.ensures.refused)
+
+pub returns-in_err-header-clause-asked : goal.returns-in_err-header-clause-asked
+returns-in_err-header-clause-asked g c =
+    laid-asked (g.S.Source.left c.args.source.now) c.in_ok-script.script c.from_residual-in_err-header.result c.in_err-header.field-0.0
+    c.from_residual-in_err-header.ensures.1 c.in_ok-script.ensures.asks c.in_err-header.ensures.laid
+
+pub returns-in_err-header-clause-not_started : goal.returns-in_err-header-clause-not_started
+returns-in_err-header-clause-not_started g c =
+    not-before c.from_residual-in_err-header.result c.in_err-header.field-0.0 c.from_residual-in_err-header.ensures.1 c.in_err-header.ensures.only
 
 -- ---- where it was
 
