@@ -57,10 +57,10 @@ late stops.Usage only s = only
 late (stops.Script e) only s = only
 late stops.Source only s = only
 
-pub not-before : {T Q : Type 0} (result : Result T Stop) (err : Stop) → IsErrAnd result (λ stop. stop ≡ err) → IsOfDataset err
+pub not-before : {T : Type 0} (Q : Type 0) (result : Result T Stop) (err : Stop) → IsErrAnd result (λ stop. stop ≡ err) → IsOfDataset err
     → IfErr result (λ stop. IsBeforeStart (status_of stop) → Q)
-not-before (Ok x) err e only = tt
-not-before (Err stop) err e only = λ s. absurd (late stop (subst IsOfDataset (sym e) only) s)
+not-before Q (Ok x) err e only = tt
+not-before Q (Err stop) err e only = λ s. absurd (late stop (subst IsOfDataset (sym e) only) s)
 
 -- where the disk failed, the script is laid out
 pub laid-asked : {T : Type 0} (left : Option (List ℕ)) (script : Script) (result : Result T Stop) (err : Stop) → IsErrAnd result (λ stop. stop ≡ err) → Asks left script

@@ -36,7 +36,7 @@ returns-in_err-header-clause-asked g c =
 
 pub returns-in_err-header-clause-not_started : goal.returns-in_err-header-clause-not_started
 returns-in_err-header-clause-not_started g c =
-    not-before c.from_residual-in_err-header.result c.in_err-header.field-0.0 c.from_residual-in_err-header.ensures.1 c.in_err-header.ensures.only
+    not-before _ c.from_residual-in_err-header.result c.in_err-header.field-0.0 c.from_residual-in_err-header.ensures.1 c.in_err-header.ensures.only
 
 -- ---- where it was
 
