@@ -1,5 +1,6 @@
 // The calls that failed.
-ghost use Rattle.std.specs.Prelude.{◌≡◌, ◌+◌, ◌-◌, ◌^◌, min};
+ghost use Rattle.std.specs.Prelude.{◌≡◌, ◌≤◌, ◌+◌, ◌-◌, ◌^◌, min};
+ghost use Rattle.nc_outside.specs.Cause.{Rose};
 
 use std::io;
 
@@ -23,8 +24,10 @@ impl Faults {
 
     /// Counts a call that failed.
     pub(crate) fn add(&mut self, cause: io::Error)
-        ensures { self.new.count ≡ min (self.old.count + 1) (2 ^ 64 - 1) }
+        ensures rose { Rose self.old.count self.new.count }
+        ensures later { self.old.count ≤ self.new.count }
     {
+        let _before = self.count;
         self.join(Faults {
             count: 1,
             first: Some(cause),
