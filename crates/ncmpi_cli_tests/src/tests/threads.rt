@@ -85,13 +85,16 @@ const ALONE: Run<'static> = Run {
     ..PLAIN
 };
 
-// A rank that steps in its own call is held until the other one has answered its own: the first point and the second one, what is printed in front of the
-// ranks, and the calls behind the header's.
-const ORDERS: [(Point, Point, &[u8], &[DiskCall]); 2] = [
+const EACH_ALONE: &[u8] = b"\
+    rank 0\n0 begin_indep_data ok\n1 put_vars ok\n2 end_indep_data ok\npending 0\n\
+    rank 1\n0 begin_indep_data ok\n1 put_vars ok\n2 end_indep_data ok\npending 0\n";
+
+// A rank that steps in its own call is held until the other one has done its own: the first point and the second one, the text, and the calls.
+const ORDERS: [(Point, Point, &[&[u8]], &[DiskCall]); 2] = [
     (
         Point::RankStep(1, 1),
         Point::RankStep(0, 2),
-        b"ranks 2\norder m0 s0.1 s1.1 m1\n",
+        &[b"ranks 2\norder m0 s0.1 s1.1 m1\n", EACH_ALONE, A_OFFSETS],
         &[
             DiskCall::Grow(96),
             DiskCall::Store(0, 80),
@@ -104,7 +107,7 @@ const ORDERS: [(Point, Point, &[u8], &[DiskCall]); 2] = [
     (
         Point::RankStep(0, 1),
         Point::RankStep(1, 2),
-        b"ranks 2\norder m0 s1.1 s0.1 m1\n",
+        &[b"ranks 2\norder m0 s1.1 s0.1 m1\n", EACH_ALONE, A_OFFSETS],
         &[
             DiskCall::Grow(96),
             DiskCall::Store(0, 80),
@@ -116,17 +119,13 @@ const ORDERS: [(Point, Point, &[u8], &[DiskCall]); 2] = [
     ),
 ];
 
-const EACH_ALONE: &[u8] = b"\
-    rank 0\n0 begin_indep_data ok\n1 put_vars ok\n2 end_indep_data ok\npending 0\n\
-    rank 1\n0 begin_indep_data ok\n1 put_vars ok\n2 end_indep_data ok\npending 0\n";
-
 #[test]
 fn calls_of_single_ranks_come_in_either_order(rt: HostRuntime) {
-    for (first, second, order, calls) in &ORDERS {
+    for (first, second, given, calls) in &ORDERS {
         let end = left_by(&rt, rt.alloc(), &ALONE, *first, *second);
         let want = Want {
             status: 0,
-            given: &[order, EACH_ALONE, A_OFFSETS],
+            given,
             held: A,
         };
         is_wanted(&rt, rt.alloc(), &end, &want);

@@ -110,7 +110,7 @@ fn is_left<R: Abort + Threads + Wait + Sync>(rt: &R, alloc: Global, refused: &Re
     assert!(rt; end.fault == Some(StepErr::Disk) && end.pending.is_empty());
     has_answers(rt, &end, refused.answers);
     let file = disk.bytes(alloc).expect(rt, NO_MEMORY);
-    assert!(rt; file.as_slice().get(..80) == Some([0u8; 80].as_slice()));
+    assert!(rt; file.as_slice().get(0..80) == Some([0u8; 80].as_slice()));
     assert!(rt; file.as_slice().get(80..) == Some(refused.tail));
 }
 

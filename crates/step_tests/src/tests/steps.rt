@@ -61,7 +61,7 @@ fn hints_of(rt: &impl Abort, way: Way) -> Hints
     ensures { are_lawful_hints result ≡ true }
 {
     assert!(rt; 1 <= way.line_room && way.line_room <= 64);
-    assert!(rt; 1 <= way.cb_buffer && way.cb_buffer <= 64);
+    assert!(rt; 1 <= way.cb_buffer && way.cb_buffer <= 33_554_432);
     Hints {
         cb_buffer: way.cb_buffer,
         line_room: way.line_room,
