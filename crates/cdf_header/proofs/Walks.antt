@@ -23,6 +23,7 @@ use Rattle.serial_spec.specs.Layout.{round_up, vsize}
 use Rattle.serial_spec.specs.HeaderBytes.{number_of, last_type, is_version, count, tag, name, padded, list_of, dimension, attribute, variable, magic, canon, count_width, begin_width}
 use Rattle.serial_spec.specs.HeaderFaults.{Field, Magic, Records, Tag, Count, NameLength, Block, DimLength, AttrType, AttrCount, DimCount, DimId, VarType, Vsize, Begin, Entries, Dimensions, Attributes, Variables, Ids, Ask, One, Many, Run, stands, takes, asked, the_header, first_field, other_fields, many, block, most_of, tag_of, type_size, bad_type, version_of, fault_if, wrong, wrong_at, after_field, field_number, field_len, big_endian, field_fault}
 use Rattle.serial_spec.specs.SoundHeaders.{is_type, fits_field, fits_count, is_writable, is_writable_dim, is_writable_attr, is_writable_list, is_writable_var}
+use Rattle.cdf_header.proofs.Pieces.{AtMost, above_none}
 use Rattle.serial_spec.proofs.FaultLaws.{run_on, run_whole, len_pos}
 use Rattle.serial_spec.proofs.SpellingLaws.{known_version}
 

@@ -1,11 +1,11 @@
--- What the owner of a file tells of its run, by what its ends gained. (own)
+-- What the owner of a file tells of its run, by what its ends gained. Order and strangers by the arrivals alone: `ByArrivals` of `owner_laws`. (own)
 --     arrived old now         what was taken
 --     gained old now q        what was put on line q
 --     Passed                  what passed over the owner's ends
 --     passed arrivals n put   so much, over n lines
 --     HasTaken ..             what was taken, and each number's end is among it
 --     HasToldAlong ..         what was told of the steps that were done
---     IsDone ..               a run without a fault: its order, and what each line gained up to the bytes of gets
+--     IsDone ..               a run without a fault, by the owner's machine: its order, and what each line gained up to the bytes of gets
 --     IsDoneSo ..             the same with the bytes
 --     IsCutOff ..             a run that a fault cut off
 use Rattle.std.specs.Prelude.{◌≡◌, ℕ, ◌<◌, List, [], ◌++◌, drop, length, replicate, nat_lt, Option, Some, None, slice_get, IsTrue}

@@ -13,6 +13,7 @@ ghost use Rattle.serial_spec.specs.Layout.{end_of};
 ghost use Rattle.collective_round.specs.Rounds.{counted, setting};
 ghost use Rattle.turn_run.specs.Known.{point};
 ghost use Rattle.turn_run.specs.Counts.{IsCount};
+ghost use Rattle.owner_laws.specs.ByArrivals.{IsCutByArrivals, IsDoneByArrivals};
 ghost use Rattle.file_owner.specs.Halted.{taken_from, of_fault, of_stranger, stopped, HasEndedOn, HasFinished, HasHaltedOn, HasHaltCause, HasSeenAll};
 ghost use Rattle.file_owner.specs.Lent.{AreSame, IsReadable};
 ghost use Rattle.file_owner.specs.Owned.{owner_calls, first_standing, standing, AreSingle, IsSteady};
@@ -77,6 +78,12 @@ pub fn serve<R: Threads + Wait + Sync, D: Disk, G: Gate, T: Told>(
     // Each step was told with the record count after it.
     ensures told { (file : List ℕ) → HasToldAlong (setting header.now hints.now) (opening inbox.old.senders (counted file header.now.records))
         (arrived inbox.old inbox.new) result.order (T.heard told.old) (T.heard told.new) }
+
+    // By the arrivals alone: the order, and the number of the first strange arrival.
+    ensures done_by_arrivals { result.fault ≡ None → IsDoneByArrivals (setting header.now hints.now) inbox.old.senders header.now.records
+        (arrived inbox.old inbox.new) result.order result.stranger }
+    ensures cut_by_arrivals { (e : Fault) → result.fault ≡ Some e → IsCutByArrivals (setting header.now hints.now) inbox.old.senders header.now.records
+        (arrived inbox.old inbox.new) result.order }
 
     // Without a fault, by the bytes of the file where they are told, and else up to those of gets.
     ensures done { result.fault ≡ None → (file : List ℕ) → IsDone (setting header.now hints.now) (opening inbox.old.senders (counted file header.now.records))

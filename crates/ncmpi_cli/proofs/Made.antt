@@ -21,7 +21,7 @@ use Rattle.script_spec.specs.Generator.{has_counts, made_script, summary_text}
 use Rattle.script_spec.specs.Texts.{header_line, layout_line, redef_line}
 use Rattle.generated_run.proofs.LawfulLaws.{made_counted, made_lawful}
 use Rattle.generated_run.proofs.MadeLaws.{made_laid}
-use Rattle.ncmpi_cli.specs.Generated.{IsMadeStatus, created_end, RanMade, script_made, summed}
+use Rattle.ncmpi_cli.specs.Generated.{IsMadeStatus, new_end, RanMade, script_made, summed}
 use Rattle.ncmpi_cli.specs.Headline.{end_of_run}
 use Rattle.ncmpi_cli.specs.Outside.{Output}
 use Rattle.dataset_start.specs.Dataset.{align_of, created_header, IsKept, TellsDataset}
@@ -94,13 +94,13 @@ told_sums seed size script header (Some file) records end r a =
 
 module _ (script : Script) (old header : Header) (order : List Mark) (alone : (length script.extra == 0) ≡ true) (old_is : old ≡ created_header script) (header_is : header ≡ created_header script) where
   -- the headers of a created dataset to which nothing is added are its first one
-  one_end : (file : List ℕ) → end_of_run script old header file order ≡ created_end script file order
+  one_end : (file : List ℕ) → end_of_run script old header file order ≡ new_end script file order
   one_end file =
       let own : Header = created_header script in
       ap₂ (λ (o h : Header). end_of_run script o h file order) old_is header_is ∙ ap (λ (f : List ℕ). serial script own f order) (file-kept script own own file alone)
 
   made_bytes : (held held_now : Option (List ℕ)) → IfSome held (λ file. held_now ≡ Some (end_of_run script old header file order).bytes)
-      → IfSome held (λ file. held_now ≡ Some (created_end script file order).bytes)
+      → IfSome held (λ file. held_now ≡ Some (new_end script file order).bytes)
   made_bytes held held_now h = IfSome_then held h (λ file b. b ∙ ap (λ (e : End). Some e.bytes) (one_end file))
 
   made_calls : (held : Option (List ℕ)) (calls calls_now : Option (List DiskCall)) → IfSome held (λ file. calls_now ≡ after (λ _. all_calls script old header file order) calls)
@@ -108,7 +108,7 @@ module _ (script : Script) (old header : Header) (order : List Mark) (alone : (l
   made_calls held calls calls_now h = IfSome_then held h (λ file c. c ∙ ap₂ (λ (o h : Header). after (λ _. all_calls script o h file order) calls) old_is header_is)
 
   made_lines : (seed size : ℕ) (held : Option (List ℕ)) (text : List ℕ) → IfSome held (λ file. text ≡ sums seed size script header order (end_of_run script old header file order))
-      → IfSome held (λ file. text ≡ summed seed size script order (created_end script file order))
+      → IfSome held (λ file. text ≡ summed seed size script order (new_end script file order))
   made_lines seed size held text h = IfSome_then held h (λ file t. t ∙ ap₂ (λ (h : Header) (e : End). sums seed size script h order e) header_is (one_end file))
 
 pub made_ran : (seed size : ℕ) (script : Script) (header : Header) (before now : Output) (held_mid : Option (List ℕ)) (calls_mid : Option (List DiskCall)) (faults failed records : ℕ)
@@ -121,23 +121,23 @@ made_ran seed size script header before now held_mid calls_mid faults failed rec
     let old_is : ready.old ≡ created_header script = ready.heads.created fresh in
     let header_is : header ≡ created_header script = ready.heads.made ∙ header-kept script ready.old alone ∙ old_is in
     let text : List ℕ = summary_text seed size script (record header { records = records }) end.order end.answers in
-    let bytes : IfSome before.held (λ file. now.held ≡ Some (created_end script file end.order).bytes) =
+    let bytes : IfSome before.held (λ file. now.held ≡ Some (new_end script file end.order).bytes) =
     made_bytes script ready.old header end.order alone old_is header_is before.held now.held
     (at_start (λ file. now.held ≡ Some (serial_from script header file end.order).bytes) script header before.held held_mid before.calls calls_mid ready (run.bytes whole)) in
     let calls : IfSome before.held (λ file. now.calls ≡ after (λ _. all_calls script (created_header script) (created_header script) file end.order) before.calls) =
     made_calls script ready.old header end.order alone old_is header_is before.held before.calls now.calls
     (all_told script ready.old header before.held before.calls calls_mid now.calls end.order ready.calls
     (at_start (λ file. now.calls ≡ with_end calls_mid (run_calls script header file end.order)) script header before.held held_mid before.calls calls_mid ready (run.calls whole))) in
-    let lines : IfSome before.held (λ file. text ≡ summed seed size script end.order (created_end script file end.order)) =
+    let lines : IfSome before.held (λ file. text ≡ summed seed size script end.order (new_end script file end.order)) =
     made_lines script ready.old header end.order alone old_is header_is seed size before.held text
     (at_start (λ file. text ≡ sums seed size script header end.order (serial_from script header file end.order)) script header before.held held_mid before.calls calls_mid ready
     (told_sums seed size script header held_mid records end (run.records whole) (run.answers whole))) in
     subst (λ (o : List Mark). RanMade seed size before now o text) (sym same)
     (record {
       legal = subst (λ (s : Script). IsLegal s end.order) is (run.legal whole);
-      bytes = subst (λ (s : Script). IfSome before.held (λ file. now.held ≡ Some (created_end s file end.order).bytes)) is bytes;
+      bytes = subst (λ (s : Script). IfSome before.held (λ file. now.held ≡ Some (new_end s file end.order).bytes)) is bytes;
       calls = subst (λ (s : Script). IfSome before.held (λ file. now.calls ≡ after (λ _. all_calls s (created_header s) (created_header s) file end.order) before.calls)) is calls;
-      lines = subst (λ (s : Script). IfSome before.held (λ file. text ≡ summed seed size s end.order (created_end s file end.order))) is lines;
+      lines = subst (λ (s : Script). IfSome before.held (λ file. text ≡ summed seed size s end.order (new_end s file end.order))) is lines;
     })
 
 pub made_begins : (seed size : ℕ) (script : Script) (order end_order : List Mark) → script ≡ script_made seed size → order ≡ end_order → HasBegun script end_order

@@ -1,7 +1,7 @@
 -- What a run of a made script did.
 --     script_made seed size      the script
---     header_made seed size      the header of its dataset
---     created_end, summed        what its calls lead to in an order, and the text that sums that up
+--     made_header seed size      the header of its dataset
+--     new_end, summed            what its calls lead to in an order, and the text that sums that up
 --     RanMade                    the order is legal, and file, device calls and text are those of the calls done one after another in it
 --     MadeWhole, MadeFront       the text was given whole, or a front of it
 use Rattle.std.specs.Prelude.{ℕ, ◌≡◌, ◌⊎◌, List, take, Some, IfSome}
@@ -20,12 +20,12 @@ use Rattle.ncmpi_cli.specs.Outside.{Output}
 unfoldable pub script_made : ℕ → ℕ → Script
 script_made seed size = made_script seed size
 
-abbrev pub header_made : ℕ → ℕ → Header
-header_made seed size = created_header (script_made seed size)
+abbrev pub made_header : ℕ → ℕ → Header
+made_header seed size = created_header (script_made seed size)
 
 -- what the calls of a script lead to, done one after another in the order, on a new dataset
-abbrev pub created_end : Script → List ℕ → List Mark → End
-created_end script file order = serial script (created_header script) file order
+abbrev pub new_end : Script → List ℕ → List Mark → End
+new_end script file order = serial script (created_header script) file order
 
 abbrev pub summed : ℕ → ℕ → Script → List Mark → End → List ℕ
 summed seed size script order end = summary_text seed size script (record (created_header script) { records = end.records }) order end.answers
@@ -33,9 +33,9 @@ summed seed size script order end = summary_text seed size script (record (creat
 -- what was done, to a file that is told
 pub record RanMade (seed size : ℕ) (before now : Output) (order : List Mark) (text : List ℕ) : Type 0 where
   pub legal : IsLegal (script_made seed size) order
-  pub bytes : IfSome before.held (λ file. now.held ≡ Some (created_end (script_made seed size) file order).bytes)
-  pub calls : IfSome before.held (λ file. now.calls ≡ after (λ _. all_calls (script_made seed size) (header_made seed size) (header_made seed size) file order) before.calls)
-  pub lines : IfSome before.held (λ file. text ≡ summed seed size (script_made seed size) order (created_end (script_made seed size) file order))
+  pub bytes : IfSome before.held (λ file. now.held ≡ Some (new_end (script_made seed size) file order).bytes)
+  pub calls : IfSome before.held (λ file. now.calls ≡ after (λ _. all_calls (script_made seed size) (made_header seed size) (made_header seed size) file order) before.calls)
+  pub lines : IfSome before.held (λ file. text ≡ summed seed size (script_made seed size) order (new_end (script_made seed size) file order))
 
 -- the same, with the text given whole
 pub record MadeWhole (seed size : ℕ) (before now : Output) (order : List Mark) : Type 0 where

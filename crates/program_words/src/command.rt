@@ -138,27 +138,27 @@ fn form_by<'a>(options: &Options<'a>) -> Option<Form<'a>>
             dataset: name,
         }),
         (false, None, None, Some(watchers)) => Some(Form::Run {
-            watchers: watchers_asked(watchers)?,
+            watchers: watchers_of(watchers)?,
             dataset: name,
         }),
         (true, None, None, None) => Some(Form::Offsets(name)),
         (false, Some(seed), size, None) => Some(Form::Generate {
-            seed: seed_asked(seed)?,
-            size: size_asked(size)?,
+            seed: seed_of(seed)?,
+            size: size_of(size)?,
             dataset: name,
         }),
         _ => None,
     }
 }
 
-fn seed_asked(word: &str) -> Option<u64>
-    ensures { result ≡ spec.seed_asked word.now }
+fn seed_of(word: &str) -> Option<u64>
+    ensures { result ≡ spec.seed_of word.now }
 {
     natural(word)
 }
 
-fn size_asked(word: Option<&str>) -> Option<u32>
-    ensures value { result ≡ spec.size_asked (option_map (λ w. w.now) word.entry) }
+fn size_of(word: Option<&str>) -> Option<u32>
+    ensures value { result ≡ spec.size_of (option_map (λ w. w.now) word.entry) }
     ensures bound { IfSome result (λ n. (1 ≤ n) × (n ≤ 64)) }
 {
     let Some(word) = word else {
@@ -170,8 +170,8 @@ fn size_asked(word: Option<&str>) -> Option<u32>
     }
 }
 
-fn watchers_asked(word: &str) -> Option<u32>
-    ensures value { result ≡ spec.watchers_asked word.now }
+fn watchers_of(word: &str) -> Option<u32>
+    ensures value { result ≡ spec.watchers_of word.now }
     ensures bound { IfSome result (λ n. n ≤ 8) }
 {
     match natural(word)? {

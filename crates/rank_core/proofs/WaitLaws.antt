@@ -8,6 +8,7 @@ use Rattle.nc_base.specs.declared.plan.Batch.{Batch}
 use Rattle.nc_base.specs.declared.plan.Post.{Post}
 use Rattle.nc_base.specs.declared.request.Call.{Call}
 use Rattle.nc_base.specs.declared.request.Call.TheVariants as call
+use Rattle.nc_base.specs.declared.request.Choice.{Choice}
 use Rattle.nc_base.specs.declared.request.PostKind.{PostKind}
 use Rattle.nc_base.specs.declared.step.OfferKind.{OfferKind}
 use Rattle.nc_base.specs.declared.step.OfferKind.TheVariants as offer
@@ -16,7 +17,7 @@ use Rattle.nc_base.specs.declared.step.MeetKind.TheVariants as meets
 use Rattle.nc_base.specs.declared.step.Want.{Want}
 use Rattle.serial_spec.specs.RankMachine as machine
 use Rattle.serial_spec.specs.Looks.{Look, Refused, Empty, Asks, look, look_fill}
-use Rattle.serial_spec.specs.RankMachine.{Rank, Open, open_blocking, offers, offers_look, answers, answer, posts, post_after, without_chosen, chosen, batch_chosen, buffer_code, bytes_in, attach_code, detach_code, batch_of, code_of_look, posts_of, no_posts, values_of_post}
+use Rattle.serial_spec.specs.RankMachine.{Rank, Open, meets_refused, open_blocking, open_empty, offers, offers_look, waits, answers, answer, posts, post_after, without_chosen, chosen, batch_chosen, buffer_code, bytes_in, attach_code, detach_code, batch_of, code_of_look, posts_of, no_posts, items_of, values_of_post}
 use Rattle.serial_spec.specs.RegionCheck.{is_ok_code}
 use Rattle.rank_core.specs.Ranked.{WaitsFor}
 
@@ -34,9 +35,17 @@ offers_wait r offer.Solo batch kept e = e
 look_waits : (r : Rank) (kind : OfferKind) (l : Look) (batch : Batch) → DoesWait (offers_look r kind l batch)
 look_waits r kind l batch = offers_wait r kind batch (open_blocking r (code_of_look l) batch) refl
 
--- it meets without a post
-none_waits : (r : Rank) (kind : MeetKind) (kept : Open) → kept.gets ≡ [] → DoesWait (offers r (offer.Meet kind) no_posts kept)
-none_waits r kind kept e = offers_wait r (offer.Meet kind) no_posts kept e
+refused_waits : (r : Rank) (kind : MeetKind) → DoesWait (meets_refused r kind)
+refused_waits r kind = offers_wait r (offer.Meet kind) no_posts (open_blocking r code.EIndep no_posts) refl
+
+empty_waits : (r : Rank) (kind : MeetKind) (c : Code) (independent : Bool) → DoesWait (offers r (offer.Meet kind) no_posts (open_empty c independent))
+empty_waits r kind c independent = offers_wait r (offer.Meet kind) no_posts (open_empty c independent) refl
+
+chosen_wait : (r : Rank) (kind : OfferKind) (choice : Choice) → DoesWait (waits r kind choice)
+chosen_wait r kind choice =
+    let batch = batch_chosen (chosen r choice) in
+    offers_wait (without_chosen r choice) kind batch
+    (record { code = code.Ok; items = items_of r choice; gets = batch.gets; blocking = false; independent = r.independent }) refl
 
 post_waits : (r : Rank) (id : ℕ) (kind : PostKind) (asked : List Post) (c : Code) → r.«open» ≡ None → DoesWait (post_after r id kind asked c)
 post_waits r id kind asked code.Ok h = h
@@ -55,25 +64,24 @@ pub step_waits : (header : Header) (r : Rank) (c : Call) → r.«open» ≡ None
 step_waits header r (call.Put all name given values) h =
     let l = look header r.known 0 name given (Some values) in
     either all _ _
-    (either r.independent _ _ (none_waits r meets.Put _ refl) (look_waits r (offer.Meet meets.Put) l (batch_of (Some values) l)))
+    (either r.independent _ _ (refused_waits r meets.Put) (look_waits r (offer.Meet meets.Put) l (batch_of (Some values) l)))
     (either r.independent _ _ (look_waits r offer.Solo l (batch_of (Some values) l)) h)
 step_waits header r (call.Get all name given) h =
     let l = look header r.known 0 name given None in
     either all _ _
-    (either r.independent _ _ (none_waits r meets.Get _ refl) (look_waits r (offer.Meet meets.Get) l (batch_of None l)))
+    (either r.independent _ _ (refused_waits r meets.Get) (look_waits r (offer.Meet meets.Get) l (batch_of None l)))
     (either r.independent _ _ (look_waits r offer.Solo l (batch_of None l)) h)
 step_waits header r (call.Post id kind name given values) h = posts_wait r id kind (look header r.known id name given (values_of_post kind values)) h
 step_waits header r (call.Wait true choice) h =
-    either r.independent _ _ (none_waits r meets.Wait _ refl) (offers_wait (without_chosen r choice) (offer.Meet meets.Wait) (batch_chosen (chosen r choice)) _ refl)
-step_waits header r (call.Wait false choice) h =
-    either r.independent _ _ (offers_wait (without_chosen r choice) offer.Solo (batch_chosen (chosen r choice)) _ refl) h
+    either r.independent _ _ (empty_waits r meets.Wait code.EIndep r.independent) (chosen_wait r (offer.Meet meets.Wait) choice)
+step_waits header r (call.Wait false choice) h = either r.independent _ _ (chosen_wait r offer.Solo choice) h
 step_waits header r (call.Cancel choice) h = h
 step_waits header r (call.Attach size) h = attached_wait (record r { attached = Some size }) r (is_ok_code (attach_code r.attached size)) (answer (attach_code r.attached size)) h h
 step_waits header r call.Detach h = attached_wait (record r { attached = None }) r (is_ok_code (detach_code r)) (answer (detach_code r)) h h
-step_waits header r call.BeginIndep h = none_waits r meets.Begin _ refl
-step_waits header r call.EndIndep h = none_waits r meets.End _ refl
-step_waits header r call.SyncRecords h = none_waits r meets.Sync _ refl
+step_waits header r call.BeginIndep h = empty_waits r meets.Begin (cond r.independent code.EIndep code.Ok) true
+step_waits header r call.EndIndep h = empty_waits r meets.End (cond r.independent code.Ok code.ENotIndep) false
+step_waits header r call.SyncRecords h = empty_waits r meets.Sync code.Ok r.independent
 step_waits header r (call.InqDim name) h = h
 step_waits header r (call.FillRec name number share others) h =
     let l = look_fill header name number share others in
-    either r.independent _ _ (none_waits r meets.Put _ refl) (look_waits r (offer.Meet meets.Put) l (record { puts = posts_of l; gets = [] }))
+    either r.independent _ _ (refused_waits r meets.Put) (look_waits r (offer.Meet meets.Put) l (record { puts = posts_of l; gets = [] }))

@@ -15,7 +15,7 @@ use Rattle.overlay_laws.specs.Entries.{In}
 use Rattle.redef_laws.specs.Applied.{IsApplied}
 use Rattle.redef_laws.specs.RisingSlabs.{changes, gaps, rising, IsRisen}
 use Rattle.redef_laws.specs.Shifted.{new_end, AreShifted, IsMoved}
-use Rattle.redef_mover.specs.Moves.{moving_calls, gap_calls, slab_calls}
+use Rattle.redef_mover.specs.Moves.{all_calls, gap_calls, slab_calls}
 use Rattle.redef_mover.specs.Carried.{carried, carry_calls, IsCarriable}
 use Rattle.redef_mover.specs.Relocation.{relocation_calls}
 use Rattle.redef_mover.proofs.CarryLaws.{carried_is}
@@ -73,7 +73,7 @@ has_laws old new extras h writable shifted all risen falls zeros moved =
 pub relocated : (old new : Header) → HasLaws old new → (file : List ℕ) → carried old new file ≡ redefined file old new
 relocated old new h file = h.moved file (carried old new file) (carried_is old new file h.carriable (λ s. (h.all s).1) (λ s. (h.all s).0))
 
-moves_called : (z : ℕ) (old new : Header) → HasLaws old new → move_calls z old new ≡ moving_calls z (reverse (rising old new))
+moves_called : (z : ℕ) (old new : Header) → HasLaws old new → move_calls z old new ≡ all_calls z (reverse (rising old new))
 moves_called z old new h = ap (λ ss. flat_map (slab_calls z) ss) h.falls
 
 pub relocation_called : (z : ℕ) (old new : Header) (file : List ℕ) → HasLaws old new → 0 < z → carry_calls z old new file ≡ relocation_calls z old new file

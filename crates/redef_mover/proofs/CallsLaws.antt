@@ -9,7 +9,7 @@ use Rattle.serial_spec.specs.DeviceCalls.{Slab, grow_to}
 use Rattle.serial_spec.specs.HeaderBytes.{header_len}
 use Rattle.redef_laws.specs.RisingSlabs.{gaps, rising}
 use Rattle.redef_laws.specs.Shifted.{new_end}
-use Rattle.redef_mover.specs.Moves.{moving_calls, gap_calls}
+use Rattle.redef_mover.specs.Moves.{all_calls, gap_calls}
 use Rattle.redef_mover.specs.Carried.{carry_calls}
 use Rattle.nc_outside.proofs.ToldLaws.{calls_more}
 
@@ -21,14 +21,14 @@ four_parts told first second third last a b c d e f g h =
 
 pub carry_called : (held : Option (List ℕ)) (told first second third last : Option (List DiskCall)) (z : ℕ) (old new : Header) (ss : List Slab) (begin end n : ℕ)
     → ss ≡ rising old new → begin ≡ header_len new → end ≡ new_end old new → n ≡ header_len new
-    → IfSome held (λ file. first ≡ with_end told (grow_to (length file) end)) → second ≡ with_end first (moving_calls z (reverse ss))
+    → IfSome held (λ file. first ≡ with_end told (grow_to (length file) end)) → second ≡ with_end first (all_calls z (reverse ss))
     → third ≡ with_end second (gap_calls z (gaps begin end ss)) → last ≡ with_end third (Store 0 n ∷ [])
     → IfSome held (λ file. last ≡ with_end told (carry_calls z old new file))
 carry_called None told first second third last z old new ss begin end n e b x k f g h i = tt
 carry_called (Some file) told first second third last z old new ss begin end n e b x k f g h i =
-    four_parts told first second third last (grow_to (length file) (new_end old new)) (moving_calls z (reverse (rising old new)))
+    four_parts told first second third last (grow_to (length file) (new_end old new)) (all_calls z (reverse (rising old new)))
     (gap_calls z (gaps (header_len new) (new_end old new) (rising old new))) (Store 0 (header_len new) ∷ [])
     (f ∙ ap (λ (y : ℕ). with_end told (grow_to (length file) y)) x)
-    (g ∙ ap (λ ys. with_end first (moving_calls z (reverse ys))) e)
+    (g ∙ ap (λ ys. with_end first (all_calls z (reverse ys))) e)
     (h ∙ (λ t. with_end second (gap_calls z (gaps (b t) (x t) (e t)))))
     (i ∙ ap (λ (y : ℕ). with_end third (Store 0 y ∷ [])) k)

@@ -17,14 +17,14 @@ use Rattle.overlay_laws.proofs.HullLaws.{in_flat, in_left, in_range, in_right}
 use Rattle.redef_laws.specs.RisingSlabs.{changes}
 use Rattle.redef_mover.specs.declared.slabs.Shift.{Shift}
 use Rattle.redef_mover.specs.declared.slabs.Slabs.{Slabs}
-use Rattle.redef_mover.specs.Moves.{moving_calls, all_moved, further, listed, slab_calls, slab_moved, slab_of, slabs_at}
+use Rattle.redef_mover.specs.Moves.{all_calls, all_moved, further, listed, slab_calls, slab_moved, slab_of, slabs_at}
 
 -- ---- two lists of slabs
 
 pub moved_append : (file : List ℕ) (a b : List Slab) → all_moved file (a ++ b) ≡ all_moved (all_moved file a) b
 moved_append file a b = ap (λ ss. fold slab_moved file ss) (filter-append changes a b) ∙ fold-append slab_moved file (filter changes a) (filter changes b)
 
-pub called_append : (z : ℕ) (a b : List Slab) → moving_calls z (a ++ b) ≡ moving_calls z a ++ moving_calls z b
+pub called_append : (z : ℕ) (a b : List Slab) → all_calls z (a ++ b) ≡ all_calls z a ++ all_calls z b
 called_append z a b = ap (λ ss. flat_map (slab_calls z) ss) (filter-append changes a b) ∙ flat_map-append (slab_calls z) (filter changes a) (filter changes b)
 
 -- ---- what is left
@@ -38,29 +38,29 @@ left_moved whole mid now part rest all e w k =
     (λ file. sym (moved_append file part rest) ∙ ap (λ ss. all_moved file ss) (sym e))
     ∙ w
 
-pub left_called : (whole mid now : Option (List DiskCall)) (z : ℕ) (part rest all : List Slab) → all ≡ part ++ rest → with_end mid (moving_calls z all) ≡ whole
-    → now ≡ with_end mid (moving_calls z part) → with_end now (moving_calls z rest) ≡ whole
+pub left_called : (whole mid now : Option (List DiskCall)) (z : ℕ) (part rest all : List Slab) → all ≡ part ++ rest → with_end mid (all_calls z all) ≡ whole
+    → now ≡ with_end mid (all_calls z part) → with_end now (all_calls z rest) ≡ whole
 left_called whole mid now z part rest all e w k =
-    ap (λ told. with_end told (moving_calls z rest)) k
-    ∙ with_end-with_end mid (moving_calls z part) (moving_calls z rest)
-    ∙ ap (λ calls. with_end mid calls) (sym (called_append z part rest) ∙ ap (λ ss. moving_calls z ss) (sym e))
+    ap (λ told. with_end told (all_calls z rest)) k
+    ∙ with_end-with_end mid (all_calls z part) (all_calls z rest)
+    ∙ ap (λ calls. with_end mid calls) (sym (called_append z part rest) ∙ ap (λ ss. all_calls z ss) (sym e))
     ∙ w
 
 pub none_left : (whole now : Option (List ℕ)) (rest : List Slab) → rest ≡ [] → after (λ file. all_moved file rest) now ≡ whole → now ≡ whole
 none_left whole None rest e w = w
 none_left whole (Some file) rest e w = ap (λ ss. Some (all_moved file ss)) (sym e) ∙ w
 
-pub none_uncalled : (whole now : Option (List DiskCall)) (z : ℕ) (rest : List Slab) → rest ≡ [] → with_end now (moving_calls z rest) ≡ whole → now ≡ whole
-none_uncalled whole now z rest e w = sym (with_end-nil now) ∙ ap (λ ss. with_end now (moving_calls z ss)) (sym e) ∙ w
+pub none_uncalled : (whole now : Option (List DiskCall)) (z : ℕ) (rest : List Slab) → rest ≡ [] → with_end now (all_calls z rest) ≡ whole → now ≡ whole
+none_uncalled whole now z rest e w = sym (with_end-nil now) ∙ ap (λ ss. with_end now (all_calls z ss)) (sym e) ∙ w
 
 -- the last part
 pub last_moved : (whole mid now : Option (List ℕ)) (part all : List Slab) → all ≡ part → after (λ file. all_moved file all) mid ≡ whole
     → now ≡ after (λ file. all_moved file part) mid → now ≡ whole
 last_moved whole mid now part all e w k = k ∙ ap (λ ss. after (λ file. all_moved file ss) mid) (sym e) ∙ w
 
-pub last_called : (whole mid now : Option (List DiskCall)) (z : ℕ) (part all : List Slab) → all ≡ part → with_end mid (moving_calls z all) ≡ whole
-    → now ≡ with_end mid (moving_calls z part) → now ≡ whole
-last_called whole mid now z part all e w k = k ∙ ap (λ ss. with_end mid (moving_calls z ss)) (sym e) ∙ w
+pub last_called : (whole mid now : Option (List DiskCall)) (z : ℕ) (part all : List Slab) → all ≡ part → with_end mid (all_calls z all) ≡ whole
+    → now ≡ with_end mid (all_calls z part) → now ≡ whole
+last_called whole mid now z part all e w k = k ∙ ap (λ ss. with_end mid (all_calls z ss)) (sym e) ∙ w
 
 -- ---- a list from its end
 

@@ -14,7 +14,7 @@ use Rattle.serial_spec.specs.SoundHeaders.{is_sound, is_writable}
 use Rattle.overlay_laws.specs.Entries.{In}
 use Rattle.redef_laws.specs.RisingSlabs.{gaps, rising, IsRisen}
 use Rattle.redef_laws.specs.Shifted.{new_end}
-use Rattle.redef_mover.specs.Moves.{moving_calls, all_cleared, all_moved, gap_calls}
+use Rattle.redef_mover.specs.Moves.{all_calls, all_cleared, all_moved, gap_calls}
 
 pub record IsCarriable (old new : Header) : Type 0 where
   pub sound : is_sound old ≡ true
@@ -32,7 +32,7 @@ carried old new file =
 abbrev pub carry_calls : ℕ → Header → Header → List ℕ → List DiskCall
 carry_calls z old new file =
     let end = new_end old new in
-    grow_to (length file) end ++ moving_calls z (reverse (rising old new)) ++ gap_calls z (gaps (header_len new) end (rising old new)) ++ Store 0 (header_len new) ∷ []
+    grow_to (length file) end ++ all_calls z (reverse (rising old new)) ++ gap_calls z (gaps (header_len new) end (rising old new)) ++ Store 0 (header_len new) ∷ []
 
 -- Where the new header stands, each byte is old or that of the header; bytes past the new end stay, and those of each slab that
 -- has its place already.

@@ -7,7 +7,7 @@
 --     window z s j            window j from the top of a slab, as a slab
 --     slab_moved file s       the file with a slab's bytes at the new place
 --     all_moved file ss       the same of all slabs whose place changes, one after another
---     slab_calls z s          the calls that move a slab, moving_calls z ss those of all slabs whose place changes
+--     slab_calls z s          the calls that move a slab, all_calls z ss those of all slabs whose place changes
 --     cleared file g          the file with zeros in a gap, given by its place and length
 --     all_cleared file gaps   the same of many gaps
 --     gaps_before at ss       the gaps before slabs, from `at` on, and behind at ss the place behind the last of them
@@ -68,8 +68,8 @@ window_calls s = Load s.from s.len ∷ Store s.to s.len ∷ []
 abbrev pub slab_calls : ℕ → Slab → List DiskCall
 slab_calls z s = flat_map (move_window z s) (range_with_len 0 (window_count z s.len))
 
-abbrev pub moving_calls : ℕ → List Slab → List DiskCall
-moving_calls z ss = flat_map (slab_calls z) (filter changes ss)
+abbrev pub all_calls : ℕ → List Slab → List DiskCall
+all_calls z ss = flat_map (slab_calls z) (filter changes ss)
 
 pub record IsMovable (long z room : ℕ) (s : Slab) : Type 0 where
   pub up : s.from ≤ s.to

@@ -3,7 +3,7 @@ ghost use Rattle.std.specs.Prelude.{◌≡◌, ◌≤◌, ◌+◌, ◌∷◌, []
 ghost use Rattle.nc_outside.specs.Cause.{HasDiskCause};
 ghost use Rattle.nc_outside.specs.Told.{after, with_end, BothTold};
 ghost use Rattle.redef_mover.specs.Kept.{IsKept, IsOutside, IsUnmoved};
-ghost use Rattle.redef_mover.specs.Moves.{moving_calls, all_moved, further, listed, slab_calls, slab_moved, slab_of, window_calls, AreListed, AreMovable, IsMovable};
+ghost use Rattle.redef_mover.specs.Moves.{all_calls, all_moved, further, listed, slab_calls, slab_moved, slab_of, window_calls, AreListed, AreMovable, IsMovable};
 
 use crate::slabs::{Offset, Shift, Slabs};
 use nc_outside::{Disk, DiskErr};
@@ -22,7 +22,7 @@ pub(crate) fn move_all<D: Disk>(
     requires some { 1 ≤ size }
     ensures bytes { OnOk result (D.held disk.new ≡ after (λ file. all_moved file (reverse (listed slabs.now))) (D.held disk.old)) }
     ensures kept { BothTold (IsKept (IsUnmoved (listed slabs.now))) (D.held disk.old) (D.held disk.new) }
-    ensures calls { OnOk result (D.calls disk.new ≡ with_end (D.calls disk.old) (moving_calls size (reverse (listed slabs.now)))) }
+    ensures calls { OnOk result (D.calls disk.new ≡ with_end (D.calls disk.old) (all_calls size (reverse (listed slabs.now)))) }
     ensures from { D.from disk.new ≡ 0 }
     ensures len { D.len disk.new ≡ D.len disk.old }
     ensures cause { HasDiskCause (D.faults disk.old) (D.faults disk.new) result }
@@ -54,7 +54,7 @@ fn move_slabs<D: Disk>(
     requires some { 1 ≤ size }
     ensures bytes { OnOk result (D.held disk.new ≡ after (λ file. all_moved file (reverse (map (further offset.old offset.new) (map slab_of slabs.now)))) (D.held disk.old)) }
     ensures kept { BothTold (IsKept (IsUnmoved (map (further offset.old offset.new) (map slab_of slabs.now)))) (D.held disk.old) (D.held disk.new) }
-    ensures calls { OnOk result (D.calls disk.new ≡ with_end (D.calls disk.old) (moving_calls size (reverse (map (further offset.old offset.new) (map slab_of slabs.now))))) }
+    ensures calls { OnOk result (D.calls disk.new ≡ with_end (D.calls disk.old) (all_calls size (reverse (map (further offset.old offset.new) (map slab_of slabs.now))))) }
     ensures from { D.from disk.new ≡ 0 }
     ensures len { D.len disk.new ≡ D.len disk.old }
     ensures cause { HasDiskCause (D.faults disk.old) (D.faults disk.new) result }
@@ -79,7 +79,7 @@ fn move_changed<D: Disk>(
     requires some { 1 ≤ size }
     ensures bytes { OnOk result (D.held disk.new ≡ after (λ file. all_moved file (slab_of slab.now ∷ [])) (D.held disk.old)) }
     ensures kept { BothTold (IsKept (IsUnmoved (slab_of slab.now ∷ []))) (D.held disk.old) (D.held disk.new) }
-    ensures calls { OnOk result (D.calls disk.new ≡ with_end (D.calls disk.old) (moving_calls size (slab_of slab.now ∷ []))) }
+    ensures calls { OnOk result (D.calls disk.new ≡ with_end (D.calls disk.old) (all_calls size (slab_of slab.now ∷ []))) }
     ensures from { D.from disk.new ≡ 0 }
     ensures len { D.len disk.new ≡ D.len disk.old }
     ensures cause { HasDiskCause (D.faults disk.old) (D.faults disk.new) result }

@@ -1,8 +1,9 @@
 -- What a rank put and took, from one offer to the next.
 use Rattle.std.proofs.Common.{◌≡◌, ℕ, ◌+◌, ap, sym, subst, refl, ◌∙◌, List, [], ◌∷◌, ◌++◌, length, Bool, true, false, Option, Some, None, Ok, Err, Result, append_assoc, length-append}
-use Rattle.std.specs.Prelude.{filter, is_err}
+use Rattle.std.specs.Prelude.{filter, is_err, ◌&&◌}
 use Rattle.std.proofs.lemmas.List.{append-nil}
 use Rattle.std.proofs.lemmas.List.Elements.{filter-append}
+use Rattle.std.proofs.lemmas.List.Folds.{list_all-append}
 use Rattle.nc_base.specs.declared.answer.Answer.{Answer}
 use Rattle.nc_base.specs.declared.header.Header.{Header}
 use Rattle.nc_base.specs.declared.memory.Memory.{Memory}
@@ -37,6 +38,7 @@ accounted_first header own at e = record {
   ends = λ later. ap (λ (a : Going × Option Offer). end_by header a later) e;
   stops = λ later. ap (λ (a : Going × Option Offer). stop_by header a later) e;
   one_each = refl;
+  only_offers = refl;
 }
 
 pub accounted_held : (header : Header) (own : List Call) (put : List RankItem) (taken : List OwnerItem) (runner : Runner) (o : Offer) → runner.held ≡ Some o
@@ -75,6 +77,7 @@ accounted_on header own put taken g o y to h fits e = record {
       ∙ h.stops (owner_item.Reply y ∷ later)
       ∙ waiting_stop_reply header g o y later fits ∙ ap (λ (a : Going × Option Offer). stop_by header a later) e;
   one_each = one_more put taken (length g.answers) o (owner_item.Reply y) h.one_each;
+  only_offers = list_all-append is_offer put (item.Offer (length g.answers) o ∷ []) ∙ ap (λ (b : Bool). b && true) h.only_offers;
 }
 
 -- ---- the end of the calls
@@ -140,7 +143,7 @@ pub broken_first : (header : Header) (own : List Call) (runner : Runner) (result
     → (rest : List Answer) × (runner.answers ++ rest ≡ (advance header (first_going header own)).0.answers) → HasStood header own [] [] runner result
 broken_first header own runner result e (rest, h) =
     broken header own [] [] runner result e refl
-    (record { unsent = offered header (first_going header own) []; begins = refl; unanswered = rest; answers = h ∙ at_once (advance header (first_going header own)) })
+    (record { only_offers = refl; unsent = offered header (first_going header own) []; begins = refl; unanswered = rest; answers = h ∙ at_once (advance header (first_going header own)) })
   where
     at_once : (a : Going × Option Offer) → a.0.answers ≡ (end_by header a []).answers
     at_once (g, None) = refl
@@ -155,6 +158,7 @@ broken_at header own put taken g o y runner result h fits e (rest, k) =
     let here = accounted_on header own put taken g o y (advance header (hears header g y)) h fits refl in
     broken header own (put ++ item.Offer (length g.answers) o ∷ []) (taken ++ owner_item.Reply y ∷ []) runner result e here.one_each
     (record {
+      only_offers = here.only_offers;
       unsent = offered_by header (advance header (hears header g y)) [];
       begins = sym (here.offers []) ∙ ap (λ (back : List OwnerItem). offered header (first_going header own) back) (append-nil (taken ++ owner_item.Reply y ∷ []));
       unanswered = rest;
@@ -200,5 +204,5 @@ pub attended_broken : (header : Header) (own : List Call) (put : List RankItem) 
 attended_broken header own put taken runner m h = record {
   one_each = no_offer put taken true h.one_each;
   finished = λ k. absurd (k refl);
-  broken = λ k. record { sent = put; unsent = h.stands.unsent; put_some = refl; begins = h.stands.begins; unanswered = h.stands.unanswered; answers = h.stands.answers };
+  broken = λ k. record { sent = put; unsent = h.stands.unsent; put_some = refl; only_offers = h.stands.only_offers; begins = h.stands.begins; unanswered = h.stands.unanswered; answers = h.stands.answers };
 }

@@ -104,6 +104,7 @@ module _ (script : Script) (header : Header) (arrivals : List Arrival) (given : 
     fault = λ disk. cause disk (some_or_none before.fault);
     later = le_two faults faults' failed o.later c.later;
     cut = cut_off;
+    none_pending = c.none_pending;
   }
     where
       state : List ℕ → Ending

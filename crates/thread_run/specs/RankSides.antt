@@ -1,9 +1,10 @@
 -- A rank's side of a run with threads. (own)
 --     IsAccounted header own put taken at     what was put and taken so far brought the rank there
 --     HasFinished .. end                      what the rank put and came to, by the items that it took
---     HasBroken .. answered                   what it put, and its answers, until it wanted memory
+--     HasBroken .. answered                   the offers that it put, and its answers, until it wanted memory; then it put one end
 --     HasAttended .. end                      the one or the other, and one item taken for each offer
 use Rattle.std.specs.Prelude.{◌≡◌, List, [], ◌∷◌, ◌++◌, length, true, false, Option, Some, Ok, Err, Result}
+use Rattle.std.specs.List.{list_all}
 use Rattle.nc_base.specs.declared.answer.Answer.{Answer}
 use Rattle.nc_base.specs.declared.header.Header.{Header}
 use Rattle.nc_base.specs.declared.memory.Memory.{Memory}
@@ -15,6 +16,7 @@ use Rattle.nc_base.specs.declared.step.Offer.{Offer}
 use Rattle.nc_base.specs.declared.step.OwnerItem.{OwnerItem}
 use Rattle.nc_base.specs.declared.step.RankItem.{RankItem}
 use Rattle.nc_base.specs.declared.step.RankItem.TheVariants as item
+use Rattle.serial_spec.specs.History.{is_offer}
 use Rattle.serial_spec.specs.Owner.{offers_in}
 use Rattle.serial_spec.specs.RankMachine as machine
 use Rattle.serial_spec.specs.RankSide.{end_by, offered, offered_by, rank_end, rank_stop, stop_by}
@@ -27,6 +29,7 @@ pub record IsAccounted (header : Header) (own : List Call) (put : List RankItem)
   pub ends : (later : List OwnerItem) → rank_end header (first_going header own) (taken ++ later) ≡ end_by header at later
   pub stops : (later : List OwnerItem) → rank_stop header (first_going header own) (taken ++ later) ≡ stop_by header at later
   pub one_each : length taken ≡ offers_in put
+  pub only_offers : list_all is_offer put ≡ true
 
 pub record HasFinished (header : Header) (own : List Call) (put : List RankItem) (taken : List OwnerItem) (end : RankEnd) : Type 0 where
   pub put_all : put ≡ offered header (first_going header own) taken
@@ -39,6 +42,7 @@ pub record HasBroken (header : Header) (own : List Call) (put : List RankItem) (
   pub sent : List RankItem
   pub unsent : List RankItem
   pub put_some : put ≡ sent ++ item.Ended true ∷ []
+  pub only_offers : list_all is_offer sent ≡ true
   pub begins : sent ++ unsent ≡ offered header (first_going header own) taken
   pub unanswered : List Answer
   pub answers : answered ++ unanswered ≡ (rank_end header (first_going header own) taken).answers
@@ -59,6 +63,7 @@ pub record IsThrough (header : Header) (own : List Call) (put : List RankItem) (
 
 -- the offers put and the answers that it has begin those by the items that it took
 pub record IsBroken (header : Header) (own : List Call) (put : List RankItem) (taken : List OwnerItem) (answered : List Answer) : Type 0 where
+  pub only_offers : list_all is_offer put ≡ true
   pub unsent : List RankItem
   pub begins : put ++ unsent ≡ offered header (first_going header own) taken
   pub unanswered : List Answer

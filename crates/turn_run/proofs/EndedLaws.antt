@@ -30,6 +30,7 @@ pub record Closing (header : Header) (ends : List RankEnd) (before : ServeEnd) (
   pub sound : end.fault ≡ None → is_sound (record header { records = records }) ≡ true
   pub answers : end.fault ≡ None → end.answers ≡ map (λ x. x.answers) ends
   pub pending : end.fault ≡ None → end.pending ≡ map (λ x. x.pending) ends
+  pub none_pending : (e : StepErr) → end.fault ≡ Some e → end.pending ≡ []
   pub first : (e : StepErr) → before.fault ≡ Some e → end.fault ≡ Some fault.Disk → e ≡ fault.Disk
   pub cause : before.fault ≡ None → end.fault ≡ Some fault.Disk → Rose faults failed
   pub later : faults ≤ failed

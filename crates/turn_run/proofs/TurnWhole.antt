@@ -66,12 +66,12 @@ err_there (Err x) e is = cc
 
 -- the run was stopped before its first step
 pub stopped_first : (script : Script) (header : Header) (held : Option (List ℕ)) (done : Option (List DiskCall)) (faults records : ℕ) (end : RunEnd) → is_lawful script ≡ true → records ≡ header.records
-    → end.order ≡ [] → end.fault ≡ Some fault.Memory → end.answers ≡ [] → IsRun script header (seen held done faults) (seen held done faults) records end
-stopped_first script header held done faults records end lawful count none memory empty =
+    → end.order ≡ [] → end.fault ≡ Some fault.Memory → end.answers ≡ [] → end.pending ≡ [] → IsRun script header (seen held done faults) (seen held done faults) records end
+stopped_first script header held done faults records end lawful count none memory empty none_pending =
     unbegun_run script header held done faults held done records end memory (subst (λ (ms : List Mark). HasBegun script ms) (sym none) (none_begun script)) (λ e is.
     let wanted = sym (same_cause fault.Memory e (sym memory ∙ is)) in
     cut_run script header e end.order held held records end.answers (no_rows script e end.answers wanted empty) (λ file there. no_answers script header e end.order file end.answers empty)
-    (stood_first script header e end.order held held records records lawful wanted none refl refl count))
+    (stood_first script header e end.order held held records records lawful wanted none refl refl count)) none_pending
 
 -- all ranks have made their calls
 pub record IsThrough (script : Script) (header : Header) (len : ℕ) (before order : List Mark) (held : Option (List ℕ)) (calls : Option (List DiskCall)) (records : ℕ) (first : List Runner)
@@ -197,6 +197,7 @@ module _ (script : Script) (header : Header) (len : ℕ) (before : List Mark) (s
     fault = λ disk. by_fault disk served.fault refl;
     later = le_two faults failed risen h.later c.later;
     cut = λ e is. cut_in_turn e now total end (cut e is);
+    none_pending = c.none_pending;
   }
     where
       serial : (file : List ℕ) → ended_from (setting_of script header) (counted file records, arrived_all header script.calls first) served.order ≡ serial_from script header file end.order

@@ -1,13 +1,13 @@
 -- What a run of all ranks tells, in turn or on threads. (own)
 --     IsRun script header old new count end
 --         The run found the disk as `old` has it, and left it as `new` has it, with the record count `count`. Without a fault its order is one of the
---         script's histories, and all the rest is that of the serial run along it. With one, the order begins as the ranks' calls do, and `cut` says
---         what is left.
+--         script's histories, and all the rest is that of the serial run along it. With one, the order begins as the ranks' calls do, `cut` says
+--         what is left, and no numbers of pending requests are told.
 --     RunsOn disk script header old now count end
 --         the same from a disk as it was to the disk as it is
 --     HasCut script header held left count end
 --         what a run with a fault leaves, where the bytes were told
-use Rattle.std.specs.Prelude.{◌≡◌, ℕ, ◌≤◌, List, true, IfSome, None, Option, Some}
+use Rattle.std.specs.Prelude.{◌≡◌, ℕ, ◌≤◌, List, [], true, IfSome, None, Option, Some}
 use Rattle.nc_base.specs.declared.header.Header.{Header}
 use Rattle.nc_base.specs.declared.run.RunEnd.{RunEnd}
 use Rattle.nc_base.specs.declared.script.Script.{Script}
@@ -40,6 +40,7 @@ pub record IsRun (script : Script) (header : Header) (old new : DiskSeen) (count
   pub fault : end.fault ≡ Some Disk → Rose old.faults new.faults
   pub later : old.faults ≤ new.faults
   pub cut : HasCut script header old.held new.held count end
+  pub none_pending : (e : StepErr) → end.fault ≡ Some e → end.pending ≡ []
 
 abbrev pub RunsOn : {D : Type 0} → DiskGhosts D → Script → Header → D → D → ℕ → RunEnd → Type 0
 RunsOn disk script header old now count end = IsRun script header (seen_on disk old) (seen_on disk now) count end

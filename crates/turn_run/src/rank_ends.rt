@@ -34,6 +34,7 @@ pub fn end_run<D: Disk>(
     ensures sound { result.fault ≡ None → is_sound (record header.now { records = records.new }) ≡ true }
     ensures answers { result.fault ≡ None → result.answers ≡ map (λ end. end.answers) ends.items }
     ensures pending { result.fault ≡ None → result.pending ≡ map (λ end. end.pending) ends.items }
+    ensures none_pending { (e : Fault) → result.fault ≡ Some e → result.pending ≡ [] }
     ensures first { (e : Fault) → served.fault ≡ Some e → result.fault ≡ Some fault.Disk → e ≡ fault.Disk }
     ensures broke { result.fault ≡ Some fault.Disk → NoneBroke ends.items }
     ensures kept { result.fault ≡ Some fault.Disk → result.answers ≡ map (λ end. end.answers) ends.items }
@@ -133,6 +134,7 @@ fn ended(alloc: Global, order: MarkList, ends: Vec<RankEnd>) -> RunEnd
     ensures pending { result.fault ≡ None → result.pending ≡ map (λ end. end.pending) ends.items }
     ensures memory { result.fault ≡ Some fault.Disk → ⊥ }
     ensures none { (e : Fault) → result.fault ≡ Some e → result.answers ≡ [] }
+    ensures none_pending { (e : Fault) → result.fault ≡ Some e → result.pending ≡ [] }
 {
     let pending = match pending_of(alloc, &ends) {
         Ok(pending) => pending,
@@ -155,13 +157,15 @@ fn cut_off(alloc: Global, order: MarkList, ends: Vec<RankEnd>, cause: StepErr) -
     ensures some { result.fault ≡ None → ⊥ }
     ensures fault { (e : Fault) → result.fault ≡ Some e → (e ≡ cause) ⊎ (e ≡ fault.Memory) }
     ensures rows { (result.answers ≡ map (λ end. end.answers) ends.items) ⊎ (result.answers ≡ []) }
+    ensures none_pending { result.pending ≡ [] }
     ensures disk { result.fault ≡ Some fault.Disk → (cause ≡ fault.Disk) × (result.answers ≡ map (λ end. end.answers) ends.items) }
 {
+    let pending = SizeList::new(alloc);
     match answers_of(alloc, ends) {
         Ok(answers) => RunEnd {
             order,
             answers,
-            pending: SizeList::new(alloc),
+            pending,
             fault: Some(cause),
         },
         Err(_) => stopped(alloc, order, StepErr::Memory),
@@ -173,6 +177,7 @@ pub fn stopped(alloc: Global, order: MarkList, fault: StepErr) -> RunEnd
     ensures order { result.order ≡ order }
     ensures fault { result.fault ≡ Some fault }
     ensures answers { result.answers ≡ [] }
+    ensures none_pending { result.pending ≡ [] }
 {
     RunEnd {
         order,

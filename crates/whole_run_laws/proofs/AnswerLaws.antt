@@ -32,7 +32,8 @@ use Rattle.run_laws.proofs.OrderLaws.{state_more}
 use Rattle.join_laws.proofs.RankLaws.{hear_length}
 use Rattle.join_laws.proofs.WholeLaws.{get_map as mapped_from}
 use Rattle.whole_run_laws.specs.Told.{IsToldAt, meeting_call, told_at}
-use Rattle.whole_run_laws.proofs.Courses.{AreOn, first_on, goes_number, heard_by, hears_then, meets, meets_number, met_on, set_cases, solo_on, steps}
+use Rattle.owner_laws.proofs.HeldClients.{set_cases}
+use Rattle.whole_run_laws.proofs.Courses.{AreOn, first_on, goes_number, heard_by, hears_then, meets, meets_number, met_on, solo_on, steps}
 use Rattle.whole_run_laws.proofs.ToldLaws.{answers_after, answers_of, IsLastTold, known_mark, meeting_told, solo_told}
 use Rattle.whole_run_laws.proofs.AnswersStay.{answers_stay}
 

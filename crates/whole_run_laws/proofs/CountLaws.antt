@@ -28,7 +28,8 @@ use Rattle.join_laws.proofs.RankLaws.{go_went, hear_known, Went}
 use Rattle.join_laws.proofs.StepLaws.{meeting_within}
 use Rattle.join_laws.proofs.WholeLaws.{get_map as mapped_from}
 use Rattle.whole_run_laws.specs.Completed.{completed, completed_from, completed_puts, puts_asked, puts_at, puts_met, unless_told}
-use Rattle.whole_run_laws.proofs.Courses.{AreAlong, AreOn, first_along, Heard, heard_by, hears_then, mark_along, meets, offer_met, offers_met_long, set_cases, Stepped, steps}
+use Rattle.owner_laws.proofs.HeldClients.{set_cases}
+use Rattle.whole_run_laws.proofs.Courses.{AreAlong, AreOn, first_along, Heard, heard_by, hears_then, mark_along, meets, offer_met, offers_met_long, Stepped, steps}
 use Rattle.list_laws.proofs.Numbers.{same_le}
 use Rattle.serial_spec.proofs.CountLaws.{greatest_joined, raised_records}
 

@@ -23,6 +23,7 @@ use Rattle.serial_spec.specs.History.{concerns, is_of_rank_below, IsLegal, kinds
 use Rattle.serial_spec.specs.Lawful.{is_lawful}
 use Rattle.serial_spec.specs.FileStep.{Counted, Setting, meeting, solo}
 use Rattle.serial_spec.specs.SerialEnd.{Going, advance, after_mark, after_meeting, after_solo, first_going, hears, offers_of}
+use Rattle.owner_laws.proofs.HeldClients.{set_cases}
 use Rattle.run_laws.specs.Ways.{kinds_of}
 use Rattle.run_laws.proofs.LawfulLaws.{own_lawful, ranks_lawful}
 use Rattle.run_laws.proofs.StandingLaws.{solo_goes}
@@ -266,18 +267,6 @@ met_on s c ranks k j ks rest goings on = record {
 }
 
 -- ---- after a step of one rank
-
-pub set_cases : {X : Type 0} (xs : List X) (r q : ℕ) (x y : X) → slice_get (set xs r x) q ≡ Some y → ((q ≡ r) × (y ≡ x)) ⊎ (((r == q) ≡ false) × (slice_get xs q ≡ Some y))
-set_cases {X} xs r q x y e = by (eqb_tells r q)
-  where
-    by : (((r == q) ≡ true) × (r ≡ q)) ⊎ (((r == q) ≡ false) × (r ≡ q → ⊥)) → ((q ≡ r) × (y ≡ x)) ⊎ (((r == q) ≡ false) × (slice_get xs q ≡ Some y))
-    by (inl (f, g)) =
-        let there : slice_get (set xs r x) r ≡ Some y = ap (λ (k : ℕ). slice_get (set xs r x) k) g ∙ e in
-        let long = length-set xs r x in
-        let below = slice_get_within (set xs r x) r y there in
-        let was = entry_below xs r (omega arith) in
-        inl (sym g, same_Some y x (sym there ∙ entry_set xs r was.0 x was.1))
-    by (inr (f, n)) = inr (f, sym (entry_set_other xs r q x (λ g. n (sym g))) ∙ e)
 
 -- the rank's step
 pub record Stepped (s : Setting) (r : ℕ) (c : Counted) (goings : List Going) (k : ℕ) (ks : List MeetKind) (rest : List Mark) : Type 0 where

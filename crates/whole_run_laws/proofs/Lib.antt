@@ -9,8 +9,6 @@ mod AnswersStay
 mod FilledFile
 mod FilledRecord
 mod FillCalls
-mod HeldClients
-mod StrangerLaws
 mod PastLaws
 mod FieldLaws
 mod AnswerLaws

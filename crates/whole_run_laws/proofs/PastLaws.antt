@@ -44,7 +44,8 @@ use Rattle.join_laws.proofs.GoodLaws.{Fit, good_first, heard_fits, most_posts_he
 use Rattle.join_laws.proofs.CountLaws.{passes_accepted as accepted}
 use Rattle.join_laws.proofs.WholeLaws.{get_map as mapped_from}
 use Rattle.whole_run_laws.specs.Completed.{completed, completed_from, completed_puts, IsBesideCount, is_held, puts_asked, puts_at, puts_met, unless_told}
-use Rattle.whole_run_laws.proofs.Courses.{AreAlong, first_along, heard_by, mark_along, meets, offer_met, offers_met_long, set_cases, steps}
+use Rattle.owner_laws.proofs.HeldClients.{set_cases}
+use Rattle.whole_run_laws.proofs.Courses.{AreAlong, first_along, heard_by, mark_along, meets, offer_met, offers_met_long, steps}
 use Rattle.whole_run_laws.proofs.KeptLaws.{end_kept}
 
 -- ---- an accepted put

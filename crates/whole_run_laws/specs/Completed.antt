@@ -13,16 +13,13 @@ use Rattle.nc_base.specs.declared.script.Script.{Script}
 use Rattle.nc_base.specs.declared.step.Mark.{Mark}
 use Rattle.nc_base.specs.declared.step.Mark.TheVariants.{Meet, Solo}
 use Rattle.nc_base.specs.declared.step.Offer.{Offer}
+pub use Rattle.owner_laws.specs.Strangers.{puts_met}
 use Rattle.serial_spec.specs.HeaderBytes.{count_width}
 use Rattle.serial_spec.specs.SharedByte.{Puts, covered}
 use Rattle.serial_spec.specs.FileStep.{Setting, Counted, puts_of, told}
 use Rattle.serial_spec.specs.SerialEnd.{Going, advance, after_mark, first_state, offers_of, rank_offer, setting_of}
 
 -- ---- the puts of a step
-
--- those of all ranks, in rank order
-abbrev pub puts_met : List Offer → Puts
-puts_met offers = flat_map puts_of (enumerate_from 0 offers)
 
 -- those of one rank
 abbrev pub puts_asked : ℕ → Option Offer → Puts

@@ -3,4 +3,3 @@ pub mod Orders
 pub mod Transfers
 pub mod Told
 pub mod Filling
-pub mod Strangers

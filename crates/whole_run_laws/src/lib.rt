@@ -6,5 +6,4 @@ pub mod counts;
 pub mod fills;
 pub mod orders;
 pub mod overlaps;
-pub mod strangers;
 pub mod transfers;

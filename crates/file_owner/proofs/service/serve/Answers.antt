@@ -1,8 +1,10 @@
 -- What the ends tell, from where it stopped and what came after.
-use Rattle.std.proofs.Common.{◌≡◌, ℕ, sym, ◌∙◌, subst, rules}
+use Rattle.std.proofs.Common.{◌≡◌, ℕ, sym, ◌∙◌, subst, rules, []}
 use Rattle.nc_outside.specs.Cause.{Rose}
-use Rattle.collective_round.specs.Rounds.{setting}
+use Rattle.collective_round.specs.Rounds.{counted, setting}
 use Rattle.turn_run.specs.Counts.{IsCount}
+use Rattle.file_owner.specs.Service.{arrived}
+use Rattle.owner_laws.proofs.ServedLaws.{cut_by_arrivals, done_by_arrivals}
 use Rattle.file_owner.proofs.EndLaws.{outcome_given}
 use Rattle.file_owner.proofs.HaltedLaws.{end_bytes, end_calls, end_cut, end_done, end_failed, end_put, end_taken, end_told}
 use Rattle.file_owner.proofs.service.serve.Goals as goal
@@ -55,6 +57,12 @@ returns-clause-done g c =
     (outcome_given g.D.Disk g.T.Told _ _ _ _ _ _ c.serve_to_end-order.new.out _ _ c.disk-1.given.0 c.records-1.given.0 c.told-1.given.0 c.back-1.given.0 disk records told back c.serve_to_end-order.ensures.outcome.1)
     c.args.header.now.records c.requires.records c.requires.lines c.fault_of.result c.stranger_of.result c.fault_of.ensures c.stranger_of.ensures
 
+pub returns-clause-done_by_arrivals : goal.returns-clause-done_by_arrivals
+returns-clause-done_by_arrivals g c = λ none.
+    let done = returns-clause-done g c none [] in
+    done_by_arrivals (setting c.args.header.now c.args.hints.now) c.args.inbox.now.senders (counted [] c.args.header.now.records) (arrived c.args.inbox.now c.serve_to_end-order.new.inbox) _ _
+    (returns-clause-taken g c).numbers done.order done.stranger
+
 pub returns-clause-bytes : goal.returns-clause-bytes
 returns-clause-bytes g c =
     let disk : c.disk-1.given.0 ≡ c.serve_to_end-order.new.out.disk.now = search rules in
@@ -87,6 +95,13 @@ returns-clause-failed g c = λ e.
     c.records-1.given.0 (g.D.Disk.held c.disk-1.given.0) (g.D.Disk.calls c.disk-1.given.0) c.serve_to_end-order.result.0 (g.T.Told.heard c.told-1.given.0) c.back-1.given.0 c.serve_to_end-order.result.1
     (outcome_given g.D.Disk g.T.Told _ _ _ _ _ _ c.serve_to_end-order.new.out _ _ c.disk-1.given.0 c.records-1.given.0 c.told-1.given.0 c.back-1.given.0 disk records told back c.serve_to_end-order.ensures.outcome.1)
     c.args.header.now.records c.requires.records c.requires.lines c.fault_of.result c.stranger_of.result e c.fault_of.ensures c.stranger_of.ensures
+
+pub returns-clause-cut_by_arrivals : goal.returns-clause-cut_by_arrivals
+returns-clause-cut_by_arrivals g c = λ e is.
+    let failed = returns-clause-failed g c e is in
+    let cut = failed.cut_off [] in
+    cut_by_arrivals (setting c.args.header.now c.args.hints.now) c.args.inbox.now.senders (counted [] c.args.header.now.records) (arrived c.args.inbox.now c.serve_to_end-order.new.inbox)
+    failed.first failed.later _ (returns-clause-taken g c).numbers failed.all cut.none_strange cut.order
 
 pub returns-clause-cut : goal.returns-clause-cut
 returns-clause-cut g c = λ e.

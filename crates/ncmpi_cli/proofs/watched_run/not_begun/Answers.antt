@@ -22,4 +22,4 @@ returns-clause-run g c =
     let memory = sym (same_cause fault.Memory e (sym c.stopped.ensures.fault ∙ is)) in
     cut_run script header e end.order held held count end.answers (no_rows script e end.answers memory c.stopped.ensures.answers)
     (λ file there. no_answers script header e end.order file end.answers c.stopped.ensures.answers)
-    (stood_first script header e end.order held held count count c.requires.lawful memory none refl refl c.requires.records))
+    (stood_first script header e end.order held held count count c.requires.lawful memory none refl refl c.requires.records)) c.stopped.ensures.none_pending

@@ -7,7 +7,7 @@ use Rattle.serial_spec.specs.DeviceCalls.{Slab}
 use Rattle.overlay_laws.specs.Entries.{In}
 use Rattle.redef_mover.specs.declared.slabs.Shift.{Shift}
 use Rattle.redef_mover.specs.Kept.{IsUnmoved}
-use Rattle.redef_mover.specs.Moves.{moving_calls, all_moved, further, listed, slab_of}
+use Rattle.redef_mover.specs.Moves.{all_calls, all_moved, further, listed, slab_of}
 use Rattle.redef_mover.proofs.KeptLaws.{kept_more, kept_still, unmoved_of}
 use Rattle.redef_mover.proofs.MovesLaws.{below, fixed_last, fixed_listed, last_called, last_moved, left_called, left_moved, record_first, record_listed}
 use Rattle.redef_mover.proofs.moving.move_all.Goals as goal
@@ -62,7 +62,7 @@ loop-record-preserved g c =
           (g.D.Disk.held c.loop-record.disk) (g.D.Disk.held c.move_slabs.new.disk)
           (reverse (rest c.deref.result.now c.times.result.old c.times.result.new)) (below c.args.slabs.now (c.loop-record.record - 1)) (below c.args.slabs.now c.loop-record.record)
           first c.loop-record.invariant.bytes c.in_ok-move_slabs.ensures.bytes;
-      calls = left_called (with_end (g.D.Disk.calls c.args.disk.now) (moving_calls c.args.size (reverse (listed c.args.slabs.now))))
+      calls = left_called (with_end (g.D.Disk.calls c.args.disk.now) (all_calls c.args.size (reverse (listed c.args.slabs.now))))
           (g.D.Disk.calls c.loop-record.disk) (g.D.Disk.calls c.move_slabs.new.disk) c.args.size
           (reverse (rest c.deref.result.now c.times.result.old c.times.result.new)) (below c.args.slabs.now (c.loop-record.record - 1)) (below c.args.slabs.now c.loop-record.record)
           first c.loop-record.invariant.calls c.in_ok-move_slabs.ensures.calls;
@@ -89,7 +89,7 @@ returns-clause-calls g c =
     let end : c.loop-record.record ≡ 0 = omega arith in
     let last = fixed_last c.args.slabs.now c.loop-record.record 0 0 end refl refl ∙ ap (λ (ss : List Shift). reverse (rest ss 0 0)) (sym c.deref-2.ensures.value) in
     on_ok_weaker c.move_slabs-2.result
-    (last_called (with_end (g.D.Disk.calls c.args.disk.now) (moving_calls c.args.size (reverse (listed c.args.slabs.now)))) (g.D.Disk.calls c.loop-record.disk)
+    (last_called (with_end (g.D.Disk.calls c.args.disk.now) (all_calls c.args.size (reverse (listed c.args.slabs.now)))) (g.D.Disk.calls c.loop-record.disk)
     (g.D.Disk.calls c.move_slabs-2.new.disk) c.args.size (reverse (rest c.deref-2.result.now 0 0)) (below c.args.slabs.now c.loop-record.record) last c.loop-record.invariant.calls)
     c.move_slabs-2.ensures.calls
 

@@ -3,7 +3,7 @@ use Rattle.std.proofs.Common.{◌≡◌, ◌≤◌}
 use Rattle.std.specs.Prelude.{reverse}
 use Rattle.nc_outside.specs.Told.{after, with_end, BothTold}
 use Rattle.redef_mover.specs.Kept.{IsKept, IsUnmoved}
-use Rattle.redef_mover.specs.Moves.{moving_calls, all_moved, listed}
+use Rattle.redef_mover.specs.Moves.{all_calls, all_moved, listed}
 use Rattle.redef_mover.proofs.MovesLaws.{below}
 use Rattle.redef_mover.proofs.moving.move_all.Given as goal
 
@@ -12,7 +12,7 @@ invariant-loop-record g l = record {
   from : g.D.Disk.from l.disk ≡ 0;
   len : g.D.Disk.len l.disk ≡ g.D.Disk.len l.initial.disk;
   bytes : after (λ file. all_moved file (below l.slabs l.record)) (g.D.Disk.held l.disk) ≡ after (λ file. all_moved file (reverse (listed l.slabs))) (g.D.Disk.held l.initial.disk);
-  calls : with_end (g.D.Disk.calls l.disk) (moving_calls l.size (below l.slabs l.record)) ≡ with_end (g.D.Disk.calls l.initial.disk) (moving_calls l.size (reverse (listed l.slabs)));
+  calls : with_end (g.D.Disk.calls l.disk) (all_calls l.size (below l.slabs l.record)) ≡ with_end (g.D.Disk.calls l.initial.disk) (all_calls l.size (reverse (listed l.slabs)));
   kept : BothTold (IsKept (IsUnmoved (listed l.slabs))) (g.D.Disk.held l.initial.disk) (g.D.Disk.held l.disk);
   faults : g.D.Disk.faults l.initial.disk ≤ g.D.Disk.faults l.disk;
 }

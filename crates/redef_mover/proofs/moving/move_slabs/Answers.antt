@@ -7,7 +7,7 @@ use Rattle.serial_spec.specs.DeviceCalls.{Slab}
 use Rattle.overlay_laws.specs.Entries.{In}
 use Rattle.redef_mover.specs.declared.slabs.Shift.{Shift}
 use Rattle.redef_mover.specs.Kept.{IsUnmoved}
-use Rattle.redef_mover.specs.Moves.{moving_calls, all_moved, further, slab_of, IsMovable}
+use Rattle.redef_mover.specs.Moves.{all_calls, all_moved, further, slab_of, IsMovable}
 use Rattle.redef_mover.proofs.KeptLaws.{kept_more, kept_still, unmoved_one}
 use Rattle.redef_mover.proofs.MovesLaws.{in_record, left_called, left_moved, none_left, none_uncalled, slab_first}
 use Rattle.redef_mover.proofs.moving.move_slabs.Goals as goal
@@ -22,7 +22,7 @@ loop-k-init g c =
       from = c.requires.from;
       len = refl;
       bytes = ap (λ (ss : List Shift). after (λ file. all_moved file (reverse (map (further c.args.offset.old c.args.offset.new) (map slab_of ss)))) (g.D.Disk.held c.args.disk.now)) all;
-      calls = ap (λ (ss : List Shift). with_end (g.D.Disk.calls c.args.disk.now) (moving_calls c.args.size (reverse (map (further c.args.offset.old c.args.offset.new) (map slab_of ss))))) all;
+      calls = ap (λ (ss : List Shift). with_end (g.D.Disk.calls c.args.disk.now) (all_calls c.args.size (reverse (map (further c.args.offset.old c.args.offset.new) (map slab_of ss))))) all;
       kept = kept_still (IsUnmoved (map (further c.args.offset.old c.args.offset.new) (map slab_of c.args.slabs.now))) (g.D.Disk.held c.args.disk.now);
       faults = omega arith;
     }
@@ -75,7 +75,7 @@ loop-k-preserved g c =
           (reverse (map (further c.args.offset.old c.args.offset.new) (map slab_of (take c.loop-k.k c.args.slabs.now))))
           first c.loop-k.invariant.bytes c.in_ok-move_changed.ensures.bytes;
       calls = left_called
-          (with_end (g.D.Disk.calls c.args.disk.now) (moving_calls c.args.size (reverse (map (further c.args.offset.old c.args.offset.new) (map slab_of c.args.slabs.now)))))
+          (with_end (g.D.Disk.calls c.args.disk.now) (all_calls c.args.size (reverse (map (further c.args.offset.old c.args.offset.new) (map slab_of c.args.slabs.now)))))
           (g.D.Disk.calls c.loop-k.disk) (g.D.Disk.calls c.move_changed.new.disk) c.args.size (slab_of c.further.result ∷ [])
           (reverse (map (further c.args.offset.old c.args.offset.new) (map slab_of (take (c.loop-k.k - 1) c.args.slabs.now))))
           (reverse (map (further c.args.offset.old c.args.offset.new) (map slab_of (take c.loop-k.k c.args.slabs.now))))
@@ -97,7 +97,7 @@ returns-clause-bytes g c =
 pub returns-clause-calls : goal.returns-clause-calls
 returns-clause-calls g c =
     let end : c.loop-k.k ≡ 0 = omega arith in
-    none_uncalled (with_end (g.D.Disk.calls c.args.disk.now) (moving_calls c.args.size (reverse (map (further c.args.offset.old c.args.offset.new) (map slab_of c.args.slabs.now)))))
+    none_uncalled (with_end (g.D.Disk.calls c.args.disk.now) (all_calls c.args.size (reverse (map (further c.args.offset.old c.args.offset.new) (map slab_of c.args.slabs.now)))))
     (g.D.Disk.calls c.loop-k.disk) c.args.size (reverse (map (further c.args.offset.old c.args.offset.new) (map slab_of (take c.loop-k.k c.args.slabs.now))))
     (ap (λ (n : ℕ). reverse (map (further c.args.offset.old c.args.offset.new) (map slab_of (take n c.args.slabs.now)))) end) c.loop-k.invariant.calls
 

@@ -3,7 +3,7 @@ use Rattle.std.proofs.Common.{◌≡◌, ◌≤◌, map, take}
 use Rattle.std.specs.Prelude.{reverse}
 use Rattle.nc_outside.specs.Told.{after, with_end, BothTold}
 use Rattle.redef_mover.specs.Kept.{IsKept, IsUnmoved}
-use Rattle.redef_mover.specs.Moves.{moving_calls, all_moved, further, slab_of}
+use Rattle.redef_mover.specs.Moves.{all_calls, all_moved, further, slab_of}
 use Rattle.redef_mover.proofs.moving.move_slabs.Given as goal
 
 abbrev pub invariant-loop-k : goal.invariant-loop-k
@@ -12,8 +12,8 @@ invariant-loop-k g l = record {
   len : g.D.Disk.len l.disk ≡ g.D.Disk.len l.initial.disk;
   bytes : after (λ file. all_moved file (reverse (map (further l.offset.old l.offset.new) (map slab_of (take l.k l.slabs))))) (g.D.Disk.held l.disk)
       ≡ after (λ file. all_moved file (reverse (map (further l.offset.old l.offset.new) (map slab_of l.slabs)))) (g.D.Disk.held l.initial.disk);
-  calls : with_end (g.D.Disk.calls l.disk) (moving_calls l.size (reverse (map (further l.offset.old l.offset.new) (map slab_of (take l.k l.slabs)))))
-      ≡ with_end (g.D.Disk.calls l.initial.disk) (moving_calls l.size (reverse (map (further l.offset.old l.offset.new) (map slab_of l.slabs))));
+  calls : with_end (g.D.Disk.calls l.disk) (all_calls l.size (reverse (map (further l.offset.old l.offset.new) (map slab_of (take l.k l.slabs)))))
+      ≡ with_end (g.D.Disk.calls l.initial.disk) (all_calls l.size (reverse (map (further l.offset.old l.offset.new) (map slab_of l.slabs))));
   kept : BothTold (IsKept (IsUnmoved (map (further l.offset.old l.offset.new) (map slab_of l.slabs)))) (g.D.Disk.held l.initial.disk) (g.D.Disk.held l.disk);
   faults : g.D.Disk.faults l.initial.disk ≤ g.D.Disk.faults l.disk;
 }

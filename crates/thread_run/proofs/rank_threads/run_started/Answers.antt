@@ -92,6 +92,7 @@ returns-clause-run g c =
       sound = c.end_run.ensures.sound;
       answers = c.end_run.ensures.answers;
       pending = c.end_run.ensures.pending;
+      none_pending = c.end_run.ensures.none_pending;
       first = c.end_run.ensures.first;
       cause = c.end_run.ensures.cause;
       later = c.end_run.ensures.later;

@@ -22,21 +22,21 @@ pub returns-in-Err-clause-run : goal.returns-in-Err-clause-run
 returns-in-Err-clause-run g c =
     let disk = c.args.disk.now in
     stopped_first c.args.script.now c.args.header.now (g.D.Disk.held disk) (g.D.Disk.calls disk) (g.D.Disk.faults disk) c.args.records.now c.stopped.result c.requires.lawful c.requires.records
-    (c.stopped.ensures.order ∙ c.new-order.ensures) c.stopped.ensures.fault c.stopped.ensures.answers
+    (c.stopped.ensures.order ∙ c.new-order.ensures) c.stopped.ensures.fault c.stopped.ensures.answers c.stopped.ensures.none_pending
 
 pub returns-in-Err-runners_of-clause-run : goal.returns-in-Err-runners_of-clause-run
 returns-in-Err-runners_of-clause-run g c =
     let disk = c.args.disk.now in
     let end = c.stopped-in-Err-runners_of in
     stopped_first c.args.script.now c.args.header.now (g.D.Disk.held disk) (g.D.Disk.calls disk) (g.D.Disk.faults disk) c.args.records.now end.result c.requires.lawful c.requires.records
-    (end.ensures.order ∙ c.new-order.ensures) end.ensures.fault end.ensures.answers
+    (end.ensures.order ∙ c.new-order.ensures) end.ensures.fault end.ensures.answers end.ensures.none_pending
 
 pub returns-in-Err-with_capacity-clause-run : goal.returns-in-Err-with_capacity-clause-run
 returns-in-Err-with_capacity-clause-run g c =
     let disk = c.args.disk.now in
     let end = c.stopped-in-Err-with_capacity in
     stopped_first c.args.script.now c.args.header.now (g.D.Disk.held disk) (g.D.Disk.calls disk) (g.D.Disk.faults disk) c.args.records.now end.result c.requires.lawful c.requires.records
-    (end.ensures.order ∙ c.new-order.ensures) end.ensures.fault end.ensures.answers
+    (end.ensures.order ∙ c.new-order.ensures) end.ensures.fault end.ensures.answers end.ensures.none_pending
 
 pub returns-in-Err-clause-told : goal.returns-in-Err-clause-told
 returns-in-Err-clause-told g c =
@@ -121,6 +121,7 @@ returns-clause-run g c =
       sound = end.ensures.sound;
       answers = end.ensures.answers;
       pending = end.ensures.pending;
+      none_pending = end.ensures.none_pending;
       first = end.ensures.first;
       cause = end.ensures.cause;
       later = end.ensures.later;

@@ -6,8 +6,9 @@
 --     puts_brought ranks before a           the puts of the step that the arrival brings
 --     is_strange_after s ranks reached before a     the arrival is strange
 --     first_stranger s ranks opening arrivals       the number of the first strange arrival
-use Rattle.std.specs.Prelude.{ℕ, max, List, [], ◌∷◌, ◌++◌, filter, filter_map, length, Bool, true, false, ◌&&◌, nat_lt, if◌then◌else◌, Option, Some, None, is_some, option_map, option_and_then}
-use Rattle.std.specs.List.{list_any, range_with_len}
+--     before_stranger s ranks opening arrivals      the arrivals before it, or all where none is strange
+use Rattle.std.specs.Prelude.{ℕ, max, List, [], ◌∷◌, ◌++◌, filter, filter_map, flat_map, length, Bool, true, false, ◌&&◌, nat_lt, if◌then◌else◌, Option, Some, None, is_some, option_map, option_and_then}
+use Rattle.std.specs.List.{enumerate_from, list_any, range_with_len}
 use Rattle.std.specs.Option.{option_or}
 use Rattle.nc_base.specs.declared.step.MeetKind.{MeetKind}
 use Rattle.nc_base.specs.declared.step.Offer.{Offer}
@@ -17,7 +18,6 @@ use Rattle.serial_spec.specs.Owner.{differs, left_by, needed_now, some_true, str
 use Rattle.serial_spec.specs.FileStep.{puts_of, Setting}
 use Rattle.serial_spec.specs.History.{Arrival, is_from, is_offer, kind_of_meeting, meeting_kind, offer_of}
 use Rattle.serial_spec.specs.SharedByte.{Puts}
-use Rattle.whole_run_laws.specs.Completed.{puts_met}
 
 -- what the items of number q bring, in order
 abbrev pub brought : {A : Type 0} → (RankItem → Option A) → ℕ → List Arrival → List A
@@ -62,6 +62,10 @@ has_left ranks arrivals q = left_by (waiting ranks arrivals q) (last (ends q arr
 
 -- ---- steps
 
+-- the puts of all ranks, in rank order
+abbrev pub puts_met : List Offer → Puts
+puts_met offers = flat_map puts_of (enumerate_from 0 offers)
+
 -- the puts of the last meeting, if no number waits for it
 abbrev pub puts_complete : ℕ → List Arrival → Puts
 puts_complete ranks arrivals =
@@ -103,3 +107,14 @@ first_stranger_from s ranks reached before (a ∷ arrivals) =
 
 abbrev pub first_stranger : Setting → ℕ → ℕ → List Arrival → Option ℕ
 first_stranger s ranks opening arrivals = first_stranger_from s ranks opening [] arrivals
+
+abbrev pub before_stranger_from : Setting → ℕ → ℕ → List Arrival → List Arrival → List Arrival
+before_stranger_from s ranks reached before [] = []
+before_stranger_from s ranks reached before (a ∷ arrivals) =
+    elim (is_strange_after s ranks reached before a) [
+      | true ↦ []
+      | false ↦ a ∷ before_stranger_from s ranks (max reached (needed_now s (puts_brought ranks before a))) (before ++ a ∷ []) arrivals
+    ]
+
+abbrev pub before_stranger : Setting → ℕ → ℕ → List Arrival → List Arrival
+before_stranger s ranks opening arrivals = before_stranger_from s ranks opening [] arrivals

@@ -1,6 +1,6 @@
 -- What the owner holds of each number is what the arrivals tell.
 use Rattle.std.proofs.Common.{◌≡◌, ℕ, zero, suc, ◌+◌, ◌<◌, ◌≤◌, refl, sym, ◌∙◌, ap, inl, inr, ◌⊎◌, List, [], ◌∷◌, ◌++◌, length, set, max, Bool, true, false, cond, ◌&&◌, ◌||◌, Option, Some, None, arith}
-use Rattle.std.proofs.lemmas.List.{append-nil}
+use Rattle.std.proofs.lemmas.List.{append-nil, length-set}
 use Rattle.std.proofs.lemmas.List.Elements.{filter-append, filter_map-append}
 use Rattle.std.proofs.lemmas.Bool.{ne_eqb}
 use Rattle.std.proofs.lemmas.Bool.Decides.{eqb_tells, nat_tests}
@@ -18,9 +18,22 @@ use Rattle.serial_spec.specs.Owner as owner
 use Rattle.serial_spec.specs.FileStep.{Setting}
 use Rattle.serial_spec.specs.History.{Arrival, is_from, kind_of_meeting}
 use Rattle.serial_spec.specs.SharedByte.{Puts}
-use Rattle.whole_run_laws.specs.Strangers.{are_left_behind, brought, ends, has_fewer, has_left, kind_waiting, last, meeting_offers, puts_brought, waiting, waits}
+use Rattle.owner_laws.specs.Strangers.{are_left_behind, brought, ends, has_fewer, has_left, kind_waiting, last, meeting_offers, puts_brought, waiting, waits}
 use Rattle.serial_spec.proofs.CountLaws.{no_need}
 use Rattle.list_laws.proofs.Optional.{none_last}
+
+-- an entry of a list in which one was set: it is that one, or as before
+pub set_cases : {X : Type 0} (xs : List X) (r q : ℕ) (x y : X) → slice_get (set xs r x) q ≡ Some y → ((q ≡ r) × (y ≡ x)) ⊎ (((r == q) ≡ false) × (slice_get xs q ≡ Some y))
+set_cases {X} xs r q x y e = by (eqb_tells r q)
+  where
+    by : (((r == q) ≡ true) × (r ≡ q)) ⊎ (((r == q) ≡ false) × (r ≡ q → ⊥)) → ((q ≡ r) × (y ≡ x)) ⊎ (((r == q) ≡ false) × (slice_get xs q ≡ Some y))
+    by (inl (f, g)) =
+        let there : slice_get (set xs r x) r ≡ Some y = ap (λ (k : ℕ). slice_get (set xs r x) k) g ∙ e in
+        let long = length-set xs r x in
+        let below = slice_get_within (set xs r x) r y there in
+        let was = entry_below xs r (omega arith) in
+        inl (sym g, same_Some y x (sym there ∙ entry_set xs r was.0 x was.1))
+    by (inr (f, n)) = inr (f, sym (entry_set_other xs r q x (λ g. n (sym g))) ∙ e)
 
 -- ---- what numbers brought, with one arrival more
 

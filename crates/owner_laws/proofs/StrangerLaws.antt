@@ -1,35 +1,26 @@
 -- The owner finds the arrivals strange that are.
-use Rattle.std.proofs.Common.{◌≡◌, ℕ, suc, ◌+◌, ◌<◌, refl, sym, ◌∙◌, ap, subst, inl, inr, ◌⊎◌, List, [], ◌∷◌, ◌++◌, length, set, replicate, max, Bool, true, false, cond, ◌&&◌, Option, Some, None, arith}
-use Rattle.std.proofs.lemmas.List.{length-append, length-map, length-set, length-replicate}
+use Rattle.std.proofs.Common.{◌≡◌, ℕ, suc, ◌+◌, refl, sym, ◌∙◌, ap, subst, inl, inr, ◌⊎◌, List, [], ◌∷◌, ◌++◌, length, set, max, Bool, true, false, cond, ◌&&◌, Option, Some, None, arith}
+use Rattle.std.proofs.lemmas.List.{length-append, length-map, length-set}
 use Rattle.std.proofs.lemmas.Bool.{eqb-false}
 use Rattle.std.specs.Option.{option_map}
-use Rattle.std.specs.Prelude.{slice_get, filter_map, nat_lt, ◌==◌, is_some}
+use Rattle.std.specs.Prelude.{slice_get, filter_map, ◌==◌, is_some}
 use Rattle.std.specs.List.{list_all, list_any, range_with_len}
-use borrow.Author.Tests.{ltb-true}
-use Rattle.list_laws.proofs.Places.{entry_below, entry_set}
-use Rattle.list_laws.proofs.Truth.{and_first, and_second}
-use Rattle.nc_base.specs.declared.header.Header.{Header}
-use Rattle.nc_base.specs.declared.script.Script.{Script}
+use Rattle.list_laws.proofs.Places.{entry_set}
 use Rattle.nc_base.specs.declared.step.MeetKind.{MeetKind}
 use Rattle.nc_base.specs.declared.step.Offer.{Offer}
 use Rattle.nc_base.specs.declared.step.OfferKind.{OfferKind}
 use Rattle.nc_base.specs.declared.step.OfferKind.TheVariants as offer
 use Rattle.nc_base.specs.declared.step.RankItem.{RankItem}
 use Rattle.nc_base.specs.declared.step.RankItem.TheVariants as item
-use Rattle.serial_spec.specs.Owner.{at_item, at_offer, Owner, differs, event, Event, first_owner, free_client, freed, has_ended, has_held, holds, is_strange, kind_held, left_behind, meets_if, needed_now, offers_held, Client, served, some_true, strange_offer}
-use Rattle.serial_spec.specs.FileStep.{Counted, puts_of, Setting}
+use Rattle.serial_spec.specs.Owner.{at_item, at_offer, Owner, differs, event, Event, freed, has_ended, has_held, holds, is_strange, kind_held, left_behind, meets_if, needed_now, offers_held, Client, some_true, strange_offer}
+use Rattle.serial_spec.specs.FileStep.{puts_of, Setting}
 use Rattle.serial_spec.specs.History.{Arrival, is_offer, kind_of_meeting, meeting_kind, offer_of}
-use Rattle.serial_spec.specs.Joined.{run_of}
-use Rattle.serial_spec.specs.SerialEnd.{setting_of}
 use Rattle.serial_spec.specs.SharedByte.{Puts}
-use Rattle.join_laws.proofs.JoinLaws.{served_on, stranger_on}
 use Rattle.join_laws.proofs.StrangeLaws.{event_is, strange_alone, freed_none as none_hold}
-use Rattle.join_laws.proofs.WholeLaws.{get_replicate, get_map as mapped_from}
+use Rattle.join_laws.proofs.WholeLaws.{get_map as mapped_from}
 use Rattle.join_laws.proofs.DoneLaws.{all_holds as all_hold, holds_one as one_held}
-use Rattle.whole_run_laws.specs.Completed.{puts_met}
-use Rattle.whole_run_laws.proofs.Courses.{set_cases}
-use Rattle.whole_run_laws.proofs.HeldClients.{one_or_none, brought_here, brought_other, brought_none, last_here, one_if, Kept, Next, nothing_reached, Free, free_set, not_all, some_holds, held_all, kinds_are, left_is, numbers_any, waits_is}
-use Rattle.whole_run_laws.specs.Strangers.{are_left_behind, end_of_item, ends, first_stranger, first_stranger_from, is_strange_after, last, meeting_offer, meeting_offers, puts_brought, puts_complete, waits}
+use Rattle.owner_laws.proofs.HeldClients.{set_cases, one_or_none, brought_here, brought_other, brought_none, last_here, one_if, Kept, Next, nothing_reached, Free, free_set, not_all, some_holds, held_all, kinds_are, left_is, numbers_any, waits_is}
+use Rattle.owner_laws.specs.Strangers.{are_left_behind, end_of_item, ends, is_strange_after, last, meeting_offer, meeting_offers, puts_brought, puts_complete, puts_met, waits}
 use Rattle.list_laws.proofs.Maps.{entry_map}
 use Rattle.join_laws.proofs.ClientTurns.{client_ended, client_held}
 
@@ -238,7 +229,7 @@ module _ (s : Setting) (ranks : ℕ) (before : List Arrival) (d : Owner) (kept :
   item_next (item.Ended m) h = end_next m
   item_next (item.Offer c o) h = offer_next c o o.kind refl (h refl)
 
-  event_next : (i : RankItem) → (is_offer i ≡ true → x.held ≡ None) → Next s ranks before d r i (event s d (r, i))
+  pub event_next : (i : RankItem) → (is_offer i ≡ true → x.held ≡ None) → Next s ranks before d r i (event s d (r, i))
   event_next i h = subst (λ (e : Event). Next s ranks before d r i e) (sym (event_is s d r i x at)) (item_next i h)
 
   alone : (i : RankItem) → (is_offer i && has_held (slice_get d.clients r)) ≡ false → is_offer i ≡ true → x.held ≡ None
@@ -262,7 +253,7 @@ five false true c d d' e f = refl
 five false false c d d' e f = ap (λ (t : Bool). some_true (false ∷ false ∷ c ∷ t ∷ e ∷ [])) (f refl)
 
 module _ (s : Setting) (ranks : ℕ) (before : List Arrival) (d : Owner) (kept : Kept ranks before d) (r : ℕ) (x : Client) (at : slice_get d.clients r ≡ Some x) (i : RankItem) where
-  same_strange : is_strange s d (r, i) ≡ is_strange_after s ranks d.reached before (r, i)
+  pub same_strange : is_strange s d (r, i) ≡ is_strange_after s ranks d.reached before (r, i)
   unfolding is_strange
   same_strange =
       let ended : has_ended (slice_get d.clients r) ≡ is_some (last (ends r before)) = ap has_ended at ∙ ap (λ (m : Option Bool). is_some m) (kept.ended r x at) in
@@ -273,74 +264,5 @@ module _ (s : Setting) (ranks : ℕ) (before : List Arrival) (d : Owner) (kept :
       (λ e. left_is ranks (before ++ (r, i) ∷ []) (event s d (r, i)).owner (event_next s ranks before d kept r x at i (alone s ranks before d kept r x at i e)).kept)
       ∙ (λ j. some_true (ended j ∷ (is_offer i && held j) ∷ others j ∷ are_left_behind ranks (before ++ (r, i) ∷ []) ∷ strange_offer s.header d.reached (offer_of i) ∷ []))
 
-  not_taken : is_strange s d (r, i) ≡ false → is_offer i ≡ true → x.held ≡ None
+  pub not_taken : is_strange s d (r, i) ≡ false → is_offer i ≡ true → x.held ≡ None
   not_taken e = strange_alone s d r i x at e
-
--- ---- a run
-
-found : (s : Setting) (ranks reached : ℕ) (before : List Arrival) (d : Owner) (arrivals : List Arrival) → list_all (λ a. nat_lt a.0 ranks) arrivals ≡ true → Kept ranks before d → d.reached ≡ reached
-    → (served s d arrivals).stranger ≡ first_stranger_from s ranks reached before arrivals
-found s ranks reached before d [] n kept e = refl
-found s ranks reached before d ((r, i) ∷ rest) n kept e =
-    by (is_strange s d (r, i)) refl (λ reached' before' d' kept' e'. found s ranks reached' before' d' rest (and_second (nat_lt r ranks) _ n) kept' e')
-  where
-    client : (y : Client) × (slice_get d.clients r ≡ Some y)
-    client =
-        let low : r < ranks = ltb-true r ranks (and_first (nat_lt r ranks) _ n) in
-        let long = kept.long in
-        entry_below d.clients r (omega arith)
-
-    told_so : is_strange s d (r, i) ≡ is_strange_after s ranks reached before (r, i)
-    told_so = same_strange s ranks before d kept r client.0 client.1 i ∙ ap (λ (m : ℕ). is_strange_after s ranks m before (r, i)) e
-
-    goes : Bool → Option ℕ
-    goes t = elim t as (λ z. Option ℕ) [
-      | true ↦ Some r
-      | false ↦ first_stranger_from s ranks (max reached (needed_now s (puts_brought ranks before (r, i)))) (before ++ (r, i) ∷ []) rest
-    ]
-
-    by : (t : Bool) → is_strange s d (r, i) ≡ t
-        → ((reached' : ℕ) (before' : List Arrival) (d' : Owner) → Kept ranks before' d' → d'.reached ≡ reached' → (served s d' rest).stranger ≡ first_stranger_from s ranks reached' before' rest)
-        → (served s d ((r, i) ∷ rest)).stranger ≡ first_stranger_from s ranks reached before ((r, i) ∷ rest)
-    by true f again = stranger_on s d (r, i) rest f ∙ sym (ap goes (sym told_so ∙ f))
-    by false f again =
-        let next = event_next s ranks before d kept r client.0 client.1 i (not_taken s ranks before d kept r client.0 client.1 i f) in
-        (served_on s d (r, i) rest f).stranger
-        ∙ again (max reached (needed_now s (puts_brought ranks before (r, i)))) (before ++ (r, i) ∷ []) (event s d (r, i)).owner next.kept
-        (next.reached ∙ ap (λ (m : ℕ). max m (needed_now s (puts_brought ranks before (r, i)))) e)
-        ∙ sym (ap goes (sym told_so ∙ f))
-
-first_kept : (ranks r : ℕ) (c : Counted) → r < ranks → Kept ranks [] (first_owner (replicate ranks free_client) c)
-first_kept ranks r c l =
-    let long = length-replicate ranks free_client in
-    let own = entry_below (replicate ranks free_client) r (omega arith) in
-    record {
-      long = long;
-      number = r;
-      free = own.0;
-      at_free = own.1;
-      is_free = ap (λ (x : Client). x.held) (is_first r own.0 own.1);
-      count = λ q x e. sym (ap (λ (z : Client). 0 + one_if z.held) (is_first q x e) ∙ (omega arith));
-      held = λ q x o e h. never q o (sym (ap (λ (z : Client). z.held) (is_first q x e)) ∙ h);
-      ended = λ q x e. ap (λ (z : Client). z.ended) (is_first q x e);
-    }
-  where
-    is_first : (q : ℕ) (x : Client) → slice_get (replicate ranks free_client) q ≡ Some x → x ≡ free_client
-    is_first q x e = get_replicate ranks free_client q x e
-
-    never : (q : ℕ) (o : Offer) → None ≡ Some o → last (meeting_offers q []) ≡ Some o
-    never q o f = absurd cc
-
-pub stranger_found : (script : Script) (header : Header) (file : List ℕ) (arrivals : List Arrival) → length script.calls ≡ script.ranks
-    → list_all (λ a. nat_lt a.0 script.ranks) arrivals ≡ true
-    → (run_of script header file arrivals).stranger ≡ first_stranger (setting_of script header) script.ranks header.records arrivals
-stranger_found script header file arrivals long n =
-    ap (λ (k : ℕ). (served (setting_of script header) (first_owner (replicate k free_client) (record { file = file; records = header.records })) arrivals).stranger) long ∙ by arrivals n
-  where
-    by : (arrivals : List Arrival) → list_all (λ a. nat_lt a.0 script.ranks) arrivals ≡ true
-        → (served (setting_of script header) (first_owner (replicate script.ranks free_client) (record { file = file; records = header.records })) arrivals).stranger
-        ≡ first_stranger (setting_of script header) script.ranks header.records arrivals
-    by [] h = refl
-    by (a ∷ rest) h =
-        found (setting_of script header) script.ranks header.records [] (first_owner (replicate script.ranks free_client) (record { file = file; records = header.records })) (a ∷ rest) h
-        (first_kept script.ranks a.0 (record { file = file; records = header.records }) (ltb-true a.0 script.ranks (and_first (nat_lt a.0 script.ranks) _ h))) refl

@@ -1,0 +1,5 @@
+//! Tests of fault_notes.
+#![tactic(auto)]
+
+#[cfg(test)]
+mod tests;

@@ -1,0 +1,3 @@
+pub mod HeldClients
+mod StrangerLaws
+pub mod ServedLaws

@@ -1,0 +1,146 @@
+-- A run of the owner: its first strange arrival, and its order by the arrivals before that one.
+use Rattle.std.proofs.Common.{◌≡◌, ℕ, ◌+◌, ◌<◌, refl, sym, ◌∙◌, ap, subst, List, [], ◌∷◌, ◌++◌, replicate, max, Bool, true, false, ◌&&◌, Option, Some, None, arith}
+use Rattle.std.proofs.lemmas.List.{length-replicate}
+use Rattle.std.proofs.lemmas.List.Folds.{list_all-append}
+use Rattle.std.specs.Prelude.{slice_get, nat_lt}
+use Rattle.std.specs.List.{list_all}
+use borrow.Author.Tests.{ltb-true}
+use Rattle.list_laws.proofs.Places.{entry_below}
+use Rattle.list_laws.proofs.Truth.{and_first, and_second}
+use Rattle.nc_base.specs.declared.step.Mark.{Mark}
+use Rattle.nc_base.specs.declared.step.Offer.{Offer}
+use Rattle.serial_spec.specs.Owner.{Client, Owner, event, first_owner, free_client, is_strange, needed_now, served}
+use Rattle.serial_spec.specs.FileStep.{Counted, Setting}
+use Rattle.serial_spec.specs.History.{Arrival, done}
+use Rattle.join_laws.proofs.JoinLaws.{served_on, stranger_on}
+use Rattle.join_laws.proofs.OwnerAlikeLaws.{none_marked}
+use Rattle.join_laws.proofs.WholeLaws.{get_replicate}
+use Rattle.join_laws.proofs.DoneLaws.{done_is}
+use Rattle.owner_laws.proofs.HeldClients.{one_if, Kept}
+use Rattle.owner_laws.proofs.StrangerLaws.{event_next, not_taken, same_strange}
+use Rattle.owner_laws.specs.ByArrivals.{IsCutByArrivals, IsDoneByArrivals}
+use Rattle.owner_laws.specs.Strangers.{before_stranger, before_stranger_from, first_stranger, first_stranger_from, is_strange_after, last, meeting_offers, puts_brought}
+
+-- ---- from where the owner stands
+
+-- Along the front none is strange, and it brings all the marks.
+record IsFront (s : Setting) (d : Owner) (ranks : ℕ) (front arrivals : List Arrival) : Type 0 where
+  none_strange : (served s d front).stranger ≡ None
+  marks : (served s d front).marks ≡ (served s d arrivals).marks
+  numbers : list_all (λ a. nat_lt a.0 ranks) front ≡ true
+
+record Found (s : Setting) (ranks reached : ℕ) (before : List Arrival) (d : Owner) (arrivals : List Arrival) : Type 0 where
+  stranger : (served s d arrivals).stranger ≡ first_stranger_from s ranks reached before arrivals
+  front : IsFront s d ranks (before_stranger_from s ranks reached before arrivals) arrivals
+
+front_strange : (s : Setting) (d : Owner) (ranks : ℕ) (a : Arrival) (rest : List Arrival) → is_strange s d a ≡ true → IsFront s d ranks [] (a ∷ rest)
+front_strange s d ranks a rest e = record { none_strange = refl; marks = sym (none_marked s d a rest e); numbers = refl }
+
+front_on : (s : Setting) (d : Owner) (ranks : ℕ) (a : Arrival) (front rest : List Arrival) → is_strange s d a ≡ false → nat_lt a.0 ranks ≡ true → IsFront s (event s d a).owner ranks front rest
+    → IsFront s d ranks (a ∷ front) (a ∷ rest)
+front_on s d ranks a front rest e low h = record {
+  none_strange = (served_on s d a front e).stranger ∙ h.none_strange;
+  marks = (served_on s d a front e).marks ∙ ap (λ (ms : List Mark). (event s d a).marks ++ ms) h.marks ∙ sym (served_on s d a rest e).marks;
+  numbers = let more = h.numbers in λ i. (low i && more i);
+}
+
+found : (s : Setting) (ranks reached : ℕ) (before : List Arrival) (d : Owner) (arrivals : List Arrival) → list_all (λ a. nat_lt a.0 ranks) arrivals ≡ true → Kept ranks before d → d.reached ≡ reached
+    → Found s ranks reached before d arrivals
+found s ranks reached before d [] n kept e = record { stranger = refl; front = record { none_strange = refl; marks = refl; numbers = refl } }
+found s ranks reached before d ((r, i) ∷ rest) n kept e =
+    by (is_strange s d (r, i)) refl (λ reached' before' d' kept' e'. found s ranks reached' before' d' rest (and_second (nat_lt r ranks) _ n) kept' e')
+  where
+    low : nat_lt r ranks ≡ true
+    low = and_first (nat_lt r ranks) _ n
+
+    client : (y : Client) × (slice_get d.clients r ≡ Some y)
+    client =
+        let below : r < ranks = ltb-true r ranks low in
+        let long = kept.long in
+        entry_below d.clients r (omega arith)
+
+    told_so : is_strange s d (r, i) ≡ is_strange_after s ranks reached before (r, i)
+    told_so = same_strange s ranks before d kept r client.0 client.1 i ∙ ap (λ (m : ℕ). is_strange_after s ranks m before (r, i)) e
+
+    goes : Bool → Option ℕ
+    goes t = elim t as (λ z. Option ℕ) [
+      | true ↦ Some r
+      | false ↦ first_stranger_from s ranks (max reached (needed_now s (puts_brought ranks before (r, i)))) (before ++ (r, i) ∷ []) rest
+    ]
+
+    front_by : Bool → List Arrival
+    front_by t = elim t as (λ z. List Arrival) [
+      | true ↦ []
+      | false ↦ (r, i) ∷ before_stranger_from s ranks (max reached (needed_now s (puts_brought ranks before (r, i)))) (before ++ (r, i) ∷ []) rest
+    ]
+
+    by : (t : Bool) → is_strange s d (r, i) ≡ t
+        → ((reached' : ℕ) (before' : List Arrival) (d' : Owner) → Kept ranks before' d' → d'.reached ≡ reached' → Found s ranks reached' before' d' rest)
+        → Found s ranks reached before d ((r, i) ∷ rest)
+    by true f again = record {
+      stranger = stranger_on s d (r, i) rest f ∙ sym (ap goes (sym told_so ∙ f));
+      front = subst (λ (xs : List Arrival). IsFront s d ranks xs ((r, i) ∷ rest)) (sym (ap front_by (sym told_so ∙ f))) (front_strange s d ranks (r, i) rest f);
+    }
+    by false f again =
+        let next = event_next s ranks before d kept r client.0 client.1 i (not_taken s ranks before d kept r client.0 client.1 i f) in
+        let later = again (max reached (needed_now s (puts_brought ranks before (r, i)))) (before ++ (r, i) ∷ []) (event s d (r, i)).owner next.kept
+        (next.reached ∙ ap (λ (m : ℕ). max m (needed_now s (puts_brought ranks before (r, i)))) e) in
+        record {
+          stranger = (served_on s d (r, i) rest f).stranger ∙ later.stranger ∙ sym (ap goes (sym told_so ∙ f));
+          front = subst (λ (xs : List Arrival). IsFront s d ranks xs ((r, i) ∷ rest)) (sym (ap front_by (sym told_so ∙ f)))
+              (front_on s d ranks (r, i) (before_stranger_from s ranks (max reached (needed_now s (puts_brought ranks before (r, i)))) (before ++ (r, i) ∷ []) rest) rest f low later.front);
+        }
+
+-- ---- from the opening
+
+first_kept : (ranks r : ℕ) (c : Counted) → r < ranks → Kept ranks [] (first_owner (replicate ranks free_client) c)
+first_kept ranks r c l =
+    let long = length-replicate ranks free_client in
+    let own = entry_below (replicate ranks free_client) r (omega arith) in
+    record {
+      long = long;
+      number = r;
+      free = own.0;
+      at_free = own.1;
+      is_free = ap (λ (x : Client). x.held) (is_first r own.0 own.1);
+      count = λ q x e. sym (ap (λ (z : Client). 0 + one_if z.held) (is_first q x e) ∙ (omega arith));
+      held = λ q x o e h. never q o (sym (ap (λ (z : Client). z.held) (is_first q x e)) ∙ h);
+      ended = λ q x e. ap (λ (z : Client). z.ended) (is_first q x e);
+    }
+  where
+    is_first : (q : ℕ) (x : Client) → slice_get (replicate ranks free_client) q ≡ Some x → x ≡ free_client
+    is_first q x e = get_replicate ranks free_client q x e
+
+    never : (q : ℕ) (o : Offer) → None ≡ Some o → last (meeting_offers q []) ≡ Some o
+    never q o f = absurd cc
+
+found_first : (s : Setting) (ranks : ℕ) (c : Counted) (arrivals : List Arrival) → list_all (λ a. nat_lt a.0 ranks) arrivals ≡ true
+    → Found s ranks c.records [] (first_owner (replicate ranks free_client) c) arrivals
+found_first s ranks c [] h = record { stranger = refl; front = record { none_strange = refl; marks = refl; numbers = refl } }
+found_first s ranks c (a ∷ rest) h =
+    found s ranks c.records [] (first_owner (replicate ranks free_client) c) (a ∷ rest) h (first_kept ranks a.0 c (ltb-true a.0 ranks (and_first (nat_lt a.0 ranks) _ h))) refl
+
+pub stranger_found : (s : Setting) (ranks : ℕ) (c : Counted) (arrivals : List Arrival) → list_all (λ a. nat_lt a.0 ranks) arrivals ≡ true
+    → (served s (first_owner (replicate ranks free_client) c) arrivals).stranger ≡ first_stranger s ranks c.records arrivals
+stranger_found s ranks c arrivals h = (found_first s ranks c arrivals h).stranger
+
+pub order_found : (s : Setting) (ranks : ℕ) (c : Counted) (arrivals : List Arrival) → list_all (λ a. nat_lt a.0 ranks) arrivals ≡ true
+    → (served s (first_owner (replicate ranks free_client) c) arrivals).marks ≡ done ranks (before_stranger s ranks c.records arrivals)
+order_found s ranks c arrivals h =
+    let front = (found_first s ranks c arrivals h).front in
+    sym front.marks ∙ done_is s ranks c (before_stranger s ranks c.records arrivals) front.numbers front.none_strange
+
+-- ---- what the owner tells
+
+pub done_by_arrivals : (s : Setting) (ranks : ℕ) (c : Counted) (arrivals : List Arrival) (marks : List Mark) (number : Option ℕ) → list_all (λ a. nat_lt a.0 ranks) arrivals ≡ true
+    → marks ≡ (served s (first_owner (replicate ranks free_client) c) arrivals).marks → number ≡ (served s (first_owner (replicate ranks free_client) c) arrivals).stranger
+    → IsDoneByArrivals s ranks c.records arrivals marks number
+done_by_arrivals s ranks c arrivals marks number h e f = record { order = e ∙ order_found s ranks c arrivals h; stranger = f ∙ stranger_found s ranks c arrivals h }
+
+pub cut_by_arrivals : (s : Setting) (ranks : ℕ) (c : Counted) (arrivals first later : List Arrival) (marks : List Mark) → list_all (λ a. nat_lt a.0 ranks) arrivals ≡ true
+    → arrivals ≡ first ++ later → (served s (first_owner (replicate ranks free_client) c) first).stranger ≡ None
+    → marks ≡ (served s (first_owner (replicate ranks free_client) c) first).marks → IsCutByArrivals s ranks c.records arrivals marks
+cut_by_arrivals s ranks c arrivals first later marks h all none e =
+    let low : list_all (λ a. nat_lt a.0 ranks) first ≡ true = and_first (list_all (λ a. nat_lt a.0 ranks) first) _
+    (sym (list_all-append (λ (a : Arrival). nat_lt a.0 ranks) first later) ∙ sym (ap (λ (xs : List Arrival). list_all (λ a. nat_lt a.0 ranks) xs) all) ∙ h) in
+    record { first = first; later = later; all = all; none_strange = sym (stranger_found s ranks c first low) ∙ none; order = e ∙ done_is s ranks c first low none }
