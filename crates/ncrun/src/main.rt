@@ -1,14 +1,8 @@
 //! Runs a script of netCDF calls, which it reads from standard input, on the dataset that its word names.
 #![tactic(auto)]
 
-mod explain;
-mod first_step;
-
-use explain::{Seen, explain};
-use fault_notes::{Kept, Printed};
-use first_step::{FirstStep, length_of};
+use nc_outside::OpenGate;
 use ncmpi_cli::{FileDisk, StdSink, StdSource, ncrun};
-use program_words::{Form, form_of};
 use std::alloc::{AllocError, Global};
 use std::env::Env;
 use std::fs::File;
@@ -16,6 +10,7 @@ use std::os::fd::AsRawFd;
 use std::process::ExitCode;
 use std::rt::Files;
 use std::{env, io};
+
 // The statuses for a fault of the disk, and for want of memory.
 const DISK: u8 = 7;
 
@@ -58,18 +53,6 @@ fn texts_of(alloc: Global, words: &[String]) -> Result<Vec<&str>, AllocError> {
     Ok(texts)
 }
 
-// The dataset that the words name, or an empty name where they are of no form.
-fn dataset_of<'a>(alloc: Global, words: &'a [&'a str]) -> &'a str {
-    match form_of(alloc, words) {
-        Ok(
-            Some(
-                Form::Run { dataset, .. } | Form::Offsets(dataset) | Form::Generate { dataset, .. },
-            ),
-        ) => dataset,
-        _ => "",
-    }
-}
-
 fn main(rt: HostRuntime) -> ExitCode {
     let alloc = rt.alloc();
     let Ok(_held) = hold_closed(&rt) else {
@@ -84,13 +67,8 @@ fn main(rt: HostRuntime) -> ExitCode {
     let Ok(files) = rt.clone() else {
         return ExitCode::from(MEMORY);
     };
-    let dataset = dataset_of(alloc, &texts);
-    let before = length_of(&rt, dataset);
-    let begun = FirstStep::new(&rt, dataset);
-    let mut script = Kept::new(alloc, rt.reader());
-    let mut text = Printed::new(io::writer(&rt));
-    let mut source = StdSource::new(&mut script);
-    let mut sink = StdSink::new(&mut text);
+    let mut source = StdSource::new(rt.reader());
+    let mut sink = StdSink::new(io::writer(&rt));
     let mut disk = FileDisk::new(files);
     let outcome = ncrun(
         &rt,
@@ -99,23 +77,7 @@ fn main(rt: HostRuntime) -> ExitCode {
         &mut source,
         &mut disk,
         &mut sink,
-        &begun,
-    );
-    let seen = Seen {
-        status: outcome.status,
-        dataset,
-        cause: disk.cause(),
-        opened: before,
-        begun: begun.length().or(length_of(&rt, dataset)),
-    };
-    let pending = text.pending();
-    explain(
-        &rt,
-        alloc,
-        &seen,
-        script.text(),
-        text.first_line(),
-        &pending,
+        &OpenGate,
     );
     ExitCode::from(outcome.status)
 }

@@ -1,5 +1,0 @@
-//! Tests of fault_notes.
-#![tactic(auto)]
-
-#[cfg(test)]
-mod tests;
