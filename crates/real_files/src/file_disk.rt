@@ -1,10 +1,12 @@
 // A file as a disk. It tells no content.
 ghost use Rattle.std.specs.Prelude.{◌≡◌, true, IfOk};
 
+use crate::streams::is_stream;
 use nc_outside::{Disk, DiskErr};
 use std::alloc::Global;
 use std::fs::{File, OpenOptions};
 use std::io;
+use std::io::ErrorKind;
 use std::os::unix::fs::FileExt;
 use std::rt::Files;
 use std::sync::Arc;
@@ -43,7 +45,11 @@ impl<R: Files<File = File> + Clone + Send + Drop> FileDisk<R> {
 }
 
 // Opens a file for reading and writing. A fresh one is created, or cut to nothing; one that can't be written is opened for reading.
+// A file of a standard stream is refused before that: writing it would destroy the script, or mix with the text.
 fn open<R: Files<File = File>>(rt: &R, name: &str, fresh: bool) -> io::Result<File> {
+    if is_stream(rt, name) {
+        return Err(ErrorKind::InvalidInput.into());
+    }
     let opened = OpenOptions::new()
         .read(true)
         .write(true)

@@ -4,6 +4,7 @@
 mod file_disk;
 mod std_sink;
 mod std_source;
+mod streams;
 
 pub use file_disk::FileDisk;
 pub use std_sink::StdSink;
