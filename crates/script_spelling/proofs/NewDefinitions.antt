@@ -107,7 +107,7 @@ new_own version k words word a fine e says fresh =
       };
     }
 
-is_there : (n : List ℕ) (names : List (List ℕ)) (k : ℕ) → position (bytes_eq n) names ≡ Some k → is_among n names ≡ true
+pub is_there : (n : List ℕ) (names : List (List ℕ)) (k : ℕ) → position (bytes_eq n) names ≡ Some k → is_among n names ≡ true
 is_there n [] k h = absurd (cc)
 is_there n (x ∷ names) k h = ⊎_elim
     (λ (a : (bytes_eq n x ≡ true) × (k ≡ 0)). or_left _ _ a.0)
