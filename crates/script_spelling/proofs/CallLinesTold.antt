@@ -11,7 +11,6 @@ use Rattle.nc_base.specs.declared.request.Call.{Call}
 use Rattle.serial_spec.specs.Lawful.{most_values, is_lawful_call, values_in_call, posted_ids, are_different}
 use Rattle.script_spec.specs.Texts.{call_word}
 use Rattle.script_spec.specs.ScriptWords.{Word, Plain, Line, begins_rank, digits_value}
-use Rattle.script_spec.specs.ScriptSteps.{◌>>=◌}
 use Rattle.script_spec.specs.ScriptCalls.{Called, calls_of, rank_of_text, with_call, call_line, call_of, called_after}
 use Rattle.script_spec.specs.ScriptGrammar.{at_line, call_step, data_part}
 use Rattle.script_text.proofs.Steps.{go_on, by_false}

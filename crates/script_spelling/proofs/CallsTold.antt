@@ -1,5 +1,5 @@
 -- Words that spell a lawful call are read as this call.
-use Rattle.std.proofs.Common.{◌≡◌, ◌∙◌, ℕ, ◌+◌, ◌≤◌, List, [], ◌∷◌, ◌++◌, Bool, true, false, Option, Some, None, Ok, refl, sym, ap, subst, append_assoc, append-nil, arith, codes}
+use Rattle.std.proofs.Common.{◌≡◌, ◌∙◌, ℕ, ◌+◌, ◌≤◌, List, [], ◌∷◌, ◌++◌, Bool, true, false, Option, Some, None, Ok, refl, sym, ap, subst, append_assoc, append-nil, codes}
 use Rattle.std.proofs.lemmas.Bool.{and_parts, leb-true}
 use Rattle.nc_base.specs.Values.{count_of}
 use Rattle.nc_base.specs.declared.errors.ScriptKind.TheVariants as kind
@@ -16,7 +16,7 @@ use Rattle.serial_spec.specs.Limits.{most_elements}
 use Rattle.serial_spec.specs.Lawful.{most_values, is_given, are_values, is_post_of, is_lawful_call, values_in_call}
 use Rattle.script_spec.specs.Texts.{call_word}
 use Rattle.script_spec.specs.ScriptWords.{Word, Plain, is_word, size_of_text}
-use Rattle.script_spec.specs.ScriptSteps.{◌>>=◌, refuse_if, reads_as, size, name, whole}
+use Rattle.script_spec.specs.ScriptSteps.{refuse_if, reads_as, size, name, whole}
 use Rattle.script_spec.specs.ScriptValues.{values}
 use Rattle.script_spec.specs.ScriptCalls.{region, id_of_text, one_id, ids, choice, posted, is_posted, new_id, put_call, get_call, post_values, post_call, behind, call_of}
 use Rattle.script_spec.specs.CallTable.{Family, Requests, Size, Name, Record, Nothing, Behind, CallRow}

@@ -15,7 +15,7 @@ use Rattle.serial_spec.specs.Lawful.{most_values, values_in_extra}
 use Rattle.script_spec.specs.ScriptWords.{Word, Plain}
 use Rattle.script_spec.specs.ScriptSteps.{◌>>=◌, refuse_if, reads_as}
 use Rattle.script_spec.specs.HintTable.{hint_table, hint_form, hint_in}
-use Rattle.script_spec.specs.ScriptDefinitions.{ranks_line, dim_ids, dim_line, var_head, var_names, var_line, owner_of_text, owner_place, attr_of, attribute, Defined, with_dim, with_var, with_attr_of_owner, with_attr_at, with_title, att_line, definition, Added, added_shape, addition, Known}
+use Rattle.script_spec.specs.ScriptDefinitions.{ranks_line, dim_ids, dim_line, var_head, var_names, var_line, owner_of_text, owner_place, attribute, Defined, with_dim, with_var, with_attr_of_owner, with_attr_at, with_title, att_line, definition, Added, added_shape, addition, Known}
 use Rattle.script_text.proofs.Steps.{go_on, word_read, by_false}
 use Rattle.script_text.proofs.Places.{more_ids}
 use Rattle.script_text.proofs.PrintedValues.{HasRoom}

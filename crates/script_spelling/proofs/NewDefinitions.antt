@@ -1,5 +1,5 @@
 -- The lines that define a new dataset, each with its statement.
-use Rattle.std.proofs.Common.{◌≡◌, ◌⊎◌, ◌∙◌, ℕ, ◌+◌, List, [], ◌∷◌, ◌++◌, position, Bool, true, false, not, Option, Some, None, is_some, Result, Ok, Err, refl, sym, ap, subst, ⊎_elim, append_assoc, arith, bytes_eq, codes}
+use Rattle.std.proofs.Common.{◌≡◌, ◌∙◌, ℕ, ◌+◌, List, [], ◌∷◌, ◌++◌, position, Bool, true, false, not, Option, Some, None, is_some, Result, Ok, Err, refl, sym, ap, subst, ⊎_elim, append_assoc, arith, bytes_eq, codes}
 use Rattle.std.specs.List.{list_any}
 use Rattle.std.proofs.lemmas.Bool.{or_left, or_right}
 use Rattle.script_spec.proofs.TextLaws.{faultless_some}

@@ -1,5 +1,5 @@
 -- Words that spell a region are read as this region, and what follows them is left.
-use Rattle.std.proofs.Common.{◌≡◌, ◌∙◌, ℕ, ◌≤◌, List, [], ◌∷◌, ◌++◌, flat_map, length, true, false, not, nat_lt, ◌==◌, ◌&&◌, Some, Ok, refl, sym, ap, subst, append_assoc, append-nil, arith}
+use Rattle.std.proofs.Common.{◌≡◌, ◌∙◌, ℕ, ◌≤◌, List, [], ◌∷◌, ◌++◌, flat_map, length, true, false, not, nat_lt, ◌==◌, ◌&&◌, Ok, refl, sym, ap, subst, append_assoc, append-nil, arith}
 use Rattle.std.proofs.lemmas.Bool.{and_parts, le-ltb, leb-true, ne_eqb}
 use Rattle.nc_base.specs.declared.errors.ScriptKind.TheVariants as kind
 use Rattle.nc_base.specs.declared.errors.LimitName.TheVariants as limit
@@ -10,7 +10,7 @@ use Rattle.nc_base.specs.declared.request.Part.{Part}
 use Rattle.serial_spec.specs.Lawful.{most_parts, has_lists_of, is_given}
 use Rattle.serial_spec.specs.Lists.{is_empty}
 use Rattle.script_spec.specs.ScriptWords.{Word, Plain, size_of_text, list_of_text}
-use Rattle.script_spec.specs.ScriptSteps.{◌>>=◌, refuse_if, reads_as, size, list}
+use Rattle.script_spec.specs.ScriptSteps.{refuse_if, size, list}
 use Rattle.script_spec.specs.ScriptCalls.{part, part_list, many_regions, region}
 use Rattle.script_text.proofs.Steps.{go_on, passed, word_read, carry_on}
 use Rattle.script_text.proofs.Lines.{empty_list}

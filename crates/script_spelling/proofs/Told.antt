@@ -1,5 +1,5 @@
 -- A text that spells a script is read as this script.
-use Rattle.std.proofs.Common.{◌≡◌, ◌∙◌, ℕ, ◌+◌, ◌≤◌, List, [], ◌∷◌, ◌++◌, map, sum, drop, replicate, length, Bool, true, false, not, cond, ◌==◌, Option, Some, None, Result, Ok, Err, refl, sym, ap, subst, append_assoc, arith, codes}
+use Rattle.std.proofs.Common.{◌≡◌, ◌∙◌, ℕ, ◌+◌, ◌≤◌, List, [], ◌∷◌, ◌++◌, map, sum, drop, length, Bool, true, false, not, cond, ◌==◌, Option, Some, None, Result, Ok, Err, refl, sym, ap, subst, append_assoc, arith, codes}
 use Rattle.std.specs.List.{AllZip}
 use Rattle.std.specs.Str.Lossy.{utf8_valid_len}
 use Rattle.std.proofs.lemmas.Bool.{eq-eqb}
@@ -17,11 +17,11 @@ use Rattle.nc_base.specs.declared.request.Call.{Call}
 use Rattle.nc_base.specs.declared.script.Extra.{Extra}
 use Rattle.nc_base.specs.declared.script.Hints.{Hints}
 use Rattle.nc_base.specs.declared.script.Script.{Script}
-use Rattle.serial_spec.specs.Lawful.{most_values, attr_values, extra_values, values_in_call, values_in_extra, values_in_script, is_lawful}
+use Rattle.serial_spec.specs.Lawful.{most_values, attr_values, extra_values, values_in_extra, values_in_script}
 use Rattle.serial_spec.proofs.LawfulTests.{lawful_parts}
 use Rattle.script_spec.specs.ScriptWords.{Word, Plain, Line, text_lines, significant}
-use Rattle.script_spec.specs.ScriptSteps.{◌>>=◌, reads_as, whole}
-use Rattle.script_spec.specs.HintTable.{hint_in, hints_of}
+use Rattle.script_spec.specs.ScriptSteps.{reads_as, whole}
+use Rattle.script_spec.specs.HintTable.{hints_of}
 use Rattle.script_spec.specs.ScriptDefinitions.{no_definition, Defined, Known, nothing_known}
 use Rattle.script_spec.specs.ScriptGrammar.{at_line, version_of_text, head, definitions, data_part, finish, header_of, script_of, no_calls, script_of_lines, script_of_text, fault_of, script_fault, Reads}
 use Rattle.script_laws.proofs.ListLaws.{sum_cons}

@@ -1,6 +1,5 @@
 -- The variables of a new dataset, where the line of one of them, or of an attribute, goes from the later lines to those before.
-use Rattle.std.proofs.Common.{◌≡◌, ◌⊎◌, ◌∙◌, ℕ, zero, suc, ◌+◌, ◌≤◌, List, [], ◌∷◌, ◌++◌, position, Bool, true, false, Some, refl, sym, ap, subst, ⊎_elim, append_assoc, append-nil, arith, bytes_eq}
-use Rattle.std.specs.List.{AllZip}
+use Rattle.std.proofs.Common.{◌≡◌, ◌∙◌, ℕ, ◌≤◌, List, [], ◌∷◌, ◌++◌, position, true, false, Some, refl, sym, ap, subst, ⊎_elim, append_assoc, append-nil, arith, bytes_eq}
 use Rattle.std.proofs.lemmas.Bool.{and_parts, or_parts, not-true, cond-true, cond-false}
 use Rattle.std.proofs.lemmas.Option.{same_Some}
 use Rattle.nc_base.specs.declared.header.Dim.{Dim}

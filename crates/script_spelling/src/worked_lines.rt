@@ -63,6 +63,8 @@ pub fn worked_text()
 /// Texts of which each line by itself says something, and which spell no script: a call of a rank that is none, and an id under
 /// which a rank posts twice.
 pub fn worked_refusals()
-    ensures rank { (script : Script) → Spells (text_line (codes "create 1") ++ text_line (codes "ranks 2") ++ text_line (codes "data") ++ text_line (codes "2 buffer_detach") ++ text_line (codes "end")) script → ⊥ }
-    ensures id { (script : Script) → Spells (text_line (codes "create 1") ++ text_line (codes "ranks 1") ++ text_line (codes "var int v []") ++ text_line (codes "data") ++ text_line (codes "0 iget_var 7 v") ++ text_line (codes "0 iget_var 7 v") ++ text_line (codes "end")) script → ⊥ }
+    ensures rank { (script : Script) → Spells (text_line (codes "create 1") ++ text_line (codes "ranks 2") ++ text_line (codes "data")
+        ++ text_line (codes "2 buffer_detach") ++ text_line (codes "end")) script → ⊥ }
+    ensures id { (script : Script) → Spells (text_line (codes "create 1") ++ text_line (codes "ranks 1") ++ text_line (codes "var int v []") ++ text_line (codes "data")
+        ++ text_line (codes "0 iget_var 7 v") ++ text_line (codes "0 iget_var 7 v") ++ text_line (codes "end")) script → ⊥ }
 {}
