@@ -54,6 +54,9 @@ enum {
     NCV_ESTRIDE = -58       /* a stride is 0 */
 };
 
+/* The library's version, and the kit that proved it with the sum of its logic, as a text ended by a zero. Takes no memory. */
+const char *ncv_version(void);
+
 /* ---- reading a header --------------------------------------------------------------------------------------------- */
 
 /* What is wrong with the bytes of a header. */

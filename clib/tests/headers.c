@@ -6,6 +6,17 @@
 static const ncv_counts no_counts = {77, 77, 77, 77, 77, 77};
 static const ncv_fault no_fault = {88, 88, 88};
 
+/* Whether the numbers are as they were; the structs have bytes that belong to no field. */
+static bool counts_kept(const ncv_counts *c)
+{
+    return c->version == 77 && c->length == 77 && c->records == 77 && c->dims == 77 && c->attrs == 77 && c->vars == 77;
+}
+
+static bool fault_kept(const ncv_fault *f)
+{
+    return f->kind == 88 && f->place == 88 && f->other == 88;
+}
+
 /* Whether a header with one byte changed has this fault, and nothing else is written. */
 static bool has_fault(size_t at, uint8_t byte, uint32_t kind, uint64_t place, uint64_t other)
 {
@@ -16,7 +27,7 @@ static bool has_fault(size_t at, uint8_t byte, uint32_t kind, uint64_t place, ui
     ncv_fault fault = no_fault;
     ncv_code code = ncv_header_check(bytes, sizeof bytes, &counts, &fault);
     return code == NCV_HEADER && fault.kind == kind && fault.place == place && fault.other == other
-        && memcmp(&counts, &no_counts, sizeof counts) == 0;
+        && counts_kept(&counts);
 }
 
 static void check_sound(void)
@@ -30,7 +41,7 @@ static void check_sound(void)
     CHECK(counts.dims == 2);
     CHECK(counts.attrs == 0);
     CHECK(counts.vars == 2);
-    CHECK(memcmp(&fault, &no_fault, sizeof fault) == 0);
+    CHECK(fault_kept(&fault));
 }
 
 static void check_faults(void)

@@ -2,6 +2,7 @@
 #include "check.h"
 
 #include <stdio.h>
+#include <string.h>
 
 static unsigned passed, failed;
 
@@ -30,6 +31,7 @@ const uint8_t small_header[SMALL_LENGTH] = {
 
 int main(void)
 {
+    CHECK(strncmp(ncv_version(), "nc_classic ", 11) == 0);
     check_headers();
     check_extents();
     check_memory();

@@ -38,6 +38,8 @@ def refusal(file, var, start, count, stride, imap, records, put):
 def expected(file, var, start, count, stride):
     """The extents: the bytes of each element in row-major order, joined where one follows another."""
     found = []
+    if 0 in count:
+        return found
     size = SIZES[file.vars[var].kind]
     for steps in itertools.product(*map(range, count)):
         at = file.place(file.vars[var], [s + k * d for s, k, d in zip(start, steps, stride)])
