@@ -58,6 +58,17 @@ class File:
             number = number * length + i
         return var.begin + record * self.record_size() + number * SIZES[var.kind]
 
+    def end(self, records):
+        """The length of the file with so many records, with the padding of the last one."""
+        lone = sum(map(self.is_record, self.vars)) == 1
+        ends = [len(self.encoded())]
+        for var in self.vars:
+            if not self.is_record(var):
+                ends.append(var.begin + self.vsize(var))
+            elif records:
+                ends.append(var.begin + (records - 1) * self.record_size() + (self.slab(var) if lone else self.vsize(var)))
+        return max(ends)
+
     def lay_out(self, gap):
         """Gives the variables begins: fixed ones first, then those of records, with gaps of a multiple of 4 before them."""
         at = len(self.encoded())

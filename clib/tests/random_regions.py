@@ -32,6 +32,9 @@ def refusal(file, var, start, count, stride, imap, records, put):
         elements *= n
     if elements > MOST_ELEMENTS or imap and elements and sum((n - 1) * m for n, m in zip(count, imap)) >= MOST_ELEMENTS:
         return TOO_LARGE
+    needed = start[0] + (count[0] - 1) * stride[0] + 1 if file.is_record(file.vars[var]) and elements else 0
+    if needed >= (2**62 if file.version == 5 else 2**31) or file.end(needed) >= 2**62:
+        return TOO_LARGE
     return OK
 
 

@@ -64,12 +64,15 @@ few_extents header v g known direction h =
 pub region_had : (bytes : List ℕ) (asked : NcvRegion) (known : ℕ) (put : Bool) (a : Accepted) (P : Header → Var → Type 0) → Accepts bytes asked known put a
     → ((v : Var) → slice_get a.header.vars a.var ≡ Some v → P a.header v) → HasRegion bytes asked known put P
 region_had bytes asked known put a P h k =
-    let there = accepted_there a.header (slice_get a.header.vars a.var) a.region known (direction_of put) h.accepted in
-    (a.header, there.0, h.header,
-    ap (λ (n : ℕ). slice_get a.header.vars n) (sym h.var) ∙ there.1,
-    ap (λ (n : ℕ). check a.header n (region_of asked) known (direction_of put)) (sym h.var)
-    ∙ ap (λ (g : Region). check a.header a.var g known (direction_of put)) (sym h.region) ∙ h.accepted,
-    k there.0 there.1)
+    let there = accepted_there a.header (slice_get a.header.vars a.var) a.region known (direction_of put) h.accepted in (
+      a.header,
+      there.0,
+      h.header,
+      ap (λ (n : ℕ). slice_get a.header.vars n) (sym h.var) ∙ there.1,
+      ap (λ (n : ℕ). check a.header n (region_of asked) known (direction_of put)) (sym h.var)
+          ∙ ap (λ (g : Region). check a.header a.var g known (direction_of put)) (sym h.region) ∙ h.accepted,
+      k there.0 there.1,
+    )
 
 pub few_left : (bytes : List ℕ) (asked : NcvRegion) (known : ℕ) (put : Bool) (a : Accepted) (es : List Extent) → Accepts bytes asked known put a
     → IfSome (slice_get a.header.vars a.var) (λ v. es ≡ extents_of a.header v a.region) → length es < 2 ^ 64

@@ -111,7 +111,7 @@ pub left_fits : {A : Type 0} (items : List A) (from : ℕ) (old now left rest : 
     → left ≡ x ∷ rest → Lays A items from old now left total → total < length items
 left_fits {A} items from old now left rest total x step h =
     let long : length items ≡ length h.done + length (x ∷ rest) =
-        ap length (sym h.all) ∙ length-append h.done left ∙ ap (λ (l : List A). length h.done + length l) step in
+    ap length (sym h.all) ∙ length-append h.done left ∙ ap (λ (l : List A). length h.done + length l) step in
     let n = h.number in
     omega arith
 

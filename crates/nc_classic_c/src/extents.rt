@@ -72,7 +72,7 @@ pub extern "C" fn ncv_extents(
 ) -> i32
     ensures { IsAnswer result
         (HasRegion bytes.now region.now records put (λ header v.
-            AreLaid (map shown (extents_of header v (region_of region.now))) from into.old into.new total.new))
+        AreLaid (map shown (extents_of header v (region_of region.now))) from into.old into.new total.new))
         (λ r. IsRegionRefusal bytes.now region.now records put r × (into.new ≡ into.old) × (total.new ≡ total.old)) }
 {
     match accept(alloc, bytes, region, records, put) {

@@ -32,9 +32,13 @@ overflow_add-total c =
     let e = c.loop-extent in
     let left = map shown (extents_left e.extent-iterator) in
     let rest = map shown (extents_left c.next.new.self) in
-    omega (arith, c.requires.few, length-map (extents_left c.args.extents) shown,
-    left_fits items c.args.from c.args.into.now e.into left rest e.total (shown c.in-Some.extent)
-    (ap (λ (es : List Extent). map shown es) c.in-Some.ensures.steps) e.invariant)
+    omega (
+      arith,
+      c.requires.few,
+      length-map (extents_left c.args.extents) shown,
+      left_fits items c.args.from c.args.into.now e.into left rest e.total (shown c.in-Some.extent)
+          (ap (λ (es : List Extent). map shown es) c.in-Some.ensures.steps) e.invariant,
+    )
 
 pub returns : goal.returns
 returns c =

@@ -33,15 +33,18 @@ pub returns-in-Ok : goal.returns-in-Ok
 returns-in-Ok c =
     let h = c.in-Ok.ensures.ok in
     let a = c.in-Ok.accepted in
-    inl (refl,
-    region_had c.args.bytes.now c.args.region.now c.args.records c.args.put a
-    (λ (header : Header) (v : Var). AreLaid (map shown (extents_of header v (region_of c.args.region.now))) c.args.from c.args.into.now c.lay.new.into c.lay.result)
-    h
-    (λ v is.
-        let same = if_some_at (λ (v : Var). extents_left c.new-extents.result ≡ extents_of a.header v a.region) (slice_get a.header.vars a.var) v is c.new-extents.ensures.extents
-            ∙ ap (λ (g : Region). extents_of a.header v g) h.region in
-        (c.lay.ensures.laid ∙ ap (λ (es : List Extent). filled c.args.into.now (drop c.args.from (map shown es))) same,
-        c.lay.ensures.total ∙ ap length same ∙ sym (length-map (extents_of a.header v (region_of c.args.region.now)) shown))))
+    inl (
+      refl,
+      region_had c.args.bytes.now c.args.region.now c.args.records c.args.put a
+          (λ (header : Header) (v : Var). AreLaid (map shown (extents_of header v (region_of c.args.region.now))) c.args.from c.args.into.now c.lay.new.into c.lay.result)
+          h
+          (λ v is.
+          let same = if_some_at (λ (v : Var). extents_left c.new-extents.result ≡ extents_of a.header v a.region) (slice_get a.header.vars a.var) v is c.new-extents.ensures.extents
+          ∙ ap (λ (g : Region). extents_of a.header v g) h.region in (
+            c.lay.ensures.laid ∙ ap (λ (es : List Extent). filled c.args.into.now (drop c.args.from (map shown es))) same,
+            c.lay.ensures.total ∙ ap length same ∙ sym (length-map (extents_of a.header v (region_of c.args.region.now)) shown),
+          )),
+    )
 
 pub returns-in-Err : goal.returns-in-Err
 returns-in-Err c = inr (c.in-Err.refusal, number_kept c.number_of.result c.in-Err.refusal c.number_of.ensures, (c.in-Err.ensures.refused, refl, refl))

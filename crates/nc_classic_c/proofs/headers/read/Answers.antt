@@ -2,8 +2,6 @@
 use Rattle.std.proofs.Common.{ℕ, List, ◌≡◌, ◌⊎◌, sym, subst}
 use Rattle.nc_base.specs.declared.errors.HeaderErr.TheVariants as fault
 use Rattle.serial_spec.specs.HeaderFaults.{HasFault}
-use Rattle.serial_spec.specs.HeaderBytes.{header_len}
-use Rattle.cdf_header.specs.Decoded.{BeginsWith}
 use Rattle.nc_classic_c.specs.Headers.{first_bytes, IsHeaderRefusal}
 use Rattle.nc_classic_c.specs.declared.answers.Refusal.{Refusal}
 use Rattle.nc_classic_c.proofs.Refusing.{refused_header}
