@@ -1,5 +1,7 @@
 -- A dataset that was not made ready.
 use Rattle.std.proofs.Common.{◌≡◌, ℕ, ◌≤◌, ◌==◌, ◌⊎◌, inl, inr, refl, sym, ◌∙◌, ap, subst, List, [], length, Bool, true, false, Option, Some, None, arith}
+use Rattle.std.specs.Prelude.{IfSome}
+use Rattle.nc_base.specs.declared.errors.HeaderErr.{HeaderErr}
 use Rattle.nc_base.specs.declared.header.Header as head
 use Rattle.nc_base.specs.declared.script.Extra.{Extra}
 use Rattle.nc_base.specs.declared.script.Script as script_type
@@ -7,6 +9,7 @@ use Rattle.nc_outside.specs.DiskState.{PartlyWritten}
 use Rattle.nc_outside.specs.Told.{after, BothTold}
 use Rattle.serial_spec.specs.File.{at, longer, written}
 use Rattle.serial_spec.specs.HeaderBytes.{canon, header_len}
+use Rattle.serial_spec.specs.HeaderFaults.{HasFault}
 use Rattle.serial_spec.specs.SerialEnd.{start}
 use Rattle.serial_spec.specs.Redefinition.{redefined}
 use Rattle.serial_spec.specs.Torn.{IsBegun, IsLengthened, IsTornCreation, IsTornRedefinition}
@@ -16,10 +19,10 @@ use Rattle.fill_records.proofs.TornLaws.{filled_long}
 use Rattle.redef_laws.specs.Applied.{IsApplied}
 use Rattle.redef_laws.specs.Shifted.{new_end}
 use Rattle.redef_mover.specs.Relocation.{KeepsPlaces}
-use Rattle.dataset_start.specs.Dataset.{created_header, header_of_run, AreHeadersOf}
-use Rattle.dataset_start.specs.Readiness.{blank_file, dataset_end, empty_end, filled_if, IsCutRedefinition, IsNotReady, IsOpened, IsPartlyOpened, IsPartlyRedefined}
+use Rattle.dataset_start.specs.Dataset.{created_header, creation_fault, front, header_of_run, AreHeadersOf, Asks}
+use Rattle.dataset_start.specs.Readiness.{blank_file, dataset_end, empty_end, filled_if, IsCutRedefinition, IsLeftUnready, IsNotReady, IsOpened, IsPartlyOpened, IsPartlyRedefined, IsUnready}
 use Rattle.dataset_start.proofs.Created.{front-of-zeros}
-use Rattle.dataset_start.proofs.ReadyLaws.{at_front, header-changed, header-kept, start-created}
+use Rattle.dataset_start.proofs.ReadyLaws.{at_front, created-faultless, fault-none, fault-some, header-changed, header-kept, opened-faultless, start-created}
 use Rattle.nc_outside.proofs.ToldLaws.{told_as}
 use Rattle.std.proofs.lemmas.Bool.{both_ways}
 
@@ -83,7 +86,7 @@ as_created : (script : script_type.Script) (file left : List ℕ) → script.fre
     → IsTornCreation (canon (created_header script)) (start script (created_header script) file) file left → IsNotReady script file left
 as_created script file left f t = record { created = λ _. t; opened = λ o. absurd (both_ways script.fresh o f) }
 
--- the layout was refused
+-- nothing was done to a dataset that was to be created
 pub not_laid : (script : script_type.Script) (held : Option (List ℕ)) → script.fresh ≡ true → BothTold (IsNotReady script) held held
 not_laid script None f = refl
 not_laid script (Some file) f = (file, refl, as_created script file file f (inl refl))
@@ -116,12 +119,23 @@ unfilled_part script header file left f (inr b) = inr (record {
     by_byte x (inr (inl e)) = inr (inl e)
     by_byte x (inr (inr e)) = inr (inl (e ∙ at-longer (canon header) (empty_end header) x))
 
-pub create_refused : (script : script_type.Script) (header : head.Header) (held now : Option (List ℕ)) → script.fresh ≡ true → header ≡ created_header script
+create_left : (script : script_type.Script) (header : head.Header) (held now : Option (List ℕ)) → script.fresh ≡ true → header ≡ created_header script
     → BothTold (λ old left. IsTornCreation (canon header) (blank_file header) old left) held now
     → BothTold (IsNotReady script) held now
-create_refused script header held now f h b =
+create_left script header held now f h b =
     told_as (λ old left. IsTornCreation (canon header) (blank_file header) old left) (IsNotReady script) held now
     (λ old left t. as_created script old left f (subst (λ (k : head.Header). IsTornCreation (canon k) (start script k old) old left) h (unfilled_part script header old left f t))) b
+
+-- a created dataset that is laid out was made ready in part
+created_part : (script : script_type.Script) (held now : Option (List ℕ)) → script.fresh ≡ true → creation_fault script ≡ None → BothTold (IsNotReady script) held now
+    → IsUnready script held now
+created_part script held now f l b = inr (record { faultless = created-faultless script held f l; left = b })
+
+pub create_refused : (script : script_type.Script) (header : head.Header) (held now : Option (List ℕ)) → script.fresh ≡ true → creation_fault script ≡ None
+    → header ≡ created_header script
+    → BothTold (λ old left. IsTornCreation (canon header) (blank_file header) old left) held now
+    → IsUnready script held now
+create_refused script header held now f l h b = created_part script held now f l (create_left script header held now f h b)
 
 -- the fill was cut off
 filled_part : (script : script_type.Script) (header : head.Header) (file left : List ℕ) → script.fresh ≡ true
@@ -140,11 +154,11 @@ filled_part script header file left f b = record {
     by_byte x (inl e) = inr (inl (e ∙ at-longer (canon header) (empty_end header) x))
     by_byte x (inr e) = inr (inr (e ∙ sym (ap (λ (g : List ℕ). at g x) (start-created script header file f))))
 
-pub fill_refused : (script : script_type.Script) (header : head.Header) (held mid now : Option (List ℕ)) → script.fresh ≡ true → header ≡ created_header script
+fill_left : (script : script_type.Script) (header : head.Header) (held mid now : Option (List ℕ)) → script.fresh ≡ true → header ≡ created_header script
     → mid ≡ after (λ _. blank_file header) held
     → BothTold (λ old left. IsBetween old (filled_if script.filled header old) left) mid now → BothTold (IsNotReady script) held now
-fill_refused script header None mid now f h e b = subst (λ (m : Option (List ℕ)). BothTold (λ old left. IsBetween old (filled_if script.filled header old) left) m now) e b
-fill_refused script header (Some file) mid now f h e b =
+fill_left script header None mid now f h e b = subst (λ (m : Option (List ℕ)). BothTold (λ old left. IsBetween old (filled_if script.filled header old) left) m now) e b
+fill_left script header (Some file) mid now f h e b =
     by_told (subst (λ (m : Option (List ℕ)). BothTold (λ old left. IsBetween old (filled_if script.filled header old) left) m now) e b)
   where
     by_told : BothTold (λ old left. IsBetween old (filled_if script.filled header old) left) (Some (blank_file header)) now
@@ -156,22 +170,15 @@ fill_refused script header (Some file) mid now f h e b =
           (subst (λ (k : head.Header). IsTornCreation (canon k) (start script k file) file c.0) h (inr (filled_part script header file c.0 f c.2))),
     )
 
--- an existing dataset
-pub open_refused : (script : script_type.Script) (held now : Option (List ℕ)) → script.fresh ≡ false → BothTold (IsPartlyOpened script) held now
-    → BothTold (IsNotReady script) held now
-open_refused script held now f b =
-    told_as (IsPartlyOpened script) (IsNotReady script) held now
-    (λ old left p. record { created = λ c. absurd (both_ways script.fresh f c); opened = λ _. p }) b
+pub fill_refused : (script : script_type.Script) (header : head.Header) (held mid now : Option (List ℕ)) → script.fresh ≡ true → creation_fault script ≡ None
+    → header ≡ created_header script → mid ≡ after (λ _. blank_file header) held
+    → BothTold (λ old left. IsBetween old (filled_if script.filled header old) left) mid now → IsUnready script held now
+fill_refused script header held mid now f l h e b = created_part script held now f l (fill_left script header held mid now f h e b)
 
 -- ---- a dataset that is opened
 
--- nothing was changed
-pub not_opened : (script : script_type.Script) (held now : Option (List ℕ)) → now ≡ held → BothTold (IsPartlyOpened script) held now
-not_opened script held now e = subst (λ (m : Option (List ℕ)). BothTold (IsPartlyOpened script) held m) (sym e) (by_held held)
-  where
-    by_held : (t : Option (List ℕ)) → BothTold (IsPartlyOpened script) t t
-    by_held None = refl
-    by_held (Some file) = (file, refl, inl refl)
+as_opened : (script : script_type.Script) (file left : List ℕ) → script.fresh ≡ false → IsPartlyOpened script file left → IsNotReady script file left
+as_opened script file left f p = record { created = λ c. absurd (both_ways script.fresh f c); opened = λ _. p }
 
 heads_of : (script : script_type.Script) (old header : head.Header) (file : List ℕ) → script.fresh ≡ false → IsOpened (Some file) old
     → ((length script.extra == 0) ≡ true → header ≡ old) → ((length script.extra == 0) ≡ false → IsApplied old script.extra header) → AreHeadersOf script file old header
@@ -186,41 +193,59 @@ heads_of script old header file f o same changed = record {
     by_extras false e = header-changed script old header e (changed e)
 
 pub lengthen_refused : (script : script_type.Script) (header : head.Header) (held mid now : Option (List ℕ)) → script.fresh ≡ false → (length script.extra == 0) ≡ true
-    → IsOpened held header → mid ≡ held → BothTold (IsLengthened (dataset_end header)) mid now → BothTold (IsPartlyOpened script) held now
-lengthen_refused script header held mid now f x o e b =
-    by_held held o (subst (λ (m : Option (List ℕ)). BothTold (IsLengthened (dataset_end header)) m now) e b)
+    → IsOpened held header → IfSome held (λ file. (e : HeaderErr) → HasFault (front file) e → ⊥) → mid ≡ held
+    → BothTold (IsLengthened (dataset_end header)) mid now → IsUnready script held now
+lengthen_refused script header held mid now f x o n e b = inr (record {
+  faultless = opened-faultless script header held f o (fault-none script header x) n;
+  left = by_held held o (subst (λ (m : Option (List ℕ)). BothTold (IsLengthened (dataset_end header)) m now) e b);
+})
   where
-    by_held : (t : Option (List ℕ)) → IsOpened t header → BothTold (IsLengthened (dataset_end header)) t now → BothTold (IsPartlyOpened script) t now
+    by_held : (t : Option (List ℕ)) → IsOpened t header → BothTold (IsLengthened (dataset_end header)) t now → BothTold (IsNotReady script) t now
     by_held None p c = c
     by_held (Some file) p c = (
       c.0,
       c.1,
-      inr (
+      as_opened script file c.0 f (inr (
         header,
         header,
         heads_of script header header file f p (λ _. refl) (λ s. absurd (both_ways (length script.extra == 0) s x)),
         record { kept = λ _. c.2; moved = λ s. absurd (both_ways (length script.extra == 0) s x) },
-      ),
+      )),
     )
 
 pub redefine_refused : (script : script_type.Script) (old : head.Header) (held mid now : Option (List ℕ)) → script.fresh ≡ false → (length script.extra == 0) ≡ false
-    → IsOpened held old → mid ≡ held → BothTold (IsPartlyRedefined old script.extra) mid now → BothTold (IsPartlyOpened script) held now
-redefine_refused script old held mid now f x o e b =
-    by_held held o (subst (λ (m : Option (List ℕ)). BothTold (IsPartlyRedefined old script.extra) m now) e b)
+    → IsOpened held old → IfSome held (λ file. (e : HeaderErr) → HasFault (front file) e → ⊥) → mid ≡ held
+    → BothTold (IsPartlyRedefined old script.extra) mid now → IsUnready script held now
+redefine_refused script old held mid now f x o n e b =
+    by_held held o n (subst (λ (m : Option (List ℕ)). BothTold (IsPartlyRedefined old script.extra) m now) e b)
   where
-    by_part : (file left : List ℕ) → IsOpened (Some file) old → IsPartlyRedefined old script.extra file left → IsPartlyOpened script file left
-    by_part file left p (inl same) = inl same
-    by_part file left p (inr (new, a, t)) =
-        inr (
+    by_part : (file left : List ℕ) → IsOpened (Some file) old → ((e : HeaderErr) → HasFault (front file) e → ⊥) → now ≡ Some left
+        → IsPartlyRedefined old script.extra file left → IsUnready script (Some file) now
+    by_part file left p n s (inl same) = inl (s ∙ ap (λ (t : List ℕ). Some t) same)
+    by_part file left p n s (inr (new, a, t)) = inr (record {
+      faultless = opened-faultless script old (Some file) f p (fault-some script old x ∙ a.faultless) n;
+      left = (
+        left,
+        s,
+        as_opened script file left f (inr (
           old,
           new,
-          heads_of script old new file f p (λ s. absurd (both_ways (length script.extra == 0) x s)) (λ _. a),
-          record { kept = λ s. absurd (both_ways (length script.extra == 0) x s); moved = λ _. t },
-        )
+          heads_of script old new file f p (λ r. absurd (both_ways (length script.extra == 0) x r)) (λ _. a),
+          record { kept = λ r. absurd (both_ways (length script.extra == 0) x r); moved = λ _. t },
+        )),
+      );
+    })
 
-    by_held : (t : Option (List ℕ)) → IsOpened t old → BothTold (IsPartlyRedefined old script.extra) t now → BothTold (IsPartlyOpened script) t now
-    by_held None p c = c
-    by_held (Some file) p c = (c.0, c.1, by_part file c.0 p c.2)
+    by_held : (t : Option (List ℕ)) → IsOpened t old → IfSome t (λ file. (e : HeaderErr) → HasFault (front file) e → ⊥)
+        → BothTold (IsPartlyRedefined old script.extra) t now → IsUnready script t now
+    by_held None p n c = inl c
+    by_held (Some file) p n c = by_part file c.0 p n c.1 c.2
+
+-- ---- the dataset that a text asks for
+
+pub left_unready : (left held now : Option (List ℕ)) (script : script_type.Script) → Asks left script → IsUnready script held now → IsLeftUnready left held now
+left_unready left held now script a (inl e) = inl e
+left_unready left held now script a (inr p) = inr (script, a, p)
 
 -- ---- a redefinition
 

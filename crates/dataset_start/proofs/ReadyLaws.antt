@@ -1,6 +1,6 @@
 -- A dataset that is ready for the ranks.
 use Rattle.std.proofs.Common.{◌≡◌, ℕ, ◌≤◌, ◌==◌, ◌++◌, Bool, true, false, List, [], ◌∷◌, length, Option, Some, None, inl, inr, refl, sym, ap, subst, append_assoc, eqb-true, ◌∙◌, arith}
-use Rattle.std.specs.Prelude.{IfErr, IfOk, IfSome, Result, Ok, Err}
+use Rattle.std.specs.Prelude.{IfErr, IfOk, IfSome, IsSomeAnd, Result, Ok, Err}
 use Rattle.std.specs.Result.{IsErrAnd}
 use Rattle.nc_base.specs.declared.errors.HeaderErr.{HeaderErr}
 use Rattle.nc_base.specs.declared.errors.RedefErr.{RedefErr}
@@ -18,7 +18,7 @@ use Rattle.serial_spec.specs.HeaderBytes.{header_len}
 use Rattle.serial_spec.specs.HeaderFaults.{HasFault}
 use Rattle.serial_spec.specs.SoundHeaders.{is_sound}
 use Rattle.serial_spec.specs.Layout.{end_of}
-use Rattle.serial_spec.specs.Redefinition.{brought, layout_fault, redefined, redefined_fault, redefined_header}
+use Rattle.serial_spec.specs.Redefinition.{brought, redefined, redefined_fault, redefined_header}
 use Rattle.serial_spec.specs.SerialEnd.{start}
 use Rattle.serial_spec.proofs.FileLaws.{longer-enough}
 use Rattle.cdf_header.specs.Decoded.{BeginsWith}
@@ -26,7 +26,7 @@ use Rattle.redef_laws.specs.Applied.{IsApplied}
 use Rattle.redef_laws.specs.Shifted.{new_end}
 use Rattle.redef_mover.specs.Relocation.{relocation_calls}
 use Rattle.script_spec.specs.ScriptGrammar.{Reads}
-use Rattle.dataset_start.specs.Dataset.{align_of, created_header, front, header_of_run, redefinition_fault, HasRedefinitionFault, IsSoundFile, TellsDataset}
+use Rattle.dataset_start.specs.Dataset.{created_header, creation_fault, front, header_of_run, redefinition_fault, Asks, AsksForBadLayout, HasRedefinitionFault, IsBadDataset, IsLaid, IsMislaid, IsSoundFile, TellsDataset}
 use Rattle.dataset_start.specs.Readiness.{blank_file, dataset_end, empty_end, fill_calls_if, filled_if, first_calls, opened_calls, IsFaultless, IsOpened, IsReady}
 use Rattle.dataset_start.specs.Stops.{line_of, status_of, IsOfHeader, IsOfRedefinition}
 use Rattle.dataset_start.specs.declared.stop.Stop.{Stop}
@@ -73,10 +73,10 @@ first-calls : (script : script_type.Script) (old new : head.Header) (file : List
 first-calls script old new file b x =
     ap (λ (c : Bool). elim c [ true ↦ opening_calls script new file | false ↦ redefining_calls script.hints old new file ]) x
 
-fault-none : (script : script_type.Script) (old : head.Header) → AddsNothing script true → redefinition_fault script old ≡ None
+pub fault-none : (script : script_type.Script) (old : head.Header) → AddsNothing script true → redefinition_fault script old ≡ None
 fault-none script old x = ap (λ (b : Bool). elim b [ true ↦ None | false ↦ redefined_fault old script.extra ]) x
 
-fault-some : (script : script_type.Script) (old : head.Header) → AddsNothing script false → redefinition_fault script old ≡ redefined_fault old script.extra
+pub fault-some : (script : script_type.Script) (old : head.Header) → AddsNothing script false → redefinition_fault script old ≡ redefined_fault old script.extra
 fault-some script old x = ap (λ (b : Bool). elim b [ true ↦ None | false ↦ redefined_fault old script.extra ]) x
 
 -- ---- the file before the ranks begin
@@ -172,9 +172,13 @@ told-is (Some file) = refl
 
 -- ---- a new dataset
 
+-- where its layout has no fault, nothing is wrong with it
+pub created-faultless : (script : script_type.Script) (held : Option (List ℕ)) → script.fresh ≡ true → creation_fault script ≡ None → IsFaultless script held
+created-faultless script held f l = record { created = λ _. l; opened = λ o. absurd (both_ways script.fresh o f) }
+
 pub ready-created : (script : script_type.Script) (header : head.Header) (before mid now : Option (List ℕ)) (calls_before calls_mid calls_now : Option (List DiskCall))
     → script.fresh ≡ true → AddsNothing script true
-    → header ≡ created_header script → is_sound header ≡ true → layout_fault script.header (align_of script.hints) ≡ None
+    → header ≡ created_header script → is_sound header ≡ true → creation_fault script ≡ None
     → mid ≡ after (λ _. blank_file header) before → now ≡ after (filled_if script.filled header) mid
     → calls_mid ≡ after (λ _. Grow (empty_end header) ∷ Store 0 (header_len header) ∷ []) calls_before
     → calls_now ≡ with_end calls_mid (fill_calls_if script.filled script.hints header)
@@ -185,7 +189,7 @@ ready-created script header before mid now calls_before calls_mid calls_now f x 
   held = told-is before;
   heads = record { created = λ _. h; opened = λ o. absurd (both_ways script.fresh o f); made = sym (header-kept script header x) };
   sound = s;
-  faultless = record { created = λ _. l; opened = λ o. absurd (both_ways script.fresh o f) };
+  faultless = created-faultless script before f l;
   bytes =
       g ∙ ap (λ (t : Option (List ℕ)). after (filled_if script.filled header) t) e
       ∙ after-after (filled_if script.filled header) (λ _. blank_file header) before
@@ -214,7 +218,7 @@ sound-file script old (Some file) o r n = record { header = n; redefinition = re
         let same : h.old ≡ old = begins_once h.old old (front file) h.count b.0 h.begins b.1 in
         some_not_none e (redefinition_fault script h.old) h.refuses (ap (λ (x : head.Header). redefinition_fault script x) same ∙ r)
 
-opened-faultless : (script : script_type.Script) (old : head.Header) (held : Option (List ℕ)) → script.fresh ≡ false → IsOpened held old
+pub opened-faultless : (script : script_type.Script) (old : head.Header) (held : Option (List ℕ)) → script.fresh ≡ false → IsOpened held old
     → redefinition_fault script old ≡ None → IfSome held (λ file. (e : HeaderErr) → HasFault (front file) e → ⊥) → IsFaultless script held
 opened-faultless script old held f o r n =
     record { created = λ c. absurd (both_ways script.fresh f c); opened = λ _. sound-file script old held o r n }
@@ -345,11 +349,6 @@ bad-redefinition script old held (Err stop) f x p h o = bad-redefinition-stop sc
 pub same_script : (text : List ℕ) (a b : script_type.Script) → Reads text a → Reads text b → a ≡ b
 same_script text a b r s = let e : Ok a ≡ Ok b = sym r ∙ s in cc
 
-pub of_any : {Q : Type 0} (left : Option (List ℕ)) (script : script_type.Script) → IfSome left (λ text. Reads text script) → (script.fresh ≡ true → Q)
-    → IfSome left (λ text. (s : script_type.Script) → Reads text s → s.fresh ≡ true → Q)
-of_any None script r h = tt
-of_any (Some text) script r h = λ s q f. h (ap (λ (x : script_type.Script). x.fresh) (same_script text script s r q) ∙ f)
-
 -- a created dataset has no record
 pub created_long : (script : script_type.Script) (header : head.Header) (len : ℕ) → script.header.records ≡ 0 → header ≡ created_header script
     → len ≡ empty_end header → dataset_end header ≤ len
@@ -358,8 +357,32 @@ created_long script header len r h l =
     let same : dataset_end header ≡ empty_end header = ap (λ (n : ℕ). end_of header (header_len header) n) none in
     omega (arith, same, l)
 
-pub unlaid : {T Q : Type 0} (left : Option (List ℕ)) (script : script_type.Script) (result : Result T Stop) (err : Stop) → IfSome left (λ text. Reads text script)
-    → IsErrAnd result (λ stop. stop ≡ err) → (status_of err ≡ 4 → script.fresh ≡ true → Q)
-    → IfErr result (λ stop. status_of stop ≡ 4 → IfSome left (λ text. (s : script_type.Script) → Reads text s → s.fresh ≡ true → Q))
-unlaid left script (Ok x) err r e h = tt
-unlaid left script (Err stop) err r e h = λ s. of_any left script r (λ f. h (ap status_of (sym e) ∙ s) f)
+-- ---- a layout that is refused
+
+-- what is laid out has no fault
+pub laid-mislaid : {Q : Type 0} (script : script_type.Script) → IsLaid script → IsMislaid script → Q
+laid-mislaid script l m = absurd (some_not_none m.fault (creation_fault script) m.refuses (l m.created))
+
+-- what is so of a script whose layout is refused is so where the text asks for one
+pub of_bad_layout : {Q : Type 0} (left : Option (List ℕ)) (script : script_type.Script) → Asks left script → (IsMislaid script → Q)
+    → IsSomeAnd left AsksForBadLayout → Q
+of_bad_layout None script r h b = absurd b
+of_bad_layout (Some text) script r h b = h (subst IsMislaid (same_script text b.0 script b.1 r) b.2)
+
+-- what is so of a created dataset with a fault, by the line that tells it
+untouched : {Untouched : Type 0} (script : script_type.Script) (held : Option (List ℕ)) (line : List ℕ) → TellsDataset script held line
+    → (IsMislaid script → Untouched) → script.fresh ≡ true → Untouched
+untouched script held line t h f = let told = t.created f in h (record { created = f; fault = told.0; refuses = told.1.0 })
+
+pub bad-dataset : {Untouched : Type 0} (left held : Option (List ℕ)) (script : script_type.Script) (told : Option (List ℕ)) → Asks left script
+    → (IsMislaid script → Untouched) → IfSome told (TellsDataset script held) → IfSome told (IsBadDataset left held Untouched)
+bad-dataset left held script None a h t = tt
+bad-dataset left held script (Some line) a h t = record { script = script; asks = a; tells = t; unlaid = untouched script held line t h }
+
+pub bad-asked : {T : Type 0} (Untouched : Type 0) (left held : Option (List ℕ)) (script : script_type.Script) (result : Result T Stop) (err : Stop)
+    → IsErrAnd result (λ stop. stop ≡ err) → Asks left script → (IsMislaid script → Untouched)
+    → (status_of err ≡ 4 → IfSome (line_of err) (TellsDataset script held))
+    → IfErr result (λ stop. status_of stop ≡ 4 → IfSome (line_of stop) (IsBadDataset left held Untouched))
+bad-asked Untouched left held script (Ok x) err e a h t = tt
+bad-asked Untouched left held script (Err stop) err e a h t = λ s.
+    subst (λ (o : Stop). IfSome (line_of o) (IsBadDataset left held Untouched)) (sym e) (bad-dataset left held script (line_of err) a h (t (ap status_of (sym e) ∙ s)))

@@ -1,11 +1,13 @@
--- What a fault of the disk, and one of a redefinition, leave.
-use Rattle.std.proofs.Common.{◌≡◌, refl, sym, ap, ◌∙◌, arith}
+-- What a fault of the disk, and one of a redefinition, leave, and what ends early after the script was read.
+use Rattle.std.proofs.Common.{◌≡◌, ℕ, List, Option, inl, inr, refl, sym, ap, subst, ◌∙◌, arith}
 use Rattle.std.specs.Prelude.{Result, Ok, Err, IfErr}
 use Rattle.std.specs.Result.{IsErrAnd}
 use Rattle.nc_base.specs.declared.errors.RedefErr.{RedefErr}
 use Rattle.nc_outside.specs.declared.disk.DiskErr.{DiskErr}
 use Rattle.nc_outside.specs.declared.disk.DiskErr.TheVariants as disk
-use Rattle.dataset_start.specs.Stops.{IsOfRedefinition, status_of, stop_of_disk}
+use Rattle.nc_base.specs.declared.script.Script.{Script}
+use Rattle.dataset_start.specs.Dataset.{Asks, IsBeforeStart, IsLaid}
+use Rattle.dataset_start.specs.Stops.{IsOfDataset, IsOfRedefinition, status_of, stop_of_disk}
 use Rattle.dataset_start.specs.declared.stop.Stop.{Stop}
 use Rattle.dataset_start.specs.declared.stop.Stop.TheVariants as stops
 
@@ -31,3 +33,37 @@ redefinition-leaves (Err (stops.Script e)) left only = absurd only
 redefinition-leaves (Err (stops.Header e)) left only = absurd only
 redefinition-leaves (Err (stops.Layout e)) left only = absurd only
 redefinition-leaves (Err stops.Source) left only = absurd only
+
+-- ---- the script was read
+
+-- a dataset whose making ends early was started, or could have been
+late : (stop : Stop) → IsOfDataset stop → IsBeforeStart (status_of stop) → ⊥
+late (stops.Header e) only (inl s) = omega (arith, s)
+late (stops.Header e) only (inr (inl s)) = omega (arith, s)
+late (stops.Header e) only (inr (inr s)) = omega (arith, s)
+late (stops.Layout e) only (inl s) = omega (arith, s)
+late (stops.Layout e) only (inr (inl s)) = omega (arith, s)
+late (stops.Layout e) only (inr (inr s)) = omega (arith, s)
+late (stops.Redefinition e) only (inl s) = omega (arith, s)
+late (stops.Redefinition e) only (inr (inl s)) = omega (arith, s)
+late (stops.Redefinition e) only (inr (inr s)) = omega (arith, s)
+late stops.Disk only (inl s) = omega (arith, s)
+late stops.Disk only (inr (inl s)) = omega (arith, s)
+late stops.Disk only (inr (inr s)) = omega (arith, s)
+late stops.Memory only (inl s) = omega (arith, s)
+late stops.Memory only (inr (inl s)) = omega (arith, s)
+late stops.Memory only (inr (inr s)) = omega (arith, s)
+late stops.Usage only s = only
+late (stops.Script e) only s = only
+late stops.Source only s = only
+
+pub not-before : {T : Type 0} (Q : Type 0) (result : Result T Stop) (err : Stop) → IsErrAnd result (λ stop. stop ≡ err) → IsOfDataset err
+    → IfErr result (λ stop. IsBeforeStart (status_of stop) → Q)
+not-before Q (Ok x) err e only = tt
+not-before Q (Err stop) err e only = λ s. absurd (late stop (subst IsOfDataset (sym e) only) s)
+
+-- where the disk failed, the script is laid out
+pub laid-asked : {T : Type 0} (left : Option (List ℕ)) (script : Script) (result : Result T Stop) (err : Stop) → IsErrAnd result (λ stop. stop ≡ err) → Asks left script
+    → (status_of err ≡ 7 → IsLaid script) → IfErr result (λ stop. status_of stop ≡ 7 → (s : Script) × (Asks left s × IsLaid s))
+laid-asked left script (Ok x) err e a l = tt
+laid-asked left script (Err stop) err e a l = λ s. (script, (a, l (ap status_of (sym e) ∙ s)))

@@ -1,13 +1,15 @@
 -- The dataset that a script asks for, and what refuses it.
 --     AreHeadersOf script file old header    the first header of the dataset, and the one with which the ranks run
---     refusal text                           the line that refuses a text
+--     creation_fault, redefinition_fault     why a dataset can't be laid out, or can't be added to
 --     IsSoundFile, IsFaultyFile              whether an existing file can be opened as the script asks
---     TellsDataset script held line          the line tells what is wrong with the dataset
---     IsRight, IsWrong                       whether something is wrong with it
-use Rattle.std.specs.Prelude.{ℕ, ◌^◌, ◌==◌, ◌≡◌, ◌⊎◌, true, false, List, take, length, Option, Some, None, option_map, IfSome, IsSomeAnd}
+--     TellsScript, TellsDataset              the line tells what is wrong with the text, or with the dataset that it asks for
+--     IsRight, IsWrong                       whether something is wrong with the dataset
+--     IsLaid, AsksForBadLayout               the layout of a created one has no fault; the text asks for one that has a fault
+use Rattle.std.specs.Prelude.{ℕ, ◌^◌, ◌==◌, ◌≡◌, ◌⊎◌, true, false, List, take, length, Option, Some, None, IfSome, IsSomeAnd}
 use Rattle.nc_base.specs.declared.errors.HeaderErr.{HeaderErr}
 use Rattle.nc_base.specs.declared.errors.LayoutErr.{LayoutErr}
 use Rattle.nc_base.specs.declared.errors.RedefErr.{RedefErr}
+use Rattle.nc_base.specs.declared.errors.ScriptErr.{ScriptErr}
 use Rattle.nc_base.specs.declared.header.Header.{Header}
 use Rattle.nc_base.specs.declared.script.Align.{Align}
 use Rattle.nc_base.specs.declared.script.Hints.{Hints}
@@ -48,9 +50,13 @@ pub record AreHeadersOf (script : Script) (file : List ℕ) (old header : Header
 
 -- ---- what refuses a script or a dataset
 
--- the line that refuses a text, where it has a fault
-abbrev pub refusal : List ℕ → Option (List ℕ)
-refusal text = option_map script_line (script_fault text)
+-- the text has a fault
+abbrev pub IsFaultyText : List ℕ → Type 0
+IsFaultyText text = (e : ScriptErr) × (script_fault text ≡ Some e)
+
+-- the line tells it
+abbrev pub TellsScript : Option (List ℕ) → List ℕ → Type 0
+TellsScript left line = (e : ScriptErr) × (IfSome left (λ text. script_fault text ≡ Some e) × (line ≡ script_line e))
 
 -- some text spells the script
 abbrev pub IsRead : Script → Type 0
@@ -66,6 +72,10 @@ pub record IsKept (script : Script) : Type 0 where
 -- the text is that of this script
 abbrev pub Asks : Option (List ℕ) → Script → Type 0
 Asks left script = IfSome left (λ text. Reads text script)
+
+-- why the dataset that the script creates can't be laid out
+abbrev pub creation_fault : Script → Option LayoutErr
+creation_fault script = layout_fault script.header (align_of script.hints)
 
 -- why a dataset with this header refuses what the script adds to it
 abbrev pub redefinition_fault : Script → Header → Option RedefErr
@@ -98,28 +108,43 @@ TellsRedefinition script held line = (e : RedefErr) × (IfSome held (λ file. Ha
 -- The line tells what is wrong with a dataset: with the layout of a created one, with the header of an opened one or with its
 -- redefinition.
 pub record TellsDataset (script : Script) (held : Option (List ℕ)) (line : List ℕ) : Type 0 where
-  pub created : script.fresh ≡ true → (e : LayoutErr) × ((layout_fault script.header (align_of script.hints) ≡ Some e) × (line ≡ layout_line e))
+  pub created : script.fresh ≡ true → (e : LayoutErr) × ((creation_fault script ≡ Some e) × (line ≡ layout_line e))
   pub opened : script.fresh ≡ false → TellsHeader held line ⊎ TellsRedefinition script held line
 
--- the same of the dataset that a text asks for
-pub record IsBadDataset (left held : Option (List ℕ)) (line : List ℕ) : Type 0 where
+-- The line tells what is wrong with the dataset that a text asks for; one that is to be created is untouched.
+pub record IsBadDataset (left held : Option (List ℕ)) (Untouched : Type 0) (line : List ℕ) : Type 0 where
   pub script : Script
   pub asks : Asks left script
   pub tells : TellsDataset script held line
+  pub unlaid : script.fresh ≡ true → Untouched
+
+-- nothing is wrong with the layout of a dataset that is to be created
+abbrev pub IsLaid : Script → Type 0
+IsLaid script = script.fresh ≡ true → creation_fault script ≡ None
 
 -- nothing is wrong with a dataset, which is told where it is opened
 pub record IsRight (script : Script) (held : Option (List ℕ)) : Type 0 where
-  pub created : script.fresh ≡ true → layout_fault script.header (align_of script.hints) ≡ None
+  pub created : IsLaid script
   pub opened : script.fresh ≡ false → IsSomeAnd held (IsSoundFile script)
 
 -- something is wrong with it
 pub record IsWrong (script : Script) (held : Option (List ℕ)) : Type 0 where
-  pub created : script.fresh ≡ true → (e : LayoutErr) × (layout_fault script.header (align_of script.hints) ≡ Some e)
+  pub created : script.fresh ≡ true → (e : LayoutErr) × (creation_fault script ≡ Some e)
   pub opened : script.fresh ≡ false → IsSomeAnd held (IsFaultyFile script)
 
 -- the text asks for a dataset of which this is so
 abbrev pub AsksFor : (Script → Option (List ℕ) → Type 0) → List ℕ → Option (List ℕ) → Type 0
 AsksFor P text held = (script : Script) × Reads text script × P script held
+
+-- a dataset that is to be created can't be laid out
+pub record IsMislaid (script : Script) : Type 0 where
+  pub created : script.fresh ≡ true
+  pub fault : LayoutErr
+  pub refuses : creation_fault script ≡ Some fault
+
+-- the text asks for such a dataset
+abbrev pub AsksForBadLayout : List ℕ → Type 0
+AsksForBadLayout text = (script : Script) × Reads text script × IsMislaid script
 
 -- ---- before anything is done
 

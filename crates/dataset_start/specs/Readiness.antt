@@ -11,7 +11,8 @@
 --     IsCutRedefinition old new file left   what a redefinition that was cut off leaves of a file
 --     IsTornOpening ..                      the same of the opening of an existing dataset, whose header is read
 --     IsNotReady script file left           what stands of a dataset that was not made ready
---     IsLeftUnready left before now         the same where a script was read, or the dataset was not touched
+--     IsPartlyReady script before now       the same, and nothing is wrong with the dataset
+--     IsUnready, IsLeftUnready              the same, or nothing was done: of a script's dataset, or of the one that a text asks for
 use Rattle.std.specs.Prelude.{ℕ, ◌==◌, ◌≡◌, ◌⊎◌, List, [], ◌++◌, length, Bool, true, false, Option, None, IfSome, if◌then◌else◌}
 use Rattle.nc_base.specs.declared.header.Header.{Header}
 use Rattle.nc_base.specs.declared.script.Extra.{Extra}
@@ -25,14 +26,14 @@ use Rattle.serial_spec.specs.Fill.{filled}
 use Rattle.serial_spec.specs.HeaderBytes.{canon, header_len}
 use Rattle.serial_spec.specs.SoundHeaders.{is_sound}
 use Rattle.serial_spec.specs.Layout.{end_of}
-use Rattle.serial_spec.specs.Redefinition.{brought, layout_fault, redefined}
+use Rattle.serial_spec.specs.Redefinition.{brought, redefined}
 use Rattle.serial_spec.specs.SerialEnd.{start}
 use Rattle.serial_spec.specs.Torn.{IsLengthened, IsTornCreation, IsTornRedefinition}
 use Rattle.cdf_header.specs.Decoded.{BeginsWith}
 use Rattle.redef_laws.specs.Applied.{IsApplied}
 use Rattle.redef_laws.specs.Shifted.{new_end}
 use Rattle.redef_mover.specs.Relocation.{KeepsPlaces}
-use Rattle.dataset_start.specs.Dataset.{align_of, created_header, front, AreHeadersOf, Asks, IsSoundFile}
+use Rattle.dataset_start.specs.Dataset.{created_header, front, AreHeadersOf, Asks, IsLaid, IsSoundFile}
 
 -- the front of what is held, or of some file where nothing is told, spells the header
 pub record IsOpened (held : Option (List ℕ)) (header : Header) : Type 0 where
@@ -72,7 +73,7 @@ first_calls script old header file =
 
 -- nothing is wrong with the dataset, as far as it is told
 pub record IsFaultless (script : Script) (held : Option (List ℕ)) : Type 0 where
-  pub created : script.fresh ≡ true → layout_fault script.header (align_of script.hints) ≡ None
+  pub created : IsLaid script
   pub opened : script.fresh ≡ false → IfSome held (IsSoundFile script)
 
 -- What is made of a dataset before the ranks begin, and its header.
@@ -123,6 +124,15 @@ pub record IsNotReady (script : Script) (file left : List ℕ) : Type 0 where
   pub created : script.fresh ≡ true → IsTornCreation (canon (created_header script)) (start script (created_header script) file) file left
   pub opened : script.fresh ≡ false → IsPartlyOpened script file left
 
--- nothing was done to the dataset, or the source's text is that of a script whose dataset was not made ready
+-- Nothing is wrong with the dataset of a script, and it was made ready in part.
+pub record IsPartlyReady (script : Script) (before now : Option (List ℕ)) : Type 0 where
+  pub faultless : IsFaultless script before
+  pub left : BothTold (IsNotReady script) before now
+
+-- nothing was done to the dataset of a script, or it was made ready in part
+abbrev pub IsUnready : Script → Option (List ℕ) → Option (List ℕ) → Type 0
+IsUnready script before now = (now ≡ before) ⊎ IsPartlyReady script before now
+
+-- the same of the dataset that the source's text asks for
 abbrev pub IsLeftUnready : Option (List ℕ) → Option (List ℕ) → Option (List ℕ) → Type 0
-IsLeftUnready left before now = (now ≡ before) ⊎ ((script : Script) × Asks left script × BothTold (IsNotReady script) before now)
+IsLeftUnready left before now = (now ≡ before) ⊎ ((script : Script) × Asks left script × IsPartlyReady script before now)

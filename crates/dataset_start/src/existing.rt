@@ -9,7 +9,7 @@ ghost use Rattle.serial_spec.specs.HeaderFaults.{HasFault};
 ghost use Rattle.serial_spec.specs.SoundHeaders.{is_sound, is_redefinable};
 ghost use Rattle.serial_spec.specs.Torn.{IsLengthened};
 ghost use Rattle.dataset_start.specs.Dataset.{front, IsKept, TellsDataset};
-ghost use Rattle.dataset_start.specs.Readiness.{dataset_end, IsOpened, IsPartlyOpened, IsReady};
+ghost use Rattle.dataset_start.specs.Readiness.{dataset_end, IsOpened, IsReady, IsUnready};
 ghost use Rattle.dataset_start.specs.Stops.{line_of, status_of, IsOfHeader, IsOfOpening};
 
 use crate::redefined::redefine;
@@ -35,7 +35,7 @@ pub(crate) fn open<D: Disk>(
     ensures len { IfOk result (λ header. dataset_end header ≤ D.len disk.new) }
     ensures bad { IfErr result (λ stop. status_of stop ≡ 4 → IfSome (line_of stop) (TellsDataset script.now (D.held disk.old))) }
     ensures unchanged { IfErr result (λ stop. status_of stop ≡ 4 → D.held disk.new ≡ D.held disk.old) }
-    ensures refused { OnErr result (BothTold (IsPartlyOpened script.now) (D.held disk.old) (D.held disk.new)) }
+    ensures refused { OnErr result (IsUnready script.now (D.held disk.old) (D.held disk.new)) }
     ensures disk { IsErrOf result Stop.Disk → Rose (D.faults disk.old) (D.faults disk.new) }
     ensures later { D.faults disk.old ≤ D.faults disk.new }
     ensures only { IfErr result IsOfOpening }

@@ -1,9 +1,12 @@
 // The script that the source has.
-ghost use Rattle.std.specs.Prelude.{◌≡◌, [], IfOk, IfErr, OnOk, IfSome, IsErrOf};
+ghost use Rattle.std.specs.Prelude.{◌≡◌, [], Some, IfOk, IfErr, OnOk, IfSome, IsErrOf, Err};
+ghost use Rattle.nc_base.specs.declared.errors.ScriptErr.{ScriptErr};
 ghost use Rattle.nc_outside.specs.Told.{after};
 ghost use Rattle.nc_outside.specs.Cause.{Rose};
-ghost use Rattle.dataset_start.specs.Dataset.{Asks, IsRead, refusal};
-ghost use Rattle.dataset_start.specs.Stops.{line_of, status_of, IsOfTaking};
+ghost use Rattle.script_spec.specs.ScriptGrammar.{script_fault};
+ghost use Rattle.dataset_start.specs.Dataset.{Asks, IsRead};
+ghost use Rattle.dataset_start.specs.Limits.{most_taken, TakesAtMost};
+ghost use Rattle.dataset_start.specs.Stops.{IsOfTaking};
 
 use crate::stop::Stop;
 use crate::streams::take_all;
@@ -17,7 +20,8 @@ pub(crate) fn take_script<S: Source>(alloc: Global, source: &mut S) -> Result<Sc
     ensures asks { IfOk result (λ script. Asks (S.left source.old) script) }
     ensures read { IfOk result IsRead }
     ensures taken { OnOk result (S.left source.new ≡ after (λ _. []) (S.left source.old)) }
-    ensures refused { IfErr result (λ stop. status_of stop ≡ 3 → IfSome (S.left source.old) (λ text. refusal text ≡ line_of stop)) }
+    ensures few { TakesAtMost most_taken (S.left source.old) (S.left source.new) }
+    ensures refused { (e : ScriptErr) → result ≡ Err (Stop.Script e) → IfSome (S.left source.old) (λ text. script_fault text ≡ Some e) }
     ensures source { IsErrOf result Stop.Source → Rose (S.faults source.old) (S.faults source.new) }
     ensures only { IfErr result IsOfTaking }
 {

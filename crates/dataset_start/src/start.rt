@@ -1,15 +1,16 @@
 // What comes before the ranks: the script and the dataset.
-ghost use Rattle.std.specs.Prelude.{◌≡◌, ◌≤◌, [], true, IfOk, IfErr, OnOk, OnErr, IfSome, IsErrOf, Err, Some, None};
-ghost use Rattle.nc_outside.specs.Told.{after, BothTold};
+ghost use Rattle.std.specs.Prelude.{◌≡◌, ◌≤◌, [], true, IfOk, IfErr, OnOk, OnErr, IfSome, IsErrOf, IsSomeAnd, Err, Some, None};
+ghost use Rattle.nc_outside.specs.Told.{after};
 ghost use Rattle.nc_outside.specs.Cause.{Rose};
 ghost use Rattle.serial_spec.specs.SoundHeaders.{is_writable};
-ghost use Rattle.dataset_start.specs.Dataset.{align_of, Asks, created_header, IsBeforeStart, IsKept, IsRead, refusal, TellsDataset};
-ghost use Rattle.dataset_start.specs.Readiness.{dataset_end, IsLeftUnready, IsNotReady, IsReady};
+ghost use Rattle.dataset_start.specs.Dataset.{Asks, AsksForBadLayout, created_header, creation_fault, IsBadDataset, IsBeforeStart, IsKept, IsLaid, IsMislaid, IsRead, TellsDataset};
+ghost use Rattle.dataset_start.specs.Limits.{most_taken, TakesAtMost};
+ghost use Rattle.dataset_start.specs.Readiness.{dataset_end, IsLeftUnready, IsReady, IsUnready};
 ghost use Rattle.dataset_start.specs.Stops.{IsOfDataset, IsOfLayout, line_of, status_of};
 ghost use Rattle.nc_base.specs.declared.errors.LayoutErr.{LayoutErr};
+ghost use Rattle.nc_base.specs.declared.errors.ScriptErr.{ScriptErr};
 ghost use Rattle.nc_base.specs.declared.script.Script.{Script};
-ghost use Rattle.script_spec.specs.ScriptGrammar.{Reads};
-ghost use Rattle.serial_spec.specs.Redefinition.{layout_fault};
+ghost use Rattle.script_spec.specs.ScriptGrammar.{script_fault};
 
 use crate::existing::open;
 use crate::fresh::{create, fill};
@@ -41,10 +42,11 @@ pub fn begin<S: Source, D: Disk>(
     ensures from { OnOk result (D.from disk.new ≡ 0) }
     ensures len { IfOk result (λ ready. dataset_end ready.header ≤ D.len disk.new) }
     ensures formed { ¬ (IsErrOf result Stop.Usage) }
-    ensures refused { IfErr result (λ stop. status_of stop ≡ 3 → IfSome (S.left source.old) (λ text. refusal text ≡ line_of stop)) }
-    ensures bad { IfErr result (λ stop. status_of stop ≡ 4 → (script : Script) × (Asks (S.left source.old) script × IfSome (line_of stop) (TellsDataset script (D.held disk.old)))) }
-    ensures asked { IfErr result (λ stop. status_of stop ≡ 7 → (script : Script) × Asks (S.left source.old) script) }
-    ensures unlaid { IfErr result (λ stop. status_of stop ≡ 4 → IfSome (S.left source.old) (λ text. (s : Script) → Reads text s → s.fresh ≡ true → disk.new ≡ disk.old)) }
+    ensures few { TakesAtMost most_taken (S.left source.old) (S.left source.new) }
+    ensures refused { (e : ScriptErr) → result ≡ Err (Stop.Script e) → IfSome (S.left source.old) (λ text. script_fault text ≡ Some e) }
+    ensures bad { IfErr result (λ stop. status_of stop ≡ 4 → IfSome (line_of stop) (IsBadDataset (S.left source.old) (D.held disk.old) (disk.new ≡ disk.old))) }
+    ensures asked { IfErr result (λ stop. status_of stop ≡ 7 → (script : Script) × (Asks (S.left source.old) script × IsLaid script)) }
+    ensures unlaid { IsSomeAnd (S.left source.old) AsksForBadLayout → disk.new ≡ disk.old }
     ensures unchanged { IfErr result (λ stop. status_of stop ≡ 4 → D.held disk.new ≡ D.held disk.old) }
     ensures torn { OnErr result (IsLeftUnready (S.left source.old) (D.held disk.old) (D.held disk.new)) }
     ensures source { IsErrOf result Stop.Source → Rose (S.faults source.old) (S.faults source.new) }
@@ -69,9 +71,10 @@ pub fn make_ready<D: Disk>(
     ensures from { OnOk result (D.from disk.new ≡ 0) }
     ensures len { IfOk result (λ header. dataset_end header ≤ D.len disk.new) }
     ensures bad { IfErr result (λ stop. status_of stop ≡ 4 → IfSome (line_of stop) (TellsDataset script.now (D.held disk.old))) }
-    ensures unlaid { IfErr result (λ stop. status_of stop ≡ 4 → script.now.fresh ≡ true → disk.new ≡ disk.old) }
+    ensures laid { IfErr result (λ stop. status_of stop ≡ 7 → IsLaid script.now) }
+    ensures unlaid { IsMislaid script.now → disk.new ≡ disk.old }
     ensures unchanged { IfErr result (λ stop. status_of stop ≡ 4 → D.held disk.new ≡ D.held disk.old) }
-    ensures refused { OnErr result (BothTold (IsNotReady script.now) (D.held disk.old) (D.held disk.new)) }
+    ensures refused { OnErr result (IsUnready script.now (D.held disk.old) (D.held disk.new)) }
     ensures disk { IsErrOf result Stop.Disk → Rose (D.faults disk.old) (D.faults disk.new) }
     ensures later { D.faults disk.old ≤ D.faults disk.new }
     ensures only { IfErr result IsOfDataset }
@@ -92,8 +95,8 @@ fn laid_out(alloc: Global, script: &Script) -> Result<Header, Stop>
     requires fresh { script.now.fresh ≡ true }
     ensures header { IfOk result (λ header. header ≡ created_header script.now) }
     ensures writable { IfOk result (λ header. is_writable header ≡ true) }
-    ensures faultless { OnOk result (layout_fault script.now.header (align_of script.now.hints) ≡ None) }
-    ensures refused { (e : LayoutErr) → result ≡ Err (Stop.Layout e) → layout_fault script.now.header (align_of script.now.hints) ≡ Some e }
+    ensures faultless { OnOk result (creation_fault script.now ≡ None) }
+    ensures refused { (e : LayoutErr) → result ≡ Err (Stop.Layout e) → creation_fault script.now ≡ Some e }
     ensures only { IfErr result IsOfLayout }
 {
     let mut header = script.header.clone(alloc)?;

@@ -2,7 +2,7 @@
 ghost use Rattle.std.specs.Prelude.{◌≡◌, ◌<◌, ◌≤◌, ℕ, [], length, take, IfOk, OnOk, IsErrOf};
 ghost use Rattle.nc_outside.specs.Told.{after, with_front, with_end};
 ghost use Rattle.nc_outside.specs.Cause.{HasCause, Rose};
-ghost use Rattle.dataset_start.specs.Limits.{max_text};
+ghost use Rattle.dataset_start.specs.Limits.{max_text, most_taken, TakesAtMost};
 ghost use Rattle.dataset_start.specs.declared.streams.TakeErr.TheVariants.{Fault, Memory};
 
 use nc_base::MAX_SCRIPT_BYTES;
@@ -34,6 +34,7 @@ impl From<AllocError> for TakeErr {
 /// All the bytes that are left, or, where there are more than a script may have, so many that this shows.
 pub(crate) fn take_all<S: Source>(alloc: Global, source: &mut S) -> Result<Vec<u8>, TakeErr>
     ensures taken { IfOk result (λ text. S.left source.old ≡ with_front text.items (S.left source.new)) }
+    ensures few { TakesAtMost most_taken (S.left source.old) (S.left source.new) }
     ensures ended { IfOk result (λ text. length text.items ≤ max_text → S.left source.new ≡ after (λ _. []) (S.left source.new)) }
     ensures fault { IsErrOf result TakeErr.Fault → Rose (S.faults source.old) (S.faults source.new) }
     ensures later { S.faults source.old ≤ S.faults source.new }

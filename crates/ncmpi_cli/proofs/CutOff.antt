@@ -1,5 +1,5 @@
 -- A run that a fault cut off.
-use Rattle.std.proofs.Common.{◌≡◌, ℕ, ◌==◌, true, List, [], length, Option, Some, None, sym, ap, subst, ◌∙◌}
+use Rattle.std.proofs.Common.{◌≡◌, ℕ, ◌==◌, true, List, [], length, Option, Some, None, inl, inr, sym, ap, subst, ◌∙◌}
 use Rattle.std.specs.Prelude.{IfSome}
 use Rattle.nc_base.specs.declared.header.Header.{Header}
 use Rattle.nc_base.specs.declared.run.RunEnd.{RunEnd}
@@ -9,16 +9,17 @@ use Rattle.nc_base.specs.declared.step.Mark.{Mark}
 use Rattle.nc_base.specs.declared.step.StepErr.{StepErr}
 use Rattle.nc_outside.specs.Told.{after, BothTold}
 use Rattle.serial_spec.specs.Torn.{IsCutRun}
+use Rattle.rank_meeting.specs.Begun.{HasBegun}
 use Rattle.rank_meeting.specs.Run.{HasCut}
 use Rattle.ncmpi_cli.specs.Faults.{IsCutFile, IsMadeUnready, MadeCutOff, WasCutOff}
 use Rattle.ncmpi_cli.specs.Generated.{script_made}
 use Rattle.ncmpi_cli.specs.Headline.{file_at_start}
 use Rattle.ncmpi_cli.specs.Outside.{Output, Seen}
 use Rattle.dataset_start.specs.Dataset.{Asks, created_header}
-use Rattle.dataset_start.specs.Readiness.{IsNotReady, IsReady}
+use Rattle.dataset_start.specs.Readiness.{IsNotReady, IsReady, IsUnready}
 use Rattle.ncmpi_cli.proofs.Made.{made_alone, made_fresh}
 use Rattle.dataset_start.proofs.NotReady.{not_laid}
-use Rattle.ncmpi_cli.proofs.Ran.{at_start, can_have_begun}
+use Rattle.ncmpi_cli.proofs.Ran.{at_start, have_begun}
 use Rattle.dataset_start.proofs.ReadyLaws.{header-kept}
 
 -- the file, where it is told
@@ -43,11 +44,11 @@ cut_file fault script header held held_mid held_now calls calls_mid order count 
 
 pub cut_off : (fault : StepErr) (script : Script) (header : Header) (before now : Seen) (held_mid : Option (List ℕ)) (calls_mid : Option (List DiskCall))
     (order : List Mark) (count : ℕ) (end : RunEnd) → Asks before.left script → IsReady script header before.output.held held_mid before.output.calls calls_mid
-    → now.left ≡ after (λ _. []) before.left → order ≡ end.order → end.fault ≡ Some fault → HasCut script header held_mid now.output.held count end
-    → WasCutOff fault before now order
-unfolding can_have_begun
-cut_off fault script header before now held_mid calls_mid order count end asks ready taken same failed cut = record {
-  start = can_have_begun script header before.left now.left before.output.held held_mid before.output.calls calls_mid asks ready taken;
+    → now.left ≡ after (λ _. []) before.left → order ≡ end.order → HasBegun script end.order → end.fault ≡ Some fault
+    → HasCut script header held_mid now.output.held count end → WasCutOff fault before now order
+unfolding have_begun
+cut_off fault script header before now held_mid calls_mid order count end asks ready taken same begun failed cut = record {
+  begun = have_begun script header before now held_mid calls_mid order end.order asks ready taken same begun;
   cut = cut_file fault script header before.output.held held_mid now.output.held before.output.calls calls_mid order count end ready same failed cut;
 }
 
@@ -59,8 +60,9 @@ module _ (seed size : ℕ) where
   made_unready held now e =
       subst (λ (m : Option (List ℕ)). BothTold (IsNotReady (script_made seed size)) held m) (sym e) (not_laid (script_made seed size) held (made_fresh seed size))
 
-  pub unready_made : (script : Script) (held now : Option (List ℕ)) → script ≡ script_made seed size → BothTold (IsNotReady script) held now → IsMadeUnready seed size held now
-  unready_made script held now is left = subst (λ (s : Script). BothTold (IsNotReady s) held now) is left
+  pub unready_made : (script : Script) (held now : Option (List ℕ)) → script ≡ script_made seed size → IsUnready script held now → IsMadeUnready seed size held now
+  unready_made script held now is (inl e) = made_unready held now e
+  unready_made script held now is (inr p) = subst (λ (s : Script). BothTold (IsNotReady s) held now) is p.left
 
   pub made_cut : (fault : StepErr) (script : Script) (header : Header) (before now : Output) (held_mid : Option (List ℕ)) (calls_mid : Option (List DiskCall))
       (order : List Mark) (count : ℕ) (end : RunEnd) → script ≡ script_made seed size → IsReady script header before.held held_mid before.calls calls_mid

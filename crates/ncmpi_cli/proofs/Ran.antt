@@ -11,15 +11,13 @@ use Rattle.nc_outside.specs.Told.{after, with_end}
 use Rattle.serial_spec.specs.DeviceCalls.{all_calls, run_calls}
 use Rattle.serial_spec.specs.SerialEnd.{End, serial_from}
 use Rattle.script_spec.specs.Texts.{run_text, watch_text}
-use Rattle.script_spec.specs.ScriptGrammar.{Reads}
 use Rattle.rank_meeting.specs.Begun.{HasBegun}
 use Rattle.rank_meeting.specs.Run.{IsRun}
 use Rattle.turn_run.specs.Known.{seen}
-use Rattle.ncmpi_cli.specs.Headline.{BeginsFor, file_at_start, Ran, text_of, watched_text, with_counts}
+use Rattle.ncmpi_cli.specs.Headline.{file_at_start, HaveBegun, Ran, text_of, watched_text, with_counts}
 use Rattle.ncmpi_cli.specs.Outside.{Seen}
 use Rattle.dataset_start.specs.Dataset.{Asks}
-use Rattle.dataset_start.specs.Readiness.{first_calls, CanHaveBegun, IsReady}
-use Rattle.dataset_start.proofs.ReadyLaws.{same_script}
+use Rattle.dataset_start.specs.Readiness.{first_calls, IsReady}
 
 -- ---- a file that is told
 
@@ -71,32 +69,24 @@ told_lines script header (Some file) records end readings pairs r a p w =
     ∙ ap (λ (x : List ℕ). run_text script (record header { records = last.records }) end.order last.answers x ++ watch_text pairs) p
     ∙ ap (λ (x : List (List (ℕ × ℕ))). run_text script (record header { records = last.records }) end.order last.answers last.pending ++ watch_text x) w
 
--- the order, which is this one, begins one of the script that the text spells
-pub begins : (left : Option (List ℕ)) (script : Script) (order end_order : List Mark) → IfSome left (λ text. Reads text script) → order ≡ end_order
-    → HasBegun script end_order → IfSome left (λ text. BeginsFor text order)
-begins None script order end_order r e h = tt
-begins (Some text) script order end_order r e h =
-    λ other s. subst (λ (o : List Mark). HasBegun other o) (sym e) (subst (λ (x : Script). HasBegun x end_order) (same_script text script other r s) h)
-
--- no step is a beginning of every script
-pub begins_none : (left : Option (List ℕ)) (order : List Mark) → order ≡ [] → IfSome left (λ text. BeginsFor text order)
-begins_none None order e = tt
-begins_none (Some text) order e = λ script r. subst (λ (o : List Mark). HasBegun script o) (sym e) (record { known_ranks = refl; each_rank = λ q h. (_, refl) })
-
 -- ---- the run
 
-unfoldable pub can_have_begun : (script : Script) (header : Header) (left_before left_after held_before held_mid : Option (List ℕ)) (calls_before calls_mid : Option (List DiskCall))
-    → Asks left_before script → IsReady script header held_before held_mid calls_before calls_mid → left_after ≡ after (λ _. []) left_before → CanHaveBegun left_before left_after held_before
-can_have_begun script header left_before left_after held_before held_mid calls_before calls_mid asks ready taken = record {
-  script = script;
-  old = ready.old;
-  header = header;
-  file = ready.file;
-  asks = asks;
-  taken = taken;
-  held = ready.held;
-  heads = ready.heads;
-  faultless = ready.faultless;
+unfoldable pub have_begun : (script : Script) (header : Header) (before now : Seen) (held_mid : Option (List ℕ)) (calls_mid : Option (List DiskCall)) (order end_order : List Mark)
+    → Asks before.left script → IsReady script header before.output.held held_mid before.output.calls calls_mid → now.left ≡ after (λ _. []) before.left
+    → order ≡ end_order → HasBegun script end_order → HaveBegun before now order
+have_begun script header before now held_mid calls_mid order end_order asks ready taken same begun = record {
+  start = record {
+    script = script;
+    old = ready.old;
+    header = header;
+    file = ready.file;
+    asks = asks;
+    taken = taken;
+    held = ready.held;
+    heads = ready.heads;
+    faultless = ready.faultless;
+  };
+  steps = subst (λ (o : List Mark). HasBegun script o) (sym same) begun;
 }
 
 -- a run without a fault, on a dataset that was made ready

@@ -1,49 +1,34 @@
 -- What the top call tells, by how a run ended.
-use Rattle.std.proofs.Common.{◌≡◌, ℕ, Bool, true, false, List, Option, Some, None, option_map, inl, inr, ◌⊎◌, refl, sym, ap, subst, ◌∙◌, arith}
-use Rattle.std.specs.Prelude.{IfSome, IsSomeAnd, Result, is_some}
+use Rattle.std.proofs.Common.{◌≡◌, ℕ, Bool, true, false, List, Option, Some, None, inl, inr, ◌⊎◌, refl, sym, ap, subst, ◌∙◌, arith}
+use Rattle.std.specs.Prelude.{IfSome, IsSomeAnd, Result}
 use Rattle.nc_base.specs.declared.errors.LayoutErr.{LayoutErr}
 use Rattle.nc_base.specs.declared.errors.ScriptErr.{ScriptErr}
 use Rattle.nc_base.specs.declared.script.Script.{Script}
-use Rattle.script_spec.specs.ScriptGrammar.{fault_of, Reads}
+use Rattle.script_spec.specs.ScriptGrammar.{fault_of, script_fault, Reads}
 use Rattle.script_spec.specs.Texts.{script_line}
-use Rattle.serial_spec.specs.Redefinition.{layout_fault}
 use Rattle.ncmpi_cli.specs.Generated.{IsMadeStatus}
-use Rattle.dataset_start.specs.Dataset.{align_of, Asks, AsksFor, IsBadDataset, IsFaultyFile, IsRight, IsSoundFile, IsWrong, refusal, TellsDataset, TellsHeader, TellsRedefinition}
+use Rattle.dataset_start.specs.Dataset.{creation_fault, Asks, AsksFor, AsksForBadLayout, IsBadDataset, IsFaultyFile, IsFaultyText, IsLaid, IsRight, IsSoundFile, IsWrong, TellsDataset, TellsHeader, TellsRedefinition, TellsScript}
 use Rattle.dataset_start.specs.Readiness.{IsFaultless}
 use Rattle.dataset_start.specs.Stops.{line_of, status_of}
 use Rattle.dataset_start.specs.declared.stop.Stop.{Stop}
 use Rattle.dataset_start.specs.declared.stop.Stop.TheVariants as stops
-use Rattle.dataset_start.proofs.ReadyLaws.{same_script}
-use Rattle.std.proofs.lemmas.Bool.{both_ways}
+use Rattle.dataset_start.proofs.ReadyLaws.{laid-mislaid, of_bad_layout, same_script}
 use Rattle.list_laws.proofs.Optional.{some_not_none, if_some_at}
 
--- ---- a text that is read is refused by nothing
+-- ---- a text that is read has no fault
 
-pub not_refused : (text : List ℕ) (script : Script) → Reads text script → refusal text ≡ None
-not_refused text script r = ap (λ (told : Result Script ScriptErr). option_map script_line (fault_of told)) r
+no_fault : (text : List ℕ) (script : Script) → Reads text script → script_fault text ≡ None
+no_fault text script r = ap (λ (told : Result Script ScriptErr). fault_of told) r
 
--- a stop that refuses a text has a line
-some_line : (stop : Stop) → status_of stop ≡ 3 → (line : List ℕ) × (line_of stop ≡ Some line)
-some_line (stops.Script e) s = (_, refl)
-some_line stops.Usage s = absurd (omega (arith, s))
-some_line (stops.Header e) s = absurd (omega (arith, s))
-some_line (stops.Layout e) s = absurd (omega (arith, s))
-some_line (stops.Redefinition e) s = absurd (omega (arith, s))
-some_line stops.Source s = absurd (omega (arith, s))
-some_line stops.Disk s = absurd (omega (arith, s))
-some_line stops.Memory s = absurd (omega (arith, s))
-
-refused-asks : (text : List ℕ) (script : Script) (stop : Stop) → Reads text script → status_of stop ≡ 3 → refusal text ≡ line_of stop → ⊥
-refused-asks text script stop a s e =
-    let line = some_line stop s in
-    some_not_none line.0 (refusal text) (e ∙ line.1) (not_refused text script a)
+pub read-faulty : {Q : Type 0} (text : List ℕ) (script : Script) (e : ScriptErr) → Reads text script → script_fault text ≡ Some e → Q
+read-faulty text script e r f = absurd (some_not_none e (script_fault text) f (no_fault text script r))
 
 -- ---- what is wrong with a dataset is not right
 
 tells-right : (script : Script) (held : Option (List ℕ)) (line : List ℕ) → TellsDataset script held line → IsRight script held → ⊥
 tells-right script held line t r = by_fresh script.fresh refl
   where
-    of_layout : (e : LayoutErr) → layout_fault script.header (align_of script.hints) ≡ Some e → layout_fault script.header (align_of script.hints) ≡ None → ⊥
+    of_layout : (e : LayoutErr) → creation_fault script ≡ Some e → creation_fault script ≡ None → ⊥
     of_layout e f n = clash (sym f ∙ n)
       where
         clash : Some e ≡ None → ⊥
@@ -69,7 +54,7 @@ tells-right script held line t r = by_fresh script.fresh refl
 faultless-wrong : (script : Script) (held : Option (List ℕ)) → IsFaultless script held → IsWrong script held → ⊥
 faultless-wrong script held n w = by_fresh script.fresh refl
   where
-    of_layout : (e : LayoutErr) → layout_fault script.header (align_of script.hints) ≡ Some e → layout_fault script.header (align_of script.hints) ≡ None → ⊥
+    of_layout : (e : LayoutErr) → creation_fault script ≡ Some e → creation_fault script ≡ None → ⊥
     of_layout e f g = clash (sym f ∙ g)
       where
         clash : Some e ≡ None → ⊥
@@ -100,55 +85,84 @@ four_line stops.Source s = absurd (omega (arith, s))
 four_line stops.Disk s = absurd (omega (arith, s))
 four_line stops.Memory s = absurd (omega (arith, s))
 
--- the fault of a script
-pub told_script : (Gives : List ℕ → Type 0) (left : Option (List ℕ)) (stop : Stop) (status : ℕ) → (status ≡ status_of stop) ⊎ (status ≡ 8)
-    → (status_of stop ≡ 3 → IfSome left (λ text. refusal text ≡ line_of stop)) → (status ≡ status_of stop → IfSome (line_of stop) Gives)
-    → status ≡ 3 → IfSome left (λ text. IsSomeAnd (refusal text) Gives)
-told_script Gives left stop status (inr e) told gives s = absurd (omega (arith, e, s))
-told_script Gives None stop status (inl e) told gives s = tt
-told_script Gives (Some text) stop status (inl e) told gives s =
-    let own : status_of stop ≡ 3 = sym e ∙ s in
-    let line = some_line stop own in
-    subst (λ (o : Option (List ℕ)). IsSomeAnd o Gives) (sym (told own ∙ line.1)) (if_some_at Gives (line_of stop) line.0 line.1 (gives e))
+-- the text of the source is faulty where a stop says so
+abbrev pub IsToldBy : Option (List ℕ) → Stop → Type 0
+IsToldBy left stop = (e : ScriptErr) → stop ≡ stops.Script e → IfSome left (λ text. script_fault text ≡ Some e)
 
-pub dataset : {Gives : List ℕ → Type 0} (left held : Option (List ℕ)) (stop : Stop) (status : ℕ) → (status ≡ status_of stop) ⊎ (status ≡ 8)
-    → (status_of stop ≡ 4 → (script : Script) × (Asks left script × IfSome (line_of stop) (TellsDataset script held)))
+-- the fault of a script
+pub told_script : {Gives : List ℕ → Type 0} (left : Option (List ℕ)) (stop : Stop) (status : ℕ) → (status ≡ status_of stop) ⊎ (status ≡ 8)
+    → IsToldBy left stop → (status ≡ status_of stop → IfSome (line_of stop) Gives)
+    → status ≡ 3 → (line : List ℕ) × (TellsScript left line × Gives line)
+told_script left stop status (inr m) told gives s = absurd (omega (arith, m, s))
+told_script left (stops.Script e) status (inl own) told gives s = (script_line e, ((e, (told e refl, refl)), gives own))
+told_script left stops.Usage status (inl own) told gives s = absurd (omega (arith, own, s))
+told_script left (stops.Header e) status (inl own) told gives s = absurd (omega (arith, own, s))
+told_script left (stops.Layout e) status (inl own) told gives s = absurd (omega (arith, own, s))
+told_script left (stops.Redefinition e) status (inl own) told gives s = absurd (omega (arith, own, s))
+told_script left stops.Source status (inl own) told gives s = absurd (omega (arith, own, s))
+told_script left stops.Disk status (inl own) told gives s = absurd (omega (arith, own, s))
+told_script left stops.Memory status (inl own) told gives s = absurd (omega (arith, own, s))
+
+pub dataset : {Gives : List ℕ → Type 0} {Untouched : Type 0} (left held : Option (List ℕ)) (stop : Stop) (status : ℕ) → (status ≡ status_of stop) ⊎ (status ≡ 8)
+    → (status_of stop ≡ 4 → IfSome (line_of stop) (IsBadDataset left held Untouched))
     → (status ≡ status_of stop → IfSome (line_of stop) Gives)
-    → status ≡ 4 → (line : List ℕ) × (IsBadDataset left held line × Gives line)
+    → status ≡ 4 → (line : List ℕ) × (IsBadDataset left held Untouched line × Gives line)
 dataset left held stop status (inr e) bad gives s = absurd (omega (arith, e, s))
 dataset left held stop status (inl e) bad gives s =
     let own : status_of stop ≡ 4 = omega (arith, e, s) in
     let line = four_line stop own in
-    let told = bad own in
-    (line.0, (record { script = told.0; asks = told.1.0; tells = if_some_at _ (line_of stop) line.0 line.1 told.1.1 }, if_some_at _ (line_of stop) line.0 line.1 (gives e)))
+    (line.0, (if_some_at _ (line_of stop) line.0 line.1 (bad own), if_some_at _ (line_of stop) line.0 line.1 (gives e)))
+
+-- the dataset that a stop tells of
+told_dataset : {Untouched : Type 0} (left held : Option (List ℕ)) (stop : Stop) → (status_of stop ≡ 4 → IfSome (line_of stop) (IsBadDataset left held Untouched))
+    → status_of stop ≡ 4 → (line : List ℕ) × IsBadDataset left held Untouched line
+told_dataset left held stop bad own = let line = four_line stop own in (line.0, if_some_at _ (line_of stop) line.0 line.1 (bad own))
 
 -- a script with a fault is refused
-pub refused : (left held : Option (List ℕ)) (stop : Stop) (status : ℕ) → (status ≡ status_of stop) ⊎ (status ≡ 8)
+pub refused : {Untouched : Type 0} (left held : Option (List ℕ)) (stop : Stop) (status : ℕ) → (status ≡ status_of stop) ⊎ (status ≡ 8)
     → (stop ≡ stops.Usage → ⊥) → (stop ≡ stops.Source → ⊥)
-    → (status_of stop ≡ 4 → (script : Script) × (Asks left script × IfSome (line_of stop) (TellsDataset script held)))
-    → (status_of stop ≡ 7 → (script : Script) × Asks left script)
-    → IsSomeAnd left (λ text. is_some (refusal text) ≡ true) → (status ≡ 3) ⊎ (status ≡ 8)
+    → (status_of stop ≡ 4 → IfSome (line_of stop) (IsBadDataset left held Untouched))
+    → (status_of stop ≡ 7 → (script : Script) × (Asks left script × IsLaid script))
+    → IsSomeAnd left IsFaultyText → (status ≡ 3) ⊎ (status ≡ 8)
 refused left held stop status (inr e) u s d k r = inr e
 refused None held stop status (inl e) u s d k r = absurd r
 refused (Some text) held stop status (inl e) u s d k r = by_stop stop refl
   where
-    none-some : (script : Script) → Asks (Some text) script → ⊥
-    none-some script a = both_ways (is_some (refusal text)) (ap (λ (o : Option (List ℕ)). is_some o) (not_refused text script a)) r
+    of_dataset : status_of stop ≡ 4 → ⊥
+    of_dataset x = let told = told_dataset (Some text) held stop d x in read-faulty text told.1.script r.0 told.1.asks r.1
 
     by_stop : (other : Stop) → stop ≡ other → (status ≡ 3) ⊎ (status ≡ 8)
     by_stop stops.Usage x = absurd (u x)
     by_stop (stops.Script f) x = inl (e ∙ ap status_of x)
-    by_stop (stops.Header f) x = let told = d (ap status_of x) in absurd (none-some told.0 told.1.0)
-    by_stop (stops.Layout f) x = let told = d (ap status_of x) in absurd (none-some told.0 told.1.0)
-    by_stop (stops.Redefinition f) x = let told = d (ap status_of x) in absurd (none-some told.0 told.1.0)
+    by_stop (stops.Header f) x = absurd (of_dataset (ap status_of x))
+    by_stop (stops.Layout f) x = absurd (of_dataset (ap status_of x))
+    by_stop (stops.Redefinition f) x = absurd (of_dataset (ap status_of x))
     by_stop stops.Source x = absurd (s x)
-    by_stop stops.Disk x = let told = k (ap status_of x) in absurd (none-some told.0 told.1)
+    by_stop stops.Disk x = let told = k (ap status_of x) in read-faulty text told.0 r.0 told.1.0 r.1
+    by_stop stops.Memory x = inr (e ∙ ap status_of x)
+
+-- a layout with a fault is refused
+pub mislaid : (left : Option (List ℕ)) (stop : Stop) (status : ℕ) → (status ≡ status_of stop) ⊎ (status ≡ 8)
+    → (stop ≡ stops.Usage → ⊥) → (stop ≡ stops.Source → ⊥) → IsToldBy left stop
+    → (status_of stop ≡ 7 → (script : Script) × (Asks left script × IsLaid script))
+    → IsSomeAnd left AsksForBadLayout → (status ≡ 4) ⊎ (status ≡ 8)
+mislaid left stop status (inr e) u s r k a = inr e
+mislaid None stop status (inl e) u s r k a = absurd a
+mislaid (Some text) stop status (inl e) u s r k a = by_stop stop refl
+  where
+    by_stop : (other : Stop) → stop ≡ other → (status ≡ 4) ⊎ (status ≡ 8)
+    by_stop stops.Usage x = absurd (u x)
+    by_stop (stops.Script f) x = read-faulty text a.0 f a.1 (r f x)
+    by_stop (stops.Header f) x = inl (e ∙ ap status_of x)
+    by_stop (stops.Layout f) x = inl (e ∙ ap status_of x)
+    by_stop (stops.Redefinition f) x = inl (e ∙ ap status_of x)
+    by_stop stops.Source x = absurd (s x)
+    by_stop stops.Disk x = let told = k (ap status_of x) in of_bad_layout (Some text) told.0 told.1.0 (laid-mislaid told.0 told.1.1) a
     by_stop stops.Memory x = inr (e ∙ ap status_of x)
 
 -- a dataset with a fault is refused
 pub faulty : (left held : Option (List ℕ)) (stop : Stop) (status : ℕ) → (status ≡ status_of stop) ⊎ (status ≡ 8)
-    → (stop ≡ stops.Usage → ⊥) → (stop ≡ stops.Source → ⊥) → (stop ≡ stops.Disk → ⊥)
-    → (status_of stop ≡ 3 → IfSome left (λ text. refusal text ≡ line_of stop))
+    → (stop ≡ stops.Usage → ⊥) → (stop ≡ stops.Source → ⊥) → (stop ≡ stops.Disk → ⊥) → IsToldBy left stop
     → IsSomeAnd left (λ text. AsksFor IsWrong text held) → (status ≡ 4) ⊎ (status ≡ 8)
 faulty left held stop status (inr e) u s k r a = inr e
 faulty None held stop status (inl e) u s k r a = absurd a
@@ -156,7 +170,7 @@ faulty (Some text) held stop status (inl e) u s k r a = by_stop stop refl
   where
     by_stop : (other : Stop) → stop ≡ other → (status ≡ 4) ⊎ (status ≡ 8)
     by_stop stops.Usage x = absurd (u x)
-    by_stop (stops.Script f) x = absurd (refused-asks text a.0 stop a.1 (ap status_of x) (r (ap status_of x)))
+    by_stop (stops.Script f) x = read-faulty text a.0 f a.1 (r f x)
     by_stop (stops.Header f) x = inl (e ∙ ap status_of x)
     by_stop (stops.Layout f) x = inl (e ∙ ap status_of x)
     by_stop (stops.Redefinition f) x = inl (e ∙ ap status_of x)
@@ -165,10 +179,9 @@ faulty (Some text) held stop status (inl e) u s k r a = by_stop stop refl
     by_stop stops.Memory x = inr (e ∙ ap status_of x)
 
 -- a run of which nothing is at fault wants memory
-pub wants_memory : (left held : Option (List ℕ)) (stop : Stop) (status : ℕ) → (status ≡ status_of stop) ⊎ (status ≡ 8)
-    → (stop ≡ stops.Usage → ⊥) → (stop ≡ stops.Source → ⊥) → (stop ≡ stops.Disk → ⊥)
-    → (status_of stop ≡ 3 → IfSome left (λ text. refusal text ≡ line_of stop))
-    → (status_of stop ≡ 4 → (script : Script) × (Asks left script × IfSome (line_of stop) (TellsDataset script held)))
+pub wants_memory : {Untouched : Type 0} (left held : Option (List ℕ)) (stop : Stop) (status : ℕ) → (status ≡ status_of stop) ⊎ (status ≡ 8)
+    → (stop ≡ stops.Usage → ⊥) → (stop ≡ stops.Source → ⊥) → (stop ≡ stops.Disk → ⊥) → IsToldBy left stop
+    → (status_of stop ≡ 4 → IfSome (line_of stop) (IsBadDataset left held Untouched))
     → IsSomeAnd left (λ text. AsksFor IsRight text held) → (status ≡ 0) ⊎ (status ≡ 8)
 wants_memory left held stop status (inr e) u s k r d a = inr e
 wants_memory None held stop status (inl e) u s k r d a = absurd a
@@ -176,14 +189,13 @@ wants_memory (Some text) held stop status (inl e) u s k r d a = by_stop stop ref
   where
     of_dataset : status_of stop ≡ 4 → ⊥
     of_dataset x =
-        let told = d x in
-        let line = four_line stop x in
-        let same : told.0 ≡ a.0 = same_script text told.0 a.0 told.1.0 a.1 in
-        tells-right a.0 held line.0 (subst (λ (z : Script). TellsDataset z held line.0) same (if_some_at _ (line_of stop) line.0 line.1 told.1.1)) a.2
+        let told = told_dataset (Some text) held stop d x in
+        let same : told.1.script ≡ a.0 = same_script text told.1.script a.0 told.1.asks a.1 in
+        tells-right a.0 held told.0 (subst (λ (z : Script). TellsDataset z held told.0) same told.1.tells) a.2
 
     by_stop : (other : Stop) → stop ≡ other → (status ≡ 0) ⊎ (status ≡ 8)
     by_stop stops.Usage x = absurd (u x)
-    by_stop (stops.Script f) x = absurd (refused-asks text a.0 stop a.1 (ap status_of x) (r (ap status_of x)))
+    by_stop (stops.Script f) x = read-faulty text a.0 f a.1 (r f x)
     by_stop (stops.Header f) x = absurd (of_dataset (ap status_of x))
     by_stop (stops.Layout f) x = absurd (of_dataset (ap status_of x))
     by_stop (stops.Redefinition f) x = absurd (of_dataset (ap status_of x))
@@ -200,11 +212,13 @@ not_wrong (Some text) held script a n w =
     absurd (faultless-wrong script held n (subst (λ (z : Script). IsWrong z held) same w.2))
 
 -- a text that is read is not refused
-pub not_unread : {Q : Type 0} (left : Option (List ℕ)) (script : Script) → Asks left script
-    → IsSomeAnd left (λ text. is_some (refusal text) ≡ true) → Q
+pub not_unread : {Q : Type 0} (left : Option (List ℕ)) (script : Script) → Asks left script → IsSomeAnd left IsFaultyText → Q
 not_unread None script a r = absurd r
-not_unread (Some text) script a r =
-    absurd (both_ways (is_some (refusal text)) (ap (λ (o : Option (List ℕ)). is_some o) (not_refused text script a)) r)
+not_unread (Some text) script a r = read-faulty text script r.0 a r.1
+
+-- nor is the layout of a run that began
+pub not_mislaid : {Q : Type 0} (left held : Option (List ℕ)) (script : Script) → Asks left script → IsFaultless script held → IsSomeAnd left AsksForBadLayout → Q
+not_mislaid left held script a n = of_bad_layout left script a (laid-mislaid script n.created)
 
 -- ---- the statuses of a run whose text is given, or wants memory
 

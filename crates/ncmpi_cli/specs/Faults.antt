@@ -14,9 +14,9 @@ use Rattle.nc_base.specs.declared.step.StepErr.TheVariants.{Memory}
 use Rattle.nc_outside.specs.Told.{BothTold}
 use Rattle.serial_spec.specs.Torn.{IsCutRun}
 use Rattle.ncmpi_cli.specs.Generated.{made_header, RanMade, script_made}
-use Rattle.ncmpi_cli.specs.Headline.{file_at_start, Ran}
+use Rattle.ncmpi_cli.specs.Headline.{file_at_start, HaveBegun, Ran}
 use Rattle.ncmpi_cli.specs.Outside.{Output, Seen}
-use Rattle.dataset_start.specs.Readiness.{CanHaveBegun, IsLeftUnready, IsNotReady}
+use Rattle.dataset_start.specs.Readiness.{IsLeftUnready, IsNotReady}
 
 -- What is left of a file with which the ranks began, where their run was cut off: the bytes, the record count, and the answers of
 -- each rank.
@@ -30,8 +30,10 @@ pub record IsCutFile (script : Script) (header : Header) (fault : StepErr) (file
 -- ---- the script that the source has
 
 pub record WasCutOff (fault : StepErr) (before now : Seen) (order : List Mark) : Type 0 where
-  pub start : CanHaveBegun before.left now.left before.output.held
-  pub cut : IfSome before.output.held (λ file. IsCutFile start.script start.header fault (file_at_start start.script start.old start.header file) now.output.held order)
+  pub begun : HaveBegun before now order
+  pub cut : IfSome before.output.held
+      (λ file. IsCutFile begun.start.script begun.start.header fault
+      (file_at_start begun.start.script begun.start.old begun.start.header file) now.output.held order)
 
 -- no step was done, as the dataset was not made ready, or the run was cut off behind these steps
 abbrev pub EndsEarly : StepErr → Seen → Seen → List Mark → Type 0

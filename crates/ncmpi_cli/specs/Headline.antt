@@ -2,7 +2,7 @@
 --     file_at_start, end_of_run              the file when the ranks begin, and what the calls lead to
 --     with_counts, watched_text              what watchers read, and its lines
 --     Ran, RanWell, RanToSink                what a run did to the file, and what it gave
---     BeginsFor, GivesLine                   the steps that were done, and the line that was given
+--     HaveBegun, GivesLine                   the ranks began, and these steps were done; the line that was given
 use Rattle.std.specs.Prelude.{ℕ, ◌≡◌, ◌⊎◌, List, [], ◌++◌, map, take, Option, Some, IfSome}
 use Rattle.nc_base.specs.declared.header.Header.{Header}
 use Rattle.nc_base.specs.declared.script.Script.{Script}
@@ -17,6 +17,7 @@ use Rattle.rank_meeting.specs.Begun.{HasBegun}
 use Rattle.script_spec.specs.ScriptGrammar.{Reads}
 use Rattle.script_spec.specs.Texts.{run_text, watch_text}
 use Rattle.dataset_start.specs.Dataset.{AreHeadersOf, IsBeforeStart}
+use Rattle.dataset_start.specs.Readiness.{CanHaveBegun}
 use Rattle.ncmpi_cli.specs.Outside.{Seen}
 
 -- ---- a run that ended well
@@ -73,9 +74,10 @@ pub record RanToSink (before now : Seen) (order : List Mark) (readings : List (L
 
 -- ---- what each status leaves
 
--- the order is a beginning of one of the script that the text spells
-abbrev pub BeginsFor : List ℕ → List Mark → Type 0
-BeginsFor text order = (script : Script) → Reads text script → HasBegun script order
+-- The ranks can have begun, and these steps begin an order of their script.
+pub record HaveBegun (before now : Seen) (order : List Mark) : Type 0 where
+  pub start : CanHaveBegun before.left now.left before.output.held
+  pub steps : HasBegun start.script order
 
 -- the statuses with which the text is given, whole or in front
 abbrev pub GivesText : ℕ → Type 0

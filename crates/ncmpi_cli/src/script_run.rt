@@ -1,9 +1,7 @@
 // A run of the script that the source has.
 ghost use Rattle.std.specs.Prelude.{◌≡◌, ◌≤◌, [], length, true, All, IfSome};
 ghost use Rattle.nc_outside.specs.Cause.{Rose};
-ghost use Rattle.nc_base.specs.declared.script.Script.{Script};
 ghost use Rattle.rank_meeting.specs.Run.{RunsOn};
-ghost use Rattle.script_spec.specs.ScriptGrammar.{Reads};
 ghost use Rattle.serial_spec.specs.SoundHeaders.{is_sound};
 ghost use Rattle.serial_spec.specs.Lawful.{is_lawful};
 ghost use Rattle.ncmpi_cli.specs.Ends.{HasReadings, HasRun};
@@ -38,7 +36,7 @@ pub(crate) fn run_script<R: Threads + Wait + Sync, S: Source, K: Sink, D: Disk, 
     requires few { watchers ≤ 8 }
 
     // What is done, and what each status leaves.
-    ensures ends { HasRun (seen_at S.Source D.Disk K.Sink script.old disk.old out.old) (seen_at S.Source D.Disk K.Sink script.new disk.new out.new) result.status result.order result.readings }
+    ensures ends { HasRun (seen_at S.Source D.Disk K.Sink script.old disk.old out.old) (seen_at S.Source D.Disk K.Sink script.new disk.new out.new) (disk.new ≡ disk.old) result.status result.order result.readings }
     ensures readings { HasReadings watchers result.status (length result.order) result.readings }
 
     // Each status has its cause.
@@ -50,7 +48,6 @@ pub(crate) fn run_script<R: Threads + Wait + Sync, S: Source, K: Sink, D: Disk, 
 
     // What is untouched.
     ensures not_started { IsBeforeStart result.status → disk.new ≡ disk.old }
-    ensures not_laid { result.status ≡ 4 → IfSome (S.left script.old) (λ text. (s : Script) → Reads text s → s.fresh ≡ true → disk.new ≡ disk.old) }
     ensures unchanged { result.status ≡ 4 → D.held disk.new ≡ D.held disk.old }
     ensures silent { IsSilent result.status → out.new ≡ out.old }
     ensures no_step { IsBeforeRanks result.status → result.order ≡ [] }

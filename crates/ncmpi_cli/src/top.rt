@@ -1,8 +1,6 @@
 // The top call.
-ghost use Rattle.std.specs.Prelude.{◌≡◌, [], length, None, true, IfSome};
+ghost use Rattle.std.specs.Prelude.{◌≡◌, [], length, None, IfSome};
 ghost use Rattle.nc_outside.specs.Cause.{Rose};
-ghost use Rattle.nc_base.specs.declared.script.Script.{Script};
-ghost use Rattle.script_spec.specs.ScriptGrammar.{Reads};
 ghost use Rattle.ncmpi_cli.specs.Ends.{EndsAs, HasReadings, TakesScript, watchers_of};
 ghost use Rattle.ncmpi_cli.specs.Headline.{GivesLine, IsBeforeRanks, IsSilent, IsStatus};
 ghost use Rattle.ncmpi_cli.specs.Outside.{seen_at};
@@ -58,7 +56,7 @@ pub fn ncrun<R: Threads + Wait + Sync, S: Source, K: Sink, D: Disk, G: Gate>(
     // What is done is what the words ask for.
     ensures ends { EndsAs (form_of (texts words.now))
         (seen_at S.Source D.Disk K.Sink script.old disk.old out.old) (seen_at S.Source D.Disk K.Sink script.new disk.new out.new)
-        result.status result.order result.readings }
+        (disk.new ≡ disk.old) result.status result.order result.readings }
 
     // Each status has its cause.
     ensures statuses { IsStatus result.status }
@@ -70,8 +68,7 @@ pub fn ncrun<R: Threads + Wait + Sync, S: Source, K: Sink, D: Disk, G: Gate>(
     // What is untouched.
     ensures not_taken { ¬ (TakesScript (form_of (texts words.now))) → script.new ≡ script.old }
     ensures not_started { IsBeforeStart result.status → disk.new ≡ disk.old }
-    ensures not_laid { TakesScript (form_of (texts words.now)) → result.status ≡ 4
-        → IfSome (S.left script.old) (λ text. (s : Script) → Reads text s → s.fresh ≡ true → disk.new ≡ disk.old) }
+    ensures no_form { form_of (texts words.now) ≡ None → disk.new ≡ disk.old }
     ensures unchanged { result.status ≡ 4 → D.held disk.new ≡ D.held disk.old }
     ensures silent { IsSilent result.status → out.new ≡ out.old }
     ensures no_step { IsBeforeRanks result.status → result.order ≡ [] }

@@ -1,10 +1,13 @@
 // A file as a disk. It tells no content.
 ghost use Rattle.std.specs.Prelude.{◌≡◌, true, IfOk};
 
+use crate::faults::Faults;
+use crate::streams::is_stream;
 use nc_outside::{Disk, DiskErr};
 use std::alloc::Global;
 use std::fs::{File, OpenOptions};
 use std::io;
+use std::io::ErrorKind;
 use std::os::unix::fs::FileExt;
 use std::rt::Files;
 use std::sync::Arc;
@@ -21,7 +24,7 @@ pub struct FileDisk<R: Files<File = File> + Clone + Send + Drop> {
     from: u64,
     // The place behind the last byte.
     end: u64,
-    faults: u64,
+    faults: Faults,
 }
 
 impl<R: Files<File = File> + Clone + Send + Drop> FileDisk<R> {
@@ -30,20 +33,31 @@ impl<R: Files<File = File> + Clone + Send + Drop> FileDisk<R> {
         ensures handle { result.rt ≡ rt }
         ensures from { result.from ≡ 0 }
         ensures end { result.end ≡ 0 }
-        ensures faults { result.faults ≡ 0 }
+        ensures faults { result.faults.count ≡ 0 }
     {
         FileDisk {
             rt,
             file: None,
             from: 0,
             end: 0,
-            faults: 0,
+            faults: Faults::new(),
         }
+    }
+
+    /// Why a call failed: the error of the first one that did, where one did.
+    pub fn cause(&self) -> Option<io::Error> {
+        self.faults.first
     }
 }
 
+const IS_STREAM: &str = "the file is standard input, output or error";
+
 // Opens a file for reading and writing. A fresh one is created, or cut to nothing; one that can't be written is opened for reading.
+// A file of a standard stream is refused before that: writing it would destroy the script, or mix with the text.
 fn open<R: Files<File = File>>(rt: &R, name: &str, fresh: bool) -> io::Result<File> {
+    if is_stream(rt, name) {
+        return Err(io::Error::new(ErrorKind::InvalidInput, IS_STREAM));
+    }
     let opened = OpenOptions::new()
         .read(true)
         .write(true)
@@ -84,7 +98,7 @@ impl<R: Files<File = File> + Clone + Send + Drop> Disk for FileDisk<R> {
 
     ghost calls = { λ _. None };
 
-    ghost faults = { λ d. d.faults };
+    ghost faults = { λ d. d.faults.count };
 
     ghost sure = { λ _. ⊥ };
 
@@ -99,53 +113,61 @@ impl<R: Files<File = File> + Clone + Send + Drop> Disk for FileDisk<R> {
                 self.end = len;
                 Ok(())
             }
-            Err(_) => {
-                self.faults = self.faults.saturating_add(1);
+            Err(e) => {
+                self.faults.add(e);
                 Err(DiskErr::Failed)
             }
         }
     }
 
     fn size(&self) -> u64 {
-        let _faults = self.faults;
+        let _faults = self.faults.count;
         self.end.saturating_sub(self.from)
     }
 
     fn grow(&mut self, _alloc: Global, size: u64) -> Result<(), DiskErr> {
         let done = match &self.file {
-            Some(file) => lengthen(file, size).is_ok(),
-            None => false,
+            Some(file) => lengthen(file, size),
+            None => Err(ErrorKind::NotFound.into()),
         };
-        if done {
-            self.end = size;
-            return Ok(());
+        match done {
+            Ok(()) => {
+                self.end = size;
+                Ok(())
+            }
+            Err(e) => {
+                self.faults.add(e);
+                Err(DiskErr::Failed)
+            }
         }
-        self.faults = self.faults.saturating_add(1);
-        Err(DiskErr::Failed)
     }
 
     fn read_at(&mut self, _alloc: Global, at: u64, into: &mut [u8]) -> Result<(), DiskErr> {
         let done = match &self.file {
-            Some(file) => file.read_exact_at(into, at).is_ok(),
-            None => false,
+            Some(file) => file.read_exact_at(into, at),
+            None => Err(ErrorKind::NotFound.into()),
         };
-        if done {
-            return Ok(());
+        match done {
+            Ok(()) => Ok(()),
+            Err(e) => {
+                self.faults.add(e);
+                Err(DiskErr::Failed)
+            }
         }
-        self.faults = self.faults.saturating_add(1);
-        Err(DiskErr::Failed)
     }
 
     fn write_at(&mut self, _alloc: Global, at: u64, bytes: &[u8]) -> Result<(), DiskErr> {
         let done = match &self.file {
-            Some(file) => file.write_all_at(bytes, at).is_ok(),
-            None => false,
+            Some(file) => file.write_all_at(bytes, at),
+            None => Err(ErrorKind::NotFound.into()),
         };
-        if done {
-            return Ok(());
+        match done {
+            Ok(()) => Ok(()),
+            Err(e) => {
+                self.faults.add(e);
+                Err(DiskErr::Failed)
+            }
         }
-        self.faults = self.faults.saturating_add(1);
-        Err(DiskErr::Failed)
     }
 
     fn split_off(&mut self, _alloc: Global, at: u64) -> Result<Self, DiskErr> {
@@ -161,12 +183,12 @@ impl<R: Files<File = File> + Clone + Send + Drop> Disk for FileDisk<R> {
             file,
             from: at,
             end,
-            faults: 0,
+            faults: Faults::new(),
         })
     }
 
     fn append(&mut self, other: Self) {
         self.end = self.end.max(other.end);
-        self.faults = self.faults.saturating_add(other.faults);
+        self.faults.join(other.faults);
     }
 }

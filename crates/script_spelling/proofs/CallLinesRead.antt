@@ -33,10 +33,10 @@ from_none more a zero = refl
 from_none more a (suc n) = ap (λ (xs : List (List Call)). more a ∷ xs) (from_none more (a + 1) n)
 
 -- a call of this rank goes first
-abbrev first_of : ℕ → Call → (ℕ → List Call) → ℕ → List Call
+abbrev pub first_of : ℕ → Call → (ℕ → List Call) → ℕ → List Call
 first_of r c more k = cons_option (cond (r == k) (Some c) None) (more k)
 
-here : (r k : ℕ) (c : Call) (more : ℕ → List Call) → r ≡ k → first_of r c more k ≡ c ∷ more k
+pub here : (r k : ℕ) (c : Call) (more : ℕ → List Call) → r ≡ k → first_of r c more k ≡ c ∷ more k
 here r k c more e = ap (λ (b : Bool). cons_option (cond b (Some c) None) (more k)) (eq-eqb r k e)
 
 elsewhere : (r k : ℕ) (c : Call) (more : ℕ → List Call) → r < k → first_of r c more k ≡ more k
@@ -48,7 +48,7 @@ all_later r a c more (own ∷ calls) low =
     ap (λ (xs : List Call). (own ++ xs) ∷ with_calls more (a + 1) calls) (sym (elsewhere r a c more low))
     ∙ ap (λ (xs : List (List Call)). (own ++ first_of r c more a) ∷ xs) (all_later r (a + 1) c more calls (omega arith))
 
-one_first : (more : ℕ → List Call) (a i r : ℕ) (c : Call) (calls : List (List Call)) → a + i ≡ r → with_calls more a (slice_set calls i (calls_of i calls ++ c ∷ [])) ≡ with_calls (first_of r c more) a calls
+pub one_first : (more : ℕ → List Call) (a i r : ℕ) (c : Call) (calls : List (List Call)) → a + i ≡ r → with_calls more a (slice_set calls i (calls_of i calls ++ c ∷ [])) ≡ with_calls (first_of r c more) a calls
 one_first more a i r c [] e = refl
 one_first more a zero r c (own ∷ calls) e =
     ap (λ (xs : List Call). xs ∷ with_calls more (a + 1) calls) (append_assoc own (c ∷ []) (more a) ∙ ap (λ (xs : List Call). own ++ xs) (sym (here r a c more (omega arith))))

@@ -1,5 +1,5 @@
 -- The variables of a new dataset, and what later lines give them.
-use Rattle.std.proofs.Common.{◌≡◌, ◌⊎◌, ◌∙◌, ℕ, zero, suc, List, [], ◌∷◌, ◌++◌, map, position, Bool, true, false, not, cond, ◌&&◌, Some, refl, sym, ap, subst, ⊎_elim, append_assoc, append-nil, bytes_eq}
+use Rattle.std.proofs.Common.{◌≡◌, ◌∙◌, ℕ, zero, suc, List, [], ◌∷◌, ◌++◌, map, position, Bool, true, false, not, cond, ◌&&◌, Some, refl, sym, ap, subst, ⊎_elim, append_assoc, append-nil, bytes_eq}
 use Rattle.std.specs.List.{AllZip}
 use Rattle.std.proofs.lemmas.Bool.{and_parts, and_from, or_parts, or_from, or_left, not-true, not_from_false, cond-true, cond-false}
 use Rattle.std.proofs.lemmas.List.{map-append}

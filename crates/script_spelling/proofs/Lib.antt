@@ -9,3 +9,12 @@ mod NewDefinitions
 mod AddedDefinitions
 mod KnownRead
 mod Spelled
+mod ValuesTold
+mod RegionsTold
+mod CallsTold
+mod CallLinesTold
+mod LinesTold
+mod VarsTold
+mod DefinitionsTold
+mod KnownTold
+mod Told

@@ -143,7 +143,7 @@ var_says version names ws v ns head shape_said end = (
   shape_said.named,
 )
 
-all_found : {A : Type 0} (os : List (Option A)) (xs : List A) → all_some os ≡ Some xs → length xs ≡ length os
+pub all_found : {A : Type 0} (os : List (Option A)) (xs : List A) → all_some os ≡ Some xs → length xs ≡ length os
 all_found [] xs h = let same : [] ≡ xs = cc in ap length (sym same)
 all_found (None ∷ os) xs h = absurd (cc)
 all_found (Some x ∷ os) xs h =

@@ -1,5 +1,5 @@
 -- The lines that define a new dataset, each with its statement.
-use Rattle.std.proofs.Common.{◌≡◌, ◌⊎◌, ◌∙◌, ℕ, ◌+◌, List, [], ◌∷◌, ◌++◌, position, Bool, true, false, not, Option, Some, None, is_some, Result, Ok, Err, refl, sym, ap, subst, ⊎_elim, append_assoc, arith, bytes_eq, codes}
+use Rattle.std.proofs.Common.{◌≡◌, ◌∙◌, ℕ, ◌+◌, List, [], ◌∷◌, ◌++◌, position, Bool, true, false, not, Option, Some, None, is_some, Result, Ok, Err, refl, sym, ap, subst, ⊎_elim, append_assoc, arith, bytes_eq, codes}
 use Rattle.std.specs.List.{list_any}
 use Rattle.std.proofs.lemmas.Bool.{or_left, or_right}
 use Rattle.script_spec.proofs.TextLaws.{faultless_some}
@@ -107,7 +107,7 @@ new_own version k words word a fine e says fresh =
       };
     }
 
-is_there : (n : List ℕ) (names : List (List ℕ)) (k : ℕ) → position (bytes_eq n) names ≡ Some k → is_among n names ≡ true
+pub is_there : (n : List ℕ) (names : List (List ℕ)) (k : ℕ) → position (bytes_eq n) names ≡ Some k → is_among n names ≡ true
 is_there n [] k h = absurd (cc)
 is_there n (x ∷ names) k h = ⊎_elim
     (λ (a : (bytes_eq n x ≡ true) × (k ≡ 0)). or_left _ _ a.0)

@@ -35,7 +35,7 @@ abbrev HeadRead : List Word → ℕ → Type 0
 HeadRead words version = SpellsHead words (not (version == 0)) version
 
 -- a version that stands in a script is not 0
-no_zero : (w : List ℕ) (version : ℕ) → version_of_text w ≡ Some version → (version == 0) ≡ false
+pub no_zero : (w : List ℕ) (version : ℕ) → version_of_text w ≡ Some version → (version == 0) ≡ false
 no_zero w version h = by (size_of_text w) h
   where
     by_test : (n : ℕ) (b : Bool) → is_version n ≡ b → cond {A = Option ℕ} b (Some n) None ≡ Some version → (version == 0) ≡ false
@@ -72,7 +72,7 @@ head_read (Plain w) ws version h = by (bytes_eq w (codes "create")) (bytes_eq w 
 
 -- ---- what is known at `data` is what the statements say
 
-none_given : (n h : ℕ) → hint_in h (replicate n None) ≡ None
+pub none_given : (n h : ℕ) → hint_in h (replicate n None) ≡ None
 none_given zero h = refl
 none_given (suc n) zero = refl
 none_given (suc n) (suc h) = none_given n h
@@ -105,7 +105,7 @@ stand_read : (opened : Bool) (ss : List Statement) (known : Known) → Part open
 stand_read true ss known p = p.2
 stand_read false ss known p = p.4
 
-no_not : (b : Bool) → not (not b) ≡ b
+pub no_not : (b : Bool) → not (not b) ≡ b
 no_not true = refl
 no_not false = refl
 

@@ -71,17 +71,17 @@ ranks_taken opened version k ws next fine h =
 abbrev hint_by : Option (Option ℕ) → Option ℕ
 hint_by o = elim o [ None ↦ None | Some x ↦ x ]
 
-hint_here : (hints : List (Option ℕ)) (i v : ℕ) → i < length hints → hint_in i (slice_set hints i (Some v)) ≡ Some v
+pub hint_here : (hints : List (Option ℕ)) (i v : ℕ) → i < length hints → hint_in i (slice_set hints i (Some v)) ≡ Some v
 hint_here hints i v low = let x = entry_below hints i low in ap hint_by (entry_set hints i x.0 (Some v) x.1)
 
-hint_elsewhere : (hints : List (Option ℕ)) (i j v : ℕ) → (j ≡ i → ⊥) → hint_in j (slice_set hints i (Some v)) ≡ hint_in j hints
+pub hint_elsewhere : (hints : List (Option ℕ)) (i j v : ℕ) → (j ≡ i → ⊥) → hint_in j (slice_set hints i (Some v)) ≡ hint_in j hints
 hint_elsewhere hints i j v other = ap hint_by (entry_set_other hints i j (Some v) other)
 
 hint_part : (opened : Bool) (k : Known) (i v : ℕ) (hints : List (Option ℕ)) (ss : List Statement) (last : Known) → Part opened (record k { hints = hints }) ss last → Part opened k (HintIs i v ∷ ss) last
 hint_part true k i v hints ss last p = p
 hint_part false k i v hints ss last p = p
 
-differ : (i j : ℕ) → (i == j) ≡ false → i ≡ j → ⊥
+pub differ : (i j : ℕ) → (i == j) ≡ false → i ≡ j → ⊥
 differ i j e same = let equal = equal_true i j same in absurd (cc)
 
 hint_first : (hints : List (Option ℕ)) (i v j : ℕ) (later found : List ℕ) → hint_in i hints ≡ None → i < length hints → found ≡ at_most_one (hint_in j (slice_set hints i (Some v))) ++ later

@@ -1,5 +1,5 @@
 -- Words that are read stand as they are.
-use Rattle.std.proofs.Common.{◌≡◌, ◌∙◌, ℕ, List, [], ◌∷◌, true, Option, Some, None, option_map, Ok, refl, ap, subst}
+use Rattle.std.proofs.Common.{◌≡◌, ◌∙◌, ℕ, List, [], ◌∷◌, true, Option, Some, None, Ok, refl, ap, subst}
 use Rattle.std.proofs.lemmas.Option.{cond_some}
 use Rattle.script_spec.proofs.TextLaws.{faultless_some}
 use Rattle.nc_base.specs.declared.errors.ScriptKind.{ScriptKind}

@@ -3,6 +3,7 @@
 ghost use Rattle.std.specs.Prelude.{◌≡◌, ℕ, List, [], ◌∷◌, ◌++◌, length, map, replicate, true, false, None, Some, codes, pos, neg_ℤ};
 ghost use Rattle.std.specs.Str.Lossy.{utf8_valid_len};
 ghost use Rattle.nc_base.specs.declared.header.NcType.TheVariants.{Char, Short, UByte};
+ghost use Rattle.nc_base.specs.declared.script.Script.{Script};
 ghost use Rattle.nc_base.specs.declared.request.Values.TheVariants.{Numbers, Bits};
 ghost use Rattle.nc_base.specs.declared.request.Form.TheVariants as form;
 ghost use Rattle.nc_base.specs.declared.request.PostKind.TheVariants.{Iget};
@@ -57,4 +58,13 @@ pub fn worked_text()
     }) }
     ensures remarks { said_lines (text_line (codes "# a remark") ++ text_line [] ++ text_line (codes "open")) ≡ words (codes "open") ∷ [] }
     ensures spells { utf8_valid_len script_halves ≡ length script_halves → Spells script_halves halves_read }
+{}
+
+/// Texts of which each line by itself says something, and which spell no script: a call of a rank that is none, and an id under
+/// which a rank posts twice.
+pub fn worked_refusals()
+    ensures rank { (script : Script) → Spells (text_line (codes "create 1") ++ text_line (codes "ranks 2") ++ text_line (codes "data")
+        ++ text_line (codes "2 buffer_detach") ++ text_line (codes "end")) script → ⊥ }
+    ensures id { (script : Script) → Spells (text_line (codes "create 1") ++ text_line (codes "ranks 1") ++ text_line (codes "var int v []") ++ text_line (codes "data")
+        ++ text_line (codes "0 iget_var 7 v") ++ text_line (codes "0 iget_var 7 v") ++ text_line (codes "end")) script → ⊥ }
 {}

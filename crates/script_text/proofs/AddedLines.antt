@@ -47,7 +47,7 @@ runs_on version k x y (ws ∷ a) b h j = (h.0, h.1, runs_on version h.0 x y a b 
 abbrev pub defined_by : ℕ → ℕ → List Line → Result (Option ℕ × Known) ScriptErr → Result (ℕ × (Known × List Line)) ScriptErr
 defined_by past version lines r = elim r [ Err e ↦ Err e | Ok s ↦ elim s.0 [ Some ranks ↦ Ok (ranks, (s.1, lines)) | None ↦ definitions past version s.1 lines ] ]
 
-step_again : (version : ℕ) (k x : Known) (first : List ℕ) (ws : List Word) → bytes_eq first (codes "data") ≡ false → known_after version k first ws ≡ Ok x → definition_step version k (Plain first) ws ≡ Ok (None, x)
+pub step_again : (version : ℕ) (k x : Known) (first : List ℕ) (ws : List Word) → bytes_eq first (codes "data") ≡ false → known_after version k first ws ≡ Ok x → definition_step version k (Plain first) ws ≡ Ok (None, x)
 step_again version k x first ws other h = by_false (bytes_eq first (codes "data")) _ _ other ∙ go_on (known_after version k first ws) (λ more. Ok (None, more)) x (None, x) h refl
 
 line_on : (past version n : ℕ) (k x : Known) (ws : List Word) (wss : List (List Word)) → Leads version k ws x

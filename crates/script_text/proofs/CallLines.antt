@@ -59,7 +59,7 @@ chains_set ranks a zero k (own ∷ more) c e low h again =
     (chain_pushed ranks a [] own c h.0 (subst (λ x. CallAgain ranks x own c) same again), h.1)
 chains_set ranks a (suc r) k (own ∷ more) c e low h again = (h.0, chains_set ranks (a + 1) r k more c (omega arith) (omega arith) h.1 again)
 
-count_set : (calls : List (List Call)) (r : ℕ) (c : Call) → r < length calls → count_all (slice_set calls r (calls_of r calls ++ c ∷ [])) ≡ count_all calls + values_in_call c
+pub count_set : (calls : List (List Call)) (r : ℕ) (c : Call) → r < length calls → count_all (slice_set calls r (calls_of r calls ++ c ∷ [])) ≡ count_all calls + values_in_call c
 count_set [] r c low = absurd (omega arith)
 count_set (own ∷ more) zero c low = omega (arith, count-pushed own c)
 count_set (own ∷ more) (suc r) c low = omega (arith, count_set more r c (omega arith))

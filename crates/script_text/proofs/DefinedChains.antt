@@ -149,12 +149,12 @@ pushes (suc k) a (v ∷ vs) = by (slice_get vs k) ∙ ap (λ (xs : List Var). v 
     by None = refl
     by (Some w) = refl
 
-abbrev NameAt : List Var → ℕ → List ℕ → Type 0
+abbrev pub NameAt : List Var → ℕ → List ℕ → Type 0
 NameAt [] k n = ⊥
 NameAt (v ∷ vs) zero n = n ≡ v.name
 NameAt (v ∷ vs) (suc k) n = NameAt vs k n
 
-found_name : (n : List ℕ) (vs : List Var) (k : ℕ) → position (bytes_eq n) (var_names vs) ≡ Some k → NameAt vs k n
+pub found_name : (n : List ℕ) (vs : List Var) (k : ℕ) → position (bytes_eq n) (var_names vs) ≡ Some k → NameAt vs k n
 found_name n [] k h = absurd (cc)
 found_name n (v ∷ vs) k h = ⊎_elim
     (λ (a : (bytes_eq n v.name ≡ true) × (k ≡ 0)). subst (λ j. NameAt (v ∷ vs) j n) (sym a.1) (bytes_same n v.name a.0))
@@ -188,15 +188,15 @@ abbrev pub count_own : List Var → ℕ
 count_own [] = 0
 count_own (v ∷ vs) = count_attrs v.attrs + count_own vs
 
-count-attr : (list : List Attr) (a : Attr) → count_attrs (list ++ a ∷ []) ≡ count_attrs list + a.count
+pub count-attr : (list : List Attr) (a : Attr) → count_attrs (list ++ a ∷ []) ≡ count_attrs list + a.count
 count-attr [] a = omega arith
 count-attr (x ∷ list) a = omega (arith, count-attr list a)
 
-count-var : (vs : List Var) (v : Var) → v.attrs ≡ [] → count_own (vs ++ v ∷ []) ≡ count_own vs
+pub count-var : (vs : List Var) (v : Var) → v.attrs ≡ [] → count_own (vs ++ v ∷ []) ≡ count_own vs
 count-var [] v none = omega (arith, ap count_attrs none)
 count-var (x ∷ vs) v none = omega (arith, count-var vs v none)
 
-count-pushed : (k : ℕ) (n : List ℕ) (a : Attr) (vs : List Var) → NameAt vs k n → count_own (push_attr k a vs) ≡ count_own vs + a.count
+pub count-pushed : (k : ℕ) (n : List ℕ) (a : Attr) (vs : List Var) → NameAt vs k n → count_own (push_attr k a vs) ≡ count_own vs + a.count
 count-pushed k n a [] at = absurd at
 count-pushed zero n a (v ∷ vs) at = omega (arith, count-attr v.attrs a)
 count-pushed (suc k) n a (v ∷ vs) at = omega (arith, count-pushed k n a vs at)

@@ -157,7 +157,7 @@ dataset_run version k d (a ∷ list) names front titles v new h fresh few =
 
 -- ---- attributes of the variables
 
-no_colon : (n : List ℕ) → is_name n ≡ true → bytes_eq n (codes ":") ≡ false
+pub no_colon : (n : List ℕ) → is_name n ≡ true → bytes_eq n (codes ":") ≡ false
 no_colon [] h = absurd (cc)
 no_colon (c ∷ cs) h =
     let starts = (and_parts (starts_name c) _ (and_parts _ _ h).0).0 in

@@ -99,7 +99,7 @@ nothing_found p from (suc n) h = cond-false _ _ _ (h from) ∙ nothing_found p (
 abbrev difference_by : List (List MeetKind) → List MeetKind → Option ℕ → Option ScriptKind
 difference_by ranks first o = option_map (λ d. kind.Mismatch d.0 0 d.1) (elim o as (λ x. Option (ℕ × ℕ)) [ None ↦ None | Some k ↦ option_map (λ r. (k, r)) (differs_at ranks first k) ])
 
-agreement : (calls : List (List Call)) → agree calls ≡ true → mismatch (map (λ own. kinds own) calls) ≡ None
+pub agreement : (calls : List (List Call)) → agree calls ≡ true → mismatch (map (λ own. kinds own) calls) ≡ None
 agreement [] h = refl
 agreement (own ∷ others) h =
     let first = kinds own in

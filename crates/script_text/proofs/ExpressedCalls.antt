@@ -64,7 +64,7 @@ posted_told Bput vs lawful h = (put_values 0 vs (values_told vs lawful h)).1
 -- ---- one call
 
 -- the id of a post is none that its rank has posted
-abbrev NewId : List Call → Call → Type 0
+abbrev pub NewId : List Call → Call → Type 0
 NewId own (call.Post id k n g vs) = is_posted id (posted own) ≡ false
 NewId own _ = Unit {0}
 
@@ -97,7 +97,7 @@ apart (n ∷ ids) more id h =
     let behind = (or_parts (list_any (λ m. m == n) ids) ((id == n) || list_any (λ m. m == n) more) none).1 in
     or_from _ _ (or_parts (id == n) (list_any (λ m. m == n) more) behind).0 (apart ids more id both.1)
 
-new_id : (own cs : List Call) (c : Call) → are_different (posted_ids (own ++ c ∷ cs)) ≡ true → NewId own c
+pub new_id : (own cs : List Call) (c : Call) → are_different (posted_ids (own ++ c ∷ cs)) ≡ true → NewId own c
 new_id own cs (call.Post id k n g vs) h =
     apart (posted own) (posted_ids cs) id (subst (λ (ids : List ℕ). are_different ids ≡ true) (filter_map-append id_posted own (call.Post id k n g vs ∷ cs)) h)
 new_id own cs _ h = tt

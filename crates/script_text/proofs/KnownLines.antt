@@ -89,7 +89,7 @@ hints_fit ranks hints r h = record {
 
 -- ---- the lines of the hints
 
-hint_leads : (version : ℕ) (k : Known) (word shown : List ℕ) (i v : ℕ) → hint_of_text word ≡ Some i → is_some (hint_in i k.hints) ≡ false → hint_value (hint_form i) (Plain shown ∷ []) ≡ Ok (v, [])
+pub hint_leads : (version : ℕ) (k : Known) (word shown : List ℕ) (i v : ℕ) → hint_of_text word ≡ Some i → is_some (hint_in i k.hints) ≡ false → hint_value (hint_form i) (Plain shown ∷ []) ≡ Ok (v, [])
     → Leads version k (Plain (codes "hint") ∷ Plain word ∷ Plain shown ∷ []) (record k { hints = slice_set k.hints i (Some v) })
 hint_leads version k word shown i v at free read = (
   refl,

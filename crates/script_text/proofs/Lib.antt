@@ -1,11 +1,11 @@
 pub mod Steps
 mod Lexing
-mod Lines
+pub mod Lines
 pub mod Numerals
-mod Sequences
-mod PrintedValues
-mod PrintedRegions
-mod CallTokens
+pub mod Sequences
+pub mod PrintedValues
+pub mod PrintedRegions
+pub mod CallTokens
 mod PrintedCalls
 pub mod CallLines
 mod PrintedAttributes
@@ -13,12 +13,12 @@ mod PrintedDefinitions
 pub mod AddedLines
 pub mod Places
 pub mod DefinedChains
-mod DefinedLines
+pub mod DefinedLines
 mod ReadWords
-mod KnownLines
+pub mod KnownLines
 mod ScriptLines
 pub mod Whole
 mod ExpressedDefinitions
-mod ExpressedCalls
+pub mod ExpressedCalls
 pub mod Expressed
 mod PrintingLaws

@@ -273,10 +273,10 @@ region_kept p form.Varn ws r h all =
 
 -- ---- a region that has just the lists of its form
 
-abbrev region_with : Form → List ℕ → List ℕ → List ℕ → List ℕ → List Part → Given
+abbrev pub region_with : Form → List ℕ → List ℕ → List ℕ → List ℕ → List Part → Given
 region_with f s c d m ps = record { form = f; start = s; count = c; stride = d; imap = m; parts = ps }
 
-same_region : (f : Form) (s c d m s2 c2 d2 m2 : List ℕ) (ps ps2 : List Part) → s2 ≡ s → c2 ≡ c → d2 ≡ d → m2 ≡ m → ps2 ≡ ps → region_with f s c d m ps ≡ region_with f s2 c2 d2 m2 ps2
+pub same_region : (f : Form) (s c d m s2 c2 d2 m2 : List ℕ) (ps ps2 : List Part) → s2 ≡ s → c2 ≡ c → d2 ≡ d → m2 ≡ m → ps2 ≡ ps → region_with f s c d m ps ≡ region_with f s2 c2 d2 m2 ps2
 same_region f s c d m s2 c2 d2 m2 ps ps2 e1 e2 e3 e4 e5 = cc
 
 region_by : (f : Form) (s c d m : List ℕ) (ps : List Part) → has_lists_of f (region_with f s c d m ps) ≡ true → are_sizes s ≡ true → are_sizes c ≡ true → are_sizes d ≡ true → are_sizes m ≡ true → list_all is_part ps ≡ true

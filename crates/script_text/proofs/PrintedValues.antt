@@ -78,7 +78,7 @@ not_above : (t : Option NcType) (n : ℕ) → (is_some t ≡ false → n ≤ mos
 not_above None n h = le-ltb most_elements n (h refl)
 not_above (Some k) n h = refl
 
-room_again : (t : Option NcType) (before n : ℕ) → HasRoom t before n → within_limits t before n ≡ Ok tt
+pub room_again : (t : Option NcType) (before n : ℕ) → HasRoom t before n → within_limits t before n ≡ Ok tt
 room_again t before n r =
     go_on (refuse_if (not (is_some t) && nat_lt most_elements n) (kind.Limit limit.Elements)) _ tt tt (passed _ _ (not_above t n r.own))
     (passed (nat_lt most_values (before + n)) (kind.Limit limit.Values) (le-ltb most_values (before + n) r.all))
@@ -107,7 +107,7 @@ each_fit f test each t before (w ∷ ws) found xs h room e =
     all_pushed test [] x h e = and_from _ _ e refl
     all_pushed test (y ∷ xs) x h e = let both = and_parts _ _ h in and_from _ _ both.0 (all_pushed test xs x both.1 e)
 
-less_room : (t : Option NcType) (before m n : ℕ) → m ≤ n → HasRoom t before n → HasRoom t before m
+pub less_room : (t : Option NcType) (before m n : ℕ) → m ≤ n → HasRoom t before n → HasRoom t before m
 less_room t before m n le r =
     let all = r.all in
     record { all = omega arith; own = λ none. let own = r.own none in omega arith }
@@ -131,7 +131,7 @@ each_again f test p each t before (x ∷ xs) found h r =
 
 -- one number, one pattern
 
-number_fit : (t : Option NcType) (w : List ℕ) (z : ℤ) → number_for t w ≡ Some z → is_fit_number t z ≡ true
+pub number_fit : (t : Option NcType) (w : List ℕ) (z : ℤ) → number_for t w ≡ Some z → is_fit_number t z ≡ true
 number_fit t w z h = by (number_of_text w) refl h
   where
     by_test : (y : ℤ) (b : Bool) → number_of_text w ≡ Some y → may_have t (value.Number y) ≡ b → cond {A = Option ℤ} b (Some y) None ≡ Some z → is_fit_number t z ≡ true
@@ -144,7 +144,7 @@ number_fit t w z h = by (number_of_text w) refl h
     by None e k = absurd (cc)
     by (Some y) e k = by_test y (may_have t (value.Number y)) e refl k
 
-pattern_fit : (t : Option NcType) (w : List ℕ) (n : ℕ) → pattern_for t w ≡ Some n → is_fit_pattern t n ≡ true
+pub pattern_fit : (t : Option NcType) (w : List ℕ) (n : ℕ) → pattern_for t w ≡ Some n → is_fit_pattern t n ≡ true
 pattern_fit t w n h = by (bits_of_text w) refl h
   where
     by_test : (y : ℕ) (b : Bool) → bits_of_text w ≡ Some y → may_have t (value.Bits y) ≡ b → cond {A = Option ℕ} b (Some y) None ≡ Some n → is_fit_pattern t n ≡ true

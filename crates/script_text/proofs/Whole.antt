@@ -174,7 +174,7 @@ chains_empty : (ranks r n : ℕ) → Chains ranks r (replicate n [])
 chains_empty ranks r zero = tt
 chains_empty ranks r (suc n) = (tt, chains_empty ranks (r + 1) n)
 
-count_empty : (n : ℕ) → count_all (replicate n []) ≡ 0
+pub count_empty : (n : ℕ) → count_all (replicate n []) ≡ 0
 count_empty zero = refl
 count_empty (suc n) = omega (arith, count_empty n)
 
@@ -188,7 +188,7 @@ none_called n k few = record { long = length_empty n; chains = chains_empty n 0 
 all_called : (n values : ℕ) (d : Called) → Holds n values d → DataEnd n values d.calls
 all_called n values d holds = record { long = holds.long; chains = holds.chains; few = omega (arith, holds.counted, holds.few) }
 
-abbrev finish_by : ℕ → Option ScriptKind → Result (Unit {0}) ScriptErr
+abbrev pub finish_by : ℕ → Option ScriptKind → Result (Unit {0}) ScriptErr
 finish_by n o = elim o [ None ↦ Ok tt | Some e ↦ Err (record { line = n; kind = e }) ]
 
 abbrev ranked : ℕ → ℕ → ℕ → Known → List Line → Option ℕ → Result (ℕ × (Known × List Line)) ScriptErr
@@ -327,7 +327,7 @@ is_text text script h = by (nat_lt most_bytes (length text)) (utf8_valid_len tex
         let told = within_told (length (text_lines text)) (script_of_lines (length (text_lines text) + 1) (significant text)) script k in
         record { short = ltb-false most_bytes (length text) d; few = told.1; valid = e; told = told.0 }
 
-text_again : (text : List ℕ) (script : Script) → length text ≤ most_bytes → (utf8_valid_len text == length text) ≡ true → length (text_lines text) ≤ most_lines
+pub text_again : (text : List ℕ) (script : Script) → length text ≤ most_bytes → (utf8_valid_len text == length text) ≡ true → length (text_lines text) ≤ most_lines
     → script_of_lines (length (text_lines text) + 1) (significant text) ≡ Ok script → Reads text script
 text_again text script short valid few told =
     ap (λ (i : Bool). text_by i (utf8_valid_len text == length text) text) (le-ltb most_bytes (length text) short)

@@ -1,4 +1,5 @@
 // Each run is done by the program, and by the serial run along the order that the program answered; those of small datasets by hand, too.
+mod in_turn;
 mod made;
 mod worked;
 

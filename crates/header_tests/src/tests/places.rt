@@ -8,7 +8,7 @@ use nc_base::{Align, AttrList, FILE_LIMIT, Header, NcType};
 use std::alloc::Global;
 use std::process::Abort;
 use test_fixtures::{NO_LAYOUT, NO_MEMORY, dimension, one, variable};
-use var_layout::{end_of, file_end, header_len, lay_out, recsize, slab};
+use var_layout::{end_of, file_end, header_len, lay_out, recsize, slab, vsize};
 
 /// The dimension x and the variable v over it, without a begin.
 fn header_of(rt: &impl Abort, alloc: Global, version: u8, len: u64, kind: NcType) -> Header
@@ -48,9 +48,9 @@ fn end(rt: &impl Abort, header: &Header, records: u64) -> u64
     end_of(header, records)
 }
 
-/// The length of the header, the begin of its variable and the bytes of its slab, the record size, and the ends for no
+/// The length of the header, the begin of its variable, the bytes of its slab and these rounded up, the record size, and the ends for no
 /// record and for four.
-fn sizes_of(rt: &impl Abort, header: &Header) -> [u64; 6]
+fn sizes_of(rt: &impl Abort, header: &Header) -> [u64; 7]
     requires { is_sound header.now ≡ true }
 {
     assert!(rt; header.vars.len() == 1);
@@ -58,6 +58,7 @@ fn sizes_of(rt: &impl Abort, header: &Header) -> [u64; 6]
         header_len(header),
         header.vars.as_slice()[0].begin,
         slab(header, 0),
+        vsize(header, 0),
         recsize(header),
         end(rt, header, 0),
         end(rt, header, 4),
@@ -65,12 +66,12 @@ fn sizes_of(rt: &impl Abort, header: &Header) -> [u64; 6]
 }
 
 /// The version, the length of the dimension, the variable's type, what the first begin is a multiple of, and the sizes.
-const TABLE: [(u8, u64, NcType, u64, [u64; 6]); 5] = [
-    (1, 4, NcType::Int, 4, [80, 80, 16, 0, 96, 96]),
-    (2, 4, NcType::Int, 4, [84, 84, 16, 0, 100, 100]),
-    (5, 4, NcType::UInt64, 4, [128, 128, 32, 0, 160, 160]),
-    (1, 0, NcType::Short, 4, [80, 80, 2, 2, 80, 88]),
-    (1, 4, NcType::Int, 512, [80, 512, 16, 0, 528, 528]),
+const TABLE: [(u8, u64, NcType, u64, [u64; 7]); 5] = [
+    (1, 4, NcType::Int, 4, [80, 80, 16, 16, 0, 96, 96]),
+    (2, 4, NcType::Int, 4, [84, 84, 16, 16, 0, 100, 100]),
+    (5, 4, NcType::UInt64, 4, [128, 128, 32, 32, 0, 160, 160]),
+    (1, 0, NcType::Short, 4, [80, 80, 2, 4, 2, 80, 88]),
+    (1, 4, NcType::Int, 512, [80, 512, 16, 16, 0, 528, 528]),
 ];
 
 #[test]

@@ -129,6 +129,16 @@ fn a_logged_disk_is_split_and_joined(rt: HostRuntime) {
     has_calls(&rt, alloc, &disk, &CALLS);
 }
 
+#[test]
+fn a_disk_without_a_log_tells_its_bytes_alone(rt: HostRuntime) {
+    let alloc = rt.alloc();
+    let mut disk = MemDisk::new(alloc, blob(&rt, alloc, b"abcd")).expect(&rt, NO_MEMORY);
+    stores(&rt, alloc, &mut disk, 1, b"BC");
+    loads(&rt, alloc, &mut disk, 2, *b"Cd");
+    has_bytes(&rt, alloc, &disk, b"aBCd");
+    assert!(rt; disk.calls(alloc).expect(&rt, NO_MEMORY).is_none());
+}
+
 // Entries on both sides of place 4.
 const ENTRIES: [Fail; 2] = [
     Fail {

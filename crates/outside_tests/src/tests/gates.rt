@@ -9,7 +9,9 @@ const SECOND: Point = Point::Arrival(0);
 #[test]
 fn a_gate_tells_whether_the_points_met(rt: HostRuntime) {
     let alone = MeetGate::new(FIRST, SECOND, 3);
+    assert!(rt; !alone.met());
     alone.pass(&rt, FIRST);
+    assert!(rt; !alone.met());
     alone.pass(&rt, SECOND);
     assert!(rt; !alone.met());
     let before = MeetGate::new(FIRST, SECOND, 3);

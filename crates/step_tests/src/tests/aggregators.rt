@@ -17,17 +17,18 @@ use test_fixtures::{Asked, NO_MEMORY};
 /// What a test says where gets are refused that should not be.
 const NO_TABLE: &str = "no table";
 
-/// Eight ints from byte 80 on, for aggregators with lines of so much room, on threads or in turn.
-fn eight_ints(rt: &impl Abort, alloc: Global, line_room: u32, threads: bool) -> Dataset
+/// Eight ints from byte 80 on, for aggregators with such windows.
+fn eight_ints(rt: &impl Abort, alloc: Global, way: Way) -> Dataset
     ensures sound { is_sound result.header ≡ true }
     ensures hints { are_lawful_hints result.hints ≡ true }
 {
-    let way = Way {
-        line_room,
-        threads,
-        ..IN_TURN
-    };
     small_dataset(rt, alloc, 8, NcType::Int, way)
+}
+
+/// What each of two ranks puts, and what the file then has of the ints.
+struct Puts {
+    asked: &'static [Asked; 2],
+    left: &'static [u8],
 }
 
 /// Rank 0 puts every other int up to the seventh, rank 1 the second one and the fourth.
@@ -52,17 +53,42 @@ const ASKED: [Asked; 2] = [
 /// What the file has of the ints once they were put.
 const PUT: &[u8] = b"abcdefghijklmnopqrst....yzAB....";
 
+const HOLED: Puts = Puts {
+    asked: &ASKED,
+    left: PUT,
+};
+
+/// Rank 0 puts 1 3 5 7, and rank 1 puts 2 4 6 8 between them.
+const BY_TURNS: Puts = Puts {
+    asked: &[
+        Asked {
+            from: 0,
+            count: 4,
+            stride: 2,
+            bytes: b"\0\0\0\x01\0\0\0\x03\0\0\0\x05\0\0\0\x07",
+        },
+        Asked {
+            from: 1,
+            count: 4,
+            stride: 2,
+            bytes: b"\0\0\0\x02\0\0\0\x04\0\0\0\x06\0\0\0\x08",
+        },
+    ],
+    left: b"\0\0\0\x01\0\0\0\x02\0\0\0\x03\0\0\0\x04\0\0\0\x05\0\0\0\x06\0\0\0\x07\0\0\0\x08",
+};
+
 fn put<R: Abort + Threads + Wait + Sync, G: Gate>(
     rt: &R,
     alloc: Global,
     gate: &G,
     disk: &mut MemDisk,
     set: &Dataset,
+    puts: &Puts,
 ) -> Result<PutEnd, StepErr>
     requires sound { is_sound set.now.header ≡ true }
     requires hints { are_lawful_hints set.now.hints ≡ true }
 {
-    let [a, b] = &ASKED;
+    let [a, b] = puts.asked;
     let (a, b) = (posted(rt, alloc, a), posted(rt, alloc, b));
     let (end, records) = put_two(rt, alloc, gate, disk, set, a, b);
     assert!(rt; records == 0);
@@ -76,17 +102,32 @@ fn is_done<R: Abort + Threads + Wait + Sync, G: Gate>(
     gate: &G,
     disk: &mut MemDisk,
     set: &Dataset,
+    puts: &Puts,
 )
     requires sound { is_sound set.now.header ≡ true }
     requires hints { are_lawful_hints set.now.hints ≡ true }
 {
-    let end = put(rt, alloc, gate, disk, set);
+    let end = put(rt, alloc, gate, disk, set, puts);
     assert!(rt; end == Ok(PutEnd::Done));
-    has_bytes(rt, alloc, disk, 80, PUT);
+    has_bytes(rt, alloc, disk, 80, puts.left);
 }
 
+/// Aggregators on threads, whose lines have room for two items.
+const ON: Way = Way {
+    threads: true,
+    ..IN_TURN
+};
+
 /// The room of the lines, and whether aggregators have threads.
-const WAYS: [(u32, bool); 4] = [(1, true), (2, true), (64, true), (2, false)];
+const WAYS: [Way; 4] = [
+    Way { line_room: 1, ..ON },
+    ON,
+    Way {
+        line_room: 64,
+        ..ON
+    },
+    IN_TURN,
+];
 
 const PUT_CALLS: [DiskCall; 5] = [
     DiskCall::Store(80, 12),
@@ -99,10 +140,10 @@ const PUT_CALLS: [DiskCall; 5] = [
 #[test]
 fn puts_go_domain_by_domain(rt: HostRuntime) {
     let alloc = rt.alloc();
-    for (line_room, threads) in WAYS {
-        let set = eight_ints(&rt, alloc, line_room, threads);
+    for way in WAYS {
+        let set = eight_ints(&rt, alloc, way);
         let mut disk = disk_of(&rt, alloc, old_file(&rt, alloc, 112), &[]);
-        is_done(&rt, alloc, &OpenGate, &mut disk, &set);
+        is_done(&rt, alloc, &OpenGate, &mut disk, &set, &HOLED);
         has_calls(&rt, alloc, &disk, &PUT_CALLS);
     }
 }
@@ -155,8 +196,8 @@ fn is_got<R: Abort + Threads + Wait + Sync>(
 #[test]
 fn gets_go_domain_by_domain(rt: HostRuntime) {
     let alloc = rt.alloc();
-    for (line_room, threads) in WAYS {
-        let set = eight_ints(&rt, alloc, line_room, threads);
+    for way in WAYS {
+        let set = eight_ints(&rt, alloc, way);
         let mut disk = disk_of(&rt, alloc, put_but(&rt, alloc, 0, 0), &[]);
         is_got(&rt, alloc, &mut disk, &set);
         has_calls(&rt, alloc, &disk, &GET_CALLS);
@@ -180,25 +221,25 @@ const REFUSED_PUTS: [(FailOp, u64, [usize; 2]); 8] = [
 fn is_refused<R: Abort + Threads + Wait + Sync>(
     rt: &R,
     alloc: Global,
-    threads: bool,
+    way: Way,
     fault: (FailOp, u64),
     [from, to]: [usize; 2],
 ) {
-    let set = eight_ints(rt, alloc, 2, threads);
+    let set = eight_ints(rt, alloc, way);
     let mut disk = disk_of(rt, alloc, old_file(rt, alloc, 112), &[fault]);
-    let end = put(rt, alloc, &OpenGate, &mut disk, &set);
+    let end = put(rt, alloc, &OpenGate, &mut disk, &set, &HOLED);
     assert!(rt; end == Err(StepErr::Disk));
     let left = put_but(rt, alloc, from, to);
     has_bytes(rt, alloc, &disk, 0, left.as_slice());
-    is_done(rt, alloc, &OpenGate, &mut disk, &set);
+    is_done(rt, alloc, &OpenGate, &mut disk, &set, &HOLED);
 }
 
 // In turn, what stands behind the refused call is not begun.
 #[test]
 fn one_aggregator_goes_on_while_the_other_is_refused(rt: HostRuntime) {
     for (op, at, [from, to]) in REFUSED_PUTS {
-        is_refused(&rt, rt.alloc(), true, (op, at), [from, to]);
-        is_refused(&rt, rt.alloc(), false, (op, at), [from, 108]);
+        is_refused(&rt, rt.alloc(), ON, (op, at), [from, to]);
+        is_refused(&rt, rt.alloc(), IN_TURN, (op, at), [from, 108]);
     }
 }
 
@@ -207,39 +248,59 @@ struct Meeting {
     first: Point,
     second: Point,
     turns: u64,
-    line_room: u32,
+    way: Way,
+    puts: Puts,
     met: bool,
 }
+
+/// Lines with room for all items.
+const ROOMY: Way = Way {
+    line_room: 64,
+    ..ON
+};
+
+/// Each window has two ints, one of either rank.
+const PAIRS: Way = Way { cb_buffer: 8, ..ON };
 
 const MEETINGS: [Meeting; 4] = [
     Meeting {
         first: Point::Window(0, 0),
         second: Point::Window(1, 0),
         turns: 10_000_000,
-        line_room: 64,
+        way: ROOMY,
+        puts: HOLED,
         met: true,
     },
     Meeting {
         first: Point::Window(1, 0),
         second: Point::Window(0, 0),
         turns: 10_000_000,
-        line_room: 64,
+        way: ROOMY,
+        puts: HOLED,
         met: true,
     },
-    // The one that is held has taken none of the three pieces of its first window. One of them goes on its line, and the caller waits
-    // with the next, before the second round.
+    // The one that is held has taken none of the two pieces of its first window. One of them goes on its line, and the caller waits
+    // with the other, before the second round.
     Meeting {
         first: Point::Window(0, 0),
         second: Point::Window(1, 1),
         turns: 2_000,
-        line_room: 1,
+        way: Way {
+            line_room: 1,
+            ..PAIRS
+        },
+        puts: BY_TURNS,
         met: false,
     },
     Meeting {
         first: Point::Window(0, 0),
         second: Point::Window(1, 1),
         turns: 10_000_000,
-        line_room: 64,
+        way: Way {
+            line_room: 64,
+            ..PAIRS
+        },
+        puts: BY_TURNS,
         met: true,
     },
 ];
@@ -247,9 +308,9 @@ const MEETINGS: [Meeting; 4] = [
 /// Puts, and sees whether the points of the gate meet.
 fn meets<R: Abort + Threads + Wait + Sync>(rt: &R, alloc: Global, meeting: &Meeting) {
     let gate = MeetGate::new(meeting.first, meeting.second, meeting.turns);
-    let set = eight_ints(rt, alloc, meeting.line_room, true);
+    let set = eight_ints(rt, alloc, meeting.way);
     let mut disk = disk_of(rt, alloc, old_file(rt, alloc, 112), &[]);
-    is_done(rt, alloc, &gate, &mut disk, &set);
+    is_done(rt, alloc, &gate, &mut disk, &set, &meeting.puts);
     assert!(rt; gate.met() == meeting.met);
 }
 

@@ -27,7 +27,7 @@ use test_fixtures::{
 use var_layout::{Measures, file_end};
 use vara_extents::records_needed;
 
-/// Two aggregators, with windows of 12 bytes; one rank alone has windows of eight.
+/// Two aggregators; one rank alone has windows of eight bytes.
 const HINTS: Hints = Hints {
     cb_nodes: 2,
     cb_buffer: 12,
@@ -41,15 +41,17 @@ const HINTS: Hints = Hints {
     striping_unit: 1,
 };
 
-/// The room of the aggregators' lines, whether they have threads, and what becomes of puts that share a byte.
+/// The length of windows, the room of the aggregators' lines, whether they have threads, and what becomes of puts that share a byte.
 #[derive(Clone, Copy)]
 pub(super) struct Way {
+    pub(super) cb_buffer: u64,
     pub(super) line_room: u32,
     pub(super) threads: bool,
     pub(super) overlap: OverlapRule,
 }
 
 pub(super) const IN_TURN: Way = Way {
+    cb_buffer: 12,
     line_room: 2,
     threads: false,
     overlap: OverlapRule::Refuse,
@@ -59,7 +61,9 @@ fn hints_of(rt: &impl Abort, way: Way) -> Hints
     ensures { are_lawful_hints result ≡ true }
 {
     assert!(rt; 1 <= way.line_room && way.line_room <= 64);
+    assert!(rt; 1 <= way.cb_buffer && way.cb_buffer <= 33_554_432);
     Hints {
+        cb_buffer: way.cb_buffer,
         line_room: way.line_room,
         threads: way.threads,
         overlap: way.overlap,

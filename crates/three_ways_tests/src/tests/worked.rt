@@ -21,9 +21,15 @@ struct Row {
 }
 
 // What the serial run along the order leaves, and what is printed of it.
-fn again(rt: &impl Abort, alloc: Global, row: &Row, order: MarkList) -> (Blob, Blob) {
-    let script = script_of(rt, alloc, row.script);
-    let begun = joined(rt, alloc, row.begun);
+pub(super) fn again(
+    rt: &impl Abort,
+    alloc: Global,
+    text: &[u8],
+    begun: &[&[u8]],
+    order: MarkList,
+) -> (Blob, Blob) {
+    let script = script_of(rt, alloc, text);
+    let begun = joined(rt, alloc, begun);
     let SerialEnd {
         bytes,
         records: _,
@@ -41,7 +47,7 @@ fn again(rt: &impl Abort, alloc: Global, row: &Row, order: MarkList) -> (Blob, B
     (bytes, text)
 }
 
-fn are_same(rt: &impl Abort, one: &[u8], other: &[u8]) {
+pub(super) fn are_same(rt: &impl Abort, one: &[u8], other: &[u8]) {
     assert_eq!(rt; one, other);
 }
 
@@ -61,7 +67,7 @@ fn agrees<R: Abort + Threads + Wait + Sync>(rt: &R, alloc: Global, row: &Row) {
         order,
         ..
     } = program(rt, alloc, &run);
-    let (bytes, text) = again(rt, alloc, row, order);
+    let (bytes, text) = again(rt, alloc, row.script, row.begun, order);
     are_same(rt, bytes.as_slice(), held.as_slice());
     are_same(rt, text.as_slice(), given.as_slice());
     are_same(rt, joined(rt, alloc, row.left).as_slice(), held.as_slice());
@@ -70,17 +76,17 @@ fn agrees<R: Abort + Threads + Wait + Sync>(rt: &R, alloc: Global, row: &Row) {
 }
 
 // CDF-1, and a record count of 0.
-const MAGIC: &[u8] = b"CDF\x01";
+pub(super) const MAGIC: &[u8] = b"CDF\x01";
 
-const NO_RECORDS: &[u8] = &[0; 4];
+pub(super) const NO_RECORDS: &[u8] = &[0; 4];
 
 // `dim x 4`, `var int v [x]` at 80: the header behind its record count.
-const V: &[u8] = b"\
+pub(super) const V: &[u8] = b"\
     \x00\x00\x00\x0a\x00\x00\x00\x01\x00\x00\x00\x01x\x00\x00\x00\x00\x00\x00\x04\
     \x00\x00\x00\x00\x00\x00\x00\x00\x00\x00\x00\x0b\x00\x00\x00\x01\x00\x00\x00\x01v\x00\x00\x00\x00\x00\x00\x01\
     \x00\x00\x00\x00\x00\x00\x00\x00\x00\x00\x00\x00\x00\x00\x00\x04\x00\x00\x00\x10\x00\x00\x00\x50";
 
-const NEW_V: &[&[u8]] = &[MAGIC, NO_RECORDS, V, &[0; 16]];
+pub(super) const NEW_V: &[&[u8]] = &[MAGIC, NO_RECORDS, V, &[0; 16]];
 
 const V_OFFSETS: &[u8] = b"\
     // file format: CDF-1\nfile header:\n  size = 80 bytes\n  extent = 80 bytes\n\
@@ -88,7 +94,7 @@ const V_OFFSETS: &[u8] = b"\
     end file offset = 96\n    size in bytes = 16\nrecord variables:\n";
 
 // `dim t unlimited`, `var short s [t]` at 80: the header behind its record count.
-const S: &[u8] = b"\
+pub(super) const S: &[u8] = b"\
     \x00\x00\x00\x0a\x00\x00\x00\x01\x00\x00\x00\x01t\x00\x00\x00\x00\x00\x00\x00\
     \x00\x00\x00\x00\x00\x00\x00\x00\x00\x00\x00\x0b\x00\x00\x00\x01\x00\x00\x00\x01s\x00\x00\x00\x00\x00\x00\x01\
     \x00\x00\x00\x00\x00\x00\x00\x00\x00\x00\x00\x00\x00\x00\x00\x03\x00\x00\x00\x04\x00\x00\x00\x50";

@@ -1,8 +1,8 @@
-use Rattle.std.proofs.Common.{ap, ◌∙◌}
+use Rattle.std.proofs.Common.{ap, inl, ◌∙◌}
 use Rattle.std.specs.Prelude.{IfSome}
 use Rattle.dataset_start.specs.Dataset.{TellsDataset}
 use Rattle.dataset_start.specs.Stops.{line_of}
-use Rattle.dataset_start.proofs.NotReady.{lengthen_refused, not_opened, redefine_refused}
+use Rattle.dataset_start.proofs.NotReady.{lengthen_refused, redefine_refused}
 use Rattle.dataset_start.proofs.ReadyLaws.{bad-header, bad-redefinition, no_extras, ready-kept, redefined-ready, redefined_long, some_extras}
 use Rattle.dataset_start.proofs.Untold.{disk-untold, redefinition-leaves}
 use Rattle.dataset_start.proofs.existing.open.Goals as goal
@@ -45,19 +45,22 @@ pub returns-else-is_empty-clause-unchanged : goal.returns-else-is_empty-clause-u
 returns-else-is_empty-clause-unchanged g c =
     redefinition-leaves c.redefine.result (λ e x. ap g.D.Disk.held (c.redefine.ensures.unchanged e x) ∙ c.in_ok-old.ensures.held) c.redefine.ensures.only
 
+-- ---- where it was not made ready
+
 pub returns-in_err-old-clause-refused : goal.returns-in_err-old-clause-refused
-returns-in_err-old-clause-refused g c =
-    on_err c.from_residual.result (not_opened c.args.script.now (g.D.Disk.held c.args.disk.now) (g.D.Disk.held c.read_header.new.disk) c.in_err-old.ensures.held)
+returns-in_err-old-clause-refused g c = on_err c.from_residual.result (inl c.in_err-old.ensures.held)
 
 pub returns-in_err-lengthen-clause-refused : goal.returns-in_err-lengthen-clause-refused
 returns-in_err-lengthen-clause-refused g c =
     on_err c.from_residual-in_err-lengthen.result
     (lengthen_refused c.args.script.now c.in_ok-old.old (g.D.Disk.held c.args.disk.now) (g.D.Disk.held c.read_header.new.disk) (g.D.Disk.held c.lengthen.new.disk) c.requires.opened
-    (no_extras c.args.script.now (c.is_empty.ensures.0 c.if-is_empty.true)) c.in_ok-old.ensures.opened c.in_ok-old.ensures.held c.in_err-lengthen.ensures.lengthened)
+    (no_extras c.args.script.now (c.is_empty.ensures.0 c.if-is_empty.true)) c.in_ok-old.ensures.opened c.in_ok-old.ensures.faultless c.in_ok-old.ensures.held
+    c.in_err-lengthen.ensures.lengthened)
 
 pub returns-else-is_empty-clause-refused : goal.returns-else-is_empty-clause-refused
 returns-else-is_empty-clause-refused g c =
     on_err_weaker c.redefine.result
     (redefine_refused c.args.script.now c.in_ok-old.old (g.D.Disk.held c.args.disk.now) (g.D.Disk.held c.read_header.new.disk) (g.D.Disk.held c.redefine.new.disk) c.requires.opened
-    (some_extras c.args.script.now (λ none. both_ways _ c.if-is_empty.false (c.is_empty.ensures.1 none))) c.in_ok-old.ensures.opened c.in_ok-old.ensures.held)
+    (some_extras c.args.script.now (λ none. both_ways _ c.if-is_empty.false (c.is_empty.ensures.1 none))) c.in_ok-old.ensures.opened c.in_ok-old.ensures.faultless
+    c.in_ok-old.ensures.held)
     c.redefine.ensures.torn

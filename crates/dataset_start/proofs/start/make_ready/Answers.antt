@@ -1,11 +1,11 @@
-use Rattle.std.proofs.Common.{◌∙◌}
+use Rattle.std.proofs.Common.{◌∙◌, inl, refl}
 use Rattle.redef_laws.proofs.MovedLaws.{writable_is_sound}
 use Rattle.dataset_start.proofs.Keeping.{kept_created, kept_hints, kept_records}
-use Rattle.dataset_start.proofs.NotReady.{create_refused, fill_refused, not_laid, open_refused}
-use Rattle.dataset_start.proofs.ReadyLaws.{created_long, ready-created}
+use Rattle.dataset_start.proofs.NotReady.{create_refused, fill_refused}
+use Rattle.dataset_start.proofs.ReadyLaws.{created_long, laid-mislaid, ready-created}
 use Rattle.dataset_start.proofs.start.make_ready.Goals as goal
 use Rattle.list_laws.proofs.Results.{on_err}
-use Rattle.std.proofs.lemmas.Result.{on_err_weaker}
+use Rattle.std.proofs.lemmas.Bool.{both_ways}
 
 pub returns-in_ok-fill-clause-ready : goal.returns-in_ok-fill-clause-ready
 returns-in_ok-fill-clause-ready g c =
@@ -25,21 +25,33 @@ returns-in_ok-fill-clause-len g c =
     created_long c.args.script.now c.in_ok-header.header (g.D.Disk.len c.fill.new.disk) (kept_records c.args.script.now c.requires.kept) c.in_ok-header.ensures.header
     (c.fill.ensures.len ∙ c.in_ok-create.ensures.len)
 
+-- ---- where it was not made ready
+
 pub returns-in_err-header-clause-refused : goal.returns-in_err-header-clause-refused
-returns-in_err-header-clause-refused g c = on_err c.from_residual.result (not_laid c.args.script.now (g.D.Disk.held c.args.disk.now) c.if-script.true)
+returns-in_err-header-clause-refused g c = on_err c.from_residual.result (inl refl)
 
 pub returns-in_err-create-clause-refused : goal.returns-in_err-create-clause-refused
 returns-in_err-create-clause-refused g c =
     on_err c.from_residual-in_err-create.result
-    (create_refused c.args.script.now c.in_ok-header.header (g.D.Disk.held c.args.disk.now) (g.D.Disk.held c.create.new.disk) c.if-script.true c.in_ok-header.ensures.header
-    c.in_err-create.ensures.refused)
+    (create_refused c.args.script.now c.in_ok-header.header (g.D.Disk.held c.args.disk.now) (g.D.Disk.held c.create.new.disk) c.if-script.true
+    c.in_ok-header.ensures.faultless c.in_ok-header.ensures.header c.in_err-create.ensures.refused)
 
 pub returns-in_err-fill-clause-refused : goal.returns-in_err-fill-clause-refused
 returns-in_err-fill-clause-refused g c =
     on_err c.from_residual-in_err-fill.result
     (fill_refused c.args.script.now c.in_ok-header.header (g.D.Disk.held c.args.disk.now) (g.D.Disk.held c.create.new.disk) (g.D.Disk.held c.fill.new.disk) c.if-script.true
-    c.in_ok-header.ensures.header c.in_ok-create.ensures.bytes c.in_err-fill.ensures.refused)
+    c.in_ok-header.ensures.faultless c.in_ok-header.ensures.header c.in_ok-create.ensures.bytes c.in_err-fill.ensures.refused)
 
-pub returns-else-script-clause-refused : goal.returns-else-script-clause-refused
-returns-else-script-clause-refused g c =
-    on_err_weaker c.open.result (open_refused c.args.script.now (g.D.Disk.held c.args.disk.now) (g.D.Disk.held c.open.new.disk) c.if-script.false) c.open.ensures.refused
+-- ---- a layout that is not refused
+
+pub returns-in_err-create-clause-unlaid : goal.returns-in_err-create-clause-unlaid
+returns-in_err-create-clause-unlaid g c = laid-mislaid c.args.script.now (λ _. c.in_ok-header.ensures.faultless)
+
+pub returns-in_err-fill-clause-unlaid : goal.returns-in_err-fill-clause-unlaid
+returns-in_err-fill-clause-unlaid g c = laid-mislaid c.args.script.now (λ _. c.in_ok-header.ensures.faultless)
+
+pub returns-in_ok-fill-clause-unlaid : goal.returns-in_ok-fill-clause-unlaid
+returns-in_ok-fill-clause-unlaid g c = laid-mislaid c.args.script.now (λ _. c.in_ok-header.ensures.faultless)
+
+pub returns-else-script-clause-unlaid : goal.returns-else-script-clause-unlaid
+returns-else-script-clause-unlaid g c = laid-mislaid c.args.script.now (λ f. absurd (both_ways c.args.script.now.fresh c.if-script.false f))

@@ -6,12 +6,11 @@ use Rattle.nc_base.specs.declared.step.StepErr.TheVariants as fault
 use Rattle.dataset_start.specs.declared.stop.Stop.{Stop}
 use Rattle.dataset_start.specs.declared.stop.Stop.TheVariants as stops
 use Rattle.script_laws.proofs.LawfulLaws.{read_lawful}
-use Rattle.ncmpi_cli.specs.Headline.{GivesLine}
 use Rattle.ncmpi_cli.specs.Readings.{pairs_of, readings_of}
 use Rattle.ncmpi_cli.proofs.CutOff.{cut_off}
-use Rattle.ncmpi_cli.proofs.Ran.{begins, begins_none, can_have_begun, nobody_read, ran}
+use Rattle.ncmpi_cli.proofs.Ran.{have_begun, nobody_read, ran}
 use Rattle.ncmpi_cli.proofs.Reading.{read, told_by_no_text, untold}
-use Rattle.ncmpi_cli.proofs.Telling.{dataset, faulty, no_dataset, no_disk, no_script, not_unread, not_wrong, refused, told_script, wants_memory, whole_or_memory}
+use Rattle.ncmpi_cli.proofs.Telling.{dataset, faulty, mislaid, no_dataset, no_disk, no_script, not_mislaid, not_unread, not_wrong, refused, told_script, wants_memory, whole_or_memory, IsToldBy}
 use Rattle.ncmpi_cli.proofs.script_run.run_script.Goals as goal
 use Rattle.nc_outside.proofs.ToldLaws.{rose_before}
 
@@ -30,19 +29,21 @@ returns-in-Err-clause-ends g c =
     let own = c.in-Err.ensures in
     let none : c.tell.result.order ≡ [] = c.tell.ensures.order ∙ c.new.ensures in
     let formed : stop ≡ stops.Usage → ⊥ = λ x. own.formed (ap (λ (s : Stop). Err s) x) in
+    let faulted : IsToldBy left stop = λ e x. own.refused e (ap (λ (s : Stop). Err s) x) in
     record {
       well = λ s. absurd (told_by_no_text stop status told (inl s));
       cut = λ s. absurd (told_by_no_text stop status told (inr s));
-      script = told_script (GivesLine (g.K.Sink.faults c.args.out.now) (g.K.Sink.faults c.tell.new.out) (g.K.Sink.given c.args.out.now) (g.K.Sink.given c.tell.new.out))
-          left stop status told own.refused c.tell.ensures.line;
+      taken = own.few;
+      script = told_script left stop status told faulted c.tell.ensures.line;
       dataset = dataset left held stop status told own.bad c.tell.ensures.line;
       refused = λ asks source. refused left held stop status told formed (λ x. source (own.source (ap (λ (s : Stop). Err s) x))) own.bad own.asked asks;
+      mislaid = λ asks source. mislaid left stop status told formed (λ x. source (own.source (ap (λ (s : Stop). Err s) x))) faulted own.asked asks;
+      unlaid = own.unlaid;
       faulty = λ asks source disk.
-          faulty left held stop status told formed (λ x. source (own.source (ap (λ (s : Stop). Err s) x))) (λ x. disk (own.disk (ap (λ (s : Stop). Err s) x))) own.refused asks;
+          faulty left held stop status told formed (λ x. source (own.source (ap (λ (s : Stop). Err s) x))) (λ x. disk (own.disk (ap (λ (s : Stop). Err s) x))) faulted asks;
       complete = λ asks source sink disk.
           wants_memory left held stop status told formed (λ x. source (own.source (ap (λ (s : Stop). Err s) x))) (λ x. disk (own.disk (ap (λ (s : Stop). Err s) x)))
-          own.refused own.bad asks;
-      steps = begins_none left c.tell.result.order none;
+          faulted own.bad asks;
       began = inl none;
       unread = λ _. none;
       unfit = λ _. none;
@@ -81,13 +82,15 @@ returns-in-None-clause-ends g c =
             own.asks own.ready own.taken run c.in-None.is finished.order (finished.readings (inr s)) c.run_beside-run.ensures.counted;
         given = (finished.front s).1;
       };
+      taken = own.few;
       script = λ s. no_script status finished.statuses s;
       dataset = λ s. no_dataset status finished.statuses s;
       refused = λ asks _. not_unread left script own.asks asks;
+      mislaid = λ asks _. not_mislaid left held script own.asks own.ready.faultless asks;
+      unlaid = not_mislaid left held script own.asks own.ready.faultless;
       faulty = λ asks _ _. not_wrong left held script own.asks own.ready.faultless asks;
       complete = λ _ _ sink _. whole_or_memory status finished.statuses (λ s. sink (finished.sink s));
-      steps = begins left script _ end.order own.asks finished.order run.begun;
-      began = inr (can_have_begun script c.in-Ok.ready.header left _ held mid (g.D.Disk.calls c.args.disk.now) calls own.asks own.ready own.taken);
+      began = inr (have_begun script c.in-Ok.ready.header _ _ mid calls _ end.order own.asks own.ready own.taken finished.order run.begun);
       unread = λ asks. not_unread left script own.asks asks;
       unfit = λ asks. not_wrong left held script own.asks own.ready.faultless asks;
       torn = λ s. no_disk status finished.statuses s;
@@ -121,17 +124,19 @@ returns-in-Some-Disk-clause-ends g c =
     record {
       well = λ s. absurd (omega (arith, is, s));
       cut = λ s. absurd (omega (arith, is, s));
+      taken = own.few;
       script = λ s. absurd (omega (arith, is, s));
       dataset = λ s. absurd (omega (arith, is, s));
       refused = λ asks _. not_unread left script own.asks asks;
+      mislaid = λ asks _. not_mislaid left held script own.asks own.ready.faultless asks;
+      unlaid = not_mislaid left held script own.asks own.ready.faultless;
       faulty = λ asks _ _. not_wrong left held script own.asks own.ready.faultless asks;
       complete = λ _ _ _ disk. absurd (disk (rose_before _ (g.D.Disk.faults c.begin.new.disk) _ own.later (run.fault failed)));
-      steps = begins left script _ end.order own.asks same run.begun;
-      began = inr (can_have_begun script c.in-Ok.ready.header left _ held mid (g.D.Disk.calls c.args.disk.now) calls own.asks own.ready own.taken);
+      began = inr (have_begun script c.in-Ok.ready.header _ _ mid calls _ end.order own.asks own.ready own.taken same run.begun);
       unread = λ asks. not_unread left script own.asks asks;
       unfit = λ asks. not_wrong left held script own.asks own.ready.faultless asks;
       torn = λ _. inr (cut_off fault.Disk script c.in-Ok.ready.header _ _ mid calls c.tell-in-Some-Disk.result.order c.run_beside-run.new.records end
-          own.asks own.ready own.taken same failed run.cut);
+          own.asks own.ready own.taken same run.begun failed run.cut);
       wanting = λ s. absurd (omega (arith, is, s));
     }
 
@@ -153,18 +158,20 @@ returns-clause-ends g c =
     record {
       well = λ s. absurd (omega (arith, is, s));
       cut = λ s. absurd (omega (arith, is, s));
+      taken = own.few;
       script = λ s. absurd (omega (arith, is, s));
       dataset = λ s. absurd (omega (arith, is, s));
       refused = λ _ _. inr is;
+      mislaid = λ _ _. inr is;
+      unlaid = not_mislaid left held script own.asks own.ready.faultless;
       faulty = λ _ _ _. inr is;
       complete = λ _ _ _ _. inr is;
-      steps = begins left script _ end.order own.asks same run.begun;
-      began = inr (can_have_begun script c.in-Ok.ready.header left _ held mid (g.D.Disk.calls c.args.disk.now) calls own.asks own.ready own.taken);
+      began = inr (have_begun script c.in-Ok.ready.header _ _ mid calls _ end.order own.asks own.ready own.taken same run.begun);
       unread = λ asks. not_unread left script own.asks asks;
       unfit = λ asks. not_wrong left held script own.asks own.ready.faultless asks;
       torn = λ s. absurd (omega (arith, is, s));
       wanting = λ _. inl (inr (cut_off fault.Memory script c.in-Ok.ready.header _ _ mid calls c.tell-in-Some-Memory.result.order c.run_beside-run.new.records end
-          own.asks own.ready own.taken same failed run.cut));
+          own.asks own.ready own.taken same run.begun failed run.cut));
     }
 
 -- ---- what watchers read

@@ -1,0 +1,149 @@
+/* nc_classic.h: files in the netCDF classic format (CDF-1, CDF-2 and CDF-5), by their bytes.
+ *
+ * The functions say what the header of a file holds and where the bytes of its variables lie. They do no input or
+ * output, start no thread and keep nothing between two calls: what a call answers depends on its arguments alone, and
+ * any number of threads may call at once. All numbers are counts of bytes or of elements; places in a file and places
+ * in a list are counted from 0.
+ *
+ * What a caller owes. Nothing can check it, and the proofs take it for granted:
+ *   - A pointer points to as many items as the length after it says, and is never NULL: where the length is 0, pass the
+ *     address of any variable.
+ *   - What a call writes overlaps none of its other arguments, and no other thread touches it during the call.
+ *   - malloc, realloc and free are one allocator's. No call is made from a signal handler, or in the child of a fork of
+ *     a program with threads.
+ * Every other argument is allowed: what can't be done is answered by a code. No call reads or writes past the lengths
+ * that it is given, and none keeps a pointer or leaves memory behind.
+ *
+ * A header is passed as the first bytes of its file: the whole file, or as much of it as is at hand. The library reads
+ * 2^20 bytes at most, which is the longest header that it takes; what follows is not looked at. Each function reads the
+ * header anew.
+ *
+ * Limits: 1,024 dimensions, 8,192 variables, 32 dimensions of a variable, every end of a file below 2^62 bytes, and
+ * 2^20 elements of one region (cut a larger one).
+ *
+ * The processor has to be an x86-64-v2 one or later, and the system Linux.
+ */
+#ifndef NC_CLASSIC_H
+#define NC_CLASSIC_H
+
+#include <stdbool.h>
+#include <stddef.h>
+#include <stdint.h>
+
+#ifdef __cplusplus
+extern "C" {
+#endif
+
+/* ---- what a call answers ------------------------------------------------------------------------------------------ */
+
+/* NCV_OK, a cause of this library's (above 0), or an error of netCDF by netCDF's own number (below 0), so that
+ * nc_strerror and ncmpi_strerror have a text for it. */
+typedef int32_t ncv_code;
+
+enum {
+    NCV_OK = 0,
+
+    NCV_MEMORY = 1,    /* malloc gave NULL */
+    NCV_HEADER = 2,    /* the bytes begin with no header: ncv_header_check says why */
+    NCV_TOO_LARGE = 3, /* a region of more than 2^20 elements, or an index map that reaches as far, or a region past the
+                          greatest record count or the greatest end of a file */
+
+    NCV_EINVALCOORDS = -40, /* a start is past the end of its dimension, or not one start, count and stride for each */
+    NCV_ENOTVAR = -49,      /* no variable has this number */
+    NCV_EEDGE = -57,        /* the last element is past the end of its dimension */
+    NCV_ESTRIDE = -58       /* a stride is 0 */
+};
+
+/* The library's version, and the kit that proved it with the sum of its logic, as a text ended by a zero. Takes no memory. */
+const char *ncv_version(void);
+
+/* ---- reading a header --------------------------------------------------------------------------------------------- */
+
+/* What is wrong with the bytes of a header. */
+typedef struct {
+    uint32_t kind;  /* one of NCV_FAULT_.. */
+    uint64_t place; /* the byte at which the field at fault begins, or the number of the variable; else 0 */
+    uint64_t other; /* NCV_FAULT_SHARED: the second variable; else 0 */
+} ncv_fault;
+
+enum {
+    NCV_FAULT_NOT_CDF = 1,          /* the first three bytes are not C, D and F */
+    NCV_FAULT_BAD_VERSION = 2,      /* the fourth byte is not 1, 2 or 5 */
+    NCV_FAULT_TRUNCATED = 3,        /* the bytes end within the field at `place` */
+    NCV_FAULT_BAD_TAG = 4,          /* the tag at `place` */
+    NCV_FAULT_BAD_TYPE = 5,         /* the type at `place` */
+    NCV_FAULT_BAD_NUMBER = 6,       /* the number at `place`: negative, or not 0 where a list is absent */
+    NCV_FAULT_TWO_RECORD_DIMS = 7,  /* two dimensions of length 0 */
+    NCV_FAULT_RECORD_NOT_FIRST = 8, /* variable `place` has the record dimension elsewhere than first */
+    NCV_FAULT_BAD_DIM_ID = 9,       /* variable `place` names a dimension that is not there */
+    NCV_FAULT_STREAMING = 10,       /* the record count is that of a stream */
+    NCV_FAULT_TOO_LARGE = 11,       /* a count or a size is past a limit */
+    NCV_FAULT_SHARED = 12           /* variables `place` and `other` share a byte; where the two are equal, the variable
+                                       shares one with the header */
+};
+
+typedef struct {
+    uint32_t version;  /* 1, 2 or 5 */
+    uint64_t length;   /* of the header, in bytes, as its lists have it */
+    uint64_t records;  /* the record count */
+    uint64_t dims;     /* how many dimensions */
+    uint64_t attrs;    /* how many attributes of the dataset, those of variables left out */
+    uint64_t vars;     /* how many variables */
+} ncv_counts;
+
+/* Whether the bytes begin with a sound header.
+ *
+ *   NCV_OK      they do, and *counts tells its numbers
+ *   NCV_HEADER  they do not, and *fault tells the first fault from the front
+ *   NCV_MEMORY
+ *
+ * What the answer does not name is left as it was. Takes memory for the time of the call: a few times the header's bytes.
+ */
+ncv_code ncv_header_check(const uint8_t *bytes, size_t len, ncv_counts *counts, ncv_fault *fault);
+
+/* ---- regions ------------------------------------------------------------------------------------------------------ */
+
+/* Elements of a variable, as the forms vara, vars and varm of netCDF have them: one start, count and stride for each
+ * dimension, the slowest dimension first. An index map is given for memory that is not packed: how far apart, in
+ * elements, the neighbours of a dimension stand there; with imaps 0 there is none. */
+typedef struct {
+    uint64_t var; /* the variable's number, from 0 */
+    const uint64_t *start;
+    size_t starts; /* how many there are */
+    const uint64_t *count;
+    size_t counts;
+    const uint64_t *stride; /* each 1 or more */
+    size_t strides;
+    const uint64_t *imap;
+    size_t imaps;
+} ncv_region;
+
+/* Bytes of a file that follow one another. */
+typedef struct {
+    uint64_t at;  /* the first */
+    uint64_t len; /* how many */
+} ncv_extent;
+
+/* Where in the file the elements of a region lie: its extents, in row-major order of the elements. Two extents that
+ * follow one another in that order and in the file are one; none is empty.
+ *
+ * `put` says whether the region is to be written; a region that is read lies within the `records` records that the file
+ * has. The extents from number `from` on go to into[0], into[1] and so on, as many as there are and as there is room
+ * for; what is behind them in `into` stays as it was. *total is the number of all extents of the region, so that
+ * where from + room is below *total there are more: call again with a later `from`.
+ *
+ *   NCV_OK      `into` and *total are set
+ *   NCV_EINVALCOORDS, NCV_ENOTVAR, NCV_EEDGE, NCV_ESTRIDE, NCV_TOO_LARGE
+ *               the region is refused. Of several causes the first in this order answers: NCV_ENOTVAR; NCV_EINVALCOORDS
+ *               by a list of another length than the variable's dimensions; NCV_ESTRIDE; NCV_EINVALCOORDS by a start;
+ *               NCV_EEDGE; NCV_TOO_LARGE
+ *   NCV_HEADER, NCV_MEMORY
+ *
+ * But for NCV_OK nothing is written. Takes memory as ncv_header_check does, and none for the extents. */
+ncv_code ncv_extents(const uint8_t *bytes, size_t len, const ncv_region *region, uint64_t records, bool put,
+                     uint64_t from, ncv_extent *into, size_t room, uint64_t *total);
+
+#ifdef __cplusplus
+}
+#endif
+#endif

@@ -1,0 +1,43 @@
+/* Each call for memory refused in turn: the call answers NCV_MEMORY, writes nothing and leaves no block behind. */
+#include "check.h"
+
+long blocks_held(void);
+void refuse_after(long calls);
+
+static bool header_is_kept(void)
+{
+    ncv_counts counts = {7, 7, 7, 7, 7, 7};
+    ncv_fault fault = {7, 7, 7};
+    return ncv_header_check(small_header, SMALL_LENGTH, &counts, &fault) == NCV_MEMORY && counts.version == 7
+        && counts.length == 7 && fault.kind == 7 && fault.place == 7;
+}
+
+static bool extents_are_kept(void)
+{
+    ncv_region row = {0, (uint64_t[]){1}, 1, (uint64_t[]){2}, 1, (uint64_t[]){1}, 1, (uint64_t[]){1}, 1};
+    ncv_extent found = {7, 7};
+    uint64_t total = 7;
+    return ncv_extents(small_header, SMALL_LENGTH, &row, 2, false, 0, &found, 1, &total) == NCV_MEMORY && found.at == 7
+        && found.len == 7 && total == 7;
+}
+
+/* How many calls for memory the test takes before it is no more refused. */
+static long refusals(bool (*is_kept)(void))
+{
+    long before = blocks_held(), calls = 0;
+    bool kept = true;
+    while (kept && calls < 1000) {
+        refuse_after(calls);
+        kept = is_kept();
+        refuse_after(-1);
+        CHECK(blocks_held() == before);
+        calls++;
+    }
+    return calls - 1;
+}
+
+void check_memory(void)
+{
+    CHECK(refusals(header_is_kept) > 10);
+    CHECK(refusals(extents_are_kept) > 10);
+}

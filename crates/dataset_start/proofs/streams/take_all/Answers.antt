@@ -1,0 +1,21 @@
+use Rattle.std.proofs.Common.{◌≡◌, ℕ, List, ◌++◌, length, take, Option, Some, None, sym, ap, ◌∙◌, append_assoc, length-append, arith}
+use Rattle.std.proofs.lemmas.List.{length-take}
+use Rattle.nc_outside.specs.Told.{with_front}
+use Rattle.dataset_start.proofs.streams.take_all.Goals as goal
+
+-- what was taken, and one piece more
+one_more : (left mid now : Option (List ℕ)) (text piece : List ℕ) → left ≡ with_front text mid → mid ≡ with_front piece now → left ≡ with_front (text ++ piece) now
+one_more left mid None text piece e f = e ∙ ap (λ (t : Option (List ℕ)). with_front text t) f
+one_more left mid (Some rest) text piece e f =
+    e ∙ ap (λ (t : Option (List ℕ)). with_front text t) f ∙ ap (λ (t : List ℕ). Some t) (sym (append_assoc text piece rest))
+
+pub returns-in_err-extend_from_slice-clause-few : goal.returns-in_err-extend_from_slice-clause-few
+returns-in_err-extend_from_slice-clause-few g c =
+    let text : List ℕ = c.loop-turn.text.items in
+    let piece : List ℕ = take c.in_ok-count.count c.take.new.into in
+    record {
+      front = text ++ piece;
+      few = omega (arith, length-append text piece, length-take c.in_ok-count.count c.take.new.into, c.in_ok-count.ensures.count);
+      taken = one_more (g.S.Source.left c.args.source.now) (g.S.Source.left c.loop-turn.source) (g.S.Source.left c.take.new.self) text piece
+          c.loop-turn.invariant.taken c.in_ok-count.ensures.bytes;
+    }

@@ -1,0 +1,30 @@
+-- The numbers that calls answer.
+use Rattle.std.proofs.Common.{◌≡◌, ap, ◌∙◌}
+use Rattle.std.specs.Prelude.{ℤ}
+use Rattle.std.proofs.Math.Facts.{sfits_lit}
+use Rattle.std.proofs.lemmas.Int.{to_z-of_z}
+use mir.Syntax.{w32}
+use mir.Val.{to_z, of_z, SFits}
+use Rattle.nc_base.specs.declared.answer.Code.{Code}
+use Rattle.nc_base.specs.declared.answer.Code.TheVariants as code
+use Rattle.nc_classic_c.specs.declared.answers.Refusal.{Refusal}
+use Rattle.nc_classic_c.specs.declared.answers.Refusal.TheVariants as refusal
+use Rattle.nc_classic_c.specs.Answers.{code_number, number_of}
+
+code_small : (c : Code) → SFits w32 (code_number c)
+code_small code.EInvalCoords = sfits_lit tt
+code_small code.ENotVar = sfits_lit tt
+code_small code.EEdge = sfits_lit tt
+code_small code.EStride = sfits_lit tt
+code_small code.EBadDim = sfits_lit tt
+code_small code.ETooLarge = sfits_lit tt
+code_small c = sfits_lit tt
+
+number_small : (r : Refusal) → SFits w32 (number_of r)
+number_small refusal.Memory = sfits_lit tt
+number_small (refusal.Header e) = sfits_lit tt
+number_small (refusal.Asked c) = code_small c
+
+-- a refusal's number that is returned
+pub number_kept : (n : ℤ) (r : Refusal) → n ≡ number_of r → to_z w32 (of_z w32 n) ≡ number_of r
+number_kept n r h = ap (λ (z : ℤ). to_z w32 (of_z w32 z)) h ∙ to_z-of_z w32 (number_of r) (number_small r)

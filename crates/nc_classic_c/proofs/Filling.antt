@@ -1,0 +1,122 @@
+-- A list that is laid into an array item by item.
+use Rattle.std.proofs.Common.{◌≡◌, ℕ, zero, suc, ◌+◌, ◌-◌, ◌<◌, ◌≤◌, List, [], ◌∷◌, ◌++◌, length, take, drop, set, Bool, true, false, cond, ltb, leb, ◌&&◌, ap, sym, refl, subst, ◌∙◌, arith, append_assoc, length-append, length-drop}
+use Rattle.std.proofs.lemmas.List.{append-nil, set_at, take_all, take-append-le, drop-append-le, length-take}
+use Rattle.std.proofs.lemmas.Bool.{leb-true, leb-false, ltb-true, ltb-false}
+use Rattle.nc_classic_c.specs.Extents.{filled, laid_at, AreLaid}
+
+-- ---- ends
+
+pub drop_past : {A : Type 0} (n : ℕ) (xs : List A) → length xs ≤ n → drop n xs ≡ []
+drop_past zero [] h = refl
+drop_past zero (x ∷ xs) h = absurd (omega arith)
+drop_past (suc n) [] h = refl
+drop_past (suc n) (x ∷ xs) h = drop_past n xs (omega arith)
+
+pub drop_next : {A : Type 0} (n : ℕ) (xs : List A) → n < length xs → (x : A) × (drop n xs ≡ x ∷ drop (suc n) xs)
+drop_next zero [] h = absurd (omega arith)
+drop_next zero (x ∷ xs) h = (x, refl)
+drop_next (suc n) [] h = absurd (omega arith)
+drop_next (suc n) (x ∷ xs) h = drop_next n xs (omega arith)
+
+-- ---- one more item
+
+pub length-filled : {A : Type 0} (old items : List A) → length (filled old items) ≡ length old
+length-filled old items =
+    let a = length-take (length old) items in
+    let b = length-drop (length items) old in
+    length-append (take (length old) items) (drop (length items) old) ∙ omega arith
+
+-- there is room for all
+pub filled_whole : {A : Type 0} (old items : List A) → length items ≤ length old → filled old items ≡ items ++ drop (length items) old
+filled_whole old items h = ap (λ t. t ++ drop (length items) old) (take_all (length old) items h)
+
+pub filled_more : {A : Type 0} (old items : List A) (x : A) → length items < length old
+    → set (filled old items) (length items) x ≡ filled old (items ++ x ∷ [])
+filled_more {A} old items x h =
+    let next = drop_next (length items) old h in
+    let long : length (items ++ x ∷ []) ≡ suc (length items) = length-append items (x ∷ []) ∙ omega arith in
+    ap (λ (l : List A). set l (length items) x) (filled_whole old items (omega arith) ∙ ap (λ (l : List A). items ++ l) next.1)
+    ∙ set_at items next.0 (drop (suc (length items)) old) x (length items) refl
+    ∙ sym (append_assoc items (x ∷ []) (drop (suc (length items)) old))
+    ∙ ap (λ (n : ℕ). items ++ x ∷ [] ++ drop n old) (sym long)
+    ∙ sym (filled_whole old (items ++ x ∷ []) (omega arith))
+
+-- there is no room for it
+pub filled_full : {A : Type 0} (old items : List A) (x : A) → length old ≤ length items → filled old items ≡ filled old (items ++ x ∷ [])
+filled_full {A} old items x h =
+    let long = length-append items (x ∷ []) in
+    ap (λ (l : List A). take (length old) items ++ l) (drop_past (length items) old h ∙ sym (drop_past (length (items ++ x ∷ [])) old (omega arith)))
+    ∙ ap (λ (l : List A). l ++ drop (length (items ++ x ∷ [])) old) (sym (take-append-le (length old) items (x ∷ []) h))
+
+-- ---- the next one
+
+laid_by : {A : Type 0} (old done : List A) (from : ℕ) (x : A) (a b : Bool) → leb from (length done) ≡ a → ltb (length done - from) (length old) ≡ b
+    → cond (a && b) (set (filled old (drop from done)) (length done - from) x) (filled old (drop from done)) ≡ filled old (drop from (done ++ x ∷ []))
+laid_by {A} old done from x false b low room =
+    let long = length-append done (x ∷ []) in
+    let past : length done < from = leb-false from (length done) low in
+    ap (λ (l : List A). filled old l) (drop_past from done (omega arith) ∙ sym (drop_past from (done ++ x ∷ []) (omega arith)))
+laid_by {A} old done from x true false low room =
+    let within : from ≤ length done = leb-true from (length done) low in
+    let full : length old ≤ length done - from = ltb-false (length done - from) (length old) room in
+    let d = length-drop from done in
+    filled_full old (drop from done) x (omega arith) ∙ ap (λ (l : List A). filled old l) (sym (drop-append-le from done (x ∷ []) within))
+laid_by {A} old done from x true true low room =
+    let within : from ≤ length done = leb-true from (length done) low in
+    let fits : length done - from < length old = ltb-true (length done - from) (length old) room in
+    let d = length-drop from done in
+    ap (λ (n : ℕ). set (filled old (drop from done)) n x) (sym d)
+    ∙ filled_more old (drop from done) x (omega arith) ∙ ap (λ (l : List A). filled old l) (sym (drop-append-le from done (x ∷ []) within))
+
+pub laid_next : {A : Type 0} (old done : List A) (from : ℕ) (x : A)
+    → laid_at (length done) from (filled old (drop from done)) x ≡ filled old (drop from (done ++ x ∷ []))
+laid_next {A} old done from x =
+    ap (λ (n : ℕ). cond (leb from (length done) && ltb (length done - from) n) (set (filled old (drop from done)) (length done - from) x) (filled old (drop from done)))
+    (length-filled old (drop from done))
+    ∙ laid_by old done from x (leb from (length done)) (ltb (length done - from) (length old)) refl refl
+
+-- ---- a walk over the list
+
+-- so many of the items are laid, and these are left
+pub record Lays (A : Type 0) (items : List A) (from : ℕ) (old now left : List A) (total : ℕ) : Type 0 where
+  pub done : List A
+  pub all : done ++ left ≡ items
+  pub number : length done ≡ total
+  pub laid : now ≡ filled old (drop from done)
+
+pub none_laid : {A : Type 0} (items : List A) (from : ℕ) (old : List A) → Lays A items from old old items 0
+none_laid {A} items from old =
+    record {
+      done = [];
+      all = refl;
+      number = refl;
+      laid =
+          sym (ap (λ (l : List A). filled old l) (drop_past from [] (omega arith))
+          ∙ ap (λ (l : List A). l ++ old) (take_all (length old) [] (omega arith)));
+    }
+
+pub one_laid : {A : Type 0} (items : List A) (from : ℕ) (old now left rest : List A) (total : ℕ) (x : A)
+    → left ≡ x ∷ rest → Lays A items from old now left total → Lays A items from old (laid_at total from now x) rest (total + 1)
+one_laid {A} items from old now left rest total x step h =
+    record {
+      done = h.done ++ x ∷ [];
+      all = append_assoc h.done (x ∷ []) rest ∙ ap (λ (l : List A). h.done ++ l) (sym step) ∙ h.all;
+      number = length-append h.done (x ∷ []) ∙ ap (λ (n : ℕ). n + 1) h.number;
+      laid =
+          ap (λ (n : ℕ). laid_at n from now x) (sym h.number) ∙ ap (λ (l : List A). laid_at (length h.done) from l x) h.laid
+          ∙ laid_next old h.done from x;
+    }
+
+pub left_fits : {A : Type 0} (items : List A) (from : ℕ) (old now left rest : List A) (total : ℕ) (x : A)
+    → left ≡ x ∷ rest → Lays A items from old now left total → total < length items
+left_fits {A} items from old now left rest total x step h =
+    let long : length items ≡ length h.done + length (x ∷ rest) =
+    ap length (sym h.all) ∙ length-append h.done left ∙ ap (λ (l : List A). length h.done + length l) step in
+    let n = h.number in
+    omega arith
+
+pub all_laid : {A : Type 0} (items : List A) (from : ℕ) (old now left : List A) (total : ℕ)
+    → left ≡ [] → Lays A items from old now left total → AreLaid items from old now total
+all_laid {A} items from old now left total none h =
+    let whole : h.done ≡ items = sym (append-nil h.done) ∙ ap (λ (l : List A). h.done ++ l) (sym none) ∙ h.all in
+    (h.laid ∙ ap (λ (l : List A). filled old (drop from l)) whole, sym h.number ∙ ap length whole)

@@ -1,0 +1,4 @@
+pub mod AcceptedRegions
+pub mod Answering
+pub mod Filling
+pub mod Refusing

@@ -1,0 +1,64 @@
+// Why a call is refused, and the number by which C is told.
+ghost use Rattle.std.specs.Prelude.{◌≡◌};
+ghost use Rattle.nc_classic_c.specs.Answers.{code_number, number_of, refusal_of};
+
+use nc_base::{Code, HeaderErr, Memory};
+
+/// The call did what it is for.
+pub(crate) const OK: i32 = 0;
+
+/// Why a call did nothing.
+#[derive(Clone, Copy)]
+pub enum Refusal {
+    Memory,
+    /// The bytes begin with no header.
+    Header(HeaderErr),
+    /// What is asked for is refused.
+    Asked(Code),
+}
+
+impl From<Memory> for Refusal {
+    ghost use Rattle.nc_classic_c.specs.declared.answers.Refusal.TheVariants as refusal;
+
+    ghost from_gives = { λ _ r. r ≡ refusal.Memory };
+
+    fn from(_: Memory) -> Self {
+        Refusal::Memory
+    }
+}
+
+/// Why there is no header.
+#[tactic(auto, using(crate::proofs::Refusing::other_refusal))]
+pub(crate) fn refusal_of(fault: HeaderErr) -> Refusal
+    ensures { result ≡ refusal_of fault }
+{
+    match fault {
+        HeaderErr::Memory => Refusal::Memory,
+        fault => Refusal::Header(fault),
+    }
+}
+
+/// The number of a refusal: above 0 for causes of this library's, and netCDF's own number for an error of netCDF.
+pub(crate) fn number_of(refusal: Refusal) -> i32
+    ensures { result ≡ number_of refusal }
+{
+    match refusal {
+        Refusal::Memory => 1,
+        Refusal::Header(_) => 2,
+        Refusal::Asked(code) => code_number(code),
+    }
+}
+
+fn code_number(code: Code) -> i32
+    ensures { result ≡ code_number code }
+{
+    match code {
+        Code::EInvalCoords => -40,
+        Code::ENotVar => -49,
+        Code::EEdge => -57,
+        Code::EStride => -58,
+        Code::EBadDim => -46,
+        Code::ETooLarge => 3,
+        _ => 4,
+    }
+}

@@ -1,0 +1,160 @@
+-- Lines that spell the calls of a lawful script are read as its calls.
+use Rattle.std.proofs.Common.{◌≡◌, ◌∙◌, ℕ, zero, suc, ◌+◌, ◌<◌, ◌≤◌, List, [], ◌∷◌, ◌++◌, map, drop, length, Bool, true, false, nat_lt, Some, slice_get, Result, Ok, Err, refl, sym, ap, subst, length-set, arith, bytes_eq, codes}
+use Rattle.std.specs.List.{AllZip, list_all, enumerate_from}
+use Rattle.std.proofs.lemmas.Bool.{and_parts, cond-true, lt-ltb, ltb-true}
+use Rattle.std.proofs.lemmas.List.Folds.{list_all-append}
+use Rattle.list_laws.proofs.Each.{passes_at}
+use Rattle.list_laws.proofs.Places.{first_same, entry_numbered}
+use Rattle.nc_base.specs.declared.errors.ScriptKind.{ScriptKind}
+use Rattle.nc_base.specs.declared.errors.ScriptKind.TheVariants as kind
+use Rattle.nc_base.specs.declared.request.Call.{Call}
+use Rattle.serial_spec.specs.Lawful.{most_values, is_lawful_call, values_in_call, posted_ids, are_different}
+use Rattle.script_spec.specs.Texts.{call_word}
+use Rattle.script_spec.specs.ScriptWords.{Word, Plain, Line, begins_rank, digits_value}
+use Rattle.script_spec.specs.ScriptCalls.{Called, calls_of, rank_of_text, with_call, call_line, call_of, called_after}
+use Rattle.script_spec.specs.ScriptGrammar.{at_line, call_step, data_part}
+use Rattle.script_text.proofs.Steps.{go_on, by_false}
+use Rattle.script_text.proofs.Places.{bytes_same}
+use Rattle.script_text.proofs.CallLines.{count, count_all, count_set, data_by}
+use Rattle.script_text.proofs.ExpressedCalls.{NewId, new_id}
+use Rattle.script_spelling.specs.SpelledCalls.{SpellsCall, SpellsCallLine}
+use Rattle.script_spelling.specs.Described.{calls_in}
+use Rattle.script_spelling.proofs.CallLinesRead.{with_calls, no_more, here, one_first, words_of}
+use Rattle.script_spelling.proofs.CallsTold.{call_told}
+
+-- ---- how many values there are
+
+count_more : (cs more : List Call) → count cs ≤ count (cs ++ more)
+count_more [] more = omega arith
+count_more (c ∷ cs) more = let rest = count_more cs more in omega arith
+
+count_with : (more : ℕ → List Call) (a : ℕ) (calls : List (List Call)) → count_all calls ≤ count_all (with_calls more a calls)
+count_with more a [] = omega arith
+count_with more a (own ∷ calls) =
+    let first = count_more own (more a) in
+    let rest = count_with more (a + 1) calls in
+    omega arith
+
+-- ---- what holds of the calls of all ranks, and of those that have been read
+
+pub record LawfulCalls (ranks base : ℕ) (all : List (List Call)) : Type 0 where
+  pub each : list_all (λ own. list_all (is_lawful_call ranks own.0) own.1) (enumerate_from 0 all) ≡ true
+  pub ids : list_all (λ own. are_different (posted_ids own)) all ≡ true
+  pub few : base + count_all all ≤ most_values
+
+-- with those of later lines they are all
+pub record Going (ranks base : ℕ) (all : List (List Call)) (later : List (ℕ × Call)) (d : Called) : Type 0 where
+  pub calls : with_calls (λ k. calls_in k later) 0 d.calls ≡ all
+  pub long : length d.calls ≡ ranks
+  pub counted : d.values ≡ base + count_all d.calls
+
+-- a rank's own calls, and those of later lines
+own_among : (more : ℕ → List Call) (a r k : ℕ) (calls : List (List Call)) → a + r ≡ k → r < length calls → slice_get (with_calls more a calls) r ≡ Some (calls_of r calls ++ more k)
+own_among more a r k [] e low = absurd (omega arith)
+own_among more a zero k (own ∷ calls) e low = let same : a ≡ k = omega arith in ap (λ (j : ℕ). Some (own ++ more j)) same
+own_among more a (suc r) k (own ∷ calls) e low = own_among more (a + 1) r k calls (omega arith) (omega arith)
+
+-- the next call, between those of its rank
+pub record Next (ranks : ℕ) (own : List Call) (r : ℕ) (c : Call) : Type 0 where
+  pub lawful : is_lawful_call ranks r c ≡ true
+  pub new : NewId own c
+
+next_of : (ranks base r : ℕ) (all : List (List Call)) (own behind : List Call) (c : Call) → LawfulCalls ranks base all → slice_get all r ≡ Some (own ++ c ∷ behind) → Next ranks own r c
+next_of ranks base r all own behind c lawful at =
+    let same : 0 + r ≡ r = omega arith in
+    let each = passes_at (λ x. list_all (is_lawful_call ranks x.0) x.1) (enumerate_from 0 all) lawful.each r (0 + r, own ++ c ∷ behind) (entry_numbered 0 all r (own ++ c ∷ behind) at) in
+    let here_each = subst (λ (n : ℕ). list_all (is_lawful_call ranks n) (own ++ c ∷ behind) ≡ true) same each in
+    let ids = passes_at (λ x. are_different (posted_ids x)) all lawful.ids r (own ++ c ∷ behind) at in
+    record {
+      lawful = (and_parts _ _ (and_parts _ _ (sym (list_all-append (is_lawful_call ranks r) own (c ∷ behind)) ∙ here_each)).1).0;
+      new = new_id own behind c ids;
+    }
+
+-- ---- a line
+
+no_end : (w : List ℕ) → begins_rank w ≡ true → bytes_eq w (codes "end") ≡ false
+no_end w h = by (bytes_eq w (codes "end")) refl
+  where
+    by : (b : Bool) → bytes_eq w (codes "end") ≡ b → b ≡ false
+    by false e = refl
+    by true e = let digits : begins_rank (codes "end") ≡ true = subst (λ (x : List ℕ). begins_rank x ≡ true) (bytes_same w (codes "end") e) h in absurd (cc)
+
+rank_told : (ranks r : ℕ) (w : List ℕ) → begins_rank w ≡ true → digits_value w ≡ r → r < ranks → rank_of_text ranks w ≡ Ok r
+rank_told ranks r w digits same low =
+    cond-true _ _ _ digits ∙ (cond-true _ _ _ (ap (λ (n : ℕ). nat_lt n ranks) same ∙ lt-ltb r ranks low) ∙ ap (λ (n : ℕ). Ok n) same)
+
+module _ (ranks base r : ℕ) (all : List (List Call)) (later : List (ℕ × Call)) (c : Call) (d : Called) where
+  going_on : r < ranks → Going ranks base all ((r, c) ∷ later) d → Going ranks base all later (with_call r c d)
+  going_on low going =
+      let there : r < length d.calls = omega (arith, going.long) in
+      record {
+        calls = one_first (λ k. calls_in k later) 0 r r c d.calls (omega arith) ∙ going.calls;
+        long = length-set d.calls r (calls_of r d.calls ++ c ∷ []) ∙ going.long;
+        counted = omega (arith, going.counted, count_set d.calls r c there);
+      }
+
+  called_told : (w : List ℕ) (more : List Word) → LawfulCalls ranks base all → Going ranks base all ((r, c) ∷ later) d → r < ranks → begins_rank w ≡ true → digits_value w ≡ r → SpellsCall more c
+      → called_after d w (Plain (call_word c) ∷ more) ≡ Ok (with_call r c d)
+  called_told w more lawful going low digits same h =
+      let there : r < length d.calls = omega (arith, going.long) in
+      let own = calls_of r d.calls in
+      let later_own = λ (k : ℕ). calls_in k later in
+      let at : slice_get all r ≡ Some (own ++ c ∷ later_own r) =
+      ap (λ (xs : List (List Call)). slice_get xs r) (sym going.calls)
+      ∙ (own_among (λ k. calls_in k ((r, c) ∷ later)) 0 r r d.calls (omega arith) there ∙ ap (λ (cs : List Call). Some (own ++ cs)) (here r r c later_own refl)) in
+      let next = next_of ranks base r all own (later_own r) c lawful at in
+      let after = going_on low going in
+      let fits : count_all (with_call r c d).calls ≤ count_all all = subst (λ (xs : List (List Call)). count_all (with_call r c d).calls ≤ count_all xs) after.calls (count_with later_own 0 (with_call r c d).calls) in
+      let few : d.values + values_in_call c ≤ most_values = omega (arith, fits, after.counted, lawful.few) in
+      let read : call_line d r (Plain (call_word c) ∷ more) ≡ Ok c =
+      ap (λ (n : ℕ). call_of n r own d.values (call_word c) more) going.long ∙ call_told ranks r own d.values c more h next.lawful next.new few in
+      go_on (rank_of_text (length d.calls) w) _ r (with_call r c d) (rank_told (length d.calls) r w digits same there)
+      (go_on (call_line d r (Plain (call_word c) ∷ more)) _ c (with_call r c d) read refl)
+
+abbrev step_by : Called → List Word → Result (Bool × Called) ScriptKind
+step_by d ws = elim ws [ [] ↦ Err kind.MissingWord | w ∷ more ↦ call_step d w more ]
+
+step_told : (ranks base r : ℕ) (all : List (List Call)) (later : List (ℕ × Call)) (c : Call) (d : Called) (ws : List Word) → LawfulCalls ranks base all → Going ranks base all ((r, c) ∷ later) d → r < ranks → SpellsCallLine ws (r, c)
+    → step_by d ws ≡ Ok (false, with_call r c d)
+step_told ranks base r all later c d ws lawful going low (w, more, are, digits, same, h) =
+    let rest = Plain (call_word c) ∷ more in
+    ap (step_by d) are
+    ∙ (by_false (bytes_eq w (codes "end")) _ _ (no_end w digits)
+    ∙ go_on (called_after d w rest) (λ x. Ok (false, x)) (with_call r c d) (false, with_call r c d) (called_told ranks base r all later c d w more lawful going low digits same h) refl)
+
+-- ---- all lines
+
+pub record DataTold (past : ℕ) (d : Called) (lines : List Line) (all : List (List Call)) : Type 0 where
+  pub last : ℕ
+  pub values : ℕ
+  pub read : data_part past d lines ≡ Ok (last, (record { calls = all; values = values }, []))
+
+ended_told : (past ranks base : ℕ) (all : List (List Call)) (l : Line) (d : Called) → words_of l ≡ Plain (codes "end") ∷ [] → Going ranks base all [] d → DataTold past d (l ∷ []) all
+ended_told past ranks base all l d e going =
+    let step : call_step d l.first l.rest ≡ Ok (true, d) = ap (step_by d) e in
+    record {
+      last = l.number;
+      values = d.values;
+      read = ap (λ (s : Result (Bool × Called) ScriptKind). data_by past l [] (at_line l.number s)) step
+          ∙ ap (λ (xs : List (List Call)). Ok (l.number, (record { calls = xs; values = d.values }, []))) (no_more 0 d.calls ∙ going.calls);
+    }
+
+more_told : (past : ℕ) (all : List (List Call)) (l : Line) (lines : List Line) (d next : Called) → call_step d l.first l.rest ≡ Ok (false, next) → DataTold past next lines all → DataTold past d (l ∷ lines) all
+more_told past all l lines d next step rest =
+    record { last = rest.last; values = rest.values; read = ap (λ (s : Result (Bool × Called) ScriptKind). data_by past l lines (at_line l.number s)) step ∙ rest.read }
+
+pub data_told : (past ranks base : ℕ) (all : List (List Call)) (own : List (List Word)) (called : List (ℕ × Call)) (lines : List Line) (d : Called) → LawfulCalls ranks base all
+    → map words_of lines ≡ own ++ (Plain (codes "end") ∷ []) ∷ [] → AllZip SpellsCallLine own called → list_all (λ c. nat_lt c.0 ranks) called ≡ true → Going ranks base all called d
+    → DataTold past d lines all
+data_told past ranks base all [] [] [] d lawful e say low going = absurd (cc)
+data_told past ranks base all [] [] (l ∷ []) d lawful e say low going = ended_told past ranks base all l d (first_same _ _ _ _ e) going
+data_told past ranks base all [] [] (l ∷ m ∷ lines) d lawful e say low going = absurd (cc)
+data_told past ranks base all [] (c ∷ called) lines d lawful e say low going = absurd say
+data_told past ranks base all (ws ∷ own) [] lines d lawful e say low going = absurd say
+data_told past ranks base all (ws ∷ own) (c ∷ called) [] d lawful e say low going = absurd (cc)
+data_told past ranks base all (ws ∷ own) ((r, c) ∷ called) (l ∷ lines) d lawful e say low going =
+    let both = and_parts (nat_lt r ranks) _ low in
+    let there = ltb-true r ranks both.0 in
+    let step : call_step d l.first l.rest ≡ Ok (false, with_call r c d) = ap (step_by d) (first_same _ _ _ _ e) ∙ step_told ranks base r all called c d ws lawful going there say.0 in
+    more_told past all l lines d (with_call r c d) step
+    (data_told past ranks base all own called lines (with_call r c d) lawful (ap (drop 1) e) say.1 both.1 (going_on ranks base r all called c d there going))

@@ -1,0 +1,141 @@
+-- Words that spell a lawful call are read as this call.
+use Rattle.std.proofs.Common.{◌≡◌, ◌∙◌, ℕ, ◌+◌, ◌≤◌, List, [], ◌∷◌, ◌++◌, Bool, true, false, Option, Some, None, Ok, refl, sym, ap, subst, append_assoc, append-nil, codes}
+use Rattle.std.proofs.lemmas.Bool.{and_parts, leb-true}
+use Rattle.nc_base.specs.Values.{count_of}
+use Rattle.nc_base.specs.declared.errors.ScriptKind.TheVariants as kind
+use Rattle.nc_base.specs.declared.request.Values.{Values}
+use Rattle.nc_base.specs.declared.request.Values.TheVariants.{Numbers, Text, Bits}
+use Rattle.nc_base.specs.declared.request.PostKind.{PostKind}
+use Rattle.nc_base.specs.declared.request.PostKind.TheVariants.{Iput, Iget, Bput}
+use Rattle.nc_base.specs.declared.request.Choice.{Choice}
+use Rattle.nc_base.specs.declared.request.Choice.TheVariants.{Every, Listed}
+use Rattle.nc_base.specs.declared.request.Given.{Given}
+use Rattle.nc_base.specs.declared.request.Call.{Call}
+use Rattle.nc_base.specs.declared.request.Call.TheVariants as call
+use Rattle.serial_spec.specs.Limits.{most_elements}
+use Rattle.serial_spec.specs.Lawful.{most_values, is_given, are_values, is_post_of, is_lawful_call, values_in_call}
+use Rattle.script_spec.specs.Texts.{call_word}
+use Rattle.script_spec.specs.ScriptWords.{Word, Plain, is_word, size_of_text}
+use Rattle.script_spec.specs.ScriptSteps.{refuse_if, reads_as, size, name, whole}
+use Rattle.script_spec.specs.ScriptValues.{values}
+use Rattle.script_spec.specs.ScriptCalls.{region, id_of_text, one_id, ids, choice, posted, is_posted, new_id, put_call, get_call, post_values, post_call, behind, call_of}
+use Rattle.script_spec.specs.CallTable.{Family, Requests, Size, Name, Record, Nothing, Behind, CallRow}
+use Rattle.script_spec.proofs.CallTableLaws.{HasNoRegion, IsRow, made_word, of_row}
+use Rattle.script_text.proofs.Steps.{go_on, passed, faultless, word_read, carry_on, by_false}
+use Rattle.script_text.proofs.PrintedValues.{HasRoom}
+use Rattle.script_text.proofs.PrintedRegions.{name_again}
+use Rattle.script_text.proofs.CallTokens.{put_word, get_word, post_word}
+use Rattle.script_text.proofs.ExpressedCalls.{NewId}
+use Rattle.script_spelling.specs.SpelledValues.{Each}
+use Rattle.script_spelling.specs.SpelledCalls.{SpellsPosted, SpellsChoice, SpellsPlace, SpellsBehind, SpellsInRow, SpellsPlain, SpellsCall}
+use Rattle.script_spelling.proofs.ValuesTold.{other_word, values_told}
+use Rattle.script_spelling.proofs.RegionsTold.{region_told}
+
+-- ---- the values of a call
+
+few_values : (vs : Values) → are_values vs ≡ true → count_of vs ≤ most_elements
+few_values (Numbers zs) h = leb-true _ _ (and_parts _ _ h).0
+few_values (Text text) h = leb-true _ _ h
+few_values (Bits ns) h = leb-true _ _ h
+
+room_of : (before : ℕ) (vs : Values) → are_values vs ≡ true → before + count_of vs ≤ most_values → HasRoom None before (count_of vs)
+room_of before vs lawful few = record { all = few; own = λ none. few_values vs lawful }
+
+posted_told : (k : PostKind) (before : ℕ) (ws : List Word) (vs : Values) → SpellsPosted k ws vs → is_post_of k vs ≡ true → before + count_of vs ≤ most_values → post_values k before ws ≡ Ok vs
+posted_told Iget before ws vs h lawful few = ap (post_values Iget before) h.0 ∙ ap (λ (x : Values). Ok x) (sym h.1)
+posted_told Iput before ws vs h lawful few = values_told None before ws vs h (room_of before vs lawful few)
+posted_told Bput before ws vs h lawful few = values_told None before ws vs h (room_of before vs lawful few)
+
+-- ---- calls that name a region
+
+put_told : (all : Bool) (n : List ℕ) (g : Given) (before : ℕ) (vs : Values) (ws : List Word) → SpellsCall ws (call.Put all n g vs) → is_given g ≡ true → are_values vs ≡ true → before + count_of vs ≤ most_values
+    → put_call all g.form before ws ≡ Ok (call.Put all n g vs)
+put_told all n g before vs ws (place, last, are, (own, is, named, spelled), told) given lawful few =
+    let c = call.Put all n g vs in
+    let rest = own ++ last in
+    ap (put_call all g.form before) (are ∙ ap (λ (xs : List Word). xs ++ last) is)
+    ∙ go_on (name (Plain n ∷ rest)) _ (n, rest) c (name_again n rest named)
+    (go_on (region g.form rest) _ (g, last) c (region_told g own last spelled given)
+    (go_on (values None before last) _ vs c (values_told None before last vs told (room_of before vs lawful few)) refl))
+
+get_told : (all : Bool) (n : List ℕ) (g : Given) (ws : List Word) → SpellsPlace ws n g → is_given g ≡ true → get_call all g.form ws ≡ Ok (call.Get all n g)
+get_told all n g ws (own, is, named, spelled) given =
+    let c = call.Get all n g in
+    let rest = own ++ [] in
+    ap (get_call all g.form) (is ∙ ap (λ (xs : List Word). Plain n ∷ xs) (sym (append-nil own)))
+    ∙ go_on (name (Plain n ∷ rest)) _ (n, rest) c (name_again n rest named) (go_on (region g.form rest) _ (g, []) c (region_told g own [] spelled given) refl)
+
+id_told : (before : List ℕ) (w : List ℕ) (id : ℕ) (more : List Word) → id_of_text w ≡ Some id → is_posted id before ≡ false → new_id before (Plain w ∷ more) ≡ Ok (id, more)
+id_told before w id more h fresh =
+    go_on (reads_as id_of_text kind.BadNumber (Plain w ∷ more)) _ (id, more) (id, more) (word_read id_of_text kind.BadNumber w id more h)
+    (go_on (refuse_if (is_posted id before) kind.TwiceNamed) _ tt (id, more) (passed _ _ fresh) refl)
+
+post_told : (k : PostKind) (found : List ℕ) (id : ℕ) (n : List ℕ) (g : Given) (before : ℕ) (vs : Values) (ws : List Word) → SpellsCall ws (call.Post id k n g vs) → is_posted id found ≡ false → is_given g ≡ true → is_post_of k vs ≡ true
+    → before + count_of vs ≤ most_values → post_call k found g.form before ws ≡ Ok (call.Post id k n g vs)
+post_told k found id n g before vs ws (w, place, last, are, number, (own, is, named, spelled), told) fresh given lawful few =
+    let c = call.Post id k n g vs in
+    let rest = own ++ last in
+    ap (post_call k found g.form before) (are ∙ ap (λ (xs : List Word). Plain w ∷ (xs ++ last)) is)
+    ∙ go_on (new_id found (Plain w ∷ Plain n ∷ rest)) _ (id, Plain n ∷ rest) c (id_told found w id (Plain n ∷ rest) number fresh)
+    (go_on (name (Plain n ∷ rest)) _ (n, rest) c (name_again n rest named)
+    (go_on (region g.form rest) _ (g, last) c (region_told g own last spelled given)
+    (go_on (post_values k before last) _ vs c (posted_told k before last vs told lawful few) refl)))
+
+-- ---- calls of no region
+
+ids_told : (found : List ℕ) (ws : List Word) (ns : List ℕ) → Each id_of_text ws ns → ids found ws ≡ Ok (found ++ ns)
+ids_told found [] [] h = ap (λ (xs : List ℕ). Ok xs) (sym (append-nil found))
+ids_told found [] (n ∷ ns) h = absurd h
+ids_told found (w ∷ ws) [] h = absurd h
+ids_told found (w ∷ ws) (n ∷ ns) h =
+    carry_on (one_id w) (λ x. ids (found ++ x ∷ []) ws) n (found ++ n ∷ ns) (ap one_id h.0.1 ∙ faultless kind.BadNumber (id_of_text h.0.0) n h.0.2)
+    (ids_told (found ++ n ∷ []) ws ns h.1 ∙ ap (λ (xs : List ℕ). Ok xs) (append_assoc found (n ∷ []) ns))
+
+listed_told : (ws : List Word) (ns : List ℕ) → Each id_of_text ws ns → choice ws ≡ Ok (Listed ns)
+listed_told [] [] h = refl
+listed_told [] (n ∷ ns) h = absurd h
+listed_told (w ∷ ws) [] h = absurd h
+listed_told (w ∷ ws) (n ∷ ns) h =
+    let not_all : is_word (codes "all") w ≡ false = ap (is_word (codes "all")) h.0.1 ∙ other_word id_of_text h.0.0 (codes "all") n refl h.0.2 in
+    by_false (is_word (codes "all") w) _ _ not_all ∙ go_on (ids [] (w ∷ ws)) (λ found. Ok (Listed found)) (n ∷ ns) (Listed (n ∷ ns)) (ids_told [] (w ∷ ws) (n ∷ ns) h) refl
+
+choice_told : (ws : List Word) (c : Choice) → SpellsChoice ws c → choice ws ≡ Ok c
+choice_told ws Every h = ap choice h
+choice_told ws (Listed ns) h = listed_told ws ns h
+
+behind_told : (f : Family) (ws : List Word) (b : Behind f) → SpellsBehind ws f b → behind f ws ≡ Ok b
+behind_told Requests ws c h = choice_told ws c h
+behind_told Size ws n (w, are, told) = ap (behind Size) are ∙ go_on (size (Plain w ∷ [])) whole (n, []) n (word_read size_of_text kind.BadNumber w n [] told) refl
+behind_told Name ws n (are, named) = ap (behind Name) are ∙ go_on (name (Plain n ∷ [])) whole (n, []) n (name_again n [] named) refl
+behind_told Record ws (n, k) (w, are, named, told) =
+    ap (behind Record) are
+    ∙ go_on (name (Plain n ∷ Plain w ∷ [])) _ (n, Plain w ∷ []) (n, k) (name_again n (Plain w ∷ []) named)
+    (go_on (size (Plain w ∷ [])) _ (k, []) (n, k) (word_read size_of_text kind.BadNumber w k [] told) refl)
+behind_told Nothing ws u h = ap (behind Nothing) h
+
+made_told : (ranks r : ℕ) (own : List Call) (before : ℕ) (row : CallRow) (is : IsRow row) (b : Behind row.family) (ws : List Word) → SpellsPlain ws (row.made ranks r b)
+    → call_of ranks r own before (call_word (row.made ranks r b)) ws ≡ Ok (row.made ranks r b)
+made_told ranks r own before row is b ws h =
+    let c = row.made ranks r b in
+    let in_row : SpellsInRow ws row c = subst (λ (o : Option CallRow). elim o as (λ _. Type 0) [ None ↦ ws ≡ [] | Some x ↦ SpellsInRow ws x c ]) (is.found ranks r b) h in
+    let spells : SpellsBehind ws row.family b = subst (λ (o : Option (Behind row.family)). elim o as (λ _. Type 0) [ None ↦ ws ≡ [] | Some x ↦ SpellsBehind ws row.family x ]) (is.again ranks r b) in_row in
+    ap (λ (w : List ℕ). call_of ranks r own before w ws) (made_word row is ranks r b)
+    ∙ (is.is_read ranks r own before ws ∙ go_on (behind row.family ws) (λ x. Ok (row.made ranks r x)) b c (behind_told row.family ws b spells) refl)
+
+plain_told : (ranks r : ℕ) (own : List Call) (before : ℕ) (ws : List Word) (c : Call) → HasNoRegion c → is_lawful_call ranks r c ≡ true → SpellsPlain ws c → call_of ranks r own before (call_word c) ws ≡ Ok c
+plain_told ranks r own before ws c apart lawful h =
+    let o = of_row ranks r c apart lawful in
+    subst (λ (x : Call). call_of ranks r own before (call_word x) ws ≡ Ok x) o.same (made_told ranks r own before o.row o.is o.b ws (subst (SpellsPlain ws) (sym o.same) h))
+
+-- ---- any call
+
+pub call_told : (ranks r : ℕ) (own : List Call) (before : ℕ) (c : Call) (ws : List Word) → SpellsCall ws c → is_lawful_call ranks r c ≡ true → NewId own c → before + values_in_call c ≤ most_values
+    → call_of ranks r own before (call_word c) ws ≡ Ok c
+call_told ranks r own before (call.Put all n g vs) ws h lawful new few =
+    let both = and_parts (is_given g) (are_values vs) lawful in
+    put_word ranks r own before ws all g.form ∙ put_told all n g before vs ws h both.0 both.1 few
+call_told ranks r own before (call.Get all n g) ws h lawful new few = get_word ranks r own before ws all g.form ∙ get_told all n g ws h lawful
+call_told ranks r own before (call.Post id k n g vs) ws h lawful new few =
+    let both = and_parts (is_given g) (is_post_of k vs) lawful in
+    post_word ranks r own before ws k g.form ∙ post_told k (posted own) id n g before vs ws h new both.0 both.1 few
+call_told ranks r own before c ws h lawful new few = plain_told ranks r own before ws c tt lawful h

@@ -1,0 +1,354 @@
+-- A line that says a statement leads on to where the later statements lead to the same.
+use Rattle.std.proofs.Common.{◌≡◌, ◌∙◌, ℕ, suc, ◌+◌, ◌<◌, ◌≤◌, List, [], ◌∷◌, ◌++◌, length, Bool, true, false, cond, ◌==◌, Option, Some, None, is_some, slice_set, Ok, refl, sym, ap, subst, length-set, append_assoc, arith, bytes_eq, codes}
+use Rattle.std.proofs.lemmas.Bool.{eqb-true}
+use Rattle.list_laws.proofs.Truth.{equal_itself}
+use Rattle.list_laws.proofs.Places.{position_below}
+use Rattle.nc_base.specs.Values.{count_of}
+use Rattle.nc_base.specs.declared.errors.ScriptKind.TheVariants as kind
+use Rattle.nc_base.specs.declared.header.Dim.{Dim}
+use Rattle.nc_base.specs.declared.header.Attr.{Attr}
+use Rattle.nc_base.specs.declared.header.Var.{Var}
+use Rattle.nc_base.specs.declared.request.Values.{Values}
+use Rattle.nc_base.specs.declared.script.Extra.{Extra}
+use Rattle.nc_base.specs.declared.script.Extra.TheVariants as extra
+use Rattle.serial_spec.specs.Lawful.{most_values, values_in_extra}
+use Rattle.script_spec.specs.ScriptWords.{Word, Plain}
+use Rattle.script_spec.specs.ScriptSteps.{◌>>=◌, refuse_if, reads_as}
+use Rattle.script_spec.specs.HintTable.{hint_table, hint_form, hint_in}
+use Rattle.script_spec.specs.ScriptDefinitions.{ranks_line, dim_ids, dim_line, var_head, var_names, var_line, owner_of_text, owner_place, attribute, Defined, with_dim, with_var, with_attr_of_owner, with_attr_at, with_title, att_line, definition, Added, added_shape, addition, Known}
+use Rattle.script_text.proofs.Steps.{go_on, word_read, by_false}
+use Rattle.script_text.proofs.Places.{more_ids}
+use Rattle.script_text.proofs.PrintedValues.{HasRoom}
+use Rattle.script_text.proofs.AddedLines.{Leads}
+use Rattle.script_text.proofs.DefinedChains.{pushes, found_name, count_attrs, count_own, count-attr, count-var, count-pushed}
+use Rattle.script_text.proofs.DefinedLines.{leads_by}
+use Rattle.script_text.proofs.KnownLines.{hint_leads}
+use Rattle.script_spelling.specs.Statements.{VarLine, Statement, RanksAre, HintIs, IsFilled, DimIs, VarIs, AttIs, owner_word, Says, Stand, title_of}
+use Rattle.script_spelling.specs.Described.{at_most_one, ranks_in, hint_values, fills_in, dims_in, vars_in, own_attrs, attrs_of, extras_in}
+use Rattle.script_spelling.proofs.GrownVars.{are_apart, apart_pushed, names_pushed, names_kept, later_names, GrownVars}
+use Rattle.script_spelling.proofs.TakenLines.{flag, Part, Grown, Fine, hint_here, hint_elsewhere, differ}
+use Rattle.script_spelling.proofs.NewDefinitions.{defined_next}
+use Rattle.script_spelling.proofs.AddedDefinitions.{added_next}
+use Rattle.script_spelling.proofs.KnownRead.{lines_version}
+use Rattle.script_spelling.proofs.LinesTold.{ranks_told, hint_told, dim_told, VarWords, var_of, var_told, added_told, owner_told, attr_told, place_told, owner_found}
+use Rattle.script_spelling.proofs.VarsTold.{count_later, count_grown, var_behind, attr_behind}
+
+-- ---- how many values there are
+
+abbrev pub count_extras : List Extra → ℕ
+count_extras [] = 0
+count_extras (e ∷ es) = values_in_extra e + count_extras es
+
+abbrev pub total : Known → ℕ
+total k = count_attrs k.defined.attrs + count_own k.defined.vars + count_extras k.added.extras
+
+extras_later : (es more : List Extra) → count_extras es ≤ count_extras (es ++ more)
+extras_later [] more = omega arith
+extras_later (e ∷ es) more = let rest = extras_later es more in omega arith
+
+extras_pushed : (es : List Extra) (e : Extra) → count_extras (es ++ e ∷ []) ≡ count_extras es + values_in_extra e
+extras_pushed [] e = omega arith
+extras_pushed (x ∷ es) e = omega (arith, extras_pushed es e)
+
+pub total_grown : (opened : Bool) (k : Known) (ss : List Statement) (last : Known) → Part opened k ss last → total k ≤ total last
+total_grown true k ss last p =
+    let defined = ap (λ (d : Defined). count_attrs d.attrs + count_own d.vars) p.0 in
+    omega (arith, defined, ap count_extras p.1, extras_later k.added.extras (extras_in ss))
+total_grown false k ss last p =
+    omega (
+      arith,
+      ap count_extras p.0,
+      ap count_attrs p.2,
+      count_later k.defined.attrs (own_attrs ss),
+      count_grown last.defined.dims (λ n. attrs_of n ss) k.defined.vars (vars_in ss) last.defined.vars p.3,
+    )
+
+-- ---- where a line leads
+
+-- what holds of all that is known, with its values counted
+pub record Sound (k : Known) : Type 0 where
+  pub fine : Fine k
+  pub counted : k.values ≡ total k
+
+pub record Led (opened : Bool) (version : ℕ) (k : Known) (words : List Word) (ss : List Statement) (last : Known) : Type 0 where
+  pub next : Known
+  pub leads : Leads version k words next
+  pub sound : Sound next
+  pub grown : Grown opened next ss last
+
+-- ---- ranks and hints
+
+-- nothing is given twice
+one_left : (o p : Option ℕ) (n : ℕ) (ns : List ℕ) → at_most_one o ≡ at_most_one p ++ n ∷ ns → p ≡ None
+one_left o None n ns h = refl
+one_left None (Some m) n ns h = absurd (cc)
+one_left (Some x) (Some m) n ns h = absurd (cc)
+
+ranks_behind : (opened : Bool) (k : Known) (n : ℕ) (ss : List Statement) (last : Known) → Part opened k (RanksAre n ∷ ss) last → Part opened (record k { ranks = Some n }) ss last
+ranks_behind true k n ss last p = p
+ranks_behind false k n ss last p = p
+
+ranks_led : (opened : Bool) (version of_lines : ℕ) (k : Known) (words : List Word) (n : ℕ) (ss : List Statement) (last : Known) → Sound k → Says of_lines words (RanksAre n) → Grown opened k (RanksAre n ∷ ss) last → Led opened version k words ss last
+ranks_led opened version of_lines k words n ss last sound (w, are, told) g =
+    let none = one_left last.ranks k.ranks n (ranks_in ss) g.ranks in
+    let next : Known = record k { ranks = Some n } in
+    let read : ranks_line k.ranks (Plain w ∷ []) ≡ Ok n = ap (λ (o : Option ℕ). ranks_line o (Plain w ∷ [])) none ∙ ranks_told w n told in
+    record {
+      next = next;
+      leads = subst (λ (ws : List Word). Leads version k ws next) (sym are) (refl, go_on (ranks_line k.ranks (Plain w ∷ [])) (λ x. Ok (record k { ranks = Some x })) n next read refl);
+      sound = record { fine = record { long = sound.fine.long; apart = sound.fine.apart }; counted = sound.counted };
+      grown = record { ranks = g.ranks ∙ ap (λ (o : Option ℕ). at_most_one o ++ n ∷ ranks_in ss) none; hints = g.hints; filled = g.filled; part = ranks_behind opened k n ss last g.part };
+    }
+
+hint_behind : (hints : List (Option ℕ)) (i v j : ℕ) (later found : List ℕ) → hint_in i hints ≡ None → i < length hints → found ≡ at_most_one (hint_in j hints) ++ cond (i == j) (v ∷ later) later
+    → found ≡ at_most_one (hint_in j (slice_set hints i (Some v))) ++ later
+hint_behind hints i v j later found free low h = by (i == j) refl h
+  where
+    by : (b : Bool) → (i == j) ≡ b → found ≡ at_most_one (hint_in j hints) ++ cond b (v ∷ later) later → found ≡ at_most_one (hint_in j (slice_set hints i (Some v))) ++ later
+    by true e k =
+        let same = eqb-true i j e in
+        let set : hint_in j (slice_set hints i (Some v)) ≡ Some v = subst (λ (n : ℕ). hint_in n (slice_set hints i (Some v)) ≡ Some v) same (hint_here hints i v low) in
+        let none : hint_in j hints ≡ None = subst (λ (n : ℕ). hint_in n hints ≡ None) same free in
+        k ∙ (ap (λ (o : Option ℕ). at_most_one o ++ v ∷ later) none ∙ ap (λ (o : Option ℕ). at_most_one o ++ later) (sym set))
+    by false e k = k ∙ ap (λ (o : Option ℕ). at_most_one o ++ later) (sym (hint_elsewhere hints i j v (λ same. differ i j e (sym same))))
+
+hints_behind : (opened : Bool) (k : Known) (i v : ℕ) (hints : List (Option ℕ)) (ss : List Statement) (last : Known) → Part opened k (HintIs i v ∷ ss) last → Part opened (record k { hints = hints }) ss last
+hints_behind true k i v hints ss last p = p
+hints_behind false k i v hints ss last p = p
+
+hint_led : (opened : Bool) (version of_lines : ℕ) (k : Known) (words : List Word) (i v : ℕ) (ss : List Statement) (last : Known) → Sound k → Says of_lines words (HintIs i v) → Grown opened k (HintIs i v ∷ ss) last → Led opened version k words ss last
+hint_led opened version of_lines k words i v ss last sound (word, w, are, at, told) g =
+    let later = hint_values i ss in
+    let none = one_left (hint_in i last.hints) (hint_in i k.hints) v later (g.hints i ∙ ap (λ (b : Bool). at_most_one (hint_in i k.hints) ++ cond b (v ∷ later) later) (equal_itself i)) in
+    let low : i < length k.hints = omega (arith, sound.fine.long, position_below (λ row. bytes_eq word row.word) hint_table i at) in
+    let hints = slice_set k.hints i (Some v) in
+    let next : Known = record k { hints = hints } in
+    record {
+      next = next;
+      leads = subst (λ (ws : List Word). Leads version k ws next) (sym are) (hint_leads version k word w i v at (ap is_some none) (hint_told (hint_form i) w v told));
+      sound = record { fine = record { long = length-set k.hints i (Some v) ∙ sound.fine.long; apart = sound.fine.apart }; counted = sound.counted };
+      grown = record {
+        ranks = g.ranks;
+        hints = λ j. hint_behind k.hints i v j (hint_values j ss) (at_most_one (hint_in j last.hints)) none low (g.hints j);
+        filled = g.filled;
+        part = hints_behind opened k i v hints ss last g.part;
+      };
+    }
+
+-- ---- a new dataset
+
+defined_led : (version : ℕ) (k : Known) (words : List Word) (ss : List Statement) (last : Known) (first : List ℕ) (ws : List Word) (r : ℕ × Defined) → (version == 0) ≡ false → bytes_eq first (codes "ranks") ≡ false
+    → bytes_eq first (codes "hint") ≡ false → bytes_eq first (codes "data") ≡ false → words ≡ Plain first ∷ ws → definition version k.values k.defined first ws ≡ Ok r → Sound (defined_next k r) → Grown false (defined_next k r) ss last
+    → Led false version k words ss last
+defined_led version k words ss last first ws r new a b c are read sound g = record {
+  next = defined_next k r;
+  leads = subst (λ (xs : List Word). Leads version k xs (defined_next k r)) (sym are) (leads_by version k first ws r new a b c read);
+  sound = sound;
+  grown = g;
+}
+
+new_dim_led : (version : ℕ) (k : Known) (words : List Word) (d : Dim) (ss : List Statement) (last : Known) → (version == 0) ≡ false → Sound k → Says version words (DimIs d) → Grown false k (DimIs d ∷ ss) last → Led false version k words ss last
+new_dim_led version k words d ss last new sound (w, are, named, told) g =
+    let r : ℕ × Defined = (0, with_dim d k.defined) in
+    let ws = Plain d.name ∷ Plain w ∷ [] in
+    defined_led version k words ss last (codes "dim") ws r new refl refl refl are
+    (go_on (dim_line version k.defined.dims ws) (λ x. Ok (0, with_dim x k.defined)) d r (dim_told version k.defined.dims d w named told g.part.4.0) refl)
+    (record { fine = record { long = sound.fine.long; apart = sound.fine.apart }; counted = omega (arith, sound.counted) }) (record {
+      ranks = g.ranks;
+      hints = g.hints;
+      filled = g.filled;
+      part = (g.part.0, g.part.1 ∙ sym (append_assoc k.defined.dims (d ∷ []) (dims_in ss)), g.part.2, g.part.3, g.part.4.1);
+    })
+
+new_var_led : (version : ℕ) (k : Known) (words : List Word) (line : VarLine) (ss : List Statement) (last : Known) → (version == 0) ≡ false → Sound k → Says version words (VarIs line) → Grown false k (VarIs line ∷ ss) last
+    → Led false version k words ss last
+new_var_led version k words line ss last new sound (w, brackets, inside, are, kind_is, named, between, parts_are, dims_named) g =
+    let d = k.defined in
+    let said : VarWords version line = record { kind_word = w; shape_word = brackets; inside = inside; kind = kind_is; named = named; between = between; parts_are = parts_are; dims_named = dims_named } in
+    let stands = g.part.4.0 in
+    let ids = stands.3.0 in
+    let v = var_of line ids in
+    let r : ℕ × Defined = (0, with_var v d) in
+    let ws = Plain w ∷ Plain line.name ∷ Plain brackets ∷ [] in
+    let names : var_names (d.vars ++ v ∷ []) ≡ var_names d.vars ++ line.name ∷ [] = names_pushed d.vars v in
+    let found = subst (λ (ds : List Dim). dim_ids ds line.dims ≡ Some ids) (sym g.part.1) (more_ids d.dims (dims_in ss) line.dims ids stands.3.1) in
+    defined_led version k words ss last (codes "var") ws r new refl refl refl are
+    (go_on (var_line version d.dims d.vars ws) (λ x. Ok (0, with_var x d)) v r (var_told version d.dims d.vars line said stands) refl) (record {
+      fine = record { long = sound.fine.long; apart = subst (λ (ns : List (List ℕ)). are_apart ns ≡ true) (sym names) (apart_pushed (var_names d.vars) line.name sound.fine.apart stands.0) };
+      counted = omega (arith, sound.counted, count-var d.vars v refl);
+    }) (record {
+      ranks = g.ranks;
+      hints = g.hints;
+      filled = g.filled;
+      part = (
+        g.part.0,
+        g.part.1,
+        g.part.2,
+        var_behind last.defined.dims (λ n. attrs_of n ss) d.vars line (vars_in ss) ids last.defined.vars found g.part.3,
+        subst (λ (ns : List (List ℕ)). Stand false d.dims ns d.titles ss) (sym names) g.part.4.1,
+      );
+    })
+
+-- the values of an attribute have room
+attr_room : (opened : Bool) (k next : Known) (ss : List Statement) (last : Known) (a : Attr) (vs : Values) → k.values ≡ total k → total next ≡ total k + a.count → Part opened next ss last → total last ≤ most_values → a.count ≡ count_of vs
+    → HasRoom (Some a.kind) k.values (count_of vs)
+attr_room opened k next ss last a vs counted more part few count = record { all = omega (arith, counted, more, total_grown opened next ss last part, few, count); own = λ none. absurd (cc) }
+
+new_own_led : (version : ℕ) (k : Known) (words : List Word) (a : Attr) (ss : List Statement) (last : Known) → (version == 0) ≡ false → total last ≤ most_values → Sound k → Says version words (AttIs None a)
+    → Grown false k (AttIs None a ∷ ss) last → Led false version k words ss last
+new_own_led version k words a ss last new few sound (w, given, vs, are, is, named, told, spells, same) g =
+    let d = k.defined in
+    let colon = codes ":" in
+    let rest = Plain a.name ∷ Plain w ∷ given in
+    let r : ℕ × Defined = (a.count, with_title colon a.name (with_attr_of_owner None a d)) in
+    let next : Known = defined_next k r in
+    let after : Grown false next ss last = record {
+      ranks = g.ranks;
+      hints = g.hints;
+      filled = g.filled;
+      part = (g.part.0, g.part.1, g.part.2 ∙ sym (append_assoc d.attrs (a ∷ []) (own_attrs ss)), g.part.3, g.part.4.2);
+    } in
+    let more : total next ≡ total k + a.count = omega (arith, count-attr d.attrs a) in
+    let room = attr_room false k next ss last a vs sound.counted more after.part few (ap (λ (x : Attr). x.count) same) in
+    let read : att_line version k.values d (Plain colon ∷ rest) ≡ Ok r =
+    go_on (attribute version d.titles k.values colon rest) (λ x. Ok (x.count, with_title colon x.name (with_attr_of_owner None x d))) a r
+    (attr_told version d.titles k.values colon a w given vs named told spells same g.part.4.1 room) refl in
+    defined_led version k words ss last (codes "att") (Plain colon ∷ rest) r new refl refl refl are read
+    (record { fine = record { long = sound.fine.long; apart = sound.fine.apart }; counted = omega (arith, sound.counted, more) }) after
+
+new_attr_led : (version : ℕ) (k : Known) (words : List Word) (owner : List ℕ) (a : Attr) (ss : List Statement) (last : Known) → (version == 0) ≡ false → total last ≤ most_values → Sound k → Says version words (AttIs (Some owner) a)
+    → Grown false k (AttIs (Some owner) a ∷ ss) last → Led false version k words ss last
+new_attr_led version k words owner a ss last new few sound (w, given, vs, are, is, named, told, spells, same) g =
+    let d = k.defined in
+    let rest = Plain a.name ∷ Plain w ∷ given in
+    let there = g.part.4.0 in
+    let p = place_told owner (var_names d.vars) there in
+    let r : ℕ × Defined = (a.count, with_title owner a.name (with_attr_of_owner (Some p.place) a d)) in
+    let next : Known = defined_next k r in
+    let vars = pushes p.place a d.vars in
+    let names : var_names (with_attr_at p.place a d.vars) ≡ var_names d.vars = ap var_names vars ∙ names_kept p.place a d.vars in
+    let more_attrs = λ (n : List ℕ). attrs_of n ss in
+    let later = later_names false d.dims (var_names d.vars) (d.titles ++ title_of (Some owner) a ∷ []) ss owner g.part.4.2 there in
+    let after : Grown false next ss last = record {
+      ranks = g.ranks;
+      hints = g.hints;
+      filled = g.filled;
+      part = (
+        g.part.0,
+        g.part.1,
+        g.part.2,
+        subst (λ (xs : List Var). GrownVars last.defined.dims more_attrs xs (vars_in ss) last.defined.vars) (sym vars)
+            (attr_behind last.defined.dims more_attrs owner a p.place d.vars (vars_in ss) last.defined.vars p.found sound.fine.apart later g.part.3),
+        subst (λ (ns : List (List ℕ)). Stand false d.dims ns (d.titles ++ (owner, a.name) ∷ []) ss) (sym names) g.part.4.2,
+      );
+    } in
+    let pushed = ap count_own vars ∙ count-pushed p.place owner a d.vars (found_name owner d.vars p.place p.found) in
+    let more : total next ≡ total k + a.count = omega (arith, pushed) in
+    let room = attr_room false k next ss last a vs sound.counted more after.part few (ap (λ (x : Attr). x.count) same) in
+    let read : att_line version k.values d (Plain owner ∷ rest) ≡ Ok r =
+    go_on (reads_as owner_of_text kind.BadName (Plain owner ∷ rest)) _ (owner, rest) r (word_read owner_of_text kind.BadName owner owner rest (owner_told (Some owner) is).0)
+    (go_on (owner_place d.vars owner) _ (Some p.place) r (owner_found d.vars owner is p)
+    (go_on (attribute version d.titles k.values owner rest) _ a r (attr_told version d.titles k.values owner a w given vs named told spells same g.part.4.1 room) refl)) in
+    defined_led version k words ss last (codes "att") (Plain owner ∷ rest) r new refl refl refl are read (record {
+      fine = record { long = sound.fine.long; apart = subst (λ (ns : List (List ℕ)). are_apart ns ≡ true) (sym names) sound.fine.apart };
+      counted = omega (arith, sound.counted, more);
+    }) after
+
+unfilled : (now before : Bool) (n : ℕ) → flag now ≡ flag before + suc n → before ≡ false
+unfilled now false n h = refl
+unfilled true true n h = absurd (omega arith)
+unfilled false true n h = absurd (omega arith)
+
+fill_led : (version : ℕ) (k : Known) (words : List Word) (ss : List Statement) (last : Known) → (version == 0) ≡ false → Sound k → Says version words IsFilled → Grown false k (IsFilled ∷ ss) last → Led false version k words ss last
+fill_led version k words ss last new sound are g =
+    let d = k.defined in
+    let none = unfilled last.defined.filled d.filled (fills_in ss) g.filled in
+    let r : ℕ × Defined = (0, record d { filled = true }) in
+    defined_led version k words ss last (codes "fill") [] r new refl refl refl are
+    (ap (λ (b : Bool). refuse_if b kind.TwiceNamed >>= λ u. Ok (0, record d { filled = true })) none)
+    (record { fine = record { long = sound.fine.long; apart = sound.fine.apart }; counted = omega (arith, sound.counted) })
+    (record { ranks = g.ranks; hints = g.hints; filled = omega (arith, g.filled, ap flag none); part = (g.part.0, g.part.1, g.part.2, g.part.3, g.part.4.1) })
+
+-- ---- a dataset that is opened
+
+by_true : {A : Type 0} (b : Bool) (x y : A) → b ≡ true → elim b as (λ t. A) [ true ↦ x | false ↦ y ] ≡ x
+by_true true x y h = refl
+by_true false x y h = absurd (cc)
+
+added_led : (version : ℕ) (k : Known) (words : List Word) (ss : List Statement) (last : Known) (first : List ℕ) (ws : List Word) (r : ℕ × Added) → (version == 0) ≡ true → bytes_eq first (codes "ranks") ≡ false
+    → bytes_eq first (codes "hint") ≡ false → bytes_eq first (codes "data") ≡ false → words ≡ Plain first ∷ ws → addition k.values k.added first ws ≡ Ok r → Sound (added_next k r) → Grown true (added_next k r) ss last
+    → Led true version k words ss last
+added_led version k words ss last first ws r old a b c are read sound g = record {
+  next = added_next k r;
+  leads = subst (λ (xs : List Word). Leads version k xs (added_next k r)) (sym are) (
+    c,
+    by_false (bytes_eq first (codes "ranks")) _ _ a
+        ∙ (by_false (bytes_eq first (codes "hint")) _ _ b
+        ∙ (by_true (version == 0) _ _ old ∙ go_on (addition k.values k.added first ws) (λ x. Ok (record k { added = x.1; values = k.values + x.0 })) r (added_next k r) read refl)),
+  );
+  sound = sound;
+  grown = g;
+}
+
+added_dim_led : (version : ℕ) (k : Known) (words : List Word) (x : Dim) (ss : List Statement) (last : Known) → (version == 0) ≡ true → Sound k → Says 5 words (DimIs x) → Grown true k (DimIs x ∷ ss) last → Led true version k words ss last
+added_dim_led version k words x ss last old sound (w, are, named, told) g =
+    let d = k.added in
+    let r : ℕ × Added = (0, record d { dims = d.dims ++ x ∷ []; extras = d.extras ++ extra.Dim x ∷ [] }) in
+    let ws = Plain x.name ∷ Plain w ∷ [] in
+    added_led version k words ss last (codes "dim") ws r old refl refl refl are (go_on (dim_line 5 d.dims ws) _ x r (dim_told 5 d.dims x w named told g.part.2.0) refl)
+    (record { fine = record { long = sound.fine.long; apart = sound.fine.apart }; counted = omega (arith, sound.counted, extras_pushed d.extras (extra.Dim x)) })
+    (record { ranks = g.ranks; hints = g.hints; filled = g.filled; part = (g.part.0, g.part.1 ∙ sym (append_assoc d.extras (extra.Dim x ∷ []) (extras_in ss)), g.part.2.1) })
+
+added_var_led : (version : ℕ) (k : Known) (words : List Word) (line : VarLine) (ss : List Statement) (last : Known) → (version == 0) ≡ true → Sound k → Says 5 words (VarIs line) → Grown true k (VarIs line ∷ ss) last → Led true version k words ss last
+added_var_led version k words line ss last old sound (w, brackets, inside, are, kind_is, named, between, parts_are, dims_named) g =
+    let d = k.added in
+    let said : VarWords 5 line = record { kind_word = w; shape_word = brackets; inside = inside; kind = kind_is; named = named; between = between; parts_are = parts_are; dims_named = dims_named } in
+    let one = extra.Var line.kind line.name line.dims in
+    let r : ℕ × Added = (0, record d { vars = d.vars ++ line.name ∷ []; extras = d.extras ++ one ∷ [] }) in
+    let ws = Plain w ∷ Plain line.name ∷ Plain brackets ∷ [] in
+    let t = added_told d.dims d.vars line said g.part.2.0 in
+    added_led version k words ss last (codes "var") ws r old refl refl refl are
+    (go_on (var_head 5 d.vars ws) _ ((line.kind, line.name), t.more) r t.head (go_on (added_shape d.dims t.more) _ (line.dims, []) r t.shape_told refl))
+    (record { fine = record { long = sound.fine.long; apart = sound.fine.apart }; counted = omega (arith, sound.counted, extras_pushed d.extras one) })
+    (record { ranks = g.ranks; hints = g.hints; filled = g.filled; part = (g.part.0, g.part.1 ∙ sym (append_assoc d.extras (one ∷ []) (extras_in ss)), g.part.2.1) })
+
+added_att_led : (version : ℕ) (k : Known) (words : List Word) (owner : Option (List ℕ)) (a : Attr) (ss : List Statement) (last : Known) → (version == 0) ≡ true → total last ≤ most_values → Sound k → Says 5 words (AttIs owner a)
+    → Grown true k (AttIs owner a ∷ ss) last → Led true version k words ss last
+added_att_led version k words owner a ss last old few sound (w, given, vs, are, is, named, told, spells, same) g =
+    let d = k.added in
+    let word = owner_word owner in
+    let of_owner = owner_told owner is in
+    let rest = Plain a.name ∷ Plain w ∷ given in
+    let r : ℕ × Added = (a.count, record d { titles = d.titles ++ (word, a.name) ∷ []; extras = d.extras ++ extra.Att owner a ∷ [] }) in
+    let next : Known = added_next k r in
+    let after : Grown true next ss last = record {
+      ranks = g.ranks;
+      hints = g.hints;
+      filled = g.filled;
+      part = (g.part.0, g.part.1 ∙ sym (append_assoc d.extras (extra.Att owner a ∷ []) (extras_in ss)), g.part.2.2);
+    } in
+    let more : total next ≡ total k + a.count = omega (arith, extras_pushed d.extras (extra.Att owner a)) in
+    let room = attr_room true k next ss last a vs sound.counted more after.part few (ap (λ (x : Attr). x.count) same) in
+    added_led version k words ss last (codes "att") (Plain word ∷ rest) r old refl refl refl are
+    (go_on (reads_as owner_of_text kind.BadName (Plain word ∷ rest)) _ (word, rest) r (word_read owner_of_text kind.BadName word word rest of_owner.0)
+    (go_on (attribute 5 d.titles k.values word rest) _ a r (attr_told 5 d.titles k.values word a w given vs named told spells same g.part.2.1 room)
+    (ap (λ (o : Option (List ℕ)). Ok (a.count, record d { titles = d.titles ++ (word, a.name) ∷ []; extras = d.extras ++ extra.Att o a ∷ [] })) of_owner.1)))
+    (record { fine = record { long = sound.fine.long; apart = sound.fine.apart }; counted = omega (arith, sound.counted, more) }) after
+
+-- ---- any line before `data`
+
+pub led : (opened : Bool) (version : ℕ) (k : Known) (words : List Word) (s : Statement) (ss : List Statement) (last : Known) → (version == 0) ≡ opened → total last ≤ most_values → Sound k → Says (lines_version opened version) words s
+    → Grown opened k (s ∷ ss) last → Led opened version k words ss last
+led true version k words (RanksAre n) ss last e few sound says g = ranks_led true version 5 k words n ss last sound says g
+led true version k words (HintIs i v) ss last e few sound says g = hint_led true version 5 k words i v ss last sound says g
+led true version k words IsFilled ss last e few sound says g = let no : true ≡ false = g.part.2.0 in absurd (cc)
+led true version k words (DimIs d) ss last e few sound says g = added_dim_led version k words d ss last e sound says g
+led true version k words (VarIs line) ss last e few sound says g = added_var_led version k words line ss last e sound says g
+led true version k words (AttIs owner a) ss last e few sound says g = added_att_led version k words owner a ss last e few sound says g
+led false version k words (RanksAre n) ss last e few sound says g = ranks_led false version version k words n ss last sound says g
+led false version k words (HintIs i v) ss last e few sound says g = hint_led false version version k words i v ss last sound says g
+led false version k words IsFilled ss last e few sound says g = fill_led version k words ss last e sound says g
+led false version k words (DimIs d) ss last e few sound says g = new_dim_led version k words d ss last e sound says g
+led false version k words (VarIs line) ss last e few sound says g = new_var_led version k words line ss last e sound says g
+led false version k words (AttIs None a) ss last e few sound says g = new_own_led version k words a ss last e few sound says g
+led false version k words (AttIs (Some owner) a) ss last e few sound says g = new_attr_led version k words owner a ss last e few sound says g

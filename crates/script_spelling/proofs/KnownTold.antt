@@ -1,0 +1,124 @@
+-- Lines that say statements are read up to `data`, and what is known then is what the statements say.
+use Rattle.std.proofs.Common.{◌≡◌, ◌∙◌, ℕ, suc, ◌+◌, ◌≤◌, List, [], ◌∷◌, ◌++◌, map, drop, Bool, true, false, ◌==◌, Option, Some, None, unwrap_or, Result, Ok, Err, refl, sym, ap, append-nil, arith, codes}
+use Rattle.std.specs.List.{AllZip}
+use Rattle.list_laws.proofs.Places.{first_same}
+use Rattle.nc_base.specs.declared.errors.ScriptKind.{ScriptKind}
+use Rattle.nc_base.specs.declared.errors.ScriptKind.TheVariants as kind
+use Rattle.nc_base.specs.declared.script.Hints.{Hints}
+use Rattle.serial_spec.specs.Lawful.{most_values}
+use Rattle.script_spec.specs.ScriptWords.{Word, Plain, Quoted, Broken, Line}
+use Rattle.script_spec.specs.ScriptSteps.{◌>>=◌, or_fault, whole}
+use Rattle.script_spec.specs.HintTable.{HintRow, hint_table, hint_in, hint_or, no_hints, set_hints, hints_of}
+use Rattle.script_spec.specs.ScriptDefinitions.{Defined, Known}
+use Rattle.script_spec.specs.ScriptGrammar.{at_line, definition_step, definitions}
+use Rattle.script_text.proofs.AddedLines.{Leads, defined_by, step_again}
+use Rattle.script_spelling.specs.Statements.{Statement, Says}
+use Rattle.script_spelling.specs.Described.{at_most_one}
+use Rattle.script_spelling.proofs.CallLinesRead.{words_of}
+use Rattle.script_spelling.proofs.TakenLines.{flag, Grown}
+use Rattle.script_spelling.proofs.KnownRead.{lines_version}
+use Rattle.script_spelling.proofs.VarsTold.{all_grown}
+use Rattle.script_spelling.proofs.DefinitionsTold.{total, Sound, led}
+
+-- ---- all lines up to `data`
+
+-- what is known at `data`, and the lines that follow it
+pub record DefinitionsTold (opened : Bool) (past version n : ℕ) (k : Known) (lines : List Line) (more : List (List Word)) (last : Known) : Type 0 where
+  pub known : Known
+  pub rest : List Line
+  pub read : definitions past version k lines ≡ Ok (n, (known, rest))
+  pub words : map words_of rest ≡ more
+  pub sound : Sound known
+  pub grown : Grown opened known [] last
+
+abbrev step_by : ℕ → Known → List Word → Result (Option ℕ × Known) ScriptKind
+step_by version k ws = elim ws [ [] ↦ Err kind.MissingWord | w ∷ more ↦ definition_step version k w more ]
+
+step_told : (version : ℕ) (k next : Known) (ws : List Word) → Leads version k ws next → step_by version k ws ≡ Ok (None, next)
+step_told version k next [] h = absurd h
+step_told version k next (Quoted text ∷ ws) h = absurd h
+step_told version k next (Broken ∷ ws) h = absurd h
+step_told version k next (Plain first ∷ ws) h = step_again version k next first ws h.0 h.1
+
+same_one : (o p : Option ℕ) → at_most_one o ≡ at_most_one p ++ [] → p ≡ o
+same_one None None h = refl
+same_one None (Some y) h = absurd (cc)
+same_one (Some x) None h = absurd (cc)
+same_one (Some x) (Some y) h = let same : y ≡ x = cc in ap (λ (n : ℕ). Some n) same
+
+data_read : (version n : ℕ) (k last : Known) → last.ranks ≡ Some n → at_most_one last.ranks ≡ at_most_one k.ranks ++ [] → step_by version k (Plain (codes "data") ∷ []) ≡ Ok (Some n, k)
+data_read version n k last told same =
+    ap (λ (o : Option ℕ). (or_fault kind.MissingWord o >>= λ ranks. whole (ranks, [])) >>= λ ranks. Ok (Some ranks, k)) (same_one last.ranks k.ranks same ∙ told)
+
+pub definitions_told : (opened : Bool) (past version n : ℕ) (own : List (List Word)) (ss : List Statement) (k : Known) (lines : List Line) (more : List (List Word)) (last : Known) → (version == 0) ≡ opened → total last ≤ most_values
+    → last.ranks ≡ Some n → Sound k → map words_of lines ≡ own ++ (Plain (codes "data") ∷ []) ∷ more → AllZip (Says (lines_version opened version)) own ss → Grown opened k ss last
+    → DefinitionsTold opened past version n k lines more last
+definitions_told opened past version n [] [] k [] more last e few ranks sound are say g = absurd (cc)
+definitions_told opened past version n [] [] k (l ∷ lines) more last e few ranks sound are say g =
+    let step : definition_step version k l.first l.rest ≡ Ok (Some n, k) = ap (step_by version k) (first_same _ _ _ _ are) ∙ data_read version n k last ranks g.ranks in
+    record {
+      known = k;
+      rest = lines;
+      read = ap (λ (s : Result (Option ℕ × Known) ScriptKind). defined_by past version lines (at_line l.number s)) step;
+      words = ap (drop 1) are;
+      sound = sound;
+      grown = g;
+    }
+definitions_told opened past version n [] (s ∷ ss) k lines more last e few ranks sound are say g = absurd say
+definitions_told opened past version n (ws ∷ own) [] k lines more last e few ranks sound are say g = absurd say
+definitions_told opened past version n (ws ∷ own) (s ∷ ss) k [] more last e few ranks sound are say g = absurd (cc)
+definitions_told opened past version n (ws ∷ own) (s ∷ ss) k (l ∷ lines) more last e few ranks sound are say g =
+    let on = led opened version k ws s ss last e few sound say.0 g in
+    let step : definition_step version k l.first l.rest ≡ Ok (None, on.next) = ap (step_by version k) (first_same _ _ _ _ are) ∙ step_told version k on.next ws on.leads in
+    let all = definitions_told opened past version n own ss on.next lines more last e few ranks on.sound (ap (drop 1) are) say.1 on.grown in
+    record {
+      known = all.known;
+      rest = all.rest;
+      read = ap (λ (x : Result (Option ℕ × Known) ScriptKind). defined_by past version lines (at_line l.number x)) step ∙ all.read;
+      words = all.words;
+      sound = all.sound;
+      grown = all.grown;
+    }
+
+-- ---- what is known then
+
+-- the parts of a script, but its calls
+pub record SameParts (k last : Known) : Type 0 where
+  pub dims : k.defined.dims ≡ last.defined.dims
+  pub vars : k.defined.vars ≡ last.defined.vars
+  pub attrs : k.defined.attrs ≡ last.defined.attrs
+  pub filled : k.defined.filled ≡ last.defined.filled
+  pub extras : k.added.extras ≡ last.added.extras
+
+same_flags : (now before : Bool) → flag now ≡ flag before + 0 → before ≡ now
+same_flags true true h = refl
+same_flags true false h = absurd (omega arith)
+same_flags false true h = absurd (omega arith)
+same_flags false false h = refl
+
+pub same_parts : (opened : Bool) (k last : Known) → Grown opened k [] last → SameParts k last
+same_parts true k last g =
+    let same = sym g.part.0 in
+    record {
+      dims = ap (λ (d : Defined). d.dims) same;
+      vars = ap (λ (d : Defined). d.vars) same;
+      attrs = ap (λ (d : Defined). d.attrs) same;
+      filled = ap (λ (d : Defined). d.filled) same;
+      extras = sym (g.part.1 ∙ append-nil k.added.extras);
+    }
+same_parts false k last g = record {
+  dims = sym (g.part.1 ∙ append-nil k.defined.dims);
+  vars = all_grown last.defined.dims k.defined.vars last.defined.vars g.part.3;
+  attrs = sym (g.part.2 ∙ append-nil k.defined.attrs);
+  filled = same_flags last.defined.filled k.defined.filled g.filled;
+  extras = sym g.part.0;
+}
+
+same_rows : (rows : List HintRow) (i ranks : ℕ) (a b : List (Option ℕ)) (h : Hints) → ((j : ℕ) → hint_in j a ≡ hint_in j b) → set_hints rows i ranks a h ≡ set_hints rows i ranks b h
+same_rows [] i ranks a b h same = refl
+same_rows (row ∷ rows) i ranks a b h same =
+    ap (λ (o : Option ℕ). set_hints rows (suc i) ranks a (row.set (unwrap_or o (row.default ranks)) h)) (same i)
+    ∙ same_rows rows (suc i) ranks a b (row.set (hint_or b i (row.default ranks)) h) same
+
+pub same_hints : (opened : Bool) (ranks : ℕ) (k last : Known) → Grown opened k [] last → hints_of ranks k.hints ≡ hints_of ranks last.hints
+same_hints opened ranks k last g = same_rows hint_table 0 ranks k.hints last.hints no_hints (λ j. same_one (hint_in j last.hints) (hint_in j k.hints) (g.hints j))

@@ -1,0 +1,149 @@
+-- Words that say a statement are read as what they say, where it may stand.
+use Rattle.std.proofs.Common.{◌≡◌, ◌∙◌, ℕ, suc, ◌<◌, ◌≤◌, List, [], ◌∷◌, map, position, drop, length, Bool, true, false, not, nat_lt, nat_le, ◌==◌, ◌&&◌, ◌||◌, Option, Some, None, Ok, refl, sym, ap, inr, arith, bytes_eq, codes}
+use Rattle.std.specs.List.{list_any, list_all}
+use Rattle.std.proofs.lemmas.Bool.{cond-false, le-ltb, lt-leb}
+use Rattle.std.proofs.lemmas.List.{length-map}
+use Rattle.nc_base.specs.Values.{count_of}
+use Rattle.nc_base.specs.declared.errors.ScriptKind.TheVariants as kind
+use Rattle.nc_base.specs.declared.errors.LimitName.TheVariants as limit
+use Rattle.nc_base.specs.declared.header.NcType.{NcType}
+use Rattle.nc_base.specs.declared.header.Dim.{Dim}
+use Rattle.nc_base.specs.declared.header.Attr.{Attr}
+use Rattle.nc_base.specs.declared.header.Var.{Var}
+use Rattle.nc_base.specs.declared.request.Values.{Values}
+use Rattle.serial_spec.specs.Limits.{most_dims, most_dims_of_var, most_vars}
+use Rattle.script_spec.specs.ScriptWords.{Word, Plain, is_name, between_brackets, parts}
+use Rattle.script_spec.specs.ScriptSteps.{refuse_if, or_fault, reads_as, name}
+use Rattle.script_spec.specs.ScriptValues.{values}
+use Rattle.script_spec.specs.HintTable.{HintForm, Within, Either}
+use Rattle.script_spec.specs.ScriptDefinitions.{hint_value, ranks_line, number_within, one_of_two, type_of, length_of_text, is_among, dim_names, dim_ids, is_unlimited, is_record_dim, is_added_record, dim_line, var_head, name_list, shape, added_shape, var_names, var_line, owner_of_text, owner_name, owner_place, Title, same_title, attr_of, attribute_name, attribute}
+use Rattle.script_text.proofs.Steps.{go_on, passed, faultless, word_read, by_false}
+use Rattle.script_text.proofs.Places.{place_here, place_later}
+use Rattle.script_text.proofs.PrintedValues.{HasRoom}
+use Rattle.script_text.proofs.PrintedRegions.{name_again}
+use Rattle.script_text.proofs.AddedLines.{owner_again}
+use Rattle.script_text.proofs.DefinedLines.{no_colon}
+use Rattle.script_spelling.specs.SpelledValues.{SpellsValues}
+use Rattle.script_spelling.specs.Statements.{VarLine, hint_value_of, owner_word, IsOwner, DimStands, VarStands}
+use Rattle.script_spelling.proofs.LinesRead.{all_found}
+use Rattle.script_spelling.proofs.ValuesTold.{values_told}
+
+-- ---- ranks and hints
+
+pub ranks_told : (w : List ℕ) (n : ℕ) → number_within 1 64 1 w ≡ Some n → ranks_line None (Plain w ∷ []) ≡ Ok n
+ranks_told w n h = go_on (reads_as (number_within 1 64 1) kind.BadNumber (Plain w ∷ [])) _ (n, []) n (word_read (number_within 1 64 1) kind.BadNumber w n [] h) refl
+
+pub hint_told : (f : HintForm) (w : List ℕ) (v : ℕ) → hint_value_of f w ≡ Some v → hint_value f (Plain w ∷ []) ≡ Ok (v, [])
+hint_told (Within low high unit) w v h = word_read (number_within low high unit) kind.BadNumber w v [] h
+hint_told (Either a b) w v h = word_read (one_of_two a b) kind.UnknownWord w v [] h
+
+-- ---- dimensions
+
+pub dim_told : (version : ℕ) (dims : List Dim) (d : Dim) (w : List ℕ) → is_name d.name ≡ true → length_of_text version w ≡ Some d.len → DimStands dims d → dim_line version dims (Plain d.name ∷ Plain w ∷ []) ≡ Ok d
+dim_told version dims d w named told stands =
+    let rest = Plain w ∷ [] in
+    go_on (name (Plain d.name ∷ rest)) _ (d.name, rest) d (name_again d.name rest named)
+    (go_on (refuse_if (is_among d.name (dim_names dims)) kind.TwiceNamed) _ tt d (passed _ _ stands.0)
+    (go_on (refuse_if (nat_le most_dims (length dims)) (kind.Limit limit.Dims)) _ tt d (passed _ _ (lt-leb most_dims (length dims) stands.1))
+    (go_on (reads_as (length_of_text version) kind.BadNumber rest) _ (d.len, []) d (word_read (length_of_text version) kind.BadNumber w d.len [] told)
+    (go_on (refuse_if (d.len == 0 && list_any is_unlimited dims) kind.BadShape) _ tt d (passed _ _ stands.2) refl))))
+
+-- ---- variables
+
+-- what a line says of a variable, word by word
+pub record VarWords (version : ℕ) (line : VarLine) : Type 0 where
+  pub kind_word : List ℕ
+  pub shape_word : List ℕ
+  pub inside : List ℕ
+  pub kind : type_of version kind_word ≡ Some line.kind
+  pub named : is_name line.name ≡ true
+  pub between : between_brackets shape_word ≡ Some inside
+  pub parts_are : parts inside ≡ line.dims
+  pub dims_named : list_all is_name line.dims ≡ true
+
+names_told : (version : ℕ) (line : VarLine) (w : VarWords version line) → name_list (Plain w.shape_word ∷ []) ≡ Ok (line.dims, [])
+names_told version line w =
+    go_on (reads_as between_brackets kind.BadNumber (Plain w.shape_word ∷ [])) _ (w.inside, []) (line.dims, []) (word_read between_brackets kind.BadNumber w.shape_word w.inside [] w.between)
+    (go_on (refuse_if (not (list_all is_name (parts w.inside))) kind.BadName) _ tt (line.dims, []) (passed _ _ (ap (λ (ns : List (List ℕ)). not (list_all is_name ns)) w.parts_are ∙ ap not w.dims_named))
+    (ap (λ (ns : List (List ℕ)). Ok (ns, [])) w.parts_are))
+
+head_told : (version : ℕ) (names : List (List ℕ)) (line : VarLine) (w : VarWords version line) (more : List Word) → is_among line.name names ≡ false → length names < most_vars
+    → var_head version names (Plain w.kind_word ∷ Plain line.name ∷ more) ≡ Ok ((line.kind, line.name), more)
+head_told version names line w more fresh room =
+    let r : (NcType × List ℕ) × List Word = ((line.kind, line.name), more) in
+    go_on (reads_as (type_of version) kind.UnknownWord (Plain w.kind_word ∷ Plain line.name ∷ more)) _ (line.kind, Plain line.name ∷ more) r (word_read (type_of version) kind.UnknownWord w.kind_word line.kind (Plain line.name ∷ more) w.kind)
+    (go_on (name (Plain line.name ∷ more)) _ (line.name, more) r (name_again line.name more w.named)
+    (go_on (refuse_if (is_among line.name names) kind.TwiceNamed) _ tt r (passed _ _ fresh)
+    (go_on (refuse_if (nat_le most_vars (length names)) (kind.Limit limit.Vars)) _ tt r (passed _ _ (lt-leb most_vars (length names) room)) refl)))
+
+-- a variable of a new dataset, as its line defines it
+abbrev pub var_of : VarLine → List ℕ → Var
+var_of line ids = record { name = line.name; dims = ids; attrs = []; kind = line.kind; begin = 0 }
+
+few_ids : (dims : List Dim) (names : List (List ℕ)) (ids : List ℕ) → dim_ids dims names ≡ Some ids → length names ≤ most_dims_of_var → length ids ≤ most_dims_of_var
+few_ids dims names ids e few =
+    let places = map (λ n. position (bytes_eq n) (dim_names dims)) names in
+    omega (arith, all_found places ids e, length-map names (λ n. position (bytes_eq n) (dim_names dims)))
+
+pub var_told : (version : ℕ) (dims : List Dim) (vars : List Var) (line : VarLine) (w : VarWords version line) (stands : VarStands false dims (var_names vars) line)
+    → var_line version dims vars (Plain w.kind_word ∷ Plain line.name ∷ Plain w.shape_word ∷ []) ≡ Ok (var_of line stands.3.0)
+var_told version dims vars line w (fresh, room, few, (ids, found, records)) =
+    let rest = Plain w.shape_word ∷ [] in
+    let v = var_of line ids in
+    go_on (var_head version (var_names vars) (Plain w.kind_word ∷ Plain line.name ∷ rest)) _ ((line.kind, line.name), rest) v (head_told version (var_names vars) line w rest fresh room)
+    (go_on (shape dims rest) _ (ids, []) v
+    (go_on (name_list rest) _ (line.dims, []) (ids, []) (names_told version line w)
+    (go_on (or_fault kind.UnknownName (dim_ids dims line.dims)) _ ids (ids, []) (faultless kind.UnknownName (dim_ids dims line.dims) ids found)
+    (go_on (refuse_if (nat_lt most_dims_of_var (length ids)) (kind.Limit limit.VarDims)) _ tt (ids, []) (passed _ _ (le-ltb most_dims_of_var (length ids) (few_ids dims line.dims ids found few)))
+    (go_on (refuse_if (list_any (is_record_dim dims) (drop 1 ids)) kind.BadShape) _ tt (ids, []) (passed _ _ records) refl)))) refl)
+
+-- what a line adds to a dataset that is opened
+pub record AddedTold (dims : List Dim) (names : List (List ℕ)) (line : VarLine) (words : List Word) : Type 0 where
+  pub more : List Word
+  pub head : var_head 5 names words ≡ Ok ((line.kind, line.name), more)
+  pub shape_told : added_shape dims more ≡ Ok (line.dims, [])
+
+pub added_told : (dims : List Dim) (names : List (List ℕ)) (line : VarLine) (w : VarWords 5 line) → VarStands true dims names line → AddedTold dims names line (Plain w.kind_word ∷ Plain line.name ∷ Plain w.shape_word ∷ [])
+added_told dims names line w stands =
+    let rest = Plain w.shape_word ∷ [] in
+    record {
+      more = rest;
+      head = head_told 5 names line w rest stands.0 stands.1;
+      shape_told = go_on (name_list rest) _ (line.dims, []) (line.dims, []) (names_told 5 line w)
+          (go_on (refuse_if (nat_lt most_dims_of_var (length line.dims)) (kind.Limit limit.VarDims)) _ tt (line.dims, []) (passed _ _ (le-ltb most_dims_of_var (length line.dims) stands.2))
+          (go_on (refuse_if (list_any (is_added_record dims) (drop 1 line.dims)) kind.BadShape) _ tt (line.dims, []) (passed _ _ stands.3) refl));
+    }
+
+-- ---- attributes
+
+pub owner_told : (owner : Option (List ℕ)) → IsOwner owner → (owner_of_text (owner_word owner) ≡ Some (owner_word owner)) × (owner_name (owner_word owner) ≡ owner)
+owner_told None is = (refl, refl)
+owner_told (Some n) is = ((owner_again n (inr (no_colon n is, is))).1, cond-false _ _ _ (no_colon n is))
+
+pub attr_told : (version : ℕ) (titles : List Title) (before : ℕ) (word : List ℕ) (a : Attr) (w : List ℕ) (given : List Word) (vs : Values) → is_name a.name ≡ true → type_of version w ≡ Some a.kind → SpellsValues (Some a.kind) given vs
+    → a ≡ attr_of a.name a.kind vs → list_any (same_title (word, a.name)) titles ≡ false → HasRoom (Some a.kind) before (count_of vs) → attribute version titles before word (Plain a.name ∷ Plain w ∷ given) ≡ Ok a
+attr_told version titles before word a w given vs named told spells same fresh room =
+    let rest = Plain w ∷ given in
+    go_on (attribute_name titles word (Plain a.name ∷ rest)) _ (a.name, rest) a
+    (go_on (name (Plain a.name ∷ rest)) _ (a.name, rest) (a.name, rest) (name_again a.name rest named)
+    (go_on (refuse_if (list_any (same_title (word, a.name)) titles) kind.TwiceNamed) _ tt (a.name, rest) (passed _ _ fresh) refl))
+    (go_on (reads_as (type_of version) kind.UnknownWord rest) _ (a.kind, given) a (word_read (type_of version) kind.UnknownWord w a.kind given told)
+    (go_on (values (Some a.kind) before given) _ vs a (values_told (Some a.kind) before given vs spells room) (ap (λ (x : Attr). Ok x) (sym same))))
+
+-- a name that is among these has a place
+pub record PlaceOf (n : List ℕ) (names : List (List ℕ)) : Type 0 where
+  pub place : ℕ
+  pub found : position (bytes_eq n) names ≡ Some place
+
+pub place_told : (n : List ℕ) (names : List (List ℕ)) → is_among n names ≡ true → PlaceOf n names
+place_told n [] h = absurd (cc)
+place_told n (x ∷ names) h = by (bytes_eq n x) refl h (λ k. place_told n names k)
+  where
+    by : (b : Bool) → bytes_eq n x ≡ b → (b || is_among n names) ≡ true → (is_among n names ≡ true → PlaceOf n names) → PlaceOf n (x ∷ names)
+    by true e k more = record { place = 0; found = place_here (bytes_eq n) x names e }
+    by false e k more = let later = more k in record { place = suc later.place; found = place_later (bytes_eq n) x names later.place e later.found }
+
+pub owner_found : (vars : List Var) (owner : List ℕ) → is_name owner ≡ true → (p : PlaceOf owner (var_names vars)) → owner_place vars owner ≡ Ok (Some p.place)
+owner_found vars owner is p =
+    by_false (bytes_eq owner (codes ":")) _ _ (no_colon owner is)
+    ∙ go_on (or_fault kind.UnknownName (position (bytes_eq owner) (var_names vars))) (λ k. Ok (Some k)) p.place (Some p.place) (faultless kind.UnknownName (position (bytes_eq owner) (var_names vars)) p.place p.found) refl

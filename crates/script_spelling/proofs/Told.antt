@@ -1,0 +1,216 @@
+-- A text that spells a script is read as this script.
+use Rattle.std.proofs.Common.{◌≡◌, ◌∙◌, ℕ, ◌+◌, ◌≤◌, List, [], ◌∷◌, ◌++◌, map, sum, drop, length, Bool, true, false, not, cond, ◌==◌, Option, Some, None, Result, Ok, Err, refl, sym, ap, subst, append_assoc, arith, codes}
+use Rattle.std.specs.List.{AllZip}
+use Rattle.std.specs.Str.Lossy.{utf8_valid_len}
+use Rattle.std.proofs.lemmas.Bool.{eq-eqb}
+use Rattle.std.proofs.lemmas.List.{length-replicate}
+use Rattle.list_laws.proofs.Optional.{some_not_none}
+use Rattle.list_laws.proofs.Places.{first_same}
+use Rattle.nc_base.specs.declared.errors.ScriptErr.{ScriptErr}
+use Rattle.nc_base.specs.declared.errors.ScriptKind.{ScriptKind}
+use Rattle.nc_base.specs.declared.errors.ScriptKind.TheVariants as kind
+use Rattle.nc_base.specs.declared.header.Attr.{Attr}
+use Rattle.nc_base.specs.declared.header.Dim.{Dim}
+use Rattle.nc_base.specs.declared.header.Header.{Header}
+use Rattle.nc_base.specs.declared.header.Var.{Var}
+use Rattle.nc_base.specs.declared.request.Call.{Call}
+use Rattle.nc_base.specs.declared.script.Extra.{Extra}
+use Rattle.nc_base.specs.declared.script.Hints.{Hints}
+use Rattle.nc_base.specs.declared.script.Script.{Script}
+use Rattle.serial_spec.specs.Lawful.{most_values, attr_values, extra_values, values_in_extra, values_in_script}
+use Rattle.serial_spec.proofs.LawfulTests.{lawful_parts}
+use Rattle.script_spec.specs.ScriptWords.{Word, Plain, Line, text_lines, significant}
+use Rattle.script_spec.specs.ScriptSteps.{reads_as, whole}
+use Rattle.script_spec.specs.HintTable.{hints_of}
+use Rattle.script_spec.specs.ScriptDefinitions.{no_definition, Defined, Known, nothing_known}
+use Rattle.script_spec.specs.ScriptGrammar.{at_line, version_of_text, head, definitions, data_part, finish, header_of, script_of, no_calls, script_of_lines, script_of_text, fault_of, script_fault, Reads}
+use Rattle.script_laws.proofs.ListLaws.{sum_cons}
+use Rattle.script_text.proofs.Steps.{go_on, same_ok, word_read}
+use Rattle.script_text.proofs.CallLines.{count_all}
+use Rattle.script_text.proofs.DefinedChains.{count_attrs, count_own}
+use Rattle.script_text.proofs.Expressed.{agreement}
+use Rattle.script_text.proofs.ExpressedCalls.{all_counted}
+use Rattle.script_text.proofs.Whole.{finish_by, count_empty, text_again}
+use Rattle.script_spelling.specs.Statements.{Statement, RanksAre, HintIs, IsFilled, DimIs, VarIs, AttIs, Says, Stand}
+use Rattle.script_spelling.specs.Described.{calls_in, fills_in, hint_values, at_most_one, ToDataset, Describes}
+use Rattle.script_spelling.specs.Spelling.{SpellsHead, Sections, lines_of, Spells}
+use Rattle.script_spelling.proofs.Spelled.{no_zero, none_given, no_not, read_spelled}
+use Rattle.script_spelling.proofs.CallLinesRead.{words_of, from_none}
+use Rattle.script_spelling.proofs.TakenLines.{Part, Grown}
+use Rattle.script_spelling.proofs.KnownRead.{lines_version}
+use Rattle.script_spelling.proofs.CallLinesTold.{LawfulCalls, Going, data_told}
+use Rattle.script_spelling.proofs.DefinitionsTold.{count_extras, total, Sound, total_grown}
+use Rattle.script_spelling.proofs.KnownTold.{definitions_told, same_parts, same_hints}
+
+-- ---- the head
+
+abbrev head_by : List Word → Result ℕ ScriptKind
+head_by ws = elim ws [ [] ↦ Err kind.NoHead | w ∷ more ↦ head w more ]
+
+record HeadTold (ws : List Word) (fresh : Bool) (version : ℕ) : Type 0 where
+  read : head_by ws ≡ Ok version
+  mode : (version == 0) ≡ not fresh
+
+head_told : (ws : List Word) (fresh : Bool) (version : ℕ) → SpellsHead ws fresh version → HeadTold ws fresh version
+head_told ws true version (w, are, told) = record {
+  read = ap head_by are ∙ go_on (reads_as version_of_text kind.BadNumber (Plain w ∷ [])) (λ v. whole v) (version, []) version (word_read version_of_text kind.BadNumber w version [] told) refl;
+  mode = no_zero w version told;
+}
+head_told ws false version (are, none) = record { read = ap head_by are ∙ ap (λ (n : ℕ). Ok n) (sym none); mode = ap (λ (n : ℕ). n == 0) none }
+
+-- ---- what statements say, as what is known
+
+-- what a script says but its calls, where it gives these hints
+abbrev known_of : Script → List (Option ℕ) → Known
+known_of s hints = record {
+  ranks = Some s.ranks;
+  hints = hints;
+  defined = record { dims = s.header.dims; vars = s.header.vars; attrs = s.header.attrs; titles = []; filled = s.filled };
+  added = record { dims = []; vars = []; titles = []; extras = s.extra };
+  values = 0;
+}
+
+-- a dataset that is opened is not filled
+no_fill : (ss : List Statement) (dims : List Dim) (names : List (List ℕ)) (titles : List (List ℕ × List ℕ)) → Stand true dims names titles ss → fills_in ss ≡ 0
+no_fill [] dims names titles h = refl
+no_fill (RanksAre n ∷ ss) dims names titles h = no_fill ss dims names titles h
+no_fill (HintIs i v ∷ ss) dims names titles h = no_fill ss dims names titles h
+no_fill (IsFilled ∷ ss) dims names titles h = let no : true ≡ false = h.0 in absurd (cc)
+no_fill (DimIs d ∷ ss) dims names titles h = no_fill ss _ names titles h.1
+no_fill (VarIs line ∷ ss) dims names titles h = no_fill ss dims _ titles h.1
+no_fill (AttIs owner a ∷ ss) dims names titles h = no_fill ss dims names _ h.2
+
+not_filled : (filled : Bool) (n : ℕ) → n ≡ cond filled 1 0 → n ≡ 0 → filled ≡ false
+not_filled true n h none = absurd (omega (arith, h, none))
+not_filled false n h none = refl
+
+opened_defines : (header : Header) (filled : Bool) → header ≡ header_of 0 no_definition → filled ≡ false
+    → ◌≡◌ {A = Defined} (record { dims = header.dims; vars = header.vars; attrs = header.attrs; titles = []; filled = filled }) no_definition
+opened_defines header filled e none =
+    ap (λ (h : Header). record { dims = h.dims; vars = h.vars; attrs = h.attrs; titles = []; filled = filled }) e ∙ ap (λ (b : Bool). record { dims = []; vars = []; attrs = []; titles = []; filled = b }) none
+
+part_told : (fresh : Bool) (s : Script) (hints : List (Option ℕ)) (ss : List Statement) → fills_in ss ≡ cond s.filled 1 0 → ToDataset fresh ss s → Stand (not fresh) [] [] [] ss → Part (not fresh) nothing_known ss (known_of s hints)
+part_told true s hints ss filled d stand = (d.extra, d.dims, d.attrs, d.vars, stand)
+part_told false s hints ss filled d stand = (opened_defines s.header s.filled d.header (not_filled s.filled (fills_in ss) filled (no_fill ss [] [] [] stand)), d.extra, stand)
+
+grown_told : (s : Script) (ss : List Statement) (called : List (ℕ × Call)) (d : Describes ss called s) → Stand (not s.fresh) [] [] [] ss → Grown (not s.fresh) nothing_known ss (known_of s d.hint_table)
+grown_told s ss called d stand = record {
+  ranks = sym d.ranks;
+  hints = λ h. sym (d.given h) ∙ ap (λ (o : Option ℕ). at_most_one o ++ hint_values h ss) (sym (none_given 10 h));
+  filled = omega (arith, d.filled);
+  part = part_told s.fresh s d.hint_table ss d.filled d.dataset stand;
+}
+
+-- ---- how many values it has
+
+attrs_counted : (list : List Attr) → count_attrs list ≡ attr_values list
+attrs_counted [] = refl
+attrs_counted (a ∷ list) = omega (arith, attrs_counted list, sum_cons (λ (x : Attr). x.count) a list)
+
+own_counted : (vars : List Var) → count_own vars ≡ sum (map (λ (v : Var). attr_values v.attrs) vars)
+own_counted [] = refl
+own_counted (v ∷ vars) = omega (arith, own_counted vars, attrs_counted v.attrs, sum_cons (λ (x : Var). attr_values x.attrs) v vars)
+
+extras_counted : (es : List Extra) → count_extras es ≡ extra_values es
+extras_counted [] = refl
+extras_counted (e ∷ es) = omega (arith, extras_counted es, sum_cons values_in_extra e es)
+
+values_told : (s : Script) (hints : List (Option ℕ)) → total (known_of s hints) + count_all s.calls ≡ values_in_script s
+values_told s hints = omega (arith, attrs_counted s.header.attrs, own_counted s.header.vars, extras_counted s.extra, all_counted s.calls)
+
+-- ---- the script by its parts
+
+abbrev header_with : ℕ → ℕ → List Dim → List Attr → List Var → Header
+header_with version records dims attrs vars = record { version = version; records = records; dims = dims; attrs = attrs; vars = vars }
+
+same_header : (version r r2 : ℕ) (ds ds2 : List Dim) (own own2 : List Attr) (vs vs2 : List Var) → r ≡ r2 → ds ≡ ds2 → own ≡ own2 → vs ≡ vs2 → header_with version r ds own vs ≡ header_with version r2 ds2 own2 vs2
+same_header version r r2 ds ds2 own own2 vs vs2 e1 e2 e3 e4 = cc
+
+abbrev script_with : Bool → Header → ℕ → Hints → Bool → List Extra → List (List Call) → Script
+script_with fresh header ranks hints filled extras calls = record { fresh = fresh; header = header; ranks = ranks; hints = hints; filled = filled; extra = extras; calls = calls }
+
+same_script : (ranks : ℕ) (calls : List (List Call)) (b b2 : Bool) (h h2 : Header) (hs hs2 : Hints) (f f2 : Bool) (es es2 : List Extra) → b ≡ b2 → h ≡ h2 → hs ≡ hs2 → f ≡ f2 → es ≡ es2
+    → script_with b h ranks hs f es calls ≡ script_with b2 h2 ranks hs2 f2 es2 calls
+same_script ranks calls b b2 h h2 hs hs2 f f2 es es2 e1 e2 e3 e4 e5 = cc
+
+no_records : (fresh : Bool) (ss : List Statement) (s : Script) → ToDataset fresh ss s → 0 ≡ s.header.records
+no_records true ss s d = sym d.records
+no_records false ss s d = sym (ap (λ (h : Header). h.records) d.header)
+
+script_told : (s : Script) (ss : List Statement) (called : List (ℕ × Call)) (d : Describes ss called s) (known : Known) → (s.header.version == 0) ≡ not s.fresh → Grown (not s.fresh) known [] (known_of s d.hint_table)
+    → script_of s.header.version s.ranks known s.calls ≡ s
+script_told s ss called d known mode g =
+    let last = known_of s d.hint_table in
+    let same = same_parts (not s.fresh) known last g in
+    same_script s.ranks s.calls (not (s.header.version == 0)) s.fresh (header_of s.header.version known.defined) s.header (hints_of s.ranks known.hints) s.hints known.defined.filled s.filled known.added.extras s.extra
+    (ap not mode ∙ no_not s.fresh)
+    (same_header s.header.version 0 s.header.records known.defined.dims s.header.dims known.defined.attrs s.header.attrs known.defined.vars s.header.vars (no_records s.fresh ss s d.dataset) same.dims same.attrs same.vars)
+    (same_hints (not s.fresh) s.ranks known last g ∙ sym d.hints) same.filled same.extras
+
+-- ---- all lines
+
+-- what the reader says of the lines, from what it says of its parts
+parts_told : (past version n : ℕ) (l : Line) (lines rest : List Line) (known : Known) (end values : ℕ) (calls : List (List Call)) (s : Script) → head l.first l.rest ≡ Ok version
+    → definitions past version nothing_known lines ≡ Ok (n, (known, rest)) → data_part past (no_calls n known) rest ≡ Ok (end, (record { calls = calls; values = values }, [])) → finish end calls [] ≡ Ok tt → script_of version n known calls ≡ s
+    → script_of_lines past (l ∷ lines) ≡ Ok s
+parts_told past version n l lines rest known end values calls s first defined called last same =
+    go_on (at_line l.number (head l.first l.rest)) _ version s (ap (at_line l.number) first)
+    (go_on (definitions past version nothing_known lines) _ (n, (known, rest)) s defined
+    (go_on (data_part past (no_calls n known) rest) _ (end, (record { calls = calls; values = values }, [])) s called
+    (go_on (finish end calls []) _ tt s last (ap (λ (x : Script). Ok x) same))))
+
+-- the lines, from the first on
+in_order : (lines : List Line) (s : Sections) → map words_of lines ≡ lines_of s → map words_of lines ≡ s.head ∷ (s.before_data ++ ((Plain (codes "data") ∷ []) ∷ (s.after_data ++ (Plain (codes "end") ∷ []) ∷ [])))
+in_order lines s e = e ∙ append_assoc (s.head ∷ s.before_data) ((Plain (codes "data") ∷ []) ∷ s.after_data) ((Plain (codes "end") ∷ []) ∷ [])
+
+lines_told : (text : List ℕ) (s : Script) (past : ℕ) (lines : List Line) (h : Spells text s) → map words_of lines ≡ lines_of h.sections → script_of_lines past lines ≡ Ok s
+lines_told text s past [] h are = let e = in_order [] h.sections are in absurd (cc)
+lines_told text s past (l ∷ lines) h are =
+    let e = in_order (l ∷ lines) h.sections are in
+    let version = s.header.version in
+    let first = head_told h.sections.head s.fresh version h.head in
+    let head_read : head l.first l.rest ≡ Ok version = ap head_by (first_same _ _ _ _ e) ∙ first.read in
+    let lawful = lawful_parts s h.lawful in
+    let last = known_of s h.describes.hint_table in
+    let counted = values_told s h.describes.hint_table in
+    let few : total last ≤ most_values = omega (arith, counted, lawful.few_values) in
+    let grown = grown_told s h.statements h.called h.describes h.stand in
+    let begin : Sound nothing_known = record { fine = record { long = refl; apart = refl }; counted = refl } in
+    let say = subst (λ (opened : Bool). AllZip (Says (lines_version opened version)) h.sections.before_data h.statements) first.mode h.say in
+    let d = definitions_told (not s.fresh) past version s.ranks h.sections.before_data h.statements nothing_known lines (h.sections.after_data ++ (Plain (codes "end") ∷ []) ∷ []) last first.mode few refl begin (ap (drop 1) e) say grown in
+    let base = d.known.values in
+    let held = total_grown (not s.fresh) d.known [] last d.grown.part in
+    let all : LawfulCalls s.ranks base s.calls = record { each = lawful.each_call; ids = lawful.ids_once; few = omega (arith, d.sound.counted, held, counted, lawful.few_values) } in
+    let going : Going s.ranks base s.calls h.called (no_calls s.ranks d.known) = record {
+      calls = from_none (λ k. calls_in k h.called) 0 s.ranks ∙ sym h.describes.calls;
+      long = length-replicate s.ranks [];
+      counted = omega (arith, count_empty s.ranks);
+    } in
+    let c = data_told past s.ranks base s.calls h.sections.after_data h.called d.rest (no_calls s.ranks d.known) all d.words h.call h.describes.there going in
+    parts_told past version s.ranks l lines d.rest d.known c.last c.values s.calls s head_read d.read c.read (ap (finish_by c.last) (agreement s.calls lawful.agreed))
+    (script_told s h.statements h.called h.describes d.known first.mode d.grown)
+
+-- ---- a whole text
+
+pub spelled_read : (text : List ℕ) (s : Script) → Spells text s → Reads text s
+spelled_read text s h =
+    text_again text s h.short (eq-eqb (utf8_valid_len text) (length text) h.utf8) h.few (lines_told text s (length (text_lines text) + 1) (significant text) h h.lines)
+
+-- ---- what is read and what is refused
+
+pub one_script : (text : List ℕ) (s t : Script) → Spells text s → Spells text t → s ≡ t
+one_script text s t h k = same_ok s t (sym (spelled_read text s h) ∙ spelled_read text t k)
+
+pub some_script : (text : List ℕ) → script_fault text ≡ None → (s : Script) × Spells text s
+some_script text h = by (script_of_text text) refl h
+  where
+    by : (r : Result Script ScriptErr) → script_of_text text ≡ r → fault_of r ≡ None → (s : Script) × Spells text s
+    by (Ok s) e k = (s, read_spelled text s e)
+    by (Err x) e k = absurd (cc)
+
+pub no_script : (text : List ℕ) (e : ScriptErr) → script_fault text ≡ Some e → (s : Script) → Spells text s → ⊥
+no_script text e h s k = some_not_none e (script_fault text) h (ap fault_of (spelled_read text s k))
+
+-- a text of which the lines have this fault spells nothing
+pub unread : (text : List ℕ) (s : Script) (e : ScriptErr) → script_of_lines (length (text_lines text) + 1) (significant text) ≡ Err e → Spells text s → ⊥
+unread text s e h k = let both : ◌≡◌ {A = Result Script ScriptErr} (Err e) (Ok s) = sym h ∙ lines_told text s (length (text_lines text) + 1) (significant text) k k.lines in absurd (cc)
