@@ -119,14 +119,14 @@ told_dataset : {Untouched : Type 0} (left held : Option (List ℕ)) (stop : Stop
 told_dataset left held stop bad own = let line = four_line stop own in (line.0, if_some_at _ (line_of stop) line.0 line.1 (bad own))
 
 -- a script with a fault is refused
-pub refused : {Untouched : Type 0} (left held : Option (List ℕ)) (stop : Stop) (status : ℕ) → (status ≡ status_of stop) ⊎ (status ≡ 8)
+pub refused : (Untouched : Type 0) (left held : Option (List ℕ)) (stop : Stop) (status : ℕ) → (status ≡ status_of stop) ⊎ (status ≡ 8)
     → (stop ≡ stops.Usage → ⊥) → (stop ≡ stops.Source → ⊥)
     → (status_of stop ≡ 4 → IfSome (line_of stop) (IsBadDataset left held Untouched))
     → (status_of stop ≡ 7 → (script : Script) × (Asks left script × IsLaid script))
     → IsSomeAnd left IsFaultyText → (status ≡ 3) ⊎ (status ≡ 8)
-refused left held stop status (inr e) u s d k r = inr e
-refused None held stop status (inl e) u s d k r = absurd r
-refused (Some text) held stop status (inl e) u s d k r = by_stop stop refl
+refused Untouched left held stop status (inr e) u s d k r = inr e
+refused Untouched None held stop status (inl e) u s d k r = absurd r
+refused Untouched (Some text) held stop status (inl e) u s d k r = by_stop stop refl
   where
     of_dataset : status_of stop ≡ 4 → ⊥
     of_dataset x = let told = told_dataset (Some text) held stop d x in read-faulty text told.1.script r.0 told.1.asks r.1
@@ -179,13 +179,13 @@ faulty (Some text) held stop status (inl e) u s k r a = by_stop stop refl
     by_stop stops.Memory x = inr (e ∙ ap status_of x)
 
 -- a run of which nothing is at fault wants memory
-pub wants_memory : {Untouched : Type 0} (left held : Option (List ℕ)) (stop : Stop) (status : ℕ) → (status ≡ status_of stop) ⊎ (status ≡ 8)
+pub wants_memory : (Untouched : Type 0) (left held : Option (List ℕ)) (stop : Stop) (status : ℕ) → (status ≡ status_of stop) ⊎ (status ≡ 8)
     → (stop ≡ stops.Usage → ⊥) → (stop ≡ stops.Source → ⊥) → (stop ≡ stops.Disk → ⊥) → IsToldBy left stop
     → (status_of stop ≡ 4 → IfSome (line_of stop) (IsBadDataset left held Untouched))
     → IsSomeAnd left (λ text. AsksFor IsRight text held) → (status ≡ 0) ⊎ (status ≡ 8)
-wants_memory left held stop status (inr e) u s k r d a = inr e
-wants_memory None held stop status (inl e) u s k r d a = absurd a
-wants_memory (Some text) held stop status (inl e) u s k r d a = by_stop stop refl
+wants_memory Untouched left held stop status (inr e) u s k r d a = inr e
+wants_memory Untouched None held stop status (inl e) u s k r d a = absurd a
+wants_memory Untouched (Some text) held stop status (inl e) u s k r d a = by_stop stop refl
   where
     of_dataset : status_of stop ≡ 4 → ⊥
     of_dataset x =

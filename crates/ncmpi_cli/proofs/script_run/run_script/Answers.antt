@@ -36,13 +36,13 @@ returns-in-Err-clause-ends g c =
       taken = own.few;
       script = told_script left stop status told faulted c.tell.ensures.line;
       dataset = dataset left held stop status told own.bad c.tell.ensures.line;
-      refused = λ asks source. refused left held stop status told formed (λ x. source (own.source (ap (λ (s : Stop). Err s) x))) own.bad own.asked asks;
+      refused = λ asks source. refused _ left held stop status told formed (λ x. source (own.source (ap (λ (s : Stop). Err s) x))) own.bad own.asked asks;
       mislaid = λ asks source. mislaid left stop status told formed (λ x. source (own.source (ap (λ (s : Stop). Err s) x))) faulted own.asked asks;
       unlaid = own.unlaid;
       faulty = λ asks source disk.
           faulty left held stop status told formed (λ x. source (own.source (ap (λ (s : Stop). Err s) x))) (λ x. disk (own.disk (ap (λ (s : Stop). Err s) x))) faulted asks;
       complete = λ asks source sink disk.
-          wants_memory left held stop status told formed (λ x. source (own.source (ap (λ (s : Stop). Err s) x))) (λ x. disk (own.disk (ap (λ (s : Stop). Err s) x)))
+          wants_memory _ left held stop status told formed (λ x. source (own.source (ap (λ (s : Stop). Err s) x))) (λ x. disk (own.disk (ap (λ (s : Stop). Err s) x)))
           faulted own.bad asks;
       began = inl none;
       unread = λ _. none;
