@@ -87,10 +87,12 @@ pub(crate) const BEGIN: &[u8] = b"create 1\nranks 2\ndim x 4\nvar int v [x]\ndat
 /// The script of this text.
 pub(crate) fn any_script(rt: &impl Abort, alloc: Global, text: &[u8]) -> Script
     ensures lawful { is_lawful result ≡ true }
+    ensures ranks { result.ranks ≤ 64 }
 {
     let Ok(script) = read_script(alloc, text) else {
         panic!(rt; "script")
     };
+    assert!(rt; script.ranks <= 64);
     script
 }
 
