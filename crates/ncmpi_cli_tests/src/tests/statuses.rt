@@ -1,9 +1,8 @@
 // A run for each other status but 8.
 use crate::tests::files::{
-    A, A_FRONT, AT_80, B, HALVES, MAGIC, NO_RECORDS, ONE_TWO, THREE_FOUR, TWO_RANKS, VECTOR,
+    A, A_FRONT, AT_80, B, HALVES, MAGIC, NO_RECORDS, ONE_TWO, TWO_RANKS, VECTOR,
 };
 use crate::tests::{Want, is_wanted, left};
-use nc_base::Mark;
 use nc_outside::{Fail, FailOp, OpenGate};
 use run_fixtures::{OLD, PLAIN, Run};
 
@@ -75,160 +74,59 @@ fn each_other_status_has_its_line(rt: HostRuntime) {
     }
 }
 
-// A script whose calls a disk refuses.
-#[derive(Clone, Copy)]
-struct Refused {
-    script: &'static [&'static [u8]],
-    // What the dataset holds before.
-    held: &'static [&'static [u8]],
-}
-
-const HALVED: Refused = Refused {
-    script: HALVES_SCRIPT,
-    held: OLD,
-};
-
-const PART: Refused = Refused {
-    script: &[
-        b"create 1\nranks 1\n",
-        VECTOR,
-        b"0 put_vara_all v [1] [2] 5 -1\nend\n",
-    ],
-    held: OLD,
-};
-
 // The second put leaves a hole, which is read.
-const HOLE: Refused = Refused {
-    script: &[
-        b"create 1\nranks 1\nhint cb_buffer_size 16\n",
-        VECTOR,
-        b"0 put_var_all v 1 2 3 4\n0 put_vars_all v [0] [2] [3] 7 8\nend\n",
-    ],
-    held: OLD,
-};
+const HOLE: &[&[u8]] = &[
+    b"create 1\nranks 1\nhint cb_buffer_size 16\n",
+    VECTOR,
+    b"0 put_var_all v 1 2 3 4\n0 put_vars_all v [0] [2] [3] 7 8\nend\n",
+];
 
-const OPENED_HOLE: Refused = Refused {
-    script: &[
-        b"open\nranks 1\nhint cb_buffer_size 16\ndata\n0 put_vars_all v [0] [2] [3] 7 8\nend\n",
-    ],
-    held: A,
-};
+const RECORD: &[&[u8]] = &[
+    b"create 1\nranks 1\ndim t unlimited\nvar short s [t]\ndata\n0 put_var1_all s [3] 7\nend\n",
+];
 
-const RECORD: Refused = Refused {
-    script: &[
-        b"create 1\nranks 1\ndim t unlimited\nvar short s [t]\ndata\n0 put_var1_all s [3] 7\nend\n",
-    ],
-    held: OLD,
-};
-
-// Each of two ranks alone puts every other element. This run and the next ones go in turn, so that the first rank goes first.
-const SIEVED: Refused = Refused {
-    script: &[
-        b"create 1\nranks 2\nhint threads off\n",
-        VECTOR,
-        b"0 begin_indep_data\n0 put_vars v [0] [2] [2] 1 3\n0 end_indep_data\n\
-        1 begin_indep_data\n1 put_vars v [1] [2] [2] 2 4\n1 end_indep_data\nend\n",
-    ],
-    held: OLD,
-};
-
-// The first rank alone puts the third record, and the second one does not know of it before they meet.
-const KNOWN: Refused = Refused {
-    script: &[
-        b"create 1\nranks 2\nhint threads off\ndim t unlimited\nvar short s [t]\ndata\n\
-        0 begin_indep_data\n0 put_var1 s [2] 5\n0 inq_dimlen t\n0 end_indep_data\n0 inq_dimlen t\n\
-        1 begin_indep_data\n1 inq_dimlen t\n1 get_var1 s [2]\n1 end_indep_data\n1 inq_dimlen t\nend\n",
-    ],
-    held: OLD,
-};
-
-// Two records of one rank alone, which are counted where the ranks meet.
-const ALONE: Refused = Refused {
-    script: &[
-        b"open\nranks 1\nhint threads off\ndata\n0 begin_indep_data\n0 put_var1 s [2] 5\n0 put_var1 s [3] 6\n0 end_indep_data\nend\n",
-    ],
-    held: NEW_B,
-};
+// Two records of one rank alone, which are counted where the ranks meet. This run goes in turn.
+const ALONE: &[&[u8]] = &[
+    b"open\nranks 1\nhint threads off\ndata\n0 begin_indep_data\n0 put_var1 s [2] 5\n0 put_var1 s [3] 6\n0 end_indep_data\nend\n",
+];
 
 const NEW_A: &[&[u8]] = &[A_FRONT, AT_80, &[0; 16]];
 
-const NEW_B: &[&[u8]] = &[MAGIC, NO_RECORDS, B];
-
-// The same with room for what the put of a record holds.
-const GROWN_B: &[&[u8]] = &[MAGIC, NO_RECORDS, B, &[0; 8]];
-
-const LONGER_B: &[&[u8]] = &[MAGIC, NO_RECORDS, B, &[0; 6]];
-
-const FIRST_HALF: &[&[u8]] = &[A_FRONT, AT_80, ONE_TWO, &[0; 8]];
-
-const SECOND_HALF: &[&[u8]] = &[A_FRONT, AT_80, &[0; 8], THREE_FOUR];
-
-const ODD: &[&[u8]] = &[
-    A_FRONT,
-    AT_80,
-    b"\x00\x00\x00\x01\x00\x00\x00\x00\x00\x00\x00\x03\x00\x00\x00\x00",
-];
-
 const LAST_BYTE_WANTS: &[&[u8]] = &[A_FRONT, AT_80, ONE_TWO, b"\x00\x00\x00\x03\x00\x00\x00\x00"];
+
+const NEW_B: &[&[u8]] = &[MAGIC, NO_RECORDS, B];
 
 const UNCOUNTED: &[&[u8]] = &[MAGIC, NO_RECORDS, B, b"\x00\x00\x00\x00\x00\x05\x00\x00"];
 
-const BEGUN: &[Mark] = &[Mark::Meet(0)];
-
-const FIRST_ALONE: &[Mark] = &[Mark::Meet(0), Mark::Solo(0, 1)];
-
 const FAULT: &[&[u8]] = &[b"ncrun: disk fault\n"];
 
-// The call that is refused, the steps that were finished, and what is left. A growth leaves what there was, and a write what stands before its place;
-// of two aggregators one goes on where the other is refused. The write of a new header holds the record count, so that the later write of the count
-// is refused in a dataset that is opened.
-const REFUSED: [(Refused, FailOp, u64, &[Mark], &[&[u8]]); 27] = [
-    (HALVED, FailOp::Start, 0, &[], OLD),
-    (HALVED, FailOp::Grow, 95, &[], &[]),
-    (HALVED, FailOp::Store, 0, &[], &[&[0; 96]]),
-    (HALVED, FailOp::Split, 80, &[], NEW_A),
-    (HALVED, FailOp::Split, 88, &[], NEW_A),
-    (HALVED, FailOp::Store, 80, &[], SECOND_HALF),
-    (HALVED, FailOp::Store, 88, &[], FIRST_HALF),
-    (HALVED, FailOp::Store, 95, &[], LAST_BYTE_WANTS),
-    (PART, FailOp::Grow, 90, &[], &[]),
-    (HOLE, FailOp::Load, 84, BEGUN, A),
-    (OPENED_HOLE, FailOp::Start, 0, &[], A),
-    (OPENED_HOLE, FailOp::Load, 0, &[], A),
-    (OPENED_HOLE, FailOp::Split, 80, &[], A),
-    (OPENED_HOLE, FailOp::Store, 80, &[], A),
-    (RECORD, FailOp::Grow, 79, &[], &[]),
-    (RECORD, FailOp::Store, 4, &[], &[MAGIC, &[0; 76]]),
-    (RECORD, FailOp::Grow, 80, &[], NEW_B),
-    (RECORD, FailOp::Split, 86, &[], GROWN_B),
-    (RECORD, FailOp::Store, 86, &[], GROWN_B),
-    (SIEVED, FailOp::Load, 80, BEGUN, NEW_A),
-    (SIEVED, FailOp::Store, 80, BEGUN, NEW_A),
-    (SIEVED, FailOp::Load, 95, FIRST_ALONE, ODD),
-    (SIEVED, FailOp::Store, 92, FIRST_ALONE, LAST_BYTE_WANTS),
-    (KNOWN, FailOp::Grow, 85, BEGUN, NEW_B),
-    (KNOWN, FailOp::Store, 84, BEGUN, LONGER_B),
-    (KNOWN, FailOp::Store, 0, &[], &[&[0; 80]]),
-    (ALONE, FailOp::Store, 87, FIRST_ALONE, UNCOUNTED),
+// A script, what the dataset holds before, the call that is refused, and what is left.
+const REFUSED: [(&[&[u8]], &[&[u8]], FailOp, u64, &[&[u8]]); 6] = [
+    (HALVES_SCRIPT, OLD, FailOp::Start, 0, OLD),
+    (HALVES_SCRIPT, OLD, FailOp::Split, 88, NEW_A),
+    // One aggregator goes on where the other's write is refused.
+    (HALVES_SCRIPT, OLD, FailOp::Store, 95, LAST_BYTE_WANTS),
+    (HOLE, OLD, FailOp::Load, 84, A),
+    (RECORD, OLD, FailOp::Grow, 80, NEW_B),
+    (ALONE, NEW_B, FailOp::Store, 87, UNCOUNTED),
 ];
 
 #[test]
 fn a_refused_call_ends_the_run(rt: HostRuntime) {
-    for (refused, op, at, order, held) in &REFUSED {
+    for (script, held, op, at, bytes) in &REFUSED {
         let fault = Fail { op: *op, at: *at };
         let run = Run {
-            script: refused.script,
-            held: refused.held,
+            script,
+            held,
             plan: &[fault],
             ..PLAIN
         };
         let want = Want {
             status: 7,
             given: FAULT,
-            held,
+            held: bytes,
         };
         let end = left(&rt, rt.alloc(), &run, &OpenGate);
         is_wanted(&rt, rt.alloc(), &end, &want);
-        assert!(rt; end.order.as_slice() == *order);
     }
 }
