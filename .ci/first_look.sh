@@ -5,7 +5,9 @@ tar -C "$root" --exclude=out -cf - crates crates.txt HANDLES | tar -C look -xf -
 began=$SECONDS
 given=$(cd look/crates/ncrun && rt try -- d.nc < stdin 2> ../../../look.said)
 same 'a first look ends well' 0 $?
-same 'the text of a first look' yes "$(printf '%s\n' "$given" | grep -qzF "$(cat "$root/crates/ncrun/stdout")" && echo yes || echo no)"
-same 'its dataset' "$file" "$(bytes_of look/crates/ncrun/d.nc)"
+case $given in
+    *"$(cat "$root/crates/ncrun/stdout")"*) same 'the text of a first look' yes yes ;;
+    *) same 'the text of a first look' "$(cat "$root/crates/ncrun/stdout")" "$given" ;;
+esac
 printf 'a first look took %s seconds\n' $((SECONDS - began))
 rm -rf look look.said
