@@ -3,6 +3,5 @@ mod attending;
 mod fixtures;
 mod in_turn;
 mod orders;
-mod refused;
 mod serving;
 mod steps;
