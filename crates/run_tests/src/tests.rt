@@ -3,5 +3,6 @@ mod attending;
 mod fixtures;
 mod in_turn;
 mod orders;
+mod refused;
 mod serving;
 mod steps;

@@ -1,13 +1,13 @@
 // The owner of the file, by what two ranks put beforehand.
 ghost use Rattle.std.specs.Prelude.{◌≡◌, length};
 
-use crate::tests::attending::items_of;
-use crate::tests::fixtures::{disk_of_zeros, is_counted, is_long, placed};
+use crate::tests::attending::{items_of, reply, strange_items_of};
+use crate::tests::fixtures::{disk_of_zeros, has_no_calls, is_counted, is_long, placed};
 use nc_base::{Hints, Mark, NcType, OverlapRule, OwnerItem, ServeEnd};
 use nc_outside::{Deaf, MemDisk, OpenGate};
 use rank_items::SentItem;
 use rank_meeting::serve;
-use ruled_line::{InPut, InTake, LinePutList, LineTake, inbox, line};
+use ruled_line::{InPut, InTake, LinePut, LinePutList, LineTake, inbox, line};
 use std::alloc::Global;
 use std::process::Abort;
 use std::sync::Wait;
@@ -101,6 +101,52 @@ fn has_replies<R: Abort + Wait>(rt: &R, line: &mut LineTake<OwnerItem>) {
         let item = line.take(rt);
         assert!(rt; matches!(&item, OwnerItem::Reply(_)));
     }
+}
+
+/// The first rank asks to begin and knows of records that no rank needed; then both ranks end.
+fn strange_arrive<R: Abort + Wait>(rt: &R, alloc: Global, mut senders: Vec<InPut<SentItem>>) {
+    let mut zero = strange_items_of(rt, alloc, 0);
+    let mut one = strange_items_of(rt, alloc, 1);
+    let _unsaid = one.take(rt);
+    for number in [0usize, 0, 1] {
+        let of_rank = if number == 0 { &mut zero } else { &mut one };
+        let item = of_rank.take(rt).1;
+        senders.get_mut(number).expect(rt, "sender").put(rt, item);
+    }
+}
+
+/// Nothing stands in the line: what is put on it now comes next.
+fn is_empty<R: Abort + Wait>(
+    rt: &R,
+    alloc: Global,
+    put: Option<&mut LinePut<OwnerItem>>,
+    take: &mut LineTake<OwnerItem>,
+) {
+    put.expect(rt, "line").put(rt, reply(alloc));
+    let item = take.take(rt);
+    assert!(rt; matches!(&item, OwnerItem::Reply(_)));
+}
+
+#[test]
+fn a_strange_arrival_is_stopped(rt: HostRuntime) {
+    let alloc = rt.alloc();
+    let Ends {
+        senders,
+        mut taken,
+        mut lines,
+        mut to_first,
+        mut to_second,
+    } = ends_of_two(&rt, alloc);
+    let mut disk = disk_of_zeros(&rt, alloc);
+    strange_arrive(&rt, alloc, senders);
+    let end = served(&rt, alloc, &mut disk, &mut taken, &mut lines);
+    assert!(rt; end.order.is_empty() && end.fault.is_none() && end.stranger == Some(0));
+    let item = to_first.take(&rt);
+    assert!(rt; matches!(&item, OwnerItem::Stop));
+    let mut lines = lines.into_vec();
+    is_empty(&rt, alloc, lines.get_mut(0), &mut to_first);
+    is_empty(&rt, alloc, lines.get_mut(1), &mut to_second);
+    has_no_calls(&rt, alloc, &disk);
 }
 
 const ARRIVED: [Mark; 4] = [
