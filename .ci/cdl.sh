@@ -38,3 +38,5 @@ if command -v ncdump > /dev/null; then
     "$program" whole.nc < whole.script > /dev/null
     same 'and ncdump reads the same' "$(ncdump whole.nc | sed '1,/^data/d' | tr -d '[:space:]')" "$("$root/tools/cdl" cdl d < whole.script | sed '1,/^data/d' | tr -d '[:space:]')"
 fi
+
+same 'a control character in a name is shown' 'x\x1B[31m = 1.5' "$(printf 'x\033[31m = x3FC00000\n' | "$root/tools/cdl" numbers)"
