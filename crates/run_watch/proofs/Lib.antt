@@ -1,3 +1,4 @@
+mod Beginnings
 mod Moves
 mod Results
 pub mod Sent

@@ -4,6 +4,7 @@
 --     with_pair heard mark records    once this was told too
 --     IsBeginning early late          the second was told what the first was, and maybe more
 --     longer one other                the one that was told more, or else the first
+--     BeginOneList one other          there is something told of which both are beginnings, as is all that views and notes of one board have heard
 use Rattle.std.specs.Prelude.{◌≡◌, ℕ, [], ◌∷◌, ◌++◌, length, nat_lt, if◌then◌else◌}
 use mathlib.Core.List.{IsPrefix}
 use Rattle.nc_base.specs.declared.step.Mark.{Mark}
@@ -25,3 +26,6 @@ IsBeginning early late = (early.opening ≡ late.opening) × IsPrefix early.pair
 
 abbrev pub longer : Heard → Heard → Heard
 longer one other = if nat_lt (length one.pairs) (length other.pairs) then other else one
+
+abbrev pub BeginOneList : Heard → Heard → Type 0
+BeginOneList one other = (told : Heard) × IsBeginning one told × IsBeginning other told

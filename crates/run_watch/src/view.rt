@@ -1,6 +1,6 @@
 // A view, which reads how far a run has come, and a note, from which it learns.
-ghost use Rattle.std.specs.Prelude.{◌≡◌};
-ghost use Rattle.run_watch.specs.Heard.{summary, IsBeginning, longer};
+ghost use Rattle.std.specs.Prelude.{◌≡◌, ◌≤◌, length};
+ghost use Rattle.run_watch.specs.Heard.{summary, IsBeginning, longer, BeginOneList};
 
 use crate::rule::{BoardReader, Heard, Reading};
 use nc_base::Summary;
@@ -51,6 +51,7 @@ impl View {
     pub fn read(&mut self) -> Summary
         ensures reading { result ≡ summary self.new }
         ensures begins { IsBeginning self.old self.new }
+        ensures steps { length self.old.pairs ≤ result.steps }
     {
         if let Some(reader) = self.reader.take() {
             match reader.enter_as::<Reading>() {
@@ -64,9 +65,11 @@ impl View {
         self.kept
     }
 
-    /// From now on a reading has no fewer steps than the note.
+    /// From now on a reading has no fewer steps than the note. Where view and note are of one board, it begins with all that both have heard.
     pub fn learn(&mut self, note: Note)
-        ensures { self.new ≡ longer self.old note }
+        ensures heard { self.new ≡ longer self.old note }
+        ensures begins { BeginOneList self.old note → IsBeginning self.old self.new × IsBeginning note self.new }
+        ensures steps { (length self.old.pairs ≤ length self.new.pairs) × (length note.pairs ≤ length self.new.pairs) }
     {
         let Note { fresh } = note;
         if self.kept.steps < fresh.kept.steps {
