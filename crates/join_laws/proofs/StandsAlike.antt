@@ -1,0 +1,234 @@
+-- Runs over files that differ in their bytes, step by step: ranks beside one another, and ends that are alike.
+use Rattle.std.proofs.Common.{◌≡◌, ℕ, zero, suc, ◌+◌, refl, sym, ◌∙◌, ap, subst, List, [], ◌∷◌, map, set, Option, Some, None}
+use Rattle.std.specs.Prelude.{slice_get, flat_map, fold, take, zip}
+use Rattle.std.specs.List.{enumerate_from}
+use Rattle.nc_base.specs.declared.header.Header.{Header}
+use Rattle.nc_base.specs.declared.request.Call.{Call}
+use Rattle.nc_base.specs.declared.script.Script.{Script}
+use Rattle.nc_base.specs.declared.step.Mark.{Mark}
+use Rattle.nc_base.specs.declared.step.Mark.TheVariants.{Meet, Solo}
+use Rattle.nc_base.specs.declared.step.Offer.{Offer}
+use Rattle.nc_base.specs.declared.step.Reply as reply
+use Rattle.serial_spec.specs.FileStep.{Setting, Counted, get_post, meeting, puts_of, raised, solo, told}
+use Rattle.serial_spec.specs.Layout.{greatest}
+use Rattle.serial_spec.specs.RankMachine.{pending}
+use Rattle.serial_spec.specs.Readings.{told_of}
+use Rattle.serial_spec.specs.SerialEnd.{Going, End, advance, close_by, count_after, first_state, hears, offers_of, serial_from, setting_of, state_after}
+use Rattle.run_laws.specs.Arrivals.{Arrived, Stand, ended_from, first_stand, heard, solo_to, step_to}
+use Rattle.run_laws.proofs.ArrivalLaws.{arrival_steps, first_up, gone_up, serial_of_arrivals}
+use Rattle.join_laws.specs.Alike.{blank, AllBeside, AreAlikeEnds, AreBeside, IsLike, TellAlike}
+use Rattle.join_laws.proofs.AlikeLaws.{advance_beside, hears_near, same_near}
+use Rattle.join_laws.proofs.OwnerAlikeLaws.{meeting_records, raised_records, solo_alike}
+use Rattle.join_laws.proofs.ReplyLaws.{gots_long}
+
+-- ---- ranks
+
+pub same_beside : (ranks : List Arrived) → AllBeside ranks ranks
+same_beside [] = tt
+same_beside (p ∷ ranks) = ((same_near p.0, refl), same_beside ranks)
+
+-- an offer, if there is one, before others
+abbrev before_others : Option Offer → List Offer → List Offer
+before_others None others = others
+before_others (Some o) others = o ∷ others
+
+offers_first : (p : Arrived) (ranks : List Arrived) → offers_of (p ∷ ranks) ≡ before_others p.1 (offers_of ranks)
+offers_first (g, None) ranks = refl
+offers_first (g, Some o) ranks = refl
+
+pub offers_beside : (one other : List Arrived) → AllBeside one other → offers_of one ≡ offers_of other
+offers_beside [] [] w = refl
+offers_beside [] (q ∷ other) w = absurd w
+offers_beside (p ∷ one) [] w = absurd w
+offers_beside (p ∷ one) (q ∷ other) w =
+    let again = offers_beside one other w.1 in
+    offers_first p one ∙ (λ i. before_others (w.0.1 i) (again i)) ∙ sym (offers_first q other)
+
+abbrev BesideAt : Option Arrived → Option Arrived → Type 0
+BesideAt None None = Unit {0}
+BesideAt (Some p) (Some q) = AreBeside p q
+BesideAt _ _ = ⊥
+
+at_beside : (one other : List Arrived) (r : ℕ) → AllBeside one other → BesideAt (slice_get one r) (slice_get other r)
+at_beside [] [] r w = tt
+at_beside [] (q ∷ other) r w = absurd w
+at_beside (p ∷ one) [] r w = absurd w
+at_beside (p ∷ one) (q ∷ other) zero w = w.0
+at_beside (p ∷ one) (q ∷ other) (suc r) w = at_beside one other r w.1
+
+set_beside : (one other : List Arrived) (r : ℕ) (p q : Arrived) → AllBeside one other → AreBeside p q → AllBeside (set one r p) (set other r q)
+set_beside [] [] r p q w v = tt
+set_beside [] (y ∷ other) r p q w v = absurd w
+set_beside (x ∷ one) [] r p q w v = absurd w
+set_beside (x ∷ one) (y ∷ other) zero p q w v = (v, w.1)
+set_beside (x ∷ one) (y ∷ other) (suc r) p q w v = (w.0, set_beside one other r p q w.1 v)
+
+-- ---- replies
+
+abbrev pub AllTell : List reply.Reply → List reply.Reply → Type 0
+AllTell [] [] = Unit {0}
+AllTell (y ∷ one) (z ∷ other) = TellAlike y z × AllTell one other
+AllTell _ _ = ⊥
+
+all_heard : (header : Header) (one other : List Arrived) (ys zs : List reply.Reply) → AllBeside one other → AllTell ys zs
+    → AllBeside (map (heard header) (zip one ys)) (map (heard header) (zip other zs))
+all_heard header [] [] ys zs w t = tt
+all_heard header [] (q ∷ other) ys zs w t = absurd w
+all_heard header (p ∷ one) [] ys zs w t = absurd w
+all_heard header (p ∷ one) (q ∷ other) [] [] w t = tt
+all_heard header (p ∷ one) (q ∷ other) [] (z ∷ zs) w t = absurd t
+all_heard header (p ∷ one) (q ∷ other) (y ∷ ys) [] w t = absurd t
+all_heard header (p ∷ one) (q ∷ other) (y ∷ ys) (z ∷ zs) w t =
+    (advance_beside header (hears header p.0 y) (hears header q.0 z) (hears_near header p.0 q.0 y z w.0.0 t.0), all_heard header one other ys zs w.1 t.1)
+
+each_tells : (f g : Offer → reply.Reply) → ((o : Offer) → TellAlike (f o) (g o)) → (offers : List Offer) → AllTell (map f offers) (map g offers)
+each_tells f g w [] = tt
+each_tells f g w (o ∷ offers) = (w o, each_tells f g w offers)
+
+meeting_tells : (s : Setting) (offers : List Offer) (c d : Counted) → c.records ≡ d.records → AllTell (meeting s offers c).1 (meeting s offers d).1
+meeting_tells s offers c d e =
+    let pair = told s (flat_map puts_of (enumerate_from 0 offers)) in
+    let one = (meeting s offers c).0 in
+    let two = (meeting s offers d).0 in
+    each_tells (λ o. record { pair = pair; records = one.records; got = map (get_post s one.file) o.batch.gets })
+    (λ o. record { pair = pair; records = two.records; got = map (get_post s two.file) o.batch.gets })
+    (λ o. record { pair = refl; records = meeting_records s offers c d e; lengths = gots_long s one.file o.batch.gets ∙ sym (gots_long s two.file o.batch.gets) })
+    offers
+
+-- ---- a step
+
+-- a meeting whose ranks hear these replies
+pub meets_like : (s : Setting) (x : Stand) (k m n : ℕ) (ranks : List Arrived) (replies : List reply.Reply) → IsLike x m ranks
+    → (meeting s (offers_of ranks) x.0).0.records ≡ n → AllTell (meeting s (offers_of ranks) x.0).1 replies
+    → IsLike (step_to s x (Meet k)) n (map (heard s.header) (zip ranks replies))
+meets_like s x k m n ranks replies w e t =
+    let same = offers_beside x.1 ranks w.beside in
+    record {
+      records = ap (λ (os : List Offer). (meeting s os x.0).0.records) same ∙ e;
+      beside = all_heard s.header x.1 ranks (meeting s (offers_of x.1) x.0).1 replies w.beside (subst (λ (os : List Offer). AllTell (meeting s os x.0).1 replies) (sym same) t);
+    }
+
+-- a solo step whose rank hears this reply
+pub solo_like : (s : Setting) (x : Stand) (r k n : ℕ) (ranks : List Arrived) (t : Going) (o : Offer) (y : reply.Reply) → IsLike x n ranks
+    → slice_get ranks r ≡ Some (t, Some o) → TellAlike (solo s r o x.0).1 y
+    → IsLike (step_to s x (Solo r k)) n (set ranks r (advance s.header (hears s.header t y)))
+solo_like s x r k n ranks t o y w e tells = by (slice_get x.1 r) (subst (λ (m : Option Arrived). BesideAt (slice_get x.1 r) m) e (at_beside x.1 ranks r w.beside))
+  where
+    by : (m : Option Arrived) → BesideAt m (Some (t, Some o))
+        → IsLike (elim m [ None ↦ x | Some a ↦ solo_to s r x.0 x.1 a ]) n (set ranks r (advance s.header (hears s.header t y)))
+    by None v = absurd v
+    by (Some (g, None)) v = absurd (never v.1)
+      where
+        never : None ≡ Some o → ⊥
+        never e = cc
+    by (Some (g, Some p)) v =
+        let same : o ≡ p = one_offer v.1 in
+        let heard_tells = subst (λ (q : Offer). TellAlike (solo s r q x.0).1 y) same tells in
+        record {
+          records = w.records;
+          beside = set_beside x.1 ranks r _ _ w.beside
+              (advance_beside s.header (hears s.header g (solo s r p x.0).1) (hears s.header t y) (hears_near s.header g t (solo s r p x.0).1 y v.0 heard_tells));
+        }
+      where
+        one_offer : Some p ≡ Some o → o ≡ p
+        one_offer e = cc
+
+abbrev AreLike : Stand → Stand → Type 0
+AreLike x y = IsLike x y.0.records y.1
+
+step_alike : (s : Setting) (x y : Stand) (m : Mark) → AreLike x y → AreLike (step_to s x m) (step_to s y m)
+step_alike s x y (Meet k) w =
+    meets_like s x k y.0.records (meeting s (offers_of y.1) y.0).0.records y.1 (meeting s (offers_of y.1) y.0).1 w
+    (meeting_records s (offers_of y.1) x.0 y.0 w.records) (meeting_tells s (offers_of y.1) x.0 y.0 w.records)
+step_alike s x y (Solo r k) w = by (slice_get y.1 r) refl
+  where
+    stays : (m : Option Arrived) (g : Going) → BesideAt m (Some (g, None)) → AreLike (elim m [ None ↦ x | Some a ↦ solo_to s r x.0 x.1 a ]) (solo_to s r y.0 y.1 (g, None))
+    stays None g v = absurd v
+    stays (Some (h, None)) g v = record { records = w.records; beside = set_beside x.1 y.1 r _ _ w.beside (advance_beside s.header h g v.0) }
+    stays (Some (h, Some p)) g v = absurd (never v.1)
+      where
+        never : Some p ≡ None → ⊥
+        never e = cc
+
+    none : (m : Option Arrived) → BesideAt m None → AreLike (elim m [ None ↦ x | Some a ↦ solo_to s r x.0 x.1 a ]) y
+    none None v = w
+    none (Some p) v = absurd v
+
+    by : (m : Option Arrived) → slice_get y.1 r ≡ m → AreLike (step_to s x (Solo r k)) (elim m [ None ↦ y | Some a ↦ solo_to s r y.0 y.1 a ])
+    by None e = none (slice_get x.1 r) (subst (λ (m : Option Arrived). BesideAt (slice_get x.1 r) m) e (at_beside x.1 y.1 r w.beside))
+    by (Some (g, None)) e = stays (slice_get x.1 r) g (subst (λ (m : Option Arrived). BesideAt (slice_get x.1 r) m) e (at_beside x.1 y.1 r w.beside))
+    by (Some (g, Some o)) e = solo_like s x r k y.0.records y.1 g o (solo s r o y.0).1 w e (solo_alike s r o x.0 y.0)
+
+pub steps_alike : (s : Setting) (x y : Stand) (order : List Mark) → AreLike x y → AreLike (fold (step_to s) x order) (fold (step_to s) y order)
+steps_alike s x y [] w = w
+steps_alike s x y (m ∷ order) w = steps_alike s (step_to s x m) (step_to s y m) order (step_alike s x y m w)
+
+pub first_alike : (header : Header) (file other : List ℕ) (calls : List (List Call)) → AreLike (first_stand header file calls) (first_stand header other calls)
+first_alike header file other calls = record { records = refl; beside = same_beside (first_stand header file calls).1 }
+
+-- ---- the close
+
+known_beside : (one other : List Arrived) → AllBeside one other → map (λ (g : Going). g.rank.known) (map (λ (a : Arrived). a.0) one) ≡ map (λ (g : Going). g.rank.known) (map (λ (a : Arrived). a.0) other)
+known_beside [] [] w = refl
+known_beside [] (q ∷ other) w = absurd w
+known_beside (p ∷ one) [] w = absurd w
+known_beside (p ∷ one) (q ∷ other) w = let again = known_beside one other w.1 in λ i. (w.0.0.rank i).known ∷ again i
+
+pending_beside : (one other : List Arrived) → AllBeside one other → map (λ (g : Going). pending g.rank) (map (λ (a : Arrived). a.0) one) ≡ map (λ (g : Going). pending g.rank) (map (λ (a : Arrived). a.0) other)
+pending_beside [] [] w = refl
+pending_beside [] (q ∷ other) w = absurd w
+pending_beside (p ∷ one) [] w = absurd w
+pending_beside (p ∷ one) (q ∷ other) w = let again = pending_beside one other w.1 in λ i. pending (w.0.0.rank i) ∷ again i
+
+answers_beside : (one other : List Arrived) → AllBeside one other
+    → map (map blank) (map (λ (g : Going). g.answers) (map (λ (a : Arrived). a.0) one)) ≡ map (map blank) (map (λ (g : Going). g.answers) (map (λ (a : Arrived). a.0) other))
+answers_beside [] [] w = refl
+answers_beside [] (q ∷ other) w = absurd w
+answers_beside (p ∷ one) [] w = absurd w
+answers_beside (p ∷ one) (q ∷ other) w = let again = answers_beside one other w.1 in λ i. w.0.0.answers i ∷ again i
+
+pub close_alike : (s : Setting) (x : Stand) (c : Counted) (ranks : List Arrived) → IsLike x c.records ranks
+    → AreAlikeEnds (close_by s x.0 (map (λ (a : Arrived). a.0) x.1)) (close_by s c (map (λ (a : Arrived). a.0) ranks))
+close_alike s x c ranks w = record {
+  records = raised_records s x.0 c (greatest (map (λ (g : Going). g.rank.known) (map (λ (a : Arrived). a.0) x.1))) w.records
+      ∙ ap (λ (ks : List ℕ). (raised s c (greatest ks)).records) (known_beside x.1 ranks w.beside);
+  answers = answers_beside x.1 ranks w.beside;
+  pending = pending_beside x.1 ranks w.beside;
+}
+
+-- ---- a run
+
+pub ends_alike : (script : Script) (header : Header) (file other : List ℕ) (order : List Mark) → AreAlikeEnds (serial_from script header file order) (serial_from script header other order)
+ends_alike script header file other order =
+    let s = setting_of script header in
+    let one = first_stand header file script.calls in
+    let two = first_stand header other script.calls in
+    let last = fold (step_to s) two order in
+    let alike = close_alike s (fold (step_to s) one order) last.0 last.1 (steps_alike s one two order (first_alike header file other script.calls)) in
+    subst (λ (e : End). AreAlikeEnds e (serial_from script header other order)) (sym (serial_of_arrivals script header file order))
+    (subst (λ (e : End). AreAlikeEnds (ended_from s one order) e) (sym (serial_of_arrivals script header other order)) alike)
+
+stand_after : (script : Script) (header : Header) (file : List ℕ) (order : List Mark)
+    → fold (step_to (setting_of script header)) (first_stand header file script.calls) order ≡ gone_up (setting_of script header) (state_after script header file order)
+stand_after script header file order =
+    let s = setting_of script header in
+    ap (λ (stand : Stand). fold (step_to s) stand order) (first_up header s file script.calls refl) ∙ arrival_steps s (first_state header file script.calls) order
+
+pub count_alike : (script : Script) (header : Header) (file other : List ℕ) (order : List Mark) (k : ℕ) → count_after script header file order k ≡ count_after script header other order k
+count_alike script header file other order k =
+    let s = setting_of script header in
+    ap (λ (stand : Stand). stand.0.records) (sym (stand_after script header file (take k order)))
+    ∙ (steps_alike s (first_stand header file script.calls) (first_stand header other script.calls) (take k order) (first_alike header file other script.calls)).records
+    ∙ ap (λ (stand : Stand). stand.0.records) (stand_after script header other (take k order))
+
+-- a mark with its number, told with the count after it
+abbrev told_with : (ℕ → ℕ) → ℕ × Mark → Mark × ℕ
+told_with count p = (p.1, count (p.0 + 1))
+
+counts_same : (f g : ℕ → ℕ) → ((k : ℕ) → f k ≡ g k) → (marks : List (ℕ × Mark)) → map (told_with f) marks ≡ map (told_with g) marks
+counts_same f g e [] = refl
+counts_same f g e (m ∷ marks) = let first = e (m.0 + 1) in let others = counts_same f g e marks in λ i. (m.1, first i) ∷ others i
+
+pub told_alike : (script : Script) (header : Header) (file other : List ℕ) (order : List Mark) → told_of script header file order ≡ told_of script header other order
+told_alike script header file other order =
+    counts_same (count_after script header file order) (count_after script header other order) (count_alike script header file other order) (enumerate_from 0 order)
