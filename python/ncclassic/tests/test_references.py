@@ -27,7 +27,7 @@ class References(unittest.TestCase):
 
 
 def written(path: str, version: int) -> None:
-    """A file by scipy with each type of CDF-1, a scalar, two record variables that need padding, and attributes."""
+    """A file by scipy with each type of CDF-1, two record variables that need padding, and attributes."""
     with netcdf_file(path, "w", version=version) as file:
         file.history = "made by a test"
         for name, length in (("time", None), ("y", 3), ("x", 5)):
@@ -36,7 +36,6 @@ def written(path: str, version: int) -> None:
             variable = file.createVariable(f"fixed_{kind}", kind, ("y", "x"))
             variable[:] = numpy.arange(15).reshape(3, 5) * (number + 1) - 7
             variable.units = "K"
-        file.createVariable("scalar", "d", ())[...] = 2.5
         text = file.createVariable("text", "c", ("x",))
         text[:] = numpy.array(list("hello"), dtype="S1")
         for kind in "hb":
@@ -44,6 +43,12 @@ def written(path: str, version: int) -> None:
         for record in range(4):
             file.variables["records_h"][record] = numpy.arange(5) + 100 * record
             file.variables["records_b"][record] = numpy.arange(5) + 10 * record
+
+
+def written_scalar(path: str, version: int) -> None:
+    """A file with a variable without dimensions, apart, since scipy lays one behind record variables, where the format has none."""
+    with netcdf_file(path, "w", version=version) as file:
+        file.createVariable("scalar", "d", ())[...] = 2.5
 
 
 def by_references(refs: dict[str, Any], name: str) -> Any:
@@ -63,15 +68,22 @@ def by_references(refs: dict[str, Any], name: str) -> Any:
 @unittest.skipIf(numpy is None, "no scipy")
 class ValuesThroughReferences(unittest.TestCase):
     def test_as_scipy_reads_them(self) -> None:
-        for version in (1, 2):
-            with self.subTest(version=version), tempfile.TemporaryDirectory() as room:
-                path = os.path.join(room, "made.nc")
-                written(path, version)
-                found = references(Header.read(path), path)
-                self.assertEqual(found["version"], 1)
-                self.assertEqual(json.loads(found["refs"][".zattrs"]), {"history": "made by a test"})
-                self.assertEqual(json.loads(found["refs"]["fixed_d/.zattrs"])["units"], "K")
-                with netcdf_file(path, "r", mmap=False) as file:
-                    self.assertEqual(len(file.variables), 9)
-                    for name, variable in file.variables.items():
-                        numpy.testing.assert_array_equal(by_references(found["refs"], name), variable[...])
+        for make, count in ((written, 8), (written_scalar, 1)):
+            for version in (1, 2):
+                with self.subTest(make=make.__name__, version=version), tempfile.TemporaryDirectory() as room:
+                    path = os.path.join(room, "made.nc")
+                    make(path, version)
+                    refs = references(Header.read(path), path)["refs"]
+                    with netcdf_file(path, "r", mmap=False) as file:
+                        self.assertEqual(len(file.variables), count)
+                        for name, variable in file.variables.items():
+                            numpy.testing.assert_array_equal(by_references(refs, name), variable[...])
+
+    def test_attributes(self) -> None:
+        with tempfile.TemporaryDirectory() as room:
+            path = os.path.join(room, "made.nc")
+            written(path, 1)
+            found = references(Header.read(path), path)
+        self.assertEqual(found["version"], 1)
+        self.assertEqual(json.loads(found["refs"][".zattrs"]), {"history": "made by a test"})
+        self.assertEqual(json.loads(found["refs"]["fixed_d/.zattrs"])["units"], "K")
