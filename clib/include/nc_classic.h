@@ -1,9 +1,9 @@
 /* nc_classic.h: files in the netCDF classic format (CDF-1, CDF-2 and CDF-5), by their bytes.
  *
- * The functions say what the header of a file holds and where the bytes of its variables lie. They do no input or
- * output, start no thread and keep nothing between two calls: what a call answers depends on its arguments alone, and
- * any number of threads may call at once. All numbers are counts of bytes or of elements; places in a file and places
- * in a list are counted from 0.
+ * The functions say what the header of a file holds, where the bytes of its variables lie, and whether requests share
+ * bytes. They do no input or output, start no thread and keep nothing between two calls: what a call answers depends on
+ * its arguments alone, and any number of threads may call at once. All numbers are counts of bytes or of elements;
+ * places in a file and places in a list are counted from 0.
  *
  * What a caller owes. Nothing can check it, and the proofs take it for granted:
  *   - A pointer points to as many items as the length after it says, and is never NULL: where the length is 0, pass the
@@ -45,11 +45,15 @@ enum {
 
     NCV_MEMORY = 1,    /* malloc gave NULL */
     NCV_HEADER = 2,    /* the bytes begin with no header: ncv_header_check says why */
-    NCV_TOO_LARGE = 3, /* a region of more than 2^20 elements, or an index map that reaches as far, or a region past the
-                          greatest record count or the greatest end of a file */
+    NCV_TOO_LARGE = 3, /* a region of more than 2^20 elements, or an index map that reaches as far, or a region or a file
+                          past the greatest record count or the greatest end of a file */
+    NCV_ARGUMENT = 4,  /* a number is outside the limits that the function names */
+    NCV_SHARED = 5,    /* two requests hold a byte in common */
 
     NCV_EINVALCOORDS = -40, /* a start is past the end of its dimension, or not one start, count and stride for each */
-    NCV_ENOTVAR = -49,      /* no variable has this number */
+    NCV_ENOTATT = -43,      /* no attribute has this number or name */
+    NCV_EBADDIM = -46,      /* no dimension has this number or name */
+    NCV_ENOTVAR = -49,      /* no variable has this number or name */
     NCV_EEDGE = -57,        /* the last element is past the end of its dimension */
     NCV_ESTRIDE = -58       /* a stride is 0 */
 };
@@ -101,6 +105,70 @@ typedef struct {
  */
 ncv_code ncv_header_check(const uint8_t *bytes, size_t len, ncv_counts *counts, ncv_fault *fault);
 
+/* The parts of a header, by a number, from 0, or by a name. Names are compared byte by byte, and of two parts with one
+ * name the first is found.
+ *
+ * A function that gives a part sets a struct of numbers, and copies the part's lists into arrays of the caller's: as many
+ * items as an array has room for, and what is behind them in the array stays as it was. The struct says how many there
+ * are. A name has no zero behind it: it is a C string in an array that was zero before and has more room than the name.
+ * An array that is not wanted has room 0.
+ *
+ * They answer NCV_OK; NCV_EBADDIM, NCV_ENOTVAR or NCV_ENOTATT, where there is no such part; NCV_HEADER or NCV_MEMORY. But
+ * for NCV_OK nothing is written. They take memory as ncv_header_check does. */
+
+typedef struct {
+    uint64_t length;   /* 0 for the record dimension */
+    uint64_t name_len; /* bytes of its name */
+} ncv_dim;
+
+ncv_code ncv_inq_dim(const uint8_t *bytes, size_t len, uint64_t number, uint8_t *name, size_t name_room, ncv_dim *dim);
+ncv_code ncv_inq_dimid(const uint8_t *bytes, size_t len, const uint8_t *name, size_t name_len, uint64_t *number);
+
+typedef struct {
+    uint64_t begin;    /* the byte of the file at which it begins */
+    uint64_t slab;     /* the bytes of its values, or of those of one record */
+    uint64_t vsize;    /* the slab rounded up to a multiple of 4 */
+    uint64_t dims;     /* how many dimensions it has */
+    uint64_t attrs;    /* how many attributes */
+    uint64_t name_len; /* bytes of its name */
+    uint32_t type;     /* the number of its type, as in netcdf.h: 1 for NC_BYTE to 11 for NC_UINT64 */
+    bool is_record;    /* its first dimension is the record dimension */
+} ncv_var;
+
+/* `ids` takes the numbers of its dimensions, the slowest first. */
+ncv_code ncv_inq_var(const uint8_t *bytes, size_t len, uint64_t number, uint8_t *name, size_t name_room, uint32_t *ids,
+                     size_t ids_room, ncv_var *var);
+ncv_code ncv_inq_varid(const uint8_t *bytes, size_t len, const uint8_t *name, size_t name_len, uint64_t *number);
+
+typedef struct {
+    uint64_t count;      /* how many values it has */
+    uint64_t values_len; /* their bytes */
+    uint64_t name_len;   /* bytes of its name */
+    uint32_t type;       /* the number of their type, as in netcdf.h */
+} ncv_att;
+
+#define NCV_GLOBAL UINT64_MAX /* in place of a variable's number: the dataset */
+
+/* An attribute of variable `owner`, or of the dataset. `values` takes its values as they stand in the file: big-endian. */
+ncv_code ncv_inq_att(const uint8_t *bytes, size_t len, uint64_t owner, uint64_t number, uint8_t *name, size_t name_room,
+                     uint8_t *values, size_t values_room, ncv_att *att);
+ncv_code ncv_inq_attid(const uint8_t *bytes, size_t len, uint64_t owner, const uint8_t *name, size_t name_len,
+                       uint64_t *number);
+
+typedef struct {
+    uint64_t record_size; /* bytes from one record of a variable to its next one; 0 without a record variable */
+    uint64_t end;         /* the length of the file in bytes: where the header or the last of its variables ends */
+} ncv_sizes;
+
+/* The sizes of a file that has this header and `records` records, whatever count the header has.
+ *
+ *   NCV_OK         *sizes is set
+ *   NCV_TOO_LARGE  the file would end at byte 2^62 or later, or `records` is 2^31 or more, in CDF-5 2^62 or more
+ *   NCV_HEADER, NCV_MEMORY
+ *
+ * But for NCV_OK nothing is written. Takes memory as ncv_header_check does. */
+ncv_code ncv_inq_sizes(const uint8_t *bytes, size_t len, uint64_t records, ncv_sizes *sizes);
+
 /* ---- regions ------------------------------------------------------------------------------------------------------ */
 
 /* Elements of a variable, as the forms vara, vars and varm of netCDF have them: one start, count and stride for each
@@ -117,6 +185,17 @@ typedef struct {
     const uint64_t *imap;
     size_t imaps;
 } ncv_region;
+
+typedef struct {
+    uint64_t bytes;   /* of its elements, without padding */
+    uint64_t records; /* the record count that a file needs to have it: its last record plus one; 0 for a variable without
+                         records, or a region without an element */
+} ncv_needs;
+
+/* Whether a region is accepted, and what it needs. `put` and `records` are those of ncv_extents, and so are the codes.
+ * *needs is set for NCV_OK alone. Takes memory as ncv_header_check does. */
+ncv_code ncv_region_check(const uint8_t *bytes, size_t len, const ncv_region *region, uint64_t records, bool put,
+                          ncv_needs *needs);
 
 /* Bytes of a file that follow one another. */
 typedef struct {
@@ -142,6 +221,49 @@ typedef struct {
  * But for NCV_OK nothing is written. Takes memory as ncv_header_check does, and none for the extents. */
 ncv_code ncv_extents(const uint8_t *bytes, size_t len, const ncv_region *region, uint64_t records, bool put,
                      uint64_t from, ncv_extent *into, size_t room, uint64_t *total);
+
+/* ---- several requests --------------------------------------------------------------------------------------------- */
+
+/* Bytes of a file that follow one another, and the request that holds them: the number of its rank, and its own number among
+ * those of the rank. One request may stand in any number of extents. */
+typedef struct {
+    uint64_t at;
+    uint64_t len;
+    uint32_t rank;
+    uint32_t request;
+} ncv_held;
+
+/* Two requests that hold a byte: the lesser by rank, then by number, is the first. */
+typedef struct {
+    uint64_t at; /* the byte */
+    uint32_t rank1;
+    uint32_t request1;
+    uint32_t rank2;
+    uint32_t request2;
+} ncv_pair;
+
+/* Whether no two requests hold a byte in common, as is asked of requests that are written at once. The extents may stand in
+ * any order.
+ *
+ *   NCV_OK         no two do
+ *   NCV_SHARED     *pair tells the least byte that two requests hold, and the two least of the requests that hold it
+ *   NCV_TOO_LARGE  an extent ends at byte 2^62 or later
+ *   NCV_MEMORY
+ *
+ * *pair is written for NCV_SHARED alone. Takes memory for the time of the call: 80 bytes for each extent. */
+ncv_code ncv_first_shared(const ncv_held *held, size_t count, ncv_pair *pair);
+
+/* The domain of one of several aggregators, where the bytes from `lo` up to `hi`, which is not one of them, are divided among
+ * them: `number` counts from 0. The domains stand one after another without a gap, each but the first begins at a multiple of
+ * `unit` (a striping unit, or 1), and each has the same whole number of units, the first and the last what lies within the
+ * bytes. A domain without bytes has length 0.
+ *
+ *   NCV_OK        *domain is set
+ *   NCV_ARGUMENT  lo is above hi, or hi is 2^62 or more; there are not 1 to 64 aggregators, or none has this number; unit is
+ *                 not 1 to 2^25. Nothing is written
+ *
+ * Takes no memory. */
+ncv_code ncv_domain(uint64_t lo, uint64_t hi, uint32_t aggregators, uint64_t unit, uint32_t number, ncv_extent *domain);
 
 #ifdef __cplusplus
 }

@@ -109,8 +109,23 @@ static void check_refusals(void)
     CHECK(ncv_extents(small_header, 100, &past, 2, false, 0, found, 4, &total) == NCV_HEADER);
 }
 
+static void check_needs(void)
+{
+    ncv_needs needs = {NONE, NONE};
+    ncv_region some = region(1, 2, (uint64_t[]){2, 0}, (uint64_t[]){2, 3}, (uint64_t[]){3, 1});
+    CHECK(ncv_region_check(small_header, SMALL_LENGTH, &some, 2, true, &needs) == NCV_OK);
+    CHECK(needs.bytes == 12 && needs.records == 6);
+    CHECK(ncv_region_check(small_header, SMALL_LENGTH, &some, 2, false, &needs) == NCV_EINVALCOORDS && needs.records == 6);
+    CHECK(ncv_region_check(small_header, 100, &some, 2, true, &needs) == NCV_HEADER && needs.records == 6);
+
+    ncv_region row = region(0, 1, (uint64_t[]){1}, (uint64_t[]){2}, ones);
+    CHECK(ncv_region_check(small_header, SMALL_LENGTH, &row, 2, false, &needs) == NCV_OK);
+    CHECK(needs.bytes == 8 && needs.records == 0);
+}
+
 void check_extents(void)
 {
+    check_needs();
     check_fixed();
     check_records();
     check_parts();

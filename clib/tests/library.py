@@ -1,8 +1,9 @@
 """The library's functions by ctypes, as plainly as they are declared in nc_classic.h."""
 import ctypes as c
 
-OK, MEMORY, HEADER, TOO_LARGE = 0, 1, 2, 3
-EINVALCOORDS, ENOTVAR, EEDGE, ESTRIDE = -40, -49, -57, -58
+OK, MEMORY, HEADER, TOO_LARGE, SHARED = 0, 1, 2, 3, 5
+EINVALCOORDS, ENOTATT, EBADDIM, ENOTVAR, EEDGE, ESTRIDE = -40, -43, -46, -49, -57, -58
+GLOBAL = 2**64 - 1
 
 
 class Fault(c.Structure):
@@ -11,6 +12,34 @@ class Fault(c.Structure):
 
 class Counts(c.Structure):
     _fields_ = [("version", c.c_uint32)] + [(name, c.c_uint64) for name in ("length", "records", "dims", "attrs", "vars")]
+
+
+class Dim(c.Structure):
+    _fields_ = [("length", c.c_uint64), ("name_len", c.c_uint64)]
+
+
+class Var(c.Structure):
+    _fields_ = [(name, c.c_uint64) for name in ("begin", "slab", "vsize", "dims", "attrs", "name_len")] + [("type", c.c_uint32), ("is_record", c.c_bool)]
+
+
+class Att(c.Structure):
+    _fields_ = [(name, c.c_uint64) for name in ("count", "values_len", "name_len")] + [("type", c.c_uint32)]
+
+
+class Sizes(c.Structure):
+    _fields_ = [("record_size", c.c_uint64), ("end", c.c_uint64)]
+
+
+class Needs(c.Structure):
+    _fields_ = [("bytes", c.c_uint64), ("records", c.c_uint64)]
+
+
+class Held(c.Structure):
+    _fields_ = [("at", c.c_uint64), ("len", c.c_uint64), ("rank", c.c_uint32), ("request", c.c_uint32)]
+
+
+class Pair(c.Structure):
+    _fields_ = [("at", c.c_uint64)] + [(name, c.c_uint32) for name in ("rank1", "request1", "rank2", "request2")]
 
 
 class Extent(c.Structure):
@@ -25,12 +54,30 @@ class Region(c.Structure):
                 ("stride", Numbers), ("strides", c.c_size_t), ("imap", Numbers), ("imaps", c.c_size_t)]
 
 
+BYTES = [c.c_char_p, c.c_size_t]
+
+FUNCTIONS = {
+    "header_check": [c.POINTER(Counts), c.POINTER(Fault)],
+    "inq_dim": [c.c_uint64, *BYTES, c.POINTER(Dim)],
+    "inq_dimid": [*BYTES, Numbers],
+    "inq_var": [c.c_uint64, *BYTES, c.POINTER(c.c_uint32), c.c_size_t, c.POINTER(Var)],
+    "inq_varid": [*BYTES, Numbers],
+    "inq_att": [c.c_uint64, c.c_uint64, *BYTES, *BYTES, c.POINTER(Att)],
+    "inq_attid": [c.c_uint64, *BYTES, Numbers],
+    "inq_sizes": [c.c_uint64, c.POINTER(Sizes)],
+    "region_check": [c.POINTER(Region), c.c_uint64, c.c_bool, c.POINTER(Needs)],
+    "extents": [c.POINTER(Region), c.c_uint64, c.c_bool, c.c_uint64, c.POINTER(Extent), c.c_size_t, Numbers],
+}
+
+
 def loaded(path):
+    """The library, of which each function of FUNCTIONS takes the header's bytes before the arguments that stand there."""
     lib = c.CDLL(path)
-    lib.ncv_header_check.argtypes = [c.c_char_p, c.c_size_t, c.POINTER(Counts), c.POINTER(Fault)]
-    lib.ncv_header_check.restype = c.c_int32
-    lib.ncv_extents.argtypes = [c.c_char_p, c.c_size_t, c.POINTER(Region), c.c_uint64, c.c_bool, c.c_uint64, c.POINTER(Extent), c.c_size_t, Numbers]
-    lib.ncv_extents.restype = c.c_int32
+    lib.ncv_first_shared.argtypes, lib.ncv_first_shared.restype = [c.POINTER(Held), c.c_size_t, c.POINTER(Pair)], c.c_int32
+    lib.ncv_domain.argtypes, lib.ncv_domain.restype = [c.c_uint64, c.c_uint64, c.c_uint32, c.c_uint64, c.c_uint32, c.POINTER(Extent)], c.c_int32
+    for name, arguments in FUNCTIONS.items():
+        function = getattr(lib, f"ncv_{name}")
+        function.argtypes, function.restype = [*BYTES, *arguments], c.c_int32
     return lib
 
 

@@ -33,7 +33,9 @@ int main(void)
 {
     CHECK(strncmp(ncv_version(), "nc_classic ", 11) == 0);
     check_headers();
+    check_parts_of_header();
     check_extents();
+    check_overlaps();
     check_memory();
     printf("C tests: %u passed, %u failed\n", passed, failed);
     return failed != 0;

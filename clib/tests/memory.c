@@ -21,6 +21,23 @@ static bool extents_are_kept(void)
         && found.len == 7 && total == 7;
 }
 
+static bool parts_are_kept(void)
+{
+    uint8_t name = 7;
+    uint32_t id = 7;
+    ncv_var var = {.begin = 7};
+    uint64_t number = 7;
+    return ncv_inq_var(small_header, SMALL_LENGTH, 0, &name, 1, &id, 1, &var) == NCV_MEMORY && var.begin == 7 && name == 7
+        && id == 7 && ncv_inq_dimid(small_header, SMALL_LENGTH, (const uint8_t *)"x", 1, &number) == NCV_MEMORY && number == 7;
+}
+
+static bool pair_is_kept(void)
+{
+    const ncv_held held[] = {{8, 4, 1, 0}, {0, 9, 0, 0}};
+    ncv_pair pair = {.at = 7};
+    return ncv_first_shared(held, 2, &pair) == NCV_MEMORY && pair.at == 7;
+}
+
 /* How many calls for memory the test takes before it is no more refused. */
 static long refusals(bool (*is_kept)(void))
 {
@@ -40,4 +57,6 @@ void check_memory(void)
 {
     CHECK(refusals(header_is_kept) > 10);
     CHECK(refusals(extents_are_kept) > 10);
+    CHECK(refusals(parts_are_kept) > 10);
+    CHECK(refusals(pair_is_kept) > 0);
 }

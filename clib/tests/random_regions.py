@@ -3,10 +3,10 @@
 
   random_regions.py LIBRARY COUNT [SEED]     LIBRARY: libnc_classic.so
 """
-import itertools, random, sys
+import ctypes as c, itertools, math, random, sys
 
 from files import SIZES, random_file
-from library import EEDGE, EINVALCOORDS, ENOTVAR, ESTRIDE, OK, TOO_LARGE, extents, loaded, region_of
+from library import EEDGE, EINVALCOORDS, ENOTVAR, ESTRIDE, OK, TOO_LARGE, Needs, extents, loaded, region_of
 
 MOST_ELEMENTS = 2**20
 
@@ -27,15 +27,18 @@ def refusal(file, var, start, count, stride, imap, records, put):
         return EINVALCOORDS
     if any(end is not None and n > 0 and s + (n - 1) * d >= end for end, s, n, d in zip(ends, start, count, stride)):
         return EEDGE
-    elements = 1
-    for n in count:
-        elements *= n
+    elements = math.prod(count)
     if elements > MOST_ELEMENTS or imap and elements and sum((n - 1) * m for n, m in zip(count, imap)) >= MOST_ELEMENTS:
         return TOO_LARGE
-    needed = start[0] + (count[0] - 1) * stride[0] + 1 if file.is_record(file.vars[var]) and elements else 0
+    needed = records_of(file, var, start, count, stride)
     if needed >= (2**62 if file.version == 5 else 2**31) or file.end(needed) >= 2**62:
         return TOO_LARGE
     return OK
+
+
+def records_of(file, var, start, count, stride):
+    """The record count that a file needs to have the region."""
+    return start[0] + (count[0] - 1) * stride[0] + 1 if file.is_record(file.vars[var]) and 0 not in count else 0
 
 
 def expected(file, var, start, count, stride):
@@ -81,11 +84,15 @@ def main(path, count, seed=1):
         var, start, size, stride, imap = asked = random_region(rng, file, put, records)
         wanted = refusal(file, *asked, records, put)
         region = region_of(var, start, size, stride, imap)
+        needs = Needs()
+        assert lib.ncv_region_check(header, len(header), c.byref(region), records, put, c.byref(needs)) == wanted
         code, found, total = extents(lib, header, region, records, put, 4096)
         assert code == wanted, f"region {number}: code {code}, wanted {wanted}: {asked} of {file}"
         if code != OK:
             continue
         taken += 1
+        assert needs.bytes == math.prod(size) * SIZES[file.vars[var].kind]
+        assert needs.records == records_of(file, var, start, size, stride)
         places = expected(file, var, start, size, stride)
         assert found == places and total == len(places), f"region {number}: {found} of {total}, wanted {places}: {asked} of {file}"
         # Part by part.

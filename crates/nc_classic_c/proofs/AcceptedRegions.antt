@@ -14,6 +14,7 @@ use Rattle.serial_spec.specs.Records.{records_of}
 use Rattle.serial_spec.specs.Limits.{most_elements, record_limit, file_limit}
 use Rattle.serial_spec.specs.RegionCheck.{check, check_some, check_var, asks_too_much, last_position}
 use Rattle.vara_extents.specs.Joined.{joined_to, joined, extents_of, element_extents}
+use Rattle.vara_extents.specs.Accepted.{IsAccepted}
 use Rattle.vara_extents.proofs.AcceptedLaws.{passed}
 use Rattle.vara_extents.proofs.NumberLaws.{length-element_extents}
 use Rattle.list_laws.proofs.Optional.{if_some_at}
@@ -58,6 +59,10 @@ pub few_extents : (header : Header) (v : Var) (g : Region) (known : ℕ) (direct
 few_extents header v g known direction h =
     let all = passed header v g known direction h in
     omega (arith, joined_fewer (element_extents header v g), length-element_extents header v g, few_elements header v g all.large)
+
+pub few_of_accepted : (header : Header) (k : ℕ) (v : Var) (g : Region) → slice_get header.vars k ≡ Some v → IsAccepted header k g → product g.count ≤ 2 ^ 20
+few_of_accepted header k v g there h =
+    few_elements header v g (passed header v g h.0 h.1 (ap (λ (o : Option Var). check_some header o g h.0 h.1) (sym there) ∙ h.2)).large
 
 -- ---- what an accepted region tells
 

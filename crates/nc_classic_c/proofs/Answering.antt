@@ -24,6 +24,8 @@ number_small : (r : Refusal) → SFits w32 (number_of r)
 number_small refusal.Memory = sfits_lit tt
 number_small (refusal.Header e) = sfits_lit tt
 number_small (refusal.Asked c) = code_small c
+number_small refusal.NoAttribute = sfits_lit tt
+number_small refusal.Shared = sfits_lit tt
 
 -- a refusal's number that is returned
 pub number_kept : (n : ℤ) (r : Refusal) → n ≡ number_of r → to_z w32 (of_z w32 n) ≡ number_of r

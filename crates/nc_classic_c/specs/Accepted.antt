@@ -30,6 +30,7 @@ IsRegionRefusal bytes asked known put refusal.Memory = Unit {0}
 IsRegionRefusal bytes asked known put (refusal.Header e) = HasFault (first_bytes bytes) e
 IsRegionRefusal bytes asked known put (refusal.Asked c) =
     (header : Header) × IsHeaderOf bytes header × (c ≡ code_of header asked known put) × (c ≡ code.Ok → ⊥)
+IsRegionRefusal bytes asked known put _ = ⊥
 
 pub record Accepts (bytes : List ℕ) (asked : NcvRegion) (known : ℕ) (put : Bool) (a : Accepted) : Type 0 where
   pub header : IsHeaderOf bytes a.header

@@ -24,6 +24,8 @@ abbrev pub number_of : Refusal → ℤ
 number_of refusal.Memory = pos 1
 number_of (refusal.Header e) = pos 2
 number_of (refusal.Asked c) = code_number c
+number_of refusal.NoAttribute = negsuc 42
+number_of refusal.Shared = pos 5
 
 -- want of memory is no fault of the bytes
 abbrev pub refusal_of : HeaderErr → Refusal

@@ -20,4 +20,4 @@ IsHeaderOf bytes header = BeginsWith (first_bytes bytes) header (header_len head
 abbrev pub IsHeaderRefusal : List ℕ → Refusal → Type 0
 IsHeaderRefusal bytes refusal.Memory = Unit {0}
 IsHeaderRefusal bytes (refusal.Header e) = HasFault (first_bytes bytes) e
-IsHeaderRefusal bytes (refusal.Asked c) = ⊥
+IsHeaderRefusal bytes _ = ⊥

@@ -1,7 +1,12 @@
 pub mod Accepted
 pub mod Answers
 pub mod Counts
+pub mod Domains
 pub mod Extents
 pub mod Faults
 pub mod Headers
+pub mod Looks
+pub mod Overlaps
+pub mod Parts
 pub mod Regions
+pub mod Sizes

@@ -15,6 +15,10 @@ pub enum Refusal {
     Header(HeaderErr),
     /// What is asked for is refused.
     Asked(Code),
+    /// No attribute has this number or name.
+    NoAttribute,
+    /// Two requests hold a byte in common.
+    Shared,
 }
 
 impl From<Memory> for Refusal {
@@ -46,6 +50,8 @@ pub(crate) fn number_of(refusal: Refusal) -> i32
         Refusal::Memory => 1,
         Refusal::Header(_) => 2,
         Refusal::Asked(code) => code_number(code),
+        Refusal::NoAttribute => -43,
+        Refusal::Shared => 5,
     }
 }
 

@@ -6,13 +6,30 @@
 
 mod accepted;
 mod answers;
+mod attributes;
+mod copies;
+mod dimensions;
+mod domains;
 mod extents;
 mod faults;
 mod header_check;
 mod headers;
+mod looks;
+mod needs;
+mod overlaps;
 mod regions;
+mod sizes;
+mod types;
+mod variables;
 
+pub use attributes::{NcvAtt, ncv_inq_att, ncv_inq_attid};
+pub use dimensions::{NcvDim, ncv_inq_dim, ncv_inq_dimid};
+pub use domains::ncv_domain;
 pub use extents::{NcvExtent, ncv_extents};
 pub use faults::NcvFault;
 pub use header_check::{NcvCounts, ncv_header_check};
+pub use needs::{NcvNeeds, ncv_region_check};
+pub use overlaps::{NcvHeld, NcvPair, ncv_first_shared};
 pub use regions::NcvRegion;
+pub use sizes::{NcvSizes, ncv_inq_sizes};
+pub use variables::{NcvVar, ncv_inq_var, ncv_inq_varid};

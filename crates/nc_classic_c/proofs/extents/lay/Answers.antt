@@ -1,5 +1,5 @@
 -- The extents are laid one by one.
-use Rattle.std.proofs.Common.{◌≡◌, ◌+◌, List, ap, sym, subst, arith, ◌∙◌}
+use Rattle.std.proofs.Common.{◌+◌, List, ap, sym, subst, arith, ◌∙◌}
 use Rattle.std.specs.Prelude.{map}
 use Rattle.std.proofs.lemmas.List.{length-map}
 use Rattle.nc_base.specs.declared.plan.Extent.{Extent}

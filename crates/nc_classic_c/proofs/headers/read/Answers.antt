@@ -2,7 +2,7 @@
 use Rattle.std.proofs.Common.{ℕ, List, ◌≡◌, ◌⊎◌, sym, subst}
 use Rattle.nc_base.specs.declared.errors.HeaderErr.TheVariants as fault
 use Rattle.serial_spec.specs.HeaderFaults.{HasFault}
-use Rattle.nc_classic_c.specs.Headers.{first_bytes, IsHeaderRefusal}
+use Rattle.nc_classic_c.specs.Headers.{IsHeaderRefusal}
 use Rattle.nc_classic_c.specs.declared.answers.Refusal.{Refusal}
 use Rattle.nc_classic_c.proofs.Refusing.{refused_header}
 use Rattle.nc_classic_c.proofs.headers.read.Goals as goal

@@ -1,0 +1,54 @@
+-- Entries of several requests, in any order, hold what the requests hold.
+use Rattle.std.proofs.Common.{◌≡◌, ℕ, ◌+◌, ◌<◌, ◌^◌, List, [], ◌∷◌, true, inl, inr, refl, ap, subst, ◌∙◌}
+use Rattle.std.specs.Prelude.{map}
+use Rattle.std.specs.List.{range_with_len}
+use Rattle.std.specs.List.Sorted.{IsPermutation}
+use borrow.Author.Tests.{ltb-true}
+use Rattle.list_laws.proofs.Truth.{and_first, and_second}
+use Rattle.nc_base.specs.declared.plan.Extent.{Extent}
+use Rattle.nc_base.specs.declared.plan.Owned.{Owned}
+use Rattle.serial_spec.specs.Lists.{In}
+use Rattle.serial_spec.specs.SharedByte.{Key, Holds, holdings_of_entries, shared_pair_of}
+use Rattle.serial_spec.proofs.PairLaws.{same_pair}
+use Rattle.overlay_laws.specs.Lines.{extents, EndBelow}
+use Rattle.overlay_laws.proofs.EntryLaws.{same_permuted}
+use Rattle.overlay_laws.proofs.HolderLaws.{holder_of, holds_by}
+use Rattle.overlay_laws.proofs.Members.{map_in}
+use Rattle.nc_classic_c.specs.declared.overlaps.NcvHeld.{NcvHeld}
+use Rattle.nc_classic_c.specs.Overlaps.{holdings, ends_low, ends_are_low, entry}
+
+abbrev key : Owned → Key
+key o = (o.rank, o.request)
+
+abbrev bytes : Owned → List ℕ
+bytes o = range_with_len o.extent.at o.extent.len
+
+-- ---- what they hold
+
+held_by : (xs ys : List Owned) → ((o : Owned) → In xs o → In ys o) → (k : Key) (x : ℕ) → Holds (holdings_of_entries xs) k x → Holds (holdings_of_entries ys) k x
+held_by xs ys moved k x h =
+    let r = holder_of key bytes xs k x h in
+    holds_by key bytes ys k x r.holder (moved r.holder r.is_one) r.rank r.request r.has
+
+entries_hold : (held : List NcvHeld) → holdings_of_entries (map entry held) ≡ holdings held
+entries_hold [] = refl
+entries_hold (h ∷ hs) = ap (λ l. ((h.rank, h.request), range_with_len h.at h.len) ∷ l) (entries_hold hs)
+
+pub pair_of_entries : (held : List NcvHeld) (list : List Owned) → IsPermutation (map entry held) list → shared_pair_of (holdings_of_entries list) ≡ shared_pair_of (holdings held)
+pair_of_entries held list p =
+    let same = same_permuted (map entry held) list p in
+    same_pair (holdings_of_entries list) (holdings_of_entries (map entry held)) (held_by list (map entry held) same.1) (held_by (map entry held) list same.0)
+    ∙ ap shared_pair_of (entries_hold held)
+
+-- ---- where they end
+
+held_low : (held : List NcvHeld) → ends_are_low held ≡ true → (o : Owned) → In (map entry held) o → o.extent.at + o.extent.len < 2 ^ 62
+held_low [] h o m = absurd m
+held_low (x ∷ xs) h o (inl e) =
+    subst (λ (o : Owned). o.extent.at + o.extent.len < 2 ^ 62) e (ltb-true (x.at + x.len) (2 ^ 62) (and_first (ends_low x) (ends_are_low xs) h))
+held_low (x ∷ xs) h o (inr m) = held_low xs (and_second (ends_low x) (ends_are_low xs) h) o m
+
+pub entries_low : (held : List NcvHeld) (list : List Owned) → ends_are_low held ≡ true → IsPermutation (map entry held) list → EndBelow (2 ^ 62) (extents list)
+entries_low held list h p e m =
+    let o = map_in (λ o. o.extent) list e m in
+    subst (λ (e : Extent). e.at + e.len < 2 ^ 62) o.2 (held_low held h o.0 ((same_permuted (map entry held) list p).1 o.0 o.1))

@@ -1,0 +1,30 @@
+-- The domain is the one that is cut.
+use Rattle.std.proofs.Common.{inl, inr, refl, sym, ◌∙◌}
+use Rattle.nc_base.specs.declared.answer.Code.TheVariants as code
+use Rattle.nc_classic_c.specs.declared.answers.Refusal.TheVariants as refusal
+use Rattle.nc_classic_c.proofs.Answering.{number_kept}
+use Rattle.nc_classic_c.proofs.DomainLaws.{asked_within}
+use Rattle.nc_classic_c.proofs.domains.ncv_domain.Goals as goal
+
+pub cut-found-requires : goal.cut-found-requires
+cut-found-requires c =
+    let w = asked_within c.args.lo c.args.hi c.args.aggregators c.args.unit c.args.number (sym c.is_asked.ensures ∙ c.if-is_asked.true) in
+    record { order = w.order; limit = w.limit; number = w.number; few = w.few; least_unit = w.least_unit; greatest_unit = w.greatest_unit }
+
+pub returns-then-is_asked : goal.returns-then-is_asked
+returns-then-is_asked c =
+    inl (
+      refl,
+      record {
+        begin = c.cut-found.ensures.begin;
+        end = c.cut-found.ensures.end;
+      },
+    )
+
+pub returns-else-is_asked : goal.returns-else-is_asked
+returns-else-is_asked c =
+    inr (
+      refusal.Asked code.EInvalRequest,
+      number_kept c.number_of.result (refusal.Asked code.EInvalRequest) c.number_of.ensures,
+      ((refl, sym c.is_asked.ensures ∙ c.if-is_asked.false), refl),
+    )

@@ -1,0 +1,23 @@
+-- Slab and vsize are those of the variable that stands there.
+use Rattle.std.proofs.Common.{◌≡◌}
+use Rattle.std.specs.Prelude.{slice_get}
+use Rattle.list_laws.proofs.Optional.{if_some_at}
+use Rattle.nc_base.specs.declared.header.Var.{Var}
+use Rattle.serial_spec.specs.Layout as layout
+use Rattle.nc_classic_c.proofs.VarLaws.{there_below}
+use Rattle.nc_classic_c.proofs.variables.var_shown.Goals as goal
+
+pub slab-requires-clause-there : goal.slab-requires-clause-there
+slab-requires-clause-there c = there_below c.args.header.now.vars c.args.number c.args.var.now c.requires.there
+
+pub vsize-requires-clause-there : goal.vsize-requires-clause-there
+vsize-requires-clause-there c = there_below c.args.header.now.vars c.args.number c.args.var.now c.requires.there
+
+pub returns : goal.returns
+returns c =
+    let o = slice_get c.args.header.now.vars c.args.number in
+    let slab : c.slab.result ≡ layout.slab c.args.header.now c.args.var.now =
+    if_some_at (λ (v : Var). c.slab.result ≡ layout.slab c.args.header.now v) o c.args.var.now c.requires.there c.slab.ensures.value in
+    let vsize : c.vsize.result ≡ layout.vsize c.args.header.now c.args.var.now =
+    if_some_at (λ (v : Var). c.vsize.result ≡ layout.vsize c.args.header.now v) o c.args.var.now c.requires.there c.vsize.ensures.value in
+    cc (slab, vsize)
