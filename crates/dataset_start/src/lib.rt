@@ -11,6 +11,7 @@ mod stop;
 mod streams;
 
 pub use existing::read_header;
-pub use start::{Ready, begin, make_ready};
+pub use script::take_script;
+pub use start::{Ready, begin, laid_out, make_ready};
 pub use stop::Stop;
 pub use streams::{TakeErr, give_all};

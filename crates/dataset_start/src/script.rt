@@ -16,7 +16,7 @@ use ncmpi_script::read_script;
 use std::alloc::Global;
 
 /// Takes the source to its end, and reads the script that it has.
-pub(crate) fn take_script<S: Source>(alloc: Global, source: &mut S) -> Result<Script, Stop>
+pub fn take_script<S: Source>(alloc: Global, source: &mut S) -> Result<Script, Stop>
     ensures asks { IfOk result (λ script. Asks (S.left source.old) script) }
     ensures read { IfOk result IsRead }
     ensures taken { OnOk result (S.left source.new ≡ after (λ _. []) (S.left source.old)) }

@@ -89,8 +89,8 @@ pub fn make_ready<D: Disk>(
     }
 }
 
-// The header of the dataset that the script creates.
-fn laid_out(alloc: Global, script: &Script) -> Result<Header, Stop>
+/// The header of the dataset that the script creates.
+pub fn laid_out(alloc: Global, script: &Script) -> Result<Header, Stop>
     requires kept { IsKept script.now }
     requires fresh { script.now.fresh ≡ true }
     ensures header { IfOk result (λ header. header ≡ created_header script.now) }
