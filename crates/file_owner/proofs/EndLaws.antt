@@ -106,6 +106,13 @@ module _ (hints : Hints) (s : Setting) (old now : Receiver RankItem) (left : Lis
     heard = o.heard_all ∙ (o.run.moved.alike file).heard;
   }
 
+  pub out_records : of_fault h ≡ None → (file : List ℕ) → n ≡ (served s (owner_at before file) (arrived old now)).owner.state.records
+  out_records f file =
+      let was = left_at s o.middle o.later (stopped_with n held made marks heard lines) h o.halted f in
+      was.records ∙ sym (ap (λ (d : Owner). d.state.records) (o.run.moved.alike file).owner)
+      ∙ ap (λ (d : Owner). d.state.records) (sym ((on file).owner ∙ (at file f).owner))
+      ∙ ap (λ (xs : List Arrival). (served s (owner_at before file) xs).owner.state.records) (sym arrivals_are)
+
   told_so : (m : Option (List ℕ)) → before.told ≡ m → IfSome m (λ file. GoesSo (HoldSingle before.clients × AreSingle o.first) (run s (owner_at before file) o.first) (owner_calls hints s (owner_at before file) o.first) o.run.moved.more before o.middle)
   told_so m e = subst (λ (t : Option (List ℕ)). IfSome t (λ file. GoesSo (HoldSingle before.clients × AreSingle o.first) (run s (owner_at before file) o.first) (owner_calls hints s (owner_at before file) o.first) o.run.moved.more before o.middle)) e o.run.moved.exact
 

@@ -11,7 +11,7 @@ use Rattle.nc_base.specs.declared.step.RankItem.{RankItem}
 use Rattle.nc_base.specs.declared.step.StepErr.{StepErr}
 use Rattle.nc_outside.specs.Told.{with_end}
 use Rattle.ruled_line.specs.Ends.{End, Receiver}
-use Rattle.serial_spec.specs.Owner.{Owner, Client, free_client}
+use Rattle.serial_spec.specs.Owner.{Owner, Client, free_client, served}
 use Rattle.serial_spec.specs.FileStep.{Setting}
 use Rattle.collective_round.specs.Rounds.{counted}
 use Rattle.file_owner.specs.Halted.{of_fault, of_stranger, HasHalted, HasSeenAll, Outcome, taken_from, stopped_with}
@@ -20,7 +20,7 @@ use Rattle.file_owner.specs.Refused.{HasCutService}
 use Rattle.file_owner.specs.Service.{arrived, gained, opening, HasFailed, HasTaken, HasToldAlong, HavePut, IsDone, IsDoneSo, passed}
 use Rattle.file_owner.specs.declared.service.Halt.{Halt}
 use Rattle.file_owner.specs.declared.service.Halt.TheVariants as halt
-use Rattle.file_owner.proofs.EndLaws.{out_taken, out_put, out_done, out_told, out_bytes, out_calls, out_failed, out_cut}
+use Rattle.file_owner.proofs.EndLaws.{out_taken, out_put, out_done, out_records, out_told, out_bytes, out_calls, out_failed, out_cut}
 use Rattle.list_laws.proofs.Places.{entry_replicate}
 
 -- ---- from the opening
@@ -60,6 +60,12 @@ module _ (hints : Hints) (s : Setting) (old now : Receiver RankItem) (left : Lis
       (subst (λ (l : ℕ). IsDone s (opening old.senders (counted file k)) (passed (arrived old now) l (gained back0 lines)) marks (of_stranger h)) long
       (subst (λ (d : Owner). IsDone s d (passed (arrived old now) (length back0) (gained back0 lines)) marks (of_stranger h)) (opened file)
       (out_done hints s old now left (opening_standing old.senders n0 held0 made0 heard0 back0) n held made marks heard lines h o refl (sym e ∙ g) file)))
+
+  pub end_records : (fault : Option StepErr) → fault ≡ of_fault h → fault ≡ None → (file : List ℕ)
+      → n ≡ (served s (opening old.senders (counted file k)) (arrived old now)).owner.state.records
+  end_records fault e g file =
+      out_records hints s old now left (opening_standing old.senders n0 held0 made0 heard0 back0) n held made marks heard lines h o (sym e ∙ g) file
+      ∙ ap (λ (d : Owner). (served s d (arrived old now)).owner.state.records) (opened file)
 
   pub end_bytes : (fault : Option StepErr) → fault ≡ of_fault h → fault ≡ None
       → IfSome held0 (λ file. IsDoneSo s (opening old.senders (counted file k)) (passed (arrived old now) old.senders (gained back0 lines)) held n)

@@ -4,7 +4,7 @@ ghost use Rattle.nc_base.specs.declared.step.StepErr.{StepErr as Fault};
 ghost use Rattle.nc_base.specs.declared.step.StepErr.TheVariants as fault;
 ghost use Rattle.nc_outside.specs.Cause.{Rose};
 ghost use Rattle.nc_outside.specs.Told.{with_end};
-ghost use Rattle.serial_spec.specs.Owner.{free_client};
+ghost use Rattle.serial_spec.specs.Owner.{free_client, served};
 ghost use Rattle.serial_spec.specs.History.{Arrival};
 ghost use Rattle.serial_spec.specs.HeaderBytes.{header_len};
 ghost use Rattle.serial_spec.specs.SoundHeaders.{is_sound};
@@ -88,6 +88,8 @@ pub fn serve<R: Threads + Wait + Sync, D: Disk, G: Gate, T: Told>(
     // Without a fault, by the bytes of the file where they are told, and else up to those of gets.
     ensures done { result.fault ≡ None → (file : List ℕ) → IsDone (setting header.now hints.now) (opening inbox.old.senders (counted file header.now.records))
         (passed (arrived inbox.old inbox.new) inbox.old.senders (gained back.old back.new)) result.order result.stranger }
+    ensures records { result.fault ≡ None → (file : List ℕ)
+        → records.new ≡ (served (setting header.now hints.now) (opening inbox.old.senders (counted file header.now.records)) (arrived inbox.old inbox.new)).owner.state.records }
     ensures bytes { result.fault ≡ None → IfSome (D.held disk.old) (λ file. IsDoneSo (setting header.now hints.now) (opening inbox.old.senders (counted file header.now.records))
         (passed (arrived inbox.old inbox.new) inbox.old.senders (gained back.old back.new)) (D.held disk.new) records.new) }
     ensures calls { result.fault ≡ None → AreSingle (arrived inbox.old inbox.new) → IfSome (D.held disk.old) (λ file. D.calls disk.new ≡ with_end (D.calls disk.old)

@@ -6,7 +6,7 @@ use Rattle.turn_run.specs.Counts.{IsCount}
 use Rattle.file_owner.specs.Service.{arrived}
 use Rattle.owner_laws.proofs.ServedLaws.{cut_by_arrivals, done_by_arrivals}
 use Rattle.file_owner.proofs.EndLaws.{outcome_given}
-use Rattle.file_owner.proofs.HaltedLaws.{end_bytes, end_calls, end_cut, end_done, end_failed, end_put, end_taken, end_told}
+use Rattle.file_owner.proofs.HaltedLaws.{end_bytes, end_calls, end_cut, end_done, end_failed, end_put, end_records, end_taken, end_told}
 use Rattle.file_owner.proofs.service.serve.Goals as goal
 
 pub serve_to_end-order-requires-clause-count : goal.serve_to_end-order-requires-clause-count
@@ -62,6 +62,17 @@ returns-clause-done_by_arrivals g c = λ none.
     let done = returns-clause-done g c none [] in
     done_by_arrivals (setting c.args.header.now c.args.hints.now) c.args.inbox.now.senders (counted [] c.args.header.now.records) (arrived c.args.inbox.now c.serve_to_end-order.new.inbox) _ _
     (returns-clause-taken g c).numbers done.order done.stranger
+
+pub returns-clause-records : goal.returns-clause-records
+returns-clause-records g c =
+    let disk : c.disk-1.given.0 ≡ c.serve_to_end-order.new.out.disk.now = search rules in
+    let records : c.records-1.given.0 ≡ c.serve_to_end-order.new.out.records.now = search rules in
+    let told : c.told-1.given.0 ≡ c.serve_to_end-order.new.out.told.now = search rules in
+    let back : c.back-1.given.0 ≡ c.serve_to_end-order.new.out.back.now = search rules in
+    end_records c.args.hints.now (setting c.args.header.now c.args.hints.now) c.args.inbox.now c.serve_to_end-order.new.inbox c.serve_to_end-order.ensures.outcome.0 c.args.records.now (g.D.Disk.held c.args.disk.now) (g.D.Disk.calls c.args.disk.now) (g.T.Told.heard c.args.told.now) c.args.back.now
+    c.records-1.given.0 (g.D.Disk.held c.disk-1.given.0) (g.D.Disk.calls c.disk-1.given.0) c.serve_to_end-order.result.0 (g.T.Told.heard c.told-1.given.0) c.back-1.given.0 c.serve_to_end-order.result.1
+    (outcome_given g.D.Disk g.T.Told _ _ _ _ _ _ c.serve_to_end-order.new.out _ _ c.disk-1.given.0 c.records-1.given.0 c.told-1.given.0 c.back-1.given.0 disk records told back c.serve_to_end-order.ensures.outcome.1)
+    c.args.header.now.records c.requires.records c.requires.lines c.fault_of.result c.fault_of.ensures
 
 pub returns-clause-bytes : goal.returns-clause-bytes
 returns-clause-bytes g c =
