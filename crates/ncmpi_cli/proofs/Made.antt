@@ -29,7 +29,7 @@ use Rattle.dataset_start.specs.Readiness.{IsReady}
 use Rattle.dataset_start.specs.Stops.{IsOfDataset, line_of, status_of}
 use Rattle.dataset_start.specs.declared.stop.Stop.{Stop}
 use Rattle.dataset_start.specs.declared.stop.Stop.TheVariants as stops
-use Rattle.ncmpi_cli.proofs.Ran.{all_told, at_start}
+use Rattle.ncmpi_cli.proofs.Ran.{all_told, at_start, if_any}
 use Rattle.dataset_start.proofs.ReadyLaws.{file-kept, header-kept}
 
 -- ---- what is so of the script
@@ -131,7 +131,7 @@ made_ran seed size script header before now held_mid calls_mid faults failed rec
     let lines : IfSome before.held (λ file. text ≡ summed seed size script end.order (new_end script file end.order)) =
     made_lines script ready.old header end.order alone old_is header_is seed size before.held text
     (at_start (λ file. text ≡ sums seed size script header end.order (serial_from script header file end.order)) script header before.held held_mid before.calls calls_mid ready
-    (told_sums seed size script header held_mid records end (run.records whole) (run.answers whole))) in
+    (told_sums seed size script header held_mid records end (if_any held_mid (run.records whole)) (run.answers whole))) in
     subst (λ (o : List Mark). RanMade seed size before now o text) (sym same)
     (record {
       legal = subst (λ (s : Script). IsLegal s end.order) is (run.legal whole);

@@ -69,6 +69,11 @@ told_lines script header (Some file) records end readings pairs r a p w =
     ∙ ap (λ (x : List ℕ). run_text script (record header { records = last.records }) end.order last.answers x ++ watch_text pairs) p
     ∙ ap (λ (x : List (List (ℕ × ℕ))). run_text script (record header { records = last.records }) end.order last.answers last.pending ++ watch_text x) w
 
+-- for any file, and so for one that is told
+pub if_any : {P : List ℕ → Type 0} (held : Option (List ℕ)) → ((file : List ℕ) → P file) → IfSome held P
+if_any None all = tt
+if_any (Some file) all = all file
+
 -- ---- the run
 
 unfoldable pub have_begun : (script : Script) (header : Header) (before now : Seen) (held_mid : Option (List ℕ)) (calls_mid : Option (List DiskCall)) (order end_order : List Mark)
@@ -118,5 +123,5 @@ ran script header before now held_mid calls_mid faults failed records end order 
           script header before.output.held held_mid before.output.calls calls_mid ready (run.calls whole));
       lines = at_start (λ file. text ≡ text_of script header end.order (serial_from script header file end.order) ++ watched_text script header file end.order end_readings)
           script header before.output.held held_mid before.output.calls calls_mid ready
-          (told_lines script header held_mid records end end_readings pairs (run.records whole) (run.answers whole) (run.pending whole) watched);
+          (told_lines script header held_mid records end end_readings pairs (if_any held_mid (run.records whole)) (run.answers whole) (if_any held_mid (run.pending whole)) watched);
     }))

@@ -1,5 +1,5 @@
 -- A run on threads, from what the owner tells and what the close tells.
-use Rattle.std.proofs.Common.{◌≡◌, ℕ, ◌≤◌, refl, sym, ◌∙◌, ap, subst, inl, inr, ◌⊎◌, List, [], ◌∷◌, ◌++◌, max, replicate, true, Option, Some, None}
+use Rattle.std.proofs.Common.{◌≡◌, ℕ, ◌≤◌, refl, sym, ◌∙◌, ap, subst, inl, inr, ◌⊎◌, List, [], ◌∷◌, ◌++◌, map, max, replicate, true, Option, Some, None}
 use Rattle.std.specs.Prelude.{nat_lt, IfSome}
 use Rattle.nc_base.specs.declared.header.Header.{Header}
 use Rattle.nc_base.specs.declared.run.RankEnd.{RankEnd}
@@ -30,7 +30,8 @@ use Rattle.file_owner.specs.Service.{HasFailed, IsDone, IsDoneSo, opening, passe
 use Rattle.turn_run.specs.RankEnds.{NoneBroke, most_known_of}
 use Rattle.turn_run.proofs.EndedLaws.{Closing}
 use Rattle.turn_run.proofs.TurnCauses.{rose_later}
-use Rattle.thread_run.proofs.ThreadRuns.{Finished, FinishedSo, finished, finished_so}
+use Rattle.thread_run.proofs.ThreadRuns.{Finished, FinishedAlike, FinishedSo, finished, finished_alike, finished_so}
+use Rattle.join_laws.specs.Alike.{blank}
 use Rattle.thread_run.proofs.ThreadTies.{Told, begun}
 use Rattle.nc_outside.proofs.ToldLaws.{with_end-with_end, rose_before}
 use Rattle.list_laws.proofs.Optional.{some_or_none}
@@ -40,6 +41,7 @@ use Rattle.list_laws.proofs.Numbers.{le_two}
 pub record OwnerSide (script : Script) (header : Header) (arrivals : List Arrival) (given : ℕ → List OwnerItem) (held : Option (List ℕ)) (calls : Option (List DiskCall)) (faults : ℕ)
     (left : Option (List ℕ)) (made : Option (List DiskCall)) (failed records : ℕ) (end : ServeEnd) : Type 0 where
   pub done : end.fault ≡ None → (file : List ℕ) → IsDone (setting_of script header) (opening script.ranks (counted file header.records)) (passed arrivals script.ranks given) end.order end.stranger
+  pub counts : end.fault ≡ None → (file : List ℕ) → records ≡ (served (setting_of script header) (opening script.ranks (counted file header.records)) arrivals).owner.state.records
   pub bytes : end.fault ≡ None → IfSome held (λ file. IsDoneSo (setting_of script header) (opening script.ranks (counted file header.records)) (passed arrivals script.ranks given) left records)
   pub device : end.fault ≡ None → AreSingle arrivals → IfSome held (λ file. made ≡ with_end calls (owner_calls script.hints (setting_of script header) (opening script.ranks (counted file header.records)) arrivals))
   pub cut_off : (e : StepErr) → end.fault ≡ Some e → HasFailed (setting_of script header) (opening script.ranks) header.records (passed arrivals script.ranks given) end.order end.stranger
@@ -87,12 +89,14 @@ module _ (script : Script) (header : Header) (arrivals : List Arrival) (given : 
         (c.closed none).bytes ∙ ap (λ (m : Option (List ℕ)). after (λ f. (raised (as_setting header) (counted f count) (most_known_of ends)).file) m) so.told
         ∙ (λ i. Some (raised (as_setting header) (counted (state file).owner.state.file (so.records i)) (most_known_of ends)).file)
         ∙ ap (λ (f : List ℕ). Some f) (fin_so none file so).bytes ∙ ap (λ (ms : List Mark). Some (serial_from script header file ms).bytes) (sym c.order));
-    records = λ none. if_both held (o.bytes (c.went none).0) (o.bytes (c.went none).0) (λ file so more.
-        counts none file so ∙ ap (λ (ms : List Mark). (serial_from script header file ms).records) (sym c.order));
+    records = λ none file.
+        (c.closed none).count ∙ ap (λ (n : ℕ). max n (most_known_of ends)) (o.counts (c.went none).0 file)
+        ∙ (fin_alike none file).records ∙ ap (λ (ms : List Mark). (serial_from script header file ms).records) (sym c.order);
     answers = λ none. if_both held (o.bytes (c.went none).0) (o.bytes (c.went none).0) (λ file so more.
         c.answers none ∙ (fin_so none file so).answers ∙ ap (λ (ms : List Mark). (serial_from script header file ms).answers) (sym c.order));
-    pending = λ none. if_both held (o.bytes (c.went none).0) (o.bytes (c.went none).0) (λ file so more.
-        c.pending none ∙ (fin_so none file so).pending ∙ ap (λ (ms : List Mark). (serial_from script header file ms).pending) (sym c.order));
+    alike = λ none file.
+        ap (map (map blank)) (c.answers none) ∙ (fin_alike none file).answers ∙ ap (λ (ms : List Mark). map (map blank) (serial_from script header file ms).answers) (sym c.order);
+    pending = λ none file. c.pending none ∙ (fin_alike none file).pending ∙ ap (λ (ms : List Mark). (serial_from script header file ms).pending) (sym c.order);
     calls = λ none. if_both held (o.bytes (c.went none).0) (o.device (c.went none).0 (fin none).single) (λ file so made_so.
         (c.closed none).device ∙ ap (λ (m : Option (List DiskCall)). with_end m (store_records (as_setting header) (nat_lt count records))) made_so
         ∙ with_end-with_end calls (owner_calls script.hints (setting_of script header) (opening script.ranks (counted file header.records)) arrivals) (store_records (setting_of script header) (nat_lt count records))
@@ -113,6 +117,10 @@ module _ (script : Script) (header : Header) (arrivals : List Arrival) (given : 
       fin : end.fault ≡ None → Finished script header arrivals ends before.order
       fin none = finished script header arrivals given ends before.order before.stranger sound lawful t (c.went none).1 (o.done (c.went none).0)
 
+      fin_alike : end.fault ≡ None → (file : List ℕ)
+          → FinishedAlike script header ends before.order file (served (setting_of script header) (opening script.ranks (counted file header.records)) arrivals).owner
+      fin_alike none file = finished_alike script header arrivals given ends before.order before.stranger sound lawful t (c.went none).1 (o.done (c.went none).0) file
+
       fin_so : end.fault ≡ None → (file : List ℕ) → IsDoneSo (setting_of script header) (opening script.ranks (counted file header.records)) (passed arrivals script.ranks given) held' count
           → FinishedSo script header arrivals ends before.order file (served (setting_of script header) (opening script.ranks (counted file header.records)) arrivals).owner
       fin_so none file so = finished_so script header arrivals given ends before.order before.stranger sound lawful t (c.went none).1 (o.done (c.went none).0) file held' count so
@@ -131,12 +139,14 @@ module _ (script : Script) (header : Header) (arrivals : List Arrival) (given : 
 pub owner_of : (script : Script) (header : Header) (arrivals : List Arrival) (given : ℕ → List OwnerItem) (held : Option (List ℕ)) (calls : Option (List DiskCall)) (faults : ℕ)
     (left : Option (List ℕ)) (made : Option (List DiskCall)) (failed records : ℕ) (end : ServeEnd) (n : ℕ) → n ≡ script.ranks
     → (end.fault ≡ None → (file : List ℕ) → IsDone (setting_of script header) (opening n (counted file header.records)) (passed arrivals n given) end.order end.stranger)
+    → (end.fault ≡ None → (file : List ℕ) → records ≡ (served (setting_of script header) (opening n (counted file header.records)) arrivals).owner.state.records)
     → (end.fault ≡ None → IfSome held (λ file. IsDoneSo (setting_of script header) (opening n (counted file header.records)) (passed arrivals n given) left records))
     → (end.fault ≡ None → AreSingle arrivals → IfSome held (λ file. made ≡ with_end calls (owner_calls script.hints (setting_of script header) (opening n (counted file header.records)) arrivals)))
     → ((e : StepErr) → end.fault ≡ Some e → HasFailed (setting_of script header) (opening n) header.records (passed arrivals n given) end.order end.stranger)
     → (end.fault ≡ Some fault.Disk → Rose faults failed) → faults ≤ failed → OwnerSide script header arrivals given held calls faults left made failed records end
-owner_of script header arrivals given held calls faults left made failed records end n e done bytes device cut_off cause later = record {
+owner_of script header arrivals given held calls faults left made failed records end n e done counts bytes device cut_off cause later = record {
   done = λ none file. subst (λ (m : ℕ). IsDone (setting_of script header) (opening m (counted file header.records)) (passed arrivals m given) end.order end.stranger) e (done none file);
+  counts = λ none file. subst (λ (m : ℕ). records ≡ (served (setting_of script header) (opening m (counted file header.records)) arrivals).owner.state.records) e (counts none file);
   bytes = λ none. subst (λ (m : ℕ). IfSome held (λ file. IsDoneSo (setting_of script header) (opening m (counted file header.records)) (passed arrivals m given) left records)) e (bytes none);
   device = λ none single. subst (λ (m : ℕ). IfSome held (λ file. made ≡ with_end calls (owner_calls script.hints (setting_of script header) (opening m (counted file header.records)) arrivals))) e (device none single);
   cut_off = λ x some. subst (λ (m : ℕ). HasFailed (setting_of script header) (opening m) header.records (passed arrivals m given) end.order end.stranger) e (cut_off x some);

@@ -21,7 +21,7 @@ use Rattle.serial_spec.specs.RankMachine as machine
 use Rattle.serial_spec.specs.RankSide.{rank_end}
 use Rattle.serial_spec.specs.SerialEnd.{End, Going, first_going, serial_from, setting_of}
 use Rattle.collective_round.specs.Rounds.{as_setting, counted}
-use Rattle.join_laws.specs.Alike.{AreAlike}
+use Rattle.join_laws.specs.Alike.{blank, AreAlike, AreNear}
 use Rattle.join_laws.proofs.AlikeLaws.{end_alike}
 use Rattle.join_laws.proofs.WholeLaws.{lawful_agrees, whole_run}
 use Rattle.thread_run.specs.RankSides.{HasFinished}
@@ -48,6 +48,12 @@ pub record FinishedSo (script : Script) (header : Header) (arrivals : List Arriv
   pub calls : run_calls script header file order
       ≡ owner_calls script.hints (setting_of script header) (opening script.ranks (counted file header.records)) arrivals
       ++ store_records (setting_of script header) (nat_lt owner.state.records (serial_from script header file order).records)
+
+-- whatever they are
+pub record FinishedAlike (script : Script) (header : Header) (ends : List RankEnd) (order : List Mark) (file : List ℕ) (owner : Owner) : Type 0 where
+  pub records : max owner.state.records (most_known_of ends) ≡ (serial_from script header file order).records
+  pub answers : map (map blank) (map (λ end. end.answers) ends) ≡ map (map blank) (serial_from script header file order).answers
+  pub pending : map (λ end. end.pending) ends ≡ (serial_from script header file order).pending
 
 module _ (script : Script) (header : Header) (arrivals : List Arrival) (given : ℕ → List OwnerItem) (ends : List RankEnd) (order : List Mark) (stranger : Option ℕ)
     (sound : is_sound header ≡ true) (lawful : is_lawful script ≡ true) (t : Told script header arrivals given ends) (whole : NoneBroke ends)
@@ -96,6 +102,37 @@ module _ (script : Script) (header : Header) (arrivals : List Arrival) (given : 
     sound = subst (λ (n : ℕ). is_sound (record header { records = n }) ≡ true) (sym (known_is [])) (known_sound script header [] arrivals sound lawful (joined_at []));
     single = single_all script header [] arrivals sound lawful (joined_at []);
   }
+
+  -- the end of a rank, but for the values that its gets gave
+  end_near : (file : List ℕ) (r : ℕ) (own : List Call) → slice_get script.calls r ≡ Some own
+      → AreNear (rank_end header (first_going header own) (takes script header arrivals given ends t r)) (rank_end header (first_going header own) (back_of script header file arrivals r))
+  end_near file r own e =
+      let took = took_all script header arrivals given ends t (lawful_agrees script lawful) whole file (alike file) r own e in
+      subst (λ (v : List OwnerItem). AreNear (rank_end header (first_going header own) v) (rank_end header (first_going header own) (back_of script header file arrivals r))) (sym took)
+      (end_alike header (first_going header own) (given r) (back_of script header file arrivals r) (alike file r (low_rank script header arrivals given ends t r own e)))
+
+  pub finished_alike : (file : List ℕ)
+      → FinishedAlike script header ends order file (served (setting_of script header) (opening script.ranks (counted file header.records)) arrivals).owner
+  finished_alike file = subst (λ (d : Owner). FinishedAlike script header ends order file (served (setting_of script header) d arrivals).owner) (sym (owner_is file)) (record {
+    records = ap (λ (n : ℕ). max state.records n) (known_is file)
+        ∙ sym (raised_records (setting_of script header) state (greatest (map (λ g. g.rank.known) (rank_ends script header file arrivals)))) ∙ sym (ap (λ (e : End). e.records) last);
+    answers = map_map (map blank) (λ (end : RankEnd). end.answers) ends
+        ∙ each_end (λ end. map blank end.answers) (λ g. map blank g.answers) (back_of script header file arrivals)
+        (λ r own e. ap (map blank) (fin r own e).answers ∙ (end_near file r own e).answers)
+        ∙ sym (map_map (map blank) (λ (g : Going). g.answers) (rank_ends script header file arrivals)) ∙ sym (ap (λ (e : End). map (map blank) e.answers) last);
+    pending = each_end (λ end. end.pending) (λ g. machine.pending g.rank) (back_of script header file arrivals)
+        (λ r own e. (fin r own e).pending ∙ ap (λ (k : machine.Rank). machine.pending k) (end_near file r own e).rank) ∙ sym (ap (λ (e : End). e.pending) last);
+  })
+    where
+      state : Counted
+      state = (run_of script header file arrivals).owner.state
+
+      last : serial_from script header file order ≡ close_by (setting_of script header) (run_of script header file arrivals).owner.state (rank_ends script header file arrivals)
+      last = ap (λ (ms : List Mark). serial_from script header file ms) (order_is file) ∙ (whole_run script header file arrivals sound lawful (joined_at file)).ends
+
+      fin : (r : ℕ) (own : List Call) (e : slice_get script.calls r ≡ Some own)
+          → HasFinished header own (puts script header arrivals given ends t r) (takes script header arrivals given ends t r) (own_of script header arrivals given ends t r own e).end
+      fin r own e = finished_of script header arrivals given ends t (lawful_agrees script lawful) whole file (alike file) r own e
 
   pub finished_so : (file : List ℕ) (told : Option (List ℕ)) (records : ℕ)
       → IsDoneSo (setting_of script header) (opening script.ranks (counted file header.records)) (passed arrivals script.ranks given) told records

@@ -16,7 +16,8 @@ use Rattle.nc_base.specs.declared.step.OfferKind.{OfferKind}
 use Rattle.nc_base.specs.declared.step.OfferKind.TheVariants as offer
 use Rattle.nc_base.specs.declared.step.Reply.{Reply}
 use Rattle.nc_outside.specs.Told.{after, with_end}
-use Rattle.serial_spec.specs.FileStep.{Setting, Counted, solo}
+use Rattle.serial_spec.specs.FileStep.{Setting, Counted, puts_of, solo, told}
+use Rattle.serial_spec.specs.Owner.{needed_now}
 use Rattle.serial_spec.specs.DeviceCalls.{solo_calls}
 use Rattle.serial_spec.specs.RankMachine.{Open}
 use Rattle.serial_spec.specs.RankSide.{wanted}
@@ -28,10 +29,13 @@ use Rattle.run_laws.proofs.CallLaws.{hears_keeps, solo_keeps}
 use Rattle.turn_run.specs.Counts.{IsAsked}
 use Rattle.turn_run.specs.Running.{asking, between, calls_of, going_of, HasHeard, IsPlaced, IsPlacedWith, IsRunner}
 use Rattle.run_laws.specs.Arrivals.{solo_to, step_calls, step_to, Arrived}
-use Rattle.turn_run.specs.Stages.{arrived, stage, HasGone, IsGrownBy, Leads, rank_stage}
+use Rattle.join_laws.specs.Alike.{IsLike}
+use Rattle.join_laws.proofs.ReplyLaws.{gots_long}
+use Rattle.join_laws.proofs.StandsAlike.{solo_like}
+use Rattle.turn_run.specs.Stages.{arrived, stage, HasGone, IsGrownBy, Leads, LeadsAlike, rank_stage}
 use Rattle.turn_run.specs.declared.runners.Runner.{Runner}
 use Rattle.turn_run.proofs.RunnerLaws.{advance_ended}
-use Rattle.turn_run.proofs.StageLaws.{led_none, led_then}
+use Rattle.turn_run.proofs.StageLaws.{alike_then, led_none, led_then}
 use Rattle.list_laws.proofs.Places.{entry_set, set_own}
 use Rattle.run_laws.proofs.WayLaws.{one_of}
 use Rattle.list_laws.proofs.Each.{all_joined}
@@ -90,13 +94,24 @@ alone_led hints s r n (Some file) left calls made t o reply to heard bytes over 
       calls = over ∙ ap (λ (cs : List DiskCall). with_end calls cs) (sym (call_alone hints s r n c ranks t o e) ∙ sym (append-nil (step_calls hints s (c, ranks) (Solo r n))));
     }
 
+-- over any file
+pub alone_alike : (s : Setting) (r n : ℕ) (t : Going) (o : Offer) (reply : Reply) (to : Arrived) → reply.pair ≡ told s (puts_of (r, o))
+    → reply.records ≡ max o.known (needed_now s (puts_of (r, o))) → map (λ (blob : List ℕ). length blob) reply.got ≡ map (wanted s.header) o.batch.gets
+    → to ≡ advance s.header (hears s.header t reply)
+    → (records : ℕ) (ranks : List Arrived) → slice_get ranks r ≡ Some (t, Some o) → LeadsAlike s (Solo r n ∷ []) records ranks records (set ranks r to)
+alone_alike s r n t o reply to pair count fits up records ranks e stand w =
+    subst (λ (a : Arrived). IsLike (step_to s stand (Solo r n)) records (set ranks r a)) (sym up)
+    (solo_like s stand r n records ranks t o reply w e
+    (record { pair = sym pair; records = sym count; lengths = gots_long s (solo s r o stand.0).0.file o.batch.gets ∙ sym fits }))
+
 -- ---- a rank's own steps, one after another
 
 pub gone_alone : (hints : Hints) (s : Setting) (r n : ℕ) (before now : List Mark) (held left : Option (List ℕ)) (calls made : Option (List DiskCall)) (t : Going) (o : Offer) (to : Arrived)
     → now ≡ before ++ Solo r n ∷ []
     → ((records : ℕ) (ranks : List Arrived) → slice_get ranks r ≡ Some (t, Some o) → Leads hints s (Solo r n ∷ []) (stage held calls records ranks) (stage left made records (set ranks r to)))
+    → ((records : ℕ) (ranks : List Arrived) → slice_get ranks r ≡ Some (t, Some o) → LeadsAlike s (Solo r n ∷ []) records ranks records (set ranks r to))
     → HasGone hints s r (rank_stage before held calls (t, Some o)) (rank_stage now left made to)
-gone_alone hints s r n before now held left calls made t o to e led = record { more = Solo r n ∷ []; grown = e; own = one_of r n; led = led }
+gone_alone hints s r n before now held left calls made t o to e led alike = record { more = Solo r n ∷ []; grown = e; own = one_of r n; led = led; alike = alike }
 
 pub gone_same : (hints : Hints) (s : Setting) (r : ℕ) (order : List Mark) (held : Option (List ℕ)) (calls : Option (List DiskCall)) (from to : Arrived) → from ≡ to
     → HasGone hints s r (rank_stage order held calls from) (rank_stage order held calls to)
@@ -107,6 +122,8 @@ gone_same hints s r order held calls from to e = record {
   led = λ records ranks g.
       subst (λ (others : List Arrived). Leads hints s [] (stage held calls records ranks) (stage held calls records others))
       (sym (set_own ranks r to (g ∙ ap (λ (a : Arrived). Some a) e))) (led_none hints s (stage held calls records ranks));
+  alike = λ records ranks g stand w.
+      subst (λ (others : List Arrived). IsLike stand records others) (sym (set_own ranks r to (g ∙ ap (λ (a : Arrived). Some a) e))) w;
 }
 
 pub gone_then : (hints : Hints) (s : Setting) (r : ℕ) (before now later : List Mark) (held left last : Option (List ℕ)) (calls made done : Option (List DiskCall)) (from mid to : Arrived)
@@ -120,6 +137,10 @@ gone_then hints s r before now later held left last calls made done from mid to 
       let two = second.led records (set ranks r mid) (entry_set ranks r from mid g) in
       led_then hints s first.more second.more (stage held calls records ranks) (stage left made records (set ranks r mid)) (stage last done records (set ranks r to)) one
       (subst (λ (others : List Arrived). Leads hints s second.more (stage left made records (set ranks r mid)) (stage last done records others)) (set-set ranks r mid to) two);
+  alike = λ records ranks g.
+      subst (λ (others : List Arrived). LeadsAlike s (first.more ++ second.more) records ranks records others) (set-set ranks r mid to)
+      (alike_then s first.more second.more records records records ranks (set ranks r mid) (set (set ranks r mid) r to) (first.alike records ranks g)
+      (second.alike records (set ranks r mid) (entry_set ranks r from mid g)));
 }
 
 pub grown_then : (r : ℕ) (before now later : List Mark) → IsGrownBy r before now → IsGrownBy r now later → IsGrownBy r before later

@@ -1,5 +1,5 @@
 -- A meeting of the serial run, by the offers that the runners hold.
-use Rattle.std.proofs.Common.{◌≡◌, ℕ, suc, ◌+◌, refl, sym, ◌∙◌, ap, List, [], ◌∷◌, ◌++◌, length, map, max, Option, Some, None, arith}
+use Rattle.std.proofs.Common.{◌≡◌, ℕ, suc, ◌+◌, refl, sym, ◌∙◌, ap, subst, List, [], ◌∷◌, ◌++◌, length, map, max, Option, Some, None, arith}
 use Rattle.std.proofs.lemmas.List.{append-nil}
 use Rattle.std.specs.Prelude.{slice_get, flat_map, zip, nat_lt, IfSome}
 use Rattle.std.specs.List.{enumerate_from}
@@ -23,7 +23,11 @@ use Rattle.serial_spec.specs.SharedByte.{Puts}
 use Rattle.collective_round.specs.Rounds.{counted, gets_in, puts_in, puts_of_batch}
 use Rattle.turn_run.specs.Running.{reply_of, HasHeard}
 use Rattle.run_laws.specs.Arrivals.{heard, step_to, Arrived}
-use Rattle.turn_run.specs.Stages.{arrived, arrived_all, stage, HasLed, Leads}
+use Rattle.join_laws.specs.Alike.{IsLike}
+use Rattle.join_laws.proofs.ReplyLaws.{gots_long}
+use Rattle.join_laws.proofs.StandsAlike.{meets_like, AllTell}
+use Rattle.serial_spec.specs.RankSide.{wanted}
+use Rattle.turn_run.specs.Stages.{arrived, arrived_all, stage, HasLed, Leads, LeadsAlike}
 use Rattle.turn_run.specs.Steps.{batches_of, held_offers, known_of, met, met_calls}
 use Rattle.turn_run.specs.declared.runners.Runner.{Runner}
 use Rattle.turn_run.proofs.AloneLaws.{arrived_free, arrived_held}
@@ -133,16 +137,57 @@ step_over s calls runners now batches known n k c pair table l m w hold d e f p 
     ∙ (λ i. (file i, map (heard s.header) (zip ranks (replies i))))
     ∙ (λ i. (counted (met s batches known c).file (sym r i), done i))
 
+-- the replies of a meeting over any file tell what these tell, but for the bytes of the gets
+tells_table : (s : Setting) (one pair : Option Pair) (m n : ℕ) (file : List ℕ) (offers : List Offer) (table : List (List (List ℕ))) → one ≡ pair → m ≡ n
+    → map (λ (blobs : List (List ℕ)). map (λ (blob : List ℕ). length blob) blobs) table ≡ map (λ (b : Batch). map (wanted s.header) b.gets) (batches_of offers)
+    → AllTell (map (λ (o : Offer). reply_of one m (map (get_post s file) o.batch.gets)) offers) (map (reply_of pair n) table)
+tells_table s one pair m n file [] [] e f fits = tt
+tells_table s one pair m n file [] (blobs ∷ table) e f fits = absurd cc
+tells_table s one pair m n file (o ∷ offers) [] e f fits = absurd cc
+tells_table s one pair m n file (o ∷ offers) (blobs ∷ table) e f fits =
+    let head : map (λ (blob : List ℕ). length blob) blobs ≡ map (wanted s.header) o.batch.gets = cc in
+    (record { pair = e; records = f; lengths = gots_long s file o.batch.gets ∙ sym head }, tells_table s one pair m n file offers table e f cc)
+
+meeting_alike : (s : Setting) (calls : List (List Call)) (runners now : List Runner) (batches : List Batch) (known r n k : ℕ) (pair : Option Pair) (table : List (List (List ℕ)))
+    → length calls ≡ length runners → length now ≡ length runners → length table ≡ length runners → AllHold runners → AreDone s.header pair n runners now table
+    → batches ≡ batches_of (held_offers runners) → known ≡ known_of (held_offers runners) → pair ≡ told s (puts_in batches)
+    → n ≡ max r (max (needed_now s (puts_in batches)) known)
+    → map (λ (blobs : List (List ℕ)). map (λ (blob : List ℕ). length blob) blobs) table ≡ map (λ (b : Batch). map (wanted s.header) b.gets) batches
+    → LeadsAlike s (Meet k ∷ []) r (arrived_all s.header calls runners) n (arrived_all s.header calls now)
+meeting_alike s calls runners now batches known r n k pair table l m w hold d e f p count fits stand like =
+    let ranks = arrived_all s.header calls runners in
+    let offers = offers_are s.header calls runners l hold in
+    let c = stand.0 in
+    let written = counted (after_puts s (puts_in batches) (told s (puts_in batches)) c.file) c.records in
+    let records_is : (meeting s (held_offers runners) c).0.records ≡ n =
+    ap (λ (x : Counted). x.records) (met_is s (held_offers runners) batches known c e f)
+    ∙ raised_records s written (max (needed_now s (puts_in batches)) known)
+    ∙ ap (λ (j : ℕ). max j (max (needed_now s (puts_in batches)) known)) like.records ∙ sym count in
+    let both : told s (flat_map puts_of (enumerate_from 0 (held_offers runners))) ≡ pair = ap (told s) (puts_same 0 (held_offers runners) ∙ ap puts_in (sym e)) ∙ sym p in
+    let tells : AllTell (meeting s (held_offers runners) c).1 (map (reply_of pair n) table) =
+    tells_table s (told s (flat_map puts_of (enumerate_from 0 (held_offers runners)))) pair (meeting s (held_offers runners) c).0.records n
+    (meeting s (held_offers runners) c).0.file (held_offers runners) table both records_is
+    (fits ∙ ap (λ (bs : List Batch). map (λ (b : Batch). map (wanted s.header) b.gets) bs) e) in
+    subst (λ (to : List Arrived). IsLike (step_to s stand (Meet k)) n to) (ranks_done s.header pair n calls runners now table m w d)
+    (meets_like s stand k r n ranks (map (reply_of pair n) table) like (ap (λ (os : List Offer). (meeting s os c).0.records) offers ∙ records_is)
+    (subst (λ (os : List Offer). AllTell (meeting s os c).1 (map (reply_of pair n) table)) (sym offers) tells))
+
 pub meeting_led : (hints : Hints) (s : Setting) (order now_order : List Mark) (calls : List (List Call)) (runners now : List Runner) (batches : List Batch) (known r n k : ℕ)
     (held left : Option (List ℕ)) (before made : Option (List DiskCall)) (pair : Option Pair) (table : List (List (List ℕ)))
     → length calls ≡ length runners → length now ≡ length runners → length table ≡ length runners → AllHold runners → AreDone s.header pair n runners now table
     → batches ≡ batches_of (held_offers runners) → known ≡ known_of (held_offers runners) → pair ≡ told s (puts_in batches)
     → n ≡ max r (max (needed_now s (puts_in batches)) known) → left ≡ after (λ file. (met s batches known (counted file r)).file) held
     → IfSome left (λ file. table ≡ map (λ b. map (get_post s file) b.gets) batches)
+    → map (λ (blobs : List (List ℕ)). map (λ (blob : List ℕ). length blob) blobs) table ≡ map (λ (b : Batch). map (wanted s.header) b.gets) batches
     → IfSome held (λ file. made ≡ with_end before (met_calls hints s batches known (counted file r))) → now_order ≡ order ++ Meet k ∷ []
     → HasLed hints s order now_order (stage held before r (arrived_all s.header calls runners)) (stage left made n (arrived_all s.header calls now))
-meeting_led hints s order now_order calls runners now batches known r n k held left before made pair table l m w hold d e f p count bytes got over o =
-    record { more = Meet k ∷ []; grown = o; led = led held bytes over }
+meeting_led hints s order now_order calls runners now batches known r n k held left before made pair table l m w hold d e f p count bytes got fits over o =
+    record {
+      more = Meet k ∷ [];
+      grown = o;
+      led = led held bytes over;
+      alike = meeting_alike s calls runners now batches known r n k pair table l m w hold d e f p count fits;
+    }
   where
     led : (held : Option (List ℕ)) → left ≡ after (λ file. (met s batches known (counted file r)).file) held
         → IfSome held (λ file. made ≡ with_end before (met_calls hints s batches known (counted file r)))

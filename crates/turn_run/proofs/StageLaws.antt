@@ -14,7 +14,8 @@ use Rattle.serial_spec.specs.FileStep.{Setting}
 use Rattle.serial_spec.specs.DeviceCalls.{run_calls}
 use Rattle.serial_spec.specs.SerialEnd.{setting_of, first_going, first_state, advance, serial_from}
 use Rattle.run_laws.specs.Arrivals.{calls_over, step_calls, step_to, Arrived, Stand, all_calls_over, ended_from}
-use Rattle.turn_run.specs.Stages.{arrived, arrived_all, stage, stand_of, HasLed, IsLed, Leads, Stage}
+use Rattle.join_laws.specs.Alike.{IsLike}
+use Rattle.turn_run.specs.Stages.{arrived, arrived_all, stage, stand_of, HasLed, IsLed, Leads, LeadsAlike, Stage}
 use Rattle.turn_run.specs.Steps.{first_runner}
 use Rattle.nc_outside.proofs.ToldLaws.{with_end-with_end, with_end-nil}
 use Rattle.run_laws.proofs.ArrivalLaws.{gone_up, first_up, serial_of_arrivals, calls_of_arrivals}
@@ -81,8 +82,13 @@ led_then hints s marks more a b c first second = by_held a.held first
               ∙ ap (λ (cs : List DiskCall). with_end a.calls cs) (sym (calls_split hints s (stand_of file a) marks more));
         }
 
+pub alike_then : (s : Setting) (marks more : List Mark) (n m k : ℕ) (from mid to : List Arrived) → LeadsAlike s marks n from m mid → LeadsAlike s more m mid k to
+    → LeadsAlike s (marks ++ more) n from k to
+alike_then s marks more n m k from mid to first second stand w =
+    subst (λ (x : Stand). IsLike x k to) (sym (fold-append (step_to s) stand marks more)) (second (fold (step_to s) stand marks) (first stand w))
+
 pub has_led_none : (hints : Hints) (s : Setting) (order : List Mark) (a : Stage) → HasLed hints s order order a a
-has_led_none hints s order a = record { more = []; grown = sym (append-nil order); led = led_none hints s a }
+has_led_none hints s order a = record { more = []; grown = sym (append-nil order); led = led_none hints s a; alike = λ stand w. w }
 
 pub has_led_at : (hints : Hints) (s : Setting) (before now : List Mark) (a : Stage) (held : Option (List ℕ)) (calls : Option (List DiskCall)) (n m : ℕ) (ranks : List Arrived)
     → n ≡ m → HasLed hints s before now a (stage held calls n ranks) → HasLed hints s before now a (stage held calls m ranks)
@@ -93,4 +99,5 @@ has_led_then hints s before now later a b c first second = record {
   more = first.more ++ second.more;
   grown = second.grown ∙ ap (λ (ms : List Mark). ms ++ second.more) first.grown ∙ append_assoc before first.more second.more;
   led = led_then hints s first.more second.more a b c first.led second.led;
+  alike = alike_then s first.more second.more a.records b.records c.records a.ranks b.ranks c.ranks first.alike second.alike;
 }

@@ -128,7 +128,7 @@ pub told_gone : (hints : Hints) (s : Setting) (r records : ℕ) (before now late
     → (ranks : List Arrived) → slice_get ranks r ≡ Some from → HasToldMore s (point before held records) ranks later told last
 told_gone hints s r records before now later held left calls made from to asks told heard last gone first e second ranks at =
     told_then hints s before now later (stage held calls records ranks) (stage left made records (set ranks r to)) told heard last (first ranks at)
-    (record { more = gone.more; grown = gone.grown; led = gone.led records ranks at })
+    (record { more = gone.more; grown = gone.grown; led = gone.led records ranks at; alike = gone.alike records ranks at })
     (second (set ranks r to) (entry_set ranks r from to at ∙ ap (λ (a : Arrived). Some a) (sym e)))
 
 -- ---- a whole run

@@ -1,5 +1,5 @@
 -- The first and the last stage of a run.
-use Rattle.std.proofs.Common.{◌≡◌, ℕ, ◌+◌, ◌<◌, ◌≤◌, refl, sym, ◌∙◌, ap, subst, List, [], ◌∷◌, ◌++◌, length, map, replicate, max, true, Option, Some, None, arith}
+use Rattle.std.proofs.Common.{◌≡◌, ℕ, ◌<◌, ◌≤◌, refl, sym, ◌∙◌, ap, subst, List, [], ◌∷◌, ◌++◌, length, map, replicate, max, true, Option, Some, None, arith}
 use Rattle.std.proofs.lemmas.List.{length-replicate}
 use Rattle.std.specs.Prelude.{slice_get, nat_lt, fold, IfSome}
 use Rattle.nc_base.specs.declared.answer.Answer.{Answer}
@@ -20,6 +20,8 @@ use Rattle.serial_spec.specs.Layout.{end_of, greatest}
 use Rattle.serial_spec.specs.RankMachine as machine
 use Rattle.serial_spec.specs.SerialEnd.{End, advance, first_going, first_state, serial_from, setting_of, close_by}
 use Rattle.collective_round.specs.Rounds.{counted}
+use Rattle.join_laws.specs.Alike.{blank, AreAlikeEnds, IsLike}
+use Rattle.join_laws.proofs.StandsAlike.{close_alike}
 use Rattle.run_laws.specs.Ways.{IsOnWay}
 use Rattle.run_laws.proofs.LawfulLaws.{ranks_lawful}
 use Rattle.run_laws.proofs.WayLaws.{way_begins}
@@ -184,6 +186,37 @@ run_closed script header before order calls made later told left held count reco
         → IfSome m (λ file. IsClosed script.hints (setting_of script header) (counted file from, ranks) order calls held later records runners)
     by_told None led = tt
     by_told (Some file) led = led_closed script header order calls made later left held count records from runners ranks file told long over r led
+
+-- what the runners of a run that was closed have, for an end over any file
+abbrev pub told_end : ℕ → List Runner → End
+told_end count runners =
+    record { bytes = []; records = count; answers = map (λ runner. runner.answers) runners; pending = map (λ runner. machine.pending runner.rank.state) runners }
+
+pub alike_ended : (script : Script) (header : Header) (len : ℕ) (before order : List Mark) (calls made later : Option (List DiskCall)) (told left held : Option (List ℕ))
+    (count records from : ℕ) (runners : List Runner) (ranks : List Arrived) → is_lawful script ≡ true → before ≡ [] → AreRunners script header len order runners
+    → AreFree runners → HaveArrived script runners
+    → HasLed script.hints (setting_of script header) before order (stage told calls from ranks) (stage left made count (arrived_all header script.calls runners))
+    → HasClosed header (most_known runners) (contents_of left count) (contents_of held records) made later
+    → (stand : Stand) → IsLike stand from ranks → AreAlikeEnds (told_end records runners) (ended_from (setting_of script header) stand order)
+alike_ended script header len before order calls made later told left held count records from runners ranks lawful none a f h led r stand like =
+    let s = setting_of script header in
+    let long = (ranks_lawful script lawful).one_each ∙ sym a.all in
+    let over = are_over script runners f h in
+    let all : led.more ≡ order = sym (led.grown ∙ ap (λ (ms : List Mark). ms ++ led.more) none) in
+    let ends = map (λ (x : Arrived). x.0) (arrived_all header script.calls runners) in
+    let last = fold (step_to s) stand order in
+    let near : IsLike last count (arrived_all header script.calls runners) =
+    subst (λ (ms : List Mark). IsLike (fold (step_to s) stand ms) count (arrived_all header script.calls runners)) all (led.alike stand like) in
+    let alike = close_alike s last (counted [] count) (arrived_all header script.calls runners) near in
+    let known : greatest (map (λ g. g.rank.known) ends) ≡ most_known runners =
+    ap greatest (map_ended (λ (rank : machine.Rank) (answers : List Answer). rank.known) header script.calls runners long over) in
+    let count_is : (close_by s (counted [] count) ends).records ≡ max count (most_known runners) =
+    ap (λ (n : ℕ). (raised s (counted [] count) n).records) known ∙ raised_records s (counted [] count) (most_known runners) in
+    record {
+      records = r.count ∙ sym count_is ∙ sym alike.records;
+      answers = ap (map (map blank)) (sym (map_ended (λ (rank : machine.Rank) (answers : List Answer). answers) header script.calls runners long over)) ∙ sym alike.answers;
+      pending = sym (map_ended (λ (rank : machine.Rank) (answers : List Answer). machine.pending rank) header script.calls runners long over) ∙ sym alike.pending;
+    }
 
 pub if_told : {X : Type 0} {P Q : X → Type 0} (m : Option X) → IfSome m P → ((x : X) → P x → Q x) → IfSome m Q
 if_told None h f = tt

@@ -28,7 +28,7 @@ use Rattle.turn_run.specs.Begun.{HasBegun}
 use Rattle.turn_run.specs.Counts.{IsCount}
 use Rattle.turn_run.specs.Running.{calls_of, going_of, AreRunners, IsPlaced, IsPlacedWith, IsRunner}
 use Rattle.run_laws.specs.Arrivals.{Arrived}
-use Rattle.turn_run.specs.Stages.{arrived, arrived_all, stage, HasGone, HasLed, IsGrownBy, Leads, rank_stage}
+use Rattle.turn_run.specs.Stages.{arrived, arrived_all, stage, HasGone, HasLed, IsGrownBy, Leads, LeadsAlike, rank_stage}
 use Rattle.turn_run.specs.declared.runners.Runner.{Runner}
 use Rattle.turn_run.proofs.CountLaws.{count_longer}
 use Rattle.turn_run.proofs.RunnerLaws.{placed_rest, HasRest}
@@ -192,6 +192,9 @@ gone_led script header runners n was runner before now held left calls made lawf
       led = subst (λ (ranks : List Arrived). Leads script.hints (setting_of script header) g.more (stage held calls records (arrived_all header script.calls runners))
           (stage left made records ranks)) (sym (set_arrived header script.calls runners n (calls_of script n) runner there))
           (g.led records (arrived_all header script.calls runners) (get_arrived header script.calls runners n (calls_of script n) was there e));
+      alike = subst (λ (ranks : List Arrived). LeadsAlike (setting_of script header) g.more records (arrived_all header script.calls runners) records ranks)
+          (sym (set_arrived header script.calls runners n (calls_of script n) runner there))
+          (g.alike records (arrived_all header script.calls runners) (get_arrived header script.calls runners n (calls_of script n) was there e));
     }
   where
     below : (k : ℕ) → k ≡ script.ranks → n < k

@@ -51,7 +51,9 @@ use Rattle.turn_run.proofs.SaidMeet.{all_say_here, keep_own}
 use Rattle.turn_run.proofs.TurnCauses.{rose_later}
 use Rattle.turn_run.proofs.TurnEnds.{are_over, ended_legal}
 use Rattle.turn_run.proofs.TurnKnown.{ends_known, most_known, most_rise, rise_sound}
-use Rattle.turn_run.proofs.TurnRuns.{calls_from_first, first_free, if_told, none_begun, run_ended, serial_from_first, IsClosed}
+use Rattle.turn_run.proofs.TurnRuns.{alike_ended, calls_from_first, first_free, if_told, none_begun, run_ended, serial_from_first, told_end, IsClosed}
+use Rattle.join_laws.specs.Alike.{blank, AreAlikeEnds}
+use Rattle.join_laws.proofs.StandsAlike.{same_beside}
 use Rattle.list_laws.proofs.Numbers.{le_two}
 
 -- ---- how it went
@@ -188,9 +190,10 @@ module _ (script : Script) (header : Header) (len : ℕ) (before : List Mark) (s
   run_in_turn now later risen total end c cut = record {
     legal = λ good. let t = h.through (c.went good).0 in subst (λ (ms : List Mark). IsLegal script ms) (sym c.order) (ended_legal script header len served.order last lawful t.runners t.free t.arrived);
     bytes = λ good. if_told held (closed_so good) (λ file k. k.bytes ∙ ap (λ (x : End). Some x.bytes) (serial file));
-    records = λ good. if_told held (closed_so good) (λ file k. k.records ∙ ap (λ (x : End). x.records) (serial file));
+    records = λ good file. (alike_so good file).records;
     answers = λ good. if_told held (closed_so good) (λ file k. c.answers good ∙ answers_are ∙ k.answers ∙ ap (λ (x : End). x.answers) (serial file));
-    pending = λ good. if_told held (closed_so good) (λ file k. c.pending good ∙ pending_are ∙ k.pending ∙ ap (λ (x : End). x.pending) (serial file));
+    alike = λ good file. ap (map (map blank)) (c.answers good ∙ answers_are) ∙ (alike_so good file).answers;
+    pending = λ good file. c.pending good ∙ pending_are ∙ (alike_so good file).pending;
     calls = λ good. if_told held (closed_so good) (λ file k. k.calls ∙ ap (λ (cs : List DiskCall). with_end calls cs) (device file));
     sound = c.sound;
     begun = subst (λ (ms : List Mark). HasBegun script ms) (sym c.order) h.begun;
@@ -212,6 +215,15 @@ module _ (script : Script) (header : Header) (len : ℕ) (before : List Mark) (s
           let t = h.through (c.went good).0 in
           run_ended script header len before served.order calls made later held left now count total records last (arrived_all header script.calls first) lawful none t.runners t.free t.arrived t.led
           (subst (λ (n : ℕ). HasClosed header n (contents_of left count) (contents_of now total) made later) known_is (c.closed good))
+
+      alike_so : end.fault ≡ None → (file : List ℕ) → AreAlikeEnds (told_end total last) (serial_from script header file end.order)
+      alike_so good file =
+          let t = h.through (c.went good).0 in
+          let ranks = arrived_all header script.calls first in
+          subst (λ (x : End). AreAlikeEnds (told_end total last) x) (serial file)
+          (alike_ended script header len before served.order calls made later held left now count total records last ranks lawful none t.runners t.free t.arrived t.led
+          (subst (λ (n : ℕ). HasClosed header n (contents_of left count) (contents_of now total) made later) known_is (c.closed good))
+          (counted file records, ranks) (record { records = refl; beside = same_beside ranks }))
 
       by_fault : end.fault ≡ Some fault.Disk → (m : Option StepErr) → served.fault ≡ m → Rose faults risen
       by_fault disk None f = rose_before faults failed risen h.later (c.cause f disk)

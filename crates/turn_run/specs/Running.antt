@@ -5,7 +5,7 @@
 --     IsRunner ..                 the same with what it brings
 --     HasArrived own runner       it holds an offer of a meeting, or has made its calls
 --     AreRunners, HaveArrived     the same of all ranks
-use Rattle.std.specs.Prelude.{◌≡◌, ℕ, suc, ◌+◌, List, [], ◌∷◌, ◌++◌, map, drop, length, true, Option, Some, None, IfSome, is_some, slice_get}
+use Rattle.std.specs.Prelude.{◌≡◌, ℕ, suc, List, [], ◌∷◌, ◌++◌, map, drop, length, true, Option, Some, None, IfSome, is_some, slice_get}
 use Rattle.std.specs.List.{list_all}
 use Rattle.nc_base.specs.declared.header.Header.{Header}
 use Rattle.nc_base.specs.declared.request.Call.{Call}

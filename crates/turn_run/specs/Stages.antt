@@ -2,6 +2,7 @@
 --     arrived header own runner   the rank of a runner at its next offer, if there is one
 --     arrived_all               the same of all ranks
 --     Leads hints s marks a b   where the bytes are told, the steps of these marks lead from one stage to the other
+--     LeadsAlike s marks ..     over any file, they lead ranks beside the ones, with their count, to ranks beside the others
 --     IsGrownBy r before now    an order to which solo steps of rank r were added
 --     RankStage                 what stands between two steps of one rank, whatever count and ranks stand beside it
 --     HasGone, HasLed           the steps that were added, of one rank and of all
@@ -18,6 +19,7 @@ use Rattle.serial_spec.specs.SerialEnd.{advance}
 use Rattle.collective_round.specs.Rounds.{counted}
 use Rattle.run_laws.specs.Arrivals.{Arrived, Stand, calls_over, step_to}
 use Rattle.run_laws.specs.Ahead.{is_solo_of}
+use Rattle.join_laws.specs.Alike.{IsLike}
 use Rattle.turn_run.specs.Running.{asking, between}
 use Rattle.turn_run.specs.declared.runners.Runner.{Runner}
 
@@ -52,6 +54,10 @@ pub record IsLed (hints : Hints) (s : Setting) (marks : List Mark) (file : List 
 abbrev pub Leads : Hints → Setting → List Mark → Stage → Stage → Type 0
 Leads hints s marks a b = IfSome a.held (λ file. IsLed hints s marks file a b)
 
+-- but for the values that gets gave, whatever the file holds
+abbrev pub LeadsAlike : Setting → List Mark → ℕ → List Arrived → ℕ → List Arrived → Type 0
+LeadsAlike s marks n from m to = (stand : Stand) → IsLike stand n from → IsLike (fold (step_to s) stand marks) m to
+
 -- ---- marks that are added to an order
 
 pub record IsGrownBy (r : ℕ) (before now : List Mark) : Type 0 where
@@ -76,8 +82,10 @@ pub record HasGone (hints : Hints) (s : Setting) (r : ℕ) (a b : RankStage) : T
   pub own : list_all (is_solo_of r) more ≡ true
   pub led : (records : ℕ) (ranks : List Arrived) → slice_get ranks r ≡ Some a.rank
       → Leads hints s more (stage a.held a.calls records ranks) (stage b.held b.calls records (set ranks r b.rank))
+  pub alike : (records : ℕ) (ranks : List Arrived) → slice_get ranks r ≡ Some a.rank → LeadsAlike s more records ranks records (set ranks r b.rank)
 
 pub record HasLed (hints : Hints) (s : Setting) (before now : List Mark) (a b : Stage) : Type 0 where
   pub more : List Mark
   pub grown : now ≡ before ++ more
   pub led : Leads hints s more a b
+  pub alike : LeadsAlike s more a.records a.ranks b.records b.ranks

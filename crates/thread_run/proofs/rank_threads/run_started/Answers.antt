@@ -56,7 +56,7 @@ end_run-requires-clause-known g c κs within =
     handles c.serve-served.ensures.taken c.serve-served.ensures.put settled in
     let owner = owner_of script header arrivals given (g.D.Disk.held c.args.disk.now) (g.D.Disk.calls c.args.disk.now) (g.D.Disk.faults c.args.disk.now)
     (g.D.Disk.held c.serve-served.new.disk) (g.D.Disk.calls c.serve-served.new.disk) (g.D.Disk.faults c.serve-served.new.disk) c.serve-served.new.records c.serve-served.result
-    c.args.started.inbox.senders c.requires.senders c.serve-served.ensures.done c.serve-served.ensures.bytes c.serve-served.ensures.calls c.serve-served.ensures.failed c.serve-served.ensures.cause c.serve-served.ensures.later in
+    c.args.started.inbox.senders c.requires.senders c.serve-served.ensures.done c.serve-served.ensures.records c.serve-served.ensures.bytes c.serve-served.ensures.calls c.serve-served.ensures.failed c.serve-served.ensures.cause c.serve-served.ensures.later in
     λ none whole. known_sound script header arrivals given ends c.requires.runnable.sound c.requires.runnable.lawful all c.serve-served.result (owner.done none) whole
 
 pub returns-clause-run : goal.returns-clause-run
@@ -81,7 +81,7 @@ returns-clause-run g c =
     handles c.serve-served.ensures.taken c.serve-served.ensures.put settled in
     let owner = owner_of script header arrivals given (g.D.Disk.held c.args.disk.now) (g.D.Disk.calls c.args.disk.now) (g.D.Disk.faults c.args.disk.now)
     (g.D.Disk.held c.serve-served.new.disk) (g.D.Disk.calls c.serve-served.new.disk) (g.D.Disk.faults c.serve-served.new.disk) c.serve-served.new.records c.serve-served.result
-    c.args.started.inbox.senders c.requires.senders c.serve-served.ensures.done c.serve-served.ensures.bytes c.serve-served.ensures.calls c.serve-served.ensures.failed c.serve-served.ensures.cause c.serve-served.ensures.later in
+    c.args.started.inbox.senders c.requires.senders c.serve-served.ensures.done c.serve-served.ensures.records c.serve-served.ensures.bytes c.serve-served.ensures.calls c.serve-served.ensures.failed c.serve-served.ensures.cause c.serve-served.ensures.later in
     run_all script header arrivals given ends c.requires.runnable.sound c.requires.runnable.lawful all (g.D.Disk.held c.args.disk.now) (g.D.Disk.calls c.args.disk.now) (g.D.Disk.faults c.args.disk.now)
     (g.D.Disk.held c.serve-served.new.disk) (g.D.Disk.calls c.serve-served.new.disk) (g.D.Disk.faults c.serve-served.new.disk) c.serve-served.new.records c.serve-served.result
     (g.D.Disk.held c.end_run.new.disk) (g.D.Disk.calls c.end_run.new.disk) (g.D.Disk.faults c.end_run.new.disk) c.end_run.new.records c.end_run.result owner

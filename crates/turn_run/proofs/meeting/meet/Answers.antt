@@ -78,7 +78,7 @@ returns-clause-led g c =
     c.args.progress.now.records c.meet_on_file.new.records c.args.number _ _ _ _ c.in_ok-pair.pair c.in_ok-pair.table long (c.in_ok-hear_all.ensures.all.long ∙ c.in_ok-job.ensures.freed.long) wide c.requires.met
     (are_done c.args.lent.now.setup.script.now c.args.lent.now.setup.header.now _ c.args.progress.now.order c.args.runners.now c.take_job.new.runners c.hear_all.new.runners c.in_ok-pair.pair c.meet_on_file.new.records c.in_ok-pair.table
     c.requires.runners c.requires.met c.requires.arrived c.in_ok-job.ensures.freed c.in_ok-hear_all.ensures.all)
-    c.in_ok-job.ensures.batches c.in_ok-job.ensures.known c.in_ok-pair.ensures.told c.in_ok-pair.ensures.records c.in_ok-pair.ensures.bytes c.in_ok-pair.ensures.got
+    c.in_ok-job.ensures.batches c.in_ok-job.ensures.known c.in_ok-pair.ensures.told c.in_ok-pair.ensures.records c.in_ok-pair.ensures.bytes c.in_ok-pair.ensures.got c.in_ok-pair.ensures.fits
     (c.in_ok-pair.ensures.calls (meets_once c.args.lent.now.setup.script.now c.args.lent.now.setup.header.now _ c.args.progress.now.order c.args.runners.now c.in_ok-job.known c.in_ok-job.job.batches c.requires.runners c.requires.met c.requires.arrived c.in_ok-job.ensures.known c.in_ok-job.ensures.batches))
     c.in_ok-note_step.ensures.order
 

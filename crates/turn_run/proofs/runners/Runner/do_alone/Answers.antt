@@ -6,7 +6,7 @@ use Rattle.run_laws.specs.Ways.{IsOnWay}
 use Rattle.turn_run.proofs.CountLaws.{count_longer, count_max}
 use Rattle.turn_run.proofs.MeetOffers.{asked_fit}
 use Rattle.turn_run.proofs.RunnerLaws.{alone_done, alone_heard, alone_rest, heard_runner, HasRest}
-use Rattle.turn_run.proofs.AloneLaws.{alone_led, alone_waits, arrived_free, fits_open, gone_alone, grown_one, heard_known, order_is}
+use Rattle.turn_run.proofs.AloneLaws.{alone_alike, alone_led, alone_waits, arrived_free, fits_open, gone_alone, grown_one, heard_known, order_is}
 use Rattle.turn_run.specs.Counts.{IsCount}
 use Rattle.turn_run.specs.Running.{asking, between, calls_of}
 use Rattle.turn_run.specs.Stages.{arrived}
@@ -86,6 +86,8 @@ returns-clause-gone g c =
     (alone_led c.args.lent.now.setup.script.now.hints (setting_of c.args.lent.now.setup.script.now header) c.args.ask.number _ (g.D.Disk.held c.args.disk.now) (g.D.Disk.held c.solo_reply.new.disk)
     (g.D.Disk.calls c.args.disk.now) (g.D.Disk.calls c.solo_reply.new.disk) (asking own c.args.self.now) c.args.ask.offer c.in_ok-reply.reply (arrived header own c.hear.new.self)
     c.in_ok-reply.ensures.reply c.in_ok-reply.ensures.bytes c.in_ok-reply.ensures.calls up)
+    (alone_alike (setting_of c.args.lent.now.setup.script.now header) c.args.ask.number c.len.result (asking own c.args.self.now) c.args.ask.offer c.in_ok-reply.reply (arrived header own c.hear.new.self)
+    c.in_ok-reply.ensures.told c.in_ok-reply.ensures.records c.in_ok-reply.ensures.fits up)
 
 pub returns-clause-grown : goal.returns-clause-grown
 returns-clause-grown g c = grown_one _ _ _ _ c.in_ok-note_step.ensures.order
