@@ -14,6 +14,7 @@ use Rattle.serial_spec.specs.DeviceCalls.{all_calls, run_calls}
 use Rattle.serial_spec.specs.History.{IsLegal}
 use Rattle.serial_spec.specs.Redefinition.{layout_fault}
 use Rattle.serial_spec.specs.SerialEnd.{End, serial, serial_from}
+use Rattle.join_laws.specs.Alike.{AreAlikeEnds}
 use Rattle.rank_meeting.specs.Begun.{HasBegun}
 use Rattle.rank_meeting.specs.Run.{IsRun}
 use Rattle.turn_run.specs.Known.{seen}
@@ -22,14 +23,14 @@ use Rattle.script_spec.specs.Texts.{header_line, layout_line, redef_line}
 use Rattle.generated_run.proofs.LawfulLaws.{made_counted, made_lawful}
 use Rattle.generated_run.proofs.MadeLaws.{made_laid}
 use Rattle.ncmpi_cli.specs.Generated.{IsMadeStatus, new_end, RanMade, script_made, summed}
-use Rattle.ncmpi_cli.specs.Headline.{end_of_run}
+use Rattle.ncmpi_cli.specs.Headline.{end_of_run, file_at_start}
 use Rattle.ncmpi_cli.specs.Outside.{Output}
 use Rattle.dataset_start.specs.Dataset.{align_of, created_header, IsKept, TellsDataset}
 use Rattle.dataset_start.specs.Readiness.{IsReady}
 use Rattle.dataset_start.specs.Stops.{IsOfDataset, line_of, status_of}
 use Rattle.dataset_start.specs.declared.stop.Stop.{Stop}
 use Rattle.dataset_start.specs.declared.stop.Stop.TheVariants as stops
-use Rattle.ncmpi_cli.proofs.Ran.{all_told, at_start, if_any}
+use Rattle.ncmpi_cli.proofs.Ran.{all_told, any_end, at_start, if_any, told_end}
 use Rattle.dataset_start.proofs.ReadyLaws.{file-kept, header-kept}
 
 -- ---- what is so of the script
@@ -132,11 +133,22 @@ made_ran seed size script header before now held_mid calls_mid faults failed rec
     made_lines script ready.old header end.order alone old_is header_is seed size before.held text
     (at_start (λ file. text ≡ sums seed size script header end.order (serial_from script header file end.order)) script header before.held held_mid before.calls calls_mid ready
     (told_sums seed size script header held_mid records end (if_any held_mid (run.records whole)) (run.answers whole))) in
+    let last : End = told_end records end in
+    let any : (file : List ℕ) → AreAlikeEnds last (new_end script file end.order) =
+    λ file. subst (λ (e : End). AreAlikeEnds last e) (one_end script ready.old header end.order alone old_is header_is file)
+    (any_end script header (seen held_mid calls_mid faults) (seen now.held now.calls failed) records end run whole (file_at_start script ready.old header file)) in
+    let sum_is : text ≡ summed seed size script end.order last =
+    ap (λ (h : Header). summary_text seed size script (record h { records = records }) end.order end.answers) header_is in
     subst (λ (o : List Mark). RanMade seed size before now o text) (sym same)
     (record {
       legal = subst (λ (s : Script). IsLegal s end.order) is (run.legal whole);
       bytes = subst (λ (s : Script). IfSome before.held (λ file. now.held ≡ Some (new_end s file end.order).bytes)) is bytes;
       calls = subst (λ (s : Script). IfSome before.held (λ file. now.calls ≡ after (λ _. all_calls s (created_header s) (created_header s) file end.order) before.calls)) is calls;
+      sums = record {
+        end = last;
+        alike = subst (λ (s : Script). (file : List ℕ) → AreAlikeEnds last (new_end s file end.order)) is any;
+        whole = subst (λ (s : Script). text ≡ summed seed size s end.order last) is sum_is;
+      };
       lines = subst (λ (s : Script). IfSome before.held (λ file. text ≡ summed seed size s end.order (new_end s file end.order))) is lines;
     })
 

@@ -13,7 +13,8 @@ use Rattle.serial_spec.specs.SerialEnd.{End, serial_from}
 use Rattle.script_spec.specs.Texts.{run_text, watch_text}
 use Rattle.rank_meeting.specs.Begun.{HasBegun}
 use Rattle.rank_meeting.specs.Run.{IsRun}
-use Rattle.turn_run.specs.Known.{seen}
+use Rattle.join_laws.specs.Alike.{AreAlikeEnds}
+use Rattle.turn_run.specs.Known.{seen, DiskSeen}
 use Rattle.ncmpi_cli.specs.Headline.{file_at_start, HaveBegun, Ran, text_of, watched_text, with_counts}
 use Rattle.ncmpi_cli.specs.Outside.{Seen}
 use Rattle.dataset_start.specs.Dataset.{Asks}
@@ -74,6 +75,15 @@ pub if_any : {P : List ℕ → Type 0} (held : Option (List ℕ)) → ((file : L
 if_any None all = tt
 if_any (Some file) all = all file
 
+-- what is told of a run that had no fault, but for the values that gets gave
+abbrev pub told_end : ℕ → RunEnd → End
+told_end records end = record { bytes = []; records = records; answers = end.answers; pending = end.pending }
+
+pub any_end : (script : Script) (header : Header) (old new : DiskSeen) (records : ℕ) (end : RunEnd) → IsRun script header old new records end → end.fault ≡ None
+    → (file : List ℕ) → AreAlikeEnds (told_end records end) (serial_from script header file end.order)
+any_end script header old new records end run whole file =
+    record { records = run.records whole file; answers = run.alike whole file; pending = run.pending whole file }
+
 -- ---- the run
 
 unfoldable pub have_begun : (script : Script) (header : Header) (before now : Seen) (held_mid : Option (List ℕ)) (calls_mid : Option (List DiskCall)) (order end_order : List Mark)
@@ -121,6 +131,13 @@ ran script header before now held_mid calls_mid faults failed records end order 
       calls = all_told script ready.old header before.output.held before.output.calls calls_mid now.output.calls end.order ready.calls
           (at_start (λ file. now.output.calls ≡ with_end calls_mid (run_calls script header file end.order))
           script header before.output.held held_mid before.output.calls calls_mid ready (run.calls whole));
+      tells = record {
+        end = told_end records end;
+        alike = λ bytes.
+            any_end script header (seen held_mid calls_mid faults) (seen now.output.held now.output.calls failed) records end run whole (file_at_start script ready.old header bytes);
+        lines = watch_text pairs;
+        whole = refl;
+      };
       lines = at_start (λ file. text ≡ text_of script header end.order (serial_from script header file end.order) ++ watched_text script header file end.order end_readings)
           script header before.output.held held_mid before.output.calls calls_mid ready
           (told_lines script header held_mid records end end_readings pairs (if_any held_mid (run.records whole)) (run.answers whole) (if_any held_mid (run.pending whole)) watched);

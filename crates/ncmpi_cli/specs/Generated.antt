@@ -2,6 +2,7 @@
 --     script_made seed size      the script
 --     made_header seed size      the header of its dataset
 --     new_end, summed            what its calls lead to in an order, and the text that sums that up
+--     SumsUp                     what the text tells whatever the file holds
 --     RanMade                    the order is legal, and file, device calls and text are those of the calls done one after another in it
 --     MadeWhole, MadeFront       the text was given whole, or a front of it
 use Rattle.std.specs.Prelude.{ℕ, ◌≡◌, ◌⊎◌, List, take, Some, IfSome}
@@ -12,6 +13,7 @@ use Rattle.nc_outside.specs.Told.{after, with_end}
 use Rattle.serial_spec.specs.DeviceCalls.{all_calls}
 use Rattle.serial_spec.specs.History.{IsLegal}
 use Rattle.serial_spec.specs.SerialEnd.{End, serial}
+use Rattle.join_laws.specs.Alike.{AreAlikeEnds}
 use Rattle.script_spec.specs.Generator.{made_script, summary_text}
 use Rattle.dataset_start.specs.Dataset.{created_header}
 use Rattle.ncmpi_cli.specs.Outside.{Output}
@@ -30,11 +32,18 @@ new_end script file order = serial script (created_header script) file order
 abbrev pub summed : ℕ → ℕ → Script → List Mark → End → List ℕ
 summed seed size script order end = summary_text seed size script (record (created_header script) { records = end.records }) order end.answers
 
--- what was done, to a file that is told
+-- the text sums up an end that differs from that of the calls, on any file, in the values that gets gave alone
+pub record SumsUp (seed size : ℕ) (order : List Mark) (text : List ℕ) : Type 0 where
+  pub end : End
+  pub alike : (file : List ℕ) → AreAlikeEnds end (new_end (script_made seed size) file order)
+  pub whole : text ≡ summed seed size (script_made seed size) order end
+
+-- what was done, to a file that is told, and what the text tells of any other
 pub record RanMade (seed size : ℕ) (before now : Output) (order : List Mark) (text : List ℕ) : Type 0 where
   pub legal : IsLegal (script_made seed size) order
   pub bytes : IfSome before.held (λ file. now.held ≡ Some (new_end (script_made seed size) file order).bytes)
   pub calls : IfSome before.held (λ file. now.calls ≡ after (λ _. all_calls (script_made seed size) (made_header seed size) (made_header seed size) file order) before.calls)
+  pub sums : SumsUp seed size order text
   pub lines : IfSome before.held (λ file. text ≡ summed seed size (script_made seed size) order (new_end (script_made seed size) file order))
 
 -- the same, with the text given whole

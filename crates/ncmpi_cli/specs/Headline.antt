@@ -1,6 +1,7 @@
 -- What a run that ended well did, and what each status leaves.
 --     file_at_start, end_of_run              the file when the ranks begin, and what the calls lead to
 --     with_counts, watched_text              what watchers read, and its lines
+--     Tells                                  what a text tells whatever the file holds
 --     Ran, RanWell, RanToSink                what a run did to the file, and what it gave
 --     HaveBegun, GivesLine                   the ranks began, and these steps were done; the line that was given
 use Rattle.std.specs.Prelude.{ℕ, ◌≡◌, ◌⊎◌, List, [], ◌++◌, map, take, Option, Some, IfSome}
@@ -13,6 +14,7 @@ use Rattle.serial_spec.specs.DeviceCalls.{all_calls}
 use Rattle.serial_spec.specs.History.{IsLegal}
 use Rattle.serial_spec.specs.Redefinition.{brought}
 use Rattle.serial_spec.specs.SerialEnd.{count_after, End, serial, start}
+use Rattle.join_laws.specs.Alike.{AreAlikeEnds}
 use Rattle.rank_meeting.specs.Begun.{HasBegun}
 use Rattle.script_spec.specs.ScriptGrammar.{Reads}
 use Rattle.script_spec.specs.Texts.{run_text, watch_text}
@@ -41,9 +43,17 @@ file_at_start script old header file = start script header (brought script old h
 abbrev pub end_of_run : Script → Header → Header → List ℕ → List Mark → End
 end_of_run script old header file order = serial script header (brought script old header file) order
 
+-- The text is that of an end with the count, codes, pairs and pending numbers of the calls done one after another in the order, on any
+-- file, and with as many values; the lines of watchers stand behind it.
+pub record Tells (script : Script) (old header : Header) (order : List Mark) (text : List ℕ) : Type 0 where
+  pub end : End
+  pub alike : (bytes : List ℕ) → AreAlikeEnds end (end_of_run script old header bytes order)
+  pub lines : List ℕ
+  pub whole : text ≡ text_of script header order end ++ lines
+
 -- The script is the one that the source's text spells, which was taken to its end. The order is legal. Of a file that is told, bytes
 -- and text are those of the calls done one after another in the order, on what the dataset held, and the device calls are those of
--- the plan. What watchers read stands behind the text.
+-- the plan. What watchers read stands behind the text. Of a file that isn't told, the text tells all but the values that gets gave.
 pub record Ran (before now : Seen) (order : List Mark) (readings : List (List ℕ)) (text : List ℕ) : Type 0 where
   pub script : Script
   pub old : Header
@@ -56,6 +66,7 @@ pub record Ran (before now : Seen) (order : List Mark) (readings : List (List �
   pub legal : IsLegal script order
   pub bytes : IfSome before.output.held (λ bytes. now.output.held ≡ Some (end_of_run script old header bytes order).bytes)
   pub calls : IfSome before.output.held (λ bytes. now.output.calls ≡ after (λ _. all_calls script old header bytes order) before.output.calls)
+  pub tells : Tells script old header order text
   pub lines : IfSome before.output.held (λ bytes. text
       ≡ text_of script header order (end_of_run script old header bytes order) ++ watched_text script header (file_at_start script old header bytes) order readings)
 
