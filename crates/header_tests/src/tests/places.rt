@@ -8,7 +8,7 @@ use nc_base::{Align, AttrList, FILE_LIMIT, Header, NcType};
 use std::alloc::Global;
 use std::process::Abort;
 use test_fixtures::{NO_LAYOUT, NO_MEMORY, dimension, one, variable};
-use var_layout::{end_of, file_end, header_len, lay_out, recsize, slab, vsize};
+use var_layout::{end_of, file_end, find_dim, find_var, header_len, lay_out, recsize, slab, vsize};
 
 /// The dimension x and the variable v over it, without a begin.
 fn header_of(rt: &impl Abort, alloc: Global, version: u8, len: u64, kind: NcType) -> Header
@@ -83,4 +83,13 @@ fn one_variable_in_each_version_and_aligned(rt: HostRuntime) {
         let header = laid_out(&rt, bare, align);
         assert!(rt; sizes_of(&rt, &header) == sizes);
     }
+}
+
+#[test]
+fn dimensions_and_variables_have_names_of_their_own(rt: HostRuntime) {
+    let header = header_of(&rt, rt.alloc(), 1, 4, NcType::Int);
+    assert!(rt; find_dim(&header, b"x") == Some(0));
+    assert!(rt; find_dim(&header, b"v").is_none());
+    assert!(rt; find_var(&header, b"v") == Some(0));
+    assert!(rt; find_var(&header, b"x").is_none());
 }

@@ -1,9 +1,9 @@
 // Ranks, aggregators and watchers on threads of their own. No contract says that threads run side by side: a test holds one until another has come
 // so far.
-use crate::tests::files::{B, HALVES, MAGIC, TWO_RANKS, VECTOR};
+use crate::tests::files::{A, A_OFFSETS, HALVES, TWO_RANKS, VECTOR};
 use crate::tests::forms::{CREATED, IS_CREATED};
 use crate::tests::{Want, blob, has_called, is_wanted, left};
-use nc_base::DiskCall;
+use nc_base::{Blob, DiskCall};
 use nc_outside::{MeetGate, OpenGate, Point};
 use run_fixtures::{Ended, PLAIN, Run};
 use std::alloc::Global;
@@ -74,71 +74,161 @@ fn the_first_aggregator_begins_while_the_second_waits(rt: HostRuntime) {
     meet(&rt, rt.alloc(), Point::Window(1, 0), Point::Window(0, 0))
 }
 
-// Two ranks meet once, and one of them puts the fourth record. Its second call comes behind that step.
-const WATCHED: Run<'static> = Run {
-    words: &["--watch", "1", "d.nc"],
+// Three aggregators have a part of the vector each.
+const BY_THREE: Run<'static> = Run {
+    script: &[TWO_RANKS, b"hint cb_nodes 3\n", VECTOR, HALVES],
+    ..PLAIN
+};
+
+#[test]
+fn the_third_aggregator_begins_while_the_first_waits(rt: HostRuntime) {
+    let alloc = rt.alloc();
+    let first = Point::Window(0, 0);
+    let end = left_by(&rt, alloc, &BY_THREE, first, Point::Window(2, 0));
+    is_wanted(&rt, alloc, &end, &IS_CREATED);
+}
+
+// Each of two ranks alone puts every other element between two meetings, which has holes that are read.
+const ALONE: Run<'static> = Run {
     script: &[
-        b"create 1\nranks 2\nhint cb_nodes 1\ndim t unlimited\nvar short s [t]\ndata\n\
-        0 put_var1_all s [3] 7\n1 put_vara_all s [0] [0]\n0 inq_dimlen t\nend\n",
+        TWO_RANKS,
+        VECTOR,
+        b"0 begin_indep_data\n0 put_vars v [0] [2] [2] 1 3\n0 end_indep_data\n\
+        1 begin_indep_data\n1 put_vars v [1] [2] [2] 2 4\n1 end_indep_data\nend\n",
     ],
     ..PLAIN
 };
 
-// What stands in front of the readings.
-const WATCHED_TEXT: &[u8] = b"\
-    ranks 2\norder m0\nrank 0\n0 put_var1_all ok\n1 inq_dimlen ok 4\npending 0\nrank 1\n0 put_vara_all ok\npending 0\n\
-    // file format: CDF-1\nfile header:\n  size = 80 bytes\n  extent = 80 bytes\n\
-    dimensions:\n  t = UNLIMITED // (4 currently)\nfixed-size variables:\nrecord variables:\n  \
-    short s(t):\n    start file offset = 80\n    end file offset = 82\n    size in bytes = 2\n\
-    watcher 0\n";
+const EACH_ALONE: &[u8] = b"\
+    rank 0\n0 begin_indep_data ok\n1 put_vars ok\n2 end_indep_data ok\npending 0\n\
+    rank 1\n0 begin_indep_data ok\n1 put_vars ok\n2 end_indep_data ok\npending 0\n";
+
+// A rank that steps in its own call is held until the other one has done its own: the first point and the second one, the text, and the calls.
+const ORDERS: [(Point, Point, &[&[u8]], &[DiskCall]); 2] = [
+    (
+        Point::RankStep(1, 1),
+        Point::RankStep(0, 2),
+        &[b"ranks 2\norder m0 s0.1 s1.1 m1\n", EACH_ALONE, A_OFFSETS],
+        &[
+            DiskCall::Grow(96),
+            DiskCall::Store(0, 80),
+            DiskCall::Load(80, 12),
+            DiskCall::Store(80, 12),
+            DiskCall::Load(84, 12),
+            DiskCall::Store(84, 12),
+        ],
+    ),
+    (
+        Point::RankStep(0, 1),
+        Point::RankStep(1, 2),
+        &[b"ranks 2\norder m0 s1.1 s0.1 m1\n", EACH_ALONE, A_OFFSETS],
+        &[
+            DiskCall::Grow(96),
+            DiskCall::Store(0, 80),
+            DiskCall::Load(84, 12),
+            DiskCall::Store(84, 12),
+            DiskCall::Load(80, 12),
+            DiskCall::Store(80, 12),
+        ],
+    ),
+];
+
+#[test]
+fn calls_of_single_ranks_come_in_either_order(rt: HostRuntime) {
+    for (first, second, given, calls) in &ORDERS {
+        let end = left_by(&rt, rt.alloc(), &ALONE, *first, *second);
+        let want = Want {
+            status: 0,
+            given,
+            held: A,
+        };
+        is_wanted(&rt, rt.alloc(), &end, &want);
+        has_called(&rt, &end, calls);
+    }
+}
+
+// Two ranks put the halves, and one watcher reads.
+const WATCHED: Run<'static> = Run {
+    words: &["--watch", "1", "d.nc"],
+    ..CREATED
+};
+
+// What was printed behind this text.
+fn readings_of(rt: &impl Abort, alloc: Global, end: &Ended, text: &[&[u8]]) -> Blob {
+    let text = blob(rt, alloc, text);
+    let given = end.given.as_slice();
+    assert!(rt; given.starts_with(text.as_slice()));
+    let (_, readings) = given.split_at_checked(text.len()).expect(rt, "readings");
+    blob(rt, alloc, &[readings])
+}
+
+// What stands in front of the readings, each of which is a line of four bytes.
+const WATCHED_TEXT: &[&[u8]] = &[
+    b"ranks 2\norder m0\nrank 0\n0 put_vara_all ok\npending 0\nrank 1\n0 put_vara_all ok\npending 0\n",
+    A_OFFSETS,
+    b"watcher 0\n",
+];
 
 #[test]
 fn a_watcher_reads_before_the_first_step(rt: HostRuntime) {
     let alloc = rt.alloc();
     let first = Point::RankStep(0, 0);
     let end = left_by(&rt, alloc, &WATCHED, first, Point::Reading(0, 1));
-    let begun = blob(&rt, alloc, &[WATCHED_TEXT, b"0 0\n"]);
-    assert!(rt; end.given.as_slice().starts_with(begun.as_slice()));
+    let readings = readings_of(&rt, alloc, &end, WATCHED_TEXT);
+    assert!(rt; readings.as_slice().starts_with(b"0 0\n"));
 }
 
-// All of the 17 readings see the one step, and the four records.
-const IS_WATCHED: Want = Want {
-    status: 0,
-    given: &[
-        WATCHED_TEXT,
-        b"1 4\n1 4\n1 4\n1 4\n1 4\n1 4\n1 4\n1 4\n1 4\n1 4\n1 4\n1 4\n1 4\n1 4\n1 4\n1 4\n1 4\n",
-    ],
-    held: &[
-        MAGIC,
-        b"\x00\x00\x00\x04",
-        B,
-        b"\x00\x00\x00\x00\x00\x00\x00\x07",
-    ],
+const WATCHED_BY_TWO: Run<'static> = Run {
+    words: &["--watch", "2", "d.nc"],
+    ..CREATED
 };
 
-// The count is raised once the record is written.
-const WATCHING: &[DiskCall] = &[
-    DiskCall::Grow(80),
-    DiskCall::Store(0, 80),
-    DiskCall::Grow(88),
-    DiskCall::Store(86, 2),
-    DiskCall::Store(4, 4),
+// It stands behind the 17 readings of the first one.
+#[test]
+fn the_second_watcher_reads_before_the_first_step(rt: HostRuntime) {
+    let alloc = rt.alloc();
+    let first = Point::RankStep(0, 0);
+    let end = left_by(&rt, alloc, &WATCHED_BY_TWO, first, Point::Reading(1, 1));
+    let readings = readings_of(&rt, alloc, &end, WATCHED_TEXT);
+    let second = readings.as_slice().get(68..82);
+    assert!(rt; second == Some(b"watcher 1\n0 0\n".as_slice()));
+}
+
+// Each rank puts its half twice.
+const WATCHED_TWICE: Run<'static> = Run {
+    script: &[
+        TWO_RANKS,
+        VECTOR,
+        b"0 put_vara_all v [0] [2] 1 2\n1 put_vara_all v [2] [2] 3 4\n",
+        HALVES,
+    ],
+    ..WATCHED
+};
+
+const WATCHED_TWICE_TEXT: &[&[u8]] = &[
+    b"ranks 2\norder m0 m1\nrank 0\n0 put_vara_all ok\n1 put_vara_all ok\npending 0\n\
+    rank 1\n0 put_vara_all ok\n1 put_vara_all ok\npending 0\n",
+    A_OFFSETS,
+    b"watcher 0\n",
 ];
 
+// The ninth reading comes behind the first step, and sees it.
 #[test]
 fn a_watcher_reads_a_step_before_the_run_ends(rt: HostRuntime) {
     let alloc = rt.alloc();
-    let first = Point::Reading(0, 0);
-    let end = left_by(&rt, alloc, &WATCHED, first, Point::RankStep(0, 1));
-    is_wanted(&rt, alloc, &end, &IS_WATCHED);
-    has_called(&rt, &end, WATCHING);
+    let first = Point::Reading(0, 8);
+    let end = left_by(&rt, alloc, &WATCHED_TWICE, first, Point::RankStep(0, 1));
+    let readings = readings_of(&rt, alloc, &end, WATCHED_TWICE_TEXT);
+    let ninth = readings.as_slice().get(32..36);
+    assert!(rt; ninth == Some(b"1 0\n".as_slice()) || ninth == Some(b"2 0\n".as_slice()));
 }
 
 const PUT_AND_GET: &[u8] = b"0 put_var_all v 1 2 3 4\n0 get_var_all v\nend\n";
 
 // What stands in a script in front of its hints on threads, and its calls. In the second there is an aggregator for each byte.
-const SCRIPTS: [[&[u8]; 2]; 3] = [
+const SCRIPTS: [[&[u8]; 2]; 4] = [
     [TWO_RANKS, HALVES],
+    [b"create 1\nranks 1\nhint cb_buffer_size 3\n", PUT_AND_GET],
     [b"create 1\nranks 1\nhint cb_nodes 64\n", PUT_AND_GET],
     [
         b"create 1\nranks 1\nhint cb_nodes 3\nhint cb_buffer_size 3\n",
