@@ -1,0 +1,46 @@
+// A dataset that was shorter than its header says.
+ghost use Rattle.std.specs.Prelude.{◌≡◌, true, IfSome};
+ghost use Rattle.serial_spec.specs.SoundHeaders.{is_sound};
+
+use crate::ended::Ended;
+use crate::shown::shown;
+use cdf_header::decode;
+use nc_base::{Header, MAX_HEADER_BYTES};
+use std::alloc::{AllocError, Global};
+use var_layout::end_of;
+
+/// The header that the first bytes of a dataset spell, where they spell one.
+pub(crate) fn header_of(alloc: Global, front: &[u8]) -> Option<Header>
+    ensures { IfSome result (λ header. is_sound header ≡ true) }
+{
+    if front.len() as u64 > MAX_HEADER_BYTES {
+        return None;
+    }
+    match decode(alloc, front) {
+        Ok((header, _)) => Some(header),
+        Err(_) => None,
+    }
+}
+
+/// What is said of a dataset that had fewer bytes than its header asks for.
+pub(crate) fn push_shortfall(
+    out: &mut String,
+    alloc: Global,
+    ended: &Ended<'_>,
+    header: &Header,
+) -> Result<(), AllocError>
+    requires { is_sound header.now ≡ true }
+{
+    let there = ended.length;
+    let wanted = end_of(header, header.records);
+    if there >= wanted {
+        return Ok(());
+    }
+    let dataset = shown(alloc, ended.dataset.as_bytes())?;
+    write!(out, "{dataset} had {there} bytes, and its header says {wanted}; ")?;
+    out.push_str(if ended.is_listed {
+        "what is missing reads as zeros"
+    } else {
+        "it was made so long, and what was missing reads as zeros"
+    })
+}
