@@ -17,11 +17,7 @@ use std::alloc::Global;
 
 /// The domains of a step that have a byte, in order of their places. Those without one stand behind them, so the place of a domain
 /// is the number of its aggregator.
-pub(crate) fn domains_of(
-    alloc: Global,
-    cover: &[Extent],
-    hints: &Hints,
-) -> Result<Vec<Extent>, Memory>
+pub fn domains_of(alloc: Global, cover: &[Extent], hints: &Hints) -> Result<Vec<Extent>, Memory>
     requires cover { IsCover cover.now }
     requires ends { EndBelow (2 ^ 62) cover.now }
     requires hints { are_lawful_hints hints.now ≡ true }

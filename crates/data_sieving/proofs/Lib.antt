@@ -1,10 +1,10 @@
-mod LeftBytes
-mod HullSteps
-mod WindowSteps
-mod CallSteps
-mod PutSteps
-mod ReachSteps
-mod GetSteps
-mod CollectedSteps
-mod NextSteps
-mod LoopSteps
+pub mod LeftBytes
+pub mod HullSteps
+pub mod WindowSteps
+pub mod CallSteps
+pub mod PutSteps
+pub mod ReachSteps
+pub mod GetSteps
+pub mod CollectedSteps
+pub mod NextSteps
+pub mod LoopSteps

@@ -31,14 +31,14 @@ use Rattle.data_sieving.proofs.LeftBytes.{byte_from, from_byte, bytes_ascend, sa
 abbrev pub window_bytes : List Owned → ℕ → ℕ → Window → List ℕ
 window_bytes left place size w = filter (λ (y : ℕ). nat_lt y (w.hull.at + size)) (bytes_from place left)
 
-before_stop : (left : List Owned) (place size : ℕ) (w : Window) (served : List Owned) (stop x : ℕ) → AreLeft left place size
+pub before_stop : (left : List Owned) (place size : ℕ) (w : Window) (served : List Owned) (stop x : ℕ) → AreLeft left place size
     → IsNext left place size w served stop → IsCovered left x → x < w.hull.at + size → x < stop
 before_stop left place size w served stop x l n c h =
     let below = covered_below (2 ^ 62) left x l.ends c in
     let is = n.ends in
     omega arith
 
-in_window : (left : List Owned) (place size : ℕ) (w : Window) (served : List Owned) (stop x : ℕ) → AreLeft left place size
+pub in_window : (left : List Owned) (place size : ℕ) (w : Window) (served : List Owned) (stop x : ℕ) → AreLeft left place size
     → IsNext left place size w served stop → In (window_bytes left place size w) x
     → (w.hull.at ≤ x) × (x < w.hull.at + w.hull.len) × IsCovered served x
 in_window left place size w served stop x l n m =
@@ -49,7 +49,7 @@ in_window left place size w served stop x l n m =
     let c = front_covered stop left served x n.front before b.1 in
     (n.least x b.1 b.0, n.hull.each x c before, c)
 
-window_in : (left : List Owned) (place size : ℕ) (w : Window) (served : List Owned) (stop x : ℕ) → IsNext left place size w served stop
+pub window_in : (left : List Owned) (place size : ℕ) (w : Window) (served : List Owned) (stop x : ℕ) → IsNext left place size w served stop
     → w.hull.at ≤ x → x < w.hull.at + w.hull.len → IsCovered served x → In (window_bytes left place size w) x
 window_in left place size w served stop x n h k c =
     let short = n.hull.short in
@@ -132,7 +132,7 @@ sieve_first size a ys xs h e =
     ∙ ap (λ (b : List ℕ). sieving_windows size b)
     (sym (drop_first a (filter (λ (y : ℕ). nat_le (a + size) y) ys) (nat_le (a + size) a) (lt-leb (a + size) a (omega arith))))))
 
-rest_bytes : (left : List Owned) (place size : ℕ) (w : Window) (served : List Owned) (stop : ℕ) → AreLeft left place size
+pub rest_bytes : (left : List Owned) (place size : ℕ) (w : Window) (served : List Owned) (stop : ℕ) → AreLeft left place size
     → IsNext left place size w served stop
     → filter (λ (y : ℕ). nat_le (w.hull.at + size) y) (bytes_from place left) ≡ bytes_from stop left
 rest_bytes left place size w served stop l n =

@@ -11,3 +11,4 @@ mod walk;
 
 pub use get::sieve_get;
 pub use put::sieve_put;
+pub use walk::{SieveWalk, SieveWindow};

@@ -1,8 +1,8 @@
-mod Keeping
-mod Created
-mod Opened
-mod RedefinedLaws
-mod Redefinable
+pub mod Keeping
+pub mod Created
+pub mod Opened
+pub mod RedefinedLaws
+pub mod Redefinable
 pub mod ReadyLaws
 pub mod NotReady
-mod Untold
+pub mod Untold

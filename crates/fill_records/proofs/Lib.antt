@@ -1,8 +1,8 @@
 pub mod CutLaws
-mod Products
-mod RepeatedLaws
-mod Searches
+pub mod Products
+pub mod RepeatedLaws
+pub mod Searches
 pub mod TornLaws
-mod VariableLaws
-mod WindowLaws
-mod WriteLaws
+pub mod VariableLaws
+pub mod WindowLaws
+pub mod WriteLaws

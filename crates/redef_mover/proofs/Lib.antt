@@ -1,19 +1,19 @@
-mod Additions
-mod IndexLaws
-mod Sorting
-mod Places
-mod Ranges
-mod Written
-mod Redefined
-mod ToldSteps
-mod SlabLaws
-mod WindowLaws
-mod MovesLaws
-mod ClearLaws
-mod SortLaws
-mod ListedLaws
-mod CarryLaws
-mod CallsLaws
+pub mod Additions
+pub mod IndexLaws
+pub mod Sorting
+pub mod Places
+pub mod Ranges
+pub mod Written
+pub mod Redefined
+pub mod ToldSteps
+pub mod SlabLaws
+pub mod WindowLaws
+pub mod MovesLaws
+pub mod ClearLaws
+pub mod SortLaws
+pub mod ListedLaws
+pub mod CarryLaws
+pub mod CallsLaws
 pub mod AppliedLaws
-mod KeptLaws
-mod CutLaws
+pub mod KeptLaws
+pub mod CutLaws

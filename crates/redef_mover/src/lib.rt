@@ -17,3 +17,4 @@ mod slabs;
 
 pub use applied::apply;
 pub use relocation::relocate;
+pub use slabs::{Offset, Shift, Slabs};

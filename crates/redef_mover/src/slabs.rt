@@ -15,7 +15,7 @@ use var_layout::{is_record, recsize, slab};
 
 /// A slab, or a part of one: its places in the old file and in the new one, and its bytes.
 #[derive(Clone, Copy, Debug, PartialEq, Eq)]
-pub(crate) struct Shift {
+pub struct Shift {
     pub from: u64,
     pub to: u64,
     pub len: u64,
@@ -54,7 +54,7 @@ impl Shift {
 
 /// A number of bytes in the old file, and one in the new file.
 #[derive(Clone, Copy, Debug, PartialEq, Eq)]
-pub(crate) struct Offset {
+pub struct Offset {
     pub old: u64,
     pub new: u64,
 }
@@ -77,7 +77,7 @@ impl Offset {
 
 /// The slabs of the old variables, the lowest first: those of the fixed variables, and those of the record variables in record 0.
 #[derive(Drop)]
-pub(crate) struct Slabs {
+pub struct Slabs {
     pub fixed: Vec<Shift>,
     pub records: Vec<Shift>,
     /// How many records the record variables have. It is 0 where there is no such variable.

@@ -65,7 +65,7 @@ arrived_gone header own old new free gone ended = arrived_free header own old fr
 
 -- ---- one solo step
 
-call_alone : (hints : Hints) (s : Setting) (r n : ℕ) (c : Counted) (ranks : List Arrived) (t : Going) (o : Offer) → slice_get ranks r ≡ Some (t, Some o)
+pub call_alone : (hints : Hints) (s : Setting) (r n : ℕ) (c : Counted) (ranks : List Arrived) (t : Going) (o : Offer) → slice_get ranks r ≡ Some (t, Some o)
     → step_calls hints s (c, ranks) (Solo r n) ≡ solo_calls hints s r o c
 call_alone hints s r n c ranks t o e =
     ap (λ (m : Option Arrived). calls_at hints s r c (offer_of m)) e

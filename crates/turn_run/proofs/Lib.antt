@@ -1,27 +1,27 @@
-mod WrittenTwice
-mod StageLaws
+pub mod WrittenTwice
+pub mod StageLaws
 pub mod CountLaws
 pub mod RunnerLaws
 pub mod AloneLaws
-mod MeetPosts
-mod MeetSolo
-mod MeetJob
-mod MeetFile
-mod MeetHear
+pub mod MeetPosts
+pub mod MeetSolo
+pub mod MeetJob
+pub mod MeetFile
+pub mod MeetHear
 pub mod MeetOffers
 pub mod MeetStep
-mod MeetDone
-mod TurnSteps
-mod TurnEnds
-mod TurnRuns
+pub mod MeetDone
+pub mod TurnSteps
+pub mod TurnEnds
+pub mod TurnRuns
 pub mod TurnCauses
-mod TurnKnown
-mod CutLaws
+pub mod TurnKnown
+pub mod CutLaws
 pub mod CutMeet
 pub mod CutEnds
 pub mod CutRuns
 pub mod EndedLaws
-mod TurnWhole
+pub mod TurnWhole
 pub mod SaidLaws
-mod SaidMeet
+pub mod SaidMeet
 pub mod TellLaws

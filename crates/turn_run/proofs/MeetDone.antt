@@ -100,7 +100,7 @@ are_done script header len order runners mid now pair n table all met come freed
     within : {n k : ℕ} → r < n → k ≡ n → r < k
     within l e = subst (λ (m : ℕ). r < m) (sym e) l
 
-placed_free : (script : Script) (header : Header) (order : List Mark) (r : ℕ) (own : List _) (b : Runner) → b.held ≡ None → IsOnWay script order r (between own b) None
+pub placed_free : (script : Script) (header : Header) (order : List Mark) (r : ℕ) (own : List _) (b : Runner) → b.held ≡ None → IsOnWay script order r (between own b) None
     → IsPlaced script header order r (going_of own b) b.held
 placed_free script header order r own b e w =
     subst (λ (m : _). IsPlaced script header order r (elim m [ None ↦ between own b | Some o ↦ asking own b ]) m) (sym e) w

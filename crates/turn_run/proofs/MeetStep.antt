@@ -39,7 +39,7 @@ pub puts_same : (first : ℕ) (offers : List Offer) → flat_map puts_of (enumer
 puts_same first [] = refl
 puts_same first (o ∷ offers) = ap (λ (puts : Puts). map (λ post. (first, post)) o.batch.puts ++ puts) (puts_same (first + 1) offers)
 
-gets_same : (offers : List Offer) → flat_map gets_of offers ≡ gets_in (batches_of offers)
+pub gets_same : (offers : List Offer) → flat_map gets_of offers ≡ gets_in (batches_of offers)
 gets_same [] = refl
 gets_same (o ∷ offers) = ap (λ (gets : List Post). o.batch.gets ++ gets) (gets_same offers)
 
@@ -84,7 +84,7 @@ pub record IsDone (header : Header) (reply : Reply) (o : Offer) (a b : Runner) :
   pub same_header : b.rank.header ≡ a.rank.header
   pub heard : HasHeard a b reply
 
-arrived_done : (header : Header) (own : List Call) (reply : Reply) (o : Offer) (a b : Runner) → IsDone header reply o a b → heard header (arrived header own a, reply) ≡ arrived header own b
+pub arrived_done : (header : Header) (own : List Call) (reply : Reply) (o : Offer) (a b : Runner) → IsDone header reply o a b → heard header (arrived header own a, reply) ≡ arrived header own b
 arrived_done header own reply o a b d =
     ap (λ (x : Arrived). heard header (x, reply)) (arrived_held header own a o d.held)
     ∙ ap (advance header) (sym (heard_runner header own a b reply d.of_header d.heard)) ∙ sym (arrived_free header own b d.free)
@@ -93,7 +93,7 @@ abbrev pub AreDone : Header → Option Pair → ℕ → List Runner → List Run
 AreDone header pair n runners now table = (r : ℕ) (a b : Runner) (blobs : List (List ℕ)) → slice_get runners r ≡ Some a → slice_get now r ≡ Some b → slice_get table r ≡ Some blobs
     → (o : Offer) × IsDone header (reply_of pair n blobs) o a b
 
-ranks_done : (header : Header) (pair : Option Pair) (n : ℕ) (calls : List (List Call)) (runners now : List Runner) (table : List (List (List ℕ)))
+pub ranks_done : (header : Header) (pair : Option Pair) (n : ℕ) (calls : List (List Call)) (runners now : List Runner) (table : List (List (List ℕ)))
     → length now ≡ length runners → length table ≡ length runners → AreDone header pair n runners now table
     → map (heard header) (zip (arrived_all header calls runners) (map (reply_of pair n) table)) ≡ arrived_all header calls now
 ranks_done header pair n [] runners now table l m d = refl
@@ -119,7 +119,7 @@ offers_are header (own ∷ calls) (x ∷ runners) l m =
 
 -- ---- the step
 
-step_over : (s : Setting) (calls : List (List Call)) (runners now : List Runner) (batches : List Batch) (known n k : ℕ) (c : Counted) (pair : Option Pair) (table : List (List (List ℕ)))
+pub step_over : (s : Setting) (calls : List (List Call)) (runners now : List Runner) (batches : List Batch) (known n k : ℕ) (c : Counted) (pair : Option Pair) (table : List (List (List ℕ)))
     → length calls ≡ length runners → length now ≡ length runners → length table ≡ length runners → AllHold runners → AreDone s.header pair n runners now table
     → batches ≡ batches_of (held_offers runners) → known ≡ known_of (held_offers runners) → pair ≡ told s (puts_in batches) → n ≡ (met s batches known c).records
     → table ≡ map (λ b. map (get_post s (met s batches known c).file) b.gets) batches

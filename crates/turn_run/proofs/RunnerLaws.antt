@@ -88,7 +88,7 @@ next_call own answers n c e l g = subst (λ (k : ℕ). slice_get own k ≡ Some 
 
 -- ---- at an offer
 
-placed_with : (script : Script) (header : Header) (order : List Mark) (r : ℕ) (s : Going) (o : Offer) (k : OfferKind) → k ≡ o.kind
+pub placed_with : (script : Script) (header : Header) (order : List Mark) (r : ℕ) (s : Going) (o : Offer) (k : OfferKind) → k ≡ o.kind
     → IsPlacedWith script header order r (s, o) k → IsPlaced script header order r s (Some o)
 placed_with script header order r s o k e h = subst (λ (j : OfferKind). IsPlacedWith script header order r (s, o) j) e h
 

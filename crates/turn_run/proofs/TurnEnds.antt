@@ -30,13 +30,13 @@ use Rattle.serial_spec.proofs.LawfulTests.{some_rank}
 
 -- ---- a rank that has arrived
 
-met_kind : (script : Script) (header : Header) (order : List Mark) (r : ℕ) (s : Going) (o : Offer) (kind : OfferKind) → (kind ≡ offer.Solo → ⊥)
+pub met_kind : (script : Script) (header : Header) (order : List Mark) (r : ℕ) (s : Going) (o : Offer) (kind : OfferKind) → (kind ≡ offer.Solo → ⊥)
     → IsPlacedWith script header order r (s, o) kind → IsOnWay script order r s (Some o)
 met_kind script header order r s o offer.Solo n h = absurd (n refl)
 met_kind script header order r s o (offer.Meet kind) n h = h
 
 -- it is on its way, with its meeting offer or at the end of its calls
-met_way : (script : Script) (header : Header) (order : List Mark) (r : ℕ) (s : Going) (held : Option Offer) → IsMet held → IsPlaced script header order r s held
+pub met_way : (script : Script) (header : Header) (order : List Mark) (r : ℕ) (s : Going) (held : Option Offer) → IsMet held → IsPlaced script header order r s held
     → IsOnWay script order r s held
 met_way script header order r s None m h = h
 met_way script header order r s (Some o) m h = met_kind script header order r s o o.kind m h
@@ -44,7 +44,7 @@ met_way script header order r s (Some o) m h = met_kind script header order r s 
 abbrev pub Comes : Script → List Mark → ℕ → Runner → Type 0
 Comes script order r runner = IsOnWay script order r (going_of (calls_of script r) runner) runner.held
 
-comes : (script : Script) (header : Header) (len : ℕ) (order : List Mark) (runners : List Runner) → AreRunners script header len order runners → HaveArrived script runners
+pub comes : (script : Script) (header : Header) (len : ℕ) (order : List Mark) (runners : List Runner) → AreRunners script header len order runners → HaveArrived script runners
     → (r : ℕ) (runner : Runner) → slice_get runners r ≡ Some runner → Comes script order r runner
 comes script header len order runners a h r runner e =
     let is = a.each r runner e in
@@ -52,19 +52,19 @@ comes script header len order runners a h r runner e =
     met_way script header order r (going_of (calls_of script r) runner) runner.held has.met is.placed
 
 -- with an offer, or without
-holding : (script : Script) (order : List Mark) (r : ℕ) (runner : Runner) (o : Offer) → runner.held ≡ Some o → Comes script order r runner
+pub holding : (script : Script) (order : List Mark) (r : ℕ) (runner : Runner) (o : Offer) → runner.held ≡ Some o → Comes script order r runner
     → IsOnWay script order r (asking (calls_of script r) runner) (Some o)
 holding script order r runner o e w =
     subst (λ (m : Option Offer). IsOnWay script order r (elim m [ None ↦ between (calls_of script r) runner | Some x ↦ asking (calls_of script r) runner ]) m) e w
 
-free : (script : Script) (order : List Mark) (r : ℕ) (runner : Runner) → runner.held ≡ None → Comes script order r runner → IsOnWay script order r (between (calls_of script r) runner) None
+pub free : (script : Script) (order : List Mark) (r : ℕ) (runner : Runner) → runner.held ≡ None → Comes script order r runner → IsOnWay script order r (between (calls_of script r) runner) None
 free script order r runner e w =
     subst (λ (m : Option Offer). IsOnWay script order r (elim m [ None ↦ between (calls_of script r) runner | Some x ↦ asking (calls_of script r) runner ]) m) e w
 
 -- ---- all of them
 
 -- none has ended while another waits in a meeting
-not_both : (script : Script) (order : List Mark) (r q : ℕ) (runner other : Runner) (o : Offer) → runner.held ≡ Some o → Comes script order r runner → other.held ≡ None
+pub not_both : (script : Script) (order : List Mark) (r q : ℕ) (runner other : Runner) (o : Offer) → runner.held ≡ Some o → Comes script order r runner → other.held ≡ None
     → Comes script order q other → HasArrived (calls_of script q) other → ⊥
 not_both script order r q runner other o e w f v h =
     together_all script order r q _ _ o (holding script order r runner o e w) (free script order q other f v) (h.ended f)
@@ -119,7 +119,7 @@ long_between [] (runner ∷ runners) e = absurd (omega arith)
 long_between (own ∷ calls) [] e = refl
 long_between (own ∷ calls) (runner ∷ runners) e = ap (λ (k : ℕ). suc k) (long_between calls runners (omega arith))
 
-get_between : (calls : List (List Call)) (runners : List Runner) (r : ℕ) (s : Going) → slice_get (all_between calls runners) r ≡ Some s
+pub get_between : (calls : List (List Call)) (runners : List Runner) (r : ℕ) (s : Going) → slice_get (all_between calls runners) r ≡ Some s
     → (own : List Call) × ((runner : Runner) × ((slice_get calls r ≡ Some own) × ((slice_get runners r ≡ Some runner) × (between own runner ≡ s))))
 get_between [] runners r s e = absurd cc
 get_between (own ∷ calls) [] r s e = absurd cc
@@ -156,7 +156,7 @@ ended_legal script header len order runners lawful a f h =
         subst (λ (g : Going). IsOnWay script order r g None × (g.calls ≡ [])) (ap (λ (cs : List Call). between cs runner) same ∙ p.1.1.1.1) (w, over)
 
 -- those that have ended stand where they have gone up to
-arrived_over : (header : Header) (own : List Call) (runner : Runner) → runner.held ≡ None → drop (length runner.answers) own ≡ [] → arrived header own runner ≡ (between own runner, None)
+pub arrived_over : (header : Header) (own : List Call) (runner : Runner) → runner.held ≡ None → drop (length runner.answers) own ≡ [] → arrived header own runner ≡ (between own runner, None)
 arrived_over header own runner e f =
     ap (λ (m : Option Offer). elim m [ None ↦ advance header (between own runner) | Some o ↦ (asking own runner, Some o) ]) e
     ∙ advance_ended header own runner.rank.state runner.answers f

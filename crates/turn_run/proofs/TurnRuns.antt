@@ -52,7 +52,7 @@ pub first_count : (header : Header) (len records : ℕ) → is_sound header ≡ 
     → IsCount header len records
 first_count header len records h e l = subst (λ (n : ℕ). IsCount header len n) (sym e) (record { sound = h; long = l })
 
-first_placed : (script : Script) (header : Header) (r records : ℕ) → is_lawful script ≡ true → r < script.ranks → records ≡ header.records
+pub first_placed : (script : Script) (header : Header) (r records : ℕ) → is_lawful script ≡ true → r < script.ranks → records ≡ header.records
     → IsOnWay script [] r (between (calls_of script r) (first_runner header records)) None
 first_placed script header r records lawful l e =
     subst (λ (n : ℕ). IsOnWay script [] r (between (calls_of script r) (first_runner header n)) None) (sym e)
@@ -135,7 +135,7 @@ pub record IsClosed (hints : Hints) (s : Setting) (stand : Stand) (order : List 
   pub pending : map (λ runner. machine.pending runner.rank.state) runners ≡ (ended_from s stand order).pending
   pub calls : made ≡ with_end begun (all_calls_over hints s stand order)
 
-led_closed : (script : Script) (header : Header) (order : List Mark) (calls made later : Option (List DiskCall)) (left held : Option (List ℕ)) (count records from : ℕ)
+pub led_closed : (script : Script) (header : Header) (order : List Mark) (calls made later : Option (List DiskCall)) (left held : Option (List ℕ)) (count records from : ℕ)
     (runners : List Runner) (ranks : List Arrived) (file : List ℕ) (told : Option (List ℕ)) → length script.calls ≡ length runners → AreOver script.calls runners
     → HasClosed header (most_known runners) (contents_of left count) (contents_of held records) made later
     → IsLed script.hints (setting_of script header) order file (stage told calls from ranks) (stage left made count (arrived_all header script.calls runners))

@@ -37,7 +37,7 @@ use Rattle.std.proofs.lemmas.List.{length-set}
 
 -- ---- solo steps that are added to an order
 
-solos_known : (ranks n : ℕ) (more : List Mark) → n < ranks → list_all (is_solo_of n) more ≡ true → list_all (is_of_rank_below ranks) more ≡ true
+pub solos_known : (ranks n : ℕ) (more : List Mark) → n < ranks → list_all (is_solo_of n) more ≡ true → list_all (is_of_rank_below ranks) more ≡ true
 solos_known ranks n [] l h = refl
 solos_known ranks n (Meet k ∷ more) l h = absurd cc
 solos_known ranks n (Solo q c ∷ more) l h =
@@ -61,7 +61,7 @@ grown_meetings n before now g =
 
 -- ---- where the others are placed
 
-placed_with_more : (script : Script) (header : Header) (order more : List Mark) (r q : ℕ) (s : Going) (o : Offer) (kind : OfferKind) → q ≢ r
+pub placed_with_more : (script : Script) (header : Header) (order more : List Mark) (r q : ℕ) (s : Going) (o : Offer) (kind : OfferKind) → q ≢ r
     → list_all (is_solo_of q) more ≡ true → IsPlacedWith script header order r (s, o) kind → IsPlacedWith script header (order ++ more) r (s, o) kind
 placed_with_more script header order more r q s o offer.Solo n h w = record {
   before = w.before;
@@ -72,12 +72,12 @@ placed_with_more script header order more r q s o offer.Solo n h w = record {
 }
 placed_with_more script header order more r q s o (offer.Meet kind) n h w = way_others script order more r q s (Some o) n h w
 
-placed_more : (script : Script) (header : Header) (order more : List Mark) (r q : ℕ) (s : Going) (held : Option Offer) → q ≢ r
+pub placed_more : (script : Script) (header : Header) (order more : List Mark) (r q : ℕ) (s : Going) (held : Option Offer) → q ≢ r
     → list_all (is_solo_of q) more ≡ true → IsPlaced script header order r s held → IsPlaced script header (order ++ more) r s held
 placed_more script header order more r q s None n h w = way_others script order more r q s None n h w
 placed_more script header order more r q s (Some o) n h w = placed_with_more script header order more r q s o o.kind n h w
 
-runner_beside : (script : Script) (header : Header) (before now : List Mark) (r q : ℕ) (runner : Runner) → q ≢ r → IsGrownBy q before now
+pub runner_beside : (script : Script) (header : Header) (before now : List Mark) (r q : ℕ) (runner : Runner) → q ≢ r → IsGrownBy q before now
     → IsRunner script header before r runner → IsRunner script header now r runner
 runner_beside script header before now r q runner n g h = record {
   of_header = h.of_header;

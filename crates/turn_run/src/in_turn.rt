@@ -113,7 +113,7 @@ pub fn run_in_turn_told<R: Threads + Wait + Sync, D: Disk, G: Gate, T: Told>(
 }
 
 /// A runner for each rank.
-fn runners_of<'a>(
+pub fn runners_of<'a>(
     alloc: Global,
     header: &'a Header,
     names: &'a Names,
@@ -207,7 +207,7 @@ fn arrive_all<R: Threads + Wait + Sync, D: Disk, G: Gate, T: Told>(
 }
 
 /// Each rank holds an offer.
-fn all_hold(runners: &[Runner]) -> bool
+pub fn all_hold(runners: &[Runner]) -> bool
     ensures { IsTrue result ↔ HaveMet runners.now }
 {
     runners.iter().all(|runner| runner.held.is_some())

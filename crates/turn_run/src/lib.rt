@@ -10,9 +10,9 @@ mod rank_ends;
 mod runners;
 mod solo;
 
-pub use in_turn::{run_in_turn, run_in_turn_told};
+pub use in_turn::{all_hold, run_in_turn, run_in_turn_told, runners_of};
 pub use mark::note_step;
-pub use meeting::{add_offer, meet_on_file};
+pub use meeting::{add_offer, hear_all, known_by, meet_on_file, take_job};
 pub use rank_ends::{end_run, stopped};
 pub use runners::{Runner, own_calls};
-pub use solo::solo_reply;
+pub use solo::{solo_reply, told_pair};

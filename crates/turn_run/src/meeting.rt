@@ -101,7 +101,7 @@ pub(crate) fn meet<R: Threads + Wait + Sync, D: Disk, G: Gate, T: Told>(
 }
 
 /// Takes the offers of a meeting: their batches, and the count to which it raises that of the file.
-fn take_job(alloc: Global, runners: &mut [Runner]) -> Result<(Job, u64), Memory>
+pub fn take_job(alloc: Global, runners: &mut [Runner]) -> Result<(Job, u64), Memory>
     ensures batches { IfOk result (λ taken. taken.0.batches ≡ batches_of (held_offers runners.old)) }
     ensures known { IfOk result (λ taken. taken.1 ≡ known_of (held_offers runners.old)) }
     ensures freed { OnOk result (AreFreed runners.old runners.new) }
@@ -147,7 +147,7 @@ pub fn add_offer(held: Option<Offer>, batches: &mut Vec<Batch>) -> Result<u64, M
 
 /// The count to which an offer of a meeting raises that of the file: what its rank knows, where the meeting ends independent data
 /// mode or makes the counts agree.
-fn known_by(offer: &Offer) -> u64
+pub fn known_by(offer: &Offer) -> u64
     ensures { result ≡ known_by offer.now.kind offer.now.known }
 {
     match offer.kind {
@@ -194,7 +194,7 @@ pub fn meet_on_file<R: Threads + Wait + Sync, D: Disk, G: Gate>(
 }
 
 /// Lets each rank hear its reply.
-fn hear_all(
+pub fn hear_all(
     runners: &mut [Runner],
     pair: Option<Pair>,
     records: u64,

@@ -59,7 +59,7 @@ pub fn solo_reply<D: Disk>(
 }
 
 /// The pair that the ranks of a step are told.
-pub(crate) fn told_pair(end: PutEnd) -> Option<Pair>
+pub fn told_pair(end: PutEnd) -> Option<Pair>
     ensures { result ≡ pair_of end }
 {
     match end {
