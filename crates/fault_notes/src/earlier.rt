@@ -14,7 +14,7 @@ enum Named<'a> {
     Post(u32, u32),
 }
 
-fn named(line: Line<'_>) -> Option<Named<'_>> {
+fn name_of(line: Line<'_>) -> Option<Named<'_>> {
     let words = first_words(line.text);
     match line.part {
         Part::Definitions => defined(words),
@@ -44,10 +44,10 @@ fn posted(words: [&[u8]; 5]) -> Option<Named<'_>> {
 
 /// The line before this one that names the same.
 pub(crate) fn first_naming<'a>(lines: &[Line<'a>], line: Line<'a>) -> Option<u32> {
-    let own = named(line)?;
+    let own = name_of(line)?;
     lines
         .iter()
-        .find(|other| named(**other) == Some(own))
+        .find(|other| name_of(**other) == Some(own))
         .map(|other| other.number)
         .filter(|number| *number < line.number)
 }
@@ -55,7 +55,7 @@ pub(crate) fn first_naming<'a>(lines: &[Line<'a>], line: Line<'a>) -> Option<u32
 // Whether a line before this one defines a dimension of this name.
 fn is_dim(lines: &[Line<'_>], name: &[u8], line: Line<'_>) -> bool {
     lines.iter().any(|other| {
-        other.number < line.number && named(*other) == Some(Named::Plain(b"dim", name))
+        other.number < line.number && name_of(*other) == Some(Named::Plain(b"dim", name))
     })
 }
 

@@ -3,7 +3,7 @@ use crate::cursor::first_words;
 use crate::earlier::{first_naming, record_dim, undefined};
 use crate::lines::{Line, Part, lines_of};
 use crate::meetings::push_difference;
-use crate::replay::{Refused, refused};
+use crate::replay::{Refused, first_refused};
 use crate::shown::shown;
 use crate::words::{push_missing, push_refused, shown_at};
 use nc_base::{LimitName, ScriptErr, ScriptKind};
@@ -21,7 +21,7 @@ pub(crate) fn push_script_note(
     if lines.is_empty() {
         return out.push_str("the script is empty");
     }
-    match refused(alloc, lines.as_slice())? {
+    match first_refused(alloc, lines.as_slice())? {
         Some(refused) if is_told(alloc, &refused, told)? => {
             push_note(out, alloc, lines.as_slice(), &refused)
         }

@@ -31,7 +31,7 @@ struct Replay<'a> {
 }
 
 /// The fault of a script, where it has one.
-pub(crate) fn refused<'a>(
+pub(crate) fn first_refused<'a>(
     alloc: Global,
     lines: &[Line<'a>],
 ) -> Result<Option<Refused<'a>>, AllocError> {

@@ -25,7 +25,7 @@ pub(crate) fn push_surplus(
 ) -> Result<(), AllocError> {
     let lines = lines_of(alloc, script)?;
     let shapes = Shapes::new(alloc, header, lines.as_slice())?;
-    let mut found = lines.iter().filter_map(|line| surplus(&shapes, *line));
+    let mut found = lines.iter().filter_map(|line| surplus_of(&shapes, *line));
     let Some(first) = found.next() else {
         return Ok(());
     };
@@ -42,7 +42,7 @@ pub(crate) fn push_surplus(
     Ok(())
 }
 
-fn surplus<'a>(shapes: &Shapes<'a>, line: Line<'a>) -> Option<Surplus> {
+fn surplus_of<'a>(shapes: &Shapes<'a>, line: Line<'a>) -> Option<Surplus> {
     if line.part != Part::Calls {
         return None;
     }
