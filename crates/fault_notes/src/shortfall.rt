@@ -1,18 +1,13 @@
 // A dataset that was shorter than its header says.
-ghost use Rattle.std.specs.Prelude.{◌≡◌, true, IfSome};
-ghost use Rattle.serial_spec.specs.SoundHeaders.{is_sound};
-
 use crate::ended::Ended;
 use crate::shown::shown;
 use cdf_header::decode;
 use nc_base::{Header, MAX_HEADER_BYTES};
 use std::alloc::{AllocError, Global};
-use var_layout::end_of;
+use var_layout::file_end;
 
 /// The header that the first bytes of a dataset spell, where they spell one.
-pub(crate) fn header_of(alloc: Global, front: &[u8]) -> Option<Header>
-    ensures { IfSome result (λ header. is_sound header ≡ true) }
-{
+pub(crate) fn header_of(alloc: Global, front: &[u8]) -> Option<Header> {
     if front.len() as u64 > MAX_HEADER_BYTES {
         return None;
     }
@@ -28,11 +23,9 @@ pub(crate) fn push_shortfall(
     alloc: Global,
     ended: &Ended<'_>,
     header: &Header,
-) -> Result<(), AllocError>
-    requires { is_sound header.now ≡ true }
-{
+) -> Result<(), AllocError> {
     let there = ended.length;
-    let wanted = end_of(header, header.records);
+    let wanted = file_end(header, header.records);
     if there >= wanted {
         return Ok(());
     }

@@ -17,11 +17,11 @@ struct Surplus {
 }
 
 /// What is said of calls that are given more values than they ask for, where there are some.
-pub(crate) fn push_surplus(
+pub(crate) fn push_surplus<'a>(
     out: &mut String,
     alloc: Global,
-    script: &[u8],
-    header: Option<&Header>,
+    script: &'a [u8],
+    header: Option<&'a Header>,
 ) -> Result<(), AllocError> {
     let lines = lines_of(alloc, script)?;
     let shapes = Shapes::new(alloc, header, lines.as_slice())?;

@@ -1,4 +1,6 @@
 // A disk that remembers what it opened.
+ghost use Rattle.std.specs.Prelude.{◌≡◌};
+
 use nc_outside::{Disk, DiskErr};
 use std::alloc::Global;
 
@@ -12,7 +14,9 @@ pub(crate) struct OpenedDisk<D: Disk> {
 }
 
 impl<D: Disk> OpenedDisk<D> {
-    pub(crate) fn new(disk: D) -> Self {
+    pub(crate) fn new(disk: D) -> Self
+        ensures { result.disk ≡ disk }
+    {
         OpenedDisk {
             disk,
             length: 0,
