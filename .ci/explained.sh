@@ -57,6 +57,20 @@ refuses 'an id that is posted twice' 'line 7, word 3: `07` is there on line 6 al
 refuses 'a text that is not closed' \
     'line 6, word 4: the text is not closed, or has another escape than \" \\ \n \t \xHH, or goes on behind its quote' \
     "$(call '0 put_var_all v "one')"
+refuses 'a number of values that is none' \
+    "line 6, word 5: \`2.5\` is no such value; a float's values are given as bits, x40200000, and a double's as x4004000000000000" \
+    "$(call '0 put_var_all v seq 2.5 1 1')"
+refuses 'a sequence that ends early' \
+    'line 6 ends behind word 6; values are whole numbers, bits as x3FC00000, one text, or seq N A B, all of one kind' \
+    "$(call '0 put_var_all v seq 4 1')"
+refuses 'a sequence with a step that is none' \
+    'line 6, word 8: `z` is no such value; values are whole numbers, bits as x3FC00000, one text, or seq N A B, all of one kind' \
+    "$(call '0 put_vara_all v [0] [1] seq 4 z')"
+refuses 'a word behind a text' 'line 6, word 5: `1` is one word too many' "$(call '0 put_var_all v "ab" 1')"
+refuses 'an id behind all' 'line 6, word 4: `1` is one word too many' "$(call '0 wait_all all 1')"
+refuses 'a COUNT before seq' \
+    'line 6, word 5: `7` is no list of sizes; COUNT is sizes in brackets, with commas and without blanks, as [0,2]' \
+    "$(call '0 put_vara_all v [0] 7 seq 1 1 1')"
 refuses 'a version' 'line 1, word 2: `3` is no version; a version is 1, 2 or 5' 'create 3'
 refuses 'a number of ranks' 'line 2, word 2: `128` is no number of ranks; there are 1 to 64' "$(printf 'create 1\nranks 128')"
 refuses 'no head' 'line 1: a script begins with `create 1`, `create 2`, `create 5` or `open`' 'ranks 2'
@@ -103,7 +117,7 @@ var int v [x,t]')"
 refuses 'no ranks' 'line 2: no line before `data` says how many ranks there are, as `ranks 2`' "$(printf 'create 1\ndata')"
 refuses 'no data' 'line 3 is the last one; `data` and `end` are wanted behind it' "$(printf 'create 1\nranks 1\ndim x 4')"
 refuses 'no end' 'line 4 is the last one; `end` is wanted behind it' "$(printf 'create 1\nranks 1\ndata\n0 sync_numrecs')"
-refuses 'a line behind the end' 'line 5: `end` stands on line 4' "$(define '')
+refuses 'a line behind the end' 'line 6: `end` stands on line 5' "$(define '')
 0 sync_numrecs"
 refuses 'a control character' 'line 3, word 1: `\x1B[0m` is no definition; before `data` a line begins with ranks, hint, fill, dim, var or att' \
     "$(define "$(printf '\033[0m')")"

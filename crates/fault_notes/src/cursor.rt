@@ -29,10 +29,7 @@ impl<'a> Cursor<'a> {
         if rest.is_empty() {
             return None;
         }
-        let end = rest
-            .iter()
-            .position(|c| is_blank(*c))
-            .unwrap_or(rest.len());
+        let end = rest.iter().position(|c| is_blank(*c)).unwrap_or(rest.len());
         self.rest = rest.get(end..).unwrap_or(&[]);
         rest.get(..end)
     }

@@ -3,7 +3,7 @@ use crate::access::Access;
 use crate::cursor::first_words;
 use crate::lines::{Line, Part};
 use script_words::ListParts;
-use script_words::numbers::{between_brackets, digits_below, begins_rank, id_of_text};
+use script_words::numbers::{begins_rank, between_brackets, digits_below, id_of_text};
 
 // What a line names: no two lines of a script may name the same.
 #[derive(Clone, Copy, PartialEq, Eq)]
@@ -81,8 +81,8 @@ fn undefined_dim<'a>(lines: &[Line<'a>], shape: &'a [u8], line: Line<'a>) -> Opt
 
 /// The line that gives a dimension the length `unlimited`.
 pub(crate) fn record_dim<'a>(lines: &[Line<'a>]) -> Option<Line<'a>> {
-    lines
-        .iter()
-        .copied()
-        .find(|line| matches!(first_words(line.text), [b"dim", _, b"unlimited", ..]))
+    lines.iter().copied().find(|line| matches!(
+        first_words(line.text),
+        [b"dim", _, b"unlimited", ..]
+    ))
 }

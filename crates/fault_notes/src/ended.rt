@@ -6,56 +6,59 @@ use crate::shortfall::{header_of, push_shortfall};
 use crate::shown::shown;
 use crate::surplus::push_surplus;
 use std::alloc::{AllocError, Global};
+use std::io;
 
 /// What is known of a run that has ended.
-#[derive(Clone, Copy)]
-pub struct Ended<'a> {
+#[derive(Drop)]
+pub struct Run<'a> {
     pub status: u8,
-    pub dataset: &'a str,
-    /// The script; empty where none was read.
+    /// The bytes of the script; none where none was read.
     pub script: &'a [u8],
-    /// The line of the text that tells a fault, where there is one.
+    /// The front of the text, in which a line that tells a fault is whole.
     pub line: &'a [u8],
+    /// The requests that the text tells as pending.
     pub pending: Option<Pending>,
-    /// The first bytes of a dataset that was opened, among which its header stands; empty where none was.
+    /// The first bytes of a dataset that was opened, among which its header stands; none where none was.
     pub front: &'a [u8],
     /// How many bytes it had then.
     pub length: u64,
-    /// Whether it was listed alone, and so kept its length.
-    pub is_listed: bool,
-    /// The cause that the system gave for a disk fault; empty where there was none.
-    pub cause: &'a str,
+    /// Why a call of the disk failed.
+    pub cause: Option<io::Error>,
 }
 
 /// The lines for standard error, none of them where nothing is to be said.
-pub fn notes(alloc: Global, ended: &Ended<'_>) -> Result<String, AllocError> {
+pub(crate) fn notes(alloc: Global, dataset: &str, run: &Run<'_>) -> Result<String, AllocError> {
     let mut notes = String::new(alloc);
-    if ended.status == 0 {
-        push_passed_over(&mut notes, alloc, ended)?;
+    if run.status == 0 {
+        push_passed_over(&mut notes, alloc, dataset, run)?;
     } else {
-        let note = fault_note(alloc, ended)?;
+        let note = fault_note(alloc, dataset, run)?;
         push_line(&mut notes, note.as_str())?;
     }
     Ok(notes)
 }
 
-fn fault_note(alloc: Global, ended: &Ended<'_>) -> Result<String, AllocError> {
+fn fault_note(alloc: Global, dataset: &str, run: &Run<'_>) -> Result<String, AllocError> {
     let mut note = String::new(alloc);
-    match ended.status {
-        3 => push_script_note(&mut note, alloc, ended.script, ended.line)?,
-        4 => push_redefinition(&mut note, alloc, ended.script, ended.line)?,
-        7 => push_cause(&mut note, alloc, ended)?,
+    match run.status {
+        3 => push_script_note(&mut note, alloc, run.script, run.line)?,
+        4 => push_redefinition(&mut note, alloc, run.script, run.line)?,
+        7 => push_cause(&mut note, alloc, dataset, run.cause)?,
         _ => {}
     }
     Ok(note)
 }
 
-fn push_cause(out: &mut String, alloc: Global, ended: &Ended<'_>) -> Result<(), AllocError> {
-    let cause = ended.cause;
-    if cause.is_empty() {
+fn push_cause(
+    out: &mut String,
+    alloc: Global,
+    dataset: &str,
+    cause: Option<io::Error>,
+) -> Result<(), AllocError> {
+    let Some(cause) = cause else {
         return Ok(());
-    }
-    let dataset = shown(alloc, ended.dataset.as_bytes())?;
+    };
+    let dataset = shown(alloc, dataset.as_bytes())?;
     write!(out, "{dataset}: {cause}")
 }
 
@@ -63,18 +66,19 @@ fn push_cause(out: &mut String, alloc: Global, ended: &Ended<'_>) -> Result<(), 
 fn push_passed_over(
     notes: &mut String,
     alloc: Global,
-    ended: &Ended<'_>,
+    dataset: &str,
+    run: &Run<'_>,
 ) -> Result<(), AllocError> {
-    let header = header_of(alloc, ended.front);
+    let header = header_of(alloc, run.front);
     if let Some(header) = &header {
         let mut note = String::new(alloc);
-        push_shortfall(&mut note, alloc, ended, header)?;
+        push_shortfall(&mut note, alloc, dataset, run, header)?;
         push_line(notes, note.as_str())?;
     }
     let mut note = String::new(alloc);
-    push_surplus(&mut note, alloc, ended.script, header.as_ref())?;
+    push_surplus(&mut note, alloc, run.script, header.as_ref())?;
     push_line(notes, note.as_str())?;
-    if let Some(pending) = ended.pending {
+    if let Some(pending) = run.pending {
         let mut note = String::new(alloc);
         push_pending(&mut note, pending)?;
         push_line(notes, note.as_str())?;

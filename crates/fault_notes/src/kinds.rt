@@ -83,9 +83,12 @@ fn push_twice(
         return Ok(());
     };
     let number = refused.line.number;
-    let place = refused.taken;
+    let place = refused.place;
     let word = shown_at(alloc, refused.line, place)?;
-    write!(out, "line {number}, word {place}: {word} is there on line {first} already")
+    write!(
+        out,
+        "line {number}, word {place}: {word} is there on line {first} already"
+    )
 }
 
 fn push_undefined(
@@ -106,7 +109,10 @@ fn push_ranks(out: &mut String, alloc: Global, refused: &Refused<'_>) -> Result<
     let number = refused.line.number;
     let word = shown_at(alloc, refused.line, 1)?;
     let last = refused.ranks.saturating_sub(1);
-    write!(out, "line {number}, word 1: {word} is no rank; the ranks are 0 to {last}")
+    write!(
+        out,
+        "line {number}, word 1: {word} is no rank; the ranks are 0 to {last}"
+    )
 }
 
 fn push_shape(
@@ -120,15 +126,24 @@ fn push_shape(
         (b"dim", Some(record)) => {
             let name = shown(alloc, first_words(record.text)[1])?;
             let first = record.number;
-            write!(out, "line {number}: a dataset has one unlimited dimension, and {name} is it on line {first}")
+            write!(
+                out,
+                "line {number}: a dataset has one unlimited dimension, and {name} is it on line {first}"
+            )
         }
-        _ => write!(out, "line {number}: the record dimension stands first in a variable, and once"),
+        _ => write!(
+            out,
+            "line {number}: the record dimension stands first in a variable, and once"
+        ),
     }
 }
 
 fn push_head(out: &mut String, line: Line<'_>) -> Result<(), AllocError> {
     let number = line.number;
-    write!(out, "line {number}: a script begins with `create 1`, `create 2`, `create 5` or `open`")?;
+    write!(
+        out,
+        "line {number}: a script begins with `create 1`, `create 2`, `create 5` or `open`"
+    )?;
     if line.text.starts_with(b"\xEF\xBB\xBF") {
         out.push_str(", and not with a byte-order mark")?;
     }

@@ -1,6 +1,5 @@
 // Requests that nobody waited for.
-use memchr::memmem::find_iter;
-use memchr::memmem::find;
+use memchr::memmem::{find, find_iter};
 use std::alloc::AllocError;
 
 /// The requests of a run that nobody waited for or cancelled.
@@ -20,7 +19,7 @@ const PENDING: &[u8] = b"\npending ";
 const LAYOUT: &[u8] = b"\n// file format";
 
 /// The requests that the text of a run tells, where there are some.
-pub fn pending_in(text: &[u8]) -> Option<Pending> {
+pub(crate) fn pending_in(text: &[u8]) -> Option<Pending> {
     let answers = match find(text, LAYOUT) {
         Some(end) => text.get(..end)?,
         None => text,
@@ -69,8 +68,17 @@ pub(crate) fn push_pending(out: &mut String, pending: Pending) -> Result<(), All
         first,
     } = pending;
     match (requests, ranks) {
-        (1, _) => write!(out, "rank {first} never waited for 1 request, so it was not done"),
-        (_, 1) => write!(out, "rank {first} never waited for {requests} requests, so they were not done"),
-        _ => write!(out, "{ranks} ranks, the first of them rank {first}, never waited for {requests} requests, so they were not done"),
+        (1, _) => write!(
+            out,
+            "rank {first} never waited for 1 request, so it was not done"
+        ),
+        (_, 1) => write!(
+            out,
+            "rank {first} never waited for {requests} requests, so they were not done"
+        ),
+        _ => write!(
+            out,
+            "{ranks} ranks, the first of them rank {first}, never waited for {requests} requests, so they were not done"
+        ),
     }
 }

@@ -35,8 +35,7 @@ fn parsed(told: &[u8]) -> Option<(usize, &[u8])> {
 }
 
 fn adds(line: &Line<'_>) -> bool {
-    line.part == Part::Definitions
-        && matches!(first_words(line.text)[0], b"dim" | b"var" | b"att")
+    line.part == Part::Definitions && matches!(first_words(line.text)[0], b"dim" | b"var" | b"att")
 }
 
 fn push_cause(
@@ -60,7 +59,11 @@ fn push_cause(
 // The name that a line adds.
 fn added<'a>(words: [&'a [u8]; 5]) -> &'a [u8] {
     let [kind, first, second, ..] = words;
-    if kind == b"dim".as_slice() { first } else { second }
+    if kind == b"dim".as_slice() {
+        first
+    } else {
+        second
+    }
 }
 
 fn push_taken(out: &mut String, alloc: Global, words: [&[u8]; 5]) -> Result<(), AllocError> {
@@ -93,11 +96,17 @@ fn push_shape(out: &mut String, alloc: Global, words: [&[u8]; 5]) -> Result<(), 
     match words {
         [b"dim", name, ..] => {
             let name = shown(alloc, name)?;
-            write!(out, "the dataset has a record dimension already, so {name} can be none")
+            write!(
+                out,
+                "the dataset has a record dimension already, so {name} can be none"
+            )
         }
         [_, _, _, dims, ..] => {
             let dims = shown(alloc, dims)?;
-            write!(out, "the record dimension stands first in a variable, and once, and not as in {dims}")
+            write!(
+                out,
+                "the record dimension stands first in a variable, and once, and not as in {dims}"
+            )
         }
     }
 }
@@ -106,7 +115,10 @@ fn push_type(out: &mut String, alloc: Global, words: [&[u8]; 5]) -> Result<(), A
     match words {
         [b"dim", _, length, ..] => {
             let length = shown(alloc, length)?;
-            write!(out, "a dataset of version 1 or 2 has no dimension so long as {length}")
+            write!(
+                out,
+                "a dataset of version 1 or 2 has no dimension so long as {length}"
+            )
         }
         [b"var", kind, ..] | [_, _, _, kind, ..] => {
             let kind = shown(alloc, kind)?;
@@ -117,5 +129,8 @@ fn push_type(out: &mut String, alloc: Global, words: [&[u8]; 5]) -> Result<(), A
 
 fn push_many(out: &mut String, alloc: Global, words: [&[u8]; 5]) -> Result<(), AllocError> {
     let name = shown(alloc, added(words))?;
-    write!(out, "{name} is one too many; a dataset has at most 1024 dimensions and 8192 variables")
+    write!(
+        out,
+        "{name} is one too many; a dataset has at most 1024 dimensions and 8192 variables"
+    )
 }

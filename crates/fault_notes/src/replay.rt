@@ -1,5 +1,6 @@
 // A script read once more, by the readers that read it first, up to the line that they refuse.
 use crate::lines::{Line, Part};
+use crate::places::place_of;
 use nc_base::ScriptKind;
 use script_calls::RankTable;
 use script_calls::mismatch::mismatch;
@@ -13,8 +14,8 @@ use std::alloc::{AllocError, Global};
 pub(crate) struct Refused<'a> {
     pub line: Line<'a>,
     pub kind: ScriptKind,
-    /// How many words of the line were read; the last of them was refused.
-    pub taken: usize,
+    /// The place of the refused word in the line, from 1; where one is missing, that of the last word.
+    pub place: usize,
     /// How many ranks there are, where that is known.
     pub ranks: u32,
 }
@@ -68,7 +69,7 @@ impl<'a> Replay<'a> {
                 Ok(Some(Refused {
                     line,
                     kind,
-                    taken: all.saturating_sub(left),
+                    place: place_of(line, kind, all.saturating_sub(left)),
                     ranks: self.ranks,
                 }))
             }
@@ -135,7 +136,7 @@ impl<'a> Replay<'a> {
         Ok(Some(Refused {
             line: *line,
             kind,
-            taken: 0,
+            place: 0,
             ranks: self.ranks,
         }))
     }

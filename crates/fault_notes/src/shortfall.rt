@@ -1,5 +1,5 @@
 // A dataset that was shorter than its header says.
-use crate::ended::Ended;
+use crate::ended::Run;
 use crate::shown::shown;
 use cdf_header::decode;
 use nc_base::{Header, MAX_HEADER_BYTES};
@@ -21,17 +21,21 @@ pub(crate) fn header_of(alloc: Global, front: &[u8]) -> Option<Header> {
 pub(crate) fn push_shortfall(
     out: &mut String,
     alloc: Global,
-    ended: &Ended<'_>,
+    dataset: &str,
+    run: &Run<'_>,
     header: &Header,
 ) -> Result<(), AllocError> {
-    let there = ended.length;
+    let there = run.length;
     let wanted = file_end(header, header.records);
     if there >= wanted {
         return Ok(());
     }
-    let dataset = shown(alloc, ended.dataset.as_bytes())?;
-    write!(out, "{dataset} had {there} bytes, and its header says {wanted}; ")?;
-    out.push_str(if ended.is_listed {
+    let dataset = shown(alloc, dataset.as_bytes())?;
+    write!(
+        out,
+        "{dataset} had {there} bytes, and its header says {wanted}; "
+    )?;
+    out.push_str(if run.script.is_empty() {
         "what is missing reads as zeros"
     } else {
         "it was made so long, and what was missing reads as zeros"

@@ -143,16 +143,22 @@ impl Slot {
         match self {
             Slot::Hint => push_hints(out),
             Slot::HintValue(form) => push_form(out, form),
-            Slot::List(name) => write!(out, "{name} is sizes in brackets, with commas and without blanks, as [0,2]"),
+            Slot::List(name) => write!(
+                out,
+                "{name} is sizes in brackets, with commas and without blanks, as [0,2]"
+            ),
             Slot::Typed(wanted) => out.push_str(wanted),
             other => out.push_str(other.wanted()),
         }
     }
 
-    /// Whether a decimal number is a likely slip here.
-    pub(crate) fn takes_bits(self) -> bool {
+    /// Whether this number is given in decimals where bits are wanted.
+    pub(crate) fn takes_bits(self, decimal: &str) -> bool {
         match self {
-            Slot::Value => true,
+            Slot::Value => decimal
+                .as_bytes()
+                .iter()
+                .any(|c| matches!(*c, b'.' | b'e' | b'E')),
             Slot::Typed(wanted) => wanted == FLOAT || wanted == DOUBLE,
             _ => false,
         }
@@ -162,21 +168,27 @@ impl Slot {
     fn wanted(self) -> &'static str {
         match self {
             Slot::Version => "a version is 1, 2 or 5",
-            Slot::Definition => "before `data` a line begins with ranks, hint, fill, dim, var or att",
+            Slot::Definition =>
+                "before `data` a line begins with ranks, hint, fill, dim, var or att",
             Slot::Ranks => "there are 1 to 64",
-            Slot::Length => "a length is `unlimited`, or from 1 to below 2^31, in version 5 to below 2^62",
-            Slot::Type => "the types are byte, char, short, int, float, double, and in version 5 ubyte, ushort, uint, int64, uint64",
+            Slot::Length =>
+                "a length is `unlimited`, or from 1 to below 2^31, in version 5 to below 2^62",
+            Slot::Type =>
+                "the types are byte, char, short, int, float, double, and in version 5 ubyte, ushort, uint, int64, uint64",
             Slot::Dims => "dimensions stand in brackets, with commas and without blanks, as [t,x]",
             Slot::Owner => "an attribute is of a variable, or of the dataset, which is `:`",
             Slot::Rank => "after `data` a line begins with the number of a rank",
             Slot::Call => "a call is PnetCDF's without ncmpi_ and without a type, as put_vara_all",
             Slot::Id => "an id is a number below 2^32",
-            Slot::Name => "a name has letters, digits and _ . - + @, and begins with a letter, a digit or _",
+            Slot::Name =>
+                "a name has letters, digits and _ . - + @, and begins with a letter, a digit or _",
             Slot::Size => "a size is a whole number below 2^63",
             Slot::Parts => "a varn says first how many parts it has, from 1 to 1024",
             Slot::Choice => "`all` or ids are wanted",
-            Slot::Value => "values are whole numbers, bits as x3FC00000, one text, or seq N A B, all of one kind",
-            Slot::Hint | Slot::HintValue(_) | Slot::List(_) | Slot::Typed(_) | Slot::Nothing => "nothing more is wanted",
+            Slot::Value =>
+                "values are whole numbers, bits as x3FC00000, one text, or seq N A B, all of one kind",
+            Slot::Hint | Slot::HintValue(_) | Slot::List(_) | Slot::Typed(_) | Slot::Nothing =>
+                "nothing more is wanted",
         }
     }
 }

@@ -35,7 +35,10 @@ pub(crate) fn push_surplus<'a>(
         asked,
         given,
     } = first;
-    write!(out, "line {number}: {given} values are given and {asked} asked for; what is beyond is left out")?;
+    write!(
+        out,
+        "line {number}: {given} values are given and {asked} asked for; what is beyond is left out"
+    )?;
     if more > 0 {
         write!(out, ", and so on {more} more lines")?;
     }
@@ -99,8 +102,8 @@ fn parts(words: &mut Cursor<'_>) -> Option<u64> {
     Some(sum)
 }
 
-// The product of a list of sizes.
-fn product(list: &[u8]) -> Option<u64> {
+/// The product of a list of sizes.
+pub(crate) fn product(list: &[u8]) -> Option<u64> {
     let mut sizes = ListParts::new(between_brackets(list)?);
     let mut product = 1u64;
     for _ in 0..list.len() {

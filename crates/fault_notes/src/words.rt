@@ -28,18 +28,23 @@ pub(crate) fn push_refused(
     refused: &Refused<'_>,
 ) -> Result<(), AllocError> {
     let number = refused.line.number;
-    let place = refused.taken;
+    let place = refused.place;
     let word = shown_at(alloc, refused.line, place)?;
     write!(out, "line {number}, word {place}: {word} is ")?;
     match refused.kind {
         ScriptKind::ExtraWord => push_extra(out, word.as_str()),
         ScriptKind::BadText if word.as_str() == "the text" => out.push_str(BROKEN),
-        _ => push_wanted(out, slot_of(refused.line, place.saturating_sub(1)), word.as_str()),
+        _ => push_wanted(
+            out,
+            slot_of(refused.line, place.saturating_sub(1)),
+            word.as_str(),
+        ),
     }
 }
 
 // Why a text is none.
-const BROKEN: &str = "not closed, or has another escape than \\\" \\\\ \\n \\t \\xHH, or goes on behind its quote";
+const BROKEN: &str =
+    "not closed, or has another escape than \\\" \\\\ \\n \\t \\xHH, or goes on behind its quote";
 
 fn push_extra(out: &mut String, word: &str) -> Result<(), AllocError> {
     out.push_str("one word too many")?;
@@ -66,13 +71,13 @@ fn push_wanted(out: &mut String, slot: Slot, word: &str) -> Result<(), AllocErro
 
 // The bits of a decimal number in backquotes, as a float and as a double, where a value is wanted.
 fn bits_of(slot: Slot, word: &str) -> Option<(u32, u64)> {
-    if !slot.takes_bits() {
+    let decimal = word.strip_prefix("`")?.strip_suffix("`")?;
+    if !slot.takes_bits(decimal) {
         return None;
     }
-    let decimal = word.strip_prefix("`")?.strip_suffix("`")?;
     let float = decimal.parse::<f32>().ok()?;
     let double = decimal.parse::<f64>().ok()?;
-    if float.is_nan() || double.is_nan() {
+    if float.is_nan() || double.is_nan() || float.is_infinite() || double.is_infinite() {
         return None;
     }
     Some((float.to_bits(), double.to_bits()))
@@ -82,9 +87,12 @@ fn bits_of(slot: Slot, word: &str) -> Option<(u32, u64)> {
 pub(crate) fn push_missing(out: &mut String, refused: &Refused<'_>) -> Result<(), AllocError> {
     let number = refused.line.number;
     if first_words(refused.line.text)[0] == b"data".as_slice() {
-        return write!(out, "line {number}: no line before `data` says how many ranks there are, as `ranks 2`");
+        return write!(
+            out,
+            "line {number}: no line before `data` says how many ranks there are, as `ranks 2`"
+        );
     }
-    let place = refused.taken;
+    let place = refused.place;
     write!(out, "line {number} ends behind word {place}; ")?;
     slot_of(refused.line, place).push_wanted(out)
 }

@@ -1,15 +1,7 @@
 //! Runs a script of netCDF calls, which it reads from standard input, on the dataset that its word names.
 #![tactic(auto)]
 
-mod explained;
-mod heard_sink;
-mod kept_source;
-mod opened_disk;
-
-use crate::explained::{Run, explain};
-use crate::heard_sink::HeardSink;
-use crate::kept_source::KeptSource;
-use crate::opened_disk::OpenedDisk;
+use fault_notes::{HeardSink, KeptSource, OpenedDisk, Run, explain};
 use nc_outside::OpenGate;
 use ncmpi_cli::{FileDisk, StdSink, StdSource, ncrun};
 use std::alloc::{AllocError, Global};
@@ -90,9 +82,12 @@ fn main(rt: HostRuntime) -> ExitCode {
     );
     let run = Run {
         status: outcome.status,
-        source: &source,
-        sink: &sink,
-        disk: &disk,
+        script: source.kept(),
+        line: sink.line(),
+        pending: sink.pending(),
+        front: disk.front(),
+        length: disk.length(),
+        cause: disk.disk().cause(),
     };
     let _ = explain(&rt, alloc, &texts, &run);
     ExitCode::from(outcome.status)

@@ -1,5 +1,5 @@
 // A sink that remembers of the text what is explained.
-use fault_notes::{Pending, pending_in};
+use crate::pending::{Pending, pending_in};
 use nc_outside::{Failed, Sink};
 use std::alloc::Global;
 
@@ -8,14 +8,14 @@ const MOST_KEPT: usize = 256;
 
 /// A sink that keeps the front of the first piece that it is given, which is the whole text, and the requests that it tells.
 #[derive(Drop)]
-pub(crate) struct HeardSink<K: Sink + Drop> {
+pub struct HeardSink<K: Sink + Drop> {
     sink: K,
     line: Vec<u8>,
     pending: Option<Pending>,
 }
 
 impl<K: Sink + Drop> HeardSink<K> {
-    pub(crate) fn new(alloc: Global, sink: K) -> Self {
+    pub fn new(alloc: Global, sink: K) -> Self {
         HeardSink {
             sink,
             line: Vec::new(alloc),
@@ -24,11 +24,11 @@ impl<K: Sink + Drop> HeardSink<K> {
     }
 
     /// The front of the text.
-    pub(crate) fn line(&self) -> &[u8] {
+    pub fn line(&self) -> &[u8] {
         self.line.as_slice()
     }
 
-    pub(crate) fn pending(&self) -> Option<Pending> {
+    pub fn pending(&self) -> Option<Pending> {
         self.pending
     }
 }

@@ -4,13 +4,13 @@ use std::alloc::Global;
 
 /// A source that keeps what it hands on, as long as there is memory for it.
 #[derive(Drop)]
-pub(crate) struct KeptSource<S: Source + Drop> {
+pub struct KeptSource<S: Source + Drop> {
     source: S,
     kept: Option<Vec<u8>>,
 }
 
 impl<S: Source + Drop> KeptSource<S> {
-    pub(crate) fn new(alloc: Global, source: S) -> Self {
+    pub fn new(alloc: Global, source: S) -> Self {
         KeptSource {
             source,
             kept: Some(Vec::new(alloc)),
@@ -18,7 +18,7 @@ impl<S: Source + Drop> KeptSource<S> {
     }
 
     /// The bytes that were handed on; none of them where there was no memory for all.
-    pub(crate) fn kept(&self) -> &[u8] {
+    pub fn kept(&self) -> &[u8] {
         match &self.kept {
             Some(kept) => kept.as_slice(),
             None => &[],

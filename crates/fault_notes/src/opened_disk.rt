@@ -1,12 +1,10 @@
 // A disk that remembers what it opened.
-ghost use Rattle.std.specs.Prelude.{◌≡◌};
-
 use nc_outside::{Disk, DiskErr};
 use std::alloc::Global;
 
 /// A disk, of which the length of an existing dataset is kept, and the first bytes that are read of it.
 #[derive(Drop)]
-pub(crate) struct OpenedDisk<D: Disk> {
+pub struct OpenedDisk<D: Disk> {
     disk: D,
     length: u64,
     // None where nothing is to be kept.
@@ -14,9 +12,7 @@ pub(crate) struct OpenedDisk<D: Disk> {
 }
 
 impl<D: Disk> OpenedDisk<D> {
-    pub(crate) fn new(disk: D) -> Self
-        ensures { result.disk ≡ disk }
-    {
+    pub fn new(disk: D) -> Self {
         OpenedDisk {
             disk,
             length: 0,
@@ -24,17 +20,17 @@ impl<D: Disk> OpenedDisk<D> {
         }
     }
 
-    pub(crate) fn disk(&self) -> &D {
+    pub fn disk(&self) -> &D {
         &self.disk
     }
 
     /// How many bytes the dataset had.
-    pub(crate) fn length(&self) -> u64 {
+    pub fn length(&self) -> u64 {
         self.length
     }
 
     /// The bytes of the first read, which is that of the header.
-    pub(crate) fn front(&self) -> &[u8] {
+    pub fn front(&self) -> &[u8] {
         match &self.front {
             Some(front) => front.as_slice(),
             None => &[],
@@ -93,7 +89,11 @@ impl<D: Disk> Disk for OpenedDisk<D> {
 
     fn split_off(&mut self, alloc: Global, at: u64) -> Result<Self, DiskErr> {
         let disk = self.disk.split_off(alloc, at)?;
-        Ok(OpenedDisk::new(disk))
+        Ok(OpenedDisk {
+            disk,
+            length: 0,
+            front: None,
+        })
     }
 
     fn append(&mut self, other: Self) {
