@@ -18,7 +18,7 @@ pub(crate) fn push_script_note(
     told: &[u8],
 ) -> Result<(), AllocError> {
     let lines = lines_of(alloc, script)?;
-    if lines.is_empty() {
+    if lines.is_empty() && told.ends_with(b": no head\n") {
         return out.push_str("the script is empty");
     }
     match first_refused(alloc, lines.as_slice())? {

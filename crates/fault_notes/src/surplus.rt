@@ -3,6 +3,7 @@ use crate::access::Access;
 use crate::cursor::{Cursor, is_blank};
 use crate::lines::{Line, Part, lines_of};
 use crate::shapes::Shapes;
+use memchr::{memchr_iter, memchr2};
 use nc_base::{Form, Header};
 use script_words::ListParts;
 use script_words::numbers::{between_brackets, size_of_text};
@@ -56,8 +57,11 @@ fn surplus_of<'a>(shapes: &Shapes<'a>, line: Line<'a>) -> Option<Surplus> {
         words.take()?;
     }
     let var = words.take()?;
-    let asked = asked(access.form, shapes.count(var), &mut words)?;
-    let given = given(words)?;
+    let asked = match access.form {
+        Form::Var => shapes.count(var)?,
+        form => asked(form, &mut words)?,
+    };
+    let given = given(words, asked)?;
     Some(Surplus {
         number: line.number,
         asked,
@@ -66,10 +70,10 @@ fn surplus_of<'a>(shapes: &Shapes<'a>, line: Line<'a>) -> Option<Surplus> {
     .filter(|surplus| surplus.given > surplus.asked)
 }
 
-// How many values a region asks for, whose words are taken; `whole` are those of the variable.
-fn asked(form: Form, whole: Option<u64>, words: &mut Cursor<'_>) -> Option<u64> {
+// How many values a region asks for, whose words are taken.
+fn asked(form: Form, words: &mut Cursor<'_>) -> Option<u64> {
     match form {
-        Form::Var => whole,
+        Form::Var => None,
         Form::Var1 => words.take().map(|_| 1),
         Form::Vara => {
             words.take()?;
@@ -133,15 +137,24 @@ fn span(count: &[u8], map: &[u8]) -> Option<u64> {
     Some(span)
 }
 
-// How many values the rest of a line has.
-fn given(words: Cursor<'_>) -> Option<u64> {
+// How many values the rest of a line has; where there can be no more than are asked for, so many.
+fn given(words: Cursor<'_>, asked: u64) -> Option<u64> {
     let mut words = words;
     let rest = words.left();
     match words.take() {
         None => Some(0),
         Some([b'"', ..]) => text_length(rest),
         Some(b"seq" | b"seqx") => size_of_text(words.take()?),
+        Some(_) if most_words(rest) <= asked => Some(asked),
         Some(_) => Some(count_words(rest)),
+    }
+}
+
+// No fewer words than a line has, which is seen faster than their number: one more than it has spaces.
+fn most_words(line: &[u8]) -> u64 {
+    match memchr2(b'\t', b'\r', line) {
+        Some(_) => u64::MAX,
+        None => (memchr_iter(b' ', line).count() as u64).saturating_add(1),
     }
 }
 
