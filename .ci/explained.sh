@@ -184,6 +184,8 @@ says 'several calls' 'ncrun: line 11: 2 values are given and 1 asked for; what i
 0 put_var1_all v [0,0] 1 2
 0 put_var1_all v [0,0] 1
 0 put_var1_all v [0,0] 1 2')"
+beyond 'a box, between tabs' 11 5 4 "$(alone "$(printf '0 put_vara_all v [0,0] [2,2] 1\t2\t3  4 5')")"
+says 'as many as are asked for, between more blanks' '' explained.nc "$(alone "$(printf '0 put_vara_all v [0,0] [2,2]  1\t2   3  4 \r')")"
 says 'as many as are asked for' '' explained.nc "$(alone '0 put_varm_all v [0,0] [2,2] [1,1] [1,2] 1 2 3 4
 0 put_var_all v seq 8 1 1
 0 put_var_all c "a\x41\"\\"
