@@ -61,7 +61,7 @@ prefixes() {
 
 # refuses SCRIPT LINE: a script, spelled as for printf, is answered with this line; the dataset stays
 refuses() {
-    given=$(printf '%b' "$1" | "$program" kept)
+    given=$(printf '%b' "$1" | "$program" kept 2> /dev/null)
     same "the script $1: status" 3 $?
     same "the script $1: line" "ncrun: script line $2" "$given"
     same "the script $1: the file" old "$(cat kept)"
@@ -257,7 +257,7 @@ rm -f most before entire attributes
 
 # A script of one blank more than a script may have bytes.
 printf 'old' > kept
-given=$(head -c 67108865 < /dev/zero | tr '\0' ' ' | "$program" kept)
+given=$(head -c 67108865 < /dev/zero | tr '\0' ' ' | "$program" kept 2> /dev/null)
 same 'a script that is too long: status' 3 $?
 same 'a script that is too long: line' 'ncrun: script line 1: limit of script' "$given"
 same 'a script that is too long: the file' old "$(cat kept)"

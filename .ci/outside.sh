@@ -22,11 +22,11 @@ printf 'old' > old_before.nc
 status=$?
 ends 'a dataset is created without an output' 6 new.nc made_before.nc
 cp old_before.nc kept.nc
-given=$("$program" kept.nc <&-)
+given=$("$program" kept.nc <&- 2> /dev/null)
 status=$?
 same 'a script without an input: line' 'ncrun: script line 1: no head' "$given"
 ends 'a script without an input' 3 kept.nc old_before.nc
-"$program" kept.nc <&- >&-
+"$program" kept.nc <&- >&- 2> /dev/null
 status=$?
 ends 'a script without input and output' 3 kept.nc old_before.nc
 
@@ -35,10 +35,10 @@ cp made_before.nc opened.nc
 status=$?
 ends 'a dataset is opened without an output' 6 opened.nc put_before.nc
 cp made_before.nc opened.nc
-"$program" opened.nc <&- > /dev/null
+"$program" opened.nc <&- > /dev/null 2> /dev/null
 status=$?
 ends 'a dataset that is there, without an input' 3 opened.nc made_before.nc
-"$program" opened.nc <&- >&-
+"$program" opened.nc <&- >&- 2> /dev/null
 status=$?
 ends 'a dataset that is there, without input and output' 3 opened.nc made_before.nc
 
@@ -71,11 +71,11 @@ ends 'an input that fails' 5 kept.nc old_before.nc
 # Where the line of a fault can't be given, the status is that of the fault.
 "$program" < making > /dev/full
 same 'words of no form, and an output that takes nothing' 2 $?
-"$program" kept.nc < /dev/null > /dev/full
+"$program" kept.nc < /dev/null > /dev/full 2> /dev/null
 same 'a script without a head, and an output that takes nothing' 3 $?
 "$program" kept.nc < putting > /dev/full
 same 'a dataset without a header, and an output that takes nothing' 4 $?
-"$program" missing/kept.nc < making > /dev/full
+"$program" missing/kept.nc < making > /dev/full 2> /dev/null
 same 'a path that cannot be opened, and an output that takes nothing' 7 $?
 same 'the file is kept' yes "$(cmp -s kept.nc old_before.nc && echo yes || echo no)"
 rm -f kept.nc old_before.nc
@@ -105,7 +105,7 @@ else
     status=$?
     ends 'gets of a dataset that is not to be written' 0 "$archive/d.nc" made_before.nc
     same 'its values' '0 get_var_all ok 1 2 3 4' "$(printf '%s' "$given" | sed -n 4p)"
-    given=$("${as_user[@]}" "$archive/ncrun" "$archive/d.nc" < putting)
+    given=$("${as_user[@]}" "$archive/ncrun" "$archive/d.nc" < putting 2> /dev/null)
     status=$?
     ends 'a put to a dataset that is not to be written' 7 "$archive/d.nc" made_before.nc
     same 'its line' 'ncrun: disk fault' "$given"

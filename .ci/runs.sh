@@ -19,7 +19,7 @@ bytes_from() {
 
 # run NAME FILE FROM SCRIPT ANSWERS DATA: runs the script on the file; its answers, and the file's bytes from a place on
 run() {
-    given=$(printf '%s\n' "$4" | "$program" "$2")
+    given=$(printf '%s\n' "$4" | "$program" "$2" 2> /dev/null)
     same "$1: status" 0 $?
     same "$1: answers" "$5
 " "$(answers_of "$given")
@@ -29,7 +29,7 @@ run() {
 
 # whole NAME FILE SCRIPT TEXT BYTES: runs the script on the file; its whole text, and all bytes of the file
 whole() {
-    given=$(printf '%s\n' "$3" | "$program" "$2")
+    given=$(printf '%s\n' "$3" | "$program" "$2" 2> /dev/null)
     same "$1: status" 0 $?
     same "$1: text" "$4" "$given"
     same "$1: bytes" "${5//[[:space:]]/}" "$(data_of "$2" 0)"
@@ -44,7 +44,7 @@ $3" "$4"
 # either NAME FILE FROM SCRIPT ANSWERS DATA OTHER_ANSWERS OTHER_DATA: runs a script of which the independent calls of two ranks may come
 # in either order. The file's bytes are those of the order that is printed.
 either() {
-    given=$(printf '%s\n' "$4" | "$program" "$2")
+    given=$(printf '%s\n' "$4" | "$program" "$2" 2> /dev/null)
     same "$1: status" 0 $?
     if [ "$(answers_of "$given")" = "$7" ]; then
         same "$1: bytes in the other order" "$8" "$(data_of "$2" "$3")"
@@ -797,7 +797,7 @@ same 'a variable that is too large: line' 'ncrun: variable 0 is too large' "$giv
 same 'a variable that is too large: the file' old "$(cat there)"
 rm -f there
 
-given=$(printf 'open\nranks 1\ndim x 9\ndata\nend\n' | "$program" taken.nc)
+given=$(printf 'open\nranks 1\ndim x 9\ndata\nend\n' | "$program" taken.nc 2> /dev/null)
 same 'a name that is taken: status' 4 $?
 same 'a name that is taken: its line' 'ncrun: redefinition 0: name taken' "$given"
 same 'a name that is taken: the file' 00000001000000020000000300000004 "$(data_of taken.nc 80)"

@@ -1,6 +1,7 @@
 //! Runs a script of netCDF calls, which it reads from standard input, on the dataset that its word names.
 #![tactic(auto)]
 
+use fault_notes::{HeardSink, KeptSource, OpenedDisk, Run, explain};
 use nc_outside::OpenGate;
 use ncmpi_cli::{FileDisk, StdSink, StdSource, ncrun};
 use std::alloc::{AllocError, Global};
@@ -67,9 +68,9 @@ fn main(rt: HostRuntime) -> ExitCode {
     let Ok(files) = rt.clone() else {
         return ExitCode::from(MEMORY);
     };
-    let mut source = StdSource::new(rt.reader());
-    let mut sink = StdSink::new(io::writer(&rt));
-    let mut disk = FileDisk::new(files);
+    let mut source = KeptSource::new(alloc, StdSource::new(rt.reader()));
+    let mut sink = HeardSink::new(alloc, StdSink::new(io::writer(&rt)));
+    let mut disk = OpenedDisk::new(FileDisk::new(files));
     let outcome = ncrun(
         &rt,
         alloc,
@@ -79,5 +80,15 @@ fn main(rt: HostRuntime) -> ExitCode {
         &mut sink,
         &OpenGate,
     );
+    let run = Run {
+        status: outcome.status,
+        script: source.kept(),
+        line: sink.line(),
+        pending: sink.pending(),
+        front: disk.front(),
+        length: disk.length(),
+        cause: disk.disk().cause(),
+    };
+    let _ = explain(&rt, alloc, &texts, &run);
     ExitCode::from(outcome.status)
 }

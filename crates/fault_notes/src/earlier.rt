@@ -1,0 +1,88 @@
+// What earlier lines of a script name.
+use crate::access::Access;
+use crate::cursor::first_words;
+use crate::lines::{Line, Part};
+use script_words::ListParts;
+use script_words::numbers::{begins_rank, between_brackets, digits_below, id_of_text};
+
+// What a line names: no two lines of a script may name the same.
+#[derive(Clone, Copy, PartialEq, Eq)]
+enum Named<'a> {
+    Once(&'a [u8]),
+    Plain(&'a [u8], &'a [u8]),
+    Attribute(&'a [u8], &'a [u8]),
+    Post(u32, u32),
+}
+
+fn name_of(line: Line<'_>) -> Option<Named<'_>> {
+    let words = first_words(line.text);
+    match line.part {
+        Part::Definitions => defined(words),
+        Part::Calls => posted(words),
+        Part::Head | Part::Behind => None,
+    }
+}
+
+fn defined<'a>(words: [&'a [u8]; 5]) -> Option<Named<'a>> {
+    let [kind, first, second, ..] = words;
+    match kind {
+        b"ranks" | b"fill" => Some(Named::Once(kind)),
+        b"hint" | b"dim" => Some(Named::Plain(kind, first)),
+        b"var" => Some(Named::Plain(kind, second)),
+        b"att" => Some(Named::Attribute(first, second)),
+        _ => None,
+    }
+}
+
+fn posted(words: [&[u8]; 5]) -> Option<Named<'_>> {
+    let [rank, call, id, ..] = words;
+    if !Access::of_word(call)?.is_post || !begins_rank(rank) {
+        return None;
+    }
+    Some(Named::Post(digits_below(64, rank)?, id_of_text(id)?))
+}
+
+/// The line before this one that names the same.
+pub(crate) fn first_naming<'a>(lines: &[Line<'a>], line: Line<'a>) -> Option<u32> {
+    let own = name_of(line)?;
+    lines
+        .iter()
+        .find(|other| name_of(**other) == Some(own))
+        .map(|other| other.number)
+        .filter(|number| *number < line.number)
+}
+
+// Whether a line before this one defines a dimension of this name.
+fn is_dim(lines: &[Line<'_>], name: &[u8], line: Line<'_>) -> bool {
+    lines.iter().any(|other| {
+        other.number < line.number && name_of(*other) == Some(Named::Plain(b"dim", name))
+    })
+}
+
+/// The dimension or the owner that a line of the definitions names and that no line before it defines.
+pub(crate) fn undefined<'a>(lines: &[Line<'a>], line: Line<'a>) -> Option<&'a [u8]> {
+    match first_words(line.text) {
+        [b"att", owner, ..] => Some(owner),
+        [b"var", _, _, shape, ..] => undefined_dim(lines, shape, line),
+        _ => None,
+    }
+}
+
+fn undefined_dim<'a>(lines: &[Line<'a>], shape: &'a [u8], line: Line<'a>) -> Option<&'a [u8]> {
+    let mut names = ListParts::new(between_brackets(shape)?);
+    for _ in 0..shape.len() {
+        let name = names.take()?;
+        if !is_dim(lines, name, line) {
+            return Some(name);
+        }
+    }
+    None
+}
+
+/// The line that gives a dimension the length `unlimited`.
+pub(crate) fn record_dim<'a>(lines: &[Line<'a>]) -> Option<Line<'a>> {
+    lines.iter().copied().find(|line| matches!(
+        first_words(line.text),
+        [b"dim", _, b"unlimited", ..]
+    ))
+}

@@ -1,0 +1,96 @@
+// What standard error says.
+use crate::kinds::push_script_note;
+use crate::pending::{Pending, push_pending};
+use crate::redefinition::push_redefinition;
+use crate::shortfall::{header_of, push_shortfall};
+use crate::shown::shown;
+use crate::surplus::push_surplus;
+use std::alloc::{AllocError, Global};
+use std::io;
+
+/// What is known of a run that has ended.
+#[derive(Drop)]
+pub struct Run<'a> {
+    pub status: u8,
+    /// The bytes of the script; none where none was read.
+    pub script: &'a [u8],
+    /// The front of the text, in which a line that tells a fault is whole.
+    pub line: &'a [u8],
+    /// The requests that the text tells as pending.
+    pub pending: Option<Pending>,
+    /// The first bytes of a dataset that was opened, among which its header stands; none where none was.
+    pub front: &'a [u8],
+    /// How many bytes it had then.
+    pub length: u64,
+    /// Why a call of the disk failed.
+    pub cause: Option<io::Error>,
+}
+
+/// The lines for standard error, none of them where nothing is to be said.
+pub(crate) fn notes(alloc: Global, dataset: &str, run: &Run<'_>) -> Result<String, AllocError> {
+    let mut notes = String::new(alloc);
+    if run.status == 0 {
+        push_passed_over(&mut notes, alloc, dataset, run)?;
+    } else {
+        let note = fault_note(alloc, dataset, run)?;
+        push_line(&mut notes, note.as_str())?;
+    }
+    Ok(notes)
+}
+
+fn fault_note(alloc: Global, dataset: &str, run: &Run<'_>) -> Result<String, AllocError> {
+    let mut note = String::new(alloc);
+    match run.status {
+        3 => push_script_note(&mut note, alloc, run.script, run.line)?,
+        4 => push_redefinition(&mut note, alloc, run.script, run.line)?,
+        7 => push_cause(&mut note, alloc, dataset, run.cause)?,
+        _ => {}
+    }
+    Ok(note)
+}
+
+fn push_cause(
+    out: &mut String,
+    alloc: Global,
+    dataset: &str,
+    cause: Option<io::Error>,
+) -> Result<(), AllocError> {
+    let Some(cause) = cause else {
+        return Ok(());
+    };
+    let dataset = shown(alloc, dataset.as_bytes())?;
+    write!(out, "{dataset}: {cause}")
+}
+
+// What a run that ended well passed over.
+fn push_passed_over(
+    notes: &mut String,
+    alloc: Global,
+    dataset: &str,
+    run: &Run<'_>,
+) -> Result<(), AllocError> {
+    let header = header_of(alloc, run.front);
+    if let Some(header) = &header {
+        let mut note = String::new(alloc);
+        push_shortfall(&mut note, alloc, dataset, run, header)?;
+        push_line(notes, note.as_str())?;
+    }
+    let mut note = String::new(alloc);
+    push_surplus(&mut note, alloc, run.script, header.as_ref())?;
+    push_line(notes, note.as_str())?;
+    if let Some(pending) = run.pending {
+        let mut note = String::new(alloc);
+        push_pending(&mut note, pending)?;
+        push_line(notes, note.as_str())?;
+    }
+    Ok(())
+}
+
+fn push_line(notes: &mut String, note: &str) -> Result<(), AllocError> {
+    if note.is_empty() {
+        return Ok(());
+    }
+    notes.push_str("ncrun: ")?;
+    notes.push_str(note)?;
+    notes.push('\n')
+}
