@@ -29,6 +29,25 @@ class Repeated:
         return Repeated(max(0, min(count, self.count - first)), self.value)
 
 
+class Filled:
+    """Whole numbers of memory, and in place of those that the variable's type doesn't hold its fill value, as PnetCDF writes them."""
+    __slots__ = ("stored", "kind", "fill")
+
+    def __init__(self, stored, kind, fill):
+        self.stored, self.kind, self.fill = stored, kind, fill
+
+    def load(self):
+        return [v if words.fits(self.kind, v) else self.fill for v in self.stored.load()]
+
+    def part(self, first, count):
+        return Filled(self.stored.part(first, count), self.kind, self.fill)
+
+    def beyond(self):
+        """The place of the first value that the type doesn't hold, how many there are, and the first one; None where there is none."""
+        found = [(place, v) for place, v in enumerate(self.stored.load()) if not words.fits(self.kind, v)]
+        return (found[0][0], len(found), found[0][1]) if found else None
+
+
 @dataclass(slots=True)
 class Line:
     """A line of a script without its rank. Where `var` is None the verb is the whole line."""
@@ -105,7 +124,7 @@ class Call(Line):
     took: float = None
     barriers: int = 0           # how many barriers its rank had passed
     changed: tuple = ()         # ids of puts whose memory was changed between post and wait
-    beyond: tuple = None        # the first value that the type doesn't hold, and how many they are, where PnetCDF filled them
+    beyond: tuple = None        # of values that the type doesn't hold the place of the first, how many they are, and the first one
     stands_in: bool = False     # it was refused, and takes part with nothing
     meeting: int = -1           # its number among the meetings of its rank in its part
 

@@ -27,21 +27,28 @@ class Differing:
     kept: list = field(default_factory=list)
 
 
+@dataclass
+class Comparison:
+    """How two datasets are alike: `same` byte by byte, but for `zeros` at the end, in all but their `layout`, or not: `differs`."""
+    state: str
+    headers: list = field(default_factory=list)     # lines
+    variables: list = field(default_factory=list)   # those whose elements differ
+
+
 def shown(name):
     return name.decode("utf-8", "replace")
 
 
 def same_bytes(first, second):
-    """Whether two files are the same byte by byte."""
-    if os.fstat(first.fileno()).st_size != os.fstat(second.fileno()).st_size:
-        return False
+    """Whether two files are the same byte by byte, with zeros behind the end of the shorter one."""
     first.seek(0)
     second.seek(0)
     while True:
-        block = first.read(BLOCK)
-        if block != second.read(BLOCK):
+        a, b = first.read(BLOCK), second.read(BLOCK)
+        length = max(len(a), len(b))
+        if a.ljust(length, b"\0") != b.ljust(length, b"\0"):
             return False
-        if not block:
+        if length == 0:
             return True
 
 
@@ -159,10 +166,10 @@ def compare_variable(first, header, second, other_header, var, other):
 
 
 def compare(first_path, second_path):
-    """In what the headers of two datasets differ, and the variables of both whose elements differ."""
+    """Two datasets: their headers, and the elements of the variables of both."""
     with open(first_path, "rb", buffering=BLOCK) as first, open(second_path, "rb", buffering=BLOCK) as second:
         if same_bytes(first, second):
-            return [], []
+            return Comparison("same" if os.path.getsize(first_path) == os.path.getsize(second_path) else "zeros")
         first.seek(0)
         second.seek(0)
         header, other = read_header(first), read_header(second)
@@ -170,4 +177,5 @@ def compare(first_path, second_path):
         pairs = [(v, others[v.name]) for v in header.vars if v.name in others]
         found = [compare_variable(first, header, second, other, v, o) for v, o in pairs
                  if header.shape(v) == other.shape(o) and v.kind == o.kind and header.is_record(v) == other.is_record(o)]
-        return list(tell_headers(header, other)), [v for v in found if v.count]
+        told, found = list(tell_headers(header, other)), [v for v in found if v.count]
+        return Comparison("differs" if told or found else "layout", told, found)

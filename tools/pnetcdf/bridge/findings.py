@@ -13,6 +13,8 @@ from .running import Runs
 SHOWN = 5       # how many elements of a variable are told one by one, and how many lines of one kind and rank
 MISMATCH = re.compile(r"ncrun: script line \d+: ranks (\d+) and (\d+) differ at collective call (\d+)")
 UNORDERED_RECORDS = 1 << 10     # of record variables so many records are looked at for puts and gets that nothing orders
+# How files are alike that have the same values.
+SAME = {"same", "zeros", "layout"}
 SERIAL = ["hint overlap serial"]
 
 
@@ -27,7 +29,8 @@ class Diagnosis:
         self.merged, self.program, self.seconds = Merged(opening), program, seconds
         self.path = path or opening.path
         self.found, self.remarks = [], []
-        self.checked, self.compared = 0, False
+        self.checked, self.state = 0, "none"    # how the files are alike
+        self.open = {}                          # elements that puts race for
         self.wrong_files = False        # a run of the scripts was cut, so that the files aren't comparable
 
     @property
@@ -57,7 +60,7 @@ class Diagnosis:
         for remark in merged.remarks():
             self.remark(remark)
         if opening.how == "open" and not (opening.copy and os.path.exists(opening.copy)):
-            self.tell("no copy of the dataset as it was opened: nothing is run")
+            self.tell("no run: there is no copy of the dataset as it was opened")
             return
         with tempfile.TemporaryDirectory() as folder:
             runs = Runs(self.program, folder, self.seconds)
@@ -71,7 +74,23 @@ class Diagnosis:
         told = "%d calls as in the proved run" % self.checked
         if not self.has_values:
             return told + "; values were not traced"
-        return told + (", and the same values in the file" if self.compared else "")
+        return told + (", and the same values in the file" if self.state in SAME else "")
+
+    def record(self):
+        """The same for programs."""
+        merged, opening = self.merged, self.merged.opening
+        return {
+            "path": opening.path, "how": opening.how, "ranks": len(opening.world), "calls": self.checked, "whole": self.is_whole,
+            "cut": merged.notes() or ([merged.fault] if merged.fault and not merged.refused else []),
+            "refused": merged.ranks[0].opened.code if merged.refused else None, "script": not merged.fault, "scripts": len(merged.parts),
+            "skipped": sum(count for rank in merged.ranks for count in rank.skipped.values()), "remarks": self.remarks, "file": self.state,
+            "found": [{"kind": line.split(":", 1)[0], "text": line} for line in self.found],
+        }
+
+    @property
+    def is_whole(self):
+        """Whether every call that PnetCDF accepted stands in the scripts."""
+        return not self.merged.fault and not self.merged.notes()
 
     # ---- the parts, one after another
 
@@ -100,6 +119,7 @@ class Diagnosis:
         overlaps = Overlaps(self.merged, part, done)
         if overlaps.found:
             self.tell_overlaps(overlaps)
+            self.open.update(overlaps.open)
             runs.begin(kept)
             done = runs.run(part, SERIAL)
         self.tell_answers(part, done.text)
@@ -160,19 +180,11 @@ class Diagnosis:
                     self.tell("memory: the values of %s were changed before call %d (%s) completed it; PnetCDF may write either" % (
                         self.word(rank.number, post), call.number, self.shown(call)))
 
-    def tell_ranges(self, rank, call, answer):
-        if call.beyond:
-            place, count = call.beyond
-            kind = words.TYPES[call.put_lines()[0].kind]
-            self.tell("out of range: %s gives as its value %d%s what no %s holds; PnetCDF writes the fill value there" % (
-                self.word(rank, call), place, " and %d more" % (count - 1) if count > 1 else "", kind))
-        if answer.code != "NC_ERANGE":
-            return
-        for place, value in enumerate(call.values.load() if call.values is not None else []):
-            if call.kind in words.FORMATS and not words.fits(call.kind, value):
-                self.tell("out of range: %s gives %d as its value %d, which no %s holds" % (
-                    self.word(rank, call), value, place, words.TYPES[call.kind]))
-                break
+    def tell_range(self, rank, call):
+        place, count, value = call.beyond
+        kind, more = words.TYPES[call.put_lines()[0].kind], " (and %d more)" % (count - 1) if count > 1 else ""
+        gives = "%d as its value %d%s, which" % (value, place, more) if value is not None else "as its value %d%s what" % (place, more)
+        self.tell("out of range: %s gives %s no %s holds; PnetCDF writes the fill value there" % (self.word(rank, call), gives, kind))
 
     def tell_overlaps(self, overlaps):
         for race, line in overlaps.lines(self.word):
@@ -189,7 +201,8 @@ class Diagnosis:
                 place += count
 
     def tell_answer(self, part, rank, call, answers):
-        self.tell_ranges(rank, call, answers[-1])
+        if call.beyond:
+            self.tell_range(rank, call)
         if call.number < 0 or call.stands_in:
             return
         self.checked += 1
@@ -218,10 +231,12 @@ class Diagnosis:
         definitions = self.merged.definitions
         return Coverage(definitions.shape(definitions.vars[number]), records)
 
-    def coverage_of_puts(self, variable):
+    def number(self, variable):
+        return next(n for n, v in enumerate(self.merged.definitions.vars) if comparing.shown(v.name) == variable.name)
+
+    def coverage_of_puts(self, number, differences):
         """The elements of a variable that puts hold, as far as those that differ go."""
-        number = next(n for n, v in enumerate(self.merged.definitions.vars) if comparing.shown(v.name) == variable.name)
-        coverage = self.coverage(number, 1 + max((d.index[0] for d in variable.kept if d.index), default=0))
+        coverage = self.coverage(number, 1 + max((d.index[0] for d in differences if d.index), default=0))
         for line in (line for rank in self.merged.ranks for phase in rank.phases for c in phase.calls for line in c.put_lines()):
             if line.var == number:
                 coverage.add(line)
@@ -240,28 +255,40 @@ class Diagnosis:
             why = "" if after is None else ", and no copy was kept when it was %s" % (
                 {"create": "created anew", "open": "opened again", "delete": "deleted"}[after.how])
             self.remark("the file isn't compared: it isn't there as the program left it%s" % why)
+            self.state = "gone"
             return
-        self.compared = True
         try:
-            told, found = comparing.compare(own, proved)
+            compared = comparing.compare(own, proved)
         except classic.HeaderFault as fault:
             self.tell("the file: %s %s" % (self.path, fault))
+            self.state = "differs"
             return
-        for line in told:
+        self.state = compared.state
+        for line in compared.headers:
             self.tell("the file: " + line)
-        for variable in found:
-            self.tell_variable(variable)
+        differing = [self.tell_variable(variable) for variable in compared.variables]
+        if differing and not compared.headers and not any(differing):
+            self.state = "overlap"
 
     def tell_variable(self, variable):
-        coverage = self.coverage_of_puts(variable)
-        put = [d for d in variable.kept if coverage.holds(d.place) is not False]
-        left = [d for d in variable.kept if coverage.holds(d.place) is False]
-        more = variable.count - len(variable.kept)
+        """Tells which elements of a variable differ but those that puts race for; whether there are any."""
+        number = self.number(variable)
+        raced = self.open.get(number, ())
+        kept = [] if raced is None else [d for d in variable.kept if d.place not in raced]
+        if not kept:
+            return False
+        coverage = self.coverage_of_puts(number, kept)
+        put = [d for d in kept if coverage.holds(d.place) is not False]
+        more = len(put) - SHOWN + variable.count - len(variable.kept)
         for difference in put[:SHOWN]:
             self.tell("the file: %s%s is %s, and %s in the proved file" % (
                 variable.name, index_word(difference.index), difference.first, difference.second))
-        if len(put) + more > SHOWN:
-            self.tell("the file: %d more elements of %s differ" % (len(put) - min(SHOWN, len(put)) + more, variable.name))
+        if more > 0:
+            self.tell("the file: %d more elements of %s differ" % (more, variable.name))
+        self.tell_left(variable, [d for d in kept if coverage.holds(d.place) is False])
+        return True
+
+    def tell_left(self, variable, left):
         if left:
             self.tell("the file: %d elements of %s that no call put aren't as they were, the first %s%s" % (
                 len(left), variable.name, variable.name, index_word(left[0].index)))

@@ -40,10 +40,11 @@ class Step:
 
 
 class Overlaps:
-    """The steps of a part in which puts overlap."""
+    """The steps of a part in which puts overlap. `open` has the elements whose value is open by that, by variable: their places, or
+    None for all."""
 
     def __init__(self, merged, part, done):
-        self.definitions, self.part = merged.definitions, part
+        self.definitions, self.part, self.open = merged.definitions, part, {}
         self.found = list(self.steps(part, done.text))
         if self.found:
             with open(done.dataset, "rb") as file:
@@ -83,17 +84,24 @@ class Overlaps:
         """How many elements the step's puts share, and to how many of these different values are put; None where they are too many,
         or values weren't traced."""
         if not all(rank.merger.trace.has_values for rank in self.part.ranks):
-            return None, None
+            return self.all_open(step)
         held, shared, differing = {}, set(), set()
         for count, (key, value) in enumerate(self.elements(step)):
             if count == MOST_ELEMENTS:
-                return None, None
+                return self.all_open(step)
             if key in held:
                 shared.add(key)
                 if held[key] != value:
                     differing.add(key)
             held[key] = value
+        for var, place in differing:
+            if self.open.setdefault(var, set()) is not None:
+                self.open[var].add(place)
         return len(shared), len(differing)
+
+    def all_open(self, step):
+        self.open.update({line.var: None for _, _, line in step.puts()})
+        return None, None
 
     def elements(self, step):
         """Every element that is put in a step, by variable and place, with its value."""

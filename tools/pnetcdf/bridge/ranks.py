@@ -2,7 +2,7 @@
 from dataclasses import dataclass, field
 
 from . import asked, words
-from .calls import ACCESS, BLOCKS, MEMBERS, Call, Item, Line, Repeated
+from .calls import ACCESS, BLOCKS, MEMBERS, Call, Filled, Item, Line, Repeated
 from .definitions import DEFINES, Definitions, NoWord
 from .traces import Stored
 
@@ -215,6 +215,13 @@ class RankMerger:
             return Repeated(0 if self.trace.has_values else asked.reached(given), 0)
         return self.signed(stored, kind)
 
+    def put_values(self, event, given, kind):
+        """The values of a put as PnetCDF writes them; the type's fill value stands for those that it doesn't hold."""
+        values = self.own_values(self.trace.stored(given.get("stored"), given.get("memory")), given, kind)
+        if event.code == "NC_ERANGE" and isinstance(values, Stored) and kind in words.FORMATS:
+            return Filled(values, kind, self.definitions.fill_value(given["var"]))
+        return values
+
     def signed(self, stored, kind):
         """Unsigned chars of a byte variable are its negative numbers in CDF-1 and CDF-2."""
         if stored is not None and stored.memory == "uchar" and kind == words.BYTE and self.definitions.version != 5:
@@ -229,10 +236,10 @@ class RankMerger:
         puts = verb not in ("get", "iget")
         values = None
         if kind is not None and puts:
-            values = self.own_values(self.trace.stored(given.get("stored"), given.get("memory")), given, kind)
+            values = self.put_values(event, given, kind)
         split = asked.split(given, form, self.shape(number)) if kind is not None else None
         if split:
-            self.parted(event, verb, everyone, number, kind, split)
+            self.parted(event, (verb, everyone), number, values, split)
         else:
             self.single(event, (verb, form, everyone), number, kind, values)
 
@@ -240,58 +247,54 @@ class RankMerger:
         verb, form, everyone = told
         given, post = event.given, self.next if told[0] in ("iput", "iget", "bput") else None
         line = Line("%s_%s%s" % (verb, form, everyone or ""), post, number, asked.region(given, form), values, kind)
-        call = self.add(event, line, beyond=self.beyond(given))
+        call = self.add(event, line, beyond=self.beyond(given, values))
         if verb == "get" and kind is not None and event.answer:
             call.got = self.signed(self.trace.stored(event.answer.get("stored"), given.get("memory")), kind)
-        if call.beyond and event.code == "NC_ERANGE":
-            call.code = "ok"
         if post is not None:
             self.next += 1
             self.posted(event, call, verb, [(post, 0, None)])
 
     @staticmethod
-    def beyond(given):
-        return (given["beyond"][0], given.get("beyond_count", len(given["beyond"]))) if given.get("beyond") else None
+    def beyond(given, values):
+        if isinstance(values, Filled):
+            return values.beyond()
+        return (given["beyond"][0], given.get("beyond_count", len(given["beyond"])), None) if given.get("beyond") else None
 
     def posted(self, event, call, verb, parts):
         """An accepted post takes its ids; the code of a request without an element is `null`."""
         request = (event.answer or {}).get("request")
         if request == NULL:
             call.code = "null" if call.code == "ok" else call.code
-        elif request is not None and call.code == "ok":
-            self.posts[request] = Post(call, verb, call.kind if not call.before else call.before[0].kind,
-                                       event.given.get("memory"), parts)
+        elif request is not None and (call.code == "ok" or call.beyond):
+            self.posts[request] = Post(call, verb, call.kind, event.given.get("memory"), parts)
 
     # ---- calls that one line has no room for
 
-    def parted(self, event, verb, everyone, number, kind, split):
+    def parted(self, event, told, number, values, split):
         """A call as several posts: a blocking one waits for them at once."""
-        given, post = event.given, verb in ("iput", "iget", "bput")
-        verb = verb if post else "i" + verb
-        values = None
-        if verb != "iget":
-            values = self.own_values(self.trace.stored(given.get("stored"), given.get("memory")), given, kind)
-        ids = range(self.next_own, self.next_own + len(split))
+        verb, everyone = told
+        given, kind, post = event.given, self.kind(number), verb in ("iput", "iget", "bput")
+        parts = [(self.next_own + k, first, length) for k, (_, _, first, length) in enumerate(split)]
         self.next_own += len(split)
-        lines = [Line("%s_%s" % (verb, form), own, number, region, values.part(first, length) if values is not None else None, kind)
-                 for own, (form, region, first, length) in zip(ids, split)]
-        parts = [(own, first, length) for own, (_, _, first, length) in zip(ids, split)]
+        lines = [Line("%s_%s" % (verb if post else "i" + verb, form), own, number, region,
+                      values.part(first, length) if values is not None else None, kind)
+                 for (own, _, _), (form, region, first, length) in zip(parts, split)]
         if post:
-            last = lines.pop()
-            call = self.add(event, last, before=tuple(lines), beyond=self.beyond(given))
-            call.code = "ok" if call.beyond and call.code == "NC_ERANGE" else call.code
+            call = self.add(event, lines[-1], before=tuple(lines[:-1]), beyond=self.beyond(given, values))
             self.posted(event, call, verb, parts)
             return
         got = self.trace.stored((event.answer or {}).get("stored"), given.get("memory"))
-        self.waited(event, everyone, lines, [Item(own, "ok", self.part_of(got, first, length, kind), kind) for own, first, length in parts])
+        items = [Item(own, "ok", self.part_of(got, first, length, kind), kind) for own, first, length in parts]
+        self.waited(event, everyone, lines, items, self.beyond(given, values))
 
     def part_of(self, stored, first, length, kind):
         return self.signed(stored.part(first, length), kind) if stored is not None else None
 
-    def waited(self, event, everyone, lines, items):
+    def waited(self, event, everyone, lines, items, beyond=None):
         ids = [line.id for line in lines]
         line = Line(" ".join(["wait" + (everyone or "")] + list(map(str, ids))))
-        self.add(event, line, before=tuple(lines), items=items if event.code in ("ok", "NC_ERANGE") else [], requests=ids)
+        self.add(event, line, before=tuple(lines), items=items if event.code in ("ok", "NC_ERANGE") else [], requests=ids,
+                 beyond=beyond)
 
     def members(self, event, verb, form, everyone):
         """Many puts or gets in one call: PnetCDF posts them and waits for them."""
@@ -302,7 +305,7 @@ class RankMerger:
             got = self.trace.stored(answers[place] if place < len(answers) else None, member.get("memory"))
             values = None
             if verb == "put" and kind is not None:
-                values = self.own_values(self.trace.stored(member.get("stored"), member.get("memory")), member, kind)
+                values = self.put_values(event, member, kind)
             if member.get("elements", 0) == 0 and kind is not None:
                 continue
             whole = [(form, asked.region(member, form), 0, asked.reached(member))]
