@@ -1,6 +1,7 @@
 """Calls of a program as lines of a script, with what PnetCDF answered."""
 import re
 from dataclasses import dataclass, field
+from functools import lru_cache
 
 from . import words
 
@@ -48,6 +49,22 @@ class Filled:
         return (found[0][0], len(found), found[0][1]) if found else None
 
 
+@lru_cache(maxsize=None)
+def kind_of(call):
+    """What kind of call a name of PnetCDF's is, and its verb, form and `_all`: an access, one of many members, one by blocks, or another."""
+    for kind, pattern in (("access", ACCESS), ("members", MEMBERS), ("blocks", BLOCKS)):
+        match = pattern.fullmatch(call)
+        if match:
+            return kind, match.groups()
+    return "other", ()
+
+
+@lru_cache(maxsize=None)
+def form_of(word):
+    match = FORM.match(word)
+    return match.group(2) if match else None
+
+
 @dataclass(slots=True)
 class Line:
     """A line of a script without its rank. Where `var` is None the verb is the whole line."""
@@ -64,8 +81,7 @@ class Line:
 
     @property
     def form(self):
-        match = FORM.match(self.verb)
-        return match.group(2) if match else None
+        return form_of(self.verb)
 
     @property
     def puts(self):

@@ -2,7 +2,7 @@
 from dataclasses import dataclass, field
 
 from . import asked, words
-from .calls import ACCESS, BLOCKS, MEMBERS, Call, Filled, Item, Line, Repeated
+from .calls import Call, Filled, Item, Line, Repeated, kind_of
 from .definitions import DEFINES, Definitions, NoWord
 from .traces import Stored
 
@@ -85,9 +85,9 @@ class RankMerger:
             self.stopped = self.count, event.call, str(fault)
             return
         self.skip(event)
-        match = ACCESS.fullmatch(event.call)
-        if match and match.group(3) and event.code not in ALONE:
-            self.stand_in(event, match.group(1))
+        kind, told = kind_of(event.call)
+        if kind != "other" and told[-1] and event.code not in ALONE:
+            self.stand_in(event, told[0])
 
     def skip(self, event):
         key = event.call, event.code
@@ -110,21 +110,17 @@ class RankMerger:
 
     def tell(self, event):
         call = event.call
-        access, members, blocks = ACCESS.fullmatch(call), MEMBERS.fullmatch(call), BLOCKS.fullmatch(call)
+        kind, told = kind_of(call)
         if call in NO_CALLS:
             return
-        if event.refused and event.code not in CAUSES and call not in DEFINES | {"redef", "enddef"}:
-            raise NoWord("a call that PnetCDF refused")
-        if access:
-            self.access(event, *access.groups())
-        elif members:
-            self.members(event, *members.groups())
-        elif blocks:
-            self.blocks(event, *blocks.groups())
-        elif call in DEFINES or call in ("redef", "enddef"):
+        if call in DEFINES or call in ("redef", "enddef"):
             self.define(event)
-        else:
+        elif event.refused and event.code not in CAUSES:
+            raise NoWord("a call that PnetCDF refused")
+        elif kind == "other":
             self.plain(event)
+        else:
+            getattr(self, kind)(event, *told)
 
     def plain(self, event):
         call, given = event.call, event.given

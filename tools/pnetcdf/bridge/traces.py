@@ -6,6 +6,7 @@ from array import array
 from dataclasses import dataclass
 
 FORM = 2
+DECODE = json.JSONDecoder().decode
 # A type of memory, and how an array holds it; floats and doubles are their patterns.
 CODES = {"text": "B", "schar": "b", "uchar": "B", "short": "h", "ushort": "H", "int": "i", "uint": "I", "float": "I",
          "longlong": "q", "ulonglong": "Q", "double": "Q"}
@@ -78,21 +79,18 @@ class Trace:
     def lines(self):
         """The objects of the file; a last line without its end is left out, and the trace counts as cut."""
         try:
-            trace = open(self.path, "rb")
+            trace = open(self.path, encoding="ascii", errors="replace")
         except OSError as fault:
             raise TraceFault("%s: %s" % (self.path, fault.strerror)) from None
         with trace:
             for number, line in enumerate(trace, 1):
-                if not line.endswith(b"\n"):
+                if not line.endswith("\n"):
                     self.cut = True
                     return
-                yield self.object_of(line, number)
-
-    def object_of(self, line, number):
-        try:
-            return json.loads(line)
-        except ValueError:
-            raise TraceFault("%s: line %d is none of a trace" % (self.path, number)) from None
+                try:
+                    yield DECODE(line)
+                except ValueError:
+                    raise TraceFault("%s: line %d is none of a trace" % (self.path, number)) from None
 
     def events(self):
         """Each call when it was answered, and at the end those that never were."""
