@@ -37,6 +37,10 @@ class Filled:
     def __init__(self, stored, kind, fill):
         self.stored, self.kind, self.fill = stored, kind, fill
 
+    @property
+    def count(self):
+        return self.stored.count
+
     def load(self):
         return [v if words.fits(self.kind, v) else self.fill for v in self.stored.load()]
 
@@ -91,12 +95,12 @@ class Line:
     def meets(self):
         return self.word.endswith("_all") or self.word in MEETINGS
 
-    def value_text(self):
+    def value_text(self, zeros):
         if not self.puts or self.kind is None:
             return ""
         if self.values is None:
             return "" if self.kind == words.CHAR else '""'
-        return words.script_values(self.kind, self.values.load())
+        return words.script_values(self.kind, [0] * self.values.count if zeros else self.values.load())
 
     def shown(self, definitions):
         """The line without its values, and of many boxes the first ones."""
@@ -107,8 +111,8 @@ class Line:
         first = MOST_SHOWN + (self.form == "varn")
         return self.joined(definitions, " ".join(lists[:first]) + (" .." if len(lists) > first else ""), "")
 
-    def text(self, definitions):
-        return self.verb if self.var is None else self.joined(definitions, self.region, self.value_text())
+    def text(self, definitions, zeros=False):
+        return self.verb if self.var is None else self.joined(definitions, self.region, self.value_text(zeros))
 
     def joined(self, definitions, region, values):
         told = [self.verb, None if self.id is None else str(self.id), definitions.variable_word(self.var), region, values]

@@ -99,18 +99,20 @@ class Part:
 
     # ---- texts
 
-    def write_script(self, out, extra=()):
+    def write_script(self, out, extra=(), hints=None, zeros=False):
+        """The script, with more hints or with others, and with zeros in place of values where they play no part."""
         out.write("# %s of a traced program\n" % self.merged.opening.shown)
         if len(self.merged.parts) > 1:
             out.write("# part %d of %d\n" % (self.number + 1, len(self.merged.parts)))
         for note in self.merged.notes() + self.merged.remarks():
             out.write("# %s\n" % note.replace("\n", " "))
-        for line in self.head + list(extra) + ["data"]:
+        own = [line for line in self.head if line.split(" ")[1:2] not in [[name] for name in hints or {}]]
+        for line in own + ["hint %s %s" % pair for pair in (hints or {}).items()] + list(extra) + ["data"]:
             out.write(line + "\n")
         for rank in self.ranks:
             for call in rank.calls:
                 for line in call.lines():
-                    out.write("%d %s\n" % (rank.number, line.text(self.definitions)))
+                    out.write("%d %s\n" % (rank.number, line.text(self.definitions, zeros)))
         out.write("end\n")
 
     def pending(self, rank):
