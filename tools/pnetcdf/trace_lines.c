@@ -56,6 +56,12 @@ void say(const char *format, ...)
     here.used += (size_t)length;
 }
 
+static void say_byte(char byte)
+{
+    if (make_room(1))
+        here.text[here.used++] = byte;
+}
+
 static void write_line(void)
 {
     say("}\n");
@@ -236,10 +242,14 @@ void number_field(const char *name, long long number)
 /* Each byte stands for itself, those past ASCII as the characters of the same numbers. */
 void say_text(const char *text)
 {
-    say("\"");
-    for (const unsigned char *c = (const unsigned char *)text; *c; c++)
-        say(*c < 0x20 || *c == '"' || *c == '\\' || *c > 0x7e ? "\\u%04x" : "%c", *c);
-    say("\"");
+    say_byte('"');
+    for (const unsigned char *c = (const unsigned char *)text; *c; c++) {
+        if (*c < 0x20 || *c == '"' || *c == '\\' || *c > 0x7e)
+            say("\\u%04x", *c);
+        else
+            say_byte((char)*c);
+    }
+    say_byte('"');
 }
 
 void text_field(const char *name, const char *text)
