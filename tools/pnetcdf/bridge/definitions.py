@@ -55,6 +55,7 @@ class Part:
     fresh: bool
     answer: dict = field(default_factory=dict)
     fills: list = field(default_factory=list)
+    record_fills: list = field(default_factory=list)    # record variables that are filled where there are records
 
 
 class Definitions:
@@ -66,6 +67,7 @@ class Definitions:
         self.order = []             # dimensions and variables as they were added
         self.remarks, self.left_out = [], []
         self.filling = False
+        self.records = 0            # how many records an opened dataset had
         self.ended = 0              # how many variables there were at the last end of definitions
         answer = opened.answer or {}
         self.version = answer.get("format")
@@ -75,6 +77,7 @@ class Definitions:
 
     def take_contents(self, answer):
         unlimited = answer.get("unlimited", -1)
+        self.records = dict(enumerate(length for _, length in answer.get("dimensions", []))).get(unlimited, 0)
         for number, (name, length) in enumerate(answer.get("dimensions", [])):
             self.dims.append(Dimension(text_of(name), UNLIMITED if number == unlimited else length, BEFORE))
         self.vars = [Variable(text_of(name), kind, over, BEFORE) for name, kind, over in answer.get("variables", [])]
@@ -90,8 +93,9 @@ class Definitions:
         """The end of a phase of definitions: new variables of one size are filled if they are to be."""
         part = self.parts[-1]
         part.answer = answer or part.answer
-        part.fills += [n for n in range(self.ended, len(self.vars)) if self.vars[n].part == self.part and self.vars[n].filled
-                       and not self.is_record(self.vars[n])]
+        filled = [n for n in range(self.ended, len(self.vars)) if self.vars[n].part == self.part and self.vars[n].filled]
+        part.fills += [n for n in filled if not self.is_record(self.vars[n])]
+        part.record_fills += [n for n in filled if self.is_record(self.vars[n])]
         self.ended = len(self.vars)
 
     def take(self, event):

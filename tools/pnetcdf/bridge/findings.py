@@ -5,9 +5,10 @@ import tempfile
 
 from . import classic, comparing, words
 from .answers import compare_call
+from .definitions import BEFORE
 from .merging import Merged, ranks_word
 from .overlaps import Overlaps
-from .regions import Coverage
+from .regions import Coverage, boxes_of, runs
 from .running import Runs
 
 SHOWN = 5       # how many elements of a variable are told one by one, and how many lines of one kind and rank
@@ -179,6 +180,7 @@ class Diagnosis:
                 for post in call.changed:
                     self.tell("memory: the values of %s were changed before call %d (%s) completed it; PnetCDF may write either" % (
                         self.word(rank.number, post), call.number, self.shown(call)))
+                    self.hold_open(post)
 
     def tell_range(self, rank, call):
         place, count, value = call.beyond
@@ -189,6 +191,15 @@ class Diagnosis:
     def tell_overlaps(self, overlaps):
         for race, line in overlaps.lines(self.word):
             (self.tell if race else self.remark)(line)
+
+    def hold_open(self, post):
+        """The elements of a put whose memory was changed may hold either value."""
+        for line in post.put_lines():
+            shape = self.merged.definitions.shape(self.merged.definitions.vars[line.var])
+            own = self.open.setdefault(line.var, set())
+            for place, run in (r for box in boxes_of(line.form, line.region, shape, 0) for r in runs(box, shape)):
+                if own is not None:
+                    own.update(range(place, place + run))
 
     # ---- what PnetCDF did otherwise
 
@@ -266,17 +277,17 @@ class Diagnosis:
         self.state = compared.state
         for line in compared.headers:
             self.tell("the file: " + line)
-        differing = [self.tell_variable(variable) for variable in compared.variables]
-        if differing and not compared.headers and not any(differing):
-            self.state = "overlap"
+        told = {self.tell_variable(variable) for variable in compared.variables}
+        if not compared.headers and "differs" not in told:
+            self.state = "overlap" if "overlap" in told else "layout"
 
     def tell_variable(self, variable):
-        """Tells which elements of a variable differ but those that puts race for; whether there are any."""
+        """Tells which elements of a variable differ but those that puts race for, and what that says of the file."""
         number = self.number(variable)
         raced = self.open.get(number, ())
         kept = [] if raced is None else [d for d in variable.kept if d.place not in raced]
         if not kept:
-            return False
+            return "overlap"
         coverage = self.coverage_of_puts(number, kept)
         put = [d for d in kept if coverage.holds(d.place) is not False]
         more = len(put) - SHOWN + variable.count - len(variable.kept)
@@ -285,10 +296,13 @@ class Diagnosis:
                 variable.name, index_word(difference.index), difference.first, difference.second))
         if more > 0:
             self.tell("the file: %d more elements of %s differ" % (more, variable.name))
-        self.tell_left(variable, [d for d in kept if coverage.holds(d.place) is False])
-        return True
+        left = [d for d in kept if coverage.holds(d.place) is False]
+        return "differs" if self.tell_left(variable, left, self.merged.definitions.vars[number]) or put or more > 0 else "layout"
 
-    def tell_left(self, variable, left):
+    def tell_left(self, variable, left, var):
+        """Elements that no call put stay as they were where they were there or are filled; others may hold anything. Whether it is a finding."""
+        kept = var.part == BEFORE or var.filled
         if left:
-            self.tell("the file: %d elements of %s that no call put aren't as they were, the first %s%s" % (
-                len(left), variable.name, variable.name, index_word(left[0].index)))
+            (self.tell if kept else self.remark)("the file: %d elements of %s that no call put aren't %s, the first %s%s" % (
+                len(left), variable.name, "as they were" if kept else "zeros", variable.name, index_word(left[0].index)))
+        return bool(left) and kept

@@ -3,10 +3,11 @@ from . import classic, words
 from .asked import MOST_ELEMENTS
 from .calls import Call, Line, Repeated, as_posts
 from .definitions import NoWord
-from .regions import pieces
+from .regions import pieces, records_of
 
 MOST_RANKS = 64
 FILL_IDS = 3 << 30      # ids of posts that fill a variable
+MOST_FILLED = 1 << 10   # records that are filled one by one
 
 
 class PartRank:
@@ -51,7 +52,16 @@ class Part:
                 begun.append(Call("buffer_attach %d" % phase.attached, number=-1, name="buffer_attach"))
             if phase.independent:
                 begun.append(Call("begin_indep_data", number=-1, name="begin_indep_data"))
-            rank.calls[:0] = begun
+            rank.calls[:0] = self.record_fills() + begun
+
+    def record_fills(self):
+        """Fills of the records that there are, of new record variables that are to be filled."""
+        added = self.definitions.parts[self.number].record_fills
+        records = self.merged.records_before(self.number) if added else 0
+        if records > MOST_FILLED:
+            raise NoWord("filling %d records of new variables" % records)
+        return [Call("fill_var_rec", var=number, region=str(record), number=-1, name="fill_var_rec")
+                for number in added for record in range(records)]
 
     def fill_lines(self):
         """Posts that fill the new variables, where `fill` doesn't say it."""
@@ -217,6 +227,17 @@ class Merged:
         last = min(min(part for part, _ in ends), len(self.parts) - 1)
         del self.parts[last + 1:]
         self.parts[last].cut(min(len(self.parts[last].ranks[r.number].meetings) for part, r in ends if part == last))
+
+    def records_before(self, number):
+        """How many records the dataset has when a part begins."""
+        records = self.definitions.records
+        calls = (c for part in self.parts[:number] for rank in part.ranks for c in rank.calls if c.code == "ok")
+        for line in (line for call in calls for line in call.lines()):
+            if line.puts:
+                records = max(records, records_of(line.form, line.region, self.definitions.shape(self.definitions.vars[line.var])))
+            elif line.word == "fill_var_rec":
+                records = max(records, int(line.region) + 1)
+        return records
 
     @staticmethod
     def lost(rank):

@@ -214,7 +214,7 @@ class RankMerger:
     def put_values(self, event, given, kind):
         """The values of a put as PnetCDF writes them; the type's fill value stands for those that it doesn't hold."""
         values = self.own_values(self.trace.stored(given.get("stored"), given.get("memory")), given, kind)
-        if event.code == "NC_ERANGE" and isinstance(values, Stored) and kind in words.FORMATS:
+        if event.code == "NC_ERANGE" and isinstance(values, Stored) and kind in words.FORMATS and "converted" not in given:
             return Filled(values, kind, self.definitions.fill_value(given["var"]))
         return values
 

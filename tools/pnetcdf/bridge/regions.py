@@ -77,6 +77,14 @@ def runs(box, shape):
         yield place, run
 
 
+def records_of(form, text, shape):
+    """How many records a variable has at least when the region was put; 0 for a region without an element."""
+    if form == "var" or not shape or shape[0] != 0:
+        return 0
+    return max((start[0] + (count[0] - 1) * stride[0] + 1 for start, count, stride in boxes_of(form, text, shape, 0) if 0 not in count),
+               default=0)
+
+
 class Coverage:
     """Which elements of a variable calls hold: a mark for each element up to a limit. The shape has 0 for the record dimension."""
     MOST = 1 << 28

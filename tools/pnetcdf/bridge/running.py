@@ -5,6 +5,7 @@ import subprocess
 from dataclasses import dataclass, field
 
 SECONDS = 120
+BLOCK = 1 << 20
 REPOSITORY = os.path.join(os.path.dirname(__file__), "..", "..", "..")
 
 
@@ -20,6 +21,17 @@ def find_program(name="ncrun", variable="NCRUN"):
     if not os.access(program, os.X_OK):
         raise RunFault("there is no program %s: build it as README.md says, or name it in %s" % (os.path.normpath(program), variable))
     return program
+
+
+def copy(source, target):
+    """Copies a file; blocks of zeros are left as holes."""
+    with open(source, "rb") as own, open(target, "wb") as out:
+        for block in iter(lambda: own.read(BLOCK), b""):
+            if block.count(0) == len(block):
+                out.seek(len(block), os.SEEK_CUR)
+            else:
+                out.write(block)
+        out.truncate(own.tell())
 
 
 @dataclass(slots=True)
@@ -81,19 +93,19 @@ class Runs:
         self.program, self.folder, self.seconds = program, folder, seconds
         self.dataset = os.path.join(folder, "proved.nc")
 
-    def begin(self, copy):
-        """The dataset as it was before its first part: none, or a copy of one."""
+    def begin(self, before):
+        """The dataset as it was before a part: none, or a copy of one."""
         if os.path.exists(self.dataset):
             os.remove(self.dataset)
-        if copy is not None:
-            shutil.copyfile(copy, self.dataset)
+        if before is not None:
+            copy(before, self.dataset)
 
     def keep(self):
         """A copy of the dataset as it is now, or None where there is none."""
         kept = os.path.join(self.folder, "kept.nc")
         if not os.path.exists(self.dataset):
             return None
-        shutil.copyfile(self.dataset, kept)
+        copy(self.dataset, kept)
         return kept
 
     def run(self, part, extra=()):
