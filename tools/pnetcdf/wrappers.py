@@ -80,12 +80,13 @@ def many(name, parameters, match):
 
 
 def typed(name, parameters, match):
+    buffer = next(n for n in map(name_of, parameters) if n in ("op", "ip", "buf"))
     return wrapper(name, parameters, """    Typed typed = {.name = "%s", .direction = %s, .ncid = ncid, .varid = varid, .file_type = filetype, .type = buftype,
                    .buffer = %s, .bufcount = bufcount};
     Memory memory;
     begin_typed(&typed, &memory);
     return end_typed(&typed, &memory, CALL);
-""" % (name, DIRECTIONS[match.group("kind")], next(n for n in map(name_of, parameters) if n in ("op", "ip", "buf"))))
+""" % (name, DIRECTIONS[match.group("kind")], buffer))
 
 
 def attribute(name, parameters, match):
