@@ -220,7 +220,7 @@ class Definitions:
             dim = self.dims[number]
             name = name_word(dim.name, "a dimension")
             if dim.length >= (1 << 62 if self.version == 5 else 1 << 31):
-                raise NoWord("dimension %s of length %d: a script's are below 2^%d in CDF-%d" % (
+                raise NoWord("dimension %s of length %d: it is below 2^%d there in CDF-%d" % (
                     name, dim.length, 62 if self.version == 5 else 31, self.version))
             return "dim %s %s" % (name, dim.length or "unlimited")
         var = self.vars[number]

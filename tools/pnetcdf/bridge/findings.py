@@ -233,8 +233,9 @@ class Diagnosis:
         number, put = next(((n, c) for n, c in puts if c.puts and not c.meets and c.var == call.var and own.meets(c)), (None, None))
         if put is None:
             return ""
-        barrier = " but a barrier, after which MPI promises that only with ncmpi_sync before it" if put.barriers != call.barriers else ""
-        return "; nothing orders it and %s%s" % (self.word(number, put), barrier)
+        if put.barriers == call.barriers:
+            return "; nothing orders it and " + self.word(number, put)
+        return "; a barrier alone stands between it and %s, and MPI promises no order there without ncmpi_sync" % self.word(number, put)
 
     # ---- the dataset
 

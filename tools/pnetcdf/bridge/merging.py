@@ -1,7 +1,7 @@
 """The scripts of a dataset: one for each part of a run between two phases of definitions."""
 from . import classic, words
 from .asked import MOST_ELEMENTS
-from .calls import Call, Line, Repeated, as_posts
+from .calls import Call, Item, Line, Repeated, as_posts
 from .definitions import NoWord
 from .regions import pieces, records_of
 
@@ -15,12 +15,18 @@ class PartRank:
 
     def __init__(self, merger, calls, end):
         self.merger, self.number, self.calls, self.end = merger, merger.number, calls, end
-        self.meetings = []
+        self.meetings, self.by_id = [], None
 
     def count_meetings(self):
-        self.meetings = [call for call in self.calls if call.meets]
+        self.meetings, self.by_id = [call for call in self.calls if call.meets], None
         for number, call in enumerate(self.meetings):
             call.meeting = number
+
+    def posts(self):
+        """The call and the line by which each request was posted, by its id in the script."""
+        if self.by_id is None:
+            self.by_id = {line.id: (call, line) for call in self.calls for line in call.lines() if line.id is not None}
+        return self.by_id
 
 
 class Part:
@@ -33,6 +39,7 @@ class Part:
         self.begin()
         self.count_meetings()
         self.agree_on_posts()
+        self.count_meetings()
 
     def count_meetings(self):
         for rank in self.ranks:
@@ -41,27 +48,28 @@ class Part:
     # ---- what stands before the first call of the program
 
     def begin(self):
-        filled = self.fill_lines()
+        filled, records = self.fill_lines(), self.record_fills()
         for rank in self.ranks:
             phase = rank.merger.phases[self.number]
-            begun = []
+            begun = [Call("fill_var_rec", var=var, region=str(record), number=-1, name="fill_var_rec") for var, record in records]
             if filled:
                 own = filled if rank.number == 0 else ()
-                begun.append(Call(" ".join(["wait_all"] + [str(line.id) for line in own]), number=-1, name="fill", before=own))
+                ids = [line.id for line in own]
+                begun.append(Call(" ".join(["wait_all"] + list(map(str, ids))), number=-1, name="fill", before=own, requests=ids,
+                                  items=[Item(number) for number in ids]))
             if phase.attached is not None:
                 begun.append(Call("buffer_attach %d" % phase.attached, number=-1, name="buffer_attach"))
             if phase.independent:
                 begun.append(Call("begin_indep_data", number=-1, name="begin_indep_data"))
-            rank.calls[:0] = self.record_fills() + begun
+            rank.calls[:0] = begun
 
     def record_fills(self):
-        """Fills of the records that there are, of new record variables that are to be filled."""
+        """New record variables that are to be filled, each with every record that there is."""
         added = self.definitions.parts[self.number].record_fills
         records = self.merged.records_before(self.number) if added else 0
         if records > MOST_FILLED:
             raise NoWord("filling %d records of new variables" % records)
-        return [Call("fill_var_rec", var=number, region=str(record), number=-1, name="fill_var_rec")
-                for number in added for record in range(records)]
+        return [(number, record) for number in added for record in range(records)]
 
     def fill_lines(self):
         """Posts that fill the new variables, where `fill` doesn't say it."""
@@ -105,7 +113,7 @@ class Part:
 
     def post(self, rank, number):
         """The call by which a rank posted the request of that id, None where it posted none."""
-        return next((c for c in self.ranks[rank].calls for line in c.lines() if line.id == number), None)
+        return self.ranks[rank].posts().get(number, (None, None))[0]
 
     # ---- texts
 

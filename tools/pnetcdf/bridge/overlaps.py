@@ -26,11 +26,13 @@ class Step:
     def puts(self):
         """The lines of the puts that the step does, with rank and call, in the order of ranks and posts."""
         for rank, call in self.met():
-            own = set(call.requests)
             if call.puts and call.id is None:
                 yield rank, call, call
-            for post in self.part.ranks[rank].calls if own else []:
-                yield from ((rank, post, line) for line in post.lines() if line.id in own and line.puts)
+            posts = self.part.ranks[rank].posts() if call.requests else {}
+            for number in sorted(set(call.requests) & set(posts)):
+                post, line = posts[number]
+                if line.puts:
+                    yield rank, post, line
 
     def putter(self, rank, number):
         for own, call, line in self.puts():

@@ -156,9 +156,7 @@ def variables_of(part, calls, direction):
     """The names of the variables that the calls of a step put or get, in the order of definition."""
     numbers = set()
     for rank, call in calls:
-        own = set(call.requests)
-        lines = list(call.lines())
-        if own and not call.before:
-            lines += [line for post in part.ranks[rank].calls for line in post.lines() if line.id in own]
+        lines, posts = list(call.lines()), part.ranks[rank].posts() if call.requests else {}
+        lines += [posts[number][1] for number in call.requests if number in posts and not call.before]
         numbers.update(line.var for line in lines if line.var is not None and line.word.lstrip("ib").startswith(direction))
     return [part.definitions.variable_word(number) for number in sorted(numbers)]

@@ -316,7 +316,7 @@ class RankMerger:
         """A region by an MPI type of the file, which the trace gives as boxes."""
         given = event.given
         if "starts" not in given:
-            many = "its file type makes %d boxes, and a script's call has at most %d" % (given.get("boxes", 0), asked.MOST_PARTS)
+            many = "its file type, which makes %d boxes: a script's call has at most %d" % (given.get("boxes", 0), asked.MOST_PARTS)
             raise NoWord(many if "boxes" in given else given.get("why", "this file type"))
         self.access(event, verb, "varn", everyone)
 
