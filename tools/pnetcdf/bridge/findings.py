@@ -61,7 +61,7 @@ class Diagnosis:
         for remark in merged.remarks():
             self.remark(remark)
         if opening.how == "open" and not (opening.copy and os.path.exists(opening.copy)):
-            self.tell("no run: there is no copy of the dataset as it was opened")
+            (self.tell if self.has_values else self.remark)("no run: there is no copy of the dataset as it was opened")
             return
         with tempfile.TemporaryDirectory() as folder:
             runs = Runs(self.program, folder, self.seconds)
@@ -107,7 +107,7 @@ class Diagnosis:
 
     def run_part(self, part, runs):
         """Runs a part and tells what its answers say; false where the parts after it can't be run."""
-        kept = runs.keep()
+        kept = runs.keep() if part.number else runs.begun
         done, uncut = runs.run(part), True
         mismatch = MISMATCH.match(done.text.first_line())
         if mismatch:
@@ -279,7 +279,7 @@ class Diagnosis:
         for line in compared.headers:
             self.tell("the file: " + line)
         told = {self.tell_variable(variable) for variable in compared.variables}
-        if not compared.headers and "differs" not in told:
+        if told and not compared.headers and "differs" not in told:
             self.state = "overlap" if "overlap" in told else "layout"
 
     def tell_variable(self, variable):

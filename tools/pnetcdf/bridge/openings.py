@@ -3,7 +3,7 @@ import os
 from dataclasses import dataclass, field
 
 from .ranks import RankMerger
-from .traces import read_heads
+from .traces import TraceFault, read_heads
 
 
 @dataclass
@@ -58,15 +58,22 @@ class Reader:
     def read(self, trace):
         open_now, self.seen = {}, {}
         for event in trace.events():
-            if event.call == "barrier":
-                for merger, world in open_now.values():
-                    merger.barrier(event.given["over"], world)
-            elif event.call == "delete":
-                self.chain.append((event.given.get("time", 0), Deletion(event.given["path"], trace.copy(event.given.get("before")))))
-            elif event.call in ("create", "open"):
-                open_now[event.given["dataset"]] = self.opened(trace, event)
-            elif event.given.get("dataset") in open_now:
-                open_now[event.given["dataset"]][0].take(event)
+            try:
+                self.take(trace, event, open_now)
+            except (KeyError, TypeError) as fault:
+                raise TraceFault("%s: call %s, %s, isn't told in full: %r" % (trace.path, event.given.get("n"), event.call, fault)) from None
+
+    def take(self, trace, event, open_now):
+        """One call; the datasets that are open now have their rank's merger and their communicator."""
+        if event.call == "barrier":
+            for merger, world in open_now.values():
+                merger.barrier(event.given["over"], world)
+        elif event.call == "delete":
+            self.chain.append((event.given.get("time", 0), Deletion(event.given["path"], trace.copy(event.given.get("before")))))
+        elif event.call in ("create", "open"):
+            open_now[event.given["dataset"]] = self.opened(trace, event)
+        elif event.given.get("dataset") in open_now:
+            open_now[event.given["dataset"]][0].take(event)
 
     def opened(self, trace, event):
         given = event.given

@@ -8,7 +8,7 @@ COLUMNS = ("step", "call", "variables", "ranks", "pieces a rank", "bytes a rank"
            "writes", "bytes moved", "seconds")
 STYLE = """body { font: 15px/1.45 sans-serif; margin: 2em auto; max-width: 75em; color: #222; padding: 0 1em }
 table { border-collapse: collapse; margin: 1em 0; font-size: 13px } th, td { padding: 3px 9px; text-align: right; border-bottom: 1px solid #ddd }
-th { background: #f3f3f3 } td:nth-child(-n+3), th:nth-child(-n+3) { text-align: left } h2 { margin-top: 2em }
+th { background: #f3f3f3 } .word { text-align: left } h2 { margin-top: 2em }
 .advice li { margin: .4em 0 } .scroll { overflow-x: auto } svg { max-width: 100%; height: auto }"""
 
 
@@ -79,8 +79,11 @@ def text_of(report):
 # ---- HTML
 
 def table_html(title, columns, rows):
+    numeric = [all(row[k][:1].isdigit() or row[k] == "-" for row in rows) for k in range(len(columns))]
+
     def row(words, cell):
-        return "<tr>%s</tr>" % "".join("<%s>%s</%s>" % (cell, html.escape(word), cell) for word in words)
+        kinds = [cell if number else cell + " class=word" for number in numeric]
+        return "<tr>%s</tr>" % "".join("<%s>%s</%s>" % (kind, html.escape(word), cell) for kind, word in zip(kinds, words))
     return "<h3>%s</h3><div class=scroll><table>%s</table></div>" % (
         html.escape(title), "\n".join([row(columns, "th")] + [row(words, "td") for words in rows]))
 

@@ -87,19 +87,17 @@ class RankMerger:
         self.skip(event)
         kind, told = kind_of(event.call)
         if kind != "other" and told[-1] and event.code not in ALONE:
-            self.stand_in(event, told[0])
+            self.add(event, self.nothing(event.given, told[0]) if kind != "members" else Line("wait_all"), stands_in=True)
 
     def skip(self, event):
         key = event.call, event.code
         self.skipped[key] = self.skipped.get(key, 0) + 1
 
-    def stand_in(self, event, verb):
-        """A refused collective call takes part with nothing."""
-        dims, number = event.given.get("dims", 0), event.given["var"]
+    def nothing(self, given, verb):
+        """By this line a refused collective call takes part with nothing."""
+        dims, number = given.get("dims", 0), given["var"]
         region = " ".join([words.list_word([0] * dims)] * 2)
-        kind = self.kind(number) if dims else None
-        line = Line(verb + "_vara_all", None, number if dims else -1, region, Repeated(0, 0), kind)
-        self.add(event, line, stands_in=True)
+        return Line(verb + "_vara_all", None, number if dims else -1, region, Repeated(0, 0), self.kind(number) if dims else None)
 
     def add(self, event, line, **more):
         call = Call(line.verb, line.id, line.var, line.region, line.values, line.kind, number=self.count, name=event.call,

@@ -91,10 +91,11 @@ class Runs:
 
     def __init__(self, program, folder, seconds):
         self.program, self.folder, self.seconds = program, folder, seconds
-        self.dataset = os.path.join(folder, "proved.nc")
+        self.dataset, self.begun = os.path.join(folder, "proved.nc"), None
 
     def begin(self, before):
         """The dataset as it was before a part: none, or a copy of one."""
+        self.begun = before
         if os.path.exists(self.dataset):
             os.remove(self.dataset)
         if before is not None:
