@@ -6,6 +6,8 @@ from dataclasses import dataclass
 MIRROR = "deb-src [signed-by=/usr/share/keyrings/debian-archive-keyring.gpg] http://deb.debian.org/debian bookworm main\n"
 MODULES = "/usr/lib/x86_64-linux-gnu/fortran/gfortran-mod-15"
 FORTRAN = ["-w", "-I" + MODULES, "-I/usr/include/x86_64-linux-gnu", "-fallow-argument-mismatch"]
+# What PnetCDF's configure defines where the system doesn't.
+TYPES = ["-Dschar=signed char", "-Duchar=unsigned char", "-Dlonglong=long long", "-Dulonglong=unsigned long long"]
 
 
 class NoProgram(Exception):
@@ -86,7 +88,7 @@ def command_of(program, source, place, binary):
         tail[1] = binary + ".c"
         with open(tail[1], "wb") as out:
             out.write(called(["m4", "-DPNETCDF", "-I", os.path.join(source, "m4"), "-I", folder, code], folder, "m4"))
-    return ["mpicc", "-w"] + utilities(source, place) + tail
+    return ["mpicc", "-w"] + (TYPES if ending == ".m4" else []) + utilities(source, place) + tail
 
 
 def build(program, source, room):
