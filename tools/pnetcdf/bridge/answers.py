@@ -57,10 +57,13 @@ def compare_call(part, rank, call, answers, word):
         own = "ok"
     if own == "-":
         return
+    main = answers[-1]
+    if own == "NC_ERANGE" and proved == "ok" and (call.word.startswith("get_") or any(item.values for item in call.items)):
+        yield "range", word(rank, call), own, proved
+        return
     if own != proved:
         yield "code", word(rank, call), own, proved
         return
-    main = answers[-1]
     if isinstance(call.got, str):
         if call.got != main.rest:
             yield "values", word(rank, call), shortened(call.got), shortened(main.rest)

@@ -4,6 +4,7 @@ import re
 import tempfile
 
 from . import classic, comparing, words
+from .advice import never_written
 from .answers import compare_call
 from .definitions import BEFORE
 from .merging import Merged, ranks_word
@@ -102,6 +103,9 @@ class Diagnosis:
                 return
         self.tell_pending()
         self.tell_changed()
+        if self.open and self.merged.whole:
+            for line in never_written(self.merged):
+                self.remark(line)
         if self.merged.whole and not self.wrong_files and self.has_values:
             self.tell_file(runs.dataset)
 
@@ -218,7 +222,9 @@ class Diagnosis:
             return
         self.checked += 1
         for kind, what, own, proved in compare_call(part, rank, call, answers, self.word):
-            if kind == "code":
+            if kind == "range":
+                self.tell("out of range: %s got a value that its type of memory doesn't hold" % what)
+            elif kind == "code":
                 self.tell("code: %s answered %s, and %s in the proved run" % (what, own, proved))
             else:
                 self.tell("values: %s got %s, and %s in the proved run%s" % (what, own, proved, self.unordered(part, rank, call)))

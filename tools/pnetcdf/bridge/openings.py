@@ -24,9 +24,17 @@ class Opening:
         return "%s, %s by %d rank%s" % (shown_path(self.path), how, count, "" if count == 1 else "s")
 
 
+    @property
+    def changed(self):
+        """Whether the dataset may be another one behind it: PnetCDF didn't refuse it, or a copy tells what was before."""
+        first = next((rank.opened for rank in self.ranks if rank is not None), None)
+        return self.copy is not None or first is None or not first.refused
+
+
 @dataclass
 class Deletion:
     path: str
+    changed = True
     copy: str = None
     how: str = "delete"
     after: object = None
@@ -99,10 +107,9 @@ def read_openings(paths):
     reader = Reader()
     for trace in traces:
         reader.read(trace)
-    last = {}
-    for _, link in sorted(reader.chain, key=lambda pair: pair[0]):
-        if link.path in last:
+    last, links = {}, [link for _, link in sorted(reader.chain, key=lambda pair: pair[0])]
+    for link in links:
+        if link.changed and link.path in last:
             last[link.path].after = link
-        last[link.path] = link
-    openings = [link for _, link in sorted(reader.chain, key=lambda pair: pair[0]) if isinstance(link, Opening)]
-    return Traced(openings, remarks, traces)
+        last[link.path] = link if link.changed else last.get(link.path, link)
+    return Traced([link for link in links if isinstance(link, Opening)], remarks, traces)
