@@ -210,8 +210,11 @@ static void begin_opening(const char *call, MPI_Comm comm, const char *path, int
 
 static void opened_fields(int code, const int *ncid)
 {
+    const char *safe = getenv("PNETCDF_SAFE_MODE");
     int format = 0;
     call_answered();
+    if (safe != NULL && *safe != '\0')
+        number_field("safe_mode", strcmp(safe, "0") != 0);
     if (code != NC_NOERR)
         return;
     dataset_opened(*ncid);
