@@ -6,7 +6,7 @@ import subprocess
 from collections import Counter
 from dataclasses import dataclass, field
 
-SECONDS = 600
+SCRIPT_SECONDS, SECONDS = 600, 3000      # for one script, and for a program
 FILES = {"same": "same", "zeros": "same but for zeros at the end", "layout": "same values, other layout", "overlap": "overlapping puts",
          "gone": "nothing to compare", "differs": "differ", "none": "not run"}
 
@@ -74,7 +74,7 @@ def judge(program, place, tools, again):
         row.datasets = []
         return row
     if again or not os.path.exists(account):
-        command = [os.path.join(tools, "ncdiagnose"), "--json", account] + traces
+        command = [os.path.join(tools, "ncdiagnose"), "--json", account, "--seconds", str(SCRIPT_SECONDS)] + traces
         try:
             done = subprocess.run(command, stdout=subprocess.DEVNULL, stderr=subprocess.PIPE, timeout=SECONDS, check=False)
         except subprocess.TimeoutExpired:
