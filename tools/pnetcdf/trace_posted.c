@@ -3,6 +3,7 @@
 
 #include <pthread.h>
 #include <stdlib.h>
+#include <string.h>
 
 typedef struct Posted {
     struct Posted *next;
@@ -35,28 +36,53 @@ void keep_posted(const Access *access, int request, Memory *memory)
     pthread_mutex_unlock(&lock);
 }
 
-static bool chosen(const Posted *entry, int count, const int *requests)
+static int compare_ids(const void *first, const void *second)
 {
-    if (count == NC_REQ_ALL || (count == NC_GET_REQ_ALL && !entry->put) || (count == NC_PUT_REQ_ALL && entry->put))
-        return true;
-    for (int i = 0; i < count; i++)
-        if (requests[i] == entry->request)
-            return true;
-    return false;
+    int a = *(const int *)first, b = *(const int *)second;
+    return (a > b) - (a < b);
 }
 
-/* Takes the first entry that the wait names out of the list; NULL where none is left. */
+/* The ids that a wait lists, in order; NULL where it lists none, or there is no room. */
+static int *sorted_ids(int count, const int *requests)
+{
+    int *sorted = count > 0 ? malloc((size_t)count * sizeof *sorted) : NULL;
+    if (sorted != NULL) {
+        memcpy(sorted, requests, (size_t)count * sizeof *sorted);
+        qsort(sorted, (size_t)count, sizeof *sorted, compare_ids);
+    }
+    return sorted;
+}
+
+/* Whether a wait names the request. */
+static bool chosen(const Posted *entry, int ncid, int count, const int *sorted)
+{
+    if (entry->ncid != ncid)
+        return false;
+    if (count == NC_REQ_ALL || (count == NC_GET_REQ_ALL && !entry->put) || (count == NC_PUT_REQ_ALL && entry->put))
+        return true;
+    return sorted != NULL && bsearch(&entry->request, sorted, (size_t)count, sizeof *sorted, compare_ids) != NULL;
+}
+
+/* Takes the entries that the wait names out of the list, as a list of their own. */
 static Posted *take_out(int ncid, int count, const int *requests)
 {
+    int *sorted = sorted_ids(count, requests);
+    Posted *taken = NULL, **end = &taken, **at = &posted;
     pthread_mutex_lock(&lock);
-    Posted **at = &posted;
-    while (*at != NULL && ((*at)->ncid != ncid || !chosen(*at, count, requests)))
-        at = &(*at)->next;
-    Posted *found = *at;
-    if (found != NULL)
-        *at = found->next;
+    while (*at != NULL) {
+        Posted *entry = *at;
+        if (!chosen(entry, ncid, count, sorted)) {
+            at = &entry->next;
+            continue;
+        }
+        *at = entry->next;
+        *end = entry;
+        end = &entry->next;
+    }
+    *end = NULL;
     pthread_mutex_unlock(&lock);
-    return found;
+    free(sorted);
+    return taken;
 }
 
 /* Whether a put's memory is another one than at its post. PnetCDF may hold it with its bytes in the file's order until the wait. */
@@ -74,16 +100,16 @@ static bool is_changed(const Posted *entry)
 void tell_changed(int ncid, int count, const int *requests)
 {
     bool first = true;
-    if (!line_open())
-        return;
+    int *sorted = line_open() ? sorted_ids(count, requests) : NULL;
     pthread_mutex_lock(&lock);
-    for (const Posted *entry = posted; entry != NULL; entry = entry->next) {
-        if (entry->ncid != ncid || !entry->put || !chosen(entry, count, requests) || !is_changed(entry))
+    for (const Posted *entry = posted; line_open() && entry != NULL; entry = entry->next) {
+        if (!entry->put || !chosen(entry, ncid, count, sorted) || !is_changed(entry))
             continue;
         say(first ? ",\"changed\":[%d" : ",%d", entry->request);
         first = false;
     }
     pthread_mutex_unlock(&lock);
+    free(sorted);
     if (!first)
         say("]");
 }
@@ -91,7 +117,9 @@ void tell_changed(int ncid, int count, const int *requests)
 void tell_completed(int ncid, int count, const int *requests, bool filled)
 {
     bool first = true;
-    for (Posted *entry = take_out(ncid, count, requests); entry != NULL; entry = take_out(ncid, count, requests)) {
+    Posted *next;
+    for (Posted *entry = take_out(ncid, count, requests); entry != NULL; entry = next) {
+        next = entry->next;
         long long at = filled && !entry->put && line_open() ? store_memory(&entry->memory) : -1;
         if (at >= 0) {
             say(first ? ",\"gets\":[[%d,%lld,%lld]" : ",[%d,%lld,%lld]", entry->request, at, (long long)entry->memory.length);
