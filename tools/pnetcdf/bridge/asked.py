@@ -22,7 +22,7 @@ def list_of(given, name, dims):
     if sizes is None and name == "stride":
         sizes = [1] * dims
     if sizes is None and name == "imap":
-        sizes = regions.default_map(given["count"])
+        sizes = regions.default_map(given.get("count") or [])
     if sizes is None and dims > 0:
         raise NoWord("no %s" % name)
     return [size(n) for n in sizes or []]

@@ -47,6 +47,7 @@ class Attribute:
     kind: int
     values: list
     part: int
+    phase: int = field(default=0, compare=False)    # how many phases of definitions had ended when it was put first
 
 
 @dataclass
@@ -69,6 +70,7 @@ class Definitions:
         self.filling = False
         self.records = 0            # how many records an opened dataset had
         self.ended = 0              # how many variables there were at the last end of definitions
+        self.phase = 0              # how many ends there were
         answer = opened.answer or {}
         self.version = answer.get("format")
         self.parts = [Part(self.fresh, answer)]
@@ -97,6 +99,7 @@ class Definitions:
         part.fills += [n for n in filled if not self.is_record(self.vars[n])]
         part.record_fills += [n for n in filled if self.is_record(self.vars[n])]
         self.ended = len(self.vars)
+        self.phase += 1
 
     def take(self, event):
         getattr(self, event.call)(event.given)
@@ -119,9 +122,10 @@ class Definitions:
         key = given["var"], text_of(given["attribute"])
         values = attribute_values(given["type"], given["memory"], given.get("values", []), self.version)
         old = self.attributes.get(key)
-        if old and old.part != self.part and (old.kind, old.values) != (given["type"], values):
+        if old and old.phase != self.phase and (old.kind, old.values) != (given["type"], values):
             self.remark("the attribute %s is changed later, and has its last value from the start" % self.shown(key))
-        self.attributes[key] = Attribute(given["type"], values, old.part if old else self.part)
+        part, phase = (old.part, old.phase) if old else (self.part, self.phase)
+        self.attributes[key] = Attribute(given["type"], values, part, phase)
 
     def del_att(self, given):
         key = given["var"], text_of(given["attribute"])

@@ -255,8 +255,8 @@ class Diagnosis:
     def coverage_of_puts(self, number, differences):
         """The elements of a variable that puts hold, as far as those that differ go."""
         coverage = self.coverage(number, 1 + max((d.index[0] for d in differences if d.index), default=0))
-        for line in (line for rank in self.merged.ranks for phase in rank.phases for c in phase.calls for line in c.put_lines()):
-            if line.var == number:
+        for line in (line for rank in self.merged.ranks for phase in rank.phases for c in phase.calls for line in c.lines()):
+            if line.var == number and (line.puts or line.word == "fill_var_rec"):
                 coverage.add(line)
         return coverage
 
@@ -308,7 +308,7 @@ class Diagnosis:
 
     def tell_left(self, variable, left, var):
         """Elements that no call put stay as they were where they were there or are filled; others may hold anything. Whether it is a finding."""
-        kept = var.part == BEFORE or var.filled
+        kept = var.part == BEFORE or var.filled and not self.merged.definitions.is_record(var)
         if left:
             (self.tell if kept else self.remark)("the file: %d elements of %s that no call put aren't %s, the first %s%s" % (
                 len(left), variable.name, "as they were" if kept else "zeros", variable.name, index_word(left[0].index)))

@@ -282,13 +282,20 @@ class Merged:
         for rank in self.ranks:
             for (call, code), count in rank.skipped.items():
                 refused.setdefault((call, code, count), []).append(rank.number)
-        told = ["%s: %s is left out%s, which PnetCDF refused with %s" % (
-            ranks_word(ranks), call, "" if count == 1 else " %d times" % count, code) for (call, code, count), ranks in refused.items()]
+        alike = {}
+        for (call, code, count), ranks in refused.items():
+            alike.setdefault((ranks_word(ranks), code), []).append(call + (" is left out" if count == 1 else " is left out %d times" % count))
+        told = ["%s: %s, which PnetCDF refused with %s" % (ranks, refused_word(calls), code) for (ranks, code), calls in alike.items()]
         return told + (self.definitions.remarks if self.definitions else [])
 
     def pending(self):
         """The posts that nothing completes, where the trace is whole."""
         return [(rank.number, post.call) for rank in self.ranks for post in rank.posts.values()] if self.whole else []
+
+
+def refused_word(calls):
+    """Calls that are left out, the first one by its name."""
+    return calls[0] if len(calls) == 1 else "%s, and %d others" % (calls[0], len(calls) - 1)
 
 
 def ranks_word(ranks):

@@ -1,10 +1,12 @@
 """The calls of one rank on one dataset, turned into words as they come."""
+from array import array
 from dataclasses import dataclass, field
+from itertools import accumulate
 
 from . import asked, words
 from .calls import Call, Filled, Item, Line, Repeated, kind_of
 from .definitions import DEFINES, Definitions, NoWord
-from .traces import Stored
+from .traces import CODES, Stored
 
 PLAIN = {"begin_indep_data", "end_indep_data", "sync_numrecs", "buffer_detach"}
 NO_CALLS = {"inq_dimname", "flush"}
@@ -292,11 +294,15 @@ class RankMerger:
 
     def members(self, event, verb, form, everyone):
         """Many puts or gets in one call: PnetCDF posts them and waits for them."""
+        members = event.given.get("members", [])
+        self.posted_members(event, (verb, form, everyone), members, (event.answer or {}).get("members") or [None] * len(members))
+
+    def posted_members(self, event, told, members, answers):
+        verb, form, everyone = told
         lines, items = [], []
-        answers = (event.answer or {}).get("members", [])
-        for place, member in enumerate(event.given.get("members", [])):
+        for member, answer in zip(members, answers):
             kind, number = self.kind(member["var"]), member["var"]
-            got = self.trace.stored(answers[place] if place < len(answers) else None, member.get("memory"))
+            got = self.trace.stored(answer, member.get("memory"))
             values = None
             if verb == "put" and kind is not None:
                 values = self.put_values(event, member, kind)
@@ -313,10 +319,22 @@ class RankMerger:
     def blocks(self, event, verb, everyone):
         """A region by an MPI type of the file, which the trace gives as boxes."""
         given = event.given
-        if "starts" not in given:
+        if "members" in given:
+            members = [dict(m, memory=given.get("memory"), stored=pair) for m, pair in zip(given["members"], self.cut_up(given, given))]
+            self.posted_members(event, (verb, "varn", everyone), members, self.cut_up(given, event.answer or {}))
+        elif "starts" not in given:
             many = "its file type, which makes %d boxes: a script's call has at most %d" % (given.get("boxes", 0), asked.MOST_PARTS)
             raise NoWord(many if "boxes" in given else given.get("why", "this file type"))
-        self.access(event, verb, "varn", everyone)
+        else:
+            self.access(event, verb, "varn", everyone)
+
+    @staticmethod
+    def cut_up(given, line):
+        """The places of each member's values in those of the whole call; None where there are none."""
+        if "stored" not in line:
+            return [None] * len(given["members"])
+        size, ends = array(CODES[given["memory"]]).itemsize, [0, *accumulate(m["elements"] for m in given["members"])]
+        return [[line["stored"][0] + first * size, m["elements"]] for first, m in zip(ends, given["members"])]
 
     # ---- waits
 

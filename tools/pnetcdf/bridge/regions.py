@@ -49,8 +49,11 @@ def lists_of(text):
 
 
 def boxes_of(form, text, shape, records):
-    """The boxes of a region, each as start, count and stride; `records` stands for the length of the record dimension."""
+    """The boxes of a region, each as start, count and stride; `records` stands for the length of the record dimension. Where there is no
+    form the text is the number of a record, which is filled."""
     lists, ones = lists_of(text), [1] * len(shape)
+    if form is None:
+        return [([int(text)] + [0] * (len(shape) - 1), [1] + shape[1:], ones)]
     if form == "var":
         return [([0] * len(shape), [n or records for n in shape], ones)]
     if form == "varn":
