@@ -144,13 +144,13 @@ class Diagnosis:
     def tell_hung(self):
         merged = self.merged
         lost = [rank for rank in merged.ranks if merged.lost(rank)]
-        for rank in merged.ranks:
+        for rank in (rank for rank in merged.ranks if rank not in lost):
             if rank.hung and lost:
                 self.remark("%s was under way when the trace of %s ended" % (
                     self.word(rank.number, rank.hung), ranks_word([r.number for r in lost])))
             elif rank.hung:
                 self.tell("hangs: %s never came back" % self.word(rank.number, rank.hung))
-        if not any(rank.hung for rank in merged.ranks):
+        if not any(rank.hung for rank in merged.ranks if rank not in lost):
             for rank in merged.ranks:
                 if not rank.closed and not rank.stopped and rank not in lost:
                     self.tell("not closed: rank %d didn't close the dataset" % rank.number)

@@ -250,7 +250,7 @@ class Merged:
     @staticmethod
     def lost(rank):
         """Whether a rank's trace breaks off: it was killed, it crashed, or nothing more could be written."""
-        return not rank.closed and not rank.stopped and not rank.hung and (rank.trace.cut or not rank.trace.ended)
+        return not rank.closed and not rank.stopped and (rank.trace.cut or not rank.hung and not rank.trace.ended)
 
     @staticmethod
     def break_off(rank):
