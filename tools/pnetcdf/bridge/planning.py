@@ -6,6 +6,7 @@ from dataclasses import dataclass, field
 
 from .running import RunFault, Runs
 
+FORM = 1        # of plans
 MOST_VALUES, MOST_LINES = 1 << 24, 1 << 20      # what one script may hold
 
 
@@ -106,7 +107,10 @@ class Planner:
             done = subprocess.run(command, stdin=source, stdout=subprocess.PIPE, timeout=self.seconds, check=False)
         if done.returncode != 0:
             raise RunFault("ncplan ended with status %d: %s" % (done.returncode, done.stdout[:200].decode("utf-8", "replace").strip()))
-        return json.loads(done.stdout)
+        plan = json.loads(done.stdout)
+        if plan.get("plan") != FORM:
+            raise RunFault("%s prints plans of another form" % self.program)
+        return plan
 
 
 def lines_of(rank):
@@ -130,16 +134,17 @@ def steps_of(part, plan):
     behind = [lines_of(rank) for rank in part.ranks]
     for step in plan["steps"]:
         for direction in ("put", "get"):
-            asked = [call for call in step["calls"] if call[direction]["pieces"]]
+            asked = step[direction]["asked"]
             if asked:
                 yield step_of(part, behind, step, direction, asked)
 
 
 def step_of(part, behind, step, direction, asked):
     calls = [(call["rank"], behind[call["rank"]][call["call"]]) for call in step["calls"]]
-    windows = [w for domain in step[direction] for w in domain["windows"]]
+    domains = step[direction]["domains"]
+    windows = [w for domain in domains for w in domain["windows"]]
     by_aggregator = {}
-    for domain in step[direction]:
+    for domain in domains:
         served = sum(share["bytes"] for w in domain["windows"] for share in w["shares"])
         by_aggregator[domain["aggregator"]] = by_aggregator.get(domain["aggregator"], 0) + served
     took = [call.took for _, call in calls if call.took is not None]
@@ -147,8 +152,8 @@ def step_of(part, behind, step, direction, asked):
     reads, writes = moved(step, direction, windows)
     return Step(
         step["mark"], part.number, direction, " ".join(sorted(names)) or "fill", variables_of(part, calls, direction),
-        [(rank, call.number) for rank, call in calls], Spread.of(c[direction]["pieces"] for c in asked),
-        Spread.of(c[direction]["bytes"] for c in asked), Spread.of(by_aggregator.values()), by_aggregator,
+        [(rank, call.number) for rank, call in calls], Spread.of(own["pieces"] for own in asked),
+        Spread.of(own["bytes"] for own in asked), Spread.of(by_aggregator.values()), by_aggregator,
         len(windows), sum(w["hole"] for w in windows), reads, writes, max(took, default=None))
 
 

@@ -57,6 +57,8 @@ class RankMerger:
         self.posts = {}             # pending requests by PnetCDF's numbers, in order of posting
         self.next, self.next_own = 0, OWN_IDS
         self.attached, self.independent, self.barriers, self.count = None, False, 0, 0
+        # In safe mode a collective call that one rank does wrongly is refused on all ranks, and nothing of it is done.
+        self.safe = bool((opened.answer or {}).get("safe_mode"))
         self.skipped = {}           # calls that PnetCDF refused and that have no word: how often, by call and code
 
     # ---- events
@@ -115,7 +117,7 @@ class RankMerger:
             return
         if call in DEFINES or call in ("redef", "enddef"):
             self.define(event)
-        elif event.refused and event.code not in CAUSES:
+        elif event.refused and (event.code not in CAUSES or self.safe and kind != "other" and told[-1]):
             raise NoWord("a call that PnetCDF refused")
         elif kind == "other":
             self.plain(event)

@@ -7,7 +7,7 @@ import tempfile
 from .advice import advice
 from .merging import Merged
 from .planning import Planner, fit, steps_of
-from .running import REPOSITORY, find_program
+from .running import REPOSITORY, RunFault, find_program
 
 # Hints that a plan knows; the two alignments act when a dataset is made.
 KNOWN = {"cb_nodes", "cb_buffer_size", "ind_rd_buffer_size", "ind_wr_buffer_size", "striping_unit", "nc_header_align_size",
@@ -31,6 +31,12 @@ class Report:
 
     def make(self, hint_sets, seconds):
         """Plans the parts under the run's own hints, then under each of the sets, which are dictionaries."""
+        try:
+            self.make_plans(hint_sets, seconds)
+        except (KeyError, TypeError) as fault:
+            raise RunFault("ncplan prints plans of another form: %r" % fault) from None
+
+    def make_plans(self, hint_sets, seconds):
         with tempfile.TemporaryDirectory() as folder:
             planner = Planner(self.merged, find_program("ncplan", "NCPLAN"), find_program, folder, seconds)
             self.fit()
