@@ -6,10 +6,11 @@ import os
 import struct
 import tempfile
 import unittest
+from types import SimpleNamespace
 
-from bridge import asked, attributes, classic, comparing, regions, words
+from bridge import asked, attributes, classic, comparing, planning, regions, words
 from bridge.answers import same_values
-from bridge.calls import Filled, Repeated, kind_of
+from bridge.calls import Call, Filled, Repeated, kind_of
 from bridge.merging import ranks_word
 from bridge.traces import Stored, TraceFault, read_heads
 
@@ -163,6 +164,26 @@ class Answers(unittest.TestCase):
         self.assertTrue(same_values(Values("int", [-2, 3]), words.FLOAT, "xC0300000 x40700000"))
         self.assertFalse(same_values(Values("int", [-3, 3]), words.FLOAT, "xC0300000 x40700000"))
         self.assertTrue(same_values(Values("double", [words.pattern(6, 7.0)]), 4, "7"))
+
+
+class Plans(unittest.TestCase):
+    """A collective put of two ranks, two bytes each with a gap of one: a window of five bytes that is read first, by one aggregator."""
+
+    STEP = {"mark": "m0", "collective": True, "overlap": None,
+            "calls": [{"rank": r, "call": 0, "name": "put_vara_all", "answer": "ok"} for r in (0, 1)],
+            "put": {"asked": [{"rank": 0, "bytes": 2, "pieces": 1}, {"rank": 1, "bytes": 2, "pieces": 1}],
+                    "domains": [{"aggregator": 0, "from": 8, "to": 13, "windows": [
+                        {"from": 8, "to": 13, "hole": True, "shares": [{"rank": 0, "bytes": 2}, {"rank": 1, "bytes": 2}], "pieces": []}]}]},
+            "get": {"asked": [], "domains": []},
+            "device": [{"call": "read", "place": 8, "length": 5}, {"call": "write", "place": 8, "length": 5}]}
+
+    def test_a_step(self):
+        ranks = [SimpleNamespace(calls=[Call("put_vara_all", var=0, region="[0] [2]", name="put_vara_schar_all", took=0.25 + r)], posts=dict)
+                 for r in (0, 1)]
+        part = SimpleNamespace(number=0, ranks=ranks, definitions=SimpleNamespace(variable_word=lambda number: "v"))
+        step, = planning.steps_of(part, {"steps": [self.STEP]})
+        self.assertEqual((step.variables, step.pieces.most, step.bytes.total, step.windows, step.holes), (["v"], 1, 4, 1, 1))
+        self.assertEqual((step.reads.total, step.writes.total, step.by_aggregator, step.seconds), (5, 5, {0: 4}, 1.25))
 
 
 class Traces(unittest.TestCase):
