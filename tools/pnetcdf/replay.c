@@ -211,8 +211,28 @@ static void replay(Run *run, const Script *script, const char *path)
     print(run, path);
 }
 
+static const char usage[] = "usage: mpiexec -n RANKS ncreplay SCRIPT DATASET\n"
+    "\n"
+    "Does the script's calls on PnetCDF, one process for each of its ranks, and prints what ncrun prints.\n";
+
+/* Answers --help and --version, for which no MPI is needed. */
+static bool answer_alone(int argc, char **argv)
+{
+    if (argc != 2 || strncmp(argv[1], "--", 2) != 0)
+        return false;
+    if (strcmp(argv[1], "--version") == 0)
+        printf("ncreplay %s\n", VERSION);
+    else if (strcmp(argv[1], "--help") == 0)
+        fputs(usage, stdout);
+    else
+        return false;
+    return true;
+}
+
 int main(int argc, char **argv)
 {
+    if (answer_alone(argc, argv))
+        return 0;
     Run run = {.call = 0};
     MPI_Init(&argc, &argv);
     MPI_Comm_rank(MPI_COMM_WORLD, &run.rank);

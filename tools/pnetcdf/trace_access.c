@@ -1,60 +1,40 @@
-/* Puts, gets and attributes: what of a user's memory a call may touch, and the values that stand there. */
+/* Puts, gets and attributes: what of a user's memory a call may touch, and the fields that tell it. */
 #include "trace.h"
+#include "trace_types.h"
 
-#include <stdio.h>
 #include <stdlib.h>
 #include <string.h>
 
-enum {
-    DIMS = 32,          /* dimensions of a variable that a script knows */
-    ELEMENTS = 1 << 20, /* values of one call */
-    PARTS = 1024        /* boxes of one call */
-};
+static const MPI_Offset MOST = (MPI_Offset)1 << 40;     /* values of one call, past which they are not counted */
 
-typedef struct {
-    int dims;
-    MPI_Offset length[DIMS];
-    int record;         /* the place of the record dimension, -1 for none */
-    nc_type type;
-} Shape;
-
-typedef struct { MPI_Datatype type; Basic basic; } Pair;
-
-Basic basic_of(MPI_Datatype type, nc_type own)
+bool is_put(Direction direction)
 {
-    static const Basic owns[] = {OTHER, SCHAR, TEXT, SHORT, INT, FLOAT, DOUBLE, UCHAR, USHORT, UINT, LONGLONG, ULONGLONG};
-    const Pair pairs[] = {
-        {MPI_CHAR, TEXT}, {MPI_SIGNED_CHAR, SCHAR}, {MPI_UNSIGNED_CHAR, UCHAR}, {MPI_SHORT, SHORT}, {MPI_UNSIGNED_SHORT, USHORT},
-        {MPI_INT, INT}, {MPI_UNSIGNED, UINT}, {MPI_LONG, LONG}, {MPI_FLOAT, FLOAT}, {MPI_DOUBLE, DOUBLE},
-        {MPI_LONG_LONG_INT, LONGLONG}, {MPI_UNSIGNED_LONG_LONG, ULONGLONG}, {MPI_INT8_T, SCHAR}, {MPI_UINT8_T, UCHAR},
-        {MPI_INT16_T, SHORT}, {MPI_UINT16_T, USHORT}, {MPI_INT32_T, INT}, {MPI_UINT32_T, UINT}, {MPI_INT64_T, LONGLONG},
-        {MPI_UINT64_T, ULONGLONG}, {MPI_UNSIGNED_LONG, ULONGLONG},
-    };
-    if (type == MPI_DATATYPE_NULL)
-        return own >= NC_BYTE && own <= NC_UINT64 ? owns[own] : OTHER;
-    for (size_t i = 0; i < sizeof pairs / sizeof *pairs; i++)
-        if (type == pairs[i].type)
-            return pairs[i].basic;
-    return OTHER;
+    return direction == PUT || direction == POSTED_PUT || direction == BUFFERED_PUT;
 }
 
-/* Whether PnetCDF knows the variable, and a script its number of dimensions. */
-static bool shape_of(int ncid, int varid, Shape *shape)
+/* ---- the variable, and the region in it */
+
+bool shape_of(int ncid, int varid, Shape *shape)
 {
-    int ids[DIMS], unlimited = -1;
-    if (ncmpi_inq_varndims(ncid, varid, &shape->dims) != NC_NOERR || shape->dims > DIMS)
+    int unlimited = -1;
+    *shape = (Shape){.record = -1};
+    if (ncmpi_inq_varndims(ncid, varid, &shape->dims) != NC_NOERR || ncmpi_inq_vartype(ncid, varid, &shape->type) != NC_NOERR
+        || ncmpi_inq_unlimdim(ncid, &unlimited) != NC_NOERR)
         return false;
-    if (ncmpi_inq_vartype(ncid, varid, &shape->type) != NC_NOERR || ncmpi_inq_unlimdim(ncid, &unlimited) != NC_NOERR
-        || ncmpi_inq_vardimid(ncid, varid, ids) != NC_NOERR)
-        return false;
-    shape->record = -1;
-    for (int i = 0; i < shape->dims; i++) {
+    int *ids = calloc((size_t)shape->dims + 1, sizeof *ids);
+    shape->length = calloc((size_t)shape->dims + 1, sizeof *shape->length);
+    bool known = ids != NULL && shape->length != NULL && ncmpi_inq_vardimid(ncid, varid, ids) == NC_NOERR;
+    for (int i = 0; known && i < shape->dims; i++) {
         if (ids[i] == unlimited)
             shape->record = i;
-        if (ncmpi_inq_dimlen(ncid, ids[i], &shape->length[i]) != NC_NOERR)
-            return false;
+        known = ncmpi_inq_dimlen(ncid, ids[i], &shape->length[i]) == NC_NOERR;
     }
-    return true;
+    free(ids);
+    if (!known) {
+        free(shape->length);
+        shape->length = NULL;
+    }
+    return known;
 }
 
 /* Whether the region lies in the variable, where a put may add records. */
@@ -72,16 +52,17 @@ static bool lies_inside(const Shape *shape, const MPI_Offset *start, const MPI_O
     return true;
 }
 
-/* The product of the counts, or one past the limit where it is greater. */
+/* The product of the counts, -1 where it is too great. */
 static MPI_Offset elements(int dims, const MPI_Offset *count)
 {
     MPI_Offset product = 1;
-    for (int i = 0; i < dims && product > 0; i++) {
+    for (int i = 0; i < dims; i++)
         if (count[i] == 0)
             return 0;
-        product = count[i] > ELEMENTS / product ? ELEMENTS + 1 : product * count[i];
-        if (product > ELEMENTS)
-            product = ELEMENTS + 1;
+    for (int i = 0; i < dims; i++) {
+        if (count[i] > MOST / product)
+            return -1;
+        product *= count[i];
     }
     return product;
 }
@@ -91,15 +72,16 @@ static MPI_Offset elements_of_parts(const Access *access, const Shape *shape)
     MPI_Offset sum = 0;
     for (int k = 0; k < access->parts; k++) {
         const MPI_Offset *count = access->counts == NULL ? NULL : access->counts[k];
-        if (!lies_inside(shape, access->starts[k], count, NULL))
+        MPI_Offset own = count == NULL ? 1 : elements(shape->dims, count);
+        if (!lies_inside(shape, access->starts[k], count, NULL) || own < 0)
             return -1;
-        sum += count == NULL ? 1 : elements(shape->dims, count);
+        sum += own;
     }
     return sum;
 }
 
-/* How many values the call reaches in memory; -1 where its region is none of the variable. */
-static MPI_Offset values_reached(const Access *access, const Shape *shape)
+/* How many elements the call reaches; -1 where its region is none of the variable. */
+static MPI_Offset elements_reached(const Access *access, const Shape *shape)
 {
     switch (access->form) {
     case VAR: return elements(shape->dims, shape->length);
@@ -111,16 +93,22 @@ static MPI_Offset values_reached(const Access *access, const Shape *shape)
         return 1;
     if (access->count == NULL || !lies_inside(shape, access->start, access->count, access->stride))
         return -1;
-    MPI_Offset n = elements(shape->dims, access->count), last = 0;
-    if (access->imap == NULL || n == 0 || n > ELEMENTS)
-        return n;
-    for (int i = 0; i < shape->dims; i++) {
-        if (access->imap[i] < 0)
+    return elements(shape->dims, access->count);
+}
+
+/* How many places of memory an index map spans; -1 where it goes back. */
+static MPI_Offset places_spanned(const Access *access, int dims)
+{
+    MPI_Offset last = 0;
+    for (int i = 0; i < dims; i++) {
+        if (access->imap[i] < 0 || (access->imap[i] > 0 && access->count[i] - 1 > MOST / access->imap[i]))
             return -1;
         last += (access->count[i] - 1) * access->imap[i];
     }
-    return last + 1;
+    return last < MOST ? last + 1 : -1;
 }
+
+/* ---- the memory */
 
 static MPI_Offset *copy_of(int count, const MPI_Offset *list)
 {
@@ -130,147 +118,121 @@ static MPI_Offset *copy_of(int count, const MPI_Offset *list)
     return copy;
 }
 
-void free_memory(Memory *memory)
+/* Gives the memory its type, and says whether that many values may be read there. A flexible call of a type that isn't basic has as
+   many values as its types together; one of a basic type has its count, but for -1, which stands for the region's. */
+static bool take_type(Memory *memory, const Access *access, MPI_Offset values)
 {
-    free(memory->count);
-    free(memory->imap);
-    *memory = (Memory){.basic = OTHER};
+    if (!access->flexible || access->type == MPI_DATATYPE_NULL) {
+        memory->basic = access->type == MPI_DATATYPE_NULL ? memory->own : basic_of(access->type);
+        return memory->basic != OTHER;
+    }
+    memory->basic = element_of(access->type);
+    if (memory->basic == OTHER)
+        return false;
+    if (basic_of(access->type) != OTHER)
+        return access->bufcount == -1 || access->bufcount >= values;
+    memory->count = access->bufcount;
+    return access->bufcount >= 0 && access->bufcount * elements_of(access->type) == values
+        && MPI_Type_dup(access->type, &memory->type) == MPI_SUCCESS;
 }
 
-/* The user's memory as the call reaches it; no buffer where that can't be told. */
-static Memory memory_of(const Access *access, const Shape *shape)
+Memory memory_of(const Access *access, const Shape *shape, MPI_Offset values)
 {
-    Memory memory = {.basic = basic_of(access->type, shape->type), .length = values_reached(access, shape)};
-    bool counted = access->flexible && access->type != MPI_DATATYPE_NULL && access->bufcount >= 0;
-    bool told = memory.basic != OTHER && memory.length >= 0 && memory.length <= ELEMENTS;
-    if (!told || (counted && access->imap == NULL && access->bufcount < memory.length))
+    Memory memory = {.own = basic_of_variable(shape->type), .basic = OTHER, .length = values, .type = MPI_DATATYPE_NULL};
+    bool mapped = access->form == VARM && access->imap != NULL && shape->dims > 0 && values > 0;
+    if (mapped)
+        memory.length = places_spanned(access, shape->dims);
+    bool told = take_type(&memory, access, values) && values >= 0 && memory.length >= 0;
+    if (!told || (mapped && memory.type != MPI_DATATYPE_NULL && memory.length > values))
         return memory;
     memory.buffer = access->buffer;
-    if (access->imap != NULL && access->form == VARM && shape->dims > 0) {
+    if (mapped) {
         memory.dims = shape->dims;
-        memory.count = copy_of(shape->dims, access->count);
+        memory.counts = copy_of(shape->dims, access->count);
         memory.imap = copy_of(shape->dims, access->imap);
-        if (memory.count == NULL || memory.imap == NULL)
+        if (memory.counts == NULL || memory.imap == NULL)
             memory.buffer = NULL;
     }
+    if (converts(&memory))
+        ncmpi_inq_var_fill(access->ncid, access->varid, NULL, memory.fill);
     return memory;
 }
 
-static void parts_fields(const Access *access, const Shape *shape)
+/* ---- the fields */
+
+static void say_parts(const char *name, int parts, int dims, MPI_Offset *const *lists)
 {
-    number_field("parts", access->parts);
-    for (int k = 0; access->starts != NULL && k < access->parts && k < PARTS; k++) {
-        const MPI_Offset *count = access->counts == NULL ? NULL : access->counts[k];
-        char name[32] = "start";
-        snprintf(name, sizeof name, "start%d", k);
-        list_field(name, shape->dims, access->starts[k]);
-        snprintf(name, sizeof name, "count%d", k);
-        list_field(name, shape->dims, count);
+    if (!line_open() || lists == NULL)
+        return;
+    say(",\"%s\":[", name);
+    for (int k = 0; k < parts; k++) {
+        say(k == 0 ? "" : ",");
+        if (lists[k] == NULL)
+            say("null");
+        else
+            say_list(dims, lists[k]);
     }
+    say("]");
+}
+
+static void region_fields(const Access *access, int dims)
+{
+    number_field("dims", dims);
+    list_field("start", dims, access->start);
+    list_field("count", dims, access->count);
+    list_field("stride", dims, access->stride);
+    list_field("imap", dims, access->imap);
+    if (access->form == VARN) {
+        number_field("parts", access->parts);
+        say_parts("starts", access->parts, dims, access->starts);
+        say_parts("counts", access->parts, dims, access->counts);
+    }
+}
+
+void access_fields(const Access *access, Memory *memory)
+{
+    Shape shape;
+    *memory = (Memory){.basic = OTHER, .own = OTHER, .type = MPI_DATATYPE_NULL};
+    if (!line_open() || !shape_of(access->ncid, access->varid, &shape))
+        return;
+    MPI_Offset values = elements_reached(access, &shape);
+    *memory = memory_of(access, &shape, values);
+    region_fields(access, shape.dims);
+    number_field("elements", values);
+    memory_fields(memory, is_put(access->direction));
+    if (is_put(access->direction))
+        stored_field(memory, true);
+    free(shape.length);
 }
 
 void begin_access(const Access *access, Memory *memory)
 {
-    Shape shape = {.record = -1};
-    *memory = (Memory){.basic = OTHER};
     begin_call(access->ncid, access->name);
     number_field("var", access->varid);
-    if (shape_of(access->ncid, access->varid, &shape)) {
-        *memory = memory_of(access, &shape);
-        number_field("dims", shape.dims);
-        list_field("start", shape.dims, access->start);
-        list_field("count", shape.dims, access->count);
-        list_field("stride", shape.dims, access->stride);
-        list_field("imap", shape.dims, access->imap);
-        if (access->form == VARN)
-            parts_fields(access, &shape);
-        number_field("elements", memory->length);
-        text_field("memory", basic_name(memory->basic));
-        if (access->direction == PUT || access->direction == POSTED_PUT)
-            values_field(memory);
-    }
+    access_fields(access, memory);
     call_made();
 }
 
 int end_access(const Access *access, Memory *memory, int code, const int *request)
 {
     bool filled = code == NC_NOERR || code == NC_ERANGE;
-    if (request != NULL && code == NC_NOERR)
+    call_answered();
+    if (request != NULL && filled)
         number_field("request", *request);
     if (access->direction == GET && filled)
-        values_field(memory);
-    if (access->direction == POSTED_GET && filled && request != NULL && *request != NC_REQ_NULL)
-        keep_posted_get(access->ncid, *request, memory);
+        stored_field(memory, false);
+    if (request != NULL && filled && *request != NC_REQ_NULL && access->direction != BUFFERED_PUT && memory->buffer != NULL)
+        keep_posted(access, *request, memory);
     else
         free_memory(memory);
     return end_call(code);
 }
 
-void begin_attribute(const char *call, int ncid, int varid, const char *name, nc_type xtype, MPI_Offset length,
-                     MPI_Datatype type, const void *values)
+void attribute_fields(int varid, const char *name, nc_type xtype, Basic memory, MPI_Offset length, const void *values)
 {
-    Memory memory = {.basic = basic_of(type, xtype), .buffer = values, .length = length};
-    begin_call(ncid, call);
     number_field("var", varid);
     text_field("attribute", name);
     number_field("type", xtype);
-    text_field("memory", basic_name(memory.basic));
-    if (memory.basic != OTHER && length >= 0 && length <= ELEMENTS)
-        values_field(&memory);
-    call_made();
-}
-
-/* ---- posted gets */
-
-typedef struct Posted {
-    struct Posted *next;
-    int ncid, request;
-    Memory memory;
-} Posted;
-
-static Posted *posted;
-
-void keep_posted_get(int ncid, int request, const Memory *memory)
-{
-    Posted *entry = malloc(sizeof *entry);
-    if (entry == NULL)
-        return;
-    *entry = (Posted){.next = posted, .ncid = ncid, .request = request, .memory = *memory};
-    posted = entry;
-}
-
-static bool chosen(int request, int count, const int *requests)
-{
-    if (count == NC_REQ_ALL || count == NC_GET_REQ_ALL)
-        return true;
-    for (int i = 0; i < count; i++)
-        if (requests[i] == request)
-            return true;
-    return false;
-}
-
-void tell_posted_gets(int ncid, int count, const int *requests, bool filled)
-{
-    bool first = true;
-    for (Posted **at = &posted; *at != NULL;) {
-        Posted *entry = *at;
-        if (entry->ncid != ncid || !chosen(entry->request, count, requests)) {
-            at = &entry->next;
-            continue;
-        }
-        if (filled && entry->memory.buffer != NULL) {
-            request_values(first, entry->request, &entry->memory);
-            first = false;
-        }
-        *at = entry->next;
-        free_memory(&entry->memory);
-        free(entry);
-    }
-    if (!first)
-        end_request_values();
-}
-
-void drop_posted_gets(int ncid)
-{
-    tell_posted_gets(ncid, NC_REQ_ALL, NULL, false);
+    text_field("memory", basic_name(memory));
+    values_field(memory, length, length == 0 ? "" : values);
 }

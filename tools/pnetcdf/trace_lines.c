@@ -1,279 +1,287 @@
-/* The trace file of this rank: which calls are written, and the parts of a line. */
-#define _GNU_SOURCE
+/* Lines of the trace, and which calls are written. Each thread makes its lines in memory of its own. */
 #include "trace.h"
+#include "trace_file.h"
 
-#include <dlfcn.h>
-#include <errno.h>
+#include <pthread.h>
+#include <stdarg.h>
 #include <stdio.h>
 #include <stdlib.h>
 #include <string.h>
 
 enum { DATASETS = NC_MAX_NFILES };
 
-static FILE *file;      /* the trace, once it is begun */
-static bool broken;     /* it can't be written */
-static int depth;       /* calls of PnetCDF that are under way in each other */
-static bool writing;    /* the call under way is traced */
-static int dataset;     /* the number of its dataset in the trace */
-static int datasets;    /* how many there were */
-static int numbers[DATASETS]; /* one more than the number of an open dataset, 0 for none */
+/* What the threads share, under the lock. */
+static pthread_mutex_t lock = PTHREAD_MUTEX_INITIALIZER;
+static long calls;                      /* traced so far */
+static int datasets, open_datasets, threads;
+static int numbers[DATASETS];           /* one more than the number of an open dataset, 0 for none */
 
-void *real_call(const char *name)
+/* The call that a thread has under way, and its line as far as it is made. */
+static _Thread_local struct {
+    int depth;          /* calls of PnetCDF that are under way in each other */
+    bool writing;       /* the outer one is traced */
+    long number;
+    int dataset;
+    double made, took;  /* when PnetCDF was called, and how long that took; below 0 until it is known */
+    char *text;
+    size_t used, room;
+} here;
+static _Thread_local int thread = -1;
+
+/* Room for that many more characters; the answer is whether there is any. */
+static bool make_room(size_t more)
 {
-    void *found = dlsym(RTLD_NEXT, name);
-    if (found == NULL) {
-        fprintf(stderr, "nctrace: no %s behind this library: is PnetCDF a shared library here?\n", name);
-        abort();
-    }
-    return found;
+    if (here.used + more <= here.room)
+        return true;
+    size_t room = 2 * here.room + more + 256;
+    char *text = realloc(here.text, room);
+    if (text == NULL)
+        return false;
+    here.text = text;
+    here.room = room;
+    return true;
 }
 
-static void give_up(const char *path)
+void say(const char *format, ...)
 {
-    fprintf(stderr, "nctrace: %s: %s: nothing more is traced\n", path, strerror(errno));
-    broken = true;
+    va_list arguments;
+    va_start(arguments, format);
+    int length = vsnprintf(NULL, 0, format, arguments);
+    va_end(arguments);
+    if (length < 0 || !make_room((size_t)length + 1))
+        return;
+    va_start(arguments, format);
+    vsnprintf(here.text + here.used, (size_t)length + 1, format, arguments);
+    va_end(arguments);
+    here.used += (size_t)length;
 }
 
-static void begin_file(void)
+static void say_byte(char byte)
 {
-    const char *prefix = getenv("NCTRACE");
-    char path[4096];
-    int rank, size;
+    if (make_room(1))
+        here.text[here.used++] = byte;
+}
+
+static void write_line(void)
+{
+    say("}\n");
+    write_trace(here.text, here.used);
+    here.used = 0;
+}
+
+/* The first line of the trace. */
+static void write_head(void)
+{
+    char run[256], mpi[MPI_MAX_LIBRARY_VERSION_STRING];
+    int rank, size, length;
+    const int one = 1;
     MPI_Comm_rank(MPI_COMM_WORLD, &rank);
     MPI_Comm_size(MPI_COMM_WORLD, &size);
-    snprintf(path, sizeof path, "%s.%d", prefix != NULL && *prefix ? prefix : "nctrace", rank);
-    file = fopen(path, "w");
-    if (file == NULL) {
-        give_up(path);
+    MPI_Get_library_version(mpi, &length);
+    mpi[strcspn(mpi, "\n")] = '\0';
+    name_run(run, sizeof run);
+    here.used = 0;
+    say("{\"nctrace\":2");
+    say(",\"run\":");
+    say_text(run);
+    say(",\"rank\":%d,\"ranks\":%d,\"started\":%.6f,\"values\":%s", rank, size, seconds_of(CLOCK_REALTIME), values_wanted() ? "true" : "false");
+    say(",\"order\":\"%s\",\"library\":", *(const char *)&one ? "little" : "big");
+    say_text(ncmpi_inq_libvers());
+    say(",\"mpi\":");
+    say_text(mpi);
+    write_line();
+}
+
+/* Takes a number for a call of this thread; the lock is held. */
+static void take_number(const char *name)
+{
+    here.writing = tracing();
+    if (!here.writing)
         return;
-    }
-    setvbuf(file, NULL, _IOFBF, 1 << 16);
-    fprintf(file, "{\"nctrace\":1,\"rank\":%d,\"ranks\":%d,\"library\":\"%s\"}\n", rank, size, ncmpi_inq_libvers());
-    fflush(file);
+    if (thread < 0)
+        thread = threads++;
+    here.number = calls++;
+    here.used = 0;
+    say("{\"n\":%ld", here.number);
+    if (here.dataset >= 0)
+        say(",\"dataset\":%d", here.dataset);
+    say(",\"call\":\"%s\",\"time\":%.6f", name, trace_time());
+    if (thread > 0)
+        say(",\"thread\":%d", thread);
 }
 
-static void end_line(void)
+bool inside_call(void)
 {
-    fputs("}\n", file);
-    if (fflush(file) != 0)
-        give_up("the trace");
-}
-
-static void begin_line(const char *name)
-{
-    fprintf(file, "{\"dataset\":%d", dataset);
-    if (name != NULL)
-        text_field("call", name);
+    return here.depth > 0;
 }
 
 void begin_call(int ncid, const char *name)
 {
-    if (depth++ > 0)
+    if (here.depth++ > 0)
         return;
-    writing = !broken && ncid >= 0 && ncid < DATASETS && numbers[ncid] > 0;
-    if (!writing)
-        return;
-    dataset = numbers[ncid] - 1;
-    begin_line(name);
+    pthread_mutex_lock(&lock);
+    here.writing = false;
+    here.dataset = ncid >= 0 && ncid < DATASETS ? numbers[ncid] - 1 : -1;
+    if (here.dataset >= 0)
+        take_number(name);
+    pthread_mutex_unlock(&lock);
 }
 
 void begin_dataset(const char *name)
 {
-    if (depth++ > 0)
+    if (here.depth++ > 0)
         return;
-    if (file == NULL && !broken)
-        begin_file();
-    writing = !broken;
-    if (!writing)
+    pthread_mutex_lock(&lock);
+    if (trace_unbegun() && begin_trace())
+        write_head();
+    here.dataset = datasets++;
+    take_number(name);
+    pthread_mutex_unlock(&lock);
+}
+
+void begin_barrier(void)
+{
+    if (here.depth++ > 0)
         return;
-    dataset = datasets++;
-    begin_line(name);
+    pthread_mutex_lock(&lock);
+    here.writing = false;
+    here.dataset = -1;
+    if (open_datasets > 0)
+        take_number("barrier");
+    pthread_mutex_unlock(&lock);
+}
+
+void begin_delete(void)
+{
+    if (here.depth++ > 0)
+        return;
+    pthread_mutex_lock(&lock);
+    here.writing = false;
+    here.dataset = -1;
+    if (tracing())
+        take_number("delete");
+    pthread_mutex_unlock(&lock);
 }
 
 void call_made(void)
 {
-    if (depth != 1 || !writing)
+    if (here.depth != 1)
         return;
-    end_line();
-    begin_line(NULL);
+    if (here.writing) {
+        write_line();
+        say("{\"n\":%ld", here.number);
+    }
+    here.took = -1;
+    here.made = trace_time();
+}
+
+void call_answered(void)
+{
+    if (here.depth == 1 && here.took < 0)
+        here.took = trace_time() - here.made;
 }
 
 int end_call(int code)
 {
-    if (depth == 1 && writing) {
+    call_answered();
+    if (here.depth == 1 && here.writing) {
         number_field("code", code);
         if (code != NC_NOERR)
             text_field("name", ncmpi_strerrno(code));
-        end_line();
-        writing = false;
+        say(",\"took\":%.6f", here.took);
+        write_line();
+        here.writing = false;
+        free(here.text);
+        here.text = NULL;
+        here.room = 0;
     }
-    depth--;
+    here.depth--;
     return code;
 }
 
 void dataset_opened(int ncid)
 {
-    if (depth == 1 && writing && ncid >= 0 && ncid < DATASETS)
-        numbers[ncid] = dataset + 1;
+    if (here.depth != 1 || !here.writing || ncid < 0 || ncid >= DATASETS)
+        return;
+    pthread_mutex_lock(&lock);
+    open_datasets += numbers[ncid] == 0;
+    numbers[ncid] = here.dataset + 1;
+    pthread_mutex_unlock(&lock);
 }
 
 void dataset_closed(int ncid)
 {
-    if (depth == 1 && ncid >= 0 && ncid < DATASETS)
-        numbers[ncid] = 0;
+    if (here.depth != 1 || ncid < 0 || ncid >= DATASETS)
+        return;
+    pthread_mutex_lock(&lock);
+    open_datasets -= numbers[ncid] > 0;
+    numbers[ncid] = 0;
+    pthread_mutex_unlock(&lock);
 }
 
-/* The file, where a field of the call under way is to be written. */
-static FILE *open_line(void)
+/* ---- fields */
+
+bool line_open(void)
 {
-    return depth == 1 && writing && !broken ? file : NULL;
+    return here.depth == 1 && here.writing;
 }
 
-static void name_of_field(FILE *out, const char *name)
+static bool begin_field(const char *name)
 {
-    fprintf(out, ",\"%s\":", name);
+    if (line_open())
+        say(",\"%s\":", name);
+    return line_open();
 }
 
 void number_field(const char *name, long long number)
 {
-    FILE *out = open_line();
-    if (out == NULL)
-        return;
-    name_of_field(out, name);
-    fprintf(out, "%lld", number);
+    if (begin_field(name))
+        say("%lld", number);
 }
 
 /* Each byte stands for itself, those past ASCII as the characters of the same numbers. */
-void text_field(const char *name, const char *text)
+void say_text(const char *text)
 {
-    FILE *out = open_line();
-    if (out == NULL)
-        return;
-    name_of_field(out, name);
-    if (text == NULL) {
-        fputs("null", out);
-        return;
-    }
-    fputc('"', out);
+    say_byte('"');
     for (const unsigned char *c = (const unsigned char *)text; *c; c++) {
         if (*c < 0x20 || *c == '"' || *c == '\\' || *c > 0x7e)
-            fprintf(out, "\\u%04x", *c);
+            say("\\u%04x", *c);
         else
-            fputc(*c, out);
+            say_byte((char)*c);
     }
-    fputc('"', out);
+    say_byte('"');
+}
+
+void text_field(const char *name, const char *text)
+{
+    if (!begin_field(name))
+        return;
+    if (text == NULL)
+        say("null");
+    else
+        say_text(text);
+}
+
+void say_list(int count, const MPI_Offset *list)
+{
+    say("[");
+    for (int i = 0; i < count; i++)
+        say("%s%lld", i == 0 ? "" : ",", (long long)list[i]);
+    say("]");
 }
 
 void list_field(const char *name, int count, const MPI_Offset *list)
 {
-    FILE *out = open_line();
-    if (out == NULL || list == NULL)
-        return;
-    name_of_field(out, name);
-    for (int i = 0; i < count; i++)
-        fprintf(out, "%s%lld", i == 0 ? "[" : ",", (long long)list[i]);
-    fputs(count > 0 ? "]" : "[]", out);
+    if (list != NULL && begin_field(name))
+        say_list(count, list);
 }
 
 void ids_field(const char *name, int count, const int *list)
 {
-    FILE *out = open_line();
-    if (out == NULL || list == NULL)
+    if (list == NULL || !begin_field(name))
         return;
-    name_of_field(out, name);
+    say("[");
     for (int i = 0; i < count; i++)
-        fprintf(out, "%s%d", i == 0 ? "[" : ",", list[i]);
-    fputs(count > 0 ? "]" : "[]", out);
-}
-
-/* One value as a whole number; of a float its pattern. */
-static void print_value(FILE *out, Basic basic, const void *at)
-{
-    switch (basic) {
-    case SCHAR: fprintf(out, "%d", *(const signed char *)at); break;
-    case SHORT: fprintf(out, "%d", *(const short *)at); break;
-    case USHORT: fprintf(out, "%u", *(const unsigned short *)at); break;
-    case INT: fprintf(out, "%d", *(const int *)at); break;
-    case UINT: case FLOAT: fprintf(out, "%u", *(const unsigned *)at); break;
-    case LONG: fprintf(out, "%ld", *(const long *)at); break;
-    case LONGLONG: fprintf(out, "%lld", *(const long long *)at); break;
-    case DOUBLE: case ULONGLONG: fprintf(out, "%llu", *(const unsigned long long *)at); break;
-    default: fprintf(out, "%u", *(const unsigned char *)at); break;
-    }
-}
-
-static const struct { const char *name; size_t size; } basics[] = {
-    [TEXT] = {"text", 1}, [SCHAR] = {"schar", 1}, [UCHAR] = {"uchar", 1}, [SHORT] = {"short", sizeof(short)},
-    [USHORT] = {"ushort", sizeof(short)}, [INT] = {"int", sizeof(int)}, [UINT] = {"uint", sizeof(int)},
-    [LONG] = {"long", sizeof(long)}, [FLOAT] = {"float", sizeof(float)}, [DOUBLE] = {"double", sizeof(double)},
-    [LONGLONG] = {"longlong", sizeof(long long)}, [ULONGLONG] = {"ulonglong", sizeof(long long)}, [OTHER] = {"other", 0},
-};
-
-const char *basic_name(Basic basic)
-{
-    return basics[basic].name;
-}
-
-/* Marks the places of memory that the index map reaches. */
-static void mark_reached(const Memory *memory, int dim, MPI_Offset at, char *reached)
-{
-    if (dim == memory->dims) {
-        reached[at] = 1;
-        return;
-    }
-    for (MPI_Offset i = 0; i < memory->count[dim]; i++)
-        mark_reached(memory, dim + 1, at + i * memory->imap[dim], reached);
-}
-
-static void print_values(FILE *out, const Memory *memory)
-{
-    char *reached = NULL;
-    size_t size = basics[memory->basic].size;
-    if (memory->imap != NULL && memory->length > 0) {
-        reached = calloc((size_t)memory->length, 1);
-        if (reached == NULL) {
-            fputs("null", out);
-            return;
-        }
-        mark_reached(memory, 0, 0, reached);
-    }
-    fputc('[', out);
-    for (MPI_Offset i = 0; i < memory->length; i++) {
-        if (i > 0)
-            fputc(',', out);
-        if (reached != NULL && !reached[i])
-            fputc('0', out);
-        else
-            print_value(out, memory->basic, (const char *)memory->buffer + (size_t)i * size);
-    }
-    fputc(']', out);
-    free(reached);
-}
-
-void values_field(const Memory *memory)
-{
-    FILE *out = open_line();
-    if (out == NULL || memory->buffer == NULL)
-        return;
-    name_of_field(out, "values");
-    print_values(out, memory);
-}
-
-void request_values(bool first, int request, const Memory *memory)
-{
-    FILE *out = open_line();
-    if (out == NULL || memory->buffer == NULL)
-        return;
-    if (first)
-        name_of_field(out, "gets");
-    fprintf(out, "%s[%d,", first ? "[" : ",", request);
-    print_values(out, memory);
-    fputc(']', out);
-}
-
-void end_request_values(void)
-{
-    FILE *out = open_line();
-    if (out != NULL)
-        fputc(']', out);
+        say("%s%d", i == 0 ? "" : ",", list[i]);
+    say("]");
 }

@@ -3,8 +3,8 @@
 
 usage: wrappers.py PNETCDF_H > wrappers.c
 
-Three families are wrapped: puts and gets of a region, attributes, and calls that a script has no word for. Those that stand in
-trace_calls.c by hand are in none of them. Plain calls of one dataset without more to tell are a fourth.
+Five families are wrapped: puts and gets of a region, those of several variables, those by an MPI type in the file, attributes, and plain
+calls of one dataset without more to tell. The others stand in trace_calls.c and trace_datasets.c by hand.
 """
 import re
 import sys
@@ -18,9 +18,10 @@ TYPES = {
 TYPE = "(?:_(?P<type>%s))?" % "|".join(TYPES)
 ACCESS = re.compile(r"(?P<kind>put|get|iput|iget|bput)_(?P<form>var1|vara|vars|varm|varn|var)" + TYPE + r"(_all)?")
 ATTRIBUTE = re.compile("put_att" + TYPE)
-PLAIN = re.compile("begin_indep_data|end_indep_data|sync_numrecs|sync|buffer_detach")
-NO_WORD = re.compile(r"(?:mput|mget)_\w+|(?:put|get)_vard(?:_all)?|rename_\w+|del_att|redef")
-DIRECTIONS = {"put": "PUT", "get": "GET", "iput": "POSTED_PUT", "bput": "POSTED_PUT", "iget": "POSTED_GET"}
+PLAIN = re.compile("begin_indep_data|end_indep_data|sync_numrecs|sync|flush|buffer_detach|redef")
+MANY = re.compile(r"m(?P<kind>put|get)_(?P<form>var1|vara|vars|varm|var)" + TYPE + r"(_all)?")
+TYPED = re.compile(r"(?P<kind>put|get)_vard(_all)?")
+DIRECTIONS = {"put": "PUT", "get": "GET", "iput": "POSTED_PUT", "bput": "BUFFERED_PUT", "iget": "POSTED_GET"}
 PROTOTYPE = re.compile(r"\bint\s+ncmpi_(\w+)\s*\(([^;{}]*?)\)\s*;")
 # Parameters of a region that are handed on under their own names.
 REGION = ("start", "count", "stride", "imap", "starts", "counts")
@@ -64,15 +65,41 @@ def access(name, parameters, match):
 """ % (", ".join(fields), own, "request" if post else "NULL"), {"req": "request"})
 
 
+def many(name, parameters, match):
+    names = list(map(name_of, parameters))
+    type_word = match.group("type")
+    fields = [".name = \"%s\"" % name, ".direction = " + DIRECTIONS[match.group("kind")], ".form = " + match.group("form").upper(),
+              ".ncid = ncid", ".count = num", ".varids = varids",
+              ".buffers = (void *const *)" + next(n for n in ("bufs", "buf") if n in names)]
+    fields += [".%s = %s" % (n, n) for n in ("starts", "counts", "strides", "imaps") if n in names]
+    fields.append(".type = " + TYPES[type_word] if type_word else ".bufcounts = bufcounts, .types = datatypes")
+    return wrapper(name, parameters, """    Many many = {%s};
+    Memory *memories = begin_many(&many);
+    return end_many(&many, memories, CALL);
+""" % ", ".join(fields))
+
+
+def typed(name, parameters, match):
+    buffer = next(n for n in map(name_of, parameters) if n in ("op", "ip", "buf"))
+    return wrapper(name, parameters, """    Typed typed = {.name = "%s", .direction = %s, .ncid = ncid, .varid = varid, .file_type = filetype, .type = buftype,
+                   .buffer = %s, .bufcount = bufcount};
+    Memory memory;
+    begin_typed(&typed, &memory);
+    return end_typed(&typed, &memory, CALL);
+""" % (name, DIRECTIONS[match.group("kind")], buffer))
+
+
 def attribute(name, parameters, match):
     names = list(map(name_of, parameters))
     type_word = match.group("type")
-    mpi = TYPES[type_word] if type_word else "MPI_DATATYPE_NULL"
+    basic = "basic_of(%s)" % TYPES[type_word] if type_word else "basic_of_variable(xtype)"
     xtype = "xtype" if "xtype" in names else "NC_CHAR"
     length, values = names[-2], names[-1]
-    return wrapper(name, parameters, """    begin_attribute("put_att", ncid, varid, name, %s, %s, %s, %s);
+    return wrapper(name, parameters, """    begin_call(ncid, "put_att");
+    attribute_fields(varid, name, %s, %s, %s, %s);
+    call_made();
     return end_call(CALL);
-""" % (xtype, length, mpi, values))
+""" % (xtype, basic, length, values))
 
 
 def plain(name, parameters, match):
@@ -82,7 +109,7 @@ def plain(name, parameters, match):
 """ % name)
 
 
-FAMILIES = ((ACCESS, access), (ATTRIBUTE, attribute), (PLAIN, plain), (NO_WORD, plain))
+FAMILIES = ((ACCESS, access), (MANY, many), (TYPED, typed), (ATTRIBUTE, attribute), (PLAIN, plain))
 
 
 def main():

@@ -1,1 +1,3 @@
-"""What ncmerge and ncdiagnose share: traces of ranks, scripts, and datasets of the classic format."""
+"""What the tools of the bridge share: traces, scripts, runs, datasets and findings."""
+
+VERSION = "1.0"

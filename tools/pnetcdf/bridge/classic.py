@@ -1,6 +1,6 @@
-"""Datasets of the netCDF classic format: headers, layouts, and where two datasets differ."""
-import itertools
+"""Headers and layouts of datasets of the netCDF classic format."""
 from dataclasses import dataclass, field
+from math import prod
 
 from . import words
 
@@ -15,7 +15,7 @@ class Variable:
     dims: list
     kind: int
     begin: int = 0
-    attributes: int = 0     # the length of its attributes in a header
+    attributes: dict = field(default_factory=dict)      # by name: the type, and the bytes of the values
 
 
 @dataclass
@@ -24,6 +24,7 @@ class Header:
     records: int = 0
     dims: list = field(default_factory=list)    # pairs of name and length, 0 for the record dimension
     vars: list = field(default_factory=list)
+    attributes: dict = field(default_factory=dict)
 
     def is_record(self, var):
         return bool(var.dims) and self.dims[var.dims[0]][1] == 0
@@ -34,10 +35,7 @@ class Header:
 
     def slab(self, var):
         """The bytes of a fixed variable, or of a record of one."""
-        size = words.SIZES[var.kind]
-        for length in self.shape(var):
-            size *= length
-        return size
+        return words.SIZES[var.kind] * prod(self.shape(var))
 
     def record_size(self):
         """The bytes of a record; a variable that is alone in it is not padded."""
@@ -70,20 +68,20 @@ def unravel(place, shape):
 
 
 class Reader:
-    """The fields of a header one after another."""
+    """The fields of a header one after another, from an open file."""
 
-    def __init__(self, data):
-        self.data, self.at = data, 0
-        if data[:3] != b"CDF" or data[3:4] not in (b"\1", b"\2", b"\5"):
+    def __init__(self, file):
+        self.file = file
+        magic = file.read(4)
+        if magic[:3] != b"CDF" or magic[3:4] not in (b"\1", b"\2", b"\5"):
             raise HeaderFault("is no netCDF file of the classic format")
-        self.version, self.at = data[3], 4
+        self.version = magic[3]
         self.wide = 8 if self.version == 5 else 4
 
     def bytes(self, count):
-        taken = self.data[self.at:self.at + count]
+        taken = self.file.read(count)
         if len(taken) < count:
             raise HeaderFault("ends in its header")
-        self.at += count
         return taken
 
     def number(self, size):
@@ -91,6 +89,12 @@ class Reader:
 
     def size(self):
         return self.number(self.wide)
+
+    def kind(self):
+        kind = self.number(4)
+        if kind not in words.SIZES:
+            raise HeaderFault("has a type in its header that there isn't")
+        return kind
 
     def name(self):
         length = self.size()
@@ -104,39 +108,48 @@ class Reader:
         return self.name(), self.size()
 
     def attribute(self):
-        self.name()
-        kind = self.number(4)
-        self.bytes(padded(self.size() * words.SIZES[kind]))
+        name, kind = self.name(), self.kind()
+        length = self.size() * words.SIZES[kind]
+        return name, (kind, self.bytes(padded(length))[:length])
 
     def variable(self):
         name, dims = self.name(), [self.size() for _ in range(self.size())]
-        self.entries(self.attribute)
-        kind = self.number(4)
+        attributes, kind = dict(self.entries(self.attribute)), self.kind()
         self.size()
-        return Variable(name, dims, kind, self.number(4 if self.version == 1 else 8))
+        return Variable(name, dims, kind, self.number(4 if self.version == 1 else 8), attributes)
 
 
-def read_header(data):
-    reader = Reader(data)
+def read_header(file):
+    reader = Reader(file)
     header = Header(reader.version, reader.size())
     header.dims = reader.entries(reader.dimension)
-    reader.entries(reader.attribute)
+    header.attributes = dict(reader.entries(reader.attribute))
     header.vars = reader.entries(reader.variable)
+    if any(d >= len(header.dims) for var in header.vars for d in var.dims):
+        raise HeaderFault("has a variable over a dimension that there isn't")
     return header
 
 
-def attribute_length(version, name, kind, count):
-    """What an attribute takes in a header."""
-    return 2 * (8 if version == 5 else 4) + padded(len(name)) + 4 + padded(count * words.SIZES[kind])
+def attribute_bytes(kind, values):
+    """The values of an attribute as a file has them; of floats and doubles their patterns."""
+    if kind == words.CHAR:
+        return bytes(values)
+    signed = kind in words.FORMATS and words.FORMATS[kind].islower()
+    return b"".join(v.to_bytes(words.SIZES[kind], "big", signed=signed) for v in values)
 
 
-def header_length(header, attributes):
-    """The length of a header whose attributes of the dataset take that much, without their list's tag and count."""
+def list_length(version, attributes):
+    """What the attributes of one owner take in a header, without their list's tag and count."""
+    wide = 8 if version == 5 else 4
+    return sum(2 * wide + padded(len(name)) + 4 + padded(len(values)) for name, (_, values) in attributes.items())
+
+
+def header_length(header):
     wide = 8 if header.version == 5 else 4
-    length = 4 + wide + 3 * (4 + wide) + attributes
+    length = 4 + wide + 3 * (4 + wide) + list_length(header.version, header.attributes)
     length += sum(2 * wide + padded(len(name)) for name, _ in header.dims)
     for var in header.vars:
-        length += 4 * wide + wide * len(var.dims) + padded(len(var.name)) + var.attributes
+        length += 4 * wide + wide * len(var.dims) + padded(len(var.name)) + list_length(header.version, var.attributes)
         length += 12 if header.version == 1 else 16
     return length
 
@@ -144,69 +157,11 @@ def header_length(header, attributes):
 def begins(header, length, header_align, var_align):
     """Where the variables of a new dataset lie, in order of definition."""
     at, first_record, placed = padded(padded(length, header_align), var_align), True, {}
-    fixed = [v for v in header.vars if not header.is_record(v)]
-    for var in fixed:
-        at = padded(at, var_align)
+    ordered = sorted(header.vars, key=header.is_record)
+    for var in ordered:
+        if not header.is_record(var) or first_record:
+            at = padded(at, var_align)
+        first_record = first_record and not header.is_record(var)
         placed[var.name] = at
         at += padded(header.slab(var))
-    for var in header.vars:
-        if header.is_record(var):
-            at = padded(at, var_align) if first_record else at
-            first_record = False
-            placed[var.name] = at
-            at += padded(header.slab(var))
     return [placed[v.name] for v in header.vars]
-
-
-# ---- where two datasets differ
-
-@dataclass
-class Difference:
-    name: str
-    index: tuple
-    first: str
-    second: str
-
-
-def value_at(data, at, kind):
-    """An element's value in words; a byte past the file's end is zero."""
-    size = words.SIZES[kind]
-    raw = data[at:at + size].ljust(size, b"\0")
-    if kind in (words.FLOAT, words.DOUBLE):
-        bits = int.from_bytes(raw, "big")
-        return "%.9g" % words.number_of(kind, bits)
-    if kind == words.CHAR:
-        return words.quoted(raw)
-    return str(int.from_bytes(raw, "big", signed=words.FORMATS[kind].islower()))
-
-
-def blocks(header, var, records):
-    """The runs of bytes of a variable, each with the index that its elements share."""
-    if not header.is_record(var):
-        return [((), var.begin)]
-    size = header.record_size()
-    return [((r,), var.begin + r * size) for r in range(records)]
-
-
-def differences_of(first, first_header, second, second_header, var, other, records):
-    """Each element of a variable that the two datasets give different values."""
-    size, slab, shape = words.SIZES[var.kind], first_header.slab(var), first_header.shape(var)
-    pairs = zip(blocks(first_header, var, records), blocks(second_header, other, records))
-    for (record, at), (_, to) in pairs:
-        a, b = first[at:at + slab].ljust(slab, b"\0"), second[to:to + slab].ljust(slab, b"\0")
-        if a == b:
-            continue
-        for k in range(0, slab, size):
-            if a[k:k + size] != b[k:k + size]:
-                index = record + unravel(k // size, shape)
-                yield Difference(var.name.decode(), index, value_at(a, k, var.kind), value_at(b, k, var.kind))
-
-
-def differences(first, second):
-    """Pairs of headers and the elements that differ, variable by variable; variables that only one has are left out."""
-    a, b = read_header(first), read_header(second)
-    others = {v.name: v for v in b.vars}
-    records = min(a.records, b.records)
-    found = [differences_of(first, a, second, b, v, others[v.name], records) for v in a.vars
-             if v.name in others and a.shape(v) == b.shape(others[v.name]) and v.kind == others[v.name].kind]
-    return a, b, list(itertools.chain.from_iterable(found))

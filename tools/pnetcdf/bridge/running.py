@@ -1,10 +1,11 @@
-"""Runs of ncrun on a script, and their text."""
+"""Runs of ncrun on the scripts of a dataset, and the answers in their text."""
 import os
 import shutil
 import subprocess
 from dataclasses import dataclass, field
 
 SECONDS = 120
+BLOCK = 1 << 20
 REPOSITORY = os.path.join(os.path.dirname(__file__), "..", "..", "..")
 
 
@@ -12,65 +13,109 @@ class RunFault(Exception):
     """A run that can't be made."""
 
 
-def find_program():
-    """The proved program: what NCRUN names, else the one that stands in this repository."""
-    program = os.environ.get("NCRUN") or os.path.join(REPOSITORY, "crates", "ncrun", "out", "ncrun")
+def find_program(name="ncrun", variable="NCRUN"):
+    """The program of that name: what the variable names, else the one of this repository, else one beside these tools or on the path."""
+    named = os.environ.get(variable)
+    own = os.path.join(REPOSITORY, "crates", name, "out", name)
+    program = named or (own if os.access(own, os.X_OK) else shutil.which(name)) or own
     if not os.access(program, os.X_OK):
-        raise RunFault("there is no program %s: build it as README.md says, or name it in NCRUN" % os.path.normpath(program))
+        raise RunFault("there is no program %s: build it as README.md says, or name it in %s" % (os.path.normpath(program), variable))
     return program
 
 
-@dataclass
+def copy(source, target):
+    """Copies a file; blocks of zeros are left as holes."""
+    with open(source, "rb") as own, open(target, "wb") as out:
+        for block in iter(lambda: own.read(BLOCK), b""):
+            if block.count(0) == len(block):
+                out.seek(len(block), os.SEEK_CUR)
+            else:
+                out.write(block)
+        out.truncate(own.tell())
+
+
+@dataclass(slots=True)
 class Answer:
-    """What a call answered: its code, what stands behind that, and the lines of a wait's items."""
-    word: str
+    """What a line of a script answered: its code, what stands behind that, and the lines of a wait's items."""
     code: str
     rest: str
     items: list = field(default_factory=list)
 
 
-@dataclass
 class Text:
-    """The answers of a run by rank."""
-    ranks: list = field(default_factory=list)
+    """The text of a run in a file: the answers of its ranks, one after another."""
+
+    def __init__(self, path):
+        self.path = path
+
+    def answers(self):
+        """For each rank its answers in order. A rank's answers are read when they are asked for, and the ranks in order."""
+        with open(self.path, encoding="utf-8", errors="replace") as lines:
+            own = None
+            for line in lines:
+                word = line.split(" ", 1)[0]
+                if word == "rank":
+                    own = []
+                elif word.startswith(("pending", "//")):
+                    if own is not None:
+                        yield own
+                    own = None
+                    if word == "//":
+                        return
+                elif own is not None:
+                    take_line(own, line.rstrip("\n"))
+
+    def first_line(self):
+        with open(self.path, encoding="utf-8", errors="replace") as lines:
+            return lines.readline().strip()
 
 
-def read_text(text):
-    found = Text()
-    for line in text.split("\n"):
-        word = line.split(" ", 1)[0]
-        if line.startswith("// file format"):
-            break
-        if line.startswith("  "):
-            found.ranks[-1][-1].items.append(line.strip())
-        elif word == "rank":
-            found.ranks.append([])
-        elif word.isdigit():
-            parts = line.split(" ", 3) + [""]
-            found.ranks[-1].append(Answer(parts[1], parts[2], parts[3]))
-    return found
+def take_line(own, line):
+    if line.startswith("  "):
+        own[-1].items.append(line[2:])
+    else:
+        parts = line.split(" ", 3) + [""]
+        own.append(Answer(parts[2], parts[3]))
 
 
 @dataclass
 class Run:
+    """A run of one script: its status, its text, and the dataset that it left."""
     status: int
-    text: str
-    file: bytes
+    text: Text
+    dataset: str
 
 
-def run(program, script, before, folder):
-    """Runs the script on a new dataset, or on a copy of the one that it opens."""
-    dataset = os.path.join(folder, "proved.nc")
-    if os.path.exists(dataset):
-        os.remove(dataset)
-    if before is not None:
-        shutil.copy(before, dataset)
-    try:
-        done = subprocess.run([program, dataset], input=script.encode(), stdout=subprocess.PIPE, timeout=SECONDS, check=False)
-    except subprocess.TimeoutExpired:
-        raise RunFault("%s didn't end in %d seconds" % (program, SECONDS))
-    file = b""
-    if os.path.exists(dataset):
-        with open(dataset, "rb") as made:
-            file = made.read()
-    return Run(done.returncode, done.stdout.decode("utf-8", "replace"), file)
+class Runs:
+    """Runs of the parts of one dataset, one after another on one file in a folder."""
+
+    def __init__(self, program, folder, seconds):
+        self.program, self.folder, self.seconds = program, folder, seconds
+        self.dataset, self.begun = os.path.join(folder, "proved.nc"), None
+
+    def begin(self, before):
+        """The dataset as it was before a part: none, or a copy of one."""
+        self.begun = before
+        if os.path.exists(self.dataset):
+            os.remove(self.dataset)
+        if before is not None:
+            copy(before, self.dataset)
+
+    def keep(self):
+        """A copy of the dataset as it is now, or None where there is none."""
+        kept = os.path.join(self.folder, "kept.nc")
+        if not os.path.exists(self.dataset):
+            return None
+        copy(self.dataset, kept)
+        return kept
+
+    def run(self, part, extra=()):
+        script, text = os.path.join(self.folder, "script"), os.path.join(self.folder, "text")
+        with open(script, "w") as out:
+            part.write_script(out, ["hint threads off", *extra])
+        try:
+            with open(script, "rb") as source, open(text, "wb") as out:
+                done = subprocess.run([self.program, self.dataset], stdin=source, stdout=out, timeout=self.seconds, check=False)
+        except subprocess.TimeoutExpired:
+            raise RunFault("%s didn't end in %d seconds; --seconds gives it more" % (self.program, self.seconds)) from None
+        return Run(done.returncode, Text(text), self.dataset)

@@ -1,14 +1,22 @@
-"""Trace files of ranks, as the calls of each rank on each opening of a dataset."""
+"""Trace files of ranks: the head, the calls one after another, and the values beside them."""
 import json
 import os
-from dataclasses import dataclass, field
+import sys
+from array import array
+from dataclasses import dataclass
+
+FORM = 2
+DECODE = json.JSONDecoder().decode
+# A type of memory, and how an array holds it; floats and doubles are their patterns.
+CODES = {"text": "B", "schar": "b", "uchar": "B", "short": "h", "ushort": "H", "int": "i", "uint": "I", "float": "I",
+         "longlong": "q", "ulonglong": "Q", "double": "Q"}
 
 
 class TraceFault(Exception):
     """A trace that can't be read."""
 
 
-@dataclass
+@dataclass(slots=True)
 class Event:
     """A call: what was given, and what came back (None where it never did)."""
     call: str
@@ -20,71 +28,110 @@ class Event:
         return self.answer is not None and self.answer.get("code") == 0
 
     @property
+    def refused(self):
+        return self.answer is not None and self.answer.get("code", 0) != 0
+
+    @property
     def code(self):
         """PnetCDF's name of the answer; - where none came."""
         if self.answer is None or "code" not in self.answer:
             return "-"
-        return "ok" if self.answer["code"] == 0 else self.answer["name"]
+        return "ok" if self.answer["code"] == 0 else self.answer.get("name", str(self.answer["code"]))
 
 
-@dataclass
-class Opening:
-    """One create or open of a dataset with the calls of its ranks, by their numbers in its communicator."""
-    path: str
-    world: tuple
-    events: list = field(default_factory=list)
-    after: "Opening" = None     # the next opening of the same path
+class Stored:
+    """Values of one type that stand one after another in a rank's file of values."""
+    __slots__ = ("trace", "at", "count", "memory")
+
+    def __init__(self, trace, at, count, memory):
+        self.trace, self.at, self.count, self.memory = trace, at, count, memory
+
+    def load(self):
+        return self.trace.values(self.at, self.count, CODES[self.memory])
+
+    def part(self, first, count):
+        """The values from place `first` on, as many as there are up to `count`."""
+        count = max(0, min(count, self.count - first))
+        return Stored(self.trace, self.at + first * array(CODES[self.memory]).itemsize, count, self.memory)
+
+
+class Trace:
+    """The trace of one rank. Whether it ends as a trace ends is known after its events were read."""
+
+    def __init__(self, path):
+        self.path, self.cut, self.ended, self.store = path, False, False, None
+        lines = self.lines()
+        self.head = next(lines, None)
+        lines.close()
+        if not isinstance(self.head, dict) or "nctrace" not in self.head:
+            raise TraceFault("%s is no trace" % path)
+        if self.head["nctrace"] != FORM:
+            raise TraceFault("%s was made by another version of the tracer" % path)
 
     @property
-    def how(self):
-        return self.first().call
+    def rank(self):
+        return self.head["rank"]
 
     @property
-    def shown(self):
-        """The path, from the folder of the user where it lies below it, whether it was created or opened, and by how many ranks."""
-        path, count = os.path.relpath(self.path), len(self.world)
-        how = "created" if self.how == "create" else "opened"
-        return "%s, %s by %d rank%s" % (self.path if path.startswith("..") else path, how, count, "" if count == 1 else "s")
+    def has_values(self):
+        return self.head.get("values", True)
 
-    def first(self):
-        return next(events[0] for events in self.events if events)
-
-    def before(self):
-        """The copy of the dataset that was made before it was opened."""
-        return self.events[0][0].given.get("before") if self.events[0] else None
-
-
-def read_lines(path):
-    """The objects of a trace file; a last line that was cut off is left out."""
-    try:
-        with open(path, "rb") as trace:
-            lines = trace.read().split(b"\n")
-    except OSError as fault:
-        raise TraceFault("%s: %s" % (path, fault.strerror))
-    for number, line in enumerate(lines, 1):
-        if not line:
-            continue
+    def lines(self):
+        """The objects of the file; a last line without its end is left out, and the trace counts as cut."""
         try:
-            yield json.loads(line)
-        except ValueError:
-            if number < len(lines):
-                raise TraceFault("%s: line %d is none of a trace" % (path, number))
+            trace = open(self.path, encoding="ascii", errors="replace")
+        except OSError as fault:
+            raise TraceFault("%s: %s" % (self.path, fault.strerror)) from None
+        with trace:
+            for number, line in enumerate(trace, 1):
+                if not line.endswith("\n"):
+                    self.cut = True
+                    return
+                try:
+                    yield DECODE(line)
+                except ValueError:
+                    raise TraceFault("%s: line %d is none of a trace" % (self.path, number)) from None
 
+    def events(self):
+        """Each call when it was answered, and at the end those that never were."""
+        open_calls, lines = {}, self.lines()
+        next(lines)
+        for line in lines:
+            number = line.get("n")
+            if "call" in line:
+                open_calls[number] = Event(line["call"], line)
+            elif "code" in line:
+                event = open_calls.pop(number)
+                event.answer = line
+                yield event
+            elif "end" in line:
+                self.ended = True
+            elif number in open_calls:
+                open_calls[number].given.update(line)
+        yield from open_calls.values()
 
-def read_trace(path):
-    """The head of a trace file, and the calls on each of its datasets in order."""
-    lines = read_lines(path)
-    head = next(lines, None)
-    if not isinstance(head, dict) or head.get("nctrace") != 1:
-        raise TraceFault("%s is no trace" % path)
-    datasets = {}
-    for line in lines:
-        events = datasets.setdefault(line["dataset"], [])
-        if "call" in line:
-            events.append(Event(line["call"], line))
-        elif events:
-            events[-1].answer = line
-    return head, list(datasets.values())
+    def stored(self, pair, memory):
+        """The values at a place of the file beside the trace; None where none were kept."""
+        return Stored(self, pair[0], pair[1], memory) if pair and memory in CODES else None
+
+    def values(self, at, count, code):
+        if self.store is None:
+            try:
+                self.store = open(self.path + ".values", "rb")
+            except OSError as fault:
+                raise TraceFault("%s.values: %s" % (self.path, fault.strerror)) from None
+        found = array(code)
+        self.store.seek(at)
+        found.frombytes(self.store.read(count * found.itemsize))
+        if len(found) < count:
+            raise TraceFault("%s.values ends before its values do" % self.path)
+        if self.head.get("order", sys.byteorder) != sys.byteorder:
+            found.byteswap()
+        return found
+
+    def copy(self, name):
+        """The path of a copy of a dataset that the tracer made beside this trace."""
+        return os.path.join(os.path.dirname(self.path), os.path.basename(name)) if name else None
 
 
 def text_of(name):
@@ -92,26 +139,17 @@ def text_of(name):
     return name.encode("latin-1")
 
 
-def read_openings(paths):
-    """All openings of datasets in the traces of the ranks of one program, in the order of the first rank that took part."""
-    openings, found = {}, []
-    for path in paths:
-        head, datasets = read_trace(path)
-        seen = {}
-        for events in datasets:
-            given = events[0].given
-            if given.get("before"):
-                given["before"] = os.path.join(os.path.dirname(path), os.path.basename(given["before"]))
-            name = (given["path"], tuple(given["world"]))
-            seen[name] = seen.get(name, 0) + 1
-            opening = openings.get(name + (seen[name],))
-            if opening is None:
-                opening = openings[name + (seen[name],)] = Opening(given["path"], name[1], [[] for _ in name[1]])
-                found.append(opening)
-            opening.events[given["rank"]] = events
-    last = {}
-    for opening in found:
-        if opening.path in last:
-            last[opening.path].after = opening
-        last[opening.path] = opening
-    return found
+def read_heads(paths):
+    """The traces of the latest run, by rank, and a remark for each that is of an earlier one."""
+    traces = [Trace(path) for path in paths]
+    latest = max(traces, key=lambda t: t.head.get("started", 0))
+    own = [t for t in traces if t.head.get("run") == latest.head.get("run")]
+    remarks = ["%s is of an earlier run, and left out" % t.path for t in traces if t not in own]
+    ranks = {t.head["ranks"] for t in own}
+    if len(ranks) > 1:
+        raise TraceFault("traces of one run have different numbers of ranks")
+    by_rank = {}
+    for trace in own:
+        if by_rank.setdefault(trace.rank, trace) is not trace:
+            raise TraceFault("%s and %s are both of rank %d" % (by_rank[trace.rank].path, trace.path, trace.rank))
+    return [by_rank[r] for r in sorted(by_rank)], remarks
