@@ -1,0 +1,134 @@
+-- One domain more is planned, and the windows of all are those of the model.
+use Rattle.std.proofs.Common.{◌≡◌, ℕ, suc, ◌+◌, ◌<◌, ◌≤◌, inl, inr, refl, sym, ◌∙◌, ap, subst, List, [], ◌∷◌, ◌++◌, length, map, take, Option, Some, get_or, append_assoc, arith}
+use Rattle.std.proofs.lemmas.Grind.{flat_map-append}
+use Rattle.std.proofs.lemmas.List.{append-nil, map-append, take_more, take_all, length_push}
+use Rattle.std.proofs.lemmas.List.Folds.{flat_map-map}
+use Rattle.std.specs.Prelude.{flat_map, IfOk, Result, Ok, Err}
+use Rattle.std.specs.List.{range_with_len}
+use Rattle.list_laws.proofs.Ranges.{range_push}
+use Rattle.nc_base.specs.declared.plan.Extent.{Extent}
+use Rattle.nc_base.specs.declared.plan.Owned.{Owned}
+use Rattle.nc_base.specs.declared.script.Hints.{Hints}
+use Rattle.nc_base.specs.declared.step.DiskCall.{DiskCall}
+use Rattle.serial_spec.specs.DeviceCalls.{collective_windows, in_order, loads, overlays, sieving_windows}
+use Rattle.serial_spec.specs.Extents.{spans}
+use Rattle.overlay_laws.specs.Changes.{load_calls, store_calls}
+use Rattle.overlay_laws.specs.Entries.{ranges, HaveSame}
+use Rattle.overlay_laws.specs.Walks.{told_of, IsCover}
+use Rattle.overlay_laws.proofs.CoverLaws.{cover_in_order}
+use Rattle.overlay_laws.proofs.HullLaws.{in_either}
+use Rattle.exchange_crew.specs.Turns.{turns_of, Told}
+use Rattle.collective_round.specs.Parts.{AreDomains}
+use Rattle.collective_round.proofs.ResultSteps.{loads_are, stores_are}
+use Rattle.window_plan.specs.Windows.{get_calls, put_calls, told_plan, AreShared}
+use Rattle.window_plan.specs.declared.plan.WindowPlan.{WindowPlan}
+use Rattle.step_plan.specs.Steps.{windows_in, AreDivided, AreDomainPlans, AreSievedPlans, IsDomainPlan}
+use Rattle.step_plan.specs.declared.plan.DomainPlan.{DomainPlan}
+
+-- ---- the calls of windows that are told
+
+pub stores_told : (plans : List WindowPlan) (ws : List (List ℕ)) → map told_plan plans ≡ map told_of ws → flat_map put_calls plans ≡ flat_map overlays ws
+stores_told plans ws told =
+    sym (flat_map-map store_calls told_plan plans) ∙ ap (λ (ts : List Told). flat_map store_calls ts) told ∙ stores_are ws
+
+pub loads_told : (plans : List WindowPlan) (ws : List (List ℕ)) → map told_plan plans ≡ map told_of ws → flat_map get_calls plans ≡ flat_map loads ws
+loads_told plans ws told =
+    sym (flat_map-map load_calls told_plan plans) ∙ ap (λ (ts : List Told). flat_map load_calls ts) told ∙ loads_are ws
+
+-- ---- domains
+
+pub none_divided : (hints : Hints) (ranks : ℕ) (list : List Owned) (cover domains : List Extent) → AreDivided hints ranks list cover domains 0 []
+none_divided hints ranks list cover domains = record { many = refl; extents = refl; numbered = refl; each = λ d m. absurd m; told = refl }
+
+one_plan : (plan : DomainPlan) → windows_in (plan ∷ []) ≡ plan.windows
+one_plan plan = append-nil plan.windows
+
+pub divided_more : (hints : Hints) (ranks : ℕ) (list : List Owned) (cover domains : List Extent) (count : ℕ) (none : Extent) (plans : List DomainPlan) (plan : DomainPlan)
+    → count < length domains → plan.extent ≡ get_or domains count none → plan.aggregator ≡ Some count
+    → IsDomainPlan hints ranks list cover plan → AreDivided hints ranks list cover domains count plans
+    → AreDivided hints ranks list cover domains (count + 1) (plans ++ plan ∷ [])
+divided_more hints ranks list cover domains count none plans plan l extent number here h = record {
+  many = (let long = length_push plans plan in let many = h.many in omega arith);
+  extents = map-append (λ (d : DomainPlan). d.extent) plans (plan ∷ [])
+      ∙ ap (λ (es : List Extent). es ++ plan.extent ∷ []) h.extents ∙ ap (λ (e : Extent). take count domains ++ e ∷ []) extent ∙ sym next;
+  numbered = map-append (λ (d : DomainPlan). d.aggregator) plans (plan ∷ [])
+      ∙ ap (λ (ns : List (Option ℕ)). ns ++ plan.aggregator ∷ []) h.numbered
+      ∙ ap (λ (n : Option ℕ). map Some (range_with_len 0 count) ++ n ∷ []) number
+      ∙ sym (map-append Some (range_with_len 0 count) (count ∷ []))
+      ∙ ap (λ (ns : List ℕ). map Some ns) (sym (one_more count));
+  each = λ d m. elim (in_either plans (plan ∷ []) d m) [
+    | inl i ↦ h.each d i
+    | inr i ↦ elim i [ inl same ↦ subst (λ (p : DomainPlan). IsDomainPlan hints ranks list cover p) same here | inr n ↦ absurd n ]
+  ];
+  told = ap (λ (ws : List WindowPlan). map told_plan ws) (flat_map-append (λ (d : DomainPlan). d.windows) plans (plan ∷ []))
+      ∙ map-append told_plan (windows_in plans) (windows_in (plan ∷ []))
+      ∙ ap (λ (ts : List Told). ts ++ map told_plan (windows_in (plan ∷ []))) h.told
+      ∙ ap (λ (ts : List Told). flat_map turns (take count domains) ++ ts)
+      (ap (λ (ws : List WindowPlan). map told_plan ws) (one_plan plan) ∙ here.windows ∙ ap turns extent ∙ sym (append-nil (turns domain)))
+      ∙ sym (flat_map-append turns (take count domains) (domain ∷ []))
+      ∙ ap (λ (es : List Extent). flat_map turns es) (sym next);
+}
+  where
+    turns : Extent → List Told
+    turns d = turns_of hints.cb_buffer d cover
+
+    domain : Extent
+    domain = get_or domains count none
+
+    next : take (count + 1) domains ≡ take count domains ++ domain ∷ []
+    next = take_more domains count none l
+
+    one_more : (n : ℕ) → range_with_len 0 (n + 1) ≡ range_with_len 0 n ++ n ∷ []
+    one_more n = (let s : n + 1 ≡ suc n = omega arith in ap (λ (k : ℕ). range_with_len 0 k) s) ∙ range_push 0 n n (omega arith)
+
+pub all_divided : (hints : Hints) (ranks : ℕ) (list : List Owned) (cover domains : List Extent) (plans : List DomainPlan)
+    → IsCover cover → HaveSame (spans cover) (ranges list) → AreDomains cover domains
+    → flat_map (λ d. turns_of hints.cb_buffer d cover) domains ≡ map told_of (collective_windows hints (spans cover))
+    → AreDivided hints ranks list cover domains (length domains) plans → AreDomainPlans hints ranks list plans
+all_divided hints ranks list cover domains plans covers bytes div windows h =
+    let all : take (length domains) domains ≡ domains = take_all (length domains) domains (omega arith) in
+    record {
+      cover = cover;
+      covers = covers;
+      bytes = bytes;
+      domains = subst (λ (es : List Extent). AreDomains cover es) (sym (h.extents ∙ all)) div;
+      numbered = h.numbered ∙ ap (λ (n : ℕ). map Some (range_with_len 0 n)) (sym h.many);
+      each = h.each;
+      windows = h.told ∙ ap (λ (es : List Extent). flat_map (λ d. turns_of hints.cb_buffer d cover) es) all ∙ windows
+          ∙ ap (λ (xs : List ℕ). map told_of (collective_windows hints xs)) (cover_in_order cover (ranges list) covers bytes);
+    }
+
+pub divided_all : (hints : Hints) (ranks : ℕ) (list : List Owned) (cover domains : List Extent) (count : ℕ) (plans : List DomainPlan) → length domains ≤ count → count ≤ length domains
+    → AreDivided hints ranks list cover domains count plans → AreDivided hints ranks list cover domains (length domains) plans
+divided_all hints ranks list cover domains count plans over within h =
+    let last : count ≡ length domains = omega arith in
+    subst (λ (n : ℕ). AreDivided hints ranks list cover domains n plans) last h
+
+-- what holds of a value where there is one
+pub ok_so : {T E : Type 0} {P Q : T → Type 0} (r : Result T E) → ((x : T) → P x → Q x) → IfOk r P → IfOk r Q
+ok_so (Ok x) f h = f x h
+ok_so (Err e) f h = tt
+
+-- ---- sieving
+
+pub sieved_so : (size rank : ℕ) (list entries : List Owned) (windows : List WindowPlan) (domains : List DomainPlan) → entries ≡ list
+    → map told_plan windows ≡ map told_of (sieving_windows size (in_order (ranges entries))) → AreShared rank 1 entries windows → windows_in domains ≡ windows → AreSievedPlans size rank list domains
+sieved_so size rank list entries windows domains same told shared all = record {
+  windows = ap (λ (ws : List WindowPlan). map told_plan ws) all ∙ told ∙ ap (λ (os : List Owned). map told_of (sieving_windows size (in_order (ranges os)))) same;
+  shared = subst (λ (ws : List WindowPlan). AreShared rank 1 list ws) (sym all) (subst (λ (os : List Owned). AreShared rank 1 os windows) same shared);
+}
+
+-- ---- the calls of one domain more
+
+pub domain_more : (f : WindowPlan → List DiskCall) (domains : List DomainPlan) (i : ℕ) (none : DomainPlan) (begun old new : List DiskCall) (windows : List WindowPlan) → i < length domains
+    → old ≡ begun ++ flat_map f (windows_in (take i domains)) → new ≡ old ++ flat_map f windows → windows ≡ (get_or domains i none).windows
+    → new ≡ begun ++ flat_map f (windows_in (take (i + 1) domains))
+domain_more f domains i none begun old new windows l before more own =
+    more
+    ∙ ap (λ (calls : List DiskCall). calls ++ flat_map f windows) before
+    ∙ append_assoc begun (flat_map f (windows_in (take i domains))) (flat_map f windows)
+    ∙ ap (λ (calls : List DiskCall). begun ++ calls)
+    (sym (flat_map-append f (windows_in (take i domains)) windows)
+    ∙ ap (λ (ws : List WindowPlan). flat_map f (windows_in (take i domains) ++ ws)) (own ∙ sym (append-nil (get_or domains i none).windows))
+    ∙ ap (λ (ws : List WindowPlan). flat_map f ws) (sym (flat_map-append (λ (d : DomainPlan). d.windows) (take i domains) (get_or domains i none ∷ [])))
+    ∙ ap (λ (ds : List DomainPlan). flat_map f (windows_in ds)) (sym (take_more domains i none l)))

@@ -1,0 +1,4 @@
+pub mod AskedLaws
+pub mod DomainLaws
+pub mod PhaseLaws
+pub mod SoloLaws

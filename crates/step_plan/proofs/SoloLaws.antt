@@ -1,0 +1,74 @@
+-- A batch alone, as a list of one.
+use Rattle.std.proofs.Common.{◌≡◌, ℕ, ◌^◌, ◌<◌, inl, inr, sym, ◌∙◌, ap, subst, List, [], ◌∷◌, map, None}
+use Rattle.std.specs.Prelude.{flat_map}
+use Rattle.std.specs.List.{enumerate_from}
+use Rattle.std.proofs.lemmas.List.{append-nil}
+use Rattle.nc_base.specs.declared.header.Header.{Header}
+use Rattle.nc_base.specs.declared.plan.Batch.{Batch}
+use Rattle.nc_base.specs.declared.plan.Post.{Post}
+use Rattle.nc_base.specs.declared.plan.Owned.{Owned}
+use Rattle.nc_base.specs.declared.script.OverlapRule.{OverlapRule}
+use Rattle.serial_spec.specs.FileStep.{told}
+use Rattle.serial_spec.specs.Layout.{greatest}
+use Rattle.serial_spec.specs.Records.{needed, needed_by}
+use Rattle.serial_spec.specs.SharedByte.{Puts}
+use Rattle.overlay_laws.specs.Entries.{In}
+use Rattle.nc_base.specs.declared.request.Direction.TheVariants.{Get, Put}
+use Rattle.collective_round.specs.Gathered.{AreAccepted}
+use Rattle.collective_round.specs.Laid.{source_of, AreLaid}
+use Rattle.collective_round.specs.Listed.{IsListOf}
+use Rattle.collective_round.specs.Rounds.{posts_in, puts_of_batch, AreGets, ArePuts}
+use Rattle.collective_round.specs.declared.entries.PutList.{PutList}
+use Rattle.collective_round.specs.declared.entries.PutList.TheVariants.{Laid}
+use Rattle.collective_round.proofs.BatchLaws.{batch_needed, one_batch, own_puts}
+use Rattle.collective_round.proofs.StepLaws.{list_laid, own_told}
+use Rattle.vara_extents.specs.Accepted.{IsAccepted}
+
+pub few_alone : (batch : Batch) (slice : List Batch) → slice ≡ batch ∷ [] → posts_in batch < 2 ^ 32 → (b : Batch) → In slice b → posts_in b < 2 ^ 32
+few_alone batch slice same few b m = by_member (subst (λ (bs : List Batch). In bs b) same m)
+  where
+    by_member : In (batch ∷ []) b → posts_in b < 2 ^ 32
+    by_member (inl e) = subst (λ (x : Batch). posts_in x < 2 ^ 32) e few
+    by_member (inr n) = absurd n
+
+pub gets_alone : (header : Header) (batch : Batch) (slice : List Batch) → slice ≡ batch ∷ [] → ((p : Post) → In batch.gets p → IsAccepted header p.var p.region)
+    → (p : Post) → In (flat_map (λ (b : Batch). b.gets) slice) p → IsAccepted header p.var p.region
+gets_alone header batch slice same accepted p m =
+    accepted p (subst (λ (ps : List Post). In ps p) (ap (λ (bs : List Batch). flat_map (λ (b : Batch). b.gets) bs) same ∙ append-nil batch.gets) m)
+
+pub own_list : (header : Header) (rank : ℕ) (batch : Batch) (slice : List Batch) → slice ≡ batch ∷ [] → ArePuts header (puts_of_batch (rank, batch))
+    → ArePuts header (flat_map puts_of_batch (enumerate_from rank slice))
+own_list header rank batch slice same are =
+    subst (λ (puts : Puts). ArePuts header puts) (one_batch rank batch ∙ sym (ap (λ (bs : List Batch). flat_map puts_of_batch (enumerate_from rank bs)) same)) are
+
+-- the entries of a rank's puts, where no two share a byte
+pub own_laid : (header : Header) (overlap : OverlapRule) (rank : ℕ) (batch : Batch) (slice : List Batch) (list : PutList) (entries : List Owned) → slice ≡ batch ∷ []
+    → list ≡ Laid entries → IsListOf header overlap rank slice list
+    → (told (record { header = header; overlap = overlap }) (puts_of_batch (rank, batch)) ≡ None) × AreLaid header (source_of rank (batch ∷ [])) (puts_of_batch (rank, batch)) entries
+own_laid header overlap rank batch slice list entries same is of =
+    let laid = list_laid header overlap rank slice (batch ∷ []) list entries same is of in (
+      own_told header overlap rank batch slice list entries same is of,
+      subst (λ (puts : Puts). AreLaid header (source_of rank (batch ∷ [])) puts entries) (sym (one_batch rank batch)) laid.1,
+    )
+
+pub own_needs : (header : Header) (rank : ℕ) (batch : Batch) (posts : List Post) (n : ℕ) → posts ≡ batch.puts → n ≡ greatest (map (λ p. needed header p) posts)
+    → n ≡ needed_by header (puts_of_batch (rank, batch))
+own_needs header rank batch posts n same is = is ∙ ap (λ (ps : List Post). greatest (map (λ p. needed header p) ps)) same ∙ batch_needed header rank batch
+
+-- ---- regions that a check accepts
+
+pub put_alone : (header : Header) (rank : ℕ) (batch : Batch) (slice : List Batch) → slice ≡ batch ∷ [] → ArePuts header (puts_of_batch (rank, batch)) → AreAccepted header Put slice
+put_alone header rank batch slice same are b p m n =
+    by_member (subst (λ (bs : List Batch). In bs b) same m)
+  where
+    by_member : In (batch ∷ []) b → IsAccepted header p.var p.region
+    by_member (inl e) = (own_puts header rank batch are p (subst (λ (x : Batch). In x.puts p) (sym e) n)).accepted
+    by_member (inr none) = absurd none
+
+pub get_alone : (header : Header) (len : ℕ) (batch : Batch) (slice : List Batch) → slice ≡ batch ∷ [] → AreGets header len batch.gets → AreAccepted header Get slice
+get_alone header len batch slice same are b p m n =
+    by_member (subst (λ (bs : List Batch). In bs b) same m)
+  where
+    by_member : In (batch ∷ []) b → IsAccepted header p.var p.region
+    by_member (inl e) = (are p (subst (λ (x : Batch). In x.gets p) (sym e) n)).accepted
+    by_member (inr none) = absurd none

@@ -1,0 +1,25 @@
+-- What one rank more asks for.
+use Rattle.std.proofs.Common.{ℕ, ◌+◌, ◌++◌, ◌∙◌, ap, sym, subst, List, arith}
+use Rattle.list_laws.proofs.Maps.{next_numbered}
+use Rattle.nc_base.specs.declared.plan.Batch.{Batch}
+use Rattle.nc_base.specs.declared.plan.Post.{Post}
+use Rattle.overlay_laws.specs.Entries.{In}
+use Rattle.overlay_laws.proofs.Members.{read_in}
+use Rattle.collective_round.specs.Gathered.{posts_of}
+use Rattle.step_plan.specs.Asked.{asked_of, some_asked}
+use Rattle.step_plan.proofs.asked.all_asked.Goals as goal
+
+pub asked_by-asked-requires-clause-accepted : goal.asked_by-asked-requires-clause-accepted
+asked_by-asked-requires-clause-accepted c = λ p m.
+    c.requires.accepted c.index-batches-number.result p
+    (read_in c.args.batches.now c.loop-number.number c.index-batches-number.result c.loop-number-test.true c.index-batches-number.is)
+    (subst (λ (ps : List Post). In ps p) c.posts_of-posts.ensures m)
+
+pub loop-number-preserved : goal.loop-number-preserved
+loop-number-preserved c =
+    next_numbered (λ (b : ℕ × Batch). some_asked (asked_of c.args.dataset.now.header.now b.0 (posts_of c.args.direction b.1))) c.args.batches.now c.loop-number.number
+    (c.args.first + c.loop-number.number) (c.args.first + (c.loop-number.number + 1)) c.index-batches-number.result c.index-batches-number.result c.loop-number.list.items c.push_asked.new.list.items _
+    c.loop-number-test.true (sym c.index-batches-number.is) (omega arith)
+    (c.in_ok-push_asked.ensures ∙ ap (λ a. c.loop-number.list.items ++ some_asked a) (c.asked_by-asked.ensures
+    ∙ ap (λ (ps : List Post). asked_of c.args.dataset.now.header.now (c.args.first + c.loop-number.number) ps) c.posts_of-posts.ensures))
+    c.loop-number.invariant

@@ -1,0 +1,6 @@
+-- Each request is one of the list.
+use Rattle.overlay_laws.proofs.Members.{read_in}
+use Rattle.step_plan.proofs.asked.asked_by.Goals as goal
+
+pub add_post-requires-clause-accepted : goal.add_post-requires-clause-accepted
+add_post-requires-clause-accepted c = c.requires.accepted c.post-item.result (read_in c.args.posts.now c.loop-post.post-index c.post-item.result c.loop-post-test.true c.post-item.is)

@@ -1,0 +1,7 @@
+-- What the requests so far ask for.
+use Rattle.std.proofs.Common.{◌≡◌, take}
+use Rattle.step_plan.specs.Asked.{asked_of}
+use Rattle.step_plan.proofs.asked.asked_by.Given as goal
+
+abbrev pub invariant-loop-post : goal.invariant-loop-post
+invariant-loop-post l = l.asked ≡ asked_of l.dataset.header.now l.rank (take l.post-index l.posts)

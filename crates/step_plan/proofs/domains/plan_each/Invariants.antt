@@ -1,0 +1,6 @@
+-- The domains so far are planned.
+use Rattle.step_plan.specs.Steps.{AreDivided}
+use Rattle.step_plan.proofs.domains.plan_each.Given as goal
+
+abbrev pub invariant-loop-number : goal.invariant-loop-number
+invariant-loop-number l = AreDivided l.hints l.ranks l.list l.cover l.domains l.number l.plans.items

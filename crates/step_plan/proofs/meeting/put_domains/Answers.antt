@@ -1,0 +1,88 @@
+-- Puts with a pair come to nothing; others are laid.
+use Rattle.std.proofs.Common.{◌^◌, ◌<◌, ◌∙◌, ℕ, refl, sym, ap, subst, max, ◌++◌}
+use Rattle.serial_spec.specs.DeviceCalls as device
+use Rattle.serial_spec.specs.DeviceCalls.{collective_windows}
+use Rattle.serial_spec.specs.HeaderBytes.{header_len}
+use Rattle.serial_spec.specs.Layout.{end_of}
+use Rattle.collective_round.specs.Rounds.{puts_in, setting}
+use Rattle.collective_round.proofs.PutLaws.{laid_needs, puts_needed, shared_needs}
+use Rattle.collective_round.proofs.StepLaws.{list_laid, list_shared}
+use Rattle.step_plan.specs.Phases.HavePutDomains.{refused, laid}
+use Rattle.step_plan.specs.Steps.{grow_call}
+use Rattle.step_plan.specs.Steps as steps
+use Rattle.step_plan.specs.declared.plan.Puts.{Puts}
+use Rattle.step_plan.proofs.PhaseLaws.{collective_calls, laid_size, refused_calls, refused_size}
+use Rattle.step_plan.proofs.meeting.put_domains.Goals as goal
+
+pub collective_domains-requires-clause-sorted : goal.collective_domains-requires-clause-sorted
+collective_domains-requires-clause-sorted c =
+    (list_laid c.args.dataset.now.header.now c.args.dataset.now.hints.now.overlap 0 c.args.batches.now c.args.batches.now c.in_ok-pair.field-0 c.in-Laid.list refl c.in-Laid.is c.in_ok-pair.ensures).1.sorted
+
+pub end_of-end-requires-clause-below : goal.end_of-end-requires-clause-below
+end_of-end-requires-clause-below c =
+    subst (λ (n : ℕ). end_of c.args.dataset.now.header.now (header_len c.args.dataset.now.header.now) n < 2 ^ 62) (sym c.records_needed-needed.ensures)
+    (puts_needed c.args.dataset.now.header.now (puts_in c.args.batches.now) c.requires.sound c.requires.puts).1
+
+-- ---- a pair
+
+pub returns-in-Shared-clause-overlap : goal.returns-in-Shared-clause-overlap
+returns-in-Shared-clause-overlap c =
+    ap (λ (p : Puts). p.overlap) c.refused.ensures
+    ∙ sym (list_shared c.args.dataset.now.header.now c.args.dataset.now.hints.now.overlap 0 c.args.batches.now c.args.batches.now c.in_ok-pair.field-0 c.in-Shared.pair refl c.in-Shared.is c.in_ok-pair.ensures)
+
+pub returns-in-Shared-clause-domains : goal.returns-in-Shared-clause-domains
+returns-in-Shared-clause-domains c =
+    refused c.in-Shared.pair
+    (list_shared c.args.dataset.now.header.now c.args.dataset.now.hints.now.overlap 0 c.args.batches.now c.args.batches.now c.in_ok-pair.field-0 c.in-Shared.pair refl c.in-Shared.is c.in_ok-pair.ensures)
+    (ap (λ (p : Puts). p.domains) c.refused.ensures)
+
+pub returns-in-Shared-clause-needed : goal.returns-in-Shared-clause-needed
+returns-in-Shared-clause-needed c =
+    ap (λ (p : Puts). p.needed) c.refused.ensures
+    ∙ sym (shared_needs (setting c.args.dataset.now.header.now c.args.dataset.now.hints.now) (puts_in c.args.batches.now) c.in-Shared.pair
+    (list_shared c.args.dataset.now.header.now c.args.dataset.now.hints.now.overlap 0 c.args.batches.now c.args.batches.now c.in_ok-pair.field-0 c.in-Shared.pair refl c.in-Shared.is c.in_ok-pair.ensures))
+
+pub returns-in-Shared-clause-size : goal.returns-in-Shared-clause-size
+returns-in-Shared-clause-size c =
+    ap (λ (p : Puts). p.size) c.refused.ensures
+    ∙ refused_size (setting c.args.dataset.now.header.now c.args.dataset.now.hints.now) (puts_in c.args.batches.now) c.args.size c.in-Shared.pair
+    (list_shared c.args.dataset.now.header.now c.args.dataset.now.hints.now.overlap 0 c.args.batches.now c.args.batches.now c.in_ok-pair.field-0 c.in-Shared.pair refl c.in-Shared.is c.in_ok-pair.ensures)
+    c.requires.long
+
+pub returns-in-Shared-clause-calls : goal.returns-in-Shared-clause-calls
+returns-in-Shared-clause-calls c =
+    ap (λ (p : Puts). grow_call p.grow ++ steps.stores_in p.domains) c.refused.ensures
+    ∙ refused_calls (setting c.args.dataset.now.header.now c.args.dataset.now.hints.now) (collective_windows c.args.dataset.now.hints.now) (puts_in c.args.batches.now) c.args.size c.in-Shared.pair
+    (list_shared c.args.dataset.now.header.now c.args.dataset.now.hints.now.overlap 0 c.args.batches.now c.args.batches.now c.in_ok-pair.field-0 c.in-Shared.pair refl c.in-Shared.is c.in_ok-pair.ensures)
+
+-- ---- none
+
+pub returns-in_ok-domains-in-Laid-clause-overlap : goal.returns-in_ok-domains-in-Laid-clause-overlap
+returns-in_ok-domains-in-Laid-clause-overlap c =
+    sym (list_laid c.args.dataset.now.header.now c.args.dataset.now.hints.now.overlap 0 c.args.batches.now c.args.batches.now c.in_ok-pair.field-0 c.in-Laid.list refl c.in-Laid.is c.in_ok-pair.ensures).0
+
+pub returns-in_ok-domains-in-Laid-clause-domains : goal.returns-in_ok-domains-in-Laid-clause-domains
+returns-in_ok-domains-in-Laid-clause-domains c =
+    let here = list_laid c.args.dataset.now.header.now c.args.dataset.now.hints.now.overlap 0 c.args.batches.now c.args.batches.now c.in_ok-pair.field-0 c.in-Laid.list refl c.in-Laid.is c.in_ok-pair.ensures in
+    laid c.in-Laid.list here.0 here.1 c.in_ok-domains-in-Laid.ensures
+
+pub returns-in_ok-domains-in-Laid-clause-needed : goal.returns-in_ok-domains-in-Laid-clause-needed
+returns-in_ok-domains-in-Laid-clause-needed c =
+    c.records_needed-needed.ensures
+    ∙ sym (laid_needs (setting c.args.dataset.now.header.now c.args.dataset.now.hints.now) (puts_in c.args.batches.now)
+    (list_laid c.args.dataset.now.header.now c.args.dataset.now.hints.now.overlap 0 c.args.batches.now c.args.batches.now c.in_ok-pair.field-0 c.in-Laid.list refl c.in-Laid.is c.in_ok-pair.ensures).0)
+
+pub returns-in_ok-domains-in-Laid-clause-size : goal.returns-in_ok-domains-in-Laid-clause-size
+returns-in_ok-domains-in-Laid-clause-size c =
+    c.max.ensures ∙ ap (max c.args.size) c.end_of-end.ensures
+    ∙ laid_size (setting c.args.dataset.now.header.now c.args.dataset.now.hints.now) (puts_in c.args.batches.now) c.args.size c.records_needed-needed.result
+    (list_laid c.args.dataset.now.header.now c.args.dataset.now.hints.now.overlap 0 c.args.batches.now c.args.batches.now c.in_ok-pair.field-0 c.in-Laid.list refl c.in-Laid.is c.in_ok-pair.ensures).0
+    c.records_needed-needed.ensures
+
+pub returns-in_ok-domains-in-Laid-clause-calls : goal.returns-in_ok-domains-in-Laid-clause-calls
+returns-in_ok-domains-in-Laid-clause-calls c =
+    let header = c.args.dataset.now.header.now in
+    let hints = c.args.dataset.now.hints.now in
+    let here = list_laid header hints.overlap 0 c.args.batches.now c.args.batches.now c.in_ok-pair.field-0 c.in-Laid.list refl c.in-Laid.is c.in_ok-pair.ensures in
+    collective_calls header hints c.args.batches.now c.args.size c.records_needed-needed.result c.grown.result c.in-Laid.list c.in_ok-domains-in-Laid.domains here.0 c.requires.long c.records_needed-needed.ensures here.1
+    c.in_ok-domains-in-Laid.ensures (c.grown.ensures ∙ ap (device.grow_to c.args.size) c.end_of-end.ensures)

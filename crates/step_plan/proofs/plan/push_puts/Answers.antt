@@ -1,0 +1,11 @@
+-- The calls of one domain more.
+use Rattle.std.proofs.Common.{◌∙◌, ap}
+use Rattle.window_plan.specs.Windows.{put_calls}
+use Rattle.step_plan.specs.declared.plan.DomainPlan.{DomainPlan}
+use Rattle.step_plan.proofs.DomainLaws.{domain_more}
+use Rattle.step_plan.proofs.plan.push_puts.Goals as goal
+
+pub loop-domain-preserved : goal.loop-domain-preserved
+loop-domain-preserved c =
+    domain_more put_calls c.args.domains.now c.loop-domain.domain-index c.domain-item.result c.args.calls.now.items c.loop-domain.calls.items c.push_stores.new.calls.items c.as_slice.result.now
+    c.loop-domain-test.true c.loop-domain.invariant c.in_ok-push_stores.ensures (c.as_slice.ensures ∙ ap (λ (d : DomainPlan). d.windows) c.domain-item.is)

@@ -1,0 +1,7 @@
+-- The calls of the domains so far.
+use Rattle.std.proofs.Common.{◌≡◌, ◌++◌, take}
+use Rattle.step_plan.specs.Steps.{stores_in}
+use Rattle.step_plan.proofs.plan.push_puts.Given as goal
+
+abbrev pub invariant-loop-domain : goal.invariant-loop-domain
+invariant-loop-domain l = l.calls.items ≡ l.initial.calls.items ++ stores_in (take l.domain-index l.domains)

@@ -1,0 +1,24 @@
+-- The windows of the entries of the gets.
+use Rattle.std.proofs.Common.{subst, List}
+use Rattle.nc_base.specs.declared.plan.Batch.{Batch}
+use Rattle.collective_round.specs.Laid.{AreGot}
+use Rattle.collective_round.proofs.PutLaws.{lawful}
+use Rattle.step_plan.proofs.DomainLaws.{ok_so}
+use Rattle.step_plan.proofs.SoloLaws.{few_alone, gets_alone}
+use Rattle.step_plan.proofs.solo.get_windows.Goals as goal
+
+pub get_list-requires-clause-few : goal.get_list-requires-clause-few
+get_list-requires-clause-few c = few_alone c.args.batch.now c.from_ref.result.now c.from_ref.ensures.value c.requires.few
+
+pub get_list-requires-clause-gets : goal.get_list-requires-clause-gets
+get_list-requires-clause-gets c = gets_alone c.args.dataset.now.header.now c.args.batch.now c.from_ref.result.now c.from_ref.ensures.value c.requires.gets
+
+pub sieved_domain-requires-clause-some : goal.sieved_domain-requires-clause-some
+sieved_domain-requires-clause-some c = (lawful c.args.dataset.now.hints.now c.requires.hints).reads
+
+pub returns : goal.returns
+returns c = ok_so c.sieved_domain.result (λ domains h. record {
+  list = c.in_ok-list.list;
+  got = subst (λ (bs : List Batch). AreGot c.args.dataset.now.header.now c.args.rank bs c.in_ok-list.list) c.from_ref.ensures.value c.in_ok-list.ensures;
+  plans = h;
+}) c.sieved_domain.ensures

@@ -1,0 +1,109 @@
+-- Puts with a pair come to nothing; others are laid.
+use Rattle.std.proofs.Common.{◌^◌, ◌<◌, ◌∙◌, ℕ, sym, ap, subst, max, List, ◌++◌}
+use Rattle.serial_spec.specs.DeviceCalls as device
+use Rattle.serial_spec.specs.DeviceCalls.{sieving_windows}
+use Rattle.serial_spec.specs.HeaderBytes.{header_len}
+use Rattle.serial_spec.specs.Layout.{end_of}
+use Rattle.collective_round.specs.Rounds.{puts_of_batch, setting}
+use Rattle.collective_round.proofs.PutLaws.{laid_needs, lawful, puts_needed, shared_needs}
+use Rattle.nc_base.specs.declared.plan.Post.{Post}
+use Rattle.overlay_laws.specs.Entries.{In}
+use Rattle.collective_round.proofs.BatchLaws.{own_puts}
+use Rattle.collective_round.proofs.StepLaws.{own_once, own_shared}
+use Rattle.step_plan.specs.Phases.HavePutWindows.{refused, laid}
+use Rattle.step_plan.specs.Steps.{grow_call}
+use Rattle.step_plan.specs.Steps as steps
+use Rattle.step_plan.specs.declared.plan.Puts.{Puts}
+use Rattle.step_plan.proofs.PhaseLaws.{laid_size, refused_calls, refused_size, sieved_calls}
+use Rattle.step_plan.proofs.SoloLaws.{few_alone, own_laid, own_list, own_needs}
+use Rattle.step_plan.proofs.solo.put_windows.Goals as goal
+
+pub put_list-requires-clause-few : goal.put_list-requires-clause-few
+put_list-requires-clause-few c = few_alone c.args.batch.now c.from_ref.result.now c.from_ref.ensures.value c.requires.few
+
+pub put_list-requires-clause-own : goal.put_list-requires-clause-own
+put_list-requires-clause-own c = own_once c.args.dataset.now.header.now c.args.rank c.args.batch.now c.from_ref.result.now c.from_ref.ensures.value c.requires.own
+
+pub put_list-requires-clause-puts : goal.put_list-requires-clause-puts
+put_list-requires-clause-puts c = own_list c.args.dataset.now.header.now c.args.rank c.args.batch.now c.from_ref.result.now c.from_ref.ensures.value c.requires.puts
+
+pub sieved_domain-requires-clause-some : goal.sieved_domain-requires-clause-some
+sieved_domain-requires-clause-some c = (lawful c.args.dataset.now.hints.now c.requires.hints).writes
+
+pub records_needed_by-needed-requires : goal.records_needed_by-needed-requires
+records_needed_by-needed-requires c = record {
+  puts = λ p m. own_puts c.args.dataset.now.header.now c.args.rank c.args.batch.now c.requires.puts p (subst (λ (ps : List Post). In ps p) c.as_slice.ensures m);
+}
+
+pub sieved_domain-requires-clause-sorted : goal.sieved_domain-requires-clause-sorted
+sieved_domain-requires-clause-sorted c =
+    (own_laid c.args.dataset.now.header.now c.args.dataset.now.hints.now.overlap c.args.rank c.args.batch.now c.from_ref.result.now c.in_ok-pair.field-0 c.in-Laid.list c.from_ref.ensures.value c.in-Laid.is c.in_ok-pair.ensures).1.sorted
+
+pub end_of-end-requires-clause-below : goal.end_of-end-requires-clause-below
+end_of-end-requires-clause-below c =
+    subst (λ (n : ℕ). end_of c.args.dataset.now.header.now (header_len c.args.dataset.now.header.now) n < 2 ^ 62) (sym (own_needs c.args.dataset.now.header.now c.args.rank c.args.batch.now c.as_slice.result.now c.records_needed_by-needed.result c.as_slice.ensures c.records_needed_by-needed.ensures))
+    (puts_needed c.args.dataset.now.header.now (puts_of_batch (c.args.rank, c.args.batch.now)) c.requires.sound c.requires.puts).1
+
+-- ---- a pair
+
+pub returns-in-Shared-clause-overlap : goal.returns-in-Shared-clause-overlap
+returns-in-Shared-clause-overlap c =
+    ap (λ (p : Puts). p.overlap) c.refused.ensures
+    ∙ sym (own_shared c.args.dataset.now.header.now c.args.dataset.now.hints.now.overlap c.args.rank c.args.batch.now c.from_ref.result.now c.in_ok-pair.field-0 c.in-Shared.pair c.from_ref.ensures.value c.in-Shared.is c.in_ok-pair.ensures)
+
+pub returns-in-Shared-clause-windows : goal.returns-in-Shared-clause-windows
+returns-in-Shared-clause-windows c =
+    refused c.in-Shared.pair
+    (own_shared c.args.dataset.now.header.now c.args.dataset.now.hints.now.overlap c.args.rank c.args.batch.now c.from_ref.result.now c.in_ok-pair.field-0 c.in-Shared.pair c.from_ref.ensures.value c.in-Shared.is c.in_ok-pair.ensures)
+    (ap (λ (p : Puts). p.domains) c.refused.ensures)
+
+pub returns-in-Shared-clause-needed : goal.returns-in-Shared-clause-needed
+returns-in-Shared-clause-needed c =
+    ap (λ (p : Puts). p.needed) c.refused.ensures
+    ∙ sym (shared_needs (setting c.args.dataset.now.header.now c.args.dataset.now.hints.now) (puts_of_batch (c.args.rank, c.args.batch.now)) c.in-Shared.pair
+    (own_shared c.args.dataset.now.header.now c.args.dataset.now.hints.now.overlap c.args.rank c.args.batch.now c.from_ref.result.now c.in_ok-pair.field-0 c.in-Shared.pair c.from_ref.ensures.value c.in-Shared.is c.in_ok-pair.ensures))
+
+pub returns-in-Shared-clause-size : goal.returns-in-Shared-clause-size
+returns-in-Shared-clause-size c =
+    ap (λ (p : Puts). p.size) c.refused.ensures
+    ∙ refused_size (setting c.args.dataset.now.header.now c.args.dataset.now.hints.now) (puts_of_batch (c.args.rank, c.args.batch.now)) c.args.size c.in-Shared.pair
+    (own_shared c.args.dataset.now.header.now c.args.dataset.now.hints.now.overlap c.args.rank c.args.batch.now c.from_ref.result.now c.in_ok-pair.field-0 c.in-Shared.pair c.from_ref.ensures.value c.in-Shared.is c.in_ok-pair.ensures)
+    c.requires.long
+
+pub returns-in-Shared-clause-calls : goal.returns-in-Shared-clause-calls
+returns-in-Shared-clause-calls c =
+    ap (λ (p : Puts). grow_call p.grow ++ steps.stores_in p.domains) c.refused.ensures
+    ∙ refused_calls (setting c.args.dataset.now.header.now c.args.dataset.now.hints.now) (sieving_windows c.args.dataset.now.hints.now.wr_buffer) (puts_of_batch (c.args.rank, c.args.batch.now)) c.args.size c.in-Shared.pair
+    (own_shared c.args.dataset.now.header.now c.args.dataset.now.hints.now.overlap c.args.rank c.args.batch.now c.from_ref.result.now c.in_ok-pair.field-0 c.in-Shared.pair c.from_ref.ensures.value c.in-Shared.is c.in_ok-pair.ensures)
+
+-- ---- none
+
+pub returns-in_ok-domains-in-Laid-clause-overlap : goal.returns-in_ok-domains-in-Laid-clause-overlap
+returns-in_ok-domains-in-Laid-clause-overlap c =
+    sym (own_laid c.args.dataset.now.header.now c.args.dataset.now.hints.now.overlap c.args.rank c.args.batch.now c.from_ref.result.now c.in_ok-pair.field-0 c.in-Laid.list c.from_ref.ensures.value c.in-Laid.is c.in_ok-pair.ensures).0
+
+pub returns-in_ok-domains-in-Laid-clause-windows : goal.returns-in_ok-domains-in-Laid-clause-windows
+returns-in_ok-domains-in-Laid-clause-windows c =
+    let here = own_laid c.args.dataset.now.header.now c.args.dataset.now.hints.now.overlap c.args.rank c.args.batch.now c.from_ref.result.now c.in_ok-pair.field-0 c.in-Laid.list c.from_ref.ensures.value c.in-Laid.is c.in_ok-pair.ensures in
+    laid c.in-Laid.list here.0 here.1 c.in_ok-domains-in-Laid.ensures
+
+pub returns-in_ok-domains-in-Laid-clause-needed : goal.returns-in_ok-domains-in-Laid-clause-needed
+returns-in_ok-domains-in-Laid-clause-needed c =
+    (own_needs c.args.dataset.now.header.now c.args.rank c.args.batch.now c.as_slice.result.now c.records_needed_by-needed.result c.as_slice.ensures c.records_needed_by-needed.ensures)
+    ∙ sym (laid_needs (setting c.args.dataset.now.header.now c.args.dataset.now.hints.now) (puts_of_batch (c.args.rank, c.args.batch.now))
+    (own_laid c.args.dataset.now.header.now c.args.dataset.now.hints.now.overlap c.args.rank c.args.batch.now c.from_ref.result.now c.in_ok-pair.field-0 c.in-Laid.list c.from_ref.ensures.value c.in-Laid.is c.in_ok-pair.ensures).0)
+
+pub returns-in_ok-domains-in-Laid-clause-size : goal.returns-in_ok-domains-in-Laid-clause-size
+returns-in_ok-domains-in-Laid-clause-size c =
+    c.max.ensures ∙ ap (max c.args.size) c.end_of-end.ensures
+    ∙ laid_size (setting c.args.dataset.now.header.now c.args.dataset.now.hints.now) (puts_of_batch (c.args.rank, c.args.batch.now)) c.args.size c.records_needed_by-needed.result
+    (own_laid c.args.dataset.now.header.now c.args.dataset.now.hints.now.overlap c.args.rank c.args.batch.now c.from_ref.result.now c.in_ok-pair.field-0 c.in-Laid.list c.from_ref.ensures.value c.in-Laid.is c.in_ok-pair.ensures).0
+    (own_needs c.args.dataset.now.header.now c.args.rank c.args.batch.now c.as_slice.result.now c.records_needed_by-needed.result c.as_slice.ensures c.records_needed_by-needed.ensures)
+
+pub returns-in_ok-domains-in-Laid-clause-calls : goal.returns-in_ok-domains-in-Laid-clause-calls
+returns-in_ok-domains-in-Laid-clause-calls c =
+    let header = c.args.dataset.now.header.now in
+    let hints = c.args.dataset.now.hints.now in
+    let here = own_laid header hints.overlap c.args.rank c.args.batch.now c.from_ref.result.now c.in_ok-pair.field-0 c.in-Laid.list c.from_ref.ensures.value c.in-Laid.is c.in_ok-pair.ensures in
+    sieved_calls header hints c.args.rank c.args.batch.now c.args.size c.records_needed_by-needed.result c.grown.result c.in-Laid.list c.in_ok-domains-in-Laid.domains here.0 c.requires.long (own_needs c.args.dataset.now.header.now c.args.rank c.args.batch.now c.as_slice.result.now c.records_needed_by-needed.result c.as_slice.ensures c.records_needed_by-needed.ensures) here.1
+    c.in_ok-domains-in-Laid.ensures (c.grown.ensures ∙ ap (device.grow_to c.args.size) c.end_of-end.ensures)

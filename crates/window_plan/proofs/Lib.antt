@@ -1,0 +1,3 @@
+pub mod OwnerLaws
+pub mod PlanLaws
+pub mod ShareLaws

@@ -1,0 +1,28 @@
+-- The shares of ranks, counted one owner after another.
+use Rattle.std.proofs.Common.{◌≡◌, ℕ, suc, ◌+◌, ◌-◌, ◌^◌, ◌<◌, sym, ◌∙◌, ap, List, [], ◌∷◌, ◌++◌, length, take, get_or, min, arith}
+use Rattle.std.proofs.lemmas.List.{flat_map_more, take_more}
+use Rattle.std.specs.Prelude.{flat_map}
+use Rattle.std.specs.List.{range_with_len}
+use Rattle.list_laws.proofs.Ranges.{range_push}
+use Rattle.window_plan.specs.Windows.{bytes_for, own_bytes, share_of}
+use Rattle.window_plan.specs.declared.plan.Owner.{Owner}
+use Rattle.window_plan.specs.declared.plan.Share.{Share}
+
+bytes_joined : (rank : ℕ) (owners : List Owner) (o : Owner) → bytes_for rank (owners ++ o ∷ []) ≡ bytes_for rank owners + own_bytes rank o
+bytes_joined rank [] o = omega arith
+bytes_joined rank (x ∷ owners) o = let rest = bytes_joined rank owners o in omega arith
+
+pub share_more : (owners : List Owner) (i : ℕ) (none : Owner) (rank bytes own now : ℕ) → i < length owners → bytes ≡ share_of (take i owners) rank
+    → own ≡ own_bytes rank (get_or owners i none) → now ≡ min (bytes + own) (2 ^ 64 - 1) → now ≡ share_of (take (i + 1) owners) rank
+share_more owners i none rank bytes own now l before is sum =
+    let next : bytes_for rank (take (i + 1) owners) ≡ bytes_for rank (take i owners) + own_bytes rank (get_or owners i none)
+    = ap (λ (os : List Owner). bytes_for rank os) (take_more owners i none l) ∙ bytes_joined rank (take i owners) (get_or owners i none) in
+    omega arith
+
+one_more : (n : ℕ) → range_with_len 0 (n + 1) ≡ range_with_len 0 n ++ n ∷ []
+one_more n = let next : n + 1 ≡ suc n = omega arith in ap (λ (k : ℕ). range_with_len 0 k) next ∙ range_push 0 n n (omega arith)
+
+pub shares_more : (f : ℕ → List Share) (n : ℕ) (old new : List Share) → old ≡ flat_map f (range_with_len 0 n) → new ≡ old ++ f n → new ≡ flat_map f (range_with_len 0 (n + 1))
+shares_more f n old new before more =
+    more ∙ ap (λ (shares : List Share). shares ++ f n) before ∙ flat_map_more f [] (range_with_len 0 n) n
+    ∙ ap (λ (ks : List ℕ). flat_map f ks) (sym (one_more n))

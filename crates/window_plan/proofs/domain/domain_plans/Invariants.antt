@@ -1,0 +1,13 @@
+-- The windows that are planned, and those that are left, are all.
+use Rattle.std.proofs.Common.{length, min}
+use Rattle.aggregator_rounds.specs.Left.{entries_left}
+use Rattle.exchange_crew.specs.Turns.{turns_ahead, turns_of}
+use Rattle.window_plan.proofs.PlanLaws.{IsPlanning}
+use Rattle.window_plan.proofs.domain.domain_plans.Given as goal
+
+abbrev pub invariant-windows : goal.invariant-windows
+invariant-windows l =
+    IsPlanning l.list (min l.size l.fn.domain.len) l.ranks (turns_of l.size l.fn.domain l.cover) l.windows (entries_left l.entries) l.plans.items
+
+abbrev pub decreases-windows : goal.decreases-windows
+decreases-windows l = length (turns_ahead l.windows)

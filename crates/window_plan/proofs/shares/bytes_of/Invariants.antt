@@ -1,0 +1,7 @@
+-- The bytes that the owners so far give the rank.
+use Rattle.std.proofs.Common.{◌≡◌, take}
+use Rattle.window_plan.specs.Windows.{share_of}
+use Rattle.window_plan.proofs.shares.bytes_of.Given as goal
+
+abbrev pub invariant-loop-owner : goal.invariant-loop-owner
+invariant-loop-owner l = l.bytes ≡ share_of (take l.owner-index l.owners) l.rank

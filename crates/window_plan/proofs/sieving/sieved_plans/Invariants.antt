@@ -1,0 +1,19 @@
+-- The windows that are planned, and those that are left, are all.
+use Rattle.std.proofs.Common.{◌≡◌, ◌-◌, ◌^◌, map}
+use Rattle.aggregator_rounds.specs.Left.{entries_left}
+use Rattle.data_sieving.specs.Sieving.{entry_windows}
+use Rattle.data_sieving.specs.Walked.{AreLeft, LieAcross}
+use Rattle.overlay_laws.specs.Walks.{told_of}
+use Rattle.window_plan.proofs.PlanLaws.{IsSieving}
+use Rattle.window_plan.proofs.sieving.sieved_plans.Given as goal
+
+abbrev pub invariant-windows : goal.invariant-windows
+invariant-windows l = record {
+  sieving : IsSieving l.list l.size l.rank l.walk.from (map told_of (entry_windows l.size l.list)) (entries_left l.walk.entries) l.plans.items;
+  left : AreLeft (entries_left l.walk.entries) l.walk.from l.walk.size;
+  across : LieAcross l.walk.from l.walk.entries.carried.items;
+  size : l.walk.size ≡ l.size;
+}
+
+abbrev pub decreases-windows : goal.decreases-windows
+decreases-windows l = 2 ^ 64 - l.walk.from
