@@ -115,7 +115,7 @@ class Runs:
             part.write_script(out, ["hint threads off", *extra])
         try:
             with open(script, "rb") as source, open(text, "wb") as out:
-                done = subprocess.run([self.program, self.dataset], stdin=source, stdout=out, timeout=self.seconds, check=False)
+                done = subprocess.run([self.program, self.dataset], stdin=source, stdout=out, stderr=subprocess.DEVNULL, timeout=self.seconds, check=False)
         except subprocess.TimeoutExpired:
             raise RunFault("%s didn't end in %d seconds; --seconds gives it more" % (self.program, self.seconds)) from None
         return Run(done.returncode, Text(text), self.dataset)
