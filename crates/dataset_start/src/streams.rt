@@ -31,6 +31,20 @@ impl From<AllocError> for TakeErr {
     }
 }
 
+// The room of a text before its first byte comes, in bytes: a little less than 32 MiB. The C library of GNU keeps blocks that are freed once it
+// has taken back one that was longer, up to this length; else each step that moves megabytes would have its memory mapped and cleared anew.
+// What no text fills is never touched, and so takes no memory.
+const FIRST_ROOM: usize = (32 << 20) - (64 << 10);
+
+fn empty_text(alloc: Global) -> Vec<u8>
+    ensures { result.items ≡ [] }
+{
+    match Vec::with_capacity(alloc, FIRST_ROOM) {
+        Ok(text) => text,
+        Err(_) => Vec::new(alloc),
+    }
+}
+
 /// All the bytes that are left, or, where there are more than a script may have, so many that this shows.
 pub(crate) fn take_all<S: Source>(alloc: Global, source: &mut S) -> Result<Vec<u8>, TakeErr>
     ensures taken { IfOk result (λ text. S.left source.old ≡ with_front text.items (S.left source.new)) }
@@ -39,8 +53,8 @@ pub(crate) fn take_all<S: Source>(alloc: Global, source: &mut S) -> Result<Vec<u
     ensures fault { IsErrOf result TakeErr.Fault → Rose (S.faults source.old) (S.faults source.new) }
     ensures later { S.faults source.old ≤ S.faults source.new }
 {
-    let mut text = Vec::new(alloc);
-    let mut buf = [0u8; 4096];
+    let mut text = empty_text(alloc);
+    let mut buf = [0u8; 65536];
     // Each turn takes a byte at least.
     for _turn in 0..=MAX_SCRIPT_BYTES {
         let count = source.take(&mut buf)?;
