@@ -5,3 +5,4 @@ pub mod SoloLaws
 pub mod MeetLaws
 pub mod CountSteps
 pub mod EndLaws
+pub mod CallerLaws

@@ -1,5 +1,5 @@
 // The steps of ranks in turn.
-ghost use Rattle.std.specs.Prelude.{◌≡◌, ◌≤◌, ◌<◌, ◌+◌, ◌++◌, ◌∷◌, [], length, map, max, true, None, Some, IfNone, IfOk, IfSome, OnOk};
+ghost use Rattle.std.specs.Prelude.{◌≡◌, ◌≤◌, ◌<◌, ◌+◌, ◌^◌, ◌++◌, ◌∷◌, [], ℕ, length, map, max, slice_get, true, None, Some, IfNone, IfOk, IfSome, OnOk};
 ghost use Rattle.nc_base.specs.declared.plan.Post.{Post};
 ghost use Rattle.nc_base.specs.declared.step.OfferKind.TheVariants as kind;
 ghost use Rattle.overlay_laws.specs.Entries.{In};
@@ -11,6 +11,7 @@ ghost use Rattle.run_laws.specs.Ways.{meetings, AsksAlone, IsOnWay};
 ghost use Rattle.turn_run.specs.Counts.{IsAsked, IsCount};
 ghost use Rattle.turn_run.specs.Running.{asking, between, calls_of, AreFree, AreRunners, HasArrived, HaveArrived, HaveMet, IsMet, IsRunner};
 ghost use Rattle.turn_run.specs.Stages.{arrived, arrived_all};
+ghost use Rattle.turn_run.specs.declared.runners.Runner as runner;
 ghost use Rattle.vara_extents.specs.Accepted.{IsAccepted};
 ghost use Rattle.var_layout.specs.Measures.{AreMeasures};
 ghost use Rattle.run_plan.specs.Planned.{order_in, plan_stage, rank_plan, HasPlanned, HasPlannedAll};
@@ -225,7 +226,8 @@ pub(crate) fn meet<R: Wait>(
 
 // The calls by which the ranks come to a meeting.
 fn callers_of(alloc: Global, runners: &[Runner]) -> Result<CallerList, Memory>
-    requires { length runners.now ≤ 64 }
+    requires ranks { length runners.now ≤ 64 }
+    requires answers { (r : ℕ) → (x : runner.Runner) → slice_get runners.now r ≡ Some x → length x.answers < 2 ^ 32 }
 {
     let mut callers = CallerList::new(alloc);
     for (rank, runner) in runners.iter().enumerate() {

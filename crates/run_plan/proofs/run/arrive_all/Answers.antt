@@ -26,15 +26,15 @@ loop-number-init g c = record {
 }
 
 pub arrive-requires-clause-free : goal.arrive-requires-clause-free
-arrive-requires-clause-free g c κs within =
+arrive-requires-clause-free g c =
     c.loop-number.invariant.free c.loop-number.number _ (omega arith) (get_at c.loop-number.runners c.loop-number.number c.index-runners-number.result (omega arith))
 
 pub arrive-requires-clause-runner : goal.arrive-requires-clause-runner
-arrive-requires-clause-runner g c κs within =
+arrive-requires-clause-runner g c =
     c.loop-number.invariant.runners.each c.loop-number.number _ (get_at c.loop-number.runners c.loop-number.number c.index-runners-number.result (omega arith))
 
 pub arrive-requires-clause-known : goal.arrive-requires-clause-known
-arrive-requires-clause-known g c κs within =
+arrive-requires-clause-known g c =
     c.loop-number.invariant.runners.known c.loop-number.number _ (get_at c.loop-number.runners c.loop-number.number c.index-runners-number.result (omega arith))
 
 pub loop-number-preserved : goal.loop-number-preserved

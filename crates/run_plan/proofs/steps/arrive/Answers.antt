@@ -1,14 +1,14 @@
 -- The rank goes on from one solo offer to the next.
-use Rattle.std.proofs.Common.{◌≡◌, ℕ, refl, sym, ◌∙◌, ap, subst, length, drop, List, [], None, arith}
+use Rattle.std.proofs.Common.{◌≡◌, ℕ, suc, refl, sym, ◌∙◌, ap, subst, length, drop, List, [], None, arith}
 use Rattle.nc_base.specs.declared.answer.Answer.{Answer}
 use Rattle.nc_base.specs.declared.request.Call.{Call}
-use Rattle.serial_spec.specs.SerialEnd.{setting_of}
+use Rattle.serial_spec.specs.SerialEnd.{setting_of, Going}
 use Rattle.run_laws.specs.Arrivals.{Arrived}
-use Rattle.run_laws.specs.Ways.{IsOnWay}
+use Rattle.run_laws.specs.Ways.{AsksAlone, IsOnWay}
 use Rattle.run_laws.proofs.LawfulLaws.{ranks_lawful}
 use Rattle.run_laws.proofs.TogetherLaws.{call_number}
 use Rattle.turn_run.specs.Counts.{IsCount}
-use Rattle.turn_run.specs.Running.{between, calls_of}
+use Rattle.turn_run.specs.Running.{asking, between, calls_of}
 use Rattle.turn_run.specs.Stages.{arrived}
 use Rattle.turn_run.specs.declared.runners.Runner.{Runner}
 use Rattle.turn_run.proofs.AloneLaws.{alone_asks, arrived_gone, same_runner, taken_asks, way_free, went_runner}
@@ -48,7 +48,10 @@ do_alone-requires-clause-asks g c =
     let all = calls_of script c.args.number in
     let taken = c.in-Some.ensures.taken in
     let asks = alone_asks script header (order_in c.alone.progress.steps) c.args.number all c.alone.runner c.in-Some.offer taken.0 taken.1 c.alone.invariant.runner.placed in
-    asks
+    let now = c.take_alone.new.runner in
+    let same : asking all now ≡ asking all c.alone.runner =
+    (λ i. let rank = c.take_alone.ensures.rank i in let answers = c.take_alone.ensures.answers i in record { rank = rank.state; answers = answers; calls = drop (suc (length answers)) all }) in
+    subst (λ (t : Going). AsksAlone script header (order_in c.alone.progress.steps) c.args.number t c.in-Some.offer) (sym same) asks
 
 pub alone-smaller : goal.alone-smaller
 alone-smaller g c =
