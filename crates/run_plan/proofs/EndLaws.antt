@@ -6,14 +6,13 @@ use Rattle.nc_base.specs.declared.header.Header.{Header}
 use Rattle.nc_base.specs.declared.plan.Extent.{Extent}
 use Rattle.nc_base.specs.declared.script.Script.{Script}
 use Rattle.nc_base.specs.declared.step.DiskCall.{DiskCall}
-use Rattle.nc_base.specs.declared.step.Mark.{Mark}
 use Rattle.serial_spec.specs.DeviceCalls.{run_calls, store_records}
 use Rattle.serial_spec.specs.FileStep.{raised}
 use Rattle.serial_spec.specs.History.{IsLegal}
 use Rattle.serial_spec.specs.Layout.{greatest}
 use Rattle.serial_spec.specs.Lawful.{is_lawful}
 use Rattle.serial_spec.specs.RankMachine as machine
-use Rattle.serial_spec.specs.SerialEnd.{close_by, first_state, serial_from, setting_of, End}
+use Rattle.serial_spec.specs.SerialEnd.{close_by, serial_from, setting_of, End}
 use Rattle.serial_spec.proofs.CountLaws.{raised_records}
 use Rattle.list_laws.proofs.Maps.{map_map}
 use Rattle.collective_round.specs.Rounds.{counted}
@@ -21,7 +20,7 @@ use Rattle.collective_round.proofs.PutLaws.{rises}
 use Rattle.join_laws.specs.Alike.{blank, AreAlikeEnds, IsLike}
 use Rattle.join_laws.proofs.StandsAlike.{close_alike, same_beside}
 use Rattle.run_laws.specs.Arrivals.{ended_from, first_stand, step_to, Arrived, Stand}
-use Rattle.run_laws.proofs.ArrivalLaws.{first_up, gone_up}
+use Rattle.run_laws.proofs.ArrivalLaws.{first_up}
 use Rattle.run_laws.proofs.LawfulLaws.{ranks_lawful}
 use Rattle.step_plan.specs.Steps.{count_call}
 use Rattle.step_plan.specs.declared.plan.StepPlan.{StepPlan}

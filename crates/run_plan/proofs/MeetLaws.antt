@@ -18,12 +18,11 @@ use Rattle.serial_spec.specs.SoundHeaders.{is_sound}
 use Rattle.serial_spec.proofs.CountLaws.{raised_records}
 use Rattle.collective_round.specs.Rounds.{counted, gets_in, puts_in, ArePuts}
 use Rattle.join_laws.proofs.StandsAlike.{offers_beside}
-use Rattle.run_laws.specs.Arrivals.{Arrived}
 use Rattle.step_plan.specs.Steps.{count_call, file_calls, grow_call, windows_in}
 use Rattle.step_plan.specs.declared.plan.FilePlan.{FilePlan}
 use Rattle.step_plan.specs.declared.plan.StepPlan.{StepPlan}
 use Rattle.window_plan.specs.Windows as window
-use Rattle.turn_run.specs.Stages.{arrived_all, stage, HasLed, LeadsAlike}
+use Rattle.turn_run.specs.Stages.{arrived_all, LeadsAlike}
 use Rattle.turn_run.specs.Steps.{batches_of, held_offers, known_of, met}
 use Rattle.turn_run.specs.declared.runners.Runner.{Runner}
 use Rattle.turn_run.proofs.MeetOffers.{AllHold}
@@ -84,9 +83,9 @@ meeting_planned hints s steps calls runners now batches known r n k size later p
         let asked : batches ≡ batches_of (offers_of ps) = e ∙ ap (λ (os : List Offer). batches_of os) (sym offers) in
         record {
           beside = record {
-              long = ap (λ (os : List Offer). length (meeting s os c).0.file) offers ∙ ap (λ (x : Counted). length x.file) file
-                  ∙ met_long s batches known size later c sound are long grows beside.long;
-              like = alike (c, ps) beside.like;
+            long = ap (λ (os : List Offer). length (meeting s os c).0.file) offers ∙ ap (λ (x : Counted). length x.file) file
+                ∙ met_long s batches known size later c sound are long grows beside.long;
+            like = alike (c, ps) beside.like;
           };
           over = ap (λ (cs : List DiskCall). cs ++ [])
               (ap (λ (os : List Offer). meeting_calls hints s os c) offers

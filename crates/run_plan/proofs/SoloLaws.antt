@@ -42,7 +42,7 @@ alone_planned hints s r n steps size later t o step reply to sound are long mark
   led = led;
 }
   where
-    follow : (count : ℕ) (ranks : List Arrived) → slice_get ranks r ≡ Some (t, Some o) 
+    follow : (count : ℕ) (ranks : List Arrived) → slice_get ranks r ≡ Some (t, Some o)
         → Follows hints s (record step { mark = Solo r n } ∷ []) (plan_stage size count ranks) (plan_stage later count (set ranks r to))
     follow count ranks g (c, ps) beside =
         let there = offer_beside ps ranks r t o beside.like.beside g in
@@ -51,8 +51,8 @@ alone_planned hints s r n steps size later t o step reply to sound are long mark
         ∙ ap (λ (k : ℕ). max k (end_for s (needed_now s (puts_of (r, o))))) beside.long ∙ sym grows in
         record {
           beside = record {
-              long = ap (λ (x : Stand). length x.0.file) (step_at s r n c ps there.0 o there.1) ∙ wide;
-              like = alone_alike s r n t o reply to pair records row up count ranks g (c, ps) beside.like;
+            long = ap (λ (x : Stand). length x.0.file) (step_at s r n c ps there.0 o there.1) ∙ wide;
+            like = alone_alike s r n t o reply to pair records row up count ranks g (c, ps) beside.like;
           };
           over = ap (λ (cs : List DiskCall). cs ++ [])
               (call_alone hints s r n c ps there.0 o there.1

@@ -54,9 +54,9 @@ plan_solo-requires-clause-long g c = count_begins c.args.lent.now.header.now c.a
 pub zero_reply-requires : goal.zero_reply-requires
 zero_reply-requires g c = record {
   gets = λ p m. (
-    let fit = asked_fit c.args.lent.now.header.now c.args.progress.now.size c.args.runner.now.rank.state.known c.args.offer.now c.requires.asked c.requires.known in
-    (get_of c.args.lent.now.header.now c.args.progress.now.size c.args.offer.now fit.sound fit.known p m).accepted
-  );
+      let fit = asked_fit c.args.lent.now.header.now c.args.progress.now.size c.args.runner.now.rank.state.known c.args.offer.now c.requires.asked c.requires.known in
+      (get_of c.args.lent.now.header.now c.args.progress.now.size c.args.offer.now fit.sound fit.known p m).accepted
+      );
 }
 
 pub hear-requires-clause-waits : goal.hear-requires-clause-waits
