@@ -27,7 +27,8 @@ use Rattle.turn_run.specs.Steps.{batches_of, held_offers, known_of, met}
 use Rattle.turn_run.specs.declared.runners.Runner.{Runner}
 use Rattle.turn_run.proofs.MeetOffers.{AllHold}
 use Rattle.turn_run.proofs.MeetStep.{meeting_led, met_calls_are, met_is, offers_are, AreDone}
-use Rattle.run_plan.specs.Planned.{plan_stage, Follows, HasPlannedAll, IsMeetingPlan}
+use Rattle.run_plan.specs.Planned.{meeting_callers, plan_stage, Follows, HasPlannedAll, IsMeetingPlan}
+use Rattle.run_plan.proofs.CallerLaws.{callers_beside}
 use Rattle.run_plan.proofs.FileLengths.{puts_long, raised_long}
 
 -- ---- the file after it
@@ -60,9 +61,9 @@ pub meeting_planned : (hints : Hints) (s : Setting) (steps : List StepPlan) (cal
     → n ≡ max r (max (needed_now s (puts_in batches)) known) → map (λ blobs. map (λ blob. length blob) blobs) table ≡ map (λ b. map (wanted s.header) b.gets) batches
     → step.mark ≡ Meet k → later ≡ max size (end_for s (needed_now s (puts_in batches)))
     → file_calls step.file ≡ put_calls s (collective_windows hints) (puts_in batches) size ++ store_records s (nat_lt r n) ++ flat_map loads (collective_windows hints (get_bytes s (gets_in batches)))
-    → IsMeetingPlan s.header hints batches step.file
+    → IsMeetingPlan s.header hints batches step.file → step.callers ≡ meeting_callers runners
     → HasPlannedAll hints s steps (steps ++ step ∷ []) (plan_stage size r (arrived_all s.header calls runners)) (plan_stage later n (arrived_all s.header calls now))
-meeting_planned hints s steps calls runners now batches known r n k size later pair table step sound are long l m w hold d e f p count rows mark grows device plan =
+meeting_planned hints s steps calls runners now batches known r n k size later pair table step sound are long l m w hold d e f p count rows mark grows device plan callers =
     let same : step ≡ record step { mark = Meet k } = λ i. record step { mark = mark i } in
     record {
       more = step ∷ [];
@@ -93,7 +94,13 @@ meeting_planned hints s steps calls runners now batches known r n k size later p
               ∙ (λ i. put_calls s (collective_windows hints) (puts_in batches) (beside.long i) ++ store_records s (nat_lt (beside.like.records i) (sym number i))
               ++ flat_map loads (collective_windows hints (get_bytes s (gets_in batches))))
               ∙ sym device);
-          each = (subst (λ (bs : List Batch). IsMeetingPlan s.header hints bs step.file) asked plan, tt);
+          each = (
+            record {
+              callers = callers ∙ callers_beside s.header calls runners ps l hold beside.like.beside;
+              file = subst (λ (bs : List Batch). IsMeetingPlan s.header hints bs step.file) asked plan;
+            },
+            tt,
+          );
         }
 
 -- the calls of the step, by those of its puts, of its count and of its gets

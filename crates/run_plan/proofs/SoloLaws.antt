@@ -24,18 +24,18 @@ use Rattle.step_plan.specs.declared.plan.FilePlan.{FilePlan}
 use Rattle.step_plan.specs.declared.plan.StepPlan.{StepPlan}
 use Rattle.window_plan.specs.Windows as window
 use Rattle.turn_run.proofs.AloneLaws.{alone_alike, call_alone, step_at}
-use Rattle.run_plan.specs.Planned.{plan_stage, rank_plan, Follows, HasPlanned, IsSoloOf, IsSoloPlan}
+use Rattle.run_plan.specs.Planned.{caller, plan_stage, rank_plan, Follows, HasPlanned, IsSoloOf, IsSoloPlan}
 use Rattle.run_plan.proofs.FileLengths.{puts_long}
 use Rattle.run_plan.proofs.NearLaws.{offer_beside}
 
 pub alone_planned : (hints : Hints) (s : Setting) (r n : ℕ) (steps : List StepPlan) (size later : ℕ) (t : Going) (o : Offer) (step : StepPlan) (reply : Reply) (to : Arrived)
     → is_sound s.header ≡ true → ArePuts s.header (puts_of (r, o)) → end_for s 0 ≤ size → step.mark ≡ Solo r n
     → file_calls step.file ≡ put_calls s (sieving_windows hints.wr_buffer) (puts_of (r, o)) size ++ flat_map loads (sieving_windows hints.rd_buffer (get_bytes s (gets_of o)))
-    → IsSoloPlan s.header hints r o.batch step.file
+    → IsSoloPlan s.header hints r o.batch step.file → step.callers ≡ caller r n ∷ []
     → reply.pair ≡ told s (puts_of (r, o)) → reply.records ≡ max o.known (needed_now s (puts_of (r, o))) → map (λ b. length b) reply.got ≡ map (wanted s.header) o.batch.gets
     → later ≡ max size (end_for s (needed_now s (puts_of (r, o)))) → to ≡ advance s.header (hears s.header t reply)
     → HasPlanned hints s r (rank_plan steps size (t, Some o)) (rank_plan (steps ++ step ∷ []) later to)
-alone_planned hints s r n steps size later t o step reply to sound are long mark device plan pair records row grows up = record {
+alone_planned hints s r n steps size later t o step reply to sound are long mark device plan callers pair records row grows up = record {
   more = step ∷ [];
   grown = refl;
   own = ap (λ (m : Mark). list_all (is_solo_of r) (m ∷ [])) mark ∙ one_of r n;
@@ -58,7 +58,7 @@ alone_planned hints s r n steps size later t o step reply to sound are long mark
               (call_alone hints s r n c ps there.0 o there.1
               ∙ ap (λ (k : ℕ). put_calls s (sieving_windows hints.wr_buffer) (puts_of (r, o)) k ++ flat_map loads (sieving_windows hints.rd_buffer (get_bytes s (gets_of o)))) beside.long
               ∙ sym device);
-          each = (subst (λ (m : Option Offer). IsSoloOf s.header hints r m step.file) (sym (offered ps there.0 there.1)) plan, tt);
+          each = (record { callers = callers; file = subst (λ (m : Option Offer). IsSoloOf s.header hints r m step.file) (sym (offered ps there.0 there.1)) plan }, tt);
         }
       where
         offered : (ps : List Arrived) (u : Going) → slice_get ps r ≡ Some (u, Some o) → offer_at ps r ≡ Some o

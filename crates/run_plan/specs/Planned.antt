@@ -1,5 +1,7 @@
 -- How a plan follows a run, whatever the bytes of the file are. (own; the steps are those of serial_spec)
 --     order_in steps, calls_in steps    the marks and the device calls of steps that are planned
+--     callers_at ranks mark             who comes to a step, and with which call: each rank with its next one, or one rank alone
+--     meeting_callers runners           the same of runners that meet
 --     IsMeetingPlan, IsSoloPlan         a step that is planned by the requests of all ranks, or of one
 --     AreStepsOf hints s stand steps    each step is planned by the offers that the ranks hold there, from this stand on
 --     PlanStage                         what a plan knows between two steps: bytes and records of the file, and ranks at their next offers
@@ -8,7 +10,7 @@
 --     RankPlan, HasPlanned              the same of one rank, whatever stands beside it
 --     HasPlannedAll                     the steps that were added
 use Rattle.std.specs.Prelude.{◌≡◌, ℕ, List, [], ◌∷◌, ◌++◌, map, flat_map, fold, length, set, Option, Some, None, true, slice_get}
-use Rattle.std.specs.List.{list_all}
+use Rattle.std.specs.List.{enumerate_from, list_all}
 use Rattle.nc_base.specs.declared.header.Header.{Header}
 use Rattle.nc_base.specs.declared.plan.Batch.{Batch}
 use Rattle.nc_base.specs.declared.request.Direction.TheVariants as direction
@@ -26,15 +28,36 @@ use Rattle.run_laws.specs.Arrivals.{calls_over, offer_at, step_to, Arrived, Stan
 use Rattle.step_plan.specs.Asked.{asked_by_all}
 use Rattle.step_plan.specs.Phases.{HaveGetDomains, HaveGetWindows, HavePutDomains, HavePutWindows}
 use Rattle.step_plan.specs.Steps.{file_calls}
+use Rattle.step_plan.specs.declared.plan.Caller.{Caller}
 use Rattle.step_plan.specs.declared.plan.FilePlan.{FilePlan}
 use Rattle.step_plan.specs.declared.plan.StepPlan.{StepPlan}
 use Rattle.turn_run.specs.Steps.{batches_of}
+use Rattle.turn_run.specs.declared.runners.Runner.{Runner}
 
 abbrev pub order_in : List StepPlan → List Mark
 order_in steps = map (λ step. step.mark) steps
 
 abbrev pub calls_in : List StepPlan → List DiskCall
 calls_in steps = flat_map (λ step. file_calls step.file) steps
+
+-- ---- callers
+
+abbrev pub caller : ℕ → ℕ → Caller
+caller rank call = record { rank = rank; call = call }
+
+-- the next call of a rank is the one after those that it has answered
+abbrev pub caller_at : ℕ × Arrived → Caller
+caller_at p = caller p.0 (length p.1.0.answers)
+
+abbrev pub callers_at : List Arrived → Mark → List Caller
+callers_at ranks (Meet k) = map caller_at (enumerate_from 0 ranks)
+callers_at ranks (Solo r n) = caller r n ∷ []
+
+abbrev pub runner_caller : ℕ × Runner → Caller
+runner_caller p = caller p.0 (length p.1.answers)
+
+abbrev pub meeting_callers : List Runner → List Caller
+meeting_callers runners = map runner_caller (enumerate_from 0 runners)
 
 -- ---- steps by the requests of their ranks
 
@@ -57,13 +80,17 @@ IsSoloOf header hints r None file = ⊥
 IsSoloOf header hints r (Some o) file = IsSoloPlan header hints r o.batch file
 
 -- by the offers that the ranks hold
-abbrev pub IsStepOf : Hints → Setting → Stand → Mark → FilePlan → Type 0
-IsStepOf hints s stand (Meet k) file = IsMeetingPlan s.header hints (batches_of (offers_of stand.1)) file
-IsStepOf hints s stand (Solo r n) file = IsSoloOf s.header hints r (offer_at stand.1 r) file
+abbrev pub IsFileOf : Hints → Setting → Stand → Mark → FilePlan → Type 0
+IsFileOf hints s stand (Meet k) file = IsMeetingPlan s.header hints (batches_of (offers_of stand.1)) file
+IsFileOf hints s stand (Solo r n) file = IsSoloOf s.header hints r (offer_at stand.1 r) file
+
+pub record IsStepOf (hints : Hints) (s : Setting) (stand : Stand) (step : StepPlan) : Type 0 where
+  pub callers : step.callers ≡ callers_at stand.1 step.mark
+  pub file : IsFileOf hints s stand step.mark step.file
 
 abbrev pub AreStepsOf : Hints → Setting → Stand → List StepPlan → Type 0
 AreStepsOf hints s stand [] = Unit {0}
-AreStepsOf hints s stand (step ∷ steps) = IsStepOf hints s stand step.mark step.file × AreStepsOf hints s (step_to s stand step.mark) steps
+AreStepsOf hints s stand (step ∷ steps) = IsStepOf hints s stand step × AreStepsOf hints s (step_to s stand step.mark) steps
 
 -- ---- stages
 

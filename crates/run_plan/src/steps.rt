@@ -14,7 +14,7 @@ ghost use Rattle.turn_run.specs.Stages.{arrived, arrived_all};
 ghost use Rattle.turn_run.specs.declared.runners.Runner as runner;
 ghost use Rattle.vara_extents.specs.Accepted.{IsAccepted};
 ghost use Rattle.var_layout.specs.Measures.{AreMeasures};
-ghost use Rattle.run_plan.specs.Planned.{order_in, plan_stage, rank_plan, HasPlanned, HasPlannedAll};
+ghost use Rattle.run_plan.specs.Planned.{caller, meeting_callers, order_in, plan_stage, rank_plan, HasPlanned, HasPlannedAll};
 
 use collective_round::{Dataset, table_for, zeros_for};
 use nc_base::{Batch, Header, Mark, Memory, Offer, OfferKind, Reply, Script};
@@ -169,7 +169,9 @@ fn zero_reply(
     })
 }
 
-fn one_caller(alloc: Global, rank: u32, call: u32) -> Result<CallerList, Memory> {
+fn one_caller(alloc: Global, rank: u32, call: u32) -> Result<CallerList, Memory>
+    ensures { IfOk result (λ callers. callers ≡ caller rank call ∷ []) }
+{
     let mut callers = CallerList::new(alloc);
     callers.push(Caller { rank, call })?;
     Ok(callers)
@@ -228,6 +230,7 @@ pub(crate) fn meet<R: Wait>(
 fn callers_of(alloc: Global, runners: &[Runner]) -> Result<CallerList, Memory>
     requires ranks { length runners.now ≤ 64 }
     requires answers { (r : ℕ) → (x : runner.Runner) → slice_get runners.now r ≡ Some x → length x.answers < 2 ^ 32 }
+    ensures { IfOk result (λ callers. callers ≡ meeting_callers runners.now) }
 {
     let mut callers = CallerList::new(alloc);
     for (rank, runner) in runners.iter().enumerate() {

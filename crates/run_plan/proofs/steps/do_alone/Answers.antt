@@ -121,6 +121,7 @@ returns-clause-planned g c =
       put_windows = c.in_ok-planned.ensures.put_windows;
       get_windows = c.in_ok-planned.ensures.get_windows;
     })
+    c.in_ok-callers.ensures
     (c.in_ok-reply.ensures.pair ∙ c.in_ok-planned.ensures.overlap)
     (c.in_ok-reply.ensures.records ∙ ap (max c.args.offer.now.known) c.in_ok-planned.ensures.records) c.in_ok-reply.ensures.row
     (c.add.ensures.size ∙ c.in_ok-planned.ensures.size) up)

@@ -146,4 +146,5 @@ returns-clause-planned g c =
       asked_get = c.in_ok-planned.ensures.asked_get;
       put_domains = c.in_ok-planned.ensures.put_domains;
       get_domains = c.in_ok-planned.ensures.get_domains;
-    }))
+    })
+    c.in_ok-callers.ensures)
