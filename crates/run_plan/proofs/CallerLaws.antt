@@ -1,0 +1,70 @@
+-- Who comes to a meeting, and with which call.
+use Rattle.std.proofs.Common.{◌≡◌, ℕ, suc, ◌+◌, ◌<◌, ◌^◌, refl, sym, ◌∙◌, ap, List, [], ◌∷◌, ◌++◌, length, map, drop, get_or, Option, Some, None, append_assoc, arith}
+use Rattle.std.proofs.lemmas.List.{drop_more, length-map}
+use Rattle.std.specs.Prelude.{slice_get}
+use Rattle.std.specs.List.{enumerate_from}
+use Rattle.list_laws.proofs.Optional.{value_of_some}
+use Rattle.nc_base.specs.declared.answer.Answer.{Answer}
+use Rattle.nc_base.specs.declared.header.Header.{Header}
+use Rattle.nc_base.specs.declared.request.Call.{Call}
+use Rattle.nc_base.specs.declared.script.Script.{Script}
+use Rattle.nc_base.specs.declared.step.Mark.{Mark}
+use Rattle.nc_base.specs.declared.step.Offer.{Offer}
+use Rattle.serial_spec.specs.SerialEnd.{Going}
+use Rattle.join_laws.specs.Alike.{blank, AllBeside, AreNear}
+use Rattle.run_laws.specs.Arrivals.{Arrived}
+use Rattle.step_plan.specs.declared.plan.Caller.{Caller}
+use Rattle.turn_run.specs.Running.{AreRunners, HaveArrived}
+use Rattle.turn_run.specs.Stages.{arrived, arrived_all}
+use Rattle.turn_run.specs.declared.runners.Runner.{Runner}
+use Rattle.turn_run.proofs.AloneLaws.{arrived_held}
+use Rattle.turn_run.proofs.MeetOffers.{AllHold}
+use Rattle.turn_run.proofs.TurnEnds.{comes, free, holding, Comes}
+use Rattle.run_plan.specs.Planned.{caller, caller_at, meeting_callers, runner_caller}
+
+-- ---- few calls are answered
+
+few_of : (script : Script) (order : List Mark) (r : ℕ) (runner : Runner) (m : Option Offer) → runner.held ≡ m → Comes script order r runner → length runner.answers < 2 ^ 32
+few_of script order r runner None e w = let few = (free script order r runner e w).few in omega arith
+few_of script order r runner (Some o) e w = let few = (holding script order r runner o e w).few in omega arith
+
+pub few_answers : (script : Script) (header : Header) (len : ℕ) (order : List Mark) (runners : List Runner) → AreRunners script header len order runners → HaveArrived script runners
+    → (r : ℕ) (runner : Runner) → slice_get runners r ≡ Some runner → length runner.answers < 2 ^ 32
+few_answers script header len order runners all arrived r runner e = few_of script order r runner runner.held refl (comes script header len order runners all arrived r runner e)
+
+-- ---- one rank after another
+
+-- one more has come: with those that are left they are still all
+pub one_more : (runners : List Runner) (i : ℕ) (x : Runner) (done now whole : List Caller) → i < length runners → x ≡ get_or runners i x → now ≡ done ++ runner_caller (i, x) ∷ []
+    → done ++ map runner_caller (enumerate_from i (drop i runners)) ≡ whole → now ++ map runner_caller (enumerate_from (i + 1) (drop (i + 1) runners)) ≡ whole
+one_more runners i x done now whole l is step all =
+    let rest = map runner_caller (enumerate_from (i + 1) (drop (i + 1) runners)) in
+    ap (λ (cs : List Caller). cs ++ rest) step ∙ append_assoc done (runner_caller (i, x) ∷ []) rest
+    ∙ ap (λ (y : Runner). done ++ map runner_caller (enumerate_from i (y ∷ drop (i + 1) runners))) is
+    ∙ ap (λ (ys : List Runner). done ++ map runner_caller (enumerate_from i ys)) (sym (drop_more runners i x l)) ∙ all
+
+-- ---- those of the run
+
+as_many : (g h : Going) → AreNear g h → length g.answers ≡ length h.answers
+as_many g h n = sym (length-map g.answers blank) ∙ ap (λ (xs : List Answer). length xs) n.answers ∙ length-map h.answers blank
+
+beside : (ps qs : List Arrived) (first : ℕ) → AllBeside ps qs → map caller_at (enumerate_from first ps) ≡ map caller_at (enumerate_from first qs)
+beside [] [] first h = refl
+beside [] (q ∷ qs) first h = absurd h
+beside (p ∷ ps) [] first h = absurd h
+beside (p ∷ ps) (q ∷ qs) first h = let many = as_many p.0 q.0 h.0.0 in let others = beside ps qs (first + 1) h.1 in λ i. caller first (many i) ∷ others i
+
+held : (header : Header) (calls : List (List Call)) (runners : List Runner) (first : ℕ) → length calls ≡ length runners → AllHold runners
+    → map caller_at (enumerate_from first (arrived_all header calls runners)) ≡ map runner_caller (enumerate_from first runners)
+held header [] [] first l m = refl
+held header [] (x ∷ runners) first l m = absurd (omega arith)
+held header (own ∷ calls) [] first l m = absurd (omega arith)
+held header (own ∷ calls) (x ∷ runners) first l m =
+    let p = value_of_some x.held (m 0 x refl) in
+    let there = arrived_held header own x p.0 p.1 in
+    let others = held header calls runners (first + 1) (omega arith) (λ q s g. m (suc q) s g) in
+    λ i. caller_at (first, there i) ∷ others i
+
+pub callers_beside : (header : Header) (calls : List (List Call)) (runners : List Runner) (ps : List Arrived) → length calls ≡ length runners → AllHold runners
+    → AllBeside ps (arrived_all header calls runners) → meeting_callers runners ≡ map caller_at (enumerate_from 0 ps)
+callers_beside header calls runners ps l m h = sym (held header calls runners 0 l m) ∙ sym (beside ps (arrived_all header calls runners) 0 h)
