@@ -3,3 +3,4 @@ pub mod Naive
 pub mod Cells
 pub mod Served
 pub mod Summed
+pub mod Examples

@@ -1,5 +1,5 @@
 // What each rank gives each aggregator, and gets from it.
-ghost use Rattle.std.specs.Prelude.{◌≡◌, ◌++◌, ◌∷◌, [], ◌↔◌, true, filter, flat_map, map, IfOk, OnOk, IsTrue};
+ghost use Rattle.std.specs.Prelude.{◌≡◌, ◌++◌, ◌∷◌, [], ◌==◌, ◌↔◌, true, filter, flat_map, map, IfOk, OnOk, IsTrue, if◌then◌else◌};
 ghost use Rattle.std.specs.List.{range_with_len};
 ghost use Rattle.plan_sums.specs.Cells.{bytes_of, cells_in, is_served_by, shares_by, shares_in, some_cell};
 ghost use Rattle.plan_sums.specs.Served.{cell_of, served_by};
@@ -83,11 +83,15 @@ fn bytes_of(shares: &[Share], rank: u32) -> u64
 {
     let mut bytes: u64 = 0;
     for share in shares {
-        if share.rank == rank {
-            bytes = bytes.saturating_add(share.bytes);
-        }
+        bytes = bytes.saturating_add(own_bytes(share, rank));
     }
     bytes
+}
+
+fn own_bytes(share: &Share, rank: u32) -> u64
+    ensures { result ≡ (if share.now.rank == rank then share.now.bytes else 0) }
+{
+    if share.rank == rank { share.bytes } else { 0 }
 }
 
 // What each of so many aggregators serves.
@@ -96,10 +100,12 @@ fn served_by_all(alloc: Global, steps: &[StepPlan], nodes: u32) -> Result<Vec<Se
 {
     let mut all = Vec::new(alloc);
     for aggregator in 0..nodes {
+        let puts = shares_by(alloc, steps, Direction::Put, aggregator)?;
+        let gets = shares_by(alloc, steps, Direction::Get, aggregator)?;
         all.push(Served {
             aggregator,
-            puts: shares_by(alloc, steps, Direction::Put, aggregator)?,
-            gets: shares_by(alloc, steps, Direction::Get, aggregator)?,
+            puts,
+            gets,
         })?;
     }
     Ok(all)
@@ -131,9 +137,21 @@ fn push_served(
     ensures { OnOk result (shares.new.items ≡ shares.old.items ++ shares_in (filter (is_served_by aggregator) domains.now)) }
 {
     for domain in domains {
-        if is_served_by(domain, aggregator) {
-            push_shares(shares, domain.windows.as_slice())?;
-        }
+        push_domain(shares, domain, aggregator)?;
+    }
+    Ok(())
+}
+
+// Adds those of a domain, if the aggregator serves it.
+fn push_domain(
+    shares: &mut Vec<Share>,
+    domain: &DomainPlan,
+    aggregator: u32,
+) -> Result<(), Memory>
+    ensures { OnOk result (shares.new.items ≡ shares.old.items ++ shares_in (filter (is_served_by aggregator) (domain.now ∷ []))) }
+{
+    if is_served_by(domain, aggregator) {
+        push_shares(shares, domain.windows.as_slice())?;
     }
     Ok(())
 }

@@ -6,6 +6,7 @@ mod cells;
 mod naive;
 mod sums;
 mod tally;
+pub mod worked;
 
 pub use cells::{Cell, CellList};
 pub use naive::Naive;

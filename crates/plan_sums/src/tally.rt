@@ -37,12 +37,18 @@ impl Tally {
         requires { 1 ≤ unit }
         ensures { (before : List Extent) → self ≡ tally_of unit before → result ≡ tally_of unit (before ++ extent ∷ []) }
     {
+        let calls = self.calls.saturating_add(1);
+        let bytes = self.bytes.saturating_add(extent.len);
+        let least = self.least_with(extent.len);
+        let most = self.most.max(extent.len);
+        let one = strays(extent, unit);
+        let unaligned = self.unaligned.saturating_add(one);
         Tally {
-            calls: self.calls.saturating_add(1),
-            bytes: self.bytes.saturating_add(extent.len),
-            least: self.least_with(extent.len),
-            most: self.most.max(extent.len),
-            unaligned: self.unaligned.saturating_add(strays(extent, unit)),
+            calls,
+            bytes,
+            least,
+            most,
+            unaligned,
         }
     }
 
