@@ -8,6 +8,7 @@ use Rattle.std.proofs.lemmas.List.Folds.{flat_map-map}
 use Rattle.std.proofs.lemmas.List.Sums.{sum_by_push}
 use Rattle.std.proofs.lemmas.Grind.{flat_map-append}
 use Rattle.nc_base.specs.declared.request.Direction.{Direction}
+use Rattle.nc_base.specs.declared.request.Direction.TheVariants.{Put, Get}
 use Rattle.window_plan.specs.declared.plan.Share.{Share}
 use Rattle.window_plan.specs.declared.plan.WindowPlan.{WindowPlan}
 use Rattle.step_plan.specs.Steps.{windows_in}
@@ -71,10 +72,15 @@ domain_more aggregator domains i d begun old new there is before more =
 
 -- ---- one rank or aggregator more
 
-pub served_more : (steps : List StepPlan) (n : ℕ) (old new : List Served) → old ≡ map (served_by steps) (range_with_len 0 n) → new ≡ old ++ served_by steps n ∷ []
+pub served_more : (steps : List StepPlan) (n : ℕ) (puts gets : List Share) (old new : List Served) → puts ≡ shares_by n Put steps → gets ≡ shares_by n Get steps
+    → old ≡ map (served_by steps) (range_with_len 0 n) → new ≡ old ++ record { aggregator = n; puts = puts; gets = gets } ∷ []
     → new ≡ map (served_by steps) (range_with_len 0 (n + 1))
-served_more steps n old new before more =
-    more ∙ ap (λ (all : List Served). all ++ served_by steps n ∷ []) before
+served_more steps n puts gets old new given taken before more =
+    let made : Served = record { aggregator = n; puts = puts; gets = gets } in
+    let one : made ≡ served_by steps n = λ i. record { aggregator = n; puts = given i; gets = taken i } in
+    more
+    ∙ ap (λ (served : Served). old ++ served ∷ []) one
+    ∙ ap (λ (all : List Served). all ++ served_by steps n ∷ []) before
     ∙ sym (ap (λ (ks : List ℕ). map (served_by steps) ks) (next_range n) ∙ map-append (served_by steps) (range_with_len 0 n) (n ∷ []))
 
 pub rank_more : (steps : List StepPlan) (rank nodes : ℕ) (all : List Served) (old new : List Cell) → all ≡ map (served_by steps) (range_with_len 0 nodes)

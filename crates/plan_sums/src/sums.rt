@@ -49,14 +49,16 @@ pub fn sum_up(
     let moved = count(&in_steps, striping_unit);
     let naive_reads = naive_of(steps, Direction::Get);
     let naive_writes = naive_of(steps, Direction::Put);
+    let read_over = moved.reads.bytes.saturating_sub(naive_reads.bytes);
+    let written_over = moved.writes.bytes.saturating_sub(naive_writes.bytes);
     Ok(Sums {
         grows: all.grows,
         reads: all.reads,
         writes: all.writes,
         naive_reads,
         naive_writes,
-        read_over: moved.reads.bytes.saturating_sub(naive_reads.bytes),
-        written_over: moved.writes.bytes.saturating_sub(naive_writes.bytes),
+        read_over,
+        written_over,
         matrix,
     })
 }
