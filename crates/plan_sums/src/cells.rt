@@ -143,11 +143,7 @@ fn push_served(
 }
 
 // Adds those of a domain, if the aggregator serves it.
-fn push_domain(
-    shares: &mut Vec<Share>,
-    domain: &DomainPlan,
-    aggregator: u32,
-) -> Result<(), Memory>
+fn push_domain(shares: &mut Vec<Share>, domain: &DomainPlan, aggregator: u32) -> Result<(), Memory>
     ensures { OnOk result (shares.new.items ≡ shares.old.items ++ shares_in (filter (is_served_by aggregator) (domain.now ∷ []))) }
 {
     if is_served_by(domain, aggregator) {
