@@ -1,0 +1,17 @@
+-- What one rank more asks for.
+use Rattle.std.proofs.Common.{◌≡◌, ℕ, ◌+◌, ◌-◌, ◌^◌, ap, List, [], ◌∷◌, ◌++◌, min, arith}
+use Rattle.std.proofs.lemmas.List.Sums.{sum_by_push}
+use Rattle.step_plan.specs.declared.plan.Asked.{Asked}
+use Rattle.plan_sums.specs.Naive.{naive_sum}
+use Rattle.plan_sums.specs.declared.naive.Naive.{Naive}
+
+pub asked_more : (before : List Asked) (one : Asked) (n : Naive) (calls bytes : ℕ) → n ≡ naive_sum before → calls ≡ min (n.calls + one.pieces) (2 ^ 64 - 1)
+    → bytes ≡ min (n.bytes + one.bytes) (2 ^ 64 - 1) → record { calls = calls; bytes = bytes } ≡ naive_sum (before ++ one ∷ [])
+asked_more before one n calls bytes is many long =
+    let was_many : n.calls ≡ (naive_sum before).calls = ap (λ (x : Naive). x.calls) is in
+    let was_long : n.bytes ≡ (naive_sum before).bytes = ap (λ (x : Naive). x.bytes) is in
+    let pieces = sum_by_push (λ (a : Asked). a.pieces) before one in
+    let more = sum_by_push (λ (a : Asked). a.bytes) before one in
+    let calls_so : calls ≡ (naive_sum (before ++ one ∷ [])).calls = omega arith in
+    let bytes_so : bytes ≡ (naive_sum (before ++ one ∷ [])).bytes = omega arith in
+    λ i. record { calls = calls_so i; bytes = bytes_so i }

@@ -1,0 +1,95 @@
+-- What goes between ranks and aggregators, one thing more.
+use Rattle.std.proofs.Common.{◌≡◌, ◌<◌, ℕ, ◌+◌, ◌-◌, ◌^◌, refl, sym, ◌∙◌, ap, List, [], ◌∷◌, ◌++◌, length, map, take, get_or, min, Bool, true, false, cond, arith}
+use Rattle.std.specs.Prelude.{◌==◌, filter, flat_map}
+use Rattle.std.specs.List.{range_with_len, sum_by}
+use Rattle.std.proofs.lemmas.List.{append-nil, append_assoc, map-append, take_more}
+use Rattle.std.proofs.lemmas.List.Elements.{filter-append}
+use Rattle.std.proofs.lemmas.List.Folds.{flat_map-map}
+use Rattle.std.proofs.lemmas.List.Sums.{sum_by_push}
+use Rattle.std.proofs.lemmas.Grind.{flat_map-append}
+use Rattle.nc_base.specs.declared.request.Direction.{Direction}
+use Rattle.nc_base.specs.declared.request.Direction.TheVariants.{Put, Get}
+use Rattle.window_plan.specs.declared.plan.Share.{Share}
+use Rattle.window_plan.specs.declared.plan.WindowPlan.{WindowPlan}
+use Rattle.step_plan.specs.Steps.{windows_in}
+use Rattle.step_plan.specs.declared.plan.DomainPlan.{DomainPlan}
+use Rattle.step_plan.specs.declared.plan.StepPlan.{StepPlan}
+use Rattle.plan_sums.specs.Cells.{bytes_of, cell, cells_in, domains_in, is_served_by, shares_by, shares_in, some_cell}
+use Rattle.plan_sums.specs.Naive.{phase_of}
+use Rattle.plan_sums.specs.Served.{cell_of, served_by}
+use Rattle.plan_sums.specs.declared.cells.Cell.{Cell}
+use Rattle.plan_sums.specs.declared.cells.Served.{Served}
+use Rattle.plan_sums.proofs.ListLaws.{flat_next, flat_push, next_range}
+
+-- ---- a rank's bytes
+
+pub share_more : (rank : ℕ) (shares : List Share) (s : Share) (bytes own now : ℕ) → bytes ≡ bytes_of rank shares → own ≡ cond (s.rank == rank) s.bytes 0
+    → now ≡ min (bytes + own) (2 ^ 64 - 1) → now ≡ bytes_of rank (shares ++ s ∷ [])
+share_more rank shares s bytes own now before is sum = by_test (s.rank == rank) refl is
+  where
+    ours : List Share
+    ours = filter (λ x. x.rank == rank) shares
+
+    joined : (t : Bool) → s.rank == rank ≡ t → bytes_of rank (shares ++ s ∷ []) ≡ min (sum_by (λ x. x.bytes) (ours ++ cond t (s ∷ []) [])) (2 ^ 64 - 1)
+    joined t e = ap (λ (ss : List Share). min (sum_by (λ x. x.bytes) ss) (2 ^ 64 - 1))
+        (filter-append (λ x. x.rank == rank) shares (s ∷ []) ∙ ap (λ (b : Bool). ours ++ cond b (s ∷ []) []) e)
+
+    by_test : (t : Bool) → s.rank == rank ≡ t → own ≡ cond t s.bytes 0 → now ≡ bytes_of rank (shares ++ s ∷ [])
+    by_test true e one = let whole = joined true e in let more = sum_by_push (λ (x : Share). x.bytes) ours s in omega arith
+    by_test false e one = let whole = joined false e ∙ ap (λ (ss : List Share). min (sum_by (λ x. x.bytes) ss) (2 ^ 64 - 1)) (append-nil ours) in omega arith
+
+-- ---- the shares of domains
+
+pub shares_join : (aggregator : ℕ) (xs ys : List DomainPlan)
+    → shares_in (filter (is_served_by aggregator) (xs ++ ys)) ≡ shares_in (filter (is_served_by aggregator) xs) ++ shares_in (filter (is_served_by aggregator) ys)
+shares_join aggregator xs ys =
+    ap shares_in (filter-append (is_served_by aggregator) xs ys)
+    ∙ ap (λ (ws : List WindowPlan). flat_map (λ w. w.shares) ws) (flat_map-append (λ (d : DomainPlan). d.windows) (filter (is_served_by aggregator) xs) (filter (is_served_by aggregator) ys))
+    ∙ flat_map-append (λ (w : WindowPlan). w.shares) (windows_in (filter (is_served_by aggregator) xs)) (windows_in (filter (is_served_by aggregator) ys))
+
+-- of one step more
+pub step_more : (aggregator : ℕ) (direction : Direction) (steps : List StepPlan) (i : ℕ) (step : StepPlan) (domains : List DomainPlan) (old new : List Share) → i < length steps
+    → step ≡ get_or steps i step → old ≡ shares_by aggregator direction (take i steps) → domains ≡ (phase_of direction step).domains
+    → new ≡ old ++ shares_in (filter (is_served_by aggregator) domains) → new ≡ shares_by aggregator direction (take (i + 1) steps)
+step_more aggregator direction steps i step domains old new there is before own more =
+    more
+    ∙ ap (λ (ss : List Share). ss ++ shares_in (filter (is_served_by aggregator) domains)) before
+    ∙ sym (shares_join aggregator (domains_in direction (take i steps)) domains)
+    ∙ ap (λ (ds : List DomainPlan). shares_in (filter (is_served_by aggregator) ds))
+    (ap (λ (ds : List DomainPlan). domains_in direction (take i steps) ++ ds) own ∙ flat_next (λ (s : StepPlan). (phase_of direction s).domains) steps i step there is)
+
+-- of one domain more
+pub domain_more : (aggregator : ℕ) (domains : List DomainPlan) (i : ℕ) (d : DomainPlan) (begun old new : List Share) → i < length domains → d ≡ get_or domains i d
+    → old ≡ begun ++ shares_in (filter (is_served_by aggregator) (take i domains)) → new ≡ old ++ shares_in (filter (is_served_by aggregator) (d ∷ []))
+    → new ≡ begun ++ shares_in (filter (is_served_by aggregator) (take (i + 1) domains))
+domain_more aggregator domains i d begun old new there is before more =
+    more
+    ∙ ap (λ (ss : List Share). ss ++ shares_in (filter (is_served_by aggregator) (d ∷ []))) before
+    ∙ append_assoc begun _ _
+    ∙ ap (λ (ss : List Share). begun ++ ss) (sym (shares_join aggregator (take i domains) (d ∷ []))
+    ∙ ap (λ (ds : List DomainPlan). shares_in (filter (is_served_by aggregator) ds))
+    (ap (λ (x : DomainPlan). take i domains ++ x ∷ []) is ∙ sym (take_more domains i d there)))
+
+-- ---- one rank or aggregator more
+
+pub served_more : (steps : List StepPlan) (n : ℕ) (puts gets : List Share) (old new : List Served) → puts ≡ shares_by n Put steps → gets ≡ shares_by n Get steps
+    → old ≡ map (served_by steps) (range_with_len 0 n) → new ≡ old ++ record { aggregator = n; puts = puts; gets = gets } ∷ []
+    → new ≡ map (served_by steps) (range_with_len 0 (n + 1))
+served_more steps n puts gets old new given taken before more =
+    let made : Served = record { aggregator = n; puts = puts; gets = gets } in
+    let one : made ≡ served_by steps n = λ i. record { aggregator = n; puts = given i; gets = taken i } in
+    more
+    ∙ ap (λ (served : Served). old ++ served ∷ []) one
+    ∙ ap (λ (all : List Served). all ++ served_by steps n ∷ []) before
+    ∙ sym (ap (λ (ks : List ℕ). map (served_by steps) ks) (next_range n) ∙ map-append (served_by steps) (range_with_len 0 n) (n ∷ []))
+
+pub rank_more : (steps : List StepPlan) (rank nodes : ℕ) (all : List Served) (old new : List Cell) → all ≡ map (served_by steps) (range_with_len 0 nodes)
+    → old ≡ cells_in steps rank nodes → new ≡ old ++ flat_map (λ served. some_cell (cell_of rank served)) all → new ≡ cells_in steps (rank + 1) nodes
+rank_more steps rank nodes all old new are before more =
+    more
+    ∙ ap (λ (cells : List Cell). cells ++ flat_map (λ served. some_cell (cell_of rank served)) all) before
+    ∙ ap (λ (cells : List Cell). cells_in steps rank nodes ++ cells)
+    (ap (λ (served : List Served). flat_map (λ one. some_cell (cell_of rank one)) served) are
+    ∙ flat_map-map (λ (served : Served). some_cell (cell_of rank served)) (served_by steps) (range_with_len 0 nodes))
+    ∙ sym (ap (λ (ks : List ℕ). flat_map (λ r. flat_map (λ a. some_cell (cell steps r a)) (range_with_len 0 nodes)) ks) (next_range rank)
+    ∙ flat_push (λ (r : ℕ). flat_map (λ a. some_cell (cell steps r a)) (range_with_len 0 nodes)) (range_with_len 0 rank) rank)

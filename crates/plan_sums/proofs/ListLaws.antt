@@ -1,0 +1,29 @@
+-- Lists of lists, one element more.
+use Rattle.std.proofs.Common.{◌≡◌, ◌<◌, ℕ, suc, ◌+◌, sym, ◌∙◌, ap, List, [], ◌∷◌, ◌++◌, length, take, get_or, arith}
+use Rattle.std.specs.Prelude.{flat_map}
+use Rattle.std.specs.List.{range_with_len}
+use Rattle.std.proofs.lemmas.List.{append_assoc, flat_map_more, take_more}
+use Rattle.list_laws.proofs.Ranges.{range_push}
+
+pub flat_push : {X Y : Type 0} (f : X → List Y) (xs : List X) (x : X) → flat_map f (xs ++ x ∷ []) ≡ flat_map f xs ++ f x
+flat_push f xs x = sym (flat_map_more f [] xs x)
+
+pub flat_next : {X Y : Type 0} (f : X → List Y) (xs : List X) (i : ℕ) (x : X) → i < length xs → x ≡ get_or xs i x → flat_map f (take i xs) ++ f x ≡ flat_map f (take (i + 1) xs)
+flat_next {X} f xs i x there is =
+    ap (λ (y : X). flat_map f (take i xs) ++ f y) is
+    ∙ sym (ap (λ (ys : List X). flat_map f ys) (take_more xs i x there) ∙ flat_push f (take i xs) (get_or xs i x))
+
+pub flat_added : {X Y : Type 0} (f : X → List Y) (xs : List X) (i : ℕ) (x : X) (begun old new : List Y) → i < length xs → x ≡ get_or xs i x → old ≡ begun ++ flat_map f (take i xs)
+    → new ≡ old ++ f x → new ≡ begun ++ flat_map f (take (i + 1) xs)
+flat_added {X} {Y} f xs i x begun old new there is before more =
+    more
+    ∙ ap (λ (ys : List Y). ys ++ f x) before
+    ∙ append_assoc begun (flat_map f (take i xs)) (f x)
+    ∙ ap (λ (ys : List Y). begun ++ ys) (flat_next f xs i x there is)
+
+-- what is joined to the first so many is joined to one more
+pub taken_more : {X : Type 0} (before xs : List X) (i : ℕ) (d : X) → i < length xs → (before ++ take i xs) ++ get_or xs i d ∷ [] ≡ before ++ take (i + 1) xs
+taken_more {X} before xs i d there = append_assoc before (take i xs) (get_or xs i d ∷ []) ∙ ap (λ (ys : List X). before ++ ys) (sym (take_more xs i d there))
+
+pub next_range : (n : ℕ) → range_with_len 0 (n + 1) ≡ range_with_len 0 n ++ n ∷ []
+next_range n = let next : n + 1 ≡ suc n = omega arith in ap (λ (k : ℕ). range_with_len 0 k) next ∙ range_push 0 n n (omega arith)

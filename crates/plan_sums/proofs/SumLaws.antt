@@ -1,0 +1,36 @@
+-- The sums of a plan, by those of its calls.
+use Rattle.std.proofs.Common.{◌≡◌, ℕ, ◌-◌, ◌∙◌, ap, List}
+use Rattle.nc_base.specs.declared.request.Direction.TheVariants.{Put, Get}
+use Rattle.run_plan.specs.Planned.{calls_in}
+use Rattle.run_plan.specs.declared.run.RunPlan.{RunPlan}
+use Rattle.plan_sums.specs.Cells.{cells_in}
+use Rattle.plan_sums.specs.Naive.{asked_in, naive_sum}
+use Rattle.plan_sums.specs.Summed.{all_calls, AreSums}
+use Rattle.plan_sums.specs.Tallies.{counted}
+use Rattle.plan_sums.specs.declared.calls.Counted.{Counted}
+use Rattle.plan_sums.specs.declared.cells.Cell.{Cell}
+use Rattle.plan_sums.specs.declared.naive.Naive.{Naive}
+
+pub summed : (plan : RunPlan) (unit ranks nodes : ℕ) (all moved : Counted) (got put : Naive) (over beside : ℕ) (cells : List Cell) → all ≡ counted unit (all_calls plan)
+    → moved ≡ counted unit (calls_in plan.steps) → got ≡ naive_sum (asked_in Get plan.steps) → put ≡ naive_sum (asked_in Put plan.steps)
+    → over ≡ moved.reads.bytes - got.bytes → beside ≡ moved.writes.bytes - put.bytes → cells ≡ cells_in plan.steps ranks nodes
+    → AreSums plan unit ranks nodes (record {
+      grows = all.grows;
+      reads = all.reads;
+      writes = all.writes;
+      naive_reads = got;
+      naive_writes = put;
+      read_over = over;
+      written_over = beside;
+      matrix = cells;
+    })
+summed plan unit ranks nodes all moved got put over beside cells are moves gets puts more further through = record {
+  grows = ap (λ (c : Counted). c.grows) are;
+  reads = ap (λ (c : Counted). c.reads) are;
+  writes = ap (λ (c : Counted). c.writes) are;
+  naive_reads = gets;
+  naive_writes = puts;
+  read_over = more ∙ ap (λ (c : Counted). c.reads.bytes - got.bytes) moves;
+  written_over = further ∙ ap (λ (c : Counted). c.writes.bytes - put.bytes) moves;
+  matrix = through;
+}

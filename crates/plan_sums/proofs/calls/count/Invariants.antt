@@ -1,0 +1,7 @@
+-- The calls so far, by their kinds.
+use Rattle.std.proofs.Common.{◌≡◌, take}
+use Rattle.plan_sums.specs.Tallies.{counted}
+use Rattle.plan_sums.proofs.calls.count.Given as goal
+
+abbrev pub invariant-loop-call : goal.invariant-loop-call
+invariant-loop-call l = l.counted ≡ counted l.unit (take l.call-index l.calls)

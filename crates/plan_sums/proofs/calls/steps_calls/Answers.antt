@@ -1,0 +1,11 @@
+-- The calls of one step more.
+use Rattle.step_plan.specs.Steps.{file_calls}
+use Rattle.step_plan.specs.declared.plan.StepPlan.{StepPlan}
+use Rattle.plan_sums.proofs.ListLaws.{flat_added}
+use Rattle.std.proofs.Common.{[]}
+use Rattle.plan_sums.proofs.calls.steps_calls.Goals as goal
+
+pub loop-step-preserved : goal.loop-step-preserved
+loop-step-preserved c =
+    flat_added (λ (step : StepPlan). file_calls step.file) c.args.steps.now c.loop-step.step-index c.step-item.result [] c.loop-step.calls.items c.device_calls.new.calls.items
+    c.loop-step-test.true c.step-item.is c.loop-step.invariant c.in_ok-device_calls.ensures

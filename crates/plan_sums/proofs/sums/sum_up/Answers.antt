@@ -1,0 +1,30 @@
+-- All calls are the opening's, the steps' and the close's; the ranks' alone are the steps'.
+use Rattle.std.proofs.Common.{◌++◌, ◌∙◌, ap, List}
+use Rattle.std.proofs.lemmas.List.{append_assoc}
+use Rattle.nc_base.specs.declared.request.Direction.TheVariants.{Put, Get}
+use Rattle.nc_base.specs.declared.step.DiskCall.{DiskCall}
+use Rattle.step_plan.specs.Steps.{count_call}
+use Rattle.step_plan.specs.declared.plan.StepPlan.{StepPlan}
+use Rattle.run_plan.specs.Planned.{calls_in}
+use Rattle.plan_sums.specs.Cells.{cells_in}
+use Rattle.plan_sums.specs.Naive.{asked_in, naive_sum}
+use Rattle.plan_sums.specs.Tallies.{counted}
+use Rattle.plan_sums.proofs.SumLaws.{summed}
+use Rattle.plan_sums.proofs.sums.sum_up.Goals as goal
+
+pub returns : goal.returns
+returns c =
+    let plan = c.args.plan.now in
+    let unit = c.args.striping_unit in
+    let steps = c.as_slice-steps.ensures in
+    let own = c.in_ok-in_steps.ensures ∙ ap (λ (ss : List StepPlan). calls_in ss) steps in
+    let whole = c.in_ok-calls.ensures ∙ ap (λ (calls : List DiskCall). plan.opening ++ calls ++ count_call plan.close) (c.deref.ensures.value ∙ own)
+    ∙ append_assoc plan.opening (calls_in plan.steps) (count_call plan.close) in
+    summed plan unit c.args.ranks c.args.nodes c.count-all.result c.count-moved.result c.naive_of-naive_reads.result c.naive_of-naive_writes.result c.saturating_sub-read_over.result
+    c.saturating_sub-written_over.result c.in_ok-matrix.matrix
+    (c.count-all.ensures ∙ ap (λ (calls : List DiskCall). counted unit calls) (c.deref-2.ensures.value ∙ whole))
+    (c.count-moved.ensures ∙ ap (λ (calls : List DiskCall). counted unit calls) (c.deref-3.ensures.value ∙ own))
+    (c.naive_of-naive_reads.ensures ∙ ap (λ (ss : List StepPlan). naive_sum (asked_in Get ss)) steps)
+    (c.naive_of-naive_writes.ensures ∙ ap (λ (ss : List StepPlan). naive_sum (asked_in Put ss)) steps)
+    c.saturating_sub-read_over.ensures c.saturating_sub-written_over.ensures
+    (c.in_ok-matrix.ensures ∙ ap (λ (ss : List StepPlan). cells_in ss c.args.ranks c.args.nodes) steps)

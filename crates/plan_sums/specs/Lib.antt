@@ -1,0 +1,6 @@
+pub mod Tallies
+pub mod Naive
+pub mod Cells
+pub mod Served
+pub mod Summed
+pub mod Examples
