@@ -47,9 +47,10 @@ fn push_filling(
     ensures { OnOk result (calls.new.items ≡ calls.old.items ++ fill_calls_if script.now.filled script.now.hints header.now) }
 {
     if script.filled {
-        push_fills(calls, header, script.hints.cb_buffer)?;
+        push_fills(calls, header, script.hints.cb_buffer)
+    } else {
+        Ok(())
     }
-    Ok(())
 }
 
 /// The opening of an existing dataset of so many bytes, to which the script may add: `new` is the header that it then has, or the old
@@ -84,9 +85,10 @@ pub fn open_existing(
 fn push_head(calls: &mut Vec<DiskCall>, size: u64) -> Result<(), Memory>
     ensures { OnOk result ((file : List ℕ) → length file ≡ size → calls.new.items ≡ calls.old.items ++ head_load file) }
 {
-    if size > 0 {
-        calls.push(DiskCall::Load(0, size.min(MAX_HEADER_BYTES)))?;
+    if size == 0 {
+        return Ok(());
     }
+    calls.push(DiskCall::Load(0, size.min(MAX_HEADER_BYTES)))?;
     Ok(())
 }
 

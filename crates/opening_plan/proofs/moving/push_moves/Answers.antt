@@ -10,14 +10,14 @@ use Rattle.opening_plan.proofs.CallLaws.{last_left, moves_left, slabs_further}
 use Rattle.opening_plan.proofs.moving.push_moves.Goals as goal
 
 pub push_record-requires-clause-low : goal.push_record-requires-clause-low
-push_record-requires-clause-low c κs within =
+push_record-requires-clause-low c =
     λ s h.
     c.requires.low s
     (record_listed c.args.slabs.now (c.loop-record.record - 1) c.times.result.old c.times.result.new s (omega arith) c.times.ensures.old c.times.ensures.new
     (subst (λ (ss : List Shift). In (slabs_further c.times.result.old c.times.result.new ss) s) c.deref.ensures.value h))
 
 pub push_record-requires-2-clause-low : goal.push_record-requires-2-clause-low
-push_record-requires-2-clause-low c κs within =
+push_record-requires-2-clause-low c =
     λ s h.
     c.requires.low s
     (fixed_listed c.args.slabs.now 0 0 s refl refl (subst (λ (ss : List Shift). In (slabs_further 0 0 ss) s) c.deref-2.ensures.value h))

@@ -34,14 +34,14 @@ further-requires-clause-end c =
     omega arith
 
 pub push_changed-requires-clause-old_end : goal.push_changed-requires-clause-old_end
-push_changed-requires-clause-old_end c κs within =
+push_changed-requires-clause-old_end c =
     let k : c.loop-number.number - 1 < length c.args.slabs.now = omega arith in
     let low = c.requires.low (further c.args.offset.old c.args.offset.new (slab_of (get_or c.args.slabs.now (c.loop-number.number - 1) none)))
     (in_record c.args.offset.old c.args.offset.new c.args.slabs.now (c.loop-number.number - 1) none k) in
     subst (λ (s : Slab). s.from + s.len < 2 ^ 62) (sym c.further.ensures) low.0
 
 pub push_changed-requires-clause-end : goal.push_changed-requires-clause-end
-push_changed-requires-clause-end c κs within =
+push_changed-requires-clause-end c =
     let k : c.loop-number.number - 1 < length c.args.slabs.now = omega arith in
     let low = c.requires.low (further c.args.offset.old c.args.offset.new (slab_of (get_or c.args.slabs.now (c.loop-number.number - 1) none)))
     (in_record c.args.offset.old c.args.offset.new c.args.slabs.now (c.loop-number.number - 1) none k) in

@@ -31,7 +31,7 @@ overflow_sub-place c =
     (slabs_left c.args.offset.old c.args.offset.new c.args.slabs.now c.loop-slab.slab-index none c.loop-slab-test.true) c.loop-slab.invariant.spaced).0
 
 pub push_stores-requires-clause-low : goal.push_stores-requires-clause-low
-push_stores-requires-clause-low c κs within =
+push_stores-requires-clause-low c =
     let others = slabs_further c.args.offset.old c.args.offset.new (drop (c.loop-slab.slab-index + 1) c.args.slabs.now) in
     let s = slab_at c.args.offset.old c.args.offset.new c.args.slabs.now c.loop-slab.slab-index in
     let first = spaced_first c.loop-slab.at (2 ^ 62) s others (slabs_further c.args.offset.old c.args.offset.new (drop c.loop-slab.slab-index c.args.slabs.now))

@@ -9,7 +9,7 @@ use Rattle.opening_plan.proofs.CallLaws.{slabs_further, spaced_wider, zeros_left
 use Rattle.opening_plan.proofs.zeros.push_zeros.Goals as goal
 
 pub push_gaps-requires-clause-spaced : goal.push_gaps-requires-clause-spaced
-push_gaps-requires-clause-spaced c κs within =
+push_gaps-requires-clause-spaced c =
     let split = fixed_first c.args.slabs.now 0 0 refl refl ∙ ap (λ (ss : List Shift). slabs_further 0 0 ss ++ above c.args.slabs.now 0) (sym c.deref.ensures.value) in
     spaced_wider c.args.first c.args.end (2 ^ 62) (slabs_further 0 0 c.deref.result.now) (omega arith)
     (spaced_front c.args.first c.args.end (slabs_further 0 0 c.deref.result.now) (above c.args.slabs.now 0)
@@ -29,7 +29,7 @@ loop-record-init c =
     }
 
 pub push_gaps-requires-in-loop-record-clause-spaced : goal.push_gaps-requires-in-loop-record-clause-spaced
-push_gaps-requires-in-loop-record-clause-spaced c κs within =
+push_gaps-requires-in-loop-record-clause-spaced c =
     let a = c.times.result.old in
     let b = c.times.result.new in
     let ss = c.deref-in-loop-record.result.now in
