@@ -149,7 +149,7 @@ redefined_size old new file h =
 
 -- what an existing dataset and the script make of the headers
 module _ (script : Script) (old new : Header) (opened : script.fresh ≡ false) (same : (length script.extra == 0) ≡ true → new ≡ old)
-  (applied : (length script.extra == 0) ≡ false → IsApplied old script.extra new) where
+    (applied : (length script.extra == 0) ≡ false → IsApplied old script.extra new) where
   pub new_records : new.records ≡ old.records
   new_records = by_test (length script.extra == 0) refl
     where

@@ -37,11 +37,7 @@ pub fn open_fresh(alloc: Global, script: &Script, header: &Header) -> Result<Ope
 }
 
 // The writes that fill a created dataset, where the script asks for it.
-fn push_filling(
-    calls: &mut Vec<DiskCall>,
-    script: &Script,
-    header: &Header,
-) -> Result<(), Memory>
+fn push_filling(calls: &mut Vec<DiskCall>, script: &Script, header: &Header) -> Result<(), Memory>
     requires kept { IsKept script.now }
     requires sound { is_sound header.now ≡ true }
     ensures { OnOk result (calls.new.items ≡ calls.old.items ++ fill_calls_if script.now.filled script.now.hints header.now) }
@@ -134,7 +130,13 @@ fn push_redefinition(
 {
     let slabs = Slabs::new(alloc, old, new)?;
     push_moves(calls, &slabs, window)?;
-    push_zeros(calls, &slabs, header_len(new), end_of(new, old.records), window)?;
+    push_zeros(
+        calls,
+        &slabs,
+        header_len(new),
+        end_of(new, old.records),
+        window,
+    )?;
     calls.push(DiskCall::Store(0, header_len(new)))?;
     Ok(())
 }

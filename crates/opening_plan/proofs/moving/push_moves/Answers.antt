@@ -1,5 +1,5 @@
 -- The last of the records that are left is moved; the fixed variables come last.
-use Rattle.std.proofs.Common.{◌≡◌, ◌∙◌, ◌+◌, ◌-◌, sym, refl, subst, ap, List, ◌++◌, ℕ, arith}
+use Rattle.std.proofs.Common.{◌≡◌, ◌∙◌, ◌+◌, ◌-◌, sym, refl, subst, ap, List, ◌++◌, arith}
 use Rattle.std.specs.Prelude.{reverse}
 use Rattle.std.proofs.lemmas.Result.{on_ok_weaker}
 use Rattle.overlay_laws.specs.Entries.{In}

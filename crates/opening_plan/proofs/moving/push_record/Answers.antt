@@ -1,5 +1,5 @@
 -- The last of the slabs that are left is moved.
-use Rattle.std.proofs.Common.{◌≡◌, ◌∙◌, ◌+◌, ◌-◌, ◌<◌, ◌^◌, sym, subst, ap, length, List, [], ◌∷◌, ◌++◌, get_or, take, ℕ, arith}
+use Rattle.std.proofs.Common.{◌≡◌, ◌+◌, ◌-◌, ◌<◌, ◌^◌, sym, subst, ap, length, List, [], ◌∷◌, ◌++◌, get_or, take, ℕ, arith}
 use Rattle.std.specs.Prelude.{reverse}
 use Rattle.std.proofs.Math.Seq.{take_all}
 use Rattle.serial_spec.specs.DeviceCalls.{Slab}

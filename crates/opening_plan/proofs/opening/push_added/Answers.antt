@@ -1,5 +1,5 @@
 -- A script that adds nothing makes no call.
-use Rattle.std.proofs.Common.{◌∙◌, ◌++◌, sym, ap, List, [], ◌≡◌}
+use Rattle.std.proofs.Common.{◌∙◌, ◌++◌, sym, ap}
 use Rattle.std.proofs.lemmas.Bool.{both_ways}
 use Rattle.std.proofs.lemmas.List.{append-nil}
 use Rattle.std.proofs.lemmas.Result.{on_ok_weaker}

@@ -1,5 +1,5 @@
 -- The slabs rise below the new end, and their moves and zeros are those of the definitions.
-use Rattle.std.proofs.Common.{◌≡◌, ◌<◌, refl, arith}
+use Rattle.std.proofs.Common.{◌≡◌, refl, arith}
 use Rattle.serial_spec.specs.HeaderBytes.{header_len}
 use Rattle.redef_laws.specs.RisingSlabs.{rising}
 use Rattle.redef_laws.specs.Shifted.{new_end}
