@@ -1,5 +1,8 @@
 // The values of an existing dataset at their new places.
-use crate::opening::push_stores;
+ghost use Rattle.std.specs.Prelude.{◌≡◌, ◌≤◌, ◌<◌, ◌+◌, ◌^◌, ◌++◌, ◌∷◌, [], map, reverse, OnOk};
+ghost use Rattle.redef_mover.specs.Moves.{all_calls, further, listed, slab_calls, slab_of, window_calls, AreSteps};
+ghost use Rattle.opening_plan.specs.Opening.{AreLow};
+
 use nc_base::{DiskCall, Memory};
 use redef_mover::{Offset, Shift, Slabs};
 
@@ -8,7 +11,12 @@ pub(crate) fn push_moves(
     calls: &mut Vec<DiskCall>,
     slabs: &Slabs,
     window: u64,
-) -> Result<(), Memory> {
+) -> Result<(), Memory>
+    requires some { 1 ≤ window }
+    requires low { AreLow (listed slabs.now) }
+    requires steps { AreSteps slabs.now.step slabs.now.count }
+    ensures { OnOk result (calls.new.items ≡ calls.old.items ++ all_calls window (reverse (listed slabs.now))) }
+{
     for record in (0..slabs.count).rev() {
         push_record(calls, &slabs.records, slabs.step.times(record), window)?;
     }
@@ -21,53 +29,48 @@ fn push_record(
     slabs: &[Shift],
     offset: Offset,
     window: u64,
-) -> Result<(), Memory> {
+) -> Result<(), Memory>
+    requires some { 1 ≤ window }
+    requires low { AreLow (map (further offset.old offset.new) (map slab_of slabs.now)) }
+    ensures { OnOk result (calls.new.items ≡ calls.old.items ++ all_calls window (reverse (map (further offset.old offset.new) (map slab_of slabs.now)))) }
+{
     for number in (0..slabs.len()).rev() {
-        push_move(calls, &slabs[number].further(offset), window)?;
+        push_changed(calls, &slabs[number].further(offset), window)?;
     }
     Ok(())
 }
 
-// The moves of a slab, in windows from its top, if its place changes.
-fn push_move(calls: &mut Vec<DiskCall>, slab: &Shift, window: u64) -> Result<(), Memory> {
+// The moves of a slab, if its place changes.
+fn push_changed(calls: &mut Vec<DiskCall>, slab: &Shift, window: u64) -> Result<(), Memory>
+    requires some { 1 ≤ window }
+    requires old_end { slab.now.from + slab.now.len < 2 ^ 62 }
+    requires end { slab.now.to + slab.now.len < 2 ^ 62 }
+    ensures { OnOk result (calls.new.items ≡ calls.old.items ++ all_calls window (slab_of slab.now ∷ [])) }
+{
     if slab.from == slab.to {
         return Ok(());
     }
+    push_move(calls, slab, window)
+}
+
+// The moves of a slab, in windows from its top.
+fn push_move(calls: &mut Vec<DiskCall>, slab: &Shift, window: u64) -> Result<(), Memory>
+    requires some { 1 ≤ window }
+    requires old_end { slab.now.from + slab.now.len < 2 ^ 62 }
+    requires end { slab.now.to + slab.now.len < 2 ^ 62 }
+    ensures { OnOk result (calls.new.items ≡ calls.old.items ++ slab_calls window (slab_of slab.now)) }
+{
     for number in 0..slab.len.div_ceil(window) {
-        let part = slab.window(window, number);
-        calls.push(DiskCall::Load(part.from, part.len))?;
-        calls.push(DiskCall::Store(part.to, part.len))?;
+        push_window(calls, &slab.window(window, number))?;
     }
     Ok(())
 }
 
-/// Zeros between the slabs at their new places, from the place `first` to below the place `end`, the lowest first.
-pub(crate) fn push_zeros(
-    calls: &mut Vec<DiskCall>,
-    slabs: &Slabs,
-    first: u64,
-    end: u64,
-    window: u64,
-) -> Result<(), Memory> {
-    let mut at = push_gaps(calls, &slabs.fixed, Offset::NONE, first, window)?;
-    for record in 0..slabs.count {
-        at = push_gaps(calls, &slabs.records, slabs.step.times(record), at, window)?;
-    }
-    push_stores(calls, at, end - at, window)
-}
-
-// Zeros before each slab of a record, from `at` on: where the last slab ends.
-fn push_gaps(
-    calls: &mut Vec<DiskCall>,
-    slabs: &[Shift],
-    offset: Offset,
-    mut at: u64,
-    window: u64,
-) -> Result<u64, Memory> {
-    for slab in slabs {
-        let place = slab.to + offset.new;
-        push_stores(calls, at, place - at, window)?;
-        at = place + slab.len;
-    }
-    Ok(at)
+// The move of a window: one read and one write.
+fn push_window(calls: &mut Vec<DiskCall>, window: &Shift) -> Result<(), Memory>
+    ensures { OnOk result (calls.new.items ≡ calls.old.items ++ window_calls (slab_of window.now)) }
+{
+    calls.push(DiskCall::Load(window.from, window.len))?;
+    calls.push(DiskCall::Store(window.to, window.len))?;
+    Ok(())
 }

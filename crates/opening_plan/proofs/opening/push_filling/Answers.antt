@@ -1,0 +1,19 @@
+-- Where the script asks for no filling, there is none.
+use Rattle.std.proofs.Common.{◌∙◌, ◌++◌, sym, ap, Bool}
+use Rattle.std.proofs.lemmas.List.{append-nil}
+use Rattle.std.proofs.lemmas.Result.{on_ok_weaker}
+use Rattle.dataset_start.specs.Readiness.{fill_calls_if}
+use Rattle.opening_plan.proofs.OpeningLaws.{kept_cb_buffer}
+use Rattle.opening_plan.proofs.opening.push_filling.Goals as goal
+
+pub push_fills-requires-clause-some : goal.push_fills-requires-clause-some
+push_fills-requires-clause-some c = kept_cb_buffer c.args.script.now c.requires.kept
+
+pub returns-then-script : goal.returns-then-script
+returns-then-script c =
+    on_ok_weaker c.push_fills.result
+    (λ filled. filled ∙ ap (λ (b : Bool). c.args.calls.now.items ++ fill_calls_if b c.args.script.now.hints c.args.header.now) (sym c.if-script.true)) c.push_fills.ensures
+
+pub returns-else-script : goal.returns-else-script
+returns-else-script c =
+    sym (append-nil c.args.calls.now.items) ∙ ap (λ (b : Bool). c.args.calls.now.items ++ fill_calls_if b c.args.script.now.hints c.args.header.now) (sym c.if-script.false)
