@@ -1,0 +1,4 @@
+// Plans of scripts that create their datasets.
+mod calls;
+mod fixtures;
+mod sums;
