@@ -13,6 +13,7 @@ use collective_round::Dataset;
 use nc_base::{Batch, Direction, Memory, Post};
 use std::alloc::Global;
 use vara_extents::Extents;
+use window_plan::fitted;
 
 /// What each rank asks for by its puts or by its gets, the first batch being that of rank `first`.
 pub(crate) fn all_asked(
@@ -34,7 +35,7 @@ pub(crate) fn all_asked(
         let asked = asked_by(dataset, first + number as u32, posts);
         push_asked(&mut list, asked)?;
     }
-    Ok(AskedList::from_vec(list))
+    Ok(fitted(list))
 }
 
 // Adds what a rank asks for, if it is something.

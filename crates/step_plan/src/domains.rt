@@ -10,7 +10,7 @@ use collective_round::domains_of;
 use nc_base::{Extent, ExtentList, Hints, Memory, OwnedList};
 use overlap_report::cover;
 use std::alloc::Global;
-use window_plan::{WindowList, WindowPlan, domain_plans, sieved_plans};
+use window_plan::{WindowList, WindowPlan, domain_plans, fitted, sieved_plans};
 
 /// The domains of all aggregators that have a byte, by entries of so many ranks, which are sorted by place.
 pub(crate) fn collective_domains(
@@ -56,7 +56,7 @@ fn plan_each(
             )?,
         })?;
     }
-    Ok(DomainList::from_vec(plans))
+    Ok(fitted(plans))
 }
 
 /// The windows of data sieving, by entries of one rank, which are sorted by place: one domain without an aggregator, or none where
@@ -82,7 +82,7 @@ pub(crate) fn sieved_domain(
 fn one_domain(alloc: Global, extent: Extent, windows: WindowList) -> Result<DomainList, Memory>
     ensures { IfOk result (λ domains. windows_in domains ≡ windows) }
 {
-    let mut domains = DomainList::new(alloc);
+    let mut domains = DomainList::with_capacity(alloc, 1)?;
     domains.push(DomainPlan {
         aggregator: None,
         extent,

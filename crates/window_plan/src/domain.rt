@@ -5,6 +5,7 @@ ghost use Rattle.get_exchange.specs.Gets.{IsGetPlan};
 ghost use Rattle.window_plan.specs.Windows.{told_plan, AreShared};
 
 use crate::WindowList;
+use crate::lists::fitted;
 use crate::plan::plan_window;
 use aggregator_rounds::Unserved;
 use exchange_crew::{domain_windows, next_window};
@@ -34,5 +35,5 @@ pub fn domain_plans(
         plans.push(plan_window(alloc, &window, entries.carried.as_slice(), fresh, 0, ranks)?)?;
         entries.pass(stop);
     }
-    Ok(WindowList::from_vec(plans))
+    Ok(fitted(plans))
 }

@@ -4,6 +4,7 @@
 
 mod calls;
 mod domain;
+mod lists;
 mod owners;
 mod plan;
 mod shares;
@@ -11,6 +12,7 @@ mod sieving;
 
 pub use calls::{push_loads, push_stores};
 pub use domain::domain_plans;
+pub use lists::fitted;
 use nc_base::Items;
 pub use plan::{Owner, Share, WindowPlan};
 pub use sieving::sieved_plans;

@@ -3,6 +3,7 @@ ghost use Rattle.std.specs.Prelude.{◌≡◌, ◌+◌, ◌++◌, ◌^◌, ◌<�
 ghost use Rattle.overlay_laws.specs.Lines.{extents, EndBelow};
 ghost use Rattle.window_plan.specs.Windows.{plan_of};
 
+use crate::lists::fitted;
 use crate::owners::push_owners;
 use crate::shares::shares_of;
 use crate::{OwnerList, ShareList};
@@ -59,7 +60,7 @@ pub(crate) fn plan_window(
     Ok(WindowPlan {
         hull: window.hull,
         full: window.full,
-        owners: OwnerList::from_vec(owners),
+        owners: fitted(owners),
         shares,
     })
 }

@@ -2,6 +2,7 @@
 ghost use Rattle.std.specs.Prelude.{◌≡◌, ◌+◌, ◌^◌, ◌≤◌, ◌++◌, IfOk, OnOk};
 ghost use Rattle.window_plan.specs.Windows.{own_bytes, share_of, shares_in, some_share};
 
+use crate::lists::fitted;
 use crate::{Owner, Share, ShareList};
 use nc_base::Memory;
 use std::alloc::Global;
@@ -20,7 +21,7 @@ pub(crate) fn shares_of(
     for number in 0..ranks {
         push_share(&mut shares, owners, first + number)?;
     }
-    Ok(ShareList::from_vec(shares))
+    Ok(fitted(shares))
 }
 
 // Adds what a rank has, if it has something.

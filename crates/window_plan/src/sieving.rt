@@ -7,6 +7,7 @@ ghost use Rattle.overlay_laws.specs.Walks.{told_of};
 ghost use Rattle.window_plan.specs.Windows.{told_plan, AreShared};
 
 use crate::WindowList;
+use crate::lists::fitted;
 use crate::plan::plan_window;
 use aggregator_rounds::Unserved;
 use data_sieving::SieveWalk;
@@ -38,5 +39,5 @@ pub fn sieved_plans(
         let stop = next.stop;
         walk.pass(stop);
     }
-    Ok(WindowList::from_vec(plans))
+    Ok(fitted(plans))
 }

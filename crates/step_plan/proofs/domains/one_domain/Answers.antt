@@ -8,4 +8,4 @@ use Rattle.step_plan.proofs.domains.one_domain.Goals as goal
 pub returns : goal.returns
 returns c =
     let plan : DomainPlan = record { aggregator = None; extent = c.args.extent; windows = c.args.windows } in
-    ap windows_in (c.in_ok-push.ensures.ok ∙ ap (λ (ds : List DomainPlan). ds ++ plan ∷ []) c.new-domains.ensures) ∙ append-nil c.args.windows
+    ap windows_in (c.in_ok-push.ensures.ok ∙ ap (λ (ds : List DomainPlan). ds ++ plan ∷ []) c.in_ok-domains.ensures) ∙ append-nil c.args.windows

@@ -35,5 +35,5 @@ loop-number-preserved c =
 
 pub returns : goal.returns
 returns c =
-    subst (λ (ps : List DomainPlan). AreDivided c.args.hints.now c.args.ranks c.args.list.now c.args.cover.now c.args.domains.now (length c.args.domains.now) ps) (sym {A = List DomainPlan} c.from_vec.ensures)
+    subst (λ (ps : List DomainPlan). AreDivided c.args.hints.now c.args.ranks c.args.list.now c.args.cover.now c.args.domains.now (length c.args.domains.now) ps) (sym {A = List DomainPlan} c.fitted.ensures)
     (divided_all c.args.hints.now c.args.ranks c.args.list.now c.args.cover.now c.args.domains.now c.loop-number.number c.loop-number.plans.items c.loop-number-test.false (omega arith) c.loop-number.invariant)

@@ -61,11 +61,11 @@ pass-requires-clause-filled c =
 
 pub returns-clause-told : goal.returns-clause-told
 returns-clause-told c =
-    ap (λ (ps : List WindowPlan). map told_plan ps) c.from_vec.ensures
+    ap (λ (ps : List WindowPlan). map told_plan ps) c.fitted.ensures
     ∙ all_told c.windows.plans.items (turns_ahead c.windows.windows) (turns_of c.args.size c.args.domain c.args.cover.now) c.in_default.ensures.none c.windows.invariant.told
 
 pub returns-clause-shared : goal.returns-clause-shared
-returns-clause-shared c = subst (λ (ps : List WindowPlan). AreShared 0 c.args.ranks c.args.list.now ps) (sym c.from_vec.ensures) c.windows.invariant.shared
+returns-clause-shared c = subst (λ (ps : List WindowPlan). AreShared 0 c.args.ranks c.args.list.now ps) (sym c.fitted.ensures) c.windows.invariant.shared
 
 pub plan_window-requires-clause-ends : goal.plan_window-requires-clause-ends
 plan_window-requires-clause-ends c =

@@ -64,9 +64,9 @@ windows-preserved c =
 pub returns-clause-told : goal.returns-clause-told
 returns-clause-told c =
     let h = c.windows.invariant.sieving in
-    ap (λ (ps : List WindowPlan). map told_plan ps) c.from_vec.ensures
+    ap (λ (ps : List WindowPlan). map told_plan ps) c.fitted.ensures
     ∙ sieved_end c.args.list.now c.args.size c.args.rank c.windows.walk.from (map told_of (entry_windows c.args.size c.args.list.now)) (entries_left c.windows.walk.entries) c.windows.plans.items
     c.in_default.ensures.none h
 
 pub returns-clause-shared : goal.returns-clause-shared
-returns-clause-shared c = subst (λ (ps : List WindowPlan). AreShared c.args.rank 1 c.args.list.now ps) (sym c.from_vec.ensures) c.windows.invariant.sieving.shared
+returns-clause-shared c = subst (λ (ps : List WindowPlan). AreShared c.args.rank 1 c.args.list.now ps) (sym c.fitted.ensures) c.windows.invariant.sieving.shared
