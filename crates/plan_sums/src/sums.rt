@@ -30,7 +30,8 @@ pub struct Sums {
 
 /// The sums of a plan for so many ranks and aggregators.
 ///
-/// It takes memory for the device calls and the windows' shares, and is linear in them and in the ranks.
+/// It takes memory for the device calls and for the windows' shares, and goes over all domains once for each aggregator and over all
+/// shares once for each rank.
 pub fn sum_up(
     alloc: Global,
     plan: &RunPlan,

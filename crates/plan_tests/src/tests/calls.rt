@@ -16,9 +16,9 @@ const EVERY_OTHER: &[u8] =
     b"create 1\nranks 2\nhint cb_nodes 1\nhint cb_buffer_size 4\ndim x 4\nvar int v [x]\ndata\n\
     0 put_vars_all v [0] [2] [2] 1 3\n1 put_vars_all v [1] [2] [2] 2 4\nend\n";
 
-/// Their puts share an element.
-const OVERLAP: &[u8] = b"create 1\nranks 2\ndim x 4\nvar int v [x]\ndata\n\
-    0 put_vara_all v [0] [3] 1 2 3\n1 put_vara_all v [2] [2] 8 9\nend\n";
+/// The puts of two of three ranks share an element.
+const OVERLAP: &[u8] = b"create 1\nranks 3\ndim x 4\nvar int v [x]\ndata\n\
+    0 put_vara_all v [0] [3] 1 2 3\n1 put_vara_all v [2] [2] 8 9\n2 put_vara_all v [0] [0]\nend\n";
 
 /// One rank puts the fourth record.
 const RECORD: &[u8] =
@@ -29,9 +29,10 @@ const ALONE: &[u8] = b"create 1\nranks 2\ndim x 4\nvar int v [x]\ndata\n\
     0 begin_indep_data\n0 put_vars v [0] [2] [2] 1 3\n0 end_indep_data\n\
     1 begin_indep_data\n1 put_vars v [1] [2] [2] 2 4\n1 end_indep_data\nend\n";
 
-/// One rank puts the third record by itself, and the other, which doesn't know of it, meets it afterwards.
+/// One rank puts the third record by itself, and the other learns of it when they meet.
 const KNOWN: &[u8] = b"create 1\nranks 2\ndim t unlimited\nvar short s [t]\ndata\n\
-    0 begin_indep_data\n0 put_var1 s [2] 5\n0 end_indep_data\n1 begin_indep_data\n1 end_indep_data\nend\n";
+    0 begin_indep_data\n0 put_var1 s [2] 5\n0 inq_dimlen t\n0 end_indep_data\n0 inq_dimlen t\n\
+    1 begin_indep_data\n1 inq_dimlen t\n1 get_var1 s [2]\n1 end_indep_data\n1 inq_dimlen t\nend\n";
 
 /// Scripts, and their device calls.
 const RUNS: [(&[u8], &[DiskCall]); 6] = [
