@@ -67,7 +67,7 @@ class Definitions:
         self.dims, self.vars, self.attributes = [], [], {}
         self.order = []             # dimensions and variables as they were added
         self.remarks, self.left_out = [], []
-        self.filling = False
+        self.filling = self.renamed = False
         self.records = 0            # how many records an opened dataset had
         self.ended = 0              # how many variables there were at the last end of definitions
         self.phase = 0              # how many ends there were
@@ -151,6 +151,7 @@ class Definitions:
     def rename(self, what, own, new):
         """One that was added by this opening has its last name from the start; one that was there keeps its old one."""
         told = what, own.name.decode("utf-8", "replace"), new.decode("utf-8", "replace")
+        self.renamed = True
         if own.part == BEFORE:
             self.left_out.append("the %s %s is renamed to %s, and a script only adds" % told)
             return

@@ -202,6 +202,18 @@ class Traces(unittest.TestCase):
         traces, remarks = read_heads(paths)
         self.assertEqual(([t.rank for t in traces], len(remarks)), ([0, 1], 1))
 
+    def test_an_earlier_run_without_a_name(self):
+        paths = [self.trace(0, run="", started=2), self.trace(1, run="", started=2), self.trace(2, run="", ranks=3)]
+        traces, remarks = read_heads(paths)
+        self.assertEqual(([t.rank for t in traces], len(remarks)), ([0, 1], 1))
+
+    def test_a_line_that_is_none(self):
+        path = self.trace(0)
+        with open(path, "a") as out:
+            out.write('{"n":0} {"n":1}\n')
+        with self.assertRaises(TraceFault):
+            list(read_heads([path])[0][0].events())
+
     def test_two_traces_of_a_rank(self):
         path = self.trace(0)
         with self.assertRaises(TraceFault):
