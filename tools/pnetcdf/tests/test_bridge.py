@@ -259,6 +259,7 @@ class Traces(unittest.TestCase):
         with open(path + ".values", "wb") as values:
             values.write(struct.pack(">3h", 1, -2, 3))
         trace = read_heads([path])[0][0]
+        self.addCleanup(trace.close)
         stored = Stored(trace, 2, 2, "short")
         self.assertEqual((list(stored.load()), list(stored.part(1, 5).load())), ([-2, 3], [3]))
 
