@@ -83,6 +83,16 @@ class Merging(unittest.TestCase):
         merged = self.merged(BEGUN + CLOSED, other + CLOSED)
         self.assertEqual(merged.fault, "a script has no word for definitions in which ranks differ: ranks 0 and 1 in dimensions: x and y")
 
+    def test_formats_that_differ(self):
+        other = [(BEGUN[0][0], BEGUN[0][1], {"format": 5})] + BEGUN[1:]
+        self.assertTrue(self.merged(BEGUN + CLOSED, other + CLOSED).fault.endswith("ranks 0 and 1 in the format: CDF-1 and CDF-5"))
+
+    def test_a_dataset_that_is_refused_to_some(self):
+        refused = [(BEGUN[0][0], BEGUN[0][1], {"code": -250, "name": "NC_EMULTIDEFINE_CMODE"})]
+        self.assertEqual(self.merged(BEGUN + CLOSED, refused).fault,
+                         "a script has no word for a dataset that PnetCDF refuses to some ranks: rank 1 had NC_EMULTIDEFINE_CMODE")
+        self.assertTrue(self.merged(refused, refused).refused)
+
     def test_posts_have_ids_of_the_script(self):
         calls = BEGUN + [put(0, "iput_vara_int", request=4), wait(4)] + CLOSED
         merged = self.merged(calls, BEGUN + [wait()] + CLOSED)
