@@ -171,7 +171,7 @@ class Datasets(unittest.TestCase):
 
     def test_a_part_that_differs(self):
         found = self.findings((1, 2, 0, 0), (1, 5, 0, 0), {}, 0)
-        self.assertEqual((found.found, found.state), (["the file: before redefinition 1 v[1] is 2, and 5 in the proved file"], "differs"))
+        self.assertEqual((found.found, found.state), (["the file: before redefinition 1: v[1] is 2, and 5 in the proved file"], "differs"))
 
     def test_what_is_put_later_may_hold_anything(self):
         found = self.findings((1, 2, 7, 0), (1, 2, 0, 0), {}, 0)
