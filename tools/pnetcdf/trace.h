@@ -17,6 +17,8 @@ void *real_call(const char *name);
    known) nothing is written. Each begin_call has its end_call; both count for the thread that makes them. */
 void begin_call(int ncid, const char *name);
 void call_made(void);
+/* The call's time begins now: what was done for the trace since call_made doesn't count. */
+void call_begins(void);
 /* PnetCDF has answered: what is asked for until end_call doesn't count as the call's time. */
 void call_answered(void);
 int end_call(int code);

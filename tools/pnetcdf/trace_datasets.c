@@ -1,4 +1,4 @@
-/* The calls that create, open, delete and close a dataset, and what is told of it then. */
+/* The calls that create, open, redefine, delete and close a dataset, and what is told of it then. */
 #define _GNU_SOURCE
 #include "trace.h"
 #include "trace_datasets.h"
@@ -95,6 +95,33 @@ static void before_field(const char *path, bool changed)
     const char *name = line_open() ? keep_before(without_prefix(path), changed, room, sizeof room) : "";
     if (name[0] != '\0')
         text_field("before", name);
+}
+
+/* The datasets of which this rank is the first one: it makes the copies. */
+static _Atomic bool first_of[NC_MAX_NFILES];
+
+static void note_first(MPI_Comm comm, int ncid)
+{
+    int rank;
+    MPI_Comm_rank(comm, &rank);
+    if (ncid >= 0 && ncid < NC_MAX_NFILES)
+        first_of[ncid] = rank == 0;
+}
+
+/* The dataset with what all ranks have put so far. All ranks come here, also those whose traces are full: PnetCDF's sync meets them, so that
+   nothing is under way while the first one copies. In define mode it answers at once, and nothing is copied. */
+static void so_far_field(int ncid)
+{
+    int length = 0;
+    if (!values_wanted() || REAL(sync)(ncid) != NC_NOERR)
+        return;
+    if (ncid < NC_MAX_NFILES && first_of[ncid] && ncmpi_inq_path(ncid, &length, NULL) == NC_NOERR) {
+        char *path = calloc((size_t)length + 1, 1);
+        if (path != NULL && ncmpi_inq_path(ncid, NULL, path) == NC_NOERR)
+            before_field(path, false);
+        free(path);
+    }
+    REAL(sync)(ncid);
 }
 
 /* ---- what PnetCDF tells of an open dataset */
@@ -227,8 +254,10 @@ int ncmpi_create(MPI_Comm comm, const char *path, int cmode, MPI_Info info, int 
     begin_opening("create", comm, path, cmode);
     int code = REAL(create)(comm, path, cmode, info, ncidp);
     opened_fields(code, ncidp);
-    if (code == NC_NOERR)
+    if (code == NC_NOERR) {
+        note_first(comm, *ncidp);
         hints_field(*ncidp);
+    }
     return end_call(code);
 }
 
@@ -238,10 +267,20 @@ int ncmpi_open(MPI_Comm comm, const char *path, int omode, MPI_Info info, int *n
     int code = REAL(open)(comm, path, omode, info, ncidp);
     opened_fields(code, ncidp);
     if (code == NC_NOERR) {
+        note_first(comm, *ncidp);
         contents_fields(*ncidp);
         defined_fields(*ncidp);
     }
     return end_call(code);
+}
+
+int ncmpi_redef(int ncid)
+{
+    begin_call(ncid, "redef");
+    call_made();
+    so_far_field(ncid);
+    call_begins();
+    return end_call(REAL(redef)(ncid));
 }
 
 int ncmpi_delete(const char *filename, MPI_Info info)

@@ -172,7 +172,13 @@ void call_made(void)
         say("{\"n\":%ld", here.number);
     }
     here.took = -1;
-    here.made = trace_time();
+    call_begins();
+}
+
+void call_begins(void)
+{
+    if (here.depth == 1)
+        here.made = trace_time();
 }
 
 void call_answered(void)

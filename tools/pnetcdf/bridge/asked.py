@@ -13,6 +13,12 @@ def size(number):
     return number
 
 
+def sizes_of(numbers):
+    if numbers and min(numbers) < 0:
+        raise NoWord("a negative number")
+    return numbers
+
+
 def lists(given, form, dims):
     return [list_of(given, name, dims) for name in regions.LISTS[form]]
 
@@ -25,7 +31,7 @@ def list_of(given, name, dims):
         sizes = regions.default_map(given.get("count") or [])
     if sizes is None and dims > 0:
         raise NoWord("no %s" % name)
-    return [size(n) for n in sizes or []]
+    return sizes_of(sizes or [])
 
 
 def boxes(given, dims):
@@ -35,8 +41,7 @@ def boxes(given, dims):
         return [([0] * dims, [0] * dims)]
     if starts is None or None in starts[:given["parts"]]:
         raise NoWord("no start")
-    return [([size(n) for n in start], [size(n) for n in ([1] * dims if count is None else count)])
-            for start, count in zip(starts, counts)]
+    return [(sizes_of(start), sizes_of([1] * dims if count is None else count)) for start, count in zip(starts, counts)]
 
 
 def region(given, form):
@@ -59,17 +64,20 @@ def reached(given):
     return regions.reach(given["count"], given["imap"]) if elements and given.get("imap") and given.get("count") else elements
 
 
+def in_one_line(given, form):
+    """Whether one line has room for the region and its values."""
+    if form == "varn":
+        return given.get("elements", 0) <= MOST_ELEMENTS and given["parts"] <= MOST_PARTS
+    return given.get("elements", 0) <= MOST_ELEMENTS and (not given.get("imap") or reached(given) <= MOST_ELEMENTS)
+
+
 def split(given, form, shape):
     """The parts of a region that each have a line of their own: form, words, and the place and number of their values. None where one
-    line holds all. The shape has 0 for the record dimension."""
-    elements, dims = given.get("elements", 0), given.get("dims")
-    if dims is None:
+    line holds all, or there is no such variable. The shape has 0 for the record dimension."""
+    if given.get("dims") is None or in_one_line(given, form):
         return None
     if form == "varn":
-        many = elements > MOST_ELEMENTS or given["parts"] > MOST_PARTS
-        return list(groups(boxes(given, dims))) if many else None
-    if max(elements, reached(given)) <= MOST_ELEMENTS:
-        return None
+        return list(groups(boxes(given, given["dims"])))
     return list(split_box(form, *whole_box(given, form, shape)))
 
 

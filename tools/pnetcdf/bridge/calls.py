@@ -1,6 +1,6 @@
 """Calls of a program as lines of a script, with what PnetCDF answered."""
 import re
-from dataclasses import dataclass, field
+from dataclasses import dataclass
 from functools import lru_cache
 
 from . import words
@@ -67,6 +67,12 @@ def kind_of(call):
 def form_of(word):
     match = FORM.match(word)
     return match.group(2) if match else None
+
+
+@lru_cache(maxsize=None)
+def word_of(verb, form, everyone):
+    """A script's word for an access."""
+    return "%s_%s%s" % (verb, form, everyone or "")
 
 
 @dataclass(slots=True)
@@ -138,8 +144,8 @@ class Call(Line):
     name: str = ""
     code: str = "ok"
     got: object = None          # what a get got, or the text behind the code
-    items: list = field(default_factory=list)
-    requests: list = field(default_factory=list)    # the ids that it completes
+    items: list = ()
+    requests: list = ()         # the ids that it completes
     before: tuple = ()
     took: float = None
     barriers: int = 0           # how many barriers its rank had passed
@@ -171,10 +177,6 @@ def got_text(values, kind):
     memory = KINDS[values.memory]
     same = kind is not None and (memory in words.FORMATS) == (kind in words.FORMATS) and words.SIZES[memory] == words.SIZES[kind]
     return words.value_words(kind if same else memory, values.load())
-
-
-def access_line(verb, form, everyone, number, region, values, kind, post=None):
-    return Line("%s_%s%s" % (verb, form, everyone), post, number, region, values, kind)
 
 
 def as_posts(call, number):

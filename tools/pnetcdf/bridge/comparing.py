@@ -93,8 +93,8 @@ def shape_word(header, var):
     return "%s(%s)" % (words.TYPES[var.kind], ", ".join(shown(header.dims[d][0]) for d in var.dims))
 
 
-def tell_headers(first, second):
-    """In what two headers differ, in lines; where the variables lie doesn't count."""
+def tell_headers(first, second, attributes=True):
+    """In what two headers differ, in lines; where the variables lie doesn't count, and attributes only where they are asked for."""
     if first.version != second.version:
         yield "it is CDF-%d, and CDF-%d in the proved run" % (first.version, second.version)
     yield from tell_names("the dimension", dict(first.dims), dict(second.dims))
@@ -103,7 +103,8 @@ def tell_headers(first, second):
         if lengths.get(name, length) != length:
             yield "the dimension %s has length %s, and %s in the proved file" % (
                 shown(name), *(n or "unlimited" for n in (length, lengths[name])))
-    yield from tell_attributes(b":", first.attributes, second.attributes)
+    if attributes:
+        yield from tell_attributes(b":", first.attributes, second.attributes)
     others = {v.name: v for v in second.vars}
     yield from tell_names("the variable", {v.name: 0 for v in first.vars}, others)
     for var in first.vars:
@@ -112,7 +113,8 @@ def tell_headers(first, second):
             continue
         if shape_word(first, var) != shape_word(second, other):
             yield "the variable %s is %s, and %s in the proved file" % (shown(var.name), shape_word(first, var), shape_word(second, other))
-        yield from tell_attributes(var.name + b":", var.attributes, other.attributes)
+        if attributes:
+            yield from tell_attributes(var.name + b":", var.attributes, other.attributes)
     if first.records != second.records:
         yield "%d records, and %d in the proved file" % (first.records, second.records)
 
@@ -165,8 +167,8 @@ def compare_variable(first, header, second, other_header, var, other):
     return found
 
 
-def compare(first_path, second_path):
-    """Two datasets: their headers, and the elements of the variables of both."""
+def compare(first_path, second_path, attributes=True):
+    """Two datasets: their headers, with or without attributes, and the elements of the variables of both."""
     with open(first_path, "rb", buffering=BLOCK) as first, open(second_path, "rb", buffering=BLOCK) as second:
         if same_bytes(first, second):
             return Comparison("same" if os.path.getsize(first_path) == os.path.getsize(second_path) else "zeros")
@@ -177,5 +179,5 @@ def compare(first_path, second_path):
         pairs = [(v, others[v.name]) for v in header.vars if v.name in others]
         found = [compare_variable(first, header, second, other, v, o) for v, o in pairs
                  if header.shape(v) == other.shape(o) and v.kind == o.kind and header.is_record(v) == other.is_record(o)]
-        told, found = list(tell_headers(header, other)), [v for v in found if v.count]
+        told, found = list(tell_headers(header, other, attributes)), [v for v in found if v.count]
         return Comparison("differs" if told or found else "layout", told, found)

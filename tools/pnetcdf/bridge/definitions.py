@@ -67,7 +67,7 @@ class Definitions:
         self.dims, self.vars, self.attributes = [], [], {}
         self.order = []             # dimensions and variables as they were added
         self.remarks, self.left_out = [], []
-        self.filling = False
+        self.filling = self.renamed = False
         self.records = 0            # how many records an opened dataset had
         self.ended = 0              # how many variables there were at the last end of definitions
         self.phase = 0              # how many ends there were
@@ -151,6 +151,7 @@ class Definitions:
     def rename(self, what, own, new):
         """One that was added by this opening has its last name from the start; one that was there keeps its old one."""
         told = what, own.name.decode("utf-8", "replace"), new.decode("utf-8", "replace")
+        self.renamed = True
         if own.part == BEFORE:
             self.left_out.append("the %s %s is renamed to %s, and a script only adds" % told)
             return
@@ -206,7 +207,9 @@ class Definitions:
             other.version, other.order, other.dims, other.vars, other.attributes)
 
     def first_difference(self, other):
-        """In what two ranks' definitions differ, with what each has; None where they don't."""
+        """In what two ranks' definitions that aren't alike differ, with what each has."""
+        if self.version != other.version:
+            return "the format: CDF-%s and CDF-%s" % (self.version, other.version)
         names = [[x.name for x in own] for own in (self.dims, other.dims, self.vars, other.vars)]
         for what, own, its in (("dimensions", *names[:2]), ("variables", *names[2:])):
             if own != its:
@@ -215,7 +218,7 @@ class Definitions:
             return "the lengths of dimensions"
         if self.vars != other.vars:
             return "the types or dimensions of variables"
-        return None if self.attributes == other.attributes else "attributes"
+        return "attributes" if self.attributes != other.attributes else "the order of dimensions and variables"
 
     # ---- the lines of a script
 

@@ -3,25 +3,20 @@ import os
 import re
 import tempfile
 
-from . import classic, comparing, words
+from . import words
 from .advice import never_written
 from .answers import compare_call
-from .definitions import BEFORE
+from .files import FileFindings
 from .merging import Merged, ranks_word
 from .overlaps import Overlaps
-from .regions import Coverage, boxes_of, runs
+from .regions import boxes_of, runs
 from .running import Runs
 
-SHOWN = 5       # how many elements of a variable are told one by one, and how many lines of one kind and rank
 MISMATCH = re.compile(r"ncrun: script line \d+: ranks (\d+) and (\d+) differ at collective call (\d+)")
 UNORDERED_RECORDS = 1 << 10     # of record variables so many records are looked at for puts and gets that nothing orders
 # How files are alike that have the same values.
 SAME = {"same", "zeros", "layout"}
 SERIAL = ["hint overlap serial"]
-
-
-def index_word(index):
-    return "[%s]" % ",".join(map(str, index)) if index else ""
 
 
 class Diagnosis:
@@ -31,8 +26,9 @@ class Diagnosis:
         self.merged, self.program, self.seconds = Merged(opening), program, seconds
         self.path = path or opening.path
         self.found, self.remarks = [], []
-        self.checked, self.state = 0, "none"    # how the files are alike
-        self.open = {}                          # elements that puts race for
+        self.checked, self.compared = 0, 0      # calls, and datasets: one after each part
+        self.state = "none"             # how the files are alike at the end
+        self.open = {}                  # elements that puts race for
         self.wrong_files = False        # a run of the scripts was cut, so that the files aren't comparable
 
     @property
@@ -86,6 +82,7 @@ class Diagnosis:
             "cut": merged.notes() or ([merged.fault] if merged.fault and not merged.refused else []),
             "refused": merged.ranks[0].opened.code if merged.refused else None, "script": not merged.fault, "scripts": len(merged.parts),
             "skipped": sum(count for rank in merged.ranks for count in rank.skipped.values()), "remarks": self.remarks, "file": self.state,
+            "compared": self.compared,
             "found": [{"kind": line.split(":", 1)[0], "text": line} for line in self.found],
         }
 
@@ -98,9 +95,11 @@ class Diagnosis:
 
     def run_parts(self, runs):
         self.tell_hung()
+        self.leave_changed_open()
         for part in self.merged.parts:
             if not self.run_part(part, runs):
                 return
+            self.tell_part_file(part, runs.dataset)
         self.tell_pending()
         self.tell_changed()
         if self.open and self.merged.whole:
@@ -124,7 +123,8 @@ class Diagnosis:
         overlaps = Overlaps(self.merged, part, done)
         if overlaps.found:
             self.tell_overlaps(overlaps)
-            self.open.update(overlaps.open)
+            for var, places in overlaps.open.items():
+                self.leave_open(var, places)
             runs.begin(kept)
             done = runs.run(part, SERIAL)
         self.tell_answers(part, done.text)
@@ -178,13 +178,16 @@ class Diagnosis:
         for rank, call in self.merged.pending():
             self.tell("never waited for: the request of %s" % self.word(rank, call))
 
-    def tell_changed(self):
+    def changed(self):
+        """Posted puts whose memory was changed before their wait: the rank, the wait, and the put."""
         for rank in self.merged.ranks:
             for call in (c for phase in rank.phases for c in phase.calls):
-                for post in call.changed:
-                    self.tell("memory: the values of %s were changed before call %d (%s) completed it; PnetCDF may write either" % (
-                        self.word(rank.number, post), call.number, self.shown(call)))
-                    self.hold_open(post)
+                yield from ((rank.number, call, post) for post in call.changed)
+
+    def tell_changed(self):
+        for rank, call, post in self.changed():
+            self.tell("memory: the values of %s were changed before call %d (%s) completed it; PnetCDF may write either" % (
+                self.word(rank, post), call.number, self.shown(call)))
 
     def tell_range(self, rank, call):
         place, count, value = call.beyond
@@ -196,14 +199,20 @@ class Diagnosis:
         for race, line in overlaps.lines(self.word):
             (self.tell if race else self.remark)(line)
 
-    def hold_open(self, post):
+    def leave_changed_open(self):
         """The elements of a put whose memory was changed may hold either value."""
-        for line in post.put_lines():
+        for line in (line for _, _, post in self.changed() for line in post.put_lines()):
             shape = self.merged.definitions.shape(self.merged.definitions.vars[line.var])
-            own = self.open.setdefault(line.var, set())
             for place, run in (r for box in boxes_of(line.form, line.region, shape, 0) for r in runs(box, shape)):
-                if own is not None:
-                    own.update(range(place, place + run))
+                self.leave_open(line.var, range(place, place + run))
+
+    def leave_open(self, var, places):
+        """The value of these elements is open; None stands for all of the variable."""
+        own = self.open.setdefault(var, set())
+        if places is None:
+            self.open[var] = None
+        elif own is not None:
+            own.update(places)
 
     # ---- what PnetCDF did otherwise
 
@@ -233,7 +242,7 @@ class Diagnosis:
         """What to say of a get that another rank's independent put may have come before or after."""
         if call.meets or call.var is None:
             return ""
-        own = self.coverage(call.var, UNORDERED_RECORDS)
+        own = self.merged.coverage(call.var, UNORDERED_RECORDS)
         own.add(call)
         puts = ((other.number, c) for other in part.ranks if other.number != rank for c in other.calls)
         number, put = next(((n, c) for n, c in puts if c.puts and not c.meets and c.var == call.var and own.meets(c)), (None, None))
@@ -244,21 +253,6 @@ class Diagnosis:
         return "; a barrier alone stands between it and %s, and MPI promises no order there without ncmpi_sync" % self.word(number, put)
 
     # ---- the dataset
-
-    def coverage(self, number, records):
-        definitions = self.merged.definitions
-        return Coverage(definitions.shape(definitions.vars[number]), records)
-
-    def number(self, variable):
-        return next(n for n, v in enumerate(self.merged.definitions.vars) if comparing.shown(v.name) == variable.name)
-
-    def coverage_of_puts(self, number, differences):
-        """The elements of a variable that puts hold, as far as those that differ go."""
-        coverage = self.coverage(number, 1 + max((d.index[0] for d in differences if d.index), default=0))
-        for line in (line for rank in self.merged.ranks for phase in rank.phases for c in phase.calls for line in c.lines()):
-            if line.var == number and (line.puts or line.word == "fill_var_rec"):
-                coverage.add(line)
-        return coverage
 
     def program_file(self):
         """The dataset as the program left it: as it stands, or as it was when it was opened, created or deleted next."""
@@ -275,41 +269,19 @@ class Diagnosis:
             self.remark("the file isn't compared: it isn't there as the program left it%s" % why)
             self.state = "gone"
             return
-        try:
-            compared = comparing.compare(own, proved)
-        except classic.HeaderFault as fault:
-            self.tell("the file: %s %s" % (self.path, fault))
-            self.state = "differs"
-            return
-        self.state = compared.state
-        for line in compared.headers:
-            self.tell("the file: " + line)
-        told = {self.tell_variable(variable) for variable in compared.variables}
-        if told and not compared.headers and "differs" not in told:
-            self.state = "overlap" if "overlap" in told else "layout"
+        self.state = self.compare(own, proved)
 
-    def tell_variable(self, variable):
-        """Tells which elements of a variable differ but those that puts race for, and what that says of the file."""
-        number = self.number(variable)
-        raced = self.open.get(number, ())
-        kept = [] if raced is None else [d for d in variable.kept if d.place not in raced]
-        if not kept:
-            return "overlap"
-        coverage = self.coverage_of_puts(number, kept)
-        put = [d for d in kept if coverage.holds(d.place) is not False]
-        more = len(put) - SHOWN + variable.count - len(variable.kept)
-        for difference in put[:SHOWN]:
-            self.tell("the file: %s%s is %s, and %s in the proved file" % (
-                variable.name, index_word(difference.index), difference.first, difference.second))
-        if more > 0:
-            self.tell("the file: %d more elements of %s differ" % (more, variable.name))
-        left = [d for d in kept if coverage.holds(d.place) is False]
-        return "differs" if self.tell_left(variable, left, self.merged.definitions.vars[number]) or put or more > 0 else "layout"
+    def tell_part_file(self, part, proved):
+        """Compares what stood in the file when the program went on to define more; names are those of the end, so not where any was changed."""
+        own = self.merged.kept(part.number)
+        if own and self.has_values and not self.merged.definitions.renamed:
+            self.compare(own, proved, part.number)
 
-    def tell_left(self, variable, left, var):
-        """Elements that no call put stay as they were where they were there or are filled; others may hold anything. Whether it is a finding."""
-        kept = var.part == BEFORE or var.filled and not self.merged.definitions.is_record(var)
-        if left:
-            (self.tell if kept else self.remark)("the file: %d elements of %s that no call put aren't %s, the first %s%s" % (
-                len(left), variable.name, "as they were" if kept else "zeros", variable.name, index_word(left[0].index)))
-        return bool(left) and kept
+    def compare(self, own, proved, part=None):
+        """Compares the program's dataset with the proved one, and tells where they differ; the answer is how they are alike."""
+        compared = FileFindings(self.merged, self.open, part)
+        compared.compare(own, proved, self.path)
+        self.found += compared.found
+        self.remarks += compared.remarks
+        self.compared += 1
+        return compared.state

@@ -1,9 +1,11 @@
 """The scripts of a dataset: one for each part of a run between two phases of definitions."""
+import os
+
 from . import classic, words
 from .asked import MOST_ELEMENTS
 from .calls import Call, Item, Line, Repeated, as_posts
 from .definitions import NoWord
-from .regions import pieces, records_of
+from .regions import Coverage, pieces, records_of
 
 MOST_RANKS = 64
 FILL_IDS = 3 << 30      # ids of posts that fill a variable
@@ -180,6 +182,9 @@ class Merged:
         if not first.ok:
             self.fault, self.refused = "%s answered %s" % (first.call, first.code), first.answer is not None
             return
+        refused = [rank.number for rank in self.ranks if rank.opened.refused]
+        if refused:
+            raise NoWord("a dataset that PnetCDF refuses to some ranks: %s had %s" % (ranks_word(refused), self.ranks[refused[0]].opened.code))
         if len(self.ranks) > MOST_RANKS:
             raise NoWord("more than %d ranks" % MOST_RANKS)
         self.definitions = self.ranks[0].definitions
@@ -246,6 +251,16 @@ class Merged:
             elif line.word == "fill_var_rec":
                 records = max(records, int(line.region) + 1)
         return records
+
+    def kept(self, number):
+        """The copy of the dataset as it was when all ranks had come to the end of a part, None where there is none."""
+        path = self.ranks[0].phases[number].kept
+        whole = all(len(rank.phases) > number + 1 for rank in self.ranks)
+        return path if whole and path and os.path.exists(path) else None
+
+    def coverage(self, number, records):
+        """A mark for each element of a variable that has that many records."""
+        return Coverage(self.definitions.shape(self.definitions.vars[number]), records)
 
     @staticmethod
     def lost(rank):

@@ -47,7 +47,7 @@ class Overlaps:
 
     def __init__(self, merged, part, done):
         self.definitions, self.part, self.open = merged.definitions, part, {}
-        self.found = list(self.steps(part, done.text))
+        self.found = list(self.steps(part, done.text)) if done.text.tells("overlap") else []
         if self.found:
             with open(done.dataset, "rb") as file:
                 self.header = read_header(file)

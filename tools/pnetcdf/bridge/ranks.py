@@ -4,7 +4,7 @@ from dataclasses import dataclass, field
 from itertools import accumulate
 
 from . import asked, words
-from .calls import Call, Filled, Item, Line, Repeated, kind_of
+from .calls import Call, Filled, Item, Line, Repeated, kind_of, word_of
 from .definitions import DEFINES, Definitions, NoWord
 from .traces import CODES, Stored
 
@@ -33,6 +33,7 @@ class Phase:
     attached: int = None        # the buffer that was attached before it
     independent: bool = False   # it begins in independent mode
     end: str = None
+    kept: str = None            # a copy of the dataset as it was at the end
 
 
 @dataclass(slots=True)
@@ -104,8 +105,8 @@ class RankMerger:
         return Line(verb + "_vara_all", None, number if dims else -1, region, Repeated(0, 0), self.kind(number) if dims else None)
 
     def add(self, event, line, **more):
-        call = Call(line.verb, line.id, line.var, line.region, line.values, line.kind, number=self.count, name=event.call,
-                    code=event.code, barriers=self.barriers, took=(event.answer or {}).get("took"), **more)
+        call = Call(line.verb, line.id, line.var, line.region, line.values, line.kind, self.count, event.call, event.code,
+                    barriers=self.barriers, took=event.answer.get("took") if event.answer else None, **more)
         self.count += 1
         self.phases[-1].calls.append(call)
         return call
@@ -152,7 +153,7 @@ class RankMerger:
             if event.refused:
                 self.skip(event)
             else:
-                self.new_phase("redef")
+                self.new_phase("redef", self.trace.copy((event.answer or {}).get("before")))
                 self.defining, self.independent = True, False
         elif event.call == "enddef":
             self.end_definitions(event)
@@ -181,13 +182,13 @@ class RankMerger:
         else:
             self.skip(event)
 
-    def new_phase(self, why):
+    def new_phase(self, why, kept=None):
         """The calls from here on are of a script of their own; what is posted and not waited for is posted there."""
         old = self.phases[-1]
         carried = {id(p.call) for p in self.posts.values()}
         if why == "redef" and all(c.name in EARLY or id(c) in carried for c in old.calls):
             return
-        old.end = why
+        old.end, old.kept = why, kept
         moved = [c for c in old.calls if id(c) in carried]
         old.calls = [c for c in old.calls if id(c) not in carried]
         self.phases.append(Phase(moved, self.attached))
@@ -235,7 +236,7 @@ class RankMerger:
         values = None
         if kind is not None and puts:
             values = self.put_values(event, given, kind)
-        split = asked.split(given, form, self.shape(number)) if kind is not None else None
+        split = None if kind is None or asked.in_one_line(given, form) else asked.split(given, form, self.shape(number))
         if split:
             self.parted(event, (verb, everyone), number, values, split)
         else:
@@ -244,7 +245,7 @@ class RankMerger:
     def single(self, event, told, number, kind, values):
         verb, form, everyone = told
         given, post = event.given, self.next if told[0] in ("iput", "iget", "bput") else None
-        line = Line("%s_%s%s" % (verb, form, everyone or ""), post, number, asked.region(given, form), values, kind)
+        line = Line(word_of(verb, form, everyone), post, number, asked.region(given, form), values, kind)
         call = self.add(event, line, beyond=self.beyond(given, values))
         if verb == "get" and kind is not None and event.answer:
             call.got = self.signed(self.trace.stored(event.answer.get("stored"), given.get("memory")), kind)

@@ -51,31 +51,33 @@ class Text:
     def answers(self):
         """For each rank its answers in order. A rank's answers are read when they are asked for, and the ranks in order."""
         with open(self.path, encoding="utf-8", errors="replace") as lines:
-            own = None
+            own = []
             for line in lines:
-                word = line.split(" ", 1)[0]
-                if word == "rank":
+                if line[0].isdigit():
+                    own.append(answer_of(line))
+                elif line.startswith("  "):
+                    own[-1].items.append(line[2:-1])
+                elif line.startswith("rank "):
                     own = []
-                elif word.startswith(("pending", "//")):
-                    if own is not None:
-                        yield own
-                    own = None
-                    if word == "//":
-                        return
-                elif own is not None:
-                    take_line(own, line.rstrip("\n"))
+                elif line.startswith("pending "):
+                    yield own
+                elif line.startswith("//"):
+                    return
+
+    def tells(self, word):
+        """Whether the word stands anywhere in the text."""
+        with open(self.path, encoding="utf-8", errors="replace") as lines:
+            return any(word in line for line in lines)
 
     def first_line(self):
         with open(self.path, encoding="utf-8", errors="replace") as lines:
             return lines.readline().strip()
 
 
-def take_line(own, line):
-    if line.startswith("  "):
-        own[-1].items.append(line[2:])
-    else:
-        parts = line.split(" ", 3) + [""]
-        own.append(Answer(parts[2], parts[3]))
+def answer_of(line):
+    """The answer in a line of a number, a call, a code and what stands behind that."""
+    parts = line[:-1].split(" ", 3)
+    return Answer(parts[2], parts[3] if len(parts) > 3 else "")
 
 
 @dataclass

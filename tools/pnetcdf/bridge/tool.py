@@ -1,4 +1,5 @@
 """What the tools do alike: help, version, and faults as one line."""
+import gc
 import sys
 
 from . import VERSION
@@ -8,6 +9,7 @@ from .traces import TraceFault
 
 def run_tool(name, usage, main):
     """Runs a tool with the words of the command. Faults of traces, runs and files are one line, and status 2."""
+    gc.disable()        # what is read stays until the end
     given = sys.argv[1:]
     if given[:1] in (["--help"], ["-h"]):
         print(usage.strip())

@@ -4,9 +4,10 @@ import os
 import sys
 from array import array
 from dataclasses import dataclass
+from sys import intern
 
 FORM = 2
-DECODE = json.JSONDecoder().decode
+SCAN = json.JSONDecoder().scan_once
 # A type of memory, and how an array holds it; floats and doubles are their patterns.
 CODES = {"text": "B", "schar": "b", "uchar": "B", "short": "h", "ushort": "H", "int": "i", "uint": "I", "float": "I",
          "longlong": "q", "ulonglong": "Q", "double": "Q"}
@@ -88,9 +89,12 @@ class Trace:
                     self.cut = True
                     return
                 try:
-                    yield DECODE(line)
-                except ValueError:
-                    raise TraceFault("%s: line %d is none of a trace" % (self.path, number)) from None
+                    found, end = SCAN(line, 0)
+                except (StopIteration, ValueError):
+                    end = 0
+                if end != len(line) - 1:
+                    raise TraceFault("%s: line %d is none of a trace" % (self.path, number))
+                yield found
 
     def events(self):
         """Each call when it was answered, and at the end those that never were."""
@@ -99,7 +103,7 @@ class Trace:
         for line in lines:
             number = line.get("n")
             if "call" in line:
-                open_calls[number] = Event(line["call"], line)
+                open_calls[number] = Event(intern(line["call"]), line)
             elif "code" in line:
                 event = open_calls.pop(number)
                 event.answer = line
@@ -112,7 +116,7 @@ class Trace:
 
     def stored(self, pair, memory):
         """The values at a place of the file beside the trace; None where none were kept."""
-        return Stored(self, pair[0], pair[1], memory) if pair and memory in CODES else None
+        return Stored(self, pair[0], pair[1], intern(memory)) if pair and memory in CODES else None
 
     def values(self, at, count, code):
         if self.store is None:
@@ -129,6 +133,11 @@ class Trace:
             found.byteswap()
         return found
 
+    def close(self):
+        if self.store is not None:
+            self.store.close()
+            self.store = None
+
     def copy(self, name):
         """The path of a copy of a dataset that the tracer made beside this trace."""
         return os.path.join(os.path.dirname(self.path), os.path.basename(name)) if name else None
@@ -139,11 +148,18 @@ def text_of(name):
     return name.encode("latin-1")
 
 
+def same_run(head, latest):
+    """Whether a trace is of the same run as the latest one. Where the launcher names no runs, one of another size is another one."""
+    if head.get("run") or latest.get("run"):
+        return head.get("run") == latest.get("run")
+    return head["ranks"] == latest["ranks"]
+
+
 def read_heads(paths):
     """The traces of the latest run, by rank, and a remark for each that is of an earlier one."""
     traces = [Trace(path) for path in paths]
     latest = max(traces, key=lambda t: t.head.get("started", 0))
-    own = [t for t in traces if t.head.get("run") == latest.head.get("run")]
+    own = [t for t in traces if same_run(t.head, latest.head)]
     remarks = ["%s is of an earlier run, and left out" % t.path for t in traces if t not in own]
     ranks = {t.head["ranks"] for t in own}
     if len(ranks) > 1:

@@ -92,7 +92,7 @@ def judge(program, place, tools, again):
 
 def folder_row(folder, rows):
     files = sum((r.files() for r in rows), Counter())
-    whole, cut, none = (sum(n) for n in zip(*(r.scripts() for r in rows)))
+    whole, cut, none = (sum(r.scripts()[k] for r in rows) for k in range(3))
     cells = [folder, len(rows), sum(r.whole for r in rows), "%d, %d, %d" % (whole, cut, none)]
     cells += [files[kind] for kind in FILES] + [sum(not r.told() for r in rows)]
     return "| %s |" % " | ".join(map(str, cells))

@@ -53,6 +53,9 @@ class Rows(unittest.TestCase):
         three = row("C/three", [dataset(found=["overlap", "overlap", "not told"])])
         self.assertEqual({"overlap": 2}, dict(three.told()))
 
+    def test_table_of_none(self):
+        self.assertIn("| all | 0 | 0 | 0, 0, 0 | 0 | 0 | 0 | 0 | 0 | 0 | 0 | 0 |", table([]).split("\n"))
+
     def test_table(self):
         rows = [row("C/one", [dataset()]), row("C/two", [dataset(whole=False, cut=["why"])], "3"), row("F77/three", [])]
         lines = table(rows).split("\n")
