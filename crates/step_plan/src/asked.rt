@@ -29,7 +29,7 @@ pub(crate) fn all_asked(
     requires accepted { AreAccepted dataset.now.header.now direction batches.now }
     ensures { IfOk result (λ list. list ≡ asked_by_all dataset.now.header.now direction first batches.now) }
 {
-    let mut list = Vec::new(alloc);
+    let mut list = Vec::with_capacity(alloc, batches.len())?;
     for (number, batch) in batches.iter().enumerate() {
         let posts = posts_of(batch, direction);
         let asked = asked_by(dataset, first + number as u32, posts);

@@ -53,7 +53,7 @@ pub(crate) fn plan_window(
     requires ranks { first + ranks ≤ 2 ^ 32 }
     ensures { IfOk result (λ plan. plan ≡ plan_of window.now first ranks (carried.now ++ fresh.now)) }
 {
-    let mut owners = Vec::new(alloc);
+    let mut owners = Vec::with_capacity(alloc, carried.len() + fresh.len())?;
     push_owners(&mut owners, carried, window.hull)?;
     push_owners(&mut owners, fresh, window.hull)?;
     let shares = shares_of(alloc, &owners, first, ranks)?;

@@ -17,7 +17,7 @@ pub(crate) fn shares_of(
     requires ranks { first + ranks ≤ 2 ^ 32 }
     ensures { IfOk result (λ shares. shares ≡ shares_in first ranks owners.now) }
 {
-    let mut shares = Vec::new(alloc);
+    let mut shares = Vec::with_capacity(alloc, owners.len().min(ranks as usize))?;
     for number in 0..ranks {
         push_share(&mut shares, owners, first + number)?;
     }

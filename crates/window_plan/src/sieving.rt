@@ -33,7 +33,7 @@ pub fn sieved_plans(
         from: 0,
         size,
     };
-    let mut plans = Vec::new(alloc);
+    let mut plans = Vec::with_capacity(alloc, 1)?;
     'windows: while let Some(next) = walk.next_window() {
         plans.push(plan_window(alloc, &next.window, next.carried, next.fresh, rank, 1)?)?;
         let stop = next.stop;

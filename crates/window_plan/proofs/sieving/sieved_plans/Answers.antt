@@ -21,9 +21,9 @@ windows-init c =
     record {
       sieving = record {
         past = walk_begin list left whole;
-        told = ap (λ (ps : List WindowPlan). map told_plan ps ++ map told_of (windows_from c.args.size 0 list)) c.new-plans.ensures.items
+        told = ap (λ (ps : List WindowPlan). map told_plan ps ++ map told_of (windows_from c.args.size 0 list)) c.in_ok-plans.ensures.items
             ∙ ap (λ (ws : List (List ℕ)). map told_of ws) (sym (all_windows c.args.size list));
-        shared = subst (λ (ps : List WindowPlan). AreShared c.args.rank 1 list ps) (sym c.new-plans.ensures.items) (none_shared c.args.rank 1 list);
+        shared = subst (λ (ps : List WindowPlan). AreShared c.args.rank 1 list ps) (sym c.in_ok-plans.ensures.items) (none_shared c.args.rank 1 list);
       };
       left = walk_ready list left c.args.size whole c.requires.sorted c.requires.ends c.requires.filled c.requires.some;
       across = none_carried c.new.result.carried.items c.new.ensures.carried;
