@@ -1,0 +1,3 @@
+pub mod PlanTexts
+pub mod PlanWords
+pub mod StepTexts
