@@ -29,10 +29,13 @@ dataset_line header length =
     text_line (codes "dataset CDF-" ++ decimal header.version ++ codes ", header " ++ in_bytes (header_len header)
     ++ codes ", records " ++ decimal header.records ++ codes ", record size " ++ decimal (recsize header) ++ codes ", length " ++ decimal length)
 
+-- how many bytes a variable has, or has in each record
+abbrev pub size_words : Header → Var → List ℕ
+size_words header v = in_bytes (slab header v) ++ (if is_record header v then codes " a record" else [])
+
 abbrev pub variable_line : Header → Var → List ℕ
 variable_line header v =
-    text_line (codes "variable " ++ v.name ++ 32 ∷ type_word v.kind ++ codes " at " ++ decimal v.begin
-    ++ codes ", " ++ in_bytes (slab header v) ++ (if is_record header v then codes " a record" else []))
+    text_line (codes "variable " ++ v.name ++ 32 ∷ type_word v.kind ++ codes " at " ++ decimal v.begin ++ codes ", " ++ size_words header v)  -- a space
 
 abbrev pub hint_line : Script → HintRow → List ℕ
 hint_line script row =
@@ -58,14 +61,19 @@ abbrev pub cell_line : Cell → List ℕ
 cell_line c =
     text_line (codes "  rank " ++ decimal c.rank ++ codes " aggregator " ++ decimal c.aggregator ++ codes " puts " ++ decimal c.put ++ codes " gets " ++ decimal c.got)
 
+-- what is read and written, and what naive I/O would
+abbrev pub moved_lines : Sums → List ℕ
+moved_lines sums =
+    tally_line (codes "  reads ") sums.reads
+    ++ tally_line (codes "  writes ") sums.writes
+    ++ naive_line (codes "  naive reads ") sums.naive_reads
+    ++ naive_line (codes "  naive writes ") sums.naive_writes
+
 abbrev pub sum_lines : Sums → List ℕ
 sum_lines sums =
     text_line (codes "sums")
     ++ text_line (codes "  grows " ++ decimal sums.grows)
-    ++ tally_line (codes "  reads ") sums.reads
-    ++ tally_line (codes "  writes ") sums.writes
-    ++ naive_line (codes "  naive reads ") sums.naive_reads
-    ++ naive_line (codes "  naive writes ") sums.naive_writes
+    ++ moved_lines sums
     ++ beside_line (codes "  read beside what is got ") sums.read_over
     ++ beside_line (codes "  written beside what is put ") sums.written_over
     ++ flat_map cell_line sums.matrix

@@ -84,10 +84,11 @@ abbrev pub window_calls : Direction → WindowPlan → List DiskCall
 window_calls Put w = put_calls w
 window_calls Get w = get_calls w
 
+abbrev pub window_line : Direction → WindowPlan → List ℕ
+window_line direction w = text_line (codes "    window " ++ range w.hull ++ hole_words w.full ++ flat_map (share_words direction) w.shares)
+
 abbrev pub window_lines : Direction → WindowPlan → List ℕ
-window_lines direction w =
-    text_line (codes "    window " ++ range w.hull ++ hole_words w.full ++ flat_map (share_words direction) w.shares)
-    ++ device_lines (codes "      ") (window_calls direction w)
+window_lines direction w = window_line direction w ++ device_lines (codes "      ") (window_calls direction w)
 
 abbrev pub domain_words : Option ℕ → Extent → List ℕ
 domain_words (Some aggregator) e = codes " domain " ++ range e ++ codes ", aggregator " ++ decimal aggregator
