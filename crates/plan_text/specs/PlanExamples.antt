@@ -77,9 +77,9 @@ plan_with_hole =
     record {
       opening = Grow 96 ∷ Store 0 80 ∷ [];
       steps =
-        record { mark = Meet 0; callers = caller 0 0 ∷ caller 1 0 ∷ []; file = record no_file { puts = puts_with_hole } }
-        ∷ record { mark = Meet 1; callers = caller 0 1 ∷ caller 1 1 ∷ []; file = no_file }
-        ∷ record { mark = Solo 1 2; callers = caller 1 2 ∷ []; file = record no_file { gets = gets_with_hole } } ∷ [];
+          record { mark = Meet 0; callers = caller 0 0 ∷ caller 1 0 ∷ []; file = record no_file { puts = puts_with_hole } }
+          ∷ record { mark = Meet 1; callers = caller 0 1 ∷ caller 1 1 ∷ []; file = no_file }
+          ∷ record { mark = Solo 1 2; callers = caller 1 2 ∷ []; file = record no_file { gets = gets_with_hole } } ∷ [];
       close = None;
       answers = (answered code.Ok ∷ answered code.Ok ∷ []) ∷ (answered code.Ok ∷ answered code.Ok ∷ answered code.Ok ∷ []) ∷ [];
       pending = 0 ∷ 0 ∷ [];
@@ -155,11 +155,11 @@ puts_of_record =
     record {
       asked = asked 0 2 1 ∷ [];
       domains =
-        record {
-          aggregator = Some 0;
-          extent = bytes_at 86 2;
-          windows = record { hull = bytes_at 86 2; full = true; owners = []; shares = share 0 2 ∷ [] } ∷ [];
-        } ∷ [];
+          record {
+            aggregator = Some 0;
+            extent = bytes_at 86 2;
+            windows = record { hull = bytes_at 86 2; full = true; owners = []; shares = share 0 2 ∷ [] } ∷ [];
+          } ∷ [];
     }
 
 abbrev pub file_with_record : FilePlan

@@ -2,7 +2,7 @@
 ghost use Rattle.std.specs.Prelude.{◌≡◌, ◌++◌, ◌∷◌, ◌<◌, ◌^◌, IfOk, OnOk, codes, flat_map, map, true};
 ghost use Rattle.serial_spec.specs.Layout.{slab};
 ghost use Rattle.serial_spec.specs.SoundHeaders.{is_sound};
-ghost use Rattle.script_spec.specs.HintTable.{shown_value};
+ghost use Rattle.script_spec.specs.HintTable.{hint_table, shown_value};
 ghost use Rattle.script_spec.specs.Texts.{line, mark_word, text_line};
 ghost use Rattle.hint_table.specs.HintNames.{form_of, row_of};
 ghost use Rattle.printed_text.specs.Spaced.{spaced};
@@ -55,7 +55,7 @@ fn push_head(out: &mut Vec<u8>, document: &Document) -> Result<(), Memory>
     push_order(out, document.plan.steps.as_slice())?;
     push_dataset(out, document.header, document.length)?;
     push_variables(out, document.header)?;
-    push_hints(out, &HINTS, document.script)?;
+    push_hints(out, document.script)?;
     Ok(())
 }
 
@@ -157,7 +157,13 @@ fn push_size(out: &mut Vec<u8>, header: &Header, var: &Var) -> Result<(), Memory
     Ok(())
 }
 
-fn push_hints(out: &mut Vec<u8>, names: &[HintName], script: &Script) -> Result<(), Memory>
+fn push_hints(out: &mut Vec<u8>, script: &Script) -> Result<(), Memory>
+    ensures { OnOk result (out.new.items ≡ out.old.items ++ flat_map (hint_line script.now) hint_table) }
+{
+    push_each_hint(out, &HINTS, script)
+}
+
+fn push_each_hint(out: &mut Vec<u8>, names: &[HintName], script: &Script) -> Result<(), Memory>
     ensures { OnOk result (out.new.items ≡ out.old.items ++ flat_map (λ name. hint_line script.now (row_of name)) names.now) }
 {
     for name in names {

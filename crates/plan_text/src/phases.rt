@@ -78,11 +78,7 @@ fn push_domains(
 }
 
 // A domain, or the range of a step of one rank, with its windows.
-fn push_domain(
-    out: &mut Vec<u8>,
-    direction: Direction,
-    domain: &DomainPlan,
-) -> Result<(), Memory>
+fn push_domain(out: &mut Vec<u8>, direction: Direction, domain: &DomainPlan) -> Result<(), Memory>
     ensures { OnOk result (out.new.items ≡ out.old.items ++ domain_lines direction domain.now) }
 {
     push_domain_line(out, direction, domain)?;
@@ -136,11 +132,7 @@ fn push_windows(
 }
 
 // A window with its calls.
-fn push_window(
-    out: &mut Vec<u8>,
-    direction: Direction,
-    window: &WindowPlan,
-) -> Result<(), Memory>
+fn push_window(out: &mut Vec<u8>, direction: Direction, window: &WindowPlan) -> Result<(), Memory>
     ensures { OnOk result (out.new.items ≡ out.old.items ++ window_lines direction window.now) }
 {
     push_window_line(out, direction, window)?;

@@ -4,18 +4,14 @@ ghost use Rattle.script_spec.specs.Texts.{mark_word, text_line};
 ghost use Rattle.plan_text.specs.PlanWords.{outcome_in, outcome_word, word_in};
 ghost use Rattle.plan_text.specs.StepTexts.{caller_line, step_lines};
 
-use crate::phases::push_file;
 use crate::head::push_mark;
+use crate::phases::push_file;
 use nc_base::{Answer, Code, Memory, Script};
 use printed_text::words::{code_word, push_bytes, push_call_word, push_numbered, push_word};
 use run_plan::RunPlan;
 use step_plan::{Caller, StepPlan};
 
-pub(crate) fn push_steps(
-    out: &mut Vec<u8>,
-    script: &Script,
-    plan: &RunPlan,
-) -> Result<(), Memory>
+pub(crate) fn push_steps(out: &mut Vec<u8>, script: &Script, plan: &RunPlan) -> Result<(), Memory>
     ensures { OnOk result (out.new.items ≡ out.old.items ++ flat_map (step_lines script.now.calls plan.now.answers) plan.now.steps) }
 {
     let steps = plan.steps.as_slice();
@@ -81,11 +77,7 @@ fn push_caller(
 }
 
 /// The word of a call.
-pub(crate) fn push_word_of(
-    out: &mut Vec<u8>,
-    script: &Script,
-    caller: Caller,
-) -> Result<(), Memory>
+pub(crate) fn push_word_of(out: &mut Vec<u8>, script: &Script, caller: Caller) -> Result<(), Memory>
     ensures { OnOk result (out.new.items ≡ out.old.items ++ word_in (slice_get script.now.calls caller.rank) caller.call) }
 {
     let Some(calls) = script.calls.as_slice().get(caller.rank as usize) else {

@@ -24,7 +24,6 @@ pub fn worked_steps()
 {}
 
 /// A record variable: its size is that of one record.
-#[tactic(auto, unfolding(serial_spec::specs::HeaderBytes::canon))]
 pub fn worked_variable()
     ensures { map (variable_line dataset_b) dataset_b.vars ≡ text_line (codes "variable s short at 80, 2 bytes a record") ∷ [] }
 {}
