@@ -4,14 +4,17 @@
 //! what it added is left open. Each text is linear in what it tells.
 #![tactic(auto)]
 
+mod calls;
 mod head;
 mod json;
 mod json_head;
 mod json_steps;
 mod json_sums;
+mod phases;
 mod steps;
 mod sums;
 mod words;
+pub mod worked_plans;
 
 pub use head::{Document, plan_text};
 pub use json_head::plan_json;

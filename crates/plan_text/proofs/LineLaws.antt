@@ -1,0 +1,18 @@
+-- Words and numbers that a line goes on with.
+use Rattle.std.proofs.Common.{◌≡◌, ℕ, List, [], ◌∷◌, ◌++◌, sym, ap, ◌∙◌, append_assoc}
+use Rattle.list_laws.proofs.Appends.{then_append}
+use Rattle.script_spec.specs.Texts.{text_line}
+
+-- words and what follows them, behind a front
+pub then_words : (o x y a b c : List ℕ) → x ≡ o ++ a → y ≡ x ++ (b ++ c) → y ≡ o ++ (a ++ b ++ c)
+then_words o x y a b c e f = then_append o x y a (b ++ c) e f ∙ ap (λ (t : List ℕ). o ++ t) (sym (append_assoc a b c))
+
+-- the last ones of a line
+pub then_end : (o x y a b c : List ℕ) → x ≡ o ++ a → y ≡ x ++ text_line (b ++ c) → y ≡ o ++ text_line (a ++ b ++ c)
+then_end o x y a b c e f =
+    then_append o x y a (text_line (b ++ c)) e f
+    ∙ ap (λ (t : List ℕ). o ++ t) (sym (append_assoc a (b ++ c) (10 ∷ [])) ∙ ap (λ (t : List ℕ). text_line t) (sym (append_assoc a b c)))
+
+-- five words, of which each but the first has its blank
+pub five_words : (a b c d e : List ℕ) → a ++ b ++ c ++ d ++ e ≡ a ++ (b ++ (c ++ (d ++ e)))
+five_words a b c d e = simp append_assoc

@@ -1,0 +1,7 @@
+use Rattle.std.proofs.Common.{◌≡◌, ◌++◌, map, take}
+use Rattle.script_spec.specs.Texts.{mark_word}
+use Rattle.printed_text.specs.Spaced.{spaced}
+use Rattle.plan_text.proofs.head.push_marks.Given as goal
+
+abbrev pub invariant-loop-step : goal.invariant-loop-step
+invariant-loop-step l = l.out.items ≡ l.initial.out.items ++ spaced (map (λ step. mark_word step.mark) (take l.step-index l.steps))

@@ -1,0 +1,10 @@
+use Rattle.std.proofs.Common.{append_assoc, codes, map}
+use Rattle.script_spec.specs.Texts.{mark_word}
+use Rattle.step_plan.specs.declared.plan.StepPlan.{StepPlan}
+use Rattle.printed_text.proofs.WordLaws.{joined_spaced}
+use Rattle.plan_text.proofs.head.push_order.Goals as goal
+
+pub returns : goal.returns
+returns c =
+    let words = joined_spaced (codes "order") (map (λ (step : StepPlan). mark_word step.mark) c.args.steps.now) in
+    simp (c.in_ok-push.ensures.items, c.in_ok-push_marks.ensures, c.in_ok-push_bytes.ensures, words, append_assoc)

@@ -1,0 +1,7 @@
+use Rattle.std.proofs.Common.{◌≡◌, ◌++◌, take}
+use Rattle.std.specs.List.{flat_map}
+use Rattle.plan_text.specs.PlanTexts.{variable_line}
+use Rattle.plan_text.proofs.head.push_variables.Given as goal
+
+abbrev pub invariant-loop-var : goal.invariant-loop-var
+invariant-loop-var l = l.out.items ≡ l.initial.out.items ++ flat_map (variable_line l.header) (take l.var-index l.vars)

@@ -1,0 +1,7 @@
+use Rattle.std.proofs.Common.{◌≡◌, ◌++◌, take}
+use Rattle.std.specs.List.{flat_map}
+use Rattle.plan_text.specs.StepTexts.{asked_line}
+use Rattle.plan_text.proofs.phases.push_asked.Given as goal
+
+abbrev pub invariant-loop-asked : goal.invariant-loop-asked
+invariant-loop-asked l = l.out.items ≡ l.initial.out.items ++ flat_map (asked_line l.direction) (take l.asked-index l.list)

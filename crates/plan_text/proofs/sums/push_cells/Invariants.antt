@@ -1,0 +1,7 @@
+use Rattle.std.proofs.Common.{◌≡◌, ◌++◌, take}
+use Rattle.std.specs.List.{flat_map}
+use Rattle.plan_text.specs.PlanTexts.{cell_line}
+use Rattle.plan_text.proofs.sums.push_cells.Given as goal
+
+abbrev pub invariant-loop-cell : goal.invariant-loop-cell
+invariant-loop-cell l = l.out.items ≡ l.initial.out.items ++ flat_map cell_line (take l.cell-index l.cells)

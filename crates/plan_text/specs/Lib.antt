@@ -1,0 +1,4 @@
+pub mod PlanExamples
+pub mod PlanTexts
+pub mod PlanWords
+pub mod StepTexts
