@@ -39,6 +39,10 @@ json_array values = 91 ∷ joined 44 values ++ 93 ∷ []  -- commas between, in 
 abbrev pub array_of : {A : Type 0} → (A → List ℕ) → List A → List ℕ
 array_of value items = json_array (map value items)
 
+-- what stands before an item of an array: nothing before the first
+abbrev pub comma : ℕ → List ℕ
+comma n = if n == 0 then [] else 44 ∷ []
+
 abbrev pub json_object : List (List ℕ) → List ℕ
 json_object members = 123 ∷ joined 44 members ++ 125 ∷ []  -- commas between, in { and }
 

@@ -14,17 +14,25 @@ use Rattle.plan_text.specs.JsonHead.{dataset_object, hint_object}
 use Rattle.plan_text.specs.JsonSteps.{device_call, step_object}
 use Rattle.plan_text.specs.JsonSums.{sums_object}
 
+-- what stands before what is done
+abbrev pub head_members : Script → Header → ℕ → List StepPlan → List (List ℕ)
+head_members script header length steps =
+    member "plan" (json_number 1)
+    ∷ member "ranks" (json_number script.ranks)
+    ∷ member "order" (array_of (λ step. json_text (mark_word step.mark)) steps)
+    ∷ on_line (member "dataset" (dataset_object header length))
+    ∷ on_line (member "hints" (array_of (hint_object script) hint_table))
+    ∷ []
+
+-- what is done, and its sums
+abbrev pub plan_members : Script → RunPlan → Sums → List (List ℕ)
+plan_members script plan sums =
+    on_line (member "opening" (array_of device_call plan.opening))
+    ∷ on_line (member "steps" (array_of (λ step. on_line (step_object script plan step)) plan.steps))
+    ∷ on_line (member "close" (array_of device_call (count_call plan.close)))
+    ∷ on_line (member "sums" (sums_object sums))
+    ∷ []
+
 abbrev pub plan_json_of : Script → Header → ℕ → RunPlan → Sums → List ℕ
 plan_json_of script header length plan sums =
-    json_object (
-      member "plan" (json_number 1)
-      ∷ member "ranks" (json_number script.ranks)
-      ∷ member "order" (array_of (λ step. json_text (mark_word step.mark)) plan.steps)
-      ∷ on_line (member "dataset" (dataset_object header length))
-      ∷ on_line (member "hints" (array_of (hint_object script) hint_table))
-      ∷ on_line (member "opening" (array_of device_call plan.opening))
-      ∷ on_line (member "steps" (array_of (λ step. on_line (step_object script plan step)) plan.steps))
-      ∷ on_line (member "close" (array_of device_call (count_call plan.close)))
-      ∷ on_line (member "sums" (sums_object sums))
-      ∷ []
-    ) ++ 10 ∷ []  -- a newline
+    json_object (head_members script header length plan.steps ++ plan_members script plan sums) ++ 10 ∷ []  -- a newline

@@ -3,33 +3,26 @@
 --     caller_object script plan c         a call that comes together with others: its word, and what it is answered
 --     phase_object phase                  the puts or the gets of a step: what is asked for, domains, windows, and whose the bytes are
 --     step_object script plan step        a step, with all its device calls in order
-use Rattle.std.specs.Prelude.{ℕ, ◌+◌, ◌-◌, ◌^◌, min, List, [], ◌∷◌, not, Option, Some, None, slice_get, codes}
-use Rattle.nc_base.specs.declared.answer.Answer.{Answer}
-use Rattle.nc_base.specs.declared.answer.Code.{Code}
-use Rattle.nc_base.specs.declared.answer.Code.TheVariants as code
+use Rattle.std.specs.Prelude.{ℕ, List, [], ◌∷◌, ◌++◌, not, slice_get, codes}
 use Rattle.nc_base.specs.declared.answer.Pair.{Pair}
-use Rattle.nc_base.specs.declared.plan.Extent.{Extent}
-use Rattle.nc_base.specs.declared.request.Call.{Call}
 use Rattle.nc_base.specs.declared.script.Script.{Script}
 use Rattle.nc_base.specs.declared.step.DiskCall.{DiskCall}
 use Rattle.nc_base.specs.declared.step.DiskCall.TheVariants.{Grow, Load, Store}
 use Rattle.serial_spec.specs.History.{is_meeting}
-use Rattle.script_spec.specs.Texts.{call_word, code_word, mark_word}
+use Rattle.script_spec.specs.Texts.{mark_word}
 use Rattle.window_plan.specs.declared.plan.Owner.{Owner}
 use Rattle.window_plan.specs.declared.plan.Share.{Share}
 use Rattle.window_plan.specs.declared.plan.WindowPlan.{WindowPlan}
 use Rattle.step_plan.specs.declared.plan.Asked.{Asked}
 use Rattle.step_plan.specs.declared.plan.Caller.{Caller}
 use Rattle.step_plan.specs.declared.plan.DomainPlan.{DomainPlan}
+use Rattle.step_plan.specs.declared.plan.FilePlan.{FilePlan}
 use Rattle.step_plan.specs.declared.plan.Phase.{Phase}
 use Rattle.step_plan.specs.declared.plan.StepPlan.{StepPlan}
 use Rattle.step_plan.specs.Steps.{file_calls}
 use Rattle.run_plan.specs.declared.run.RunPlan.{RunPlan}
-use Rattle.plan_text.specs.Json.{array_of, json_array, json_null, json_number, json_object, json_text, json_truth, member, or_null}
-
--- the place behind the last byte, or the greatest number of 64 bits where it is more
-abbrev pub end_place : Extent → ℕ
-end_place e = min (e.at + e.len) (2 ^ 64 - 1)
+use Rattle.plan_text.specs.Json.{array_of, json_array, json_number, json_object, json_text, json_truth, member, or_null}
+use Rattle.plan_text.specs.PlanWords.{end_place, outcome_in, word_in}
 
 -- ---- device calls
 
@@ -80,28 +73,6 @@ phase_object phase = json_object (member "asked" (array_of asked_object phase.as
 
 -- ---- calls and their answers
 
--- the word of a call that is there
-abbrev pub word_of_some : Option Call → List ℕ
-word_of_some None = []
-word_of_some (Some c) = call_word c
-
-abbrev pub word_in : Option (List Call) → ℕ → List ℕ
-word_in None k = []
-word_in (Some calls) k = word_of_some (slice_get calls k)
-
--- two puts that share a byte keep a step from writing: told in place of ok
-abbrev pub outcome_word : Code → Option Pair → List ℕ
-outcome_word code.Ok (Some p) = codes "overlap"
-outcome_word c _ = code_word c
-
-abbrev pub outcome_of_some : Option Answer → List ℕ
-outcome_of_some None = []
-outcome_of_some (Some a) = outcome_word a.code a.pair
-
-abbrev pub outcome_in : Option (List Answer) → ℕ → List ℕ
-outcome_in None k = []
-outcome_in (Some answers) k = outcome_of_some (slice_get answers k)
-
 abbrev pub caller_object : Script → RunPlan → Caller → List ℕ
 caller_object script plan c =
     json_object (
@@ -124,15 +95,22 @@ overlap_object p =
       ∷ []
     )
 
+-- the mark of a step, and the calls that come together in it
+abbrev pub call_members : Script → RunPlan → StepPlan → List (List ℕ)
+call_members script plan step =
+    member "mark" (json_text (mark_word step.mark))
+    ∷ member "collective" (json_truth (is_meeting step.mark))
+    ∷ member "calls" (array_of (caller_object script plan) step.callers)
+    ∷ []
+
+-- what it does to the file
+abbrev pub file_members : FilePlan → List (List ℕ)
+file_members file =
+    member "overlap" (or_null overlap_object file.overlap)
+    ∷ member "put" (phase_object file.puts)
+    ∷ member "get" (phase_object file.gets)
+    ∷ member "device" (array_of device_call (file_calls file))
+    ∷ []
+
 abbrev pub step_object : Script → RunPlan → StepPlan → List ℕ
-step_object script plan step =
-    json_object (
-      member "mark" (json_text (mark_word step.mark))
-      ∷ member "collective" (json_truth (is_meeting step.mark))
-      ∷ member "calls" (array_of (caller_object script plan) step.callers)
-      ∷ member "overlap" (or_null overlap_object step.file.overlap)
-      ∷ member "put" (phase_object step.file.puts)
-      ∷ member "get" (phase_object step.file.gets)
-      ∷ member "device" (array_of device_call (file_calls step.file))
-      ∷ []
-    )
+step_object script plan step = json_object (call_members script plan step ++ file_members step.file)

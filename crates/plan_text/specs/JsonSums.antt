@@ -1,7 +1,7 @@
 -- What a plan's JSON document tells of the sums. (own)
 --     moved_object tally                  the reads or the writes
 --     sums_object sums                    all sums
-use Rattle.std.specs.Prelude.{ℕ, List, [], ◌∷◌}
+use Rattle.std.specs.Prelude.{ℕ, List, [], ◌∷◌, ◌++◌}
 use Rattle.plan_sums.specs.declared.cells.Cell.{Cell}
 use Rattle.plan_sums.specs.declared.sums.Naive.{Naive}
 use Rattle.plan_sums.specs.declared.sums.Sums.{Sums}
@@ -33,16 +33,22 @@ cell_object c =
       ∷ []
     )
 
+-- the reads and the writes of the plan, and those of naive I/O
+abbrev pub moved_members : Sums → List (List ℕ)
+moved_members s =
+    member "reads" (moved_object s.reads)
+    ∷ member "writes" (moved_object s.writes)
+    ∷ member "naive_reads" (naive_object s.naive_reads)
+    ∷ member "naive_writes" (naive_object s.naive_writes)
+    ∷ []
+
 abbrev pub sums_object : Sums → List ℕ
 sums_object s =
     json_object (
       member "grows" (json_number s.grows)
-      ∷ member "reads" (moved_object s.reads)
-      ∷ member "writes" (moved_object s.writes)
-      ∷ member "naive_reads" (naive_object s.naive_reads)
-      ∷ member "naive_writes" (naive_object s.naive_writes)
-      ∷ member "read_beside" (json_number s.read_over)
+      ∷ moved_members s
+      ++ (member "read_beside" (json_number s.read_over)
       ∷ member "written_beside" (json_number s.written_over)
       ∷ member "matrix" (array_of cell_object s.matrix)
-      ∷ []
+      ∷ [])
     )

@@ -1,9 +1,15 @@
 // The parts of a JSON document: RFC 8259.
+ghost use Rattle.std.specs.Prelude.{◌≡◌, ◌++◌, OnOk, codes, decimal};
+ghost use Rattle.plan_text.specs.Json.{array_of, comma, json_character, json_text, json_truth};
+ghost use Rattle.plan_text.specs.JsonSteps.{device_call};
+
 use nc_base::{DiskCall, Memory};
 use printed_text::words::{push_bytes, push_hex, push_numbered};
 
 /// The comma before each item of a list but the first.
-pub(crate) fn push_comma(out: &mut Vec<u8>, number: usize) -> Result<(), Memory> {
+pub(crate) fn push_comma(out: &mut Vec<u8>, number: usize) -> Result<(), Memory>
+    ensures { OnOk result (out.new.items ≡ out.old.items ++ comma number) }
+{
     if number > 0 {
         out.push(b',')?;
     }
@@ -11,7 +17,9 @@ pub(crate) fn push_comma(out: &mut Vec<u8>, number: usize) -> Result<(), Memory>
 }
 
 /// A text: each byte is one character, and one that is not printable ASCII is escaped.
-pub(crate) fn push_text(out: &mut Vec<u8>, text: &[u8]) -> Result<(), Memory> {
+pub(crate) fn push_text(out: &mut Vec<u8>, text: &[u8]) -> Result<(), Memory>
+    ensures { OnOk result (out.new.items ≡ out.old.items ++ json_text text.now) }
+{
     out.push(b'"')?;
     for byte in text {
         push_character(out, *byte)?;
@@ -20,7 +28,9 @@ pub(crate) fn push_text(out: &mut Vec<u8>, text: &[u8]) -> Result<(), Memory> {
     Ok(())
 }
 
-fn push_character(out: &mut Vec<u8>, byte: u8) -> Result<(), Memory> {
+fn push_character(out: &mut Vec<u8>, byte: u8) -> Result<(), Memory>
+    ensures { OnOk result (out.new.items ≡ out.old.items ++ json_character byte) }
+{
     match byte {
         b'"' => push_bytes(out, b"\\\""),
         b'\\' => push_bytes(out, b"\\\\"),
@@ -33,13 +43,18 @@ fn push_character(out: &mut Vec<u8>, byte: u8) -> Result<(), Memory> {
 }
 
 /// Words, and `true` or `false`.
-pub(crate) fn push_truth(out: &mut Vec<u8>, words: &[u8], truth: bool) -> Result<(), Memory> {
+pub(crate) fn push_truth(out: &mut Vec<u8>, words: &[u8], truth: bool) -> Result<(), Memory>
+    ensures { OnOk result (out.new.items ≡ out.old.items ++ (words.now ++ json_truth truth)) }
+{
     push_bytes(out, words)?;
     push_bytes(out, if truth { b"true" } else { b"false" })
 }
 
 /// A list of device calls.
-pub(crate) fn push_calls(out: &mut Vec<u8>, calls: &[DiskCall]) -> Result<(), Memory> {
+#[tactic(auto, using(crate::proofs::ArrayLaws::array_more))]
+pub(crate) fn push_calls(out: &mut Vec<u8>, calls: &[DiskCall]) -> Result<(), Memory>
+    ensures { OnOk result (out.new.items ≡ out.old.items ++ array_of device_call calls.now) }
+{
     out.push(b'[')?;
     for (number, call) in calls.iter().enumerate() {
         push_comma(out, number)?;
@@ -49,7 +64,9 @@ pub(crate) fn push_calls(out: &mut Vec<u8>, calls: &[DiskCall]) -> Result<(), Me
     Ok(())
 }
 
-fn push_call(out: &mut Vec<u8>, call: DiskCall) -> Result<(), Memory> {
+fn push_call(out: &mut Vec<u8>, call: DiskCall) -> Result<(), Memory>
+    ensures { OnOk result (out.new.items ≡ out.old.items ++ device_call call) }
+{
     match call {
         DiskCall::Grow(size) => push_numbered(out, b"{\"call\":\"grow\",\"length\":", size)?,
         DiskCall::Load(at, len) => push_transfer(out, b"{\"call\":\"read\",\"place\":", at, len)?,
@@ -61,7 +78,9 @@ fn push_call(out: &mut Vec<u8>, call: DiskCall) -> Result<(), Memory> {
     Ok(())
 }
 
-fn push_transfer(out: &mut Vec<u8>, words: &[u8], at: u64, len: u64) -> Result<(), Memory> {
+fn push_transfer(out: &mut Vec<u8>, words: &[u8], at: u64, len: u64) -> Result<(), Memory>
+    ensures { OnOk result (out.new.items ≡ out.old.items ++ (words.now ++ decimal at ++ codes ",\"length\":" ++ decimal len)) }
+{
     push_numbered(out, words, at)?;
     push_numbered(out, b",\"length\":", len)
 }
