@@ -1,9 +1,9 @@
--- Arrays that are written item by item.
+-- Arrays that are written item by item, and objects that are written in two parts.
 use Rattle.std.proofs.Common.{◌≡◌, ℕ, zero, suc, ◌+◌, ◌<◌, ◌≤◌, List, [], ◌∷◌, ◌++◌, length, map, take, get_or, refl, sym, ap, ◌∙◌, arith}
 use Rattle.std.proofs.lemmas.List.{append_assoc, map_more}
 use Rattle.std.proofs.lemmas.Grind.{common_steps}
 use Rattle.script_spec.specs.Texts.{joined}
-use Rattle.plan_text.specs.Json.{comma}
+use Rattle.plan_text.specs.Json.{closed, comma}
 
 pub comma_first : (n : ℕ) → n ≤ 0 → comma n ≡ []
 comma_first zero h = refl
@@ -30,3 +30,29 @@ array_more {A} f front xs i d h =
     ∙ ap (λ (t : List ℕ). front ++ t) (joined_push (map f (take i xs)) (f (get_or xs i d)))
     ∙ ap (λ (n : ℕ). front ++ (joined 44 (map f (take i xs)) ++ (comma n ++ f (get_or xs i d)))) whole
     ∙ sym (append_assoc (front ++ joined 44 (map f (take i xs))) (comma i) (f (get_or xs i d)) ∙ append_assoc front (joined 44 (map f (take i xs))) (comma i ++ f (get_or xs i d)))
+
+-- the last members of an object
+pub closed_end : (ms : List (List ℕ)) → joined 44 ms ++ 125 ∷ [] ≡ closed ms
+closed_end [] = refl
+closed_end (m ∷ []) = refl
+closed_end (m ∷ n ∷ ms) =
+    append_assoc m (44 ∷ joined 44 (n ∷ ms)) (125 ∷ [])
+    ∙ ap (λ (t : List ℕ). m ++ 44 ∷ t) (closed_end (n ∷ ms))
+
+-- members, and those after them
+pub closed_more : (ms ns : List (List ℕ)) → 0 < length ms → 0 < length ns → joined 44 ms ++ 44 ∷ closed ns ≡ closed (ms ++ ns)
+closed_more [] ns h k = absurd (omega arith)
+closed_more (m ∷ []) [] h k = absurd (omega arith)
+closed_more (m ∷ []) (n ∷ ns) h k = refl
+closed_more (m ∷ l ∷ ms) ns h k =
+    append_assoc m (44 ∷ joined 44 (l ∷ ms)) (44 ∷ closed ns)
+    ∙ ap (λ (t : List ℕ). m ++ 44 ∷ t) (closed_more (l ∷ ms) ns (omega arith) k)
+
+-- the two parts of a document, and its end
+pub document_closed : (ms ns : List (List ℕ)) → 0 < length ms → 0 < length ns
+    → joined 44 ms ++ ((44 ∷ joined 44 ns) ++ 125 ∷ 10 ∷ []) ≡ closed (ms ++ ns) ++ 10 ∷ []
+document_closed ms ns h k =
+    ap (λ (t : List ℕ). joined 44 ms ++ 44 ∷ t) (sym (append_assoc (joined 44 ns) (125 ∷ []) (10 ∷ [])))
+    ∙ ap (λ (t : List ℕ). joined 44 ms ++ 44 ∷ (t ++ 10 ∷ [])) (closed_end ns)
+    ∙ sym (append_assoc (joined 44 ms) (44 ∷ closed ns) (10 ∷ []))
+    ∙ ap (λ (t : List ℕ). t ++ 10 ∷ []) (closed_more ms ns h k)

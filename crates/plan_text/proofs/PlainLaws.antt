@@ -3,6 +3,7 @@ use Rattle.std.proofs.Common.{◌≡◌, ℕ, zero, suc, ◌+◌, ◌/◌, ◌%�
 use Rattle.std.specs.Prelude.{slice_get}
 use Rattle.std.specs.List.{flat_map}
 use Rattle.std.specs.Fmt.{digit_glyph, digits, digits_onto}
+use Rattle.std.proofs.lemmas.List.{append_assoc}
 use Rattle.std.proofs.lemmas.List.Concat.{flat_map-append}
 use Rattle.nc_base.specs.declared.request.Call.{Call}
 use Rattle.nc_base.specs.declared.request.Call.TheVariants as call
@@ -13,7 +14,7 @@ use Rattle.nc_base.specs.declared.request.PostKind.TheVariants.{Iput, Iget, Bput
 use Rattle.nc_base.specs.declared.step.Mark.{Mark}
 use Rattle.nc_base.specs.declared.step.Mark.TheVariants.{Meet, Solo}
 use Rattle.script_spec.specs.Texts.{call_word, form_word, kind_word, mark_word, with_all}
-use Rattle.plan_text.specs.Json.{json_character}
+use Rattle.plan_text.specs.Json.{json_character, json_text}
 use Rattle.plan_text.specs.PlanWords.{word_in, word_of_some}
 
 -- each byte is its own character
@@ -25,6 +26,16 @@ append_plain xs ys h k =
     flat_map-append json_character xs ys
     ∙ ap (λ (t : List ℕ). t ++ flat_map json_character ys) h
     ∙ ap (λ (t : List ℕ). xs ++ t) k
+
+-- such a text between quotes
+pub text_pushed : (o x y z word : List ℕ) → IsPlain word → x ≡ o ++ 34 ∷ [] → y ≡ x ++ word → z ≡ y ++ 34 ∷ [] → z ≡ o ++ json_text word
+text_pushed o x y z word plain e f g =
+    g
+    ∙ ap (λ (t : List ℕ). t ++ 34 ∷ []) f
+    ∙ ap (λ (t : List ℕ). (t ++ word) ++ 34 ∷ []) e
+    ∙ append_assoc (o ++ 34 ∷ []) word (34 ∷ [])
+    ∙ append_assoc o (34 ∷ []) (word ++ 34 ∷ [])
+    ∙ ap (λ (t : List ℕ). o ++ 34 ∷ (t ++ 34 ∷ [])) (sym plain)
 
 -- ---- numbers
 
@@ -52,7 +63,7 @@ decimal_plain : (n : ℕ) → IsPlain (decimal n)
 unfolding digits
 decimal_plain n = digits_plain 64 n [] refl
 
-pub mark_plain : (mark : Mark) → flat_map json_character (mark_word mark) ≡ mark_word mark
+pub mark_plain : (mark : Mark) → IsPlain (mark_word mark)
 mark_plain (Meet k) = ap (λ (t : List ℕ). 109 ∷ t) (decimal_plain k)
 mark_plain (Solo r c) =
     append_plain (115 ∷ decimal r) (46 ∷ decimal c)
@@ -96,6 +107,6 @@ some_plain : (o : Option Call) → IsPlain (word_of_some o)
 some_plain None = refl
 some_plain (Some c) = call_plain c
 
-pub word_plain : (o : Option (List Call)) (k : ℕ) → flat_map json_character (word_in o k) ≡ word_in o k
+pub word_plain : (o : Option (List Call)) (k : ℕ) → IsPlain (word_in o k)
 word_plain None k = refl
 word_plain (Some calls) k = some_plain (slice_get calls k)

@@ -7,7 +7,7 @@
 --     json_object members                 an object; member name value is one of its members
 --     on_line part                        a part that begins a line
 use Prim.Native.String.{String}
-use Rattle.std.specs.Prelude.{ℕ, List, [], ◌∷◌, ◌++◌, map, flat_map, Bool, ◌&&◌, nat_le, ◌==◌, if◌then◌else◌, Option, Some, None, codes, decimal}
+use Rattle.std.specs.Prelude.{ℕ, zero, suc, List, [], ◌∷◌, ◌++◌, map, flat_map, Bool, ◌&&◌, nat_le, ◌==◌, if◌then◌else◌, Option, Some, None, codes, decimal}
 use Rattle.script_spec.specs.Texts.{hex, joined}
 
 abbrev pub json_number : ℕ → List ℕ
@@ -41,10 +41,17 @@ array_of value items = json_array (map value items)
 
 -- what stands before an item of an array: nothing before the first
 abbrev pub comma : ℕ → List ℕ
-comma n = if n == 0 then [] else 44 ∷ []
+comma zero = []
+comma (suc n) = 44 ∷ []
+
+-- members with commas between, and } behind the last one
+abbrev pub closed : List (List ℕ) → List ℕ
+closed [] = 125 ∷ []
+closed (m ∷ []) = m ++ 125 ∷ []
+closed (m ∷ n ∷ ms) = m ++ 44 ∷ closed (n ∷ ms)
 
 abbrev pub json_object : List (List ℕ) → List ℕ
-json_object members = 123 ∷ joined 44 members ++ 125 ∷ []  -- commas between, in { and }
+json_object members = 123 ∷ closed members
 
 abbrev pub member : String → List ℕ → List ℕ
 member name value = json_text (codes name) ++ 58 ∷ value  -- a colon

@@ -42,13 +42,13 @@ moved_members s =
     ∷ member "naive_writes" (naive_object s.naive_writes)
     ∷ []
 
+-- what is moved beside what is asked for, and what goes through each aggregator
+abbrev pub beside_members : Sums → List (List ℕ)
+beside_members s =
+    member "read_beside" (json_number s.read_over)
+    ∷ member "written_beside" (json_number s.written_over)
+    ∷ member "matrix" (array_of cell_object s.matrix)
+    ∷ []
+
 abbrev pub sums_object : Sums → List ℕ
-sums_object s =
-    json_object (
-      member "grows" (json_number s.grows)
-      ∷ moved_members s
-      ++ (member "read_beside" (json_number s.read_over)
-      ∷ member "written_beside" (json_number s.written_over)
-      ∷ member "matrix" (array_of cell_object s.matrix)
-      ∷ [])
-    )
+sums_object s = json_object (member "grows" (json_number s.grows) ∷ moved_members s ++ beside_members s)

@@ -1,7 +1,8 @@
 // The parts of a JSON document: RFC 8259.
-ghost use Rattle.std.specs.Prelude.{◌≡◌, ◌++◌, OnOk, codes, decimal};
+ghost use Rattle.std.specs.Prelude.{◌≡◌, ◌++◌, OnOk};
+ghost use Rattle.nc_base.specs.declared.step.DiskCall.TheVariants.{Grow};
 ghost use Rattle.plan_text.specs.Json.{array_of, comma, json_character, json_text, json_truth};
-ghost use Rattle.plan_text.specs.JsonSteps.{device_call};
+ghost use Rattle.plan_text.specs.JsonSteps.{device_call, transfer};
 
 use nc_base::{DiskCall, Memory};
 use printed_text::words::{push_bytes, push_hex, push_numbered};
@@ -68,19 +69,27 @@ fn push_call(out: &mut Vec<u8>, call: DiskCall) -> Result<(), Memory>
     ensures { OnOk result (out.new.items ≡ out.old.items ++ device_call call) }
 {
     match call {
-        DiskCall::Grow(size) => push_numbered(out, b"{\"call\":\"grow\",\"length\":", size)?,
-        DiskCall::Load(at, len) => push_transfer(out, b"{\"call\":\"read\",\"place\":", at, len)?,
-        DiskCall::Store(at, len) => {
-            push_transfer(out, b"{\"call\":\"write\",\"place\":", at, len)?
-        }
+        DiskCall::Grow(size) => push_growth(out, size),
+        DiskCall::Load(at, len) => push_transfer(out, b"read", at, len),
+        DiskCall::Store(at, len) => push_transfer(out, b"write", at, len),
     }
+}
+
+fn push_growth(out: &mut Vec<u8>, size: u64) -> Result<(), Memory>
+    ensures { OnOk result (out.new.items ≡ out.old.items ++ device_call (Grow size)) }
+{
+    push_numbered(out, b"{\"call\":\"grow\",\"length\":", size)?;
     out.push(b'}')?;
     Ok(())
 }
 
-fn push_transfer(out: &mut Vec<u8>, words: &[u8], at: u64, len: u64) -> Result<(), Memory>
-    ensures { OnOk result (out.new.items ≡ out.old.items ++ (words.now ++ decimal at ++ codes ",\"length\":" ++ decimal len)) }
+fn push_transfer(out: &mut Vec<u8>, word: &[u8], at: u64, len: u64) -> Result<(), Memory>
+    ensures { OnOk result (out.new.items ≡ out.old.items ++ transfer word.now at len) }
 {
-    push_numbered(out, words, at)?;
-    push_numbered(out, b",\"length\":", len)
+    push_bytes(out, b"{\"call\":")?;
+    push_text(out, word)?;
+    push_numbered(out, b",\"place\":", at)?;
+    push_numbered(out, b",\"length\":", len)?;
+    out.push(b'}')?;
+    Ok(())
 }

@@ -48,7 +48,8 @@ fn push_head(out: &mut Vec<u8>, document: &Document) -> Result<(), Memory>
     push_bytes(out, b",\n\"dataset\":")?;
     push_dataset(out, document.header, document.length)?;
     push_bytes(out, b",\n\"hints\":")?;
-    push_hints(out, document.script)
+    push_hints(out, document.script)?;
+    Ok(())
 }
 
 /// What is done, and its sums.
@@ -68,7 +69,8 @@ fn push_plan(
     push_bytes(out, b",\n\"close\":")?;
     push_close(out, plan.close)?;
     push_bytes(out, b",\n\"sums\":")?;
-    push_sums(out, sums)
+    push_sums(out, sums)?;
+    Ok(())
 }
 
 #[tactic(auto, using(crate::proofs::ArrayLaws::array_more))]
@@ -85,7 +87,6 @@ fn push_order(out: &mut Vec<u8>, steps: &[StepPlan]) -> Result<(), Memory>
 }
 
 /// A mark as a text.
-#[tactic(auto, using(crate::proofs::PlainLaws::mark_plain))]
 pub(crate) fn push_mark_text(out: &mut Vec<u8>, mark: Mark) -> Result<(), Memory>
     ensures { OnOk result (out.new.items ≡ out.old.items ++ json_text (mark_word mark)) }
 {

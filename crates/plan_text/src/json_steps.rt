@@ -1,17 +1,17 @@
 // The JSON document of a plan: its steps.
-ghost use Rattle.std.specs.Prelude.{◌≡◌, ◌++◌, ◌∷◌, OnOk, codes, decimal, slice_get};
+ghost use Rattle.std.specs.Prelude.{◌≡◌, ◌++◌, ◌∷◌, OnOk, slice_get};
 ghost use Rattle.serial_spec.specs.History.{is_meeting};
 ghost use Rattle.script_spec.specs.Texts.{joined};
 ghost use Rattle.step_plan.specs.Steps.{file_calls};
 ghost use Rattle.plan_text.specs.Json.{array_of, json_number, json_text, on_line, or_null};
 ghost use Rattle.plan_text.specs.JsonSteps.{asked_object, call_members, caller_object, device_call, domain_object, file_members, overlap_object, phase_object, piece_array, share_object, step_object, window_object};
-ghost use Rattle.plan_text.specs.PlanWords.{end_place, word_in};
+ghost use Rattle.plan_text.specs.PlanWords.{word_in};
 
 use crate::json::{push_calls, push_comma, push_text, push_truth};
 use crate::json_head::push_mark_text;
 use crate::steps::{answer_of, push_word_of};
 use crate::words::end_of;
-use nc_base::{Extent, Mark, Memory, Pair, Script};
+use nc_base::{Mark, Memory, Pair, Script};
 use printed_text::words::{push_bytes, push_decimal, push_numbered};
 use run_plan::RunPlan;
 use std::alloc::Global;
@@ -104,7 +104,6 @@ fn push_caller(
 }
 
 /// The word of a call as a text.
-#[tactic(auto, using(crate::proofs::PlainLaws::word_plain))]
 fn push_word_text(out: &mut Vec<u8>, script: &Script, caller: Caller) -> Result<(), Memory>
     ensures { OnOk result (out.new.items ≡ out.old.items ++ json_text (word_in (slice_get script.now.calls caller.rank) caller.call)) }
 {
@@ -125,7 +124,8 @@ fn push_file(alloc: Global, out: &mut Vec<u8>, file: &FilePlan) -> Result<(), Me
     push_bytes(out, b",\"get\":")?;
     push_phase(out, &file.gets)?;
     push_bytes(out, b",\"device\":")?;
-    push_device(alloc, out, file)
+    push_device(alloc, out, file)?;
+    Ok(())
 }
 
 /// The device calls of a step.
@@ -134,7 +134,8 @@ fn push_device(alloc: Global, out: &mut Vec<u8>, file: &FilePlan) -> Result<(), 
 {
     let mut calls = Vec::new(alloc);
     device_calls(&mut calls, file)?;
-    push_calls(out, &calls)
+    push_calls(out, &calls)?;
+    Ok(())
 }
 
 /// Two requests that share a byte, or null.
@@ -212,7 +213,8 @@ fn push_domain(out: &mut Vec<u8>, domain: &DomainPlan) -> Result<(), Memory>
 {
     push_bytes(out, b"{\"aggregator\":")?;
     push_aggregator(out, domain.aggregator)?;
-    push_range(out, b",\"from\":", b",\"to\":", domain.extent)?;
+    push_numbered(out, b",\"from\":", domain.extent.at)?;
+    push_numbered(out, b",\"to\":", end_of(domain.extent))?;
     push_bytes(out, b",\"windows\":")?;
     push_windows(out, domain.windows.as_slice())?;
     out.push(b'}')?;
@@ -227,19 +229,6 @@ fn push_aggregator(out: &mut Vec<u8>, aggregator: Option<u32>) -> Result<(), Mem
         None => push_bytes(out, b"null"),
         Some(number) => push_decimal(out, u64::from(number)),
     }
-}
-
-/// The first byte of an extent and the one behind its last, with words before each.
-fn push_range(
-    out: &mut Vec<u8>,
-    first: &[u8],
-    second: &[u8],
-    extent: Extent,
-) -> Result<(), Memory>
-    ensures { OnOk result (out.new.items ≡ out.old.items ++ (first.now ++ decimal extent.at ++ second.now ++ decimal (end_place extent))) }
-{
-    push_numbered(out, first, extent.at)?;
-    push_numbered(out, second, end_of(extent))
 }
 
 #[tactic(auto, using(crate::proofs::ArrayLaws::array_more))]
@@ -258,7 +247,8 @@ fn push_windows(out: &mut Vec<u8>, windows: &[WindowPlan]) -> Result<(), Memory>
 fn push_window(out: &mut Vec<u8>, window: &WindowPlan) -> Result<(), Memory>
     ensures { OnOk result (out.new.items ≡ out.old.items ++ window_object window.now) }
 {
-    push_range(out, b"{\"from\":", b",\"to\":", window.hull)?;
+    push_numbered(out, b"{\"from\":", window.hull.at)?;
+    push_numbered(out, b",\"to\":", end_of(window.hull))?;
     push_truth(out, b",\"hole\":", !window.full)?;
     push_bytes(out, b",\"shares\":")?;
     push_shares(out, window.shares.as_slice())?;
@@ -307,7 +297,8 @@ fn push_owner(out: &mut Vec<u8>, owner: Owner) -> Result<(), Memory>
     ensures { OnOk result (out.new.items ≡ out.old.items ++ piece_array owner) }
 {
     push_numbered(out, b"[", u64::from(owner.rank))?;
-    push_range(out, b",", b",", owner.extent)?;
+    push_numbered(out, b",", owner.extent.at)?;
+    push_numbered(out, b",", end_of(owner.extent))?;
     out.push(b']')?;
     Ok(())
 }

@@ -29,7 +29,8 @@ fn push_moved(out: &mut Vec<u8>, sums: &Sums) -> Result<(), Memory>
     push_tally(out, b",\"reads\":", sums.reads)?;
     push_tally(out, b",\"writes\":", sums.writes)?;
     push_naive(out, b",\"naive_reads\":", sums.naive_reads)?;
-    push_naive(out, b",\"naive_writes\":", sums.naive_writes)
+    push_naive(out, b",\"naive_writes\":", sums.naive_writes)?;
+    Ok(())
 }
 
 /// Words, and the reads or the writes.

@@ -12,7 +12,6 @@ pub fn worked_text()
 {}
 
 /// The whole document of a plan.
-#[tactic(auto, unfolding(serial_spec::specs::HeaderBytes::canon))]
 pub fn worked_document()
     ensures { plan_json_of with_hole dataset_a 96 plan_with_hole sums_with_hole ≡ json_with_hole }
 {}
