@@ -2,6 +2,8 @@
 use Rattle.std.proofs.Common.{◌≡◌, ℕ, zero, suc, ◌+◌, ◌<◌, ◌≤◌, List, [], ◌∷◌, ◌++◌, length, map, take, get_or, refl, sym, ap, ◌∙◌, arith}
 use Rattle.std.proofs.lemmas.List.{append_assoc, map_more}
 use Rattle.std.proofs.lemmas.Grind.{common_steps}
+use Rattle.std.proofs.lemmas.Option.{slice_get-get_or}
+use Rattle.std.specs.Prelude.{slice_get, Some}
 use Rattle.script_spec.specs.Texts.{joined}
 use Rattle.plan_text.specs.Json.{closed, comma}
 
@@ -56,3 +58,27 @@ document_closed ms ns h k =
     ∙ ap (λ (t : List ℕ). joined 44 ms ++ 44 ∷ (t ++ 10 ∷ [])) (closed_end ns)
     ∙ sym (append_assoc (joined 44 ms) (44 ∷ closed ns) (10 ∷ []))
     ∙ ap (λ (t : List ℕ). t ++ 10 ∷ []) (closed_more ms ns h k)
+
+-- an item that goes last
+pub item_pushed : {A : Type 0} (f : A → List ℕ) (front now with_comma next : List ℕ) (xs : List A) (i : ℕ) (x : A) → i < length xs → x ≡ get_or xs i x
+    → now ≡ front ++ joined 44 (map f (take i xs)) → with_comma ≡ now ++ comma i → next ≡ with_comma ++ f x → next ≡ front ++ joined 44 (map f (take (i + 1) xs))
+item_pushed {A} f front now with_comma next xs i x within here so_far separated pushed =
+    pushed
+    ∙ ap (λ (t : List ℕ). t ++ f x) separated
+    ∙ ap (λ (t : List ℕ). (t ++ comma i) ++ f x) so_far
+    ∙ ap (λ (y : A). ((front ++ joined 44 (map f (take i xs))) ++ comma i) ++ f y) here
+    ∙ sym (array_more f front xs i x within)
+
+-- the same of an item that is copied
+pub copy_pushed : {A : Type 0} (f : A → List ℕ) (front now with_comma next : List ℕ) (xs : List A) (i : ℕ) (d : A) → i < length xs
+    → now ≡ front ++ joined 44 (map f (take i xs)) → with_comma ≡ now ++ comma i → next ≡ with_comma ++ f (get_or xs i d) → next ≡ front ++ joined 44 (map f (take (i + 1) xs))
+copy_pushed {A} f front now with_comma next xs i d within so_far separated pushed =
+    pushed
+    ∙ ap (λ (t : List ℕ). t ++ f (get_or xs i d)) separated
+    ∙ ap (λ (t : List ℕ). (t ++ comma i) ++ f (get_or xs i d)) so_far
+    ∙ sym (array_more f front xs i d within)
+
+-- an item by its place, in a list that is lent
+pub item_at : {A : Type 0} (list lent : List A) (k : ℕ) (x : A) → lent ≡ list → k < length lent → x ≡ get_or lent k x → slice_get list k ≡ Some x
+item_at {A} list lent k x same within here =
+    sym (ap (λ (xs : List A). slice_get xs k) same) ∙ slice_get-get_or lent k x within ∙ ap (λ (y : A). Some y) (sym here)

@@ -52,7 +52,6 @@ pub(crate) fn push_truth(out: &mut Vec<u8>, words: &[u8], truth: bool) -> Result
 }
 
 /// A list of device calls.
-#[tactic(auto, using(crate::proofs::ArrayLaws::array_more))]
 pub(crate) fn push_calls(out: &mut Vec<u8>, calls: &[DiskCall]) -> Result<(), Memory>
     ensures { OnOk result (out.new.items ≡ out.old.items ++ array_of device_call calls.now) }
 {

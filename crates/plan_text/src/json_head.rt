@@ -73,7 +73,6 @@ fn push_plan(
     Ok(())
 }
 
-#[tactic(auto, using(crate::proofs::ArrayLaws::array_more))]
 fn push_order(out: &mut Vec<u8>, steps: &[StepPlan]) -> Result<(), Memory>
     ensures { OnOk result (out.new.items ≡ out.old.items ++ array_of (λ step. json_text (mark_word step.mark)) steps.now) }
 {
@@ -111,13 +110,13 @@ fn push_dataset(out: &mut Vec<u8>, header: &Header, length: u64) -> Result<(), M
     Ok(())
 }
 
-#[tactic(auto, using(crate::proofs::ArrayLaws::array_more))]
 fn push_variables(out: &mut Vec<u8>, header: &Header) -> Result<(), Memory>
     requires { is_sound header.now ≡ true }
     ensures { OnOk result (out.new.items ≡ out.old.items ++ array_of (variable_object header.now) header.now.vars) }
 {
+    let vars = header.vars.as_slice();
     out.push(b'[')?;
-    for (number, var) in header.vars.as_slice().iter().enumerate() {
+    for (number, var) in vars.iter().enumerate() {
         push_comma(out, number)?;
         push_variable(out, header, number, var)?;
     }
@@ -153,7 +152,6 @@ fn push_hints(out: &mut Vec<u8>, script: &Script) -> Result<(), Memory>
     push_hints_named(out, &HINTS, script)
 }
 
-#[tactic(auto, using(crate::proofs::ArrayLaws::array_more))]
 fn push_hints_named(
     out: &mut Vec<u8>,
     names: &[HintName],

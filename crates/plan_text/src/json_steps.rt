@@ -20,7 +20,6 @@ use step_plan::{
 };
 
 /// The steps, on a line each.
-#[tactic(auto, using(crate::proofs::ArrayLaws::array_more))]
 pub(crate) fn push_steps(
     alloc: Global,
     out: &mut Vec<u8>,
@@ -29,8 +28,9 @@ pub(crate) fn push_steps(
 ) -> Result<(), Memory>
     ensures { OnOk result (out.new.items ≡ out.old.items ++ array_of (λ step. on_line (step_object script.now plan.now step)) plan.now.steps) }
 {
+    let steps = plan.steps.as_slice();
     out.push(b'[')?;
-    for (number, step) in plan.steps.as_slice().iter().enumerate() {
+    for (number, step) in steps.iter().enumerate() {
         push_comma(out, number)?;
         push_step(alloc, out, script, plan, step)?;
     }
@@ -67,7 +67,6 @@ fn is_meeting(mark: Mark) -> bool
     }
 }
 
-#[tactic(auto, using(crate::proofs::ArrayLaws::array_more))]
 fn push_callers(
     out: &mut Vec<u8>,
     script: &Script,
@@ -172,7 +171,6 @@ fn push_phase(out: &mut Vec<u8>, phase: &Phase) -> Result<(), Memory>
     Ok(())
 }
 
-#[tactic(auto, using(crate::proofs::ArrayLaws::array_more))]
 fn push_all_asked(out: &mut Vec<u8>, list: &[Asked]) -> Result<(), Memory>
     ensures { OnOk result (out.new.items ≡ out.old.items ++ array_of asked_object list.now) }
 {
@@ -195,7 +193,6 @@ fn push_asked(out: &mut Vec<u8>, asked: Asked) -> Result<(), Memory>
     Ok(())
 }
 
-#[tactic(auto, using(crate::proofs::ArrayLaws::array_more))]
 fn push_domains(out: &mut Vec<u8>, domains: &[DomainPlan]) -> Result<(), Memory>
     ensures { OnOk result (out.new.items ≡ out.old.items ++ array_of domain_object domains.now) }
 {
@@ -231,7 +228,6 @@ fn push_aggregator(out: &mut Vec<u8>, aggregator: Option<u32>) -> Result<(), Mem
     }
 }
 
-#[tactic(auto, using(crate::proofs::ArrayLaws::array_more))]
 fn push_windows(out: &mut Vec<u8>, windows: &[WindowPlan]) -> Result<(), Memory>
     ensures { OnOk result (out.new.items ≡ out.old.items ++ array_of window_object windows.now) }
 {
@@ -258,7 +254,6 @@ fn push_window(out: &mut Vec<u8>, window: &WindowPlan) -> Result<(), Memory>
     Ok(())
 }
 
-#[tactic(auto, using(crate::proofs::ArrayLaws::array_more))]
 fn push_shares(out: &mut Vec<u8>, shares: &[Share]) -> Result<(), Memory>
     ensures { OnOk result (out.new.items ≡ out.old.items ++ array_of share_object shares.now) }
 {
@@ -280,7 +275,6 @@ fn push_share(out: &mut Vec<u8>, share: Share) -> Result<(), Memory>
     Ok(())
 }
 
-#[tactic(auto, using(crate::proofs::ArrayLaws::array_more))]
 fn push_owners(out: &mut Vec<u8>, owners: &[Owner]) -> Result<(), Memory>
     ensures { OnOk result (out.new.items ≡ out.old.items ++ array_of piece_array owners.now) }
 {

@@ -58,7 +58,6 @@ fn push_naive(out: &mut Vec<u8>, words: &[u8], naive: Naive) -> Result<(), Memor
     Ok(())
 }
 
-#[tactic(auto, using(crate::proofs::ArrayLaws::array_more))]
 fn push_cells(out: &mut Vec<u8>, cells: &[Cell]) -> Result<(), Memory>
     ensures { OnOk result (out.new.items ≡ out.old.items ++ array_of cell_object cells.now) }
 {
