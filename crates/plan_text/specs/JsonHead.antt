@@ -16,24 +16,24 @@ use Rattle.plan_text.specs.Json.{array_of, json_number, json_object, json_text, 
 abbrev pub variable_object : Header → Var → List ℕ
 variable_object header v =
     json_object (
-      member "name" (json_text v.name)
-      ∷ member "type" (json_text (type_word v.kind))
-      ∷ member "begin" (json_number v.begin)
-      ∷ member "size" (json_number (slab header v))
-      ∷ member "record" (json_truth (is_record header v))
-      ∷ []
+    member "name" (json_text v.name)
+    ∷ member "type" (json_text (type_word v.kind))
+    ∷ member "begin" (json_number v.begin)
+    ∷ member "size" (json_number (slab header v))
+    ∷ member "record" (json_truth (is_record header v))
+    ∷ []
     )
 
 abbrev pub dataset_object : Header → ℕ → List ℕ
 dataset_object header length =
     json_object (
-      member "version" (json_number header.version)
-      ∷ member "header" (json_number (header_len header))
-      ∷ member "records" (json_number header.records)
-      ∷ member "record_size" (json_number (recsize header))
-      ∷ member "length" (json_number length)
-      ∷ member "variables" (array_of (variable_object header) header.vars)
-      ∷ []
+    member "version" (json_number header.version)
+    ∷ member "header" (json_number (header_len header))
+    ∷ member "records" (json_number header.records)
+    ∷ member "record_size" (json_number (recsize header))
+    ∷ member "length" (json_number length)
+    ∷ member "variables" (array_of (variable_object header) header.vars)
+    ∷ []
     )
 
 -- a number, or the word that it stands for
@@ -44,8 +44,8 @@ hint_value (Either zero_word one_word) n = json_text (if n == 1 then one_word el
 abbrev pub hint_object : Script → HintRow → List ℕ
 hint_object script row =
     json_object (
-      member "name" (json_text row.word)
-      ∷ member "value" (hint_value row.form (row.seen script.hints))
-      ∷ member "default" (hint_value row.form (row.default script.ranks))
-      ∷ []
+    member "name" (json_text row.word)
+    ∷ member "value" (hint_value row.form (row.seen script.hints))
+    ∷ member "default" (hint_value row.form (row.default script.ranks))
+    ∷ []
     )

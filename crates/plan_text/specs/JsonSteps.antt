@@ -47,22 +47,22 @@ piece_array o = json_array (json_number o.rank ∷ json_number o.extent.at ∷ j
 abbrev pub window_object : WindowPlan → List ℕ
 window_object w =
     json_object (
-      member "from" (json_number w.hull.at)
-      ∷ member "to" (json_number (end_place w.hull))
-      ∷ member "hole" (json_truth (not w.full))
-      ∷ member "shares" (array_of share_object w.shares)
-      ∷ member "pieces" (array_of piece_array w.owners)
-      ∷ []
+    member "from" (json_number w.hull.at)
+    ∷ member "to" (json_number (end_place w.hull))
+    ∷ member "hole" (json_truth (not w.full))
+    ∷ member "shares" (array_of share_object w.shares)
+    ∷ member "pieces" (array_of piece_array w.owners)
+    ∷ []
     )
 
 abbrev pub domain_object : DomainPlan → List ℕ
 domain_object d =
     json_object (
-      member "aggregator" (or_null json_number d.aggregator)
-      ∷ member "from" (json_number d.extent.at)
-      ∷ member "to" (json_number (end_place d.extent))
-      ∷ member "windows" (array_of window_object d.windows)
-      ∷ []
+    member "aggregator" (or_null json_number d.aggregator)
+    ∷ member "from" (json_number d.extent.at)
+    ∷ member "to" (json_number (end_place d.extent))
+    ∷ member "windows" (array_of window_object d.windows)
+    ∷ []
     )
 
 abbrev pub asked_object : Asked → List ℕ
@@ -76,11 +76,11 @@ phase_object phase = json_object (member "asked" (array_of asked_object phase.as
 abbrev pub caller_object : Script → RunPlan → Caller → List ℕ
 caller_object script plan c =
     json_object (
-      member "rank" (json_number c.rank)
-      ∷ member "call" (json_number c.call)
-      ∷ member "name" (json_text (word_in (slice_get script.calls c.rank) c.call))
-      ∷ member "answer" (json_text (outcome_in (slice_get plan.answers c.rank) c.call))
-      ∷ []
+    member "rank" (json_number c.rank)
+    ∷ member "call" (json_number c.call)
+    ∷ member "name" (json_text (word_in (slice_get script.calls c.rank) c.call))
+    ∷ member "answer" (json_text (outcome_in (slice_get plan.answers c.rank) c.call))
+    ∷ []
     )
 
 -- ---- a step
@@ -89,10 +89,10 @@ caller_object script plan c =
 abbrev pub overlap_object : Pair → List ℕ
 overlap_object p =
     json_object (
-      member "ranks" (json_array (json_number p.rank1 ∷ json_number p.rank2 ∷ []))
-      ∷ member "ids" (json_array (json_number p.request1 ∷ json_number p.request2 ∷ []))
-      ∷ member "byte" (json_number p.at)
-      ∷ []
+    member "ranks" (json_array (json_number p.rank1 ∷ json_number p.rank2 ∷ []))
+    ∷ member "ids" (json_array (json_number p.request1 ∷ json_number p.request2 ∷ []))
+    ∷ member "byte" (json_number p.at)
+    ∷ []
     )
 
 -- the mark of a step, and the calls that come together in it

@@ -11,12 +11,12 @@ use Rattle.plan_text.specs.Json.{array_of, json_number, json_object, member}
 abbrev pub moved_object : Tally → List ℕ
 moved_object t =
     json_object (
-      member "calls" (json_number t.calls)
-      ∷ member "bytes" (json_number t.bytes)
-      ∷ member "least" (json_number t.least)
-      ∷ member "most" (json_number t.most)
-      ∷ member "unaligned" (json_number t.unaligned)
-      ∷ []
+    member "calls" (json_number t.calls)
+    ∷ member "bytes" (json_number t.bytes)
+    ∷ member "least" (json_number t.least)
+    ∷ member "most" (json_number t.most)
+    ∷ member "unaligned" (json_number t.unaligned)
+    ∷ []
     )
 
 abbrev pub naive_object : Naive → List ℕ
@@ -26,11 +26,11 @@ naive_object n = json_object (member "calls" (json_number n.calls) ∷ member "b
 abbrev pub cell_object : Cell → List ℕ
 cell_object c =
     json_object (
-      member "rank" (json_number c.rank)
-      ∷ member "aggregator" (json_number c.aggregator)
-      ∷ member "put" (json_number c.put)
-      ∷ member "got" (json_number c.got)
-      ∷ []
+    member "rank" (json_number c.rank)
+    ∷ member "aggregator" (json_number c.aggregator)
+    ∷ member "put" (json_number c.put)
+    ∷ member "got" (json_number c.got)
+    ∷ []
     )
 
 -- the reads and the writes of the plan, and those of naive I/O

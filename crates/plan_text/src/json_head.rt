@@ -31,7 +31,13 @@ pub fn plan_json(alloc: Global, document: &Document) -> Result<Blob, Memory>
 {
     let mut out = Vec::new(alloc);
     push_head(&mut out, document)?;
-    push_plan(alloc, &mut out, document.script, document.plan, document.sums)?;
+    push_plan(
+        alloc,
+        &mut out,
+        document.script,
+        document.plan,
+        document.sums,
+    )?;
     push_bytes(&mut out, b"}\n")?;
     Ok(Blob::from_vec(out))
 }
@@ -42,7 +48,11 @@ fn push_head(out: &mut Vec<u8>, document: &Document) -> Result<(), Memory>
     ensures { OnOk result (out.new.items ≡ out.old.items
         ++ 123 ∷ joined 44 (head_members document.now.script.now document.now.header.now document.now.length document.now.plan.now.steps)) }
 {
-    push_numbered(out, b"{\"plan\":1,\"ranks\":", u64::from(document.script.ranks))?;
+    push_numbered(
+        out,
+        b"{\"plan\":1,\"ranks\":",
+        u64::from(document.script.ranks),
+    )?;
     push_bytes(out, b",\"order\":")?;
     push_order(out, document.plan.steps.as_slice())?;
     push_bytes(out, b",\n\"dataset\":")?;
@@ -125,12 +135,7 @@ fn push_variables(out: &mut Vec<u8>, header: &Header) -> Result<(), Memory>
 }
 
 /// A variable of the header, by its place there.
-fn push_variable(
-    out: &mut Vec<u8>,
-    header: &Header,
-    number: usize,
-    var: &Var,
-) -> Result<(), Memory>
+fn push_variable(out: &mut Vec<u8>, header: &Header, number: usize, var: &Var) -> Result<(), Memory>
     requires sound { is_sound header.now ≡ true }
     requires place { slice_get header.now.vars number ≡ Some var.now }
     ensures { OnOk result (out.new.items ≡ out.old.items ++ variable_object header.now var.now) }
@@ -152,11 +157,7 @@ fn push_hints(out: &mut Vec<u8>, script: &Script) -> Result<(), Memory>
     push_hints_named(out, &HINTS, script)
 }
 
-fn push_hints_named(
-    out: &mut Vec<u8>,
-    names: &[HintName],
-    script: &Script,
-) -> Result<(), Memory>
+fn push_hints_named(out: &mut Vec<u8>, names: &[HintName], script: &Script) -> Result<(), Memory>
     ensures { OnOk result (out.new.items ≡ out.old.items ++ array_of (λ name. hint_object script.now (row_of name)) names.now) }
 {
     out.push(b'[')?;

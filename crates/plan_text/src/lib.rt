@@ -12,6 +12,7 @@ mod json_sums;
 mod steps;
 mod sums;
 mod words;
+pub mod worked_json;
 
 pub use head::{Document, plan_text};
 pub use json_head::plan_json;

@@ -1,7 +1,9 @@
+use Rattle.std.specs.Fmt.{digits}
 use Rattle.list_laws.proofs.Appends.{then_append}
 use Rattle.plan_text.proofs.json_head.push_head.Goals as goal
 
 pub returns : goal.returns
+unfolding digits
 returns c =
     then_append c.args.out.now.items _ _ _ _ (rw c.from.ensures at c.in_ok-push_numbered.ensures) (
     then_append c.push_numbered.new.out.items _ _ _ _ c.in_ok-push_bytes.ensures (
