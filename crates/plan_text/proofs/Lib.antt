@@ -1,2 +1,4 @@
+pub mod ArrayLaws
 mod LineLaws
+pub mod PlainLaws
 mod VariableLaws

@@ -1,3 +1,9 @@
+pub mod Json
+pub mod JsonExamples
+pub mod JsonHead
+pub mod JsonPlan
+pub mod JsonSteps
+pub mod JsonSums
 pub mod PlanExamples
 pub mod PlanTexts
 pub mod PlanWords

@@ -1,9 +1,16 @@
 // The parts of a JSON document: RFC 8259.
+ghost use Rattle.std.specs.Prelude.{◌≡◌, ◌++◌, OnOk};
+ghost use Rattle.nc_base.specs.declared.step.DiskCall.TheVariants.{Grow};
+ghost use Rattle.plan_text.specs.Json.{array_of, comma, json_character, json_text, json_truth};
+ghost use Rattle.plan_text.specs.JsonSteps.{device_call, transfer};
+
 use nc_base::{DiskCall, Memory};
 use printed_text::words::{push_bytes, push_hex, push_numbered};
 
 /// The comma before each item of a list but the first.
-pub(crate) fn push_comma(out: &mut Vec<u8>, number: usize) -> Result<(), Memory> {
+pub(crate) fn push_comma(out: &mut Vec<u8>, number: usize) -> Result<(), Memory>
+    ensures { OnOk result (out.new.items ≡ out.old.items ++ comma number) }
+{
     if number > 0 {
         out.push(b',')?;
     }
@@ -11,7 +18,9 @@ pub(crate) fn push_comma(out: &mut Vec<u8>, number: usize) -> Result<(), Memory>
 }
 
 /// A text: each byte is one character, and one that is not printable ASCII is escaped.
-pub(crate) fn push_text(out: &mut Vec<u8>, text: &[u8]) -> Result<(), Memory> {
+pub(crate) fn push_text(out: &mut Vec<u8>, text: &[u8]) -> Result<(), Memory>
+    ensures { OnOk result (out.new.items ≡ out.old.items ++ json_text text.now) }
+{
     out.push(b'"')?;
     for byte in text {
         push_character(out, *byte)?;
@@ -20,7 +29,9 @@ pub(crate) fn push_text(out: &mut Vec<u8>, text: &[u8]) -> Result<(), Memory> {
     Ok(())
 }
 
-fn push_character(out: &mut Vec<u8>, byte: u8) -> Result<(), Memory> {
+fn push_character(out: &mut Vec<u8>, byte: u8) -> Result<(), Memory>
+    ensures { OnOk result (out.new.items ≡ out.old.items ++ json_character byte) }
+{
     match byte {
         b'"' => push_bytes(out, b"\\\""),
         b'\\' => push_bytes(out, b"\\\\"),
@@ -33,13 +44,17 @@ fn push_character(out: &mut Vec<u8>, byte: u8) -> Result<(), Memory> {
 }
 
 /// Words, and `true` or `false`.
-pub(crate) fn push_truth(out: &mut Vec<u8>, words: &[u8], truth: bool) -> Result<(), Memory> {
+pub(crate) fn push_truth(out: &mut Vec<u8>, words: &[u8], truth: bool) -> Result<(), Memory>
+    ensures { OnOk result (out.new.items ≡ out.old.items ++ (words.now ++ json_truth truth)) }
+{
     push_bytes(out, words)?;
     push_bytes(out, if truth { b"true" } else { b"false" })
 }
 
 /// A list of device calls.
-pub(crate) fn push_calls(out: &mut Vec<u8>, calls: &[DiskCall]) -> Result<(), Memory> {
+pub(crate) fn push_calls(out: &mut Vec<u8>, calls: &[DiskCall]) -> Result<(), Memory>
+    ensures { OnOk result (out.new.items ≡ out.old.items ++ array_of device_call calls.now) }
+{
     out.push(b'[')?;
     for (number, call) in calls.iter().enumerate() {
         push_comma(out, number)?;
@@ -49,19 +64,31 @@ pub(crate) fn push_calls(out: &mut Vec<u8>, calls: &[DiskCall]) -> Result<(), Me
     Ok(())
 }
 
-fn push_call(out: &mut Vec<u8>, call: DiskCall) -> Result<(), Memory> {
+fn push_call(out: &mut Vec<u8>, call: DiskCall) -> Result<(), Memory>
+    ensures { OnOk result (out.new.items ≡ out.old.items ++ device_call call) }
+{
     match call {
-        DiskCall::Grow(size) => push_numbered(out, b"{\"call\":\"grow\",\"length\":", size)?,
-        DiskCall::Load(at, len) => push_transfer(out, b"{\"call\":\"read\",\"place\":", at, len)?,
-        DiskCall::Store(at, len) => {
-            push_transfer(out, b"{\"call\":\"write\",\"place\":", at, len)?
-        }
+        DiskCall::Grow(size) => push_growth(out, size),
+        DiskCall::Load(at, len) => push_transfer(out, b"read", at, len),
+        DiskCall::Store(at, len) => push_transfer(out, b"write", at, len),
     }
+}
+
+fn push_growth(out: &mut Vec<u8>, size: u64) -> Result<(), Memory>
+    ensures { OnOk result (out.new.items ≡ out.old.items ++ device_call (Grow size)) }
+{
+    push_numbered(out, b"{\"call\":\"grow\",\"length\":", size)?;
     out.push(b'}')?;
     Ok(())
 }
 
-fn push_transfer(out: &mut Vec<u8>, words: &[u8], at: u64, len: u64) -> Result<(), Memory> {
-    push_numbered(out, words, at)?;
-    push_numbered(out, b",\"length\":", len)
+fn push_transfer(out: &mut Vec<u8>, word: &[u8], at: u64, len: u64) -> Result<(), Memory>
+    ensures { OnOk result (out.new.items ≡ out.old.items ++ transfer word.now at len) }
+{
+    push_bytes(out, b"{\"call\":")?;
+    push_text(out, word)?;
+    push_numbered(out, b",\"place\":", at)?;
+    push_numbered(out, b",\"length\":", len)?;
+    out.push(b'}')?;
+    Ok(())
 }

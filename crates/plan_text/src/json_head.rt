@@ -1,10 +1,22 @@
 // The JSON document of a plan.
+ghost use Rattle.std.specs.Prelude.{◌≡◌, ◌<◌, ◌++◌, ◌∷◌, IfOk, OnOk, Some, slice_get, true};
+ghost use Rattle.serial_spec.specs.SoundHeaders.{is_sound};
+ghost use Rattle.script_spec.specs.HintTable.{hint_table};
+ghost use Rattle.script_spec.specs.Texts.{joined, mark_word};
+ghost use Rattle.hint_table.specs.HintNames.{form_of, row_of};
+ghost use Rattle.step_plan.specs.Steps.{count_call};
+ghost use Rattle.plan_text.specs.Json.{array_of, json_text};
+ghost use Rattle.plan_text.specs.JsonHead.{dataset_object, hint_object, hint_value, variable_object};
+ghost use Rattle.plan_text.specs.JsonPlan.{head_members, plan_json_of, plan_members};
+ghost use Rattle.plan_text.specs.JsonSteps.{device_call};
+
 use crate::head::{Document, push_mark};
 use crate::json::{push_calls, push_comma, push_text, push_truth};
 use crate::json_steps::push_steps;
 use crate::json_sums::push_sums;
 use hint_table::{HINTS, HintForm, HintName};
-use nc_base::{Blob, DiskCall, Header, Memory, Script, Var};
+use nc_base::{Blob, DiskCall, Extent, Header, Mark, Memory, Script, Var};
+use plan_sums::Sums;
 use printed_text::words::{push_bytes, push_decimal, push_numbered, type_word};
 use run_plan::RunPlan;
 use std::alloc::Global;
@@ -12,58 +24,122 @@ use step_plan::StepPlan;
 use var_layout::{header_len, is_record, recsize, slab};
 
 /// The JSON document of a plan.
-pub fn plan_json(alloc: Global, document: &Document) -> Result<Blob, Memory> {
+pub fn plan_json(alloc: Global, document: &Document) -> Result<Blob, Memory>
+    requires { is_sound document.now.header.now ≡ true }
+    ensures { IfOk result (λ text. text
+        ≡ plan_json_of document.now.script.now document.now.header.now document.now.length document.now.plan.now document.now.sums.now) }
+{
     let mut out = Vec::new(alloc);
-    push_numbered(&mut out, b"{\"plan\":1,\"ranks\":", u64::from(document.script.ranks))?;
-    push_order(&mut out, document.plan.steps.as_slice())?;
-    push_dataset(&mut out, document.header, document.length)?;
-    push_hints(&mut out, document.script)?;
-    push_bytes(&mut out, b",\n\"opening\":")?;
-    push_calls(&mut out, document.plan.opening.as_slice())?;
-    push_steps(alloc, &mut out, document.script, document.plan)?;
-    push_close(&mut out, document.plan)?;
-    push_sums(&mut out, document.sums)?;
+    push_head(&mut out, document)?;
+    push_plan(
+        alloc,
+        &mut out,
+        document.script,
+        document.plan,
+        document.sums,
+    )?;
     push_bytes(&mut out, b"}\n")?;
     Ok(Blob::from_vec(out))
 }
 
-fn push_order(out: &mut Vec<u8>, steps: &[StepPlan]) -> Result<(), Memory> {
-    push_bytes(out, b",\"order\":[")?;
+/// What stands before what is done.
+fn push_head(out: &mut Vec<u8>, document: &Document) -> Result<(), Memory>
+    requires { is_sound document.now.header.now ≡ true }
+    ensures { OnOk result (out.new.items ≡ out.old.items
+        ++ 123 ∷ joined 44 (head_members document.now.script.now document.now.header.now document.now.length document.now.plan.now.steps)) }
+{
+    push_numbered(
+        out,
+        b"{\"plan\":1,\"ranks\":",
+        u64::from(document.script.ranks),
+    )?;
+    push_bytes(out, b",\"order\":")?;
+    push_order(out, document.plan.steps.as_slice())?;
+    push_bytes(out, b",\n\"dataset\":")?;
+    push_dataset(out, document.header, document.length)?;
+    push_bytes(out, b",\n\"hints\":")?;
+    push_hints(out, document.script)?;
+    Ok(())
+}
+
+/// What is done, and its sums.
+fn push_plan(
+    alloc: Global,
+    out: &mut Vec<u8>,
+    script: &Script,
+    plan: &RunPlan,
+    sums: &Sums,
+) -> Result<(), Memory>
+    ensures { OnOk result (out.new.items ≡ out.old.items ++ 44 ∷ joined 44 (plan_members script.now plan.now sums.now)) }
+{
+    push_bytes(out, b",\n\"opening\":")?;
+    push_calls(out, plan.opening.as_slice())?;
+    push_bytes(out, b",\n\"steps\":")?;
+    push_steps(alloc, out, script, plan)?;
+    push_bytes(out, b",\n\"close\":")?;
+    push_close(out, plan.close)?;
+    push_bytes(out, b",\n\"sums\":")?;
+    push_sums(out, sums)?;
+    Ok(())
+}
+
+fn push_order(out: &mut Vec<u8>, steps: &[StepPlan]) -> Result<(), Memory>
+    ensures { OnOk result (out.new.items ≡ out.old.items ++ array_of (λ step. json_text (mark_word step.mark)) steps.now) }
+{
+    out.push(b'[')?;
     for (number, step) in steps.iter().enumerate() {
         push_comma(out, number)?;
-        out.push(b'"')?;
-        push_mark(out, step.mark)?;
-        out.push(b'"')?;
+        push_mark_text(out, step.mark)?;
     }
     out.push(b']')?;
     Ok(())
 }
 
-fn push_dataset(out: &mut Vec<u8>, header: &Header, length: u64) -> Result<(), Memory> {
-    push_numbered(out, b",\n\"dataset\":{\"version\":", u64::from(header.version))?;
+/// A mark as a text.
+pub(crate) fn push_mark_text(out: &mut Vec<u8>, mark: Mark) -> Result<(), Memory>
+    ensures { OnOk result (out.new.items ≡ out.old.items ++ json_text (mark_word mark)) }
+{
+    out.push(b'"')?;
+    push_mark(out, mark)?;
+    out.push(b'"')?;
+    Ok(())
+}
+
+fn push_dataset(out: &mut Vec<u8>, header: &Header, length: u64) -> Result<(), Memory>
+    requires { is_sound header.now ≡ true }
+    ensures { OnOk result (out.new.items ≡ out.old.items ++ dataset_object header.now length) }
+{
+    push_numbered(out, b"{\"version\":", u64::from(header.version))?;
     push_numbered(out, b",\"header\":", header_len(header))?;
     push_numbered(out, b",\"records\":", header.records)?;
     push_numbered(out, b",\"record_size\":", recsize(header))?;
     push_numbered(out, b",\"length\":", length)?;
-    push_bytes(out, b",\"variables\":[")?;
+    push_bytes(out, b",\"variables\":")?;
     push_variables(out, header)?;
-    push_bytes(out, b"]}")
-}
-
-fn push_variables(out: &mut Vec<u8>, header: &Header) -> Result<(), Memory> {
-    for (number, var) in header.vars.as_slice().iter().enumerate() {
-        push_comma(out, number)?;
-        push_variable(out, header, number, var)?;
-    }
+    out.push(b'}')?;
     Ok(())
 }
 
-fn push_variable(
-    out: &mut Vec<u8>,
-    header: &Header,
-    number: usize,
-    var: &Var,
-) -> Result<(), Memory> {
+fn push_variables(out: &mut Vec<u8>, header: &Header) -> Result<(), Memory>
+    requires { is_sound header.now ≡ true }
+    ensures { OnOk result (out.new.items ≡ out.old.items ++ array_of (variable_object header.now) header.now.vars) }
+{
+    let vars = header.vars.as_slice();
+    out.push(b'[')?;
+    for (number, var) in vars.iter().enumerate() {
+        push_comma(out, number)?;
+        push_variable(out, header, number, var)?;
+    }
+    out.push(b']')?;
+    Ok(())
+}
+
+/// A variable of the header, by its place there.
+fn push_variable(out: &mut Vec<u8>, header: &Header, number: usize, var: &Var) -> Result<(), Memory>
+    requires sound { is_sound header.now ≡ true }
+    requires place { slice_get header.now.vars number ≡ Some var.now }
+    ensures { OnOk result (out.new.items ≡ out.old.items ++ variable_object header.now var.now) }
+{
     push_bytes(out, b"{\"name\":")?;
     push_text(out, var.name.as_slice())?;
     push_bytes(out, b",\"type\":")?;
@@ -75,9 +151,17 @@ fn push_variable(
     Ok(())
 }
 
-fn push_hints(out: &mut Vec<u8>, script: &Script) -> Result<(), Memory> {
-    push_bytes(out, b",\n\"hints\":[")?;
-    for (number, name) in HINTS.iter().enumerate() {
+fn push_hints(out: &mut Vec<u8>, script: &Script) -> Result<(), Memory>
+    ensures { OnOk result (out.new.items ≡ out.old.items ++ array_of (hint_object script.now) hint_table) }
+{
+    push_hints_named(out, &HINTS, script)
+}
+
+fn push_hints_named(out: &mut Vec<u8>, names: &[HintName], script: &Script) -> Result<(), Memory>
+    ensures { OnOk result (out.new.items ≡ out.old.items ++ array_of (λ name. hint_object script.now (row_of name)) names.now) }
+{
+    out.push(b'[')?;
+    for (number, name) in names.iter().enumerate() {
         push_comma(out, number)?;
         push_hint(out, *name, script)?;
     }
@@ -85,7 +169,10 @@ fn push_hints(out: &mut Vec<u8>, script: &Script) -> Result<(), Memory> {
     Ok(())
 }
 
-fn push_hint(out: &mut Vec<u8>, name: HintName, script: &Script) -> Result<(), Memory> {
+/// A hint in force, and its default.
+fn push_hint(out: &mut Vec<u8>, name: HintName, script: &Script) -> Result<(), Memory>
+    ensures { OnOk result (out.new.items ≡ out.old.items ++ hint_object script.now (row_of name)) }
+{
     push_bytes(out, b"{\"name\":")?;
     push_text(out, name.word())?;
     push_bytes(out, b",\"value\":")?;
@@ -96,16 +183,20 @@ fn push_hint(out: &mut Vec<u8>, name: HintName, script: &Script) -> Result<(), M
     Ok(())
 }
 
-fn push_value(out: &mut Vec<u8>, form: HintForm, value: u64) -> Result<(), Memory> {
+fn push_value(out: &mut Vec<u8>, form: HintForm, value: u64) -> Result<(), Memory>
+    ensures { OnOk result (out.new.items ≡ out.old.items ++ hint_value (form_of form) value) }
+{
     match form {
         HintForm::Within { .. } => push_decimal(out, value),
         HintForm::Either { zero, one } => push_text(out, if value == 1 { one } else { zero }),
     }
 }
 
-fn push_close(out: &mut Vec<u8>, plan: &RunPlan) -> Result<(), Memory> {
-    push_bytes(out, b",\n\"close\":")?;
-    match plan.close {
+/// The device calls after the last step.
+fn push_close(out: &mut Vec<u8>, close: Option<Extent>) -> Result<(), Memory>
+    ensures { OnOk result (out.new.items ≡ out.old.items ++ array_of device_call (count_call close)) }
+{
+    match close {
         None => push_calls(out, &[]),
         Some(field) => push_calls(out, &[DiskCall::Store(field.at, field.len)]),
     }

@@ -1,24 +1,36 @@
 // The JSON document of a plan: its steps.
-use crate::head::push_mark;
+ghost use Rattle.std.specs.Prelude.{◌≡◌, ◌++◌, ◌∷◌, OnOk, slice_get};
+ghost use Rattle.serial_spec.specs.History.{is_meeting};
+ghost use Rattle.script_spec.specs.Texts.{joined};
+ghost use Rattle.step_plan.specs.Steps.{file_calls};
+ghost use Rattle.plan_text.specs.Json.{array_of, json_number, json_text, on_line, or_null};
+ghost use Rattle.plan_text.specs.JsonSteps.{asked_object, call_members, caller_object, device_call, domain_object, file_members, overlap_object, phase_object, piece_array, share_object, step_object, window_object};
+ghost use Rattle.plan_text.specs.PlanWords.{word_in};
+
 use crate::json::{push_calls, push_comma, push_text, push_truth};
+use crate::json_head::push_mark_text;
 use crate::steps::{answer_of, push_word_of};
 use crate::words::end_of;
-use nc_base::{Extent, Mark, Memory, Pair, Script};
-use printed_text::words::{push_bytes, push_numbered};
+use nc_base::{Mark, Memory, Pair, Script};
+use printed_text::words::{push_bytes, push_decimal, push_numbered};
 use run_plan::RunPlan;
 use std::alloc::Global;
 use step_plan::{
-    Asked, Caller, DomainPlan, Owner, Phase, Share, StepPlan, WindowPlan, device_calls,
+    Asked, Caller, DomainPlan, FilePlan, Owner, Phase, Share, StepPlan, WindowPlan, device_calls,
 };
 
+/// The steps, on a line each.
 pub(crate) fn push_steps(
     alloc: Global,
     out: &mut Vec<u8>,
     script: &Script,
     plan: &RunPlan,
-) -> Result<(), Memory> {
-    push_bytes(out, b",\n\"steps\":[")?;
-    for (number, step) in plan.steps.as_slice().iter().enumerate() {
+) -> Result<(), Memory>
+    ensures { OnOk result (out.new.items ≡ out.old.items ++ array_of (λ step. on_line (step_object script.now plan.now step)) plan.now.steps) }
+{
+    let steps = plan.steps.as_slice();
+    out.push(b'[')?;
+    for (number, step) in steps.iter().enumerate() {
         push_comma(out, number)?;
         push_step(alloc, out, script, plan, step)?;
     }
@@ -26,31 +38,29 @@ pub(crate) fn push_steps(
     Ok(())
 }
 
+/// A step, on a line.
 fn push_step(
     alloc: Global,
     out: &mut Vec<u8>,
     script: &Script,
     plan: &RunPlan,
     step: &StepPlan,
-) -> Result<(), Memory> {
-    push_bytes(out, b"\n{\"mark\":\"")?;
-    push_mark(out, step.mark)?;
-    push_truth(out, b"\",\"collective\":", is_meeting(step.mark))?;
+) -> Result<(), Memory>
+    ensures { OnOk result (out.new.items ≡ out.old.items ++ on_line (step_object script.now plan.now step.now)) }
+{
+    push_bytes(out, b"\n{\"mark\":")?;
+    push_mark_text(out, step.mark)?;
+    push_truth(out, b",\"collective\":", is_meeting(step.mark))?;
+    push_bytes(out, b",\"calls\":")?;
     push_callers(out, script, plan, step.callers.as_slice())?;
-    push_overlap(out, &step.file.overlap)?;
-    push_bytes(out, b",\"put\":")?;
-    push_phase(out, &step.file.puts)?;
-    push_bytes(out, b",\"get\":")?;
-    push_phase(out, &step.file.gets)?;
-    push_bytes(out, b",\"device\":")?;
-    let mut calls = Vec::new(alloc);
-    device_calls(&mut calls, &step.file)?;
-    push_calls(out, &calls)?;
+    push_file(alloc, out, &step.file)?;
     out.push(b'}')?;
     Ok(())
 }
 
-fn is_meeting(mark: Mark) -> bool {
+fn is_meeting(mark: Mark) -> bool
+    ensures { result ≡ is_meeting mark }
+{
     match mark {
         Mark::Meet(_) => true,
         Mark::Solo(_, _) => false,
@@ -62,8 +72,10 @@ fn push_callers(
     script: &Script,
     plan: &RunPlan,
     callers: &[Caller],
-) -> Result<(), Memory> {
-    push_bytes(out, b",\"calls\":[")?;
+) -> Result<(), Memory>
+    ensures { OnOk result (out.new.items ≡ out.old.items ++ array_of (caller_object script.now plan.now) callers.now) }
+{
+    out.push(b'[')?;
     for (number, caller) in callers.iter().enumerate() {
         push_comma(out, number)?;
         push_caller(out, script, plan, *caller)?;
@@ -77,22 +89,67 @@ fn push_caller(
     script: &Script,
     plan: &RunPlan,
     caller: Caller,
-) -> Result<(), Memory> {
+) -> Result<(), Memory>
+    ensures { OnOk result (out.new.items ≡ out.old.items ++ caller_object script.now plan.now caller) }
+{
     push_numbered(out, b"{\"rank\":", u64::from(caller.rank))?;
     push_numbered(out, b",\"call\":", u64::from(caller.call))?;
-    push_bytes(out, b",\"name\":\"")?;
-    push_word_of(out, script, caller)?;
-    push_bytes(out, b"\",\"answer\":")?;
+    push_bytes(out, b",\"name\":")?;
+    push_word_text(out, script, caller)?;
+    push_bytes(out, b",\"answer\":")?;
     push_text(out, answer_of(plan, caller))?;
     out.push(b'}')?;
     Ok(())
 }
 
-fn push_overlap(out: &mut Vec<u8>, overlap: &Option<Pair>) -> Result<(), Memory> {
+/// The word of a call as a text.
+fn push_word_text(out: &mut Vec<u8>, script: &Script, caller: Caller) -> Result<(), Memory>
+    ensures { OnOk result (out.new.items ≡ out.old.items ++ json_text (word_in (slice_get script.now.calls caller.rank) caller.call)) }
+{
+    out.push(b'"')?;
+    push_word_of(out, script, caller)?;
+    out.push(b'"')?;
+    Ok(())
+}
+
+/// What a step does to the file.
+fn push_file(alloc: Global, out: &mut Vec<u8>, file: &FilePlan) -> Result<(), Memory>
+    ensures { OnOk result (out.new.items ≡ out.old.items ++ 44 ∷ joined 44 (file_members file.now)) }
+{
     push_bytes(out, b",\"overlap\":")?;
-    let Some(pair) = overlap else {
-        return push_bytes(out, b"null");
-    };
+    push_overlap(out, &file.overlap)?;
+    push_bytes(out, b",\"put\":")?;
+    push_phase(out, &file.puts)?;
+    push_bytes(out, b",\"get\":")?;
+    push_phase(out, &file.gets)?;
+    push_bytes(out, b",\"device\":")?;
+    push_device(alloc, out, file)?;
+    Ok(())
+}
+
+/// The device calls of a step.
+fn push_device(alloc: Global, out: &mut Vec<u8>, file: &FilePlan) -> Result<(), Memory>
+    ensures { OnOk result (out.new.items ≡ out.old.items ++ array_of device_call (file_calls file.now)) }
+{
+    let mut calls = Vec::new(alloc);
+    device_calls(&mut calls, file)?;
+    push_calls(out, &calls)?;
+    Ok(())
+}
+
+/// Two requests that share a byte, or null.
+fn push_overlap(out: &mut Vec<u8>, overlap: &Option<Pair>) -> Result<(), Memory>
+    ensures { OnOk result (out.new.items ≡ out.old.items ++ or_null overlap_object overlap.now) }
+{
+    match overlap {
+        None => push_bytes(out, b"null"),
+        Some(pair) => push_pair(out, pair),
+    }
+}
+
+fn push_pair(out: &mut Vec<u8>, pair: &Pair) -> Result<(), Memory>
+    ensures { OnOk result (out.new.items ≡ out.old.items ++ overlap_object pair.now) }
+{
     push_numbered(out, b"{\"ranks\":[", u64::from(pair.rank1))?;
     push_numbered(out, b",", u64::from(pair.rank2))?;
     push_numbered(out, b"],\"ids\":[", u64::from(pair.request1))?;
@@ -102,79 +159,140 @@ fn push_overlap(out: &mut Vec<u8>, overlap: &Option<Pair>) -> Result<(), Memory>
     Ok(())
 }
 
-fn push_phase(out: &mut Vec<u8>, phase: &Phase) -> Result<(), Memory> {
-    push_bytes(out, b"{\"asked\":[")?;
+/// The puts or the gets.
+fn push_phase(out: &mut Vec<u8>, phase: &Phase) -> Result<(), Memory>
+    ensures { OnOk result (out.new.items ≡ out.old.items ++ phase_object phase.now) }
+{
+    push_bytes(out, b"{\"asked\":")?;
     push_all_asked(out, phase.asked.as_slice())?;
-    push_bytes(out, b"],\"domains\":[")?;
-    for (number, domain) in phase.domains.as_slice().iter().enumerate() {
+    push_bytes(out, b",\"domains\":")?;
+    push_domains(out, phase.domains.as_slice())?;
+    out.push(b'}')?;
+    Ok(())
+}
+
+fn push_all_asked(out: &mut Vec<u8>, list: &[Asked]) -> Result<(), Memory>
+    ensures { OnOk result (out.new.items ≡ out.old.items ++ array_of asked_object list.now) }
+{
+    out.push(b'[')?;
+    for (number, asked) in list.iter().enumerate() {
+        push_comma(out, number)?;
+        push_asked(out, *asked)?;
+    }
+    out.push(b']')?;
+    Ok(())
+}
+
+fn push_asked(out: &mut Vec<u8>, asked: Asked) -> Result<(), Memory>
+    ensures { OnOk result (out.new.items ≡ out.old.items ++ asked_object asked) }
+{
+    push_numbered(out, b"{\"rank\":", u64::from(asked.rank))?;
+    push_numbered(out, b",\"bytes\":", asked.bytes)?;
+    push_numbered(out, b",\"pieces\":", asked.pieces)?;
+    out.push(b'}')?;
+    Ok(())
+}
+
+fn push_domains(out: &mut Vec<u8>, domains: &[DomainPlan]) -> Result<(), Memory>
+    ensures { OnOk result (out.new.items ≡ out.old.items ++ array_of domain_object domains.now) }
+{
+    out.push(b'[')?;
+    for (number, domain) in domains.iter().enumerate() {
         push_comma(out, number)?;
         push_domain(out, domain)?;
     }
-    push_bytes(out, b"]}")
-}
-
-fn push_all_asked(out: &mut Vec<u8>, list: &[Asked]) -> Result<(), Memory> {
-    for (number, asked) in list.iter().enumerate() {
-        push_comma(out, number)?;
-        push_numbered(out, b"{\"rank\":", u64::from(asked.rank))?;
-        push_numbered(out, b",\"bytes\":", asked.bytes)?;
-        push_numbered(out, b",\"pieces\":", asked.pieces)?;
-        out.push(b'}')?;
-    }
+    out.push(b']')?;
     Ok(())
 }
 
-fn push_domain(out: &mut Vec<u8>, domain: &DomainPlan) -> Result<(), Memory> {
-    match domain.aggregator {
-        Some(number) => push_numbered(out, b"{\"aggregator\":", u64::from(number))?,
-        None => push_bytes(out, b"{\"aggregator\":null")?,
+fn push_domain(out: &mut Vec<u8>, domain: &DomainPlan) -> Result<(), Memory>
+    ensures { OnOk result (out.new.items ≡ out.old.items ++ domain_object domain.now) }
+{
+    push_bytes(out, b"{\"aggregator\":")?;
+    push_aggregator(out, domain.aggregator)?;
+    push_numbered(out, b",\"from\":", domain.extent.at)?;
+    push_numbered(out, b",\"to\":", end_of(domain.extent))?;
+    push_bytes(out, b",\"windows\":")?;
+    push_windows(out, domain.windows.as_slice())?;
+    out.push(b'}')?;
+    Ok(())
+}
+
+/// The number of an aggregator, or null.
+fn push_aggregator(out: &mut Vec<u8>, aggregator: Option<u32>) -> Result<(), Memory>
+    ensures { OnOk result (out.new.items ≡ out.old.items ++ or_null json_number aggregator) }
+{
+    match aggregator {
+        None => push_bytes(out, b"null"),
+        Some(number) => push_decimal(out, u64::from(number)),
     }
-    push_range(out, b",\"from\":", b",\"to\":", domain.extent)?;
-    push_bytes(out, b",\"windows\":[")?;
-    for (number, window) in domain.windows.as_slice().iter().enumerate() {
+}
+
+fn push_windows(out: &mut Vec<u8>, windows: &[WindowPlan]) -> Result<(), Memory>
+    ensures { OnOk result (out.new.items ≡ out.old.items ++ array_of window_object windows.now) }
+{
+    out.push(b'[')?;
+    for (number, window) in windows.iter().enumerate() {
         push_comma(out, number)?;
         push_window(out, window)?;
     }
-    push_bytes(out, b"]}")
-}
-
-// The first byte of an extent behind one word, and the byte behind its last one behind another.
-fn push_range(
-    out: &mut Vec<u8>,
-    first: &[u8],
-    second: &[u8],
-    extent: Extent,
-) -> Result<(), Memory> {
-    push_numbered(out, first, extent.at)?;
-    push_numbered(out, second, end_of(extent))
-}
-
-fn push_window(out: &mut Vec<u8>, window: &WindowPlan) -> Result<(), Memory> {
-    push_range(out, b"{\"from\":", b",\"to\":", window.hull)?;
-    push_truth(out, b",\"hole\":", !window.full)?;
-    push_bytes(out, b",\"shares\":[")?;
-    push_shares(out, window.shares.as_slice())?;
-    push_bytes(out, b"],\"pieces\":[")?;
-    push_owners(out, window.owners.as_slice())?;
-    push_bytes(out, b"]}")
-}
-
-fn push_shares(out: &mut Vec<u8>, shares: &[Share]) -> Result<(), Memory> {
-    for (number, share) in shares.iter().enumerate() {
-        push_comma(out, number)?;
-        push_numbered(out, b"{\"rank\":", u64::from(share.rank))?;
-        push_numbered(out, b",\"bytes\":", share.bytes)?;
-        out.push(b'}')?;
-    }
+    out.push(b']')?;
     Ok(())
 }
 
-fn push_owners(out: &mut Vec<u8>, owners: &[Owner]) -> Result<(), Memory> {
+fn push_window(out: &mut Vec<u8>, window: &WindowPlan) -> Result<(), Memory>
+    ensures { OnOk result (out.new.items ≡ out.old.items ++ window_object window.now) }
+{
+    push_numbered(out, b"{\"from\":", window.hull.at)?;
+    push_numbered(out, b",\"to\":", end_of(window.hull))?;
+    push_truth(out, b",\"hole\":", !window.full)?;
+    push_bytes(out, b",\"shares\":")?;
+    push_shares(out, window.shares.as_slice())?;
+    push_bytes(out, b",\"pieces\":")?;
+    push_owners(out, window.owners.as_slice())?;
+    out.push(b'}')?;
+    Ok(())
+}
+
+fn push_shares(out: &mut Vec<u8>, shares: &[Share]) -> Result<(), Memory>
+    ensures { OnOk result (out.new.items ≡ out.old.items ++ array_of share_object shares.now) }
+{
+    out.push(b'[')?;
+    for (number, share) in shares.iter().enumerate() {
+        push_comma(out, number)?;
+        push_share(out, *share)?;
+    }
+    out.push(b']')?;
+    Ok(())
+}
+
+fn push_share(out: &mut Vec<u8>, share: Share) -> Result<(), Memory>
+    ensures { OnOk result (out.new.items ≡ out.old.items ++ share_object share) }
+{
+    push_numbered(out, b"{\"rank\":", u64::from(share.rank))?;
+    push_numbered(out, b",\"bytes\":", share.bytes)?;
+    out.push(b'}')?;
+    Ok(())
+}
+
+fn push_owners(out: &mut Vec<u8>, owners: &[Owner]) -> Result<(), Memory>
+    ensures { OnOk result (out.new.items ≡ out.old.items ++ array_of piece_array owners.now) }
+{
+    out.push(b'[')?;
     for (number, owner) in owners.iter().enumerate() {
         push_comma(out, number)?;
-        push_numbered(out, b"[", u64::from(owner.rank))?;
-        push_range(out, b",", b",", owner.extent)?;
-        out.push(b']')?;
+        push_owner(out, *owner)?;
     }
+    out.push(b']')?;
+    Ok(())
+}
+
+fn push_owner(out: &mut Vec<u8>, owner: Owner) -> Result<(), Memory>
+    ensures { OnOk result (out.new.items ≡ out.old.items ++ piece_array owner) }
+{
+    push_numbered(out, b"[", u64::from(owner.rank))?;
+    push_numbered(out, b",", owner.extent.at)?;
+    push_numbered(out, b",", end_of(owner.extent))?;
+    out.push(b']')?;
     Ok(())
 }

@@ -14,6 +14,7 @@ mod phases;
 mod steps;
 mod sums;
 mod words;
+pub mod worked_json;
 pub mod worked_plans;
 
 pub use head::{Document, plan_text};

@@ -1,0 +1,84 @@
+-- Arrays that are written item by item, and objects that are written in two parts.
+use Rattle.std.proofs.Common.{◌≡◌, ℕ, zero, suc, ◌+◌, ◌<◌, ◌≤◌, List, [], ◌∷◌, ◌++◌, length, map, take, get_or, refl, sym, ap, ◌∙◌, arith}
+use Rattle.std.proofs.lemmas.List.{append_assoc, map_more}
+use Rattle.std.proofs.lemmas.Grind.{common_steps}
+use Rattle.std.proofs.lemmas.Option.{slice_get-get_or}
+use Rattle.std.specs.Prelude.{slice_get, Some}
+use Rattle.script_spec.specs.Texts.{joined}
+use Rattle.plan_text.specs.Json.{closed, comma}
+
+pub comma_first : (n : ℕ) → n ≤ 0 → comma n ≡ []
+comma_first zero h = refl
+comma_first (suc n) h = absurd (omega arith)
+
+pub comma_later : (n : ℕ) → 0 < n → comma n ≡ 44 ∷ []
+comma_later zero h = absurd (omega arith)
+comma_later (suc n) h = refl
+
+-- one part more
+joined_push : (ws : List (List ℕ)) (w : List ℕ) → joined 44 (ws ++ w ∷ []) ≡ joined 44 ws ++ (comma (length ws) ++ w)
+joined_push [] w = refl
+joined_push (x ∷ []) w = refl
+joined_push (x ∷ y ∷ ws) w =
+    ap (λ (t : List ℕ). x ++ 44 ∷ t) (joined_push (y ∷ ws) w)
+    ∙ sym (append_assoc x (44 ∷ joined 44 (y ∷ ws)) (44 ∷ w))
+
+-- one item more, with the comma before it
+pub array_more : {A : Type 0} (f : A → List ℕ) (front : List ℕ) (xs : List A) (i : ℕ) (d : A) → i < length xs
+    → front ++ joined 44 (map f (take (i + 1) xs)) ≡ ((front ++ joined 44 (map f (take i xs))) ++ comma i) ++ f (get_or xs i d)
+array_more {A} f front xs i d h =
+    let whole : length (map f (take i xs)) ≡ i = grind (arith, common_steps) in
+    ap (λ (ws : List (List ℕ)). front ++ joined 44 ws) (map_more f xs i d h)
+    ∙ ap (λ (t : List ℕ). front ++ t) (joined_push (map f (take i xs)) (f (get_or xs i d)))
+    ∙ ap (λ (n : ℕ). front ++ (joined 44 (map f (take i xs)) ++ (comma n ++ f (get_or xs i d)))) whole
+    ∙ sym (append_assoc (front ++ joined 44 (map f (take i xs))) (comma i) (f (get_or xs i d)) ∙ append_assoc front (joined 44 (map f (take i xs))) (comma i ++ f (get_or xs i d)))
+
+-- the last members of an object
+pub closed_end : (ms : List (List ℕ)) → joined 44 ms ++ 125 ∷ [] ≡ closed ms
+closed_end [] = refl
+closed_end (m ∷ []) = refl
+closed_end (m ∷ n ∷ ms) =
+    append_assoc m (44 ∷ joined 44 (n ∷ ms)) (125 ∷ [])
+    ∙ ap (λ (t : List ℕ). m ++ 44 ∷ t) (closed_end (n ∷ ms))
+
+-- members, and those after them
+pub closed_more : (ms ns : List (List ℕ)) → 0 < length ms → 0 < length ns → joined 44 ms ++ 44 ∷ closed ns ≡ closed (ms ++ ns)
+closed_more [] ns h k = absurd (omega arith)
+closed_more (m ∷ []) [] h k = absurd (omega arith)
+closed_more (m ∷ []) (n ∷ ns) h k = refl
+closed_more (m ∷ l ∷ ms) ns h k =
+    append_assoc m (44 ∷ joined 44 (l ∷ ms)) (44 ∷ closed ns)
+    ∙ ap (λ (t : List ℕ). m ++ 44 ∷ t) (closed_more (l ∷ ms) ns (omega arith) k)
+
+-- the two parts of a document, and its end
+pub document_closed : (ms ns : List (List ℕ)) → 0 < length ms → 0 < length ns
+    → joined 44 ms ++ ((44 ∷ joined 44 ns) ++ 125 ∷ 10 ∷ []) ≡ closed (ms ++ ns) ++ 10 ∷ []
+document_closed ms ns h k =
+    ap (λ (t : List ℕ). joined 44 ms ++ 44 ∷ t) (sym (append_assoc (joined 44 ns) (125 ∷ []) (10 ∷ [])))
+    ∙ ap (λ (t : List ℕ). joined 44 ms ++ 44 ∷ (t ++ 10 ∷ [])) (closed_end ns)
+    ∙ sym (append_assoc (joined 44 ms) (44 ∷ closed ns) (10 ∷ []))
+    ∙ ap (λ (t : List ℕ). t ++ 10 ∷ []) (closed_more ms ns h k)
+
+-- an item that goes last
+pub item_pushed : {A : Type 0} (f : A → List ℕ) (front now with_comma next : List ℕ) (xs : List A) (i : ℕ) (x : A) → i < length xs → x ≡ get_or xs i x
+    → now ≡ front ++ joined 44 (map f (take i xs)) → with_comma ≡ now ++ comma i → next ≡ with_comma ++ f x → next ≡ front ++ joined 44 (map f (take (i + 1) xs))
+item_pushed {A} f front now with_comma next xs i x within here so_far separated pushed =
+    pushed
+    ∙ ap (λ (t : List ℕ). t ++ f x) separated
+    ∙ ap (λ (t : List ℕ). (t ++ comma i) ++ f x) so_far
+    ∙ ap (λ (y : A). ((front ++ joined 44 (map f (take i xs))) ++ comma i) ++ f y) here
+    ∙ sym (array_more f front xs i x within)
+
+-- the same of an item that is copied
+pub copy_pushed : {A : Type 0} (f : A → List ℕ) (front now with_comma next : List ℕ) (xs : List A) (i : ℕ) (d : A) → i < length xs
+    → now ≡ front ++ joined 44 (map f (take i xs)) → with_comma ≡ now ++ comma i → next ≡ with_comma ++ f (get_or xs i d) → next ≡ front ++ joined 44 (map f (take (i + 1) xs))
+copy_pushed {A} f front now with_comma next xs i d within so_far separated pushed =
+    pushed
+    ∙ ap (λ (t : List ℕ). t ++ f (get_or xs i d)) separated
+    ∙ ap (λ (t : List ℕ). (t ++ comma i) ++ f (get_or xs i d)) so_far
+    ∙ sym (array_more f front xs i d within)
+
+-- an item by its place, in a list that is lent
+pub item_at : {A : Type 0} (list lent : List A) (k : ℕ) (x : A) → lent ≡ list → k < length lent → x ≡ get_or lent k x → slice_get list k ≡ Some x
+item_at {A} list lent k x same within here =
+    sym (ap (λ (xs : List A). slice_get xs k) same) ∙ slice_get-get_or lent k x within ∙ ap (λ (y : A). Some y) (sym here)

@@ -1,0 +1,8 @@
+use Rattle.std.proofs.Common.{◌≡◌, ◌∷◌, ◌++◌, map, take}
+use Rattle.script_spec.specs.Texts.{joined}
+use Rattle.plan_text.specs.JsonHead.{hint_object}
+use Rattle.hint_table.specs.HintNames.{row_of}
+use Rattle.plan_text.proofs.json_head.push_hints_named.Given as goal
+
+abbrev pub invariant-loop-number : goal.invariant-loop-number
+invariant-loop-number l = l.out.items ≡ l.initial.out.items ++ joined 44 (map (λ name. hint_object l.script (row_of name)) (take l.number l.names))
