@@ -191,7 +191,7 @@ impl<'a> Walk<'a> {
         self.attr = Some(Named { number, name });
         let kind = self.word("the type")?;
         let count = self.number("the number of values")?;
-        self.padded("the values", count.saturating_mul(size_of(kind)))?;
+        self.padded("the block of values", count.saturating_mul(size_of(kind)))?;
         Some(())
     }
 
