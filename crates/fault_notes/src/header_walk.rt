@@ -1,4 +1,5 @@
 // A header that may have a fault, gone over field by field up to a place, by the netCDF classic format specification.
+ghost use Rattle.std.specs.Prelude.{◌<◌};
 
 /// A dimension, variable or attribute by its number, from 0, and its name, which is empty where it wasn't read.
 #[derive(Clone, Copy)]
@@ -87,7 +88,9 @@ impl<'a> Walk<'a> {
     }
 
     /// How many bytes a count has.
-    pub(crate) fn width(&self) -> usize {
+    pub(crate) fn width(&self) -> usize
+        ensures some { 0 < result }
+    {
         if self.version() == 5 { 8 } else { 4 }
     }
 

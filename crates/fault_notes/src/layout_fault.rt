@@ -40,10 +40,11 @@ fn parsed(told: &[u8]) -> Option<(u64, &[u8])> {
 
 // The version of the dataset, by its header or the script's first line.
 fn version_of(header: Option<&Header>, lines: &[Line<'_>]) -> u8 {
-    let first = lines.first().map(|line| first_words(line.text));
-    match (header, first) {
-        (Some(header), _) => header.version,
-        (None, Some([_, b"1", ..])) => 1,
+    if let Some(header) = header {
+        return header.version;
+    }
+    match lines.first() {
+        Some(line) if first_words(line.text)[1] == b"1".as_slice() => 1,
         _ => 2,
     }
 }
