@@ -293,9 +293,9 @@ same 'a run that is explained on a terminal' \
 same 'a script that is refused on a terminal' 'ncrun: the script is empty\r\n' "$(terminal 1.2 answered "$program" explained.nc < /dev/null)"
 (sleep 1.2; cat script) | "$program" explained.nc > answered 2> said
 same 'a run whose standard error is no terminal' '' "$(cat said)"
-{ printf 'create 1\nranks 1\ndim x 4\nvar int v [x]\ndata\n'; yes '0 put_var1_all v [1] 7' | head -n 200000; echo end; } > long.script
+{ printf 'create 1\nranks 1\ndim x 4\nvar int v [x]\ndata\n'; yes '0 put_var1_all v [1] 7' | head -n 20000; echo end; } > long.script
 began=$SECONDS
-shown=$(terminal 1.2 answered "$program" explained.nc < long.script | grep -o 'of at most 200000 calls' | wc -l)
+shown=$(terminal 1.2 answered "$program" explained.nc < long.script | grep -o 'of at most 20000 calls' | wc -l)
 same 'a long run shows at most two lines a second' yes "$([ "$shown" -ge 1 ] && [ "$shown" -le $((2 * (SECONDS - began + 1))) ] && echo yes || echo "$shown")"
 rm -f posting long.script spoilt.nc
 
