@@ -145,6 +145,80 @@ add 'an owner that is not there' 'line 4: the dataset has no variable `w`' 'att 
 add 'a type that it lacks' 'line 4: a dataset of version 1 or 2 has no type `int64`' 'var int64 w [x]'
 add 'a length that it lacks' 'line 4: a dataset of version 1 or 2 has no dimension so long as `3000000000`' 'dim w 3000000000'
 
+# A header that is refused: the field at fault, and whose it is. The places are those of the netCDF classic format: after the magic number and the record
+# count the list of dimensions (tag 8, count 12, a name 16, its length 24), the dataset's attributes (28), and the list of variables (36): the name of v
+# (44), its dimensions (52), its attributes (60), type (68), size (72) and begin (76).
+# spoilt NAME WANTED AT BYTES: the same dataset with other bytes at a place
+spoilt() {
+    "$program" spoilt.nc < script > answered 2> said
+    printf "$4" | dd of=spoilt.nc bs=1 seek="$3" conv=notrunc 2> said
+    "$program" --offsets spoilt.nc > answered 2> said
+    same "$1" "ncrun: $2" "$(cat said)"
+    same "$1: standard output" '1 yes' "$(wc -l < answered) $(grep -q '^ncrun: header ' answered && echo yes)"
+}
+# cut_at NAME WANTED LENGTH: the same dataset, cut
+cut_at() {
+    "$program" spoilt.nc < script > answered 2> said
+    head -c "$3" spoilt.nc > short.nc
+    "$program" --offsets short.nc > answered 2> said
+    same "$1" "ncrun: $2" "$(cat said)"
+}
+cut_at 'a header that is cut in a type' 'at byte 68 stands the type of variable 0 `v`, and the file has 70 bytes' 70
+cut_at 'a header that is cut in a name' 'at byte 48 stands the name of variable 0, and the file has 49 bytes' 49
+cut_at 'a header that is cut in a length' 'at byte 24 stands the length of dimension 0 `x`, and the file has 24 bytes' 24
+cut_at 'an empty file' 'at byte 0 stands the magic number, and the file has 0 bytes' 0
+spoilt 'a file that is no dataset' 'it begins with `GIF8`, and a classic dataset with `CDF`' 0 'GIF8'
+spoilt 'a file of netCDF-4' \
+    'it begins with `\x89HDF`, and a classic dataset with `CDF`; this is HDF5, and `nccopy -k cdf5` makes a classic dataset of one of netCDF-4' 0 '\x89HDF'
+spoilt 'a version that is none' 'the fourth byte says version 4; there are 1, 2 and 5' 3 '\x04'
+spoilt 'a tag' 'at byte 8 stands the tag of the dimensions: 13, and not 10, or 0 for none' 8 '\0\0\0\x0d'
+spoilt 'the tag of the attributes of the dataset' 'at byte 28 stands the tag of the attributes of the dataset: 7, and not 12, or 0 for none' 28 '\0\0\0\x07'
+spoilt 'the tag of the attributes of a variable' 'at byte 60 stands the tag of the attributes of variable 0 `v`: 7, and not 12, or 0 for none' 60 '\0\0\0\x07'
+spoilt 'the tag of the variables' 'at byte 36 stands the tag of the variables: 12, and not 11, or 0 for none' 36 '\0\0\0\x0c'
+spoilt 'a type that is none' 'at byte 68 stands the type of variable 0 `v`: 7; the types are 1 to 6, in version 5 to 11' 68 '\0\0\0\x07'
+spoilt 'a length that is negative' 'at byte 24 stands the length of dimension 0 `x`, which is negative' 24 '\xff'
+spoilt 'a begin that is negative' 'at byte 76 stands the begin of variable 0 `v`, which is negative' 76 '\x80'
+spoilt 'a count behind the tag of none' 'at byte 32 stands the number of attributes of the dataset: 3, behind a tag that says that there are none' 32 '\0\0\0\x03'
+spoilt 'a dimension that is not there' 'variable 0 `v` has the dimensions 7; those of the dataset count from 0 to 0' 56 '\0\0\0\x07'
+spoilt 'a record count of a file that is being written' \
+    'the number of records, at byte 4, is the one of a file that is being written, or whose writer did not close it' 4 '\xff\xff\xff\xff'
+spoilt 'more dimensions than are read' \
+    'what is read has at most 1024 dimensions, 8192 variables, 32 dimensions of a variable, 2^20 bytes of header, and 2^62 bytes' 12 '\0\0\x7d\0'
+spoilt 'a variable inside the header' 'variable 0 `v` begins at byte 64, inside the header' 76 '\0\0\0\x40'
+cp script one.script
+# Two dimensions, of which the second has its length at byte 36, and two variables, with their begins at bytes 92 and 128.
+printf '%s\n' "$(define 'dim x 4
+dim y 2
+var int v [x,y]
+var byte w [y]')" > script
+spoilt 'two record dimensions' 'dimension 0 `x` and dimension 1 `y` both have the length 0, by which a dimension grows, and one may' 24 '\0\0\0\0\0\0\0\x01y\0\0\0\0\0\0\0'
+spoilt 'a record dimension that is not first' 'variable 0 `v` has the dimensions 0 1; dimension 1 `y` grows, and stands first in a variable, and once' 36 '\0\0\0\0'
+spoilt 'variables that share bytes' 'variable 0 `v` begins at byte 132, and variable 1 `w` begins at byte 140' 128 '\0\0\0\x8c'
+printf '%s\n' "$(printf 'create 5\nranks 1\ndim x 4\nvar int64 v [x]\natt v a short 1 2 3\ndata\nend')" > script
+spoilt 'the type of an attribute' 'at byte 120 stands the type of attribute 0 `a` of variable 0 `v`: 12; the types are 1 to 6, in version 5 to 11' 120 '\0\0\0\x0c'
+spoilt 'a dimension that is too long' 'at byte 36 stands the length of dimension 0 `x`: 4611686018427387905, which is above 2^62' 36 '\x40\0\0\0\0\0\0\x01'
+mv one.script script
+
+# A layout that a dataset can't have: the line of the variable, and why.
+refuses_layout() {
+    says "$1" "ncrun: $2" explained.nc "$3"
+    same "$1: standard output" "1 ncrun: $4" "$(wc -l < answered) $(cat answered)"
+}
+refuses_layout 'a variable that is too large' 'line 4: `v` has more than 2^31 - 4 bytes, or a record of it has; datasets of version 5 take it' \
+    "$(define 'dim x 1073741824
+var int v [x]')" 'variable 0 is too large'
+refuses_layout 'a variable behind a large one' 'line 5: `w` would begin at byte 2^31 or behind it; in datasets of version 2 and 5 it can' \
+    "$(define 'dim x 2147483640
+var byte v [x]
+var byte w [x]')" 'variable 1 begins too far'
+refuses_layout 'a variable behind the last byte' 'line 4: `v` would end at byte 2^62 or behind it' \
+    "$(printf 'create 5\nranks 1\ndim x 4611686018427387903\nvar byte v [x]\ndata\nend')" 'variable 0 begins too far'
+refuses_layout 'a header that is too large' 'its dimensions, variables and attributes take more than 2^20 bytes' \
+    "$(define "att : a char \"$(printf '%1048600s' '')\"")" 'header is too large'
+printf '%s\n' "$(call '')" | "$program" explained.nc > answered 2> said
+refuses_layout 'an added variable that is too large' 'line 4: `w` has more than 2^31 - 4 bytes, or a record of it has; datasets of version 5 take it' \
+    "$(printf 'open\nranks 1\ndim y 1073741824\nvar int w [y]\ndata\nend')" 'variable 1 is too large'
+
 # A disk fault: the path, and the cause that the system gave.
 says 'no folder' 'ncrun: `missing/d.nc`: No such file or directory (os error 2)' missing/d.nc "$(call '')"
 says 'a folder' 'ncrun: `.`: Is a directory (os error 21)' . "$(call '')"
@@ -202,6 +276,28 @@ says 'requests of several ranks' 'ncrun: 2 ranks, the first of them rank 0, neve
 1 iget_var 2 v')"
 says 'a request that is cancelled' '' explained.nc "$(call '1 iget_var 1 v
 1 cancel all')"
+
+# How far a run has come: on a terminal, where it takes more than a second, which begins before the script is read. Each line is written over, and the
+# last one is cleared before text or an explanation.
+terminal() {
+    "$root/.ci/terminal.py" "$@" 2>&1
+}
+same 'a run on a terminal' '\r\x1b[Kncrun: 0 of at most 1 calls\r\x1b[K' "$(terminal 1.2 answered "$program" explained.nc < script)"
+same 'its text' "$text" "$(cat answered)"
+same 'a run that is told on the same terminal' '\r\x1b[Kncrun: 0 of at most 1 calls\r\x1b[Kranks 1\r\n' \
+    "$(terminal 1.2 - "$program" explained.nc < script | sed 's/\(ranks 1\\r\\n\).*/\1/')"
+printf '%s\n' "$(call '1 iget_var 1 v')" > posting
+same 'a run that is explained on a terminal' \
+    '\r\x1b[Kncrun: 0 of at most 1 calls\r\x1b[Kncrun: rank 1 never waited for 1 request, so it was not done\r\n' \
+    "$(terminal 1.2 answered "$program" explained.nc < posting)"
+same 'a script that is refused on a terminal' 'ncrun: the script is empty\r\n' "$(terminal 1.2 answered "$program" explained.nc < /dev/null)"
+(sleep 1.2; cat script) | "$program" explained.nc > answered 2> said
+same 'a run whose standard error is no terminal' '' "$(cat said)"
+{ printf 'create 1\nranks 1\ndim x 4\nvar int v [x]\ndata\n'; yes '0 put_var1_all v [1] 7' | head -n 20000; echo end; } > long.script
+began=$SECONDS
+shown=$(terminal 1.2 answered "$program" explained.nc < long.script | grep -o 'of at most 20000 calls' | wc -l)
+same 'a long run shows at most two lines a second' yes "$([ "$shown" -ge 1 ] && [ "$shown" -le $((2 * (SECONDS - began + 1))) ] && echo yes || echo "$shown")"
+rm -f posting long.script spoilt.nc
 
 # Where there is nothing to say, nothing is said, and nothing where a line would be written into the script or the dataset.
 says 'a run that ends well' '' explained.nc "$(cat script)"

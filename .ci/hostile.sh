@@ -3,7 +3,7 @@
 
 # little NAME DATASET STATUS TEXT: what a list of the dataset's offsets answers in little memory
 little() {
-    given=$(ulimit -v 32768 && "$program" --offsets "$2" < /dev/null)
+    given=$(ulimit -v 32768 && "$program" --offsets "$2" < /dev/null 2> /dev/null)
     same "$1: status" "$3" $?
     same "$1: text" "$4" "$given"
 }
@@ -12,7 +12,7 @@ little() {
 refused() {
     cp most before
     little "$1" most 4 "ncrun: header $2"
-    given=$("$program" most < open)
+    given=$("$program" most < open 2> /dev/null)
     same "$1, opened: status" 4 $?
     same "$1, opened: line" "ncrun: header $2" "$given"
     same "$1: the file" yes "$(cmp -s most before && echo yes || echo no)"

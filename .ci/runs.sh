@@ -791,7 +791,7 @@ same 'offsets of a short dataset: its length' 80 "$(wc -c < there | tr -d ' ')"
 
 # A variable of 2400000000 bytes passes what one of CDF-1 may have.
 printf 'old' > there
-given=$(printf 'create 1\nranks 1\ndim x 600000000\nvar int v [x]\ndata\nend\n' | "$program" there)
+given=$(printf 'create 1\nranks 1\ndim x 600000000\nvar int v [x]\ndata\nend\n' | "$program" there 2> /dev/null)
 same 'a variable that is too large: status' 4 $?
 same 'a variable that is too large: line' 'ncrun: variable 0 is too large' "$given"
 same 'a variable that is too large: the file' old "$(cat there)"

@@ -45,11 +45,15 @@ fn posted(words: [&[u8]; 5]) -> Option<Named<'_>> {
 /// The line before this one that names the same.
 pub(crate) fn first_naming<'a>(lines: &[Line<'a>], line: Line<'a>) -> Option<u32> {
     let own = name_of(line)?;
-    lines
-        .iter()
-        .find(|other| name_of(**other) == Some(own))
-        .map(|other| other.number)
-        .filter(|number| *number < line.number)
+    for other in lines {
+        if other.number >= line.number {
+            return None;
+        }
+        if name_of(*other) == Some(own) {
+            return Some(other.number);
+        }
+    }
+    None
 }
 
 // Whether a line before this one defines a dimension of this name.

@@ -1,5 +1,7 @@
 // What standard error says.
+use crate::header_fault::push_header_fault;
 use crate::kinds::push_script_note;
+use crate::layout_fault::push_layout_fault;
 use crate::pending::{Pending, push_pending};
 use crate::redefinition::push_redefinition;
 use crate::shortfall::{header_of, push_shortfall};
@@ -42,11 +44,27 @@ fn fault_note(alloc: Global, dataset: &str, run: &Run<'_>) -> Result<String, All
     let mut note = String::new(alloc);
     match run.status {
         3 => push_script_note(&mut note, alloc, run.script, run.line)?,
-        4 => push_redefinition(&mut note, alloc, run.script, run.line)?,
+        4 => push_dataset_fault(&mut note, alloc, run)?,
         7 => push_cause(&mut note, alloc, dataset, run.cause)?,
         _ => {}
     }
     Ok(note)
+}
+
+// What is wrong with the dataset: with what is added to it, its header, or where its variables would lie.
+fn push_dataset_fault(out: &mut String, alloc: Global, run: &Run<'_>) -> Result<(), AllocError> {
+    let told = run.line.strip_suffix(b"\n".as_slice()).unwrap_or(run.line);
+    let header = header_of(alloc, run.front);
+    match told.strip_prefix(b"ncrun: header ".as_slice()) {
+        Some(b"is too large") if header.is_some() || run.front.is_empty() => {
+            push_layout_fault(out, alloc, run.script, header.as_ref(), told)
+        }
+        Some(fault) => push_header_fault(out, alloc, run.front, run.length, fault),
+        None if told.starts_with(b"ncrun: redefinition ") => {
+            push_redefinition(out, alloc, run.script, run.line)
+        }
+        None => push_layout_fault(out, alloc, run.script, header.as_ref(), told),
+    }
 }
 
 fn push_cause(

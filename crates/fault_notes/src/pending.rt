@@ -33,7 +33,11 @@ pub(crate) fn pending_in(text: &[u8]) -> Option<Pending> {
         let digits = answers.get(at.checked_add(PENDING.len())?..)?;
         pending = pending.with(rank, leading_number(digits));
     }
-    Some(pending).filter(|pending| pending.requests > 0)
+    if pending.requests > 0 {
+        Some(pending)
+    } else {
+        None
+    }
 }
 
 fn leading_number(text: &[u8]) -> u64 {

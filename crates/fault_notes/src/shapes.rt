@@ -45,9 +45,18 @@ impl<'a> Shapes<'a> {
     }
 
     fn add_header(&mut self, header: &'a Header) -> Result<(), AllocError> {
+        self.add_dims(header)?;
+        self.add_vars(header)
+    }
+
+    fn add_dims(&mut self, header: &'a Header) -> Result<(), AllocError> {
         for dim in header.dims.as_slice() {
             self.add_dim(dim.name.as_slice(), dim.len)?;
         }
+        Ok(())
+    }
+
+    fn add_vars(&mut self, header: &'a Header) -> Result<(), AllocError> {
         for var in header.vars.as_slice() {
             self.add_var(var.name.as_slice(), count_of(header, var))?;
         }

@@ -52,7 +52,10 @@ fn surplus_of<'a>(shapes: &Shapes<'a>, line: Line<'a>) -> Option<Surplus> {
     }
     let mut words = Cursor::new(line.text);
     words.take()?;
-    let access = Access::of_word(words.take()?).filter(|access| access.has_values)?;
+    let access = Access::of_word(words.take()?)?;
+    if !access.has_values {
+        return None;
+    }
     if access.is_post {
         words.take()?;
     }
@@ -62,12 +65,14 @@ fn surplus_of<'a>(shapes: &Shapes<'a>, line: Line<'a>) -> Option<Surplus> {
         form => asked(form, &mut words)?,
     };
     let given = given(words, asked)?;
+    if given <= asked {
+        return None;
+    }
     Some(Surplus {
         number: line.number,
         asked,
         given,
     })
-    .filter(|surplus| surplus.given > surplus.asked)
 }
 
 // How many values a region asks for, whose words are taken.

@@ -2,8 +2,8 @@
 #![tactic(auto)]
 
 use fault_notes::{HeardSink, KeptSource, OpenedDisk, Run, explain};
-use nc_outside::OpenGate;
 use ncmpi_cli::{FileDisk, StdSink, StdSource, ncrun};
+use run_progress::{ClearingSink, CountedSource, Progress};
 use std::alloc::{AllocError, Global};
 use std::env::Env;
 use std::fs::File;
@@ -68,8 +68,11 @@ fn main(rt: HostRuntime) -> ExitCode {
     let Ok(files) = rt.clone() else {
         return ExitCode::from(MEMORY);
     };
-    let mut source = KeptSource::new(alloc, StdSource::new(rt.reader()));
-    let mut sink = HeardSink::new(alloc, StdSink::new(io::writer(&rt)));
+    let progress = Progress::new(&rt, rt.stderr());
+    let source = CountedSource::new(&progress, StdSource::new(rt.reader()));
+    let mut source = KeptSource::new(alloc, source);
+    let sink = ClearingSink::new(&progress, StdSink::new(io::writer(&rt)));
+    let mut sink = HeardSink::new(alloc, sink);
     let mut disk = OpenedDisk::new(FileDisk::new(files));
     let outcome = ncrun(
         &rt,
@@ -78,8 +81,9 @@ fn main(rt: HostRuntime) -> ExitCode {
         &mut source,
         &mut disk,
         &mut sink,
-        &OpenGate,
+        &progress,
     );
+    progress.clear();
     let run = Run {
         status: outcome.status,
         script: source.kept(),
