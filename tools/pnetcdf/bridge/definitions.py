@@ -201,6 +201,10 @@ class Definitions:
             return name_word(self.vars[number].name, "a variable")
         return "no_variable_%s" % str(number).replace("-", "_")
 
+    def dimension_word(self, number):
+        """The same for a dimension."""
+        return name_word(self.dims[number].name, "a dimension") if 0 <= number < len(self.dims) else "no_dimension"
+
     def same_as(self, other):
         """Whether two ranks defined alike."""
         return (self.version, self.order, self.dims, self.vars, self.attributes) == (

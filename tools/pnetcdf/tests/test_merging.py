@@ -113,6 +113,12 @@ class Merging(unittest.TestCase):
         open(kept, "w").close()
         self.assertEqual((merged.kept(0), merged.kept(1)), (kept, None))
 
+    def test_a_dimension_that_is_renamed_after_its_length_was_asked(self):
+        asked = [("inq_dimlen", {"dim": 0}, {"length": 4}), ("rename_dim", {"dim": 0, "new": "y"}, {}), ("inq_dimlen", {"dim": 9}, {"code": -46, "name": "NC_EBADDIM"})]
+        merged = self.merged(BEGUN + asked + CLOSED, BEGUN + asked[1:2] + CLOSED)
+        self.assertEqual(self.calls(merged.parts[0]), ["0 inq_dimlen y", "0 inq_dimlen no_dimension"])
+        self.assertEqual(merged.remarks(), ["the dimension x is renamed to y, and has that name from the start"])
+
     def test_a_call_that_never_came_back(self):
         hung = put(1)[:2] + (None,)
         diagnosis = Diagnosis(self.opening(BEGUN + [hung], BEGUN + CLOSED), "", None)
