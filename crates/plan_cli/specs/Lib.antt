@@ -1,0 +1,6 @@
+pub mod Words
+pub mod Outside
+pub mod FaultLines
+pub mod Opened
+pub mod Headline
+pub mod Ends
