@@ -1,7 +1,6 @@
 -- What each status leaves.
 --     IsStatus, IsSilent            the statuses there are, and those that no line tells
---     IsUnnamed named script        the script opens a dataset, and no word names one
---     LacksDataset named left       the text asks for such a script
+--     LacksDataset named left       the text asks for a dataset that is opened, and no word names one
 --     HasEnded wanted before now .. how a plan ends that is asked for
 --     EndsAs wanted ..              the end that the words ask for
 use Rattle.std.specs.Prelude.{ℕ, ◌≡◌, ◌⊎◌, List, false, Option, Some, None, IsSomeAnd}
@@ -20,11 +19,11 @@ IsStatus status =
 abbrev pub IsSilent : ℕ → Type 0
 IsSilent status = (status ≡ 5) ⊎ (status ≡ 8)
 
-abbrev pub IsUnnamed : Option (List ℕ) → Script → Type 0
-IsUnnamed named script = (named ≡ None) × (script.fresh ≡ false)
-
-abbrev pub LacksDataset : Option (List ℕ) → Option (List ℕ) → Type 0
-LacksDataset named left = (script : Script) × (Asks left script × IsUnnamed named script)
+pub record LacksDataset (named left : Option (List ℕ)) : Type 0 where
+  pub unnamed : named ≡ None
+  pub script : Script
+  pub asks : Asks left script
+  pub opens : script.fresh ≡ false
 
 -- the line of ncrun was given under this program's name, or a front of it where the sink failed
 abbrev pub Gives : Seen → Seen → List ℕ → Type 0

@@ -22,7 +22,7 @@ use Rattle.plan_text.specs.JsonPlan.{plan_json_of}
 use Rattle.plan_cli.specs.Opened.{file_at_start, MayHold}
 use Rattle.plan_cli.specs.Outside.{Seen}
 
-abbrev pub document : Bool → Script → Header → ℕ → RunPlan → Sums → List ℕ
+unfoldable pub document : Bool → Script → Header → ℕ → RunPlan → Sums → List ℕ
 document true script header len plan sums = plan_json_of script header len plan sums
 document false script header len plan sums = plan_text_of script header len plan sums
 

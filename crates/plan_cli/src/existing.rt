@@ -1,5 +1,5 @@
 // A dataset that is there.
-ghost use Rattle.std.specs.Prelude.{◌≡◌, ◌≤◌, ◌⊎◌, ◌==◌, Some, true, false, length, Err, IfErr, IfOk, IfSome, IsErrOf, OnOk};
+ghost use Rattle.std.specs.Prelude.{◌≡◌, ◌≤◌, ◌==◌, Some, true, false, length, Err, IfErr, IfOk, IfSome, IsErrOf, OnOk};
 ghost use Rattle.nc_base.specs.declared.errors.HeaderErr.{HeaderErr};
 ghost use Rattle.nc_base.specs.declared.errors.RedefErr.{RedefErr};
 ghost use Rattle.nc_outside.specs.Cause.{Rose};
@@ -7,13 +7,13 @@ ghost use Rattle.serial_spec.specs.HeaderFaults.{HasFault};
 ghost use Rattle.serial_spec.specs.Redefinition.{redefined_fault};
 ghost use Rattle.serial_spec.specs.SoundHeaders.{is_redefinable, is_sound};
 ghost use Rattle.redef_laws.specs.Applied.{IsApplied};
-ghost use Rattle.dataset_start.specs.Dataset.{front, IsKept, TellsDataset};
+ghost use Rattle.dataset_start.specs.Dataset.{front, IsKept};
 ghost use Rattle.dataset_start.specs.Readiness.{dataset_end};
-ghost use Rattle.dataset_start.specs.Stops.{line_of, status_of, IsOfHeader, IsOfOpening, IsOfRedefinition};
+ghost use Rattle.dataset_start.specs.Stops.{IsOfHeader, IsOfRedefinition};
 ghost use Rattle.opening_plan.specs.Opening.{IsOpeningOf};
-ghost use Rattle.plan_cli.specs.Ends.{IsUnnamed};
 ghost use Rattle.plan_cli.specs.Opened.{IsOpenedFile, IsOpening};
 ghost use Rattle.plan_cli.specs.Outside.{held_of};
+ghost use Rattle.plan_cli.specs.Stopped.{IsUnprepared};
 ghost use Rattle.plan_cli.specs.Words.{name_of};
 
 use crate::dataset::DatasetFront;
@@ -43,10 +43,8 @@ pub(crate) fn open<D: DatasetFront>(
     requires opened { script.now.fresh ≡ false }
     ensures opening { IfOk result (λ prepared. IsOpening script.now (held_of D.DatasetFront (name_of name.entry) dataset.old) prepared.header prepared.opening) }
     ensures long { IfOk result (λ prepared. dataset_end prepared.header ≤ prepared.opening.size) }
-    ensures bad { IfErr result (λ stop. status_of stop ≡ 4 → IfSome (line_of stop) (TellsDataset script.now (held_of D.DatasetFront (name_of name.entry) dataset.old))) }
-    ensures disk { IsErrOf result Stop.Disk → Rose (D.faults dataset.old) (D.faults dataset.new) ⊎ IsUnnamed (name_of name.entry) script.now }
+    ensures stopped { IfErr result (IsUnprepared script.now (held_of D.DatasetFront (name_of name.entry) dataset.old) (name_of name.entry) (Rose (D.faults dataset.old) (D.faults dataset.new))) }
     ensures kept { D.held dataset.new ≡ D.held dataset.old }
-    ensures only { IfErr result IsOfOpening }
 {
     let Some(name) = name else {
         return Err(Stop::Disk);
@@ -106,6 +104,7 @@ fn redefine(alloc: Global, script: &Script, old: Looked) -> Result<Prepared, Sto
     ensures long { IfOk result (λ prepared. dataset_end prepared.header ≤ prepared.opening.size) }
     ensures refused { (e : RedefErr) → result ≡ Err (Stop.Redefinition e) → redefined_fault old.header script.now.extra ≡ Some e }
     ensures only { IfErr result IsOfRedefinition }
+    ensures unread { ¬ (IsErrOf result Stop.Disk) }
 {
     let header = apply(alloc, &old.header, &script.extra)?;
     let opening = open_existing(alloc, script, &old.header, &header, old.size)?;
