@@ -1,17 +1,14 @@
 // The sums of a plan.
+ghost use Rattle.std.specs.Prelude.{◌≤◌, IfOk};
+ghost use Rattle.plan_sums.specs.Summed.{AreSums};
+
+use crate::calls::{all_calls, count, steps_calls};
 use crate::cells::{CellList, cells_of};
+use crate::naive::{Naive, naive_of};
 use crate::tally::Tally;
-use nc_base::{DiskCall, Memory};
+use nc_base::{Direction, Memory};
 use run_plan::RunPlan;
 use std::alloc::Global;
-use step_plan::{Phase, StepPlan, device_calls};
-
-/// What naive I/O makes: one call for each run of bytes of a request that follow one another in the file.
-#[derive(Clone, Copy, Debug, PartialEq, Eq)]
-pub struct Naive {
-    pub calls: u64,
-    pub bytes: u64,
-}
 
 /// The sums of a plan. A number that is too great for its type is told as the greatest of it.
 #[derive(Drop, PartialEq, Eq)]
@@ -32,87 +29,34 @@ pub struct Sums {
 }
 
 /// The sums of a plan for so many ranks and aggregators.
+///
+/// It takes memory for the device calls and the windows' shares, and is linear in them and in the ranks.
 pub fn sum_up(
     alloc: Global,
     plan: &RunPlan,
     striping_unit: u64,
     ranks: u32,
     nodes: u32,
-) -> Result<Sums, Memory> {
+) -> Result<Sums, Memory>
+    requires { 1 ≤ striping_unit }
+    ensures { IfOk result (AreSums plan.now striping_unit ranks nodes) }
+{
     let steps = plan.steps.as_slice();
-    let mut calls = Counted::NONE;
-    calls.add_steps(alloc, steps, striping_unit)?;
-    let (read, written) = (calls.reads.bytes, calls.writes.bytes);
-    calls.add_all(plan.opening.as_slice(), striping_unit);
-    if let Some(field) = plan.close {
-        calls.add(DiskCall::Store(field.at, field.len), striping_unit);
-    }
-    let naive_reads = naive_of(steps, false);
-    let naive_writes = naive_of(steps, true);
+    let in_steps = steps_calls(alloc, steps)?;
+    let calls = all_calls(alloc, plan, &in_steps)?;
+    let matrix = cells_of(alloc, steps, ranks, nodes)?;
+    let all = count(&calls, striping_unit);
+    let moved = count(&in_steps, striping_unit);
+    let naive_reads = naive_of(steps, Direction::Get);
+    let naive_writes = naive_of(steps, Direction::Put);
     Ok(Sums {
-        grows: calls.grows,
-        reads: calls.reads,
-        writes: calls.writes,
+        grows: all.grows,
+        reads: all.reads,
+        writes: all.writes,
         naive_reads,
         naive_writes,
-        read_over: read.saturating_sub(naive_reads.bytes),
-        written_over: written.saturating_sub(naive_writes.bytes),
-        matrix: cells_of(alloc, steps, ranks, nodes)?,
+        read_over: moved.reads.bytes.saturating_sub(naive_reads.bytes),
+        written_over: moved.writes.bytes.saturating_sub(naive_writes.bytes),
+        matrix,
     })
-}
-
-/// The calls of a disk by their kinds.
-#[derive(Clone, Copy)]
-struct Counted {
-    grows: u64,
-    reads: Tally,
-    writes: Tally,
-}
-
-impl Counted {
-    const NONE: Counted = Counted {
-        grows: 0,
-        reads: Tally::NONE,
-        writes: Tally::NONE,
-    };
-
-    fn add(&mut self, call: DiskCall, unit: u64) {
-        match call {
-            DiskCall::Grow(_) => self.grows = self.grows.saturating_add(1),
-            DiskCall::Load(at, len) => self.reads.add(at, len, unit),
-            DiskCall::Store(at, len) => self.writes.add(at, len, unit),
-        }
-    }
-
-    fn add_all(&mut self, calls: &[DiskCall], unit: u64) {
-        for call in calls {
-            self.add(*call, unit);
-        }
-    }
-
-    fn add_steps(&mut self, alloc: Global, steps: &[StepPlan], unit: u64) -> Result<(), Memory> {
-        for step in steps {
-            let mut calls = Vec::new(alloc);
-            device_calls(&mut calls, &step.file)?;
-            self.add_all(&calls, unit);
-        }
-        Ok(())
-    }
-}
-
-// What naive I/O makes of the puts of steps, or of their gets.
-fn naive_of(steps: &[StepPlan], puts: bool) -> Naive {
-    let mut naive = Naive { calls: 0, bytes: 0 };
-    for step in steps {
-        let phase = if puts { &step.file.puts } else { &step.file.gets };
-        add_asked(&mut naive, phase);
-    }
-    naive
-}
-
-fn add_asked(naive: &mut Naive, phase: &Phase) {
-    for asked in phase.asked.as_slice() {
-        naive.calls = naive.calls.saturating_add(asked.pieces);
-        naive.bytes = naive.bytes.saturating_add(asked.bytes);
-    }
 }

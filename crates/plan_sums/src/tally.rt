@@ -1,4 +1,9 @@
 // The reads or the writes of a plan.
+ghost use Rattle.std.specs.Prelude.{◌≡◌, ◌≤◌, ◌<◌, ◌%◌, ◌++◌, ◌∷◌, [], List, min, nat_lt, if◌then◌else◌};
+ghost use Rattle.nc_base.specs.declared.plan.Extent.{Extent};
+ghost use Rattle.plan_sums.specs.Tallies.{is_unaligned, tally_of};
+
+use nc_base::Extent;
 
 /// The reads or the writes of a plan. A number that is too great for its type is told as the greatest of it.
 #[derive(Clone, Copy, Debug, PartialEq, Eq)]
@@ -14,26 +19,50 @@ pub struct Tally {
 }
 
 impl Tally {
-    pub const NONE: Tally = Tally {
-        calls: 0,
-        bytes: 0,
-        least: 0,
-        most: 0,
-        unaligned: 0,
-    };
+    /// That of no read or write.
+    pub(crate) fn none() -> Tally
+        ensures { result ≡ record { calls = 0; bytes = 0; least = 0; most = 0; unaligned = 0 } }
+    {
+        Tally {
+            calls: 0,
+            bytes: 0,
+            least: 0,
+            most: 0,
+            unaligned: 0,
+        }
+    }
 
-    /// Adds a read or a write of so many bytes from a place on.
-    pub(crate) fn add(&mut self, at: u64, len: u64, unit: u64) {
-        self.least = if self.calls == 0 {
+    /// With a read or a write of these bytes more.
+    pub(crate) fn with(self, extent: Extent, unit: u64) -> Tally
+        requires { 1 ≤ unit }
+        ensures { (before : List Extent) → self ≡ tally_of unit before → result ≡ tally_of unit (before ++ extent ∷ []) }
+    {
+        Tally {
+            calls: self.calls.saturating_add(1),
+            bytes: self.bytes.saturating_add(extent.len),
+            least: self.least_with(extent.len),
+            most: self.most.max(extent.len),
+            unaligned: self.unaligned.saturating_add(strays(extent, unit)),
+        }
+    }
+
+    // The bytes of the smallest one, with one of so many bytes more.
+    fn least_with(self, len: u64) -> u64
+        ensures first { self.calls ≡ 0 → result ≡ len }
+        ensures later { 0 < self.calls → result ≡ min self.least len }
+    {
+        if self.calls == 0 {
             len
         } else {
             self.least.min(len)
-        };
-        self.most = self.most.max(len);
-        self.calls = self.calls.saturating_add(1);
-        self.bytes = self.bytes.saturating_add(len);
-        if at % unit != 0 {
-            self.unaligned = self.unaligned.saturating_add(1);
         }
     }
+}
+
+// 1 for bytes that begin at no multiple of the unit, and else 0.
+fn strays(extent: Extent, unit: u64) -> u64
+    requires { 1 ≤ unit }
+    ensures { result ≡ (if is_unaligned unit extent then 1 else 0) }
+{
+    if extent.at % unit > 0 { 1 } else { 0 }
 }
