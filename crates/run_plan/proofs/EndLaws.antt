@@ -1,85 +1,98 @@
 -- The end of a plan.
-use Rattle.std.proofs.Common.{◌≡◌, ℕ, refl, sym, ◌∙◌, ap, subst, List, [], ◌∷◌, ◌++◌, length, map, max, true}
-use Rattle.std.specs.Prelude.{fold, nat_lt, IfOk, Result, Ok, Err}
+use Rattle.std.proofs.Common.{◌≡◌, ℕ, refl, sym, ◌∙◌, ap, subst, List, [], ◌++◌, length, map, max, true, Option}
+use Rattle.std.specs.Prelude.{fold, nat_lt, replicate, IfOk, Result, Ok, Err}
 use Rattle.nc_base.specs.declared.answer.Answer.{Answer}
 use Rattle.nc_base.specs.declared.header.Header.{Header}
+use Rattle.nc_base.specs.declared.plan.Extent.{Extent}
 use Rattle.nc_base.specs.declared.script.Script.{Script}
 use Rattle.nc_base.specs.declared.step.DiskCall.{DiskCall}
+use Rattle.nc_base.specs.declared.step.Mark.{Mark}
 use Rattle.serial_spec.specs.DeviceCalls.{run_calls, store_records}
+use Rattle.serial_spec.specs.FileStep.{raised}
 use Rattle.serial_spec.specs.History.{IsLegal}
 use Rattle.serial_spec.specs.Layout.{greatest}
 use Rattle.serial_spec.specs.Lawful.{is_lawful}
 use Rattle.serial_spec.specs.RankMachine as machine
-use Rattle.serial_spec.specs.SerialEnd.{serial_from, setting_of}
+use Rattle.serial_spec.specs.SerialEnd.{close_by, first_state, serial_from, setting_of, End}
 use Rattle.serial_spec.proofs.CountLaws.{raised_records}
+use Rattle.list_laws.proofs.Maps.{map_map}
 use Rattle.collective_round.specs.Rounds.{counted}
 use Rattle.collective_round.proofs.PutLaws.{rises}
-use Rattle.run_laws.specs.Arrivals.{ended_from, step_to, Arrived, Stand}
+use Rattle.join_laws.specs.Alike.{blank, AreAlikeEnds, IsLike}
+use Rattle.join_laws.proofs.StandsAlike.{close_alike, same_beside}
+use Rattle.run_laws.specs.Arrivals.{ended_from, first_stand, step_to, Arrived, Stand}
+use Rattle.run_laws.proofs.ArrivalLaws.{first_up, gone_up}
+use Rattle.run_laws.proofs.LawfulLaws.{ranks_lawful}
 use Rattle.step_plan.specs.Steps.{count_call}
 use Rattle.step_plan.specs.declared.plan.StepPlan.{StepPlan}
-use Rattle.std.specs.Prelude.{replicate}
+use Rattle.turn_run.specs.Running.{AreFree, AreRunners, HaveArrived}
 use Rattle.turn_run.specs.Stages.{arrived_all}
 use Rattle.turn_run.specs.Steps.{first_runner}
 use Rattle.turn_run.specs.declared.runners.Runner.{Runner}
-use Rattle.run_laws.proofs.LawfulLaws.{ranks_lawful}
-use Rattle.turn_run.specs.Running.{AreFree, AreRunners, HaveArrived}
 use Rattle.turn_run.proofs.TurnEnds.{are_over, ended_legal, map_ended, AreOver}
 use Rattle.turn_run.proofs.TurnKnown.{most_known}
-use Rattle.turn_run.proofs.TurnRuns.{calls_from_first, serial_from_first}
-use Rattle.nc_base.specs.declared.plan.Extent.{Extent}
-use Rattle.std.specs.Prelude.{Option}
-use Rattle.run_plan.specs.Planned.{calls_in, order_in, plan_stage, AreAllNear, HasPlannedAll, IsFollowed}
-use Rattle.run_plan.specs.Runs.{HasEnded, IsPlanOf}
+use Rattle.turn_run.proofs.TurnRuns.{calls_from_first, first_stage, serial_from_first, told_end}
+use Rattle.run_plan.specs.Planned.{calls_in, order_in, plan_stage, AreStepsOf, HasPlannedAll, IsFollowed}
+use Rattle.run_plan.specs.Runs.{without_values, HasEnded, IsPlanOf}
 use Rattle.run_plan.specs.declared.run.RunPlan.{RunPlan}
 use Rattle.run_plan.specs.declared.steps.Progress.{Progress}
-use Rattle.run_plan.proofs.NearLaws.{all_near}
-
--- near ranks know the same count
-near_known : (ps qs : List Arrived) → AreAllNear ps qs → map (λ g. g.rank.known) (map (λ (a : Arrived). a.0) ps) ≡ map (λ g. g.rank.known) (map (λ (a : Arrived). a.0) qs)
-near_known [] [] h = refl
-near_known [] (q ∷ qs) h = absurd h
-near_known (p ∷ ps) [] h = absurd h
-near_known (p ∷ ps) (q ∷ qs) h = let first = h.0.0.rank in let rest = near_known ps qs h.1 in λ i. (first i).known ∷ rest i
+use Rattle.run_plan.proofs.NearLaws.{same_without_values}
 
 -- what is known of the end of a run that the plan follows
-pub record IsEnding (script : Script) (header : Header) (file : List ℕ) (order : List Mark) (calls : List DiskCall) (count : ℕ) : Type 0 where
-  pub calls_are : calls ≡ run_calls script header file order
-  pub count_is : count ≡ (serial_from script header file order).records
+pub record IsEnding (script : Script) (header : Header) (file : List ℕ) (steps : List StepPlan) (calls : List DiskCall) (end : End) : Type 0 where
+  pub calls_are : calls ≡ run_calls script header file (order_in steps)
+  pub each : AreStepsOf script.hints (setting_of script header) (first_stand header file script.calls) steps
+  pub alike : AreAlikeEnds end (serial_from script header file (order_in steps))
 
-pub plan_ends : (script : Script) (header : Header) (file : List ℕ) (steps : List StepPlan) (size later from count known : ℕ) (close : Option Extent) (first last : List Runner)
-    → is_lawful script ≡ true → length file ≡ size → from ≡ header.records → first ≡ replicate script.ranks (first_runner header from) → length script.calls ≡ length last → AreOver script.calls last
-    → HasPlannedAll script.hints (setting_of script header) [] steps (plan_stage size from (arrived_all header script.calls first)) (plan_stage later count (arrived_all header script.calls last))
-    → known ≡ most_known last → count_call close ≡ store_records (setting_of script header) (nat_lt count known)
-    → IsEnding script header file (order_in steps) (calls_in steps ++ count_call close) (max count known)
-plan_ends script header file steps size later from count known close first last lawful long records firsts each over planned knows closes = record {
-  calls_are = (λ i. sym followed.over i ++ closing i) ∙ calls_from_first script header file from first (order_in steps) lawful records firsts;
-  count_is = sym ended ∙ ap (λ e. e.records) (serial_from_first script header file from first (order_in steps) lawful records firsts);
-}
-  where
-    stand : Stand
-    stand = (counted file from, arrived_all header script.calls first)
+-- ranks that have ended beside those of the plan
+ranks_end : (script : Script) (header : Header) (count : ℕ) (last : List Runner) (stand : Stand) → length script.calls ≡ length last → AreOver script.calls last
+    → IsLike stand count (arrived_all header script.calls last)
+    → AreAlikeEnds (told_end (max count (most_known last)) last) (close_by (setting_of script header) stand.0 (map (λ (a : Arrived). a.0) stand.1))
+ranks_end script header count last stand each over like =
+    let s = setting_of script header in
+    let ends = map (λ (a : Arrived). a.0) (arrived_all header script.calls last) in
+    let alike = close_alike s stand (counted [] count) (arrived_all header script.calls last) like in
+    let known : greatest (map (λ g. g.rank.known) ends) ≡ most_known last =
+    ap greatest (map_ended (λ (rank : machine.Rank) (answers : List Answer). rank.known) header script.calls last each over) in
+    let count_is : (close_by s (counted [] count) ends).records ≡ max count (most_known last) =
+    ap (λ (n : ℕ). (raised s (counted [] count) n).records) known ∙ raised_records s (counted [] count) (most_known last) in
+    record {
+      records = sym count_is ∙ sym alike.records;
+      answers = ap (map (map blank)) (sym (map_ended (λ (rank : machine.Rank) (answers : List Answer). answers) header script.calls last each over)) ∙ sym alike.answers;
+      pending = sym (map_ended (λ (rank : machine.Rank) (answers : List Answer). machine.pending rank) header script.calls last each over) ∙ sym alike.pending;
+    }
 
-    all : planned.more ≡ steps
-    all = sym planned.grown
+-- the first stand of a run is that of its runners
+first_is : (script : Script) (header : Header) (file : List ℕ) (first : List Runner) → is_lawful script ≡ true → first ≡ replicate script.ranks (first_runner header header.records)
+    → (counted file header.records, arrived_all header script.calls first) ≡ first_stand header file script.calls
+first_is script header file first lawful firsts =
+    let s = setting_of script header in
+    first_stage script header file header.records first lawful refl firsts ∙ sym (first_up header s file script.calls refl)
 
-    followed : IsFollowed script.hints (setting_of script header) (order_in steps) (calls_in steps) (plan_stage later count (arrived_all header script.calls last)) stand
-    followed = subst (λ (ms : List StepPlan). IsFollowed script.hints (setting_of script header) (order_in ms) (calls_in ms) (plan_stage later count (arrived_all header script.calls last)) stand) all
-        (planned.led stand (record { long = long; count = refl; ranks = all_near (arrived_all header script.calls first) }))
-
-    end : Stand
-    end = fold (step_to (setting_of script header)) stand (order_in steps)
-
-    most : greatest (map (λ g. g.rank.known) (map (λ (a : Arrived). a.0) end.1)) ≡ known
-    most = ap greatest (near_known end.1 (arrived_all header script.calls last) followed.beside.ranks)
-        ∙ ap greatest (map_ended (λ (rank : machine.Rank) (answers : List Answer). rank.known) header script.calls last each over) ∙ sym knows
-
-    ended : (ended_from (setting_of script header) stand (order_in steps)).records ≡ max count known
-    ended = raised_records (setting_of script header) end.0 (greatest (map (λ g. g.rank.known) (map (λ (a : Arrived). a.0) end.1)))
-        ∙ (λ i. max (followed.beside.count i) (most i))
-
-    closing : count_call close ≡ store_records (setting_of script header) (nat_lt end.0.records (ended_from (setting_of script header) stand (order_in steps)).records)
-    closing = closes ∙ ap (store_records (setting_of script header)) (sym (rises count known))
-        ∙ (λ i. store_records (setting_of script header) (nat_lt (sym followed.beside.count i) (sym ended i)))
+pub plan_ends : (script : Script) (header : Header) (file : List ℕ) (steps : List StepPlan) (size later count : ℕ) (close : Option Extent) (first last : List Runner)
+    → is_lawful script ≡ true → length file ≡ size → first ≡ replicate script.ranks (first_runner header header.records) → length script.calls ≡ length last → AreOver script.calls last
+    → HasPlannedAll script.hints (setting_of script header) [] steps (plan_stage size header.records (arrived_all header script.calls first))
+    (plan_stage later count (arrived_all header script.calls last))
+    → count_call close ≡ store_records (setting_of script header) (nat_lt count (most_known last))
+    → IsEnding script header file steps (calls_in steps ++ count_call close) (told_end (max count (most_known last)) last)
+plan_ends script header file steps size later count close first last lawful long firsts each over planned closes =
+    let s = setting_of script header in
+    let from = header.records in
+    let stand : Stand = (counted file from, arrived_all header script.calls first) in
+    let b = plan_stage later count (arrived_all header script.calls last) in
+    let followed : IsFollowed script.hints s steps b stand =
+    subst (λ (ms : List StepPlan). IsFollowed script.hints s ms b stand) (sym planned.grown)
+    (planned.led stand (record { long = long; like = record { records = refl; beside = same_beside (arrived_all header script.calls first) } })) in
+    let end = fold (step_to s) stand (order_in steps) in
+    let ends = ranks_end script header count last end each over followed.beside.like in
+    let closing : count_call close ≡ store_records s (nat_lt end.0.records (ended_from s stand (order_in steps)).records) =
+    closes ∙ ap (λ t. store_records s t) (sym (rises count (most_known last)))
+    ∙ (λ i. store_records s (nat_lt (sym followed.beside.like.records i) (ends.records i))) in
+    record {
+      calls_are = (λ i. sym followed.over i ++ closing i) ∙ calls_from_first script header file from first (order_in steps) lawful refl firsts;
+      each = subst (λ (x : Stand). AreStepsOf script.hints s x steps) (first_is script header file first lawful firsts) followed.each;
+      alike = subst (λ (x : End). AreAlikeEnds (told_end (max count (most_known last)) last) x) (serial_from_first script header file from first (order_in steps) lawful refl firsts) ends;
+    }
 
 -- a plan whose meetings are all held, with its close
 pub are_planned : (script : Script) (header : Header) (size : ℕ) (before : List StepPlan) (opening : List DiskCall) (at : Progress) (first last : List Runner) (plan : RunPlan) → is_lawful script ≡ true
@@ -88,19 +101,23 @@ pub are_planned : (script : Script) (header : Header) (size : ℕ) (before : Lis
     → HasEnded header opening at last plan → IsPlanOf script header size plan
 are_planned script header size before opening at first last plan lawful firsts none runners free arrived planned end = record {
   legal = subst (λ (steps : List StepPlan). IsLegal script (order_in steps)) (sym end.steps) (ended_legal script header at.size (order_in at.steps) last lawful runners free arrived);
-  calls = λ file long. (λ i. calls_in (end.steps i) ++ count_call plan.close) ∙ (ending file long).calls_are
-      ∙ ap (λ (steps : List StepPlan). run_calls script header file (order_in steps)) (sym end.steps);
-  records = λ file long. end.records ∙ (ending file long).count_is ∙ ap (λ (steps : List StepPlan). (serial_from script header file (order_in steps)).records) (sym end.steps);
+  calls = λ file long. (ending file long).calls_are;
+  each = λ file long. (ending file long).each;
+  records = λ file long. end.records ∙ (ending file long).alike.records;
+  answers = λ file long. end.answers ∙ sym (map_map (map without_values) (λ (runner : Runner). runner.answers) last)
+      ∙ same_without_values (map (λ (runner : Runner). runner.answers) last) (serial_from script header file (order_in plan.steps)).answers (ending file long).alike.answers;
+  pending = λ file long. end.pending ∙ (ending file long).alike.pending;
 }
   where
     each : length script.calls ≡ length last
     each = (ranks_lawful script lawful).one_each ∙ sym runners.all
 
-    ending : (file : List ℕ) → length file ≡ size → IsEnding script header file (order_in at.steps) (calls_in at.steps ++ count_call plan.close) (max at.records (most_known last))
+    ending : (file : List ℕ) → length file ≡ size → IsEnding script header file plan.steps (calls_in plan.steps ++ count_call plan.close) (told_end (max at.records (most_known last)) last)
     ending file long =
-        plan_ends script header file at.steps size at.size header.records at.records (most_known last) plan.close first last lawful long refl firsts each (are_over script last free arrived)
+        subst (λ (steps : List StepPlan). IsEnding script header file steps (calls_in steps ++ count_call plan.close) (told_end (max at.records (most_known last)) last)) (sym end.steps)
+        (plan_ends script header file at.steps size at.size at.records plan.close first last lawful long firsts each (are_over script last free arrived)
         (subst (λ (steps : List StepPlan). HasPlannedAll script.hints (setting_of script header) steps at.steps (plan_stage size header.records (arrived_all header script.calls first))
-        (plan_stage at.size at.records (arrived_all header script.calls last))) none planned) refl end.close
+        (plan_stage at.size at.records (arrived_all header script.calls last))) none planned) end.close)
 
 -- what holds of a value where there is one
 pub ok_so : {T E : Type 0} {P Q : T → Type 0} (r : Result T E) → ((x : T) → P x → Q x) → IfOk r P → IfOk r Q

@@ -23,7 +23,7 @@ use Rattle.turn_run.specs.Running.{calls_of}
 use Rattle.turn_run.specs.Stages.{arrived, arrived_all, IsGrownBy}
 use Rattle.turn_run.specs.declared.runners.Runner.{Runner}
 use Rattle.turn_run.proofs.TurnSteps.{calls_there, get_arrived, set_arrived}
-use Rattle.run_plan.specs.Planned.{calls_in, order_in, plan_stage, rank_plan, Follows, HasPlanned, HasPlannedAll, IsBeside, PlanStage, RankPlan}
+use Rattle.run_plan.specs.Planned.{calls_in, order_in, plan_stage, rank_plan, AreStepsOf, Follows, HasPlanned, HasPlannedAll, IsBeside, PlanStage, RankPlan}
 
 -- ---- one list of steps after another
 
@@ -40,30 +40,25 @@ order_joined xs ys = map-append (λ (step : StepPlan). step.mark) xs ys
 calls_joined : (xs ys : List StepPlan) → calls_in (xs ++ ys) ≡ calls_in xs ++ calls_in ys
 calls_joined xs ys = flat_map-append (λ (step : StepPlan). file_calls step.file) xs ys
 
-pub follows_none : (hints : Hints) (s : Setting) (a : PlanStage) → Follows hints s [] [] a a
-follows_none hints s a stand beside = record { beside = beside; calls = refl }
+each_joined : (hints : Hints) (s : Setting) (steps more : List StepPlan) (stand : Stand) → AreStepsOf hints s stand steps → AreStepsOf hints s (fold (step_to s) stand (order_in steps)) more
+    → AreStepsOf hints s stand (steps ++ more)
+each_joined hints s [] more stand a b = b
+each_joined hints s (step ∷ steps) more stand a b = (a.0, each_joined hints s steps more (step_to s stand step.mark) a.1 b)
 
-pub follows_then : (hints : Hints) (s : Setting) (marks more : List Mark) (calls made : List DiskCall) (a b c : PlanStage) → Follows hints s marks calls a b → Follows hints s more made b c
-    → Follows hints s (marks ++ more) (calls ++ made) a c
-follows_then hints s marks more calls made a b c first second stand beside =
+follows_none : (hints : Hints) (s : Setting) (a : PlanStage) → Follows hints s [] a a
+follows_none hints s a stand beside = record { beside = beside; over = refl; each = tt }
+
+follows_then : (hints : Hints) (s : Setting) (steps more : List StepPlan) (a b c : PlanStage) → Follows hints s steps a b → Follows hints s more b c → Follows hints s (steps ++ more) a c
+follows_then hints s steps more a b c first second stand beside =
     let one = first stand beside in
-    let two = second (fold (step_to s) stand marks) one.beside in
+    let two = second (fold (step_to s) stand (order_in steps)) one.beside in
+    let last = ap (λ (ms : List Mark). fold (step_to s) stand ms) (order_joined steps more) ∙ fold-append (step_to s) stand (order_in steps) (order_in more) in
     record {
-      beside = subst (λ (x : Stand). IsBeside c x) (sym (fold-append (step_to s) stand marks more)) two.beside;
-      over = calls_split hints s stand marks more ∙ ap (λ (cs : List DiskCall). cs ++ calls_over hints s (fold (step_to s) stand marks) more) one.over
-          ∙ ap (λ (cs : List DiskCall). calls ++ cs) two.over;
+      beside = subst (λ (x : Stand). IsBeside c x) (sym last) two.beside;
+      over = ap (λ (ms : List Mark). calls_over hints s stand ms) (order_joined steps more) ∙ calls_split hints s stand (order_in steps) (order_in more)
+          ∙ (λ i. one.over i ++ two.over i) ∙ sym (calls_joined steps more);
+      each = each_joined hints s steps more stand one.each two.each;
     }
-
-follows_steps : (hints : Hints) (s : Setting) (steps more : List StepPlan) (a b c : PlanStage) → Follows hints s (order_in steps) (calls_in steps) a b
-    → Follows hints s (order_in more) (calls_in more) b c → Follows hints s (order_in (steps ++ more)) (calls_in (steps ++ more)) a c
-follows_steps hints s steps more a b c first second =
-    subst (λ (ms : List Mark). Follows hints s ms (calls_in (steps ++ more)) a c) (sym (order_joined steps more))
-    (subst (λ (cs : List DiskCall). Follows hints s (order_in steps ++ order_in more) cs a c) (sym (calls_joined steps more))
-    (follows_then hints s (order_in steps) (order_in more) (calls_in steps) (calls_in more) a b c first second))
-
--- the calls of one step
-pub one_step : (step : StepPlan) → calls_in (step ∷ []) ≡ file_calls step.file
-one_step step = append-nil (file_calls step.file)
 
 -- the order of one step more
 pub order_more : (steps now : List StepPlan) (step : StepPlan) → now ≡ steps ++ step ∷ [] → order_in now ≡ order_in steps ++ step.mark ∷ []
@@ -78,7 +73,7 @@ planned_same hints s r steps size from to e = record {
   grown = sym (append-nil steps);
   own = refl;
   led = λ records ranks g.
-      subst (λ (others : List Arrived). Follows hints s [] [] (plan_stage size records ranks) (plan_stage size records others))
+      subst (λ (others : List Arrived). Follows hints s [] (plan_stage size records ranks) (plan_stage size records others))
       (sym (set_own ranks r to (g ∙ ap (λ (a : Arrived). Some a) e))) (follows_none hints s (plan_stage size records ranks));
 }
 
@@ -91,9 +86,8 @@ planned_then hints s r a b c first second = record {
   led = λ records ranks g.
       let one = first.led records ranks g in
       let two = second.led records (set ranks r b.rank) (entry_set ranks r a.rank b.rank g) in
-      follows_steps hints s first.more second.more (plan_stage a.size records ranks) (plan_stage b.size records (set ranks r b.rank)) (plan_stage c.size records (set ranks r c.rank)) one
-      (subst (λ (others : List Arrived). Follows hints s (order_in second.more) (calls_in second.more) (plan_stage b.size records (set ranks r b.rank)) (plan_stage c.size records others))
-      (set-set ranks r b.rank c.rank) two);
+      follows_then hints s first.more second.more (plan_stage a.size records ranks) (plan_stage b.size records (set ranks r b.rank)) (plan_stage c.size records (set ranks r c.rank)) one
+      (subst (λ (others : List Arrived). Follows hints s second.more (plan_stage b.size records (set ranks r b.rank)) (plan_stage c.size records others)) (set-set ranks r b.rank c.rank) two);
 }
 
 pub planned_grown : (hints : Hints) (s : Setting) (r : ℕ) (a b : RankPlan) → HasPlanned hints s r a b → IsGrownBy r (order_in a.steps) (order_in b.steps)
@@ -109,7 +103,7 @@ pub all_then : (hints : Hints) (s : Setting) (before now later : List StepPlan) 
 all_then hints s before now later a b c first second = record {
   more = first.more ++ second.more;
   grown = second.grown ∙ ap (λ (ms : List StepPlan). ms ++ second.more) first.grown ∙ append_assoc before first.more second.more;
-  led = follows_steps hints s first.more second.more a b c first.led second.led;
+  led = follows_then hints s first.more second.more a b c first.led second.led;
 }
 
 -- what one rank did, seen by all
@@ -123,8 +117,8 @@ one_of_all script header runners n was runner before now size later lawful l e g
     record {
       more = g.more;
       grown = g.grown;
-      led = subst (λ (ranks : List Arrived). Follows script.hints (setting_of script header) (order_in g.more) (calls_in g.more)
-          (plan_stage size records (arrived_all header script.calls runners)) (plan_stage later records ranks)) (sym (set_arrived header script.calls runners n (calls_of script n) runner there))
+      led = subst (λ (ranks : List Arrived). Follows script.hints (setting_of script header) g.more (plan_stage size records (arrived_all header script.calls runners)) (plan_stage later records ranks))
+          (sym (set_arrived header script.calls runners n (calls_of script n) runner there))
           (g.led records (arrived_all header script.calls runners) (get_arrived header script.calls runners n (calls_of script n) was there e));
     }
   where

@@ -1,78 +1,40 @@
--- Ranks that stand near others, and what they hear.
-use Rattle.std.proofs.Common.{◌≡◌, ℕ, zero, suc, refl, subst, List, [], ◌∷◌, map, set, Option, Some, None}
-use Rattle.std.specs.Prelude.{slice_get, zip}
+-- Ranks beside others, and answers without values.
+use Rattle.std.proofs.Common.{◌≡◌, ℕ, zero, suc, refl, sym, ◌∙◌, ap, List, [], ◌∷◌, map, None, Some}
+use Rattle.std.specs.Prelude.{slice_get}
 use Rattle.std.proofs.lemmas.Option.{same_Some}
-use Rattle.list_laws.proofs.Optional.{no_none_some}
-use Rattle.nc_base.specs.declared.header.Header.{Header}
+use Rattle.list_laws.proofs.Maps.{map_map}
+use Rattle.nc_base.specs.declared.answer.Answer.{Answer}
+use Rattle.nc_base.specs.declared.answer.Item.{Item}
 use Rattle.nc_base.specs.declared.step.Offer.{Offer}
-use Rattle.nc_base.specs.declared.step.Reply.{Reply}
-use Rattle.serial_spec.specs.SerialEnd.{Going, advance, hears, offers_of}
-use Rattle.join_laws.specs.Alike.{TellAlike}
-use Rattle.join_laws.proofs.AlikeLaws.{advance_beside, hears_near, AreBeside, AreNear}
-use Rattle.run_laws.specs.Arrivals.{heard, Arrived}
-use Rattle.run_plan.specs.Planned.{AreAllNear, AreNearAt, IsNear}
+use Rattle.serial_spec.specs.SerialEnd.{Going}
+use Rattle.join_laws.specs.Alike.{blank, blank_item, AllBeside}
+use Rattle.run_laws.specs.Arrivals.{Arrived}
+use Rattle.run_plan.specs.Runs.{item_without_values, without_values}
 
-to_law : (g h : Going) → IsNear g h → AreNear g h
-to_law g h n = record { rank = n.rank; answers = n.answers; calls = n.calls }
+-- the ranks at one place hold the same offer
+pub offer_beside : (ps qs : List Arrived) (r : ℕ) (t : Going) (o : Offer) → AllBeside ps qs → slice_get qs r ≡ Some (t, Some o) → (g : Going) × (slice_get ps r ≡ Some (g, Some o))
+offer_beside [] [] r t o h e = absurd cc
+offer_beside [] (q ∷ qs) r t o h e = absurd h
+offer_beside (p ∷ ps) [] r t o h e = absurd h
+offer_beside (p ∷ ps) (q ∷ qs) zero t o h e =
+    let same : q ≡ (t, Some o) = same_Some q (t, Some o) e in
+    let held = h.0.1 ∙ ap (λ (a : Arrived). a.1) same in
+    (p.0, λ i. Some (p.0, held i))
+offer_beside (p ∷ ps) (q ∷ qs) (suc r) t o h e = offer_beside ps qs r t o h.1 e
 
-from_law : (p q : Arrived) → AreBeside p q → AreNearAt p q
-from_law p q b = (record { rank = b.0.rank; answers = b.0.answers; calls = b.0.calls }, b.1)
+-- ---- answers without values
 
-pub advance_near : (header : Header) (g h : Going) → IsNear g h → AreNearAt (advance header g) (advance header h)
-advance_near header g h n = from_law (advance header g) (advance header h) (advance_beside header g h (to_law g h n))
+blank_none : (a : Answer) → without_values (blank a) ≡ without_values a
+blank_none a = ap (λ (items : List Item). record a { values = None; items = items }) (map_map item_without_values blank_item a.items)
 
-pub hears_as : (header : Header) (g h : Going) (y z : Reply) → IsNear g h → TellAlike y z → AreNearAt (advance header (hears header g y)) (advance header (hears header h z))
-hears_as header g h y z n t =
-    from_law (advance header (hears header g y)) (advance header (hears header h z))
-    (advance_beside header (hears header g y) (hears header h z) (hears_near header g h y z (to_law g h n) t))
+row_none : (row : List Answer) → map without_values (map blank row) ≡ map without_values row
+row_none [] = refl
+row_none (a ∷ row) = let first = blank_none a in let others = row_none row in λ i. first i ∷ others i
 
--- ---- all ranks
+table_none : (table : List (List Answer)) → map (map without_values) (map (map blank) table) ≡ map (map without_values) table
+table_none [] = refl
+table_none (row ∷ table) = let first = row_none row in let others = table_none table in λ i. first i ∷ others i
 
-pub all_near : (ranks : List Arrived) → AreAllNear ranks ranks
-all_near [] = tt
-all_near (p ∷ ranks) = ((record { rank = refl; answers = refl; calls = refl }, refl), all_near ranks)
-
-pub near_at : (ps qs : List Arrived) (r : ℕ) (q : Arrived) → AreAllNear ps qs → slice_get qs r ≡ Some q → (p : Arrived) × (slice_get ps r ≡ Some p) × AreNearAt p q
-near_at [] [] zero q h e = no_none_some q e
-near_at [] [] (suc r) q h e = no_none_some q e
-near_at [] (x ∷ qs) r q h e = absurd h
-near_at (x ∷ ps) [] r q h e = absurd h
-near_at (x ∷ ps) (y ∷ qs) zero q h e = (x, refl, subst (λ (z : Arrived). AreNearAt x z) (same_Some y q e) h.0)
-near_at (x ∷ ps) (y ∷ qs) (suc r) q h e = near_at ps qs r q h.1 e
-
-pub set_near : (ps qs : List Arrived) (r : ℕ) (p q : Arrived) → AreAllNear ps qs → AreNearAt p q → AreAllNear (set ps r p) (set qs r q)
-set_near [] [] r p q h n = tt
-set_near [] (y ∷ qs) r p q h n = absurd h
-set_near (x ∷ ps) [] r p q h n = absurd h
-set_near (x ∷ ps) (y ∷ qs) zero p q h n = (n, h.1)
-set_near (x ∷ ps) (y ∷ qs) (suc r) p q h n = (h.0, set_near ps qs r p q h.1 n)
-
-pub offers_near : (ps qs : List Arrived) → AreAllNear ps qs → offers_of ps ≡ offers_of qs
-offers_near [] [] h = refl
-offers_near [] (y ∷ qs) h = absurd h
-offers_near (x ∷ ps) [] h = absurd h
-offers_near ((g, m) ∷ ps) ((k, n) ∷ qs) h = by_offer m n h.0.1 (offers_near ps qs h.1)
-  where
-    by_offer : (m n : Option Offer) → m ≡ n → offers_of ps ≡ offers_of qs → offers_of ((g, m) ∷ ps) ≡ offers_of ((k, n) ∷ qs)
-    by_offer None None e rest = rest
-    by_offer None (Some o) e rest = absurd cc
-    by_offer (Some o) None e rest = absurd cc
-    by_offer (Some o) (Some p) e rest = let same : o ≡ p = same_Some o p e in λ i. same i ∷ rest i
-
--- ---- replies
-
-abbrev pub AllTellAlike : List Reply → List Reply → Type 0
-AllTellAlike [] [] = Unit {0}
-AllTellAlike [] (z ∷ zs) = ⊥
-AllTellAlike (y ∷ ys) [] = ⊥
-AllTellAlike (y ∷ ys) (z ∷ zs) = TellAlike y z × AllTellAlike ys zs
-
-pub heard_near : (header : Header) (ps qs : List Arrived) (ys zs : List Reply) → AreAllNear ps qs → AllTellAlike ys zs
-    → AreAllNear (map (heard header) (zip ps ys)) (map (heard header) (zip qs zs))
-heard_near header [] [] ys zs h t = tt
-heard_near header [] (q ∷ qs) ys zs h t = absurd h
-heard_near header (p ∷ ps) [] ys zs h t = absurd h
-heard_near header (p ∷ ps) (q ∷ qs) [] [] h t = tt
-heard_near header (p ∷ ps) (q ∷ qs) [] (z ∷ zs) h t = absurd t
-heard_near header (p ∷ ps) (q ∷ qs) (y ∷ ys) [] h t = absurd t
-heard_near header (p ∷ ps) (q ∷ qs) (y ∷ ys) (z ∷ zs) h t = (hears_as header p.0 q.0 y z h.0.0 t.0, heard_near header ps qs ys zs h.1 t.1)
+-- answers that differ in values alone
+pub same_without_values : (one other : List (List Answer)) → map (map blank) one ≡ map (map blank) other → map (map without_values) one ≡ map (map without_values) other
+same_without_values one other e = sym (table_none one) ∙ ap (map (map without_values)) e ∙ table_none other

@@ -1,20 +1,78 @@
-// The answers of ranks without values.
-use nc_base::{Answer, AnswerList, ItemList};
+// What the ranks of a plan have at its end.
+ghost use Rattle.std.specs.Prelude.{◌≡◌, map, IfOk};
+ghost use Rattle.serial_spec.specs.RankMachine as machine;
+ghost use Rattle.run_plan.specs.Runs.{greatest_known, item_without_values, without_values};
 
-/// The answers without the values that gets have read.
-pub(crate) fn without_values(answers: AnswerList) -> AnswerList {
-    let mut list = answers.into_vec();
-    for answer in list.iter_mut() {
-        forget_values(answer);
+use nc_base::{Answer, AnswerList, AnswerTable, Item, ItemList, Memory, SizeList};
+use std::alloc::Global;
+use turn_run::Runner;
+
+/// The greatest record count that a rank knows.
+pub(crate) fn greatest_known(runners: &[Runner]) -> u64
+    ensures { result ≡ greatest_known runners.now }
+{
+    let mut known: u64 = 0;
+    for runner in runners {
+        known = known.max(runner.rank.known());
     }
-    AnswerList::from_vec(list)
+    known
 }
 
-fn forget_values(answer: &mut Answer) {
-    answer.values = None;
-    let mut items = answer.items.take().into_vec();
-    for item in items.iter_mut() {
-        item.values = None;
+/// How many requests each rank leaves.
+#[tactic(auto, using(list_laws::proofs::Maps::map_more))]
+pub(crate) fn pending_of(alloc: Global, runners: &[Runner]) -> Result<SizeList, Memory>
+    ensures { IfOk result (λ sizes. sizes ≡ map (λ runner. machine.pending runner.rank.state) runners.now) }
+{
+    let mut sizes = SizeList::new(alloc);
+    for runner in runners {
+        sizes.push(runner.rank.pending())?;
     }
-    answer.items = ItemList::from_vec(items);
+    Ok(sizes)
+}
+
+/// Each rank's answers, without the values that gets gave.
+pub(crate) fn answers_of(alloc: Global, runners: Vec<Runner>) -> Result<AnswerTable, Memory>
+    ensures { IfOk result (λ table. table ≡ map (λ runner. map without_values runner.answers) runners.entry.items) }
+{
+    let mut table = AnswerTable::new(alloc);
+    for runner in runners {
+        table.push(row_without_values(alloc, runner.answers)?)?;
+    }
+    Ok(table)
+}
+
+fn row_without_values(alloc: Global, answers: AnswerList) -> Result<AnswerList, Memory>
+    ensures { IfOk result (λ row. row ≡ map without_values answers) }
+{
+    let mut row = AnswerList::new(alloc);
+    for answer in answers.into_vec() {
+        row.push(answer_without_values(alloc, answer)?)?;
+    }
+    Ok(row)
+}
+
+fn answer_without_values(alloc: Global, answer: Answer) -> Result<Answer, Memory>
+    ensures { IfOk result (λ bare. bare ≡ without_values answer) }
+{
+    Ok(Answer {
+        code: answer.code,
+        pair: answer.pair,
+        number: answer.number,
+        values: None,
+        items: items_without_values(alloc, answer.items)?,
+    })
+}
+
+fn items_without_values(alloc: Global, items: ItemList) -> Result<ItemList, Memory>
+    ensures { IfOk result (λ bare. bare ≡ map item_without_values items) }
+{
+    let mut bare = ItemList::new(alloc);
+    for item in items.into_vec() {
+        bare.push(Item {
+            id: item.id,
+            code: item.code,
+            values: None,
+        })?;
+    }
+    Ok(bare)
 }

@@ -12,9 +12,9 @@ ghost use Rattle.turn_run.specs.Stages.{arrived_all};
 ghost use Rattle.turn_run.specs.Steps.{first_runner};
 ghost use Rattle.var_layout.specs.Measures.{AreMeasures};
 ghost use Rattle.run_plan.specs.Planned.{order_in, plan_stage, HasPlannedAll};
-ghost use Rattle.run_plan.specs.Runs.{greatest_known, HasEnded, IsPlanOf};
+ghost use Rattle.run_plan.specs.Runs.{HasEnded, IsPlanOf};
 
-use crate::ranks::without_values;
+use crate::ranks::{answers_of, greatest_known, pending_of};
 use crate::steps::{Lent, Progress, arrive, meet};
 use nc_base::{AnswerTable, DiskCallList, Extent, Header, Memory, Script, SizeList};
 use nc_outside::OpenGate;
@@ -153,29 +153,14 @@ fn ended(
     ensures { IfOk result (HasEnded header.now opening progress runners.entry.items) }
 {
     let known = greatest_known(&runners);
-    let mut answers = Vec::new(alloc);
-    let mut pending = Vec::new(alloc);
-    for runner in runners {
-        pending.push(runner.rank.pending())?;
-        answers.push(without_values(runner.answers))?;
-    }
+    let pending = pending_of(alloc, &runners)?;
+    let answers = answers_of(alloc, runners)?;
     Ok(RunPlan {
         opening,
         steps: progress.steps,
         close: count_field(header, progress.records, known),
-        answers: AnswerTable::from_vec(answers),
-        pending: SizeList::from_vec(pending),
+        answers,
+        pending,
         records: progress.records.max(known),
     })
-}
-
-// The greatest record count that a rank knows.
-fn greatest_known(runners: &[Runner]) -> u64
-    ensures { result ≡ greatest_known runners.now }
-{
-    let mut known: u64 = 0;
-    for runner in runners {
-        known = known.max(runner.rank.known());
-    }
-    known
 }

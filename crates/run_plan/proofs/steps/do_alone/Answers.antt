@@ -114,6 +114,13 @@ returns-clause-planned g c =
     (ranked_puts header c.args.number c.args.offer.now.batch.puts (put_of header c.args.offer.now c.requires.asked.sound))
     (count_begins header c.args.progress.now.size c.args.runner.now.rank.state.known c.requires.known) refl
     (alone_device script.hints s c.args.number c.args.progress.now.size c.args.offer.now file c.in_ok-planned.ensures.put_calls c.in_ok-planned.ensures.no_count c.in_ok-planned.ensures.get_calls)
+    (record {
+      overlap = c.in_ok-planned.ensures.overlap;
+      asked_put = c.in_ok-planned.ensures.asked_put;
+      asked_get = c.in_ok-planned.ensures.asked_get;
+      put_windows = c.in_ok-planned.ensures.put_windows;
+      get_windows = c.in_ok-planned.ensures.get_windows;
+    })
     (c.in_ok-reply.ensures.pair ∙ c.in_ok-planned.ensures.overlap)
     (c.in_ok-reply.ensures.records ∙ ap (max c.args.offer.now.known) c.in_ok-planned.ensures.records) c.in_ok-reply.ensures.row
     (c.add.ensures.size ∙ c.in_ok-planned.ensures.size) up)

@@ -133,4 +133,11 @@ returns-clause-planned g c =
     c.requires.runners c.requires.met c.requires.arrived c.in_ok-job.ensures.freed c.in_ok-hear_all.ensures.all)
     same c.in_ok-job.ensures.known c.in_ok-planned.ensures.overlap c.in_ok-planned.ensures.records rows refl (c.add.ensures.size ∙ c.in_ok-planned.ensures.size)
     (meet_device script.hints s batches c.args.progress.now.size c.args.progress.now.records c.in_ok-planned.planned.records file c.in_ok-planned.ensures.put_calls c.in_ok-planned.ensures.count_calls
-    c.in_ok-planned.ensures.get_calls))
+    c.in_ok-planned.ensures.get_calls)
+    (record {
+      overlap = c.in_ok-planned.ensures.overlap;
+      asked_put = c.in_ok-planned.ensures.asked_put;
+      asked_get = c.in_ok-planned.ensures.asked_get;
+      put_domains = c.in_ok-planned.ensures.put_domains;
+      get_domains = c.in_ok-planned.ensures.get_domains;
+    }))

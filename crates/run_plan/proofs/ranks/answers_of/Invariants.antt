@@ -1,0 +1,10 @@
+-- The answers of those so far.
+use Rattle.std.proofs.Common.{◌≡◌, ◌++◌, map}
+use Rattle.run_plan.specs.Runs.{without_values}
+use Rattle.run_plan.proofs.ranks.answers_of.Given as goal
+
+abbrev pub invariant-loop-runner : goal.invariant-loop-runner
+invariant-loop-runner l = record {
+  all : l.yielded ++ l.runner-iterator.rest.items ≡ l.fn.runners.items;
+  answered : l.table ≡ map (λ runner. map without_values runner.answers) l.yielded;
+}
