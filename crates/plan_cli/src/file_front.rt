@@ -1,5 +1,5 @@
 // A file as a dataset that is only looked at. It tells no content.
-ghost use Rattle.std.specs.Prelude.{◌≡◌, ◌≤◌, ◌^◌, ℕ, List, length, min, IfOk};
+ghost use Rattle.std.specs.Prelude.{◌≡◌, ◌≤◌, ◌^◌, length, min, IfOk};
 ghost use Rattle.nc_outside.specs.Cause.{Rose};
 
 use crate::dataset::{DatasetFront, Front};
@@ -73,8 +73,9 @@ impl<R: Files<File = File> + Drop> DatasetFront for FileFront<R> {
             return Err(self.failed());
         };
         match read_front(alloc, &file, size) {
+            Ok(seen) => Ok(seen),
+            Err(DiskErr::Memory) => Err(DiskErr::Memory),
             Err(DiskErr::Failed) => Err(self.failed()),
-            seen => seen,
         }
     }
 }

@@ -1,5 +1,6 @@
 // The lines that tell why there is no plan.
-ghost use Rattle.std.specs.Prelude.{◌≡◌, ◌⊎◌, ◌++◌, None, true, drop, codes, is_some, option_map, IfOk, IfSome, IsOk};
+ghost use Rattle.std.specs.Prelude.{◌≡◌, ◌⊎◌, None, true, is_some, option_map, IfOk, IfSome, IsOk};
+ghost use Rattle.script_spec.specs.Texts.{disk_line};
 ghost use Rattle.dataset_start.specs.Stops.{status_of};
 ghost use Rattle.plan_cli.specs.FaultLines as spec;
 ghost use Rattle.plan_cli.specs.FaultLines.{fixed_line_of, line_of};
@@ -10,10 +11,6 @@ use nc_base::{Blob, Memory};
 use nc_outside::Sink;
 use printed_text::words::push_bytes;
 use std::alloc::Global;
-
-const USAGE: &[u8] = b"ncplan: usage: ncplan [--json] [DATASET] < SCRIPT\n";
-
-const DISK: &[u8] = b"ncplan: disk fault\n";
 
 // How many bytes of a line of ncrun are its name.
 const NAME: usize = 5;
@@ -45,10 +42,22 @@ fn fixed_line(stop: Stop) -> Option<&'static [u8]>
     ensures { option_map (λ line. line.now) result ≡ fixed_line_of stop }
 {
     match stop {
-        Stop::Usage => Some(USAGE),
-        Stop::Disk => Some(DISK),
+        Stop::Usage => Some(usage_line()),
+        Stop::Disk => Some(disk_line()),
         _ => None,
     }
+}
+
+fn usage_line() -> &'static [u8]
+    ensures { result.now ≡ spec.usage_line }
+{
+    b"ncplan: usage: ncplan [--json] [DATASET] < SCRIPT\n"
+}
+
+fn disk_line() -> &'static [u8]
+    ensures { result.now ≡ spec.renamed disk_line }
+{
+    b"ncplan: disk fault\n"
 }
 
 // The line that tells a stop, where one is made for it.

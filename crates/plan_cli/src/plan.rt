@@ -1,7 +1,7 @@
 // The plan of a script, as a text or a JSON document.
 ghost use Rattle.std.specs.Prelude.{◌≡◌, ◌≤◌, true, IfOk};
-ghost use Rattle.serial_spec.specs.Lawful.{is_lawful};
 ghost use Rattle.serial_spec.specs.SoundHeaders.{is_sound};
+ghost use Rattle.dataset_start.specs.Dataset.{IsKept};
 ghost use Rattle.dataset_start.specs.Readiness.{dataset_end};
 ghost use Rattle.plan_cli.specs.Headline as spec;
 ghost use Rattle.plan_cli.specs.Headline.{TellsPlan};
@@ -21,7 +21,7 @@ pub(crate) fn print_plan<R: Wait>(
     json: bool,
     ready: Ready,
 ) -> Result<Blob, Memory>
-    requires lawful { is_lawful ready.script ≡ true }
+    requires kept { IsKept ready.script }
     requires sound { is_sound ready.dataset.header ≡ true }
     requires long { dataset_end ready.dataset.header ≤ ready.dataset.opening.size }
     ensures { IfOk result (TellsPlan json ready.script ready.dataset.header ready.dataset.opening) }

@@ -1,0 +1,23 @@
+use Rattle.std.proofs.Common.{◌≡◌, ◌⊎◌, ◌^◌, ◌≤◌, List, ℕ, length, subst, arith}
+use Rattle.nc_base.specs.declared.errors.HeaderErr.TheVariants as fault
+use Rattle.serial_spec.specs.HeaderFaults.{HasFault}
+use Rattle.cdf_header.specs.Decoded.{BeginsWith}
+use Rattle.dataset_start.proofs.Opened.{faultless, tells}
+use Rattle.redef_laws.proofs.OpenedLaws as laws
+use Rattle.plan_cli.proofs.FrontLaws.{opened}
+use Rattle.plan_cli.proofs.existing.look.Goals as goal
+
+pub returns-clause-opened : goal.returns-clause-opened
+returns-clause-opened g c =
+    opened (g.D.DatasetFront.held c.args.dataset.now c.args.name.now) c.in_ok-seen.seen.bytes.items c.in_ok-seen.seen.size c.in_ok-header.header c.in_ok-header.field-0-1
+    c.in_ok-seen.ensures.bytes c.in_ok-seen.ensures.size c.in_ok-seen.ensures.many
+    (subst (λ (t : List ℕ). BeginsWith t c.in_ok-header.header c.in_ok-header.field-0-1) c.deref.ensures.value c.in_ok-header.ensures.found)
+
+pub returns-clause-faultless : goal.returns-clause-faultless
+returns-clause-faultless g c =
+    faultless (g.D.DatasetFront.held c.args.dataset.now c.args.name.now) c.in_ok-seen.seen.bytes.items c.in_ok-header.header c.in_ok-header.field-0-1 c.in_ok-seen.ensures.bytes
+    (subst (λ (t : List ℕ). BeginsWith t c.in_ok-header.header c.in_ok-header.field-0-1) c.deref.ensures.value c.in_ok-header.ensures.found)
+
+pub returns-clause-redefinable : goal.returns-clause-redefinable
+returns-clause-redefinable g c =
+    laws.opened c.in_ok-header.header _ _ c.in_ok-header.ensures.found c.in_ok-header.ensures.sound
