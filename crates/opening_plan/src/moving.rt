@@ -1,6 +1,6 @@
 // The values of an existing dataset at their new places.
 ghost use Rattle.std.specs.Prelude.{◌≡◌, ◌≤◌, ◌<◌, ◌+◌, ◌^◌, ◌++◌, ◌∷◌, [], map, reverse, OnOk};
-ghost use Rattle.redef_mover.specs.Moves.{all_calls, further, listed, slab_calls, slab_of, AreSteps};
+ghost use Rattle.redef_mover.specs.Moves.{all_calls, further, listed, slab_calls, slab_of, window_calls, AreSteps};
 ghost use Rattle.opening_plan.specs.Opening.{AreLow};
 
 use nc_base::{DiskCall, Memory};
@@ -61,9 +61,16 @@ fn push_move(calls: &mut Vec<DiskCall>, slab: &Shift, window: u64) -> Result<(),
     ensures { OnOk result (calls.new.items ≡ calls.old.items ++ slab_calls window (slab_of slab.now)) }
 {
     for number in 0..slab.len.div_ceil(window) {
-        let part = slab.window(window, number);
-        calls.push(DiskCall::Load(part.from, part.len))?;
-        calls.push(DiskCall::Store(part.to, part.len))?;
+        push_window(calls, &slab.window(window, number))?;
     }
+    Ok(())
+}
+
+// The move of a window: one read and one write.
+fn push_window(calls: &mut Vec<DiskCall>, window: &Shift) -> Result<(), Memory>
+    ensures { OnOk result (calls.new.items ≡ calls.old.items ++ window_calls (slab_of window.now)) }
+{
+    calls.push(DiskCall::Load(window.from, window.len))?;
+    calls.push(DiskCall::Store(window.to, window.len))?;
     Ok(())
 }

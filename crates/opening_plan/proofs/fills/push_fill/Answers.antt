@@ -1,0 +1,42 @@
+-- What is planned of a variable is its filling.
+use Rattle.std.proofs.Common.{◌≡◌, ◌∙◌, ◌++◌, sym, ap, false, true, arith}
+use Rattle.std.specs.Prelude.{slice_get}
+use Rattle.std.proofs.lemmas.List.{append-nil}
+use Rattle.std.proofs.lemmas.Result.{on_ok_weaker}
+use Rattle.list_laws.proofs.Optional.{if_some_at}
+use Rattle.serial_spec.specs.HeaderBytes.{header_len}
+use Rattle.serial_spec.specs.Layout.{is_record, slab}
+use Rattle.var_layout.proofs.ElementPlaces.{sound_end}
+use Rattle.var_layout.proofs.Soundness.{if_there}
+use Rattle.fill_records.specs.Filling.{variable_stores}
+use Rattle.fill_records.proofs.VariableLaws.{got, fixed_end, record_stores, fixed_stores}
+use Rattle.opening_plan.proofs.fills.push_fill.Goals as goal
+
+pub returns-then-is_record : goal.returns-then-is_record
+returns-then-is_record c =
+    let own = got c.args.header.now.vars c.as_slice.result.now c.args.number c.index-as_slice-number.result c.as_slice.ensures c.requires.there c.index-as_slice-number.is in
+    let rec : is_record c.args.header.now c.index-as_slice-number.result ≡ true = sym c.is_record.ensures ∙ c.if-is_record.true in
+    if_there (slice_get c.args.header.now.vars c.args.number) c.index-as_slice-number.result
+    (λ v. c.args.calls.now.items ≡ c.args.calls.now.items ++ variable_stores c.args.window c.args.header.now v) own
+    (sym (append-nil c.args.calls.now.items)
+    ∙ ap (λ calls. c.args.calls.now.items ++ calls) (sym (record_stores c.args.window c.args.header.now c.index-as_slice-number.result rec)))
+
+pub push_stores-requires-clause-low : goal.push_stores-requires-clause-low
+push_stores-requires-clause-low c =
+    let own = got c.args.header.now.vars c.as_slice.result.now c.args.number c.index-as_slice-number.result c.as_slice.ensures c.requires.there c.index-as_slice-number.is in
+    let end = fixed_end c.args.header.now (header_len c.args.header.now) c.args.number c.index-as_slice-number.result own (sym c.is_record.ensures ∙ c.if-is_record.false) in
+    let same = if_some_at (λ v. c.slab.result ≡ slab c.args.header.now v) (slice_get c.args.header.now.vars c.args.number) c.index-as_slice-number.result own c.slab.ensures.value in
+    let low = sound_end c.args.header.now 0 c.requires.sound (omega arith) in
+    omega arith
+
+pub returns : goal.returns
+returns c =
+    let own = got c.args.header.now.vars c.as_slice.result.now c.args.number c.index-as_slice-number.result c.as_slice.ensures c.requires.there c.index-as_slice-number.is in
+    let fixed : is_record c.args.header.now c.index-as_slice-number.result ≡ false = sym c.is_record.ensures ∙ c.if-is_record.false in
+    let same : c.slab.result ≡ slab c.args.header.now c.index-as_slice-number.result =
+    if_some_at (λ v. c.slab.result ≡ slab c.args.header.now v) (slice_get c.args.header.now.vars c.args.number) c.index-as_slice-number.result own c.slab.ensures.value in
+    on_ok_weaker c.push_stores.result (λ planned.
+    if_there (slice_get c.args.header.now.vars c.args.number) c.index-as_slice-number.result
+    (λ v. c.push_stores.new.calls.items ≡ c.args.calls.now.items ++ variable_stores c.args.window c.args.header.now v) own
+    (planned ∙ ap (λ calls. c.args.calls.now.items ++ calls)
+    (fixed_stores c.args.window c.args.header.now c.index-as_slice-number.result c.slab.result fixed same))) c.push_stores.ensures

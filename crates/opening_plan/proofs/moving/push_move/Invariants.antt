@@ -1,0 +1,8 @@
+-- The windows so far, from the top.
+use Rattle.std.proofs.Common.{◌≡◌, ◌++◌}
+use Rattle.redef_mover.specs.Moves.{slab_of}
+use Rattle.redef_mover.proofs.WindowLaws.{calls_before}
+use Rattle.opening_plan.proofs.moving.push_move.Given as goal
+
+abbrev pub invariant-loop-number : goal.invariant-loop-number
+invariant-loop-number l = l.calls.items ≡ l.initial.calls.items ++ calls_before l.window (slab_of l.slab) l.number

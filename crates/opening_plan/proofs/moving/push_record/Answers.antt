@@ -1,0 +1,67 @@
+-- The last of the slabs that are left is moved.
+use Rattle.std.proofs.Common.{◌≡◌, ◌∙◌, ◌+◌, ◌-◌, ◌<◌, ◌^◌, sym, subst, ap, length, List, [], ◌∷◌, ◌++◌, get_or, take, ℕ, arith}
+use Rattle.std.specs.Prelude.{reverse}
+use Rattle.std.proofs.Math.Seq.{take_all}
+use Rattle.serial_spec.specs.DeviceCalls.{Slab}
+use Rattle.redef_mover.specs.declared.slabs.Shift.{Shift}
+use Rattle.redef_mover.specs.Moves.{all_calls, further, slab_of}
+use Rattle.redef_mover.proofs.MovesLaws.{in_record, slab_first}
+use Rattle.opening_plan.proofs.CallLaws.{moves_left, none_left, slabs_further}
+use Rattle.opening_plan.proofs.moving.push_record.Goals as goal
+
+abbrev none : Shift
+none = record { from = 0; to = 0; len = 0 }
+
+pub loop-number-init : goal.loop-number-init
+loop-number-init c =
+    ap (λ (ss : List Shift). c.args.calls.now.items ++ all_calls c.args.window (reverse (slabs_further c.args.offset.old c.args.offset.new ss)))
+    (take_all (length c.args.slabs.now) c.args.slabs.now (omega arith))
+
+pub further-requires-clause-old_end : goal.further-requires-clause-old_end
+further-requires-clause-old_end c =
+    let k : c.loop-number.number - 1 < length c.args.slabs.now = omega arith in
+    let low = c.requires.low (further c.args.offset.old c.args.offset.new (slab_of (get_or c.args.slabs.now (c.loop-number.number - 1) none)))
+    (in_record c.args.offset.old c.args.offset.new c.args.slabs.now (c.loop-number.number - 1) none k) in
+    let from = low.0 in
+    omega arith
+
+pub further-requires-clause-end : goal.further-requires-clause-end
+further-requires-clause-end c =
+    let k : c.loop-number.number - 1 < length c.args.slabs.now = omega arith in
+    let low = c.requires.low (further c.args.offset.old c.args.offset.new (slab_of (get_or c.args.slabs.now (c.loop-number.number - 1) none)))
+    (in_record c.args.offset.old c.args.offset.new c.args.slabs.now (c.loop-number.number - 1) none k) in
+    let to = low.1 in
+    omega arith
+
+pub push_changed-requires-clause-old_end : goal.push_changed-requires-clause-old_end
+push_changed-requires-clause-old_end c κs within =
+    let k : c.loop-number.number - 1 < length c.args.slabs.now = omega arith in
+    let low = c.requires.low (further c.args.offset.old c.args.offset.new (slab_of (get_or c.args.slabs.now (c.loop-number.number - 1) none)))
+    (in_record c.args.offset.old c.args.offset.new c.args.slabs.now (c.loop-number.number - 1) none k) in
+    subst (λ (s : Slab). s.from + s.len < 2 ^ 62) (sym c.further.ensures) low.0
+
+pub push_changed-requires-clause-end : goal.push_changed-requires-clause-end
+push_changed-requires-clause-end c κs within =
+    let k : c.loop-number.number - 1 < length c.args.slabs.now = omega arith in
+    let low = c.requires.low (further c.args.offset.old c.args.offset.new (slab_of (get_or c.args.slabs.now (c.loop-number.number - 1) none)))
+    (in_record c.args.offset.old c.args.offset.new c.args.slabs.now (c.loop-number.number - 1) none k) in
+    subst (λ (s : Slab). s.to + s.len < 2 ^ 62) (sym c.further.ensures) low.1
+
+pub loop-number-preserved : goal.loop-number-preserved
+loop-number-preserved c =
+    let a = c.args.offset.old in
+    let b = c.args.offset.new in
+    let ss = c.args.slabs.now in
+    let next : c.loop-number.number ≡ c.loop-number.number - 1 + 1 = omega arith in
+    let k : c.loop-number.number - 1 < length c.args.slabs.now = omega arith in
+    moves_left (c.args.calls.now.items ++ all_calls c.args.window (reverse (slabs_further a b ss))) c.loop-number.calls.items c.push_changed.new.calls.items c.args.window
+    (slab_of c.further.result ∷ []) (reverse (slabs_further a b (take (c.loop-number.number - 1) ss))) (reverse (slabs_further a b (take c.loop-number.number ss)))
+    (slab_first a b ss (c.loop-number.number - 1) c.loop-number.number none (slab_of c.further.result) c.further.ensures next k)
+    c.loop-number.invariant c.in_ok-push_changed.ensures
+
+pub returns : goal.returns
+returns c =
+    let end : c.loop-number.number ≡ 0 = omega arith in
+    none_left (c.args.calls.now.items ++ all_calls c.args.window (reverse (slabs_further c.args.offset.old c.args.offset.new c.args.slabs.now))) c.loop-number.calls.items
+    (all_calls c.args.window (reverse (slabs_further c.args.offset.old c.args.offset.new (take c.loop-number.number c.args.slabs.now))))
+    (ap (λ (n : ℕ). all_calls c.args.window (reverse (slabs_further c.args.offset.old c.args.offset.new (take n c.args.slabs.now)))) end) c.loop-number.invariant

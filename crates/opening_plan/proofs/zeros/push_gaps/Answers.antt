@@ -1,0 +1,86 @@
+-- The first of the slabs that are left ends where the next gap begins.
+use Rattle.std.proofs.Common.{◌∙◌, ◌+◌, ◌-◌, ◌≤◌, ◌^◌, sym, refl, ap, length, List, ◌++◌, get_or, drop, ℕ, arith}
+use Rattle.serial_spec.specs.DeviceCalls.{Slab}
+use Rattle.redef_mover.specs.declared.slabs.Shift.{Shift}
+use Rattle.redef_mover.specs.Moves.{behind, further, gap_calls, gaps_before, slab_of}
+use Rattle.redef_mover.proofs.ClearLaws.{none_after, none_behind, slabs_left, spaced_low}
+use Rattle.opening_plan.proofs.CallLaws.{none_left, one_zeros_left, slabs_further, spaced_first}
+use Rattle.opening_plan.proofs.zeros.push_gaps.Goals as goal
+
+abbrev none : Shift
+none = record { from = 0; to = 0; len = 0 }
+
+-- the slab of the code, and those behind it
+abbrev slab_at : ℕ → ℕ → List Shift → ℕ → Slab
+slab_at a b ss k = further a b (slab_of (get_or ss k none))
+
+pub overflow_add-place : goal.overflow_add-place
+overflow_add-place c =
+    let others = slabs_further c.args.offset.old c.args.offset.new (drop (c.loop-slab.slab-index + 1) c.args.slabs.now) in
+    let s = slab_at c.args.offset.old c.args.offset.new c.args.slabs.now c.loop-slab.slab-index in
+    let first = spaced_first c.loop-slab.at (2 ^ 62) s others (slabs_further c.args.offset.old c.args.offset.new (drop c.loop-slab.slab-index c.args.slabs.now))
+    (slabs_left c.args.offset.old c.args.offset.new c.args.slabs.now c.loop-slab.slab-index none c.loop-slab-test.true) c.loop-slab.invariant.spaced in
+    let inside = spaced_low (s.to + s.len) (2 ^ 62) others first.1 in
+    omega arith
+
+pub overflow_sub-place : goal.overflow_sub-place
+overflow_sub-place c =
+    (spaced_first c.loop-slab.at (2 ^ 62) (slab_at c.args.offset.old c.args.offset.new c.args.slabs.now c.loop-slab.slab-index)
+    (slabs_further c.args.offset.old c.args.offset.new (drop (c.loop-slab.slab-index + 1) c.args.slabs.now))
+    (slabs_further c.args.offset.old c.args.offset.new (drop c.loop-slab.slab-index c.args.slabs.now))
+    (slabs_left c.args.offset.old c.args.offset.new c.args.slabs.now c.loop-slab.slab-index none c.loop-slab-test.true) c.loop-slab.invariant.spaced).0
+
+pub push_stores-requires-clause-low : goal.push_stores-requires-clause-low
+push_stores-requires-clause-low c κs within =
+    let others = slabs_further c.args.offset.old c.args.offset.new (drop (c.loop-slab.slab-index + 1) c.args.slabs.now) in
+    let s = slab_at c.args.offset.old c.args.offset.new c.args.slabs.now c.loop-slab.slab-index in
+    let first = spaced_first c.loop-slab.at (2 ^ 62) s others (slabs_further c.args.offset.old c.args.offset.new (drop c.loop-slab.slab-index c.args.slabs.now))
+    (slabs_left c.args.offset.old c.args.offset.new c.args.slabs.now c.loop-slab.slab-index none c.loop-slab-test.true) c.loop-slab.invariant.spaced in
+    let low = first.0 in
+    let inside = spaced_low (s.to + s.len) (2 ^ 62) others first.1 in
+    omega arith
+
+pub overflow_add-at : goal.overflow_add-at
+overflow_add-at c =
+    let others = slabs_further c.args.offset.old c.args.offset.new (drop (c.loop-slab.slab-index + 1) c.args.slabs.now) in
+    let s = slab_at c.args.offset.old c.args.offset.new c.args.slabs.now c.loop-slab.slab-index in
+    let first = spaced_first c.loop-slab.at (2 ^ 62) s others (slabs_further c.args.offset.old c.args.offset.new (drop c.loop-slab.slab-index c.args.slabs.now))
+    (slabs_left c.args.offset.old c.args.offset.new c.args.slabs.now c.loop-slab.slab-index none c.loop-slab-test.true) c.loop-slab.invariant.spaced in
+    let inside = spaced_low (s.to + s.len) (2 ^ 62) others first.1 in
+    omega arith
+
+pub loop-slab-init : goal.loop-slab-init
+loop-slab-init c = record { spaced = c.requires.spaced; place = refl; calls = refl }
+
+pub loop-slab-preserved : goal.loop-slab-preserved
+loop-slab-preserved c =
+    let a = c.args.offset.old in
+    let b = c.args.offset.new in
+    let ss = c.args.slabs.now in
+    let i = c.loop-slab.slab-index in
+    let at = c.loop-slab.at in
+    let s : Slab = slab_at a b ss i in
+    let others : List Slab = slabs_further a b (drop (i + 1) ss) in
+    let split = slabs_left a b ss i none c.loop-slab-test.true in
+    record {
+      spaced = (spaced_first at (2 ^ 62) s others (slabs_further a b (drop i ss)) split c.loop-slab.invariant.spaced).1;
+      place = ap (λ xs. behind at xs) (sym split) ∙ c.loop-slab.invariant.place;
+      calls = one_zeros_left (c.args.calls.now.items ++ gap_calls c.args.window (gaps_before c.args.at (slabs_further a b ss)))
+          c.loop-slab.calls.items c.push_stores.new.calls.items c.args.window (at, s.to - at) (gaps_before (s.to + s.len) others) (gaps_before at (slabs_further a b (drop i ss)))
+          (ap (λ xs. gaps_before at xs) split) c.loop-slab.invariant.calls c.in_ok-push_stores.ensures;
+    }
+
+pub returns-clause-place : goal.returns-clause-place
+returns-clause-place c =
+    let all : length c.args.slabs.now ≤ c.loop-slab.slab-index = omega arith in
+    none_behind c.loop-slab.at (behind c.args.at (slabs_further c.args.offset.old c.args.offset.new c.args.slabs.now))
+    (slabs_further c.args.offset.old c.args.offset.new (drop c.loop-slab.slab-index c.args.slabs.now))
+    (none_after c.args.offset.old c.args.offset.new c.args.slabs.now c.loop-slab.slab-index all) c.loop-slab.invariant.place
+
+pub returns-clause-calls : goal.returns-clause-calls
+returns-clause-calls c =
+    let all : length c.args.slabs.now ≤ c.loop-slab.slab-index = omega arith in
+    none_left (c.args.calls.now.items ++ gap_calls c.args.window (gaps_before c.args.at (slabs_further c.args.offset.old c.args.offset.new c.args.slabs.now))) c.loop-slab.calls.items
+    (gap_calls c.args.window (gaps_before c.loop-slab.at (slabs_further c.args.offset.old c.args.offset.new (drop c.loop-slab.slab-index c.args.slabs.now))))
+    (ap (λ xs. gap_calls c.args.window (gaps_before c.loop-slab.at xs)) (none_after c.args.offset.old c.args.offset.new c.args.slabs.now c.loop-slab.slab-index all))
+    c.loop-slab.invariant.calls
