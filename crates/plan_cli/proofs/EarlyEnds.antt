@@ -102,19 +102,19 @@ module _ (held named : Option (List ℕ)) (Untouched SourceFailed DatasetFailed 
   dataset_told left (stops.Header e) w g s = (header_line e, (record {
     script = w.0;
     asks = w.1.0;
-    tells = record { created = λ c. absurd (both_ways w.0.fresh c w.1.1.0); opened = λ _. inl (e, (w.1.1.1, refl)) };
+    tells = record { created = λ c. absurd (both_ways w.0.fresh w.1.1.0 c); opened = λ _. inl (e, (w.1.1.1, refl)) };
     unlaid = w.1.2;
   }, g))
   dataset_told left (stops.Layout e) w g s = (layout_line e, (record {
     script = w.0;
     asks = w.1.0;
-    tells = record { created = λ _. (e, (w.1.1.1, refl)); opened = λ o. absurd (both_ways w.0.fresh w.1.1.0 o) };
+    tells = record { created = λ _. (e, (w.1.1.1, refl)); opened = λ o. absurd (both_ways w.0.fresh o w.1.1.0) };
     unlaid = w.1.2;
   }, g))
   dataset_told left (stops.Redefinition e) w g s = (redef_line e, (record {
     script = w.0;
     asks = w.1.0;
-    tells = record { created = λ c. absurd (both_ways w.0.fresh c w.1.1.0); opened = λ _. inr (e, (w.1.1.1, refl)) };
+    tells = record { created = λ c. absurd (both_ways w.0.fresh w.1.1.0 c); opened = λ _. inr (e, (w.1.1.1, refl)) };
     unlaid = w.1.2;
   }, g))
   dataset_told left stops.Usage w g s = absurd w
@@ -191,7 +191,7 @@ module _ (held named : Option (List ℕ)) (Untouched SourceFailed DatasetFailed 
   mislaid (Some text) (stops.Layout e) w a s = inl refl
   mislaid (Some text) (stops.Redefinition e) w a s = inl refl
   mislaid (Some text) stops.Source w a s = absurd (s w.1)
-  mislaid (Some text) stops.Disk w a s = of_bad_layout (Some text) w.0 w.1.0 (laid-mislaid w.0 (λ f. absurd (both_ways w.0.fresh f w.1.1.0))) a
+  mislaid (Some text) stops.Disk w a s = of_bad_layout (Some text) w.0 w.1.0 (laid-mislaid w.0 (λ f. absurd (both_ways w.0.fresh w.1.1.0 f))) a
   mislaid (Some text) stops.Memory w a s = inr refl
 
   -- a dataset of which something is known is named, where it is opened

@@ -26,8 +26,8 @@ pub created : (script : Script) (header : Header) (opening : Opening) → script
 created script header opening f x h s l o held = record {
   old = header;
   file = [];
-  held = λ n. absurd (both_ways script.fresh f n);
-  heads = record { created = λ _. h; opened = λ n. absurd (both_ways script.fresh f n); made = sym (header-kept script header x) };
+  held = λ n. absurd (both_ways script.fresh n f);
+  heads = record { created = λ _. h; opened = λ n. absurd (both_ways script.fresh n f); made = sym (header-kept script header x) };
   sound = s;
   faultless = created-faultless script held f l;
   calls = λ bytes _. (o (length bytes)).calls bytes refl;
@@ -43,7 +43,7 @@ kept_one script old size held header opening f x o s n h p = record {
   old = old;
   file = o.file;
   held = λ _. o.told;
-  heads = record { created = λ c. absurd (both_ways script.fresh c f); opened = λ _. (o.count, o.begins); made = h ∙ sym (header-kept script old x) };
+  heads = record { created = λ c. absurd (both_ways script.fresh f c); opened = λ _. (o.count, o.begins); made = h ∙ sym (header-kept script old x) };
   sound = subst (λ (k : Header). is_sound k ≡ true) (sym h) s;
   faultless = opened-faultless script old held f (as_opened held old size o) (fault-none script old x) n;
   calls = λ bytes m. p.calls bytes (ap (λ (t : List ℕ). length t) (m f) ∙ sym o.long);
@@ -63,7 +63,7 @@ added_one script old size held header opening f x o n a p = record {
   old = old;
   file = o.file;
   held = λ _. o.told;
-  heads = record { created = λ c. absurd (both_ways script.fresh c f); opened = λ _. (o.count, o.begins); made = header-changed script old header x a };
+  heads = record { created = λ c. absurd (both_ways script.fresh f c); opened = λ _. (o.count, o.begins); made = header-changed script old header x a };
   sound = redefined_sound old header script.extra a;
   faultless = opened-faultless script old held f (as_opened held old size o) (fault-some script old x ∙ a.faultless) n;
   calls = λ bytes m. p.calls bytes (ap (λ (t : List ℕ). length t) (m f) ∙ sym o.long);

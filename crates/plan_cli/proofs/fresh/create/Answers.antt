@@ -5,7 +5,7 @@ use Rattle.plan_cli.proofs.OpeningLaws.{created}
 use Rattle.plan_cli.proofs.fresh.create.Goals as goal
 
 pub open_fresh-requires-clause-sound : goal.open_fresh-requires-clause-sound
-open_fresh-requires-clause-sound c = λ _ _. writable_is_sound c.in_ok-header.header c.in_ok-header.ensures.writable
+open_fresh-requires-clause-sound c = writable_is_sound c.in_ok-header.header c.in_ok-header.ensures.writable
 
 pub returns-clause-opening : goal.returns-clause-opening
 returns-clause-opening c = λ held.
