@@ -85,43 +85,43 @@ module _ (held named : Option (List ℕ)) (Untouched SourceFailed DatasetFailed 
   Stopped left stop = IsStoppedBy left held named Untouched SourceFailed DatasetFailed stop
 
   -- the line of the script's fault
-  pub script_told : {Gives : List ℕ → Type 0} (left : Option (List ℕ)) (stop : Stop) → Stopped left stop → IfSome (line_of stop) Gives → status_of stop ≡ 3
+  pub script_told : (Gives : List ℕ → Type 0) (left : Option (List ℕ)) (stop : Stop) → Stopped left stop → IfSome (line_of stop) Gives → status_of stop ≡ 3
       → (line : List ℕ) × (TellsScript left line × Gives (renamed line))
-  script_told left (stops.Script e) w g s = (script_line e, ((e, (w.1, refl)), g))
-  script_told left stops.Usage w g s = absurd w
-  script_told left (stops.Header e) w g s = absurd (omega (arith, s))
-  script_told left (stops.Layout e) w g s = absurd (omega (arith, s))
-  script_told left (stops.Redefinition e) w g s = absurd (omega (arith, s))
-  script_told left stops.Source w g s = absurd (omega (arith, s))
-  script_told left stops.Disk w g s = absurd (omega (arith, s))
-  script_told left stops.Memory w g s = absurd (omega (arith, s))
+  script_told Gives left (stops.Script e) w g s = (script_line e, ((e, (w.1, refl)), g))
+  script_told Gives left stops.Usage w g s = absurd w
+  script_told Gives left (stops.Header e) w g s = absurd (omega (arith, s))
+  script_told Gives left (stops.Layout e) w g s = absurd (omega (arith, s))
+  script_told Gives left (stops.Redefinition e) w g s = absurd (omega (arith, s))
+  script_told Gives left stops.Source w g s = absurd (omega (arith, s))
+  script_told Gives left stops.Disk w g s = absurd (omega (arith, s))
+  script_told Gives left stops.Memory w g s = absurd (omega (arith, s))
 
   -- the line of the dataset's fault
-  pub dataset_told : {Gives : List ℕ → Type 0} (left : Option (List ℕ)) (stop : Stop) → Stopped left stop → IfSome (line_of stop) Gives → status_of stop ≡ 4
+  pub dataset_told : (Gives : List ℕ → Type 0) (left : Option (List ℕ)) (stop : Stop) → Stopped left stop → IfSome (line_of stop) Gives → status_of stop ≡ 4
       → (line : List ℕ) × (IsBadDataset left held Untouched line × Gives (renamed line))
-  dataset_told left (stops.Header e) w g s = (header_line e, (record {
+  dataset_told Gives left (stops.Header e) w g s = (header_line e, (record {
     script = w.0;
     asks = w.1.0;
     tells = record { created = λ c. absurd (both_ways w.0.fresh w.1.1.0 c); opened = λ _. inl (e, (w.1.1.1, refl)) };
     unlaid = w.1.2;
   }, g))
-  dataset_told left (stops.Layout e) w g s = (layout_line e, (record {
+  dataset_told Gives left (stops.Layout e) w g s = (layout_line e, (record {
     script = w.0;
     asks = w.1.0;
     tells = record { created = λ _. (e, (w.1.1.1, refl)); opened = λ o. absurd (both_ways w.0.fresh o w.1.1.0) };
     unlaid = w.1.2;
   }, g))
-  dataset_told left (stops.Redefinition e) w g s = (redef_line e, (record {
+  dataset_told Gives left (stops.Redefinition e) w g s = (redef_line e, (record {
     script = w.0;
     asks = w.1.0;
     tells = record { created = λ c. absurd (both_ways w.0.fresh w.1.1.0 c); opened = λ _. inr (e, (w.1.1.1, refl)) };
     unlaid = w.1.2;
   }, g))
-  dataset_told left stops.Usage w g s = absurd w
-  dataset_told left (stops.Script e) w g s = absurd (omega (arith, s))
-  dataset_told left stops.Source w g s = absurd (omega (arith, s))
-  dataset_told left stops.Disk w g s = absurd (omega (arith, s))
-  dataset_told left stops.Memory w g s = absurd (omega (arith, s))
+  dataset_told Gives left stops.Usage w g s = absurd w
+  dataset_told Gives left (stops.Script e) w g s = absurd (omega (arith, s))
+  dataset_told Gives left stops.Source w g s = absurd (omega (arith, s))
+  dataset_told Gives left stops.Disk w g s = absurd (omega (arith, s))
+  dataset_told Gives left stops.Memory w g s = absurd (omega (arith, s))
 
   -- the dataset can't be read, or is not named
   pub unread : (left : Option (List ℕ)) (stop : Stop) → Stopped left stop → status_of stop ≡ 7 → DatasetFailed ⊎ LacksDataset named left
@@ -195,13 +195,13 @@ module _ (held named : Option (List ℕ)) (Untouched SourceFailed DatasetFailed 
   mislaid (Some text) stops.Memory w a s = inr refl
 
   -- a dataset of which something is known is named, where it is opened
-  lacking : {P : List ℕ → Type 0} → (named ≡ None → held ≡ None) → named ≡ None → IsSomeAnd held P → ⊥
-  lacking {P} h n k = subst (λ (o : Option (List ℕ)). IsSomeAnd o P) (h n) k
+  lacking : (P : List ℕ → Type 0) → (named ≡ None → held ≡ None) → named ≡ None → IsSomeAnd held P → ⊥
+  lacking P h n k = subst (λ (o : Option (List ℕ)). IsSomeAnd o P) (h n) k
 
   -- the fault of a dataset that is opened
-  not_read : {P : List ℕ → Type 0} → (named ≡ None → held ≡ None) → (DatasetFailed → ⊥) → DatasetFailed ⊎ (named ≡ None) → IsSomeAnd held P → ⊥
-  not_read h d (inl f) k = d f
-  not_read h d (inr n) k = lacking h n k
+  not_read : (P : List ℕ → Type 0) → (named ≡ None → held ≡ None) → (DatasetFailed → ⊥) → DatasetFailed ⊎ (named ≡ None) → IsSomeAnd held P → ⊥
+  not_read P h d (inl f) k = d f
+  not_read P h d (inr n) k = lacking P h n k
 
   -- a dataset with a fault is refused
   pub faulty : (left : Option (List ℕ)) (stop : Stop) → Stopped left stop → (named ≡ None → held ≡ None) → IsSomeAnd left (λ text. AsksFor IsWrong text held) → (SourceFailed → ⊥)
@@ -213,7 +213,7 @@ module _ (held named : Option (List ℕ)) (Untouched SourceFailed DatasetFailed 
   faulty (Some text) (stops.Layout e) w h a s d = inl refl
   faulty (Some text) (stops.Redefinition e) w h a s d = inl refl
   faulty (Some text) stops.Source w h a s d = absurd (s w.1)
-  faulty (Some text) stops.Disk w h a s d = absurd (not_read h d w.1.1.1 (a.2.opened (opens text w.0 a.0 w.1.0 a.1 w.1.1.0)))
+  faulty (Some text) stops.Disk w h a s d = absurd (not_read (IsFaultyFile a.0) h d w.1.1.1 (a.2.opened (opens text w.0 a.0 w.1.0 a.1 w.1.1.0)))
   faulty (Some text) stops.Memory w h a s d = inr refl
 
   -- nothing is wrong with the file, and something is
@@ -232,7 +232,7 @@ module _ (held named : Option (List ℕ)) (Untouched SourceFailed DatasetFailed 
   not_right script (stops.Layout e) w h d r = absurd (some_not_none e (creation_fault script) w.1 (r.created w.0))
   not_right script (stops.Header e) w h d r = absurd (sound-header script e held w.1 (r.opened w.0))
   not_right script (stops.Redefinition e) w h d r = absurd (sound-redefinition script e held w.1 (r.opened w.0))
-  not_right script stops.Disk w h d r = absurd (not_read h d w.1 (r.opened w.0))
+  not_right script stops.Disk w h d r = absurd (not_read (IsSoundFile script) h d w.1 (r.opened w.0))
   not_right script stops.Memory w h d r = refl
   not_right script stops.Usage w h d r = absurd w
   not_right script (stops.Script e) w h d r = absurd w

@@ -35,12 +35,13 @@ stopped wanted before now Untouched stop status w unheld few told gives =
     let named = wanted.dataset in
     let Source : Type 0 = SourceFailed before now in
     let Dataset : Type 0 = DatasetFailed before now in
+    let gives_line : List ℕ → Type 0 = GivesLine before.sink_faults now.sink_faults before.given now.given in
     record {
       well = λ s. at_status stop status 0 (omega arith) told s (λ _ x. absurd ((early.not_given stop).0 x));
       cut = λ s. at_status stop status 6 (omega arith) told s (λ _ x. absurd ((early.not_given stop).1 x));
       taken = few;
-      script = λ s. at_status stop status 3 (omega arith) told s (λ e x. early.script_told held named Untouched Source Dataset before.left stop w (gives e) x);
-      dataset = λ s. at_status stop status 4 (omega arith) told s (λ e x. early.dataset_told held named Untouched Source Dataset before.left stop w (gives e) x);
+      script = λ s. at_status stop status 3 (omega arith) told s (λ e x. early.script_told held named Untouched Source Dataset gives_line before.left stop w (gives e) x);
+      dataset = λ s. at_status stop status 4 (omega arith) told s (λ e x. early.dataset_told held named Untouched Source Dataset gives_line before.left stop w (gives e) x);
       unread = λ s. at_status stop status 7 (omega arith) told s (λ _ x. early.unread held named Untouched Source Dataset before.left stop w x);
       refused = λ f source. by_status stop status 3 told (early.refused held named Untouched Source Dataset before.left stop w f source);
       mislaid = λ a source. by_status stop status 4 told (early.mislaid held named Untouched Source Dataset before.left stop w a source);

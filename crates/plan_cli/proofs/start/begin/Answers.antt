@@ -7,8 +7,8 @@ use Rattle.plan_cli.specs.Words.{name_of}
 use Rattle.plan_cli.proofs.StopLaws.{passed, unprepared, untaken}
 use Rattle.plan_cli.proofs.start.begin.Goals as goal
 
-pub prepare-requires-clause-kept : goal.prepare-requires-clause-kept
-prepare-requires-clause-kept g c = λ _ _. read_kept c.in_ok-script.ensures.read.0 c.in_ok-script.script c.in_ok-script.ensures.read.1
+pub prepare-requires : goal.prepare-requires
+prepare-requires g c = record { kept = read_kept c.in_ok-script.ensures.read.0 c.in_ok-script.script c.in_ok-script.ensures.read.1 }
 
 pub returns-in_err-script-clause-stopped : goal.returns-in_err-script-clause-stopped
 returns-in_err-script-clause-stopped g c =
