@@ -1,4 +1,8 @@
 // What the words of the command line ask for.
+ghost use Rattle.std.specs.Prelude.{◌≡◌, ◌&&◌, ◌==◌, not, length, nat_eq, codes, option_map};
+ghost use Rattle.std.specs.List.{starts_with};
+ghost use Rattle.plan_cli.specs.Words as spec;
+ghost use Rattle.plan_cli.specs.Words.{texts, wanted_of};
 
 /// What the words ask for: the form of the plan, and the dataset that they name, if any.
 #[derive(Clone, Copy, Debug, PartialEq, Eq)]
@@ -8,46 +12,39 @@ pub struct Form<'a> {
 }
 
 /// The form of the words, where they are of one: `[--json] [DATASET]`.
-pub fn form_of<'a>(words: &[&'a str]) -> Option<Form<'a>> {
-    match words {
+pub fn form_of<'a>(words: &[&'a str]) -> Option<Form<'a>>
+    ensures { option_map wanted_of result ≡ spec.form_of (texts words.now) }
+{
+    let Some((word, rest)) = words.split_first() else {
+        return with_names(false, words);
+    };
+    if *word == "--json" {
+        with_names(true, rest)
+    } else {
+        with_names(false, words)
+    }
+}
+
+// The form with no name, or with one.
+fn with_names<'a>(json: bool, names: &[&'a str]) -> Option<Form<'a>>
+    ensures { option_map wanted_of result ≡ spec.with_names json (texts names.now) }
+{
+    match names {
         [] => Some(Form {
-            json: false,
+            json,
             dataset: None,
         }),
-        [word] => form_of_one(word),
-        [first, second] => form_of_two(first, second),
+        [name] if is_name(name) => Some(Form {
+            json,
+            dataset: Some(name),
+        }),
         _ => None,
     }
 }
 
-fn form_of_one<'a>(word: &'a str) -> Option<Form<'a>> {
-    if word == "--json" {
-        return Some(Form {
-            json: true,
-            dataset: None,
-        });
-    }
-    Some(Form {
-        json: false,
-        dataset: Some(name_of(word)?),
-    })
-}
-
-fn form_of_two<'a>(first: &'a str, second: &'a str) -> Option<Form<'a>> {
-    if first != "--json" {
-        return None;
-    }
-    Some(Form {
-        json: true,
-        dataset: Some(name_of(second)?),
-    })
-}
-
-// The name of a dataset: a word that is not empty and doesn't begin as an option does.
-fn name_of(word: &str) -> Option<&str> {
-    if word.is_empty() || word.starts_with("--") {
-        None
-    } else {
-        Some(word)
-    }
+// A name is not empty, and doesn't begin as an option does.
+fn is_name(word: &str) -> bool
+    ensures { result ≡ spec.is_name word.now }
+{
+    !word.is_empty() && !word.starts_with("--")
 }

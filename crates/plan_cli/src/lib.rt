@@ -3,8 +3,11 @@
 
 mod command;
 mod dataset;
+mod existing;
 mod file_front;
+mod fresh;
 mod lines;
+mod plan;
 mod start;
 mod top;
 

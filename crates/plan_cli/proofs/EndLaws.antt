@@ -1,0 +1,88 @@
+-- The end of a plan that is asked for.
+use Rattle.std.proofs.Common.{◌≡◌, ◌<◌, ℕ, List, None, inl, inr, ◌⊎◌, sym, ◌∙◌, take, arith}
+use Rattle.std.specs.Prelude.{IfSome}
+use Rattle.nc_outside.specs.Told.{with_end}
+use Rattle.dataset_start.specs.Limits.{most_taken, TakesAtMost}
+use Rattle.dataset_start.specs.Readiness.{IsFaultless}
+use Rattle.dataset_start.specs.Stops.{status_of}
+use Rattle.dataset_start.specs.declared.stop.Stop.{Stop}
+use Rattle.plan_cli.specs.Ends.{HasEnded}
+use Rattle.plan_cli.specs.FaultLines.{line_of}
+use Rattle.plan_cli.specs.Headline.{Planned}
+use Rattle.plan_cli.specs.Outside.{DatasetFailed, GivesLine, Seen, SinkFailed, SourceFailed}
+use Rattle.plan_cli.specs.Stopped.{IsStoppedBy}
+use Rattle.plan_cli.specs.Words.{Wanted}
+use Rattle.plan_cli.proofs.EarlyEnds as early
+
+-- what is so of the stop's status, or of want of memory
+by_status : (stop : Stop) (status n : ℕ) → (status ≡ status_of stop) ⊎ (status ≡ 8) → (status_of stop ≡ n) ⊎ (status_of stop ≡ 8) → (status ≡ n) ⊎ (status ≡ 8)
+by_status stop status n (inr e) h = inr e
+by_status stop status n (inl e) (inl h) = inl (e ∙ h)
+by_status stop status n (inl e) (inr h) = inr (e ∙ h)
+
+-- at a status that is not 8 the stop is the cause
+at_status : {Q : Type 0} (stop : Stop) (status n : ℕ) → n < 8 → (status ≡ status_of stop) ⊎ (status ≡ 8) → status ≡ n → (status ≡ status_of stop → status_of stop ≡ n → Q) → Q
+at_status stop status n few (inl e) s h = h e (sym e ∙ s)
+at_status stop status n few (inr e) s h = absurd (omega (arith, e, s, few))
+
+pub stopped : (wanted : Wanted) (before now : Seen) (Untouched : Type 0) (stop : Stop) (status : ℕ)
+    → IsStoppedBy before.left before.held wanted.dataset Untouched (SourceFailed before now) (DatasetFailed before now) stop
+    → (wanted.dataset ≡ None → before.held ≡ None) → TakesAtMost most_taken before.left now.left → (status ≡ status_of stop) ⊎ (status ≡ 8)
+    → (status ≡ status_of stop → IfSome (line_of stop) (GivesLine before.sink_faults now.sink_faults before.given now.given))
+    → HasEnded wanted before now Untouched status
+stopped wanted before now Untouched stop status w unheld few told gives =
+    let held = before.held in
+    let named = wanted.dataset in
+    let Source : Type 0 = SourceFailed before now in
+    let Dataset : Type 0 = DatasetFailed before now in
+    let gives_line : List ℕ → Type 0 = GivesLine before.sink_faults now.sink_faults before.given now.given in
+    record {
+      well = λ s. at_status stop status 0 (omega arith) told s (λ _ x. absurd ((early.not_given stop).0 x));
+      cut = λ s. at_status stop status 6 (omega arith) told s (λ _ x. absurd ((early.not_given stop).1 x));
+      taken = few;
+      script = λ s. at_status stop status 3 (omega arith) told s (λ e x. early.script_told held named Untouched Source Dataset gives_line before.left stop w (gives e) x);
+      dataset = λ s. at_status stop status 4 (omega arith) told s (λ e x. early.dataset_told held named Untouched Source Dataset gives_line before.left stop w (gives e) x);
+      unread = λ s. at_status stop status 7 (omega arith) told s (λ _ x. early.unread held named Untouched Source Dataset before.left stop w x);
+      refused = λ f source. by_status stop status 3 told (early.refused held named Untouched Source Dataset before.left stop w f source);
+      mislaid = λ a source. by_status stop status 4 told (early.mislaid held named Untouched Source Dataset before.left stop w a source);
+      faulty = λ a source dataset. by_status stop status 4 told (early.faulty held named Untouched Source Dataset before.left stop w unheld a source dataset);
+      complete = λ a source _ dataset. by_status stop status 0 told (inr (early.wants_memory held named Untouched Source Dataset before.left stop w unheld a source dataset));
+    }
+
+-- memory was wanting
+pub wanting : (wanted : Wanted) (before now : Seen) (Untouched : Type 0) (status : ℕ) → TakesAtMost most_taken before.left now.left → status ≡ 8
+    → HasEnded wanted before now Untouched status
+wanting wanted before now Untouched status few e = record {
+  well = λ s. absurd (omega (arith, e, s));
+  cut = λ s. absurd (omega (arith, e, s));
+  taken = few;
+  script = λ s. absurd (omega (arith, e, s));
+  dataset = λ s. absurd (omega (arith, e, s));
+  unread = λ s. absurd (omega (arith, e, s));
+  refused = λ _ _. inr e;
+  mislaid = λ _ _. inr e;
+  faulty = λ _ _ _. inr e;
+  complete = λ _ _ _ _. inr e;
+}
+
+no_other : {Q : Type 0} (status n : ℕ) → (status ≡ 0) ⊎ (status ≡ 6) → status ≡ n → (n ≡ 0 → ⊥) → (n ≡ 6 → ⊥) → Q
+no_other status n (inl e) s a b = absurd (a (sym s ∙ e))
+no_other status n (inr e) s a b = absurd (b (sym s ∙ e))
+
+-- the text was given, whole or in front
+pub given : (wanted : Wanted) (before now : Seen) (Untouched : Type 0) (status : ℕ) (text : List ℕ) (p : Planned wanted.json before.left now.left before.held text)
+    → IsFaultless p.script before.held → TakesAtMost most_taken before.left now.left → (status ≡ 0) ⊎ (status ≡ 6)
+    → (status ≡ 0 → now.given ≡ with_end before.given text) → (status ≡ 6 → (n : ℕ) × (now.given ≡ with_end before.given (take n text)))
+    → (status ≡ 6 → SinkFailed before now) → HasEnded wanted before now Untouched status
+given wanted before now Untouched status text p n few ended whole front sink = record {
+  well = λ s. record { text = text; planned = p; given = whole s };
+  cut = λ s. record { text = text; count = (front s).0; planned = p; given = (front s).1 };
+  taken = few;
+  script = λ s. no_other status 3 ended s (λ x. omega (arith, x)) (λ x. omega (arith, x));
+  dataset = λ s. no_other status 4 ended s (λ x. omega (arith, x)) (λ x. omega (arith, x));
+  unread = λ s. no_other status 7 ended s (λ x. omega (arith, x)) (λ x. omega (arith, x));
+  refused = λ f _. early.not_unread before.left p.script p.reads f;
+  mislaid = λ a _. early.not_mislaid before.left before.held p.script p.reads n a;
+  faulty = λ a _ _. early.not_wrong before.left before.held p.script p.reads n a;
+  complete = λ _ _ s _. early.whole status ended (λ x. s (sink x));
+}

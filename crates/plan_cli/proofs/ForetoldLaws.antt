@@ -1,0 +1,45 @@
+-- What a plan tells of a run.
+use Rattle.std.proofs.Common.{◌≡◌, ℕ, Bool, List, [], ◌++◌, length, Option, refl, sym, ap, ap₂, ◌∙◌}
+use Rattle.std.specs.Prelude.{IfSome}
+use Rattle.nc_base.specs.declared.header.Header.{Header}
+use Rattle.nc_base.specs.declared.script.Script.{Script}
+use Rattle.nc_base.specs.declared.step.DiskCall.{DiskCall}
+use Rattle.nc_outside.specs.Told.{after}
+use Rattle.dataset_start.specs.Dataset.{Asks}
+use Rattle.run_plan.specs.declared.run.Opening.{Opening}
+use Rattle.run_plan.specs.declared.run.RunPlan.{RunPlan}
+use Rattle.plan_cli.specs.Headline.{document, Foretells, Planned, TellsPlan}
+use Rattle.plan_cli.specs.Opened.{file_at_start, IsOpening, MayHold}
+
+-- a plan from an opening on is that of the whole run
+foretold : (json : Bool) (script : Script) (held : Option (List ℕ)) (header : Header) (opening : Opening) (text : List ℕ) (o : IsOpening script held header opening)
+    (t : TellsPlan json script header opening text) (bytes : List ℕ) → MayHold script o.file bytes → Foretells script o.old header bytes t.plan
+foretold json script held header opening text o t bytes m =
+    let at = file_at_start script o.old header bytes in
+    let long : length at ≡ opening.size = sym (o.size bytes m) in
+    record {
+      calls = ap₂ (λ (a b : List DiskCall). a ++ b) (t.opened ∙ o.calls bytes m) (t.planned.calls at long);
+      each = t.planned.each at long;
+      answers = t.planned.answers at long;
+      pending = t.planned.pending at long;
+      records = t.planned.records at long;
+    }
+
+pub planned : (json : Bool) (left left_now held : Option (List ℕ)) (script : Script) (header : Header) (opening : Opening) (text : List ℕ) → Asks left script
+    → left_now ≡ after (λ _. []) left → IsOpening script held header opening → TellsPlan json script header opening text → Planned json left left_now held text
+planned json left left_now held script header opening text a l o t = record {
+  script = script;
+  old = o.old;
+  header = header;
+  file = o.file;
+  plan = t.plan;
+  sums = t.sums;
+  reads = a;
+  taken = l;
+  held = o.held;
+  heads = o.heads;
+  legal = t.planned.legal;
+  foretells = foretold json script held header opening text o t;
+  summed = t.summed;
+  whole = t.whole ∙ ap (λ (n : ℕ). document json script header n t.plan t.sums) (o.size o.file (λ _. refl));
+}

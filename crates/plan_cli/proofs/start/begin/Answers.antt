@@ -1,0 +1,29 @@
+use Rattle.std.proofs.Common.{◌≡◌, refl}
+use Rattle.nc_outside.specs.Cause.{Rose}
+use Rattle.dataset_start.proofs.Keeping.{read_kept}
+use Rattle.plan_cli.specs.Outside.{held_of}
+use Rattle.plan_cli.specs.Stopped.{IsStoppedBy}
+use Rattle.plan_cli.specs.Words.{name_of}
+use Rattle.plan_cli.proofs.StopLaws.{passed, unprepared, untaken}
+use Rattle.plan_cli.proofs.start.begin.Goals as goal
+
+pub prepare-requires : goal.prepare-requires
+prepare-requires g c = record { kept = read_kept c.in_ok-script.ensures.read.0 c.in_ok-script.script c.in_ok-script.ensures.read.1 }
+
+pub returns-in_err-script-clause-stopped : goal.returns-in_err-script-clause-stopped
+returns-in_err-script-clause-stopped g c =
+    let left = g.S.Source.left c.args.source.now in
+    let held = held_of g.D.DatasetFront (name_of c.args.name) c.args.dataset.now in
+    let named = name_of c.args.name in
+    passed (IsStoppedBy left held named _ _ _) c.take_script.result c.in_err-script.field-0.0 c.from_residual.result c.in_err-script.was
+    (untaken left held named _ _ _ c.take_script.result refl c.take_script.ensures.refused c.take_script.ensures.source c.take_script.ensures.only)
+    c.from_residual.ensures.1
+
+pub returns-in_err-prepared-clause-stopped : goal.returns-in_err-prepared-clause-stopped
+returns-in_err-prepared-clause-stopped g c =
+    let left = g.S.Source.left c.args.source.now in
+    let held = held_of g.D.DatasetFront (name_of c.args.name) c.args.dataset.now in
+    let named = name_of c.args.name in
+    passed (IsStoppedBy left held named _ _ _) c.prepare.result c.in_err-prepared.field-0.0 c.from_residual-in_err-prepared.result c.in_err-prepared.was
+    (unprepared left held named _ _ _ c.in_ok-script.script c.prepare.result c.in_ok-script.ensures.asks c.prepare.ensures.untouched c.prepare.ensures.stopped)
+    c.from_residual-in_err-prepared.ensures.1
