@@ -166,19 +166,25 @@ fn most_words(line: &[u8]) -> u64 {
 // How many bytes a text has, from its first quote on.
 fn text_length(text: &[u8]) -> Option<u64> {
     let mut length = 0u64;
-    let mut bytes = text.iter().skip(1);
-    for _ in text {
-        match bytes.next()? {
-            b'"' => return Some(length),
-            b'\\' if *bytes.next()? == b'x' => {
-                bytes.next()?;
-                bytes.next()?;
-            }
-            _ => {}
+    let mut left = 0u8;
+    for byte in text.get(1..)? {
+        if left == 0 && *byte == b'"' {
+            return Some(length);
         }
-        length = length.saturating_add(1);
+        left = left_behind(left, *byte);
+        length = length.saturating_add(u64::from(left == 0));
     }
     None
+}
+
+// How many bytes of an escape are left behind this byte, of so many before it: one behind the backslash, but two behind an x there.
+fn left_behind(left: u8, byte: u8) -> u8 {
+    match (left, byte) {
+        (0, b'\\') => 1,
+        (1, b'x') => 2,
+        (2, _) => 1,
+        _ => 0,
+    }
 }
 
 fn count_words(line: &[u8]) -> u64 {
