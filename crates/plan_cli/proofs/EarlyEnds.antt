@@ -1,5 +1,5 @@
 -- What the status of a plan that ends early leaves.
-use Rattle.std.proofs.Common.{◌≡◌, ℕ, Bool, true, false, List, Option, Some, None, inl, inr, ◌⊎◌, refl, sym, subst, ap, ◌∙◌, arith}
+use Rattle.std.proofs.Common.{◌≡◌, ℕ, Bool, true, false, List, Option, Some, None, inl, inr, ◌⊎◌, refl, subst, ap, arith}
 use Rattle.std.specs.Prelude.{IfSome, IsSomeAnd, Result}
 use Rattle.std.proofs.lemmas.Bool.{both_ways}
 use Rattle.list_laws.proofs.Optional.{some_not_none}
@@ -99,24 +99,42 @@ module _ (held named : Option (List ℕ)) (Untouched SourceFailed DatasetFailed 
   -- the line of the dataset's fault
   pub dataset_told : (Gives : List ℕ → Type 0) (left : Option (List ℕ)) (stop : Stop) → Stopped left stop → IfSome (line_of stop) Gives → status_of stop ≡ 4
       → (line : List ℕ) × (IsBadDataset left held Untouched line × Gives (renamed line))
-  dataset_told Gives left (stops.Header e) w g s = (header_line e, (record {
-    script = w.0;
-    asks = w.1.0;
-    tells = record { created = λ c. absurd (both_ways w.0.fresh w.1.1.0 c); opened = λ _. inl (e, (w.1.1.1, refl)) };
-    unlaid = w.1.2;
-  }, g))
-  dataset_told Gives left (stops.Layout e) w g s = (layout_line e, (record {
-    script = w.0;
-    asks = w.1.0;
-    tells = record { created = λ _. (e, (w.1.1.1, refl)); opened = λ o. absurd (both_ways w.0.fresh o w.1.1.0) };
-    unlaid = w.1.2;
-  }, g))
-  dataset_told Gives left (stops.Redefinition e) w g s = (redef_line e, (record {
-    script = w.0;
-    asks = w.1.0;
-    tells = record { created = λ c. absurd (both_ways w.0.fresh w.1.1.0 c); opened = λ _. inr (e, (w.1.1.1, refl)) };
-    unlaid = w.1.2;
-  }, g))
+  dataset_told Gives left (stops.Header e) w g s = (
+    header_line e,
+    (
+      record {
+        script = w.0;
+        asks = w.1.0;
+        tells = record { created = λ c. absurd (both_ways w.0.fresh w.1.1.0 c); opened = λ _. inl (e, (w.1.1.1, refl)) };
+        unlaid = w.1.2;
+      },
+      g,
+    ),
+  )
+  dataset_told Gives left (stops.Layout e) w g s = (
+    layout_line e,
+    (
+      record {
+        script = w.0;
+        asks = w.1.0;
+        tells = record { created = λ _. (e, (w.1.1.1, refl)); opened = λ o. absurd (both_ways w.0.fresh o w.1.1.0) };
+        unlaid = w.1.2;
+      },
+      g,
+    ),
+  )
+  dataset_told Gives left (stops.Redefinition e) w g s = (
+    redef_line e,
+    (
+      record {
+        script = w.0;
+        asks = w.1.0;
+        tells = record { created = λ c. absurd (both_ways w.0.fresh w.1.1.0 c); opened = λ _. inr (e, (w.1.1.1, refl)) };
+        unlaid = w.1.2;
+      },
+      g,
+    ),
+  )
   dataset_told Gives left stops.Usage w g s = absurd w
   dataset_told Gives left (stops.Script e) w g s = absurd (omega (arith, s))
   dataset_told Gives left stops.Source w g s = absurd (omega (arith, s))

@@ -1,4 +1,4 @@
-use Rattle.std.proofs.Common.{◌≡◌, Option, List, ℕ, ap, sym, subst}
+use Rattle.std.proofs.Common.{Option, List, ℕ, ap, sym, subst}
 use Rattle.dataset_start.proofs.Keeping.{read_kept}
 use Rattle.plan_cli.specs.Headline.{TellsPlan}
 use Rattle.plan_cli.specs.Outside.{held_of}
