@@ -1,5 +1,5 @@
 -- What the status of a plan that ends early leaves.
-use Rattle.std.proofs.Common.{◌≡◌, ℕ, Bool, true, false, List, Option, Some, None, inl, inr, ◌⊎◌, refl, sym, subst, ap, ◌∙◌, arith}
+use Rattle.std.proofs.Common.{◌≡◌, ℕ, Bool, true, false, List, Option, Some, None, inl, inr, ◌⊎◌, refl, subst, ap, arith}
 use Rattle.std.specs.Prelude.{IfSome, IsSomeAnd, Result}
 use Rattle.std.proofs.lemmas.Bool.{both_ways}
 use Rattle.list_laws.proofs.Optional.{some_not_none}

@@ -2,6 +2,8 @@
 use Rattle.std.proofs.Common.{◌≡◌, ◌<◌, ℕ, List, None, inl, inr, ◌⊎◌, sym, ◌∙◌, take, arith}
 use Rattle.std.specs.Prelude.{IfSome}
 use Rattle.nc_outside.specs.Told.{with_end}
+use Rattle.nc_base.specs.declared.script.Script.{Script}
+use Rattle.dataset_start.specs.Dataset.{Asks}
 use Rattle.dataset_start.specs.Limits.{most_taken, TakesAtMost}
 use Rattle.dataset_start.specs.Readiness.{IsFaultless}
 use Rattle.dataset_start.specs.Stops.{status_of}
@@ -49,40 +51,25 @@ stopped wanted before now Untouched stop status w unheld few told gives =
       complete = λ a source _ dataset. by_status stop status 0 told (inr (early.wants_memory held named Untouched Source Dataset before.left stop w unheld a source dataset));
     }
 
--- memory was wanting
-pub wanting : (wanted : Wanted) (before now : Seen) (Untouched : Type 0) (status : ℕ) → TakesAtMost most_taken before.left now.left → status ≡ 8
-    → HasEnded wanted before now Untouched status
-wanting wanted before now Untouched status few e = record {
-  well = λ s. absurd (omega (arith, e, s));
-  cut = λ s. absurd (omega (arith, e, s));
-  taken = few;
-  script = λ s. absurd (omega (arith, e, s));
-  dataset = λ s. absurd (omega (arith, e, s));
-  unread = λ s. absurd (omega (arith, e, s));
-  refused = λ _ _. inr e;
-  mislaid = λ _ _. inr e;
-  faulty = λ _ _ _. inr e;
-  complete = λ _ _ _ _. inr e;
-}
-
+-- no other status
 no_other : {Q : Type 0} (status n : ℕ) → (status ≡ 0) ⊎ (status ≡ 6) → status ≡ n → (n ≡ 0 → ⊥) → (n ≡ 6 → ⊥) → Q
 no_other status n (inl e) s a b = absurd (a (sym s ∙ e))
 no_other status n (inr e) s a b = absurd (b (sym s ∙ e))
 
--- the text was given, whole or in front
-pub given : (wanted : Wanted) (before now : Seen) (Untouched : Type 0) (status : ℕ) (text : List ℕ) (p : Planned wanted.json before.left now.left before.held text)
-    → IsFaultless p.script before.held → TakesAtMost most_taken before.left now.left → (status ≡ 0) ⊎ (status ≡ 6)
-    → (status ≡ 0 → now.given ≡ with_end before.given text) → (status ≡ 6 → (n : ℕ) × (now.given ≡ with_end before.given (take n text)))
-    → (status ≡ 6 → SinkFailed before now) → HasEnded wanted before now Untouched status
-given wanted before now Untouched status text p n few ended whole front sink = record {
+-- the text was given, whole or in front, of a script with whose dataset nothing is wrong
+pub given : (wanted : Wanted) (before now : Seen) (Untouched : Type 0) (status : ℕ) (text : List ℕ) (script : Script) → Asks before.left script
+    → IsFaultless script before.held → Planned wanted.json before.left now.left before.held text → TakesAtMost most_taken before.left now.left
+    → (status ≡ 0) ⊎ (status ≡ 6) → (status ≡ 0 → now.given ≡ with_end before.given text)
+    → (status ≡ 6 → (n : ℕ) × (now.given ≡ with_end before.given (take n text))) → (status ≡ 6 → SinkFailed before now) → HasEnded wanted before now Untouched status
+given wanted before now Untouched status text script asks faultless p few ended whole front sink = record {
   well = λ s. record { text = text; planned = p; given = whole s };
   cut = λ s. record { text = text; count = (front s).0; planned = p; given = (front s).1 };
   taken = few;
   script = λ s. no_other status 3 ended s (λ x. omega (arith, x)) (λ x. omega (arith, x));
   dataset = λ s. no_other status 4 ended s (λ x. omega (arith, x)) (λ x. omega (arith, x));
   unread = λ s. no_other status 7 ended s (λ x. omega (arith, x)) (λ x. omega (arith, x));
-  refused = λ f _. early.not_unread before.left p.script p.reads f;
-  mislaid = λ a _. early.not_mislaid before.left before.held p.script p.reads n a;
-  faulty = λ a _ _. early.not_wrong before.left before.held p.script p.reads n a;
+  refused = λ f _. early.not_unread before.left script asks f;
+  mislaid = λ a _. early.not_mislaid before.left before.held script asks faultless a;
+  faulty = λ a _ _. early.not_wrong before.left before.held script asks faultless a;
   complete = λ _ _ s _. early.whole status ended (λ x. s (sink x));
 }

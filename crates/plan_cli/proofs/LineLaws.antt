@@ -1,5 +1,5 @@
 -- The line that tells a stop, by that of ncrun.
-use Rattle.std.proofs.Common.{◌≡◌, List, ℕ, Option, Some, None, refl}
+use Rattle.std.proofs.Common.{◌≡◌, None, refl}
 use Rattle.std.specs.Prelude.{option_map}
 use Rattle.dataset_start.specs.Stops as ncrun
 use Rattle.dataset_start.specs.declared.stop.Stop.{Stop}

@@ -1,5 +1,5 @@
 -- The dataset of a script, as it is known when the ranks begin.
-use Rattle.std.proofs.Common.{◌≡◌, ℕ, ◌==◌, Bool, true, false, List, [], length, Option, refl, sym, subst, ap, ◌∙◌}
+use Rattle.std.proofs.Common.{◌≡◌, ℕ, ◌==◌, true, false, List, [], length, Option, refl, sym, subst, ap, ◌∙◌}
 use Rattle.std.specs.Prelude.{IfOk, IfSome, None, Ok, Err, Result}
 use Rattle.std.proofs.lemmas.Bool.{both_ways}
 use Rattle.nc_base.specs.declared.errors.HeaderErr.{HeaderErr}

@@ -1,17 +1,15 @@
 -- Why a plan ends early, by the function that ends.
-use Rattle.std.proofs.Common.{◌≡◌, ℕ, ◌==◌, length, true, false, List, Option, Some, None, inl, inr, ◌⊎◌, refl, sym, subst, ap, ◌∙◌}
+use Rattle.std.proofs.Common.{◌≡◌, ℕ, ◌==◌, length, true, false, List, Option, Some, None, refl, sym, subst, ◌∙◌}
 use Rattle.std.specs.Prelude.{IfErr, IfSome, IsErrOf, Result, Ok, Err}
 use Rattle.std.specs.Result.{IsErrAnd}
-use Rattle.nc_base.specs.declared.errors.HeaderErr.{HeaderErr}
 use Rattle.nc_base.specs.declared.errors.LayoutErr.{LayoutErr}
 use Rattle.nc_base.specs.declared.errors.RedefErr.{RedefErr}
 use Rattle.nc_base.specs.declared.errors.ScriptErr.{ScriptErr}
 use Rattle.nc_base.specs.declared.script.Script as script_type
-use Rattle.serial_spec.specs.HeaderFaults.{HasFault}
 use Rattle.serial_spec.specs.Redefinition.{redefined_fault}
 use Rattle.script_spec.specs.ScriptGrammar.{script_fault}
-use Rattle.dataset_start.specs.Dataset.{creation_fault, front, Asks, HasRedefinitionFault}
-use Rattle.dataset_start.specs.Stops.{IsOfHeader, IsOfLayout, IsOfRedefinition, IsOfTaking}
+use Rattle.dataset_start.specs.Dataset.{creation_fault, Asks, HasRedefinitionFault}
+use Rattle.dataset_start.specs.Stops.{IsOfLayout, IsOfRedefinition, IsOfTaking}
 use Rattle.dataset_start.specs.declared.stop.Stop.{Stop}
 use Rattle.dataset_start.specs.declared.stop.Stop.TheVariants as stops
 use Rattle.dataset_start.proofs.ReadyLaws.{at_front, fault-some}
@@ -45,24 +43,6 @@ unlaid script held named Failed (Err stops.Source) f h o = absurd o
 unlaid script held named Failed (Err stops.Disk) f h o = absurd o
 
 -- ---- a dataset that is there
-
-pub unlooked : {T : Type 0} (script : script_type.Script) (held named : Option (List ℕ)) (Failed : Type 0) (result : Result T Stop) → script.fresh ≡ false
-    → ((e : HeaderErr) → result ≡ Err (stops.Header e) → IfSome held (λ file. HasFault (front file) e)) → (IsErrOf result stops.Disk → Failed)
-    → IfErr result IsOfHeader → IfErr result (IsUnprepared script held named Failed)
-unlooked script held named Failed (Ok x) f h d o = tt
-unlooked script held named Failed (Err (stops.Header e)) f h d o = (f, h e refl)
-unlooked script held named Failed (Err stops.Disk) f h d o = (f, inl (d refl))
-unlooked script held named Failed (Err stops.Memory) f h d o = tt
-unlooked script held named Failed (Err stops.Usage) f h d o = absurd o
-unlooked script held named Failed (Err (stops.Script e)) f h d o = absurd o
-unlooked script held named Failed (Err (stops.Layout e)) f h d o = absurd o
-unlooked script held named Failed (Err (stops.Redefinition e)) f h d o = absurd o
-unlooked script held named Failed (Err stops.Source) f h d o = absurd o
-
-pub unkept : {T : Type 0} (script : script_type.Script) (held named : Option (List ℕ)) (Failed : Type 0) (result : Result T Stop)
-    → IfErr result (λ stop. stop ≡ stops.Memory) → IfErr result (IsUnprepared script held named Failed)
-unkept script held named Failed (Ok x) m = tt
-unkept script held named Failed (Err stop) m = subst (IsUnprepared script held named Failed) (sym m) tt
 
 -- the fault with which the header refuses what is added, of a file that is told
 pub refuses : (script : script_type.Script) (old : head.Header) (held : Option (List ℕ)) (size : ℕ) (e : RedefErr) → (length script.extra == 0) ≡ false

@@ -1,5 +1,4 @@
-use Rattle.std.proofs.Common.{◌≡◌, refl}
-use Rattle.nc_outside.specs.Cause.{Rose}
+use Rattle.std.proofs.Common.{refl}
 use Rattle.dataset_start.proofs.Keeping.{read_kept}
 use Rattle.plan_cli.specs.Outside.{held_of}
 use Rattle.plan_cli.specs.Stopped.{IsStoppedBy}

@@ -1,4 +1,4 @@
-use Rattle.std.proofs.Common.{◌≡◌, Option, List, ℕ, ap, sym, subst}
+use Rattle.std.proofs.Common.{Option, List, ℕ, ap, sym, subst}
 use Rattle.dataset_start.proofs.Keeping.{read_kept}
 use Rattle.plan_cli.specs.Headline.{TellsPlan}
 use Rattle.plan_cli.specs.Outside.{held_of}
@@ -24,6 +24,6 @@ returns-in-Ok-print_plan-clause-ends g c =
     let text : List ℕ = c.as_slice.result.now in
     let tells : TellsPlan c.args.form.json ready.script ready.dataset.header ready.dataset.opening text =
     subst (λ (t : List ℕ). TellsPlan c.args.form.json ready.script ready.dataset.header ready.dataset.opening t) (sym c.as_slice.ensures) c.in-Ok-print_plan.ensures in
-    given (wanted_of c.args.form) _ _ _ c.give.result text
+    given (wanted_of c.args.form) _ _ _ c.give.result text ready.script own.asks own.opening.faultless
     (planned c.args.form.json left (g.S.Source.left c.begin.new.source) held ready.script ready.dataset.header ready.dataset.opening text own.asks own.taken own.opening tells)
-    own.opening.faultless own.few c.give.ensures.statuses c.give.ensures.whole c.give.ensures.front c.give.ensures.sink
+    own.few c.give.ensures.statuses c.give.ensures.whole c.give.ensures.front c.give.ensures.sink
