@@ -130,7 +130,7 @@ class Merging(unittest.TestCase):
         diagnosis = Diagnosis(self.opening(BEGUN + CLOSED, BEGUN + CLOSED), "", None)
         said = SimpleNamespace(first_line=lambda: "ncrun: script line 1: limit of script")
         diagnosis.tell_refused(diagnosis.merged.parts[0], SimpleNamespace(status=3, text=said))
-        self.assertEqual(diagnosis.found, ["no run: the script is longer than ncrun takes: 2^26 bytes or 2^20 lines"])
+        self.assertEqual(diagnosis.found, ["no run: the script is longer than ncrun takes: 2^26 bytes, 2^20 lines or 2^24 values"])
 
     def test_what_is_never_written(self):
         merged = self.merged(BEGUN + [put(0)] + CLOSED, BEGUN + [put(1)] + CLOSED)
