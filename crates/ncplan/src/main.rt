@@ -47,12 +47,5 @@ fn main(rt: HostRuntime) -> ExitCode {
     let mut source = StdSource::new(rt.reader());
     let mut sink = StdSink::new(io::writer(&rt));
     let mut dataset = FileFront::new(files);
-    ExitCode::from(ncplan(
-        &rt,
-        alloc,
-        &texts,
-        &mut source,
-        &mut dataset,
-        &mut sink,
-    ))
+    ExitCode::from(ncplan(&rt, alloc, &texts, &mut source, &mut dataset, &mut sink))
 }
