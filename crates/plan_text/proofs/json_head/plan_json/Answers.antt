@@ -1,4 +1,4 @@
-use Rattle.std.proofs.Common.{◌≡◌, ℕ, List, [], ◌∷◌, ◌++◌, ap, ◌∙◌, arith}
+use Rattle.std.proofs.Common.{ℕ, List, [], ◌∷◌, ◌++◌, ap, ◌∙◌, arith}
 use Rattle.script_spec.specs.Texts.{joined}
 use Rattle.plan_text.specs.JsonPlan.{head_members, plan_members}
 use Rattle.plan_text.proofs.ArrayLaws.{document_closed}

@@ -1,4 +1,4 @@
-use Rattle.std.proofs.Common.{◌≡◌, ◌∷◌, ◌++◌, map, take}
+use Rattle.std.proofs.Common.{◌≡◌, ◌++◌, map, take}
 use Rattle.script_spec.specs.Texts.{joined}
 use Rattle.plan_text.specs.JsonHead.{hint_object}
 use Rattle.hint_table.specs.HintNames.{row_of}

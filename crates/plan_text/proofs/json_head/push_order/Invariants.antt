@@ -1,4 +1,4 @@
-use Rattle.std.proofs.Common.{◌≡◌, ◌∷◌, ◌++◌, map, take}
+use Rattle.std.proofs.Common.{◌≡◌, ◌++◌, map, take}
 use Rattle.script_spec.specs.Texts.{joined, mark_word}
 use Rattle.plan_text.specs.Json.{json_text}
 use Rattle.plan_text.proofs.json_head.push_order.Given as goal

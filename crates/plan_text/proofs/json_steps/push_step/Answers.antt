@@ -1,4 +1,4 @@
-use Rattle.std.proofs.Common.{◌≡◌, ℕ, List, ◌∷◌, ◌++◌, ap, ◌∙◌, arith}
+use Rattle.std.proofs.Common.{ℕ, List, ◌∷◌, ◌++◌, ap, ◌∙◌}
 use Rattle.plan_text.specs.JsonSteps.{file_members}
 use Rattle.plan_text.proofs.ArrayLaws.{closed_end}
 use Rattle.list_laws.proofs.Appends.{then_append}

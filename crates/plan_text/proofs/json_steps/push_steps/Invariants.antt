@@ -1,4 +1,4 @@
-use Rattle.std.proofs.Common.{◌≡◌, ◌∷◌, ◌++◌, map, take}
+use Rattle.std.proofs.Common.{◌≡◌, ◌++◌, map, take}
 use Rattle.script_spec.specs.Texts.{joined}
 use Rattle.plan_text.specs.Json.{on_line}
 use Rattle.plan_text.specs.JsonSteps.{step_object}

@@ -1,4 +1,3 @@
-use Rattle.std.proofs.Common.{List, ℕ}
 use Rattle.std.specs.Prelude.{slice_get}
 use Rattle.plan_text.specs.PlanWords.{word_in}
 use Rattle.plan_text.proofs.PlainLaws.{text_pushed, word_plain}

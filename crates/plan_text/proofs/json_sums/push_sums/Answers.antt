@@ -1,4 +1,4 @@
-use Rattle.std.proofs.Common.{◌≡◌, ℕ, List, ◌∷◌, ◌++◌, ap, ◌∙◌, arith}
+use Rattle.std.proofs.Common.{ℕ, List, ◌∷◌, ◌++◌, ap, ◌∙◌, arith}
 use Rattle.plan_text.specs.JsonSums.{beside_members, moved_members}
 use Rattle.plan_text.proofs.ArrayLaws.{closed_more}
 use Rattle.list_laws.proofs.Appends.{then_append}
