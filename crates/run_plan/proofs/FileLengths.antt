@@ -1,0 +1,58 @@
+-- How long the file is after a step.
+use Rattle.std.proofs.Common.{◌≡◌, ℕ, ◌+◌, ◌≤◌, refl, sym, ◌∙◌, ap, subst, List, length, max, Bool, true, false, cond, Option, Some, None, arith}
+use Rattle.std.specs.Prelude.{nat_lt, ◌==◌}
+use Rattle.std.specs.Int.{byte_len, w32, w64}
+use Rattle.nc_base.specs.declared.answer.Pair.{Pair}
+use Rattle.serial_spec.specs.File.{longer}
+use Rattle.serial_spec.specs.FileStep.{after_puts, end_for, raised, told, Counted, Setting}
+use Rattle.serial_spec.specs.HeaderBytes.{count, header_len}
+use Rattle.serial_spec.specs.Owner.{needed_now}
+use Rattle.serial_spec.specs.Records.{needed_by, with_records}
+use Rattle.serial_spec.specs.SharedByte.{Puts}
+use Rattle.serial_spec.specs.SoundHeaders.{is_sound}
+use Rattle.serial_spec.proofs.FileLaws.{length-written_inside, longer_long}
+use Rattle.serial_spec.proofs.KeepLaws.{count_long}
+use Rattle.serial_spec.proofs.SaidLaws.{puts_are_cells}
+use Rattle.overlay_laws.specs.Entries.{cells_of_puts}
+use Rattle.overlay_laws.proofs.RoomLaws.{puts_room}
+use Rattle.overlay_laws.proofs.SaidLaws.{cells_long}
+use Rattle.collective_round.specs.Rounds.{ArePuts}
+use Rattle.collective_round.proofs.NeedLaws.{field_inside}
+use Rattle.collective_round.proofs.PutLaws.{covered_below, laid_needs, shared_needs}
+
+-- puts make the file as long as their records need, and no longer
+pub puts_long : (s : Setting) (puts : Puts) (file : List ℕ) → is_sound s.header ≡ true → ArePuts s.header puts → end_for s 0 ≤ length file
+    → length (after_puts s puts (told s puts) file) ≡ max (length file) (end_for s (needed_now s puts))
+puts_long s puts file sound are long = by_pair (told s puts) refl
+  where
+    by_pair : (o : Option Pair) → told s puts ≡ o → length (after_puts s puts o file) ≡ max (length file) (end_for s (needed_now s puts))
+    by_pair (Some pair) e =
+        let still : length file ≡ max (length file) (end_for s 0) = omega arith in
+        still ∙ ap (λ (n : ℕ). max (length file) (end_for s n)) (sym (shared_needs s puts pair e))
+    by_pair None e =
+        let end = end_for s (needed_by s.header puts) in
+        let whole = longer file end in
+        let wide = longer_long file end in
+        let below = covered_below s.header (header_len s.header) puts sound are in
+        ap (λ (f : List ℕ). length f) (puts_are_cells s puts whole)
+        ∙ cells_long (cells_of_puts s.header puts) whole (puts_room s.header puts (length whole) (λ x m. let b = below x m in omega arith))
+        ∙ wide
+        ∙ ap (λ (n : ℕ). max (length file) (end_for s n)) (sym (laid_needs s puts e))
+
+width_few : (t : Bool) → byte_len (cond t w64 w32) ≤ 8
+width_few true = omega arith
+width_few false = omega arith
+
+count_few : (version n : ℕ) → length (count version n) ≤ 8
+count_few version n = subst (λ (k : ℕ). k ≤ 8) (sym (count_long version n)) (width_few (version == 5))
+
+-- the write of a count keeps the length
+pub raised_long : (s : Setting) (c : Counted) (n : ℕ) → end_for s 0 ≤ length c.file → length (raised s c n).file ≡ length c.file
+raised_long s c n long = by_test (nat_lt c.records n)
+  where
+    inside : 4 + length (count s.header.version n) ≤ length c.file
+    inside = let field = field_inside s.header in let few = count_few s.header.version n in omega arith
+
+    by_test : (t : Bool) → length (cond t (record { file = with_records s.header.version c.file n; records = n }) c).file ≡ length c.file
+    by_test true = length-written_inside c.file 4 (count s.header.version n) inside
+    by_test false = refl

@@ -1,0 +1,7 @@
+pub mod NearLaws
+pub mod FileLengths
+pub mod FollowLaws
+pub mod SoloLaws
+pub mod MeetLaws
+pub mod CountSteps
+pub mod EndLaws

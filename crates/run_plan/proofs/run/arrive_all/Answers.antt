@@ -1,0 +1,85 @@
+-- One rank more has arrived.
+use Rattle.std.proofs.Common.{◌≡◌, ◌<◌, ◌≤◌, ◌+◌, ℕ, refl, sym, ◌∙◌, subst, Some, None, arith}
+use Rattle.std.specs.Prelude.{slice_get, slice_index_or}
+use Rattle.std.proofs.lemmas.Option.{slice_get_within}
+use Rattle.serial_spec.specs.SerialEnd.{setting_of}
+use Rattle.run_laws.proofs.LawfulLaws.{ranks_lawful}
+use Rattle.turn_run.specs.Counts.{IsCount}
+use Rattle.turn_run.specs.Running.{calls_of, HasArrived}
+use Rattle.turn_run.specs.Stages.{arrived, arrived_all}
+use Rattle.turn_run.specs.declared.runners.Runner.{Runner}
+use Rattle.turn_run.proofs.CountLaws.{count_longer}
+use Rattle.turn_run.proofs.TurnSteps.{below_other, get_at, grown_meetings, runners_step, set_each}
+use Rattle.run_plan.specs.Planned.{order_in, plan_stage, rank_plan, HasPlannedAll}
+use Rattle.run_plan.proofs.FollowLaws.{all_none, all_then, one_of_all, planned_grown}
+use Rattle.run_plan.proofs.run.arrive_all.Goals as goal
+
+pub loop-number-init : goal.loop-number-init
+loop-number-init g c = record {
+  longer = omega arith;
+  runners = c.requires.runners;
+  met = refl;
+  arrived = λ r runner l e. absurd (omega arith);
+  free = λ r runner l e. c.requires.free r runner e;
+  planned = λ records. all_none _ _ _ _;
+  count = refl;
+}
+
+pub arrive-requires-clause-free : goal.arrive-requires-clause-free
+arrive-requires-clause-free g c κs within =
+    c.loop-number.invariant.free c.loop-number.number _ (omega arith) (get_at c.loop-number.runners c.loop-number.number c.index-runners-number.result (omega arith))
+
+pub arrive-requires-clause-runner : goal.arrive-requires-clause-runner
+arrive-requires-clause-runner g c κs within =
+    c.loop-number.invariant.runners.each c.loop-number.number _ (get_at c.loop-number.runners c.loop-number.number c.index-runners-number.result (omega arith))
+
+pub arrive-requires-clause-known : goal.arrive-requires-clause-known
+arrive-requires-clause-known g c κs within =
+    c.loop-number.invariant.runners.known c.loop-number.number _ (get_at c.loop-number.runners c.loop-number.number c.index-runners-number.result (omega arith))
+
+pub loop-number-preserved : goal.loop-number-preserved
+loop-number-preserved g c =
+    let script = c.args.lent.now.script.now in
+    let header = c.args.lent.now.header.now in
+    let n = c.loop-number.number in
+    let runners = c.loop-number.runners in
+    let was = slice_index_or runners n c.index-runners-number.result in
+    let runner = c.arrive.new.runner in
+    let old = c.loop-number.progress in
+    let now = c.arrive.new.progress in
+    let before = c.loop-number.invariant in
+    let done = c.in_ok-arrive.ensures in
+    let there : slice_get runners n ≡ Some was = get_at runners n c.index-runners-number.result (omega arith) in
+    let grown = planned_grown script.hints (setting_of script header) n (rank_plan old.steps old.size (arrived header (calls_of script n) was)) (rank_plan now.steps now.size (arrived header (calls_of script n) runner)) done.planned in
+    let long = (ranks_lawful script c.requires.lawful).one_each in
+    let further = before.longer in
+    let more = done.longer in
+    record {
+      longer = omega arith;
+      runners = runners_step script header old.size now.size (order_in old.steps) (order_in now.steps) runners n was runner before.runners there grown done.longer done.runner done.known;
+      met = grown_meetings n (order_in old.steps) (order_in now.steps) grown ∙ before.met;
+      arrived = λ r s l e. set_each (λ (q : ℕ) (x : Runner). q < n + 1 → HasArrived (calls_of script q) x) runners n was runner there (λ k. done.arrived)
+          (λ q x other f k. before.arrived q x (below_other q n other k) f) r s e l;
+      free = λ r s l e. set_each (λ (q : ℕ) (x : Runner). n + 1 ≤ q → x.held ≡ None) runners n was runner there (λ k. absurd (omega arith))
+          (λ q x other f k. before.free q x (omega arith) f) r s e l;
+      planned = λ records. all_then _ _ _ old.steps _ _ (plan_stage old.size records (arrived_all header script.calls runners)) _ (before.planned records)
+          (one_of_all script header runners n was runner old.steps now.steps old.size now.size c.requires.lawful (omega arith) there done.planned records);
+      count = c.arrive.ensures.records ∙ before.count;
+    }
+
+pub returns-clause-arrived : goal.returns-clause-arrived
+returns-clause-arrived g c r runner e = let l = slice_get_within c.loop-number.runners r runner e in c.loop-number.invariant.arrived r runner (omega arith) e
+
+pub returns-clause-records : goal.returns-clause-records
+returns-clause-records g c =
+    subst (λ (n : ℕ). IsCount c.args.lent.now.header.now c.loop-number.progress.size n) (sym c.loop-number.invariant.count)
+    (count_longer c.args.lent.now.header.now _ _ c.args.progress.now.records c.loop-number.invariant.longer c.requires.records)
+
+pub returns-clause-planned : goal.returns-clause-planned
+returns-clause-planned g c =
+    let header = c.args.lent.now.header.now in
+    let script = c.args.lent.now.script.now in
+    subst (λ (n : ℕ). HasPlannedAll script.hints (setting_of script header) c.args.progress.now.steps c.loop-number.progress.steps
+    (plan_stage c.args.progress.now.size c.args.progress.now.records (arrived_all header script.calls c.args.runners.now))
+    (plan_stage c.loop-number.progress.size n (arrived_all header script.calls c.loop-number.runners))) (sym c.loop-number.invariant.count)
+    (c.loop-number.invariant.planned c.args.progress.now.records)

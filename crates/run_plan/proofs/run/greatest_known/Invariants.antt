@@ -1,0 +1,7 @@
+-- The greatest of those so far.
+use Rattle.std.proofs.Common.{◌≡◌, take}
+use Rattle.run_plan.specs.Runs.{greatest_known}
+use Rattle.run_plan.proofs.run.greatest_known.Given as goal
+
+abbrev pub invariant-loop-runner : goal.invariant-loop-runner
+invariant-loop-runner l = l.known ≡ greatest_known (take l.runner-index l.runners)
