@@ -77,7 +77,8 @@ def word_of(verb, form, everyone):
 
 @dataclass(slots=True)
 class Line:
-    """A line of a script without its rank. Where `var` is None the verb is the whole line."""
+    """A line of a script without its rank. Where `var` is None the verb is the whole line, or the region is the number of a dimension, whose
+    name may change later."""
     verb: str
     id: int = None
     var: int = None
@@ -111,14 +112,17 @@ class Line:
     def shown(self, definitions):
         """The line without its values, and of many boxes the first ones."""
         if self.var is None:
-            told = self.verb.split(" ")
+            told = self.alone(definitions).split(" ")
             return " ".join(told[:LONGEST]) + (" .." if len(told) > LONGEST else "")
         lists = self.region.split(" ") if self.region else []
         first = MOST_SHOWN + (self.form == "varn")
         return self.joined(definitions, " ".join(lists[:first]) + (" .." if len(lists) > first else ""), "")
 
     def text(self, definitions, zeros=False):
-        return self.verb if self.var is None else self.joined(definitions, self.region, self.value_text(zeros))
+        return self.alone(definitions) if self.var is None else self.joined(definitions, self.region, self.value_text(zeros))
+
+    def alone(self, definitions):
+        return self.verb + " " + definitions.dimension_word(int(self.region)) if self.region else self.verb
 
     def joined(self, definitions, region, values):
         told = [self.verb, None if self.id is None else str(self.id), definitions.variable_word(self.var), region, values]

@@ -201,13 +201,19 @@ class Definitions:
             return name_word(self.vars[number].name, "a variable")
         return "no_variable_%s" % str(number).replace("-", "_")
 
+    def dimension_word(self, number):
+        """The same for a dimension."""
+        return name_word(self.dims[number].name, "a dimension") if 0 <= number < len(self.dims) else "no_dimension"
+
     def same_as(self, other):
         """Whether two ranks defined alike."""
         return (self.version, self.order, self.dims, self.vars, self.attributes) == (
             other.version, other.order, other.dims, other.vars, other.attributes)
 
     def first_difference(self, other):
-        """In what two ranks' definitions differ, with what each has; None where they don't."""
+        """In what two ranks' definitions that aren't alike differ, with what each has."""
+        if self.version != other.version:
+            return "the format: CDF-%s and CDF-%s" % (self.version, other.version)
         names = [[x.name for x in own] for own in (self.dims, other.dims, self.vars, other.vars)]
         for what, own, its in (("dimensions", *names[:2]), ("variables", *names[2:])):
             if own != its:
@@ -216,7 +222,7 @@ class Definitions:
             return "the lengths of dimensions"
         if self.vars != other.vars:
             return "the types or dimensions of variables"
-        return None if self.attributes == other.attributes else "attributes"
+        return "attributes" if self.attributes != other.attributes else "the order of dimensions and variables"
 
     # ---- the lines of a script
 

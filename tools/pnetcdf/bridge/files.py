@@ -16,7 +16,7 @@ class FileFindings:
     def __init__(self, merged, raced, part=None):
         self.merged, self.raced, self.part = merged, raced, part
         self.found, self.remarks, self.state = [], [], "differs"
-        self.when = "" if part is None else "before redefinition %d " % (part + 1)
+        self.when = "" if part is None else "before redefinition %d: " % (part + 1)
 
     def tell(self, line):
         self.found.append("the file: " + self.when + line)

@@ -182,6 +182,9 @@ class Merged:
         if not first.ok:
             self.fault, self.refused = "%s answered %s" % (first.call, first.code), first.answer is not None
             return
+        refused = [rank.number for rank in self.ranks if rank.opened.refused]
+        if refused:
+            raise NoWord("a dataset that PnetCDF refuses to some ranks: %s had %s" % (ranks_word(refused), self.ranks[refused[0]].opened.code))
         if len(self.ranks) > MOST_RANKS:
             raise NoWord("more than %d ranks" % MOST_RANKS)
         self.definitions = self.ranks[0].definitions

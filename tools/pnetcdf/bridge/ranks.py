@@ -381,10 +381,6 @@ class RankMerger:
                 for own, first, length in post.parts]
 
     def dim_length(self, event):
-        number = event.given["dim"]
-        known = 0 <= number < len(self.definitions.dims)
-        name = self.definitions.dims[number].name if known else b"no_dimension"
-        length = (event.answer or {}).get("length")
-        if not words.is_name(name):
-            raise NoWord("the name of a dimension")
-        self.add(event, Line("inq_dimlen " + name.decode()), got="" if length is None else str(length))
+        length, number = (event.answer or {}).get("length"), event.given["dim"]
+        self.definitions.dimension_word(number)
+        self.add(event, Line("inq_dimlen", region=str(number)), got="" if length is None else str(length))

@@ -133,6 +133,11 @@ class Trace:
             found.byteswap()
         return found
 
+    def close(self):
+        if self.store is not None:
+            self.store.close()
+            self.store = None
+
     def copy(self, name):
         """The path of a copy of a dataset that the tracer made beside this trace."""
         return os.path.join(os.path.dirname(self.path), os.path.basename(name)) if name else None

@@ -22,8 +22,8 @@ same 'defined_later: a comparison of files after each part' '"compared": 3' "$(g
 kept=$(grep -o 'defined_later.0.before.[0-9]*' defined_later.0 | head -1)
 printf '\77' | dd of="$kept" bs=1 seek=$(($(stat -c %s "$kept") - 1)) conv=notrunc 2> dd.out
 same 'defined_later: another value before more was defined' 'defined_later.nc, created by 4 ranks:
-  the file: before redefinition 1 heat[1,3] is 63, and 13 in the proved file
-status 1' "$(found defined_later)"
+  the file: before redefinition 1: heat[1,3] is 63, and 13 in the proved file
+status 1' "$(found defined_later | grep -v '^  remark')"
 same 'names_only: calls that PnetCDF refused' '  remark: ranks 0 to 3: enddef is left out 2 times, which PnetCDF refused with NC_ENOTINDEFINE' "$(grep remark names_only.merged)"
 same 'attribute_between: a changed attribute' '  remark: the attribute units of heat is changed later, and has its last value from the start' "$(grep remark attribute_between.merged)"
 same 'same_time: puts of equal values' '  remark: overlap of equal values: call 0 of rank 0 (put_var1_all time [0]) and call 0 of rank 1 (put_var1_all time [0]) both put to time[0]

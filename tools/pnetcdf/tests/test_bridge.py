@@ -11,6 +11,7 @@ from types import SimpleNamespace
 from bridge import asked, attributes, classic, comparing, planning, regions, words
 from bridge.answers import same_values
 from bridge.calls import Call, Filled, Repeated, kind_of
+from bridge.files import FileFindings
 from bridge.merging import ranks_word
 from bridge.traces import Stored, TraceFault, read_heads
 
@@ -158,6 +159,36 @@ class Datasets(unittest.TestCase):
             file.write(b"C")
         self.assertEqual(comparing.compare(first, second).headers, ['the attribute v:units is char "K", and char "C" in the proved file'])
 
+    def findings(self, first, second, raced, part):
+        """What is found of two datasets of v, of which the first part puts elements 0 and 1, and the second one 2 and 3."""
+        phases = [SimpleNamespace(calls=[Call("put_vara_all", var=0, region=region)]) for region in ("[0] [2]", "[2] [2]")]
+        definitions = SimpleNamespace(vars=[SimpleNamespace(name=b"v", part=0, filled=False)], is_record=lambda var: False)
+        merged = SimpleNamespace(definitions=definitions, ranks=[SimpleNamespace(phases=phases)],
+                                 coverage=lambda number, records: regions.Coverage([4], records))
+        found = FileFindings(merged, raced, part)
+        found.compare(self.made(*first), self.made(*second), "d.nc")
+        return found
+
+    def test_a_part_that_differs(self):
+        found = self.findings((1, 2, 0, 0), (1, 5, 0, 0), {}, 0)
+        self.assertEqual((found.found, found.state), (["the file: before redefinition 1: v[1] is 2, and 5 in the proved file"], "differs"))
+
+    def test_what_is_put_later_may_hold_anything(self):
+        found = self.findings((1, 2, 7, 0), (1, 2, 0, 0), {}, 0)
+        self.assertEqual((found.found, len(found.remarks), found.state), ([], 1, "layout"))
+        self.assertEqual(self.findings((1, 2, 7, 0), (1, 2, 0, 0), {}, None).found, ["the file: v[2] is 7, and 0 in the proved file"])
+
+    def test_elements_that_puts_race_for(self):
+        found = self.findings((1, 2, 3, 4), (1, 5, 3, 4), {0: {1}}, None)
+        self.assertEqual((found.found, found.state), ([], "overlap"))
+
+    def test_attributes_of_a_part(self):
+        first, second = self.made(1, 2, 3, 4), self.made(1, 2, 3, 4)
+        with open(second, "r+b") as file:
+            file.seek(HEADER.index(b"K\0\0\0"))
+            file.write(b"C")
+        self.assertEqual(comparing.compare(first, second, attributes=False).state, "layout")
+
 
 class Answers(unittest.TestCase):
     def test_gets_in_another_type(self):
@@ -228,6 +259,7 @@ class Traces(unittest.TestCase):
         with open(path + ".values", "wb") as values:
             values.write(struct.pack(">3h", 1, -2, 3))
         trace = read_heads([path])[0][0]
+        self.addCleanup(trace.close)
         stored = Stored(trace, 2, 2, "short")
         self.assertEqual((list(stored.load()), list(stored.part(1, 5).load())), ([-2, 3], [3]))
 
