@@ -13,6 +13,7 @@ from .regions import boxes_of, runs
 from .running import Runs
 
 MISMATCH = re.compile(r"ncrun: script line \d+: ranks (\d+) and (\d+) differ at collective call (\d+)")
+TOO_LONG = re.compile(r"ncrun: script line \d+: limit of (script|lines|values)")
 UNORDERED_RECORDS = 1 << 10     # of record variables so many records are looked at for puts and gets that nothing orders
 # How files are alike that have the same values.
 SAME = {"same", "zeros", "layout"}
@@ -136,6 +137,8 @@ class Diagnosis:
         number = " (part %d)" % (part.number + 1) if part.number else ""
         if said.startswith("ncrun: header") and part.number == 0:
             self.tell("no run: the dataset that was opened is one that ncrun doesn't take: %s" % said[len("ncrun: "):])
+        elif TOO_LONG.match(said):
+            self.tell("no run%s: the script is longer than ncrun takes: 2^26 bytes, 2^20 lines or 2^24 values" % number)
         else:
             self.tell("no run%s: ncrun ended with status %d: %s" % (number, done.status, said))
 

@@ -5,6 +5,7 @@ import os
 import struct
 import tempfile
 import unittest
+from types import SimpleNamespace
 
 from bridge.advice import never_written
 from bridge.findings import Diagnosis
@@ -124,6 +125,12 @@ class Merging(unittest.TestCase):
         diagnosis = Diagnosis(self.opening(BEGUN + [hung], BEGUN + CLOSED), "", None)
         diagnosis.tell_hung()
         self.assertEqual(diagnosis.found, ["hangs: call 0 of rank 0 (put_vara_all v [1] [1]) never came back"])
+
+    def test_a_script_that_is_too_long(self):
+        diagnosis = Diagnosis(self.opening(BEGUN + CLOSED, BEGUN + CLOSED), "", None)
+        said = SimpleNamespace(first_line=lambda: "ncrun: script line 1: limit of script")
+        diagnosis.tell_refused(diagnosis.merged.parts[0], SimpleNamespace(status=3, text=said))
+        self.assertEqual(diagnosis.found, ["no run: the script is longer than ncrun takes: 2^26 bytes, 2^20 lines or 2^24 values"])
 
     def test_what_is_never_written(self):
         merged = self.merged(BEGUN + [put(0)] + CLOSED, BEGUN + [put(1)] + CLOSED)
