@@ -7,7 +7,7 @@ if [ -x "$NCPLAN" ]; then
     "$tools/ncreport" --hints cb_nodes=1 --html step.html step.[0-3] > step.report
     same 'ncreport: it ends well' 0 $?
     same 'ncreport: the sums' '  4 steps ask for 64 KiB; the disk sees 0 reads of 0 bytes and 19 writes of 64.16 KiB.' "$(sed -n 2p step.report)"
-    same 'ncreport: a step' 'm0 put_vara_float_all heat 4 32 4096 4 4096 4 0 0 5 16388' "$(awk '$1 == "m0" { $NF = ""; print; exit }' step.report | sed 's/ $//')"
+    same 'ncreport: a step' 'm0 put_vara_float_all heat 4 32 4096 4 4096 4 0 0 5 16388' "$(awk '$1 == "m0" && $2 ~ "_all$" { $NF = ""; print; exit }' step.report | sed 's/ $//')"
     same 'ncreport: hints side by side' 'as it ran 3 0 0 19 65700 0
 cb_nodes=1 3 0 0 7 65700 0' "$(grep -E '^  (as it ran|cb_nodes=1) ' step.report | sed 's/^ *//; s/  */ /g')"
     same 'ncreport: advice' 2 "$(sed -n '/^Advice/,/^$/p' step.report | grep -c '^  ')"
