@@ -50,6 +50,7 @@ pub(crate) fn print_plan<R: Wait>(
 
 // The plan in the form that is asked for.
 fn print(alloc: Global, json: bool, document: &Document) -> Result<Blob, Memory>
+    requires { is_sound document.now.header.now ≡ true }
     ensures { IfOk result (λ text. text ≡ spec.document json document.now.script.now document.now.header.now document.now.length document.now.plan.now document.now.sums.now) }
 {
     if json {
