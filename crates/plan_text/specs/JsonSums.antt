@@ -3,7 +3,7 @@
 --     sums_object sums                    all sums
 use Rattle.std.specs.Prelude.{ℕ, List, [], ◌∷◌, ◌++◌}
 use Rattle.plan_sums.specs.declared.cells.Cell.{Cell}
-use Rattle.plan_sums.specs.declared.sums.Naive.{Naive}
+use Rattle.plan_sums.specs.declared.naive.Naive.{Naive}
 use Rattle.plan_sums.specs.declared.sums.Sums.{Sums}
 use Rattle.plan_sums.specs.declared.tally.Tally.{Tally}
 use Rattle.plan_text.specs.Json.{array_of, json_number, json_object, member}

@@ -17,7 +17,7 @@ use Rattle.step_plan.specs.Steps.{count_call}
 use Rattle.step_plan.specs.declared.plan.StepPlan.{StepPlan}
 use Rattle.run_plan.specs.declared.run.RunPlan.{RunPlan}
 use Rattle.plan_sums.specs.declared.cells.Cell.{Cell}
-use Rattle.plan_sums.specs.declared.sums.Naive.{Naive}
+use Rattle.plan_sums.specs.declared.naive.Naive.{Naive}
 use Rattle.plan_sums.specs.declared.sums.Sums.{Sums}
 use Rattle.plan_sums.specs.declared.tally.Tally.{Tally}
 use Rattle.plan_text.specs.StepTexts.{counted, device_lines, in_bytes, step_lines}
