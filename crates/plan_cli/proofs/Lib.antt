@@ -5,3 +5,4 @@ pub mod StopLaws
 pub mod EarlyEnds
 pub mod LineLaws
 pub mod EndLaws
+pub mod GivenEnds

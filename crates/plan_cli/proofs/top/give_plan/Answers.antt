@@ -5,6 +5,7 @@ use Rattle.plan_cli.specs.Outside.{held_of}
 use Rattle.plan_cli.specs.Words.{name_of, wanted_of}
 use Rattle.plan_cli.proofs.EndLaws.{given, stopped}
 use Rattle.plan_cli.proofs.ForetoldLaws.{planned}
+use Rattle.plan_cli.proofs.GivenEnds.{given_after_start, given_is_told, given_status, given_without_line}
 use Rattle.plan_cli.proofs.top.give_plan.Goals as goal
 
 pub print_plan-requires-clause-kept : goal.print_plan-requires-clause-kept
@@ -27,3 +28,15 @@ returns-in-Ok-print_plan-clause-ends g c =
     given (wanted_of c.args.form) _ _ _ c.give.result text ready.script own.asks own.opening.faultless
     (planned c.args.form.json left (g.S.Source.left c.begin.new.source) held ready.script ready.dataset.header ready.dataset.opening text own.asks own.taken own.opening tells)
     own.few c.give.ensures.statuses c.give.ensures.whole c.give.ensures.front c.give.ensures.sink
+
+pub returns-in-Ok-print_plan-clause-statuses : goal.returns-in-Ok-print_plan-clause-statuses
+returns-in-Ok-print_plan-clause-statuses g c = given_status c.give.result c.give.ensures.statuses
+
+pub returns-in-Ok-print_plan-clause-not_started : goal.returns-in-Ok-print_plan-clause-not_started
+returns-in-Ok-print_plan-clause-not_started g c = λ s. absurd (given_after_start c.give.result c.give.ensures.statuses s)
+
+pub returns-in-Ok-print_plan-clause-silent : goal.returns-in-Ok-print_plan-clause-silent
+returns-in-Ok-print_plan-clause-silent g c = λ s. absurd (given_is_told c.give.result c.give.ensures.statuses s)
+
+pub returns-in-Ok-print_plan-clause-told : goal.returns-in-Ok-print_plan-clause-told
+returns-in-Ok-print_plan-clause-told g c = given_without_line c.give.result _ c.give.ensures.statuses
