@@ -452,6 +452,7 @@ rank 0
 3 wait_all ok
   1 ok
 pending 0' 0004
+same 'a cancelled put needs no record: its record count' 00000001 "$(data_of cancelled.nc 4 | cut -c1-8)"
 
 run 'a request that is left is not written' left.nc 80 "$(vector 1 '' '0 iput_var1 0 v [0] 9')" 'ranks 1
 order

@@ -1,4 +1,4 @@
--- Puts and gets of two ranks, one each, and two gets and a put of one rank alone, as the tests have them.
+-- Puts and gets of two ranks, one each, the put of an only rank, and two gets and a put of one rank alone, as the tests have them.
 use Rattle.std.proofs.Common.{◌≡◌, ℕ, zero, suc, refl, sym, subst, inl, inr, List, [], ◌∷◌, true, Some}
 use Rattle.std.specs.Prelude.{slice_get}
 use Rattle.serial_spec.proofs.MemberLaws.{at_in}
@@ -90,3 +90,13 @@ pub one_own : (header : Header) (rank : ℕ) (a : Post) (batch : Batch) → is_s
 one_own header rank a batch sound e p =
     subst (λ (b : Batch). IsOwnOnce (holdings header (puts_of_batch (rank, b)))) (sym e)
     (own_once header (puts_of_batch (rank, lone a)) (one_key rank a) (all_once header (puts_of_batch (rank, lone a)) sound (one_are header rank a p)))
+
+-- ---- the put of an only rank
+
+pub only_puts : (header : Header) (a : Post) (batches : List Batch) → batches ≡ lone a ∷ [] → IsPut header a → ArePuts header (puts_in batches)
+only_puts header a batches e p = subst (λ (bs : List Batch). ArePuts header (puts_in bs)) (sym e) (one_are header 0 a p)
+
+pub only_own : (header : Header) (a : Post) (batches : List Batch) → is_sound header ≡ true → batches ≡ lone a ∷ [] → IsPut header a
+    → IsOwnOnce (holdings header (puts_in batches))
+only_own header a batches sound e p =
+    subst (λ (bs : List Batch). IsOwnOnce (holdings header (puts_in bs))) (sym e) (one_own header 0 a (lone a) sound refl p)

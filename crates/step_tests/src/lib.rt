@@ -1,4 +1,4 @@
-//! Tests of collective_round, and through it of what it stands on; and of overlap_report.
+//! Tests of collective_round, and through it of what it stands on; and of overlap_report and aggregator_rounds.
 #![tactic(auto)]
 
 #[cfg(test)]

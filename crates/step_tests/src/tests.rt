@@ -1,7 +1,8 @@
-// Whole steps on small files, and many entries that share bytes.
+// Whole steps on small files, many entries that share bytes, and one window.
 mod aggregators;
 mod overlaps;
 mod steps;
+mod windows;
 
 use nc_base::{Blob, DiskCall, Items};
 use nc_outside::{Fail, FailOp, MemDisk};

@@ -2,35 +2,43 @@
 ghost use Rattle.std.specs.Prelude.{◌≡◌, length};
 
 use super::NO_MEMORY;
-use ruled_line::{InPut, InTake, LinePut, LinePutList, LineTake, inbox, line};
+use ruled_line::{InPut, InTake, LinePut, LinePutList, LineTake, inbox, line, settle};
 use std::alloc::{AllocError, Global};
 use std::process::Abort;
 use std::sync::Wait;
 use std::thread;
 use std::thread::Threads;
 
-fn put_three<R: Wait>(rt: &R, mut end: LinePut<u64>) -> LinePut<u64> {
+fn put_three<R: Wait>(rt: &R, mut end: LinePut<u64>) -> LinePut<u64>
+    ensures { result.of ≡ end.of }
+{
     end.put(rt, 7);
     end.put(rt, 8);
     end.put(rt, 9);
     end
 }
 
-fn take_three<R: Wait>(rt: &R, mut end: LineTake<u64>) -> [u64; 3] {
+fn take_three<R: Wait>(rt: &R, mut end: LineTake<u64>) -> (LineTake<u64>, [u64; 3])
+    ensures { result.0.of ≡ end.of }
+{
     let first = end.take(rt);
     let second = end.take(rt);
     let third = end.take(rt);
-    [first, second, third]
+    (end, [first, second, third])
 }
 
-/// What one thread takes while another puts 7, 8, 9.
-fn carried<R: Threads + Wait + Sync>(rt: &R, put: LinePut<u64>, take: LineTake<u64>) -> [u64; 3] {
-    let (_, taken) = thread::join(rt, move || put_three(rt, put), move || take_three(rt, take));
+/// What one thread takes while another puts 7, 8, 9. Both ends are settled.
+fn carried<R: Threads + Wait + Sync>(rt: &R, put: LinePut<u64>, take: LineTake<u64>) -> [u64; 3]
+    requires { put.of ≡ take.of }
+{
+    let (put, back) = thread::join(rt, move || put_three(rt, put), move || take_three(rt, take));
+    let (take, taken) = back;
+    settle(put, take);
     taken
 }
 
 #[test]
-fn three_items_pass_a_line_of_room_1(rt: HostRuntime) {
+fn three_items_pass_a_line_of_room_1_that_is_settled(rt: HostRuntime) {
     let (put, take) = line::<u64>(rt.alloc(), 1).expect(&rt, NO_MEMORY);
     assert!(rt; carried(&rt, put, take) == [7, 8, 9]);
 }

@@ -119,6 +119,16 @@ fn batch_of_gets(rt: &impl Abort, alloc: Global, a: Post, b: Post) -> Batch
     }
 }
 
+/// The put of a run's only rank.
+fn only_put(rt: &impl Abort, alloc: Global, post: Post) -> Job
+    ensures { result.batches ≡ record { puts = post ∷ []; gets = [] } ∷ [] }
+{
+    let batch = batch_of_put(rt, alloc, post);
+    Job {
+        batches: one(alloc, batch).expect(rt, NO_MEMORY),
+    }
+}
+
 /// A put of each of two ranks.
 fn puts_of(rt: &impl Abort, alloc: Global, a: Post, b: Post) -> Job
     ensures { result.batches ≡ record { puts = a ∷ []; gets = [] } ∷ record { puts = b ∷ []; gets = [] } ∷ [] }
@@ -194,6 +204,39 @@ pub(super) fn put_two<R: Abort + Threads + Wait + Sync, G: Gate>(
         hints: &set.hints,
     };
     let tools = Tools { rt, alloc, gate };
+    let mut records = 0;
+    let end = put_all(&tools, disk, &dataset, &mut records, &job);
+    (end, records)
+}
+
+/// How the put of a run's only rank ends by one aggregator, and the record count then.
+pub(super) fn put_by_one<R: Abort + Threads + Wait + Sync>(
+    rt: &R,
+    alloc: Global,
+    disk: &mut MemDisk,
+    header: &Header,
+    a: Post,
+) -> (Result<PutEnd, StepErr>, u64)
+    requires { is_sound header.now ≡ true }
+{
+    is_put(rt, header, &a);
+    is_long(rt, header, disk);
+    let job = only_put(rt, alloc, a);
+    let measures = Measures::of(header);
+    let hints = Hints {
+        cb_nodes: 1,
+        ..HINTS
+    };
+    let dataset = Lent {
+        header,
+        measures: &measures,
+        hints: &hints,
+    };
+    let tools = Tools {
+        rt,
+        alloc,
+        gate: &OpenGate,
+    };
     let mut records = 0;
     let end = put_all(&tools, disk, &dataset, &mut records, &job);
     (end, records)

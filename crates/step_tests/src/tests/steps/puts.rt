@@ -1,14 +1,17 @@
-// Puts of two ranks, with their ends, their calls and their bytes.
-use super::{IN_TURN, Way, posted, put_two, small_dataset};
+// Puts of two ranks and of one, with their ends, their calls and their bytes.
+ghost use Rattle.std.specs.Prelude.{◌≡◌, true};
+ghost use Rattle.serial_spec.specs.SoundHeaders.{is_sound};
+
+use super::{IN_TURN, Way, posted, put_by_one, put_two, small_dataset};
 use crate::tests::{OLD, disk_of, has_bytes, has_calls, old_file};
 use collective_round::PutEnd;
-use nc_base::{DiskCall, NcType, OverlapRule, Pair, StepErr};
+use nc_base::{Blob, DiskCall, Header, NcType, OverlapRule, Pair, StepErr};
 use nc_outside::{Disk, FailOp, MemDisk, OpenGate};
 use std::alloc::Global;
 use std::process::Abort;
 use std::sync::Wait;
 use std::thread::Threads;
-use test_fixtures::Asked;
+use test_fixtures::{Asked, NO_LAYOUT, NO_MEMORY, dimension, laid_out, one, over_one, variable};
 
 /// The disk had these calls, and has these bytes alone behind the header.
 fn has(rt: &impl Abort, alloc: Global, disk: &MemDisk, calls: &[DiskCall], tail: &[u8]) {
@@ -182,4 +185,45 @@ fn a_refused_count_is_not_told(rt: HostRuntime) {
     ];
     has(&rt, alloc, &disk, &calls, b"\0\0\0\0\0\0ab");
     has_bytes(&rt, alloc, &disk, 0, &[OLD; 80]);
+}
+
+/// The header of a new dataset as bytes: `dim t unlimited`, `var short s [t]`, no record.
+const NEW: &[u8; 80] = b"CDF\x01\0\0\0\0\
+    \0\0\0\x0a\0\0\0\x01\0\0\0\x01t\0\0\0\0\0\0\0\
+    \0\0\0\0\0\0\0\0\
+    \0\0\0\x0b\0\0\0\x01\0\0\0\x01s\0\0\0\0\0\0\x01\0\0\0\0\
+    \0\0\0\0\0\0\0\0\0\0\0\x03\0\0\0\x04\0\0\0\x50";
+
+/// The short 7 of the fourth record.
+const SEVEN: Asked = Asked {
+    from: 3,
+    count: 1,
+    stride: 1,
+    bytes: b"\0\x07",
+};
+
+/// The header of that dataset.
+fn shorts_of_records(rt: &impl Abort, alloc: Global) -> Header
+    ensures { is_sound result ≡ true }
+{
+    let t = dimension(alloc, b't', 0).expect(rt, NO_MEMORY);
+    let s = variable(alloc, b's', NcType::Short, 0).expect(rt, NO_MEMORY);
+    let vars = one(alloc, s).expect(rt, NO_MEMORY);
+    let header = over_one(alloc, t, vars).expect(rt, NO_MEMORY);
+    laid_out(header).expect(rt, NO_LAYOUT)
+}
+
+// The same of a new dataset, of which one rank puts a record.
+#[test]
+fn a_refused_count_leaves_a_new_dataset_without_a_record(rt: HostRuntime) {
+    let alloc = rt.alloc();
+    let header = shorts_of_records(&rt, alloc);
+    let new = Blob::from_slice(alloc, NEW).expect(&rt, NO_MEMORY);
+    let mut disk = disk_of(&rt, alloc, new, &[(FailOp::Store, 4)]);
+    let seven = posted(&rt, alloc, &SEVEN);
+    let (end, records) = put_by_one(&rt, alloc, &mut disk, &header, seven);
+    assert!(rt; end == Err(StepErr::Disk) && records == 0);
+    let calls = [DiskCall::Grow(88), DiskCall::Store(86, 2)];
+    has(&rt, alloc, &disk, &calls, b"\0\0\0\0\0\0\0\x07");
+    has_bytes(&rt, alloc, &disk, 0, NEW);
 }
