@@ -12,7 +12,7 @@ use run_plan::{RunPlan, plan_run};
 use std::alloc::Global;
 use std::process::Abort;
 use std::sync::Wait;
-use var_layout::file_end;
+use var_layout::end_of;
 
 /// What a test says that has no memory.
 pub(crate) const NO_MEMORY: &str = "no memory";
@@ -22,7 +22,8 @@ pub(crate) fn planned<R: Abort + Wait>(rt: &R, alloc: Global, text: &[u8]) -> Ru
     let script = script_of(rt, alloc, text);
     let header = header_of(rt, alloc, &script);
     let opening = open_fresh(alloc, &script, &header).expect(rt, NO_MEMORY);
-    assert!(rt; file_end(&header, header.records) <= opening.size);
+    let end = end_of(&header, header.records);
+    assert!(rt; end <= opening.size);
     plan_run(rt, alloc, &header, &script, opening).expect(rt, NO_MEMORY)
 }
 
