@@ -283,7 +283,7 @@ terminal() {
     "$root/.ci/terminal.py" "$@" 2>&1
 }
 same 'a run on a terminal' '\r\x1b[Kncrun: 0 of at most 1 calls\r\x1b[K' "$(terminal 1.2 answered "$program" explained.nc < script)"
-same 'its text' "$text" "$(cat answered)"
+same 'its text, as without a terminal' "$("$program" explained.nc < script 2> /dev/null)" "$(cat answered)"
 same 'a run that is told on the same terminal' '\r\x1b[Kncrun: 0 of at most 1 calls\r\x1b[Kranks 1\r\n' \
     "$(terminal 1.2 - "$program" explained.nc < script | sed 's/\(ranks 1\\r\\n\).*/\1/')"
 printf '%s\n' "$(call '1 iget_var 1 v')" > posting
