@@ -1,5 +1,5 @@
 -- A number at the front of a line.
-use Rattle.std.proofs.Common.{◌≡◌, ℕ, zero, suc, ◌+◌, ◌-◌, ◌≤◌, ◌<◌, ◌==◌, List, [], ◌∷◌, length, take, drop, Bool, true, false, not, Option, Some, None, ℤ, refl, sym, ap, ◌∙◌, arith, cond, option_map, nat_lt, nat_le, ◌&&◌, ◌^◌, pos, neg_ℤ}
+use Rattle.std.proofs.Common.{◌≡◌, ℕ, zero, suc, ◌+◌, ◌-◌, ◌≤◌, ◌<◌, ◌==◌, List, [], ◌∷◌, length, take, drop, Bool, true, false, Option, Some, None, ℤ, refl, sym, ap, ◌∙◌, arith, option_map, nat_lt, nat_le, ◌&&◌, ◌^◌, pos, neg_ℤ}
 use Rattle.std.specs.List.{position_or_len, list_all}
 use Rattle.std.proofs.lemmas.Bool.{and_parts}
 use Rattle.std.proofs.lemmas.Bool.Decides.{nat_tests}
@@ -8,7 +8,7 @@ use Rattle.list_laws.proofs.Truth.{and_first, and_second}
 use Rattle.std.proofs.lemmas.List.{take_all}
 use Rattle.std.proofs.lemmas.Grind.{common_steps}
 use Rattle.script_spec.proofs.NumeralLaws.{digit_bounds, tens}
-use Rattle.script_spec.specs.ScriptWords.{Word, Plain, is_blank, is_digit, is_digits, begins_blank, digits_value, natural_of, number_of_text, words, after_blanks}
+use Rattle.script_spec.specs.ScriptWords.{is_blank, is_digit, is_digits, begins_blank, digits_value, natural_of, number_of_text, words, after_blanks}
 use Rattle.script_words.proofs.WordLaws.{takes_plain}
 use Rattle.script_words.specs.Given.{first_for}
 
