@@ -1,6 +1,6 @@
 -- Words on a line.
-use Rattle.std.proofs.Common.{◌≡◌, ℕ, zero, suc, ◌+◌, ◌-◌, ◌/◌, ◌%◌, ◌<◌, ◌≤◌, List, [], ◌∷◌, ◌++◌, length, map, take, get_or, sym, ap, ◌∙◌, inl, inr, ◌⊎◌, Some, None, arith}
-use Rattle.std.proofs.lemmas.List.{append-nil, append_assoc, flat_map_more, map_more, take_all, take_more}
+use Rattle.std.proofs.Common.{◌≡◌, ℕ, zero, suc, ◌+◌, ◌-◌, ◌/◌, ◌%◌, ◌<◌, ◌≤◌, List, [], ◌∷◌, ◌++◌, length, map, take, drop, set, get_or, sym, ap, ◌∙◌, inl, inr, ◌⊎◌, Some, None, arith}
+use Rattle.std.proofs.lemmas.List.{append-nil, drop-set, append_assoc, flat_map_more, map_more, take_all, take_more}
 use Rattle.std.proofs.lemmas.List.Concat.{flat_map-append}
 use Rattle.std.proofs.lemmas.Option.{slice_get_cases, same_Some}
 use Rattle.std.specs.Prelude.{slice_get}
@@ -42,6 +42,14 @@ hex_last zero x h = absurd (omega arith)
 hex_last (suc n) x h =
     let e : suc n - 1 ≡ n = omega arith in
     ap (λ (m : ℕ). hex m (x / 16) ++ hex_digit (x % 16) ∷ []) (sym e)
+
+-- the last digit goes before the digits that are written
+pub hex_next : (n x : ℕ) (text : List ℕ) (at d : ℕ) → 0 < n → at < length text → d ≡ hex_digit (x % 16) → hex n x ++ drop (at + 1) text ≡ hex (n - 1) (x / 16) ++ drop at (set text at d)
+hex_next n x text at d some within digit =
+    rw (drop-set text at d within)
+    (ap (λ (t : List ℕ). t ++ drop (at + 1) text) (hex_last n x some)
+    ∙ append_assoc (hex (n - 1) (x / 16)) (hex_digit (x % 16) ∷ []) (drop (at + 1) text)
+    ∙ ap (λ (c : ℕ). hex (n - 1) (x / 16) ++ c ∷ drop (at + 1) text) (sym digit))
 
 -- the words of a call's line
 pub call_words : (n c : List ℕ) (o x v : List (List ℕ))

@@ -1,5 +1,5 @@
 // Words and values.
-ghost use Rattle.std.specs.Prelude.{◌≡◌, ◌<◌, ◌++◌, ◌∷◌, OnOk, decimal, map};
+ghost use Rattle.std.specs.Prelude.{◌≡◌, ◌<◌, ◌≤◌, ◌+◌, ◌++◌, ◌∷◌, OnOk, decimal, drop, map};
 ghost use Rattle.std.specs.Fmt.{signed_decimal};
 ghost use Rattle.script_spec.specs.Texts.{call_word, code_word, form_word, hex, hex_digit, kind_word, quoted, text_char, text_line, type_word, value_words, with_all};
 ghost use Rattle.printed_text.specs.Spaced.{spaced};
@@ -52,16 +52,38 @@ pub fn push_signed(out: &mut Vec<u8>, number: i128) -> Result<(), Memory>
     push_bytes(out, Buffer::new().format(number).as_bytes())
 }
 
+/// A blank, an x and the most digits that a pattern has.
+const PATTERN_LEN: usize = 18;
+
 /// The last `digits` hexadecimal digits of a number, with capital letters.
 pub fn push_hex(out: &mut Vec<u8>, digits: u8, number: u64) -> Result<(), Memory>
     ensures { OnOk result (out.new.items ≡ out.old.items ++ hex digits number) }
 {
-    if digits == 0 {
-        return Ok(());
+    if digits <= 16 {
+        let mut text = [0; PATTERN_LEN];
+        let start = write_hex(&mut text, digits, number);
+        return push_bytes(out, &text[start..]);
     }
     push_hex(out, digits - 1, number / 16)?;
     out.push(hex_digit((number % 16) as u8))?;
     Ok(())
+}
+
+/// Writes the last `digits` hexadecimal digits of a number at the end of the text, and returns where they start.
+fn write_hex(text: &mut [u8; PATTERN_LEN], digits: u8, number: u64) -> usize
+    requires { digits ≤ 16 }
+    ensures start { result + digits ≡ 18 }
+    ensures written { drop result text.new ≡ hex digits number }
+{
+    let start = PATTERN_LEN - usize::from(digits);
+    let mut rest = number;
+    let mut at = PATTERN_LEN;
+    while at > start {
+        at -= 1;
+        text[at] = hex_digit((rest % 16) as u8);
+        rest /= 16;
+    }
+    start
 }
 
 fn hex_digit(digit: u8) -> u8
@@ -247,8 +269,22 @@ fn push_patterns(out: &mut Vec<u8>, digits: u8, patterns: &BitList) -> Result<()
     ensures { OnOk result (out.new.items ≡ out.old.items ++ spaced (map (λ n. 120 ∷ hex digits n) patterns.now)) }
 {
     for k in 0..patterns.len() {
-        push_bytes(out, b" x")?;
-        push_hex(out, digits, patterns.at(k))?;
+        push_pattern(out, digits, patterns.at(k))?;
     }
     Ok(())
+}
+
+/// A blank, an x and so many digits.
+fn push_pattern(out: &mut Vec<u8>, digits: u8, pattern: u64) -> Result<(), Memory>
+    ensures { OnOk result (out.new.items ≡ out.old.items ++ 32 ∷ 120 ∷ hex digits pattern) }
+{
+    if digits > 16 {
+        push_bytes(out, b" x")?;
+        return push_hex(out, digits, pattern);
+    }
+    let mut text = [0; PATTERN_LEN];
+    let start = write_hex(&mut text, digits, pattern);
+    text[start - 1] = b'x';
+    text[start - 2] = b' ';
+    push_bytes(out, &text[start - 2..])
 }

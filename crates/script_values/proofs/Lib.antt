@@ -2,3 +2,4 @@ pub mod FoundLaws
 mod FitLaws
 mod RangeLaws
 mod PartLaws
+mod FrontLaws

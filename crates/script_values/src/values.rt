@@ -1,18 +1,18 @@
 // The values of a call, or of an attribute of a type.
-ghost use Rattle.std.specs.Prelude.{◌≡◌, ◌≤◌, ◌<◌, ◌+◌, ◌^◌, ◌∷◌, OnOk, IfOk, ◌-◌, ◌==◌, Ok};
+ghost use Rattle.std.specs.Prelude.{◌≡◌, ◌≤◌, ◌<◌, ◌+◌, ◌^◌, ◌∷◌, [], OnOk, OnSome, IfOk, IfSome, ◌-◌, ◌==◌, length, Ok, Some};
 ghost use Rattle.nc_base.specs.Values.{count_of};
 ghost use Rattle.script_spec.specs.ScriptWords.{Plain};
-ghost use Rattle.script_spec.specs.ScriptValues.{number_for, pattern_for, one_value, text_values, number_values, bits_values, begins_x, listed_kind, listed_values, values};
-ghost use Rattle.script_words.specs.Given.{Gives, word_of};
+ghost use Rattle.script_spec.specs.ScriptValues.{number_for, pattern_for, one_value, text_values, number_values, bits_values, begins_x, listed_kind, listed_values, values, each_value, within_limits};
+ghost use Rattle.script_words.specs.Given.{Gives, first_for, word_of};
 
 use crate::fits::{may_have_bits, may_have_number};
 use crate::limits::{may_be_text, within_limits};
 use crate::sequences::{seq_values, seqx_values};
-use nc_base::{BitList, Blob, NcType, NumberList, ScriptKind, Values};
+use nc_base::{BitList, Blob, MAX_ELEMENTS, NcType, NumberList, ScriptKind, Values};
 use script_words::numbers::{bits_of_text, number_of_text};
 use script_words::word_forms::{bare, no_more};
 use script_words::{ReadErr, Token, Words};
-use std::alloc::Global;
+use std::alloc::{AllocError, Global};
 
 fn number_for(kind: Option<NcType>, word: &[u8]) -> Option<i128>
     ensures { result ≡ number_for kind word.now }
@@ -77,6 +77,74 @@ fn text_values(
     Ok(Values::Text(Blob::from_vec(text)))
 }
 
+/// Room for the values of the rest of a line, or for some of them.
+fn room_for(words: &Words<'_>) -> usize {
+    words.estimate().min(MAX_ELEMENTS as usize)
+}
+
+/// The next number, after `n` values of its line, and the words behind it, where it is read in one pass and has room in 32 bits.
+/// Where it doesn't, or may not stand here, `one_number` says more.
+#[tactic(auto, using(crate::proofs::FrontLaws::may_stand))]
+fn narrow_number<'a>(
+    kind: Option<NcType>,
+    before: u64,
+    n: u64,
+    words: &Words<'a>,
+) -> Option<(i32, Words<'a>)>
+    requires { n ≤ 2 ^ 24 }
+    ensures read { IfSome result (λ x. first_for (number_for kind) words.now ≡ Some (x.0, x.1)) }
+    ensures limit { OnSome result (within_limits kind before (n + 1) ≡ Ok tt) }
+    ensures bound { OnSome result (before + n < 2 ^ 24) }
+{
+    let (number, after) = words.short_number()?;
+    let number = i32::try_from(number).ok()?;
+    within_limits(kind, before, n + 1).ok()?;
+    if may_have_number(kind, i128::from(number)) {
+        Some((number, after))
+    } else {
+        None
+    }
+}
+
+/// Takes the numbers in front that are read in one pass and have room in 32 bits.
+#[tactic(auto, using(crate::proofs::FrontLaws::first_found, crate::proofs::FrontLaws::first_shorter))]
+fn narrow_numbers(
+    alloc: Global,
+    kind: Option<NcType>,
+    before: u64,
+    words: &mut Words<'_>,
+) -> Result<Vec<i32>, AllocError>
+    requires { before ≤ 2 ^ 24 }
+    ensures read { IfOk result (λ front. each_value (number_for kind) kind before front.items words.new ≡ each_value (number_for kind) kind before [] words.old) }
+    ensures bound { IfOk result (λ front. before + length front.items ≤ 2 ^ 24) }
+{
+    let mut front = Vec::with_capacity(alloc, room_for(words))?;
+    while let Some((number, after)) = narrow_number(kind, before, front.len() as u64, words) {
+        front.push(number)?;
+        *words = after;
+    }
+    Ok(front)
+}
+
+/// Reads numbers to the line's end, after those that were found on it.
+fn numbers_after(
+    kind: Option<NcType>,
+    before: u64,
+    front: NumberList,
+    words: &mut Words<'_>,
+) -> Result<NumberList, ReadErr>
+    requires { before + length front ≤ 2 ^ 24 }
+    ensures read { Gives (λ zs. zs) result (each_value (number_for kind) kind before front words.old) }
+    ensures bound { IfOk result (λ zs. before + length zs ≤ 2 ^ 24) }
+{
+    let mut found = front;
+    while let Some(word) = words.take()? {
+        let number = one_number(kind, before, found.len() as u64, word)?;
+        found.push(number)?;
+    }
+    Ok(found)
+}
+
 /// Reads numbers to the line's end.
 fn number_values(
     alloc: Global,
@@ -88,12 +156,9 @@ fn number_values(
     ensures read { Gives (λ vs. vs) result (number_values kind before words.old) }
     ensures bound { IfOk result (λ vs. before + count_of vs ≤ 2 ^ 24) }
 {
-    let mut found = NumberList::new(alloc);
-    while let Some(word) = words.take()? {
-        let number = one_number(kind, before, found.len() as u64, word)?;
-        found.push(number)?;
-    }
-    Ok(Values::Numbers(found))
+    let front = narrow_numbers(alloc, kind, before, words)?;
+    let numbers = numbers_after(kind, before, NumberList::from_narrow(front), words)?;
+    Ok(Values::Numbers(numbers))
 }
 
 /// Reads patterns of bits to the line's end.
@@ -107,7 +172,7 @@ fn bits_values(
     ensures read { Gives (λ vs. vs) result (bits_values kind before words.old) }
     ensures bound { IfOk result (λ vs. before + count_of vs ≤ 2 ^ 24) }
 {
-    let mut found = BitList::new(alloc);
+    let mut found = BitList::with_capacity(alloc, room_for(words))?;
     while let Some(word) = words.take()? {
         let pattern = one_pattern(kind, before, found.len() as u64, word)?;
         found.push(pattern)?;

@@ -1,5 +1,6 @@
 mod WordLaws
 mod NumberLaws
+mod FrontLaws
 pub mod NameLaws
 mod TextLaws
 pub mod LineLaws

@@ -1,7 +1,9 @@
 -- The first line of a text.
-use Rattle.std.proofs.Common.{◌≡◌, ◌≢◌, ℕ, suc, ◌+◌, ◌<◌, ◌≤◌, List, [], ◌∷◌, length, take, drop, Bool, true, false, not, Some, None, refl, ap, ◌∙◌, arith, position, cond}
+use Rattle.std.proofs.Common.{◌≡◌, ◌≢◌, ℕ, suc, ◌+◌, ◌<◌, ◌≤◌, List, [], ◌∷◌, length, take, drop, Bool, true, false, not, Option, Some, None, refl, ap, ◌∙◌, arith, position, cond, get_or}
 use Rattle.std.proofs.lemmas.List.Splits.{slice_split_first, length-slice_split}
-use Rattle.std.proofs.lemmas.List.Sums.{prefix_len-le-length, count_by-le-length}
+use Rattle.std.proofs.lemmas.List.Sums.{prefix_len-le-length, count_by-le-length, position_or_len_is}
+use Rattle.std.proofs.lemmas.Bool.{false_from_ne_true}
+use Rattle.memchr.specs.Find.{IsFirstByte, is_byte}
 use Rattle.std.specs.List.{position_or_len, slice_split, onto_first, before_first, after_first}
 use Rattle.std.proofs.lemmas.List.FromFn.{length-enumerate_from}
 use Rattle.script_spec.proofs.TextLaws.{first_line_kept}
@@ -10,6 +12,16 @@ use Rattle.script_spec.specs.ScriptWords.{text_lines, is_newline, without_empty_
 -- what `position` found
 pub found_at : {X : Type 0} (p : X → Bool) (xs : List X) (n : ℕ) → position p xs ≡ Some n → (position_or_len p xs ≡ n) × (n < length xs)
 found_at p xs n h = grind (arith, prefix_len-le-length (λ x. not (p x)) xs)
+
+-- what a search for newlines finds
+pub first_newline : (text : List ℕ) (r : Option ℕ) → IsFirstByte (is_byte 10) text r → r ≡ position is_newline text
+first_newline text None h =
+    let none : position_or_len is_newline text ≡ length text = position_or_len_is is_newline text (length text) 0 (omega arith) (λ k lt. false_from_ne_true (is_newline (get_or text k 0)) (h k (omega arith) lt)) (λ lt. absurd (omega arith)) in
+    grind (arith, none)
+first_newline text (Some k) h =
+    let first = h.0 in
+    let here : position_or_len is_newline text ≡ k = position_or_len_is is_newline text k 0 (omega arith) (λ j lt. false_from_ne_true (is_newline (get_or text j 0)) (first.before j (omega arith) lt)) (λ lt. h.1) in
+    grind (arith, here, first.high)
 
 pub lines_cut : (text : List ℕ) (n : ℕ) → position is_newline text ≡ Some n → text_lines text ≡ take n text ∷ text_lines (drop (n + 1) text)
 lines_cut text n h =

@@ -1,5 +1,5 @@
 -- What the readers give, in the words of the definitions.
-use Rattle.std.specs.Prelude.{◌≡◌, List, [], ◌∷◌, Option, Some, None, Result, Ok, Err}
+use Rattle.std.specs.Prelude.{◌≡◌, List, [], ◌∷◌, Option, Some, None, Result, Ok, Err, ℕ, option_map}
 use Rattle.nc_base.specs.declared.errors.ScriptKind.{ScriptKind}
 use Rattle.nc_base.specs.declared.errors.ScriptErr.{ScriptErr}
 use Rattle.script_words.specs.declared.fault.ReadErr.{ReadErr}
@@ -41,3 +41,8 @@ TakesWord (Some t) old new = old ≡ word_of t ∷ new
 abbrev pub TakesFirst : {X Y : Type 0} → (X → Y) → Option X → List Y → List Y → Type 0
 TakesFirst view None old new = old ≡ []
 TakesFirst view (Some x) old new = old ≡ view x ∷ new
+
+-- what the first word says, and the words behind it
+abbrev pub first_for : {A : Type 0} → (List ℕ → Option A) → List Word → Option (A × List Word)
+first_for f (Plain w ∷ ws) = option_map (λ x. (x, ws)) (f w)
+first_for f _ = None

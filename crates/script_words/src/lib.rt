@@ -4,6 +4,7 @@
 #![tactic(auto)]
 
 mod fault;
+mod line_numbers;
 mod lines;
 mod names;
 pub mod numbers;

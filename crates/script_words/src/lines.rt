@@ -6,6 +6,7 @@ ghost use Rattle.script_words.specs.Given.{TakesFirst, word_of};
 ghost use Rattle.script_words.specs.Seen.{line_seen};
 
 use crate::words::{Token, Words};
+use memchr::memchr;
 use std::alloc::{AllocError, Global};
 use std::marker::Model;
 
@@ -55,10 +56,11 @@ impl<'a> TextLines<'a> {
     }
 }
 
+#[tactic(auto, using(crate::proofs::LineLaws::first_newline))]
 fn first_newline(text: &[u8]) -> Option<usize>
     ensures { result ≡ position is_newline text.now }
 {
-    text.iter().position(|c| *c == b'\n')
+    memchr(b'\n', text)
 }
 
 /// The first line of a text, without its newline, and what follows.

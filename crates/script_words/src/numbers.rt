@@ -5,9 +5,10 @@ ghost use Rattle.script_spec.specs.ScriptWords.{is_digit, digits_value, is_digit
 ghost use Rattle.script_spec.specs.ScriptDefinitions.{number_within};
 ghost use Rattle.script_spec.specs.ScriptCalls.{id_of_text};
 
+use crate::line_numbers::front_digits;
 use crate::texts::hex_value;
 
-fn is_digit(c: u8) -> bool
+pub(crate) fn is_digit(c: u8) -> bool
     ensures { result ≡ is_digit c }
 {
     c.is_ascii_digit()
@@ -44,7 +45,19 @@ fn digits_value(digits: &[u8]) -> u128
     n
 }
 
+#[tactic(auto, using(crate::proofs::FrontLaws::all_digits_say))]
 fn natural_of(word: &[u8]) -> Option<u128>
+    ensures value { result ≡ natural_of word.now }
+    ensures bound { IfSome result (λ n. n < 10 ^ 20) }
+{
+    let (value, len) = front_digits(word);
+    if len > 0 && len == word.len() {
+        return Some(u128::from(value));
+    }
+    long_natural(word)
+}
+
+fn long_natural(word: &[u8]) -> Option<u128>
     ensures value { result ≡ natural_of word.now }
     ensures bound { IfSome result (λ n. n < 10 ^ 20) }
 {

@@ -1,10 +1,12 @@
 // The words of a line, one after the other.
-ghost use Rattle.std.specs.Prelude.{◌≡◌, [], IfOk, position, ◌≤◌, length, not};
+ghost use Rattle.std.specs.Prelude.{◌≡◌, [], IfOk, IfSome, Some, position, ◌≤◌, length, not};
 ghost use Rattle.std.specs.List.{position_or_len};
-ghost use Rattle.script_spec.specs.ScriptWords.{is_blank, begins_blank, quoted_word, after_blanks, text_from, Between, words};
-ghost use Rattle.script_words.specs.Given.{word_of, TakesWord};
+ghost use Rattle.script_spec.specs.ScriptWords.{is_blank, begins_blank, quoted_word, after_blanks, text_from, Between, number_of_text, words};
+ghost use Rattle.script_words.specs.Given.{word_of, first_for, TakesWord};
 
+use crate::line_numbers::short_number;
 use crate::texts::text;
+use memchr::memchr_iter;
 use std::alloc::{AllocError, Global};
 use std::marker::Model;
 
@@ -92,6 +94,28 @@ impl<'a> Words<'a> {
         self.alloc
     }
 
+    /// About how many words there are: as many as in a line with one space between words.
+    pub fn estimate(&self) -> usize {
+        memchr_iter(b' ', self.rest).count().saturating_add(1)
+    }
+
+    /// The number that the next word says, and the words behind it, where it has few digits. Where there is none, `take` has the word.
+    #[inline]
+    #[tactic(auto, using(crate::proofs::FrontLaws::number_first))]
+    pub fn short_number(&self) -> Option<(i64, Words<'a>)>
+        ensures { IfSome result (λ n. first_for number_of_text self.now ≡ Some (n.0, n.1)) }
+    {
+        let line = after_blanks(self.rest);
+        let (number, rest) = short_number(line)?;
+        Some((
+            number,
+            Words {
+                alloc: self.alloc,
+                rest,
+            },
+        ))
+    }
+
     /// The next word.
     #[tactic(auto, using(crate::proofs::WordLaws::takes_none, crate::proofs::WordLaws::takes_quoted, crate::proofs::WordLaws::takes_plain))]
     pub fn take(&mut self) -> Result<Option<Token<'a>>, AllocError>
@@ -128,7 +152,7 @@ fn quoted(alloc: Global, rest: &[u8]) -> Result<(Token<'_>, &[u8]), AllocError>
     }
 }
 
-fn begins_blank(line: &[u8]) -> bool
+pub(crate) fn begins_blank(line: &[u8]) -> bool
     ensures { result ≡ begins_blank line.now }
 {
     match line {

@@ -7,6 +7,7 @@ pub mod MeetPosts
 pub mod MeetSolo
 pub mod MeetJob
 pub mod MeetFile
+pub mod HalfLaws
 pub mod MeetHear
 pub mod MeetOffers
 pub mod MeetStep

@@ -50,7 +50,7 @@ one_raises s puts known (inr e) = inr (ap (needed_now s) e ∙ no_need s)
 
 -- ---- the count is raised by the puts, and then to what the ranks know
 
-not_below : (a b : ℕ) → b ≤ a → nat_lt a b ≡ false
+pub not_below : (a b : ℕ) → b ≤ a → nat_lt a b ≡ false
 not_below a b h = grind (arith, nat_tests)
 
 pub raised_none : (s : Setting) (c : Counted) (n : ℕ) → n ≤ c.records → raised s c n ≡ c

@@ -2,6 +2,7 @@
 //! of all, the step of one rank alone, and the end by the ends of all ranks.
 #![tactic(auto)]
 
+mod halves;
 mod in_turn;
 mod lent;
 mod mark;

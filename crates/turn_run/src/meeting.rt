@@ -24,11 +24,12 @@ ghost use Rattle.turn_run.specs.Steps.{batches_of, held_offers, known_of, met, m
 ghost use Rattle.turn_run.specs.Setups.{all_at_next, setting_in, stage_at, AllSayUpTo, HasLedOn, HasToldOn, IsCutOff, point_at};
 ghost use Rattle.var_layout.specs.Measures.{AreMeasures};
 
+use crate::halves::{get_half, put_half};
 use crate::lent::{Lent, Progress};
 use crate::mark::note_step;
 use crate::runners::Runner;
 use crate::solo::told_pair;
-use collective_round::{Dataset, get_all, put_all, raise_records};
+use collective_round::{Dataset, raise_records};
 use nc_base::{
     Batch, BatchList, GotTable, Job, Mark, MeetKind, Memory, Offer, OfferKind, Pair, Reply, StepErr,
 };
@@ -187,9 +188,9 @@ pub fn meet_on_file<R: Threads + Wait + Sync, D: Disk, G: Gate>(
     ensures cause { HasStepCause (D.faults disk.old) (D.faults disk.new) result }
 {
     let _size = disk.size();
-    let end = put_all(tools, disk, dataset, records, job)?;
+    let end = put_half(tools, disk, dataset, records, job)?;
     raise_records(tools.alloc, disk, dataset.header, records, known)?;
-    let table = get_all(tools, disk, dataset, job)?;
+    let table = get_half(tools, disk, dataset, job)?;
     Ok((told_pair(end), table))
 }
 

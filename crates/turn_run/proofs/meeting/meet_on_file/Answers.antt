@@ -10,20 +10,20 @@ use Rattle.list_laws.proofs.Results.{on_err}
 no_less : (a b : ℕ) → b ≡ a → a ≤ b
 no_less a b e = omega arith
 
-pub put_all-requires-clause-records : goal.put_all-requires-clause-records
-put_all-requires-clause-records g c κs within = count_small c.args.dataset.now.header.now _ c.args.records.now c.requires.records
+pub put_half-requires-clause-records : goal.put_half-requires-clause-records
+put_half-requires-clause-records g c κs within = count_small c.args.dataset.now.header.now _ c.args.records.now c.requires.records
 
-pub put_all-requires-clause-long : goal.put_all-requires-clause-long
-put_all-requires-clause-long g c κs within = count_begins c.args.dataset.now.header.now _ c.args.records.now c.requires.records
+pub put_half-requires-clause-long : goal.put_half-requires-clause-long
+put_half-requires-clause-long g c κs within = count_begins c.args.dataset.now.header.now _ c.args.records.now c.requires.records
 
 pub returns-in_err-end-clause-count : goal.returns-in_err-end-clause-count
 returns-in_err-end-clause-count g c =
-    count_still c.args.dataset.now.header.now _ _ c.args.records.now c.put_all.new.records c.requires.records c.in_err-end.ensures.grown c.in_err-end.ensures.kept
+    count_still c.args.dataset.now.header.now _ _ c.args.records.now c.put_half.new.records c.requires.records c.in_err-end.ensures.grown c.in_err-end.ensures.kept
 
 pub raise_records-requires-clause-records : goal.raise_records-requires-clause-records
 raise_records-requires-clause-records g c κs within =
-    count_small c.args.dataset.now.header.now _ c.put_all.new.records
-    (round_count (setting c.args.dataset.now.header.now c.args.dataset.now.hints.now) _ _ c.args.records.now c.put_all.new.records (puts_in c.args.job.now.batches) c.requires.sound c.requires.job.puts
+    count_small c.args.dataset.now.header.now _ c.put_half.new.records
+    (round_count (setting c.args.dataset.now.header.now c.args.dataset.now.hints.now) _ _ c.args.records.now c.put_half.new.records (puts_in c.args.job.now.batches) c.requires.sound c.requires.job.puts
     c.requires.records c.in_ok-end.ensures.grown c.in_ok-end.ensures.long c.in_ok-end.ensures.records)
 
 pub raise_records-requires-clause-needed : goal.raise_records-requires-clause-needed
@@ -35,61 +35,61 @@ raise_records-requires-clause-long g c κs within =
 
 pub returns-in_err-raise_records-clause-count : goal.returns-in_err-raise_records-clause-count
 returns-in_err-raise_records-clause-count g c =
-    let round = round_count (setting c.args.dataset.now.header.now c.args.dataset.now.hints.now) _ _ c.args.records.now c.put_all.new.records (puts_in c.args.job.now.batches) c.requires.sound c.requires.job.puts
+    let round = round_count (setting c.args.dataset.now.header.now c.args.dataset.now.hints.now) _ _ c.args.records.now c.put_half.new.records (puts_in c.args.job.now.batches) c.requires.sound c.requires.job.puts
     c.requires.records c.in_ok-end.ensures.grown c.in_ok-end.ensures.long c.in_ok-end.ensures.records in
-    count_still c.args.dataset.now.header.now _ _ c.put_all.new.records c.raise_records.new.records round (no_less _ _ c.in_err-raise_records.ensures.len) c.in_err-raise_records.ensures.kept
+    count_still c.args.dataset.now.header.now _ _ c.put_half.new.records c.raise_records.new.records round (no_less _ _ c.in_err-raise_records.ensures.len) c.in_err-raise_records.ensures.kept
 
 pub returns-in_err-table-clause-count : goal.returns-in_err-table-clause-count
 returns-in_err-table-clause-count g c =
     let s = setting c.args.dataset.now.header.now c.args.dataset.now.hints.now in
-    let round = round_count s _ _ c.args.records.now c.put_all.new.records (puts_in c.args.job.now.batches) c.requires.sound c.requires.job.puts
+    let round = round_count s _ _ c.args.records.now c.put_half.new.records (puts_in c.args.job.now.batches) c.requires.sound c.requires.job.puts
     c.requires.records c.in_ok-end.ensures.grown c.in_ok-end.ensures.long c.in_ok-end.ensures.records in
-    met_count s _ _ _ c.put_all.new.records c.raise_records.new.records c.args.known round c.in_ok-end.ensures.grown c.requires.known (c.in_err-table.ensures.len ∙ c.in_ok-raise_records.ensures.len) c.in_ok-raise_records.ensures.records
+    met_count s _ _ _ c.put_half.new.records c.raise_records.new.records c.args.known round c.in_ok-end.ensures.grown c.requires.known (c.in_err-table.ensures.len ∙ c.in_ok-raise_records.ensures.len) c.in_ok-raise_records.ensures.records
 
 pub returns-clause-bytes : goal.returns-clause-bytes
 returns-clause-bytes g c =
-    met_bytes (setting c.args.dataset.now.header.now c.args.dataset.now.hints.now) c.args.job.now.batches c.args.records.now c.put_all.new.records c.args.known _ _ _ _
+    met_bytes (setting c.args.dataset.now.header.now c.args.dataset.now.hints.now) c.args.job.now.batches c.args.records.now c.put_half.new.records c.args.known _ _ _ _
     c.in_ok-end.ensures.bytes c.in_ok-end.ensures.records c.in_ok-raise_records.ensures.bytes c.in_ok-table.ensures.bytes
 
 pub returns-clause-calls : goal.returns-clause-calls
 returns-clause-calls g c one =
-    met_called c.args.dataset.now.hints.now (setting c.args.dataset.now.header.now c.args.dataset.now.hints.now) c.args.job.now.batches c.args.records.now c.put_all.new.records c.args.known _ _ _ _ _ _ one
+    met_called c.args.dataset.now.hints.now (setting c.args.dataset.now.header.now c.args.dataset.now.hints.now) c.args.job.now.batches c.args.records.now c.put_half.new.records c.args.known _ _ _ _ _ _ one
     c.size-size.ensures.told c.in_ok-end.ensures.calls c.in_ok-end.ensures.records c.in_ok-raise_records.ensures.calls c.in_ok-table.ensures.calls
 
 pub returns-clause-count : goal.returns-clause-count
 returns-clause-count g c =
     let s = setting c.args.dataset.now.header.now c.args.dataset.now.hints.now in
-    let round = round_count s _ _ c.args.records.now c.put_all.new.records (puts_in c.args.job.now.batches) c.requires.sound c.requires.job.puts
+    let round = round_count s _ _ c.args.records.now c.put_half.new.records (puts_in c.args.job.now.batches) c.requires.sound c.requires.job.puts
     c.requires.records c.in_ok-end.ensures.grown c.in_ok-end.ensures.long c.in_ok-end.ensures.records in
-    met_count s _ _ _ c.put_all.new.records c.raise_records.new.records c.args.known round c.in_ok-end.ensures.grown c.requires.known (c.in_ok-table.ensures.len ∙ c.in_ok-raise_records.ensures.len) c.in_ok-raise_records.ensures.records
+    met_count s _ _ _ c.put_half.new.records c.raise_records.new.records c.args.known round c.in_ok-end.ensures.grown c.requires.known (c.in_ok-table.ensures.len ∙ c.in_ok-raise_records.ensures.len) c.in_ok-raise_records.ensures.records
 
 pub returns-in_err-end-clause-refused : goal.returns-in_err-end-clause-refused
 returns-in_err-end-clause-refused g c =
-    on_err _ (round_met_of (setting c.args.dataset.now.header.now c.args.dataset.now.hints.now) c.args.job.now.batches c.args.records.now c.args.known (g.D.Disk.held c.args.disk.now) (g.D.Disk.held c.put_all.new.disk)
+    on_err _ (round_met_of (setting c.args.dataset.now.header.now c.args.dataset.now.hints.now) c.args.job.now.batches c.args.records.now c.args.known (g.D.Disk.held c.args.disk.now) (g.D.Disk.held c.put_half.new.disk)
     c.in_err-end.ensures.refused)
 
 pub returns-in_err-end-clause-kept : goal.returns-in_err-end-clause-kept
 returns-in_err-end-clause-kept g c =
-    on_err _ (count_kept (setting c.args.dataset.now.header.now c.args.dataset.now.hints.now) (puts_in c.args.job.now.batches) c.args.records.now c.put_all.new.records c.args.known c.in_err-end.ensures.kept)
+    on_err _ (count_kept (setting c.args.dataset.now.header.now c.args.dataset.now.hints.now) (puts_in c.args.job.now.batches) c.args.records.now c.put_half.new.records c.args.known c.in_err-end.ensures.kept)
 
 pub returns-in_err-raise_records-clause-refused : goal.returns-in_err-raise_records-clause-refused
 returns-in_err-raise_records-clause-refused g c =
-    on_err _ (count_met_of (setting c.args.dataset.now.header.now c.args.dataset.now.hints.now) c.args.job.now.batches c.args.records.now c.put_all.new.records c.args.known
-    (g.D.Disk.held c.args.disk.now) (g.D.Disk.held c.put_all.new.disk) (g.D.Disk.held c.raise_records.new.disk) c.in_ok-end.ensures.bytes c.in_ok-end.ensures.records
+    on_err _ (count_met_of (setting c.args.dataset.now.header.now c.args.dataset.now.hints.now) c.args.job.now.batches c.args.records.now c.put_half.new.records c.args.known
+    (g.D.Disk.held c.args.disk.now) (g.D.Disk.held c.put_half.new.disk) (g.D.Disk.held c.raise_records.new.disk) c.in_ok-end.ensures.bytes c.in_ok-end.ensures.records
     c.in_err-raise_records.ensures.refused)
 
 pub returns-in_err-raise_records-clause-kept : goal.returns-in_err-raise_records-clause-kept
 returns-in_err-raise_records-clause-kept g c =
-    on_err _ (count_left (setting c.args.dataset.now.header.now c.args.dataset.now.hints.now) (puts_in c.args.job.now.batches) c.args.records.now c.put_all.new.records c.raise_records.new.records c.args.known
+    on_err _ (count_left (setting c.args.dataset.now.header.now c.args.dataset.now.hints.now) (puts_in c.args.job.now.batches) c.args.records.now c.put_half.new.records c.raise_records.new.records c.args.known
     c.in_ok-end.ensures.records c.in_err-raise_records.ensures.kept)
 
 pub returns-in_err-table-clause-refused : goal.returns-in_err-table-clause-refused
 returns-in_err-table-clause-refused g c =
-    on_err _ (met_done_of (setting c.args.dataset.now.header.now c.args.dataset.now.hints.now) c.args.job.now.batches c.args.records.now c.args.known (g.D.Disk.held c.args.disk.now) (g.D.Disk.held c.get_all.new.disk)
-    (met_bytes (setting c.args.dataset.now.header.now c.args.dataset.now.hints.now) c.args.job.now.batches c.args.records.now c.put_all.new.records c.args.known _ _ _ _
+    on_err _ (met_done_of (setting c.args.dataset.now.header.now c.args.dataset.now.hints.now) c.args.job.now.batches c.args.records.now c.args.known (g.D.Disk.held c.args.disk.now) (g.D.Disk.held c.get_half.new.disk)
+    (met_bytes (setting c.args.dataset.now.header.now c.args.dataset.now.hints.now) c.args.job.now.batches c.args.records.now c.put_half.new.records c.args.known _ _ _ _
     c.in_ok-end.ensures.bytes c.in_ok-end.ensures.records c.in_ok-raise_records.ensures.bytes c.in_err-table.ensures.bytes))
 
 pub returns-in_err-table-clause-kept : goal.returns-in_err-table-clause-kept
 returns-in_err-table-clause-kept g c =
-    on_err _ (count_all (setting c.args.dataset.now.header.now c.args.dataset.now.hints.now) (puts_in c.args.job.now.batches) c.args.records.now c.put_all.new.records c.raise_records.new.records c.args.known
+    on_err _ (count_all (setting c.args.dataset.now.header.now c.args.dataset.now.hints.now) (puts_in c.args.job.now.batches) c.args.records.now c.put_half.new.records c.raise_records.new.records c.args.known
     c.in_ok-end.ensures.records c.in_ok-raise_records.ensures.records)

@@ -1,10 +1,10 @@
-use Rattle.std.proofs.Common.{◌≡◌, ◌≤◌, ◌+◌, ◌^◌, [], length}
+use Rattle.std.proofs.Common.{◌≡◌, ◌≤◌, ◌+◌, ◌^◌, length}
 use Rattle.script_spec.specs.ScriptValues.{each_value, number_for}
-use Rattle.script_values.proofs.values.number_values.Given as goal
+use Rattle.script_values.proofs.values.numbers_after.Given as goal
 
 abbrev pub invariant-loop-found : goal.invariant-loop-found
 invariant-loop-found l = record {
-  read : each_value (number_for l.kind) l.kind l.before l.found l.words ≡ each_value (number_for l.kind) l.kind l.before [] l.fn.words;
+  read : each_value (number_for l.kind) l.kind l.before l.found l.words ≡ each_value (number_for l.kind) l.kind l.before l.fn.front l.fn.words;
   bound : l.before + length l.found ≤ 2 ^ 24;
 }
 

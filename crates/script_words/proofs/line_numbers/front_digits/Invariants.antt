@@ -1,0 +1,16 @@
+use Rattle.std.proofs.Common.{◌≡◌, ◌≤◌, ◌<◌, ◌-◌, take, true}
+use Rattle.std.specs.List.{list_all}
+use Rattle.script_spec.proofs.NumeralLaws.{tens}
+use Rattle.script_spec.specs.ScriptWords.{is_digit, digits_value}
+use Rattle.script_words.proofs.line_numbers.front_digits.Given as goal
+
+abbrev pub invariant-loop-len : goal.invariant-loop-len
+invariant-loop-len l = record {
+  value : l.value ≡ digits_value (take l.len l.line);
+  digits : list_all is_digit (take l.len l.line) ≡ true;
+  bound : l.value < tens l.len;
+  most : l.len ≤ l.most;
+}
+
+abbrev pub decreases-loop-len : goal.decreases-loop-len
+decreases-loop-len l = l.most - l.len
