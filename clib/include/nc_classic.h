@@ -296,7 +296,8 @@ typedef struct {
  *   NCV_TOO_LARGE  an extent ends at byte 2^62 or later
  *   NCV_MEMORY
  *
- * But for NCV_OK nothing is written. Takes memory for the time of the call: up to 112 bytes for each extent. */
+ * But for NCV_OK nothing is written. Takes memory for the time of the call: less than 100 bytes for
+ * each extent. */
 ncv_code ncv_windows(const ncv_extent *asked, size_t count, uint32_t aggregators, uint64_t unit, uint64_t buffer,
                      uint64_t from, ncv_window *into, size_t room, ncv_step *step);
 

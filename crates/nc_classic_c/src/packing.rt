@@ -28,6 +28,7 @@ fn is_out(kind: NcType, value: Value) -> bool
 }
 
 /// The number of the first value that is not in the range of the type.
+#[inline(always)]
 fn first_out<T: Kept<W>, W: Copy>(kind: NcType, words: &[W]) -> Option<usize>
     ensures { result ≡ position (λ w. not (external.fits kind (T.told w))) words.now }
 {
@@ -70,6 +71,7 @@ fn put_value(kind: NcType, value: Value, into: &mut [u8])
 }
 
 /// Writes the values of words, which are all in the range of the type.
+#[inline(always)]
 fn put_all<T: Kept<W>, W: Copy>(kind: NcType, words: &[W], into: &mut [u8])
     requires room { length words.now * external.size_of kind ≡ length into.old }
     requires fit { first_out kind (map T.told words.now) ≡ None }
@@ -82,7 +84,9 @@ fn put_all<T: Kept<W>, W: Copy>(kind: NcType, words: &[W], into: &mut [u8])
     }
 }
 
-/// Writes the values of words in external form; refused, nothing is written.
+/// Writes the values of words in external form; refused, nothing is written. Where the type is known as the program is built, no
+/// type is looked at when it runs.
+#[inline(always)]
 fn pack<T: Kept<W>, W: Copy>(kind: NcType, words: &[W], into: &mut [u8]) -> Result<(), Refusal>
     ensures packed { OnOk result (pack kind (map T.told words.now) (length into.old) ≡ Ok into.new) }
     ensures refused { IfErr result (λ r. pack kind (map T.told words.now) (length into.old) ≡ Err r) }
@@ -153,6 +157,26 @@ pub extern "C" fn ncv_pack_uint64(
     }
 }
 
+/// Writes the values of words in external form; refused, nothing is written. The type is looked at here alone, and not for each
+/// value.
+fn pack_as<T: Kept<W>, W: Copy>(kind: NcType, words: &[W], into: &mut [u8]) -> Result<(), Refusal>
+    ensures packed { OnOk result (pack kind (map T.told words.now) (length into.old) ≡ Ok into.new) }
+    ensures refused { IfErr result (λ r. pack kind (map T.told words.now) (length into.old) ≡ Err r) }
+    ensures kept { OnErr result (into.new ≡ into.old) }
+{
+    match kind {
+        NcType::Byte => pack::<T, W>(NcType::Byte, words, into),
+        NcType::Short => pack::<T, W>(NcType::Short, words, into),
+        NcType::Int => pack::<T, W>(NcType::Int, words, into),
+        NcType::UByte => pack::<T, W>(NcType::UByte, words, into),
+        NcType::UShort => pack::<T, W>(NcType::UShort, words, into),
+        NcType::UInt => pack::<T, W>(NcType::UInt, words, into),
+        NcType::Int64 => pack::<T, W>(NcType::Int64, words, into),
+        NcType::UInt64 => pack::<T, W>(NcType::UInt64, words, into),
+        NcType::Char | NcType::Float | NcType::Double => pack::<T, W>(kind, words, into),
+    }
+}
+
 /// Whole numbers in the external form of a type by its number.
 fn pack_integers<T: Kept<W>, W: Copy>(
     number: u32,
@@ -164,7 +188,7 @@ fn pack_integers<T: Kept<W>, W: Copy>(
     ensures kept { OnErr result (into.new ≡ into.old) }
 {
     let kind = integer_type(number)?;
-    pack::<T, W>(kind, words, into)
+    pack_as::<T, W>(kind, words, into)
 }
 
 /// Writes bit patterns, which are all in the range of the type; refused, nothing is written.

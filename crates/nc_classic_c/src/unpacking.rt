@@ -24,6 +24,7 @@ fn value_at(kind: NcType, bytes: &[u8], k: usize) -> Value
 }
 
 /// The number of the first of so many values that memory does not keep.
+#[inline(always)]
 fn first_out<T: Kept<W>, W: Copy>(kind: NcType, bytes: &[u8], count: usize) -> Option<usize>
     requires { count * external.size_of kind ≡ length bytes.now }
     ensures { result ≡ first_out T.same (values_of kind count bytes.now) }
@@ -49,6 +50,7 @@ fn word_for<T: Kept<W>, W: Copy>(value: Value, old: W) -> W
 }
 
 /// Writes values, which memory keeps all.
+#[inline(always)]
 fn write_all<T: Kept<W>, W: Copy>(kind: NcType, bytes: &[u8], into: &mut [W])
     requires room { length into.old * external.size_of kind ≡ length bytes.now }
     requires kept { first_out T.same (values_of kind (length into.old) bytes.now) ≡ None }
@@ -59,7 +61,9 @@ fn write_all<T: Kept<W>, W: Copy>(kind: NcType, bytes: &[u8], into: &mut [W])
     }
 }
 
-/// Writes the values of bytes; refused, nothing is written.
+/// Writes the values of bytes; refused, nothing is written. Where the type is known as the program is built, no type is looked at
+/// when it runs.
+#[inline(always)]
 fn unpack<T: Kept<W>, W: Copy>(kind: NcType, bytes: &[u8], into: &mut [W]) -> Result<(), Refusal>
     ensures unpacked { OnOk result (unpack T.same kind bytes.now (length into.old) ≡ Ok (map T.told into.new)) }
     ensures refused { IfErr result (λ r. unpack T.same kind bytes.now (length into.old) ≡ Err r) }
@@ -77,6 +81,25 @@ fn unpack<T: Kept<W>, W: Copy>(kind: NcType, bytes: &[u8], into: &mut [W]) -> Re
     }
 }
 
+/// Writes the values of bytes; refused, nothing is written. The type is looked at here alone, and not for each value.
+fn unpack_as<T: Kept<W>, W: Copy>(kind: NcType, bytes: &[u8], into: &mut [W]) -> Result<(), Refusal>
+    ensures unpacked { OnOk result (unpack T.same kind bytes.now (length into.old) ≡ Ok (map T.told into.new)) }
+    ensures refused { IfErr result (λ r. unpack T.same kind bytes.now (length into.old) ≡ Err r) }
+    ensures kept { OnErr result (into.new ≡ into.old) }
+{
+    match kind {
+        NcType::Byte => unpack::<T, W>(NcType::Byte, bytes, into),
+        NcType::Short => unpack::<T, W>(NcType::Short, bytes, into),
+        NcType::Int => unpack::<T, W>(NcType::Int, bytes, into),
+        NcType::UByte => unpack::<T, W>(NcType::UByte, bytes, into),
+        NcType::UShort => unpack::<T, W>(NcType::UShort, bytes, into),
+        NcType::UInt => unpack::<T, W>(NcType::UInt, bytes, into),
+        NcType::Int64 => unpack::<T, W>(NcType::Int64, bytes, into),
+        NcType::UInt64 => unpack::<T, W>(NcType::UInt64, bytes, into),
+        NcType::Char | NcType::Float | NcType::Double => unpack::<T, W>(kind, bytes, into),
+    }
+}
+
 /// Values of a type by its number, which are whole numbers.
 fn unpack_integers<T: Kept<W>, W: Copy>(
     number: u32,
@@ -88,7 +111,7 @@ fn unpack_integers<T: Kept<W>, W: Copy>(
     ensures kept { OnErr result (into.new ≡ into.old) }
 {
     let kind = integer_type(number)?;
-    unpack::<T, W>(kind, bytes, into)
+    unpack_as::<T, W>(kind, bytes, into)
 }
 
 /// The values of bytes as signed numbers; of those that these do not keep the first one is told.
