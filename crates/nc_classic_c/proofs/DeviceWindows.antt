@@ -8,7 +8,6 @@ use Rattle.nc_base.specs.declared.script.Hints.{Hints}
 use Rattle.serial_spec.specs.DeviceCalls.{collective_windows, domains, not_empty, windows}
 use Rattle.overlay_laws.specs.Walks.{told_of}
 use Rattle.overlay_laws.proofs.WalkLaws.{windows_walked}
-use Rattle.nc_classic_c.specs.declared.windows.NcvWindow.{NcvWindow}
 use Rattle.nc_classic_c.specs.Windows.{division_of, numbered_windows, step_windows, told, window_shown}
 
 told_each : (buffer k : ℕ) (ds : List (List ℕ)) → 1 ≤ buffer

@@ -1,5 +1,5 @@
 -- The sorted entries have the bytes of the extents.
-use Rattle.std.proofs.Common.{◌≡◌, ◌^◌, List, sym, subst}
+use Rattle.std.proofs.Common.{◌^◌, List, sym, subst}
 use Rattle.nc_base.specs.declared.plan.Owned.{Owned}
 use Rattle.overlay_laws.specs.Entries.{HaveSame, ranges}
 use Rattle.overlay_laws.specs.Lines.{extents, EndBelow}

@@ -1,5 +1,5 @@
 -- One domain after another.
-use Rattle.std.proofs.Common.{◌≡◌, ◌+◌, ◌∙◌, ◌++◌, List, length, drop, refl, sym, ap, length-append, arith}
+use Rattle.std.proofs.Common.{◌+◌, ◌∙◌, ◌++◌, List, length, drop, refl, sym, ap, length-append, arith}
 use Rattle.std.specs.Prelude.{map}
 use Rattle.std.proofs.lemmas.List.{length-map}
 use Rattle.file_domains.specs.Rounds.{windows_left}

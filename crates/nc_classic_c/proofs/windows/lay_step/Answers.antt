@@ -1,5 +1,5 @@
 -- The cover has the bytes that are asked for.
-use Rattle.std.proofs.Common.{◌≡◌, ◌∙◌, List, sym, ap}
+use Rattle.std.proofs.Common.{◌∙◌, List, sym, ap}
 use Rattle.nc_base.specs.declared.plan.Extent.{Extent}
 use Rattle.serial_spec.specs.DeviceCalls.{first_of}
 use Rattle.serial_spec.specs.Extents.{spans}

@@ -1,5 +1,5 @@
 -- The windows are laid one by one.
-use Rattle.std.proofs.Common.{◌≡◌, ◌+◌, ◌∙◌, List, length, refl, sym, ap, subst, arith}
+use Rattle.std.proofs.Common.{◌≡◌, ◌+◌, ◌∙◌, List, length, sym, ap, arith}
 use Rattle.std.specs.Prelude.{map}
 use Rattle.file_domains.specs.Rounds.{windows_left}
 use Rattle.file_domains.specs.declared.walk.Window.{Window}
