@@ -52,10 +52,13 @@ enum {
 
     NCV_EINVALCOORDS = -40, /* a start is past the end of its dimension, or not one start, count and stride for each */
     NCV_ENOTATT = -43,      /* no attribute has this number or name */
+    NCV_EBADTYPE = -45,     /* no type has this number, or its values are floats */
     NCV_EBADDIM = -46,      /* no dimension has this number or name */
     NCV_ENOTVAR = -49,      /* no variable has this number or name */
+    NCV_ECHAR = -56,        /* the values of the type are text */
     NCV_EEDGE = -57,        /* the last element is past the end of its dimension */
-    NCV_ESTRIDE = -58       /* a stride is 0 */
+    NCV_ESTRIDE = -58,      /* a stride is 0 */
+    NCV_ERANGE = -60        /* a value is outside the range of the type that is to hold it */
 };
 
 /* The library's version, and the kit that proved it with the sum of its logic, as a text ended by a zero. Takes no memory. */
@@ -264,6 +267,68 @@ ncv_code ncv_first_shared(const ncv_held *held, size_t count, ncv_pair *pair);
  *
  * Takes no memory. */
 ncv_code ncv_domain(uint64_t lo, uint64_t hi, uint32_t aggregators, uint64_t unit, uint32_t number, ncv_extent *domain);
+
+/* A window of a collective step, by its hull: from the first byte asked for to the last. */
+typedef struct {
+    uint64_t at;         /* the first byte of the hull */
+    uint64_t len;        /* its bytes, at least 1 */
+    uint32_t aggregator; /* whose domain it lies in, from 0 */
+    bool full;           /* every byte of the hull is asked for. Else there is a hole: who writes the window reads its hull first */
+} ncv_window;
+
+/* What a collective step asks for. */
+typedef struct {
+    uint64_t lo;      /* the least byte; ncv_domain takes `lo` and `hi` for the domain of each aggregator */
+    uint64_t hi;      /* the greatest byte plus one; both are 0 where no byte is asked for */
+    uint64_t windows; /* how many windows there are */
+} ncv_step;
+
+/* The windows of a collective step (two-phase I/O) that asks for the bytes of these extents, which are those of all ranks, in
+ * any order and also several times. The step is divided by the hints cb_nodes (`aggregators`), striping_unit (`unit`) and
+ * cb_buffer_size (`buffer`): the bytes from the least to the greatest into the domains of ncv_domain, and each domain into
+ * windows of `buffer` bytes from the first of its bytes that is asked for. A window without such a byte is left out.
+ *
+ * The windows are in order of their places, and so domain after domain. Those from number `from` on go to into[0], into[1] and
+ * so on, as ncv_extents has it; *step tells how many there are in all.
+ *
+ *   NCV_OK         `into` and *step are set
+ *   NCV_ARGUMENT   there are not 1 to 64 aggregators, or `unit` or `buffer` is not 1 to 2^25
+ *   NCV_TOO_LARGE  an extent ends at byte 2^62 or later
+ *   NCV_MEMORY
+ *
+ * But for NCV_OK nothing is written. Takes memory for the time of the call: less than 100 bytes for
+ * each extent. */
+ncv_code ncv_windows(const ncv_extent *asked, size_t count, uint32_t aggregators, uint64_t unit, uint64_t buffer,
+                     uint64_t from, ncv_window *into, size_t room, ncv_step *step);
+
+/* ---- values ------------------------------------------------------------------------------------------------------- */
+
+/* Values to the bytes that stand for them in a file, and back. `type` is the number of the type in the file, as in netcdf.h,
+ * and `len` has to be `count` times the bytes of one value: 1 for NC_BYTE and NC_UBYTE, 2 for NC_SHORT and NC_USHORT, 4 for
+ * NC_INT, NC_UINT and NC_FLOAT, 8 for NC_INT64, NC_UINT64 and NC_DOUBLE. The bytes of a value are big-endian, whole numbers in
+ * two's complement. There is no function for NC_CHAR: a char stands in the file as it is. No value is turned from a whole number
+ * to a float, or from one to the other kind of float.
+ *
+ *   NCV_OK        all values are written to `into`
+ *   NCV_EBADTYPE  no type has this number, or it is NC_FLOAT or NC_DOUBLE
+ *   NCV_ECHAR     it is NC_CHAR
+ *   NCV_ARGUMENT  `len` is not `count` times the bytes of one value
+ *   NCV_ERANGE    a value is outside the range of the type that is to hold it: that of the file for a pack, that of the array
+ *                 for an unpack. *refused is the number of the first such value, from 0
+ *
+ * Of several causes the first in this order answers. But for NCV_OK nothing is written to `into`, not even the values that
+ * fit (PnetCDF writes those), and *refused is written for NCV_ERANGE alone. Takes no memory. */
+ncv_code ncv_pack_int64(uint32_t type, const int64_t *values, size_t count, uint8_t *into, size_t len, uint64_t *refused);
+ncv_code ncv_pack_uint64(uint32_t type, const uint64_t *values, size_t count, uint8_t *into, size_t len, uint64_t *refused);
+ncv_code ncv_unpack_int64(uint32_t type, const uint8_t *bytes, size_t len, int64_t *into, size_t count, uint64_t *refused);
+ncv_code ncv_unpack_uint64(uint32_t type, const uint8_t *bytes, size_t len, uint64_t *into, size_t count, uint64_t *refused);
+
+/* The same of NC_FLOAT and NC_DOUBLE, by the bit patterns of IEEE 754: each value comes back as it was, a NaN too. They answer
+ * NCV_OK or NCV_ARGUMENT. */
+ncv_code ncv_pack_float(const float *values, size_t count, uint8_t *into, size_t len);
+ncv_code ncv_pack_double(const double *values, size_t count, uint8_t *into, size_t len);
+ncv_code ncv_unpack_float(const uint8_t *bytes, size_t len, float *into, size_t count);
+ncv_code ncv_unpack_double(const uint8_t *bytes, size_t len, double *into, size_t count);
 
 #ifdef __cplusplus
 }

@@ -21,6 +21,8 @@ void check_headers(void);
 void check_parts_of_header(void);
 void check_extents(void);
 void check_overlaps(void);
+void check_windows(void);
+void check_values(void);
 void check_memory(void);
 
 #endif

@@ -1,8 +1,9 @@
 """The library's functions by ctypes, as plainly as they are declared in nc_classic.h."""
 import ctypes as c
 
-OK, MEMORY, HEADER, TOO_LARGE, SHARED = 0, 1, 2, 3, 5
+OK, MEMORY, HEADER, TOO_LARGE, ARGUMENT, SHARED = 0, 1, 2, 3, 4, 5
 EINVALCOORDS, ENOTATT, EBADDIM, ENOTVAR, EEDGE, ESTRIDE = -40, -43, -46, -49, -57, -58
+EBADTYPE, ECHAR, ERANGE = -45, -56, -60
 GLOBAL = 2**64 - 1
 
 
@@ -46,6 +47,14 @@ class Extent(c.Structure):
     _fields_ = [("at", c.c_uint64), ("len", c.c_uint64)]
 
 
+class Window(c.Structure):
+    _fields_ = [("at", c.c_uint64), ("len", c.c_uint64), ("aggregator", c.c_uint32), ("full", c.c_bool)]
+
+
+class Step(c.Structure):
+    _fields_ = [("lo", c.c_uint64), ("hi", c.c_uint64), ("windows", c.c_uint64)]
+
+
 Numbers = c.POINTER(c.c_uint64)
 
 
@@ -75,6 +84,12 @@ def loaded(path):
     lib = c.CDLL(path)
     lib.ncv_first_shared.argtypes, lib.ncv_first_shared.restype = [c.POINTER(Held), c.c_size_t, c.POINTER(Pair)], c.c_int32
     lib.ncv_domain.argtypes, lib.ncv_domain.restype = [c.c_uint64, c.c_uint64, c.c_uint32, c.c_uint64, c.c_uint32, c.POINTER(Extent)], c.c_int32
+    lib.ncv_windows.argtypes = [c.POINTER(Extent), c.c_size_t, c.c_uint32, c.c_uint64, c.c_uint64, c.c_uint64, c.POINTER(Window), c.c_size_t, c.POINTER(Step)]
+    lib.ncv_windows.restype = c.c_int32
+    for name, word in (("int64", c.c_int64), ("uint64", c.c_uint64)):
+        pack, unpack = getattr(lib, f"ncv_pack_{name}"), getattr(lib, f"ncv_unpack_{name}")
+        pack.argtypes, pack.restype = [c.c_uint32, c.POINTER(word), c.c_size_t, c.POINTER(c.c_uint8), c.c_size_t, Numbers], c.c_int32
+        unpack.argtypes, unpack.restype = [c.c_uint32, c.c_char_p, c.c_size_t, c.POINTER(word), c.c_size_t, Numbers], c.c_int32
     for name, arguments in FUNCTIONS.items():
         function = getattr(lib, f"ncv_{name}")
         function.argtypes, function.restype = [*BYTES, *arguments], c.c_int32
@@ -103,3 +118,13 @@ def extents(lib, header, region, records, put, room, first=0):
     if code != OK:
         return code, None, None
     return code, [(e.at, e.len) for e in into[:max(0, min(room, total.value - first))]], total.value
+
+
+def windows(lib, asked, aggregators, unit, buffer, room, first=0):
+    """The code, and where it is OK the step as (lo, hi, how many windows) and its windows from number `first` on."""
+    extents, into, step = (Extent * (len(asked) + 1))(*asked), (Window * (room + 1))(), Step()
+    code = lib.ncv_windows(extents, len(asked), aggregators, unit, buffer, first, into, room, c.byref(step))
+    if code != OK:
+        return code, None, None
+    found = into[:max(0, min(room, step.windows - first))]
+    return code, (step.lo, step.hi, step.windows), [(w.aggregator, w.at, w.len, w.full) for w in found]

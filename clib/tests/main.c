@@ -36,6 +36,8 @@ int main(void)
     check_parts_of_header();
     check_extents();
     check_overlaps();
+    check_windows();
+    check_values();
     check_memory();
     printf("C tests: %u passed, %u failed\n", passed, failed);
     return failed != 0;

@@ -38,6 +38,14 @@ static bool pair_is_kept(void)
     return ncv_first_shared(held, 2, &pair) == NCV_MEMORY && pair.at == 7;
 }
 
+static bool step_is_kept(void)
+{
+    const ncv_extent asked[] = {{8, 4}, {0, 9}};
+    ncv_window window = {.at = 7};
+    ncv_step step = {.lo = 7};
+    return ncv_windows(asked, 2, 1, 1, 1, 0, &window, 1, &step) == NCV_MEMORY && window.at == 7 && step.lo == 7;
+}
+
 /* How many calls for memory the test takes before it is no more refused. */
 static long refusals(bool (*is_kept)(void))
 {
@@ -59,4 +67,5 @@ void check_memory(void)
     CHECK(refusals(extents_are_kept) > 10);
     CHECK(refusals(parts_are_kept) > 10);
     CHECK(refusals(pair_is_kept) > 0);
+    CHECK(refusals(step_is_kept) > 0);
 }

@@ -13,7 +13,9 @@ use Rattle.nc_classic_c.specs.Answers.{code_number, number_of}
 
 code_small : (c : Code) → SFits w32 (code_number c)
 code_small code.EInvalCoords = sfits_lit tt
+code_small code.EBadType = sfits_lit tt
 code_small code.ENotVar = sfits_lit tt
+code_small code.EChar = sfits_lit tt
 code_small code.EEdge = sfits_lit tt
 code_small code.EStride = sfits_lit tt
 code_small code.EBadDim = sfits_lit tt
@@ -26,6 +28,7 @@ number_small (refusal.Header e) = sfits_lit tt
 number_small (refusal.Asked c) = code_small c
 number_small refusal.NoAttribute = sfits_lit tt
 number_small refusal.Shared = sfits_lit tt
+number_small (refusal.Range k) = sfits_lit tt
 
 -- a refusal's number that is returned
 pub number_kept : (n : ℤ) (r : Refusal) → n ≡ number_of r → to_z w32 (of_z w32 n) ≡ number_of r

@@ -1,8 +1,14 @@
 pub mod AcceptedRegions
 pub mod Answering
+pub mod CoverLaws
+pub mod DeviceWindows
 pub mod DomainLaws
 pub mod Filling
+pub mod LayLaws
 pub mod OverlapLaws
 pub mod Refusing
 pub mod SizeLaws
+pub mod StepLaws
+pub mod ValueLaws
 pub mod VarLaws
+pub mod WindowLaws

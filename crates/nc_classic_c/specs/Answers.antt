@@ -13,7 +13,9 @@ use Rattle.nc_classic_c.specs.declared.answers.Refusal.TheVariants as refusal
 -- a code that no call of the library gives has number 4
 abbrev pub code_number : Code → ℤ
 code_number code.EInvalCoords = negsuc 39
+code_number code.EBadType = negsuc 44
 code_number code.ENotVar = negsuc 48
+code_number code.EChar = negsuc 55
 code_number code.EEdge = negsuc 56
 code_number code.EStride = negsuc 57
 code_number code.EBadDim = negsuc 45
@@ -26,6 +28,7 @@ number_of (refusal.Header e) = pos 2
 number_of (refusal.Asked c) = code_number c
 number_of refusal.NoAttribute = negsuc 42
 number_of refusal.Shared = pos 5
+number_of (refusal.Range k) = negsuc 59
 
 -- want of memory is no fault of the bytes
 abbrev pub refusal_of : HeaderErr → Refusal

@@ -10,3 +10,5 @@ pub mod Overlaps
 pub mod Parts
 pub mod Regions
 pub mod Sizes
+pub mod Values
+pub mod Windows

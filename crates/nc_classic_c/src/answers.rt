@@ -19,6 +19,8 @@ pub enum Refusal {
     NoAttribute,
     /// Two requests hold a byte in common.
     Shared,
+    /// The value of this number is not in the range of the type.
+    Range(u64),
 }
 
 impl From<Memory> for Refusal {
@@ -52,6 +54,7 @@ pub(crate) fn number_of(refusal: Refusal) -> i32
         Refusal::Asked(code) => code_number(code),
         Refusal::NoAttribute => -43,
         Refusal::Shared => 5,
+        Refusal::Range(_) => -60,
     }
 }
 
@@ -60,7 +63,9 @@ fn code_number(code: Code) -> i32
 {
     match code {
         Code::EInvalCoords => -40,
+        Code::EBadType => -45,
         Code::ENotVar => -49,
+        Code::EChar => -56,
         Code::EEdge => -57,
         Code::EStride => -58,
         Code::EBadDim => -46,

@@ -9,7 +9,7 @@ use file_domains::cut;
 use nc_base::{Code, FILE_LIMIT, MAX_AGGREGATORS};
 
 /// The greatest striping unit.
-const MAX_UNIT: u64 = 1 << 25;
+pub(crate) const MAX_UNIT: u64 = 1 << 25;
 
 fn is_asked(lo: u64, hi: u64, aggregators: u32, unit: u64, number: u32) -> bool
     ensures { result ≡ is_asked lo hi aggregators unit number }

@@ -4,11 +4,12 @@ ghost use Rattle.vara_extents.specs.Joined.{extents_of};
 ghost use Rattle.vara_extents.specs.Left.{extents_left, IsReady};
 ghost use Rattle.nc_classic_c.specs.Answers.{IsAnswer};
 ghost use Rattle.nc_classic_c.specs.Accepted.{HasRegion, IsRegionRefusal};
-ghost use Rattle.nc_classic_c.specs.Extents.{shown, filled, laid_at, AreLaid};
+ghost use Rattle.nc_classic_c.specs.Extents.{shown, filled, AreLaid};
 ghost use Rattle.nc_classic_c.specs.Regions.{region_of};
 
 use crate::accepted::accept;
 use crate::answers::{OK, number_of};
+use crate::copies;
 use crate::regions::NcvRegion;
 use nc_base::Extent;
 use std::alloc::Global;
@@ -33,15 +34,6 @@ fn shown(extent: Extent) -> NcvExtent
     }
 }
 
-/// Lays extent number `number` into a slice that takes those from number `from` on, where it has room.
-fn lay_one(extent: Extent, number: u64, from: u64, into: &mut [NcvExtent])
-    ensures { into.new ≡ laid_at number from into.old (shown extent) }
-{
-    if from <= number && number - from < into.len() as u64 {
-        into[(number - from) as usize] = shown(extent);
-    }
-}
-
 /// Lays the extents from number `from` on into a slice, as many as there are and as it has room for. Answers how many
 /// there are in all.
 fn lay(extents: Extents, from: u64, into: &mut [NcvExtent]) -> u64
@@ -52,7 +44,7 @@ fn lay(extents: Extents, from: u64, into: &mut [NcvExtent]) -> u64
 {
     let mut total = 0;
     for extent in extents {
-        lay_one(extent, total, from, into);
+        copies::lay(shown(extent), total, from, into);
         total += 1;
     }
     total

@@ -1,4 +1,4 @@
-//! What C calls: headers and regions of files in the netCDF classic format, by their bytes.
+//! What C calls: headers, regions, collective steps and values of files in the netCDF classic format, by their bytes.
 //!
 //! Each export says in its contract what it answers, and requires nothing but what its types say. Its form in C, with
 //! units and causes, stands in `clib/include/nc_classic.h`.
@@ -8,19 +8,25 @@ mod accepted;
 mod answers;
 mod attributes;
 mod copies;
+mod covers;
 mod dimensions;
 mod domains;
 mod extents;
 mod faults;
 mod header_check;
 mod headers;
+mod kept;
+mod laws;
 mod looks;
 mod needs;
 mod overlaps;
+mod packing;
 mod regions;
 mod sizes;
 mod types;
+mod unpacking;
 mod variables;
+mod windows;
 
 pub use attributes::{NcvAtt, ncv_inq_att, ncv_inq_attid};
 pub use dimensions::{NcvDim, ncv_inq_dim, ncv_inq_dimid};
@@ -28,8 +34,12 @@ pub use domains::ncv_domain;
 pub use extents::{NcvExtent, ncv_extents};
 pub use faults::NcvFault;
 pub use header_check::{NcvCounts, ncv_header_check};
+pub use laws::device_windows_law;
 pub use needs::{NcvNeeds, ncv_region_check};
 pub use overlaps::{NcvHeld, NcvPair, ncv_first_shared};
+pub use packing::{ncv_pack_double, ncv_pack_float, ncv_pack_int64, ncv_pack_uint64};
 pub use regions::NcvRegion;
 pub use sizes::{NcvSizes, ncv_inq_sizes};
+pub use unpacking::{ncv_unpack_double, ncv_unpack_float, ncv_unpack_int64, ncv_unpack_uint64};
 pub use variables::{NcvVar, ncv_inq_var, ncv_inq_varid};
+pub use windows::{NcvStep, NcvWindow, ncv_windows};

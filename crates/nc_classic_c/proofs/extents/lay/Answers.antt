@@ -6,7 +6,7 @@ use Rattle.nc_base.specs.declared.plan.Extent.{Extent}
 use Rattle.vara_extents.specs.Left.{extents_left}
 use Rattle.vara_extents.specs.declared.walk.Extents.{Extents}
 use Rattle.nc_classic_c.specs.declared.extents.NcvExtent.{NcvExtent}
-use Rattle.nc_classic_c.specs.Extents.{shown}
+use Rattle.nc_classic_c.specs.Extents.{shown, laid_at}
 use Rattle.nc_classic_c.proofs.Filling.{Lays, none_laid, one_laid, left_fits, all_laid}
 use Rattle.nc_classic_c.proofs.extents.lay.Goals as goal
 
@@ -22,7 +22,8 @@ loop-extent-preserved c =
     let e = c.loop-extent in
     let left = map shown (extents_left e.extent-iterator) in
     let rest = map shown (extents_left c.next.new.self) in
-    subst (λ (l : List NcvExtent). Lays NcvExtent items c.args.from c.args.into.now l rest (e.total + 1)) (sym c.lay_one.ensures)
+    subst (λ (l : List NcvExtent). Lays NcvExtent items c.args.from c.args.into.now l rest (e.total + 1))
+    (sym (c.lay.ensures ∙ ap (λ (x : NcvExtent). laid_at e.total c.args.from e.into x) c.shown.ensures))
     (one_laid items c.args.from c.args.into.now e.into left rest e.total (shown c.in-Some.extent)
     (ap (λ (es : List Extent). map shown es) c.in-Some.ensures.steps) e.invariant)
 

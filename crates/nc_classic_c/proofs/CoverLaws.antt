@@ -1,0 +1,107 @@
+-- The cover of extents has their bytes, and reaches from the first to the last.
+use Rattle.std.proofs.Common.{◌≡◌, ℕ, ◌+◌, ◌-◌, ◌<◌, ◌≤◌, ◌^◌, List, [], ◌∷◌, length, map, true, inl, inr, sym, ap, subst, ◌∙◌, Some, slice_get, arith}
+use Rattle.std.specs.Prelude.{flat_map}
+use Rattle.std.specs.List.{range_with_len}
+use Rattle.std.specs.List.Sorted.{IsPermutation}
+use borrow.Author.Tests.{ltb-true}
+use Rattle.std.proofs.lemmas.List.Folds.{flat_map-map}
+use Rattle.std.proofs.lemmas.Option.{same_Some}
+use Rattle.list_laws.proofs.Each.{passes_each}
+use Rattle.list_laws.proofs.Optional.{no_none_some}
+use Rattle.nc_base.specs.declared.plan.Extent.{Extent}
+use Rattle.nc_base.specs.declared.plan.Owned.{Owned}
+use Rattle.serial_spec.specs.DeviceCalls.{first_of, last_of}
+use Rattle.serial_spec.specs.Extents.{spans}
+use Rattle.serial_spec.proofs.MemberLaws.{at_in}
+use Rattle.overlay_laws.specs.Entries.{In, HaveSame, ranges}
+use Rattle.overlay_laws.specs.Lines.{extents, EndBelow}
+use Rattle.overlay_laws.specs.Walks.{IsCover}
+use Rattle.overlay_laws.proofs.CoverLaws.{cover_in_order, last_joined, last_of_range, range_first}
+use Rattle.overlay_laws.proofs.EntryLaws.{same_permuted}
+use Rattle.overlay_laws.proofs.HullLaws.{flat_in, in_flat, in_range, range_high}
+use Rattle.overlay_laws.proofs.Members.{each_in, in_map, map_in}
+use Rattle.nc_classic_c.specs.declared.extents.NcvExtent.{NcvExtent}
+use Rattle.nc_classic_c.specs.Windows.{bytes_asked, bytes_of, end_is_low, end_of, ends_are_low, entry}
+
+abbrev bytes : Owned → List ℕ
+bytes o = range_with_len o.extent.at o.extent.len
+
+-- ---- entries in any order
+
+ranges_moved : (xs ys : List Owned) → ((o : Owned) → In xs o → In ys o) → (x : ℕ) → In (ranges xs) x → In (ranges ys) x
+ranges_moved xs ys moved x h = let r = flat_in bytes xs x h in in_flat bytes ys r.0 x (moved r.0 r.1) r.2
+
+ranges_asked : (asked : List NcvExtent) → ranges (map entry asked) ≡ flat_map bytes_of asked
+ranges_asked asked = flat_map-map bytes entry asked
+
+pub entries_low : (asked : List NcvExtent) (list : List Owned) → ends_are_low asked ≡ true → IsPermutation (map entry asked) list → EndBelow (2 ^ 62) (extents list)
+entries_low asked list h p e m =
+    let o = map_in (λ (o : Owned). o.extent) list e m in
+    let a = map_in entry asked o.0 ((same_permuted (map entry asked) list p).1 o.0 o.1) in
+    let low = ltb-true (a.0.at + a.0.len) (2 ^ 62) (each_in (λ (x : NcvExtent). end_is_low x ≡ true) asked a.0 (passes_each end_is_low asked h) a.1) in
+    let same : (entry a.0).extent ≡ e = ap (λ (z : Owned). z.extent) a.2 ∙ o.2 in
+    subst (λ (z : Extent). z.at + z.len < 2 ^ 62) same low
+
+-- ---- a cover
+
+some_bytes : (cover : List Extent) (e : Extent) → IsCover cover → In cover e → 1 ≤ e.len
+some_bytes [] e h m = absurd m
+some_bytes (c ∷ cover) e h (inl same) = subst (λ (z : Extent). 1 ≤ z.len) same h.0
+some_bytes (c ∷ cover) e h (inr m) = some_bytes cover e h.2 m
+
+pub cover_low : (cover : List Extent) (list : List Owned) → IsCover cover → HaveSame (spans cover) (ranges list) → EndBelow (2 ^ 62) (extents list) → EndBelow (2 ^ 62) cover
+cover_low cover list h same low e m =
+    let some = some_bytes cover e h m in
+    let last = e.at + e.len - 1 in
+    let there = in_flat (λ (z : Extent). range_with_len z.at z.len) cover e last m (in_range e.at e.len last (omega arith) (omega arith)) in
+    let r = flat_in bytes list last (same.0 last there) in
+    let high = range_high r.0.extent.at r.0.extent.len last r.2 in
+    let end = low r.0.extent (in_map (λ (o : Owned). o.extent) list r.0 r.1) in
+    omega arith
+
+pub cover_bytes : (cover : List Extent) (list : List Owned) (asked : List NcvExtent) → IsCover cover → HaveSame (spans cover) (ranges list) → IsPermutation (map entry asked) list
+    → spans cover ≡ bytes_asked asked
+cover_bytes cover list asked h same p =
+    let moved = same_permuted (map entry asked) list p in
+    cover_in_order cover (flat_map bytes_of asked) h (
+      (λ x m. subst (λ (xs : List ℕ). In xs x) (ranges_asked asked) (ranges_moved list (map entry asked) moved.1 x (same.0 x m))),
+      (λ x m. same.1 x (ranges_moved (map entry asked) list moved.0 x (subst (λ (xs : List ℕ). In xs x) (sym (ranges_asked asked)) m))),
+    )
+
+-- ---- from the first byte to the last
+
+first_byte : (e : Extent) (cover : List Extent) → 1 ≤ e.len → first_of (spans (e ∷ cover)) ≡ e.at
+first_byte e cover h = ap (λ (xs : List ℕ). first_of xs) (range_first e.at e.len (spans cover) h).1
+
+last_byte : (e : Extent) (cover : List Extent) (last : Extent) → IsCover (e ∷ cover) → slice_get (e ∷ cover) (length cover) ≡ Some last
+    → last_of (spans (e ∷ cover)) + 1 ≡ last.at + last.len
+last_byte e [] last h is =
+    let here = ap (λ (z : Extent). z.at + z.len) (same_Some e last is) in
+    let own = last_of_range e.at e.len h.0 in
+    let whole = last_joined (range_with_len e.at e.len) [] in
+    omega arith
+last_byte e (c ∷ cover) last h is =
+    let rest = last_byte c cover last h.2 is in
+    let own = last_of_range e.at e.len h.0 in
+    let whole = last_joined (range_with_len e.at e.len) (spans (c ∷ cover)) in
+    let there = at_in (c ∷ cover) (length cover) last is in
+    let gap = h.1 last there in
+    omega arith
+
+end_is : (e : Extent) (cover : List Extent) → 1 ≤ e.len → end_of (spans (e ∷ cover)) ≡ last_of (spans (e ∷ cover)) + 1
+end_is e cover h =
+    let first = range_first e.at e.len (spans cover) h in
+    ap (λ (xs : List ℕ). end_of xs) first.1 ∙ ap (λ (xs : List ℕ). last_of xs + 1) (sym first.1)
+
+pub reach_is : (cover : List Extent) (first last : Extent) → IsCover cover → slice_get cover 0 ≡ Some first → slice_get cover (length cover - 1) ≡ Some last
+    → (first.at ≡ first_of (spans cover)) × (last.at + last.len ≡ end_of (spans cover)) × (first.at ≤ last.at + last.len)
+reach_is [] first last h e f = no_none_some first e
+reach_is (c ∷ cover) first last h e f =
+    let index : length (c ∷ cover) - 1 ≡ length cover = omega arith in
+    let is = sym (ap (λ (k : ℕ). slice_get (c ∷ cover) k) index) ∙ f in
+    let begin : first.at ≡ c.at = ap (λ (z : Extent). z.at) (sym (same_Some c first e)) in
+    let end = last_byte c cover last h is in
+    let own = last_of_range c.at c.len h.0 in
+    let whole = last_joined (range_with_len c.at c.len) (spans cover) in
+    let some = h.0 in
+    (begin ∙ sym (first_byte c cover h.0), sym end ∙ sym (end_is c cover h.0), omega arith)

@@ -1,0 +1,195 @@
+-- The windows of all domains, domain after domain.
+use Rattle.std.proofs.Common.{◌≡◌, ◌↔◌, ℕ, zero, suc, ◌+◌, ◌-◌, ◌/◌, ◌^◌, ◌<◌, ◌≤◌, List, [], ◌∷◌, ◌++◌, length, map, Bool, true, false, ◌&&◌, cond, inl, inr, refl, sym, ap, ◌∙◌, leb, arith, length-append}
+use Rattle.std.specs.Prelude.{filter, flat_map, nat_lt, nat_le, ◌==◌}
+use Rattle.std.specs.List.{range_with_len, enumerate_from}
+use Rattle.std.proofs.lemmas.Bool.{le-leb, leb-true}
+use borrow.Author.Tests.{ltb-true, ltb-false, eqb-true}
+use Rattle.std.proofs.lemmas.List.{length-map}
+use Rattle.std.proofs.lemmas.Simd.{map-map}
+use Rattle.list_laws.proofs.Truth.{equal_true, no_both, and_first, and_second}
+use Rattle.nc_base.specs.declared.plan.Extent.{Extent}
+use Rattle.serial_spec.specs.DeviceCalls.{first_of, last_of, windows}
+use Rattle.serial_spec.specs.Extents.{spans}
+use Rattle.file_domains.specs.Domains.{low_of, share_of, LiesIn}
+use Rattle.file_domains.specs.Rounds.{bytes_in, round_windows, window_told}
+use Rattle.file_domains.specs.declared.walk.Window.{Window}
+use Rattle.overlay_laws.specs.Entries.{In}
+use Rattle.overlay_laws.specs.Hulls.{IsAscending}
+use Rattle.overlay_laws.specs.Walks.{told_of, round_end, walked}
+use Rattle.overlay_laws.proofs.DomainLaws.{filter_two, share}
+use Rattle.overlay_laws.proofs.HullLaws.{filter_ascends, first_least, last_most}
+use Rattle.overlay_laws.proofs.WalkLaws.{windows_walked}
+use Rattle.nc_classic_c.specs.declared.windows.Division.{Division}
+use Rattle.nc_classic_c.specs.declared.windows.NcvWindow.{NcvWindow}
+use Rattle.nc_classic_c.specs.Windows.{end_of, is_division, numbered_windows, shown, step_windows, window_shown}
+
+-- ---- a division within its limits
+
+pub record AreDivided (d : Division) : Type 0 where
+  pub some : 1 ≤ d.aggregators
+  pub few : d.aggregators ≤ 64
+  pub least_unit : 1 ≤ d.unit
+  pub greatest_unit : d.unit ≤ 2 ^ 25
+  pub buffer : 1 ≤ d.buffer
+
+pub divided : (d : Division) → is_division d ≡ true → AreDivided d
+divided d h =
+    let five = and_first (leb 1 d.aggregators && leb d.aggregators 64 && leb 1 d.unit && leb d.unit (2 ^ 25) && leb 1 d.buffer) (leb d.buffer (2 ^ 25)) h in
+    let four = and_first (leb 1 d.aggregators && leb d.aggregators 64 && leb 1 d.unit && leb d.unit (2 ^ 25)) (leb 1 d.buffer) five in
+    let three = and_first (leb 1 d.aggregators && leb d.aggregators 64 && leb 1 d.unit) (leb d.unit (2 ^ 25)) four in
+    let two = and_first (leb 1 d.aggregators && leb d.aggregators 64) (leb 1 d.unit) three in
+    record {
+      some = leb-true 1 d.aggregators (and_first (leb 1 d.aggregators) (leb d.aggregators 64) two);
+      few = leb-true d.aggregators 64 (and_second (leb 1 d.aggregators) (leb d.aggregators 64) two);
+      least_unit = leb-true 1 d.unit (and_second (leb 1 d.aggregators && leb d.aggregators 64) (leb 1 d.unit) three);
+      greatest_unit = leb-true d.unit (2 ^ 25) (and_second (leb 1 d.aggregators && leb d.aggregators 64 && leb 1 d.unit) (leb d.unit (2 ^ 25)) four);
+      buffer = leb-true 1 d.buffer (and_second (leb 1 d.aggregators && leb d.aggregators 64 && leb 1 d.unit && leb d.unit (2 ^ 25)) (leb 1 d.buffer) five);
+    }
+
+-- ---- the bytes of a domain
+
+-- the covered bytes of a domain are those of its share
+share_is : (cover : List Extent) (e : Extent) (lo hi low s a : ℕ) → ((x : ℕ) → LiesIn e x ↔ ((lo ≤ x) × (x < hi) × ((x - low) / s ≡ a)))
+    → ((x : ℕ) → In (spans cover) x → (lo ≤ x) × (x < hi)) → bytes_in e cover ≡ share low s (spans cover) a
+share_is cover e lo hi low s a cut within =
+    filter_two (λ x. (x - low) / s == a) (λ y. nat_lt y (e.at + e.len)) (λ y. nat_le e.at y) (spans cover) (λ y m. by_end y m (nat_lt y (e.at + e.len)) refl)
+  where
+    outside : (y : ℕ) → In (spans cover) y → (LiesIn e y → ⊥) → (t : Bool) → ((y - low) / s == a) ≡ t → t ≡ false
+    outside y m none true g = let w = within y m in absurd (none ((cut y).1 (w.0, w.1, eqb-true _ _ g)))
+    outside y m none false g = refl
+
+    by_begin : (y : ℕ) → In (spans cover) y → y < e.at + e.len → (t : Bool) → nat_le e.at y ≡ t → ((y - low) / s == a) ≡ t
+    by_begin y m k true g = equal_true ((y - low) / s) a ((cut y).0 (leb-true e.at y g, k)).2
+    by_begin y m k false g = outside y m (λ l. no_both (nat_le e.at y) (le-leb e.at y l.0) g) ((y - low) / s == a) refl
+
+    by_end : (y : ℕ) → In (spans cover) y → (t : Bool) → nat_lt y (e.at + e.len) ≡ t → ((y - low) / s == a) ≡ (t && nat_le e.at y)
+    by_end y m true g = by_begin y m (ltb-true _ _ g) (nat_le e.at y) refl
+    by_end y m false g = outside y m (λ l. let h = l.1 in let k : e.at + e.len ≤ y = ltb-false _ _ g in absurd (omega arith)) ((y - low) / s == a) refl
+
+within_ends : (bytes : List ℕ) (x : ℕ) → IsAscending bytes → In bytes x → (first_of bytes ≤ x) × (x < end_of bytes)
+within_ends [] x h m = absurd m
+within_ends (y ∷ ys) x h m = let most = last_most (y ∷ ys) x m in (first_least (y ∷ ys) x h m, omega arith)
+
+-- ---- the windows of a domain
+
+abbrev pub share_windows : ℕ → ℕ → Division → List ℕ → ℕ → List NcvWindow
+share_windows lo hi d bytes a = map (window_shown a) (windows d.buffer (share (low_of lo d.unit) (share_of lo hi d.aggregators d.unit) bytes a))
+
+pub domain_windows : (d : Division) (lo hi : ℕ) (cover : List Extent) (e : Extent) (a : ℕ) (left : List Window) → IsAscending (spans cover)
+    → lo ≡ first_of (spans cover) → hi ≡ end_of (spans cover)
+    → ((x : ℕ) → LiesIn e x ↔ ((lo ≤ x) × (x < hi) × ((x - low_of lo d.unit) / share_of lo hi d.aggregators d.unit ≡ a)))
+    → left ≡ round_windows d.buffer (bytes_in e cover) → map (shown a) left ≡ share_windows lo hi d (spans cover) a
+domain_windows d lo hi cover e a left asc begin end cut is =
+    let within : (x : ℕ) → In (spans cover) x → (lo ≤ x) × (x < hi) = λ x m. (let w = within_ends (spans cover) x asc m in let l = w.0 in let h = w.1 in (omega arith, omega arith)) in
+    let bytes = bytes_in e cover in
+    let low = low_of lo d.unit in
+    let s = share_of lo hi d.aggregators d.unit in
+    ap (λ (ws : List Window). map (shown a) ws) is
+    ∙ map-map (shown a) (window_told (first_of bytes) d.buffer) (map told_of (windows d.buffer bytes))
+    ∙ map-map (λ t. shown a (window_told (first_of bytes) d.buffer t)) told_of (windows d.buffer bytes)
+    ∙ ap (λ (b : List ℕ). map (window_shown a) (windows d.buffer b)) (share_is cover e lo hi low s a cut within)
+
+-- ---- those of all domains
+
+numbered : {X Y : Type 0} (g : ℕ × X → List Y) (f : ℕ → X) (k n : ℕ) → flat_map g (enumerate_from k (map f (range_with_len k n))) ≡ flat_map (λ a. g (a, f a)) (range_with_len k n)
+numbered g f k zero = refl
+numbered {X} {Y} g f k (suc n) = ap (λ (l : List Y). g (k, f k) ++ l) (numbered g f (k + 1) n)
+
+-- those from domain a on
+abbrev pub windows_from : ℕ → ℕ → Division → List ℕ → ℕ → List NcvWindow
+windows_from lo hi d bytes a = flat_map (share_windows lo hi d bytes) (range_with_len a (d.aggregators - a))
+
+from_first : (lo hi : ℕ) (d : Division) (bytes : List ℕ) → windows_from lo hi d bytes 0 ≡ flat_map (share_windows lo hi d bytes) (range_with_len 0 d.aggregators)
+from_first lo hi d bytes =
+    let all : d.aggregators - 0 ≡ d.aggregators = omega arith in
+    ap (λ (n : ℕ). flat_map (share_windows lo hi d bytes) (range_with_len 0 n)) all
+
+pub all_windows : (lo hi : ℕ) (d : Division) (bytes : List ℕ) → lo ≡ first_of bytes → hi ≡ end_of bytes → windows_from lo hi d bytes 0 ≡ step_windows d bytes
+all_windows lo hi d [] e f =
+    from_first lo hi d []
+    ∙ sym (numbered (numbered_windows d.buffer) (λ a. share (low_of lo d.unit) (share_of lo hi d.aggregators d.unit) [] a) 0 d.aggregators)
+all_windows lo hi d (x ∷ xs) e f =
+    from_first lo hi d (x ∷ xs)
+    ∙ (λ i. flat_map (share_windows (e i) (f i) d (x ∷ xs)) (range_with_len 0 d.aggregators))
+    ∙ sym (numbered (numbered_windows d.buffer)
+    (λ a. share (low_of (first_of (x ∷ xs)) d.unit) (share_of (first_of (x ∷ xs)) (last_of (x ∷ xs) + 1) d.aggregators d.unit) (x ∷ xs) a) 0 d.aggregators)
+
+pub next_windows : (lo hi : ℕ) (d : Division) (bytes : List ℕ) (a : ℕ) → a < d.aggregators
+    → windows_from lo hi d bytes a ≡ share_windows lo hi d bytes a ++ windows_from lo hi d bytes (a + 1)
+next_windows lo hi d bytes a h =
+    let more : d.aggregators - a ≡ suc (d.aggregators - (a + 1)) = omega arith in
+    ap (λ (n : ℕ). flat_map (share_windows lo hi d bytes) (range_with_len a n)) more
+
+pub no_windows : (lo hi : ℕ) (d : Division) (bytes : List ℕ) (a : ℕ) → d.aggregators ≤ a → windows_from lo hi d bytes a ≡ []
+no_windows lo hi d bytes a h =
+    let none : d.aggregators - a ≡ 0 = omega arith in
+    ap (λ (n : ℕ). flat_map (share_windows lo hi d bytes) (range_with_len a n)) none
+
+-- ---- how many there are: no more than bytes
+
+walked_few : (stop : ℕ → ℕ) (fuel : ℕ) (bytes : List ℕ) → length (walked stop fuel bytes) ≤ fuel
+walked_few stop zero bytes = omega arith
+walked_few stop (suc fuel) [] = omega arith
+walked_few stop (suc fuel) (x ∷ bytes) = omega (arith, walked_few stop fuel (filter (λ y. nat_le (stop x) y) bytes))
+
+windows_few : (buffer : ℕ) (bytes : List ℕ) → 1 ≤ buffer → IsAscending bytes → length (windows buffer bytes) ≤ length bytes
+windows_few buffer bytes h asc =
+    let same = ap (λ (ws : List (List ℕ)). length ws) (windows_walked buffer bytes h asc) in
+    omega (arith, same, walked_few (round_end (first_of bytes) buffer) (length bytes) bytes)
+
+split_more : (b c d : Bool) (x : ℕ) (k l m : List ℕ) → (b ≡ true → c ≡ true → ⊥) → (b ≡ true → d ≡ true) → (c ≡ true → d ≡ true) → length k + length l ≤ length m
+    → length (cond b (x ∷ k) k) + length (cond c (x ∷ l) l) ≤ length (cond d (x ∷ m) m)
+split_more true true d x k l m p q r h = absurd (p refl refl)
+split_more true false true x k l m p q r h = omega arith
+split_more true false false x k l m p q r h = absurd (let e = q refl in cc)
+split_more false true true x k l m p q r h = omega arith
+split_more false true false x k l m p q r h = absurd (let e = r refl in cc)
+split_more false false true x k l m p q r h = omega arith
+split_more false false false x k l m p q r h = h
+
+-- the numbers whose f is a, and those whose f is more
+split_few : (f : ℕ → ℕ) (a : ℕ) (xs : List ℕ) → length (filter (λ x. f x == a) xs) + length (filter (λ x. nat_le (a + 1) (f x)) xs) ≤ length (filter (λ x. nat_le a (f x)) xs)
+split_few f a [] = omega arith
+split_few f a (x ∷ xs) =
+    split_more (f x == a) (nat_le (a + 1) (f x)) (nat_le a (f x)) x (filter (λ x. f x == a) xs) (filter (λ x. nat_le (a + 1) (f x)) xs) (filter (λ x. nat_le a (f x)) xs)
+    (λ e g. let is = eqb-true (f x) a e in let more = leb-true (a + 1) (f x) g in absurd (omega arith))
+    (λ e. let is = eqb-true (f x) a e in le-leb a (f x) (omega arith))
+    (λ g. let more = leb-true (a + 1) (f x) g in le-leb a (f x) (omega arith))
+    (split_few f a xs)
+
+filter_few : (t : ℕ → Bool) (xs : List ℕ) → length (filter t xs) ≤ length xs
+filter_few t [] = omega arith
+filter_few t (x ∷ xs) = by_test (filter_few t xs) (t x)
+  where
+    by_test : length (filter t xs) ≤ length xs → (b : Bool) → length (cond b (x ∷ filter t xs) (filter t xs)) ≤ length (x ∷ xs)
+    by_test h true = omega arith
+    by_test h false = omega arith
+
+shares_few : (lo hi : ℕ) (d : Division) (bytes : List ℕ) (a n : ℕ) → 1 ≤ d.buffer → IsAscending bytes
+    → length (flat_map (share_windows lo hi d bytes) (range_with_len a n)) ≤ length (filter (λ x. nat_le a ((x - low_of lo d.unit) / share_of lo hi d.aggregators d.unit)) bytes)
+shares_few lo hi d bytes a zero h asc = omega arith
+shares_few lo hi d bytes a (suc n) h asc =
+    let f : ℕ → ℕ = λ x. (x - low_of lo d.unit) / share_of lo hi d.aggregators d.unit in
+    let own = share (low_of lo d.unit) (share_of lo hi d.aggregators d.unit) bytes a in
+    let rest = shares_few lo hi d bytes (a + 1) n h asc in
+    let both = length-append (share_windows lo hi d bytes a) (flat_map (share_windows lo hi d bytes) (range_with_len (a + 1) n)) in
+    let shown = length-map (windows d.buffer own) (window_shown a) in
+    let few = windows_few d.buffer own h (filter_ascends (λ x. f x == a) bytes asc) in
+    let split = split_few f a bytes in
+    omega arith
+
+ascending_few : (xs : List ℕ) (lo hi : ℕ) → IsAscending xs → ((x : ℕ) → In xs x → (lo ≤ x) × (x < hi)) → length xs ≤ hi - lo
+ascending_few [] lo hi h within = omega arith
+ascending_few (x ∷ xs) lo hi h within =
+    let here = within x (inl refl) in
+    let low = here.0 in
+    let high = here.1 in
+    let rest = ascending_few xs (x + 1) hi h.1 (λ y m. (let next = h.0 y m in omega arith, (within y (inr m)).1)) in
+    omega arith
+
+pub windows_few_in_all : (lo hi : ℕ) (d : Division) (bytes : List ℕ) → 1 ≤ d.buffer → IsAscending bytes → hi ≡ end_of bytes → length (windows_from lo hi d bytes 0) ≤ hi
+windows_few_in_all lo hi d bytes h asc end =
+    let shares = shares_few lo hi d bytes 0 (d.aggregators - 0) h asc in
+    let kept = filter_few (λ x. nat_le 0 ((x - low_of lo d.unit) / share_of lo hi d.aggregators d.unit)) bytes in
+    let few = ascending_few bytes 0 hi asc (λ x m. (let high = (within_ends bytes x asc m).1 in (omega arith, omega arith))) in
+    omega arith

@@ -1,0 +1,25 @@
+-- The sorted entries have the bytes of the extents.
+use Rattle.std.proofs.Common.{◌^◌, List, sym, subst}
+use Rattle.nc_base.specs.declared.plan.Owned.{Owned}
+use Rattle.overlay_laws.specs.Entries.{HaveSame, ranges}
+use Rattle.overlay_laws.specs.Lines.{extents, EndBelow}
+use Rattle.serial_spec.specs.Extents.{spans}
+use Rattle.nc_classic_c.proofs.CoverLaws.{cover_bytes, cover_low, entries_low}
+use Rattle.nc_classic_c.proofs.covers.cover_of.Goals as goal
+
+pub cover-requires-clause-ends : goal.cover-requires-clause-ends
+cover-requires-clause-ends c =
+    subst (λ (os : List Owned). EndBelow (2 ^ 62) (extents os)) (sym c.as_slice.ensures.value)
+    (entries_low c.args.asked.now c.in_ok-list.list.items c.requires c.in_ok-list.ensures.entries)
+
+pub returns-clause-ends : goal.returns-clause-ends
+returns-clause-ends c =
+    cover_low c.in_ok-whole.whole c.in_ok-list.list.items c.in_ok-whole.ensures.apart
+    (subst (λ (os : List Owned). HaveSame (spans c.in_ok-whole.whole) (ranges os)) c.as_slice.ensures.value c.in_ok-whole.ensures.bytes)
+    (entries_low c.args.asked.now c.in_ok-list.list.items c.requires c.in_ok-list.ensures.entries)
+
+pub returns-clause-bytes : goal.returns-clause-bytes
+returns-clause-bytes c =
+    cover_bytes c.in_ok-whole.whole c.in_ok-list.list.items c.args.asked.now c.in_ok-whole.ensures.apart
+    (subst (λ (os : List Owned). HaveSame (spans c.in_ok-whole.whole) (ranges os)) c.as_slice.ensures.value c.in_ok-whole.ensures.bytes)
+    c.in_ok-list.ensures.entries

@@ -1,0 +1,25 @@
+-- The first extent begins at the first byte, and the last one ends behind the last.
+use Rattle.std.proofs.Common.{◌≡◌, ◌+◌, ◌-◌, ◌^◌, ◌<◌, ◌≤◌, ◌∙◌, sym, ap, length, arith}
+use Rattle.std.specs.Option.{option_copied}
+use Rattle.serial_spec.proofs.MemberLaws.{at_in}
+use Rattle.serial_spec.specs.DeviceCalls.{first_of}
+use Rattle.serial_spec.specs.Extents.{spans}
+use Rattle.nc_classic_c.specs.Windows.{end_of}
+use Rattle.nc_classic_c.proofs.CoverLaws.{reach_is}
+use Rattle.nc_classic_c.proofs.covers.reach_of.Goals as goal
+
+reach : (c : goal.In-Some-Some) → (c.in-Some-Some.first.now.at ≡ first_of (spans c.args.cover.now))
+    × (c.in-Some-Some.last.now.at + c.in-Some-Some.last.now.len ≡ end_of (spans c.args.cover.now)) × (c.in-Some-Some.first.now.at ≤ c.in-Some-Some.last.now.at + c.in-Some-Some.last.now.len)
+reach c =
+    reach_is c.args.cover.now c.in-Some-Some.first.now c.in-Some-Some.last.now c.requires.cover (sym c.first.ensures.value ∙ ap option_copied c.in-Some-Some.is-0)
+    (sym c.last.ensures.value ∙ ap option_copied c.in-Some-Some.is-1)
+
+high : (c : goal.In-Some-Some) → c.in-Some-Some.last.now.at + c.in-Some-Some.last.now.len < 2 ^ 62
+high c =
+    c.requires.ends c.in-Some-Some.last.now (at_in c.args.cover.now (length c.args.cover.now - 1) c.in-Some-Some.last.now (sym c.last.ensures.value ∙ ap option_copied c.in-Some-Some.is-1))
+
+pub overflow_add-result : goal.overflow_add-result
+overflow_add-result c = let h = high c in omega arith
+
+pub returns-in-Some-Some : goal.returns-in-Some-Some
+returns-in-Some-Some c = let r = reach c in record { begin = r.0; end = r.1; order = r.2; limit = high c }

@@ -1,0 +1,8 @@
+-- The values so far are written.
+use Rattle.std.proofs.Common.{◌≡◌, ◌*◌, map, take}
+use Rattle.serial_spec.specs.ExternalForm.{size_of}
+use Rattle.nc_classic_c.specs.Values.{packed}
+use Rattle.nc_classic_c.proofs.packing.put_all.Given as goal
+
+abbrev pub invariant-loop-i : goal.invariant-loop-i
+invariant-loop-i g l = take (l.i * size_of l.kind) l.into ≡ packed l.kind (map g.T.Kept.told (take l.i l.words))

@@ -1,0 +1,25 @@
+-- One value more is written.
+use Rattle.std.proofs.Common.{◌≡◌, ◌∙◌, ℕ, length, map, sym, ap, subst, true, arith}
+use Rattle.std.specs.List.{range_with_len}
+use Rattle.std.proofs.lemmas.List.{take_all}
+use Rattle.nc_base.specs.declared.request.Value.{Value}
+use Rattle.serial_spec.specs.ExternalForm.{fits}
+use Rattle.nc_classic_c.proofs.ValueLaws.{one_read, value_fits, value_in}
+use Rattle.nc_classic_c.proofs.unpacking.write_all.Goals as goal
+
+pub word_for-requires : goal.word_for-requires
+word_for-requires g c =
+    subst (λ (v : Value). fits g.T.Kept.same v ≡ true) (sym c.value_at.ensures)
+    (value_fits g.T.Kept.same c.args.kind (length c.args.into.now) c.args.bytes.now c.loop-k.k c.requires.kept (omega (arith, c.loop-k-test.true, c.loop-k.auto.into)))
+
+pub loop-k-preserved : goal.loop-k-preserved
+loop-k-preserved g c =
+    one_read c.args.kind g.T.Kept.told c.args.bytes.now c.loop-k.into c.loop-k.k c.word_for.result (omega (arith, c.loop-k-test.true, c.loop-k.auto.into))
+    (c.word_for.ensures ∙ c.value_at.ensures) c.loop-k.invariant
+
+pub returns : goal.returns
+returns g c =
+    let last : c.loop-k.k ≡ length c.args.into.now = omega (arith, c.loop-k-test.false) in
+    ap (λ xs. map g.T.Kept.told xs) (sym (take_all c.loop-k.k c.loop-k.into (omega (arith, c.loop-k-test.false, c.loop-k.auto.into))))
+    ∙ c.loop-k.invariant
+    ∙ ap (λ (n : ℕ). map (value_in c.args.kind c.args.bytes.now) (range_with_len 0 n)) last

@@ -1,0 +1,74 @@
+-- One domain after another.
+use Rattle.std.proofs.Common.{◌+◌, ◌∙◌, ◌++◌, List, length, drop, refl, sym, ap, length-append, arith}
+use Rattle.std.specs.Prelude.{map}
+use Rattle.std.proofs.lemmas.List.{length-map}
+use Rattle.file_domains.specs.Rounds.{windows_left}
+use Rattle.overlay_laws.proofs.CoverLaws.{spans_ascend}
+use Rattle.serial_spec.specs.Extents.{spans}
+use Rattle.nc_classic_c.specs.declared.windows.NcvWindow.{NcvWindow}
+use Rattle.nc_classic_c.specs.Extents.{filled, laid_from}
+use Rattle.nc_classic_c.specs.Windows.{shown}
+use Rattle.nc_classic_c.proofs.LayLaws.{laid_whole, part_laid}
+use Rattle.nc_classic_c.proofs.WindowLaws.{all_windows, divided, domain_windows, next_windows, no_windows, share_windows, windows_few_in_all, windows_from}
+use Rattle.nc_classic_c.proofs.windows.lay_domains.Goals as goal
+
+pub loop-number-init : goal.loop-number-init
+loop-number-init c = record { laid = refl; many = omega arith }
+
+pub cut-domain-requires : goal.cut-domain-requires
+cut-domain-requires c =
+    let d = divided c.args.division.now c.requires.division in
+    record { order = c.requires.order; limit = c.requires.limit; number = c.loop-number-test.true; few = d.few; least_unit = d.least_unit; greatest_unit = d.greatest_unit }
+
+pub windows-walk-requires : goal.windows-walk-requires
+windows-walk-requires c = record { cover = c.requires.cover; ends = c.requires.ends; size = (divided c.args.division.now c.requires.division).buffer }
+
+pub lay_windows-total-requires : goal.lay_windows-total-requires
+lay_windows-total-requires c =
+    let d = c.args.division.now in
+    let bytes = spans c.args.cover.now in
+    let asc = spans_ascend c.args.cover.now c.requires.cover in
+    let same = domain_windows d c.args.reach.lo c.args.reach.hi c.args.cover.now c.cut-domain.result c.loop-number.number (windows_left c.windows-walk.result) asc
+    c.requires.begin c.requires.end c.cut-domain.ensures.bytes c.windows-walk.ensures.windows in
+    let long = length-map (windows_left c.windows-walk.result) (shown c.loop-number.number) in
+    let own = ap length same in
+    let next = ap length (next_windows c.args.reach.lo c.args.reach.hi d bytes c.loop-number.number c.loop-number-test.true) in
+    let both = length-append (share_windows c.args.reach.lo c.args.reach.hi d bytes c.loop-number.number) (windows_from c.args.reach.lo c.args.reach.hi d bytes (c.loop-number.number + 1)) in
+    let few = windows_few_in_all c.args.reach.lo c.args.reach.hi d bytes (divided d c.requires.division).buffer asc c.requires.end in
+    record { ready = c.windows-walk.ensures.ready; few = omega (arith, c.loop-number.invariant.many, c.requires.limit) }
+
+pub loop-number-preserved : goal.loop-number-preserved
+loop-number-preserved c =
+    let d = c.args.division.now in
+    let bytes = spans c.args.cover.now in
+    let asc = spans_ascend c.args.cover.now c.requires.cover in
+    let left = windows_left c.windows-walk.result in
+    let same = domain_windows d c.args.reach.lo c.args.reach.hi c.args.cover.now c.cut-domain.result c.loop-number.number left asc
+    c.requires.begin c.requires.end c.cut-domain.ensures.bytes c.windows-walk.ensures.windows in
+    let long = length-map left (shown c.loop-number.number) in
+    let own = ap length same in
+    let next = next_windows c.args.reach.lo c.args.reach.hi d bytes c.loop-number.number c.loop-number-test.true in
+    let rest = windows_from c.args.reach.lo c.args.reach.hi d bytes (c.loop-number.number + 1) in
+    let both = length-append (share_windows c.args.reach.lo c.args.reach.hi d bytes c.loop-number.number) rest in
+    let all = ap length next in
+    record {
+      laid = part_laid c.args.from c.loop-number.total c.lay_windows-total.result c.loop-number.into c.lay_windows-total.new.into (map (shown c.loop-number.number) left) rest
+          (windows_from c.args.reach.lo c.args.reach.hi d bytes c.loop-number.number) _
+          (omega (arith, c.lay_windows-total.ensures.next, long)) c.lay_windows-total.ensures.laid
+          (next ∙ ap (λ (l : List NcvWindow). l ++ rest) (sym same)) c.loop-number.invariant.laid;
+      many = omega (arith, c.lay_windows-total.ensures.next, c.loop-number.invariant.many);
+    }
+
+pub returns : goal.returns
+returns c =
+    let d = c.args.division.now in
+    let bytes = spans c.args.cover.now in
+    let none = no_windows c.args.reach.lo c.args.reach.hi d bytes c.loop-number.number c.loop-number-test.false in
+    let all = all_windows c.args.reach.lo c.args.reach.hi d bytes c.requires.begin c.requires.end in
+    record {
+      laid = sym (ap (λ (l : List NcvWindow). laid_from c.loop-number.total c.args.from c.loop-number.into l) none)
+          ∙ c.loop-number.invariant.laid
+          ∙ laid_whole (windows_from c.args.reach.lo c.args.reach.hi d bytes 0) c.args.from c.args.into.now
+          ∙ ap (λ (l : List NcvWindow). filled c.args.into.now (drop c.args.from l)) all;
+      total = omega (arith, c.loop-number.invariant.many, ap length none) ∙ ap length all;
+    }

@@ -1,0 +1,18 @@
+-- The cover has the bytes that are asked for.
+use Rattle.std.proofs.Common.{◌∙◌, List, sym, ap}
+use Rattle.nc_base.specs.declared.plan.Extent.{Extent}
+use Rattle.serial_spec.specs.DeviceCalls.{first_of}
+use Rattle.serial_spec.specs.Extents.{spans}
+use Rattle.nc_classic_c.specs.Windows.{end_of}
+use Rattle.nc_classic_c.proofs.StepLaws.{step_told}
+use Rattle.nc_classic_c.proofs.windows.lay_step.Goals as goal
+
+pub returns-clause-ok : goal.returns-clause-ok
+returns-clause-ok c =
+    let same = c.as_slice.ensures ∙ sym c.as_slice-2.ensures in
+    step_told c.args.division.now c.args.asked.now c.args.from c.args.into.now c.lay_domains.new.into (spans c.as_slice-2.result.now)
+    c.reach_of-reach.result.lo c.reach_of-reach.result.hi c.lay_domains.result
+    (ap (λ (es : List Extent). spans es) c.as_slice-2.ensures ∙ c.in_ok-cover.ensures.bytes)
+    (c.reach_of-reach.ensures.begin ∙ ap (λ (es : List Extent). first_of (spans es)) same)
+    (c.reach_of-reach.ensures.end ∙ ap (λ (es : List Extent). end_of (spans es)) same)
+    c.lay_domains.ensures.laid c.lay_domains.ensures.total

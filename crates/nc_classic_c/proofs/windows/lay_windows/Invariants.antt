@@ -1,0 +1,13 @@
+-- The windows that are left are laid next.
+use Rattle.std.proofs.Common.{◌≡◌, ◌+◌, length}
+use Rattle.std.specs.Prelude.{map}
+use Rattle.file_domains.specs.Rounds.{windows_left}
+use Rattle.nc_classic_c.specs.Extents.{laid_from}
+use Rattle.nc_classic_c.specs.Windows.{shown}
+use Rattle.nc_classic_c.proofs.windows.lay_windows.Given as goal
+
+abbrev pub invariant-loop-window : goal.invariant-loop-window
+invariant-loop-window l = record {
+  laid : laid_from l.next l.from l.into (map (shown l.aggregator) (windows_left l.window-iterator)) ≡ laid_from l.total l.from l.initial.into (map (shown l.aggregator) (windows_left l.fn.windows));
+  many : l.next + length (windows_left l.window-iterator) ≡ l.total + length (windows_left l.fn.windows);
+}
