@@ -1,12 +1,17 @@
 pub mod Accepted
 pub mod Answers
+pub mod Causes
 pub mod Counts
+pub mod Definitions
 pub mod Domains
 pub mod Extents
 pub mod Faults
 pub mod Headers
 pub mod Looks
+pub mod Making
+pub mod Naming
 pub mod Overlaps
 pub mod Parts
 pub mod Regions
 pub mod Sizes
+pub mod Tables

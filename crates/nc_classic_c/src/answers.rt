@@ -2,6 +2,7 @@
 ghost use Rattle.std.specs.Prelude.{◌≡◌};
 ghost use Rattle.nc_classic_c.specs.Answers.{code_number, number_of, refusal_of};
 
+use crate::causes::{Unmade, cause_number};
 use nc_base::{Code, HeaderErr, Memory};
 
 /// The call did what it is for.
@@ -19,6 +20,8 @@ pub enum Refusal {
     NoAttribute,
     /// Two requests hold a byte in common.
     Shared,
+    /// A header is not made.
+    Unmade(Unmade),
 }
 
 impl From<Memory> for Refusal {
@@ -52,6 +55,7 @@ pub(crate) fn number_of(refusal: Refusal) -> i32
         Refusal::Asked(code) => code_number(code),
         Refusal::NoAttribute => -43,
         Refusal::Shared => 5,
+        Refusal::Unmade(unmade) => cause_number(unmade.cause),
     }
 }
 
