@@ -1,7 +1,10 @@
 pub mod AcceptedRegions
 pub mod Answering
+pub mod CountedHeaders
+pub mod DefinitionLaws
 pub mod DomainLaws
 pub mod Filling
+pub mod MakingLaws
 pub mod OverlapLaws
 pub mod Refusing
 pub mod SizeLaws

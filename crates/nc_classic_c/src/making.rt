@@ -1,5 +1,5 @@
 // The bytes of a header that is defined.
-ghost use Rattle.std.specs.Prelude.{◌≡◌, ◌≤◌, ◌<◌, true, IfOk, IfErr, OnOk, OnErr, length};
+ghost use Rattle.std.specs.Prelude.{◌≡◌, ◌≤◌, ◌<◌, ◌^◌, true, IfOk, IfErr, OnOk, OnErr, length};
 ghost use Rattle.std.specs.Result.{result_err};
 ghost use Rattle.serial_spec.specs.HeaderBytes.{canon};
 ghost use Rattle.serial_spec.specs.SoundHeaders.{is_writable};
@@ -17,6 +17,7 @@ use crate::definitions::check_definitions;
 use crate::sizes::fits;
 use crate::tables::{NcvHeaderDef, header_of};
 use cdf_header::encode;
+use cdf_header::laws::written_law;
 use nc_base::{Align, Blob, Header, LayoutErr, MAX_ALIGN};
 use std::alloc::Global;
 use var_layout::lay_out;
@@ -62,6 +63,8 @@ fn asked(defined: &NcvHeaderDef) -> Result<(u8, Align), Unmade>
     ensures version { IfOk result (λ r. r.0 ≡ defined.now.version) }
     ensures align { IfOk result (λ r. r.1 ≡ align_of defined.now) }
     ensures asked { OnOk result (is_asked defined.now ≡ true) }
+    ensures header_align { IfOk result (λ r. (0 < r.1.header) × (r.1.header ≤ 2 ^ 20)) }
+    ensures var_align { IfOk result (λ r. (0 < r.1.var) × (r.1.var ≤ 2 ^ 20)) }
 {
     let align = Align {
         header: defined.header_align,
@@ -80,8 +83,8 @@ fn asked(defined: &NcvHeaderDef) -> Result<(u8, Align), Unmade>
 fn place(header: &mut Header, align: &Align, records: u64) -> Result<(), Unmade>
     requires unplaced { is_unplaced header.old ≡ true }
     requires parts { has_writable_parts header.old ≡ true }
-    requires header_align { is_align align.now.header ≡ true }
-    requires var_align { is_align align.now.var ≡ true }
+    requires header_align { (0 < align.now.header) × (align.now.header ≤ 2 ^ 20) }
+    requires var_align { (0 < align.now.var) × (align.now.var ≤ 2 ^ 20) }
     ensures refused { result_err result ≡ place_refusal header.old align.now records }
     ensures placed { OnOk result (header.new ≡ placed_header header.old align.now records) }
     ensures writable { OnOk result (is_writable header.new ≡ true) }
@@ -139,6 +142,7 @@ fn make_into(
     ensures len { IfErr result (λ r. len.new ≡ len_told defined.now r len.old) }
     ensures kept { OnErr result (into.new ≡ into.old) }
 {
+    written_law();
     let bytes = made(alloc, defined)?;
     give(bytes.as_slice(), into, len)
 }
