@@ -84,7 +84,7 @@ why_unmade defined room = option_or (refusal_of defined) (room_refusal defined r
 
 pub record IsMade (defined : NcvHeaderDef) (len : ℕ) (old new : List ℕ) : Type 0 where
   pub none_refused : why_unmade defined (length old) ≡ None
-  pub len : len ≡ header_len (made_header defined)
+  pub long : len ≡ header_len (made_header defined)
   pub bytes : new ≡ filled old (canon (made_header defined))
   pub read_back : IsHeaderOf new (made_header defined)
 

@@ -8,7 +8,7 @@ ghost use Rattle.nc_classic_c.specs.declared.answers.Refusal.TheVariants as refu
 ghost use Rattle.nc_classic_c.specs.declared.causes.Cause.TheVariants as cause;
 ghost use Rattle.nc_classic_c.specs.Answers.{IsAnswer};
 ghost use Rattle.nc_classic_c.specs.Extents.{filled};
-ghost use Rattle.nc_classic_c.specs.Making.{align_of, is_align, is_asked, of_layout, of_whole, argument_refusal, place_refusal, placed_header, made_header, refusal_of, why_unmade, refused_told, len_told, IsMade, IsUnmade};
+ghost use Rattle.nc_classic_c.specs.Making.{align_of, is_align, is_asked, of_whole, argument_refusal, place_refusal, placed_header, made_header, refusal_of, why_unmade, refused_told, len_told, IsMade, IsUnmade};
 
 use crate::answers::{OK, Refusal, number_of};
 use crate::causes::{Cause, NcvRefused, Part, Unmade, part_shown};
@@ -39,15 +39,19 @@ fn of_whole(cause: Cause) -> Unmade
     Unmade { cause, part }
 }
 
-fn of_layout(fault: LayoutErr) -> Unmade
-    ensures { result ≡ of_layout fault }
-{
-    match fault {
-        LayoutErr::HeaderRange => of_whole(Cause::TooLarge),
-        LayoutErr::VarSize(k) | LayoutErr::BeginRange(k) => Unmade {
-            cause: Cause::VarSize,
-            part: Part::Var(k),
-        },
+impl From<LayoutErr> for Unmade {
+    ghost use Rattle.nc_classic_c.specs.Making.{of_layout};
+
+    ghost from_gives = { λ e u. u ≡ of_layout e };
+
+    fn from(fault: LayoutErr) -> Self {
+        match fault {
+            LayoutErr::HeaderRange => of_whole(Cause::TooLarge),
+            LayoutErr::VarSize(k) | LayoutErr::BeginRange(k) => Unmade {
+                cause: Cause::VarSize,
+                part: Part::Var(k),
+            },
+        }
     }
 }
 
@@ -89,9 +93,7 @@ fn place(header: &mut Header, align: &Align, records: u64) -> Result<(), Unmade>
     ensures placed { OnOk result (header.new ≡ placed_header header.old align.now records) }
     ensures writable { OnOk result (is_writable header.new ≡ true) }
 {
-    if let Err(fault) = lay_out(header, align) {
-        return Err(of_layout(fault));
-    }
+    lay_out(header, align)?;
     if !fits(header, records) {
         return Err(of_whole(Cause::TooLarge));
     }
