@@ -1,23 +1,18 @@
 -- Definitions that can all be taken make a header that can be laid out and written.
-use Rattle.std.proofs.Common.{◌≡◌, ℕ, zero, suc, ◌+◌, ◌*◌, ◌/◌, ◌%◌, ◌^◌, ◌<◌, ◌≤◌, List, [], ◌∷◌, ◌++◌, map, drop, length, Bool, true, false, cond, ◌&&◌, ◌||◌, Option, Some, None, refl, sym, ap, subst, ◌∙◌, arith, length-append}
+use Rattle.std.proofs.Common.{◌≡◌, ℕ, zero, suc, ◌+◌, ◌-◌, ◌*◌, ◌/◌, ◌%◌, ◌^◌, ◌<◌, ◌≤◌, List, [], ◌∷◌, ◌++◌, map, drop, length, Bool, true, false, cond, ◌&&◌, ◌||◌, Option, Some, None, refl, sym, ap, subst, ◌∙◌, arith, length-append}
 use Rattle.std.specs.Prelude.{not, nat_lt, nat_le, ◌==◌, slice_get, option_map, count_by}
 use Rattle.std.specs.List.{AllByRecursion, list_any, list_all}
 use Rattle.std.specs.Int.{w32, w64}
-use Rattle.std.proofs.Math.Nat.{div-le_self, div-add-mod}
-use Rattle.std.proofs.lemmas.Bool.{and_from, or_from, or_parts, ltb-false, leb-false, le-leb, le-ltb}
-use Rattle.std.proofs.lemmas.Bool.Decides.{nat_tests}
+use Rattle.std.proofs.Math.Nat.{div-le_self, div-mul-le_self, mod-eq-sub-div-mul}
+use Rattle.std.proofs.lemmas.Bool.{and_from, or_parts, ltb-false, leb-false, le-leb, le-ltb}
 use Rattle.std.proofs.lemmas.List.{length-map}
 use Rattle.std.proofs.lemmas.List.Folds.{list_any-append}
-use Rattle.std.proofs.lemmas.Option.{slice_get-map}
+use Rattle.std.proofs.lemmas.List.Sums.{sum_by-cons}
 use Rattle.list_laws.proofs.Each.{each_map, each_passes, each_fails, each_weaker, fails_each}
-use Rattle.list_laws.proofs.Maps.{any_map}
 use Rattle.list_laws.proofs.Optional.{both_none, none_before_map, told_else}
-use Rattle.list_laws.proofs.Truth.{equal_true, not_zero, and_first, or_first_false}
-use Rattle.nc_base.specs.declared.header.Attr.{Attr}
+use Rattle.list_laws.proofs.Truth.{equal_true, not_zero, no_false}
 use Rattle.nc_base.specs.declared.header.Dim.{Dim}
-use Rattle.nc_base.specs.declared.header.NcType.{NcType}
 use Rattle.nc_base.specs.declared.header.Var.{Var}
-use Rattle.serial_spec.proofs.LengthLaws.{size_pos}
 use Rattle.serial_spec.specs.ExternalForm.{size_of}
 use Rattle.serial_spec.specs.HeaderBytes.{number_of, last_type, is_version}
 use Rattle.serial_spec.specs.HeaderFaults.{two_record_dims, record_later, bad_id}
@@ -93,8 +88,8 @@ type_fits version n h =
 
 record DimTaken (version : ℕ) (before : List NcvDimDef) (d : NcvDimDef) : Type 0 where
   name : name_cause d.name.now ≡ None
-  length : nat_le (record_limit version) d.length ≡ false
-  record : (is_record_dim d && list_any is_record_dim before) ≡ false
+  long : nat_le (record_limit version) d.length ≡ false
+  one : (is_record_dim d && list_any is_record_dim before) ≡ false
   few : length before < 1024
 
 dim_taken : (version : ℕ) (before : List NcvDimDef) (d : NcvDimDef) → dim_refusal version before d ≡ None → DimTaken version before d
@@ -104,7 +99,7 @@ dim_taken version before d h =
     let c = told_else (is_record_dim d && list_any is_record_dim before) cause.Unlimit _ b.1 in
     let e = told_else _ cause.NameInUse _ c.1 in
     let f = told_else (nat_le most_dims (length before)) cause.MaxDims _ e.1 in
-    record { name = a.0; length = b.0; record = c.0; few = leb-false most_dims (length before) f.0 }
+    record { name = a.0; long = b.0; one = c.0; few = leb-false most_dims (length before) f.0 }
 
 length_fits : (version n : ℕ) → nat_le (record_limit version) n ≡ false → (fits_count version n ≡ true) × (nat_le n file_limit ≡ true)
 length_fits version n h = by_test (version == 5) h
@@ -116,28 +111,28 @@ length_fits version n h = by_test (version == 5) h
 dim_fits : (version : ℕ) (before : List NcvDimDef) (d : NcvDimDef) → dim_refusal version before d ≡ None → is_writable_dim version (dimension_of d) ≡ true
 dim_fits version before d h =
     let t = dim_taken version before d h in
-    let l = length_fits version d.length t.length in
+    let l = length_fits version d.length t.long in
     and_from _ _ (and_from _ _ (name_fits version d.name.now t.name) l.0) l.1
 
 -- one of them is the record dimension at most
+one_more : (c : ℕ) (s t : Bool) → (s && t) ≡ false → c + cond (t || (s || false)) 1 0 ≤ 1 → (cond s 1 0 + c) + cond t 1 0 ≤ 1
+one_more c true true e n = no_false (sym e)
+one_more c true false e n = let m : c + 1 ≤ 1 = n in let r : (1 + c) + 0 ≤ 1 = omega (arith, m) in r
+one_more c false true e n = let m : c + 1 ≤ 1 = n in let r : (0 + c) + 1 ≤ 1 = omega (arith, m) in r
+one_more c false false e n = let m : c + 0 ≤ 1 = n in let r : (0 + c) + 0 ≤ 1 = omega (arith, m) in r
+
 one_record : (version : ℕ) (before xs : List NcvDimDef) → first_refused (dim_refusal version) before xs ≡ None
     → count_by (λ (d : Dim). d.len == 0) (map dimension_of xs) + cond (list_any is_record_dim before) 1 0 ≤ 1
 one_record version before [] h = by_test (list_any is_record_dim before)
   where
     by_test : (t : Bool) → 0 + cond t 1 0 ≤ 1
-    by_test true = omega arith
-    by_test false = omega arith
+    by_test true = let r : 0 + 1 ≤ 1 = omega arith in r
+    by_test false = let r : 0 + 0 ≤ 1 = omega arith in r
 one_record version before (x ∷ xs) h =
     let b = both_none (dim_refusal version before x) (first_refused (dim_refusal version) (before ++ x ∷ []) xs) h in
-    by_test (is_record_dim x) (list_any is_record_dim before) (dim_taken version before x b.0).record
-    (subst (λ (t : Bool). count_by (λ (d : Dim). d.len == 0) (map dimension_of xs) + cond t 1 0 ≤ 1) (list_any-append is_record_dim before (x ∷ [])) (one_record version (before ++ x ∷ []) xs b.1))
-  where
-    by_test : (s t : Bool) → (s && t) ≡ false → count_by (λ (d : Dim). d.len == 0) (map dimension_of xs) + cond (t || (s || false)) 1 0 ≤ 1
-        → (cond s 1 0 + count_by (λ (d : Dim). d.len == 0) (map dimension_of xs)) + cond t 1 0 ≤ 1
-    by_test true true e n = absurd (cc)
-    by_test true false e n = omega (arith, n)
-    by_test false true e n = omega (arith, n)
-    by_test false false e n = omega (arith, n)
+    subst (λ (n : ℕ). n + cond (list_any is_record_dim before) 1 0 ≤ 1) (sym (sum_by-cons (λ (d : Dim). cond (d.len == 0) 1 0) (dimension_of x) (map dimension_of xs)))
+    (one_more (count_by (λ (d : Dim). d.len == 0) (map dimension_of xs)) (is_record_dim x) (list_any is_record_dim before) (dim_taken version before x b.0).one
+    (subst (λ (t : Bool). count_by (λ (d : Dim). d.len == 0) (map dimension_of xs) + cond t 1 0 ≤ 1) (list_any-append is_record_dim before (x ∷ [])) (one_record version (before ++ x ∷ []) xs b.1)))
 
 -- ---- an attribute
 
@@ -155,11 +150,11 @@ att_fits version before a h =
     (and_from _ _ (and_from _ _ (name_fits version a.name.now b.0) (type_fits version a.kind c.0)) (small_count version (n / size) (omega (arith, low, less))))
     (equal_true n (n / size * size) (whole n size (ltb-false 0 (n % size) d.0)))
   where
+    exact : (n r x : ℕ) → r ≡ n - x → x ≤ n → r ≤ 0 → n ≡ x
+    exact n r x e l z = omega (arith, e, l, z)
+
     whole : (n size : ℕ) → n % size ≤ 0 → n ≡ n / size * size
-    whole n size z =
-        let parts = div-add-mod n size in
-        let turned : size * (n / size) ≡ n / size * size = grind arith in
-        omega (arith, parts, z, turned)
+    whole n size z = exact n (n % size) (n / size * size) (mod-eq-sub-div-mul n size) (div-mul-le_self n size) z
 
 few_atts : (version : ℕ) (before : List NcvAttDef) (a : NcvAttDef) → att_cause version before a ≡ None → length before < 2 ^ 16
 few_atts version before a h =
@@ -214,11 +209,10 @@ var_taken version dims before v h =
 
 -- the same id in the header
 same_id : (dims : List NcvDimDef) (id : ℕ) → (length_of (slice_get (map dimension_of dims) id) == 0) ≡ is_record_id dims id
-same_id dims id = ap (λ (o : Option Dim). length_of o == 0) (slice_get-map dimension_of dims id) ∙ by_option (slice_get dims id)
-  where
-    by_option : (o : Option NcvDimDef) → (length_of (option_map dimension_of o) == 0) ≡ elim o [ None ↦ false | Some d ↦ is_record_dim d ]
-    by_option None = refl
-    by_option (Some d) = refl
+same_id [] zero = refl
+same_id [] (suc id) = refl
+same_id (d ∷ ds) zero = refl
+same_id (d ∷ ds) (suc id) = same_id ds id
 
 first_only : (D : NcvHeaderDef) (ids : List ℕ) → list_any (is_record_id D.dims.now) ids ≡ false → list_any (λ id. faults.is_record_id (header_of D) id) ids ≡ false
 first_only D ids h =
@@ -264,8 +258,9 @@ counts_small D h =
 
 pub taken_unplaced : (D : NcvHeaderDef) → is_version D.version ≡ true → definition_refusal D ≡ None → is_unplaced (header_of D) ≡ true
 taken_unplaced D right h =
-    let records = one_record D.version [] D.dims.now (taken_dims D h) in
-    let two : two_record_dims (header_of D) ≡ false = le-ltb 1 (count_by (λ (d : Dim). d.len == 0) (map dimension_of D.dims.now)) (omega (arith, records)) in
+    let count = count_by (λ (d : Dim). d.len == 0) (map dimension_of D.dims.now) in
+    let one : count + 0 ≤ 1 = one_record D.version [] D.dims.now (taken_dims D h) in
+    let two : two_record_dims (header_of D) ≡ false = le-ltb 1 count (omega (arith, one)) in
     let later : list_any (record_later (header_of D)) (map variable_of D.vars.now) ≡ false =
     each_fails (record_later (header_of D)) (map variable_of D.vars.now)
     (each_var D (λ v. record_later (header_of D) v ≡ false) (λ before v t. first_only D (drop 1 v.ids.now) t.record_first) h) in

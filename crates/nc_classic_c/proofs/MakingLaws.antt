@@ -1,5 +1,6 @@
 -- What is answered of a header that is defined, by its parts.
-use Rattle.std.proofs.Common.{◌≡◌, ℕ, ◌^◌, ◌<◌, ◌≤◌, List, ◌++◌, drop, take, length, true, false, cond, Bool, Option, Some, None, sym, ap, subst, ◌∙◌}
+use Rattle.std.proofs.Common.{◌≡◌, ℕ, ◌^◌, ◌<◌, ◌≤◌, List, ◌++◌, drop, take, length, true, false, cond, Bool, Option, Some, None, Result, Ok, Err, refl, sym, ap, subst, ◌∙◌}
+use Rattle.std.specs.Prelude.{IfErr, OnOk}
 use Rattle.std.specs.Prelude.{nat_lt, option_map}
 use Rattle.std.specs.Option.{option_or}
 use Rattle.std.proofs.lemmas.Bool.{le-ltb, lt-ltb}
@@ -12,13 +13,15 @@ use Rattle.serial_spec.specs.HeaderBytes.{canon, header_len, is_version}
 use Rattle.serial_spec.specs.Redefinition.{layout_fault}
 use Rattle.serial_spec.specs.SoundHeaders.{is_sound, is_writable}
 use Rattle.cdf_header.specs.Decoded.{BeginsWith}
+use Rattle.nc_classic_c.specs.declared.answers.Refusal.{Refusal}
+use Rattle.nc_classic_c.specs.declared.answers.Refusal.TheVariants as refusal
 use Rattle.nc_classic_c.specs.declared.causes.Cause.TheVariants as cause
 use Rattle.nc_classic_c.specs.declared.causes.Unmade.{Unmade}
 use Rattle.nc_classic_c.specs.declared.tables.NcvHeaderDef.{NcvHeaderDef}
 use Rattle.nc_classic_c.specs.Definitions.{definition_refusal}
 use Rattle.nc_classic_c.specs.Extents.{filled}
 use Rattle.nc_classic_c.specs.Headers.{IsHeaderOf}
-use Rattle.nc_classic_c.specs.Making.{is_align, is_asked, of_whole, of_layout, laid_header, placed_header, made_header, align_of, argument_refusal, layout_refusal, records_refusal, place_refusal, refusal_of, room_refusal, why_unmade, IsMade}
+use Rattle.nc_classic_c.specs.Making.{is_align, is_asked, of_whole, of_layout, laid_header, placed_header, made_header, align_of, argument_refusal, layout_refusal, records_refusal, place_refusal, refusal_of, room_refusal, why_unmade, needed_len, len_told, IsMade, IsUnmade}
 use Rattle.nc_classic_c.specs.Sizes.{fits}
 use Rattle.nc_classic_c.specs.Tables.{header_of}
 use Rattle.nc_classic_c.proofs.CountedHeaders.{counted_writable}
@@ -92,3 +95,27 @@ header_made D len bytes old new h e w law l room f =
   where
     sound : (header : Header) → is_writable header ≡ true → is_sound header ≡ true
     sound header w = and_first _ _ (and_first _ _ (and_first _ _ (and_first _ _ w)))
+
+pub made_given : (D : NcvHeaderDef) (r : Result (Unit {0}) Refusal) (len : ℕ) (bytes old new : List ℕ) → refusal_of D ≡ None → bytes ≡ canon (made_header D) → is_writable (made_header D) ≡ true
+    → ((header : Header) (more : List ℕ) → is_writable header ≡ true → BeginsWith (take (2 ^ 20) (canon header ++ more)) header (header_len header))
+    → len ≡ length bytes → OnOk r (length bytes ≤ length old) → OnOk r (new ≡ filled old bytes) → OnOk r (IsMade D len old new)
+made_given D (Ok u) len bytes old new h e w law l room f = header_made D len bytes old new h e w law l room f
+made_given D (Err x) len bytes old new h e w law l room f = tt
+
+-- ---- the length
+
+-- the header itself is refused
+pub len_kept : (D : NcvHeaderDef) (r : Refusal) (old : ℕ) → IsUnmade (refusal_of D) r → old ≡ len_told D r old
+len_kept D refusal.Memory old h = refl
+len_kept D (refusal.Header e) old h = refl
+len_kept D (refusal.Asked c) old h = refl
+len_kept D refusal.NoAttribute old h = refl
+len_kept D refusal.Shared old h = refl
+len_kept D (refusal.Unmade u) old h = sym (ap (λ (o : Option Unmade). needed_len D o old) h)
+
+-- there is no room
+pub len_needed : (D : NcvHeaderDef) (r : Result (Unit {0}) Refusal) (len old : ℕ) (bytes : List ℕ) → refusal_of D ≡ None → bytes ≡ canon (made_header D) → len ≡ length bytes
+    → IfErr r (λ x. x ≡ refusal.Unmade (of_whole cause.Room)) → IfErr r (λ x. len ≡ len_told D x old)
+len_needed D (Ok u) len old bytes h e l f = tt
+len_needed D (Err x) len old bytes h e l f =
+    l ∙ ap (λ (b : List ℕ). length b) e ∙ sym (ap (λ (y : Refusal). len_told D y old) f ∙ ap (λ (o : Option Unmade). needed_len D o old) h)

@@ -99,11 +99,11 @@ abbrev pub refused_told : Refusal → NcvRefused → NcvRefused
 refused_told (refusal.Unmade u) old = part_shown u.part
 refused_told _ old = old
 
--- the length that is needed, where there is no room for it
-abbrev pub len_by_cause : NcvHeaderDef → Cause → ℕ → ℕ
-len_by_cause defined cause.Room old = header_len (made_header defined)
-len_by_cause defined _ old = old
+-- the length that is needed, where nothing but the room is wrong
+abbrev pub needed_len : NcvHeaderDef → Option Unmade → ℕ → ℕ
+needed_len defined (Some u) old = old
+needed_len defined None old = header_len (made_header defined)
 
 abbrev pub len_told : NcvHeaderDef → Refusal → ℕ → ℕ
-len_told defined (refusal.Unmade u) old = len_by_cause defined u.cause old
+len_told defined (refusal.Unmade u) old = needed_len defined (refusal_of defined) old
 len_told defined _ old = old
