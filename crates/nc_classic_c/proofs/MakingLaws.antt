@@ -88,9 +88,10 @@ header_made D len bytes old new h e w law l room f =
           ∙ ap (λ (t : Bool). cond t (Some (of_whole cause.Room)) None) (ap (λ (x : List ℕ). nat_lt (length old) (length x)) (sym e) ∙ le-ltb (length old) (length bytes) room);
       long = l ∙ ap (λ (x : List ℕ). length x) e;
       bytes = f ∙ ap (λ (x : List ℕ). filled old x) e;
-      read_back =
-          (subst (λ (x : List ℕ). BeginsWith (take (2 ^ 20) x) (made_header D) (header_len (made_header D))) (sym is) (law (made_header D) (drop (length bytes) old) w),
-          sound (made_header D) w);
+      read_back = (
+        subst (λ (x : List ℕ). BeginsWith (take (2 ^ 20) x) (made_header D) (header_len (made_header D))) (sym is) (law (made_header D) (drop (length bytes) old) w),
+        sound (made_header D) w,
+      );
     }
   where
     sound : (header : Header) → is_writable header ≡ true → is_sound header ≡ true

@@ -114,12 +114,7 @@ fn try_att(version: u8, before: &[NcvAttDef], attr: &NcvAttDef) -> Result<(), Ca
 }
 
 /// An attribute of this owner after those before it.
-fn check_att(
-    version: u8,
-    owner: u64,
-    before: &[NcvAttDef],
-    attr: &NcvAttDef,
-) -> Result<(), Unmade>
+fn check_att(version: u8, owner: u64, before: &[NcvAttDef], attr: &NcvAttDef) -> Result<(), Unmade>
     ensures { result_err result ≡ att_refusal version owner before.now attr.now }
 {
     let part = Part::Att(owner, before.len());

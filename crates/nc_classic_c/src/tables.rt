@@ -134,7 +134,11 @@ fn variables_of(alloc: Global, defined: &[NcvVarDef]) -> Result<VarList, Memory>
 }
 
 /// The header that is defined, of this version, before its variables have places.
-pub(crate) fn header_of(alloc: Global, version: u8, defined: &NcvHeaderDef) -> Result<Header, Memory>
+pub(crate) fn header_of(
+    alloc: Global,
+    version: u8,
+    defined: &NcvHeaderDef,
+) -> Result<Header, Memory>
     requires { version ≡ defined.now.version }
     ensures { IfOk result (λ header. header ≡ header_of defined.now) }
 {
