@@ -1,7 +1,7 @@
 #!/usr/bin/env python3
 """Headers that the library makes of random definitions, against their bytes by the format's grammar and begins by its formulas.
 
-  random_making.py LIBRARY COUNT [SEED] [FOLDER]     LIBRARY: libnc_classic.so; FOLDER: takes the first 100 of the files, with zeros for values
+  random_making.py LIBRARY COUNT [SEED] [FOLDER]     LIBRARY: libnc_classic.so; FOLDER: takes those of the first 100 files that ncvalidator takes, with zeros for values
 """
 import ctypes as c, random, sys
 from pathlib import Path
@@ -125,7 +125,9 @@ def main(path, count, seed=1, folder=None):
         aligns = rng.choice((1, 4, 7, 512, 2**20)), rng.choice((1, 4, 10, 512))
         header = check_made(lib, file, aligns)
         check_refused(lib, file, aligns, rng)
-        if folder and number < 100 and aligns[0] < 2**20 and aligns[0] % 4 == aligns[1] % 4 == 0:
+        # ncvalidator takes begins at multiples of 4, and no records without a record variable
+        lone_count = file.records > 0 and not any(map(file.is_record, file.vars))
+        if folder and number < 100 and aligns[0] in (4, 512) and aligns[1] in (4, 512) and not lone_count:
             Path(folder, f"{number}.nc").write_bytes(header + bytes(file.end(file.records) - len(header)))
     print(f"{count} headers made: their bytes, and what of them is refused")
 

@@ -1,6 +1,6 @@
 -- A header with another record count: sound, and writable, where its file does not end too far.
 use Rattle.std.proofs.Common.{◌≡◌, ℕ, suc, ◌+◌, ◌-◌, ◌*◌, ◌^◌, ◌<◌, refl, sym, ◌∙◌, ap, subst, List, [], ◌∷◌, map, Bool, true, false, cond, ◌&&◌, ◌||◌, Option, Some, None, arith}
-use Rattle.std.specs.Prelude.{not, nat_lt, nat_le, ◌==◌, slice_get, is_none, option_map}
+use Rattle.std.specs.Prelude.{not, nat_lt, nat_le, ◌==◌, is_none, option_map}
 use Rattle.std.proofs.lemmas.Bool.Decides.{nat_tests}
 use Rattle.std.specs.Option.{option_or}
 use Rattle.std.specs.Int.{w32, w64, byte_len}

@@ -4,8 +4,8 @@ use Rattle.std.specs.Prelude.{IfErr, OnOk}
 use Rattle.std.specs.Prelude.{nat_lt, option_map}
 use Rattle.std.specs.Option.{option_or}
 use Rattle.std.proofs.lemmas.Bool.{le-ltb, lt-ltb}
-use Rattle.list_laws.proofs.Optional.{first_counts, second_counts, neither_some}
-use Rattle.list_laws.proofs.Truth.{and_first, and_second}
+use Rattle.list_laws.proofs.Optional.{first_counts, second_counts}
+use Rattle.list_laws.proofs.Truth.{and_first}
 use Rattle.nc_base.specs.declared.header.Header.{Header}
 use Rattle.nc_base.specs.declared.script.Align.{Align}
 use Rattle.nc_base.specs.declared.errors.LayoutErr.{LayoutErr}
@@ -20,11 +20,9 @@ use Rattle.nc_classic_c.specs.declared.causes.Unmade.{Unmade}
 use Rattle.nc_classic_c.specs.declared.tables.NcvHeaderDef.{NcvHeaderDef}
 use Rattle.nc_classic_c.specs.Definitions.{definition_refusal}
 use Rattle.nc_classic_c.specs.Extents.{filled}
-use Rattle.nc_classic_c.specs.Headers.{IsHeaderOf}
-use Rattle.nc_classic_c.specs.Making.{is_align, is_asked, of_whole, of_layout, laid_header, placed_header, made_header, align_of, argument_refusal, layout_refusal, records_refusal, place_refusal, refusal_of, room_refusal, why_unmade, needed_len, len_told, IsMade, IsUnmade}
+use Rattle.nc_classic_c.specs.Making.{is_align, is_asked, of_whole, of_layout, laid_header, placed_header, made_header, align_of, argument_refusal, records_refusal, place_refusal, refusal_of, why_unmade, needed_len, len_told, IsMade, IsUnmade}
 use Rattle.nc_classic_c.specs.Sizes.{fits}
 use Rattle.nc_classic_c.specs.Tables.{header_of}
-use Rattle.nc_classic_c.proofs.CountedHeaders.{counted_writable}
 use Rattle.nc_classic_c.proofs.Filling.{filled_whole}
 
 -- ---- begins and records

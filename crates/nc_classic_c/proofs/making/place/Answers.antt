@@ -1,9 +1,6 @@
 -- The layout's fault, and the header with its record count.
-use Rattle.std.proofs.Common.{Some, sym, ap, ◌∙◌}
-use Rattle.std.specs.Result.{result_err}
-use Rattle.std.proofs.lemmas.Result.{err_from_is_err_and}
+use Rattle.std.proofs.Common.{sym, ◌∙◌}
 use Rattle.nc_classic_c.proofs.CountedHeaders.{counted_writable}
-use Rattle.nc_classic_c.proofs.MakingLaws.{layout_refused}
 use Rattle.nc_classic_c.proofs.making.place.Goals as goal
 
 pub returns-clause-writable : goal.returns-clause-writable
