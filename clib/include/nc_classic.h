@@ -1,6 +1,6 @@
 /* nc_classic.h: files in the netCDF classic format (CDF-1, CDF-2 and CDF-5), by their bytes.
  *
- * The functions say what the header of a file holds, where the bytes of its variables lie, and whether requests share
+ * The functions make the header of a file and say what one holds, where the bytes of its variables lie, and whether requests share
  * bytes. They do no input or output, start no thread and keep nothing between two calls: what a call answers depends on
  * its arguments alone, and any number of threads may call at once. All numbers are counts of bytes or of elements;
  * places in a file and places in a list are counted from 0.
@@ -46,19 +46,33 @@ enum {
     NCV_MEMORY = 1,    /* malloc gave NULL */
     NCV_HEADER = 2,    /* the bytes begin with no header: ncv_header_check says why */
     NCV_TOO_LARGE = 3, /* a region of more than 2^20 elements, or an index map that reaches as far, or a region or a file
-                          past the greatest record count or the greatest end of a file */
+                          past the greatest record count or the greatest end of a file, or a header of more
+                          than 2^20 bytes */
     NCV_ARGUMENT = 4,  /* a number is outside the limits that the function names */
     NCV_SHARED = 5,    /* two requests hold a byte in common */
+    NCV_ROOM = 6,      /* an array is too short for what it is to take */
 
+    NCV_EINVAL = -36,       /* the bytes of an attribute's values are not those of whole values */
     NCV_EINVALCOORDS = -40, /* a start is past the end of its dimension, or not one start, count and stride for each */
+    NCV_EMAXDIMS = -41,     /* more than 1,024 dimensions, or more than 32 of a variable */
+    NCV_ENAMEINUSE = -42,   /* the name is that of one before */
     NCV_ENOTATT = -43,      /* no attribute has this number or name */
-    NCV_EBADTYPE = -45,     /* no type has this number, or its values are floats */
+    NCV_EMAXATTS = -44,     /* more than 65,536 attributes of one owner */
+    NCV_EBADTYPE = -45,     /* no type has this number, or its values are floats where whole numbers are packed */
     NCV_EBADDIM = -46,      /* no dimension has this number or name */
+    NCV_EUNLIMPOS = -47,    /* the record dimension stands elsewhere than first */
+    NCV_EMAXVARS = -48,     /* more than 8,192 variables */
     NCV_ENOTVAR = -49,      /* no variable has this number or name */
+    NCV_EMAXNAME = -53,     /* a name of more than 256 bytes */
+    NCV_EUNLIMIT = -54,     /* a second record dimension */
     NCV_ECHAR = -56,        /* the values of the type are text */
     NCV_EEDGE = -57,        /* the last element is past the end of its dimension */
     NCV_ESTRIDE = -58,      /* a stride is 0 */
-    NCV_ERANGE = -60        /* a value is outside the range of the type that is to hold it */
+    NCV_EBADNAME = -59,     /* a name that netCDF does not allow */
+    NCV_ERANGE = -60,       /* a value is outside the range of the type that is to hold it */
+    NCV_EVARSIZE = -62,     /* a variable is too large for the version, or begins too far in the file */
+    NCV_EDIMSIZE = -63,     /* a dimension's length is 2^31 or more, in CDF-5 2^62 or more */
+    NCV_ESTRICTCDF2 = -232  /* a type that CDF-5 alone has (PnetCDF's error) */
 };
 
 /* The library's version, and the kit that proved it with the sum of its logic, as a text ended by a zero. Takes no memory. */
@@ -171,6 +185,91 @@ typedef struct {
  *
  * But for NCV_OK nothing is written. Takes memory as ncv_header_check does. */
 ncv_code ncv_inq_sizes(const uint8_t *bytes, size_t len, uint64_t records, ncv_sizes *sizes);
+
+/* ---- making a header ---------------------------------------------------------------------------------------------- */
+
+/* The definitions of a header. A name is UTF-8 of 1 to 256 bytes, without a zero behind it: it begins with a letter, a digit,
+ * an underscore or a character beyond ASCII, has neither a slash nor a control character, and does not end with a space. It is
+ * taken as it is: names that differ in a byte are two. */
+typedef struct {
+    const char *name;
+    size_t name_len;
+    uint64_t length; /* 0 for the record dimension */
+} ncv_dim_def;
+
+typedef struct {
+    const char *name;
+    size_t name_len;
+    const uint8_t *values; /* as they are to stand in the file: big-endian */
+    size_t values_len;     /* their bytes, a multiple of the type's size; 2^20 at most */
+    uint32_t type;         /* the number of their type, as in netcdf.h */
+} ncv_att_def;
+
+typedef struct {
+    const char *name;
+    size_t name_len;
+    const uint32_t *ids; /* the numbers of its dimensions, the slowest first */
+    size_t dims;
+    const ncv_att_def *atts;
+    size_t att_count;
+    uint32_t type;
+} ncv_var_def;
+
+typedef struct {
+    const ncv_dim_def *dims;
+    size_t dim_count;
+    const ncv_att_def *atts; /* of the dataset */
+    size_t att_count;
+    const ncv_var_def *vars;
+    size_t var_count;
+    uint64_t records;      /* the record count that the header is to have; 0 for a file that is new */
+    uint64_t header_align; /* the bytes of which the variables begin at a multiple, as by PnetCDF's hint */
+    uint64_t var_align;    /*   nc_header_align_size, and by nc_var_align_size; each 1 to 2^20 */
+    uint32_t version;      /* 1, 2 or 5 */
+} ncv_header_def;
+
+/* What of a header is refused. */
+typedef struct {
+    uint32_t part;   /* one of NCV_PART_.. */
+    uint64_t number; /* of the dimension, attribute or variable, from 0; else 0 */
+    uint64_t owner;  /* of an attribute: the number of its variable, or NCV_GLOBAL; else 0 */
+} ncv_refused;
+
+enum {
+    NCV_PART_HEADER = 0, /* the whole */
+    NCV_PART_DIM = 1,
+    NCV_PART_ATT = 2,
+    NCV_PART_VAR = 3
+};
+
+/* Makes the bytes of a header.
+ *
+ * The definitions are taken one after another: the dimensions, the attributes of the dataset, then each variable and its
+ * attributes. Then the variables get their begins, those without records first, each in the order of the definitions. The first
+ * one begins where the header ends, rounded up to a multiple of header_align, then of var_align; each next one where the one
+ * before ends, rounded up to a multiple of var_align; the records begin at such a multiple too, and within a record the variables
+ * follow one another at multiples of 4. The file is to have zeros, or fill values, wherever no value is written.
+ *
+ *   NCV_OK        the first *len bytes of `into` are the header. ncv_header_check takes them, and ncv_inq_var tells the begins
+ *   NCV_ROOM      *len is the number of bytes, which is more than `room`
+ *   another       *refused tells the first definition that is refused, or that the header as a whole is. Of several causes for one
+ *                 definition the first in this order answers, which is that of PnetCDF:
+ *                   of each       NCV_EBADNAME for no name, NCV_EMAXNAME, NCV_EBADNAME
+ *                   a dimension   NCV_EDIMSIZE, NCV_EUNLIMIT, NCV_ENAMEINUSE, NCV_EMAXDIMS
+ *                   an attribute  NCV_EBADTYPE, NCV_ESTRICTCDF2, NCV_EINVAL, NCV_TOO_LARGE for more than 2^20 bytes,
+ *                                 NCV_ENAMEINUSE, NCV_EMAXATTS
+ *                   a variable    NCV_EBADTYPE, NCV_ESTRICTCDF2, NCV_ENAMEINUSE, NCV_EBADDIM, NCV_EUNLIMPOS, NCV_EMAXDIMS,
+ *                                 NCV_EMAXVARS
+ *                 Before all definitions: NCV_ARGUMENT for the version or an alignment. After them: NCV_EVARSIZE for a variable
+ *                 of more than 2^31 - 4 bytes in CDF-1 and CDF-2; NCV_TOO_LARGE for a header of more than 2^20 bytes;
+ *                 NCV_EVARSIZE for a variable that begins at byte 2^31 or later in CDF-1, or ends at 2^62 or later;
+ *                 NCV_TOO_LARGE for the record count, as by ncv_inq_sizes
+ *   NCV_MEMORY
+ *
+ * What an answer does not name is left as it was, but that NCV_ROOM sets *refused to the whole. Takes memory for the time of the
+ * call: a few times the header's bytes. Names are compared with all those before, so that thousands of variables take longer than
+ * their bytes. */
+ncv_code ncv_header_make(const ncv_header_def *def, uint8_t *into, size_t room, uint64_t *len, ncv_refused *refused);
 
 /* ---- regions ------------------------------------------------------------------------------------------------------ */
 

@@ -19,6 +19,7 @@ extern const uint8_t small_header[SMALL_LENGTH];
 
 void check_headers(void);
 void check_parts_of_header(void);
+void check_making(void);
 void check_extents(void);
 void check_overlaps(void);
 void check_windows(void);

@@ -34,6 +34,7 @@ int main(void)
     CHECK(strncmp(ncv_version(), "nc_classic ", 11) == 0);
     check_headers();
     check_parts_of_header();
+    check_making();
     check_extents();
     check_overlaps();
     check_windows();

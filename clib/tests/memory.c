@@ -46,6 +46,19 @@ static bool step_is_kept(void)
     return ncv_windows(asked, 2, 1, 1, 1, 0, &window, 1, &step) == NCV_MEMORY && window.at == 7 && step.lo == 7;
 }
 
+static bool making_is_kept(void)
+{
+    const uint32_t id = 0;
+    const ncv_dim_def dim = {"x", 1, 4};
+    const ncv_att_def att = {"n", 1, (const uint8_t *)"ab", 2, 2};
+    const ncv_var_def var = {"v", 1, &id, 1, &att, 1, 4};
+    const ncv_header_def def = {&dim, 1, &att, 1, &var, 1, 0, 4, 4, 1};
+    uint8_t made = 7;
+    uint64_t len = 7;
+    ncv_refused refused = {7, 7, 7};
+    return ncv_header_make(&def, &made, 1, &len, &refused) == NCV_MEMORY && made == 7 && len == 7 && refused.part == 7;
+}
+
 /* How many calls for memory the test takes before it is no more refused. */
 static long refusals(bool (*is_kept)(void))
 {
@@ -68,4 +81,5 @@ void check_memory(void)
     CHECK(refusals(parts_are_kept) > 10);
     CHECK(refusals(pair_is_kept) > 0);
     CHECK(refusals(step_is_kept) > 0);
+    CHECK(refusals(making_is_kept) > 10);
 }

@@ -1,10 +1,10 @@
 /* Writes a file in the netCDF classic format from all ranks, by MPI-IO alone.
  *
- *   mpirun -n N write_fields HEADER.nc OUT.nc
+ *   mpirun -n N write_fields OUT.nc
  *
- * OUT.nc gets the header of HEADER.nc, of which no more is read. Its variables have to be of ints with a dimension or more;
- * each gets the numbers of its elements, from 0 on. The last dimension is divided among the ranks. The library says where
- * the bytes of a rank's columns lie, and that no two ranks would write one byte. */
+ * mask(y, x), temp(time, y, x) and level(time, x) are of ints; each gets the numbers of its elements, from 0 on. The last dimension
+ * is divided among the ranks. The library makes the header, says where the bytes of a rank's columns lie, and that no two ranks
+ * would write one byte. */
 #include <mpi.h>
 #include <nc_classic.h>
 
@@ -36,26 +36,23 @@ static void *room_for(size_t count, size_t size)
     return room;
 }
 
-typedef struct {
-    uint8_t *bytes;
-    size_t len;
-    ncv_counts counts;
-} header;
+typedef struct { uint8_t *bytes; uint64_t len; ncv_counts counts; } header;
 
-/* Rank 0 reads the header, and all ranks know it then. */
-static header shared_header(const char *path)
+/* The header, which each rank makes: three records, and begins at multiples of 4. */
+static header made_header(void)
 {
+    static const ncv_att_def none = {"", 0, (const uint8_t *)"", 0, NC_INT};
+    static const ncv_dim_def dims[] = {{"time", 4, 0}, {"y", 1, 6}, {"x", 1, 17}};
+    static const uint32_t yx[] = {1, 2}, time_yx[] = {0, 1, 2}, time_x[] = {0, 2};
+    static const ncv_var_def vars[] = {{"mask", 4, yx, 2, &none, 0, NC_INT},
+                                       {"temp", 4, time_yx, 3, &none, 0, NC_INT},
+                                       {"level", 5, time_x, 2, &none, 0, NC_INT}};
+    static const ncv_header_def def = {dims, 3, &none, 0, vars, 3, .records = 3, .header_align = 4, .var_align = 4, .version = 1};
     header it = {room_for(MOST_HEADER, 1), 0, {0}};
-    if (rank == 0) {
-        FILE *file = fopen(path, "rb");
-        must("HEADER.nc can't be opened", file == NULL);
-        it.len = fread(it.bytes, 1, MOST_HEADER, file);
-        fclose(file);
-    }
-    MPI_Bcast(&it.len, sizeof it.len, MPI_BYTE, 0, MPI_COMM_WORLD);
-    MPI_Bcast(it.bytes, (int)it.len, MPI_BYTE, 0, MPI_COMM_WORLD);
+    ncv_refused refused;
     ncv_fault fault;
-    must("HEADER.nc has no sound header", ncv_header_check(it.bytes, it.len, &it.counts, &fault));
+    must("a definition", ncv_header_make(&def, it.bytes, MOST_HEADER, &it.len, &refused));
+    must("the header", ncv_header_check(it.bytes, it.len, &it.counts, &fault));
     return it;
 }
 
@@ -184,13 +181,13 @@ int main(int argc, char **argv)
     MPI_Init(&argc, &argv);
     MPI_Comm_rank(MPI_COMM_WORLD, &rank);
     MPI_Comm_size(MPI_COMM_WORLD, &ranks);
-    must("usage: write_fields HEADER.nc OUT.nc", argc != 3);
-    header it = shared_header(argv[1]);
+    must("usage: write_fields OUT.nc", argc != 2);
+    header it = made_header();
     MPI_File file;
-    must("OUT.nc", MPI_File_open(MPI_COMM_WORLD, argv[2], MPI_MODE_CREATE | MPI_MODE_WRONLY, MPI_INFO_NULL, &file));
+    must("OUT.nc", MPI_File_open(MPI_COMM_WORLD, argv[1], MPI_MODE_CREATE | MPI_MODE_WRONLY, MPI_INFO_NULL, &file));
     must("MPI_File_set_size", MPI_File_set_size(file, 0));
     if (rank == 0)
-        must("the header", MPI_File_write_at(file, 0, it.bytes, (int)it.counts.length, MPI_BYTE, MPI_STATUS_IGNORE));
+        must("the header", MPI_File_write_at(file, 0, it.bytes, (int)it.len, MPI_BYTE, MPI_STATUS_IGNORE));
     for (uint64_t var = 0; var < it.counts.vars; var++)
         write_variable(file, &it, var);
     must("MPI_File_close", MPI_File_close(&file));

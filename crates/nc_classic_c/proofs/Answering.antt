@@ -9,6 +9,9 @@ use Rattle.nc_base.specs.declared.answer.Code.{Code}
 use Rattle.nc_base.specs.declared.answer.Code.TheVariants as code
 use Rattle.nc_classic_c.specs.declared.answers.Refusal.{Refusal}
 use Rattle.nc_classic_c.specs.declared.answers.Refusal.TheVariants as refusal
+use Rattle.nc_classic_c.specs.declared.causes.Cause.{Cause}
+use Rattle.nc_classic_c.specs.declared.causes.Cause.TheVariants as cause
+use Rattle.nc_classic_c.specs.Causes.{cause_number}
 use Rattle.nc_classic_c.specs.Answers.{code_number, number_of}
 
 code_small : (c : Code) → SFits w32 (code_number c)
@@ -22,6 +25,25 @@ code_small code.EBadDim = sfits_lit tt
 code_small code.ETooLarge = sfits_lit tt
 code_small c = sfits_lit tt
 
+cause_small : (c : Cause) → SFits w32 (cause_number c)
+cause_small cause.TooLarge = sfits_lit tt
+cause_small cause.Argument = sfits_lit tt
+cause_small cause.Room = sfits_lit tt
+cause_small cause.Inval = sfits_lit tt
+cause_small cause.MaxDims = sfits_lit tt
+cause_small cause.NameInUse = sfits_lit tt
+cause_small cause.MaxAtts = sfits_lit tt
+cause_small cause.BadType = sfits_lit tt
+cause_small cause.BadDim = sfits_lit tt
+cause_small cause.UnlimPos = sfits_lit tt
+cause_small cause.MaxVars = sfits_lit tt
+cause_small cause.MaxName = sfits_lit tt
+cause_small cause.Unlimit = sfits_lit tt
+cause_small cause.BadName = sfits_lit tt
+cause_small cause.VarSize = sfits_lit tt
+cause_small cause.DimSize = sfits_lit tt
+cause_small cause.StrictCdf2 = sfits_lit tt
+
 number_small : (r : Refusal) → SFits w32 (number_of r)
 number_small refusal.Memory = sfits_lit tt
 number_small (refusal.Header e) = sfits_lit tt
@@ -29,6 +51,7 @@ number_small (refusal.Asked c) = code_small c
 number_small refusal.NoAttribute = sfits_lit tt
 number_small refusal.Shared = sfits_lit tt
 number_small (refusal.Range k) = sfits_lit tt
+number_small (refusal.Unmade u) = cause_small u.cause
 
 -- a refusal's number that is returned
 pub number_kept : (n : ℤ) (r : Refusal) → n ≡ number_of r → to_z w32 (of_z w32 n) ≡ number_of r

@@ -1,10 +1,13 @@
 pub mod AcceptedRegions
 pub mod Answering
+pub mod CountedHeaders
 pub mod CoverLaws
+pub mod DefinitionLaws
 pub mod DeviceWindows
 pub mod DomainLaws
 pub mod Filling
 pub mod LayLaws
+pub mod MakingLaws
 pub mod OverlapLaws
 pub mod Refusing
 pub mod SizeLaws

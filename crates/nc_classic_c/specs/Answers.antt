@@ -9,6 +9,7 @@ use Rattle.nc_base.specs.declared.errors.HeaderErr.{HeaderErr}
 use Rattle.nc_base.specs.declared.errors.HeaderErr.TheVariants as fault
 use Rattle.nc_classic_c.specs.declared.answers.Refusal.{Refusal}
 use Rattle.nc_classic_c.specs.declared.answers.Refusal.TheVariants as refusal
+use Rattle.nc_classic_c.specs.Causes.{cause_number}
 
 -- a code that no call of the library gives has number 4
 abbrev pub code_number : Code → ℤ
@@ -29,6 +30,7 @@ number_of (refusal.Asked c) = code_number c
 number_of refusal.NoAttribute = negsuc 42
 number_of refusal.Shared = pos 5
 number_of (refusal.Range k) = negsuc 59
+number_of (refusal.Unmade u) = cause_number u.cause
 
 -- want of memory is no fault of the bytes
 abbrev pub refusal_of : HeaderErr → Refusal

@@ -2,6 +2,7 @@
 ghost use Rattle.std.specs.Prelude.{◌≡◌};
 ghost use Rattle.nc_classic_c.specs.Answers.{code_number, number_of, refusal_of};
 
+use crate::causes::{Unmade, cause_number};
 use nc_base::{Code, HeaderErr, Memory};
 
 /// The call did what it is for.
@@ -21,6 +22,8 @@ pub enum Refusal {
     Shared,
     /// The value of this number is not in the range of the type.
     Range(u64),
+    /// A header is not made.
+    Unmade(Unmade),
 }
 
 impl From<Memory> for Refusal {
@@ -55,6 +58,7 @@ pub(crate) fn number_of(refusal: Refusal) -> i32
         Refusal::NoAttribute => -43,
         Refusal::Shared => 5,
         Refusal::Range(_) => -60,
+        Refusal::Unmade(unmade) => cause_number(unmade.cause),
     }
 }
 

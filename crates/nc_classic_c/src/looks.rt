@@ -7,7 +7,7 @@ use nc_base::{Attr, Code, Dim, Header, Var};
 use var_layout::{find_dim, find_var};
 
 /// The number that stands for the dataset where an attribute's owner is asked for.
-const DATASET: u64 = u64::MAX;
+pub(crate) const DATASET: u64 = u64::MAX;
 
 pub(crate) fn dimension_at(header: &Header, number: u64) -> Result<&Dim, Refusal>
     ensures found { IfOk result (λ d. dimension_at number header.now ≡ Ok d.now) }

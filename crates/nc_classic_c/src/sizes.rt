@@ -22,7 +22,7 @@ pub struct NcvSizes {
 }
 
 /// Whether record count and end of a file with so many records are below their limits.
-fn fits(header: &Header, records: u64) -> bool
+pub(crate) fn fits(header: &Header, records: u64) -> bool
     ensures { result ≡ fits records header.now }
 {
     records < record_limit(header.version) && file_end(header, records) < FILE_LIMIT

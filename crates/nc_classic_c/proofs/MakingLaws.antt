@@ -1,0 +1,120 @@
+-- What is answered of a header that is defined, by its parts.
+use Rattle.std.proofs.Common.{◌≡◌, ℕ, ◌^◌, ◌<◌, ◌≤◌, List, ◌++◌, drop, take, length, true, false, cond, Bool, Option, Some, None, Result, Ok, Err, refl, sym, ap, subst, ◌∙◌}
+use Rattle.std.specs.Prelude.{IfErr, OnOk}
+use Rattle.std.specs.Prelude.{nat_lt, option_map}
+use Rattle.std.specs.Option.{option_or}
+use Rattle.std.proofs.lemmas.Bool.{le-ltb, lt-ltb}
+use Rattle.list_laws.proofs.Optional.{first_counts, second_counts}
+use Rattle.list_laws.proofs.Truth.{and_first}
+use Rattle.nc_base.specs.declared.header.Header.{Header}
+use Rattle.nc_base.specs.declared.script.Align.{Align}
+use Rattle.nc_base.specs.declared.errors.LayoutErr.{LayoutErr}
+use Rattle.serial_spec.specs.HeaderBytes.{canon, header_len, is_version}
+use Rattle.serial_spec.specs.Redefinition.{layout_fault}
+use Rattle.serial_spec.specs.SoundHeaders.{is_sound, is_writable}
+use Rattle.cdf_header.specs.Decoded.{BeginsWith}
+use Rattle.nc_classic_c.specs.declared.answers.Refusal.{Refusal}
+use Rattle.nc_classic_c.specs.declared.answers.Refusal.TheVariants as refusal
+use Rattle.nc_classic_c.specs.declared.causes.Cause.TheVariants as cause
+use Rattle.nc_classic_c.specs.declared.causes.Unmade.{Unmade}
+use Rattle.nc_classic_c.specs.declared.tables.NcvHeaderDef.{NcvHeaderDef}
+use Rattle.nc_classic_c.specs.Definitions.{definition_refusal}
+use Rattle.nc_classic_c.specs.Extents.{filled}
+use Rattle.nc_classic_c.specs.Making.{is_align, is_asked, of_whole, of_layout, laid_header, placed_header, made_header, align_of, argument_refusal, records_refusal, place_refusal, refusal_of, why_unmade, needed_len, len_told, IsMade, IsUnmade}
+use Rattle.nc_classic_c.specs.Sizes.{fits}
+use Rattle.nc_classic_c.specs.Tables.{header_of}
+use Rattle.nc_classic_c.proofs.Filling.{filled_whole}
+
+-- ---- begins and records
+
+pub layout_refused : (header : Header) (align : Align) (records : ℕ) (fault : LayoutErr) → Some fault ≡ layout_fault header align
+    → Some (of_layout fault) ≡ place_refusal header align records
+layout_refused header align records fault h = ap (λ (o : Option LayoutErr). option_or (option_map of_layout o) (records_refusal header align records)) h
+
+laid : (header : Header) (align : Align) (records : ℕ) (now : Header) (t : Bool) → None ≡ layout_fault header align → now ≡ laid_header header align → fits records now ≡ t
+    → cond t None (Some (of_whole cause.TooLarge)) ≡ place_refusal header align records
+laid header align records now t h e f =
+    ap (λ (b : Bool). cond b None (Some (of_whole cause.TooLarge))) (sym f ∙ ap (λ (x : Header). fits records x) e)
+    ∙ ap (λ (o : Option LayoutErr). option_or (option_map of_layout o) (records_refusal header align records)) h
+
+pub records_refused : (header : Header) (align : Align) (records : ℕ) (now : Header) → None ≡ layout_fault header align → now ≡ laid_header header align → fits records now ≡ false
+    → Some (of_whole cause.TooLarge) ≡ place_refusal header align records
+records_refused header align records now h e f = laid header align records now false h e f
+
+pub placed : (header : Header) (align : Align) (records : ℕ) (now : Header) → None ≡ layout_fault header align → now ≡ laid_header header align → fits records now ≡ true
+    → None ≡ place_refusal header align records
+placed header align records now h e f = laid header align records now true h e f
+
+-- ---- the whole
+
+pub argument_told : (D : NcvHeaderDef) (u : Unmade) → Some u ≡ argument_refusal D → refusal_of D ≡ Some u
+argument_told D u h = first_counts _ _ u (sym h)
+
+pub definition_told : (D : NcvHeaderDef) (u : Unmade) → None ≡ argument_refusal D → Some u ≡ definition_refusal D → refusal_of D ≡ Some u
+definition_told D u a h = second_counts _ _ (sym a) ∙ first_counts _ _ u (sym h)
+
+pub place_told : (D : NcvHeaderDef) (header : Header) (align : Align) (o : Option Unmade) → None ≡ argument_refusal D → None ≡ definition_refusal D
+    → header ≡ header_of D → align ≡ align_of D → o ≡ place_refusal header align D.records → refusal_of D ≡ o
+place_told D header align o a d e f h =
+    second_counts _ _ (sym a) ∙ second_counts _ _ (sym d)
+    ∙ ap (λ (x : Align). place_refusal (header_of D) x D.records) (sym f) ∙ ap (λ (x : Header). place_refusal x align D.records) (sym e) ∙ sym h
+
+pub version_right : (D : NcvHeaderDef) → is_asked D ≡ true → is_version D.version ≡ true
+version_right D h = and_first _ _ (and_first _ (is_align D.var_align) h)
+
+pub made_is : (D : NcvHeaderDef) (header now : Header) (align : Align) → header ≡ header_of D → align ≡ align_of D → now ≡ placed_header header align D.records → now ≡ made_header D
+made_is D header now align e f h =
+    h ∙ ap (λ (x : Header). placed_header x align D.records) e ∙ ap (λ (x : Align). placed_header (header_of D) x D.records) f
+
+-- ---- room for the bytes
+
+pub no_room : (D : NcvHeaderDef) (room : ℕ) (bytes : List ℕ) → refusal_of D ≡ None → bytes ≡ canon (made_header D) → room < length bytes
+    → why_unmade D room ≡ Some (of_whole cause.Room)
+no_room D room bytes h e l =
+    second_counts _ _ h
+    ∙ ap (λ (t : Bool). cond t (Some (of_whole cause.Room)) None) (ap (λ (x : List ℕ). nat_lt room (length x)) (sym e) ∙ lt-ltb room (length bytes) l)
+
+pub header_made : (D : NcvHeaderDef) (len : ℕ) (bytes old new : List ℕ) → refusal_of D ≡ None → bytes ≡ canon (made_header D) → is_writable (made_header D) ≡ true
+    → ((header : Header) (more : List ℕ) → is_writable header ≡ true → BeginsWith (take (2 ^ 20) (canon header ++ more)) header (header_len header))
+    → len ≡ length bytes → length bytes ≤ length old → new ≡ filled old bytes → IsMade D len old new
+header_made D len bytes old new h e w law l room f =
+    let is : new ≡ canon (made_header D) ++ drop (length bytes) old =
+    f ∙ filled_whole old bytes room ∙ ap (λ (x : List ℕ). x ++ drop (length bytes) old) e in
+    record {
+      none_refused =
+          second_counts _ _ h
+          ∙ ap (λ (t : Bool). cond t (Some (of_whole cause.Room)) None) (ap (λ (x : List ℕ). nat_lt (length old) (length x)) (sym e) ∙ le-ltb (length old) (length bytes) room);
+      long = l ∙ ap (λ (x : List ℕ). length x) e;
+      bytes = f ∙ ap (λ (x : List ℕ). filled old x) e;
+      read_back = (
+        subst (λ (x : List ℕ). BeginsWith (take (2 ^ 20) x) (made_header D) (header_len (made_header D))) (sym is) (law (made_header D) (drop (length bytes) old) w),
+        sound (made_header D) w,
+      );
+    }
+  where
+    sound : (header : Header) → is_writable header ≡ true → is_sound header ≡ true
+    sound header w = and_first _ _ (and_first _ _ (and_first _ _ (and_first _ _ w)))
+
+pub made_given : (D : NcvHeaderDef) (r : Result (Unit {0}) Refusal) (len : ℕ) (bytes old new : List ℕ) → refusal_of D ≡ None → bytes ≡ canon (made_header D) → is_writable (made_header D) ≡ true
+    → ((header : Header) (more : List ℕ) → is_writable header ≡ true → BeginsWith (take (2 ^ 20) (canon header ++ more)) header (header_len header))
+    → len ≡ length bytes → OnOk r (length bytes ≤ length old) → OnOk r (new ≡ filled old bytes) → OnOk r (IsMade D len old new)
+made_given D (Ok u) len bytes old new h e w law l room f = header_made D len bytes old new h e w law l room f
+made_given D (Err x) len bytes old new h e w law l room f = tt
+
+-- ---- the length
+
+-- the header itself is refused
+pub len_kept : (D : NcvHeaderDef) (r : Refusal) (old : ℕ) → IsUnmade (refusal_of D) r → old ≡ len_told D r old
+len_kept D refusal.Memory old h = refl
+len_kept D (refusal.Header e) old h = refl
+len_kept D (refusal.Asked c) old h = refl
+len_kept D refusal.NoAttribute old h = refl
+len_kept D refusal.Shared old h = refl
+len_kept D (refusal.Unmade u) old h = sym (ap (λ (o : Option Unmade). needed_len D o old) h)
+
+-- there is no room
+pub len_needed : (D : NcvHeaderDef) (r : Result (Unit {0}) Refusal) (len old : ℕ) (bytes : List ℕ) → refusal_of D ≡ None → bytes ≡ canon (made_header D) → len ≡ length bytes
+    → IfErr r (λ x. x ≡ refusal.Unmade (of_whole cause.Room)) → IfErr r (λ x. len ≡ len_told D x old)
+len_needed D (Ok u) len old bytes h e l f = tt
+len_needed D (Err x) len old bytes h e l f =
+    l ∙ ap (λ (b : List ℕ). length b) e ∙ sym (ap (λ (y : Refusal). len_told D y old) f ∙ ap (λ (o : Option Unmade). needed_len D o old) h)
