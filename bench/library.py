@@ -34,8 +34,8 @@ def cells(row, n, took_of, names):
     beside = [took_of[name] for name in names if took_of.get(name)]
     fastest = min(beside, key=tables.statistics.median, default=[])
     own = took_of["library"]
-    return [row, str(n), *(tables.spread(took_of.get(name, [])) for name in ("plain", "library", *names)), tables.times(own, took_of["plain"]),
-            tables.times(own, fastest), tables.plain(tables.statistics.median(own) * 1e6 / n)]
+    return [row, str(n), *(tables.spread(took_of.get(name, [])) for name in ("plain", "library", *names)), tables.told(tables.ratio(own, took_of["plain"])),
+            tables.told(tables.ratio(own, fastest)), tables.plain(tables.statistics.median(own) * 1e6 / n)]
 
 
 def measured(room, sides, runs, full):

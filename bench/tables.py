@@ -17,13 +17,17 @@ def median(numbers):
 
 def spread(numbers):
     """The median, and the least and the greatest where there are several."""
-    told = median(numbers)
-    return f"{told} ({plain(min(numbers))} to {plain(max(numbers))})" if len(numbers) > 1 else told
+    middle = median(numbers)
+    return f"{middle} ({plain(min(numbers))} to {plain(max(numbers))})" if len(numbers) > 1 else middle
 
 
-def times(numbers, others):
+def ratio(numbers, others):
     """How many times the median of others that of numbers is."""
-    return plain(statistics.median(numbers) / max(statistics.median(others), 0.001)) if numbers and others else "-"
+    return statistics.median(numbers) / max(statistics.median(others), 0.001) if numbers and others else None
+
+
+def told(number):
+    return "-" if number is None else plain(number)
 
 
 class Table:
