@@ -3,7 +3,7 @@
      library header library|plain N FILE      opens a dataset of n variables, and reads its header
      library extents library|plain N FILE     says where a column of n single elements lies
 
-   It prints the microseconds that this takes; of extents, of a header and an array that are in memory. */
+   It prints the nanoseconds that this takes; of extents, of a header and an array that are in memory. */
 #include "nc_classic.h"
 #include <fcntl.h>
 #include <stdio.h>
@@ -126,6 +126,6 @@ int main(int count, char **words)
     need(count == 5, "library ROW library|plain N FILE");
     bool by_library = strcmp(words[2], "library") == 0;
     long took = (strcmp(words[1], "header") == 0 ? header : extents)(by_library, strtoull(words[3], NULL, 10), words[4]);
-    printf("%ld\n", took / 1000);
+    printf("%ld\n", took);
     return 0;
 }

@@ -18,7 +18,7 @@ class Library:
     def once(self, row, n):
         dataset = self.room.fresh(self.name, BEFORE[row])
         told = subprocess.run([self.room.at("library"), row, self.name, str(n), dataset], check=True, stdout=subprocess.PIPE, encoding="ascii").stdout
-        return Taken(None, None, int(told))
+        return Taken(None, None, int(told) / 1000)
 
 
 def took(row, n, doing, runs):
