@@ -7,7 +7,9 @@ class Differs(Exception):
 
 
 def plain(number):
-    """A number with three digits, or with all in front of the point."""
+    """A number with three digits, or with all in front of the point; one below a tenth with two that are not 0, as far as thousandths."""
+    if 0.001 <= number < 0.1:
+        return f"{number:.2g}"
     return f"{number:.{max(0, 2 - max(0, len(str(int(number))) - 1))}f}"
 
 
