@@ -1,42 +1,50 @@
 """The tables of the benchmark: how numbers stand in them, what they depend on, and the page that they go to."""
-import os, platform, subprocess, sys
-
-
-def plain(number):
-    """A number with three digits, or with all in front of the point."""
-    return f"{number:.{max(0, 2 - max(0, len(str(int(number))) - 1))}f}"
-
-
-def line(words, widths):
-    return "| " + " | ".join([words[0].ljust(widths[0])] + [word.rjust(width) for word, width in zip(words[1:], widths[1:])]) + " |"
-
-
-def head(titles, widths):
-    return [line(titles, widths), "|---|" + "---:|" * (len(titles) - 1)]
+import os, platform, statistics, subprocess, sys
 
 
 class Differs(Exception):
     """A program did not end well, or two did not do the same."""
 
 
-def measured(sizes, cells, titles, widths, room, runs):
-    """The table, each line of which is printed as it comes, and whether nothing differed. `cells` tells the cells of a row and a size."""
-    table, same = [], True
-    def add(text):
-        table.append(text)
-        print(text, flush=True)
-    for text in head(titles, widths):
-        add(text)
-    for row, counts in sizes.items():
-        for n in counts:
-            try:
-                add(line(cells(row, n), widths))
-            except Differs as fault:
-                print(f"bench: {fault}", file=sys.stderr, flush=True)
-                same = False
-    add("")
-    add(machine(room, runs))
-    return table, same
+def plain(number):
+    """A number with three digits, or with all in front of the point; one below a tenth with two that are not 0, as far as thousandths."""
+    if 0.001 <= number < 0.1:
+        return f"{number:.2g}"
+    return f"{number:.{max(0, 2 - max(0, len(str(int(number))) - 1))}f}"
+
+
+def median(numbers):
+    return plain(statistics.median(numbers)) if numbers else "-"
+
+
+def spread(numbers):
+    """The median, and the least and the greatest where there are several."""
+    middle = median(numbers)
+    return f"{middle} ({plain(min(numbers))} to {plain(max(numbers))})" if len(numbers) > 1 else middle
+
+
+def ratio(numbers, others):
+    """How many times the median of others that of numbers is."""
+    return statistics.median(numbers) / max(statistics.median(others), 0.001) if numbers and others else None
+
+
+def told(number):
+    return "-" if number is None else plain(number)
+
+
+class Table:
+    """Lines of cells below titles. The first column stands to the left."""
+
+    def __init__(self, caption, titles, widths):
+        self.widths = [max(len(title), width) for title, width in zip(titles, widths)]
+        self.lines = [f"**{caption}**", "", self.line(titles), "|---|" + "---:|" * (len(titles) - 1)]
+
+    def line(self, cells):
+        first, *rest = zip(cells, self.widths)
+        return "| " + " | ".join([first[0].ljust(first[1])] + [cell.rjust(width) for cell, width in rest]) + " |"
+
+    def add(self, cells):
+        self.lines.append(self.line(cells))
 
 
 def machine(room, runs):
@@ -57,49 +65,21 @@ def around_table(page, marks):
             text = file.read()
         if text.count(marks[0]) == 1 and marks[1] in text.split(marks[0])[1]:
             front, rest = text.split(marks[0])
-            old, found, back = rest.partition(marks[1])
+            _, found, back = rest.partition(marks[1])
             return front + marks[0], found + back
     sys.exit(f"bench: {page} is no page with the two marks")
 
 
-def put_on_page(page, marks, table):
+def put_on_page(page, marks, lines):
     front, back = around_table(page, marks)
     with open(page, "w", encoding="utf-8") as file:
-        file.write("\n".join([front, "", *table, "", back]))
+        file.write("\n".join([front, "", *lines, "", back]))
 
 
-def sizes_of(words, known, usage, first=""):
-    """The sizes that the words name, by row. A number alone is a size of the first row, where there is such a row."""
-    sizes = {}
-    for word in words:
-        row, _, number = word.rpartition("=")
-        row = row or first
-        if row not in known or not number.isdecimal() or int(number) < 1:
-            sys.exit(usage)
-        sizes.setdefault(row, []).append(int(number))
-    return sizes
-
-
-def options_of(words, options, usage, flags=()):
-    """The options that the words set, by name; and the other words. A flag has no value behind it, and is True where it was named."""
-    rest, words = [], iter(words)
-    for word in words:
-        if word in flags:
-            options[word] = True
-        elif word in options:
-            options[word] = next(words, "")
-        elif word.startswith("-"):
-            sys.exit(usage)
-        else:
-            rest.append(word)
-    return options, rest
-
-
-def program_of(words, top, usage):
-    """The program that the words name, or the one that is built here."""
-    if len(words) > 1:
-        sys.exit(usage)
-    program = os.path.abspath(words[0] if words else f"{top}/crates/ncrun/out/ncrun")
-    if not os.access(program, os.X_OK):
-        sys.exit(f"bench: no program {os.path.relpath(program)}")
-    return program
+def begins_as(path, whole):
+    """Whether a file is a beginning of the other one, or all of it."""
+    with open(path, "rb") as one, open(whole, "rb") as other:
+        while block := one.read(1 << 20):
+            if block != other.read(len(block)):
+                return False
+    return True

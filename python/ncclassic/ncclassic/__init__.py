@@ -9,8 +9,12 @@
 All that is computed comes from libnc_classic, whose functions are proved; this package hands it over. It is found where it is installed, or by
 the variable NC_CLASSIC_LIBRARY of the environment.
 """
-from .faults import HeaderError, RegionError
+from .faults import DefinitionError, HeaderError, RangeError, RegionError
 from .header import Attribute, Dimension, Extent, Header, Layout, Needs, Place, Variable
+from .making import NewHeader
 from .references import references
+from .values import pack, unpack
+from .windows import Step, Window, windows
 
-__all__ = ["Attribute", "Dimension", "Extent", "Header", "HeaderError", "Layout", "Needs", "Place", "RegionError", "Variable", "references"]
+__all__ = ["Attribute", "DefinitionError", "Dimension", "Extent", "Header", "HeaderError", "Layout", "Needs", "NewHeader", "Place", "RangeError", "RegionError",
+           "Step", "Variable", "Window", "pack", "references", "unpack", "windows"]

@@ -27,6 +27,26 @@ REGIONS = {
     library.ESTRIDE: ("NC_ESTRIDE", "a stride is 0"),
 }
 
+# What is wrong with a definition, by its code.
+DEFINITIONS = {
+    library.TOO_LARGE: ("ETOOLARGE", "a size is past a limit"),
+    library.EINVAL: ("NC_EINVAL", "the bytes are not whole values of the type"),
+    library.EMAXDIMS: ("NC_EMAXDIMS", "there are too many dimensions"),
+    library.ENAMEINUSE: ("NC_ENAMEINUSE", "the name is in use"),
+    library.EMAXATTS: ("NC_EMAXATTS", "there are too many attributes"),
+    library.EBADTYPE: ("NC_EBADTYPE", "no type has this number"),
+    library.EBADDIM: ("NC_EBADDIM", "it names a dimension that is not there"),
+    library.EUNLIMPOS: ("NC_EUNLIMPOS", "the record dimension is not its first one"),
+    library.EMAXVARS: ("NC_EMAXVARS", "there are too many variables"),
+    library.EMAXNAME: ("NC_EMAXNAME", "the name is too long"),
+    library.EUNLIMIT: ("NC_EUNLIMIT", "there is a record dimension already"),
+    library.EBADNAME: ("NC_EBADNAME", "it is no name"),
+    library.EVARSIZE: ("NC_EVARSIZE", "the variable is too large for the version"),
+    library.EDIMSIZE: ("NC_EDIMSIZE", "the length is too large for the version"),
+    library.ESTRICTCDF2: ("NC_ESTRICTCDF2", "the version has no such type"),
+}
+PARTS = ("the header", "dimension", "attribute", "variable")
+
 
 class HeaderError(ValueError):
     """The bytes begin with no sound header.
@@ -52,8 +72,33 @@ class RegionError(ValueError):
         super().__init__(f"{self.name}: {words}")
 
 
+class DefinitionError(ValueError):
+    """A definition is refused, the first of all that would be.
+
+    name: PnetCDF's name of the error, or ETOOLARGE; code: its number; part: "dimension", "attribute", "variable" or "the header";
+    number: which of them, from 0; owner: of an attribute the number of its variable, or None for one of the dataset.
+    """
+
+    def __init__(self, code: int, told: library.Refused) -> None:
+        self.code, self.part, self.number = code, PARTS[told.part], int(told.number)
+        self.owner = int(told.owner) if self.part == "attribute" and told.owner != library.GLOBAL else None
+        self.name, words = DEFINITIONS[code]
+        which = "" if told.part == 0 else f" {self.number}" + (f" of variable {self.owner}" if self.owner is not None else "")
+        super().__init__(f"{self.name}: {self.part}{which}: {words}")
+
+
+class RangeError(ValueError):
+    """A value is outside the range of the type that is to hold it: NC_ERANGE. number: which of the values, from 0."""
+
+    def __init__(self, number: int) -> None:
+        self.name, self.code, self.number = "NC_ERANGE", library.ERANGE, number
+        super().__init__(f"{self.name}: value {number} is outside the range of its type")
+
+
 def refused(code: int) -> Exception:
     """What is raised for a code other than that of a header's fault."""
     if code == library.MEMORY:
         return MemoryError()
+    if code == library.ARGUMENT:
+        return ValueError("a number is outside its limits")
     return RegionError(code)

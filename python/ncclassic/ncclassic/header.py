@@ -4,17 +4,13 @@ from __future__ import annotations
 import ctypes as c
 import functools
 import os
-import struct
 from dataclasses import dataclass
 from typing import Any, NamedTuple, Optional, Sequence, Union
 
 from . import library as lib
 from .faults import HeaderError, RegionError, refused
-
-# By the numbers of the file format: the name in CDL, and the code of struct.
-TYPES = {1: ("byte", "b"), 2: ("char", "s"), 3: ("short", "h"), 4: ("int", "i"), 5: ("float", "f"), 6: ("double", "d"),
-         7: ("ubyte", "B"), 8: ("ushort", "H"), 9: ("uint", "I"), 10: ("int64", "q"), 11: ("uint64", "Q")}
-SIZES = {name: struct.calcsize(f">{code}") for name, code in TYPES.values()}
+from .types import TYPES
+from .values import unpack
 
 Value = Union[str, int, float, "tuple[int, ...]", "tuple[float, ...]"]
 
@@ -69,11 +65,8 @@ class Attribute:
     @property
     def value(self) -> Value:
         """Text for chars; a number, or a tuple of numbers where there is not one."""
-        if self.type == "char":
-            return self.data.decode("utf-8", "replace")
-        code = dict(TYPES.values())[self.type]
-        values = struct.unpack(f">{len(self.data) // SIZES[self.type]}{code}", self.data)
-        return values[0] if len(values) == 1 else values
+        values = unpack(self.type, self.data)
+        return values[0] if isinstance(values, tuple) and len(values) == 1 else values
 
 
 @dataclass(frozen=True)
@@ -139,6 +132,10 @@ class Header:
         """The header of a file. OSError: the file can't be read."""
         with open(path, "rb") as file:
             return cls(file.read(lib.HEADER_BYTES))
+
+    def encode(self) -> bytes:
+        """The bytes of the header, without what stood behind them."""
+        return self.data[:self.length]
 
     @property
     def dimensions(self) -> tuple[Dimension, ...]:

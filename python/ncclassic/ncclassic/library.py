@@ -6,8 +6,9 @@ import ctypes.util
 import os
 from typing import Any
 
-OK, MEMORY, HEADER, TOO_LARGE = 0, 1, 2, 3
-EINVALCOORDS, ENOTATT, EBADDIM, ENOTVAR, EEDGE, ESTRIDE = -40, -43, -46, -49, -57, -58
+OK, MEMORY, HEADER, TOO_LARGE, ARGUMENT, ROOM = 0, 1, 2, 3, 4, 6
+EINVAL, EINVALCOORDS, EMAXDIMS, ENAMEINUSE, ENOTATT, EMAXATTS, EBADTYPE, EBADDIM, EUNLIMPOS, EMAXVARS, ENOTVAR = -36, -40, -41, -42, -43, -44, -45, -46, -47, -48, -49
+EMAXNAME, EUNLIMIT, EEDGE, ESTRIDE, EBADNAME, ERANGE, EVARSIZE, EDIMSIZE, ESTRICTCDF2 = -53, -54, -57, -58, -59, -60, -62, -63, -232
 GLOBAL = 2**64 - 1
 HEADER_BYTES = 2**20
 MOST_DIMS = 32  # of a variable
@@ -54,7 +55,38 @@ class Region(c.Structure):
                 ("stride", Numbers), ("strides", c.c_size_t), ("imap", Numbers), ("imaps", c.c_size_t)]
 
 
-# What each function takes behind the header's bytes.
+class DimDef(c.Structure):
+    _fields_ = [("name", c.c_char_p), ("name_len", c.c_size_t), ("length", c.c_uint64)]
+
+
+class AttDef(c.Structure):
+    _fields_ = [("name", c.c_char_p), ("name_len", c.c_size_t), ("values", c.c_char_p), ("values_len", c.c_size_t), ("type", c.c_uint32)]
+
+
+class VarDef(c.Structure):
+    _fields_ = [("name", c.c_char_p), ("name_len", c.c_size_t), ("ids", c.POINTER(c.c_uint32)), ("dims", c.c_size_t),
+                ("atts", c.POINTER(AttDef)), ("att_count", c.c_size_t), ("type", c.c_uint32)]
+
+
+class HeaderDef(c.Structure):
+    _fields_ = [("dims", c.POINTER(DimDef)), ("dim_count", c.c_size_t), ("atts", c.POINTER(AttDef)), ("att_count", c.c_size_t),
+                ("vars", c.POINTER(VarDef)), ("var_count", c.c_size_t), ("records", c.c_uint64), ("header_align", c.c_uint64), ("var_align", c.c_uint64),
+                ("version", c.c_uint32)]
+
+
+class Refused(c.Structure):
+    _fields_ = [("part", c.c_uint32), ("number", c.c_uint64), ("owner", c.c_uint64)]
+
+
+class Window(c.Structure):
+    _fields_ = [("at", c.c_uint64), ("len", c.c_uint64), ("aggregator", c.c_uint32), ("full", c.c_bool)]
+
+
+class Step(c.Structure):
+    _fields_ = [("lo", c.c_uint64), ("hi", c.c_uint64), ("windows", c.c_uint64)]
+
+
+# What each function of a header takes behind the header's bytes.
 FUNCTIONS: dict[str, list[Any]] = {
     "header_check": [c.POINTER(Counts), c.POINTER(Fault)],
     "inq_dim": [c.c_uint64, *BYTES, c.POINTER(Dim)],
@@ -68,6 +100,16 @@ FUNCTIONS: dict[str, list[Any]] = {
     "extents": [c.POINTER(Region), c.c_uint64, c.c_bool, c.c_uint64, c.POINTER(Extent), c.c_size_t, Numbers],
 }
 
+# What each other function takes. An array is any pointer: of the callers in this package each has items of the type that nc_classic.h says.
+OTHERS: dict[str, list[Any]] = {
+    "header_make": [c.POINTER(HeaderDef), *BYTES, Numbers, c.POINTER(Refused)],
+    "windows": [c.POINTER(Extent), c.c_size_t, c.c_uint32, c.c_uint64, c.c_uint64, c.c_uint64, c.POINTER(Window), c.c_size_t, c.POINTER(Step)],
+    **{f"pack_{kind}": [c.c_uint32, c.c_void_p, c.c_size_t, *BYTES, Numbers] for kind in ("int64", "uint64")},
+    **{f"unpack_{kind}": [c.c_uint32, *BYTES, c.c_void_p, c.c_size_t, Numbers] for kind in ("int64", "uint64")},
+    **{f"pack_{kind}": [c.c_void_p, c.c_size_t, *BYTES] for kind in ("float", "double")},
+    **{f"unpack_{kind}": [*BYTES, c.c_void_p, c.c_size_t] for kind in ("float", "double")},
+}
+
 
 def path_of_library() -> str:
     """The shared object: what NC_CLASSIC_LIBRARY names, or else the installed one."""
@@ -77,12 +119,12 @@ def path_of_library() -> str:
 def loaded(path: str) -> c.CDLL:
     """The library, its functions declared. OSError: it is not there, or lacks one of them."""
     library = c.CDLL(path)
-    for name, arguments in FUNCTIONS.items():
+    for name, arguments in {**{name: [*BYTES, *rest] for name, rest in FUNCTIONS.items()}, **OTHERS}.items():
         try:
             function = getattr(library, f"ncv_{name}")
         except AttributeError:
             raise OSError(f"{path} has no function ncv_{name}") from None
-        function.argtypes, function.restype = [*BYTES, *arguments], c.c_int32
+        function.argtypes, function.restype = arguments, c.c_int32
     library.ncv_version.argtypes, library.ncv_version.restype = [], c.c_char_p
     return library
 
