@@ -47,7 +47,7 @@ pub use overlaps::{NcvHeld, NcvPair, ncv_first_shared};
 pub use packing::{ncv_pack_double, ncv_pack_float, ncv_pack_int64, ncv_pack_uint64};
 pub use regions::NcvRegion;
 pub use sizes::{NcvSizes, ncv_inq_sizes};
-pub use unpacking::{ncv_unpack_double, ncv_unpack_float, ncv_unpack_int64, ncv_unpack_uint64};
 pub use tables::{NcvAttDef, NcvDimDef, NcvHeaderDef, NcvVarDef};
+pub use unpacking::{ncv_unpack_double, ncv_unpack_float, ncv_unpack_int64, ncv_unpack_uint64};
 pub use variables::{NcvVar, ncv_inq_var, ncv_inq_varid};
 pub use windows::{NcvStep, NcvWindow, ncv_windows};
