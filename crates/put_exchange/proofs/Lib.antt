@@ -1,8 +1,10 @@
 mod PutLaws
 mod PieceLaws
+mod SentLaws
+mod PackLaws
 mod TakenLaws
 mod ServeLaws
+mod RoundLaws
+mod MessageLaws
 mod InTurnLaws
-mod OrderLaws
-mod FeedLaws
 mod WorkerLaws
