@@ -2,6 +2,7 @@ mod PutLaws
 mod PieceLaws
 mod SentLaws
 mod PackLaws
+mod MailLaws
 mod TakenLaws
 mod ServeLaws
 mod RoundLaws

@@ -1,11 +1,13 @@
 -- Packing: one entry more goes into the message of its rank.
-use Rattle.std.proofs.Common.{◌≡◌, ℕ, zero, suc, ◌+◌, ◌-◌, ◌<◌, ◌≤◌, min, max, refl, sym, ◌∙◌, ap, List, [], ◌∷◌, ◌++◌, length, map, take, drop, set, get_or, Bool, true, false, cond, ◌&&◌, Some, arith}
+use Rattle.std.proofs.Common.{◌≡◌, ℕ, zero, suc, ◌+◌, ◌<◌, ◌≤◌, refl, sym, ◌∙◌, ap, List, [], ◌∷◌, ◌++◌, length, map, take, drop, set, get_or, Bool, true, false, cond, ◌&&◌, Some, arith}
 use Rattle.std.proofs.lemmas.Bool.{and_right, eqb-true}
-use Rattle.std.proofs.lemmas.List.{append-nil}
+use Rattle.std.proofs.lemmas.List.{append-nil, length-map, map-append, take_more}
+use Rattle.std.proofs.lemmas.List.FromFn.{length-range_with_len}
 use Rattle.std.proofs.lemmas.List.Elements.{filter-append}
 use Rattle.std.proofs.lemmas.Option.{slice_get-get_or}
 use Rattle.std.specs.Prelude.{filter, slice_get, ◌==◌}
 use Rattle.std.specs.List.{range_with_len}
+use Rattle.list_laws.proofs.Ranges.{range_push}
 use Rattle.list_laws.proofs.Truth.{equal_true}
 use Rattle.nc_base.specs.declared.plan.Batch.{Batch}
 use Rattle.nc_base.specs.declared.plan.Owned.{Owned}
@@ -30,16 +32,13 @@ batch_in (b ∷ batches) (suc rank) slot h = let l = batch_in batches rank slot 
 pub batch_puts : (batches : List Batch) (rank : ℕ) (d : Batch) → rank < length batches → (get_or batches rank d).puts ≡ puts_of_some (slice_get batches rank)
 batch_puts batches rank d l = sym (ap puts_of_some (slice_get-get_or batches rank d l))
 
--- the piece of an entry that has a byte in a hull
-pub piece_clip : (lo hi : ℕ) (o : Owned) (post : List ℕ) → lo < o.extent.at + o.extent.len → o.extent.at < hi
-    → (max o.extent.at lo, take (min (o.extent.at + o.extent.len) hi - max o.extent.at lo) (drop (o.from + (max o.extent.at lo - o.extent.at)) post))
-    ≡ clip lo hi (o.extent.at, take o.extent.len (drop o.from post))
-piece_clip lo hi o post low high =
-    let at : max o.extent.at lo ≡ part_at lo hi o = omega arith in
-    let long : min (o.extent.at + o.extent.len) hi - max o.extent.at lo ≡ (part_in lo hi o).extent.len = omega arith in
-    let from : o.from + (max o.extent.at lo - o.extent.at) ≡ (part_in lo hi o).from = omega arith in
-    let bytes = (λ i. take (long i) (drop (from i) post)) ∙ part_bytes lo hi o post in
-    λ i. (at i, bytes i)
+-- the piece of an entry is its cell in the hull
+pub cut_clip : (lo hi : ℕ) (source : Source) (o p : Owned) (post bytes : List ℕ) → p ≡ part_in lo hi o → bytes ≡ take p.extent.len (drop p.from post) → post ≡ source o.rank o.slot
+    → (p.extent.at, bytes) ≡ clip lo hi (cell_of source o)
+cut_clip lo hi source o p post bytes part is of =
+    ap (λ (b : List ℕ). (p.extent.at, b)) (is ∙ ap (λ (b : List ℕ). take p.extent.len (drop p.from b)) of)
+    ∙ ap (λ (q : Owned). (q.extent.at, take q.extent.len (drop q.from (source o.rank o.slot)))) part
+    ∙ ap (λ (b : List ℕ). (part_at lo hi o, b)) (part_bytes lo hi o (source o.rank o.slot))
 
 -- ---- what one entry more changes
 
@@ -109,3 +108,37 @@ pub packed_kept : (source : Source) (n : ℕ) (xs : List Owned) (o : Owned) (t :
 packed_kept source n xs o t messages none is =
     is ∙ same_map (λ r. sent_by source xs t r) (λ r. sent_by source (xs ++ o ∷ []) t r) 0 n
     (λ j l. sent_kept source xs o t j (and_right (o.rank == j) (meets t.0 (t.0 + t.1) o) none))
+
+-- ---- the same along a list
+
+pub entry_packed : (source : Source) (n i : ℕ) (list : List Owned) (e : Owned) (t : Told) (messages now : List Sent) (piece : Cell) (d : Sent) → i < length list → (get_or list i e).rank < n
+    → meets t.0 (t.0 + t.1) (get_or list i e) ≡ true → messages ≡ map (λ r. sent_by source (take i list) t r) (range_with_len 0 n)
+    → piece ≡ clip t.0 (t.0 + t.1) (cell_of source (get_or list i e)) → now ≡ set messages (get_or list i e).rank (with_piece (get_or messages (get_or list i e).rank d) piece)
+    → now ≡ map (λ r. sent_by source (take (i + 1) list) t r) (range_with_len 0 n)
+entry_packed source n i list e t messages now piece d l below meet is cut put =
+    put
+    ∙ packed_more source n (take i list) (get_or list i e) t messages piece d below meet is cut
+    ∙ ap (λ (os : List Owned). map (λ r. sent_by source os t r) (range_with_len 0 n)) (sym (take_more list i e l))
+
+pub entry_kept : (source : Source) (n i : ℕ) (list : List Owned) (e : Owned) (t : Told) (messages : List Sent) → i < length list → meets t.0 (t.0 + t.1) (get_or list i e) ≡ false
+    → messages ≡ map (λ r. sent_by source (take i list) t r) (range_with_len 0 n) → messages ≡ map (λ r. sent_by source (take (i + 1) list) t r) (range_with_len 0 n)
+entry_kept source n i list e t messages l none is =
+    packed_kept source n (take i list) (get_or list i e) t messages none is
+    ∙ ap (λ (os : List Owned). map (λ r. sent_by source os t r) (range_with_len 0 n)) (sym (take_more list i e l))
+
+-- the hull of a rank's message
+pub hull_at : (source : Source) (n k : ℕ) (xs : List Owned) (t : Told) (messages : List Sent) (d : Sent) → k < n → messages ≡ map (λ r. sent_by source xs t r) (range_with_len 0 n)
+    → (get_or messages k d).hull ≡ hull_of t
+hull_at source n k xs t messages d l is =
+    ap (λ (ms : List Sent). (get_or ms k d).hull) is ∙ ap (λ (m : Sent). m.hull) (map_at (λ r. sent_by source xs t r) 0 n k d l)
+
+pub messages_long : (source : Source) (n : ℕ) (xs : List Owned) (t : Told) (messages : List Sent) → messages ≡ map (λ r. sent_by source xs t r) (range_with_len 0 n) → length messages ≡ n
+messages_long source n xs t messages is =
+    ap (λ (ms : List Sent). length ms) is ∙ length-map (range_with_len 0 n) (λ r. sent_by source xs t r) ∙ length-range_with_len 0 n
+
+-- ---- one rank more
+
+pub map_push : {X : Type 0} (f : ℕ → X) (k : ℕ) → map f (range_with_len 0 (k + 1)) ≡ map f (range_with_len 0 k) ++ f k ∷ []
+map_push f k =
+    let next : k + 1 ≡ suc k = omega arith in
+    ap (λ (n : ℕ). map f (range_with_len 0 n)) next ∙ ap (λ (ns : List ℕ). map f ns) (range_push 0 k k (omega arith)) ∙ map-append f (range_with_len 0 k) (k ∷ [])

@@ -68,9 +68,9 @@ pub(crate) fn start<'s, E, D: Disk + 's, G: Gate, R: Threads + Wait + Sync>(
     ensures job { IfOk result (λ h. h.child.promise.job.value ≡ plan.now.job.now) }
     ensures size { IfOk result (λ h. h.child.promise.size.value ≡ plan.now.hints.now.cb_buffer) }
     ensures domain { IfOk result (λ h. h.child.promise.domain.value ≡ aggregator.domain) }
-    ensures ends { IfOk result (λ h. h.child.promise.ends.value ≡ ends) }
+    ensures ends { IfOk result (λ h. h.child.promise.ends.value ≡ ends.entry) }
     ensures word { IfOk result (λ h. h.word ≡ go) }
-    ensures kept { IfErr result (λ part. part ≡ ends.part) }
+    ensures kept { IfErr result (λ part. part ≡ ends.entry.part) }
 {
     let duty = Duty {
         list: Snapshot::of(plan.list),
@@ -111,30 +111,31 @@ fn take_part<'a, R: Wait, D: Disk, G: Gate>(
     requires word { ends.word.items ≡ [] }
     requires counts { ends.lines.intake.counts.items ≡ planned_counts plan.now aggregator.domain }
     requires line { ends.lines.intake.line.items ≡ [] }
-    ensures returned { HasReturned D.Disk (part_puts plan.now.job.now.batches plan.now.list.now (turns_of plan.now.hints.now.cb_buffer aggregator.domain plan.now.cover.now)) ends result }
-    ensures untouched { result.end ≡ None → result.ends.part ≡ ends.part }
+    ensures returned { HasReturned D.Disk (part_puts plan.now.job.now.batches plan.now.list.now (turns_of plan.now.hints.now.cb_buffer aggregator.domain plan.now.cover.now)) ends.entry result }
+    ensures untouched { result.end ≡ None → result.ends.part ≡ ends.entry.part }
 {
     let Ends {
         mut word,
         mut part,
-        mut lines,
+        lines,
     } = ends;
+    let PutLines {
+        mut intake,
+        mut buf,
+    } = lines;
     let end = match word.take(tools.rt) {
         Word::Go => {
-            let end = lay_part(
-                tools,
-                plan,
-                aggregator,
-                &mut part,
-                &mut lines.intake,
-                &mut lines.buf,
-            );
+            let end = lay_part(tools, plan, aggregator, &mut part, &mut intake, &mut buf);
             Some(end)
         }
         Word::Stop => None,
     };
     Returned {
-        ends: Ends { word, part, lines },
+        ends: Ends {
+            word,
+            part,
+            lines: PutLines { intake, buf },
+        },
         end,
     }
 }

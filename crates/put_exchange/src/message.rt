@@ -1,5 +1,5 @@
 // Messages: what a rank puts into one window.
-ghost use Rattle.std.specs.Prelude.{◌≡◌, ◌+◌, ◌-◌, ◌^◌, ◌<◌, ◌≤◌, [], length, OnOk};
+ghost use Rattle.std.specs.Prelude.{◌≡◌, ◌+◌, ◌-◌, ◌^◌, ◌<◌, ◌≤◌, [], length, IfOk, OnOk};
 ghost use Rattle.serial_spec.specs.File.{written};
 ghost use Rattle.serial_spec.specs.Said.{write_cells, moved_down, IsFrom, IsWithin};
 ghost use Rattle.put_exchange.specs.Sent.{cells_of, has_pieces, sent, with_piece};
@@ -37,23 +37,23 @@ impl<'a> Model for Message<'a> {
 }
 
 impl<'a> Message<'a> {
-    /// One that has no piece yet.
-    pub fn new(alloc: Global, hull: Extent, rank: u32) -> Self
+    /// One that has no piece yet, and room for so many.
+    pub fn new(alloc: Global, hull: Extent, rank: u32, room: usize) -> Result<Self, Memory>
         requires { hull.at + hull.len < 2 ^ 62 }
-        ensures { result ≡ sent hull rank [] }
+        ensures { IfOk result (λ message. message ≡ sent hull rank []) }
     {
-        Message {
+        Ok(Message {
             hull,
             rank,
-            pieces: Vec::new(alloc),
-        }
+            pieces: Vec::with_capacity(alloc, room)?,
+        })
     }
 
     /// Puts a piece behind the others.
     pub fn push(&mut self, piece: LentPiece<'a>) -> Result<(), Memory>
         requires low { self.old.hull.at ≤ piece.at }
         requires high { piece.at + length piece.bytes.now ≤ self.old.hull.at + self.old.hull.len }
-        ensures { OnOk result (self.new ≡ with_piece self.old (piece.at, piece.bytes.now)) }
+        ensures { OnOk result (self.new ≡ with_piece self.old (piece.entry.at, piece.entry.bytes.now)) }
     {
         self.pieces.push(piece)?;
         Ok(())
@@ -86,14 +86,17 @@ fn lay_pieces(hull: Extent, pieces: &[LentPiece], buf: &mut [u8])
     ensures { buf.new ≡ write_cells buf.old (moved_down hull.at (cells_of pieces.now)) }
 {
     for piece in pieces {
-        lay_bytes(buf, (piece.at - hull.at) as usize, piece.bytes);
+        lay_piece(hull, piece, buf);
     }
 }
 
-// Writes bytes over those of a slice.
-fn lay_bytes(buf: &mut [u8], at: usize, bytes: &[u8])
-    requires { at + length bytes.now ≤ length buf.old }
-    ensures { buf.new ≡ written buf.old at bytes.now }
+// Lays one piece of a hull over its bytes.
+fn lay_piece(hull: Extent, piece: &LentPiece, buf: &mut [u8])
+    requires room { length buf.old ≡ hull.len }
+    requires low { hull.at ≤ piece.now.at }
+    requires high { piece.now.at + length piece.now.bytes.now ≤ hull.at + hull.len }
+    ensures { buf.new ≡ written buf.old (piece.now.at - hull.at) piece.now.bytes.now }
 {
-    buf[at..at + bytes.len()].copy_from_slice(bytes);
+    let at = (piece.at - hull.at) as usize;
+    buf[at..at + piece.bytes.len()].copy_from_slice(piece.bytes);
 }

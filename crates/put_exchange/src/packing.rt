@@ -1,10 +1,11 @@
 // Packing: all messages of a domain, before its helper is started.
-ghost use Rattle.std.specs.Prelude.{◌≡◌, ◌+◌, ◌-◌, ◌^◌, ◌<◌, ◌≤◌, [], ℕ, length, map, flat_map, OnOk, IfOk};
+ghost use Rattle.std.specs.Prelude.{◌≡◌, ◌+◌, ◌-◌, ◌^◌, ◌<◌, ◌≤◌, [], ℕ, length, map, take, drop, OnOk, IfOk};
 ghost use Rattle.std.specs.List.{range_with_len};
 ghost use Rattle.nc_base.specs.declared.plan.Owned.{Owned};
 ghost use Rattle.overlay_laws.specs.Entries.{cell_of, In};
 ghost use Rattle.overlay_laws.specs.Lines.{extents, EndBelow};
 ghost use Rattle.overlay_laws.specs.Windows.{clip};
+ghost use Rattle.aggregator_rounds.specs.EntryParts.{part_in};
 ghost use Rattle.aggregator_rounds.specs.Pieces.{told_window};
 ghost use Rattle.exchange_crew.specs.Pieces.{meets, ArePieces, IsPiece};
 ghost use Rattle.exchange_crew.specs.Plan.{IsPlanned};
@@ -70,21 +71,28 @@ fn messages_of<'a>(
     requires few { length batches.now ≤ 64 }
     ensures { IfOk result (λ messages. messages.items ≡ messages_in (source_of batches.now) (length batches.now) turn.now.entries.now (told_window turn.now.window)) }
 {
-    let mut messages = one_each(alloc, turn.window.hull, batches.len())?;
-    pack_entries(batches, turn, &mut messages)?;
+    let ranks = batches.len();
+    let share = turn.entries.len() / ranks.max(1) + 1;
+    let mut messages = one_each(alloc, turn.window.hull, ranks, share)?;
+    pack_entries(batches, turn, messages.as_mut_slice())?;
     messages.retain(|message| message.has_pieces());
     Ok(messages)
 }
 
-// A message without a piece for each rank.
-fn one_each<'a>(alloc: Global, hull: Extent, ranks: usize) -> Result<Vec<Message<'a>>, Memory>
+// A message without a piece for each rank, each with room for so many.
+fn one_each<'a>(
+    alloc: Global,
+    hull: Extent,
+    ranks: usize,
+    room: usize,
+) -> Result<Vec<Message<'a>>, Memory>
     requires hull { hull.at + hull.len < 2 ^ 62 }
     requires few { ranks ≤ 64 }
     ensures { IfOk result (λ messages. messages.items ≡ map (λ r. sent hull r []) (range_with_len 0 ranks)) }
 {
     let mut messages = Vec::with_capacity(alloc, ranks)?;
     for rank in 0..ranks {
-        messages.push_reserved(Message::new(alloc, hull, rank as u32));
+        messages.push_reserved(Message::new(alloc, hull, rank as u32, room)?);
     }
     Ok(messages)
 }
@@ -123,25 +131,49 @@ fn has_piece(hull: Extent, entry: &Owned) -> bool
     at < hull.at + hull.len && hull.at < at + len
 }
 
-// The piece that an entry has in a hull.
+// The piece that an entry has in a hull; it has no byte where the two do not meet.
 fn piece_of<'a>(hull: Extent, entry: &Owned, batches: &'a [Batch]) -> LentPiece<'a>
     requires hull { hull.at + hull.len < 2 ^ 62 }
     requires piece { IsPiece (source_of batches.now) entry.now }
-    requires low { hull.at < entry.now.extent.at + entry.now.extent.len }
-    requires high { entry.now.extent.at < hull.at + hull.len }
     ensures piece { (result.at, result.bytes.now) ≡ clip hull.at (hull.at + hull.len) (cell_of (source_of batches.now) entry.now) }
     ensures low { hull.at ≤ result.at }
     ensures high { result.at + length result.bytes.now ≤ hull.at + hull.len }
 {
-    let Extent { at, len } = entry.extent;
-    let begin = at.max(hull.at);
-    let end = (at + len).min(hull.at + hull.len);
-    let from = (entry.from + (begin - at)) as usize;
     let bytes = post_bytes(batches, entry);
+    let part = cut(entry, hull);
+    let bytes = part_of(bytes, part.from as usize, part.extent.len as usize);
     LentPiece {
-        at: begin,
-        bytes: &bytes[from..from + (end - begin) as usize],
+        at: part.extent.at,
+        bytes,
     }
+}
+
+// The part of an entry that lies in a hull.
+fn cut(entry: &Owned, hull: Extent) -> Owned
+    requires end { entry.now.extent.at + entry.now.extent.len < 2 ^ 64 }
+    requires from { entry.now.from + entry.now.extent.len < 2 ^ 64 }
+    requires hull { hull.at + hull.len < 2 ^ 64 }
+    ensures { result ≡ part_in hull.at (hull.at + hull.len) entry.now }
+{
+    let end = hull.at + hull.len;
+    let at = entry.extent.at.max(hull.at).min(end);
+    let stop = (entry.extent.at + entry.extent.len).min(end).max(at);
+    let skipped = at.saturating_sub(entry.extent.at).min(entry.extent.len);
+    Owned {
+        extent: Extent { at, len: stop - at },
+        rank: entry.rank,
+        request: entry.request,
+        slot: entry.slot,
+        from: entry.from + skipped,
+    }
+}
+
+// Some of a slice's bytes.
+fn part_of(bytes: &[u8], from: usize, len: usize) -> &[u8]
+    requires { from + len ≤ length bytes.now }
+    ensures { result.now ≡ take len (drop from bytes.now) }
+{
+    &bytes[from..from + len]
 }
 
 // The bytes of the post that an entry is of.

@@ -1,5 +1,5 @@
 // What the caller does: round by round it puts the messages of all parts on their lines.
-ghost use Rattle.std.specs.Prelude.{◌≡◌, ◌<◌, ◌≤◌, ℕ, [], length, slice_get, IfSome, IfNone, Some};
+ghost use Rattle.std.specs.Prelude.{◌≡◌, ◌++◌, ◌<◌, ◌≤◌, ℕ, [], length, slice_get, IfSome, IfNone, Some};
 ghost use Rattle.put_exchange.specs.Feeds.{earlier_of, next_round_of, rounds_in, HasRound, HasSent, HaveFed, IsNotBefore};
 ghost use Rattle.put_exchange.specs.Workers.{HasFed};
 ghost use Rattle.put_exchange.specs.declared.starting.Worker.{Worker};
@@ -70,12 +70,31 @@ fn send_turn<R: Wait>(rt: &R, round: u64, feed: &mut Feed)
     ensures no_more { length feed.new.rounds.items ≤ length feed.old.rounds.items }
     ensures fewer { next_round_of feed.old ≡ Some round → length feed.new.rounds.items < length feed.old.rounds.items }
 {
-    if feed.next_round() == Some(round) {
-        if let Some(next) = feed.rounds.pop_front() {
-            for message in next.messages {
-                feed.line.put(rt, message);
-            }
+    if let Some(next) = feed.next_round() {
+        if next == round {
+            send_next(rt, feed);
         }
+    }
+}
+
+// Puts the messages of the next window of one part.
+fn send_next<R: Wait>(rt: &R, feed: &mut Feed)
+    ensures fed { HaveFed feed.old feed.new }
+    ensures no_more { length feed.new.rounds.items ≤ length feed.old.rounds.items }
+    ensures fewer { 0 < length feed.old.rounds.items → length feed.new.rounds.items < length feed.old.rounds.items }
+{
+    if let Some(next) = feed.rounds.pop_front() {
+        put_messages(rt, next.messages, &mut feed.line);
+    }
+}
+
+// Puts messages behind the others.
+fn put_messages<'a, R: Wait>(rt: &R, messages: Vec<Message<'a>>, line: &mut LinePut<Message<'a>>)
+    ensures of { line.new.of ≡ line.old.of }
+    ensures put { line.new.items ≡ line.old.items ++ messages.entry.items }
+{
+    for message in messages {
+        line.put(rt, message);
     }
 }
 

@@ -134,7 +134,7 @@ pub(crate) fn stop_all<R: Threads + Wait, D: Disk>(
 fn stop_one<R: Threads + Wait, D: Disk>(rt: &R, helper: Helper<D>) -> D
     requires of { helper.word.of ≡ helper.child.promise.ends.value.word.of }
     requires word { helper.word.items ≡ [] }
-    ensures { result ≡ helper.child.promise.ends.value.part }
+    ensures { result ≡ helper.entry.child.promise.ends.value.part }
 {
     let Helper {
         word: mut go,
