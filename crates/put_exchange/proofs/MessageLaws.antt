@@ -1,5 +1,5 @@
 -- Pieces of a message, one after another.
-use Rattle.std.proofs.Common.{◌≡◌, ℕ, ◌+◌, ◌-◌, ◌≤◌, refl, sym, ◌∙◌, ap, List, [], ◌∷◌, ◌++◌, length, get_or, take, zero, suc, ◌<◌, arith}
+use Rattle.std.proofs.Common.{◌≡◌, ℕ, ◌+◌, ◌-◌, ◌≤◌, sym, ◌∙◌, ap, List, [], ◌∷◌, ◌++◌, length, get_or, take, zero, suc, ◌<◌, arith}
 use Rattle.std.proofs.lemmas.List.{map-append, take_more}
 use Rattle.serial_spec.specs.File.{written}
 use Rattle.serial_spec.specs.Said.{Cell, write_cells, moved_down, IsFrom, IsWithin}

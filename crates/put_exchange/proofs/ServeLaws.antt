@@ -15,7 +15,7 @@ use Rattle.file_domains.specs.declared.walk.WindowWalk.{WindowWalk}
 use Rattle.exchange_crew.specs.Pieces.{pieces_in, ArePieces}
 use Rattle.put_exchange.specs.Put.{put_part}
 use Rattle.put_exchange.specs.Sent.{cells_in, messages_in, messages_of, Sent}
-use Rattle.put_exchange.specs.Taken.{put_window, turn_due, Carry, HasPutTaken, HasTaken, IsFilledBy}
+use Rattle.put_exchange.specs.Taken.{turn_due, Carry, HasPutTaken, HasTaken, IsFilledBy}
 use Rattle.exchange_crew.specs.Turns.{Told, turns_ahead}
 use Rattle.exchange_crew.specs.Hulls.{AreTurns, HaveWindows, IsTurn, LieOnPart}
 use Rattle.put_exchange.proofs.PieceLaws.{pieces_are, pieces_covered, pieces_found, pieces_picked}

@@ -1,5 +1,5 @@
 -- Each window is served by the messages that are planned for it.
-use Rattle.std.proofs.Common.{◌≡◌, ◌∙◌, ◌+◌, inl, inr, refl, ap, sym, subst, length, min, ℕ, List, arith}
+use Rattle.std.proofs.Common.{◌∙◌, inl, inr, refl, ap, sym, subst, length, min, ℕ, List, arith}
 use Rattle.std.proofs.lemmas.List.{get_or_read}
 use Rattle.aggregator_rounds.specs.Pieces.{told_window}
 use Rattle.exchange_crew.specs.Plan.{planned_turns, source_in}

@@ -1,5 +1,5 @@
 -- One window more.
-use Rattle.std.proofs.Common.{◌≡◌, ◌∙◌, ◌<◌, ◌≤◌, ℕ, List, ap, subst, sym, length, min, rules, arith}
+use Rattle.std.proofs.Common.{◌≡◌, ◌<◌, ◌≤◌, List, subst, sym, length, min, rules, arith}
 use Rattle.std.proofs.lemmas.Grind.{common_steps}
 use Rattle.nc_base.specs.declared.plan.Batch.{Batch}
 use Rattle.nc_base.specs.declared.plan.Owned.{Owned}

@@ -1,5 +1,5 @@
 -- Those are kept that have a piece.
-use Rattle.std.proofs.Common.{◌≡◌, ◌∙◌, List, ap, length, rules}
+use Rattle.std.proofs.Common.{◌∙◌, List, ap, rules}
 use Rattle.std.specs.Prelude.{filter}
 use Rattle.std.proofs.lemmas.Fn.{filter_same}
 use Rattle.std.proofs.lemmas.List.{with_items_is}

@@ -1,5 +1,5 @@
 -- One entry more.
-use Rattle.std.proofs.Common.{◌≡◌, ◌<◌, ◌+◌, ◌∙◌, ℕ, List, ap, sym, length, take, get_or, set, arith}
+use Rattle.std.proofs.Common.{◌∙◌, ap, sym, length, take, get_or, set, arith}
 use Rattle.nc_base.specs.declared.plan.Extent.{Extent}
 use Rattle.nc_base.specs.declared.plan.Owned.{Owned}
 use Rattle.overlay_laws.proofs.Members.{entry_in}

@@ -1,5 +1,5 @@
 -- The part that is cut out is the entry's cell in the hull.
-use Rattle.std.proofs.Common.{◌+◌, ◌∙◌, ap, List, ℕ, drop, length, arith}
+use Rattle.std.proofs.Common.{◌+◌, ap, List, ℕ, drop, length, arith}
 use Rattle.std.proofs.lemmas.List.{length-take}
 use Rattle.aggregator_rounds.proofs.PartSteps.{part_high}
 use Rattle.exchange_crew.specs.Turns.{source_of}

@@ -1,5 +1,5 @@
 -- A piece more, which lies in the hull too.
-use Rattle.std.proofs.Common.{◌≡◌, ◌∙◌, ◌+◌, ◌≤◌, ℕ, List, ap, subst, sym, length}
+use Rattle.std.proofs.Common.{◌≡◌, ◌∙◌, ◌+◌, ◌≤◌, List, ap, subst, sym, length}
 use Rattle.nc_base.specs.declared.plan.Extent.{Extent}
 use Rattle.serial_spec.specs.Said.{Cell, IsFrom, IsWithin}
 use Rattle.put_exchange.specs.Sent.{cells_of, Sent}
