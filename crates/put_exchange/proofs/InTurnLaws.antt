@@ -13,7 +13,8 @@ use Rattle.aggregator_rounds.proofs.EntryCells.{covered_place}
 use Rattle.exchange_crew.specs.declared.walk.TurnWalk.{TurnWalk}
 use Rattle.exchange_crew.specs.Pieces.{ArePieces}
 use Rattle.put_exchange.specs.Put.{put_part}
-use Rattle.put_exchange.specs.Taken.{cells_in, put_window, IsFilledBy}
+use Rattle.put_exchange.specs.Sent.{cells_in}
+use Rattle.put_exchange.specs.Taken.{put_window, IsFilledBy}
 use Rattle.exchange_crew.specs.Turns.{Told, turns_ahead, IsTurnWalk}
 use Rattle.exchange_crew.specs.Hulls.{HaveWindows, IsTurn, LieOnPart}
 use Rattle.put_exchange.proofs.PieceLaws.{pieces_found, served_picked}

@@ -1,8 +1,11 @@
 mod PutLaws
 mod PieceLaws
+mod SentLaws
+mod PackLaws
+mod MailLaws
 mod TakenLaws
 mod ServeLaws
+mod RoundLaws
+mod MessageLaws
 mod InTurnLaws
-mod OrderLaws
-mod FeedLaws
 mod WorkerLaws

@@ -1,15 +1,15 @@
 -- The pieces of a window are those of the entries that a walk gives with it, and have each covered byte of it.
-use Rattle.std.proofs.Common.{◌≡◌, ℕ, zero, suc, ◌+◌, ◌<◌, ◌≤◌, ◌⊎◌, inl, inr, refl, sym, ◌∙◌, ap, List, [], ◌∷◌, ◌++◌, length, Bool, true, false, cond, ◌&&◌, arith}
-use Rattle.std.proofs.lemmas.List.{append-nil, length-append}
-use Rattle.std.specs.Prelude.{filter, flat_map, nat_lt, nat_le, ◌==◌}
+use Rattle.std.proofs.Common.{◌≡◌, ℕ, ◌+◌, ◌<◌, ◌≤◌, inl, inr, refl, sym, ◌∙◌, ap, List, [], ◌∷◌, ◌++◌, Bool, false, ◌&&◌, arith}
+use Rattle.std.proofs.lemmas.List.{append-nil}
+use Rattle.std.specs.Prelude.{filter, nat_lt, ◌==◌}
 use Rattle.std.specs.List.{range_with_len}
-use Rattle.std.proofs.lemmas.Bool.{and_from, and_right, ltb-true, ltb-false, eqb-true, lt-ltb, le-ltb, leb-true, le-leb, lt-leb}
+use Rattle.std.proofs.lemmas.Bool.{and_from, and_right, lt-ltb, le-ltb}
 use Rattle.std.proofs.lemmas.List.Elements.{filter-append}
 use Rattle.nc_base.specs.declared.plan.Owned.{Owned}
 use Rattle.overlay_laws.specs.Entries.{In, Source}
 use Rattle.overlay_laws.specs.Origins.{AreFound}
 use Rattle.overlay_laws.proofs.HullLaws.{in_flat, flat_in, in_range}
-use Rattle.list_laws.proofs.Truth.{equal_true, no_both}
+use Rattle.list_laws.proofs.Truth.{equal_true}
 use Rattle.serial_spec.proofs.MemberLaws.{in_filter, filter_in}
 use Rattle.overlay_laws.proofs.WalkLaws.{filter_none}
 use Rattle.aggregator_rounds.specs.EntryParts.{IsCovered}
@@ -31,7 +31,7 @@ later_out lo hi o h = ap (λ (t : Bool). t && nat_lt lo (o.extent.at + o.extent.
 
 -- ---- the pieces of a window
 
-rank_served : (list begun : List Owned) (lo hi r : ℕ) → AreServed list begun lo hi → of_rank lo hi r begun ≡ of_rank lo hi r list
+pub rank_served : (list begun : List Owned) (lo hi r : ℕ) → AreServed list begun lo hi → of_rank lo hi r begun ≡ of_rank lo hi r list
 rank_served list begun lo hi r s =
     sym (past_same t lo list s.left (λ o e. and_right (o.rank == r) (meets lo hi o) (ended_out lo hi o e)) s.past
     ∙ ap (λ (es : List Owned). filter t es) s.front.joined
@@ -41,10 +41,6 @@ rank_served list begun lo hi r s =
   where
     t : Owned → Bool
     t o = o.rank == r && meets lo hi o
-
-pub pieces_served : (ranks : ℕ) (list begun : List Owned) (t : Told) → AreServed list begun t.0 (t.0 + t.1) → pieces_in ranks begun t ≡ pieces_in ranks list t
-pieces_served ranks list begun t s =
-    λ i. flat_map (λ r. rank_served list begun t.0 (t.0 + t.1) r s i) (range_with_len 0 ranks)
 
 pub piece_from : (ranks : ℕ) (list : List Owned) (t : Told) (o : Owned) → In (pieces_in ranks list t) o → In list o
 piece_from ranks list t o m =
@@ -84,81 +80,3 @@ served_picked list begun t s = record {
   inside = λ o m. served_in list begun t.0 (t.0 + t.1) o s m;
   all = λ o m b e. in_served list begun t.0 (t.0 + t.1) o s m b e;
 }
-
--- ---- how many they are
-
--- the rank is one of n from a on
-abbrev is_among : ℕ → ℕ → ℕ → Bool
-is_among a n k = nat_le a k && nat_lt k (a + n)
-
--- ... and the entry has a byte from lo to hi
-abbrev pub of_some_rank : ℕ → ℕ → ℕ → ℕ → Owned → Bool
-of_some_rank a n lo hi o = is_among a n o.rank && meets lo hi o
-
-first_rank : (a n k : ℕ) → (((k == a) ≡ true) × (is_among (a + 1) n k ≡ false) × (is_among a (suc n) k ≡ true)) ⊎ (((k == a) ≡ false) × (is_among (a + 1) n k ≡ is_among a (suc n) k))
-first_rank a n k = by_test (k == a) refl
-  where
-    by_test : (t : Bool) → (k == a) ≡ t
-        → (((k == a) ≡ true) × (is_among (a + 1) n k ≡ false) × (is_among a (suc n) k ≡ true)) ⊎ (((k == a) ≡ false) × (is_among (a + 1) n k ≡ is_among a (suc n) k))
-    by_test true e =
-        let same : k ≡ a = eqb-true _ _ e in
-        inl (e, ap (λ (t : Bool). t && nat_lt k (a + 1 + n)) (lt-leb (a + 1) k (omega arith)), and_from (nat_le a k) (nat_lt k (a + suc n)) (le-leb a k (omega arith)) (lt-ltb k (a + suc n) (omega arith)))
-    by_test false e =
-        let end : a + 1 + n ≡ a + suc n = omega arith in
-        inr (e, ap (λ (m : ℕ). nat_le (a + 1) k && nat_lt k m) end ∙ ap (λ (t : Bool). t && nat_lt k (a + suc n)) (by_place (nat_lt a k) refl))
-      where
-        by_place : (t : Bool) → nat_lt a k ≡ t → nat_le (a + 1) k ≡ nat_le a k
-        by_place true f = let l : a < k = ltb-true _ _ f in le-leb (a + 1) k (omega arith) ∙ sym (le-leb a k (omega arith))
-        by_place false f =
-            let l : k ≤ a = ltb-false _ _ f in
-            let less : k < a = less_than (nat_lt k a) refl l in
-            lt-leb (a + 1) k (omega arith) ∙ sym (lt-leb a k (omega arith))
-          where
-            less_than : (t : Bool) → nat_lt k a ≡ t → k ≤ a → k < a
-            less_than true g l = ltb-true _ _ g
-            less_than false g l =
-                let m : a ≤ k = ltb-false _ _ g in
-                no_both (k == a) (equal_true k a (omega arith)) e
-
-one_rank : (u v w m : Bool) (a b c : List Owned) (o : Owned) → ((u ≡ true) × (v ≡ false) × (w ≡ true)) ⊎ ((u ≡ false) × (v ≡ w)) → length a + length b ≡ length c
-    → length (cond (u && m) (o ∷ a) a) + length (cond (v && m) (o ∷ b) b) ≡ length (cond (w && m) (o ∷ c) c)
-one_rank true false true true a b c o d r = omega arith
-one_rank true false true false a b c o d r = r
-one_rank false true true true a b c o d r = omega arith
-one_rank false true true false a b c o d r = r
-one_rank false false false m a b c o d r = r
-one_rank true true w m a b c o (inl d) r = absurd cc
-one_rank true true w m a b c o (inr d) r = absurd cc
-one_rank true false false m a b c o (inl d) r = absurd cc
-one_rank true false false m a b c o (inr d) r = absurd cc
-one_rank false true false m a b c o (inl d) r = absurd cc
-one_rank false true false m a b c o (inr d) r = absurd cc
-one_rank false false true m a b c o (inl d) r = absurd cc
-one_rank false false true m a b c o (inr d) r = absurd cc
-
-more_ranks : (a n lo hi : ℕ) (list : List Owned)
-    → length (of_rank lo hi a list) + length (filter (of_some_rank (a + 1) n lo hi) list) ≡ length (filter (of_some_rank a (suc n) lo hi) list)
-more_ranks a n lo hi [] = refl
-more_ranks a n lo hi (o ∷ list) =
-    one_rank (o.rank == a) (is_among (a + 1) n o.rank) (is_among a (suc n) o.rank) (meets lo hi o) (of_rank lo hi a list) (filter (of_some_rank (a + 1) n lo hi) list)
-    (filter (of_some_rank a (suc n) lo hi) list) o (first_rank a n o.rank) (more_ranks a n lo hi list)
-
-no_ranks : (a lo hi : ℕ) (list : List Owned) → length (filter (of_some_rank a 0 lo hi) list) ≡ 0
-no_ranks a lo hi list = ap (λ (os : List Owned). length os) (filter_none (of_some_rank a 0 lo hi) list (λ o m. none o (nat_le a o.rank) refl))
-  where
-    none : (o : Owned) (t : Bool) → nat_le a o.rank ≡ t → of_some_rank a 0 lo hi o ≡ false
-    none o true e =
-        let low : a ≤ o.rank = leb-true a o.rank e in
-        ap (λ (t : Bool). (nat_le a o.rank && t) && meets lo hi o) (le-ltb o.rank (a + 0) (omega arith)) ∙ ap (λ (t : Bool). t && meets lo hi o) (and_right (nat_le a o.rank) false refl)
-    none o false e = ap (λ (t : Bool). (t && nat_lt o.rank (a + 0)) && meets lo hi o) e
-
-counted : (a n lo hi : ℕ) (list : List Owned) → length (flat_map (λ r. of_rank lo hi r list) (range_with_len a n)) ≡ length (filter (of_some_rank a n lo hi) list)
-counted a zero lo hi list = sym (no_ranks a lo hi list)
-counted a (suc n) lo hi list =
-    length-append (of_rank lo hi a list) (flat_map (λ r. of_rank lo hi r list) (range_with_len (a + 1) n))
-    ∙ ap (λ (k : ℕ). length (of_rank lo hi a list) + k) (counted (a + 1) n lo hi list)
-    ∙ more_ranks a n lo hi list
-
--- one pass over the entries counts them
-pub pieces_many : (ranks : ℕ) (list : List Owned) (t : Told) → length (pieces_in ranks list t) ≡ length (filter (of_some_rank 0 ranks t.0 (t.0 + t.1)) list)
-pieces_many ranks list t = counted 0 ranks t.0 (t.0 + t.1) list

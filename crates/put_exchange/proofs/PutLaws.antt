@@ -19,7 +19,8 @@ use Rattle.overlay_laws.proofs.SaidLaws.{cells_long, one_said, said_is, same_fil
 use Rattle.overlay_laws.proofs.WindowLaws.{clips_from, clips_in, clips_within, moved_said, none_below, none_past, within_lowered, within_more}
 use Rattle.aggregator_rounds.proofs.RoundLaws.{from_less}
 use Rattle.put_exchange.specs.Put.{put_part, HasPut}
-use Rattle.put_exchange.specs.Taken.{cells_in, put_window}
+use Rattle.put_exchange.specs.Sent.{cells_in}
+use Rattle.put_exchange.specs.Taken.{put_window}
 use Rattle.exchange_crew.specs.Turns.{Told}
 use Rattle.exchange_crew.specs.Hulls.{HaveWindows}
 use Rattle.exchange_crew.specs.Parts.{PartState}

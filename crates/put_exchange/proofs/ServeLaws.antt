@@ -1,4 +1,4 @@
--- A helper that took the planned pieces has served its part.
+-- A helper that took the planned messages has served its part.
 use Rattle.std.proofs.Common.{◌≡◌, ℕ, ◌+◌, ◌<◌, ◌≤◌, inl, inr, refl, sym, ◌∙◌, ap, subst, List, [], ◌∷◌, ◌++◌, length, Option, Some, None, Result, Ok, Err, append_assoc, arith}
 use Rattle.std.proofs.lemmas.List.{append-nil, length-append}
 use Rattle.std.specs.Prelude.{map, flat_map, IfSome, IsOk, IsErr, OnOk}
@@ -9,19 +9,19 @@ use Rattle.nc_outside.specs.Told.{after, with_end, BothTold}
 use Rattle.serial_spec.specs.Said.{said_by, IsOneValued}
 use Rattle.overlay_laws.specs.Changes.{store_calls, IsBetween}
 use Rattle.overlay_laws.specs.Entries.{In, Source, cell_of}
-use Rattle.aggregator_rounds.specs.Left.{IsPast}
 use Rattle.aggregator_rounds.proofs.EntryCells.{covered_place}
-use Rattle.exchange_crew.specs.declared.walk.TurnWalk.{TurnWalk}
-use Rattle.exchange_crew.specs.Pieces.{pieces_in, pieces_of, ArePieces}
+use Rattle.file_domains.specs.Rounds.{IsWalk}
+use Rattle.file_domains.specs.declared.walk.WindowWalk.{WindowWalk}
+use Rattle.exchange_crew.specs.Pieces.{pieces_in, ArePieces}
 use Rattle.put_exchange.specs.Put.{put_part}
-use Rattle.put_exchange.specs.Taken.{cells_in, put_window, HasPutTaken, HasTaken, IsFilledBy, turn_pieces}
-use Rattle.exchange_crew.specs.Turns.{Told, turns_ahead, IsTurnWalk}
-use Rattle.exchange_crew.specs.Hulls.{HaveWindows, IsTurn, LieOnPart}
-use Rattle.put_exchange.proofs.PieceLaws.{pieces_are, pieces_covered, pieces_found, pieces_picked, pieces_served}
+use Rattle.put_exchange.specs.Sent.{cells_in, messages_in, messages_of, Sent}
+use Rattle.put_exchange.specs.Taken.{turn_due, Carry, HasPutTaken, HasTaken, IsFilledBy}
+use Rattle.exchange_crew.specs.Turns.{Told, turns_ahead}
+use Rattle.exchange_crew.specs.Hulls.{AreTurns, HaveWindows, IsTurn, LieOnPart}
+use Rattle.put_exchange.proofs.PieceLaws.{pieces_are, pieces_covered, pieces_found, pieces_picked}
 use Rattle.put_exchange.proofs.PutLaws.{IsPutSoFar, told_begin, told_end, told_more, told_next, told_nothing}
+use Rattle.put_exchange.proofs.SentLaws.{messages_carry}
 use Rattle.put_exchange.proofs.TakenLaws.{append_parts}
-use Rattle.exchange_crew.specs.Cursor.{AreInFront, IsAt}
-use Rattle.exchange_crew.proofs.TurnLaws.{at_next, served_now, turn_now}
 
 -- ---- calls
 
@@ -48,90 +48,89 @@ pieces_filled source ranks room list t pieces below turn f x l h =
 
 -- ---- a helper on its way
 
-pub record IsServed {T E : Type 0} (source : Source) (from len ranks room : ℕ) (list : List Owned) (all : List Told) (w : TurnWalk) (taken : List Owned)
+pub record IsServed {T E : Type 0} (source : Source) (from len ranks room : ℕ) (list : List Owned) (all : List Told) (w : WindowWalk) (taken : List Sent)
     (held now : Option (List ℕ)) (calls made : Option (List DiskCall)) (end : Result T E) : Type 0 where
-  pub ready : IsTurnWalk w
-  pub here : IsAt list room (turns_ahead w.windows) w.entries.now
-  pub on_part : LieOnPart from len (turns_ahead w.windows)
-  pub done : List Owned
-  pub whole : pieces_of ranks list all ≡ done ++ pieces_of ranks list (turns_ahead w.windows)
+  pub ready : IsWalk w
+  pub turns : AreTurns list room (turns_ahead w)
+  pub on_part : LieOnPart from len (turns_ahead w)
+  pub done : List Sent
+  pub whole : messages_of source ranks list all ≡ done ++ messages_of source ranks list (turns_ahead w)
   pub many : length taken ≡ length done
   pub between : taken ≡ done → BothTold (λ old left. IsBetween old (put_part source list from old) left) held now
-  pub bytes : OnOk end (taken ≡ done → BothTold (λ old left. IsPutSoFar source list from (turns_ahead w.windows) old left) held now)
-  pub device : OnOk end (with_end made (flat_map store_calls (turns_ahead w.windows)) ≡ with_end calls (flat_map store_calls all))
+  pub bytes : OnOk end (taken ≡ done → BothTold (λ old left. IsPutSoFar source list from (turns_ahead w) old left) held now)
+  pub device : OnOk end (with_end made (flat_map store_calls (turns_ahead w)) ≡ with_end calls (flat_map store_calls all))
 
-pub served_begin : {T E : Type 0} (source : Source) (from len ranks room : ℕ) (list : List Owned) (all : List Told) (w : TurnWalk) (taken : List Owned) (held : Option (List ℕ))
-    (calls : Option (List DiskCall)) (x : T) → IsTurnWalk w → IsAt list room (turns_ahead w.windows) w.entries.now → turns_ahead w.windows ≡ all → LieOnPart from len all → HaveWindows from len list all
+pub served_begin : {T E : Type 0} (source : Source) (from len ranks room : ℕ) (list : List Owned) (all : List Told) (w : WindowWalk) (taken : List Sent) (held : Option (List ℕ))
+    (calls : Option (List DiskCall)) (x : T) → IsWalk w → turns_ahead w ≡ all → AreTurns list room all → LieOnPart from len all → HaveWindows from len list all
     → IfSome held (λ file. length file ≡ len) → taken ≡ [] → IsServed {E = E} source from len ranks room list all w taken held held calls calls (Ok x)
-served_begin source from len ranks room list all w taken held calls x ready at ahead on windows told none = record {
+served_begin source from len ranks room list all w taken held calls x ready ahead turns on windows told none = record {
   ready = ready;
-  here = at;
+  turns = subst (λ (ts : List Told). AreTurns list room ts) (sym ahead) turns;
   on_part = subst (λ (ts : List Told). LieOnPart from len ts) (sym ahead) on;
   done = [];
-  whole = sym (ap (λ (ts : List Told). pieces_of ranks list ts) ahead);
-  many = ap (λ (os : List Owned). length os) none;
+  whole = sym (ap (λ (ts : List Told). messages_of source ranks list ts) ahead);
+  many = ap (λ (ms : List Sent). length ms) none;
   between = λ e. told_nothing held (put_part source list from);
-  bytes = λ e. told_begin source list from len (turns_ahead w.windows) held told (subst (λ (ts : List Told). HaveWindows from len list ts) (sym ahead) windows);
+  bytes = λ e. told_begin source list from len (turns_ahead w) held told (subst (λ (ts : List Told). HaveWindows from len list ts) (sym ahead) windows);
   device = ap (λ (ts : List Told). with_end calls (flat_map store_calls ts)) ahead;
 }
 
--- where the planned pieces were taken, those of the window are the planned ones
-window_pieces : (source : Source) (from ranks count : ℕ) (list : List Owned) (t : Told) (done before now : List Owned) (held left : Option (List ℕ)) {T E : Type 0} (end : Result T E)
-    (put : HasPutTaken (turn_pieces source from t count) before now held left end) → length before ≡ length done → now ≡ done ++ pieces_in ranks list t → (before ≡ done) × (put.got ≡ pieces_in ranks list t)
-window_pieces source from ranks count list t done before now held left end put many e = append_parts before put.got done (pieces_in ranks list t) many (sym put.taken ∙ e)
+-- where the planned messages were taken, those of the window are the planned ones, which carry its pieces
+window_messages : {T E : Type 0} (source : Source) (from ranks count : ℕ) (list : List Owned) (t : Told) (done before now : List Sent) (held left : Option (List ℕ)) (end : Result T E)
+    (put : HasPutTaken (turn_due from t count) before now held left end) → length before ≡ length done → now ≡ done ++ messages_in source ranks list t
+    → (before ≡ done) × Carry source t (pieces_in ranks list t) put.got
+window_messages source from ranks count list t done before now held left end put many e =
+    let parts = append_parts before put.got done (messages_in source ranks list t) many (sym put.taken ∙ e) in
+    (parts.0, subst (λ (ms : List Sent). Carry source t (pieces_in ranks list t) ms) (sym parts.1) (messages_carry source ranks list t))
 
 -- a window that was put, or cut off
-put_between : {T E : Type 0} (source : Source) (from len ranks room count : ℕ) (list : List Owned) (t : Told) (before now : List Owned) (held mid left : Option (List ℕ)) (end : Result T E)
-    → IsGiven source ranks list from len held → IsTurn list room t → from ≤ t.0 → t.0 + t.1 ≤ from + len → (put : HasPutTaken (turn_pieces source from t count) before now mid left end)
-    → put.got ≡ pieces_in ranks list t → BothTold (λ old new. IsBetween old (put_part source list from old) new) held mid
+put_between : {T E : Type 0} (source : Source) (from len ranks room count : ℕ) (list : List Owned) (t : Told) (before now : List Sent) (held mid left : Option (List ℕ)) (end : Result T E)
+    → IsGiven source ranks list from len held → IsTurn list room t → from ≤ t.0 → t.0 + t.1 ≤ from + len → (put : HasPutTaken (turn_due from t count) before now mid left end)
+    → Carry source t (pieces_in ranks list t) put.got → BothTold (λ old new. IsBetween old (put_part source list from old) new) held mid
     → BothTold (λ old new. IsBetween old (put_part source list from old) new) held left
 put_between source from len ranks room count list t before now held mid left end given turn low high put got b =
     told_more source list (pieces_in ranks list t) from len t held mid left given.told given.one (pieces_picked ranks list t given.below) low high b
-    (subst (λ (os : List Owned). BothTold (λ old new. IsBetween old (put_window source from t os old) new) mid left) got
-    (put.between (subst (λ (os : List Owned). ArePieces source os) (sym got) (pieces_are source ranks list t given.pieces))
-    (subst (λ (os : List Owned). IsFilledBy t (cells_in source t os)) (sym got) (pieces_filled source ranks room list t given.pieces given.below turn))))
+    (put.between source (pieces_in ranks list t) got (pieces_filled source ranks room list t given.pieces given.below turn))
 
-put_bytes : {T E : Type 0} (source : Source) (from len ranks room count : ℕ) (list : List Owned) (t : Told) (ts : List Told) (before now : List Owned) (held mid left : Option (List ℕ)) (x : T)
-    → IsGiven source ranks list from len held → IsTurn list room t → from ≤ t.0 → t.0 + t.1 ≤ from + len → (put : HasPutTaken {E = E} (turn_pieces source from t count) before now mid left (Ok x))
-    → put.got ≡ pieces_in ranks list t → BothTold (λ old new. IsPutSoFar source list from (t ∷ ts) old new) held mid → BothTold (λ old new. IsPutSoFar source list from ts old new) held left
+put_bytes : {T E : Type 0} (source : Source) (from len ranks room count : ℕ) (list : List Owned) (t : Told) (ts : List Told) (before now : List Sent) (held mid left : Option (List ℕ)) (x : T)
+    → IsGiven source ranks list from len held → IsTurn list room t → from ≤ t.0 → t.0 + t.1 ≤ from + len → (put : HasPutTaken {E = E} (turn_due from t count) before now mid left (Ok x))
+    → Carry source t (pieces_in ranks list t) put.got → BothTold (λ old new. IsPutSoFar source list from (t ∷ ts) old new) held mid → BothTold (λ old new. IsPutSoFar source list from ts old new) held left
 put_bytes source from len ranks room count list t ts before now held mid left x given turn low high put got b =
     told_next source list (pieces_in ranks list t) from len t ts held mid left given.told given.one (pieces_picked ranks list t given.below) low high b
-    (put.bytes (subst (λ (os : List Owned). ArePieces source os) (sym got) (pieces_are source ranks list t given.pieces))
-    (subst (λ (os : List Owned). IsFilledBy t (cells_in source t os)) (sym got) (pieces_filled source ranks room list t given.pieces given.below turn))
-    ∙ ap (λ (os : List Owned). after (put_window source from t os) mid) got)
+    (put.bytes source (pieces_in ranks list t) got (pieces_filled source ranks room list t given.pieces given.below turn))
 
 -- what one window did
-pub record DidTurn {T E : Type 0} (source : Source) (from count : ℕ) (t : Told) (taken more : List Owned) (mid now : Option (List ℕ)) (made drawn : Option (List DiskCall))
+pub record DidTurn {T E : Type 0} (from count : ℕ) (t : Told) (taken more : List Sent) (mid now : Option (List ℕ)) (made drawn : Option (List DiskCall))
     (before end : Result T E) : Type 0 where
   pub took : HasTaken count taken more
-  pub put : IsOk before → HasPutTaken (turn_pieces source from t count) taken more mid now end
+  pub put : IsOk before → HasPutTaken (turn_due from t count) taken more mid now end
   pub kept : IsErr before → now ≡ mid
   pub ok : OnOk end (IsOk before)
   pub device : OnOk end (drawn ≡ with_end made (store_calls t))
 
-next_between : {T E : Type 0} (source : Source) (from len ranks room count : ℕ) (list : List Owned) (t : Told) (prior taken more : List Owned) (held mid now : Option (List ℕ))
+next_between : {T E : Type 0} (source : Source) (from len ranks room count : ℕ) (list : List Owned) (t : Told) (prior taken more : List Sent) (held mid now : Option (List ℕ))
     (made drawn : Option (List DiskCall)) (before end : Result T E)
     → IsGiven source ranks list from len held → IsTurn list room t → from ≤ t.0 → t.0 + t.1 ≤ from + len → length taken ≡ length prior
-    → DidTurn source from count t taken more mid now made drawn before end
+    → DidTurn from count t taken more mid now made drawn before end
     → (taken ≡ prior → BothTold (λ old left. IsBetween old (put_part source list from old) left) held mid)
-    → more ≡ prior ++ pieces_in ranks list t → BothTold (λ old left. IsBetween old (put_part source list from old) left) held now
+    → more ≡ prior ++ messages_in source ranks list t → BothTold (λ old left. IsBetween old (put_part source list from old) left) held now
 next_between source from len ranks room count list t prior taken more held mid now made drawn (Ok x) end given turn low high many d b e =
     let put = d.put refl in
-    let r = window_pieces source from ranks count list t prior taken more mid now end put many e in
+    let r = window_messages source from ranks count list t prior taken more mid now end put many e in
     put_between source from len ranks room count list t taken more held mid now end given turn low high put r.1 (b r.0)
 next_between source from len ranks room count list t prior taken more held mid now made drawn (Err x) end given turn low high many d b e =
-    let r = append_parts taken d.took.got prior (pieces_in ranks list t) many (sym d.took.taken ∙ e) in
+    let r = append_parts taken d.took.got prior (messages_in source ranks list t) many (sym d.took.taken ∙ e) in
     subst (λ (m : Option (List ℕ)). BothTold (λ old left. IsBetween old (put_part source list from old) left) held m) (sym (d.kept refl)) (b r.0)
 
-next_bytes : {T E : Type 0} (source : Source) (from len ranks room count : ℕ) (list : List Owned) (t : Told) (ts : List Told) (prior taken more : List Owned) (held mid now : Option (List ℕ))
+next_bytes : {T E : Type 0} (source : Source) (from len ranks room count : ℕ) (list : List Owned) (t : Told) (ts : List Told) (prior taken more : List Sent) (held mid now : Option (List ℕ))
     (made drawn : Option (List DiskCall)) (before end : Result T E)
     → IsGiven source ranks list from len held → IsTurn list room t → from ≤ t.0 → t.0 + t.1 ≤ from + len → length taken ≡ length prior
-    → DidTurn source from count t taken more mid now made drawn before end
+    → DidTurn from count t taken more mid now made drawn before end
     → OnOk before (taken ≡ prior → BothTold (λ old left. IsPutSoFar source list from (t ∷ ts) old left) held mid)
-    → OnOk end (more ≡ prior ++ pieces_in ranks list t → BothTold (λ old left. IsPutSoFar source list from ts old left) held now)
+    → OnOk end (more ≡ prior ++ messages_in source ranks list t → BothTold (λ old left. IsPutSoFar source list from ts old left) held now)
 next_bytes source from len ranks room count list t ts prior taken more held mid now made drawn (Ok x) (Ok y) given turn low high many d b =
     λ e. let put = d.put refl in
-    let r = window_pieces source from ranks count list t prior taken more mid now (Ok y) put many e in
+    let r = window_messages source from ranks count list t prior taken more mid now (Ok y) put many e in
     put_bytes source from len ranks room count list t ts taken more held mid now y given turn low high put r.1 (b r.0)
 next_bytes source from len ranks room count list t ts prior taken more held mid now made drawn (Err x) (Ok y) given turn low high many d b = let e = d.ok in absurd cc
 next_bytes source from len ranks room count list t ts prior taken more held mid now made drawn before (Err y) given turn low high many d b = tt
@@ -142,43 +141,57 @@ next_calls t ts whole calls made drawn (Ok x) (Ok y) ok device b = calls_more t 
 next_calls t ts whole calls made drawn (Err x) (Ok y) ok device b = absurd cc
 next_calls t ts whole calls made drawn before (Err y) ok device b = tt
 
-pub served_next : {T E : Type 0} (source : Source) (from len ranks room count : ℕ) (list begun : List Owned) (all : List Told) (w v : TurnWalk) (t : Told) (taken more : List Owned)
+-- the window that comes next
+pub record IsNext (list : List Owned) (room from len : ℕ) (t : Told) (ts : List Told) : Type 0 where
+  pub turn : IsTurn list room t
+  pub turns : AreTurns list room ts
+  pub low : from ≤ t.0
+  pub high : t.0 + t.1 ≤ from + len
+  pub on_part : LieOnPart from len ts
+
+pub next_turn : {T E : Type 0} (source : Source) (from len ranks room : ℕ) (list : List Owned) (all : List Told) (w v : WindowWalk) (t : Told) (taken : List Sent)
+    (held mid : Option (List ℕ)) (calls made : Option (List DiskCall)) (before : Result T E)
+    → IsServed source from len ranks room list all w taken held mid calls made before → turns_ahead w ≡ t ∷ turns_ahead v → IsNext list room from len t (turns_ahead v)
+next_turn source from len ranks room list all w v t taken held mid calls made before s e =
+    let turns : AreTurns list room (t ∷ turns_ahead v) = subst (λ (ts : List Told). AreTurns list room ts) e s.turns in
+    let on : LieOnPart from len (t ∷ turns_ahead v) = subst (λ (ts : List Told). LieOnPart from len ts) e s.on_part in
+    let here = on t (inl refl) in
+    record { turn = turns.0; turns = turns.2; low = here.0; high = here.1; on_part = λ u m. on u (inr m) }
+
+pub served_next : {T E : Type 0} (source : Source) (from len ranks room count : ℕ) (list : List Owned) (all : List Told) (w v : WindowWalk) (t : Told) (taken more : List Sent)
     (held mid now : Option (List ℕ)) (calls made drawn : Option (List DiskCall)) (before end : Result T E)
     → IsGiven source ranks list from len held → IsServed source from len ranks room list all w taken held mid calls made before
-    → turns_ahead w.windows ≡ t ∷ turns_ahead v.windows → IsTurnWalk v → AreInFront (t.0 + t.1) w.entries.now begun → IsPast (t.0 + t.1) w.entries.now v.entries.now
-    → count ≡ length (pieces_in ranks begun t) → DidTurn source from count t taken more mid now made drawn before end
+    → turns_ahead w ≡ t ∷ turns_ahead v → IsWalk v → count ≡ length (messages_in source ranks list t) → DidTurn from count t taken more mid now made drawn before end
     → IsServed source from len ranks room list all v more held now calls drawn end
-served_next source from len ranks room count list begun all w v t taken more held mid now calls made drawn before end given s e ready b past counts d =
-    let turn = turn_now list w.entries.now room (turns_ahead w.windows) (turns_ahead v.windows) t s.here e in
-    let on = s.on_part t (subst (λ (ts : List Told). In ts t) (sym e) (inl refl)) in
-    let same = ap (λ (os : List Owned). length os) (pieces_served ranks list begun t (served_now list w.entries.now begun room (turns_ahead w.windows) (turns_ahead v.windows) t s.here e b)) in
+served_next source from len ranks room count list all w v t taken more held mid now calls made drawn before end given s e ready counts d =
+    let here = next_turn source from len ranks room list all w v t taken held mid calls made before s e in
     let a = length-append taken d.took.got in
-    let c = length-append s.done (pieces_in ranks list t) in
-    let long : length more ≡ length (taken ++ d.took.got) = ap (λ (os : List Owned). length os) d.took.taken in
+    let c = length-append s.done (messages_in source ranks list t) in
+    let long : length more ≡ length (taken ++ d.took.got) = ap (λ (ms : List Sent). length ms) d.took.taken in
     let many = s.many in
     let got = d.took.many in
     record {
       ready = ready;
-      here = at_next list w.entries.now v.entries.now room (turns_ahead w.windows) (turns_ahead v.windows) t s.here e past;
-      on_part = λ u m. s.on_part u (subst (λ (ts : List Told). In ts u) (sym e) (inr m));
-      done = s.done ++ pieces_in ranks list t;
-      whole = s.whole ∙ ap (λ (ts : List Told). s.done ++ pieces_of ranks list ts) e ∙ sym (append_assoc s.done (pieces_in ranks list t) (pieces_of ranks list (turns_ahead v.windows)));
+      turns = here.turns;
+      on_part = here.on_part;
+      done = s.done ++ messages_in source ranks list t;
+      whole = s.whole ∙ ap (λ (ts : List Told). s.done ++ messages_of source ranks list ts) e ∙ sym (append_assoc s.done (messages_in source ranks list t) (messages_of source ranks list (turns_ahead v)));
       many = omega arith;
-      between = next_between source from len ranks room count list t s.done taken more held mid now made drawn before end given turn on.0 on.1 s.many d s.between;
-      bytes = next_bytes source from len ranks room count list t (turns_ahead v.windows) s.done taken more held mid now made drawn before end given turn on.0 on.1 s.many d
+      between = next_between source from len ranks room count list t s.done taken more held mid now made drawn before end given here.turn here.low here.high s.many d s.between;
+      bytes = next_bytes source from len ranks room count list t (turns_ahead v) s.done taken more held mid now made drawn before end given here.turn here.low here.high s.many d
           (subst (λ (ts : List Told). OnOk before (taken ≡ s.done → BothTold (λ old left. IsPutSoFar source list from ts old left) held mid)) e s.bytes);
-      device = next_calls t (turns_ahead v.windows) (with_end calls (flat_map store_calls all)) calls made drawn before end d.ok d.device
+      device = next_calls t (turns_ahead v) (with_end calls (flat_map store_calls all)) calls made drawn before end d.ok d.device
           (subst (λ (ts : List Told). OnOk before (with_end made (flat_map store_calls ts) ≡ with_end calls (flat_map store_calls all))) e s.device);
     }
 
-pub record IsThrough {T E : Type 0} (source : Source) (from ranks : ℕ) (list : List Owned) (all : List Told) (taken : List Owned)
+pub record IsThrough {T E : Type 0} (source : Source) (from ranks : ℕ) (list : List Owned) (all : List Told) (taken : List Sent)
     (held now : Option (List ℕ)) (calls made : Option (List DiskCall)) (end : Result T E) : Type 0 where
-  pub many : length taken ≡ length (pieces_of ranks list all)
-  pub between : taken ≡ pieces_of ranks list all → BothTold (λ old left. IsBetween old (put_part source list from old) left) held now
-  pub bytes : taken ≡ pieces_of ranks list all → OnOk end (now ≡ after (put_part source list from) held)
+  pub many : length taken ≡ length (messages_of source ranks list all)
+  pub between : taken ≡ messages_of source ranks list all → BothTold (λ old left. IsBetween old (put_part source list from old) left) held now
+  pub bytes : taken ≡ messages_of source ranks list all → OnOk end (now ≡ after (put_part source list from) held)
   pub device : OnOk end (made ≡ with_end calls (flat_map store_calls all))
 
-bytes_end : {T E : Type 0} (source : Source) (from : ℕ) (list taken done : List Owned) (ts : List Told) (held now : Option (List ℕ)) (end : Result T E) → ts ≡ [] → taken ≡ done
+bytes_end : {T E : Type 0} (source : Source) (from : ℕ) (list : List Owned) (taken done : List Sent) (ts : List Told) (held now : Option (List ℕ)) (end : Result T E) → ts ≡ [] → taken ≡ done
     → OnOk end (taken ≡ done → BothTold (λ old left. IsPutSoFar source list from ts old left) held now) → OnOk end (now ≡ after (put_part source list from) held)
 bytes_end source from list taken done ts held now (Ok x) none e b =
     told_end source list from held now (subst (λ (us : List Told). BothTold (λ old left. IsPutSoFar source list from us old left) held now) none (b e))
@@ -188,14 +201,14 @@ calls_end : {T E : Type 0} (ts : List Told) (whole made : Option (List DiskCall)
 calls_end ts whole made (Ok x) none b = sym (ap (λ (us : List Told). with_end made (flat_map store_calls us)) none ∙ with_end-nil made) ∙ b
 calls_end ts whole made (Err x) none b = tt
 
-pub served_end : {T E : Type 0} (source : Source) (from len ranks room : ℕ) (list : List Owned) (all : List Told) (w : TurnWalk) (taken : List Owned)
+pub served_end : {T E : Type 0} (source : Source) (from len ranks room : ℕ) (list : List Owned) (all : List Told) (w : WindowWalk) (taken : List Sent)
     (held now : Option (List ℕ)) (calls made : Option (List DiskCall)) (end : Result T E)
-    → IsServed source from len ranks room list all w taken held now calls made end → turns_ahead w.windows ≡ [] → IsThrough source from ranks list all taken held now calls made end
+    → IsServed source from len ranks room list all w taken held now calls made end → turns_ahead w ≡ [] → IsThrough source from ranks list all taken held now calls made end
 served_end source from len ranks room list all w taken held now calls made end s none =
-    let whole : pieces_of ranks list all ≡ s.done = s.whole ∙ ap (λ (ts : List Told). s.done ++ pieces_of ranks list ts) none ∙ append-nil s.done in
+    let whole : messages_of source ranks list all ≡ s.done = s.whole ∙ ap (λ (ts : List Told). s.done ++ messages_of source ranks list ts) none ∙ append-nil s.done in
     record {
-      many = s.many ∙ sym (ap (λ (os : List Owned). length os) whole);
+      many = s.many ∙ sym (ap (λ (ms : List Sent). length ms) whole);
       between = λ e. s.between (e ∙ whole);
-      bytes = λ e. bytes_end source from list taken s.done (turns_ahead w.windows) held now end none (e ∙ whole) s.bytes;
-      device = calls_end (turns_ahead w.windows) (with_end calls (flat_map store_calls all)) made end none s.device;
+      bytes = λ e. bytes_end source from list taken s.done (turns_ahead w) held now end none (e ∙ whole) s.bytes;
+      device = calls_end (turns_ahead w) (with_end calls (flat_map store_calls all)) made end none s.device;
     }

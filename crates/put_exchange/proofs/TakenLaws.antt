@@ -1,17 +1,20 @@
--- Pieces that were taken off a line, and laid one after another.
-use Rattle.std.proofs.Common.{◌≡◌, ℕ, ◌+◌, ◌<◌, inl, refl, sym, ◌∙◌, ap, List, [], ◌∷◌, ◌++◌, length, take, drop, get_or, append_assoc}
+-- Messages that were taken off a line, and laid one after another.
+use Rattle.std.proofs.Common.{◌≡◌, ℕ, zero, suc, arith, ◌+◌, ◌-◌, ◌<◌, inl, refl, sym, ◌∙◌, ap, List, [], ◌∷◌, ◌++◌, length, take, drop, get_or, append_assoc}
 use Rattle.std.proofs.lemmas.Grind.{fold-append}
 use Rattle.std.proofs.Math.Seq.{drop-append_seam, take-append_seam}
-use Rattle.std.proofs.lemmas.List.{length-append, take_more}
+use Rattle.std.proofs.lemmas.List.{append-nil, length-append, map-append, take_more}
+use Rattle.std.proofs.lemmas.List.Concat.{flat_map-append}
 use Rattle.std.specs.Prelude.{map}
+use Rattle.nc_base.specs.declared.plan.Extent.{Extent}
 use Rattle.nc_base.specs.declared.plan.Owned.{Owned}
 use Rattle.serial_spec.specs.File.{written}
 use Rattle.serial_spec.specs.Said.{Cell, write_cells, moved_down}
 use Rattle.overlay_laws.specs.Entries.{Source, cell_of}
 use Rattle.overlay_laws.specs.Windows.{clip, clips}
 use Rattle.overlay_laws.proofs.HullLaws.{in_left, in_right}
-use Rattle.exchange_crew.specs.Pieces.{IsPiece}
-use Rattle.put_exchange.specs.Taken.{HasLaid, range_pieces}
+use Rattle.exchange_crew.specs.Turns.{Told}
+use Rattle.put_exchange.specs.Sent.{Sent}
+use Rattle.put_exchange.specs.Taken.{pieces_in_all, HasLaid}
 
 -- ---- lists of what was taken
 
@@ -21,27 +24,34 @@ append_parts a b c d l e = (
   sym (drop-append_seam a b) ∙ (λ i. drop (l i) (e i)) ∙ drop-append_seam c d,
 )
 
--- the cells of one entry more
-cells_more : (source : Source) (lo hi : ℕ) (got : List Owned) (o : Owned)
-    → moved_down lo (clips lo hi (map (λ p. cell_of source p) (got ++ o ∷ [])))
-    ≡ moved_down lo (clips lo hi (map (λ p. cell_of source p) got)) ++ moved_down lo (clip lo hi (cell_of source o) ∷ [])
-cells_more source lo hi [] o = refl
-cells_more source lo hi (p ∷ got) o = ap (λ (cells : List Cell). moved_down lo (clip lo hi (cell_of source p) ∷ []) ++ cells) (cells_more source lo hi got o)
+-- cells behind others
+pub written_more : (lo : ℕ) (xs ys : List Cell) (old : List ℕ) → write_cells (write_cells old (moved_down lo xs)) (moved_down lo ys) ≡ write_cells old (moved_down lo (xs ++ ys))
+written_more lo xs ys old =
+    sym (ap (λ (cells : List Cell). write_cells old cells) (map-append (λ (cell : Cell). (cell.0 - lo, cell.1)) xs ys)
+    ∙ fold-append (λ f cell. written f cell.0 cell.1) old (moved_down lo xs) (moved_down lo ys))
 
-pub laid_more : (source : Source) (lo hi n m : ℕ) (before mid now : List Owned) (o : Owned) (old buf new : List ℕ) → HasLaid (range_pieces source lo hi n) before mid old buf
-    → now ≡ mid ++ o ∷ [] → m ≡ n + 1 → (IsPiece source o → new ≡ write_cells buf (moved_down lo (clip lo hi (cell_of source o) ∷ [])))
-    → HasLaid (range_pieces source lo hi m) before now old new
-laid_more source lo hi n m before mid now o old buf new h e f laid =
+-- the pieces of one message more
+pieces_more : (got : List Sent) (m : Sent) → pieces_in_all (got ++ m ∷ []) ≡ pieces_in_all got ++ m.pieces
+pieces_more got m = flat_map-append (λ (n : Sent). n.pieces) got (m ∷ []) ∙ ap (λ (cells : List Cell). pieces_in_all got ++ cells) (append-nil m.pieces)
+
+pub laid_more : (hull : Extent) (n k : ℕ) (before mid now : List Sent) (m : Sent) (old buf new : List ℕ) → HasLaid hull n before mid old buf
+    → now ≡ mid ++ m ∷ [] → k ≡ n + 1 → (m.hull ≡ hull → new ≡ write_cells buf (moved_down hull.at m.pieces)) → HasLaid hull k before now old new
+laid_more hull n k before mid now m old buf new h e f laid =
     record {
-      got = h.got ++ o ∷ [];
-      taken = e ∙ ap (λ (xs : List Owned). xs ++ o ∷ []) h.taken ∙ append_assoc before h.got (o ∷ []);
-      many = length-append h.got (o ∷ []) ∙ ap (λ (k : ℕ). k + 1) h.many ∙ sym f;
-      laid = λ pieces.
-          laid (pieces o (in_right h.got (o ∷ []) o (inl refl)))
-          ∙ ap (λ (b : List ℕ). write_cells b (moved_down lo (clip lo hi (cell_of source o) ∷ []))) (h.laid (λ p k. pieces p (in_left h.got (o ∷ []) p k)))
-          ∙ sym (ap (λ (cells : List Cell). write_cells old cells) (cells_more source lo hi h.got o)
-          ∙ fold-append (λ f cell. written f cell.0 cell.1) old (moved_down lo (clips lo hi (map (λ p. cell_of source p) h.got))) (moved_down lo (clip lo hi (cell_of source o) ∷ [])));
+      got = h.got ++ m ∷ [];
+      taken = e ∙ ap (λ (xs : List Sent). xs ++ m ∷ []) h.taken ∙ append_assoc before h.got (m ∷ []);
+      many = length-append h.got (m ∷ []) ∙ ap (λ (j : ℕ). j + 1) h.many ∙ sym f;
+      laid = λ own.
+          laid (own m (in_right h.got (m ∷ []) m (inl refl)))
+          ∙ ap (λ (b : List ℕ). write_cells b (moved_down hull.at m.pieces)) (h.laid (λ p i. own p (in_left h.got (m ∷ []) p i)))
+          ∙ written_more hull.at (pieces_in_all h.got) m.pieces old
+          ∙ ap (λ (cells : List Cell). write_cells old (moved_down hull.at cells)) (sym (pieces_more h.got m));
     }
+
+cells_more : (source : Source) (lo hi : ℕ) (got : List Owned) (o : Owned)
+    → clips lo hi (map (λ p. cell_of source p) (got ++ o ∷ [])) ≡ clips lo hi (map (λ p. cell_of source p) got) ++ clip lo hi (cell_of source o) ∷ []
+cells_more source lo hi [] o = refl
+cells_more source lo hi (p ∷ got) o = ap (λ (cells : List Cell). clip lo hi (cell_of source p) ∷ cells) (cells_more source lo hi got o)
 
 -- one entry more of a list that is laid
 pub entries_more : (source : Source) (lo hi i : ℕ) (list : List Owned) (o : Owned) (old buf new : List ℕ) → i < length list
@@ -51,6 +61,28 @@ pub entries_more : (source : Source) (lo hi i : ℕ) (list : List Owned) (o : Ow
 entries_more source lo hi i list o old buf new l e f =
     f
     ∙ ap (λ (b : List ℕ). write_cells b (moved_down lo (clip lo hi (cell_of source (get_or list i o)) ∷ []))) e
+    ∙ written_more lo (clips lo hi (map (λ p. cell_of source p) (take i list))) (clip lo hi (cell_of source (get_or list i o)) ∷ []) old
     ∙ sym (ap (λ (os : List Owned). write_cells old (moved_down lo (clips lo hi (map (λ p. cell_of source p) os)))) (take_more list i o l)
-    ∙ ap (λ (cells : List Cell). write_cells old cells) (cells_more source lo hi (take i list) (get_or list i o))
-    ∙ fold-append (λ f cell. written f cell.0 cell.1) old (moved_down lo (clips lo hi (map (λ p. cell_of source p) (take i list)))) (moved_down lo (clip lo hi (cell_of source (get_or list i o)) ∷ [])))
+    ∙ ap (λ (cells : List Cell). write_cells old (moved_down lo cells)) (cells_more source lo hi (take i list) (get_or list i o)))
+
+-- ---- how many each window has
+
+pub count_below : (f : Told → ℕ) (n : ℕ) (counts : List ℕ) (t : Told) (ts rest : List Told) → drop n counts ≡ map f ts → ts ≡ t ∷ rest → n < length counts
+count_below f n [] t ts rest e a = absurd (nothing n (e ∙ ap (map f) a))
+  where
+    nothing : (k : ℕ) → drop {A = ℕ} k [] ≡ f t ∷ map f rest → ⊥
+    nothing zero g = cc
+    nothing (suc k) g = cc
+count_below f zero (k ∷ counts) t ts rest e a = omega arith
+count_below f (suc n) (k ∷ counts) t ts rest e a = let l = count_below f n counts t ts rest e a in omega arith
+
+pub count_here : (f : Told → ℕ) (n d : ℕ) (counts : List ℕ) (t : Told) (ts rest : List Told) → drop n counts ≡ map f ts → ts ≡ t ∷ rest
+    → (get_or counts n d ≡ f t) × (drop (n + 1) counts ≡ map f rest)
+count_here f n d [] t ts rest e a = absurd (let l = count_below f n [] t ts rest e a in omega arith)
+count_here f zero d (k ∷ counts) t ts rest e a =
+    let whole : k ∷ counts ≡ f t ∷ map f rest = e ∙ ap (map f) a in
+    (cc, cc)
+count_here f (suc n) d (k ∷ counts) t ts rest e a =
+    let r = count_here f n d counts t ts rest e a in
+    let next : suc n + 1 ≡ suc (n + 1) = omega arith in
+    (r.0, ap (λ (m : ℕ). drop m (k ∷ counts)) next ∙ r.1)

@@ -1,29 +1,25 @@
 -- Helpers that were started, told to go, and fed.
-use Rattle.std.proofs.Common.{◌≡◌, ℕ, refl, sym, ◌∙◌, ap, subst, List, [], ◌∷◌, ◌++◌, length, Option, Some, None}
+use Rattle.std.proofs.Common.{◌≡◌, ℕ, sym, ◌∙◌, ap, List, [], ◌∷◌, ◌++◌, length, Some}
 use Rattle.std.proofs.lemmas.List.{append-nil}
 use Rattle.std.specs.Prelude.{slice_get}
-use Rattle.nc_base.specs.declared.plan.Owned.{Owned}
 use Rattle.overlay_laws.specs.Entries.{In}
-use Rattle.put_exchange.specs.Feeds.{feed_left, pieces_left_of, turns_left_of, FitsIn, IsFeed}
-use Rattle.exchange_crew.specs.Plan.{planned_pieces}
+use Rattle.put_exchange.specs.Feeds.{feed_left, sent_in}
+use Rattle.put_exchange.specs.Sent.{planned_messages, Sent}
 use Rattle.put_exchange.specs.Workers.{domain_of, part_of, HasFed, IsFed, IsFresh, IsStartedFor, IsToldToGo}
 use Rattle.exchange_crew.specs.declared.crew.Word.TheVariants.{Go}
-use Rattle.put_exchange.specs.declared.packing.Feed.{Feed}
+use Rattle.put_exchange.specs.declared.packing.Round.{Round}
+use Rattle.put_exchange.specs.declared.sending.Feed.{Feed}
 use Rattle.exchange_crew.specs.declared.plan.PutPlan.{PutPlan}
 use Rattle.put_exchange.specs.declared.starting.Worker.{Worker}
-use Rattle.exchange_crew.specs.declared.walk.Turn.{Turn}
-use Rattle.exchange_crew.specs.declared.walk.TurnWalk.{TurnWalk}
 use Rattle.exchange_crew.proofs.BackLaws.{each_new}
 use Rattle.exchange_crew.proofs.CrewLaws.{stay_of, Keeps, StayOf}
 
--- told to go, with all its pieces left
+-- told to go, with all its messages left
 pub record IsTold {D : Type 0} (plan : PutPlan) (worker : Worker D) : Type 0 where
   pub started : IsStartedFor plan worker
   pub word : worker.helper.word.items ≡ Go ∷ []
-  pub ready : IsFeed worker.feed
-  pub fits : FitsIn (length plan.list.now) worker.feed
   pub line : worker.feed.line.items ≡ []
-  pub left : feed_left (length plan.job.now.batches) worker.feed ≡ planned_pieces plan (domain_of worker)
+  pub left : feed_left worker.feed ≡ planned_messages plan (domain_of worker)
 
 go_worker : {D : Type 0} (plan : PutPlan) (old new : Worker D) → IsToldToGo old new → IsFresh plan old → IsTold plan new
 go_worker plan old new t f =
@@ -35,22 +31,15 @@ go_worker plan old new t f =
         job = ap (λ child. child.promise.job.value) t.child ∙ s.job;
         size = ap (λ child. child.promise.size.value) t.child ∙ s.size;
         word_of = t.of ∙ s.word_of ∙ sym (ap (λ child. child.promise.ends.value.word.of) t.child);
-        line_of = ap (λ (feed : Feed). feed.line.of) t.feed ∙ s.line_of ∙ sym (ap (λ child. child.promise.ends.value.lines.line.of) t.child);
+        line_of = ap (λ (feed : Feed). feed.line.of) t.feed ∙ s.line_of ∙ sym (ap (λ child. child.promise.ends.value.lines.intake.line.of) t.child);
       };
       word = t.words ∙ ap (λ words. words ++ Go ∷ []) f.word;
-      ready = subst (λ (feed : Feed). IsFeed feed) (sym t.feed) f.ready;
-      fits = subst (λ (feed : Feed). FitsIn (length plan.list.now) feed) (sym t.feed) f.fits;
       line = ap (λ (feed : Feed). feed.line.items) t.feed ∙ f.line;
-      left = ap (λ (feed : Feed). feed_left (length plan.job.now.batches) feed) t.feed ∙ f.left ∙ sym (ap (λ child. planned_pieces plan child.promise.domain.value) t.child);
+      left = ap (λ (feed : Feed). feed_left feed) t.feed ∙ f.left ∙ sym (ap (λ child. planned_messages plan child.promise.domain.value) t.child);
     }
 
-none_left : (ranks : ℕ) (turn : Option Turn) (walk : TurnWalk) → turns_left_of turn walk ≡ [] → pieces_left_of ranks turn walk ≡ []
-none_left ranks None walk e = refl
-none_left ranks (Some t) walk e = absurd cc
-
-fed_worker : {D : Type 0} (plan : PutPlan) (old new : Worker D) → HasFed (length plan.job.now.batches) old new → IsTold plan old → IsFed plan new
+fed_worker : {D : Type 0} (plan : PutPlan) (old new : Worker D) → HasFed old new → IsTold plan old → IsFed plan new
 fed_worker plan old new h t =
-    let ranks = length plan.job.now.batches in
     let s = t.started in
     record {
       started = record {
@@ -59,16 +48,16 @@ fed_worker plan old new h t =
         job = ap (λ helper. helper.child.promise.job.value) h.helper ∙ s.job;
         size = ap (λ helper. helper.child.promise.size.value) h.helper ∙ s.size;
         word_of = ap (λ helper. helper.word.of) h.helper ∙ s.word_of ∙ sym (ap (λ helper. helper.child.promise.ends.value.word.of) h.helper);
-        line_of = h.fed.of ∙ s.line_of ∙ sym (ap (λ helper. helper.child.promise.ends.value.lines.line.of) h.helper);
+        line_of = h.fed.of ∙ s.line_of ∙ sym (ap (λ helper. helper.child.promise.ends.value.lines.intake.line.of) h.helper);
       };
       word = ap (λ helper. helper.word.items) h.helper ∙ t.word;
       put =
           sym (append-nil new.feed.line.items)
-          ∙ ap (λ (rest : List Owned). new.feed.line.items ++ rest) (sym (none_left ranks new.feed.turn new.feed.walk h.none))
+          ∙ ap (λ (rounds : List Round). new.feed.line.items ++ sent_in rounds) (sym h.none)
           ∙ h.fed.put
-          ∙ ap (λ (items : List Owned). items ++ feed_left ranks old.feed) t.line
+          ∙ ap (λ (items : List Sent). items ++ feed_left old.feed) t.line
           ∙ t.left
-          ∙ sym (ap (λ helper. planned_pieces plan helper.child.promise.domain.value) h.helper);
+          ∙ sym (ap (λ helper. planned_messages plan helper.child.promise.domain.value) h.helper);
     }
 
 pub told_workers : {D : Type 0} (plan : PutPlan) (old new : List (Worker D)) → length new ≡ length old
@@ -76,20 +65,18 @@ pub told_workers : {D : Type 0} (plan : PutPlan) (old new : List (Worker D)) →
     → (worker : Worker D) → In new worker → IsTold plan worker
 told_workers plan old new long told fresh = each_new (λ worker. IsFresh plan worker) (λ worker. IsTold plan worker) (λ a b. IsToldToGo a b) old new long told fresh (λ a b t f. go_worker plan a b t f)
 
-pub fed_workers : {D : Type 0} (plan : PutPlan) (ranks : ℕ) (old new : List (Worker D)) → ranks ≡ length plan.job.now.batches → length new ≡ length old
-    → ((k : ℕ) (a b : Worker D) → slice_get old k ≡ Some a → slice_get new k ≡ Some b → HasFed ranks a b) → ((worker : Worker D) → In old worker → IsTold plan worker)
+pub fed_workers : {D : Type 0} (plan : PutPlan) (old new : List (Worker D)) → length new ≡ length old
+    → ((k : ℕ) (a b : Worker D) → slice_get old k ≡ Some a → slice_get new k ≡ Some b → HasFed a b) → ((worker : Worker D) → In old worker → IsTold plan worker)
     → (worker : Worker D) → In new worker → IsFed plan worker
-fed_workers {D} plan ranks old new same long fed told =
-    each_new (λ worker. IsTold plan worker) (λ worker. IsFed plan worker) (λ a b. HasFed ranks a b) old new long fed told
-    (λ a b h t. fed_worker plan a b (subst (λ (n : ℕ). HasFed n a b) same h) t)
+fed_workers plan old new long fed told = each_new (λ worker. IsTold plan worker) (λ worker. IsFed plan worker) (λ a b. HasFed a b) old new long fed told (λ a b h t. fed_worker plan a b h t)
 
 -- ---- they stay those of their parts
 
 told_stays : {D : Type 0} → Keeps {S = Worker D} (λ worker. part_of worker) (λ worker. domain_of worker) (λ a b. IsToldToGo a b)
 told_stays a b t = (ap (λ child. child.promise.ends.value.part) t.child, ap (λ child. child.promise.domain.value) t.child)
 
-fed_stays : {D : Type 0} (ranks : ℕ) → Keeps {S = Worker D} (λ worker. part_of worker) (λ worker. domain_of worker) (λ a b. HasFed ranks a b)
-fed_stays ranks a b h = (ap (λ helper. helper.child.promise.ends.value.part) h.helper, ap (λ helper. helper.child.promise.domain.value) h.helper)
+fed_stays : {D : Type 0} → Keeps {S = Worker D} (λ worker. part_of worker) (λ worker. domain_of worker) (λ a b. HasFed a b)
+fed_stays a b h = (ap (λ helper. helper.child.promise.ends.value.part) h.helper, ap (λ helper. helper.child.promise.domain.value) h.helper)
 
-pub fed_of : {D : Type 0} (ranks : ℕ) → StayOf {S = Worker D} (λ worker. part_of worker) (λ worker. domain_of worker) (λ a b. IsToldToGo a b) (λ a b. HasFed ranks a b)
-fed_of ranks = stay_of (λ worker. part_of worker) (λ worker. domain_of worker) (λ a b. IsToldToGo a b) (λ a b. HasFed ranks a b) told_stays (fed_stays ranks)
+pub fed_of : {D : Type 0} → StayOf {S = Worker D} (λ worker. part_of worker) (λ worker. domain_of worker) (λ a b. IsToldToGo a b) (λ a b. HasFed a b)
+fed_of = stay_of (λ worker. part_of worker) (λ worker. domain_of worker) (λ a b. IsToldToGo a b) (λ a b. HasFed a b) told_stays fed_stays

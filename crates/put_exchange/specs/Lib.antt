@@ -1,3 +1,4 @@
+pub mod Sent
 pub mod Put
 pub mod Taken
 pub mod Feeds

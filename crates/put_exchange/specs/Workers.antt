@@ -2,14 +2,14 @@
 --     part_of worker              the part that the helper was given
 --     domain_of worker            the bytes that it serves
 --     IsStartedFor plan worker    it was started for the plan, and has the other ends of these lines
---     IsFresh plan worker         it was told nothing, and all pieces of its domain are left to be put
---     IsFed plan worker           it was told to go, and all pieces of its domain were put
+--     IsFresh plan worker         it was told nothing, and all messages of its domain are left to be put
+--     IsFed plan worker           it was told to go, and all messages of its domain were put
 --     IsToldToGo old new          it was told to go
---     HasFed ranks old new        what was left to be put was put
-use Rattle.std.specs.Prelude.{◌≡◌, ℕ, ◌++◌, ◌∷◌, [], length}
+--     HasFed old new              what was left to be put was put
+use Rattle.std.specs.Prelude.{◌≡◌, ◌++◌, ◌∷◌, []}
 use Rattle.nc_base.specs.declared.plan.Extent.{Extent}
-use Rattle.put_exchange.specs.Feeds.{feed_left, turns_left, FitsIn, HaveFed, IsFeed}
-use Rattle.exchange_crew.specs.Plan.{planned_pieces}
+use Rattle.put_exchange.specs.Feeds.{feed_left, HaveFed}
+use Rattle.put_exchange.specs.Sent.{planned_messages}
 use Rattle.exchange_crew.specs.declared.crew.Word.TheVariants.{Go}
 use Rattle.exchange_crew.specs.declared.plan.PutPlan.{PutPlan}
 use Rattle.put_exchange.specs.declared.starting.Worker.{Worker}
@@ -26,20 +26,18 @@ pub record IsStartedFor {D : Type 0} (plan : PutPlan) (worker : Worker D) : Type
   pub job : worker.helper.child.promise.job.value ≡ plan.job.now
   pub size : worker.helper.child.promise.size.value ≡ plan.hints.now.cb_buffer
   pub word_of : worker.helper.word.of ≡ worker.helper.child.promise.ends.value.word.of
-  pub line_of : worker.feed.line.of ≡ worker.helper.child.promise.ends.value.lines.line.of
+  pub line_of : worker.feed.line.of ≡ worker.helper.child.promise.ends.value.lines.intake.line.of
 
 pub record IsFresh {D : Type 0} (plan : PutPlan) (worker : Worker D) : Type 0 where
   pub started : IsStartedFor plan worker
   pub word : worker.helper.word.items ≡ []
-  pub ready : IsFeed worker.feed
-  pub fits : FitsIn (length plan.list.now) worker.feed
   pub line : worker.feed.line.items ≡ []
-  pub left : feed_left (length plan.job.now.batches) worker.feed ≡ planned_pieces plan (domain_of worker)
+  pub left : feed_left worker.feed ≡ planned_messages plan (domain_of worker)
 
 pub record IsFed {D : Type 0} (plan : PutPlan) (worker : Worker D) : Type 0 where
   pub started : IsStartedFor plan worker
   pub word : worker.helper.word.items ≡ Go ∷ []
-  pub put : worker.feed.line.items ≡ planned_pieces plan (domain_of worker)
+  pub put : worker.feed.line.items ≡ planned_messages plan (domain_of worker)
 
 pub record IsToldToGo {D : Type 0} (old new : Worker D) : Type 0 where
   pub child : new.helper.child ≡ old.helper.child
@@ -47,7 +45,7 @@ pub record IsToldToGo {D : Type 0} (old new : Worker D) : Type 0 where
   pub of : new.helper.word.of ≡ old.helper.word.of
   pub words : new.helper.word.items ≡ old.helper.word.items ++ Go ∷ []
 
-pub record HasFed {D : Type 0} (ranks : ℕ) (old new : Worker D) : Type 0 where
+pub record HasFed {D : Type 0} (old new : Worker D) : Type 0 where
   pub helper : new.helper ≡ old.helper
-  pub fed : HaveFed ranks old.feed new.feed
-  pub none : turns_left new.feed ≡ []
+  pub fed : HaveFed old.feed new.feed
+  pub none : new.feed.rounds.items ≡ []

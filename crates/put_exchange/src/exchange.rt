@@ -7,12 +7,11 @@ ghost use Rattle.nc_outside.specs.declared.disk.DiskErr.TheVariants.{Failed};
 ghost use Rattle.exchange_crew.specs.Plan.{planned_turns, source_in, IsDomainOf, IsPlanned};
 ghost use Rattle.exchange_crew.specs.Parts.{part_state, SomeZip};
 ghost use Rattle.put_exchange.specs.Put.{HasPut};
-ghost use Rattle.exchange_crew.specs.Rooms.{HasRooms};
 
 use crate::in_turn::put_in_turn;
-use crate::packing::pack_all;
 use crate::results::{join_all, tell_all};
-use crate::starting::{Worker, start_all, stop_all};
+use crate::sending::send_all;
+use crate::starting::{start_all, stop_all};
 use exchange_crew::{Crew, PutPlan, Tools, give_back, make_rooms};
 use nc_base::Extent;
 use nc_outside::{Disk, DiskErr, Gate};
@@ -21,7 +20,7 @@ use std::thread;
 use std::thread::{Scope, Threads};
 
 /// Does the puts of a plan on the parts of a disk. Each part is served by a helper of its own, over the domain at its place, and the
-/// pieces go to it over a line of so many items as the hints say. Where the hints have no threads, or there is one part alone, or a
+/// pieces go to it in messages, over a line of so many as the hints say. Where the hints have no threads, or there is one part alone, or a
 /// thread can't be had, the parts are served in turn, under the same clauses.
 ///
 /// The parts come back in order. Refused, each byte of a part is old or new, and the fault is the first of the parts'; `Memory` comes
@@ -70,21 +69,17 @@ fn put_on_threads<R: Threads + Wait + Sync, D: Disk, G: Gate>(
     ensures failed { IfSome result.1 (λ end. IsErrOf end Failed → SomeZip (λ old new. Rose (D.faults old) (D.faults new)) parts.items result.0.items) }
     ensures kept { IfNone result.1 (result.0.items ≡ parts.items) }
 {
-    let Ok(crew) = make_rooms(tools.alloc, parts.len()) else {
-        return (parts, None);
-    };
     thread::scope(
         thread::scope_env(),
         tools.rt,
         |scope| -> (Vec<D>, Option<Result<(), DiskErr>>)
             requires { IsPlanned plan.now × (1 ≤ plan.now.hints.now.line_room) × (plan.now.hints.now.line_room ≤ 64) × (length domains.now ≤ 64) × (length domains.now ≡ length parts.items)
-                × ((k : ℕ) (part : D) (domain : Extent) → slice_get parts.items k ≡ Some part → slice_get domains.now k ≡ Some domain → IsDomainOf plan.now.list.now (D.from part) (D.len part) domain)
-                × HasRooms (length parts.items) crew }
+                × ((k : ℕ) (part : D) (domain : Extent) → slice_get parts.items k ≡ Some part → slice_get domains.now k ≡ Some domain → IsDomainOf plan.now.list.now (D.from part) (D.len part) domain) }
             ensures put { IfSome result.1 (λ end. AllZip (λ p new. HasPut (source_in plan.entry.now) plan.entry.now.list.now (planned_turns plan.entry.now p.1)
                 (part_state D.Disk p.0) (part_state D.Disk new) end) (zip parts.items domains.entry.now) result.0.items) }
             ensures failed { IfSome result.1 (λ end. IsErrOf end Failed → SomeZip (λ old new. Rose (D.faults old) (D.faults new)) parts.items result.0.items) }
             ensures kept { IfNone result.1 (result.0.items ≡ parts.items) }
-        { put_in_scope(scope, tools, plan, domains, parts, crew) },
+        { put_in_scope(scope, tools, plan, domains, parts) },
     )
 }
 
@@ -95,7 +90,6 @@ fn put_in_scope<'s, E, R: Threads + Wait + Sync, D: Disk + 's, G: Gate>(
     plan: &'s PutPlan<'s>,
     domains: &[Extent],
     parts: Vec<D>,
-    crew: Crew<Worker<'s, D>, D>,
 ) -> (Vec<D>, Option<Result<(), DiskErr>>)
     requires plan { IsPlanned plan.now }
     requires line_low { 1 ≤ plan.now.hints.now.line_room }
@@ -103,17 +97,14 @@ fn put_in_scope<'s, E, R: Threads + Wait + Sync, D: Disk + 's, G: Gate>(
     requires few { length domains.now ≤ 64 }
     requires one_each { length domains.now ≡ length parts.items }
     requires domains { (k : ℕ) (part : D) (domain : Extent) → slice_get parts.items k ≡ Some part → slice_get domains.now k ≡ Some domain → IsDomainOf plan.now.list.now (D.from part) (D.len part) domain }
-    requires rooms { HasRooms (length parts.items) crew }
     ensures put { IfSome result.1 (λ end. AllZip (λ p new. HasPut (source_in plan.now) plan.now.list.now (planned_turns plan.now p.1)
         (part_state D.Disk p.0) (part_state D.Disk new) end) (zip parts.items domains.now) result.0.items) }
     ensures failed { IfSome result.1 (λ end. IsErrOf end Failed → SomeZip (λ old new. Rose (D.faults old) (D.faults new)) parts.items result.0.items) }
     ensures kept { IfNone result.1 (result.0.items ≡ parts.items) }
 {
-    let entries = plan.list.len();
-    let Ok(mut order) = Vec::with_capacity(tools.alloc, entries) else {
+    let Ok(mut crew) = make_rooms(tools.alloc, parts.len()) else {
         return (parts, None);
     };
-    let mut crew = crew;
     start_all(scope, tools, plan, domains, parts, &mut crew);
     let Crew {
         mut workers,
@@ -126,12 +117,7 @@ fn put_in_scope<'s, E, R: Threads + Wait + Sync, D: Disk + 's, G: Gate>(
         return (back, None);
     }
     tell_all(tools.rt, &mut workers);
-    pack_all(
-        tools.rt,
-        plan.job.batches.len() as u32,
-        &mut workers,
-        &mut order,
-    );
+    send_all(tools.rt, &mut workers);
     let end = join_all(tools.rt, plan, workers, &mut back);
     (back, Some(end))
 }

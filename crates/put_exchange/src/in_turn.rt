@@ -1,5 +1,5 @@
 // The parts served in turn, on the calling thread, by no line.
-ghost use Rattle.std.specs.Prelude.{◌≡◌, ◌⊎◌, ◌+◌, ◌^◌, ◌<◌, ◌≤◌, length, map, min, slice_get, zip, ℕ, Some, IsErrOf, IsOk, OnOk};
+ghost use Rattle.std.specs.Prelude.{◌≡◌, ◌∷◌, [], ◌⊎◌, ◌+◌, ◌^◌, ◌<◌, ◌≤◌, length, map, min, slice_get, zip, ℕ, Some, IsErrOf, IsOk, OnOk};
 ghost use Rattle.std.specs.List.{AllZip};
 ghost use Rattle.nc_base.specs.declared.plan.Extent.{Extent};
 ghost use Rattle.nc_outside.specs.Cause.{HasDiskCause, Rose};
@@ -7,18 +7,18 @@ ghost use Rattle.nc_outside.specs.declared.disk.DiskErr.TheVariants.{Failed};
 ghost use Rattle.nc_outside.specs.Told.{after, with_end, BothTold};
 ghost use Rattle.overlay_laws.specs.Changes.{store_calls, IsBetween};
 ghost use Rattle.overlay_laws.specs.Entries.{cell_of};
-ghost use Rattle.overlay_laws.specs.Windows.{clips};
+ghost use Rattle.overlay_laws.specs.Windows.{clip, clips};
 ghost use Rattle.serial_spec.specs.Said.{write_cells, moved_down};
 ghost use Rattle.aggregator_rounds.specs.Pieces.{told_window};
-ghost use Rattle.exchange_crew.specs.Pieces.{ArePieces};
+ghost use Rattle.exchange_crew.specs.Pieces.{ArePieces, IsPiece};
 ghost use Rattle.exchange_crew.specs.Plan.{planned_turns, source_in, IsDomainOf, IsPlanned};
 ghost use Rattle.exchange_crew.specs.Parts.{part_state, SomeZip};
 ghost use Rattle.put_exchange.specs.Put.{HasPut};
-ghost use Rattle.put_exchange.specs.Taken.{cells_in, put_window, IsFilledBy};
+ghost use Rattle.put_exchange.specs.Sent.{cells_in};
+ghost use Rattle.put_exchange.specs.Taken.{put_window, IsFilledBy};
 ghost use Rattle.exchange_crew.specs.Turns.{source_of};
 
-use crate::pieces::lay_piece;
-use aggregator_rounds::{close_window, open_window};
+use aggregator_rounds::{close_window, lay_entry, open_window};
 use exchange_crew::{Aggregator, PutPlan, Tools, Turn, TurnWalk, longest_window};
 use nc_base::{Batch, Extent, Owned};
 use nc_outside::{Disk, DiskErr, Gate, Point};
@@ -92,6 +92,16 @@ fn lay_entries(hull: Extent, entries: &[Owned], batches: &[Batch], buf: &mut [u8
     for entry in entries {
         lay_piece(hull, entry, batches, buf);
     }
+}
+
+// Lays the bytes that an entry has in the hull.
+fn lay_piece(hull: Extent, entry: &Owned, batches: &[Batch], buf: &mut [u8])
+    requires hull { hull.at + hull.len < 2 ^ 62 }
+    requires room { length buf.old ≡ hull.len }
+    requires piece { IsPiece (source_of batches.now) entry.now }
+    ensures { buf.new ≡ write_cells buf.old (moved_down hull.at (clip hull.at (hull.at + hull.len) (cell_of (source_of batches.now) entry.now) ∷ [])) }
+{
+    lay_entry(hull, entry, &batches[entry.rank as usize].puts, buf);
 }
 
 /// Serves the parts one after another, by one buffer, up to the first fault. They come back in order.

@@ -1,188 +1,186 @@
-// What the caller does: round by round it puts the pieces of all parts on their lines.
-ghost use Rattle.std.specs.Prelude.{◌≡◌, ◌+◌, ◌++◌, ◌<◌, ◌≤◌, ◌^◌, ℕ, [], length, map, slice_get, vec_capacity, IfSome, IfNone, Some};
-ghost use Rattle.aggregator_rounds.specs.Pieces.{told_window};
-ghost use Rattle.overlay_laws.specs.Entries.{In};
+// Packing: all messages of a domain, before its helper is started.
+ghost use Rattle.std.specs.Prelude.{◌≡◌, ◌+◌, ◌-◌, ◌^◌, ◌<◌, ◌≤◌, [], ℕ, length, map, take, drop, OnOk, IfOk};
+ghost use Rattle.std.specs.List.{range_with_len};
+ghost use Rattle.nc_base.specs.declared.plan.Owned.{Owned};
+ghost use Rattle.overlay_laws.specs.Entries.{cell_of, In};
 ghost use Rattle.overlay_laws.specs.Lines.{extents, EndBelow};
-ghost use Rattle.put_exchange.specs.Feeds.{earlier_of, entry_at, feed_left, goes_in, next_round_of, ranked_from, turns_in, turns_left, FitsIn, HasPacked, HasRound, HaveFed, IsFeed, IsNotBefore};
-ghost use Rattle.exchange_crew.specs.Pieces.{pieces_in, pieces_of};
-ghost use Rattle.exchange_crew.specs.Plan.{planned_turns, IsPlanned};
-ghost use Rattle.put_exchange.specs.Workers.{HasFed};
-ghost use Rattle.put_exchange.specs.declared.packing.Ranked.{Ranked};
-ghost use Rattle.put_exchange.specs.declared.starting.Worker.{Worker};
+ghost use Rattle.overlay_laws.specs.Windows.{clip};
+ghost use Rattle.aggregator_rounds.specs.EntryParts.{part_in};
+ghost use Rattle.aggregator_rounds.specs.Pieces.{told_window};
+ghost use Rattle.exchange_crew.specs.Pieces.{meets, ArePieces, IsPiece};
+ghost use Rattle.exchange_crew.specs.Plan.{IsPlanned};
+ghost use Rattle.exchange_crew.specs.Turns.{source_of};
+ghost use Rattle.put_exchange.specs.Feeds.{sent_in};
+ghost use Rattle.put_exchange.specs.Sent.{messages_in, planned_counts, planned_messages, sent, sent_by};
 
-use crate::pieces::has_piece;
-use crate::starting::Worker;
+use crate::message::{LentPiece, Message};
 use exchange_crew::{PutPlan, Turn, TurnWalk};
-use nc_base::{Extent, Owned};
-use nc_outside::Disk;
-use ruled_line::LinePut;
-use std::sync::Wait;
+use nc_base::{Batch, Extent, Memory, Owned};
+use std::alloc::Global;
+use std::collections::VecDeque;
 
-/// The caller's end of one line, with what is left to be put on it: the pieces of a window, and of those after it.
+/// The messages of one window, by rank.
 #[derive(Drop)]
-pub(crate) struct Feed<'a> {
-    pub line: LinePut<Owned>,
-    pub turn: Option<Turn<'a>>,
-    pub walk: TurnWalk<'a>,
+pub(crate) struct Round<'a> {
+    pub number: u64,
+    pub messages: Vec<Message<'a>>,
 }
 
-/// An entry of a window by its rank, and its place among the window's entries: the pieces of a window go in this order.
-#[derive(Clone, Copy, Debug, PartialEq, Eq, PartialOrd, Ord)]
-pub(crate) struct Ranked {
-    pub rank: u32,
-    pub place: usize,
+/// All messages of a domain, window after window, and how many each window has.
+#[derive(Drop)]
+pub(crate) struct Mail<'a> {
+    pub rounds: VecDeque<Round<'a>>,
+    pub counts: Vec<usize>,
 }
 
-/// The caller's end of a line, and all pieces of a domain to be put on it.
-pub(crate) fn feed_of<'a>(plan: &PutPlan<'a>, domain: Extent, line: LinePut<Owned>) -> Feed<'a>
-    requires plan { IsPlanned plan.now }
-    ensures ready { IsFeed result }
-    ensures fits { FitsIn (length plan.now.list.now) result }
-    ensures line { result.line ≡ line }
-    ensures left { (ranks : ℕ) → feed_left ranks result ≡ pieces_of ranks plan.now.list.now (planned_turns plan.now domain) }
+/// Packs the messages of a domain.
+pub(crate) fn mail_of<'a>(
+    alloc: Global,
+    plan: &PutPlan<'a>,
+    domain: Extent,
+) -> Result<Mail<'a>, Memory>
+    requires { IsPlanned plan.now }
+    ensures messages { IfOk result (λ mail. sent_in mail.rounds.items ≡ planned_messages plan.now domain) }
+    ensures counts { IfOk result (λ mail. mail.counts.items ≡ planned_counts plan.now domain) }
 {
+    let batches = plan.job.batches.as_slice();
+    let mut rounds = VecDeque::new(alloc);
+    let mut counts = Vec::new(alloc);
     let mut walk = TurnWalk::new(plan, domain);
-    let turn = walk.next_turn();
-    Feed { line, turn, walk }
-}
-
-/// Puts all pieces: round by round, in a round by aggregator, and in a window by rank, and then by place. The list has room for the
-/// entries of each window; what stands in it doesn't count.
-pub(crate) fn pack_all<R: Wait, D: Disk>(
-    rt: &R,
-    ranks: u32,
-    workers: &mut [Worker<D>],
-    order: &mut Vec<Ranked>,
-)
-    requires ready { (k : ℕ) (worker : Worker D) → slice_get workers.old k ≡ Some worker → IsFeed worker.feed }
-    requires fits { (k : ℕ) (worker : Worker D) → slice_get workers.old k ≡ Some worker → FitsIn (vec_capacity order.old) worker.feed }
-    ensures long { length workers.new ≡ length workers.old }
-    ensures fed { (k : ℕ) (old new : Worker D) → slice_get workers.old k ≡ Some old → slice_get workers.new k ≡ Some new → HasFed ranks old new }
-{
-    'rounds: while let Some(round) = least_round(workers) {
-        pack_round(rt, ranks, round, workers, order);
+    'turns: while let Some(turn) = walk.next_turn() {
+        let messages = messages_of(alloc, batches, &turn)?;
+        counts.push(messages.len())?;
+        rounds.push_back(Round {
+            number: turn.window.round,
+            messages,
+        })?;
     }
+    Ok(Mail { rounds, counts })
 }
 
-// The least round of the parts' next windows.
-fn least_round<D: Disk>(workers: &[Worker<D>]) -> Option<u64>
-    ensures some { IfSome result (λ round. HasRound workers.now round) }
-    ensures least { IfSome result (λ round. (k : ℕ) (worker : Worker D) → slice_get workers.now k ≡ Some worker → IsNotBefore round worker.feed) }
-    ensures none { IfNone result ((k : ℕ) (worker : Worker D) → slice_get workers.now k ≡ Some worker → turns_left worker.feed ≡ []) }
-{
-    let mut least = None;
-    for worker in workers {
-        least = earlier(least, worker.feed.next_round());
-    }
-    least
-}
-
-// The earlier of two rounds, where there are two.
-fn earlier(one: Option<u64>, other: Option<u64>) -> Option<u64>
-    ensures { result ≡ earlier_of one other }
-{
-    match (one, other) {
-        (Some(a), Some(b)) => Some(a.min(b)),
-        (Some(a), None) => Some(a),
-        (None, _) => other,
-    }
-}
-
-impl<'a> Feed<'a> {
-    // The round of the next window.
-    fn next_round(&self) -> Option<u64>
-        ensures { result ≡ next_round_of self.now }
-    {
-        Some(self.turn?.window.round)
-    }
-}
-
-// Puts the pieces of a round on the lines of all parts whose next window is of that round.
-fn pack_round<R: Wait, D: Disk>(
-    rt: &R,
-    ranks: u32,
-    round: u64,
-    workers: &mut [Worker<D>],
-    order: &mut Vec<Ranked>,
-)
-    requires ready { (k : ℕ) (worker : Worker D) → slice_get workers.old k ≡ Some worker → IsFeed worker.feed }
-    requires fits { (k : ℕ) (worker : Worker D) → slice_get workers.old k ≡ Some worker → FitsIn (vec_capacity order.old) worker.feed }
-    ensures room { vec_capacity order.new ≡ vec_capacity order.old }
-    ensures long { length workers.new ≡ length workers.old }
-    ensures packed { (k : ℕ) (old new : Worker D) → slice_get workers.old k ≡ Some old → slice_get workers.new k ≡ Some new → HasPacked ranks old new }
-    ensures fewer { HasRound workers.old round → turns_in workers.new < turns_in workers.old }
-{
-    for worker in workers.iter_mut() {
-        pack_turn(rt, ranks, round, &mut worker.feed, order);
-    }
-}
-
-// Puts the pieces of the next window of one part, if it is of this round.
-fn pack_turn<R: Wait>(rt: &R, ranks: u32, round: u64, feed: &mut Feed, order: &mut Vec<Ranked>)
-    requires ready { IsFeed feed.old }
-    requires fits { FitsIn (vec_capacity order.old) feed.old }
-    ensures room { vec_capacity order.new ≡ vec_capacity order.old }
-    ensures ready { IsFeed feed.new }
-    ensures fits { (room : ℕ) → FitsIn room feed.old → FitsIn room feed.new }
-    ensures fed { HaveFed ranks feed.old feed.new }
-    ensures no_more { length (turns_left feed.new) ≤ length (turns_left feed.old) }
-    ensures fewer { next_round_of feed.old ≡ Some round → length (turns_left feed.new) < length (turns_left feed.old) }
-{
-    if let Some(turn) = feed.turn {
-        if turn.window.round == round {
-            pack_pieces(rt, ranks, &turn, order, &mut feed.line);
-            feed.turn = feed.walk.next_turn();
-        }
-    }
-}
-
-// Puts the pieces of a window, by rank, and then by place. The list has room for the window's entries; what stands in it doesn't count.
-fn pack_pieces<R: Wait>(
-    rt: &R,
-    ranks: u32,
-    turn: &Turn,
-    order: &mut Vec<Ranked>,
-    line: &mut LinePut<Owned>,
-)
+// The messages of a window: one for each rank that has a piece in it.
+fn messages_of<'a>(
+    alloc: Global,
+    batches: &'a [Batch],
+    turn: &Turn<'a>,
+) -> Result<Vec<Message<'a>>, Memory>
     requires ends { EndBelow (2 ^ 62) (extents turn.now.entries.now) }
     requires hull { turn.now.window.hull.at + turn.now.window.hull.len < 2 ^ 62 }
-    requires room { length turn.now.entries.now ≤ vec_capacity order.old }
-    ensures of { line.new.of ≡ line.old.of }
-    ensures put { line.new.items ≡ line.old.items ++ pieces_in ranks turn.now.entries.now (told_window turn.now.window) }
-    ensures room { vec_capacity order.new ≡ vec_capacity order.old }
+    requires pieces { ArePieces (source_of batches.now) turn.now.entries.now }
+    requires below { (o : Owned) → In turn.now.entries.now o → o.rank < length batches.now }
+    requires few { length batches.now ≤ 64 }
+    ensures { IfOk result (λ messages. messages.items ≡ messages_in (source_of batches.now) (length batches.now) turn.now.entries.now (told_window turn.now.window)) }
 {
-    rank_entries(ranks, turn, order);
-    order.sort_unstable();
-    put_ranked(rt, turn.entries, order, line);
+    let ranks = batches.len();
+    let share = turn.entries.len() / ranks.max(1) + 1;
+    let mut messages = one_each(alloc, turn.window.hull, ranks, share)?;
+    pack_entries(batches, turn, messages.as_mut_slice())?;
+    messages.retain(|message| message.has_pieces());
+    Ok(messages)
 }
 
-// Lists where the entries stand that have a piece in the window.
-fn rank_entries(ranks: u32, turn: &Turn, order: &mut Vec<Ranked>)
+// A message without a piece for each rank, each with room for so many.
+fn one_each<'a>(
+    alloc: Global,
+    hull: Extent,
+    ranks: usize,
+    room: usize,
+) -> Result<Vec<Message<'a>>, Memory>
+    requires hull { hull.at + hull.len < 2 ^ 62 }
+    requires few { ranks ≤ 64 }
+    ensures { IfOk result (λ messages. messages.items ≡ map (λ r. sent hull r []) (range_with_len 0 ranks)) }
+{
+    let mut messages = Vec::with_capacity(alloc, ranks)?;
+    for rank in 0..ranks {
+        messages.push_reserved(Message::new(alloc, hull, rank as u32, room)?);
+    }
+    Ok(messages)
+}
+
+// Puts each piece of the window into the message of its rank.
+fn pack_entries<'a>(
+    batches: &'a [Batch],
+    turn: &Turn<'a>,
+    messages: &mut [Message<'a>],
+) -> Result<(), Memory>
     requires ends { EndBelow (2 ^ 62) (extents turn.now.entries.now) }
     requires hull { turn.now.window.hull.at + turn.now.window.hull.len < 2 ^ 62 }
-    requires room { length turn.now.entries.now ≤ vec_capacity order.old }
-    ensures ranked { order.new.items ≡ ranked_from (goes_in ranks turn.now.window.hull.at (turn.now.window.hull.at + turn.now.window.hull.len)) 0 turn.now.entries.now }
-    ensures room { vec_capacity order.new ≡ vec_capacity order.old }
+    requires pieces { ArePieces (source_of batches.now) turn.now.entries.now }
+    requires below { (o : Owned) → In turn.now.entries.now o → o.rank < length batches.now }
+    requires empty { messages.old ≡ map (λ r. sent turn.now.window.hull r []) (range_with_len 0 (length batches.now)) }
+    ensures { OnOk result (messages.new ≡ map (λ r. sent_by (source_of batches.now) turn.now.entries.now (told_window turn.now.window) r) (range_with_len 0 (length batches.now))) }
 {
-    order.clear();
-    for (place, entry) in turn.entries.iter().enumerate() {
-        let goes = entry.rank < ranks && has_piece(turn.window.hull, entry);
-        if goes {
-            order.push_reserved(Ranked {
-                rank: entry.rank,
-                place,
-            });
+    let hull = turn.window.hull;
+    for entry in turn.entries {
+        if has_piece(hull, entry) {
+            let piece = piece_of(hull, entry, batches);
+            let message = &mut messages[entry.rank as usize];
+            message.push(piece)?;
         }
+    }
+    Ok(())
+}
+
+// Whether an entry has a byte in a hull.
+fn has_piece(hull: Extent, entry: &Owned) -> bool
+    requires hull { hull.at + hull.len < 2 ^ 62 }
+    requires end { entry.now.extent.at + entry.now.extent.len < 2 ^ 62 }
+    ensures { result ≡ meets hull.at (hull.at + hull.len) entry.now }
+{
+    let Extent { at, len } = entry.extent;
+    at < hull.at + hull.len && hull.at < at + len
+}
+
+// The piece that an entry has in a hull; it has no byte where the two do not meet.
+fn piece_of<'a>(hull: Extent, entry: &Owned, batches: &'a [Batch]) -> LentPiece<'a>
+    requires hull { hull.at + hull.len < 2 ^ 62 }
+    requires piece { IsPiece (source_of batches.now) entry.now }
+    ensures piece { (result.at, result.bytes.now) ≡ clip hull.at (hull.at + hull.len) (cell_of (source_of batches.now) entry.now) }
+    ensures low { hull.at ≤ result.at }
+    ensures high { result.at + length result.bytes.now ≤ hull.at + hull.len }
+{
+    let bytes = post_bytes(batches, entry);
+    let part = cut(entry, hull);
+    let bytes = part_of(bytes, part.from as usize, part.extent.len as usize);
+    LentPiece {
+        at: part.extent.at,
+        bytes,
     }
 }
 
-// Puts the entries that stand there.
-fn put_ranked<R: Wait>(rt: &R, entries: &[Owned], order: &[Ranked], line: &mut LinePut<Owned>)
-    requires { (ranked : Ranked) → In order.now ranked → ranked.place < length entries.now }
-    ensures of { line.new.of ≡ line.old.of }
-    ensures put { line.new.items ≡ line.old.items ++ map (λ ranked. entry_at entries.now ranked.place) order.now }
+// The part of an entry that lies in a hull.
+fn cut(entry: &Owned, hull: Extent) -> Owned
+    requires end { entry.now.extent.at + entry.now.extent.len < 2 ^ 64 }
+    requires from { entry.now.from + entry.now.extent.len < 2 ^ 64 }
+    requires hull { hull.at + hull.len < 2 ^ 64 }
+    ensures { result ≡ part_in hull.at (hull.at + hull.len) entry.now }
 {
-    for ranked in order {
-        line.put(rt, entries[ranked.place]);
+    let end = hull.at + hull.len;
+    let at = entry.extent.at.max(hull.at).min(end);
+    let stop = (entry.extent.at + entry.extent.len).min(end).max(at);
+    let skipped = at.saturating_sub(entry.extent.at).min(entry.extent.len);
+    Owned {
+        extent: Extent { at, len: stop - at },
+        rank: entry.rank,
+        request: entry.request,
+        slot: entry.slot,
+        from: entry.from + skipped,
     }
+}
+
+// Some of a slice's bytes.
+fn part_of(bytes: &[u8], from: usize, len: usize) -> &[u8]
+    requires { from + len ≤ length bytes.now }
+    ensures { result.now ≡ take len (drop from bytes.now) }
+{
+    &bytes[from..from + len]
+}
+
+// The bytes of the post that an entry is of.
+fn post_bytes<'a>(batches: &'a [Batch], entry: &Owned) -> &'a [u8]
+    requires { IsPiece (source_of batches.now) entry.now }
+    ensures { result.now ≡ source_of batches.now entry.now.rank entry.now.slot }
+{
+    let puts = batches[entry.rank as usize].puts.as_slice();
+    puts[entry.slot as usize].bytes.as_slice()
 }

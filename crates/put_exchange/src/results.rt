@@ -11,7 +11,8 @@ ghost use Rattle.put_exchange.specs.Workers.{domain_of, part_of, IsFed, IsToldTo
 ghost use Rattle.put_exchange.specs.declared.starting.Worker.{Worker};
 
 use crate::helper::{Helper, PutLines};
-use crate::packing::Feed;
+use crate::laying::Intake;
+use crate::sending::Feed;
 use crate::starting::Worker;
 use exchange_crew::{Ends, PutPlan, Returned, Word};
 use nc_outside::{Disk, DiskErr};
@@ -29,7 +30,7 @@ pub(crate) fn tell_all<R: Wait, D: Disk>(rt: &R, workers: &mut [Worker<D>])
     }
 }
 
-/// Joins the helpers, which were told to go and were given their pieces. The parts come back in order, and the first fault among them,
+/// Joins the helpers, which were told to go and were sent their messages. The parts come back in order, and the first fault among them,
 /// if there was one.
 pub(crate) fn join_all<R: Threads, D: Disk>(
     rt: &R,
@@ -69,10 +70,11 @@ fn join_one<R: Threads, D: Disk>(
     let Feed { line, .. } = feed;
     let Returned { ends, end } = child.join(rt);
     let Ends { word, part, lines } = ends;
-    let PutLines {
+    let PutLines { intake, buf: _ } = lines;
+    let Intake {
         line: taken,
-        buf: _,
-    } = lines;
+        counts: _,
+    } = intake;
     settle(go, word);
     settle(line, taken);
     match end {

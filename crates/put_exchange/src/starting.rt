@@ -7,18 +7,21 @@ ghost use Rattle.put_exchange.specs.Workers.{domain_of, part_of, IsFresh};
 ghost use Rattle.put_exchange.specs.declared.starting.Worker.{Worker};
 
 use crate::helper::{Helper, PutLines, start};
-use crate::packing::{Feed, feed_of};
+use crate::laying::Intake;
+use crate::message::Message;
+use crate::packing::{Mail, mail_of};
+use crate::sending::Feed;
 use exchange_crew::{Aggregator, Crew, Ends, PutPlan, Tools, Word, stopped};
-use nc_base::{Extent, Owned};
+use nc_base::Extent;
 use nc_outside::{Disk, Gate};
 use ruled_line::line;
 use std::sync::Wait;
 use std::thread::{Scope, Threads};
 
-/// A helper, and the caller's end of its line of pieces.
+/// A helper, and the caller's end of its line of messages.
 #[derive(Drop)]
 pub(crate) struct Worker<'a, D: Disk> {
-    pub helper: Helper<D>,
+    pub helper: Helper<'a, D>,
     pub feed: Feed<'a>,
 }
 
@@ -63,7 +66,8 @@ pub(crate) fn start_all<'s, E, D: Disk + 's, G: Gate, R: Threads + Wait + Sync>(
     }
 }
 
-// Starts a helper for a part, with lines of its own and a buffer. Where one of them can't be had the part comes back as it was.
+// Starts a helper for a part, with lines of its own, its messages and a buffer. Where one of them can't be had the part comes back as it
+// was.
 fn start_one<'s, E, D: Disk + 's, G: Gate, R: Threads + Wait + Sync>(
     scope: &'s Scope<'s, E>,
     tools: &'s Tools<'s, R, G>,
@@ -83,7 +87,10 @@ fn start_one<'s, E, D: Disk + 's, G: Gate, R: Threads + Wait + Sync>(
     let Ok((go, word)) = line::<Word>(tools.alloc, 1) else {
         return Err(part);
     };
-    let Ok((put, taken)) = line::<Owned>(tools.alloc, plan.hints.line_room) else {
+    let Ok((put, taken)) = line::<Message>(tools.alloc, plan.hints.line_room) else {
+        return Err(part);
+    };
+    let Ok(Mail { rounds, counts }) = mail_of(tools.alloc, plan, aggregator.domain) else {
         return Err(part);
     };
     let room = plan.hints.cb_buffer.min(aggregator.domain.len) as usize;
@@ -93,10 +100,16 @@ fn start_one<'s, E, D: Disk + 's, G: Gate, R: Threads + Wait + Sync>(
     let ends = Ends {
         word,
         part,
-        lines: PutLines { line: taken, buf },
+        lines: PutLines {
+            intake: Intake {
+                line: taken,
+                counts,
+            },
+            buf,
+        },
     };
     let helper = start(scope, tools, plan, aggregator, go, ends)?;
-    let feed = feed_of(plan, aggregator.domain, put);
+    let feed = Feed { line: put, rounds };
     Ok(Worker { helper, feed })
 }
 
@@ -121,7 +134,7 @@ pub(crate) fn stop_all<R: Threads + Wait, D: Disk>(
 fn stop_one<R: Threads + Wait, D: Disk>(rt: &R, helper: Helper<D>) -> D
     requires of { helper.word.of ≡ helper.child.promise.ends.value.word.of }
     requires word { helper.word.items ≡ [] }
-    ensures { result ≡ helper.child.promise.ends.value.part }
+    ensures { result ≡ helper.entry.child.promise.ends.value.part }
 {
     let Helper {
         word: mut go,

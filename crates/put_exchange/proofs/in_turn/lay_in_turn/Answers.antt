@@ -6,7 +6,8 @@ use Rattle.overlay_laws.specs.Changes.{IsBetween}
 use Rattle.aggregator_rounds.specs.Pieces.{told_window}
 use Rattle.exchange_crew.specs.Pieces.{ArePieces}
 use Rattle.exchange_crew.specs.Plan.{planned_turns, source_in}
-use Rattle.put_exchange.specs.Taken.{cells_in, put_window, IsFilledBy}
+use Rattle.put_exchange.specs.Sent.{cells_in}
+use Rattle.put_exchange.specs.Taken.{put_window, IsFilledBy}
 use Rattle.exchange_crew.specs.Turns.{source_of, turns_ahead}
 use Rattle.exchange_crew.proofs.BackLaws.{err_not_ok}
 use Rattle.put_exchange.proofs.InTurnLaws.{in_turn_begin, in_turn_cut, in_turn_end, in_turn_next, in_turn_whole, served_filled}

@@ -5,7 +5,8 @@ use Rattle.overlay_laws.specs.Entries.{cell_of}
 use Rattle.overlay_laws.proofs.WindowLaws.{clips_from, clips_within}
 use Rattle.aggregator_rounds.specs.Pieces.{told_window}
 use Rattle.aggregator_rounds.proofs.RoundLaws.{window_told_by, window_refused_by}
-use Rattle.put_exchange.specs.Taken.{cells_in, put_window}
+use Rattle.put_exchange.specs.Sent.{cells_in}
+use Rattle.put_exchange.specs.Taken.{put_window}
 use Rattle.exchange_crew.specs.Turns.{source_of}
 use Rattle.put_exchange.proofs.PutLaws.{told_kept, told_whole}
 use Rattle.put_exchange.proofs.in_turn.put_turn.Goals as goal

@@ -1,18 +1,20 @@
--- What is left to be served gives the whole, once the planned pieces were taken.
-use Rattle.std.proofs.Common.{◌≡◌, ◌≤◌, length, min}
+-- What is left to be served gives the whole, once the planned messages were taken.
+use Rattle.std.proofs.Common.{◌≡◌, ◌≤◌, drop, length, min}
 use Rattle.std.specs.Prelude.{IsErrOf}
 use Rattle.nc_outside.specs.Cause.{Rose}
 use Rattle.nc_outside.specs.declared.disk.DiskErr.TheVariants.{Failed}
 use Rattle.exchange_crew.specs.Plan.{planned_turns, source_in}
 use Rattle.exchange_crew.specs.Turns.{turns_ahead}
+use Rattle.put_exchange.specs.Sent.{message_counts}
 use Rattle.put_exchange.proofs.ServeLaws.{IsServed}
 use Rattle.put_exchange.proofs.laying.lay_part.Given as goal
 
-abbrev pub invariant-turns : goal.invariant-turns
-invariant-turns g l = record {
-  of : l.line.of ≡ l.initial.line.of;
+abbrev pub invariant-windows : goal.invariant-windows
+invariant-windows g l = record {
+  of : l.intake.line.of ≡ l.initial.intake.line.of;
+  counts : drop l.number l.intake.counts.items ≡ message_counts (source_in l.plan) (length l.plan.job.now.batches) l.plan.list.now (turns_ahead l.walk);
   served : IsServed (source_in l.plan) (g.D.Disk.from l.initial.part) (g.D.Disk.len l.initial.part) (length l.plan.job.now.batches) (min l.plan.hints.now.cb_buffer l.aggregator.domain.len)
-      l.plan.list.now (planned_turns l.plan l.aggregator.domain) l.walk l.line.items
+      l.plan.list.now (planned_turns l.plan l.aggregator.domain) l.walk l.intake.line.items
       (g.D.Disk.held l.initial.part) (g.D.Disk.held l.part) (g.D.Disk.calls l.initial.part) (g.D.Disk.calls l.part) l.end;
   from : g.D.Disk.from l.part ≡ g.D.Disk.from l.initial.part;
   len : g.D.Disk.len l.part ≡ g.D.Disk.len l.initial.part;
@@ -20,5 +22,5 @@ invariant-turns g l = record {
   failed : IsErrOf l.end Failed → Rose (g.D.Disk.faults l.initial.part) (g.D.Disk.faults l.part);
 }
 
-abbrev pub decreases-turns : goal.decreases-turns
-decreases-turns g l = length (turns_ahead l.walk.windows)
+abbrev pub decreases-windows : goal.decreases-windows
+decreases-windows g l = length (turns_ahead l.walk)

@@ -1,5 +1,5 @@
 -- The hull as it is written is the old one with the bytes of what was taken.
-use Rattle.std.proofs.Common.{◌≡◌, ◌+◌, length, rules, arith}
+use Rattle.std.proofs.Common.{◌≡◌, ◌∙◌, ◌+◌, List, ap, length, rules, arith}
 use Rattle.std.proofs.lemmas.Grind.{common_steps}
 use Rattle.std.specs.Prelude.{map}
 use Rattle.nc_outside.specs.Told.{after}
@@ -7,9 +7,11 @@ use Rattle.overlay_laws.specs.Entries.{cell_of}
 use Rattle.overlay_laws.proofs.WindowLaws.{clips_from, clips_within}
 use Rattle.aggregator_rounds.specs.Pieces.{told_window}
 use Rattle.aggregator_rounds.proofs.RoundLaws.{window_told_by, window_refused_by}
-use Rattle.exchange_crew.specs.Pieces.{ArePieces}
-use Rattle.put_exchange.specs.Taken.{cells_in, put_window, IsFilledBy}
-use Rattle.exchange_crew.specs.Turns.{source_of}
+use Rattle.nc_base.specs.declared.plan.Owned.{Owned}
+use Rattle.serial_spec.specs.Said.{Cell, write_cells, moved_down}
+use Rattle.overlay_laws.specs.Entries.{Source}
+use Rattle.put_exchange.specs.Sent.{cells_in}
+use Rattle.put_exchange.specs.Taken.{put_window, Carry, IsFilledBy}
 use Rattle.exchange_crew.proofs.BackLaws.{err_not_ok}
 use Rattle.put_exchange.proofs.PutLaws.{told_kept, told_whole}
 use Rattle.put_exchange.proofs.laying.put_turn.Goals as goal
@@ -19,29 +21,29 @@ returns-clause-put g c =
     let at = c.args.due.now.window.hull.at in
     let len = c.args.due.now.window.hull.len in
     let t = told_window c.args.due.now.window in
-    let source = source_of c.args.due.now.batches.now in
     let from = g.D.Disk.from c.args.part.now in
-    let got = c.take_pieces.ensures.laid.got in
+    let got = c.take_messages.ensures.laid.got in
     let room : length c.open_window-opened.new.buf ≡ len = first_of (search rules, grind (arith, common_steps)) in
-    let bytes : ArePieces source got → IsFilledBy t (cells_in source t got) → g.D.Disk.held c.close_window.new.disk ≡ after (put_window source from t got) (g.D.Disk.held c.args.part.now)
-    = λ pieces whole.
+    let bytes : (source : Source) (picked : List Owned) → Carry source t picked got → IsFilledBy t (cells_in source t picked)
+    → g.D.Disk.held c.close_window.new.disk ≡ after (put_window source from t picked) (g.D.Disk.held c.args.part.now)
+    = λ source picked carry whole.
     window_told_by
     (g.D.Disk.held c.args.part.now) (g.D.Disk.held c.open_window-opened.new.disk) (g.D.Disk.held c.close_window.new.disk) c.args.due.now.window.full
-    c.open_window-opened.new.buf c.take_pieces.new.buf from (g.D.Disk.from c.open_window-opened.new.disk) at len
-    (g.D.Disk.len c.args.part.now) (cells_in source t got)
-    c.in_ok-opened.ensures.from c.in_ok-opened.ensures.bytes (c.take_pieces.ensures.laid.laid pieces)
+    c.open_window-opened.new.buf c.take_messages.new.buf from (g.D.Disk.from c.open_window-opened.new.disk) at len
+    (g.D.Disk.len c.args.part.now) (cells_in source t picked)
+    c.in_ok-opened.ensures.from c.in_ok-opened.ensures.bytes (c.take_messages.ensures.laid.laid carry.hull ∙ ap (λ (cells : List Cell). write_cells c.open_window-opened.new.buf (moved_down at cells)) carry.cells)
     c.size-size.ensures.told room c.requires.low c.requires.high
-    (clips_from at (at + len) (map (λ o. cell_of source o) got) (omega arith))
-    (clips_within at (at + len) (map (λ o. cell_of source o) got) (omega arith))
+    (clips_from at (at + len) (map (λ o. cell_of source o) picked) (omega arith))
+    (clips_within at (at + len) (map (λ o. cell_of source o) picked) (omega arith))
     whole c.in_ok-opened.ensures.read c.in_ok-close_window.ensures.bytes in
     record {
       got = got;
-      taken = c.take_pieces.ensures.laid.taken;
-      many = c.take_pieces.ensures.laid.many;
+      taken = c.take_messages.ensures.laid.taken;
+      many = c.take_messages.ensures.laid.many;
       bytes = bytes;
-      between = λ pieces whole.
-          told_whole source got from (g.D.Disk.len c.args.part.now) t (g.D.Disk.held c.args.part.now) (g.D.Disk.held c.close_window.new.disk) c.size-size.ensures.told c.requires.low c.requires.high
-          (bytes pieces whole);
+      between = λ source picked carry whole.
+          told_whole source picked from (g.D.Disk.len c.args.part.now) t (g.D.Disk.held c.args.part.now) (g.D.Disk.held c.close_window.new.disk) c.size-size.ensures.told c.requires.low c.requires.high
+          (bytes source picked carry whole);
     }
 
 pub returns-in_err-close_window-clause-put : goal.returns-in_err-close_window-clause-put
@@ -49,37 +51,36 @@ returns-in_err-close_window-clause-put g c =
     let at = c.args.due.now.window.hull.at in
     let len = c.args.due.now.window.hull.len in
     let t = told_window c.args.due.now.window in
-    let source = source_of c.args.due.now.batches.now in
     let from = g.D.Disk.from c.args.part.now in
-    let got = c.take_pieces.ensures.laid.got in
+    let got = c.take_messages.ensures.laid.got in
     let room : length c.open_window-opened.new.buf ≡ len = first_of (search rules, grind (arith, common_steps)) in
     record {
       got = got;
-      taken = c.take_pieces.ensures.laid.taken;
-      many = c.take_pieces.ensures.laid.many;
-      bytes = λ pieces whole. err_not_ok _ c.from_residual-in_err-close_window.result c.from_residual-in_err-close_window.ensures.0;
-      between = λ pieces whole.
+      taken = c.take_messages.ensures.laid.taken;
+      many = c.take_messages.ensures.laid.many;
+      bytes = λ source picked carry whole. err_not_ok _ c.from_residual-in_err-close_window.result c.from_residual-in_err-close_window.ensures.0;
+      between = λ source picked carry whole.
           window_refused_by
           (g.D.Disk.held c.args.part.now) (g.D.Disk.held c.open_window-opened.new.disk) (g.D.Disk.held c.close_window.new.disk) c.args.due.now.window.full
-          c.open_window-opened.new.buf c.take_pieces.new.buf from (g.D.Disk.from c.open_window-opened.new.disk) at len
-          (g.D.Disk.len c.args.part.now) (cells_in source t got)
-          c.in_ok-opened.ensures.from c.in_ok-opened.ensures.bytes (c.take_pieces.ensures.laid.laid pieces)
+          c.open_window-opened.new.buf c.take_messages.new.buf from (g.D.Disk.from c.open_window-opened.new.disk) at len
+          (g.D.Disk.len c.args.part.now) (cells_in source t picked)
+          c.in_ok-opened.ensures.from c.in_ok-opened.ensures.bytes (c.take_messages.ensures.laid.laid carry.hull ∙ ap (λ (cells : List Cell). write_cells c.open_window-opened.new.buf (moved_down at cells)) carry.cells)
           c.size-size.ensures.told room c.requires.low c.requires.high
-          (clips_from at (at + len) (map (λ o. cell_of source o) got) (omega arith))
-          (clips_within at (at + len) (map (λ o. cell_of source o) got) (omega arith))
+          (clips_from at (at + len) (map (λ o. cell_of source o) picked) (omega arith))
+          (clips_within at (at + len) (map (λ o. cell_of source o) picked) (omega arith))
           whole c.in_ok-opened.ensures.read c.in_err-close_window.ensures.refused;
     }
 
 pub returns-in_err-opened-clause-put : goal.returns-in_err-opened-clause-put
 returns-in_err-opened-clause-put g c =
     let t = told_window c.args.due.now.window in
-    let got = c.take_pieces.ensures.laid.got in
+    let got = c.take_messages.ensures.laid.got in
     record {
       got = got;
-      taken = c.take_pieces.ensures.laid.taken;
-      many = c.take_pieces.ensures.laid.many;
-      bytes = λ pieces whole. err_not_ok _ c.from_residual.result c.from_residual.ensures.0;
-      between = λ pieces whole.
-          told_kept (g.D.Disk.held c.args.part.now) (g.D.Disk.held c.open_window-opened.new.disk) (put_window (source_of c.args.due.now.batches.now) (g.D.Disk.from c.args.part.now) t got)
+      taken = c.take_messages.ensures.laid.taken;
+      many = c.take_messages.ensures.laid.many;
+      bytes = λ source picked carry whole. err_not_ok _ c.from_residual.result c.from_residual.ensures.0;
+      between = λ source picked carry whole.
+          told_kept (g.D.Disk.held c.args.part.now) (g.D.Disk.held c.open_window-opened.new.disk) (put_window source (g.D.Disk.from c.args.part.now) t picked)
           c.in_err-opened.ensures.bytes;
     }

@@ -1,0 +1,14 @@
+-- The messages so far were taken.
+use Rattle.std.proofs.Common.{◌≡◌, ◌-◌, ◌≤◌}
+use Rattle.put_exchange.specs.Taken.{HasTaken}
+use Rattle.put_exchange.proofs.laying.drop_messages.Given as goal
+
+abbrev pub invariant-messages : goal.invariant-messages
+invariant-messages g l = record {
+  some : l.left ≤ l.count;
+  of : l.line.of ≡ l.initial.line.of;
+  taken : HasTaken (l.count - l.left) l.initial.line.items l.line.items;
+}
+
+abbrev pub decreases-messages : goal.decreases-messages
+decreases-messages g l = l.left

@@ -1,0 +1,17 @@
+-- One message more was laid.
+use Rattle.std.proofs.Common.{◌-◌, ◌∙◌, arith}
+use Rattle.put_exchange.proofs.TakenLaws.{laid_more}
+use Rattle.put_exchange.proofs.laying.take_messages.Goals as goal
+
+pub messages-preserved : goal.messages-preserved
+messages-preserved g c =
+    let some = c.messages-test.true in
+    let few = c.messages.invariant.some in
+    record {
+      some = omega arith;
+      of = c.take-message.ensures.of ∙ c.messages.invariant.of;
+      laid = laid_more c.args.hull (c.args.count - c.messages.left) (c.args.count - (c.messages.left - 1))
+          c.args.line.now.items c.messages.line.items c.take-message.new.self.items c.take-message.result c.args.buf.now c.messages.buf c.lay.new.buf
+          c.messages.invariant.laid c.take-message.ensures.items (omega arith) c.lay.ensures.laid;
+      long = c.lay.ensures.long ∙ c.messages.invariant.long;
+    }

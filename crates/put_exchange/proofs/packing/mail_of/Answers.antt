@@ -1,0 +1,77 @@
+-- One window more.
+use Rattle.std.proofs.Common.{◌≡◌, ◌<◌, ◌≤◌, List, subst, sym, length, min, rules, arith}
+use Rattle.std.proofs.lemmas.Grind.{common_steps}
+use Rattle.nc_base.specs.declared.plan.Batch.{Batch}
+use Rattle.nc_base.specs.declared.plan.Owned.{Owned}
+use Rattle.overlay_laws.specs.Entries.{In}
+use Rattle.exchange_crew.specs.Pieces.{ArePieces}
+use Rattle.aggregator_rounds.specs.Pieces.{told_window}
+use Rattle.exchange_crew.specs.Plan.{planned_turns, source_in}
+use Rattle.exchange_crew.specs.Turns.{source_of}
+use Rattle.put_exchange.specs.Sent.{messages_in}
+use Rattle.put_exchange.proofs.MailLaws.{packing_begin, packing_end, packing_next, packing_now}
+use Rattle.put_exchange.proofs.packing.mail_of.Goals as goal
+
+pub turns-init : goal.turns-init
+turns-init c =
+    let plan = c.args.plan.now in
+    packing_begin (source_in plan) (length plan.job.now.batches) (min plan.hints.now.cb_buffer c.args.domain.len) plan.list.now (planned_turns plan c.args.domain) c.new-walk.result _ _
+    c.new-walk.ensures.ready c.new-walk.ensures.at c.new-walk.ensures.windows c.new-rounds.ensures.items c.new-counts.ensures.items
+
+pub messages_of-requires-clause-ends : goal.messages_of-requires-clause-ends
+messages_of-requires-clause-ends c =
+    let plan = c.args.plan.now in
+    let ready = packing_now (source_in plan) (length plan.job.now.batches) (min plan.hints.now.cb_buffer c.args.domain.len) plan.list.now c.in-Some.turn.entries.now (planned_turns plan c.args.domain)
+    c.turns.walk c.next_turn.new.self (told_window c.in-Some.turn.window) c.turns.rounds.items c.turns.counts.items c.requires.ends c.requires.pieces c.requires.below c.turns.invariant
+    c.in-Some.ensures.some c.in-Some.ensures.front in
+    ready.ends
+
+pub messages_of-requires-clause-hull : goal.messages_of-requires-clause-hull
+messages_of-requires-clause-hull c =
+    let plan = c.args.plan.now in
+    let ready = packing_now (source_in plan) (length plan.job.now.batches) (min plan.hints.now.cb_buffer c.args.domain.len) plan.list.now c.in-Some.turn.entries.now (planned_turns plan c.args.domain)
+    c.turns.walk c.next_turn.new.self (told_window c.in-Some.turn.window) c.turns.rounds.items c.turns.counts.items c.requires.ends c.requires.pieces c.requires.below c.turns.invariant
+    c.in-Some.ensures.some c.in-Some.ensures.front in
+    ready.hull
+
+pub messages_of-requires-clause-pieces : goal.messages_of-requires-clause-pieces
+messages_of-requires-clause-pieces c =
+    let plan = c.args.plan.now in
+    let ready = packing_now (source_in plan) (length plan.job.now.batches) (min plan.hints.now.cb_buffer c.args.domain.len) plan.list.now c.in-Some.turn.entries.now (planned_turns plan c.args.domain)
+    c.turns.walk c.next_turn.new.self (told_window c.in-Some.turn.window) c.turns.rounds.items c.turns.counts.items c.requires.ends c.requires.pieces c.requires.below c.turns.invariant
+    c.in-Some.ensures.some c.in-Some.ensures.front in
+    subst (λ (bs : List Batch). ArePieces (source_of bs) c.in-Some.turn.entries.now) (sym c.as_slice-batches.ensures) ready.pieces
+
+pub messages_of-requires-clause-below : goal.messages_of-requires-clause-below
+messages_of-requires-clause-below c =
+    let plan = c.args.plan.now in
+    let ready = packing_now (source_in plan) (length plan.job.now.batches) (min plan.hints.now.cb_buffer c.args.domain.len) plan.list.now c.in-Some.turn.entries.now (planned_turns plan c.args.domain)
+    c.turns.walk c.next_turn.new.self (told_window c.in-Some.turn.window) c.turns.rounds.items c.turns.counts.items c.requires.ends c.requires.pieces c.requires.below c.turns.invariant
+    c.in-Some.ensures.some c.in-Some.ensures.front in
+    subst (λ (bs : List Batch). (o : Owned) → In c.in-Some.turn.entries.now o → o.rank < length bs) (sym c.as_slice-batches.ensures) ready.below
+
+pub messages_of-requires-clause-few : goal.messages_of-requires-clause-few
+messages_of-requires-clause-few c = subst (λ (bs : List Batch). length bs ≤ 64) (sym c.as_slice-batches.ensures) c.requires.few
+
+pub turns-preserved : goal.turns-preserved
+turns-preserved c =
+    let plan = c.args.plan.now in
+    let begun = c.in-Some.turn.entries.now in
+    let t = told_window c.in-Some.turn.window in
+    let many : c.len.result ≡ length c.in_ok-messages.messages.items = first_of (search rules, grind (arith, common_steps)) in
+    packing_next (source_in plan) (length plan.job.now.batches) (min plan.hints.now.cb_buffer c.args.domain.len) c.len.result plan.list.now begun (planned_turns plan c.args.domain)
+    c.turns.walk c.next_turn.new.self t c.turns.rounds.items _ _ c.turns.counts.items _ c.turns.invariant c.in-Some.ensures.some c.in-Some.ensures.ready c.in-Some.ensures.front c.in-Some.ensures.past
+    c.in_ok-push_back.ensures.items (subst (λ (bs : List Batch). c.in_ok-messages.messages.items ≡ messages_in (source_of bs) (length bs) begun t) c.as_slice-batches.ensures c.in_ok-messages.ensures)
+    c.in_ok-push.ensures.items many
+
+pub returns-clause-messages : goal.returns-clause-messages
+returns-clause-messages c =
+    let plan = c.args.plan.now in
+    (packing_end (source_in plan) (length plan.job.now.batches) (min plan.hints.now.cb_buffer c.args.domain.len) plan.list.now (planned_turns plan c.args.domain) c.turns.walk c.turns.rounds.items c.turns.counts.items
+    c.turns.invariant c.in_default.ensures.none).0
+
+pub returns-clause-counts : goal.returns-clause-counts
+returns-clause-counts c =
+    let plan = c.args.plan.now in
+    (packing_end (source_in plan) (length plan.job.now.batches) (min plan.hints.now.cb_buffer c.args.domain.len) plan.list.now (planned_turns plan c.args.domain) c.turns.walk c.turns.rounds.items c.turns.counts.items
+    c.turns.invariant c.in_default.ensures.none).1

@@ -1,0 +1,14 @@
+-- Those are kept that have a piece.
+use Rattle.std.proofs.Common.{◌∙◌, List, ap, rules}
+use Rattle.std.specs.Prelude.{filter}
+use Rattle.std.proofs.lemmas.Fn.{filter_same}
+use Rattle.std.proofs.lemmas.List.{with_items_is}
+use Rattle.put_exchange.specs.Sent.{has_pieces, Sent}
+use Rattle.put_exchange.proofs.packing.messages_of.Goals as goal
+
+pub returns : goal.returns
+returns c =
+    let packed = c.pack_entries.new.messages in
+    let long = c.pack_entries.auto.messages ∙ c.as_mut_slice.ensures.len in
+    filter_same _ has_pieces _ (λ x b h k. search rules) _ _ c.retain.ensures.filtered
+    ∙ ap (λ (ms : List Sent). filter has_pieces ms) (with_items_is c.in_ok-messages.messages packed long ∙ c.in_ok-pack_entries.ensures)

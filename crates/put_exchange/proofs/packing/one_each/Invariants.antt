@@ -1,0 +1,12 @@
+-- One for each rank so far.
+use Rattle.std.proofs.Common.{◌≡◌, [], length, map, vec_capacity}
+use Rattle.std.specs.List.{range_with_len}
+use Rattle.put_exchange.specs.Sent.{sent}
+use Rattle.put_exchange.proofs.packing.one_each.Given as goal
+
+abbrev pub invariant-loop-rank : goal.invariant-loop-rank
+invariant-loop-rank l = record {
+  each : l.messages.items ≡ map (λ r. sent l.hull r []) (range_with_len 0 l.rank);
+  many : length l.messages.items ≡ l.rank;
+  room : vec_capacity l.messages ≡ l.ranks;
+}

@@ -1,0 +1,13 @@
+-- Of the parts so far.
+use Rattle.std.proofs.Common.{◌≡◌, ℕ, ◌<◌, [], Some}
+use Rattle.std.specs.Prelude.{slice_get, IfSome, IfNone}
+use Rattle.put_exchange.specs.Feeds.{HasRound, IsNotBefore}
+use Rattle.put_exchange.specs.declared.starting.Worker.{Worker}
+use Rattle.put_exchange.proofs.sending.least_round.Given as goal
+
+abbrev pub invariant-loop-worker : goal.invariant-loop-worker
+invariant-loop-worker g l = record {
+  some : IfSome l.least (λ round. HasRound l.workers round);
+  least : IfSome l.least (λ round. (k : ℕ) (worker : Worker _) → k < l.worker-index → slice_get l.workers k ≡ Some worker → IsNotBefore round worker.feed);
+  none : IfNone l.least ((k : ℕ) (worker : Worker _) → k < l.worker-index → slice_get l.workers k ≡ Some worker → worker.feed.rounds.items ≡ []);
+}
