@@ -249,20 +249,26 @@ fn push_window(out: &mut Vec<u8>, window: &WindowPlan) -> Result<(), Memory>
     push_numbered(out, b",\"to\":", end_of(window.hull))?;
     push_truth(out, b",\"hole\":", !window.full)?;
     push_bytes(out, b",\"shares\":")?;
-    push_shares(out, window.owners.as_slice())?;
+    push_window_shares(out, window)?;
     push_bytes(out, b",\"pieces\":")?;
     push_owners(out, window.owners.as_slice())?;
     out.push(b'}')?;
     Ok(())
 }
 
-/// How many bytes each rank has of a window, by its pieces.
-fn push_shares(out: &mut Vec<u8>, owners: &[Owner]) -> Result<(), Memory>
-    ensures { OnOk result (out.new.items ≡ out.old.items ++ array_of share_object (shares_in owners.now)) }
+/// How many bytes of a window each rank has.
+fn push_window_shares(out: &mut Vec<u8>, window: &WindowPlan) -> Result<(), Memory>
+    ensures { OnOk result (out.new.items ≡ out.old.items ++ array_of share_object (shares_in window.now.owners)) }
 {
-    let shares = shares_of(*out.allocator(), owners)?;
+    let shares = shares_of(*out.allocator(), window.owners.as_slice())?;
+    push_shares(out, shares.as_slice())
+}
+
+fn push_shares(out: &mut Vec<u8>, shares: &[Share]) -> Result<(), Memory>
+    ensures { OnOk result (out.new.items ≡ out.old.items ++ array_of share_object shares.now) }
+{
     out.push(b'[')?;
-    for (number, share) in shares.as_slice().iter().enumerate() {
+    for (number, share) in shares.iter().enumerate() {
         push_comma(out, number)?;
         push_share(out, *share)?;
     }

@@ -8,7 +8,7 @@ use crate::calls::{push_count, push_device_calls, push_growth};
 use crate::words::{push_bytes_of, push_counted, push_range};
 use nc_base::{Direction, DiskCall, Extent, Memory, Pair};
 use printed_text::words::{push_bytes, push_number_line, push_numbered, push_word};
-use step_plan::{Asked, DomainPlan, FilePlan, Owner, Share, WindowPlan};
+use step_plan::{Asked, DomainPlan, FilePlan, Share, WindowPlan};
 use window_plan::shares_of;
 
 pub(crate) fn push_file(out: &mut Vec<u8>, file: &FilePlan) -> Result<(), Memory>
@@ -152,7 +152,7 @@ fn push_window_line(
     push_bytes(out, b"    window ")?;
     push_range(out, window.hull)?;
     push_hole(out, window.full)?;
-    push_shares(out, direction, window.owners.as_slice())?;
+    push_window_shares(out, direction, window)?;
     out.push(b'\n')?;
     Ok(())
 }
@@ -167,12 +167,22 @@ fn push_hole(out: &mut Vec<u8>, full: bool) -> Result<(), Memory>
     }
 }
 
-// How many bytes each rank has of a window, by its pieces.
-fn push_shares(out: &mut Vec<u8>, direction: Direction, owners: &[Owner]) -> Result<(), Memory>
-    ensures { OnOk result (out.new.items ≡ out.old.items ++ flat_map (share_words direction) (shares_in owners.now)) }
+// How many bytes of it each rank has.
+fn push_window_shares(
+    out: &mut Vec<u8>,
+    direction: Direction,
+    window: &WindowPlan,
+) -> Result<(), Memory>
+    ensures { OnOk result (out.new.items ≡ out.old.items ++ flat_map (share_words direction) (shares_in window.now.owners)) }
 {
-    let shares = shares_of(*out.allocator(), owners)?;
-    for share in shares.as_slice() {
+    let shares = shares_of(*out.allocator(), window.owners.as_slice())?;
+    push_shares(out, direction, shares.as_slice())
+}
+
+fn push_shares(out: &mut Vec<u8>, direction: Direction, shares: &[Share]) -> Result<(), Memory>
+    ensures { OnOk result (out.new.items ≡ out.old.items ++ flat_map (share_words direction) shares.now) }
+{
+    for share in shares {
         push_share(out, direction, *share)?;
     }
     Ok(())
