@@ -1,10 +1,12 @@
 -- One domain more is planned, and the windows of all are those of the model.
-use Rattle.std.proofs.Common.{◌≡◌, ℕ, suc, ◌+◌, ◌<◌, ◌≤◌, inl, inr, refl, sym, ◌∙◌, ap, subst, List, [], ◌∷◌, ◌++◌, length, map, take, Option, Some, get_or, append_assoc, arith}
+use Rattle.std.proofs.Common.{◌≡◌, ℕ, suc, ◌+◌, ◌-◌, ◌^◌, ◌<◌, ◌≤◌, inl, inr, refl, sym, ◌∙◌, ap, subst, List, [], ◌∷◌, ◌++◌, length, map, take, Option, Some, get_or, min, slice_get, append_assoc, arith}
 use Rattle.std.proofs.lemmas.Grind.{flat_map-append}
 use Rattle.std.proofs.lemmas.List.{append-nil, map-append, take_more, take_all, length_push}
 use Rattle.std.proofs.lemmas.List.Folds.{flat_map-map}
+use Rattle.std.proofs.lemmas.Option.{same_Some}
 use Rattle.std.specs.Prelude.{flat_map, IfOk, Result, Ok, Err}
 use Rattle.std.specs.List.{range_with_len}
+use Rattle.list_laws.proofs.Optional.{no_none_some}
 use Rattle.list_laws.proofs.Ranges.{range_push}
 use Rattle.nc_base.specs.declared.plan.Extent.{Extent}
 use Rattle.nc_base.specs.declared.plan.Owned.{Owned}
@@ -22,7 +24,7 @@ use Rattle.collective_round.specs.Parts.{AreDomains}
 use Rattle.collective_round.proofs.ResultSteps.{loads_are, stores_are}
 use Rattle.window_plan.specs.Windows.{get_calls, put_calls, told_plan, AreShared}
 use Rattle.window_plan.specs.declared.plan.WindowPlan.{WindowPlan}
-use Rattle.step_plan.specs.Steps.{in_one_range, windows_in, AreDivided, AreDomainPlans, AreSievedPlans, IsDomainPlan}
+use Rattle.step_plan.specs.Steps.{in_one_range, last_end, reach_of, windows_in, AreDivided, AreDomainPlans, AreSievedPlans, IsDomainPlan}
 use Rattle.step_plan.specs.declared.plan.DomainPlan.{DomainPlan}
 
 -- ---- the calls of windows that are told
@@ -110,6 +112,21 @@ ok_so (Ok x) f h = f x h
 ok_so (Err e) f h = tt
 
 -- ---- sieving
+
+last_ends : (w : WindowPlan) (ws : List WindowPlan) (last : WindowPlan) → slice_get (w ∷ ws) (length ws) ≡ Some last → last_end w ws ≡ last.hull.at + last.hull.len
+last_ends w [] last g = ap (λ (v : WindowPlan). v.hull.at + v.hull.len) (same_Some w last g)
+last_ends w (v ∷ ws) last g = last_ends v ws last g
+
+abbrev pub from_to : ℕ → ℕ → Option Extent
+from_to at end = Some (record { at = at; len = end - at })
+
+pub reach_is : (windows : List WindowPlan) (first last : WindowPlan) → slice_get windows 0 ≡ Some first → slice_get windows (length windows - 1) ≡ Some last
+    → from_to first.hull.at (min (last.hull.at + last.hull.len) (2 ^ 64 - 1)) ≡ reach_of windows
+reach_is [] first last e f = no_none_some first e
+reach_is (w ∷ ws) first last e f =
+    let index : length ws ≡ length (w ∷ ws) - 1 = omega arith in
+    ap (λ (v : WindowPlan). from_to v.hull.at (min (last.hull.at + last.hull.len) (2 ^ 64 - 1))) (sym (same_Some w first e))
+    ∙ ap (λ (end : ℕ). from_to w.hull.at (min end (2 ^ 64 - 1))) (sym (last_ends w ws last (ap (λ (k : ℕ). slice_get (w ∷ ws) k) index ∙ f)))
 
 -- the windows of one range are those that stand in it
 range_windows : (windows : List WindowPlan) → windows_in (in_one_range windows) ≡ windows
