@@ -14,7 +14,7 @@ use Rattle.window_plan.specs.declared.plan.WindowPlan.{WindowPlan}
 use Rattle.step_plan.specs.Steps.{windows_in}
 use Rattle.step_plan.specs.declared.plan.DomainPlan.{DomainPlan}
 use Rattle.step_plan.specs.declared.plan.StepPlan.{StepPlan}
-use Rattle.plan_sums.specs.Cells.{bytes_of, cell, cells_in, domains_in, is_served_by, shares_by, shares_in, some_cell}
+use Rattle.plan_sums.specs.Cells.{bytes_of, cell, cells_in, domains_in, is_served_by, shares_by, shares_in, shares_of, some_cell}
 use Rattle.plan_sums.specs.Naive.{phase_of}
 use Rattle.plan_sums.specs.Served.{cell_of, served_by}
 use Rattle.plan_sums.specs.declared.cells.Cell.{Cell}
@@ -44,8 +44,8 @@ pub shares_join : (aggregator : ℕ) (xs ys : List DomainPlan)
     → shares_in (filter (is_served_by aggregator) (xs ++ ys)) ≡ shares_in (filter (is_served_by aggregator) xs) ++ shares_in (filter (is_served_by aggregator) ys)
 shares_join aggregator xs ys =
     ap shares_in (filter-append (is_served_by aggregator) xs ys)
-    ∙ ap (λ (ws : List WindowPlan). flat_map (λ w. w.shares) ws) (flat_map-append (λ (d : DomainPlan). d.windows) (filter (is_served_by aggregator) xs) (filter (is_served_by aggregator) ys))
-    ∙ flat_map-append (λ (w : WindowPlan). w.shares) (windows_in (filter (is_served_by aggregator) xs)) (windows_in (filter (is_served_by aggregator) ys))
+    ∙ ap (λ (ws : List WindowPlan). flat_map shares_of ws) (flat_map-append (λ (d : DomainPlan). d.windows) (filter (is_served_by aggregator) xs) (filter (is_served_by aggregator) ys))
+    ∙ flat_map-append shares_of (windows_in (filter (is_served_by aggregator) xs)) (windows_in (filter (is_served_by aggregator) ys))
 
 -- of one step more
 pub step_more : (aggregator : ℕ) (direction : Direction) (steps : List StepPlan) (i : ℕ) (step : StepPlan) (domains : List DomainPlan) (old new : List Share) → i < length steps

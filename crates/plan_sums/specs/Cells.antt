@@ -1,5 +1,6 @@
 -- What goes between ranks and aggregators. (own)
 --     is_served_by aggregator domain             whether the domain is that of an aggregator; the bytes of one rank alone are of none
+--     shares_of window                           whose the bytes of a window are
 --     shares_in domains                          whose the bytes of the domains' windows are
 --     shares_by aggregator direction steps       those that an aggregator serves in all steps
 --     bytes_of rank shares                       how many of them are a rank's
@@ -9,7 +10,9 @@ use Rattle.std.specs.Prelude.{ℕ, List, [], ◌∷◌, flat_map, filter, Bool, 
 use Rattle.std.specs.List.{range_with_len, sum_by}
 use Rattle.nc_base.specs.declared.request.Direction.{Direction}
 use Rattle.nc_base.specs.declared.request.Direction.TheVariants.{Put, Get}
+use Rattle.window_plan.specs.Windows as windows
 use Rattle.window_plan.specs.declared.plan.Share.{Share}
+use Rattle.window_plan.specs.declared.plan.WindowPlan.{WindowPlan}
 use Rattle.step_plan.specs.Steps.{windows_in}
 use Rattle.step_plan.specs.declared.plan.DomainPlan.{DomainPlan}
 use Rattle.step_plan.specs.declared.plan.StepPlan.{StepPlan}
@@ -24,8 +27,11 @@ is_number aggregator (Some number) = number == aggregator
 abbrev pub is_served_by : ℕ → DomainPlan → Bool
 is_served_by aggregator domain = is_number aggregator domain.aggregator
 
+abbrev pub shares_of : WindowPlan → List Share
+shares_of window = windows.shares_in window.owners
+
 abbrev pub shares_in : List DomainPlan → List Share
-shares_in domains = flat_map (λ w. w.shares) (windows_in domains)
+shares_in domains = flat_map shares_of (windows_in domains)
 
 abbrev pub domains_in : Direction → List StepPlan → List DomainPlan
 domains_in direction steps = flat_map (λ step. (phase_of direction step).domains) steps

@@ -8,7 +8,7 @@ use Rattle.nc_base.specs.declared.plan.Extent.{Extent}
 use Rattle.nc_base.specs.declared.step.DiskCall.{DiskCall}
 use Rattle.nc_base.specs.declared.step.DiskCall.TheVariants.{Grow, Store}
 use Rattle.nc_base.specs.declared.step.Mark.TheVariants.{Meet, Solo}
-use Rattle.window_plan.specs.declared.plan.Share.{Share}
+use Rattle.window_plan.specs.declared.plan.Owner.{Owner}
 use Rattle.window_plan.specs.declared.plan.WindowPlan.{WindowPlan}
 use Rattle.step_plan.specs.declared.plan.Asked.{Asked}
 use Rattle.step_plan.specs.declared.plan.DomainPlan.{DomainPlan}
@@ -22,11 +22,11 @@ bytes_at at len = record { at = at; len = len }
 abbrev pub asks : ℕ → ℕ → ℕ → Asked
 asks rank bytes pieces = record { rank = rank; bytes = bytes; pieces = pieces }
 
-abbrev pub share : ℕ → ℕ → Share
-share rank bytes = record { rank = rank; bytes = bytes }
+abbrev pub piece : ℕ → ℕ → ℕ → Owner
+piece rank at len = record { rank = rank; extent = bytes_at at len }
 
-abbrev pub window : Extent → Bool → List Share → WindowPlan
-window hull full shares = record { hull = hull; full = full; owners = []; shares = shares }
+abbrev pub window : Extent → Bool → List Owner → WindowPlan
+window hull full pieces = record { hull = hull; full = full; owners = pieces }
 
 abbrev pub domain : Option ℕ → WindowPlan → DomainPlan
 domain aggregator w = record { aggregator = aggregator; extent = w.hull; windows = w ∷ [] }
@@ -46,7 +46,7 @@ a_put = record {
     grow = None;
     puts = record {
       asked = asks 0 8 2 ∷ asks 1 4 1 ∷ [];
-      domains = domain (Some 0) (window (bytes_at 80 16) false (share 0 8 ∷ share 1 4 ∷ [])) ∷ [];
+      domains = domain (Some 0) (window (bytes_at 80 16) false (piece 0 80 4 ∷ piece 1 84 4 ∷ piece 0 92 4 ∷ [])) ∷ [];
     };
     count = Some (bytes_at 4 4);
     gets = nothing;
@@ -62,7 +62,7 @@ a_get = record {
     grow = None;
     puts = nothing;
     count = None;
-    gets = record { asked = asks 1 4 1 ∷ []; domains = domain None (window (bytes_at 84 4) true (share 1 4 ∷ [])) ∷ [] };
+    gets = record { asked = asks 1 4 1 ∷ []; domains = domain None (window (bytes_at 84 4) true (piece 1 84 4 ∷ [])) ∷ [] };
   };
 }
 

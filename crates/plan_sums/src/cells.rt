@@ -1,13 +1,14 @@
 // What each rank gives each aggregator, and gets from it.
 ghost use Rattle.std.specs.Prelude.{◌≡◌, ◌++◌, ◌∷◌, [], ◌==◌, ◌↔◌, true, filter, flat_map, map, IfOk, OnOk, IsTrue, if◌then◌else◌};
 ghost use Rattle.std.specs.List.{range_with_len};
-ghost use Rattle.plan_sums.specs.Cells.{bytes_of, cells_in, is_served_by, shares_by, shares_in, some_cell};
+ghost use Rattle.plan_sums.specs.Cells.{bytes_of, cells_in, is_served_by, shares_by, shares_in, shares_of, some_cell};
 ghost use Rattle.plan_sums.specs.Served.{cell_of, served_by};
 
 use crate::naive::phase_of;
 use nc_base::{Direction, Items, Memory};
 use std::alloc::Global;
 use step_plan::{DomainPlan, Share, ShareList, StepPlan, WindowPlan};
+use window_plan::shares_of;
 
 /// The bytes that a rank gives an aggregator and gets from it, in all steps of all ranks.
 #[derive(Clone, Copy, Debug, PartialEq, Eq)]
@@ -163,10 +164,19 @@ fn is_served_by(domain: &DomainPlan, aggregator: u32) -> bool
 
 // Adds those of windows.
 fn push_shares(shares: &mut Vec<Share>, windows: &[WindowPlan]) -> Result<(), Memory>
-    ensures { OnOk result (shares.new.items ≡ shares.old.items ++ flat_map (λ w. w.shares) windows.now) }
+    ensures { OnOk result (shares.new.items ≡ shares.old.items ++ flat_map shares_of windows.now) }
 {
     for window in windows {
-        shares.extend_from_slice(window.shares.as_slice())?;
+        push_window(shares, window)?;
     }
+    Ok(())
+}
+
+// Adds those of a window.
+fn push_window(shares: &mut Vec<Share>, window: &WindowPlan) -> Result<(), Memory>
+    ensures { OnOk result (shares.new.items ≡ shares.old.items ++ shares_of window.now) }
+{
+    let own = shares_of(*shares.allocator(), window.owners.as_slice())?;
+    shares.extend_from_slice(own.as_slice())?;
     Ok(())
 }

@@ -19,7 +19,7 @@ abbrev pub own : ℕ → ℕ → Owner
 own place length = record { rank = 0; extent = record { at = place; len = length } }
 
 abbrev pub window : WindowPlan
-window = record { hull = record { at = 80; len = 16 }; full = false; owners = own 80 4 ∷ own 92 4 ∷ []; shares = record { rank = 0; bytes = 8 } ∷ [] }
+window = record { hull = record { at = 80; len = 16 }; full = false; owners = own 80 4 ∷ own 92 4 ∷ [] }
 
 abbrev pub domain : DomainPlan
 domain = record { aggregator = Some 0; extent = record { at = 80; len = 16 }; windows = window ∷ [] }

@@ -10,6 +10,7 @@ use Rattle.nc_base.specs.declared.step.DiskCall.{DiskCall}
 use Rattle.nc_base.specs.declared.step.DiskCall.TheVariants.{Grow, Load, Store}
 use Rattle.serial_spec.specs.History.{is_meeting}
 use Rattle.script_spec.specs.Texts.{mark_word}
+use Rattle.window_plan.specs.Windows.{shares_in}
 use Rattle.window_plan.specs.declared.plan.Owner.{Owner}
 use Rattle.window_plan.specs.declared.plan.Share.{Share}
 use Rattle.window_plan.specs.declared.plan.WindowPlan.{WindowPlan}
@@ -50,7 +51,7 @@ window_object w =
     member "from" (json_number w.hull.at)
     ∷ member "to" (json_number (end_place w.hull))
     ∷ member "hole" (json_truth (not w.full))
-    ∷ member "shares" (array_of share_object w.shares)
+    ∷ member "shares" (array_of share_object (shares_in w.owners))
     ∷ member "pieces" (array_of piece_array w.owners)
     ∷ []
     )

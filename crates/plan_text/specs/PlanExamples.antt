@@ -15,7 +15,7 @@ use Rattle.nc_base.specs.declared.step.DiskCall.TheVariants.{Grow, Store}
 use Rattle.nc_base.specs.declared.step.Mark.TheVariants.{Meet, Solo}
 use Rattle.serial_spec.specs.Examples.{dataset_a, given, hints, put_all, script_on}
 use Rattle.script_spec.specs.Texts.{text_line}
-use Rattle.window_plan.specs.declared.plan.Share.{Share}
+use Rattle.window_plan.specs.declared.plan.Owner.{Owner}
 use Rattle.window_plan.specs.declared.plan.WindowPlan.{WindowPlan}
 use Rattle.step_plan.specs.declared.plan.Asked.{Asked}
 use Rattle.step_plan.specs.declared.plan.Caller.{Caller}
@@ -36,8 +36,8 @@ answered c = record { code = c; pair = None; number = None; values = None; items
 abbrev pub asked : ℕ → ℕ → ℕ → Asked
 asked rank bytes pieces = record { rank = rank; bytes = bytes; pieces = pieces }
 
-abbrev pub share : ℕ → ℕ → Share
-share rank bytes = record { rank = rank; bytes = bytes }
+abbrev pub piece : ℕ → ℕ → ℕ → Owner
+piece rank at len = record { rank = rank; extent = bytes_at at len }
 
 abbrev pub nothing : Phase
 nothing = record { asked = []; domains = [] }
@@ -54,22 +54,22 @@ script_with_hole =
     ∷ (put_all 118 (given form.Vara (2 ∷ []) (2 ∷ []) []) (8 ∷ 9 ∷ []) ∷ call.BeginIndep
     ∷ call.Get false (118 ∷ []) (given form.Vars (0 ∷ []) (2 ∷ []) (3 ∷ [])) ∷ []) ∷ [])
 
--- the whole variable, in which so much is of these ranks
-abbrev pub window_of : List Share → WindowPlan
-window_of shares = record { hull = bytes_at 80 16; full = false; owners = []; shares = shares }
+-- the whole variable, of which these pieces are asked for
+abbrev pub window_of : List Owner → WindowPlan
+window_of pieces = record { hull = bytes_at 80 16; full = false; owners = pieces }
 
 abbrev pub puts_with_hole : Phase
 puts_with_hole =
     record {
       asked = asked 0 4 1 ∷ asked 1 8 1 ∷ [];
-      domains = record { aggregator = Some 0; extent = bytes_at 80 16; windows = window_of (share 0 4 ∷ share 1 8 ∷ []) ∷ [] } ∷ [];
+      domains = record { aggregator = Some 0; extent = bytes_at 80 16; windows = window_of (piece 0 80 4 ∷ piece 1 88 8 ∷ []) ∷ [] } ∷ [];
     }
 
 abbrev pub gets_with_hole : Phase
 gets_with_hole =
     record {
       asked = asked 1 8 2 ∷ [];
-      domains = record { aggregator = None; extent = bytes_at 80 16; windows = window_of (share 1 8 ∷ []) ∷ [] } ∷ [];
+      domains = record { aggregator = None; extent = bytes_at 80 16; windows = window_of (piece 1 80 4 ∷ piece 1 92 4 ∷ []) ∷ [] } ∷ [];
     }
 
 abbrev pub plan_with_hole : RunPlan
@@ -158,7 +158,7 @@ puts_of_record =
           record {
             aggregator = Some 0;
             extent = bytes_at 86 2;
-            windows = record { hull = bytes_at 86 2; full = true; owners = []; shares = share 0 2 ∷ [] } ∷ [];
+            windows = record { hull = bytes_at 86 2; full = true; owners = piece 0 86 2 ∷ [] } ∷ [];
           } ∷ [];
     }
 

@@ -18,7 +18,7 @@ use Rattle.nc_base.specs.declared.request.Direction.TheVariants.{Put, Get}
 use Rattle.nc_base.specs.declared.step.DiskCall.{DiskCall}
 use Rattle.nc_base.specs.declared.step.DiskCall.TheVariants.{Grow, Load, Store}
 use Rattle.script_spec.specs.Texts.{line, mark_word, pair_words, text_line}
-use Rattle.window_plan.specs.Windows.{get_calls, put_calls}
+use Rattle.window_plan.specs.Windows.{get_calls, put_calls, shares_in}
 use Rattle.window_plan.specs.declared.plan.Share.{Share}
 use Rattle.window_plan.specs.declared.plan.WindowPlan.{WindowPlan}
 use Rattle.step_plan.specs.Steps.{count_call, grow_call}
@@ -85,7 +85,7 @@ window_calls Put w = put_calls w
 window_calls Get w = get_calls w
 
 abbrev pub window_line : Direction → WindowPlan → List ℕ
-window_line direction w = text_line (codes "    window " ++ range w.hull ++ hole_words w.full ++ flat_map (share_words direction) w.shares)
+window_line direction w = text_line (codes "    window " ++ range w.hull ++ hole_words w.full ++ flat_map (share_words direction) (shares_in w.owners))
 
 abbrev pub window_lines : Direction → WindowPlan → List ℕ
 window_lines direction w = window_line direction w ++ device_lines (codes "      ") (window_calls direction w)

@@ -3,6 +3,7 @@ ghost use Rattle.std.specs.Prelude.{◌≡◌, ◌++◌, ◌∷◌, OnOk, slice_
 ghost use Rattle.serial_spec.specs.History.{is_meeting};
 ghost use Rattle.script_spec.specs.Texts.{joined};
 ghost use Rattle.step_plan.specs.Steps.{file_calls};
+ghost use Rattle.window_plan.specs.Windows.{shares_in};
 ghost use Rattle.plan_text.specs.Json.{array_of, json_number, json_text, on_line, or_null};
 ghost use Rattle.plan_text.specs.JsonSteps.{asked_object, call_members, caller_object, device_call, domain_object, file_members, overlap_object, phase_object, piece_array, share_object, step_object, window_object};
 ghost use Rattle.plan_text.specs.PlanWords.{word_in};
@@ -18,6 +19,7 @@ use std::alloc::Global;
 use step_plan::{
     Asked, Caller, DomainPlan, FilePlan, Owner, Phase, Share, StepPlan, WindowPlan, device_calls,
 };
+use window_plan::shares_of;
 
 /// The steps, on a line each.
 pub(crate) fn push_steps(
@@ -247,11 +249,19 @@ fn push_window(out: &mut Vec<u8>, window: &WindowPlan) -> Result<(), Memory>
     push_numbered(out, b",\"to\":", end_of(window.hull))?;
     push_truth(out, b",\"hole\":", !window.full)?;
     push_bytes(out, b",\"shares\":")?;
-    push_shares(out, window.shares.as_slice())?;
+    push_window_shares(out, window)?;
     push_bytes(out, b",\"pieces\":")?;
     push_owners(out, window.owners.as_slice())?;
     out.push(b'}')?;
     Ok(())
+}
+
+/// How many bytes of a window each rank has.
+fn push_window_shares(out: &mut Vec<u8>, window: &WindowPlan) -> Result<(), Memory>
+    ensures { OnOk result (out.new.items ≡ out.old.items ++ array_of share_object (shares_in window.now.owners)) }
+{
+    let shares = shares_of(*out.allocator(), window.owners.as_slice())?;
+    push_shares(out, shares.as_slice())
 }
 
 fn push_shares(out: &mut Vec<u8>, shares: &[Share]) -> Result<(), Memory>

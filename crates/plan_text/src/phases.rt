@@ -1,6 +1,7 @@
 // The text of a plan: what a step does to the file.
 ghost use Rattle.std.specs.Prelude.{◌≡◌, ◌++◌, OnOk, codes, flat_map};
 ghost use Rattle.script_spec.specs.Texts.{line, pair_words};
+ghost use Rattle.window_plan.specs.Windows.{shares_in};
 ghost use Rattle.plan_text.specs.StepTexts.{asked_line, device_lines, domain_line, domain_lines, domain_words, file_lines, hole_words, overlap_line, share_words, side, verb, window_calls, window_line, window_lines};
 
 use crate::calls::{push_count, push_device_calls, push_growth};
@@ -8,6 +9,7 @@ use crate::words::{push_bytes_of, push_counted, push_range};
 use nc_base::{Direction, DiskCall, Extent, Memory, Pair};
 use printed_text::words::{push_bytes, push_number_line, push_numbered, push_word};
 use step_plan::{Asked, DomainPlan, FilePlan, Share, WindowPlan};
+use window_plan::shares_of;
 
 pub(crate) fn push_file(out: &mut Vec<u8>, file: &FilePlan) -> Result<(), Memory>
     ensures { OnOk result (out.new.items ≡ out.old.items ++ file_lines file.now) }
@@ -150,7 +152,7 @@ fn push_window_line(
     push_bytes(out, b"    window ")?;
     push_range(out, window.hull)?;
     push_hole(out, window.full)?;
-    push_shares(out, direction, window.shares.as_slice())?;
+    push_window_shares(out, direction, window)?;
     out.push(b'\n')?;
     Ok(())
 }
@@ -163,6 +165,18 @@ fn push_hole(out: &mut Vec<u8>, full: bool) -> Result<(), Memory>
     } else {
         push_bytes(out, b" with a hole")
     }
+}
+
+// How many bytes of it each rank has.
+fn push_window_shares(
+    out: &mut Vec<u8>,
+    direction: Direction,
+    window: &WindowPlan,
+) -> Result<(), Memory>
+    ensures { OnOk result (out.new.items ≡ out.old.items ++ flat_map (share_words direction) (shares_in window.now.owners)) }
+{
+    let shares = shares_of(*out.allocator(), window.owners.as_slice())?;
+    push_shares(out, direction, shares.as_slice())
 }
 
 fn push_shares(out: &mut Vec<u8>, direction: Direction, shares: &[Share]) -> Result<(), Memory>

@@ -1,10 +1,12 @@
 -- One domain more is planned, and the windows of all are those of the model.
-use Rattle.std.proofs.Common.{◌≡◌, ℕ, suc, ◌+◌, ◌<◌, ◌≤◌, inl, inr, refl, sym, ◌∙◌, ap, subst, List, [], ◌∷◌, ◌++◌, length, map, take, Option, Some, get_or, append_assoc, arith}
+use Rattle.std.proofs.Common.{◌≡◌, ℕ, suc, ◌+◌, ◌-◌, ◌^◌, ◌<◌, ◌≤◌, inl, inr, refl, sym, ◌∙◌, ap, subst, List, [], ◌∷◌, ◌++◌, length, map, take, Option, Some, get_or, min, slice_get, append_assoc, arith}
 use Rattle.std.proofs.lemmas.Grind.{flat_map-append}
 use Rattle.std.proofs.lemmas.List.{append-nil, map-append, take_more, take_all, length_push}
 use Rattle.std.proofs.lemmas.List.Folds.{flat_map-map}
+use Rattle.std.proofs.lemmas.Option.{same_Some}
 use Rattle.std.specs.Prelude.{flat_map, IfOk, Result, Ok, Err}
 use Rattle.std.specs.List.{range_with_len}
+use Rattle.list_laws.proofs.Optional.{no_none_some}
 use Rattle.list_laws.proofs.Ranges.{range_push}
 use Rattle.nc_base.specs.declared.plan.Extent.{Extent}
 use Rattle.nc_base.specs.declared.plan.Owned.{Owned}
@@ -22,7 +24,7 @@ use Rattle.collective_round.specs.Parts.{AreDomains}
 use Rattle.collective_round.proofs.ResultSteps.{loads_are, stores_are}
 use Rattle.window_plan.specs.Windows.{get_calls, put_calls, told_plan, AreShared}
 use Rattle.window_plan.specs.declared.plan.WindowPlan.{WindowPlan}
-use Rattle.step_plan.specs.Steps.{windows_in, AreDivided, AreDomainPlans, AreSievedPlans, IsDomainPlan}
+use Rattle.step_plan.specs.Steps.{in_one_range, last_end, reach_of, windows_in, AreDivided, AreDomainPlans, AreSievedPlans, IsDomainPlan}
 use Rattle.step_plan.specs.declared.plan.DomainPlan.{DomainPlan}
 
 -- ---- the calls of windows that are told
@@ -37,17 +39,17 @@ loads_told plans ws told =
 
 -- ---- domains
 
-pub none_divided : (hints : Hints) (ranks : ℕ) (list : List Owned) (cover domains : List Extent) → AreDivided hints ranks list cover domains 0 []
-none_divided hints ranks list cover domains = record { many = refl; extents = refl; numbered = refl; each = λ d m. absurd m; told = refl }
+pub none_divided : (hints : Hints) (list : List Owned) (cover domains : List Extent) → AreDivided hints list cover domains 0 []
+none_divided hints list cover domains = record { many = refl; extents = refl; numbered = refl; each = λ d m. absurd m; told = refl }
 
 one_plan : (plan : DomainPlan) → windows_in (plan ∷ []) ≡ plan.windows
 one_plan plan = append-nil plan.windows
 
-pub divided_more : (hints : Hints) (ranks : ℕ) (list : List Owned) (cover domains : List Extent) (count : ℕ) (none : Extent) (plans : List DomainPlan) (plan : DomainPlan)
+pub divided_more : (hints : Hints) (list : List Owned) (cover domains : List Extent) (count : ℕ) (none : Extent) (plans : List DomainPlan) (plan : DomainPlan)
     → count < length domains → plan.extent ≡ get_or domains count none → plan.aggregator ≡ Some count
-    → IsDomainPlan hints ranks list cover plan → AreDivided hints ranks list cover domains count plans
-    → AreDivided hints ranks list cover domains (count + 1) (plans ++ plan ∷ [])
-divided_more hints ranks list cover domains count none plans plan l extent number here h = record {
+    → IsDomainPlan hints list cover plan → AreDivided hints list cover domains count plans
+    → AreDivided hints list cover domains (count + 1) (plans ++ plan ∷ [])
+divided_more hints list cover domains count none plans plan l extent number here h = record {
   many = (let long = length_push plans plan in let many = h.many in omega arith);
   extents = map-append (λ (d : DomainPlan). d.extent) plans (plan ∷ [])
       ∙ ap (λ (es : List Extent). es ++ plan.extent ∷ []) h.extents ∙ ap (λ (e : Extent). take count domains ++ e ∷ []) extent ∙ sym next;
@@ -58,7 +60,7 @@ divided_more hints ranks list cover domains count none plans plan l extent numbe
       ∙ ap (λ (ns : List ℕ). map Some ns) (sym (one_more count));
   each = λ d m. elim (in_either plans (plan ∷ []) d m) [
     | inl i ↦ h.each d i
-    | inr i ↦ elim i [ inl same ↦ subst (λ (p : DomainPlan). IsDomainPlan hints ranks list cover p) same here | inr n ↦ absurd n ]
+    | inr i ↦ elim i [ inl same ↦ subst (λ (p : DomainPlan). IsDomainPlan hints list cover p) same here | inr n ↦ absurd n ]
   ];
   told = ap (λ (ws : List WindowPlan). map told_plan ws) (flat_map-append (λ (d : DomainPlan). d.windows) plans (plan ∷ []))
       ∙ map-append told_plan (windows_in plans) (windows_in (plan ∷ []))
@@ -81,11 +83,11 @@ divided_more hints ranks list cover domains count none plans plan l extent numbe
     one_more : (n : ℕ) → range_with_len 0 (n + 1) ≡ range_with_len 0 n ++ n ∷ []
     one_more n = (let s : n + 1 ≡ suc n = omega arith in ap (λ (k : ℕ). range_with_len 0 k) s) ∙ range_push 0 n n (omega arith)
 
-pub all_divided : (hints : Hints) (ranks : ℕ) (list : List Owned) (cover domains : List Extent) (plans : List DomainPlan)
+pub all_divided : (hints : Hints) (list : List Owned) (cover domains : List Extent) (plans : List DomainPlan)
     → IsCover cover → HaveSame (spans cover) (ranges list) → AreDomains cover domains
     → flat_map (λ d. turns_of hints.cb_buffer d cover) domains ≡ map told_of (collective_windows hints (spans cover))
-    → AreDivided hints ranks list cover domains (length domains) plans → AreDomainPlans hints ranks list plans
-all_divided hints ranks list cover domains plans covers bytes div windows h =
+    → AreDivided hints list cover domains (length domains) plans → AreDomainPlans hints list plans
+all_divided hints list cover domains plans covers bytes div windows h =
     let all : take (length domains) domains ≡ domains = take_all (length domains) domains (omega arith) in
     record {
       cover = cover;
@@ -98,11 +100,11 @@ all_divided hints ranks list cover domains plans covers bytes div windows h =
           ∙ ap (λ (xs : List ℕ). map told_of (collective_windows hints xs)) (cover_in_order cover (ranges list) covers bytes);
     }
 
-pub divided_all : (hints : Hints) (ranks : ℕ) (list : List Owned) (cover domains : List Extent) (count : ℕ) (plans : List DomainPlan) → length domains ≤ count → count ≤ length domains
-    → AreDivided hints ranks list cover domains count plans → AreDivided hints ranks list cover domains (length domains) plans
-divided_all hints ranks list cover domains count plans over within h =
+pub divided_all : (hints : Hints) (list : List Owned) (cover domains : List Extent) (count : ℕ) (plans : List DomainPlan) → length domains ≤ count → count ≤ length domains
+    → AreDivided hints list cover domains count plans → AreDivided hints list cover domains (length domains) plans
+divided_all hints list cover domains count plans over within h =
     let last : count ≡ length domains = omega arith in
-    subst (λ (n : ℕ). AreDivided hints ranks list cover domains n plans) last h
+    subst (λ (n : ℕ). AreDivided hints list cover domains n plans) last h
 
 -- what holds of a value where there is one
 pub ok_so : {T E : Type 0} {P Q : T → Type 0} (r : Result T E) → ((x : T) → P x → Q x) → IfOk r P → IfOk r Q
@@ -111,12 +113,36 @@ ok_so (Err e) f h = tt
 
 -- ---- sieving
 
-pub sieved_so : (size rank : ℕ) (list entries : List Owned) (windows : List WindowPlan) (domains : List DomainPlan) → entries ≡ list
-    → map told_plan windows ≡ map told_of (sieving_windows size (in_order (ranges entries))) → AreShared rank 1 entries windows → windows_in domains ≡ windows → AreSievedPlans size rank list domains
-sieved_so size rank list entries windows domains same told shared all = record {
-  windows = ap (λ (ws : List WindowPlan). map told_plan ws) all ∙ told ∙ ap (λ (os : List Owned). map told_of (sieving_windows size (in_order (ranges os)))) same;
-  shared = subst (λ (ws : List WindowPlan). AreShared rank 1 list ws) (sym all) (subst (λ (os : List Owned). AreShared rank 1 os windows) same shared);
-}
+last_ends : (w : WindowPlan) (ws : List WindowPlan) (last : WindowPlan) → slice_get (w ∷ ws) (length ws) ≡ Some last → last_end w ws ≡ last.hull.at + last.hull.len
+last_ends w [] last g = ap (λ (v : WindowPlan). v.hull.at + v.hull.len) (same_Some w last g)
+last_ends w (v ∷ ws) last g = last_ends v ws last g
+
+abbrev pub from_to : ℕ → ℕ → Option Extent
+from_to at end = Some (record { at = at; len = end - at })
+
+pub reach_is : (windows : List WindowPlan) (first last : WindowPlan) → slice_get windows 0 ≡ Some first → slice_get windows (length windows - 1) ≡ Some last
+    → from_to first.hull.at (min (last.hull.at + last.hull.len) (2 ^ 64 - 1)) ≡ reach_of windows
+reach_is [] first last e f = no_none_some first e
+reach_is (w ∷ ws) first last e f =
+    let index : length ws ≡ length (w ∷ ws) - 1 = omega arith in
+    ap (λ (v : WindowPlan). from_to v.hull.at (min (last.hull.at + last.hull.len) (2 ^ 64 - 1))) (sym (same_Some w first e))
+    ∙ ap (λ (end : ℕ). from_to w.hull.at (min end (2 ^ 64 - 1))) (sym (last_ends w ws last (ap (λ (k : ℕ). slice_get (w ∷ ws) k) index ∙ f)))
+
+-- the windows of one range are those that stand in it
+range_windows : (windows : List WindowPlan) → windows_in (in_one_range windows) ≡ windows
+range_windows [] = refl
+range_windows (w ∷ ws) = append-nil (w ∷ ws)
+
+pub sieved_so : (size : ℕ) (list entries : List Owned) (windows : List WindowPlan) (domains : List DomainPlan) → entries ≡ list
+    → map told_plan windows ≡ map told_of (sieving_windows size (in_order (ranges entries))) → AreShared entries windows → domains ≡ in_one_range windows
+    → AreSievedPlans size list domains
+sieved_so size list entries windows domains same told shared one =
+    let all : windows_in domains ≡ windows = ap windows_in one ∙ range_windows windows in
+    record {
+      windows = ap (λ (ws : List WindowPlan). map told_plan ws) all ∙ told ∙ ap (λ (os : List Owned). map told_of (sieving_windows size (in_order (ranges os)))) same;
+      shared = subst (λ (ws : List WindowPlan). AreShared list ws) (sym all) (subst (λ (os : List Owned). AreShared os windows) same shared);
+      one = one ∙ ap in_one_range (sym all);
+    }
 
 -- ---- the calls of one domain more
 

@@ -1,5 +1,5 @@
 -- The calls of a step's puts and gets are those of the model.
-use Rattle.std.proofs.Common.{◌≡◌, ℕ, ◌≤◌, refl, sym, ◌∙◌, ap, subst, List, [], ◌∷◌, ◌++◌, length, max, Option, Some, None, arith}
+use Rattle.std.proofs.Common.{◌≡◌, ℕ, ◌≤◌, refl, sym, ◌∙◌, ap, subst, List, [], ◌∷◌, ◌++◌, max, Option, Some, None, arith}
 use Rattle.std.proofs.lemmas.List.{append-nil}
 use Rattle.std.specs.Prelude.{flat_map}
 use Rattle.nc_base.specs.declared.answer.Pair.{Pair}
@@ -57,7 +57,7 @@ laid_plans s cut source puts size n grow list domains none empty long is laid wi
 
 pub collective_calls : (header : Header) (hints : Hints) (batches : List Batch) (size n : ℕ) (grow : Option ℕ) (list : List Owned) (domains : List DomainPlan)
     → told (setting header hints) (puts_in batches) ≡ None → end_for (setting header hints) 0 ≤ size → n ≡ needed_by header (puts_in batches)
-    → AreLaid header (source_of 0 batches) (puts_in batches) list → AreDomainPlans hints (length batches) list domains
+    → AreLaid header (source_of 0 batches) (puts_in batches) list → AreDomainPlans hints list domains
     → grow_call grow ≡ grow_to size (end_for (setting header hints) n)
     → grow_call grow ++ flat_map put_calls (windows_in domains) ≡ device.put_calls (setting header hints) (collective_windows hints) (puts_in batches) size
 collective_calls header hints batches size n grow list domains none long is laid plans grown =
@@ -66,7 +66,7 @@ collective_calls header hints batches size n grow list domains none long is laid
 
 pub sieved_calls : (header : Header) (hints : Hints) (rank : ℕ) (batch : Batch) (size n : ℕ) (grow : Option ℕ) (list : List Owned) (domains : List DomainPlan)
     → told (setting header hints) (puts_of_batch (rank, batch)) ≡ None → end_for (setting header hints) 0 ≤ size → n ≡ needed_by header (puts_of_batch (rank, batch))
-    → AreLaid header (source_of rank (batch ∷ [])) (puts_of_batch (rank, batch)) list → AreSievedPlans hints.wr_buffer rank list domains
+    → AreLaid header (source_of rank (batch ∷ [])) (puts_of_batch (rank, batch)) list → AreSievedPlans hints.wr_buffer list domains
     → grow_call grow ≡ grow_to size (end_for (setting header hints) n)
     → grow_call grow ++ flat_map put_calls (windows_in domains) ≡ device.put_calls (setting header hints) (sieving_windows hints.wr_buffer) (puts_of_batch (rank, batch)) size
 sieved_calls header hints rank batch size n grow list domains none long is laid plans grown =

@@ -2,9 +2,11 @@
 --     windows_in domains             the windows of domains, one domain after another
 --     file_calls plan                the device calls of a step, in order
 --     IsDomainPlan, AreDivided       a domain, and the first so many of them, with their windows and whose the bytes are
---     AreDomainPlans hints ranks list plans    the aggregators' domains of entries, in order, with their windows and whose the bytes are
---     AreSievedPlans size rank list plans      the sieving windows of entries of one rank
-use Rattle.std.specs.Prelude.{◌≡◌, ℕ, List, [], ◌∷◌, ◌++◌, map, flat_map, take, length, Option, Some, None}
+--     AreDomainPlans hints list plans    the aggregators' domains of entries, in order, with their windows and whose the bytes are
+--     reach_of windows                   from the first byte of windows to the last
+--     in_one_range windows               windows without an aggregator: all of them in one range
+--     AreSievedPlans size list plans     the sieving windows of entries of one rank, in one range
+use Rattle.std.specs.Prelude.{◌≡◌, ℕ, ◌+◌, ◌-◌, ◌^◌, min, List, [], ◌∷◌, ◌++◌, map, flat_map, take, length, Option, Some, None}
 use Rattle.std.specs.List.{range_with_len}
 use Rattle.nc_base.specs.declared.plan.Extent.{Extent}
 use Rattle.nc_base.specs.declared.plan.Owned.{Owned}
@@ -46,28 +48,48 @@ file_calls plan = grow_call plan.grow ++ stores_in plan.puts.domains ++ count_ca
 
 -- ---- domains
 
--- One domain: the windows of its covered bytes, by the entries of so many ranks.
-pub record IsDomainPlan (hints : Hints) (ranks : ℕ) (list : List Owned) (cover : List Extent) (plan : DomainPlan) : Type 0 where
+-- One domain: the windows of its covered bytes, by the entries.
+pub record IsDomainPlan (hints : Hints) (list : List Owned) (cover : List Extent) (plan : DomainPlan) : Type 0 where
   pub windows : map told_plan plan.windows ≡ turns_of hints.cb_buffer plan.extent cover
-  pub shared : AreShared 0 ranks list plan.windows
+  pub shared : AreShared list plan.windows
 
 -- The first so many domains, with their windows.
-pub record AreDivided (hints : Hints) (ranks : ℕ) (list : List Owned) (cover domains : List Extent) (count : ℕ) (plans : List DomainPlan) : Type 0 where
+pub record AreDivided (hints : Hints) (list : List Owned) (cover domains : List Extent) (count : ℕ) (plans : List DomainPlan) : Type 0 where
   pub many : length plans ≡ count
   pub extents : map (λ d. d.extent) plans ≡ take count domains
   pub numbered : map (λ d. d.aggregator) plans ≡ map Some (range_with_len 0 count)
-  pub each : (d : DomainPlan) → In plans d → IsDomainPlan hints ranks list cover d
+  pub each : (d : DomainPlan) → In plans d → IsDomainPlan hints list cover d
   pub told : map told_plan (windows_in plans) ≡ flat_map (λ d. turns_of hints.cb_buffer d cover) (take count domains)
 
-pub record AreDomainPlans (hints : Hints) (ranks : ℕ) (list : List Owned) (plans : List DomainPlan) : Type 0 where
+pub record AreDomainPlans (hints : Hints) (list : List Owned) (plans : List DomainPlan) : Type 0 where
   pub cover : List Extent
   pub covers : IsCover cover
   pub bytes : HaveSame (spans cover) (ranges list)
   pub domains : AreDomains cover (map (λ d. d.extent) plans)
   pub numbered : map (λ d. d.aggregator) plans ≡ map Some (range_with_len 0 (length plans))
-  pub each : (d : DomainPlan) → In plans d → IsDomainPlan hints ranks list cover d
+  pub each : (d : DomainPlan) → In plans d → IsDomainPlan hints list cover d
   pub windows : map told_plan (windows_in plans) ≡ map told_of (collective_windows hints (in_order (ranges list)))
 
-pub record AreSievedPlans (size rank : ℕ) (list : List Owned) (plans : List DomainPlan) : Type 0 where
+-- ---- data sieving
+
+-- where the last of windows ends, the first of which is w
+abbrev pub last_end : WindowPlan → List WindowPlan → ℕ
+last_end w [] = w.hull.at + w.hull.len
+last_end w (v ∷ ws) = last_end v ws
+
+-- a number that would be more than the greatest of 64 bits is told as that
+abbrev pub reach_of : List WindowPlan → Option Extent
+reach_of [] = None
+reach_of (w ∷ ws) = Some (record { at = w.hull.at; len = min (last_end w ws) (2 ^ 64 - 1) - w.hull.at })
+
+abbrev pub range_of : Option Extent → List WindowPlan → List DomainPlan
+range_of None windows = []
+range_of (Some extent) windows = record { aggregator = None; extent = extent; windows = windows } ∷ []
+
+abbrev pub in_one_range : List WindowPlan → List DomainPlan
+in_one_range windows = range_of (reach_of windows) windows
+
+pub record AreSievedPlans (size : ℕ) (list : List Owned) (plans : List DomainPlan) : Type 0 where
   pub windows : map told_plan (windows_in plans) ≡ map told_of (sieving_windows size (in_order (ranges list)))
-  pub shared : AreShared rank 1 list (windows_in plans)
+  pub shared : AreShared list (windows_in plans)
+  pub one : plans ≡ in_one_range (windows_in plans)

@@ -106,7 +106,7 @@ fn put_domains(
     match put_list(alloc, dataset, 0, batches)? {
         PutList::Shared(pair) => Ok(refused(alloc, pair, size)),
         PutList::Laid(list) => {
-            let domains = collective_domains(alloc, &list, dataset.hints, batches.len() as u32)?;
+            let domains = collective_domains(alloc, &list, dataset.hints)?;
             let needed = records_needed(dataset.header, batches);
             let end = dataset.measures.end_of(dataset.header, needed);
             Ok(Puts {
@@ -130,7 +130,7 @@ fn get_domains(alloc: Global, dataset: &Dataset, batches: &[Batch]) -> Result<Do
     ensures { IfOk result (HaveGetDomains dataset.now.header.now dataset.now.hints.now batches.now) }
 {
     let list = get_list(alloc, dataset, 0, batches)?;
-    collective_domains(alloc, &list, dataset.hints, batches.len() as u32)
+    collective_domains(alloc, &list, dataset.hints)
 }
 
 /// The field of the record count in the header, where the count is raised: behind the first 4 bytes, 8 bytes in CDF-5 and else 4.

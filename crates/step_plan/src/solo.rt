@@ -107,7 +107,7 @@ fn put_windows(
     match put_list(alloc, dataset, rank, slice::from_ref(batch))? {
         PutList::Shared(pair) => Ok(refused(alloc, pair, size)),
         PutList::Laid(list) => {
-            let domains = sieved_domain(alloc, &list, dataset.hints.wr_buffer, rank)?;
+            let domains = sieved_domain(alloc, &list, dataset.hints.wr_buffer)?;
             let needed = records_needed_by(dataset.header, batch.puts.as_slice());
             let end = dataset.measures.end_of(dataset.header, needed);
             Ok(Puts {
@@ -136,5 +136,5 @@ fn get_windows(
     ensures { IfOk result (HaveGetWindows dataset.now.header.now dataset.now.hints.now rank batch.now) }
 {
     let list = get_list(alloc, dataset, rank, slice::from_ref(batch))?;
-    sieved_domain(alloc, &list, dataset.hints.rd_buffer, rank)
+    sieved_domain(alloc, &list, dataset.hints.rd_buffer)
 }

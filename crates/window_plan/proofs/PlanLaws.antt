@@ -15,8 +15,7 @@ use Rattle.overlay_laws.proofs.HullLaws.{in_either}
 use Rattle.exchange_crew.specs.Cursor.{AreInFront, IsAt}
 use Rattle.exchange_crew.specs.Turns.{Told, turns_ahead}
 use Rattle.exchange_crew.proofs.TurnLaws.{at_next}
-use Rattle.window_plan.specs.Windows.{owners_in, plan_of, shared_plan, told_plan, AreShared}
-use Rattle.window_plan.specs.declared.plan.Owner.{Owner}
+use Rattle.window_plan.specs.Windows.{owners_in, plan_of, told_plan, AreShared}
 use Rattle.window_plan.specs.declared.plan.WindowPlan.{WindowPlan}
 use Rattle.window_plan.proofs.OwnerLaws.{served_owners}
 
@@ -36,45 +35,42 @@ all_told plans ahead whole none h = sym (append-nil (map told_plan plans)) ∙ a
 
 -- ---- whose the bytes are
 
-pub none_shared : (first ranks : ℕ) (list : List Owned) → AreShared first ranks list []
-none_shared first ranks list w m = absurd m
+pub none_shared : (list : List Owned) → AreShared list []
+none_shared list w m = absurd m
 
-shared_more : (first ranks : ℕ) (list : List Owned) (plans : List WindowPlan) (w : WindowPlan) → AreShared first ranks list plans
-    → w ≡ shared_plan w.hull w.full first ranks (owners_in w.hull list) → AreShared first ranks list (plans ++ w ∷ [])
-shared_more first ranks list plans w h e v m =
+shared_more : (list : List Owned) (plans : List WindowPlan) (w : WindowPlan) → AreShared list plans → w.owners ≡ owners_in w.hull list → AreShared list (plans ++ w ∷ [])
+shared_more list plans w h e v m =
     elim (in_either plans (w ∷ []) v m) [
       | inl i ↦ h v i
       | inr i ↦ elim i [
-        | inl same ↦ subst (λ (u : WindowPlan). u ≡ shared_plan u.hull u.full first ranks (owners_in u.hull list)) same e
+        | inl same ↦ subst (λ (u : WindowPlan). u.owners ≡ owners_in u.hull list) same e
         | inr n ↦ absurd n
       ]
     ]
 
-plan_shared : (first ranks : ℕ) (list served : List Owned) (w : Window) (plan : WindowPlan) → plan ≡ plan_of w first ranks served
-    → owners_in w.hull list ≡ owners_in w.hull served → plan ≡ shared_plan plan.hull plan.full first ranks (owners_in plan.hull list)
-plan_shared first ranks list served w plan e same =
-    subst (λ (u : WindowPlan). u ≡ shared_plan u.hull u.full first ranks (owners_in u.hull list)) (sym e)
-    (ap (λ (os : List Owner). shared_plan w.hull w.full first ranks os) (sym same))
+plan_shared : (list served : List Owned) (w : Window) (plan : WindowPlan) → plan ≡ plan_of w served → owners_in w.hull list ≡ owners_in w.hull served
+    → plan.owners ≡ owners_in plan.hull list
+plan_shared list served w plan e same = subst (λ (u : WindowPlan). u.owners ≡ owners_in u.hull list) (sym e) (sym same)
 
 -- ---- the windows of a domain
 
 -- how far the windows of a domain are planned
-pub record IsPlanning (list : List Owned) (room ranks : ℕ) (whole : List Told) (windows : WindowWalk) (left : List Owned) (plans : List WindowPlan) : Type 0 where
+pub record IsPlanning (list : List Owned) (room : ℕ) (whole : List Told) (windows : WindowWalk) (left : List Owned) (plans : List WindowPlan) : Type 0 where
   pub walk : IsWalk windows
   pub here : IsAt list room (turns_ahead windows) left
   pub told : map told_plan plans ++ turns_ahead windows ≡ whole
-  pub shared : AreShared 0 ranks list plans
+  pub shared : AreShared list plans
 
-pub planned_next : (list : List Owned) (room ranks : ℕ) (whole : List Told) (windows next : WindowWalk) (left later served : List Owned) (plans : List WindowPlan) (w : Window) (plan : WindowPlan)
-    → IsPlanning list room ranks whole windows left plans → IsWalk next → turns_ahead windows ≡ told_window w ∷ turns_ahead next
-    → AreInFront (w.hull.at + w.hull.len) left served → IsPast (w.hull.at + w.hull.len) left later → plan ≡ plan_of w 0 ranks served
-    → IsPlanning list room ranks whole next later (plans ++ plan ∷ [])
-planned_next list room ranks whole windows next left later served plans w plan h walk ahead front past is = record {
+pub planned_next : (list : List Owned) (room : ℕ) (whole : List Told) (windows next : WindowWalk) (left later served : List Owned) (plans : List WindowPlan) (w : Window) (plan : WindowPlan)
+    → IsPlanning list room whole windows left plans → IsWalk next → turns_ahead windows ≡ told_window w ∷ turns_ahead next
+    → AreInFront (w.hull.at + w.hull.len) left served → IsPast (w.hull.at + w.hull.len) left later → plan ≡ plan_of w served
+    → IsPlanning list room whole next later (plans ++ plan ∷ [])
+planned_next list room whole windows next left later served plans w plan h walk ahead front past is = record {
   walk = walk;
   here = at_next list left later room (turns_ahead windows) (turns_ahead next) (told_window w) h.here ahead past;
   told = told_more plans plan (told_window w) (turns_ahead windows) (turns_ahead next) whole (ap told_plan is) ahead h.told;
-  shared = shared_more 0 ranks list plans plan h.shared
-      (plan_shared 0 ranks list served w plan is
+  shared = shared_more list plans plan h.shared
+      (plan_shared list served w plan is
       (served_owners w.hull w.hull.at (w.hull.at + w.hull.len) list left served front.rest
       (h.here.past (told_window w) (subst (λ (ts : List Told). In ts (told_window w)) (sym ahead) (inl refl))) front.joined front.later (omega arith) (omega arith)));
 }
@@ -82,26 +78,26 @@ planned_next list room ranks whole windows next left later served plans w plan h
 -- ---- the windows of sieving
 
 -- how far the windows of entries are planned
-pub record IsSieving (list : List Owned) (size rank place : ℕ) (whole : List Told) (left : List Owned) (plans : List WindowPlan) : Type 0 where
+pub record IsSieving (list : List Owned) (size place : ℕ) (whole : List Told) (left : List Owned) (plans : List WindowPlan) : Type 0 where
   pub past : IsPast place list left
   pub told : map told_plan plans ++ map told_of (windows_from size place list) ≡ whole
-  pub shared : AreShared rank 1 list plans
+  pub shared : AreShared list plans
 
-pub sieved_next : (list : List Owned) (size rank place stop : ℕ) (whole : List Told) (left later served : List Owned) (plans : List WindowPlan) (w : Window) (plan : WindowPlan)
-    → IsSieving list size rank place whole left plans → AreLeft left place size → IsNext left place size w served stop → IsPast stop list later
-    → plan ≡ plan_of w rank 1 served → IsSieving list size rank stop whole later (plans ++ plan ∷ [])
-sieved_next list size rank place stop whole left later served plans w plan h ready next past is = record {
+pub sieved_next : (list : List Owned) (size place stop : ℕ) (whole : List Told) (left later served : List Owned) (plans : List WindowPlan) (w : Window) (plan : WindowPlan)
+    → IsSieving list size place whole left plans → AreLeft left place size → IsNext left place size w served stop → IsPast stop list later
+    → plan ≡ plan_of w served → IsSieving list size stop whole later (plans ++ plan ∷ [])
+sieved_next list size place stop whole left later served plans w plan h ready next past is = record {
   past = past;
   told = told_more plans plan (told_window w) (map told_of (windows_from size place list)) (map told_of (windows_from size stop list)) whole (ap told_plan is)
       (ap (λ (ws : List (List ℕ)). map told_of ws) (windows_next list left place size w served stop h.past ready next)
       ∙ ap (λ (t : Told). t ∷ map told_of (windows_from size stop list)) (next_told left place size w served stop ready next)) h.told;
-  shared = shared_more rank 1 list plans plan h.shared
-      (plan_shared rank 1 list served w plan is
+  shared = shared_more list plans plan h.shared
+      (plan_shared list served w plan is
       (let low = next.from in let short = next.hull.short in let begin = next.hull.begin in
       served_owners w.hull place stop list left served next.front.rest h.past next.front.joined next.front.later low (omega arith)));
 }
 
-pub sieved_end : (list : List Owned) (size rank place : ℕ) (whole : List Told) (left : List Owned) (plans : List WindowPlan) → left ≡ []
-    → IsSieving list size rank place whole left plans → map told_plan plans ≡ whole
-sieved_end list size rank place whole left plans none h =
+pub sieved_end : (list : List Owned) (size place : ℕ) (whole : List Told) (left : List Owned) (plans : List WindowPlan) → left ≡ []
+    → IsSieving list size place whole left plans → map told_plan plans ≡ whole
+sieved_end list size place whole left plans none h =
     all_told plans (map told_of (windows_from size place list)) whole (ap (λ (ws : List (List ℕ)). map told_of ws) (no_window size place list left none h.past)) h.told

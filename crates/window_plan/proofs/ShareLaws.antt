@@ -1,10 +1,10 @@
 -- The shares of ranks, counted one owner after another.
-use Rattle.std.proofs.Common.{◌≡◌, ℕ, suc, ◌+◌, ◌-◌, ◌^◌, ◌<◌, sym, ◌∙◌, ap, List, [], ◌∷◌, ◌++◌, length, take, get_or, min, arith}
+use Rattle.std.proofs.Common.{◌≡◌, ℕ, suc, ◌+◌, ◌-◌, ◌^◌, ◌<◌, sym, ◌∙◌, ap, List, [], ◌∷◌, ◌++◌, length, take, get_or, max, min, arith}
 use Rattle.std.proofs.lemmas.List.{flat_map_more, take_more}
 use Rattle.std.specs.Prelude.{flat_map}
 use Rattle.std.specs.List.{range_with_len}
 use Rattle.list_laws.proofs.Ranges.{range_push}
-use Rattle.window_plan.specs.Windows.{bytes_for, own_bytes, share_of}
+use Rattle.window_plan.specs.Windows.{bytes_for, own_bytes, ranks_in, share_of}
 use Rattle.window_plan.specs.declared.plan.Owner.{Owner}
 use Rattle.window_plan.specs.declared.plan.Share.{Share}
 
@@ -17,6 +17,17 @@ pub share_more : (owners : List Owner) (i : ℕ) (none : Owner) (rank bytes own 
 share_more owners i none rank bytes own now l before is sum =
     let next : bytes_for rank (take (i + 1) owners) ≡ bytes_for rank (take i owners) + own_bytes rank (get_or owners i none)
     = ap (λ (os : List Owner). bytes_for rank os) (take_more owners i none l) ∙ bytes_joined rank (take i owners) (get_or owners i none) in
+    omega arith
+
+ranks_joined : (owners : List Owner) (o : Owner) → ranks_in (owners ++ o ∷ []) ≡ max (ranks_in owners) (o.rank + 1)
+ranks_joined [] o = omega arith
+ranks_joined (x ∷ owners) o = let rest = ranks_joined owners o in omega arith
+
+pub ranks_more : (owners : List Owner) (i : ℕ) (none : Owner) (ranks now : ℕ) → i < length owners → ranks ≡ ranks_in (take i owners)
+    → now ≡ max ranks ((get_or owners i none).rank + 1) → now ≡ ranks_in (take (i + 1) owners)
+ranks_more owners i none ranks now l before is =
+    let next : ranks_in (take (i + 1) owners) ≡ max (ranks_in (take i owners)) ((get_or owners i none).rank + 1)
+    = ap ranks_in (take_more owners i none l) ∙ ranks_joined (take i owners) (get_or owners i none) in
     omega arith
 
 one_more : (n : ℕ) → range_with_len 0 (n + 1) ≡ range_with_len 0 n ++ n ∷ []

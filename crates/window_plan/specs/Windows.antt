@@ -5,9 +5,10 @@
 --     owners_in hull list            those of all entries
 --     bytes_for rank owners          how many bytes a rank has, each as often as it stands there
 --     share_of owners rank           the same as a number of 64 bits, the greatest of them where it is more
---     shares_in first ranks owners   what each of so many ranks has, from rank `first` on, of those that have something
---     plan_of w first ranks list     a window with what of it is whose
---     AreShared first ranks list ws  of each window it is told whose its bytes are, by the entries of a list
+--     ranks_in owners                how many ranks there are up to the last one that has bytes
+--     shares_in owners               what each rank has, in order of ranks, of those that have something
+--     plan_of w list                 a window with what of it is whose
+--     AreShared list ws              of each window it is told whose its bytes are, by the entries of a list
 use Rattle.std.specs.Prelude.{◌≡◌, ℕ, ◌+◌, ◌-◌, ◌^◌, max, min, List, [], ◌∷◌, flat_map, Bool, nat_lt, ◌==◌, if◌then◌else◌}
 use Rattle.std.specs.List.{range_with_len}
 use Rattle.nc_base.specs.declared.plan.Extent.{Extent}
@@ -56,16 +57,17 @@ share_if rank bytes = if nat_lt 0 bytes then record { rank = rank; bytes = bytes
 abbrev pub some_share : List Owner → ℕ → List Share
 some_share owners rank = share_if rank (share_of owners rank)
 
-abbrev pub shares_in : ℕ → ℕ → List Owner → List Share
-shares_in first ranks owners = flat_map (λ k. some_share owners (first + k)) (range_with_len 0 ranks)
+abbrev pub ranks_in : List Owner → ℕ
+ranks_in [] = 0
+ranks_in (o ∷ owners) = max (o.rank + 1) (ranks_in owners)
+
+abbrev pub shares_in : List Owner → List Share
+shares_in owners = flat_map (some_share owners) (range_with_len 0 (ranks_in owners))
 
 -- ---- windows
 
-abbrev pub shared_plan : Extent → Bool → ℕ → ℕ → List Owner → WindowPlan
-shared_plan hull full first ranks owners = record { hull = hull; full = full; owners = owners; shares = shares_in first ranks owners }
+abbrev pub plan_of : Window → List Owned → WindowPlan
+plan_of w list = record { hull = w.hull; full = w.full; owners = owners_in w.hull list }
 
-abbrev pub plan_of : Window → ℕ → ℕ → List Owned → WindowPlan
-plan_of w first ranks list = shared_plan w.hull w.full first ranks (owners_in w.hull list)
-
-abbrev pub AreShared : ℕ → ℕ → List Owned → List WindowPlan → Type 0
-AreShared first ranks list ws = (w : WindowPlan) → In ws w → w ≡ shared_plan w.hull w.full first ranks (owners_in w.hull list)
+abbrev pub AreShared : List Owned → List WindowPlan → Type 0
+AreShared list ws = (w : WindowPlan) → In ws w → w.owners ≡ owners_in w.hull list

@@ -12,19 +12,17 @@ use exchange_crew::{domain_windows, next_window};
 use nc_base::{Extent, ExtentList, Memory, Owned};
 use std::alloc::Global;
 
-/// The windows of a domain that have a byte, each so many bytes long, by entries of so many ranks from rank `first` on, which are
-/// sorted by place, and their cover.
+/// The windows of a domain that have a byte, each so many bytes long, by entries, which are sorted by place, and their cover.
 pub fn domain_plans(
     alloc: Global,
     list: &[Owned],
     cover: &ExtentList,
     size: u64,
     domain: Extent,
-    ranks: u32,
 ) -> Result<WindowList, Memory>
     requires plan { IsGetPlan list.now cover.now size }
     ensures told { IfOk result (λ windows. map told_plan windows ≡ turns_of size domain cover.now) }
-    ensures shared { IfOk result (AreShared 0 ranks list.now) }
+    ensures shared { IfOk result (AreShared list.now) }
 {
     let mut windows = domain_windows(cover, size, domain);
     let mut entries = Unserved::new(alloc, list);
@@ -32,7 +30,7 @@ pub fn domain_plans(
     'windows: while let Some(window) = next_window(&mut windows) {
         let stop = window.hull.at + window.hull.len;
         let fresh = entries.ahead_before(stop);
-        plans.push(plan_window(alloc, &window, entries.carried.as_slice(), fresh, 0, ranks)?)?;
+        plans.push(plan_window(alloc, &window, entries.carried.as_slice(), fresh)?)?;
         entries.pass(stop);
     }
     Ok(fitted(plans))

@@ -15,6 +15,7 @@ pub use domain::domain_plans;
 pub use lists::fitted;
 use nc_base::Items;
 pub use plan::{Owner, Share, WindowPlan};
+pub use shares::shares_of;
 pub use sieving::sieved_plans;
 
 /// In order of ranks.

@@ -1,12 +1,11 @@
 // A window as it is planned.
-ghost use Rattle.std.specs.Prelude.{◌≡◌, ◌+◌, ◌++◌, ◌^◌, ◌<◌, ◌≤◌, IfOk};
+ghost use Rattle.std.specs.Prelude.{◌≡◌, ◌+◌, ◌++◌, ◌^◌, ◌<◌, IfOk};
 ghost use Rattle.overlay_laws.specs.Lines.{extents, EndBelow};
 ghost use Rattle.window_plan.specs.Windows.{plan_of};
 
+use crate::OwnerList;
 use crate::lists::fitted;
 use crate::owners::push_owners;
-use crate::shares::shares_of;
-use crate::{OwnerList, ShareList};
 use file_domains::Window;
 use nc_base::{Extent, Memory, Owned};
 use std::alloc::Global;
@@ -35,32 +34,25 @@ pub struct WindowPlan {
     pub full: bool,
     /// Whose the bytes are.
     pub owners: OwnerList,
-    /// What each rank gives or gets, of the ranks that have a byte of it.
-    pub shares: ShareList,
 }
 
-/// Plans a window, by entries of so many ranks from rank `first` on, some of which reach past the window before.
+/// Plans a window, by entries of which some reach past the window before.
 pub(crate) fn plan_window(
     alloc: Global,
     window: &Window,
     carried: &[Owned],
     fresh: &[Owned],
-    first: u32,
-    ranks: u32,
 ) -> Result<WindowPlan, Memory>
     requires hull { window.now.hull.at + window.now.hull.len < 2 ^ 62 }
     requires ends { EndBelow (2 ^ 62) (extents (carried.now ++ fresh.now)) }
-    requires ranks { first + ranks ≤ 2 ^ 32 }
-    ensures { IfOk result (λ plan. plan ≡ plan_of window.now first ranks (carried.now ++ fresh.now)) }
+    ensures { IfOk result (λ plan. plan ≡ plan_of window.now (carried.now ++ fresh.now)) }
 {
     let mut owners = Vec::with_capacity(alloc, carried.len() + fresh.len())?;
     push_owners(&mut owners, carried, window.hull)?;
     push_owners(&mut owners, fresh, window.hull)?;
-    let shares = shares_of(alloc, &owners, first, ranks)?;
     Ok(WindowPlan {
         hull: window.hull,
         full: window.full,
         owners: fitted(owners),
-        shares,
     })
 }

@@ -1,27 +1,35 @@
 // How many bytes of a window each rank has.
-ghost use Rattle.std.specs.Prelude.{◌≡◌, ◌+◌, ◌^◌, ◌≤◌, ◌++◌, IfOk, OnOk};
-ghost use Rattle.window_plan.specs.Windows.{own_bytes, share_of, shares_in, some_share};
+ghost use Rattle.std.specs.Prelude.{◌≡◌, ◌++◌, ◌^◌, ◌≤◌, IfOk, OnOk};
+ghost use Rattle.window_plan.specs.Windows.{own_bytes, ranks_in, share_of, shares_in, some_share};
 
-use crate::lists::fitted;
 use crate::{Owner, Share, ShareList};
 use nc_base::Memory;
 use std::alloc::Global;
 
-/// What each of so many ranks has, from rank `first` on, of those that have something.
-pub(crate) fn shares_of(
-    alloc: Global,
-    owners: &[Owner],
-    first: u32,
-    ranks: u32,
-) -> Result<ShareList, Memory>
-    requires ranks { first + ranks ≤ 2 ^ 32 }
-    ensures { IfOk result (λ shares. shares ≡ shares_in first ranks owners.now) }
+/// What each rank has, of those that have something.
+///
+/// It goes over the owners once for each rank up to the last one that has something.
+pub fn shares_of(alloc: Global, owners: &[Owner]) -> Result<ShareList, Memory>
+    ensures { IfOk result (λ shares. shares ≡ shares_in owners.now) }
 {
-    let mut shares = Vec::with_capacity(alloc, owners.len().min(ranks as usize))?;
-    for number in 0..ranks {
-        push_share(&mut shares, owners, first + number)?;
+    let ranks = ranks_in(owners);
+    let mut shares = Vec::new(alloc);
+    for rank in 0..ranks {
+        push_share(&mut shares, owners, rank as u32)?;
     }
-    Ok(fitted(shares))
+    Ok(ShareList::from_vec(shares))
+}
+
+// How many ranks there are up to the last one that has bytes.
+fn ranks_in(owners: &[Owner]) -> u64
+    ensures count { result ≡ ranks_in owners.now }
+    ensures few { result ≤ 2 ^ 32 }
+{
+    let mut ranks: u64 = 0;
+    for owner in owners {
+        ranks = ranks.max(u64::from(owner.rank) + 1);
+    }
+    ranks
 }
 
 // Adds what a rank has, if it has something.

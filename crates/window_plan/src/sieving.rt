@@ -15,18 +15,13 @@ use nc_base::{Memory, Owned};
 use std::alloc::Global;
 
 /// The windows of entries of one rank, which are sorted by place, for a buffer of so many bytes.
-pub fn sieved_plans(
-    alloc: Global,
-    list: &[Owned],
-    size: u64,
-    rank: u32,
-) -> Result<WindowList, Memory>
+pub fn sieved_plans(alloc: Global, list: &[Owned], size: u64) -> Result<WindowList, Memory>
     requires sorted { IsByPlace (extents list.now) }
     requires ends { EndBelow (2 ^ 62) (extents list.now) }
     requires filled { AreFilled list.now }
     requires some { 1 ≤ size }
     ensures told { IfOk result (λ windows. map told_plan windows ≡ map told_of (entry_windows size list.now)) }
-    ensures shared { IfOk result (AreShared rank 1 list.now) }
+    ensures shared { IfOk result (AreShared list.now) }
 {
     let mut walk = SieveWalk {
         entries: Unserved::new(alloc, list),
@@ -35,7 +30,7 @@ pub fn sieved_plans(
     };
     let mut plans = Vec::with_capacity(alloc, 1)?;
     'windows: while let Some(next) = walk.next_window() {
-        plans.push(plan_window(alloc, &next.window, next.carried, next.fresh, rank, 1)?)?;
+        plans.push(plan_window(alloc, &next.window, next.carried, next.fresh)?)?;
         let stop = next.stop;
         walk.pass(stop);
     }

@@ -30,9 +30,9 @@ plan_each-requires-clause-plan c =
 
 pub returns : goal.returns
 returns c = ok_so c.plan_each.result (λ plans h.
-    all_divided c.args.hints.now c.args.ranks c.args.list.now c.in_ok-cover.cover c.in_ok-domains.domains.items plans c.in_ok-cover.ensures.apart
+    all_divided c.args.hints.now c.args.list.now c.in_ok-cover.cover c.in_ok-domains.domains.items plans c.in_ok-cover.ensures.apart
     (subst (λ (os : List Owned). HaveSame (spans c.in_ok-cover.cover) (ranges os)) c.as_slice.ensures c.in_ok-cover.ensures.bytes)
     (subst (λ (es : List Extent). AreDomains es c.in_ok-domains.domains.items) c.as_slice-2.ensures c.in_ok-domains.ensures.domains)
     (subst (λ (es : List Extent). flat_map (λ d. turns_of c.args.hints.now.cb_buffer d es) c.in_ok-domains.domains.items ≡ map told_of (collective_windows c.args.hints.now (spans es))) c.as_slice-2.ensures
     c.in_ok-domains.ensures.windows)
-    (subst (λ (ds : List Extent). AreDivided c.args.hints.now c.args.ranks c.args.list.now c.in_ok-cover.cover ds (length ds) plans) c.deref.ensures.value h)) c.plan_each.ensures
+    (subst (λ (ds : List Extent). AreDivided c.args.hints.now c.args.list.now c.in_ok-cover.cover ds (length ds) plans) c.deref.ensures.value h)) c.plan_each.ensures

@@ -14,8 +14,8 @@ none = record { at = 0; len = 0 }
 
 pub loop-number-init : goal.loop-number-init
 loop-number-init c =
-    subst (λ (ps : List DomainPlan). AreDivided c.args.hints.now c.args.ranks c.args.list.now c.args.cover.now c.args.domains.now 0 ps) (sym c.new-plans.ensures.items)
-    (none_divided c.args.hints.now c.args.ranks c.args.list.now c.args.cover.now c.args.domains.now)
+    subst (λ (ps : List DomainPlan). AreDivided c.args.hints.now c.args.list.now c.args.cover.now c.args.domains.now 0 ps) (sym c.new-plans.ensures.items)
+    (none_divided c.args.hints.now c.args.list.now c.args.cover.now c.args.domains.now)
 
 pub domain_plans-requires : goal.domain_plans-requires
 domain_plans-requires c = record { plan = subst (λ (os : List Owned). IsGetPlan os c.args.cover.now c.args.hints.now.cb_buffer) (sym c.as_slice.ensures) c.requires.plan }
@@ -25,15 +25,15 @@ loop-number-preserved c =
     let domain = get_or c.args.domains.now c.loop-number.number none in
     let windows = c.in_ok-domain_plans.field-0 in
     let plan : DomainPlan = record { aggregator = Some c.loop-number.number; extent = domain; windows = windows } in
-    subst (λ (ps : List DomainPlan). AreDivided c.args.hints.now c.args.ranks c.args.list.now c.args.cover.now c.args.domains.now (c.loop-number.number + 1) ps) (sym {A = List DomainPlan} c.in_ok-push.ensures.items)
-    (divided_more c.args.hints.now c.args.ranks c.args.list.now c.args.cover.now c.args.domains.now c.loop-number.number none c.loop-number.plans.items plan c.loop-number-test.true refl refl
+    subst (λ (ps : List DomainPlan). AreDivided c.args.hints.now c.args.list.now c.args.cover.now c.args.domains.now (c.loop-number.number + 1) ps) (sym {A = List DomainPlan} c.in_ok-push.ensures.items)
+    (divided_more c.args.hints.now c.args.list.now c.args.cover.now c.args.domains.now c.loop-number.number none c.loop-number.plans.items plan c.loop-number-test.true refl refl
     (record {
       windows = c.in_ok-domain_plans.ensures.told;
-      shared = subst (λ (os : List Owned). AreShared 0 c.args.ranks os windows) c.as_slice.ensures c.in_ok-domain_plans.ensures.shared;
+      shared = subst (λ (os : List Owned). AreShared os windows) c.as_slice.ensures c.in_ok-domain_plans.ensures.shared;
     })
     c.loop-number.invariant)
 
 pub returns : goal.returns
 returns c =
-    subst (λ (ps : List DomainPlan). AreDivided c.args.hints.now c.args.ranks c.args.list.now c.args.cover.now c.args.domains.now (length c.args.domains.now) ps) (sym {A = List DomainPlan} c.fitted.ensures)
-    (divided_all c.args.hints.now c.args.ranks c.args.list.now c.args.cover.now c.args.domains.now c.loop-number.number c.loop-number.plans.items c.loop-number-test.false (omega arith) c.loop-number.invariant)
+    subst (λ (ps : List DomainPlan). AreDivided c.args.hints.now c.args.list.now c.args.cover.now c.args.domains.now (length c.args.domains.now) ps) (sym {A = List DomainPlan} c.fitted.ensures)
+    (divided_all c.args.hints.now c.args.list.now c.args.cover.now c.args.domains.now c.loop-number.number c.loop-number.plans.items c.loop-number-test.false (omega arith) c.loop-number.invariant)

@@ -3,4 +3,4 @@ use Rattle.step_plan.specs.Steps.{AreDivided}
 use Rattle.step_plan.proofs.domains.plan_each.Given as goal
 
 abbrev pub invariant-loop-number : goal.invariant-loop-number
-invariant-loop-number l = AreDivided l.hints l.ranks l.list l.cover l.domains l.number l.plans.items
+invariant-loop-number l = AreDivided l.hints l.list l.cover l.domains l.number l.plans.items

@@ -28,7 +28,7 @@ windows-init c =
           (subst (λ (ts : List Told). AreTurns list room ts) (sym c.domain_windows-windows.ensures.windows)
           (domain_turns c.args.size c.args.domain list c.args.cover.now plan.some plan.covers plan.cover_bytes));
       told = ap (λ (ps : List WindowPlan). map told_plan ps ++ turns_ahead c.domain_windows-windows.result) c.new-plans.ensures.items ∙ c.domain_windows-windows.ensures.windows;
-      shared = subst (λ (ps : List WindowPlan). AreShared 0 c.args.ranks list ps) (sym c.new-plans.ensures.items) (none_shared 0 c.args.ranks list);
+      shared = subst (λ (ps : List WindowPlan). AreShared list ps) (sym c.new-plans.ensures.items) (none_shared list);
     }
 
 pub overflow_add-stop : goal.overflow_add-stop
@@ -65,7 +65,7 @@ returns-clause-told c =
     ∙ all_told c.windows.plans.items (turns_ahead c.windows.windows) (turns_of c.args.size c.args.domain c.args.cover.now) c.in_default.ensures.none c.windows.invariant.told
 
 pub returns-clause-shared : goal.returns-clause-shared
-returns-clause-shared c = subst (λ (ps : List WindowPlan). AreShared 0 c.args.ranks c.args.list.now ps) (sym c.fitted.ensures) c.windows.invariant.shared
+returns-clause-shared c = subst (λ (ps : List WindowPlan). AreShared c.args.list.now ps) (sym c.fitted.ensures) c.windows.invariant.shared
 
 pub plan_window-requires-clause-ends : goal.plan_window-requires-clause-ends
 plan_window-requires-clause-ends c =
@@ -91,6 +91,6 @@ windows-preserved c =
     let begun = c.as_slice.result.now ++ c.ahead_before-fresh.result.now in
     let front = subst (λ (os : List Owned). AreInFront stop left (os ++ c.ahead_before-fresh.result.now)) (sym c.as_slice.ensures.value)
     (front_carried stop c.windows.entries.carried.items c.windows.entries.ahead.now c.ahead_before-fresh.result.now c.ahead_before-fresh.ensures) in
-    subst (λ (ps : List WindowPlan). IsPlanning c.args.list.now room c.args.ranks whole c.next_window.new.windows later ps) (sym {A = List WindowPlan} c.in_ok-push.ensures.items)
-    (planned_next c.args.list.now room c.args.ranks whole c.windows.windows c.next_window.new.windows left later begun c.windows.plans.items w c.in_ok-plan_window.field-0
+    subst (λ (ps : List WindowPlan). IsPlanning c.args.list.now room whole c.next_window.new.windows later ps) (sym {A = List WindowPlan} c.in_ok-push.ensures.items)
+    (planned_next c.args.list.now room whole c.windows.windows c.next_window.new.windows left later begun c.windows.plans.items w c.in_ok-plan_window.field-0
     c.windows.invariant c.in-Some.ensures.ready c.in-Some.ensures.some front c.pass.ensures.past c.in_ok-plan_window.ensures)

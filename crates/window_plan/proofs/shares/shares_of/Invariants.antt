@@ -1,7 +1,8 @@
 -- The shares of the ranks so far.
 use Rattle.std.proofs.Common.{◌≡◌}
-use Rattle.window_plan.specs.Windows.{shares_in}
+use Rattle.std.specs.List.{flat_map, range_with_len}
+use Rattle.window_plan.specs.Windows.{some_share}
 use Rattle.window_plan.proofs.shares.shares_of.Given as goal
 
-abbrev pub invariant-loop-number : goal.invariant-loop-number
-invariant-loop-number l = l.shares.items ≡ shares_in l.first l.number l.owners
+abbrev pub invariant-loop-rank : goal.invariant-loop-rank
+invariant-loop-rank l = l.shares.items ≡ flat_map (some_share l.owners) (range_with_len 0 l.rank)

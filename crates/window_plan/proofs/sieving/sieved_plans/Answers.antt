@@ -23,7 +23,7 @@ windows-init c =
         past = walk_begin list left whole;
         told = ap (λ (ps : List WindowPlan). map told_plan ps ++ map told_of (windows_from c.args.size 0 list)) c.in_ok-plans.ensures.items
             ∙ ap (λ (ws : List (List ℕ)). map told_of ws) (sym (all_windows c.args.size list));
-        shared = subst (λ (ps : List WindowPlan). AreShared c.args.rank 1 list ps) (sym c.in_ok-plans.ensures.items) (none_shared c.args.rank 1 list);
+        shared = subst (λ (ps : List WindowPlan). AreShared list ps) (sym c.in_ok-plans.ensures.items) (none_shared list);
       };
       left = walk_ready list left c.args.size whole c.requires.sorted c.requires.ends c.requires.filled c.requires.some;
       across = none_carried c.new.result.carried.items c.new.ensures.carried;
@@ -50,12 +50,12 @@ windows-preserved c =
     let further = goes_on left c.windows.walk.from c.windows.walk.size c.in-Some.next.window (entries_in c.in-Some.next) c.pass.new.self.from next in
     let h = c.windows.invariant in
     let past = past_twice c.windows.walk.from c.pass.new.self.from list left later (omega arith) h.sieving.past c.pass.ensures.past in
-    let before = subst (λ (n : ℕ). IsSieving list n c.args.rank c.windows.walk.from whole left c.windows.plans.items) (sym h.size) h.sieving in
-    let after = sieved_next list c.windows.walk.size c.args.rank c.windows.walk.from c.pass.new.self.from whole left later (entries_in c.in-Some.next) c.windows.plans.items c.in-Some.next.window
+    let before = subst (λ (n : ℕ). IsSieving list n c.windows.walk.from whole left c.windows.plans.items) (sym h.size) h.sieving in
+    let after = sieved_next list c.windows.walk.size c.windows.walk.from c.pass.new.self.from whole left later (entries_in c.in-Some.next) c.windows.plans.items c.in-Some.next.window
     c.in_ok-plan_window.field-0 before h.left next past c.in_ok-plan_window.ensures in
     record {
-      sieving = subst (λ (ps : List WindowPlan). IsSieving list c.args.size c.args.rank c.pass.new.self.from whole later ps) (sym {A = List WindowPlan} c.in_ok-push.ensures.items)
-          (subst (λ (n : ℕ). IsSieving list n c.args.rank c.pass.new.self.from whole later (c.windows.plans.items ++ c.in_ok-plan_window.field-0 ∷ [])) h.size after);
+      sieving = subst (λ (ps : List WindowPlan). IsSieving list c.args.size c.pass.new.self.from whole later ps) (sym {A = List WindowPlan} c.in_ok-push.ensures.items)
+          (subst (λ (n : ℕ). IsSieving list n c.pass.new.self.from whole later (c.windows.plans.items ++ c.in_ok-plan_window.field-0 ∷ [])) h.size after);
       left = c.pass.ensures.left;
       across = c.pass.ensures.across;
       size = c.pass.ensures.size ∙ h.size;
@@ -65,8 +65,8 @@ pub returns-clause-told : goal.returns-clause-told
 returns-clause-told c =
     let h = c.windows.invariant.sieving in
     ap (λ (ps : List WindowPlan). map told_plan ps) c.fitted.ensures
-    ∙ sieved_end c.args.list.now c.args.size c.args.rank c.windows.walk.from (map told_of (entry_windows c.args.size c.args.list.now)) (entries_left c.windows.walk.entries) c.windows.plans.items
+    ∙ sieved_end c.args.list.now c.args.size c.windows.walk.from (map told_of (entry_windows c.args.size c.args.list.now)) (entries_left c.windows.walk.entries) c.windows.plans.items
     c.in_default.ensures.none h
 
 pub returns-clause-shared : goal.returns-clause-shared
-returns-clause-shared c = subst (λ (ps : List WindowPlan). AreShared c.args.rank 1 c.args.list.now ps) (sym c.fitted.ensures) c.windows.invariant.sieving.shared
+returns-clause-shared c = subst (λ (ps : List WindowPlan). AreShared c.args.list.now ps) (sym c.fitted.ensures) c.windows.invariant.sieving.shared
