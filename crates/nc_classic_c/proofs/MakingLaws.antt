@@ -110,6 +110,7 @@ len_kept D (refusal.Header e) old h = refl
 len_kept D (refusal.Asked c) old h = refl
 len_kept D refusal.NoAttribute old h = refl
 len_kept D refusal.Shared old h = refl
+len_kept D (refusal.Range k) old h = refl
 len_kept D (refusal.Unmade u) old h = sym (ap (λ (o : Option Unmade). needed_len D o old) h)
 
 -- there is no room

@@ -1,4 +1,4 @@
--- An extent ends too far.
+-- An extent ends too far, two requests share a byte, or there is no memory.
 use Rattle.std.proofs.Common.{inr, refl, sym, ◌∙◌}
 use Rattle.nc_base.specs.declared.answer.Code.TheVariants as code
 use Rattle.nc_classic_c.specs.declared.answers.Refusal.TheVariants as refusal
@@ -12,3 +12,14 @@ returns-then-not-ends_are_low c =
       number_kept c.number_of.result (refusal.Asked code.ETooLarge) c.number_of.ensures,
       (refl, sym c.ends_are_low.ensures ∙ c.if-not-ends_are_low.true, refl),
     )
+
+pub returns-in-Ok-Some : goal.returns-in-Ok-Some
+returns-in-Ok-Some c =
+    inr (
+      refusal.Shared,
+      number_kept c.number_of-in-Ok-Some.result refusal.Shared c.number_of-in-Ok-Some.ensures,
+      (c.in-Ok-Some.found, sym c.in-Ok-Some.ensures, c.pair_shown.ensures),
+    )
+
+pub returns-in-Err : goal.returns-in-Err
+returns-in-Err c = inr (refusal.Memory, number_kept c.number_of-in-Err.result refusal.Memory c.number_of-in-Err.ensures, refl)
