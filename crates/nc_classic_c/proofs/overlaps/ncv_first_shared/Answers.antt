@@ -18,7 +18,7 @@ returns-in-Ok-Some c =
     inr (
       refusal.Shared,
       number_kept c.number_of-in-Ok-Some.result refusal.Shared c.number_of-in-Ok-Some.ensures,
-      (c.in-Ok-Some.found, sym c.in-Ok-Some.ensures, c.pair_shown.ensures),
+      (c.in-Ok-Some.found, sym c.in-Ok-Some.ensures ∙ c.in-Ok-Some.field-0-is, c.pair_shown.ensures),
     )
 
 pub returns-in-Err : goal.returns-in-Err
