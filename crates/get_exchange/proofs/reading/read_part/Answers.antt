@@ -1,5 +1,5 @@
 -- Each window is read, and its hull put on the line.
-use Rattle.std.proofs.Common.{◌+◌, ◌∙◌, ◌++◌, ◌∷◌, [], ℕ, List, ap, refl, drop, map, get_or, arith}
+use Rattle.std.proofs.Common.{◌+◌, ◌∙◌, ◌++◌, ◌∷◌, [], ℕ, List, ap, refl, drop, map, false, get_or, arith}
 use Rattle.std.proofs.lemmas.List.{drop_all}
 use Rattle.aggregator_rounds.specs.Pieces.{told_window}
 use Rattle.exchange_crew.proofs.BackLaws.{at_index}
