@@ -3,4 +3,5 @@ pub mod BackLaws
 pub mod DomainTurns
 pub mod PlanLaws
 pub mod CrewLaws
+pub mod SplitLaws
 pub mod OneChanged

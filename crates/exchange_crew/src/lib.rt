@@ -6,9 +6,11 @@
 #![tactic(auto)]
 
 mod crew;
+mod errand;
 mod plan;
 mod walk;
 
 pub use crew::{Crew, Ends, Returned, STACK_SIZE, Word, give_back, make_rooms, stopped};
+pub use errand::{Errand, PartBack, PartEnds};
 pub use plan::{Aggregator, GetPlan, PutPlan, Tools};
-pub use walk::{Turn, TurnWalk, domain_windows, longest_window, next_window};
+pub use walk::{Turn, TurnWalk, domain_windows, longest_window, next_window, window_list};

@@ -1,5 +1,5 @@
 // A cursor over the windows of one part and over the sorted entries.
-ghost use Rattle.std.specs.Prelude.{◌≡◌, ◌∷◌, [], ◌+◌, ◌^◌, ◌≤◌, length, min, take, drop, IfNone, IfSome};
+ghost use Rattle.std.specs.Prelude.{◌≡◌, ◌∷◌, [], ◌+◌, ◌^◌, ◌≤◌, length, map, min, take, drop, IfNone, IfOk, IfSome};
 ghost use Rattle.file_domains.specs.Rounds.{IsWalk};
 ghost use Rattle.aggregator_rounds.specs.Pieces.{told_window};
 ghost use Rattle.aggregator_rounds.specs.Left.{IsPast};
@@ -14,7 +14,8 @@ ghost use Rattle.exchange_crew.specs.Turns.{turns_ahead, turns_of, IsTurnWalk};
 use crate::plan::PutPlan;
 use aggregator_rounds::{begins_before, ends_by};
 use file_domains::{Window, WindowWalk, windows};
-use nc_base::{Extent, ExtentList, Owned};
+use nc_base::{Extent, ExtentList, Memory, Owned};
+use std::alloc::Global;
 
 /// A window, and the entries that may have bytes in it.
 #[derive(Clone, Copy, Drop)]
@@ -82,6 +83,26 @@ pub fn next_window(windows: &mut WindowWalk) -> Option<Window>
     ensures some { IfSome result (λ w. turns_ahead windows.old ≡ told_window w ∷ turns_ahead windows.new) }
 {
     windows.next()
+}
+
+/// The windows of a domain, each `size` bytes long, in order of places, given the cover of the entries.
+pub fn window_list(
+    alloc: Global,
+    cover: &ExtentList,
+    size: u64,
+    domain: Extent,
+) -> Result<Vec<Window>, Memory>
+    requires cover { IsCover cover.now }
+    requires ends { EndBelow (2 ^ 62) cover.now }
+    requires size { 1 ≤ size }
+    ensures { IfOk result (λ list. map told_window list.items ≡ turns_of size domain cover.now) }
+{
+    let mut list = Vec::new(alloc);
+    let mut windows = domain_windows(cover, size, domain);
+    'turns: while let Some(window) = next_window(&mut windows) {
+        list.push(window)?;
+    }
+    Ok(list)
 }
 
 /// How long the buffer is that holds each window of the domains, which are so many bytes at most.

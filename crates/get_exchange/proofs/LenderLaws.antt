@@ -1,5 +1,5 @@
--- One more lender.
-use Rattle.std.proofs.Common.{◌≡◌, ℕ, zero, suc, ◌++◌, ◌∷◌, [], List, Some, subst}
+-- One more lender, or fewer.
+use Rattle.std.proofs.Common.{◌≡◌, ℕ, zero, suc, ◌++◌, ◌∷◌, [], List, Some, subst, take}
 use Rattle.std.specs.Prelude.{slice_get}
 use Rattle.std.proofs.lemmas.Option.{same_Some}
 
@@ -12,3 +12,10 @@ each_pushed {X} P xs now y e all own k x g = pushed xs all k (subst (λ (zs : Li
     pushed [] each (suc r) h = absurd cc
     pushed (z ∷ ys) each zero h = each zero x h
     pushed (z ∷ ys) each (suc r) h = pushed ys (λ q w i. each (suc q) w i) r h
+
+-- some of the first
+pub each_taken : {X : Type 0} (P : X → Type 0) (n : ℕ) (xs : List X) → ((k : ℕ) (x : X) → slice_get xs k ≡ Some x → P x) → (k : ℕ) (x : X) → slice_get (take n xs) k ≡ Some x → P x
+each_taken P zero xs all k x h = absurd cc
+each_taken P (suc n) [] all k x h = absurd cc
+each_taken P (suc n) (y ∷ xs) all zero x h = all zero x h
+each_taken P (suc n) (y ∷ xs) all (suc k) x h = each_taken P n xs (λ r z e. all (suc r) z e) k x h

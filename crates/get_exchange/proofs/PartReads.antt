@@ -1,7 +1,7 @@
 -- The windows of all parts, each read of its own part, are the file's bytes of all entries.
-use Rattle.std.proofs.Common.{◌≡◌, ℕ, ◌+◌, ◌-◌, ◌<◌, ◌≤◌, ◌⊎◌, inl, inr, refl, sym, ◌∙◌, ap, subst, List, [], ◌∷◌, ◌++◌, length, map, Option, Some, None, Result, Ok, Err, arith}
+use Rattle.std.proofs.Common.{◌≡◌, ℕ, ◌+◌, ◌-◌, ◌<◌, ◌≤◌, ◌⊎◌, inl, inr, refl, sym, ◌∙◌, ap, subst, List, [], ◌∷◌, ◌++◌, length, map, take, drop, Option, Some, None, Result, Ok, Err, arith}
 use Rattle.std.proofs.lemmas.Option.{slice_get_within}
-use Rattle.std.proofs.lemmas.List.{append-nil, length-map}
+use Rattle.std.proofs.lemmas.List.{append-nil, length-map, map-append}
 use Rattle.std.specs.Prelude.{slice_get, zip, IfErr, IfSome, IsErrOf, IsOk, OnOk}
 use Rattle.std.specs.List.{AllZip}
 use Rattle.std.specs.Result.{result_and}
@@ -21,17 +21,19 @@ use Rattle.get_exchange.specs.Gets.{get_turns, AreRead, HasGot, IsGetPlanned}
 use Rattle.get_exchange.specs.Logs.{told_in, HasReadParts, HasReadTurns, HasTaken, HaveTakenTurns, IsKept, IsReadOf, Log}
 use Rattle.exchange_crew.specs.Plan.{IsDomainOf}
 use Rattle.exchange_crew.specs.Parts.{PartState}
-use Rattle.get_exchange.specs.Shelves.{domain_of, part_of, turns_due, IsToldToGo}
+use Rattle.get_exchange.specs.Shelves.{domain_of, part_of, turns_due, IsFresh}
 use Rattle.exchange_crew.specs.Turns.{Told}
 use Rattle.get_exchange.specs.declared.reading.Reading.{Reading}
 use Rattle.get_exchange.specs.declared.reading.Reading.TheVariants.{Hull}
-use Rattle.get_exchange.specs.declared.starting.ReadWorker.{ReadWorker}
+use Rattle.get_exchange.specs.declared.handing.ReadWorker.{ReadWorker}
 use Rattle.exchange_crew.specs.declared.plan.GetPlan.{GetPlan}
-use Rattle.exchange_crew.proofs.CrewLaws.{stay_of, AreOf, Keeps, StayOf}
+use Rattle.exchange_crew.proofs.BackLaws.{map_new}
+use Rattle.exchange_crew.proofs.CrewLaws.{AreOf}
+use Rattle.exchange_crew.proofs.SplitLaws.{zip_split}
 use Rattle.exchange_crew.proofs.DomainTurns.{domain_part, domain_windows}
 use Rattle.get_exchange.proofs.FetchLaws.{got_later}
 use Rattle.get_exchange.proofs.ReadLaws.{log_joined, read_law}
-use Rattle.get_exchange.proofs.TakeLaws.{items_read, IsReady}
+use Rattle.get_exchange.proofs.TakeLaws.{items_read}
 
 -- ---- part after part
 
@@ -84,18 +86,46 @@ parts_on from held plan pairs more pair old mid now (Err y) (Ok x) e ok h t = ab
 parts_on {D} from held plan pairs more pair old mid now (Ok y) (Ok x) e ok h t =
     subst (λ (ps : List (D × Extent)). HasReadParts from held plan ps old now) (sym e) (parts_more from held plan pairs pair old mid now h t)
 
+-- the first parts, and those behind them
+parts_both : {D : Type 0} (from : D → ℕ) (held : D → Option (List ℕ)) (plan : GetPlan) (pairs more : List (D × Extent)) (old mid now : List (List (List ℕ)))
+    → HasReadParts from held plan pairs old mid → HasReadParts from held plan more mid now → HasReadParts from held plan (pairs ++ more) old now
+parts_both {D} from held plan pairs more old mid now h t = record {
+  log = h.log ++ t.log;
+  collected = log_joined plan.list.now h.log t.log old mid now h.collected t.collected;
+  all = λ p u m k. subst (λ (ts : List Told). In ts u) (sym (map-append (λ (e : Told × List ℕ). e.0) h.log t.log)) (elim (in_either pairs more p m) [
+    | inl g ↦ in_left (told_in h.log) (told_in t.log) u (h.all p u g k)
+    | inr g ↦ in_right (told_in h.log) (told_in t.log) u (t.all p u g k)
+  ]);
+  only = λ e m. elim (in_either h.log t.log e m) [
+    | inl g ↦ (let r = h.only e g in record { pair = r.pair; inside = in_left pairs more r.pair r.inside; turn = r.turn; told = r.told })
+    | inr g ↦ (let r = t.only e g in record { pair = r.pair; inside = in_right pairs more r.pair r.inside; turn = r.turn; told = r.told })
+  ];
+}
+
+-- as long as nothing was refused
+pub parts_joined : {D T U V E : Type 0} (from : D → ℕ) (held : D → Option (List ℕ)) (plan : GetPlan) (k : ℕ) (parts : List D) (domains : List Extent) (old mid now : List (List (List ℕ)))
+    (end : Result T E) (came : Result U E) (both : Result V E) → length domains ≡ length parts → OnOk both (IsOk end) → OnOk both (IsOk came)
+    → OnOk end (HasReadParts from held plan (zip (take k parts) (take k domains)) old mid) → OnOk came (HasReadParts from held plan (zip (drop k parts) (drop k domains)) mid now)
+    → OnOk both (HasReadParts from held plan (zip parts domains) old now)
+parts_joined from held plan k parts domains old mid now end came (Err x) long first second h t = tt
+parts_joined from held plan k parts domains old mid now (Err y) came (Ok x) long first second h t = absurd cc
+parts_joined from held plan k parts domains old mid now (Ok z) (Err y) (Ok x) long first second h t = absurd cc
+parts_joined {D} from held plan k parts domains old mid now (Ok z) (Ok y) (Ok x) long first second h t =
+    subst (λ (ps : List (D × Extent)). HasReadParts from held plan ps old now) (sym (zip_split k parts domains long))
+    (parts_both from held plan (zip (take k parts) (take k domains)) (zip (drop k parts) (drop k domains)) old mid now h t)
+
 -- ---- helpers of which all was taken
 
-own_told : {D : Type 0} (plan : GetPlan) (mid last : ReadWorker D) (own : Log) → IsReady plan mid → IsKept mid last → turns_due last.shelf ≡ [] → HasTaken own mid.shelf last.shelf
+own_told : {D : Type 0} (plan : GetPlan) (mid last : ReadWorker D) (own : Log) → IsFresh plan mid → IsKept mid last → turns_due last.shelf ≡ [] → HasTaken own mid.shelf last.shelf
     → told_in own ≡ get_turns plan (domain_of last)
 own_told plan mid last own r k none t =
     sym (append-nil (told_in own))
     ∙ ap (λ (ts : List Told). told_in own ++ ts) (sym none)
     ∙ t.turns
     ∙ r.due
-    ∙ sym (ap (λ helper. get_turns plan helper.child.promise.domain.value) k.helper)
+    ∙ sym (ap (λ helper. get_turns plan helper.domain) k.helper)
 
-own_read : {D : Type 0} (from : D → ℕ) (held : D → Option (List ℕ)) (plan : GetPlan) (mid last : ReadWorker D) (own : Log) → IsReady plan mid → IsKept mid last → turns_due last.shelf ≡ []
+own_read : {D : Type 0} (from : D → ℕ) (held : D → Option (List ℕ)) (plan : GetPlan) (mid last : ReadWorker D) (own : Log) → IsFresh plan mid → IsKept mid last → turns_due last.shelf ≡ []
     → HasTaken own mid.shelf last.shelf → AreRead (get_turns plan (domain_of last)) (from (part_of last)) (held (part_of last)) last.shelf.line.items
     → IfSome (held (part_of last)) (λ file. (e : Told × List ℕ) → In own e → e.1 ≡ read file (e.0.0 - from (part_of last)) e.0.1)
 own_read from held plan mid last own r k none t read =
@@ -104,7 +134,7 @@ own_read from held plan mid last own r k none t read =
     (subst (λ (ts : List Told). AreRead ts (from (part_of last)) (held (part_of last)) last.shelf.line.items) (sym (own_told plan mid last own r k none t)) read)
 
 pub workers_read : {D : Type 0} (from : D → ℕ) (held : D → Option (List ℕ)) (plan : GetPlan) (mids lasts : List (ReadWorker D)) (old now : List (List (List ℕ))) → length lasts ≡ length mids
-    → ((worker : ReadWorker D) → In mids worker → IsReady plan worker)
+    → ((worker : ReadWorker D) → In mids worker → IsFresh plan worker)
     → ((k : ℕ) (a b : ReadWorker D) → slice_get mids k ≡ Some a → slice_get lasts k ≡ Some b → IsKept a b)
     → ((k : ℕ) (worker : ReadWorker D) → slice_get lasts k ≡ Some worker → turns_due worker.shelf ≡ [])
     → HaveTakenTurns plan.list.now mids lasts old now
@@ -210,14 +240,16 @@ parts_done from len held plan parts domains file old now (Ok x) p long each whol
 
 -- ---- the helpers of all parts
 
-told_stays : {D : Type 0} → Keeps {S = ReadWorker D} (λ worker. part_of worker) (λ worker. domain_of worker) (λ a b. IsToldToGo a b)
-told_stays a b t = (ap (λ child. child.promise.ends.value.part) t.child, ap (λ child. child.promise.domain.value) t.child)
+-- each keeps its part and its domain
+pub kept_parts : {D : Type 0} (old new : List (ReadWorker D)) → length new ≡ length old → ((k : ℕ) (a b : ReadWorker D) → slice_get old k ≡ Some a → slice_get new k ≡ Some b → IsKept a b)
+    → map (λ worker. part_of worker) new ≡ map (λ worker. part_of worker) old
+kept_parts old new long kept =
+    map_new (λ worker. part_of worker) (λ a b. IsKept a b) old new long kept (λ a b k. ap (λ helper. helper.awaited.ends.value.part) k.helper)
 
-kept_stays : {D : Type 0} → Keeps {S = ReadWorker D} (λ worker. part_of worker) (λ worker. domain_of worker) (λ a b. IsKept a b)
-kept_stays a b k = (ap (λ helper. helper.child.promise.ends.value.part) k.helper, ap (λ helper. helper.child.promise.domain.value) k.helper)
-
-pub taken_of : {D : Type 0} → StayOf {S = ReadWorker D} (λ worker. part_of worker) (λ worker. domain_of worker) (λ a b. IsToldToGo a b) (λ a b. IsKept a b)
-taken_of = stay_of (λ worker. part_of worker) (λ worker. domain_of worker) (λ a b. IsToldToGo a b) (λ a b. IsKept a b) told_stays kept_stays
+pub kept_domains : {D : Type 0} (old new : List (ReadWorker D)) → length new ≡ length old → ((k : ℕ) (a b : ReadWorker D) → slice_get old k ≡ Some a → slice_get new k ≡ Some b → IsKept a b)
+    → map (λ worker. domain_of worker) new ≡ map (λ worker. domain_of worker) old
+kept_domains old new long kept =
+    map_new (λ worker. domain_of worker) (λ a b. IsKept a b) old new long kept (λ a b k. ap (λ helper. helper.domain) k.helper)
 
 -- reads that were done, where the later end is no better
 pub all_got_later : {D T E : Type 0} (turns : D × Extent → List Told) (state : D → PartState) (pairs : List (D × Extent)) (back : List D) (end came : Result T E) → OnOk came (IsOk end)
@@ -230,7 +262,7 @@ all_got_later turns state (p ∷ pairs) (d ∷ back) end came ok h =
 
 pub all_read : {D T E : Type 0} (from : D → ℕ) (held : D → Option (List ℕ)) (plan : GetPlan) (mid last : List (ReadWorker D)) (parts : List D) (domains : List Extent)
     (old now : List (List (List ℕ))) (end came : Result T E) → AreOf (λ worker. part_of worker) (λ worker. domain_of worker) last parts domains → length last ≡ length mid
-    → ((worker : ReadWorker D) → In mid worker → IsReady plan worker) → ((k : ℕ) (a b : ReadWorker D) → slice_get mid k ≡ Some a → slice_get last k ≡ Some b → IsKept a b)
+    → ((worker : ReadWorker D) → In mid worker → IsFresh plan worker) → ((k : ℕ) (a b : ReadWorker D) → slice_get mid k ≡ Some a → slice_get last k ≡ Some b → IsKept a b)
     → ((k : ℕ) (worker : ReadWorker D) → slice_get last k ≡ Some worker → turns_due worker.shelf ≡ [])
     → OnOk came (HaveTakenTurns plan.list.now mid last old now)
     → OnOk end ((worker : ReadWorker D) → In last worker → AreRead (get_turns plan (domain_of worker)) (from (part_of worker)) (held (part_of worker)) worker.shelf.line.items)

@@ -12,17 +12,17 @@ use Rattle.nc_outside.specs.declared.disk.DiskErr.TheVariants.{Memory}
 use Rattle.serial_spec.specs.File.{read}
 use Rattle.overlay_laws.specs.Entries.{In}
 use Rattle.overlay_laws.proofs.HullLaws.{in_either, in_left, in_right}
-use Rattle.get_exchange.specs.Shelves.{domain_of, turns_due, IsFresh, IsStartedFor, IsSent, IsShelf, IsToldToGo}
+use Rattle.get_exchange.specs.Shelves.{domain_of, turns_due, IsFresh, IsStartedFor}
 use Rattle.get_exchange.specs.Blobs.{FitTable, HasCollected, HaveOnePlaces}
 use Rattle.exchange_crew.specs.Cursor.{AreServed}
 use Rattle.get_exchange.specs.Gets.{get_turns, reading_of, AreRead}
-use Rattle.get_exchange.specs.Logs.{told_in, HasTaken, HasTakenOf, HasTakenTurn, HaveTakenTurns, IsKept, IsShelfIn, IsTakenOf, Log}
+use Rattle.get_exchange.specs.Logs.{told_in, HasTaken, HasTakenOf, HasTakenTurn, HaveTakenTurns, IsKept, IsTakenOf, Log}
+use Rattle.aggregator_rounds.specs.Pieces.{told_window}
 use Rattle.exchange_crew.specs.Turns.{Told}
-use Rattle.exchange_crew.specs.declared.crew.Word.TheVariants.{Go}
 use Rattle.get_exchange.specs.declared.reading.Reading.{Reading}
 use Rattle.get_exchange.specs.declared.reading.Reading.TheVariants.{Hull}
 use Rattle.get_exchange.specs.declared.shelf.Shelf.{Shelf}
-use Rattle.get_exchange.specs.declared.starting.ReadWorker.{ReadWorker}
+use Rattle.get_exchange.specs.declared.handing.ReadWorker.{ReadWorker}
 use Rattle.exchange_crew.specs.declared.plan.GetPlan.{GetPlan}
 use Rattle.exchange_crew.proofs.BackLaws.{each_new}
 use Rattle.exchange_crew.proofs.OneChanged.{set_each}
@@ -176,51 +176,16 @@ items_read from held own items is taken = by_held held (taken.whole long)
     by_held None w = tt
     by_held (Some file) w = each_read from file own (sym is ∙ w)
 
--- a helper that was told to go, and of which nothing was taken
-pub record IsReady {D : Type 0} (plan : GetPlan) (worker : ReadWorker D) : Type 0 where
-  pub started : IsStartedFor plan worker
-  pub word : worker.helper.word.items ≡ Go ∷ []
-  pub ready : IsShelfIn plan.list.now worker.shelf
-  pub taken : worker.shelf.line.items ≡ []
-  pub due : turns_due worker.shelf ≡ get_turns plan (domain_of worker)
-
-go_worker : {D : Type 0} (plan : GetPlan) (old new : ReadWorker D) → IsToldToGo old new → IsFresh plan old → IsReady plan new
-go_worker plan old new t f =
+kept_worker : {D : Type 0} (plan : GetPlan) (old new : ReadWorker D) → IsKept old new → IsFresh plan old → IsStartedFor plan new
+kept_worker plan old new k f =
     let s = f.started in
     record {
-      started = record {
-        cover = ap (λ child. child.promise.cover.value) t.child ∙ s.cover;
-        size = ap (λ child. child.promise.size.value) t.child ∙ s.size;
-        word_of = t.of ∙ s.word_of ∙ sym (ap (λ child. child.promise.ends.value.word.of) t.child);
-        line_of = ap (λ child. child.promise.ends.value.lines.line.of) t.child ∙ s.line_of ∙ sym (ap (λ (shelf : Shelf). shelf.line.of) t.shelf);
-      };
-      word = t.words ∙ ap (λ words. words ++ Go ∷ []) f.word;
-      ready = (min plan.hints.now.cb_buffer (domain_of old).len, subst (λ (shelf : Shelf). IsShelf plan.list.now (min plan.hints.now.cb_buffer (domain_of old).len) shelf) (sym t.shelf) f.ready);
-      taken = ap (λ (shelf : Shelf). shelf.line.items) t.shelf ∙ f.taken;
-      due = ap (λ (shelf : Shelf). turns_due shelf) t.shelf ∙ f.due ∙ sym (ap (λ child. get_turns plan child.promise.domain.value) t.child);
+      windows = ap (λ helper. map told_window helper.awaited.windows.value.items) k.helper ∙ s.windows ∙ sym (ap (λ helper. get_turns plan helper.domain) k.helper);
+      line_of = ap (λ helper. helper.awaited.ends.value.lines.line.of) k.helper ∙ s.line_of ∙ sym k.of;
     }
 
-pub ready_workers : {D : Type 0} (plan : GetPlan) (old new : List (ReadWorker D)) → length new ≡ length old
-    → ((k : ℕ) (a b : ReadWorker D) → slice_get old k ≡ Some a → slice_get new k ≡ Some b → IsToldToGo a b) → ((worker : ReadWorker D) → In old worker → IsFresh plan worker)
-    → (worker : ReadWorker D) → In new worker → IsReady plan worker
-ready_workers plan old new long told fresh =
-    each_new (λ worker. IsFresh plan worker) (λ worker. IsReady plan worker) (λ a b. IsToldToGo a b) old new long told fresh (λ a b t f. go_worker plan a b t f)
-
-kept_worker : {D : Type 0} (plan : GetPlan) (old new : ReadWorker D) → IsKept old new → IsReady plan old → IsSent plan new
-kept_worker plan old new k r =
-    let s = r.started in
-    record {
-      started = record {
-        cover = ap (λ helper. helper.child.promise.cover.value) k.helper ∙ s.cover;
-        size = ap (λ helper. helper.child.promise.size.value) k.helper ∙ s.size;
-        word_of = ap (λ helper. helper.word.of) k.helper ∙ s.word_of ∙ sym (ap (λ helper. helper.child.promise.ends.value.word.of) k.helper);
-        line_of = ap (λ helper. helper.child.promise.ends.value.lines.line.of) k.helper ∙ s.line_of ∙ sym k.of;
-      };
-      word = ap (λ helper. helper.word.items) k.helper ∙ r.word;
-    }
-
-pub sent_workers : {D : Type 0} (plan : GetPlan) (old new : List (ReadWorker D)) → length new ≡ length old
-    → ((k : ℕ) (a b : ReadWorker D) → slice_get old k ≡ Some a → slice_get new k ≡ Some b → IsKept a b) → ((worker : ReadWorker D) → In old worker → IsReady plan worker)
-    → (worker : ReadWorker D) → In new worker → IsSent plan worker
-sent_workers plan old new long kept ready =
-    each_new (λ worker. IsReady plan worker) (λ worker. IsSent plan worker) (λ a b. IsKept a b) old new long kept ready (λ a b k r. kept_worker plan a b k r)
+pub kept_workers : {D : Type 0} (plan : GetPlan) (old new : List (ReadWorker D)) → length new ≡ length old
+    → ((k : ℕ) (a b : ReadWorker D) → slice_get old k ≡ Some a → slice_get new k ≡ Some b → IsKept a b) → ((worker : ReadWorker D) → In old worker → IsFresh plan worker)
+    → (worker : ReadWorker D) → In new worker → IsStartedFor plan worker
+kept_workers plan old new long kept fresh =
+    each_new (λ worker. IsFresh plan worker) (λ worker. IsStartedFor plan worker) (λ a b. IsKept a b) old new long kept fresh (λ a b k f. kept_worker plan a b k f)

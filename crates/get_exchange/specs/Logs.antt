@@ -27,7 +27,7 @@ use Rattle.get_exchange.specs.Shelves.{turns_due, IsShelf}
 use Rattle.exchange_crew.specs.Turns.{Told}
 use Rattle.get_exchange.specs.declared.reading.Reading.TheVariants.{Hull}
 use Rattle.get_exchange.specs.declared.shelf.Shelf.{Shelf}
-use Rattle.get_exchange.specs.declared.starting.ReadWorker.{ReadWorker}
+use Rattle.get_exchange.specs.declared.handing.ReadWorker.{ReadWorker}
 use Rattle.exchange_crew.specs.declared.plan.GetPlan.{GetPlan}
 
 abbrev pub Log : Type 0

@@ -3,11 +3,9 @@
 --     IsShelf list room shelf     what holds of a shelf at every moment
 --     part_of worker              the part that the helper was given
 --     domain_of worker            the bytes that it serves
---     IsStartedFor plan worker    it was started for the plan, and has the other ends of these lines
---     IsFresh plan worker         it was told nothing, and all windows of its domain are left to be taken
---     IsSent plan worker          it was told to go
---     IsToldToGo old new          it was told to go, and nothing else was done
-use Rattle.std.specs.Prelude.{◌≡◌, ℕ, ◌++◌, ◌∷◌, [], min, List, Option, Some, None}
+--     IsStartedFor plan worker    its job is that of the plan, and it has the other end of this line
+--     IsFresh plan worker         nothing was taken of it, and all windows of its domain are due
+use Rattle.std.specs.Prelude.{◌≡◌, ℕ, ◌∷◌, [], map, min, List, Option, Some, None}
 use Rattle.nc_base.specs.declared.plan.Extent.{Extent}
 use Rattle.nc_base.specs.declared.plan.Owned.{Owned}
 use Rattle.file_domains.specs.Rounds.{IsWalk}
@@ -18,9 +16,8 @@ use Rattle.aggregator_rounds.specs.Left.{entries_left}
 use Rattle.exchange_crew.specs.Cursor.{IsAt}
 use Rattle.get_exchange.specs.Gets.{get_turns}
 use Rattle.exchange_crew.specs.Turns.{Told, turns_ahead}
-use Rattle.exchange_crew.specs.declared.crew.Word.TheVariants.{Go}
 use Rattle.get_exchange.specs.declared.shelf.Shelf.{Shelf}
-use Rattle.get_exchange.specs.declared.starting.ReadWorker.{ReadWorker}
+use Rattle.get_exchange.specs.declared.handing.ReadWorker.{ReadWorker}
 use Rattle.get_exchange.specs.declared.walk.ReadWalk.{ReadWalk}
 use Rattle.exchange_crew.specs.declared.plan.GetPlan.{GetPlan}
 
@@ -46,30 +43,17 @@ IsShelf list room s = IsShelfOf list room s.next s.walk
 -- ---- workers
 
 abbrev pub part_of : {D : Type 0} → ReadWorker D → D
-part_of worker = worker.helper.child.promise.ends.value.part
+part_of worker = worker.helper.awaited.ends.value.part
 
 abbrev pub domain_of : {D : Type 0} → ReadWorker D → Extent
-domain_of worker = worker.helper.child.promise.domain.value
+domain_of worker = worker.helper.domain
 
 pub record IsStartedFor {D : Type 0} (plan : GetPlan) (worker : ReadWorker D) : Type 0 where
-  pub cover : worker.helper.child.promise.cover.value ≡ plan.cover.now
-  pub size : worker.helper.child.promise.size.value ≡ plan.hints.now.cb_buffer
-  pub word_of : worker.helper.word.of ≡ worker.helper.child.promise.ends.value.word.of
-  pub line_of : worker.helper.child.promise.ends.value.lines.line.of ≡ worker.shelf.line.of
+  pub windows : map told_window worker.helper.awaited.windows.value.items ≡ get_turns plan (domain_of worker)
+  pub line_of : worker.helper.awaited.ends.value.lines.line.of ≡ worker.shelf.line.of
 
 pub record IsFresh {D : Type 0} (plan : GetPlan) (worker : ReadWorker D) : Type 0 where
   pub started : IsStartedFor plan worker
-  pub word : worker.helper.word.items ≡ []
   pub ready : IsShelf plan.list.now (min plan.hints.now.cb_buffer (domain_of worker).len) worker.shelf
   pub taken : worker.shelf.line.items ≡ []
   pub due : turns_due worker.shelf ≡ get_turns plan (domain_of worker)
-
-pub record IsSent {D : Type 0} (plan : GetPlan) (worker : ReadWorker D) : Type 0 where
-  pub started : IsStartedFor plan worker
-  pub word : worker.helper.word.items ≡ Go ∷ []
-
-pub record IsToldToGo {D : Type 0} (old new : ReadWorker D) : Type 0 where
-  pub child : new.helper.child ≡ old.helper.child
-  pub shelf : new.shelf ≡ old.shelf
-  pub of : new.helper.word.of ≡ old.helper.word.of
-  pub words : new.helper.word.items ≡ old.helper.word.items ++ Go ∷ []

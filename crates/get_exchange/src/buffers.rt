@@ -3,7 +3,7 @@ ghost use Rattle.std.specs.Prelude.{◌≡◌, ◌<◌, ℕ, length, slice_get, 
 ghost use Rattle.get_exchange.specs.Gets.{IsGetPlanned};
 ghost use Rattle.get_exchange.specs.Lenders.{AreReady, IsReady};
 
-use exchange_crew::{GetPlan, Tools};
+use exchange_crew::GetPlan;
 use file_domains::{Window, WindowWalk, windows};
 use nc_base::{Blob, Extent, Memory};
 use ruled_line::{LinePut, LineTake, line};
@@ -27,14 +27,16 @@ pub(crate) struct Lenders<'a> {
     pub each: Vec<Lender<'a>>,
 }
 
-/// The lenders, and the helpers' ends of their lines, the last one first.
+/// The lenders, the helpers' ends of their lines, the last one first, and the blobs that go round.
 #[derive(Drop)]
 pub(crate) struct Lending<'a> {
     pub lenders: Lenders<'a>,
     pub spares: Vec<LineTake<Blob>>,
+    pub blobs: Vec<Blob>,
 }
 
-/// A line for each domain, on which nothing was lent yet.
+/// A line for each domain, on which nothing was lent yet, and blobs, each with room for the longest hull of all: one for each item that a
+/// line may hold, but no more than there are domains. So many windows are read side by side.
 pub(crate) fn lending_of<'a>(
     alloc: Global,
     plan: &GetPlan<'a>,
@@ -54,7 +56,21 @@ pub(crate) fn lending_of<'a>(
     Ok(Lending {
         lenders: Lenders { each },
         spares,
+        blobs: make_blobs(alloc, plan, domains)?,
     })
+}
+
+// Blobs that go round.
+fn make_blobs(alloc: Global, plan: &GetPlan, domains: &[Extent]) -> Result<Vec<Blob>, Memory>
+    requires { IsGetPlanned plan.now }
+{
+    let longest = longest_hull(plan, domains) as usize;
+    let count = domains.len().min(plan.hints.line_room as usize);
+    let mut blobs = Vec::new(alloc);
+    for _ in 0..count {
+        blobs.push(Blob::with_capacity(alloc, longest)?)?;
+    }
+    Ok(blobs)
 }
 
 impl<'a> Lender<'a> {
@@ -112,24 +128,22 @@ impl<'a> Lenders<'a> {
     ghost use Rattle.get_exchange.specs.Gets.{IsGetPlanned};
     ghost use Rattle.get_exchange.specs.Lenders.{AreReady};
 
-    /// Makes blobs, each with room for the longest hull of all, and lends them: one for each item that a line may hold, but no more than
-    /// one to a helper. So many windows are read side by side.
-    pub fn lend_first<R: Wait, G>(
-        &mut self,
-        tools: &Tools<R, G>,
-        plan: &GetPlan,
-        domains: &[Extent],
-    ) -> Result<(), Memory>
-        requires plan { IsGetPlanned plan.now }
-        requires ready { AreReady self.old.each.items }
+    /// Leaves those of the first so many helpers. The others have none.
+    pub fn keep(&mut self, count: usize)
+        requires { AreReady self.old.each.items }
         ensures { AreReady self.new.each.items }
     {
-        let longest = longest_hull(plan, domains) as usize;
-        let count = plan.hints.line_room as usize;
-        for _ in 0..count.min(self.each.len()) {
-            self.lend(tools.rt, Blob::with_capacity(tools.alloc, longest)?);
+        self.each.truncate(count);
+    }
+
+    /// Lends each blob, where a helper is left without one.
+    pub fn lend_first<R: Wait>(&mut self, rt: &R, blobs: Vec<Blob>)
+        requires { AreReady self.old.each.items }
+        ensures { AreReady self.new.each.items }
+    {
+        for blob in blobs {
+            self.lend(rt, blob);
         }
-        Ok(())
     }
 
     /// The blob of the helper with this number came back. One that has ended reads no more windows.

@@ -9,12 +9,12 @@ ghost use Rattle.get_exchange.specs.Gets.{entries_in, IsGetPlanned};
 ghost use Rattle.get_exchange.specs.Lenders.{AreReady};
 ghost use Rattle.get_exchange.specs.Logs.{HasTakenTurn, HaveTakenTurns, IsKept, IsShelfIn};
 ghost use Rattle.get_exchange.specs.Shelves.{turns_due};
-ghost use Rattle.get_exchange.specs.declared.starting.ReadWorker.{ReadWorker};
+ghost use Rattle.get_exchange.specs.declared.handing.ReadWorker.{ReadWorker};
 
 use crate::buffers::Lenders;
+use crate::handing::ReadWorker;
 use crate::reading::Reading;
 use crate::shelf::Shelf;
-use crate::starting::ReadWorker;
 use crate::walk::ReadTurn;
 use aggregator_rounds::collect_entry;
 use exchange_crew::{GetPlan, next_window};

@@ -1,130 +1,101 @@
-// One helper's thread, which waits for its word.
-ghost use Rattle.std.specs.Prelude.{◌≡◌, [], None, IfOk, IfErr};
+// The job of a helper of gets: the windows that it reads, and what it reads them by.
+ghost use Rattle.std.specs.Prelude.{◌≡◌, [], map};
+ghost use Rattle.std.specs.Option.{ForSome};
+ghost use Rattle.aggregator_rounds.specs.Pieces.{told_window};
+ghost use Rattle.exchange_crew.specs.Hulls.{LieOnPart};
 ghost use Rattle.get_exchange.specs.Fetched.{HasGivenBack};
-ghost use Rattle.get_exchange.specs.Gets.{get_turns, IsGetPlanned};
-ghost use Rattle.exchange_crew.specs.Plan.{IsDomainOf};
-ghost use Rattle.exchange_crew.specs.Turns.{turns_of};
 
 use crate::reading::{Reading, read_part};
-use core::thread::Stack;
-use exchange_crew::{Aggregator, Ends, GetPlan, Returned, STACK_SIZE, Tools, Word, stopped};
-use nc_base::{Blob, Extent, ExtentList};
+use exchange_crew::{PartBack, PartEnds, Tools};
+use file_domains::Window;
+use nc_base::Blob;
 use nc_outside::{Disk, Gate};
+use promised_reply::Answer;
 use ruled_line::{LinePut, LineTake};
+use std::marker::Model;
 use std::snapshot::Snapshot;
 use std::sync::Wait;
-use std::thread::{Promise, PromisedHandle, Scope, Threads};
+use std::thread::Promise;
 
 /// What a helper of gets serves its part by: the line of what it reads, and the line on which blobs come back to it.
 #[derive(Drop)]
-pub(crate) struct GetLines {
+pub struct GetLines {
     pub line: LinePut<Reading>,
     pub spare: LineTake<Blob>,
 }
 
-/// A helper reads its part of the step by the ends that it was given, or leaves the part as it is, and gives the ends back.
+/// A helper reads these windows of its part, and gives the ends back.
 #[derive(Drop)]
-pub(crate) struct GetDuty<D: Drop> {
-    cover: Snapshot<ExtentList>,
-    size: Snapshot<u64>,
-    domain: Snapshot<Extent>,
-    ends: Snapshot<Ends<D, GetLines>>,
+pub struct GetDuty<D: Drop> {
+    pub windows: Snapshot<Vec<Window>>,
+    pub ends: Snapshot<PartEnds<D, GetLines>>,
 }
 
-impl<D: Disk> Promise<Returned<D, GetLines>> for GetDuty<D> {
-    ghost kept_by = { λ p r. HasGivenBack D.Disk (turns_of p.size.value p.domain.value p.cover.value) p.ends.value r
-        × (r.end ≡ None → r.ends.part ≡ p.ends.value.part) };
+impl<D: Disk> Promise<PartBack<D, GetLines>> for GetDuty<D> {
+    ghost kept_by = { λ duty back. HasGivenBack D.Disk (map told_window duty.windows.value.items) duty.ends.value back };
 }
 
-/// What the calling thread has of a helper's thread.
+/// A part on its way to the helper that reads it. Contracts see what the helper serves it by; the rest is for the helper, which knows by
+/// this type that the windows lie on the part, that nothing was put on the line, and that the answer is promised for both.
 #[derive(Drop)]
-pub(crate) struct GetHelper<D: Disk> {
-    pub word: LinePut<Word>,
-    pub child: PromisedHandle<Returned<D, GetLines>, GetDuty<D>>,
+pub struct GetJob<D: Disk> {
+    pub number: u32,
+    pub windows: Vec<Window>,
+    pub ends: PartEnds<D, GetLines>,
+    pub answer: Answer<PartBack<D, GetLines>, GetDuty<D>>,
 }
 
-/// Starts a helper with these ends. Where no thread can be had, the part comes back as it was: this thread does what a helper does that
-/// is told to stop.
-pub(crate) fn start<'s, E, D: Disk + 's, G: Gate, R: Threads + Wait + Sync>(
-    scope: &'s Scope<'s, E>,
-    tools: &'s Tools<'s, R, G>,
-    plan: &'s GetPlan<'s>,
-    aggregator: Aggregator,
-    go: LinePut<Word>,
-    ends: Ends<D, GetLines>,
-) -> Result<GetHelper<D>, D>
-    requires plan { IsGetPlanned plan.now }
-    requires domain { IsDomainOf plan.now.list.now (D.from ends.part) (D.len ends.part) aggregator.domain }
-    requires of { go.of ≡ ends.word.of }
-    requires go { go.items ≡ [] }
-    requires word { ends.word.items ≡ [] }
-    requires line { ends.lines.line.items ≡ [] }
-    ensures cover { IfOk result (λ h. h.child.promise.cover.value ≡ plan.now.cover.now) }
-    ensures size { IfOk result (λ h. h.child.promise.size.value ≡ plan.now.hints.now.cb_buffer) }
-    ensures domain { IfOk result (λ h. h.child.promise.domain.value ≡ aggregator.domain) }
-    ensures ends { IfOk result (λ h. h.child.promise.ends.value ≡ ends) }
-    ensures word { IfOk result (λ h. h.word ≡ go) }
-    ensures kept { IfErr result (λ part. part ≡ ends.part) }
-{
-    let duty = GetDuty {
-        cover: Snapshot::of(plan.cover),
-        size: Snapshot::of(&plan.hints.cb_buffer),
-        domain: Snapshot::of(&aggregator.domain),
-        ends: Snapshot::of(&ends),
-    };
-    let work = move || -> Returned<D, GetLines>
-        requires { IsGetPlanned plan.now × IsDomainOf plan.now.list.now (D.from ends.part) (D.len ends.part) aggregator.domain
-            × (ends.word.items ≡ []) × (ends.lines.line.items ≡ []) }
-    { take_part(tools, plan, aggregator, ends) };
-    match Stack::new()
-        .stack_size(STACK_SIZE)
-        .spawn_scoped_with(scope, duty, work)
-    {
-        Ok(child) => Ok(GetHelper { word: go, child }),
-        Err(refused) => {
-            let mut go = go;
-            go.put(tools.rt, Word::Stop);
-            let work = refused.value;
-            Err(stopped(go, work()))
-        }
-    }
+impl<D: Disk> Model for GetJob<D> {
+    ghost use Rattle.std.specs.Prelude.{◌≡◌, [], map};
+    ghost use Rattle.std.specs.Option.{ForSome};
+    ghost use Rattle.aggregator_rounds.specs.Pieces.{told_window};
+    ghost use Rattle.exchange_crew.specs.Hulls.{LieOnPart};
+    ghost use Rattle.exchange_crew.specs.declared.errand.PartEnds.{PartEnds};
+    ghost use Rattle.get_exchange.specs.declared.helper.GetLines.{GetLines};
+
+    ghost Value = { PartEnds D GetLines };
+
+    ghost view = { λ job. job.ends };
+
+    ghost invariant = { λ job. LieOnPart (D.from job.ends.part) (D.len job.ends.part) (map told_window job.windows.items) × (job.ends.lines.line.items ≡ [])
+        × ForSome job.answer (λ duty. (duty.windows.value ≡ job.windows) × (duty.ends.value ≡ job.ends)) };
 }
 
-// What a helper's thread runs.
-fn take_part<R: Wait, D: Disk, G: Gate>(
+/// Does a job, and answers. The job comes in its parts: the kit does not cover a call that takes by value both a part and an answer whose
+/// promise is made of its type.
+pub fn serve<R: Wait, D: Disk, G: Gate>(
     tools: &Tools<R, G>,
-    plan: &GetPlan,
-    aggregator: Aggregator,
-    ends: Ends<D, GetLines>,
-) -> Returned<D, GetLines>
-    requires plan { IsGetPlanned plan.now }
-    requires domain { IsDomainOf plan.now.list.now (D.from ends.part) (D.len ends.part) aggregator.domain }
-    requires word { ends.word.items ≡ [] }
+    number: u32,
+    windows: Vec<Window>,
+    ends: PartEnds<D, GetLines>,
+    answer: Answer<PartBack<D, GetLines>, GetDuty<D>>,
+)
+    requires on_part { LieOnPart (D.from ends.part) (D.len ends.part) (map told_window windows.items) }
     requires line { ends.lines.line.items ≡ [] }
-    ensures returned { HasGivenBack D.Disk (get_turns plan.now aggregator.domain) ends result }
-    ensures untouched { result.end ≡ None → result.ends.part ≡ ends.part }
+    requires duty { ForSome answer (λ duty. (duty.windows.value ≡ windows) × (duty.ends.value ≡ ends)) }
 {
-    let Ends {
-        mut word,
+    let back = read_windows(tools, number, windows.as_slice(), ends);
+    answer.give(tools.rt, back);
+}
+
+// Reads the windows, and gives the ends back.
+fn read_windows<R: Wait, D: Disk, G: Gate>(
+    tools: &Tools<R, G>,
+    number: u32,
+    windows: &[Window],
+    ends: PartEnds<D, GetLines>,
+) -> PartBack<D, GetLines>
+    requires on_part { LieOnPart (D.from ends.part) (D.len ends.part) (map told_window windows.now) }
+    requires line { ends.lines.line.items ≡ [] }
+    ensures { HasGivenBack D.Disk (map told_window windows.now) ends result }
+{
+    let PartEnds {
         mut part,
         mut lines,
     } = ends;
-    let end = match word.take(tools.rt) {
-        Word::Go => {
-            let end = read_part(
-                tools,
-                plan,
-                aggregator,
-                &mut part,
-                &mut lines.spare,
-                &mut lines.line,
-            );
-            Some(end)
-        }
-        Word::Stop => None,
-    };
-    Returned {
-        ends: Ends { word, part, lines },
+    let end = read_part(tools, number, windows, &mut part, &mut lines);
+    PartBack {
+        ends: PartEnds { part, lines },
         end,
     }
 }

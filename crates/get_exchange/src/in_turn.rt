@@ -32,16 +32,17 @@ struct ReadRoom {
     buf: Vec<u8>,
 }
 
-/// Reads the parts one after another, by one buffer, up to the first fault. They come back in order.
+/// Reads the parts one after another, by one buffer, up to the first fault. They come back in order. The first has this number.
 pub(crate) fn get_in_turn<R: Wait, D: Disk, G: Gate>(
     tools: &Tools<R, G>,
     plan: &GetPlan,
+    first: u32,
     domains: &[Extent],
     parts: Vec<D>,
     into: &mut GotTable,
 ) -> (Vec<D>, Result<(), DiskErr>)
     requires plan { IsGetPlanned plan.now }
-    requires few { length domains.now ≤ 64 }
+    requires few { first + length domains.now ≤ 64 }
     requires one_each { length domains.now ≡ length parts.items }
     requires domains { (k : ℕ) (part : D) (domain : Extent) → slice_get parts.items k ≡ Some part → slice_get domains.now k ≡ Some domain → IsDomainOf plan.now.list.now (D.from part) (D.len part) domain }
     requires fit { FitTable into.old plan.now.list.now }
@@ -63,7 +64,7 @@ pub(crate) fn get_in_turn<R: Wait, D: Disk, G: Gate>(
         table: into.take().into_vec(),
         buf,
     };
-    let came = read_parts(tools, plan, domains, parts, back, &mut room);
+    let came = read_parts(tools, plan, first, domains, parts, back, &mut room);
     *into = GotTable::from_vec(room.table);
     came
 }
@@ -72,13 +73,14 @@ pub(crate) fn get_in_turn<R: Wait, D: Disk, G: Gate>(
 fn read_parts<R: Wait, D: Disk, G: Gate>(
     tools: &Tools<R, G>,
     plan: &GetPlan,
+    first: u32,
     domains: &[Extent],
     parts: Vec<D>,
     back: Vec<D>,
     room: &mut ReadRoom,
 ) -> (Vec<D>, Result<(), DiskErr>)
     requires plan { IsGetPlanned plan.now }
-    requires few { length domains.now ≤ 64 }
+    requires few { first + length domains.now ≤ 64 }
     requires one_each { length domains.now ≡ length parts.items }
     requires domains { (k : ℕ) (part : D) (domain : Extent) → slice_get parts.items k ≡ Some part → slice_get domains.now k ≡ Some domain → IsDomainOf plan.now.list.now (D.from part) (D.len part) domain }
     requires none { back.items ≡ [] }
@@ -97,7 +99,7 @@ fn read_parts<R: Wait, D: Disk, G: Gate>(
     for part in parts {
         let number = back.len();
         let aggregator = Aggregator {
-            number: number as u32,
+            number: first + number as u32,
             domain: domains[number],
         };
         let (part, came) = read_next(tools, plan, aggregator, part, room, end);

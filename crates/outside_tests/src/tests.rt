@@ -3,6 +3,7 @@ mod boards;
 mod disks;
 mod gates;
 mod lines;
+mod replies;
 mod streams;
 
 use nc_base::Blob;

@@ -6,7 +6,7 @@ use Rattle.nc_outside.specs.declared.disk.DiskErr.{DiskErr}
 use Rattle.nc_outside.specs.declared.disk.DiskErr.TheVariants.{Memory}
 use Rattle.get_exchange.specs.Logs.{HaveTakenTurns, IsKept, IsShelfIn}
 use Rattle.get_exchange.specs.Shelves.{turns_due}
-use Rattle.get_exchange.specs.declared.starting.ReadWorker.{ReadWorker}
+use Rattle.get_exchange.specs.declared.handing.ReadWorker.{ReadWorker}
 use Rattle.get_exchange.proofs.CollectLaws.{fit_as_long}
 use Rattle.exchange_crew.proofs.OneChanged.{fewer_all, set_each}
 use Rattle.get_exchange.proofs.TakeLaws.{both_memory, kept_more, kept_none, taken_none, taken_on}

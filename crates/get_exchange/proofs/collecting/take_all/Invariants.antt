@@ -6,7 +6,7 @@ use Rattle.get_exchange.specs.Blobs.{AreAsLong}
 use Rattle.get_exchange.specs.Lenders.{AreReady}
 use Rattle.get_exchange.specs.Logs.{HaveTakenTurns, IsKept, IsShelfIn}
 use Rattle.get_exchange.specs.Shelves.{turns_due}
-use Rattle.get_exchange.specs.declared.starting.ReadWorker.{ReadWorker}
+use Rattle.get_exchange.specs.declared.handing.ReadWorker.{ReadWorker}
 use Rattle.get_exchange.proofs.collecting.take_all.Given as goal
 
 abbrev pub invariant-rounds : goal.invariant-rounds

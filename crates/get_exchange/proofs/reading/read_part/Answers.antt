@@ -1,73 +1,91 @@
 -- Each window is read, and its hull put on the line.
-use Rattle.std.proofs.Common.{◌∙◌, ◌++◌, ◌∷◌, [], ℕ, List, ap, refl, arith}
+use Rattle.std.proofs.Common.{◌+◌, ◌∙◌, ◌++◌, ◌∷◌, [], ℕ, List, ap, refl, drop, map, false, get_or, arith}
+use Rattle.std.proofs.lemmas.List.{drop_all}
 use Rattle.aggregator_rounds.specs.Pieces.{told_window}
-use Rattle.get_exchange.specs.Gets.{get_turns}
+use Rattle.exchange_crew.proofs.BackLaws.{at_index}
+use Rattle.file_domains.specs.declared.walk.Window.{Window}
 use Rattle.get_exchange.specs.declared.reading.Reading.TheVariants.{Hull}
-use Rattle.get_exchange.proofs.FetchLaws.{fetch_begin, fetch_end, fetch_high, fetch_low, fetch_next, get_on}
+use Rattle.get_exchange.proofs.FetchLaws.{fetch_begin, fetch_end, fetch_high, fetch_low, fetch_next, windows_left}
 use Rattle.get_exchange.proofs.reading.read_part.Goals as goal
 
-pub turns-init : goal.turns-init
-turns-init g c =
-    let plan = c.args.plan.now in
-    let from = g.D.Disk.from c.args.part.now in
-    let len = g.D.Disk.len c.args.part.now in
-    record {
-      of = refl;
-      spare_of = refl;
-      fetching = fetch_begin from len (get_turns plan c.args.aggregator.domain) c.domain_windows-walk.result c.args.line.now.items (g.D.Disk.held c.args.part.now) (g.D.Disk.calls c.args.part.now)
-          c.domain_windows-walk.ensures.ready c.domain_windows-walk.ensures.windows
-          (get_on plan.list.now plan.cover.now plan.hints.now.cb_buffer from len c.args.aggregator.domain c.requires.plan c.requires.domain) c.requires.empty;
-      held = refl;
-      from = refl;
-      len = refl;
-      later = omega arith;
-    }
+abbrev none : Window
+none = record { round = 0; hull = record { at = 0; len = 0 }; full = false }
+
+pub loop-window-init : goal.loop-window-init
+loop-window-init g c = record {
+  of = refl;
+  fetching = fetch_begin (g.D.Disk.from c.args.part.now) (g.D.Disk.len c.args.part.now) (map told_window c.args.windows.now) c.args.lines.now.line.items (g.D.Disk.held c.args.part.now) (g.D.Disk.calls c.args.part.now)
+      c.requires.on_part c.requires.empty;
+  held = refl;
+  from = refl;
+  len = refl;
+  later = omega arith;
+}
 
 pub read_turn-requires-clause-low : goal.read_turn-requires-clause-low
 read_turn-requires-clause-low g c κs within =
-    fetch_low (g.D.Disk.from c.args.part.now) (g.D.Disk.from c.turns.part) (g.D.Disk.len c.args.part.now) (get_turns c.args.plan.now c.args.aggregator.domain) c.turns.walk c.next_window.new.windows
-    (told_window c.in-Some.window) c.turns.line.items (g.D.Disk.held c.args.part.now) (g.D.Disk.calls c.args.part.now) (g.D.Disk.calls c.turns.part)
-    c.turns.invariant.fetching c.in-Some.ensures.some c.turns.invariant.from
+    let windows = c.args.windows.now in
+    let i = c.loop-window.window-index in
+    let window = get_or windows i none in
+    fetch_low (g.D.Disk.from c.args.part.now) (g.D.Disk.from c.loop-window.part) (g.D.Disk.len c.args.part.now) (map told_window windows) (map told_window (drop i windows)) (map told_window (drop (i + 1) windows))
+    (told_window window) c.loop-window.lines.line.items (g.D.Disk.held c.args.part.now) (g.D.Disk.calls c.args.part.now) (g.D.Disk.calls c.loop-window.part)
+    c.loop-window.invariant.fetching (windows_left windows i window (at_index windows i i none c.loop-window-test.true refl)) c.loop-window.invariant.from
 
 pub read_turn-requires-clause-high : goal.read_turn-requires-clause-high
 read_turn-requires-clause-high g c κs within =
-    fetch_high (g.D.Disk.from c.args.part.now) (g.D.Disk.from c.turns.part) (g.D.Disk.len c.args.part.now) (g.D.Disk.len c.turns.part) (get_turns c.args.plan.now c.args.aggregator.domain)
-    c.turns.walk c.next_window.new.windows (told_window c.in-Some.window) c.turns.line.items (g.D.Disk.held c.args.part.now) (g.D.Disk.calls c.args.part.now) (g.D.Disk.calls c.turns.part)
-    c.turns.invariant.fetching c.in-Some.ensures.some c.turns.invariant.from c.turns.invariant.len
+    let windows = c.args.windows.now in
+    let i = c.loop-window.window-index in
+    let window = get_or windows i none in
+    fetch_high (g.D.Disk.from c.args.part.now) (g.D.Disk.from c.loop-window.part) (g.D.Disk.len c.args.part.now) (g.D.Disk.len c.loop-window.part) (map told_window windows) (map told_window (drop i windows))
+    (map told_window (drop (i + 1) windows)) (told_window window) c.loop-window.lines.line.items (g.D.Disk.held c.args.part.now) (g.D.Disk.calls c.args.part.now) (g.D.Disk.calls c.loop-window.part)
+    c.loop-window.invariant.fetching (windows_left windows i window (at_index windows i i none c.loop-window-test.true refl)) c.loop-window.invariant.from c.loop-window.invariant.len
 
-pub turns-preserved : goal.turns-preserved
-turns-preserved g c =
+pub loop-window-preserved : goal.loop-window-preserved
+loop-window-preserved g c =
+    let windows = c.args.windows.now in
+    let i = c.loop-window.window-index in
+    let window = get_or windows i none in
     let later = c.in-Ok.ensures.cause.later in
-    let before = c.turns.invariant.later in
+    let before = c.loop-window.invariant.later in
     record {
-      of = c.put.ensures.of ∙ c.turns.invariant.of;
-      spare_of = c.take.ensures.of ∙ c.turns.invariant.spare_of;
-      fetching = fetch_next (g.D.Disk.from c.args.part.now) (g.D.Disk.from c.turns.part) (g.D.Disk.len c.args.part.now) (get_turns c.args.plan.now c.args.aggregator.domain)
-          c.turns.walk c.next_window.new.windows (told_window c.in-Some.window) c.turns.line.items c.put.new.self.items c.read_turn.new.bytes.items (g.D.Disk.held c.args.part.now) (g.D.Disk.held c.turns.part)
-          (g.D.Disk.calls c.args.part.now) (g.D.Disk.calls c.turns.part) (g.D.Disk.calls c.read_turn.new.part)
-          c.turns.invariant.fetching c.in-Some.ensures.some c.in-Some.ensures.ready (c.put.ensures.items ∙ ap (λ (hull : List ℕ). c.turns.line.items ++ Hull hull ∷ []) c.from_vec.ensures) c.turns.invariant.from c.turns.invariant.held c.in-Ok.ensures.read c.in-Ok.ensures.calls;
-      held = c.in-Ok.ensures.bytes ∙ c.turns.invariant.held;
-      from = c.in-Ok.ensures.from ∙ c.turns.invariant.from;
-      len = c.in-Ok.ensures.len ∙ c.turns.invariant.len;
+      of = c.put.ensures.of ∙ c.loop-window.invariant.of;
+      fetching = fetch_next (g.D.Disk.from c.args.part.now) (g.D.Disk.from c.loop-window.part) (g.D.Disk.len c.args.part.now) (map told_window windows) (map told_window (drop i windows))
+          (map told_window (drop (i + 1) windows)) (told_window window) c.loop-window.lines.line.items c.put.new.self.items c.read_turn.new.bytes.items (g.D.Disk.held c.args.part.now) (g.D.Disk.held c.loop-window.part)
+          (g.D.Disk.calls c.args.part.now) (g.D.Disk.calls c.loop-window.part) (g.D.Disk.calls c.read_turn.new.part)
+          c.loop-window.invariant.fetching (windows_left windows i window (at_index windows i i none c.loop-window-test.true refl))
+          (c.put.ensures.items ∙ ap (λ (hull : List ℕ). c.loop-window.lines.line.items ++ Hull hull ∷ []) c.from_vec.ensures) c.loop-window.invariant.from c.loop-window.invariant.held c.in-Ok.ensures.read c.in-Ok.ensures.calls;
+      held = c.in-Ok.ensures.bytes ∙ c.loop-window.invariant.held;
+      from = c.in-Ok.ensures.from ∙ c.loop-window.invariant.from;
+      len = c.in-Ok.ensures.len ∙ c.loop-window.invariant.len;
       later = omega arith;
     }
 
 pub returns-clause-many : goal.returns-clause-many
 returns-clause-many g c =
-    (fetch_end (g.D.Disk.from c.args.part.now) (g.D.Disk.len c.args.part.now) (get_turns c.args.plan.now c.args.aggregator.domain) c.turns.walk c.turns.line.items
-    (g.D.Disk.held c.args.part.now) (g.D.Disk.calls c.args.part.now) (g.D.Disk.calls c.turns.part) c.turns.invariant.fetching c.in_default.ensures.none).0
+    let windows = c.args.windows.now in
+    let i = c.loop-window.window-index in
+    (fetch_end (g.D.Disk.from c.args.part.now) (g.D.Disk.len c.args.part.now) (map told_window windows) (map told_window (drop i windows)) c.loop-window.lines.line.items
+    (g.D.Disk.held c.args.part.now) (g.D.Disk.calls c.args.part.now) (g.D.Disk.calls c.loop-window.part) c.loop-window.invariant.fetching
+    (ap (λ (ws : List Window). map told_window ws) (drop_all i windows c.loop-window-test.false))).0
 
 pub returns-clause-read : goal.returns-clause-read
 returns-clause-read g c =
-    (fetch_end (g.D.Disk.from c.args.part.now) (g.D.Disk.len c.args.part.now) (get_turns c.args.plan.now c.args.aggregator.domain) c.turns.walk c.turns.line.items
-    (g.D.Disk.held c.args.part.now) (g.D.Disk.calls c.args.part.now) (g.D.Disk.calls c.turns.part) c.turns.invariant.fetching c.in_default.ensures.none).1
+    let windows = c.args.windows.now in
+    let i = c.loop-window.window-index in
+    (fetch_end (g.D.Disk.from c.args.part.now) (g.D.Disk.len c.args.part.now) (map told_window windows) (map told_window (drop i windows)) c.loop-window.lines.line.items
+    (g.D.Disk.held c.args.part.now) (g.D.Disk.calls c.args.part.now) (g.D.Disk.calls c.loop-window.part) c.loop-window.invariant.fetching
+    (ap (λ (ws : List Window). map told_window ws) (drop_all i windows c.loop-window-test.false))).1
 
 pub returns-clause-got : goal.returns-clause-got
-returns-clause-got g c = record {
-  from = c.turns.invariant.from;
-  len = c.turns.invariant.len;
-  held = c.turns.invariant.held;
-  device = (fetch_end (g.D.Disk.from c.args.part.now) (g.D.Disk.len c.args.part.now) (get_turns c.args.plan.now c.args.aggregator.domain) c.turns.walk c.turns.line.items
-      (g.D.Disk.held c.args.part.now) (g.D.Disk.calls c.args.part.now) (g.D.Disk.calls c.turns.part) c.turns.invariant.fetching c.in_default.ensures.none).2;
-  later = c.turns.invariant.later;
-}
+returns-clause-got g c =
+    let windows = c.args.windows.now in
+    let i = c.loop-window.window-index in
+    record {
+      from = c.loop-window.invariant.from;
+      len = c.loop-window.invariant.len;
+      held = c.loop-window.invariant.held;
+      device = (fetch_end (g.D.Disk.from c.args.part.now) (g.D.Disk.len c.args.part.now) (map told_window windows) (map told_window (drop i windows)) c.loop-window.lines.line.items
+          (g.D.Disk.held c.args.part.now) (g.D.Disk.calls c.args.part.now) (g.D.Disk.calls c.loop-window.part) c.loop-window.invariant.fetching
+          (ap (λ (ws : List Window). map told_window ws) (drop_all i windows c.loop-window-test.false))).2;
+      later = c.loop-window.invariant.later;
+    }

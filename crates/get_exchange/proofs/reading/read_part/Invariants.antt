@@ -1,21 +1,16 @@
 -- What is left to be read gives the whole.
-use Rattle.std.proofs.Common.{◌≡◌, ◌≤◌, length}
-use Rattle.get_exchange.specs.Gets.{get_turns}
-use Rattle.exchange_crew.specs.Turns.{turns_ahead}
+use Rattle.std.proofs.Common.{◌≡◌, ◌≤◌, drop, map}
+use Rattle.aggregator_rounds.specs.Pieces.{told_window}
 use Rattle.get_exchange.proofs.FetchLaws.{IsFetching}
 use Rattle.get_exchange.proofs.reading.read_part.Given as goal
 
-abbrev pub invariant-turns : goal.invariant-turns
-invariant-turns g l = record {
-  of : l.line.of ≡ l.initial.line.of;
-  spare_of : l.spare.of ≡ l.initial.spare.of;
-  fetching : IsFetching (g.D.Disk.from l.initial.part) (g.D.Disk.len l.initial.part) (get_turns l.plan l.aggregator.domain) l.walk l.line.items
+abbrev pub invariant-loop-window : goal.invariant-loop-window
+invariant-loop-window g l = record {
+  of : l.lines.line.of ≡ l.initial.lines.line.of;
+  fetching : IsFetching (g.D.Disk.from l.initial.part) (g.D.Disk.len l.initial.part) (map told_window l.windows) (map told_window (drop l.window-index l.windows)) l.lines.line.items
       (g.D.Disk.held l.initial.part) (g.D.Disk.calls l.initial.part) (g.D.Disk.calls l.part);
   held : g.D.Disk.held l.part ≡ g.D.Disk.held l.initial.part;
   from : g.D.Disk.from l.part ≡ g.D.Disk.from l.initial.part;
   len : g.D.Disk.len l.part ≡ g.D.Disk.len l.initial.part;
   later : g.D.Disk.faults l.initial.part ≤ g.D.Disk.faults l.part;
 }
-
-abbrev pub decreases-turns : goal.decreases-turns
-decreases-turns g l = length (turns_ahead l.walk)

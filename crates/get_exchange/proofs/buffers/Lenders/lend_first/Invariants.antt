@@ -2,5 +2,5 @@
 use Rattle.get_exchange.specs.Lenders.{AreReady}
 use Rattle.get_exchange.proofs.buffers.Lenders.lend_first.Given as goal
 
-abbrev pub invariant-loop : goal.invariant-loop
-invariant-loop g l = AreReady l.self.each.items
+abbrev pub invariant-loop-blob : goal.invariant-loop-blob
+invariant-loop-blob g l = AreReady l.self.each.items

@@ -1,9 +1,9 @@
--- A helper was started for each part so far, or the part is among the rest.
+-- Each part so far was handed to a helper, or the part is among the rest.
 use Rattle.std.proofs.Common.{◌≡◌, ◌++◌, length, map, take, vec_capacity}
 use Rattle.overlay_laws.specs.Entries.{In}
 use Rattle.get_exchange.specs.Shelves.{domain_of, part_of, IsFresh}
-use Rattle.get_exchange.specs.declared.starting.ReadWorker.{ReadWorker}
-use Rattle.get_exchange.proofs.starting.start_all.Given as goal
+use Rattle.get_exchange.specs.declared.handing.ReadWorker.{ReadWorker}
+use Rattle.get_exchange.proofs.handing.hand_all.Given as goal
 
 abbrev pub invariant-loop-part : goal.invariant-loop-part
 invariant-loop-part g l = record {

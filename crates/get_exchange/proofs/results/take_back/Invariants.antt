@@ -8,8 +8,8 @@ use Rattle.overlay_laws.specs.Entries.{In}
 use Rattle.get_exchange.specs.Gets.{get_turns, AreRead, HasGot}
 use Rattle.exchange_crew.specs.Parts.{part_state, SomeZip}
 use Rattle.get_exchange.specs.Shelves.{domain_of, part_of}
-use Rattle.get_exchange.specs.declared.starting.ReadWorker.{ReadWorker}
-use Rattle.get_exchange.proofs.results.join_all.Given as goal
+use Rattle.get_exchange.specs.declared.handing.ReadWorker.{ReadWorker}
+use Rattle.get_exchange.proofs.results.take_back.Given as goal
 
 abbrev pub invariant-loop-worker : goal.invariant-loop-worker
 invariant-loop-worker g l = record {

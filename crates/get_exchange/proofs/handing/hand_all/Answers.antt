@@ -8,13 +8,13 @@ use Rattle.get_exchange.specs.Shelves.{domain_of, part_of, IsFresh}
 use Rattle.list_laws.proofs.Places.{middle_at}
 use Rattle.exchange_crew.proofs.BackLaws.{at_index}
 use Rattle.exchange_crew.proofs.CrewLaws.{crew_domains, crew_each, crew_parts, workers_few}
-use Rattle.get_exchange.proofs.starting.start_all.Goals as goal
+use Rattle.get_exchange.proofs.handing.hand_all.Goals as goal
 
 abbrev none : Extent
 none = record { at = 0; len = 0 }
 
-pub start_one-requires-clause-domain : goal.start_one-requires-clause-domain
-start_one-requires-clause-domain g c κs within =
+pub hand_one-requires-clause-domain : goal.hand_one-requires-clause-domain
+hand_one-requires-clause-domain g c κs within =
     let middle = ap (λ v. c.loop-part.yielded ++ v) (sym c.in-Some.ensures.steps.0) ∙ c.loop-part.invariant.all in
     let here = middle_at c.loop-part.yielded _ c.args.supply.parts.items c.in-Some.part middle in
     let low : length c.loop-part.yielded < length c.args.supply.parts.items = slice_get_within c.args.supply.parts.items (length c.loop-part.yielded) c.in-Some.part here in

@@ -1,0 +1,53 @@
+-- The first parts, and those behind them: what holds of both holds of all.
+use Rattle.std.proofs.Common.{◌≡◌, ℕ, zero, suc, inl, inr, ap, sym, ◌∙◌, List, [], ◌∷◌, ◌++◌, length, map, take, drop, arith}
+use Rattle.std.proofs.Math.Seq.{drop-append_seam, take-append_seam}
+use Rattle.std.proofs.lemmas.List.{length-map}
+use Rattle.std.specs.Prelude.{zip}
+use Rattle.std.specs.List.{AllZip}
+use Rattle.exchange_crew.specs.Parts.{SomeZip}
+
+pub zip_split : {A B : Type 0} (k : ℕ) (xs : List A) (ds : List B) → length ds ≡ length xs → zip xs ds ≡ zip (take k xs) (take k ds) ++ zip (drop k xs) (drop k ds)
+zip_split zero xs ds long = λ i. zip xs ds
+zip_split (suc k) [] [] long = λ i. []
+zip_split (suc k) [] (d ∷ ds) long = absurd (omega arith)
+zip_split (suc k) (x ∷ xs) [] long = absurd (omega arith)
+zip_split (suc k) (x ∷ xs) (d ∷ ds) long = ap (λ ps. (x, d) ∷ ps) (zip_split k xs ds (omega arith))
+
+pub zip_joined : {A B C : Type 0} (Q : A × B → C → Type 0) (k : ℕ) (xs : List A) (ds : List B) (ys zs : List C) → length ds ≡ length xs
+    → AllZip Q (zip (take k xs) (take k ds)) ys → AllZip Q (zip (drop k xs) (drop k ds)) zs → AllZip Q (zip xs ds) (ys ++ zs)
+zip_joined Q zero xs ds [] zs long first rest = rest
+zip_joined Q zero xs ds (y ∷ ys) zs long first rest = absurd first
+zip_joined Q (suc k) [] [] [] zs long first rest = rest
+zip_joined Q (suc k) [] [] (y ∷ ys) zs long first rest = absurd first
+zip_joined Q (suc k) [] (d ∷ ds) ys zs long first rest = absurd (omega arith)
+zip_joined Q (suc k) (x ∷ xs) [] ys zs long first rest = absurd (omega arith)
+zip_joined Q (suc k) (x ∷ xs) (d ∷ ds) [] zs long first rest = absurd first
+zip_joined Q (suc k) (x ∷ xs) (d ∷ ds) (y ∷ ys) zs long first rest = (first.0, zip_joined Q k xs ds ys zs (omega arith) first.1 rest)
+
+pub some_first : {A B : Type 0} (R : A → B → Type 0) (k : ℕ) (xs : List A) (ys zs : List B) → SomeZip R (take k xs) ys → SomeZip R xs (ys ++ zs)
+some_first R zero xs ys zs m = absurd m
+some_first R (suc k) [] ys zs m = absurd m
+some_first R (suc k) (x ∷ xs) [] zs m = absurd m
+some_first R (suc k) (x ∷ xs) (y ∷ ys) zs (inl r) = inl r
+some_first R (suc k) (x ∷ xs) (y ∷ ys) zs (inr m) = inr (some_first R k xs ys zs m)
+
+pub some_second : {A B : Type 0} (R : A → B → Type 0) (xs : List A) (ys zs : List B) → SomeZip R (drop (length ys) xs) zs → SomeZip R xs (ys ++ zs)
+some_second R xs [] zs m = m
+some_second R [] (y ∷ ys) zs m = absurd m
+some_second R (x ∷ xs) (y ∷ ys) zs m = inr (some_second R xs ys zs m)
+
+-- ---- the parts of those that were handed out, and those behind them
+
+pub first_parts : {S D : Type 0} (part : S → D) (workers : List S) (rest parts : List D) (k : ℕ) → k ≡ length workers → map part workers ++ rest ≡ parts → take k parts ≡ map part workers
+first_parts {S} {D} part workers rest parts k many whole =
+    let long : k ≡ length (map part workers) = many ∙ sym (length-map workers part) in
+    ap (λ (n : ℕ). take n parts) long
+    ∙ ap (λ (ds : List D). take (length (map part workers)) ds) (sym whole)
+    ∙ take-append_seam (map part workers) rest
+
+pub parts_behind : {S D : Type 0} (part : S → D) (workers : List S) (rest parts : List D) (k : ℕ) → k ≡ length workers → map part workers ++ rest ≡ parts → rest ≡ drop k parts
+parts_behind {S} {D} part workers rest parts k many whole =
+    let long : k ≡ length (map part workers) = many ∙ sym (length-map workers part) in
+    sym (drop-append_seam (map part workers) rest)
+    ∙ ap (λ (ds : List D). drop (length (map part workers)) ds) whole
+    ∙ ap (λ (n : ℕ). drop n parts) (sym long)

@@ -1,0 +1,25 @@
+-- One window more.
+use Rattle.std.proofs.Common.{◌∙◌, ◌++◌, ◌∷◌, [], sym, ap, append_assoc, map, List}
+use Rattle.std.proofs.lemmas.List.{append-nil, map-append}
+use Rattle.aggregator_rounds.specs.Pieces.{told_window}
+use Rattle.exchange_crew.specs.Turns.{turns_ahead, Told}
+use Rattle.exchange_crew.proofs.walk.window_list.Goals as goal
+
+pub turns-preserved : goal.turns-preserved
+turns-preserved c =
+    let list = c.turns.list.items in
+    let ahead = turns_ahead c.next_window.new.windows in
+    record {
+      ready = c.in-Some.ensures.ready;
+      listed = ap (λ ws. map told_window ws ++ ahead) c.in_ok-push.ensures.items
+          ∙ ap (λ (ts : List Told). ts ++ ahead) (map-append told_window list (c.in-Some.window ∷ []))
+          ∙ append_assoc (map told_window list) (told_window c.in-Some.window ∷ []) ahead
+          ∙ sym (ap (λ (ts : List Told). map told_window list ++ ts) c.in-Some.ensures.some)
+          ∙ c.turns.invariant.listed;
+    }
+
+pub returns : goal.returns
+returns c =
+    sym (append-nil (map told_window c.turns.list.items))
+    ∙ sym (ap (λ (ts : List Told). map told_window c.turns.list.items ++ ts) c.in_default.ensures.none)
+    ∙ c.turns.invariant.listed

@@ -1,0 +1,23 @@
+// What a helper is told, and what comes back of it.
+use nc_outside::DiskErr;
+
+/// A job of a helper, of puts or of gets. Both go over one line, so that one thread does both.
+#[derive(Drop)]
+pub enum Errand<P, G> {
+    Put(P),
+    Get(G),
+}
+
+/// What a helper serves a part by: the part of the disk, and its ends of the lines to the caller.
+#[derive(Drop)]
+pub struct PartEnds<D: Drop, L: Drop> {
+    pub part: D,
+    pub lines: L,
+}
+
+/// What comes back of it, and how it ended.
+#[derive(Drop)]
+pub struct PartBack<D: Drop, L: Drop> {
+    pub ends: PartEnds<D, L>,
+    pub end: Result<(), DiskErr>,
+}

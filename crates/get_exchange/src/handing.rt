@@ -1,0 +1,166 @@
+// Handing parts to helpers.
+ghost use Rattle.std.specs.Prelude.{◌≡◌, ◌≤◌, ◌++◌, [], ℕ, length, map, take, slice_get, vec_capacity, Some, IfOk, IfErr};
+ghost use Rattle.nc_base.specs.declared.plan.Extent.{Extent};
+ghost use Rattle.overlay_laws.specs.Entries.{In};
+ghost use Rattle.aggregator_rounds.specs.Pieces.{told_window};
+ghost use Rattle.exchange_crew.specs.Hulls.{LieOnPart};
+ghost use Rattle.exchange_crew.specs.Plan.{IsDomainOf};
+ghost use Rattle.get_exchange.specs.Gets.{IsGetPlanned};
+ghost use Rattle.get_exchange.specs.Shelves.{domain_of, part_of, IsFresh};
+ghost use Rattle.get_exchange.specs.declared.handing.ReadWorker.{ReadWorker};
+
+use crate::helper::{GetDuty, GetJob, GetLines};
+use crate::reading::Reading;
+use crate::shelf::{Shelf, shelf_of};
+use crossbeam_channel::Sender;
+use exchange_crew::{Aggregator, Crew, Errand, GetPlan, PartBack, PartEnds, Tools, window_list};
+use file_domains::Window;
+use nc_base::{Blob, Extent};
+use nc_outside::Disk;
+use promised_reply::{Awaited, reply};
+use ruled_line::{LineTake, line};
+use std::snapshot::Snapshot;
+use std::sync::Wait;
+
+/// What the calling thread has of a helper: the domain that it reads, and its reply.
+#[derive(Drop)]
+pub(crate) struct GetHelper<D: Disk> {
+    pub domain: Extent,
+    pub awaited: Awaited<PartBack<D, GetLines>, GetDuty<D>>,
+}
+
+/// A helper, and the calling thread's end of its line of readings.
+#[derive(Drop)]
+pub(crate) struct ReadWorker<'a, D: Disk> {
+    pub helper: GetHelper<D>,
+    pub shelf: Shelf<'a>,
+}
+
+/// The parts, and the lines on which blobs are lent for them, the last one first.
+#[derive(Drop)]
+pub(crate) struct Supply<D: Drop> {
+    pub parts: Vec<D>,
+    pub spares: Vec<LineTake<Blob>>,
+}
+
+/// Hands each part to the helper of its number, up to the first for which there is none. That one and those behind it are the rest.
+pub(crate) fn hand_all<'a, R: Wait, D: Disk, G, P: Send + Drop>(
+    tools: &Tools<R, G>,
+    helpers: &[Sender<Errand<P, GetJob<D>>>],
+    plan: &GetPlan<'a>,
+    domains: &[Extent],
+    supply: Supply<D>,
+    crew: &mut Crew<ReadWorker<'a, D>, D>,
+)
+    requires plan { IsGetPlanned plan.now }
+    requires line_low { 1 ≤ plan.now.hints.now.line_room }
+    requires line_high { plan.now.hints.now.line_room ≤ 64 }
+    requires few { length domains.now ≤ 64 }
+    requires one_each { length domains.now ≡ length supply.parts.items }
+    requires domains { (k : ℕ) (part : D) (domain : Extent) → slice_get supply.parts.items k ≡ Some part → slice_get domains.now k ≡ Some domain → IsDomainOf plan.now.list.now (D.from part) (D.len part) domain }
+    requires workers { crew.old.workers.items ≡ [] }
+    requires rest { crew.old.rest.items ≡ [] }
+    requires workers_room { length supply.parts.items ≤ vec_capacity crew.old.workers }
+    requires rest_room { length supply.parts.items ≤ vec_capacity crew.old.rest }
+    ensures parts { map (λ worker. part_of worker) crew.new.workers.items ++ crew.new.rest.items ≡ supply.parts.items }
+    ensures back { crew.new.back ≡ crew.old.back }
+    ensures domains { map (λ worker. domain_of worker) crew.new.workers.items ≡ take (length crew.new.workers.items) domains.now }
+    ensures workers { (worker : ReadWorker D) → In crew.new.workers.items worker → IsFresh plan.now worker }
+{
+    let Supply { parts, mut spares } = supply;
+    for part in parts {
+        if crew.rest.is_empty() {
+            let number = crew.workers.len();
+            let aggregator = Aggregator {
+                number: number as u32,
+                domain: domains[number],
+            };
+            match hand_one(tools, helpers, plan, aggregator, part, spares.pop()) {
+                Ok(worker) => crew.workers.push_reserved(worker),
+                Err(part) => crew.rest.push_reserved(part),
+            }
+        } else {
+            crew.rest.push_reserved(part);
+        }
+    }
+}
+
+// Hands a part to a helper, with a line for its readings. Where one of them can't be had the part comes back as it was.
+fn hand_one<'a, R: Wait, D: Disk, G, P: Send + Drop>(
+    tools: &Tools<R, G>,
+    helpers: &[Sender<Errand<P, GetJob<D>>>],
+    plan: &GetPlan<'a>,
+    aggregator: Aggregator,
+    part: D,
+    spare: Option<LineTake<Blob>>,
+) -> Result<ReadWorker<'a, D>, D>
+    requires plan { IsGetPlanned plan.now }
+    requires line_low { 1 ≤ plan.now.hints.now.line_room }
+    requires line_high { plan.now.hints.now.line_room ≤ 64 }
+    requires domain { IsDomainOf plan.now.list.now (D.from part) (D.len part) aggregator.domain }
+    ensures kept { IfErr result (λ back. back ≡ part) }
+    ensures worker { IfOk result (λ worker. IsFresh plan.now worker) }
+    ensures part { IfOk result (λ worker. part_of worker ≡ part) }
+    ensures domain { IfOk result (λ worker. domain_of worker ≡ aggregator.domain) }
+{
+    let Aggregator { number, domain } = aggregator;
+    let Some(spare) = spare else {
+        return Err(part);
+    };
+    let Ok((put, taken)) = line::<Reading>(tools.alloc, plan.hints.line_room) else {
+        return Err(part);
+    };
+    let Ok(windows) = window_list(tools.alloc, plan.cover, plan.hints.cb_buffer, domain) else {
+        return Err(part);
+    };
+    let ends = PartEnds {
+        part,
+        lines: GetLines { line: put, spare },
+    };
+    let awaited = ask(tools, helpers, number, windows, ends)?;
+    let helper = GetHelper { domain, awaited };
+    let shelf = shelf_of(tools.alloc, plan, domain, taken);
+    Ok(ReadWorker { helper, shelf })
+}
+
+// Gives the helper of this number its job. Where it can't be had the part comes back as it was.
+fn ask<R: Wait, D: Disk, G, P: Send + Drop>(
+    tools: &Tools<R, G>,
+    helpers: &[Sender<Errand<P, GetJob<D>>>],
+    number: u32,
+    windows: Vec<Window>,
+    ends: PartEnds<D, GetLines>,
+) -> Result<Awaited<PartBack<D, GetLines>, GetDuty<D>>, D>
+    requires on_part { LieOnPart (D.from ends.part) (D.len ends.part) (map told_window windows.items) }
+    requires line { ends.lines.line.items ≡ [] }
+    ensures windows { IfOk result (λ awaited. awaited.windows.value ≡ windows) }
+    ensures ends { IfOk result (λ awaited. awaited.ends.value ≡ ends) }
+    ensures kept { IfErr result (λ part. part ≡ ends.part) }
+{
+    let Some(helper) = helpers.get(number as usize) else {
+        return Err(ends.part);
+    };
+    let duty = GetDuty {
+        windows: Snapshot::of(&windows),
+        ends: Snapshot::of(&ends),
+    };
+    let Ok((answer, awaited)) = reply::<PartBack<D, GetLines>, GetDuty<D>>(tools.alloc, duty) else {
+        return Err(ends.part);
+    };
+    let job = GetJob {
+        number,
+        windows,
+        ends,
+        answer,
+    };
+    match helper.send(tools.rt, Errand::Get(job)) {
+        Ok(()) => Ok(awaited),
+        Err(refused) => match refused.into_inner() {
+            Errand::Get(back) => {
+                let GetJob { ends, .. } = back;
+                Err(ends.part)
+            }
+            Errand::Put(_) => unreachable!(),
+        },
+    }
+}
