@@ -1,16 +1,6 @@
 -- The bytes that entries have.
-use Rattle.std.proofs.Common.{◌≡◌, ℕ, ◌<◌, ◌≤◌, ◌⊎◌, inl, inr, refl, sym, subst, List, [], ◌∷◌, ◌++◌, arith, ◌+◌, ◌-◌, length, Bool, true, false}
-use Rattle.std.specs.List.{range_with_len}
-use Rattle.nc_base.specs.declared.plan.Owned.{Owned}
-use Rattle.overlay_laws.specs.Entries.{In, ranges}
-use Rattle.overlay_laws.specs.Hulls.{IsAscending}
-use Rattle.overlay_laws.specs.Lines.{extents, EndBelow}
-use Rattle.overlay_laws.proofs.HullLaws.{in_left, in_right, in_either, in_flat, flat_in, in_range, range_low, range_high}
-use Rattle.aggregator_rounds.specs.EntryParts.{IsCovered}
-use Rattle.aggregator_rounds.specs.Left.{IsPast, BeginBefore}
+use Rattle.aggregator_rounds.proofs.Words.{◌≡◌, ℕ, ◌<◌, ◌≤◌, ◌⊎◌, inl, inr, refl, sym, subst, List, [], ◌∷◌, ◌++◌, arith, ◌+◌, ◌-◌, length, Bool, true, false, range_with_len, Owned, In, ranges, IsAscending, extents, EndBelow, in_left, in_right, in_either, in_flat, flat_in, in_range, range_low, range_high, IsCovered, IsPast, BeginBefore, in_extents, nat_lt}
 use Rattle.aggregator_rounds.proofs.PastSteps.{past_in, past_kept}
-use Rattle.overlay_laws.proofs.EntryLaws.{in_extents}
-use Rattle.std.specs.Prelude.{nat_lt}
 use borrow.Author.Tests.{ltb-true, ltb-false}
 
 -- ---- covered bytes

@@ -1,19 +1,6 @@
 -- Entries as cells: what they say, and where they lie.
-use Rattle.std.proofs.Common.{◌≡◌, ℕ, ◌+◌, ◌-◌, ◌<◌, ◌≤◌, inl, inr, refl, sym, ◌∙◌, ap, subst, List, [], ◌∷◌, ◌++◌, length, take, drop, get_or, Bool, true, false, Option, Some, None, arith}
-use Rattle.std.proofs.lemmas.List.{map-append, length-take, length-drop}
-use Rattle.std.specs.Prelude.{map, nat_lt}
-use Rattle.std.specs.List.{enumerate_from}
-use Rattle.std.specs.Option.{option_or}
+use Rattle.aggregator_rounds.proofs.Words.{◌≡◌, ℕ, ◌+◌, ◌-◌, ◌<◌, ◌≤◌, inl, inr, refl, sym, ◌∙◌, ap, subst, List, [], ◌∷◌, ◌++◌, length, take, drop, get_or, Bool, true, false, Option, Some, None, arith, map-append, length-take, length-drop, map, nat_lt, enumerate_from, option_or, said_below, said_past, said_inside, said_append, neither_some, second_counts, first_counts, Owned, Cell, said_at, said_by, IsFrom, IsWithin, clips, HasPlace, In, Source, cell_of, AreFound, clips_in, said_joined, IsCovered}
 use borrow.Author.Tests.{ltb-true, ltb-false}
-use Rattle.serial_spec.proofs.SaidLaws.{said_below, said_past, said_inside, said_append}
-use Rattle.list_laws.proofs.Optional.{neither_some, second_counts, first_counts}
-use Rattle.nc_base.specs.declared.plan.Owned.{Owned}
-use Rattle.serial_spec.specs.Said.{Cell, said_at, said_by, IsFrom, IsWithin}
-use Rattle.overlay_laws.specs.Windows.{clips, HasPlace}
-use Rattle.overlay_laws.specs.Entries.{In, Source, cell_of}
-use Rattle.overlay_laws.specs.Origins.{AreFound}
-use Rattle.overlay_laws.proofs.WindowLaws.{clips_in, said_joined}
-use Rattle.aggregator_rounds.specs.EntryParts.{IsCovered}
 use Rattle.aggregator_rounds.proofs.CoveredBytes.{covered_right}
 
 -- ---- what entries say

@@ -1,3 +1,4 @@
+mod Words
 pub mod RoundLaws
 mod PieceLaws
 pub mod PastSteps

@@ -1,17 +1,6 @@
 -- Parts of entries, and entries laid over a buffer one by one.
-use Rattle.std.proofs.Common.{◌≡◌, ℕ, zero, suc, ◌+◌, ◌-◌, ◌<◌, ◌≤◌, refl, sym, ◌∙◌, ap, subst, List, [], ◌∷◌, length, take, drop, get_or, Bool, true, false, min, slice_get, arith, set}
-use Rattle.std.proofs.lemmas.List.{take-take, take_all, drop-drop, length-take, get_or_default}
-use Rattle.std.specs.Prelude.{nat_lt}
-use Rattle.std.proofs.lemmas.Option.{slice_get-get_or}
+use Rattle.aggregator_rounds.proofs.Words.{◌≡◌, ℕ, zero, suc, ◌+◌, ◌-◌, ◌<◌, ◌≤◌, refl, sym, ◌∙◌, ap, subst, List, [], ◌∷◌, length, take, drop, get_or, Bool, true, false, min, slice_get, arith, set, take-take, take_all, drop-drop, length-take, get_or_default, nat_lt, slice_get-get_or, Owned, Post, written, Cell, write_cells, moved_down, clip, Source, cell_of, AreFound, bytes_of_post, source_of, part_at, part_in, blob_at, buffer_cell}
 use borrow.Author.Tests.{ltb-true, ltb-false}
-use Rattle.nc_base.specs.declared.plan.Owned.{Owned}
-use Rattle.nc_base.specs.declared.plan.Post.{Post}
-use Rattle.serial_spec.specs.File.{written}
-use Rattle.serial_spec.specs.Said.{Cell, write_cells, moved_down}
-use Rattle.overlay_laws.specs.Windows.{clip}
-use Rattle.overlay_laws.specs.Entries.{Source, cell_of}
-use Rattle.overlay_laws.specs.Origins.{AreFound}
-use Rattle.aggregator_rounds.specs.EntryParts.{bytes_of_post, source_of, part_at, part_in, blob_at, buffer_cell}
 
 -- ---- slices of slices
 

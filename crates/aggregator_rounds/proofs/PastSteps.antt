@@ -1,17 +1,6 @@
 -- What is left of entries when some that end there or before are gone.
-use Rattle.std.proofs.Common.{◌≡◌, ℕ, ◌+◌, ◌^◌, ◌<◌, ◌≤◌, ◌⊎◌, inl, inr, refl, sym, ◌∙◌, ap, append_assoc, length, subst, Some, slice_get, List, [], ◌∷◌, ◌++◌, Bool, true, false, cond, min, arith}
-use Rattle.std.specs.Prelude.{filter, nat_lt}
-use Rattle.std.proofs.lemmas.Option.{same_Some}
-use Rattle.list_laws.proofs.Optional.{no_none_some}
+use Rattle.aggregator_rounds.proofs.Words.{◌≡◌, ℕ, ◌+◌, ◌^◌, ◌<◌, ◌≤◌, ◌⊎◌, inl, inr, refl, sym, ◌∙◌, ap, append_assoc, length, subst, Some, slice_get, List, [], ◌∷◌, ◌++◌, Bool, true, false, cond, min, arith, filter, nat_lt, same_Some, no_none_some, Extent, Owned, In, Source, extents, EndBelow, IsByPlace, AreFound, filter_in, in_either, in_right, filter_past, IsPast}
 use borrow.Author.Tests.{ltb-true, ltb-false}
-use Rattle.nc_base.specs.declared.plan.Extent.{Extent}
-use Rattle.nc_base.specs.declared.plan.Owned.{Owned}
-use Rattle.overlay_laws.specs.Entries.{In, Source}
-use Rattle.overlay_laws.specs.Lines.{extents, EndBelow, IsByPlace}
-use Rattle.overlay_laws.specs.Origins.{AreFound}
-use Rattle.serial_spec.proofs.MemberLaws.{filter_in}
-use Rattle.overlay_laws.proofs.HullLaws.{in_either, in_right}
-use Rattle.aggregator_rounds.specs.Left.{filter_past, IsPast}
 
 -- ---- what is gone
 

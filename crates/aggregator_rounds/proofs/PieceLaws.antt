@@ -1,8 +1,5 @@
 -- Pieces laid over a buffer one by one.
-use Rattle.std.proofs.Common.{ℕ, zero, suc, ◌+◌, ◌<◌, ◌≤◌, List, [], ◌∷◌, length, get_or, arith}
-use Rattle.nc_base.specs.declared.plan.Piece.{Piece}
-use Rattle.serial_spec.specs.Said.{IsFrom, IsWithin}
-use Rattle.aggregator_rounds.specs.Pieces.{cells_of_pieces}
+use Rattle.aggregator_rounds.proofs.Words.{ℕ, zero, suc, ◌+◌, ◌<◌, ◌≤◌, List, [], ◌∷◌, length, get_or, arith, Piece, IsFrom, IsWithin, cells_of_pieces}
 
 pub from_at : (lo : ℕ) (ps : List Piece) (k : ℕ) (d : Piece) → k < length ps → IsFrom lo (cells_of_pieces ps) → lo ≤ (get_or ps k d).at
 from_at lo [] k d h g = absurd (omega arith)

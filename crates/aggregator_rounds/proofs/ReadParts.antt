@@ -1,14 +1,5 @@
 -- Entries of which a piece of the file was read: what their parts say, each byte once.
-use Rattle.std.proofs.Common.{◌≡◌, ℕ, zero, suc, ◌+◌, ◌-◌, ◌<◌, ◌≤◌, inl, inr, refl, sym, ◌∙◌, ap, subst, List, [], ◌∷◌, take, drop, arith, min}
-use Rattle.std.specs.Prelude.{map}
-use Rattle.std.specs.List.{enumerate_from, range_with_len}
-use Rattle.nc_base.specs.declared.plan.Owned.{Owned}
-use Rattle.serial_spec.specs.File.{at, read}
-use Rattle.serial_spec.specs.Said.{Cell, said_by, Says, IsOneValued, IsWithin}
-use Rattle.overlay_laws.specs.Entries.{In, got_cell}
-use Rattle.overlay_laws.proofs.EntryLaws.{says_left, says_right, says_cases}
-use Rattle.aggregator_rounds.specs.EntryParts.{got_cells, places_of, part_at, part_in, buffer_cell}
-use Rattle.serial_spec.proofs.CellLaws.{read_long}
+use Rattle.aggregator_rounds.proofs.Words.{◌≡◌, ℕ, zero, suc, ◌+◌, ◌-◌, ◌<◌, ◌≤◌, inl, inr, refl, sym, ◌∙◌, ap, subst, List, [], ◌∷◌, take, drop, arith, min, map, enumerate_from, range_with_len, Owned, at, read, Cell, said_by, Says, IsOneValued, IsWithin, In, got_cell, says_left, says_right, says_cases, got_cells, places_of, part_at, part_in, buffer_cell, read_long}
 
 -- ---- parts of bytes that were read
 

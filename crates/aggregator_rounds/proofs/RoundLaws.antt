@@ -1,18 +1,5 @@
 -- What a window leaves on a disk that may tell its bytes and its calls.
-use Rattle.std.proofs.Common.{◌≡◌, ℕ, ◌+◌, ◌-◌, ◌<◌, ◌≤◌, inl, inr, refl, sym, ◌∙◌, ap, subst, List, [], ◌∷◌, length, take, drop, Bool, true, false, Option, Some, None, arith}
-use Rattle.std.specs.Prelude.{IfSome, if◌then◌else◌}
-use Rattle.list_laws.proofs.Optional.{no_none_some}
-use Rattle.nc_base.specs.declared.step.DiskCall.{DiskCall}
-use Rattle.serial_spec.specs.File.{at, read, written}
-use Rattle.serial_spec.specs.Said.{Cell, said_at, said_by, write_cells, IsFrom, IsWithin, moved_down}
-use Rattle.serial_spec.proofs.FileLaws.{length-written_inside}
-use Rattle.overlay_laws.specs.Windows.{HasPlace}
-use Rattle.overlay_laws.specs.Changes.{IsBetween, IsBegun, load_calls, store_calls}
-use Rattle.overlay_laws.proofs.SaidLaws.{cells_long}
-use Rattle.overlay_laws.proofs.WindowLaws.{moved_said, within_lowered}
-use Rattle.overlay_laws.proofs.ReadLaws.{kept_read, window_answer, read_slice}
-use Rattle.nc_outside.specs.Told.{after, with_end, BothTold}
-use Rattle.nc_outside.specs.DiskState.{PartlyWritten}
+use Rattle.aggregator_rounds.proofs.Words.{◌≡◌, ℕ, ◌+◌, ◌-◌, ◌<◌, ◌≤◌, inl, inr, refl, sym, ◌∙◌, ap, subst, List, [], ◌∷◌, length, take, drop, Bool, true, false, Option, Some, None, arith, IfSome, if◌then◌else◌, no_none_some, DiskCall, at, read, written, Cell, said_at, said_by, write_cells, IsFrom, IsWithin, moved_down, length-written_inside, HasPlace, IsBetween, IsBegun, load_calls, store_calls, cells_long, moved_said, within_lowered, kept_read, window_answer, read_slice, after, with_end, BothTold, PartlyWritten}
 
 pub got_read : (held : Option (List ℕ)) (buf : List ℕ) (x m n size : ℕ) → IfSome held (λ b. length b ≡ size) → m ≡ n → x + n ≤ size
     → IfSome held (λ file. buf ≡ take m (drop x file)) → IfSome held (λ file. buf ≡ read file x n)

@@ -1,20 +1,7 @@
 -- Sorted entries before and from an index on.
-use Rattle.std.proofs.Common.{◌≡◌, ℕ, zero, suc, ◌+◌, ◌^◌, ◌<◌, ◌≤◌, ◌⊎◌, inl, inr, refl, sym, ap, subst, List, [], ◌∷◌, length, take, drop, get_or, ◌++◌, append_assoc, Some, None, slice_get, Bool, true, false, ◌∙◌, arith}
-use Rattle.std.specs.Prelude.{nat_lt}
+use Rattle.aggregator_rounds.proofs.Words.{◌≡◌, ℕ, zero, suc, ◌+◌, ◌^◌, ◌<◌, ◌≤◌, ◌⊎◌, inl, inr, refl, sym, ap, subst, List, [], ◌∷◌, length, take, drop, get_or, ◌++◌, append_assoc, Some, None, slice_get, Bool, true, false, ◌∙◌, arith, nat_lt, take-append-drop, same_Some, slice_get-get_or, entry_in, in_either, no_none_some, Extent, Owned, In, extents, IsByPlace, EndBelow, get_is, IsPast, BeginBefore, in_extents}
 use borrow.Author.Tests.{ltb-true, ltb-false}
-use Rattle.std.proofs.lemmas.List.{take-append-drop}
-use Rattle.std.proofs.lemmas.Option.{same_Some, slice_get-get_or}
-use Rattle.overlay_laws.proofs.Members.{entry_in}
-use Rattle.overlay_laws.proofs.HullLaws.{in_either}
-use Rattle.list_laws.proofs.Optional.{no_none_some}
-use Rattle.nc_base.specs.declared.plan.Extent.{Extent}
-use Rattle.nc_base.specs.declared.plan.Owned.{Owned}
-use Rattle.overlay_laws.specs.Entries.{In}
-use Rattle.overlay_laws.specs.Lines.{extents, IsByPlace, EndBelow}
-use Rattle.file_domains.proofs.CoverParts.{get_is}
-use Rattle.aggregator_rounds.specs.Left.{IsPast, BeginBefore}
 use Rattle.aggregator_rounds.proofs.PastSteps.{past_front}
-use Rattle.overlay_laws.proofs.EntryLaws.{in_extents}
 
 -- ---- members by index
 

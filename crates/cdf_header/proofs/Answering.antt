@@ -1,21 +1,6 @@
 -- Bytes have one answer.
-use Rattle.std.proofs.Common.{◌≡◌, ℕ, ◌+◌, ◌-◌, ◌≤◌, ◌^◌, List, [], ◌∷◌, ◌++◌, take, drop, length, true, Option, Some, None, refl, sym, ap, subst, ◌∙◌, length-append, arith, inl, inr}
-use Rattle.std.proofs.lemmas.List.{take-append-drop, length-take-le, append-nil}
-use Rattle.std.proofs.Math.Seq.{take-append_seam, take-append-add}
-use Rattle.std.proofs.lemmas.Bool.{leb-true}
-use Rattle.list_laws.proofs.Truth.{and_first, and_second}
-use Rattle.nc_base.specs.declared.header.Header.{Header}
-use Rattle.nc_base.specs.declared.errors.HeaderErr.{HeaderErr}
-use Rattle.serial_spec.specs.HeaderBytes.{canon, header_len}
-use Rattle.serial_spec.specs.HeaderGrammar.{Spells}
-use Rattle.serial_spec.specs.HeaderFaults.{HasFault, field_fault, first_check}
-use Rattle.serial_spec.specs.SoundHeaders.{is_writable, is_sound}
-use Rattle.serial_spec.proofs.SpellingLaws.{canon_spelled}
-use Rattle.serial_spec.proofs.FaultLaws.{fault_only}
-use Rattle.serial_spec.proofs.OnceLaws.{spells_once}
-use Rattle.cdf_header.specs.Decoded.{BeginsWith}
+use Rattle.cdf_header.proofs.Words.{◌≡◌, ℕ, ◌+◌, ◌-◌, ◌≤◌, ◌^◌, List, [], ◌∷◌, ◌++◌, take, drop, length, true, Option, Some, None, refl, sym, ap, subst, ◌∙◌, length-append, arith, inl, inr, take-append-drop, length-take-le, append-nil, take-append_seam, take-append-add, leb-true, and_first, and_second, Header, HeaderErr, canon, header_len, Spells, HasFault, field_fault, first_check, is_writable, is_sound, canon_spelled, fault_only, spells_once, BeginsWith, none_of_test}
 use Rattle.cdf_header.proofs.Walks.{no_fault}
-use Rattle.list_laws.proofs.Optional.{none_of_test}
 
 no_some : {A : Type 0} (o : Option A) (x : A) → o ≡ None → o ≡ Some x → ⊥
 no_some o x h k = absurd cc

@@ -1,9 +1,7 @@
 -- Numbers that fit their fields.
-use Rattle.std.proofs.Common.{◌≡◌, ℕ, ◌*◌, ◌^◌, ◌<◌, Bool, true, false, refl, subst, arith, w32, w64}
-use Rattle.std.specs.Prelude.{if◌then◌else◌, ◌==◌}
+use Rattle.cdf_header.proofs.Words.{◌≡◌, ℕ, ◌*◌, ◌^◌, ◌<◌, Bool, true, false, refl, subst, arith, if◌then◌else◌, ◌==◌, begin_width, fits_count, fits_field}
+use Rattle.std.proofs.Common.{w32, w64}
 use borrow.Author.Tests.{ltb-true}
-use Rattle.serial_spec.specs.HeaderBytes.{begin_width}
-use Rattle.serial_spec.specs.SoundHeaders.{fits_count, fits_field}
 
 fits_word : (n : ℕ) → fits_field w32 n ≡ true → n < 2 ^ 32
 fits_word n h = let k : 2 * n < 2 ^ 32 = ltb-true _ _ h in omega arith

@@ -1,17 +1,6 @@
 -- What a header has whose variables keep their bounds.
-use Rattle.std.proofs.Common.{◌≡◌, ℕ, suc, ◌+◌, ◌^◌, ◌<◌, ◌≤◌, List, [], ◌∷◌, Bool, true, false, cond, not, ◌&&◌, Option, Some, None, refl, ap, arith}
-use Rattle.std.specs.Prelude.{nat_le, ◌||◌, sum_by, is_none}
-use Rattle.std.specs.List.{All, AllByRecursion}
-use Rattle.std.proofs.lemmas.Bool.{ltb-true}
-use Rattle.std.proofs.lemmas.List.Elements.{All-from_recursion}
-use Rattle.std.proofs.lemmas.List.Sums.{sum_by-cons}
-use Rattle.list_laws.proofs.Truth.{and_first, and_second}
-use Rattle.var_layout.proofs.Soundness.{recsize_below}
-use Rattle.nc_base.specs.declared.header.Header.{Header}
-use Rattle.nc_base.specs.declared.header.Var.{Var}
-use Rattle.serial_spec.specs.Limits.{record_limit}
-use Rattle.serial_spec.specs.Layout.{round_up, slab, vsize, is_record, record_share, recsize}
-use Rattle.serial_spec.specs.HeaderFaults.{keeps_bound, past_bound, measure, is_too_large}
+use Rattle.cdf_header.proofs.Words.{◌≡◌, ℕ, suc, ◌+◌, ◌^◌, ◌<◌, ◌≤◌, List, [], ◌∷◌, Bool, true, false, cond, Option, Some, None, refl, ap, arith, nat_le, ◌||◌, sum_by, is_none, All, AllByRecursion, ltb-true, All-from_recursion, sum_by-cons, and_first, and_second, recsize_below, Header, Var, record_limit, round_up, slab, vsize, is_record, record_share, recsize, keeps_bound, past_bound, measure, is_too_large}
+use Rattle.std.proofs.Common.{not, ◌&&◌}
 
 kept : (t : Bool) (k : ℕ) (o : Option ℕ) → cond t o (Some k) ≡ None → (t ≡ true) × (o ≡ None)
 kept true k o h = (refl, h)

@@ -1,15 +1,6 @@
 -- What `is_writable` says, part by part.
-use Rattle.std.proofs.Common.{◌≡◌, ℕ, ◌^◌, ◌<◌, List, [], ◌∷◌, Bool, true}
-use Rattle.std.specs.List.{AllByRecursion, list_all}
-use Rattle.list_laws.proofs.Each.{passes_each}
-use Rattle.list_laws.proofs.Truth.{and_first, and_second}
-use Rattle.nc_base.specs.declared.header.Header.{Header}
-use Rattle.nc_base.specs.declared.header.Var.{Var}
-use Rattle.serial_spec.specs.Layout.{vsize}
-use Rattle.serial_spec.specs.SoundHeaders.{fits_count, is_writable, is_writable_attr, is_writable_dim, is_writable_list, is_writable_var}
-use Rattle.var_layout.proofs.Soundness.{measured}
+use Rattle.cdf_header.proofs.Words.{◌≡◌, ℕ, ◌^◌, ◌<◌, List, [], ◌∷◌, Bool, true, AllByRecursion, list_all, passes_each, and_first, and_second, Header, Var, vsize, fits_count, is_writable, is_writable_attr, is_writable_dim, is_writable_list, is_writable_var, measured, IsWritableList, IsWritableVar}
 use Rattle.cdf_header.proofs.Measured.{sizes_kept}
-use Rattle.cdf_header.specs.Writable.{IsWritableList, IsWritableVar}
 
 list_parts : {A : Type 0} (version : ℕ) (test : A → Bool) (xs : List A) → is_writable_list version test xs ≡ true → IsWritableList version test xs
 list_parts version test xs h = record { count = and_first _ _ h; each = passes_each test xs (and_second _ _ h) }

@@ -1,14 +1,5 @@
 -- No variable of a header is empty whose record dimension stands only first.
-use Rattle.std.proofs.Common.{◌≡◌, ℕ, zero, suc, ◌≤◌, List, [], ◌∷◌, drop, map, arith, false}
-use Rattle.std.proofs.lemmas.Bool.{or_parts}
-use Rattle.std.specs.Prelude.{slice_get, ◌==◌}
-use Rattle.std.specs.List.{AllByRecursion, list_any}
-use Rattle.std.proofs.Math.Nat.{mul-le-mul_left}
-use Rattle.nc_base.specs.declared.header.Header.{Header}
-use Rattle.nc_base.specs.declared.header.Var.{Var}
-use Rattle.serial_spec.specs.Layout.{inner_lengths, length_of, product, without_record}
-use Rattle.serial_spec.specs.HeaderFaults.{is_record_id, record_later}
-use Rattle.list_laws.proofs.Truth.{not_zero}
+use Rattle.cdf_header.proofs.Words.{◌≡◌, ℕ, zero, suc, ◌≤◌, List, [], ◌∷◌, drop, map, arith, false, or_parts, slice_get, ◌==◌, AllByRecursion, list_any, mul-le-mul_left, Header, Var, inner_lengths, length_of, product, without_record, is_record_id, record_later, not_zero}
 
 pub product-pos : (ns : List ℕ) → AllByRecursion (λ n. 1 ≤ n) ns → 1 ≤ product ns
 product-pos [] h = omega arith

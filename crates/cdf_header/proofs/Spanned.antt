@@ -1,22 +1,7 @@
 -- The pair that the spans of a header's variables give is that of the header.
-use Rattle.std.proofs.Common.{◌≡◌, ℕ, zero, suc, ◌+◌, ◌<◌, ◌≤◌, List, [], ◌∷◌, length, get_or, Bool, true, false, cond, Option, Some, None, refl, sym, ◌∙◌, arith}
-use Rattle.std.specs.Prelude.{nat_lt, option_map, position}
-use Rattle.std.specs.List.{AllPairs, AllByRecursion, position_from}
-use Rattle.std.specs.Option.{option_or}
-use Rattle.std.proofs.lemmas.Iterator.Adapters.{position_from-zero}
-use Rattle.std.proofs.lemmas.List.Elements.{All-from_recursion}
-use Rattle.std.proofs.Math.Nat.{mul-le-mul_left}
-use Rattle.serial_spec.proofs.LengthLaws.{size_pos}
-use Rattle.nc_base.specs.declared.header.Header.{Header}
-use Rattle.nc_base.specs.declared.header.Var.{Var}
-use Rattle.serial_spec.specs.ExternalForm.{size_of}
-use Rattle.serial_spec.specs.Layout.{product, inner_lengths, slab, recsize, sharing_with, sharing_from, sharing}
+use Rattle.cdf_header.proofs.Words.{◌≡◌, ℕ, zero, suc, ◌+◌, ◌<◌, ◌≤◌, List, [], ◌∷◌, length, get_or, Bool, true, false, cond, Option, Some, None, refl, sym, ◌∙◌, arith, nat_lt, option_map, position, AllPairs, AllByRecursion, position_from, option_or, position_from-zero, All-from_recursion, mul-le-mul_left, size_pos, Header, Var, size_of, product, inner_lengths, slab, recsize, sharing_with, sharing_from, sharing, record_later, Span, span_of, spans_of, partner, shared_pair, AreSpans, told_else}
 use Rattle.serial_spec.specs.Layout as layout
-use Rattle.serial_spec.specs.HeaderFaults.{record_later}
-use Rattle.cdf_header.specs.declared.spans.Span.{Span}
-use Rattle.cdf_header.specs.Spans.{span_of, spans_of, partner, shared_pair, AreSpans}
 use Rattle.cdf_header.proofs.Products.{inner-pos, product-pos}
-use Rattle.list_laws.proofs.Optional.{told_else}
 
 one_partner : (t : Bool) (k m : ℕ) (o : Option (ℕ × ℕ)) (p : Option ℕ) → o ≡ option_map (λ n. (k, n)) p
     → cond t (Some (k, m)) o ≡ option_map (λ n. (k, n)) (cond t (Some m) p)

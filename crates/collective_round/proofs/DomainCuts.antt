@@ -1,31 +1,7 @@
 -- The domains so far adjoin, and have the bytes of the shares so far.
-use Rattle.std.proofs.Common.{◌≡◌, ℕ, ◌+◌, ◌-◌, ◌*◌, ◌/◌, ◌^◌, ◌<◌, ◌≤◌, inl, inr, refl, sym, ◌∙◌, ap, List, [], ◌∷◌, ◌++◌, length, map, Bool, true, false, Some, slice_get, arith}
-use Rattle.std.proofs.lemmas.List.{append-nil, flat_map_more, length_push, map-append}
-use Rattle.std.proofs.lemmas.Bool.{leb-true}
-use Rattle.std.proofs.lemmas.Nat.{mul-le}
-use Rattle.std.proofs.lemmas.Option.{same_Some}
-use Rattle.std.proofs.Math.Nat.{mul_comm}
+use Rattle.collective_round.proofs.Words.{◌≡◌, ℕ, ◌+◌, ◌-◌, ◌*◌, ◌/◌, ◌^◌, ◌<◌, ◌≤◌, inl, inr, refl, sym, ◌∙◌, ap, List, [], ◌∷◌, ◌++◌, length, map, Bool, true, false, Some, arith, append-nil, flat_map_more, length_push, map-append, leb-true, mul-le, same_Some, mul_comm, filter, flat_map, nat_lt, nat_le, ◌==◌, range_with_len, no_none_some, range_append, Extent, Hints, first_of, last_of, windows, collective_windows, are_lawful_hints, In, EndBelow, end_after, first_at, told_of, IsCover, spans, hull_told, spans_ascend, filter_in, ceil_covers, first_least, in_left, in_range, last_most, filter_none, windows_walked, border, low_of, share_of, bytes_in, turns_of, Told, begin_or, Adjoin, AreDomains}
+use Rattle.std.proofs.Common.{slice_get}
 use borrow.Author.Tests.{ltb-true}
-use Rattle.std.specs.Prelude.{filter, flat_map, nat_lt, nat_le, ◌==◌}
-use Rattle.std.specs.List.{range_with_len}
-use Rattle.list_laws.proofs.Optional.{no_none_some}
-use Rattle.list_laws.proofs.Ranges.{range_append}
-use Rattle.nc_base.specs.declared.plan.Extent.{Extent}
-use Rattle.nc_base.specs.declared.script.Hints.{Hints}
-use Rattle.serial_spec.specs.DeviceCalls.{first_of, last_of, windows, collective_windows}
-use Rattle.serial_spec.specs.Lawful.{are_lawful_hints}
-use Rattle.overlay_laws.specs.Entries.{In}
-use Rattle.overlay_laws.specs.Lines.{EndBelow}
-use Rattle.overlay_laws.specs.Walks.{end_after, first_at, told_of, IsCover}
-use Rattle.serial_spec.specs.Extents.{spans}
-use Rattle.overlay_laws.proofs.CoverLaws.{hull_told, spans_ascend}
-use Rattle.serial_spec.proofs.MemberLaws.{filter_in}
-use Rattle.overlay_laws.proofs.HullLaws.{ceil_covers, first_least, in_left, in_range, last_most}
-use Rattle.overlay_laws.proofs.WalkLaws.{filter_none, windows_walked}
-use Rattle.file_domains.specs.Domains.{border, low_of, share_of}
-use Rattle.file_domains.specs.Rounds.{bytes_in}
-use Rattle.exchange_crew.specs.Turns.{turns_of, Told}
-use Rattle.collective_round.specs.Parts.{begin_or, Adjoin, AreDomains}
 use Rattle.collective_round.proofs.DomainSteps.{collective_is, in_range_hints, same_domains}
 
 -- ---- domains that adjoin

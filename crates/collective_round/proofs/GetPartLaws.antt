@@ -1,25 +1,9 @@
 -- Gets on the parts of a disk, which are joined again.
-use Rattle.std.proofs.Common.{◌≡◌, ◌∙◌, ℕ, ◌+◌, ◌≤◌, inl, inr, refl, sym, ap, subst, List, [], ◌∷◌, length, map, Option, Some, None, Result, Ok, Err, arith}
-use Rattle.std.specs.Prelude.{flat_map, zip, IfSome, OnOk}
-use Rattle.std.specs.List.{AllZip}
-use Rattle.nc_base.specs.declared.plan.Extent.{Extent}
-use Rattle.nc_base.specs.declared.step.DiskCall.{DiskCall}
-use Rattle.nc_outside.specs.Told.{with_end}
-use Rattle.overlay_laws.specs.Changes.{load_calls}
-use Rattle.overlay_laws.specs.Entries.{In}
-use Rattle.overlay_laws.specs.Walks.{end_after}
-use Rattle.overlay_laws.proofs.Members.{in_map}
-use Rattle.get_exchange.specs.Gets.{HasGot}
-use Rattle.exchange_crew.specs.Parts.{PartState}
-use Rattle.exchange_crew.specs.Turns.{Told}
-use Rattle.serial_spec.specs.File.{read}
-use Rattle.collective_round.specs.Parts.{parts_of, with_parts, Adjoin, Follow}
+use Rattle.collective_round.proofs.Words.{◌≡◌, ◌∙◌, ℕ, ◌+◌, ◌≤◌, inl, inr, refl, sym, ap, subst, List, [], ◌∷◌, length, map, Option, Some, None, Result, Ok, Err, arith, flat_map, zip, IfSome, OnOk, AllZip, Extent, DiskCall, with_end, load_calls, In, end_after, in_map, HasGot, PartState, Told, read, parts_of, with_parts, Adjoin, Follow, read_slice, zip_weaker}
 use Rattle.collective_round.proofs.PartDomains.{on_states, part_bytes}
 use Rattle.collective_round.proofs.PartLaws.{flat_flat, follow_again, whole_calls, whole_kept, whole_place, IsInPlace}
 use Rattle.collective_round.proofs.PartSplits.{next_begin}
 use Rattle.collective_round.proofs.PutPartLaws.{AreSplit}
-use Rattle.overlay_laws.proofs.ReadLaws.{read_slice}
-use Rattle.list_laws.proofs.Each.{zip_weaker}
 
 -- ---- the bytes of a part
 

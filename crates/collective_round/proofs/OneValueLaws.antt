@@ -1,13 +1,5 @@
 -- Entries that say one value of each byte.
-use Rattle.std.proofs.Common.{◌≡◌, ℕ, ◌∙◌, ap, inl, inr, refl, subst, sym, List, [], ◌∷◌, map}
-use Rattle.std.specs.List.{enumerate_from}
-use Rattle.nc_base.specs.declared.plan.Owned.{Owned}
-use Rattle.overlay_laws.specs.Entries.{Source, cell_of, In}
-use Rattle.overlay_laws.specs.Origins.{AreFound, IsOnceEach, IsResolved, Origin, byte_at, origins}
-use Rattle.overlay_laws.proofs.EntryLaws.{says_moved}
-use Rattle.overlay_laws.proofs.Members.{in_map, map_in}
-use Rattle.overlay_laws.proofs.OriginLaws.{cells_by_origins, greatest_once}
-use Rattle.serial_spec.specs.Said.{Cell, IsOneValued, Says, said_by}
+use Rattle.collective_round.proofs.Words.{◌≡◌, ℕ, ◌∙◌, ap, inl, inr, refl, subst, sym, List, [], ◌∷◌, map, enumerate_from, Owned, Source, cell_of, In, AreFound, IsOnceEach, IsResolved, Origin, byte_at, origins, says_moved, in_map, map_in, cells_by_origins, greatest_once, Cell, IsOneValued, Says, said_by}
 
 -- so do those of a list with nothing more
 pub one_moved : (cell : Owned → Cell) (xs ys : List Owned) → ((o : Owned) → In ys o → In xs o) → IsOneValued (said_by (map cell xs)) → IsOneValued (said_by (map cell ys))

@@ -1,25 +1,7 @@
 -- A disk in parts: which bytes each has, and what is said of the parts and of their states.
-use Rattle.std.proofs.Common.{◌≡◌, ℕ, zero, suc, ◌+◌, ◌-◌, ◌<◌, ◌≤◌, inl, inr, refl, sym, ◌∙◌, ap, subst, List, [], ◌∷◌, length, take, drop, map, Bool, true, false, Option, Some, slice_get, arith}
-use Rattle.std.proofs.lemmas.List.{length-map}
-use Rattle.std.proofs.lemmas.Option.{same_Some}
+use Rattle.collective_round.proofs.Words.{◌≡◌, ℕ, zero, suc, ◌+◌, ◌-◌, ◌<◌, ◌≤◌, inl, inr, refl, sym, ◌∙◌, ap, subst, List, [], ◌∷◌, length, take, drop, map, Bool, true, false, Option, Some, arith, length-map, same_Some, nat_lt, zip, range_with_len, AllZip, entry_map, no_none_some, Extent, Owned, after, IsFrom, cell_of, ranges, In, HaveSame, Source, end_after, first_at, IsCover, spans, in_flat, in_range, in_map, map_in, IsCovered, IsDomainOf, PartState, SomeZip, begin_or, part_between, parts_of, Adjoin, AreDomains}
+use Rattle.std.proofs.Common.{slice_get}
 use borrow.Author.Tests.{ltb-true, ltb-false}
-use Rattle.std.specs.Prelude.{nat_lt, zip}
-use Rattle.std.specs.List.{range_with_len, AllZip}
-use Rattle.list_laws.proofs.Maps.{entry_map}
-use Rattle.list_laws.proofs.Optional.{no_none_some}
-use Rattle.nc_base.specs.declared.plan.Extent.{Extent}
-use Rattle.nc_base.specs.declared.plan.Owned.{Owned}
-use Rattle.nc_outside.specs.Told.{after}
-use Rattle.serial_spec.specs.Said.{IsFrom}
-use Rattle.overlay_laws.specs.Entries.{cell_of, ranges, In, HaveSame, Source}
-use Rattle.overlay_laws.specs.Walks.{end_after, first_at, IsCover}
-use Rattle.serial_spec.specs.Extents.{spans}
-use Rattle.overlay_laws.proofs.HullLaws.{in_flat, in_range}
-use Rattle.overlay_laws.proofs.Members.{in_map, map_in}
-use Rattle.aggregator_rounds.specs.EntryParts.{IsCovered}
-use Rattle.exchange_crew.specs.Plan.{IsDomainOf}
-use Rattle.exchange_crew.specs.Parts.{PartState, SomeZip}
-use Rattle.collective_round.specs.Parts.{begin_or, part_between, parts_of, Adjoin, AreDomains}
 use Rattle.collective_round.proofs.DomainCuts.{within_reach}
 use Rattle.collective_round.proofs.PartSplits.{end_dropped, next_begin}
 

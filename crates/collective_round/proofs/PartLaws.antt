@@ -1,17 +1,5 @@
 -- Parts that are one disk again: where they are, their calls, parts that were only read, and the count of faults.
-use Rattle.std.proofs.Common.{◌≡◌, ℕ, ◌+◌, ◌-◌, ◌^◌, ◌≤◌, min, inl, inr, refl, sym, ◌∙◌, ap, subst, List, [], ◌∷◌, ◌++◌, length, take, drop, map, Option, Some, None, append_assoc, arith}
-use Rattle.std.proofs.lemmas.List.{append-nil, take_all}
-use Rattle.std.proofs.lemmas.Grind.{flat_map-append}
-use Rattle.std.specs.Prelude.{flat_map, zip, IfSome}
-use Rattle.std.specs.List.{AllZip}
-use Rattle.nc_base.specs.declared.plan.Extent.{Extent}
-use Rattle.nc_base.specs.declared.step.DiskCall.{DiskCall}
-use Rattle.nc_outside.specs.Cause.{Rose}
-use Rattle.nc_outside.specs.Told.{after, joined, with_end}
-use Rattle.nc_outside.proofs.ToldLaws.{with_end-nil}
-use Rattle.overlay_laws.specs.Walks.{end_after}
-use Rattle.exchange_crew.specs.Parts.{PartState, SomeZip}
-use Rattle.collective_round.specs.Parts.{begin_or, part_between, parts_of, with_part, with_parts, Adjoin, Follow, IsFront}
+use Rattle.collective_round.proofs.Words.{◌≡◌, ℕ, ◌+◌, ◌-◌, ◌^◌, ◌≤◌, min, inl, inr, refl, sym, ◌∙◌, ap, subst, List, [], ◌∷◌, ◌++◌, length, take, drop, map, Option, Some, None, append_assoc, arith, append-nil, take_all, flat_map-append, flat_map, zip, IfSome, AllZip, Extent, DiskCall, Rose, after, joined, with_end, with_end-nil, end_after, PartState, SomeZip, begin_or, part_between, parts_of, with_part, with_parts, Adjoin, Follow, IsFront}
 use Rattle.collective_round.proofs.PartSplits.{joined_at_least, next_begin, take_both}
 use Rattle.collective_round.proofs.PartDomains.{some_states}
 

@@ -1,15 +1,5 @@
 -- A disk that is split from the last domain on, and taken back.
-use Rattle.std.proofs.Common.{◌≡◌, ℕ, zero, suc, ◌+◌, ◌-◌, ◌^◌, ◌<◌, ◌≤◌, sym, ◌∙◌, ap, subst, List, [], ◌∷◌, ◌++◌, length, take, drop, get_or, map, Option, Err, arith}
-use Rattle.std.proofs.lemmas.List.{drop-take, drop_more, reverse-append, take-append-drop, take-take}
-use Rattle.std.specs.Prelude.{reverse, IsErrOf}
-use Rattle.nc_base.specs.declared.plan.Extent.{Extent}
-use Rattle.nc_base.specs.declared.step.DiskCall.{DiskCall}
-use Rattle.nc_outside.specs.Cause.{both_faults}
-use Rattle.nc_outside.specs.Told.{after, joined}
-use Rattle.nc_outside.proofs.ToldLaws.{after-after, after-same}
-use Rattle.overlay_laws.specs.Walks.{end_after}
-use Rattle.exchange_crew.specs.Parts.{PartState}
-use Rattle.collective_round.specs.Parts.{begin_or, part_between, with_part, with_parts, Adjoin, Follow, IsFront}
+use Rattle.collective_round.proofs.Words.{◌≡◌, ℕ, zero, suc, ◌+◌, ◌-◌, ◌^◌, ◌<◌, ◌≤◌, sym, ◌∙◌, ap, subst, List, [], ◌∷◌, ◌++◌, length, take, drop, get_or, map, Option, Err, arith, drop-take, drop_more, reverse-append, take-append-drop, take-take, reverse, IsErrOf, Extent, DiskCall, both_faults, after, joined, after-after, after-same, end_after, PartState, begin_or, part_between, with_part, with_parts, Adjoin, Follow, IsFront}
 use Rattle.collective_round.proofs.DomainCuts.{end_grows}
 
 -- ---- the begin of what comes next

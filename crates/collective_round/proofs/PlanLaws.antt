@@ -1,23 +1,6 @@
 -- The entries of puts or gets and their cover are a plan of what is to be done.
-use Rattle.std.proofs.Common.{◌≡◌, ℕ, ◌+◌, ◌-◌, ◌<◌, ◌≤◌, inl, inr, refl, subst, List, [], ◌∷◌, length, Option, Some, None, arith}
-use Rattle.std.specs.Prelude.{slice_get}
-use Rattle.file_domains.proofs.CoverParts.{get_is}
-use Rattle.nc_base.specs.declared.header.Header.{Header}
-use Rattle.nc_base.specs.declared.plan.Batch.{Batch}
-use Rattle.nc_base.specs.declared.plan.Extent.{Extent}
-use Rattle.nc_base.specs.declared.plan.Owned.{Owned}
-use Rattle.aggregator_rounds.specs.EntryParts.{bytes_of_post}
-use Rattle.overlay_laws.specs.Entries.{Source, In, HaveSame, ranges}
-use Rattle.overlay_laws.specs.Origins.{AreFound}
-use Rattle.overlay_laws.specs.Walks.{IsCover}
-use Rattle.serial_spec.specs.Extents.{spans}
-use Rattle.overlay_laws.proofs.Members.{in_map}
-use Rattle.get_exchange.specs.Gets.{IsGetPlan}
-use Rattle.exchange_crew.specs.Pieces.{ArePieces}
-use Rattle.exchange_crew.specs.Plan.{IsPlan}
+use Rattle.collective_round.proofs.Words.{◌≡◌, ℕ, ◌+◌, ◌-◌, ◌<◌, ◌≤◌, inl, inr, refl, subst, List, [], ◌∷◌, length, Option, Some, None, arith, slice_get, get_is, Header, Batch, Extent, Owned, bytes_of_post, Source, In, HaveSame, ranges, AreFound, IsCover, spans, in_map, IsGetPlan, ArePieces, IsPlan, Puts, source_of, AreGot, AreLaid, AreSorted}
 use Rattle.exchange_crew.specs.Turns as turns
-use Rattle.serial_spec.specs.SharedByte.{Puts}
-use Rattle.collective_round.specs.Laid.{source_of, AreGot, AreLaid, AreSorted}
 use Rattle.collective_round.proofs.PutLaws.{cover_ends}
 
 -- where the first batch is that of rank 0

@@ -1,23 +1,5 @@
 -- Puts on the parts of a disk, which are joined again.
-use Rattle.std.proofs.Common.{◌≡◌, ℕ, ◌+◌, ◌-◌, ◌^◌, ◌<◌, ◌≤◌, sym, subst, List, [], ◌∷◌, length, map, Result, arith}
-use Rattle.std.specs.Prelude.{flat_map, zip, IfSome, IsErrOf}
-use Rattle.std.specs.List.{range_with_len, AllZip}
-use Rattle.nc_base.specs.declared.plan.Extent.{Extent}
-use Rattle.nc_base.specs.declared.plan.Owned.{Owned}
-use Rattle.nc_outside.specs.Cause.{HasDiskCause, Rose}
-use Rattle.nc_outside.specs.declared.disk.DiskErr.{DiskErr}
-use Rattle.nc_outside.specs.declared.disk.DiskErr.TheVariants.{Failed}
-use Rattle.aggregator_rounds.specs.EntryParts.{AreFilled}
-use Rattle.data_sieving.specs.Sieving.{LieOn}
-use Rattle.aggregator_rounds.proofs.EntryCells.{entries_within}
-use Rattle.overlay_laws.specs.Entries.{ranges, In, HaveSame, Source}
-use Rattle.overlay_laws.specs.Walks.{end_after, IsCover}
-use Rattle.serial_spec.specs.Extents.{spans}
-use Rattle.overlay_laws.proofs.HullLaws.{flat_in, in_left, in_range, in_right, range_high}
-use Rattle.put_exchange.specs.Put.{HasPut}
-use Rattle.exchange_crew.specs.Parts.{PartState, SomeZip}
-use Rattle.exchange_crew.specs.Turns.{Told}
-use Rattle.collective_round.specs.Parts.{parts_of, with_parts, Adjoin, AreDomains, Follow, IsFront}
+use Rattle.collective_round.proofs.Words.{◌≡◌, ℕ, ◌+◌, ◌-◌, ◌^◌, ◌<◌, ◌≤◌, sym, subst, List, [], ◌∷◌, length, map, Result, arith, flat_map, zip, IfSome, IsErrOf, range_with_len, AllZip, Extent, Owned, HasDiskCause, Rose, DiskErr, Failed, AreFilled, LieOn, entries_within, ranges, In, HaveSame, Source, end_after, IsCover, spans, flat_in, in_left, in_range, in_right, range_high, HasPut, PartState, SomeZip, Told, parts_of, with_parts, Adjoin, AreDomains, Follow, IsFront}
 use Rattle.collective_round.proofs.PartSplits.{joined_at_least}
 use Rattle.collective_round.proofs.PartDomains.{cells_behind, domains_room}
 use Rattle.collective_round.proofs.PartLaws.{joined_rose}

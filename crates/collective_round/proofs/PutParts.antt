@@ -1,32 +1,11 @@
 -- Parts that were put, or of which each byte is old or new: what the disk is once they are joined again.
-use Rattle.std.proofs.Common.{◌≡◌, ℕ, ◌+◌, ◌-◌, ◌≤◌, ◌⊎◌, max, min, inl, inr, refl, sym, ◌∙◌, ap, subst, List, [], ◌∷◌, ◌++◌, length, take, drop, map, Bool, true, false, Option, Some, None, Result, Ok, Err, append_assoc, arith}
-use Rattle.std.proofs.lemmas.List.{append-nil, length-append, length-drop, length-take, get_or_append_left, get_or-append_right, take_all}
+use Rattle.collective_round.proofs.Words.{◌≡◌, ℕ, ◌+◌, ◌-◌, ◌≤◌, ◌⊎◌, max, min, inl, inr, refl, sym, ◌∙◌, ap, subst, List, [], ◌∷◌, ◌++◌, length, take, drop, map, Bool, true, false, Option, Some, None, Result, Ok, Err, append_assoc, arith, append-nil, length-drop, length-take, get_or_append_left, get_or-append_right, take_all, flat_map, nat_lt, zip, IfSome, OnOk, AllZip, Extent, Owned, DiskCall, after, joined, with_end, BothTold, laid_none, at, Cell, write_cells, moved_down, IsFrom, IsWithin, store_calls, IsBetween, cell_of, Source, end_after, clips, parts_done, cells_long, within_lowered, clips_within, clips_from, put_part, HasPut, PartState, Told, begin_or, parts_of, with_part, with_parts, Adjoin, Follow, IsFront, zip_weaker}
+use Rattle.std.proofs.lemmas.List.{length-append}
 use borrow.Author.Tests.{ltb-true, ltb-false}
-use Rattle.std.specs.Prelude.{flat_map, nat_lt, zip, IfSome, OnOk}
-use Rattle.std.specs.List.{AllZip}
-use Rattle.nc_base.specs.declared.plan.Extent.{Extent}
-use Rattle.nc_base.specs.declared.plan.Owned.{Owned}
-use Rattle.nc_base.specs.declared.step.DiskCall.{DiskCall}
-use Rattle.nc_outside.specs.Told.{after, joined, with_end, BothTold}
-use Rattle.nc_outside.proofs.Across.{laid_none}
-use Rattle.serial_spec.specs.File.{at}
-use Rattle.serial_spec.specs.Said.{Cell, write_cells, moved_down, IsFrom, IsWithin}
-use Rattle.overlay_laws.specs.Changes.{store_calls, IsBetween}
-use Rattle.overlay_laws.specs.Entries.{cell_of, Source}
 use Rattle.overlay_laws.specs.Parts.{written_parts, joined as bytes_joined}
-use Rattle.overlay_laws.specs.Walks.{end_after}
-use Rattle.overlay_laws.specs.Windows.{clips}
-use Rattle.overlay_laws.proofs.PartLaws.{parts_done}
-use Rattle.overlay_laws.proofs.SaidLaws.{cells_long}
-use Rattle.overlay_laws.proofs.WindowLaws.{within_lowered, clips_within, clips_from}
-use Rattle.put_exchange.specs.Put.{put_part, HasPut}
-use Rattle.exchange_crew.specs.Parts.{PartState}
-use Rattle.exchange_crew.specs.Turns.{Told}
-use Rattle.collective_round.specs.Parts.{begin_or, parts_of, with_part, with_parts, Adjoin, Follow, IsFront}
 use Rattle.collective_round.proofs.PartSplits.{begin_within, next_begin, take_both}
 use Rattle.collective_round.proofs.PartDomains.{on_states}
 use Rattle.collective_round.proofs.PartLaws.{IsInPlace, follow_again, whole_place, whole_calls, flat_flat, held_none}
-use Rattle.list_laws.proofs.Each.{zip_weaker}
 
 -- ---- parts that were put
 

@@ -1,13 +1,6 @@
 -- The calls of a step are those of its windows.
-use Rattle.std.proofs.Common.{◌≡◌, ℕ, ◌∙◌, ap, List, Option}
-use Rattle.std.proofs.lemmas.List.Folds.{flat_map-map}
-use Rattle.std.specs.Prelude.{map, flat_map}
-use Rattle.nc_base.specs.declared.step.DiskCall.{DiskCall}
-use Rattle.nc_outside.specs.Told.{with_end}
-use Rattle.serial_spec.specs.DeviceCalls.{overlays, loads}
-use Rattle.overlay_laws.specs.Changes.{load_calls, store_calls}
-use Rattle.overlay_laws.specs.Walks.{told_of}
-use Rattle.exchange_crew.specs.Turns.{Told}
+use Rattle.collective_round.proofs.Words.{◌≡◌, ℕ, ◌∙◌, ap, List, Option, flat_map-map, flat_map, DiskCall, with_end, overlays, loads, load_calls, store_calls, told_of, Told}
+use Rattle.std.specs.Prelude.{map}
 
 pub stores_are : (ws : List (List ℕ)) → flat_map store_calls (map told_of ws) ≡ flat_map overlays ws
 stores_are ws = flat_map-map store_calls told_of ws

@@ -1,41 +1,9 @@
 -- A torn file: each byte outside of the count's field that is old or new, and what a longer or a later write leaves of it.
-use Rattle.overlay_laws.proofs.Members.{each_in}
-use Rattle.list_laws.proofs.Truth.{and_first, and_second, no_false, or_first_false, or_second_false}
-use Rattle.std.proofs.lemmas.Bool.{leb-true, le-leb, lt-ltb, or_right}
-use Rattle.std.proofs.Common.{◌≡◌, ℕ, ◌+◌, ◌<◌, ◌≤◌, refl, sym, ap, subst, ◌∙◌, inl, inr, ◌⊎◌, List, [], ◌∷◌, length, Bool, true, false, ◌||◌, ◌&&◌, max, Option, Some, None, arith}
-use Rattle.std.proofs.lemmas.Grind.{common_steps}
-use Rattle.std.proofs.lemmas.Bool.Decides.{nat_tests}
-use Rattle.std.specs.Prelude.{map, nat_lt, nat_le, ◌==◌, slice_get}
-use Rattle.std.specs.List.{list_any, range_with_len}
-use Rattle.std.specs.Int.{byte_len}
+use Rattle.collective_round.proofs.Words.{each_in, and_first, and_second, no_false, or_first_false, or_second_false, leb-true, le-leb, lt-ltb, or_right, ◌≡◌, ℕ, ◌+◌, ◌<◌, ◌≤◌, refl, sym, ap, subst, ◌∙◌, inl, inr, ◌⊎◌, List, [], ◌∷◌, length, Bool, true, false, ◌||◌, ◌&&◌, max, Option, Some, None, arith, common_steps, nat_tests, nat_lt, nat_le, ◌==◌, slice_get, list_any, range_with_len, byte_len, Header, Var, Post, Direction, PartlyWritten, size_of, at, longer, Setting, end_for, after_puts, count, count_width, header_len, is_sound, place, IsElementBelow, needed_by, records_of, with_records, check_some, places, elements, Puts, bytes_of, bytes_of_some, covered, IsTorn, may_change, accepted_elements, elements_past_header, at-longer, at-written_before, at-written_after, longer_long, canon_len, IsBetween, In, any_in, flat_in, range_low, ArePuts, written_grows, after_long}
+use Rattle.std.specs.Prelude.{map}
 use borrow.Author.Tests.{ltb-true, ltb-false}
-use Rattle.nc_base.specs.declared.header.Header.{Header}
-use Rattle.nc_base.specs.declared.header.Var.{Var}
-use Rattle.nc_base.specs.declared.plan.Post.{Post}
-use Rattle.nc_base.specs.declared.request.Direction.{Direction}
-use Rattle.nc_outside.specs.DiskState.{PartlyWritten}
-use Rattle.serial_spec.specs.ExternalForm.{size_of}
-use Rattle.serial_spec.specs.File.{at, longer}
-use Rattle.serial_spec.specs.FileStep.{Setting, end_for, after_puts}
-use Rattle.serial_spec.specs.HeaderBytes.{count, count_width, header_len}
-use Rattle.serial_spec.specs.SoundHeaders.{is_sound}
-use Rattle.serial_spec.specs.Place.{place, IsElementBelow}
-use Rattle.serial_spec.specs.Records.{needed_by, records_of, with_records}
-use Rattle.serial_spec.specs.RegionCheck.{check_some}
-use Rattle.serial_spec.specs.Request.{places, elements}
 use Rattle.nc_base.specs.declared.answer.Code.TheVariants as code
-use Rattle.serial_spec.specs.SharedByte.{Puts, bytes_of, bytes_of_some, covered}
-use Rattle.serial_spec.specs.Torn.{IsTorn, may_change}
-use Rattle.serial_spec.proofs.AcceptLaws.{accepted_elements}
-use Rattle.serial_spec.proofs.ApartLaws.{elements_past_header}
-use Rattle.serial_spec.proofs.FileLaws.{at-longer, at-written_before, at-written_after, longer_long}
-use Rattle.var_layout.proofs.WrittenLengths.{canon_len}
-use Rattle.overlay_laws.specs.Changes.{IsBetween}
-use Rattle.overlay_laws.specs.Entries.{In}
-use Rattle.overlay_laws.proofs.HullLaws.{any_in, flat_in, range_low}
-use Rattle.collective_round.specs.Rounds.{ArePuts}
 use Rattle.serial_spec.proofs.KeepLaws.{after_keeps, count_long as length-count}
-use Rattle.serial_spec.proofs.GrowLaws.{written_grows, after_long}
 
 -- ---- the field of the count
 

@@ -1,28 +1,8 @@
 -- What a refused step of puts leaves of a file.
-use Rattle.std.proofs.lemmas.Bool.{lt-ltb}
-use Rattle.std.proofs.Common.{◌≡◌, ℕ, ◌+◌, ◌<◌, ◌≤◌, refl, sym, ap, subst, inr, List, [], length, Bool, true, false, cond, Option, Some, None, arith}
-use Rattle.std.specs.Prelude.{nat_lt}
-use Rattle.std.specs.Int.{byte_len}
-use Rattle.nc_base.specs.declared.answer.Pair.{Pair}
-use Rattle.nc_outside.specs.DiskState.{PartlyWritten}
-use Rattle.nc_outside.specs.Told.{after, BothTold}
-use Rattle.nc_outside.proofs.ToldLaws.{told_as}
-use Rattle.serial_spec.specs.File.{at, longer}
-use Rattle.serial_spec.specs.FileStep.{Setting, end_for, after_puts, told}
-use Rattle.serial_spec.specs.HeaderBytes.{count, count_width}
-use Rattle.serial_spec.specs.SoundHeaders.{is_sound}
-use Rattle.serial_spec.specs.Records.{needed_by, with_records}
-use Rattle.serial_spec.specs.SharedByte.{Puts, covered}
-use Rattle.serial_spec.specs.Torn.{IsTorn}
-use Rattle.overlay_laws.specs.Changes.{IsBetween}
-use Rattle.serial_spec.specs.Owner.{needed_now}
-use Rattle.collective_round.specs.Rounds.{ArePuts, after_round, counted}
+use Rattle.collective_round.proofs.Words.{lt-ltb, ◌≡◌, ℕ, ◌+◌, ◌<◌, ◌≤◌, refl, sym, ap, subst, inr, List, [], length, Bool, true, false, cond, Option, Some, None, arith, nat_lt, byte_len, Pair, PartlyWritten, after, BothTold, told_as, at, longer, Setting, end_for, after_puts, told, count, count_width, is_sound, needed_by, with_records, Puts, covered, IsTorn, IsBetween, needed_now, ArePuts, after_round, counted, after_keeps, longer_long, after_long, after_grows, raised_grows}
 use Rattle.collective_round.proofs.PutLaws.{laid_round}
 use Rattle.collective_round.proofs.StepLaws.{round_by}
 use Rattle.collective_round.proofs.TornFiles.{covered_past, torn_by, torn_still, torn_grown, torn_laid, torn_wider, counted_past, torn_counted, torn_after, torn_stored}
-use Rattle.serial_spec.proofs.KeepLaws.{after_keeps}
-use Rattle.serial_spec.proofs.FileLaws.{longer_long}
-use Rattle.serial_spec.proofs.GrowLaws.{after_long, after_grows, raised_grows}
 
 -- ---- a step, on a disk that may tell its bytes
 

@@ -1,14 +1,5 @@
 -- The calls that were done, and those that are left.
-use Rattle.std.proofs.Common.{◌≡◌, ℕ, ◌+◌, ◌≤◌, refl, sym, ◌∙◌, ap, List, [], ◌∷◌, ◌++◌, length, take, drop, min, Option, Some, None, append_assoc, arith}
-use Rattle.std.proofs.lemmas.List.{append-nil, take_at, drop_at, take_min, take-append-le}
-use Rattle.std.proofs.Math.Seq.{take-add}
-use Rattle.std.specs.Prelude.{flat_map}
-use Rattle.std.specs.Option.{option_map}
-use Rattle.nc_base.specs.declared.step.DiskCall.{DiskCall}
-use Rattle.nc_outside.specs.Told.{with_end}
-use Rattle.overlay_laws.specs.Changes.{IsBegun}
-use Rattle.data_sieving.specs.Walked.{HasDone}
-use Rattle.nc_outside.proofs.ToldLaws.{no_calls, with_end-with_end}
+use Rattle.data_sieving.proofs.Words.{◌≡◌, ℕ, ◌+◌, ◌≤◌, refl, sym, ◌∙◌, ap, List, [], ◌∷◌, ◌++◌, length, take, drop, min, Option, Some, None, append_assoc, arith, append-nil, take_at, drop_at, take_min, take-append-le, take-add, flat_map, option_map, DiskCall, with_end, IsBegun, HasDone, no_calls, with_end-with_end}
 
 pub none_done : (plan rest : List DiskCall) (old : Option (List DiskCall)) → plan ≡ rest → HasDone plan rest old old
 none_done plan rest old e = record { done = []; told = no_calls old; whole = e }

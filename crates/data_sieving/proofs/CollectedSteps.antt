@@ -1,21 +1,8 @@
 -- The entries of one window, which are collected from its buffer one after another.
-use Rattle.std.proofs.Common.{◌≡◌, ◌≢◌, ℕ, ◌+◌, ◌-◌, ◌<◌, ◌≤◌, refl, sym, ◌∙◌, ap, subst, List, [], ◌∷◌, ◌++◌, length, take, drop, get_or, set, Bool, true, false, cond, Option, Some, None, arith}
-use Rattle.std.proofs.lemmas.Grind.{fold-append}
-use Rattle.std.proofs.lemmas.List.{map-append, length-take, length-set, take_more, get_or-set_same, get_or-set_other}
-use Rattle.std.specs.Prelude.{map, ◌==◌, IfSome}
+use Rattle.data_sieving.proofs.Words.{◌≡◌, ◌≢◌, ℕ, ◌+◌, ◌-◌, ◌<◌, ◌≤◌, refl, sym, ◌∙◌, ap, subst, List, [], ◌∷◌, ◌++◌, length, take, drop, get_or, set, Bool, true, false, cond, Option, Some, None, arith, fold-append, map-append, length-take, length-set, take_more, get_or-set_same, get_or-set_other, ◌==◌, IfSome, length-written_inside, Owned, Window, read, written, Cell, write_cells, of_slot, HasGot, FitBlobs, HaveOnePlace, AreAsLong, LieOn, blob_at, part_in, buffer_cell, IsPast, IsNext, HasGotPart, filter-append, buffer_cells}
+use Rattle.std.specs.Prelude.{map}
 use borrow.Author.Tests.{eqb-true, eqb-false}
-use Rattle.serial_spec.proofs.FileLaws.{length-written_inside}
-use Rattle.nc_base.specs.declared.plan.Owned.{Owned}
-use Rattle.file_domains.specs.declared.walk.Window.{Window}
-use Rattle.serial_spec.specs.File.{read, written}
-use Rattle.serial_spec.specs.Said.{Cell, write_cells}
-use Rattle.data_sieving.specs.Sieving.{of_slot, HasGot, FitBlobs, HaveOnePlace, AreAsLong, LieOn}
-use Rattle.aggregator_rounds.specs.EntryParts.{blob_at, part_in, buffer_cell}
-use Rattle.aggregator_rounds.specs.Left.{IsPast}
-use Rattle.data_sieving.specs.Walked.{IsNext, HasGotPart}
 use Rattle.data_sieving.proofs.GetSteps.{got_step, got_begin, got_end}
-use Rattle.std.proofs.lemmas.List.Elements.{filter-append}
-use Rattle.aggregator_rounds.proofs.ReadParts.{buffer_cells}
 
 -- ---- one entry more
 

@@ -1,27 +1,7 @@
 -- Entries that are read window by window, each into its blob: before the first window, one window more, after the last.
-use Rattle.std.proofs.Common.{◌≡◌, ℕ, ◌+◌, ◌<◌, ◌≤◌, inl, inr, refl, sym, ◌∙◌, ap, subst, List, [], ◌++◌, length, Bool, true, false, Option, Some, None, arith}
-use Rattle.std.proofs.lemmas.Grind.{fold-append}
-use Rattle.std.specs.Prelude.{nat_lt, ◌==◌}
+use Rattle.data_sieving.proofs.Words.{◌≡◌, ℕ, ◌+◌, ◌<◌, ◌≤◌, inl, inr, refl, sym, ◌∙◌, ap, subst, List, [], ◌++◌, length, Bool, true, false, Option, Some, None, arith, fold-append, nat_lt, ◌==◌, in_filter, filter_in, equal_true, Owned, Window, written, said_at, said_by, Says, IsOneValued, write_cells, In, same_said, said_is, said_in_any_order, append_within, said_by_joined, says_left, says_right, says_cases, in_either, of_slot, HasGot, FitBlobs, HaveOnePlace, got_cells, blob_at, places_of, IsCovered, IsPast, IsNext, HasGotPart, past_covered, past_all, past_kept, parts_got, IsRead, got_says, says_got, read_as, read_once, parts_within, whole_parts}
 use borrow.Author.Tests.{ltb-true, ltb-false, eqb-true}
-use Rattle.serial_spec.proofs.MemberLaws.{in_filter, filter_in}
-use Rattle.list_laws.proofs.Truth.{equal_true}
-use Rattle.nc_base.specs.declared.plan.Owned.{Owned}
-use Rattle.file_domains.specs.declared.walk.Window.{Window}
-use Rattle.serial_spec.specs.File.{written}
-use Rattle.serial_spec.specs.Said.{said_at, said_by, Says, IsOneValued, write_cells}
-use Rattle.overlay_laws.specs.Entries.{In}
-use Rattle.overlay_laws.proofs.SaidLaws.{same_said, said_is, said_in_any_order}
-use Rattle.overlay_laws.proofs.WindowLaws.{append_within, said_by_joined}
-use Rattle.overlay_laws.proofs.EntryLaws.{says_left, says_right, says_cases}
-use Rattle.overlay_laws.proofs.HullLaws.{in_either}
-use Rattle.data_sieving.specs.Sieving.{of_slot, HasGot, FitBlobs, HaveOnePlace}
-use Rattle.aggregator_rounds.specs.EntryParts.{got_cells, blob_at, places_of, IsCovered}
-use Rattle.aggregator_rounds.specs.Left.{IsPast}
-use Rattle.data_sieving.specs.Walked.{IsNext, HasGotPart}
-use Rattle.aggregator_rounds.proofs.CoveredBytes.{past_covered}
-use Rattle.aggregator_rounds.proofs.PastSteps.{past_all, past_kept}
 use Rattle.data_sieving.proofs.ReachSteps.{served_in}
-use Rattle.aggregator_rounds.proofs.ReadParts.{parts_got, IsRead, got_says, says_got, read_as, read_once, parts_within, whole_parts}
 
 -- ---- the entries of a slot
 

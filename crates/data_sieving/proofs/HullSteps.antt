@@ -1,19 +1,6 @@
 -- The hull of entries, entry by entry.
-use Rattle.std.proofs.Common.{◌≡◌, ℕ, ◌+◌, ◌-◌, ◌<◌, ◌≤◌, ◌⊎◌, inl, inr, refl, sym, ◌∙◌, ap, subst, List, [], ◌∷◌, ◌++◌, append_assoc, length, take, get_or, Bool, true, false, min, max, Some, slice_get, arith}
-use Rattle.std.proofs.lemmas.List.{take_more, take_all}
-use Rattle.std.specs.Prelude.{nat_lt}
-use Rattle.std.proofs.lemmas.Option.{slice_get-get_or}
+use Rattle.data_sieving.proofs.Words.{◌≡◌, ℕ, ◌+◌, ◌-◌, ◌<◌, ◌≤◌, ◌⊎◌, inl, inr, refl, sym, ◌∙◌, ap, subst, List, [], ◌∷◌, ◌++◌, append_assoc, length, take, get_or, Bool, true, false, min, max, Some, slice_get, arith, take_more, take_all, nat_lt, slice_get-get_or, entry_in, Owned, Window, In, extents, IsByPlace, in_either, in_left, in_right, AreFilled, IsCovered, IsHull, Reach, covered_left, before_or_later}
 use borrow.Author.Tests.{ltb-true, ltb-false}
-use Rattle.overlay_laws.proofs.Members.{entry_in}
-use Rattle.nc_base.specs.declared.plan.Owned.{Owned}
-use Rattle.file_domains.specs.declared.walk.Window.{Window}
-use Rattle.overlay_laws.specs.Entries.{In}
-use Rattle.overlay_laws.specs.Lines.{extents, IsByPlace}
-use Rattle.overlay_laws.proofs.HullLaws.{in_either, in_left, in_right}
-use Rattle.aggregator_rounds.specs.EntryParts.{AreFilled, IsCovered}
-use Rattle.data_sieving.specs.Walked.{IsHull, Reach}
-use Rattle.aggregator_rounds.proofs.CoveredBytes.{covered_left}
-use Rattle.aggregator_rounds.proofs.SplitSteps.{before_or_later}
 
 -- the entries seen so far reach up to a place, with a hole before it or not
 pub record Scanned (at stop end : ℕ) (solid : Bool) (whole seen : List Owned) (count : ℕ) : Type 0 where

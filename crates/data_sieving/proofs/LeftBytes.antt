@@ -1,17 +1,5 @@
 -- The bytes that entries have from a place on.
-use Rattle.std.proofs.Common.{◌≡◌, ℕ, ◌≤◌, inl, refl, ap, List, [], ◌∷◌, arith}
-use Rattle.std.specs.Prelude.{nat_le}
-use Rattle.std.proofs.lemmas.Bool.{le-leb, leb-true}
-use Rattle.serial_spec.proofs.MemberLaws.{in_filter, filter_in}
-use Rattle.nc_base.specs.declared.plan.Owned.{Owned}
-use Rattle.serial_spec.specs.DeviceCalls.{in_order}
-use Rattle.overlay_laws.specs.Entries.{In, ranges}
-use Rattle.overlay_laws.specs.Hulls.{IsAscending}
-use Rattle.overlay_laws.proofs.HullLaws.{filter_ascends, in_in_order, in_order_in, in_order_ascends, first_least}
-use Rattle.overlay_laws.proofs.CoverLaws.{same_ascending}
-use Rattle.aggregator_rounds.specs.EntryParts.{IsCovered}
-use Rattle.aggregator_rounds.proofs.CoveredBytes.{in_ranges, ranges_in}
-use Rattle.data_sieving.specs.Walked.{bytes_from}
+use Rattle.data_sieving.proofs.Words.{◌≡◌, ℕ, ◌≤◌, inl, refl, ap, List, [], ◌∷◌, arith, nat_le, le-leb, leb-true, in_filter, filter_in, Owned, in_order, In, ranges, IsAscending, filter_ascends, in_in_order, in_order_in, in_order_ascends, first_least, same_ascending, IsCovered, in_ranges, ranges_in, bytes_from}
 
 pub byte_from : (place : ℕ) (list : List Owned) (x : ℕ) → place ≤ x → IsCovered list x → In (bytes_from place list) x
 byte_from place list x h c =

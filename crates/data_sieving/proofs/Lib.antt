@@ -1,3 +1,4 @@
+mod Words
 pub mod LeftBytes
 pub mod HullSteps
 pub mod WindowSteps

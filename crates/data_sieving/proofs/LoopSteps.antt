@@ -1,28 +1,8 @@
 -- One window of a loop over all windows.
-use Rattle.std.proofs.Common.{Bool, ◌≡◌, ℕ, ◌+◌, ◌^◌, ◌≤◌, ◌∙◌, ap, subst, List, [], ◌++◌, length, Option, arith}
-use Rattle.std.specs.Prelude.{IfSome, flat_map}
-use Rattle.serial_spec.proofs.MemberLaws.{at_in}
-use Rattle.overlay_laws.specs.Entries.{In}
-use Rattle.nc_base.specs.declared.plan.Owned.{Owned}
-use Rattle.nc_base.specs.declared.plan.Post.{Post}
-use Rattle.nc_base.specs.declared.step.DiskCall.{DiskCall}
-use Rattle.file_domains.specs.declared.walk.Window.{Window}
-use Rattle.nc_outside.specs.Told.{after, with_end, BothTold}
-use Rattle.serial_spec.specs.DeviceCalls.{overlays}
-use Rattle.serial_spec.specs.Said.{write_cells, moved_down}
-use Rattle.overlay_laws.specs.Walks.{told_of}
-use Rattle.overlay_laws.specs.Windows.{clips}
-use Rattle.overlay_laws.specs.Lines.{extents, IsByPlace, EndBelow}
-use Rattle.overlay_laws.specs.Changes.{IsBetween, IsBegun, store_calls}
-use Rattle.aggregator_rounds.specs.Pieces.{told_window}
-use Rattle.aggregator_rounds.specs.EntryParts.{source_of, AreFilled}
-use Rattle.data_sieving.specs.Sieving.{put_cells, entry_windows, LieOn}
-use Rattle.aggregator_rounds.specs.Left.{IsPast}
-use Rattle.data_sieving.specs.Walked.{AreLeft, LieAcross, IsNext, HasDone, windows_from}
+use Rattle.data_sieving.proofs.Words.{Bool, ◌≡◌, ℕ, ◌+◌, ◌^◌, ◌≤◌, ◌∙◌, ap, subst, List, [], ◌++◌, length, Option, arith, IfSome, flat_map, at_in, In, Owned, Post, DiskCall, Window, after, with_end, BothTold, overlays, write_cells, moved_down, told_of, clips, extents, IsByPlace, EndBelow, IsBetween, IsBegun, store_calls, told_window, source_of, AreFilled, put_cells, entry_windows, LieOn, IsPast, AreLeft, LieAcross, IsNext, HasDone, windows_from, entries_from, entries_within}
 use Rattle.data_sieving.proofs.WindowSteps.{window_bytes, next_told, windows_next, all_windows, no_window}
 use Rattle.data_sieving.proofs.CallSteps.{none_done, done_more, all_done, done_begun}
 use Rattle.data_sieving.proofs.PutSteps.{AreCells, file_to, file_step, to_begin, to_end, mixed_to, held_same, held_begin, held_twice, held_refused}
-use Rattle.aggregator_rounds.proofs.EntryCells.{entries_from, entries_within}
 use Rattle.data_sieving.proofs.ReachSteps.{hull_low, hull_high}
 
 -- ---- the walk

@@ -1,15 +1,5 @@
 -- The next window of what is left.
-use Rattle.std.proofs.Common.{◌≡◌, ℕ, ◌+◌, ◌-◌, ◌^◌, ◌<◌, ◌≤◌, ◌⊎◌, inl, inr, refl, sym, ◌∙◌, ap, subst, List, [], ◌∷◌, ◌++◌, length, max, min, Some, slice_get, arith}
-use Rattle.std.proofs.lemmas.Option.{same_Some}
-use Rattle.serial_spec.proofs.MemberLaws.{at_in}
-use Rattle.nc_base.specs.declared.plan.Owned.{Owned}
-use Rattle.overlay_laws.specs.Entries.{In}
-use Rattle.file_domains.specs.declared.walk.Window.{Window}
-use Rattle.aggregator_rounds.specs.Left.{IsPast, BeginBefore}
-use Rattle.data_sieving.specs.Walked.{AreLeft, LieAcross, IsHull, IsNext}
-use Rattle.aggregator_rounds.proofs.PastSteps.{past_in, past_extents, past_sorted}
-use Rattle.aggregator_rounds.proofs.SplitSteps.{front_all, first_begins, first_joined}
-use Rattle.overlay_laws.proofs.EntryLaws.{in_extents}
+use Rattle.data_sieving.proofs.Words.{◌≡◌, ℕ, ◌+◌, ◌-◌, ◌^◌, ◌<◌, ◌≤◌, ◌⊎◌, inl, inr, refl, sym, ◌∙◌, ap, subst, List, [], ◌∷◌, ◌++◌, length, max, min, Some, slice_get, arith, same_Some, at_in, Owned, In, Window, IsPast, BeginBefore, AreLeft, LieAcross, IsHull, IsNext, past_in, past_extents, past_sorted, front_all, first_begins, first_joined, in_extents}
 
 -- the first byte that is not served lies in the first entry
 pub at_below : (left : List Owned) (place size at : ℕ) (first : Owned) → AreLeft left place size → slice_get left 0 ≡ Some first → at ≡ max first.extent.at place

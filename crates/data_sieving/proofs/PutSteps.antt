@@ -1,28 +1,6 @@
 -- Entries that are written window by window.
-use Rattle.std.proofs.Common.{◌≡◌, ℕ, ◌+◌, ◌-◌, ◌<◌, ◌≤◌, ◌⊎◌, inl, inr, refl, sym, ◌∙◌, ap, subst, List, [], ◌∷◌, ◌++◌, length, drop, Bool, true, false, max, min, Option, Some, None, arith}
-use Rattle.std.proofs.lemmas.Grind.{fold-append}
-use Rattle.std.proofs.lemmas.List.{map-append, length-take, length-drop}
-use Rattle.std.specs.Prelude.{nat_lt, IfSome}
-use Rattle.std.specs.Option.{option_or}
+use Rattle.data_sieving.proofs.Words.{◌≡◌, ℕ, ◌+◌, ◌-◌, ◌<◌, ◌≤◌, ◌⊎◌, inl, inr, refl, sym, ◌∙◌, ap, subst, List, [], ◌∷◌, ◌++◌, length, drop, Bool, true, false, max, min, Option, Some, None, arith, fold-append, map-append, length-take, length-drop, nat_lt, IfSome, option_or, from_less, cells_said, second_counts, Owned, Window, after, BothTold, at, written, Cell, said_at, said_by, byte_or, write_cells, IsFrom, IsWithin, moved_down, clips, In, Source, IsBetween, cells_long, same_said, moved_said, within_lowered, within_more, append_within, none_below, none_past, clips_within, clips_from, clips_in, said_joined, IsCovered, IsPast, IsNext, past_covered, front_covered, entry_cells, entries_two, unsaid}
 use borrow.Author.Tests.{ltb-true, ltb-false}
-use Rattle.aggregator_rounds.proofs.RoundLaws.{from_less}
-use Rattle.serial_spec.proofs.SaidLaws.{cells_said}
-use Rattle.list_laws.proofs.Optional.{second_counts}
-use Rattle.nc_base.specs.declared.plan.Owned.{Owned}
-use Rattle.file_domains.specs.declared.walk.Window.{Window}
-use Rattle.nc_outside.specs.Told.{after, BothTold}
-use Rattle.serial_spec.specs.File.{at, written}
-use Rattle.serial_spec.specs.Said.{Cell, said_at, said_by, byte_or, write_cells, IsFrom, IsWithin, moved_down}
-use Rattle.overlay_laws.specs.Windows.{clips}
-use Rattle.overlay_laws.specs.Entries.{In, Source}
-use Rattle.overlay_laws.specs.Changes.{IsBetween}
-use Rattle.overlay_laws.proofs.SaidLaws.{cells_long, same_said}
-use Rattle.overlay_laws.proofs.WindowLaws.{moved_said, within_lowered, within_more, append_within, none_below, none_past, clips_within, clips_from, clips_in, said_joined}
-use Rattle.aggregator_rounds.specs.EntryParts.{IsCovered}
-use Rattle.aggregator_rounds.specs.Left.{IsPast}
-use Rattle.data_sieving.specs.Walked.{IsNext}
-use Rattle.aggregator_rounds.proofs.CoveredBytes.{past_covered, front_covered}
-use Rattle.aggregator_rounds.proofs.EntryCells.{entry_cells, entries_two, unsaid}
 
 -- ---- entries laid
 

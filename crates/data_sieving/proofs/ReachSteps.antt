@@ -1,19 +1,5 @@
 -- What holds of all entries holds of those of a window.
-use Rattle.std.proofs.Common.{ℕ, ◌+◌, ◌^◌, ◌<◌, ◌≤◌, sym, subst, List, [], ◌∷◌, ◌++◌, arith}
-use Rattle.nc_base.specs.declared.plan.Extent.{Extent}
-use Rattle.nc_base.specs.declared.plan.Owned.{Owned}
-use Rattle.file_domains.specs.declared.walk.Window.{Window}
-use Rattle.overlay_laws.specs.Entries.{In, Source}
-use Rattle.overlay_laws.specs.Origins.{AreFound}
-use Rattle.overlay_laws.specs.Lines.{extents, EndBelow}
-use Rattle.overlay_laws.proofs.HullLaws.{in_left}
-use Rattle.aggregator_rounds.specs.EntryParts.{AreFilled}
-use Rattle.data_sieving.specs.Sieving.{LieOn}
-use Rattle.aggregator_rounds.specs.Left.{IsPast, BeginBefore}
-use Rattle.data_sieving.specs.Walked.{AreLeft, IsNext}
-use Rattle.aggregator_rounds.proofs.PastSteps.{past_in, past_found}
-use Rattle.aggregator_rounds.proofs.SplitSteps.{extents_left}
-use Rattle.overlay_laws.proofs.EntryLaws.{in_extents}
+use Rattle.data_sieving.proofs.Words.{ℕ, ◌+◌, ◌^◌, ◌<◌, ◌≤◌, sym, subst, List, [], ◌∷◌, ◌++◌, arith, Extent, Owned, Window, In, Source, AreFound, extents, EndBelow, in_left, AreFilled, LieOn, IsPast, BeginBefore, AreLeft, IsNext, past_in, past_found, extents_left, in_extents}
 
 pub served_in : (place stop : ℕ) (list left served : List Owned) (o : Owned) → IsPast place list left → BeginBefore stop left served → In served o → In list o
 served_in place stop list left served o p b m =

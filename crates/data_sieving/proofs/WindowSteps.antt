@@ -1,29 +1,6 @@
 -- The first window of what is left, as it is told and as one of the windows of sieving.
-use Rattle.std.proofs.Common.{◌≡◌, ℕ, ◌+◌, ◌-◌, ◌^◌, ◌<◌, ◌≤◌, refl, sym, ◌∙◌, ap, subst, List, [], ◌∷◌, length, Bool, true, false, arith}
-use Rattle.std.specs.Prelude.{filter, nat_lt, nat_le, ◌==◌}
-use Rattle.std.specs.List.{range_with_len}
-use Rattle.std.proofs.lemmas.List.FromFn.{length-range_with_len}
-use Rattle.std.proofs.lemmas.Bool.{lt-ltb, le-leb, lt-leb, leb-true}
+use Rattle.data_sieving.proofs.Words.{◌≡◌, ℕ, ◌+◌, ◌-◌, ◌^◌, ◌<◌, ◌≤◌, refl, sym, ◌∙◌, ap, subst, List, [], ◌∷◌, length, Bool, true, false, arith, filter, nat_lt, nat_le, ◌==◌, range_with_len, length-range_with_len, lt-ltb, le-leb, lt-leb, leb-true, in_filter, filter_in, equal_below, equal_true, Owned, Window, in_order, first_of, hull_len, sieved, sieving_windows, In, ranges, IsAscending, told_of, filter_at_most, filter_ascends, in_range, range_low, range_high, range_ascends, last_most, last_below, drop_first, filter_all, sieved_walked, same_ascending, triple_same, walked_enough, told_window, entry_windows, IsCovered, IsPast, AreLeft, IsNext, bytes_from, windows_from, covered_below, past_covered, covered_past, front_covered, covered_front, hole_short}
 use borrow.Author.Tests.{ltb-true}
-use Rattle.serial_spec.proofs.MemberLaws.{in_filter, filter_in}
-use Rattle.list_laws.proofs.Truth.{equal_below, equal_true}
-use Rattle.nc_base.specs.declared.plan.Owned.{Owned}
-use Rattle.file_domains.specs.declared.walk.Window.{Window}
-use Rattle.serial_spec.specs.DeviceCalls.{in_order, first_of, hull_len, sieved, sieving_windows}
-use Rattle.overlay_laws.specs.Entries.{In, ranges}
-use Rattle.overlay_laws.specs.Hulls.{IsAscending}
-use Rattle.overlay_laws.specs.Walks.{told_of}
-use Rattle.list_laws.proofs.Maps.{filter_at_most}
-use Rattle.overlay_laws.proofs.HullLaws.{filter_ascends, in_range, range_low, range_high, range_ascends, last_most, last_below}
-use Rattle.overlay_laws.proofs.WalkLaws.{drop_first, filter_all, sieved_walked}
-use Rattle.overlay_laws.proofs.CoverLaws.{same_ascending, triple_same}
-use Rattle.file_domains.proofs.WalkSteps.{walked_enough}
-use Rattle.aggregator_rounds.specs.Pieces.{told_window}
-use Rattle.data_sieving.specs.Sieving.{entry_windows}
-use Rattle.aggregator_rounds.specs.EntryParts.{IsCovered}
-use Rattle.aggregator_rounds.specs.Left.{IsPast}
-use Rattle.data_sieving.specs.Walked.{AreLeft, IsNext, bytes_from, windows_from}
-use Rattle.aggregator_rounds.proofs.CoveredBytes.{covered_below, past_covered, covered_past, front_covered, covered_front, hole_short}
 use Rattle.data_sieving.proofs.LeftBytes.{byte_from, from_byte, bytes_ascend, same_bytes, begins}
 
 -- ---- the bytes of the window

@@ -1,13 +1,5 @@
 -- The file of a created dataset.
-use Rattle.std.proofs.Common.{◌≡◌, ℕ, ◌+◌, ◌-◌, ◌≤◌, List, [], ◌++◌, length, drop, replicate, Option, ap, ◌∙◌, arith}
-use Rattle.std.proofs.lemmas.List.{drop-replicate}
-use Rattle.nc_base.specs.declared.header.Header.{Header}
-use Rattle.nc_outside.specs.Told.{after}
-use Rattle.nc_outside.proofs.ToldLaws.{after-after}
-use Rattle.serial_spec.specs.File.{longer, written}
-use Rattle.serial_spec.specs.HeaderBytes.{header_len}
-use Rattle.serial_spec.specs.Layout.{end_of}
-use Rattle.serial_spec.proofs.FileLaws.{written-front}
+use Rattle.dataset_start.proofs.Words.{◌≡◌, ℕ, ◌+◌, ◌-◌, ◌≤◌, List, [], ◌++◌, length, drop, replicate, Option, ap, ◌∙◌, arith, drop-replicate, Header, after, after-after, longer, written, header_len, end_of, written-front}
 
 -- bytes at the front of zeros
 pub front-of-zeros : (bytes : List ℕ) (end : ℕ) → length bytes ≤ end → written (longer [] end) 0 bytes ≡ longer bytes end

@@ -1,17 +1,5 @@
 -- What a script keeps that was read or made.
-use Rattle.std.proofs.Common.{◌≡◌, ℕ, ◌^◌, ◌≤◌, Bool, true, false, List, [], ◌∷◌, length, refl, ◌==◌, eqb-true}
-use Rattle.std.specs.Prelude.{if◌then◌else◌}
-use Rattle.std.specs.List.{list_all}
-use Rattle.list_laws.proofs.Truth.{and_first, and_second}
-use Rattle.nc_base.specs.declared.script.Extra.{Extra}
-use Rattle.nc_base.specs.declared.script.Script.{Script}
-use Rattle.serial_spec.specs.Lawful.{are_lawful_hints, is_lawful_extra, is_lawful_header, is_whole_extra}
-use Rattle.serial_spec.specs.Lists.{is_empty}
-use Rattle.script_spec.specs.ScriptGrammar.{Reads}
-use Rattle.script_laws.proofs.HeaderLaws.{read_unplaced, read_writable}
-use Rattle.script_laws.proofs.LawfulLaws.{read_lawful, read_whole}
-use Rattle.dataset_start.specs.Dataset.{IsKept}
-use Rattle.serial_spec.proofs.LawfulTests.{within_is}
+use Rattle.dataset_start.proofs.Words.{◌≡◌, ℕ, ◌^◌, ◌≤◌, Bool, true, false, List, [], ◌∷◌, length, refl, ◌==◌, eqb-true, if◌then◌else◌, list_all, and_first, and_second, Extra, Script, are_lawful_hints, is_lawful_extra, is_lawful_header, is_whole_extra, is_empty, Reads, read_unplaced, read_writable, read_lawful, read_whole, IsKept, within_is}
 
 pub read_kept : (text : List ℕ) (script : Script) → Reads text script → IsKept script
 read_kept text script r = record {

@@ -1,3 +1,4 @@
+mod Words
 pub mod Keeping
 pub mod Created
 pub mod Opened

@@ -1,30 +1,9 @@
 -- A dataset that was not made ready.
-use Rattle.std.proofs.Common.{◌≡◌, ℕ, ◌≤◌, ◌==◌, ◌⊎◌, inl, inr, refl, sym, ◌∙◌, ap, subst, List, [], length, Bool, true, false, Option, Some, None, arith}
-use Rattle.std.specs.Prelude.{IfSome}
-use Rattle.nc_base.specs.declared.errors.HeaderErr.{HeaderErr}
+use Rattle.dataset_start.proofs.Words.{◌≡◌, ℕ, ◌≤◌, ◌==◌, ◌⊎◌, inl, inr, refl, sym, ◌∙◌, ap, subst, List, [], length, Bool, true, false, Option, Some, None, arith, IfSome, HeaderErr, Extra, PartlyWritten, after, BothTold, at, longer, written, canon, header_len, HasFault, start, redefined, IsBegun, IsLengthened, IsTornCreation, IsTornRedefinition, at-longer, longer_long, IsBetween, filled_long, IsApplied, new_end, KeepsPlaces, created_header, creation_fault, front, header_of_run, AreHeadersOf, Asks, blank_file, dataset_end, empty_end, filled_if, IsCutRedefinition, IsLeftUnready, IsNotReady, IsOpened, IsPartlyOpened, IsPartlyRedefined, IsUnready, told_as, both_ways}
 use Rattle.nc_base.specs.declared.header.Header as head
-use Rattle.nc_base.specs.declared.script.Extra.{Extra}
 use Rattle.nc_base.specs.declared.script.Script as script_type
-use Rattle.nc_outside.specs.DiskState.{PartlyWritten}
-use Rattle.nc_outside.specs.Told.{after, BothTold}
-use Rattle.serial_spec.specs.File.{at, longer, written}
-use Rattle.serial_spec.specs.HeaderBytes.{canon, header_len}
-use Rattle.serial_spec.specs.HeaderFaults.{HasFault}
-use Rattle.serial_spec.specs.SerialEnd.{start}
-use Rattle.serial_spec.specs.Redefinition.{redefined}
-use Rattle.serial_spec.specs.Torn.{IsBegun, IsLengthened, IsTornCreation, IsTornRedefinition}
-use Rattle.serial_spec.proofs.FileLaws.{at-longer, longer_long}
-use Rattle.overlay_laws.specs.Changes.{IsBetween}
-use Rattle.fill_records.proofs.TornLaws.{filled_long}
-use Rattle.redef_laws.specs.Applied.{IsApplied}
-use Rattle.redef_laws.specs.Shifted.{new_end}
-use Rattle.redef_mover.specs.Relocation.{KeepsPlaces}
-use Rattle.dataset_start.specs.Dataset.{created_header, creation_fault, front, header_of_run, AreHeadersOf, Asks}
-use Rattle.dataset_start.specs.Readiness.{blank_file, dataset_end, empty_end, filled_if, IsCutRedefinition, IsLeftUnready, IsNotReady, IsOpened, IsPartlyOpened, IsPartlyRedefined, IsUnready}
 use Rattle.dataset_start.proofs.Created.{front-of-zeros}
 use Rattle.dataset_start.proofs.ReadyLaws.{at_front, created-faultless, fault-none, fault-some, header-changed, header-kept, opened-faultless, start-created}
-use Rattle.nc_outside.proofs.ToldLaws.{told_as}
-use Rattle.std.proofs.lemmas.Bool.{both_ways}
 
 -- ---- a dataset that is created
 

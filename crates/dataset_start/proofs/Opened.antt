@@ -1,25 +1,9 @@
 -- The front of a file that is opened, and the file made longer.
-use Rattle.std.proofs.Common.{◌≡◌, ℕ, ◌^◌, ◌≤◌, ◌<◌, List, [], ◌++◌, length, take, drop, min, Option, Some, None, refl, sym, ap, inl, inr, ◌⊎◌, subst, ◌∙◌, arith}
-use Rattle.std.specs.Prelude.{IfSome, Result, Ok, Err}
-use Rattle.std.specs.Result.{IsErrAnd}
-use Rattle.std.proofs.lemmas.Bool.{cases_lt}
-use Rattle.nc_base.specs.declared.step.DiskCall.{DiskCall}
-use Rattle.nc_outside.specs.Told.{after, with_end}
-use Rattle.serial_spec.specs.DeviceCalls.{head_load}
-use Rattle.std.proofs.lemmas.List.{take-append-drop, take_all}
-use Rattle.nc_base.specs.declared.errors.HeaderErr.{HeaderErr}
+use Rattle.dataset_start.proofs.Words.{◌≡◌, ℕ, ◌^◌, ◌≤◌, ◌<◌, List, [], ◌++◌, length, take, drop, min, Option, Some, None, refl, sym, ap, inl, inr, ◌⊎◌, subst, ◌∙◌, arith, IfSome, Result, Ok, Err, IsErrAnd, cases_lt, DiskCall, after, with_end, head_load, take-append-drop, take_all, HeaderErr, IsOpened, stop_of_header, Stop, Memory, Spells, first_check, HasFault, fault_only, spells_once, BeginsWith}
 use Rattle.dataset_start.specs.Dataset as headline
-use Rattle.dataset_start.specs.Readiness.{IsOpened}
-use Rattle.dataset_start.specs.Stops.{stop_of_header}
-use Rattle.dataset_start.specs.declared.stop.Stop.{Stop}
-use Rattle.dataset_start.specs.declared.stop.Stop.TheVariants.{Header, Memory}
+use Rattle.dataset_start.specs.declared.stop.Stop.TheVariants.{Header}
 use Rattle.nc_base.specs.declared.errors.HeaderErr.TheVariants as fault
 use Rattle.nc_base.specs.declared.header.Header as head
-use Rattle.serial_spec.specs.HeaderGrammar.{Spells}
-use Rattle.serial_spec.specs.HeaderFaults.{first_check, HasFault}
-use Rattle.serial_spec.proofs.FaultLaws.{fault_only}
-use Rattle.serial_spec.proofs.OnceLaws.{spells_once}
-use Rattle.cdf_header.specs.Decoded.{BeginsWith}
 
 -- ---- a header that stands at a front, and a fault, exclude each other
 

@@ -1,41 +1,11 @@
 -- A dataset that is ready for the ranks.
-use Rattle.std.proofs.Common.{◌≡◌, ℕ, ◌≤◌, ◌==◌, ◌++◌, Bool, true, false, List, [], ◌∷◌, length, Option, Some, None, inl, inr, refl, sym, ap, subst, append_assoc, eqb-true, ◌∙◌, arith}
-use Rattle.std.specs.Prelude.{IfErr, IfOk, IfSome, IsSomeAnd, Result, Ok, Err}
-use Rattle.std.specs.Result.{IsErrAnd}
-use Rattle.nc_base.specs.declared.errors.HeaderErr.{HeaderErr}
-use Rattle.nc_base.specs.declared.errors.RedefErr.{RedefErr}
+use Rattle.dataset_start.proofs.Words.{◌≡◌, ℕ, ◌≤◌, ◌==◌, ◌++◌, Bool, true, false, List, [], ◌∷◌, length, Option, Some, None, inl, inr, refl, sym, ap, subst, append_assoc, eqb-true, ◌∙◌, arith, IfErr, IfOk, IfSome, IsSomeAnd, Result, Ok, Err, IsErrAnd, HeaderErr, RedefErr, Extra, DiskCall, Grow, Store, after, with_end, after-after, after-same, grow_to, head_load, move_calls, opening_calls, redefining_calls, zero_calls, longer, filled, header_len, HasFault, is_sound, end_of, brought, redefined, redefined_fault, redefined_header, start, longer-enough, BeginsWith, IsApplied, new_end, relocation_calls, Reads, created_header, creation_fault, front, header_of_run, redefinition_fault, Asks, AsksForBadLayout, HasRedefinitionFault, IsBadDataset, IsLaid, IsMislaid, IsSoundFile, TellsDataset, blank_file, dataset_end, empty_end, fill_calls_if, filled_if, first_calls, opened_calls, IsFaultless, IsOpened, IsReady, line_of, status_of, IsOfHeader, IsOfRedefinition, Stop, both_ways, some_not_none}
 use Rattle.nc_base.specs.declared.header.Header as head
-use Rattle.nc_base.specs.declared.script.Extra.{Extra}
 use Rattle.nc_base.specs.declared.script.Script as script_type
-use Rattle.nc_base.specs.declared.step.DiskCall.{DiskCall}
-use Rattle.nc_base.specs.declared.step.DiskCall.TheVariants.{Grow, Store}
-use Rattle.nc_outside.specs.Told.{after, with_end}
-use Rattle.nc_outside.proofs.ToldLaws.{after-after, after-same}
-use Rattle.serial_spec.specs.DeviceCalls.{grow_to, head_load, move_calls, opening_calls, redefining_calls, zero_calls}
-use Rattle.serial_spec.specs.File.{longer}
-use Rattle.serial_spec.specs.Fill.{filled}
-use Rattle.serial_spec.specs.HeaderBytes.{header_len}
-use Rattle.serial_spec.specs.HeaderFaults.{HasFault}
-use Rattle.serial_spec.specs.SoundHeaders.{is_sound}
-use Rattle.serial_spec.specs.Layout.{end_of}
-use Rattle.serial_spec.specs.Redefinition.{brought, redefined, redefined_fault, redefined_header}
-use Rattle.serial_spec.specs.SerialEnd.{start}
-use Rattle.serial_spec.proofs.FileLaws.{longer-enough}
-use Rattle.cdf_header.specs.Decoded.{BeginsWith}
-use Rattle.redef_laws.specs.Applied.{IsApplied}
-use Rattle.redef_laws.specs.Shifted.{new_end}
-use Rattle.redef_mover.specs.Relocation.{relocation_calls}
-use Rattle.script_spec.specs.ScriptGrammar.{Reads}
-use Rattle.dataset_start.specs.Dataset.{created_header, creation_fault, front, header_of_run, redefinition_fault, Asks, AsksForBadLayout, HasRedefinitionFault, IsBadDataset, IsLaid, IsMislaid, IsSoundFile, TellsDataset}
-use Rattle.dataset_start.specs.Readiness.{blank_file, dataset_end, empty_end, fill_calls_if, filled_if, first_calls, opened_calls, IsFaultless, IsOpened, IsReady}
-use Rattle.dataset_start.specs.Stops.{line_of, status_of, IsOfHeader, IsOfRedefinition}
-use Rattle.dataset_start.specs.declared.stop.Stop.{Stop}
 use Rattle.dataset_start.specs.declared.stop.Stop.TheVariants as stops
 use Rattle.dataset_start.proofs.Opened.{begins_once}
 use Rattle.dataset_start.proofs.Redefinable.{redefined_sound}
 use Rattle.dataset_start.proofs.RedefinedLaws.{long_enough, same_end}
-use Rattle.std.proofs.lemmas.Bool.{both_ways}
-use Rattle.list_laws.proofs.Optional.{some_not_none}
 
 -- ---- nothing is added to a dataset, or something
 

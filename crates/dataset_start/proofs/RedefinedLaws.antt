@@ -1,18 +1,5 @@
 -- The header and the file of a redefinition.
-use Rattle.std.proofs.Common.{◌≡◌, ℕ, ◌+◌, ◌-◌, ◌≤◌, List, [], ◌∷◌, ◌++◌, length, drop, replicate, fold, zip, refl, ap, ◌∙◌, arith}
-use Rattle.std.proofs.lemmas.List.{length-append, length-replicate}
-use Rattle.redef_mover.proofs.AppliedLaws.{one_keeps}
-use Rattle.nc_base.specs.declared.header.Header.{Header}
-use Rattle.nc_base.specs.declared.header.Var.{Var}
-use Rattle.nc_base.specs.declared.script.Extra.{Extra}
-use Rattle.serial_spec.specs.ExternalForm.{size_of}
-use Rattle.serial_spec.specs.File.{read, written}
-use Rattle.serial_spec.specs.HeaderBytes.{canon, header_len}
-use Rattle.serial_spec.specs.Layout.{end_of}
-use Rattle.serial_spec.specs.Place.{place}
-use Rattle.serial_spec.specs.Redefinition.{all_indices, moved, redefined, redefined_header, with_extra}
-use Rattle.redef_laws.specs.Shifted.{new_end}
-use Rattle.serial_spec.proofs.GrowLaws.{written_grows}
+use Rattle.dataset_start.proofs.Words.{◌≡◌, ℕ, ◌+◌, ◌-◌, ◌≤◌, List, [], ◌∷◌, ◌++◌, length, drop, replicate, fold, zip, refl, ap, ◌∙◌, arith, length-append, length-replicate, one_keeps, Header, Var, Extra, size_of, read, written, canon, header_len, end_of, place, all_indices, moved, redefined, redefined_header, with_extra, new_end, written_grows}
 
 -- ---- the record count stays
 

@@ -1,14 +1,6 @@
 -- What a fault of the disk, and one of a redefinition, leave, and what ends early after the script was read.
-use Rattle.std.proofs.Common.{◌≡◌, ℕ, List, Option, inl, inr, refl, sym, ap, subst, ◌∙◌, arith}
-use Rattle.std.specs.Prelude.{Result, Ok, Err, IfErr}
-use Rattle.std.specs.Result.{IsErrAnd}
-use Rattle.nc_base.specs.declared.errors.RedefErr.{RedefErr}
-use Rattle.nc_outside.specs.declared.disk.DiskErr.{DiskErr}
+use Rattle.dataset_start.proofs.Words.{◌≡◌, ℕ, List, Option, inl, inr, refl, sym, ap, subst, ◌∙◌, arith, Result, Ok, Err, IfErr, IsErrAnd, RedefErr, DiskErr, Script, Asks, IsBeforeStart, IsLaid, IsOfDataset, IsOfRedefinition, status_of, stop_of_disk, Stop}
 use Rattle.nc_outside.specs.declared.disk.DiskErr.TheVariants as disk
-use Rattle.nc_base.specs.declared.script.Script.{Script}
-use Rattle.dataset_start.specs.Dataset.{Asks, IsBeforeStart, IsLaid}
-use Rattle.dataset_start.specs.Stops.{IsOfDataset, IsOfRedefinition, status_of, stop_of_disk}
-use Rattle.dataset_start.specs.declared.stop.Stop.{Stop}
 use Rattle.dataset_start.specs.declared.stop.Stop.TheVariants as stops
 
 not_four : (err : DiskErr) → status_of (stop_of_disk err) ≡ 4 → ⊥

@@ -1,11 +1,5 @@
 -- Lists that are gathered one entry after another.
-use Rattle.std.proofs.Common.{◌≡◌, ℕ, suc, ◌+◌, ◌-◌, ◌<◌, ◌≤◌, sym, ap, ◌∙◌, List, [], ◌∷◌, ◌++◌, length, drop, replicate, append-nil, append_assoc, add-one, length-append, Some, arith}
-use Rattle.std.specs.Prelude.{flat_map, slice_get}
-use Rattle.std.specs.List.{range_with_len}
-use Rattle.std.proofs.lemmas.List.{drop_all, map-id}
-use Rattle.std.proofs.lemmas.List.FromFn.{map-range_with_len_more}
-use Rattle.serial_spec.specs.File.{at, longer, read}
-use Rattle.list_laws.proofs.Places.{drop_at}
+use Rattle.element_steps.proofs.Words.{◌≡◌, ℕ, suc, ◌+◌, ◌-◌, ◌<◌, ◌≤◌, sym, ap, ◌∙◌, List, [], ◌∷◌, ◌++◌, length, drop, replicate, append-nil, append_assoc, add-one, length-append, Some, arith, flat_map, slice_get, range_with_len, drop_all, map-id, map-range_with_len_more, at, longer, read, drop_at}
 
 -- one byte of zero more
 pub longer_push : (f : List ℕ) (n : ℕ) → length f < n → longer (f ++ 0 ∷ []) n ≡ longer f n

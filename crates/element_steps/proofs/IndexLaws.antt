@@ -1,25 +1,5 @@
 -- The index of an element, one dimension after another, and how great its entries are.
-use Rattle.std.proofs.Common.{◌≡◌, ℕ, ◌+◌, ◌-◌, ◌*◌, ◌/◌, ◌%◌, ◌^◌, ◌<◌, ◌≤◌, refl, sym, ap, ◌∙◌, subst, List, [], ◌∷◌, ◌++◌, length, get_or, min, Bool, true, false, Some, arith}
-use Rattle.std.specs.Prelude.{slice_get}
-use Rattle.std.specs.List.{AllByRecursion}
-use Rattle.std.proofs.lemmas.Nat.{mod_below, mul-le}
-use Rattle.std.proofs.lemmas.Option.{same_Some}
-use Rattle.list_laws.proofs.Each.{each_weaker}
-use Rattle.nc_base.specs.declared.header.Header.{Header}
-use Rattle.nc_base.specs.declared.header.Var.{Var}
-use Rattle.nc_base.specs.declared.request.Region.{Region}
-use Rattle.serial_spec.specs.ExternalForm.{size_of}
-use Rattle.serial_spec.specs.Layout.{product, inner_lengths, is_record, recsize}
-use Rattle.serial_spec.specs.Place.{row, place, record_of, within_record, HasRecord, IsIndex, IsElement}
-use Rattle.serial_spec.specs.Request.{index_at}
-use Rattle.serial_spec.proofs.ApartLaws.{index_fixed, index_record}
-use Rattle.var_layout.proofs.ElementPlaces.{product_pos, place_fixed, place_record, row_below_bytes}
-use Rattle.serial_spec.specs.SoundHeaders.{is_sound}
-use Rattle.vara_extents.specs.Accepted.{IsAccepted}
-use Rattle.vara_extents.specs.Numbered.{coordinates_of, index_of}
-use Rattle.vara_extents.proofs.PlaceLaws.{accepted_place, small_of, wide_records}
-use Rattle.element_steps.specs.Requests.{AreBelow}
-use Rattle.vara_extents.proofs.RowSteps.{split, some_block, rest}
+use Rattle.element_steps.proofs.Words.{◌≡◌, ℕ, ◌+◌, ◌-◌, ◌*◌, ◌/◌, ◌%◌, ◌^◌, ◌<◌, ◌≤◌, refl, sym, ap, ◌∙◌, subst, List, [], ◌∷◌, ◌++◌, length, get_or, min, Bool, true, false, Some, arith, slice_get, AllByRecursion, mod_below, mul-le, same_Some, each_weaker, Header, Var, Region, size_of, product, inner_lengths, is_record, recsize, row, place, record_of, within_record, HasRecord, IsIndex, IsElement, index_at, index_fixed, index_record, product_pos, place_fixed, place_record, row_below_bytes, is_sound, IsAccepted, coordinates_of, index_of, accepted_place, small_of, wide_records, AreBelow, split, some_block, rest}
 
 -- ---- one dimension more
 

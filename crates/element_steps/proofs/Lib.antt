@@ -1,3 +1,4 @@
+mod Words
 mod GatherLaws
 mod IndexLaws
 pub mod MeetSteps

@@ -1,29 +1,7 @@
 -- The offers of a meeting, one after another.
-use Rattle.std.proofs.Common.{◌≡◌, ℕ, ◌+◌, ◌<◌, ◌≤◌, ◌⊎◌, inl, inr, refl, sym, ap, ◌∙◌, subst, List, [], ◌∷◌, ◌++◌, length, drop, get_or, map, max, cond, Option, Some, None, append-nil, append_assoc, arith}
-use Rattle.std.specs.Prelude.{flat_map, nat_lt, slice_get}
-use Rattle.std.specs.List.{enumerate_from}
-use Rattle.std.proofs.lemmas.List.{drop_all}
-use Rattle.nc_base.specs.declared.answer.Pair.{Pair}
-use Rattle.nc_base.specs.declared.header.Header.{Header}
-use Rattle.nc_base.specs.declared.header.Var.{Var}
-use Rattle.nc_base.specs.declared.plan.Post.{Post}
+use Rattle.element_steps.proofs.Words.{◌≡◌, ℕ, ◌+◌, ◌<◌, ◌≤◌, ◌⊎◌, inl, inr, refl, sym, ap, ◌∙◌, subst, List, [], ◌∷◌, ◌++◌, length, drop, get_or, map, max, cond, Option, Some, None, append-nil, append_assoc, arith, flat_map, nat_lt, slice_get, enumerate_from, drop_all, Pair, Header, Var, Post, Offer, Reply, In, map_in, after_puts, get_post, known_by, meeting, needs, puts_of, told, Setting, greatest, record_limit, needed, needed_by, records_of_some, with_records, check_some, Puts, IsAccepted, passed, records_below, reply_to, IsPut, IsRight, some_limit, known_less, raised_records, raised_file, in_either}
 use Rattle.nc_base.specs.declared.answer.Code.TheVariants as code
-use Rattle.nc_base.specs.declared.step.Offer.{Offer}
-use Rattle.nc_base.specs.declared.step.Reply.{Reply}
-use Rattle.overlay_laws.specs.Entries.{In}
-use Rattle.overlay_laws.proofs.Members.{map_in}
-use Rattle.serial_spec.specs.FileStep.{after_puts, get_post, known_by, meeting, needs, puts_of, told, Setting}
-use Rattle.serial_spec.specs.Layout.{greatest}
-use Rattle.serial_spec.specs.Limits.{record_limit}
-use Rattle.serial_spec.specs.Records.{needed, needed_by, records_of_some, with_records}
-use Rattle.serial_spec.specs.RegionCheck.{check_some}
-use Rattle.serial_spec.specs.SharedByte.{Puts}
-use Rattle.vara_extents.specs.Accepted.{IsAccepted}
-use Rattle.vara_extents.proofs.AcceptedLaws.{passed, records_below}
-use Rattle.element_steps.specs.Requests.{reply_to, IsPut, IsRight}
 use Rattle.element_steps.proofs.PairSteps.{next_left}
-use Rattle.serial_spec.proofs.CountLaws.{some_limit, known_less, raised_records, raised_file}
-use Rattle.overlay_laws.proofs.HullLaws.{in_either}
 
 -- ---- the count that ranks know
 

@@ -1,10 +1,5 @@
 -- The requests that hold a byte, and the least byte that two hold, one holding after another.
-use Rattle.std.proofs.Common.{◌≡◌, ℕ, ◌+◌, ◌<◌, refl, sym, ap, ◌∙◌, List, [], ◌∷◌, ◌++◌, length, map, drop, get_or, filter, fold, min, Bool, true, false, cond, Option, Some, None}
-use Rattle.std.proofs.lemmas.List.{drop_more}
-use Rattle.std.proofs.lemmas.List.Elements.{filter-append}
-use Rattle.std.specs.List.{list_any}
-use Rattle.serial_spec.specs.SharedByte.{Holding, Key, all_bytes, distinct, has_byte, holders, least, same_key}
-use Rattle.element_steps.specs.Least.{least_with, lesser_of}
+use Rattle.element_steps.proofs.Words.{◌≡◌, ℕ, ◌+◌, ◌<◌, refl, sym, ap, ◌∙◌, List, [], ◌∷◌, ◌++◌, length, map, drop, get_or, filter, fold, min, Bool, true, false, cond, Option, Some, None, drop_more, filter-append, list_any, Holding, Key, all_bytes, distinct, has_byte, holders, least, same_key, least_with, lesser_of}
 
 -- ---- holders
 

@@ -1,25 +1,6 @@
 -- The puts of a step, one after another.
-use Rattle.std.proofs.Common.{◌≡◌, ℕ, ◌+◌, ◌^◌, ◌<◌, ◌≤◌, ◌⊎◌, inl, inr, refl, sym, ap, ◌∙◌, subst, List, [], ◌∷◌, length, drop, get_or, fold, max, Option, Some, None, true, arith}
-use Rattle.std.specs.Prelude.{slice_get, IfSome}
-use Rattle.std.proofs.lemmas.Bool.{cases_lt}
-use Rattle.std.proofs.lemmas.List.{drop_all}
-use Rattle.nc_base.specs.declared.header.Header.{Header}
-use Rattle.nc_base.specs.declared.header.Var.{Var}
-use Rattle.nc_base.specs.declared.plan.Post.{Post}
+use Rattle.element_steps.proofs.Words.{◌≡◌, ℕ, ◌+◌, ◌^◌, ◌<◌, ◌≤◌, ◌⊎◌, inl, inr, refl, sym, ap, ◌∙◌, subst, List, [], ◌∷◌, length, drop, get_or, fold, max, Option, Some, None, true, arith, slice_get, IfSome, cases_lt, drop_all, Header, Var, Post, In, longer, after_puts, put_post, put_some, Setting, header_len, is_sound, end_of, needed, needed_by, records_of, records_of_some, check_some, put, Puts, sound_end, IsAccepted, small_of}
 use Rattle.nc_base.specs.declared.answer.Code.TheVariants as code
-use Rattle.overlay_laws.specs.Entries.{In}
-use Rattle.serial_spec.specs.File.{longer}
-use Rattle.serial_spec.specs.FileStep.{after_puts, put_post, put_some, Setting}
-use Rattle.serial_spec.specs.HeaderBytes.{header_len}
-use Rattle.serial_spec.specs.SoundHeaders.{is_sound}
-use Rattle.serial_spec.specs.Layout.{end_of}
-use Rattle.serial_spec.specs.Records.{needed, needed_by, records_of, records_of_some}
-use Rattle.serial_spec.specs.RegionCheck.{check_some}
-use Rattle.serial_spec.specs.Request.{put}
-use Rattle.serial_spec.specs.SharedByte.{Puts}
-use Rattle.var_layout.proofs.ElementPlaces.{sound_end}
-use Rattle.vara_extents.specs.Accepted.{IsAccepted}
-use Rattle.vara_extents.proofs.PlaceLaws.{small_of}
 use Rattle.element_steps.proofs.PairSteps.{next_left}
 
 -- ---- the count

@@ -1,18 +1,6 @@
 -- The parts of a step, one entry after another.
-use Rattle.std.proofs.Common.{◌≡◌, ℕ, ◌+◌, ◌<◌, ◌≤◌, sym, ap, ◌∙◌, List, [], ◌∷◌, ◌++◌, length, drop, get_or, map, Option, Some, None, subst, append-nil, append_assoc}
-use Rattle.std.specs.Prelude.{flat_map, slice_get, IfSome}
-use Rattle.std.specs.List.{enumerate_from}
-use Rattle.std.proofs.lemmas.List.{drop_all}
-use Rattle.nc_base.specs.declared.header.Header.{Header}
-use Rattle.nc_base.specs.declared.header.Var.{Var}
-use Rattle.nc_base.specs.declared.plan.Post.{Post}
+use Rattle.element_steps.proofs.Words.{◌≡◌, ℕ, ◌+◌, ◌<◌, ◌≤◌, sym, ap, ◌∙◌, List, [], ◌∷◌, ◌++◌, length, drop, get_or, map, Option, Some, None, subst, append-nil, append_assoc, flat_map, slice_get, IfSome, enumerate_from, drop_all, Header, Var, Post, Offer, get_post, get_some, puts_of, Setting, check_some, get, Puts, IsAccepted}
 use Rattle.nc_base.specs.declared.answer.Code.TheVariants as code
-use Rattle.nc_base.specs.declared.step.Offer.{Offer}
-use Rattle.serial_spec.specs.FileStep.{get_post, get_some, puts_of, Setting}
-use Rattle.serial_spec.specs.RegionCheck.{check_some}
-use Rattle.serial_spec.specs.Request.{get}
-use Rattle.serial_spec.specs.SharedByte.{Puts}
-use Rattle.vara_extents.specs.Accepted.{IsAccepted}
 use Rattle.element_steps.proofs.PairSteps.{next_left}
 
 pub puts_step : (offers : List Offer) (k : ℕ) (o : Offer) (out out' whole : Puts) → k < length offers → o ≡ get_or offers k o → out' ≡ out ++ puts_of (k, o)

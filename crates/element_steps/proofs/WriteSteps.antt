@@ -1,11 +1,5 @@
 -- A put, one element after another.
-use Rattle.std.proofs.Common.{◌≡◌, ℕ, suc, ◌+◌, ◌*◌, ◌≤◌, sym, ap, ◌∙◌, List, length, take, drop, add-one, Some, arith}
-use Rattle.std.specs.Prelude.{slice_get}
-use Rattle.std.proofs.lemmas.List.{drop-drop, drop_all}
-use Rattle.serial_spec.specs.File.{written}
-use Rattle.serial_spec.specs.Request.{cells}
-use Rattle.serial_spec.specs.Said.{write_cells}
-use Rattle.list_laws.proofs.Places.{drop_at}
+use Rattle.element_steps.proofs.Words.{◌≡◌, ℕ, suc, ◌+◌, ◌*◌, ◌≤◌, sym, ap, ◌∙◌, List, length, take, drop, add-one, Some, arith, slice_get, drop-drop, drop_all, written, cells, write_cells, drop_at}
 
 pub put_step : (size : ℕ) (ps bytes file file' whole part : List ℕ) (k x : ℕ) → slice_get ps k ≡ Some x → part ≡ take size (drop (k * size) bytes)
     → file' ≡ written file x part → write_cells file (cells size (drop k ps) (drop (k * size) bytes)) ≡ whole

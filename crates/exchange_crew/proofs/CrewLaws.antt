@@ -1,13 +1,5 @@
 -- Helpers that were started one after another, each for the next part.
-use Rattle.std.proofs.Common.{◌≡◌, ℕ, ◌+◌, inl, inr, sym, ◌∙◌, ap, subst, List, [], ◌∷◌, ◌++◌, length, map, take, Some, Result, Ok, Err, arith}
-use Rattle.std.proofs.lemmas.List.{append-nil, length-append, length-map, map-append, take_all}
-use Rattle.std.specs.Prelude.{slice_get, zip, IsOk, OnOk}
-use Rattle.std.specs.List.{AllZip}
-use Rattle.list_laws.proofs.Places.{take_next}
-use Rattle.nc_base.specs.declared.plan.Extent.{Extent}
-use Rattle.overlay_laws.specs.Entries.{In}
-use Rattle.overlay_laws.proofs.HullLaws.{in_either}
-use Rattle.exchange_crew.specs.Parts.{SomeZip}
+use Rattle.exchange_crew.proofs.Words.{◌≡◌, ℕ, ◌+◌, inl, inr, sym, ◌∙◌, ap, subst, List, [], ◌∷◌, ◌++◌, length, map, take, Some, Result, Ok, Err, arith, append-nil, length-append, length-map, map-append, take_all, slice_get, zip, IsOk, OnOk, AllZip, take_next, Extent, In, in_either, SomeZip}
 use Rattle.exchange_crew.proofs.BackLaws.{map_new, some_mapped, zip_mapped}
 
 -- where a helper was started for each part, they are those of the parts and domains

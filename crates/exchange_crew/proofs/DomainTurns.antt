@@ -1,32 +1,6 @@
 -- The windows of a part stand one after another, begin and end with a covered byte, and have each covered byte once.
-use Rattle.std.proofs.Common.{◌≡◌, ℕ, zero, suc, ◌+◌, ◌-◌, ◌/◌, ◌<◌, ◌≤◌, ◌⊎◌, min, inl, inr, refl, sym, ◌∙◌, ap, subst, List, [], ◌∷◌, ◌++◌, length, Bool, true, false, not, arith}
-use Rattle.std.proofs.lemmas.List.Folds.{flat_map-map}
-use Rattle.std.specs.Prelude.{filter, flat_map, map, nat_lt, nat_le, ◌==◌}
-use Rattle.std.specs.List.{range_with_len, list_any}
-use Rattle.std.proofs.lemmas.Bool.{ltb-true, ltb-false, eqb-true, lt-ltb, leb-true, le-leb}
-use Rattle.nc_base.specs.declared.plan.Extent.{Extent}
-use Rattle.nc_base.specs.declared.plan.Owned.{Owned}
-use Rattle.serial_spec.specs.DeviceCalls.{first_of, last_of, hull_len, not_empty, windows}
-use Rattle.serial_spec.specs.Lists.{is_empty}
-use Rattle.overlay_laws.specs.Entries.{In, ranges, HaveSame}
-use Rattle.overlay_laws.specs.Hulls.{IsAscending}
-use Rattle.overlay_laws.specs.Parts.{joined}
-use Rattle.overlay_laws.specs.Walks.{told_of, IsCover}
-use Rattle.serial_spec.specs.Extents.{spans}
-use Rattle.overlay_laws.proofs.HullLaws.{windows_have, filter_ascends, in_left, in_right, in_either, in_flat, flat_in, in_range, range_low, any_in, in_any, first_least, last_most, div_grows}
-use Rattle.list_laws.proofs.Truth.{equal_true, no_both}
-use Rattle.serial_spec.proofs.MemberLaws.{in_filter, filter_in}
-use Rattle.overlay_laws.proofs.Members.{in_map, map_in}
-use Rattle.overlay_laws.proofs.CoverLaws.{same_ascending, spans_ascend}
-use Rattle.overlay_laws.proofs.WindowHulls.{window_short}
-use Rattle.file_domains.specs.Domains.{LiesIn}
-use Rattle.file_domains.specs.Rounds.{bytes_in, window_told, round_windows}
-use Rattle.aggregator_rounds.specs.Pieces.{told_window}
-use Rattle.aggregator_rounds.specs.EntryParts.{IsCovered}
-use Rattle.aggregator_rounds.proofs.CoveredBytes.{in_ranges, ranges_in, hole_short}
-use Rattle.exchange_crew.specs.Hulls.{AreTurns, HaveWindows, IsTurn, LieOnPart}
-use Rattle.exchange_crew.specs.Turns.{Told}
-use Rattle.overlay_laws.proofs.DomainLaws.{share}
+use Rattle.exchange_crew.proofs.Words.{◌≡◌, ℕ, zero, suc, ◌+◌, ◌-◌, ◌/◌, ◌<◌, ◌≤◌, ◌⊎◌, min, inl, inr, refl, sym, ◌∙◌, ap, subst, List, [], ◌∷◌, ◌++◌, length, Bool, true, false, not, arith, flat_map-map, filter, flat_map, nat_lt, nat_le, ◌==◌, range_with_len, list_any, ltb-true, ltb-false, eqb-true, lt-ltb, leb-true, le-leb, Extent, Owned, first_of, last_of, hull_len, not_empty, windows, is_empty, In, ranges, HaveSame, IsAscending, joined, told_of, IsCover, spans, windows_have, filter_ascends, in_left, in_right, in_either, in_flat, flat_in, in_range, range_low, any_in, in_any, first_least, last_most, div_grows, equal_true, no_both, in_filter, filter_in, in_map, map_in, same_ascending, spans_ascend, window_short, LiesIn, bytes_in, window_told, round_windows, told_window, IsCovered, in_ranges, ranges_in, hole_short, AreTurns, HaveWindows, IsTurn, LieOnPart, Told, share}
+use Rattle.std.specs.Prelude.{map}
 
 -- ---- numbers in order, one list after another
 

@@ -1,3 +1,4 @@
+mod Words
 pub mod TurnLaws
 pub mod BackLaws
 pub mod DomainTurns

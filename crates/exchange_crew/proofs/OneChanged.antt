@@ -1,10 +1,5 @@
 -- A list of which one element was changed: what holds of each, and how many there are in all.
-use Rattle.std.proofs.Common.{◌≡◌, ℕ, zero, suc, ◌+◌, ◌<◌, ◌≤◌, refl, sym, ◌∙◌, ap, subst, List, [], ◌∷◌, length, get_or, set, Bool, true, false, Some, arith}
-use Rattle.std.proofs.lemmas.Bool.Decides.{nat_tests}
-use Rattle.std.proofs.lemmas.List.{length-append}
-use Rattle.std.proofs.lemmas.Option.{same_Some, slice_get_within, slice_get-get_or}
-use Rattle.std.specs.Prelude.{flat_map, nat_lt, slice_get}
-use Rattle.list_laws.proofs.Places.{entry_set, entry_set_other}
+use Rattle.exchange_crew.proofs.Words.{◌≡◌, ℕ, zero, suc, ◌+◌, ◌<◌, ◌≤◌, refl, sym, ◌∙◌, ap, subst, List, [], ◌∷◌, length, get_or, set, Bool, true, false, Some, arith, nat_tests, length-append, same_Some, slice_get_within, slice_get-get_or, flat_map, nat_lt, slice_get, entry_set, entry_set_other}
 
 -- what an element changed has more or less, the whole has
 set_all : {X Y : Type 0} (f : X → List Y) (xs : List X) (i : ℕ) (x y : X) → slice_get xs i ≡ Some x

@@ -1,12 +1,6 @@
 -- What a plan says of the windows of a domain.
-use Rattle.std.proofs.Common.{ℕ, min, List}
-use Rattle.nc_base.specs.declared.plan.Batch.{Batch}
-use Rattle.nc_base.specs.declared.plan.Extent.{Extent}
-use Rattle.nc_base.specs.declared.plan.Owned.{Owned}
-use Rattle.exchange_crew.specs.Plan.{IsDomainOf, IsPlan}
-use Rattle.exchange_crew.specs.Turns.{turns_of}
+use Rattle.exchange_crew.proofs.Words.{ℕ, min, List, Batch, Extent, Owned, IsDomainOf, IsPlan, turns_of, AreTurns, HaveWindows, LieOnPart}
 use Rattle.exchange_crew.proofs.DomainTurns.{domain_part, domain_turns, domain_windows}
-use Rattle.exchange_crew.specs.Hulls.{AreTurns, HaveWindows, LieOnPart}
 
 pub plan_turns : (batches : List Batch) (list : List Owned) (cover : List Extent) (size : ℕ) (domain : Extent) → IsPlan batches list cover size
     → AreTurns list (min size domain.len) (turns_of size domain cover)

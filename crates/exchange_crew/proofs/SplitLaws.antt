@@ -1,10 +1,5 @@
 -- The first parts, and those behind them: what holds of both holds of all.
-use Rattle.std.proofs.Common.{◌≡◌, ℕ, zero, suc, inl, inr, ap, sym, ◌∙◌, List, [], ◌∷◌, ◌++◌, length, map, take, drop, arith}
-use Rattle.std.proofs.Math.Seq.{drop-append_seam, take-append_seam}
-use Rattle.std.proofs.lemmas.List.{length-map}
-use Rattle.std.specs.Prelude.{zip}
-use Rattle.std.specs.List.{AllZip}
-use Rattle.exchange_crew.specs.Parts.{SomeZip}
+use Rattle.exchange_crew.proofs.Words.{◌≡◌, ℕ, zero, suc, inl, inr, ap, sym, ◌∙◌, List, [], ◌∷◌, ◌++◌, length, map, take, drop, arith, drop-append_seam, take-append_seam, length-map, zip, AllZip, SomeZip}
 
 pub zip_split : {A B : Type 0} (k : ℕ) (xs : List A) (ds : List B) → length ds ≡ length xs → zip xs ds ≡ zip (take k xs) (take k ds) ++ zip (drop k xs) (drop k ds)
 zip_split zero xs ds long = λ i. zip xs ds

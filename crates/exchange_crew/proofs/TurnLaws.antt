@@ -1,18 +1,5 @@
 -- A walk over windows and entries: each entry with a byte in a window is among those that the walk gives with it.
-use Rattle.std.proofs.Common.{◌≡◌, ℕ, ◌+◌, ◌^◌, ◌<◌, ◌≤◌, inl, inr, refl, sym, ◌∙◌, ap, subst, List, [], ◌∷◌, ◌++◌, append_assoc, arith}
-use Rattle.nc_base.specs.declared.plan.Extent.{Extent}
-use Rattle.nc_base.specs.declared.plan.Owned.{Owned}
-use Rattle.overlay_laws.specs.Entries.{In, Source}
-use Rattle.overlay_laws.specs.Lines.{extents, EndBelow, IsByPlace}
-use Rattle.overlay_laws.proofs.HullLaws.{in_left, in_either}
-use Rattle.aggregator_rounds.specs.EntryParts.{IsCovered, AreFilled}
-use Rattle.aggregator_rounds.specs.Left.{BeginBefore, IsPast}
-use Rattle.aggregator_rounds.proofs.PastSteps.{past_extents, past_in, past_kept, past_later, past_sorted, past_twice}
-use Rattle.exchange_crew.specs.Cursor.{AreInFront, AreServed, IsAt}
-use Rattle.exchange_crew.specs.Pieces.{ArePieces}
-use Rattle.exchange_crew.specs.Turns.{Told}
-use Rattle.exchange_crew.specs.Hulls.{AreTurns, IsTurn, LieOnPart}
-use Rattle.overlay_laws.proofs.EntryLaws.{in_extents}
+use Rattle.exchange_crew.proofs.Words.{◌≡◌, ℕ, ◌+◌, ◌^◌, ◌<◌, ◌≤◌, inl, inr, refl, sym, ◌∙◌, ap, subst, List, [], ◌∷◌, ◌++◌, append_assoc, arith, Extent, Owned, In, Source, extents, EndBelow, IsByPlace, in_left, in_either, IsCovered, AreFilled, BeginBefore, IsPast, past_extents, past_in, past_kept, past_later, past_sorted, past_twice, AreInFront, AreServed, IsAt, ArePieces, Told, AreTurns, IsTurn, LieOnPart, in_extents}
 
 pub turn_end : (list : List Owned) (room : ℕ) (t : Told) → EndBelow (2 ^ 62) (extents list) → IsTurn list room t → t.0 + t.1 < 2 ^ 62
 turn_end list room t ends h =

@@ -8,9 +8,11 @@
 mod crew;
 mod errand;
 mod plan;
+mod shared_job;
 mod walk;
 
 pub use crew::{Crew, Ends, Returned, STACK_SIZE, Word, give_back, make_rooms, stopped};
 pub use errand::{Errand, PartBack, PartEnds};
 pub use plan::{Aggregator, GetPlan, PutPlan, Tools};
+pub use shared_job::SharedJob;
 pub use walk::{Turn, TurnWalk, domain_windows, longest_window, next_window, window_list};

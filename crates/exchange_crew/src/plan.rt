@@ -1,5 +1,6 @@
 // What an exchange is lent.
-use nc_base::{Extent, ExtentList, Hints, Job, OwnedList};
+use crate::shared_job::SharedJob;
+use nc_base::{Extent, ExtentList, Hints, OwnedList};
 use std::alloc::Global;
 
 /// What the puts of a collective step come to. All aggregators are lent it.
@@ -10,7 +11,7 @@ pub struct PutPlan<'a> {
     /// The cover of the entries.
     pub cover: &'a ExtentList,
     /// The puts, one batch for each rank.
-    pub job: &'a Job,
+    pub job: &'a SharedJob,
     pub hints: &'a Hints,
 }
 

@@ -1,23 +1,6 @@
 -- What is left of a cover from a place on, by how many extents begin before the place.
-use Rattle.std.proofs.Common.{◌≡◌, ℕ, zero, suc, ◌+◌, ◌-◌, ◌<◌, ◌≤◌, refl, sym, ◌∙◌, ap, subst, inl, inr, List, [], ◌∷◌, ◌++◌, length, take, drop, get_or, length-drop, ◌^◌, Bool, true, false, cond, min, Some, slice_get, arith}
-use Rattle.std.proofs.lemmas.List.{take_all, get_or_default}
+use Rattle.file_domains.proofs.Words.{◌≡◌, ℕ, zero, suc, ◌+◌, ◌-◌, ◌<◌, ◌≤◌, refl, sym, ◌∙◌, ap, subst, inl, inr, List, [], ◌∷◌, ◌++◌, length, take, drop, get_or, length-drop, ◌^◌, Bool, true, false, cond, min, Some, slice_get, arith, take_all, get_or_default, filter, nat_lt, nat_le, ◌==◌, range_with_len, AllWithin, IsPartitionedBy, same_Some, slice_get-get_or, le-leb, leb-true, leb-false, at_in, equal_above, no_none_some, Extent, In, EndBelow, below, IsCover, end_after, is_single, first_at, spans, range_above_none, IsLeft, filter-append}
 use borrow.Author.Tests.{ltb-true, ltb-false}
-use Rattle.std.specs.Prelude.{filter, nat_lt, nat_le, ◌==◌}
-use Rattle.std.specs.List.{range_with_len, AllWithin}
-use Rattle.std.specs.List.Sorted.{IsPartitionedBy}
-use Rattle.std.proofs.lemmas.Option.{same_Some, slice_get-get_or}
-use Rattle.std.proofs.lemmas.Bool.{le-leb, leb-true, leb-false}
-use Rattle.serial_spec.proofs.MemberLaws.{at_in}
-use Rattle.list_laws.proofs.Truth.{equal_above}
-use Rattle.list_laws.proofs.Optional.{no_none_some}
-use Rattle.nc_base.specs.declared.plan.Extent.{Extent}
-use Rattle.overlay_laws.specs.Entries.{In}
-use Rattle.overlay_laws.specs.Lines.{EndBelow}
-use Rattle.overlay_laws.specs.Walks.{below, IsCover, end_after, is_single, first_at}
-use Rattle.serial_spec.specs.Extents.{spans}
-use Rattle.overlay_laws.proofs.CoverLaws.{range_above_none}
-use Rattle.file_domains.specs.Rounds.{IsLeft}
-use Rattle.std.proofs.lemmas.List.Elements.{filter-append}
 
 pub in_dropped : {X : Type 0} (k : ℕ) (xs : List X) (e : X) → In (drop k xs) e → In xs e
 in_dropped zero xs e h = h

@@ -1,6 +1,5 @@
 -- The bytes between two borders are those of one share.
-use Rattle.std.proofs.Common.{◌≡◌, ◌↔◌, ℕ, ◌+◌, ◌-◌, ◌*◌, ◌/◌, ◌<◌, ◌≤◌, max, min, ap, arith}
-use Rattle.std.proofs.lemmas.Nat.{div_below, le-div, mod_below, div-add-mod'}
+use Rattle.file_domains.proofs.Words.{◌≡◌, ◌↔◌, ℕ, ◌+◌, ◌-◌, ◌*◌, ◌/◌, ◌<◌, ◌≤◌, max, min, ap, arith, div_below, le-div, mod_below, div-add-mod'}
 
 one_share : (low s a x : ℕ) → 1 ≤ s → low + a * s ≤ x → x < low + (a + 1) * s → (x - low) / s ≡ a
 one_share low s a x h k l =

@@ -1,3 +1,4 @@
+mod Words
 mod DomainBytes
 pub mod CoverParts
 pub mod WalkSteps

@@ -1,27 +1,6 @@
 -- One window of a walk.
-use Rattle.std.proofs.Common.{◌≡◌, ℕ, zero, suc, ◌+◌, ◌-◌, ◌/◌, ◌^◌, ◌<◌, ◌≤◌, refl, sym, ◌∙◌, ap, subst, inl, inr, List, [], ◌∷◌, length, Bool, true, false, ◌&&◌, cond, min, max, Some, None, slice_get, get_or, arith}
-use Rattle.std.proofs.lemmas.Bool.Decides.{nat_tests}
-use Rattle.std.specs.Prelude.{filter, map, nat_lt, nat_le, ◌==◌}
-use Rattle.std.specs.List.{range_with_len}
-use Rattle.list_laws.proofs.Optional.{no_none_some}
-use Rattle.nc_base.specs.declared.plan.Extent.{Extent}
+use Rattle.file_domains.proofs.Words.{◌≡◌, ℕ, zero, suc, ◌+◌, ◌-◌, ◌/◌, ◌^◌, ◌<◌, ◌≤◌, refl, sym, ◌∙◌, ap, subst, inl, inr, List, [], ◌∷◌, length, Bool, true, false, ◌&&◌, cond, min, max, Some, None, slice_get, get_or, arith, nat_tests, filter, map, nat_lt, nat_le, ◌==◌, range_with_len, no_none_some, Extent, first_of, IsAscending, In, EndBelow, below, above, IsCover, end_after, is_single, first_at, told_of, walked, round_end, spans, filter_same, take_first, drop_first, windows_walked, filter_in, filter_at_most, filter_ascends, flat_in, range_high, range_low, in_either, filter_two, spans_below, spans_above, below_told, range_first, past_round, spans_below_none, spans_ascend, spans_past, triple_same, same_Some, slice_get-get_or, lt-ltb, le-ltb, le-leb, lt-leb, leb-true, leb-false, Window, window_told, round_windows}
 use borrow.Author.Tests.{ltb-true, ltb-false}
-use Rattle.serial_spec.specs.DeviceCalls.{first_of}
-use Rattle.overlay_laws.specs.Hulls.{IsAscending}
-use Rattle.overlay_laws.specs.Entries.{In}
-use Rattle.overlay_laws.specs.Lines.{EndBelow}
-use Rattle.overlay_laws.specs.Walks.{below, above, IsCover, end_after, is_single, first_at, told_of, walked, round_end}
-use Rattle.serial_spec.specs.Extents.{spans}
-use Rattle.overlay_laws.proofs.WalkLaws.{filter_same, take_first, drop_first, windows_walked}
-use Rattle.serial_spec.proofs.MemberLaws.{filter_in}
-use Rattle.list_laws.proofs.Maps.{filter_at_most}
-use Rattle.overlay_laws.proofs.HullLaws.{filter_ascends, flat_in, range_high, range_low, in_either}
-use Rattle.overlay_laws.proofs.DomainLaws.{filter_two}
-use Rattle.overlay_laws.proofs.CoverLaws.{spans_below, spans_above, below_told, range_first, past_round, spans_below_none, spans_ascend, spans_past, triple_same}
-use Rattle.std.proofs.lemmas.Option.{same_Some, slice_get-get_or}
-use Rattle.std.proofs.lemmas.Bool.{lt-ltb, le-ltb, le-leb, lt-leb, leb-true, leb-false}
-use Rattle.file_domains.specs.declared.walk.Window.{Window}
-use Rattle.file_domains.specs.Rounds.{window_told, round_windows}
 use Rattle.file_domains.proofs.CoverParts.{counted_below, ends_before}
 
 -- ---- walks

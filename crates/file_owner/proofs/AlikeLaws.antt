@@ -1,11 +1,5 @@
 -- Items that are alike, one list after another; and lines on which items are put one after another.
-use Rattle.std.proofs.Common.{◌≡◌, ℕ, zero, suc, ◌<◌, refl, sym, ◌∙◌, ap, subst, List, [], ◌∷◌, ◌++◌, length, take, Some, append_assoc, arith}
-use Rattle.std.proofs.lemmas.List.{append-nil}
-use Rattle.std.specs.Prelude.{slice_get}
-use Rattle.nc_base.specs.declared.step.OwnerItem.{OwnerItem}
-use Rattle.ruled_line.specs.Ends.{End}
-use Rattle.join_laws.specs.Alike.{AreAlike}
-use Rattle.file_owner.specs.Owned.{Grows}
+use Rattle.file_owner.proofs.Words.{◌≡◌, ℕ, zero, suc, ◌<◌, refl, sym, ◌∙◌, ap, subst, List, [], ◌∷◌, ◌++◌, length, take, Some, append_assoc, arith, append-nil, slice_get, OwnerItem, End, AreAlike, Grows}
 
 -- ---- alike
 

@@ -1,22 +1,6 @@
 -- A number's own step, as the disk, the order and the lines show it.
-use Rattle.std.proofs.Common.{◌≡◌, ℕ, ◌≤◌, refl, sym, ◌∙◌, ap, subst, List, [], ◌∷◌, ◌++◌, length, map, max, Bool, true, false, Option, Some, None, arith}
-use Rattle.std.specs.Prelude.{IfSome, ◌==◌}
-use Rattle.nc_base.specs.declared.script.Hints.{Hints}
-use Rattle.nc_base.specs.declared.step.Mark.TheVariants.{Solo}
-use Rattle.nc_base.specs.declared.step.Offer.{Offer}
-use Rattle.nc_base.specs.declared.step.OwnerItem.TheVariants.{Reply}
+use Rattle.file_owner.proofs.Words.{◌≡◌, ℕ, ◌≤◌, refl, sym, ◌∙◌, ap, subst, List, [], ◌∷◌, ◌++◌, length, map, max, Bool, true, false, Option, Some, None, arith, IfSome, ◌==◌, Hints, Solo, Offer, Reply, after, with_end, does_solo, needed_now, to_one, solo_calls, Setting, puts_of, solo, told, wanted, counted, AreAlike, TellAlike, owner_at, GoesSo, Grows, HoldSingle, IsAlone, Standing, put_one, gots_long, if_some_at}
 use Rattle.nc_base.specs.declared.step.Reply as reply
-use Rattle.nc_outside.specs.Told.{after, with_end}
-use Rattle.serial_spec.specs.Owner.{does_solo, needed_now, to_one}
-use Rattle.serial_spec.specs.DeviceCalls.{solo_calls}
-use Rattle.serial_spec.specs.FileStep.{Setting, puts_of, solo, told}
-use Rattle.serial_spec.specs.RankSide.{wanted}
-use Rattle.collective_round.specs.Rounds.{counted}
-use Rattle.join_laws.specs.Alike.{AreAlike, TellAlike}
-use Rattle.file_owner.specs.Owned.{owner_at, GoesSo, Grows, HoldSingle, IsAlone, Standing}
-use Rattle.file_owner.specs.Stops.{put_one}
-use Rattle.join_laws.proofs.ReplyLaws.{gots_long}
-use Rattle.list_laws.proofs.Optional.{if_some_at}
 
 one_alike : (r : ℕ) (y z : reply.Reply) (q : ℕ) → TellAlike y z → AreAlike (put_one r (Reply y) q) (to_one r z q)
 one_alike r y z q w = by (q == r)

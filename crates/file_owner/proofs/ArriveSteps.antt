@@ -1,43 +1,10 @@
 -- An arrival that is not strange, as the clients, the disk, the order and the lines show it.
-use Rattle.std.proofs.Common.{◌≡◌, ℕ, zero, suc, ◌<◌, ◌≤◌, refl, sym, ◌∙◌, ap, subst, inl, inr, ◌⊎◌, List, [], ◌∷◌, ◌++◌, length, set, get_or, Bool, true, false, Option, Some, None, Result, Ok, Err, arith}
-use Rattle.std.proofs.lemmas.Bool.{cases_eq}
-use Rattle.std.proofs.lemmas.List.{append-nil, length-set}
-use Rattle.std.specs.Prelude.{slice_get, is_some, IfSome, OnOk}
-use Rattle.std.specs.List.{list_all, list_any}
-use Rattle.std.proofs.lemmas.Option.{same_Some, get_or_from_slice_get}
-use Rattle.list_laws.proofs.Truth.{and_first, and_second}
-use Rattle.nc_base.specs.declared.header.Header.{Header}
-use Rattle.nc_base.specs.declared.script.Hints.{Hints}
-use Rattle.nc_base.specs.declared.step.DiskCall.{DiskCall}
-use Rattle.nc_base.specs.declared.step.MeetKind.{MeetKind}
-use Rattle.nc_base.specs.declared.step.Offer.{Offer}
-use Rattle.nc_base.specs.declared.step.OfferKind.{OfferKind}
+use Rattle.file_owner.proofs.Words.{◌≡◌, ℕ, zero, suc, ◌<◌, ◌≤◌, refl, sym, ◌∙◌, ap, subst, inl, inr, ◌⊎◌, List, [], ◌∷◌, ◌++◌, length, set, get_or, Bool, true, false, Option, Some, None, Result, Ok, Err, arith, cases_eq, append-nil, length-set, slice_get, is_some, IfSome, OnOk, list_all, list_any, same_Some, get_or_from_slice_get, and_first, and_second, Header, Hints, DiskCall, MeetKind, Offer, OfferKind, OwnerItem, Stop, RankItem, with_end, End, Owner, Event, Client, at_offer, differs, does_meeting, does_solo, event, holds, is_strange, keeps, kind_held, meets_if, offers_held, stop_held, stops, meeting_calls, solo_calls, Setting, is_sound, Arrival, kind_of_meeting, counted, HasOwnElements, HasOwnPuts, AreAlike, IsCount, IsFit, event_is, calls_at, calls_at_offer, calls_if, owner_at, each_told, event_calls, GoesSo, Grows, HasDone, HasMovedOnce, HoldSingle, IsAlone, IsHeld, IsSingle, IsSteady, IsTogether, Standing, IsSingleOffer, held_stops, put_one, stop_each, stops_for, count_less, count_longer, entry_below, entry_set, entry_set_other, with_end-nil, client_ended, client_held}
 use Rattle.nc_base.specs.declared.step.OfferKind.TheVariants as offer
-use Rattle.nc_base.specs.declared.step.OwnerItem.{OwnerItem}
-use Rattle.nc_base.specs.declared.step.OwnerItem.TheVariants.{Stop}
-use Rattle.nc_base.specs.declared.step.RankItem.{RankItem}
 use Rattle.nc_base.specs.declared.step.RankItem.TheVariants as item
-use Rattle.nc_outside.specs.Told.{with_end}
-use Rattle.ruled_line.specs.Ends.{End}
-use Rattle.serial_spec.specs.Owner.{Owner, Event, Client, at_offer, differs, does_meeting, does_solo, event, holds, is_strange, keeps, kind_held, meets_if, offers_held, stop_held, stops}
-use Rattle.serial_spec.specs.DeviceCalls.{meeting_calls, solo_calls}
-use Rattle.serial_spec.specs.FileStep.{Setting}
-use Rattle.serial_spec.specs.SoundHeaders.{is_sound}
-use Rattle.serial_spec.specs.History.{Arrival, kind_of_meeting}
-use Rattle.collective_round.specs.Rounds.{counted}
-use Rattle.rank_items.specs.Own.{HasOwnElements, HasOwnPuts}
-use Rattle.join_laws.specs.Alike.{AreAlike}
-use Rattle.turn_run.specs.Counts.{IsCount, IsFit}
-use Rattle.join_laws.proofs.StrangeLaws.{event_is}
-use Rattle.file_owner.specs.Owned.{calls_at, calls_at_offer, calls_if, owner_at, each_told, event_calls, GoesSo, Grows, HasDone, HasMovedOnce, HoldSingle, IsAlone, IsHeld, IsSingle, IsSteady, IsTogether, Standing, IsSingleOffer}
-use Rattle.file_owner.specs.Stops.{held_stops, put_one, stop_each, stops_for}
 use Rattle.file_owner.proofs.AlikeLaws.{lines_as, lines_none, lines_twice}
-use Rattle.turn_run.proofs.CountLaws.{count_less, count_longer}
 use Rattle.file_owner.proofs.PutLaws.{put_here, put_other, stop_for_offer}
 use Rattle.file_owner.proofs.StrangeLaws.{fits, kind_is, passes}
-use Rattle.list_laws.proofs.Places.{entry_below, entry_set, entry_set_other}
-use Rattle.nc_outside.proofs.ToldLaws.{with_end-nil}
-use Rattle.join_laws.proofs.ClientTurns.{client_ended, client_held}
 
 abbrev pub with_clients : Standing → List Client → Standing
 with_clients b clients =

@@ -1,46 +1,13 @@
 -- What the owner's ends tell when it is done.
-use Rattle.turn_run.specs.Known.{point}
-use Rattle.std.proofs.Common.{◌≡◌, ℕ, suc, ◌+◌, ◌<◌, refl, sym, ◌∙◌, ap, subst, inl, inr, List, [], ◌∷◌, ◌++◌, length, map, replicate, Bool, true, false, ◌&&◌, Option, Some, None, arith}
-use Rattle.std.proofs.lemmas.List.{append-nil, length-append, length-map, length-replicate}
-use Rattle.std.specs.Prelude.{slice_get, nat_lt, filter, IfSome, IsTrue}
-use Rattle.std.specs.List.{list_all}
-use Rattle.nc_base.specs.declared.script.Hints.{Hints}
-use Rattle.nc_base.specs.declared.step.DiskCall.{DiskCall}
-use Rattle.nc_base.specs.declared.step.Mark.{Mark}
-use Rattle.nc_base.specs.declared.step.Offer.{Offer}
-use Rattle.nc_base.specs.declared.step.OwnerItem.{OwnerItem}
-use Rattle.nc_base.specs.declared.step.OwnerItem.TheVariants.{Stop}
-use Rattle.nc_base.specs.declared.step.RankItem.{RankItem}
-use Rattle.nc_base.specs.declared.step.StepErr.{StepErr}
-use Rattle.nc_outside.specs.Told.{with_end}
+use Rattle.file_owner.proofs.Words.{point, ◌≡◌, ℕ, suc, ◌+◌, ◌<◌, refl, sym, ◌∙◌, ap, subst, inl, inr, List, [], ◌∷◌, ◌++◌, length, map, replicate, Bool, true, false, ◌&&◌, Option, Some, None, arith, append-nil, length-append, length-map, length-replicate, slice_get, nat_lt, filter, IfSome, IsTrue, list_all, Hints, DiskCall, Mark, Offer, OwnerItem, Stop, RankItem, StepErr, with_end, In, End, Receiver, Owner, Client, free_client, given_along, offers_in, owed, own_items, served, stop_held, stops, IsGivenInPart, Setting, Arrival, is_offer, HasEnd, OwnerStoodAt, counted, of_fault, of_stranger, IsHaltAt, Outcome, taken_from, stopped_with, owner_at, owner_calls, run, AreSingle, GoesSo, Grows, HoldSingle, Standing, HasCutService, arrived, gained, opening, HasFailed, HasTaken, HasToldAlong, HavePut, IsCutOff, IsDone, IsDoneSo, passed, stops_for, Outlets, Halt, one_if, owed_count, alike_same, alike_two, if_some_at, entry_below, entry_replicate, own_two}
 use Rattle.nc_outside.specs.declared.disk.Disk.{Ghosts as DiskGhosts}
 use Rattle.nc_outside.specs.declared.told.Told.{Ghosts as ToldGhosts}
-use Rattle.overlay_laws.specs.Entries.{In}
-use Rattle.ruled_line.specs.Ends.{End, Receiver}
-use Rattle.serial_spec.specs.Owner.{Owner, Client, free_client, given_along, offers_in, owed, own_items, served, stop_held, stops, IsGivenInPart}
-use Rattle.serial_spec.specs.FileStep.{Setting}
-use Rattle.serial_spec.specs.History.{Arrival, is_offer}
-use Rattle.serial_spec.specs.Joined.{HasEnd}
-use Rattle.serial_spec.specs.Torn.{OwnerStoodAt}
-use Rattle.collective_round.specs.Rounds.{counted}
-use Rattle.file_owner.specs.Halted.{of_fault, of_stranger, IsHaltAt, Outcome, taken_from, stopped_with}
-use Rattle.file_owner.specs.Owned.{owner_at, owner_calls, run, AreSingle, GoesSo, Grows, HoldSingle, Standing}
-use Rattle.file_owner.specs.Refused.{HasCutService}
-use Rattle.file_owner.specs.Service.{arrived, gained, opening, HasFailed, HasTaken, HasToldAlong, HavePut, IsCutOff, IsDone, IsDoneSo, passed}
-use Rattle.file_owner.specs.Stops.{stops_for}
-use Rattle.file_owner.specs.declared.lent.Outlets.{Outlets}
-use Rattle.file_owner.specs.declared.service.Halt.{Halt}
 use Rattle.file_owner.specs.declared.service.Halt.TheVariants as halt
 use Rattle.file_owner.proofs.AlikeLaws.{alike_by, alike_long, lines_twice}
 use Rattle.file_owner.proofs.OwnerRuns.{goes_on, GoesOn}
 use Rattle.file_owner.proofs.RefusedSteps.{stood_later}
-use Rattle.join_laws.proofs.TieLaws.{one_if, owed_count}
-use Rattle.join_laws.proofs.OwnerAlikeLaws.{alike_same, alike_two}
 use Rattle.file_owner.proofs.StopLaws.{filter_joined}
 use Rattle.file_owner.proofs.GainedLaws.{gained_is, have_put, arrived_is, StoppedAt, stopped_at, left_at}
-use Rattle.list_laws.proofs.Optional.{if_some_at}
-use Rattle.list_laws.proofs.Places.{entry_below, entry_replicate}
-use Rattle.join_laws.proofs.BegunLaws.{own_two}
 
 -- ---- the clauses
 

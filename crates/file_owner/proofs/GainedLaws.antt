@@ -1,29 +1,9 @@
 -- What the owner's ends gained, what was taken from them, and where nothing more is done.
-use Rattle.std.proofs.Common.{◌≡◌, ℕ, zero, suc, ◌+◌, ◌<◌, refl, sym, ◌∙◌, ap, subst, List, [], ◌∷◌, ◌++◌, length, drop, Bool, true, false, ◌&&◌, Option, Some, None, append_assoc, arith}
-use Rattle.std.proofs.Math.Seq.{drop-append_seam}
-use Rattle.std.specs.Prelude.{slice_get, nat_lt}
-use Rattle.std.specs.List.{list_all}
-use Rattle.nc_base.specs.declared.script.Hints.{Hints}
-use Rattle.nc_base.specs.declared.step.DiskCall.{DiskCall}
-use Rattle.nc_base.specs.declared.step.Mark.{Mark}
-use Rattle.nc_base.specs.declared.step.OwnerItem.{OwnerItem}
-use Rattle.nc_base.specs.declared.step.RankItem.{RankItem}
-use Rattle.nc_base.specs.declared.step.StepErr.{StepErr}
-use Rattle.ruled_line.specs.Ends.{End, Receiver}
-use Rattle.serial_spec.specs.Owner.{Owner, is_strange, owed, served, stop_held, stops}
-use Rattle.serial_spec.specs.FileStep.{Setting}
-use Rattle.serial_spec.specs.History.{Arrival}
-use Rattle.join_laws.proofs.JoinLaws.{owed_stop}
-use Rattle.file_owner.specs.Halted.{of_fault, of_stranger, HasFinished, HasHalted, IsHaltAt, IsLeft, IsNoMore, Outcome, taken_from, stopped_with, Stopped}
-use Rattle.file_owner.specs.Owned.{owner_at, owner_calls, run, Grows, HasRun, Standing}
-use Rattle.file_owner.specs.Service.{arrived, gained, more_on, HavePut}
-use Rattle.file_owner.specs.Stops.{stops_for, AllHaveEnded, HaveEnded, IsMore}
-use Rattle.file_owner.specs.declared.service.Halt.{Halt}
+use Rattle.file_owner.proofs.Words.{◌≡◌, ℕ, zero, suc, ◌+◌, ◌<◌, refl, sym, ◌∙◌, ap, subst, List, [], ◌∷◌, ◌++◌, length, drop, Bool, true, false, ◌&&◌, Option, Some, None, append_assoc, arith, drop-append_seam, slice_get, nat_lt, list_all, Hints, DiskCall, Mark, OwnerItem, RankItem, StepErr, End, Receiver, Owner, is_strange, owed, served, stop_held, stops, Setting, Arrival, owed_stop, of_fault, of_stranger, HasFinished, HasHalted, IsHaltAt, IsLeft, IsNoMore, Outcome, taken_from, stopped_with, Stopped, owner_at, owner_calls, run, Grows, HasRun, Standing, arrived, gained, more_on, HavePut, stops_for, AllHaveEnded, HaveEnded, IsMore, Halt, entry_below}
 use Rattle.file_owner.specs.declared.service.Halt.TheVariants as halt
 use Rattle.file_owner.proofs.AlikeLaws.{lines_as, lines_twice}
 use Rattle.file_owner.proofs.OwnerRuns.{calls_stop, stops_at}
 use Rattle.file_owner.proofs.StopLaws.{stops_joined}
-use Rattle.list_laws.proofs.Places.{entry_below}
 
 -- ---- what ends gained
 

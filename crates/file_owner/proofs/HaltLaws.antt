@@ -1,34 +1,12 @@
 -- The owner takes one item after another, and stops at last.
-use Rattle.std.proofs.Common.{◌≡◌, ℕ, zero, suc, ◌<◌, ◌≤◌, refl, sym, ◌∙◌, ap, subst, List, [], ◌∷◌, ◌++◌, length, replicate, Bool, true, false, Option, None, arith}
-use Rattle.std.proofs.lemmas.List.{append-nil, length-replicate}
-use Rattle.std.specs.Prelude.{slice_get}
-use Rattle.std.proofs.lemmas.Option.{same_Some}
-use Rattle.nc_base.specs.declared.header.Header.{Header}
-use Rattle.nc_base.specs.declared.script.Hints.{Hints}
-use Rattle.nc_base.specs.declared.step.DiskCall.{DiskCall}
-use Rattle.nc_base.specs.declared.step.Mark.{Mark}
-use Rattle.nc_base.specs.declared.step.OwnerItem.{OwnerItem}
-use Rattle.nc_base.specs.declared.step.RankItem.{RankItem}
-use Rattle.nc_base.specs.declared.step.StepErr.{StepErr}
+use Rattle.file_owner.proofs.Words.{◌≡◌, ℕ, zero, suc, ◌<◌, ◌≤◌, refl, sym, ◌∙◌, ap, subst, List, [], ◌∷◌, ◌++◌, length, replicate, Bool, true, false, Option, None, arith, append-nil, length-replicate, slice_get, same_Some, Header, Hints, DiskCall, Mark, OwnerItem, RankItem, StepErr, Rose, End, Receiver, free_client, is_strange, stop_held, stops, Client, Setting, Arrival, IsCount, HasFinished, HasHaltCause, HasHalted, HasSeenAll, HasServed, taken_from, stopped_with, owner_at, opening_standing, standing_at, Grows, HasDone, IsSteady, Standing, held_stops, stops_for, AllHaveEnded, HaveEnded, IsMore, Halt, IsFaultAt, entry_replicate}
 use Rattle.nc_base.specs.declared.step.StepErr.TheVariants as fault
-use Rattle.nc_outside.specs.Cause.{Rose}
-use Rattle.ruled_line.specs.Ends.{End, Receiver}
-use Rattle.serial_spec.specs.Owner.{free_client, is_strange, stop_held, stops, Client}
-use Rattle.serial_spec.specs.FileStep.{Setting}
-use Rattle.serial_spec.specs.History.{Arrival}
-use Rattle.turn_run.specs.Counts.{IsCount}
-use Rattle.file_owner.specs.Halted.{HasFinished, HasHaltCause, HasHalted, HasSeenAll, HasServed, taken_from, stopped_with}
-use Rattle.file_owner.specs.Owned.{owner_at, opening_standing, standing_at, Grows, HasDone, IsSteady, Standing}
-use Rattle.file_owner.specs.Stops.{held_stops, stops_for, AllHaveEnded, HaveEnded, IsMore}
 use Rattle.file_owner.specs.declared.owner.Owner.{Owner as Held}
-use Rattle.file_owner.specs.declared.service.Halt.{Halt}
 use Rattle.file_owner.specs.declared.service.Halt.TheVariants as halt
-use Rattle.file_owner.specs.Refused.{IsFaultAt}
 use Rattle.file_owner.proofs.RefusedSteps.{fault_none}
 use Rattle.file_owner.proofs.AlikeLaws.{lines_as, lines_none, lines_twice}
 use Rattle.file_owner.proofs.RunLaws.{run_more, run_none}
 use Rattle.file_owner.proofs.StopLaws.{more_none, more_one}
-use Rattle.list_laws.proofs.Places.{entry_replicate}
 
 pub served_none : (hints : Hints) (s : Setting) (old : Receiver RankItem) (flags : List Bool) (x : Standing) → HaveEnded flags [] → HasServed hints s (taken_from old old flags) x x
 served_none hints s old flags x h = record { more = []; taken = more_none old; ended = h; run = run_none hints s x }

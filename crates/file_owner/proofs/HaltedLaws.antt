@@ -1,27 +1,7 @@
 -- What the owner's ends tell of a run from its opening on.
-use Rattle.turn_run.specs.Known.{point}
-use Rattle.std.proofs.Common.{◌≡◌, ℕ, refl, sym, ◌∙◌, ap, subst, List, length, replicate, Bool, Option, Some, None}
-use Rattle.std.proofs.lemmas.Option.{same_Some}
-use Rattle.std.specs.Prelude.{IfSome}
-use Rattle.nc_base.specs.declared.script.Hints.{Hints}
-use Rattle.nc_base.specs.declared.step.DiskCall.{DiskCall}
-use Rattle.nc_base.specs.declared.step.Mark.{Mark}
-use Rattle.nc_base.specs.declared.step.OwnerItem.{OwnerItem}
-use Rattle.nc_base.specs.declared.step.RankItem.{RankItem}
-use Rattle.nc_base.specs.declared.step.StepErr.{StepErr}
-use Rattle.nc_outside.specs.Told.{with_end}
-use Rattle.ruled_line.specs.Ends.{End, Receiver}
-use Rattle.serial_spec.specs.Owner.{Owner, Client, free_client, served}
-use Rattle.serial_spec.specs.FileStep.{Setting}
-use Rattle.collective_round.specs.Rounds.{counted}
-use Rattle.file_owner.specs.Halted.{of_fault, of_stranger, HasHalted, HasSeenAll, Outcome, taken_from, stopped_with}
-use Rattle.file_owner.specs.Owned.{owner_at, owner_calls, opening_standing, AreSingle, HoldSingle, Standing}
-use Rattle.file_owner.specs.Refused.{HasCutService}
-use Rattle.file_owner.specs.Service.{arrived, gained, opening, HasFailed, HasTaken, HasToldAlong, HavePut, IsDone, IsDoneSo, passed}
-use Rattle.file_owner.specs.declared.service.Halt.{Halt}
+use Rattle.file_owner.proofs.Words.{point, ◌≡◌, ℕ, refl, sym, ◌∙◌, ap, subst, List, length, replicate, Bool, Option, Some, None, same_Some, IfSome, Hints, DiskCall, Mark, OwnerItem, RankItem, StepErr, with_end, End, Receiver, Owner, Client, free_client, served, Setting, counted, of_fault, of_stranger, HasHalted, HasSeenAll, Outcome, taken_from, stopped_with, owner_at, owner_calls, opening_standing, AreSingle, HoldSingle, Standing, HasCutService, arrived, gained, opening, HasFailed, HasTaken, HasToldAlong, HavePut, IsDone, IsDoneSo, passed, Halt, entry_replicate}
 use Rattle.file_owner.specs.declared.service.Halt.TheVariants as halt
 use Rattle.file_owner.proofs.EndLaws.{out_taken, out_put, out_done, out_records, out_told, out_bytes, out_calls, out_failed, out_cut}
-use Rattle.list_laws.proofs.Places.{entry_replicate}
 
 -- ---- from the opening
 

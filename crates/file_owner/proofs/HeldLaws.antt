@@ -1,26 +1,6 @@
 -- The offers that are held, one after another.
-use Rattle.std.proofs.Common.{◌≡◌, ℕ, zero, suc, ◌+◌, ◌≤◌, refl, sym, ◌∙◌, ap, subst, inl, inr, ◌⊎◌, List, [], ◌∷◌, ◌++◌, length, map, max, take, drop, set, replicate, true, false, Option, Some, None, arith}
-use Rattle.std.proofs.lemmas.List.{length-map, map-append}
-use Rattle.std.specs.Prelude.{slice_get, is_some}
-use Rattle.std.specs.List.{list_all, AllByRecursion}
-use Rattle.std.specs.Option.{option_to_list}
-use Rattle.std.proofs.lemmas.Option.{same_Some}
-use Rattle.list_laws.proofs.Truth.{and_first}
-use Rattle.nc_base.specs.declared.header.Header.{Header}
-use Rattle.nc_base.specs.declared.plan.Batch.{Batch}
-use Rattle.nc_base.specs.declared.step.Offer.{Offer}
+use Rattle.file_owner.proofs.Words.{◌≡◌, ℕ, zero, suc, ◌+◌, ◌≤◌, refl, sym, ◌∙◌, ap, subst, inl, inr, ◌⊎◌, List, [], ◌∷◌, ◌++◌, length, map, max, take, drop, set, replicate, true, false, Option, Some, None, arith, length-map, map-append, slice_get, is_some, list_all, AllByRecursion, option_to_list, same_Some, and_first, Header, Batch, Offer, known_by, greatest, Client, freed, holds, offers_held, IsCount, IsFit, IsRise, some_or_none, AreOfOneKind, HoldAll, HoldSingle, IsSteady, Standing, IsSingleOffer, batches_of, known_of, IsJob, IsOneRise, count_longer, count_max, offers_job, one_rise, rise_brought, known_less, greatest_joined, take_next}
 use Rattle.nc_base.specs.declared.step.OfferKind.TheVariants as offer
-use Rattle.serial_spec.specs.FileStep.{known_by}
-use Rattle.serial_spec.specs.Layout.{greatest}
-use Rattle.serial_spec.specs.Owner.{Client, freed, holds, offers_held}
-use Rattle.turn_run.specs.Counts.{IsCount, IsFit, IsRise}
-use Rattle.list_laws.proofs.Optional.{some_or_none}
-use Rattle.file_owner.specs.Owned.{AreOfOneKind, HoldAll, HoldSingle, IsSteady, Standing, IsSingleOffer}
-use Rattle.turn_run.specs.Steps.{batches_of, known_of, IsJob, IsOneRise}
-use Rattle.turn_run.proofs.CountLaws.{count_longer, count_max}
-use Rattle.turn_run.proofs.MeetOffers.{offers_job, one_rise, rise_brought}
-use Rattle.serial_spec.proofs.CountLaws.{known_less, greatest_joined}
-use Rattle.list_laws.proofs.Places.{take_next}
 
 pub all_held : (P : Offer → Type 0) (clients : List Client) → HoldAll P clients → AllByRecursion P (offers_held clients)
 all_held P [] h = tt

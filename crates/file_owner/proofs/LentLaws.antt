@@ -1,7 +1,5 @@
 -- What is lent stays the same from one step to the next.
-use Rattle.std.proofs.Common.{◌∙◌}
-use Rattle.file_owner.specs.Lent.{AreSame}
-use Rattle.file_owner.specs.declared.lent.Outlets.{Outlets}
+use Rattle.file_owner.proofs.Words.{◌∙◌, AreSame, Outlets}
 
 pub same_then : {D T : Type 0} {a b c : Outlets D T} → AreSame a b → AreSame b c → AreSame a c
 same_then first second = record {

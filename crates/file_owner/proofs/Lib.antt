@@ -1,3 +1,4 @@
+mod Words
 pub mod AlikeLaws
 mod GainedLaws
 mod EndLaws

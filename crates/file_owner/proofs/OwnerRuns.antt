@@ -1,17 +1,5 @@
 -- What the owner does along arrivals, one arrival after another.
-use Rattle.std.proofs.Common.{◌≡◌, ℕ, refl, sym, ◌∙◌, ap, inl, inr, ◌⊎◌, List, [], ◌∷◌, ◌++◌, Bool, true, false, Some, None, append_assoc}
-use Rattle.std.specs.Prelude.{◌==◌}
-use Rattle.std.proofs.lemmas.Bool.Decides.{eqb_tells}
-use Rattle.nc_base.specs.declared.script.Hints.{Hints}
-use Rattle.nc_base.specs.declared.step.DiskCall.{DiskCall}
-use Rattle.nc_base.specs.declared.step.Mark.{Mark}
-use Rattle.nc_base.specs.declared.step.OwnerItem.{OwnerItem}
-use Rattle.serial_spec.specs.FileStep.{Setting}
-use Rattle.serial_spec.specs.History.{Arrival}
-use Rattle.serial_spec.specs.Owner.{Owner, event, given_along, is_strange, owed, served}
-use Rattle.join_laws.proofs.JoinLaws.{owed_on, served_on, stranger_on, ServedOn}
-use Rattle.join_laws.proofs.GoingOnLaws.{given_on}
-use Rattle.file_owner.specs.Owned.{owner_calls, owner_told, each_told, event_calls}
+use Rattle.file_owner.proofs.Words.{◌≡◌, ℕ, refl, sym, ◌∙◌, ap, inl, inr, ◌⊎◌, List, [], ◌∷◌, ◌++◌, Bool, true, false, Some, None, append_assoc, ◌==◌, eqb_tells, Hints, DiskCall, Mark, OwnerItem, Setting, Arrival, Owner, event, given_along, is_strange, owed, served, owed_on, served_on, stranger_on, ServedOn, given_on, owner_calls, owner_told, each_told, event_calls}
 
 -- ---- one arrival
 

@@ -1,20 +1,6 @@
 -- Items that are put on lines, one line after another.
-use Rattle.std.proofs.Common.{◌≡◌, ℕ, ◌+◌, ◌<◌, ◌≤◌, refl, sym, ◌∙◌, ap, inl, inr, ◌⊎◌, List, [], ◌∷◌, ◌++◌, length, map, Bool, true, false, Some, arith}
-use Rattle.std.proofs.lemmas.Bool.{cases_eq}
-use Rattle.std.proofs.lemmas.Bool.Decides.{nat_tests}
-use Rattle.std.proofs.lemmas.List.{append-nil}
-use Rattle.std.specs.Prelude.{slice_get, option_map, filter, nat_lt, ◌==◌, ◌≢◌}
-use Rattle.nc_base.specs.declared.step.Offer.{Offer}
-use Rattle.nc_base.specs.declared.step.OwnerItem.{OwnerItem}
-use Rattle.nc_base.specs.declared.step.OwnerItem.TheVariants.{Stop}
-use Rattle.nc_base.specs.declared.step.RankItem.{RankItem}
+use Rattle.file_owner.proofs.Words.{◌≡◌, ℕ, ◌+◌, ◌<◌, ◌≤◌, refl, sym, ◌∙◌, ap, inl, inr, ◌⊎◌, List, [], ◌∷◌, ◌++◌, length, map, Bool, true, false, Some, arith, cases_eq, nat_tests, append-nil, slice_get, option_map, filter, nat_lt, ◌==◌, ◌≢◌, Offer, OwnerItem, Stop, RankItem, with_item, End, is_offer, own_here, own_other, equal_itself, Grows, put_one, stops_for}
 use Rattle.nc_base.specs.declared.step.RankItem.TheVariants as item
-use Rattle.ruled_line.specs.Ends.{with_item, End}
-use Rattle.serial_spec.specs.History.{is_offer}
-use Rattle.join_laws.proofs.EventLaws.{own_here, own_other}
-use Rattle.list_laws.proofs.Truth.{equal_itself}
-use Rattle.file_owner.specs.Owned.{Grows}
-use Rattle.file_owner.specs.Stops.{put_one, stops_for}
 use Rattle.file_owner.proofs.AlikeLaws.{lines_as, lines_twice, Lines}
 use Rattle.file_owner.proofs.OwnerRuns.{other_number}
 

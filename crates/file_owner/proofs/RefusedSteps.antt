@@ -1,37 +1,9 @@
 -- What a refused step leaves, as the owner's event has it.
-use Rattle.std.proofs.Common.{◌≡◌, ℕ, ◌<◌, length, refl, sym, ◌∙◌, ap, subst, inl, inr, ◌⊎◌, List, [], ◌∷◌, ◌++◌, max, set, Bool, true, false, Option, Some, None, arith}
-use Rattle.std.proofs.lemmas.List.{append-nil}
-use Rattle.std.proofs.lemmas.Option.{same_Some}
-use Rattle.std.specs.Prelude.{slice_get, flat_map, IfSome}
-use Rattle.std.specs.List.{enumerate_from, list_all}
-use Rattle.std.specs.Int.{byte_len}
-use Rattle.nc_base.specs.declared.plan.Batch.{Batch}
-use Rattle.nc_base.specs.declared.step.MeetKind.{MeetKind}
-use Rattle.nc_base.specs.declared.step.Offer.{Offer}
+use Rattle.file_owner.proofs.Words.{◌≡◌, ℕ, ◌<◌, length, refl, sym, ◌∙◌, ap, subst, inl, inr, ◌⊎◌, List, [], ◌∷◌, ◌++◌, max, set, Bool, true, false, Option, Some, None, arith, append-nil, same_Some, slice_get, flat_map, IfSome, enumerate_from, list_all, byte_len, Batch, MeetKind, Offer, RankItem, StepErr, Memory, after, BothTold, Owner, Event, Client, does_meeting, does_solo, event, holds, is_strange, meets_if, needed_now, offers_at, offers_held, offers_met, step_offers, Setting, Counted, meeting, puts_of, solo, count_width, Arrival, Puts, covered, IsTorn, OwnerStoodAt, at_arrival, between_arrivals, counted, puts_in, torn_by, torn_wider, batches_of, known_of, met, IsOneRise, met_count, met_done, met_torn, event_is, met_is, puts_same, owner_at, HoldSingle, IsSingle, IsSingleOffer, Standing, IsFaultAt, IsRefusedAlone, IsRefusedArrival, IsRefusedTogether, entry_below, client_held}
 use Rattle.nc_base.specs.declared.step.OfferKind.TheVariants as offer
-use Rattle.nc_base.specs.declared.step.RankItem.{RankItem}
 use Rattle.nc_base.specs.declared.step.RankItem.TheVariants as item
-use Rattle.nc_base.specs.declared.step.StepErr.{StepErr}
-use Rattle.nc_base.specs.declared.step.StepErr.TheVariants.{Memory}
-use Rattle.nc_outside.specs.Told.{after, BothTold}
-use Rattle.serial_spec.specs.Owner.{Owner, Event, Client, does_meeting, does_solo, event, holds, is_strange, meets_if, needed_now, offers_at, offers_held, offers_met, step_offers}
-use Rattle.serial_spec.specs.FileStep.{Setting, Counted, meeting, puts_of, solo}
-use Rattle.serial_spec.specs.HeaderBytes.{count_width}
-use Rattle.serial_spec.specs.History.{Arrival}
-use Rattle.serial_spec.specs.SharedByte.{Puts, covered}
-use Rattle.serial_spec.specs.Torn.{IsLeft, IsTorn, OwnerStoodAt}
-use Rattle.serial_spec.specs.Torn.OwnerStoodAt.{at_arrival, between_arrivals}
-use Rattle.collective_round.specs.Rounds.{counted, puts_in}
-use Rattle.collective_round.proofs.TornFiles.{torn_by, torn_wider}
-use Rattle.turn_run.specs.Steps.{batches_of, known_of, met, IsOneRise}
-use Rattle.turn_run.proofs.CutMeet.{met_count, met_done, met_torn}
-use Rattle.join_laws.proofs.StrangeLaws.{event_is}
-use Rattle.turn_run.proofs.MeetStep.{met_is, puts_same}
-use Rattle.file_owner.specs.Owned.{owner_at, HoldSingle, IsSingle, IsSingleOffer, Standing}
-use Rattle.file_owner.specs.Refused.{IsFaultAt, IsRefusedAlone, IsRefusedArrival, IsRefusedTogether}
+use Rattle.serial_spec.specs.Torn.{IsLeft}
 use Rattle.file_owner.proofs.ArriveSteps.{offer_event, single_set, with_clients}
-use Rattle.list_laws.proofs.Places.{entry_below}
-use Rattle.join_laws.proofs.ClientTurns.{client_held}
 
 -- ---- a number's own step
 

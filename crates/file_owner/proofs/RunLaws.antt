@@ -1,22 +1,7 @@
 -- What can be seen of an owner, arrival after arrival.
-use Rattle.std.proofs.Common.{◌≡◌, ℕ, refl, sym, ◌∙◌, ap, subst, inl, inr, List, [], ◌∷◌, ◌++◌, length, false, Option, Some, None, append_assoc, arith}
-use Rattle.std.proofs.lemmas.List.{append-nil}
-use Rattle.std.specs.Prelude.{IfSome}
-use Rattle.nc_base.specs.declared.script.Hints.{Hints}
-use Rattle.nc_base.specs.declared.step.DiskCall.{DiskCall}
-use Rattle.nc_base.specs.declared.step.Mark.{Mark}
-use Rattle.nc_base.specs.declared.step.OwnerItem.{OwnerItem}
-use Rattle.nc_outside.specs.Told.{with_end}
-use Rattle.overlay_laws.specs.Entries.{In}
-use Rattle.serial_spec.specs.FileStep.{Setting}
-use Rattle.serial_spec.specs.History.{Arrival}
-use Rattle.serial_spec.specs.Owner.{Owner, Event, event, given_along, is_strange, served}
-use Rattle.join_laws.proofs.JoinLaws.{served_on}
-use Rattle.join_laws.proofs.OwnerAlikeLaws.{alike_two}
-use Rattle.file_owner.specs.Owned.{owner_at, owner_calls, owner_told, each_told, event_calls, run, AreSingle, GoesAlike, GoesSo, HasDone, HasRun, HoldSingle, IsSingle, Standing}
+use Rattle.file_owner.proofs.Words.{◌≡◌, ℕ, refl, sym, ◌∙◌, ap, subst, inl, inr, List, [], ◌∷◌, ◌++◌, length, false, Option, Some, None, append_assoc, arith, append-nil, IfSome, Hints, DiskCall, Mark, OwnerItem, with_end, In, Setting, Arrival, Owner, Event, event, given_along, is_strange, served, served_on, alike_two, owner_at, owner_calls, owner_told, each_told, event_calls, run, AreSingle, GoesAlike, GoesSo, HasDone, HasRun, HoldSingle, IsSingle, Standing, with_end-with_end, with_end-nil}
 use Rattle.file_owner.proofs.AlikeLaws.{alike_by, lines_none, lines_twice}
 use Rattle.file_owner.proofs.OwnerRuns.{goes_on, told_on}
-use Rattle.nc_outside.proofs.ToldLaws.{with_end-with_end, with_end-nil}
 
 pub run_none : (hints : Hints) (s : Setting) (x : Standing) → HasRun hints s [] x x
 run_none hints s x = record {

@@ -1,24 +1,7 @@
 -- What was taken, and the stops for it, one item after another.
-use Rattle.std.proofs.Common.{◌≡◌, ℕ, ◌<◌, refl, sym, ◌∙◌, ap, subst, inl, inr, ◌⊎◌, List, [], ◌∷◌, ◌++◌, map, set, Bool, true, false, ◌&&◌, append_assoc, arith}
-use Rattle.std.proofs.lemmas.Bool.{cases_eq}
-use Rattle.std.proofs.lemmas.Bool.Decides.{nat_tests}
-use Rattle.std.proofs.lemmas.List.{append-nil}
-use Rattle.std.specs.Prelude.{filter, nat_lt}
-use Rattle.std.specs.List.{list_all}
-use Rattle.nc_base.specs.declared.step.OwnerItem.{OwnerItem}
-use Rattle.nc_base.specs.declared.step.OwnerItem.TheVariants.{Stop}
-use Rattle.nc_base.specs.declared.step.RankItem.{RankItem}
+use Rattle.file_owner.proofs.Words.{◌≡◌, ℕ, ◌<◌, refl, sym, ◌∙◌, ap, subst, inl, inr, ◌⊎◌, List, [], ◌∷◌, ◌++◌, map, set, Bool, true, false, ◌&&◌, append_assoc, arith, cases_eq, nat_tests, append-nil, filter, nat_lt, list_all, OwnerItem, Stop, RankItem, End, Receiver, own_items, Arrival, is_offer, HasEnd, own_here, Grows, stops_for, HaveEnded, HaveMet, IsMore, own_two, entry_set_other}
 use Rattle.nc_base.specs.declared.step.RankItem.TheVariants as item
-use Rattle.ruled_line.specs.Ends.{End, Receiver}
-use Rattle.serial_spec.specs.Owner.{own_items}
-use Rattle.serial_spec.specs.History.{Arrival, is_offer}
-use Rattle.serial_spec.specs.Joined.{HasEnd}
-use Rattle.join_laws.proofs.EventLaws.{own_here}
-use Rattle.file_owner.specs.Owned.{Grows}
-use Rattle.file_owner.specs.Stops.{stops_for, HaveEnded, HaveMet, IsMore}
 use Rattle.file_owner.proofs.AlikeLaws.{lines_as, lines_twice}
-use Rattle.join_laws.proofs.BegunLaws.{own_two}
-use Rattle.list_laws.proofs.Places.{entry_set_other}
 
 -- ---- items of one number
 

@@ -1,45 +1,11 @@
 -- What is told of an arrival by the tests on it.
-use Rattle.std.proofs.Common.{◌≡◌, ℕ, zero, suc, ◌+◌, ◌*◌, ◌^◌, ◌<◌, ◌≤◌, refl, sym, ◌∙◌, ap, inl, inr, List, [], ◌∷◌, length, map, set, Bool, true, false, not, ◌&&◌, ◌||◌, Option, Some, None, arith}
-use Rattle.std.specs.Prelude.{slice_get, is_some, nat_le, nat_lt, ◌==◌, IfSome, option_and_then}
-use Rattle.std.specs.List.{list_all, list_any}
-use Rattle.std.proofs.lemmas.Bool.{or_parts, and_right, not-false}
-use Rattle.std.proofs.lemmas.Bool.Decides.{nat_tests}
-use Rattle.std.proofs.lemmas.Option.{same_Some}
-use Rattle.list_laws.proofs.Truth.{and_first, and_second, or_false}
+use Rattle.file_owner.proofs.Words.{◌≡◌, ℕ, zero, suc, ◌+◌, ◌*◌, ◌^◌, ◌<◌, ◌≤◌, refl, sym, ◌∙◌, ap, inl, inr, List, [], ◌∷◌, length, map, set, Bool, true, false, not, ◌&&◌, ◌||◌, Option, Some, None, arith, slice_get, is_some, nat_le, nat_lt, ◌==◌, IfSome, option_and_then, list_all, list_any, or_parts, and_right, not-false, nat_tests, same_Some, and_first, and_second, or_false, Header, Var, Post, Direction, MeetKind, Offer, OfferKind, RankItem, In, size_of, Setting, is_sound, is_offer, kind_of_meeting, meeting_kind, offer_of, product, check, is_ok_code, Owner, Event, Client, at_item, at_offer, bad_batch, differs, event, freed, has_ended, has_held, has_left, holds, is_strange, kind_held, left_behind, left_by, meets_if, refused, same_kind, some_true, strange_offer, wrong_length, IsPut, IsSoundOffer, HasOwnElements, own_bytes, ok_is, IsCount, IsFit, fails_at, entry_set, at_in, fails_as_offer, fails_test, leaves_behind, leaves_with, any_passes_from_place, client_ended, client_held, not_some}
 use Rattle.nc_base.specs.declared.answer.Code.TheVariants as code
-use Rattle.nc_base.specs.declared.header.Header.{Header}
-use Rattle.nc_base.specs.declared.header.Var.{Var}
-use Rattle.nc_base.specs.declared.plan.Post.{Post}
-use Rattle.nc_base.specs.declared.request.Direction.{Direction}
 use Rattle.nc_base.specs.declared.request.Direction.TheVariants as way
-use Rattle.nc_base.specs.declared.step.MeetKind.{MeetKind}
 use Rattle.nc_base.specs.declared.step.MeetKind.TheVariants as meets
-use Rattle.nc_base.specs.declared.step.Offer.{Offer}
-use Rattle.nc_base.specs.declared.step.OfferKind.{OfferKind}
 use Rattle.nc_base.specs.declared.step.OfferKind.TheVariants as offer
-use Rattle.nc_base.specs.declared.step.RankItem.{RankItem}
 use Rattle.nc_base.specs.declared.step.RankItem.TheVariants as item
-use Rattle.overlay_laws.specs.Entries.{In}
-use Rattle.serial_spec.specs.ExternalForm.{size_of}
-use Rattle.serial_spec.specs.FileStep.{Setting}
-use Rattle.serial_spec.specs.SoundHeaders.{is_sound}
-use Rattle.serial_spec.specs.History.{is_offer, kind_of_meeting, meeting_kind, offer_of}
-use Rattle.serial_spec.specs.Layout.{product}
-use Rattle.serial_spec.specs.RegionCheck.{check, is_ok_code}
-use Rattle.serial_spec.specs.Owner.{Owner, Event, Client, at_item, at_offer, bad_batch, differs, event, freed, has_ended, has_held, has_left, holds, is_strange, kind_held, left_behind, left_by, meets_if, refused, same_kind, some_true, strange_offer, wrong_length}
-use Rattle.rank_core.specs.Offered.{IsPut, IsSoundOffer}
-use Rattle.rank_items.specs.Own.{HasOwnElements}
-use Rattle.rank_items.proofs.OwnBytes.{own_bytes}
-use Rattle.vara_extents.proofs.PartLaws.{ok_is}
-use Rattle.turn_run.specs.Counts.{IsCount, IsFit}
 use Rattle.join_laws.proofs.StrangeLaws.{event_is, freed_none as none_held}
-use Rattle.list_laws.proofs.Each.{fails_at}
-use Rattle.list_laws.proofs.Places.{entry_set}
-use Rattle.serial_spec.proofs.MemberLaws.{at_in}
-use Rattle.file_owner.specs.Strange.{fails_as_offer, fails_test, leaves_behind, leaves_with}
-use Rattle.std.proofs.lemmas.Map.Keys.{any_passes_from_place}
-use Rattle.join_laws.proofs.ClientTurns.{client_ended, client_held}
-use Rattle.list_laws.proofs.Optional.{not_some}
 
 -- ---- one element of a list is changed
 

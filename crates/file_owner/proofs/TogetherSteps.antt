@@ -1,30 +1,7 @@
 -- The meeting of what is held, as the disk, the order and the lines show it.
-use Rattle.std.proofs.Common.{◌≡◌, ℕ, zero, suc, ◌+◌, ◌≤◌, refl, sym, ◌∙◌, ap, subst, List, [], ◌∷◌, ◌++◌, length, map, max, Option, Some, None, arith}
-use Rattle.std.specs.Prelude.{slice_get, flat_map, IfSome}
-use Rattle.std.specs.List.{enumerate_from}
-use Rattle.nc_base.specs.declared.answer.Pair.{Pair}
-use Rattle.nc_base.specs.declared.plan.Batch.{Batch}
-use Rattle.nc_base.specs.declared.script.Hints.{Hints}
-use Rattle.nc_base.specs.declared.step.Mark.TheVariants.{Meet}
-use Rattle.nc_base.specs.declared.step.Offer.{Offer}
+use Rattle.file_owner.proofs.Words.{◌≡◌, ℕ, zero, suc, ◌+◌, ◌≤◌, refl, sym, ◌∙◌, ap, subst, List, [], ◌∷◌, ◌++◌, length, map, max, Option, Some, None, arith, slice_get, flat_map, IfSome, enumerate_from, Pair, Batch, Hints, Meet, Offer, after, with_end, Client, does_meeting, freed, needed_now, offers_held, to_each, meeting_calls, Counted, Setting, after_puts, get_post, meeting, puts_of, told, wanted, Puts, counted, puts_in, AreAlike, owner_at, replies, GoesSo, Grows, HoldSingle, IsTogether, Standing, reply_of, batches_of, known_of, met, met_calls, IsOneRise, gots_long, met_calls_are, met_is, puts_same, replies_are, if_some_at, map_map, raised_records}
 use Rattle.nc_base.specs.declared.step.Reply as reply
-use Rattle.nc_outside.specs.Told.{after, with_end}
-use Rattle.serial_spec.specs.Owner.{Client, does_meeting, freed, needed_now, offers_held, to_each}
-use Rattle.serial_spec.specs.DeviceCalls.{meeting_calls}
-use Rattle.serial_spec.specs.FileStep.{Counted, Setting, after_puts, get_post, meeting, puts_of, told}
-use Rattle.serial_spec.specs.RankSide.{wanted}
-use Rattle.serial_spec.specs.SharedByte.{Puts}
-use Rattle.collective_round.specs.Rounds.{counted, puts_in}
-use Rattle.join_laws.specs.Alike.{AreAlike}
-use Rattle.file_owner.specs.Owned.{owner_at, replies, GoesSo, Grows, HoldSingle, IsTogether, Standing}
-use Rattle.turn_run.specs.Running.{reply_of}
-use Rattle.turn_run.specs.Steps.{batches_of, known_of, met, met_calls, IsOneRise}
-use Rattle.join_laws.proofs.ReplyLaws.{gots_long}
 use Rattle.file_owner.proofs.HeldLaws.{freed_none}
-use Rattle.turn_run.proofs.MeetStep.{met_calls_are, met_is, puts_same, replies_are}
-use Rattle.list_laws.proofs.Optional.{if_some_at}
-use Rattle.list_laws.proofs.Maps.{map_map}
-use Rattle.serial_spec.proofs.CountLaws.{raised_records}
 
 abbrev lens : List (List ℕ) → List ℕ
 lens blobs = map (λ blob. length blob) blobs

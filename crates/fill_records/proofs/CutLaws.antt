@@ -1,17 +1,6 @@
 -- The boxes of a range, as they are found row by row.
-use Rattle.std.proofs.Common.{◌≡◌, ℕ, zero, suc, ◌+◌, ◌-◌, ◌*◌, ◌/◌, ◌%◌, ◌<◌, ◌≤◌, refl, sym, ◌∙◌, ap, inl, inr, ◌⊎◌, List, [], ◌∷◌, ◌++◌, length, map, replicate, take, drop, Bool, true, false, append_assoc, length-append, arith}
-use Rattle.std.specs.Prelude.{nat_lt, ◌==◌}
-use Rattle.std.proofs.Math.Nat.{mul-div_cancel, mul-mod_left, zero-mod}
-use Rattle.std.proofs.lemmas.Bool.{eqb-false}
-use Rattle.std.proofs.lemmas.List.{map-append, append-nil, length-map}
-use Rattle.std.proofs.Math.Seq.{take_all}
-use Rattle.std.proofs.lemmas.Nat.{div-add-mod', mod_below, div_below}
+use Rattle.fill_records.proofs.Words.{◌≡◌, ℕ, zero, suc, ◌+◌, ◌-◌, ◌*◌, ◌/◌, ◌%◌, ◌<◌, ◌≤◌, refl, sym, ◌∙◌, ap, inl, inr, ◌⊎◌, List, [], ◌∷◌, ◌++◌, length, map, replicate, take, drop, Bool, true, false, append_assoc, length-append, arith, nat_lt, ◌==◌, mul-div_cancel, mul-mod_left, zero-mod, eqb-false, map-append, append-nil, length-map, take_all, div-add-mod', mod_below, div_below, some_factor, Part, product, boxes, in_row, whole_rows, at_row, boxes_before}
 use borrow.Author.Tests.{eqb-true, ltb-true, ltb-false}
-use Rattle.list_laws.proofs.Numbers.{some_factor}
-use Rattle.nc_base.specs.declared.request.Part.{Part}
-use Rattle.serial_spec.specs.Layout.{product}
-use Rattle.serial_spec.specs.Fill.{boxes, in_row, whole_rows}
-use Rattle.fill_records.specs.Filling.{at_row, boxes_before}
 
 -- ---- boxes in a row
 

@@ -1,9 +1,5 @@
 -- The product of the counts so far, where none is 0.
-use Rattle.std.proofs.Common.{◌≡◌, ℕ, zero, suc, ◌+◌, ◌*◌, ◌<◌, ◌≤◌, sym, ap, ◌∙◌, List, [], ◌∷◌, length, take, drop, get_or, arith}
-use Rattle.std.proofs.Math.Nat.{mul-one}
-use Rattle.std.proofs.lemmas.List.{take_more, take-append-drop}
-use Rattle.serial_spec.specs.Layout.{product}
-use Rattle.var_layout.proofs.Capping.{product-append}
+use Rattle.fill_records.proofs.Words.{◌≡◌, ℕ, zero, suc, ◌+◌, ◌*◌, ◌<◌, ◌≤◌, sym, ap, ◌∙◌, List, [], ◌∷◌, length, take, drop, get_or, arith, mul-one, take_more, take-append-drop, product, product-append}
 
 pub product_more : (counts : List ℕ) (i size : ℕ) → i < length counts → size ≡ product (take i counts) → size * get_or counts i 0 ≡ product (take (i + 1) counts)
 product_more counts i size h e =

@@ -1,12 +1,5 @@
 -- A value's bytes over and over.
-use Rattle.std.proofs.Common.{◌≡◌, ℕ, zero, suc, ◌+◌, ◌-◌, ◌*◌, ◌%◌, ◌<◌, ◌≤◌, refl, sym, ◌∙◌, ap, List, ◌∷◌, ◌++◌, length, take, drop, get_or, arith}
-use Rattle.std.specs.Prelude.{slice_index}
-use Rattle.std.specs.List.{repeat, each_same, AllZip}
-use Rattle.std.proofs.Math.Nat.{add-mod_right, add-mod-mod, mod-eq_of_lt}
-use Rattle.std.proofs.lemmas.Grind.{same_number_lists}
-use Rattle.std.proofs.lemmas.List.{take_at, drop_at}
-use Rattle.std.proofs.lemmas.List.FromFn.{length-map-range_with_len, get_or-map-range_with_len}
-use Rattle.fill_records.specs.Filling.{repeated}
+use Rattle.fill_records.proofs.Words.{◌≡◌, ℕ, zero, suc, ◌+◌, ◌-◌, ◌*◌, ◌%◌, ◌<◌, ◌≤◌, refl, sym, ◌∙◌, ap, List, ◌∷◌, ◌++◌, length, take, drop, get_or, arith, slice_index, repeat, each_same, AllZip, add-mod_right, add-mod-mod, mod-eq_of_lt, same_number_lists, take_at, drop_at, length-map-range_with_len, get_or-map-range_with_len, repeated}
 
 pub repeated_long : (value : List ℕ) (from len : ℕ) → length (repeated value from len) ≡ len
 repeated_long value from len = length-map-range_with_len (λ (i : ℕ). slice_index value (i % length value)) from len

@@ -1,9 +1,5 @@
 -- The first item that passes a test, as a loop comes to it.
-use Rattle.std.proofs.Common.{◌≡◌, ℕ, ◌+◌, ◌<◌, List, [], ◌∷◌, ◌++◌, length, take, drop, get_or, Bool, true, false, cond, Some, None, sym, ap, ◌∙◌}
-use Rattle.std.specs.Prelude.{find}
-use Rattle.std.specs.Option.{option_or}
-use Rattle.std.proofs.lemmas.List.{take_more, drop_more, take-append-drop}
-use Rattle.std.proofs.lemmas.List.Folds.{find-append}
+use Rattle.fill_records.proofs.Words.{◌≡◌, ℕ, ◌+◌, ◌<◌, List, [], ◌∷◌, ◌++◌, length, take, drop, get_or, Bool, true, false, cond, Some, None, sym, ap, ◌∙◌, find, option_or, take_more, drop_more, take-append-drop, find-append}
 
 -- an item that passes, with none before it that does
 pub find_stops : {A : Type 0} (p : A → Bool) (xs : List A) (k : ℕ) (x : A) → k < length xs → x ≡ get_or xs k x → find p (take k xs) ≡ None → p x ≡ true

@@ -1,28 +1,9 @@
 -- What a filling that was refused leaves: each byte is old, or that of the filled file.
-use Rattle.std.proofs.Common.{◌≡◌, ℕ, zero, suc, ◌+◌, ◌-◌, ◌<◌, ◌≤◌, ◌⊎◌, inl, inr, refl, sym, ◌∙◌, ap, subst, List, [], ◌∷◌, ◌++◌, length, take, Bool, true, false, not, cond, Option, Some, None, arith}
-use Rattle.std.specs.Prelude.{fold, nat_lt, nat_le, slice_get, IfSome}
-use Rattle.std.proofs.lemmas.Bool.{cases_lt}
-use Rattle.std.proofs.lemmas.Bool.Decides.{nat_tests}
-use Rattle.list_laws.proofs.Optional.{told_else, both_none}
-use Rattle.nc_base.specs.declared.header.Header.{Header}
-use Rattle.nc_base.specs.declared.header.Var.{Var}
-use Rattle.nc_outside.specs.DiskState.{PartlyWritten}
-use Rattle.nc_outside.specs.Told.{after, BothTold}
-use Rattle.serial_spec.specs.File.{at, written}
-use Rattle.serial_spec.specs.Fill.{fill_bytes, fill_var, filled}
-use Rattle.serial_spec.specs.HeaderBytes.{header_len}
-use Rattle.serial_spec.specs.SoundHeaders.{is_sound}
-use Rattle.serial_spec.specs.Layout.{end_of, fixed_variables, is_record, meet, records_meet, share, sharing_from, sharing_with, slab}
-use Rattle.serial_spec.proofs.ApartLaws.{none_shared, none_with}
-use Rattle.serial_spec.proofs.FileLaws.{length-written_inside, get_or-written_below, get_or-written_within, get_or-written_above}
-use Rattle.overlay_laws.specs.Changes.{IsBetween}
-use Rattle.fill_records.specs.Filling.{repeated, filled_variable}
+use Rattle.fill_records.proofs.Words.{◌≡◌, ℕ, zero, suc, ◌+◌, ◌-◌, ◌<◌, ◌≤◌, ◌⊎◌, inl, inr, refl, sym, ◌∙◌, ap, subst, List, [], ◌∷◌, ◌++◌, length, take, Bool, true, false, not, cond, Option, Some, None, arith, fold, nat_lt, nat_le, slice_get, IfSome, cases_lt, nat_tests, told_else, both_none, Header, Var, PartlyWritten, after, BothTold, at, written, fill_bytes, fill_var, filled, header_len, is_sound, end_of, fixed_variables, is_record, meet, records_meet, share, sharing_from, sharing_with, slab, none_shared, none_with, length-written_inside, get_or-written_below, get_or-written_within, get_or-written_above, IsBetween, repeated, filled_variable, found_long, between_next}
 use Rattle.fill_records.proofs.RepeatedLaws.{repeated_long, at_repeated}
 use Rattle.fill_records.proofs.VariableLaws.{filled_more, fixed_end}
 use Rattle.fill_records.proofs.WindowLaws.{for_told}
 use Rattle.fill_records.proofs.WriteLaws.{var_filled}
-use Rattle.serial_spec.proofs.ValueLaws.{found_long}
-use Rattle.overlay_laws.proofs.ChangeLaws.{between_next}
 
 -- ---- files
 

@@ -1,24 +1,6 @@
 -- The fixed variables of a sound header, one after another.
-use Rattle.std.proofs.Common.{◌≡◌, ℕ, zero, suc, ◌+◌, ◌*◌, ◌<◌, ◌≤◌, ◌-◌, refl, sym, ◌∙◌, ap, List, [], ◌∷◌, ◌++◌, length, map, take, length-take, get_or, Bool, true, false, not, cond, Some, arith}
-use Rattle.std.specs.Prelude.{◌==◌, IfSome, slice_get, fold, flat_map}
-use Rattle.std.proofs.lemmas.Grind.{flat_map-append}
-use Rattle.std.proofs.lemmas.List.{append-nil}
-use Rattle.std.proofs.lemmas.List.Elements.{filter-append}
-use Rattle.std.proofs.lemmas.List.Sums.{fold-append}
-use Rattle.serial_spec.proofs.LengthLaws.{size_most}
-use Rattle.serial_spec.proofs.RoomLaws.{greatest_holds, slab_below}
-use Rattle.nc_base.specs.declared.header.Header.{Header}
-use Rattle.nc_base.specs.declared.header.NcType.{NcType}
-use Rattle.nc_base.specs.declared.header.Var.{Var}
-use Rattle.serial_spec.specs.DeviceCalls.{stores}
-use Rattle.serial_spec.specs.ExternalForm.{size_of}
-use Rattle.serial_spec.specs.File.{written}
-use Rattle.serial_spec.specs.Fill.{fill_bytes, fill_var}
-use Rattle.serial_spec.specs.Layout.{is_record, slab, vsize, end_of, end_of_var, fixed_variables, recsize, last_share}
-use Rattle.fill_records.specs.Filling.{repeated, filled_variable, variable_stores}
+use Rattle.fill_records.proofs.Words.{◌≡◌, ℕ, zero, suc, ◌+◌, ◌*◌, ◌<◌, ◌≤◌, ◌-◌, refl, sym, ◌∙◌, ap, List, [], ◌∷◌, ◌++◌, length, map, take, length-take, get_or, Bool, true, false, not, cond, Some, arith, ◌==◌, IfSome, slice_get, fold, flat_map, flat_map-append, append-nil, filter-append, fold-append, size_most, greatest_holds, slab_below, Header, NcType, Var, stores, size_of, written, fill_bytes, fill_var, is_record, slab, vsize, end_of, end_of_var, fixed_variables, recsize, last_share, repeated, filled_variable, variable_stores, entry_map, entry_read}
 use Rattle.fill_records.proofs.WriteLaws.{var_filled}
-use Rattle.list_laws.proofs.Maps.{entry_map}
-use Rattle.list_laws.proofs.Places.{entry_read}
 
 -- ---- items of a list
 

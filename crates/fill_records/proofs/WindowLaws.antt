@@ -1,16 +1,7 @@
 -- The windows of a value's bytes over and over: what is written, and the calls.
-use Rattle.std.proofs.Common.{◌≡◌, ℕ, ◌+◌, ◌-◌, ◌*◌, ◌%◌, ◌<◌, ◌≤◌, min, refl, sym, ◌∙◌, ap, List, ◌++◌, length, take, drop, Option, Some, None, arith}
-use Rattle.std.specs.Prelude.{IfSome}
-use Rattle.std.proofs.Math.Nat.{mod-mod}
-use Rattle.std.proofs.lemmas.Nat.{mod_below}
-use Rattle.nc_base.specs.declared.step.DiskCall.{DiskCall}
-use Rattle.nc_outside.specs.Told.{after, with_end}
-use Rattle.serial_spec.specs.DeviceCalls.{stores}
-use Rattle.serial_spec.specs.File.{written}
-use Rattle.fill_records.specs.Filling.{repeated}
+use Rattle.fill_records.proofs.Words.{◌≡◌, ℕ, ◌+◌, ◌-◌, ◌*◌, ◌%◌, ◌<◌, ◌≤◌, min, refl, sym, ◌∙◌, ap, List, ◌++◌, length, take, drop, Option, Some, None, arith, IfSome, mod-mod, mod_below, DiskCall, after, with_end, stores, written, repeated, windows_of, count_is, stores_before}
 use Rattle.fill_records.proofs.RepeatedLaws.{repeated_long, repeated_more, part_of_copies, same_phase}
 use Rattle.fill_records.proofs.WriteLaws.{write_next}
-use Rattle.overlay_laws.proofs.WindowCounts.{windows_of, count_is, stores_before}
 
 -- ---- what is told
 

@@ -1,22 +1,5 @@
 -- Writes of a value one after another are one write of its bytes over and over.
-use Rattle.std.proofs.Common.{◌≡◌, ℕ, zero, suc, ◌+◌, ◌*◌, ◌≤◌, refl, sym, ◌∙◌, ap, List, [], ◌∷◌, ◌++◌, length, map, take, drop, false, append_assoc, length-append, arith}
-use Rattle.std.specs.Prelude.{flat_map, fold}
-use Rattle.std.specs.List.{range_with_len}
-use Rattle.std.proofs.lemmas.List.{take_at, map-append, drop-drop, places}
-use Rattle.std.proofs.Math.Seq.{drop-append-add}
-use Rattle.std.proofs.lemmas.List.Folds.{fold-map}
-use Rattle.list_laws.proofs.Maps.{map_map}
-use Rattle.nc_base.specs.declared.header.Header.{Header}
-use Rattle.nc_base.specs.declared.header.Var.{Var}
-use Rattle.serial_spec.specs.ExternalForm.{size_of}
-use Rattle.serial_spec.specs.File.{written}
-use Rattle.serial_spec.specs.Fill.{fill_bytes, fill_var}
-use Rattle.serial_spec.specs.Layout.{product, inner_lengths, is_record, slab}
-use Rattle.serial_spec.specs.Place.{row, place}
-use Rattle.serial_spec.specs.Request.{coordinates}
-use Rattle.serial_spec.proofs.FileLaws.{written-inside, length-written_inside, write_none}
-use Rattle.var_layout.proofs.ElementPlaces.{place_fixed}
-use Rattle.fill_records.specs.Filling.{repeated}
+use Rattle.fill_records.proofs.Words.{◌≡◌, ℕ, zero, suc, ◌+◌, ◌*◌, ◌≤◌, refl, sym, ◌∙◌, ap, List, [], ◌∷◌, ◌++◌, length, map, take, drop, false, append_assoc, length-append, arith, flat_map, fold, range_with_len, take_at, map-append, drop-drop, places, drop-append-add, fold-map, map_map, Header, Var, size_of, written, fill_bytes, fill_var, product, inner_lengths, is_record, slab, row, place, coordinates, written-inside, length-written_inside, write_none, place_fixed, repeated}
 use Rattle.fill_records.proofs.RepeatedLaws.{repeated_long, value_first}
 
 -- ---- two writes

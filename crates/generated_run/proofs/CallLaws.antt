@@ -1,12 +1,6 @@
 -- The calls of a rank.
-use Rattle.std.proofs.Common.{◌≡◌, ℕ, ◌+◌, ◌*◌, List, [], ◌∷◌, ◌++◌, true, codes, ap, ◌∙◌, append_assoc}
-use Rattle.std.specs.List.{flat_map, range_with_len}
-use Rattle.nc_base.specs.declared.request.Call.{Call}
+use Rattle.generated_run.proofs.Words.{◌≡◌, ℕ, ◌+◌, ◌*◌, List, [], ◌∷◌, ◌++◌, true, codes, ap, ◌∙◌, append_assoc, flat_map, range_with_len, Call, Every, Bput, Bits, Numbers, calls_of_rank, calls_of_record, columns_of, precip_band, region_of_band, temp_band}
 use Rattle.nc_base.specs.declared.request.Call.TheVariants as call
-use Rattle.nc_base.specs.declared.request.Choice.TheVariants.{Every}
-use Rattle.nc_base.specs.declared.request.PostKind.TheVariants.{Bput}
-use Rattle.nc_base.specs.declared.request.Values.TheVariants.{Bits, Numbers}
-use Rattle.generated_run.specs.Made.{calls_of_rank, calls_of_record, columns_of, precip_band, region_of_band, temp_band}
 
 -- three calls that go last, one after another
 pub three_pushed : (front one two next : List Call) (a b c : Call) → one ≡ front ++ a ∷ [] → two ≡ one ++ b ∷ [] → next ≡ two ++ c ∷ [] → next ≡ front ++ a ∷ b ∷ c ∷ []

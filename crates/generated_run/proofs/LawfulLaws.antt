@@ -1,13 +1,6 @@
 -- The made script is lawful.
-use Rattle.std.proofs.Common.{◌≡◌, ℕ, ◌≤◌, List, [], length, map, sum, true, refl, sym, subst, ◌∙◌, le-leb, bytes_eq, arith}
-use Rattle.std.specs.List.{enumerate_from, list_all, range_with_len}
-use Rattle.std.proofs.lemmas.Slice.Eq.{bytes_eq-Decides}
-use Rattle.std.proofs.lemmas.Bool.{and_from}
-use Rattle.nc_base.specs.declared.request.Call.{Call}
+use Rattle.generated_run.proofs.Words.{◌≡◌, ℕ, ◌≤◌, List, [], length, map, sum, true, refl, sym, subst, ◌∙◌, le-leb, bytes_eq, arith, enumerate_from, list_all, range_with_len, bytes_eq-Decides, and_from, Call, agree, are_different, is_lawful, is_lawful_call, kind_numbers, most_calls, most_values, posted_ids, values_in_call, values_in_script, has_counts, is_counted, made_header, made_script, calls_of_rank}
 use Rattle.nc_base.specs.declared.script.Script as script_type
-use Rattle.serial_spec.specs.Lawful.{agree, are_different, is_lawful, is_lawful_call, kind_numbers, most_calls, most_values, posted_ids, values_in_call, values_in_script}
-use Rattle.script_spec.specs.Generator.{has_counts, is_counted, made_header, made_script}
-use Rattle.generated_run.specs.Made.{calls_of_rank}
 use Rattle.generated_run.proofs.MadeLaws.{scripted, script_is}
 use Rattle.generated_run.proofs.Ranges.{numbered_pass, range_passes, sum_within}
 use Rattle.generated_run.proofs.RankLaws.{rank_counted, rank_ids, rank_kinds, rank_lawful, rank_long, rank_values}

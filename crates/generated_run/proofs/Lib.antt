@@ -1,3 +1,4 @@
+mod Words
 mod BandLaws
 pub mod CallLaws
 pub mod LawfulLaws

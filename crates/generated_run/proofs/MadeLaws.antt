@@ -1,14 +1,7 @@
 -- The made script.
-use Rattle.std.proofs.Common.{◌≡◌, ℕ, List, [], map, None, true, false, refl, ap, ◌∙◌}
-use Rattle.std.specs.List.{range_with_len}
+use Rattle.generated_run.proofs.Words.{◌≡◌, ℕ, List, [], map, None, true, false, refl, ap, ◌∙◌, range_with_len, Call, Extra, canon, layout_fault, default_hints, made_calls, made_header, made_script, calls_of_rank}
 use Rattle.nc_base.specs.declared.header.Header as head
-use Rattle.nc_base.specs.declared.request.Call.{Call}
-use Rattle.nc_base.specs.declared.script.Extra.{Extra}
 use Rattle.nc_base.specs.declared.script.Script as script_type
-use Rattle.serial_spec.specs.HeaderBytes.{canon}
-use Rattle.serial_spec.specs.Redefinition.{layout_fault}
-use Rattle.script_spec.specs.Generator.{default_hints, made_calls, made_header, made_script}
-use Rattle.generated_run.specs.Made.{calls_of_rank}
 
 unfoldable pub scripted : head.Header → List Extra → List (List Call) → script_type.Script
 scripted header extra calls = record { fresh = true; header = header; ranks = 8; hints = default_hints; filled = false; extra = extra; calls = calls }

@@ -1,13 +1,6 @@
 -- The regions that a rank posts.
-use Rattle.std.proofs.Common.{◌≡◌, ℕ, List, [], ◌∷◌, Bool, true, false, cond, Option, Some, None, ◌==◌, refl, ap, ◌∙◌, sym}
-use Rattle.std.specs.Prelude.{option_map}
-use Rattle.std.specs.Option.{option_copied}
-use Rattle.std.specs.Borrow.{Bor}
-use Rattle.nc_base.specs.declared.request.Call.{Call}
+use Rattle.generated_run.proofs.Words.{◌≡◌, ℕ, List, [], ◌∷◌, Bool, true, false, cond, Option, Some, None, ◌==◌, refl, ap, ◌∙◌, sym, option_map, option_copied, Bor, Call, Given, elements_given, posted_elements, posted_given}
 use Rattle.nc_base.specs.declared.request.Call.TheVariants as call
-use Rattle.nc_base.specs.declared.request.Given.{Given}
-use Rattle.script_spec.specs.Generator.{elements_given, posted_elements}
-use Rattle.generated_run.specs.Counting.{posted_given}
 
 -- of the region that was found, if any
 abbrev pub elements_of : Option Given → ℕ

@@ -1,13 +1,5 @@
 -- Lists made number by number.
-use Rattle.std.proofs.Common.{◌≡◌, ℕ, zero, suc, ◌+◌, ◌*◌, ◌<◌, ◌≤◌, List, [], ◌∷◌, ◌++◌, map, sum, Bool, true, false, ◌==◌, refl, sym, ap, ◌∙◌, append_assoc, arith}
-use Rattle.std.specs.List.{enumerate_from, flat_map, list_all, list_any, range_with_len}
-use Rattle.std.proofs.lemmas.Bool.{ne_eqb, and_from, not_from_false, or_from}
-use Rattle.std.proofs.lemmas.List.{append-nil}
-use Rattle.std.proofs.lemmas.List.Concat.{flat_map-append}
-use Rattle.std.proofs.lemmas.List.Folds.{list_all-append}
-use Rattle.std.proofs.lemmas.List.FromFn.{map-range_with_len_more}
-use Rattle.serial_spec.specs.Lawful.{are_different}
-use Rattle.script_laws.proofs.ListLaws.{sum_cons}
+use Rattle.generated_run.proofs.Words.{◌≡◌, ℕ, zero, suc, ◌+◌, ◌*◌, ◌<◌, ◌≤◌, List, [], ◌∷◌, ◌++◌, map, sum, Bool, true, false, ◌==◌, refl, sym, ap, ◌∙◌, append_assoc, arith, enumerate_from, flat_map, list_all, list_any, range_with_len, ne_eqb, and_from, not_from_false, or_from, append-nil, flat_map-append, list_all-append, map-range_with_len_more, are_different, sum_cons}
 
 -- one item more
 pub next_item : {A : Type 0} (f : ℕ → A) (front now next : List A) (n : ℕ) (x : A)

@@ -1,23 +1,7 @@
 -- What the calls of a rank keep.
-use Rattle.std.proofs.Common.{◌≡◌, ℕ, zero, suc, ◌+◌, ◌-◌, ◌*◌, ◌^◌, ◌<◌, ◌≤◌, List, [], ◌∷◌, ◌++◌, length, map, sum, replicate, Bool, true, refl, sym, ap, subst, ◌∙◌, le-leb, lt-ltb, arith}
-use Rattle.std.specs.Prelude.{ℤ, pos, negsuc, neg_ℤ, ◌<ℤ◌, unsigned_abs, codes}
-use Rattle.std.specs.List.{flat_map, list_all, range_with_len}
-use Rattle.std.proofs.lemmas.Int.{ints}
-use Rattle.std.proofs.lemmas.List.{append-nil, length-append}
-use Rattle.std.proofs.lemmas.List.Folds.{list_all-append}
-use Rattle.std.proofs.lemmas.List.FromFn.{length-map-range_with_len}
-use Rattle.std.proofs.lemmas.Bool.{and_from}
-use Rattle.list_laws.proofs.Ranges.{pieces_long}
-use Rattle.nc_base.specs.declared.request.Call.{Call}
+use Rattle.generated_run.proofs.Words.{◌≡◌, ℕ, zero, suc, ◌+◌, ◌-◌, ◌*◌, ◌^◌, ◌<◌, ◌≤◌, List, [], ◌∷◌, ◌++◌, length, map, sum, replicate, Bool, true, refl, sym, ap, subst, ◌∙◌, le-leb, lt-ltb, arith, ℤ, negsuc, neg_ℤ, ◌<ℤ◌, unsigned_abs, flat_map, list_all, range_with_len, ints, append-nil, length-append, list_all-append, length-map-range_with_len, and_from, pieces_long, Call, Every, Bput, Bits, Numbers, most_elements, are_different, are_sizes, is_given, is_lawful_call, is_number, kind_numbers, posted_ids, values_in_call, block, first_row, is_counted, precip_at, temp_at, sum_cons, calls_of_rank, columns_of, precip_band, region_of_band, temp_band}
+use Rattle.std.specs.Prelude.{pos, codes}
 use Rattle.nc_base.specs.declared.request.Call.TheVariants as call
-use Rattle.nc_base.specs.declared.request.Choice.TheVariants.{Every}
-use Rattle.nc_base.specs.declared.request.PostKind.TheVariants.{Bput}
-use Rattle.nc_base.specs.declared.request.Values.TheVariants.{Bits, Numbers}
-use Rattle.serial_spec.specs.Limits.{most_elements}
-use Rattle.serial_spec.specs.Lawful.{are_different, are_sizes, is_given, is_lawful_call, is_number, kind_numbers, posted_ids, values_in_call}
-use Rattle.script_spec.specs.Generator.{block, first_row, is_counted, precip_at, temp_at}
-use Rattle.script_laws.proofs.ListLaws.{sum_cons}
-use Rattle.generated_run.specs.Made.{calls_of_rank, columns_of, precip_band, region_of_band, temp_band}
 use Rattle.generated_run.proofs.Ranges.{pieces_pass, range_differs, range_passes}
 
 -- ---- the values of its rows

@@ -1,18 +1,8 @@
 -- Sums and products that go on by one item.
-use Rattle.std.proofs.Common.{◌≡◌, ℕ, ◌+◌, ◌*◌, ◌%◌, ◌^◌, ◌<◌, ◌≤◌, List, length, map, sum, take, get_or, fold, sym, ap, ◌∙◌, arith}
-use Rattle.std.specs.Prelude.{ℤ, pos, ◌+ℤ◌, ◌*ℤ◌, Some, slice_get}
-use Rattle.std.proofs.lemmas.List.{take_all, take_more}
-use Rattle.std.proofs.lemmas.List.Sums.{fold-append, fold_push, sum_by-append, sum_by_push}
-use Rattle.nc_base.specs.declared.bits.BitRun.{BitRun}
-use Rattle.nc_base.specs.declared.numbers.NumberRun.{NumberRun}
-use Rattle.nc_base.specs.BitForms.{bit_steps, bits_of_run, bits_of_runs}
-use Rattle.nc_base.specs.NumberForms.{numbers_of_run, numbers_of_runs, steps}
+use Rattle.generated_run.proofs.Words.{◌≡◌, ℕ, ◌+◌, ◌*◌, ◌%◌, ◌^◌, ◌<◌, ◌≤◌, List, length, map, sum, take, get_or, fold, sym, ap, ◌∙◌, arith, ℤ, ◌*ℤ◌, slice_get, take_all, take_more, fold-append, fold_push, sum_by-append, sum_by_push, BitRun, NumberRun, bit_steps, bits_of_run, bits_of_runs, numbers_of_run, numbers_of_runs, steps, bit_steps_more, steps_more, sum_more, take_next}
+use Rattle.std.specs.Prelude.{pos, ◌+ℤ◌, Some}
 use Rattle.nc_base.proofs.BitLaws as bit
-use Rattle.nc_base.proofs.BitLaws.{bit_steps_more}
 use Rattle.nc_base.proofs.RunLaws as number
-use Rattle.nc_base.proofs.RunLaws.{steps_more}
-use Rattle.script_laws.proofs.ListLaws.{sum_more}
-use Rattle.list_laws.proofs.Places.{take_next}
 
 pub mapped_more : {A : Type 0} (f : A → ℕ) (xs : List A) (i : ℕ) (d : A) → i < length xs → sum (map f (take (i + 1) xs)) ≡ sum (map f (take i xs)) + f (get_or xs i d)
 mapped_more {A} f xs i d h = ap (λ (ys : List A). sum (map f ys)) (take_more xs i d h) ∙ sum_more f (take i xs) (get_or xs i d)

@@ -1,15 +1,7 @@
 -- Rows of values that rise by one, and behind the greatest begin again at the least: one run, or two.
-use Rattle.std.proofs.Common.{◌≡◌, ℕ, zero, suc, ◌+◌, ◌-◌, ◌*◌, ◌^◌, ◌%◌, ◌<◌, ◌≤◌, List, [], ◌∷◌, ◌++◌, map, min, refl, sym, ap, ◌∙◌, append-nil, append_assoc, arith}
-use Rattle.std.specs.Prelude.{ℤ, pos, ◌+ℤ◌, ◌-ℤ◌, ◌*ℤ◌}
-use Rattle.std.specs.List.{range_with_len}
-use Rattle.std.proofs.lemmas.Int.{ints}
-use Rattle.std.proofs.lemmas.List.Concat.{flat_map-append}
-use Rattle.nc_base.specs.declared.bits.BitRun.{BitRun}
-use Rattle.nc_base.specs.declared.numbers.NumberRun.{NumberRun}
-use Rattle.nc_base.specs.BitForms.{bits_of_run, bits_of_runs}
-use Rattle.nc_base.specs.NumberForms.{numbers_of_run, numbers_of_runs}
-use Rattle.script_spec.specs.Generator.{precip_at, temp_at}
-use Rattle.generated_run.specs.Made.{depths, precip_row, temp_row, temps}
+use Rattle.generated_run.proofs.Words.{◌≡◌, ℕ, zero, suc, ◌+◌, ◌-◌, ◌*◌, ◌^◌, ◌%◌, ◌<◌, ◌≤◌, List, [], ◌∷◌, ◌++◌, map, min, refl, sym, ap, ◌∙◌, append_assoc, arith, ℤ, ◌-ℤ◌, ◌*ℤ◌, range_with_len, ints, flat_map-append, BitRun, NumberRun, bits_of_run, bits_of_runs, numbers_of_run, numbers_of_runs, precip_at, temp_at, depths, precip_row, temp_row, temps}
+use Rattle.std.proofs.Common.{append-nil}
+use Rattle.std.specs.Prelude.{pos, ◌+ℤ◌}
 
 -- lists that agree value by value
 maps_agree : {A : Type 0} (f g : ℕ → A) (a b n : ℕ) → ((k : ℕ) → k < n → f (a + k) ≡ g (b + k)) → map f (range_with_len a n) ≡ map g (range_with_len b n)

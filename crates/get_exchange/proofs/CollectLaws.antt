@@ -1,24 +1,7 @@
 -- Entries that are collected out of a buffer, each into its blob of a table.
-use Rattle.std.proofs.Common.{◌≡◌, ◌≢◌, ℕ, zero, suc, ◌+◌, ◌-◌, ◌<◌, ◌≤◌, refl, sym, ◌∙◌, ap, subst, List, [], ◌∷◌, ◌++◌, length, take, drop, get_or, set, Bool, true, false, ◌&&◌, cond, arith}
-use Rattle.std.proofs.lemmas.Grind.{fold-append}
-use Rattle.std.proofs.lemmas.List.{map-append, get_or_default, length-take, get_or-set_same, get_or-set_other, take_more}
-use Rattle.std.proofs.Math.ListN.{get_or-map}
-use Rattle.std.proofs.Math.Seq.{map-set_same}
-use Rattle.std.specs.Prelude.{map, ◌==◌}
-use Rattle.std.proofs.lemmas.Bool.{and_from}
+use Rattle.get_exchange.proofs.Words.{◌≡◌, ◌≢◌, ℕ, zero, suc, ◌+◌, ◌-◌, ◌<◌, ◌≤◌, refl, sym, ◌∙◌, ap, subst, List, [], ◌∷◌, ◌++◌, length, take, drop, get_or, set, Bool, true, false, ◌&&◌, cond, arith, fold-append, map-append, get_or_default, length-take, get_or-set_same, get_or-set_other, take_more, get_or-map, map-set_same, ◌==◌, and_from, equal_true, and_first, and_second, no_both, Owned, length-written_inside, written, Cell, write_cells, In, in_filter, filter_in, AreFilled, buffer_cell, part_in, blob_at, of_request, with_blob, AreAsLong, FitTable, HasCollected, AreServed, served_in, filter-append}
+use Rattle.std.specs.Prelude.{map}
 use borrow.Author.Tests.{eqb-true, eqb-false}
-use Rattle.list_laws.proofs.Truth.{equal_true, and_first, and_second, no_both}
-use Rattle.nc_base.specs.declared.plan.Owned.{Owned}
-use Rattle.serial_spec.proofs.FileLaws.{length-written_inside}
-use Rattle.serial_spec.specs.File.{written}
-use Rattle.serial_spec.specs.Said.{Cell, write_cells}
-use Rattle.overlay_laws.specs.Entries.{In}
-use Rattle.serial_spec.proofs.MemberLaws.{in_filter, filter_in}
-use Rattle.aggregator_rounds.specs.EntryParts.{AreFilled, buffer_cell, part_in}
-use Rattle.get_exchange.specs.Blobs.{blob_at, of_request, with_blob, AreAsLong, FitTable, HasCollected}
-use Rattle.exchange_crew.specs.Cursor.{AreServed}
-use Rattle.exchange_crew.proofs.TurnLaws.{served_in}
-use Rattle.std.proofs.lemmas.List.Elements.{filter-append}
 
 -- ---- the entries of a request
 

@@ -1,32 +1,7 @@
 -- A helper that reads window after window: what is left to be read gives the whole.
-use Rattle.std.proofs.Common.{◌≡◌, ℕ, ◌+◌, ◌-◌, ◌≤◌, inl, inr, refl, sym, ◌∙◌, ap, subst, List, [], ◌∷◌, ◌++◌, length, drop, suc, Option, Some, None, Result, Ok, Err, append_assoc, arith}
-use Rattle.std.proofs.lemmas.List.{append-nil, length-append}
-use Rattle.std.specs.Prelude.{map, flat_map, slice_get, IfSome, IsOk, OnOk}
+use Rattle.get_exchange.proofs.Words.{◌≡◌, ℕ, ◌+◌, ◌-◌, ◌≤◌, inl, inr, refl, sym, ◌∙◌, ap, subst, List, [], ◌∷◌, ◌++◌, length, drop, suc, Option, Some, None, Result, Ok, Err, append_assoc, arith, append-nil, length-append, flat_map, slice_get, IfSome, IsOk, OnOk, Extent, Owned, DiskCall, with_end-nil, with_end-with_end, with_end, DiskErr, load_calls, In, read, Window, told_window, drop_at, HasFetched, get_turns, reading_of, AreRead, HasGot, IsGetPlan, LieOnPart, IsDomainOf, PartState, domain_of, IsStartedFor, Told, turns_of, Reading, Hull, ReadWorker, GetPlan, domain_part}
+use Rattle.std.specs.Prelude.{map}
 use mathlib.Core.List.{IsPrefix}
-use Rattle.nc_base.specs.declared.plan.Extent.{Extent}
-use Rattle.nc_base.specs.declared.plan.Owned.{Owned}
-use Rattle.nc_base.specs.declared.step.DiskCall.{DiskCall}
-use Rattle.nc_outside.proofs.ToldLaws.{with_end-nil, with_end-with_end}
-use Rattle.nc_outside.specs.Told.{with_end}
-use Rattle.nc_outside.specs.declared.disk.DiskErr.{DiskErr}
-use Rattle.overlay_laws.specs.Changes.{load_calls}
-use Rattle.overlay_laws.specs.Entries.{In}
-use Rattle.serial_spec.specs.File.{read}
-use Rattle.file_domains.specs.declared.walk.Window.{Window}
-use Rattle.aggregator_rounds.specs.Pieces.{told_window}
-use Rattle.list_laws.proofs.Places.{drop_at}
-use Rattle.get_exchange.specs.Fetched.{HasFetched}
-use Rattle.get_exchange.specs.Gets.{get_turns, reading_of, AreRead, HasGot, IsGetPlan}
-use Rattle.exchange_crew.specs.Hulls.{LieOnPart}
-use Rattle.exchange_crew.specs.Plan.{IsDomainOf}
-use Rattle.exchange_crew.specs.Parts.{PartState}
-use Rattle.get_exchange.specs.Shelves.{domain_of, IsStartedFor}
-use Rattle.exchange_crew.specs.Turns.{Told, turns_of}
-use Rattle.get_exchange.specs.declared.reading.Reading.{Reading}
-use Rattle.get_exchange.specs.declared.reading.Reading.TheVariants.{Hull}
-use Rattle.get_exchange.specs.declared.handing.ReadWorker.{ReadWorker}
-use Rattle.exchange_crew.specs.declared.plan.GetPlan.{GetPlan}
-use Rattle.exchange_crew.proofs.DomainTurns.{domain_part}
 
 abbrev readings : ℕ → List ℕ → List Told → List Reading
 readings from file ts = map (λ t. reading_of from file t) ts

@@ -1,7 +1,5 @@
 -- One more lender, or fewer.
-use Rattle.std.proofs.Common.{◌≡◌, ℕ, zero, suc, ◌++◌, ◌∷◌, [], List, Some, subst, take}
-use Rattle.std.specs.Prelude.{slice_get}
-use Rattle.std.proofs.lemmas.Option.{same_Some}
+use Rattle.get_exchange.proofs.Words.{◌≡◌, ℕ, zero, suc, ◌++◌, ◌∷◌, [], List, Some, subst, take, slice_get, same_Some}
 
 pub each_pushed : {X : Type 0} (P : X → Type 0) (xs now : List X) (y : X) → now ≡ xs ++ y ∷ [] → ((k : ℕ) (x : X) → slice_get xs k ≡ Some x → P x) → P y
     → (k : ℕ) (x : X) → slice_get now k ≡ Some x → P x

@@ -1,3 +1,4 @@
+mod Words
 pub mod CollectLaws
 mod ReadLaws
 mod TakeLaws

@@ -1,36 +1,5 @@
 -- The windows of all parts, each read of its own part, are the file's bytes of all entries.
-use Rattle.std.proofs.Common.{◌≡◌, ℕ, ◌+◌, ◌-◌, ◌<◌, ◌≤◌, ◌⊎◌, inl, inr, refl, sym, ◌∙◌, ap, subst, List, [], ◌∷◌, ◌++◌, length, map, take, drop, Option, Some, None, Result, Ok, Err, arith}
-use Rattle.std.proofs.lemmas.Option.{slice_get_within}
-use Rattle.std.proofs.lemmas.List.{append-nil, length-map, map-append}
-use Rattle.std.specs.Prelude.{slice_get, zip, IfErr, IfSome, IsErrOf, IsOk, OnOk}
-use Rattle.std.specs.List.{AllZip}
-use Rattle.std.specs.Result.{result_and}
-use Rattle.list_laws.proofs.Places.{entry_below}
-use Rattle.nc_base.specs.declared.plan.Extent.{Extent}
-use Rattle.nc_outside.specs.declared.disk.DiskErr.{DiskErr}
-use Rattle.nc_outside.specs.declared.disk.DiskErr.TheVariants.{Failed, Memory}
-use Rattle.serial_spec.specs.File.{at, read}
-use Rattle.serial_spec.proofs.CellLaws.{read_at, read_same}
-use Rattle.overlay_laws.specs.Entries.{In}
-use Rattle.overlay_laws.proofs.HullLaws.{in_either, in_left, in_right}
-use Rattle.serial_spec.proofs.MemberLaws.{at_in, in_at}
-use Rattle.overlay_laws.proofs.Members.{in_map, in_zip, map_in, zip_in}
-use Rattle.aggregator_rounds.specs.EntryParts.{IsCovered}
-use Rattle.get_exchange.specs.Blobs.{AreAsLong, FitTable, HasRead, HaveOnePlaces}
-use Rattle.get_exchange.specs.Gets.{get_turns, AreRead, HasGot, IsGetPlanned}
-use Rattle.get_exchange.specs.Logs.{told_in, HasReadParts, HasReadTurns, HasTaken, HaveTakenTurns, IsKept, IsReadOf, Log}
-use Rattle.exchange_crew.specs.Plan.{IsDomainOf}
-use Rattle.exchange_crew.specs.Parts.{PartState}
-use Rattle.get_exchange.specs.Shelves.{domain_of, part_of, turns_due, IsFresh}
-use Rattle.exchange_crew.specs.Turns.{Told}
-use Rattle.get_exchange.specs.declared.reading.Reading.{Reading}
-use Rattle.get_exchange.specs.declared.reading.Reading.TheVariants.{Hull}
-use Rattle.get_exchange.specs.declared.handing.ReadWorker.{ReadWorker}
-use Rattle.exchange_crew.specs.declared.plan.GetPlan.{GetPlan}
-use Rattle.exchange_crew.proofs.BackLaws.{map_new}
-use Rattle.exchange_crew.proofs.CrewLaws.{AreOf}
-use Rattle.exchange_crew.proofs.SplitLaws.{zip_split}
-use Rattle.exchange_crew.proofs.DomainTurns.{domain_part, domain_windows}
+use Rattle.get_exchange.proofs.Words.{◌≡◌, ℕ, ◌+◌, ◌-◌, ◌<◌, ◌≤◌, ◌⊎◌, inl, inr, refl, sym, ◌∙◌, ap, subst, List, [], ◌∷◌, ◌++◌, length, map, take, drop, Option, Some, None, Result, Ok, Err, arith, slice_get_within, append-nil, length-map, map-append, slice_get, zip, IfErr, IfSome, IsErrOf, IsOk, OnOk, AllZip, result_and, entry_below, Extent, DiskErr, Failed, Memory, at, read, read_at, read_same, In, in_either, in_left, in_right, at_in, in_at, in_map, in_zip, map_in, zip_in, IsCovered, AreAsLong, FitTable, HasRead, HaveOnePlaces, get_turns, AreRead, HasGot, IsGetPlanned, told_in, HasReadParts, HasReadTurns, HasTaken, HaveTakenTurns, IsKept, IsReadOf, Log, IsDomainOf, PartState, domain_of, part_of, turns_due, IsFresh, Told, Reading, Hull, ReadWorker, GetPlan, map_new, AreOf, zip_split, domain_part, domain_windows}
 use Rattle.get_exchange.proofs.FetchLaws.{got_later}
 use Rattle.get_exchange.proofs.ReadLaws.{log_joined, read_law}
 use Rattle.get_exchange.proofs.TakeLaws.{items_read}

@@ -1,25 +1,7 @@
 -- Hulls that were read and collected, in whatever order, make each blob the file's bytes of its entries.
-use Rattle.std.proofs.Common.{◌≡◌, ℕ, zero, suc, ◌+◌, ◌-◌, ◌^◌, ◌<◌, ◌≤◌, inl, inr, refl, sym, ◌∙◌, ap, subst, List, [], ◌∷◌, ◌++◌, length, map, flat_map, true, append_assoc, arith}
-use Rattle.std.proofs.lemmas.Grind.{fold-append}
-use Rattle.std.proofs.lemmas.List.{append-nil, ext_get_or}
-use Rattle.std.specs.Prelude.{replicate}
-use Rattle.nc_base.specs.declared.plan.Owned.{Owned}
-use Rattle.serial_spec.specs.File.{at, read, written}
-use Rattle.serial_spec.specs.Said.{Cell, said_at, said_by, Says, write_cells, IsOneValued, IsWithin}
-use Rattle.serial_spec.proofs.CellLaws.{read_at, read_long}
-use Rattle.overlay_laws.specs.Entries.{got_cell, In}
-use Rattle.overlay_laws.specs.Lines.{extents, EndBelow}
-use Rattle.overlay_laws.proofs.EntryLaws.{says_left, says_right, says_cases, in_extents}
-use Rattle.overlay_laws.proofs.SaidLaws.{same_said, said_in_any_order}
-use Rattle.overlay_laws.proofs.WindowLaws.{append_within, said_by_joined}
-use Rattle.aggregator_rounds.specs.EntryParts.{got_cells, places_of, buffer_cell, part_in, IsCovered}
-use Rattle.aggregator_rounds.proofs.ReadParts.{IsRead, got_says, says_got, read_as, read_once, parts_within, whole_parts, buffer_cells, got_whole}
-use Rattle.get_exchange.specs.Blobs.{blob_at, got_in_hull, of_request, FitTable, HasCollected, HasRead, HaveOnePlaces}
-use Rattle.get_exchange.specs.Logs.{log_cells, told_in, HasCollectedLog, Log}
-use Rattle.exchange_crew.specs.Turns.{Told}
+use Rattle.get_exchange.proofs.Words.{◌≡◌, ℕ, zero, suc, ◌+◌, ◌-◌, ◌^◌, ◌<◌, ◌≤◌, inl, inr, refl, sym, ◌∙◌, ap, subst, List, [], ◌∷◌, ◌++◌, length, map, true, append_assoc, arith, fold-append, append-nil, ext_get_or, replicate, Owned, at, read, written, Cell, said_at, said_by, Says, write_cells, IsOneValued, IsWithin, read_at, read_long, got_cell, In, extents, EndBelow, says_left, says_right, says_cases, in_extents, same_said, said_in_any_order, append_within, said_by_joined, got_cells, places_of, buffer_cell, part_in, IsCovered, IsRead, got_says, says_got, read_as, read_once, parts_within, whole_parts, buffer_cells, got_whole, blob_at, got_in_hull, of_request, FitTable, HasCollected, HasRead, HaveOnePlaces, log_cells, told_in, HasCollectedLog, Log, Told, AreServed, in_served, served_in}
+use Rattle.std.proofs.Common.{flat_map}
 use Rattle.get_exchange.proofs.CollectLaws.{fit_request, in_request, request_in}
-use Rattle.exchange_crew.specs.Cursor.{AreServed}
-use Rattle.exchange_crew.proofs.TurnLaws.{in_served, served_in}
 
 -- ---- one hull
 

@@ -1,16 +1,5 @@
 -- The next window of a part, whose hull is to be taken, and what is left behind it.
-use Rattle.std.proofs.Common.{◌≡◌, ℕ, ◌<◌, sym, ap, subst, List, [], ◌∷◌, length, Option, Some, None, arith}
-use Rattle.std.specs.Prelude.{IfSome, IfNone}
-use Rattle.nc_base.specs.declared.plan.Owned.{Owned}
-use Rattle.file_domains.specs.Rounds.{IsWalk}
-use Rattle.file_domains.specs.declared.walk.Window.{Window}
-use Rattle.file_domains.specs.declared.walk.WindowWalk.{WindowWalk}
-use Rattle.aggregator_rounds.specs.Pieces.{told_window}
-use Rattle.aggregator_rounds.specs.Left.{entries_left}
-use Rattle.exchange_crew.specs.Cursor.{IsAt}
-use Rattle.get_exchange.specs.Shelves.{turns_due_of, IsShelfOf}
-use Rattle.exchange_crew.specs.Turns.{Told, turns_ahead}
-use Rattle.get_exchange.specs.declared.walk.ReadWalk.{ReadWalk}
+use Rattle.get_exchange.proofs.Words.{◌≡◌, ℕ, ◌<◌, sym, ap, subst, List, [], ◌∷◌, length, Option, Some, None, arith, IfSome, IfNone, Owned, IsWalk, Window, WindowWalk, told_window, entries_left, IsAt, turns_due_of, IsShelfOf, Told, turns_ahead, ReadWalk}
 
 -- the first window
 pub shelf_first : (list left : List Owned) (room : ℕ) (next : Option Window) (ahead : List Told) (walk : ReadWalk) → IsAt list room ahead left → entries_left walk.entries ≡ left

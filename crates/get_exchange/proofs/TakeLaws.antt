@@ -1,31 +1,6 @@
 -- Hulls that are taken off the lines of helpers, one after another.
-use Rattle.std.proofs.Common.{◌≡◌, ℕ, ◌+◌, ◌-◌, min, inl, inr, refl, sym, ◌∙◌, ap, subst, List, [], ◌∷◌, ◌++◌, length, map, set, Bool, true, false, Option, Some, None, Result, Ok, Err, append_assoc, arith}
-use Rattle.std.proofs.lemmas.List.{append-nil, length-map, map-append}
-use Rattle.std.proofs.lemmas.Option.{same_Some, slice_get_within}
-use Rattle.std.specs.Prelude.{slice_get, ◌==◌, IfErr, IfSome, OnOk}
-use Rattle.std.specs.Result.{result_and}
+use Rattle.get_exchange.proofs.Words.{◌≡◌, ℕ, ◌+◌, ◌-◌, min, inl, inr, refl, sym, ◌∙◌, ap, subst, List, [], ◌∷◌, ◌++◌, length, map, set, Bool, true, false, Option, Some, None, Result, Ok, Err, append_assoc, arith, append-nil, length-map, map-append, same_Some, slice_get_within, slice_get, ◌==◌, IfErr, IfSome, OnOk, result_and, entry_below, entry_set, entry_set_other, Owned, DiskErr, Memory, read, In, in_either, in_left, in_right, domain_of, turns_due, IsFresh, IsStartedFor, FitTable, HasCollected, HaveOnePlaces, AreServed, get_turns, reading_of, AreRead, told_in, HasTaken, HasTakenOf, HasTakenTurn, HaveTakenTurns, IsKept, IsTakenOf, Log, told_window, Told, Reading, Hull, Shelf, ReadWorker, GetPlan, each_new, set_each}
 use borrow.Author.Tests.{eqb-true, eqb-false}
-use Rattle.list_laws.proofs.Places.{entry_below, entry_set, entry_set_other}
-use Rattle.nc_base.specs.declared.plan.Owned.{Owned}
-use Rattle.nc_outside.specs.declared.disk.DiskErr.{DiskErr}
-use Rattle.nc_outside.specs.declared.disk.DiskErr.TheVariants.{Memory}
-use Rattle.serial_spec.specs.File.{read}
-use Rattle.overlay_laws.specs.Entries.{In}
-use Rattle.overlay_laws.proofs.HullLaws.{in_either, in_left, in_right}
-use Rattle.get_exchange.specs.Shelves.{domain_of, turns_due, IsFresh, IsStartedFor}
-use Rattle.get_exchange.specs.Blobs.{FitTable, HasCollected, HaveOnePlaces}
-use Rattle.exchange_crew.specs.Cursor.{AreServed}
-use Rattle.get_exchange.specs.Gets.{get_turns, reading_of, AreRead}
-use Rattle.get_exchange.specs.Logs.{told_in, HasTaken, HasTakenOf, HasTakenTurn, HaveTakenTurns, IsKept, IsTakenOf, Log}
-use Rattle.aggregator_rounds.specs.Pieces.{told_window}
-use Rattle.exchange_crew.specs.Turns.{Told}
-use Rattle.get_exchange.specs.declared.reading.Reading.{Reading}
-use Rattle.get_exchange.specs.declared.reading.Reading.TheVariants.{Hull}
-use Rattle.get_exchange.specs.declared.shelf.Shelf.{Shelf}
-use Rattle.get_exchange.specs.declared.handing.ReadWorker.{ReadWorker}
-use Rattle.exchange_crew.specs.declared.plan.GetPlan.{GetPlan}
-use Rattle.exchange_crew.proofs.BackLaws.{each_new}
-use Rattle.exchange_crew.proofs.OneChanged.{set_each}
 use Rattle.get_exchange.proofs.ReadLaws.{hull_collected, log_joined, log_one}
 
 -- ---- hulls of one helper

@@ -1,26 +1,8 @@
 -- Hulls of a part that are read and collected one after another: what was done and what is left to be done are the whole.
-use Rattle.std.proofs.Common.{◌≡◌, ℕ, ◌+◌, ◌-◌, inl, inr, refl, sym, ◌∙◌, ap, subst, List, [], ◌∷◌, ◌++◌, flat_map, Option, Some, None, append_assoc}
-use Rattle.std.proofs.lemmas.List.{append-nil, map-append}
-use Rattle.std.specs.Prelude.{IfSome}
-use Rattle.nc_base.specs.declared.plan.Owned.{Owned}
-use Rattle.nc_base.specs.declared.step.DiskCall.{DiskCall}
-use Rattle.nc_outside.proofs.ToldLaws.{with_end-nil, with_end-with_end}
-use Rattle.nc_outside.specs.Told.{with_end}
-use Rattle.serial_spec.specs.File.{read}
-use Rattle.file_domains.specs.Rounds.{IsWalk}
-use Rattle.overlay_laws.specs.Changes.{load_calls}
-use Rattle.overlay_laws.specs.Entries.{In}
-use Rattle.overlay_laws.proofs.HullLaws.{in_either}
-use Rattle.aggregator_rounds.specs.Left.{entries_left, IsPast}
-use Rattle.get_exchange.specs.Blobs.{AreAsLong, FitTable, HaveOnePlaces}
-use Rattle.exchange_crew.specs.Cursor.{AreInFront, IsAt}
-use Rattle.exchange_crew.specs.Hulls.{LieOnPart}
-use Rattle.get_exchange.specs.Logs.{told_in, HasCollectedLog, HasReadTurn, HasReadTurns, Log}
-use Rattle.exchange_crew.specs.Turns.{Told, turns_ahead}
-use Rattle.get_exchange.specs.declared.walk.ReadWalk.{ReadWalk}
+use Rattle.get_exchange.proofs.Words.{◌≡◌, ℕ, ◌+◌, ◌-◌, inl, inr, refl, sym, ◌∙◌, ap, subst, List, [], ◌∷◌, ◌++◌, Option, Some, None, append_assoc, append-nil, map-append, IfSome, Owned, DiskCall, with_end-nil, with_end-with_end, with_end, read, IsWalk, load_calls, In, in_either, entries_left, IsPast, AreAsLong, FitTable, HaveOnePlaces, AreInFront, IsAt, LieOnPart, told_in, HasCollectedLog, HasReadTurn, HasReadTurns, Log, Told, turns_ahead, ReadWalk, at_next, served_now}
+use Rattle.std.proofs.Common.{flat_map}
 use Rattle.get_exchange.proofs.CollectLaws.{fit_as_long}
 use Rattle.get_exchange.proofs.ReadLaws.{hull_collected, log_joined, log_one}
-use Rattle.exchange_crew.proofs.TurnLaws.{at_next, served_now}
 
 pub record IsReading (list : List Owned) (room from len : ℕ) (all : List Told) (w : ReadWalk) (held : Option (List ℕ)) (old now : List (List (List ℕ)))
     (calls made : Option (List DiskCall)) : Type 0 where

@@ -1,16 +1,7 @@
 -- The lowest bytes of a number: those of a value, where the value is in a type's range.
-use Rattle.std.proofs.Common.{◌≡◌, ℕ, zero, suc, ◌+◌, ◌*◌, ◌^◌, ◌<◌, ◌≤◌, refl, ◌∙◌, ap, sym, List, ◌∷◌, ◌++◌, map, true, false, not, arith, ℤ, pos, negsuc, ◌+ℤ◌, ◌*ℤ◌, FitsSigned, to_z, of_z}
-use Rattle.std.specs.Prelude.{◌%◌, flat_map}
-use Rattle.std.specs.List.{list_any, range_with_len}
-use Rattle.std.specs.Int.{Width, w8, w16, w32, w64, byte_len, byte_at, bytes_high_first, to_be_bytes, cast_unsigned, cast_signed, int_wrap, int_rem_euclid}
-use Rattle.std.specs.Int.RustNames.{unsigned_abs}
-use Rattle.std.proofs.lemmas.Bool.{not-false, or_parts, ltb-true}
-use Rattle.std.proofs.lemmas.Int.{of_z-to_z, to_z-of_z, wrapping_add-bits, wrapping_mul-bits, int_wrap-add_right}
-use Rattle.nc_base.specs.declared.header.NcType.{NcType}
-use Rattle.nc_base.specs.declared.header.NcType.TheVariants.{Byte, Char, Short, Int, Float, Double, UByte, UShort, UInt, Int64, UInt64}
-use Rattle.nc_base.specs.declared.request.Value.{Value}
+use Rattle.imap_extents.proofs.Words.{◌≡◌, ℕ, zero, suc, ◌+◌, ◌*◌, ◌^◌, ◌<◌, ◌≤◌, refl, ◌∙◌, ap, sym, List, ◌∷◌, ◌++◌, map, true, false, not, arith, pos, negsuc, ◌+ℤ◌, FitsSigned, to_z, of_z, ◌%◌, flat_map, list_any, range_with_len, Width, w8, w16, w32, w64, byte_len, byte_at, bytes_high_first, to_be_bytes, cast_unsigned, cast_signed, int_wrap, int_rem_euclid, unsigned_abs, not-false, or_parts, ltb-true, of_z-to_z, to_z-of_z, wrapping_add-bits, wrapping_mul-bits, int_wrap-add_right, NcType, Byte, Char, Short, Int, Float, Double, UByte, UShort, UInt, Int64, UInt64, Value, width_of, ext, fits}
+use Rattle.std.proofs.Common.{ℤ, ◌*ℤ◌}
 use Rattle.nc_base.specs.declared.request.Value.TheVariants as value
-use Rattle.serial_spec.specs.ExternalForm.{width_of, ext, fits}
 use mir.Val.{bits}
 
 same_bytes : (k m n : ℕ) → ((i : ℕ) → i < k → byte_at i m ≡ byte_at i n) → bytes_high_first k m ≡ bytes_high_first k n

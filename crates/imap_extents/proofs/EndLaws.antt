@@ -1,16 +1,8 @@
 -- Whether values of equal steps are in a type's range is seen at their ends.
-use Rattle.std.proofs.Common.{◌≡◌, ℕ, zero, suc, ◌+◌, ◌*◌, ◌^◌, ◌<◌, ◌≤◌, refl, ◌∙◌, ap, map, ◌||◌, Bool, true, false, not, arith, ℤ, pos, negsuc, ◌≤ℤ◌, ◌+ℤ◌}
-use Rattle.std.specs.Prelude.{◌*ℤ◌, ◌%◌}
-use Rattle.std.specs.List.{list_any, range_with_len}
-use Rattle.std.proofs.lemmas.Bool.{not-false, not_from_true}
-use Rattle.std.proofs.lemmas.Bool.Decides.{nat_tests}
-use Rattle.std.proofs.lemmas.Int.{ints}
-use Rattle.std.proofs.Math.IntN.{neg_ℤ}
-use Rattle.std.proofs.Math.Nat.{mul-le-mul_left}
-use Rattle.nc_base.specs.declared.header.NcType.{NcType}
-use Rattle.nc_base.specs.declared.request.Value.{Value}
+use Rattle.imap_extents.proofs.Words.{◌≡◌, ℕ, zero, suc, ◌+◌, ◌*◌, ◌^◌, ◌<◌, ◌≤◌, refl, ◌∙◌, ap, map, ◌||◌, Bool, true, false, not, arith, pos, negsuc, ◌≤ℤ◌, ◌+ℤ◌, ◌*ℤ◌, ◌%◌, list_any, range_with_len, not-false, not_from_true, nat_tests, ints, neg_ℤ, mul-le-mul_left, NcType, Value, Class, Signed, Unsigned, Pattern, class_of, size_of, fits_in, fits}
+use Rattle.std.proofs.Common.{ℤ}
 use Rattle.nc_base.specs.declared.request.Value.TheVariants as value
-use Rattle.serial_spec.specs.ExternalForm.{Class, Signed, Unsigned, Text, Pattern, class_of, size_of, fits_in, fits}
+use Rattle.serial_spec.specs.ExternalForm.{Text}
 use Rattle.type_external.proofs.PatternLaws.{bits_in}
 use Rattle.imap_extents.proofs.RunLaws.{step_hit}
 

@@ -1,3 +1,4 @@
+mod Words
 mod BlockLaws
 mod CodeLaws
 mod EndLaws

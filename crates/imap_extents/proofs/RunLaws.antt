@@ -1,20 +1,7 @@
 -- The first values of runs, one run more of them.
-use Rattle.std.proofs.Common.{◌≡◌, ℕ, zero, suc, ◌+◌, ◌-◌, ◌<◌, refl, ◌∙◌, ap, sym, arith, List, [], ◌∷◌, ◌++◌, ◌||◌, length, map, take, drop, get_or, append-nil, append_assoc, length-append, Bool, true, false}
-use Rattle.std.specs.Prelude.{flat_map, min, pos, ◌+ℤ◌, ◌*ℤ◌, ◌*◌, ◌%◌, ◌^◌}
-use Rattle.std.specs.List.{list_any, range_with_len}
-use Rattle.std.proofs.lemmas.Bool.{or_left, or_right}
-use Rattle.std.proofs.lemmas.List.{take_more, map-append, take-append-drop, take-map}
-use Rattle.std.proofs.lemmas.List.Concat.{flat_map-append}
-use Rattle.std.proofs.lemmas.List.Folds.{flat_map-map, list_any-append}
-use Rattle.std.proofs.lemmas.List.FromFn.{length-map-range_with_len, map-range_with_len_more}
-use Rattle.list_laws.proofs.Maps.{any_map, map_map}
-use Rattle.list_laws.proofs.Truth.{or_false}
-use Rattle.nc_base.specs.declared.bits.BitRun.{BitRun}
-use Rattle.nc_base.specs.declared.numbers.NumberRun.{NumberRun}
-use Rattle.nc_base.specs.declared.request.Value.{Value}
+use Rattle.imap_extents.proofs.Words.{◌≡◌, ℕ, zero, suc, ◌+◌, ◌-◌, ◌<◌, refl, ◌∙◌, ap, sym, arith, List, [], ◌∷◌, ◌++◌, ◌||◌, length, map, take, drop, get_or, append-nil, append_assoc, length-append, Bool, true, false, flat_map, min, ◌*ℤ◌, ◌%◌, list_any, range_with_len, or_left, or_right, take_more, map-append, take-append-drop, take-map, flat_map-append, flat_map-map, list_any-append, length-map-range_with_len, map-range_with_len_more, any_map, map_map, or_false, BitRun, NumberRun, Value, numbers_of_runs, bits_of_runs}
+use Rattle.std.specs.Prelude.{pos, ◌+ℤ◌, ◌*◌, ◌^◌}
 use Rattle.nc_base.specs.declared.request.Value.TheVariants as value
-use Rattle.nc_base.specs.NumberForms.{numbers_of_runs}
-use Rattle.nc_base.specs.BitForms.{bits_of_runs}
 
 -- the values of runs
 abbrev pub told : {R : Type 0} (at : R → ℕ → Value) (size : R → ℕ) → List R → List Value

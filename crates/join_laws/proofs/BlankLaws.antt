@@ -1,25 +1,7 @@
 -- The values that gets gave do not show in a blank answer.
-use Rattle.std.proofs.Common.{◌≡◌, ℕ, refl, sym, ◌∙◌, ap, List, [], ◌∷◌, length, map, Bool, true, false, cond, Option, Some, None}
-use Rattle.std.proofs.lemmas.List.{map-append}
-use Rattle.std.specs.Prelude.{zip, ℤ, pos, option_map, ◌==◌}
-use Rattle.std.specs.List.{cons_option, range_with_len}
-use Rattle.nc_base.specs.declared.answer.Answer.{Answer}
-use Rattle.nc_base.specs.declared.answer.Item.{Item}
-use Rattle.nc_base.specs.declared.header.Header.{Header}
-use Rattle.nc_base.specs.declared.header.NcType.{NcType}
-use Rattle.nc_base.specs.declared.plan.Post.{Post}
-use Rattle.nc_base.specs.declared.request.Region.{Region}
-use Rattle.nc_base.specs.declared.request.Value.{Value}
-use Rattle.nc_base.specs.declared.request.Values.{Values}
-use Rattle.nc_base.specs.declared.request.Values.TheVariants.{Numbers, Text, Bits}
+use Rattle.join_laws.proofs.Words.{◌≡◌, ℕ, refl, sym, ◌∙◌, ap, List, [], ◌∷◌, length, map, Bool, true, false, cond, Option, Some, None, map-append, zip, ℤ, pos, option_map, ◌==◌, cons_option, range_with_len, Answer, Item, Header, NcType, Post, Region, Value, Values, Numbers, Text, Bits, Class, class_of, size_of, val, Open, Rank, got_values, hear_open, kind_at, values_for, with_its_values, with_more, is_ok_code, cells, code_in, gathered, number_in, positions, reach, spread, said_at, TellAlike, blank, blank_item, blank_values}
 use Rattle.nc_base.specs.declared.step.Reply as reply
 use Rattle.serial_spec.specs.ExternalForm as form
-use Rattle.serial_spec.specs.ExternalForm.{Class, class_of, size_of, val}
-use Rattle.serial_spec.specs.RankMachine.{Open, Rank, got_values, hear_open, kind_at, values_for, with_its_values, with_more}
-use Rattle.serial_spec.specs.RegionCheck.{is_ok_code}
-use Rattle.serial_spec.specs.Request.{cells, code_in, gathered, number_in, positions, reach, spread}
-use Rattle.serial_spec.specs.Said.{said_at}
-use Rattle.join_laws.specs.Alike.{TellAlike, blank, blank_item, blank_values}
 
 -- ---- values
 

@@ -1,21 +1,8 @@
 -- One number and its client: how both change at an event of the owner.
-use Rattle.std.proofs.Common.{◌≡◌, ℕ, suc, ◌≤◌, refl, sym, ◌∙◌, ap, List, [], ◌∷◌, ◌++◌, length, Bool, true, false, Option, Some, None}
-use Rattle.std.specs.Prelude.{filter}
-use Rattle.nc_base.specs.declared.header.Header.{Header}
-use Rattle.nc_base.specs.declared.step.Offer.{Offer}
+use Rattle.join_laws.proofs.Words.{◌≡◌, ℕ, suc, ◌≤◌, refl, sym, ◌∙◌, ap, List, [], ◌∷◌, ◌++◌, length, Bool, true, false, Option, Some, None, filter, Header, Offer, MeetKind, Mark, Meet, Solo, RankItem, OwnerItem, Reply, concerns, marks_from, kinds, Going, advance, hears, Client, freed, strange_offer, fits_offer, waiting_end, end_by, waiting_stop, stop_by}
 use Rattle.nc_base.specs.declared.step.OfferKind.TheVariants as offer
-use Rattle.nc_base.specs.declared.step.MeetKind.{MeetKind}
-use Rattle.nc_base.specs.declared.step.Mark.{Mark}
-use Rattle.nc_base.specs.declared.step.Mark.TheVariants.{Meet, Solo}
-use Rattle.nc_base.specs.declared.step.RankItem.{RankItem}
 use Rattle.nc_base.specs.declared.step.RankItem.TheVariants as item
-use Rattle.nc_base.specs.declared.step.OwnerItem.{OwnerItem}
-use Rattle.nc_base.specs.declared.step.OwnerItem.TheVariants.{Reply}
 use Rattle.nc_base.specs.declared.step.Reply as reply
-use Rattle.serial_spec.specs.History.{concerns, marks_from, kinds}
-use Rattle.serial_spec.specs.SerialEnd.{Going, advance, hears}
-use Rattle.serial_spec.specs.Owner.{Client, freed, strange_offer}
-use Rattle.serial_spec.specs.RankSide.{fits_offer, waiting_end, end_by, waiting_stop, stop_by}
 use Rattle.join_laws.proofs.RankLaws.{Offers, Kinded, at_meeting, at_solo, hear_mode, hear_length}
 use Rattle.join_laws.proofs.StreamLaws.{waiting_reply, waiting_end_reply, waiting_stop_reply, to_come, client_end, client_stop, ended_item, Offered, offered_offer, marks_of, offers}
 

@@ -1,26 +1,7 @@
 -- An order that a script's ranks have begun can be gone on with to one of its histories: the ranks meet as often, one as the other.
-use Rattle.std.proofs.lemmas.Bool.{and_from}
-use Rattle.std.proofs.Common.{◌≡◌, ℕ, zero, suc, ◌+◌, ◌-◌, ◌<◌, ◌≤◌, refl, sym, ◌∙◌, ap, subst, List, [], ◌∷◌, ◌++◌, length, Bool, true, false, cond, ◌&&◌, Option, Some, None, arith, append_assoc}
-use Rattle.std.proofs.lemmas.List.Elements.{filter-append}
-use Rattle.std.proofs.lemmas.List.Sums.{sum_by-cons}
-use Rattle.std.proofs.lemmas.Bool.Decides.{nat_tests}
-use Rattle.std.specs.Prelude.{slice_get, ◌==◌, filter, is_some, nat_lt}
-use Rattle.std.specs.List.{list_all, cons_option}
+use Rattle.join_laws.proofs.Words.{and_from, ◌≡◌, ℕ, zero, suc, ◌+◌, ◌-◌, ◌<◌, ◌≤◌, refl, sym, ◌∙◌, ap, subst, List, [], ◌∷◌, ◌++◌, length, Bool, true, false, cond, ◌&&◌, Option, Some, None, arith, append_assoc, filter-append, sum_by-cons, nat_tests, slice_get, ◌==◌, filter, is_some, nat_lt, list_all, cons_option, Call, Script, Mark, Meet, Solo, MeetKind, kinds, marks, marks_from, concerns, is_of_rank_below, kind_of_call, mode_after, is_collective, is_data, IsLegal, is_meeting, is_lawful, is_solo_of, meetings, kinds_of, own_lawful, ranks_lawful, and_first, and_second, equal_itself, others_filter, all_joined}
 use borrow.Author.Tests.{ltb-true, ltb-false, eqb-true}
-use Rattle.nc_base.specs.declared.request.Call.{Call}
 use Rattle.nc_base.specs.declared.request.Call.TheVariants as call
-use Rattle.nc_base.specs.declared.script.Script.{Script}
-use Rattle.nc_base.specs.declared.step.Mark.{Mark}
-use Rattle.nc_base.specs.declared.step.Mark.TheVariants.{Meet, Solo}
-use Rattle.nc_base.specs.declared.step.MeetKind.{MeetKind}
-use Rattle.serial_spec.specs.History.{kinds, marks, marks_from, concerns, is_of_rank_below, kind_of_call, mode_after, is_collective, is_data, IsLegal, is_meeting}
-use Rattle.serial_spec.specs.Lawful.{is_lawful}
-use Rattle.run_laws.specs.Ahead.{is_solo_of}
-use Rattle.run_laws.specs.Ways.{meetings, kinds_of}
-use Rattle.run_laws.proofs.LawfulLaws.{own_lawful, ranks_lawful}
-use Rattle.list_laws.proofs.Truth.{and_first, and_second, equal_itself}
-use Rattle.run_laws.proofs.WayLaws.{others_filter}
-use Rattle.list_laws.proofs.Each.{all_joined}
 
 -- ---- what is left to a rank: its own steps, and n meetings from the k-th on
 

@@ -1,18 +1,8 @@
 -- A rank that ends independent data mode or makes the counts agree brings no put.
-use Rattle.std.proofs.Common.{◌≡◌, ℕ, refl, sym, subst, List, [], Bool, true, false, cond}
-use Rattle.nc_base.specs.declared.header.Header.{Header}
-use Rattle.nc_base.specs.declared.request.Call.{Call}
+use Rattle.join_laws.proofs.Words.{◌≡◌, ℕ, refl, sym, subst, List, [], Bool, true, false, cond, Header, Call, PostKind, Code, Post, Offer, Want, Answered, raises, Look, Refused, Empty, Asks, look, Rank, post_after, posts, step, values_of_post}
 use Rattle.nc_base.specs.declared.request.Call.TheVariants as call
-use Rattle.nc_base.specs.declared.request.PostKind.{PostKind}
-use Rattle.nc_base.specs.declared.answer.Code.{Code}
 use Rattle.nc_base.specs.declared.answer.Code.TheVariants as code
-use Rattle.nc_base.specs.declared.plan.Post.{Post}
-use Rattle.nc_base.specs.declared.step.Offer.{Offer}
-use Rattle.nc_base.specs.declared.step.Want.{Want}
-use Rattle.nc_base.specs.declared.step.Want.TheVariants.{Answered, Meet, Solo}
-use Rattle.serial_spec.specs.FileStep.{raises}
-use Rattle.serial_spec.specs.Looks.{Look, Refused, Empty, Asks, look}
-use Rattle.serial_spec.specs.RankMachine.{Rank, post_after, posts, step, values_of_post}
+use Rattle.nc_base.specs.declared.step.Want.TheVariants.{Meet, Solo}
 
 abbrev pub IsQuiet : Rank × Want → Type 0
 IsQuiet (r, Answered a) = Unit {0}

@@ -1,22 +1,6 @@
 -- Runs over files that differ in their bytes, step by step: ranks beside one another, and ends that are alike.
-use Rattle.std.proofs.Common.{◌≡◌, ℕ, zero, suc, ◌+◌, refl, sym, ◌∙◌, ap, subst, List, [], ◌∷◌, map, set, Option, Some, None}
-use Rattle.std.specs.Prelude.{slice_get, flat_map, fold, take, zip}
-use Rattle.std.specs.List.{enumerate_from}
-use Rattle.nc_base.specs.declared.header.Header.{Header}
-use Rattle.nc_base.specs.declared.request.Call.{Call}
-use Rattle.nc_base.specs.declared.script.Script.{Script}
-use Rattle.nc_base.specs.declared.step.Mark.{Mark}
-use Rattle.nc_base.specs.declared.step.Mark.TheVariants.{Meet, Solo}
-use Rattle.nc_base.specs.declared.step.Offer.{Offer}
+use Rattle.join_laws.proofs.Words.{◌≡◌, ℕ, zero, suc, ◌+◌, refl, sym, ◌∙◌, ap, subst, List, [], ◌∷◌, map, set, Option, Some, None, slice_get, flat_map, fold, take, zip, enumerate_from, Header, Call, Script, Mark, Meet, Solo, Offer, Setting, Counted, get_post, meeting, puts_of, raised, solo, told, greatest, pending, told_of, Going, End, advance, close_by, count_after, first_state, hears, offers_of, serial_from, setting_of, state_after, Arrived, Stand, ended_from, first_stand, heard, solo_to, step_to, arrival_steps, first_up, gone_up, serial_of_arrivals, blank, AllBeside, AreAlikeEnds, AreBeside, IsLike, TellAlike}
 use Rattle.nc_base.specs.declared.step.Reply as reply
-use Rattle.serial_spec.specs.FileStep.{Setting, Counted, get_post, meeting, puts_of, raised, solo, told}
-use Rattle.serial_spec.specs.Layout.{greatest}
-use Rattle.serial_spec.specs.RankMachine.{pending}
-use Rattle.serial_spec.specs.Readings.{told_of}
-use Rattle.serial_spec.specs.SerialEnd.{Going, End, advance, close_by, count_after, first_state, hears, offers_of, serial_from, setting_of, state_after}
-use Rattle.run_laws.specs.Arrivals.{Arrived, Stand, ended_from, first_stand, heard, solo_to, step_to}
-use Rattle.run_laws.proofs.ArrivalLaws.{arrival_steps, first_up, gone_up, serial_of_arrivals}
-use Rattle.join_laws.specs.Alike.{blank, AllBeside, AreAlikeEnds, AreBeside, IsLike, TellAlike}
 use Rattle.join_laws.proofs.AlikeLaws.{advance_beside, hears_near, same_near}
 use Rattle.join_laws.proofs.OwnerAlikeLaws.{meeting_records, raised_records, solo_alike}
 use Rattle.join_laws.proofs.ReplyLaws.{gots_long}

@@ -1,10 +1,7 @@
 -- What holds of each entry of a list, and the tests that tell it.
-use Rattle.std.proofs.Common.{◌≡◌, ℕ, zero, suc, List, [], ◌∷◌, ◌++◌, drop, map, Bool, true, false, refl, subst, Some, slice_get, ◌||◌, inl, inr, ◌⊎◌, ◌∙◌}
-use Rattle.std.specs.List.{AllByRecursion, AllZip, list_any, list_all}
-use Rattle.std.specs.Prelude.{flat_map}
-use Rattle.std.proofs.lemmas.Bool.{and_from, or_from}
+use Rattle.list_laws.proofs.Words.{◌≡◌, ℕ, zero, suc, List, [], ◌∷◌, ◌++◌, drop, map, Bool, true, false, refl, subst, Some, ◌||◌, inl, inr, ◌⊎◌, ◌∙◌, AllByRecursion, AllZip, list_any, list_all, flat_map, and_from, or_from, list_all-append}
+use Rattle.std.proofs.Common.{slice_get}
 use Rattle.list_laws.proofs.Truth.{and_first, and_second, or_first_false, or_second_false}
-use Rattle.std.proofs.lemmas.List.Folds.{list_all-append}
 
 pub each_weaker : {A : Type 0} (P Q : A → Type 0) → ((x : A) → P x → Q x) → (xs : List A) → AllByRecursion P xs → AllByRecursion Q xs
 each_weaker P Q f [] h = tt

@@ -1,5 +1,5 @@
 -- Beginnings of lists.
-use Rattle.std.proofs.Common.{◌≡◌, refl, List, [], ◌∷◌, length, take, ◌≤◌, arith, inl, inr, ◌⊎◌, ◌++◌}
+use Rattle.list_laws.proofs.Words.{◌≡◌, refl, List, [], ◌∷◌, length, take, ◌≤◌, arith, inl, inr, ◌⊎◌, ◌++◌}
 use mathlib.Core.List.{IsPrefix}
 
 pub first_of : {X : Type 0} (xs ys : List X) → IsPrefix xs ys → xs ≡ take (length xs) ys

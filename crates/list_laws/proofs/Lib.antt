@@ -1,3 +1,4 @@
+mod Words
 pub mod Truth
 pub mod Optional
 pub mod Places

@@ -1,8 +1,6 @@
 -- Lists that are mapped, searched or filtered.
-use Rattle.std.proofs.Common.{◌≡◌, ◌≤◌, refl, sym, ◌∙◌, ap, List, [], ◌∷◌, length, map, Bool, true, false, cond, not, ◌||◌, Some, arith, ℕ, zero, suc, None, ◌+◌, ◌<◌, ◌++◌, take, get_or, drop}
-use Rattle.std.specs.Prelude.{filter, slice_get, flat_map}
-use Rattle.std.specs.List.{list_any, position, prefix_len, find, enumerate_from}
-use Rattle.std.proofs.lemmas.List.{length-map, append_assoc, drop_more}
+use Rattle.list_laws.proofs.Words.{◌≡◌, ◌≤◌, refl, sym, ◌∙◌, ap, List, [], ◌∷◌, length, map, Bool, true, false, cond, not, ◌||◌, Some, arith, ℕ, zero, suc, None, ◌+◌, ◌<◌, ◌++◌, take, get_or, drop, filter, slice_get, flat_map, list_any, position, prefix_len, find, enumerate_from, length-map, drop_more}
+use Rattle.std.proofs.lemmas.List.{append_assoc}
 
 pub map_map : {A B C : Type 0} (f : B → C) (g : A → B) (xs : List A) → map f (map g xs) ≡ map (λ x. f (g x)) xs
 map_map f g [] = refl

@@ -1,6 +1,5 @@
 -- Products and quotients of natural numbers.
-use Rattle.std.proofs.Common.{◌≡◌, ℕ, zero, suc, ◌*◌, ◌/◌, ◌<◌, ◌≤◌, sym, ◌∙◌, ap, arith}
-use Rattle.std.proofs.Math.Nat.{mul-div_cancel}
+use Rattle.list_laws.proofs.Words.{◌≡◌, ℕ, zero, suc, ◌*◌, ◌/◌, ◌<◌, ◌≤◌, sym, ◌∙◌, ap, arith, mul-div_cancel}
 
 pub some_factor : (n size x : ℕ) → x < n * size → 0 < size
 some_factor n zero x h = absurd (omega arith)

@@ -1,6 +1,5 @@
 -- Optional values: what is there, what is not, the first of two.
-use Rattle.std.proofs.Common.{◌≡◌, Bool, true, false, cond, Option, Some, None, refl, sym, subst, inl, inr, ◌⊎◌}
-use Rattle.std.specs.Option.{IfSome, is_some, is_none, option_map, option_or}
+use Rattle.list_laws.proofs.Words.{◌≡◌, Bool, true, false, cond, Option, Some, None, refl, sym, subst, inl, inr, ◌⊎◌, IfSome, is_some, is_none, option_map, option_or}
 
 pub no_none_some : {A B : Type 0} (a : A) → None ≡ Some a → B
 no_none_some a h = absurd cc

@@ -1,7 +1,5 @@
 -- The part of a list between two places.
-use Rattle.std.proofs.Common.{◌≡◌, ℕ, ◌+◌, ◌-◌, ◌≤◌, ◌∙◌, ap, List, [], ◌++◌, map, take, drop, arith}
-use Rattle.std.proofs.Math.Seq.{take-add}
-use Rattle.std.proofs.lemmas.List.{drop-drop, drop-map, take-map}
+use Rattle.list_laws.proofs.Words.{◌≡◌, ℕ, ◌+◌, ◌-◌, ◌≤◌, ◌∙◌, ap, List, [], ◌++◌, map, take, drop, arith, take-add, drop-drop, drop-map, take-map}
 
 -- the entries from `from` to below `to`
 abbrev pub part : {A : Type 0} → ℕ → ℕ → List A → List A

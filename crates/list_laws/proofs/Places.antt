@@ -1,10 +1,6 @@
 -- The entries of a list by their places.
-use Rattle.std.proofs.Common.{◌≡◌, ℕ, zero, suc, ◌<◌, ◌≤◌, refl, ap, List, [], ◌∷◌, length, take, set, Some, arith, Bool, subst, nat_lt, position, drop, replicate, sym, get_or, ◌+◌, ◌∙◌, ◌++◌, true, false}
-use Rattle.std.specs.List.{position_or_len, enumerate_from}
-use Rattle.std.specs.Prelude.{slice_get, zip}
-use Rattle.std.proofs.lemmas.Bool.{ltb-true}
-use Rattle.std.proofs.lemmas.Option.{cond_some, same_Some}
-use Rattle.std.proofs.lemmas.Bool.Decides.{nat_tests}
+use Rattle.list_laws.proofs.Words.{◌≡◌, ℕ, zero, suc, ◌<◌, ◌≤◌, refl, ap, List, [], ◌∷◌, length, take, set, Some, arith, Bool, subst, nat_lt, drop, replicate, sym, get_or, ◌+◌, ◌∙◌, ◌++◌, true, false, position_or_len, enumerate_from, slice_get, zip, ltb-true, cond_some, same_Some, nat_tests}
+use Rattle.std.proofs.Common.{position}
 pub use Rattle.nc_base.proofs.ListPlaces.{get_left, get_right, take_next}
 
 pub entry_below : {X : Type 0} (xs : List X) (k : ℕ) → k < length xs → (x : X) × (slice_get xs k ≡ Some x)

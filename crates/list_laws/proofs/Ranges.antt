@@ -1,10 +1,6 @@
 -- Numbers one after another.
-use Rattle.std.proofs.Common.{◌≡◌, ℕ, zero, suc, ◌+◌, ◌*◌, ◌∙◌, ap, refl, List, ◌∷◌, ◌++◌, length, arith, [], ◌<◌, ◌≤◌, Some, false, leb}
-use Rattle.std.specs.Prelude.{flat_map, slice_get}
-use Rattle.std.specs.List.{list_any, range_with_len}
-use Rattle.std.proofs.lemmas.Bool.{or_from, lt-leb}
+use Rattle.list_laws.proofs.Words.{◌≡◌, ℕ, zero, suc, ◌+◌, ◌*◌, ◌∙◌, ap, refl, List, ◌∷◌, ◌++◌, length, arith, [], ◌<◌, ◌≤◌, Some, false, leb, flat_map, slice_get, list_any, range_with_len, or_from, lt-leb, length-range_with_len}
 use Rattle.std.proofs.lemmas.List.{length-append}
-use Rattle.std.proofs.lemmas.List.FromFn.{length-range_with_len}
 
 pub range_append : (a m n : ℕ) → range_with_len a (m + n) ≡ range_with_len a m ++ range_with_len (a + m) n
 range_append a zero n =

@@ -1,6 +1,5 @@
 -- What holds of a result of either kind.
-use Rattle.std.proofs.Common.{Result, Ok, Err}
-use Rattle.std.specs.Prelude.{OnErr, OnOk}
+use Rattle.list_laws.proofs.Words.{Result, Ok, Err, OnErr, OnOk}
 
 pub on_err : {T E P : Type 0} (r : Result T E) → P → OnErr r P
 on_err (Ok x) p = tt

@@ -1,7 +1,5 @@
 -- The parts of a test: of a conjunction that holds, of a disjunction that doesn't.
-use Rattle.std.proofs.Common.{◌≡◌, ℕ, suc, ◌<◌, Bool, true, false, ◌&&◌, ◌||◌, refl, arith, zero, ◌≤◌}
-use Rattle.std.specs.Prelude.{◌==◌}
-use Rattle.std.proofs.lemmas.Bool.Decides.{nat_tests}
+use Rattle.list_laws.proofs.Words.{◌≡◌, ℕ, suc, ◌<◌, Bool, true, false, ◌&&◌, ◌||◌, refl, arith, zero, ◌≤◌, ◌==◌, nat_tests}
 
 pub no_false : {A : Type 0} → false ≡ true → A
 no_false h = absurd cc

@@ -1,6 +1,5 @@
 -- A walk over what is left.
-use Rattle.std.proofs.Common.{◌≡◌, List, ◌∷◌, length, Some, ap, arith}
-use Rattle.std.specs.Iterator.{MakesProgress, item_count}
+use Rattle.list_laws.proofs.Words.{◌≡◌, List, ◌∷◌, length, Some, ap, arith, MakesProgress, item_count}
 
 pub goes_on : {S A : Type 0} (rest : S → List A) (can : S → Type 0) (s t : S) (x : A) → rest s ≡ x ∷ rest t → can t → MakesProgress can (item_count rest) s (Some x) t
 goes_on {S} {A} rest can s t x e h =

@@ -1,3 +1,4 @@
+mod Words
 mod LineLengths
 mod MadeLengths
 mod MadeText

@@ -1,11 +1,5 @@
 -- How long the lines are that are printed.
-use Rattle.std.proofs.Common.{◌≡◌, ℕ, suc, ◌+◌, ◌*◌, ◌^◌, ◌≤◌, ◌<◌, List, [], ◌∷◌, ◌++◌, map, length, Bool, true, ℤ, pos, negsuc, unsigned_abs, length-append, arith, decimal}
-use Rattle.std.specs.Fmt.{signed_decimal}
-use Rattle.std.specs.List.{list_all}
-use Rattle.std.proofs.lemmas.Bool.{and_parts}
-use Rattle.std.proofs.lemmas.Fmt.{decimal_nonempty, length-decimal-le_wide}
-use Rattle.script_spec.specs.Texts.{joined, line}
-use Rattle.script_spec.specs.Shown.{size_list}
+use Rattle.made_text.proofs.Words.{◌≡◌, ℕ, suc, ◌+◌, ◌*◌, ◌^◌, ◌≤◌, ◌<◌, List, [], ◌∷◌, ◌++◌, map, length, Bool, true, ℤ, pos, negsuc, unsigned_abs, length-append, arith, decimal, signed_decimal, list_all, and_parts, decimal_nonempty, length-decimal-le_wide, joined, line, size_list}
 
 -- the bytes of words, and one behind each
 abbrev pub words_size : List (List ℕ) → ℕ

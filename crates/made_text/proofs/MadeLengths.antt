@@ -1,31 +1,8 @@
 -- How long the text of a made script is, and that words can express it.
-use Rattle.std.proofs.Common.{◌≡◌, ◌∙◌, ℕ, zero, suc, ◌+◌, ◌-◌, ◌*◌, ◌^◌, ◌≤◌, ◌<◌, List, [], ◌∷◌, ◌++◌, map, length, Bool, true, not, nat_lt, refl, ap, subst, length-append, arith, codes, decimal}
-use Rattle.std.specs.Prelude.{ℤ, pos, neg_ℤ, ◌<ℤ◌, negsuc, unsigned_abs}
-use Rattle.std.specs.Fmt.{signed_decimal}
-use Rattle.std.specs.List.{enumerate_from, flat_map, list_all, range_with_len}
-use Rattle.std.proofs.lemmas.Bool.{and_from, lt-ltb, ltb-true}
-use Rattle.std.proofs.lemmas.Fmt.{length-decimal-le_wide}
-use Rattle.std.proofs.lemmas.Int.{ints}
-use Rattle.std.proofs.lemmas.List.Concat.{flat_map-append}
-use Rattle.std.proofs.lemmas.List.Folds.{list_all-append}
-use Rattle.std.proofs.lemmas.List.FromFn.{length-map-range_with_len}
-use Rattle.list_laws.proofs.Ranges.{pieces_long}
-use Rattle.nc_base.specs.declared.request.Call.{Call}
+use Rattle.made_text.proofs.Words.{◌≡◌, ◌∙◌, ℕ, zero, suc, ◌+◌, ◌-◌, ◌*◌, ◌^◌, ◌≤◌, ◌<◌, List, [], ◌∷◌, ◌++◌, map, length, Bool, true, not, nat_lt, refl, ap, subst, length-append, arith, codes, decimal, neg_ℤ, ◌<ℤ◌, signed_decimal, enumerate_from, flat_map, list_all, range_with_len, and_from, lt-ltb, ltb-true, length-decimal-le_wide, ints, flat_map-append, list_all-append, length-map-range_with_len, pieces_long, Call, Every, Given, Bput, Bits, Numbers, is_empty, first_row, precip_at, temp_at, call_word, hex, line, call_words, region_words, shown_call, shown_values, is_expressible_call, calls_of_rank, calls_of_record, columns_of, precip_band, region_of_band, temp_band, rank_is, record_is, pieces_pass, range_passes, length-hex}
+use Rattle.std.specs.Prelude.{ℤ, pos, negsuc, unsigned_abs}
 use Rattle.nc_base.specs.declared.request.Call.TheVariants as call
-use Rattle.nc_base.specs.declared.request.Choice.TheVariants.{Every}
-use Rattle.nc_base.specs.declared.request.Given.{Given}
-use Rattle.nc_base.specs.declared.request.PostKind.TheVariants.{Bput}
-use Rattle.nc_base.specs.declared.request.Values.TheVariants.{Bits, Numbers}
-use Rattle.serial_spec.specs.Lists.{is_empty}
-use Rattle.script_spec.specs.Generator.{first_row, precip_at, temp_at}
-use Rattle.script_spec.specs.Texts.{call_word, hex, line}
-use Rattle.script_spec.specs.Shown.{call_words, region_words, shown_call, shown_values}
-use Rattle.script_text.specs.Expressible.{is_expressible_call}
-use Rattle.generated_run.specs.Made.{calls_of_rank, calls_of_record, columns_of, precip_band, region_of_band, temp_band}
-use Rattle.generated_run.proofs.CallLaws.{rank_is, record_is}
-use Rattle.generated_run.proofs.Ranges.{pieces_pass, range_passes}
 use Rattle.made_text.proofs.LineLengths.{line_long, number_long, number_some, sizes_long, small_long, words_joined, words_least, words_most, words_size}
-use Rattle.script_text.proofs.Numerals.{length-hex}
 
 -- ---- the values of a rank's rows
 

@@ -1,22 +1,6 @@
 -- What is printed of a made script is read as that script.
-use Rattle.std.proofs.Common.{◌≡◌, ℕ, ◌+◌, ◌≤◌, ◌<◌, List, [], ◌∷◌, ◌++◌, map, length, true, false, nat_le, refl, subst, length-append, arith, codes, decimal}
-use Rattle.std.specs.Fmt.{digits}
-use Rattle.std.specs.List.{enumerate_from, list_all, range_with_len}
-use Rattle.std.proofs.lemmas.Bool.{leb-true}
-use Rattle.nc_base.specs.declared.request.Call.{Call}
+use Rattle.made_text.proofs.Words.{◌≡◌, ℕ, ◌+◌, ◌≤◌, ◌<◌, List, [], ◌∷◌, ◌++◌, map, length, true, false, nat_le, refl, subst, length-append, arith, codes, decimal, digits, enumerate_from, list_all, range_with_len, leb-true, Call, has_whole_attrs, default_hints, made_header, made_script, Reads, most_bytes, most_lines, shown, shown_definitions, shown_hints, line, is_expressible, is_expressible_call, printed_lines, expressed_again, calls_of_rank, made_lawful, script_is, rank_long, range_passes, sum_within}
 use Rattle.nc_base.specs.declared.script.Script as script_type
-use Rattle.serial_spec.specs.Lawful.{has_whole_attrs}
-use Rattle.script_spec.specs.Generator.{default_hints, made_header, made_script}
-use Rattle.script_spec.specs.ScriptGrammar.{Reads, most_bytes, most_lines}
-use Rattle.script_spec.specs.Shown.{shown, shown_definitions, shown_hints}
-use Rattle.script_spec.specs.Texts.{line}
-use Rattle.script_text.specs.Expressible.{is_expressible, is_expressible_call, printed_lines}
-use Rattle.script_text.proofs.Expressed.{expressed_again}
-use Rattle.generated_run.specs.Made.{calls_of_rank}
-use Rattle.generated_run.proofs.LawfulLaws.{made_lawful}
-use Rattle.generated_run.proofs.MadeLaws.{script_is}
-use Rattle.generated_run.proofs.RankLaws.{rank_long}
-use Rattle.generated_run.proofs.Ranges.{range_passes, sum_within}
 use Rattle.made_text.proofs.MadeLengths.{rank_expressible, ranks_long, ranks_text}
 
 abbrev all_calls : ℕ → ℕ → List (List Call)

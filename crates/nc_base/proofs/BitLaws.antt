@@ -1,14 +1,5 @@
 -- Patterns of one step, one more of them, and one run more.
-use Rattle.std.proofs.Common.{◌≡◌, ℕ, zero, suc, ◌+◌, ◌-◌, ◌<◌, ◌≤◌, refl, ◌∙◌, ap, sym, List, [], ◌∷◌, ◌++◌, length, map, take, drop, get_or, append-nil, append_assoc, length-append, Option, Some, arith}
-use Rattle.std.specs.Prelude.{◌*◌, ◌%◌, ◌^◌, slice_get, option_map}
-use Rattle.std.specs.List.{range_with_len}
-use Rattle.std.proofs.lemmas.List.{length-map, take_more, drop_more}
-use Rattle.std.proofs.lemmas.Option.{slice_get-map, slice_get-get_or}
-use Rattle.std.proofs.lemmas.List.FromFn.{length-range_with_len, get_or-range_with_len, map-range_with_len_more}
-use Rattle.std.proofs.lemmas.List.Concat.{flat_map-append}
-use Rattle.std.proofs.Math.Nat.{mul-le-mul_left}
-use Rattle.nc_base.specs.declared.bits.BitRun.{BitRun}
-use Rattle.nc_base.specs.BitForms.{bit_steps, bits_of_run, bits_of_runs}
+use Rattle.nc_base.proofs.Words.{◌≡◌, ℕ, zero, suc, ◌+◌, ◌-◌, ◌<◌, ◌≤◌, refl, ◌∙◌, ap, sym, List, [], ◌∷◌, ◌++◌, length, map, take, drop, get_or, append-nil, append_assoc, length-append, Option, Some, arith, ◌*◌, ◌%◌, ◌^◌, slice_get, option_map, range_with_len, length-map, take_more, drop_more, slice_get-map, slice_get-get_or, length-range_with_len, get_or-range_with_len, map-range_with_len_more, flat_map-append, mul-le-mul_left, BitRun, bit_steps, bits_of_run, bits_of_runs}
 use Rattle.nc_base.proofs.ListPlaces.{get_left, get_right}
 
 pub length_bit_steps : (a b : ℕ) (n : ℕ) → length (bit_steps a b n) ≡ n

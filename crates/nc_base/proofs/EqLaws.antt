@@ -1,12 +1,6 @@
 -- Lists that are the same at each place, and lists that are not.
-use Rattle.std.proofs.Common.{◌≡◌, ℕ, suc, ◌+◌, ◌<◌, refl, ◌∙◌, ap, sym, List, [], ◌∷◌, ◌++◌, append_assoc, take, length, true, false, Some, arith}
-use Rattle.std.specs.Prelude.{ℤ, slice_get, nat_eq}
-use Rattle.std.specs.Ordering.{int_eq}
-use Rattle.std.specs.Cmp.Lexicographic.{pointwise, bytes_decides}
-use Rattle.std.specs.Cmp.Rules.{signed_items}
+use Rattle.nc_base.proofs.Words.{◌≡◌, ℕ, suc, ◌+◌, ◌<◌, refl, ◌∙◌, ap, sym, List, [], ◌∷◌, ◌++◌, append_assoc, take, length, true, false, Some, arith, ℤ, slice_get, nat_eq, int_eq, pointwise, bytes_decides, signed_items, same_Some, false_from_ne_true}
 use Rattle.nc_base.proofs.ListPlaces.{take_next}
-use Rattle.std.proofs.lemmas.Option.{same_Some}
-use Rattle.std.proofs.lemmas.Bool.{false_from_ne_true}
 
 same_lists : {A : Type 0} (xs ys : List A) → length xs ≡ length ys → ((k : ℕ) → k < length xs → slice_get xs k ≡ slice_get ys k) → xs ≡ ys
 same_lists [] [] h each = refl

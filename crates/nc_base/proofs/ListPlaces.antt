@@ -1,8 +1,5 @@
 -- The entries of one list behind another by their places, and one entry more.
-use Rattle.std.proofs.Common.{◌≡◌, ℕ, zero, suc, ◌<◌, ◌+◌, ap, refl, ◌∙◌, List, [], ◌∷◌, ◌++◌, length, take, Some, arith}
-use Rattle.std.specs.Prelude.{slice_get}
-use Rattle.std.proofs.lemmas.Option.{slice_get_within, get_or_from_slice_get}
-use Rattle.std.proofs.lemmas.List.{take_more}
+use Rattle.nc_base.proofs.Words.{◌≡◌, ℕ, zero, suc, ◌<◌, ◌+◌, ap, refl, ◌∙◌, List, [], ◌∷◌, ◌++◌, length, take, Some, arith, slice_get, slice_get_within, get_or_from_slice_get, take_more}
 
 pub get_left : {A : Type 0} (xs ys : List A) (k : ℕ) → k < length xs → slice_get (xs ++ ys) k ≡ slice_get xs k
 get_left [] ys k h = absurd (omega arith)

@@ -1,13 +1,5 @@
 -- Numbers of one step, one more of them, and one run more.
-use Rattle.std.proofs.Common.{◌≡◌, ℕ, ◌+◌, ◌<◌, ◌∙◌, ap, sym, List, [], ◌∷◌, ◌++◌, length, take, drop, get_or, append-nil, append_assoc, length-append, Option, Some, arith}
-use Rattle.std.specs.Prelude.{ℤ, pos, ◌+ℤ◌, ◌*ℤ◌, slice_get, option_map}
-use Rattle.std.specs.List.{range_with_len}
-use Rattle.std.proofs.lemmas.List.{length-map, take_more, drop_more}
-use Rattle.std.proofs.lemmas.Option.{slice_get-map, slice_get-get_or}
-use Rattle.std.proofs.lemmas.List.FromFn.{length-range_with_len, get_or-range_with_len, map-range_with_len_more}
-use Rattle.std.proofs.lemmas.List.Concat.{flat_map-append}
-use Rattle.nc_base.specs.declared.numbers.NumberRun.{NumberRun}
-use Rattle.nc_base.specs.NumberForms.{steps, numbers_of_run, numbers_of_runs}
+use Rattle.nc_base.proofs.Words.{◌≡◌, ℕ, ◌+◌, ◌<◌, ◌∙◌, ap, sym, List, [], ◌∷◌, ◌++◌, length, take, drop, get_or, append-nil, append_assoc, length-append, Option, Some, arith, ℤ, pos, ◌+ℤ◌, ◌*ℤ◌, slice_get, option_map, range_with_len, length-map, take_more, drop_more, slice_get-map, slice_get-get_or, length-range_with_len, get_or-range_with_len, map-range_with_len_more, flat_map-append, NumberRun, steps, numbers_of_run, numbers_of_runs}
 use Rattle.nc_base.proofs.ListPlaces.{get_left, get_right}
 
 pub length_steps : (a b : ℤ) (n : ℕ) → length (steps a b n) ≡ n

@@ -1,27 +1,7 @@
 -- Regions that a check accepts: their variable is there, and they have few extents.
-use Rattle.std.proofs.Common.{◌≡◌, ℕ, suc, ◌+◌, ◌≤◌, ◌<◌, ◌^◌, List, [], ◌∷◌, length, Bool, true, false, cond, not, ltb, leb, eqb, ◌||◌, ◌&&◌, Option, Some, None, refl, ap, sym, ◌∙◌, arith}
-use Rattle.std.specs.Prelude.{slice_get, IfSome}
-use Rattle.std.proofs.lemmas.Bool.{or_parts, ltb-false}
-use Rattle.nc_base.specs.declared.header.Header.{Header}
-use Rattle.nc_base.specs.declared.header.Var.{Var}
-use Rattle.nc_base.specs.declared.plan.Extent.{Extent}
-use Rattle.nc_base.specs.declared.request.Region.{Region}
-use Rattle.nc_base.specs.declared.request.Direction.{Direction}
+use Rattle.nc_classic_c.proofs.Words.{◌≡◌, ℕ, suc, ◌+◌, ◌≤◌, ◌<◌, ◌^◌, List, [], ◌∷◌, length, Bool, true, false, cond, not, ltb, leb, eqb, ◌||◌, ◌&&◌, Option, Some, None, refl, ap, sym, ◌∙◌, arith, slice_get, IfSome, or_parts, ltb-false, Header, Var, Extent, Region, Direction, header_len, product, records_of, most_elements, record_limit, file_limit, check, check_some, check_var, asks_too_much, last_position, joined_to, joined, extents_of, element_extents, IsAccepted, passed, length-element_extents, if_some_at, Accepted, NcvRegion, HasRegion, Accepts, region_of, direction_of}
 use Rattle.nc_base.specs.declared.answer.Code.TheVariants as code
-use Rattle.serial_spec.specs.HeaderBytes.{header_len}
-use Rattle.serial_spec.specs.Layout.{product, end_of}
-use Rattle.serial_spec.specs.Records.{records_of}
-use Rattle.serial_spec.specs.Limits.{most_elements, record_limit, file_limit}
-use Rattle.serial_spec.specs.RegionCheck.{check, check_some, check_var, asks_too_much, last_position}
-use Rattle.vara_extents.specs.Joined.{joined_to, joined, extents_of, element_extents}
-use Rattle.vara_extents.specs.Accepted.{IsAccepted}
-use Rattle.vara_extents.proofs.AcceptedLaws.{passed}
-use Rattle.vara_extents.proofs.NumberLaws.{length-element_extents}
-use Rattle.list_laws.proofs.Optional.{if_some_at}
-use Rattle.nc_classic_c.specs.declared.accepted.Accepted.{Accepted}
-use Rattle.nc_classic_c.specs.declared.regions.NcvRegion.{NcvRegion}
-use Rattle.nc_classic_c.specs.Accepted.{HasRegion, Accepts}
-use Rattle.nc_classic_c.specs.Regions.{region_of, direction_of}
+use Rattle.serial_spec.specs.Layout.{end_of}
 
 pub accepted_there : (header : Header) (o : Option Var) (g : Region) (known : ℕ) (direction : Direction)
     → check_some header o g known direction ≡ code.Ok → (v : Var) × (o ≡ Some v)

@@ -1,18 +1,10 @@
 -- The numbers that calls answer.
-use Rattle.std.proofs.Common.{◌≡◌, ap, ◌∙◌}
-use Rattle.std.specs.Prelude.{ℤ}
-use Rattle.std.proofs.Math.Facts.{sfits_lit}
-use Rattle.std.proofs.lemmas.Int.{to_z-of_z}
+use Rattle.nc_classic_c.proofs.Words.{◌≡◌, ap, ◌∙◌, ℤ, sfits_lit, to_z-of_z, Code, Refusal, Cause, cause_number, code_number, number_of}
 use mir.Syntax.{w32}
 use mir.Val.{to_z, of_z, SFits}
-use Rattle.nc_base.specs.declared.answer.Code.{Code}
 use Rattle.nc_base.specs.declared.answer.Code.TheVariants as code
-use Rattle.nc_classic_c.specs.declared.answers.Refusal.{Refusal}
 use Rattle.nc_classic_c.specs.declared.answers.Refusal.TheVariants as refusal
-use Rattle.nc_classic_c.specs.declared.causes.Cause.{Cause}
 use Rattle.nc_classic_c.specs.declared.causes.Cause.TheVariants as cause
-use Rattle.nc_classic_c.specs.Causes.{cause_number}
-use Rattle.nc_classic_c.specs.Answers.{code_number, number_of}
 
 code_small : (c : Code) → SFits w32 (code_number c)
 code_small code.EInvalCoords = sfits_lit tt

@@ -1,25 +1,9 @@
 -- A header with another record count: sound, and writable, where its file does not end too far.
-use Rattle.std.proofs.Common.{◌≡◌, ℕ, suc, ◌+◌, ◌-◌, ◌*◌, ◌^◌, ◌<◌, refl, sym, ◌∙◌, ap, subst, List, [], ◌∷◌, map, Bool, true, false, cond, ◌&&◌, ◌||◌, Option, Some, None, arith}
-use Rattle.std.specs.Prelude.{not, nat_lt, nat_le, ◌==◌, is_none, option_map}
-use Rattle.std.proofs.lemmas.Bool.Decides.{nat_tests}
-use Rattle.std.specs.Option.{option_or}
-use Rattle.std.specs.Int.{w32, w64, byte_len}
-use Rattle.std.proofs.lemmas.Bool.{and_from, lt-leb, ltb-true}
-use Rattle.list_laws.proofs.Truth.{and_first, and_second}
-use Rattle.list_laws.proofs.Optional.{neither_some, none_of_test, both_none, told_unless}
-use Rattle.nc_base.specs.declared.header.Header.{Header}
-use Rattle.nc_base.specs.declared.header.Var.{Var}
+use Rattle.nc_classic_c.proofs.Words.{◌≡◌, ℕ, suc, ◌+◌, ◌-◌, ◌*◌, ◌^◌, ◌<◌, refl, sym, ◌∙◌, ap, subst, List, [], ◌∷◌, map, Bool, true, false, cond, ◌&&◌, ◌||◌, Option, Some, None, arith, nat_lt, nat_le, ◌==◌, is_none, option_map, nat_tests, option_or, w32, w64, byte_len, and_from, lt-leb, ltb-true, and_first, and_second, neither_some, none_of_test, both_none, told_unless, Header, Var, file_limit, record_limit, is_record, vsize, recsize, record_share, last_share, greatest, end_of_var, share, sharing, sharing_with, sharing_from, header_len, is_version, all_ones, first_check, fault_if, first_with, two_record_dims, record_later, bad_id, is_too_large, measure, past_bound, keeps_bound, is_sound, is_writable, is_writable_list, is_writable_dim, is_writable_attr, is_writable_var, fits_count, fits_field, counts_are_small, small_field, file_end, measured, canon_len}
+use Rattle.std.specs.Prelude.{not}
 use Rattle.nc_base.specs.declared.errors.HeaderErr.TheVariants as fault
-use Rattle.serial_spec.specs.Limits.{file_limit, record_limit}
-use Rattle.serial_spec.specs.Layout.{is_record, vsize, recsize, record_share, last_share, greatest, end_of_var, end_of, share, sharing, sharing_with, sharing_from}
-use Rattle.serial_spec.specs.HeaderBytes.{header_len, is_version}
-use Rattle.serial_spec.specs.HeaderGrammar.{all_ones}
-use Rattle.serial_spec.specs.HeaderFaults.{first_check, fault_if, first_with, two_record_dims, record_later, bad_id, is_too_large, measure, past_bound, keeps_bound}
-use Rattle.serial_spec.specs.SoundHeaders.{is_sound, is_writable, is_writable_list, is_writable_dim, is_writable_attr, is_writable_var, fits_count, fits_field, counts_are_small}
-use Rattle.var_layout.proofs.LaidWritable.{small_field}
-use Rattle.nc_classic_c.specs.Sizes.{fits, file_end}
-use Rattle.var_layout.proofs.Soundness.{measured}
-use Rattle.var_layout.proofs.WrittenLengths.{canon_len}
+use Rattle.serial_spec.specs.Layout.{end_of}
+use Rattle.nc_classic_c.specs.Sizes.{fits}
 
 abbrev counted : Header → ℕ → Header
 counted header n = record header { records = n }

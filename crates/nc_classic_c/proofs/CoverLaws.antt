@@ -1,27 +1,7 @@
 -- The cover of extents has their bytes, and reaches from the first to the last.
-use Rattle.std.proofs.Common.{◌≡◌, ℕ, ◌+◌, ◌-◌, ◌<◌, ◌≤◌, ◌^◌, List, [], ◌∷◌, length, map, true, inl, inr, sym, ap, subst, ◌∙◌, Some, slice_get, arith}
-use Rattle.std.specs.Prelude.{flat_map}
-use Rattle.std.specs.List.{range_with_len}
-use Rattle.std.specs.List.Sorted.{IsPermutation}
+use Rattle.nc_classic_c.proofs.Words.{◌≡◌, ℕ, ◌+◌, ◌-◌, ◌<◌, ◌≤◌, ◌^◌, List, [], ◌∷◌, length, map, true, inl, inr, sym, ap, subst, ◌∙◌, Some, arith, flat_map, range_with_len, IsPermutation, flat_map-map, same_Some, passes_each, no_none_some, Extent, Owned, first_of, last_of, spans, at_in, In, HaveSame, ranges, extents, EndBelow, IsCover, cover_in_order, last_joined, last_of_range, range_first, same_permuted, flat_in, in_flat, in_range, range_high, each_in, in_map, map_in, NcvExtent, bytes_asked, bytes_of, end_is_low, end_of, ends_are_low, entry}
+use Rattle.std.proofs.Common.{slice_get}
 use borrow.Author.Tests.{ltb-true}
-use Rattle.std.proofs.lemmas.List.Folds.{flat_map-map}
-use Rattle.std.proofs.lemmas.Option.{same_Some}
-use Rattle.list_laws.proofs.Each.{passes_each}
-use Rattle.list_laws.proofs.Optional.{no_none_some}
-use Rattle.nc_base.specs.declared.plan.Extent.{Extent}
-use Rattle.nc_base.specs.declared.plan.Owned.{Owned}
-use Rattle.serial_spec.specs.DeviceCalls.{first_of, last_of}
-use Rattle.serial_spec.specs.Extents.{spans}
-use Rattle.serial_spec.proofs.MemberLaws.{at_in}
-use Rattle.overlay_laws.specs.Entries.{In, HaveSame, ranges}
-use Rattle.overlay_laws.specs.Lines.{extents, EndBelow}
-use Rattle.overlay_laws.specs.Walks.{IsCover}
-use Rattle.overlay_laws.proofs.CoverLaws.{cover_in_order, last_joined, last_of_range, range_first}
-use Rattle.overlay_laws.proofs.EntryLaws.{same_permuted}
-use Rattle.overlay_laws.proofs.HullLaws.{flat_in, in_flat, in_range, range_high}
-use Rattle.overlay_laws.proofs.Members.{each_in, in_map, map_in}
-use Rattle.nc_classic_c.specs.declared.extents.NcvExtent.{NcvExtent}
-use Rattle.nc_classic_c.specs.Windows.{bytes_asked, bytes_of, end_is_low, end_of, ends_are_low, entry}
 
 abbrev bytes : Owned → List ℕ
 bytes o = range_with_len o.extent.at o.extent.len

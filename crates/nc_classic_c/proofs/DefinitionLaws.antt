@@ -1,37 +1,9 @@
 -- Definitions that can all be taken make a header that can be laid out and written.
-use Rattle.std.proofs.Common.{◌≡◌, ℕ, zero, suc, ◌+◌, ◌-◌, ◌*◌, ◌/◌, ◌%◌, ◌^◌, ◌<◌, ◌≤◌, List, [], ◌∷◌, ◌++◌, map, drop, length, Bool, true, false, cond, ◌&&◌, ◌||◌, Option, None, refl, sym, ap, subst, ◌∙◌, arith, length-append}
-use Rattle.std.specs.Prelude.{not, nat_lt, nat_le, ◌==◌, slice_get, count_by}
-use Rattle.std.specs.List.{AllByRecursion, list_any}
-use Rattle.std.specs.Int.{w32, w64}
-use Rattle.std.proofs.Math.Nat.{div-le_self, div-mul-le_self, mod-eq-sub-div-mul}
-use Rattle.std.proofs.lemmas.Bool.{and_from, or_parts, ltb-false, leb-false, le-leb, le-ltb}
-use Rattle.std.proofs.lemmas.List.{length-map}
-use Rattle.std.proofs.lemmas.List.Folds.{list_any-append}
-use Rattle.std.proofs.lemmas.List.Sums.{sum_by-cons}
-use Rattle.list_laws.proofs.Each.{each_map, each_passes, each_fails, each_weaker, fails_each}
-use Rattle.list_laws.proofs.Optional.{both_none, none_before_map, told_else}
-use Rattle.list_laws.proofs.Truth.{equal_true, not_zero, no_false}
-use Rattle.nc_base.specs.declared.header.Dim.{Dim}
-use Rattle.nc_base.specs.declared.header.Var.{Var}
-use Rattle.serial_spec.specs.ExternalForm.{size_of}
-use Rattle.serial_spec.specs.HeaderBytes.{number_of, last_type, is_version}
-use Rattle.serial_spec.specs.HeaderFaults.{two_record_dims, record_later, bad_id}
+use Rattle.nc_classic_c.proofs.Words.{◌≡◌, ℕ, zero, suc, ◌+◌, ◌-◌, ◌*◌, ◌/◌, ◌%◌, ◌^◌, ◌<◌, ◌≤◌, List, [], ◌∷◌, ◌++◌, map, drop, length, Bool, true, false, cond, ◌&&◌, ◌||◌, Option, None, refl, sym, ap, subst, ◌∙◌, arith, length-append, nat_lt, nat_le, ◌==◌, slice_get, count_by, AllByRecursion, list_any, w32, w64, div-le_self, div-mul-le_self, mod-eq-sub-div-mul, and_from, or_parts, ltb-false, leb-false, le-leb, le-ltb, length-map, list_any-append, sum_by-cons, each_map, each_passes, each_fails, each_weaker, fails_each, both_none, none_before_map, told_else, equal_true, not_zero, no_false, Dim, Var, size_of, last_type, is_version, two_record_dims, record_later, bad_id, length_of, most_dims, most_vars, most_dims_of_var, record_limit, file_limit, counts_are_small, fits_count, fits_field, is_type, is_writable_dim, is_writable_attr, is_writable_list, small_field, small_count, is_unplaced, has_writable_names, has_writable_parts, kind_of, Unmade, NcvAttDef, NcvDimDef, NcvVarDef, NcvHeaderDef, type_cause, is_record_dim, is_record_id, dim_cause, att_cause, var_cause, first_refused, dim_refusal, att_refusal, atts_refusal, var_refusal, definition_refusal, most_atts, name_cause, dimension_of, attribute_of, variable_of, header_of}
+use Rattle.std.specs.Prelude.{not}
+use Rattle.serial_spec.specs.HeaderBytes.{number_of}
 use Rattle.serial_spec.specs.HeaderFaults as faults
-use Rattle.serial_spec.specs.Layout.{length_of}
-use Rattle.serial_spec.specs.Limits.{most_dims, most_vars, most_dims_of_var, record_limit, file_limit}
-use Rattle.serial_spec.specs.SoundHeaders.{counts_are_small, fits_count, fits_field, is_type, is_writable_dim, is_writable_attr, is_writable_list}
-use Rattle.var_layout.proofs.LaidWritable.{small_field, small_count}
-use Rattle.var_layout.specs.Unplaced.{is_unplaced, has_writable_names, has_writable_parts}
-use Rattle.cdf_header.specs.Reading.{kind_of}
 use Rattle.nc_classic_c.specs.declared.causes.Cause.TheVariants as cause
-use Rattle.nc_classic_c.specs.declared.causes.Unmade.{Unmade}
-use Rattle.nc_classic_c.specs.declared.tables.NcvAttDef.{NcvAttDef}
-use Rattle.nc_classic_c.specs.declared.tables.NcvDimDef.{NcvDimDef}
-use Rattle.nc_classic_c.specs.declared.tables.NcvVarDef.{NcvVarDef}
-use Rattle.nc_classic_c.specs.declared.tables.NcvHeaderDef.{NcvHeaderDef}
-use Rattle.nc_classic_c.specs.Definitions.{type_cause, is_record_dim, is_record_id, dim_cause, att_cause, var_cause, first_refused, dim_refusal, att_refusal, atts_refusal, var_refusal, definition_refusal, most_atts}
-use Rattle.nc_classic_c.specs.Naming.{name_cause}
-use Rattle.nc_classic_c.specs.Tables.{dimension_of, attribute_of, variable_of, header_of}
 
 -- ---- one after another
 

@@ -1,14 +1,5 @@
 -- The windows of all domains, told by their hulls, are those of the device calls.
-use Rattle.std.proofs.Common.{◌≡◌, ℕ, ◌+◌, ◌≤◌, List, [], ◌∷◌, ◌++◌, map, refl, sym, ap, ap₂, ◌∙◌, Bool}
-use Rattle.std.specs.Prelude.{flat_map}
-use Rattle.std.specs.List.{enumerate_from}
-use Rattle.std.proofs.lemmas.List.{map-append}
-use Rattle.std.proofs.lemmas.Simd.{map-map}
-use Rattle.nc_base.specs.declared.script.Hints.{Hints}
-use Rattle.serial_spec.specs.DeviceCalls.{collective_windows, domains, not_empty, windows}
-use Rattle.overlay_laws.specs.Walks.{told_of}
-use Rattle.overlay_laws.proofs.WalkLaws.{windows_walked}
-use Rattle.nc_classic_c.specs.Windows.{division_of, numbered_windows, step_windows, told, window_shown}
+use Rattle.nc_classic_c.proofs.Words.{◌≡◌, ℕ, ◌+◌, ◌≤◌, List, [], ◌∷◌, ◌++◌, map, refl, sym, ap, ap₂, ◌∙◌, Bool, flat_map, enumerate_from, map-append, map-map, Hints, collective_windows, domains, not_empty, windows, told_of, windows_walked, division_of, numbered_windows, step_windows, told, window_shown}
 
 told_each : (buffer k : ℕ) (ds : List (List ℕ)) → 1 ≤ buffer
     → map told (flat_map (numbered_windows buffer) (enumerate_from k ds)) ≡ map told_of (flat_map (λ d. windows buffer d) (not_empty ds))

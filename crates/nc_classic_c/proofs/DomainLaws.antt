@@ -1,8 +1,5 @@
 -- Numbers within their limits.
-use Rattle.std.proofs.Common.{◌≡◌, ℕ, ◌<◌, ◌≤◌, ◌^◌, true, ltb, leb, ◌&&◌}
-use Rattle.std.proofs.lemmas.Bool.{leb-true, ltb-true}
-use Rattle.list_laws.proofs.Truth.{and_first, and_second}
-use Rattle.nc_classic_c.specs.Domains.{is_asked}
+use Rattle.nc_classic_c.proofs.Words.{◌≡◌, ℕ, ◌<◌, ◌≤◌, ◌^◌, true, ltb, leb, ◌&&◌, leb-true, ltb-true, and_first, and_second, is_asked}
 
 pub record AreWithin (lo hi aggregators unit k : ℕ) : Type 0 where
   pub order : lo ≤ hi

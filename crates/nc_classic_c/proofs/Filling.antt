@@ -1,8 +1,5 @@
 -- A list that is laid into an array item by item.
-use Rattle.std.proofs.Common.{◌≡◌, ℕ, zero, suc, ◌+◌, ◌-◌, ◌<◌, ◌≤◌, List, [], ◌∷◌, ◌++◌, length, take, drop, set, Bool, true, false, cond, ltb, leb, ◌&&◌, ap, sym, refl, ◌∙◌, arith, append_assoc, length-append, length-drop}
-use Rattle.std.proofs.lemmas.List.{append-nil, set_at, take_all, take-append-le, drop-append-le, length-take}
-use Rattle.std.proofs.lemmas.Bool.{leb-true, leb-false, ltb-true, ltb-false}
-use Rattle.nc_classic_c.specs.Extents.{filled, laid_at, AreLaid}
+use Rattle.nc_classic_c.proofs.Words.{◌≡◌, ℕ, zero, suc, ◌+◌, ◌-◌, ◌<◌, ◌≤◌, List, [], ◌∷◌, ◌++◌, length, take, drop, set, Bool, true, false, cond, ltb, leb, ◌&&◌, ap, sym, refl, ◌∙◌, arith, append_assoc, length-append, length-drop, append-nil, set_at, take_all, take-append-le, drop-append-le, length-take, leb-true, leb-false, ltb-true, ltb-false, filled, laid_at, AreLaid}
 
 -- ---- ends
 

@@ -1,6 +1,5 @@
 -- Items that are laid one after another.
-use Rattle.std.proofs.Common.{◌≡◌, ℕ, ◌+◌, List, [], ◌∷◌, ◌++◌, length, drop, ap, sym, refl, ◌∙◌, arith}
-use Rattle.nc_classic_c.specs.Extents.{filled, laid_at, laid_from}
+use Rattle.nc_classic_c.proofs.Words.{◌≡◌, ℕ, ◌+◌, List, [], ◌∷◌, ◌++◌, length, drop, ap, sym, refl, ◌∙◌, arith, filled, laid_at, laid_from}
 use Rattle.nc_classic_c.proofs.Filling.{Lays, all_laid, none_laid, one_laid}
 
 laid_on : {A : Type 0} (items : List A) (from : ℕ) (old now left : List A) (n : ℕ) → Lays A items from old now left n → laid_from n from now left ≡ filled old (drop from items)

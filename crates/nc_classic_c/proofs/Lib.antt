@@ -1,3 +1,4 @@
+mod Words
 pub mod AcceptedRegions
 pub mod Answering
 pub mod CountedHeaders

@@ -1,28 +1,9 @@
 -- What is answered of a header that is defined, by its parts.
-use Rattle.std.proofs.Common.{◌≡◌, ℕ, ◌^◌, ◌<◌, ◌≤◌, List, ◌++◌, drop, take, length, true, false, cond, Bool, Option, Some, None, Result, Ok, Err, refl, sym, ap, subst, ◌∙◌}
-use Rattle.std.specs.Prelude.{IfErr, OnOk}
-use Rattle.std.specs.Prelude.{nat_lt, option_map}
-use Rattle.std.specs.Option.{option_or}
-use Rattle.std.proofs.lemmas.Bool.{le-ltb, lt-ltb}
-use Rattle.list_laws.proofs.Optional.{first_counts, second_counts}
-use Rattle.list_laws.proofs.Truth.{and_first}
-use Rattle.nc_base.specs.declared.header.Header.{Header}
-use Rattle.nc_base.specs.declared.script.Align.{Align}
-use Rattle.nc_base.specs.declared.errors.LayoutErr.{LayoutErr}
-use Rattle.serial_spec.specs.HeaderBytes.{canon, header_len, is_version}
-use Rattle.serial_spec.specs.Redefinition.{layout_fault}
-use Rattle.serial_spec.specs.SoundHeaders.{is_sound, is_writable}
-use Rattle.cdf_header.specs.Decoded.{BeginsWith}
-use Rattle.nc_classic_c.specs.declared.answers.Refusal.{Refusal}
+use Rattle.nc_classic_c.proofs.Words.{◌≡◌, ℕ, ◌^◌, ◌<◌, ◌≤◌, List, ◌++◌, drop, take, length, true, false, cond, Bool, Option, Some, None, Result, Ok, Err, refl, sym, ap, subst, ◌∙◌, IfErr, OnOk, nat_lt, option_map, option_or, le-ltb, lt-ltb, first_counts, second_counts, and_first, Header, Align, LayoutErr, canon, header_len, is_version, layout_fault, is_sound, is_writable, BeginsWith, Refusal, Unmade, NcvHeaderDef, definition_refusal, filled, is_align, of_whole, of_layout, laid_header, placed_header, made_header, align_of, argument_refusal, records_refusal, place_refusal, refusal_of, why_unmade, needed_len, len_told, IsMade, IsUnmade, header_of}
 use Rattle.nc_classic_c.specs.declared.answers.Refusal.TheVariants as refusal
 use Rattle.nc_classic_c.specs.declared.causes.Cause.TheVariants as cause
-use Rattle.nc_classic_c.specs.declared.causes.Unmade.{Unmade}
-use Rattle.nc_classic_c.specs.declared.tables.NcvHeaderDef.{NcvHeaderDef}
-use Rattle.nc_classic_c.specs.Definitions.{definition_refusal}
-use Rattle.nc_classic_c.specs.Extents.{filled}
-use Rattle.nc_classic_c.specs.Making.{is_align, is_asked, of_whole, of_layout, laid_header, placed_header, made_header, align_of, argument_refusal, records_refusal, place_refusal, refusal_of, why_unmade, needed_len, len_told, IsMade, IsUnmade}
+use Rattle.nc_classic_c.specs.Making.{is_asked}
 use Rattle.nc_classic_c.specs.Sizes.{fits}
-use Rattle.nc_classic_c.specs.Tables.{header_of}
 use Rattle.nc_classic_c.proofs.Filling.{filled_whole}
 
 -- ---- begins and records

@@ -1,21 +1,9 @@
 -- Entries of several requests, in any order, hold what the requests hold.
-use Rattle.std.proofs.Common.{◌≡◌, ℕ, ◌+◌, ◌<◌, ◌^◌, List, [], ◌∷◌, true, inl, inr, refl, ap, subst, ◌∙◌}
+use Rattle.nc_classic_c.proofs.Words.{◌≡◌, ℕ, ◌+◌, ◌<◌, ◌^◌, List, [], ◌∷◌, true, inl, inr, refl, ap, subst, ◌∙◌, range_with_len, IsPermutation, and_first, and_second, Extent, Owned, Key, Holds, holdings_of_entries, shared_pair_of, same_pair, extents, EndBelow, same_permuted, holder_of, holds_by, map_in, NcvHeld, holdings, ends_low}
 use Rattle.std.specs.Prelude.{map}
-use Rattle.std.specs.List.{range_with_len}
-use Rattle.std.specs.List.Sorted.{IsPermutation}
 use borrow.Author.Tests.{ltb-true}
-use Rattle.list_laws.proofs.Truth.{and_first, and_second}
-use Rattle.nc_base.specs.declared.plan.Extent.{Extent}
-use Rattle.nc_base.specs.declared.plan.Owned.{Owned}
 use Rattle.serial_spec.specs.Lists.{In}
-use Rattle.serial_spec.specs.SharedByte.{Key, Holds, holdings_of_entries, shared_pair_of}
-use Rattle.serial_spec.proofs.PairLaws.{same_pair}
-use Rattle.overlay_laws.specs.Lines.{extents, EndBelow}
-use Rattle.overlay_laws.proofs.EntryLaws.{same_permuted}
-use Rattle.overlay_laws.proofs.HolderLaws.{holder_of, holds_by}
-use Rattle.overlay_laws.proofs.Members.{map_in}
-use Rattle.nc_classic_c.specs.declared.overlaps.NcvHeld.{NcvHeld}
-use Rattle.nc_classic_c.specs.Overlaps.{holdings, ends_low, ends_are_low, entry}
+use Rattle.nc_classic_c.specs.Overlaps.{ends_are_low, entry}
 
 abbrev key : Owned → Key
 key o = (o.rank, o.request)

@@ -1,11 +1,8 @@
 -- Why bytes begin with no header.
-use Rattle.std.proofs.Common.{◌≡◌, ℕ, List, ◌⊎◌, inl, inr, refl, sym, subst}
-use Rattle.nc_base.specs.declared.errors.HeaderErr.{HeaderErr}
+use Rattle.nc_classic_c.proofs.Words.{◌≡◌, ℕ, List, ◌⊎◌, inl, inr, refl, sym, subst, HeaderErr, HasFault, first_bytes, IsHeaderRefusal}
 use Rattle.nc_base.specs.declared.errors.HeaderErr.TheVariants as fault
-use Rattle.serial_spec.specs.HeaderFaults.{HasFault}
 use Rattle.nc_classic_c.specs.Answers.{refusal_of}
 use Rattle.nc_classic_c.specs.declared.answers.Refusal.TheVariants as refusal
-use Rattle.nc_classic_c.specs.Headers.{first_bytes, IsHeaderRefusal}
 
 refused_by : (bytes : List ℕ) (e : HeaderErr) → HasFault (first_bytes bytes) e → IsHeaderRefusal bytes (refusal_of e)
 refused_by bytes fault.Memory h = tt

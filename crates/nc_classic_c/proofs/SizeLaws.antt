@@ -1,22 +1,9 @@
 -- The sizes of a file, and what a region needs.
-use Rattle.std.proofs.Common.{◌≡◌, ℕ, ◌*◌, ◌<◌, ◌^◌, Bool, true, false, cond, ltb, Option, Some, None, Result, Ok, Err, ap, ap₂, ◌∙◌, arith}
+use Rattle.nc_classic_c.proofs.Words.{◌≡◌, ℕ, ◌*◌, ◌<◌, ◌^◌, Bool, true, false, cond, ltb, Option, Some, None, Result, Ok, Err, ap, ap₂, ◌∙◌, arith, ltb-true, and_second, Header, Var, Region, size_of, product, recsize, record_limit, records_of, capped, Refusal, NcvNeeds, NcvSizes, file_end, sizes_for, needs_shown}
 use Rattle.std.specs.Option.{IfSome}
-use Rattle.std.proofs.lemmas.Bool.{ltb-true}
-use Rattle.list_laws.proofs.Truth.{and_second}
-use Rattle.nc_base.specs.declared.header.Header.{Header}
-use Rattle.nc_base.specs.declared.header.Var.{Var}
-use Rattle.nc_base.specs.declared.request.Region.{Region}
 use Rattle.nc_base.specs.declared.answer.Code.TheVariants as code
-use Rattle.serial_spec.specs.ExternalForm.{size_of}
-use Rattle.serial_spec.specs.Layout.{product, recsize}
-use Rattle.serial_spec.specs.Limits.{record_limit}
-use Rattle.serial_spec.specs.Records.{records_of}
-use Rattle.var_layout.specs.Capped.{capped}
-use Rattle.nc_classic_c.specs.declared.answers.Refusal.{Refusal}
 use Rattle.nc_classic_c.specs.declared.answers.Refusal.TheVariants as refusal
-use Rattle.nc_classic_c.specs.declared.needs.NcvNeeds.{NcvNeeds}
-use Rattle.nc_classic_c.specs.declared.sizes.NcvSizes.{NcvSizes}
-use Rattle.nc_classic_c.specs.Sizes.{fits, file_end, sizes_for, needs_shown}
+use Rattle.nc_classic_c.specs.Sizes.{fits}
 
 -- ---- of a file
 

@@ -1,11 +1,5 @@
 -- What C is told of a step is that of its bytes.
-use Rattle.std.proofs.Common.{◌≡◌, ℕ, List, length, drop, ap, ◌∙◌}
-use Rattle.serial_spec.specs.DeviceCalls.{first_of}
-use Rattle.nc_classic_c.specs.declared.extents.NcvExtent.{NcvExtent}
-use Rattle.nc_classic_c.specs.declared.windows.Division.{Division}
-use Rattle.nc_classic_c.specs.declared.windows.NcvWindow.{NcvWindow}
-use Rattle.nc_classic_c.specs.Extents.{filled}
-use Rattle.nc_classic_c.specs.Windows.{bytes_asked, end_of, step_windows, AreWindows}
+use Rattle.nc_classic_c.proofs.Words.{◌≡◌, ℕ, List, length, drop, ap, ◌∙◌, first_of, NcvExtent, Division, NcvWindow, filled, bytes_asked, end_of, step_windows, AreWindows}
 
 pub step_told : (d : Division) (asked : List NcvExtent) (from : ℕ) (old new : List NcvWindow) (bytes : List ℕ) (lo hi n : ℕ) → bytes ≡ bytes_asked asked → lo ≡ first_of bytes → hi ≡ end_of bytes
     → new ≡ filled old (drop from (step_windows d bytes)) → n ≡ length (step_windows d bytes) → AreWindows d asked from old new (record { lo = lo; hi = hi; windows = n })

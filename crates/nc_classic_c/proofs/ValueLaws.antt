@@ -1,25 +1,10 @@
 -- Values one after another, in memory and in external form.
-use Rattle.std.proofs.Common.{◌≡◌, ℕ, ◌+◌, ◌*◌, ◌^◌, ◌<◌, ◌≤◌, List, [], ◌∷◌, ◌++◌, length, map, take, drop, set, get_or, Bool, true, false, not, cond, ltb, Option, Some, None, Ok, Err, refl, ap, sym, subst, ◌∙◌, arith}
-use Rattle.std.specs.Prelude.{position}
-use Rattle.std.specs.Int.{w32, w64, from_be_bytes}
-use Rattle.std.specs.List.{range_with_len, position_or_len}
+use Rattle.nc_classic_c.proofs.Words.{◌≡◌, ℕ, ◌+◌, ◌*◌, ◌^◌, ◌<◌, ◌≤◌, List, [], ◌∷◌, ◌++◌, length, map, take, drop, set, get_or, Bool, true, false, not, cond, ltb, Option, Some, None, Ok, Err, refl, ap, sym, subst, ◌∙◌, arith, position, w32, w64, from_be_bytes, range_with_len, position_or_len, mul-le-mul_right, lt-ltb, le-ltb, ltb-false, not-false, flat_map-append, append-nil, get_or-drop, get_or-map, get_or-take, length-map, map-append, take_more, take_more_set, get_or-map-range_with_len, length-map-range_with_len, map-range_with_len_more, position_or_len_is, fails_before_first, take-put_mid, NcType, Float, Double, Value, size_of, fits, ext, val, ext_long, first_out, if_length, is_length, pack, packed, patterns, values_of}
 use borrow.Rule.Slice.PartMut.{put_mid}
-use Rattle.std.proofs.Math.Nat.{mul-le-mul_right}
-use Rattle.std.proofs.lemmas.Bool.{lt-ltb, le-ltb, ltb-false, not-false}
-use Rattle.std.proofs.lemmas.Grind.{flat_map-append}
-use Rattle.std.proofs.lemmas.List.{append-nil, get_or-drop, get_or-map, get_or-take, length-map, map-append, take_more, take_more_set}
-use Rattle.std.proofs.lemmas.List.FromFn.{get_or-map-range_with_len, length-map-range_with_len, map-range_with_len_more}
-use Rattle.std.proofs.lemmas.List.Sums.{position_or_len_is, fails_before_first}
-use Rattle.std.proofs.lemmas.Slice.{take-put_mid}
-use Rattle.nc_base.specs.declared.header.NcType.{NcType}
-use Rattle.nc_base.specs.declared.header.NcType.TheVariants.{Float, Double}
-use Rattle.nc_base.specs.declared.request.Value.{Value}
 use Rattle.nc_base.specs.declared.request.Value.TheVariants as value
-use Rattle.serial_spec.specs.ExternalForm.{size_of, fits, ext, val}
-use Rattle.serial_spec.proofs.ValueLaws.{ext_long}
 use Rattle.nc_base.specs.declared.answer.Code.TheVariants as code
 use Rattle.nc_classic_c.specs.declared.answers.Refusal.TheVariants as refusal
-use Rattle.nc_classic_c.specs.Values.{first_out, if_length, in_range, is_length, pack, packed, patterns, values_of}
+use Rattle.nc_classic_c.specs.Values.{in_range}
 
 -- ---- the first value that is not in the range
 

@@ -1,6 +1,5 @@
 -- A variable that stands in the header, as C reads it.
-use Rattle.std.proofs.Common.{◌≡◌, ℕ, zero, suc, ◌<◌, List, [], ◌∷◌, length, Some, arith}
-use Rattle.std.specs.Prelude.{slice_get}
+use Rattle.nc_classic_c.proofs.Words.{◌≡◌, ℕ, zero, suc, ◌<◌, List, [], ◌∷◌, length, Some, arith, slice_get}
 
 pub there_below : {X : Type 0} (xs : List X) (k : ℕ) (x : X) → slice_get xs k ≡ Some x → k < length xs
 there_below [] k x h = absurd cc

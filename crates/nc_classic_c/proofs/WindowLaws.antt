@@ -1,27 +1,7 @@
 -- The windows of all domains, domain after domain.
-use Rattle.std.proofs.Common.{◌≡◌, ◌↔◌, ℕ, zero, suc, ◌+◌, ◌-◌, ◌/◌, ◌^◌, ◌<◌, ◌≤◌, List, [], ◌∷◌, ◌++◌, length, map, Bool, true, false, ◌&&◌, cond, inl, inr, refl, sym, ap, ◌∙◌, leb, arith, length-append}
-use Rattle.std.specs.Prelude.{filter, flat_map, nat_lt, nat_le, ◌==◌}
-use Rattle.std.specs.List.{range_with_len, enumerate_from}
-use Rattle.std.proofs.lemmas.Bool.{le-leb, leb-true}
+use Rattle.nc_classic_c.proofs.Words.{◌≡◌, ◌↔◌, ℕ, zero, suc, ◌+◌, ◌-◌, ◌/◌, ◌^◌, ◌<◌, ◌≤◌, List, [], ◌∷◌, ◌++◌, length, map, Bool, true, false, ◌&&◌, cond, inl, inr, refl, sym, ap, ◌∙◌, leb, arith, length-append, filter, flat_map, nat_lt, nat_le, ◌==◌, range_with_len, enumerate_from, le-leb, leb-true, length-map, map-map, equal_true, no_both, and_first, and_second, Extent, first_of, last_of, windows, spans, low_of, share_of, LiesIn, bytes_in, round_windows, window_told, Window, In, IsAscending, told_of, round_end, walked, filter_two, filter_ascends, first_least, last_most, windows_walked, Division, NcvWindow, end_of, is_division, numbered_windows, shown, step_windows, window_shown}
 use borrow.Author.Tests.{ltb-true, ltb-false, eqb-true}
-use Rattle.std.proofs.lemmas.List.{length-map}
-use Rattle.std.proofs.lemmas.Simd.{map-map}
-use Rattle.list_laws.proofs.Truth.{equal_true, no_both, and_first, and_second}
-use Rattle.nc_base.specs.declared.plan.Extent.{Extent}
-use Rattle.serial_spec.specs.DeviceCalls.{first_of, last_of, windows}
-use Rattle.serial_spec.specs.Extents.{spans}
-use Rattle.file_domains.specs.Domains.{low_of, share_of, LiesIn}
-use Rattle.file_domains.specs.Rounds.{bytes_in, round_windows, window_told}
-use Rattle.file_domains.specs.declared.walk.Window.{Window}
-use Rattle.overlay_laws.specs.Entries.{In}
-use Rattle.overlay_laws.specs.Hulls.{IsAscending}
-use Rattle.overlay_laws.specs.Walks.{told_of, round_end, walked}
-use Rattle.overlay_laws.proofs.DomainLaws.{filter_two, share}
-use Rattle.overlay_laws.proofs.HullLaws.{filter_ascends, first_least, last_most}
-use Rattle.overlay_laws.proofs.WalkLaws.{windows_walked}
-use Rattle.nc_classic_c.specs.declared.windows.Division.{Division}
-use Rattle.nc_classic_c.specs.declared.windows.NcvWindow.{NcvWindow}
-use Rattle.nc_classic_c.specs.Windows.{end_of, is_division, numbered_windows, shown, step_windows, window_shown}
+use Rattle.overlay_laws.proofs.DomainLaws.{share}
 
 -- ---- a division within its limits
 

@@ -1,13 +1,7 @@
 -- Every form ends as the words ask for.
-use Rattle.std.proofs.Common.{◌≡◌, ◌⊎◌, ◌==◌, ◌||◌, ◌∙◌, ℕ, Bool, true, false, List, [], Option, Some, None, inl, inr, refl, subst, sym, arith, eqb-true}
-use Rattle.nc_base.specs.declared.step.Mark.{Mark}
-use Rattle.ncmpi_cli.specs.Ends.{EndsAs}
-use Rattle.ncmpi_cli.specs.OffsetList.{IsOfReadHeader}
-use Rattle.ncmpi_cli.specs.Outside.{Seen}
-use Rattle.program_words.specs.Words.{Asked, run, offsets, generate}
+use Rattle.ncmpi_cli.proofs.Words.{◌≡◌, ◌⊎◌, ◌==◌, ◌||◌, ◌∙◌, ℕ, Bool, true, false, List, [], Option, Some, None, inl, inr, refl, subst, sym, arith, eqb-true, Mark, EndsAs, IsOfReadHeader, Seen, Asked, run, offsets, generate, most_taken, TakesAtMost}
 use Rattle.ncmpi_cli.proofs.CutOff.{made_unready}
 use Rattle.ncmpi_cli.proofs.Made.{made_begins_none}
-use Rattle.dataset_start.specs.Limits.{most_taken, TakesAtMost}
 
 -- nothing was taken
 takes_none : (left : Option (List ℕ)) → TakesAtMost most_taken left left

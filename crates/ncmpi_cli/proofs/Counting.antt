@@ -1,18 +1,6 @@
 -- The counts after the steps of a run are those that its watchers' lines tell.
-use Rattle.std.proofs.Common.{◌≡◌, ℕ, zero, suc, ◌+◌, ◌<◌, ◌≤◌, List, [], ◌∷◌, length, map, refl, ap, ap₂, ◌∙◌, arith}
-use Rattle.std.proofs.lemmas.List.Elements.{All-from_get_or, All-head, All-tail, All-weaker}
-use Rattle.std.specs.Prelude.{All, get_or, Option, Some, None, IfSome}
-use Rattle.std.specs.List.{enumerate_from}
-use Rattle.nc_base.specs.declared.header.Header.{Header}
-use Rattle.nc_base.specs.declared.script.Script.{Script}
-use Rattle.nc_base.specs.declared.step.Mark.{Mark}
-use Rattle.serial_spec.specs.Readings.{told_of}
-use Rattle.serial_spec.specs.SerialEnd.{count_after}
-use Rattle.ncmpi_cli.specs.Headline.{with_counts}
-use Rattle.ncmpi_cli.specs.Readings.{AreCounted, count_at, counted, pairs_of, readings_of}
-use Rattle.ncmpi_cli.specs.Watched.{AreReadings, seen_counts}
-use Rattle.ncmpi_cli.specs.declared.watched_run.RunReadings.{RunReadings}
-use Rattle.ncmpi_cli.specs.declared.watched_run.WatchedRun.{WatchedRun}
+use Rattle.ncmpi_cli.proofs.Words.{◌≡◌, ℕ, zero, suc, ◌+◌, ◌<◌, ◌≤◌, List, [], ◌∷◌, length, map, refl, ap, ap₂, ◌∙◌, arith, All-from_get_or, All-head, All-tail, All-weaker, get_or, IfSome, enumerate_from, Header, Script, Mark, told_of, count_after, with_counts, AreCounted, count_at, counted, pairs_of, readings_of, AreReadings, seen_counts, RunReadings, WatchedRun}
+use Rattle.std.specs.Prelude.{All, Option, Some, None}
 
 -- the k-th of the numbers that a function gives for the places of a list
 place : {A : Type 0} (count : ℕ → ℕ) (xs : List A) (n k d : ℕ) → k < length xs

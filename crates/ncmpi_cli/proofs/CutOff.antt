@@ -1,26 +1,7 @@
 -- A run that a fault cut off.
-use Rattle.std.proofs.Common.{◌≡◌, ℕ, ◌==◌, true, List, [], length, Option, Some, None, inl, inr, sym, ap, subst, ◌∙◌}
-use Rattle.std.specs.Prelude.{IfSome}
-use Rattle.nc_base.specs.declared.header.Header.{Header}
-use Rattle.nc_base.specs.declared.run.RunEnd.{RunEnd}
-use Rattle.nc_base.specs.declared.script.Script.{Script}
-use Rattle.nc_base.specs.declared.step.DiskCall.{DiskCall}
-use Rattle.nc_base.specs.declared.step.Mark.{Mark}
-use Rattle.nc_base.specs.declared.step.StepErr.{StepErr}
-use Rattle.nc_outside.specs.Told.{after, BothTold}
-use Rattle.serial_spec.specs.Torn.{IsCutRun}
-use Rattle.rank_meeting.specs.Begun.{HasBegun}
-use Rattle.rank_meeting.specs.Run.{HasCut}
-use Rattle.ncmpi_cli.specs.Faults.{IsCutFile, IsMadeUnready, MadeCutOff, WasCutOff}
-use Rattle.ncmpi_cli.specs.Generated.{script_made}
-use Rattle.ncmpi_cli.specs.Headline.{file_at_start}
-use Rattle.ncmpi_cli.specs.Outside.{Output, Seen}
-use Rattle.dataset_start.specs.Dataset.{Asks, created_header}
-use Rattle.dataset_start.specs.Readiness.{IsNotReady, IsReady, IsUnready}
+use Rattle.ncmpi_cli.proofs.Words.{◌≡◌, ℕ, ◌==◌, true, List, [], length, Option, Some, None, inl, inr, sym, ap, subst, ◌∙◌, IfSome, Header, RunEnd, Script, DiskCall, Mark, StepErr, after, BothTold, IsCutRun, HasBegun, HasCut, IsCutFile, IsMadeUnready, MadeCutOff, WasCutOff, script_made, file_at_start, Output, Seen, Asks, created_header, IsNotReady, IsReady, IsUnready, not_laid, header-kept}
 use Rattle.ncmpi_cli.proofs.Made.{made_alone, made_fresh}
-use Rattle.dataset_start.proofs.NotReady.{not_laid}
 use Rattle.ncmpi_cli.proofs.Ran.{at_start, have_begun}
-use Rattle.dataset_start.proofs.ReadyLaws.{header-kept}
 
 -- the file, where it is told
 pub cut_file : (fault : StepErr) (script : Script) (header : Header) (held held_mid held_now : Option (List ℕ)) (calls calls_mid : Option (List DiskCall))

@@ -1,13 +1,5 @@
 -- How a list of offsets ends.
-use Rattle.std.proofs.Common.{◌≡◌, ℕ, List, Option, Some, None, inl, inr, ◌⊎◌, refl, arith}
-use Rattle.std.specs.Prelude.{IfSome}
-use Rattle.nc_base.specs.declared.errors.HeaderErr.{HeaderErr}
-use Rattle.serial_spec.specs.HeaderFaults.{HasFault}
-use Rattle.script_spec.specs.Texts.{header_line}
-use Rattle.dataset_start.specs.Dataset.{front, TellsHeader}
-use Rattle.ncmpi_cli.specs.OffsetList.{IsFaultyFront, IsSoundFront}
-use Rattle.dataset_start.specs.Stops.{IsOfHeader, line_of, status_of}
-use Rattle.dataset_start.specs.declared.stop.Stop.{Stop}
+use Rattle.ncmpi_cli.proofs.Words.{◌≡◌, ℕ, List, Option, Some, None, inl, inr, ◌⊎◌, refl, arith, IfSome, HeaderErr, HasFault, header_line, front, TellsHeader, IsFaultyFront, IsSoundFront, IsOfHeader, line_of, status_of, Stop}
 use Rattle.dataset_start.specs.declared.stop.Stop.TheVariants as stops
 
 module _ (held : Option (List ℕ)) where

@@ -1,37 +1,8 @@
 -- A run of a made script.
-use Rattle.std.proofs.Common.{◌≡◌, ℕ, ◌≤◌, true, List, [], length, Option, Some, None, inl, inr, ◌⊎◌, refl, sym, ap, ap₂, subst, ◌∙◌, arith}
-use Rattle.std.proofs.lemmas.Option.{IfSome_then}
-use Rattle.std.specs.Prelude.{IfSome, ◌==◌, Result, Ok, Err, IfErr, IsErrAnd}
-use Rattle.nc_base.specs.declared.answer.Answer.{Answer}
-use Rattle.nc_base.specs.declared.errors.LayoutErr.{LayoutErr}
-use Rattle.nc_base.specs.declared.header.Header.{Header}
-use Rattle.nc_base.specs.declared.run.RunEnd.{RunEnd}
-use Rattle.nc_base.specs.declared.script.Script.{Script}
-use Rattle.nc_base.specs.declared.step.DiskCall.{DiskCall}
-use Rattle.nc_base.specs.declared.step.Mark.{Mark}
-use Rattle.nc_outside.specs.Told.{after, with_end}
-use Rattle.serial_spec.specs.DeviceCalls.{all_calls, run_calls}
-use Rattle.serial_spec.specs.History.{IsLegal}
-use Rattle.serial_spec.specs.Redefinition.{layout_fault}
-use Rattle.serial_spec.specs.SerialEnd.{End, serial, serial_from}
-use Rattle.join_laws.specs.Alike.{AreAlikeEnds}
-use Rattle.rank_meeting.specs.Begun.{HasBegun}
-use Rattle.rank_meeting.specs.Run.{IsRun}
-use Rattle.turn_run.specs.Known.{seen}
-use Rattle.script_spec.specs.Generator.{has_counts, made_script, summary_text}
-use Rattle.script_spec.specs.Texts.{header_line, layout_line, redef_line}
-use Rattle.generated_run.proofs.LawfulLaws.{made_counted, made_lawful}
-use Rattle.generated_run.proofs.MadeLaws.{made_laid}
-use Rattle.ncmpi_cli.specs.Generated.{IsMadeStatus, new_end, RanMade, script_made, summed}
-use Rattle.ncmpi_cli.specs.Headline.{end_of_run, file_at_start}
-use Rattle.ncmpi_cli.specs.Outside.{Output}
-use Rattle.dataset_start.specs.Dataset.{align_of, created_header, IsKept, TellsDataset}
-use Rattle.dataset_start.specs.Readiness.{IsReady}
-use Rattle.dataset_start.specs.Stops.{IsOfDataset, line_of, status_of}
-use Rattle.dataset_start.specs.declared.stop.Stop.{Stop}
+use Rattle.ncmpi_cli.proofs.Words.{◌≡◌, ℕ, ◌≤◌, true, List, [], length, Option, Some, None, inl, inr, ◌⊎◌, refl, sym, ap, ap₂, subst, ◌∙◌, arith, IfSome_then, IfSome, Result, Ok, Err, IfErr, IsErrAnd, Answer, LayoutErr, Header, RunEnd, Script, DiskCall, Mark, after, with_end, all_calls, run_calls, IsLegal, layout_fault, End, serial, serial_from, AreAlikeEnds, HasBegun, IsRun, seen, has_counts, made_script, summary_text, header_line, layout_line, redef_line, made_counted, made_lawful, made_laid, IsMadeStatus, new_end, RanMade, script_made, summed, end_of_run, file_at_start, Output, align_of, created_header, IsKept, TellsDataset, IsReady, IsOfDataset, line_of, status_of, Stop, file-kept, header-kept}
+use Rattle.std.specs.Prelude.{◌==◌}
 use Rattle.dataset_start.specs.declared.stop.Stop.TheVariants as stops
 use Rattle.ncmpi_cli.proofs.Ran.{all_told, any_end, at_start, if_any, told_end}
-use Rattle.dataset_start.proofs.ReadyLaws.{file-kept, header-kept}
 
 -- ---- what is so of the script
 

@@ -1,24 +1,5 @@
 -- What is done of a script is a run that ended well.
-use Rattle.std.proofs.Common.{◌≡◌, ℕ, List, [], ◌++◌, map, Option, Some, None, refl, sym, ap, subst, ◌∙◌}
-use Rattle.std.specs.Prelude.{IfSome}
-use Rattle.nc_base.specs.declared.answer.Answer.{Answer}
-use Rattle.nc_base.specs.declared.header.Header.{Header}
-use Rattle.nc_base.specs.declared.run.RunEnd.{RunEnd}
-use Rattle.nc_base.specs.declared.script.Script.{Script}
-use Rattle.nc_base.specs.declared.step.DiskCall.{DiskCall}
-use Rattle.nc_base.specs.declared.step.Mark.{Mark}
-use Rattle.nc_outside.specs.Told.{after, with_end}
-use Rattle.serial_spec.specs.DeviceCalls.{all_calls, run_calls}
-use Rattle.serial_spec.specs.SerialEnd.{End, serial_from}
-use Rattle.script_spec.specs.Texts.{run_text, watch_text}
-use Rattle.rank_meeting.specs.Begun.{HasBegun}
-use Rattle.rank_meeting.specs.Run.{IsRun}
-use Rattle.join_laws.specs.Alike.{AreAlikeEnds}
-use Rattle.turn_run.specs.Known.{seen, DiskSeen}
-use Rattle.ncmpi_cli.specs.Headline.{file_at_start, HaveBegun, Ran, text_of, watched_text, with_counts}
-use Rattle.ncmpi_cli.specs.Outside.{Seen}
-use Rattle.dataset_start.specs.Dataset.{Asks}
-use Rattle.dataset_start.specs.Readiness.{first_calls, IsReady}
+use Rattle.ncmpi_cli.proofs.Words.{◌≡◌, ℕ, List, [], ◌++◌, map, Option, Some, None, refl, sym, ap, subst, ◌∙◌, IfSome, Answer, Header, RunEnd, Script, DiskCall, Mark, after, with_end, all_calls, run_calls, End, serial_from, run_text, watch_text, HasBegun, IsRun, AreAlikeEnds, seen, DiskSeen, file_at_start, HaveBegun, Ran, text_of, watched_text, with_counts, Seen, Asks, first_calls, IsReady}
 
 -- ---- a file that is told
 

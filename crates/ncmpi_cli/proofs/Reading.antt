@@ -1,17 +1,7 @@
 -- What the watchers of a run read, by how it ended.
-use Rattle.std.proofs.Common.{◌≡◌, ℕ, true, false, List, [], length, Option, Some, None, inl, inr, ◌⊎◌, sym, ap, subst, ◌∙◌, arith}
-use Rattle.std.proofs.lemmas.List.Elements.{All-nil}
-use Rattle.std.specs.Prelude.{All, IfSome, IsSome}
-use Rattle.nc_base.specs.declared.step.Mark.{Mark}
-use Rattle.ncmpi_cli.specs.Ends.{HasReadings, watchers_of}
-use Rattle.ncmpi_cli.specs.Headline.{GivesText}
-use Rattle.ncmpi_cli.specs.Readings.{readings_of}
-use Rattle.dataset_start.specs.Stops.{status_of}
-use Rattle.ncmpi_cli.specs.Watched.{AreReadings}
-use Rattle.program_words.specs.Words.{Asked}
-use Rattle.dataset_start.specs.declared.stop.Stop.{Stop}
+use Rattle.ncmpi_cli.proofs.Words.{◌≡◌, ℕ, true, false, List, [], length, Option, Some, None, inl, inr, ◌⊎◌, sym, ap, subst, ◌∙◌, arith, All-nil, IfSome, IsSome, Mark, HasReadings, watchers_of, GivesText, readings_of, status_of, AreReadings, Asked, Stop, RunReadings}
+use Rattle.std.specs.Prelude.{All}
 use Rattle.dataset_start.specs.declared.stop.Stop.TheVariants as stops
-use Rattle.ncmpi_cli.specs.declared.watched_run.RunReadings.{RunReadings}
 
 -- ---- where no text is given
 

@@ -1,19 +1,6 @@
 -- What the top call tells, by how a run ended.
-use Rattle.std.proofs.Common.{◌≡◌, ℕ, Bool, true, false, List, Option, Some, None, inl, inr, ◌⊎◌, refl, sym, ap, subst, ◌∙◌, arith}
-use Rattle.std.specs.Prelude.{IfSome, IsSomeAnd, Result}
-use Rattle.nc_base.specs.declared.errors.LayoutErr.{LayoutErr}
-use Rattle.nc_base.specs.declared.errors.ScriptErr.{ScriptErr}
-use Rattle.nc_base.specs.declared.script.Script.{Script}
-use Rattle.script_spec.specs.ScriptGrammar.{fault_of, script_fault, Reads}
-use Rattle.script_spec.specs.Texts.{script_line}
-use Rattle.ncmpi_cli.specs.Generated.{IsMadeStatus}
-use Rattle.dataset_start.specs.Dataset.{creation_fault, Asks, AsksFor, AsksForBadLayout, IsBadDataset, IsFaultyFile, IsFaultyText, IsLaid, IsRight, IsSoundFile, IsWrong, TellsDataset, TellsHeader, TellsRedefinition, TellsScript}
-use Rattle.dataset_start.specs.Readiness.{IsFaultless}
-use Rattle.dataset_start.specs.Stops.{line_of, status_of}
-use Rattle.dataset_start.specs.declared.stop.Stop.{Stop}
+use Rattle.ncmpi_cli.proofs.Words.{◌≡◌, ℕ, Bool, true, false, List, Option, Some, None, inl, inr, ◌⊎◌, refl, sym, ap, subst, ◌∙◌, arith, IfSome, IsSomeAnd, Result, LayoutErr, ScriptErr, Script, fault_of, script_fault, Reads, script_line, IsMadeStatus, creation_fault, Asks, AsksFor, AsksForBadLayout, IsBadDataset, IsFaultyFile, IsFaultyText, IsLaid, IsRight, IsSoundFile, IsWrong, TellsDataset, TellsHeader, TellsRedefinition, TellsScript, IsFaultless, line_of, status_of, Stop, laid-mislaid, of_bad_layout, same_script, some_not_none, if_some_at}
 use Rattle.dataset_start.specs.declared.stop.Stop.TheVariants as stops
-use Rattle.dataset_start.proofs.ReadyLaws.{laid-mislaid, of_bad_layout, same_script}
-use Rattle.list_laws.proofs.Optional.{some_not_none, if_some_at}
 
 -- ---- a text that is read has no fault
 

@@ -1,13 +1,5 @@
 -- One list of readings more, and how much was told.
-use Rattle.std.proofs.Common.{◌≡◌, ◌++◌, ◌∷◌, [], ℕ, List, All, Option, Some, length, map, sym, ap, ◌∙◌}
-use Rattle.std.specs.Prelude.{unwrap_or}
-use Rattle.std.proofs.lemmas.List.{length-map}
-use Rattle.std.proofs.lemmas.List.Elements.{All-push}
-use Rattle.nc_base.specs.declared.header.Header.{Header}
-use Rattle.nc_base.specs.declared.script.Script.{Script}
-use Rattle.nc_base.specs.declared.step.Mark.{Mark}
-use Rattle.turn_run.specs.Told.{HasTold}
-use Rattle.ncmpi_cli.specs.Watched.{AreReadings}
+use Rattle.ncmpi_cli.proofs.Words.{◌≡◌, ◌++◌, ◌∷◌, [], ℕ, List, All, Option, Some, length, map, sym, ap, ◌∙◌, unwrap_or, length-map, All-push, Header, Script, Mark, HasTold, AreReadings}
 
 pub readings_push : (told : ℕ) (table : List (List ℕ)) (numbers : List ℕ) → All (AreReadings told) table → AreReadings told numbers → All (AreReadings told) (table ++ numbers ∷ [])
 readings_push told = All-push (AreReadings told)

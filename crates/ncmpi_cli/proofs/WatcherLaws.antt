@@ -1,8 +1,6 @@
 -- The lines of one watcher more.
-use Rattle.std.proofs.Common.{◌≡◌, ℕ, zero, suc, ◌+◌, ◌<◌, List, [], ◌∷◌, ◌++◌, length, map, take, get_or, sym, ap, ◌∙◌, arith}
-use Rattle.std.proofs.lemmas.List.{append-nil, append_assoc}
-use Rattle.std.specs.List.{enumerate_from, flat_map}
-use Rattle.script_spec.specs.Texts.{watch_text, watcher_lines}
+use Rattle.ncmpi_cli.proofs.Words.{◌≡◌, ℕ, zero, suc, ◌+◌, ◌<◌, List, [], ◌∷◌, ◌++◌, length, map, take, sym, ap, ◌∙◌, arith, append-nil, append_assoc, enumerate_from, flat_map, watch_text, watcher_lines}
+use Rattle.std.proofs.Common.{get_or}
 
 abbrev lines_from : ℕ → List (List (ℕ × ℕ)) → List ℕ
 lines_from n readings = flat_map watcher_lines (enumerate_from n readings)

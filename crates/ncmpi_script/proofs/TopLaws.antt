@@ -1,15 +1,7 @@
 -- A whole script is what the definitions say.
-use Rattle.std.proofs.Common.{◌≡◌, ◌∙◌, ℕ, List, [], ◌∷◌, Result, Err, Bool, true, false, nat_lt, ◌==◌, ◌+◌, length, take, refl, ap}
-use Rattle.std.specs.Str.Lossy.{utf8_valid_len}
-use Rattle.nc_base.specs.declared.errors.ScriptErr.{ScriptErr}
+use Rattle.ncmpi_script.proofs.Words.{◌≡◌, ◌∙◌, ℕ, List, [], ◌∷◌, Result, Err, Bool, true, false, nat_lt, ◌==◌, ◌+◌, length, take, refl, ap, utf8_valid_len, ScriptErr, Script, Line, Word, Known, Called, call_step, definition_step, script_of_lines, script_of_text, without_head, most_bytes, newlines, head_by, known_by, definition_by, called_by, call_by, definitions_by, data_part_by, finish_by, made_by, end_by, calls_by, rest_by, headed_by, lines_by, utf8_by, text_by}
 use Rattle.nc_base.specs.declared.errors.LimitName.TheVariants as limit
-use Rattle.nc_base.specs.declared.script.Script.{Script}
 use Rattle.nc_base.specs.declared.errors.ScriptKind.TheVariants as kind
-use Rattle.script_spec.specs.ScriptWords.{Line, Word}
-use Rattle.script_spec.specs.ScriptDefinitions.{Known}
-use Rattle.script_spec.specs.ScriptCalls.{Called}
-use Rattle.script_spec.specs.ScriptGrammar.{call_step, definition_step, script_of_lines, script_of_text, without_head, most_bytes, newlines}
-use Rattle.ncmpi_script.specs.TopWords.{head_by, known_by, definition_by, called_by, call_by, definitions_by, data_part_by, finish_by, made_by, end_by, calls_by, rest_by, headed_by, lines_by, utf8_by, text_by}
 
 pub same_definition : (version : ℕ) (known : Known) (w : Word) (ws : List Word) → definition_by version known w ws ≡ definition_step version known w ws
 unfolding known_by definition_by

@@ -1,16 +1,5 @@
 -- Calls one after another: those so far, and those that are left.
-use Rattle.std.proofs.Common.{◌≡◌, ℕ, ◌+◌, ◌-◌, ◌*◌, ◌≤◌, min, sym, ◌∙◌, ap, subst, List, [], ◌∷◌, ◌++◌, map, append_assoc, arith}
-use Rattle.std.specs.List.{range_with_len}
-use Rattle.std.proofs.lemmas.Grind.{flat_map-append}
-use Rattle.std.proofs.lemmas.List.{append-nil, map-append}
-use Rattle.list_laws.proofs.Ranges.{range_append}
-use Rattle.nc_base.specs.declared.step.DiskCall.{DiskCall}
-use Rattle.nc_base.specs.declared.step.DiskCall.TheVariants.{Store}
-use Rattle.serial_spec.specs.DeviceCalls.{Slab, stores}
-use Rattle.overlay_laws.proofs.WindowCounts.{stores_before}
-use Rattle.redef_mover.specs.declared.slabs.Shift.{Shift}
-use Rattle.redef_mover.specs.Moves.{all_calls, further, gap_calls, slab_of, AreSpaced}
-use Rattle.redef_mover.proofs.MovesLaws.{called_append}
+use Rattle.opening_plan.proofs.Words.{◌≡◌, ℕ, ◌+◌, ◌-◌, ◌*◌, ◌≤◌, min, sym, ◌∙◌, ap, subst, List, [], ◌∷◌, ◌++◌, map, append_assoc, arith, range_with_len, flat_map-append, append-nil, map-append, range_append, DiskCall, Store, Slab, stores, stores_before, Shift, all_calls, further, gap_calls, slab_of, AreSpaced, called_append}
 
 -- ---- so far
 

@@ -1,2 +1,3 @@
+mod Words
 pub mod CallLaws
 pub mod OpeningLaws

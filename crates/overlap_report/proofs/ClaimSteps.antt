@@ -1,31 +1,9 @@
 -- The claims of a heap, as entries.
-use Rattle.std.proofs.Common.{◌≡◌, ℕ, zero, suc, ◌+◌, ◌-◌, ◌<◌, ◌≤◌, refl, sym, ◌∙◌, ap, subst, inl, inr, List, [], ◌∷◌, ◌++◌, take, drop, get_or, length, Bool, true, false, Option, Some, None, slice_get, nat_cmp, is_lt, Bor, ◌^◌, arith}
-use Rattle.std.specs.Prelude.{nat_lt}
-use Rattle.std.specs.BinaryHeap.{IsHeap, IsUpperBound, PopsGreatest}
-use Rattle.std.specs.Slice.{IsItemAt}
-use Rattle.std.specs.Option.{option_copied}
-use Rattle.std.specs.Prelude.{IfSome, IfNone, MatchOption}
-use Rattle.std.specs.List.Sorted.{IsPermutation}
-use Rattle.std.specs.Ordering.{ordering_then}
-use Rattle.std.specs.declared.cmp.Ordering.{Ordering}
-use Rattle.std.specs.declared.cmp.Ordering.TheVariants.{Less, Equal}
-use Rattle.std.proofs.lemmas.Bool.Decides.{nat_tests}
+use Rattle.overlap_report.proofs.Words.{◌≡◌, ℕ, zero, suc, ◌+◌, ◌-◌, ◌<◌, ◌≤◌, refl, sym, ◌∙◌, ap, subst, inl, inr, List, [], ◌∷◌, ◌++◌, take, drop, get_or, length, Bool, true, false, Option, Some, None, slice_get, nat_cmp, is_lt, Bor, ◌^◌, arith, nat_lt, IsHeap, IsUpperBound, PopsGreatest, IsItemAt, option_copied, IfSome, IfNone, MatchOption, IsPermutation, ordering_then, Ordering, Less, Equal, nat_tests, Owned, In, same_permuted, in_extents, Claim, IsPartOfOne, owned_of, entries_of, part_of, claim_cmp, AreFit, StandsBy, Swept, IsTop, take_all, lt-ltb, Extent, extents, IsByPlace, EndBelow, origins, IsOnceEach, IsResolved, same_Some}
 use borrow.Author.Tests.{ltb-true, ltb-false}
-use Rattle.nc_base.specs.declared.plan.Owned.{Owned}
-use Rattle.overlay_laws.specs.Entries.{In}
-use Rattle.overlay_laws.proofs.EntryLaws.{same_permuted, in_extents}
-use Rattle.overlap_report.specs.declared.serial.Claim.{Claim}
-use Rattle.overlap_report.specs.Parts.{IsPartOfOne}
-use Rattle.overlap_report.specs.Sweep.{owned_of, entries_of, part_of, claim_cmp, AreFit, StandsBy, Swept, IsTop}
 use Rattle.overlap_report.proofs.SweepSteps.{swept_empty, swept_without, swept_part, swept_more}
 use Rattle.overlap_report.proofs.OriginSteps.{resolved_by}
 use Rattle.overlap_report.proofs.KeySteps.{IsNext}
-use Rattle.std.proofs.lemmas.List.{take_all}
-use Rattle.std.proofs.lemmas.Bool.{lt-ltb}
-use Rattle.nc_base.specs.declared.plan.Extent.{Extent}
-use Rattle.overlay_laws.specs.Lines.{extents, IsByPlace, EndBelow}
-use Rattle.overlay_laws.specs.Origins.{origins, IsOnceEach, IsResolved}
-use Rattle.std.proofs.lemmas.Option.{same_Some}
 
 in_entries : (cs : List Claim) (c : Claim) → In cs c → In (entries_of cs) (owned_of c)
 in_entries [] c m = absurd m

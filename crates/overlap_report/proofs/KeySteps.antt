@@ -1,18 +1,5 @@
 -- Requests that are the same or not, and entries among the first of a list.
-use Rattle.std.proofs.Common.{◌≡◌, ℕ, zero, suc, ◌+◌, ◌-◌, ◌<◌, ◌≤◌, ◌⊎◌, refl, sym, ◌∙◌, ap, subst, inl, inr, List, [], ◌∷◌, ◌++◌, length, take, get_or, Bool, true, false, arith}
-use Rattle.std.proofs.lemmas.Bool.Decides.{nat_tests}
-use Rattle.std.proofs.lemmas.List.{take_more, take_all, map-append, get_or_default}
-use Rattle.overlay_laws.proofs.Members.{entry_in}
-use Rattle.serial_spec.proofs.KeyLaws.{key_itself}
-use Rattle.nc_base.specs.declared.plan.Extent.{Extent}
-use Rattle.nc_base.specs.declared.plan.Owned.{Owned}
-use Rattle.serial_spec.specs.SharedByte.{Key, same_key, key_below}
-use Rattle.overlay_laws.specs.Entries.{In}
-use Rattle.overlay_laws.specs.Lines.{extents, IsByPlace, EndBelow}
-use Rattle.overlay_laws.proofs.HullLaws.{in_either, in_left, in_right}
-use Rattle.overlay_laws.proofs.HolderLaws.{same_keys, keys_same}
-use Rattle.overlay_laws.proofs.EntryLaws.{in_extents}
-use Rattle.list_laws.proofs.Truth.{no_both}
+use Rattle.overlap_report.proofs.Words.{◌≡◌, ℕ, zero, suc, ◌+◌, ◌-◌, ◌<◌, ◌≤◌, ◌⊎◌, refl, sym, ◌∙◌, ap, subst, inl, inr, List, [], ◌∷◌, ◌++◌, length, take, get_or, Bool, true, false, arith, nat_tests, take_more, take_all, map-append, get_or_default, entry_in, key_itself, Extent, Owned, Key, same_key, key_below, In, extents, IsByPlace, EndBelow, in_either, in_left, in_right, same_keys, keys_same, in_extents, no_both}
 
 -- ---- keys
 

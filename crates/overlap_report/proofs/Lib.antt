@@ -1,3 +1,4 @@
+mod Words
 mod CoverSteps
 mod OrderSteps
 pub mod KeySteps

@@ -1,17 +1,6 @@
 -- What entries say of a byte, as origins.
-use Rattle.std.proofs.Common.{◌≡◌, ℕ, zero, suc, ◌+◌, ◌-◌, ◌^◌, ◌<◌, ◌≤◌, ◌⊎◌, refl, sym, ◌∙◌, ap, subst, inl, inr, List, [], ◌∷◌, ◌++◌, map, Bool, true, false, arith}
-use Rattle.std.proofs.lemmas.Bool.Decides.{nat_tests}
-use Rattle.std.specs.Prelude.{◌==◌}
-use Rattle.std.specs.List.{range_with_len, enumerate_from}
+use Rattle.overlap_report.proofs.Words.{◌≡◌, ℕ, zero, suc, ◌+◌, ◌-◌, ◌^◌, ◌<◌, ◌≤◌, ◌⊎◌, refl, sym, ◌∙◌, ap, subst, inl, inr, List, [], ◌∷◌, ◌++◌, map, Bool, true, false, arith, nat_tests, ◌==◌, range_with_len, enumerate_from, Owned, Says, In, Origin, origins_of, origins, AtMost, IsGreatest, IsResolved, IsOnceEach, says_left, says_right, says_cases, greatest_once, Covers, Winner, StandsBy}
 use borrow.Author.Tests.{eqb-true}
-use Rattle.nc_base.specs.declared.plan.Owned.{Owned}
-use Rattle.serial_spec.specs.Said.{Says}
-use Rattle.overlay_laws.specs.Entries.{In}
-use Rattle.overlay_laws.specs.Origins.{Origin, origins_of, origins, AtMost, IsGreatest, IsResolved, IsOnceEach}
-use Rattle.overlay_laws.proofs.EntryLaws.{says_left, says_right, says_cases}
-use Rattle.overlay_laws.proofs.OriginLaws.{greatest_once}
-use Rattle.overlap_report.specs.SharedBytes.{Covers}
-use Rattle.overlap_report.specs.Sweep.{Winner, StandsBy}
 
 abbrev pub origin_at : Owned → ℕ → Origin
 origin_at o x = (o.rank, o.slot, o.from + (x - o.extent.at))

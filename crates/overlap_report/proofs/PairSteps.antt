@@ -1,15 +1,5 @@
 -- The two least requests of the entries so far that hold a byte.
-use Rattle.std.proofs.Common.{◌≡◌, ℕ, ◌≤◌, ◌⊎◌, refl, sym, ◌∙◌, ap, subst, inl, inr, List, length, take, Bool, true, false, cond}
-use Rattle.std.proofs.lemmas.List.{take_all}
-use Rattle.serial_spec.proofs.KeyLaws.{key_equal}
-use Rattle.serial_spec.proofs.PairLaws.{below_through}
-use Rattle.nc_base.specs.declared.plan.Owned.{Owned}
-use Rattle.serial_spec.specs.SharedByte.{Key, same_key, key_below}
-use Rattle.overlap_report.specs.declared.holders.Request.{Request}
-use Rattle.overlap_report.specs.declared.holders.Least.{Least}
-use Rattle.overlap_report.specs.declared.holders.Least.TheVariants.{Nobody, One, Two}
-use Rattle.overlap_report.specs.SharedBytes.{key_of, Covers, IsClearAt, HasHolder}
-use Rattle.overlap_report.specs.Holders.{key, with_key, AreLeast}
+use Rattle.overlap_report.proofs.Words.{◌≡◌, ℕ, ◌≤◌, ◌⊎◌, refl, sym, ◌∙◌, ap, subst, inl, inr, List, length, take, Bool, true, false, cond, take_all, key_equal, below_through, Owned, Key, same_key, key_below, Request, Least, Nobody, One, Two, key_of, Covers, IsClearAt, HasHolder, key, with_key, AreLeast}
 use Rattle.overlap_report.proofs.KeySteps.{equal_key, below_or_above, IsNext}
 
 kept : (seen more : List Owned) (o : Owned) (k : Key) (x : ℕ) → IsNext seen more o → HasHolder seen k x → HasHolder more k x

@@ -1,24 +1,7 @@
 -- How far the entries so far reach, and the first byte that two requests hold.
-use Rattle.std.proofs.Common.{◌≡◌, ℕ, ◌+◌, ◌-◌, ◌<◌, ◌≤◌, ◌⊎◌, refl, sym, ◌∙◌, ap, subst, inl, inr, List, length, take, get_or, Bool, true, false, cond, max, Option, Some, None, arith}
-use Rattle.std.specs.Prelude.{nat_lt, MatchOption}
-use Rattle.std.specs.List.{range_with_len}
-use Rattle.std.proofs.lemmas.List.{take_all}
+use Rattle.overlap_report.proofs.Words.{◌≡◌, ℕ, ◌+◌, ◌-◌, ◌<◌, ◌≤◌, ◌⊎◌, refl, sym, ◌∙◌, ap, subst, inl, inr, List, length, take, get_or, Bool, true, false, cond, max, Option, Some, None, arith, nat_lt, MatchOption, range_with_len, take_all, entry_in, in_taken, Owned, Pair, Key, same_key, key_below, Holds, holdings_of_entries, shared_pair_of, first_end, second_end, key_itself, key_equal, pair_found, pair_only, In, extents, IsByPlace, in_range, range_low, range_high, holds_by, holder_of, Reach, key_of, Covers, IsClearAt, AreTwo, IsFirst, HasHolder, ArePairAt, same_as, with_entry, no_both}
 use borrow.Author.Tests.{ltb-true, ltb-false}
-use Rattle.overlay_laws.proofs.Members.{entry_in, in_taken}
-use Rattle.nc_base.specs.declared.plan.Owned.{Owned}
-use Rattle.nc_base.specs.declared.answer.Pair.{Pair}
-use Rattle.serial_spec.specs.SharedByte.{Key, same_key, key_below, Holds, holdings_of_entries, shared_pair_of, first_end, second_end}
-use Rattle.serial_spec.proofs.KeyLaws.{key_itself, key_equal}
-use Rattle.serial_spec.proofs.PairLaws.{pair_found, pair_only}
-use Rattle.overlay_laws.specs.Entries.{In}
-use Rattle.overlay_laws.specs.Lines.{extents, IsByPlace}
-use Rattle.overlay_laws.proofs.HullLaws.{in_range, range_low, range_high}
-use Rattle.overlay_laws.proofs.HolderLaws.{holds_by, holder_of}
-use Rattle.overlap_report.specs.declared.shared.Reach.{Reach}
-use Rattle.overlap_report.specs.SharedBytes.{key_of, Covers, IsClearAt, AreTwo, IsFirst, HasHolder, ArePairAt}
-use Rattle.overlap_report.specs.Reach.{same_as, with_entry}
 use Rattle.overlap_report.proofs.KeySteps.{key_back, key_meet, key_apart, key_apart_back, equal_key, not_below_itself, IsNext, before_next, at_or_before}
-use Rattle.list_laws.proofs.Truth.{no_both}
 
 -- an entry that ends there, of the request or not
 pub record EndsAt (seen : List Owned) (r : Reach) (n : ℕ) (same : Bool) : Type 0 where

@@ -1,15 +1,6 @@
 -- One step of the sweep.
-use Rattle.std.proofs.Common.{◌≡◌, ℕ, ◌+◌, ◌-◌, ◌<◌, ◌≤◌, refl, sym, ap, subst, inl, inr, List, [], ◌∷◌, ◌++◌, Bool, true, false, arith}
-use Rattle.std.specs.Prelude.{nat_lt}
+use Rattle.overlap_report.proofs.Words.{◌≡◌, ℕ, ◌+◌, ◌-◌, ◌<◌, ◌≤◌, refl, sym, ap, subst, inl, inr, List, [], ◌∷◌, ◌++◌, Bool, true, false, arith, nat_lt, Extent, Owned, In, extents, IsInLine, in_either, in_left, in_right, IsPartOf, IsPartOfOne, Covers, part_of, StandsBy, Winner, Swept}
 use borrow.Author.Tests.{ltb-true, ltb-false}
-use Rattle.nc_base.specs.declared.plan.Extent.{Extent}
-use Rattle.nc_base.specs.declared.plan.Owned.{Owned}
-use Rattle.overlay_laws.specs.Entries.{In}
-use Rattle.overlay_laws.specs.Lines.{extents, IsInLine}
-use Rattle.overlay_laws.proofs.HullLaws.{in_either, in_left, in_right}
-use Rattle.overlap_report.specs.Parts.{IsPartOf, IsPartOfOne}
-use Rattle.overlap_report.specs.SharedBytes.{Covers}
-use Rattle.overlap_report.specs.Sweep.{part_of, StandsBy, Winner, Swept}
 use Rattle.overlap_report.proofs.KeySteps.{IsNext}
 
 -- ---- nothing goes on

@@ -1,7 +1,5 @@
 -- Files between an old and a new one.
-use Rattle.std.proofs.Common.{◌≡◌, ◌∙◌, ℕ, List, inl, inr, ◌⊎◌}
-use Rattle.serial_spec.specs.File.{at}
-use Rattle.overlay_laws.specs.Changes.{IsBetween}
+use Rattle.overlay_laws.proofs.Words.{◌≡◌, ◌∙◌, ℕ, List, inl, inr, ◌⊎◌, at, IsBetween}
 
 pub between_next : (old whole mid next left : List ℕ) → IsBetween old whole mid → IsBetween old whole next → IsBetween mid next left → IsBetween old whole left
 between_next old whole mid next left a b c = record { len = c.len ∙ a.len; each = λ x. by_next x (c.each x) }

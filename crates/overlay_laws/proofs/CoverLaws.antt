@@ -1,22 +1,7 @@
 -- A cursor that cuts extents goes over the same windows as one that cuts bytes.
-use Rattle.std.proofs.Common.{◌≡◌, ℕ, zero, suc, ◌+◌, ◌-◌, ◌<◌, ◌≤◌, refl, sym, ◌∙◌, ap, subst, inl, inr, List, [], ◌∷◌, ◌++◌, length, Bool, true, false, cond, max, arith}
-use Rattle.std.proofs.lemmas.List.{length-append, append-nil}
-use Rattle.std.proofs.lemmas.Nat.{mod_below, div-add-mod'}
-use Rattle.std.specs.Prelude.{filter, map, nat_lt, nat_le, ◌==◌}
-use Rattle.std.specs.List.{range_with_len}
-use Rattle.std.proofs.lemmas.List.FromFn.{length-range_with_len}
-use Rattle.std.proofs.lemmas.Bool.{lt-ltb, le-ltb, le-leb, lt-leb, leb-true, leb-false}
-use Rattle.list_laws.proofs.Truth.{equal_below, equal_true}
-use Rattle.list_laws.proofs.Ranges.{range_append}
-use Rattle.nc_base.specs.declared.plan.Extent.{Extent}
-use Rattle.serial_spec.specs.DeviceCalls.{first_of, last_of, hull_len, windows, sieving_windows, in_order}
-use Rattle.overlay_laws.specs.Entries.{In, HaveSame}
-use Rattle.overlay_laws.specs.Hulls.{IsAscending}
-use Rattle.overlay_laws.specs.Walks.{walked, round_end, below, above, IsCover, end_after, is_single, first_at, hull_of, extents_walked, told_of}
-use Rattle.serial_spec.specs.Extents.{spans}
+use Rattle.overlay_laws.proofs.Words.{◌≡◌, ℕ, zero, suc, ◌+◌, ◌-◌, ◌<◌, ◌≤◌, refl, sym, ◌∙◌, ap, subst, inl, inr, List, [], ◌∷◌, ◌++◌, length, Bool, true, false, cond, max, arith, length-append, append-nil, mod_below, div-add-mod', filter, map, nat_lt, nat_le, ◌==◌, range_with_len, length-range_with_len, lt-ltb, le-ltb, le-leb, lt-leb, leb-true, leb-false, equal_below, equal_true, range_append, Extent, first_of, last_of, hull_len, windows, sieving_windows, in_order, In, HaveSame, IsAscending, walked, round_end, below, above, IsCover, end_after, is_single, first_at, hull_of, extents_walked, told_of, spans, filter-append}
 use Rattle.overlay_laws.proofs.HullLaws.{range_low, range_high, in_either, in_in_order, in_order_in, in_order_ascends}
 use Rattle.overlay_laws.proofs.WalkLaws.{filter_none, filter_all, drop_first, windows_walked, sieved_walked}
-use Rattle.std.proofs.lemmas.List.Elements.{filter-append}
 
 -- ---- bytes of a cover
 

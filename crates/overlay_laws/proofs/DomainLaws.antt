@@ -1,14 +1,6 @@
 -- A domain of a cover's bytes is the cover between two places.
-use Rattle.std.proofs.Common.{◌≡◌, ℕ, ◌+◌, ◌-◌, ◌*◌, ◌/◌, ◌<◌, ◌≤◌, refl, sym, ◌∙◌, ap, inl, inr, List, [], ◌∷◌, Bool, true, false, ◌&&◌, cond, arith}
-use Rattle.std.proofs.lemmas.Nat.{div_below, le-div}
-use Rattle.std.specs.Prelude.{filter, nat_lt, nat_le, ◌==◌}
-use Rattle.std.proofs.lemmas.Bool.{leb-true, leb-false}
+use Rattle.overlay_laws.proofs.Words.{◌≡◌, ℕ, ◌+◌, ◌-◌, ◌*◌, ◌/◌, ◌<◌, ◌≤◌, refl, sym, ◌∙◌, ap, inl, inr, List, [], ◌∷◌, Bool, true, false, ◌&&◌, cond, arith, div_below, le-div, filter, nat_lt, nat_le, ◌==◌, leb-true, leb-false, equal_above, equal_below, equal_true, Extent, In, below, above, IsCover, spans}
 use borrow.Author.Tests.{ltb-true, ltb-false}
-use Rattle.list_laws.proofs.Truth.{equal_above, equal_below, equal_true}
-use Rattle.nc_base.specs.declared.plan.Extent.{Extent}
-use Rattle.overlay_laws.specs.Entries.{In}
-use Rattle.overlay_laws.specs.Walks.{below, above, IsCover}
-use Rattle.serial_spec.specs.Extents.{spans}
 use Rattle.overlay_laws.proofs.WalkLaws.{drop_first, take_first}
 use Rattle.overlay_laws.proofs.CoverLaws.{spans_below, spans_above, above_cover}
 

@@ -1,29 +1,7 @@
 -- The puts of a step are cells; sorted entries say what the puts say; the entries of a get collect its bytes.
-use Rattle.std.proofs.Common.{◌≡◌, ℕ, zero, suc, ◌+◌, ◌-◌, ◌<◌, ◌≤◌, refl, sym, ◌∙◌, ap, subst, inl, inr, ◌⊎◌, List, [], ◌∷◌, ◌++◌, length, take, drop, Bool, true, false, Option, Some, None, arith}
-use Rattle.std.proofs.lemmas.Grind.{common_steps, flat_map-append}
-use Rattle.std.proofs.lemmas.List.{length-append, get_or_past}
+use Rattle.overlay_laws.proofs.Words.{◌≡◌, ℕ, zero, suc, ◌+◌, ◌-◌, ◌<◌, ◌≤◌, refl, sym, ◌∙◌, ap, subst, inl, inr, ◌⊎◌, List, [], ◌∷◌, ◌++◌, length, take, drop, Bool, true, false, Option, Some, None, arith, common_steps, flat_map-append, length-append, get_or_past, Contains-permutation, IsPermutation-sym, IsPermutation, fold, flat_map, nat_lt, map, zip, slice_get, enumerate_from, range_with_len, slice_index_or, Contains, length-range_with_len, same_Some, puts_are_cells, range_and_rest, puts_say, said_past, said_inside, cells_said, Header, Var, Post, Owned, at, read, size_of, cells, places, Puts, bytes_of, bytes_of_some, Setting, put_post, get_post, get_some, byte_or, said_at, Says, IsOneValued, Cell, write_cells, said_by, IsWithin, said_by_puts, cells_of_puts, Source, cell_of, ranges, IsRun, IsGathered, got_cell, IsRunFrom, In, HaveSame, extents}
 use borrow.Author.Tests.{ltb-true, ltb-false}
-use Rattle.std.proofs.lemmas.List.Sorted.{Contains-permutation, IsPermutation-sym}
-use Rattle.std.specs.List.Sorted.{IsPermutation}
-use Rattle.std.specs.Prelude.{fold, flat_map, nat_lt, map, zip, slice_get}
-use Rattle.std.specs.List.{enumerate_from, range_with_len, slice_index_or, Contains}
-use Rattle.std.proofs.lemmas.List.FromFn.{length-range_with_len}
-use Rattle.std.proofs.lemmas.Option.{same_Some}
-use Rattle.serial_spec.proofs.SaidLaws.{puts_are_cells, range_and_rest, puts_say, said_past, said_inside, cells_said}
-use Rattle.nc_base.specs.declared.header.Header.{Header}
-use Rattle.nc_base.specs.declared.header.Var.{Var}
-use Rattle.nc_base.specs.declared.plan.Post.{Post}
-use Rattle.nc_base.specs.declared.plan.Owned.{Owned}
-use Rattle.serial_spec.specs.File.{at, read}
-use Rattle.serial_spec.specs.ExternalForm.{size_of}
-use Rattle.serial_spec.specs.Request.{cells, places}
-use Rattle.serial_spec.specs.SharedByte.{Puts, bytes_of, bytes_of_some}
-use Rattle.serial_spec.specs.FileStep.{Setting, put_post, get_post, get_some}
-use Rattle.serial_spec.specs.Said.{byte_or, said_at, Says, IsOneValued, Cell, write_cells, said_by, IsWithin}
-use Rattle.serial_spec.specs.SharedByte.{said_by_puts}
-use Rattle.overlay_laws.specs.Entries.{cells_of_puts, Source, cell_of, ranges, IsRun, IsGathered, got_cell, IsRunFrom, In, HaveSame}
 use Rattle.overlay_laws.proofs.SaidLaws.{said_in_any_order, same_said, cells_long, same_file}
-use Rattle.overlay_laws.specs.Lines.{extents}
 
 -- ---- entries in order
 

@@ -1,17 +1,6 @@
 -- Entries and the puts that they were gathered from hold the same bytes for the same requests.
-use Rattle.std.proofs.Common.{◌≡◌, ℕ, refl, sym, ◌∙◌, ap, subst, inl, inr, List, [], ◌∷◌, true, ◌&&◌, arith}
-use Rattle.std.proofs.lemmas.Bool.Decides.{nat_tests}
-use Rattle.std.specs.Prelude.{flat_map, map, ◌==◌}
-use Rattle.std.specs.List.{list_any, range_with_len}
-use Rattle.std.proofs.lemmas.Bool.{and_from, or_left, or_right, or_cases}
+use Rattle.overlay_laws.proofs.Words.{◌≡◌, ℕ, refl, sym, ◌∙◌, ap, subst, inl, inr, List, [], ◌∷◌, true, ◌&&◌, arith, nat_tests, flat_map, map, ◌==◌, list_any, range_with_len, and_from, or_left, or_right, or_cases, and_first, and_second, no_false, Header, Post, Owned, Puts, Key, bytes_of, holdings, holdings_of_entries, same_key, Holds, shared_pair, shared_pair_of, same_pair, Source, AreOf, IsGathered, In, HaveSame}
 use borrow.Author.Tests.{eqb-true}
-use Rattle.list_laws.proofs.Truth.{and_first, and_second, no_false}
-use Rattle.nc_base.specs.declared.header.Header.{Header}
-use Rattle.nc_base.specs.declared.plan.Post.{Post}
-use Rattle.nc_base.specs.declared.plan.Owned.{Owned}
-use Rattle.serial_spec.specs.SharedByte.{Puts, Key, bytes_of, holdings, holdings_of_entries, same_key, Holds, shared_pair, shared_pair_of}
-use Rattle.serial_spec.proofs.PairLaws.{same_pair}
-use Rattle.overlay_laws.specs.Entries.{Source, AreOf, IsGathered, In, HaveSame}
 use Rattle.overlay_laws.proofs.HullLaws.{any_in, in_any, in_left, in_right, in_either, in_flat, flat_in}
 
 pub same_keys : (a b : Key) → same_key a b ≡ true → (a.0 ≡ b.0) × (a.1 ≡ b.1)

@@ -1,32 +1,10 @@
 -- The windows of the device calls have every covered byte, so that hulls written over them are the step.
-use Rattle.std.proofs.Common.{◌≡◌, ℕ, zero, suc, ◌+◌, ◌-◌, ◌*◌, ◌/◌, ◌%◌, ◌<◌, ◌≤◌, refl, sym, ◌∙◌, ap, subst, inl, inr, ◌⊎◌, List, [], ◌∷◌, ◌++◌, length, Bool, true, false, not, cond, min, max, arith}
-use Rattle.std.proofs.lemmas.Bool.Decides.{nat_tests}
-use Rattle.std.proofs.lemmas.Nat.{div_below, le-div, mod_below, div-add-mod', mul-le}
-use Rattle.std.proofs.Math.Nat.{mul_comm}
-use Rattle.std.specs.Prelude.{fold, flat_map, filter, map, zip, nat_lt, nat_le, ◌==◌}
-use Rattle.std.specs.List.{range_with_len, list_any}
-use Rattle.std.proofs.lemmas.Bool.{or_left, or_right, or_cases}
+use Rattle.overlay_laws.proofs.Words.{◌≡◌, ℕ, zero, suc, ◌+◌, ◌-◌, ◌*◌, ◌/◌, ◌%◌, ◌<◌, ◌≤◌, refl, sym, ◌∙◌, ap, subst, inl, inr, ◌⊎◌, List, [], ◌∷◌, ◌++◌, length, Bool, true, false, not, cond, min, max, arith, nat_tests, div_below, le-div, mod_below, div-add-mod', mul-le, mul_comm, fold, flat_map, filter, map, zip, nat_lt, nat_le, ◌==◌, range_with_len, list_any, or_left, or_right, or_cases, in_filter, filter_in, no_false, equal_true, puts_are_cells, puts_say, Header, Hints, greatest, Puts, covered, bytes_of, Setting, put_post, in_order, first_of, last_of, not_empty, domain_size, domains, windows, collective_windows, sieved, sieving_windows, is_empty, Cell, said_at, said_by, Says, IsWithin, IsInOne, HasEach, said_by_puts, In, cells_of_puts, hulls, IsAscending, written_over, AreHints, filter_at_most}
 use borrow.Author.Tests.{ltb-false, eqb-true}
-use Rattle.serial_spec.proofs.MemberLaws.{in_filter, filter_in}
 use Rattle.overlay_laws.proofs.Members.{in_map}
-use Rattle.list_laws.proofs.Truth.{no_false, equal_true}
-use Rattle.serial_spec.proofs.SaidLaws.{puts_are_cells, puts_say}
-use Rattle.nc_base.specs.declared.header.Header.{Header}
-use Rattle.nc_base.specs.declared.script.Hints.{Hints}
-use Rattle.serial_spec.specs.Layout.{greatest}
-use Rattle.serial_spec.specs.SharedByte.{Puts, covered, bytes_of}
-use Rattle.serial_spec.specs.FileStep.{Setting, put_post}
-use Rattle.serial_spec.specs.DeviceCalls.{in_order, first_of, last_of, not_empty, domain_size, domains, windows, collective_windows, sieved, sieving_windows}
-use Rattle.serial_spec.specs.Lists.{is_empty}
-use Rattle.serial_spec.specs.Said.{Cell, said_at, said_by, Says, IsWithin}
-use Rattle.overlay_laws.specs.Windows.{IsInOne, HasEach}
-use Rattle.serial_spec.specs.SharedByte.{said_by_puts}
-use Rattle.overlay_laws.specs.Entries.{In, cells_of_puts}
-use Rattle.overlay_laws.specs.Hulls.{hulls, IsAscending, written_over, AreHints}
 use Rattle.overlay_laws.proofs.SaidLaws.{said_is, same_said}
 use Rattle.overlay_laws.proofs.EntryLaws.{says_cases}
 use Rattle.overlay_laws.proofs.WindowLaws.{windows_done}
-use Rattle.list_laws.proofs.Maps.{filter_at_most}
 
 -- ---- members of lists
 

@@ -1,11 +1,6 @@
 -- Members of lists: of filtered, mapped, entry_numbered and paired ones, by place, of a list's first entries.
-use Rattle.std.proofs.Common.{◌≡◌, ℕ, zero, suc, ◌+◌, ◌<◌, refl, subst, length, take, get_or, ◌∙◌, ap, inl, inr, List, [], ◌∷◌, map, Bool, true, false, cond, Some, arith}
-use Rattle.std.specs.Prelude.{filter, zip, slice_get}
-use Rattle.std.specs.List.{enumerate_from, AllByRecursion}
-use Rattle.std.proofs.lemmas.Option.{slice_get_read}
-use Rattle.overlay_laws.specs.Entries.{In}
-use Rattle.serial_spec.proofs.MemberLaws.{at_in}
-use Rattle.list_laws.proofs.Places.{entry_numbered}
+use Rattle.overlay_laws.proofs.Words.{◌≡◌, ℕ, zero, suc, ◌+◌, ◌<◌, refl, subst, length, take, get_or, ◌∙◌, ap, inl, inr, List, [], ◌∷◌, Bool, true, false, cond, Some, arith, filter, zip, slice_get, enumerate_from, AllByRecursion, slice_get_read, In, at_in, entry_numbered}
+use Rattle.std.proofs.Common.{map}
 
 pub in_map : {X Y : Type 0} (f : X → Y) (xs : List X) (x : X) → In xs x → In (map f xs) (f x)
 in_map f [] x h = absurd h

@@ -1,19 +1,5 @@
 -- The bytes of entries by where they come from; where requests overlap, the last in rank order counts.
-use Rattle.std.proofs.Common.{◌≡◌, ℕ, zero, suc, ◌+◌, ◌<◌, ◌≤◌, refl, sym, ◌∙◌, ap, subst, inl, inr, ◌⊎◌, List, [], ◌∷◌, ◌++◌, length, take, drop, Bool, true, false, Option, Some, None, arith}
-use Rattle.std.proofs.lemmas.List.{drop_more, map-append}
-use Rattle.std.specs.Prelude.{fold, flat_map, map, option_map, ◌==◌}
-use Rattle.std.specs.List.{enumerate_from, range_with_len}
-use Rattle.list_laws.proofs.Optional.{no_none_some}
-use Rattle.serial_spec.proofs.SaidLaws.{puts_are_cells, puts_say, one_hit}
-use Rattle.nc_base.specs.declared.plan.Owned.{Owned}
-use Rattle.serial_spec.specs.File.{at}
-use Rattle.serial_spec.specs.SharedByte.{Puts}
-use Rattle.serial_spec.specs.FileStep.{Setting, put_post}
-use Rattle.std.specs.Option.{option_or}
-use Rattle.std.proofs.lemmas.Option.{same_Some}
-use Rattle.serial_spec.specs.Said.{one_says, said_at, Says, IsOneValued, write_cells, said_by, IsWithin}
-use Rattle.overlay_laws.specs.Entries.{cells_of_puts, Source, cell_of, IsGathered, In, HaveSame}
-use Rattle.overlay_laws.specs.Origins.{Origin, origins_of, origins, byte_at, AreFound, AtMost, IsGreatest, IsResolved, IsOnceEach, IsInOrder}
+use Rattle.overlay_laws.proofs.Words.{◌≡◌, ℕ, zero, suc, ◌+◌, ◌<◌, ◌≤◌, refl, sym, ◌∙◌, ap, subst, inl, inr, ◌⊎◌, List, [], ◌∷◌, ◌++◌, length, take, drop, Bool, true, false, Option, Some, None, arith, drop_more, map-append, fold, flat_map, map, option_map, ◌==◌, enumerate_from, range_with_len, no_none_some, puts_are_cells, puts_say, one_hit, Owned, at, Puts, Setting, put_post, option_or, same_Some, one_says, said_at, Says, IsOneValued, write_cells, said_by, IsWithin, cells_of_puts, Source, cell_of, IsGathered, In, HaveSame, Origin, origins_of, origins, byte_at, AreFound, AtMost, IsGreatest, IsResolved, IsOnceEach, IsInOrder}
 use Rattle.overlay_laws.proofs.SaidLaws.{said_is, says_some, one_said, same_said}
 use Rattle.overlay_laws.proofs.EntryLaws.{says_cases, says_moved, gathered_says}
 

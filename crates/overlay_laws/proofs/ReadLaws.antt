@@ -1,10 +1,5 @@
 -- Windows that are each read, overlaid and written, one after another.
-use Rattle.std.proofs.Common.{◌≡◌, ℕ, zero, suc, ◌+◌, ◌-◌, ◌<◌, ◌≤◌, None, refl, sym, ◌∙◌, ap, subst, List, [], ◌∷◌, length, Some, arith, take, drop}
-use Rattle.std.specs.Prelude.{fold, map}
-use Rattle.serial_spec.proofs.CellLaws.{read_long}
-use Rattle.serial_spec.specs.File.{at, read, written}
-use Rattle.serial_spec.specs.Said.{Cell, write_cells, IsWithin, IsFrom, moved_down, said_at, said_by}
-use Rattle.overlay_laws.specs.Windows.{clips, IsInOne, HasEach, read_overlaid, all_read_overlaid}
+use Rattle.overlay_laws.proofs.Words.{◌≡◌, ℕ, zero, suc, ◌+◌, ◌-◌, ◌<◌, ◌≤◌, None, refl, sym, ◌∙◌, ap, subst, List, [], ◌∷◌, length, Some, arith, take, drop, fold, map, read_long, at, read, written, Cell, write_cells, IsWithin, IsFrom, moved_down, said_at, said_by, clips, IsInOne, HasEach, read_overlaid, all_read_overlaid}
 use Rattle.overlay_laws.proofs.SaidLaws.{cells_long}
 use Rattle.overlay_laws.proofs.WindowLaws.{clips_within, clips_from, within_more, window_done, windows_done}
 use Rattle.overlay_laws.proofs.OriginLaws.{slice_step}

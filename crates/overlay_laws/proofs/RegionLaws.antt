@@ -1,22 +1,5 @@
 -- The elements of a region have different indices, so those of a sound header's variable lie apart.
-use Rattle.std.proofs.Common.{◌≡◌, ℕ, zero, suc, ◌+◌, ◌-◌, ◌*◌, ◌<◌, ◌≤◌, refl, sym, ◌∙◌, ap, subst, inl, inr, ◌⊎◌, List, [], ◌∷◌, ◌++◌, length, get_or, drop, true, Some, arith}
-use Rattle.std.specs.Prelude.{flat_map, map, slice_get}
-use Rattle.std.specs.List.{range_with_len}
-use Rattle.std.proofs.lemmas.List.{length-map}
-use Rattle.std.proofs.lemmas.Option.{same_Some}
-use Rattle.list_laws.proofs.Optional.{no_none_some}
-use Rattle.list_laws.proofs.Numbers.{same_factor}
-use Rattle.nc_base.specs.declared.header.Header.{Header}
-use Rattle.nc_base.specs.declared.header.Var.{Var}
-use Rattle.nc_base.specs.declared.request.Region.{Region}
-use Rattle.serial_spec.specs.ExternalForm.{size_of}
-use Rattle.serial_spec.specs.SoundHeaders.{is_sound}
-use Rattle.serial_spec.specs.Layout.{product}
-use Rattle.serial_spec.specs.Place.{row, place, IsIndex, IsElement, AreApart}
-use Rattle.serial_spec.specs.Request.{coordinates, index_at, elements, places}
-use Rattle.serial_spec.proofs.ElementLaws.{length-coordinates}
-use Rattle.serial_spec.proofs.ApartLaws.{elements_apart}
-use Rattle.overlay_laws.specs.Steps.{LieApart, HaveStrides}
+use Rattle.overlay_laws.proofs.Words.{◌≡◌, ℕ, zero, suc, ◌+◌, ◌-◌, ◌*◌, ◌<◌, ◌≤◌, refl, sym, ◌∙◌, ap, subst, inl, inr, ◌⊎◌, List, [], ◌∷◌, ◌++◌, length, get_or, drop, true, Some, arith, flat_map, map, slice_get, range_with_len, length-map, same_Some, no_none_some, same_factor, Header, Var, Region, size_of, is_sound, product, row, place, IsIndex, IsElement, AreApart, coordinates, index_at, elements, places, length-coordinates, elements_apart, LieApart, HaveStrides}
 
 split_at : {A : Type 0} (xs ys : List A) (m : ℕ) (c : A) → slice_get (xs ++ ys) m ≡ Some c
     → (slice_get xs m ≡ Some c) ⊎ ((length xs ≤ m) × (slice_get ys (m - length xs) ≡ Some c))

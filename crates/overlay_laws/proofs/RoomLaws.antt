@@ -1,21 +1,6 @@
 -- Where every covered byte lies below n, so does every cell of the puts and of their entries.
-use Rattle.std.proofs.Common.{ℕ, ◌+◌, ◌-◌, ◌<◌, ◌≤◌, List, [], ◌∷◌, drop, Option, Some, None, arith}
-use Rattle.std.specs.Prelude.{flat_map, slice_get}
-use Rattle.std.specs.List.{range_with_len}
-use Rattle.list_laws.proofs.Places.{take_at_most}
-use Rattle.serial_spec.proofs.LengthLaws.{size_pos}
-use Rattle.nc_base.specs.declared.header.Header.{Header}
-use Rattle.nc_base.specs.declared.header.Var.{Var}
-use Rattle.nc_base.specs.declared.plan.Post.{Post}
-use Rattle.nc_base.specs.declared.plan.Owned.{Owned}
+use Rattle.overlay_laws.proofs.Words.{ℕ, ◌+◌, ◌-◌, ◌<◌, ◌≤◌, List, [], ◌∷◌, drop, Option, Some, None, arith, flat_map, slice_get, range_with_len, take_at_most, size_pos, Header, Var, Post, Owned, size_of, cells, places, Puts, bytes_of, bytes_of_some, covered, Setting, IsWithin, cells_of_some, cells_of, cells_of_puts, Source, cell_of, IsGathered, In, HaveSame, HasRoom}
 use Rattle.nc_base.specs.declared.header.NcType.TheVariants as kind
-use Rattle.serial_spec.specs.ExternalForm.{size_of}
-use Rattle.serial_spec.specs.Request.{cells, places}
-use Rattle.serial_spec.specs.SharedByte.{Puts, bytes_of, bytes_of_some, covered}
-use Rattle.serial_spec.specs.FileStep.{Setting}
-use Rattle.serial_spec.specs.Said.{IsWithin}
-use Rattle.overlay_laws.specs.Entries.{cells_of_some, cells_of, cells_of_puts, Source, cell_of, IsGathered, In, HaveSame}
-use Rattle.overlay_laws.specs.Steps.{HasRoom}
 use Rattle.overlay_laws.proofs.HullLaws.{in_left, in_right, in_range, in_flat}
 use Rattle.overlay_laws.proofs.WindowLaws.{append_within}
 use Rattle.overlay_laws.proofs.EntryLaws.{within_each}

@@ -1,16 +1,6 @@
 -- Cells written one after another: each byte is what the last cell that has it says, else the old one.
-use Rattle.std.proofs.Common.{◌≡◌, ℕ, ◌-◌, refl, sym, ◌∙◌, ap, subst, inl, inr, ◌⊎◌, List, [], ◌∷◌, length, Bool, true, false, cond, Option, Some, None}
-use Rattle.std.proofs.lemmas.List.{ext_get_or}
-use Rattle.std.specs.Prelude.{◌==◌}
+use Rattle.overlay_laws.proofs.Words.{◌≡◌, ℕ, ◌-◌, refl, sym, ◌∙◌, ap, subst, inl, inr, ◌⊎◌, List, [], ◌∷◌, length, Bool, true, false, cond, Option, Some, None, ext_get_or, ◌==◌, equal_true, one_hit, cells_said, no_none_some, first_counts, at, written, length-written_inside, option_or, same_Some, one_says, said_at, byte_or, Says, IsOneValued, Cell, write_cells, said_by, IsWithin}
 use borrow.Author.Tests.{eqb-true}
-use Rattle.list_laws.proofs.Truth.{equal_true}
-use Rattle.serial_spec.proofs.SaidLaws.{one_hit, cells_said}
-use Rattle.list_laws.proofs.Optional.{no_none_some, first_counts}
-use Rattle.serial_spec.specs.File.{at, written}
-use Rattle.serial_spec.proofs.FileLaws.{length-written_inside}
-use Rattle.std.specs.Option.{option_or}
-use Rattle.std.proofs.lemmas.Option.{same_Some}
-use Rattle.serial_spec.specs.Said.{one_says, said_at, byte_or, Says, IsOneValued, Cell, write_cells, said_by, IsWithin}
 
 -- ---- cells
 

@@ -1,19 +1,5 @@
 -- Puts of which no two requests share a byte, and no request holds one twice, say one thing of each place.
-use Rattle.std.proofs.Common.{◌≡◌, ℕ, zero, suc, refl, sym, ◌∙◌, ap, subst, inl, inr, List, [], ◌∷◌, true, ◌&&◌, Option, Some, None}
-use Rattle.std.proofs.lemmas.Option.{slice_get-map, same_Some}
-use Rattle.std.specs.Prelude.{zip, slice_get, option_map, ◌==◌}
-use Rattle.std.specs.List.{list_any}
-use Rattle.std.proofs.lemmas.Bool.{or_left, or_right, and_from}
-use Rattle.list_laws.proofs.Truth.{equal_true}
-use Rattle.list_laws.proofs.Optional.{no_none_some, some_of_map}
-use Rattle.nc_base.specs.declared.header.Header.{Header}
-use Rattle.nc_base.specs.declared.plan.Post.{Post}
-use Rattle.serial_spec.specs.SharedByte.{Puts, Key, Holding, bytes_of, holdings, same_key, has_byte, Holds, IsUnshared, shared_pair, said_by_puts, IsOwnOnce}
-use Rattle.serial_spec.proofs.KeyLaws.{key_itself}
-use Rattle.serial_spec.proofs.PairLaws.{pair_none}
-use Rattle.serial_spec.specs.Said.{Says, IsOneValued}
-use Rattle.overlay_laws.specs.Entries.{HaveOwnKeys}
-use Rattle.serial_spec.specs.Extents.{IsOnce}
+use Rattle.overlay_laws.proofs.Words.{◌≡◌, ℕ, zero, suc, refl, sym, ◌∙◌, ap, subst, inl, inr, List, [], ◌∷◌, true, ◌&&◌, Option, Some, None, slice_get-map, same_Some, zip, slice_get, option_map, ◌==◌, list_any, or_left, or_right, and_from, equal_true, no_none_some, some_of_map, Header, Post, Puts, Key, Holding, bytes_of, holdings, same_key, has_byte, Holds, IsUnshared, shared_pair, said_by_puts, IsOwnOnce, key_itself, pair_none, Says, IsOneValued, HaveOwnKeys, IsOnce}
 use Rattle.overlay_laws.proofs.EntryLaws.{says_cases}
 
 has_at : (xs : List ℕ) (k x : ℕ) → slice_get xs k ≡ Some x → list_any (λ y. y == x) xs ≡ true

@@ -1,26 +1,10 @@
 -- A step: gathered entries, written window by window over hulls, make the file of the model.
-use Rattle.std.proofs.Common.{◌≡◌, ℕ, ◌≤◌, sym, ◌∙◌, ap, subst, List, length, None}
-use Rattle.std.specs.Prelude.{flat_map, map}
-use Rattle.nc_base.specs.declared.script.Hints.{Hints}
-use Rattle.nc_base.specs.declared.plan.Owned.{Owned}
-use Rattle.nc_base.specs.declared.header.Header.{Header}
-use Rattle.serial_spec.specs.File.{longer}
-use Rattle.serial_spec.specs.SharedByte.{Puts, covered, holdings, holdings_of_entries, shared_pair_of}
-use Rattle.serial_spec.specs.Records.{needed_by}
-use Rattle.serial_spec.specs.FileStep.{Setting, end_for, after_puts}
-use Rattle.serial_spec.specs.DeviceCalls.{in_order, collective_windows, sieving_windows}
-use Rattle.serial_spec.specs.Said.{said_at, said_by, IsOneValued}
-use Rattle.serial_spec.specs.SharedByte.{said_by_puts, IsOwnOnce}
-use Rattle.overlay_laws.specs.Entries.{Source, cell_of, IsGathered, HaveSame}
-use Rattle.overlay_laws.specs.Hulls.{written_over, AreHints}
-use Rattle.overlay_laws.specs.Origins.{origins, byte_at, AreFound, IsResolved, IsOnceEach, IsInOrder}
-use Rattle.overlay_laws.specs.Steps.{HasRoom}
+use Rattle.overlay_laws.proofs.Words.{◌≡◌, ℕ, ◌≤◌, sym, ◌∙◌, ap, subst, List, length, None, flat_map, map, Hints, Owned, Header, longer, Puts, covered, holdings, holdings_of_entries, shared_pair_of, needed_by, Setting, end_for, after_puts, in_order, collective_windows, sieving_windows, said_at, said_by, IsOneValued, said_by_puts, IsOwnOnce, Source, cell_of, IsGathered, HaveSame, written_over, AreHints, origins, byte_at, AreFound, IsResolved, IsOnceEach, IsInOrder, HasRoom, option_map}
 use Rattle.overlay_laws.proofs.EntryLaws.{gathered_says, cells_moved}
 use Rattle.overlay_laws.proofs.ShareLaws.{no_pair_once}
 use Rattle.overlay_laws.proofs.HolderLaws.{entries_pair}
 use Rattle.overlay_laws.proofs.OriginLaws.{cells_by_origins, said_mapped, resolved_says}
 use Rattle.overlay_laws.proofs.HullLaws.{collective_done, sieving_done}
-use Rattle.std.specs.Prelude.{option_map}
 
 list_told : (header : Header) (source : Source) (puts : Puts) (ess : List (List Owned)) (list : List Owned)
     → IsGathered header source puts ess → HaveSame (flat_map (λ os. os) ess) list → IsOneValued (said_by_puts header puts)

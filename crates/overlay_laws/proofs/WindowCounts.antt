@@ -1,14 +1,6 @@
 -- How many windows a length has, and their stores.
-use Rattle.std.proofs.Common.{◌≡◌, ℕ, zero, suc, ◌+◌, ◌-◌, ◌*◌, ◌/◌, ◌%◌, ◌<◌, ◌≤◌, min, sym, ◌∙◌, ap, List, [], ◌∷◌, ◌++◌, length, map, arith}
-use Rattle.std.specs.List.{range_with_len}
-use Rattle.std.proofs.Math.Nat.{mul-le-mul_right}
-use Rattle.std.proofs.lemmas.Grind.{div_ceil_times}
-use Rattle.std.proofs.lemmas.List.{map-append}
-use Rattle.std.proofs.lemmas.Nat.{div-add-mod', div-mul-add, mod_below}
-use Rattle.list_laws.proofs.Ranges.{range_append}
-use Rattle.nc_base.specs.declared.step.DiskCall.{DiskCall}
-use Rattle.nc_base.specs.declared.step.DiskCall.TheVariants.{Store}
-use Rattle.serial_spec.specs.DeviceCalls.{window_count}
+use Rattle.overlay_laws.proofs.Words.{◌≡◌, ℕ, zero, suc, ◌+◌, ◌-◌, ◌*◌, ◌/◌, ◌%◌, ◌<◌, ◌≤◌, min, sym, ◌∙◌, ap, List, [], ◌∷◌, ◌++◌, length, arith, range_with_len, mul-le-mul_right, div_ceil_times, map-append, div-add-mod', div-mul-add, mod_below, range_append, DiskCall, Store, window_count}
+use Rattle.std.proofs.Common.{map}
 
 -- the count that the code takes
 abbrev pub windows_of : ℕ → ℕ → ℕ

@@ -1,14 +1,5 @@
 -- No window's hull is longer than its buffer.
-use Rattle.std.proofs.Common.{◌≡◌, ℕ, ◌+◌, ◌-◌, ◌*◌, ◌/◌, ◌<◌, ◌≤◌, ap, subst, inl, refl, List, [], ◌∷◌, not, arith}
-use Rattle.std.proofs.lemmas.Nat.{mod_below, div-add-mod'}
-use Rattle.std.proofs.lemmas.Bool.{eqb-true}
-use Rattle.std.specs.Prelude.{filter, map, ◌==◌}
-use Rattle.std.specs.List.{range_with_len}
-use Rattle.serial_spec.specs.DeviceCalls.{first_of, hull_len, last_of, windows}
-use Rattle.serial_spec.specs.Lists.{is_empty}
-use Rattle.overlay_laws.specs.Entries.{In}
-use Rattle.overlay_laws.specs.Hulls.{IsAscending}
-use Rattle.serial_spec.proofs.MemberLaws.{filter_in}
+use Rattle.overlay_laws.proofs.Words.{◌≡◌, ℕ, ◌+◌, ◌-◌, ◌*◌, ◌/◌, ◌<◌, ◌≤◌, ap, subst, inl, refl, List, [], ◌∷◌, not, arith, mod_below, div-add-mod', eqb-true, filter, map, ◌==◌, range_with_len, first_of, hull_len, last_of, windows, is_empty, In, IsAscending, filter_in}
 use Rattle.overlay_laws.proofs.HullLaws.{first_least, last_below}
 use Rattle.overlay_laws.proofs.Members.{map_in}
 

@@ -1,17 +1,6 @@
 -- Windows that are read, overlaid and written are cells that are written; windows that have every cell are the cells.
-use Rattle.std.proofs.Common.{◌≡◌, ℕ, ◌+◌, ◌-◌, ◌<◌, ◌≤◌, refl, sym, ◌∙◌, ap, inl, inr, List, [], ◌∷◌, ◌++◌, length, drop, get_or, Bool, true, false, Option, Some, None, arith}
-use Rattle.std.proofs.lemmas.Grind.{common_steps, flat_map-append, fold-append}
-use Rattle.std.proofs.lemmas.List.{get_or-take, get_or-drop}
-use Rattle.std.specs.Prelude.{fold, flat_map, nat_lt, map}
-use Rattle.std.specs.List.{enumerate_from}
+use Rattle.overlay_laws.proofs.Words.{◌≡◌, ℕ, ◌+◌, ◌-◌, ◌<◌, ◌≤◌, refl, sym, ◌∙◌, ap, inl, inr, List, [], ◌∷◌, ◌++◌, length, drop, get_or, Bool, true, false, Option, Some, None, arith, common_steps, flat_map-append, fold-append, get_or-take, get_or-drop, fold, flat_map, nat_lt, map, enumerate_from, at-written_before, at-written_after, length-written_inside, said_below, said_past, said_inside, at-written_inside, said_append, cells_said, no_none_some, neither_some, second_counts, first_counts, at, written, option_or, said_at, byte_or, Cell, write_cells, said_by, IsWithin, IsFrom, moved_down, IsPart, AreParts, SomeSays, clip, clips, IsInOne, HasEach}
 use borrow.Author.Tests.{ltb-true, ltb-false}
-use Rattle.serial_spec.proofs.FileLaws.{at-written_before, at-written_after, length-written_inside}
-use Rattle.serial_spec.proofs.SaidLaws.{said_below, said_past, said_inside, at-written_inside, said_append, cells_said}
-use Rattle.list_laws.proofs.Optional.{no_none_some, neither_some, second_counts, first_counts}
-use Rattle.serial_spec.specs.File.{at, written}
-use Rattle.std.specs.Option.{option_or}
-use Rattle.serial_spec.specs.Said.{said_at, byte_or, Cell, write_cells, said_by, IsWithin, IsFrom, moved_down}
-use Rattle.overlay_laws.specs.Windows.{IsPart, AreParts, SomeSays, clip, clips, IsInOne, HasEach}
 use Rattle.overlay_laws.proofs.SaidLaws.{cells_long, same_file, same_said}
 
 -- ---- cells seen from a place on

@@ -1,26 +1,6 @@
 -- What the owner holds of each number is what the arrivals tell.
-use Rattle.std.proofs.Common.{◌≡◌, ℕ, zero, suc, ◌+◌, ◌<◌, ◌≤◌, refl, sym, ◌∙◌, ap, inl, inr, ◌⊎◌, List, [], ◌∷◌, ◌++◌, length, set, max, Bool, true, false, cond, ◌&&◌, ◌||◌, Option, Some, None, arith}
-use Rattle.std.proofs.lemmas.List.{append-nil, length-set}
-use Rattle.std.proofs.lemmas.List.Elements.{filter-append, filter_map-append}
-use Rattle.std.proofs.lemmas.Bool.{ne_eqb}
-use Rattle.std.proofs.lemmas.Bool.Decides.{eqb_tells, nat_tests}
-use Rattle.std.proofs.lemmas.Option.{same_Some, slice_get_within}
-use Rattle.std.specs.Prelude.{slice_get, filter, filter_map, nat_lt, ◌==◌, is_some, option_and_then}
-use Rattle.std.specs.List.{list_all, list_any, range_with_len, cons_option}
-use Rattle.std.specs.Option.{option_or}
-use Rattle.list_laws.proofs.Places.{entry_below, entry_set, entry_set_other}
-use Rattle.list_laws.proofs.Truth.{equal_itself}
-use Rattle.nc_base.specs.declared.step.MeetKind.{MeetKind}
-use Rattle.nc_base.specs.declared.step.Offer.{Offer}
-use Rattle.nc_base.specs.declared.step.RankItem.{RankItem}
-use Rattle.serial_spec.specs.Owner.{Owner, differs, Event, holds, kind_held, left_behind, left_by, needed_now, offers_held, Client}
+use Rattle.owner_laws.proofs.Words.{◌≡◌, ℕ, zero, suc, ◌+◌, ◌<◌, ◌≤◌, refl, sym, ◌∙◌, ap, inl, inr, ◌⊎◌, List, [], ◌∷◌, ◌++◌, length, set, max, Bool, true, false, cond, ◌&&◌, ◌||◌, Option, Some, None, arith, append-nil, length-set, filter-append, filter_map-append, ne_eqb, eqb_tells, nat_tests, same_Some, slice_get_within, slice_get, filter, filter_map, nat_lt, ◌==◌, is_some, option_and_then, list_all, list_any, range_with_len, cons_option, option_or, entry_below, entry_set, entry_set_other, equal_itself, MeetKind, Offer, RankItem, Owner, differs, Event, holds, kind_held, left_behind, left_by, needed_now, offers_held, Client, Setting, Arrival, is_from, kind_of_meeting, Puts, are_left_behind, brought, ends, has_fewer, has_left, kind_waiting, last, meeting_offers, puts_brought, waiting, waits, no_need, none_last}
 use Rattle.serial_spec.specs.Owner as owner
-use Rattle.serial_spec.specs.FileStep.{Setting}
-use Rattle.serial_spec.specs.History.{Arrival, is_from, kind_of_meeting}
-use Rattle.serial_spec.specs.SharedByte.{Puts}
-use Rattle.owner_laws.specs.Strangers.{are_left_behind, brought, ends, has_fewer, has_left, kind_waiting, last, meeting_offers, puts_brought, waiting, waits}
-use Rattle.serial_spec.proofs.CountLaws.{no_need}
-use Rattle.list_laws.proofs.Optional.{none_last}
 
 -- an entry of a list in which one was set: it is that one, or as before
 pub set_cases : {X : Type 0} (xs : List X) (r q : ℕ) (x y : X) → slice_get (set xs r x) q ≡ Some y → ((q ≡ r) × (y ≡ x)) ⊎ (((r == q) ≡ false) × (slice_get xs q ≡ Some y))

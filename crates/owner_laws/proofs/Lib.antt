@@ -1,3 +1,4 @@
+mod Words
 pub mod HeldClients
 mod StrangerLaws
 pub mod ServedLaws

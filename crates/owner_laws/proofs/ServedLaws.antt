@@ -1,25 +1,8 @@
 -- A run of the owner: its first strange arrival, and its order by the arrivals before that one.
-use Rattle.std.proofs.Common.{◌≡◌, ℕ, ◌+◌, ◌<◌, refl, sym, ◌∙◌, ap, subst, List, [], ◌∷◌, ◌++◌, replicate, max, Bool, true, false, ◌&&◌, Option, Some, None, arith}
-use Rattle.std.proofs.lemmas.List.{length-replicate}
-use Rattle.std.proofs.lemmas.List.Folds.{list_all-append}
-use Rattle.std.specs.Prelude.{slice_get, nat_lt}
-use Rattle.std.specs.List.{list_all}
+use Rattle.owner_laws.proofs.Words.{◌≡◌, ℕ, ◌+◌, ◌<◌, refl, sym, ◌∙◌, ap, subst, List, [], ◌∷◌, ◌++◌, replicate, max, Bool, true, false, ◌&&◌, Option, Some, None, arith, length-replicate, list_all-append, slice_get, nat_lt, list_all, entry_below, and_first, and_second, Mark, Offer, Client, Owner, event, first_owner, free_client, is_strange, needed_now, served, Counted, Setting, Arrival, done, served_on, stranger_on, none_marked, get_replicate, done_is, IsCutByArrivals, IsDoneByArrivals, before_stranger, before_stranger_from, first_stranger, first_stranger_from, is_strange_after, last, meeting_offers, puts_brought}
 use borrow.Author.Tests.{ltb-true}
-use Rattle.list_laws.proofs.Places.{entry_below}
-use Rattle.list_laws.proofs.Truth.{and_first, and_second}
-use Rattle.nc_base.specs.declared.step.Mark.{Mark}
-use Rattle.nc_base.specs.declared.step.Offer.{Offer}
-use Rattle.serial_spec.specs.Owner.{Client, Owner, event, first_owner, free_client, is_strange, needed_now, served}
-use Rattle.serial_spec.specs.FileStep.{Counted, Setting}
-use Rattle.serial_spec.specs.History.{Arrival, done}
-use Rattle.join_laws.proofs.JoinLaws.{served_on, stranger_on}
-use Rattle.join_laws.proofs.OwnerAlikeLaws.{none_marked}
-use Rattle.join_laws.proofs.WholeLaws.{get_replicate}
-use Rattle.join_laws.proofs.DoneLaws.{done_is}
 use Rattle.owner_laws.proofs.HeldClients.{one_if, Kept}
 use Rattle.owner_laws.proofs.StrangerLaws.{event_next, not_taken, same_strange}
-use Rattle.owner_laws.specs.ByArrivals.{IsCutByArrivals, IsDoneByArrivals}
-use Rattle.owner_laws.specs.Strangers.{before_stranger, before_stranger_from, first_stranger, first_stranger_from, is_strange_after, last, meeting_offers, puts_brought}
 
 -- ---- from where the owner stands
 

@@ -1,28 +1,11 @@
 -- The owner finds the arrivals strange that are.
-use Rattle.std.proofs.Common.{◌≡◌, ℕ, suc, ◌+◌, refl, sym, ◌∙◌, ap, subst, inl, inr, ◌⊎◌, List, [], ◌∷◌, ◌++◌, length, set, max, Bool, true, false, cond, ◌&&◌, Option, Some, None, arith}
-use Rattle.std.proofs.lemmas.List.{length-append, length-map, length-set}
-use Rattle.std.proofs.lemmas.Bool.{eqb-false}
-use Rattle.std.specs.Option.{option_map}
-use Rattle.std.specs.Prelude.{slice_get, filter_map, ◌==◌, is_some}
-use Rattle.std.specs.List.{list_all, list_any, range_with_len}
-use Rattle.list_laws.proofs.Places.{entry_set}
-use Rattle.nc_base.specs.declared.step.MeetKind.{MeetKind}
-use Rattle.nc_base.specs.declared.step.Offer.{Offer}
-use Rattle.nc_base.specs.declared.step.OfferKind.{OfferKind}
+use Rattle.owner_laws.proofs.Words.{◌≡◌, ℕ, suc, ◌+◌, refl, sym, ◌∙◌, ap, subst, inl, inr, ◌⊎◌, List, [], ◌∷◌, ◌++◌, length, set, max, Bool, true, false, cond, ◌&&◌, Option, Some, None, arith, length-append, length-map, length-set, eqb-false, option_map, slice_get, filter_map, ◌==◌, is_some, list_all, list_any, range_with_len, entry_set, MeetKind, Offer, OfferKind, RankItem, at_item, at_offer, Owner, differs, event, Event, freed, has_ended, has_held, holds, is_strange, kind_held, left_behind, meets_if, needed_now, offers_held, Client, some_true, strange_offer, puts_of, Setting, Arrival, is_offer, kind_of_meeting, meeting_kind, offer_of, Puts, are_left_behind, end_of_item, ends, is_strange_after, last, meeting_offer, meeting_offers, puts_brought, puts_complete, puts_met, waits, entry_map, client_ended, client_held}
 use Rattle.nc_base.specs.declared.step.OfferKind.TheVariants as offer
-use Rattle.nc_base.specs.declared.step.RankItem.{RankItem}
 use Rattle.nc_base.specs.declared.step.RankItem.TheVariants as item
-use Rattle.serial_spec.specs.Owner.{at_item, at_offer, Owner, differs, event, Event, freed, has_ended, has_held, holds, is_strange, kind_held, left_behind, meets_if, needed_now, offers_held, Client, some_true, strange_offer}
-use Rattle.serial_spec.specs.FileStep.{puts_of, Setting}
-use Rattle.serial_spec.specs.History.{Arrival, is_offer, kind_of_meeting, meeting_kind, offer_of}
-use Rattle.serial_spec.specs.SharedByte.{Puts}
 use Rattle.join_laws.proofs.StrangeLaws.{event_is, strange_alone, freed_none as none_hold}
 use Rattle.join_laws.proofs.WholeLaws.{get_map as mapped_from}
 use Rattle.join_laws.proofs.DoneLaws.{all_holds as all_hold, holds_one as one_held}
 use Rattle.owner_laws.proofs.HeldClients.{set_cases, one_or_none, brought_here, brought_other, brought_none, last_here, one_if, Kept, Next, nothing_reached, Free, free_set, not_all, some_holds, held_all, kinds_are, left_is, numbers_any, waits_is}
-use Rattle.owner_laws.specs.Strangers.{are_left_behind, end_of_item, ends, is_strange_after, last, meeting_offer, meeting_offers, puts_brought, puts_complete, puts_met, waits}
-use Rattle.list_laws.proofs.Maps.{entry_map}
-use Rattle.join_laws.proofs.ClientTurns.{client_ended, client_held}
 
 -- ---- an end
 

@@ -1,24 +1,7 @@
 -- What the status of a plan that ends early leaves.
-use Rattle.std.proofs.Common.{◌≡◌, ℕ, Bool, true, false, List, Option, Some, None, inl, inr, ◌⊎◌, refl, subst, ap, arith}
-use Rattle.std.specs.Prelude.{IfSome, IsSomeAnd, Result}
-use Rattle.std.proofs.lemmas.Bool.{both_ways}
-use Rattle.list_laws.proofs.Optional.{some_not_none}
-use Rattle.nc_base.specs.declared.errors.HeaderErr.{HeaderErr}
-use Rattle.nc_base.specs.declared.errors.RedefErr.{RedefErr}
-use Rattle.nc_base.specs.declared.errors.ScriptErr.{ScriptErr}
+use Rattle.plan_cli.proofs.Words.{◌≡◌, ℕ, Bool, true, false, List, Option, Some, None, inl, inr, ◌⊎◌, refl, subst, ap, arith, IfSome, IsSomeAnd, Result, both_ways, some_not_none, HeaderErr, RedefErr, ScriptErr, HasFault, fault_of, script_fault, Reads, header_line, layout_line, redef_line, script_line, creation_fault, front, Asks, AsksFor, AsksForBadLayout, HasRedefinitionFault, IsBadDataset, IsBeforeStart, IsFaultyFile, IsFaultyText, IsRight, IsSoundFile, IsWrong, TellsScript, IsFaultless, status_of, Stop, laid-mislaid, of_bad_layout, same_script, LacksDataset, line_of, renamed, IsStoppedBy, IsUnprepared}
 use Rattle.nc_base.specs.declared.script.Script as script_type
-use Rattle.serial_spec.specs.HeaderFaults.{HasFault}
-use Rattle.script_spec.specs.ScriptGrammar.{fault_of, script_fault, Reads}
-use Rattle.script_spec.specs.Texts.{header_line, layout_line, redef_line, script_line}
-use Rattle.dataset_start.specs.Dataset.{creation_fault, front, Asks, AsksFor, AsksForBadLayout, HasRedefinitionFault, IsBadDataset, IsBeforeStart, IsFaultyFile, IsFaultyText, IsRight, IsSoundFile, IsWrong, TellsScript}
-use Rattle.dataset_start.specs.Readiness.{IsFaultless}
-use Rattle.dataset_start.specs.Stops.{status_of}
-use Rattle.dataset_start.specs.declared.stop.Stop.{Stop}
 use Rattle.dataset_start.specs.declared.stop.Stop.TheVariants as stops
-use Rattle.dataset_start.proofs.ReadyLaws.{laid-mislaid, of_bad_layout, same_script}
-use Rattle.plan_cli.specs.Ends.{LacksDataset}
-use Rattle.plan_cli.specs.FaultLines.{line_of, renamed}
-use Rattle.plan_cli.specs.Stopped.{IsStoppedBy, IsUnprepared}
 
 -- ---- a text that is read has no fault
 

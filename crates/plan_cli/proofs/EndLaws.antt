@@ -1,19 +1,5 @@
 -- The end of a plan that is asked for.
-use Rattle.std.proofs.Common.{◌≡◌, ◌<◌, ℕ, List, None, inl, inr, ◌⊎◌, sym, ◌∙◌, take, arith}
-use Rattle.std.specs.Prelude.{IfSome}
-use Rattle.nc_outside.specs.Told.{with_end}
-use Rattle.nc_base.specs.declared.script.Script.{Script}
-use Rattle.dataset_start.specs.Dataset.{Asks}
-use Rattle.dataset_start.specs.Limits.{most_taken, TakesAtMost}
-use Rattle.dataset_start.specs.Readiness.{IsFaultless}
-use Rattle.dataset_start.specs.Stops.{status_of}
-use Rattle.dataset_start.specs.declared.stop.Stop.{Stop}
-use Rattle.plan_cli.specs.Ends.{HasEnded}
-use Rattle.plan_cli.specs.FaultLines.{line_of}
-use Rattle.plan_cli.specs.Headline.{Planned}
-use Rattle.plan_cli.specs.Outside.{DatasetFailed, GivesLine, Seen, SinkFailed, SourceFailed}
-use Rattle.plan_cli.specs.Stopped.{IsStoppedBy}
-use Rattle.plan_cli.specs.Words.{Wanted}
+use Rattle.plan_cli.proofs.Words.{◌≡◌, ◌<◌, ℕ, List, None, inl, inr, ◌⊎◌, sym, ◌∙◌, take, arith, IfSome, with_end, Script, Asks, most_taken, TakesAtMost, IsFaultless, status_of, Stop, HasEnded, line_of, Planned, DatasetFailed, GivesLine, Seen, SinkFailed, SourceFailed, IsStoppedBy, Wanted}
 use Rattle.plan_cli.proofs.EarlyEnds as early
 
 -- what is so of the stop's status, or of want of memory

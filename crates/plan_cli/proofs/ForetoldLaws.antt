@@ -1,13 +1,5 @@
 -- What a plan tells of a run.
-use Rattle.std.proofs.Common.{◌≡◌, ℕ, Bool, List, [], ◌++◌, length, Option, refl, sym, ap, ap₂, ◌∙◌}
-use Rattle.nc_base.specs.declared.header.Header.{Header}
-use Rattle.nc_base.specs.declared.script.Script.{Script}
-use Rattle.nc_base.specs.declared.step.DiskCall.{DiskCall}
-use Rattle.nc_outside.specs.Told.{after}
-use Rattle.dataset_start.specs.Dataset.{Asks}
-use Rattle.run_plan.specs.declared.run.Opening.{Opening}
-use Rattle.plan_cli.specs.Headline.{document, Foretells, Planned, TellsPlan}
-use Rattle.plan_cli.specs.Opened.{file_at_start, IsOpening, MayHold}
+use Rattle.plan_cli.proofs.Words.{◌≡◌, ℕ, Bool, List, [], ◌++◌, length, Option, refl, sym, ap, ap₂, ◌∙◌, Header, Script, DiskCall, after, Asks, Opening, document, Foretells, Planned, TellsPlan, file_at_start, IsOpening, MayHold}
 
 -- a plan from an opening on is that of the whole run
 foretold : (json : Bool) (script : Script) (held : Option (List ℕ)) (header : Header) (opening : Opening) (text : List ℕ) (o : IsOpening script held header opening)

@@ -1,14 +1,5 @@
 -- The file of which the front is seen.
-use Rattle.std.proofs.Common.{◌≡◌, ℕ, ◌-◌, ◌^◌, ◌≤◌, ◌<◌, List, ◌++◌, length, take, min, replicate, Option, Some, None, inl, inr, ◌⊎◌, refl, sym, subst, ap, ◌∙◌, arith}
-use Rattle.std.specs.Prelude.{IfSome}
-use Rattle.std.proofs.Math.Seq.{take-append_seam}
-use Rattle.std.proofs.lemmas.Bool.{cases_lt}
-use Rattle.std.proofs.lemmas.List.{append-nil, length-append, length-replicate, take_all}
-use Rattle.nc_base.specs.declared.header.Header.{Header}
-use Rattle.cdf_header.specs.Decoded.{BeginsWith}
-use Rattle.dataset_start.specs.Dataset.{front}
-use Rattle.dataset_start.specs.Readiness.{IsOpened}
-use Rattle.plan_cli.specs.Opened.{IsOpenedFile}
+use Rattle.plan_cli.proofs.Words.{◌≡◌, ℕ, ◌-◌, ◌^◌, ◌≤◌, ◌<◌, List, ◌++◌, length, take, min, replicate, Option, Some, None, inl, inr, ◌⊎◌, refl, sym, subst, ap, ◌∙◌, arith, IfSome, take-append_seam, cases_lt, append-nil, length-append, length-replicate, take_all, Header, BeginsWith, front, IsOpened, IsOpenedFile}
 
 -- a file of so many bytes that begins with these
 begun : List ℕ → ℕ → List ℕ

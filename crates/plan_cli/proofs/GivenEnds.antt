@@ -1,9 +1,5 @@
 -- A plan that is given ends with 0, or with 6 where the sink failed.
-use Rattle.std.proofs.Common.{◌≡◌, ◌⊎◌, ℕ, List, inl, inr, subst, sym, arith}
-use Rattle.std.specs.Prelude.{IfSome}
-use Rattle.dataset_start.specs.Dataset.{IsBeforeStart}
-use Rattle.plan_cli.specs.Ends.{IsSilent, IsStatus}
-use Rattle.plan_cli.specs.FaultLines.{line_of_status}
+use Rattle.plan_cli.proofs.Words.{◌≡◌, ◌⊎◌, ℕ, List, inl, inr, subst, sym, arith, IfSome, IsBeforeStart, IsSilent, IsStatus, line_of_status}
 
 pub given_status : (status : ℕ) → (status ≡ 0) ⊎ (status ≡ 6) → IsStatus status
 given_status status (inl e) = inl e

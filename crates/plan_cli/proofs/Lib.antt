@@ -1,3 +1,4 @@
+mod Words
 pub mod FrontLaws
 pub mod OpeningLaws
 pub mod ForetoldLaws

@@ -1,10 +1,7 @@
 -- The line that tells a stop, by that of ncrun.
-use Rattle.std.proofs.Common.{◌≡◌, None, refl}
-use Rattle.std.specs.Prelude.{option_map}
+use Rattle.plan_cli.proofs.Words.{◌≡◌, None, refl, option_map, Stop, fixed_line_of, line_of, renamed}
 use Rattle.dataset_start.specs.Stops as ncrun
-use Rattle.dataset_start.specs.declared.stop.Stop.{Stop}
 use Rattle.dataset_start.specs.declared.stop.Stop.TheVariants as stops
-use Rattle.plan_cli.specs.FaultLines.{fixed_line_of, line_of, renamed}
 
 pub made_line : (stop : Stop) → fixed_line_of stop ≡ None → line_of stop ≡ option_map renamed (ncrun.line_of stop)
 made_line stops.Usage h = absurd cc

@@ -1,21 +1,6 @@
 -- The dataset of a script, as it is known when the ranks begin.
-use Rattle.std.proofs.Common.{◌≡◌, ℕ, ◌==◌, true, false, List, [], length, Option, refl, sym, subst, ap, ◌∙◌}
-use Rattle.std.specs.Prelude.{IfOk, IfSome, None, Ok, Err, Result}
-use Rattle.std.proofs.lemmas.Bool.{both_ways}
-use Rattle.nc_base.specs.declared.errors.HeaderErr.{HeaderErr}
-use Rattle.nc_base.specs.declared.header.Header.{Header}
-use Rattle.nc_base.specs.declared.script.Script.{Script}
-use Rattle.serial_spec.specs.HeaderFaults.{HasFault}
-use Rattle.serial_spec.specs.SoundHeaders.{is_sound}
-use Rattle.redef_laws.specs.Applied.{IsApplied}
-use Rattle.opening_plan.specs.Opening.{IsOpeningOf}
-use Rattle.run_plan.specs.declared.run.Opening.{Opening}
-use Rattle.dataset_start.specs.Dataset.{created_header, creation_fault, front}
-use Rattle.dataset_start.specs.declared.stop.Stop.{Stop}
-use Rattle.dataset_start.proofs.ReadyLaws.{created-faultless, fault-none, fault-some, header-changed, header-kept, opened-faultless}
-use Rattle.dataset_start.proofs.Redefinable.{redefined_sound}
-use Rattle.plan_cli.specs.Opened.{IsOpenedFile, IsOpening}
-use Rattle.plan_cli.specs.declared.start.Prepared.{Prepared}
+use Rattle.plan_cli.proofs.Words.{◌≡◌, ℕ, ◌==◌, true, false, List, [], length, Option, refl, sym, subst, ap, ◌∙◌, IfOk, IfSome, Ok, Err, Result, both_ways, HeaderErr, Header, Script, HasFault, is_sound, IsApplied, IsOpeningOf, Opening, created_header, creation_fault, front, Stop, created-faultless, fault-none, fault-some, header-changed, header-kept, opened-faultless, redefined_sound, IsOpenedFile, IsOpening, Prepared}
+use Rattle.std.specs.Prelude.{None}
 use Rattle.plan_cli.proofs.FrontLaws.{as_opened}
 
 -- ---- a dataset that is created

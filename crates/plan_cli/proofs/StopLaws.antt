@@ -1,20 +1,7 @@
 -- Why a plan ends early, by the function that ends.
-use Rattle.std.proofs.Common.{◌≡◌, ℕ, ◌==◌, length, true, false, List, Option, Some, None, refl, sym, subst, ◌∙◌}
-use Rattle.std.specs.Prelude.{IfErr, IfSome, IsErrOf, Result, Ok, Err}
-use Rattle.std.specs.Result.{IsErrAnd}
-use Rattle.nc_base.specs.declared.errors.LayoutErr.{LayoutErr}
-use Rattle.nc_base.specs.declared.errors.RedefErr.{RedefErr}
-use Rattle.nc_base.specs.declared.errors.ScriptErr.{ScriptErr}
+use Rattle.plan_cli.proofs.Words.{◌≡◌, ℕ, ◌==◌, length, true, false, List, Option, Some, None, refl, sym, subst, ◌∙◌, IfErr, IfSome, IsErrOf, Result, Ok, Err, IsErrAnd, LayoutErr, RedefErr, ScriptErr, redefined_fault, script_fault, creation_fault, Asks, HasRedefinitionFault, IsOfLayout, IsOfRedefinition, IsOfTaking, Stop, at_front, fault-some, IsOpenedFile, IsStoppedBy, IsUnprepared}
 use Rattle.nc_base.specs.declared.script.Script as script_type
-use Rattle.serial_spec.specs.Redefinition.{redefined_fault}
-use Rattle.script_spec.specs.ScriptGrammar.{script_fault}
-use Rattle.dataset_start.specs.Dataset.{creation_fault, Asks, HasRedefinitionFault}
-use Rattle.dataset_start.specs.Stops.{IsOfLayout, IsOfRedefinition, IsOfTaking}
-use Rattle.dataset_start.specs.declared.stop.Stop.{Stop}
 use Rattle.dataset_start.specs.declared.stop.Stop.TheVariants as stops
-use Rattle.dataset_start.proofs.ReadyLaws.{at_front, fault-some}
-use Rattle.plan_cli.specs.Opened.{IsOpenedFile}
-use Rattle.plan_cli.specs.Stopped.{IsStoppedBy, IsUnprepared}
 use Rattle.plan_cli.proofs.FrontLaws.{as_opened}
 use Rattle.nc_base.specs.declared.header.Header as head
 

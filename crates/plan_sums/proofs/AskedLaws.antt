@@ -1,9 +1,5 @@
 -- What one rank more asks for.
-use Rattle.std.proofs.Common.{◌≡◌, ℕ, ◌+◌, ◌-◌, ◌^◌, ap, List, [], ◌∷◌, ◌++◌, min, arith}
-use Rattle.std.proofs.lemmas.List.Sums.{sum_by_push}
-use Rattle.step_plan.specs.declared.plan.Asked.{Asked}
-use Rattle.plan_sums.specs.Naive.{naive_sum}
-use Rattle.plan_sums.specs.declared.naive.Naive.{Naive}
+use Rattle.plan_sums.proofs.Words.{◌≡◌, ℕ, ◌+◌, ◌-◌, ◌^◌, ap, List, [], ◌∷◌, ◌++◌, min, arith, sum_by_push, Asked, naive_sum, Naive}
 
 pub asked_more : (before : List Asked) (one : Asked) (n : Naive) (calls bytes : ℕ) → n ≡ naive_sum before → calls ≡ min (n.calls + one.pieces) (2 ^ 64 - 1)
     → bytes ≡ min (n.bytes + one.bytes) (2 ^ 64 - 1) → record { calls = calls; bytes = bytes } ≡ naive_sum (before ++ one ∷ [])

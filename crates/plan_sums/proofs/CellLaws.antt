@@ -1,24 +1,5 @@
 -- What goes between ranks and aggregators, one thing more.
-use Rattle.std.proofs.Common.{◌≡◌, ◌<◌, ℕ, ◌+◌, ◌-◌, ◌^◌, refl, sym, ◌∙◌, ap, List, [], ◌∷◌, ◌++◌, length, map, take, get_or, min, Bool, true, false, cond, arith}
-use Rattle.std.specs.Prelude.{◌==◌, filter, flat_map}
-use Rattle.std.specs.List.{range_with_len, sum_by}
-use Rattle.std.proofs.lemmas.List.{append-nil, append_assoc, map-append, take_more}
-use Rattle.std.proofs.lemmas.List.Elements.{filter-append}
-use Rattle.std.proofs.lemmas.List.Folds.{flat_map-map}
-use Rattle.std.proofs.lemmas.List.Sums.{sum_by_push}
-use Rattle.std.proofs.lemmas.Grind.{flat_map-append}
-use Rattle.nc_base.specs.declared.request.Direction.{Direction}
-use Rattle.nc_base.specs.declared.request.Direction.TheVariants.{Put, Get}
-use Rattle.window_plan.specs.declared.plan.Share.{Share}
-use Rattle.window_plan.specs.declared.plan.WindowPlan.{WindowPlan}
-use Rattle.step_plan.specs.Steps.{windows_in}
-use Rattle.step_plan.specs.declared.plan.DomainPlan.{DomainPlan}
-use Rattle.step_plan.specs.declared.plan.StepPlan.{StepPlan}
-use Rattle.plan_sums.specs.Cells.{bytes_of, cell, cells_in, domains_in, is_served_by, shares_by, shares_in, shares_of, some_cell}
-use Rattle.plan_sums.specs.Naive.{phase_of}
-use Rattle.plan_sums.specs.Served.{cell_of, served_by}
-use Rattle.plan_sums.specs.declared.cells.Cell.{Cell}
-use Rattle.plan_sums.specs.declared.cells.Served.{Served}
+use Rattle.plan_sums.proofs.Words.{◌≡◌, ◌<◌, ℕ, ◌+◌, ◌-◌, ◌^◌, refl, sym, ◌∙◌, ap, List, [], ◌∷◌, ◌++◌, length, map, take, get_or, min, Bool, true, false, cond, arith, ◌==◌, filter, flat_map, range_with_len, sum_by, append-nil, append_assoc, map-append, take_more, filter-append, flat_map-map, sum_by_push, flat_map-append, Direction, Put, Get, Share, WindowPlan, windows_in, DomainPlan, StepPlan, bytes_of, cell, cells_in, domains_in, is_served_by, shares_by, shares_in, shares_of, some_cell, phase_of, cell_of, served_by, Cell, Served}
 use Rattle.plan_sums.proofs.ListLaws.{flat_next, flat_push, next_range}
 
 -- ---- a rank's bytes

@@ -1,3 +1,4 @@
+mod Words
 pub mod ListLaws
 pub mod TallyLaws
 pub mod AskedLaws

@@ -1,9 +1,5 @@
 -- Lists of lists, one element more.
-use Rattle.std.proofs.Common.{◌≡◌, ◌<◌, ℕ, suc, ◌+◌, sym, ◌∙◌, ap, List, [], ◌∷◌, ◌++◌, length, take, get_or, arith}
-use Rattle.std.specs.Prelude.{flat_map}
-use Rattle.std.specs.List.{range_with_len}
-use Rattle.std.proofs.lemmas.List.{append_assoc, flat_map_more, take_more}
-use Rattle.list_laws.proofs.Ranges.{range_push}
+use Rattle.plan_sums.proofs.Words.{◌≡◌, ◌<◌, ℕ, suc, ◌+◌, sym, ◌∙◌, ap, List, [], ◌∷◌, ◌++◌, length, take, get_or, arith, flat_map, range_with_len, append_assoc, flat_map_more, take_more, range_push}
 
 pub flat_push : {X Y : Type 0} (f : X → List Y) (xs : List X) (x : X) → flat_map f (xs ++ x ∷ []) ≡ flat_map f xs ++ f x
 flat_push f xs x = sym (flat_map_more f [] xs x)

@@ -1,15 +1,5 @@
 -- The sums of a plan, by those of its calls.
-use Rattle.std.proofs.Common.{◌≡◌, ℕ, ◌-◌, ◌∙◌, ap, List}
-use Rattle.nc_base.specs.declared.request.Direction.TheVariants.{Put, Get}
-use Rattle.run_plan.specs.Planned.{calls_in}
-use Rattle.run_plan.specs.declared.run.RunPlan.{RunPlan}
-use Rattle.plan_sums.specs.Cells.{cells_in}
-use Rattle.plan_sums.specs.Naive.{asked_in, naive_sum}
-use Rattle.plan_sums.specs.Summed.{all_calls, AreSums}
-use Rattle.plan_sums.specs.Tallies.{counted}
-use Rattle.plan_sums.specs.declared.calls.Counted.{Counted}
-use Rattle.plan_sums.specs.declared.cells.Cell.{Cell}
-use Rattle.plan_sums.specs.declared.naive.Naive.{Naive}
+use Rattle.plan_sums.proofs.Words.{◌≡◌, ℕ, ◌-◌, ◌∙◌, ap, List, Put, Get, calls_in, RunPlan, cells_in, asked_in, naive_sum, all_calls, AreSums, counted, Counted, Cell, Naive}
 
 pub summed : (plan : RunPlan) (unit ranks nodes : ℕ) (all moved : Counted) (got put : Naive) (over beside : ℕ) (cells : List Cell) → all ≡ counted unit (all_calls plan)
     → moved ≡ counted unit (calls_in plan.steps) → got ≡ naive_sum (asked_in Get plan.steps) → put ≡ naive_sum (asked_in Put plan.steps)

@@ -1,13 +1,5 @@
 -- One read or write more.
-use Rattle.std.proofs.Common.{◌≡◌, ◌<◌, ℕ, ◌+◌, ◌-◌, ◌^◌, refl, sym, ◌∙◌, ap, List, [], ◌∷◌, ◌++◌, length, map, min, max, cond, arith}
-use Rattle.std.specs.Prelude.{fold}
-use Rattle.std.specs.List.{count_by}
-use Rattle.std.proofs.lemmas.List.Sums.{sum_by_push}
-use Rattle.nc_base.specs.declared.plan.Extent.{Extent}
-use Rattle.list_laws.proofs.Appends.{long_push}
-use Rattle.serial_spec.specs.Layout.{greatest}
-use Rattle.plan_sums.specs.Tallies.{bytes_in, capped, is_unaligned, least_of, tally_of}
-use Rattle.plan_sums.specs.declared.tally.Tally.{Tally}
+use Rattle.plan_sums.proofs.Words.{◌≡◌, ◌<◌, ℕ, ◌+◌, ◌-◌, ◌^◌, refl, sym, ◌∙◌, ap, List, [], ◌∷◌, ◌++◌, length, map, min, max, cond, arith, fold, count_by, sum_by_push, Extent, long_push, greatest, bytes_in, capped, is_unaligned, least_of, tally_of, Tally}
 
 least_from : (n : ℕ) (es : List Extent) (e : Extent) → fold min n (map (λ x. x.len) (es ++ e ∷ [])) ≡ min (fold min n (map (λ x. x.len) es)) e.len
 least_from n [] e = refl

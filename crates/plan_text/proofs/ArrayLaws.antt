@@ -1,11 +1,7 @@
 -- Arrays that are written item by item, and objects that are written in two parts.
-use Rattle.std.proofs.Common.{◌≡◌, ℕ, zero, suc, ◌+◌, ◌<◌, ◌≤◌, List, [], ◌∷◌, ◌++◌, length, map, take, get_or, refl, sym, ap, ◌∙◌, arith}
-use Rattle.std.proofs.lemmas.List.{append_assoc, map_more}
-use Rattle.std.proofs.lemmas.Grind.{common_steps}
-use Rattle.std.proofs.lemmas.Option.{slice_get-get_or}
-use Rattle.std.specs.Prelude.{slice_get, Some}
-use Rattle.script_spec.specs.Texts.{joined}
-use Rattle.plan_text.specs.Json.{closed, comma}
+use Rattle.plan_text.proofs.Words.{◌≡◌, ℕ, zero, suc, ◌+◌, ◌<◌, ◌≤◌, List, [], ◌∷◌, ◌++◌, length, map, take, get_or, refl, sym, ap, ◌∙◌, arith, map_more, common_steps, slice_get-get_or, slice_get, joined, closed, comma}
+use Rattle.std.proofs.lemmas.List.{append_assoc}
+use Rattle.std.specs.Prelude.{Some}
 
 pub comma_first : (n : ℕ) → n ≤ 0 → comma n ≡ []
 comma_first zero h = refl

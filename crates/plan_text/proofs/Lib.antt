@@ -1,3 +1,4 @@
+mod Words
 pub mod ArrayLaws
 mod LineLaws
 pub mod PlainLaws

@@ -1,7 +1,5 @@
 -- Words and numbers that a line goes on with.
-use Rattle.std.proofs.Common.{◌≡◌, ℕ, List, [], ◌∷◌, ◌++◌, sym, ap, ◌∙◌, append_assoc}
-use Rattle.list_laws.proofs.Appends.{then_append}
-use Rattle.script_spec.specs.Texts.{text_line}
+use Rattle.plan_text.proofs.Words.{◌≡◌, ℕ, List, [], ◌∷◌, ◌++◌, sym, ap, ◌∙◌, append_assoc, then_append, text_line}
 
 -- words and what follows them, behind a front
 pub then_words : (o x y a b c : List ℕ) → x ≡ o ++ a → y ≡ x ++ (b ++ c) → y ≡ o ++ (a ++ b ++ c)

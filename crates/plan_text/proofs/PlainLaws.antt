@@ -1,21 +1,8 @@
 -- Texts in which nothing is escaped.
-use Rattle.std.proofs.Common.{◌≡◌, ℕ, zero, suc, ◌+◌, ◌/◌, ◌%◌, ◌<◌, ◌==◌, List, [], ◌∷◌, ◌++◌, Bool, true, false, cond, Option, Some, None, refl, sym, ap, ◌∙◌, arith, decimal, codes, lt-ltb, le-leb, ne_eqb}
-use Rattle.std.specs.Prelude.{slice_get}
-use Rattle.std.specs.List.{flat_map}
-use Rattle.std.specs.Fmt.{digit_glyph, digits, digits_onto}
+use Rattle.plan_text.proofs.Words.{◌≡◌, ℕ, zero, suc, ◌+◌, ◌/◌, ◌%◌, ◌<◌, ◌==◌, List, [], ◌∷◌, ◌++◌, Bool, true, false, cond, Option, Some, None, refl, sym, ap, ◌∙◌, arith, decimal, codes, lt-ltb, le-leb, ne_eqb, slice_get, flat_map, digit_glyph, digits, digits_onto, flat_map-append, Call, Form, PostKind, Iput, Iget, Bput, Mark, Meet, Solo, call_word, form_word, kind_word, mark_word, with_all, json_character, json_text, word_in, word_of_some}
 use Rattle.std.proofs.lemmas.List.{append_assoc}
-use Rattle.std.proofs.lemmas.List.Concat.{flat_map-append}
-use Rattle.nc_base.specs.declared.request.Call.{Call}
 use Rattle.nc_base.specs.declared.request.Call.TheVariants as call
-use Rattle.nc_base.specs.declared.request.Form.{Form}
 use Rattle.nc_base.specs.declared.request.Form.TheVariants as form
-use Rattle.nc_base.specs.declared.request.PostKind.{PostKind}
-use Rattle.nc_base.specs.declared.request.PostKind.TheVariants.{Iput, Iget, Bput}
-use Rattle.nc_base.specs.declared.step.Mark.{Mark}
-use Rattle.nc_base.specs.declared.step.Mark.TheVariants.{Meet, Solo}
-use Rattle.script_spec.specs.Texts.{call_word, form_word, kind_word, mark_word, with_all}
-use Rattle.plan_text.specs.Json.{json_character, json_text}
-use Rattle.plan_text.specs.PlanWords.{word_in, word_of_some}
 
 -- each byte is its own character
 abbrev pub IsPlain : List ℕ → Type 0

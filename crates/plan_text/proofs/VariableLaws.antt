@@ -1,12 +1,5 @@
 -- The variables of a sound header.
-use Rattle.std.proofs.Common.{◌≡◌, ℕ, ◌^◌, ◌<◌, List, length, get_or, true, Some, sym, ap, ◌∙◌}
-use Rattle.std.specs.Prelude.{slice_get}
-use Rattle.std.proofs.lemmas.Option.{slice_get-get_or}
-use Rattle.nc_base.specs.declared.header.Header.{Header}
-use Rattle.nc_base.specs.declared.header.Var.{Var}
-use Rattle.serial_spec.specs.Layout.{slab}
-use Rattle.serial_spec.specs.SoundHeaders.{is_sound}
-use Rattle.var_layout.proofs.Soundness.{slab_small}
+use Rattle.plan_text.proofs.Words.{◌≡◌, ℕ, ◌^◌, ◌<◌, List, length, get_or, true, Some, sym, ap, ◌∙◌, slice_get, slice_get-get_or, Header, Var, slab, is_sound, slab_small}
 
 -- the size of the k-th one
 pub size_at : (header : Header) (vars : List Var) (k : ℕ) (v : Var) → is_sound header ≡ true → vars ≡ header.vars → k < length vars → v ≡ get_or vars k v → slab header v < 2 ^ 62

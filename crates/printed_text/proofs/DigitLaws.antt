@@ -1,14 +1,5 @@
 -- Digits, looked up by names and ids.
-use Rattle.std.proofs.Common.{◌≡◌, ℕ, List, length, Bool, true, false, cond, Option, Some, None, refl, ap, ◌∙◌}
-use Rattle.std.specs.Prelude.{unwrap_or, option_map, nat_lt, bytes_eq, find, position, slice_get}
-use Rattle.std.specs.List.{position_or_len}
-use Rattle.std.proofs.lemmas.List.Folds.{find_at}
-use Rattle.std.proofs.lemmas.Option.{slice_get_past}
-use Rattle.std.proofs.lemmas.Bool.{ltb-false}
-use Rattle.nc_base.specs.declared.header.Header.{Header}
-use Rattle.nc_base.specs.declared.header.Var.{Var}
-use Rattle.script_spec.specs.Texts.{digits_of, digits_of_name, digits_of_var}
-use Rattle.printed_text.specs.Digits.{named_digits}
+use Rattle.printed_text.proofs.Words.{◌≡◌, ℕ, List, length, Bool, true, false, cond, Option, Some, None, refl, ap, ◌∙◌, unwrap_or, option_map, nat_lt, bytes_eq, find, position, slice_get, position_or_len, find_at, slice_get_past, ltb-false, Header, Var, digits_of, digits_of_name, digits_of_var, named_digits}
 
 -- of the first variable that a test passes
 named_by : (header : Header) (p : Var → Bool) → unwrap_or (option_map (λ v. digits_of v.kind) (find p header.vars)) 16 ≡ digits_of_var header (position p header.vars)

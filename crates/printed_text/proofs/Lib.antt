@@ -1,3 +1,4 @@
+mod Words
 mod DigitLaws
 mod OffsetLaws
 pub mod WordLaws

@@ -1,16 +1,6 @@
 -- Where variables lie.
-use Rattle.std.proofs.Common.{◌≡◌, ◌+◌, ◌^◌, ◌<◌, ℕ, List, [], ◌∷◌, ◌++◌, length, take, get_or, Bool, true, false, cond, Some, sym, ap, ◌∙◌, arith}
-use Rattle.std.specs.List.{slice_get, filter, flat_map}
-use Rattle.std.proofs.lemmas.List.{append-nil, append_assoc}
-use Rattle.std.proofs.lemmas.List.Concat.{flat_map-append}
-use Rattle.std.proofs.lemmas.List.Elements.{filter_more}
-use Rattle.std.proofs.lemmas.Option.{slice_get-get_or}
-use Rattle.serial_spec.proofs.RoomLaws.{slab_below}
-use Rattle.nc_base.specs.declared.header.Header.{Header}
-use Rattle.nc_base.specs.declared.header.Var.{Var}
-use Rattle.serial_spec.specs.SoundHeaders.{is_sound}
-use Rattle.serial_spec.specs.Layout.{slab, vsize}
-use Rattle.var_layout.proofs.Soundness.{var_kept}
+use Rattle.printed_text.proofs.Words.{◌≡◌, ◌+◌, ◌^◌, ◌<◌, ℕ, List, [], ◌∷◌, ◌++◌, length, take, get_or, Bool, true, false, cond, Some, sym, ap, ◌∙◌, arith, filter, flat_map, append-nil, append_assoc, flat_map-append, filter_more, slice_get-get_or, slab_below, Header, Var, is_sound, slab, vsize, var_kept}
+use Rattle.std.specs.List.{slice_get}
 
 -- a variable of a sound header ends within a file
 pub var_ends : (header : Header) (vars : List Var) (k : ℕ) (v : Var) → is_sound header ≡ true → vars ≡ header.vars → k < length vars → v ≡ get_or vars k v

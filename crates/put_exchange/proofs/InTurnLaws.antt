@@ -1,27 +1,9 @@
 -- A part whose windows are overlaid with the entries, one after another.
-use Rattle.std.proofs.Common.{◌≡◌, ℕ, ◌+◌, ◌≤◌, inl, inr, refl, sym, ◌∙◌, ap, subst, List, [], ◌∷◌, length, Option}
-use Rattle.std.specs.Prelude.{map, flat_map, IfSome}
-use Rattle.nc_base.specs.declared.plan.Owned.{Owned}
-use Rattle.nc_base.specs.declared.step.DiskCall.{DiskCall}
-use Rattle.nc_outside.proofs.ToldLaws.{with_end-nil}
-use Rattle.nc_outside.specs.Told.{after, with_end, BothTold}
-use Rattle.serial_spec.specs.Said.{said_by, IsOneValued}
-use Rattle.overlay_laws.specs.Changes.{store_calls, IsBetween}
-use Rattle.overlay_laws.specs.Entries.{In, Source, cell_of}
-use Rattle.aggregator_rounds.specs.Left.{IsPast}
-use Rattle.aggregator_rounds.proofs.EntryCells.{covered_place}
-use Rattle.exchange_crew.specs.declared.walk.TurnWalk.{TurnWalk}
-use Rattle.exchange_crew.specs.Pieces.{ArePieces}
-use Rattle.put_exchange.specs.Put.{put_part}
-use Rattle.put_exchange.specs.Sent.{cells_in}
-use Rattle.put_exchange.specs.Taken.{put_window, IsFilledBy}
-use Rattle.exchange_crew.specs.Turns.{Told, turns_ahead, IsTurnWalk}
-use Rattle.exchange_crew.specs.Hulls.{HaveWindows, IsTurn, LieOnPart}
+use Rattle.put_exchange.proofs.Words.{◌≡◌, ℕ, ◌+◌, ◌≤◌, inl, inr, refl, sym, ◌∙◌, ap, subst, List, [], ◌∷◌, length, Option, flat_map, IfSome, Owned, DiskCall, with_end-nil, after, with_end, BothTold, said_by, IsOneValued, store_calls, IsBetween, In, Source, cell_of, IsPast, covered_place, TurnWalk, ArePieces, put_part, cells_in, put_window, IsFilledBy, Told, turns_ahead, IsTurnWalk, HaveWindows, IsTurn, LieOnPart, AreInFront, AreServed, IsAt, at_next, served_are, served_covered, served_now}
+use Rattle.std.specs.Prelude.{map}
 use Rattle.put_exchange.proofs.PieceLaws.{pieces_found, served_picked}
 use Rattle.put_exchange.proofs.PutLaws.{IsPutSoFar, told_begin, told_between, told_end, told_more, told_next}
 use Rattle.put_exchange.proofs.ServeLaws.{calls_more}
-use Rattle.exchange_crew.specs.Cursor.{AreInFront, AreServed, IsAt}
-use Rattle.exchange_crew.proofs.TurnLaws.{at_next, served_are, served_covered, served_now}
 
 -- the entries that may have bytes in a window fill it
 pub served_filled : (source : Source) (list begun : List Owned) (room : ℕ) (t : Told) → AreServed list begun t.0 (t.0 + t.1) → ArePieces source list → IsTurn list room t

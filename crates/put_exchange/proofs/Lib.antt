@@ -1,3 +1,4 @@
+mod Words
 mod PutLaws
 mod PieceLaws
 mod SentLaws

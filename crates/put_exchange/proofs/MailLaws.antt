@@ -1,19 +1,5 @@
 -- The messages of a domain, window after window.
-use Rattle.std.proofs.Common.{◌≡◌, ℕ, ◌+◌, ◌^◌, ◌<◌, sym, ◌∙◌, ap, List, [], ◌∷◌, ◌++◌, length, append_assoc}
-use Rattle.std.proofs.lemmas.List.{append-nil}
-use Rattle.std.proofs.lemmas.List.Concat.{flat_map-append}
-use Rattle.nc_base.specs.declared.plan.Owned.{Owned}
-use Rattle.overlay_laws.specs.Entries.{In, Source}
-use Rattle.overlay_laws.specs.Lines.{extents, EndBelow}
-use Rattle.aggregator_rounds.specs.Left.{IsPast}
-use Rattle.exchange_crew.specs.Cursor.{AreInFront, AreServed, IsAt}
-use Rattle.exchange_crew.specs.Pieces.{ArePieces}
-use Rattle.exchange_crew.specs.Turns.{Told, turns_ahead, IsTurnWalk}
-use Rattle.exchange_crew.specs.declared.walk.TurnWalk.{TurnWalk}
-use Rattle.exchange_crew.proofs.TurnLaws.{at_next, served_are, served_ends, served_in, served_now, turn_limit}
-use Rattle.put_exchange.specs.Feeds.{sent_in}
-use Rattle.put_exchange.specs.Sent.{message_counts, messages_in, messages_of, Sent}
-use Rattle.put_exchange.specs.declared.packing.Round.{Round}
+use Rattle.put_exchange.proofs.Words.{◌≡◌, ℕ, ◌+◌, ◌^◌, ◌<◌, sym, ◌∙◌, ap, List, [], ◌∷◌, ◌++◌, length, append_assoc, append-nil, flat_map-append, Owned, In, Source, extents, EndBelow, IsPast, AreInFront, AreServed, IsAt, ArePieces, Told, turns_ahead, IsTurnWalk, TurnWalk, at_next, served_are, served_ends, served_in, served_now, turn_limit, sent_in, message_counts, messages_in, messages_of, Sent, Round}
 use Rattle.put_exchange.proofs.SentLaws.{messages_served}
 
 -- what was packed and what is left of the windows are the whole

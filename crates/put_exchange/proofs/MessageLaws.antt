@@ -1,10 +1,5 @@
 -- Pieces of a message, one after another.
-use Rattle.std.proofs.Common.{◌≡◌, ℕ, ◌+◌, ◌-◌, ◌≤◌, sym, ◌∙◌, ap, List, [], ◌∷◌, ◌++◌, length, get_or, take, zero, suc, ◌<◌, arith}
-use Rattle.std.proofs.lemmas.List.{map-append, take_more}
-use Rattle.serial_spec.specs.File.{written}
-use Rattle.serial_spec.specs.Said.{Cell, write_cells, moved_down, IsFrom, IsWithin}
-use Rattle.put_exchange.specs.Sent.{cells_of}
-use Rattle.put_exchange.specs.declared.message.LentPiece.{LentPiece}
+use Rattle.put_exchange.proofs.Words.{◌≡◌, ℕ, ◌+◌, ◌-◌, ◌≤◌, sym, ◌∙◌, ap, List, [], ◌∷◌, ◌++◌, length, get_or, take, zero, suc, ◌<◌, arith, map-append, take_more, written, Cell, write_cells, moved_down, IsFrom, IsWithin, cells_of, LentPiece}
 use Rattle.put_exchange.proofs.TakenLaws.{written_more}
 
 pub cells_push : (pieces : List LentPiece) (p : LentPiece) → cells_of (pieces ++ p ∷ []) ≡ cells_of pieces ++ (p.at, p.bytes.now) ∷ []

@@ -1,24 +1,5 @@
 -- Packing: one entry more goes into the message of its rank.
-use Rattle.std.proofs.Common.{◌≡◌, ℕ, zero, suc, ◌+◌, ◌<◌, ◌≤◌, refl, sym, ◌∙◌, ap, List, [], ◌∷◌, ◌++◌, length, map, take, drop, set, get_or, Bool, true, false, cond, ◌&&◌, arith}
-use Rattle.std.proofs.lemmas.Bool.{and_right, eqb-true}
-use Rattle.std.proofs.lemmas.List.{append-nil, length-map, map-append, take_more}
-use Rattle.std.proofs.lemmas.List.FromFn.{length-range_with_len}
-use Rattle.std.proofs.lemmas.List.Elements.{filter-append}
-use Rattle.std.proofs.lemmas.Option.{slice_get-get_or}
-use Rattle.std.specs.Prelude.{slice_get, ◌==◌}
-use Rattle.std.specs.List.{range_with_len}
-use Rattle.list_laws.proofs.Ranges.{range_push}
-use Rattle.list_laws.proofs.Truth.{equal_true}
-use Rattle.nc_base.specs.declared.plan.Batch.{Batch}
-use Rattle.nc_base.specs.declared.plan.Owned.{Owned}
-use Rattle.serial_spec.specs.Said.{Cell}
-use Rattle.overlay_laws.specs.Entries.{Source, cell_of}
-use Rattle.overlay_laws.specs.Windows.{clip}
-use Rattle.aggregator_rounds.specs.EntryParts.{part_at, part_in}
-use Rattle.aggregator_rounds.proofs.PartSteps.{part_bytes}
-use Rattle.exchange_crew.specs.Pieces.{meets, of_rank}
-use Rattle.exchange_crew.specs.Turns.{Told, puts_of_some, source_of}
-use Rattle.put_exchange.specs.Sent.{cells_in, hull_of, sent, sent_by, with_piece, Sent}
+use Rattle.put_exchange.proofs.Words.{◌≡◌, ℕ, zero, suc, ◌+◌, ◌<◌, ◌≤◌, refl, sym, ◌∙◌, ap, List, [], ◌∷◌, ◌++◌, length, map, take, drop, set, get_or, Bool, true, false, cond, ◌&&◌, arith, and_right, eqb-true, append-nil, length-map, map-append, take_more, length-range_with_len, filter-append, slice_get-get_or, slice_get, ◌==◌, range_with_len, range_push, equal_true, Batch, Owned, Cell, Source, cell_of, clip, part_at, part_in, part_bytes, meets, of_rank, Told, puts_of_some, source_of, cells_in, hull_of, sent, sent_by, with_piece, Sent}
 use Rattle.put_exchange.proofs.SentLaws.{cells_joined}
 
 -- ---- the bytes of an entry's post

@@ -1,24 +1,6 @@
 -- The pieces of a window are those of the entries that a walk gives with it, and have each covered byte of it.
-use Rattle.std.proofs.Common.{◌≡◌, ℕ, ◌+◌, ◌<◌, ◌≤◌, inl, inr, refl, sym, ◌∙◌, ap, List, [], ◌∷◌, ◌++◌, Bool, false, ◌&&◌, arith}
-use Rattle.std.proofs.lemmas.List.{append-nil}
-use Rattle.std.specs.Prelude.{filter, nat_lt, ◌==◌}
-use Rattle.std.specs.List.{range_with_len}
-use Rattle.std.proofs.lemmas.Bool.{and_from, and_right, lt-ltb, le-ltb}
-use Rattle.std.proofs.lemmas.List.Elements.{filter-append}
-use Rattle.nc_base.specs.declared.plan.Owned.{Owned}
-use Rattle.overlay_laws.specs.Entries.{In, Source}
-use Rattle.overlay_laws.specs.Origins.{AreFound}
-use Rattle.overlay_laws.proofs.HullLaws.{in_flat, flat_in, in_range}
-use Rattle.list_laws.proofs.Truth.{equal_true}
-use Rattle.serial_spec.proofs.MemberLaws.{in_filter, filter_in}
-use Rattle.overlay_laws.proofs.WalkLaws.{filter_none}
-use Rattle.aggregator_rounds.specs.EntryParts.{IsCovered}
-use Rattle.aggregator_rounds.proofs.PastSteps.{past_same}
-use Rattle.exchange_crew.specs.Pieces.{meets, of_rank, pieces_in, ArePieces}
-use Rattle.exchange_crew.specs.Turns.{Told}
+use Rattle.put_exchange.proofs.Words.{◌≡◌, ℕ, ◌+◌, ◌<◌, ◌≤◌, inl, inr, refl, sym, ◌∙◌, ap, List, [], ◌∷◌, ◌++◌, Bool, false, ◌&&◌, arith, append-nil, filter, nat_lt, ◌==◌, range_with_len, and_from, and_right, lt-ltb, le-ltb, filter-append, Owned, In, Source, AreFound, in_flat, flat_in, in_range, equal_true, in_filter, filter_in, filter_none, IsCovered, past_same, meets, of_rank, pieces_in, ArePieces, Told, AreServed, in_served, served_in}
 use Rattle.put_exchange.proofs.PutLaws.{ArePicked}
-use Rattle.exchange_crew.specs.Cursor.{AreServed}
-use Rattle.exchange_crew.proofs.TurnLaws.{in_served, served_in}
 
 -- ---- tests
 

@@ -1,30 +1,6 @@
 -- A window that is put on a part: each byte is old or new, and once no window is ahead each byte that the entries say is new.
-use Rattle.std.proofs.Common.{◌≡◌, ℕ, ◌+◌, ◌-◌, ◌<◌, ◌≤◌, ◌⊎◌, inl, inr, refl, sym, ◌∙◌, ap, subst, List, [], ◌∷◌, length, drop, Bool, true, false, Option, Some, None, arith, Result, Ok, Err}
-use Rattle.std.proofs.lemmas.List.{length-take}
-use Rattle.std.proofs.lemmas.Bool.{ltb-true, ltb-false}
-use Rattle.std.specs.Prelude.{map, nat_lt, IfSome, OnOk, IsOk}
-use Rattle.std.specs.List.{enumerate_from}
-use Rattle.list_laws.proofs.Optional.{no_none_some}
-use Rattle.nc_base.specs.declared.plan.Owned.{Owned}
-use Rattle.nc_outside.specs.Told.{after, BothTold}
-use Rattle.serial_spec.specs.File.{at}
-use Rattle.serial_spec.specs.Said.{Cell, byte_or, said_at, said_by, write_cells, moved_down, IsFrom, IsWithin, IsOneValued, Says}
-use Rattle.serial_spec.proofs.SaidLaws.{cells_said}
-use Rattle.overlay_laws.specs.Changes.{IsBetween}
-use Rattle.overlay_laws.specs.Entries.{In, Source, cell_of}
-use Rattle.overlay_laws.specs.Windows.{clips, IsPart}
-use Rattle.overlay_laws.proofs.ChangeLaws.{between_next}
-use Rattle.overlay_laws.proofs.EntryLaws.{says_cases, says_left, says_right}
-use Rattle.overlay_laws.proofs.SaidLaws.{cells_long, one_said, said_is, same_file}
-use Rattle.overlay_laws.proofs.WindowLaws.{clips_from, clips_in, clips_within, moved_said, none_below, none_past, within_lowered, within_more}
-use Rattle.aggregator_rounds.proofs.RoundLaws.{from_less}
-use Rattle.put_exchange.specs.Put.{put_part, HasPut}
-use Rattle.put_exchange.specs.Sent.{cells_in}
-use Rattle.put_exchange.specs.Taken.{put_window}
-use Rattle.exchange_crew.specs.Turns.{Told}
-use Rattle.exchange_crew.specs.Hulls.{HaveWindows}
-use Rattle.exchange_crew.specs.Parts.{PartState}
-use Rattle.aggregator_rounds.proofs.EntryCells.{entry_cells}
+use Rattle.put_exchange.proofs.Words.{◌≡◌, ℕ, ◌+◌, ◌-◌, ◌<◌, ◌≤◌, ◌⊎◌, inl, inr, refl, sym, ◌∙◌, ap, subst, List, [], ◌∷◌, length, drop, Bool, true, false, Option, Some, None, arith, Result, Ok, Err, length-take, ltb-true, ltb-false, nat_lt, IfSome, OnOk, IsOk, enumerate_from, no_none_some, Owned, after, BothTold, at, Cell, byte_or, said_at, said_by, write_cells, moved_down, IsFrom, IsWithin, IsOneValued, Says, cells_said, IsBetween, In, Source, cell_of, clips, IsPart, between_next, says_cases, says_left, says_right, cells_long, one_said, said_is, same_file, clips_from, clips_in, clips_within, moved_said, none_below, none_past, within_lowered, within_more, from_less, put_part, HasPut, cells_in, put_window, Told, HaveWindows, PartState, entry_cells}
+use Rattle.std.specs.Prelude.{map}
 
 -- ---- which entry says a byte
 

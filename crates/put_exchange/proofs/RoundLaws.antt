@@ -1,10 +1,5 @@
 -- The earlier of two rounds.
-use Rattle.std.proofs.Common.{◌≡◌, ℕ, ◌<◌, ◌≤◌, ◌⊎◌, min, inl, inr, refl, sym, ◌∙◌, ap, Bool, true, false, Option, Some, None, List, ◌∷◌, ◌++◌, append_assoc, arith}
-use Rattle.std.proofs.lemmas.Bool.Decides.{nat_tests}
-use Rattle.std.specs.Prelude.{nat_lt}
-use Rattle.put_exchange.specs.Feeds.{earlier_of, sent_in}
-use Rattle.put_exchange.specs.Sent.{Sent}
-use Rattle.put_exchange.specs.declared.packing.Round.{Round}
+use Rattle.put_exchange.proofs.Words.{◌≡◌, ℕ, ◌<◌, ◌≤◌, ◌⊎◌, min, inl, inr, refl, sym, ◌∙◌, ap, Bool, true, false, Option, Some, None, List, ◌∷◌, ◌++◌, append_assoc, arith, nat_tests, nat_lt, earlier_of, sent_in, Sent, Round}
 
 pub earlier_some : (one other : Option ℕ) (round : ℕ) → earlier_of one other ≡ Some round → (one ≡ Some round) ⊎ (other ≡ Some round)
 earlier_some (Some a) (Some b) round e = by_order (nat_lt b a) refl

@@ -1,18 +1,5 @@
 -- The messages of a window carry its pieces.
-use Rattle.std.proofs.Common.{◌≡◌, ℕ, ◌+◌, inl, inr, refl, sym, ◌∙◌, ap, List, [], ◌∷◌, ◌++◌, length, map, cond, Bool, true, false, arith}
-use Rattle.std.proofs.lemmas.Bool.{lt-ltb}
-use Rattle.std.proofs.lemmas.List.{map-append}
-use Rattle.std.specs.Prelude.{filter, flat_map, nat_lt}
-use Rattle.std.specs.List.{range_with_len}
-use Rattle.nc_base.specs.declared.plan.Owned.{Owned}
-use Rattle.serial_spec.specs.Said.{Cell}
-use Rattle.overlay_laws.specs.Entries.{In, Source, cell_of}
-use Rattle.overlay_laws.specs.Windows.{clip, clips}
-use Rattle.exchange_crew.specs.Cursor.{AreServed}
-use Rattle.exchange_crew.specs.Pieces.{of_rank, pieces_in}
-use Rattle.exchange_crew.specs.Turns.{Told}
-use Rattle.put_exchange.specs.Sent.{cells_in, has_pieces, hull_of, messages_in, sent, sent_by, Sent}
-use Rattle.put_exchange.specs.Taken.{pieces_in_all, AreFor, Carry}
+use Rattle.put_exchange.proofs.Words.{◌≡◌, ℕ, ◌+◌, inl, inr, refl, sym, ◌∙◌, ap, List, [], ◌∷◌, ◌++◌, length, map, cond, Bool, true, false, arith, lt-ltb, map-append, filter, flat_map, nat_lt, range_with_len, Owned, Cell, In, Source, cell_of, clip, clips, AreServed, of_rank, pieces_in, Told, cells_in, has_pieces, hull_of, messages_in, sent, sent_by, Sent, pieces_in_all, AreFor, Carry}
 use Rattle.put_exchange.proofs.PieceLaws.{rank_served}
 
 -- ---- the entries that a walk gives with a window

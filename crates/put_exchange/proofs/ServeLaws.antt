@@ -1,23 +1,6 @@
 -- A helper that took the planned messages has served its part.
-use Rattle.std.proofs.Common.{◌≡◌, ℕ, ◌+◌, ◌<◌, ◌≤◌, inl, inr, refl, sym, ◌∙◌, ap, subst, List, [], ◌∷◌, ◌++◌, length, Option, Some, None, Result, Ok, Err, append_assoc, arith}
-use Rattle.std.proofs.lemmas.List.{append-nil, length-append}
-use Rattle.std.specs.Prelude.{map, flat_map, IfSome, IsOk, IsErr, OnOk}
-use Rattle.nc_base.specs.declared.plan.Owned.{Owned}
-use Rattle.nc_base.specs.declared.step.DiskCall.{DiskCall}
-use Rattle.nc_outside.proofs.ToldLaws.{with_end-nil}
-use Rattle.nc_outside.specs.Told.{after, with_end, BothTold}
-use Rattle.serial_spec.specs.Said.{said_by, IsOneValued}
-use Rattle.overlay_laws.specs.Changes.{store_calls, IsBetween}
-use Rattle.overlay_laws.specs.Entries.{In, Source, cell_of}
-use Rattle.aggregator_rounds.proofs.EntryCells.{covered_place}
-use Rattle.file_domains.specs.Rounds.{IsWalk}
-use Rattle.file_domains.specs.declared.walk.WindowWalk.{WindowWalk}
-use Rattle.exchange_crew.specs.Pieces.{pieces_in, ArePieces}
-use Rattle.put_exchange.specs.Put.{put_part}
-use Rattle.put_exchange.specs.Sent.{cells_in, messages_in, messages_of, Sent}
-use Rattle.put_exchange.specs.Taken.{turn_due, Carry, HasPutTaken, HasTaken, IsFilledBy}
-use Rattle.exchange_crew.specs.Turns.{Told, turns_ahead}
-use Rattle.exchange_crew.specs.Hulls.{AreTurns, HaveWindows, IsTurn, LieOnPart}
+use Rattle.put_exchange.proofs.Words.{◌≡◌, ℕ, ◌+◌, ◌<◌, ◌≤◌, inl, inr, refl, sym, ◌∙◌, ap, subst, List, [], ◌∷◌, ◌++◌, length, Option, Some, None, Result, Ok, Err, append_assoc, arith, append-nil, length-append, flat_map, IfSome, IsOk, IsErr, OnOk, Owned, DiskCall, with_end-nil, after, with_end, BothTold, said_by, IsOneValued, store_calls, IsBetween, In, Source, cell_of, covered_place, IsWalk, WindowWalk, pieces_in, ArePieces, put_part, cells_in, messages_in, messages_of, Sent, turn_due, Carry, HasPutTaken, HasTaken, IsFilledBy, Told, turns_ahead, AreTurns, HaveWindows, IsTurn, LieOnPart}
+use Rattle.std.specs.Prelude.{map}
 use Rattle.put_exchange.proofs.PieceLaws.{pieces_are, pieces_covered, pieces_found, pieces_picked}
 use Rattle.put_exchange.proofs.PutLaws.{IsPutSoFar, told_begin, told_end, told_more, told_next, told_nothing}
 use Rattle.put_exchange.proofs.SentLaws.{messages_carry}

@@ -1,20 +1,6 @@
 -- Messages that were taken off a line, and laid one after another.
-use Rattle.std.proofs.Common.{◌≡◌, ℕ, zero, suc, arith, ◌+◌, ◌-◌, ◌<◌, inl, refl, sym, ◌∙◌, ap, List, [], ◌∷◌, ◌++◌, length, take, drop, get_or, append_assoc}
-use Rattle.std.proofs.lemmas.Grind.{fold-append}
-use Rattle.std.proofs.Math.Seq.{drop-append_seam, take-append_seam}
-use Rattle.std.proofs.lemmas.List.{append-nil, length-append, map-append, take_more}
-use Rattle.std.proofs.lemmas.List.Concat.{flat_map-append}
+use Rattle.put_exchange.proofs.Words.{◌≡◌, ℕ, zero, suc, arith, ◌+◌, ◌-◌, ◌<◌, inl, refl, sym, ◌∙◌, ap, List, [], ◌∷◌, ◌++◌, length, take, drop, get_or, append_assoc, fold-append, drop-append_seam, take-append_seam, append-nil, length-append, map-append, take_more, flat_map-append, Extent, Owned, written, Cell, write_cells, moved_down, Source, cell_of, clip, clips, in_left, in_right, Told, Sent, pieces_in_all, HasLaid}
 use Rattle.std.specs.Prelude.{map}
-use Rattle.nc_base.specs.declared.plan.Extent.{Extent}
-use Rattle.nc_base.specs.declared.plan.Owned.{Owned}
-use Rattle.serial_spec.specs.File.{written}
-use Rattle.serial_spec.specs.Said.{Cell, write_cells, moved_down}
-use Rattle.overlay_laws.specs.Entries.{Source, cell_of}
-use Rattle.overlay_laws.specs.Windows.{clip, clips}
-use Rattle.overlay_laws.proofs.HullLaws.{in_left, in_right}
-use Rattle.exchange_crew.specs.Turns.{Told}
-use Rattle.put_exchange.specs.Sent.{Sent}
-use Rattle.put_exchange.specs.Taken.{pieces_in_all, HasLaid}
 
 -- ---- lists of what was taken
 

@@ -1,18 +1,5 @@
 -- Helpers that were started, told to go, and fed.
-use Rattle.std.proofs.Common.{◌≡◌, ℕ, sym, ◌∙◌, ap, List, [], ◌∷◌, ◌++◌, length, Some}
-use Rattle.std.proofs.lemmas.List.{append-nil}
-use Rattle.std.specs.Prelude.{slice_get}
-use Rattle.overlay_laws.specs.Entries.{In}
-use Rattle.put_exchange.specs.Feeds.{feed_left, sent_in}
-use Rattle.put_exchange.specs.Sent.{planned_messages, Sent}
-use Rattle.put_exchange.specs.Workers.{domain_of, part_of, HasFed, IsFed, IsFresh, IsStartedFor, IsToldToGo}
-use Rattle.exchange_crew.specs.declared.crew.Word.TheVariants.{Go}
-use Rattle.put_exchange.specs.declared.packing.Round.{Round}
-use Rattle.put_exchange.specs.declared.sending.Feed.{Feed}
-use Rattle.exchange_crew.specs.declared.plan.PutPlan.{PutPlan}
-use Rattle.put_exchange.specs.declared.starting.Worker.{Worker}
-use Rattle.exchange_crew.proofs.BackLaws.{each_new}
-use Rattle.exchange_crew.proofs.CrewLaws.{stay_of, Keeps, StayOf}
+use Rattle.put_exchange.proofs.Words.{◌≡◌, ℕ, sym, ◌∙◌, ap, List, [], ◌∷◌, ◌++◌, length, Some, append-nil, slice_get, In, feed_left, sent_in, planned_messages, Sent, domain_of, part_of, HasFed, IsFed, IsFresh, IsStartedFor, IsToldToGo, Go, Round, Feed, PutPlan, Worker, each_new, stay_of, Keeps, StayOf}
 
 -- told to go, with all its messages left
 pub record IsTold {D : Type 0} (plan : PutPlan) (worker : Worker D) : Type 0 where

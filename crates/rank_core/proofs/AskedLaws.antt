@@ -1,28 +1,10 @@
 -- The posts that a call comes to are those of one request: there are some, under its id, of one variable.
-use Rattle.std.proofs.Common.{◌≡◌, ℕ, ◌+◌, ◌<◌, ◌≤◌, ◌∙◌, ap, sym, refl, subst, inl, inr, List, [], ◌∷◌, length, Bool, true, false, ltb, Option, Some, None, arith}
-use Rattle.std.specs.Prelude.{filter, slice_get}
-use Rattle.std.proofs.lemmas.Bool.{ltb-true}
-use Rattle.nc_base.specs.declared.header.Header.{Header}
-use Rattle.nc_base.specs.declared.header.Var.{Var}
-use Rattle.nc_base.specs.declared.header.NcType.{NcType}
-use Rattle.nc_base.specs.declared.plan.Post.{Post}
-use Rattle.nc_base.specs.declared.request.Given.{Given}
-use Rattle.nc_base.specs.declared.request.Region.{Region}
-use Rattle.nc_base.specs.declared.request.Values.{Values}
-use Rattle.nc_base.specs.declared.answer.Code.{Code}
+use Rattle.rank_core.proofs.Words.{◌≡◌, ℕ, ◌+◌, ◌<◌, ◌≤◌, ◌∙◌, ap, sym, refl, subst, inl, inr, List, [], ◌∷◌, length, Bool, true, false, ltb, Option, Some, None, arith, filter, slice_get, ltb-true, Header, Var, NcType, Post, Given, Region, Values, Code, In, product, is_sound, look_region, look_parts, look_at, part_posts, parts_code, data_code, direction_of, is_varn, find_var, widen, check_var, check_parts, part_regions, elements_of_all, has_element, AreTowards, HaveId, most_of, IsSomeLook, Look}
 use Rattle.nc_base.specs.declared.answer.Code.TheVariants as code
-use Rattle.overlay_laws.specs.Entries.{In}
-use Rattle.serial_spec.specs.Layout.{product}
-use Rattle.serial_spec.specs.SoundHeaders.{is_sound}
 use Rattle.serial_spec.specs.Looks as looks
-use Rattle.serial_spec.specs.Looks.{look_region, look_parts, look_at, part_posts, parts_code, data_code, direction_of, is_varn, find_var}
-use Rattle.serial_spec.specs.RegionCheck.{widen, check_var, check_parts, part_regions, elements_of_all, has_element}
 use Rattle.rank_core.proofs.OutcomeLaws.{outcome}
 use Rattle.rank_core.proofs.LookLaws.{length-part_posts, look_few, look_posts, ArePosts}
 use Rattle.rank_core.specs.Looked as rank
-use Rattle.rank_core.specs.Requests.{AreTowards, HaveId}
-use Rattle.rank_core.specs.Stepped.{most_of, IsSomeLook}
-use Rattle.rank_core.specs.declared.look.Look.{Look}
 use Rattle.rank_core.specs.declared.look.Look.TheVariants as variant
 
 pub record IsOneRequest (id : ℕ) (posts : List Post) : Type 0 where

@@ -1,21 +1,7 @@
 -- What the filling of a share of a record comes to.
-use Rattle.std.proofs.Common.{◌≡◌, ℕ, ◌+◌, ◌-◌, ◌*◌, ◌<◌, ◌≤◌, refl, sym, ap, ◌∙◌, List, [], ◌∷◌, map, Bool, true, false, ltb, ◌||◌, Option, None, Some, arith}
-use Rattle.std.specs.Prelude.{slice_get}
-use Rattle.std.proofs.Math.Nat.{mul-div_cancel, mul-le-mul_left}
+use Rattle.rank_core.proofs.Words.{◌≡◌, ℕ, ◌+◌, ◌-◌, ◌*◌, ◌<◌, ◌≤◌, refl, sym, ap, ◌∙◌, List, [], ◌∷◌, map, Bool, true, false, ltb, ◌||◌, Option, None, Some, arith, slice_get, mul-div_cancel, mul-le-mul_left, Header, Var, Post, Part, div_grows, boxes, share_begin, inner_lengths, is_record, product, most_elements, box_post, fills, find_var, is_record_past, Target, look_of, look_record, IsTarget}
 use Rattle.nc_base.specs.declared.answer.Code.TheVariants as code
-use Rattle.nc_base.specs.declared.header.Header.{Header}
-use Rattle.nc_base.specs.declared.header.Var.{Var}
-use Rattle.nc_base.specs.declared.plan.Post.{Post}
-use Rattle.nc_base.specs.declared.request.Part.{Part}
-use Rattle.overlay_laws.proofs.HullLaws.{div_grows}
-use Rattle.serial_spec.specs.Fill.{boxes, share_begin}
-use Rattle.serial_spec.specs.Layout.{inner_lengths, is_record, product}
-use Rattle.serial_spec.specs.Limits.{most_elements}
 use Rattle.serial_spec.specs.Looks as looks
-use Rattle.serial_spec.specs.Looks.{box_post, fills, find_var, is_record_past}
-use Rattle.rank_core.specs.declared.look.target.Target.{Target}
-use Rattle.rank_core.specs.Looked.{look_of}
-use Rattle.rank_core.specs.Targets.{look_record, IsTarget}
 
 -- ---- shares
 

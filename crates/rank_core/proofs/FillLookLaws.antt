@@ -1,43 +1,12 @@
 -- The posts that fill a share of a record are puts that a step takes, and hold no byte twice.
-use Rattle.std.proofs.Common.{◌≡◌, ℕ, zero, suc, ◌+◌, ◌-◌, ◌*◌, ◌<◌, ◌≤◌, refl, sym, ap, subst, ◌∙◌, List, [], ◌∷◌, length, map, replicate, Bool, true, false, not, cond, ltb, leb, eqb, ◌&&◌, ◌||◌, Option, None, Some, add-one, arith}
-use Rattle.std.specs.Prelude.{flat_map, slice_get, slice_index}
-use Rattle.std.specs.List.{list_any, range_with_len}
-use Rattle.std.proofs.lemmas.Bool.{and_from, and_left, and_parts, and_right, eq-eqb, eqb-true, le-ltb, leb-false, leb-true, lt-leb, ne_eqb, not_from_true, or_from, or_parts}
-use Rattle.std.proofs.lemmas.List.{length-map, length-replicate}
-use Rattle.overlay_laws.proofs.Members.{each_in, map_in}
-use Rattle.list_laws.proofs.Each.{passes_at}
-use Rattle.list_laws.proofs.Ranges.{pieces_long}
+use Rattle.rank_core.proofs.Words.{◌≡◌, ℕ, zero, suc, ◌+◌, ◌-◌, ◌*◌, ◌<◌, ◌≤◌, refl, sym, ap, subst, ◌∙◌, List, [], ◌∷◌, length, map, replicate, Bool, true, false, not, cond, ltb, leb, eqb, ◌&&◌, ◌||◌, Option, None, Some, add-one, arith, flat_map, slice_get, slice_index, list_any, range_with_len, and_from, and_left, and_parts, and_right, eq-eqb, eqb-true, le-ltb, leb-false, leb-true, lt-leb, ne_eqb, not_from_true, or_from, or_parts, length-map, length-replicate, each_in, map_in, passes_at, pieces_long, Header, Var, Post, Put, Part, Region, boxes_few, In, size_of, boxes, fill_bytes, share_begin, header_len, is_sound, end_of, inner_lengths, is_record, lengths, length_of, product, starts_with_zero, without_record, file_limit, most_elements, record_limit, box_post, box_region, fills, find_var, is_record_past, look_fill, records_of, bad_edge, bad_start, bound, bounds, check_var, first_code, asks_too_much, other_shape, some_edge, some_start, end_grows, Look, as_look, posts_of, IsPut, ArePuts, IsSmall, found_long}
 use Rattle.nc_base.specs.declared.answer.Code.TheVariants as code
-use Rattle.nc_base.specs.declared.header.Header.{Header}
-use Rattle.nc_base.specs.declared.header.Var.{Var}
-use Rattle.nc_base.specs.declared.plan.Post.{Post}
-use Rattle.nc_base.specs.declared.request.Direction.TheVariants.{Put}
-use Rattle.nc_base.specs.declared.request.Part.{Part}
-use Rattle.nc_base.specs.declared.request.Region.{Region}
-use Rattle.fill_records.proofs.CutLaws.{boxes_few}
-use Rattle.overlay_laws.specs.Entries.{In}
-use Rattle.serial_spec.specs.ExternalForm.{size_of}
-use Rattle.serial_spec.specs.Fill.{boxes, fill_bytes, share_begin}
-use Rattle.serial_spec.specs.HeaderBytes.{header_len}
-use Rattle.serial_spec.specs.SoundHeaders.{is_sound}
-use Rattle.serial_spec.specs.Layout.{end_of, inner_lengths, is_record, lengths, length_of, product, starts_with_zero, without_record}
-use Rattle.serial_spec.specs.Limits.{file_limit, most_elements, record_limit}
 use Rattle.serial_spec.specs.Looks as looks
 use Rattle.serial_spec.specs.RankMachine as machine
-use Rattle.serial_spec.specs.Looks.{box_post, box_region, fills, find_var, is_record_past, look_fill}
-use Rattle.serial_spec.specs.Records.{records_of}
-use Rattle.serial_spec.specs.RegionCheck.{bad_edge, bad_start, bound, bounds, check_var, first_code, asks_too_much, other_shape, some_edge, some_start}
-use Rattle.serial_spec.proofs.RoomLaws.{end_grows}
-use Rattle.rank_core.specs.declared.look.Look.{Look}
-use Rattle.rank_core.specs.Looked.{as_look, posts_of}
-use Rattle.rank_core.specs.Offered.{IsPut}
-use Rattle.rank_core.specs.Requests.{ArePuts}
-use Rattle.rank_core.specs.Targets.{IsSmall}
 use Rattle.rank_core.proofs.FillLaws.{record_outcome, share_grows, share_within}
 use Rattle.rank_core.proofs.FillPostLaws.{boxes_fit, boxes_once, boxes_small, separate_boxes, Fits, FitsPart}
 use Rattle.rank_core.proofs.LookLaws.{alike, no_puts, put_right}
 use Rattle.rank_core.proofs.SeparateLaws.{own_once, AreSeparate, IsPostOf}
-use Rattle.serial_spec.proofs.ValueLaws.{found_long}
 
 -- ---- starts and ends within the lengths
 

@@ -1,36 +1,6 @@
 -- The boxes of a share of a record are regions of the variable, no two of which share an element.
-use Rattle.std.proofs.Common.{◌≡◌, ℕ, zero, suc, ◌+◌, ◌-◌, ◌*◌, ◌/◌, ◌%◌, ◌<◌, ◌≤◌, refl, sym, ap, subst, ◌∙◌, inl, inr, ◌⊎◌, List, [], ◌∷◌, ◌++◌, length, map, take, drop, replicate, Bool, true, false, ltb, eqb, ◌||◌, Some, add-one, arith}
-use Rattle.std.specs.Prelude.{flat_map, slice_get, nat_lt}
-use Rattle.std.specs.List.{range_with_len, AllByRecursion}
-use Rattle.std.proofs.Math.Nat.{mul-div_cancel, mul-le-mul_left}
-use Rattle.std.proofs.lemmas.Bool.{cases_lt, eqb-true, ltb-false, ltb-true, or_parts}
-use Rattle.std.proofs.lemmas.List.{length-append, length-take, length-map}
-use Rattle.std.proofs.lemmas.Nat.{div-add-mod', mod_below}
-use Rattle.std.proofs.lemmas.Option.{slice_get_within}
-use Rattle.overlay_laws.proofs.Members.{in_map, each_in, map_in}
-use Rattle.var_layout.proofs.ElementPlaces.{same_len}
-use Rattle.list_laws.proofs.Each.{each_append}
-use Rattle.list_laws.proofs.Numbers.{some_factor}
-use Rattle.nc_base.specs.declared.header.Header.{Header}
-use Rattle.nc_base.specs.declared.request.Part.{Part}
-use Rattle.nc_base.specs.declared.request.Region.{Region}
-use Rattle.fill_records.proofs.CutLaws.{no_boxes}
-use Rattle.overlay_laws.specs.Entries.{In}
-use Rattle.overlay_laws.proofs.HullLaws.{div_grows, flat_in, in_flat}
-use Rattle.overlay_laws.proofs.RegionLaws.{coordinate_row}
-use Rattle.serial_spec.specs.Fill.{box_indices, boxes, in_row, shifted, whole_rows}
-use Rattle.serial_spec.specs.Layout.{product}
-use Rattle.serial_spec.specs.Limits.{most_elements}
-use Rattle.serial_spec.specs.Place.{row, IsIndex}
-use Rattle.serial_spec.specs.Looks.{box_region, is_record_past}
-use Rattle.serial_spec.specs.Request.{coordinates, elements, index_at}
-use Rattle.serial_spec.proofs.AcceptLaws.{coordinates_all}
-use Rattle.serial_spec.proofs.BoxLaws.{boxes_right}
-use Rattle.serial_spec.proofs.ElementLaws.{length-coordinates}
-use Rattle.rank_core.specs.Targets.{IsSmall}
+use Rattle.rank_core.proofs.Words.{◌≡◌, ℕ, zero, suc, ◌+◌, ◌-◌, ◌*◌, ◌/◌, ◌%◌, ◌<◌, ◌≤◌, refl, sym, ap, subst, ◌∙◌, inl, inr, ◌⊎◌, List, [], ◌∷◌, ◌++◌, length, map, take, drop, replicate, Bool, true, false, ltb, eqb, ◌||◌, Some, add-one, arith, flat_map, slice_get, nat_lt, range_with_len, AllByRecursion, mul-div_cancel, mul-le-mul_left, cases_lt, eqb-true, ltb-false, ltb-true, or_parts, length-append, length-take, length-map, div-add-mod', mod_below, slice_get_within, in_map, each_in, map_in, same_len, each_append, some_factor, Header, Part, Region, no_boxes, In, div_grows, flat_in, in_flat, coordinate_row, box_indices, boxes, in_row, shifted, whole_rows, product, most_elements, row, IsIndex, box_region, is_record_past, coordinates, elements, index_at, coordinates_all, boxes_right, length-coordinates, IsSmall, get_left, get_right, in_at}
 use Rattle.rank_core.proofs.SeparateLaws.{AreSeparate}
-use Rattle.list_laws.proofs.Places.{get_left, get_right}
-use Rattle.serial_spec.proofs.MemberLaws.{in_at}
 
 -- ---- how many elements they have
 

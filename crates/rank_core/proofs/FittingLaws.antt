@@ -1,8 +1,6 @@
 -- Numbers of two lists that are the same, place by place.
-use Rattle.std.proofs.Common.{◌≡◌, ℕ, suc, ◌+◌, ◌<◌, ◌∙◌, ap, sym, refl, List, [], ◌∷◌, ◌++◌, length, map, take, Bool, true, false, bytes_eq, get_or, arith}
-use Rattle.std.proofs.Math.Seq.{take-suc}
-use Rattle.std.proofs.lemmas.List.{map-append}
-use Rattle.std.proofs.lemmas.Slice.Eq.{bytes_eq-Decides}
+use Rattle.rank_core.proofs.Words.{◌≡◌, ℕ, suc, ◌+◌, ◌<◌, ◌∙◌, ap, sym, refl, List, [], ◌∷◌, ◌++◌, length, map, take, Bool, true, false, get_or, arith, take-suc, map-append, bytes_eq-Decides}
+use Rattle.std.proofs.Common.{bytes_eq}
 
 pub are_same : (xs ys : List ℕ) → xs ≡ ys → bytes_eq xs ys ≡ true
 are_same xs ys e = (bytes_eq-Decides xs ys).1 e

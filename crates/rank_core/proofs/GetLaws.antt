@@ -1,14 +1,6 @@
 -- A get of a region that is accepted: its variable is there, and the region has positions in memory within the limits.
-use Rattle.std.proofs.Common.{◌≡◌, ℕ, ◌∙◌, ap, sym, refl, get_or, Option, Some, None}
-use Rattle.std.specs.Prelude.{slice_get}
-use Rattle.std.proofs.lemmas.Option.{get_or_from_slice_get}
-use Rattle.nc_base.specs.declared.header.Header.{Header}
-use Rattle.nc_base.specs.declared.header.Var.{Var}
-use Rattle.nc_base.specs.declared.request.Region.{Region}
-use Rattle.nc_base.specs.declared.request.Direction.{Direction}
+use Rattle.rank_core.proofs.Words.{◌≡◌, ℕ, ◌∙◌, ap, sym, refl, get_or, Option, Some, None, slice_get, get_or_from_slice_get, Header, Var, Region, Direction, check, check_some, IsMapped}
 use Rattle.nc_base.specs.declared.answer.Code.TheVariants as code
-use Rattle.serial_spec.specs.RegionCheck.{check, check_some}
-use Rattle.imap_extents.specs.Mapped.{IsMapped}
 use Rattle.rank_core.proofs.MappedLaws.{accepted_mapped}
 
 some_mapped : (header : Header) (var : Option Var) (g : Region) (known : ℕ) (d : Direction) → check_some header var g known d ≡ code.Ok

@@ -1,22 +1,6 @@
 -- The values of the gets, added one after another by the ids of their requests.
-use Rattle.std.proofs.Common.{◌≡◌, ℕ, ◌+◌, ◌<◌, ◌∙◌, ap, sym, refl, List, [], ◌∷◌, map, length, get_or, drop, zip, Bool, true, false, cond, eqb, Option, Some, None, arith}
-use Rattle.std.specs.Prelude.{option_map, slice_get}
-use Rattle.std.specs.List.{cons_option}
-use Rattle.std.proofs.lemmas.Bool.{eqb-true}
-use Rattle.std.proofs.lemmas.List.{append_assoc, drop_more, get_or-map, length-map}
-use Rattle.nc_base.specs.declared.header.Header.{Header}
-use Rattle.nc_base.specs.declared.header.Var.{Var}
-use Rattle.nc_base.specs.declared.header.NcType.{NcType}
-use Rattle.nc_base.specs.declared.plan.Post.{Post}
-use Rattle.nc_base.specs.declared.request.Values.{Values}
-use Rattle.nc_base.specs.declared.request.Values.TheVariants.{Numbers, Text, Bits}
-use Rattle.nc_base.specs.declared.request.Value.{Value}
-use Rattle.overlay_laws.specs.Entries.{In}
+use Rattle.rank_core.proofs.Words.{◌≡◌, ℕ, ◌+◌, ◌<◌, ◌∙◌, ap, sym, refl, List, [], ◌∷◌, map, length, get_or, drop, zip, Bool, true, false, cond, eqb, Option, Some, None, arith, option_map, slice_get, cons_option, eqb-true, append_assoc, drop_more, get_or-map, length-map, Header, Var, NcType, Post, Values, Numbers, Text, Bits, Value, In, Class, class_of, got_values, values_for, with_more, kind_at, spread, gathered, joined}
 use Rattle.serial_spec.specs.ExternalForm as form
-use Rattle.serial_spec.specs.ExternalForm.{Class, class_of}
-use Rattle.serial_spec.specs.RankMachine.{got_values, values_for, with_more, kind_at}
-use Rattle.serial_spec.specs.Request.{spread, gathered}
-use Rattle.rank_core.specs.Heard.{joined}
 
 -- ---- the kind of values
 

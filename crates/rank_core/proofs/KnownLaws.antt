@@ -1,20 +1,7 @@
 -- What is accepted stays so where the rank knows of more records.
-use Rattle.std.proofs.Common.{◌≡◌, ℕ, zero, suc, ◌-◌, ◌+◌, ◌*◌, ◌≤◌, ◌∙◌, refl, inl, inr, ◌⊎◌, List, [], ◌∷◌, map, length, Bool, false, cond, ltb, leb, eqb, ◌&&◌, Option, Some, None, arith}
-use Rattle.std.specs.Prelude.{slice_get}
-use Rattle.std.specs.List.{list_any}
-use Rattle.std.proofs.lemmas.Bool.{or_parts, or_from, ltb-false, leb-false, le-ltb, lt-leb, eqb-false, ne_eqb, and_cases, and_left, and_right, cond-false}
-use Rattle.nc_base.specs.declared.header.Header.{Header}
-use Rattle.nc_base.specs.declared.header.Var.{Var}
-use Rattle.nc_base.specs.declared.plan.Post.{Post}
-use Rattle.nc_base.specs.declared.request.Region.{Region}
-use Rattle.nc_base.specs.declared.request.Direction.{Direction}
+use Rattle.rank_core.proofs.Words.{◌≡◌, ℕ, zero, suc, ◌-◌, ◌+◌, ◌*◌, ◌≤◌, ◌∙◌, refl, inl, inr, ◌⊎◌, List, [], ◌∷◌, map, length, Bool, false, cond, ltb, leb, eqb, ◌&&◌, Option, Some, None, arith, slice_get, list_any, or_parts, or_from, ltb-false, leb-false, le-ltb, lt-leb, eqb-false, ne_eqb, and_cases, and_left, and_right, cond-false, Header, Var, Post, Region, Direction, Code, lengths, bound, bounds, bad_start, bad_edge, some_start, some_edge, other_shape, asks_too_much, check, check_var, check_some, Passes, passed, IsPut, IsGet}
 use Rattle.nc_base.specs.declared.request.Direction.TheVariants as way
-use Rattle.nc_base.specs.declared.answer.Code.{Code}
 use Rattle.nc_base.specs.declared.answer.Code.TheVariants as code
-use Rattle.serial_spec.specs.Layout.{lengths}
-use Rattle.serial_spec.specs.RegionCheck.{bound, bounds, bad_start, bad_edge, some_start, some_edge, other_shape, asks_too_much, check, check_var, check_some}
-use Rattle.vara_extents.proofs.AcceptedLaws.{Passes, passed}
-use Rattle.rank_core.specs.Offered.{IsPut, IsGet}
 
 -- ---- one dimension
 

@@ -1,3 +1,4 @@
+mod Words
 pub mod KnownLaws
 mod OwnLaws
 pub mod RequestLaws

@@ -1,41 +1,9 @@
 -- Every post that a call comes to is of an accepted region; those of a put have their bytes, and hold none twice.
-use Rattle.std.proofs.Common.{◌≡◌, ℕ, suc, ◌+◌, ◌*◌, ◌<◌, ◌≤◌, refl, sym, ap, subst, ◌∙◌, inl, inr, ◌⊎◌, List, [], ◌∷◌, length, map, Bool, true, false, cond, ltb, ◌&&◌, Option, Some, None, IfSome, arith}
-use Rattle.std.specs.Prelude.{filter, not, slice_get}
-use Rattle.std.proofs.lemmas.Bool.{cases_lt, le-ltb, lt-ltb, ltb-false}
-use Rattle.std.proofs.lemmas.List.{length-map}
-use Rattle.std.proofs.lemmas.List.Sums.{sum_by-cons}
-use Rattle.list_laws.proofs.Maps.{filter_at_most}
-use Rattle.vara_extents.proofs.PartLaws.{ok_both}
-use Rattle.nc_base.specs.declared.answer.Code.{Code}
+use Rattle.rank_core.proofs.Words.{◌≡◌, ℕ, suc, ◌+◌, ◌*◌, ◌<◌, ◌≤◌, refl, sym, ap, subst, ◌∙◌, inl, inr, ◌⊎◌, List, [], ◌∷◌, length, map, Bool, true, false, cond, ltb, ◌&&◌, Option, Some, None, IfSome, arith, filter, slice_get, cases_lt, le-ltb, lt-ltb, ltb-false, length-map, sum_by-cons, filter_at_most, ok_both, Code, Header, NcType, Var, Post, Direction, Get, Put, Given, Region, Values, In, filter_in, class_of, size_of, is_sound, product, most_elements, data_bytes, data_code, direction_of, find_var, is_varn, kind_code, look_at, look_parts, look_region, part_posts, parts_code, values_bytes, check_parts, check_some, check_var, elements_of_all, first_refusal, has_element, is_ok_code, is_put, part_region, part_regions, share_element, widen, count_of, holdings, IsOwnOnce, refusal_of, Look, Asks, Empty, Refused, as_look, posts_of, some_unfit, HasValues, IsGet, IsPut, ArePuts, most_of}
+use Rattle.std.specs.Prelude.{not}
 use Rattle.nc_base.specs.declared.answer.Code.TheVariants as code
-use Rattle.nc_base.specs.declared.header.Header.{Header}
-use Rattle.nc_base.specs.declared.header.NcType.{NcType}
-use Rattle.nc_base.specs.declared.header.Var.{Var}
-use Rattle.nc_base.specs.declared.plan.Post.{Post}
-use Rattle.nc_base.specs.declared.request.Direction.{Direction}
-use Rattle.nc_base.specs.declared.request.Direction.TheVariants.{Get, Put}
-use Rattle.nc_base.specs.declared.request.Given.{Given}
-use Rattle.nc_base.specs.declared.request.Region.{Region}
-use Rattle.nc_base.specs.declared.request.Values.{Values}
-use Rattle.overlay_laws.specs.Entries.{In}
-use Rattle.serial_spec.proofs.MemberLaws.{filter_in}
-use Rattle.serial_spec.specs.ExternalForm.{class_of, size_of}
-use Rattle.serial_spec.specs.SoundHeaders.{is_sound}
-use Rattle.serial_spec.specs.Layout.{product}
-use Rattle.serial_spec.specs.Limits.{most_elements}
 use Rattle.serial_spec.specs.Looks as looks
 use Rattle.serial_spec.specs.RankMachine as machine
-use Rattle.serial_spec.specs.Looks.{data_bytes, data_code, direction_of, find_var, is_varn, kind_code, look_at, look_parts, look_region, part_posts, parts_code, values_bytes}
-use Rattle.serial_spec.specs.RegionCheck.{check_parts, check_some, check_var, elements_of_all, first_refusal, has_element, is_ok_code, is_put, part_region, part_regions, share_element, widen}
-use Rattle.nc_base.specs.Values.{count_of}
-use Rattle.serial_spec.specs.SharedByte.{holdings, IsOwnOnce}
-use Rattle.vara_extents.specs.Parts.{refusal_of}
-use Rattle.rank_core.specs.declared.look.Look.{Look}
-use Rattle.rank_core.specs.declared.look.Look.TheVariants.{Asks, Empty, Refused}
-use Rattle.rank_core.specs.Looked.{as_look, posts_of, some_unfit, HasValues}
-use Rattle.rank_core.specs.Offered.{IsGet, IsPut}
-use Rattle.rank_core.specs.Requests.{ArePuts}
-use Rattle.rank_core.specs.Stepped.{most_of}
 use Rattle.rank_core.proofs.OutcomeLaws.{outcome, outcome_posts}
 use Rattle.rank_core.proofs.SeparateLaws.{own_once, separate_from_parts, AreSeparate, IsPostOf}
 use Rattle.rank_core.proofs.ValueLaws.{code_passes, length-packed_bytes, length-values_bytes}

@@ -1,25 +1,6 @@
 -- A region that a check accepts has its positions in memory within the limits.
-use Rattle.std.proofs.Common.{◌≡◌, ℕ, zero, suc, ◌+◌, ◌-◌, ◌*◌, ◌<◌, ◌≤◌, refl, sym, ap, subst, ◌∙◌, inl, inr, ◌⊎◌, List, [], ◌∷◌, length, map, zip, Bool, true, false, not, cond, ltb, leb, eqb, ◌&&◌, ◌||◌, arith}
-use Rattle.std.specs.List.{range_with_len, AllByRecursion}
-use Rattle.std.proofs.lemmas.Bool.{or_parts, and_parts, not-false, ltb-false, leb-false, eqb-true, lt-ltb, cases_lt}
-use Rattle.std.proofs.lemmas.List.Sums.{sum_by-cons}
-use Rattle.std.proofs.Math.Nat.{mul-le-mul_left}
+use Rattle.rank_core.proofs.Words.{◌≡◌, ℕ, zero, suc, ◌+◌, ◌-◌, ◌*◌, ◌<◌, ◌≤◌, refl, sym, ap, subst, ◌∙◌, inl, inr, ◌⊎◌, List, [], ◌∷◌, length, map, zip, Bool, true, false, not, cond, ltb, leb, eqb, ◌&&◌, ◌||◌, arith, range_with_len, AllByRecursion, or_parts, and_parts, not-false, ltb-false, leb-false, eqb-true, lt-ltb, cases_lt, sum_by-cons, mul-le-mul_left, Header, Var, Direction, Region, header_len, end_of, greatest, product, file_limit, most_elements, record_limit, IsIndex, records_of, check_var, asks_too_much, last_position, other_shape, coordinates, position_at, reach, coordinates_all, IsMapped, no_coordinates, range_below, passed}
 use Rattle.nc_base.specs.declared.answer.Code.TheVariants as code
-use Rattle.nc_base.specs.declared.header.Header.{Header}
-use Rattle.nc_base.specs.declared.header.Var.{Var}
-use Rattle.nc_base.specs.declared.request.Direction.{Direction}
-use Rattle.nc_base.specs.declared.request.Region.{Region}
-use Rattle.serial_spec.specs.HeaderBytes.{header_len}
-use Rattle.serial_spec.specs.Layout.{end_of, greatest, product}
-use Rattle.serial_spec.specs.Limits.{file_limit, most_elements, record_limit}
-use Rattle.serial_spec.specs.Place.{IsIndex}
-use Rattle.serial_spec.specs.Records.{records_of}
-use Rattle.serial_spec.specs.RegionCheck.{check_var, asks_too_much, last_position, other_shape}
-use Rattle.serial_spec.specs.Request.{coordinates, position_at, reach}
-use Rattle.serial_spec.proofs.AcceptLaws.{coordinates_all}
-use Rattle.imap_extents.specs.Mapped.{IsMapped}
-use Rattle.imap_extents.proofs.PositionLaws.{no_coordinates, range_below}
-use Rattle.vara_extents.proofs.AcceptedLaws.{passed}
 
 -- ---- positions
 

@@ -1,22 +1,5 @@
 -- Names in order: what a search finds is the first of a name.
-use Rattle.std.proofs.Common.{◌≡◌, ℕ, ◌<◌, ◌≤◌, refl, sym, ap, ◌∙◌, inl, inr, ◌⊎◌, List, [], length, get_or, Bool, true, false, cond, ltb, Some, None, arith}
-use Rattle.std.specs.Prelude.{position, bytes_eq}
-use Rattle.std.specs.Cmp.{nat_cmp_total, on_total, then_total, IsStrictWeakOrder, IsTotalOrder}
-use Rattle.std.specs.Cmp.Lexicographic.{nat_list_cmp_total, slice_cmp}
-use Rattle.std.specs.declared.cmp.Ordering.{Ordering}
-use Rattle.std.specs.declared.cmp.Ordering.TheVariants.{Equal, Greater, Less}
-use Rattle.std.specs.List.{range_with_len}
-use Rattle.std.specs.List.Sorted.{IsPartitionedBy, IsPartitionPoint}
-use Rattle.std.specs.Ordering.{is_eq, is_lt, nat_cmp, ordering_reverse, ordering_then}
-use Rattle.std.proofs.lemmas.Bool.{both_ways, cases_lt, cases_Bool, cond-false, cond-true, false_from_ne_true, le-ltb, lt-ltb}
-use Rattle.std.proofs.lemmas.List.{get_or_default}
-use Rattle.std.proofs.lemmas.List.Sums.{position_or_len_is}
-use Rattle.std.proofs.lemmas.List.Sorted.{ranks_by, sorted_far, Contains-permutation, IsPermutation-sym}
-use Rattle.std.proofs.lemmas.List.FromFn.{get_or-range_with_len, length-range_with_len}
-use Rattle.std.proofs.lemmas.Map.Text.{is_eq-slice_cmp}
-use Rattle.std.proofs.lemmas.Slice.Eq.{bytes_eq-Decides}
-use Rattle.rank_core.specs.Indexed.{name_at, place_cmp, IsInOrder}
-use Rattle.std.proofs.lemmas.Map.Keys.{ge_from_not_lt}
+use Rattle.rank_core.proofs.Words.{◌≡◌, ℕ, ◌<◌, ◌≤◌, refl, sym, ap, ◌∙◌, inl, inr, ◌⊎◌, List, [], length, get_or, Bool, true, false, cond, ltb, Some, None, arith, position, bytes_eq, nat_cmp_total, on_total, then_total, IsStrictWeakOrder, IsTotalOrder, nat_list_cmp_total, slice_cmp, Ordering, Equal, Greater, Less, range_with_len, IsPartitionedBy, IsPartitionPoint, is_eq, is_lt, nat_cmp, ordering_reverse, ordering_then, both_ways, cases_lt, cases_Bool, cond-false, cond-true, false_from_ne_true, le-ltb, lt-ltb, get_or_default, position_or_len_is, ranks_by, sorted_far, Contains-permutation, IsPermutation-sym, get_or-range_with_len, length-range_with_len, is_eq-slice_cmp, bytes_eq-Decides, name_at, place_cmp, IsInOrder, ge_from_not_lt}
 
 -- ---- the order
 

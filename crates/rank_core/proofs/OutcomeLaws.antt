@@ -1,18 +1,9 @@
 -- What a call comes to: by its check, by whether it has an element, and by its values.
-use Rattle.std.proofs.Common.{◌≡◌, ℕ, refl, sym, ap, subst, ◌∙◌, inl, inr, ◌⊎◌, List, [], ◌∷◌, length, Bool, true, false, ltb, Option, Some, None, Result, Ok, Err}
-use Rattle.nc_base.specs.declared.answer.CallErr.{CallErr}
+use Rattle.rank_core.proofs.Words.{◌≡◌, ℕ, refl, sym, ap, subst, ◌∙◌, inl, inr, ◌⊎◌, List, [], ◌∷◌, length, Bool, true, false, ltb, Option, Some, None, Result, Ok, Err, CallErr, Code, NcType, Post, Region, Values, part_posts, error_of, look_of, settled, ComesTo}
 use Rattle.nc_base.specs.declared.answer.CallErr.TheVariants as refusal
-use Rattle.nc_base.specs.declared.answer.Code.{Code}
 use Rattle.nc_base.specs.declared.answer.Code.TheVariants as code
-use Rattle.nc_base.specs.declared.header.NcType.{NcType}
-use Rattle.nc_base.specs.declared.plan.Post.{Post}
-use Rattle.nc_base.specs.declared.request.Region.{Region}
-use Rattle.nc_base.specs.declared.request.Values.{Values}
 use Rattle.serial_spec.specs.Looks as looks
 use Rattle.serial_spec.specs.RankMachine as machine
-use Rattle.serial_spec.specs.Looks.{part_posts}
-use Rattle.serial_spec.specs.RegionCheck.{error_of}
-use Rattle.rank_core.specs.Looked.{look_of, settled, ComesTo}
 
 abbrev pub outcome : Code → Bool → List Post → Code → looks.Look
 outcome checked some asked last =

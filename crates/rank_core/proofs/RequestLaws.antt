@@ -1,27 +1,7 @@
 -- What is kept of the requests of a rank.
-use Rattle.std.proofs.Common.{◌≡◌, ℕ, ◌+◌, ◌≤◌, ◌∙◌, ap, sym, refl, subst, inl, inr, List, [], ◌∷◌, ◌++◌, map, sum, length, Bool, true, false, cond, eqb, Option, Some, None, arith}
-use Rattle.std.specs.Prelude.{filter, flat_map, find, option_map}
-use Rattle.std.proofs.lemmas.Bool.{or_parts, eqb-false, ne_eqb, cond-false}
-use Rattle.std.proofs.lemmas.List.{length-append}
-use Rattle.std.proofs.lemmas.List.Sums.{sum-map, sum_by-cons}
-use Rattle.nc_base.specs.declared.header.Header.{Header}
-use Rattle.nc_base.specs.declared.plan.Post.{Post}
-use Rattle.nc_base.specs.declared.answer.Item.{Item}
-use Rattle.nc_base.specs.declared.request.Choice.{Choice}
-use Rattle.nc_base.specs.declared.request.PostKind.TheVariants.{Iput, Iget, Bput}
-use Rattle.nc_base.specs.declared.request.Direction.{Direction}
+use Rattle.rank_core.proofs.Words.{◌≡◌, ℕ, ◌+◌, ◌≤◌, ◌∙◌, ap, sym, refl, subst, inl, inr, List, [], ◌∷◌, ◌++◌, map, sum, length, Bool, true, false, cond, eqb, Option, Some, None, arith, filter, flat_map, find, option_map, or_parts, eqb-false, ne_eqb, cond-false, length-append, sum-map, sum_by-cons, Header, Post, Item, Choice, Iput, Iget, Bput, Direction, In, filter_in, flat_in, Posted, Status, NullRequest, Waiting, Gone, named, puts_in, gets_in, status_of, item_code, items_from, items_of, has_id, is_ok_code, IsOwnOnce, not_posted, has_posted, status_of-push, IsPut, IsGet, posts_of_status, AreGets, ArePuts, AreTowards, IsRequest, AreRequests, AreOnce, direction_of_kind}
 use Rattle.nc_base.specs.declared.request.Direction.TheVariants as way
-use Rattle.overlay_laws.specs.Entries.{In}
-use Rattle.serial_spec.proofs.MemberLaws.{filter_in}
-use Rattle.overlay_laws.proofs.HullLaws.{flat_in}
 use Rattle.serial_spec.specs.RankMachine as machine
-use Rattle.serial_spec.specs.RankMachine.{Posted, Status, NullRequest, Waiting, Gone, named, puts_in, gets_in, status_of, item_code, items_from, items_of, has_id}
-use Rattle.serial_spec.specs.RegionCheck.{is_ok_code}
-use Rattle.serial_spec.specs.SharedByte.{IsOwnOnce}
-use Rattle.request_queue.proofs.PostedLaws.{not_posted, has_posted, status_of-push}
-use Rattle.rank_core.specs.Offered.{IsPut, IsGet}
-use Rattle.run_laws.specs.Requests.{posts_of_status}
-use Rattle.rank_core.specs.Requests.{AreGets, ArePuts, AreTowards, IsRequest, AreRequests, AreOnce, direction_of_kind}
 use Rattle.rank_core.proofs.KnownLaws.{get_more, put_more}
 use Rattle.rank_core.proofs.OwnLaws.{own_append, own_none, held_by, held_append, keys_apart}
 

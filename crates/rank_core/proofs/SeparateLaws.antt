@@ -1,29 +1,6 @@
 -- Posts of one variable, no two of which share an element, hold no byte twice.
-use Rattle.std.proofs.Common.{◌≡◌, ℕ, zero, suc, ◌+◌, ◌<◌, ◌≤◌, refl, sym, ap, subst, ◌∙◌, inl, inr, ◌⊎◌, List, [], ◌∷◌, map, Bool, true, false, cond, Option, Some, arith}
-use Rattle.std.specs.Prelude.{filter, flat_map, slice_get, bytes_eq}
-use Rattle.std.specs.List.{list_any, range_with_len}
-use Rattle.std.proofs.lemmas.Bool.{both_ways, cases_order, or_parts}
-use Rattle.std.proofs.lemmas.Slice.Eq.{bytes_eq-Decides}
-use Rattle.serial_spec.proofs.MemberLaws.{at_in, filter_in, any_member}
-use Rattle.overlay_laws.proofs.Members.{each_in, map_in}
+use Rattle.rank_core.proofs.Words.{◌≡◌, ℕ, zero, suc, ◌+◌, ◌<◌, ◌≤◌, refl, sym, ap, subst, ◌∙◌, inl, inr, ◌⊎◌, List, [], ◌∷◌, map, Bool, true, false, cond, Option, Some, arith, filter, flat_map, slice_get, bytes_eq, list_any, range_with_len, both_ways, cases_order, or_parts, bytes_eq-Decides, at_in, filter_in, any_member, each_in, map_in, Header, Var, Post, Put, Region, In, flat_in, in_flat, range_high, range_low, size_of, is_sound, place, AreApart, IsElement, IsElementBelow, records_of, check_some, check_var, has_element, has_index, share_element, elements, places, bytes_of, bytes_of_some, holdings, Holding, IsOwnOnce, accepted_elements, elements_apart, post_once}
 use Rattle.nc_base.specs.declared.answer.Code.TheVariants as code
-use Rattle.nc_base.specs.declared.header.Header.{Header}
-use Rattle.nc_base.specs.declared.header.Var.{Var}
-use Rattle.nc_base.specs.declared.plan.Post.{Post}
-use Rattle.nc_base.specs.declared.request.Direction.TheVariants.{Put}
-use Rattle.nc_base.specs.declared.request.Region.{Region}
-use Rattle.overlay_laws.specs.Entries.{In}
-use Rattle.overlay_laws.proofs.HullLaws.{flat_in, in_flat, range_high, range_low}
-use Rattle.serial_spec.specs.ExternalForm.{size_of}
-use Rattle.serial_spec.specs.SoundHeaders.{is_sound}
-use Rattle.serial_spec.specs.Place.{place, AreApart, IsElement, IsElementBelow}
-use Rattle.serial_spec.specs.Records.{records_of}
-use Rattle.serial_spec.specs.RegionCheck.{check_some, check_var, has_element, has_index, share_element}
-use Rattle.serial_spec.specs.Request.{elements, places}
-use Rattle.serial_spec.specs.SharedByte.{bytes_of, bytes_of_some, holdings, Holding, IsOwnOnce}
-use Rattle.serial_spec.proofs.AcceptLaws.{accepted_elements}
-use Rattle.serial_spec.proofs.ApartLaws.{elements_apart}
-use Rattle.vara_extents.proofs.OnceLaws.{post_once}
 
 -- ---- regions and posts, no two of which share an element
 

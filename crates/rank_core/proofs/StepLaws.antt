@@ -1,23 +1,6 @@
 -- What the calls of the queue leave, by what they answered.
-use Rattle.std.proofs.Common.{◌≡◌, ℕ, ◌<◌, ◌≤◌, ◌∙◌, ap, sym, refl, subst, inl, List, [], ◌∷◌, length, get_or, true, cond, eqb, leb, ◌&&◌, Option, Some, None, Result, Ok, Err, arith}
-use Rattle.std.specs.List.{list_all}
-use Rattle.std.specs.Prelude.{IfOk, OnOk, OnErr, option_map, slice_get, bytes_eq}
-use Rattle.std.proofs.lemmas.List.Quantifiers.{position-Some}
-use Rattle.std.proofs.lemmas.Option.{slice_get_read}
-use Rattle.std.proofs.lemmas.Bool.{and_parts, leb-true}
-use Rattle.nc_base.specs.declared.header.Header.{Header}
-use Rattle.nc_base.specs.declared.plan.Post.{Post}
-use Rattle.nc_base.specs.declared.header.Dim.{Dim}
-use Rattle.nc_base.specs.declared.request.Call.{Call}
+use Rattle.rank_core.proofs.Words.{◌≡◌, ℕ, ◌<◌, ◌≤◌, ◌∙◌, ap, sym, refl, subst, inl, List, [], ◌∷◌, length, get_or, true, cond, eqb, leb, ◌&&◌, Option, Some, None, Result, Ok, Err, arith, list_all, IfOk, OnOk, OnErr, option_map, slice_get, bytes_eq, position-Some, slice_get_read, and_parts, leb-true, Header, Post, Dim, Call, Given, Choice, Queued, rank_with, with_request, id_of, find_dim, Status, is_chosen, named, without_chosen, status_of, dim_at, is_lawful_call, is_given, most_parts, has_its_lists, are_sizes, is_part, are_values, is_post_of, HaveId, IsRequest, AreRequests, most_of, most_posts}
 use Rattle.nc_base.specs.declared.request.Call.TheVariants as call
-use Rattle.nc_base.specs.declared.request.Given.{Given}
-use Rattle.nc_base.specs.declared.request.Choice.{Choice}
-use Rattle.request_queue.specs.Queued.{Queued, rank_with, with_request, id_of}
-use Rattle.serial_spec.specs.Looks.{find_dim}
-use Rattle.serial_spec.specs.RankMachine.{Status, is_chosen, named, without_chosen, status_of, dim_at}
-use Rattle.serial_spec.specs.Lawful.{is_lawful_call, is_given, most_parts, has_its_lists, are_sizes, is_part, are_values, is_post_of}
-use Rattle.rank_core.specs.Requests.{HaveId, IsRequest, AreRequests}
-use Rattle.rank_core.specs.Stepped.{most_of, most_posts}
 use Rattle.rank_core.proofs.RequestLaws.{requests_without, requests_push}
 
 pub ok_both : {A E : Type 0} (r : Result A E) (P Q R : A → Type 0) → ((x : A) → P x → Q x → R x) → IfOk r P → IfOk r Q → IfOk r R

@@ -1,35 +1,12 @@
 -- What a call on a variable comes to, as its parts find it out.
-use Rattle.std.proofs.Common.{◌≡◌, ℕ, ◌<◌, ◌≤◌, refl, sym, ap, subst, ◌∙◌, List, [], ◌∷◌, length, Bool, true, false, cond, ltb, Option, None, Some, Result, Ok, Err, IfSome, IfOk, arith}
-use Rattle.std.specs.Prelude.{filter, slice_get, IfErr, OnOk}
-use Rattle.std.proofs.lemmas.Bool.{le-ltb, lt-ltb}
-use Rattle.nc_base.specs.declared.answer.CallErr.{CallErr}
+use Rattle.rank_core.proofs.Words.{◌≡◌, ℕ, ◌<◌, ◌≤◌, refl, sym, ap, subst, ◌∙◌, List, [], ◌∷◌, length, Bool, true, false, cond, ltb, Option, None, Some, Result, Ok, Err, IfSome, arith, filter, slice_get, IfErr, OnOk, le-ltb, lt-ltb, CallErr, Code, Header, Var, Post, Direction, Form, Given, Region, Values, IsMapped, IsRangeRefusal, IsRefusal, product, most_elements, data_bytes, data_code, direction_of, find_var, is_varn, part_posts, parts_code, check, check_parts, check_some, check_var, elements_of_all, has_element, part_regions, widen, capped, parts_code_at, Target, look_of, some_unfit, ComesTo, HasValues, IsCode, Ranked, IsTarget, IsTargetOf}
+use Rattle.std.proofs.Common.{IfOk}
 use Rattle.nc_base.specs.declared.answer.CallErr.TheVariants as refusal
-use Rattle.nc_base.specs.declared.answer.Code.{Code}
 use Rattle.nc_base.specs.declared.answer.Code.TheVariants as code
-use Rattle.nc_base.specs.declared.header.Header.{Header}
-use Rattle.nc_base.specs.declared.header.Var.{Var}
-use Rattle.nc_base.specs.declared.plan.Post.{Post}
-use Rattle.nc_base.specs.declared.request.Direction.{Direction}
-use Rattle.nc_base.specs.declared.request.Form.{Form}
 use Rattle.nc_base.specs.declared.request.Form.TheVariants as form
-use Rattle.nc_base.specs.declared.request.Given.{Given}
-use Rattle.nc_base.specs.declared.request.Region.{Region}
-use Rattle.nc_base.specs.declared.request.Values.{Values}
-use Rattle.imap_extents.specs.Mapped.{IsMapped}
-use Rattle.imap_extents.specs.Refusals.{IsRangeRefusal}
-use Rattle.serial_spec.specs.Refusal.{IsRefusal}
-use Rattle.serial_spec.specs.Layout.{product}
-use Rattle.serial_spec.specs.Limits.{most_elements}
 use Rattle.serial_spec.specs.Looks as looks
-use Rattle.serial_spec.specs.Looks.{data_bytes, data_code, direction_of, find_var, is_varn, part_posts, parts_code}
-use Rattle.serial_spec.specs.RegionCheck.{check, check_parts, check_some, check_var, elements_of_all, has_element, part_regions, widen}
-use Rattle.var_layout.specs.Capped.{capped}
 use Rattle.vara_extents.specs.Parts as parts
-use Rattle.vara_extents.specs.Parts.{parts_code_at}
-use Rattle.rank_core.specs.declared.look.target.Target.{Target}
-use Rattle.rank_core.specs.Looked.{look_of, some_unfit, ComesTo, HasValues, IsCode}
-use Rattle.rank_core.specs.Ranked.{Ranked}
-use Rattle.rank_core.specs.Targets.{look_at, look_parts, look_region, IsTarget, IsTargetOf}
+use Rattle.rank_core.specs.Targets.{look_at, look_parts, look_region}
 use Rattle.rank_core.proofs.LookLaws.{asked_few}
 use Rattle.rank_core.proofs.MappedLaws.{accepted_mapped}
 use Rattle.rank_core.proofs.OutcomeLaws.{all_right, checked_refused, data_refused, no_element, outcome, parts_ask}

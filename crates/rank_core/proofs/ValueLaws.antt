@@ -1,35 +1,6 @@
 -- The values of a put and their bytes, one after another and part by part.
-use Rattle.std.proofs.Common.{◌≡◌, ℕ, suc, ◌+◌, ◌-◌, ◌*◌, ◌<◌, ◌≤◌, refl, sym, ap, subst, ◌∙◌, List, [], ◌∷◌, ◌++◌, length, map, append-nil, Bool, true, false, not, cond, ltb, ◌||◌, Option, Some, None, is_none, arith}
-use Rattle.std.specs.Prelude.{flat_map}
-use Rattle.std.specs.List.{list_any, range_with_len}
-use Rattle.std.proofs.lemmas.Bool.{le-ltb, or_parts, or_from, or_left, or_right}
-use Rattle.std.proofs.lemmas.List.{length-append}
-use Rattle.std.proofs.lemmas.List.Concat.{flat_map-append}
-use Rattle.std.proofs.lemmas.List.Folds.{list_any-append}
-use Rattle.std.proofs.lemmas.List.FromFn.{get_or-range_with_len, length-range_with_len}
-use Rattle.std.proofs.lemmas.List.Sums.{sum_by-cons}
-use Rattle.list_laws.proofs.Maps.{any_map}
-use Rattle.list_laws.proofs.Ranges.{range_append, all_below}
-use Rattle.nc_base.specs.declared.answer.CallErr.{CallErr}
-use Rattle.nc_base.specs.declared.answer.Code.{Code}
+use Rattle.rank_core.proofs.Words.{◌≡◌, ℕ, suc, ◌+◌, ◌-◌, ◌*◌, ◌<◌, ◌≤◌, refl, sym, ap, subst, ◌∙◌, List, [], ◌∷◌, ◌++◌, length, map, append-nil, Bool, true, false, not, cond, ltb, ◌||◌, Option, Some, None, is_none, arith, flat_map, list_any, range_with_len, le-ltb, or_parts, or_from, or_left, or_right, length-append, flat_map-append, list_any-append, get_or-range_with_len, length-range_with_len, sum_by-cons, any_map, range_append, all_below, CallErr, Code, NcType, Post, Region, Value, Values, class_of, code_of, size_of, width_of, product, kind_code, part_posts, parts_code, some_fits, values_bytes, values_code, elements_of_all, is_ok_code, count_of, ext_of, packed_bytes, positions, value_at, IsRangeRefusal, length-positions, range_more, lacks, part_refused, range_refused, ext_at, some_unfit, unfit_at, HasValues, or_false, be_long}
 use Rattle.nc_base.specs.declared.answer.Code.TheVariants as code
-use Rattle.nc_base.specs.declared.header.NcType.{NcType}
-use Rattle.nc_base.specs.declared.plan.Post.{Post}
-use Rattle.nc_base.specs.declared.request.Region.{Region}
-use Rattle.nc_base.specs.declared.request.Value.{Value}
-use Rattle.nc_base.specs.declared.request.Values.{Values}
-use Rattle.serial_spec.specs.ExternalForm.{class_of, code_of, size_of, width_of}
-use Rattle.serial_spec.specs.Layout.{product}
-use Rattle.serial_spec.specs.Looks.{kind_code, part_posts, parts_code, some_fits, values_bytes, values_code}
-use Rattle.serial_spec.specs.RegionCheck.{elements_of_all, is_ok_code}
-use Rattle.nc_base.specs.Values.{count_of}
-use Rattle.serial_spec.specs.Request.{ext_of, packed_bytes, positions, value_at}
-use Rattle.imap_extents.specs.Refusals.{IsRangeRefusal}
-use Rattle.imap_extents.proofs.PositionLaws.{length-positions, range_more}
-use Rattle.imap_extents.proofs.RefusalLaws.{lacks, part_refused, range_refused}
-use Rattle.rank_core.specs.Looked.{ext_at, some_unfit, unfit_at, HasValues}
-use Rattle.list_laws.proofs.Truth.{or_false}
-use Rattle.serial_spec.proofs.ValueLaws.{be_long}
 
 -- ---- how long they are
 

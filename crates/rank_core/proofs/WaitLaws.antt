@@ -1,25 +1,12 @@
 -- A rank that offers waits for the reply, and keeps the gets of the offer; one that answers waits for none.
-use Rattle.std.proofs.Common.{◌≡◌, ℕ, refl, List, [], Bool, true, false, cond, Some, None}
-use Rattle.nc_base.specs.declared.header.Header.{Header}
-use Rattle.nc_base.specs.declared.answer.Answer.{Answer}
-use Rattle.nc_base.specs.declared.answer.Code.{Code}
+use Rattle.rank_core.proofs.Words.{◌≡◌, ℕ, refl, List, [], Bool, true, false, cond, Some, None, Header, Answer, Code, Batch, Post, Call, Choice, PostKind, OfferKind, MeetKind, Want, look, look_fill, Rank, Open, meets_refused, open_blocking, open_empty, offers, offers_look, waits, answers, answer, posts, post_after, without_chosen, chosen, batch_chosen, buffer_code, bytes_in, attach_code, detach_code, batch_of, code_of_look, no_posts, items_of, values_of_post, is_ok_code, WaitsFor}
 use Rattle.nc_base.specs.declared.answer.Code.TheVariants as code
-use Rattle.nc_base.specs.declared.plan.Batch.{Batch}
-use Rattle.nc_base.specs.declared.plan.Post.{Post}
-use Rattle.nc_base.specs.declared.request.Call.{Call}
 use Rattle.nc_base.specs.declared.request.Call.TheVariants as call
-use Rattle.nc_base.specs.declared.request.Choice.{Choice}
-use Rattle.nc_base.specs.declared.request.PostKind.{PostKind}
-use Rattle.nc_base.specs.declared.step.OfferKind.{OfferKind}
 use Rattle.nc_base.specs.declared.step.OfferKind.TheVariants as offer
-use Rattle.nc_base.specs.declared.step.MeetKind.{MeetKind}
 use Rattle.nc_base.specs.declared.step.MeetKind.TheVariants as meets
-use Rattle.nc_base.specs.declared.step.Want.{Want}
 use Rattle.serial_spec.specs.RankMachine as machine
-use Rattle.serial_spec.specs.Looks.{Look, Refused, Empty, Asks, look, look_fill}
-use Rattle.serial_spec.specs.RankMachine.{Rank, Open, meets_refused, open_blocking, open_empty, offers, offers_look, waits, answers, answer, posts, post_after, without_chosen, chosen, batch_chosen, buffer_code, bytes_in, attach_code, detach_code, batch_of, code_of_look, posts_of, no_posts, items_of, values_of_post}
-use Rattle.serial_spec.specs.RegionCheck.{is_ok_code}
-use Rattle.rank_core.specs.Ranked.{WaitsFor}
+use Rattle.serial_spec.specs.Looks.{Look, Refused, Empty, Asks}
+use Rattle.serial_spec.specs.RankMachine.{posts_of}
 
 abbrev DoesWait : Rank × Want → Type 0
 DoesWait x = WaitsFor x.0 x.1

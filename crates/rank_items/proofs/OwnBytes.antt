@@ -1,28 +1,5 @@
 -- A byte of a put is one of one of its elements, and elements of different variable or index share none.
-use Rattle.std.proofs.Common.{◌≡◌, ℕ, zero, suc, ◌+◌, ◌*◌, ◌/◌, ◌%◌, ◌<◌, ◌≤◌, refl, sym, ◌∙◌, ap, inl, inr, ◌⊎◌, List, [], ◌∷◌, map, true, Option, Some, None, arith}
-use Rattle.std.specs.Prelude.{slice_get, flat_map}
-use Rattle.std.specs.List.{range_with_len}
-use Rattle.std.proofs.lemmas.Bool.{cases_eq}
-use Rattle.std.proofs.lemmas.Nat.{div-add-mod', mod_below}
-use Rattle.std.proofs.lemmas.Option.{slice_get_within, same_Some}
-use Rattle.std.proofs.lemmas.List.FromFn.{length-range_with_len}
-use Rattle.serial_spec.proofs.LengthLaws.{size_pos}
-use Rattle.nc_base.specs.declared.header.Header.{Header}
-use Rattle.nc_base.specs.declared.header.Var.{Var}
-use Rattle.nc_base.specs.declared.plan.Post.{Post}
-use Rattle.serial_spec.specs.ExternalForm.{size_of}
-use Rattle.serial_spec.specs.SoundHeaders.{is_sound}
-use Rattle.serial_spec.specs.Layout.{product}
-use Rattle.serial_spec.specs.Place.{place, AreApart, IsElement}
-use Rattle.serial_spec.specs.Request.{elements, places}
-use Rattle.serial_spec.specs.SharedByte.{bytes_of, bytes_of_some, holdings, Holding, IsOwnOnce}
-use Rattle.serial_spec.proofs.ApartLaws.{elements_apart}
-use Rattle.vara_extents.specs.Accepted.{IsAccepted}
-use Rattle.vara_extents.specs.Numbered.{index_of}
-use Rattle.vara_extents.proofs.NumberLaws.{element_at, length-places, place_at}
-use Rattle.vara_extents.proofs.OnceLaws.{in_block, range_at}
-use Rattle.vara_extents.proofs.PlaceLaws.{accepted_place}
-use Rattle.rank_items.specs.Own.{HasOwnElements}
+use Rattle.rank_items.proofs.Words.{◌≡◌, ℕ, zero, suc, ◌+◌, ◌*◌, ◌/◌, ◌%◌, ◌<◌, ◌≤◌, refl, sym, ◌∙◌, ap, inl, inr, ◌⊎◌, List, [], ◌∷◌, map, true, Option, Some, None, arith, slice_get, flat_map, range_with_len, cases_eq, div-add-mod', mod_below, slice_get_within, same_Some, length-range_with_len, size_pos, Header, Var, Post, size_of, is_sound, product, place, AreApart, IsElement, elements, places, bytes_of, bytes_of_some, holdings, Holding, IsOwnOnce, elements_apart, IsAccepted, index_of, element_at, length-places, place_at, in_block, range_at, accepted_place, HasOwnElements}
 
 -- byte k of a post is byte r of its element n
 record IsByte (header : Header) (post : Post) (k x : ℕ) : Type 0 where

@@ -1,21 +1,5 @@
 -- An element that stood twice would hold its first byte twice.
-use Rattle.std.proofs.Common.{◌≡◌, ℕ, zero, suc, ◌*◌, ◌≤◌, refl, sym, ap, ◌∙◌, List, [], ◌∷◌, map, true, Option, Some, arith}
-use Rattle.std.specs.Prelude.{slice_get, flat_map, is_some}
-use Rattle.std.specs.List.{range_with_len}
-use Rattle.std.proofs.lemmas.List.FromFn.{length-range_with_len}
-use Rattle.serial_spec.proofs.LengthLaws.{size_pos}
-use Rattle.list_laws.proofs.Numbers.{same_factor}
-use Rattle.nc_base.specs.declared.header.Header.{Header}
-use Rattle.nc_base.specs.declared.header.Var.{Var}
-use Rattle.nc_base.specs.declared.plan.Post.{Post}
-use Rattle.serial_spec.specs.ExternalForm.{size_of}
-use Rattle.serial_spec.specs.Place.{place}
-use Rattle.serial_spec.specs.Request.{elements, places}
-use Rattle.serial_spec.specs.SharedByte.{bytes_of, bytes_of_some, holdings, Holding, IsOwnOnce}
-use Rattle.rank_items.specs.Own.{HasOwnElements}
-use Rattle.list_laws.proofs.Maps.{entry_map}
-use Rattle.list_laws.proofs.Places.{get_left, get_right}
-use Rattle.list_laws.proofs.Optional.{value_of_some}
+use Rattle.rank_items.proofs.Words.{◌≡◌, ℕ, zero, suc, ◌*◌, ◌≤◌, refl, sym, ap, ◌∙◌, List, [], ◌∷◌, map, true, Option, Some, arith, slice_get, flat_map, is_some, range_with_len, length-range_with_len, size_pos, same_factor, Header, Var, Post, size_of, place, elements, places, bytes_of, bytes_of_some, holdings, Holding, IsOwnOnce, HasOwnElements, entry_map, get_left, get_right, value_of_some}
 
 -- ---- blocks of one length
 

@@ -1,20 +1,5 @@
 -- The variables of a redefined header stand apart.
-use Rattle.std.proofs.Common.{◌≡◌, ℕ, ◌+◌, ◌-◌, ◌<◌, ◌≤◌, max, List, length, Bool, true, false, ◌&&◌, Some, None, refl, sym, ap, ◌∙◌, inl, inr, arith}
-use Rattle.std.specs.Prelude.{nat_lt, slice_get}
-use Rattle.std.proofs.lemmas.Bool.Decides.{nat_tests}
-use Rattle.std.proofs.lemmas.Bool.{ltb-true, ltb-false}
-use Rattle.serial_spec.proofs.RoomLaws.{slab_below}
-use Rattle.list_laws.proofs.Each.{each_at}
-use Rattle.nc_base.specs.declared.header.Header.{Header}
-use Rattle.nc_base.specs.declared.header.Var.{Var}
-use Rattle.nc_base.specs.declared.script.Extra.{Extra}
-use Rattle.serial_spec.specs.Layout.{is_record, slab, vsize, recsize, share, sharing}
-use Rattle.serial_spec.specs.HeaderBytes.{header_len}
-use Rattle.serial_spec.specs.SoundHeaders.{is_sound}
-use Rattle.serial_spec.specs.Place.{AreApart}
-use Rattle.serial_spec.specs.Redefinition.{added, fixed_order, begins_by_number, begin_of_number, redefined_header}
-use Rattle.var_layout.proofs.CreatedFiles.{at_begin}
-use Rattle.var_layout.proofs.LaidApart.{shares_by, fixed_then_record, record_then_fixed, no_sharing_from}
+use Rattle.redef_laws.proofs.Words.{◌≡◌, ℕ, ◌+◌, ◌-◌, ◌<◌, ◌≤◌, max, List, length, Bool, true, false, ◌&&◌, Some, None, refl, sym, ap, ◌∙◌, inl, inr, arith, nat_lt, slice_get, nat_tests, ltb-true, ltb-false, slab_below, each_at, Header, Var, Extra, is_record, slab, vsize, recsize, share, sharing, header_len, is_sound, AreApart, added, fixed_order, begins_by_number, begin_of_number, redefined_header, at_begin, shares_by, fixed_then_record, record_then_fixed, no_sharing_from}
 use Rattle.redef_laws.proofs.GrownLaws.{IsFitVar, IsFit}
 use Rattle.redef_laws.proofs.RebegunLaws.{rebegun, rebegun_at, rebegun_recsize, rebegun_len}
 use Rattle.redef_laws.proofs.BeginLaws.{at_number, found_is, front_grows, vsizes}

@@ -1,15 +1,6 @@
 -- The laws of an accepted redefinition.
-use Rattle.std.proofs.Common.{◌≡◌, ℕ, ◌<◌, List}
-use Rattle.std.specs.Prelude.{filter, flat_map, reverse}
-use Rattle.nc_base.specs.declared.header.Header.{Header}
-use Rattle.nc_base.specs.declared.script.Extra.{Extra}
-use Rattle.nc_base.specs.declared.step.DiskCall.{DiskCall}
-use Rattle.serial_spec.specs.DeviceCalls.{highest_first, slabs, stores, zero_calls}
-use Rattle.serial_spec.specs.HeaderBytes.{header_len}
-use Rattle.serial_spec.specs.Redefinition.{redefined}
-use Rattle.redef_laws.specs.Applied.{IsApplied}
-use Rattle.redef_laws.specs.RisingSlabs.{changes, gaps, rising, IsRisen}
-use Rattle.redef_laws.specs.Shifted.{new_end, AreShifted, IsMoved}
+use Rattle.redef_laws.proofs.Words.{◌≡◌, ℕ, ◌<◌, List, filter, flat_map, Header, Extra, DiskCall, highest_first, slabs, stores, zero_calls, header_len, redefined, IsApplied, changes, gaps, rising, IsRisen, new_end, AreShifted, IsMoved}
+use Rattle.std.specs.Prelude.{reverse}
 use Rattle.redef_laws.proofs.MovedLaws.{moved_is_redefined, writable_is_sound}
 use Rattle.redef_laws.proofs.RisingLaws.{rising_risen, rising_falls, rising_zeros}
 use Rattle.redef_laws.proofs.ShiftLaws.{shifts, sound_before}

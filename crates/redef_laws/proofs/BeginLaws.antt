@@ -4,19 +4,7 @@
 --     Numbers vars list      each variable of the list stands with its number
 --     fixed_begin, map_begin, record_begin      what is found for a variable of the list
 --     fixed_apart, record_apart                 two variables of the list stand apart
-use Rattle.std.proofs.Common.{◌≡◌, ℕ, zero, suc, ◌+◌, ◌≤◌, List, [], ◌∷◌, map, Bool, true, false, cond, Option, Some, None, refl, sym, ap, subst, ◌∙◌, inl, inr, ◌⊎◌, arith}
-use Rattle.std.specs.Prelude.{nat_le, ◌==◌, filter, find, sum_by, slice_get}
-use Rattle.std.specs.List.{enumerate_from, AllByRecursion}
-use Rattle.std.proofs.lemmas.List.Sums.{sum_by-cons}
-use Rattle.std.proofs.lemmas.Bool.{leb-true, eqb-true, ne_eqb}
-use Rattle.list_laws.proofs.Truth.{equal_true}
-use Rattle.nc_base.specs.declared.header.Header.{Header}
-use Rattle.nc_base.specs.declared.header.Var.{Var}
-use Rattle.serial_spec.specs.Layout.{slab, vsize, round_up}
-use Rattle.serial_spec.specs.Place.{AreApart}
-use Rattle.serial_spec.specs.Lists.{inserted_by}
-use Rattle.serial_spec.specs.Redefinition.{Numbered, begins_before, by_begin, begin_at, fixed_begins, front_after, record_begins}
-use Rattle.overlay_laws.specs.Entries.{In}
+use Rattle.redef_laws.proofs.Words.{◌≡◌, ℕ, zero, suc, ◌+◌, ◌≤◌, List, [], ◌∷◌, map, Bool, true, false, cond, Option, Some, None, refl, sym, ap, subst, ◌∙◌, inl, inr, ◌⊎◌, arith, nat_le, ◌==◌, filter, find, sum_by, slice_get, enumerate_from, AllByRecursion, sum_by-cons, leb-true, eqb-true, ne_eqb, equal_true, Header, Var, slab, vsize, round_up, AreApart, inserted_by, Numbered, begins_before, by_begin, begin_at, fixed_begins, front_after, record_begins, In}
 
 -- ---- members and numbers
 

@@ -1,14 +1,6 @@
 -- Lists of slabs that stand one behind another.
-use Rattle.std.proofs.Common.{◌≡◌, ℕ, ◌+◌, ◌<◌, ◌≤◌, refl, subst, inl, inr, List, [], ◌∷◌, ◌++◌, Bool, true, false, cond, arith}
+use Rattle.redef_laws.proofs.Words.{◌≡◌, ℕ, ◌+◌, ◌<◌, ◌≤◌, refl, subst, inl, inr, List, [], ◌∷◌, ◌++◌, Bool, true, false, cond, arith, nat_lt, nat_le, leb-true, leb-false, Slab, In, in_either, inserted_by, stands_below, lowest_first, IsRisen, AreShifted}
 use borrow.Author.Tests.{ltb-true, ltb-false}
-use Rattle.std.specs.Prelude.{nat_lt, nat_le}
-use Rattle.std.proofs.lemmas.Bool.{leb-true, leb-false}
-use Rattle.serial_spec.specs.DeviceCalls.{Slab}
-use Rattle.overlay_laws.specs.Entries.{In}
-use Rattle.overlay_laws.proofs.HullLaws.{in_either}
-use Rattle.serial_spec.specs.Lists.{inserted_by}
-use Rattle.redef_laws.specs.RisingSlabs.{stands_below, lowest_first, IsRisen}
-use Rattle.redef_laws.specs.Shifted.{AreShifted}
 
 -- each slab begins below those after it
 abbrev pub Ascends : List Slab → Type 0

@@ -1,26 +1,6 @@
 -- Each element of an old variable lies in one of its slabs, as far from the slab's beginning in the new file as in the old one;
 -- and each byte of a slab is a byte of an element.
-use Rattle.std.proofs.Common.{◌≡◌, ℕ, zero, suc, ◌+◌, ◌*◌, ◌/◌, ◌%◌, ◌<◌, ◌≤◌, refl, sym, ◌∙◌, ap, subst, inl, inr, List, [], ◌∷◌, map, Bool, true, false, cond, Some, arith}
-use Rattle.std.proofs.lemmas.Nat.{row_fits, div-add-mod', div_below, mod_below}
-use Rattle.std.proofs.lemmas.Bool.Decides.{nat_tests}
-use Rattle.std.specs.Prelude.{zip, slice_get, MatchBool, ◌==◌}
-use Rattle.std.specs.List.{range_with_len}
-use Rattle.list_laws.proofs.Numbers.{some_factor}
-use Rattle.nc_base.specs.declared.header.Header.{Header}
-use Rattle.nc_base.specs.declared.header.Var.{Var}
-use Rattle.serial_spec.specs.DeviceCalls.{Slab, slabs, slabs_of}
-use Rattle.serial_spec.specs.ExternalForm.{size_of}
-use Rattle.serial_spec.specs.SoundHeaders.{is_sound}
-use Rattle.serial_spec.specs.Layout.{product, lengths, starts_with_zero, without_record, is_record, inner_lengths, recsize}
-use Rattle.serial_spec.specs.Place.{place, row, record_of, within_record, HasRecord, IsIndex, IsElementBelow}
-use Rattle.serial_spec.specs.RegionCheck.{known_lengths}
-use Rattle.serial_spec.specs.Redefinition.{KeepsVars, Moves}
-use Rattle.serial_spec.proofs.RowLaws.{row_below}
-use Rattle.serial_spec.proofs.RoomLaws.{known_of, index_is_element}
-use Rattle.overlay_laws.specs.Entries.{In}
-use Rattle.overlay_laws.proofs.HullLaws.{in_flat, flat_in, in_range, range_high}
-use Rattle.redef_laws.specs.RisingSlabs.{first_slab, in_record}
-use Rattle.overlay_laws.proofs.Members.{in_map, map_in, in_zip, zip_in}
+use Rattle.redef_laws.proofs.Words.{◌≡◌, ℕ, zero, suc, ◌+◌, ◌*◌, ◌/◌, ◌%◌, ◌<◌, ◌≤◌, refl, sym, ◌∙◌, ap, subst, inl, inr, List, [], ◌∷◌, map, Bool, true, false, cond, Some, arith, row_fits, div-add-mod', div_below, mod_below, nat_tests, zip, slice_get, MatchBool, ◌==◌, range_with_len, some_factor, Header, Var, Slab, slabs, slabs_of, size_of, is_sound, product, lengths, starts_with_zero, without_record, is_record, inner_lengths, recsize, place, row, record_of, within_record, HasRecord, IsIndex, IsElementBelow, known_lengths, KeepsVars, Moves, row_below, known_of, index_is_element, In, in_flat, flat_in, in_range, range_high, first_slab, in_record, in_map, map_in, in_zip, zip_in}
 
 -- ---- the slabs of one variable
 

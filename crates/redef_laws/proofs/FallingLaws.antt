@@ -1,14 +1,5 @@
 -- The order in which slabs are moved: a chain backwards, without the slabs that stay.
-use Rattle.std.proofs.Common.{◌≡◌, ℕ, ◌<◌, refl, sym, ◌∙◌, ap, subst, inl, inr, ◌⊎◌, List, [], ◌∷◌, ◌++◌, reverse, Bool, true, false, cond, arith}
-use Rattle.std.proofs.lemmas.Grind.{reverse_onto}
-use Rattle.std.specs.Prelude.{filter, nat_le}
-use Rattle.std.proofs.lemmas.Bool.{leb-true, leb-false}
-use Rattle.serial_spec.specs.Lists.{inserted_by}
-use Rattle.serial_spec.specs.DeviceCalls.{Slab, stands_above, highest_first}
-use Rattle.overlay_laws.specs.Entries.{In, HaveSame}
-use Rattle.serial_spec.proofs.MemberLaws.{filter_in, in_filter}
-use Rattle.overlay_laws.proofs.HullLaws.{in_left, in_right, in_either}
-use Rattle.redef_laws.specs.RisingSlabs.{changes, IsRisen}
+use Rattle.redef_laws.proofs.Words.{◌≡◌, ℕ, ◌<◌, refl, sym, ◌∙◌, ap, subst, inl, inr, ◌⊎◌, List, [], ◌∷◌, ◌++◌, reverse, Bool, true, false, cond, arith, reverse_onto, filter, nat_le, leb-true, leb-false, inserted_by, Slab, stands_above, highest_first, In, HaveSame, filter_in, in_filter, in_left, in_right, in_either, changes, IsRisen}
 use Rattle.redef_laws.proofs.ChainLaws.{Ascends, AreDistinct, below, risen_ascends, ascends_distinct}
 use Rattle.redef_laws.proofs.SumLaws.{HaveSameSums, sums_members, sums_back, sums_distinct}
 

@@ -1,11 +1,5 @@
 -- Tests of numbers and lists, and which numbers fit their fields.
-use Rattle.std.proofs.Common.{◌≡◌, ℕ, ◌^◌, ◌<◌, List, [], ◌∷◌, Bool, true, false, cond, ◌&&◌, refl, arith}
-use Rattle.std.specs.Prelude.{◌==◌}
-use Rattle.std.specs.List.{AllByRecursion}
-use Rattle.std.specs.Int.{w32, w64}
-use Rattle.var_layout.proofs.LaidWritable.{small_field}
-use Rattle.serial_spec.specs.HeaderBytes.{begin_width}
-use Rattle.serial_spec.specs.SoundHeaders.{fits_field, fits_count}
+use Rattle.redef_laws.proofs.Words.{◌≡◌, ℕ, ◌^◌, ◌<◌, List, [], ◌∷◌, Bool, true, false, cond, ◌&&◌, refl, arith, ◌==◌, AllByRecursion, w32, w64, small_field, begin_width, fits_field, fits_count}
 
 -- ---- tests
 

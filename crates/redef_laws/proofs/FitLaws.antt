@@ -1,26 +1,6 @@
 -- A header that can be redefined has the facts that extras keep, and so has the new header.
-use Rattle.std.proofs.Common.{◌≡◌, ℕ, ◌+◌, ◌*◌, ◌<◌, ◌≤◌, List, [], ◌∷◌, length, drop, Bool, true, false, cond, ◌||◌, Some, None, refl, sym, ap, ◌∙◌, arith}
-use Rattle.std.specs.Prelude.{not, nat_le, ◌==◌, count_by, position, option_map, is_none}
-use Rattle.std.specs.List.{list_all, position_from, AllByRecursion}
-use Rattle.std.proofs.lemmas.Iterator.Adapters.{position_from-zero}
-use Rattle.std.proofs.lemmas.List.Sums.{length-filter}
-use Rattle.std.proofs.lemmas.Bool.{or_parts, not-false, leb-true, ltb-false, leb-false, eqb-true}
-use Rattle.list_laws.proofs.Each.{passes_each, fails_each, each_weaker}
-use Rattle.list_laws.proofs.Truth.{and_first, and_second}
-use Rattle.list_laws.proofs.Optional.{both_none, none_of_test, none_before_map, neither_some}
-use Rattle.nc_base.specs.declared.header.Header.{Header}
-use Rattle.nc_base.specs.declared.header.Dim.{Dim}
-use Rattle.nc_base.specs.declared.header.Attr.{Attr}
-use Rattle.nc_base.specs.declared.header.Var.{Var}
+use Rattle.redef_laws.proofs.Words.{◌≡◌, ℕ, ◌+◌, ◌*◌, ◌<◌, ◌≤◌, List, [], ◌∷◌, length, drop, Bool, true, false, cond, ◌||◌, Some, None, refl, sym, ap, ◌∙◌, arith, not, nat_le, ◌==◌, count_by, position, option_map, is_none, list_all, position_from, AllByRecursion, position_from-zero, length-filter, or_parts, not-false, leb-true, ltb-false, leb-false, eqb-true, passes_each, fails_each, each_weaker, and_first, and_second, both_none, none_of_test, none_before_map, neither_some, Header, Dim, Attr, Var, most_dims, most_dims_of_var, file_limit, record_limit, size_of, sharing, is_version, header_len, all_ones, first_check, first_with, fault_if, two_record_dims, record_later, is_record_id, bad_id, is_too_large, measure, is_sound, counts_are_small, fits_count, is_writable_dim, is_writable_attr, is_writable_list, is_redefinable, is_redefinable_var, no_fault}
 use Rattle.nc_base.specs.declared.errors.HeaderErr.TheVariants as fault
-use Rattle.serial_spec.specs.Limits.{most_dims, most_dims_of_var, file_limit, record_limit}
-use Rattle.serial_spec.specs.ExternalForm.{size_of}
-use Rattle.serial_spec.specs.Layout.{sharing}
-use Rattle.serial_spec.specs.HeaderBytes.{is_version, header_len}
-use Rattle.serial_spec.specs.HeaderGrammar.{all_ones}
-use Rattle.serial_spec.specs.HeaderFaults.{first_check, first_with, fault_if, two_record_dims, record_later, is_record_id, bad_id, is_too_large, measure}
-use Rattle.serial_spec.specs.SoundHeaders.{is_sound, counts_are_small, fits_count, is_writable_dim, is_writable_attr, is_writable_list, is_redefinable, is_redefinable_var}
-use Rattle.cdf_header.proofs.Pieces.{no_fault}
 use Rattle.redef_laws.proofs.GrownLaws.{IsTyped, HasFitLength, IsFitVar, IsFit, is_record_dim}
 
 -- ---- the checks of a sound header

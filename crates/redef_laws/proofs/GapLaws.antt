@@ -1,22 +1,8 @@
 -- The bytes between slabs.
-use Rattle.std.proofs.Common.{◌≡◌, ℕ, zero, suc, ◌+◌, ◌-◌, ◌*◌, ◌<◌, ◌≤◌, refl, sym, ◌∙◌, ap, inl, inr, List, [], ◌∷◌, ◌++◌, length, Bool, true, false, cond, not, ◌&&◌, ◌||◌, min, arith, append-nil}
-use Rattle.std.proofs.lemmas.Nat.{div_below}
-use Rattle.std.specs.Prelude.{filter, map, flat_map, nat_le, nat_lt, ◌==◌}
-use Rattle.std.specs.List.{range_with_len, list_any}
-use Rattle.std.proofs.lemmas.List.FromFn.{length-range_with_len}
-use Rattle.std.proofs.lemmas.Bool.{or_left, or_right, or_cases, lt-ltb, le-ltb, le-leb, lt-leb, and_right}
-use Rattle.list_laws.proofs.Truth.{equal_above, equal_true}
-use Rattle.list_laws.proofs.Ranges.{range_append}
-use Rattle.nc_base.specs.declared.step.DiskCall.{DiskCall}
-use Rattle.nc_base.specs.declared.step.DiskCall.TheVariants.{Store}
-use Rattle.serial_spec.specs.DeviceCalls.{Slab, run_before, runs, stores, first_of, window_count}
-use Rattle.overlay_laws.specs.Entries.{In, HaveSame}
-use Rattle.overlay_laws.proofs.HullLaws.{range_low, range_high, in_either}
-use Rattle.overlay_laws.proofs.WalkLaws.{filter_same, filter_none, filter_all}
-use Rattle.redef_laws.specs.RisingSlabs.{gaps, IsRisen}
+use Rattle.redef_laws.proofs.Words.{◌≡◌, ℕ, zero, suc, ◌+◌, ◌-◌, ◌*◌, ◌<◌, ◌≤◌, refl, sym, ◌∙◌, ap, inl, inr, List, [], ◌∷◌, ◌++◌, length, Bool, true, false, cond, ◌&&◌, ◌||◌, min, arith, append-nil, div_below, filter, flat_map, nat_le, nat_lt, ◌==◌, range_with_len, list_any, length-range_with_len, or_left, or_right, or_cases, lt-ltb, le-ltb, le-leb, lt-leb, and_right, equal_above, equal_true, range_append, DiskCall, Store, Slab, run_before, runs, stores, first_of, window_count, In, HaveSame, range_low, range_high, in_either, filter_same, filter_none, filter_all, gaps, IsRisen, filter-append, any_member}
+use Rattle.std.proofs.Common.{not}
+use Rattle.std.specs.Prelude.{map}
 use Rattle.redef_laws.proofs.ChainLaws.{risen_past}
-use Rattle.std.proofs.lemmas.List.Elements.{filter-append}
-use Rattle.serial_spec.proofs.MemberLaws.{any_member}
 
 -- x is one of the slab's bytes in the new file
 abbrev pub covers : ℕ → Slab → Bool

@@ -1,33 +1,8 @@
 -- What a header keeps while extras are added to it.
-use Rattle.std.proofs.Common.{◌≡◌, ℕ, suc, ◌+◌, ◌*◌, ◌^◌, ◌<◌, ◌≤◌, List, [], ◌∷◌, ◌++◌, length, drop, map, Bool, true, false, cond, ◌&&◌, ◌||◌, Option, Some, None, refl, sym, ap, subst, ◌∙◌, arith, length-append}
-use Rattle.std.specs.Prelude.{not, nat_lt, nat_le, ◌==◌, is_none, unwrap_or, filter, slice_get, bytes_eq}
-use Rattle.std.specs.List.{list_any, list_all, position_from, AllByRecursion}
-use Rattle.std.proofs.lemmas.Iterator.Adapters.{position_from-zero}
-use Rattle.std.proofs.lemmas.List.{length-map}
-use Rattle.std.proofs.lemmas.List.Elements.{filter-append}
-use Rattle.std.proofs.lemmas.Bool.{le-leb, leb-true, ltb-true, ltb-false, leb-false, eqb-true}
-use Rattle.std.proofs.lemmas.Option.{slice_get_within}
-use Rattle.list_laws.proofs.Each.{fails_each, each_weaker, each_push, each_later, each_at, each_map}
-use Rattle.list_laws.proofs.Truth.{and_first, and_second}
-use Rattle.nc_base.specs.declared.header.Header.{Header}
-use Rattle.nc_base.specs.declared.header.Dim.{Dim}
-use Rattle.nc_base.specs.declared.header.Attr.{Attr}
-use Rattle.nc_base.specs.declared.header.Var.{Var}
-use Rattle.nc_base.specs.declared.header.NcType.{NcType}
-use Rattle.nc_base.specs.declared.script.Extra.{Extra}
+use Rattle.redef_laws.proofs.Words.{◌≡◌, ℕ, suc, ◌+◌, ◌*◌, ◌^◌, ◌<◌, ◌≤◌, List, [], ◌∷◌, ◌++◌, length, drop, map, Bool, true, false, cond, ◌&&◌, ◌||◌, Option, Some, None, refl, sym, ap, subst, ◌∙◌, arith, length-append, not, nat_lt, nat_le, ◌==◌, is_none, unwrap_or, filter, slice_get, bytes_eq, list_any, list_all, position_from, AllByRecursion, position_from-zero, length-map, filter-append, le-leb, leb-true, ltb-true, ltb-false, leb-false, eqb-true, slice_get_within, fails_each, each_weaker, each_push, each_later, each_at, each_map, and_first, and_second, Header, Dim, Attr, Var, NcType, Extra, RedefErr, most_dims, most_vars, file_limit, record_limit, size_of, length_of, is_record_id, fits_count, is_type, find_dim, is_lawful_extra, is_whole_extra, with_var_attr, with_extra, added, dim_id, is_taken, is_unknown, has_bad_shape, is_one_too_many, has_bad_kind, extra_fault, extras_from, get_left}
 use Rattle.nc_base.specs.declared.script.Extra.TheVariants as extra
-use Rattle.nc_base.specs.declared.errors.RedefErr.{RedefErr}
 use Rattle.nc_base.specs.declared.errors.RedefErr.TheVariants as redef
-use Rattle.serial_spec.specs.Limits.{most_dims, most_vars, file_limit, record_limit}
-use Rattle.serial_spec.specs.ExternalForm.{size_of}
-use Rattle.serial_spec.specs.Layout.{length_of}
-use Rattle.serial_spec.specs.HeaderFaults.{is_record_id}
-use Rattle.serial_spec.specs.SoundHeaders.{fits_count, is_type}
-use Rattle.serial_spec.specs.Looks.{find_dim}
-use Rattle.serial_spec.specs.Lawful.{is_lawful_extra, is_whole_extra}
-use Rattle.serial_spec.specs.Redefinition.{with_var_attr, with_extra, added, dim_id, is_taken, is_unknown, has_bad_shape, is_one_too_many, has_bad_kind, extra_fault, extras_from}
 use Rattle.redef_laws.proofs.FieldLaws.{not_both, each_both, count_fits}
-use Rattle.list_laws.proofs.Places.{get_left}
 
 -- ---- the facts
 

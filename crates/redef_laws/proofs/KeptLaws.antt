@@ -1,24 +1,6 @@
 -- The old variables in the header with what is added: their begins, slabs and records.
-use Rattle.std.proofs.Common.{◌≡◌, ℕ, zero, suc, ◌+◌, ◌*◌, ◌<◌, ◌≤◌, List, [], ◌∷◌, ◌++◌, length, Bool, true, false, cond, Some, None, refl, sym, ap, subst, ◌∙◌, arith}
-use Rattle.std.specs.Prelude.{not, nat_lt, nat_le, sum_by, slice_get, bytes_eq}
-use Rattle.std.specs.List.{enumerate_from}
-use Rattle.std.proofs.lemmas.Bool.Decides.{nat_tests}
-use Rattle.std.proofs.lemmas.List.Sums.{sum_by-cons}
-use Rattle.std.proofs.lemmas.List.Filters.{sum_by-filter_both}
-use Rattle.std.proofs.lemmas.Bool.{lt-ltb}
-use Rattle.list_laws.proofs.Places.{entry_below}
-use Rattle.nc_base.specs.declared.header.Header.{Header}
-use Rattle.nc_base.specs.declared.header.Attr.{Attr}
-use Rattle.nc_base.specs.declared.header.Var.{Var}
-use Rattle.nc_base.specs.declared.header.NcType.{NcType}
-use Rattle.nc_base.specs.declared.script.Extra.{Extra}
+use Rattle.redef_laws.proofs.Words.{◌≡◌, ℕ, zero, suc, ◌+◌, ◌*◌, ◌<◌, ◌≤◌, List, [], ◌∷◌, ◌++◌, length, Bool, true, false, cond, Some, None, refl, sym, ap, subst, ◌∙◌, arith, not, nat_lt, nat_le, sum_by, slice_get, bytes_eq, enumerate_from, nat_tests, sum_by-cons, sum_by-filter_both, lt-ltb, entry_below, Header, Attr, Var, NcType, Extra, size_of, product, lengths, starts_with_zero, without_record, is_record, round_up, slab, vsize, recsize, record_share, record_variables, is_sound, Numbered, with_var_attr, with_extra, added, records_in, old_of, begins_by_number, redefined_keeps, in_front, recsize_below}
 use Rattle.nc_base.specs.declared.script.Extra.TheVariants as extra
-use Rattle.serial_spec.specs.ExternalForm.{size_of}
-use Rattle.serial_spec.specs.Layout.{product, lengths, starts_with_zero, without_record, is_record, round_up, slab, vsize, recsize, record_share, record_variables}
-use Rattle.serial_spec.specs.SoundHeaders.{is_sound}
-use Rattle.serial_spec.specs.Redefinition.{Numbered, with_var_attr, with_extra, added, records_in, old_of, begins_by_number}
-use Rattle.serial_spec.proofs.AddedLaws.{redefined_keeps, in_front}
-use Rattle.var_layout.proofs.Soundness.{recsize_below}
 use Rattle.redef_laws.proofs.RebegunLaws.{rebegun_at}
 use Rattle.redef_laws.proofs.BeginLaws.{vsizes}
 use Rattle.redef_laws.proofs.PlaceLaws.{numbered, old_records, new_records}

@@ -1,3 +1,4 @@
+mod Words
 mod FieldLaws
 pub mod OpenedLaws
 mod GrownLaws

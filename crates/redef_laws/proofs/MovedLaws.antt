@@ -1,23 +1,5 @@
 -- A file in which each slab stands at its new place is the redefined one: the redefined file is such a file, and there is no other.
-use Rattle.std.proofs.Common.{◌≡◌, ℕ, ◌+◌, ◌-◌, ◌<◌, ◌≤◌, refl, sym, ◌∙◌, ap, subst, inl, inr, ◌⊎◌, List, [], ◌∷◌, get_or, true, arith}
-use Rattle.std.proofs.lemmas.Bool.{cases_lt}
-use Rattle.std.proofs.lemmas.Grind.{same_number_lists}
-use Rattle.std.proofs.lemmas.List.{get_or-take}
-use Rattle.list_laws.proofs.Truth.{and_first}
-use Rattle.nc_base.specs.declared.header.Header.{Header}
-use Rattle.nc_base.specs.declared.script.Extra.{Extra}
-use Rattle.serial_spec.specs.DeviceCalls.{Slab, slabs}
-use Rattle.serial_spec.specs.File.{at}
-use Rattle.serial_spec.specs.HeaderBytes.{header_len}
-use Rattle.serial_spec.specs.SoundHeaders.{is_sound, is_writable}
-use Rattle.serial_spec.specs.Place.{AreApart}
-use Rattle.serial_spec.specs.Redefinition.{redefined, KeepsVars, Moves, IsRedefined}
-use Rattle.serial_spec.proofs.AddedLaws.{redefined_keeps}
-use Rattle.serial_spec.proofs.CellLaws.{read_at}
-use Rattle.serial_spec.proofs.MoveLaws.{redefined_is}
-use Rattle.overlay_laws.specs.Entries.{In}
-use Rattle.redef_laws.specs.Applied.{IsApplied}
-use Rattle.redef_laws.specs.Shifted.{new_end, IsMoved}
+use Rattle.redef_laws.proofs.Words.{◌≡◌, ℕ, ◌+◌, ◌-◌, ◌<◌, ◌≤◌, refl, sym, ◌∙◌, ap, subst, inl, inr, ◌⊎◌, List, [], ◌∷◌, get_or, true, arith, cases_lt, same_number_lists, get_or-take, and_first, Header, Extra, Slab, slabs, at, header_len, is_sound, is_writable, AreApart, redefined, KeepsVars, Moves, IsRedefined, redefined_keeps, read_at, redefined_is, In, IsApplied, new_end, IsMoved}
 use Rattle.redef_laws.proofs.ElementSlabs.{HasSlab, element_in_slab, slab_bytes}
 
 -- ---- a byte lies in a slab, or apart from all

@@ -1,16 +1,6 @@
 -- Where old variables begin that share no byte: fixed variables apart and below the records, record variables within one record.
-use Rattle.std.proofs.Common.{◌≡◌, ℕ, suc, ◌+◌, ◌<◌, ◌≤◌, sym, ◌∙◌, ap, inl, inr, ◌⊎◌, List, [], ◌∷◌, Bool, true, false, true≢false, cond, ◌&&◌, None, max, arith}
-use Rattle.std.specs.Prelude.{filter, zip, nat_lt, nat_le}
-use Rattle.std.proofs.lemmas.Bool.{lt-ltb, or_parts}
+use Rattle.redef_laws.proofs.Words.{◌≡◌, ℕ, suc, ◌+◌, ◌<◌, ◌≤◌, sym, ◌∙◌, ap, inl, inr, ◌⊎◌, List, [], ◌∷◌, Bool, true, false, true≢false, cond, ◌&&◌, None, max, arith, filter, zip, nat_lt, nat_le, lt-ltb, or_parts, told_else, both_none, Header, Var, is_record, recsize, slab, meet, share, records_meet, sharing_with, sharing_from, In, filter_in, zip_left, share_by}
 use borrow.Author.Tests.{ltb-false}
-use Rattle.list_laws.proofs.Optional.{told_else, both_none}
-use Rattle.nc_base.specs.declared.header.Header.{Header}
-use Rattle.nc_base.specs.declared.header.Var.{Var}
-use Rattle.serial_spec.specs.Layout.{is_record, recsize, slab, meet, share, records_meet, sharing_with, sharing_from}
-use Rattle.overlay_laws.specs.Entries.{In}
-use Rattle.serial_spec.proofs.MemberLaws.{filter_in}
-use Rattle.overlay_laws.proofs.Members.{zip_left}
-use Rattle.serial_spec.proofs.ApartLaws.{share_by}
 
 -- any two places of the list have variables that share none
 abbrev pub ShareNone : Header → List (Var × Var) → Type 0

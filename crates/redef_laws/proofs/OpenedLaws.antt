@@ -1,31 +1,6 @@
 -- A sound header that was read can be redefined: what is spelled fits its field, and the reader bounds the lengths.
-use Rattle.std.proofs.Common.{◌≡◌, ℕ, ◌+◌, ◌-◌, ◌*◌, ◌^◌, ◌<◌, List, [], ◌∷◌, ◌++◌, length, take, drop, Bool, true, false, cond, ◌&&◌, Option, Some, None, refl, sym, ap, subst, ◌∙◌, inl, inr, arith, append_assoc, length-append}
-use Rattle.std.specs.Prelude.{nat_le, ◌==◌}
-use Rattle.std.specs.List.{list_all, AllByRecursion}
-use Rattle.std.specs.Int.{Width, w32, w64, byte_len, to_be_bytes}
-use Rattle.std.proofs.Math.Seq.{take-append_seam}
-use Rattle.std.proofs.lemmas.List.{take-append-drop}
-use Rattle.std.proofs.lemmas.Bool.{and_from, or_parts, lt-ltb, le-leb, ltb-false}
-use Rattle.serial_spec.proofs.LengthLaws.{width_long}
-use Rattle.cdf_header.proofs.Walks.{drop_on, back_4, back_8}
-use Rattle.list_laws.proofs.Each.{each_passes, passes_each}
-use Rattle.list_laws.proofs.Truth.{and_first, and_second, equal_true}
-use Rattle.nc_base.specs.declared.header.Header.{Header}
-use Rattle.nc_base.specs.declared.header.Dim.{Dim}
-use Rattle.nc_base.specs.declared.header.Attr.{Attr}
-use Rattle.nc_base.specs.declared.header.Var.{Var}
-use Rattle.nc_base.specs.declared.errors.HeaderErr.{HeaderErr}
+use Rattle.redef_laws.proofs.Words.{◌≡◌, ℕ, ◌+◌, ◌-◌, ◌*◌, ◌^◌, ◌<◌, List, [], ◌∷◌, ◌++◌, length, take, drop, Bool, true, false, cond, ◌&&◌, Option, Some, None, refl, sym, ap, subst, ◌∙◌, inl, inr, arith, append_assoc, length-append, nat_le, ◌==◌, list_all, AllByRecursion, Width, w32, w64, byte_len, to_be_bytes, take-append_seam, take-append-drop, and_from, or_parts, lt-ltb, le-leb, ltb-false, width_long, drop_on, back_4, back_8, each_passes, passes_each, and_first, and_second, equal_true, Header, Dim, Attr, Var, HeaderErr, file_limit, size_of, round_up, count_width, begin_width, tag, magic, Joined, ◌▹◌, Exactly, Each, Number, Padded, NameOf, ListOf, DimensionOf, AttributeOf, VariableOf, RecordsOf, all_ones, Field, Magic, Records, Tag, Count, NameLength, Block, DimLength, Dimensions, Attributes, Variables, Ask, One, Many, stands, asked, the_header, many, block, wrong, wrong_at, after_field, field_number, field_len, field_fault, version_of, big_endian, fits_field, fits_count, is_type, is_sound, is_writable_dim, is_writable_attr, is_writable_list, is_redefinable, is_redefinable_var, EndsWrong, ends_later, fault_only, BeginsWith, right_number, no_fault}
 use Rattle.nc_base.specs.declared.errors.HeaderErr.TheVariants as fault
-use Rattle.serial_spec.specs.Limits.{file_limit}
-use Rattle.serial_spec.specs.ExternalForm.{size_of}
-use Rattle.serial_spec.specs.Layout.{round_up}
-use Rattle.serial_spec.specs.HeaderBytes.{count_width, begin_width, tag, magic}
-use Rattle.serial_spec.specs.HeaderGrammar.{Joined, ◌▹◌, Exactly, Each, Number, Padded, NameOf, ListOf, DimensionOf, AttributeOf, VariableOf, RecordsOf, all_ones}
-use Rattle.serial_spec.specs.HeaderFaults.{Field, Magic, Records, Tag, Count, NameLength, Block, DimLength, Dimensions, Attributes, Variables, Ask, One, Many, stands, asked, the_header, many, block, wrong, wrong_at, after_field, field_number, field_len, field_fault, version_of, big_endian}
-use Rattle.serial_spec.specs.SoundHeaders.{fits_field, fits_count, is_type, is_sound, is_writable_dim, is_writable_attr, is_writable_list, is_redefinable, is_redefinable_var}
-use Rattle.serial_spec.proofs.FaultLaws.{EndsWrong, ends_later, fault_only}
-use Rattle.cdf_header.specs.Decoded.{BeginsWith}
-use Rattle.cdf_header.proofs.Pieces.{right_number, no_fault}
 use Rattle.redef_laws.proofs.FitLaws.{checked}
 use Rattle.redef_laws.proofs.FieldLaws.{each_both}
 

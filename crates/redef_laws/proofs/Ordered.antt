@@ -1,10 +1,5 @@
 -- Variables in the order of their begins.
-use Rattle.std.proofs.Common.{◌≡◌, ◌≤◌, refl, subst, inl, inr, List, [], ◌∷◌, Bool, true, false, cond, arith}
-use Rattle.std.proofs.lemmas.Bool.Decides.{nat_tests}
-use Rattle.std.specs.Prelude.{nat_le}
-use Rattle.serial_spec.specs.Lists.{inserted_by}
-use Rattle.serial_spec.specs.Redefinition.{Numbered, begins_before, by_begin}
-use Rattle.overlay_laws.specs.Entries.{In, HaveSame}
+use Rattle.redef_laws.proofs.Words.{◌≡◌, ◌≤◌, refl, subst, inl, inr, List, [], ◌∷◌, Bool, true, false, cond, arith, nat_tests, nat_le, inserted_by, Numbered, begins_before, by_begin, In, HaveSame}
 
 -- the lowest first
 abbrev pub AreOrdered : List Numbered → Type 0

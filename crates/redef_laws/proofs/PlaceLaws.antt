@@ -2,24 +2,7 @@
 --     fixed_place, old_place, new_place     of a fixed variable, an old record variable, a new one
 --     fixed_places_apart, new_places_apart  of two
 --     any_place                             each number has a begin
-use Rattle.std.proofs.Common.{◌≡◌, ℕ, ◌+◌, ◌-◌, ◌<◌, ◌≤◌, min, List, [], ◌∷◌, ◌++◌, map, Bool, true, false, cond, Option, Some, None, refl, sym, ap, subst, ◌∙◌, inl, inr, ◌⊎◌, arith}
-use Rattle.std.specs.Prelude.{not, nat_lt, nat_le, ◌==◌, fold, slice_get, unwrap_or}
-use Rattle.std.specs.List.{enumerate_from, AllByRecursion}
-use Rattle.std.specs.Option.{option_or}
-use Rattle.std.proofs.lemmas.List.Folds.{find-append}
-use Rattle.std.proofs.lemmas.Bool.{not-true, lt-ltb, le-leb, leb-true, ltb-true, ltb-false, leb-false}
-use Rattle.list_laws.proofs.Each.{each_append, each_weaker}
-use Rattle.serial_spec.proofs.MemberLaws.{in_filter}
-use Rattle.overlay_laws.proofs.Members.{in_map, map_in}
-use Rattle.nc_base.specs.declared.header.Header.{Header}
-use Rattle.nc_base.specs.declared.header.Var.{Var}
-use Rattle.serial_spec.specs.Layout.{slab, vsize, is_record, round_up}
-use Rattle.serial_spec.specs.HeaderBytes.{header_len}
-use Rattle.serial_spec.specs.SharedByte.{least}
-use Rattle.serial_spec.specs.Place.{AreApart}
-use Rattle.serial_spec.specs.Redefinition.{Numbered, fixed_of, records_in, old_of, new_of, by_begin, fixed_order, fixed_begins, front_after, first_record, record_begins, begins_by_number, begin_of_number}
-use Rattle.overlay_laws.specs.Entries.{In}
-use Rattle.overlay_laws.proofs.HullLaws.{in_left, in_right}
+use Rattle.redef_laws.proofs.Words.{◌≡◌, ℕ, ◌+◌, ◌-◌, ◌<◌, ◌≤◌, min, List, [], ◌∷◌, ◌++◌, map, Bool, true, false, cond, Option, Some, None, refl, sym, ap, subst, ◌∙◌, inl, inr, ◌⊎◌, arith, not, nat_lt, nat_le, ◌==◌, fold, slice_get, unwrap_or, enumerate_from, AllByRecursion, option_or, find-append, not-true, lt-ltb, le-leb, leb-true, ltb-true, ltb-false, leb-false, each_append, each_weaker, in_filter, in_map, map_in, Header, Var, slab, vsize, is_record, round_up, header_len, least, AreApart, Numbered, fixed_of, records_in, old_of, new_of, by_begin, fixed_order, fixed_begins, front_after, first_record, record_begins, begins_by_number, begin_of_number, In, in_left, in_right}
 use Rattle.redef_laws.proofs.FieldLaws.{each_both}
 use Rattle.redef_laws.proofs.BeginLaws.{in_numbered, each_filter, each_filtered, each_by_begin, in_by_begin, Numbers, numbers_of, at_number, fixed_begin, fixed_apart, HasNone, fixed_none, mapped_begins, map_begin, map_none, vsizes, record_begin, record_apart}
 

@@ -1,24 +1,8 @@
 -- Where the old variables begin in a redefined header: no lower than before, and in the same order.
-use Rattle.std.proofs.Common.{◌≡◌, ℕ, ◌+◌, ◌-◌, ◌<◌, ◌≤◌, refl, sym, ◌∙◌, ap, subst, inl, inr, ◌⊎◌, List, [], ◌∷◌, ◌++◌, map, Bool, true, false, cond, Option, Some, None, arith}
-use Rattle.std.proofs.lemmas.Bool.Decides.{nat_tests}
-use Rattle.std.proofs.lemmas.List.Folds.{find-append}
-use Rattle.std.specs.Prelude.{slice_get, find, not, nat_lt, nat_le, ◌==◌, unwrap_or, sum_by}
-use Rattle.std.specs.List.{enumerate_from}
-use Rattle.std.specs.Option.{option_or}
-use Rattle.std.proofs.lemmas.Bool.{lt-ltb}
+use Rattle.redef_laws.proofs.Words.{◌≡◌, ℕ, ◌+◌, ◌-◌, ◌<◌, ◌≤◌, refl, sym, ◌∙◌, ap, subst, inl, inr, ◌⊎◌, List, [], ◌∷◌, ◌++◌, map, Bool, true, false, cond, Option, Some, None, arith, nat_tests, find-append, slice_get, find, not, nat_lt, nat_le, ◌==◌, unwrap_or, sum_by, enumerate_from, option_or, lt-ltb, Header, Var, is_record, slab, vsize, round_up, header_len, least, Numbered, fixed_of, records_in, old_of, new_of, by_begin, fixed_order, begin_at, fixed_begins, front_after, first_record, record_begins, begins_by_number, begin_of_number, In, in_either, in_filter, filter_in, in_map, in_numbered, numbered_in}
 use borrow.Author.Tests.{eqb-true}
 use Rattle.redef_laws.proofs.PlaceLaws.{least_low}
 use Rattle.redef_laws.proofs.BeginLaws.{begin_past}
-use Rattle.nc_base.specs.declared.header.Header.{Header}
-use Rattle.nc_base.specs.declared.header.Var.{Var}
-use Rattle.serial_spec.specs.Layout.{is_record, slab, vsize, round_up}
-use Rattle.serial_spec.specs.HeaderBytes.{header_len}
-use Rattle.serial_spec.specs.SharedByte.{least}
-use Rattle.serial_spec.specs.Redefinition.{Numbered, fixed_of, records_in, old_of, new_of, by_begin, fixed_order, begin_at, fixed_begins, front_after, first_record, record_begins, begins_by_number, begin_of_number}
-use Rattle.overlay_laws.specs.Entries.{In}
-use Rattle.overlay_laws.proofs.HullLaws.{in_either}
-use Rattle.serial_spec.proofs.MemberLaws.{in_filter, filter_in}
-use Rattle.overlay_laws.proofs.Members.{in_map, in_numbered, numbered_in}
 use Rattle.redef_laws.proofs.Ordered.{AreOrdered, by_begin_same, by_begin_ordered}
 
 -- ---- numbered variables

@@ -1,15 +1,5 @@
 -- A header with other begins: what does not look at them stays.
-use Rattle.std.proofs.Common.{◌≡◌, ℕ, zero, suc, ◌+◌, List, [], ◌∷◌, length, map, Bool, true, false, cond, Some, refl, sym, ap, ◌∙◌, arith}
-use Rattle.std.specs.Prelude.{sum_by, slice_get}
-use Rattle.std.specs.List.{enumerate_from, AllByRecursion}
-use Rattle.std.proofs.lemmas.List.Sums.{sum_by-cons}
-use Rattle.nc_base.specs.declared.header.Header.{Header}
-use Rattle.nc_base.specs.declared.header.Var.{Var}
-use Rattle.serial_spec.specs.Layout.{slab, is_record, recsize, record_size, record_variables}
-use Rattle.serial_spec.specs.HeaderBytes.{header_len, variable}
-use Rattle.serial_spec.specs.Redefinition.{begin_of_number, with_begins}
-use Rattle.var_layout.proofs.WrittenLengths.{list_len, variable_len, canon_len}
-use Rattle.var_layout.proofs.CreatedFiles.{at_begin}
+use Rattle.redef_laws.proofs.Words.{◌≡◌, ℕ, zero, suc, ◌+◌, List, [], ◌∷◌, length, map, Bool, true, false, cond, Some, refl, sym, ap, ◌∙◌, arith, sum_by, slice_get, enumerate_from, AllByRecursion, sum_by-cons, Header, Var, slab, is_record, recsize, record_size, record_variables, header_len, variable, begin_of_number, with_begins, list_len, variable_len, canon_len, at_begin}
 
 -- variables of which the first has number n, with the begins that are found
 abbrev pub rebegun : List (ℕ × ℕ) → ℕ → List Var → List Var

@@ -1,12 +1,5 @@
 -- A record grows by the variables that are added to it.
-use Rattle.std.proofs.Common.{◌≡◌, ℕ, suc, ◌*◌, ◌≤◌, refl, ◌∙◌, ap, List, [], ◌∷◌, ◌++◌, map, Bool, true, false, cond, Some, None, arith}
-use Rattle.std.proofs.lemmas.List.Sums.{sum_by-cons}
-use Rattle.std.specs.Prelude.{slice_get, filter, sum_by}
-use Rattle.nc_base.specs.declared.header.Header.{Header}
-use Rattle.nc_base.specs.declared.header.Var.{Var}
-use Rattle.serial_spec.specs.ExternalForm.{size_of}
-use Rattle.serial_spec.specs.Layout.{product, without_record, starts_with_zero, lengths, is_record, slab, recsize, record_size, round_up}
-use Rattle.serial_spec.specs.Redefinition.{KeepsVars}
+use Rattle.redef_laws.proofs.Words.{◌≡◌, ℕ, suc, ◌*◌, ◌≤◌, refl, ◌∙◌, ap, List, [], ◌∷◌, ◌++◌, map, Bool, true, false, cond, Some, None, arith, sum_by-cons, slice_get, filter, sum_by, Header, Var, size_of, product, without_record, starts_with_zero, lengths, is_record, slab, recsize, record_size, round_up, KeepsVars}
 
 pub same_slab : (old new : Header) (v w : Var) → w.kind ≡ v.kind → lengths new w ≡ lengths old v → slab new w ≡ slab old v
 same_slab old new v w kind lens = λ t. product (without_record (lens t)) * size_of (kind t)

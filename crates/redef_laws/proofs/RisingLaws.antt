@@ -1,28 +1,11 @@
 -- The slabs of the old variables as they rise: they are all slabs, and each begins above those before it.
-use Rattle.std.proofs.Common.{◌≡◌, ℕ, zero, suc, ◌+◌, ◌*◌, ◌<◌, ◌≤◌, refl, sym, ◌∙◌, ap, subst, inl, inr, ◌⊎◌, ◌↔◌, List, [], ◌∷◌, Bool, true, false, true≢false, not, Some, slice_get, reverse, arith}
-use Rattle.std.proofs.lemmas.Nat.{mul-le}
-use Rattle.std.proofs.lemmas.List.Sums.{sum_by-append}
-use Rattle.std.proofs.lemmas.List.Filters.{sum_by-filter_both}
-use Rattle.std.specs.Prelude.{filter, map, flat_map, zip, sum_by, nat_lt}
-use Rattle.std.specs.List.{range_with_len}
-use Rattle.std.proofs.lemmas.Bool.{not-true}
+use Rattle.redef_laws.proofs.Words.{◌≡◌, ℕ, zero, suc, ◌+◌, ◌*◌, ◌<◌, ◌≤◌, refl, sym, ◌∙◌, ap, subst, inl, inr, ◌⊎◌, ◌↔◌, List, [], ◌∷◌, Bool, true, false, true≢false, Some, reverse, arith, mul-le, sum_by-append, sum_by-filter_both, filter, flat_map, zip, sum_by, nat_lt, range_with_len, not-true, Header, Var, Slab, highest_first, slabs, slabs_of, stores, zero_calls, header_len, is_sound, is_record, recsize, slab, share, none_shared, slab_fits, In, filter_in, in_left, in_right, in_flat, flat_in, in_range, range_low, range_high, first_slab, lowest_first, fixed_slabs, record_slabs, in_record, slabs_of_record, rising, changes, gaps, IsRisen, new_end, AreShifted, in_map, map_in, zip_in}
+use Rattle.std.proofs.Common.{not, slice_get}
+use Rattle.std.specs.Prelude.{map}
 use borrow.Author.Tests.{ltb-true, ltb-false}
 use Rattle.redef_laws.proofs.ElementSlabs.{slabs_fixed}
-use Rattle.nc_base.specs.declared.header.Header.{Header}
-use Rattle.nc_base.specs.declared.header.Var.{Var}
-use Rattle.serial_spec.specs.DeviceCalls.{Slab, highest_first, slabs, slabs_of, stores, zero_calls}
-use Rattle.serial_spec.specs.HeaderBytes.{header_len}
-use Rattle.serial_spec.specs.SoundHeaders.{is_sound}
-use Rattle.serial_spec.specs.Layout.{is_record, recsize, slab, share}
-use Rattle.serial_spec.proofs.ApartLaws.{none_shared, slab_fits}
-use Rattle.overlay_laws.specs.Entries.{In}
-use Rattle.serial_spec.proofs.MemberLaws.{filter_in}
-use Rattle.overlay_laws.proofs.HullLaws.{in_left, in_right, in_flat, flat_in, in_range, range_low, range_high}
-use Rattle.redef_laws.specs.RisingSlabs.{first_slab, lowest_first, fixed_slabs, record_slabs, in_record, slabs_of_record, rising, changes, gaps, IsRisen}
-use Rattle.redef_laws.specs.Shifted.{new_end, AreShifted}
 use Rattle.redef_laws.proofs.ChainLaws.{Ascends, AreDistinct, ascends_joined, lowest_members, lowest_ascends, shifted_risen}
 use Rattle.redef_laws.proofs.OldBegins.{ShareNone, zip_shares_none, filter_shares_none, either_way, Follows, fixed_begins_differ, fixed_below_record, records_follow, record_begins_differ}
-use Rattle.overlay_laws.proofs.Members.{in_map, map_in, zip_in}
 use Rattle.redef_laws.proofs.FallingLaws.{falls_backwards}
 use Rattle.redef_laws.proofs.GapLaws.{zeros_between}
 use Rattle.redef_laws.proofs.SumLaws.{HaveSameSums, sum_mapped, sum_joined, sum_same, sum_turned, sum_lowest, sums_members, sums_back}

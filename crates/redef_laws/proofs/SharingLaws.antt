@@ -1,31 +1,6 @@
 -- No two variables of a redefined header share a byte, and none has one of the header.
-use Rattle.std.proofs.Common.{◌≡◌, ℕ, zero, suc, ◌+◌, ◌<◌, ◌≤◌, List, [], ◌∷◌, length, drop, map, Bool, true, false, cond, ◌||◌, Some, refl, sym, ap, ◌∙◌, inl, inr, ◌⊎◌, arith}
-use Rattle.std.specs.Prelude.{nat_lt, nat_le, ◌==◌, sum_by, slice_get}
-use Rattle.std.specs.List.{AllByRecursion}
-use Rattle.std.proofs.Math.Nat.{mul-pos}
-use Rattle.std.proofs.lemmas.Bool.Decides.{nat_tests}
-use Rattle.std.proofs.lemmas.List.{length-map}
-use Rattle.std.proofs.lemmas.List.Sums.{sum_by-cons}
-use Rattle.std.proofs.lemmas.Bool.{ltb-true, ltb-false, eqb-true}
-use Rattle.serial_spec.proofs.RoomLaws.{slab_below}
-use Rattle.overlay_laws.proofs.Members.{each_in}
-use Rattle.list_laws.proofs.Truth.{equal_true, no_both, equal_suc}
-use Rattle.nc_base.specs.declared.header.Header.{Header}
-use Rattle.nc_base.specs.declared.header.Dim.{Dim}
-use Rattle.nc_base.specs.declared.header.Var.{Var}
-use Rattle.nc_base.specs.declared.header.NcType.{NcType}
-use Rattle.nc_base.specs.declared.header.NcType.TheVariants.{Byte, Char, Short, Int, Float, Double, UByte, UShort, UInt, Int64, UInt64}
-use Rattle.nc_base.specs.declared.script.Extra.{Extra}
-use Rattle.serial_spec.specs.ExternalForm.{size_of}
-use Rattle.serial_spec.specs.Layout.{product, length_of, lengths, without_record, is_record, slab, vsize, recsize, record_slabs, record_variables, share}
-use Rattle.serial_spec.specs.HeaderBytes.{header_len}
-use Rattle.serial_spec.specs.SoundHeaders.{is_sound}
-use Rattle.serial_spec.specs.Redefinition.{Numbered, added, records_in}
-use Rattle.serial_spec.proofs.ApartLaws.{none_from}
-use Rattle.var_layout.proofs.Soundness.{recsize_shared}
-use Rattle.var_layout.proofs.LaidApart.{shares_by, count_two}
-use Rattle.overlay_laws.specs.Entries.{In}
-use Rattle.serial_spec.proofs.MemberLaws.{filter_in}
+use Rattle.redef_laws.proofs.Words.{◌≡◌, ℕ, zero, suc, ◌+◌, ◌<◌, ◌≤◌, List, [], ◌∷◌, length, drop, map, Bool, true, false, cond, ◌||◌, Some, refl, sym, ap, ◌∙◌, inl, inr, ◌⊎◌, arith, nat_lt, nat_le, ◌==◌, sum_by, slice_get, AllByRecursion, mul-pos, nat_tests, length-map, sum_by-cons, ltb-true, ltb-false, eqb-true, slab_below, each_in, equal_true, no_both, equal_suc, Header, Dim, Var, NcType, Byte, Char, Short, Int, Float, Double, UByte, UShort, UInt, Int64, UInt64, Extra, size_of, product, length_of, lengths, without_record, is_record, slab, vsize, recsize, record_variables, share, header_len, is_sound, Numbered, added, records_in, none_from, recsize_shared, shares_by, count_two, In, filter_in}
+use Rattle.serial_spec.specs.Layout.{record_slabs}
 use Rattle.redef_laws.proofs.GrownLaws.{IsFitVar, is_record_at}
 use Rattle.redef_laws.proofs.FitLaws.{checked}
 use Rattle.redef_laws.proofs.BeginLaws.{same_var, vsizes}

@@ -1,27 +1,9 @@
 -- A redefinition moves the slabs of the old variables up, or lets them stay, and none passes another.
-use Rattle.std.proofs.Common.{◌≡◌, ℕ, zero, suc, ◌<◌, ◌≤◌, refl, sym, ◌∙◌, ap, subst, List, [], ◌∷◌, ◌++◌, length, Bool, true, false, cond, Some, None, arith}
-use Rattle.std.proofs.lemmas.Option.{slice_get_within}
-use Rattle.std.specs.Prelude.{slice_get, bytes_eq}
-use Rattle.std.specs.List.{enumerate_from}
-use Rattle.list_laws.proofs.Truth.{and_first}
-use Rattle.nc_base.specs.declared.header.Header.{Header}
-use Rattle.nc_base.specs.declared.header.Var.{Var}
-use Rattle.nc_base.specs.declared.header.Attr.{Attr}
-use Rattle.nc_base.specs.declared.script.Extra.{Extra}
+use Rattle.redef_laws.proofs.Words.{◌≡◌, ℕ, zero, suc, ◌<◌, ◌≤◌, refl, sym, ◌∙◌, ap, subst, List, [], ◌∷◌, ◌++◌, length, Bool, true, false, cond, Some, None, arith, slice_get_within, slice_get, bytes_eq, enumerate_from, and_first, Header, Var, Attr, Extra, slabs, header_len, is_sound, is_redefinable, is_record, with_var_attr, with_extra, added, begins_by_number, begin_of_number, with_begins, redefined_header, redefined_keeps, IsApplied, AreShifted, new_end, numbered_at, entry_map}
 use Rattle.nc_base.specs.declared.script.Extra.TheVariants as extra
-use Rattle.serial_spec.specs.DeviceCalls.{slabs}
-use Rattle.serial_spec.specs.HeaderBytes.{header_len}
-use Rattle.serial_spec.specs.SoundHeaders.{is_sound, is_redefinable}
-use Rattle.serial_spec.specs.Layout.{is_record}
-use Rattle.serial_spec.specs.Redefinition.{with_var_attr, with_extra, added, begins_by_number, begin_of_number, with_begins, redefined_header}
-use Rattle.serial_spec.proofs.AddedLaws.{redefined_keeps}
-use Rattle.redef_laws.specs.Applied.{IsApplied}
-use Rattle.redef_laws.specs.Shifted.{AreShifted, new_end}
-use Rattle.overlay_laws.proofs.Members.{numbered_at}
 use Rattle.redef_laws.proofs.PlacedLaws.{begin_rises, fixed_begins_rise, record_begins_rise}
 use Rattle.redef_laws.proofs.SlabLaws.{IsRaised, pair_at}
 use Rattle.redef_laws.proofs.SlabOrder.{raised_shifts}
-use Rattle.list_laws.proofs.Maps.{entry_map}
 
 -- ---- what is added keeps the begins
 

@@ -1,22 +1,5 @@
 -- In a header that is short each name, list and attribute is short.
-use Rattle.std.proofs.Common.{◌≡◌, ℕ, ◌-◌, ◌*◌, ◌^◌, ◌≤◌, List, [], ◌∷◌, ◌++◌, length, true, ◌&&◌, refl, arith, length-append}
-use Rattle.std.specs.Prelude.{sum_by, replicate}
-use Rattle.std.specs.List.{AllByRecursion}
-use Rattle.std.proofs.lemmas.List.Sums.{sum_by-cons}
-use Rattle.std.proofs.lemmas.Bool.{and_from}
-use Rattle.var_layout.proofs.ElementPlaces.{row_below_bytes}
-use Rattle.var_layout.proofs.LaidWritable.{small_count}
-use Rattle.list_laws.proofs.Each.{each_passes}
-use Rattle.list_laws.proofs.Truth.{equal_true}
-use Rattle.nc_base.specs.declared.header.Header.{Header}
-use Rattle.nc_base.specs.declared.header.Dim.{Dim}
-use Rattle.nc_base.specs.declared.header.Attr.{Attr}
-use Rattle.nc_base.specs.declared.header.Var.{Var}
-use Rattle.serial_spec.specs.ExternalForm.{size_of}
-use Rattle.serial_spec.specs.Layout.{round_up}
-use Rattle.serial_spec.specs.HeaderBytes.{name, padded, count, tag, number_of, list_of, dimension, attribute, variable, header_len}
-use Rattle.serial_spec.specs.SoundHeaders.{is_writable_attr, is_writable_list, fits_count, is_type}
-use Rattle.var_layout.proofs.WrittenLengths.{list_len, variable_len, canon_len}
+use Rattle.redef_laws.proofs.Words.{◌≡◌, ℕ, ◌-◌, ◌*◌, ◌^◌, ◌≤◌, List, [], ◌∷◌, ◌++◌, length, true, ◌&&◌, refl, arith, length-append, sum_by, replicate, AllByRecursion, sum_by-cons, and_from, row_below_bytes, small_count, each_passes, equal_true, Header, Dim, Attr, Var, size_of, round_up, name, padded, count, tag, number_of, list_of, dimension, attribute, variable, header_len, is_writable_attr, is_writable_list, fits_count, is_type, list_len, variable_len, canon_len}
 use Rattle.redef_laws.proofs.FieldLaws.{each_both}
 use Rattle.redef_laws.proofs.GrownLaws.{IsTyped}
 

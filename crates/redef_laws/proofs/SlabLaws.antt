@@ -1,20 +1,5 @@
 -- The slabs of the old variables: what they are, and where each lies.
-use Rattle.std.proofs.Common.{◌≡◌, ℕ, ◌+◌, ◌-◌, ◌*◌, ◌<◌, ◌≤◌, refl, sym, ◌∙◌, ap, inl, inr, ◌⊎◌, List, [], ◌∷◌, map, Bool, true, false, cond, Some, arith}
-use Rattle.std.proofs.lemmas.Nat.{mul-le}
-use Rattle.std.specs.Prelude.{slice_get, zip, ◌==◌}
-use Rattle.std.specs.List.{range_with_len}
-use Rattle.nc_base.specs.declared.header.Header.{Header}
-use Rattle.nc_base.specs.declared.header.Var.{Var}
-use Rattle.serial_spec.specs.DeviceCalls.{Slab, slabs, slabs_of}
-use Rattle.serial_spec.specs.HeaderBytes.{header_len}
-use Rattle.serial_spec.specs.SoundHeaders.{is_sound}
-use Rattle.serial_spec.specs.Layout.{is_record, slab, vsize, recsize, last_share, end_of_var, lengths}
-use Rattle.serial_spec.specs.Redefinition.{KeepsVars}
-use Rattle.serial_spec.proofs.RoomLaws.{end_holds, slab_below, slab_shared, some_record}
-use Rattle.overlay_laws.specs.Entries.{In}
-use Rattle.overlay_laws.proofs.HullLaws.{flat_in, range_high}
-use Rattle.redef_laws.specs.Shifted.{IsShifted, new_end}
-use Rattle.overlay_laws.proofs.Members.{map_in, zip_in}
+use Rattle.redef_laws.proofs.Words.{◌≡◌, ℕ, ◌+◌, ◌-◌, ◌*◌, ◌<◌, ◌≤◌, refl, sym, ◌∙◌, ap, inl, inr, ◌⊎◌, List, [], ◌∷◌, map, Bool, true, false, cond, Some, arith, mul-le, slice_get, zip, ◌==◌, range_with_len, Header, Var, Slab, slabs, slabs_of, header_len, is_sound, is_record, slab, vsize, recsize, last_share, end_of_var, lengths, KeepsVars, end_holds, slab_below, slab_shared, some_record, In, flat_in, range_high, IsShifted, new_end, map_in, zip_in}
 use Rattle.redef_laws.proofs.RecordSizes.{same_slab, same_record, record_grows}
 use Rattle.redef_laws.proofs.SoundVars.{slab_holds, past_front}
 

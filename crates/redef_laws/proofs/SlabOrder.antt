@@ -1,16 +1,5 @@
 -- No slab of an old variable passes another.
-use Rattle.std.proofs.Common.{◌≡◌, ℕ, ◌+◌, ◌*◌, ◌<◌, ◌≤◌, sym, ◌∙◌, ap, subst, inl, inr, ◌⊎◌, Bool, true, false, Some, arith}
-use Rattle.std.proofs.lemmas.Bool.{cases_lt, cases_eq}
-use Rattle.std.proofs.lemmas.Nat.{row_fits, mul-le}
-use Rattle.std.specs.Prelude.{slice_get}
-use Rattle.nc_base.specs.declared.header.Header.{Header}
-use Rattle.nc_base.specs.declared.header.Var.{Var}
-use Rattle.serial_spec.specs.DeviceCalls.{Slab, slabs}
-use Rattle.serial_spec.specs.HeaderBytes.{header_len}
-use Rattle.serial_spec.specs.SoundHeaders.{is_sound}
-use Rattle.serial_spec.specs.Layout.{is_record, slab, recsize}
-use Rattle.serial_spec.proofs.ApartLaws.{slab_fits}
-use Rattle.redef_laws.specs.Shifted.{IsLower, AreShifted, new_end}
+use Rattle.redef_laws.proofs.Words.{◌≡◌, ℕ, ◌+◌, ◌*◌, ◌<◌, ◌≤◌, sym, ◌∙◌, ap, subst, inl, inr, ◌⊎◌, Bool, true, false, Some, arith, cases_lt, cases_eq, row_fits, mul-le, slice_get, Header, Var, Slab, slabs, header_len, is_sound, is_record, slab, recsize, slab_fits, IsLower, AreShifted, new_end}
 use Rattle.redef_laws.proofs.RecordSizes.{record_grows}
 use Rattle.redef_laws.proofs.SoundVars.{slab_holds, vars_apart, IsApart, InTurn, swapped}
 use Rattle.redef_laws.proofs.SlabLaws.{IsRaised, IsPair, IsFixedSlab, IsRecordSlab, slab_in, slab_lies}

@@ -1,21 +1,7 @@
 -- The slabs of a sound header's variables: each holds a byte, and no two of them share one.
-use Rattle.std.proofs.Common.{◌≡◌, ℕ, zero, suc, ◌+◌, ◌*◌, ◌<◌, ◌≤◌, refl, inl, inr, ◌⊎◌, List, [], ◌∷◌, Bool, true, false, cond, ◌||◌, Some, arith}
-use Rattle.std.proofs.lemmas.Bool.{cases_lt}
-use Rattle.std.proofs.lemmas.Bool.Decides.{nat_tests}
-use Rattle.std.proofs.lemmas.Nat.{mul-le}
-use Rattle.std.specs.Prelude.{slice_get, drop, nat_lt, nat_le, ◌==◌}
-use Rattle.std.specs.List.{AllByRecursion}
+use Rattle.redef_laws.proofs.Words.{◌≡◌, ℕ, zero, suc, ◌+◌, ◌*◌, ◌<◌, ◌≤◌, refl, inl, inr, ◌⊎◌, List, [], ◌∷◌, Bool, true, false, cond, ◌||◌, Some, arith, cases_lt, nat_tests, mul-le, slice_get, nat_lt, nat_le, ◌==◌, AllByRecursion, size_pos, Header, Var, size_of, product, without_record, lengths, inner_lengths, is_record, slab, recsize, meet, header_len, is_sound, none_from, none_shared, past_header, none_later, not_zero}
+use Rattle.std.specs.Prelude.{drop}
 use borrow.Author.Tests.{ltb-false}
-use Rattle.serial_spec.proofs.LengthLaws.{size_pos}
-use Rattle.nc_base.specs.declared.header.Header.{Header}
-use Rattle.nc_base.specs.declared.header.Var.{Var}
-use Rattle.serial_spec.specs.ExternalForm.{size_of}
-use Rattle.serial_spec.specs.Layout.{product, without_record, lengths, inner_lengths, is_record, slab, recsize, meet}
-use Rattle.serial_spec.specs.HeaderBytes.{header_len}
-use Rattle.serial_spec.specs.SoundHeaders.{is_sound}
-use Rattle.serial_spec.proofs.ApartLaws.{none_from, none_shared, past_header}
-use Rattle.serial_spec.proofs.RoomLaws.{none_later}
-use Rattle.list_laws.proofs.Truth.{not_zero}
 
 -- ---- one variable
 

@@ -1,14 +1,7 @@
 -- Lists that have the same slabs, each as often: every function sums up to the same over both.
-use Rattle.std.proofs.Common.{◌≡◌, ℕ, ◌+◌, ◌<◌, ◌≤◌, refl, sym, ◌∙◌, ap, subst, inl, inr, List, [], ◌∷◌, Bool, true, false, cond, ◌&&◌, arith}
-use Rattle.std.proofs.lemmas.List.Sums.{sum_by-cons, sum_by-append}
-use Rattle.std.specs.Prelude.{map, flat_map, sum_by, nat_le, nat_lt, ◌==◌}
-use Rattle.std.proofs.lemmas.Bool.{and_parts}
+use Rattle.redef_laws.proofs.Words.{◌≡◌, ℕ, ◌+◌, ◌<◌, ◌≤◌, refl, sym, ◌∙◌, ap, subst, inl, inr, List, [], ◌∷◌, Bool, true, false, cond, ◌&&◌, arith, sum_by-cons, sum_by-append, flat_map, sum_by, nat_le, nat_lt, ◌==◌, and_parts, equal_true, Slab, In, inserted_by, stands_below, lowest_first}
+use Rattle.std.specs.Prelude.{map}
 use borrow.Author.Tests.{ltb-true, ltb-false, eqb-true}
-use Rattle.list_laws.proofs.Truth.{equal_true}
-use Rattle.serial_spec.specs.DeviceCalls.{Slab}
-use Rattle.overlay_laws.specs.Entries.{In}
-use Rattle.serial_spec.specs.Lists.{inserted_by}
-use Rattle.redef_laws.specs.RisingSlabs.{stands_below, lowest_first}
 use Rattle.redef_laws.proofs.ChainLaws.{AreDistinct}
 
 abbrev pub HaveSameSums : {X : Type 0} → List X → List X → Type 0

@@ -1,31 +1,7 @@
 -- The header of an accepted redefinition is sound, and each of its numbers fits its field.
-use Rattle.std.proofs.Common.{◌≡◌, ℕ, suc, ◌+◌, ◌-◌, ◌^◌, ◌<◌, ◌≤◌, List, [], ◌∷◌, length, take, drop, Bool, true, false, cond, ◌&&◌, Option, Some, None, refl, sym, ap, subst, ◌∙◌, arith}
-use Rattle.std.specs.Prelude.{not, nat_lt, nat_le, ◌==◌, count_by, filter, find, position, option_map, is_none, slice_get, sum_by}
-use Rattle.std.specs.List.{AllByRecursion}
-use Rattle.std.specs.Option.{option_or}
-use Rattle.std.proofs.lemmas.Bool.Decides.{nat_tests}
-use Rattle.std.proofs.lemmas.List.Sums.{length-filter}
-use Rattle.std.proofs.lemmas.Bool.{and_from, not-true, not-false, le-leb, ltb-true, ltb-false, leb-false}
-use Rattle.var_layout.proofs.LaidPlaces.{past_none}
-use Rattle.var_layout.proofs.LaidWritable.{small_count, vsize_fits}
-use Rattle.list_laws.proofs.Each.{each_passes, each_fails, each_weaker, each_at}
-use Rattle.list_laws.proofs.Truth.{and_first, and_second}
-use Rattle.list_laws.proofs.Optional.{both_none, none_before_map, untold}
-use Rattle.nc_base.specs.declared.header.Header.{Header}
-use Rattle.nc_base.specs.declared.header.Dim.{Dim}
-use Rattle.nc_base.specs.declared.header.Var.{Var}
-use Rattle.nc_base.specs.declared.script.Extra.{Extra}
+use Rattle.redef_laws.proofs.Words.{◌≡◌, ℕ, suc, ◌+◌, ◌-◌, ◌^◌, ◌<◌, ◌≤◌, List, [], ◌∷◌, length, take, drop, Bool, true, false, cond, ◌&&◌, Option, Some, None, refl, sym, ap, subst, ◌∙◌, arith, not, nat_lt, nat_le, ◌==◌, count_by, filter, find, position, option_map, is_none, slice_get, sum_by, AllByRecursion, option_or, nat_tests, length-filter, and_from, not-true, not-false, le-leb, ltb-true, ltb-false, leb-false, past_none, small_count, vsize_fits, each_passes, each_fails, each_weaker, each_at, and_first, and_second, both_none, none_before_map, untold, Header, Dim, Var, Extra, RedefErr, most_dims, most_vars, most_dims_of_var, most_header_bytes, file_limit, record_limit, vsize, record_share, sharing, attribute, list_of, is_version, header_len, all_ones, record_later, is_record_id, bad_id, measure, keeps_bound, is_sound, counts_are_small, fits_count, is_type, is_writable, is_writable_dim, is_writable_attr, is_writable_list, is_redefinable_var, is_writable_var, added, extras_fault, begins_by_number, with_begins, redefined_header, redefined_fault, is_large_var, is_far_begin, is_bad_begin, size_fault, IsApplied}
 use Rattle.nc_base.specs.declared.errors.LayoutErr.TheVariants as layout
-use Rattle.nc_base.specs.declared.errors.RedefErr.{RedefErr}
 use Rattle.nc_base.specs.declared.errors.RedefErr.TheVariants as redef
-use Rattle.serial_spec.specs.Limits.{most_dims, most_vars, most_dims_of_var, most_header_bytes, file_limit, record_limit}
-use Rattle.serial_spec.specs.Layout.{vsize, record_share, sharing}
-use Rattle.serial_spec.specs.HeaderBytes.{attribute, list_of, is_version, header_len}
-use Rattle.serial_spec.specs.HeaderGrammar.{all_ones}
-use Rattle.serial_spec.specs.HeaderFaults.{record_later, is_record_id, bad_id, measure, keeps_bound}
-use Rattle.serial_spec.specs.SoundHeaders.{is_sound, counts_are_small, fits_count, is_type, is_writable, is_writable_dim, is_writable_attr, is_writable_list, is_redefinable_var, is_writable_var}
-use Rattle.serial_spec.specs.Redefinition.{added, extras_fault, begins_by_number, with_begins, redefined_header, redefined_fault, is_large_var, is_far_begin, is_bad_begin, size_fault}
-use Rattle.redef_laws.specs.Applied.{IsApplied}
 use Rattle.redef_laws.proofs.FieldLaws.{not_both, each_both, begin_fits}
 use Rattle.redef_laws.proofs.GrownLaws.{HasFitLength, IsFitVar, IsFit, is_record_dim, all_more, all_same, HasVersionOf}
 use Rattle.redef_laws.proofs.ShortLaws.{is_short, attrs_written}

@@ -1,16 +1,7 @@
 -- The additions, one after another.
-use Rattle.std.proofs.Common.{◌≡◌, ℕ, suc, ◌+◌, ◌<◌, ◌≤◌, List, [], ◌∷◌, length, get_or, drop, fold, Bool, true, false, Option, Some, None, refl, sym, ap, subst, ◌∙◌, arith, length-append}
-use Rattle.std.specs.Prelude.{nat_le}
-use Rattle.std.proofs.lemmas.Bool.Decides.{nat_tests}
-use Rattle.std.proofs.lemmas.List.{drop_more, drop_all}
-use Rattle.nc_base.specs.declared.header.Header.{Header}
-use Rattle.nc_base.specs.declared.script.Extra.{Extra}
+use Rattle.redef_mover.proofs.Words.{◌≡◌, ℕ, suc, ◌+◌, ◌<◌, ◌≤◌, List, [], ◌∷◌, length, get_or, drop, fold, Bool, true, false, Option, Some, None, refl, sym, ap, subst, ◌∙◌, arith, length-append, nat_le, nat_tests, drop_more, drop_all, Header, Extra, RedefErr, most_dims, first_true, with_extra, extra_fault, extras_from, extras_fault, added, is_taken, is_unknown, has_bad_shape, is_one_too_many, has_bad_kind}
 use Rattle.nc_base.specs.declared.script.Extra.TheVariants as extra
-use Rattle.nc_base.specs.declared.errors.RedefErr.{RedefErr}
 use Rattle.nc_base.specs.declared.errors.RedefErr.TheVariants as redef
-use Rattle.serial_spec.specs.Limits.{most_dims}
-use Rattle.serial_spec.specs.Lists.{first_true}
-use Rattle.serial_spec.specs.Redefinition.{with_extra, extra_fault, extras_from, extras_fault, added, is_taken, is_unknown, has_bad_shape, is_one_too_many, has_bad_kind}
 
 pub extras_goes_on : (header : Header) (k : ℕ) (e : Extra) (es : List Extra) → extra_fault header k e ≡ None
     → extras_from header k (e ∷ es) ≡ extras_from (with_extra header e) (suc k) es

@@ -1,23 +1,6 @@
 -- From the laws of a redefinition to what a relocation asks and promises.
-use Rattle.std.proofs.Common.{◌≡◌, ◌↔◌, ℕ, ◌<◌, refl, sym, ◌∙◌, ap, List, [], ◌∷◌, ◌++◌, length, true, Some, None, arith}
-use Rattle.std.specs.Prelude.{filter, flat_map, reverse}
-use Rattle.list_laws.proofs.Truth.{and_first}
-use Rattle.nc_base.specs.declared.header.Header.{Header}
-use Rattle.nc_base.specs.declared.script.Extra.{Extra}
+use Rattle.redef_mover.proofs.Words.{◌≡◌, ◌↔◌, ℕ, ◌<◌, refl, sym, ◌∙◌, ap, List, [], ◌∷◌, ◌++◌, length, true, Some, None, arith, filter, flat_map, reverse, and_first, Header, Extra, Store, Slab, grow_to, highest_first, move_calls, slabs, zero_calls, header_len, is_writable, added, redefined, with_extra, sound_end, In, IsApplied, changes, gaps, rising, IsRisen, new_end, AreShifted, IsMoved, all_calls, gap_calls, slab_calls, carried, carry_calls, IsCarriable, relocation_calls}
 use Rattle.nc_base.specs.declared.script.Extra.TheVariants as extra
-use Rattle.nc_base.specs.declared.step.DiskCall.TheVariants.{Store}
-use Rattle.serial_spec.specs.DeviceCalls.{Slab, grow_to, highest_first, move_calls, slabs, zero_calls}
-use Rattle.serial_spec.specs.HeaderBytes.{header_len}
-use Rattle.serial_spec.specs.SoundHeaders.{is_writable}
-use Rattle.serial_spec.specs.Redefinition.{added, redefined, with_extra}
-use Rattle.var_layout.proofs.ElementPlaces.{sound_end}
-use Rattle.overlay_laws.specs.Entries.{In}
-use Rattle.redef_laws.specs.Applied.{IsApplied}
-use Rattle.redef_laws.specs.RisingSlabs.{changes, gaps, rising, IsRisen}
-use Rattle.redef_laws.specs.Shifted.{new_end, AreShifted, IsMoved}
-use Rattle.redef_mover.specs.Moves.{all_calls, gap_calls, slab_calls}
-use Rattle.redef_mover.specs.Carried.{carried, carry_calls, IsCarriable}
-use Rattle.redef_mover.specs.Relocation.{relocation_calls}
 use Rattle.redef_mover.proofs.CarryLaws.{carried_is}
 
 -- ---- the record count stays

@@ -1,17 +1,5 @@
 -- The calls of a relocation, one worker's after another's.
-use Rattle.std.proofs.Common.{◌≡◌, ℕ, refl, ◌∙◌, ap, List, [], ◌∷◌, ◌++◌, length, Option, Some, None}
-use Rattle.std.specs.Prelude.{reverse, IfSome}
-use Rattle.nc_base.specs.declared.header.Header.{Header}
-use Rattle.nc_base.specs.declared.step.DiskCall.{DiskCall}
-use Rattle.nc_base.specs.declared.step.DiskCall.TheVariants.{Store}
-use Rattle.nc_outside.specs.Told.{with_end}
-use Rattle.serial_spec.specs.DeviceCalls.{Slab, grow_to}
-use Rattle.serial_spec.specs.HeaderBytes.{header_len}
-use Rattle.redef_laws.specs.RisingSlabs.{gaps, rising}
-use Rattle.redef_laws.specs.Shifted.{new_end}
-use Rattle.redef_mover.specs.Moves.{all_calls, gap_calls}
-use Rattle.redef_mover.specs.Carried.{carry_calls}
-use Rattle.nc_outside.proofs.ToldLaws.{calls_more}
+use Rattle.redef_mover.proofs.Words.{◌≡◌, ℕ, refl, ◌∙◌, ap, List, [], ◌∷◌, ◌++◌, length, Option, Some, None, reverse, IfSome, Header, DiskCall, Store, with_end, Slab, grow_to, header_len, gaps, rising, new_end, all_calls, gap_calls, carry_calls, calls_more}
 
 pub four_parts : (told first second third last : Option (List DiskCall)) (a b c d : List DiskCall) → first ≡ with_end told a → second ≡ with_end first b
     → third ≡ with_end second c → last ≡ with_end third d → last ≡ with_end told (a ++ b ++ c ++ d)

@@ -1,19 +1,7 @@
 -- What a relocation makes of a file, byte by byte.
-use Rattle.std.proofs.Common.{◌≡◌, ℕ, ◌+◌, ◌-◌, ◌<◌, ◌≤◌, max, ◌⊎◌, inl, inr, refl, sym, ◌∙◌, ap, subst, List, [], ◌∷◌, ◌++◌, length, take, drop, Bool, true, false, cond, arith}
-use Rattle.std.specs.Prelude.{filter, fold, not, ◌==◌, reverse}
-use Rattle.std.proofs.lemmas.Grind.{fold-append}
-use Rattle.std.proofs.lemmas.List.{reverse-append, take_at}
+use Rattle.redef_mover.proofs.Words.{◌≡◌, ℕ, ◌+◌, ◌-◌, ◌<◌, ◌≤◌, max, ◌⊎◌, inl, inr, refl, sym, ◌∙◌, ap, subst, List, [], ◌∷◌, ◌++◌, length, take, drop, Bool, true, false, cond, arith, filter, not, ◌==◌, reverse, fold-append, reverse-append, take_at, Header, Slab, slabs, at, longer, canon, header_len, at-longer, at-written_after, length-written_inside, written-inside, longer_long, In, changes, gaps, rising, IsRisen, new_end, IsMoved, all_cleared, all_moved, cleared, slab_moved, AreSpaced, carried, IsCarriable}
+use Rattle.std.specs.Prelude.{fold}
 use borrow.Author.Tests.{eqb-true}
-use Rattle.nc_base.specs.declared.header.Header.{Header}
-use Rattle.serial_spec.specs.DeviceCalls.{Slab, slabs}
-use Rattle.serial_spec.specs.File.{at, longer}
-use Rattle.serial_spec.specs.HeaderBytes.{canon, header_len}
-use Rattle.serial_spec.proofs.FileLaws.{at-longer, at-written_after, length-written_inside, written-inside, longer_long}
-use Rattle.overlay_laws.specs.Entries.{In}
-use Rattle.redef_laws.specs.RisingSlabs.{changes, gaps, rising, IsRisen}
-use Rattle.redef_laws.specs.Shifted.{new_end, IsMoved}
-use Rattle.redef_mover.specs.Moves.{all_cleared, all_moved, cleared, slab_moved, AreSpaced}
-use Rattle.redef_mover.specs.Carried.{carried, IsCarriable}
 use Rattle.redef_mover.proofs.ClearLaws.{cleared_after, cleared_before, cleared_inside, cleared_long, spaced_low}
 use Rattle.redef_mover.proofs.SlabLaws.{moved_after, moved_before, moved_inside, moved_long, moved_nowhere}
 

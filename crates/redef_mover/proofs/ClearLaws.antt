@@ -1,25 +1,6 @@
 -- The bytes of a file with zeros in a gap, and the windows of a gap.
-use Rattle.std.proofs.Common.{◌≡◌, ℕ, zero, suc, ◌+◌, ◌-◌, ◌*◌, ◌<◌, ◌≤◌, min, inl, inr, refl, sym, ◌∙◌, ap, subst, List, [], ◌∷◌, ◌++◌, length, map, take, drop, get_or, Option, Some, None, arith}
-use Rattle.std.specs.Prelude.{flat_map, replicate}
-use Rattle.std.proofs.lemmas.Grind.{flat_map-append, fold-append}
-use Rattle.std.specs.List.{range_with_len}
-use Rattle.std.proofs.Math.ListN.{drop_of_length-le}
-use Rattle.std.proofs.lemmas.List.{drop_more, length-replicate, take-replicate}
-use Rattle.overlay_laws.proofs.SaidLaws.{same_file}
-use Rattle.nc_base.specs.declared.step.DiskCall.{DiskCall}
-use Rattle.serial_spec.specs.DeviceCalls.{Slab, stores}
-use Rattle.serial_spec.specs.File.{at, written}
-use Rattle.serial_spec.proofs.FileLaws.{at-written_before, at-written_after, length-written_inside}
-use Rattle.serial_spec.proofs.SaidLaws.{at-written_inside}
-use Rattle.nc_outside.specs.Told.{after, with_end}
-use Rattle.nc_outside.proofs.ToldLaws.{after-after, after-same, with_end-with_end, with_end-nil}
-use Rattle.redef_laws.specs.RisingSlabs.{gaps}
-use Rattle.redef_mover.specs.declared.slabs.Shift.{Shift}
-use Rattle.redef_mover.specs.declared.slabs.Slabs.{Slabs}
-use Rattle.redef_mover.specs.Moves.{all_cleared, behind, cleared, further, gap_calls, gaps_before, listed, slab_of, slabs_at, AreClearable, AreSpaced}
+use Rattle.redef_mover.proofs.Words.{◌≡◌, ℕ, zero, suc, ◌+◌, ◌-◌, ◌*◌, ◌<◌, ◌≤◌, min, inl, inr, refl, sym, ◌∙◌, ap, subst, List, [], ◌∷◌, ◌++◌, length, map, take, drop, get_or, Option, Some, None, arith, flat_map, replicate, flat_map-append, fold-append, range_with_len, drop_of_length-le, drop_more, length-replicate, take-replicate, same_file, DiskCall, Slab, stores, at, written, at-written_before, at-written_after, length-written_inside, at-written_inside, after, with_end, after-after, after-same, with_end-with_end, with_end-nil, gaps, Shift, Slabs, all_cleared, behind, cleared, further, gap_calls, gaps_before, listed, slab_of, slabs_at, AreClearable, AreSpaced, windows_of, count_is, stores_before, cases_lt}
 use Rattle.redef_mover.proofs.MovesLaws.{map_id, no_further}
-use Rattle.overlay_laws.proofs.WindowCounts.{windows_of, count_is, stores_before}
-use Rattle.std.proofs.lemmas.Bool.{cases_lt}
 
 -- ---- one gap
 

@@ -1,28 +1,8 @@
 -- A relocation that was cut off: what it may have changed of a file.
-use Rattle.std.proofs.Common.{◌≡◌, ℕ, ◌+◌, ◌-◌, ◌<◌, ◌≤◌, max, ◌⊎◌, inl, inr, refl, sym, ◌∙◌, ap, subst, List, [], ◌∷◌, length, take, get_or, Bool, true, false, Option, Some, None, arith}
-use Rattle.std.specs.Prelude.{not, ◌==◌, IfSome, IsTrue}
-use Rattle.std.proofs.lemmas.Bool.Decides.{nat_tests}
-use Rattle.std.proofs.lemmas.Grind.{common_steps}
-use Rattle.nc_base.specs.declared.header.Header.{Header}
-use Rattle.nc_outside.specs.DiskState.{PartlyWritten}
-use Rattle.nc_outside.specs.Told.{after, BothTold}
-use Rattle.overlay_laws.specs.Entries.{In}
-use Rattle.redef_laws.specs.RisingSlabs.{changes, gaps, rising}
-use Rattle.redef_laws.specs.Shifted.{new_end, IsMoved}
-use Rattle.serial_spec.specs.DeviceCalls.{Slab}
-use Rattle.serial_spec.specs.File.{at, longer, written}
-use Rattle.serial_spec.specs.HeaderBytes.{canon, header_len}
-use Rattle.serial_spec.specs.Redefinition.{redefined}
-use Rattle.serial_spec.specs.Torn.{IsLengthened, IsTornRedefinition}
-use Rattle.serial_spec.proofs.FileLaws.{at-longer, at-written_after, get_or-written_within, length-written_inside, longer_long}
-use Rattle.redef_mover.specs.Kept.{IsBeside, IsKept, IsOutside, IsUnmoved}
-use Rattle.redef_mover.specs.Moves.{AreSpaced}
-use Rattle.redef_mover.specs.Carried.{IsCarriable, IsPartlyCarried}
-use Rattle.redef_mover.specs.Relocation.{KeepsPlaces}
+use Rattle.redef_mover.proofs.Words.{◌≡◌, ℕ, ◌+◌, ◌-◌, ◌<◌, ◌≤◌, max, ◌⊎◌, inl, inr, refl, sym, ◌∙◌, ap, subst, List, [], ◌∷◌, length, take, get_or, Bool, true, false, Option, Some, None, arith, not, ◌==◌, IfSome, IsTrue, nat_tests, common_steps, Header, PartlyWritten, after, BothTold, In, changes, gaps, rising, new_end, IsMoved, Slab, at, longer, written, canon, header_len, redefined, IsLengthened, IsTornRedefinition, at-longer, at-written_after, get_or-written_within, length-written_inside, longer_long, IsBeside, IsKept, IsOutside, IsUnmoved, AreSpaced, IsCarriable, IsPartlyCarried, KeepsPlaces, told_as}
 use Rattle.redef_mover.proofs.ClearLaws.{spaced_low}
 use Rattle.redef_mover.proofs.CarryLaws.{carriable_spaced, carried_is, spaced_from}
 use Rattle.redef_mover.proofs.AppliedLaws.{HasLaws, relocated}
-use Rattle.nc_outside.proofs.ToldLaws.{told_as}
 
 -- ---- bytes that neither moves nor zeros change
 

@@ -1,19 +1,6 @@
 -- What the moves and the zeros keep of a file.
-use Rattle.std.proofs.Common.{◌≡◌, ℕ, ◌+◌, ◌-◌, ◌≤◌, ◌⊎◌, inl, inr, refl, sym, ◌∙◌, ap, subst, List, [], ◌∷◌, ◌++◌, length, Bool, true, false, Option, Some, None, Result, Ok, Err, arith}
-use Rattle.std.specs.Prelude.{not, ◌==◌, flat_map, IfSome, OnOk, OnErr, IsTrue}
-use Rattle.std.specs.List.{range_with_len}
+use Rattle.redef_mover.proofs.Words.{◌≡◌, ℕ, ◌+◌, ◌-◌, ◌≤◌, ◌⊎◌, inl, inr, refl, sym, ◌∙◌, ap, subst, List, [], ◌∷◌, ◌++◌, length, Bool, true, false, Option, Some, None, Result, Ok, Err, arith, not, ◌==◌, flat_map, IfSome, OnOk, OnErr, IsTrue, range_with_len, PartlyWritten, after, BothTold, In, in_left, in_right, changes, gaps, Slab, at, written, at-written_before, at-written_after, length-written_inside, IsBeside, IsKept, IsOutside, IsUnmoved, Slabs, cleared, slab_moved, slabs_at, window}
 use borrow.Author.Tests.{eqb-true}
-use Rattle.nc_outside.specs.DiskState.{PartlyWritten}
-use Rattle.nc_outside.specs.Told.{after, BothTold}
-use Rattle.overlay_laws.specs.Entries.{In}
-use Rattle.overlay_laws.proofs.HullLaws.{in_left, in_right}
-use Rattle.redef_laws.specs.RisingSlabs.{changes, gaps}
-use Rattle.serial_spec.specs.DeviceCalls.{Slab}
-use Rattle.serial_spec.specs.File.{at, written}
-use Rattle.serial_spec.proofs.FileLaws.{at-written_before, at-written_after, length-written_inside}
-use Rattle.redef_mover.specs.Kept.{IsBeside, IsKept, IsOutside, IsUnmoved}
-use Rattle.redef_mover.specs.declared.slabs.Slabs.{Slabs}
-use Rattle.redef_mover.specs.Moves.{cleared, slab_moved, slabs_at, window}
 use Rattle.redef_mover.proofs.ClearLaws.{above, cleared_after, cleared_before, cleared_long}
 use Rattle.redef_mover.proofs.SlabLaws.{moved_after, moved_before, moved_long}
 use Rattle.redef_mover.proofs.WindowLaws.{upper}

@@ -1,3 +1,4 @@
+mod Words
 pub mod Additions
 pub mod IndexLaws
 pub mod Sorting

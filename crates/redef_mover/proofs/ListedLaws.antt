@@ -1,15 +1,5 @@
 -- The lists of the code stand for all slabs of the old variables.
-use Rattle.std.proofs.Common.{◌≡◌, ℕ, ◌+◌, ◌*◌, ◌^◌, ◌<◌, ◌≤◌, inl, inr, refl, sym, ◌∙◌, ap, subst, List, [], ◌∷◌, ◌++◌, length, map, get_or, arith}
-use Rattle.std.specs.Prelude.{flat_map}
-use Rattle.std.specs.List.{range_with_len}
-use Rattle.nc_base.specs.declared.header.Header.{Header}
-use Rattle.serial_spec.specs.DeviceCalls.{Slab}
-use Rattle.serial_spec.specs.Layout.{recsize}
-use Rattle.overlay_laws.specs.Entries.{In}
-use Rattle.redef_laws.specs.RisingSlabs.{fixed_slabs, record_slabs, rising, slabs_of_record, IsRisen}
-use Rattle.redef_mover.specs.declared.slabs.Shift.{Shift}
-use Rattle.redef_mover.specs.declared.slabs.Slabs.{Slabs}
-use Rattle.redef_mover.specs.Moves.{further, listed, slab_of, AreSteps}
+use Rattle.redef_mover.proofs.Words.{◌≡◌, ℕ, ◌+◌, ◌*◌, ◌^◌, ◌<◌, ◌≤◌, inl, inr, refl, sym, ◌∙◌, ap, subst, List, [], ◌∷◌, ◌++◌, length, map, get_or, arith, flat_map, range_with_len, Header, Slab, recsize, In, fixed_slabs, record_slabs, rising, slabs_of_record, IsRisen, Shift, Slabs, further, listed, slab_of, AreSteps}
 use Rattle.redef_mover.proofs.MovesLaws.{in_record, record_listed}
 
 no_slabs : {A B : Type 0} (f : A → List B) (xs : List A) → ((x : A) → f x ≡ []) → flat_map f xs ≡ []

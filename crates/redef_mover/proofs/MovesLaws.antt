@@ -1,23 +1,6 @@
 -- Slabs moved one after another: what is left to be moved gives the whole.
-use Rattle.std.proofs.Common.{◌≡◌, ℕ, ◌+◌, ◌*◌, ◌<◌, refl, sym, ◌∙◌, ap, subst, List, [], ◌∷◌, ◌++◌, length, map, take, get_or, Option, Some, None, append_assoc, arith}
-use Rattle.std.specs.Prelude.{fold, filter, flat_map, reverse}
-use Rattle.std.specs.List.{range_with_len}
-use Rattle.std.proofs.lemmas.Grind.{fold-append, flat_map-append}
-use Rattle.std.proofs.lemmas.List.{append-nil, map-append, reverse-append, take_more}
-use Rattle.std.proofs.lemmas.List.Elements.{filter-append}
-use Rattle.overlay_laws.proofs.Members.{entry_in, in_map}
-use Rattle.list_laws.proofs.Maps.{map_map}
-use Rattle.list_laws.proofs.Ranges.{range_append}
-use Rattle.nc_base.specs.declared.step.DiskCall.{DiskCall}
-use Rattle.nc_outside.specs.Told.{after, with_end}
-use Rattle.nc_outside.proofs.ToldLaws.{after-after, after-same, with_end-with_end, with_end-nil}
-use Rattle.serial_spec.specs.DeviceCalls.{Slab}
-use Rattle.overlay_laws.specs.Entries.{In}
-use Rattle.overlay_laws.proofs.HullLaws.{in_flat, in_left, in_range, in_right}
-use Rattle.redef_laws.specs.RisingSlabs.{changes}
-use Rattle.redef_mover.specs.declared.slabs.Shift.{Shift}
-use Rattle.redef_mover.specs.declared.slabs.Slabs.{Slabs}
-use Rattle.redef_mover.specs.Moves.{all_calls, all_moved, further, listed, slab_calls, slab_moved, slab_of, slabs_at}
+use Rattle.redef_mover.proofs.Words.{◌≡◌, ℕ, ◌+◌, ◌*◌, ◌<◌, refl, sym, ◌∙◌, ap, subst, List, [], ◌∷◌, ◌++◌, length, map, take, get_or, Option, Some, None, append_assoc, arith, filter, flat_map, reverse, range_with_len, fold-append, flat_map-append, append-nil, map-append, reverse-append, take_more, filter-append, entry_in, in_map, map_map, range_append, DiskCall, after, with_end, after-after, after-same, with_end-with_end, with_end-nil, Slab, In, in_flat, in_left, in_range, in_right, changes, Shift, Slabs, all_calls, all_moved, further, listed, slab_calls, slab_moved, slab_of, slabs_at}
+use Rattle.std.specs.Prelude.{fold}
 
 -- ---- two lists of slabs
 

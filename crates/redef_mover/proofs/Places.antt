@@ -1,27 +1,7 @@
 -- The loops that place the variables.
-use Rattle.std.proofs.Common.{◌≡◌, ℕ, ◌+◌, ◌-◌, ◌^◌, ◌<◌, ◌≤◌, List, [], ◌∷◌, ◌++◌, length, take, get_or, map, min, fold, Bool, true, false, cond, Option, Some, refl, sym, ap, subst, ◌∙◌, arith, MatchOption}
-use Rattle.std.specs.Prelude.{filter, not, nat_le, ◌&&◌, unwrap_or}
-use Rattle.std.specs.List.{enumerate_from}
-use Rattle.std.proofs.lemmas.List.{take_more, take_all, map-append, append_assoc, append-nil, get_or-map, length-map}
-use Rattle.std.proofs.lemmas.List.Sums.{sum_by_push, sum_by-cons}
-use Rattle.std.proofs.lemmas.List.Elements.{filter_more, filter-append}
-use Rattle.std.proofs.lemmas.List.FromFn.{get_or-enumerate_from, length-enumerate_from}
-use Rattle.nc_base.specs.declared.header.Header.{Header}
-use Rattle.nc_base.specs.declared.header.Var.{Var}
-use Rattle.nc_base.specs.declared.header.NcType.TheVariants.{Byte}
-use Rattle.serial_spec.specs.HeaderBytes.{header_len}
-use Rattle.serial_spec.specs.Layout.{is_record, slab, vsize}
-use Rattle.serial_spec.specs.SharedByte.{least}
-use Rattle.serial_spec.specs.Lists.{inserted_by}
-use Rattle.serial_spec.specs.Redefinition.{Numbered, fixed_begins, front_after, begin_at, first_record, record_begins, begins_before, by_begin, fixed_order, begins_by_number}
-use Rattle.var_layout.specs.Capped.{capped}
-use Rattle.var_layout.proofs.Capping.{capped_sum, capped_both}
-use Rattle.redef_mover.specs.declared.new_begins.NumberedVar.{NumberedVar}
-use Rattle.redef_mover.specs.declared.new_begins.Place.{Place}
-use Rattle.redef_mover.specs.declared.new_begins.Side.{Side}
-use Rattle.redef_mover.specs.declared.new_begins.Side.TheVariants.{Old, New}
-use Rattle.redef_mover.specs.NewBegins.{on_side, records_at, fixed_var, record_var, pairs, capped_pairs}
-use Rattle.redef_laws.proofs.BeginLaws.{vsizes}
+use Rattle.redef_mover.proofs.Words.{◌≡◌, ℕ, ◌+◌, ◌-◌, ◌^◌, ◌<◌, ◌≤◌, List, [], ◌∷◌, ◌++◌, length, take, get_or, map, min, fold, Bool, true, false, cond, Option, Some, refl, sym, ap, subst, ◌∙◌, arith, MatchOption, filter, not, nat_le, unwrap_or, enumerate_from, take_more, take_all, map-append, append-nil, get_or-map, length-map, sum_by_push, sum_by-cons, filter_more, filter-append, get_or-enumerate_from, length-enumerate_from, Header, Var, Byte, header_len, is_record, slab, vsize, least, inserted_by, Numbered, fixed_begins, front_after, begin_at, first_record, record_begins, begins_before, by_begin, fixed_order, begins_by_number, capped, capped_sum, capped_both, NumberedVar, Place, Side, Old, New, on_side, records_at, fixed_var, record_var, pairs, capped_pairs, vsizes}
+use Rattle.std.specs.Prelude.{◌&&◌}
+use Rattle.std.proofs.lemmas.List.{append_assoc}
 
 -- ---- the variables that two tests choose, among the first k
 

@@ -1,22 +1,5 @@
 -- The begins that are out of range.
-use Rattle.std.proofs.Common.{◌≡◌, ℕ, zero, suc, ◌+◌, ◌<◌, ◌≤◌, List, [], ◌∷◌, ◌++◌, length, take, drop, get_or, map, Bool, true, false, cond, Option, Some, None, refl, sym, ap, ◌∙◌, arith}
-use Rattle.std.specs.Prelude.{sum_by, count_by, find, slice_get, nat_lt, ◌==◌}
-use Rattle.std.specs.List.{enumerate_from}
-use Rattle.std.proofs.lemmas.Bool.Decides.{nat_tests}
-use Rattle.std.proofs.lemmas.List.{take_more, take_all, drop_more, drop_all, get_or_default, map-append, get_or-map, length-map}
-use Rattle.std.proofs.lemmas.List.Sums.{sum_by-cons}
-use Rattle.std.proofs.lemmas.List.FromFn.{get_or-enumerate_from, length-enumerate_from}
-use Rattle.std.proofs.lemmas.Option.{slice_get_read}
-use Rattle.nc_base.specs.declared.header.Header.{Header}
-use Rattle.nc_base.specs.declared.header.Var.{Var}
-use Rattle.nc_base.specs.declared.header.NcType.TheVariants.{Byte}
-use Rattle.serial_spec.specs.Layout.{record_share}
-use Rattle.serial_spec.specs.Redefinition.{Numbered, is_bad_begin}
-use Rattle.var_layout.specs.Capped.{capped}
-use Rattle.var_layout.proofs.Capping.{capped_sum_more}
-use Rattle.redef_mover.specs.declared.new_begins.Place.{Place}
-use Rattle.redef_mover.specs.NewBegins.{pairs, HasOneEach}
-use Rattle.redef_mover.specs.Ranges.{is_bad, is_bad_var}
+use Rattle.redef_mover.proofs.Words.{◌≡◌, ℕ, zero, suc, ◌+◌, ◌<◌, ◌≤◌, List, [], ◌∷◌, ◌++◌, length, take, drop, get_or, map, Bool, true, false, cond, Option, Some, None, refl, sym, ap, ◌∙◌, arith, sum_by, count_by, find, slice_get, nat_lt, ◌==◌, enumerate_from, nat_tests, take_more, take_all, drop_more, drop_all, get_or_default, map-append, get_or-map, length-map, sum_by-cons, get_or-enumerate_from, length-enumerate_from, slice_get_read, Header, Var, Byte, record_share, Numbered, is_bad_begin, capped, capped_sum_more, Place, pairs, HasOneEach, is_bad, is_bad_var}
 
 -- ---- one variable after another
 

@@ -1,28 +1,9 @@
 -- The header with its new begins, and why there is none.
-use Rattle.std.proofs.Common.{◌≡◌, ℕ, zero, suc, ◌+◌, ◌-◌, ◌*◌, ◌^◌, ◌<◌, List, [], ◌∷◌, length, take, map, Bool, true, false, cond, Option, Some, None, refl, sym, ap, ◌∙◌, arith}
-use Rattle.std.specs.Prelude.{sum_by, find, position, option_map, slice_get, nat_lt, nat_le, not, ◌==◌, ◌&&◌, ◌||◌, if◌then◌else◌}
-use Rattle.std.specs.List.{enumerate_from, prefix_len}
-use Rattle.std.specs.Option.{option_or}
-use Rattle.std.proofs.lemmas.Bool.Decides.{nat_tests}
-use Rattle.std.proofs.lemmas.List.Sums.{sum_by-cons}
-use Rattle.list_laws.proofs.Maps.{found_passes}
-use Rattle.redef_laws.proofs.WrittenLaws.{found_fails}
-use Rattle.list_laws.proofs.Optional.{none_before_map}
-use Rattle.redef_laws.proofs.RebegunLaws.{rebegun_len}
-use Rattle.nc_base.specs.declared.header.Header.{Header}
-use Rattle.nc_base.specs.declared.header.Var.{Var}
-use Rattle.nc_base.specs.declared.script.Extra.{Extra}
-use Rattle.nc_base.specs.declared.errors.LayoutErr.{LayoutErr}
+use Rattle.redef_mover.proofs.Words.{◌≡◌, ℕ, zero, suc, ◌+◌, ◌-◌, ◌*◌, ◌^◌, ◌<◌, List, [], ◌∷◌, length, take, map, Bool, true, false, cond, Option, Some, None, refl, sym, ap, ◌∙◌, arith, sum_by, find, option_map, slice_get, nat_lt, nat_le, not, ◌==◌, if◌then◌else◌, enumerate_from, prefix_len, option_or, nat_tests, sum_by-cons, found_passes, found_fails, none_before_map, rebegun_len, Header, Var, Extra, LayoutErr, RedefErr, most_header_bytes, file_limit, header_len, keeps_bound, is_record, slab, vsize, record_share, record_size, record_variables, Numbered, is_large_var, size_fault, is_far_begin, is_bad_begin, begin_of_number, with_begins, begins_by_number, extras_fault, added, redefined_header, redefined_fault, capped, capped_pairs}
+use Rattle.std.specs.Prelude.{position, ◌&&◌, ◌||◌}
 use Rattle.nc_base.specs.declared.errors.LayoutErr.TheVariants as layout
-use Rattle.nc_base.specs.declared.errors.RedefErr.{RedefErr}
 use Rattle.nc_base.specs.declared.errors.RedefErr.TheVariants as redef
-use Rattle.serial_spec.specs.Limits.{most_header_bytes, file_limit}
-use Rattle.serial_spec.specs.HeaderBytes.{header_len}
-use Rattle.serial_spec.specs.HeaderFaults.{keeps_bound}
-use Rattle.serial_spec.specs.Layout.{is_record, slab, vsize, record_share, record_slabs, record_size, record_variables}
-use Rattle.serial_spec.specs.Redefinition.{Numbered, is_large_var, size_fault, is_far_begin, is_bad_begin, begin_of_number, with_begins, begins_by_number, extras_fault, added, redefined_header, redefined_fault}
-use Rattle.var_layout.specs.Capped.{capped}
-use Rattle.redef_mover.specs.NewBegins.{capped_pairs}
+use Rattle.serial_spec.specs.Layout.{record_slabs}
 
 -- ---- what does not look at the begins
 

@@ -1,13 +1,5 @@
 -- The bytes of a file in which a slab was moved.
-use Rattle.std.proofs.Common.{◌≡◌, ℕ, ◌+◌, ◌-◌, ◌<◌, ◌≤◌, inl, inr, sym, ◌∙◌, ap, List, length, arith}
-use Rattle.overlay_laws.proofs.SaidLaws.{same_file}
-use Rattle.serial_spec.specs.DeviceCalls.{Slab}
-use Rattle.serial_spec.specs.File.{at, read}
-use Rattle.serial_spec.proofs.CellLaws.{read_long, read_at}
-use Rattle.serial_spec.proofs.FileLaws.{at-written_before, at-written_after, length-written_inside}
-use Rattle.serial_spec.proofs.SaidLaws.{at-written_inside}
-use Rattle.redef_mover.specs.Moves.{slab_moved}
-use Rattle.std.proofs.lemmas.Bool.{cases_lt}
+use Rattle.redef_mover.proofs.Words.{◌≡◌, ℕ, ◌+◌, ◌-◌, ◌<◌, ◌≤◌, inl, inr, sym, ◌∙◌, ap, List, length, arith, same_file, Slab, at, read, read_long, read_at, at-written_before, at-written_after, length-written_inside, at-written_inside, slab_moved, cases_lt}
 
 -- ---- one slab
 

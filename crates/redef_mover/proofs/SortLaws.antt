@@ -1,26 +1,10 @@
 -- The slabs of the variables, listed and sorted as the code does.
-use Rattle.std.proofs.Common.{◌≡◌, ℕ, zero, suc, ◌+◌, ◌<◌, ◌≤◌, ◌⊎◌, inl, inr, refl, sym, ◌∙◌, ap, subst, List, [], ◌∷◌, ◌++◌, length, map, take, get_or, Bool, true, false, cond, Less, Equal, Greater, arith}
-use Rattle.std.specs.Prelude.{nat_lt, nat_le, ◌==◌, not, ◌&&◌}
-use Rattle.std.specs.List.{enumerate_from, filter, zip}
-use Rattle.std.specs.List.Sorted.{ties, IsNonDecreasingBy, IsSortedByKey, IsStableByKey}
-use Rattle.std.specs.Ordering.{is_lt, nat_cmp}
+use Rattle.redef_mover.proofs.Words.{◌≡◌, ℕ, zero, suc, ◌+◌, ◌<◌, ◌≤◌, ◌⊎◌, inl, inr, refl, sym, ◌∙◌, ap, subst, List, [], ◌∷◌, ◌++◌, length, map, take, get_or, Bool, true, false, cond, Less, Equal, Greater, arith, nat_lt, nat_le, ◌==◌, not, enumerate_from, zip, ties, IsNonDecreasingBy, IsSortedByKey, IsStableByKey, is_lt, nat_cmp, nat_tests, map-append, take_more, filter-append, IsNonDecreasingBy-from_sort, length-enumerate_from, Var, Slab, inserted_by, lowest_first, stands_below, Shift, is_kind, slab_of, first_same, cases_lt, cons_rest, nil_cons}
+use Rattle.std.specs.Prelude.{◌&&◌}
+use Rattle.std.specs.List.{filter}
 use Rattle.std.proofs.Math.Seq.{take_all}
 use mathlib.Core.Bool.{beq}
-use Rattle.std.proofs.lemmas.Bool.Decides.{nat_tests}
-use Rattle.std.proofs.lemmas.List.{map-append, take_more}
-use Rattle.std.proofs.lemmas.List.Elements.{filter-append}
-use Rattle.std.proofs.lemmas.List.Sorted.{IsNonDecreasingBy-from_sort}
-use Rattle.std.proofs.lemmas.List.FromFn.{length-enumerate_from}
 use borrow.Author.Tests.{ltb-true, ltb-false, eqb-true, leb-true, leb-false}
-use Rattle.nc_base.specs.declared.header.Var.{Var}
-use Rattle.serial_spec.specs.DeviceCalls.{Slab}
-use Rattle.serial_spec.specs.Lists.{inserted_by}
-use Rattle.redef_laws.specs.RisingSlabs.{lowest_first, stands_below}
-use Rattle.redef_mover.specs.declared.slabs.Shift.{Shift}
-use Rattle.redef_mover.specs.Moves.{is_kind, slab_of}
-use Rattle.list_laws.proofs.Places.{first_same}
-use Rattle.std.proofs.lemmas.Bool.{cases_lt}
-use Rattle.list_laws.proofs.Appends.{cons_rest, nil_cons}
 
 -- ---- listing
 

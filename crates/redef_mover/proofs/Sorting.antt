@@ -1,14 +1,8 @@
 -- A stable sort by a number leaves just one list: the one that insertion leaves.
-use Rattle.std.proofs.Common.{◌≡◌, ℕ, suc, ◌<◌, ◌≤◌, List, [], ◌∷◌, length, get_or, map, Bool, true, false, cond, refl, sym, ap, ◌∙◌, arith, inl, inr, ◌⊎◌}
-use Rattle.std.specs.Prelude.{filter, nat_lt, nat_le, not, ◌==◌, ◌&&◌}
-use Rattle.std.specs.List.{list_all}
-use Rattle.std.specs.List.Sorted.{IsNonDecreasingBy, IsStableByKey, ties}
-use Rattle.std.specs.Ordering.{nat_cmp, is_lt}
+use Rattle.redef_mover.proofs.Words.{◌≡◌, ℕ, suc, ◌<◌, ◌≤◌, List, [], ◌∷◌, length, get_or, map, Bool, true, false, cond, refl, sym, ap, ◌∙◌, arith, inl, inr, ◌⊎◌, filter, nat_lt, nat_le, not, ◌==◌, list_all, IsNonDecreasingBy, IsStableByKey, ties, nat_cmp, is_lt, nat_tests, cases_lt, and_parts, filter_agree}
+use Rattle.std.specs.Prelude.{◌&&◌}
 use Rattle.std.specs.declared.cmp.Ordering.TheVariants.{Less, Equal, Greater}
-use Rattle.std.proofs.lemmas.Bool.Decides.{nat_tests}
-use Rattle.std.proofs.lemmas.Bool.{cases_lt, and_parts}
 use Rattle.serial_spec.specs.Lists.{inserted_by, sorted_by as in_order_by}
-use Rattle.std.proofs.lemmas.List.Elements.{filter_agree}
 
 abbrev pub put_by : {A : Type 0} → (A → ℕ) → A → List A → List A
 put_by key x xs = inserted_by (λ a b. nat_le (key a) (key b)) x xs

@@ -1,7 +1,5 @@
 -- What is told of a disk after one change more, and what is left to be done.
-use Rattle.std.proofs.Common.{◌≡◌, ◌∙◌, ap, Option, Some, None, Result, Ok, Err}
-use Rattle.std.specs.Prelude.{is_ok, if◌then◌else◌, IfSome, OnOk}
-use Rattle.nc_outside.specs.Told.{after}
+use Rattle.redef_mover.proofs.Words.{◌≡◌, ◌∙◌, ap, Option, Some, None, Result, Ok, Err, is_ok, if◌then◌else◌, IfSome, OnOk, after}
 
 -- ---- what holds of bytes that are told
 

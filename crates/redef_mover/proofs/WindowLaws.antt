@@ -1,18 +1,6 @@
 -- The windows of a slab from its top.
-use Rattle.std.proofs.Common.{◌≡◌, ℕ, ◌+◌, ◌-◌, ◌*◌, ◌<◌, ◌≤◌, sym, ◌∙◌, ap, List, ◌++◌, length, take, drop, Option, Some, None, arith}
-use Rattle.std.specs.Prelude.{flat_map, IfSome}
-use Rattle.std.specs.List.{range_with_len}
-use Rattle.std.proofs.lemmas.Grind.{flat_map-append}
-use Rattle.std.proofs.lemmas.List.{append-nil}
-use Rattle.list_laws.proofs.Ranges.{range_append}
-use Rattle.nc_base.specs.declared.step.DiskCall.{DiskCall}
-use Rattle.serial_spec.specs.DeviceCalls.{Slab, move_window}
-use Rattle.serial_spec.specs.File.{read, written}
-use Rattle.nc_outside.specs.Told.{after}
-use Rattle.redef_mover.specs.Moves.{slab_calls, slab_moved, window, window_calls}
+use Rattle.redef_mover.proofs.Words.{◌≡◌, ℕ, ◌+◌, ◌-◌, ◌*◌, ◌<◌, ◌≤◌, sym, ◌∙◌, ap, List, ◌++◌, length, take, drop, Option, Some, None, arith, flat_map, IfSome, range_with_len, flat_map-append, append-nil, range_append, DiskCall, Slab, move_window, read, written, after, slab_calls, slab_moved, window, window_calls, read_slice, windows_of, count_is}
 use Rattle.redef_mover.proofs.SlabLaws.{both_moved}
-use Rattle.overlay_laws.proofs.ReadLaws.{read_slice}
-use Rattle.overlay_laws.proofs.WindowCounts.{windows_of, count_is}
 
 -- ---- a read
 

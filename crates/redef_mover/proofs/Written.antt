@@ -1,21 +1,7 @@
 -- The begins that are written, and the numbers of those that are found.
-use Rattle.std.proofs.Common.{◌≡◌, ℕ, zero, suc, ◌+◌, ◌-◌, ◌<◌, ◌≤◌, List, [], ◌∷◌, ◌++◌, length, take, get_or, map, Bool, true, false, cond, Some, None, refl, sym, ap, ◌∙◌, arith}
-use Rattle.std.specs.Prelude.{filter, sum_by, find, nat_lt, nat_le, not, ◌==◌, ◌&&◌, unwrap_or}
-use Rattle.std.specs.List.{enumerate_from}
+use Rattle.redef_mover.proofs.Words.{◌≡◌, ℕ, zero, suc, ◌+◌, ◌-◌, ◌<◌, ◌≤◌, List, [], ◌∷◌, ◌++◌, length, take, get_or, map, Bool, true, false, cond, Some, None, refl, sym, ap, ◌∙◌, arith, filter, sum_by, find, nat_lt, nat_le, not, ◌==◌, unwrap_or, enumerate_from, nat_tests, take_more, take_all, map-append, sum_by-cons, sum_by-append, Header, Var, header_len, is_record, slab, vsize, least, inserted_by, Numbered, fixed_of, records_in, old_of, new_of, begins_before, by_begin, begin_at, fixed_begins, fixed_order, record_begins, front_after, first_record, begins_by_number, begin_of_number, capped, Place, pairs, capped_pairs, HasOneEach}
+use Rattle.std.specs.Prelude.{◌&&◌}
 use Rattle.std.proofs.Math.ListN.{set}
-use Rattle.std.proofs.lemmas.Bool.Decides.{nat_tests}
-use Rattle.std.proofs.lemmas.List.{take_more, take_all, map-append}
-use Rattle.std.proofs.lemmas.List.Sums.{sum_by-cons, sum_by-append}
-use Rattle.nc_base.specs.declared.header.Header.{Header}
-use Rattle.nc_base.specs.declared.header.Var.{Var}
-use Rattle.serial_spec.specs.HeaderBytes.{header_len}
-use Rattle.serial_spec.specs.Layout.{is_record, slab, vsize}
-use Rattle.serial_spec.specs.SharedByte.{least}
-use Rattle.serial_spec.specs.Lists.{inserted_by}
-use Rattle.serial_spec.specs.Redefinition.{Numbered, fixed_of, records_in, old_of, new_of, begins_before, by_begin, begin_at, fixed_begins, fixed_order, record_begins, front_after, first_record, begins_by_number, begin_of_number}
-use Rattle.var_layout.specs.Capped.{capped}
-use Rattle.redef_mover.specs.declared.new_begins.Place.{Place}
-use Rattle.redef_mover.specs.NewBegins.{pairs, capped_pairs, HasOneEach}
 use Rattle.redef_mover.proofs.Ranges.{times}
 
 -- ---- the last begin of a number wins

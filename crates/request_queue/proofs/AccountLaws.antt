@@ -1,17 +1,6 @@
 -- The account of the buffer is the bytes of the waiting bputs, and refuses as the rank does.
-use Rattle.std.proofs.Common.{◌≡◌, ℕ, ◌+◌, ◌-◌, ◌^◌, ◌<◌, ◌≤◌, ◌∙◌, ap, sym, refl, inl, inr, ◌⊎◌, List, [], ◌∷◌, ◌++◌, map, Bool, true, false, cond, ltb, eqb, ◌||◌, Option, Some, None, min, length, get_or, take, arith}
-use Rattle.std.specs.Prelude.{filter, option_map, is_some, sum, sum_by, count_by}
-use Rattle.std.proofs.lemmas.Bool.{ltb-false, lt-ltb, le-ltb, cases_lt, cases_Bool, cond-true}
-use Rattle.std.specs.List.{list_any}
-use Rattle.std.proofs.lemmas.List.Sums.{sum_by_push, sum_by-cons, sum_by_more_le}
+use Rattle.request_queue.proofs.Words.{◌≡◌, ℕ, ◌+◌, ◌-◌, ◌^◌, ◌<◌, ◌≤◌, ◌∙◌, ap, sym, refl, inl, inr, ◌⊎◌, List, [], ◌∷◌, ◌++◌, map, Bool, true, false, cond, ltb, eqb, ◌||◌, Option, Some, None, min, length, get_or, take, arith, filter, option_map, is_some, sum, sum_by, count_by, ltb-false, lt-ltb, le-ltb, cases_lt, cases_Bool, cond-true, list_any, sum_by_push, sum_by-cons, sum_by_more_le, Post, Bput, Account, new_code, Posted, Status, NullRequest, Waiting, Gone, is_waiting, buffered, buffer_code, bytes_in, is_bput, detach_code, Request, Queued, rank_with, as_posted, held, is_buffered, freed, Accounts, Holds, HasUsed, claim_code, claimed}
 use Rattle.nc_base.specs.declared.answer.Code.TheVariants as code
-use Rattle.nc_base.specs.declared.plan.Post.{Post}
-use Rattle.nc_base.specs.declared.request.PostKind.TheVariants.{Bput}
-use Rattle.attached_buffer.specs.Buffer.{Account, new_code}
-use Rattle.serial_spec.specs.RankMachine.{Posted, Status, NullRequest, Waiting, Gone, is_waiting, buffered, buffer_code, bytes_in, is_bput, detach_code}
-use Rattle.request_queue.specs.declared.queue.Request.{Request}
-use Rattle.request_queue.specs.Queued.{Queued, rank_with}
-use Rattle.request_queue.specs.Kept.{as_posted, held, is_buffered, freed, Accounts, Holds, HasUsed, claim_code, claimed}
 use Rattle.request_queue.proofs.PostedLaws.{not_held}
 
 -- what waits holds all the bytes

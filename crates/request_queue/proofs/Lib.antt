@@ -1,3 +1,4 @@
+mod Words
 mod AccountLaws
 mod IndexLaws
 mod PlaceLaws

@@ -1,15 +1,5 @@
 -- What a wait or a cancel leaves, and what it takes.
-use Rattle.std.proofs.Common.{◌≡◌, ℕ, ◌<◌, ◌∙◌, ap, sym, refl, subst, inl, inr, ◌⊎◌, List, [], ◌∷◌, map, Bool, true, false, cond, eqb, ◌||◌, Option, Some, None, arith}
-use Rattle.std.specs.Prelude.{filter}
-use Rattle.std.specs.Ordering.{nat_cmp}
-use Rattle.std.specs.BTreeMap.{is_at}
-use Rattle.std.specs.Cmp.{nat_cmp_is}
-use Rattle.std.specs.declared.cmp.Ordering.TheVariants.{Less, Equal, Greater}
-use Rattle.std.proofs.lemmas.Bool.{or_from, or_left, or_right, cond_both, cond-true, eq-eqb, eqb-true, ne_eqb, cases_order}
-use Rattle.serial_spec.specs.RankMachine.{Posted, Status, NullRequest, Waiting, Gone, is_waiting, status_of, item_code, items_from, has_id}
-use Rattle.request_queue.specs.declared.queue.Posting.{Posting}
-use Rattle.request_queue.specs.declared.queue.Request.{Request}
-use Rattle.request_queue.specs.Kept.{status_in, has_waiting, posted_of, as_posted, is_null, items_by, code_by}
+use Rattle.request_queue.proofs.Words.{◌≡◌, ℕ, ◌<◌, ◌∙◌, ap, sym, refl, subst, inl, inr, ◌⊎◌, List, [], ◌∷◌, map, Bool, true, false, cond, eqb, ◌||◌, Option, Some, None, arith, filter, nat_cmp, is_at, nat_cmp_is, Less, Equal, Greater, or_from, or_left, or_right, cond_both, cond-true, eq-eqb, eqb-true, ne_eqb, cases_order, Posted, Status, NullRequest, Waiting, Gone, is_waiting, status_of, item_code, items_from, has_id, Posting, Request, status_in, has_waiting, posted_of, as_posted, is_null, items_by, code_by}
 use Rattle.request_queue.proofs.PostedLaws.{has_posted, new_lacks}
 
 -- ---- a set with one more number

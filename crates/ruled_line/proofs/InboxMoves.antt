@@ -1,12 +1,7 @@
 -- Each move on an inbox keeps its rule.
-use Rattle.std.proofs.Common.{◌≡◌, ◌≢◌, ◌<◌, ◌≤◌, ◌+◌, ℕ, true, cond, eqb, List, [], ◌∷◌, ◌++◌, length, set, sym, refl, ap, ◌∙◌, subst, append_assoc, length-append, lt_of_not-le, eq-eqb, ne_eqb, arith}
+use Rattle.ruled_line.proofs.Words.{◌≡◌, ◌≢◌, ◌<◌, ◌≤◌, ◌+◌, ℕ, true, cond, eqb, List, [], ◌∷◌, ◌++◌, length, set, sym, refl, ap, ◌∙◌, subst, append_assoc, length-append, lt_of_not-le, eq-eqb, ne_eqb, arith, no_false, Pushes, Pops, Forks, Merges, Learns, InboxView, sender_view, receiver_view, met_view, idle_view, FitsInbox, InboxHolds, items_under}
 use mathlib.Core.Option.{some}
 use lib.ListN.{get_elem?}
-use Rattle.list_laws.proofs.Truth.{no_false}
-use Rattle.crossbeam_channel.specs.Fifo.{Pushes, Pops, Forks, Merges, Learns}
-use Rattle.ruled_line.specs.declared.inbox_rule.InboxView.{InboxView}
-use Rattle.ruled_line.specs.InboxRule.{sender_view, receiver_view, met_view, idle_view, FitsInbox, InboxHolds}
-use Rattle.ruled_line.specs.Ends.{items_under}
 use Rattle.ruled_line.proofs.Views.{Each, each_alone, each_set, each_more}
 use Rattle.ruled_line.proofs.ItemsUnder.{items_under-append, items_under-push_same, items_under-push_other, length-items_under, items_under-some, items_under-none}
 

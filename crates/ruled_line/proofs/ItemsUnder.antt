@@ -1,10 +1,5 @@
 -- The items under a number, of a list and of a longer one.
-use Rattle.std.proofs.Common.{◌≡◌, ◌≢◌, ◌≤◌, ◌+◌, ℕ, Bool, cond, map, List, [], ◌∷◌, ◌++◌, length, sym, refl, ap, ◌∙◌, append_assoc, length-append, eq-eqb, ne_eqb, arith}
-use Rattle.std.specs.Prelude.{filter, ◌==◌}
-use Rattle.std.proofs.lemmas.List.{map-append, length-map, append-nil}
-use Rattle.std.proofs.lemmas.List.Elements.{filter-append}
-use Rattle.std.proofs.lemmas.List.Sums.{length-filter, count_by-le-length}
-use Rattle.ruled_line.specs.Ends.{items_under}
+use Rattle.ruled_line.proofs.Words.{◌≡◌, ◌≢◌, ◌≤◌, ◌+◌, ℕ, Bool, cond, map, List, [], ◌∷◌, ◌++◌, length, sym, refl, ap, ◌∙◌, append_assoc, length-append, eq-eqb, ne_eqb, arith, filter, ◌==◌, map-append, length-map, append-nil, filter-append, length-filter, count_by-le-length, items_under}
 
 module _ {T : Type 0} where
   abbrev pub is_under : ℕ → ℕ × T → Bool

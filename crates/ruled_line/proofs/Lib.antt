@@ -1,3 +1,4 @@
+mod Words
 mod Views
 mod LineMoves
 mod ItemsUnder

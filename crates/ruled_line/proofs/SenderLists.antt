@@ -1,10 +1,5 @@
 -- A list of sending ends, with one more.
-use Rattle.std.proofs.Common.{◌≡◌, ◌+◌, ℕ, suc, List, [], ◌∷◌, ◌++◌, map, All, sym, ap, ◌∙◌, arith}
-use Rattle.std.specs.List.{range_with_len}
-use Rattle.std.proofs.lemmas.List.{map-append}
-use Rattle.std.proofs.lemmas.List.Elements.{All-push}
-use Rattle.ruled_line.specs.Ends.{Line, Sender}
-use Rattle.list_laws.proofs.Ranges.{range_push}
+use Rattle.ruled_line.proofs.Words.{◌≡◌, ◌+◌, ℕ, suc, List, [], ◌∷◌, ◌++◌, map, All, sym, ap, ◌∙◌, arith, range_with_len, map-append, All-push, Line, Sender, range_push}
 
 module _ {T : Type 0} where
   pub numbers-push : (senders : List (Sender T)) (n : ℕ) (s : Sender T) → map (λ u. u.number) senders ≡ range_with_len 0 n → s.number ≡ n → map (λ u. u.number) (senders ++ s ∷ []) ≡ range_with_len 0 (n + 1)

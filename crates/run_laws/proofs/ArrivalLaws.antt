@@ -1,23 +1,7 @@
 -- A run of ranks at their next offers is that of ranks which wait where they heard their last reply.
-use Rattle.std.proofs.Common.{◌≡◌, ℕ, zero, suc, refl, sym, ◌∙◌, ap, List, [], ◌∷◌, ◌++◌, map, set, Option, Some, None}
-use Rattle.std.specs.Prelude.{slice_get, zip, fold, nat_lt}
-use Rattle.list_laws.proofs.Maps.{map_map}
-use Rattle.nc_base.specs.declared.header.Header.{Header}
-use Rattle.nc_base.specs.declared.request.Call.{Call}
-use Rattle.nc_base.specs.declared.script.Hints.{Hints}
-use Rattle.nc_base.specs.declared.script.Script.{Script}
-use Rattle.nc_base.specs.declared.step.DiskCall.{DiskCall}
-use Rattle.nc_base.specs.declared.step.Mark.{Mark}
-use Rattle.nc_base.specs.declared.step.Mark.TheVariants.{Meet, Solo}
-use Rattle.nc_base.specs.declared.step.Offer.{Offer}
-use Rattle.serial_spec.specs.DeviceCalls.{mark_calls, store_records, run_calls}
-use Rattle.serial_spec.specs.FileStep.{Setting, Counted, meeting}
-use Rattle.serial_spec.specs.SerialEnd.{Going, advance, hears, offers_of, solo_of, after_mark, first_going, first_state, setting_of, closed, serial_from, close_by}
-use Rattle.run_laws.specs.Ahead.{calls_so_far}
-use Rattle.run_laws.specs.Arrivals.{Arrived, Stand, solo_to, step_to, step_calls, calls_over, ended_from, all_calls_over, first_stand}
+use Rattle.run_laws.proofs.Words.{◌≡◌, ℕ, zero, suc, refl, sym, ◌∙◌, ap, List, [], ◌∷◌, ◌++◌, map, set, Option, Some, None, slice_get, zip, fold, nat_lt, map_map, Header, Call, Hints, Script, DiskCall, Mark, Meet, Solo, Offer, mark_calls, store_records, run_calls, Setting, Counted, meeting, Going, advance, hears, offers_of, solo_of, after_mark, first_going, first_state, setting_of, closed, serial_from, close_by, calls_so_far, Arrived, Stand, solo_to, step_to, step_calls, calls_over, ended_from, all_calls_over, first_stand, map-set}
 use Rattle.run_laws.proofs.OrderLaws.{calls_close}
 use Rattle.run_laws.proofs.StandingLaws.{calls_at}
-use Rattle.std.proofs.lemmas.List.{map-set}
 
 -- each rank goes up to its next offer
 abbrev pub gone_up : Setting → Counted × List Going → Stand

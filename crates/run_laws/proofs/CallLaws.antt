@@ -1,29 +1,10 @@
 -- One call of a rank: its mode, its kind, its mark, its offer and its requests.
-use Rattle.std.proofs.Common.{◌≡◌, ℕ, refl, sym, ◌∙◌, ap, subst, List, [], ◌∷◌, ◌++◌, map, Bool, true, false, cond, not, ◌&&◌, max, Option, Some, None}
-use Rattle.std.specs.Prelude.{◌==◌, if◌then◌else◌, is_none, is_some, IfSome, find, option_map}
-use Rattle.std.proofs.Math.Bool.{and-false}
-use Rattle.list_laws.proofs.Optional.{value_of_some}
-use Rattle.nc_base.specs.declared.header.Header.{Header}
-use Rattle.nc_base.specs.declared.request.Call.{Call}
+use Rattle.run_laws.proofs.Words.{◌≡◌, ℕ, refl, sym, ◌∙◌, ap, subst, List, [], ◌∷◌, ◌++◌, map, Bool, true, false, cond, not, ◌&&◌, max, Option, Some, None, ◌==◌, if◌then◌else◌, is_none, is_some, IfSome, find, option_map, and-false, value_of_some, Header, Call, Code, Answer, Batch, Post, Offer, OfferKind, MeetKind, Reply, Want, Look, Refused, Empty, Asks, look, Rank, Open, Posted, Status, Gone, NullRequest, Waiting, step, hear, hear_open, posts, post_after, attach_code, detach_code, buffer_code, bytes_in, values_of_post, status_of, is_chosen, named, without_chosen, with_posted, is_ok_code, is_collective, is_data, mode_after, kind_of_call, id_posted}
 use Rattle.nc_base.specs.declared.request.Call.TheVariants as call
-use Rattle.nc_base.specs.declared.answer.Code.{Code}
 use Rattle.nc_base.specs.declared.answer.Code.TheVariants as code
-use Rattle.nc_base.specs.declared.answer.Answer.{Answer}
-use Rattle.nc_base.specs.declared.plan.Batch.{Batch}
-use Rattle.nc_base.specs.declared.plan.Post.{Post}
-use Rattle.nc_base.specs.declared.step.Offer.{Offer}
-use Rattle.nc_base.specs.declared.step.OfferKind.{OfferKind}
 use Rattle.nc_base.specs.declared.step.OfferKind.TheVariants as offer
-use Rattle.nc_base.specs.declared.step.MeetKind.{MeetKind}
 use Rattle.nc_base.specs.declared.step.MeetKind.TheVariants as meets
-use Rattle.nc_base.specs.declared.step.Reply.{Reply}
-use Rattle.nc_base.specs.declared.step.Want.{Want}
 use Rattle.nc_base.specs.declared.step.Want.TheVariants as want
-use Rattle.serial_spec.specs.Looks.{Look, Refused, Empty, Asks, look}
-use Rattle.serial_spec.specs.RankMachine.{Rank, Open, Posted, Status, Gone, NullRequest, Waiting, step, hear, hear_open, posts, post_after, attach_code, detach_code, buffer_code, bytes_in, values_of_post, status_of, is_chosen, named, without_chosen, with_posted}
-use Rattle.serial_spec.specs.RegionCheck.{is_ok_code}
-use Rattle.serial_spec.specs.History.{is_collective, is_data, mode_after, kind_of_call}
-use Rattle.serial_spec.specs.Lawful.{id_posted}
 
 -- ---- the ids that were posted
 

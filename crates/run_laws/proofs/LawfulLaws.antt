@@ -1,19 +1,6 @@
 -- What a lawful script has of the calls of one rank.
-use Rattle.std.proofs.Common.{◌≡◌, ℕ, zero, suc, ◌+◌, ◌≤◌, refl, sym, ap, List, [], ◌∷◌, length, map, true, Option, Some, None, arith}
-use Rattle.std.proofs.lemmas.Slice.Eq.{bytes_eq-Decides}
-use Rattle.std.specs.Prelude.{slice_get, bytes_eq, fold}
-use Rattle.std.specs.List.{list_all, enumerate_from, cons_option}
-use Rattle.std.proofs.lemmas.Option.{same_Some}
-use Rattle.list_laws.proofs.Each.{passes_at}
-use Rattle.nc_base.specs.declared.request.Call.{Call}
-use Rattle.nc_base.specs.declared.script.Script.{Script}
-use Rattle.nc_base.specs.declared.step.MeetKind.{MeetKind}
+use Rattle.run_laws.proofs.Words.{◌≡◌, ℕ, zero, suc, ◌+◌, ◌≤◌, refl, sym, ap, List, [], ◌∷◌, length, map, true, Option, Some, None, arith, bytes_eq-Decides, slice_get, bytes_eq, fold, list_all, enumerate_from, cons_option, same_Some, passes_at, Call, Script, MeetKind, kinds, kind_number, kind_of_call, is_lawful, is_lawful_call, agree, kind_numbers, are_different, posted_ids, most_calls, IsLawful, kinds_of, le_two, lawful_parts}
 use Rattle.nc_base.specs.declared.step.MeetKind.TheVariants as meets
-use Rattle.serial_spec.specs.History.{kinds, kind_number, kind_of_call}
-use Rattle.serial_spec.specs.Lawful.{is_lawful, is_lawful_call, agree, kind_numbers, are_different, posted_ids, most_calls, IsLawful}
-use Rattle.run_laws.specs.Ways.{kinds_of}
-use Rattle.list_laws.proofs.Numbers.{le_two}
-use Rattle.serial_spec.proofs.LawfulTests.{lawful_parts}
 
 -- ---- tests and lists
 

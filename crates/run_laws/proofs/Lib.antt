@@ -1,3 +1,4 @@
+mod Words
 pub mod StandingLaws
 pub mod OrderLaws
 pub mod CallLaws

@@ -1,23 +1,6 @@
 -- Longer orders: their states and device calls, and the solo steps of one rank in a row.
-use Rattle.std.proofs.Common.{◌≡◌, ℕ, refl, sym, ◌∙◌, ap, List, [], ◌∷◌, ◌++◌, set, true, Some, append_assoc}
-use Rattle.std.proofs.lemmas.List.{append-nil, set-set}
-use Rattle.std.proofs.lemmas.Grind.{fold-append}
-use Rattle.std.specs.Prelude.{slice_get, ◌==◌, nat_lt, fold}
-use Rattle.std.specs.List.{list_all}
-use Rattle.std.proofs.lemmas.Bool.{eqb-true}
-use Rattle.list_laws.proofs.Truth.{and_first, and_second}
-use Rattle.nc_base.specs.declared.header.Header.{Header}
-use Rattle.nc_base.specs.declared.script.Hints.{Hints}
-use Rattle.nc_base.specs.declared.script.Script.{Script}
-use Rattle.nc_base.specs.declared.step.Mark.{Mark}
-use Rattle.nc_base.specs.declared.step.Mark.TheVariants.{Meet, Solo}
-use Rattle.nc_base.specs.declared.step.DiskCall.{DiskCall}
-use Rattle.serial_spec.specs.FileStep.{Setting, Counted}
-use Rattle.serial_spec.specs.DeviceCalls.{mark_calls, store_records, calls_from}
-use Rattle.serial_spec.specs.SerialEnd.{Going, setting_of, first_state, state_after, after_mark, after_solo, solo_of, advance, closed}
-use Rattle.run_laws.specs.Ahead.{is_solo_of, own_step, own_calls, calls_so_far}
+use Rattle.run_laws.proofs.Words.{◌≡◌, ℕ, refl, sym, ◌∙◌, ap, List, [], ◌∷◌, ◌++◌, set, true, Some, append_assoc, append-nil, set-set, fold-append, slice_get, ◌==◌, nat_lt, fold, list_all, eqb-true, and_first, and_second, Header, Hints, Script, Mark, Meet, Solo, DiskCall, Setting, Counted, mark_calls, store_records, calls_from, Going, setting_of, first_state, state_after, after_mark, after_solo, solo_of, advance, closed, is_solo_of, own_step, own_calls, calls_so_far, entry_set, set_own}
 use Rattle.run_laws.proofs.StandingLaws.{solo_goes, solo_calls_go}
-use Rattle.list_laws.proofs.Places.{entry_set, set_own}
 
 -- ---- states
 

@@ -1,23 +1,7 @@
 -- A rank that answers alone, and the steps of ranks that stand at their offers.
-use Rattle.std.proofs.Common.{◌≡◌, ℕ, suc, refl, sym, ◌∙◌, ap, List, [], ◌∷◌, ◌++◌, length, map, set, Option, Some, None, arith}
-use Rattle.std.specs.Prelude.{slice_get, zip}
-use Rattle.nc_base.specs.declared.header.Header.{Header}
-use Rattle.nc_base.specs.declared.request.Call.{Call}
-use Rattle.nc_base.specs.declared.answer.Answer.{Answer}
-use Rattle.nc_base.specs.declared.script.Hints.{Hints}
-use Rattle.nc_base.specs.declared.step.Mark.{Mark}
-use Rattle.nc_base.specs.declared.step.Mark.TheVariants.{Meet, Solo}
-use Rattle.nc_base.specs.declared.step.Offer.{Offer}
-use Rattle.nc_base.specs.declared.step.Reply.{Reply}
-use Rattle.nc_base.specs.declared.step.DiskCall.{DiskCall}
-use Rattle.nc_base.specs.declared.step.Want.{Want}
+use Rattle.run_laws.proofs.Words.{◌≡◌, ℕ, suc, refl, sym, ◌∙◌, ap, List, [], ◌∷◌, ◌++◌, length, map, set, Option, Some, None, arith, slice_get, zip, Header, Call, Answer, Hints, Mark, Meet, Solo, Offer, Reply, DiskCall, Want, Setting, Counted, meeting, solo, mark_calls, meeting_calls, solo_calls, step, hear, Going, go, advance, hears, offers_of, after_meeting, after_solo, solo_of, closed, close_by, answered, asking, HasCome, AreAt, AreEnded, all_hear, own_step}
 use Rattle.nc_base.specs.declared.step.Want.TheVariants as want
-use Rattle.serial_spec.specs.FileStep.{Setting, Counted, meeting, solo}
-use Rattle.serial_spec.specs.DeviceCalls.{mark_calls, meeting_calls, solo_calls}
 use Rattle.serial_spec.specs.RankMachine as machine
-use Rattle.serial_spec.specs.RankMachine.{step, hear}
-use Rattle.serial_spec.specs.SerialEnd.{Going, go, advance, hears, offers_of, after_meeting, after_solo, solo_of, closed, close_by}
-use Rattle.run_laws.specs.Ahead.{answered, asking, HasCome, AreAt, AreEnded, all_hear, own_step}
 
 -- ---- one rank
 

@@ -1,29 +1,8 @@
 -- What a rank on its way has at its next call, and that all ranks meet and end together.
-use Rattle.std.proofs.Common.{◌≡◌, ℕ, suc, ◌+◌, ◌*◌, ◌^◌, ◌<◌, ◌≤◌, ◌≢◌, refl, sym, ◌∙◌, ap, subst, List, [], ◌∷◌, ◌++◌, length, drop, true, Option, Some, None, arith, length-drop}
-use Rattle.std.proofs.lemmas.List.{append-nil}
-use Rattle.std.proofs.lemmas.List.Folds.{list_all-append}
-use Rattle.std.proofs.lemmas.Bool.Decides.{nat_tests}
-use Rattle.std.specs.Prelude.{slice_get, ◌==◌, nat_lt, filter}
-use Rattle.std.specs.List.{list_all}
-use Rattle.std.proofs.lemmas.Bool.{and_from, eqb-true}
-use Rattle.list_laws.proofs.Places.{entry_below, first_same}
-use Rattle.list_laws.proofs.Optional.{none_of_test}
-use Rattle.list_laws.proofs.Truth.{and_first, and_second}
-use Rattle.nc_base.specs.declared.request.Call.{Call}
+use Rattle.run_laws.proofs.Words.{◌≡◌, ℕ, suc, ◌+◌, ◌*◌, ◌^◌, ◌<◌, ◌≤◌, ◌≢◌, refl, sym, ◌∙◌, ap, subst, List, [], ◌∷◌, ◌++◌, length, drop, true, Option, Some, None, arith, length-drop, append-nil, list_all-append, nat_tests, slice_get, ◌==◌, nat_lt, filter, list_all, and_from, eqb-true, entry_below, first_same, none_of_test, and_first, and_second, Call, Script, Mark, Meet, Solo, MeetKind, Offer, Open, Going, kinds, marks, marks_from, concerns, is_of_rank_below, IsLegal, is_lawful, is_lawful_call, most_calls, most_parts, posted_ids, IsFresh, IsShare, posts_held, meetings, kinds_of, Waits, IsOnWay}
 use Rattle.nc_base.specs.declared.request.Call.TheVariants as call
-use Rattle.nc_base.specs.declared.script.Script.{Script}
-use Rattle.nc_base.specs.declared.step.Mark.{Mark}
-use Rattle.nc_base.specs.declared.step.Mark.TheVariants.{Meet, Solo}
-use Rattle.nc_base.specs.declared.step.MeetKind.{MeetKind}
-use Rattle.nc_base.specs.declared.step.Offer.{Offer}
 use Rattle.nc_base.specs.declared.step.OfferKind.TheVariants as offer
 use Rattle.serial_spec.specs.RankMachine as machine
-use Rattle.serial_spec.specs.RankMachine.{Open}
-use Rattle.serial_spec.specs.SerialEnd.{Going}
-use Rattle.serial_spec.specs.History.{kinds, marks, marks_from, concerns, is_of_rank_below, IsLegal}
-use Rattle.serial_spec.specs.Lawful.{is_lawful, is_lawful_call, most_calls, most_parts, posted_ids}
-use Rattle.run_laws.specs.Requests.{IsFresh, IsShare, posts_held}
-use Rattle.run_laws.specs.Ways.{meetings, kinds_of, Waits, IsOnWay}
 use Rattle.run_laws.proofs.CallLaws.{is_free, Keeps}
 use Rattle.run_laws.proofs.LawfulLaws.{ranks_lawful}
 use Rattle.run_laws.proofs.WayLaws.{kind_some, calls_long}

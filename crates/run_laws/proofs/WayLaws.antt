@@ -1,37 +1,11 @@
 -- A rank on its way: how it begins, how its calls and its replies change what is left to it, and what others leave as it was.
-use Rattle.std.proofs.Common.{◌≡◌, ℕ, zero, suc, ◌+◌, ◌*◌, ◌≤◌, ◌≢◌, refl, sym, ◌∙◌, ap, subst, inl, inr, ◌⊎◌, List, [], ◌∷◌, ◌++◌, length, drop, Bool, true, false, not, cond, ◌&&◌, ◌||◌, Option, Some, None, arith, true≢false, append_assoc}
-use Rattle.std.proofs.lemmas.List.{append-nil}
-use Rattle.std.proofs.lemmas.List.Sums.{sum_by-append}
-use Rattle.std.proofs.lemmas.List.Elements.{filter-append}
-use Rattle.std.proofs.lemmas.Bool.{eq-eqb, and_from, eqb-true}
-use Rattle.std.proofs.lemmas.Bool.Decides.{eqb_tells}
-use Rattle.std.specs.Prelude.{slice_get, ◌==◌, filter, is_some}
-use Rattle.std.specs.List.{list_all, list_any, cons_option}
-use Rattle.list_laws.proofs.Truth.{and_first, and_second}
-use Rattle.nc_base.specs.declared.header.Header.{Header}
-use Rattle.nc_base.specs.declared.request.Call.{Call}
+use Rattle.run_laws.proofs.Words.{◌≡◌, ℕ, zero, suc, ◌+◌, ◌*◌, ◌≤◌, ◌≢◌, refl, sym, ◌∙◌, ap, subst, inl, inr, ◌⊎◌, List, [], ◌∷◌, ◌++◌, length, drop, Bool, true, false, not, cond, ◌&&◌, ◌||◌, Option, Some, None, arith, true≢false, append_assoc, append-nil, sum_by-append, filter-append, eq-eqb, and_from, eqb-true, eqb_tells, slice_get, ◌==◌, filter, is_some, list_all, list_any, cons_option, and_first, and_second, Header, Call, Answer, Script, Mark, Meet, Solo, MeetKind, Offer, OfferKind, Reply, Open, Posted, step, hear, Going, first_going, kinds, marks_from, concerns, kind_of_call, kind_of_meeting, mode_after, is_collective, is_data, is_meeting, is_lawful, is_lawful_call, most_calls, most_parts, are_different, posted_ids, id_posted, posts_held, answered, asking, is_solo_of, meetings, mode_heard, marks_left, kind_of_offer, kinds_of, Waits, AreNew, IsOnWay, long_push}
 use Rattle.nc_base.specs.declared.request.Call.TheVariants as call
-use Rattle.nc_base.specs.declared.answer.Answer.{Answer}
-use Rattle.nc_base.specs.declared.script.Script.{Script}
-use Rattle.nc_base.specs.declared.step.Mark.{Mark}
-use Rattle.nc_base.specs.declared.step.Mark.TheVariants.{Meet, Solo}
-use Rattle.nc_base.specs.declared.step.MeetKind.{MeetKind}
-use Rattle.nc_base.specs.declared.step.Offer.{Offer}
-use Rattle.nc_base.specs.declared.step.OfferKind.{OfferKind}
 use Rattle.nc_base.specs.declared.step.OfferKind.TheVariants as offer
-use Rattle.nc_base.specs.declared.step.Reply.{Reply}
 use Rattle.nc_base.specs.declared.step.Want.TheVariants as want
 use Rattle.serial_spec.specs.RankMachine as machine
-use Rattle.serial_spec.specs.RankMachine.{Open, Posted, step, hear}
-use Rattle.serial_spec.specs.SerialEnd.{Going, first_going}
-use Rattle.serial_spec.specs.History.{kinds, marks_from, concerns, kind_of_call, kind_of_meeting, mode_after, is_collective, is_data, is_meeting}
-use Rattle.serial_spec.specs.Lawful.{is_lawful, is_lawful_call, most_calls, most_parts, are_different, posted_ids, id_posted}
-use Rattle.run_laws.specs.Requests.{posts_held}
-use Rattle.run_laws.specs.Ahead.{answered, asking, is_solo_of}
-use Rattle.run_laws.specs.Ways.{meetings, mode_heard, marks_left, kind_of_offer, kinds_of, Waits, AreNew, IsOnWay}
 use Rattle.run_laws.proofs.CallLaws.{Frees, is_free, is_other, says_at, heard_at}
 use Rattle.run_laws.proofs.LawfulLaws.{own_lawful}
-use Rattle.list_laws.proofs.Appends.{long_push}
 
 -- ---- the marks of an order
 

@@ -1,26 +1,5 @@
 -- Who comes to a meeting, and with which call.
-use Rattle.std.proofs.Common.{◌≡◌, ℕ, suc, ◌+◌, ◌<◌, ◌^◌, refl, sym, ◌∙◌, ap, List, [], ◌∷◌, ◌++◌, length, map, drop, get_or, Option, Some, None, append_assoc, arith}
-use Rattle.std.proofs.lemmas.List.{drop_more, length-map}
-use Rattle.std.specs.Prelude.{slice_get}
-use Rattle.std.specs.List.{enumerate_from}
-use Rattle.list_laws.proofs.Optional.{value_of_some}
-use Rattle.nc_base.specs.declared.answer.Answer.{Answer}
-use Rattle.nc_base.specs.declared.header.Header.{Header}
-use Rattle.nc_base.specs.declared.request.Call.{Call}
-use Rattle.nc_base.specs.declared.script.Script.{Script}
-use Rattle.nc_base.specs.declared.step.Mark.{Mark}
-use Rattle.nc_base.specs.declared.step.Offer.{Offer}
-use Rattle.serial_spec.specs.SerialEnd.{Going}
-use Rattle.join_laws.specs.Alike.{blank, AllBeside, AreNear}
-use Rattle.run_laws.specs.Arrivals.{Arrived}
-use Rattle.step_plan.specs.declared.plan.Caller.{Caller}
-use Rattle.turn_run.specs.Running.{AreRunners, HaveArrived}
-use Rattle.turn_run.specs.Stages.{arrived, arrived_all}
-use Rattle.turn_run.specs.declared.runners.Runner.{Runner}
-use Rattle.turn_run.proofs.AloneLaws.{arrived_held}
-use Rattle.turn_run.proofs.MeetOffers.{AllHold}
-use Rattle.turn_run.proofs.TurnEnds.{comes, free, holding, Comes}
-use Rattle.run_plan.specs.Planned.{caller, caller_at, meeting_callers, runner_caller}
+use Rattle.run_plan.proofs.Words.{◌≡◌, ℕ, suc, ◌+◌, ◌<◌, ◌^◌, refl, sym, ◌∙◌, ap, List, [], ◌∷◌, ◌++◌, length, map, drop, get_or, Option, Some, None, append_assoc, arith, drop_more, length-map, slice_get, enumerate_from, value_of_some, Answer, Header, Call, Script, Mark, Offer, Going, blank, AllBeside, AreNear, Arrived, Caller, AreRunners, HaveArrived, arrived, arrived_all, Runner, arrived_held, AllHold, comes, free, holding, Comes, caller, caller_at, meeting_callers, runner_caller}
 
 -- ---- few calls are answered
 

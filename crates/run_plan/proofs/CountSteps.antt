@@ -1,15 +1,5 @@
 -- Record counts after a step that is planned.
-use Rattle.std.proofs.Common.{◌≡◌, ℕ, ◌≤◌, inl, refl, sym, subst, max, true, Option, Some, None, arith}
-use Rattle.nc_base.specs.declared.answer.Pair.{Pair}
-use Rattle.nc_base.specs.declared.plan.Post.{Post}
-use Rattle.serial_spec.specs.FileStep.{end_for, needs, told, Setting}
-use Rattle.serial_spec.specs.Owner.{needed_now}
-use Rattle.serial_spec.specs.SharedByte.{Puts}
-use Rattle.serial_spec.specs.SoundHeaders.{is_sound}
-use Rattle.collective_round.specs.Rounds.{ArePuts}
-use Rattle.turn_run.specs.Counts.{IsCount, IsRise}
-use Rattle.turn_run.proofs.CountLaws.{count_longer, count_max, rise_longer, rise_max}
-use Rattle.turn_run.proofs.MeetPosts.{needed_rise}
+use Rattle.run_plan.proofs.Words.{◌≡◌, ℕ, ◌≤◌, inl, refl, sym, subst, max, true, Option, Some, None, arith, Pair, Post, end_for, needs, told, Setting, needed_now, Puts, is_sound, ArePuts, IsCount, IsRise, count_longer, count_max, rise_longer, rise_max, needed_rise}
 
 -- what puts need is a count that the file then can have
 pub now_rise : (s : Setting) (puts : Puts) (size : ℕ) → is_sound s.header ≡ true → ArePuts s.header puts → IsRise s.header (max size (end_for s (needed_now s puts))) (needed_now s puts)

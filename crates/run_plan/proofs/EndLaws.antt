@@ -1,40 +1,6 @@
 -- The end of a plan.
-use Rattle.std.proofs.Common.{◌≡◌, ℕ, refl, sym, ◌∙◌, ap, subst, List, [], ◌++◌, length, map, max, true, Option}
-use Rattle.std.specs.Prelude.{fold, nat_lt, replicate, IfOk, Result, Ok, Err}
-use Rattle.nc_base.specs.declared.answer.Answer.{Answer}
-use Rattle.nc_base.specs.declared.header.Header.{Header}
-use Rattle.nc_base.specs.declared.plan.Extent.{Extent}
-use Rattle.nc_base.specs.declared.script.Script.{Script}
-use Rattle.nc_base.specs.declared.step.DiskCall.{DiskCall}
-use Rattle.serial_spec.specs.DeviceCalls.{run_calls, store_records}
-use Rattle.serial_spec.specs.FileStep.{raised}
-use Rattle.serial_spec.specs.History.{IsLegal}
-use Rattle.serial_spec.specs.Layout.{greatest}
-use Rattle.serial_spec.specs.Lawful.{is_lawful}
+use Rattle.run_plan.proofs.Words.{◌≡◌, ℕ, refl, sym, ◌∙◌, ap, subst, List, [], ◌++◌, length, map, max, true, Option, fold, nat_lt, replicate, IfOk, Result, Ok, Err, Answer, Header, Extent, Script, DiskCall, run_calls, store_records, raised, IsLegal, greatest, is_lawful, close_by, serial_from, setting_of, End, raised_records, map_map, counted, rises, blank, AreAlikeEnds, IsLike, close_alike, same_beside, ended_from, first_stand, step_to, Arrived, Stand, first_up, ranks_lawful, count_call, StepPlan, AreFree, AreRunners, HaveArrived, arrived_all, first_runner, Runner, are_over, ended_legal, map_ended, AreOver, most_known, calls_from_first, first_stage, serial_from_first, told_end, calls_in, order_in, plan_stage, AreStepsOf, HasPlannedAll, IsFollowed, without_values, HasEnded, IsPlanOf, RunPlan, Progress}
 use Rattle.serial_spec.specs.RankMachine as machine
-use Rattle.serial_spec.specs.SerialEnd.{close_by, serial_from, setting_of, End}
-use Rattle.serial_spec.proofs.CountLaws.{raised_records}
-use Rattle.list_laws.proofs.Maps.{map_map}
-use Rattle.collective_round.specs.Rounds.{counted}
-use Rattle.collective_round.proofs.PutLaws.{rises}
-use Rattle.join_laws.specs.Alike.{blank, AreAlikeEnds, IsLike}
-use Rattle.join_laws.proofs.StandsAlike.{close_alike, same_beside}
-use Rattle.run_laws.specs.Arrivals.{ended_from, first_stand, step_to, Arrived, Stand}
-use Rattle.run_laws.proofs.ArrivalLaws.{first_up}
-use Rattle.run_laws.proofs.LawfulLaws.{ranks_lawful}
-use Rattle.step_plan.specs.Steps.{count_call}
-use Rattle.step_plan.specs.declared.plan.StepPlan.{StepPlan}
-use Rattle.turn_run.specs.Running.{AreFree, AreRunners, HaveArrived}
-use Rattle.turn_run.specs.Stages.{arrived_all}
-use Rattle.turn_run.specs.Steps.{first_runner}
-use Rattle.turn_run.specs.declared.runners.Runner.{Runner}
-use Rattle.turn_run.proofs.TurnEnds.{are_over, ended_legal, map_ended, AreOver}
-use Rattle.turn_run.proofs.TurnKnown.{most_known}
-use Rattle.turn_run.proofs.TurnRuns.{calls_from_first, first_stage, serial_from_first, told_end}
-use Rattle.run_plan.specs.Planned.{calls_in, order_in, plan_stage, AreStepsOf, HasPlannedAll, IsFollowed}
-use Rattle.run_plan.specs.Runs.{without_values, HasEnded, IsPlanOf}
-use Rattle.run_plan.specs.declared.run.RunPlan.{RunPlan}
-use Rattle.run_plan.specs.declared.steps.Progress.{Progress}
 use Rattle.run_plan.proofs.NearLaws.{same_without_values}
 
 -- what is known of the end of a run that the plan follows

@@ -1,24 +1,5 @@
 -- How long the file is after a step.
-use Rattle.std.proofs.Common.{◌≡◌, ℕ, ◌+◌, ◌≤◌, refl, sym, ◌∙◌, ap, subst, List, length, max, Bool, true, false, cond, Option, Some, None, arith}
-use Rattle.std.specs.Prelude.{nat_lt, ◌==◌}
-use Rattle.std.specs.Int.{byte_len, w32, w64}
-use Rattle.nc_base.specs.declared.answer.Pair.{Pair}
-use Rattle.serial_spec.specs.File.{longer}
-use Rattle.serial_spec.specs.FileStep.{after_puts, end_for, raised, told, Counted, Setting}
-use Rattle.serial_spec.specs.HeaderBytes.{count, header_len}
-use Rattle.serial_spec.specs.Owner.{needed_now}
-use Rattle.serial_spec.specs.Records.{needed_by, with_records}
-use Rattle.serial_spec.specs.SharedByte.{Puts}
-use Rattle.serial_spec.specs.SoundHeaders.{is_sound}
-use Rattle.serial_spec.proofs.FileLaws.{length-written_inside, longer_long}
-use Rattle.serial_spec.proofs.KeepLaws.{count_long}
-use Rattle.serial_spec.proofs.SaidLaws.{puts_are_cells}
-use Rattle.overlay_laws.specs.Entries.{cells_of_puts}
-use Rattle.overlay_laws.proofs.RoomLaws.{puts_room}
-use Rattle.overlay_laws.proofs.SaidLaws.{cells_long}
-use Rattle.collective_round.specs.Rounds.{ArePuts}
-use Rattle.collective_round.proofs.NeedLaws.{field_inside}
-use Rattle.collective_round.proofs.PutLaws.{covered_below, laid_needs, shared_needs}
+use Rattle.run_plan.proofs.Words.{◌≡◌, ℕ, ◌+◌, ◌≤◌, refl, sym, ◌∙◌, ap, subst, List, length, max, Bool, true, false, cond, Option, Some, None, arith, nat_lt, ◌==◌, byte_len, w32, w64, Pair, longer, after_puts, end_for, raised, told, Counted, Setting, count, header_len, needed_now, needed_by, with_records, Puts, is_sound, length-written_inside, longer_long, count_long, puts_are_cells, cells_of_puts, puts_room, cells_long, ArePuts, field_inside, covered_below, laid_needs, shared_needs}
 
 -- puts make the file as long as their records need, and no longer
 pub puts_long : (s : Setting) (puts : Puts) (file : List ℕ) → is_sound s.header ≡ true → ArePuts s.header puts → end_for s 0 ≤ length file

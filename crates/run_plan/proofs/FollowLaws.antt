@@ -1,29 +1,5 @@
 -- Steps that are planned, one after another.
-use Rattle.std.proofs.Common.{◌≡◌, ℕ, ◌<◌, refl, sym, ◌∙◌, ap, subst, List, [], ◌∷◌, ◌++◌, length, set, true, Some, append_assoc, arith}
-use Rattle.std.proofs.lemmas.Grind.{flat_map-append, fold-append}
-use Rattle.std.proofs.lemmas.List.{append-nil, map-append, set-set}
-use Rattle.std.specs.Prelude.{fold, slice_get}
-use Rattle.std.specs.List.{list_all}
-use Rattle.nc_base.specs.declared.header.Header.{Header}
-use Rattle.nc_base.specs.declared.script.Hints.{Hints}
-use Rattle.nc_base.specs.declared.script.Script.{Script}
-use Rattle.nc_base.specs.declared.step.DiskCall.{DiskCall}
-use Rattle.nc_base.specs.declared.step.Mark.{Mark}
-use Rattle.serial_spec.specs.FileStep.{Setting}
-use Rattle.serial_spec.specs.Lawful.{is_lawful}
-use Rattle.serial_spec.specs.SerialEnd.{setting_of}
-use Rattle.list_laws.proofs.Each.{all_joined}
-use Rattle.list_laws.proofs.Places.{entry_set, set_own}
-use Rattle.run_laws.specs.Ahead.{is_solo_of}
-use Rattle.run_laws.specs.Arrivals.{calls_over, step_calls, step_to, Arrived, Stand}
-use Rattle.run_laws.proofs.LawfulLaws.{ranks_lawful}
-use Rattle.step_plan.specs.Steps.{file_calls}
-use Rattle.step_plan.specs.declared.plan.StepPlan.{StepPlan}
-use Rattle.turn_run.specs.Running.{calls_of}
-use Rattle.turn_run.specs.Stages.{arrived, arrived_all, IsGrownBy}
-use Rattle.turn_run.specs.declared.runners.Runner.{Runner}
-use Rattle.turn_run.proofs.TurnSteps.{calls_there, get_arrived, set_arrived}
-use Rattle.run_plan.specs.Planned.{calls_in, order_in, plan_stage, rank_plan, AreStepsOf, Follows, HasPlanned, HasPlannedAll, IsBeside, PlanStage, RankPlan}
+use Rattle.run_plan.proofs.Words.{◌≡◌, ℕ, ◌<◌, refl, sym, ◌∙◌, ap, subst, List, [], ◌∷◌, ◌++◌, length, set, true, Some, append_assoc, arith, flat_map-append, fold-append, append-nil, map-append, set-set, fold, slice_get, list_all, Header, Hints, Script, DiskCall, Mark, Setting, is_lawful, setting_of, all_joined, entry_set, set_own, is_solo_of, calls_over, step_calls, step_to, Arrived, Stand, ranks_lawful, file_calls, StepPlan, calls_of, arrived, arrived_all, IsGrownBy, Runner, calls_there, get_arrived, set_arrived, calls_in, order_in, plan_stage, rank_plan, AreStepsOf, Follows, HasPlanned, HasPlannedAll, IsBeside, PlanStage, RankPlan}
 
 -- ---- one list of steps after another
 

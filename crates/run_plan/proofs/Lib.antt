@@ -1,3 +1,4 @@
+mod Words
 pub mod NearLaws
 pub mod FileLengths
 pub mod FollowLaws

@@ -1,33 +1,6 @@
 -- A meeting that is planned.
-use Rattle.std.proofs.Common.{◌≡◌, ℕ, ◌≤◌, refl, sym, ◌∙◌, ap, subst, List, [], ◌∷◌, ◌++◌, length, map, max, true, Option, None, arith}
-use Rattle.std.specs.Prelude.{flat_map, nat_lt}
-use Rattle.nc_base.specs.declared.answer.Pair.{Pair}
-use Rattle.nc_base.specs.declared.plan.Batch.{Batch}
-use Rattle.nc_base.specs.declared.request.Call.{Call}
-use Rattle.nc_base.specs.declared.script.Hints.{Hints}
-use Rattle.nc_base.specs.declared.step.DiskCall.{DiskCall}
-use Rattle.nc_base.specs.declared.step.Mark.{Mark}
-use Rattle.nc_base.specs.declared.step.Mark.TheVariants.{Meet}
-use Rattle.nc_base.specs.declared.step.Offer.{Offer}
-use Rattle.serial_spec.specs.DeviceCalls.{collective_windows, get_bytes, loads, meeting_calls, put_calls, store_records}
-use Rattle.serial_spec.specs.FileStep.{after_puts, end_for, meeting, told, Counted, Setting}
-use Rattle.serial_spec.specs.Owner.{needed_now}
-use Rattle.serial_spec.specs.RankSide.{wanted}
-use Rattle.serial_spec.specs.SerialEnd.{offers_of}
-use Rattle.serial_spec.specs.SoundHeaders.{is_sound}
-use Rattle.serial_spec.proofs.CountLaws.{raised_records}
-use Rattle.collective_round.specs.Rounds.{counted, gets_in, puts_in, ArePuts}
-use Rattle.join_laws.proofs.StandsAlike.{offers_beside}
-use Rattle.step_plan.specs.Steps.{count_call, file_calls, grow_call, windows_in}
-use Rattle.step_plan.specs.declared.plan.FilePlan.{FilePlan}
-use Rattle.step_plan.specs.declared.plan.StepPlan.{StepPlan}
+use Rattle.run_plan.proofs.Words.{◌≡◌, ℕ, ◌≤◌, refl, sym, ◌∙◌, ap, subst, List, [], ◌∷◌, ◌++◌, length, map, max, true, Option, None, arith, flat_map, nat_lt, Pair, Batch, Call, Hints, DiskCall, Mark, Meet, Offer, collective_windows, get_bytes, loads, meeting_calls, put_calls, store_records, after_puts, end_for, meeting, told, Counted, Setting, needed_now, wanted, offers_of, is_sound, raised_records, counted, gets_in, puts_in, ArePuts, offers_beside, count_call, file_calls, grow_call, windows_in, FilePlan, StepPlan, arrived_all, LeadsAlike, batches_of, held_offers, known_of, met, Runner, AllHold, meeting_led, met_calls_are, met_is, offers_are, AreDone, meeting_callers, plan_stage, Follows, HasPlannedAll, IsMeetingPlan}
 use Rattle.window_plan.specs.Windows as window
-use Rattle.turn_run.specs.Stages.{arrived_all, LeadsAlike}
-use Rattle.turn_run.specs.Steps.{batches_of, held_offers, known_of, met}
-use Rattle.turn_run.specs.declared.runners.Runner.{Runner}
-use Rattle.turn_run.proofs.MeetOffers.{AllHold}
-use Rattle.turn_run.proofs.MeetStep.{meeting_led, met_calls_are, met_is, offers_are, AreDone}
-use Rattle.run_plan.specs.Planned.{meeting_callers, plan_stage, Follows, HasPlannedAll, IsMeetingPlan}
 use Rattle.run_plan.proofs.CallerLaws.{callers_beside}
 use Rattle.run_plan.proofs.FileLengths.{puts_long, raised_long}
 

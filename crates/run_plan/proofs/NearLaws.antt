@@ -1,15 +1,5 @@
 -- Ranks beside others, and answers without values.
-use Rattle.std.proofs.Common.{◌≡◌, ℕ, zero, suc, refl, sym, ◌∙◌, ap, List, [], ◌∷◌, map, None, Some}
-use Rattle.std.specs.Prelude.{slice_get}
-use Rattle.std.proofs.lemmas.Option.{same_Some}
-use Rattle.list_laws.proofs.Maps.{map_map}
-use Rattle.nc_base.specs.declared.answer.Answer.{Answer}
-use Rattle.nc_base.specs.declared.answer.Item.{Item}
-use Rattle.nc_base.specs.declared.step.Offer.{Offer}
-use Rattle.serial_spec.specs.SerialEnd.{Going}
-use Rattle.join_laws.specs.Alike.{blank, blank_item, AllBeside}
-use Rattle.run_laws.specs.Arrivals.{Arrived}
-use Rattle.run_plan.specs.Runs.{item_without_values, without_values}
+use Rattle.run_plan.proofs.Words.{◌≡◌, ℕ, zero, suc, refl, sym, ◌∙◌, ap, List, [], ◌∷◌, map, None, Some, slice_get, same_Some, map_map, Answer, Item, Offer, Going, blank, blank_item, AllBeside, Arrived, item_without_values, without_values}
 
 -- the ranks at one place hold the same offer
 pub offer_beside : (ps qs : List Arrived) (r : ℕ) (t : Going) (o : Offer) → AllBeside ps qs → slice_get qs r ≡ Some (t, Some o) → (g : Going) × (slice_get ps r ≡ Some (g, Some o))

@@ -1,30 +1,6 @@
 -- A step of one rank that is planned.
-use Rattle.std.proofs.Common.{◌≡◌, ℕ, ◌≤◌, refl, sym, ◌∙◌, ap, subst, List, [], ◌∷◌, ◌++◌, length, map, max, set, true, Option, Some, None}
-use Rattle.std.proofs.lemmas.List.{append-nil}
-use Rattle.std.specs.Prelude.{flat_map, slice_get}
-use Rattle.std.specs.List.{list_all}
-use Rattle.nc_base.specs.declared.script.Hints.{Hints}
-use Rattle.nc_base.specs.declared.step.DiskCall.{DiskCall}
-use Rattle.nc_base.specs.declared.step.Mark.{Mark}
-use Rattle.nc_base.specs.declared.step.Mark.TheVariants.{Solo}
-use Rattle.nc_base.specs.declared.step.Offer.{Offer}
-use Rattle.nc_base.specs.declared.step.Reply.{Reply}
-use Rattle.serial_spec.specs.DeviceCalls.{get_bytes, gets_of, loads, put_calls, sieving_windows}
-use Rattle.serial_spec.specs.FileStep.{after_puts, end_for, puts_of, told, Setting}
-use Rattle.serial_spec.specs.Owner.{needed_now}
-use Rattle.serial_spec.specs.RankSide.{wanted}
-use Rattle.serial_spec.specs.SerialEnd.{advance, hears, Going}
-use Rattle.serial_spec.specs.SoundHeaders.{is_sound}
-use Rattle.collective_round.specs.Rounds.{ArePuts}
-use Rattle.run_laws.specs.Ahead.{is_solo_of}
-use Rattle.run_laws.specs.Arrivals.{offer_at, Arrived, Stand}
-use Rattle.run_laws.proofs.WayLaws.{one_of}
-use Rattle.step_plan.specs.Steps.{count_call, file_calls, grow_call, windows_in}
-use Rattle.step_plan.specs.declared.plan.FilePlan.{FilePlan}
-use Rattle.step_plan.specs.declared.plan.StepPlan.{StepPlan}
+use Rattle.run_plan.proofs.Words.{◌≡◌, ℕ, ◌≤◌, refl, sym, ◌∙◌, ap, subst, List, [], ◌∷◌, ◌++◌, length, map, max, set, true, Option, Some, None, append-nil, flat_map, slice_get, list_all, Hints, DiskCall, Mark, Solo, Offer, Reply, get_bytes, gets_of, loads, put_calls, sieving_windows, after_puts, end_for, puts_of, told, Setting, needed_now, wanted, advance, hears, Going, is_sound, ArePuts, is_solo_of, offer_at, Arrived, Stand, one_of, count_call, file_calls, grow_call, windows_in, FilePlan, StepPlan, alone_alike, call_alone, step_at, caller, plan_stage, rank_plan, Follows, HasPlanned, IsSoloOf, IsSoloPlan}
 use Rattle.window_plan.specs.Windows as window
-use Rattle.turn_run.proofs.AloneLaws.{alone_alike, call_alone, step_at}
-use Rattle.run_plan.specs.Planned.{caller, plan_stage, rank_plan, Follows, HasPlanned, IsSoloOf, IsSoloPlan}
 use Rattle.run_plan.proofs.FileLengths.{puts_long}
 use Rattle.run_plan.proofs.NearLaws.{offer_beside}
 

@@ -1,8 +1,6 @@
 -- Of two beginnings of one list the longer begins with both.
-use Rattle.std.proofs.Common.{◌≡◌, ◌≤◌, List, [], ◌∷◌, length, Bool, true, false, nat_lt, if◌then◌else◌, refl, sym, subst, ◌∙◌, ltb-true, ltb-false, arith}
+use Rattle.run_watch.proofs.Words.{◌≡◌, ◌≤◌, List, [], ◌∷◌, length, Bool, true, false, nat_lt, if◌then◌else◌, refl, sym, subst, ◌∙◌, ltb-true, ltb-false, arith, Heard, IsBeginning, longer, BeginOneList}
 use mathlib.Core.List.{IsPrefix}
-use Rattle.run_watch.specs.declared.rule.Heard.{Heard}
-use Rattle.run_watch.specs.Heard.{IsBeginning, longer, BeginOneList}
 use Rattle.run_watch.proofs.Moves.{itself}
 
 -- of two beginnings of a list the shorter is a beginning of the longer

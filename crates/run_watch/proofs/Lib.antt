@@ -1,3 +1,4 @@
+mod Words
 mod Beginnings
 mod Moves
 mod Results

@@ -1,18 +1,8 @@
 -- Each step of an end keeps the rule of a board.
-use Rattle.std.proofs.Common.{◌≡◌, ℕ, List, [], ◌∷◌, ◌++◌, length, set, Option, Some, None, All, zero, suc, sym, refl, ap, ◌∙◌, subst, append_assoc, length-append, arith}
-use Rattle.std.proofs.lemmas.List.Elements.{All-nil, All-cons, All-head, All-tail, All-push, All-set, All-weaker}
+use Rattle.run_watch.proofs.Words.{◌≡◌, ℕ, List, [], ◌∷◌, ◌++◌, length, set, Option, Some, None, All, zero, suc, sym, refl, ap, ◌∙◌, subst, append_assoc, length-append, arith, All-nil, All-cons, All-head, All-tail, All-push, All-set, All-weaker, set_else, Turns, TurnsAt, Forks, Merges, Mark, Summary, Heard, Shown, summary, opened, with_pair, IsBeginning, HeardOf, Keeps, Reads, TellsMore, append-nil}
 use mathlib.Core.List.{IsPrefix}
 use mathlib.Core.Option.{some, some-ne-none, some-injective}
 use lib.ListN.{get_elem?}
-use Rattle.atomic_table.proofs.Lists.{set_else}
-use Rattle.crossbeam_utils.specs.Register.{Turns, TurnsAt, Forks, Merges}
-use Rattle.nc_base.specs.declared.step.Mark.{Mark}
-use Rattle.nc_base.specs.declared.run.Summary.{Summary}
-use Rattle.run_watch.specs.declared.rule.Heard.{Heard}
-use Rattle.run_watch.specs.declared.rule.Shown.{Shown}
-use Rattle.run_watch.specs.Heard.{summary, opened, with_pair, IsBeginning}
-use Rattle.run_watch.specs.BoardRule.{HeardOf, Keeps, Reads, TellsMore}
-use Rattle.std.proofs.lemmas.List.{append-nil}
 
 abbrev Pairs : Type 0
 Pairs = List (Mark × ℕ)

@@ -1,13 +1,5 @@
 -- What the calls of a board give.
-use Rattle.std.proofs.Common.{◌≡◌, ◌+◌, ◌++◌, ◌∷◌, ℕ, false, true≢false, List, [], length, fold, All, Result, Ok, Err, is_err, IsOk, MatchResult, Option, Some, sym, refl, ap, ◌∙◌, subst, length-append, arith}
-use Rattle.std.proofs.lemmas.List.Elements.{All-push}
-use Rattle.nc_base.specs.declared.step.Mark.{Mark}
-use Rattle.serial_spec.specs.Readings.{last_count}
-use Rattle.run_watch.specs.declared.rule.Heard.{Heard}
-use Rattle.run_watch.specs.declared.rule.Shown.{Shown}
-use Rattle.run_watch.specs.Heard.{summary, with_pair}
-use Rattle.run_watch.specs.BoardRule.{TellsMore}
-use Rattle.run_watch.specs.Ends.{Shows}
+use Rattle.run_watch.proofs.Words.{◌≡◌, ◌+◌, ◌++◌, ◌∷◌, ℕ, false, true≢false, List, [], length, fold, All, Result, Ok, Err, is_err, IsOk, MatchResult, Option, Some, sym, refl, ap, ◌∙◌, subst, length-append, arith, All-push, Mark, last_count, Heard, Shown, summary, with_pair, TellsMore, Shows}
 
 pub ok_of : {A E : Type 0} (r : Result A E) (P : Type 0) (Q : E → Type 0) → false ≡ is_err r → MatchResult r (λ _. P) Q → P
 ok_of (Ok a) P Q e h = h

@@ -1,13 +1,5 @@
 -- A call more of a rank.
-use Rattle.std.proofs.Common.{◌≡◌, ◌∙◌, ◌<◌, ℕ, ◌+◌, List, [], ◌∷◌, ◌++◌, false, ◌==◌, cond, length, take, get_or, Some, None, append-nil, ap, sym, refl, zero, suc, arith}
-use Rattle.std.proofs.lemmas.List.{take_more}
-use Rattle.std.specs.List.{list_any}
-use Rattle.script_spec.proofs.TextLaws.{one_posted, none_posted}
-use Rattle.nc_base.specs.declared.step.MeetKind.{MeetKind}
-use Rattle.serial_spec.specs.History.{kinds, kind_of_call}
-use Rattle.std.proofs.lemmas.List.Elements.{filter_map-append}
-use Rattle.nc_base.specs.declared.request.Call.{Call}
-use Rattle.script_spec.specs.ScriptCalls.{posted, id_of_post, is_posted, calls_of}
+use Rattle.script_calls.proofs.Words.{◌≡◌, ◌∙◌, ◌<◌, ℕ, ◌+◌, List, [], ◌∷◌, ◌++◌, false, ◌==◌, cond, length, take, get_or, Some, None, append-nil, ap, sym, refl, zero, suc, arith, take_more, list_any, one_posted, none_posted, MeetKind, kinds, kind_of_call, filter_map-append, Call, posted, id_of_post, is_posted, calls_of}
 
 pub posted_more : (own : List Call) (c : Call) (id : ℕ) → id_of_post c ≡ Some id → posted (own ++ c ∷ []) ≡ posted own ++ id ∷ []
 posted_more own c id h = filter_map-append id_of_post own (c ∷ []) ∙ ap (λ (more : List ℕ). posted own ++ more) (one_posted c id h)

@@ -1,9 +1,5 @@
 -- The calls are those of the definitions.
-use Rattle.std.proofs.Common.{◌≡◌, ℕ, List, refl}
-use Rattle.nc_base.specs.declared.request.Call.{Call}
-use Rattle.script_spec.specs.ScriptWords.{Word}
-use Rattle.script_spec.specs.ScriptCalls.{Called, call_of, called_after}
-use Rattle.script_calls.specs.CallWords.{region_by, values_by, post_values_by, new_id_by, put_by, get_by, post_by, plain_by, post_or_plain_by, call_by, line_by, called_by}
+use Rattle.script_calls.proofs.Words.{◌≡◌, ℕ, List, refl, Call, Word, Called, call_of, called_after, region_by, values_by, post_values_by, new_id_by, put_by, get_by, post_by, plain_by, post_or_plain_by, call_by, line_by, called_by}
 
 pub same_call : (ranks r : ℕ) (own : List Call) (before : ℕ) (w : List ℕ) (ws : List Word) → call_by ranks r own before w ws ≡ call_of ranks r own before w ws
 unfolding region_by values_by post_values_by new_id_by put_by get_by post_by plain_by post_or_plain_by call_by

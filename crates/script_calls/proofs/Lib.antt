@@ -1,3 +1,4 @@
+mod Words
 mod CallLaws
 mod MismatchLaws
 mod CallWordLaws

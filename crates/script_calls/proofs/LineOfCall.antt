@@ -1,9 +1,5 @@
 -- A line of a call, by its first word.
-use Rattle.std.proofs.Common.{◌≡◌, ◌∙◌, ℕ, List, Result, Ok, sym, ap}
-use Rattle.nc_base.specs.declared.errors.ScriptKind.{ScriptKind}
-use Rattle.nc_base.specs.declared.request.Call.{Call}
-use Rattle.script_spec.specs.ScriptWords.{Word}
-use Rattle.script_spec.specs.ScriptSteps.{◌>>=◌, next}
+use Rattle.script_calls.proofs.Words.{◌≡◌, ◌∙◌, ℕ, List, Result, Ok, sym, ap, ScriptKind, Call, Word, ◌>>=◌, next}
 
 pub line_of_next : (F : ℕ → List Call → ℕ → List ℕ → List Word → Result Call ScriptKind) (ws after : List Word) (w : List ℕ) (n m b k : ℕ) (own other : List Call)
     → next ws ≡ Ok (w, after) → n ≡ m → own ≡ other → b ≡ k → F n own b w after ≡ (next ws >>= λ x. F m other k x.0 x.1)

@@ -1,8 +1,5 @@
 -- The first number at which the ranks differ.
-use Rattle.std.proofs.Common.{◌≡◌, ◌∙◌, ◌≤◌, ◌<◌, ℕ, suc, ◌+◌, ◌-◌, List, length, Bool, true, false, Option, Some, None, find, refl, sym, ap, arith, cond, is_some, option_map, subst}
-use Rattle.nc_base.specs.declared.step.MeetKind.{MeetKind}
-use Rattle.script_spec.specs.ScriptCalls.{differs_at, is_difference, first_difference}
-use Rattle.std.specs.List.{range_with_len}
+use Rattle.script_calls.proofs.Words.{◌≡◌, ◌∙◌, ◌≤◌, ◌<◌, ℕ, suc, ◌+◌, ◌-◌, List, length, Bool, true, false, Option, Some, None, find, refl, sym, ap, arith, cond, is_some, option_map, subst, MeetKind, differs_at, is_difference, first_difference, range_with_len}
 
 -- what is left to look at from k on, up to n
 abbrev pub left : (ℕ → Bool) → ℕ → ℕ → Option ℕ

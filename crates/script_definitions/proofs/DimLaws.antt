@@ -1,14 +1,5 @@
 -- The one dimension that is unlimited, by its name.
-use Rattle.std.proofs.Common.{◌≡◌, ◌∙◌, ℕ, List, [], ◌∷◌, ◌++◌, ◌||◌, ◌&&◌, Bool, true, false, bytes_eq, cond, Option, None, Some, refl, sym, ap, ap₂}
-use Rattle.std.specs.Prelude.{◌==◌, is_some, option_map}
-use Rattle.std.specs.List.{list_any, filter}
-use Rattle.std.proofs.lemmas.List.{map-append}
-use Rattle.std.proofs.lemmas.List.Elements.{filter-append}
-use Rattle.nc_base.specs.declared.header.Dim.{Dim}
-use Rattle.script_spec.specs.ScriptDefinitions.{is_unlimited, is_added_record, dim_names}
-use Rattle.script_definitions.specs.RecordName.{IsRecordName}
-use Rattle.list_laws.proofs.Truth.{or_false}
-use Rattle.list_laws.proofs.Maps.{any_map}
+use Rattle.script_definitions.proofs.Words.{◌≡◌, ◌∙◌, ℕ, List, [], ◌∷◌, ◌++◌, ◌||◌, ◌&&◌, Bool, true, false, bytes_eq, cond, Option, None, Some, refl, sym, ap, ap₂, ◌==◌, is_some, option_map, list_any, filter, map-append, filter-append, Dim, is_unlimited, is_added_record, dim_names, IsRecordName, or_false, any_map}
 
 any_behind : {A : Type 0} (test : A → Bool) (x : A) (xs : List A) (rest passes kept : Bool) → test x ≡ passes → list_any test xs ≡ rest
     → list_any test (cond kept (x ∷ xs) xs) ≡ ((passes && kept) || rest)

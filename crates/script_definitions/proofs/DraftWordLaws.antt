@@ -1,8 +1,5 @@
 -- What is known is what the definitions say.
-use Rattle.std.proofs.Common.{◌≡◌, ℕ, List, Option, refl}
-use Rattle.script_spec.specs.ScriptWords.{Word}
-use Rattle.script_spec.specs.ScriptDefinitions.{Known, hint_line, known_after}
-use Rattle.script_definitions.specs.DraftWords.{hint_name_by, hint_value_by, hint_line_by, addition_by, definition_by, known_added, known_defined, known_by, ranks_by, hint_by, line_by}
+use Rattle.script_definitions.proofs.Words.{◌≡◌, ℕ, List, Option, refl, Word, Known, hint_line, known_after, hint_name_by, hint_value_by, hint_line_by, addition_by, definition_by, known_added, known_defined, known_by, ranks_by, hint_by, line_by}
 
 pub same_hint : (given : List (Option ℕ)) (ws : List Word) → hint_line_by given ws ≡ hint_line given ws
 unfolding hint_name_by hint_value_by hint_line_by

@@ -1,3 +1,4 @@
+mod Words
 mod VarLaws
 mod ListLaws
 mod DimLaws

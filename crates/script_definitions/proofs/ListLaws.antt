@@ -1,17 +1,7 @@
 -- The bytes of values, one after another.
-use Rattle.std.proofs.Common.{◌≡◌, ◌∙◌, ℕ, suc, ◌+◌, List, [], ◌∷◌, ◌++◌, length, flat_map, append-nil, refl, sym, ap, ap₂, arith, add-one}
-use Rattle.std.specs.Prelude.{Option, Some, option_map, slice_get}
-use Rattle.std.specs.List.{range_with_len}
-use Rattle.std.proofs.lemmas.Grind.{flat_map-append}
-use Rattle.nc_base.specs.declared.header.NcType.{NcType}
+use Rattle.script_definitions.proofs.Words.{◌≡◌, ◌∙◌, ℕ, suc, ◌+◌, List, [], ◌∷◌, ◌++◌, length, flat_map, append-nil, refl, sym, ap, ap₂, arith, add-one, option_map, slice_get, range_with_len, flat_map-append, NcType, Values, Numbers, Text, Bits, ext, count_of, ext_of, value_at, external_bytes, range_push}
+use Rattle.std.specs.Prelude.{Option, Some}
 use Rattle.nc_base.specs.declared.request.Value.TheVariants as value
-use Rattle.nc_base.specs.declared.request.Values.{Values}
-use Rattle.nc_base.specs.declared.request.Values.TheVariants.{Numbers, Text, Bits}
-use Rattle.serial_spec.specs.ExternalForm.{ext}
-use Rattle.nc_base.specs.Values.{count_of}
-use Rattle.serial_spec.specs.Request.{ext_of, value_at}
-use Rattle.script_spec.specs.ScriptDefinitions.{external_bytes}
-use Rattle.list_laws.proofs.Ranges.{range_push}
 
 pub bytes_more : (t : NcType) (values : Values) (now next : List ℕ) (n : ℕ) → now ≡ flat_map (λ k. ext_of t (value_at values k)) (range_with_len 0 n)
     → next ≡ now ++ ext_of t (value_at values n) → next ≡ flat_map (λ k. ext_of t (value_at values k)) (range_with_len 0 (n + 1))

@@ -1,18 +1,10 @@
 -- What the lines after `open` add to a dataset.
-use Rattle.std.proofs.Common.{◌≡◌, ℕ, ◌+◌, ◌≤◌, List, [], ◌∷◌, ◌++◌, length, true, Err, IfOk, refl, arith, bytes_eq, codes, length-append, lt-ltb, le-leb}
-use Rattle.std.specs.List.{AllByRecursion, list_any}
+use Rattle.script_laws.proofs.Words.{◌≡◌, ℕ, ◌+◌, ◌≤◌, List, [], ◌∷◌, ◌++◌, length, true, Err, IfOk, refl, arith, bytes_eq, codes, length-append, lt-ltb, le-leb, AllByRecursion, list_any, each_push, Dim, most_dims, most_vars, most_dims_of_var, most_values, is_dim, is_var, added_dims, added_vars, is_lawful_extra, is_whole_extra, values_in_extra, extra_values, Word, refuse_if, reads_as, ended, dim_line, var_head, name_list, owner_of_text, owner_name, attribute, Added, nothing_added, is_added_record, added_shape, dim_addition, var_addition, att_addition, addition}
 use borrow.Author.Tests.{ltb-false}
 use Rattle.std.specs.Prelude.{drop, nat_lt}
-use Rattle.list_laws.proofs.Each.{each_push}
 use Rattle.nc_base.specs.declared.errors.ScriptKind.TheVariants as kind
 use Rattle.nc_base.specs.declared.errors.LimitName.TheVariants as limit
-use Rattle.nc_base.specs.declared.header.Dim.{Dim}
 use Rattle.nc_base.specs.declared.script.Extra.TheVariants as extra
-use Rattle.serial_spec.specs.Limits.{most_dims, most_vars, most_dims_of_var}
-use Rattle.serial_spec.specs.Lawful.{most_values, is_dim, is_var, added_dims, added_vars, is_lawful_extra, is_whole_extra, values_in_extra, extra_values}
-use Rattle.script_spec.specs.ScriptWords.{Word}
-use Rattle.script_spec.specs.ScriptSteps.{refuse_if, reads_as, ended}
-use Rattle.script_spec.specs.ScriptDefinitions.{dim_line, var_head, name_list, owner_of_text, owner_name, attribute, Added, nothing_added, is_added_record, added_shape, dim_addition, var_addition, att_addition, addition}
 use Rattle.script_laws.proofs.ListLaws.{count_more, sum_more}
 use Rattle.script_laws.proofs.StepLaws.{first_then, then_with, by_test, unless_refused}
 use Rattle.script_laws.proofs.DimLaws.{NewDim, dim_read, attr_whole, NewAttr, attribute_read, NewHead, head_read}

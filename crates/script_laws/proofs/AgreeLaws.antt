@@ -1,21 +1,7 @@
 -- The ranks of a script agree on the kinds of their collective calls.
-use Rattle.std.proofs.Common.{◌≡◌, ◌∙◌, ◌≤◌, ◌<◌, ℕ, zero, suc, ◌+◌, List, [], ◌∷◌, length, map, Bool, true, false, cond, not, Option, Some, None, Ok, refl, sym, ap, subst, arith, find, position, is_some, option_map, ◌==◌, nat_lt, bytes_eq, eqb-true, ltb-false, eq-or-lt_of_le, ◌⊎◌, inl, inr, true≢false}
-use Rattle.std.specs.List.{AllByRecursion, list_all, range_with_len, position_or_len, prefix_len}
-use Rattle.std.proofs.lemmas.Slice.Eq.{bytes_eq-Decides}
-use Rattle.std.proofs.lemmas.Bool.{and_from}
-use Rattle.script_spec.proofs.TextLaws.{finished}
-use Rattle.list_laws.proofs.Each.{each_weaker}
-use Rattle.list_laws.proofs.Maps.{found_passes}
-use Rattle.list_laws.proofs.Optional.{none_before_map, not_some, untold}
+use Rattle.script_laws.proofs.Words.{◌≡◌, ◌∙◌, ◌≤◌, ◌<◌, ℕ, zero, suc, ◌+◌, List, [], ◌∷◌, length, map, Bool, true, false, cond, not, Option, Some, None, Ok, refl, sym, ap, subst, arith, find, position, is_some, option_map, ◌==◌, nat_lt, bytes_eq, eqb-true, ltb-false, eq-or-lt_of_le, ◌⊎◌, inl, inr, true≢false, AllByRecursion, list_all, range_with_len, position_or_len, prefix_len, bytes_eq-Decides, and_from, finished, each_weaker, found_passes, none_before_map, not_some, untold, Call, MeetKind, kinds, kind_number, kind_numbers, agree, Line, kind_at, differs_at, is_difference, first_difference, mismatch, finish}
 use Rattle.nc_base.specs.declared.errors.ScriptKind.TheVariants as kind
-use Rattle.nc_base.specs.declared.request.Call.{Call}
-use Rattle.nc_base.specs.declared.step.MeetKind.{MeetKind}
 use Rattle.nc_base.specs.declared.step.MeetKind.TheVariants as meets
-use Rattle.serial_spec.specs.History.{kinds, kind_number}
-use Rattle.serial_spec.specs.Lawful.{kind_numbers, agree}
-use Rattle.script_spec.specs.ScriptWords.{Line}
-use Rattle.script_spec.specs.ScriptCalls.{kind_at, differs_at, is_difference, first_difference, mismatch}
-use Rattle.script_spec.specs.ScriptGrammar.{finish}
 
 -- ---- no difference
 

@@ -1,25 +1,8 @@
 -- The values of a call: few, and each a number of 20 digits at most.
-use Rattle.std.proofs.Common.{◌≡◌, ℕ, zero, suc, ◌+◌, ◌-◌, ◌*◌, ◌^◌, ◌<◌, ◌≤◌, List, [], ◌∷◌, ◌++◌, length, map, Bool, true, false, cond, not, ◌&&◌, ◌||◌, Option, Some, None, IfOk, refl, sym, subst, arith, nat_lt, ◌==◌, option_map, bytes_eq, codes, length-append, ℤ, pos, negsuc, neg_ℤ, ◌+ℤ◌, ◌*ℤ◌, unsigned_abs, lt-ltb, le-leb, ltb-true, ltb-false, eqb-true, mul-le-mul_left}
-use Rattle.std.specs.List.{AllByRecursion, range_with_len}
-use Rattle.std.proofs.lemmas.Int.{ints}
-use Rattle.std.proofs.lemmas.List.FromFn.{length-map-range_with_len}
-use Rattle.std.proofs.lemmas.Bool.{and_from, not-false}
-use Rattle.script_spec.proofs.TextLaws.{faultless_some}
-use Rattle.script_spec.proofs.NumeralLaws.{natural_small}
-use Rattle.list_laws.proofs.Each.{each_push}
-use Rattle.list_laws.proofs.Truth.{and_first}
+use Rattle.script_laws.proofs.Words.{◌≡◌, ℕ, zero, suc, ◌+◌, ◌-◌, ◌*◌, ◌^◌, ◌<◌, ◌≤◌, List, [], ◌∷◌, ◌++◌, length, map, Bool, true, false, cond, not, ◌&&◌, ◌||◌, Option, Some, None, IfOk, refl, sym, subst, arith, nat_lt, ◌==◌, option_map, bytes_eq, codes, length-append, ℤ, pos, negsuc, neg_ℤ, ◌+ℤ◌, ◌*ℤ◌, unsigned_abs, lt-ltb, le-leb, ltb-true, ltb-false, eqb-true, mul-le-mul_left, AllByRecursion, range_with_len, ints, length-map-range_with_len, and_from, not-false, faultless_some, natural_small, each_push, and_first, Values, Numbers, Text, Class, most_elements, most_values, is_number, are_values, count_of, Word, Plain, Quoted, Broken, natural_of, number_of_text, refuse_if, or_fault, bare, reads_as, size, ended, within_limits, one_value, each_value, sequence_count, numbers_between, term, sequence, is_term, last_number, wrong_kind, may_be, are_numbers, are_patterns, seq_values, seqx_values, patterns_between, pattern_values, text_values, number_for, pattern_for, listed_values, listed_kind, values}
 use Rattle.nc_base.specs.declared.errors.ScriptKind.TheVariants as kind
 use Rattle.nc_base.specs.declared.errors.LimitName.TheVariants as limit
-use Rattle.nc_base.specs.declared.request.Values.{Values}
-use Rattle.nc_base.specs.declared.request.Values.TheVariants.{Numbers, Text}
 use Rattle.serial_spec.specs.ExternalForm as class
-use Rattle.serial_spec.specs.ExternalForm.{Class}
-use Rattle.serial_spec.specs.Limits.{most_elements}
-use Rattle.serial_spec.specs.Lawful.{most_values, is_number, are_values}
-use Rattle.nc_base.specs.Values.{count_of}
-use Rattle.script_spec.specs.ScriptWords.{Word, Plain, Quoted, Broken, natural_of, number_of_text}
-use Rattle.script_spec.specs.ScriptSteps.{refuse_if, or_fault, bare, reads_as, size, ended}
-use Rattle.script_spec.specs.ScriptValues.{within_limits, one_value, each_value, sequence_count, numbers_between, term, sequence, is_term, last_number, wrong_kind, may_be, are_numbers, are_patterns, seq_values, seqx_values, patterns_between, pattern_values, text_values, number_for, pattern_for, listed_values, listed_kind, values}
 use Rattle.script_laws.proofs.ListLaws.{all_pass}
 use Rattle.script_laws.proofs.StepLaws.{first_then, then_with, ok_then, by_test, unless_refused}
 use Rattle.script_laws.proofs.ValueLaws.{patterns_long}

@@ -1,20 +1,5 @@
 -- The calls of all ranks, line by line.
-use Rattle.std.proofs.Common.{◌≡◌, ◌∙◌, ℕ, zero, suc, ◌+◌, ◌≤◌, List, [], ◌∷◌, ◌++◌, length, map, replicate, sum, Bool, true, false, not, Option, Some, None, Result, Ok, IfOk, IfSome, refl, sym, ap, subst, arith, ◌==◌, slice_set, bytes_eq, codes, length-set, length-append, append-nil, le_of_eq}
-use Rattle.std.specs.List.{AllByRecursion, list_any, list_all, enumerate_from}
-use Rattle.std.proofs.lemmas.List.Elements.{filter_map-append}
-use Rattle.std.proofs.lemmas.List.Folds.{list_any-append}
-use Rattle.std.proofs.lemmas.List.{length-replicate}
-use Rattle.std.proofs.lemmas.Bool.{and_from, not_from_false, not-true, or_from}
-use Rattle.script_spec.proofs.TextLaws.{one_posted, none_posted}
-use Rattle.list_laws.proofs.Each.{each_push}
-use Rattle.list_laws.proofs.Truth.{and_first, and_second, or_first_false, or_second_false}
-use Rattle.nc_base.specs.declared.errors.ScriptErr.{ScriptErr}
-use Rattle.nc_base.specs.declared.request.Call.{Call}
-use Rattle.serial_spec.specs.Lawful.{most_values, is_lawful_call, values_in_call, posted_ids, are_different}
-use Rattle.script_spec.specs.ScriptWords.{Word, Line}
-use Rattle.script_spec.specs.ScriptSteps.{◌>>=◌, bare, next}
-use Rattle.script_spec.specs.ScriptCalls.{id_of_post, posted, is_posted, Called, calls_of, rank_of_text, with_call, call_of, call_line, called_after}
-use Rattle.script_spec.specs.ScriptGrammar.{at_line, call_step, data_part}
+use Rattle.script_laws.proofs.Words.{◌≡◌, ◌∙◌, ℕ, zero, suc, ◌+◌, ◌≤◌, List, [], ◌∷◌, ◌++◌, length, map, replicate, sum, Bool, true, false, not, Option, Some, None, Result, Ok, IfOk, IfSome, refl, sym, ap, subst, arith, ◌==◌, slice_set, bytes_eq, codes, length-set, length-append, append-nil, le_of_eq, AllByRecursion, list_any, list_all, enumerate_from, filter_map-append, list_any-append, length-replicate, and_from, not_from_false, not-true, or_from, one_posted, none_posted, each_push, and_first, and_second, or_first_false, or_second_false, ScriptErr, Call, most_values, is_lawful_call, values_in_call, posted_ids, are_different, Word, Line, ◌>>=◌, bare, next, id_of_post, posted, is_posted, Called, calls_of, rank_of_text, with_call, call_of, call_line, called_after, at_line, call_step, data_part}
 use Rattle.script_laws.proofs.ListLaws.{sum_cons, sum_more, all_pass}
 use Rattle.script_laws.proofs.StepLaws.{first_then, then_with, ok_then, by_test, whole_line, at_line_kept}
 use Rattle.script_laws.proofs.CallLaws.{FitsCall, call_read}

@@ -1,18 +1,6 @@
 -- What is defined after a line, and what is known then.
-use Rattle.std.proofs.Common.{◌≡◌, ℕ, zero, suc, ◌+◌, ◌≤◌, sum, map, List, [], ◌∷◌, ◌++◌, length, replicate, true, false, Option, Some, None, Ok, Err, IfOk, IfSome, refl, subst, arith, ◌==◌, count_by, slice_set, bytes_eq, codes, length-append, is_some}
-use Rattle.std.specs.List.{AllByRecursion}
-use Rattle.std.proofs.lemmas.Option.{same_Some}
-use Rattle.list_laws.proofs.Each.{each_push, each_weaker}
+use Rattle.script_laws.proofs.Words.{◌≡◌, ℕ, zero, suc, ◌+◌, ◌≤◌, sum, map, List, [], ◌∷◌, ◌++◌, length, replicate, true, false, Option, Some, None, Ok, Err, IfOk, IfSome, refl, subst, arith, ◌==◌, count_by, slice_set, bytes_eq, codes, length-append, is_some, AllByRecursion, same_Some, each_push, each_weaker, Dim, Attr, Var, most_dims, most_vars, most_values, attr_values, extra_values, Word, ◌>>=◌, refuse_if, reads_as, ended, HintForm, Within, Either, hint_form, hint_in, hint_of_text, hint_value, hint_line, ranks_line, number_within, one_of_two, is_unlimited, dim_line, var_line, owner_of_text, owner_place, attribute, Defined, no_definition, with_dim, with_var, with_attr_of_owner, with_title, att_line, dim_definition, var_definition, fill_line, definition, nothing_added, Known, nothing_known, addition, known_after}
 use Rattle.nc_base.specs.declared.errors.ScriptKind.TheVariants as kind
-use Rattle.nc_base.specs.declared.header.Dim.{Dim}
-use Rattle.nc_base.specs.declared.header.Attr.{Attr}
-use Rattle.nc_base.specs.declared.header.Var.{Var}
-use Rattle.serial_spec.specs.Limits.{most_dims, most_vars}
-use Rattle.serial_spec.specs.Lawful.{most_values, attr_values, extra_values}
-use Rattle.script_spec.specs.ScriptWords.{Word}
-use Rattle.script_spec.specs.ScriptSteps.{◌>>=◌, refuse_if, reads_as, ended}
-use Rattle.script_spec.specs.HintTable.{HintForm, Within, Either, hint_form, hint_in, hint_of_text}
-use Rattle.script_spec.specs.ScriptDefinitions.{hint_value, hint_line, ranks_line, number_within, one_of_two, is_unlimited, dim_line, var_line, owner_of_text, owner_place, attribute, Defined, no_definition, with_dim, with_var, with_attr_of_owner, with_title, att_line, dim_definition, var_definition, fill_line, definition, nothing_added, Known, nothing_known, addition, known_after}
 use Rattle.script_laws.proofs.ListLaws.{sum_more}
 use Rattle.script_laws.proofs.StepLaws.{first_then, then_with, by_test, read_as}
 use Rattle.script_laws.proofs.WordLaws.{InRange, within_read, one_of_two_read}

@@ -1,30 +1,8 @@
 -- Dimensions, variables and attributes as they are defined, line by line.
-use Rattle.std.proofs.Common.{◌≡◌, ◌∙◌, ℕ, suc, ◌+◌, ◌*◌, ◌^◌, ◌<◌, ◌≤◌, List, [], ◌∷◌, ◌++◌, length, drop, Bool, true, false, cond, ◌&&◌, ◌||◌, Option, Some, None, IfOk, IfSome, refl, ap, arith, nat_lt, nat_le, ◌==◌, count_by, sum, map, slice_get, slice_set, position, bytes_eq, length-append, length-set}
-use Rattle.std.specs.List.{AllByRecursion, list_any}
+use Rattle.script_laws.proofs.Words.{◌≡◌, ◌∙◌, ℕ, suc, ◌+◌, ◌*◌, ◌^◌, ◌<◌, ◌≤◌, List, [], ◌∷◌, ◌++◌, length, drop, Bool, true, false, cond, ◌&&◌, ◌||◌, Option, Some, None, IfOk, IfSome, refl, ap, arith, nat_lt, nat_le, ◌==◌, count_by, sum, map, slice_get, slice_set, position, bytes_eq, length-append, length-set, AllByRecursion, list_any, length-map, sum_by-cons, and_from, position_below, get_left, each_push, each_weaker, each_later, each_at, fails_each, and_second, ScriptKind, NcType, Dim, Attr, Var, Values, most_dims, most_dims_of_var, most_vars, record_limit, most_values, attr_values, is_whole_attr, size_of, count_of, fits_count, is_type, is_writable_dim, is_writable_attr, Word, is_name, refuse_if, or_fault, reads_as, name, ended, values, type_of, is_among, length_of_text, is_unlimited, dim_names, dim_line, var_head, name_list, dim_ids, is_record_dim, var_names, shape, var_line, Title, attr_of, attribute_name, attribute, external_bytes, same_title, with_attr_at}
 use borrow.Author.Tests.{ltb-false, leb-false, eq-eqb}
-use Rattle.std.proofs.lemmas.List.{length-map}
-use Rattle.std.proofs.lemmas.List.Sums.{sum_by-cons}
-use Rattle.std.proofs.lemmas.Bool.{and_from}
-use Rattle.list_laws.proofs.Places.{position_below, get_left}
-use Rattle.list_laws.proofs.Each.{each_push, each_weaker, each_later, each_at, fails_each}
-use Rattle.list_laws.proofs.Truth.{and_second}
-use Rattle.nc_base.specs.declared.errors.ScriptKind.{ScriptKind}
 use Rattle.nc_base.specs.declared.errors.ScriptKind.TheVariants as kind
 use Rattle.nc_base.specs.declared.errors.LimitName.TheVariants as limit
-use Rattle.nc_base.specs.declared.header.NcType.{NcType}
-use Rattle.nc_base.specs.declared.header.Dim.{Dim}
-use Rattle.nc_base.specs.declared.header.Attr.{Attr}
-use Rattle.nc_base.specs.declared.header.Var.{Var}
-use Rattle.nc_base.specs.declared.request.Values.{Values}
-use Rattle.serial_spec.specs.Limits.{most_dims, most_dims_of_var, most_vars, record_limit}
-use Rattle.serial_spec.specs.Lawful.{most_values, attr_values, is_whole_attr}
-use Rattle.serial_spec.specs.ExternalForm.{size_of}
-use Rattle.nc_base.specs.Values.{count_of}
-use Rattle.serial_spec.specs.SoundHeaders.{fits_count, is_type, is_writable_dim, is_writable_attr}
-use Rattle.script_spec.specs.ScriptWords.{Word, is_name}
-use Rattle.script_spec.specs.ScriptSteps.{refuse_if, or_fault, reads_as, name, ended}
-use Rattle.script_spec.specs.ScriptValues.{values}
-use Rattle.script_spec.specs.ScriptDefinitions.{type_of, is_among, length_of_text, is_unlimited, dim_names, dim_line, var_head, name_list, dim_ids, is_record_dim, var_names, shape, var_line, Title, attr_of, attribute_name, attribute, external_bytes, same_title, with_attr_at}
 use Rattle.script_laws.proofs.ListLaws.{all_both, all_set, count_more, sum_set, sum_more, found_all}
 use Rattle.script_laws.proofs.StepLaws.{first_then, then_with, unless_refused, read_as}
 use Rattle.script_laws.proofs.WordLaws.{name_short, named, type_read, length_read, small_fits, length_fits}

@@ -1,20 +1,6 @@
 -- The header of a script for a new dataset.
-use Rattle.std.proofs.Common.{◌≡◌, ℕ, ◌^◌, ◌<◌, ◌≤◌, List, length, drop, Bool, true, false, not, Option, Some, None, refl, arith, nat_le, ◌==◌, count_by, slice_get}
-use Rattle.std.specs.List.{AllByRecursion, list_any, list_all}
+use Rattle.script_laws.proofs.Words.{◌≡◌, ℕ, ◌^◌, ◌<◌, ◌≤◌, List, length, drop, Bool, true, false, not, Option, Some, None, refl, arith, nat_le, ◌==◌, count_by, slice_get, AllByRecursion, list_any, list_all, lt-leb, and_from, not_from_false, not-true, Dim, Attr, Var, Script, most_dims, most_vars, most_dims_of_var, length_of, is_version, two_record_dims, record_later, is_record_id, bad_id, counts_are_small, is_writable_list, is_writable_dim, is_writable_attr, is_unplaced, has_writable_names, has_writable_parts, is_unlimited, is_record_dim, Defined, header_of, most_lines, Reads}
 use borrow.Author.Tests.{le-leb, le-ltb}
-use Rattle.std.proofs.lemmas.Bool.{lt-leb, and_from, not_from_false, not-true}
-use Rattle.nc_base.specs.declared.header.Dim.{Dim}
-use Rattle.nc_base.specs.declared.header.Attr.{Attr}
-use Rattle.nc_base.specs.declared.header.Var.{Var}
-use Rattle.nc_base.specs.declared.script.Script.{Script}
-use Rattle.serial_spec.specs.Limits.{most_dims, most_vars, most_dims_of_var}
-use Rattle.serial_spec.specs.Layout.{length_of}
-use Rattle.serial_spec.specs.HeaderBytes.{is_version}
-use Rattle.serial_spec.specs.HeaderFaults.{two_record_dims, record_later, is_record_id, bad_id}
-use Rattle.serial_spec.specs.SoundHeaders.{counts_are_small, is_writable_list, is_writable_dim, is_writable_attr}
-use Rattle.var_layout.specs.Unplaced.{is_unplaced, has_writable_names, has_writable_parts}
-use Rattle.script_spec.specs.ScriptDefinitions.{is_unlimited, is_record_dim, Defined}
-use Rattle.script_spec.specs.ScriptGrammar.{header_of, most_lines, Reads}
 use Rattle.script_laws.proofs.ListLaws.{all_pass, none_passes}
 use Rattle.script_laws.proofs.WordLaws.{small_fits}
 use Rattle.script_laws.proofs.DimLaws.{FitsDim, FitsAttr, FitsVar}

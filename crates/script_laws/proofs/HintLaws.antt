@@ -1,9 +1,6 @@
 -- The hints of a script are within their ranges.
-use Rattle.std.proofs.Common.{◌≡◌, ℕ, ◌*◌, ◌/◌, ◌%◌, ◌≤◌, List, true, Option, min, arith}
-use Rattle.std.proofs.lemmas.Bool.{and_from}
+use Rattle.script_laws.proofs.Words.{◌≡◌, ℕ, ◌*◌, ◌/◌, ◌%◌, ◌≤◌, List, true, Option, min, arith, and_from, is_within, is_alignment, are_lawful_hints, hint_in, hint_or, hints_of}
 use borrow.Author.Tests.{le-leb, eq-eqb}
-use Rattle.serial_spec.specs.Lawful.{is_within, is_alignment, are_lawful_hints}
-use Rattle.script_spec.specs.HintTable.{hint_in, hint_or, hints_of}
 use Rattle.script_laws.proofs.WordLaws.{InRange}
 use Rattle.script_laws.proofs.DefinedLaws.{FitHints}
 use Rattle.script_laws.proofs.RunLaws.{or_default, header_aligned, var_aligned}

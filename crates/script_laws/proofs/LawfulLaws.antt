@@ -1,18 +1,5 @@
 -- A script that is read is lawful.
-use Rattle.std.proofs.Common.{◌≡◌, ◌∙◌, ℕ, ◌≤◌, List, length, map, sum, Bool, true, false, cond, not, ◌&&◌, refl, ap, arith, nat_le, ◌==◌, le-leb, lt-ltb, eq-eqb, eqb-true}
-use Rattle.std.specs.List.{AllByRecursion, list_all}
-use Rattle.std.proofs.lemmas.Bool.{and_from}
-use Rattle.nc_base.specs.declared.header.Dim.{Dim}
-use Rattle.nc_base.specs.declared.header.Attr.{Attr}
-use Rattle.nc_base.specs.declared.header.Var.{Var}
-use Rattle.nc_base.specs.declared.request.Call.{Call}
-use Rattle.nc_base.specs.declared.script.Script.{Script}
-use Rattle.serial_spec.specs.Limits.{most_dims, most_vars, most_dims_of_var, record_limit}
-use Rattle.serial_spec.specs.HeaderBytes.{is_version}
-use Rattle.serial_spec.specs.Lawful.{most_values, most_calls, is_lawful_dim, is_lawful_var, is_nothing_defined, is_lawful_header, is_lawful_extra, is_whole_attr, is_whole_extra, has_whole_attrs, added_dims, added_vars, values_in_script, is_lawful}
-use Rattle.serial_spec.specs.Lists.{is_empty}
-use Rattle.script_spec.specs.ScriptDefinitions.{Defined, no_definition, Added, nothing_added, Known}
-use Rattle.script_spec.specs.ScriptGrammar.{script_of, header_of, most_lines, Reads}
+use Rattle.script_laws.proofs.Words.{◌≡◌, ◌∙◌, ℕ, ◌≤◌, List, length, map, sum, Bool, true, false, cond, not, ◌&&◌, refl, ap, arith, nat_le, ◌==◌, le-leb, lt-ltb, eq-eqb, eqb-true, AllByRecursion, list_all, and_from, Dim, Attr, Var, Call, Script, most_dims, most_vars, most_dims_of_var, record_limit, is_version, most_values, most_calls, is_lawful_dim, is_lawful_var, is_nothing_defined, is_lawful_header, is_lawful_extra, is_whole_attr, is_whole_extra, has_whole_attrs, added_dims, added_vars, values_in_script, is_lawful, is_empty, Defined, no_definition, Added, nothing_added, Known, script_of, header_of, most_lines, Reads}
 use Rattle.script_laws.proofs.ListLaws.{all_pass}
 use Rattle.script_laws.proofs.DimLaws.{FitsDim, FitsAttr, FitsVar, attr_whole}
 use Rattle.script_laws.proofs.DefinedLaws.{FitsDefined, FitsKnown}

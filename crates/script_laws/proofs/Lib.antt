@@ -1,3 +1,4 @@
+mod Words
 mod StepLaws
 pub mod ListLaws
 mod WordLaws

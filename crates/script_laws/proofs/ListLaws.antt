@@ -1,10 +1,5 @@
 -- Lists whose elements all are of one kind.
-use Rattle.std.proofs.Common.{◌≡◌, ℕ, zero, suc, ◌+◌, ◌≤◌, cond, sum, count_by, ap, arith, List, [], ◌∷◌, ◌++◌, map, Bool, true, false, Option, Some, None, IfSome, slice_get, slice_set, option_map, refl}
-use Rattle.std.specs.List.{AllByRecursion, list_any, list_all}
-use Rattle.std.proofs.lemmas.List.Sums.{sum_by-cons, sum_by_push}
-use Rattle.std.proofs.lemmas.Option.{same_Some}
-use Rattle.std.proofs.lemmas.Bool.{and_from, or_from}
-use Rattle.script_spec.specs.ScriptWords.{all_some}
+use Rattle.script_laws.proofs.Words.{◌≡◌, ℕ, zero, suc, ◌+◌, ◌≤◌, cond, sum, count_by, ap, arith, List, [], ◌∷◌, ◌++◌, map, Bool, true, false, Option, Some, None, IfSome, slice_get, slice_set, option_map, refl, AllByRecursion, list_any, list_all, sum_by-cons, sum_by_push, same_Some, and_from, or_from, all_some}
 
 -- ---- all of them
 

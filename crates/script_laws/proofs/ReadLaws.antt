@@ -1,21 +1,7 @@
 -- A whole script that is read.
-use Rattle.std.proofs.Common.{◌≡◌, ℕ, suc, ◌+◌, ◌≤◌, List, [], ◌∷◌, length, take, Bool, true, false, cond, not, ◌&&◌, Option, Some, None, Result, Ok, Err, IfOk, IfSome, refl, subst, arith, nat_lt, nat_le, ◌==◌, bytes_eq, codes, length-append}
-use Rattle.std.specs.Str.Lossy.{utf8_valid_len}
-use Rattle.std.specs.List.{enumerate_from}
-use Rattle.std.proofs.lemmas.List.FromFn.{length-enumerate_from}
-use Rattle.std.proofs.lemmas.Option.{cond_some}
+use Rattle.script_laws.proofs.Words.{◌≡◌, ℕ, suc, ◌+◌, ◌≤◌, List, [], ◌∷◌, length, take, Bool, true, false, cond, not, ◌&&◌, Option, Some, None, Result, Ok, Err, IfOk, IfSome, refl, subst, arith, nat_lt, nat_le, ◌==◌, bytes_eq, codes, length-append, utf8_valid_len, enumerate_from, length-enumerate_from, cond_some, faultless_some, ScriptErr, Call, Script, is_version, agree, Word, Plain, Quoted, Broken, Line, text_lines, significant, significant_of, line_of, words, is_comment, size_of_text, ◌>>=◌, or_fault, bare, reads_as, ended, whole, Known, nothing_known, known_after, at_line, version_of_text, version_line, head, data_line, definition_step, definitions, data_part, finish, script_of, no_calls, script_of_lines, most_bytes, most_lines, newlines, is_mismatch, too_many_lines, within_lines, script_of_utf8, script_of_text, Reads}
 use borrow.Author.Tests.{ltb-false}
-use Rattle.script_spec.proofs.TextLaws.{faultless_some}
 use Rattle.nc_base.specs.declared.errors.ScriptKind.TheVariants as kind
-use Rattle.nc_base.specs.declared.errors.ScriptErr.{ScriptErr}
-use Rattle.nc_base.specs.declared.request.Call.{Call}
-use Rattle.nc_base.specs.declared.script.Script.{Script}
-use Rattle.serial_spec.specs.HeaderBytes.{is_version}
-use Rattle.serial_spec.specs.Lawful.{agree}
-use Rattle.script_spec.specs.ScriptWords.{Word, Plain, Quoted, Broken, Line, text_lines, significant, significant_of, line_of, words, is_comment, size_of_text}
-use Rattle.script_spec.specs.ScriptSteps.{◌>>=◌, or_fault, bare, reads_as, ended, whole}
-use Rattle.script_spec.specs.ScriptDefinitions.{Known, nothing_known, known_after}
-use Rattle.script_spec.specs.ScriptGrammar.{at_line, version_of_text, version_line, head, data_line, definition_step, definitions, data_part, finish, script_of, no_calls, script_of_lines, most_bytes, most_lines, newlines, is_mismatch, too_many_lines, within_lines, script_of_utf8, script_of_text, Reads}
 use Rattle.script_laws.proofs.StepLaws.{first_then, then_with, ok_then, by_test, if_read, read_as, whole_line, at_line_kept}
 use Rattle.script_laws.proofs.WordLaws.{InRange}
 use Rattle.script_laws.proofs.CalledLaws.{FitsCalled, calls_read, no_calls_fit}

@@ -1,11 +1,6 @@
 -- The hints and the calls of a script, and the header of one for an existing dataset.
-use Rattle.std.proofs.Common.{◌≡◌, ◌∙◌, ℕ, ◌≤◌, List, length, false, Option, Some, None, refl, ap, arith, ◌==◌, unwrap_or}
-use Rattle.std.proofs.lemmas.Bool.{not-false}
+use Rattle.script_laws.proofs.Words.{◌≡◌, ◌∙◌, ℕ, ◌≤◌, List, length, false, Option, Some, None, refl, ap, arith, ◌==◌, unwrap_or, not-false, Script, hint_in, hint_or, Defined, no_definition, header_of, Reads}
 use borrow.Author.Tests.{eqb-true}
-use Rattle.nc_base.specs.declared.script.Script.{Script}
-use Rattle.script_spec.specs.HintTable.{hint_in, hint_or}
-use Rattle.script_spec.specs.ScriptDefinitions.{Defined, no_definition}
-use Rattle.script_spec.specs.ScriptGrammar.{header_of, Reads}
 use Rattle.script_laws.proofs.WordLaws.{InRange}
 use Rattle.script_laws.proofs.DefinedLaws.{FitHints}
 use Rattle.script_laws.proofs.ReadLaws.{read_script}

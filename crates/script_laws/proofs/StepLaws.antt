@@ -1,10 +1,5 @@
 -- Steps that succeed, from word to word.
-use Rattle.std.proofs.Common.{◌≡◌, ℕ, List, Bool, true, false, Option, Some, Result, Ok, Err, IfOk, refl, subst}
-use Rattle.script_spec.proofs.TextLaws.{faultless_some}
-use Rattle.nc_base.specs.declared.errors.ScriptKind.{ScriptKind}
-use Rattle.script_spec.specs.ScriptWords.{Word}
-use Rattle.script_spec.specs.ScriptSteps.{◌>>=◌, refuse_if, or_fault, reads_as, next, ended, whole}
-use Rattle.script_spec.specs.ScriptGrammar.{at_line}
+use Rattle.script_laws.proofs.Words.{◌≡◌, ℕ, List, Bool, true, false, Option, Some, Result, Ok, Err, IfOk, refl, subst, faultless_some, ScriptKind, Word, ◌>>=◌, refuse_if, or_fault, reads_as, next, ended, whole, at_line}
 
 pub first_then : {A B E : Type 0} (m : Result A E) (f : A → Result B E) (P : B → Type 0) → ((x : A) → m ≡ Ok x → IfOk (f x) P) → IfOk (m >>= f) P
 first_then (Ok x) f P h = h x refl

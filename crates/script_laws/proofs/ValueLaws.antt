@@ -1,24 +1,11 @@
 -- How many values are read, and how many bytes they have.
-use Rattle.std.proofs.Common.{◌≡◌, ◌∙◌, ℕ, ◌+◌, ◌*◌, ◌≤◌, List, [], ◌∷◌, ◌++◌, length, Bool, not, ◌&&◌, Option, IfOk, refl, arith, nat_lt, is_some, flat_map, bytes_eq, codes, length-append}
+use Rattle.script_laws.proofs.Words.{◌≡◌, ◌∙◌, ℕ, ◌+◌, ◌*◌, ◌≤◌, List, [], ◌∷◌, ◌++◌, length, Bool, not, ◌&&◌, Option, IfOk, refl, arith, nat_lt, is_some, flat_map, bytes_eq, codes, length-append, length-map-range_with_len, NcType, Values, Numbers, Text, Bits, Class, size_of, ext, most_elements, most_values, count_of, Word, Plain, Quoted, Broken, number_of_text, bits_of_text, refuse_if, or_fault, bare, reads_as, size, ended, within_limits, one_value, each_value, sequence_count, numbers_between, patterns_between, term, pattern_term, is_term, is_pattern_term, last_number, last_pattern, wrong_kind, may_be, are_numbers, are_patterns, are_text, seq_values, seqx_values, pattern_values, text_values, number_values, bits_values, number_for, pattern_for, listed_values, listed_kind, values, external_bytes, ext_long}
 use borrow.Author.Tests.{ltb-false}
-use Rattle.std.proofs.lemmas.List.FromFn.{length-map-range_with_len}
 use Rattle.nc_base.specs.declared.errors.ScriptKind.TheVariants as kind
 use Rattle.nc_base.specs.declared.errors.LimitName.TheVariants as limit
-use Rattle.nc_base.specs.declared.header.NcType.{NcType}
 use Rattle.nc_base.specs.declared.request.Value.TheVariants as value
-use Rattle.nc_base.specs.declared.request.Values.{Values}
-use Rattle.nc_base.specs.declared.request.Values.TheVariants.{Numbers, Text, Bits}
 use Rattle.serial_spec.specs.ExternalForm as class
-use Rattle.serial_spec.specs.ExternalForm.{Class, size_of, ext}
-use Rattle.serial_spec.specs.Limits.{most_elements}
-use Rattle.serial_spec.specs.Lawful.{most_values}
-use Rattle.nc_base.specs.Values.{count_of}
-use Rattle.script_spec.specs.ScriptWords.{Word, Plain, Quoted, Broken, number_of_text, bits_of_text}
-use Rattle.script_spec.specs.ScriptSteps.{refuse_if, or_fault, bare, reads_as, size, ended}
-use Rattle.script_spec.specs.ScriptValues.{within_limits, one_value, each_value, sequence_count, numbers_between, patterns_between, term, pattern_term, is_term, is_pattern_term, last_number, last_pattern, wrong_kind, may_be, are_numbers, are_patterns, are_text, seq_values, seqx_values, pattern_values, text_values, number_values, bits_values, number_for, pattern_for, listed_values, listed_kind, values}
-use Rattle.script_spec.specs.ScriptDefinitions.{external_bytes}
 use Rattle.script_laws.proofs.StepLaws.{first_then, then_with, ok_then, by_test, unless_refused}
-use Rattle.serial_spec.proofs.ValueLaws.{ext_long}
 
 -- ---- how many
 

@@ -1,23 +1,8 @@
 -- What single words say.
-use Rattle.std.proofs.Common.{◌≡◌, ℕ, ◌*◌, ◌%◌, ◌^◌, ◌<◌, ◌≤◌, List, [], ◌∷◌, length, Bool, true, false, cond, ◌&&◌, Option, Some, None, IfOk, refl, subst, arith, nat_lt, nat_le, ◌==◌, find, bytes_eq, codes}
-use Rattle.std.specs.List.{list_all}
-use Rattle.std.specs.Int.{w32, w64, byte_len}
-use Rattle.std.proofs.lemmas.Bool.Decides.{nat_tests}
-use Rattle.std.proofs.lemmas.Option.{cond_some}
+use Rattle.script_laws.proofs.Words.{◌≡◌, ℕ, ◌*◌, ◌%◌, ◌^◌, ◌<◌, ◌≤◌, List, [], ◌∷◌, length, Bool, true, false, cond, ◌&&◌, Option, Some, None, IfOk, refl, subst, arith, nat_lt, nat_le, ◌==◌, find, bytes_eq, codes, list_all, w32, w64, byte_len, nat_tests, cond_some, and_first, and_second, NcType, file_limit, record_limit, number_of, last_type, fits_count, is_type, type_word, Word, below, size_of_text, is_name, starts_name, in_name, name, name_of_text, types, number_within, one_of_two, type_of, length_of_text, below_read}
 use borrow.Author.Tests.{ltb-true, leb-true, eqb-true}
-use Rattle.list_laws.proofs.Truth.{and_first, and_second}
 use Rattle.nc_base.specs.declared.errors.ScriptKind.TheVariants as kind
-use Rattle.nc_base.specs.declared.header.NcType.{NcType}
-use Rattle.serial_spec.specs.Limits.{file_limit, record_limit}
-use Rattle.serial_spec.specs.HeaderBytes.{number_of, last_type}
-use Rattle.serial_spec.specs.SoundHeaders.{fits_count, is_type}
-use Rattle.script_spec.specs.Texts.{type_word}
-use Rattle.script_spec.specs.ScriptWords.{Word, below, size_of_text, is_name, starts_name, in_name}
-use Rattle.script_spec.specs.ScriptSteps.{name, name_of_text}
-use Rattle.serial_spec.specs.ExternalForm.{types}
-use Rattle.script_spec.specs.ScriptDefinitions.{number_within, one_of_two, type_of, length_of_text}
 use Rattle.script_laws.proofs.StepLaws.{read_as}
-use Rattle.script_spec.proofs.NumeralLaws.{below_read}
 
 -- ---- names
 

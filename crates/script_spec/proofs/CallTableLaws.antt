@@ -1,18 +1,6 @@
 -- What each row of the table of calls keeps, and that each lawful call that names no region is made by a row.
-use Rattle.std.proofs.Common.{◌≡◌, ◌∙◌, ℕ, List, [], Bool, true, false, find, ◌&&◌, ◌==◌, Option, Some, None, bytes_eq, refl, sym, ap, eq-eqb}
-use Rattle.std.specs.List.{AllByRecursion}
-use Rattle.std.proofs.lemmas.Bool.{and_from, and_parts, eqb-true}
-use Rattle.std.proofs.lemmas.List.Folds.{find_at}
-use Rattle.list_laws.proofs.Each.{each_at}
-use Rattle.nc_base.specs.declared.request.Choice.{Choice}
-use Rattle.nc_base.specs.declared.request.Call.{Call}
+use Rattle.script_spec.proofs.Words.{◌≡◌, ◌∙◌, ℕ, List, [], Bool, true, false, find, ◌&&◌, ◌==◌, Option, Some, None, bytes_eq, refl, sym, ap, eq-eqb, AllByRecursion, and_from, and_parts, eqb-true, find_at, each_at, Choice, Call, is_size, is_lawful_call, values_in_call, id_posted, Word, row_call, call_of, call_word, choice_words, words_behind, call_words, Family, Size, Record, Behind, CallRow, call_table, row_of_text, row_of, plain_word, in_row, of_behind}
 use Rattle.nc_base.specs.declared.request.Call.TheVariants as call
-use Rattle.serial_spec.specs.Lawful.{is_size, is_lawful_call, values_in_call, id_posted}
-use Rattle.script_spec.specs.ScriptWords.{Word}
-use Rattle.script_spec.specs.ScriptCalls.{row_call, call_of}
-use Rattle.script_spec.specs.Texts.{call_word}
-use Rattle.script_spec.specs.Shown.{choice_words, words_behind, call_words}
-use Rattle.script_spec.specs.CallTable.{Family, Size, Record, Behind, CallRow, call_table, row_of_text, row_of, plain_word, in_row, of_behind}
 
 abbrev pub HasNoRegion : Call → Type 0
 HasNoRegion (call.Put all name given values) = ⊥

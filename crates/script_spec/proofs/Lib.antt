@@ -1,3 +1,4 @@
+mod Words
 pub mod CallTableLaws
 pub mod NumeralLaws
 pub mod TextLaws

@@ -1,13 +1,5 @@
 -- Lines of a text and their words, steps that tell a fault, and the ids that are posted.
-use Rattle.std.proofs.Common.{◌≡◌, ℕ, ◌<◌, List, [], ◌∷◌, length, map, Option, Some, None, Result, Ok, Err, refl, arith}
-use Rattle.nc_base.specs.declared.errors.ScriptErr.{ScriptErr}
-use Rattle.nc_base.specs.declared.errors.ScriptKind.{ScriptKind}
-use Rattle.nc_base.specs.declared.request.Call.{Call}
-use Rattle.serial_spec.specs.History.{kinds}
-use Rattle.script_spec.specs.ScriptWords.{Line, Word, first_word, without_empty_end}
-use Rattle.script_spec.specs.ScriptSteps.{or_fault}
-use Rattle.script_spec.specs.ScriptCalls.{posted, id_of_post, mismatch}
-use Rattle.script_spec.specs.ScriptGrammar.{finish}
+use Rattle.script_spec.proofs.Words.{◌≡◌, ℕ, ◌<◌, List, [], ◌∷◌, length, map, Option, Some, None, Result, Ok, Err, refl, arith, ScriptErr, ScriptKind, Call, kinds, Line, Word, first_word, without_empty_end, or_fault, posted, id_of_post, mismatch, finish}
 
 pub first_line_kept : (x : List ℕ) (zs : List (List ℕ)) → 0 < length zs → without_empty_end (x ∷ zs) ≡ x ∷ without_empty_end zs
 first_line_kept x [] h = absurd (omega arith)

@@ -1,16 +1,7 @@
 -- The lines that add to a dataset that is opened, each with its statement.
-use Rattle.std.proofs.Common.{◌≡◌, ◌∙◌, ℕ, ◌+◌, List, [], ◌∷◌, ◌++◌, Bool, true, false, Option, Result, Ok, Err, refl, sym, ap, subst, append_assoc, bytes_eq, codes}
-use Rattle.std.specs.List.{list_any}
-use Rattle.nc_base.specs.declared.errors.ScriptKind.{ScriptKind}
+use Rattle.script_spelling.proofs.Words.{◌≡◌, ◌∙◌, ℕ, ◌+◌, List, [], ◌∷◌, ◌++◌, Bool, true, false, Option, Result, Ok, Err, refl, sym, ap, subst, append_assoc, bytes_eq, codes, list_any, ScriptKind, Attr, Word, Plain, reads_as, ended, dim_line, var_head, owner_of_text, owner_name, same_title, attribute, added_shape, Added, dim_addition, var_addition, att_addition, addition, Known, went, same_ok, is_end, VarLine, DimIs, VarIs, AttIs, owner_word, Says, extras_in}
 use Rattle.nc_base.specs.declared.errors.ScriptKind.TheVariants as kind
-use Rattle.nc_base.specs.declared.header.Attr.{Attr}
 use Rattle.nc_base.specs.declared.script.Extra.TheVariants as extra
-use Rattle.script_spec.specs.ScriptWords.{Word, Plain}
-use Rattle.script_spec.specs.ScriptSteps.{reads_as, ended}
-use Rattle.script_spec.specs.ScriptDefinitions.{dim_line, var_head, owner_of_text, owner_name, same_title, attribute, added_shape, Added, dim_addition, var_addition, att_addition, addition, Known}
-use Rattle.script_text.proofs.Steps.{went, same_ok, is_end}
-use Rattle.script_spelling.specs.Statements.{VarLine, DimIs, VarIs, AttIs, owner_word, Says}
-use Rattle.script_spelling.specs.Described.{extras_in}
 use Rattle.script_spelling.proofs.LinesRead.{dim_said, added_said, owner_said, attr_said}
 use Rattle.script_spelling.proofs.TakenLines.{Fine, Taken}
 use Rattle.script_spelling.proofs.NewDefinitions.{titles_by, at_first}

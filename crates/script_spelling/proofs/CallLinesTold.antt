@@ -1,24 +1,7 @@
 -- Lines that spell the calls of a lawful script are read as its calls.
-use Rattle.std.proofs.Common.{◌≡◌, ◌∙◌, ℕ, zero, suc, ◌+◌, ◌<◌, ◌≤◌, List, [], ◌∷◌, ◌++◌, map, drop, length, Bool, true, false, nat_lt, Some, slice_get, Result, Ok, Err, refl, sym, ap, subst, length-set, arith, bytes_eq, codes}
-use Rattle.std.specs.List.{AllZip, list_all, enumerate_from}
-use Rattle.std.proofs.lemmas.Bool.{and_parts, cond-true, lt-ltb, ltb-true}
-use Rattle.std.proofs.lemmas.List.Folds.{list_all-append}
-use Rattle.list_laws.proofs.Each.{passes_at}
-use Rattle.list_laws.proofs.Places.{first_same, entry_numbered}
-use Rattle.nc_base.specs.declared.errors.ScriptKind.{ScriptKind}
+use Rattle.script_spelling.proofs.Words.{◌≡◌, ◌∙◌, ℕ, zero, suc, ◌+◌, ◌<◌, ◌≤◌, List, [], ◌∷◌, ◌++◌, map, drop, length, Bool, true, false, nat_lt, Some, slice_get, Result, Ok, Err, refl, sym, ap, subst, length-set, arith, bytes_eq, codes, AllZip, list_all, enumerate_from, and_parts, cond-true, lt-ltb, ltb-true, list_all-append, passes_at, first_same, entry_numbered, ScriptKind, Call, most_values, is_lawful_call, values_in_call, posted_ids, are_different, call_word, Word, Plain, Line, begins_rank, digits_value, Called, calls_of, rank_of_text, with_call, call_line, call_of, called_after, at_line, call_step, data_part, go_on, by_false, bytes_same, count, count_all, count_set, data_by, NewId, SpellsCall, SpellsCallLine, calls_in}
 use Rattle.nc_base.specs.declared.errors.ScriptKind.TheVariants as kind
-use Rattle.nc_base.specs.declared.request.Call.{Call}
-use Rattle.serial_spec.specs.Lawful.{most_values, is_lawful_call, values_in_call, posted_ids, are_different}
-use Rattle.script_spec.specs.Texts.{call_word}
-use Rattle.script_spec.specs.ScriptWords.{Word, Plain, Line, begins_rank, digits_value}
-use Rattle.script_spec.specs.ScriptCalls.{Called, calls_of, rank_of_text, with_call, call_line, call_of, called_after}
-use Rattle.script_spec.specs.ScriptGrammar.{at_line, call_step, data_part}
-use Rattle.script_text.proofs.Steps.{go_on, by_false}
-use Rattle.script_text.proofs.Places.{bytes_same}
-use Rattle.script_text.proofs.CallLines.{count, count_all, count_set, data_by}
-use Rattle.script_text.proofs.ExpressedCalls.{NewId, new_id}
-use Rattle.script_spelling.specs.SpelledCalls.{SpellsCall, SpellsCallLine}
-use Rattle.script_spelling.specs.Described.{calls_in}
+use Rattle.script_text.proofs.ExpressedCalls.{new_id}
 use Rattle.script_spelling.proofs.CallLinesRead.{with_calls, no_more, here, one_first, words_of}
 use Rattle.script_spelling.proofs.CallsTold.{call_told}
 

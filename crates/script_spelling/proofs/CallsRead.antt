@@ -1,33 +1,7 @@
 -- The words of calls that are read spell them, and each rank has the calls of its lines.
-use Rattle.std.proofs.Common.{◌≡◌, ◌∙◌, ℕ, ◌-◌, List, [], ◌∷◌, ◌++◌, take, drop, length, Bool, true, false, Option, Some, None, option_map, Result, Ok, refl, sym, ap, subst, append-nil, bytes_eq, codes}
-use Rattle.std.proofs.lemmas.List.{take-append-drop}
-use Rattle.std.proofs.lemmas.Option.{cond_some}
-use Rattle.list_laws.proofs.Maps.{found_passes}
-use Rattle.script_spec.proofs.TextLaws.{faultless_some}
-use Rattle.nc_base.specs.declared.errors.ScriptKind.{ScriptKind}
+use Rattle.script_spelling.proofs.Words.{◌≡◌, ◌∙◌, ℕ, ◌-◌, List, [], ◌∷◌, ◌++◌, take, drop, length, Bool, true, false, Option, Some, None, option_map, Result, Ok, refl, sym, ap, subst, append-nil, bytes_eq, codes, take-append-drop, cond_some, found_passes, faultless_some, ScriptKind, Values, Numbers, Form, PostKind, Iput, Iget, Bput, Choice, Every, Listed, Given, Call, call_word, form_word, kind_word, with_all, Word, Plain, Quoted, Broken, is_word, ◌>>=◌, refuse_if, or_fault, reads_as, size, name, ended, whole, values, after_prefix, before_suffix, forms, form_of_text, form_and_all, region, id_of_text, one_id, ids, choice, posted, is_posted, new_id, put_call, get_call, post_values, post_call, behind, row_call, plain_call, post_of_text, call_of, Family, Requests, Size, Name, Record, Nothing, Behind, CallRow, call_table, row_of_text, HasNoRegion, IsRow, found_row, made_word, went, same_ok, is_end, whole_value, carried, bytes_same, Each, SpellsPosted, SpellsChoice, SpellsPlace, SpellsBehind, SpellsInRow, SpellsPlain, SpellsCall, some_of_map}
 use Rattle.nc_base.specs.declared.errors.ScriptKind.TheVariants as kind
-use Rattle.nc_base.specs.declared.request.Values.{Values}
-use Rattle.nc_base.specs.declared.request.Values.TheVariants.{Numbers}
-use Rattle.nc_base.specs.declared.request.Form.{Form}
-use Rattle.nc_base.specs.declared.request.PostKind.{PostKind}
-use Rattle.nc_base.specs.declared.request.PostKind.TheVariants.{Iput, Iget, Bput}
-use Rattle.nc_base.specs.declared.request.Choice.{Choice}
-use Rattle.nc_base.specs.declared.request.Choice.TheVariants.{Every, Listed}
-use Rattle.nc_base.specs.declared.request.Given.{Given}
-use Rattle.nc_base.specs.declared.request.Call.{Call}
 use Rattle.nc_base.specs.declared.request.Call.TheVariants as call
-use Rattle.script_spec.specs.Texts.{call_word, form_word, kind_word, with_all}
-use Rattle.script_spec.specs.ScriptWords.{Word, Plain, Quoted, Broken, is_word}
-use Rattle.script_spec.specs.ScriptSteps.{◌>>=◌, refuse_if, or_fault, reads_as, size, name, ended, whole}
-use Rattle.script_spec.specs.ScriptValues.{values}
-use Rattle.script_spec.specs.ScriptCalls.{after_prefix, before_suffix, forms, form_of_text, form_and_all, region, id_of_text, one_id, ids, choice, posted, is_posted, new_id, put_call, get_call, post_values, post_call, behind, row_call, plain_call, post_of_text, call_of}
-use Rattle.script_spec.specs.CallTable.{Family, Requests, Size, Name, Record, Nothing, Behind, CallRow, call_table, row_of_text}
-use Rattle.script_spec.proofs.CallTableLaws.{HasNoRegion, IsRow, found_row, made_word}
-use Rattle.script_text.proofs.Steps.{went, same_ok, is_end, whole_value, carried}
-use Rattle.script_text.proofs.Places.{bytes_same}
-use Rattle.script_spelling.specs.SpelledValues.{Each}
-use Rattle.script_spelling.specs.SpelledCalls.{SpellsPosted, SpellsChoice, SpellsPlace, SpellsBehind, SpellsInRow, SpellsPlain, SpellsCall}
-use Rattle.list_laws.proofs.Optional.{some_of_map}
 use Rattle.script_spelling.proofs.WordsRead.{WordRead, word_is, one_is, name_is, size_is}
 use Rattle.script_spelling.proofs.ValuesRead.{EachRead, each_on, values_spelled, region_spelled, region_of_form}
 

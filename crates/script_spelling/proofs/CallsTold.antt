@@ -1,33 +1,7 @@
 -- Words that spell a lawful call are read as this call.
-use Rattle.std.proofs.Common.{◌≡◌, ◌∙◌, ℕ, ◌+◌, ◌≤◌, List, [], ◌∷◌, ◌++◌, Bool, true, false, Option, Some, None, Ok, refl, sym, ap, subst, append_assoc, append-nil, codes}
-use Rattle.std.proofs.lemmas.Bool.{and_parts, leb-true}
-use Rattle.nc_base.specs.Values.{count_of}
+use Rattle.script_spelling.proofs.Words.{◌≡◌, ◌∙◌, ℕ, ◌+◌, ◌≤◌, List, [], ◌∷◌, ◌++◌, Bool, true, false, Option, Some, None, Ok, refl, sym, ap, subst, append_assoc, append-nil, codes, and_parts, leb-true, count_of, Values, Numbers, Text, Bits, PostKind, Iput, Iget, Bput, Choice, Every, Listed, Given, Call, most_elements, most_values, is_given, are_values, is_post_of, is_lawful_call, values_in_call, call_word, Word, Plain, is_word, size_of_text, refuse_if, reads_as, size, name, whole, values, region, id_of_text, one_id, ids, choice, posted, is_posted, new_id, put_call, get_call, post_values, post_call, behind, call_of, Family, Requests, Size, Name, Record, Nothing, Behind, CallRow, HasNoRegion, IsRow, made_word, of_row, go_on, passed, faultless, word_read, carry_on, by_false, HasRoom, name_again, put_word, get_word, post_word, NewId, Each, SpellsPosted, SpellsChoice, SpellsPlace, SpellsBehind, SpellsInRow, SpellsPlain, SpellsCall}
 use Rattle.nc_base.specs.declared.errors.ScriptKind.TheVariants as kind
-use Rattle.nc_base.specs.declared.request.Values.{Values}
-use Rattle.nc_base.specs.declared.request.Values.TheVariants.{Numbers, Text, Bits}
-use Rattle.nc_base.specs.declared.request.PostKind.{PostKind}
-use Rattle.nc_base.specs.declared.request.PostKind.TheVariants.{Iput, Iget, Bput}
-use Rattle.nc_base.specs.declared.request.Choice.{Choice}
-use Rattle.nc_base.specs.declared.request.Choice.TheVariants.{Every, Listed}
-use Rattle.nc_base.specs.declared.request.Given.{Given}
-use Rattle.nc_base.specs.declared.request.Call.{Call}
 use Rattle.nc_base.specs.declared.request.Call.TheVariants as call
-use Rattle.serial_spec.specs.Limits.{most_elements}
-use Rattle.serial_spec.specs.Lawful.{most_values, is_given, are_values, is_post_of, is_lawful_call, values_in_call}
-use Rattle.script_spec.specs.Texts.{call_word}
-use Rattle.script_spec.specs.ScriptWords.{Word, Plain, is_word, size_of_text}
-use Rattle.script_spec.specs.ScriptSteps.{refuse_if, reads_as, size, name, whole}
-use Rattle.script_spec.specs.ScriptValues.{values}
-use Rattle.script_spec.specs.ScriptCalls.{region, id_of_text, one_id, ids, choice, posted, is_posted, new_id, put_call, get_call, post_values, post_call, behind, call_of}
-use Rattle.script_spec.specs.CallTable.{Family, Requests, Size, Name, Record, Nothing, Behind, CallRow}
-use Rattle.script_spec.proofs.CallTableLaws.{HasNoRegion, IsRow, made_word, of_row}
-use Rattle.script_text.proofs.Steps.{go_on, passed, faultless, word_read, carry_on, by_false}
-use Rattle.script_text.proofs.PrintedValues.{HasRoom}
-use Rattle.script_text.proofs.PrintedRegions.{name_again}
-use Rattle.script_text.proofs.CallTokens.{put_word, get_word, post_word}
-use Rattle.script_text.proofs.ExpressedCalls.{NewId}
-use Rattle.script_spelling.specs.SpelledValues.{Each}
-use Rattle.script_spelling.specs.SpelledCalls.{SpellsPosted, SpellsChoice, SpellsPlace, SpellsBehind, SpellsInRow, SpellsPlain, SpellsCall}
 use Rattle.script_spelling.proofs.ValuesTold.{other_word, values_told}
 use Rattle.script_spelling.proofs.RegionsTold.{region_told}
 

@@ -1,30 +1,7 @@
 -- A line that says a statement leads on to where the later statements lead to the same.
-use Rattle.std.proofs.Common.{◌≡◌, ◌∙◌, ℕ, suc, ◌+◌, ◌<◌, ◌≤◌, List, [], ◌∷◌, ◌++◌, length, Bool, true, false, cond, ◌==◌, Option, Some, None, is_some, slice_set, Ok, refl, sym, ap, subst, length-set, append_assoc, arith, bytes_eq, codes}
-use Rattle.std.proofs.lemmas.Bool.{eqb-true}
-use Rattle.list_laws.proofs.Truth.{equal_itself}
-use Rattle.list_laws.proofs.Places.{position_below}
-use Rattle.nc_base.specs.Values.{count_of}
+use Rattle.script_spelling.proofs.Words.{◌≡◌, ◌∙◌, ℕ, suc, ◌+◌, ◌<◌, ◌≤◌, List, [], ◌∷◌, ◌++◌, length, Bool, true, false, cond, ◌==◌, Option, Some, None, is_some, slice_set, Ok, refl, sym, ap, subst, length-set, append_assoc, arith, bytes_eq, codes, eqb-true, equal_itself, position_below, count_of, Dim, Attr, Var, Values, Extra, most_values, values_in_extra, Word, Plain, ◌>>=◌, refuse_if, reads_as, hint_table, hint_form, hint_in, ranks_line, dim_ids, dim_line, var_head, var_names, var_line, owner_of_text, owner_place, attribute, Defined, with_dim, with_var, with_attr_of_owner, with_attr_at, with_title, att_line, definition, Added, added_shape, addition, Known, go_on, word_read, by_false, more_ids, HasRoom, Leads, pushes, found_name, count_attrs, count_own, count-attr, count-var, count-pushed, leads_by, hint_leads, VarLine, Statement, RanksAre, HintIs, IsFilled, DimIs, VarIs, AttIs, owner_word, Says, Stand, title_of, at_most_one, ranks_in, hint_values, fills_in, dims_in, vars_in, own_attrs, attrs_of, extras_in}
 use Rattle.nc_base.specs.declared.errors.ScriptKind.TheVariants as kind
-use Rattle.nc_base.specs.declared.header.Dim.{Dim}
-use Rattle.nc_base.specs.declared.header.Attr.{Attr}
-use Rattle.nc_base.specs.declared.header.Var.{Var}
-use Rattle.nc_base.specs.declared.request.Values.{Values}
-use Rattle.nc_base.specs.declared.script.Extra.{Extra}
 use Rattle.nc_base.specs.declared.script.Extra.TheVariants as extra
-use Rattle.serial_spec.specs.Lawful.{most_values, values_in_extra}
-use Rattle.script_spec.specs.ScriptWords.{Word, Plain}
-use Rattle.script_spec.specs.ScriptSteps.{◌>>=◌, refuse_if, reads_as}
-use Rattle.script_spec.specs.HintTable.{hint_table, hint_form, hint_in}
-use Rattle.script_spec.specs.ScriptDefinitions.{ranks_line, dim_ids, dim_line, var_head, var_names, var_line, owner_of_text, owner_place, attribute, Defined, with_dim, with_var, with_attr_of_owner, with_attr_at, with_title, att_line, definition, Added, added_shape, addition, Known}
-use Rattle.script_text.proofs.Steps.{go_on, word_read, by_false}
-use Rattle.script_text.proofs.Places.{more_ids}
-use Rattle.script_text.proofs.PrintedValues.{HasRoom}
-use Rattle.script_text.proofs.AddedLines.{Leads}
-use Rattle.script_text.proofs.DefinedChains.{pushes, found_name, count_attrs, count_own, count-attr, count-var, count-pushed}
-use Rattle.script_text.proofs.DefinedLines.{leads_by}
-use Rattle.script_text.proofs.KnownLines.{hint_leads}
-use Rattle.script_spelling.specs.Statements.{VarLine, Statement, RanksAre, HintIs, IsFilled, DimIs, VarIs, AttIs, owner_word, Says, Stand, title_of}
-use Rattle.script_spelling.specs.Described.{at_most_one, ranks_in, hint_values, fills_in, dims_in, vars_in, own_attrs, attrs_of, extras_in}
 use Rattle.script_spelling.proofs.GrownVars.{are_apart, apart_pushed, names_pushed, names_kept, later_names, GrownVars}
 use Rattle.script_spelling.proofs.TakenLines.{flag, Part, Grown, Fine, hint_here, hint_elsewhere, differ}
 use Rattle.script_spelling.proofs.NewDefinitions.{defined_next}

@@ -1,17 +1,5 @@
 -- The variables of a new dataset, and what later lines give them.
-use Rattle.std.proofs.Common.{◌≡◌, ◌∙◌, ℕ, zero, suc, List, [], ◌∷◌, ◌++◌, map, position, Bool, true, false, not, cond, ◌&&◌, Some, refl, sym, ap, subst, ⊎_elim, append_assoc, append-nil, bytes_eq}
-use Rattle.std.specs.List.{AllZip}
-use Rattle.std.proofs.lemmas.Bool.{and_parts, and_from, or_parts, or_from, or_left, not-true, not_from_false, cond-true, cond-false}
-use Rattle.std.proofs.lemmas.List.{map-append}
-use Rattle.std.proofs.lemmas.List.Folds.{list_any-append}
-use Rattle.nc_base.specs.declared.header.Dim.{Dim}
-use Rattle.nc_base.specs.declared.header.Attr.{Attr}
-use Rattle.nc_base.specs.declared.header.Var.{Var}
-use Rattle.script_spec.specs.ScriptDefinitions.{dim_ids, is_among, var_names, Title}
-use Rattle.script_text.proofs.Places.{bytes_same, bytes_own, Later, place_cases}
-use Rattle.script_text.proofs.DefinedChains.{with_own, push_attr}
-use Rattle.script_spelling.specs.Statements.{VarLine, Statement, RanksAre, HintIs, IsFilled, DimIs, VarIs, AttIs, Stand}
-use Rattle.script_spelling.specs.Described.{vars_in, IsVarOf}
+use Rattle.script_spelling.proofs.Words.{◌≡◌, ◌∙◌, ℕ, zero, suc, List, [], ◌∷◌, ◌++◌, map, position, Bool, true, false, not, cond, ◌&&◌, Some, refl, sym, ap, subst, ⊎_elim, append_assoc, append-nil, bytes_eq, AllZip, and_parts, and_from, or_parts, or_from, or_left, not-true, not_from_false, cond-true, cond-false, map-append, list_any-append, Dim, Attr, Var, dim_ids, is_among, var_names, Title, bytes_same, bytes_own, Later, place_cases, with_own, push_attr, VarLine, Statement, RanksAre, HintIs, IsFilled, DimIs, VarIs, AttIs, Stand, vars_in, IsVarOf}
 
 -- ---- names
 

@@ -1,26 +1,11 @@
 -- Each line between the head and `data` says a statement, and what is known at `data` is what the statements say.
-use Rattle.std.proofs.Common.{◌≡◌, ◌∙◌, ℕ, ◌+◌, List, [], ◌∷◌, ◌++◌, map, Bool, true, false, cond, ◌==◌, Option, Some, None, slice_set, Result, Ok, Err, refl, sym, ap, subst, append-nil, arith, bytes_eq, codes}
-use Rattle.std.specs.List.{AllZip}
-use Rattle.script_spec.proofs.TextLaws.{faultless_some}
-use Rattle.nc_base.specs.declared.errors.ScriptKind.{ScriptKind}
+use Rattle.script_spelling.proofs.Words.{◌≡◌, ◌∙◌, ℕ, ◌+◌, List, [], ◌∷◌, ◌++◌, map, Bool, true, false, cond, ◌==◌, Option, Some, None, slice_set, Result, Ok, Err, refl, sym, ap, subst, append-nil, arith, bytes_eq, codes, AllZip, faultless_some, ScriptKind, ScriptErr, Word, Plain, Quoted, Broken, Line, ◌>>=◌, or_fault, hint_in, hint_line, ranks_line, definition, addition, Known, definition_or_addition, known_after, at_line, data_line, definition_step, definitions, went, same_ok, whole_value, bytes_same, line_ok, Statement, Says, at_most_one, defined_by}
 use Rattle.nc_base.specs.declared.errors.ScriptKind.TheVariants as kind
-use Rattle.nc_base.specs.declared.errors.ScriptErr.{ScriptErr}
-use Rattle.script_spec.specs.ScriptWords.{Word, Plain, Quoted, Broken, Line}
-use Rattle.script_spec.specs.ScriptSteps.{◌>>=◌, or_fault}
-use Rattle.script_spec.specs.HintTable.{hint_in}
-use Rattle.script_spec.specs.ScriptDefinitions.{hint_line, ranks_line, definition, addition, Known, definition_or_addition, known_after}
-use Rattle.script_spec.specs.ScriptGrammar.{at_line, data_line, definition_step, definitions}
-use Rattle.script_text.proofs.Steps.{went, same_ok, whole_value}
-use Rattle.script_text.proofs.Places.{bytes_same}
-use Rattle.script_text.proofs.CallLines.{line_ok}
-use Rattle.script_spelling.specs.Statements.{Statement, Says}
-use Rattle.script_spelling.specs.Described.{at_most_one}
 use Rattle.script_spelling.proofs.GrownVars.{none_grown}
 use Rattle.script_spelling.proofs.CallLinesRead.{words_of}
 use Rattle.script_spelling.proofs.TakenLines.{Part, Grown, Fine, Taken, ranks_taken, hint_taken}
 use Rattle.script_spelling.proofs.NewDefinitions.{defined_next, at_first, definition_taken}
 use Rattle.script_spelling.proofs.AddedDefinitions.{added_next, addition_taken}
-use Rattle.script_text.proofs.AddedLines.{defined_by}
 
 -- ---- each line
 

@@ -1,19 +1,6 @@
 -- Lines that say statements are read up to `data`, and what is known then is what the statements say.
-use Rattle.std.proofs.Common.{◌≡◌, ◌∙◌, ℕ, suc, ◌+◌, ◌≤◌, List, [], ◌∷◌, ◌++◌, map, drop, Bool, true, false, ◌==◌, Option, Some, None, unwrap_or, Result, Ok, Err, refl, sym, ap, append-nil, arith, codes}
-use Rattle.std.specs.List.{AllZip}
-use Rattle.list_laws.proofs.Places.{first_same}
-use Rattle.nc_base.specs.declared.errors.ScriptKind.{ScriptKind}
+use Rattle.script_spelling.proofs.Words.{◌≡◌, ◌∙◌, ℕ, suc, ◌+◌, ◌≤◌, List, [], ◌∷◌, ◌++◌, map, drop, Bool, true, false, ◌==◌, Option, Some, None, unwrap_or, Result, Ok, Err, refl, sym, ap, append-nil, arith, codes, AllZip, first_same, ScriptKind, Hints, most_values, Word, Plain, Quoted, Broken, Line, ◌>>=◌, or_fault, whole, HintRow, hint_table, hint_in, hint_or, no_hints, set_hints, hints_of, Defined, Known, at_line, definition_step, definitions, Leads, defined_by, step_again, Statement, Says, at_most_one}
 use Rattle.nc_base.specs.declared.errors.ScriptKind.TheVariants as kind
-use Rattle.nc_base.specs.declared.script.Hints.{Hints}
-use Rattle.serial_spec.specs.Lawful.{most_values}
-use Rattle.script_spec.specs.ScriptWords.{Word, Plain, Quoted, Broken, Line}
-use Rattle.script_spec.specs.ScriptSteps.{◌>>=◌, or_fault, whole}
-use Rattle.script_spec.specs.HintTable.{HintRow, hint_table, hint_in, hint_or, no_hints, set_hints, hints_of}
-use Rattle.script_spec.specs.ScriptDefinitions.{Defined, Known}
-use Rattle.script_spec.specs.ScriptGrammar.{at_line, definition_step, definitions}
-use Rattle.script_text.proofs.AddedLines.{Leads, defined_by, step_again}
-use Rattle.script_spelling.specs.Statements.{Statement, Says}
-use Rattle.script_spelling.specs.Described.{at_most_one}
 use Rattle.script_spelling.proofs.CallLinesRead.{words_of}
 use Rattle.script_spelling.proofs.TakenLines.{flag, Grown}
 use Rattle.script_spelling.proofs.KnownRead.{lines_version}

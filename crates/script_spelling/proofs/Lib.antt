@@ -1,3 +1,4 @@
+mod Words
 mod WordsRead
 mod ValuesRead
 mod CallsRead

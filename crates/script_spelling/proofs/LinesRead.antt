@@ -1,27 +1,8 @@
 -- What the words of a line between the head and `data` say, where they are read, and that it may stand there.
-use Rattle.std.proofs.Common.{◌≡◌, ◌∙◌, ℕ, zero, suc, ◌<◌, ◌≤◌, List, [], ◌∷◌, position, drop, length, Bool, true, false, not, cond, nat_lt, nat_le, ◌==◌, ◌&&◌, Option, Some, None, is_some, is_none, slice_get, unwrap_or, map, Ok, refl, sym, ap, subst, arith, bytes_eq, codes}
-use Rattle.std.specs.List.{list_any, list_all}
+use Rattle.script_spelling.proofs.Words.{◌≡◌, ◌∙◌, ℕ, zero, suc, ◌<◌, ◌≤◌, List, [], ◌∷◌, position, drop, length, Bool, true, false, not, cond, nat_lt, nat_le, ◌==◌, ◌&&◌, Option, Some, None, is_some, is_none, slice_get, unwrap_or, map, Ok, refl, sym, ap, subst, arith, bytes_eq, codes, list_any, list_all, and_parts, length-map, cond_some, none_of_test, not_some, some_of_map, faultless_some, NcType, Dim, Attr, Var, most_dims, most_dims_of_var, most_vars, Word, Plain, is_name, between_brackets, parts, all_some, refuse_if, or_fault, reads_as, name, name_of_text, ended, values, HintForm, Within, Either, HintRow, hint_table, hint_form, hint_of_text, no_row, hint_in, hint_value, hint_line, ranks_line, number_within, one_of_two, type_of, length_of_text, is_among, dim_names, dim_ids, is_unlimited, is_record_dim, is_added_record, dim_line, var_head, name_list, shape, added_shape, var_names, var_line, owner_of_text, owner_name, Title, same_title, attr_of, attribute_name, attribute, went, same_ok, not_refused, is_end, whole_value, bytes_same, VarLine, RanksAre, HintIs, DimIs, VarIs, AttIs, hint_value_of, owner_word, IsOwner, Says, DimStands, VarStands}
 use borrow.Author.Tests.{not-false, leb-false, ltb-false}
-use Rattle.std.proofs.lemmas.Bool.{and_parts}
-use Rattle.std.proofs.lemmas.List.{length-map}
-use Rattle.std.proofs.lemmas.Option.{cond_some}
-use Rattle.list_laws.proofs.Optional.{none_of_test, not_some, some_of_map}
-use Rattle.script_spec.proofs.TextLaws.{faultless_some}
 use Rattle.nc_base.specs.declared.errors.ScriptKind.TheVariants as kind
 use Rattle.nc_base.specs.declared.errors.LimitName.TheVariants as limit
-use Rattle.nc_base.specs.declared.header.NcType.{NcType}
-use Rattle.nc_base.specs.declared.header.Dim.{Dim}
-use Rattle.nc_base.specs.declared.header.Attr.{Attr}
-use Rattle.nc_base.specs.declared.header.Var.{Var}
-use Rattle.serial_spec.specs.Limits.{most_dims, most_dims_of_var, most_vars}
-use Rattle.script_spec.specs.ScriptWords.{Word, Plain, is_name, between_brackets, parts, all_some}
-use Rattle.script_spec.specs.ScriptSteps.{refuse_if, or_fault, reads_as, name, name_of_text, ended}
-use Rattle.script_spec.specs.ScriptValues.{values}
-use Rattle.script_spec.specs.HintTable.{HintForm, Within, Either, HintRow, hint_table, hint_form, hint_of_text, no_row, hint_in}
-use Rattle.script_spec.specs.ScriptDefinitions.{hint_value, hint_line, ranks_line, number_within, one_of_two, type_of, length_of_text, is_among, dim_names, dim_ids, is_unlimited, is_record_dim, is_added_record, dim_line, var_head, name_list, shape, added_shape, var_names, var_line, owner_of_text, owner_name, Title, same_title, attr_of, attribute_name, attribute}
-use Rattle.script_text.proofs.Steps.{went, same_ok, not_refused, is_end, whole_value}
-use Rattle.script_text.proofs.Places.{bytes_same}
-use Rattle.script_spelling.specs.Statements.{VarLine, RanksAre, HintIs, DimIs, VarIs, AttIs, hint_value_of, owner_word, IsOwner, Says, DimStands, VarStands}
 use Rattle.script_spelling.proofs.WordsRead.{WordRead, word_is, NameRead, name_is}
 use Rattle.script_spelling.proofs.ValuesRead.{values_spelled}
 

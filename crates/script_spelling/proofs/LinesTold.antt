@@ -1,30 +1,7 @@
 -- Words that say a statement are read as what they say, where it may stand.
-use Rattle.std.proofs.Common.{◌≡◌, ◌∙◌, ℕ, suc, ◌<◌, ◌≤◌, List, [], ◌∷◌, map, position, drop, length, Bool, true, false, not, nat_lt, nat_le, ◌==◌, ◌&&◌, ◌||◌, Option, Some, None, Ok, refl, sym, ap, inr, arith, bytes_eq, codes}
-use Rattle.std.specs.List.{list_any, list_all}
-use Rattle.std.proofs.lemmas.Bool.{cond-false, le-ltb, lt-leb}
-use Rattle.std.proofs.lemmas.List.{length-map}
-use Rattle.nc_base.specs.Values.{count_of}
+use Rattle.script_spelling.proofs.Words.{◌≡◌, ◌∙◌, ℕ, suc, ◌<◌, ◌≤◌, List, [], ◌∷◌, map, position, drop, length, Bool, true, false, not, nat_lt, nat_le, ◌==◌, ◌&&◌, ◌||◌, Option, Some, None, Ok, refl, sym, ap, inr, arith, bytes_eq, codes, list_any, list_all, cond-false, le-ltb, lt-leb, length-map, count_of, NcType, Dim, Attr, Var, Values, most_dims, most_dims_of_var, most_vars, Word, Plain, is_name, between_brackets, parts, refuse_if, or_fault, reads_as, name, values, HintForm, Within, Either, hint_value, ranks_line, number_within, one_of_two, type_of, length_of_text, is_among, dim_names, dim_ids, is_unlimited, is_record_dim, is_added_record, dim_line, var_head, name_list, shape, added_shape, var_names, var_line, owner_of_text, owner_name, owner_place, Title, same_title, attr_of, attribute_name, attribute, go_on, passed, faultless, word_read, by_false, place_here, place_later, HasRoom, name_again, owner_again, no_colon, SpellsValues, VarLine, hint_value_of, owner_word, IsOwner, DimStands, VarStands}
 use Rattle.nc_base.specs.declared.errors.ScriptKind.TheVariants as kind
 use Rattle.nc_base.specs.declared.errors.LimitName.TheVariants as limit
-use Rattle.nc_base.specs.declared.header.NcType.{NcType}
-use Rattle.nc_base.specs.declared.header.Dim.{Dim}
-use Rattle.nc_base.specs.declared.header.Attr.{Attr}
-use Rattle.nc_base.specs.declared.header.Var.{Var}
-use Rattle.nc_base.specs.declared.request.Values.{Values}
-use Rattle.serial_spec.specs.Limits.{most_dims, most_dims_of_var, most_vars}
-use Rattle.script_spec.specs.ScriptWords.{Word, Plain, is_name, between_brackets, parts}
-use Rattle.script_spec.specs.ScriptSteps.{refuse_if, or_fault, reads_as, name}
-use Rattle.script_spec.specs.ScriptValues.{values}
-use Rattle.script_spec.specs.HintTable.{HintForm, Within, Either}
-use Rattle.script_spec.specs.ScriptDefinitions.{hint_value, ranks_line, number_within, one_of_two, type_of, length_of_text, is_among, dim_names, dim_ids, is_unlimited, is_record_dim, is_added_record, dim_line, var_head, name_list, shape, added_shape, var_names, var_line, owner_of_text, owner_name, owner_place, Title, same_title, attr_of, attribute_name, attribute}
-use Rattle.script_text.proofs.Steps.{go_on, passed, faultless, word_read, by_false}
-use Rattle.script_text.proofs.Places.{place_here, place_later}
-use Rattle.script_text.proofs.PrintedValues.{HasRoom}
-use Rattle.script_text.proofs.PrintedRegions.{name_again}
-use Rattle.script_text.proofs.AddedLines.{owner_again}
-use Rattle.script_text.proofs.DefinedLines.{no_colon}
-use Rattle.script_spelling.specs.SpelledValues.{SpellsValues}
-use Rattle.script_spelling.specs.Statements.{VarLine, hint_value_of, owner_word, IsOwner, DimStands, VarStands}
 use Rattle.script_spelling.proofs.LinesRead.{all_found}
 use Rattle.script_spelling.proofs.ValuesTold.{values_told}
 

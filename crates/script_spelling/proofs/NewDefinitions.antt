@@ -1,21 +1,6 @@
 -- The lines that define a new dataset, each with its statement.
-use Rattle.std.proofs.Common.{◌≡◌, ◌∙◌, ℕ, ◌+◌, List, [], ◌∷◌, ◌++◌, position, Bool, true, false, not, Option, Some, None, is_some, Result, Ok, Err, refl, sym, ap, subst, ⊎_elim, append_assoc, arith, bytes_eq, codes}
-use Rattle.std.specs.List.{list_any}
-use Rattle.std.proofs.lemmas.Bool.{or_left, or_right}
-use Rattle.script_spec.proofs.TextLaws.{faultless_some}
-use Rattle.nc_base.specs.declared.errors.ScriptKind.{ScriptKind}
+use Rattle.script_spelling.proofs.Words.{◌≡◌, ◌∙◌, ℕ, ◌+◌, List, [], ◌∷◌, ◌++◌, position, Bool, true, false, not, Option, Some, None, is_some, Result, Ok, Err, refl, sym, ap, subst, ⊎_elim, append_assoc, arith, bytes_eq, codes, list_any, or_left, or_right, faultless_some, ScriptKind, Dim, Attr, Var, Word, Plain, ◌>>=◌, refuse_if, or_fault, reads_as, ended, is_among, dim_ids, dim_line, var_line, var_names, owner_of_text, owner_place, Title, same_title, attribute, Defined, with_dim, with_var, with_title, with_attr_of_owner, with_attr_at, att_line, dim_definition, var_definition, fill_line, definition, Known, went, same_ok, not_refused, is_end, Later, bytes_same, more_ids, place_cases, pushes, Statement, IsFilled, DimIs, VarIs, AttIs, owner_word, IsOwner, Says, title_of, Stand, dims_in, vars_in, own_attrs, attrs_of}
 use Rattle.nc_base.specs.declared.errors.ScriptKind.TheVariants as kind
-use Rattle.nc_base.specs.declared.header.Dim.{Dim}
-use Rattle.nc_base.specs.declared.header.Attr.{Attr}
-use Rattle.nc_base.specs.declared.header.Var.{Var}
-use Rattle.script_spec.specs.ScriptWords.{Word, Plain}
-use Rattle.script_spec.specs.ScriptSteps.{◌>>=◌, refuse_if, or_fault, reads_as, ended}
-use Rattle.script_spec.specs.ScriptDefinitions.{is_among, dim_ids, dim_line, var_line, var_names, owner_of_text, owner_place, Title, same_title, attribute, Defined, with_dim, with_var, with_title, with_attr_of_owner, with_attr_at, att_line, dim_definition, var_definition, fill_line, definition, Known}
-use Rattle.script_text.proofs.Steps.{went, same_ok, not_refused, is_end}
-use Rattle.script_text.proofs.Places.{Later, bytes_same, more_ids, place_cases}
-use Rattle.script_text.proofs.DefinedChains.{pushes}
-use Rattle.script_spelling.specs.Statements.{Statement, IsFilled, DimIs, VarIs, AttIs, owner_word, IsOwner, Says, title_of, Stand}
-use Rattle.script_spelling.specs.Described.{dims_in, vars_in, own_attrs, attrs_of}
 use Rattle.script_spelling.proofs.LinesRead.{dim_said, var_said, owner_said, attr_said}
 use Rattle.script_spelling.proofs.GrownVars.{are_apart, apart_pushed, names_pushed, names_kept, later_names, GrownVars, var_first, attr_first}
 use Rattle.script_spelling.proofs.TakenLines.{flag, Fine, Taken}

@@ -1,21 +1,8 @@
 -- Words that spell a region are read as this region, and what follows them is left.
-use Rattle.std.proofs.Common.{◌≡◌, ◌∙◌, ℕ, ◌≤◌, List, [], ◌∷◌, ◌++◌, flat_map, length, true, false, not, nat_lt, ◌==◌, ◌&&◌, Ok, refl, sym, ap, subst, append_assoc, append-nil, arith}
-use Rattle.std.proofs.lemmas.Bool.{and_parts, le-ltb, leb-true, ne_eqb}
+use Rattle.script_spelling.proofs.Words.{◌≡◌, ◌∙◌, ℕ, ◌≤◌, List, [], ◌∷◌, ◌++◌, flat_map, length, true, false, not, nat_lt, ◌==◌, ◌&&◌, Ok, refl, sym, ap, subst, append_assoc, append-nil, arith, and_parts, le-ltb, leb-true, ne_eqb, Form, Given, Part, most_parts, has_lists_of, is_given, is_empty, Word, Plain, size_of_text, list_of_text, refuse_if, size, list, part, part_list, many_regions, region, go_on, passed, word_read, carry_on, empty_list, region_with, same_region, SpellsOne, Each, SpellsForm, SpellsRegion}
 use Rattle.nc_base.specs.declared.errors.ScriptKind.TheVariants as kind
 use Rattle.nc_base.specs.declared.errors.LimitName.TheVariants as limit
-use Rattle.nc_base.specs.declared.request.Form.{Form}
 use Rattle.nc_base.specs.declared.request.Form.TheVariants as form
-use Rattle.nc_base.specs.declared.request.Given.{Given}
-use Rattle.nc_base.specs.declared.request.Part.{Part}
-use Rattle.serial_spec.specs.Lawful.{most_parts, has_lists_of, is_given}
-use Rattle.serial_spec.specs.Lists.{is_empty}
-use Rattle.script_spec.specs.ScriptWords.{Word, Plain, size_of_text, list_of_text}
-use Rattle.script_spec.specs.ScriptSteps.{refuse_if, size, list}
-use Rattle.script_spec.specs.ScriptCalls.{part, part_list, many_regions, region}
-use Rattle.script_text.proofs.Steps.{go_on, passed, word_read, carry_on}
-use Rattle.script_text.proofs.Lines.{empty_list}
-use Rattle.script_text.proofs.PrintedRegions.{region_with, same_region}
-use Rattle.script_spelling.specs.SpelledValues.{SpellsOne, Each, SpellsForm, SpellsRegion}
 
 -- ---- lists and parts
 

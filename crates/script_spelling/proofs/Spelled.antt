@@ -1,29 +1,6 @@
 -- A text that is read spells its script.
-use Rattle.std.proofs.Common.{◌≡◌, ◌∙◌, ℕ, zero, suc, ◌+◌, List, [], ◌∷◌, ◌++◌, map, replicate, length, Bool, true, false, not, cond, nat_lt, ◌==◌, Option, Some, None, Result, Ok, Err, refl, sym, ap, subst, append_assoc, arith, bytes_eq, codes}
-use Rattle.std.specs.Str.Lossy.{utf8_valid_len}
-use Rattle.std.specs.List.{AllZip, list_all, range_with_len}
-use Rattle.std.proofs.lemmas.Bool.{eqb-true, ne_eqb}
-use Rattle.std.proofs.lemmas.List.{length-replicate}
-use Rattle.nc_base.specs.declared.errors.ScriptKind.{ScriptKind}
+use Rattle.script_spelling.proofs.Words.{◌≡◌, ◌∙◌, ℕ, zero, suc, ◌+◌, List, [], ◌∷◌, ◌++◌, map, replicate, length, Bool, true, false, not, cond, nat_lt, ◌==◌, Option, Some, None, Result, Ok, Err, refl, sym, ap, subst, append_assoc, arith, bytes_eq, codes, utf8_valid_len, AllZip, list_all, range_with_len, eqb-true, ne_eqb, length-replicate, ScriptKind, Call, Script, Word, Plain, Quoted, Broken, Line, size_of_text, text_lines, significant, is_version, reads_as, whole, hint_in, Known, nothing_known, Called, at_line, version_of_text, version_line, head, definitions, data_part, finish, header_of, script_of, no_calls, script_of_lines, Reads, read_lawful, went, same_ok, whole_value, line_ok, bytes_same, is_text, Statement, Says, Stand, calls_in, fills_in, hint_values, at_most_one, ToDataset, Describes, SpellsCallLine, SpellsHead, version_of_lines, Sections, lines_of, Spells}
 use Rattle.nc_base.specs.declared.errors.ScriptKind.TheVariants as kind
-use Rattle.nc_base.specs.declared.request.Call.{Call}
-use Rattle.nc_base.specs.declared.script.Script.{Script}
-use Rattle.script_spec.specs.ScriptWords.{Word, Plain, Quoted, Broken, Line, size_of_text, text_lines, significant}
-use Rattle.serial_spec.specs.HeaderBytes.{is_version}
-use Rattle.script_spec.specs.ScriptSteps.{reads_as, whole}
-use Rattle.script_spec.specs.HintTable.{hint_in}
-use Rattle.script_spec.specs.ScriptDefinitions.{Known, nothing_known}
-use Rattle.script_spec.specs.ScriptCalls.{Called}
-use Rattle.script_spec.specs.ScriptGrammar.{at_line, version_of_text, version_line, head, definitions, data_part, finish, header_of, script_of, no_calls, script_of_lines, Reads}
-use Rattle.script_laws.proofs.LawfulLaws.{read_lawful}
-use Rattle.script_text.proofs.Steps.{went, same_ok, whole_value}
-use Rattle.script_text.proofs.CallLines.{line_ok}
-use Rattle.script_text.proofs.Places.{bytes_same}
-use Rattle.script_text.proofs.Whole.{is_text}
-use Rattle.script_spelling.specs.Statements.{Statement, Says, Stand}
-use Rattle.script_spelling.specs.Described.{calls_in, fills_in, hint_values, at_most_one, ToDataset, Describes}
-use Rattle.script_spelling.specs.SpelledCalls.{SpellsCallLine}
-use Rattle.script_spelling.specs.Spelling.{SpellsHead, version_of_lines, Sections, lines_of, Spells}
 use Rattle.script_spelling.proofs.WordsRead.{word_is}
 use Rattle.script_spelling.proofs.CallLinesRead.{words_of, from_none, CallsRead, calls_read}
 use Rattle.script_spelling.proofs.TakenLines.{flag, Part, Grown}

@@ -1,15 +1,5 @@
 -- What later statements add to what is known; a line of ranks or of a hint.
-use Rattle.std.proofs.Common.{◌≡◌, ◌∙◌, ℕ, ◌+◌, ◌<◌, List, ◌∷◌, ◌++◌, length, Bool, true, false, cond, ◌==◌, Option, Some, None, slice_set, Ok, refl, sym, ap, subst, length-set, arith, bytes_eq, codes}
-use Rattle.std.proofs.lemmas.Bool.{eqb-true}
-use Rattle.list_laws.proofs.Truth.{equal_true}
-use Rattle.list_laws.proofs.Places.{entry_below, entry_set, entry_set_other, position_below}
-use Rattle.script_spec.specs.ScriptWords.{Word, Plain}
-use Rattle.script_spec.specs.ScriptSteps.{◌>>=◌}
-use Rattle.script_spec.specs.HintTable.{hint_table, hint_in}
-use Rattle.script_spec.specs.ScriptDefinitions.{hint_line, ranks_line, var_names, Known}
-use Rattle.script_text.proofs.Steps.{went, same_ok}
-use Rattle.script_spelling.specs.Statements.{Statement, RanksAre, HintIs, Says, Stand}
-use Rattle.script_spelling.specs.Described.{ranks_in, hint_values, fills_in, dims_in, vars_in, own_attrs, attrs_of, extras_in, at_most_one}
+use Rattle.script_spelling.proofs.Words.{◌≡◌, ◌∙◌, ℕ, ◌+◌, ◌<◌, List, ◌∷◌, ◌++◌, length, Bool, true, false, cond, ◌==◌, Option, Some, None, slice_set, Ok, refl, sym, ap, subst, length-set, arith, bytes_eq, codes, eqb-true, equal_true, entry_below, entry_set, entry_set_other, position_below, Word, Plain, ◌>>=◌, hint_table, hint_in, hint_line, ranks_line, var_names, Known, went, same_ok, Statement, RanksAre, HintIs, Says, Stand, ranks_in, hint_values, fills_in, dims_in, vars_in, own_attrs, attrs_of, extras_in, at_most_one}
 use Rattle.script_spelling.proofs.LinesRead.{ranks_said, hint_said}
 use Rattle.script_spelling.proofs.GrownVars.{are_apart, GrownVars}
 

@@ -1,39 +1,6 @@
 -- A text that spells a script is read as this script.
-use Rattle.std.proofs.Common.{◌≡◌, ◌∙◌, ℕ, ◌+◌, ◌≤◌, List, [], ◌∷◌, ◌++◌, map, sum, drop, length, Bool, true, false, not, cond, ◌==◌, Option, Some, None, Result, Ok, Err, refl, sym, ap, subst, append_assoc, arith, codes}
-use Rattle.std.specs.List.{AllZip}
-use Rattle.std.specs.Str.Lossy.{utf8_valid_len}
-use Rattle.std.proofs.lemmas.Bool.{eq-eqb}
-use Rattle.std.proofs.lemmas.List.{length-replicate}
-use Rattle.list_laws.proofs.Optional.{some_not_none}
-use Rattle.list_laws.proofs.Places.{first_same}
-use Rattle.nc_base.specs.declared.errors.ScriptErr.{ScriptErr}
-use Rattle.nc_base.specs.declared.errors.ScriptKind.{ScriptKind}
+use Rattle.script_spelling.proofs.Words.{◌≡◌, ◌∙◌, ℕ, ◌+◌, ◌≤◌, List, [], ◌∷◌, ◌++◌, map, sum, drop, length, Bool, true, false, not, cond, ◌==◌, Option, Some, None, Result, Ok, Err, refl, sym, ap, subst, append_assoc, arith, codes, AllZip, utf8_valid_len, eq-eqb, length-replicate, some_not_none, first_same, ScriptErr, ScriptKind, Attr, Dim, Header, Var, Call, Extra, Hints, Script, most_values, attr_values, extra_values, values_in_extra, values_in_script, lawful_parts, Word, Plain, Line, text_lines, significant, reads_as, whole, hints_of, no_definition, Defined, Known, nothing_known, at_line, version_of_text, head, definitions, data_part, finish, header_of, script_of, no_calls, script_of_lines, script_of_text, fault_of, script_fault, Reads, sum_cons, go_on, same_ok, word_read, count_all, count_attrs, count_own, agreement, all_counted, finish_by, count_empty, text_again, Statement, RanksAre, HintIs, IsFilled, DimIs, VarIs, AttIs, Says, Stand, calls_in, fills_in, hint_values, at_most_one, ToDataset, Describes, SpellsHead, Sections, lines_of, Spells}
 use Rattle.nc_base.specs.declared.errors.ScriptKind.TheVariants as kind
-use Rattle.nc_base.specs.declared.header.Attr.{Attr}
-use Rattle.nc_base.specs.declared.header.Dim.{Dim}
-use Rattle.nc_base.specs.declared.header.Header.{Header}
-use Rattle.nc_base.specs.declared.header.Var.{Var}
-use Rattle.nc_base.specs.declared.request.Call.{Call}
-use Rattle.nc_base.specs.declared.script.Extra.{Extra}
-use Rattle.nc_base.specs.declared.script.Hints.{Hints}
-use Rattle.nc_base.specs.declared.script.Script.{Script}
-use Rattle.serial_spec.specs.Lawful.{most_values, attr_values, extra_values, values_in_extra, values_in_script}
-use Rattle.serial_spec.proofs.LawfulTests.{lawful_parts}
-use Rattle.script_spec.specs.ScriptWords.{Word, Plain, Line, text_lines, significant}
-use Rattle.script_spec.specs.ScriptSteps.{reads_as, whole}
-use Rattle.script_spec.specs.HintTable.{hints_of}
-use Rattle.script_spec.specs.ScriptDefinitions.{no_definition, Defined, Known, nothing_known}
-use Rattle.script_spec.specs.ScriptGrammar.{at_line, version_of_text, head, definitions, data_part, finish, header_of, script_of, no_calls, script_of_lines, script_of_text, fault_of, script_fault, Reads}
-use Rattle.script_laws.proofs.ListLaws.{sum_cons}
-use Rattle.script_text.proofs.Steps.{go_on, same_ok, word_read}
-use Rattle.script_text.proofs.CallLines.{count_all}
-use Rattle.script_text.proofs.DefinedChains.{count_attrs, count_own}
-use Rattle.script_text.proofs.Expressed.{agreement}
-use Rattle.script_text.proofs.ExpressedCalls.{all_counted}
-use Rattle.script_text.proofs.Whole.{finish_by, count_empty, text_again}
-use Rattle.script_spelling.specs.Statements.{Statement, RanksAre, HintIs, IsFilled, DimIs, VarIs, AttIs, Says, Stand}
-use Rattle.script_spelling.specs.Described.{calls_in, fills_in, hint_values, at_most_one, ToDataset, Describes}
-use Rattle.script_spelling.specs.Spelling.{SpellsHead, Sections, lines_of, Spells}
 use Rattle.script_spelling.proofs.Spelled.{no_zero, none_given, no_not, read_spelled}
 use Rattle.script_spelling.proofs.CallLinesRead.{words_of, from_none}
 use Rattle.script_spelling.proofs.TakenLines.{Part, Grown}

@@ -1,27 +1,10 @@
 -- The words of values and regions that are read spell them.
-use Rattle.std.proofs.Common.{◌≡◌, ◌∙◌, ℕ, zero, suc, ◌+◌, ◌<◌, List, [], ◌∷◌, ◌++◌, flat_map, length, Bool, true, false, not, nat_lt, ◌==◌, ◌&&◌, Option, Some, None, Result, Ok, ℤ, refl, sym, ap, subst, append_assoc, append-nil, arith, bytes_eq, codes}
-use Rattle.std.proofs.lemmas.Bool.{and_from, lt-ltb}
+use Rattle.script_spelling.proofs.Words.{◌≡◌, ◌∙◌, ℕ, zero, suc, ◌+◌, ◌<◌, List, [], ◌∷◌, ◌++◌, flat_map, length, Bool, true, false, not, nat_lt, ◌==◌, ◌&&◌, Option, Some, None, Result, Ok, ℤ, refl, sym, ap, subst, append_assoc, append-nil, arith, bytes_eq, codes, and_from, lt-ltb, ScriptKind, NcType, Values, Numbers, Text, Bits, Form, Given, Part, Class, most_parts, Word, Plain, Quoted, Broken, size_of_text, number_of_text, bits_of_text, list_of_text, ◌>>=◌, refuse_if, or_fault, bare, reads_as, size, list, ended, within_limits, are_numbers, are_patterns, are_text, may_be, wrong_kind, number_for, pattern_for, one_value, each_value, sequence_count, sequence, last_number, is_term, term, numbers_between, pattern_sequence, last_pattern, is_pattern_term, pattern_term, patterns_between, seq_values, seqx_values, pattern_values, text_values, number_values, bits_values, listed_kind, listed_values, values, given_of, given_parts, part, part_list, many_regions, region, went, same_ok, not_refused, is_end, carried, bytes_same, SpellsOne, Each, SpellsSequence, SpellsBitSequence, SpellsValues, OfNothing, OfText, OfNumbers, OfBits, OfSequence, OfBitSequence, SpellsForm, SpellsRegion}
 use borrow.Author.Tests.{not-false}
-use Rattle.nc_base.specs.declared.errors.ScriptKind.{ScriptKind}
 use Rattle.nc_base.specs.declared.errors.ScriptKind.TheVariants as kind
 use Rattle.nc_base.specs.declared.errors.LimitName.TheVariants as limit
-use Rattle.nc_base.specs.declared.header.NcType.{NcType}
-use Rattle.nc_base.specs.declared.request.Values.{Values}
-use Rattle.nc_base.specs.declared.request.Values.TheVariants.{Numbers, Text, Bits}
-use Rattle.nc_base.specs.declared.request.Form.{Form}
 use Rattle.nc_base.specs.declared.request.Form.TheVariants as form
-use Rattle.nc_base.specs.declared.request.Given.{Given}
-use Rattle.nc_base.specs.declared.request.Part.{Part}
 use Rattle.serial_spec.specs.ExternalForm as class
-use Rattle.serial_spec.specs.ExternalForm.{Class}
-use Rattle.serial_spec.specs.Lawful.{most_parts}
-use Rattle.script_spec.specs.ScriptWords.{Word, Plain, Quoted, Broken, size_of_text, number_of_text, bits_of_text, list_of_text}
-use Rattle.script_spec.specs.ScriptSteps.{◌>>=◌, refuse_if, or_fault, bare, reads_as, size, list, ended}
-use Rattle.script_spec.specs.ScriptValues.{within_limits, are_numbers, are_patterns, are_text, may_be, wrong_kind, number_for, pattern_for, one_value, each_value, sequence_count, sequence, last_number, is_term, term, numbers_between, pattern_sequence, last_pattern, is_pattern_term, pattern_term, patterns_between, seq_values, seqx_values, pattern_values, text_values, number_values, bits_values, listed_kind, listed_values, values}
-use Rattle.script_spec.specs.ScriptCalls.{given_of, given_parts, part, part_list, many_regions, region}
-use Rattle.script_text.proofs.Steps.{went, same_ok, not_refused, is_end, carried}
-use Rattle.script_text.proofs.Places.{bytes_same}
-use Rattle.script_spelling.specs.SpelledValues.{SpellsOne, Each, SpellsSequence, SpellsBitSequence, SpellsValues, OfNothing, OfText, OfNumbers, OfBits, OfSequence, OfBitSequence, SpellsForm, SpellsRegion}
 use Rattle.script_spelling.proofs.WordsRead.{WordRead, word_is, one_is, size_is, list_is}
 
 -- ---- values that are written out

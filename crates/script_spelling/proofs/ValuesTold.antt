@@ -1,23 +1,8 @@
 -- Words that spell values are read as these values.
-use Rattle.std.proofs.Common.{◌≡◌, ◌∙◌, ℕ, zero, suc, ◌+◌, ◌<◌, List, [], ◌∷◌, ◌++◌, fold, length, Bool, true, false, not, cond, nat_lt, nat_le, ◌==◌, ◌&&◌, Option, Some, None, option_map, Ok, ℤ, pos, refl, sym, ap, subst, append_assoc, append-nil, length-append, arith, bytes_eq, codes}
-use Rattle.std.proofs.lemmas.Bool.{and_parts, and_right, cond-false, eqb-true}
-use Rattle.list_laws.proofs.Optional.{some_not_none}
-use Rattle.nc_base.specs.Values.{count_of}
+use Rattle.script_spelling.proofs.Words.{◌≡◌, ◌∙◌, ℕ, zero, suc, ◌+◌, ◌<◌, List, [], ◌∷◌, ◌++◌, fold, length, Bool, true, false, not, cond, nat_lt, nat_le, ◌==◌, ◌&&◌, Option, Some, None, option_map, Ok, ℤ, pos, refl, sym, ap, subst, append_assoc, append-nil, length-append, arith, bytes_eq, codes, and_parts, and_right, cond-false, eqb-true, some_not_none, count_of, NcType, Values, Numbers, Text, Bits, Class, class_of, size_of, fits_in, Word, Plain, natural_of, size_of_text, number_of_text, bits_of_text, hex_sum, refuse_if, or_fault, reads_as, size, within_limits, are_numbers, are_patterns, are_text, may_be, may_have, wrong_kind, number_for, pattern_for, one_value, each_value, sequence_count, sequence, last_number, is_term, term, numbers_between, pattern_sequence, last_pattern, is_pattern_term, pattern_term, patterns_between, seq_values, seqx_values, pattern_values, text_values, number_values, bits_values, begins_x, listed_kind, listed_values, values, go_on, passed, faultless, word_read, carry_on, by_false, bytes_same, length-sequence, length-pattern_sequence, HasRoom, room_again, less_room, number_fit, pattern_fit, SpellsOne, Each, SpellsSequence, SpellsBitSequence, SpellsValues, OfNothing, OfText, OfNumbers, OfBits, OfSequence, OfBitSequence}
 use Rattle.nc_base.specs.declared.errors.ScriptKind.TheVariants as kind
-use Rattle.nc_base.specs.declared.header.NcType.{NcType}
 use Rattle.nc_base.specs.declared.request.Value.TheVariants as value
-use Rattle.nc_base.specs.declared.request.Values.{Values}
-use Rattle.nc_base.specs.declared.request.Values.TheVariants.{Numbers, Text, Bits}
 use Rattle.serial_spec.specs.ExternalForm as class
-use Rattle.serial_spec.specs.ExternalForm.{Class, class_of, size_of, fits_in}
-use Rattle.script_spec.specs.ScriptWords.{Word, Plain, natural_of, size_of_text, number_of_text, bits_of_text, hex_sum}
-use Rattle.script_spec.specs.ScriptSteps.{refuse_if, or_fault, reads_as, size}
-use Rattle.script_spec.specs.ScriptValues.{within_limits, are_numbers, are_patterns, are_text, may_be, may_have, wrong_kind, number_for, pattern_for, one_value, each_value, sequence_count, sequence, last_number, is_term, term, numbers_between, pattern_sequence, last_pattern, is_pattern_term, pattern_term, patterns_between, seq_values, seqx_values, pattern_values, text_values, number_values, bits_values, begins_x, listed_kind, listed_values, values}
-use Rattle.script_text.proofs.Steps.{go_on, passed, faultless, word_read, carry_on, by_false}
-use Rattle.script_text.proofs.Places.{bytes_same}
-use Rattle.script_text.proofs.Sequences.{length-sequence, length-pattern_sequence}
-use Rattle.script_text.proofs.PrintedValues.{HasRoom, room_again, less_room, number_fit, pattern_fit}
-use Rattle.script_spelling.specs.SpelledValues.{SpellsOne, Each, SpellsSequence, SpellsBitSequence, SpellsValues, OfNothing, OfText, OfNumbers, OfBits, OfSequence, OfBitSequence}
 
 -- a word that this reads is no word that it doesn't
 pub other_word : {A : Type 0} (f : List ℕ → Option A) (w text : List ℕ) (x : A) → f text ≡ None → f w ≡ Some x → bytes_eq w text ≡ false

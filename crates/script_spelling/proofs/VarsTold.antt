@@ -1,15 +1,5 @@
 -- The variables of a new dataset, where the line of one of them, or of an attribute, goes from the later lines to those before.
-use Rattle.std.proofs.Common.{◌≡◌, ◌∙◌, ℕ, ◌≤◌, List, [], ◌∷◌, ◌++◌, position, true, false, Some, refl, sym, ap, subst, ⊎_elim, append_assoc, append-nil, arith, bytes_eq}
-use Rattle.std.proofs.lemmas.Bool.{and_parts, or_parts, not-true, cond-true, cond-false}
-use Rattle.std.proofs.lemmas.Option.{same_Some}
-use Rattle.nc_base.specs.declared.header.Dim.{Dim}
-use Rattle.nc_base.specs.declared.header.Attr.{Attr}
-use Rattle.nc_base.specs.declared.header.Var.{Var}
-use Rattle.script_spec.specs.ScriptDefinitions.{dim_ids, is_among, var_names}
-use Rattle.script_text.proofs.Places.{bytes_same, Later, place_cases}
-use Rattle.script_text.proofs.DefinedChains.{with_own, push_attr, count_attrs, count_own}
-use Rattle.script_spelling.specs.Statements.{VarLine}
-use Rattle.script_spelling.specs.Described.{IsVarOf}
+use Rattle.script_spelling.proofs.Words.{◌≡◌, ◌∙◌, ℕ, ◌≤◌, List, [], ◌∷◌, ◌++◌, position, true, false, Some, refl, sym, ap, subst, ⊎_elim, append_assoc, append-nil, arith, bytes_eq, and_parts, or_parts, not-true, cond-true, cond-false, same_Some, Dim, Attr, Var, dim_ids, is_among, var_names, bytes_same, Later, place_cases, with_own, push_attr, count_attrs, count_own, VarLine, IsVarOf}
 use Rattle.script_spelling.proofs.GrownVars.{are_apart, line_names, GrownVars, first_of}
 use Rattle.script_spelling.proofs.LinesTold.{var_of}
 

@@ -1,13 +1,6 @@
 -- Words that are read stand as they are.
-use Rattle.std.proofs.Common.{◌≡◌, ◌∙◌, ℕ, List, [], ◌∷◌, true, Option, Some, None, Ok, refl, ap, subst}
-use Rattle.std.proofs.lemmas.Option.{cond_some}
-use Rattle.script_spec.proofs.TextLaws.{faultless_some}
-use Rattle.nc_base.specs.declared.errors.ScriptKind.{ScriptKind}
+use Rattle.script_spelling.proofs.Words.{◌≡◌, ◌∙◌, ℕ, List, [], ◌∷◌, true, Option, Some, None, Ok, refl, ap, subst, cond_some, faultless_some, ScriptKind, Word, Plain, Quoted, Broken, is_name, size_of_text, list_of_text, ◌>>=◌, or_fault, bare, reads_as, size, list, name, name_of_text, went, same_ok, SpellsOne}
 use Rattle.nc_base.specs.declared.errors.ScriptKind.TheVariants as kind
-use Rattle.script_spec.specs.ScriptWords.{Word, Plain, Quoted, Broken, is_name, size_of_text, list_of_text}
-use Rattle.script_spec.specs.ScriptSteps.{◌>>=◌, or_fault, bare, reads_as, size, list, name, name_of_text}
-use Rattle.script_text.proofs.Steps.{went, same_ok}
-use Rattle.script_spelling.specs.SpelledValues.{SpellsOne}
 
 -- the word that is read, and what follows it
 pub record WordRead {A : Type 0} (f : List ℕ → Option A) (ws : List Word) (r : A × List Word) : Type 0 where

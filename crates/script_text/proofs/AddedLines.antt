@@ -1,23 +1,9 @@
 -- Runs of lines of the definitions, and what is added to a dataset that is opened: each line, printed, is read in the state in which it was read before.
-use Rattle.std.proofs.Common.{◌≡◌, ◌⊎◌, ◌∙◌, ℕ, ◌+◌, ◌≤◌, List, [], ◌∷◌, ◌++◌, map, length, drop, flat_map, Bool, true, false, cond, nat_lt, Option, Some, None, Result, Ok, Err, refl, sym, ap, subst, ⊎_elim, inl, inr, arith, bytes_eq, codes}
-use Rattle.std.specs.List.{list_all, list_any}
-use Rattle.std.proofs.lemmas.Bool.{and_from, cond-true, cond-false}
-use Rattle.std.proofs.lemmas.Slice.Eq.{bytes_eq-Decides}
-use Rattle.nc_base.specs.declared.errors.ScriptKind.{ScriptKind}
+use Rattle.script_text.proofs.Words.{◌≡◌, ◌⊎◌, ◌∙◌, ℕ, ◌+◌, ◌≤◌, List, [], ◌∷◌, ◌++◌, map, length, drop, Bool, true, false, cond, nat_lt, Option, Some, None, Result, Ok, Err, refl, sym, ap, subst, ⊎_elim, inl, inr, arith, bytes_eq, codes, list_all, list_any, and_from, cond-true, cond-false, bytes_eq-Decides, ScriptKind, ScriptErr, Attr, Extra, most_dims_of_var, most_values, type_word, line, bracketed, shown_extra, shown_attr, Word, Plain, Quoted, Broken, Line, is_name, refuse_if, reads_as, name_of_text, ended, dim_line, var_head, name_list, owner_of_text, owner_name, attribute, Added, is_added_record, added_shape, dim_addition, var_addition, att_addition, addition, Known, known_after, at_line, definition_step, definitions}
+use Rattle.std.proofs.Common.{flat_map}
 use Rattle.nc_base.specs.declared.errors.ScriptKind.TheVariants as kind
-use Rattle.nc_base.specs.declared.errors.ScriptErr.{ScriptErr}
 use Rattle.nc_base.specs.declared.errors.LimitName.TheVariants as limit
-use Rattle.nc_base.specs.declared.header.Attr.{Attr}
-use Rattle.nc_base.specs.declared.script.Extra.{Extra}
 use Rattle.nc_base.specs.declared.script.Extra.TheVariants as extra
-use Rattle.serial_spec.specs.Limits.{most_dims_of_var}
-use Rattle.serial_spec.specs.Lawful.{most_values}
-use Rattle.script_spec.specs.Texts.{type_word, line}
-use Rattle.script_spec.specs.Shown.{bracketed, shown_extra, shown_attr}
-use Rattle.script_spec.specs.ScriptWords.{Word, Plain, Quoted, Broken, Line, is_name}
-use Rattle.script_spec.specs.ScriptSteps.{refuse_if, reads_as, name_of_text, ended}
-use Rattle.script_spec.specs.ScriptDefinitions.{dim_line, var_head, name_list, owner_of_text, owner_name, attribute, Added, is_added_record, added_shape, dim_addition, var_addition, att_addition, addition, Known, known_after}
-use Rattle.script_spec.specs.ScriptGrammar.{at_line, definition_step, definitions}
 use Rattle.script_text.proofs.Steps.{went, go_on, same_ok, not_refused, passed, read_word, word_read, by_false}
 use Rattle.script_text.proofs.Lexing.{is_plain, is_good}
 use Rattle.script_text.proofs.Lines.{is_line, spelled, numbered}

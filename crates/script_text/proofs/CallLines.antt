@@ -1,28 +1,14 @@
 -- The calls of all ranks, printed rank by rank, are read as the same calls.
-use Rattle.std.proofs.Common.{◌≡◌, ◌∙◌, ℕ, zero, suc, ◌+◌, ◌≤◌, ◌<◌, List, [], ◌∷◌, ◌++◌, map, length, replicate, flat_map, Bool, true, false, not, cond, nat_lt, slice_set, Result, Ok, Err, refl, sym, ap, subst, append_assoc, append-nil, length-append, arith, bytes_eq, codes, decimal}
-use Rattle.std.specs.List.{list_all, enumerate_from}
-use Rattle.std.proofs.lemmas.Bool.{and_parts, and_from, cond-true, ne_eqb}
-use Rattle.std.proofs.lemmas.List.{set_at}
+use Rattle.script_text.proofs.Words.{◌≡◌, ◌∙◌, ℕ, zero, suc, ◌+◌, ◌≤◌, ◌<◌, List, [], ◌∷◌, ◌++◌, map, length, replicate, Bool, true, false, not, cond, nat_lt, slice_set, Result, Ok, Err, refl, sym, ap, subst, append_assoc, append-nil, length-append, arith, bytes_eq, codes, decimal, list_all, enumerate_from, and_parts, and_from, cond-true, ne_eqb, set_at, ScriptKind, ScriptErr, Call, most_values, values_in_call, call_word, line, shown_call, Word, Plain, Line, is_comment, is_digit, begins_rank, digits_value, ◌>>=◌, bare, next, whole, Called, calls_of, rank_of_text, with_call, call_line, call_of, called_after, at_line, call_step, data_part, flat_map-append, all_joined}
+use Rattle.std.proofs.Common.{flat_map}
 use borrow.Author.Tests.{ltb-true, lt-ltb}
-use Rattle.nc_base.specs.declared.errors.ScriptKind.{ScriptKind}
 use Rattle.nc_base.specs.declared.errors.ScriptKind.TheVariants as kind
-use Rattle.nc_base.specs.declared.errors.ScriptErr.{ScriptErr}
-use Rattle.nc_base.specs.declared.request.Call.{Call}
-use Rattle.serial_spec.specs.Lawful.{most_values, values_in_call}
-use Rattle.script_spec.specs.Texts.{call_word, line}
-use Rattle.script_spec.specs.Shown.{shown_call}
-use Rattle.script_spec.specs.ScriptWords.{Word, Plain, Line, is_comment, is_digit, begins_rank, digits_value}
-use Rattle.script_spec.specs.ScriptSteps.{◌>>=◌, bare, next, whole}
-use Rattle.script_spec.specs.ScriptCalls.{Called, calls_of, rank_of_text, with_call, call_line, call_of, called_after}
-use Rattle.script_spec.specs.ScriptGrammar.{at_line, call_step, data_part}
 use Rattle.script_text.proofs.Steps.{went, go_on, same_ok, whole_value, by_false}
 use Rattle.script_text.proofs.Lines.{is_line, spelled, numbered}
 use Rattle.script_text.proofs.Numerals.{decimal_numeral, decimal_plain, decimal_word}
 use Rattle.script_text.proofs.PrintedValues.{is_read, not_letters}
 use Rattle.script_text.proofs.CallTokens.{call_tokens, call_spelled, call_plain}
 use Rattle.script_text.proofs.PrintedCalls.{CallAgain, call_read}
-use Rattle.std.proofs.lemmas.List.Concat.{flat_map-append}
-use Rattle.list_laws.proofs.Each.{all_joined}
 
 -- ---- calls that were read
 

@@ -1,19 +1,8 @@
 -- The words of a call that is printed.
-use Rattle.std.proofs.Common.{◌≡◌, ◌∙◌, ℕ, ◌+◌, List, [], ◌∷◌, ◌++◌, map, Bool, true, false, Option, Some, None, refl, ap, codes, decimal}
-use Rattle.nc_base.specs.declared.request.Values.{Values}
-use Rattle.nc_base.specs.declared.request.Form.{Form}
+use Rattle.script_text.proofs.Words.{◌≡◌, ◌∙◌, ℕ, ◌+◌, List, [], ◌∷◌, ◌++◌, map, Bool, true, false, Option, Some, None, refl, ap, codes, decimal, Values, Form, Given, PostKind, Iput, Iget, Bput, Call, call_word, form_word, kind_word, with_all, call_words, region_words, shown_values, words_behind, Word, Plain, posted, put_call, get_call, post_call, call_of, Family, Requests, Size, Name, Record, Nothing, Behind, CallRow, in_row, of_behind, HasNoRegion, IsRow, made_behind}
 use Rattle.nc_base.specs.declared.request.Form.TheVariants as form
-use Rattle.nc_base.specs.declared.request.Given.{Given}
-use Rattle.nc_base.specs.declared.request.PostKind.{PostKind}
-use Rattle.nc_base.specs.declared.request.PostKind.TheVariants.{Iput, Iget, Bput}
-use Rattle.nc_base.specs.declared.request.Call.{Call}
 use Rattle.nc_base.specs.declared.request.Call.TheVariants as call
-use Rattle.script_spec.specs.Texts.{call_word, form_word, kind_word, with_all}
-use Rattle.script_spec.specs.Shown.{call_words, region_words, shown_values, words_behind}
-use Rattle.script_spec.specs.ScriptWords.{Word, Plain}
-use Rattle.script_spec.specs.ScriptCalls.{posted, put_call, get_call, post_call, call_of}
-use Rattle.script_spec.specs.CallTable.{Family, Requests, Size, Name, Record, Nothing, Behind, CallRow, row_of, in_row, of_behind}
-use Rattle.script_spec.proofs.CallTableLaws.{HasNoRegion, IsRow, made_behind}
+use Rattle.script_spec.specs.CallTable.{row_of}
 use Rattle.script_text.proofs.Lexing.{spelling, is_plain}
 use Rattle.script_text.proofs.PrintedValues.{value_tokens, values_spelled}
 use Rattle.script_text.proofs.PrintedRegions.{region_tokens, region_spelled, choice_tokens, choice_spelled}

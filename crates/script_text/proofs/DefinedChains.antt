@@ -1,21 +1,7 @@
 -- What is known of the definitions of a new dataset once they are read: each dimension, variable and attribute, printed after those before it, is read again.
-use Rattle.std.proofs.Common.{◌≡◌, ◌∙◌, ℕ, zero, suc, ◌+◌, ◌≤◌, List, [], ◌∷◌, ◌++◌, map, position, length, drop, Bool, true, false, nat_lt, Option, Some, None, slice_get, slice_set, Result, Ok, Err, refl, sym, ap, subst, ⊎_elim, append_assoc, append-nil, arith, bytes_eq, codes}
-use Rattle.std.specs.List.{list_all, list_any}
-use Rattle.std.proofs.lemmas.Bool.{and_parts, and_from, or_from, or_left, or_right}
-use Rattle.std.proofs.lemmas.List.Folds.{list_any-append}
-use Rattle.script_spec.proofs.TextLaws.{faultless_some}
-use Rattle.nc_base.specs.declared.errors.ScriptKind.{ScriptKind}
+use Rattle.script_text.proofs.Words.{◌≡◌, ◌∙◌, ℕ, zero, suc, ◌+◌, ◌≤◌, List, [], ◌∷◌, ◌++◌, map, position, length, drop, Bool, true, false, nat_lt, Option, Some, None, slice_get, slice_set, Result, Ok, Err, refl, sym, ap, subst, ⊎_elim, append_assoc, append-nil, arith, bytes_eq, codes, list_all, list_any, and_parts, and_from, or_from, or_left, or_right, list_any-append, faultless_some, ScriptKind, NcType, Dim, Attr, Var, most_dims_of_var, most_values, Word, is_name, ◌>>=◌, refuse_if, or_fault, reads_as, ended, is_among, dim_line, var_head, name_list, dim_ids, is_record_dim, var_names, shape, var_line, owner_of_text, owner_place, Title, same_title, attribute, Defined, with_dim, with_var, with_attr_at, with_title, with_attr_of_owner, att_line, dim_definition, var_definition, fill_line, definition, all_joined}
 use Rattle.nc_base.specs.declared.errors.ScriptKind.TheVariants as kind
 use Rattle.nc_base.specs.declared.errors.LimitName.TheVariants as limit
-use Rattle.nc_base.specs.declared.header.NcType.{NcType}
-use Rattle.nc_base.specs.declared.header.Dim.{Dim}
-use Rattle.nc_base.specs.declared.header.Attr.{Attr}
-use Rattle.nc_base.specs.declared.header.Var.{Var}
-use Rattle.serial_spec.specs.Limits.{most_dims_of_var}
-use Rattle.serial_spec.specs.Lawful.{most_values}
-use Rattle.script_spec.specs.ScriptWords.{Word, is_name}
-use Rattle.script_spec.specs.ScriptSteps.{◌>>=◌, refuse_if, or_fault, reads_as, ended}
-use Rattle.script_spec.specs.ScriptDefinitions.{is_among, dim_line, var_head, name_list, dim_ids, is_record_dim, var_names, shape, var_line, owner_of_text, owner_place, Title, same_title, attribute, Defined, with_dim, with_var, with_attr_at, with_title, with_attr_of_owner, att_line, dim_definition, var_definition, fill_line, definition}
 use Rattle.script_text.proofs.Steps.{went, same_ok, not_refused}
 use Rattle.script_text.proofs.Lines.{all_more}
 use Rattle.script_text.proofs.PrintedValues.{is_read}
@@ -23,7 +9,6 @@ use Rattle.script_text.proofs.PrintedRegions.{kept}
 use Rattle.script_text.proofs.PrintedAttributes.{AttrAgain, AttrRead, attr_read}
 use Rattle.script_text.proofs.PrintedDefinitions.{DimAgain, dim_read, HeadAgain, head_read, names_read}
 use Rattle.script_text.proofs.Places.{more_ids, more_records, bytes_same, bytes_own, Later, place_cases}
-use Rattle.list_laws.proofs.Each.{all_joined}
 
 -- ---- dimensions
 

@@ -1,20 +1,7 @@
 -- The definitions of a new dataset, printed in their canonical order, are read as the same definitions.
-use Rattle.std.proofs.Common.{◌≡◌, ◌∙◌, ℕ, suc, ◌+◌, ◌≤◌, List, [], ◌∷◌, ◌++◌, map, position, length, drop, Bool, true, false, nat_lt, ◌==◌, ◌||◌, Some, None, Ok, refl, sym, ap, subst, inr, append_assoc, append-nil, arith, bytes_eq, codes}
-use Rattle.std.specs.List.{list_all, list_any}
-use Rattle.std.proofs.lemmas.Bool.{and_parts, and_from, and_left, and_right, or_from, or_parts, ne_eqb}
-use Rattle.std.proofs.lemmas.List.Folds.{list_any-append}
+use Rattle.script_text.proofs.Words.{◌≡◌, ◌∙◌, ℕ, suc, ◌+◌, ◌≤◌, List, [], ◌∷◌, ◌++◌, map, position, length, drop, Bool, true, false, nat_lt, ◌==◌, ◌||◌, Some, None, Ok, refl, sym, ap, subst, inr, append_assoc, append-nil, arith, bytes_eq, codes, list_all, list_any, and_parts, and_from, and_left, and_right, or_from, or_parts, ne_eqb, list_any-append, Dim, Attr, Var, most_dims_of_var, most_values, type_word, bracketed, Word, Plain, is_name, starts_name, ◌>>=◌, refuse_if, or_fault, reads_as, is_among, dim_line, var_head, name_list, dim_ids, is_record_dim, var_names, shape, var_line, owner_of_text, owner_place, Title, same_title, attribute, Defined, with_dim, with_var, with_attr_at, with_title, with_attr_of_owner, att_line, definition, Known, all_joined}
 use Rattle.nc_base.specs.declared.errors.ScriptKind.TheVariants as kind
 use Rattle.nc_base.specs.declared.errors.LimitName.TheVariants as limit
-use Rattle.nc_base.specs.declared.header.Dim.{Dim}
-use Rattle.nc_base.specs.declared.header.Attr.{Attr}
-use Rattle.nc_base.specs.declared.header.Var.{Var}
-use Rattle.serial_spec.specs.Limits.{most_dims_of_var}
-use Rattle.serial_spec.specs.Lawful.{most_values}
-use Rattle.script_spec.specs.Texts.{type_word}
-use Rattle.script_spec.specs.Shown.{bracketed}
-use Rattle.script_spec.specs.ScriptWords.{Word, Plain, is_name, starts_name}
-use Rattle.script_spec.specs.ScriptSteps.{◌>>=◌, refuse_if, or_fault, reads_as}
-use Rattle.script_spec.specs.ScriptDefinitions.{is_among, dim_line, var_head, name_list, dim_ids, is_record_dim, var_names, shape, var_line, owner_of_text, owner_place, Title, same_title, attribute, Defined, with_dim, with_var, with_attr_at, with_title, with_attr_of_owner, att_line, definition, Known}
 use Rattle.script_text.proofs.Steps.{go_on, passed, faultless, word_read, by_false}
 use Rattle.script_text.proofs.Lexing.{is_plain}
 use Rattle.script_text.proofs.Lines.{is_line}
@@ -24,7 +11,6 @@ use Rattle.script_text.proofs.PrintedDefinitions.{dim_tokens, HeadAgain, head_ag
 use Rattle.script_text.proofs.AddedLines.{Leads, Runs, runs_on, owner_again}
 use Rattle.script_text.proofs.Places.{name_at, names_shown, place_of_new}
 use Rattle.script_text.proofs.DefinedChains.{DimChain, VarOk, VarChain, AttrChain, OwnChains, with_own, push_attr, pushes, count_attrs, count_own}
-use Rattle.list_laws.proofs.Each.{all_joined}
 
 -- ---- lines of the definitions
 

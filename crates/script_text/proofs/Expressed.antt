@@ -1,30 +1,6 @@
 -- A lawful script that words can express is read from what is printed of it.
-use Rattle.std.proofs.Common.{◌≡◌, ◌∙◌, ℕ, zero, suc, ◌+◌, ◌*◌, ◌/◌, ◌%◌, ◌^◌, ◌≤◌, List, [], ◌∷◌, ◌++◌, find, map, sum, length, length-append, codes, Bool, true, false, not, cond, nat_le, ◌==◌, ◌&&◌, Option, Some, None, is_some, option_map, refl, sym, ap, subst, arith, bytes_eq}
-use Rattle.std.specs.List.{list_all, range_with_len, enumerate_from}
-use Rattle.std.proofs.lemmas.Bool.{and_parts, and_from, cond-false, cond-true, eqb-true, eq-eqb, leb-true, ne_eqb}
-use Rattle.std.proofs.lemmas.List.{length-map}
-use Rattle.std.proofs.lemmas.List.Sums.{sum_by-cons}
-use Rattle.std.proofs.lemmas.Slice.Eq.{bytes_eq-Decides}
-use Rattle.nc_base.specs.declared.errors.ScriptKind.{ScriptKind}
+use Rattle.script_text.proofs.Words.{◌≡◌, ◌∙◌, ℕ, zero, suc, ◌+◌, ◌*◌, ◌/◌, ◌%◌, ◌^◌, ◌≤◌, List, [], ◌∷◌, ◌++◌, find, map, sum, length, length-append, codes, Bool, true, false, not, cond, nat_le, ◌==◌, ◌&&◌, Option, Some, None, is_some, option_map, refl, sym, ap, subst, arith, bytes_eq, list_all, range_with_len, enumerate_from, and_parts, and_from, cond-false, cond-true, eqb-true, eq-eqb, leb-true, ne_eqb, length-map, sum_by-cons, bytes_eq-Decides, ScriptKind, Attr, Header, Extra, Hints, Script, Call, MeetKind, most_dims, most_vars, is_version, kinds, kind_number, added_dims, added_vars, agree, are_different, are_lawful_hints, is_alignment, is_lawful, is_lawful_call, is_lawful_dim, is_lawful_extra, is_lawful_header, is_lawful_var, is_within, kind_numbers, most_calls, most_ranks, most_values, posted_ids, values_in_script, is_empty, shown, Word, Plain, Within, kind_at, differs_at, is_difference, mismatch, Reads, most_bytes, most_lines, is_expressible, is_expressible_call, is_expressible_header, printed_lines}
 use Rattle.nc_base.specs.declared.errors.ScriptKind.TheVariants as kind
-use Rattle.nc_base.specs.declared.header.Attr.{Attr}
-use Rattle.nc_base.specs.declared.header.Header.{Header}
-use Rattle.nc_base.specs.declared.script.Extra.{Extra}
-use Rattle.nc_base.specs.declared.script.Hints.{Hints}
-use Rattle.nc_base.specs.declared.script.Script.{Script}
-use Rattle.nc_base.specs.declared.request.Call.{Call}
-use Rattle.nc_base.specs.declared.step.MeetKind.{MeetKind}
-use Rattle.serial_spec.specs.Limits.{most_dims, most_vars}
-use Rattle.serial_spec.specs.HeaderBytes.{is_version}
-use Rattle.serial_spec.specs.History.{kinds, kind_number}
-use Rattle.serial_spec.specs.Lawful.{added_dims, added_vars, agree, are_different, are_lawful_hints, is_alignment, is_lawful, is_lawful_call, is_lawful_dim, is_lawful_extra, is_lawful_header, is_lawful_var, is_within, kind_numbers, most_calls, most_ranks, most_values, posted_ids, values_in_script}
-use Rattle.serial_spec.specs.Lists.{is_empty}
-use Rattle.script_spec.specs.Shown.{shown}
-use Rattle.script_spec.specs.ScriptWords.{Word, Plain}
-use Rattle.script_spec.specs.HintTable.{Within}
-use Rattle.script_spec.specs.ScriptCalls.{kind_at, differs_at, is_difference, mismatch}
-use Rattle.script_spec.specs.ScriptGrammar.{Reads, most_bytes, most_lines}
-use Rattle.script_text.specs.Expressible.{is_expressible, is_expressible_call, is_expressible_header, printed_lines}
 use Rattle.script_text.proofs.Lines.{empty_list}
 use Rattle.script_text.proofs.PrintedDefinitions.{is_value_of}
 use Rattle.script_text.proofs.Places.{position_cons}

@@ -1,24 +1,6 @@
 -- Calls that words can express, printed rank by rank, are read again.
-use Rattle.std.proofs.Common.{◌≡◌, ◌∙◌, ℕ, ◌+◌, ◌^◌, ◌≤◌, ◌<◌, List, [], ◌∷◌, ◌++◌, map, sum, length, true, false, not, nat_lt, nat_le, ◌==◌, ◌&&◌, ◌||◌, None, refl, sym, ap, subst, append_assoc, arith}
-use Rattle.std.specs.List.{list_all, list_any, enumerate_from}
-use Rattle.std.proofs.lemmas.Bool.{and_parts, and_from, or_parts, or_from, not-true, ltb-true, leb-true}
-use Rattle.std.proofs.lemmas.List.Elements.{filter_map-append}
-use Rattle.std.proofs.lemmas.List.Folds.{list_any-append}
-use Rattle.std.proofs.lemmas.List.Sums.{sum_by-cons}
-use Rattle.nc_base.specs.declared.request.Values.{Values}
-use Rattle.nc_base.specs.declared.request.Values.TheVariants.{Numbers, Text, Bits}
-use Rattle.nc_base.specs.declared.request.PostKind.{PostKind}
-use Rattle.nc_base.specs.declared.request.PostKind.TheVariants.{Iput, Iget, Bput}
-use Rattle.nc_base.specs.declared.request.Call.{Call}
+use Rattle.script_text.proofs.Words.{◌≡◌, ◌∙◌, ℕ, ◌+◌, ◌^◌, ◌≤◌, ◌<◌, List, [], ◌∷◌, ◌++◌, map, sum, length, true, false, not, nat_lt, nat_le, ◌==◌, ◌&&◌, ◌||◌, None, refl, sym, ap, subst, append_assoc, arith, list_all, list_any, enumerate_from, and_parts, and_from, or_parts, or_from, not-true, ltb-true, leb-true, filter_map-append, list_any-append, sum_by-cons, Values, Numbers, Text, Bits, PostKind, Iput, Iget, Bput, Call, most_elements, are_values, are_different, id_posted, is_given, is_lawful_call, is_nothing, is_number, is_post_of, posted_ids, values_in_call, is_empty, is_name, posted, is_posted, of_behind, HasNoRegion, made_behind, of_row, are_expressible_values, is_expressible_behind, is_expressible_call, is_id}
 use Rattle.nc_base.specs.declared.request.Call.TheVariants as call
-use Rattle.serial_spec.specs.Limits.{most_elements}
-use Rattle.serial_spec.specs.Lawful.{are_values, are_different, id_posted, is_given, is_lawful_call, is_nothing, is_number, is_post_of, posted_ids, values_in_call}
-use Rattle.serial_spec.specs.Lists.{is_empty}
-use Rattle.script_spec.specs.ScriptWords.{is_name}
-use Rattle.script_spec.specs.ScriptCalls.{posted, is_posted}
-use Rattle.script_spec.specs.CallTable.{of_behind}
-use Rattle.script_spec.proofs.CallTableLaws.{HasNoRegion, made_behind, of_row}
-use Rattle.script_text.specs.Expressible.{are_expressible_values, is_expressible_behind, is_expressible_call, is_id}
 use Rattle.script_text.proofs.Lines.{all_more}
 use Rattle.script_text.proofs.Sequences.{is_fit_number, is_fit_pattern}
 use Rattle.script_text.proofs.PrintedValues.{HasRoom, Fitting}

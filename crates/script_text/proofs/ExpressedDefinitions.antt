@@ -1,18 +1,5 @@
 -- Definitions that words can express, printed after those before them, are read again.
-use Rattle.std.proofs.Common.{◌≡◌, ◌∙◌, ◌⊎◌, ℕ, zero, suc, ◌+◌, ◌^◌, ◌≤◌, ◌<◌, List, [], ◌∷◌, ◌++◌, map, position, drop, length, Bool, true, false, not, cond, nat_lt, nat_le, ◌==◌, ◌&&◌, Some, refl, sym, ap, subst, inl, inr, append_assoc, length-append, arith, bytes_eq, codes}
-use Rattle.std.specs.List.{list_all, list_any}
-use Rattle.std.proofs.lemmas.Bool.{and_parts, and_from, not-true, lt-leb, ne_eqb, ltb-true, leb-true, le-ltb, eqb-true}
-use Rattle.nc_base.specs.declared.header.Dim.{Dim}
-use Rattle.nc_base.specs.declared.header.Attr.{Attr}
-use Rattle.nc_base.specs.declared.header.Var.{Var}
-use Rattle.nc_base.specs.declared.header.Header.{Header}
-use Rattle.serial_spec.specs.Limits.{most_dims, most_vars, most_dims_of_var, record_limit}
-use Rattle.serial_spec.specs.HeaderBytes.{number_of, last_type}
-use Rattle.serial_spec.specs.Lawful.{is_lawful_dim, is_lawful_var}
-use Rattle.serial_spec.specs.Lists.{is_empty}
-use Rattle.script_spec.specs.ScriptWords.{is_name}
-use Rattle.script_spec.specs.ScriptDefinitions.{is_among, dim_names, is_record_dim, is_unlimited, same_title, Defined}
-use Rattle.script_text.specs.Expressible.{is_new_name, are_expressible_dims, is_expressible_var, are_expressible_vars, is_expressible_header}
+use Rattle.script_text.proofs.Words.{◌≡◌, ◌∙◌, ◌⊎◌, ℕ, zero, suc, ◌+◌, ◌^◌, ◌≤◌, ◌<◌, List, [], ◌∷◌, ◌++◌, map, position, drop, length, Bool, true, false, not, cond, nat_lt, nat_le, ◌==◌, ◌&&◌, Some, refl, sym, ap, subst, inl, inr, append_assoc, length-append, arith, bytes_eq, codes, list_all, list_any, and_parts, and_from, not-true, lt-leb, ne_eqb, ltb-true, leb-true, le-ltb, eqb-true, Dim, Attr, Var, Header, most_dims, most_vars, most_dims_of_var, record_limit, number_of, last_type, is_lawful_dim, is_lawful_var, is_empty, is_name, is_among, dim_names, is_record_dim, is_unlimited, same_title, Defined, is_new_name, are_expressible_dims, is_expressible_var, are_expressible_vars, is_expressible_header}
 use Rattle.script_text.proofs.Lines.{empty_list}
 use Rattle.script_text.proofs.PrintedAttributes.{type_told}
 use Rattle.script_text.proofs.PrintedDefinitions.{length_told, dim_told}

@@ -1,22 +1,8 @@
 -- The number of ranks and the hints, and what is known before `data` as a whole.
-use Rattle.std.proofs.Common.{◌≡◌, ◌∙◌, ℕ, ◌+◌, ◌%◌, ◌^◌, ◌≤◌, ◌<◌, min, List, [], ◌∷◌, ◌++◌, map, flat_map, Bool, true, false, nat_le, ◌==◌, ◌&&◌, Option, Some, None, is_some, slice_set, Result, Ok, Err, refl, ap, subst, arith, bytes_eq, codes, decimal}
-use Rattle.std.specs.List.{list_all}
-use Rattle.std.proofs.lemmas.Bool.{and_parts, and_from}
+use Rattle.script_text.proofs.Words.{◌≡◌, ◌∙◌, ℕ, ◌+◌, ◌%◌, ◌^◌, ◌≤◌, ◌<◌, min, List, [], ◌∷◌, ◌++◌, map, Bool, true, false, nat_le, ◌==◌, ◌&&◌, Option, Some, None, is_some, slice_set, Result, Ok, Err, refl, ap, subst, arith, bytes_eq, codes, decimal, list_all, and_parts, and_from, faultless_some, ScriptKind, ScriptErr, Hints, OverlapRule, Refuse, Serial, most_values, shown_hint, shown_hints, Word, Plain, Line, ◌>>=◌, refuse_if, or_fault, bare, reads_as, Within, HintRow, flag, rule_number, rule_of, off_or_on, refuse_or_serial, hint_table, hint_of_text, hint_form, shown_value, none_given, hint_in, hints_of, number_within, hint_value, hint_line, ranks_line, no_definition, definition, nothing_added, addition, Known, nothing_known, definition_or_addition, known_after, at_line, data_line, definition_step, definitions}
+use Rattle.std.proofs.Common.{flat_map}
 use borrow.Author.Tests.{leb-true, le-leb, eq-eqb}
-use Rattle.script_spec.proofs.TextLaws.{faultless_some}
-use Rattle.nc_base.specs.declared.errors.ScriptKind.{ScriptKind}
 use Rattle.nc_base.specs.declared.errors.ScriptKind.TheVariants as kind
-use Rattle.nc_base.specs.declared.errors.ScriptErr.{ScriptErr}
-use Rattle.nc_base.specs.declared.script.Hints.{Hints}
-use Rattle.nc_base.specs.declared.script.OverlapRule.{OverlapRule}
-use Rattle.nc_base.specs.declared.script.OverlapRule.TheVariants.{Refuse, Serial}
-use Rattle.serial_spec.specs.Lawful.{most_values}
-use Rattle.script_spec.specs.Shown.{shown_hint, shown_hints}
-use Rattle.script_spec.specs.ScriptWords.{Word, Plain, Line}
-use Rattle.script_spec.specs.ScriptSteps.{◌>>=◌, refuse_if, or_fault, bare, reads_as}
-use Rattle.script_spec.specs.HintTable.{Within, HintRow, flag, rule_number, rule_of, off_or_on, refuse_or_serial, hint_table, hint_of_text, hint_form, shown_value, none_given, hint_in, hints_of}
-use Rattle.script_spec.specs.ScriptDefinitions.{number_within, hint_value, hint_line, ranks_line, no_definition, definition, nothing_added, addition, Known, nothing_known, definition_or_addition, known_after}
-use Rattle.script_spec.specs.ScriptGrammar.{at_line, data_line, definition_step, definitions}
 use Rattle.script_text.proofs.Steps.{went, go_on, same_ok, passed, word_read, whole_value}
 use Rattle.script_text.proofs.Lexing.{is_plain}
 use Rattle.script_text.proofs.Lines.{is_line, spelled}

@@ -1,12 +1,6 @@
 -- Words that are printed are cut again from their line.
-use Rattle.std.proofs.Common.{◌≡◌, ◌∙◌, ℕ, zero, suc, ◌+◌, ◌*◌, ◌/◌, ◌%◌, ◌≤◌, ◌<◌, List, [], ◌∷◌, ◌++◌, map, length, take, drop, flat_map, Bool, true, false, not, cond, nat_lt, nat_le, ◌==◌, ◌&&◌, Option, Some, None, option_map, refl, sym, ap, subst, ⊎_elim, append_assoc, append-nil, length-append, arith}
-use Rattle.std.proofs.lemmas.Bool.{and_parts, or_from, ne_eqb, eqb-true, cases_Bool, cond-true, cond-false, agree_below_at, not-true}
-use Rattle.std.proofs.lemmas.Grind.{common_steps}
-use Rattle.std.proofs.lemmas.List.{take_at, drop_at}
-use Rattle.std.specs.List.{position_or_len, list_all}
-use Rattle.script_spec.specs.Texts.{text_char, quoted, hex, hex_digit, joined}
-use Rattle.script_spec.specs.ScriptWords.{Word, Plain, Quoted, Broken, is_blank, begins_blank, after_blanks, first_word, quoted_word, text_from, Between, AfterBackslash, FirstHex, SecondHex, words, words_within, hex_value}
-use Rattle.script_spec.proofs.TextLaws.{more_words}
+use Rattle.script_text.proofs.Words.{◌≡◌, ◌∙◌, ℕ, zero, suc, ◌+◌, ◌*◌, ◌/◌, ◌%◌, ◌≤◌, ◌<◌, List, [], ◌∷◌, ◌++◌, map, length, take, drop, Bool, true, false, not, cond, nat_lt, nat_le, ◌==◌, ◌&&◌, Option, Some, None, option_map, refl, sym, ap, subst, ⊎_elim, append_assoc, append-nil, length-append, arith, and_parts, or_from, ne_eqb, eqb-true, cases_Bool, cond-true, cond-false, agree_below_at, not-true, common_steps, take_at, drop_at, position_or_len, list_all, text_char, quoted, hex, hex_digit, joined, Word, Plain, Quoted, Broken, is_blank, begins_blank, after_blanks, first_word, quoted_word, text_from, Between, AfterBackslash, FirstHex, SecondHex, words, words_within, hex_value, more_words}
+use Rattle.std.proofs.Common.{flat_map}
 
 -- ---- words as they are printed
 

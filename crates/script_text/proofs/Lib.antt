@@ -1,3 +1,4 @@
+mod Words
 pub mod Steps
 mod Lexing
 pub mod Lines

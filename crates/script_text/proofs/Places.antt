@@ -1,13 +1,6 @@
 -- Places of names in a list.
-use Rattle.std.proofs.Common.{◌≡◌, ◌⊎◌, ◌∙◌, ℕ, suc, ◌+◌, ◌≤◌, ◌<◌, List, [], ◌∷◌, ◌++◌, map, position, length, drop, Bool, true, false, not, cond, nat_lt, ◌||◌, Option, Some, None, option_map, slice_get, refl, sym, ap, subst, ⊎_elim, arith, bytes_eq, inl, inr}
-use Rattle.std.specs.List.{list_all, list_any, position_or_len}
-use Rattle.std.proofs.lemmas.Bool.{and_parts, and_from, or_parts, cases_lt, cond-true, cond-false}
-use Rattle.std.proofs.lemmas.Slice.Eq.{bytes_eq-Decides}
+use Rattle.script_text.proofs.Words.{◌≡◌, ◌⊎◌, ◌∙◌, ℕ, suc, ◌+◌, ◌≤◌, ◌<◌, List, [], ◌∷◌, ◌++◌, map, position, length, drop, Bool, true, false, not, cond, nat_lt, ◌||◌, Option, Some, None, option_map, slice_get, refl, sym, ap, subst, ⊎_elim, arith, bytes_eq, inl, inr, list_all, list_any, position_or_len, and_parts, and_from, or_parts, cases_lt, cond-true, cond-false, bytes_eq-Decides, position_below, get_left, Dim, all_some, is_among, dim_names, dim_ids, is_record_dim, is_unlimited}
 use borrow.Author.Tests.{ltb-true, lt-ltb, le-ltb}
-use Rattle.list_laws.proofs.Places.{position_below, get_left}
-use Rattle.nc_base.specs.declared.header.Dim.{Dim}
-use Rattle.script_spec.specs.ScriptWords.{all_some}
-use Rattle.script_spec.specs.ScriptDefinitions.{is_among, dim_names, dim_ids, is_record_dim, is_unlimited}
 
 abbrev place : ℕ → ℕ → Option ℕ
 place k n = cond (nat_lt k n) (Some k) None

@@ -1,29 +1,9 @@
 -- Types and attributes that are printed are read again.
-use Rattle.std.proofs.Common.{◌≡◌, ◌∙◌, ℕ, ◌+◌, ◌≤◌, ◌<◌, List, [], ◌∷◌, ◌++◌, map, find, length, take, drop, flat_map, Bool, true, false, cond, nat_le, Option, Some, None, Ok, ℤ, refl, ap, subst, arith, bytes_eq}
-use Rattle.std.specs.List.{list_all, list_any}
-use Rattle.std.proofs.lemmas.Bool.{and_parts, and_from, cond-true}
-use Rattle.std.proofs.lemmas.List.{take_at, drop_at}
+use Rattle.script_text.proofs.Words.{◌≡◌, ◌∙◌, ℕ, ◌+◌, ◌≤◌, ◌<◌, List, [], ◌∷◌, ◌++◌, map, find, length, take, drop, Bool, true, false, cond, nat_le, Option, Some, None, Ok, ℤ, refl, ap, subst, arith, bytes_eq, list_all, list_any, and_parts, and_from, cond-true, take_at, drop_at, NcType, Byte, Char, Short, Int, Float, Double, UByte, UShort, UInt, Int64, UInt64, Attr, Value, Values, Numbers, Text, Bits, Class, class_of, width_of, size_of, ext, val, fits, types, number_of, last_type, most_values, count_of, number_in, code_in, gathered, val-ext, ext_long, type_word, pieces, attr_values, shown_values, Word, Plain, is_name, refuse_if, reads_as, name, name_of_text, are_numbers, are_patterns, are_text, values, type_of, Title, same_title, external_bytes, attr_of, attribute_name, attribute}
+use Rattle.std.proofs.Common.{flat_map}
 use Rattle.nc_base.specs.declared.errors.ScriptKind.TheVariants as kind
-use Rattle.nc_base.specs.declared.header.NcType.{NcType}
-use Rattle.nc_base.specs.declared.header.NcType.TheVariants.{Byte, Char, Short, Int, Float, Double, UByte, UShort, UInt, Int64, UInt64}
-use Rattle.nc_base.specs.declared.header.Attr.{Attr}
-use Rattle.nc_base.specs.declared.request.Value.{Value}
 use Rattle.nc_base.specs.declared.request.Value.TheVariants as value
-use Rattle.nc_base.specs.declared.request.Values.{Values}
-use Rattle.nc_base.specs.declared.request.Values.TheVariants.{Numbers, Text, Bits}
 use Rattle.serial_spec.specs.ExternalForm as class
-use Rattle.serial_spec.specs.ExternalForm.{Class, class_of, width_of, size_of, ext, val, fits, types}
-use Rattle.serial_spec.specs.HeaderBytes.{number_of, last_type}
-use Rattle.serial_spec.specs.Lawful.{most_values}
-use Rattle.nc_base.specs.Values.{count_of}
-use Rattle.serial_spec.specs.Request.{number_in, code_in, gathered}
-use Rattle.serial_spec.proofs.ValueLaws.{val-ext, ext_long}
-use Rattle.script_spec.specs.Texts.{type_word}
-use Rattle.script_spec.specs.Shown.{pieces, attr_values, shown_values}
-use Rattle.script_spec.specs.ScriptWords.{Word, Plain, is_name}
-use Rattle.script_spec.specs.ScriptSteps.{refuse_if, reads_as, name, name_of_text}
-use Rattle.script_spec.specs.ScriptValues.{are_numbers, are_patterns, are_text, values}
-use Rattle.script_spec.specs.ScriptDefinitions.{type_of, Title, same_title, external_bytes, attr_of, attribute_name, attribute}
 use Rattle.script_text.proofs.Steps.{went, go_on, same_ok, not_refused, passed, read_word, word_read}
 use Rattle.script_text.proofs.Lexing.{spelling, is_plain, is_good, is_byte}
 use Rattle.script_text.proofs.Numerals.{name_plain}

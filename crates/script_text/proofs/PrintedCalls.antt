@@ -1,36 +1,13 @@
 -- A call that is printed is read as the same call.
-use Rattle.std.proofs.Common.{◌≡◌, ◌∙◌, ℕ, ◌+◌, ◌^◌, ◌≤◌, ◌<◌, List, [], ◌∷◌, ◌++◌, Bool, true, false, Option, Some, None, Result, Ok, refl, sym, ap, subst, append-nil, arith, codes, decimal}
-use Rattle.std.specs.List.{list_all}
-use Rattle.std.proofs.lemmas.Bool.{and_from, ltb-true}
-use Rattle.nc_base.specs.declared.errors.ScriptKind.{ScriptKind}
+use Rattle.script_text.proofs.Words.{◌≡◌, ◌∙◌, ℕ, ◌+◌, ◌^◌, ◌≤◌, ◌<◌, List, [], ◌∷◌, ◌++◌, Bool, true, false, Option, Some, None, Result, Ok, refl, sym, ap, subst, append-nil, arith, codes, decimal, list_all, and_from, ltb-true, ScriptKind, Values, Numbers, Form, Given, PostKind, Iput, Iget, Bput, Choice, Call, most_values, values_in_call, count_of, call_word, Word, Plain, is_name, ◌>>=◌, refuse_if, or_fault, reads_as, size, name, name_of_text, ended, whole, values, after_prefix, form_of_text, form_and_all, region, id_of_text, choice, posted, is_posted, new_id, put_call, get_call, post_values, post_call, behind, row_call, plain_call, post_of_text, call_of, Family, Requests, Size, Name, Record, Nothing, Behind, CallRow, row_of_text, faultless_some, is_sized, IsRow, found_row, made_word, made_no_values, is_expressible_behind, all_joined}
 use Rattle.nc_base.specs.declared.errors.ScriptKind.TheVariants as kind
-use Rattle.nc_base.specs.declared.request.Values.{Values}
-use Rattle.nc_base.specs.declared.request.Values.TheVariants.{Numbers}
-use Rattle.nc_base.specs.declared.request.Form.{Form}
-use Rattle.nc_base.specs.declared.request.Given.{Given}
-use Rattle.nc_base.specs.declared.request.PostKind.{PostKind}
-use Rattle.nc_base.specs.declared.request.PostKind.TheVariants.{Iput, Iget, Bput}
-use Rattle.nc_base.specs.declared.request.Choice.{Choice}
-use Rattle.nc_base.specs.declared.request.Call.{Call}
 use Rattle.nc_base.specs.declared.request.Call.TheVariants as call
-use Rattle.serial_spec.specs.Lawful.{most_values, values_in_call}
-use Rattle.nc_base.specs.Values.{count_of}
-use Rattle.script_spec.specs.Texts.{call_word}
-use Rattle.script_spec.specs.ScriptWords.{Word, Plain, is_name}
-use Rattle.script_spec.specs.ScriptSteps.{◌>>=◌, refuse_if, or_fault, reads_as, size, name, name_of_text, ended, whole}
-use Rattle.script_spec.specs.ScriptValues.{values}
-use Rattle.script_spec.specs.ScriptCalls.{after_prefix, form_of_text, form_and_all, region, id_of_text, choice, posted, is_posted, new_id, put_call, get_call, post_values, post_call, behind, row_call, plain_call, post_of_text, call_of}
-use Rattle.script_spec.specs.CallTable.{Family, Requests, Size, Name, Record, Nothing, Behind, CallRow, row_of_text}
-use Rattle.script_spec.proofs.TextLaws.{faultless_some}
-use Rattle.script_spec.proofs.CallTableLaws.{is_sized, IsRow, found_row, made_word, made_no_values}
-use Rattle.script_text.specs.Expressible.{is_expressible_behind}
 use Rattle.script_text.proofs.Steps.{went, go_on, same_ok, not_refused, passed, read_word, word_read, whole_value}
 use Rattle.script_text.proofs.Lexing.{is_good}
 use Rattle.script_text.proofs.Numerals.{name_plain, size_plain}
 use Rattle.script_text.proofs.PrintedValues.{value_tokens, is_read, Fitting, values_fit, values_again, values_good}
 use Rattle.script_text.proofs.PrintedRegions.{kept, name_read, name_again, size_read, size_word, region_tokens, RegionAgain, region_again, region_kept, id_bound, id_again, id_plain, ChoiceAgain, choice_told, choice_read}
 use Rattle.script_text.proofs.CallTokens.{tokens_behind, call_tokens, made_tokens, get_word, post_word, put_word}
-use Rattle.list_laws.proofs.Each.{all_joined}
 
 -- ---- a call read again
 

@@ -1,19 +1,8 @@
 -- Hints, dimensions and variables that are printed are read again.
-use Rattle.std.proofs.Common.{◌≡◌, ◌⊎◌, ◌∙◌, ℕ, zero, suc, ◌%◌, ◌^◌, ◌<◌, List, [], ◌∷◌, length, Bool, true, false, not, cond, nat_le, ◌==◌, ◌&&◌, ◌||◌, Option, Some, None, is_some, slice_get, slice_set, unwrap_or, Ok, refl, sym, ap, subst, ⊎_elim, arith, bytes_eq, codes, decimal, inl, inr}
-use Rattle.std.specs.List.{list_all, list_any}
-use Rattle.std.proofs.lemmas.Bool.{and_parts, and_from, cond-true, cond-false}
+use Rattle.script_text.proofs.Words.{◌≡◌, ◌⊎◌, ◌∙◌, ℕ, zero, suc, ◌%◌, ◌^◌, ◌<◌, List, [], ◌∷◌, length, Bool, true, false, not, cond, nat_le, ◌==◌, ◌&&◌, ◌||◌, Option, Some, None, is_some, slice_get, slice_set, unwrap_or, Ok, refl, sym, ap, subst, ⊎_elim, arith, bytes_eq, codes, decimal, inl, inr, list_all, list_any, and_parts, and_from, cond-true, cond-false, NcType, Dim, most_dims, most_vars, record_limit, type_word, joined, bracketed, Word, Plain, is_name, below, size_of_text, between_brackets, parts, refuse_if, reads_as, name, ended, HintForm, Within, Either, HintRow, hint_table, hint_of_text, hint_form, hint_in, no_row, number_within, one_of_two, hint_value, hint_line, ranks_line, type_of, is_among, length_of_text, is_unlimited, dim_names, dim_line, var_head, name_list, size_read}
 use borrow.Author.Tests.{leb-true, not-false}
 use Rattle.nc_base.specs.declared.errors.ScriptKind.TheVariants as kind
 use Rattle.nc_base.specs.declared.errors.LimitName.TheVariants as limit
-use Rattle.nc_base.specs.declared.header.NcType.{NcType}
-use Rattle.nc_base.specs.declared.header.Dim.{Dim}
-use Rattle.serial_spec.specs.Limits.{most_dims, most_vars, record_limit}
-use Rattle.script_spec.specs.Texts.{type_word, joined}
-use Rattle.script_spec.specs.Shown.{bracketed}
-use Rattle.script_spec.specs.ScriptWords.{Word, Plain, is_name, below, size_of_text, between_brackets, parts}
-use Rattle.script_spec.specs.ScriptSteps.{refuse_if, reads_as, name, ended}
-use Rattle.script_spec.specs.HintTable.{HintForm, Within, Either, HintRow, hint_table, hint_of_text, hint_form, hint_in, no_row}
-use Rattle.script_spec.specs.ScriptDefinitions.{number_within, one_of_two, hint_value, hint_line, ranks_line, type_of, is_among, length_of_text, is_unlimited, dim_names, dim_line, var_head, name_list}
 use Rattle.script_text.proofs.Steps.{went, go_on, same_ok, not_refused, passed, read_word, word_read, whole_value}
 use Rattle.script_text.proofs.Lexing.{is_plain, is_good}
 use Rattle.script_text.proofs.Lines.{all_more}
@@ -21,7 +10,6 @@ use Rattle.script_text.proofs.Numerals.{below_bound, below_again, size_again, si
 use Rattle.script_text.proofs.PrintedValues.{not_letters}
 use Rattle.script_text.proofs.PrintedRegions.{name_read, name_again}
 use Rattle.script_text.proofs.PrintedAttributes.{type_read, type_word_again}
-use Rattle.script_spec.proofs.NumeralLaws.{size_read}
 
 -- ---- hints
 

@@ -1,32 +1,16 @@
 -- Names, regions, ids and choices that are printed are read again.
-use Rattle.std.proofs.Common.{◌≡◌, ◌∙◌, ℕ, zero, suc, ◌+◌, ◌^◌, ◌≤◌, ◌<◌, List, [], ◌∷◌, ◌++◌, map, length, flat_map, Bool, true, false, not, cond, nat_lt, nat_le, ◌==◌, ◌&&◌, Option, Some, None, Result, Ok, refl, sym, ap, subst, append_assoc, append-nil, length-append, arith, bytes_eq, codes, decimal}
-use Rattle.std.specs.List.{list_all}
-use Rattle.std.proofs.lemmas.Bool.{and_parts, and_from, cond-true, ne_eqb}
+use Rattle.script_text.proofs.Words.{◌≡◌, ◌∙◌, ℕ, zero, suc, ◌+◌, ◌^◌, ◌≤◌, ◌<◌, List, [], ◌∷◌, ◌++◌, map, length, Bool, true, false, not, cond, nat_lt, nat_le, ◌==◌, ◌&&◌, Option, Some, None, Result, Ok, refl, sym, ap, subst, append_assoc, append-nil, length-append, arith, bytes_eq, codes, decimal, list_all, and_parts, and_from, cond-true, ne_eqb, faultless_some, ScriptKind, Form, Given, Part, Choice, Every, Listed, most_parts, has_lists_of, has_its_lists, is_given, is_empty, size_list, part_words, form_words, choice_words, Word, Plain, is_word, is_name, size_of_text, list_of_text, ◌>>=◌, refuse_if, bare, reads_as, size, list, name, name_of_text, whole, given_of, given_parts, part, part_list, region, id_of_text, one_id, ids, choice, is_id, is_expressible_choice, all_joined}
+use Rattle.std.proofs.Common.{flat_map}
 use borrow.Author.Tests.{ltb-true, ltb-false, lt-ltb, le-ltb, leb-true}
-use Rattle.script_spec.proofs.TextLaws.{faultless_some}
-use Rattle.nc_base.specs.declared.errors.ScriptKind.{ScriptKind}
 use Rattle.nc_base.specs.declared.errors.ScriptKind.TheVariants as kind
 use Rattle.nc_base.specs.declared.errors.LimitName.TheVariants as limit
-use Rattle.nc_base.specs.declared.request.Form.{Form}
 use Rattle.nc_base.specs.declared.request.Form.TheVariants as form
-use Rattle.nc_base.specs.declared.request.Given.{Given}
-use Rattle.nc_base.specs.declared.request.Part.{Part}
-use Rattle.nc_base.specs.declared.request.Choice.{Choice}
-use Rattle.nc_base.specs.declared.request.Choice.TheVariants.{Every, Listed}
-use Rattle.serial_spec.specs.Lawful.{most_parts, has_lists_of, has_its_lists, is_given}
-use Rattle.serial_spec.specs.Lists.{is_empty}
-use Rattle.script_spec.specs.Shown.{size_list, part_words, form_words, choice_words}
-use Rattle.script_spec.specs.ScriptWords.{Word, Plain, is_word, is_name, size_of_text, list_of_text}
-use Rattle.script_spec.specs.ScriptSteps.{◌>>=◌, refuse_if, bare, reads_as, size, list, name, name_of_text, whole}
-use Rattle.script_spec.specs.ScriptCalls.{given_of, given_parts, part, part_list, region, id_of_text, one_id, ids, choice}
-use Rattle.script_text.specs.Expressible.{is_id, is_expressible_choice}
 use Rattle.script_text.proofs.Steps.{went, go_on, same_ok, not_refused, passed, faultless, read_word, word_read, word_before, whole_value, carried, carry_on, by_false}
 use Rattle.script_text.proofs.Lexing.{spelling, is_plain, is_good}
 use Rattle.script_text.proofs.Lines.{empty_list}
 use Rattle.script_text.proofs.Numerals.{decimal_word, below_bound, below_again, size_again, size_plain, is_size, list_bound, list_again, list_plain}
 use Rattle.script_text.proofs.PrintedValues.{plain_spelled, not_letters}
 use Rattle.script_spec.proofs.NumeralLaws.{size_read as size_bound}
-use Rattle.list_laws.proofs.Each.{all_joined}
 
 -- what holds of each word holds of each that follows the one that is read
 pub kept : {A : Type 0} (p : Word → Bool) (f : List ℕ → Option A) (e : ScriptKind) (ws : List Word) (r : A × List Word) → reads_as f e ws ≡ Ok r → list_all p ws ≡ true → list_all p r.1 ≡ true

@@ -1,28 +1,10 @@
 -- Values that are printed are read as the same values.
-use Rattle.std.proofs.Common.{◌≡◌, ◌∙◌, ℕ, suc, ◌+◌, ◌^◌, ◌≤◌, ◌<◌, List, [], ◌∷◌, ◌++◌, map, length, Bool, true, false, not, cond, nat_lt, ◌&&◌, Option, Some, None, is_some, Result, Ok, ℤ, unsigned_abs, refl, sym, ap, subst, append_assoc, append-nil, length-append, arith, bytes_eq, codes}
-use Rattle.std.specs.Fmt.{signed_decimal}
-use Rattle.std.specs.List.{list_all}
-use Rattle.std.proofs.lemmas.Bool.{and_parts, and_from, and_left, cond-true, ne_eqb}
+use Rattle.script_text.proofs.Words.{◌≡◌, ◌∙◌, ℕ, suc, ◌+◌, ◌^◌, ◌≤◌, ◌<◌, List, [], ◌∷◌, ◌++◌, map, length, Bool, true, false, not, cond, nat_lt, ◌&&◌, Option, Some, None, is_some, Result, Ok, ℤ, unsigned_abs, refl, sym, ap, subst, append_assoc, append-nil, length-append, arith, bytes_eq, codes, signed_decimal, list_all, and_parts, and_from, and_left, cond-true, ne_eqb, sixteens, faultless_some, ScriptKind, NcType, Values, Numbers, Text, Bits, Class, class_of, most_elements, most_values, count_of, hex, shown_values, Word, Plain, Quoted, Broken, number_of_text, bits_of_text, refuse_if, or_fault, bare, reads_as, size, ended, within_limits, are_numbers, are_patterns, are_text, may_be, may_have, wrong_kind, number_for, pattern_for, one_value, each_value, sequence_count, sequence, last_number, is_term, term, numbers_between, pattern_sequence, last_pattern, is_pattern_term, pattern_term, patterns_between, seq_values, seqx_values, pattern_values, text_values, number_values, bits_values, begins_x, listed_kind, listed_values, values}
 use borrow.Author.Tests.{ltb-true, ltb-false, lt-ltb, le-ltb, not-false}
-use Rattle.script_spec.proofs.NumeralLaws.{sixteens}
-use Rattle.script_spec.proofs.TextLaws.{faultless_some}
-use Rattle.nc_base.specs.declared.errors.ScriptKind.{ScriptKind}
 use Rattle.nc_base.specs.declared.errors.ScriptKind.TheVariants as kind
 use Rattle.nc_base.specs.declared.errors.LimitName.TheVariants as limit
-use Rattle.nc_base.specs.declared.header.NcType.{NcType}
 use Rattle.nc_base.specs.declared.request.Value.TheVariants as value
-use Rattle.nc_base.specs.declared.request.Values.{Values}
-use Rattle.nc_base.specs.declared.request.Values.TheVariants.{Numbers, Text, Bits}
 use Rattle.serial_spec.specs.ExternalForm as class
-use Rattle.serial_spec.specs.ExternalForm.{Class, class_of}
-use Rattle.serial_spec.specs.Limits.{most_elements}
-use Rattle.serial_spec.specs.Lawful.{most_values}
-use Rattle.nc_base.specs.Values.{count_of}
-use Rattle.script_spec.specs.Texts.{hex}
-use Rattle.script_spec.specs.Shown.{shown_values}
-use Rattle.script_spec.specs.ScriptWords.{Word, Plain, Quoted, Broken, number_of_text, bits_of_text}
-use Rattle.script_spec.specs.ScriptSteps.{refuse_if, or_fault, bare, reads_as, size, ended}
-use Rattle.script_spec.specs.ScriptValues.{within_limits, are_numbers, are_patterns, are_text, may_be, may_have, wrong_kind, number_for, pattern_for, one_value, each_value, sequence_count, sequence, last_number, is_term, term, numbers_between, pattern_sequence, last_pattern, is_pattern_term, pattern_term, patterns_between, seq_values, seqx_values, pattern_values, text_values, number_values, bits_values, begins_x, listed_kind, listed_values, values}
 use Rattle.script_text.proofs.Steps.{went, go_on, same_ok, not_refused, passed, faultless, carried, carry_on, by_false}
 use Rattle.script_text.proofs.Lexing.{spelling, is_byte, is_good}
 use Rattle.script_text.proofs.Numerals.{IsNumberWord, number_word, number_again, number_bound, bits_again, bits_bound, hex_graphic}

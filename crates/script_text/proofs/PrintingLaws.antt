@@ -1,26 +1,7 @@
 -- What is pushed of a script.
-use Rattle.std.proofs.Common.{◌≡◌, ◌<◌, ◌+◌, ◌*◌, ℕ, zero, suc, List, [], ◌∷◌, ◌++◌, map, length, take, drop, get_or, Bool, true, false, Some, ℤ, pos, refl, sym, ap, ◌∙◌, arith}
-use Rattle.std.specs.List.{enumerate_from, flat_map, list_all}
-use Rattle.std.specs.Fmt.{signed_decimal}
-use Rattle.std.specs.Int.{w8, w16, w32, w64, from_be_bytes, cast_signed}
-use Rattle.std.proofs.lemmas.Bool.{eqb-true}
+use Rattle.script_text.proofs.Words.{◌≡◌, ◌<◌, ◌+◌, ◌*◌, ℕ, zero, suc, List, [], ◌∷◌, ◌++◌, map, length, take, drop, get_or, Bool, true, false, Some, ℤ, pos, refl, sym, ap, ◌∙◌, arith, enumerate_from, flat_map, list_all, signed_decimal, w8, w16, w32, w64, from_be_bytes, cast_signed, eqb-true, flat_map-append, list_all_at, length-enumerate_from, get_or-enumerate_from, Attr, NcType, Byte, Char, Short, Int, Float, Double, UByte, UShort, UInt, Int64, UInt64, Values, class_of, size_of, val, is_whole_attr, code_in, gathered, number_in, attr_values, pieces, shown_values, hex, joined, quoted, spaced, all_pushed, item_words, joined_spaced, next_pushed, spaced_one, value_word}
 use Rattle.std.proofs.lemmas.List.{append-nil, append_assoc}
-use Rattle.std.proofs.lemmas.List.Concat.{flat_map-append}
-use Rattle.std.proofs.lemmas.List.Folds.{list_all_at}
-use Rattle.std.proofs.lemmas.List.FromFn.{length-enumerate_from, get_or-enumerate_from}
-use Rattle.nc_base.specs.declared.header.Attr.{Attr}
-use Rattle.nc_base.specs.declared.header.NcType.{NcType}
-use Rattle.nc_base.specs.declared.header.NcType.TheVariants.{Byte, Char, Short, Int, Float, Double, UByte, UShort, UInt, Int64, UInt64}
 use Rattle.nc_base.specs.declared.request.Value.TheVariants as value
-use Rattle.nc_base.specs.declared.request.Values.{Values}
-use Rattle.serial_spec.specs.ExternalForm.{class_of, size_of, val}
-use Rattle.serial_spec.specs.Lawful.{is_whole_attr}
-use Rattle.serial_spec.specs.Request.{code_in, gathered, number_in}
-use Rattle.script_spec.specs.Shown.{attr_values, pieces, shown_values}
-use Rattle.script_spec.specs.Texts.{hex, joined, quoted}
-use Rattle.printed_text.specs.Spaced.{spaced}
-use Rattle.printed_text.proofs.WordLaws.{all_pushed, item_words, joined_spaced, next_pushed, spaced_one}
-use Rattle.script_text.specs.CanonicalParts.{value_word}
 
 -- what each item passes, one passes
 pub all_at : {A : Type 0} (test : A → Bool) (xs : List A) (i : ℕ) (d : A) → list_all test xs ≡ true → i < length xs → test (get_or xs i d) ≡ true

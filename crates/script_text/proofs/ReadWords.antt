@@ -1,14 +1,10 @@
 -- The texts on the lines of bytes have bytes.
-use Rattle.std.proofs.Common.{◌≡◌, ℕ, zero, suc, ◌+◌, ◌*◌, ◌<◌, List, [], ◌∷◌, length, take, drop, Bool, true, false, not, cond, ◌==◌, ◌||◌, Option, Some, None, option_map, refl, subst, arith}
-use Rattle.std.specs.List.{list_all, slice_split, onto_first, enumerate_from, position_or_len}
-use Rattle.std.proofs.lemmas.Bool.{and_parts, and_from}
+use Rattle.script_text.proofs.Words.{◌≡◌, ℕ, zero, suc, ◌+◌, ◌*◌, ◌<◌, List, [], ◌∷◌, length, take, drop, Bool, true, false, not, cond, ◌==◌, ◌||◌, Option, Some, None, option_map, refl, subst, arith, list_all, slice_split, onto_first, enumerate_from, position_or_len, and_parts, and_from, Word, Plain, Quoted, Broken, Line, is_blank, is_comment, is_newline, begins_blank, after_blanks, first_word, quoted_word, text_from, TextState, Between, AfterBackslash, FirstHex, SecondHex, words, words_within, hex_value, escape, without_empty_end, text_lines, line_of, significant, significant_of, all_joined}
 use borrow.Author.Tests.{lt-ltb}
-use Rattle.script_spec.specs.ScriptWords.{Word, Plain, Quoted, Broken, Line, is_blank, is_comment, is_newline, begins_blank, after_blanks, first_word, quoted_word, text_from, TextState, Between, AfterBackslash, FirstHex, SecondHex, words, words_within, hex_value, escape, without_empty_end, text_lines, line_of, significant, significant_of}
 use Rattle.script_text.proofs.Lexing.{is_byte}
 use Rattle.script_text.proofs.Numerals.{hex_value_bound}
 use Rattle.script_text.proofs.PrintedValues.{is_read}
 use Rattle.script_text.proofs.CallLines.{are_read}
-use Rattle.list_laws.proofs.Each.{all_joined}
 
 abbrev are_bytes : List ℕ → Bool
 are_bytes cs = list_all is_byte cs

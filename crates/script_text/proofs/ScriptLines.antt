@@ -1,23 +1,11 @@
 -- A script as its lines, which spell what is shown of it.
-use Rattle.std.proofs.Common.{◌≡◌, ◌∙◌, ℕ, ◌+◌, List, [], ◌∷◌, ◌++◌, map, flat_map, Bool, true, false, not, cond, ◌==◌, refl, sym, ap, append_assoc, append-nil, codes, decimal}
-use Rattle.std.specs.List.{enumerate_from}
-use Rattle.nc_base.specs.declared.header.Header.{Header}
-use Rattle.nc_base.specs.declared.header.Var.{Var}
-use Rattle.nc_base.specs.declared.script.Hints.{Hints}
-use Rattle.nc_base.specs.declared.script.Extra.{Extra}
-use Rattle.nc_base.specs.declared.script.Script.{Script}
-use Rattle.nc_base.specs.declared.request.Call.{Call}
-use Rattle.script_spec.specs.Texts.{line}
-use Rattle.script_spec.specs.Shown.{shown, shown_hints, shown_extra, shown_dim, shown_var, shown_attr, shown_call}
-use Rattle.script_spec.specs.ScriptWords.{Word, Plain}
-use Rattle.script_spec.specs.ScriptDefinitions.{Defined}
-use Rattle.script_spec.specs.ScriptGrammar.{header_of}
+use Rattle.script_text.proofs.Words.{◌≡◌, ◌∙◌, ℕ, ◌+◌, List, [], ◌∷◌, ◌++◌, map, Bool, true, false, not, cond, ◌==◌, refl, sym, ap, append_assoc, append-nil, codes, decimal, enumerate_from, Header, Var, Hints, Extra, Script, Call, line, shown, shown_hints, shown_extra, shown_dim, shown_var, shown_attr, shown_call, Word, Plain, Defined, header_of, flat_map-append}
+use Rattle.std.proofs.Common.{flat_map}
 use Rattle.script_text.proofs.Lines.{spelled}
 use Rattle.script_text.proofs.CallLines.{call_lines, calls_spelled}
 use Rattle.script_text.proofs.AddedLines.{extra_line, extras_spelled, att_spelled}
 use Rattle.script_text.proofs.DefinedLines.{line_of_dim, line_of_var, line_of_att, lines_of_own, definition_lines}
 use Rattle.script_text.proofs.KnownLines.{hint_tokens, mapped_spelled, hints_spelled}
-use Rattle.std.proofs.lemmas.List.Concat.{flat_map-append}
 
 -- ---- a script, as its lines
 

@@ -1,19 +1,10 @@
 -- The terms of a sequence lie between its first and its last, so that what holds of these two holds of them.
-use Rattle.std.proofs.Common.{◌≡◌, ◌∙◌, ℕ, zero, suc, ◌+◌, ◌-◌, ◌*◌, ◌^◌, ◌≤◌, ◌<◌, length, Bool, true, nat_lt, ◌==◌, ◌&&◌, Option, Some, None, ℤ, pos, negsuc, neg_ℤ, ◌+ℤ◌, ◌*ℤ◌, unsigned_abs, refl, ⊎_elim, arith}
-use Rattle.std.specs.List.{list_all, range_with_len}
-use Rattle.std.proofs.lemmas.Bool.{and_parts, and_from, or_cases}
-use Rattle.std.proofs.lemmas.Grind.{common_steps}
-use Rattle.std.proofs.lemmas.Int.{ints}
-use Rattle.std.proofs.lemmas.List.Folds.{list_all-map}
-use Rattle.std.proofs.lemmas.List.FromFn.{length-map-range_with_len}
+use Rattle.script_text.proofs.Words.{◌≡◌, ◌∙◌, ℕ, zero, suc, ◌+◌, ◌-◌, ◌*◌, ◌^◌, ◌≤◌, ◌<◌, length, Bool, true, nat_lt, ◌==◌, ◌&&◌, Option, Some, None, ℤ, pos, negsuc, neg_ℤ, ◌+ℤ◌, ◌*ℤ◌, unsigned_abs, refl, ⊎_elim, arith, list_all, range_with_len, and_parts, and_from, or_cases, common_steps, ints, list_all-map, length-map-range_with_len, NcType, Class, Signed, Unsigned, Pattern, class_of, size_of, fits_in, may_have, sequence, last_number, is_term, pattern_sequence, last_pattern, is_pattern_term, bits_in}
 use borrow.Author.Tests.{ltb-true, lt-ltb}
 use lib.Signed.{◌≤ℤ◌}
 use native.Mathlib.Nat.{mul-le-mul_left}
-use Rattle.nc_base.specs.declared.header.NcType.{NcType}
 use Rattle.nc_base.specs.declared.request.Value.TheVariants as value
-use Rattle.serial_spec.specs.ExternalForm.{Class, Signed, Unsigned, Text, Pattern, class_of, size_of, fits_in}
-use Rattle.script_spec.specs.ScriptValues.{may_have, sequence, last_number, is_term, pattern_sequence, last_pattern, is_pattern_term}
-use Rattle.type_external.proofs.PatternLaws.{bits_in}
+use Rattle.serial_spec.specs.ExternalForm.{Text}
 
 -- a number that may stand here, and has few digits
 abbrev pub is_fit_number : Option NcType → ℤ → Bool

@@ -1,9 +1,5 @@
 -- Steps from word to word, forwards and backwards.
-use Rattle.std.proofs.Common.{◌≡◌, ◌∙◌, ℕ, List, [], ◌∷◌, Bool, true, false, Option, Some, Result, Ok, Err, refl, ap}
-use Rattle.script_spec.proofs.TextLaws.{faultless_some}
-use Rattle.nc_base.specs.declared.errors.ScriptKind.{ScriptKind}
-use Rattle.script_spec.specs.ScriptWords.{Word, Plain, Quoted, Broken}
-use Rattle.script_spec.specs.ScriptSteps.{◌>>=◌, refuse_if, or_fault, bare, next, reads_as, ended, whole}
+use Rattle.script_text.proofs.Words.{◌≡◌, ◌∙◌, ℕ, List, [], ◌∷◌, Bool, true, false, Option, Some, Result, Ok, Err, refl, ap, faultless_some, ScriptKind, Word, Plain, Quoted, Broken, ◌>>=◌, refuse_if, or_fault, bare, next, reads_as, ended, whole}
 
 -- ---- what a step that gave something says of its parts
 

@@ -1,29 +1,9 @@
 -- A whole script: what is printed of what was read is read as the same script.
-use Rattle.std.proofs.Common.{◌≡◌, ◌∙◌, ℕ, zero, suc, ◌+◌, ◌%◌, ◌^◌, ◌≤◌, ◌<◌, List, [], ◌∷◌, ◌++◌, map, replicate, length, flat_map, Bool, true, false, not, cond, nat_lt, nat_le, ◌==◌, ◌&&◌, ◌||◌, Option, Some, None, Result, Ok, Err, refl, sym, ap, subst, ⊎_elim, arith, bytes_eq, codes, decimal, take}
-use Rattle.std.specs.List.{list_all}
-use Rattle.std.specs.Str.Lossy.{utf8_valid_len}
-use Rattle.std.proofs.lemmas.Bool.{and_parts, and_from, or_cases, cond-true, ne_eqb, eqb-true}
+use Rattle.script_text.proofs.Words.{◌≡◌, ◌∙◌, ℕ, zero, suc, ◌+◌, ◌%◌, ◌^◌, ◌≤◌, ◌<◌, List, [], ◌∷◌, ◌++◌, map, replicate, length, Bool, true, false, not, cond, nat_lt, nat_le, ◌==◌, ◌&&◌, ◌||◌, Option, Some, None, Result, Ok, Err, refl, sym, ap, subst, ⊎_elim, arith, bytes_eq, codes, decimal, take, list_all, utf8_valid_len, and_parts, and_from, or_cases, cond-true, ne_eqb, eqb-true, finished, ScriptKind, ScriptErr, Hints, Extra, Script, Call, is_version, kinds, most_values, shown, Word, Plain, Quoted, Broken, Line, size_of_text, text_lines, significant, ◌>>=◌, reads_as, whole, Within, hints_of, Defined, no_definition, Added, nothing_added, Known, nothing_known, ranks_line, Called, mismatch, at_line, version_of_text, version_line, head, definitions, data_part, finish, script_of, no_calls, script_of_lines, most_bytes, most_lines, newlines, too_many_lines, within_lines, script_of_utf8, Reads, is_mismatch, length-map, all_joined}
+use Rattle.std.proofs.Common.{flat_map}
 use borrow.Author.Tests.{leb-true, le-ltb, ltb-false}
-use Rattle.script_spec.proofs.TextLaws.{finished}
-use Rattle.nc_base.specs.declared.errors.ScriptKind.{ScriptKind}
 use Rattle.nc_base.specs.declared.errors.ScriptKind.TheVariants as kind
-use Rattle.nc_base.specs.declared.errors.ScriptErr.{ScriptErr}
 use Rattle.nc_base.specs.declared.errors.LimitName.TheVariants as limit
-use Rattle.nc_base.specs.declared.script.Hints.{Hints}
-use Rattle.nc_base.specs.declared.script.Extra.{Extra}
-use Rattle.nc_base.specs.declared.script.Script.{Script}
-use Rattle.nc_base.specs.declared.request.Call.{Call}
-use Rattle.serial_spec.specs.HeaderBytes.{is_version}
-use Rattle.serial_spec.specs.History.{kinds}
-use Rattle.serial_spec.specs.Lawful.{most_values}
-use Rattle.script_spec.specs.Shown.{shown}
-use Rattle.script_spec.specs.ScriptWords.{Word, Plain, Quoted, Broken, Line, size_of_text, text_lines, significant}
-use Rattle.script_spec.specs.ScriptSteps.{◌>>=◌, reads_as, whole}
-use Rattle.script_spec.specs.HintTable.{Within, hints_of}
-use Rattle.script_spec.specs.ScriptDefinitions.{Defined, no_definition, Added, nothing_added, Known, nothing_known, ranks_line}
-use Rattle.script_spec.specs.ScriptCalls.{Called, mismatch}
-use Rattle.script_spec.specs.ScriptGrammar.{at_line, version_of_text, version_line, head, definitions, data_part, finish, script_of, no_calls, script_of_lines, most_bytes, most_lines, newlines, too_many_lines, within_lines, script_of_utf8, Reads, is_mismatch}
-use Rattle.std.proofs.lemmas.List.{length-map}
 use Rattle.script_text.proofs.Steps.{went, go_on, same_ok, read_word, word_read, whole_value}
 use Rattle.script_text.proofs.Lines.{is_line, spelled, body, numbered, lines_again, significant_lines, valid_lines, valid_bytes}
 use Rattle.script_text.proofs.Numerals.{size_again, size_plain}
@@ -35,7 +15,6 @@ use Rattle.script_text.proofs.DefinedLines.{at_state, leads_by, definition_lines
 use Rattle.script_text.proofs.ReadWords.{significant_read}
 use Rattle.script_text.proofs.KnownLines.{hint_tokens, all_given, hints_again, HintsFit, hints_fit, with_hints, hints_run, hints_are_lines, What, nothing_ok, definitions_read}
 use Rattle.script_text.proofs.ScriptLines.{ranks_words, fill_lines, before_data, from_data, head_words, all_lines, script_with, all_spelled}
-use Rattle.list_laws.proofs.Each.{all_joined}
 
 -- ---- what is known at `data` is known again
 

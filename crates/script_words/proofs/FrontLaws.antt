@@ -1,16 +1,6 @@
 -- A number at the front of a line.
-use Rattle.std.proofs.Common.{◌≡◌, ℕ, zero, suc, ◌+◌, ◌-◌, ◌≤◌, ◌<◌, ◌==◌, List, [], ◌∷◌, length, take, drop, Bool, true, false, Option, Some, None, ℤ, refl, sym, ap, ◌∙◌, arith, option_map, nat_lt, nat_le, ◌&&◌, ◌^◌, pos, neg_ℤ}
-use Rattle.std.specs.List.{position_or_len, list_all}
-use Rattle.std.proofs.lemmas.Bool.{and_parts}
-use Rattle.std.proofs.lemmas.Bool.Decides.{nat_tests}
-use Rattle.std.proofs.lemmas.Option.{cond_some}
-use Rattle.list_laws.proofs.Truth.{and_first, and_second}
-use Rattle.std.proofs.lemmas.List.{take_all}
-use Rattle.std.proofs.lemmas.Grind.{common_steps}
-use Rattle.script_spec.proofs.NumeralLaws.{digit_bounds, tens}
-use Rattle.script_spec.specs.ScriptWords.{is_blank, is_digit, is_digits, begins_blank, digits_value, natural_of, number_of_text, words, after_blanks}
+use Rattle.script_words.proofs.Words.{◌≡◌, ℕ, zero, suc, ◌+◌, ◌-◌, ◌≤◌, ◌<◌, ◌==◌, List, [], ◌∷◌, length, take, drop, Bool, true, false, Option, Some, None, ℤ, refl, sym, ap, ◌∙◌, arith, option_map, nat_lt, nat_le, ◌&&◌, ◌^◌, pos, neg_ℤ, position_or_len, list_all, and_parts, nat_tests, cond_some, and_first, and_second, take_all, common_steps, digit_bounds, tens, is_blank, is_digit, is_digits, begins_blank, digits_value, natural_of, number_of_text, words, after_blanks, first_for}
 use Rattle.script_words.proofs.WordLaws.{takes_plain}
-use Rattle.script_words.specs.Given.{first_for}
 
 digit_no_blank : (c : ℕ) → is_digit c ≡ true → is_blank c ≡ false
 digit_no_blank c h = let bounds = digit_bounds c h in grind (arith, common_steps)

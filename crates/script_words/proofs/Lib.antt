@@ -1,3 +1,4 @@
+mod Words
 mod WordLaws
 mod NumberLaws
 mod FrontLaws

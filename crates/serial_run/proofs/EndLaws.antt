@@ -1,37 +1,9 @@
 -- The order of a run step by step, and its end.
-use Rattle.std.proofs.Common.{◌≡◌, ℕ, suc, ◌+◌, ◌<◌, ◌≤◌, refl, sym, ◌∙◌, ap, subst, inl, inr, ◌⊎◌, List, [], ◌∷◌, ◌++◌, length, map, max, drop, take, fold, get_or, Bool, true, false, cond, Some, arith}
-use Rattle.std.proofs.lemmas.Bool.{cases_eq}
-use Rattle.std.proofs.lemmas.Bool.Decides.{nat_tests}
-use Rattle.std.proofs.lemmas.List.{drop_all, drop_more, take_all, take-append-drop}
-use Rattle.std.proofs.lemmas.Option.{get_or_from_slice_get, slice_get_within}
-use Rattle.std.specs.Prelude.{slice_get, nat_lt}
-use Rattle.list_laws.proofs.Maps.{map_map}
-use Rattle.list_laws.proofs.Places.{entry_below, take_next}
-use Rattle.nc_base.specs.declared.answer.Answer.{Answer}
-use Rattle.nc_base.specs.declared.header.Header.{Header}
-use Rattle.nc_base.specs.declared.script.Script.{Script}
-use Rattle.nc_base.specs.declared.step.Mark.{Mark}
+use Rattle.serial_run.proofs.Words.{◌≡◌, ℕ, suc, ◌+◌, ◌<◌, ◌≤◌, refl, sym, ◌∙◌, ap, subst, inl, inr, ◌⊎◌, List, [], ◌∷◌, ◌++◌, length, map, max, drop, take, fold, get_or, Bool, true, false, cond, Some, arith, cases_eq, nat_tests, drop_all, drop_more, take_all, take-append-drop, get_or_from_slice_get, slice_get_within, slice_get, nat_lt, map_map, entry_below, take_next, Answer, Header, Script, Mark, Counted, Setting, raised, IsLegal, is_lawful, greatest, record_limit, with_records, End, Going, serial_from, setting_of, close_by, counted, less_max, Arrived, ended_from, first_stand, step_to, serial_of_arrivals, most_known, AreLow, arrived, going_of, IsRunner, IsWaiting, stand_of, AreWaiting, HasHeard, HaveHeard, IsStanding, Runner, Stand, some_limit}
 use Rattle.nc_base.specs.declared.step.Mark.TheVariants as mark
-use Rattle.serial_spec.specs.FileStep.{Counted, Setting, raised}
-use Rattle.serial_spec.specs.History.{IsLegal}
-use Rattle.serial_spec.specs.Lawful.{is_lawful}
-use Rattle.serial_spec.specs.Layout.{greatest}
-use Rattle.serial_spec.specs.Limits.{record_limit}
 use Rattle.serial_spec.specs.RankMachine as machine
-use Rattle.serial_spec.specs.Records.{with_records}
-use Rattle.serial_spec.specs.SerialEnd.{End, Going, serial_from, setting_of, close_by}
-use Rattle.element_steps.specs.Requests.{counted}
-use Rattle.join_laws.proofs.CountLaws.{less_max}
 use Rattle.run_laws.specs.Arrivals as arrivals
-use Rattle.run_laws.specs.Arrivals.{Arrived, ended_from, first_stand, step_to}
-use Rattle.run_laws.proofs.ArrivalLaws.{serial_of_arrivals}
-use Rattle.serial_run.specs.Ended.{most_known, AreLow}
-use Rattle.serial_run.specs.Running.{arrived, going_of, IsRunner, IsWaiting}
-use Rattle.serial_run.specs.Stands.{stand_of, AreWaiting, HasHeard, HaveHeard, IsStanding}
-use Rattle.serial_run.specs.declared.runners.Runner.{Runner}
-use Rattle.serial_run.specs.declared.stand.Stand.{Stand}
 use Rattle.serial_run.proofs.NextLaws.{beside_runner, meeting_runner, meeting_waits, own_runner, own_waits}
-use Rattle.serial_spec.proofs.CountLaws.{some_limit}
 
 -- ---- the order
 

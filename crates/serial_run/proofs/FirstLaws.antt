@@ -1,26 +1,5 @@
 -- The ranks before the first step, one after another.
-use Rattle.std.proofs.Common.{◌≡◌, ℕ, ◌+◌, ◌<◌, ◌≤◌, refl, sym, ◌∙◌, ap, subst, List, [], ◌∷◌, ◌++◌, length, map, take, get_or, Bool, true, false, Some, length-append, arith}
-use Rattle.std.proofs.lemmas.Bool.Decides.{nat_tests}
-use Rattle.std.proofs.lemmas.List.{map-append, take_all, take_more}
-use Rattle.std.proofs.lemmas.Option.{get_or_from_slice_get, same_Some, slice_get_read, slice_get_within}
-use Rattle.std.specs.Prelude.{slice_get, nat_lt}
-use Rattle.nc_base.specs.declared.header.Header.{Header}
-use Rattle.nc_base.specs.declared.request.Call.{Call}
-use Rattle.nc_base.specs.declared.script.Script.{Script}
-use Rattle.serial_spec.specs.SoundHeaders.{is_sound}
-use Rattle.serial_spec.specs.Lawful.{is_lawful}
-use Rattle.serial_spec.specs.Limits.{record_limit}
-use Rattle.serial_spec.specs.SerialEnd.{advance, first_going}
-use Rattle.join_laws.proofs.CountLaws.{sound_small}
-use Rattle.run_laws.specs.Arrivals.{Arrived, first_stand}
-use Rattle.run_laws.proofs.LawfulLaws.{ranks_lawful}
-use Rattle.run_laws.proofs.WayLaws.{way_begins}
-use Rattle.element_steps.specs.Requests.{counted}
-use Rattle.serial_run.specs.Running.{going_of, HasGone, IsRunner, MayGoOn}
-use Rattle.serial_run.specs.Stands.{all_arrived, IsStanding}
-use Rattle.serial_run.specs.declared.runners.Runner.{Runner}
-use Rattle.serial_run.specs.declared.stand.Stand.{Stand}
-use Rattle.list_laws.proofs.Places.{get_left, get_right}
+use Rattle.serial_run.proofs.Words.{◌≡◌, ℕ, ◌+◌, ◌<◌, ◌≤◌, refl, sym, ◌∙◌, ap, subst, List, [], ◌∷◌, ◌++◌, length, map, take, get_or, Bool, true, false, Some, length-append, arith, nat_tests, map-append, take_all, take_more, get_or_from_slice_get, same_Some, slice_get_read, slice_get_within, slice_get, nat_lt, Header, Call, Script, is_sound, is_lawful, record_limit, advance, first_going, sound_small, Arrived, first_stand, ranks_lawful, way_begins, counted, going_of, HasGone, IsRunner, MayGoOn, all_arrived, IsStanding, Runner, Stand, get_left, get_right}
 
 -- the first ranks of a script, gone up to their first offers
 pub record AreFirst (script : Script) (header : Header) (n : ℕ) (runners : List Runner) : Type 0 where

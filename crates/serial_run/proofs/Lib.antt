@@ -1,3 +1,4 @@
+mod Words
 mod RunnerLaws
 mod FirstLaws
 mod NextLaws

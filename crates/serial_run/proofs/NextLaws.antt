@@ -1,29 +1,6 @@
 -- The next step of a legal order finds its ranks at their offers, and leaves each where the order with that step says.
-use Rattle.std.proofs.Common.{◌≡◌, ℕ, ◌<◌, ◌≢◌, refl, sym, ◌∙◌, ap, subst, inl, inr, List, [], ◌∷◌, ◌++◌, length, Bool, true, cond, Option, None, Some, append_assoc}
-use Rattle.std.proofs.lemmas.List.{append_cancel_left}
-use Rattle.std.proofs.lemmas.List.Elements.{filter-append}
-use Rattle.std.specs.Prelude.{filter, IfSome, IsSomeAnd}
-use Rattle.list_laws.proofs.Optional.{if_some_at}
-use Rattle.list_laws.proofs.Truth.{equal_itself}
-use Rattle.nc_base.specs.declared.header.Header.{Header}
-use Rattle.nc_base.specs.declared.request.Call.{Call}
-use Rattle.nc_base.specs.declared.script.Script.{Script}
-use Rattle.nc_base.specs.declared.step.Mark.{Mark}
+use Rattle.serial_run.proofs.Words.{◌≡◌, ℕ, ◌<◌, ◌≢◌, refl, sym, ◌∙◌, ap, subst, inl, inr, List, [], ◌∷◌, ◌++◌, length, Bool, true, cond, Option, None, Some, append_assoc, append_cancel_left, filter-append, filter, IfSome, IsSomeAnd, if_some_at, equal_itself, Header, Call, Script, Mark, Offer, Reply, IsLegal, concerns, marks, marks_from, is_lawful, record_limit, hear, Going, hears, less_max, meetings, marks_left, IsOnWay, AsksAlone, hears_keeps, way_beside, way_hears, way_solo, IsAsked, IsPlaced, IsRunner, IsWaiting, MayGoOn, going_of, HeardOne, Runner}
 use Rattle.nc_base.specs.declared.step.Mark.TheVariants as mark
-use Rattle.nc_base.specs.declared.step.Offer.{Offer}
-use Rattle.nc_base.specs.declared.step.Reply.{Reply}
-use Rattle.serial_spec.specs.History.{IsLegal, concerns, marks, marks_from}
-use Rattle.serial_spec.specs.Lawful.{is_lawful}
-use Rattle.serial_spec.specs.Limits.{record_limit}
-use Rattle.serial_spec.specs.RankMachine.{hear}
-use Rattle.serial_spec.specs.SerialEnd.{Going, hears}
-use Rattle.join_laws.proofs.CountLaws.{less_max}
-use Rattle.run_laws.specs.Ways.{meetings, marks_left, IsOnWay, AsksAlone}
-use Rattle.run_laws.proofs.CallLaws.{hears_keeps}
-use Rattle.run_laws.proofs.WayLaws.{way_beside, way_hears, way_solo}
-use Rattle.serial_run.specs.Running.{IsAsked, IsPlaced, IsRunner, IsWaiting, MayGoOn, going_of}
-use Rattle.serial_run.specs.Stands.{HeardOne}
-use Rattle.serial_run.specs.declared.runners.Runner.{Runner}
 
 -- ---- after the reply
 

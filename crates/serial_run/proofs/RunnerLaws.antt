@@ -1,29 +1,8 @@
 -- A rank that goes through its calls, up to its next offer or to its end.
-use Rattle.std.proofs.Common.{◌≡◌, ℕ, ◌+◌, ◌-◌, ◌<◌, ◌≤◌, refl, sym, ◌∙◌, subst, inl, inr, ◌⊎◌, List, [], ◌∷◌, ◌++◌, length, take, drop, get_or, true, Option, None, Some, arith}
-use Rattle.std.proofs.lemmas.List.{take_rest}
-use Rattle.nc_base.specs.declared.header.Header.{Header}
-use Rattle.nc_base.specs.declared.answer.Answer.{Answer}
-use Rattle.nc_base.specs.declared.request.Call.{Call}
+use Rattle.serial_run.proofs.Words.{◌≡◌, ℕ, ◌+◌, ◌-◌, ◌<◌, ◌≤◌, refl, sym, ◌∙◌, subst, inl, inr, ◌⊎◌, List, [], ◌∷◌, ◌++◌, length, take, drop, get_or, true, Option, None, Some, arith, take_rest, Header, Answer, Call, Script, Mark, Offer, Want, is_lawful_call, most_parts, Going, advance, IsRight, IsSoundOffer, IsSoundWant, posts_held, answered, asking, IsOnWay, AsksAlone, alone_keeps, meets_keeps, solo_keeps, comes_on, comes_to_end, comes_to_meeting, comes_to_solo, call_lawful, way_answers, way_meets, HasGone, MayGoOn, said_at}
 use Rattle.nc_base.specs.declared.request.Direction.TheVariants as direction
-use Rattle.nc_base.specs.declared.script.Script.{Script}
-use Rattle.nc_base.specs.declared.step.Mark.{Mark}
-use Rattle.nc_base.specs.declared.step.Offer.{Offer}
-use Rattle.nc_base.specs.declared.step.Want.{Want}
 use Rattle.nc_base.specs.declared.step.Want.TheVariants as want
-use Rattle.serial_spec.specs.Lawful.{is_lawful_call, most_parts}
 use Rattle.serial_spec.specs.RankMachine as machine
-use Rattle.serial_spec.specs.SerialEnd.{Going, advance}
-use Rattle.element_steps.specs.Requests.{IsRight}
-use Rattle.rank_core.specs.Offered.{IsSoundOffer, IsSoundWant}
-use Rattle.run_laws.specs.Requests.{posts_held}
-use Rattle.run_laws.specs.Ahead.{answered, asking}
-use Rattle.run_laws.specs.Ways.{IsOnWay, AsksAlone}
-use Rattle.run_laws.proofs.CallLaws.{alone_keeps, meets_keeps, solo_keeps}
-use Rattle.run_laws.proofs.StandingLaws.{comes_on, comes_to_end, comes_to_meeting, comes_to_solo}
-use Rattle.run_laws.proofs.TogetherLaws.{call_lawful}
-use Rattle.run_laws.proofs.WayLaws.{way_answers, way_meets}
-use Rattle.serial_run.specs.Running.{HasGone, MayGoOn}
-use Rattle.join_laws.proofs.RankLaws.{said_at}
 
 -- from s the rank has come to t by calls that it answers alone
 pub record Comes (header : Header) (s t : Going) : Type 0 where

@@ -1,32 +1,6 @@
 -- The steps of a run: the offers of its ranks, the replies to them, and the ranks that have heard.
-use Rattle.std.proofs.Common.{◌≡◌, ℕ, zero, suc, ◌+◌, ◌-◌, ◌<◌, ◌≤◌, refl, sym, ◌∙◌, ap, subst, inl, inr, List, [], ◌∷◌, ◌++◌, length, map, max, set, drop, get_or, Bool, true, false, Option, None, Some, append_assoc, append-nil, length-set, arith}
-use Rattle.std.proofs.lemmas.Bool.Decides.{nat_tests}
-use Rattle.std.proofs.lemmas.List.{drop_all, drop_more, map-set}
-use Rattle.std.proofs.lemmas.Option.{same_Some, slice_get-map}
-use Rattle.std.specs.Prelude.{slice_get, nat_lt, zip, flat_map, IfSome, IsSomeAnd}
-use Rattle.std.specs.List.{enumerate_from}
-use Rattle.list_laws.proofs.Places.{entry_set, entry_set_other}
-use Rattle.nc_base.specs.declared.header.Header.{Header}
+use Rattle.serial_run.proofs.Words.{◌≡◌, ℕ, zero, suc, ◌+◌, ◌-◌, ◌<◌, ◌≤◌, refl, sym, ◌∙◌, ap, subst, inl, inr, List, [], ◌∷◌, ◌++◌, length, map, max, set, drop, get_or, Bool, true, false, Option, None, Some, append_assoc, append-nil, length-set, arith, nat_tests, drop_all, drop_more, map-set, same_Some, slice_get-map, slice_get, nat_lt, zip, flat_map, IfSome, IsSomeAnd, enumerate_from, entry_set, entry_set_other, Header, Offer, Reply, Counted, Setting, meeting, needs, puts_of, solo, told, record_limit, In, Open, wanted, DoesFit, advance, hears, offers_of, counted, IsRight, needs_low, own_right, puts_right, less_max, meeting_fits, solo_fits, meeting_within, replied, replies_long, at_in, Arrived, heard, solo_to, step_to, arrived, going_of, HasGone, IsAsked, IsWaiting, MayGoOn, all_arrived, AllHear, AreWaiting, DoFit, HasHeard, HaveHeard, Heard, HeardOne, Runner, some_limit}
 use Rattle.nc_base.specs.declared.step.Mark.TheVariants as mark
-use Rattle.nc_base.specs.declared.step.Offer.{Offer}
-use Rattle.nc_base.specs.declared.step.Reply.{Reply}
-use Rattle.serial_spec.specs.FileStep.{Counted, Setting, meeting, needs, puts_of, solo, told}
-use Rattle.serial_spec.specs.Limits.{record_limit}
-use Rattle.serial_spec.specs.Lists.{In}
-use Rattle.serial_spec.specs.RankMachine.{Open}
-use Rattle.serial_spec.specs.RankSide.{wanted, DoesFit}
-use Rattle.serial_spec.specs.SerialEnd.{advance, hears, offers_of}
-use Rattle.element_steps.specs.Requests.{counted, IsRight}
-use Rattle.element_steps.proofs.MeetSteps.{needs_low, own_right, puts_right}
-use Rattle.join_laws.proofs.CountLaws.{less_max}
-use Rattle.join_laws.proofs.ReplyLaws.{meeting_fits, solo_fits}
-use Rattle.join_laws.proofs.StepLaws.{meeting_within, replied, replies_long}
-use Rattle.serial_spec.proofs.MemberLaws.{at_in}
-use Rattle.run_laws.specs.Arrivals.{Arrived, heard, solo_to, step_to}
-use Rattle.serial_run.specs.Running.{arrived, going_of, HasGone, IsAsked, IsWaiting, MayGoOn}
-use Rattle.serial_run.specs.Stands.{all_arrived, AllHear, AreWaiting, DoFit, HasHeard, HaveHeard, Heard, HeardOne}
-use Rattle.serial_run.specs.declared.runners.Runner.{Runner}
-use Rattle.serial_spec.proofs.CountLaws.{some_limit}
 
 -- ---- the offers that ranks hold
 

@@ -1,27 +1,8 @@
 -- What is added to a header keeps its variables: their kinds, and the lengths of their dimensions.
-use Rattle.std.proofs.Common.{◌≡◌, ℕ, zero, suc, ◌+◌, refl, sym, ◌∙◌, ap, List, [], ◌∷◌, ◌++◌, length, map, Bool, true, false, cond, Some, None, append_assoc, arith}
-use Rattle.std.proofs.lemmas.List.{append-nil}
-use Rattle.std.proofs.lemmas.Iterator.Adapters.{position_from-zero}
-use Rattle.std.specs.List.{enumerate_from, AllByRecursion}
-use Rattle.std.specs.Prelude.{slice_get, position, bytes_eq, nat_le}
-use Rattle.std.proofs.lemmas.Bool.{leb-false}
-use Rattle.list_laws.proofs.Truth.{and_second}
-use Rattle.list_laws.proofs.Optional.{both_none, none_of_test, none_before_map}
-use Rattle.nc_base.specs.declared.header.Header.{Header}
-use Rattle.nc_base.specs.declared.header.Dim.{Dim}
-use Rattle.nc_base.specs.declared.header.Var.{Var}
-use Rattle.nc_base.specs.declared.header.Attr.{Attr}
-use Rattle.nc_base.specs.declared.script.Extra.{Extra}
+use Rattle.serial_spec.proofs.Words.{◌≡◌, ℕ, zero, suc, ◌+◌, refl, sym, ◌∙◌, ap, List, [], ◌∷◌, ◌++◌, length, map, Bool, true, false, cond, Some, None, append_assoc, arith, append-nil, position_from-zero, enumerate_from, AllByRecursion, slice_get, position, bytes_eq, nat_le, leb-false, and_second, both_none, none_of_test, none_before_map, Header, Dim, Var, Attr, Extra, length_of, first_check, first_with, fault_if, two_record_dims, record_later, bad_id, is_sound, with_var_attr, with_extra, added, begins_by_number, begin_of_number, with_begins, redefined_header, KeepsVars, fails_each, entry_map, get_left, entry_numbered}
 use Rattle.nc_base.specs.declared.script.Extra.TheVariants as extra
 use Rattle.nc_base.specs.declared.errors.HeaderErr.TheVariants as fault
-use Rattle.serial_spec.specs.Layout.{length_of}
-use Rattle.serial_spec.specs.HeaderFaults.{first_check, first_with, fault_if, two_record_dims, record_later, bad_id}
-use Rattle.serial_spec.specs.SoundHeaders.{is_sound}
-use Rattle.serial_spec.specs.Redefinition.{with_var_attr, with_extra, added, begins_by_number, begin_of_number, with_begins, redefined_header, KeepsVars}
-use Rattle.list_laws.proofs.Each.{fails_each}
 use Rattle.serial_spec.proofs.RoomLaws.{untested}
-use Rattle.list_laws.proofs.Maps.{entry_map}
-use Rattle.list_laws.proofs.Places.{get_left, entry_numbered}
 
 -- ---- a header of which another is a part
 

@@ -1,22 +1,7 @@
 -- The boxes of a range of row-major numbers have just the indices with these numbers, in order.
-use Rattle.std.proofs.Common.{◌≡◌, ℕ, zero, suc, ◌+◌, ◌-◌, ◌*◌, ◌/◌, ◌%◌, ◌<◌, ◌≤◌, refl, sym, ◌∙◌, ap, subst, List, [], ◌∷◌, ◌++◌, length, map, take, drop, replicate, Bool, true, false, append_assoc, arith}
-use Rattle.std.proofs.Math.Nat.{add-mul, le_of_mul-le-mul_right, mul-le-mul_right}
-use Rattle.std.proofs.Math.Seq.{drop-append-add, take-append-add}
-use Rattle.std.proofs.lemmas.Nat.{div-add-mod', mod_below, le-div}
-use Rattle.std.proofs.lemmas.List.{drop-drop, drop-append-le, take-append-le, length-drop, map-append, append-nil, length-map}
-use Rattle.std.proofs.lemmas.Grind.{flat_map-append}
-use Rattle.std.specs.Prelude.{flat_map, nat_lt, ◌==◌}
-use Rattle.std.specs.List.{range_with_len}
-use Rattle.std.proofs.lemmas.Bool.{eqb-false}
+use Rattle.serial_spec.proofs.Words.{◌≡◌, ℕ, zero, suc, ◌+◌, ◌-◌, ◌*◌, ◌/◌, ◌%◌, ◌<◌, ◌≤◌, refl, sym, ◌∙◌, ap, subst, List, [], ◌∷◌, ◌++◌, length, map, take, drop, replicate, Bool, true, false, append_assoc, arith, add-mul, le_of_mul-le-mul_right, mul-le-mul_right, drop-append-add, take-append-add, div-add-mod', mod_below, le-div, drop-drop, drop-append-le, take-append-le, length-drop, map-append, append-nil, length-map, flat_map-append, flat_map, nat_lt, ◌==◌, range_with_len, eqb-false, some_factor, map_map, flat_same, Part, product, coordinates, boxes, in_row, whole_rows, shifted, box_indices, AreBoxes, part, part_joined, part_none, part_map}
 use borrow.Author.Tests.{ltb-true, ltb-false, eqb-true}
-use Rattle.list_laws.proofs.Numbers.{some_factor}
-use Rattle.list_laws.proofs.Maps.{map_map, flat_same}
-use Rattle.nc_base.specs.declared.request.Part.{Part}
-use Rattle.serial_spec.specs.Layout.{product}
-use Rattle.serial_spec.specs.Request.{coordinates}
-use Rattle.serial_spec.specs.Fill.{boxes, in_row, whole_rows, shifted, box_indices, AreBoxes}
 use Rattle.serial_spec.proofs.ElementLaws.{length-coordinates}
-use Rattle.list_laws.proofs.Parts.{part, part_joined, part_none, part_map}
 
 -- ---- rows of one length
 

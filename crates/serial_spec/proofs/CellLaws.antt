@@ -1,13 +1,5 @@
 -- Cells that lie apart, and what is written of them.
-use Rattle.std.proofs.Common.{◌≡◌, ℕ, zero, suc, ◌+◌, ◌-◌, ◌<◌, ◌≤◌, refl, sym, ◌∙◌, ap, subst, inl, inr, ◌⊎◌, List, [], ◌∷◌, ◌++◌, length, map, get_or, Some, None, arith}
-use Rattle.std.proofs.lemmas.Bool.{cases_eq}
-use Rattle.std.specs.List.{AllByRecursion, enumerate_from}
-use Rattle.std.specs.Prelude.{flat_map, slice_get}
-use Rattle.std.specs.Option.{option_or}
-use Rattle.list_laws.proofs.Optional.{neither_some, second_counts, first_counts}
-use Rattle.serial_spec.specs.File.{at, read, written}
-use Rattle.serial_spec.specs.Place.{AreApart}
-use Rattle.serial_spec.specs.Said.{said_at, Cell, write_cells, said_by}
+use Rattle.serial_spec.proofs.Words.{◌≡◌, ℕ, zero, suc, ◌+◌, ◌-◌, ◌<◌, ◌≤◌, refl, sym, ◌∙◌, ap, subst, inl, inr, ◌⊎◌, List, [], ◌∷◌, ◌++◌, length, map, get_or, Some, None, arith, cases_eq, AllByRecursion, enumerate_from, flat_map, slice_get, option_or, neither_some, second_counts, first_counts, at, read, written, AreApart, said_at, Cell, write_cells, said_by}
 use Rattle.serial_spec.proofs.FileLaws.{length-written_inside}
 use Rattle.serial_spec.proofs.SaidLaws.{said_below, said_past, said_inside, said_append}
 

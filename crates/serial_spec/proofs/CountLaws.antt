@@ -1,16 +1,7 @@
 -- Record counts: their limit, what a kind leaves known, and a count that is raised.
-use Rattle.std.proofs.Common.{◌≡◌, ℕ, ◌+◌, ◌^◌, ◌<◌, ◌≤◌, refl, List, [], ◌∷◌, ◌++◌, max, Bool, true, false, cond, Option, Some, None, arith}
-use Rattle.std.proofs.lemmas.Bool.Decides.{nat_tests}
-use Rattle.std.specs.Prelude.{nat_lt, ◌==◌}
-use Rattle.nc_base.specs.declared.answer.Pair.{Pair}
+use Rattle.serial_spec.proofs.Words.{◌≡◌, ℕ, ◌+◌, ◌^◌, ◌<◌, ◌≤◌, refl, List, [], ◌∷◌, ◌++◌, max, Bool, true, false, cond, Option, Some, None, arith, nat_tests, nat_lt, ◌==◌, Pair, OfferKind, needed_now, Counted, Setting, known_by, needs, raised, told, greatest, record_limit, with_records}
 use Rattle.nc_base.specs.declared.step.MeetKind.TheVariants as kind
-use Rattle.nc_base.specs.declared.step.OfferKind.{OfferKind}
 use Rattle.nc_base.specs.declared.step.OfferKind.TheVariants as offer
-use Rattle.serial_spec.specs.Owner.{needed_now}
-use Rattle.serial_spec.specs.FileStep.{Counted, Setting, known_by, needs, raised, told}
-use Rattle.serial_spec.specs.Layout.{greatest}
-use Rattle.serial_spec.specs.Limits.{record_limit}
-use Rattle.serial_spec.specs.Records.{with_records}
 
 pub some_limit : (version : ℕ) → 0 < record_limit version
 some_limit version = by_test (version == 5)

@@ -1,23 +1,5 @@
 -- No step makes a file shorter.
-use Rattle.std.proofs.Common.{ℕ, ◌≤◌, List, [], ◌∷◌, length, map, take, drop, set, max, Bool, true, false, cond, Option, Some, None, arith}
-use Rattle.std.proofs.lemmas.Grind.{common_steps}
-use Rattle.std.specs.Prelude.{flat_map, fold, nat_lt, slice_get}
-use Rattle.std.specs.List.{enumerate_from}
-use Rattle.list_laws.proofs.Numbers.{le_two}
-use Rattle.nc_base.specs.declared.answer.Pair.{Pair}
-use Rattle.nc_base.specs.declared.header.Var.{Var}
-use Rattle.nc_base.specs.declared.plan.Post.{Post}
-use Rattle.nc_base.specs.declared.step.Mark.{Mark}
-use Rattle.nc_base.specs.declared.step.Mark.TheVariants.{Meet, Solo}
-use Rattle.nc_base.specs.declared.step.Offer.{Offer}
-use Rattle.serial_spec.specs.ExternalForm.{size_of}
-use Rattle.serial_spec.specs.File.{longer, written}
-use Rattle.serial_spec.specs.FileStep.{Counted, Setting, after_puts, end_for, put_post, put_some, puts_of, raised, told}
-use Rattle.serial_spec.specs.HeaderBytes.{count}
-use Rattle.serial_spec.specs.Records.{needed_by, with_records}
-use Rattle.serial_spec.specs.Request.{cells, places}
-use Rattle.serial_spec.specs.SerialEnd.{Going, advance, after_mark, offers_of, solo_of}
-use Rattle.serial_spec.specs.SharedByte.{Puts}
+use Rattle.serial_spec.proofs.Words.{ℕ, ◌≤◌, List, [], ◌∷◌, length, map, take, drop, set, max, Bool, true, false, cond, Option, Some, None, arith, common_steps, flat_map, fold, nat_lt, slice_get, enumerate_from, le_two, Pair, Var, Post, Mark, Meet, Solo, Offer, size_of, longer, written, Counted, Setting, after_puts, end_for, put_post, put_some, puts_of, raised, told, count, needed_by, with_records, cells, places, Going, advance, after_mark, offers_of, solo_of, Puts}
 use Rattle.serial_spec.proofs.FileLaws.{longer_long}
 
 pub written_grows : (file : List ℕ) (x : ℕ) (b : List ℕ) → length file ≤ length (written file x b)

@@ -1,12 +1,6 @@
 -- Keys in order: the least of some keys, keys without repetition, and the two least of them.
-use Rattle.std.proofs.Common.{◌≡◌, ◌<◌, ◌≤◌, refl, sym, ◌∙◌, ap, subst, inl, inr, ◌⊎◌, List, [], ◌∷◌, length, Bool, true, false, ◌||◌, not, cond, arith}
-use Rattle.std.proofs.lemmas.Bool.Decides.{nat_tests}
-use Rattle.std.specs.Prelude.{filter, fold}
-use Rattle.std.specs.List.{list_any}
-use Rattle.std.proofs.lemmas.Bool.{or_cases, or_right, or_left, not-true, not_from_false}
+use Rattle.serial_spec.proofs.Words.{◌≡◌, ◌<◌, ◌≤◌, refl, sym, ◌∙◌, ap, subst, inl, inr, ◌⊎◌, List, [], ◌∷◌, length, Bool, true, false, ◌||◌, not, cond, arith, nat_tests, filter, fold, list_any, or_cases, or_right, or_left, not-true, not_from_false, and_first, and_second, no_false, or_first_false, Key, same_key, key_below, distinct, lesser_key, least_key}
 use borrow.Author.Tests.{eqb-true}
-use Rattle.list_laws.proofs.Truth.{and_first, and_second, no_false, or_first_false}
-use Rattle.serial_spec.specs.SharedByte.{Key, same_key, key_below, distinct, lesser_key, least_key}
 
 -- ---- keys
 

@@ -1,11 +1,5 @@
 -- A lawful script, test by test.
-use Rattle.std.proofs.Common.{◌≡◌, ◌≤◌, length, map, true, ℕ, ◌-◌}
-use Rattle.std.specs.Prelude.{nat_le, sum}
-use Rattle.std.proofs.lemmas.Bool.{and_from, eq-eqb, eqb-true, le-leb, leb-true}
-use Rattle.list_laws.proofs.Truth.{and_first, and_second}
-use Rattle.nc_base.specs.declared.script.Script.{Script}
-use Rattle.serial_spec.specs.Lawful.{added_dims, added_vars, are_lawful_hints, is_lawful, is_within, most_calls, most_ranks, most_values, values_in_script, IsLawful}
-use Rattle.serial_spec.specs.Limits.{most_dims, most_vars}
+use Rattle.serial_spec.proofs.Words.{◌≡◌, ◌≤◌, length, map, true, ℕ, ◌-◌, nat_le, sum, and_from, eq-eqb, eqb-true, le-leb, leb-true, and_first, and_second, Script, added_dims, added_vars, are_lawful_hints, is_lawful, is_within, most_calls, most_ranks, most_values, values_in_script, IsLawful, most_dims, most_vars}
 
 -- the tests from the last back
 pub lawful_parts : (script : Script) → is_lawful script ≡ true → IsLawful script

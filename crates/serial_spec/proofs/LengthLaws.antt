@@ -1,18 +1,5 @@
 -- Every spelling of a header has the length of the one that is written.
-use Rattle.std.proofs.Common.{◌≡◌, ℕ, ◌+◌, ◌≤◌, List, [], ◌∷◌, ◌++◌, length, Bool, true, false, cond, refl, sym, ap, ◌∙◌, length-append, inl, inr, arith}
-use Rattle.std.specs.Prelude.{flat_map, ◌==◌}
-use Rattle.std.specs.Int.{Width, w32, w64, byte_len, to_be_bytes}
-use Rattle.std.proofs.lemmas.List.{length-replicate}
-use Rattle.nc_base.specs.declared.header.Header.{Header}
-use Rattle.nc_base.specs.declared.header.Dim.{Dim}
-use Rattle.nc_base.specs.declared.header.Attr.{Attr}
-use Rattle.nc_base.specs.declared.header.Var.{Var}
-use Rattle.nc_base.specs.declared.header.NcType.{NcType}
-use Rattle.nc_base.specs.declared.header.NcType.TheVariants.{Byte, Char, Short, Int, Float, Double, UByte, UShort, UInt, Int64, UInt64}
-use Rattle.serial_spec.specs.ExternalForm.{size_of}
-use Rattle.serial_spec.specs.Layout.{vsize}
-use Rattle.serial_spec.specs.HeaderBytes.{count_width, begin_width, padded, count, tag, name, list_of, dimension, attribute, variable, magic, canon, header_len, number_of}
-use Rattle.serial_spec.specs.HeaderGrammar.{Joined, ◌▹◌, Exactly, Each, Number, Padded, NameOf, ListOf, TypeOf, DimensionOf, AttributeOf, VariableOf, RecordsOf, Spells}
+use Rattle.serial_spec.proofs.Words.{◌≡◌, ℕ, ◌+◌, ◌≤◌, List, [], ◌∷◌, ◌++◌, length, Bool, true, false, cond, refl, sym, ap, ◌∙◌, length-append, inl, inr, arith, flat_map, ◌==◌, Width, w32, w64, byte_len, to_be_bytes, length-replicate, Header, Dim, Attr, Var, NcType, Byte, Char, Short, Int, Float, Double, UByte, UShort, UInt, Int64, UInt64, size_of, vsize, count_width, begin_width, padded, count, tag, name, list_of, dimension, attribute, variable, magic, canon, header_len, number_of, Joined, ◌▹◌, Exactly, Each, Number, Padded, NameOf, ListOf, TypeOf, DimensionOf, AttributeOf, VariableOf, RecordsOf, Spells}
 
 -- every string of the set has the length of the text
 abbrev pub Long : (List ℕ → Type 0) → List ℕ → Type 0

@@ -1,9 +1,5 @@
 -- The items of a list, by their places, and those that pass a test.
-use Rattle.std.proofs.Common.{◌≡◌, ℕ, zero, suc, refl, ap, ◌∙◌, subst, List, [], ◌∷◌, Bool, true, false, cond, Some, inl, inr}
-use Rattle.std.specs.Prelude.{filter, slice_get}
-use Rattle.std.specs.List.{list_any}
-use Rattle.std.proofs.lemmas.Bool.{or_left, or_right}
-use Rattle.serial_spec.specs.Lists.{In}
+use Rattle.serial_spec.proofs.Words.{◌≡◌, ℕ, zero, suc, refl, ap, ◌∙◌, subst, List, [], ◌∷◌, Bool, true, false, cond, Some, inl, inr, filter, slice_get, list_any, or_left, or_right, In}
 
 pub in_filter : {X : Type 0} (t : X → Bool) (xs : List X) (x : X) → In xs x → t x ≡ true → In (filter t xs) x
 in_filter t [] x h e = absurd h

@@ -1,28 +1,11 @@
 -- The redefined file has the new header, each old element at its new place, and zeros between.
-use Rattle.std.proofs.Common.{◌≡◌, ℕ, zero, suc, ◌+◌, ◌-◌, ◌<◌, ◌≤◌, min, max, refl, sym, ◌∙◌, ap, subst, inl, inr, ◌⊎◌, List, [], ◌∷◌, ◌++◌, length, map, take, drop, replicate, get_or, true, Option, Some, None, length-append, arith}
-use Rattle.std.proofs.lemmas.Grind.{common_steps, fold-append, same_number_lists}
-use Rattle.std.proofs.lemmas.List.{length-take, get_or-take, get_or-append_right, get_or-drop, length-replicate, length-drop}
-use Rattle.std.specs.List.{AllByRecursion}
-use Rattle.std.specs.Prelude.{flat_map, fold, zip, slice_get}
-use Rattle.list_laws.proofs.Each.{each_map, each_flat_map, each_weaker}
-use Rattle.nc_base.specs.declared.header.Header.{Header}
-use Rattle.nc_base.specs.declared.header.Var.{Var}
-use Rattle.serial_spec.specs.File.{at, read, written}
-use Rattle.serial_spec.specs.ExternalForm.{size_of}
-use Rattle.serial_spec.specs.Layout.{lengths, end_of}
-use Rattle.serial_spec.specs.Place.{place, row, IsIndex, IsElementBelow, AreApart}
-use Rattle.serial_spec.specs.HeaderBytes.{canon, header_len}
-use Rattle.serial_spec.specs.SoundHeaders.{is_sound}
-use Rattle.serial_spec.specs.RegionCheck.{known_lengths}
-use Rattle.serial_spec.specs.Redefinition.{all_indices, moved, redefined, Moves, KeepsVars, IsRedefined}
-use Rattle.serial_spec.specs.Said.{said_at, byte_or, Cell, write_cells, said_by}
+use Rattle.serial_spec.proofs.Words.{◌≡◌, ℕ, zero, suc, ◌+◌, ◌-◌, ◌<◌, ◌≤◌, min, max, refl, sym, ◌∙◌, ap, subst, inl, inr, ◌⊎◌, List, [], ◌∷◌, ◌++◌, length, map, take, drop, replicate, get_or, true, Option, Some, None, length-append, arith, common_steps, fold-append, same_number_lists, length-take, get_or-take, get_or-append_right, get_or-drop, length-replicate, length-drop, AllByRecursion, flat_map, fold, zip, slice_get, each_map, each_flat_map, each_weaker, Header, Var, at, read, written, size_of, lengths, end_of, place, row, IsIndex, IsElementBelow, AreApart, canon, header_len, is_sound, known_lengths, all_indices, moved, redefined, Moves, KeepsVars, IsRedefined, said_at, byte_or, Cell, write_cells, said_by, cases_eq}
 use Rattle.serial_spec.proofs.ApartLaws.{elements_apart, elements_past_header}
 use Rattle.serial_spec.proofs.ElementLaws.{coordinates_at}
 use Rattle.serial_spec.proofs.SaidLaws.{cells_said}
 use Rattle.serial_spec.proofs.RoomLaws.{known_of, index_is_element, element_inside}
 use Rattle.serial_spec.proofs.AcceptLaws.{coordinates_all}
 use Rattle.serial_spec.proofs.CellLaws.{Has, has_map, has_flat, has_at, same_index, IsOrApart, said_of, unsaid, cells_within, read_long, read_at, read_same}
-use Rattle.std.proofs.lemmas.Bool.{cases_eq}
 
 -- ---- the file before the elements are moved
 

@@ -1,24 +1,7 @@
 -- Elements end within the file, and an index below the known lengths is an element.
-use Rattle.std.proofs.Common.{◌≡◌, ℕ, zero, suc, ◌+◌, ◌-◌, ◌*◌, ◌<◌, ◌≤◌, refl, sym, ◌∙◌, ap, subst, List, [], ◌∷◌, length, map, drop, Bool, true, false, ◌||◌, cond, Some, None, arith}
-use Rattle.std.proofs.Math.Nat.{mul-le-mul_right}
-use Rattle.std.proofs.lemmas.Bool.Decides.{nat_tests}
-use Rattle.std.proofs.lemmas.Iterator.Adapters.{position_from-zero}
-use Rattle.std.specs.List.{list_any, position_from, AllByRecursion}
-use Rattle.std.specs.Prelude.{slice_get, position, MatchBool, ◌==◌, if◌then◌else◌}
-use Rattle.list_laws.proofs.Truth.{and_second, equal_suc}
-use Rattle.list_laws.proofs.Optional.{both_none, none_of_test, none_before_map}
-use Rattle.nc_base.specs.declared.header.Header.{Header}
-use Rattle.nc_base.specs.declared.header.Var.{Var}
+use Rattle.serial_spec.proofs.Words.{◌≡◌, ℕ, zero, suc, ◌+◌, ◌-◌, ◌*◌, ◌<◌, ◌≤◌, refl, sym, ◌∙◌, ap, subst, List, [], ◌∷◌, length, map, drop, Bool, true, false, ◌||◌, cond, Some, None, arith, mul-le-mul_right, nat_tests, position_from-zero, list_any, position_from, AllByRecursion, slice_get, position, MatchBool, ◌==◌, if◌then◌else◌, and_second, equal_suc, both_none, none_of_test, none_before_map, Header, Var, size_of, greatest, length_of, lengths, starts_with_zero, without_record, is_record, slab, vsize, recsize, last_share, record_slabs, end_of_var, end_of, place, record_of, within_record, HasRecord, IsIndex, IsElementBelow, first_check, first_with, fault_if, two_record_dims, record_later, is_record_id, is_sound, known_lengths, entry_map, fails_each}
 use Rattle.nc_base.specs.declared.errors.HeaderErr.TheVariants as fault
-use Rattle.serial_spec.specs.ExternalForm.{size_of}
-use Rattle.serial_spec.specs.Layout.{greatest, length_of, lengths, starts_with_zero, without_record, is_record, slab, vsize, recsize, last_share, record_slabs, end_of_var, end_of}
-use Rattle.serial_spec.specs.Place.{place, record_of, within_record, HasRecord, IsIndex, IsElementBelow}
-use Rattle.serial_spec.specs.HeaderFaults.{first_check, first_with, fault_if, two_record_dims, record_later, is_record_id}
-use Rattle.serial_spec.specs.SoundHeaders.{is_sound}
-use Rattle.serial_spec.specs.RegionCheck.{known_lengths}
 use Rattle.serial_spec.proofs.ApartLaws.{span_fixed, span_record}
-use Rattle.list_laws.proofs.Maps.{entry_map}
-use Rattle.list_laws.proofs.Each.{fails_each}
 
 -- ---- the end of a file
 

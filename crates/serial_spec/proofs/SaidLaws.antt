@@ -1,25 +1,7 @@
 -- A byte after writes and puts is what the last of them that has it says, else the old one.
-use Rattle.std.proofs.Common.{◌≡◌, ℕ, zero, suc, ◌+◌, ◌-◌, ◌<◌, ◌≤◌, refl, sym, ◌∙◌, ap, subst, List, [], ◌∷◌, ◌++◌, length, take, drop, get_or, Bool, true, false, cond, Option, Some, None, arith}
-use Rattle.std.proofs.lemmas.Grind.{common_steps, flat_map-append, fold-append}
-use Rattle.std.proofs.lemmas.List.{get_or-append_right, get_or_append_left, length-append}
-use Rattle.std.proofs.lemmas.Bool.Decides.{nat_tests}
-use Rattle.std.specs.Prelude.{fold, flat_map, zip, nat_lt, ◌==◌, slice_get}
-use Rattle.std.specs.List.{enumerate_from, range_with_len}
-use Rattle.std.specs.Option.{option_or}
-use Rattle.std.proofs.lemmas.List.FromFn.{length-range_with_len}
+use Rattle.serial_spec.proofs.Words.{◌≡◌, ℕ, zero, suc, ◌+◌, ◌-◌, ◌<◌, ◌≤◌, refl, sym, ◌∙◌, ap, subst, List, [], ◌∷◌, ◌++◌, length, take, drop, get_or, Bool, true, false, cond, Option, Some, None, arith, common_steps, flat_map-append, fold-append, get_or-append_right, get_or_append_left, nat_tests, fold, flat_map, zip, nat_lt, ◌==◌, slice_get, enumerate_from, range_with_len, option_or, length-range_with_len, equal_above, equal_below, neither_some, second_counts, first_counts, option_or_assoc, none_last, Header, Var, Post, at, longer, written, one_says, said_at, byte_or, Cell, write_cells, said_by, size_of, cells, places, Puts, bytes_of_some, said_by_puts, needed_by, Setting, end_for, put_post, put_some, after_puts}
+use Rattle.std.proofs.lemmas.List.{length-append}
 use borrow.Author.Tests.{ltb-true, ltb-false, eqb-true}
-use Rattle.list_laws.proofs.Truth.{equal_above, equal_below}
-use Rattle.list_laws.proofs.Optional.{neither_some, second_counts, first_counts, option_or_assoc, none_last}
-use Rattle.nc_base.specs.declared.header.Header.{Header}
-use Rattle.nc_base.specs.declared.header.Var.{Var}
-use Rattle.nc_base.specs.declared.plan.Post.{Post}
-use Rattle.serial_spec.specs.File.{at, longer, written}
-use Rattle.serial_spec.specs.Said.{one_says, said_at, byte_or, Cell, write_cells, said_by}
-use Rattle.serial_spec.specs.ExternalForm.{size_of}
-use Rattle.serial_spec.specs.Request.{cells, places}
-use Rattle.serial_spec.specs.SharedByte.{Puts, bytes_of_some, said_by_puts}
-use Rattle.serial_spec.specs.Records.{needed_by}
-use Rattle.serial_spec.specs.FileStep.{Setting, end_for, put_post, put_some, after_puts}
 use Rattle.serial_spec.proofs.FileLaws.{at-longer, at-written_before, at-written_after, written-front}
 
 -- ---- options

@@ -1,12 +1,6 @@
 -- The pair of variables that is computed is the least pair that shares a byte, and there is none where none is computed.
-use Rattle.std.proofs.Common.{◌≡◌, ℕ, zero, suc, ◌+◌, ◌<◌, ◌≤◌, refl, sym, ◌∙◌, ap, subst, inl, inr, ◌⊎◌, List, [], ◌∷◌, Bool, true, false, cond, Option, Some, None, arith}
-use Rattle.std.specs.Prelude.{slice_get, nat_lt, IsTrue}
-use Rattle.std.specs.Option.{option_or}
+use Rattle.serial_spec.proofs.Words.{◌≡◌, ℕ, zero, suc, ◌+◌, ◌<◌, ◌≤◌, refl, sym, ◌∙◌, ap, subst, inl, inr, ◌⊎◌, List, [], ◌∷◌, Bool, true, false, cond, Option, Some, None, arith, slice_get, nat_lt, IsTrue, option_or, told_else, both_none, Header, Var, share, sharing, sharing_with, sharing_from, Shares, IsSharing}
 use borrow.Author.Tests.{ltb-true, ltb-false}
-use Rattle.list_laws.proofs.Optional.{told_else, both_none}
-use Rattle.nc_base.specs.declared.header.Header.{Header}
-use Rattle.nc_base.specs.declared.header.Var.{Var}
-use Rattle.serial_spec.specs.Layout.{share, sharing, sharing_with, sharing_from, Shares, IsSharing}
 use Rattle.serial_spec.proofs.ApartLaws.{none_with}
 
 -- `Shares` over a list of variables

@@ -1,14 +1,5 @@
 -- The pieces of a request, as they are gone over.
-use Rattle.std.proofs.Common.{◌≡◌, ℕ, ◌+◌, ◌-◌, ◌^◌, refl, sym, ◌∙◌, ap, List, [], ◌∷◌, Option, Some, None}
-use Rattle.std.specs.Prelude.{fold, min, slice_get, IfSome}
-use Rattle.nc_base.specs.declared.header.Header.{Header}
-use Rattle.nc_base.specs.declared.header.Var.{Var}
-use Rattle.nc_base.specs.declared.plan.Extent.{Extent}
-use Rattle.nc_base.specs.declared.plan.Post.{Post}
-use Rattle.list_laws.proofs.Optional.{no_none_some}
-use Rattle.vara_extents.specs.Joined.{extents_of}
-use Rattle.step_plan.specs.Asked.{asked_with, pieces_of_some, with_piece}
-use Rattle.step_plan.specs.declared.plan.Asked.{Asked}
+use Rattle.step_plan.proofs.Words.{◌≡◌, ℕ, ◌+◌, ◌-◌, ◌^◌, refl, sym, ◌∙◌, ap, List, [], ◌∷◌, Option, Some, None, fold, min, slice_get, IfSome, Header, Var, Extent, Post, no_none_some, extents_of, asked_with, pieces_of_some, with_piece, Asked}
 
 pub pieces_left : (header : Header) (post : Post) (v : Var) (left : List Extent) (a : Asked) → slice_get header.vars post.var ≡ Some v
     → IfSome (slice_get header.vars post.var) (λ w. left ≡ extents_of header w post.region) → fold with_piece a left ≡ asked_with header post a

@@ -1,31 +1,6 @@
 -- One domain more is planned, and the windows of all are those of the model.
-use Rattle.std.proofs.Common.{◌≡◌, ℕ, suc, ◌+◌, ◌-◌, ◌^◌, ◌<◌, ◌≤◌, inl, inr, refl, sym, ◌∙◌, ap, subst, List, [], ◌∷◌, ◌++◌, length, map, take, Option, Some, get_or, min, slice_get, append_assoc, arith}
-use Rattle.std.proofs.lemmas.Grind.{flat_map-append}
-use Rattle.std.proofs.lemmas.List.{append-nil, map-append, take_more, take_all, length_push}
-use Rattle.std.proofs.lemmas.List.Folds.{flat_map-map}
-use Rattle.std.proofs.lemmas.Option.{same_Some}
-use Rattle.std.specs.Prelude.{flat_map, IfOk, Result, Ok, Err}
-use Rattle.std.specs.List.{range_with_len}
-use Rattle.list_laws.proofs.Optional.{no_none_some}
-use Rattle.list_laws.proofs.Ranges.{range_push}
-use Rattle.nc_base.specs.declared.plan.Extent.{Extent}
-use Rattle.nc_base.specs.declared.plan.Owned.{Owned}
-use Rattle.nc_base.specs.declared.script.Hints.{Hints}
-use Rattle.nc_base.specs.declared.step.DiskCall.{DiskCall}
-use Rattle.serial_spec.specs.DeviceCalls.{collective_windows, in_order, loads, overlays, sieving_windows}
-use Rattle.serial_spec.specs.Extents.{spans}
-use Rattle.overlay_laws.specs.Changes.{load_calls, store_calls}
-use Rattle.overlay_laws.specs.Entries.{ranges, HaveSame}
-use Rattle.overlay_laws.specs.Walks.{told_of, IsCover}
-use Rattle.overlay_laws.proofs.CoverLaws.{cover_in_order}
-use Rattle.overlay_laws.proofs.HullLaws.{in_either}
-use Rattle.exchange_crew.specs.Turns.{turns_of, Told}
-use Rattle.collective_round.specs.Parts.{AreDomains}
-use Rattle.collective_round.proofs.ResultSteps.{loads_are, stores_are}
-use Rattle.window_plan.specs.Windows.{get_calls, put_calls, told_plan, AreShared}
-use Rattle.window_plan.specs.declared.plan.WindowPlan.{WindowPlan}
-use Rattle.step_plan.specs.Steps.{in_one_range, last_end, reach_of, windows_in, AreDivided, AreDomainPlans, AreSievedPlans, IsDomainPlan}
-use Rattle.step_plan.specs.declared.plan.DomainPlan.{DomainPlan}
+use Rattle.step_plan.proofs.Words.{◌≡◌, ℕ, suc, ◌+◌, ◌-◌, ◌^◌, ◌<◌, ◌≤◌, inl, inr, refl, sym, ◌∙◌, ap, subst, List, [], ◌∷◌, ◌++◌, length, map, take, Option, Some, get_or, append_assoc, arith, flat_map-append, append-nil, map-append, take_more, take_all, length_push, flat_map-map, same_Some, flat_map, IfOk, Result, Ok, Err, range_with_len, no_none_some, range_push, Extent, Owned, Hints, DiskCall, collective_windows, in_order, loads, overlays, sieving_windows, spans, load_calls, store_calls, ranges, HaveSame, told_of, IsCover, cover_in_order, in_either, turns_of, Told, AreDomains, loads_are, stores_are, get_calls, put_calls, told_plan, AreShared, WindowPlan, in_one_range, last_end, reach_of, windows_in, AreDivided, AreDomainPlans, AreSievedPlans, IsDomainPlan, DomainPlan}
+use Rattle.std.proofs.Common.{min, slice_get}
 
 -- ---- the calls of windows that are told
 

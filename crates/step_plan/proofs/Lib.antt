@@ -1,3 +1,4 @@
+mod Words
 pub mod AskedLaws
 pub mod DomainLaws
 pub mod PhaseLaws

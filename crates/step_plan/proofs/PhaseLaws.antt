@@ -1,33 +1,6 @@
 -- The calls of a step's puts and gets are those of the model.
-use Rattle.std.proofs.Common.{◌≡◌, ℕ, ◌≤◌, refl, sym, ◌∙◌, ap, subst, List, [], ◌∷◌, ◌++◌, max, Option, Some, None, arith}
-use Rattle.std.proofs.lemmas.List.{append-nil}
-use Rattle.std.specs.Prelude.{flat_map}
-use Rattle.nc_base.specs.declared.answer.Pair.{Pair}
-use Rattle.nc_base.specs.declared.header.Header.{Header}
-use Rattle.nc_base.specs.declared.plan.Batch.{Batch}
-use Rattle.nc_base.specs.declared.plan.Extent.{Extent}
-use Rattle.nc_base.specs.declared.plan.Owned.{Owned}
-use Rattle.nc_base.specs.declared.plan.Post.{Post}
-use Rattle.nc_base.specs.declared.script.Hints.{Hints}
-use Rattle.nc_base.specs.declared.step.DiskCall.{DiskCall}
+use Rattle.step_plan.proofs.Words.{◌≡◌, ℕ, ◌≤◌, refl, sym, ◌∙◌, ap, subst, List, [], ◌∷◌, ◌++◌, max, Option, Some, None, arith, append-nil, flat_map, Pair, Header, Batch, Extent, Owned, Post, Hints, DiskCall, collective_windows, get_bytes, grow_to, in_order, loads, overlays, sieving_windows, end_for, told, Setting, needed_now, needed_by, bytes_of, Puts, spans, ranges, HaveSame, IsCover, IsGetPlan, source_of, AreLaid, AreSorted, gets_in, puts_in, puts_of_batch, setting, order_by, cover_ends, laid_calls_by, laid_needs, none_windows, same_order, shared_calls, shared_needs, get_calls, put_calls, HaveGetDomains, HaveGetWindows, grow_call, windows_in, AreDomainPlans, AreSievedPlans, DomainPlan}
 use Rattle.serial_spec.specs.DeviceCalls as device
-use Rattle.serial_spec.specs.DeviceCalls.{collective_windows, get_bytes, grow_to, in_order, loads, overlays, sieving_windows}
-use Rattle.serial_spec.specs.FileStep.{end_for, told, Setting}
-use Rattle.serial_spec.specs.Owner.{needed_now}
-use Rattle.serial_spec.specs.Records.{needed_by}
-use Rattle.serial_spec.specs.SharedByte.{bytes_of, Puts}
-use Rattle.serial_spec.specs.Extents.{spans}
-use Rattle.overlay_laws.specs.Entries.{ranges, HaveSame}
-use Rattle.overlay_laws.specs.Walks.{IsCover}
-use Rattle.get_exchange.specs.Gets.{IsGetPlan}
-use Rattle.collective_round.specs.Laid.{source_of, AreLaid, AreSorted}
-use Rattle.collective_round.specs.Rounds.{gets_in, puts_in, puts_of_batch, setting}
-use Rattle.collective_round.proofs.GetLaws.{order_by}
-use Rattle.collective_round.proofs.PutLaws.{cover_ends, laid_calls_by, laid_needs, none_windows, same_order, shared_calls, shared_needs}
-use Rattle.window_plan.specs.Windows.{get_calls, put_calls}
-use Rattle.step_plan.specs.Phases.{HaveGetDomains, HaveGetWindows}
-use Rattle.step_plan.specs.Steps.{grow_call, windows_in, AreDomainPlans, AreSievedPlans}
-use Rattle.step_plan.specs.declared.plan.DomainPlan.{DomainPlan}
 use Rattle.step_plan.proofs.DomainLaws.{loads_told, stores_told}
 
 -- ---- puts that are refused

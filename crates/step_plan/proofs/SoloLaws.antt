@@ -1,28 +1,5 @@
 -- A batch alone, as a list of one.
-use Rattle.std.proofs.Common.{◌≡◌, ℕ, ◌^◌, ◌<◌, inl, inr, sym, ◌∙◌, ap, subst, List, [], ◌∷◌, map, None}
-use Rattle.std.specs.Prelude.{flat_map}
-use Rattle.std.specs.List.{enumerate_from}
-use Rattle.std.proofs.lemmas.List.{append-nil}
-use Rattle.nc_base.specs.declared.header.Header.{Header}
-use Rattle.nc_base.specs.declared.plan.Batch.{Batch}
-use Rattle.nc_base.specs.declared.plan.Post.{Post}
-use Rattle.nc_base.specs.declared.plan.Owned.{Owned}
-use Rattle.nc_base.specs.declared.script.OverlapRule.{OverlapRule}
-use Rattle.serial_spec.specs.FileStep.{told}
-use Rattle.serial_spec.specs.Layout.{greatest}
-use Rattle.serial_spec.specs.Records.{needed, needed_by}
-use Rattle.serial_spec.specs.SharedByte.{Puts}
-use Rattle.overlay_laws.specs.Entries.{In}
-use Rattle.nc_base.specs.declared.request.Direction.TheVariants.{Get, Put}
-use Rattle.collective_round.specs.Gathered.{AreAccepted}
-use Rattle.collective_round.specs.Laid.{source_of, AreLaid}
-use Rattle.collective_round.specs.Listed.{IsListOf}
-use Rattle.collective_round.specs.Rounds.{posts_in, puts_of_batch, AreGets, ArePuts}
-use Rattle.collective_round.specs.declared.entries.PutList.{PutList}
-use Rattle.collective_round.specs.declared.entries.PutList.TheVariants.{Laid}
-use Rattle.collective_round.proofs.BatchLaws.{batch_needed, one_batch, own_puts}
-use Rattle.collective_round.proofs.StepLaws.{list_laid, own_told}
-use Rattle.vara_extents.specs.Accepted.{IsAccepted}
+use Rattle.step_plan.proofs.Words.{◌≡◌, ℕ, ◌^◌, ◌<◌, inl, inr, sym, ◌∙◌, ap, subst, List, [], ◌∷◌, map, None, flat_map, enumerate_from, append-nil, Header, Batch, Post, Owned, OverlapRule, told, greatest, needed, needed_by, Puts, In, Get, Put, AreAccepted, source_of, AreLaid, IsListOf, posts_in, puts_of_batch, AreGets, ArePuts, PutList, Laid, batch_needed, one_batch, own_puts, list_laid, own_told, IsAccepted}
 
 pub few_alone : (batch : Batch) (slice : List Batch) → slice ≡ batch ∷ [] → posts_in batch < 2 ^ 32 → (b : Batch) → In slice b → posts_in b < 2 ^ 32
 few_alone batch slice same few b m = by_member (subst (λ (bs : List Batch). In bs b) same m)

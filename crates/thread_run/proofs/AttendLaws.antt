@@ -1,34 +1,11 @@
 -- What a rank put and took, from one offer to the next.
-use Rattle.std.proofs.Common.{◌≡◌, ℕ, ◌+◌, ap, sym, subst, refl, ◌∙◌, List, [], ◌∷◌, ◌++◌, length, Bool, true, false, Option, Some, None, Ok, Err, Result, append_assoc, length-append}
-use Rattle.std.specs.Prelude.{filter, is_err, ◌&&◌}
-use Rattle.std.proofs.lemmas.List.{append-nil}
-use Rattle.std.proofs.lemmas.List.Elements.{filter-append}
-use Rattle.std.proofs.lemmas.List.Folds.{list_all-append}
-use Rattle.nc_base.specs.declared.answer.Answer.{Answer}
-use Rattle.nc_base.specs.declared.header.Header.{Header}
-use Rattle.nc_base.specs.declared.memory.Memory.{Memory}
-use Rattle.nc_base.specs.declared.request.Call.{Call}
-use Rattle.nc_base.specs.declared.run.RankStop.{RankStop}
+use Rattle.thread_run.proofs.Words.{◌≡◌, ℕ, ◌+◌, ap, sym, subst, refl, ◌∙◌, List, [], ◌∷◌, ◌++◌, length, Bool, true, false, Option, Some, None, Ok, Err, Result, append_assoc, length-append, filter, is_err, ◌&&◌, append-nil, filter-append, list_all-append, Answer, Header, Memory, Call, RankStop, Offer, OwnerItem, RankItem, offers_in, is_offer, hear, end_by, fits_offer, offered, offered_by, rank_end, rank_stop, stop_by, waiting, waiting_end, waiting_stop, Going, advance, first_going, hears, HasAttended, HasStood, IsAccounted, IsBroken, runner_end, asking, between, going_of, Runner, going_free, going_held, answers_begin, waiting_misfit, waiting_reply, waiting_end_misfit, waiting_end_reply, waiting_stop_misfit, waiting_stop_reply}
 use Rattle.nc_base.specs.declared.run.RankStop.TheVariants as stop
-use Rattle.nc_base.specs.declared.step.Offer.{Offer}
-use Rattle.nc_base.specs.declared.step.OwnerItem.{OwnerItem}
 use Rattle.nc_base.specs.declared.step.OwnerItem.TheVariants as owner_item
-use Rattle.nc_base.specs.declared.step.RankItem.{RankItem}
 use Rattle.nc_base.specs.declared.step.RankItem.TheVariants as item
 use Rattle.nc_base.specs.declared.step.Reply.{Reply}
-use Rattle.serial_spec.specs.Owner.{offers_in}
-use Rattle.serial_spec.specs.History.{is_offer}
 use Rattle.serial_spec.specs.RankMachine as machine
-use Rattle.serial_spec.specs.RankMachine.{hear}
-use Rattle.serial_spec.specs.RankSide.{end_by, fits_offer, offered, offered_by, rank_end, rank_stop, stop_by, waiting, waiting_end, waiting_stop}
-use Rattle.serial_spec.specs.SerialEnd.{Going, advance, first_going, hears}
-use Rattle.thread_run.specs.RankSides.{HasAttended, HasStood, IsAccounted, IsBroken, Stands}
-use Rattle.turn_run.specs.RankEnds.{runner_end}
-use Rattle.turn_run.specs.Running.{asking, between, going_of}
-use Rattle.turn_run.specs.declared.runners.Runner.{Runner}
-use Rattle.turn_run.proofs.AloneLaws.{going_free, going_held}
-use Rattle.turn_run.proofs.RunnerLaws.{answers_begin}
-use Rattle.join_laws.proofs.StreamLaws.{waiting_misfit, waiting_reply, waiting_end_misfit, waiting_end_reply, waiting_stop_misfit, waiting_stop_reply}
+use Rattle.thread_run.specs.RankSides.{Stands}
 
 -- ---- accounts
 

@@ -1,44 +1,8 @@
 -- A rank at its offer: what it waits for, and its way after the reply.
-use Rattle.std.proofs.Common.{◌≡◌, ℕ, ◌<◌, ap, sym, subst, refl, ◌∙◌, List, [], ◌∷◌, ◌++◌, length, map, Bool, true, Option, Some, None, append_assoc, arith}
-use Rattle.std.specs.Prelude.{slice_get, is_some, IfSome}
-use Rattle.std.proofs.lemmas.Slice.Eq.{bytes_eq-Decides}
-use Rattle.serial_spec.proofs.MemberLaws.{at_in}
-use Rattle.list_laws.proofs.Truth.{and_first}
-use Rattle.nc_base.specs.declared.header.Header.{Header}
-use Rattle.nc_base.specs.declared.header.Var.{Var}
-use Rattle.nc_base.specs.declared.answer.Answer.{Answer}
+use Rattle.thread_run.proofs.Words.{◌≡◌, ℕ, ◌<◌, ap, sym, subst, refl, ◌∙◌, List, [], ◌∷◌, ◌++◌, length, map, Bool, true, Option, Some, None, append_assoc, arith, slice_get, is_some, IfSome, bytes_eq-Decides, at_in, and_first, Header, Var, Answer, Call, Direction, Region, Script, Mark, Meet, Solo, Offer, OfferKind, is_lawful, most_calls, Open, hear, fits_offer, wanted, check_some, Going, advance, first_going, hears, fits_gets, IsSoundOffer, HasOwnElements, own_elements, IsOnWay, meetings, Keeps, ranks_lawful, call_number, call_waits, way_begins, way_hears, IsAsked, asking, between, calls_of, going_of, HasHeard, IsPlaced, IsPlacedWith, first_runner, Runner, alone_waits, going_held, alone_heard, answered_is, heard_runner, entry_below}
 use Rattle.nc_base.specs.declared.answer.Code.TheVariants as code
-use Rattle.nc_base.specs.declared.request.Call.{Call}
-use Rattle.nc_base.specs.declared.request.Direction.{Direction}
-use Rattle.nc_base.specs.declared.request.Region.{Region}
-use Rattle.nc_base.specs.declared.script.Script.{Script}
-use Rattle.nc_base.specs.declared.step.Mark.{Mark}
-use Rattle.nc_base.specs.declared.step.Mark.TheVariants.{Meet, Solo}
-use Rattle.nc_base.specs.declared.step.Offer.{Offer}
-use Rattle.nc_base.specs.declared.step.OfferKind.{OfferKind}
 use Rattle.nc_base.specs.declared.step.OfferKind.TheVariants as offer
 use Rattle.nc_base.specs.declared.step.Reply.{Reply}
-use Rattle.serial_spec.specs.Lawful.{is_lawful, most_calls}
-use Rattle.serial_spec.specs.RankMachine.{Open, hear}
-use Rattle.serial_spec.specs.RankSide.{fits_offer, wanted}
-use Rattle.serial_spec.specs.RegionCheck.{check_some}
-use Rattle.serial_spec.specs.SerialEnd.{Going, advance, first_going, hears}
-use Rattle.rank_core.specs.Fit.{fits_gets}
-use Rattle.rank_core.specs.Offered.{IsSoundOffer}
-use Rattle.rank_items.specs.Own.{HasOwnElements}
-use Rattle.rank_items.proofs.OwnLaws.{own_elements}
-use Rattle.run_laws.specs.Ways.{IsOnWay, meetings}
-use Rattle.run_laws.proofs.CallLaws.{Keeps}
-use Rattle.run_laws.proofs.LawfulLaws.{ranks_lawful}
-use Rattle.run_laws.proofs.TogetherLaws.{call_number, call_waits}
-use Rattle.run_laws.proofs.WayLaws.{way_begins, way_hears}
-use Rattle.turn_run.specs.Counts.{IsAsked}
-use Rattle.turn_run.specs.Running.{asking, between, calls_of, going_of, HasHeard, IsPlaced, IsPlacedWith}
-use Rattle.turn_run.specs.Steps.{first_runner}
-use Rattle.turn_run.specs.declared.runners.Runner.{Runner}
-use Rattle.turn_run.proofs.AloneLaws.{alone_waits, going_held}
-use Rattle.turn_run.proofs.RunnerLaws.{alone_heard, answered_is, heard_runner}
-use Rattle.list_laws.proofs.Places.{entry_below}
 
 -- ---- before the first call
 

@@ -1,40 +1,10 @@
 -- The owner's run along arrivals of which none was strange, wherever it was cut off: it is the serial run of its order, and each rank
 -- ended where that run's rank goes up to.
-use Rattle.std.proofs.Common.{◌≡◌, ℕ, ◌+◌, ◌<◌, ◌≤◌, refl, sym, ◌∙◌, ap, subst, List, [], ◌∷◌, ◌++◌, length, map, replicate, Bool, true, false, Option, Some, None, append_assoc, arith}
-use Rattle.std.proofs.lemmas.List.{length-map, length-replicate}
-use Rattle.std.proofs.lemmas.List.Folds.{list_all-append}
-use Rattle.std.proofs.lemmas.Option.{slice_get_within}
-use Rattle.std.specs.Prelude.{slice_get, fold, nat_lt}
-use Rattle.std.specs.List.{list_all}
+use Rattle.thread_run.proofs.Words.{◌≡◌, ℕ, ◌+◌, ◌<◌, ◌≤◌, refl, sym, ◌∙◌, ap, subst, List, [], ◌∷◌, ◌++◌, length, map, replicate, Bool, true, false, Option, Some, None, append_assoc, arith, length-map, length-replicate, list_all-append, slice_get_within, slice_get, fold, nat_lt, list_all, entry_below, entry_replicate, entry_beside, and_first, and_second, Header, Call, Script, Mark, Offer, OwnerItem, Stop, Owner, Client, event, free_client, given_along, is_strange, offers_in, own_items, served, Setting, Counted, Arrival, is_sound, opening_owner, run_of, rank_end, Going, after_mark, first_going, setting_of, Begins, HasOffered, sound_small, calls_of, stranger_on, served_on, ServedOn, fold_two, counts_along, owner_told, given_on, mapped_entry}
 use borrow.Author.Tests.{ltb-true}
-use Rattle.list_laws.proofs.Places.{entry_below, entry_replicate, entry_beside}
-use Rattle.list_laws.proofs.Truth.{and_first, and_second}
-use Rattle.nc_base.specs.declared.header.Header.{Header}
-use Rattle.nc_base.specs.declared.request.Call.{Call}
-use Rattle.nc_base.specs.declared.script.Script.{Script}
-use Rattle.nc_base.specs.declared.step.Mark.{Mark}
-use Rattle.nc_base.specs.declared.step.Offer.{Offer}
-use Rattle.nc_base.specs.declared.step.OwnerItem.{OwnerItem}
-use Rattle.nc_base.specs.declared.step.OwnerItem.TheVariants.{Stop}
-use Rattle.serial_spec.specs.Owner.{Owner, Client, event, free_client, given_along, is_strange, offers_in, own_items, served}
-use Rattle.serial_spec.specs.FileStep.{Setting, Counted}
-use Rattle.serial_spec.specs.History.{Arrival}
-use Rattle.serial_spec.specs.SoundHeaders.{is_sound}
-use Rattle.serial_spec.specs.Joined.{opening_owner, run_of}
-use Rattle.serial_spec.specs.RankSide.{rank_end}
-use Rattle.serial_spec.specs.SerialEnd.{Going, after_mark, first_going, setting_of}
-use Rattle.serial_spec.specs.Torn.{Begins}
-use Rattle.join_laws.specs.Begun.{HasOffered}
-use Rattle.join_laws.proofs.CountLaws.{sound_small}
-use Rattle.turn_run.specs.Running.{calls_of}
-use Rattle.join_laws.proofs.JoinLaws.{stranger_on, served_on, ServedOn, fold_two}
-use Rattle.turn_run.specs.Told.{counts_along}
-use Rattle.file_owner.specs.Owned.{owner_told}
-use Rattle.join_laws.proofs.GoingOnLaws.{given_on}
 use Rattle.thread_run.proofs.TellLaws.{count_of, tells_more}
 use Rattle.thread_run.proofs.CutRank.{IsPaired, sits_as}
 use Rattle.thread_run.proofs.CutSteps.{Stands, Stepped, arrival_stands}
-use Rattle.list_laws.proofs.Maps.{mapped_entry}
 
 -- ---- arrivals
 

@@ -1,21 +1,7 @@
 -- One rank, of whose items the owner saw a beginning.
-use Rattle.std.proofs.Common.{◌≡◌, ℕ, zero, suc, ◌+◌, ◌≤◌, refl, sym, ◌∙◌, ap, subst, inl, inr, List, [], ◌∷◌, ◌++◌, length, replicate, Bool, true, false, Option, Some, None, arith}
-use Rattle.std.proofs.lemmas.Option.{same_Some}
-use Rattle.nc_base.specs.declared.header.Header.{Header}
-use Rattle.nc_base.specs.declared.step.Offer.{Offer}
-use Rattle.nc_base.specs.declared.step.OwnerItem.{OwnerItem}
-use Rattle.nc_base.specs.declared.step.OwnerItem.TheVariants.{Reply, Stop}
-use Rattle.nc_base.specs.declared.step.RankItem.{RankItem}
+use Rattle.thread_run.proofs.Words.{◌≡◌, ℕ, zero, suc, ◌+◌, ◌≤◌, refl, sym, ◌∙◌, ap, subst, inl, inr, List, [], ◌∷◌, ◌++◌, length, replicate, Bool, true, false, Option, Some, None, arith, same_Some, Header, Offer, OwnerItem, Reply, Stop, RankItem, Client, offers_in, is_offer, end_by, fits_offer, offered_by, waiting, waiting_end, Going, advance, hears, Begins, IsBeginning, ends_once, client_end, to_come, waiting_end_reply, waiting_reply, one_if}
 use Rattle.nc_base.specs.declared.step.RankItem.TheVariants as item
 use Rattle.nc_base.specs.declared.step.Reply as reply
-use Rattle.serial_spec.specs.Owner.{Client, offers_in}
-use Rattle.serial_spec.specs.History.{is_offer}
-use Rattle.serial_spec.specs.RankSide.{end_by, fits_offer, offered_by, waiting, waiting_end}
-use Rattle.serial_spec.specs.SerialEnd.{Going, advance, hears}
-use Rattle.serial_spec.specs.Torn.{Begins}
-use Rattle.join_laws.specs.Begun.{IsBeginning}
-use Rattle.join_laws.proofs.StreamLaws.{ends_once, client_end, to_come, waiting_end_reply, waiting_reply}
-use Rattle.join_laws.proofs.TieLaws.{one_if}
 
 -- ---- a beginning of what a rank puts
 

@@ -1,37 +1,9 @@
 -- All ranks, of whose items the owner saw a beginning each, at one arrival more that is not strange.
-use Rattle.std.proofs.Common.{◌≡◌, ℕ, zero, suc, ◌+◌, ◌<◌, ◌≤◌, refl, sym, ◌∙◌, ap, subst, inl, inr, ◌⊎◌, List, [], ◌∷◌, ◌++◌, length, map, max, set, Bool, true, false, Option, Some, None, arith}
-use Rattle.std.proofs.lemmas.Bool.{ltb-false, or_from}
-use Rattle.std.proofs.lemmas.Bool.Decides.{eqb_tells, nat_tests}
-use Rattle.std.proofs.lemmas.List.{length-map, length-set}
-use Rattle.std.proofs.lemmas.Option.{slice_get-map, same_Some}
-use Rattle.std.specs.Prelude.{slice_get, flat_map, fold, is_some, nat_lt, ◌==◌}
-use Rattle.std.specs.List.{enumerate_from, list_all}
-use Rattle.list_laws.proofs.Each.{passes_at}
-use Rattle.list_laws.proofs.Optional.{some_or_none}
-use Rattle.list_laws.proofs.Places.{entry_set, entry_set_other, entry_beside}
-use Rattle.list_laws.proofs.Truth.{or_first_false, or_second_false}
-use Rattle.run_laws.proofs.StandingLaws.{solo_goes}
-use Rattle.nc_base.specs.declared.header.Header.{Header}
-use Rattle.nc_base.specs.declared.step.Offer.{Offer}
-use Rattle.nc_base.specs.declared.step.OfferKind.{OfferKind}
+use Rattle.thread_run.proofs.Words.{◌≡◌, ℕ, zero, suc, ◌+◌, ◌<◌, ◌≤◌, refl, sym, ◌∙◌, ap, subst, inl, inr, ◌⊎◌, List, [], ◌∷◌, ◌++◌, length, map, max, set, Bool, true, false, Option, Some, None, arith, ltb-false, or_from, eqb_tells, nat_tests, length-map, length-set, slice_get-map, same_Some, slice_get, flat_map, fold, is_some, nat_lt, ◌==◌, enumerate_from, list_all, passes_at, some_or_none, entry_set, entry_set_other, entry_beside, or_first_false, or_second_false, solo_goes, Header, Offer, OfferKind, OwnerItem, Reply, RankItem, Owner, Event, Client, at_offer, does_meeting, does_solo, event, freed, holds, is_strange, keeps, left_behind, meets_if, needed_now, offers_held, own_items, some_true, strange_offer, to_each, has_ended, has_held, Setting, Counted, meeting, puts_of, solo, Arrival, record_limit, Going, advance, after_mark, hears, offers_of, less_max, meeting_small, solo_small, to_one_here, to_one_other, own_here, own_other, fit_passes, meeting_fits, solo_fits, going_after, goings_after, goings_long, meeting_is, meeting_within, offer_at, offers_long, replied, same_offers, solo_of_is, solo_within, Replied, event_is, strange_alone, client_ended, client_held}
 use Rattle.nc_base.specs.declared.step.OfferKind.TheVariants as offer
-use Rattle.nc_base.specs.declared.step.OwnerItem.{OwnerItem}
-use Rattle.nc_base.specs.declared.step.OwnerItem.TheVariants.{Reply}
-use Rattle.nc_base.specs.declared.step.RankItem.{RankItem}
 use Rattle.nc_base.specs.declared.step.RankItem.TheVariants as item
 use Rattle.nc_base.specs.declared.step.Reply as reply
-use Rattle.serial_spec.specs.Owner.{Owner, Event, Client, at_offer, does_meeting, does_solo, event, freed, holds, is_strange, keeps, left_behind, meets_if, needed_now, offers_held, own_items, some_true, strange_offer, to_each, has_ended, has_held}
-use Rattle.serial_spec.specs.FileStep.{Setting, Counted, meeting, puts_of, solo}
-use Rattle.serial_spec.specs.History.{Arrival}
-use Rattle.serial_spec.specs.Limits.{record_limit}
-use Rattle.serial_spec.specs.SerialEnd.{Going, advance, after_mark, hears, offers_of}
-use Rattle.join_laws.proofs.CountLaws.{less_max, meeting_small, solo_small}
-use Rattle.join_laws.proofs.EventLaws.{to_one_here, to_one_other, own_here, own_other}
-use Rattle.join_laws.proofs.ReplyLaws.{fit_passes, meeting_fits, solo_fits}
-use Rattle.join_laws.proofs.StepLaws.{going_after, goings_after, goings_long, meeting_is, meeting_within, offer_at, offers_long, replied, same_offers, solo_of_is, solo_within, Replied}
-use Rattle.join_laws.proofs.StrangeLaws.{event_is, strange_alone}
 use Rattle.thread_run.proofs.CutRank.{begin_ended, IsPaired, Waits, offered_now, held_now, hold_it, heard_now, sits_as}
-use Rattle.join_laws.proofs.ClientTurns.{client_ended, client_held}
 
 -- ---- all ranks
 

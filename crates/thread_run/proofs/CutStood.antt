@@ -1,53 +1,12 @@
 -- Where a run on threads stood that a fault cut off, and which answers its ranks have.
-use Rattle.std.proofs.Common.{◌≡◌, ℕ, ◌+◌, ◌≤◌, refl, sym, ◌∙◌, ap, subst, inl, inr, ◌⊎◌, List, [], ◌∷◌, ◌++◌, length, map, set, Bool, true, false, Option, Some, None, arith}
-use Rattle.std.proofs.lemmas.Bool.Decides.{eqb_tells}
-use Rattle.std.proofs.lemmas.List.{append-nil}
+use Rattle.thread_run.proofs.Words.{◌≡◌, ℕ, ◌+◌, ◌≤◌, refl, sym, ◌∙◌, ap, subst, inl, inr, ◌⊎◌, List, [], ◌∷◌, ◌++◌, length, map, set, Bool, true, false, Option, Some, None, arith, eqb_tells, append-nil, slice_get, flat_map, nat_lt, ◌==◌, enumerate_from, list_all, list_any, byte_len, entry_below, entry_beside, and_first, and_second, Header, Call, Script, Mark, Meet, Solo, Offer, OfferKind, OwnerItem, Reply, Stop, RankItem, StepErr, In, same_file, Owner, Event, Client, at_offer, event, holds, is_strange, meets_if, offers_at, offers_held, offers_met, own_items, step_offers, at, Setting, Counted, puts_of, count_width, Arrival, IsLegal, fits_offer, offered, offered_by, waiting, Going, advance, after_mark, closed, first_going, hears, offers_of, Puts, covered, IsLeft, IsTorn, OwnerStoodAt, StoodAt, bytes_of_mark, at_arrival, between_arrivals, in_step, in_close, torn_sides, AreSides, torn_still, solo_goes, HasOffered, IsBeginning, waiting_misfit, waiting_reply, meeting_is, same_offers, solo_of_is, AreSingle, IsSingleOffer, event_is, strange_alone, own_here, own_other, raised_grows, mark_grows, in_left, client_held}
 use borrow.Author.Tests.{ltb-true, ltb-false}
-use Rattle.std.specs.Prelude.{slice_get, flat_map, nat_lt, ◌==◌}
-use Rattle.std.specs.List.{enumerate_from, list_all, list_any}
-use Rattle.std.specs.Int.{byte_len}
-use Rattle.list_laws.proofs.Places.{entry_below, entry_beside}
-use Rattle.list_laws.proofs.Truth.{and_first, and_second}
-use Rattle.nc_base.specs.declared.header.Header.{Header}
-use Rattle.nc_base.specs.declared.request.Call.{Call}
-use Rattle.nc_base.specs.declared.script.Script.{Script}
-use Rattle.nc_base.specs.declared.step.Mark.{Mark}
-use Rattle.nc_base.specs.declared.step.Mark.TheVariants.{Meet, Solo}
-use Rattle.nc_base.specs.declared.step.Offer.{Offer}
-use Rattle.nc_base.specs.declared.step.OfferKind.{OfferKind}
 use Rattle.nc_base.specs.declared.step.OfferKind.TheVariants as offer
-use Rattle.nc_base.specs.declared.step.OwnerItem.{OwnerItem}
-use Rattle.nc_base.specs.declared.step.OwnerItem.TheVariants.{Reply, Stop}
-use Rattle.nc_base.specs.declared.step.RankItem.{RankItem}
 use Rattle.nc_base.specs.declared.step.RankItem.TheVariants as item
 use Rattle.nc_base.specs.declared.step.Reply as reply
-use Rattle.nc_base.specs.declared.step.StepErr.{StepErr}
-use Rattle.overlay_laws.specs.Entries.{In}
-use Rattle.overlay_laws.proofs.SaidLaws.{same_file}
-use Rattle.serial_spec.specs.Owner.{Owner, Event, Client, at_offer, event, holds, is_strange, meets_if, offers_at, offers_held, offers_met, own_items, step_offers}
-use Rattle.serial_spec.specs.File.{at}
-use Rattle.serial_spec.specs.FileStep.{Setting, Counted, puts_of}
-use Rattle.serial_spec.specs.HeaderBytes.{count_width}
-use Rattle.serial_spec.specs.History.{Arrival, IsLegal}
-use Rattle.serial_spec.specs.RankSide.{fits_offer, offered, offered_by, waiting}
-use Rattle.serial_spec.specs.SerialEnd.{Going, advance, after_mark, closed, first_going, hears, offers_of}
-use Rattle.serial_spec.specs.SharedByte.{Puts, covered}
-use Rattle.serial_spec.specs.Torn.{IsLeft, IsTorn, OwnerStoodAt, StoodAt, bytes_of_mark}
-use Rattle.serial_spec.specs.Torn.OwnerStoodAt.{at_arrival, between_arrivals}
-use Rattle.serial_spec.specs.Torn.StoodAt.{in_step, in_close, between}
-use Rattle.collective_round.proofs.TornFiles.{torn_sides, AreSides, torn_still}
-use Rattle.run_laws.proofs.StandingLaws.{solo_goes}
-use Rattle.join_laws.specs.Begun.{HasOffered, IsBeginning}
-use Rattle.join_laws.proofs.StreamLaws.{waiting_misfit, waiting_reply}
-use Rattle.join_laws.proofs.StepLaws.{meeting_is, same_offers, solo_of_is}
-use Rattle.file_owner.specs.Owned.{AreSingle, IsSingleOffer}
+use Rattle.serial_spec.specs.Torn.StoodAt.{between}
 use Rattle.thread_run.proofs.CutSteps.{Stands, fits_now, held_keeps, own_offer}
-use Rattle.join_laws.proofs.StrangeLaws.{event_is, strange_alone}
-use Rattle.join_laws.proofs.EventLaws.{own_here, own_other}
 use Rattle.thread_run.proofs.ThreadCalls.{single_go}
-use Rattle.serial_spec.proofs.GrowLaws.{raised_grows, mark_grows}
-use Rattle.overlay_laws.proofs.HullLaws.{in_left}
-use Rattle.join_laws.proofs.ClientTurns.{client_held}
 
 -- ---- the step that an arrival brings
 

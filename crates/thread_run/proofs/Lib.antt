@@ -1,3 +1,4 @@
+mod Words
 mod TellLaws
 mod CutRank
 mod CutSteps

@@ -1,22 +1,5 @@
 -- The part of a run on threads that was done when a fault cut it off, from what the owner tells.
-use Rattle.turn_run.specs.Known.{point}
-use Rattle.std.proofs.Common.{◌≡◌, ℕ, suc, ◌-◌, ◌<◌, refl, sym, ◌∙◌, ap, List, [], ◌∷◌, ◌++◌, length, map, replicate, Bool, true, false, Option, Some, None, arith}
-use Rattle.std.proofs.lemmas.List.{append-nil}
-use Rattle.std.specs.Prelude.{slice_get, filter}
-use Rattle.nc_base.specs.declared.script.Hints.{Hints}
-use Rattle.nc_base.specs.declared.step.Mark.{Mark}
-use Rattle.nc_base.specs.declared.step.Offer.{Offer}
-use Rattle.nc_base.specs.declared.step.OwnerItem.{OwnerItem}
-use Rattle.nc_base.specs.declared.step.OwnerItem.TheVariants.{Stop}
-use Rattle.nc_base.specs.declared.step.RankItem.{RankItem}
-use Rattle.nc_base.specs.declared.step.StepErr.{StepErr}
-use Rattle.serial_spec.specs.Owner.{Owner, Client, event, given_along, is_strange, own_items, owed, served, stop_held, stops}
-use Rattle.serial_spec.specs.FileStep.{Setting}
-use Rattle.serial_spec.specs.History.{Arrival, is_offer}
-use Rattle.file_owner.specs.Service.{passed}
-use Rattle.file_owner.specs.Refused.{HasCutService}
-use Rattle.join_laws.proofs.JoinLaws.{owed_stop, served_on}
-use Rattle.file_owner.proofs.OwnerRuns.{goes_on, stops_at}
+use Rattle.thread_run.proofs.Words.{point, ◌≡◌, ℕ, suc, ◌-◌, ◌<◌, refl, sym, ◌∙◌, ap, List, [], ◌∷◌, ◌++◌, length, map, replicate, Bool, true, false, Option, Some, None, arith, append-nil, slice_get, filter, Hints, Mark, Offer, OwnerItem, Stop, RankItem, StepErr, Owner, Client, event, given_along, is_strange, own_items, owed, served, stop_held, stops, Setting, Arrival, is_offer, passed, HasCutService, owed_stop, served_on, goes_on, stops_at}
 
 -- ---- the part of a run that was done
 

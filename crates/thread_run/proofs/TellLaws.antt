@@ -1,23 +1,7 @@
 -- What the owner tells along arrivals: the marks of its steps, each with the count that the serial run has after it.
-use Rattle.std.proofs.Common.{◌≡◌, ℕ, refl, sym, ◌∙◌, ap, subst, inl, inr, ◌⊎◌, List, [], ◌∷◌, ◌++◌, map, set, Bool, true, false, Option, Some, None}
-use Rattle.std.proofs.lemmas.List.{append_cancel_left, map-append}
-use Rattle.std.specs.Prelude.{slice_get, fold}
-use Rattle.std.specs.List.{list_all}
-use Rattle.nc_base.specs.declared.step.Mark.{Mark}
-use Rattle.nc_base.specs.declared.step.Offer.{Offer}
-use Rattle.nc_base.specs.declared.step.OfferKind.{OfferKind}
+use Rattle.thread_run.proofs.Words.{◌≡◌, ℕ, refl, sym, ◌∙◌, ap, subst, inl, inr, ◌⊎◌, List, [], ◌∷◌, ◌++◌, map, set, Bool, true, false, Option, Some, None, append_cancel_left, map-append, slice_get, fold, list_all, Mark, Offer, OfferKind, RankItem, Owner, Ending, Event, Client, at_item, at_offer, event, event_at, holds, is_strange, meets_if, served, Counted, Setting, Arrival, Going, after_mark, served_on, stranger_on, counts_along, owner_told, each_told, stops_at, told_on, told_stop, client_held}
 use Rattle.nc_base.specs.declared.step.OfferKind.TheVariants as offer
-use Rattle.nc_base.specs.declared.step.RankItem.{RankItem}
 use Rattle.nc_base.specs.declared.step.RankItem.TheVariants as item
-use Rattle.serial_spec.specs.Owner.{Owner, Ending, Event, Client, at_item, at_offer, event, event_at, holds, is_strange, meets_if, served}
-use Rattle.serial_spec.specs.FileStep.{Counted, Setting}
-use Rattle.serial_spec.specs.History.{Arrival}
-use Rattle.serial_spec.specs.SerialEnd.{Going, after_mark}
-use Rattle.join_laws.proofs.JoinLaws.{served_on, stranger_on}
-use Rattle.turn_run.specs.Told.{counts_along}
-use Rattle.file_owner.specs.Owned.{owner_told, each_told}
-use Rattle.file_owner.proofs.OwnerRuns.{stops_at, told_on, told_stop}
-use Rattle.join_laws.proofs.ClientTurns.{client_held}
 
 -- ---- the marks alone
 

@@ -1,41 +1,8 @@
 -- A run on threads, from what the owner tells and what the close tells.
-use Rattle.std.proofs.Common.{◌≡◌, ℕ, ◌≤◌, refl, sym, ◌∙◌, ap, subst, inl, inr, ◌⊎◌, List, [], ◌∷◌, ◌++◌, map, max, replicate, true, Option, Some, None}
-use Rattle.std.specs.Prelude.{nat_lt, IfSome}
-use Rattle.nc_base.specs.declared.header.Header.{Header}
-use Rattle.nc_base.specs.declared.run.RankEnd.{RankEnd}
-use Rattle.nc_base.specs.declared.run.RunEnd.{RunEnd}
-use Rattle.nc_base.specs.declared.run.ServeEnd.{ServeEnd}
-use Rattle.nc_base.specs.declared.script.Script.{Script}
-use Rattle.nc_base.specs.declared.step.DiskCall.{DiskCall}
-use Rattle.nc_base.specs.declared.step.Mark.{Mark}
-use Rattle.nc_base.specs.declared.step.OwnerItem.{OwnerItem}
-use Rattle.nc_base.specs.declared.step.StepErr.{StepErr}
+use Rattle.thread_run.proofs.Words.{◌≡◌, ℕ, ◌≤◌, refl, sym, ◌∙◌, ap, subst, inl, inr, ◌⊎◌, List, [], ◌∷◌, ◌++◌, map, max, replicate, true, Option, Some, None, nat_lt, IfSome, Header, RankEnd, RunEnd, ServeEnd, Script, DiskCall, Mark, OwnerItem, StepErr, Rose, after, with_end, Owner, Ending, first_owner, free_client, served, run_calls, store_records, raised, is_sound, Arrival, IsLegal, opening_owner, run_of, is_lawful, serial_from, setting_of, as_setting, counted, seen, HasBegun, HasCut, IsRun, AreSingle, owner_calls, HasFailed, IsDone, IsDoneSo, opening, passed, NoneBroke, most_known_of, Closing, rose_later, blank, with_end-with_end, rose_before, some_or_none, le_two}
 use Rattle.nc_base.specs.declared.step.StepErr.TheVariants as fault
-use Rattle.nc_outside.specs.Cause.{Rose}
-use Rattle.nc_outside.specs.Told.{after, with_end}
-use Rattle.serial_spec.specs.Owner.{Owner, Ending, first_owner, free_client, served}
-use Rattle.serial_spec.specs.DeviceCalls.{run_calls, store_records}
-use Rattle.serial_spec.specs.FileStep.{raised}
-use Rattle.serial_spec.specs.SoundHeaders.{is_sound}
-use Rattle.serial_spec.specs.History.{Arrival, IsLegal}
-use Rattle.serial_spec.specs.Joined.{opening_owner, run_of}
-use Rattle.serial_spec.specs.Lawful.{is_lawful}
-use Rattle.serial_spec.specs.SerialEnd.{serial_from, setting_of}
-use Rattle.collective_round.specs.Rounds.{as_setting, counted}
-use Rattle.turn_run.specs.Known.{seen}
-use Rattle.turn_run.specs.Begun.{HasBegun}
-use Rattle.turn_run.specs.Run.{HasCut, IsRun}
-use Rattle.file_owner.specs.Owned.{AreSingle, owner_calls}
-use Rattle.file_owner.specs.Service.{HasFailed, IsDone, IsDoneSo, opening, passed}
-use Rattle.turn_run.specs.RankEnds.{NoneBroke, most_known_of}
-use Rattle.turn_run.proofs.EndedLaws.{Closing}
-use Rattle.turn_run.proofs.TurnCauses.{rose_later}
 use Rattle.thread_run.proofs.ThreadRuns.{Finished, FinishedAlike, FinishedSo, finished, finished_alike, finished_so}
-use Rattle.join_laws.specs.Alike.{blank}
 use Rattle.thread_run.proofs.ThreadTies.{Told, begun}
-use Rattle.nc_outside.proofs.ToldLaws.{with_end-with_end, rose_before}
-use Rattle.list_laws.proofs.Optional.{some_or_none}
-use Rattle.list_laws.proofs.Numbers.{le_two}
 
 -- what the owner tells
 pub record OwnerSide (script : Script) (header : Header) (arrivals : List Arrival) (given : ℕ → List OwnerItem) (held : Option (List ℕ)) (calls : Option (List DiskCall)) (faults : ℕ)

@@ -1,43 +1,10 @@
 -- The owner's run beside the serial run, one arrival after another: its device calls, its offers, and what its ranks know.
-use Rattle.std.proofs.Common.{◌≡◌, ℕ, ◌<◌, refl, sym, ◌∙◌, ap, subst, inl, inr, ◌⊎◌, List, [], ◌∷◌, ◌++◌, length, map, set, Bool, true, false, Option, Some, None}
-use Rattle.std.proofs.lemmas.List.{append-nil, length-set}
-use Rattle.std.specs.Prelude.{slice_get, fold, nat_lt}
-use Rattle.std.specs.List.{list_all}
-use Rattle.std.proofs.lemmas.Option.{same_Some}
+use Rattle.thread_run.proofs.Words.{◌≡◌, ℕ, ◌<◌, refl, sym, ◌∙◌, ap, subst, inl, inr, ◌⊎◌, List, [], ◌∷◌, ◌++◌, length, map, set, Bool, true, false, Option, Some, None, append-nil, length-set, slice_get, fold, nat_lt, list_all, same_Some, entry_below, entry_beside, and_first, Header, Answer, Call, Hints, Mark, Solo, MeetKind, Offer, OfferKind, RankItem, Want, In, Owner, Event, Client, at_item, at_offer, event, holds, is_strange, meets_if, own_items, owed, served, mark_calls, meeting_calls, solo_calls, Counted, Setting, Arrival, is_offer, Rank, step, Going, advance, after_mark, go, offers_of, rank_offer, calls_so_far, calls_more, get_set, own_here, Arrived, Stands, join, served_on, stranger_on, same_offers, event_is, not_ended, strange_alone, Lasting, IsPaired, offered_now, client_held, AreSingle, IsSingle, calls_at, calls_at_offer, calls_if, owner_calls, event_calls, IsSingleOffer, IsQuiet, quiet_step, calls_on}
 use borrow.Author.Tests.{ltb-true}
-use Rattle.list_laws.proofs.Places.{entry_below, entry_beside}
-use Rattle.list_laws.proofs.Truth.{and_first}
-use Rattle.nc_base.specs.declared.header.Header.{Header}
-use Rattle.nc_base.specs.declared.answer.Answer.{Answer}
-use Rattle.nc_base.specs.declared.request.Call.{Call}
-use Rattle.nc_base.specs.declared.script.Hints.{Hints}
-use Rattle.nc_base.specs.declared.step.Mark.{Mark}
-use Rattle.nc_base.specs.declared.step.Mark.TheVariants.{Solo}
-use Rattle.nc_base.specs.declared.step.MeetKind.{MeetKind}
-use Rattle.nc_base.specs.declared.step.Offer.{Offer}
-use Rattle.nc_base.specs.declared.step.OfferKind.{OfferKind}
 use Rattle.nc_base.specs.declared.step.OfferKind.TheVariants as offer
-use Rattle.nc_base.specs.declared.step.RankItem.{RankItem}
 use Rattle.nc_base.specs.declared.step.RankItem.TheVariants as item
-use Rattle.nc_base.specs.declared.step.Want.{Want}
 use Rattle.nc_base.specs.declared.step.Want.TheVariants as want
-use Rattle.overlay_laws.specs.Entries.{In}
-use Rattle.serial_spec.specs.Owner.{Owner, Event, Client, at_item, at_offer, event, holds, is_strange, meets_if, own_items, owed, served}
-use Rattle.serial_spec.specs.DeviceCalls.{mark_calls, meeting_calls, solo_calls}
-use Rattle.serial_spec.specs.FileStep.{Counted, Setting}
-use Rattle.serial_spec.specs.History.{Arrival, is_offer}
-use Rattle.serial_spec.specs.RankMachine.{Rank, step}
-use Rattle.serial_spec.specs.SerialEnd.{Going, advance, after_mark, go, offers_of, rank_offer}
-use Rattle.run_laws.specs.Ahead.{calls_so_far}
-use Rattle.run_laws.proofs.OrderLaws.{calls_more}
-use Rattle.join_laws.proofs.EventLaws.{get_set, own_here}
-use Rattle.join_laws.proofs.JoinLaws.{Arrived, Stands, arrived, join, served_on, stranger_on}
-use Rattle.join_laws.proofs.StepLaws.{same_offers}
-use Rattle.join_laws.proofs.StrangeLaws.{event_is, not_ended, strange_alone}
-use Rattle.join_laws.proofs.ClientTurns.{Lasting, IsPaired, offered_now, client_held}
-use Rattle.file_owner.specs.Owned.{AreSingle, IsSingle, calls_at, calls_at_offer, calls_if, owner_calls, event_calls, IsSingleOffer}
-use Rattle.join_laws.proofs.QuietLaws.{IsQuiet, quiet_step}
-use Rattle.file_owner.proofs.OwnerRuns.{calls_on}
+use Rattle.join_laws.proofs.JoinLaws.{arrived}
 
 -- ---- one arrival
 

@@ -1,68 +1,17 @@
 -- A run on threads that a fault cut off, from what the owner tells and what the close tells.
-use Rattle.std.proofs.Common.{◌≡◌, ℕ, ◌-◌, ◌<◌, ◌≤◌, refl, sym, ◌∙◌, ap, subst, inl, inr, ◌⊎◌, List, [], ◌∷◌, ◌++◌, length, map, max, replicate, Bool, true, false, cond, Option, Some, None, append_assoc, arith}
-use Rattle.std.proofs.lemmas.List.{append-nil, length-append, length-map, length-replicate}
-use Rattle.std.proofs.lemmas.List.Folds.{list_all-append}
-use Rattle.std.proofs.lemmas.Option.{slice_get_within, same_Some}
-use Rattle.std.specs.Prelude.{slice_get, nat_lt, filter, IfSome}
-use Rattle.std.specs.Int.{byte_len}
-use Rattle.std.specs.List.{list_all}
-use Rattle.list_laws.proofs.Places.{entry_below, entry_beside}
-use Rattle.list_laws.proofs.Truth.{and_second}
-use Rattle.nc_base.specs.declared.answer.Answer.{Answer}
-use Rattle.nc_base.specs.declared.header.Header.{Header}
-use Rattle.nc_base.specs.declared.request.Call.{Call}
-use Rattle.nc_base.specs.declared.run.RankEnd.{RankEnd}
+use Rattle.thread_run.proofs.Words.{◌≡◌, ℕ, ◌-◌, ◌<◌, ◌≤◌, refl, sym, ◌∙◌, ap, subst, inl, inr, ◌⊎◌, List, [], ◌∷◌, ◌++◌, length, map, max, replicate, Bool, true, false, cond, Option, Some, None, append_assoc, arith, append-nil, length-map, length-replicate, list_all-append, slice_get_within, same_Some, slice_get, nat_lt, filter, IfSome, byte_len, list_all, entry_below, entry_beside, and_second, Answer, Header, Call, RankEnd, RunEnd, ServeEnd, Script, Mark, OwnerItem, Stop, RankItem, StepErr, BothTold, Owner, event, first_owner, free_client, given_along, is_strange, offers_in, own_items, served, Setting, Counted, raised, count_width, is_sound, Arrival, IsLegal, is_offer, opening_owner, run_of, is_lawful, rank_end, told_of, Going, advance, after_mark, first_going, first_state, serial_from, setting_of, state_after, Begins, HasAnswers, HasAnswersOfEach, IsCutRun, IsLeft, IsTorn, OwnerStoodAt, StoodAt, in_step, in_close, as_setting, counted, HasOffered, completed, completed_by, contents_of, point, HasBegun, HasSaid, calls_of, cut_rows, no_answers, said_here, said_part, said_up, told_along, counts_along, owner_told, AreSingle, HasCutService, IsDone, IsDoneSo, opening, passed, HasCut, EndedAt, NoneBroke, most_known_of, EndOfCut, served_on, goes_on, mapped_entry}
+use Rattle.std.proofs.lemmas.List.{length-append}
 use Rattle.nc_base.specs.declared.run.RankStop.TheVariants as stop
-use Rattle.nc_base.specs.declared.run.RunEnd.{RunEnd}
-use Rattle.nc_base.specs.declared.run.ServeEnd.{ServeEnd}
-use Rattle.nc_base.specs.declared.script.Script.{Script}
-use Rattle.nc_base.specs.declared.step.Mark.{Mark}
-use Rattle.nc_base.specs.declared.step.OwnerItem.{OwnerItem}
-use Rattle.nc_base.specs.declared.step.OwnerItem.TheVariants.{Stop}
-use Rattle.nc_base.specs.declared.step.RankItem.{RankItem}
-use Rattle.nc_base.specs.declared.step.StepErr.{StepErr}
 use Rattle.nc_base.specs.declared.step.StepErr.TheVariants as fault
-use Rattle.nc_outside.specs.Told.{BothTold}
-use Rattle.serial_spec.specs.Owner.{Owner, event, first_owner, free_client, given_along, is_strange, offers_in, own_items, served}
-use Rattle.serial_spec.specs.FileStep.{Setting, Counted, raised}
-use Rattle.serial_spec.specs.HeaderBytes.{count_width}
-use Rattle.serial_spec.specs.SoundHeaders.{is_sound}
-use Rattle.serial_spec.specs.History.{Arrival, IsLegal, is_offer}
-use Rattle.serial_spec.specs.Joined.{opening_owner, run_of}
-use Rattle.serial_spec.specs.Lawful.{is_lawful}
-use Rattle.serial_spec.specs.RankSide.{rank_end}
-use Rattle.serial_spec.specs.Readings.{told_of}
-use Rattle.serial_spec.specs.SerialEnd.{Going, advance, after_mark, first_going, first_state, serial_from, setting_of, state_after}
-use Rattle.serial_spec.specs.Torn.{Begins, HasAnswers, HasAnswersOfEach, IsCutRun, IsLeft, IsTorn, OwnerStoodAt, StoodAt}
-use Rattle.serial_spec.specs.Torn.StoodAt.{in_step, in_close, between}
-use Rattle.collective_round.specs.Rounds.{as_setting, counted}
-use Rattle.join_laws.specs.Begun.{HasOffered}
-use Rattle.join_laws.proofs.Completing.{completed, completed_by}
-use Rattle.turn_run.specs.Known.{contents_of, point}
-use Rattle.turn_run.specs.Begun.{HasBegun}
-use Rattle.turn_run.specs.Said.{HasSaid}
-use Rattle.turn_run.specs.Running.{calls_of}
-use Rattle.turn_run.proofs.CutRuns.{cut_rows, no_answers}
-use Rattle.turn_run.proofs.SaidLaws.{said_here, said_part, said_up}
-use Rattle.turn_run.proofs.TellLaws.{told_along}
-use Rattle.turn_run.specs.Told.{counts_along}
-use Rattle.file_owner.specs.Owned.{owner_told, AreSingle}
-use Rattle.file_owner.specs.Refused.{HasCutService}
-use Rattle.file_owner.specs.Service.{IsDone, IsDoneSo, opening, passed}
-use Rattle.turn_run.specs.Run.{HasCut}
-use Rattle.turn_run.specs.RankEnds.{EndedAt, NoneBroke, most_known_of}
+use Rattle.serial_spec.specs.Torn.StoodAt.{between}
 use Rattle.turn_run.specs.RankEnds.EndedAt.{as_left, in_close as in_closing}
-use Rattle.turn_run.proofs.EndedLaws.{EndOfCut}
 use Rattle.thread_run.proofs.CutRank.{last_end}
 use Rattle.thread_run.proofs.CutJoin.{Ran, cut_run, end_of_rank}
 use Rattle.thread_run.proofs.CutStood.{single_begun, stood_run}
-use Rattle.join_laws.proofs.JoinLaws.{served_on}
-use Rattle.file_owner.proofs.OwnerRuns.{goes_on}
 use Rattle.thread_run.proofs.TellLaws.{count_of}
 use Rattle.thread_run.proofs.ThreadRuns.{FinishedSo, finished, finished_so}
 use Rattle.thread_run.proofs.ThreadTies.{Own, Told, begun, broke_or_not, offered_all, own_of, puts, takes}
 use Rattle.thread_run.proofs.ServiceCut.{Service, service_cut, service_done}
-use Rattle.list_laws.proofs.Maps.{mapped_entry}
 
 -- ---- the ranks
 

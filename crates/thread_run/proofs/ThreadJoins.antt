@@ -1,14 +1,5 @@
 -- Threads as they are joined.
-use Rattle.std.proofs.Common.{◌≡◌, ℕ, refl, sym, ◌∙◌, ap, subst, inl, inr, ◌⊎◌, List, [], ◌∷◌, ◌++◌, length, map, Some, None, arith}
-use Rattle.std.proofs.lemmas.List.{append-nil, length-map}
-use Rattle.std.specs.Prelude.{slice_get}
-use Rattle.std.proofs.lemmas.Option.{same_Some}
-use Rattle.nc_base.specs.declared.run.RankEnd.{RankEnd}
-use Rattle.nc_base.specs.declared.step.OwnerItem.{OwnerItem}
-use Rattle.nc_base.specs.declared.step.RankItem.{RankItem}
-use Rattle.ruled_line.specs.Ends.{End, items_under}
-use Rattle.thread_run.specs.RankHandle.{IsSettledOf}
-use Rattle.thread_run.specs.declared.rank_handle.RankHandle.{RankHandle}
+use Rattle.thread_run.proofs.Words.{◌≡◌, ℕ, refl, sym, ◌∙◌, ap, subst, inl, inr, ◌⊎◌, List, [], ◌∷◌, ◌++◌, length, map, Some, None, arith, append-nil, length-map, slice_get, same_Some, RankEnd, OwnerItem, RankItem, End, items_under, IsSettledOf, RankHandle}
 use Rattle.thread_run.proofs.ThreadStarts.{get_push}
 
 pub map_snoc : {P X : Type 0} (f : P → X) (ps : List P) (p : P) (xs : List X) → map f (ps ++ p ∷ []) ++ xs ≡ map f ps ++ f p ∷ xs

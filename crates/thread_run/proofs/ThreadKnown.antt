@@ -1,44 +1,9 @@
 -- The counts that the ranks know at their ends are such that the header can have.
-use Rattle.std.proofs.Common.{◌≡◌, ℕ, suc, ◌*◌, ◌^◌, ◌<◌, refl, sym, ◌∙◌, ap, subst, inl, inr, ◌⊎◌, List, [], ◌∷◌, ◌++◌, length, map, max, set, Bool, true, false, Option, Some, None, arith}
-use Rattle.std.proofs.lemmas.Bool.Decides.{eqb_tells, nat_tests}
-use Rattle.std.proofs.lemmas.List.{length-set, map-append}
-use Rattle.std.specs.Prelude.{slice_get, flat_map, fold, not, nat_lt, ◌==◌, IfSome}
-use Rattle.std.specs.List.{enumerate_from, list_all, list_any}
-use Rattle.std.proofs.lemmas.Option.{same_Some}
-use Rattle.list_laws.proofs.Truth.{or_first_false, or_second_false}
-use Rattle.nc_base.specs.declared.answer.Pair.{Pair}
-use Rattle.nc_base.specs.declared.header.Header.{Header}
-use Rattle.nc_base.specs.declared.header.Var.{Var}
-use Rattle.nc_base.specs.declared.plan.Post.{Post}
+use Rattle.thread_run.proofs.Words.{◌≡◌, ℕ, suc, ◌*◌, ◌^◌, ◌<◌, refl, sym, ◌∙◌, ap, subst, inl, inr, ◌⊎◌, List, [], ◌∷◌, ◌++◌, length, map, max, set, Bool, true, false, Option, Some, None, arith, eqb_tells, nat_tests, length-set, map-append, slice_get, flat_map, fold, not, nat_lt, ◌==◌, IfSome, enumerate_from, list_all, list_any, same_Some, or_first_false, or_second_false, Pair, Header, Var, Post, Mark, MeetKind, Offer, OfferKind, RankItem, Owner, Event, Client, at_item, at_offer, event, holds, meets_if, needed_now, offers_held, refused, served, strange_offer, size_of, Counted, Setting, needs, puts_of, told, header_len, is_sound, Arrival, end_of, greatest, product, record_limit, needed, Going, advance, after_mark, Puts, sound_end, put_needed, bad_none, bad_put, passes_accepted, get_set, Stands, served_on, fold_two, offer_at, offers_long, Lasting, client_held, one_held, entry_beside}
 use Rattle.nc_base.specs.declared.request.Direction.TheVariants as way
-use Rattle.nc_base.specs.declared.step.Mark.{Mark}
-use Rattle.nc_base.specs.declared.step.MeetKind.{MeetKind}
-use Rattle.nc_base.specs.declared.step.Offer.{Offer}
-use Rattle.nc_base.specs.declared.step.OfferKind.{OfferKind}
 use Rattle.nc_base.specs.declared.step.OfferKind.TheVariants as offer
-use Rattle.nc_base.specs.declared.step.RankItem.{RankItem}
 use Rattle.nc_base.specs.declared.step.RankItem.TheVariants as item
-use Rattle.serial_spec.specs.Owner.{Owner, Event, Client, at_item, at_offer, event, holds, meets_if, needed_now, offers_held, refused, served, strange_offer}
-use Rattle.serial_spec.specs.ExternalForm.{size_of}
-use Rattle.serial_spec.specs.FileStep.{Counted, Setting, needs, puts_of, told}
-use Rattle.serial_spec.specs.HeaderBytes.{header_len}
-use Rattle.serial_spec.specs.SoundHeaders.{is_sound}
-use Rattle.serial_spec.specs.History.{Arrival}
-use Rattle.serial_spec.specs.Layout.{end_of, greatest, product}
-use Rattle.serial_spec.specs.Limits.{record_limit}
-use Rattle.serial_spec.specs.Records.{needed}
-use Rattle.serial_spec.specs.SerialEnd.{Going, advance, after_mark}
-use Rattle.serial_spec.specs.SharedByte.{Puts}
-use Rattle.var_layout.proofs.ElementPlaces.{sound_end}
-use Rattle.collective_round.proofs.CountedLaws.{put_needed}
-use Rattle.join_laws.proofs.CountLaws.{bad_none, bad_put, passes_accepted}
-use Rattle.join_laws.proofs.EventLaws.{get_set}
-use Rattle.join_laws.proofs.JoinLaws.{Stands, served_on, fold_two}
-use Rattle.join_laws.proofs.StepLaws.{offer_at, offers_long}
-use Rattle.join_laws.proofs.ClientTurns.{Lasting, client_held}
-use Rattle.join_laws.proofs.TieLaws.{one_held}
 use Rattle.thread_run.proofs.ThreadCalls.{Onward, onward, held_next}
-use Rattle.list_laws.proofs.Places.{entry_beside}
 
 -- ---- counts whose file does not end too far
 

@@ -1,37 +1,9 @@
 -- A run on threads without a fault is the serial run of its order.
-use Rattle.std.proofs.Common.{◌≡◌, ℕ, ◌+◌, ◌<◌, sym, ◌∙◌, ap, subst, List, [], ◌++◌, map, max, replicate, true, Option, Some, arith}
-use Rattle.std.specs.Prelude.{slice_get, nat_lt}
-use Rattle.std.specs.List.{enumerate_from}
-use Rattle.std.proofs.lemmas.Option.{same_Some}
-use Rattle.nc_base.specs.declared.header.Header.{Header}
-use Rattle.nc_base.specs.declared.request.Call.{Call}
-use Rattle.nc_base.specs.declared.run.RankEnd.{RankEnd}
-use Rattle.nc_base.specs.declared.script.Script.{Script}
-use Rattle.nc_base.specs.declared.step.Mark.{Mark}
-use Rattle.nc_base.specs.declared.step.OwnerItem.{OwnerItem}
-use Rattle.serial_spec.specs.Owner.{Owner, first_owner, free_client, owed, served}
-use Rattle.serial_spec.specs.DeviceCalls.{run_calls, store_records}
-use Rattle.serial_spec.specs.FileStep.{Counted, raised}
-use Rattle.serial_spec.specs.SoundHeaders.{is_sound}
-use Rattle.serial_spec.specs.History.{Arrival, IsLegal}
-use Rattle.serial_spec.specs.Joined.{IsJoined, back_of, close_by, opening_owner, rank_ends, run_of}
-use Rattle.serial_spec.specs.Lawful.{is_lawful}
-use Rattle.serial_spec.specs.Layout.{greatest}
+use Rattle.thread_run.proofs.Words.{◌≡◌, ℕ, ◌+◌, ◌<◌, sym, ◌∙◌, ap, subst, List, [], ◌++◌, map, max, replicate, true, Option, Some, arith, slice_get, nat_lt, enumerate_from, same_Some, Header, Call, RankEnd, Script, Mark, OwnerItem, Owner, first_owner, free_client, owed, served, run_calls, store_records, Counted, raised, is_sound, Arrival, IsLegal, IsJoined, back_of, close_by, opening_owner, rank_ends, run_of, is_lawful, greatest, rank_end, Going, first_going, serial_from, setting_of, as_setting, counted, blank, AreAlike, AreNear, end_alike, lawful_agrees, whole_run, HasFinished, AreSingle, owner_calls, IsDone, IsDoneSo, opening, passed, most_known_of, NoneBroke, map_map, rows_same, raised_records}
 use Rattle.serial_spec.specs.RankMachine as machine
-use Rattle.serial_spec.specs.RankSide.{rank_end}
-use Rattle.serial_spec.specs.SerialEnd.{End, Going, first_going, serial_from, setting_of}
-use Rattle.collective_round.specs.Rounds.{as_setting, counted}
-use Rattle.join_laws.specs.Alike.{blank, AreAlike, AreNear}
-use Rattle.join_laws.proofs.AlikeLaws.{end_alike}
-use Rattle.join_laws.proofs.WholeLaws.{lawful_agrees, whole_run}
-use Rattle.thread_run.specs.RankSides.{HasFinished}
-use Rattle.file_owner.specs.Owned.{AreSingle, owner_calls}
-use Rattle.file_owner.specs.Service.{IsDone, IsDoneSo, opening, passed}
-use Rattle.turn_run.specs.RankEnds.{most_known_of, NoneBroke}
+use Rattle.serial_spec.specs.SerialEnd.{End}
 use Rattle.thread_run.proofs.ThreadTies.{Told, finished_of, joined, low_rank, own_of, puts, takes, took_all}
 use Rattle.thread_run.proofs.ThreadWhole.{calls_all, known_sound, single_all}
-use Rattle.list_laws.proofs.Maps.{map_map, rows_same}
-use Rattle.serial_spec.proofs.CountLaws.{raised_records}
 
 -- what is told of the run, whether its bytes are told or not
 pub record Finished (script : Script) (header : Header) (arrivals : List Arrival) (ends : List RankEnd) (order : List Mark) : Type 0 where

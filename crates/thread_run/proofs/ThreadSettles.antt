@@ -1,27 +1,6 @@
 -- What the threads tell when all are joined.
-use Rattle.std.proofs.Common.{◌≡◌, ℕ, ◌<◌, zero, suc, sym, ◌∙◌, ap, subst, List, [], ◌∷◌, ◌++◌, All, length, Some, true}
-use Rattle.std.proofs.lemmas.List.Elements.{All-head, All-tail}
-use Rattle.std.specs.Prelude.{slice_get, nat_lt, IsTrue}
-use Rattle.std.specs.List.{list_all}
-use Rattle.std.proofs.lemmas.Option.{same_Some}
-use Rattle.nc_base.specs.declared.header.Header.{Header}
-use Rattle.nc_base.specs.declared.run.RankEnd.{RankEnd}
-use Rattle.nc_base.specs.declared.script.Script.{Script}
-use Rattle.nc_base.specs.declared.step.OwnerItem.{OwnerItem}
-use Rattle.nc_base.specs.declared.step.RankItem.{RankItem}
-use Rattle.ruled_line.specs.Ends.{End, Line, Receiver, items_under}
-use Rattle.serial_spec.specs.Owner.{own_items}
-use Rattle.serial_spec.specs.History.{Arrival}
-use Rattle.serial_spec.specs.Lawful.{is_lawful}
-use Rattle.run_laws.proofs.LawfulLaws.{ranks_lawful}
-use Rattle.thread_run.specs.RankHandle.{AreOf, AreRankHandles, AreSettled, IsSettled, IsSettledOf, IsToldToGo}
-use Rattle.turn_run.specs.Running.{calls_of}
-use Rattle.file_owner.specs.Service.{HasTaken, HavePut, arrived, gained}
-use Rattle.thread_run.specs.declared.rank_handle.RankHandle.{RankHandle}
-use Rattle.thread_run.specs.declared.rank_handle.Word.{Word}
-use Rattle.thread_run.specs.declared.rank_handle.Word.TheVariants.{Go}
+use Rattle.thread_run.proofs.Words.{◌≡◌, ℕ, ◌<◌, zero, suc, sym, ◌∙◌, ap, subst, List, [], ◌∷◌, ◌++◌, All, length, Some, true, All-head, All-tail, slice_get, nat_lt, IsTrue, list_all, same_Some, Header, RankEnd, Script, OwnerItem, RankItem, End, Line, Receiver, items_under, own_items, Arrival, is_lawful, ranks_lawful, AreOf, AreRankHandles, AreSettled, IsSettled, IsSettledOf, IsToldToGo, calls_of, HasTaken, HavePut, arrived, gained, RankHandle, Word, Go, entry_beside}
 use Rattle.thread_run.proofs.ThreadTies.{Told}
-use Rattle.list_laws.proofs.Places.{entry_beside}
 
 abbrev pub AreTold : List RankHandle → List RankHandle → Type 0
 AreTold ones now = (r : ℕ) (a b : RankHandle) → slice_get ones r ≡ Some a → slice_get now r ≡ Some b → IsToldToGo a b

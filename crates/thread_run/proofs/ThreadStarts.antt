@@ -1,19 +1,5 @@
 -- Lists that grow by one, and what stands in their middle: threads as they are started and joined.
-use Rattle.std.proofs.Common.{◌≡◌, ℕ, zero, suc, ◌+◌, ◌<◌, refl, sym, ◌∙◌, ap, subst, inl, inr, ◌⊎◌, List, [], ◌∷◌, ◌++◌, All, length, map, Some, arith}
-use Rattle.std.proofs.lemmas.List.{length-map}
-use Rattle.std.proofs.lemmas.List.Elements.{All-head, All-tail}
-use Rattle.std.specs.Prelude.{slice_get}
-use Rattle.std.specs.List.{range_with_len}
-use Rattle.nc_base.specs.declared.header.Header.{Header}
-use Rattle.nc_base.specs.declared.script.Script.{Script}
-use Rattle.nc_base.specs.declared.step.OwnerItem.{OwnerItem}
-use Rattle.nc_base.specs.declared.step.RankItem.{RankItem}
-use Rattle.ruled_line.specs.Ends.{End, Line}
-use Rattle.thread_run.specs.RankHandle.{AreOf, AreRankHandles, IsOf, IsRankHandle}
-use Rattle.thread_run.specs.declared.rank_handle.RankHandle.{RankHandle}
-use Rattle.thread_run.specs.declared.rank_handle.Word.{Word}
-use Rattle.std.proofs.lemmas.Option.{slice_get_within}
-use Rattle.list_laws.proofs.Appends.{long_push}
+use Rattle.thread_run.proofs.Words.{◌≡◌, ℕ, zero, suc, ◌+◌, ◌<◌, refl, sym, ◌∙◌, ap, subst, inl, inr, ◌⊎◌, List, [], ◌∷◌, ◌++◌, All, length, map, Some, arith, length-map, All-head, All-tail, slice_get, range_with_len, Header, Script, OwnerItem, RankItem, End, Line, AreOf, AreRankHandles, IsOf, IsRankHandle, RankHandle, Word, slice_get_within, long_push}
 
 -- ---- the middle of a list
 

@@ -1,38 +1,8 @@
 -- What each rank's thread and the owner tell by themselves, and that it ties them.
-use Rattle.std.proofs.Common.{◌≡◌, ℕ, ◌<◌, refl, sym, ◌∙◌, ap, subst, inl, inr, ◌⊎◌, List, [], ◌∷◌, ◌++◌, length, take, drop, true, Option, Some, None, arith}
-use Rattle.std.proofs.lemmas.Option.{slice_get_within}
+use Rattle.thread_run.proofs.Words.{◌≡◌, ℕ, ◌<◌, refl, sym, ◌∙◌, ap, subst, inl, inr, ◌⊎◌, List, [], ◌∷◌, ◌++◌, length, take, drop, true, Option, Some, None, arith, slice_get_within, slice_get, nat_lt, IsTrue, list_all, entry_below, Header, Call, RankEnd, RankStop, Script, OwnerItem, RankItem, own_items, Arrival, HasEnd, IsAgreed, IsJoined, IsTied, back_of, run_of, is_lawful, offered, first_going, AreAlike, HasOffered, IsBeginning, offered_alike, begun_each, begun_known, long_whole, tied_each, tied_joins, HasAttended, HasBroken, HasFinished, HasBegun, IsSettled, calls_of, NoneBroke, alike_take, alike_long, take-append-drop, length-take-le, first_of, prefix_long, front_or_all}
 use mathlib.Core.List.{IsPrefix}
-use Rattle.std.specs.Prelude.{slice_get, nat_lt, IsTrue}
-use Rattle.std.specs.List.{list_all}
-use Rattle.list_laws.proofs.Places.{entry_below}
-use Rattle.nc_base.specs.declared.header.Header.{Header}
-use Rattle.nc_base.specs.declared.request.Call.{Call}
-use Rattle.nc_base.specs.declared.run.RankEnd.{RankEnd}
-use Rattle.nc_base.specs.declared.run.RankStop.{RankStop}
 use Rattle.nc_base.specs.declared.run.RankStop.TheVariants as stop
-use Rattle.nc_base.specs.declared.script.Script.{Script}
-use Rattle.nc_base.specs.declared.step.OwnerItem.{OwnerItem}
-use Rattle.nc_base.specs.declared.step.RankItem.{RankItem}
 use Rattle.nc_base.specs.declared.step.RankItem.TheVariants as item
-use Rattle.serial_spec.specs.Owner.{own_items}
-use Rattle.serial_spec.specs.History.{Arrival}
-use Rattle.serial_spec.specs.Joined.{HasEnd, IsAgreed, IsJoined, IsTied, back_of, run_of}
-use Rattle.serial_spec.specs.Lawful.{is_lawful}
-use Rattle.serial_spec.specs.RankSide.{offered}
-use Rattle.serial_spec.specs.SerialEnd.{first_going}
-use Rattle.join_laws.specs.Alike.{AreAlike}
-use Rattle.join_laws.specs.Begun.{HasOffered, IsBeginning}
-use Rattle.join_laws.proofs.AlikeLaws.{offered_alike}
-use Rattle.join_laws.proofs.BegunLaws.{begun_each, begun_known}
-use Rattle.join_laws.proofs.TieLaws.{long_whole, tied_each, tied_joins}
-use Rattle.thread_run.specs.RankSides.{HasAttended, HasBroken, HasFinished}
-use Rattle.turn_run.specs.Begun.{HasBegun}
-use Rattle.thread_run.specs.RankHandle.{IsSettled}
-use Rattle.turn_run.specs.Running.{calls_of}
-use Rattle.turn_run.specs.RankEnds.{NoneBroke}
-use Rattle.file_owner.proofs.AlikeLaws.{alike_take, alike_long}
-use Rattle.std.proofs.lemmas.List.{take-append-drop, length-take-le}
-use Rattle.list_laws.proofs.Fronts.{first_of, prefix_long, front_or_all}
 
 -- what the threads came to, and what the owner took
 pub record Told (script : Script) (header : Header) (arrivals : List Arrival) (given : ℕ → List OwnerItem) (ends : List RankEnd) : Type 0 where

@@ -1,28 +1,5 @@
 -- What a run on threads told, from what the owner tells.
-use Rattle.std.proofs.Common.{◌≡◌, ℕ, refl, sym, ◌∙◌, ap, subst, List, [], true, Option, Some, None}
-use Rattle.std.specs.Prelude.{IfSome}
-use Rattle.nc_base.specs.declared.header.Header.{Header}
-use Rattle.nc_base.specs.declared.run.RankEnd.{RankEnd}
-use Rattle.nc_base.specs.declared.run.ServeEnd.{ServeEnd}
-use Rattle.nc_base.specs.declared.script.Script.{Script}
-use Rattle.nc_base.specs.declared.step.Mark.{Mark}
-use Rattle.nc_base.specs.declared.step.OwnerItem.{OwnerItem}
-use Rattle.nc_base.specs.declared.step.StepErr.{StepErr}
-use Rattle.nc_outside.specs.Told.{with_end}
-use Rattle.serial_spec.specs.Owner.{Owner}
-use Rattle.serial_spec.specs.SoundHeaders.{is_sound}
-use Rattle.serial_spec.specs.History.{Arrival}
-use Rattle.serial_spec.specs.Joined.{opening_owner}
-use Rattle.serial_spec.specs.Lawful.{is_lawful}
-use Rattle.serial_spec.specs.Readings.{told_of}
-use Rattle.serial_spec.specs.SerialEnd.{setting_of}
-use Rattle.collective_round.specs.Rounds.{counted}
-use Rattle.turn_run.specs.Known.{point}
-use Rattle.turn_run.specs.Told.{told_marks, HasTold}
-use Rattle.file_owner.specs.Owned.{owner_told}
-use Rattle.file_owner.specs.Refused.{HasCutService}
-use Rattle.file_owner.specs.Service.{opening, HasToldAlong, IsDone, IsDoneSo, passed}
-use Rattle.turn_run.proofs.TellLaws.{marks_ended}
+use Rattle.thread_run.proofs.Words.{◌≡◌, ℕ, refl, sym, ◌∙◌, ap, subst, List, [], true, Option, Some, None, IfSome, Header, RankEnd, ServeEnd, Script, Mark, OwnerItem, StepErr, with_end, Owner, is_sound, Arrival, opening_owner, is_lawful, told_of, setting_of, counted, point, told_marks, HasTold, owner_told, HasCutService, opening, HasToldAlong, IsDone, IsDoneSo, passed, marks_ended}
 use Rattle.thread_run.proofs.TellLaws.{marks_along, same_told}
 use Rattle.thread_run.proofs.ServiceCut.{service_cut, service_done, Service}
 use Rattle.thread_run.proofs.ThreadCut.{owner_is, ranks_are, told_is}

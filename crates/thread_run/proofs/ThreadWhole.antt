@@ -1,41 +1,9 @@
 -- The owner's whole run beside the serial run: its device calls, its offers, and the count to which it is closed.
-use Rattle.std.proofs.Common.{◌≡◌, ℕ, suc, ◌+◌, ◌^◌, ◌<◌, ◌≤◌, refl, sym, ◌∙◌, ap, subst, List, [], ◌∷◌, ◌++◌, length, map, max, replicate, true, Option, Some, None, arith}
-use Rattle.std.proofs.lemmas.List.{length-map, length-replicate}
-use Rattle.std.specs.Prelude.{slice_get, fold, nat_lt}
-use Rattle.std.specs.List.{enumerate_from, list_all}
-use Rattle.nc_base.specs.declared.header.Header.{Header}
-use Rattle.nc_base.specs.declared.request.Call.{Call}
-use Rattle.nc_base.specs.declared.script.Script.{Script}
-use Rattle.nc_base.specs.declared.step.MeetKind.{MeetKind}
-use Rattle.nc_base.specs.declared.step.Offer.{Offer}
+use Rattle.thread_run.proofs.Words.{◌≡◌, ℕ, suc, ◌+◌, ◌^◌, ◌<◌, ◌≤◌, refl, sym, ◌∙◌, ap, subst, List, [], ◌∷◌, ◌++◌, length, map, max, replicate, true, Option, Some, None, arith, length-map, length-replicate, slice_get, fold, nat_lt, enumerate_from, list_all, Header, Call, Script, MeetKind, Offer, Owner, Client, free_client, own_items, owed, served, run_calls, store_records, Counted, Setting, header_len, is_sound, Arrival, IsJoined, back_of, opening_owner, rank_ends, run_of, is_lawful, end_of, greatest, record_limit, rank_end, Going, advance, after_mark, first_going, first_state, serial_from, setting_of, end_grows, counted_sound, calls_close, sound_small, Good, good_first, lasting, Joins, Stands, join, closes, client_end, IsPaired, ArePaired, AreSingle, owner_calls, entry_map, map_map, entry_beside}
 use Rattle.nc_base.specs.declared.step.OfferKind.TheVariants as offer
-use Rattle.serial_spec.specs.Owner.{Owner, Client, free_client, own_items, owed, served}
-use Rattle.serial_spec.specs.DeviceCalls.{run_calls, store_records}
-use Rattle.serial_spec.specs.FileStep.{Counted, Setting}
-use Rattle.serial_spec.specs.HeaderBytes.{header_len}
-use Rattle.serial_spec.specs.SoundHeaders.{is_sound}
-use Rattle.serial_spec.specs.History.{Arrival}
-use Rattle.serial_spec.specs.Joined.{IsJoined, back_of, opening_owner, rank_ends, run_of}
-use Rattle.serial_spec.specs.Lawful.{is_lawful}
-use Rattle.serial_spec.specs.Layout.{end_of, greatest}
-use Rattle.serial_spec.specs.Limits.{record_limit}
-use Rattle.serial_spec.specs.RankSide.{rank_end}
-use Rattle.serial_spec.specs.SerialEnd.{Going, advance, after_mark, first_going, first_state, serial_from, setting_of}
-use Rattle.serial_spec.proofs.RoomLaws.{end_grows}
-use Rattle.collective_round.proofs.CountedLaws.{counted_sound}
-use Rattle.run_laws.proofs.OrderLaws.{calls_close}
-use Rattle.join_laws.proofs.CountLaws.{sound_small}
-use Rattle.join_laws.proofs.GoodLaws.{Good, good_first, lasting}
-use Rattle.join_laws.proofs.JoinLaws.{Joins, Stands, join}
-use Rattle.join_laws.proofs.StreamLaws.{closes, client_end}
-use Rattle.join_laws.proofs.ClientTurns.{IsPaired}
-use Rattle.join_laws.proofs.TurnLaws.{ArePaired}
 use Rattle.join_laws.proofs.WholeLaws.{get_replicate, lawful_agrees, get_map as from_map, none_first}
-use Rattle.file_owner.specs.Owned.{AreSingle, owner_calls}
 use Rattle.thread_run.proofs.ThreadCalls.{calls_along, single_along}
 use Rattle.thread_run.proofs.ThreadKnown.{EndsNear, good_along, near_along, near_first, small_along}
-use Rattle.list_laws.proofs.Maps.{entry_map, map_map}
-use Rattle.list_laws.proofs.Places.{entry_beside}
 
 rows_within : {B : Type 0} (h : ℕ × B → ℕ) (n : ℕ) (ys : List B) (from : ℕ) → ((q : ℕ) (b : B) → slice_get ys q ≡ Some b → h (from + q, b) ≤ n) → greatest (map h (enumerate_from from ys)) ≤ n
 rows_within h n [] from f = omega arith

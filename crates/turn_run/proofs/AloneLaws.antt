@@ -1,46 +1,8 @@
 -- A rank that goes from one offer to the next by itself.
-use Rattle.std.proofs.Common.{◌≡◌, ℕ, suc, refl, sym, ◌∙◌, ap, subst, List, [], ◌∷◌, ◌++◌, length, map, set, drop, true, max, Option, Some, None, append_assoc}
-use Rattle.std.proofs.lemmas.List.{append-nil, set-set}
-use Rattle.std.specs.Prelude.{slice_get, is_some, IfSome}
-use Rattle.nc_base.specs.declared.header.Header.{Header}
-use Rattle.nc_base.specs.declared.request.Call.{Call}
-use Rattle.nc_base.specs.declared.answer.Answer.{Answer}
-use Rattle.nc_base.specs.declared.plan.Post.{Post}
-use Rattle.nc_base.specs.declared.script.Hints.{Hints}
-use Rattle.nc_base.specs.declared.script.Script.{Script}
-use Rattle.nc_base.specs.declared.step.Mark.{Mark}
-use Rattle.nc_base.specs.declared.step.Mark.TheVariants.{Solo}
-use Rattle.nc_base.specs.declared.step.DiskCall.{DiskCall}
-use Rattle.nc_base.specs.declared.step.Offer.{Offer}
-use Rattle.nc_base.specs.declared.step.OfferKind.{OfferKind}
+use Rattle.turn_run.proofs.Words.{◌≡◌, ℕ, suc, refl, sym, ◌∙◌, ap, subst, List, [], ◌∷◌, ◌++◌, length, map, set, drop, true, max, Option, Some, None, append_assoc, append-nil, set-set, slice_get, is_some, IfSome, Header, Call, Answer, Post, Hints, Script, Mark, Solo, DiskCall, Offer, OfferKind, Reply, after, with_end, Setting, Counted, puts_of, solo, told, needed_now, solo_calls, Open, wanted, Going, advance, hears, counted, is_solo_of, IsOnWay, AsksAlone, hears_keeps, solo_keeps, IsAsked, asking, between, calls_of, going_of, HasHeard, IsPlaced, IsPlacedWith, IsRunner, solo_to, step_calls, step_to, Arrived, IsLike, gots_long, solo_like, arrived, stage, HasGone, IsGrownBy, Leads, LeadsAlike, rank_stage, Runner, entry_set, set_own, one_of, all_joined, offer_of, calls_at}
 use Rattle.nc_base.specs.declared.step.OfferKind.TheVariants as offer
-use Rattle.nc_base.specs.declared.step.Reply.{Reply}
-use Rattle.nc_outside.specs.Told.{after, with_end}
-use Rattle.serial_spec.specs.FileStep.{Setting, Counted, puts_of, solo, told}
-use Rattle.serial_spec.specs.Owner.{needed_now}
-use Rattle.serial_spec.specs.DeviceCalls.{solo_calls}
-use Rattle.serial_spec.specs.RankMachine.{Open}
-use Rattle.serial_spec.specs.RankSide.{wanted}
-use Rattle.serial_spec.specs.SerialEnd.{Going, advance, hears}
-use Rattle.collective_round.specs.Rounds.{counted}
-use Rattle.run_laws.specs.Ahead.{is_solo_of}
-use Rattle.run_laws.specs.Ways.{IsOnWay, AsksAlone}
-use Rattle.run_laws.proofs.CallLaws.{hears_keeps, solo_keeps}
-use Rattle.turn_run.specs.Counts.{IsAsked}
-use Rattle.turn_run.specs.Running.{asking, between, calls_of, going_of, HasHeard, IsPlaced, IsPlacedWith, IsRunner}
-use Rattle.run_laws.specs.Arrivals.{solo_to, step_calls, step_to, Arrived}
-use Rattle.join_laws.specs.Alike.{IsLike}
-use Rattle.join_laws.proofs.ReplyLaws.{gots_long}
-use Rattle.join_laws.proofs.StandsAlike.{solo_like}
-use Rattle.turn_run.specs.Stages.{arrived, stage, HasGone, IsGrownBy, Leads, LeadsAlike, rank_stage}
-use Rattle.turn_run.specs.declared.runners.Runner.{Runner}
 use Rattle.turn_run.proofs.RunnerLaws.{advance_ended}
 use Rattle.turn_run.proofs.StageLaws.{alike_then, led_none, led_then}
-use Rattle.list_laws.proofs.Places.{entry_set, set_own}
-use Rattle.run_laws.proofs.WayLaws.{one_of}
-use Rattle.list_laws.proofs.Each.{all_joined}
-use Rattle.run_laws.proofs.ArrivalLaws.{offer_of}
-use Rattle.run_laws.proofs.StandingLaws.{calls_at}
 
 -- ---- a runner, by the offer that it holds
 

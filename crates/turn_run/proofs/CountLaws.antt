@@ -1,22 +1,5 @@
 -- Record counts that a header can have.
-use Rattle.std.proofs.Common.{◌≡◌, ℕ, ◌^◌, ◌<◌, ◌≤◌, refl, sym, ◌∙◌, subst, List, [], ◌∷◌, map, Bool, true, false, max, inl, inr, arith}
-use Rattle.std.proofs.lemmas.Bool.Decides.{nat_tests}
-use Rattle.std.specs.Prelude.{nat_lt}
-use Rattle.nc_base.specs.declared.header.Header.{Header}
-use Rattle.nc_base.specs.declared.plan.Post.{Post}
-use Rattle.serial_spec.specs.HeaderBytes.{header_len}
-use Rattle.serial_spec.specs.SoundHeaders.{is_sound}
-use Rattle.serial_spec.specs.Layout.{end_of, greatest}
-use Rattle.serial_spec.specs.Limits.{record_limit}
-use Rattle.serial_spec.specs.Records.{needed}
-use Rattle.serial_spec.proofs.RoomLaws.{end_grows}
-use Rattle.var_layout.proofs.ElementPlaces.{sound_end}
-use Rattle.var_layout.proofs.WrittenLengths.{canon_len}
-use Rattle.join_laws.proofs.CountLaws.{sound_small}
-use Rattle.collective_round.specs.Rounds.{IsPut}
-use Rattle.collective_round.proofs.CountedLaws.{counted_sound, put_needed}
-use Rattle.turn_run.specs.Counts.{IsCount, IsRise}
-use Rattle.serial_spec.proofs.CountLaws.{some_limit}
+use Rattle.turn_run.proofs.Words.{◌≡◌, ℕ, ◌^◌, ◌<◌, ◌≤◌, refl, sym, ◌∙◌, subst, List, [], ◌∷◌, map, Bool, true, false, max, inl, inr, arith, nat_tests, nat_lt, Header, Post, header_len, is_sound, end_of, greatest, record_limit, needed, end_grows, sound_end, canon_len, sound_small, IsPut, counted_sound, put_needed, IsCount, IsRise, some_limit}
 
 pub count_small : (header : Header) (len n : ℕ) → IsCount header len n → n < record_limit header.version
 count_small header len n h = sound_small (record header { records = n }) h.sound

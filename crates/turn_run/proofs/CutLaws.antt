@@ -1,41 +1,8 @@
 -- A run that was cut off, step by step.
-use Rattle.std.proofs.Common.{◌≡◌, ℕ, ◌<◌, refl, sym, ◌∙◌, ap, subst, inl, List, [], ◌∷◌, ◌++◌, set, Bool, true, Option, Some, None, Result, Err, append_assoc}
-use Rattle.std.proofs.lemmas.Grind.{fold-append}
-use Rattle.std.proofs.lemmas.List.{append-nil}
-use Rattle.std.specs.Prelude.{slice_get, fold, ◌&&◌, IfSome}
-use Rattle.std.specs.Int.{byte_len}
-use Rattle.nc_base.specs.declared.script.Hints.{Hints}
-use Rattle.nc_base.specs.declared.script.Script.{Script}
-use Rattle.nc_base.specs.declared.step.Mark.{Mark}
-use Rattle.nc_base.specs.declared.step.Mark.TheVariants.{Solo}
-use Rattle.nc_base.specs.declared.step.Offer.{Offer}
-use Rattle.nc_base.specs.declared.step.StepErr.{StepErr}
-use Rattle.nc_base.specs.declared.step.StepErr.TheVariants.{Memory}
-use Rattle.nc_outside.specs.Told.{after, BothTold}
-use Rattle.serial_spec.specs.FileStep.{Setting, Counted, puts_of, solo}
-use Rattle.serial_spec.specs.HeaderBytes.{count_width}
-use Rattle.serial_spec.specs.SerialEnd.{Going}
-use Rattle.serial_spec.specs.SharedByte.{covered}
-use Rattle.serial_spec.specs.Torn.{IsTorn, IsLeft}
-use Rattle.collective_round.specs.Rounds.{counted}
-use Rattle.collective_round.proofs.TornFiles.{torn_wider}
-use Rattle.nc_base.specs.declared.header.Header.{Header}
-use Rattle.nc_base.specs.declared.step.DiskCall.{DiskCall}
-use Rattle.serial_spec.specs.Lawful.{is_lawful}
-use Rattle.run_laws.specs.Ahead.{is_solo_of}
-use Rattle.join_laws.proofs.Completing.{completed_by}
-use Rattle.turn_run.specs.Known.{point}
-use Rattle.turn_run.specs.Running.{AreRunners}
-use Rattle.run_laws.specs.Arrivals.{Arrived, Stand, step_to, solo_to}
-use Rattle.turn_run.specs.Stages.{Stage, Leads, IsLed, HasGone, IsGrownBy, stage, rank_stage}
-use Rattle.turn_run.specs.Cuts.{StopsAt, HasStopped, MayFollow, IsNext, bytes_at}
-use Rattle.turn_run.specs.declared.runners.Runner.{Runner}
+use Rattle.turn_run.proofs.Words.{◌≡◌, ℕ, ◌<◌, refl, sym, ◌∙◌, ap, subst, inl, List, [], ◌∷◌, ◌++◌, set, Bool, true, Option, Some, None, Result, Err, append_assoc, fold-append, append-nil, slice_get, fold, ◌&&◌, IfSome, byte_len, Hints, Script, Mark, Solo, Offer, StepErr, Memory, after, BothTold, Setting, Counted, puts_of, solo, count_width, Going, covered, IsTorn, IsLeft, counted, torn_wider, Header, DiskCall, is_lawful, is_solo_of, completed_by, point, AreRunners, Arrived, Stand, step_to, solo_to, Stage, Leads, IsLed, HasGone, IsGrownBy, stage, rank_stage, StopsAt, HasStopped, MayFollow, IsNext, bytes_at, Runner, in_step, equal_itself, entry_set, offer_of}
 use Rattle.turn_run.proofs.AloneLaws.{grown_then}
 use Rattle.turn_run.proofs.TurnSteps.{step_begun}
-use Rattle.turn_run.specs.Cuts.StopsAt.{in_step, between}
-use Rattle.list_laws.proofs.Truth.{equal_itself}
-use Rattle.list_laws.proofs.Places.{entry_set}
-use Rattle.run_laws.proofs.ArrivalLaws.{offer_of}
+use Rattle.turn_run.specs.Cuts.StopsAt.{between}
 
 -- ---- what went before
 

@@ -1,51 +1,11 @@
 -- A meeting that was cut off.
-use Rattle.std.proofs.Common.{◌≡◌, ℕ, ◌+◌, ◌<◌, ◌≤◌, refl, sym, ◌∙◌, ap, subst, inl, inr, ◌⊎◌, List, [], ◌∷◌, ◌++◌, length, max, Bool, true, false, cond, Option, Some, None, arith}
-use Rattle.std.proofs.lemmas.List.{append-nil}
-use Rattle.std.specs.Prelude.{flat_map, nat_lt, ◌==◌, IfSome, if◌then◌else◌}
-use Rattle.std.specs.List.{enumerate_from, list_any}
-use Rattle.std.specs.Int.{byte_len}
+use Rattle.turn_run.proofs.Words.{◌≡◌, ℕ, ◌+◌, ◌<◌, ◌≤◌, refl, sym, ◌∙◌, ap, subst, inl, inr, ◌⊎◌, List, [], ◌∷◌, ◌++◌, length, max, Bool, true, false, cond, Option, Some, None, arith, append-nil, flat_map, nat_lt, ◌==◌, IfSome, if◌then◌else◌, enumerate_from, list_any, byte_len, Batch, Call, Mark, Meet, Offer, StepErr, Memory, after, BothTold, needed_now, at, Setting, Counted, after_puts, meeting, puts_of, raised, told, count, count_width, with_records, Puts, covered, IsTorn, IsLeft, at-written_before, after_keeps, same_file, after_round, counted, puts_in, counted_past, torn_by, torn_sides, round_grows, told_as, Header, Script, is_lawful, meetings, completed_by, point, AreRunners, HaveArrived, HaveMet, StopsAt, HasStopped, IsNext, bytes_at, in_step, step_to, arrived_all, batches_of, held_offers, known_of, met, Runner, after_grows, raised_grows, raised_records}
 use borrow.Author.Tests.{ltb-true, ltb-false}
-use Rattle.nc_base.specs.declared.plan.Batch.{Batch}
-use Rattle.nc_base.specs.declared.request.Call.{Call}
-use Rattle.nc_base.specs.declared.step.Mark.{Mark}
-use Rattle.nc_base.specs.declared.step.Mark.TheVariants.{Meet}
-use Rattle.nc_base.specs.declared.step.Offer.{Offer}
-use Rattle.nc_base.specs.declared.step.StepErr.{StepErr}
-use Rattle.nc_base.specs.declared.step.StepErr.TheVariants.{Memory}
-use Rattle.nc_outside.specs.Told.{after, BothTold}
-use Rattle.serial_spec.specs.Owner.{needed_now}
-use Rattle.serial_spec.specs.File.{at}
-use Rattle.serial_spec.specs.FileStep.{Setting, Counted, after_puts, meeting, puts_of, raised, told}
-use Rattle.serial_spec.specs.HeaderBytes.{count, count_width}
-use Rattle.serial_spec.specs.Records.{with_records}
-use Rattle.serial_spec.specs.SharedByte.{Puts, covered}
-use Rattle.serial_spec.specs.Torn.{IsTorn, IsLeft}
-use Rattle.serial_spec.proofs.FileLaws.{at-written_before}
-use Rattle.serial_spec.proofs.KeepLaws.{after_keeps}
-use Rattle.overlay_laws.proofs.SaidLaws.{same_file}
-use Rattle.collective_round.specs.Rounds.{after_round, counted, puts_in}
-use Rattle.collective_round.proofs.TornFiles.{counted_past, torn_by, torn_sides}
-use Rattle.collective_round.proofs.TornLaws.{round_grows}
-use Rattle.nc_outside.proofs.ToldLaws.{told_as}
-use Rattle.nc_base.specs.declared.header.Header.{Header}
-use Rattle.nc_base.specs.declared.script.Script.{Script}
-use Rattle.serial_spec.specs.Lawful.{is_lawful}
-use Rattle.run_laws.specs.Ways.{meetings}
-use Rattle.join_laws.proofs.Completing.{completed_by}
-use Rattle.turn_run.specs.Known.{point}
-use Rattle.turn_run.specs.Running.{AreRunners, HaveArrived, HaveMet}
 use Rattle.turn_run.proofs.MeetDone.{begun_after}
-use Rattle.turn_run.specs.Cuts.{StopsAt, HasStopped, IsNext, bytes_at}
-use Rattle.turn_run.specs.Cuts.StopsAt.{in_step, between}
-use Rattle.run_laws.specs.Arrivals.{step_to}
-use Rattle.turn_run.specs.Stages.{arrived_all}
-use Rattle.turn_run.specs.Steps.{batches_of, held_offers, known_of, met}
-use Rattle.turn_run.specs.declared.runners.Runner.{Runner}
+use Rattle.turn_run.specs.Cuts.StopsAt.{between}
 use Rattle.turn_run.proofs.MeetFile.{one_raises, raised_none, twice_raised}
 use Rattle.turn_run.proofs.MeetOffers.{AllHold}
 use Rattle.turn_run.proofs.MeetStep.{met_is, offers_are, puts_same}
-use Rattle.serial_spec.proofs.GrowLaws.{after_grows, raised_grows}
-use Rattle.serial_spec.proofs.CountLaws.{raised_records}
 
 abbrev field_of : Setting → ℕ
 field_of s = byte_len (count_width s.header.version)

@@ -1,49 +1,13 @@
 -- A run in turn that was cut off, from its first stage on.
-use Rattle.std.proofs.Common.{◌≡◌, ℕ, refl, sym, ◌∙◌, ap, subst, inl, inr, ◌⊎◌, List, [], ◌++◌, length, map, Bool, true, false, cond, Option, Some, None, arith, replicate}
-use Rattle.std.specs.Prelude.{slice_get, fold, nat_lt, IfSome}
-use Rattle.std.proofs.lemmas.List.{length-replicate}
-use Rattle.std.specs.Int.{byte_len}
-use Rattle.nc_base.specs.declared.answer.Answer.{Answer}
-use Rattle.nc_base.specs.declared.header.Header.{Header}
-use Rattle.nc_base.specs.declared.script.Script.{Script}
-use Rattle.nc_base.specs.declared.step.DiskCall.{DiskCall}
-use Rattle.nc_base.specs.declared.step.Mark.{Mark}
-use Rattle.nc_base.specs.declared.step.Mark.TheVariants.{Meet, Solo}
-use Rattle.nc_base.specs.declared.step.Offer.{Offer}
-use Rattle.nc_base.specs.declared.step.StepErr.{StepErr}
+use Rattle.turn_run.proofs.Words.{◌≡◌, ℕ, refl, sym, ◌∙◌, ap, subst, inl, inr, ◌⊎◌, List, [], ◌++◌, length, map, Bool, true, false, cond, Option, Some, None, arith, replicate, slice_get, fold, nat_lt, IfSome, length-replicate, byte_len, Answer, Header, Script, DiskCall, Mark, Meet, Solo, Offer, StepErr, after, BothTold, Setting, Counted, puts_of, raised, count_width, IsLegal, is_lawful, greatest, with_records, Going, advance, after_mark, closed, first_going, first_state, setting_of, state_after, close_by, covered, IsTorn, IsLeft, StoodAt, IsCutRun, HasAnswers, HasAnswersOfEach, bytes_of_mark, as_setting, counted, torn_by, ranks_lawful, completed, point, HasBegun, StopsAt, HasStopped, IsNext, bytes_at, in_step, Arrived, Stand, step_to, HasLed, IsLed, Leads, arrived_all, stage, all_between, HaveAnswers, first_runner, Runner, entry_map, map_map, entry_map_none, mapped_entry, raised_grows, gone_up, arrival_step, arrival_steps}
 use Rattle.nc_base.specs.declared.step.StepErr.TheVariants as fault
-use Rattle.nc_outside.specs.Told.{after, BothTold}
-use Rattle.serial_spec.specs.FileStep.{Setting, Counted, puts_of, raised}
-use Rattle.serial_spec.specs.HeaderBytes.{count_width}
-use Rattle.serial_spec.specs.History.{IsLegal}
-use Rattle.serial_spec.specs.Lawful.{is_lawful}
-use Rattle.serial_spec.specs.Layout.{greatest}
-use Rattle.serial_spec.specs.Records.{with_records}
 use Rattle.serial_spec.specs.RankMachine as machine
-use Rattle.serial_spec.specs.SerialEnd.{Going, advance, after_mark, closed, first_going, first_state, setting_of, state_after, close_by}
-use Rattle.serial_spec.specs.SharedByte.{covered}
-use Rattle.serial_spec.specs.Torn.{IsTorn, IsLeft, StoodAt, IsCutRun, HasAnswers, HasAnswersOfEach, bytes_of_mark}
 use Rattle.serial_spec.specs.Torn.StoodAt.{in_step as stood_step, in_close as stood_close, between as stood_between}
-use Rattle.collective_round.specs.Rounds.{as_setting, counted}
-use Rattle.collective_round.proofs.TornFiles.{torn_by}
-use Rattle.run_laws.proofs.LawfulLaws.{ranks_lawful}
-use Rattle.join_laws.proofs.Completing.{completed}
-use Rattle.turn_run.specs.Known.{point}
-use Rattle.turn_run.specs.Begun.{HasBegun}
-use Rattle.turn_run.specs.Cuts.{StopsAt, HasStopped, IsNext, bytes_at}
-use Rattle.turn_run.specs.Cuts.StopsAt.{in_step, between}
-use Rattle.run_laws.specs.Arrivals.{Arrived, Stand, step_to}
-use Rattle.turn_run.specs.Stages.{HasLed, IsLed, Leads, arrived_all, stage}
-use Rattle.turn_run.specs.Said.{all_between, HaveAnswers}
-use Rattle.turn_run.specs.Steps.{first_runner}
-use Rattle.turn_run.specs.declared.runners.Runner.{Runner}
+use Rattle.turn_run.specs.Cuts.StopsAt.{between}
 use Rattle.turn_run.proofs.CutMeet.{raised_kept}
 use Rattle.turn_run.proofs.TurnEnds.{AreOver, map_ended}
 use Rattle.turn_run.proofs.TurnKnown.{most_known}
 use Rattle.turn_run.proofs.TurnRuns.{first_goings, first_stage, none_begun}
-use Rattle.list_laws.proofs.Maps.{entry_map, map_map, entry_map_none, mapped_entry}
-use Rattle.serial_spec.proofs.GrowLaws.{raised_grows}
-use Rattle.run_laws.proofs.ArrivalLaws.{gone_up, arrival_step, arrival_steps}
 
 -- ---- where a whole run was cut off
 

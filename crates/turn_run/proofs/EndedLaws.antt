@@ -1,25 +1,7 @@
 -- How a run ended, by the ends of its ranks.
-use Rattle.std.proofs.Common.{◌≡◌, ℕ, ◌≤◌, refl, sym, subst, inl, inr, ◌⊎◌, List, [], map, true, Option, Some, None, Result, Err}
-use Rattle.std.specs.Prelude.{OnErr}
-use Rattle.std.specs.Int.{byte_len}
-use Rattle.nc_base.specs.declared.header.Header.{Header}
-use Rattle.nc_base.specs.declared.run.RankEnd.{RankEnd}
-use Rattle.nc_base.specs.declared.run.RunEnd.{RunEnd}
-use Rattle.nc_base.specs.declared.run.ServeEnd.{ServeEnd}
-use Rattle.nc_base.specs.declared.step.DiskCall.{DiskCall}
-use Rattle.nc_base.specs.declared.step.StepErr.{StepErr}
+use Rattle.turn_run.proofs.Words.{◌≡◌, ℕ, ◌≤◌, refl, sym, subst, inl, inr, ◌⊎◌, List, [], map, true, Option, Some, None, Result, Err, OnErr, byte_len, Header, RankEnd, RunEnd, ServeEnd, DiskCall, StepErr, Rose, BothTold, raised, count_width, is_sound, IsTorn, as_setting, counted, contents_of, EndedAt, HasClosed, NoneBroke, most_known_of, as_left, in_close}
 use Rattle.nc_base.specs.declared.step.StepErr.TheVariants as fault
-use Rattle.nc_outside.specs.Cause.{Rose}
-use Rattle.nc_outside.specs.Told.{BothTold}
-use Rattle.serial_spec.specs.FileStep.{raised}
-use Rattle.serial_spec.specs.HeaderBytes.{count_width}
-use Rattle.serial_spec.specs.SoundHeaders.{is_sound}
-use Rattle.serial_spec.specs.Torn.{IsTorn}
-use Rattle.collective_round.specs.Rounds.{as_setting, counted}
 use Rattle.turn_run.proofs.CutRuns.{raised_torn}
-use Rattle.turn_run.specs.Known.{contents_of}
-use Rattle.turn_run.specs.RankEnds.{EndedAt, HasClosed, NoneBroke, most_known_of}
-use Rattle.turn_run.specs.RankEnds.EndedAt.{as_left, in_close}
 
 -- what the end of a run tells
 pub record Closing (header : Header) (ends : List RankEnd) (before : ServeEnd) (held : Option (List ℕ)) (calls : Option (List DiskCall)) (faults count : ℕ)

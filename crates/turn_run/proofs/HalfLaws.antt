@@ -1,26 +1,6 @@
 -- A half of a meeting for which no batch has a request.
-use Rattle.std.proofs.Common.{◌≡◌, ℕ, ◌+◌, ◌-◌, ◌≤◌, List, [], ◌∷◌, ◌++◌, length, map, replicate, Bool, true, Option, Some, None, IfSome, refl, sym, ap, ◌∙◌, arith}
-use Rattle.std.proofs.lemmas.List.{append-nil}
-use Rattle.std.specs.Prelude.{flat_map, nat_lt}
-use Rattle.std.specs.List.{enumerate_from, list_all}
-use Rattle.std.proofs.lemmas.Bool.{and_parts}
-use Rattle.nc_base.specs.declared.answer.Pair.{Pair}
-use Rattle.nc_base.specs.declared.plan.Batch.{Batch}
-use Rattle.nc_base.specs.declared.plan.Post.{Post}
-use Rattle.nc_base.specs.declared.script.Hints.{Hints}
-use Rattle.nc_base.specs.declared.script.OverlapRule.{OverlapRule}
-use Rattle.nc_base.specs.declared.script.OverlapRule.TheVariants.{Refuse, Serial}
-use Rattle.nc_base.specs.declared.step.DiskCall.{DiskCall}
-use Rattle.nc_outside.specs.Told.{after, with_end}
-use Rattle.serial_spec.specs.DeviceCalls.{collective_windows, get_bytes, loads, put_calls, store_records}
-use Rattle.serial_spec.specs.File.{longer}
-use Rattle.serial_spec.specs.FileStep.{Counted, Setting, after_puts, end_for, get_post, raised, told, told_under}
-use Rattle.serial_spec.specs.Owner.{needed_now}
-use Rattle.serial_spec.specs.SharedByte.{Puts}
-use Rattle.serial_spec.proofs.CountLaws.{no_need}
-use Rattle.serial_spec.specs.Lists.{is_empty}
-use Rattle.collective_round.specs.Rounds.{after_round, counted, gets_in, puts_in, puts_of_batch}
-use Rattle.collective_round.proofs.PutLaws.{no_calls, none_windows}
+use Rattle.turn_run.proofs.Words.{◌≡◌, ℕ, ◌+◌, ◌-◌, ◌≤◌, List, [], ◌∷◌, ◌++◌, length, map, replicate, Bool, true, Option, Some, None, refl, sym, ap, ◌∙◌, arith, append-nil, flat_map, nat_lt, enumerate_from, list_all, and_parts, Pair, Batch, Post, Hints, OverlapRule, Refuse, Serial, DiskCall, after, with_end, collective_windows, get_bytes, loads, put_calls, store_records, longer, Counted, Setting, after_puts, end_for, get_post, raised, told, told_under, needed_now, Puts, no_need, is_empty, after_round, counted, gets_in, puts_in, puts_of_batch, no_calls, none_windows}
+use Rattle.std.proofs.Common.{IfSome}
 use Rattle.turn_run.proofs.MeetFile.{not_below, raised_none}
 
 none_of : {A : Type 0} (xs : List A) → is_empty xs ≡ true → xs ≡ []

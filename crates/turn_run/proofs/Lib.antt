@@ -1,3 +1,4 @@
+mod Words
 pub mod WrittenTwice
 pub mod StageLaws
 pub mod CountLaws

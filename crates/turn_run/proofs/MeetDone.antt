@@ -1,36 +1,9 @@
 -- The runners after a meeting.
-use Rattle.std.proofs.Common.{◌≡◌, ℕ, ◌<◌, ◌≤◌, refl, sym, ◌∙◌, ap, subst, List, [], ◌∷◌, ◌++◌, length, map, Option, Some, None, inr, arith}
-use Rattle.std.specs.Prelude.{slice_get, is_some, IfSome}
-use Rattle.std.proofs.lemmas.List.{length-map}
-use Rattle.std.proofs.lemmas.Option.{same_Some, slice_get_within}
-use Rattle.nc_base.specs.declared.answer.Answer.{Answer}
-use Rattle.nc_base.specs.declared.answer.Pair.{Pair}
-use Rattle.nc_base.specs.declared.header.Header.{Header}
-use Rattle.nc_base.specs.declared.plan.Batch.{Batch}
-use Rattle.nc_base.specs.declared.script.Script.{Script}
-use Rattle.nc_base.specs.declared.step.Mark.{Mark}
-use Rattle.nc_base.specs.declared.step.Mark.TheVariants.{Meet}
-use Rattle.nc_base.specs.declared.step.Offer.{Offer}
-use Rattle.nc_base.specs.declared.step.Reply.{Reply}
-use Rattle.serial_spec.specs.RankMachine.{hear, Open}
-use Rattle.serial_spec.specs.RankSide.{wanted}
-use Rattle.serial_spec.specs.SerialEnd.{Going}
-use Rattle.rank_core.specs.Ranked.{Ranked}
-use Rattle.run_laws.specs.Ways.{meetings, IsOnWay}
-use Rattle.run_laws.proofs.CallLaws.{hears_keeps}
-use Rattle.run_laws.proofs.TogetherLaws.{call_waits, meeting_of_known}
-use Rattle.run_laws.proofs.WayLaws.{way_hears}
-use Rattle.turn_run.specs.Begun.{HasBegun}
-use Rattle.turn_run.specs.Counts.{IsAsked, IsCount}
-use Rattle.turn_run.specs.Running.{asking, between, calls_of, going_of, reply_of, AreFreed, AreHeard, AreRunners, HasHeard, HaveArrived, HaveMet, IsPlaced, IsToHear}
-use Rattle.turn_run.specs.Steps.{batches_of, held_offers}
-use Rattle.turn_run.specs.declared.runners.Runner.{Runner}
+use Rattle.turn_run.proofs.Words.{◌≡◌, ℕ, ◌<◌, ◌≤◌, refl, sym, ◌∙◌, ap, subst, List, [], ◌∷◌, ◌++◌, length, map, Option, Some, None, inr, arith, slice_get, is_some, IfSome, length-map, same_Some, slice_get_within, Answer, Pair, Header, Batch, Script, Mark, Meet, Offer, Reply, hear, Open, wanted, Going, Ranked, meetings, IsOnWay, hears_keeps, call_waits, meeting_of_known, way_hears, HasBegun, IsAsked, IsCount, asking, between, calls_of, going_of, reply_of, AreFreed, AreHeard, AreRunners, HasHeard, HaveArrived, HaveMet, IsPlaced, IsToHear, batches_of, held_offers, Runner, entry_below, entry_map}
 use Rattle.turn_run.proofs.CountLaws.{count_longer, count_max}
 use Rattle.turn_run.proofs.MeetOffers.{held_at, held_long, meets_at}
 use Rattle.turn_run.proofs.MeetStep.{AreDone}
 use Rattle.turn_run.proofs.RunnerLaws.{answered_is, way_rest}
-use Rattle.list_laws.proofs.Places.{entry_below}
-use Rattle.list_laws.proofs.Maps.{entry_map}
 use Rattle.turn_run.proofs.TurnSteps.{runners_begun}
 
 -- ---- what the meeting requires

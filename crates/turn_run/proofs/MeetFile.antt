@@ -1,28 +1,9 @@
 -- The file, its record count and its device calls in a meeting.
-use Rattle.std.proofs.Common.{◌≡◌, ℕ, ◌<◌, ◌≤◌, refl, sym, ◌∙◌, ap, subst, List, [], ◌++◌, length, max, Bool, true, false, cond, Option, Some, None, inl, inr, append_assoc, arith}
-use Rattle.std.proofs.lemmas.Bool.Decides.{nat_tests}
-use Rattle.std.proofs.lemmas.List.{append-nil}
-use Rattle.std.specs.Prelude.{◌⊎◌, flat_map, nat_lt, if◌then◌else◌, IfSome}
-use Rattle.nc_base.specs.declared.answer.Pair.{Pair}
-use Rattle.nc_base.specs.declared.plan.Batch.{Batch}
-use Rattle.nc_base.specs.declared.plan.Post.{Post}
-use Rattle.nc_base.specs.declared.script.Hints.{Hints}
-use Rattle.nc_base.specs.declared.step.DiskCall.{DiskCall}
-use Rattle.nc_outside.specs.Told.{after, with_end}
-use Rattle.serial_spec.specs.Owner.{needed_now}
-use Rattle.serial_spec.specs.DeviceCalls.{collective_windows, get_bytes, loads, put_calls, store_records}
-use Rattle.serial_spec.specs.FileStep.{Counted, Setting, after_puts, end_for, needs, raised, told}
-use Rattle.serial_spec.specs.SoundHeaders.{is_sound}
-use Rattle.serial_spec.specs.Records.{with_records}
-use Rattle.serial_spec.specs.SharedByte.{Puts}
-use Rattle.collective_round.specs.Rounds.{after_round, counted, gets_in, puts_in, ArePuts}
-use Rattle.turn_run.specs.Counts.{IsCount, IsRise}
-use Rattle.turn_run.specs.Steps.{met, met_calls}
+use Rattle.turn_run.proofs.Words.{◌≡◌, ℕ, ◌<◌, ◌≤◌, refl, sym, ◌∙◌, ap, subst, List, [], ◌++◌, length, max, Bool, true, false, cond, Option, Some, None, inl, inr, append_assoc, arith, nat_tests, append-nil, flat_map, nat_lt, if◌then◌else◌, IfSome, Pair, Batch, Post, Hints, DiskCall, after, with_end, needed_now, collective_windows, get_bytes, loads, put_calls, store_records, Counted, Setting, after_puts, end_for, needs, raised, told, is_sound, with_records, Puts, after_round, counted, gets_in, puts_in, ArePuts, IsCount, IsRise, met, met_calls, no_need, raised_records, with_end-with_end}
+use Rattle.std.specs.Prelude.{◌⊎◌}
 use Rattle.turn_run.proofs.CountLaws.{count_longer, count_max, rise_longer}
 use Rattle.turn_run.proofs.MeetPosts.{needed_rise}
 use Rattle.turn_run.proofs.WrittenTwice.{counted_twice}
-use Rattle.serial_spec.proofs.CountLaws.{no_need, raised_records}
-use Rattle.nc_outside.proofs.ToldLaws.{with_end-with_end}
 
 -- ---- what puts need
 

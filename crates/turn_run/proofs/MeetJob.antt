@@ -1,17 +1,5 @@
 -- The job of a meeting, taken from the runners one after another.
-use Rattle.std.proofs.Common.{◌≡◌, ℕ, ◌+◌, sym, ◌∙◌, ap, List, [], ◌∷◌, ◌++◌, map, max, take, Some}
-use Rattle.std.proofs.lemmas.List.{append-nil, map-append}
-use Rattle.std.proofs.lemmas.Grind.{flat_map-append}
-use Rattle.std.specs.Prelude.{slice_get}
-use Rattle.std.specs.Option.{option_to_list}
-use Rattle.nc_base.specs.declared.plan.Batch.{Batch}
-use Rattle.nc_base.specs.declared.step.Offer.{Offer}
-use Rattle.serial_spec.specs.FileStep.{known_by}
-use Rattle.serial_spec.specs.Layout.{greatest}
-use Rattle.turn_run.specs.Steps.{batches_of, held_offers, known_of}
-use Rattle.turn_run.specs.declared.runners.Runner.{Runner}
-use Rattle.serial_spec.proofs.CountLaws.{greatest_joined}
-use Rattle.list_laws.proofs.Places.{take_next}
+use Rattle.turn_run.proofs.Words.{◌≡◌, ℕ, ◌+◌, sym, ◌∙◌, ap, List, [], ◌∷◌, ◌++◌, map, max, take, Some, append-nil, map-append, flat_map-append, slice_get, option_to_list, Batch, Offer, known_by, greatest, batches_of, held_offers, known_of, Runner, greatest_joined, take_next}
 
 held_next : (runners : List Runner) (i : ℕ) (runner : Runner) → slice_get runners i ≡ Some runner → held_offers (take (i + 1) runners) ≡ held_offers (take i runners) ++ option_to_list runner.held
 held_next runners i runner e =

@@ -1,38 +1,11 @@
 -- The offers of a meeting, as the runners hold them: together they are a job that a meeting takes.
-use Rattle.std.proofs.Common.{◌≡◌, ℕ, zero, suc, ◌+◌, ◌^◌, ◌<◌, ◌≤◌, refl, sym, ◌∙◌, ap, subst, List, [], ◌∷◌, ◌++◌, length, map, Bool, true, false, Option, Some, None, inl, inr, arith}
-use Rattle.std.proofs.lemmas.List.{map-append, length-map}
-use Rattle.std.specs.Prelude.{◌⊎◌, slice_get, flat_map, is_some, IfSome}
-use Rattle.std.specs.List.{enumerate_from, AllByRecursion}
-use Rattle.std.specs.Option.{option_to_list}
-use Rattle.std.proofs.lemmas.Option.{same_Some}
-use Rattle.nc_base.specs.declared.header.Header.{Header}
-use Rattle.nc_base.specs.declared.plan.Batch.{Batch}
-use Rattle.nc_base.specs.declared.plan.Post.{Post}
-use Rattle.nc_base.specs.declared.script.Script.{Script}
-use Rattle.nc_base.specs.declared.step.Mark.{Mark}
+use Rattle.turn_run.proofs.Words.{◌≡◌, ℕ, zero, suc, ◌+◌, ◌^◌, ◌<◌, ◌≤◌, refl, sym, ◌∙◌, ap, subst, List, [], ◌∷◌, ◌++◌, length, map, Bool, true, false, Option, Some, None, inl, inr, arith, map-append, length-map, slice_get, flat_map, is_some, IfSome, enumerate_from, AllByRecursion, option_to_list, same_Some, Header, Batch, Post, Script, Mark, Offer, OfferKind, In, in_either, known_by, is_lawful, Going, bytes_of, holdings, Holding, IsOwnOnce, Puts, IsOnWay, ranks_lawful, together_kind, gets_in, posts_in, puts_of_batch, AreGets, ArePuts, IsGet, IsPut, raises, IsAsked, IsCount, IsFit, IsRise, asking, calls_of, going_of, AreRunners, HaveArrived, HaveMet, IsMet, IsPlaced, IsPlacedWith, batches_of, held_offers, known_of, IsJob, IsOneRise, Runner, IsSingleOffer, value_of_some}
+use Rattle.std.specs.Prelude.{◌⊎◌}
 use Rattle.nc_base.specs.declared.step.MeetKind.TheVariants as kind
-use Rattle.nc_base.specs.declared.step.Offer.{Offer}
-use Rattle.nc_base.specs.declared.step.OfferKind.{OfferKind}
 use Rattle.nc_base.specs.declared.step.OfferKind.TheVariants as offer
-use Rattle.overlay_laws.specs.Entries.{In}
-use Rattle.overlay_laws.proofs.HullLaws.{in_either}
-use Rattle.serial_spec.specs.FileStep.{known_by}
-use Rattle.serial_spec.specs.Lawful.{is_lawful}
-use Rattle.serial_spec.specs.SerialEnd.{Going}
-use Rattle.serial_spec.specs.SharedByte.{bytes_of, holdings, Holding, IsOwnOnce, Puts}
-use Rattle.run_laws.specs.Ways.{IsOnWay}
-use Rattle.run_laws.proofs.LawfulLaws.{ranks_lawful}
-use Rattle.run_laws.proofs.TogetherLaws.{together_kind}
-use Rattle.collective_round.specs.Rounds.{gets_in, posts_in, puts_of_batch, AreGets, ArePuts, IsGet, IsPut}
-use Rattle.turn_run.specs.Counts.{raises, IsAsked, IsCount, IsFit, IsRise}
-use Rattle.turn_run.specs.Running.{asking, calls_of, going_of, AreRunners, HaveArrived, HaveMet, IsMet, IsPlaced, IsPlacedWith}
-use Rattle.turn_run.specs.Steps.{batches_of, held_offers, known_of, IsJob, IsOneRise}
-use Rattle.turn_run.specs.declared.runners.Runner.{Runner}
 use Rattle.turn_run.proofs.AloneLaws.{going_held}
 use Rattle.turn_run.proofs.CountLaws.{rise_max}
 use Rattle.turn_run.proofs.MeetPosts.{get_of, put_of, ranked_puts}
-use Rattle.serial_spec.specs.Owner.{IsSingleOffer}
-use Rattle.list_laws.proofs.Optional.{value_of_some}
 
 -- ---- the offers that runners hold
 

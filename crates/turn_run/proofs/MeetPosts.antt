@@ -1,34 +1,8 @@
 -- What the posts of an offer are to a step, and what the puts of a step need.
-use Rattle.std.proofs.Common.{◌≡◌, ℕ, zero, suc, ◌+◌, ◌-◌, ◌*◌, ◌<◌, ◌≤◌, refl, sym, ◌∙◌, ap, subst, List, [], ◌∷◌, length, map, max, Bool, true, false, cond, not, ◌||◌, Option, Some, None, inl, inr, arith}
-use Rattle.std.proofs.lemmas.Bool.Decides.{nat_tests}
-use Rattle.std.specs.Prelude.{slice_get, slice_index, ◌==◌}
-use Rattle.std.proofs.lemmas.List.{length-map}
-use Rattle.nc_base.specs.declared.header.Header.{Header}
-use Rattle.nc_base.specs.declared.header.Var.{Var}
-use Rattle.nc_base.specs.declared.plan.Post.{Post}
-use Rattle.nc_base.specs.declared.request.Direction.TheVariants.{Put, Get}
+use Rattle.turn_run.proofs.Words.{◌≡◌, ℕ, zero, suc, ◌+◌, ◌-◌, ◌*◌, ◌<◌, ◌≤◌, refl, sym, ◌∙◌, ap, subst, List, [], ◌∷◌, length, map, max, Bool, true, false, cond, not, ◌||◌, Option, Some, None, inl, inr, arith, nat_tests, slice_get, slice_index, ◌==◌, length-map, Header, Var, Post, Put, Get, Offer, In, needed_now, Setting, end_for, needs, puts_of, told, header_len, is_sound, end_of, greatest, lengths, product, starts_with_zero, needed, records_of_some, bad_edge, bound, check_some, some_edge, accepted, end_grows, pair_of, IsPut, ArePuts, AreGets, PutEnd, Done, Overlap, IsCount, IsRise, needed_after, equal_suc, equal_zero, or_first_false, map_map}
 use Rattle.nc_base.specs.declared.answer.Code.TheVariants as code
-use Rattle.nc_base.specs.declared.step.Offer.{Offer}
-use Rattle.overlay_laws.specs.Entries.{In}
-use Rattle.serial_spec.specs.Owner.{needed_now}
-use Rattle.serial_spec.specs.FileStep.{Setting, end_for, needs, puts_of, told}
-use Rattle.serial_spec.specs.HeaderBytes.{header_len}
-use Rattle.serial_spec.specs.SoundHeaders.{is_sound}
-use Rattle.serial_spec.specs.Layout.{end_of, greatest, lengths, product, starts_with_zero}
-use Rattle.serial_spec.specs.Records.{needed, records_of_some}
-use Rattle.serial_spec.specs.RegionCheck.{bad_edge, bound, check_some, some_edge}
-use Rattle.serial_spec.proofs.AcceptLaws.{accepted}
-use Rattle.serial_spec.proofs.RoomLaws.{end_grows}
 use Rattle.rank_core.specs.Offered as offered
-use Rattle.collective_round.specs.Ended.{pair_of}
-use Rattle.collective_round.specs.Rounds.{IsPut, ArePuts, AreGets}
-use Rattle.collective_round.specs.declared.collective.PutEnd.{PutEnd}
-use Rattle.collective_round.specs.declared.collective.PutEnd.TheVariants.{Done, Overlap}
-use Rattle.turn_run.specs.Counts.{IsCount, IsRise}
-use Rattle.turn_run.specs.Steps.{needed_after}
 use Rattle.turn_run.proofs.CountLaws.{count_longer, count_max, put_count, rise_max}
-use Rattle.list_laws.proofs.Truth.{equal_suc, equal_zero, or_first_false}
-use Rattle.list_laws.proofs.Maps.{map_map}
 
 -- ---- a get that is accepted asks for no record past those that are known
 

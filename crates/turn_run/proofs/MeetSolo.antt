@@ -1,17 +1,6 @@
 -- The step of one rank alone, from its puts and its gets.
-use Rattle.std.proofs.Common.{◌≡◌, ℕ, ◌∙◌, ap, List, map, max, Option, Some, None}
-use Rattle.std.specs.Prelude.{IfSome}
-use Rattle.nc_base.specs.declared.answer.Pair.{Pair}
-use Rattle.nc_base.specs.declared.step.Offer.{Offer}
-use Rattle.nc_outside.specs.Told.{after}
-use Rattle.serial_spec.specs.FileStep.{Setting, after_puts, get_post, puts_of, solo, told}
-use Rattle.collective_round.specs.Ended.{pair_of}
-use Rattle.collective_round.specs.Rounds.{counted}
-use Rattle.collective_round.specs.declared.collective.PutEnd.{PutEnd}
-use Rattle.turn_run.specs.Running.{reply_of}
-use Rattle.turn_run.specs.Steps.{needed_after}
+use Rattle.turn_run.proofs.Words.{◌≡◌, ℕ, ◌∙◌, ap, List, map, max, Option, Some, None, IfSome, Pair, Offer, after, Setting, after_puts, get_post, puts_of, solo, told, pair_of, counted, PutEnd, reply_of, needed_after, if_some_at}
 use Rattle.turn_run.proofs.MeetPosts.{needed_solo}
-use Rattle.list_laws.proofs.Optional.{if_some_at}
 
 pub solo_replied : (s : Setting) (r n : ℕ) (o : Offer) (end : PutEnd) (pair : Option Pair) (held mid : Option (List ℕ)) (blobs : List (List ℕ)) → pair_of end ≡ told s (puts_of (r, o))
     → pair ≡ pair_of end → n ≡ max o.known (needed_after s.header o.batch.puts end)

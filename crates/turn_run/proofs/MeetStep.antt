@@ -1,41 +1,8 @@
 -- A meeting of the serial run, by the offers that the runners hold.
-use Rattle.std.proofs.Common.{◌≡◌, ℕ, suc, ◌+◌, refl, sym, ◌∙◌, ap, subst, List, [], ◌∷◌, ◌++◌, length, map, max, Option, Some, None, arith}
-use Rattle.std.proofs.lemmas.List.{append-nil}
-use Rattle.std.specs.Prelude.{slice_get, flat_map, zip, nat_lt, IfSome}
-use Rattle.std.specs.List.{enumerate_from}
-use Rattle.nc_base.specs.declared.answer.Pair.{Pair}
-use Rattle.nc_base.specs.declared.header.Header.{Header}
-use Rattle.nc_base.specs.declared.plan.Batch.{Batch}
-use Rattle.nc_base.specs.declared.plan.Post.{Post}
-use Rattle.nc_base.specs.declared.request.Call.{Call}
-use Rattle.nc_base.specs.declared.script.Hints.{Hints}
-use Rattle.nc_base.specs.declared.step.DiskCall.{DiskCall}
-use Rattle.nc_base.specs.declared.step.Mark.{Mark}
-use Rattle.nc_base.specs.declared.step.Mark.TheVariants.{Meet}
-use Rattle.nc_base.specs.declared.step.Offer.{Offer}
-use Rattle.nc_base.specs.declared.step.Reply.{Reply}
-use Rattle.nc_outside.specs.Told.{after, with_end}
-use Rattle.serial_spec.specs.Owner.{needed_now}
-use Rattle.serial_spec.specs.DeviceCalls.{collective_windows, get_bytes, gets_of, loads, meeting_calls, put_calls, store_records}
-use Rattle.serial_spec.specs.FileStep.{Counted, Setting, after_puts, get_post, meeting, puts_of, raised, told}
-use Rattle.serial_spec.specs.SerialEnd.{advance, offers_of}
-use Rattle.serial_spec.specs.SharedByte.{Puts}
-use Rattle.collective_round.specs.Rounds.{counted, gets_in, puts_in, puts_of_batch}
-use Rattle.turn_run.specs.Running.{reply_of, HasHeard}
-use Rattle.run_laws.specs.Arrivals.{heard, step_to, Arrived}
-use Rattle.join_laws.specs.Alike.{IsLike}
-use Rattle.join_laws.proofs.ReplyLaws.{gots_long}
-use Rattle.join_laws.proofs.StandsAlike.{meets_like, AllTell}
-use Rattle.serial_spec.specs.RankSide.{wanted}
-use Rattle.turn_run.specs.Stages.{arrived, arrived_all, stage, HasLed, Leads, LeadsAlike}
-use Rattle.turn_run.specs.Steps.{batches_of, held_offers, known_of, met, met_calls}
-use Rattle.turn_run.specs.declared.runners.Runner.{Runner}
+use Rattle.turn_run.proofs.Words.{◌≡◌, ℕ, suc, ◌+◌, refl, sym, ◌∙◌, ap, subst, List, [], ◌∷◌, ◌++◌, length, map, max, Option, Some, None, arith, append-nil, slice_get, flat_map, zip, nat_lt, IfSome, enumerate_from, Pair, Header, Batch, Post, Call, Hints, DiskCall, Mark, Meet, Offer, Reply, after, with_end, needed_now, collective_windows, get_bytes, gets_of, loads, meeting_calls, put_calls, store_records, Counted, Setting, after_puts, get_post, meeting, puts_of, raised, told, advance, offers_of, Puts, counted, gets_in, puts_in, puts_of_batch, reply_of, HasHeard, heard, step_to, Arrived, IsLike, gots_long, meets_like, AllTell, wanted, arrived, arrived_all, stage, HasLed, Leads, LeadsAlike, batches_of, held_offers, known_of, met, met_calls, Runner, value_of_some, if_some_at, map_map, raised_records}
 use Rattle.turn_run.proofs.AloneLaws.{arrived_free, arrived_held}
 use Rattle.turn_run.proofs.MeetOffers.{held_first, AllHold}
 use Rattle.turn_run.proofs.RunnerLaws.{heard_runner}
-use Rattle.list_laws.proofs.Optional.{value_of_some, if_some_at}
-use Rattle.list_laws.proofs.Maps.{map_map}
-use Rattle.serial_spec.proofs.CountLaws.{raised_records}
 
 -- ---- the puts and gets of the offers are those of their batches
 

@@ -1,36 +1,9 @@
 -- How the rank of a runner goes on.
-use Rattle.std.proofs.Common.{◌≡◌, ℕ, suc, ◌+◌, ◌^◌, ◌<◌, ◌≤◌, refl, sym, ◌∙◌, ap, subst, List, [], ◌∷◌, ◌++◌, length, drop, get_or, true, false, Option, Some, None, length-append, append_assoc, arith}
-use Rattle.std.proofs.lemmas.List.{append-nil}
-use Rattle.std.specs.Prelude.{slice_get, filter}
-use Rattle.nc_base.specs.declared.header.Header.{Header}
-use Rattle.nc_base.specs.declared.request.Call.{Call}
-use Rattle.nc_base.specs.declared.answer.Answer.{Answer}
-use Rattle.nc_base.specs.declared.script.Script.{Script}
-use Rattle.nc_base.specs.declared.step.Mark.{Mark}
+use Rattle.turn_run.proofs.Words.{◌≡◌, ℕ, suc, ◌+◌, ◌^◌, ◌<◌, ◌≤◌, refl, sym, ◌∙◌, ap, subst, List, [], ◌∷◌, ◌++◌, length, drop, get_or, true, false, Option, Some, None, length-append, append_assoc, arith, append-nil, slice_get, filter, Header, Call, Answer, Script, Mark, Offer, OfferKind, Reply, Want, concerns, marks, most_parts, step, hear, Going, go, advance, hears, posts_held, answered, IsOnWay, AsksAlone, posts_offered, IsSoundOffer, IsSoundWant, meets_keeps, says_at, solo_keeps, comes_on, comes_to_meeting, comes_to_solo, way_answers, way_meets, way_solo, raises, IsAsked, asking, between, HasHeard, IsPlaced, IsPlacedWith, Runner, meets_quiet, drop_at, entry_read}
 use Rattle.nc_base.specs.declared.step.Mark.TheVariants as mark
-use Rattle.nc_base.specs.declared.step.Offer.{Offer}
-use Rattle.nc_base.specs.declared.step.OfferKind.{OfferKind}
 use Rattle.nc_base.specs.declared.step.OfferKind.TheVariants as offer
-use Rattle.nc_base.specs.declared.step.Reply.{Reply}
-use Rattle.nc_base.specs.declared.step.Want.{Want}
 use Rattle.nc_base.specs.declared.step.Want.TheVariants as want
-use Rattle.serial_spec.specs.History.{concerns, marks}
-use Rattle.serial_spec.specs.Lawful.{most_parts}
 use Rattle.serial_spec.specs.RankMachine as machine
-use Rattle.serial_spec.specs.RankMachine.{step, hear}
-use Rattle.serial_spec.specs.SerialEnd.{Going, go, advance, hears}
-use Rattle.run_laws.specs.Requests.{posts_held}
-use Rattle.run_laws.specs.Ahead.{answered}
-use Rattle.run_laws.specs.Ways.{IsOnWay, AsksAlone}
-use Rattle.rank_core.specs.Offered.{posts_offered, IsSoundOffer, IsSoundWant}
-use Rattle.run_laws.proofs.CallLaws.{meets_keeps, says_at, solo_keeps}
-use Rattle.run_laws.proofs.StandingLaws.{comes_on, comes_to_meeting, comes_to_solo}
-use Rattle.run_laws.proofs.WayLaws.{way_answers, way_meets, way_solo}
-use Rattle.turn_run.specs.Counts.{raises, IsAsked}
-use Rattle.turn_run.specs.Running.{asking, between, HasHeard, IsPlaced, IsPlacedWith}
-use Rattle.turn_run.specs.declared.runners.Runner.{Runner}
-use Rattle.join_laws.proofs.QuietLaws.{meets_quiet}
-use Rattle.list_laws.proofs.Places.{drop_at, entry_read}
 
 -- between two calls, by the state and the answers
 abbrev pub at : List Call → machine.Rank → List Answer → Going

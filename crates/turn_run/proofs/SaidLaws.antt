@@ -1,43 +1,9 @@
 -- The answers of ranks that a fault cut off.
-use Rattle.std.proofs.Common.{◌≡◌, ℕ, zero, suc, ◌<◌, ◌≤◌, ◌≢◌, refl, sym, ◌∙◌, ap, subst, List, [], ◌∷◌, ◌++◌, length, map, set, Bool, true, false, cond, Option, Some, None, length-append, append_assoc, arith}
-use Rattle.std.proofs.lemmas.Bool.Decides.{nat_tests}
-use Rattle.std.proofs.lemmas.Grind.{fold-append}
-use Rattle.std.proofs.lemmas.List.{append-nil, append_cancel_left}
-use Rattle.std.proofs.lemmas.List.Elements.{filter-append}
-use Rattle.std.proofs.lemmas.Option.{same_Some, slice_get_within}
-use Rattle.std.specs.Prelude.{slice_get, fold, filter, nat_lt, ◌==◌, IfSome}
-use Rattle.nc_base.specs.declared.answer.Answer.{Answer}
-use Rattle.nc_base.specs.declared.header.Header.{Header}
-use Rattle.nc_base.specs.declared.request.Call.{Call}
-use Rattle.nc_base.specs.declared.script.Hints.{Hints}
-use Rattle.nc_base.specs.declared.script.Script.{Script}
-use Rattle.nc_base.specs.declared.step.DiskCall.{DiskCall}
-use Rattle.nc_base.specs.declared.step.Mark.{Mark}
-use Rattle.nc_base.specs.declared.step.Mark.TheVariants.{Meet, Solo}
-use Rattle.nc_base.specs.declared.step.Offer.{Offer}
-use Rattle.nc_base.specs.declared.step.Reply.{Reply}
-use Rattle.nc_base.specs.declared.step.StepErr.{StepErr}
-use Rattle.nc_base.specs.declared.step.StepErr.TheVariants.{Disk, Memory}
-use Rattle.serial_spec.specs.FileStep.{Setting, Counted, solo}
-use Rattle.serial_spec.specs.History.{concerns}
-use Rattle.serial_spec.specs.RankMachine.{hear}
-use Rattle.serial_spec.specs.SerialEnd.{Going, advance, after_mark, hears, solo_of}
-use Rattle.serial_spec.specs.Torn.{Begins, HasAnswers}
-use Rattle.collective_round.specs.Rounds.{counted}
-use Rattle.run_laws.specs.Arrivals.{Arrived, Stand, step_to}
+use Rattle.turn_run.proofs.Words.{◌≡◌, ℕ, zero, suc, ◌<◌, ◌≤◌, ◌≢◌, refl, sym, ◌∙◌, ap, subst, List, [], ◌∷◌, ◌++◌, length, map, set, Bool, true, false, cond, Option, Some, None, length-append, append_assoc, arith, nat_tests, fold-append, append-nil, append_cancel_left, filter-append, same_Some, slice_get_within, slice_get, fold, filter, nat_lt, ◌==◌, IfSome, Answer, Header, Call, Hints, Script, DiskCall, Mark, Meet, Solo, Offer, Reply, StepErr, Disk, Memory, Setting, Counted, solo, concerns, hear, Going, advance, after_mark, hears, solo_of, Begins, HasAnswers, counted, Arrived, Stand, step_to, point, HasSaid, SaysAt, AllSay, HasReached, AreAnswers, HaveAnswers, all_between, between, calls_of, AreFree, HasArrived, Stage, Leads, IsLed, HasGone, HasLed, IsGrownBy, arrived, arrived_all, stage, rank_stage, Runner, if_some_at, entry_set, entry_set_other, entry_map, stand_at, state_at, gone_up, arrival_steps}
 use Rattle.run_laws.proofs.WayLaws.{others_filter as solos_beside}
-use Rattle.turn_run.specs.Known.{point}
-use Rattle.turn_run.specs.Said.{HasSaid, SaysAt, AllSay, HasReached, AreAnswers, HaveAnswers, all_between}
-use Rattle.turn_run.specs.Running.{between, calls_of, AreFree, HasArrived}
-use Rattle.turn_run.specs.Stages.{Stage, Leads, IsLed, HasGone, HasLed, IsGrownBy, arrived, arrived_all, stage, rank_stage}
-use Rattle.turn_run.specs.declared.runners.Runner.{Runner}
 use Rattle.turn_run.proofs.AloneLaws.{arrived_free, arrived_held, step_at}
 use Rattle.turn_run.proofs.RunnerLaws.{advance_ended, answers_begin}
 use Rattle.turn_run.proofs.TurnSteps.{calls_there, get_arrived, own_or_other}
-use Rattle.list_laws.proofs.Optional.{if_some_at}
-use Rattle.list_laws.proofs.Places.{entry_set, entry_set_other}
-use Rattle.list_laws.proofs.Maps.{entry_map}
-use Rattle.run_laws.proofs.ArrivalLaws.{stand_at, state_at, gone_up, arrival_steps}
 
 -- ---- one rank
 

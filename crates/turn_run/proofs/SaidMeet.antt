@@ -1,36 +1,5 @@
 -- The answers of the ranks of a meeting, also where it was cut off.
-use Rattle.std.proofs.Common.{◌≡◌, ℕ, zero, suc, ◌<◌, ◌≤◌, refl, sym, ◌∙◌, ap, subst, inl, inr, ◌⊎◌, List, [], ◌∷◌, ◌++◌, length, map, max, set, Bool, true, false, Option, Some, None, append_assoc, arith}
-use Rattle.std.proofs.lemmas.Bool.Decides.{nat_tests}
-use Rattle.std.proofs.lemmas.Grind.{fold-append}
-use Rattle.std.proofs.lemmas.List.{append_cancel_left}
-use Rattle.std.proofs.lemmas.Option.{same_Some, slice_get_within}
-use Rattle.std.specs.Prelude.{slice_get, fold, zip, nat_lt, IfSome}
-use Rattle.nc_base.specs.declared.answer.Answer.{Answer}
-use Rattle.nc_base.specs.declared.answer.Pair.{Pair}
-use Rattle.nc_base.specs.declared.header.Header.{Header}
-use Rattle.nc_base.specs.declared.plan.Batch.{Batch}
-use Rattle.nc_base.specs.declared.request.Call.{Call}
-use Rattle.nc_base.specs.declared.script.Hints.{Hints}
-use Rattle.nc_base.specs.declared.script.Script.{Script}
-use Rattle.nc_base.specs.declared.step.Mark.{Mark}
-use Rattle.nc_base.specs.declared.step.Mark.TheVariants.{Meet}
-use Rattle.nc_base.specs.declared.step.Offer.{Offer}
-use Rattle.nc_base.specs.declared.step.Reply.{Reply}
-use Rattle.nc_base.specs.declared.step.StepErr.{StepErr}
-use Rattle.nc_base.specs.declared.step.StepErr.TheVariants.{Memory}
-use Rattle.nc_outside.specs.Told.{after}
-use Rattle.serial_spec.specs.Owner.{needed_now}
-use Rattle.serial_spec.specs.FileStep.{Setting, Counted, after_puts, get_post, meeting, told}
-use Rattle.serial_spec.specs.SerialEnd.{Going, advance, after_mark, hears, offers_of}
-use Rattle.serial_spec.specs.Torn.{Begins}
-use Rattle.collective_round.specs.Rounds.{counted, puts_in}
-use Rattle.run_laws.specs.Arrivals.{Arrived, Stand, heard, step_to}
-use Rattle.turn_run.specs.Known.{point}
-use Rattle.turn_run.specs.Said.{HasSaid, AllSay, HasReached, AreAnswers, HaveAnswers, HaveHeardInPart, KeepAnswers, all_between}
-use Rattle.turn_run.specs.Running.{asking, between, calls_of, reply_of, AreFreed, HasHeard, HaveArrived, HaveMet, AreRunners}
-use Rattle.turn_run.specs.Stages.{Stage, Leads, IsLed, HasLed, arrived, arrived_all, stand_of}
-use Rattle.turn_run.specs.Steps.{batches_of, held_offers, known_of, met}
-use Rattle.turn_run.specs.declared.runners.Runner.{Runner}
+use Rattle.turn_run.proofs.Words.{◌≡◌, ℕ, zero, suc, ◌<◌, ◌≤◌, refl, sym, ◌∙◌, ap, subst, inl, inr, ◌⊎◌, List, [], ◌∷◌, ◌++◌, length, map, max, set, Bool, true, false, Option, Some, None, append_assoc, arith, nat_tests, fold-append, append_cancel_left, same_Some, slice_get_within, slice_get, fold, zip, nat_lt, IfSome, Answer, Pair, Header, Batch, Call, Hints, Script, Mark, Meet, Offer, Reply, StepErr, Memory, after, needed_now, Setting, Counted, after_puts, get_post, meeting, told, Going, advance, after_mark, hears, offers_of, Begins, counted, puts_in, Arrived, Stand, heard, step_to, point, HasSaid, AllSay, HasReached, AreAnswers, HaveAnswers, HaveHeardInPart, KeepAnswers, all_between, asking, between, calls_of, reply_of, AreFreed, HasHeard, HaveArrived, HaveMet, AreRunners, Stage, Leads, IsLed, HasLed, arrived, arrived_all, stand_of, batches_of, held_offers, known_of, met, Runner, if_some_at, entry_below, entry_map, raised_records, gone_up}
 use Rattle.turn_run.proofs.AloneLaws.{arrived_held}
 use Rattle.turn_run.proofs.MeetDone.{heard_before}
 use Rattle.turn_run.proofs.MeetOffers.{meets_at, AllHold}
@@ -39,11 +8,6 @@ use Rattle.turn_run.proofs.SaidLaws.{arrived_said, begins_heard, begins_up, said
 use Rattle.turn_run.proofs.RunnerLaws.{heard_runner}
 use Rattle.turn_run.proofs.StageLaws.{led_then}
 use Rattle.turn_run.proofs.TurnSteps.{calls_there, get_arrived, set_each}
-use Rattle.list_laws.proofs.Optional.{if_some_at}
-use Rattle.list_laws.proofs.Places.{entry_below}
-use Rattle.list_laws.proofs.Maps.{entry_map}
-use Rattle.serial_spec.proofs.CountLaws.{raised_records}
-use Rattle.run_laws.proofs.ArrivalLaws.{gone_up}
 
 -- ---- before its step is done
 

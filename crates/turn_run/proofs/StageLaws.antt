@@ -1,24 +1,5 @@
 -- Stages: what ranks that have gone up to their next offers have of the serial run, and steps one after another.
-use Rattle.std.proofs.Common.{◌≡◌, ℕ, refl, sym, ◌∙◌, ap, subst, List, [], ◌∷◌, ◌++◌, length, map, replicate, Option, Some, None, append_assoc}
-use Rattle.std.proofs.lemmas.List.{append-nil}
-use Rattle.std.proofs.lemmas.Grind.{fold-append}
-use Rattle.std.specs.Prelude.{fold, IfSome}
-use Rattle.nc_base.specs.declared.header.Header.{Header}
-use Rattle.nc_base.specs.declared.request.Call.{Call}
-use Rattle.nc_base.specs.declared.script.Hints.{Hints}
-use Rattle.nc_base.specs.declared.script.Script.{Script}
-use Rattle.nc_base.specs.declared.step.Mark.{Mark}
-use Rattle.nc_base.specs.declared.step.DiskCall.{DiskCall}
-use Rattle.nc_outside.specs.Told.{with_end}
-use Rattle.serial_spec.specs.FileStep.{Setting}
-use Rattle.serial_spec.specs.DeviceCalls.{run_calls}
-use Rattle.serial_spec.specs.SerialEnd.{setting_of, first_going, first_state, advance, serial_from}
-use Rattle.run_laws.specs.Arrivals.{calls_over, step_calls, step_to, Arrived, Stand, all_calls_over, ended_from}
-use Rattle.join_laws.specs.Alike.{IsLike}
-use Rattle.turn_run.specs.Stages.{arrived, arrived_all, stage, stand_of, HasLed, IsLed, Leads, LeadsAlike, Stage}
-use Rattle.turn_run.specs.Steps.{first_runner}
-use Rattle.nc_outside.proofs.ToldLaws.{with_end-with_end, with_end-nil}
-use Rattle.run_laws.proofs.ArrivalLaws.{gone_up, first_up, serial_of_arrivals, calls_of_arrivals}
+use Rattle.turn_run.proofs.Words.{◌≡◌, ℕ, refl, sym, ◌∙◌, ap, subst, List, [], ◌∷◌, ◌++◌, length, map, replicate, Option, Some, None, append_assoc, append-nil, fold-append, fold, IfSome, Header, Call, Hints, Script, Mark, DiskCall, with_end, Setting, run_calls, setting_of, first_going, first_state, advance, serial_from, calls_over, step_calls, step_to, Arrived, Stand, all_calls_over, ended_from, IsLike, arrived, arrived_all, stage, stand_of, HasLed, IsLed, Leads, LeadsAlike, Stage, first_runner, with_end-with_end, with_end-nil, gone_up, first_up, serial_of_arrivals, calls_of_arrivals}
 
 -- ---- the serial run's ranks, gone up to their next offers
 

@@ -1,38 +1,9 @@
 -- What is told of steps, one after another, and of a whole run.
-use Rattle.std.proofs.Common.{◌≡◌, ◌+◌, ℕ, suc, refl, sym, ◌∙◌, ap, subst, List, [], ◌∷◌, ◌++◌, length, map, max, replicate, set, take, true, Option, Some, None, append_assoc, length-append, arith}
-use Rattle.std.proofs.lemmas.List.{append-nil, append_cancel_left, map-append}
-use Rattle.std.proofs.lemmas.Grind.{fold-append}
-use Rattle.std.specs.Prelude.{slice_get, fold, IfSome}
-use Rattle.std.specs.List.{enumerate_from}
-use Rattle.nc_base.specs.declared.header.Header.{Header}
-use Rattle.nc_base.specs.declared.plan.Batch.{Batch}
-use Rattle.nc_base.specs.declared.request.Call.{Call}
-use Rattle.nc_base.specs.declared.script.Hints.{Hints}
-use Rattle.nc_base.specs.declared.script.Script.{Script}
-use Rattle.nc_base.specs.declared.step.DiskCall.{DiskCall}
-use Rattle.nc_base.specs.declared.step.Mark.{Mark}
-use Rattle.nc_base.specs.declared.step.Mark.TheVariants.{Meet, Solo}
-use Rattle.nc_base.specs.declared.step.Offer.{Offer}
-use Rattle.nc_outside.specs.Told.{with_end}
-use Rattle.serial_spec.specs.Owner.{needed_now}
-use Rattle.serial_spec.specs.FileStep.{Counted, Setting}
-use Rattle.serial_spec.specs.Lawful.{is_lawful}
-use Rattle.serial_spec.specs.Readings.{told_of}
-use Rattle.serial_spec.specs.SerialEnd.{Going, after_mark, first_state, setting_of}
-use Rattle.collective_round.specs.Rounds.{counted, puts_in}
-use Rattle.run_laws.specs.Arrivals.{step_to, Arrived, Stand}
-use Rattle.turn_run.specs.Known.{point}
-use Rattle.turn_run.specs.Stages.{arrived_all, stage, stand_of, HasGone, HasLed, IsLed, Stage, rank_stage}
-use Rattle.turn_run.specs.Steps.{batches_of, first_runner, held_offers, known_of}
-use Rattle.turn_run.specs.Told.{counts_along, told_marks, told_over, HasTold, HasToldMore}
-use Rattle.turn_run.specs.declared.runners.Runner.{Runner}
+use Rattle.turn_run.proofs.Words.{◌≡◌, ◌+◌, ℕ, suc, refl, sym, ◌∙◌, ap, subst, List, [], ◌∷◌, ◌++◌, length, map, max, replicate, set, take, true, Option, Some, None, append_assoc, length-append, arith, append-nil, append_cancel_left, map-append, fold-append, slice_get, fold, IfSome, enumerate_from, Header, Batch, Call, Hints, Script, DiskCall, Mark, Meet, Solo, Offer, with_end, needed_now, Counted, Setting, is_lawful, told_of, Going, after_mark, first_state, setting_of, counted, puts_in, step_to, Arrived, Stand, point, arrived_all, stage, stand_of, HasGone, HasLed, IsLed, Stage, rank_stage, batches_of, first_runner, held_offers, known_of, counts_along, told_marks, told_over, HasTold, HasToldMore, Runner, entry_set, with_end-with_end, with_end-nil, gone_up, arrival_step}
 use Rattle.turn_run.proofs.CutLaws.{solo_at}
 use Rattle.turn_run.proofs.CutMeet.{meet_at, met_count}
 use Rattle.turn_run.proofs.MeetOffers.{AllHold}
 use Rattle.turn_run.proofs.TurnRuns.{first_stage}
-use Rattle.list_laws.proofs.Places.{entry_set}
-use Rattle.nc_outside.proofs.ToldLaws.{with_end-with_end, with_end-nil}
-use Rattle.run_laws.proofs.ArrivalLaws.{gone_up, arrival_step}
 
 -- ---- nothing, and one step
 

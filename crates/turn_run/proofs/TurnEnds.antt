@@ -1,32 +1,8 @@
 -- When all ranks have met, or have ended.
-use Rattle.std.proofs.Common.{◌≡◌, ℕ, zero, suc, ◌+◌, ◌<◌, refl, sym, ◌∙◌, ap, subst, List, [], ◌∷◌, ◌++◌, length, map, drop, true, Option, Some, None, arith}
-use Rattle.std.specs.Prelude.{slice_get, is_some}
-use Rattle.std.proofs.lemmas.Option.{same_Some}
-use Rattle.nc_base.specs.declared.header.Header.{Header}
-use Rattle.nc_base.specs.declared.request.Call.{Call}
-use Rattle.nc_base.specs.declared.answer.Answer.{Answer}
-use Rattle.nc_base.specs.declared.script.Script.{Script}
-use Rattle.nc_base.specs.declared.step.Mark.{Mark}
-use Rattle.nc_base.specs.declared.step.Mark.TheVariants.{Meet}
-use Rattle.nc_base.specs.declared.step.Offer.{Offer}
-use Rattle.nc_base.specs.declared.step.OfferKind.{OfferKind}
+use Rattle.turn_run.proofs.Words.{◌≡◌, ℕ, zero, suc, ◌+◌, ◌<◌, refl, sym, ◌∙◌, ap, subst, List, [], ◌∷◌, ◌++◌, length, map, drop, true, Option, Some, None, arith, slice_get, is_some, same_Some, Header, Call, Answer, Script, Mark, Meet, Offer, OfferKind, IsLegal, is_lawful, most_calls, Going, advance, meetings, IsOnWay, ranks_lawful, order_legal, together_all, together_number, meetings_met, all_between, asking, between, calls_of, going_of, AreFree, AreRunners, HasArrived, HaveArrived, HaveMet, IsMet, IsPlaced, IsPlacedWith, Arrived, arrived, arrived_all, Runner, entry_below, some_rank}
 use Rattle.nc_base.specs.declared.step.OfferKind.TheVariants as offer
-use Rattle.serial_spec.specs.History.{IsLegal}
-use Rattle.serial_spec.specs.Lawful.{is_lawful, most_calls}
 use Rattle.serial_spec.specs.RankMachine as machine
-use Rattle.serial_spec.specs.SerialEnd.{Going, advance}
-use Rattle.run_laws.specs.Ways.{meetings, IsOnWay}
-use Rattle.run_laws.proofs.LawfulLaws.{ranks_lawful}
-use Rattle.run_laws.proofs.TogetherLaws.{order_legal, together_all, together_number}
-use Rattle.run_laws.proofs.WayLaws.{meetings_met}
-use Rattle.turn_run.specs.Said.{all_between}
-use Rattle.turn_run.specs.Running.{asking, between, calls_of, going_of, AreFree, AreRunners, HasArrived, HaveArrived, HaveMet, IsMet, IsPlaced, IsPlacedWith}
-use Rattle.run_laws.specs.Arrivals.{Arrived}
-use Rattle.turn_run.specs.Stages.{arrived, arrived_all}
-use Rattle.turn_run.specs.declared.runners.Runner.{Runner}
 use Rattle.turn_run.proofs.RunnerLaws.{advance_ended}
-use Rattle.list_laws.proofs.Places.{entry_below}
-use Rattle.serial_spec.proofs.LawfulTests.{some_rank}
 
 -- ---- a rank that has arrived
 

@@ -1,16 +1,5 @@
 -- The greatest count that ranks know, of their runners and at their ends.
-use Rattle.std.proofs.Common.{◌≡◌, ℕ, zero, suc, ◌+◌, ◌<◌, refl, sym, ◌∙◌, ap, subst, inl, inr, List, [], ◌∷◌, length, map, take, max, Bool, true, false, Some, Result, Ok, Err, arith}
-use Rattle.std.proofs.lemmas.Bool.Decides.{nat_tests}
-use Rattle.std.specs.Prelude.{slice_get, slice_index_or, nat_lt, OnOk}
-use Rattle.list_laws.proofs.Maps.{map_map}
-use Rattle.nc_base.specs.declared.header.Header.{Header}
-use Rattle.nc_base.specs.declared.run.RankEnd.{RankEnd}
-use Rattle.nc_base.specs.declared.run.RankStop.{RankStop}
-use Rattle.serial_spec.specs.Layout.{greatest}
-use Rattle.serial_spec.specs.SoundHeaders.{is_sound}
-use Rattle.turn_run.specs.Counts.{IsCount, IsRise}
-use Rattle.turn_run.specs.RankEnds.{most_known_of, runner_end}
-use Rattle.turn_run.specs.declared.runners.Runner.{Runner}
+use Rattle.turn_run.proofs.Words.{◌≡◌, ℕ, zero, suc, ◌+◌, ◌<◌, refl, sym, ◌∙◌, ap, subst, inl, inr, List, [], ◌∷◌, length, map, take, max, Bool, true, false, Some, Result, Ok, Err, arith, nat_tests, slice_get, slice_index_or, nat_lt, OnOk, map_map, Header, RankEnd, RankStop, greatest, is_sound, IsCount, IsRise, most_known_of, runner_end, Runner}
 use Rattle.turn_run.proofs.CountLaws.{count_less, rise_max}
 
 -- ---- runners

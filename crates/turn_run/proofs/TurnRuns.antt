@@ -1,49 +1,10 @@
 -- The first and the last stage of a run.
-use Rattle.std.proofs.Common.{◌≡◌, ℕ, ◌<◌, ◌≤◌, refl, sym, ◌∙◌, ap, subst, List, [], ◌∷◌, ◌++◌, length, map, replicate, max, true, Option, Some, None, arith}
-use Rattle.std.proofs.lemmas.List.{length-replicate}
-use Rattle.std.specs.Prelude.{slice_get, nat_lt, fold, IfSome}
-use Rattle.nc_base.specs.declared.answer.Answer.{Answer}
-use Rattle.nc_base.specs.declared.header.Header.{Header}
-use Rattle.nc_base.specs.declared.request.Call.{Call}
-use Rattle.nc_base.specs.declared.script.Hints.{Hints}
-use Rattle.nc_base.specs.declared.script.Script.{Script}
-use Rattle.nc_base.specs.declared.step.DiskCall.{DiskCall}
-use Rattle.nc_base.specs.declared.step.Mark.{Mark}
-use Rattle.nc_outside.specs.Told.{after, with_end}
-use Rattle.serial_spec.specs.DeviceCalls.{run_calls, store_records}
-use Rattle.serial_spec.specs.FileStep.{Setting, raised}
-use Rattle.serial_spec.specs.HeaderBytes.{header_len}
-use Rattle.serial_spec.specs.SoundHeaders.{is_sound}
-use Rattle.serial_spec.specs.History.{marks}
-use Rattle.serial_spec.specs.Lawful.{is_lawful}
-use Rattle.serial_spec.specs.Layout.{end_of, greatest}
+use Rattle.turn_run.proofs.Words.{◌≡◌, ℕ, ◌<◌, ◌≤◌, refl, sym, ◌∙◌, ap, subst, List, [], ◌∷◌, ◌++◌, length, map, replicate, max, true, Option, Some, None, arith, length-replicate, slice_get, nat_lt, fold, IfSome, Answer, Header, Call, Hints, Script, DiskCall, Mark, after, with_end, run_calls, store_records, Setting, raised, header_len, is_sound, marks, is_lawful, end_of, greatest, End, advance, first_going, first_state, serial_from, setting_of, close_by, counted, blank, AreAlikeEnds, IsLike, close_alike, IsOnWay, ranks_lawful, way_begins, contents_of, HasBegun, IsCount, all_between, between, calls_of, AreFree, AreRunners, HaveArrived, IsRunner, calls_over, step_to, Arrived, Stand, all_calls_over, ended_from, arrived_all, stage, HasLed, IsLed, Leads, HasClosed, first_runner, Runner, slice_get_within, raised_records, with_end-with_end, entry_replicate, gone_up}
 use Rattle.serial_spec.specs.RankMachine as machine
-use Rattle.serial_spec.specs.SerialEnd.{End, advance, first_going, first_state, serial_from, setting_of, close_by}
-use Rattle.collective_round.specs.Rounds.{counted}
-use Rattle.join_laws.specs.Alike.{blank, AreAlikeEnds, IsLike}
-use Rattle.join_laws.proofs.StandsAlike.{close_alike}
-use Rattle.run_laws.specs.Ways.{IsOnWay}
-use Rattle.run_laws.proofs.LawfulLaws.{ranks_lawful}
-use Rattle.run_laws.proofs.WayLaws.{way_begins}
-use Rattle.turn_run.specs.Known.{contents_of}
-use Rattle.turn_run.specs.Begun.{HasBegun}
-use Rattle.turn_run.specs.Counts.{IsCount}
-use Rattle.turn_run.specs.Said.{all_between}
-use Rattle.turn_run.specs.Running.{between, calls_of, AreFree, AreRunners, HaveArrived, IsRunner}
-use Rattle.run_laws.specs.Arrivals.{calls_over, step_to, Arrived, Stand, all_calls_over, ended_from}
-use Rattle.turn_run.specs.Stages.{arrived_all, stage, HasLed, IsLed, Leads}
-use Rattle.turn_run.specs.RankEnds.{HasClosed}
-use Rattle.turn_run.specs.Steps.{first_runner}
-use Rattle.turn_run.specs.declared.runners.Runner.{Runner}
 use Rattle.turn_run.proofs.StageLaws.{calls_are, first_ranks, serial_is}
 use Rattle.turn_run.proofs.TurnKnown.{most_known}
 use Rattle.turn_run.proofs.TurnEnds.{are_over, map_ended, AreOver}
 use Rattle.turn_run.proofs.TurnSteps.{calls_there}
-use Rattle.std.proofs.lemmas.Option.{slice_get_within}
-use Rattle.serial_spec.proofs.CountLaws.{raised_records}
-use Rattle.nc_outside.proofs.ToldLaws.{with_end-with_end}
-use Rattle.list_laws.proofs.Places.{entry_replicate}
-use Rattle.run_laws.proofs.ArrivalLaws.{gone_up}
 
 -- ---- before the first step
 

@@ -1,48 +1,8 @@
 -- A run in turn as a whole: its meetings, and then the end by the ends of its ranks.
-use Rattle.std.proofs.Common.{◌≡◌, ℕ, ◌≤◌, refl, sym, ◌∙◌, ap, subst, inl, inr, ◌⊎◌, List, [], length, map, max, replicate, true, Option, Some, None, Result, Ok, Err}
-use Rattle.std.proofs.lemmas.List.{length-map}
-use Rattle.std.specs.Prelude.{fold, IfSome, OnOk}
-use Rattle.std.specs.Result.{result_err}
-use Rattle.std.specs.Int.{byte_len}
-use Rattle.list_laws.proofs.Maps.{map_map}
-use Rattle.nc_base.specs.declared.header.Header.{Header}
-use Rattle.nc_base.specs.declared.run.RankEnd.{RankEnd}
-use Rattle.nc_base.specs.declared.run.RankStop.{RankStop}
-use Rattle.nc_base.specs.declared.run.RunEnd.{RunEnd}
-use Rattle.nc_base.specs.declared.run.ServeEnd.{ServeEnd}
-use Rattle.nc_base.specs.declared.script.Script.{Script}
-use Rattle.nc_base.specs.declared.step.DiskCall.{DiskCall}
-use Rattle.nc_base.specs.declared.step.Mark.{Mark}
-use Rattle.nc_base.specs.declared.step.StepErr.{StepErr}
+use Rattle.turn_run.proofs.Words.{◌≡◌, ℕ, ◌≤◌, refl, sym, ◌∙◌, ap, subst, inl, inr, ◌⊎◌, List, [], length, map, max, replicate, true, Option, Some, None, Result, Ok, Err, length-map, fold, IfSome, OnOk, result_err, byte_len, map_map, Header, RankEnd, RankStop, RunEnd, ServeEnd, Script, DiskCall, Mark, StepErr, Rose, with_end, BothTold, rose_before, run_calls, raised, count_width, IsLegal, is_lawful, is_sound, End, serial_from, setting_of, IsCutRun, IsTorn, raised_records, as_setting, counted, all_calls_over, ended_from, step_to, ranks_lawful, point, contents_of, seen, HasBegun, IsCount, HasStopped, IsNext, most_known_of, runner_end, EndedAt, HasClosed, IsRun, AreFree, AreRunners, HaveArrived, all_between, AllSay, HaveAnswers, arrived_all, stage, HasLed, first_runner, Runner, blank, AreAlikeEnds, same_beside, le_two}
 use Rattle.nc_base.specs.declared.step.StepErr.TheVariants as fault
-use Rattle.nc_outside.specs.Cause.{Rose}
-use Rattle.nc_outside.specs.Told.{with_end, BothTold}
-use Rattle.nc_outside.proofs.ToldLaws.{rose_before}
-use Rattle.serial_spec.specs.DeviceCalls.{run_calls}
-use Rattle.serial_spec.specs.FileStep.{raised}
-use Rattle.serial_spec.specs.HeaderBytes.{count_width}
-use Rattle.serial_spec.specs.History.{IsLegal}
-use Rattle.serial_spec.specs.Lawful.{is_lawful}
-use Rattle.serial_spec.specs.SoundHeaders.{is_sound}
 use Rattle.serial_spec.specs.RankMachine as machine
-use Rattle.serial_spec.specs.SerialEnd.{End, serial_from, setting_of}
-use Rattle.serial_spec.specs.Torn.{IsCutRun, IsTorn}
-use Rattle.serial_spec.proofs.CountLaws.{raised_records}
-use Rattle.collective_round.specs.Rounds.{as_setting, counted}
-use Rattle.run_laws.specs.Arrivals.{all_calls_over, ended_from, step_to}
-use Rattle.run_laws.proofs.LawfulLaws.{ranks_lawful}
-use Rattle.turn_run.specs.Known.{point, contents_of, seen}
-use Rattle.turn_run.specs.Begun.{HasBegun}
-use Rattle.turn_run.specs.Counts.{IsCount}
-use Rattle.turn_run.specs.Cuts.{HasStopped, IsNext}
-use Rattle.turn_run.specs.RankEnds.{most_known_of, runner_end, EndedAt, HasClosed}
 use Rattle.turn_run.specs.RankEnds.EndedAt.{as_left, in_close as in_closing}
-use Rattle.turn_run.specs.Run.{IsRun}
-use Rattle.turn_run.specs.Running.{AreFree, AreRunners, HaveArrived}
-use Rattle.turn_run.specs.Said.{all_between, AllSay, HaveAnswers}
-use Rattle.turn_run.specs.Stages.{arrived_all, stage, HasLed}
-use Rattle.turn_run.specs.Steps.{first_runner}
-use Rattle.turn_run.specs.declared.runners.Runner.{Runner}
 use Rattle.turn_run.proofs.CutEnds.{same_cause, unbegun_run}
 use Rattle.turn_run.proofs.CutRuns.{cut_answers, cut_rows, cut_run, ends_as, ends_before, ends_between, ends_closing, ends_same, ends_stood, no_answers, no_rows, stood_first, EndsAt}
 use Rattle.turn_run.proofs.EndedLaws.{Closing, EndOfCut}
@@ -52,9 +12,6 @@ use Rattle.turn_run.proofs.TurnCauses.{rose_later}
 use Rattle.turn_run.proofs.TurnEnds.{are_over, ended_legal}
 use Rattle.turn_run.proofs.TurnKnown.{ends_known, most_known, most_rise, rise_sound}
 use Rattle.turn_run.proofs.TurnRuns.{alike_ended, calls_from_first, first_free, if_told, none_begun, run_ended, serial_from_first, told_end, IsClosed}
-use Rattle.join_laws.specs.Alike.{blank, AreAlikeEnds}
-use Rattle.join_laws.proofs.StandsAlike.{same_beside}
-use Rattle.list_laws.proofs.Numbers.{le_two}
 
 -- ---- how it went
 

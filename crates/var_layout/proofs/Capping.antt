@@ -1,13 +1,5 @@
 -- Capped sums and products, one step at a time.
-use Rattle.std.proofs.Common.{◌≡◌, ℕ, zero, suc, ◌+◌, ◌*◌, ◌^◌, ◌<◌, ◌≤◌, List, [], ◌∷◌, ◌++◌, length, take, get_or, map, Bool, true, false, cond, sym, ap, ◌∙◌, arith, inl, inr, ◌⊎◌, max}
-use Rattle.std.specs.Prelude.{sum_by, filter}
-use Rattle.std.proofs.lemmas.List.{take_more, map-append, append-nil}
-use Rattle.std.proofs.lemmas.List.Sums.{sum_by_more, sum_by_push}
-use Rattle.std.proofs.lemmas.List.Elements.{filter_more}
-use Rattle.std.proofs.lemmas.Bool.{cases_lt}
-use Rattle.std.proofs.Math.Nat.{mul_comm, mul_assoc, mul-one}
-use Rattle.serial_spec.specs.Layout.{product, greatest}
-use Rattle.var_layout.specs.Capped.{capped}
+use Rattle.var_layout.proofs.Words.{◌≡◌, ℕ, zero, suc, ◌+◌, ◌*◌, ◌^◌, ◌<◌, ◌≤◌, List, [], ◌∷◌, ◌++◌, length, take, get_or, map, Bool, true, false, cond, sym, ap, ◌∙◌, arith, inl, inr, ◌⊎◌, max, sum_by, filter, take_more, map-append, append-nil, sum_by_more, sum_by_push, filter_more, cases_lt, mul_comm, mul_assoc, mul-one, product, greatest, capped}
 
 small : (n : ℕ) → n < 2 ^ 62 → capped n ≡ n
 small n h = omega arith

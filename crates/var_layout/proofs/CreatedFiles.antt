@@ -1,26 +1,8 @@
 -- Where the variables of a created file lie, one variable after another.
-use Rattle.std.proofs.Common.{◌≡◌, ℕ, zero, suc, ◌+◌, ◌^◌, ◌<◌, ◌≤◌, List, [], ◌∷◌, ◌++◌, length, take, drop, get_or, Bool, true, false, cond, Option, Some, None, refl, sym, ap, ◌∙◌, arith}
-use Rattle.std.specs.Prelude.{find, sum_by, not, option_map}
-use Rattle.std.specs.Option.{option_or}
-use Rattle.std.specs.List.{enumerate_from}
+use Rattle.var_layout.proofs.Words.{◌≡◌, ℕ, zero, suc, ◌+◌, ◌^◌, ◌<◌, ◌≤◌, List, [], ◌∷◌, ◌++◌, length, take, drop, get_or, Bool, true, false, cond, Option, Some, None, refl, sym, ap, ◌∙◌, arith, find, sum_by, not, option_map, option_or, enumerate_from, take_all, drop_all, append-nil, set, get_or-enumerate_from, length-enumerate_from, fold_push, and_second, Header, Var, Align, round_up, vsize, is_record, fixed_variables, record_variables, end_of_fixed, begin_of, placed, begins, header_len, Numbered, fixed_of, records_in, size_fault, layout_fault, find-append, not_from_false, not_from_true, fixed_end, first_record, lies_too_far, far_fixed, far_record, capped}
 use borrow.Author.Tests.{ltb-true}
-use Rattle.std.proofs.lemmas.List.{take_all, drop_all, append-nil}
-use Rattle.std.proofs.Math.ListN.{set}
-use Rattle.std.proofs.lemmas.List.FromFn.{get_or-enumerate_from, length-enumerate_from}
-use Rattle.std.proofs.lemmas.List.Sums.{fold_push}
-use Rattle.list_laws.proofs.Truth.{and_second}
-use Rattle.nc_base.specs.declared.header.Header.{Header}
-use Rattle.nc_base.specs.declared.header.Var.{Var}
-use Rattle.nc_base.specs.declared.script.Align.{Align}
-use Rattle.serial_spec.specs.Layout.{round_up, vsize, is_record, fixed_variables, record_variables, end_of_fixed, begin_of, placed, begins}
-use Rattle.serial_spec.specs.HeaderBytes.{header_len}
-use Rattle.serial_spec.specs.Redefinition.{Numbered, fixed_of, records_in, size_fault, layout_fault}
 use Rattle.nc_base.specs.declared.errors.LayoutErr.TheVariants as fault
-use Rattle.std.proofs.lemmas.List.Folds.{find-append}
-use Rattle.std.proofs.lemmas.Bool.{not_from_false, not_from_true}
-use Rattle.var_layout.specs.Begins.{fixed_end, first_record, lies_too_far, far_fixed, far_record}
 use Rattle.var_layout.proofs.Capping.{filter_yes, filter_no, sum_filter_yes}
-use Rattle.var_layout.specs.Capped.{capped}
 use Rattle.var_layout.proofs.Searches.{find_stops, find_goes_on, fails_at}
 
 -- ---- the variables with their begins

@@ -1,24 +1,6 @@
 -- Rows of elements, one dimension at a time, and where elements end.
-use Rattle.std.proofs.Common.{◌≡◌, ℕ, zero, suc, ◌+◌, ◌-◌, ◌*◌, ◌^◌, ◌<◌, ◌≤◌, List, [], ◌∷◌, length, drop, get_or, map, Bool, true, false, cond, Some, refl, sym, ap, subst, ◌∙◌, arith}
-use Rattle.std.specs.Prelude.{slice_get, nat_lt, ◌==◌}
-use Rattle.std.proofs.lemmas.List.{drop_more}
-use Rattle.std.proofs.lemmas.Nat.{row_fits, mul-le}
-use Rattle.std.proofs.Math.Nat.{mul-le-mul_left}
-use Rattle.std.proofs.lemmas.Bool.Decides.{nat_tests}
-use Rattle.serial_spec.proofs.LengthLaws.{size_pos}
-use Rattle.serial_spec.proofs.RoomLaws.{slab_shared, end_fixed, slab_below}
-use Rattle.serial_spec.proofs.ApartLaws.{index_fixed, index_record}
-use Rattle.nc_base.specs.declared.header.Header.{Header}
-use Rattle.nc_base.specs.declared.header.Var.{Var}
-use Rattle.nc_base.specs.declared.header.NcType.{NcType}
-use Rattle.serial_spec.specs.ExternalForm.{size_of}
-use Rattle.serial_spec.specs.Layout.{product, greatest, is_record, inner_lengths, slab, vsize, recsize, last_share, end_of, end_of_var}
-use Rattle.serial_spec.specs.Place.{row, place, record_of, within_record, IsIndex, IsElement}
-use Rattle.serial_spec.proofs.RowLaws.{row_below}
-use Rattle.var_layout.specs.Reached.{records_for}
+use Rattle.var_layout.proofs.Words.{◌≡◌, ℕ, zero, suc, ◌+◌, ◌-◌, ◌*◌, ◌^◌, ◌<◌, ◌≤◌, List, [], ◌∷◌, length, drop, get_or, map, Bool, true, false, cond, Some, refl, sym, ap, subst, ◌∙◌, arith, slice_get, nat_lt, ◌==◌, drop_more, row_fits, mul-le, mul-le-mul_left, nat_tests, size_pos, slab_shared, end_fixed, slab_below, index_fixed, index_record, Header, Var, NcType, size_of, product, greatest, is_record, inner_lengths, slab, vsize, recsize, last_share, end_of, end_of_var, row, place, record_of, within_record, IsIndex, IsElement, row_below, records_for, header_len, is_sound}
 use Rattle.var_layout.proofs.Soundness.{Keeps, var_kept, header_short}
-use Rattle.serial_spec.specs.HeaderBytes.{header_len}
-use Rattle.serial_spec.specs.SoundHeaders.{is_sound}
 use borrow.Author.Tests.{ltb-true, ltb-false}
 
 -- ---- a row, one dimension at a time

@@ -1,13 +1,6 @@
 -- The end of a file by the measures of its header.
-use Rattle.std.proofs.Common.{◌≡◌, ℕ, zero, suc, ◌+◌, ◌-◌, ◌*◌, ◌<◌, ◌≤◌, List, [], ◌∷◌, map, Bool, true, false, cond, refl, ap, ◌∙◌, arith, inl, inr, ◌⊎◌, max}
-use Rattle.nc_base.specs.declared.header.Header.{Header}
-use Rattle.nc_base.specs.declared.header.Var.{Var}
-use Rattle.serial_spec.specs.HeaderBytes.{header_len}
-use Rattle.serial_spec.specs.Layout.{greatest, is_record, vsize, last_share, recsize, record_size, record_variables, slab, end_of, end_of_var}
-use Rattle.var_layout.specs.Capped.{capped}
-use Rattle.var_layout.specs.Measures.{first_end, record_end}
+use Rattle.var_layout.proofs.Words.{◌≡◌, ℕ, zero, suc, ◌+◌, ◌-◌, ◌*◌, ◌<◌, ◌≤◌, List, [], ◌∷◌, map, Bool, true, false, cond, refl, ap, ◌∙◌, arith, inl, inr, ◌⊎◌, max, Header, Var, header_len, greatest, is_record, vsize, last_share, recsize, record_size, record_variables, slab, end_of, end_of_var, capped, first_end, record_end, equal_suc}
 use Rattle.var_layout.proofs.Capping.{capped_times}
-use Rattle.list_laws.proofs.Truth.{equal_suc}
 
 -- ---- later records move the ends of the record variables alone
 

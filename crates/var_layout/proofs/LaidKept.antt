@@ -1,15 +1,5 @@
 -- What the begins that a layout gives leave as it was: sums and tests over the variables, and the length of the header.
-use Rattle.std.proofs.Common.{◌≡◌, ℕ, zero, suc, ◌+◌, ◌-◌, List, [], ◌∷◌, length, take, Bool, ◌&&◌, ◌||◌, refl, sym, ap, ◌∙◌, arith}
-use Rattle.std.specs.Prelude.{sum_by, nat_le}
-use Rattle.std.specs.List.{list_any, list_all}
-use Rattle.std.proofs.lemmas.List.Sums.{sum_by-cons}
-use Rattle.nc_base.specs.declared.header.Header.{Header}
-use Rattle.nc_base.specs.declared.header.Var.{Var}
-use Rattle.nc_base.specs.declared.script.Align.{Align}
-use Rattle.serial_spec.specs.Limits.{most_dims, most_vars, most_dims_of_var}
-use Rattle.serial_spec.specs.Layout.{placed, begins, begin_of}
-use Rattle.serial_spec.specs.HeaderBytes.{header_len, variable}
-use Rattle.serial_spec.specs.SoundHeaders.{counts_are_small}
+use Rattle.var_layout.proofs.Words.{◌≡◌, ℕ, zero, suc, ◌+◌, ◌-◌, List, [], ◌∷◌, length, take, Bool, ◌&&◌, ◌||◌, refl, sym, ap, ◌∙◌, arith, sum_by, nat_le, list_any, list_all, sum_by-cons, Header, Var, Align, most_dims, most_vars, most_dims_of_var, placed, begins, begin_of, header_len, variable, counts_are_small}
 use Rattle.var_layout.proofs.WrittenLengths.{list_len, variable_len, canon_len}
 use Rattle.var_layout.proofs.CreatedFiles.{at_begin, in_place, length-placed}
 

@@ -1,23 +1,6 @@
 -- A laid out header is sound.
-use Rattle.std.proofs.Common.{◌≡◌, ℕ, ◌+◌, ◌-◌, ◌^◌, ◌<◌, ◌≤◌, List, [], ◌∷◌, length, Bool, true, false, cond, ◌&&◌, ◌||◌, Some, None, refl, sym, ap, ◌∙◌, arith}
-use Rattle.std.specs.Prelude.{not, nat_lt, nat_le, ◌==◌, option_map, is_none, position}
-use Rattle.std.specs.List.{list_any, prefix_len}
-use Rattle.std.specs.Int.{w32, w64, byte_len}
-use Rattle.std.proofs.lemmas.Bool.Decides.{nat_tests}
-use Rattle.std.proofs.lemmas.Bool.{or_parts, not-true, and_from}
-use Rattle.list_laws.proofs.Truth.{and_first, and_second}
-use Rattle.list_laws.proofs.Optional.{neither_some}
-use Rattle.nc_base.specs.declared.header.Header.{Header}
-use Rattle.nc_base.specs.declared.script.Align.{Align}
+use Rattle.var_layout.proofs.Words.{◌≡◌, ℕ, ◌+◌, ◌-◌, ◌^◌, ◌<◌, ◌≤◌, List, [], ◌∷◌, length, Bool, true, false, cond, ◌&&◌, ◌||◌, Some, None, refl, sym, ap, ◌∙◌, arith, not, nat_lt, nat_le, ◌==◌, option_map, is_none, position, list_any, prefix_len, w32, w64, byte_len, nat_tests, or_parts, not-true, and_from, and_first, and_second, neither_some, Header, Align, most_header_bytes, record_limit, sharing, placed, begins, header_len, is_version, all_ones, first_check, two_record_dims, record_later, bad_id, is_too_large, is_sound, counts_are_small, HasPlace, is_unplaced}
 use Rattle.nc_base.specs.declared.errors.HeaderErr.TheVariants as fault
-use Rattle.serial_spec.specs.Limits.{most_header_bytes, record_limit}
-use Rattle.serial_spec.specs.Layout.{sharing, placed, begins}
-use Rattle.serial_spec.specs.HeaderBytes.{header_len, is_version}
-use Rattle.serial_spec.specs.HeaderGrammar.{all_ones}
-use Rattle.serial_spec.specs.HeaderFaults.{first_check, two_record_dims, record_later, bad_id, is_too_large}
-use Rattle.serial_spec.specs.SoundHeaders.{is_sound, counts_are_small}
-use Rattle.var_layout.specs.Begins.{HasPlace}
-use Rattle.var_layout.specs.Unplaced.{is_unplaced}
 use Rattle.var_layout.proofs.LaidKept.{placed_any, laid_len, counts_kept}
 use Rattle.var_layout.proofs.LaidPlaces.{laid_measure}
 use Rattle.var_layout.proofs.LaidApart.{laid_sharing}

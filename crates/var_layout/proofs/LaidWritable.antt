@@ -1,28 +1,7 @@
 -- A laid out header can be written where its names, types and attributes can.
-use Rattle.std.proofs.Common.{◌≡◌, ℕ, suc, ◌+◌, ◌-◌, ◌*◌, ◌^◌, ◌<◌, ◌≤◌, List, [], ◌∷◌, length, Bool, true, false, cond, ◌&&◌, Option, Some, None, refl, sym, ap, ◌∙◌, arith}
-use Rattle.std.specs.Prelude.{not, nat_lt, nat_le, ◌==◌, option_map, slice_get, position}
-use Rattle.std.specs.List.{list_any, list_all, prefix_len}
-use Rattle.std.specs.Int.{Width, w32, w64, byte_len}
+use Rattle.var_layout.proofs.Words.{◌≡◌, ℕ, suc, ◌+◌, ◌-◌, ◌*◌, ◌^◌, ◌<◌, ◌≤◌, List, [], ◌∷◌, length, Bool, true, false, cond, ◌&&◌, Option, Some, None, refl, sym, ap, ◌∙◌, arith, not, nat_lt, nat_le, ◌==◌, option_map, slice_get, position, list_any, list_all, prefix_len, Width, w32, w64, byte_len, nat_tests, prefix_len_passes, slice_get_within, get_or_from_slice_get, and_from, or_parts, leb-true, both_none, and_first, and_second, passes_at, fails_at, Header, Var, Align, most_dims, most_vars, most_dims_of_var, vsize, is_record, placed, begins, begin_width, bad_id, is_sound, is_writable, is_writable_list, is_writable_dim, is_writable_attr, is_redefinable_var, is_writable_var, fits_field, fits_count, is_type, is_large_var, size_fault, lies_too_far, HasPlace, is_unplaced, has_writable_names, has_writable_parts}
 use borrow.Author.Tests.{ltb-false}
-use Rattle.std.proofs.lemmas.Bool.Decides.{nat_tests}
-use Rattle.std.proofs.lemmas.List.Sums.{prefix_len_passes}
-use Rattle.std.proofs.lemmas.Option.{slice_get_within, get_or_from_slice_get}
-use Rattle.std.proofs.lemmas.Bool.{and_from, or_parts, leb-true}
-use Rattle.list_laws.proofs.Optional.{both_none}
-use Rattle.list_laws.proofs.Truth.{and_first, and_second}
-use Rattle.list_laws.proofs.Each.{passes_at, fails_at}
-use Rattle.nc_base.specs.declared.header.Header.{Header}
-use Rattle.nc_base.specs.declared.header.Var.{Var}
-use Rattle.nc_base.specs.declared.script.Align.{Align}
 use Rattle.nc_base.specs.declared.errors.LayoutErr.TheVariants as fault
-use Rattle.serial_spec.specs.Limits.{most_dims, most_vars, most_dims_of_var}
-use Rattle.serial_spec.specs.Layout.{vsize, is_record, placed, begins}
-use Rattle.serial_spec.specs.HeaderBytes.{begin_width}
-use Rattle.serial_spec.specs.HeaderFaults.{bad_id}
-use Rattle.serial_spec.specs.SoundHeaders.{is_sound, is_writable, is_writable_list, is_writable_dim, is_writable_attr, is_redefinable_var, is_writable_var, fits_field, fits_count, is_type}
-use Rattle.serial_spec.specs.Redefinition.{is_large_var, size_fault}
-use Rattle.var_layout.specs.Begins.{lies_too_far, HasPlace}
-use Rattle.var_layout.specs.Unplaced.{is_unplaced, has_writable_names, has_writable_parts}
 use Rattle.var_layout.proofs.CreatedFiles.{in_place, near_end, fixed_fits, record_fits, length-placed}
 use Rattle.var_layout.proofs.LaidPlaces.{Lies, lies_at}
 use Rattle.var_layout.proofs.LaidApart.{get_there}

@@ -1,3 +1,4 @@
+mod Words
 pub mod Capping
 mod EndLaws
 pub mod Soundness

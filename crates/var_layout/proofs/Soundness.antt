@@ -1,24 +1,7 @@
 -- What a sound header bounds.
-use Rattle.std.proofs.Common.{◌≡◌, ℕ, zero, suc, ◌+◌, ◌-◌, ◌*◌, ◌^◌, ◌<◌, ◌≤◌, List, [], ◌∷◌, length, take, drop, get_or, map, Bool, true, false, cond, ◌&&◌, ◌||◌, Option, Some, None, refl, sym, ap, subst, ◌∙◌, arith}
-use Rattle.std.specs.Prelude.{count_by, sum_by, not, nat_lt, nat_le, ◌==◌, slice_get, IfSome}
+use Rattle.var_layout.proofs.Words.{◌≡◌, ℕ, zero, suc, ◌+◌, ◌-◌, ◌*◌, ◌^◌, ◌<◌, ◌≤◌, List, [], ◌∷◌, length, take, drop, get_or, map, Bool, true, false, cond, ◌&&◌, ◌||◌, Option, Some, None, refl, sym, ap, subst, ◌∙◌, arith, count_by, sum_by, not, nat_lt, nat_le, ◌==◌, slice_get, IfSome, nat_tests, take_all, drop_more, length-map, length-filter, sum_by-cons, sum_by_more, not-false, slab_below, none_of_test, both_none, untold, told_unless, and_first, and_second, or_first_false, Header, Var, file_limit, slab, vsize, is_record, recsize, record_size, record_slabs, record_variables, record_share, last_share, round_up, header_len, all_ones, first_check, fault_if, first_with, two_record_dims, record_later, bad_id, is_too_large, measure, past_bound, keeps_bound, is_sound, capped}
 use borrow.Author.Tests.{ltb-true}
-use Rattle.std.proofs.lemmas.Bool.Decides.{nat_tests}
-use Rattle.std.proofs.lemmas.List.{take_all, drop_more, length-map}
-use Rattle.std.proofs.lemmas.List.Sums.{length-filter, sum_by-cons, sum_by_more}
-use Rattle.std.proofs.lemmas.Bool.{not-false}
-use Rattle.serial_spec.proofs.RoomLaws.{slab_below}
-use Rattle.list_laws.proofs.Optional.{none_of_test, both_none, untold, told_unless}
-use Rattle.list_laws.proofs.Truth.{and_first, and_second, or_first_false}
-use Rattle.nc_base.specs.declared.header.Header.{Header}
-use Rattle.nc_base.specs.declared.header.Var.{Var}
 use Rattle.nc_base.specs.declared.errors.HeaderErr.TheVariants as fault
-use Rattle.serial_spec.specs.Limits.{file_limit}
-use Rattle.serial_spec.specs.Layout.{slab, vsize, is_record, recsize, record_size, record_slabs, record_variables, record_share, last_share, round_up}
-use Rattle.serial_spec.specs.HeaderBytes.{header_len}
-use Rattle.serial_spec.specs.HeaderGrammar.{all_ones}
-use Rattle.serial_spec.specs.HeaderFaults.{first_check, fault_if, first_with, two_record_dims, record_later, bad_id, is_too_large, measure, past_bound, keeps_bound}
-use Rattle.serial_spec.specs.SoundHeaders.{is_sound}
-use Rattle.var_layout.specs.Capped.{capped}
 
 -- ---- each variable keeps its bound
 

@@ -1,15 +1,5 @@
 -- How long the parts of a written header are.
-use Rattle.std.proofs.Common.{◌≡◌, ℕ, ◌+◌, ◌*◌, ◌≤◌, List, [], ◌∷◌, ◌++◌, length, take, Bool, true, false, cond, refl, sym, ap, ◌∙◌, arith}
-use Rattle.std.specs.Prelude.{sum_by, ◌==◌, flat_map}
-use Rattle.std.specs.Int.{w32, w64, byte_len, to_be_bytes}
-use Rattle.std.proofs.lemmas.List.{length-append, take_all}
-use Rattle.std.proofs.lemmas.List.Concat.{length-flat_map}
-use Rattle.serial_spec.proofs.KeepLaws.{count_long}
-use Rattle.nc_base.specs.declared.header.Header.{Header}
-use Rattle.nc_base.specs.declared.header.Var.{Var}
-use Rattle.serial_spec.specs.Layout.{vsize}
-use Rattle.serial_spec.specs.HeaderBytes.{count, count_width, begin_width, tag, list_of, name, number_of, dimension, attribute, variable, magic, canon, header_len}
-use Rattle.var_layout.specs.Capped.{capped}
+use Rattle.var_layout.proofs.Words.{◌≡◌, ℕ, ◌+◌, ◌*◌, ◌≤◌, List, [], ◌∷◌, ◌++◌, length, take, Bool, true, false, cond, refl, sym, ap, ◌∙◌, arith, sum_by, ◌==◌, flat_map, w32, w64, byte_len, to_be_bytes, length-append, take_all, length-flat_map, count_long, Header, Var, vsize, count, count_width, begin_width, tag, list_of, name, number_of, dimension, attribute, variable, magic, canon, header_len, capped}
 
 pub list_len : {A : Type 0} (version t : ℕ) (entry : A → List ℕ) (xs : List A)
     → length (list_of version t entry xs) ≡ 4 + byte_len (count_width version) + sum_by (λ x. length (entry x)) xs

@@ -1,20 +1,6 @@
 -- What is known of a region that a check accepts.
-use Rattle.std.proofs.Common.{◌≡◌, ℕ, ◌^◌, ◌<◌, ◌≤◌, ◌∙◌, ap, sym, refl, length, Bool, true, false, not, cond, ltb, leb, eqb, ◌||◌, ◌&&◌, Option, Some, arith}
-use Rattle.std.specs.Prelude.{slice_get}
-use Rattle.std.specs.List.{list_any}
-use Rattle.std.proofs.lemmas.Bool.{or_parts, leb-false}
-use Rattle.nc_base.specs.declared.header.Header.{Header}
-use Rattle.nc_base.specs.declared.header.Var.{Var}
-use Rattle.nc_base.specs.declared.request.Region.{Region}
-use Rattle.nc_base.specs.declared.request.Direction.{Direction}
-use Rattle.nc_base.specs.declared.answer.Code.{Code}
+use Rattle.vara_extents.proofs.Words.{◌≡◌, ℕ, ◌^◌, ◌<◌, ◌≤◌, ◌∙◌, ap, sym, refl, length, Bool, true, false, not, cond, ltb, leb, eqb, ◌||◌, ◌&&◌, Option, Some, arith, slice_get, list_any, or_parts, leb-false, Header, Var, Region, Direction, Code, header_len, product, end_of, most_elements, record_limit, file_limit, records_of, check_some, check_var, bounds, other_shape, some_start, some_edge, asks_too_much, last_position, IsAccepted}
 use Rattle.nc_base.specs.declared.answer.Code.TheVariants as code
-use Rattle.serial_spec.specs.HeaderBytes.{header_len}
-use Rattle.serial_spec.specs.Layout.{product, end_of}
-use Rattle.serial_spec.specs.Limits.{most_elements, record_limit, file_limit}
-use Rattle.serial_spec.specs.Records.{records_of}
-use Rattle.serial_spec.specs.RegionCheck.{check_some, check_var, bounds, other_shape, some_start, some_edge, asks_too_much, last_position}
-use Rattle.vara_extents.specs.Accepted.{IsAccepted}
 
 passes : (b : Bool) (c rest : Code) → (c ≡ code.Ok → ⊥) → cond b c rest ≡ code.Ok → (b ≡ false) × (rest ≡ code.Ok)
 passes true c rest n h = absurd (n h)

@@ -1,14 +1,5 @@
 -- Two boxes share an element exactly where their ranges meet in each dimension.
-use Rattle.std.proofs.Common.{◌≡◌, ℕ, zero, suc, ◌+◌, ◌*◌, ◌<◌, ◌≤◌, ◌∙◌, ap, sym, refl, inl, inr, ◌⊎◌, List, [], ◌∷◌, length, map, Bool, true, false, ltb, leb, eqb, ◌||◌, ◌&&◌, max, min, replicate, arith}
-use Rattle.std.specs.Prelude.{flat_map, bytes_eq}
-use Rattle.std.specs.List.{list_any, range_with_len}
-use Rattle.std.proofs.lemmas.Bool.{ltb-true, lt-ltb, leb-true, le-leb, eqb-true, eq-eqb, and_parts, and_from, or_cases, or_left, or_right, cases_lt, cases_eq}
-use Rattle.std.proofs.lemmas.List.Folds.{list_any-append}
-use Rattle.std.proofs.lemmas.List.{map-append}
-use Rattle.list_laws.proofs.Maps.{any_map}
-use Rattle.serial_spec.specs.Request.{coordinates, index_at}
-use Rattle.serial_spec.specs.RegionCheck.{has_index}
-use Rattle.vara_extents.specs.Boxes.{boxes_meet}
+use Rattle.vara_extents.proofs.Words.{◌≡◌, ℕ, zero, suc, ◌+◌, ◌*◌, ◌<◌, ◌≤◌, ◌∙◌, ap, sym, refl, inl, inr, ◌⊎◌, List, [], ◌∷◌, length, map, Bool, true, false, ltb, leb, eqb, ◌||◌, ◌&&◌, max, min, replicate, arith, flat_map, bytes_eq, list_any, range_with_len, ltb-true, lt-ltb, leb-true, le-leb, eqb-true, eq-eqb, and_parts, and_from, or_cases, or_left, or_right, cases_lt, cases_eq, list_any-append, map-append, any_map, coordinates, index_at, has_index, boxes_meet}
 
 same_bool : (a b : Bool) → (a ≡ true → b ≡ true) → (b ≡ true → a ≡ true) → a ≡ b
 same_bool true true f g = refl

@@ -1,11 +1,5 @@
 -- Counts and positions, one dimension more.
-use Rattle.std.proofs.Common.{◌≡◌, ℕ, ◌+◌, ◌-◌, ◌*◌, ◌<◌, ◌∙◌, ap, sym, List, length, take, get_or, zip, arith}
-use Rattle.std.specs.Prelude.{sum_by}
-use Rattle.std.proofs.lemmas.List.Sums.{sum_by_more}
-use Rattle.std.proofs.lemmas.Slice.Zip.{length-zip, get_or-zip}
-use Rattle.serial_spec.specs.Layout.{product}
-use Rattle.var_layout.specs.Capped.{capped}
-use Rattle.var_layout.proofs.Capping.{capped_product, product_more}
+use Rattle.vara_extents.proofs.Words.{◌≡◌, ℕ, ◌+◌, ◌-◌, ◌*◌, ◌<◌, ◌∙◌, ap, sym, List, length, take, get_or, zip, arith, sum_by, sum_by_more, length-zip, get_or-zip, product, capped, capped_product, product_more}
 
 pub one_farther : (counts imap : List ℕ) (i s n : ℕ) → i < length counts → length imap ≡ length counts
     → s ≡ capped (sum_by (λ (p : ℕ × ℕ). (p.0 - 1) * p.1) (take i (zip counts imap))) → n ≡ capped ((get_or counts i 0 - 1) * get_or imap i 0)

@@ -1,14 +1,5 @@
 -- Joined extents.
-use Rattle.std.proofs.Common.{◌≡◌, ℕ, zero, suc, ◌+◌, ◌*◌, ◌<◌, ◌≤◌, ◌⊎◌, inl, inr, refl, sym, ap, subst, ◌∙◌, List, [], ◌∷◌, ◌++◌, drop, Bool, cond, Some, arith}
-use Rattle.std.specs.Prelude.{slice_get}
-use Rattle.std.specs.List.{range_with_len, AllByRecursion}
-use Rattle.std.proofs.lemmas.Bool.{eq-eqb, ne_eqb, cases_eq}
-use Rattle.std.proofs.lemmas.List.{append_assoc}
-use Rattle.list_laws.proofs.Ranges.{range_append}
-use Rattle.nc_base.specs.declared.plan.Extent.{Extent}
-use Rattle.vara_extents.specs.Joined.{joined_to, joined, IsNotNext, IsJoined}
-use Rattle.serial_spec.specs.Extents.{spans}
-use Rattle.list_laws.proofs.Places.{drop_at}
+use Rattle.vara_extents.proofs.Words.{◌≡◌, ℕ, zero, suc, ◌+◌, ◌*◌, ◌<◌, ◌≤◌, ◌⊎◌, inl, inr, refl, sym, ap, subst, ◌∙◌, List, [], ◌∷◌, ◌++◌, drop, Bool, cond, Some, arith, slice_get, range_with_len, AllByRecursion, eq-eqb, ne_eqb, cases_eq, append_assoc, range_append, Extent, joined_to, joined, IsNotNext, IsJoined, spans, drop_at}
 
 -- ---- one extent before joined ones
 

@@ -1,3 +1,4 @@
+mod Words
 pub mod AcceptedLaws
 mod BoxLaws
 mod CountLaws

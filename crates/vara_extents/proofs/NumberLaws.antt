@@ -1,21 +1,6 @@
 -- The element with a number.
-use Rattle.std.proofs.Common.{◌≡◌, ℕ, zero, suc, ◌+◌, ◌*◌, ◌/◌, ◌%◌, ◌<◌, ◌≤◌, sym, ap, ◌∙◌, List, [], ◌∷◌, length, drop, Some, arith}
-use Rattle.std.specs.Prelude.{slice_get}
-use Rattle.std.proofs.lemmas.Nat.{div-add-mod', div_below, mod_below, mul-le}
-use Rattle.std.proofs.Math.Nat.{lt_of_mul-lt-mul_right}
-use Rattle.std.proofs.lemmas.List.{length-map}
-use Rattle.nc_base.specs.declared.header.Header.{Header}
-use Rattle.nc_base.specs.declared.header.Var.{Var}
-use Rattle.nc_base.specs.declared.request.Region.{Region}
-use Rattle.serial_spec.specs.ExternalForm.{size_of}
-use Rattle.serial_spec.specs.Layout.{product}
-use Rattle.serial_spec.specs.Place.{row, place, IsIndex}
-use Rattle.serial_spec.specs.Request.{coordinates, index_at, elements, places}
-use Rattle.serial_spec.proofs.ElementLaws.{length-coordinates, coordinates_at}
-use Rattle.vara_extents.specs.Joined.{element_extents, joined, joined_to}
-use Rattle.vara_extents.specs.Numbered.{coordinates_of, index_of, AreRuns}
+use Rattle.vara_extents.proofs.Words.{◌≡◌, ℕ, zero, suc, ◌+◌, ◌*◌, ◌/◌, ◌%◌, ◌<◌, ◌≤◌, sym, ap, ◌∙◌, List, [], ◌∷◌, length, drop, Some, arith, slice_get, div-add-mod', div_below, mod_below, mul-le, lt_of_mul-lt-mul_right, length-map, Header, Var, Region, size_of, product, row, place, IsIndex, coordinates, index_at, elements, places, length-coordinates, coordinates_at, element_extents, joined, joined_to, coordinates_of, index_of, AreRuns, entry_map}
 use Rattle.vara_extents.proofs.JoinLaws.{run_joined}
-use Rattle.list_laws.proofs.Maps.{entry_map}
 
 some_counts : (n p k : ℕ) → k < n * p → 1 ≤ p
 some_counts n zero k h = absurd (omega arith)

@@ -1,34 +1,10 @@
 -- No byte of an accepted region stands twice.
-use Rattle.std.proofs.Common.{◌≡◌, ℕ, zero, suc, ◌+◌, ◌*◌, ◌/◌, ◌%◌, ◌<◌, ◌≤◌, ◌⊎◌, inl, inr, refl, sym, ap, subst, ◌∙◌, List, [], ◌∷◌, ◌++◌, length, map, true, false, eqb, Option, Some, None, arith}
-use Rattle.std.specs.Prelude.{slice_get, flat_map}
-use Rattle.std.specs.List.{range_with_len, list_any}
-use Rattle.std.proofs.lemmas.Bool.{or_parts, eqb-false, cases_eq}
-use Rattle.std.proofs.lemmas.Nat.{div-add-mod', mod_below}
-use Rattle.std.proofs.lemmas.Option.{slice_get_within, same_Some}
-use Rattle.std.proofs.lemmas.List.FromFn.{length-range_with_len}
-use Rattle.serial_spec.proofs.LengthLaws.{size_pos}
-use Rattle.list_laws.proofs.Numbers.{same_factor}
-use Rattle.nc_base.specs.declared.header.Header.{Header}
-use Rattle.nc_base.specs.declared.header.Var.{Var}
-use Rattle.nc_base.specs.declared.plan.Post.{Post}
-use Rattle.nc_base.specs.declared.request.Region.{Region}
-use Rattle.serial_spec.specs.ExternalForm.{size_of}
-use Rattle.serial_spec.specs.SoundHeaders.{is_sound}
-use Rattle.serial_spec.specs.Layout.{product}
-use Rattle.serial_spec.specs.Place.{row, place, IsIndex, AreApart}
-use Rattle.serial_spec.specs.Request.{index_at, places}
-use Rattle.serial_spec.specs.SharedByte.{bytes_of, bytes_of_some}
+use Rattle.vara_extents.proofs.Words.{◌≡◌, ℕ, zero, suc, ◌+◌, ◌*◌, ◌/◌, ◌%◌, ◌<◌, ◌≤◌, ◌⊎◌, inl, inr, refl, sym, ap, subst, ◌∙◌, List, [], ◌∷◌, ◌++◌, length, map, true, false, eqb, Option, Some, None, arith, slice_get, flat_map, range_with_len, list_any, or_parts, eqb-false, cases_eq, div-add-mod', mod_below, slice_get_within, same_Some, length-range_with_len, size_pos, same_factor, Header, Var, Post, Region, size_of, is_sound, product, row, place, IsIndex, AreApart, index_at, places, bytes_of, bytes_of_some, elements_apart, IsAccepted, extents_of, element_extents, spans, IsOnce, coordinates_of, index_of, get_left, get_right}
 use Rattle.serial_spec.proofs.AcceptLaws as accept
-use Rattle.serial_spec.proofs.ApartLaws.{elements_apart}
-use Rattle.vara_extents.specs.Accepted.{IsAccepted}
-use Rattle.vara_extents.specs.Joined.{extents_of, element_extents}
-use Rattle.serial_spec.specs.Extents.{spans, IsOnce}
-use Rattle.vara_extents.specs.Numbered.{coordinates_of, index_of}
 use Rattle.vara_extents.proofs.AcceptedLaws.{passed}
 use Rattle.vara_extents.proofs.JoinLaws.{joined_spans}
 use Rattle.vara_extents.proofs.NumberLaws.{numbered_index, numbered_row, place_at, length-places}
 use Rattle.vara_extents.proofs.PlaceLaws.{accepted_var, accepted_place}
-use Rattle.list_laws.proofs.Places.{get_left, get_right}
 
 -- ---- blocks of one length
 

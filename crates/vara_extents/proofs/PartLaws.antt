@@ -1,24 +1,7 @@
 -- Parts of one call: the first refusal, the elements that two of them share, and the code of all.
-use Rattle.std.proofs.Common.{◌≡◌, ℕ, ◌+◌, ◌<◌, ◌≤◌, ◌∙◌, ap, sym, refl, inl, inr, ◌⊎◌, List, [], ◌∷◌, length, map, take, get_or, Bool, true, false, cond, ltb, eqb, ◌||◌, ◌&&◌, replicate, arith}
-use Rattle.std.specs.Prelude.{flat_map, sum_by, All, not}
-use Rattle.std.specs.List.{list_any}
-use Rattle.std.proofs.lemmas.Bool.{both_ways, and_parts, not-false, eqb-true, lt-ltb, le-ltb, cases_lt}
-use Rattle.std.proofs.lemmas.List.Elements.{All-nil, All-cons, All-head, All-tail, All-map}
-use Rattle.std.proofs.lemmas.List.Sums.{sum_by_more}
-use Rattle.nc_base.specs.declared.header.Header.{Header}
-use Rattle.nc_base.specs.declared.header.Var.{Var}
-use Rattle.nc_base.specs.declared.request.Part.{Part}
-use Rattle.nc_base.specs.declared.request.Region.{Region}
-use Rattle.nc_base.specs.declared.request.Direction.{Direction}
-use Rattle.nc_base.specs.declared.answer.Code.{Code}
+use Rattle.vara_extents.proofs.Words.{◌≡◌, ℕ, ◌+◌, ◌<◌, ◌≤◌, ◌∙◌, ap, sym, refl, inl, inr, ◌⊎◌, List, [], ◌∷◌, length, map, take, get_or, Bool, true, false, cond, ltb, eqb, ◌||◌, ◌&&◌, replicate, arith, flat_map, sum_by, All, list_any, both_ways, and_parts, not-false, eqb-true, lt-ltb, le-ltb, cases_lt, All-nil, All-cons, All-head, All-tail, All-map, sum_by_more, Header, Var, Part, Region, Direction, Code, product, most_elements, elements, coordinates, index_at, check_var, check_parts, first_refusal, is_ok_code, is_put, has_index, part_region, share_element, elements_of_all, capped, boxes_meet, meets_any, some_meet, IsBox, code_by_boxes, refusal_of, together_code}
+use Rattle.std.specs.Prelude.{not}
 use Rattle.nc_base.specs.declared.answer.Code.TheVariants as code
-use Rattle.serial_spec.specs.Layout.{product}
-use Rattle.serial_spec.specs.Limits.{most_elements}
-use Rattle.serial_spec.specs.Request.{elements, coordinates, index_at}
-use Rattle.serial_spec.specs.RegionCheck.{check_var, check_parts, first_refusal, is_ok_code, is_put, has_index, part_region, share_element, elements_of_all}
-use Rattle.var_layout.specs.Capped.{capped}
-use Rattle.vara_extents.specs.Boxes.{boxes_meet, meets_any, some_meet, IsBox}
-use Rattle.vara_extents.specs.Parts.{code_by_boxes, refusal_of, together_code}
 use Rattle.vara_extents.proofs.AcceptedLaws.{passed}
 use Rattle.vara_extents.proofs.BoxLaws.{box, boxes_share, any_of}
 

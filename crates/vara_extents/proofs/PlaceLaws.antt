@@ -1,31 +1,6 @@
 -- Where the elements of an accepted region lie.
-use Rattle.std.proofs.Common.{◌≡◌, ℕ, ◌+◌, ◌^◌, ◌<◌, ◌≤◌, sym, ap, ◌∙◌, List, [], ◌∷◌, map, true, false, not, ltb, leb, ◌||◌, ◌&&◌, Option, Some, arith}
-use Rattle.std.specs.Prelude.{slice_get}
-use Rattle.std.proofs.lemmas.Bool.{or_parts, leb-false, ltb-false}
-use Rattle.std.proofs.lemmas.Nat.{mul-le}
-use Rattle.serial_spec.proofs.LengthLaws.{size_pos}
-use Rattle.list_laws.proofs.Each.{each_map, each_weaker, each_at}
-use Rattle.nc_base.specs.declared.header.Header.{Header}
-use Rattle.nc_base.specs.declared.header.Var.{Var}
-use Rattle.nc_base.specs.declared.plan.Extent.{Extent}
-use Rattle.nc_base.specs.declared.request.Region.{Region}
+use Rattle.vara_extents.proofs.Words.{◌≡◌, ℕ, ◌+◌, ◌^◌, ◌<◌, ◌≤◌, sym, ap, ◌∙◌, List, [], ◌∷◌, map, true, false, not, ltb, leb, ◌||◌, ◌&&◌, Option, Some, arith, slice_get, or_parts, leb-false, ltb-false, mul-le, size_pos, each_map, each_weaker, each_at, Header, Var, Extent, Region, size_of, header_len, is_sound, product, end_of, inner_lengths, is_record, recsize, most_elements, record_limit, file_limit, place, within_record, IsElement, IsElementBelow, records_of, check_some, check_var, asks_too_much, last_position, elements, places, accepted_elements, slab_fits, index_record, element_inside, product_pos, IsAccepted, element_extents, extents_of, index_of}
 use Rattle.nc_base.specs.declared.answer.Code.TheVariants as code
-use Rattle.serial_spec.specs.ExternalForm.{size_of}
-use Rattle.serial_spec.specs.HeaderBytes.{header_len}
-use Rattle.serial_spec.specs.SoundHeaders.{is_sound}
-use Rattle.serial_spec.specs.Layout.{product, end_of, inner_lengths, is_record, recsize}
-use Rattle.serial_spec.specs.Limits.{most_elements, record_limit, file_limit}
-use Rattle.serial_spec.specs.Place.{place, within_record, IsElement, IsElementBelow}
-use Rattle.serial_spec.specs.Records.{records_of}
-use Rattle.serial_spec.specs.RegionCheck.{check_some, check_var, asks_too_much, last_position}
-use Rattle.serial_spec.specs.Request.{elements, places}
-use Rattle.serial_spec.proofs.AcceptLaws.{accepted_elements}
-use Rattle.serial_spec.proofs.ApartLaws.{slab_fits, index_record}
-use Rattle.serial_spec.proofs.RoomLaws.{element_inside}
-use Rattle.var_layout.proofs.ElementPlaces.{product_pos}
-use Rattle.vara_extents.specs.Accepted.{IsAccepted}
-use Rattle.vara_extents.specs.Joined.{element_extents, extents_of}
-use Rattle.vara_extents.specs.Numbered.{index_of}
 use Rattle.vara_extents.proofs.AcceptedLaws.{passed}
 use Rattle.vara_extents.proofs.JoinLaws.{AreSome, EndBy, joined_some, joined_end}
 use Rattle.vara_extents.proofs.NumberLaws.{element_at}

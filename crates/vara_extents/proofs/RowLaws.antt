@@ -1,18 +1,6 @@
 -- Rows of runs: in one dimension the places of runs go up by equal steps.
-use Rattle.std.proofs.Common.{◌≡◌, ℕ, zero, suc, ◌+◌, ◌*◌, ◌/◌, ◌%◌, ◌<◌, ◌≤◌, inl, inr, refl, sym, ap, subst, ◌∙◌, List, [], ◌∷◌, length, get_or, Bool, true, false, arith}
-use Rattle.std.specs.Prelude.{slice_get}
-use Rattle.std.proofs.lemmas.List.{length-map}
-use Rattle.std.proofs.lemmas.Nat.{div-mul-add, mod-mul-add, div-add-mod', mod_below, mul-le}
-use Rattle.std.proofs.Math.Nat.{mul-div_cancel, mul-mod_left}
-use Rattle.nc_base.specs.declared.header.Header.{Header}
-use Rattle.nc_base.specs.declared.header.Var.{Var}
-use Rattle.nc_base.specs.declared.request.Region.{Region}
-use Rattle.serial_spec.specs.ExternalForm.{size_of}
-use Rattle.serial_spec.specs.Layout.{product, length_of, recsize, is_record, starts_with_zero, lengths_of}
-use Rattle.serial_spec.specs.Place.{place}
+use Rattle.vara_extents.proofs.Words.{◌≡◌, ℕ, zero, suc, ◌+◌, ◌*◌, ◌/◌, ◌%◌, ◌<◌, ◌≤◌, inl, inr, refl, sym, ap, subst, ◌∙◌, List, [], ◌∷◌, length, get_or, Bool, true, false, arith, slice_get, length-map, div-mul-add, mod-mul-add, div-add-mod', mod_below, mul-le, mul-div_cancel, mul-mod_left, Header, Var, Region, size_of, product, length_of, recsize, is_record, starts_with_zero, lengths_of, place, index_at, coordinates_of, index_of, weighted, AreRuns, HaveRows}
 use Rattle.serial_spec.specs.Place as spec
-use Rattle.serial_spec.specs.Request.{index_at}
-use Rattle.vara_extents.specs.Numbered.{coordinates_of, index_of, weighted, AreRuns, HaveRows}
 use Rattle.vara_extents.proofs.RowSteps.{rest, rest_is, fixed_is, record_place_is, record_row, same_rests, split}
 use Rattle.vara_extents.proofs.RunLaws.{kept, same_runs}
 

@@ -1,21 +1,5 @@
 -- Rows and runs of elements by their numbers, one dimension more.
-use Rattle.std.proofs.Common.{◌≡◌, ℕ, zero, suc, ◌+◌, ◌-◌, ◌*◌, ◌/◌, ◌%◌, ◌^◌, ◌<◌, ◌≤◌, ◌⊎◌, min, inr, refl, sym, ap, subst, ◌∙◌, List, [], ◌∷◌, length, take, drop, get_or, true, false, arith}
-use Rattle.std.specs.Prelude.{slice_get}
-use Rattle.std.proofs.lemmas.List.{take_rest}
-use Rattle.std.proofs.lemmas.Nat.{mod_below, mul-le}
-use Rattle.std.proofs.Math.Nat.{mul-le-mul_left}
-use Rattle.std.proofs.lemmas.Bool.{eqb-true, eqb-false}
-use Rattle.serial_spec.proofs.ApartLaws.{index_fixed, index_record}
-use Rattle.nc_base.specs.declared.header.Header.{Header}
-use Rattle.nc_base.specs.declared.header.Var.{Var}
-use Rattle.nc_base.specs.declared.request.Region.{Region}
-use Rattle.serial_spec.specs.ExternalForm.{size_of}
-use Rattle.serial_spec.specs.Layout.{product, length_of, recsize, is_record, starts_with_zero, without_record, lengths_of}
-use Rattle.serial_spec.specs.Place.{row, place, record_of, within_record, HasRecord, IsIndex, IsElement}
-use Rattle.serial_spec.specs.Request.{index_at}
-use Rattle.var_layout.proofs.ElementPlaces.{product_pos, place_fixed, place_record}
-use Rattle.var_layout.specs.Capped.{capped}
-use Rattle.vara_extents.specs.Numbered.{coordinates_of, index_of, row_of, AreRuns}
+use Rattle.vara_extents.proofs.Words.{◌≡◌, ℕ, zero, suc, ◌+◌, ◌-◌, ◌*◌, ◌/◌, ◌%◌, ◌^◌, ◌<◌, ◌≤◌, ◌⊎◌, min, inr, refl, sym, ap, subst, ◌∙◌, List, [], ◌∷◌, length, take, drop, get_or, true, false, arith, slice_get, take_rest, mod_below, mul-le, mul-le-mul_left, eqb-true, eqb-false, index_fixed, index_record, Header, Var, Region, size_of, product, length_of, recsize, is_record, starts_with_zero, without_record, lengths_of, row, place, record_of, within_record, HasRecord, IsIndex, IsElement, index_at, product_pos, place_fixed, place_record, capped, coordinates_of, index_of, row_of, AreRuns}
 use Rattle.vara_extents.proofs.RunLaws.{kept, merged, same_runs, sized}
 
 -- the list after its first entry, as a pattern takes it

@@ -1,7 +1,5 @@
 -- Runs of elements, one dimension more.
-use Rattle.std.proofs.Common.{◌≡◌, ℕ, zero, suc, ◌+◌, ◌*◌, ◌/◌, ◌%◌, ◌<◌, ◌≤◌, ◌⊎◌, inl, inr, sym, ap, ◌∙◌, arith}
-use Rattle.std.proofs.lemmas.Nat.{div-mul-add, mod-mul-add, div-add-mod', div_below, mod_below, mul-le}
-use Rattle.vara_extents.specs.Numbered.{AreRuns}
+use Rattle.vara_extents.proofs.Words.{◌≡◌, ℕ, zero, suc, ◌+◌, ◌*◌, ◌/◌, ◌%◌, ◌<◌, ◌≤◌, ◌⊎◌, inl, inr, sym, ap, ◌∙◌, arith, div-mul-add, mod-mul-add, div-add-mod', div_below, mod_below, mul-le, AreRuns}
 
 pub same_runs : (f g : ℕ → ℕ) (size run total : ℕ) → ((k : ℕ) → f k ≡ g k) → AreRuns f size run total → AreRuns g size run total
 same_runs f g size run total same h = record {

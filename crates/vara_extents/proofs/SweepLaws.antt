@@ -1,26 +1,7 @@
 -- Whether regions meet is the same in any order and without those that have no element, and the sweep over regions in the order of
 -- their first elements finds it.
-use Rattle.std.proofs.Common.{◌≡◌, ℕ, zero, suc, ◌+◌, ◌*◌, ◌<◌, ◌≤◌, ◌∙◌, ap, sym, refl, inl, inr, ◌⊎◌, List, [], ◌∷◌, length, drop, get_or, subst, Bool, true, false, cond, ltb, eqb, ◌||◌, ◌&&◌, max, min, arith}
-use Rattle.std.specs.Prelude.{filter}
-use Rattle.std.specs.Cmp.Lexicographic.{slice_cmp}
-use Rattle.std.specs.Cmp.{IsStrictWeakOrder}
-use Rattle.std.specs.List.{swap, All}
-use Rattle.std.specs.List.Sorted.{IsPermutation, IsSortedBy}
-use Rattle.std.specs.Ordering.{is_lt, nat_cmp, ordering_then}
-use Rattle.std.specs.declared.cmp.Ordering.TheVariants.{Less, Equal, Greater}
-use Rattle.std.proofs.lemmas.Bool.{both_ways, ltb-true, lt-ltb, le-ltb, eqb-true, eq-eqb, and_from, and_parts, or_cases, or_left, or_right, or_parts, cases_lt, cases_eq, and_right}
-use Rattle.std.proofs.lemmas.Cmp.{nat_list_cmp_total}
-use Rattle.std.proofs.lemmas.Nat.{mul-le}
-use Rattle.std.proofs.lemmas.List.{get_or-drop, get_or_default, length-drop}
-use Rattle.std.proofs.lemmas.List.Edits.{length-swap, swapped_from_swap}
-use Rattle.std.proofs.lemmas.List.Elements.{All-head, All-tail}
-use Rattle.std.proofs.lemmas.List.Sorted.{ranks_by, sorted_far, IsPermutation-keeps, IsPermutation-sym}
-use Rattle.std.proofs.Math.Seq.{drop-cons}
-use Rattle.list_laws.proofs.Truth.{no_false}
-use Rattle.nc_base.specs.declared.request.Region.{Region}
-use Rattle.serial_spec.specs.Layout.{product}
-use Rattle.serial_spec.specs.RegionCheck.{has_element}
-use Rattle.vara_extents.specs.Boxes.{boxes_meet, is_past, meets_any, some_meet, AreByStart, BeginsBy}
+use Rattle.vara_extents.proofs.Words.{◌≡◌, ℕ, zero, suc, ◌+◌, ◌*◌, ◌<◌, ◌≤◌, ◌∙◌, ap, sym, refl, inl, inr, ◌⊎◌, List, [], ◌∷◌, length, drop, get_or, subst, Bool, true, false, cond, ltb, eqb, ◌||◌, ◌&&◌, max, min, arith, filter, slice_cmp, IsStrictWeakOrder, swap, IsPermutation, IsSortedBy, is_lt, nat_cmp, ordering_then, Less, Equal, Greater, both_ways, ltb-true, lt-ltb, le-ltb, eqb-true, eq-eqb, and_from, and_parts, or_cases, or_left, or_right, or_parts, cases_lt, cases_eq, and_right, nat_list_cmp_total, mul-le, get_or-drop, get_or_default, length-drop, length-swap, swapped_from_swap, All-head, All-tail, ranks_by, sorted_far, IsPermutation-keeps, IsPermutation-sym, drop-cons, no_false, Region, product, has_element, boxes_meet, is_past, meets_any, some_meet, AreByStart, BeginsBy}
+use Rattle.std.specs.List.{All}
 
 -- ---- past the last index of a box
 

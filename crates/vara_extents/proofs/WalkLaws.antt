@@ -1,20 +1,5 @@
 -- The extents that are left, one run after another.
-use Rattle.std.proofs.Common.{◌≡◌, ℕ, zero, suc, ◌+◌, ◌*◌, ◌/◌, ◌^◌, ◌<◌, ◌≤◌, refl, sym, ap, ◌∙◌, List, [], length, drop, true, ◌-◌, ◌%◌, inl, inr, subst, arith}
-use Rattle.std.proofs.lemmas.List.{drop_all}
-use Rattle.std.proofs.lemmas.Nat.{div-add-mod', mod_below, mul-le}
-use Rattle.std.proofs.Math.Nat.{mul-div_cancel}
-use Rattle.nc_base.specs.declared.header.Header.{Header}
-use Rattle.nc_base.specs.declared.header.Var.{Var}
-use Rattle.nc_base.specs.declared.request.Region.{Region}
-use Rattle.serial_spec.specs.ExternalForm.{size_of}
-use Rattle.serial_spec.specs.Layout.{product, recsize, is_record}
-use Rattle.serial_spec.specs.Place.{place}
-use Rattle.vara_extents.specs.declared.walk.Run.{Run}
-use Rattle.vara_extents.specs.declared.walk.Runs.{Runs}
-use Rattle.vara_extents.specs.Joined.{element_extents, extents_of, joined, joined_to}
-use Rattle.vara_extents.specs.Left.{extents_from, run_place, AreReady, IsRunOf}
-use Rattle.serial_spec.proofs.AcceptLaws.{accepted}
-use Rattle.vara_extents.specs.Numbered.{coordinates_of, index_of, weighted, AreRuns, HaveRows}
+use Rattle.vara_extents.proofs.Words.{◌≡◌, ℕ, zero, suc, ◌+◌, ◌*◌, ◌/◌, ◌^◌, ◌<◌, ◌≤◌, refl, sym, ap, ◌∙◌, List, [], length, drop, true, ◌-◌, ◌%◌, inl, inr, subst, arith, drop_all, div-add-mod', mod_below, mul-le, mul-div_cancel, Header, Var, Region, size_of, product, recsize, is_record, place, Run, Runs, element_extents, extents_of, joined, joined_to, extents_from, run_place, AreReady, IsRunOf, accepted, coordinates_of, index_of, weighted, AreRuns, HaveRows}
 use Rattle.vara_extents.proofs.RowLaws.{rows_of}
 use Rattle.vara_extents.proofs.AcceptedLaws.{passed}
 use Rattle.vara_extents.proofs.NumberLaws.{length-element_extents, run_is}

@@ -1,21 +1,5 @@
 -- Writing extent by extent is writing element by element.
-use Rattle.std.proofs.Common.{◌≡◌, ℕ, ◌+◌, ◌-◌, ◌*◌, ◌<◌, ◌≤◌, ◌⊎◌, inl, inr, refl, sym, ap, ◌∙◌, List, [], ◌∷◌, ◌++◌, length, map, take, drop, get_or, max, arith}
-use Rattle.std.proofs.lemmas.Bool.{cases_eq, cases_lt}
-use Rattle.std.proofs.lemmas.List.{drop-drop, length-append, get_or_append_left, get_or-append_right}
-use Rattle.std.proofs.Math.Seq.{take-add}
-use Rattle.std.proofs.lemmas.Grind.{common_steps, same_number_lists}
-use Rattle.nc_base.specs.declared.header.Header.{Header}
-use Rattle.nc_base.specs.declared.header.Var.{Var}
-use Rattle.nc_base.specs.declared.plan.Extent.{Extent}
-use Rattle.nc_base.specs.declared.request.Region.{Region}
-use Rattle.serial_spec.specs.ExternalForm.{size_of}
-use Rattle.serial_spec.specs.File.{written, at}
-use Rattle.serial_spec.specs.Layout.{product}
-use Rattle.serial_spec.specs.Request.{cells, places, put}
-use Rattle.serial_spec.specs.Said.{Cell, write_cells}
-use Rattle.serial_spec.proofs.FileLaws.{at-written_before, at-written_after}
-use Rattle.serial_spec.proofs.SaidLaws.{at-written_inside}
-use Rattle.vara_extents.specs.Joined.{joined_to, joined, element_extents, extents_of, cut_by}
+use Rattle.vara_extents.proofs.Words.{◌≡◌, ℕ, ◌+◌, ◌-◌, ◌*◌, ◌<◌, ◌≤◌, ◌⊎◌, inl, inr, refl, sym, ap, ◌∙◌, List, [], ◌∷◌, ◌++◌, length, map, take, drop, get_or, max, arith, cases_eq, cases_lt, drop-drop, length-append, get_or_append_left, get_or-append_right, take-add, common_steps, same_number_lists, Header, Var, Extent, Region, size_of, written, at, product, cells, places, put, Cell, write_cells, at-written_before, at-written_after, at-written_inside, joined_to, joined, element_extents, extents_of, cut_by}
 use Rattle.vara_extents.proofs.JoinLaws.{join_next, join_apart}
 use Rattle.vara_extents.proofs.NumberLaws.{length-places}
 

@@ -1,38 +1,9 @@
 -- The answer to the call of a meeting, or of a rank's own step, stands at the number of that call.
-use Rattle.std.proofs.Common.{◌≡◌, ℕ, zero, suc, ◌+◌, ◌<◌, refl, sym, ◌∙◌, ap, subst, inl, inr, ◌⊎◌, List, [], ◌∷◌, ◌++◌, length, map, set, drop, Bool, true, false, Option, Some, None, arith, append_assoc}
-use Rattle.std.proofs.lemmas.List.{length-append}
-use Rattle.std.proofs.lemmas.Option.{same_Some, slice_get_within}
-use Rattle.std.specs.Prelude.{fold, slice_get, ◌==◌}
-use Rattle.std.specs.List.{list_all}
+use Rattle.whole_run_laws.proofs.Words.{◌≡◌, ℕ, zero, suc, ◌+◌, ◌<◌, refl, sym, ◌∙◌, ap, subst, inl, inr, ◌⊎◌, List, [], ◌∷◌, ◌++◌, length, map, set, drop, Bool, true, false, Option, Some, None, arith, append_assoc, length-append, same_Some, slice_get_within, fold, slice_get, ◌==◌, list_all, entry_below, entry_set, get_left, get_right, and_first, and_second, Answer, Pair, Header, Call, Script, Mark, Meet, Solo, MeetKind, Offer, OfferKind, Want, Counted, Setting, solo, is_collective, is_of_rank_below, IsLegal, kind_of_meeting, is_lawful, Rank, step, advance, after_mark, after_meeting, after_solo, first_going, first_state, go, Going, hears, serial_from, setting_of, state_after, kinds_of, Says, step_says, ranks_lawful, state_more, hear_length, IsToldAt, meeting_call, told_at, set_cases}
 use borrow.Author.Tests.{ltb-true}
-use Rattle.list_laws.proofs.Places.{entry_below, entry_set, get_left, get_right}
-use Rattle.list_laws.proofs.Truth.{and_first, and_second}
-use Rattle.nc_base.specs.declared.answer.Answer.{Answer}
-use Rattle.nc_base.specs.declared.answer.Pair.{Pair}
-use Rattle.nc_base.specs.declared.header.Header.{Header}
-use Rattle.nc_base.specs.declared.request.Call.{Call}
-use Rattle.nc_base.specs.declared.script.Script.{Script}
-use Rattle.nc_base.specs.declared.step.Mark.{Mark}
-use Rattle.nc_base.specs.declared.step.Mark.TheVariants.{Meet, Solo}
-use Rattle.nc_base.specs.declared.step.MeetKind.{MeetKind}
-use Rattle.nc_base.specs.declared.step.Offer.{Offer}
-use Rattle.nc_base.specs.declared.step.OfferKind.{OfferKind}
 use Rattle.nc_base.specs.declared.step.OfferKind.TheVariants as offer
-use Rattle.nc_base.specs.declared.step.Want.{Want}
 use Rattle.nc_base.specs.declared.step.Want.TheVariants as want
-use Rattle.serial_spec.specs.FileStep.{Counted, Setting, solo}
-use Rattle.serial_spec.specs.History.{is_collective, is_of_rank_below, IsLegal, kind_of_meeting}
-use Rattle.serial_spec.specs.Lawful.{is_lawful}
-use Rattle.serial_spec.specs.RankMachine.{Rank, step}
-use Rattle.serial_spec.specs.SerialEnd.{advance, after_mark, after_meeting, after_solo, first_going, first_state, go, Going, hears, serial_from, setting_of, state_after}
-use Rattle.run_laws.specs.Ways.{kinds_of}
-use Rattle.run_laws.proofs.CallLaws.{Says, step_says}
-use Rattle.run_laws.proofs.LawfulLaws.{ranks_lawful}
-use Rattle.run_laws.proofs.OrderLaws.{state_more}
-use Rattle.join_laws.proofs.RankLaws.{hear_length}
 use Rattle.join_laws.proofs.WholeLaws.{get_map as mapped_from}
-use Rattle.whole_run_laws.specs.Told.{IsToldAt, meeting_call, told_at}
-use Rattle.owner_laws.proofs.HeldClients.{set_cases}
 use Rattle.whole_run_laws.proofs.Courses.{AreOn, first_on, goes_number, heard_by, hears_then, meets, meets_number, met_on, solo_on, steps}
 use Rattle.whole_run_laws.proofs.ToldLaws.{answers_after, answers_of, IsLastTold, known_mark, meeting_told, solo_told}
 use Rattle.whole_run_laws.proofs.AnswersStay.{answers_stay}

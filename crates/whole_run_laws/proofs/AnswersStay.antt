@@ -1,29 +1,7 @@
 -- What was answered at a place of an order is answered at its end.
-use Rattle.std.proofs.Common.{◌≡◌, ℕ, refl, sym, ◌∙◌, ap, subst, inl, inr, ◌⊎◌, List, [], ◌∷◌, ◌++◌, map, set, true, false, Option, Some, None, append_assoc}
-use Rattle.std.proofs.lemmas.List.{append-nil}
-use Rattle.std.proofs.lemmas.Option.{same_Some}
-use Rattle.std.proofs.lemmas.Bool.Decides.{eqb_tells}
-use Rattle.std.specs.Prelude.{fold, slice_get, ◌==◌}
-use Rattle.std.specs.List.{list_all}
+use Rattle.whole_run_laws.proofs.Words.{◌≡◌, ℕ, refl, sym, ◌∙◌, ap, subst, inl, inr, ◌⊎◌, List, [], ◌∷◌, ◌++◌, map, set, true, false, Option, Some, None, append_assoc, append-nil, same_Some, eqb_tells, fold, slice_get, ◌==◌, list_all, entry_set, entry_set_other, and_first, and_second, Answer, Header, Call, Script, Mark, Meet, Solo, Offer, Reply, Want, Counted, Setting, solo, is_of_rank_below, IsLegal, is_lawful, hear_open, Rank, step, advance, after_mark, go, Going, hears, serial_from, setting_of, state_after, states_more}
 use borrow.Author.Tests.{ltb-true}
-use Rattle.list_laws.proofs.Places.{entry_set, entry_set_other}
-use Rattle.list_laws.proofs.Truth.{and_first, and_second}
-use Rattle.nc_base.specs.declared.answer.Answer.{Answer}
-use Rattle.nc_base.specs.declared.header.Header.{Header}
-use Rattle.nc_base.specs.declared.request.Call.{Call}
-use Rattle.nc_base.specs.declared.script.Script.{Script}
-use Rattle.nc_base.specs.declared.step.Mark.{Mark}
-use Rattle.nc_base.specs.declared.step.Mark.TheVariants.{Meet, Solo}
-use Rattle.nc_base.specs.declared.step.Offer.{Offer}
-use Rattle.nc_base.specs.declared.step.Reply.{Reply}
-use Rattle.nc_base.specs.declared.step.Want.{Want}
 use Rattle.nc_base.specs.declared.step.Want.TheVariants as want
-use Rattle.serial_spec.specs.FileStep.{Counted, Setting, solo}
-use Rattle.serial_spec.specs.History.{is_of_rank_below, IsLegal}
-use Rattle.serial_spec.specs.Lawful.{is_lawful}
-use Rattle.serial_spec.specs.RankMachine.{hear_open, Rank, step}
-use Rattle.serial_spec.specs.SerialEnd.{advance, after_mark, go, Going, hears, serial_from, setting_of, state_after}
-use Rattle.run_laws.proofs.OrderLaws.{states_more}
 use Rattle.whole_run_laws.proofs.Courses.{AreAlong, hears_then, mark_along, steps}
 use Rattle.whole_run_laws.proofs.ToldLaws.{answers_of, answers_after, along_at}
 use Rattle.join_laws.proofs.WholeLaws.{get_map as mapped_from}

@@ -1,37 +1,8 @@
 -- The record count of a run: the greater of the old one and the greatest that a completed put needed.
-use Rattle.std.proofs.Common.{◌≡◌, ℕ, zero, suc, ◌≤◌, refl, sym, ◌∙◌, ap, subst, inl, inr, ◌⊎◌, List, [], ◌∷◌, ◌++◌, map, set, max, true, false, Option, Some, None, arith}
-use Rattle.std.proofs.lemmas.List.{map-append}
-use Rattle.std.proofs.lemmas.Option.{slice_get_within, same_Some}
-use Rattle.std.proofs.lemmas.Bool.Decides.{eqb_tells}
-use Rattle.std.specs.Prelude.{fold, slice_get, ◌==◌}
-use Rattle.std.specs.List.{list_all}
+use Rattle.whole_run_laws.proofs.Words.{◌≡◌, ℕ, zero, suc, ◌≤◌, refl, sym, ◌∙◌, ap, subst, inl, inr, ◌⊎◌, List, [], ◌∷◌, ◌++◌, map, set, max, true, false, Option, Some, None, arith, map-append, slice_get_within, same_Some, eqb_tells, fold, slice_get, ◌==◌, list_all, entry_below, entry_set, entry_set_other, and_first, and_second, Pair, Header, Call, Post, Script, Mark, Meet, Solo, MeetKind, Offer, after_puts, Counted, known_by, meeting, needs, Setting, solo, told, is_of_rank_below, IsLegal, is_lawful, greatest, needed, needed_by, advance, after_mark, after_meeting, closed, first_going, first_state, Going, hears, offers_of, rank_offer, serial_from, setting_of, Puts, go_went, hear_known, Went, meeting_within, completed, completed_from, completed_puts, puts_asked, puts_at, puts_met, unless_told, set_cases, same_le, greatest_joined, raised_records}
 use borrow.Author.Tests.{ltb-true}
-use Rattle.list_laws.proofs.Places.{entry_below, entry_set, entry_set_other}
-use Rattle.list_laws.proofs.Truth.{and_first, and_second}
-use Rattle.nc_base.specs.declared.answer.Pair.{Pair}
-use Rattle.nc_base.specs.declared.header.Header.{Header}
-use Rattle.nc_base.specs.declared.request.Call.{Call}
-use Rattle.nc_base.specs.declared.plan.Post.{Post}
-use Rattle.nc_base.specs.declared.script.Script.{Script}
-use Rattle.nc_base.specs.declared.step.Mark.{Mark}
-use Rattle.nc_base.specs.declared.step.Mark.TheVariants.{Meet, Solo}
-use Rattle.nc_base.specs.declared.step.MeetKind.{MeetKind}
-use Rattle.nc_base.specs.declared.step.Offer.{Offer}
-use Rattle.serial_spec.specs.FileStep.{after_puts, Counted, known_by, meeting, needs, Setting, solo, told}
-use Rattle.serial_spec.specs.History.{is_of_rank_below, IsLegal}
-use Rattle.serial_spec.specs.Lawful.{is_lawful}
-use Rattle.serial_spec.specs.Layout.{greatest}
-use Rattle.serial_spec.specs.Records.{needed, needed_by}
-use Rattle.serial_spec.specs.SerialEnd.{advance, after_mark, after_meeting, closed, first_going, first_state, Going, hears, offers_of, rank_offer, serial_from, setting_of}
-use Rattle.serial_spec.specs.SharedByte.{Puts}
-use Rattle.join_laws.proofs.RankLaws.{go_went, hear_known, Went}
-use Rattle.join_laws.proofs.StepLaws.{meeting_within}
 use Rattle.join_laws.proofs.WholeLaws.{get_map as mapped_from}
-use Rattle.whole_run_laws.specs.Completed.{completed, completed_from, completed_puts, puts_asked, puts_at, puts_met, unless_told}
-use Rattle.owner_laws.proofs.HeldClients.{set_cases}
 use Rattle.whole_run_laws.proofs.Courses.{AreAlong, AreOn, first_along, Heard, heard_by, hears_then, mark_along, meets, offer_met, offers_met_long, Stepped, steps}
-use Rattle.list_laws.proofs.Numbers.{same_le}
-use Rattle.serial_spec.proofs.CountLaws.{greatest_joined, raised_records}
 
 -- ---- counts
 

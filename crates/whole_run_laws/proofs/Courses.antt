@@ -1,36 +1,8 @@
 -- The ranks along a legal order: at each mark they stand at the offers of its step.
-use Rattle.std.proofs.Common.{◌≡◌, ℕ, zero, suc, ◌<◌, refl, sym, ◌∙◌, ap, subst, inl, inr, ◌⊎◌, List, [], ◌∷◌, ◌++◌, length, map, set, drop, Bool, true, false, cond, Option, Some, None, arith}
-use Rattle.std.proofs.lemmas.List.{length-map, length-set}
-use Rattle.std.proofs.lemmas.Option.{same_Some}
-use Rattle.std.proofs.lemmas.Option.{slice_get_within}
-use Rattle.std.specs.Prelude.{fold, slice_get, filter, ◌==◌}
-use Rattle.std.specs.List.{list_all}
+use Rattle.whole_run_laws.proofs.Words.{◌≡◌, ℕ, zero, suc, ◌<◌, refl, sym, ◌∙◌, ap, subst, inl, inr, ◌⊎◌, List, [], ◌∷◌, ◌++◌, length, map, set, drop, Bool, true, false, cond, Option, Some, None, arith, length-map, length-set, same_Some, slice_get_within, fold, slice_get, filter, ◌==◌, list_all, entry_below, and_first, and_second, equal_itself, Header, Call, Script, Mark, Meet, Solo, MeetKind, Offer, Reply, Open, concerns, is_of_rank_below, IsLegal, kinds, marks_from, is_lawful, Counted, Setting, meeting, solo, Going, advance, after_mark, after_meeting, after_solo, first_going, hears, offers_of, set_cases, kinds_of, own_lawful, ranks_lawful, solo_goes, Went, Kinded, at_meeting, at_solo, go_went, hear_mode, hear_length, going_after, goings_long, replied, solo_of_is, entry_map, cons_rest, nil_cons}
 use borrow.Author.Tests.{ltb-true}
-use Rattle.list_laws.proofs.Places.{entry_below}
-use Rattle.list_laws.proofs.Truth.{and_first, and_second, equal_itself}
-use Rattle.nc_base.specs.declared.header.Header.{Header}
-use Rattle.nc_base.specs.declared.request.Call.{Call}
-use Rattle.nc_base.specs.declared.script.Script.{Script}
-use Rattle.nc_base.specs.declared.step.Mark.{Mark}
-use Rattle.nc_base.specs.declared.step.Mark.TheVariants.{Meet, Solo}
-use Rattle.nc_base.specs.declared.step.MeetKind.{MeetKind}
-use Rattle.nc_base.specs.declared.step.Offer.{Offer}
 use Rattle.nc_base.specs.declared.step.OfferKind.TheVariants as offer
-use Rattle.nc_base.specs.declared.step.Reply.{Reply}
-use Rattle.serial_spec.specs.RankMachine.{Open}
-use Rattle.serial_spec.specs.History.{concerns, is_of_rank_below, IsLegal, kinds, marks_from}
-use Rattle.serial_spec.specs.Lawful.{is_lawful}
-use Rattle.serial_spec.specs.FileStep.{Counted, Setting, meeting, solo}
-use Rattle.serial_spec.specs.SerialEnd.{Going, advance, after_mark, after_meeting, after_solo, first_going, hears, offers_of}
-use Rattle.owner_laws.proofs.HeldClients.{set_cases}
-use Rattle.run_laws.specs.Ways.{kinds_of}
-use Rattle.run_laws.proofs.LawfulLaws.{own_lawful, ranks_lawful}
-use Rattle.run_laws.proofs.StandingLaws.{solo_goes}
-use Rattle.join_laws.proofs.RankLaws.{Went, Kinded, at_meeting, at_solo, go_went, hear_mode, hear_length}
-use Rattle.join_laws.proofs.StepLaws.{going_after, goings_long, replied, solo_of_is}
 use Rattle.join_laws.proofs.WholeLaws.{get_map as mapped_from}
-use Rattle.list_laws.proofs.Maps.{entry_map}
-use Rattle.list_laws.proofs.Appends.{cons_rest, nil_cons}
 
 -- ---- one rank
 

@@ -1,30 +1,6 @@
 -- The header's field has the record count wherever that grew, and is as it was where it didn't.
-use Rattle.std.proofs.Common.{◌≡◌, ℕ, ◌+◌, ◌-◌, ◌<◌, ◌≤◌, refl, sym, ◌∙◌, ap, subst, List, [], ◌∷◌, length, map, max, get_or, Bool, true, false, cond, Option, arith}
-use Rattle.std.specs.Prelude.{fold, nat_lt}
-use Rattle.std.specs.List.{list_all}
-use Rattle.std.specs.Int.{byte_len}
+use Rattle.whole_run_laws.proofs.Words.{◌≡◌, ℕ, ◌+◌, ◌-◌, ◌<◌, ◌≤◌, refl, sym, ◌∙◌, ap, subst, List, [], ◌∷◌, length, map, max, get_or, Bool, true, false, cond, Option, arith, fold, nat_lt, list_all, byte_len, and_first, and_second, any_in, Pair, Header, Script, Mark, Meet, Solo, read, written, after_puts, Counted, known_by, needs, puts_of, raised, Setting, told, count, count_width, is_sound, is_of_rank_below, IsLegal, is_lawful, greatest, with_records, advance, after_mark, first_state, Going, offers_of, serial_from, setting_of, covered, Puts, after_keeps, count_long, at-written_inside, canon_len, is_held, puts_at, puts_met}
 use borrow.Author.Tests.{ltb-true}
-use Rattle.list_laws.proofs.Truth.{and_first, and_second}
-use Rattle.overlay_laws.proofs.HullLaws.{any_in}
-use Rattle.nc_base.specs.declared.answer.Pair.{Pair}
-use Rattle.nc_base.specs.declared.header.Header.{Header}
-use Rattle.nc_base.specs.declared.script.Script.{Script}
-use Rattle.nc_base.specs.declared.step.Mark.{Mark}
-use Rattle.nc_base.specs.declared.step.Mark.TheVariants.{Meet, Solo}
-use Rattle.serial_spec.specs.File.{read, written}
-use Rattle.serial_spec.specs.FileStep.{after_puts, Counted, known_by, needs, puts_of, raised, Setting, told}
-use Rattle.serial_spec.specs.HeaderBytes.{count, count_width}
-use Rattle.serial_spec.specs.SoundHeaders.{is_sound}
-use Rattle.serial_spec.specs.History.{is_of_rank_below, IsLegal}
-use Rattle.serial_spec.specs.Lawful.{is_lawful}
-use Rattle.serial_spec.specs.Layout.{greatest}
-use Rattle.serial_spec.specs.Records.{with_records}
-use Rattle.serial_spec.specs.SerialEnd.{advance, after_mark, first_state, Going, offers_of, serial_from, setting_of}
-use Rattle.serial_spec.specs.SharedByte.{covered, Puts}
-use Rattle.serial_spec.proofs.KeepLaws.{after_keeps, count_long}
-use Rattle.serial_spec.proofs.SaidLaws.{at-written_inside}
-use Rattle.var_layout.proofs.WrittenLengths.{canon_len}
-use Rattle.whole_run_laws.specs.Completed.{is_held, puts_at, puts_met}
 use Rattle.whole_run_laws.proofs.Courses.{AreAlong, first_along, mark_along, steps}
 use Rattle.whole_run_laws.proofs.FilledFile.{read_all, read_kept}
 use Rattle.whole_run_laws.proofs.PastLaws.{AllFit, AllPast, first_fits, mark_fit, mark_past}

@@ -1,41 +1,13 @@
 -- A meeting to which every rank comes to fill its share of a record.
-use Rattle.std.proofs.Common.{◌≡◌, ℕ, ◌+◌, ◌-◌, ◌||◌, ◌≤◌, refl, sym, ◌∙◌, ap, List, [], ◌∷◌, ◌++◌, length, map, Bool, true, false, cond, Option, Some, None, arith}
-use Rattle.std.proofs.lemmas.Option.{slice_get_within, same_Some}
-use Rattle.std.specs.Prelude.{nat_lt, slice_get}
-use Rattle.list_laws.proofs.Places.{entry_below}
+use Rattle.whole_run_laws.proofs.Words.{◌≡◌, ℕ, ◌+◌, ◌-◌, ◌||◌, ◌≤◌, refl, sym, ◌∙◌, ap, List, [], ◌∷◌, ◌++◌, length, map, Bool, true, false, cond, Option, Some, None, arith, slice_get_within, same_Some, nat_lt, slice_get, entry_below, Header, Var, Batch, Script, Mark, Meet, Offer, size_of, read, Counted, Setting, told, fill_bytes, share_begin, is_sound, IsLegal, is_lawful, inner_lengths, is_record, product, most_elements, IsIndex, place, find_var, fills, is_record_past, look_fill, look_record, code_of_look, meets_refused, offers_look, posts_of, Rank, step, advance, after_meeting, Going, offers_of, setting_of, state_after, state_more, comes_to_meeting, puts_at, puts_met, AllFill, filling, Fills, share_boxes, some_rank}
 use Rattle.nc_base.specs.declared.answer.Code.TheVariants as code
-use Rattle.nc_base.specs.declared.header.Header.{Header}
-use Rattle.nc_base.specs.declared.header.Var.{Var}
-use Rattle.nc_base.specs.declared.plan.Batch.{Batch}
 use Rattle.nc_base.specs.declared.request.Call.TheVariants as call
-use Rattle.nc_base.specs.declared.script.Script.{Script}
-use Rattle.nc_base.specs.declared.step.Mark.{Mark}
-use Rattle.nc_base.specs.declared.step.Mark.TheVariants.{Meet}
 use Rattle.nc_base.specs.declared.step.MeetKind.TheVariants as meets_as
-use Rattle.nc_base.specs.declared.step.Offer.{Offer}
 use Rattle.nc_base.specs.declared.step.OfferKind.TheVariants as offer
-use Rattle.serial_spec.specs.ExternalForm.{size_of}
-use Rattle.serial_spec.specs.File.{read}
-use Rattle.serial_spec.specs.FileStep.{Counted, Setting, told}
-use Rattle.serial_spec.specs.Fill.{fill_bytes, share_begin}
-use Rattle.serial_spec.specs.SoundHeaders.{is_sound}
-use Rattle.serial_spec.specs.History.{IsLegal}
-use Rattle.serial_spec.specs.Lawful.{is_lawful}
-use Rattle.serial_spec.specs.Layout.{inner_lengths, is_record, product}
-use Rattle.serial_spec.specs.Limits.{most_elements}
-use Rattle.serial_spec.specs.Place.{IsIndex, place}
 use Rattle.serial_spec.specs.Looks as looks
-use Rattle.serial_spec.specs.Looks.{find_var, fills, is_record_past, look_fill, look_record}
-use Rattle.serial_spec.specs.RankMachine.{code_of_look, meets_refused, offers_look, posts_of, Rank, step}
-use Rattle.serial_spec.specs.SerialEnd.{advance, after_meeting, Going, offers_of, setting_of, state_after}
-use Rattle.run_laws.proofs.OrderLaws.{state_more}
-use Rattle.run_laws.proofs.StandingLaws.{comes_to_meeting}
-use Rattle.whole_run_laws.specs.Completed.{puts_at, puts_met}
-use Rattle.whole_run_laws.specs.Filling.{AllFill, filling, Fills, share_boxes}
 use Rattle.whole_run_laws.proofs.Courses.{AreAlong, meets, offer_met, offers_met_long}
 use Rattle.whole_run_laws.proofs.FilledRecord.{record_puts, record_reads}
 use Rattle.whole_run_laws.proofs.ToldLaws.{along_at}
-use Rattle.serial_spec.proofs.LawfulTests.{some_rank}
 
 -- a filling by name is that of the variable
 look_is : (header : Header) (name : List ℕ) (k number r ranks : ℕ) (v : Var) → find_var header name ≡ Some k → slice_get header.vars k ≡ Some v

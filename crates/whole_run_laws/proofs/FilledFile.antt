@@ -1,44 +1,6 @@
 -- A filled file reads its fill values: elements that were written, no two of which share a byte.
-use Rattle.std.proofs.Common.{◌≡◌, ℕ, zero, suc, ◌+◌, ◌-◌, ◌<◌, ◌≤◌, refl, sym, ◌∙◌, ap, subst, inl, inr, ◌⊎◌, List, [], ◌∷◌, length, map, get_or, Bool, true, false, not, Option, Some, None, arith}
-use Rattle.std.proofs.lemmas.Bool.Decides.{eqb_tells}
-use Rattle.std.proofs.lemmas.Grind.{fold-append}
-use Rattle.std.proofs.lemmas.List.Folds.{fold-map}
-use Rattle.std.proofs.lemmas.Option.{same_Some}
-use Rattle.std.specs.Prelude.{flat_map, fold, slice_get, ◌==◌, MatchBool}
-use Rattle.std.specs.List.{enumerate_from}
-use Rattle.std.specs.Option.{option_or}
-use Rattle.list_laws.proofs.Optional.{first_counts, second_counts}
-use Rattle.overlay_laws.proofs.HullLaws.{flat_in, in_flat}
-use Rattle.serial_spec.proofs.MemberLaws.{at_in, in_at, in_filter, filter_in}
-use Rattle.overlay_laws.proofs.Members.{each_in, in_map, map_in}
-use Rattle.nc_base.specs.declared.header.Header.{Header}
-use Rattle.nc_base.specs.declared.header.Var.{Var}
-use Rattle.nc_base.specs.declared.script.Script.{Script}
-use Rattle.nc_base.specs.declared.step.Mark.{Mark}
-use Rattle.serial_spec.specs.ExternalForm.{size_of}
-use Rattle.serial_spec.specs.File.{at, longer, read, written}
-use Rattle.serial_spec.specs.FileStep.{end_for}
-use Rattle.serial_spec.specs.Fill.{fill_bytes, fill_var, filled}
-use Rattle.serial_spec.specs.HeaderBytes.{canon, header_len}
-use Rattle.serial_spec.specs.SoundHeaders.{is_sound}
-use Rattle.serial_spec.specs.Layout.{fixed_variables, inner_lengths, is_record}
-use Rattle.serial_spec.specs.Lists.{In}
-use Rattle.serial_spec.specs.Place.{AreApart, HasRecord, IsElement, IsIndex, place, row, within_record}
-use Rattle.serial_spec.specs.Looks.{fills}
-use Rattle.serial_spec.specs.Request.{cells, coordinates}
-use Rattle.serial_spec.specs.Said.{byte_or, Cell, said_at, said_by, write_cells}
-use Rattle.serial_spec.specs.SerialEnd.{serial, setting_of, start}
-use Rattle.serial_spec.proofs.AcceptLaws.{coordinates_all}
-use Rattle.serial_spec.proofs.ApartLaws.{elements_apart, elements_past_header}
-use Rattle.serial_spec.proofs.ElementLaws.{coordinates_at}
-use Rattle.serial_spec.proofs.RowLaws.{row_once}
-use Rattle.serial_spec.proofs.SaidLaws.{cells_said, said_append, said_below, said_inside, said_past}
-use Rattle.var_layout.proofs.WrittenLengths.{canon_len}
-use Rattle.whole_run_laws.specs.Completed.{completed_puts, IsBesideCount, is_held}
+use Rattle.whole_run_laws.proofs.Words.{◌≡◌, ℕ, zero, suc, ◌+◌, ◌-◌, ◌<◌, ◌≤◌, refl, sym, ◌∙◌, ap, subst, inl, inr, ◌⊎◌, List, [], ◌∷◌, length, map, get_or, Bool, true, false, not, Option, Some, None, arith, eqb_tells, fold-append, fold-map, same_Some, flat_map, fold, slice_get, ◌==◌, MatchBool, enumerate_from, option_or, first_counts, second_counts, flat_in, in_flat, at_in, in_at, in_filter, filter_in, each_in, in_map, map_in, Header, Var, Script, Mark, size_of, at, longer, read, written, end_for, fill_bytes, fill_var, filled, canon, header_len, is_sound, fixed_variables, inner_lengths, is_record, In, AreApart, HasRecord, IsElement, IsIndex, place, row, within_record, fills, cells, coordinates, byte_or, Cell, said_at, said_by, write_cells, serial, setting_of, start, coordinates_all, elements_apart, elements_past_header, coordinates_at, row_once, cells_said, said_append, said_below, said_inside, said_past, canon_len, completed_puts, IsBesideCount, is_held, found_long, resized, IsOrApart}
 use Rattle.whole_run_laws.proofs.KeptLaws.{end_kept}
-use Rattle.serial_spec.proofs.ValueLaws.{found_long}
-use Rattle.serial_spec.proofs.MoveLaws.{resized}
-use Rattle.serial_spec.proofs.CellLaws.{IsOrApart}
 
 -- ---- cells of which each is another one's or apart from it
 

@@ -1,52 +1,10 @@
 -- A record that all ranks filled reads its fill values.
-use Rattle.std.proofs.Common.{◌≡◌, ℕ, zero, suc, ◌+◌, ◌-◌, ◌*◌, ◌/◌, ◌<◌, ◌≤◌, refl, sym, ◌∙◌, ap, subst, inl, inr, List, [], ◌∷◌, ◌++◌, length, map, take, drop, replicate, Bool, true, false, Option, Some, None, add-one, arith}
-use Rattle.std.proofs.Math.Nat.{mul-div_cancel, mul-le-mul_left}
-use Rattle.std.proofs.Math.Seq.{drop-append-add, take_all}
-use Rattle.std.proofs.lemmas.Grind.{flat_map-append}
-use Rattle.std.proofs.lemmas.List.{append-nil, length-map, map-append, take_at}
-use Rattle.std.specs.Prelude.{flat_map, slice_get, zip, ◌||◌, nat_lt}
-use Rattle.std.specs.List.{AllByRecursion, enumerate_from, range_with_len}
-use Rattle.list_laws.proofs.Each.{each_weaker}
-use Rattle.list_laws.proofs.Maps.{map_map}
-use Rattle.overlay_laws.proofs.HullLaws.{div_grows}
-use Rattle.overlay_laws.proofs.Members.{in_map, map_in}
-use Rattle.nc_base.specs.declared.header.Header.{Header}
-use Rattle.nc_base.specs.declared.header.Var.{Var}
-use Rattle.nc_base.specs.declared.plan.Post.{Post}
-use Rattle.nc_base.specs.declared.request.Part.{Part}
-use Rattle.nc_base.specs.declared.step.Offer.{Offer}
+use Rattle.whole_run_laws.proofs.Words.{◌≡◌, ℕ, zero, suc, ◌+◌, ◌-◌, ◌*◌, ◌/◌, ◌<◌, ◌≤◌, refl, sym, ◌∙◌, ap, subst, inl, inr, List, [], ◌∷◌, ◌++◌, length, map, take, drop, replicate, Bool, true, false, Option, Some, None, add-one, arith, mul-div_cancel, mul-le-mul_left, drop-append-add, take_all, flat_map-append, append-nil, length-map, map-append, take_at, flat_map, slice_get, zip, nat_lt, AllByRecursion, enumerate_from, range_with_len, each_weaker, map_map, div_grows, in_map, map_in, Header, Var, Post, Part, Offer, Pair, size_of, at, read, Counted, meeting, puts_of, Setting, told, box_indices, fill_bytes, share_begin, shifted, is_sound, inner_lengths, is_record, product, most_elements, In, IsIndex, place, box_post, box_region, fills, is_record_past, look_record, code_of_look, posts_of, cells, coordinates, elements, index_at, byte_or, Cell, said_at, said_by, bytes_of, bytes_of_some, said_by_puts, coordinates_all, elements_past_header, boxes_right, length-coordinates, post_says, same_len, share_grows, share_within, shifted_is, completed, puts_met, unless_told, AllFill, filling, share_boxes, posts_filled, IsOrApart, part, part_joined, part_none}
+use Rattle.std.specs.Prelude.{◌||◌}
 use Rattle.nc_base.specs.declared.answer.Code.TheVariants as code
-use Rattle.nc_base.specs.declared.answer.Pair.{Pair}
-use Rattle.serial_spec.specs.ExternalForm.{size_of}
-use Rattle.serial_spec.specs.File.{at, read}
-use Rattle.serial_spec.specs.FileStep.{Counted, meeting, puts_of, Setting, told}
-use Rattle.serial_spec.specs.Fill.{box_indices, fill_bytes, share_begin, shifted}
-use Rattle.serial_spec.specs.SoundHeaders.{is_sound}
-use Rattle.serial_spec.specs.Layout.{inner_lengths, is_record, product}
-use Rattle.serial_spec.specs.Limits.{most_elements}
-use Rattle.serial_spec.specs.Lists.{In}
-use Rattle.serial_spec.specs.Place.{IsIndex, place}
 use Rattle.serial_spec.specs.Looks as looks
-use Rattle.serial_spec.specs.Looks.{box_post, box_region, fills, is_record_past, look_record}
-use Rattle.serial_spec.specs.RankMachine.{code_of_look, posts_of}
-use Rattle.serial_spec.specs.Request.{cells, coordinates, elements, index_at}
-use Rattle.serial_spec.specs.Said.{byte_or, Cell, said_at, said_by}
-use Rattle.serial_spec.specs.SharedByte.{bytes_of, bytes_of_some, said_by_puts}
-use Rattle.serial_spec.proofs.AcceptLaws.{coordinates_all}
-use Rattle.serial_spec.proofs.ApartLaws.{elements_past_header}
-use Rattle.serial_spec.proofs.BoxLaws.{boxes_right}
-use Rattle.serial_spec.proofs.ElementLaws.{length-coordinates}
-use Rattle.serial_spec.proofs.SaidLaws.{post_says}
-use Rattle.var_layout.proofs.ElementPlaces.{same_len}
-use Rattle.rank_core.proofs.FillLaws.{share_grows, share_within}
-use Rattle.rank_core.proofs.FillPostLaws.{shifted_is}
-use Rattle.whole_run_laws.specs.Completed.{completed, puts_met, unless_told}
-use Rattle.whole_run_laws.specs.Filling.{AllFill, filling, share_boxes}
 use Rattle.whole_run_laws.proofs.KeptLaws.{meeting_said}
 use Rattle.whole_run_laws.proofs.FilledFile.{read_all, cell_of, fill_long, cells_apart, record_element, index_in, in_index, same_or_not, past_count, says_that}
-use Rattle.rank_core.proofs.FillLookLaws.{posts_filled}
-use Rattle.serial_spec.proofs.CellLaws.{IsOrApart}
-use Rattle.list_laws.proofs.Parts.{part, part_joined, part_none}
 
 -- ---- the shares of all ranks
 

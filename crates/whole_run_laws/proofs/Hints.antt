@@ -1,12 +1,5 @@
 -- What a lawful script has of ranks and buffers.
-use Rattle.std.proofs.Common.{◌≡◌, ℕ, ◌≤◌, ◌^◌, true}
-use Rattle.std.proofs.lemmas.Bool.{leb-true}
-use Rattle.std.specs.Prelude.{nat_le}
-use Rattle.list_laws.proofs.Truth.{and_first, and_second}
-use Rattle.nc_base.specs.declared.script.Hints.{Hints}
-use Rattle.nc_base.specs.declared.script.Script.{Script}
-use Rattle.serial_spec.specs.Lawful.{is_lawful, is_within}
-use Rattle.serial_spec.proofs.LawfulTests.{lawful_parts}
+use Rattle.whole_run_laws.proofs.Words.{◌≡◌, ℕ, ◌≤◌, ◌^◌, true, leb-true, nat_le, and_first, and_second, Hints, Script, is_lawful, is_within, lawful_parts}
 
 at_least_one : (high n : ℕ) → is_within 1 high n ≡ true → 1 ≤ n
 at_least_one high n h = leb-true 1 n (and_first (nat_le 1 n) _ h)

@@ -1,35 +1,7 @@
 -- No window's hull is longer than its buffer, and no call of a step transfers more.
-use Rattle.std.proofs.Common.{◌≡◌, ℕ, zero, suc, ◌+◌, ◌-◌, ◌/◌, ◌%◌, ◌<◌, ◌≤◌, refl, ap, subst, inl, inr, ◌⊎◌, List, [], ◌∷◌, ◌++◌, length, map, Bool, true, false, cond, not, max, ◌&&◌, Option, Some, None, arith}
-use Rattle.std.specs.Prelude.{filter, flat_map, nat_le, nat_lt, ◌==◌, is_none}
-use Rattle.std.specs.List.{enumerate_from, range_with_len}
-use Rattle.std.specs.Int.{byte_len}
+use Rattle.whole_run_laws.proofs.Words.{◌≡◌, ℕ, zero, suc, ◌+◌, ◌-◌, ◌/◌, ◌%◌, ◌<◌, ◌≤◌, refl, ap, subst, inl, inr, ◌⊎◌, List, [], ◌∷◌, ◌++◌, length, map, Bool, true, false, cond, not, max, ◌&&◌, Option, Some, None, arith, filter, flat_map, nat_le, nat_lt, ◌==◌, is_none, enumerate_from, range_with_len, byte_len, equal_itself, IsAscending, filter_in, filter_ascends, flat_in, in_either, in_order_ascends, last_below, map_in, Header, Post, Hints, Script, DiskCall, Grow, Load, Store, Mark, Meet, Solo, Offer, calls_from, collective_windows, domain_size, domains, first_of, get_bytes, gets_of, grow_to, hull_len, in_order, last_of, loads, mark_calls, meeting_calls, not_empty, overlays, put_calls, run_calls, sieved, sieving_windows, solo_calls, store_records, windows, Counted, Setting, end_for, meeting, puts_of, told, count_width, is_lawful, In, is_empty, needed_by, Going, advance, after_mark, closed, first_state, offers_of, rank_offer, setting_of, Puts, bytes_of, covered, is_count_store, longest, transferred, le_two, window_short}
 use borrow.Author.Tests.{ltb-true, ltb-false}
-use Rattle.list_laws.proofs.Truth.{equal_itself}
-use Rattle.overlay_laws.specs.Hulls.{IsAscending}
-use Rattle.serial_spec.proofs.MemberLaws.{filter_in}
-use Rattle.overlay_laws.proofs.HullLaws.{filter_ascends, flat_in, in_either, in_order_ascends, last_below}
-use Rattle.overlay_laws.proofs.Members.{map_in}
-use Rattle.nc_base.specs.declared.header.Header.{Header}
-use Rattle.nc_base.specs.declared.plan.Post.{Post}
-use Rattle.nc_base.specs.declared.script.Hints.{Hints}
-use Rattle.nc_base.specs.declared.script.Script.{Script}
-use Rattle.nc_base.specs.declared.step.DiskCall.{DiskCall}
-use Rattle.nc_base.specs.declared.step.DiskCall.TheVariants.{Grow, Load, Store}
-use Rattle.nc_base.specs.declared.step.Mark.{Mark}
-use Rattle.nc_base.specs.declared.step.Mark.TheVariants.{Meet, Solo}
-use Rattle.nc_base.specs.declared.step.Offer.{Offer}
-use Rattle.serial_spec.specs.DeviceCalls.{calls_from, collective_windows, domain_size, domains, first_of, get_bytes, gets_of, grow_to, hull_len, in_order, last_of, loads, mark_calls, meeting_calls, not_empty, overlays, put_calls, run_calls, sieved, sieving_windows, solo_calls, store_records, windows}
-use Rattle.serial_spec.specs.FileStep.{Counted, Setting, end_for, meeting, puts_of, told}
-use Rattle.serial_spec.specs.HeaderBytes.{count_width}
-use Rattle.serial_spec.specs.Lawful.{is_lawful}
-use Rattle.serial_spec.specs.Lists.{In, is_empty}
-use Rattle.serial_spec.specs.Records.{needed_by}
-use Rattle.serial_spec.specs.SerialEnd.{Going, advance, after_mark, closed, first_state, offers_of, rank_offer, setting_of}
-use Rattle.serial_spec.specs.SharedByte.{Puts, bytes_of, covered}
-use Rattle.whole_run_laws.specs.Transfers.{is_count_store, longest, transferred}
 use Rattle.whole_run_laws.proofs.Hints.{some_buffers}
-use Rattle.list_laws.proofs.Numbers.{le_two}
-use Rattle.overlay_laws.proofs.WindowHulls.{window_short}
 
 -- ---- hulls
 

@@ -1,29 +1,5 @@
 -- What a run leaves of each byte: what the last completed put that holds it says, else the old one.
-use Rattle.std.proofs.Common.{◌≡◌, ℕ, ◌+◌, ◌<◌, ◌≤◌, refl, sym, ◌∙◌, ap, inl, inr, ◌⊎◌, List, [], ◌∷◌, ◌++◌, length, map, set, Bool, true, false, max, Option, Some, None, arith}
-use Rattle.std.proofs.lemmas.Grind.{flat_map-append}
-use Rattle.std.proofs.lemmas.List.{get_or_past}
-use Rattle.std.specs.Prelude.{fold, zip, slice_get}
-use Rattle.nc_base.specs.declared.header.Header.{Header}
-use Rattle.nc_base.specs.declared.answer.Pair.{Pair}
-use Rattle.nc_base.specs.declared.plan.Post.{Post}
-use Rattle.nc_base.specs.declared.script.Script.{Script}
-use Rattle.nc_base.specs.declared.step.Mark.{Mark}
-use Rattle.nc_base.specs.declared.step.Mark.TheVariants.{Meet, Solo}
-use Rattle.nc_base.specs.declared.step.Offer.{Offer}
-use Rattle.serial_spec.specs.File.{at, longer}
-use Rattle.serial_spec.specs.Fill.{filled}
-use Rattle.serial_spec.specs.HeaderBytes.{canon, count}
-use Rattle.serial_spec.specs.Layout.{greatest}
-use Rattle.serial_spec.specs.Records.{needed_by}
-use Rattle.serial_spec.specs.Said.{said_at, byte_or}
-use Rattle.serial_spec.specs.SharedByte.{Puts, bytes_of, said_by_puts}
-use Rattle.serial_spec.specs.FileStep.{Setting, Counted, after_puts, end_for, known_by, meeting, needs, told}
-use Rattle.serial_spec.specs.SerialEnd.{Going, advance, after_mark, closed, first_state, offers_of, serial, serial_from, start, setting_of, solo_of}
-use Rattle.serial_spec.proofs.KeepLaws.{count_long, puts_keep, raised_keeps}
-use Rattle.serial_spec.proofs.FileLaws.{at-longer}
-use Rattle.serial_spec.proofs.SaidLaws.{byte_or_later, puts_said, said_append}
-use Rattle.whole_run_laws.specs.Completed.{completed, completed_from, completed_puts, IsBesideCount, is_held, puts_asked, puts_at, puts_met, unless_told}
-use Rattle.serial_spec.proofs.GrowLaws.{raised_grows, mark_grows}
+use Rattle.whole_run_laws.proofs.Words.{◌≡◌, ℕ, ◌+◌, ◌<◌, ◌≤◌, refl, sym, ◌∙◌, ap, inl, inr, ◌⊎◌, List, [], ◌∷◌, ◌++◌, length, map, set, Bool, true, false, max, Option, Some, None, arith, flat_map-append, get_or_past, fold, zip, slice_get, Header, Pair, Post, Script, Mark, Meet, Solo, Offer, at, longer, filled, canon, count, greatest, needed_by, said_at, byte_or, Puts, bytes_of, said_by_puts, Setting, Counted, after_puts, end_for, known_by, meeting, needs, told, Going, advance, after_mark, closed, first_state, offers_of, serial, serial_from, start, setting_of, solo_of, count_long, puts_keep, raised_keeps, at-longer, byte_or_later, puts_said, said_append, completed, completed_from, completed_puts, IsBesideCount, is_held, puts_asked, puts_at, puts_met, unless_told, raised_grows, mark_grows}
 
 -- ---- a step
 

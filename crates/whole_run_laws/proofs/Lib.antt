@@ -1,3 +1,4 @@
+mod Words
 mod KeptLaws
 mod Hints
 mod OneOrder

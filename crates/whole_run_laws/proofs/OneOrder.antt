@@ -1,30 +1,6 @@
 -- A script whose ranks have no steps of their own has one order: all its meetings in turn.
-use Rattle.std.proofs.Common.{◌≡◌, ℕ, zero, suc, ◌+◌, ◌<◌, refl, sym, ◌∙◌, ap, subst, List, [], ◌∷◌, length, map, Bool, true, false, cond, not, ◌&&◌, Option, Some, None, arith}
-use Rattle.std.proofs.Math.Bool.{and-false}
-use Rattle.std.proofs.lemmas.Bool.{or_from}
-use Rattle.std.specs.Prelude.{slice_get, filter, ◌==◌, is_some}
-use Rattle.std.specs.List.{list_all, list_any, range_with_len}
+use Rattle.whole_run_laws.proofs.Words.{◌≡◌, ℕ, zero, suc, ◌+◌, ◌<◌, refl, sym, ◌∙◌, ap, subst, List, [], ◌∷◌, length, map, Bool, true, false, cond, not, ◌&&◌, Option, Some, None, arith, and-false, or_from, slice_get, filter, ◌==◌, is_some, list_all, list_any, range_with_len, fails_each, fails_at, entry_below, and_first, equal_itself, no_false, or_first_false, or_second_false, in_range, each_in, Header, Call, Script, Mark, Meet, Solo, MeetKind, concerns, is_collective, is_data, is_of_rank_below, IsLegal, kind_of_call, kinds, marks, marks_from, mode_after, is_meeting, is_lawful, serial_from, kinds_of, own_lawful, ranks_lawful, kinds_skip, kinds_take, marks_alone, marks_meet, marks_solo, all_meetings, has_independent, has_solo, is_independent, collective_kind, some_rank}
 use borrow.Author.Tests.{ltb-true}
-use Rattle.list_laws.proofs.Each.{fails_each, fails_at}
-use Rattle.list_laws.proofs.Places.{entry_below}
-use Rattle.list_laws.proofs.Truth.{and_first, equal_itself, no_false, or_first_false, or_second_false}
-use Rattle.overlay_laws.proofs.HullLaws.{in_range}
-use Rattle.overlay_laws.proofs.Members.{each_in}
-use Rattle.nc_base.specs.declared.header.Header.{Header}
-use Rattle.nc_base.specs.declared.request.Call.{Call}
-use Rattle.nc_base.specs.declared.script.Script.{Script}
-use Rattle.nc_base.specs.declared.step.Mark.{Mark}
-use Rattle.nc_base.specs.declared.step.Mark.TheVariants.{Meet, Solo}
-use Rattle.nc_base.specs.declared.step.MeetKind.{MeetKind}
-use Rattle.serial_spec.specs.History.{concerns, is_collective, is_data, is_of_rank_below, IsLegal, kind_of_call, kinds, marks, marks_from, mode_after, is_meeting}
-use Rattle.serial_spec.specs.Lawful.{is_lawful}
-use Rattle.serial_spec.specs.SerialEnd.{serial_from}
-use Rattle.run_laws.specs.Ways.{kinds_of}
-use Rattle.run_laws.proofs.LawfulLaws.{own_lawful, ranks_lawful}
-use Rattle.run_laws.proofs.WayLaws.{kinds_skip, kinds_take, marks_alone, marks_meet, marks_solo}
-use Rattle.whole_run_laws.specs.Orders.{all_meetings, has_independent, has_solo, is_independent}
-use Rattle.join_laws.proofs.Completing.{collective_kind}
-use Rattle.serial_spec.proofs.LawfulTests.{some_rank}
 
 abbrev is_solo : Mark → Bool
 is_solo m = not (is_meeting m)

@@ -1,42 +1,10 @@
 -- The posts of a call of form varn are those of calls on its parts, each with its share of the values.
-use Rattle.std.proofs.Common.{◌≡◌, ℕ, zero, suc, ◌+◌, ◌<◌, ◌≤◌, refl, sym, ◌∙◌, ap, inl, inr, List, [], ◌∷◌, ◌++◌, length, map, take, drop, Bool, true, false, not, cond, ltb, ◌||◌, Option, Some, None, option_map, is_none, arith}
-use Rattle.std.specs.Prelude.{ℤ, filter, flat_map, slice_get}
-use Rattle.std.specs.List.{list_any, range_with_len}
-use Rattle.std.proofs.lemmas.Bool.{lt-ltb, ltb-false}
-use Rattle.std.proofs.lemmas.List.Sums.{sum_by-cons}
-use Rattle.list_laws.proofs.Maps.{any_map}
-use Rattle.list_laws.proofs.Places.{entry_below}
-use Rattle.list_laws.proofs.Truth.{or_first_false, or_second_false}
-use Rattle.nc_base.specs.Values.{count_of}
-use Rattle.nc_base.specs.declared.answer.Code.{Code}
+use Rattle.whole_run_laws.proofs.Words.{◌≡◌, ℕ, zero, suc, ◌+◌, ◌<◌, ◌≤◌, refl, sym, ◌∙◌, ap, inl, inr, List, [], ◌∷◌, ◌++◌, length, map, take, drop, Bool, true, false, not, cond, ltb, ◌||◌, Option, Some, None, option_map, arith, ℤ, filter, flat_map, slice_get, list_any, range_with_len, lt-ltb, ltb-false, sum_by-cons, any_map, entry_below, or_first_false, or_second_false, count_of, Code, Header, NcType, Var, Post, Direction, Get, Put, Form, Varn, Given, Part, Region, Value, Values, Numbers, Text, Bits, Class, class_of, product, In, data_code, find_var, is_varn, kind_code, look, look_at, look_parts, look_region, part_posts, parts_code, some_fits, values_bytes, values_code, code_of_look, posts_of, check_parts, check_var, elements_of_all, has_element, is_ok_code, part_region, part_regions, ext_of, packed_bytes, value_at, parts_pass, outcome, on_part, own_values, values_from}
+use Rattle.std.proofs.Common.{is_none}
 use Rattle.nc_base.specs.declared.answer.Code.TheVariants as code
-use Rattle.nc_base.specs.declared.header.Header.{Header}
-use Rattle.nc_base.specs.declared.header.NcType.{NcType}
-use Rattle.nc_base.specs.declared.header.Var.{Var}
-use Rattle.nc_base.specs.declared.plan.Post.{Post}
-use Rattle.nc_base.specs.declared.request.Direction.{Direction}
-use Rattle.nc_base.specs.declared.request.Direction.TheVariants.{Get, Put}
-use Rattle.nc_base.specs.declared.request.Form.{Form}
-use Rattle.nc_base.specs.declared.request.Form.TheVariants.{Varn}
-use Rattle.nc_base.specs.declared.request.Given.{Given}
-use Rattle.nc_base.specs.declared.request.Part.{Part}
-use Rattle.nc_base.specs.declared.request.Region.{Region}
-use Rattle.nc_base.specs.declared.request.Value.{Value}
 use Rattle.nc_base.specs.declared.request.Value.TheVariants as value
-use Rattle.nc_base.specs.declared.request.Values.{Values}
-use Rattle.nc_base.specs.declared.request.Values.TheVariants.{Numbers, Text, Bits}
 use Rattle.serial_spec.specs.ExternalForm as form
-use Rattle.serial_spec.specs.ExternalForm.{Class, class_of}
-use Rattle.serial_spec.specs.Layout.{product}
-use Rattle.serial_spec.specs.Lists.{In}
 use Rattle.serial_spec.specs.Looks as looks
-use Rattle.serial_spec.specs.Looks.{data_code, find_var, is_varn, kind_code, look, look_at, look_parts, look_region, part_posts, parts_code, some_fits, values_bytes, values_code}
-use Rattle.serial_spec.specs.RankMachine.{code_of_look, posts_of}
-use Rattle.serial_spec.specs.RegionCheck.{check_parts, check_var, elements_of_all, has_element, is_ok_code, part_region, part_regions}
-use Rattle.serial_spec.specs.Request.{ext_of, packed_bytes, value_at}
-use Rattle.rank_core.proofs.LookLaws.{parts_pass}
-use Rattle.rank_core.proofs.OutcomeLaws.{outcome}
-use Rattle.whole_run_laws.specs.PartCalls.{on_part, own_values, values_from}
 
 -- ---- a call that is not refused
 

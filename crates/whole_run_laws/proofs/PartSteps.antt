@@ -1,54 +1,11 @@
 -- The puts of a step one after another, and an independent put of many regions region by region.
-use Rattle.std.proofs.Common.{◌≡◌, ℕ, zero, suc, ◌+◌, ◌<◌, ◌≤◌, max, refl, sym, ◌∙◌, ap, subst, inl, inr, ◌⊎◌, List, [], ◌∷◌, ◌++◌, length, map, Bool, true, false, cond, ltb, Option, Some, None, arith}
-use Rattle.std.proofs.lemmas.Bool.{cases_lt, or_cases}
-use Rattle.std.proofs.lemmas.Bool.Decides.{nat_tests}
-use Rattle.std.proofs.lemmas.Grind.{common_steps, fold-append}
-use Rattle.std.proofs.lemmas.List.{map-append}
-use Rattle.std.specs.List.{AllByRecursion, list_any}
-use Rattle.std.specs.Prelude.{filter, flat_map, fold, slice_get, ◌&&◌, ◌==◌}
-use Rattle.list_laws.proofs.Optional.{some_or_none}
-use Rattle.list_laws.proofs.Truth.{and_first, no_both}
-use Rattle.nc_base.specs.declared.answer.Code.{Code}
+use Rattle.whole_run_laws.proofs.Words.{◌≡◌, ℕ, zero, suc, ◌+◌, ◌<◌, ◌≤◌, max, refl, sym, ◌∙◌, ap, subst, inl, inr, ◌⊎◌, List, [], ◌∷◌, ◌++◌, length, map, Bool, true, false, cond, ltb, Option, Some, None, arith, cases_lt, or_cases, nat_tests, common_steps, fold-append, map-append, AllByRecursion, list_any, filter, flat_map, fold, slice_get, ◌==◌, some_or_none, and_first, no_both, Code, Pair, Header, NcType, Var, Post, Call, Put, Varn, Given, Part, Region, Values, Offer, Want, size_of, at, longer, written, Counted, Setting, after_puts, end_for, put_post, put_some, told, header_len, lengths, product, data_bytes, data_code, direction_of, find_var, is_varn, look, look_at, look_parts, look_region, part_posts, parts_code, Rank, answer, answers, batch_of, code_of_look, offers_look, posts_of, needed, needed_by, asks_too_much, bound, check_parts, check_var, elements_of_all, first_code, has_element, other_shape, part_region, part_regions, some_edge, some_start, widen, cells, places, Cell, byte_or, said_at, said_by, write_cells, Going, go, solo_of, Holding, Holds, Key, Puts, first_end, has_byte, holdings, key_below, same_key, second_end, at-longer, longer-enough, longer_long, after_grows, key_equal, end_grows, cells_said, same_file, outcome, outcome_posts, makes, on_part, own_values, put_parts}
+use Rattle.std.specs.Prelude.{◌&&◌}
 use Rattle.nc_base.specs.declared.answer.Code.TheVariants as code
-use Rattle.nc_base.specs.declared.answer.Pair.{Pair}
-use Rattle.nc_base.specs.declared.header.Header.{Header}
-use Rattle.nc_base.specs.declared.header.NcType.{NcType}
-use Rattle.nc_base.specs.declared.header.Var.{Var}
-use Rattle.nc_base.specs.declared.plan.Post.{Post}
-use Rattle.nc_base.specs.declared.request.Call.{Call}
 use Rattle.nc_base.specs.declared.request.Call.TheVariants as call
-use Rattle.nc_base.specs.declared.request.Direction.TheVariants.{Put}
-use Rattle.nc_base.specs.declared.request.Form.TheVariants.{Varn}
-use Rattle.nc_base.specs.declared.request.Given.{Given}
-use Rattle.nc_base.specs.declared.request.Part.{Part}
-use Rattle.nc_base.specs.declared.request.Region.{Region}
-use Rattle.nc_base.specs.declared.request.Values.{Values}
-use Rattle.nc_base.specs.declared.step.Offer.{Offer}
 use Rattle.nc_base.specs.declared.step.OfferKind.TheVariants as offer
-use Rattle.nc_base.specs.declared.step.Want.{Want}
 use Rattle.nc_base.specs.declared.step.Want.TheVariants as want
-use Rattle.serial_spec.specs.ExternalForm.{size_of}
-use Rattle.serial_spec.specs.File.{at, longer, written}
-use Rattle.serial_spec.specs.FileStep.{Counted, Setting, after_puts, end_for, put_post, put_some, told}
-use Rattle.serial_spec.specs.HeaderBytes.{header_len}
-use Rattle.serial_spec.specs.Layout.{lengths, product}
 use Rattle.serial_spec.specs.Looks as looks
-use Rattle.serial_spec.specs.Looks.{data_bytes, data_code, direction_of, find_var, is_varn, look, look_at, look_parts, look_region, part_posts, parts_code}
-use Rattle.serial_spec.specs.RankMachine.{Rank, answer, answers, batch_of, code_of_look, offers_look, posts_of}
-use Rattle.serial_spec.specs.Records.{needed, needed_by}
-use Rattle.serial_spec.specs.RegionCheck.{asks_too_much, bound, check_parts, check_var, elements_of_all, first_code, has_element, other_shape, part_region, part_regions, some_edge, some_start, widen}
-use Rattle.serial_spec.specs.Request.{cells, places}
-use Rattle.serial_spec.specs.Said.{Cell, byte_or, said_at, said_by, write_cells}
-use Rattle.serial_spec.specs.SerialEnd.{Going, go, solo_of}
-use Rattle.serial_spec.specs.SharedByte.{Holding, Holds, Key, Puts, first_end, has_byte, holdings, key_below, same_key, second_end}
-use Rattle.serial_spec.proofs.FileLaws.{at-longer, longer-enough, longer_long}
-use Rattle.serial_spec.proofs.GrowLaws.{after_grows}
-use Rattle.serial_spec.proofs.KeyLaws.{key_equal}
-use Rattle.serial_spec.proofs.RoomLaws.{end_grows}
-use Rattle.serial_spec.proofs.SaidLaws.{cells_said}
-use Rattle.overlay_laws.proofs.SaidLaws.{same_file}
-use Rattle.rank_core.proofs.OutcomeLaws.{outcome, outcome_posts}
-use Rattle.whole_run_laws.specs.PartCalls.{makes, on_part, own_values, put_parts}
 use Rattle.whole_run_laws.proofs.PartPosts.{varn_puts}
 use Rattle.whole_run_laws.proofs.ToldLaws.{pair_is_least}
 

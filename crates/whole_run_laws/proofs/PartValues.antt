@@ -1,36 +1,10 @@
 -- A get of many regions gives the values of gets of the regions, joined.
-use Rattle.std.proofs.Common.{◌≡◌, ℕ, ◌≤◌, refl, sym, ◌∙◌, ap, inl, inr, ◌⊎◌, List, [], ◌∷◌, ◌++◌, length, map, Bool, true, false, cond, Option, Some, None, option_map}
-use Rattle.std.proofs.lemmas.Grind.{fold-append}
-use Rattle.std.specs.List.{cons_option}
-use Rattle.std.specs.Prelude.{flat_map, fold, slice_get, zip, ◌==◌}
-use Rattle.nc_base.specs.declared.answer.Answer.{Answer}
-use Rattle.nc_base.specs.declared.answer.Code.{Code}
+use Rattle.whole_run_laws.proofs.Words.{◌≡◌, ℕ, ◌≤◌, refl, sym, ◌∙◌, ap, inl, inr, ◌⊎◌, List, [], ◌∷◌, ◌++◌, length, map, Bool, true, false, cond, Option, Some, None, option_map, fold-append, cons_option, flat_map, fold, slice_get, zip, ◌==◌, Answer, Code, Pair, Header, NcType, Var, Post, Get, Varn, Given, Part, Values, Offer, Want, Counted, Setting, after_puts, end_for, get_post, solo, told, find_var, look, look_at, Rank, answer, answers, batch_of, code_of_look, got_values, hear, kind_at, offers_look, posts_of, values_for, with_more, check_var, has_element, part_region, spread, Going, go, solo_of, longer-enough, outcome, outcome_posts, joined, last_values, makes, on_part, request_values, then_more}
 use Rattle.nc_base.specs.declared.answer.Code.TheVariants as code
-use Rattle.nc_base.specs.declared.answer.Pair.{Pair}
-use Rattle.nc_base.specs.declared.header.Header.{Header}
-use Rattle.nc_base.specs.declared.header.NcType.{NcType}
-use Rattle.nc_base.specs.declared.header.Var.{Var}
-use Rattle.nc_base.specs.declared.plan.Post.{Post}
 use Rattle.nc_base.specs.declared.request.Call.TheVariants as call
-use Rattle.nc_base.specs.declared.request.Direction.TheVariants.{Get}
-use Rattle.nc_base.specs.declared.request.Form.TheVariants.{Varn}
-use Rattle.nc_base.specs.declared.request.Given.{Given}
-use Rattle.nc_base.specs.declared.request.Part.{Part}
-use Rattle.nc_base.specs.declared.request.Values.{Values}
-use Rattle.nc_base.specs.declared.step.Offer.{Offer}
 use Rattle.nc_base.specs.declared.step.OfferKind.TheVariants as offer
-use Rattle.nc_base.specs.declared.step.Want.{Want}
 use Rattle.nc_base.specs.declared.step.Want.TheVariants as want
-use Rattle.serial_spec.specs.FileStep.{Counted, Setting, after_puts, end_for, get_post, solo, told}
 use Rattle.serial_spec.specs.Looks as looks
-use Rattle.serial_spec.specs.Looks.{find_var, look, look_at}
-use Rattle.serial_spec.specs.RankMachine.{Rank, answer, answers, batch_of, code_of_look, got_values, hear, kind_at, offers_look, posts_of, values_for, with_more}
-use Rattle.serial_spec.specs.RegionCheck.{check_var, has_element, part_region}
-use Rattle.serial_spec.specs.Request.{spread}
-use Rattle.serial_spec.specs.SerialEnd.{Going, go, solo_of}
-use Rattle.serial_spec.proofs.FileLaws.{longer-enough}
-use Rattle.rank_core.proofs.OutcomeLaws.{outcome, outcome_posts}
-use Rattle.whole_run_laws.specs.PartCalls.{joined, last_values, makes, on_part, request_values, then_more}
 use Rattle.whole_run_laws.proofs.PartPosts.{varn_gets}
 
 -- ---- the values of one get and of those after it

@@ -1,49 +1,10 @@
 -- No completed put holds a byte of the header, so its bytes stay but for the record count.
-use Rattle.std.proofs.Common.{◌≡◌, ℕ, ◌<◌, ◌≤◌, refl, sym, ◌∙◌, ap, subst, inl, inr, ◌⊎◌, List, [], ◌∷◌, map, Bool, true, false, ◌||◌, Option, Some, None, arith}
-use Rattle.std.proofs.lemmas.Grind.{flat_map-append}
-use Rattle.std.proofs.lemmas.Option.{same_Some, slice_get_within}
-use Rattle.std.specs.Prelude.{slice_get, ◌==◌}
-use Rattle.std.specs.List.{enumerate_from, list_all, range_with_len}
+use Rattle.whole_run_laws.proofs.Words.{◌≡◌, ℕ, ◌<◌, ◌≤◌, refl, sym, ◌∙◌, ap, subst, inl, inr, ◌⊎◌, List, [], ◌∷◌, map, Bool, true, false, ◌||◌, Option, Some, None, arith, flat_map-append, same_Some, slice_get_within, slice_get, ◌==◌, enumerate_from, list_all, range_with_len, fails_each, entry_below, and_first, and_second, or_first_false, any_in, flat_in, in_either, range_low, each_in, map_in, numbered_in, Pair, Header, Var, Post, Call, Script, Mark, Meet, Solo, Offer, Reply, refused, wrong_length, size_of, at, Counted, puts_of, Setting, solo, told, header_len, is_sound, is_of_rank_below, IsLegal, is_lawful, In, IsElementBelow, place, records_of, check_some, elements, places, advance, after_mark, first_going, first_state, Going, hears, offers_of, rank_offer, serial_from, setting_of, bytes_of, bytes_of_some, covered, Puts, accepted_elements, elements_past_header, Fit, good_first, heard_fits, most_posts_held, offer_fits, completed, completed_from, completed_puts, IsBesideCount, is_held, puts_asked, puts_at, puts_met, unless_told, set_cases}
 use borrow.Author.Tests.{ltb-true}
-use Rattle.list_laws.proofs.Each.{fails_each}
-use Rattle.list_laws.proofs.Places.{entry_below}
-use Rattle.list_laws.proofs.Truth.{and_first, and_second, or_first_false}
-use Rattle.overlay_laws.proofs.HullLaws.{any_in, flat_in, in_either, range_low}
-use Rattle.overlay_laws.proofs.Members.{each_in, map_in, numbered_in}
 use Rattle.nc_base.specs.declared.answer.Code.TheVariants as code
-use Rattle.nc_base.specs.declared.answer.Pair.{Pair}
-use Rattle.nc_base.specs.declared.header.Header.{Header}
-use Rattle.nc_base.specs.declared.header.Var.{Var}
-use Rattle.nc_base.specs.declared.plan.Post.{Post}
-use Rattle.nc_base.specs.declared.request.Call.{Call}
 use Rattle.nc_base.specs.declared.request.Direction.TheVariants as way
-use Rattle.nc_base.specs.declared.script.Script.{Script}
-use Rattle.nc_base.specs.declared.step.Mark.{Mark}
-use Rattle.nc_base.specs.declared.step.Mark.TheVariants.{Meet, Solo}
-use Rattle.nc_base.specs.declared.step.Offer.{Offer}
-use Rattle.nc_base.specs.declared.step.Reply.{Reply}
-use Rattle.serial_spec.specs.Owner.{refused, wrong_length}
-use Rattle.serial_spec.specs.ExternalForm.{size_of}
-use Rattle.serial_spec.specs.File.{at}
-use Rattle.serial_spec.specs.FileStep.{Counted, puts_of, Setting, solo, told}
-use Rattle.serial_spec.specs.HeaderBytes.{header_len}
-use Rattle.serial_spec.specs.SoundHeaders.{is_sound}
-use Rattle.serial_spec.specs.History.{is_of_rank_below, IsLegal}
-use Rattle.serial_spec.specs.Lawful.{is_lawful}
-use Rattle.serial_spec.specs.Lists.{In}
-use Rattle.serial_spec.specs.Place.{IsElementBelow, place}
-use Rattle.serial_spec.specs.Records.{records_of}
-use Rattle.serial_spec.specs.RegionCheck.{check_some}
-use Rattle.serial_spec.specs.Request.{elements, places}
-use Rattle.serial_spec.specs.SerialEnd.{advance, after_mark, first_going, first_state, Going, hears, offers_of, rank_offer, serial_from, setting_of}
-use Rattle.serial_spec.specs.SharedByte.{bytes_of, bytes_of_some, covered, Puts}
-use Rattle.serial_spec.proofs.AcceptLaws.{accepted_elements}
-use Rattle.serial_spec.proofs.ApartLaws.{elements_past_header}
-use Rattle.join_laws.proofs.GoodLaws.{Fit, good_first, heard_fits, most_posts_held, offer_fits}
 use Rattle.join_laws.proofs.CountLaws.{passes_accepted as accepted}
 use Rattle.join_laws.proofs.WholeLaws.{get_map as mapped_from}
-use Rattle.whole_run_laws.specs.Completed.{completed, completed_from, completed_puts, IsBesideCount, is_held, puts_asked, puts_at, puts_met, unless_told}
-use Rattle.owner_laws.proofs.HeldClients.{set_cases}
 use Rattle.whole_run_laws.proofs.Courses.{AreAlong, first_along, heard_by, mark_along, meets, offer_met, offers_met_long, steps}
 use Rattle.whole_run_laws.proofs.KeptLaws.{end_kept}
 

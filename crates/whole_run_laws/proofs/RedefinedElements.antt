@@ -1,23 +1,6 @@
 -- What the elements of old and added variables read in a redefined file.
-use Rattle.std.proofs.Common.{◌≡◌, ℕ, ◌+◌, ◌<◌, ◌≤◌, refl, sym, ◌∙◌, ap, subst, inl, inr, List, [], ◌∷◌, length, map, take, replicate, Some, None, arith}
-use Rattle.std.specs.Prelude.{slice_get}
-use Rattle.std.proofs.lemmas.List.{get_or-replicate, length-replicate}
-use Rattle.std.proofs.lemmas.Option.{same_Some, slice_get_within}
-use Rattle.nc_base.specs.declared.header.Header.{Header}
-use Rattle.nc_base.specs.declared.header.Var.{Var}
-use Rattle.nc_base.specs.declared.script.Extra.{Extra}
+use Rattle.whole_run_laws.proofs.Words.{◌≡◌, ℕ, ◌+◌, ◌<◌, ◌≤◌, refl, sym, ◌∙◌, ap, subst, inl, inr, List, [], ◌∷◌, length, map, take, replicate, Some, None, arith, slice_get, get_or-replicate, length-replicate, same_Some, slice_get_within, Header, Var, Extra, size_of, val, read, canon, header_len, lengths, AreApart, IsElementBelow, IsIndex, place, added, redefined, with_extra, IsRedefined, KeepsVars, Moves, redefined_keeps, elements_apart, elements_past_header, redefined_is, element_inside, index_is_element, known_of, element_value, IsCounted, IsRedefinition}
 use Rattle.nc_base.specs.declared.script.Extra.TheVariants as extra
-use Rattle.serial_spec.specs.ExternalForm.{size_of, val}
-use Rattle.serial_spec.specs.File.{read}
-use Rattle.serial_spec.specs.HeaderBytes.{canon, header_len}
-use Rattle.serial_spec.specs.Layout.{lengths}
-use Rattle.serial_spec.specs.Place.{AreApart, IsElementBelow, IsIndex, place}
-use Rattle.serial_spec.specs.Redefinition.{added, redefined, with_extra, IsRedefined, KeepsVars, Moves}
-use Rattle.serial_spec.proofs.AddedLaws.{redefined_keeps}
-use Rattle.serial_spec.proofs.ApartLaws.{elements_apart, elements_past_header}
-use Rattle.serial_spec.proofs.MoveLaws.{redefined_is}
-use Rattle.serial_spec.proofs.RoomLaws.{element_inside, index_is_element, known_of}
-use Rattle.whole_run_laws.specs.Redefined.{element_value, IsCounted, IsRedefinition}
 use Rattle.whole_run_laws.proofs.FilledFile.{read_all}
 
 -- ---- the record count stays

@@ -1,47 +1,11 @@
 -- What a step tells its ranks, and that a step with a pair changes nothing.
-use Rattle.std.proofs.Common.{◌≡◌, ℕ, suc, ◌+◌, ◌<◌, refl, sym, ◌∙◌, ap, subst, List, [], ◌∷◌, ◌++◌, map, set, max, Bool, true, false, cond, Option, Some, None, arith}
-use Rattle.std.proofs.lemmas.Option.{slice_get_within, same_Some}
-use Rattle.std.proofs.lemmas.Bool.Decides.{nat_tests}
-use Rattle.std.specs.Prelude.{flat_map, slice_get, nat_lt}
-use Rattle.std.specs.List.{enumerate_from, list_all}
+use Rattle.whole_run_laws.proofs.Words.{◌≡◌, ℕ, suc, ◌+◌, ◌<◌, refl, sym, ◌∙◌, ap, subst, List, [], ◌∷◌, ◌++◌, map, set, max, Bool, true, false, cond, Option, Some, None, arith, slice_get_within, same_Some, nat_tests, flat_map, slice_get, nat_lt, enumerate_from, list_all, entry_below, entry_set, and_first, and_second, in_at, Answer, Pair, Header, Post, Call, OverlapRule, Refuse, Serial, Script, Mark, Meet, Solo, MeetKind, Offer, OfferKind, Reply, Want, after_puts, Counted, get_post, known_by, meeting, needs, puts_of, raised, raises, Setting, solo, told, told_under, is_of_rank_below, IsLegal, is_lawful, greatest, In, hear_open, Open, Rank, step, with_records, advance, after_mark, after_meeting, after_solo, first_state, go, Going, hears, offers_of, rank_offer, setting_of, state_after, holdings, IsSharedPair, IsUnshared, Puts, shared_pair, pair_found, pair_none, state_more, puts_asked, puts_at, puts_met, IsQuiet, quiet_step, nil_cons}
 use borrow.Author.Tests.{ltb-true}
-use Rattle.list_laws.proofs.Places.{entry_below, entry_set}
-use Rattle.list_laws.proofs.Truth.{and_first, and_second}
-use Rattle.serial_spec.proofs.MemberLaws.{in_at}
-use Rattle.nc_base.specs.declared.answer.Answer.{Answer}
-use Rattle.nc_base.specs.declared.answer.Pair.{Pair}
-use Rattle.nc_base.specs.declared.header.Header.{Header}
-use Rattle.nc_base.specs.declared.plan.Post.{Post}
-use Rattle.nc_base.specs.declared.request.Call.{Call}
-use Rattle.nc_base.specs.declared.script.OverlapRule.{OverlapRule}
-use Rattle.nc_base.specs.declared.script.OverlapRule.TheVariants.{Refuse, Serial}
-use Rattle.nc_base.specs.declared.script.Script.{Script}
-use Rattle.nc_base.specs.declared.step.Mark.{Mark}
-use Rattle.nc_base.specs.declared.step.Mark.TheVariants.{Meet, Solo}
-use Rattle.nc_base.specs.declared.step.MeetKind.{MeetKind}
 use Rattle.nc_base.specs.declared.step.MeetKind.TheVariants as meets_as
-use Rattle.nc_base.specs.declared.step.Offer.{Offer}
-use Rattle.nc_base.specs.declared.step.OfferKind.{OfferKind}
 use Rattle.nc_base.specs.declared.step.OfferKind.TheVariants as offer
-use Rattle.nc_base.specs.declared.step.Reply.{Reply}
-use Rattle.nc_base.specs.declared.step.Want.{Want}
 use Rattle.nc_base.specs.declared.step.Want.TheVariants as want
-use Rattle.serial_spec.specs.FileStep.{after_puts, Counted, get_post, known_by, meeting, needs, puts_of, raised, raises, Setting, solo, told, told_under}
-use Rattle.serial_spec.specs.History.{is_of_rank_below, IsLegal}
-use Rattle.serial_spec.specs.Lawful.{is_lawful}
-use Rattle.serial_spec.specs.Layout.{greatest}
-use Rattle.serial_spec.specs.Lists.{In}
-use Rattle.serial_spec.specs.RankMachine.{hear_open, Open, Rank, step}
-use Rattle.serial_spec.specs.Records.{with_records}
-use Rattle.serial_spec.specs.SerialEnd.{advance, after_mark, after_meeting, after_solo, first_state, go, Going, hears, offers_of, rank_offer, setting_of, state_after}
-use Rattle.serial_spec.specs.SharedByte.{holdings, IsSharedPair, IsUnshared, Puts, shared_pair}
-use Rattle.serial_spec.proofs.PairLaws.{pair_found, pair_none}
-use Rattle.run_laws.proofs.OrderLaws.{state_more}
-use Rattle.whole_run_laws.specs.Completed.{puts_asked, puts_at, puts_met}
 use Rattle.whole_run_laws.proofs.Courses.{AreAlong, AreOn, first_along, hears_then, marks_along, meets, offer_met, offers_met_long, Stepped, steps}
-use Rattle.join_laws.proofs.QuietLaws.{IsQuiet, quiet_step}
 use Rattle.join_laws.proofs.WholeLaws.{get_map as mapped_from}
-use Rattle.list_laws.proofs.Appends.{nil_cons}
 
 -- what rank r has answered when these marks are done
 abbrev pub answers_of : Option Going → List Answer

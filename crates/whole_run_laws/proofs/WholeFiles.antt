@@ -1,21 +1,5 @@
 -- The file of a run goes at least to the end for no records.
-use Rattle.std.proofs.Common.{ℕ, ◌≤◌, List, [], ◌∷◌, length, Bool, true, false, arith}
-use Rattle.std.specs.Prelude.{fold}
-use Rattle.nc_base.specs.declared.header.Header.{Header}
-use Rattle.nc_base.specs.declared.header.Var.{Var}
-use Rattle.nc_base.specs.declared.script.Script.{Script}
-use Rattle.nc_base.specs.declared.step.Mark.{Mark}
-use Rattle.serial_spec.specs.File.{longer, written}
-use Rattle.serial_spec.specs.Fill.{fill_bytes, fill_var, filled}
-use Rattle.serial_spec.specs.FileStep.{Counted, end_for}
-use Rattle.serial_spec.specs.HeaderBytes.{canon, header_len}
-use Rattle.serial_spec.specs.Layout.{fixed_variables, inner_lengths}
-use Rattle.serial_spec.specs.Place.{place}
-use Rattle.serial_spec.specs.Request.{coordinates}
-use Rattle.serial_spec.specs.SerialEnd.{Going, after_mark, first_state, setting_of, start, state_after}
-use Rattle.serial_spec.proofs.FileLaws.{longer_long}
-use Rattle.serial_spec.proofs.GrowLaws.{mark_grows, written_grows}
-use Rattle.serial_spec.proofs.RoomLaws.{end_grows}
+use Rattle.whole_run_laws.proofs.Words.{ℕ, ◌≤◌, List, [], ◌∷◌, length, Bool, true, false, arith, fold, Header, Var, Script, Mark, longer, written, fill_bytes, fill_var, filled, Counted, end_for, canon, header_len, fixed_variables, inner_lengths, place, coordinates, Going, after_mark, first_state, setting_of, start, state_after, longer_long, mark_grows, written_grows, end_grows}
 
 fold_grows : {A B : Type 0} (size : B → ℕ) (f : B → A → B) → ((b : B) (x : A) → size b ≤ size (f b x)) → (b : B) (xs : List A) → size b ≤ size (fold f b xs)
 fold_grows size f h b [] = omega arith

@@ -1,3 +1,4 @@
+mod Words
 pub mod OwnerLaws
 pub mod PlanLaws
 pub mod ShareLaws

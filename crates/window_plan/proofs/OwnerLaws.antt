@@ -1,15 +1,5 @@
 -- Whose the bytes of a hull are, by the entries that may have some.
-use Rattle.std.proofs.Common.{◌≡◌, ℕ, ◌+◌, ◌-◌, ◌≤◌, inl, inr, refl, sym, ◌∙◌, ap, List, [], ◌∷◌, ◌++◌, Bool, true, false, cond, max, min, arith}
-use Rattle.std.proofs.lemmas.Bool.Decides.{nat_tests}
-use Rattle.std.proofs.lemmas.Grind.{flat_map-append}
-use Rattle.std.proofs.lemmas.List.{append-nil}
-use Rattle.std.specs.Prelude.{nat_lt}
-use Rattle.nc_base.specs.declared.plan.Extent.{Extent}
-use Rattle.nc_base.specs.declared.plan.Owned.{Owned}
-use Rattle.aggregator_rounds.specs.Left.{IsPast}
-use Rattle.overlay_laws.specs.Entries.{In}
-use Rattle.window_plan.specs.Windows.{owner_between, owner_in, owners_in}
-use Rattle.window_plan.specs.declared.plan.Owner.{Owner}
+use Rattle.window_plan.proofs.Words.{◌≡◌, ℕ, ◌+◌, ◌-◌, ◌≤◌, inl, inr, refl, sym, ◌∙◌, ap, List, [], ◌∷◌, ◌++◌, Bool, true, false, cond, max, min, arith, nat_tests, flat_map-append, append-nil, nat_lt, Extent, Owned, IsPast, In, owner_between, owner_in, owners_in, Owner}
 
 no_owner : (rank at stop : ℕ) → stop ≤ at → owner_between rank at stop ≡ []
 no_owner rank at stop h = by_test (nat_lt at stop) (grind (arith, nat_tests))

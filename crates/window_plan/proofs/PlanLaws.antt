@@ -1,22 +1,5 @@
 -- One window more is planned.
-use Rattle.std.proofs.Common.{◌≡◌, ℕ, ◌+◌, inl, inr, refl, sym, ◌∙◌, ap, subst, List, [], ◌∷◌, ◌++◌, append_assoc, map, arith}
-use Rattle.std.proofs.lemmas.List.{append-nil, map-append}
-use Rattle.nc_base.specs.declared.plan.Owned.{Owned}
-use Rattle.file_domains.specs.declared.walk.Window.{Window}
-use Rattle.file_domains.specs.declared.walk.WindowWalk.{WindowWalk}
-use Rattle.file_domains.specs.Rounds.{IsWalk}
-use Rattle.aggregator_rounds.specs.Left.{IsPast}
-use Rattle.aggregator_rounds.specs.Pieces.{told_window}
-use Rattle.data_sieving.specs.Walked.{AreLeft, IsNext, windows_from}
-use Rattle.data_sieving.proofs.WindowSteps.{next_told, no_window, windows_next}
-use Rattle.overlay_laws.specs.Entries.{In}
-use Rattle.overlay_laws.specs.Walks.{told_of}
-use Rattle.overlay_laws.proofs.HullLaws.{in_either}
-use Rattle.exchange_crew.specs.Cursor.{AreInFront, IsAt}
-use Rattle.exchange_crew.specs.Turns.{Told, turns_ahead}
-use Rattle.exchange_crew.proofs.TurnLaws.{at_next}
-use Rattle.window_plan.specs.Windows.{owners_in, plan_of, told_plan, AreShared}
-use Rattle.window_plan.specs.declared.plan.WindowPlan.{WindowPlan}
+use Rattle.window_plan.proofs.Words.{◌≡◌, ℕ, ◌+◌, inl, inr, refl, sym, ◌∙◌, ap, subst, List, [], ◌∷◌, ◌++◌, append_assoc, map, arith, append-nil, map-append, Owned, Window, WindowWalk, IsWalk, IsPast, told_window, AreLeft, IsNext, windows_from, next_told, no_window, windows_next, In, told_of, in_either, AreInFront, IsAt, Told, turns_ahead, at_next, owners_in, plan_of, told_plan, AreShared, WindowPlan}
 use Rattle.window_plan.proofs.OwnerLaws.{served_owners}
 
 -- ---- what is told

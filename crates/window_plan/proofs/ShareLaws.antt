@@ -1,12 +1,6 @@
 -- The shares of ranks, counted one owner after another.
-use Rattle.std.proofs.Common.{◌≡◌, ℕ, suc, ◌+◌, ◌-◌, ◌^◌, ◌<◌, sym, ◌∙◌, ap, List, [], ◌∷◌, ◌++◌, length, take, get_or, max, min, arith}
-use Rattle.std.proofs.lemmas.List.{flat_map_more, take_more}
+use Rattle.window_plan.proofs.Words.{◌≡◌, ℕ, suc, ◌+◌, ◌-◌, ◌^◌, ◌<◌, sym, ◌∙◌, ap, List, [], ◌∷◌, ◌++◌, length, take, get_or, max, min, arith, flat_map_more, take_more, range_with_len, range_push, bytes_for, own_bytes, ranks_in, share_of, Owner, Share}
 use Rattle.std.specs.Prelude.{flat_map}
-use Rattle.std.specs.List.{range_with_len}
-use Rattle.list_laws.proofs.Ranges.{range_push}
-use Rattle.window_plan.specs.Windows.{bytes_for, own_bytes, ranks_in, share_of}
-use Rattle.window_plan.specs.declared.plan.Owner.{Owner}
-use Rattle.window_plan.specs.declared.plan.Share.{Share}
 
 bytes_joined : (rank : ℕ) (owners : List Owner) (o : Owner) → bytes_for rank (owners ++ o ∷ []) ≡ bytes_for rank owners + own_bytes rank o
 bytes_joined rank [] o = omega arith

@@ -1,4 +1,4 @@
-use Rattle.std.proofs.Common.{refl}
+use Rattle.generated_run.proofs.Words.{refl}
 use Rattle.generated_run.proofs.LawfulLaws.{made_counted, made_lawful}
 use Rattle.generated_run.proofs.MadeLaws.{made_laid}
 use Rattle.generated_run.proofs.made_law.Goals as goal

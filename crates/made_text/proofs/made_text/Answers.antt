@@ -1,9 +1,6 @@
 -- The text that is printed of a made script.
-use Rattle.std.proofs.Common.{◌≡◌, ◌≤◌, ℕ, List, IfOk, Result, Ok, Err, subst, sym}
+use Rattle.made_text.proofs.Words.{◌≡◌, ◌≤◌, ℕ, List, IfOk, Result, Ok, Err, subst, sym, made_script, Reads, shown}
 use Rattle.nc_base.specs.declared.script.Script as script_type
-use Rattle.script_spec.specs.Generator.{made_script}
-use Rattle.script_spec.specs.ScriptGrammar.{Reads}
-use Rattle.script_spec.specs.Shown.{shown}
 use Rattle.made_text.proofs.MadeText.{made_read}
 use Rattle.made_text.proofs.made_text.Goals as goal
 

@@ -1,6 +1,5 @@
 -- The part's bytes go into the blob of the entry's slot.
-use Rattle.std.proofs.Common.{◌+◌, ◌++◌, ◌∙◌, List, ℕ, length, take, drop, set, get_or, sym, ap}
-use Rattle.std.proofs.Math.Seq.{take-append_seam}
+use Rattle.aggregator_rounds.proofs.Words.{◌+◌, ◌++◌, ◌∙◌, List, ℕ, length, take, drop, set, get_or, sym, ap, take-append_seam}
 use Rattle.aggregator_rounds.proofs.PartSteps.{collected_entry}
 use Rattle.aggregator_rounds.proofs.entry.collect_entry.Goals as goal
 

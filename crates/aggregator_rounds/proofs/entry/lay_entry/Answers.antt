@@ -1,6 +1,5 @@
 -- The part that is laid is the entry's cell in the hull.
-use Rattle.std.proofs.Common.{◌+◌, ap, List, length, ℕ, arith}
-use Rattle.aggregator_rounds.specs.EntryParts.{source_of}
+use Rattle.aggregator_rounds.proofs.Words.{◌+◌, ap, List, length, ℕ, arith, source_of}
 use Rattle.aggregator_rounds.proofs.PartSteps.{found_bytes, laid_entry, part_high}
 use Rattle.aggregator_rounds.proofs.entry.lay_entry.Goals as goal
 

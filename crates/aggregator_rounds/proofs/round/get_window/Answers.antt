@@ -1,5 +1,5 @@
 -- The bytes of the range are those of the hull.
-use Rattle.std.proofs.Common.{◌-◌, arith}
+use Rattle.aggregator_rounds.proofs.Words.{◌-◌, arith}
 use Rattle.aggregator_rounds.proofs.RoundLaws.{got_read}
 use Rattle.aggregator_rounds.proofs.round.get_window.Goals as goal
 

@@ -1,6 +1,5 @@
 -- Each piece lies in the hull.
-use Rattle.std.proofs.Common.{◌+◌, length, ap, arith}
-use Rattle.nc_base.specs.declared.plan.Piece.{Piece}
+use Rattle.aggregator_rounds.proofs.Words.{◌+◌, length, ap, arith, Piece}
 use Rattle.aggregator_rounds.proofs.PieceLaws.{from_at, within_at}
 use Rattle.aggregator_rounds.proofs.round.lay_all.Goals as goal
 

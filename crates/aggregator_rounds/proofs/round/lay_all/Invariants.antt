@@ -1,7 +1,5 @@
 -- The buffer has the pieces so far.
-use Rattle.std.proofs.Common.{◌≡◌, length, take}
-use Rattle.serial_spec.specs.Said.{write_cells, moved_down}
-use Rattle.aggregator_rounds.specs.Pieces.{cells_of_pieces}
+use Rattle.aggregator_rounds.proofs.Words.{◌≡◌, length, take, write_cells, moved_down, cells_of_pieces}
 use Rattle.aggregator_rounds.proofs.round.lay_all.Given as goal
 
 abbrev pub invariant-loop-piece : goal.invariant-loop-piece

@@ -1,8 +1,6 @@
 -- The hull as it is written is the old one with the pieces.
-use Rattle.std.proofs.Common.{◌∙◌}
-use Rattle.aggregator_rounds.specs.Pieces.{cells_of_pieces}
+use Rattle.aggregator_rounds.proofs.Words.{◌∙◌, cells_of_pieces, on_err}
 use Rattle.aggregator_rounds.proofs.RoundLaws.{window_told_by, window_refused_by, window_begun}
-use Rattle.list_laws.proofs.Results.{on_err}
 use Rattle.aggregator_rounds.proofs.round.put_window.Goals as goal
 
 pub returns-clause-bytes : goal.returns-clause-bytes

@@ -1,6 +1,5 @@
 -- The entries so far begin before the place.
-use Rattle.std.proofs.Common.{◌≡◌, ℕ, ◌<◌, slice_get, Some}
-use Rattle.nc_base.specs.declared.plan.Owned.{Owned}
+use Rattle.aggregator_rounds.proofs.Words.{◌≡◌, ℕ, ◌<◌, slice_get, Some, Owned}
 use Rattle.aggregator_rounds.proofs.unserved.begins_before.Given as goal
 
 abbrev pub invariant-loop-i : goal.invariant-loop-i

@@ -1,6 +1,5 @@
 -- The entry that goes past the place is the first one.
-use Rattle.std.proofs.Common.{arith}
-use Rattle.nc_base.specs.declared.plan.Owned.{Owned}
+use Rattle.aggregator_rounds.proofs.Words.{arith, Owned}
 use Rattle.aggregator_rounds.proofs.SplitSteps.{entry_ends, ends_more, goes_past, none_after}
 use Rattle.aggregator_rounds.proofs.unserved.ends_by.Goals as goal
 

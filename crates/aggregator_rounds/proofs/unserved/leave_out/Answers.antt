@@ -1,7 +1,6 @@
 -- No end is too large for a word, so that the test is that of the ends.
-use Rattle.std.proofs.Common.{rules, ◌∙◌, ◌+◌}
-use Rattle.std.specs.Prelude.{nat_lt, min}
-use Rattle.std.proofs.lemmas.Fn.{filter_same}
+use Rattle.aggregator_rounds.proofs.Words.{rules, ◌∙◌, ◌+◌, nat_lt, filter_same}
+use Rattle.std.specs.Prelude.{min}
 use Rattle.aggregator_rounds.proofs.PastSteps.{filter_ends}
 use Rattle.aggregator_rounds.proofs.unserved.leave_out.Goals as goal
 

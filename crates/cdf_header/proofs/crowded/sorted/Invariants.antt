@@ -1,6 +1,4 @@
-use Rattle.std.proofs.Common.{◌≡◌, ℕ, ◌<◌, get_or}
-use Rattle.std.specs.List.{Contains}
-use Rattle.cdf_header.specs.declared.spans.Span.{Span}
+use Rattle.cdf_header.proofs.Words.{◌≡◌, ℕ, ◌<◌, get_or, Contains, Span}
 use Rattle.cdf_header.proofs.crowded.sorted.Given as goal
 
 abbrev pub invariant-loop-span : goal.invariant-loop-span

@@ -1,8 +1,4 @@
-use Rattle.std.proofs.Common.{List, sym, subst}
-use Rattle.nc_base.specs.declared.header.Attr.{Attr}
-use Rattle.nc_base.specs.declared.header.Dim.{Dim}
-use Rattle.serial_spec.specs.SoundHeaders.{is_writable_attr, is_writable_dim}
-use Rattle.cdf_header.specs.Writable.{IsWritableList}
+use Rattle.cdf_header.proofs.Words.{List, sym, subst, Attr, Dim, is_writable_attr, is_writable_dim, IsWritableList}
 use Rattle.cdf_header.proofs.Parts.{attrs_ready, dims_ready, records_fit, vars_ready}
 use Rattle.cdf_header.proofs.encoding.encode.Goals as goal
 

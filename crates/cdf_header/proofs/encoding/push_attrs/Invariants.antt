@@ -1,6 +1,4 @@
-use Rattle.std.proofs.Common.{◌≡◌, ◌++◌, take}
-use Rattle.std.specs.List.{flat_map}
-use Rattle.serial_spec.specs.HeaderBytes.{attribute}
+use Rattle.cdf_header.proofs.Words.{◌≡◌, ◌++◌, take, flat_map, attribute}
 use Rattle.cdf_header.proofs.encoding.push_attrs.Given as goal
 
 abbrev pub invariant-loop-attr : goal.invariant-loop-attr

@@ -1,6 +1,4 @@
-use Rattle.std.proofs.Common.{◌≡◌, ◌++◌, take}
-use Rattle.std.specs.List.{flat_map}
-use Rattle.serial_spec.specs.HeaderBytes.{dimension}
+use Rattle.cdf_header.proofs.Words.{◌≡◌, ◌++◌, take, flat_map, dimension}
 use Rattle.cdf_header.proofs.encoding.push_dims.Given as goal
 
 abbrev pub invariant-loop-dim : goal.invariant-loop-dim

@@ -1,6 +1,4 @@
-use Rattle.std.proofs.Common.{◌≡◌, ◌++◌, take}
-use Rattle.std.specs.List.{flat_map}
-use Rattle.serial_spec.specs.HeaderBytes.{count}
+use Rattle.cdf_header.proofs.Words.{◌≡◌, ◌++◌, take, flat_map, count}
 use Rattle.cdf_header.proofs.encoding.push_ids.Given as goal
 
 abbrev pub invariant-loop-id : goal.invariant-loop-id

@@ -1,6 +1,4 @@
-use Rattle.std.proofs.Common.{◌≡◌, ◌++◌, take}
-use Rattle.std.specs.List.{flat_map}
-use Rattle.serial_spec.specs.HeaderBytes.{variable}
+use Rattle.cdf_header.proofs.Words.{◌≡◌, ◌++◌, take, flat_map, variable}
 use Rattle.cdf_header.proofs.encoding.push_vars.Given as goal
 
 abbrev pub invariant-loop-var : goal.invariant-loop-var

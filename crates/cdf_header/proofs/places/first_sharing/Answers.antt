@@ -1,8 +1,4 @@
-use Rattle.std.proofs.Common.{◌≡◌, ℕ, ◌^◌, ◌<◌, min, arith, List, Option, ◌∙◌, ap, sym, subst}
-use Rattle.std.specs.Prelude.{IfOk}
-use Rattle.serial_spec.specs.Layout.{recsize}
-use Rattle.cdf_header.specs.declared.spans.Span.{Span}
-use Rattle.cdf_header.specs.Spans.{AreSpans, shared_pair}
+use Rattle.cdf_header.proofs.Words.{◌≡◌, ℕ, ◌^◌, ◌<◌, min, arith, List, Option, ◌∙◌, ap, sym, subst, IfOk, recsize, Span, AreSpans, shared_pair}
 use Rattle.cdf_header.proofs.Measured.{bounds_kept, record_size_kept}
 use Rattle.cdf_header.proofs.Spanned.{are_spans, sharing_by_spans}
 use Rattle.cdf_header.proofs.places.first_sharing.Goals as goal

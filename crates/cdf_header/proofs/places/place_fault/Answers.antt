@@ -1,4 +1,4 @@
-use Rattle.std.proofs.Common.{◌∙◌, sym}
+use Rattle.cdf_header.proofs.Words.{◌∙◌, sym}
 use Rattle.cdf_header.proofs.Measured.{is_measured}
 use Rattle.cdf_header.proofs.places.place_fault.Goals as goal
 

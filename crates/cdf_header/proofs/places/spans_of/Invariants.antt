@@ -1,5 +1,4 @@
-use Rattle.std.proofs.Common.{◌≡◌, ◌++◌, drop}
-use Rattle.cdf_header.specs.Spans.{spans_of}
+use Rattle.cdf_header.proofs.Words.{◌≡◌, ◌++◌, drop, spans_of}
 use Rattle.cdf_header.proofs.places.spans_of.Given as goal
 
 abbrev pub invariant-loop-number : goal.invariant-loop-number

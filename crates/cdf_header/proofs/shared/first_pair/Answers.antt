@@ -1,4 +1,4 @@
-use Rattle.std.proofs.Common.{arith}
+use Rattle.cdf_header.proofs.Words.{arith}
 use Rattle.cdf_header.proofs.Apart.{none_behind}
 use Rattle.cdf_header.proofs.shared.first_pair.Goals as goal
 

@@ -1,5 +1,4 @@
-use Rattle.std.proofs.Common.{◌≡◌, drop}
-use Rattle.cdf_header.specs.Spans.{shared_pair}
+use Rattle.cdf_header.proofs.Words.{◌≡◌, drop, shared_pair}
 use Rattle.cdf_header.proofs.shared.first_pair.Given as goal
 
 abbrev pub invariant-loop-k : goal.invariant-loop-k

@@ -1,5 +1,4 @@
-use Rattle.std.proofs.Common.{◌≡◌, drop}
-use Rattle.cdf_header.specs.Spans.{partner}
+use Rattle.cdf_header.proofs.Words.{◌≡◌, drop, partner}
 use Rattle.cdf_header.proofs.shared.partner.Given as goal
 
 abbrev pub invariant-loop-q : goal.invariant-loop-q

@@ -1,9 +1,5 @@
-use Rattle.std.proofs.Common.{◌≡◌, ℕ, ◌<◌, ◌≤◌, true, sym, ap, subst, ◌∙◌, arith, get_or, inl, inr}
-use Rattle.std.specs.Prelude.{nat_lt, false}
-use Rattle.std.proofs.lemmas.Bool.{cases_lt}
-use Rattle.std.proofs.lemmas.List.{get_or_default}
-use Rattle.std.proofs.lemmas.Grind.{common_steps}
-use Rattle.cdf_header.specs.declared.spans.Span.{Span}
+use Rattle.cdf_header.proofs.Words.{◌≡◌, ℕ, ◌<◌, ◌≤◌, true, sym, ap, subst, ◌∙◌, arith, get_or, inl, inr, nat_lt, cases_lt, get_or_default, common_steps, Span}
+use Rattle.std.specs.Prelude.{false}
 use Rattle.cdf_header.proofs.spans.first_overlapped.Goals as goal
 
 -- the span that is reached now, and one ahead of it

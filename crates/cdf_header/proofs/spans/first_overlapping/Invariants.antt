@@ -1,5 +1,4 @@
-use Rattle.std.proofs.Common.{ℕ, ◌≤◌, ◌<◌, ◌+◌, length, get_or}
-use Rattle.cdf_header.specs.declared.spans.Span.{Span}
+use Rattle.cdf_header.proofs.Words.{ℕ, ◌≤◌, ◌<◌, ◌+◌, length, get_or, Span}
 use Rattle.cdf_header.proofs.spans.first_overlapping.Given as goal
 
 abbrev pub invariant-loop-behind : goal.invariant-loop-behind

@@ -1,5 +1,4 @@
-use Rattle.std.proofs.Common.{ℕ, ◌≤◌, ◌<◌, get_or}
-use Rattle.cdf_header.specs.declared.spans.Span.{Span}
+use Rattle.cdf_header.proofs.Words.{ℕ, ◌≤◌, ◌<◌, get_or, Span}
 use Rattle.cdf_header.proofs.spans.greatest_end.Given as goal
 
 abbrev pub invariant-loop-span : goal.invariant-loop-span

@@ -1,13 +1,7 @@
 -- A rank after another.
-use Rattle.std.proofs.Common.{ℕ, ◌+◌, ◌++◌, List, length, subst, sym, ap, ◌∙◌, arith}
-use Rattle.overlay_laws.proofs.Members.{read_in}
-use Rattle.nc_base.specs.declared.plan.Batch.{Batch}
-use Rattle.nc_base.specs.declared.plan.Post.{Post}
-use Rattle.overlay_laws.specs.Entries.{In}
-use Rattle.collective_round.specs.Gathered.{entries_of_posts, posts_of}
+use Rattle.collective_round.proofs.Words.{ℕ, ◌+◌, ◌++◌, List, length, subst, sym, ap, ◌∙◌, arith, read_in, Batch, Post, In, entries_of_posts, posts_of, next_numbered}
 use Rattle.collective_round.proofs.StepEntries.{few_posts}
 use Rattle.collective_round.proofs.gathered.entries.Goals as goal
-use Rattle.list_laws.proofs.Maps.{next_numbered}
 
 pub push_posts-requires-clause-few : goal.push_posts-requires-clause-few
 push_posts-requires-clause-few c =

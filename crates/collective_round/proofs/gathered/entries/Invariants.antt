@@ -1,8 +1,5 @@
 -- The entries so far, and those of the batches that are left, are all.
-use Rattle.std.proofs.Common.{◌≡◌, ◌+◌, ◌++◌, drop}
-use Rattle.std.specs.Prelude.{flat_map}
-use Rattle.std.specs.List.{enumerate_from}
-use Rattle.collective_round.specs.Gathered.{entries_of_all, entries_of_posts, posts_of}
+use Rattle.collective_round.proofs.Words.{◌≡◌, ◌+◌, ◌++◌, drop, flat_map, enumerate_from, entries_of_all, entries_of_posts, posts_of}
 use Rattle.collective_round.proofs.gathered.entries.Given as goal
 
 abbrev pub invariant-loop-k : goal.invariant-loop-k

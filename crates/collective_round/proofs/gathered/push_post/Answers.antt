@@ -1,7 +1,5 @@
 -- An extent after another.
-use Rattle.std.proofs.Common.{ap, arith}
-use Rattle.vara_extents.specs.Left.{extents_left}
-use Rattle.vara_extents.specs.declared.walk.Extents.{Extents}
+use Rattle.collective_round.proofs.Words.{ap, arith, extents_left, Extents}
 use Rattle.collective_round.proofs.PostEntries.{all_left, first_small, next_left, none_left, left_of}
 use Rattle.collective_round.proofs.gathered.push_post.Goals as goal
 

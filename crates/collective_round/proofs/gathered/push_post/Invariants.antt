@@ -1,9 +1,7 @@
 -- The extents that are left give the rest of the entries.
-use Rattle.std.proofs.Common.{◌++◌}
-use Rattle.collective_round.specs.Gathered.{entries_of}
+use Rattle.collective_round.proofs.Words.{◌++◌, entries_of, extents_left}
 use Rattle.collective_round.proofs.PostEntries.{IsGoing}
 use Rattle.collective_round.proofs.gathered.push_post.Given as goal
-use Rattle.vara_extents.specs.Left.{extents_left}
 
 abbrev pub invariant-loop-extent : goal.invariant-loop-extent
 invariant-loop-extent l =

@@ -1,5 +1,5 @@
 -- Each post is one of the list.
-use Rattle.overlay_laws.proofs.Members.{read_in}
+use Rattle.collective_round.proofs.Words.{read_in}
 use Rattle.collective_round.proofs.gathered.push_posts.Goals as goal
 
 pub push_post-requires-clause-accepted : goal.push_post-requires-clause-accepted

@@ -1,8 +1,5 @@
 -- The entries so far, and those of the posts that are left, are all.
-use Rattle.std.proofs.Common.{◌≡◌, ◌++◌, drop}
-use Rattle.std.specs.Prelude.{flat_map}
-use Rattle.std.specs.List.{enumerate_from}
-use Rattle.collective_round.specs.Gathered.{entries_of, entries_of_posts}
+use Rattle.collective_round.proofs.Words.{◌≡◌, ◌++◌, drop, flat_map, enumerate_from, entries_of, entries_of_posts}
 use Rattle.collective_round.proofs.gathered.push_posts.Given as goal
 
 abbrev pub invariant-loop-slot : goal.invariant-loop-slot

@@ -1,6 +1,5 @@
 -- One part more is taken back.
-use Rattle.std.proofs.Common.{◌+◌, arith}
-use Rattle.exchange_crew.specs.Parts.{PartState, part_state}
+use Rattle.collective_round.proofs.Words.{◌+◌, arith, PartState, part_state}
 use Rattle.collective_round.proofs.PartSplits.{follow_at, follow_first, joined_next, joined_one}
 use Rattle.collective_round.proofs.parts.append_all.Goals as goal
 

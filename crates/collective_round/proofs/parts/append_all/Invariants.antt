@@ -1,8 +1,6 @@
 -- The parts that are left follow the disk, and with them it is the whole.
-use Rattle.std.proofs.Common.{◌≡◌, ◌+◌, map}
-use Rattle.collective_round.specs.Parts.{with_parts, Follow}
+use Rattle.collective_round.proofs.Words.{◌≡◌, ◌+◌, map, with_parts, Follow, part_state}
 use Rattle.collective_round.proofs.parts.append_all.Given as goal
-use Rattle.exchange_crew.specs.Parts.{part_state}
 
 abbrev pub invariant-loop-part : goal.invariant-loop-part
 invariant-loop-part g l = record {

@@ -1,11 +1,5 @@
 -- One share more is cut: its domain, where it has a byte.
-use Rattle.std.proofs.Common.{◌≡◌, ℕ, ◌+◌, ◌∙◌, sym, subst, List, vec_capacity, arith}
-use Rattle.std.specs.Prelude.{Vec}
-use Rattle.std.specs.declared.alloc.Global.{Global}
-use Rattle.nc_base.specs.declared.plan.Extent.{Extent}
-use Rattle.file_domains.specs.Domains.{low_of, share_of}
-use Rattle.file_domains.specs.Rounds.{bytes_in}
-use Rattle.overlay_laws.specs.Walks.{end_after}
+use Rattle.collective_round.proofs.Words.{◌≡◌, ℕ, ◌+◌, ◌∙◌, sym, subst, List, vec_capacity, arith, Vec, Global, Extent, low_of, share_of, bytes_in, end_after}
 use Rattle.collective_round.proofs.DomainCuts.{cut_domains, cut_more, cut_none, cut_windows, ends_below, last_border, share_bytes, within_reach, AreCut}
 use Rattle.collective_round.proofs.DomainSteps.{domain_is, in_range_hints}
 use Rattle.collective_round.proofs.parts.domains_of.Goals as goal

@@ -1,5 +1,5 @@
 -- The shares so far are cut.
-use Rattle.std.proofs.Common.{◌≡◌, ◌+◌, vec_capacity}
+use Rattle.collective_round.proofs.Words.{◌≡◌, ◌+◌, vec_capacity}
 use Rattle.collective_round.proofs.DomainCuts.{AreCut}
 use Rattle.collective_round.proofs.parts.domains_of.Given as goal
 

@@ -1,8 +1,5 @@
 -- The first extent begins at the first covered byte, and the last one ends behind the last.
-use Rattle.std.proofs.Common.{◌≡◌, ◌+◌, ◌-◌, ◌^◌, ◌<◌, ◌≤◌, ◌∙◌, sym, ap, length, arith}
-use Rattle.std.specs.Option.{option_copied}
-use Rattle.serial_spec.proofs.MemberLaws.{at_in}
-use Rattle.overlay_laws.specs.Walks.{end_after, first_at}
+use Rattle.collective_round.proofs.Words.{◌≡◌, ◌+◌, ◌-◌, ◌^◌, ◌<◌, ◌≤◌, ◌∙◌, sym, ap, length, arith, option_copied, at_in, end_after, first_at}
 use Rattle.collective_round.proofs.DomainCuts.{reach_is}
 use Rattle.collective_round.proofs.parts.reach_of.Goals as goal
 

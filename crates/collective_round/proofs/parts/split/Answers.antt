@@ -1,8 +1,5 @@
 -- What was split off goes back.
-use Rattle.std.proofs.Common.{◌≡◌, ◌+◌, ◌-◌, ◌^◌, ◌∙◌, min, sym, ap, subst, List, drop, map, arith}
-use Rattle.nc_outside.specs.declared.disk.DiskErr.TheVariants.{Failed}
-use Rattle.exchange_crew.specs.Parts.{PartState, part_state}
-use Rattle.collective_round.specs.Parts.{parts_of, with_parts, Follow}
+use Rattle.collective_round.proofs.Words.{◌≡◌, ◌+◌, ◌-◌, ◌^◌, ◌∙◌, min, sym, ap, subst, List, drop, map, arith, Failed, PartState, part_state, parts_of, with_parts, Follow}
 use Rattle.collective_round.proofs.PartLaws.{parts_follow, parts_rejoined}
 use Rattle.collective_round.proofs.PartSplits.{adjoin_dropped, end_dropped, joined_at_least, same_fault}
 use Rattle.collective_round.proofs.parts.split.Goals as goal

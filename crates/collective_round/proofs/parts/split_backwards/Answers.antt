@@ -1,9 +1,5 @@
 -- One domain more is split off.
-use Rattle.std.proofs.Common.{◌≡◌, ◌-◌, ◌∙◌, sym, ap, subst, List, [], ◌∷◌, ◌++◌, drop, get_or, length, arith}
-use Rattle.std.proofs.lemmas.List.{length_push}
-use Rattle.nc_base.specs.declared.plan.Extent.{Extent}
-use Rattle.exchange_crew.specs.Parts.{PartState, part_state}
-use Rattle.collective_round.specs.Parts.{begin_or, part_between, parts_of, IsFront}
+use Rattle.collective_round.proofs.Words.{◌≡◌, ◌-◌, ◌∙◌, sym, ap, subst, List, [], ◌∷◌, ◌++◌, drop, get_or, length, arith, length_push, Extent, PartState, part_state, begin_or, part_between, parts_of, IsFront}
 use Rattle.collective_round.proofs.PartSplits.{begins_there, front_more, last_left, part_split, turned_more}
 use Rattle.collective_round.proofs.parts.split_backwards.Goals as goal
 

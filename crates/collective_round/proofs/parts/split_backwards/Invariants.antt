@@ -1,9 +1,6 @@
 -- The domains from k on are split off.
-use Rattle.std.proofs.Common.{◌≡◌, ◌+◌, ◌≤◌, drop, length, map, vec_capacity}
-use Rattle.std.specs.Prelude.{reverse}
-use Rattle.collective_round.specs.Parts.{parts_of, IsFront}
+use Rattle.collective_round.proofs.Words.{◌≡◌, ◌+◌, ◌≤◌, drop, length, map, vec_capacity, reverse, parts_of, IsFront, part_state}
 use Rattle.collective_round.proofs.parts.split_backwards.Given as goal
-use Rattle.exchange_crew.specs.Parts.{part_state}
 
 abbrev pub invariant-loop-k : goal.invariant-loop-k
 invariant-loop-k g l = record {

@@ -1,11 +1,5 @@
 -- The gets of the parts are those of the disk.
-use Rattle.std.proofs.Common.{◌≡◌, ◌∙◌, ℕ, List, length, rules, arith}
-use Rattle.std.proofs.lemmas.Grind.{common_steps}
-use Rattle.std.specs.Prelude.{flat_map}
-use Rattle.list_laws.proofs.Optional.{if_some_at}
-use Rattle.get_exchange.specs.Gets.{get_turns}
-use Rattle.get_exchange.specs.Blobs.{HasRead}
-use Rattle.exchange_crew.specs.Parts.{PartState, part_state}
+use Rattle.collective_round.proofs.Words.{◌≡◌, ◌∙◌, ℕ, List, length, rules, arith, common_steps, flat_map, if_some_at, get_turns, HasRead, PartState, part_state}
 use Rattle.collective_round.proofs.PartDomains.{as_many_parts, domain_of_part, on_some_part}
 use Rattle.collective_round.proofs.PutPartLaws.{are_split, cover_room, parts_cause, plan_room, AreSplit}
 use Rattle.collective_round.proofs.GetPartLaws.{gets_follow, part_read, parts_got, told_read, HasGotWhole}

@@ -1,9 +1,5 @@
 -- The puts of the parts are those of the disk.
-use Rattle.std.proofs.Common.{◌∙◌, rules, arith}
-use Rattle.std.proofs.lemmas.Grind.{common_steps}
-use Rattle.std.specs.Prelude.{flat_map}
-use Rattle.exchange_crew.specs.Plan.{planned_turns, source_in}
-use Rattle.exchange_crew.specs.Parts.{PartState, part_state}
+use Rattle.collective_round.proofs.Words.{◌∙◌, rules, arith, common_steps, flat_map, planned_turns, source_in, PartState, part_state}
 use Rattle.collective_round.proofs.PartDomains.{as_many_parts, domain_of_part}
 use Rattle.collective_round.proofs.PutParts.{HasPutWhole}
 use Rattle.collective_round.proofs.PutPartLaws.{are_split, cover_room, parts_cause, parts_follow, parts_put, plan_room}

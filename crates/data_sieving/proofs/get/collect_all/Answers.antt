@@ -1,14 +1,6 @@
 -- Each entry's bytes lie in its blob.
-use Rattle.std.proofs.Common.{◌+◌, ◌∙◌, refl, ap, List, map, get_or}
-use Rattle.std.proofs.lemmas.List.{take_all}
-use Rattle.overlay_laws.proofs.Members.{entry_in}
-use Rattle.nc_base.specs.declared.plan.Owned.{Owned}
-use Rattle.serial_spec.specs.Said.{write_cells}
-use Rattle.data_sieving.specs.Sieving.{of_slot}
-use Rattle.aggregator_rounds.specs.EntryParts.{blob_at, buffer_cell}
-use Rattle.aggregator_rounds.proofs.SplitSteps.{entry_ends}
+use Rattle.data_sieving.proofs.Words.{◌+◌, ◌∙◌, refl, ap, List, map, get_or, take_all, entry_in, Owned, write_cells, of_slot, blob_at, buffer_cell, entry_ends, slot_below}
 use Rattle.data_sieving.proofs.CollectedSteps.{fit_as_long, as_long_twice, collected_more, collected_long}
-use Rattle.aggregator_rounds.proofs.PartSteps.{slot_below}
 use Rattle.data_sieving.proofs.get.collect_all.Goals as goal
 
 abbrev none : Owned

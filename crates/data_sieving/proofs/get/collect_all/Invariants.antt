@@ -1,8 +1,5 @@
 -- The blobs have the bytes of the entries so far.
-use Rattle.std.proofs.Common.{◌≡◌, ℕ, ◌+◌, take, map}
-use Rattle.serial_spec.specs.Said.{write_cells}
-use Rattle.data_sieving.specs.Sieving.{of_slot, AreAsLong}
-use Rattle.aggregator_rounds.specs.EntryParts.{blob_at, buffer_cell}
+use Rattle.data_sieving.proofs.Words.{◌≡◌, ℕ, ◌+◌, take, map, write_cells, of_slot, AreAsLong, blob_at, buffer_cell}
 use Rattle.data_sieving.proofs.get.collect_all.Given as goal
 
 abbrev pub invariant-loop-entry : goal.invariant-loop-entry

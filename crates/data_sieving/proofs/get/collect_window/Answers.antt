@@ -1,7 +1,5 @@
 -- The bytes of those that were carried are copied first, and then those of the ones behind them.
-use Rattle.std.proofs.Common.{◌+◌}
-use Rattle.overlay_laws.proofs.HullLaws.{in_left, in_right}
-use Rattle.aggregator_rounds.proofs.SplitSteps.{extents_left, extents_right}
+use Rattle.data_sieving.proofs.Words.{◌+◌, in_left, in_right, extents_left, extents_right}
 use Rattle.data_sieving.proofs.CollectedSteps.{as_long_twice, collected_twice, fit_as_long}
 use Rattle.data_sieving.proofs.get.collect_window.Goals as goal
 

@@ -1,5 +1,5 @@
 -- The bytes that are copied are the file's.
-use Rattle.data_sieving.specs.Walked.{entries_in}
+use Rattle.data_sieving.proofs.Words.{entries_in}
 use Rattle.data_sieving.proofs.CollectedSteps.{collected_read}
 use Rattle.data_sieving.proofs.get.read_window.Goals as goal
 

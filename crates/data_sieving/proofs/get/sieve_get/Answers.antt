@@ -1,22 +1,10 @@
 -- Each window brings the blobs' bytes up to its end.
-use Rattle.std.proofs.Common.{◌≡◌, ◌++◌, ◌∙◌, refl, sym, ap, subst, List, length, take, drop, ℕ, Option, arith}
-use Rattle.std.specs.Prelude.{flat_map, IfSome}
-use Rattle.std.specs.List.{refill}
-use Rattle.std.proofs.Math.Seq.{take-append_seam}
-use Rattle.serial_spec.specs.DeviceCalls.{loads}
-use Rattle.nc_outside.specs.Told.{with_end}
-use Rattle.nc_base.specs.declared.step.DiskCall.{DiskCall}
-use Rattle.overlay_laws.specs.Changes.{IsBegun, load_calls}
-use Rattle.data_sieving.specs.Sieving.{entry_windows, AreAsLong, HasGot}
-use Rattle.data_sieving.specs.Walked.{entries_in, HasDone, HasGotPart, IsNext, windows_from}
-use Rattle.aggregator_rounds.specs.Left.{entries_left}
-use Rattle.aggregator_rounds.proofs.PastSteps.{past_twice, all_left, walk_begin}
+use Rattle.data_sieving.proofs.Words.{◌≡◌, ◌++◌, ◌∙◌, refl, sym, ap, subst, List, length, take, drop, ℕ, Option, arith, flat_map, IfSome, refill, take-append_seam, loads, with_end, DiskCall, IsBegun, load_calls, entry_windows, AreAsLong, HasGot, entries_in, HasDone, HasGotPart, IsNext, windows_from, entries_left, past_twice, all_left, walk_begin, on_err}
 use Rattle.data_sieving.proofs.WindowSteps.{goes_on}
 use Rattle.data_sieving.proofs.CallSteps.{none_begun}
 use Rattle.data_sieving.proofs.ReachSteps.{served_in, hull_low, hull_high, hull_end, served_ends, served_filled}
 use Rattle.data_sieving.proofs.CollectedSteps.{as_long_twice, fit_as_long, got_none, got_more, got_all}
 use Rattle.data_sieving.proofs.LoopSteps.{none_carried, walk_ready, calls_begin, calls_more, calls_end}
-use Rattle.list_laws.proofs.Results.{on_err}
 use Rattle.data_sieving.proofs.get.sieve_get.Goals as goal
 
 -- the blobs that were lent, as they come back

@@ -1,10 +1,5 @@
 -- The blobs have the entries' bytes up to a place, and the calls of the windows so far were made.
-use Rattle.std.proofs.Common.{◌≡◌, ◌-◌, ◌^◌, ◌≤◌, length}
-use Rattle.std.specs.Prelude.{flat_map, IfSome}
-use Rattle.serial_spec.specs.DeviceCalls.{loads}
-use Rattle.data_sieving.specs.Sieving.{entry_windows, AreAsLong}
-use Rattle.aggregator_rounds.specs.Left.{entries_left, IsPast}
-use Rattle.data_sieving.specs.Walked.{AreLeft, HasDone, LieAcross, HasGotPart, windows_from}
+use Rattle.data_sieving.proofs.Words.{◌≡◌, ◌-◌, ◌^◌, ◌≤◌, length, flat_map, IfSome, loads, entry_windows, AreAsLong, entries_left, IsPast, AreLeft, HasDone, LieAcross, HasGotPart, windows_from}
 use Rattle.data_sieving.proofs.get.sieve_get.Given as goal
 
 abbrev pub invariant-windows : goal.invariant-windows

@@ -1,10 +1,5 @@
 -- Each entry's bytes lie in its post.
-use Rattle.std.proofs.Common.{get_or}
-use Rattle.overlay_laws.proofs.Members.{entry_in}
-use Rattle.nc_base.specs.declared.plan.Owned.{Owned}
-use Rattle.aggregator_rounds.specs.EntryParts.{source_of}
-use Rattle.aggregator_rounds.proofs.SplitSteps.{entry_ends}
-use Rattle.aggregator_rounds.proofs.PartSteps.{found_at}
+use Rattle.data_sieving.proofs.Words.{get_or, entry_in, Owned, source_of, entry_ends, found_at}
 use Rattle.data_sieving.proofs.put.lay_all.Goals as goal
 
 abbrev none : Owned

@@ -1,8 +1,5 @@
 -- The buffer has the bytes of the entries so far.
-use Rattle.std.proofs.Common.{◌≡◌, ◌+◌, length, take, map}
-use Rattle.serial_spec.specs.Said.{write_cells}
-use Rattle.aggregator_rounds.specs.EntryParts.{source_of}
-use Rattle.aggregator_rounds.proofs.PartSteps.{laid_cell}
+use Rattle.data_sieving.proofs.Words.{◌≡◌, ◌+◌, length, take, map, write_cells, source_of, laid_cell}
 use Rattle.data_sieving.proofs.put.lay_all.Given as goal
 
 abbrev pub invariant-loop-entry : goal.invariant-loop-entry

@@ -1,8 +1,5 @@
 -- Those that were carried are laid first, and then those behind them.
-use Rattle.std.proofs.Common.{◌+◌}
-use Rattle.overlay_laws.proofs.HullLaws.{in_left, in_right}
-use Rattle.aggregator_rounds.specs.EntryParts.{source_of}
-use Rattle.aggregator_rounds.proofs.SplitSteps.{extents_left, extents_right}
+use Rattle.data_sieving.proofs.Words.{◌+◌, in_left, in_right, source_of, extents_left, extents_right}
 use Rattle.data_sieving.proofs.ReachSteps.{found_left, found_right}
 use Rattle.data_sieving.proofs.PutSteps.{laid_twice}
 use Rattle.data_sieving.proofs.put.lay_window.Goals as goal

@@ -1,12 +1,5 @@
 -- The hull as it is written is the old one with the entries' bytes.
-use Rattle.std.proofs.Common.{◌≡◌, ◌+◌, length, rules, arith}
-use Rattle.std.proofs.lemmas.Grind.{common_steps}
-use Rattle.overlay_laws.specs.Windows.{clips}
-use Rattle.overlay_laws.proofs.WindowLaws.{clips_from, clips_within}
-use Rattle.aggregator_rounds.proofs.RoundLaws.{window_told_by, window_refused_by, window_begun}
-use Rattle.data_sieving.specs.Sieving.{put_cells}
-use Rattle.data_sieving.specs.Walked.{entries_in}
-use Rattle.list_laws.proofs.Results.{on_err}
+use Rattle.data_sieving.proofs.Words.{◌≡◌, ◌+◌, length, rules, arith, common_steps, clips, clips_from, clips_within, window_told_by, window_refused_by, window_begun, put_cells, entries_in, on_err}
 use Rattle.data_sieving.proofs.put.put_window.Goals as goal
 
 pub returns-clause-bytes : goal.returns-clause-bytes

@@ -1,19 +1,8 @@
 -- Each window brings the entries' bytes up to its end.
-use Rattle.std.proofs.Common.{◌+◌, ◌∙◌, refl, sym, ap, subst, length, ℕ, arith}
-use Rattle.std.specs.Prelude.{flat_map}
-use Rattle.serial_spec.specs.DeviceCalls.{overlays}
-use Rattle.nc_outside.specs.Told.{with_end}
-use Rattle.overlay_laws.specs.Changes.{IsBegun, store_calls}
-use Rattle.aggregator_rounds.specs.EntryParts.{source_of}
-use Rattle.data_sieving.specs.Sieving.{entry_windows}
-use Rattle.data_sieving.specs.Walked.{entries_in, HasDone, IsNext, windows_from}
-use Rattle.aggregator_rounds.specs.Left.{entries_left}
-use Rattle.aggregator_rounds.proofs.PastSteps.{past_twice, all_left, walk_begin}
+use Rattle.data_sieving.proofs.Words.{◌+◌, ◌∙◌, refl, sym, ap, subst, length, ℕ, arith, flat_map, overlays, with_end, IsBegun, store_calls, source_of, entry_windows, entries_in, HasDone, IsNext, windows_from, entries_left, past_twice, all_left, walk_begin, covered_place, on_err}
 use Rattle.data_sieving.proofs.WindowSteps.{goes_on}
-use Rattle.aggregator_rounds.proofs.EntryCells.{covered_place}
 use Rattle.data_sieving.proofs.ReachSteps.{hull_low, hull_high, hull_end, served_ends, served_filled, served_found}
 use Rattle.data_sieving.proofs.LoopSteps.{none_carried, walk_ready, calls_begin, calls_more, stores_begun, calls_end, put_begin, put_more, put_refused, put_end}
-use Rattle.list_laws.proofs.Results.{on_err}
 use Rattle.data_sieving.proofs.put.sieve_put.Goals as goal
 
 pub windows-init : goal.windows-init

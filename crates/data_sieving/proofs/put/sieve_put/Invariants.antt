@@ -1,11 +1,5 @@
 -- The disk has the entries' bytes up to a place, and the calls of the windows so far were made.
-use Rattle.std.proofs.Common.{◌≡◌, ◌-◌, ◌^◌, ◌≤◌, length}
-use Rattle.std.specs.Prelude.{flat_map}
-use Rattle.nc_outside.specs.Told.{after}
-use Rattle.serial_spec.specs.DeviceCalls.{overlays}
-use Rattle.data_sieving.specs.Sieving.{put_cells, entry_windows}
-use Rattle.aggregator_rounds.specs.Left.{entries_left, IsPast}
-use Rattle.data_sieving.specs.Walked.{AreLeft, HasDone, LieAcross, windows_from}
+use Rattle.data_sieving.proofs.Words.{◌≡◌, ◌-◌, ◌^◌, ◌≤◌, length, flat_map, after, overlays, put_cells, entry_windows, entries_left, IsPast, AreLeft, HasDone, LieAcross, windows_from}
 use Rattle.data_sieving.proofs.PutSteps.{file_to}
 use Rattle.data_sieving.proofs.put.sieve_put.Given as goal
 

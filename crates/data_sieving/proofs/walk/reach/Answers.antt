@@ -1,9 +1,5 @@
 -- Each entry has all bytes from the place to its end.
-use Rattle.std.proofs.Common.{◌∙◌, ap, subst, List, max, min, arith, ℕ}
-use Rattle.std.proofs.lemmas.List.{take_all}
-use Rattle.nc_base.specs.declared.plan.Owned.{Owned}
-use Rattle.data_sieving.specs.Walked.{Reach}
-use Rattle.aggregator_rounds.proofs.SplitSteps.{entry_ends}
+use Rattle.data_sieving.proofs.Words.{◌∙◌, ap, subst, List, max, min, arith, ℕ, take_all, Owned, Reach, entry_ends}
 use Rattle.data_sieving.proofs.HullSteps.{reach_none, reach_more}
 use Rattle.data_sieving.proofs.walk.reach.Goals as goal
 

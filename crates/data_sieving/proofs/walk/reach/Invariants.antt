@@ -1,6 +1,5 @@
 -- The entries so far reach up to `end`.
-use Rattle.std.proofs.Common.{take}
-use Rattle.data_sieving.specs.Walked.{Reach}
+use Rattle.data_sieving.proofs.Words.{take, Reach}
 use Rattle.data_sieving.proofs.walk.reach.Given as goal
 
 abbrev pub invariant-loop-entry : goal.invariant-loop-entry

@@ -1,8 +1,5 @@
 -- Each entry makes the hull longer, or has a hole before it.
-use Rattle.std.proofs.Common.{inl, inr, ◌∙◌, ap, sym, refl, max, min, get_or, arith, ℕ}
-use Rattle.std.proofs.lemmas.List.{length-append}
-use Rattle.nc_base.specs.declared.plan.Owned.{Owned}
-use Rattle.aggregator_rounds.proofs.SplitSteps.{entry_ends, extents_left, extents_right}
+use Rattle.data_sieving.proofs.Words.{inl, inr, ◌∙◌, ap, sym, refl, max, min, get_or, arith, ℕ, length-append, Owned, entry_ends, extents_left, extents_right}
 use Rattle.data_sieving.proofs.HullSteps.{reach_scanned, scanned_more, all_scanned}
 use Rattle.data_sieving.proofs.walk.window_of.Goals.{then-entry-end, else-entry-end}
 use Rattle.data_sieving.proofs.walk.window_of.Goals as goal

@@ -1,5 +1,5 @@
 -- The entries so far reach up to `end`.
-use Rattle.std.proofs.Common.{◌+◌, ◌++◌, length, take}
+use Rattle.data_sieving.proofs.Words.{◌+◌, ◌++◌, length, take}
 use Rattle.data_sieving.proofs.HullSteps.{Scanned}
 use Rattle.data_sieving.proofs.walk.window_of.Given as goal
 

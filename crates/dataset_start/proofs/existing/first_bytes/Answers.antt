@@ -1,4 +1,4 @@
-use Rattle.std.proofs.Common.{refl}
+use Rattle.dataset_start.proofs.Words.{refl}
 use Rattle.dataset_start.proofs.Opened.{front_calls}
 use Rattle.dataset_start.proofs.existing.first_bytes.Goals as goal
 

@@ -1,5 +1,4 @@
-use Rattle.std.proofs.Common.{arith}
-use Rattle.var_layout.proofs.ElementPlaces.{sound_end}
+use Rattle.dataset_start.proofs.Words.{arith, sound_end}
 use Rattle.dataset_start.proofs.existing.lengthen.Goals as goal
 
 pub end_of-end-requires-clause-below : goal.end_of-end-requires-clause-below

@@ -1,14 +1,8 @@
-use Rattle.std.proofs.Common.{ap, inl, ◌∙◌}
-use Rattle.std.specs.Prelude.{IfSome}
-use Rattle.dataset_start.specs.Dataset.{TellsDataset}
-use Rattle.dataset_start.specs.Stops.{line_of}
+use Rattle.dataset_start.proofs.Words.{ap, inl, ◌∙◌, IfSome, TellsDataset, line_of, on_err, on_err_weaker, both_ways}
 use Rattle.dataset_start.proofs.NotReady.{lengthen_refused, redefine_refused}
 use Rattle.dataset_start.proofs.ReadyLaws.{bad-header, bad-redefinition, no_extras, ready-kept, redefined-ready, redefined_long, some_extras}
 use Rattle.dataset_start.proofs.Untold.{disk-untold, redefinition-leaves}
 use Rattle.dataset_start.proofs.existing.open.Goals as goal
-use Rattle.list_laws.proofs.Results.{on_err}
-use Rattle.std.proofs.lemmas.Result.{on_err_weaker}
-use Rattle.std.proofs.lemmas.Bool.{both_ways}
 
 pub returns-in_err-old-clause-bad : goal.returns-in_err-old-clause-bad
 returns-in_err-old-clause-bad g c =

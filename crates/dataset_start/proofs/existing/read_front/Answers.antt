@@ -1,8 +1,4 @@
-use Rattle.std.proofs.Common.{◌≡◌, ◌-◌, ◌^◌, min, ℕ, List, take, drop, length, sym, subst, arith, rules}
-use Rattle.std.specs.Prelude.{IfSome}
-use Rattle.std.specs.Vec.{with_items}
-use Rattle.std.proofs.lemmas.List.{with_items_is}
-use Rattle.dataset_start.specs.Dataset.{front}
+use Rattle.dataset_start.proofs.Words.{◌≡◌, ◌-◌, ◌^◌, min, ℕ, List, take, drop, length, sym, subst, arith, rules, IfSome, with_items, with_items_is, front}
 use Rattle.dataset_start.proofs.Opened.{read_front}
 use Rattle.dataset_start.proofs.existing.read_front.Goals as goal
 

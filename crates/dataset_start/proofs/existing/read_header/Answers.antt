@@ -1,7 +1,5 @@
-use Rattle.std.proofs.Common.{◌≡◌, ◌⊎◌, List, ℕ, subst}
+use Rattle.dataset_start.proofs.Words.{◌≡◌, ◌⊎◌, List, ℕ, subst, HasFault, BeginsWith}
 use Rattle.nc_base.specs.declared.errors.HeaderErr.TheVariants as fault
-use Rattle.serial_spec.specs.HeaderFaults.{HasFault}
-use Rattle.cdf_header.specs.Decoded.{BeginsWith}
 use Rattle.dataset_start.proofs.Opened.{faultless, opened, tells}
 use Rattle.redef_laws.proofs.OpenedLaws as laws
 use Rattle.dataset_start.proofs.existing.read_header.Goals as goal

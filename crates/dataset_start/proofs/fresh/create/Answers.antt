@@ -1,15 +1,7 @@
-use Rattle.std.proofs.Common.{◌≡◌, ◌≤◌, ◌-◌, ℕ, List, refl, arith, ◌∙◌, ap}
-use Rattle.redef_laws.proofs.MovedLaws.{writable_is_sound}
-use Rattle.nc_outside.specs.Told.{after}
-use Rattle.serial_spec.specs.File.{longer, written}
-use Rattle.serial_spec.specs.Layout.{end_of}
-use Rattle.nc_base.specs.declared.header.Header.{Header}
-use Rattle.serial_spec.specs.HeaderBytes.{canon, header_len}
-use Rattle.var_layout.proofs.ElementPlaces.{sound_end}
+use Rattle.dataset_start.proofs.Words.{◌≡◌, ◌≤◌, ◌-◌, ℕ, List, refl, arith, ◌∙◌, ap, writable_is_sound, after, longer, written, end_of, Header, canon, header_len, sound_end, on_err}
 use Rattle.dataset_start.proofs.Created.{created, front_fits}
 use Rattle.dataset_start.proofs.NotReady.{grow_refused, head_refused, not_started, start_refused}
 use Rattle.dataset_start.proofs.fresh.create.Goals as goal
-use Rattle.list_laws.proofs.Results.{on_err}
 
 pub end_of-end-requires-clause-sound : goal.end_of-end-requires-clause-sound
 end_of-end-requires-clause-sound g c = writable_is_sound c.args.header.now c.requires.writable

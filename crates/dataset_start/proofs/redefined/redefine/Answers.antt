@@ -1,7 +1,7 @@
 use Rattle.dataset_start.proofs.Keeping.{kept_extras, kept_whole_extras, kept_wr_buffer}
 use Rattle.dataset_start.proofs.NotReady.{not_redefined, relocate_refused}
 use Rattle.dataset_start.proofs.redefined.redefine.Goals as goal
-use Rattle.list_laws.proofs.Results.{on_err}
+use Rattle.dataset_start.proofs.Words.{on_err}
 
 pub apply-requires-clause-lawful : goal.apply-requires-clause-lawful
 apply-requires-clause-lawful g c = kept_extras c.args.script.now c.requires.kept

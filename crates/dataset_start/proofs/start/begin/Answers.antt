@@ -1,10 +1,9 @@
 use Rattle.dataset_start.proofs.Keeping.{read_kept}
-use Rattle.std.proofs.Common.{inl, inr, refl}
+use Rattle.dataset_start.proofs.Words.{inl, inr, refl, on_err}
 use Rattle.dataset_start.proofs.NotReady.{left_unready}
 use Rattle.dataset_start.proofs.ReadyLaws.{bad-asked, laid-mislaid, of_bad_layout}
 use Rattle.dataset_start.proofs.Untold.{laid-asked, not-before}
 use Rattle.dataset_start.proofs.start.begin.Goals as goal
-use Rattle.list_laws.proofs.Results.{on_err}
 
 pub make_ready-requires-clause-kept : goal.make_ready-requires-clause-kept
 make_ready-requires-clause-kept g c = λ _ _. read_kept c.in_ok-script.ensures.read.0 c.in_ok-script.script c.in_ok-script.ensures.read.1

@@ -1,6 +1,4 @@
-use Rattle.std.proofs.Common.{◌≡◌, true, sym, subst, arith}
-use Rattle.nc_base.specs.declared.header.Header.{Header}
-use Rattle.var_layout.specs.Unplaced.{has_writable_parts, is_unplaced}
+use Rattle.dataset_start.proofs.Words.{◌≡◌, true, sym, subst, arith, Header, has_writable_parts, is_unplaced}
 use Rattle.dataset_start.proofs.Keeping.{kept_header_align, kept_var_align}
 use Rattle.dataset_start.proofs.start.laid_out.Goals as goal
 

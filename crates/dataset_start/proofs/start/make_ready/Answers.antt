@@ -1,11 +1,8 @@
-use Rattle.std.proofs.Common.{◌∙◌, inl, refl}
-use Rattle.redef_laws.proofs.MovedLaws.{writable_is_sound}
+use Rattle.dataset_start.proofs.Words.{◌∙◌, inl, refl, writable_is_sound, on_err, both_ways}
 use Rattle.dataset_start.proofs.Keeping.{kept_created, kept_hints, kept_records}
 use Rattle.dataset_start.proofs.NotReady.{create_refused, fill_refused}
 use Rattle.dataset_start.proofs.ReadyLaws.{created_long, laid-mislaid, ready-created}
 use Rattle.dataset_start.proofs.start.make_ready.Goals as goal
-use Rattle.list_laws.proofs.Results.{on_err}
-use Rattle.std.proofs.lemmas.Bool.{both_ways}
 
 pub returns-in_ok-fill-clause-ready : goal.returns-in_ok-fill-clause-ready
 returns-in_ok-fill-clause-ready g c =

@@ -1,8 +1,4 @@
-use Rattle.std.proofs.Common.{◌≡◌, ◌+◌, ◌-◌, ℕ, List, ◌++◌, length, take, drop, sym, ap, ◌∙◌, Option, arith, refl}
-use Rattle.std.proofs.Math.Seq.{take-add}
-use Rattle.std.proofs.lemmas.List.{take_rest}
-use Rattle.nc_outside.specs.Told.{with_end}
-use Rattle.nc_outside.proofs.ToldLaws.{with_end-with_end}
+use Rattle.dataset_start.proofs.Words.{◌≡◌, ◌+◌, ◌-◌, ℕ, List, ◌++◌, length, take, drop, sym, ap, ◌∙◌, Option, arith, refl, take-add, take_rest, with_end, with_end-with_end}
 use Rattle.dataset_start.proofs.streams.give_all.Goals as goal
 
 -- what was given, with the front of what is left

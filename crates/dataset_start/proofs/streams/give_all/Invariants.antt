@@ -1,5 +1,4 @@
-use Rattle.std.proofs.Common.{◌≡◌, ◌≤◌, ◌-◌, length, take}
-use Rattle.nc_outside.specs.Told.{with_end}
+use Rattle.dataset_start.proofs.Words.{◌≡◌, ◌≤◌, ◌-◌, length, take, with_end}
 use Rattle.dataset_start.proofs.streams.give_all.Given as goal
 
 abbrev pub invariant-loop-at : goal.invariant-loop-at

@@ -1,6 +1,5 @@
-use Rattle.std.proofs.Common.{◌≡◌, ℕ, List, ◌++◌, length, take, Option, Some, None, sym, ap, ◌∙◌, append_assoc, length-append, arith}
-use Rattle.std.proofs.lemmas.List.{length-take}
-use Rattle.nc_outside.specs.Told.{with_front}
+use Rattle.dataset_start.proofs.Words.{◌≡◌, ℕ, List, ◌++◌, length, take, Option, Some, None, sym, ap, ◌∙◌, append_assoc, arith, length-take, with_front}
+use Rattle.std.proofs.Common.{length-append}
 use Rattle.dataset_start.proofs.streams.take_all.Goals as goal
 
 -- what was taken, and one piece more

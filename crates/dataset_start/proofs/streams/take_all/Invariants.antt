@@ -1,6 +1,4 @@
-use Rattle.std.proofs.Common.{◌≡◌, ◌≤◌, vec_len}
-use Rattle.nc_outside.specs.Told.{with_front}
-use Rattle.dataset_start.specs.Limits.{max_text}
+use Rattle.dataset_start.proofs.Words.{◌≡◌, ◌≤◌, vec_len, with_front, max_text}
 use Rattle.dataset_start.proofs.streams.take_all.Given as goal
 
 abbrev pub invariant-loop-turn : goal.invariant-loop-turn

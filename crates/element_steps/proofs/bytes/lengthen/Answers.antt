@@ -1,7 +1,5 @@
 -- One zero more.
-use Rattle.std.proofs.Common.{◌+◌, ◌∙◌, sym, ap, ◌∷◌, [], List, ℕ, length, length-append, arith}
-use Rattle.serial_spec.specs.File.{longer}
-use Rattle.serial_spec.proofs.FileLaws.{longer-enough}
+use Rattle.element_steps.proofs.Words.{◌+◌, ◌∙◌, sym, ap, ◌∷◌, [], List, ℕ, length, length-append, arith, longer, longer-enough}
 use Rattle.element_steps.proofs.GatherLaws.{longer_push}
 use Rattle.element_steps.proofs.bytes.lengthen.Goals as goal
 

@@ -1,6 +1,5 @@
 -- The zeros that are still to come make the whole.
-use Rattle.std.proofs.Common.{◌≡◌, length}
-use Rattle.serial_spec.specs.File.{longer}
+use Rattle.element_steps.proofs.Words.{◌≡◌, length, longer}
 use Rattle.element_steps.proofs.bytes.lengthen.Given as goal
 
 abbrev pub invariant-loop-length : goal.invariant-loop-length

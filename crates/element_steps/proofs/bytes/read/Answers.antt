@@ -1,5 +1,5 @@
 -- One byte more.
-use Rattle.std.proofs.Common.{ap, ◌∙◌, ◌++◌, ◌∷◌, [], ℕ}
+use Rattle.element_steps.proofs.Words.{ap, ◌∙◌, ◌++◌, ◌∷◌, [], ℕ}
 use Rattle.element_steps.proofs.GatherLaws.{read_more}
 use Rattle.element_steps.proofs.bytes.read.Goals as goal
 

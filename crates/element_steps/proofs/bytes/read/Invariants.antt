@@ -1,6 +1,5 @@
 -- The bytes so far.
-use Rattle.std.proofs.Common.{◌≡◌, ◌++◌}
-use Rattle.serial_spec.specs.File.{read}
+use Rattle.element_steps.proofs.Words.{◌≡◌, ◌++◌, read}
 use Rattle.element_steps.proofs.bytes.read.Given as goal
 
 abbrev pub invariant-loop-k : goal.invariant-loop-k

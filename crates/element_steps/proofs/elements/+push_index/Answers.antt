@@ -1,12 +1,7 @@
 -- An index, one dimension after another.
-use Rattle.std.proofs.Common.{◌++◌, ◌∙◌, ◌^◌, ◌%◌, ℕ, List, ap, sym, subst, append-nil, append_assoc, rules}
-use Rattle.std.proofs.lemmas.Result.{on_ok_weaker}
-use Rattle.serial_spec.specs.Request.{index_at}
-use Rattle.vara_extents.specs.Numbered.{coordinates_of}
-use Rattle.element_steps.specs.Requests.{AreBelow}
+use Rattle.element_steps.proofs.Words.{◌++◌, ◌∙◌, ◌^◌, ◌%◌, ℕ, List, ap, sym, subst, append-nil, append_assoc, rules, on_ok_weaker, index_at, coordinates_of, AreBelow, rest}
 use Rattle.element_steps.proofs.IndexLaws.{index_step, no_counts}
 use Rattle.element_steps.proofs.elements.+push_index.Goals as goal
-use Rattle.vara_extents.proofs.RowSteps.{rest}
 
 pub returns-in_default-counts : goal.returns-in_default-counts
 returns-in_default-counts t c =

@@ -1,4 +1,4 @@
-use Rattle.std.proofs.Common.{length}
+use Rattle.element_steps.proofs.Words.{length}
 use Rattle.element_steps.proofs.elements.+push_index.Given as goal
 
 abbrev pub decreases-push_index : goal.decreases-push_index

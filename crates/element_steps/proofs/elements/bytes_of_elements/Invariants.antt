@@ -1,9 +1,5 @@
 -- The bytes so far, and those of the elements that are left.
-use Rattle.std.proofs.Common.{◌≡◌, ◌++◌, drop}
-use Rattle.std.specs.Prelude.{flat_map}
-use Rattle.std.specs.List.{range_with_len}
-use Rattle.serial_spec.specs.ExternalForm.{size_of}
-use Rattle.serial_spec.specs.Request.{places}
+use Rattle.element_steps.proofs.Words.{◌≡◌, ◌++◌, drop, flat_map, range_with_len, size_of, places}
 use Rattle.element_steps.proofs.elements.bytes_of_elements.Given as goal
 
 abbrev pub invariant-loop-number : goal.invariant-loop-number

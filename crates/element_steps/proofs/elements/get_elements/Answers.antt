@@ -1,9 +1,5 @@
 -- One element more.
-use Rattle.std.proofs.Common.{◌++◌, ◌∙◌, ℕ, Some, ap, sym, arith}
-use Rattle.serial_spec.specs.ExternalForm.{size_of}
-use Rattle.serial_spec.specs.File.{read}
-use Rattle.serial_spec.specs.Request.{places}
-use Rattle.vara_extents.proofs.NumberLaws.{length-places, place_at}
+use Rattle.element_steps.proofs.Words.{◌++◌, ◌∙◌, ℕ, Some, ap, sym, arith, size_of, read, places, length-places, place_at}
 use Rattle.element_steps.proofs.GatherLaws.{gather_end, gather_step}
 use Rattle.element_steps.proofs.IndexLaws.{counted}
 use Rattle.element_steps.proofs.elements.get_elements.Goals as goal

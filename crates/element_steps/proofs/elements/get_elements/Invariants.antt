@@ -1,9 +1,5 @@
 -- The bytes so far, and those of the elements that are left.
-use Rattle.std.proofs.Common.{◌≡◌, ◌++◌, drop}
-use Rattle.std.specs.Prelude.{flat_map}
-use Rattle.serial_spec.specs.ExternalForm.{size_of}
-use Rattle.serial_spec.specs.File.{read}
-use Rattle.serial_spec.specs.Request.{get, places}
+use Rattle.element_steps.proofs.Words.{◌≡◌, ◌++◌, drop, flat_map, size_of, read, get, places}
 use Rattle.element_steps.proofs.elements.get_elements.Given as goal
 
 abbrev pub invariant-loop-number : goal.invariant-loop-number

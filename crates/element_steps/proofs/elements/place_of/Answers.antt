@@ -1,10 +1,7 @@
 -- The index is that of the element.
-use Rattle.std.proofs.Common.{◌≡◌, ◌∙◌, arith}
-use Rattle.list_laws.proofs.Optional.{if_some_at}
-use Rattle.serial_spec.specs.Place.{place}
+use Rattle.element_steps.proofs.Words.{◌≡◌, ◌∙◌, arith, if_some_at, place, slice_get_within}
 use Rattle.element_steps.proofs.IndexLaws.{index_is, numbered_below, numbered_element, numbered_low}
 use Rattle.element_steps.proofs.elements.place_of.Goals as goal
-use Rattle.std.proofs.lemmas.Option.{slice_get_within}
 
 pub push_index-requires-clause-low : goal.push_index-requires-clause-low
 push_index-requires-clause-low c =

@@ -1,6 +1,5 @@
 -- The numbers so far.
-use Rattle.std.proofs.Common.{◌≡◌, ◌++◌}
-use Rattle.std.specs.List.{range_with_len}
+use Rattle.element_steps.proofs.Words.{◌≡◌, ◌++◌, range_with_len}
 use Rattle.element_steps.proofs.elements.push_range.Given as goal
 
 abbrev pub invariant-loop-k : goal.invariant-loop-k

@@ -1,8 +1,5 @@
 -- One element more.
-use Rattle.std.proofs.Common.{◌*◌, ◌∙◌, ℕ, List, Some, ap, sym, take, drop, arith}
-use Rattle.serial_spec.specs.ExternalForm.{size_of}
-use Rattle.serial_spec.specs.Request.{places}
-use Rattle.vara_extents.proofs.NumberLaws.{length-places, place_at}
+use Rattle.element_steps.proofs.Words.{◌*◌, ◌∙◌, ℕ, List, Some, ap, sym, take, drop, arith, size_of, places, length-places, place_at}
 use Rattle.element_steps.proofs.IndexLaws.{counted}
 use Rattle.element_steps.proofs.WriteSteps.{put_end, put_step}
 use Rattle.element_steps.proofs.elements.put_elements.Goals as goal

@@ -1,8 +1,5 @@
 -- The elements that are left make the whole.
-use Rattle.std.proofs.Common.{◌≡◌, ◌*◌, drop}
-use Rattle.serial_spec.specs.ExternalForm.{size_of}
-use Rattle.serial_spec.specs.Request.{cells, places, put}
-use Rattle.serial_spec.specs.Said.{write_cells}
+use Rattle.element_steps.proofs.Words.{◌≡◌, ◌*◌, drop, size_of, cells, places, put, write_cells}
 use Rattle.element_steps.proofs.elements.put_elements.Given as goal
 
 abbrev pub invariant-loop-number : goal.invariant-loop-number

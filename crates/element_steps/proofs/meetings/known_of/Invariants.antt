@@ -1,7 +1,5 @@
 -- The count so far.
-use Rattle.std.proofs.Common.{◌≡◌, map, max, drop}
-use Rattle.serial_spec.specs.FileStep.{known_by}
-use Rattle.serial_spec.specs.Layout.{greatest}
+use Rattle.element_steps.proofs.Words.{◌≡◌, map, max, drop, known_by, greatest}
 use Rattle.element_steps.proofs.meetings.known_of.Given as goal
 
 abbrev pub invariant-loop-offer : goal.invariant-loop-offer

@@ -1,12 +1,7 @@
 -- The puts are those of all ranks, and the step is that of the definition.
-use Rattle.std.proofs.Common.{ℕ, List, ◌∙◌, refl, ap, subst, map, arith}
-use Rattle.overlay_laws.specs.Entries.{In}
-use Rattle.serial_spec.specs.FileStep.{after_puts, needs, told}
-use Rattle.serial_spec.specs.SharedByte.{Puts}
-use Rattle.element_steps.specs.Requests.{reply_to, setting}
+use Rattle.element_steps.proofs.Words.{ℕ, List, ◌∙◌, refl, ap, subst, map, arith, In, after_puts, needs, told, Puts, reply_to, setting, some_limit}
 use Rattle.element_steps.proofs.MeetSteps.{known_low, meeting_file, meeting_records, meeting_replies, needs_low, puts_right, Done}
 use Rattle.element_steps.proofs.meetings.meeting.Goals as goal
-use Rattle.serial_spec.proofs.CountLaws.{some_limit}
 
 pub told-requires-clause-accepted : goal.told-requires-clause-accepted
 told-requires-clause-accepted c = λ p m.

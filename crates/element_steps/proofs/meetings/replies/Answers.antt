@@ -1,9 +1,5 @@
 -- One reply more.
-use Rattle.std.proofs.Common.{List, ap, subst, ◌∙◌, map}
-use Rattle.overlay_laws.proofs.Members.{read_in}
-use Rattle.overlay_laws.specs.Entries.{In}
-use Rattle.nc_base.specs.declared.plan.Post.{Post}
-use Rattle.serial_spec.specs.FileStep.{get_post}
+use Rattle.element_steps.proofs.Words.{List, ap, subst, ◌∙◌, map, read_in, In, Post, get_post}
 use Rattle.element_steps.proofs.MeetSteps.{reply_end, reply_step}
 use Rattle.element_steps.proofs.meetings.replies.Goals as goal
 

@@ -1,7 +1,5 @@
 -- The replies so far, and those to the offers that are left.
-use Rattle.std.proofs.Common.{◌≡◌, ◌++◌, map, drop}
-use Rattle.serial_spec.specs.FileStep.{Setting}
-use Rattle.element_steps.specs.Requests.{reply_to}
+use Rattle.element_steps.proofs.Words.{◌≡◌, ◌++◌, map, drop, Setting, reply_to}
 use Rattle.element_steps.proofs.meetings.replies.Given as goal
 
 abbrev pub invariant-loop-offer : goal.invariant-loop-offer

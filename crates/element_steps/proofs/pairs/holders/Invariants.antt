@@ -1,6 +1,5 @@
 -- The holders among the last holdings.
-use Rattle.std.proofs.Common.{◌≡◌, ◌-◌, drop, length}
-use Rattle.serial_spec.specs.SharedByte.{holders}
+use Rattle.element_steps.proofs.Words.{◌≡◌, ◌-◌, drop, length, holders}
 use Rattle.element_steps.proofs.pairs.holders.Given as goal
 
 abbrev pub invariant-loop-k : goal.invariant-loop-k

@@ -1,5 +1,5 @@
 -- Each put is accepted.
-use Rattle.overlay_laws.proofs.Members.{read_in}
+use Rattle.element_steps.proofs.Words.{read_in}
 use Rattle.element_steps.proofs.pairs.holdings.Goals as goal
 
 pub bytes_of-requires-clause-accepted : goal.bytes_of-requires-clause-accepted

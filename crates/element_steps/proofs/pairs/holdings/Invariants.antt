@@ -1,6 +1,5 @@
 -- What the puts so far hold.
-use Rattle.std.proofs.Common.{◌≡◌, take}
-use Rattle.serial_spec.specs.SharedByte.{holdings}
+use Rattle.element_steps.proofs.Words.{◌≡◌, take, holdings}
 use Rattle.element_steps.proofs.pairs.holdings.Given as goal
 
 abbrev pub invariant-loop-put : goal.invariant-loop-put

@@ -1,6 +1,5 @@
 -- One byte more.
-use Rattle.std.proofs.Common.{refl}
-use Rattle.serial_spec.specs.SharedByte.{is_shared}
+use Rattle.element_steps.proofs.Words.{refl, is_shared}
 use Rattle.element_steps.proofs.PairSteps.{least_step}
 use Rattle.element_steps.proofs.pairs.least_among.Goals as goal
 

@@ -1,7 +1,5 @@
 -- The least so far, and those that are left.
-use Rattle.std.proofs.Common.{◌≡◌, drop, filter}
-use Rattle.serial_spec.specs.SharedByte.{is_shared}
-use Rattle.element_steps.specs.Least.{least_with}
+use Rattle.element_steps.proofs.Words.{◌≡◌, drop, filter, is_shared, least_with}
 use Rattle.element_steps.proofs.pairs.least_among.Given as goal
 
 abbrev pub invariant-loop-byte : goal.invariant-loop-byte

@@ -1,6 +1,5 @@
 -- The least so far, and those that are left.
-use Rattle.std.proofs.Common.{◌≡◌, drop, fold}
-use Rattle.serial_spec.specs.SharedByte.{lesser_key}
+use Rattle.element_steps.proofs.Words.{◌≡◌, drop, fold, lesser_key}
 use Rattle.element_steps.proofs.pairs.least_from.Given as goal
 
 abbrev pub invariant-loop-key : goal.invariant-loop-key

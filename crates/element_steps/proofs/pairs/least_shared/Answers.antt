@@ -1,7 +1,5 @@
 -- One holding more.
-use Rattle.std.proofs.Common.{◌∙◌, ℕ, List, ap, filter}
-use Rattle.serial_spec.specs.SharedByte.{all_bytes, is_shared}
-use Rattle.element_steps.specs.Least.{least_with}
+use Rattle.element_steps.proofs.Words.{◌∙◌, ℕ, List, ap, filter, all_bytes, is_shared, least_with}
 use Rattle.element_steps.proofs.PairSteps.{held_step, least_is}
 use Rattle.element_steps.proofs.pairs.least_shared.Goals as goal
 

@@ -1,7 +1,5 @@
 -- The least so far, and those that are left.
-use Rattle.std.proofs.Common.{◌≡◌, drop, filter}
-use Rattle.serial_spec.specs.SharedByte.{all_bytes, is_shared, least}
-use Rattle.element_steps.specs.Least.{least_with}
+use Rattle.element_steps.proofs.Words.{◌≡◌, drop, filter, all_bytes, is_shared, least, least_with}
 use Rattle.element_steps.proofs.pairs.least_shared.Given as goal
 
 abbrev pub invariant-loop-one : goal.invariant-loop-one

@@ -1,6 +1,5 @@
 -- Those so far, and those that are left.
-use Rattle.std.proofs.Common.{◌≡◌, ◌++◌, drop, filter, not}
-use Rattle.serial_spec.specs.SharedByte.{same_key}
+use Rattle.element_steps.proofs.Words.{◌≡◌, ◌++◌, drop, filter, not, same_key}
 use Rattle.element_steps.proofs.pairs.others.Given as goal
 
 abbrev pub invariant-loop-key : goal.invariant-loop-key

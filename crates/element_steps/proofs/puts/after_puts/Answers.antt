@@ -1,7 +1,5 @@
 -- The file is as long as the puts need it, and has them.
-use Rattle.std.proofs.Common.{ℕ, ◌<◌, ◌^◌, sym, subst}
-use Rattle.serial_spec.specs.HeaderBytes.{header_len}
-use Rattle.serial_spec.specs.Layout.{end_of}
+use Rattle.element_steps.proofs.Words.{ℕ, ◌<◌, ◌^◌, sym, subst, header_len, end_of}
 use Rattle.element_steps.proofs.PutSteps.{after_all, ends_low}
 use Rattle.element_steps.proofs.puts.after_puts.Goals as goal
 

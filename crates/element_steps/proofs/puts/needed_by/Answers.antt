@@ -1,5 +1,5 @@
 -- One put more.
-use Rattle.overlay_laws.proofs.Members.{read_in}
+use Rattle.element_steps.proofs.Words.{read_in}
 use Rattle.element_steps.proofs.PutSteps.{needed_end, needed_is, needed_step}
 use Rattle.element_steps.proofs.puts.needed_by.Goals as goal
 

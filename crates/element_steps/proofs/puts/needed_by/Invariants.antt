@@ -1,6 +1,5 @@
 -- The count so far, and that of the puts that are left.
-use Rattle.std.proofs.Common.{◌≡◌, max, drop}
-use Rattle.serial_spec.specs.Records.{needed_by}
+use Rattle.element_steps.proofs.Words.{◌≡◌, max, drop, needed_by}
 use Rattle.element_steps.proofs.puts.needed_by.Given as goal
 
 abbrev pub invariant-loop-put : goal.invariant-loop-put

@@ -1,5 +1,5 @@
 -- One put more.
-use Rattle.overlay_laws.proofs.Members.{read_in}
+use Rattle.element_steps.proofs.Words.{read_in}
 use Rattle.element_steps.proofs.PutSteps.{write_end, write_step}
 use Rattle.element_steps.proofs.puts.write_all.Goals as goal
 

@@ -1,6 +1,5 @@
 -- The puts that are left make the whole.
-use Rattle.std.proofs.Common.{◌≡◌, drop, fold}
-use Rattle.serial_spec.specs.FileStep.{put_post, Setting}
+use Rattle.element_steps.proofs.Words.{◌≡◌, drop, fold, put_post, Setting}
 use Rattle.element_steps.proofs.puts.write_all.Given as goal
 
 abbrev pub invariant-loop-one : goal.invariant-loop-one

@@ -1,5 +1,5 @@
 -- The puts so far.
-use Rattle.std.proofs.Common.{◌≡◌, ◌++◌, map, take}
+use Rattle.element_steps.proofs.Words.{◌≡◌, ◌++◌, map, take}
 use Rattle.element_steps.proofs.steps.add_puts.Given as goal
 
 abbrev pub invariant-loop-post : goal.invariant-loop-post

@@ -1,5 +1,5 @@
 -- One get more.
-use Rattle.overlay_laws.proofs.Members.{read_in}
+use Rattle.element_steps.proofs.Words.{read_in}
 use Rattle.element_steps.proofs.StepSteps.{got_step}
 use Rattle.element_steps.proofs.steps.get_all.Goals as goal
 

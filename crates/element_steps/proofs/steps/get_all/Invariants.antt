@@ -1,6 +1,5 @@
 -- The bytes so far, and those of the gets that are left.
-use Rattle.std.proofs.Common.{◌≡◌, ◌++◌, drop, map}
-use Rattle.serial_spec.specs.FileStep.{get_post, Setting}
+use Rattle.element_steps.proofs.Words.{◌≡◌, ◌++◌, drop, map, get_post, Setting}
 use Rattle.element_steps.proofs.steps.get_all.Given as goal
 
 abbrev pub invariant-loop-post : goal.invariant-loop-post

@@ -1,8 +1,5 @@
 -- The puts so far, and those of the ranks that are left.
-use Rattle.std.proofs.Common.{◌≡◌, ◌++◌, drop}
-use Rattle.std.specs.Prelude.{flat_map}
-use Rattle.std.specs.List.{enumerate_from}
-use Rattle.serial_spec.specs.FileStep.{puts_of}
+use Rattle.element_steps.proofs.Words.{◌≡◌, ◌++◌, drop, flat_map, enumerate_from, puts_of}
 use Rattle.element_steps.proofs.steps.puts_of.Given as goal
 
 abbrev pub invariant-loop-rank : goal.invariant-loop-rank

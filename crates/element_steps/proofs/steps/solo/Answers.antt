@@ -1,8 +1,5 @@
 -- The puts are those of the rank.
-use Rattle.std.proofs.Common.{ℕ, List, ◌++◌, ◌∙◌, ap, subst}
-use Rattle.nc_base.specs.declared.plan.Post.{Post}
-use Rattle.overlay_laws.specs.Entries.{In}
-use Rattle.serial_spec.specs.FileStep.{puts_of}
+use Rattle.element_steps.proofs.Words.{ℕ, List, ◌++◌, ◌∙◌, ap, subst, Post, In, puts_of}
 use Rattle.element_steps.proofs.MeetSteps.{own_right}
 use Rattle.element_steps.proofs.steps.solo.Goals as goal
 

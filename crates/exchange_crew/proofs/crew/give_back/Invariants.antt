@@ -1,5 +1,5 @@
 -- The parts so far came back.
-use Rattle.std.proofs.Common.{◌≡◌, ◌++◌, vec_capacity}
+use Rattle.exchange_crew.proofs.Words.{◌≡◌, ◌++◌, vec_capacity}
 use Rattle.exchange_crew.proofs.crew.give_back.Given as goal
 
 abbrev pub invariant-loop-part : goal.invariant-loop-part

@@ -1,10 +1,5 @@
 -- A walk's windows, told by their hulls.
-use Rattle.std.proofs.Common.{◌∙◌, List, map, ap}
-use Rattle.nc_base.specs.declared.plan.Extent.{Extent}
-use Rattle.file_domains.specs.Rounds.{bytes_in}
-use Rattle.file_domains.specs.declared.walk.Window.{Window}
-use Rattle.aggregator_rounds.specs.Pieces.{told_window}
-use Rattle.exchange_crew.specs.Turns.{turns_of}
+use Rattle.exchange_crew.proofs.Words.{◌∙◌, List, map, ap, Extent, bytes_in, Window, told_window, turns_of}
 use Rattle.exchange_crew.proofs.DomainTurns.{told_windows}
 use Rattle.exchange_crew.proofs.walk.domain_windows.Goals as goal
 

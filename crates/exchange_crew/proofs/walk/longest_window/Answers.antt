@@ -1,8 +1,5 @@
 -- One domain more.
-use Rattle.std.proofs.Common.{sym, subst, List, arith}
-use Rattle.std.proofs.lemmas.List.{take_all}
-use Rattle.nc_base.specs.declared.plan.Extent.{Extent}
-use Rattle.overlay_laws.specs.Entries.{In}
+use Rattle.exchange_crew.proofs.Words.{sym, subst, List, arith, take_all, Extent, In}
 use Rattle.exchange_crew.proofs.BackLaws.{longest_more}
 use Rattle.exchange_crew.proofs.walk.longest_window.Goals as goal
 

@@ -1,7 +1,5 @@
 -- It holds the windows of the domains so far.
-use Rattle.std.proofs.Common.{◌≤◌, min, take}
-use Rattle.nc_base.specs.declared.plan.Extent.{Extent}
-use Rattle.overlay_laws.specs.Entries.{In}
+use Rattle.exchange_crew.proofs.Words.{◌≤◌, min, take, Extent, In}
 use Rattle.exchange_crew.proofs.walk.longest_window.Given as goal
 
 abbrev pub invariant-loop-domain : goal.invariant-loop-domain

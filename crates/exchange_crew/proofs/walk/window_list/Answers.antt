@@ -1,8 +1,5 @@
 -- One window more.
-use Rattle.std.proofs.Common.{◌∙◌, ◌++◌, ◌∷◌, [], sym, ap, append_assoc, map, List}
-use Rattle.std.proofs.lemmas.List.{append-nil, map-append}
-use Rattle.aggregator_rounds.specs.Pieces.{told_window}
-use Rattle.exchange_crew.specs.Turns.{turns_ahead, Told}
+use Rattle.exchange_crew.proofs.Words.{◌∙◌, ◌++◌, ◌∷◌, [], sym, ap, append_assoc, map, List, append-nil, map-append, told_window, turns_ahead, Told}
 use Rattle.exchange_crew.proofs.walk.window_list.Goals as goal
 
 pub turns-preserved : goal.turns-preserved

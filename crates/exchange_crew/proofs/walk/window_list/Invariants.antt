@@ -1,8 +1,5 @@
 -- The windows so far, and those ahead.
-use Rattle.std.proofs.Common.{◌≡◌, ◌++◌, length, map}
-use Rattle.file_domains.specs.Rounds.{IsWalk}
-use Rattle.aggregator_rounds.specs.Pieces.{told_window}
-use Rattle.exchange_crew.specs.Turns.{turns_ahead, turns_of}
+use Rattle.exchange_crew.proofs.Words.{◌≡◌, ◌++◌, length, map, IsWalk, told_window, turns_ahead, turns_of}
 use Rattle.exchange_crew.proofs.walk.window_list.Given as goal
 
 abbrev pub invariant-turns : goal.invariant-turns

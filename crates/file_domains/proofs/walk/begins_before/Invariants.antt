@@ -1,6 +1,5 @@
 -- The extents so far begin before the place.
-use Rattle.std.proofs.Common.{◌≡◌, ℕ, ◌<◌, slice_get, Some}
-use Rattle.nc_base.specs.declared.plan.Extent.{Extent}
+use Rattle.file_domains.proofs.Words.{◌≡◌, ℕ, ◌<◌, slice_get, Some, Extent}
 use Rattle.file_domains.proofs.walk.begins_before.Given as goal
 
 abbrev pub invariant-loop-i : goal.invariant-loop-i

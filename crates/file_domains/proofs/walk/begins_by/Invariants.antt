@@ -1,7 +1,6 @@
 -- What is below the lower end begins by the place, and what is from the upper end on begins past it.
-use Rattle.std.proofs.Common.{◌≡◌, ℕ, ◌-◌, ◌<◌, ◌≤◌, length, true, false}
-use Rattle.std.specs.Prelude.{nat_le, slice_index_or}
-use Rattle.nc_base.specs.declared.plan.Extent.{Extent}
+use Rattle.file_domains.proofs.Words.{◌≡◌, ℕ, ◌-◌, ◌<◌, ◌≤◌, length, true, false, nat_le, Extent}
+use Rattle.std.specs.Prelude.{slice_index_or}
 use Rattle.file_domains.proofs.walk.begins_by.Given as goal
 
 abbrev pub invariant-halves : goal.invariant-halves

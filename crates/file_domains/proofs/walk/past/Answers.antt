@@ -1,9 +1,5 @@
 -- The last extent in front goes past the place, or it does not.
-use Rattle.std.proofs.Common.{◌+◌, ◌-◌, ◌≤◌, slice_index_or, subst, sym, ◌∙◌, arith}
-use Rattle.std.proofs.lemmas.Option.{same_Some, slice_get-get_or}
-use Rattle.overlay_laws.proofs.Members.{entry_in}
-use Rattle.nc_base.specs.declared.plan.Extent.{Extent}
-use Rattle.file_domains.specs.Rounds.{IsLeft}
+use Rattle.file_domains.proofs.Words.{◌+◌, ◌-◌, ◌≤◌, slice_index_or, subst, sym, ◌∙◌, arith, same_Some, slice_get-get_or, entry_in, Extent, IsLeft}
 use Rattle.file_domains.proofs.CoverParts.{left_from_last, left_from_next}
 use Rattle.file_domains.proofs.walk.past.Goals as goal
 use Rattle.file_domains.proofs.walk.past.Goals.{else-count-gt0-via-then-count-gt0+else-end_of-place, else-count-gt0-via-else-count-gt0}

@@ -1,11 +1,5 @@
 -- The walk begins at the first covered byte of the domain.
-use Rattle.std.proofs.Common.{◌≡◌, Some, slice_get, ℕ, ◌+◌, ◌-◌, ◌^◌, List, ap, ◌∙◌, max, arith}
-use Rattle.list_laws.proofs.Optional.{no_none_some}
-use Rattle.nc_base.specs.declared.plan.Extent.{Extent}
-use Rattle.std.specs.Prelude.{filter, nat_lt, nat_le}
-use Rattle.std.proofs.lemmas.Option.{same_Some}
-use Rattle.serial_spec.specs.Extents.{spans}
-use Rattle.file_domains.specs.Rounds.{round_windows}
+use Rattle.file_domains.proofs.Words.{◌≡◌, Some, slice_get, ℕ, ◌+◌, ◌-◌, ◌^◌, List, ap, ◌∙◌, max, arith, no_none_some, Extent, filter, nat_lt, nat_le, same_Some, spans, round_windows}
 use Rattle.file_domains.proofs.CoverParts.{cover_rises, front_low, front_high}
 use Rattle.file_domains.proofs.WalkSteps.{begin_windows, told_windows, left_from}
 use Rattle.file_domains.proofs.walk.windows.Goals as goal

@@ -1,11 +1,7 @@
 -- One more offer is taken.
-use Rattle.std.proofs.Common.{◌<◌, ◌∙◌, ◌++◌, sym, ap, length, get_or, arith}
-use Rattle.std.specs.Prelude.{slice_get}
-use Rattle.std.specs.Option.{option_to_list}
-use Rattle.turn_run.specs.Steps.{batches_of, known_of}
+use Rattle.file_owner.proofs.Words.{◌<◌, ◌∙◌, ◌++◌, sym, ap, length, get_or, arith, slice_get, option_to_list, batches_of, known_of, slice_get-get_or}
 use Rattle.file_owner.proofs.HeldLaws.{batches_on, freed_at, freed_on, known_on}
 use Rattle.file_owner.proofs.owner.take_all.Goals as goal
-use Rattle.std.proofs.lemmas.Option.{slice_get-get_or}
 
 pub loop-client-preserved : goal.loop-client-preserved
 loop-client-preserved c =

@@ -1,7 +1,5 @@
 -- The offers of the clients so far are taken, and the other clients are as they were.
-use Rattle.std.proofs.Common.{◌≡◌, ◌++◌, map, take, drop}
-use Rattle.serial_spec.specs.Owner.{freed, offers_held}
-use Rattle.turn_run.specs.Steps.{batches_of, known_of}
+use Rattle.file_owner.proofs.Words.{◌≡◌, ◌++◌, map, take, drop, freed, offers_held, batches_of, known_of}
 use Rattle.file_owner.proofs.owner.take_all.Given as goal
 
 abbrev pub invariant-loop-client : goal.invariant-loop-client

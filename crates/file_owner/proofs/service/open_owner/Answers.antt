@@ -1,9 +1,6 @@
 -- A owner at which nothing arrived.
-use Rattle.std.proofs.Common.{refl, sym, ◌∙◌, subst}
+use Rattle.file_owner.proofs.Words.{refl, sym, ◌∙◌, subst, HasHalted, taken_from, stopped_with, dataset_setting, IsSteady, Standing}
 use Rattle.nc_base.specs.declared.step.StepErr.TheVariants as fault
-use Rattle.file_owner.specs.Halted.{HasHalted, taken_from, stopped_with}
-use Rattle.collective_round.specs.Rounds.{dataset_setting}
-use Rattle.file_owner.specs.Owned.{IsSteady, Standing}
 use Rattle.file_owner.proofs.HaltLaws.{halt_none, opened_is, opening_steady}
 use Rattle.file_owner.proofs.service.open_owner.Goals as goal
 

@@ -1,10 +1,5 @@
 -- What the ends tell, from where it stopped and what came after.
-use Rattle.std.proofs.Common.{◌≡◌, ℕ, sym, ◌∙◌, subst, rules, []}
-use Rattle.nc_outside.specs.Cause.{Rose}
-use Rattle.collective_round.specs.Rounds.{counted, setting}
-use Rattle.turn_run.specs.Counts.{IsCount}
-use Rattle.file_owner.specs.Service.{arrived}
-use Rattle.owner_laws.proofs.ServedLaws.{cut_by_arrivals, done_by_arrivals}
+use Rattle.file_owner.proofs.Words.{◌≡◌, ℕ, sym, ◌∙◌, subst, rules, [], Rose, counted, setting, IsCount, arrived, cut_by_arrivals, done_by_arrivals}
 use Rattle.file_owner.proofs.EndLaws.{outcome_given}
 use Rattle.file_owner.proofs.HaltedLaws.{end_bytes, end_calls, end_cut, end_done, end_failed, end_put, end_records, end_taken, end_told}
 use Rattle.file_owner.proofs.service.serve.Goals as goal

@@ -1,8 +1,5 @@
 -- One more arrival is done, or it is the last one.
-use Rattle.std.proofs.Common.{ℕ, Err, refl, ◌∙◌, subst, arith}
-use Rattle.collective_round.specs.Rounds.{dataset_setting}
-use Rattle.file_owner.specs.Owned.{standing, Grows}
-use Rattle.file_owner.specs.Stops.{held_stops, AllHaveEnded}
+use Rattle.file_owner.proofs.Words.{ℕ, Err, refl, ◌∙◌, subst, arith, dataset_setting, standing, Grows, held_stops, AllHaveEnded}
 use Rattle.file_owner.proofs.LentLaws.{same_then}
 use Rattle.file_owner.proofs.RefusedSteps.{fault_at}
 use Rattle.file_owner.proofs.HaltLaws.{fault_cause, halt_ended, halt_fault, halt_strange, no_cause, served_more, served_none, stranger_cause}

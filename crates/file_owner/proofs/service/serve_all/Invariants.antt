@@ -1,9 +1,5 @@
 -- What was taken so far is done, and nothing of it was strange.
-use Rattle.std.proofs.Common.{◌≡◌, ◌≤◌, length}
-use Rattle.file_owner.specs.Halted.{HasServed, taken_from}
-use Rattle.collective_round.specs.Rounds.{dataset_setting}
-use Rattle.file_owner.specs.Lent.{AreSame}
-use Rattle.file_owner.specs.Owned.{standing, IsSteady}
+use Rattle.file_owner.proofs.Words.{◌≡◌, ◌≤◌, length, HasServed, taken_from, dataset_setting, AreSame, standing, IsSteady}
 use Rattle.file_owner.proofs.service.serve_all.Given as goal
 
 abbrev pub invariant-loop : goal.invariant-loop

@@ -1,7 +1,5 @@
 -- Where it stopped, and what came after.
-use Rattle.std.proofs.Common.{ℕ, ◌≤◌, sym, subst}
-use Rattle.collective_round.specs.Rounds.{dataset_setting}
-use Rattle.file_owner.specs.Owned.{first_standing}
+use Rattle.file_owner.proofs.Words.{ℕ, ◌≤◌, sym, subst, dataset_setting, first_standing}
 use Rattle.file_owner.proofs.GainedLaws.{outcome}
 use Rattle.file_owner.proofs.HaltedLaws.{halted_lines, seen_all}
 use Rattle.file_owner.proofs.service.serve_to_end.Goals as goal

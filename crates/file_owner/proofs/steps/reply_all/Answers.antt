@@ -1,13 +1,7 @@
 -- One more reply is put.
-use Rattle.std.proofs.Common.{◌∙◌, ◌∷◌, [], sym, ap, arith, length, List, ℕ, Option, None, Some}
-use Rattle.std.proofs.lemmas.List.{length-set}
-use Rattle.nc_base.specs.declared.step.OwnerItem.TheVariants.{Reply}
-use Rattle.file_owner.specs.Owned.{replies}
-use Rattle.turn_run.specs.Running.{reply_of}
+use Rattle.file_owner.proofs.Words.{◌∙◌, ◌∷◌, [], sym, ap, arith, length, List, ℕ, Option, None, Some, length-set, Reply, replies, reply_of, slice_get-get_or, left_more}
 use Rattle.file_owner.proofs.PutLaws.{all_below, put_below}
 use Rattle.file_owner.proofs.steps.reply_all.Goals as goal
-use Rattle.std.proofs.lemmas.Option.{slice_get-get_or}
-use Rattle.list_laws.proofs.Places.{left_more}
 
 pub loop-number-preserved : goal.loop-number-preserved
 loop-number-preserved g c =

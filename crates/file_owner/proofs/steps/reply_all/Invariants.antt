@@ -1,7 +1,5 @@
 -- The lines so far have their replies, and the blobs of the others are there.
-use Rattle.std.proofs.Common.{◌≡◌, ℕ, ◌≤◌, length}
-use Rattle.std.specs.Prelude.{slice_get}
-use Rattle.file_owner.specs.Owned.{replies, Grows}
+use Rattle.file_owner.proofs.Words.{◌≡◌, ℕ, ◌≤◌, length, slice_get, replies, Grows}
 use Rattle.file_owner.proofs.PutLaws.{below}
 use Rattle.file_owner.proofs.steps.reply_all.Given as goal
 

@@ -1,6 +1,4 @@
-use Rattle.std.proofs.Common.{refl, arith}
-use Rattle.nc_base.specs.declared.step.OwnerItem.TheVariants.{Stop}
-use Rattle.file_owner.specs.Stops.{stop_each}
+use Rattle.file_owner.proofs.Words.{refl, arith, Stop, stop_each}
 use Rattle.file_owner.proofs.PutLaws.{all_below, put_below}
 use Rattle.file_owner.proofs.stops.stop_each.Goals as goal
 

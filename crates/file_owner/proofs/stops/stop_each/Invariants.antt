@@ -1,6 +1,5 @@
 -- The lines so far have their stops.
-use Rattle.file_owner.specs.Owned.{Grows}
-use Rattle.file_owner.specs.Stops.{stop_each}
+use Rattle.file_owner.proofs.Words.{Grows, stop_each}
 use Rattle.file_owner.proofs.PutLaws.{below}
 use Rattle.file_owner.proofs.stops.stop_each.Given as goal
 

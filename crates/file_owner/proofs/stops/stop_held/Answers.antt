@@ -1,11 +1,7 @@
 -- One more number has its stop.
-use Rattle.std.proofs.Common.{ap, arith}
-use Rattle.serial_spec.specs.Owner.{stop_held}
-use Rattle.file_owner.specs.Stops.{held_stops}
+use Rattle.file_owner.proofs.Words.{ap, arith, stop_held, held_stops, Some, entry_read}
 use Rattle.file_owner.proofs.PutLaws.{all_below, one_more}
-use Rattle.std.proofs.Common.{Some}
 use Rattle.file_owner.proofs.stops.stop_held.Goals as goal
-use Rattle.list_laws.proofs.Places.{entry_read}
 
 pub loop-number-preserved : goal.loop-number-preserved
 loop-number-preserved g c =

@@ -1,6 +1,5 @@
 -- The numbers so far have their stops.
-use Rattle.file_owner.specs.Owned.{Grows}
-use Rattle.file_owner.specs.Stops.{held_stops}
+use Rattle.file_owner.proofs.Words.{Grows, held_stops}
 use Rattle.file_owner.proofs.PutLaws.{below}
 use Rattle.file_owner.proofs.stops.stop_held.Given as goal
 

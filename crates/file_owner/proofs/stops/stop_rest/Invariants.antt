@@ -1,5 +1,5 @@
 -- Each offer that was taken so far has its stop.
-use Rattle.file_owner.specs.Stops.{HaveMet}
+use Rattle.file_owner.proofs.Words.{HaveMet}
 use Rattle.file_owner.proofs.stops.stop_rest.Given as goal
 
 abbrev pub invariant-loop : goal.invariant-loop

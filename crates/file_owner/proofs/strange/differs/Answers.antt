@@ -1,7 +1,4 @@
-use Rattle.std.proofs.Common.{sym, ◌∙◌, ap}
-use Rattle.std.specs.List.{list_any}
-use Rattle.serial_spec.specs.Owner.{differs, kind_held}
-use Rattle.serial_spec.specs.History.{kind_of_meeting}
+use Rattle.file_owner.proofs.Words.{sym, ◌∙◌, ap, list_any, differs, kind_held, kind_of_meeting}
 use Rattle.file_owner.proofs.StrangeLaws.{no_kind}
 use Rattle.file_owner.proofs.strange.differs.Goals as goal
 

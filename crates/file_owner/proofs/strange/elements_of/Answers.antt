@@ -1,5 +1,4 @@
-use Rattle.std.proofs.Common.{ℕ, List, ap, arith}
-use Rattle.serial_spec.specs.Layout.{product}
+use Rattle.file_owner.proofs.Words.{ℕ, List, ap, arith, product}
 use Rattle.file_owner.proofs.strange.elements_of.Goals as goal
 
 pub returns : goal.returns

@@ -1,6 +1,5 @@
 -- The boxes of the whole range.
-use Rattle.std.proofs.Common.{◌≡◌, ◌∙◌, sym, ap, length, arith}
-use Rattle.serial_spec.specs.Fill.{boxes}
+use Rattle.fill_records.proofs.Words.{◌≡◌, ◌∙◌, sym, ap, length, arith, boxes}
 use Rattle.fill_records.proofs.CutLaws.{no_boxes, found_first, boxes_few}
 use Rattle.fill_records.proofs.shares.boxes.Goals as goal
 

@@ -1,5 +1,5 @@
 -- No product of some of the counts is greater than that of all.
-use Rattle.std.proofs.Common.{◌+◌, arith}
+use Rattle.fill_records.proofs.Words.{◌+◌, arith}
 use Rattle.fill_records.proofs.Products.{product_more, product_part}
 use Rattle.fill_records.proofs.shares.size_of.Goals as goal
 

@@ -1,5 +1,5 @@
 -- Copies of a value are its bytes over and over.
-use Rattle.std.proofs.Common.{◌+◌}
+use Rattle.fill_records.proofs.Words.{◌+◌}
 use Rattle.fill_records.proofs.RepeatedLaws.{all_copies}
 use Rattle.fill_records.proofs.slabs.copies_of.Goals as goal
 

@@ -1,22 +1,9 @@
 -- What is written of a variable is its filling.
-use Rattle.std.proofs.Common.{◌≡◌, ◌∙◌, sym, ap, false, true, arith}
-use Rattle.std.specs.Prelude.{slice_get}
-use Rattle.std.proofs.lemmas.Result.{on_ok_weaker, on_err_weaker}
-use Rattle.list_laws.proofs.Optional.{if_some_at}
-use Rattle.nc_outside.specs.Told.{after, with_end, BothTold}
-use Rattle.overlay_laws.specs.Changes.{IsBetween}
-use Rattle.serial_spec.specs.File.{written}
-use Rattle.serial_spec.specs.Fill.{fill_bytes}
-use Rattle.serial_spec.specs.HeaderBytes.{header_len}
-use Rattle.serial_spec.specs.Layout.{is_record, slab}
-use Rattle.var_layout.proofs.ElementPlaces.{sound_end}
-use Rattle.var_layout.proofs.Soundness.{if_there}
-use Rattle.fill_records.specs.Filling.{repeated, filled_variable, variable_stores}
+use Rattle.fill_records.proofs.Words.{◌≡◌, ◌∙◌, sym, ap, false, true, arith, slice_get, on_ok_weaker, on_err_weaker, if_some_at, after, with_end, BothTold, IsBetween, written, fill_bytes, header_len, is_record, slab, sound_end, if_there, repeated, filled_variable, variable_stores, no_calls}
 use Rattle.fill_records.proofs.TornLaws.{whole_same}
 use Rattle.fill_records.proofs.VariableLaws.{got, room_long, fixed_end, record_kept, fixed_filled, record_stores, fixed_stores}
 use Rattle.fill_records.proofs.WindowLaws.{told_begin, told_end, for_told}
 use Rattle.fill_records.proofs.slabs.fill_variable.Goals as goal
-use Rattle.nc_outside.proofs.ToldLaws.{no_calls}
 
 pub returns-then-is_record-clause-bytes : goal.returns-then-is_record-clause-bytes
 returns-then-is_record-clause-bytes g c =

@@ -1,20 +1,9 @@
 -- A variable more is filled.
-use Rattle.std.proofs.Common.{◌≡◌, ◌∙◌, ◌+◌, ◌≤◌, ap, take, length, List, arith}
-use Rattle.std.specs.Prelude.{fold, flat_map}
-use Rattle.std.proofs.Math.Seq.{take_all}
-use Rattle.nc_base.specs.declared.header.Var.{Var}
-use Rattle.nc_outside.specs.Told.{after, with_end, BothTold}
-use Rattle.overlay_laws.specs.Changes.{IsBetween}
-use Rattle.serial_spec.specs.DeviceCalls.{stores}
-use Rattle.serial_spec.specs.Fill.{fill_var}
-use Rattle.serial_spec.specs.Layout.{slab, fixed_variables}
-use Rattle.fill_records.specs.Filling.{filled_variable, variable_stores}
+use Rattle.fill_records.proofs.Words.{◌≡◌, ◌∙◌, ◌+◌, ◌≤◌, ap, take, length, List, arith, fold, flat_map, take_all, Var, after, with_end, BothTold, IsBetween, stores, fill_var, slab, fixed_variables, filled_variable, variable_stores, on_err, calls_more}
 use Rattle.fill_records.proofs.TornLaws.{variable_refused}
 use Rattle.fill_records.proofs.VariableLaws.{known_at, filled_more, fill_stores_more}
 use Rattle.fill_records.proofs.WindowLaws.{told_more, always_told}
 use Rattle.fill_records.proofs.slabs.prefill.Goals as goal
-use Rattle.list_laws.proofs.Results.{on_err}
-use Rattle.nc_outside.proofs.ToldLaws.{calls_more}
 
 pub loop-var-preserved : goal.loop-var-preserved
 loop-var-preserved g c =

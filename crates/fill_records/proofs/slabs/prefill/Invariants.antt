@@ -1,10 +1,5 @@
 -- The fixed variables so far are filled.
-use Rattle.std.proofs.Common.{◌≡◌, ◌≤◌, take}
-use Rattle.std.specs.Prelude.{fold, flat_map}
-use Rattle.nc_outside.specs.Told.{after, with_end}
-use Rattle.serial_spec.specs.DeviceCalls.{stores}
-use Rattle.serial_spec.specs.Fill.{fill_var}
-use Rattle.serial_spec.specs.Layout.{slab, fixed_variables}
+use Rattle.fill_records.proofs.Words.{◌≡◌, ◌≤◌, take, fold, flat_map, after, with_end, stores, fill_var, slab, fixed_variables}
 use Rattle.fill_records.proofs.slabs.prefill.Given as goal
 
 abbrev pub invariant-loop-var : goal.invariant-loop-var

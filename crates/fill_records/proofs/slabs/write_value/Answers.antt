@@ -1,15 +1,9 @@
 -- Each window goes on where the one before it ended.
-use Rattle.std.proofs.Common.{◌≡◌, ◌∙◌, ◌+◌, ◌-◌, ◌*◌, ◌<◌, ◌≤◌, min, sym, ap, refl, length, List, [], ◌∷◌, ℕ, arith}
-use Rattle.nc_base.specs.declared.step.DiskCall.TheVariants.{Store}
-use Rattle.serial_spec.specs.File.{written}
-use Rattle.fill_records.specs.Filling.{repeated}
+use Rattle.fill_records.proofs.Words.{◌≡◌, ◌∙◌, ◌+◌, ◌-◌, ◌*◌, ◌<◌, ◌≤◌, min, sym, ap, refl, length, List, [], ◌∷◌, ℕ, arith, Store, written, repeated, on_err, calls_more, window_inside, stores_before, stores_more}
 use Rattle.fill_records.proofs.RepeatedLaws.{repeated_long}
 use Rattle.fill_records.proofs.TornLaws.{part_refused}
 use Rattle.fill_records.proofs.WindowLaws.{stores_all, told_more, for_told, window_bytes, window_written}
 use Rattle.fill_records.proofs.slabs.write_value.Goals as goal
-use Rattle.list_laws.proofs.Results.{on_err}
-use Rattle.nc_outside.proofs.ToldLaws.{calls_more}
-use Rattle.overlay_laws.proofs.WindowCounts.{window_inside, stores_before, stores_more}
 
 pub loop-window-preserved : goal.loop-window-preserved
 loop-window-preserved g c =

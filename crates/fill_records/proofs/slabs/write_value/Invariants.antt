@@ -1,10 +1,6 @@
 -- The windows so far have the value's bytes, and each was one store.
-use Rattle.std.proofs.Common.{◌≡◌, ◌*◌, ◌≤◌, min}
-use Rattle.nc_outside.specs.Told.{after, with_end}
-use Rattle.serial_spec.specs.File.{written}
-use Rattle.fill_records.specs.Filling.{repeated}
+use Rattle.fill_records.proofs.Words.{◌≡◌, ◌*◌, ◌≤◌, min, after, with_end, written, repeated, stores_before}
 use Rattle.fill_records.proofs.slabs.write_value.Given as goal
-use Rattle.overlay_laws.proofs.WindowCounts.{stores_before}
 
 abbrev pub invariant-loop-window : goal.invariant-loop-window
 invariant-loop-window g l = record {

@@ -1,9 +1,5 @@
 -- The first attribute that has the fill value.
-use Rattle.std.proofs.Common.{◌∙◌, sym, ap, List, ℕ, Option, Some, None}
-use Rattle.std.specs.Prelude.{find}
-use Rattle.nc_base.specs.declared.header.Attr.{Attr}
-use Rattle.serial_spec.specs.ExternalForm.{ext}
-use Rattle.serial_spec.specs.Fill.{default_fill, is_fill_value}
+use Rattle.fill_records.proofs.Words.{◌∙◌, sym, ap, List, ℕ, Option, Some, None, find, Attr, ext, default_fill, is_fill_value}
 use Rattle.fill_records.proofs.Searches.{find_stops, find_goes_on}
 use Rattle.fill_records.proofs.values.put_fill_value.Goals as goal
 

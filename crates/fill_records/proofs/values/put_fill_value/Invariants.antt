@@ -1,7 +1,5 @@
 -- No attribute so far has the fill value.
-use Rattle.std.proofs.Common.{◌≡◌, length, take, None}
-use Rattle.std.specs.Prelude.{find}
-use Rattle.serial_spec.specs.Fill.{is_fill_value}
+use Rattle.fill_records.proofs.Words.{◌≡◌, length, take, None, find, is_fill_value}
 use Rattle.fill_records.proofs.values.put_fill_value.Given as goal
 
 abbrev pub invariant-loop-attr : goal.invariant-loop-attr

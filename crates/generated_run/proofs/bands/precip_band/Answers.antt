@@ -1,8 +1,4 @@
-use Rattle.std.proofs.Common.{◌≡◌, ◌+◌, ◌-◌, List, [], subst, ◌∙◌, arith}
-use Rattle.std.specs.Prelude.{ℤ, IfOk}
-use Rattle.nc_base.specs.NumberForms.{numbers_of_runs}
-use Rattle.script_spec.specs.Generator.{first_row}
-use Rattle.generated_run.specs.Made.{precip_row}
+use Rattle.generated_run.proofs.Words.{◌≡◌, ◌+◌, ◌-◌, List, [], subst, ◌∙◌, arith, ℤ, IfOk, numbers_of_runs, first_row, precip_row}
 use Rattle.generated_run.proofs.BandLaws.{precip_rows}
 use Rattle.generated_run.proofs.Ranges.{all_pieces, next_piece}
 use Rattle.generated_run.proofs.bands.precip_band.Goals as goal

@@ -1,6 +1,4 @@
-use Rattle.std.proofs.Common.{arith}
-use Rattle.std.proofs.lemmas.Int.{ints}
-use Rattle.nc_base.specs.NumberForms.{numbers_of_runs}
+use Rattle.generated_run.proofs.Words.{arith, ints, numbers_of_runs}
 use Rattle.generated_run.proofs.TurnLaws.{depths_pushed, no_depths}
 use Rattle.generated_run.proofs.bands.push_depths.Goals as goal
 

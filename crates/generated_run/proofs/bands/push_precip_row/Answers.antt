@@ -1,6 +1,4 @@
-use Rattle.std.proofs.Common.{◌≡◌, List, subst}
-use Rattle.std.specs.Prelude.{ℤ, OnOk}
-use Rattle.nc_base.specs.NumberForms.{numbers_of_runs}
+use Rattle.generated_run.proofs.Words.{◌≡◌, List, subst, ℤ, OnOk, numbers_of_runs}
 use Rattle.generated_run.proofs.TurnLaws.{precip_row_pushed}
 use Rattle.generated_run.proofs.bands.push_precip_row.Goals as goal
 

@@ -1,6 +1,4 @@
-use Rattle.std.proofs.Common.{◌≡◌, List, ℕ, subst}
-use Rattle.std.specs.Prelude.{OnOk}
-use Rattle.nc_base.specs.BitForms.{bits_of_runs}
+use Rattle.generated_run.proofs.Words.{◌≡◌, List, ℕ, subst, OnOk, bits_of_runs}
 use Rattle.generated_run.proofs.TurnLaws.{temp_row_pushed}
 use Rattle.generated_run.proofs.bands.push_temp_row.Goals as goal
 

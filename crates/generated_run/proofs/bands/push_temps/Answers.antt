@@ -1,5 +1,4 @@
-use Rattle.std.proofs.Common.{arith}
-use Rattle.nc_base.specs.BitForms.{bits_of_runs}
+use Rattle.generated_run.proofs.Words.{arith, bits_of_runs}
 use Rattle.generated_run.proofs.TurnLaws.{no_temps, temps_pushed}
 use Rattle.generated_run.proofs.bands.push_temps.Goals as goal
 

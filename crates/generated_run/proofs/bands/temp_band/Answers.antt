@@ -1,8 +1,4 @@
-use Rattle.std.proofs.Common.{◌≡◌, ◌+◌, ◌-◌, List, [], ℕ, subst, ◌∙◌, arith}
-use Rattle.std.specs.Prelude.{IfOk}
-use Rattle.nc_base.specs.BitForms.{bits_of_runs}
-use Rattle.script_spec.specs.Generator.{first_row}
-use Rattle.generated_run.specs.Made.{temp_row}
+use Rattle.generated_run.proofs.Words.{◌≡◌, ◌+◌, ◌-◌, List, [], ℕ, subst, ◌∙◌, arith, IfOk, bits_of_runs, first_row, temp_row}
 use Rattle.generated_run.proofs.BandLaws.{temp_rows}
 use Rattle.generated_run.proofs.Ranges.{all_pieces, next_piece}
 use Rattle.generated_run.proofs.bands.temp_band.Goals as goal

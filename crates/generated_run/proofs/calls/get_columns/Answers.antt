@@ -1,5 +1,4 @@
-use Rattle.std.proofs.Common.{rules}
-use Rattle.generated_run.specs.Made.{columns_of}
+use Rattle.generated_run.proofs.Words.{rules, columns_of}
 use Rattle.generated_run.proofs.calls.get_columns.Goals as goal
 
 pub returns : goal.returns

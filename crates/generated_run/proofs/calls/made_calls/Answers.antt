@@ -1,6 +1,4 @@
-use Rattle.std.proofs.Common.{◌≡◌, ℕ, [], map, arith, ap, ◌∙◌}
-use Rattle.std.specs.List.{range_with_len}
-use Rattle.generated_run.specs.Made.{calls_of_rank}
+use Rattle.generated_run.proofs.Words.{◌≡◌, ℕ, [], map, arith, ap, ◌∙◌, range_with_len, calls_of_rank}
 use Rattle.generated_run.proofs.Ranges.{next_item}
 use Rattle.generated_run.proofs.calls.made_calls.Goals as goal
 

@@ -1,6 +1,4 @@
-use Rattle.std.proofs.Common.{◌≡◌, [], ◌++◌, map}
-use Rattle.std.specs.List.{range_with_len}
-use Rattle.generated_run.specs.Made.{calls_of_rank}
+use Rattle.generated_run.proofs.Words.{◌≡◌, [], ◌++◌, map, range_with_len, calls_of_rank}
 use Rattle.generated_run.proofs.calls.made_calls.Given as goal
 
 abbrev pub invariant-loop-rank : goal.invariant-loop-rank

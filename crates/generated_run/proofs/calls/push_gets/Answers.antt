@@ -1,6 +1,5 @@
-use Rattle.std.proofs.Common.{true, codes}
+use Rattle.generated_run.proofs.Words.{true, codes, columns_of}
 use Rattle.nc_base.specs.declared.request.Call.TheVariants as call
-use Rattle.generated_run.specs.Made.{columns_of}
 use Rattle.generated_run.proofs.CallLaws.{two_pushed}
 use Rattle.generated_run.proofs.calls.push_gets.Goals as goal
 

@@ -1,7 +1,5 @@
-use Rattle.std.proofs.Common.{List, ◌++◌, true, ap, ◌∙◌}
-use Rattle.nc_base.specs.declared.request.Call.{Call}
+use Rattle.generated_run.proofs.Words.{List, ◌++◌, true, ap, ◌∙◌, Call, Every}
 use Rattle.nc_base.specs.declared.request.Call.TheVariants as call
-use Rattle.nc_base.specs.declared.request.Choice.TheVariants.{Every}
 use Rattle.generated_run.proofs.CallLaws.{record_is, three_pushed}
 use Rattle.generated_run.proofs.calls.push_record.Goals as goal
 

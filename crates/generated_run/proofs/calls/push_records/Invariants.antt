@@ -1,6 +1,4 @@
-use Rattle.std.proofs.Common.{◌≡◌, ◌++◌}
-use Rattle.std.specs.List.{flat_map, range_with_len}
-use Rattle.generated_run.specs.Made.{calls_of_record}
+use Rattle.generated_run.proofs.Words.{◌≡◌, ◌++◌, flat_map, range_with_len, calls_of_record}
 use Rattle.generated_run.proofs.calls.push_records.Given as goal
 
 abbrev pub invariant-loop-time : goal.invariant-loop-time

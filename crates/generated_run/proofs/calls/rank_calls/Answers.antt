@@ -1,8 +1,5 @@
-use Rattle.std.proofs.Common.{◌≡◌, List, [], ◌∷◌, ◌++◌, true, codes, refl, ap, ◌∙◌, append_assoc}
-use Rattle.std.specs.List.{flat_map, range_with_len}
-use Rattle.nc_base.specs.declared.request.Call.{Call}
+use Rattle.generated_run.proofs.Words.{◌≡◌, List, [], ◌∷◌, ◌++◌, true, codes, refl, ap, ◌∙◌, append_assoc, flat_map, range_with_len, Call, calls_of_record, columns_of}
 use Rattle.nc_base.specs.declared.request.Call.TheVariants as call
-use Rattle.generated_run.specs.Made.{calls_of_record, columns_of}
 use Rattle.generated_run.proofs.CallLaws.{rank_is}
 use Rattle.generated_run.proofs.calls.rank_calls.Goals as goal
 

@@ -1,5 +1,4 @@
-use Rattle.std.proofs.Common.{◌≡◌, take}
-use Rattle.serial_spec.specs.Layout.{product}
+use Rattle.generated_run.proofs.Words.{◌≡◌, take, product}
 use Rattle.generated_run.proofs.elements.elements.Given as goal
 
 abbrev pub invariant-loop-count : goal.invariant-loop-count

@@ -1,12 +1,4 @@
-use Rattle.std.proofs.Common.{List, [], ◌∷◌, ◌++◌, length, map, sum}
-use Rattle.std.specs.List.{zip}
-use Rattle.std.proofs.lemmas.List.{length_push}
-use Rattle.std.proofs.lemmas.Iterator.{YieldsList-from_slice, YieldsList-from_zip}
-use Rattle.std.proofs.lemmas.Iterator.Consumers.{YieldsList-turn, YieldsList-end}
-use Rattle.std.specs.Borrow.{Bor}
-use Rattle.nc_base.specs.declared.request.Call.{Call}
-use Rattle.nc_base.specs.declared.answer.Answer.{Answer}
-use Rattle.generated_run.specs.Counting.{call_done}
+use Rattle.generated_run.proofs.Words.{List, [], ◌∷◌, ◌++◌, length, map, sum, zip, length_push, YieldsList-from_slice, YieldsList-from_zip, YieldsList-turn, YieldsList-end, Bor, Call, Answer, call_done}
 use Rattle.generated_run.proofs.SumLaws.{next_summed, all_summed}
 use Rattle.generated_run.proofs.elements.elements_done.Goals as goal
 

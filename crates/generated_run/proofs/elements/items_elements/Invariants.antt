@@ -1,5 +1,4 @@
-use Rattle.std.proofs.Common.{◌≡◌, map, sum, take}
-use Rattle.generated_run.specs.Counting.{item_done}
+use Rattle.generated_run.proofs.Words.{◌≡◌, map, sum, take, item_done}
 use Rattle.generated_run.proofs.elements.items_elements.Given as goal
 
 abbrev pub invariant-loop-item : goal.invariant-loop-item

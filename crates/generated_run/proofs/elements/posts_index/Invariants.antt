@@ -1,5 +1,4 @@
-use Rattle.std.proofs.Common.{drop}
-use Rattle.generated_run.specs.Counting.{FindsGiven}
+use Rattle.generated_run.proofs.Words.{drop, FindsGiven}
 use Rattle.generated_run.proofs.elements.posts_index.Given as goal
 
 abbrev pub invariant-loop-k : goal.invariant-loop-k

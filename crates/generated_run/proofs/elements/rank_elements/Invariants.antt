@@ -1,6 +1,4 @@
-use Rattle.std.proofs.Common.{◌≡◌, length, map, sum, take}
-use Rattle.std.specs.List.{zip}
-use Rattle.generated_run.specs.Counting.{call_done}
+use Rattle.generated_run.proofs.Words.{◌≡◌, length, map, sum, take, zip, call_done}
 use Rattle.generated_run.proofs.elements.rank_elements.Given as goal
 
 abbrev pub invariant-loop-call : goal.invariant-loop-call

@@ -1,5 +1,4 @@
-use Rattle.std.proofs.Common.{◌≡◌, map, sum, take}
-use Rattle.script_spec.specs.Generator.{refusals}
+use Rattle.generated_run.proofs.Words.{◌≡◌, map, sum, take, refusals}
 use Rattle.generated_run.proofs.refusals.rank_refusals.Given as goal
 
 abbrev pub invariant-loop-answer : goal.invariant-loop-answer

@@ -1,4 +1,4 @@
-use Rattle.std.proofs.Common.{◌≡◌, length, map, sum, take}
+use Rattle.generated_run.proofs.Words.{◌≡◌, length, map, sum, take}
 use Rattle.generated_run.proofs.summary.call_count.Given as goal
 
 abbrev pub invariant-loop-own : goal.invariant-loop-own

@@ -1,12 +1,6 @@
-use Rattle.std.proofs.Common.{rules, SFits, ℕ, List, [], ◌∷◌, ◌++◌, codes, decimal, map, sum, ap, ◌∙◌}
-use Rattle.std.specs.Prelude.{ℤ, fold, pos, ◌+ℤ◌}
-use Rattle.std.specs.Int.{w128}
-use Rattle.std.specs.Fmt.{signed_decimal}
-use Rattle.std.proofs.lemmas.Int.{to_z-of_z}
-use Rattle.script_spec.specs.Generator.{call_got, call_put, over_calls, refusals, sum_given}
-use Rattle.script_spec.specs.Texts.{line}
+use Rattle.generated_run.proofs.Words.{rules, SFits, ℕ, List, [], ◌∷◌, ◌++◌, codes, decimal, map, sum, ap, ◌∙◌, ℤ, w128, signed_decimal, to_z-of_z, call_got, call_put, over_calls, refusals, sum_given, line, then_append}
+use Rattle.std.specs.Prelude.{fold, pos, ◌+ℤ◌}
 use Rattle.generated_run.proofs.summary.push_answers.Goals as goal
-use Rattle.list_laws.proofs.Appends.{then_append}
 
 pub returns : goal.returns
 returns c =

@@ -1,5 +1,4 @@
-use Rattle.std.proofs.Common.{arith}
-use Rattle.var_layout.proofs.ElementPlaces.{sound_end}
+use Rattle.generated_run.proofs.Words.{arith, sound_end}
 use Rattle.generated_run.proofs.summary.push_file.Goals as goal
 
 pub end_of-requires-clause-below : goal.end_of-requires-clause-below

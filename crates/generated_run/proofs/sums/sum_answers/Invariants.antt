@@ -1,5 +1,4 @@
-use Rattle.std.proofs.Common.{◌≡◌, fold, pos, take, ◌+ℤ◌}
-use Rattle.script_spec.specs.Generator.{sum_given}
+use Rattle.generated_run.proofs.Words.{◌≡◌, fold, pos, take, ◌+ℤ◌, sum_given}
 use Rattle.generated_run.proofs.sums.sum_answers.Given as goal
 
 abbrev pub invariant-loop-own : goal.invariant-loop-own

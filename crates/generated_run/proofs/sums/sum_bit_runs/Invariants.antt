@@ -1,5 +1,4 @@
-use Rattle.std.proofs.Common.{◌≡◌, pos, sum, take}
-use Rattle.nc_base.specs.BitForms.{bits_of_runs}
+use Rattle.generated_run.proofs.Words.{◌≡◌, pos, sum, take, bits_of_runs}
 use Rattle.generated_run.proofs.sums.sum_bit_runs.Given as goal
 
 abbrev pub invariant-loop-run : goal.invariant-loop-run

@@ -1,4 +1,4 @@
-use Rattle.std.proofs.Common.{◌≡◌, pos, sum, take}
+use Rattle.generated_run.proofs.Words.{◌≡◌, pos, sum, take}
 use Rattle.generated_run.proofs.sums.sum_bits.Given as goal
 
 abbrev pub invariant-loop-k : goal.invariant-loop-k

@@ -1,5 +1,4 @@
-use Rattle.std.proofs.Common.{◌≡◌, fold, take, ◌+ℤ◌}
-use Rattle.script_spec.specs.Generator.{sum_of}
+use Rattle.generated_run.proofs.Words.{◌≡◌, fold, take, ◌+ℤ◌, sum_of}
 use Rattle.generated_run.proofs.sums.sum_items.Given as goal
 
 abbrev pub invariant-loop-item : goal.invariant-loop-item

@@ -1,4 +1,4 @@
-use Rattle.std.proofs.Common.{◌≡◌, fold, pos, take, ◌+ℤ◌}
+use Rattle.generated_run.proofs.Words.{◌≡◌, fold, pos, take, ◌+ℤ◌}
 use Rattle.generated_run.proofs.sums.sum_numbers.Given as goal
 
 abbrev pub invariant-loop-k : goal.invariant-loop-k

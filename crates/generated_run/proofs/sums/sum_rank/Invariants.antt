@@ -1,5 +1,4 @@
-use Rattle.std.proofs.Common.{◌≡◌, fold, take, ◌+ℤ◌}
-use Rattle.script_spec.specs.Generator.{sum_given}
+use Rattle.generated_run.proofs.Words.{◌≡◌, fold, take, ◌+ℤ◌, sum_given}
 use Rattle.generated_run.proofs.sums.sum_rank.Given as goal
 
 abbrev pub invariant-loop-answer : goal.invariant-loop-answer

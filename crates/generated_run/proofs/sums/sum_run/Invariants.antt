@@ -1,5 +1,4 @@
-use Rattle.std.proofs.Common.{◌≡◌, fold, ◌+ℤ◌}
-use Rattle.nc_base.specs.NumberForms.{steps}
+use Rattle.generated_run.proofs.Words.{◌≡◌, fold, ◌+ℤ◌, steps}
 use Rattle.generated_run.proofs.sums.sum_run.Given as goal
 
 abbrev pub invariant-loop-k : goal.invariant-loop-k

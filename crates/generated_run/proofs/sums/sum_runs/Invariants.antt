@@ -1,5 +1,4 @@
-use Rattle.std.proofs.Common.{◌≡◌, fold, pos, take, ◌+ℤ◌}
-use Rattle.nc_base.specs.NumberForms.{numbers_of_runs}
+use Rattle.generated_run.proofs.Words.{◌≡◌, fold, pos, take, ◌+ℤ◌, numbers_of_runs}
 use Rattle.generated_run.proofs.sums.sum_runs.Given as goal
 
 abbrev pub invariant-loop-run : goal.invariant-loop-run

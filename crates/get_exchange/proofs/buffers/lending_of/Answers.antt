@@ -1,5 +1,5 @@
 -- One lender more.
-use Rattle.get_exchange.specs.Lenders.{IsReady}
+use Rattle.get_exchange.proofs.Words.{IsReady}
 use Rattle.get_exchange.proofs.LenderLaws.{each_pushed}
 use Rattle.get_exchange.proofs.buffers.lending_of.Goals as goal
 

@@ -1,5 +1,5 @@
 -- Each lender so far can go on.
-use Rattle.get_exchange.specs.Lenders.{AreReady}
+use Rattle.get_exchange.proofs.Words.{AreReady}
 use Rattle.get_exchange.proofs.buffers.lending_of.Given as goal
 
 abbrev pub invariant-loop-domain : goal.invariant-loop-domain

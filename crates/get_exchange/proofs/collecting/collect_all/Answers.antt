@@ -1,12 +1,5 @@
 -- Each entry's bytes lie in its blob.
-use Rattle.std.proofs.Common.{◌+◌, ◌∙◌, refl, ap, List, map, get_or, arith}
-use Rattle.std.proofs.lemmas.List.{take_all}
-use Rattle.overlay_laws.proofs.Members.{entry_in}
-use Rattle.nc_base.specs.declared.plan.Owned.{Owned}
-use Rattle.serial_spec.specs.Said.{write_cells}
-use Rattle.aggregator_rounds.specs.EntryParts.{buffer_cell}
-use Rattle.aggregator_rounds.proofs.SplitSteps.{entry_ends}
-use Rattle.get_exchange.specs.Blobs.{blob_at, of_request}
+use Rattle.get_exchange.proofs.Words.{◌+◌, ◌∙◌, refl, ap, List, map, get_or, arith, take_all, entry_in, Owned, write_cells, buffer_cell, entry_ends, blob_at, of_request}
 use Rattle.get_exchange.proofs.CollectLaws.{fit_as_long, collected_more, collected_long}
 use Rattle.get_exchange.proofs.collecting.collect_all.Goals as goal
 

@@ -1,8 +1,5 @@
 -- The blobs have the bytes of the entries so far.
-use Rattle.std.proofs.Common.{◌≡◌, ℕ, ◌+◌, take, map}
-use Rattle.serial_spec.specs.Said.{write_cells}
-use Rattle.aggregator_rounds.specs.EntryParts.{buffer_cell}
-use Rattle.get_exchange.specs.Blobs.{blob_at, of_request, AreAsLong}
+use Rattle.get_exchange.proofs.Words.{◌≡◌, ℕ, ◌+◌, take, map, write_cells, buffer_cell, blob_at, of_request, AreAsLong}
 use Rattle.get_exchange.proofs.collecting.collect_all.Given as goal
 
 abbrev pub invariant-loop-entry : goal.invariant-loop-entry

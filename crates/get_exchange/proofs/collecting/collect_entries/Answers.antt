@@ -1,7 +1,5 @@
 -- Those carried, and then those behind them.
-use Rattle.std.proofs.Common.{◌+◌}
-use Rattle.overlay_laws.proofs.HullLaws.{in_left, in_right}
-use Rattle.aggregator_rounds.proofs.SplitSteps.{extents_left, extents_right}
+use Rattle.get_exchange.proofs.Words.{◌+◌, in_left, in_right, extents_left, extents_right}
 use Rattle.get_exchange.proofs.CollectLaws.{collected_joined, fit_as_long}
 use Rattle.get_exchange.proofs.collecting.collect_entries.Goals as goal
 

@@ -1,7 +1,5 @@
 -- The blob with the entry's bytes stands in its place.
-use Rattle.std.proofs.Common.{◌+◌, ◌∙◌, ℕ, List, ap, get_or, length, set, arith}
-use Rattle.list_laws.proofs.Refills.{refilled}
-use Rattle.aggregator_rounds.specs.EntryParts.{buffer_cell}
+use Rattle.get_exchange.proofs.Words.{◌+◌, ◌∙◌, ℕ, List, ap, get_or, length, set, arith, refilled, buffer_cell}
 use Rattle.get_exchange.proofs.CollectLaws.{rank_in, collected}
 use Rattle.get_exchange.proofs.collecting.collect_get.Goals as goal
 

@@ -1,8 +1,5 @@
 -- Of the parts so far.
-use Rattle.std.proofs.Common.{◌≡◌, ℕ, ◌<◌, [], Some}
-use Rattle.std.specs.Prelude.{slice_get, is_some, IfSome, IfNone}
-use Rattle.get_exchange.specs.Shelves.{turns_due}
-use Rattle.get_exchange.specs.declared.handing.ReadWorker.{ReadWorker}
+use Rattle.get_exchange.proofs.Words.{◌≡◌, ℕ, ◌<◌, [], Some, slice_get, is_some, IfSome, IfNone, turns_due, ReadWorker}
 use Rattle.get_exchange.proofs.collecting.least_round.Given as goal
 
 abbrev pub invariant-loop-k : goal.invariant-loop-k

@@ -1,14 +1,6 @@
 -- One window of one helper was taken.
-use Rattle.std.proofs.Common.{◌≡◌, ◌∙◌, refl, sym, subst, set, Some, Result, get_or, length-set}
-use Rattle.std.proofs.lemmas.Option.{same_Some, slice_get-get_or}
-use Rattle.std.specs.Prelude.{slice_get, IfErr, OnOk}
-use Rattle.nc_outside.specs.declared.disk.DiskErr.{DiskErr}
-use Rattle.nc_outside.specs.declared.disk.DiskErr.TheVariants.{Memory}
-use Rattle.get_exchange.specs.Logs.{HaveTakenTurns, IsKept, IsShelfIn}
-use Rattle.get_exchange.specs.Shelves.{turns_due}
-use Rattle.get_exchange.specs.declared.handing.ReadWorker.{ReadWorker}
+use Rattle.get_exchange.proofs.Words.{◌≡◌, ◌∙◌, refl, sym, subst, set, Some, Result, get_or, length-set, same_Some, slice_get-get_or, slice_get, IfErr, OnOk, DiskErr, Memory, HaveTakenTurns, IsKept, IsShelfIn, turns_due, ReadWorker, fewer_all, set_each}
 use Rattle.get_exchange.proofs.CollectLaws.{fit_as_long}
-use Rattle.exchange_crew.proofs.OneChanged.{fewer_all, set_each}
 use Rattle.get_exchange.proofs.TakeLaws.{both_memory, kept_more, kept_none, taken_none, taken_on}
 use Rattle.get_exchange.proofs.collecting.take_all.Goals as goal
 

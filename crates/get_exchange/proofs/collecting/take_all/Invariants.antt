@@ -1,12 +1,5 @@
 -- What was taken of each helper and what is left are what was to be taken.
-use Rattle.std.proofs.Common.{◌≡◌, ℕ, length, Some}
-use Rattle.std.specs.Prelude.{slice_get, flat_map, IfErr, OnOk}
-use Rattle.nc_outside.specs.declared.disk.DiskErr.TheVariants.{Memory}
-use Rattle.get_exchange.specs.Blobs.{AreAsLong}
-use Rattle.get_exchange.specs.Lenders.{AreReady}
-use Rattle.get_exchange.specs.Logs.{HaveTakenTurns, IsKept, IsShelfIn}
-use Rattle.get_exchange.specs.Shelves.{turns_due}
-use Rattle.get_exchange.specs.declared.handing.ReadWorker.{ReadWorker}
+use Rattle.get_exchange.proofs.Words.{◌≡◌, ℕ, length, Some, slice_get, flat_map, IfErr, OnOk, Memory, AreAsLong, AreReady, HaveTakenTurns, IsKept, IsShelfIn, turns_due, ReadWorker}
 use Rattle.get_exchange.proofs.collecting.take_all.Given as goal
 
 abbrev pub invariant-rounds : goal.invariant-rounds

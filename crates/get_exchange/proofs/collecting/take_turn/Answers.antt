@@ -1,18 +1,8 @@
 -- The bytes of the window's hull were copied, and the next window is the part's next.
-use Rattle.std.proofs.Common.{◌+◌, ◌<◌, ◌∙◌, ◌∷◌, length, List, Option, refl, sym, ap, subst, rules, arith}
-use Rattle.std.proofs.lemmas.Grind.{common_steps}
-use Rattle.file_domains.specs.Rounds.{IsWalk}
-use Rattle.file_domains.specs.declared.walk.Window.{Window}
-use Rattle.file_domains.specs.declared.walk.WindowWalk.{WindowWalk}
-use Rattle.aggregator_rounds.specs.Pieces.{told_window}
-use Rattle.aggregator_rounds.specs.Left.{entries_left}
-use Rattle.get_exchange.specs.Gets.{entries_in}
-use Rattle.get_exchange.specs.Shelves.{turns_due_of, IsNextUp, IsShelfOf}
-use Rattle.exchange_crew.specs.Turns.{Told, turns_ahead}
+use Rattle.get_exchange.proofs.Words.{◌+◌, ◌<◌, ◌∙◌, ◌∷◌, length, List, Option, refl, sym, ap, subst, rules, arith, common_steps, IsWalk, Window, WindowWalk, told_window, entries_left, entries_in, turns_due_of, IsNextUp, IsShelfOf, Told, turns_ahead, at_next, left_ends, left_filled, left_sorted, served_ends, served_now, turn_limit}
 use Rattle.get_exchange.proofs.CollectLaws.{filled_served, fit_served}
 use Rattle.get_exchange.proofs.ShelfLaws.{due_next, fewer_due, shelf_first}
 use Rattle.get_exchange.proofs.TakeLaws.{taken_turn}
-use Rattle.exchange_crew.proofs.TurnLaws.{at_next, left_ends, left_filled, left_sorted, served_ends, served_now, turn_limit}
 use Rattle.get_exchange.proofs.collecting.take_turn.Goals as goal
 
 pub turn-turn-requires-clause-sorted : goal.turn-turn-requires-clause-sorted

@@ -1,23 +1,5 @@
 -- The parts that helpers took are the first ones, and come back read.
-use Rattle.std.proofs.Common.{◌≡◌, ◌∙◌, ℕ, List, sym, ap, subst, length, map, take, vec_capacity, Some, Result, rules, arith}
-use Rattle.std.proofs.lemmas.Grind.{common_steps}
-use Rattle.std.specs.Prelude.{slice_get, zip, IsErrOf, IsOk, OnOk}
-use Rattle.std.specs.List.{AllZip}
-use Rattle.nc_base.specs.declared.plan.Extent.{Extent}
-use Rattle.nc_outside.specs.Cause.{Rose}
-use Rattle.nc_outside.specs.declared.disk.DiskErr.{DiskErr}
-use Rattle.nc_outside.specs.declared.disk.DiskErr.TheVariants.{Failed}
-use Rattle.overlay_laws.specs.Entries.{In}
-use Rattle.serial_spec.proofs.MemberLaws.{at_in}
-use Rattle.get_exchange.specs.Blobs.{AreAsLong, FitTable}
-use Rattle.get_exchange.specs.Gets.{get_turns, AreRead, HasGot}
-use Rattle.get_exchange.specs.Logs.{HasReadParts, HaveTakenTurns, IsKept}
-use Rattle.exchange_crew.specs.Parts.{part_state, SomeZip}
-use Rattle.get_exchange.specs.Shelves.{domain_of, part_of}
-use Rattle.get_exchange.specs.declared.handing.ReadWorker.{ReadWorker}
-use Rattle.exchange_crew.proofs.BackLaws.{and_first_ok, slice_kept}
-use Rattle.exchange_crew.proofs.CrewLaws.{all_of, some_of, workers_few, AreOf}
-use Rattle.exchange_crew.proofs.SplitLaws.{first_parts, parts_behind}
+use Rattle.get_exchange.proofs.Words.{◌≡◌, ◌∙◌, ℕ, List, sym, ap, subst, length, map, take, vec_capacity, Some, Result, rules, arith, common_steps, slice_get, zip, IsErrOf, IsOk, OnOk, AllZip, Extent, Rose, DiskErr, Failed, In, at_in, AreAsLong, FitTable, get_turns, AreRead, HasGot, HasReadParts, HaveTakenTurns, IsKept, part_state, SomeZip, domain_of, part_of, ReadWorker, and_first_ok, slice_kept, all_of, some_of, workers_few, AreOf, first_parts, parts_behind}
 use Rattle.get_exchange.proofs.PartReads.{all_got_later, all_read, and_memory, kept_domains, kept_parts, rows_long}
 use Rattle.get_exchange.proofs.TakeLaws.{kept_workers}
 use Rattle.get_exchange.proofs.exchange.get_served.Goals as goal

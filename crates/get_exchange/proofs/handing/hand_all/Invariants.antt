@@ -1,8 +1,5 @@
 -- Each part so far was handed to a helper, or the part is among the rest.
-use Rattle.std.proofs.Common.{◌≡◌, ◌++◌, length, map, take, vec_capacity}
-use Rattle.overlay_laws.specs.Entries.{In}
-use Rattle.get_exchange.specs.Shelves.{domain_of, part_of, IsFresh}
-use Rattle.get_exchange.specs.declared.handing.ReadWorker.{ReadWorker}
+use Rattle.get_exchange.proofs.Words.{◌≡◌, ◌++◌, length, map, take, vec_capacity, In, domain_of, part_of, IsFresh, ReadWorker}
 use Rattle.get_exchange.proofs.handing.hand_all.Given as goal
 
 abbrev pub invariant-loop-part : goal.invariant-loop-part

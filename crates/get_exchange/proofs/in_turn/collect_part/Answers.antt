@@ -1,16 +1,7 @@
 -- Each window is read, and the entries' bytes in it are placed.
-use Rattle.std.proofs.Common.{◌+◌, ◌∙◌, ◌∷◌, ap, refl, sym, subst, min, arith}
-use Rattle.file_domains.specs.Rounds.{IsWalk}
-use Rattle.file_domains.specs.declared.walk.Window.{Window}
-use Rattle.file_domains.specs.declared.walk.WindowWalk.{WindowWalk}
-use Rattle.aggregator_rounds.specs.Pieces.{told_window}
-use Rattle.aggregator_rounds.specs.Left.{entries_left, IsPast}
-use Rattle.get_exchange.specs.Gets.{entries_in, get_turns}
-use Rattle.exchange_crew.specs.Turns.{Told, turns_ahead}
-use Rattle.exchange_crew.proofs.BackLaws.{err_not_ok}
+use Rattle.get_exchange.proofs.Words.{◌+◌, ◌∙◌, ◌∷◌, ap, refl, sym, subst, min, arith, IsWalk, Window, WindowWalk, told_window, entries_left, IsPast, entries_in, get_turns, Told, turns_ahead, err_not_ok, due_now, left_ends, left_filled, left_sorted, turn_limit}
 use Rattle.get_exchange.proofs.CollectLaws.{filled_served, fit_as_long, fit_served}
 use Rattle.get_exchange.proofs.FetchLaws.{get_on}
-use Rattle.exchange_crew.proofs.TurnLaws.{due_now, left_ends, left_filled, left_sorted, turn_limit}
 use Rattle.get_exchange.proofs.TurnReads.{reading_begin, reading_end, reading_next}
 use Rattle.get_exchange.proofs.in_turn.collect_part.Goals as goal
 

@@ -1,7 +1,5 @@
 -- What is left to be read gives the whole.
-use Rattle.std.proofs.Common.{◌≡◌, ◌≤◌, length, min}
-use Rattle.get_exchange.specs.Gets.{get_turns}
-use Rattle.exchange_crew.specs.Turns.{turns_ahead}
+use Rattle.get_exchange.proofs.Words.{◌≡◌, ◌≤◌, length, min, get_turns, turns_ahead}
 use Rattle.get_exchange.proofs.TurnReads.{IsReading}
 use Rattle.get_exchange.proofs.in_turn.collect_part.Given as goal
 

@@ -1,11 +1,5 @@
 -- The blobs are taken out, and put back as they were read.
-use Rattle.std.proofs.Common.{◌≡◌, List, ℕ, subst, sym, rules, arith}
-use Rattle.std.proofs.lemmas.Grind.{common_steps}
-use Rattle.std.specs.Prelude.{zip, OnOk}
-use Rattle.get_exchange.specs.Gets.{get_turns}
-use Rattle.get_exchange.specs.Logs.{HasReadParts}
-use Rattle.exchange_crew.specs.Parts.{part_state}
-use Rattle.exchange_crew.proofs.BackLaws.{zip_same}
+use Rattle.get_exchange.proofs.Words.{◌≡◌, List, ℕ, subst, sym, rules, arith, common_steps, zip, OnOk, get_turns, HasReadParts, part_state, zip_same}
 use Rattle.get_exchange.proofs.PartReads.{got_untouched}
 use Rattle.get_exchange.proofs.in_turn.get_in_turn.Goals as goal
 

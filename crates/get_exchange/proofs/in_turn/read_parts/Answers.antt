@@ -1,18 +1,5 @@
 -- One part more was read.
-use Rattle.std.proofs.Common.{◌≡◌, ◌<◌, ◌∙◌, ◌++◌, ◌∷◌, [], refl, sym, ap, subst, length, append_assoc, get_or, List, Result, Ok, rules, arith}
-use Rattle.std.proofs.lemmas.Option.{slice_get_within}
-use Rattle.std.proofs.lemmas.Grind.{common_steps}
-use Rattle.std.specs.Prelude.{zip, OnOk}
-use Rattle.std.specs.List.{AllZip}
-use Rattle.nc_base.specs.declared.plan.Extent.{Extent}
-use Rattle.nc_outside.specs.Cause.{Rose}
-use Rattle.nc_outside.specs.declared.disk.DiskErr.{DiskErr}
-use Rattle.serial_spec.proofs.MemberLaws.{at_in}
-use Rattle.get_exchange.specs.Gets.{get_turns, HasGot}
-use Rattle.get_exchange.specs.Logs.{HasReadParts}
-use Rattle.exchange_crew.specs.Parts.{part_state}
-use Rattle.list_laws.proofs.Places.{middle_at}
-use Rattle.exchange_crew.proofs.BackLaws.{at_index, back_more, both_long, failed_more, zip_push}
+use Rattle.get_exchange.proofs.Words.{◌≡◌, ◌<◌, ◌∙◌, ◌++◌, ◌∷◌, [], refl, sym, ap, subst, length, append_assoc, get_or, List, Result, Ok, rules, arith, slice_get_within, common_steps, zip, OnOk, AllZip, Extent, Rose, DiskErr, at_in, get_turns, HasGot, HasReadParts, part_state, middle_at, at_index, back_more, both_long, failed_more, zip_push}
 use Rattle.get_exchange.proofs.CollectLaws.{fit_as_long}
 use Rattle.get_exchange.proofs.FetchLaws.{got_later}
 use Rattle.get_exchange.proofs.PartReads.{none_zip, parts_none, parts_on}

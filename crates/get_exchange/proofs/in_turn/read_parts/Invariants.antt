@@ -1,13 +1,5 @@
 -- The parts so far were read, up to the first fault.
-use Rattle.std.proofs.Common.{◌≡◌, ◌++◌, length, vec_capacity}
-use Rattle.std.specs.Prelude.{zip, IsErrOf, OnOk}
-use Rattle.std.specs.List.{AllZip}
-use Rattle.nc_outside.specs.Cause.{Rose}
-use Rattle.nc_outside.specs.declared.disk.DiskErr.TheVariants.{Failed}
-use Rattle.get_exchange.specs.Blobs.{AreAsLong}
-use Rattle.get_exchange.specs.Gets.{get_turns, HasGot}
-use Rattle.get_exchange.specs.Logs.{HasReadParts}
-use Rattle.exchange_crew.specs.Parts.{part_state, SomeZip}
+use Rattle.get_exchange.proofs.Words.{◌≡◌, ◌++◌, length, vec_capacity, zip, IsErrOf, OnOk, AllZip, Rose, Failed, AreAsLong, get_turns, HasGot, HasReadParts, part_state, SomeZip}
 use Rattle.get_exchange.proofs.in_turn.read_parts.Given as goal
 
 abbrev pub invariant-loop-part : goal.invariant-loop-part

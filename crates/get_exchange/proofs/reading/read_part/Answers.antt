@@ -1,10 +1,5 @@
 -- Each window is read, and its hull put on the line.
-use Rattle.std.proofs.Common.{◌+◌, ◌∙◌, ◌++◌, ◌∷◌, [], ℕ, List, ap, refl, drop, map, false, get_or, arith}
-use Rattle.std.proofs.lemmas.List.{drop_all}
-use Rattle.aggregator_rounds.specs.Pieces.{told_window}
-use Rattle.exchange_crew.proofs.BackLaws.{at_index}
-use Rattle.file_domains.specs.declared.walk.Window.{Window}
-use Rattle.get_exchange.specs.declared.reading.Reading.TheVariants.{Hull}
+use Rattle.get_exchange.proofs.Words.{◌+◌, ◌∙◌, ◌++◌, ◌∷◌, [], ℕ, List, ap, refl, drop, map, false, get_or, arith, drop_all, told_window, at_index, Window, Hull}
 use Rattle.get_exchange.proofs.FetchLaws.{fetch_begin, fetch_end, fetch_high, fetch_low, fetch_next, windows_left}
 use Rattle.get_exchange.proofs.reading.read_part.Goals as goal
 

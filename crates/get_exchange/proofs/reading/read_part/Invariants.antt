@@ -1,6 +1,5 @@
 -- What is left to be read gives the whole.
-use Rattle.std.proofs.Common.{◌≡◌, ◌≤◌, drop, map}
-use Rattle.aggregator_rounds.specs.Pieces.{told_window}
+use Rattle.get_exchange.proofs.Words.{◌≡◌, ◌≤◌, drop, map, told_window}
 use Rattle.get_exchange.proofs.FetchLaws.{IsFetching}
 use Rattle.get_exchange.proofs.reading.read_part.Given as goal
 

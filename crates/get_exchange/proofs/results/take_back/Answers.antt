@@ -1,15 +1,5 @@
 -- One helper more was joined.
-use Rattle.std.proofs.Common.{◌∙◌, ◌++◌, ◌∷◌, [], inl, inr, sym, ap, subst, append_assoc, Result}
-use Rattle.std.specs.Prelude.{IsErrOf, IsOk, OnOk}
-use Rattle.nc_outside.specs.Cause.{Rose}
-use Rattle.nc_outside.specs.declared.disk.DiskErr.{DiskErr}
-use Rattle.nc_outside.specs.declared.disk.DiskErr.TheVariants.{Failed}
-use Rattle.get_exchange.specs.Gets.{get_turns, AreRead, HasGot}
-use Rattle.exchange_crew.specs.Parts.{part_state}
-use Rattle.get_exchange.specs.Shelves.{domain_of, part_of}
-use Rattle.get_exchange.specs.declared.handing.ReadWorker.{ReadWorker}
-use Rattle.exchange_crew.proofs.BackLaws.{and_failed, and_first_ok, and_second_ok, back_more, both_long, failed_more, middle_in}
-use Rattle.exchange_crew.proofs.CrewLaws.{each_joined}
+use Rattle.get_exchange.proofs.Words.{◌∙◌, ◌++◌, ◌∷◌, [], inl, inr, sym, ap, subst, append_assoc, Result, IsErrOf, IsOk, OnOk, Rose, DiskErr, Failed, get_turns, AreRead, HasGot, part_state, domain_of, part_of, ReadWorker, and_failed, and_first_ok, and_second_ok, back_more, both_long, failed_more, middle_in, each_joined}
 use Rattle.get_exchange.proofs.FetchLaws.{got_later}
 use Rattle.get_exchange.proofs.results.take_back.Goals as goal
 

@@ -1,14 +1,5 @@
 -- The parts of the helpers so far came back.
-use Rattle.std.proofs.Common.{◌≡◌, ◌++◌, length, vec_capacity}
-use Rattle.std.specs.Prelude.{IsErrOf, OnOk}
-use Rattle.std.specs.List.{AllZip}
-use Rattle.nc_outside.specs.Cause.{Rose}
-use Rattle.nc_outside.specs.declared.disk.DiskErr.TheVariants.{Failed}
-use Rattle.overlay_laws.specs.Entries.{In}
-use Rattle.get_exchange.specs.Gets.{get_turns, AreRead, HasGot}
-use Rattle.exchange_crew.specs.Parts.{part_state, SomeZip}
-use Rattle.get_exchange.specs.Shelves.{domain_of, part_of}
-use Rattle.get_exchange.specs.declared.handing.ReadWorker.{ReadWorker}
+use Rattle.get_exchange.proofs.Words.{◌≡◌, ◌++◌, length, vec_capacity, IsErrOf, OnOk, AllZip, Rose, Failed, In, get_turns, AreRead, HasGot, part_state, SomeZip, domain_of, part_of, ReadWorker}
 use Rattle.get_exchange.proofs.results.take_back.Given as goal
 
 abbrev pub invariant-loop-worker : goal.invariant-loop-worker

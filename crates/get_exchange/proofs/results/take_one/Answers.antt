@@ -1,7 +1,5 @@
 -- What was taken are the first of what the helper put.
-use Rattle.get_exchange.specs.Gets.{get_turns}
-use Rattle.exchange_crew.specs.Parts.{part_state}
-use Rattle.get_exchange.specs.Shelves.{domain_of, part_of}
+use Rattle.get_exchange.proofs.Words.{get_turns, part_state, domain_of, part_of}
 use Rattle.get_exchange.proofs.FetchLaws.{joined_fetched, taken_read}
 use Rattle.get_exchange.proofs.results.take_one.Goals as goal
 

@@ -1,7 +1,5 @@
 -- The first window is the walk's next.
-use Rattle.std.proofs.Common.{◌∙◌, min, refl}
-use Rattle.aggregator_rounds.specs.Left.{entries_left}
-use Rattle.exchange_crew.specs.Turns.{turns_ahead}
+use Rattle.get_exchange.proofs.Words.{◌∙◌, min, refl, entries_left, turns_ahead}
 use Rattle.get_exchange.proofs.ShelfLaws.{due_next, shelf_first}
 use Rattle.get_exchange.proofs.shelf.shelf_of.Goals as goal
 

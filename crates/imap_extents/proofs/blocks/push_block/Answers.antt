@@ -1,8 +1,5 @@
-use Rattle.std.proofs.Common.{◌++◌, ◌∙◌, ap, ℕ, List, arith}
+use Rattle.imap_extents.proofs.Words.{◌++◌, ◌∙◌, ap, ℕ, List, arith, to_be_bytes, length-take-le, length-replicate, on_ok_weaker}
 use Rattle.std.specs.Prelude.{replicate}
-use Rattle.std.specs.Int.{to_be_bytes}
-use Rattle.std.proofs.lemmas.List.{length-take-le, length-replicate}
-use Rattle.std.proofs.lemmas.Result.{on_ok_weaker}
 use Rattle.imap_extents.proofs.BlockLaws.{block_bytes}
 use Rattle.imap_extents.proofs.blocks.push_block.Goals as goal
 

@@ -1,5 +1,4 @@
-use Rattle.std.proofs.Common.{arith}
-use Rattle.std.specs.Int.{to_be_bytes}
+use Rattle.imap_extents.proofs.Words.{arith, to_be_bytes}
 use Rattle.imap_extents.proofs.BlockLaws.{blocks_more}
 use Rattle.imap_extents.proofs.blocks.push_blocks.Goals as goal
 

@@ -1,7 +1,4 @@
-use Rattle.std.proofs.Common.{◌≡◌, ◌≤◌, ◌-◌, ◌++◌}
-use Rattle.std.specs.Prelude.{flat_map}
-use Rattle.std.specs.Int.{to_be_bytes}
-use Rattle.std.specs.List.{range_with_len}
+use Rattle.imap_extents.proofs.Words.{◌≡◌, ◌≤◌, ◌-◌, ◌++◌, flat_map, to_be_bytes, range_with_len}
 use Rattle.imap_extents.proofs.blocks.push_blocks.Given as goal
 
 abbrev pub invariant-loop-done : goal.invariant-loop-done

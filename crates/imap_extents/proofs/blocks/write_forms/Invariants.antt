@@ -1,6 +1,4 @@
-use Rattle.std.proofs.Common.{◌≡◌, map, take}
-use Rattle.std.specs.Int.{to_be_bytes}
-use Rattle.std.specs.List.{range_with_len}
+use Rattle.imap_extents.proofs.Words.{◌≡◌, map, take, to_be_bytes, range_with_len}
 use Rattle.imap_extents.proofs.blocks.write_forms.Given as goal
 
 abbrev pub invariant-loop-i : goal.invariant-loop-i

@@ -1,7 +1,5 @@
-use Rattle.std.proofs.Common.{◌+◌, ◌*◌, ◌^◌, ◌∙◌, ap, sym, not, ℕ}
-use Rattle.std.specs.Prelude.{◌%◌}
+use Rattle.imap_extents.proofs.Words.{◌+◌, ◌*◌, ◌^◌, ◌∙◌, ap, sym, not, ℕ, ◌%◌, fits}
 use Rattle.nc_base.specs.declared.request.Value.TheVariants as value
-use Rattle.serial_spec.specs.ExternalForm.{fits}
 use Rattle.imap_extents.proofs.EndLaws.{hit_at}
 use Rattle.imap_extents.proofs.RunLaws.{step_fits}
 use Rattle.imap_extents.proofs.runs.any_pattern_unfit.Goals as goal

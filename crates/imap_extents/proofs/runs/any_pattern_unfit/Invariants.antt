@@ -1,8 +1,5 @@
-use Rattle.std.proofs.Common.{◌≡◌, ◌+◌, ◌*◌, ◌^◌, false, not, map}
-use Rattle.std.specs.Prelude.{◌%◌}
-use Rattle.std.specs.List.{list_any, range_with_len}
+use Rattle.imap_extents.proofs.Words.{◌≡◌, ◌+◌, ◌*◌, ◌^◌, false, not, map, ◌%◌, list_any, range_with_len, fits}
 use Rattle.nc_base.specs.declared.request.Value.TheVariants as value
-use Rattle.serial_spec.specs.ExternalForm.{fits}
 use Rattle.imap_extents.proofs.runs.any_pattern_unfit.Given as goal
 
 abbrev pub invariant-loop-k : goal.invariant-loop-k

@@ -1,7 +1,4 @@
-use Rattle.std.proofs.Common.{◌≡◌, ◌++◌, ◌-◌, false, not, take, length}
-use Rattle.std.specs.Prelude.{flat_map}
-use Rattle.std.specs.List.{list_any}
-use Rattle.serial_spec.specs.ExternalForm.{ext, fits}
+use Rattle.imap_extents.proofs.Words.{◌≡◌, ◌++◌, ◌-◌, false, not, take, length, flat_map, list_any, ext, fits}
 use Rattle.imap_extents.proofs.RunLaws.{told}
 use Rattle.imap_extents.proofs.runs.push_runs.Given as goal
 

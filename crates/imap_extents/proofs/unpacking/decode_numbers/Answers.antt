@@ -1,10 +1,4 @@
-use Rattle.std.proofs.Common.{◌≡◌, ◌∙◌, ap, ℕ, List, map, Some, arith}
-use Rattle.std.proofs.lemmas.List.{take_all}
-use Rattle.serial_spec.specs.ExternalForm.{val}
-use Rattle.serial_spec.specs.Request.{number_in}
-use Rattle.std.specs.Prelude.{ℤ}
-use Rattle.std.proofs.lemmas.Grind.{common_steps}
-use Rattle.std.proofs.lemmas.Int.{to_z-of_z}
+use Rattle.imap_extents.proofs.Words.{◌≡◌, ◌∙◌, ap, ℕ, List, map, Some, arith, take_all, val, number_in, ℤ, common_steps, to_z-of_z}
 use mir.Syntax.{w128}
 use mir.Val.{to_z, of_z}
 use Rattle.imap_extents.proofs.unpacking.decode_numbers.Goals as goal

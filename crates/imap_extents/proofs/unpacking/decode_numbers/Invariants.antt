@@ -1,6 +1,4 @@
-use Rattle.std.proofs.Common.{◌≡◌, map, take, Some}
-use Rattle.serial_spec.specs.ExternalForm.{val}
-use Rattle.serial_spec.specs.Request.{number_in}
+use Rattle.imap_extents.proofs.Words.{◌≡◌, map, take, Some, val, number_in}
 use Rattle.imap_extents.proofs.unpacking.decode_numbers.Given as goal
 
 abbrev pub invariant-loop-form : goal.invariant-loop-form

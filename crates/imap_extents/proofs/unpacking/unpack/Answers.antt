@@ -1,9 +1,4 @@
-use Rattle.std.proofs.Common.{◌*◌, ◌/◌, ◌∙◌, refl, sym, ap, ℕ, List, Option, length, map}
-use Rattle.std.proofs.lemmas.Result.{IfOk-weaker}
-use Rattle.serial_spec.specs.ExternalForm.{size_of}
-use Rattle.serial_spec.specs.Layout.{product}
-use Rattle.imap_extents.specs.Found.{char_in, bits_in, in_order}
-use Rattle.nc_base.specs.declared.request.Value.{Value}
+use Rattle.imap_extents.proofs.Words.{◌*◌, ◌/◌, ◌∙◌, refl, sym, ap, ℕ, List, Option, length, map, IfOk-weaker, size_of, product, char_in, bits_in, in_order, Value}
 use Rattle.imap_extents.proofs.PositionLaws.{length-positions}
 use Rattle.imap_extents.proofs.OrderLaws.{spread_packed, all_of_them}
 use Rattle.imap_extents.proofs.PlacingLaws.{spread_text, spread_bits}

@@ -1,11 +1,5 @@
-use Rattle.std.proofs.Common.{◌++◌, ◌∙◌, ap, sym, subst, not, take, map, ℕ, List, Bool}
-use Rattle.std.specs.Prelude.{ℤ, IfErr}
-use Rattle.std.specs.List.{list_any}
-use Rattle.std.proofs.lemmas.Result.{on_ok_weaker}
+use Rattle.imap_extents.proofs.Words.{◌++◌, ◌∙◌, ap, sym, subst, not, take, map, ℕ, List, Bool, ℤ, IfErr, list_any, on_ok_weaker, numbers_in, ext, fits, IsRangeRefusal}
 use Rattle.nc_base.specs.declared.request.Value.TheVariants as value
-use Rattle.nc_base.specs.NumberForms.{numbers_in}
-use Rattle.serial_spec.specs.ExternalForm.{ext, fits}
-use Rattle.imap_extents.specs.Refusals.{IsRangeRefusal}
 use Rattle.imap_extents.proofs.RunLaws.{told_numbers, kind_forms, kind_unfit}
 use Rattle.imap_extents.proofs.words.push_numbers.Goals as goal
 

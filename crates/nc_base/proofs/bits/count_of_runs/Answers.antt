@@ -1,7 +1,4 @@
-use Rattle.std.proofs.Common.{◌∙◌, ap, List, length}
-use Rattle.std.proofs.lemmas.List.{take_all}
-use Rattle.nc_base.specs.declared.bits.BitRun.{BitRun}
-use Rattle.nc_base.specs.BitForms.{bits_of_runs}
+use Rattle.nc_base.proofs.Words.{◌∙◌, ap, List, length, take_all, BitRun, bits_of_runs}
 use Rattle.nc_base.proofs.BitLaws.{counted}
 use Rattle.nc_base.proofs.bits.count_of_runs.Goals as goal
 

@@ -1,5 +1,4 @@
-use Rattle.std.proofs.Common.{◌≡◌, take, length}
-use Rattle.nc_base.specs.BitForms.{bits_of_runs}
+use Rattle.nc_base.proofs.Words.{◌≡◌, take, length, bits_of_runs}
 use Rattle.nc_base.proofs.bits.count_of_runs.Given as goal
 
 abbrev pub invariant-loop-run : goal.invariant-loop-run

@@ -1,13 +1,7 @@
-use Rattle.std.proofs.Common.{List, ◌≡◌, ◌∙◌, sym, ap, ℕ, Some, arith}
-use Rattle.std.specs.Prelude.{ℤ, pos}
-use Rattle.std.proofs.lemmas.Int.{to_z-of_z}
+use Rattle.nc_base.proofs.Words.{List, ◌≡◌, ◌∙◌, sym, ap, ℕ, Some, arith, ℤ, pos, to_z-of_z, BitRun, slice_get, at_drop_all, bits_of_runs}
 use mir.Syntax.{w128}
 use mir.Val.{to_z, of_z}
-use Rattle.nc_base.specs.declared.bits.BitRun.{BitRun}
 use Rattle.nc_base.proofs.BitLaws.{found, skipped}
-use Rattle.std.specs.Prelude.{slice_get}
-use Rattle.std.proofs.lemmas.List.{at_drop_all}
-use Rattle.nc_base.specs.BitForms.{bits_of_runs}
 use Rattle.nc_base.proofs.bits.pattern_in_runs.Goals as goal
 
 pub returns-then-left-run : goal.returns-then-left-run

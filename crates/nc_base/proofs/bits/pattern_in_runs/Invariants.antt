@@ -1,6 +1,4 @@
-use Rattle.std.proofs.Common.{◌≡◌, drop}
-use Rattle.std.specs.Prelude.{slice_get}
-use Rattle.nc_base.specs.BitForms.{bits_of_runs}
+use Rattle.nc_base.proofs.Words.{◌≡◌, drop, slice_get, bits_of_runs}
 use Rattle.nc_base.proofs.bits.pattern_in_runs.Given as goal
 
 abbrev pub invariant-loop-run : goal.invariant-loop-run

@@ -1,5 +1,4 @@
-use Rattle.std.proofs.Common.{ℕ, ◌∙◌, ◌++◌, ap, arith}
-use Rattle.nc_base.specs.BitForms.{bit_steps}
+use Rattle.nc_base.proofs.Words.{ℕ, ◌∙◌, ◌++◌, ap, arith, bit_steps}
 use Rattle.nc_base.proofs.BitLaws.{pushed}
 use Rattle.nc_base.proofs.bits.push_patterns.Goals as goal
 

@@ -1,5 +1,4 @@
-use Rattle.std.proofs.Common.{◌≡◌, ℕ, ◌∙◌, ap, sym, List, [], ◌∷◌, ◌++◌, take, get_or, arith}
-use Rattle.std.proofs.lemmas.List.{take_all, take_more}
+use Rattle.nc_base.proofs.Words.{◌≡◌, ℕ, ◌∙◌, ap, sym, List, [], ◌∷◌, ◌++◌, take, get_or, arith, take_all, take_more}
 use Rattle.nc_base.proofs.bits.wide_of_narrow.Goals as goal
 
 pub loop-word-preserved : goal.loop-word-preserved

@@ -1,4 +1,4 @@
-use Rattle.std.proofs.Common.{◌≡◌, take}
+use Rattle.nc_base.proofs.Words.{◌≡◌, take}
 use Rattle.nc_base.proofs.bits.wide_of_narrow.Given as goal
 
 abbrev pub invariant-loop-word : goal.invariant-loop-word

@@ -1,7 +1,4 @@
-use Rattle.std.proofs.Common.{◌≡◌, ℕ, ◌∙◌, ap, sym, List, ◌++◌, take, get_or}
-use Rattle.std.proofs.lemmas.List.{take_all, take_more}
-use Rattle.nc_base.specs.declared.bits.BitRun.{BitRun}
-use Rattle.nc_base.specs.BitForms.{bits_of_run, bits_of_runs}
+use Rattle.nc_base.proofs.Words.{◌≡◌, ℕ, ◌∙◌, ap, sym, List, ◌++◌, take, get_or, take_all, take_more, BitRun, bits_of_run, bits_of_runs}
 use Rattle.nc_base.proofs.BitLaws.{runs_push}
 use Rattle.nc_base.proofs.bits.wide_of_runs.Goals as goal
 

@@ -1,7 +1,4 @@
-use Rattle.std.proofs.Common.{◌∙◌, ap, List, length}
-use Rattle.std.proofs.lemmas.List.{take_all}
-use Rattle.nc_base.specs.declared.numbers.NumberRun.{NumberRun}
-use Rattle.nc_base.specs.NumberForms.{numbers_of_runs}
+use Rattle.nc_base.proofs.Words.{◌∙◌, ap, List, length, take_all, NumberRun, numbers_of_runs}
 use Rattle.nc_base.proofs.RunLaws.{counted}
 use Rattle.nc_base.proofs.numbers.count_of_runs.Goals as goal
 

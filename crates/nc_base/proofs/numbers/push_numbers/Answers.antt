@@ -1,7 +1,4 @@
-use Rattle.std.proofs.Common.{◌≡◌, ℕ, ◌∙◌, ◌++◌, ◌∷◌, [], ap, arith}
-use Rattle.nc_base.specs.NumberForms.{steps}
-use Rattle.std.proofs.lemmas.Grind.{common_steps}
-use Rattle.std.proofs.lemmas.Int.{to_z-of_z}
+use Rattle.nc_base.proofs.Words.{◌≡◌, ℕ, ◌∙◌, ◌++◌, ◌∷◌, [], ap, arith, steps, common_steps, to_z-of_z}
 use Rattle.nc_base.proofs.RunLaws.{pushed}
 use Rattle.nc_base.proofs.numbers.push_numbers.Goals as goal
 

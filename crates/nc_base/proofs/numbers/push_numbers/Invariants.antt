@@ -1,5 +1,4 @@
-use Rattle.std.proofs.Common.{◌≡◌, ◌++◌}
-use Rattle.nc_base.specs.NumberForms.{steps}
+use Rattle.nc_base.proofs.Words.{◌≡◌, ◌++◌, steps}
 use Rattle.nc_base.proofs.numbers.push_numbers.Given as goal
 
 abbrev pub invariant-loop-k : goal.invariant-loop-k

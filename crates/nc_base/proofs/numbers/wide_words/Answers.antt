@@ -1,8 +1,4 @@
-use Rattle.std.proofs.Common.{◌≡◌, ◌∙◌, ap, sym, List, [], ◌∷◌, ◌++◌, take, get_or, arith}
-use Rattle.std.specs.Prelude.{ℤ, pos}
-use Rattle.std.proofs.lemmas.Grind.{common_steps}
-use Rattle.std.proofs.lemmas.Int.{ints, to_z-of_z}
-use Rattle.std.proofs.lemmas.List.{take_all, take_more}
+use Rattle.nc_base.proofs.Words.{◌≡◌, ◌∙◌, ap, sym, List, [], ◌∷◌, ◌++◌, take, get_or, arith, ℤ, pos, common_steps, ints, to_z-of_z, take_all, take_more}
 use Rattle.nc_base.proofs.numbers.wide_words.Goals as goal
 
 pub loop-word-preserved : goal.loop-word-preserved

@@ -1,8 +1,4 @@
-use Rattle.std.proofs.Common.{◌≡◌, ◌∙◌, ap, sym, List, ◌++◌, take, get_or}
-use Rattle.std.specs.Prelude.{ℤ, pos}
-use Rattle.std.proofs.lemmas.List.{take_all, take_more}
-use Rattle.nc_base.specs.declared.numbers.NumberRun.{NumberRun}
-use Rattle.nc_base.specs.NumberForms.{numbers_of_run, numbers_of_runs}
+use Rattle.nc_base.proofs.Words.{◌≡◌, ◌∙◌, ap, sym, List, ◌++◌, take, get_or, ℤ, pos, take_all, take_more, NumberRun, numbers_of_run, numbers_of_runs}
 use Rattle.nc_base.proofs.RunLaws.{runs_push}
 use Rattle.nc_base.proofs.numbers.widest_of_runs.Goals as goal
 

@@ -1,7 +1,4 @@
-use Rattle.std.proofs.Common.{◌≡◌, ◌++◌, ◌∷◌, [], arith}
-use Rattle.std.proofs.lemmas.Grind.{common_steps}
-use Rattle.std.proofs.lemmas.Int.{to_z-of_z}
-use Rattle.nc_base.specs.NumberForms.{numbers_of_form}
+use Rattle.nc_base.proofs.Words.{◌≡◌, ◌++◌, ◌∷◌, [], arith, common_steps, to_z-of_z, numbers_of_form}
 use Rattle.nc_base.proofs.EqLaws.{after_some}
 use Rattle.nc_base.proofs.numbers.widest_of_words.Goals as goal
 

@@ -1,5 +1,5 @@
 -- The header has no such attribute.
-use Rattle.std.proofs.Common.{inr, refl}
+use Rattle.nc_classic_c.proofs.Words.{inr, refl}
 use Rattle.nc_classic_c.proofs.Answering.{number_kept}
 use Rattle.nc_classic_c.proofs.attributes.ncv_inq_att.Goals as goal
 

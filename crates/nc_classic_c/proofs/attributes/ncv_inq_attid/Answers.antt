@@ -1,5 +1,5 @@
 -- The header has no attribute of this name.
-use Rattle.std.proofs.Common.{inr, refl}
+use Rattle.nc_classic_c.proofs.Words.{inr, refl}
 use Rattle.nc_classic_c.proofs.Answering.{number_kept}
 use Rattle.nc_classic_c.proofs.attributes.ncv_inq_attid.Goals as goal
 

@@ -1,9 +1,5 @@
 -- The sorted entries have the bytes of the extents.
-use Rattle.std.proofs.Common.{◌^◌, List, sym, subst}
-use Rattle.nc_base.specs.declared.plan.Owned.{Owned}
-use Rattle.overlay_laws.specs.Entries.{HaveSame, ranges}
-use Rattle.overlay_laws.specs.Lines.{extents, EndBelow}
-use Rattle.serial_spec.specs.Extents.{spans}
+use Rattle.nc_classic_c.proofs.Words.{◌^◌, List, sym, subst, Owned, HaveSame, ranges, extents, EndBelow, spans}
 use Rattle.nc_classic_c.proofs.CoverLaws.{cover_bytes, cover_low, entries_low}
 use Rattle.nc_classic_c.proofs.covers.cover_of.Goals as goal
 

@@ -1,10 +1,5 @@
 -- The first extent begins at the first byte, and the last one ends behind the last.
-use Rattle.std.proofs.Common.{◌≡◌, ◌+◌, ◌-◌, ◌^◌, ◌<◌, ◌≤◌, ◌∙◌, sym, ap, length, arith}
-use Rattle.std.specs.Option.{option_copied}
-use Rattle.serial_spec.proofs.MemberLaws.{at_in}
-use Rattle.serial_spec.specs.DeviceCalls.{first_of}
-use Rattle.serial_spec.specs.Extents.{spans}
-use Rattle.nc_classic_c.specs.Windows.{end_of}
+use Rattle.nc_classic_c.proofs.Words.{◌≡◌, ◌+◌, ◌-◌, ◌^◌, ◌<◌, ◌≤◌, ◌∙◌, sym, ap, length, arith, option_copied, at_in, first_of, spans, end_of}
 use Rattle.nc_classic_c.proofs.CoverLaws.{reach_is}
 use Rattle.nc_classic_c.proofs.covers.reach_of.Goals as goal
 

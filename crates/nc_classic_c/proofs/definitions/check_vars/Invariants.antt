@@ -1,6 +1,5 @@
 -- None of those before is refused.
-use Rattle.std.proofs.Common.{◌≡◌, [], take, drop}
-use Rattle.nc_classic_c.specs.Definitions.{first_refused, var_refusal}
+use Rattle.nc_classic_c.proofs.Words.{◌≡◌, [], take, drop, first_refused, var_refusal}
 use Rattle.nc_classic_c.proofs.definitions.check_vars.Given as goal
 
 abbrev pub invariant-loop-k : goal.invariant-loop-k

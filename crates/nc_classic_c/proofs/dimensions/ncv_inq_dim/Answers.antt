@@ -1,5 +1,5 @@
 -- The header has no such dimension.
-use Rattle.std.proofs.Common.{inr, refl}
+use Rattle.nc_classic_c.proofs.Words.{inr, refl}
 use Rattle.nc_classic_c.proofs.Answering.{number_kept}
 use Rattle.nc_classic_c.proofs.dimensions.ncv_inq_dim.Goals as goal
 

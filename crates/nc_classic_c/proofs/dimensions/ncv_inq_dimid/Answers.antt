@@ -1,5 +1,5 @@
 -- The header has no dimension of this name.
-use Rattle.std.proofs.Common.{inr, refl}
+use Rattle.nc_classic_c.proofs.Words.{inr, refl}
 use Rattle.nc_classic_c.proofs.Answering.{number_kept}
 use Rattle.nc_classic_c.proofs.dimensions.ncv_inq_dimid.Goals as goal
 

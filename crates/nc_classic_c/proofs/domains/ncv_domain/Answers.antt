@@ -1,5 +1,5 @@
 -- The domain is the one that is cut.
-use Rattle.std.proofs.Common.{inl, inr, refl, sym, ◌∙◌}
+use Rattle.nc_classic_c.proofs.Words.{inl, inr, refl, sym, ◌∙◌}
 use Rattle.nc_base.specs.declared.answer.Code.TheVariants as code
 use Rattle.nc_classic_c.specs.declared.answers.Refusal.TheVariants as refusal
 use Rattle.nc_classic_c.proofs.Answering.{number_kept}

@@ -1,12 +1,7 @@
 -- The extents are laid one by one.
-use Rattle.std.proofs.Common.{◌+◌, List, ap, sym, subst, arith, ◌∙◌}
+use Rattle.nc_classic_c.proofs.Words.{◌+◌, List, ap, sym, subst, arith, ◌∙◌, length-map, Extent, extents_left, Extents, NcvExtent, laid_at}
 use Rattle.std.specs.Prelude.{map}
-use Rattle.std.proofs.lemmas.List.{length-map}
-use Rattle.nc_base.specs.declared.plan.Extent.{Extent}
-use Rattle.vara_extents.specs.Left.{extents_left}
-use Rattle.vara_extents.specs.declared.walk.Extents.{Extents}
-use Rattle.nc_classic_c.specs.declared.extents.NcvExtent.{NcvExtent}
-use Rattle.nc_classic_c.specs.Extents.{shown, laid_at}
+use Rattle.nc_classic_c.specs.Extents.{shown}
 use Rattle.nc_classic_c.proofs.Filling.{Lays, none_laid, one_laid, left_fits, all_laid}
 use Rattle.nc_classic_c.proofs.extents.lay.Goals as goal
 

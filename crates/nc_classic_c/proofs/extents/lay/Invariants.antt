@@ -1,8 +1,7 @@
 -- The extents that are left are laid next.
+use Rattle.nc_classic_c.proofs.Words.{extents_left, NcvExtent}
 use Rattle.std.specs.Prelude.{map}
-use Rattle.vara_extents.specs.Left.{extents_left}
 use Rattle.nc_classic_c.specs.Extents.{shown}
-use Rattle.nc_classic_c.specs.declared.extents.NcvExtent.{NcvExtent}
 use Rattle.nc_classic_c.proofs.Filling.{Lays}
 use Rattle.nc_classic_c.proofs.extents.lay.Given as goal
 

@@ -1,16 +1,7 @@
 -- The extents of the accepted region.
-use Rattle.std.proofs.Common.{◌≡◌, List, inl, inr, refl, ap, sym, ◌∙◌, drop, length}
-use Rattle.std.specs.Prelude.{map, slice_get}
-use Rattle.std.proofs.lemmas.List.{length-map}
-use Rattle.list_laws.proofs.Optional.{if_some_at}
-use Rattle.nc_base.specs.declared.header.Var.{Var}
-use Rattle.nc_base.specs.declared.header.Header.{Header}
-use Rattle.nc_base.specs.declared.plan.Extent.{Extent}
-use Rattle.nc_base.specs.declared.request.Region.{Region}
-use Rattle.vara_extents.specs.Joined.{extents_of}
-use Rattle.vara_extents.specs.Left.{extents_left}
-use Rattle.nc_classic_c.specs.Extents.{shown, filled, AreLaid}
-use Rattle.nc_classic_c.specs.Regions.{region_of, direction_of}
+use Rattle.nc_classic_c.proofs.Words.{◌≡◌, List, inl, inr, refl, ap, sym, ◌∙◌, drop, length, slice_get, length-map, if_some_at, Var, Header, Extent, Region, extents_of, extents_left, filled, AreLaid, region_of, direction_of}
+use Rattle.std.specs.Prelude.{map}
+use Rattle.nc_classic_c.specs.Extents.{shown}
 use Rattle.nc_classic_c.proofs.AcceptedRegions.{region_had, few_left}
 use Rattle.nc_classic_c.proofs.Answering.{number_kept}
 use Rattle.nc_classic_c.proofs.extents.ncv_extents.Goals as goal

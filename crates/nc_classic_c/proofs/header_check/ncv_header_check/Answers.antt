@@ -1,6 +1,5 @@
 -- The header's numbers, or the refusal.
-use Rattle.std.proofs.Common.{ℕ, inl, inr, refl, ap, ◌∙◌}
-use Rattle.nc_classic_c.specs.Counts.{counts_of}
+use Rattle.nc_classic_c.proofs.Words.{ℕ, inl, inr, refl, ap, ◌∙◌, counts_of}
 use Rattle.nc_classic_c.proofs.Answering.{number_kept}
 use Rattle.nc_classic_c.proofs.header_check.ncv_header_check.Goals as goal
 

@@ -1,6 +1,5 @@
 -- The first 2^20 bytes.
-use Rattle.std.proofs.Common.{sym, arith, ◌^◌}
-use Rattle.std.proofs.lemmas.List.{take_all, length-take, length-take-le}
+use Rattle.nc_classic_c.proofs.Words.{sym, arith, ◌^◌, take_all, length-take, length-take-le}
 use Rattle.nc_classic_c.proofs.headers.first_bytes.Goals as goal
 
 pub returns-then-bytes-clause-bytes : goal.returns-then-bytes-clause-bytes

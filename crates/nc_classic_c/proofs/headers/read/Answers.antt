@@ -1,9 +1,6 @@
 -- The refusal is by the fault.
-use Rattle.std.proofs.Common.{ℕ, List, ◌≡◌, ◌⊎◌, sym, subst}
+use Rattle.nc_classic_c.proofs.Words.{ℕ, List, ◌≡◌, ◌⊎◌, sym, subst, HasFault, IsHeaderRefusal, Refusal}
 use Rattle.nc_base.specs.declared.errors.HeaderErr.TheVariants as fault
-use Rattle.serial_spec.specs.HeaderFaults.{HasFault}
-use Rattle.nc_classic_c.specs.Headers.{IsHeaderRefusal}
-use Rattle.nc_classic_c.specs.declared.answers.Refusal.{Refusal}
 use Rattle.nc_classic_c.proofs.Refusing.{refused_header}
 use Rattle.nc_classic_c.proofs.headers.read.Goals as goal
 

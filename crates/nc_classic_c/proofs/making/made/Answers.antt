@@ -1,10 +1,5 @@
 -- The header that is defined can be laid out and written; the place's refusal is that of the whole.
-use Rattle.std.proofs.Common.{sym, ap, subst, ◌∙◌}
-use Rattle.std.specs.Prelude.{IfErr}
-use Rattle.std.proofs.lemmas.Result.{err_from_is_err_and}
-use Rattle.nc_base.specs.declared.header.Header.{Header}
-use Rattle.var_layout.specs.Unplaced.{is_unplaced, has_writable_parts}
-use Rattle.nc_classic_c.specs.Making.{refusal_of, IsUnmade}
+use Rattle.nc_classic_c.proofs.Words.{sym, ap, subst, ◌∙◌, IfErr, err_from_is_err_and, Header, is_unplaced, has_writable_parts, refusal_of, IsUnmade}
 use Rattle.nc_classic_c.proofs.DefinitionLaws.{taken_unplaced, taken_writable}
 use Rattle.nc_classic_c.proofs.MakingLaws.{version_right, place_told}
 use Rattle.nc_classic_c.proofs.making.made.Goals as goal

@@ -1,8 +1,5 @@
 -- The bytes are given, or their length is told, or the header is refused.
-use Rattle.std.proofs.Common.{◌≡◌, sym, subst, ◌∙◌}
-use Rattle.std.specs.Prelude.{IfErr}
-use Rattle.std.proofs.lemmas.Result.{err_from_is_err_and}
-use Rattle.nc_classic_c.specs.Making.{refusal_of, len_told, IsUnmade}
+use Rattle.nc_classic_c.proofs.Words.{◌≡◌, sym, subst, ◌∙◌, IfErr, err_from_is_err_and, refusal_of, len_told, IsUnmade}
 use Rattle.nc_classic_c.proofs.MakingLaws.{made_given, len_kept, len_needed}
 use Rattle.nc_classic_c.proofs.making.make_into.Goals as goal
 

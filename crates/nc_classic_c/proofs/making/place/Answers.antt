@@ -1,5 +1,5 @@
 -- The layout's fault, and the header with its record count.
-use Rattle.std.proofs.Common.{sym, ◌∙◌}
+use Rattle.nc_classic_c.proofs.Words.{sym, ◌∙◌}
 use Rattle.nc_classic_c.proofs.CountedHeaders.{counted_writable}
 use Rattle.nc_classic_c.proofs.making.place.Goals as goal
 

@@ -1,7 +1,5 @@
 -- A text that is valid to its end.
-use Rattle.std.proofs.Common.{sym}
-use Rattle.std.proofs.lemmas.Str.{utf8_valid_len-IsUtf8}
-use Rattle.list_laws.proofs.Truth.{equal_true}
+use Rattle.nc_classic_c.proofs.Words.{sym, utf8_valid_len-IsUtf8, equal_true}
 use Rattle.nc_classic_c.proofs.naming.is_utf8.Goals as goal
 
 pub returns-in-Ok : goal.returns-in-Ok

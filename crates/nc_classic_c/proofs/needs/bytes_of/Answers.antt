@@ -1,9 +1,5 @@
 -- An accepted region has few elements.
-use Rattle.std.proofs.Common.{◌≡◌, ◌*◌, sym, ap, ap₂, Some, arith}
-use Rattle.std.specs.Prelude.{slice_get}
-use Rattle.serial_spec.specs.ExternalForm.{size_of}
-use Rattle.serial_spec.specs.Layout.{product}
-use Rattle.var_layout.proofs.Soundness.{if_there}
+use Rattle.nc_classic_c.proofs.Words.{◌≡◌, ◌*◌, sym, ap, ap₂, Some, arith, slice_get, size_of, product, if_there}
 use Rattle.nc_classic_c.proofs.AcceptedRegions.{few_of_accepted}
 use Rattle.nc_classic_c.proofs.needs.bytes_of.Goals as goal
 

@@ -1,12 +1,5 @@
 -- What the accepted region needs.
-use Rattle.std.proofs.Common.{◌≡◌, inl, inr, refl, ap, ◌∙◌}
-use Rattle.std.specs.Prelude.{slice_get}
-use Rattle.list_laws.proofs.Optional.{if_some_at}
-use Rattle.nc_base.specs.declared.header.Header.{Header}
-use Rattle.nc_base.specs.declared.header.Var.{Var}
-use Rattle.nc_base.specs.declared.request.Region.{Region}
-use Rattle.nc_classic_c.specs.Regions.{region_of, direction_of}
-use Rattle.nc_classic_c.specs.Sizes.{needs_shown}
+use Rattle.nc_classic_c.proofs.Words.{◌≡◌, inl, inr, refl, ap, ◌∙◌, slice_get, if_some_at, Header, Var, Region, region_of, direction_of, needs_shown}
 use Rattle.nc_classic_c.proofs.AcceptedRegions.{region_had}
 use Rattle.nc_classic_c.proofs.Answering.{number_kept}
 use Rattle.nc_classic_c.proofs.needs.ncv_region_check.Goals as goal

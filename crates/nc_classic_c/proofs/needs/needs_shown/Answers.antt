@@ -1,5 +1,5 @@
 -- Bytes and records are those of the same variable.
-use Rattle.std.specs.Prelude.{slice_get}
+use Rattle.nc_classic_c.proofs.Words.{slice_get}
 use Rattle.nc_classic_c.proofs.SizeLaws.{needs_both}
 use Rattle.nc_classic_c.proofs.needs.needs_shown.Goals as goal
 

@@ -1,8 +1,5 @@
 -- The sorted entries hold what the requests hold.
-use Rattle.std.proofs.Common.{◌^◌, List, ap, sym, subst, ◌∙◌}
-use Rattle.nc_base.specs.declared.plan.Owned.{Owned}
-use Rattle.overlay_laws.specs.Lines.{extents, EndBelow}
-use Rattle.serial_spec.specs.SharedByte.{shared_pair_of, holdings_of_entries}
+use Rattle.nc_classic_c.proofs.Words.{◌^◌, List, ap, sym, subst, ◌∙◌, Owned, extents, EndBelow, shared_pair_of, holdings_of_entries}
 use Rattle.nc_classic_c.proofs.OverlapLaws.{entries_low, pair_of_entries}
 use Rattle.nc_classic_c.proofs.overlaps.first_shared.Goals as goal
 

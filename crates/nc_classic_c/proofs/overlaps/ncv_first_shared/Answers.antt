@@ -1,5 +1,5 @@
 -- An extent ends too far, two requests share a byte, or there is no memory.
-use Rattle.std.proofs.Common.{inr, refl, sym, ◌∙◌}
+use Rattle.nc_classic_c.proofs.Words.{inr, refl, sym, ◌∙◌}
 use Rattle.nc_base.specs.declared.answer.Code.TheVariants as code
 use Rattle.nc_classic_c.specs.declared.answers.Refusal.TheVariants as refusal
 use Rattle.nc_classic_c.proofs.Answering.{number_kept}

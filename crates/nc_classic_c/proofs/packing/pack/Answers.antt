@@ -1,6 +1,5 @@
 -- The values are all in the range, or the first one is told that is not.
-use Rattle.std.proofs.Common.{◌≡◌, length, true, sym, rules}
-use Rattle.nc_classic_c.specs.Values.{is_length}
+use Rattle.nc_classic_c.proofs.Words.{◌≡◌, length, true, sym, rules, is_length}
 use Rattle.nc_classic_c.proofs.ValueLaws.{words_fit, words_packed, words_refused}
 use Rattle.nc_classic_c.proofs.packing.pack.Goals as goal
 

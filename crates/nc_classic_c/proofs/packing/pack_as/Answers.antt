@@ -1,8 +1,5 @@
 -- The refusal of the type that the value is.
-use Rattle.std.proofs.Common.{◌≡◌, length, map, Err, sym, subst}
-use Rattle.std.specs.Prelude.{IfErr}
-use Rattle.nc_base.specs.declared.header.NcType.{NcType}
-use Rattle.nc_classic_c.specs.Values.{pack}
+use Rattle.nc_classic_c.proofs.Words.{◌≡◌, length, map, Err, sym, subst, IfErr, NcType, pack}
 use Rattle.nc_classic_c.proofs.packing.pack_as.Goals as goal
 
 pub returns-in-Byte-clause-refused : goal.returns-in-Byte-clause-refused

@@ -1,10 +1,5 @@
 -- One value more is written.
-use Rattle.std.proofs.Common.{◌≡◌, ◌*◌, ◌≤◌, ◌∙◌, length, map, sym, ap, subst, true, arith}
-use Rattle.std.proofs.Math.Nat.{mul-le-mul_right}
-use Rattle.std.proofs.lemmas.List.{take_all}
-use Rattle.nc_base.specs.declared.request.Value.{Value}
-use Rattle.serial_spec.specs.ExternalForm.{fits, ext, size_of}
-use Rattle.nc_classic_c.specs.Values.{packed}
+use Rattle.nc_classic_c.proofs.Words.{◌≡◌, ◌*◌, ◌≤◌, ◌∙◌, length, map, sym, ap, subst, true, arith, mul-le-mul_right, take_all, Value, fits, ext, size_of, packed}
 use Rattle.nc_classic_c.proofs.ValueLaws.{one_written, word_fits}
 use Rattle.nc_classic_c.proofs.packing.put_all.Goals as goal
 

@@ -1,7 +1,5 @@
 -- The values so far are written.
-use Rattle.std.proofs.Common.{◌≡◌, ◌*◌, map, take}
-use Rattle.serial_spec.specs.ExternalForm.{size_of}
-use Rattle.nc_classic_c.specs.Values.{packed}
+use Rattle.nc_classic_c.proofs.Words.{◌≡◌, ◌*◌, map, take, size_of, packed}
 use Rattle.nc_classic_c.proofs.packing.put_all.Given as goal
 
 abbrev pub invariant-loop-i : goal.invariant-loop-i

@@ -1,5 +1,5 @@
 -- The header has no such file.
-use Rattle.std.proofs.Common.{inr, refl}
+use Rattle.nc_classic_c.proofs.Words.{inr, refl}
 use Rattle.nc_classic_c.proofs.Answering.{number_kept}
 use Rattle.nc_classic_c.proofs.sizes.ncv_inq_sizes.Goals as goal
 

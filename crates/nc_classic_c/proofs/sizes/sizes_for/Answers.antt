@@ -1,5 +1,5 @@
 -- The sizes are exact where they are below their limits.
-use Rattle.std.proofs.Common.{sym, ◌∙◌}
+use Rattle.nc_classic_c.proofs.Words.{sym, ◌∙◌}
 use Rattle.nc_classic_c.proofs.SizeLaws.{sizes_found, sizes_refused}
 use Rattle.nc_classic_c.proofs.sizes.sizes_for.Goals as goal
 

@@ -1,6 +1,5 @@
 -- So many are made.
-use Rattle.std.proofs.Common.{◌≡◌, map, take}
-use Rattle.nc_classic_c.specs.Tables.{attribute_of}
+use Rattle.nc_classic_c.proofs.Words.{◌≡◌, map, take, attribute_of}
 use Rattle.nc_classic_c.proofs.tables.attributes_of.Given as goal
 
 abbrev pub invariant-loop-attr : goal.invariant-loop-attr

@@ -1,6 +1,5 @@
 -- So many are made.
-use Rattle.std.proofs.Common.{◌≡◌, map, take}
-use Rattle.nc_classic_c.specs.Tables.{dimension_of}
+use Rattle.nc_classic_c.proofs.Words.{◌≡◌, map, take, dimension_of}
 use Rattle.nc_classic_c.proofs.tables.dimensions_of.Given as goal
 
 abbrev pub invariant-loop-dim : goal.invariant-loop-dim

@@ -1,6 +1,5 @@
 -- So many are made.
-use Rattle.std.proofs.Common.{◌≡◌, map, take}
-use Rattle.nc_classic_c.specs.Tables.{variable_of}
+use Rattle.nc_classic_c.proofs.Words.{◌≡◌, map, take, variable_of}
 use Rattle.nc_classic_c.proofs.tables.variables_of.Given as goal
 
 abbrev pub invariant-loop-var : goal.invariant-loop-var

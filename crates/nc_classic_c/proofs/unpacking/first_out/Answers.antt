@@ -1,7 +1,5 @@
 -- The first value that memory does not keep.
-use Rattle.std.proofs.Common.{◌≡◌, ◌∙◌, ℕ, Bool, not, true, false, sym, ap, subst, below_more, arith}
-use Rattle.nc_base.specs.declared.request.Value.{Value}
-use Rattle.serial_spec.specs.ExternalForm.{fits}
+use Rattle.nc_classic_c.proofs.Words.{◌≡◌, ◌∙◌, ℕ, Bool, not, true, false, sym, ap, subst, below_more, arith, Value, fits}
 use Rattle.nc_classic_c.proofs.ValueLaws.{value_in, value_out, values_fit}
 use Rattle.nc_classic_c.proofs.unpacking.first_out.Goals as goal
 

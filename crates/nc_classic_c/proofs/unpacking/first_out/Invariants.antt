@@ -1,6 +1,5 @@
 -- Memory keeps the values so far.
-use Rattle.std.proofs.Common.{◌≡◌, ℕ, ◌<◌, true}
-use Rattle.serial_spec.specs.ExternalForm.{fits}
+use Rattle.nc_classic_c.proofs.Words.{◌≡◌, ℕ, ◌<◌, true, fits}
 use Rattle.nc_classic_c.proofs.ValueLaws.{value_in}
 use Rattle.nc_classic_c.proofs.unpacking.first_out.Given as goal
 

@@ -1,5 +1,5 @@
 -- Each pattern is one of a double.
-use Rattle.std.proofs.Common.{length}
+use Rattle.nc_classic_c.proofs.Words.{length}
 use Rattle.nc_classic_c.proofs.ValueLaws.{read_doubles_fit}
 use Rattle.nc_classic_c.proofs.unpacking.ncv_unpack_double.Goals as goal
 

@@ -1,5 +1,5 @@
 -- Each pattern is one of a float.
-use Rattle.std.proofs.Common.{length}
+use Rattle.nc_classic_c.proofs.Words.{length}
 use Rattle.nc_classic_c.proofs.ValueLaws.{read_floats_fit}
 use Rattle.nc_classic_c.proofs.unpacking.ncv_unpack_float.Goals as goal
 

@@ -1,8 +1,5 @@
 -- The refusal of the type that the value is.
-use Rattle.std.proofs.Common.{◌≡◌, length, Err, sym, subst}
-use Rattle.std.specs.Prelude.{IfErr}
-use Rattle.nc_base.specs.declared.header.NcType.{NcType}
-use Rattle.nc_classic_c.specs.Values.{unpack}
+use Rattle.nc_classic_c.proofs.Words.{◌≡◌, length, Err, sym, subst, IfErr, NcType, unpack}
 use Rattle.nc_classic_c.proofs.unpacking.unpack_as.Goals as goal
 
 pub returns-in-Byte-clause-refused : goal.returns-in-Byte-clause-refused

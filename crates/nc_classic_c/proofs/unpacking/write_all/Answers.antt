@@ -1,9 +1,5 @@
 -- One value more is written.
-use Rattle.std.proofs.Common.{◌≡◌, ◌∙◌, ℕ, length, map, sym, ap, subst, true, arith}
-use Rattle.std.specs.List.{range_with_len}
-use Rattle.std.proofs.lemmas.List.{take_all}
-use Rattle.nc_base.specs.declared.request.Value.{Value}
-use Rattle.serial_spec.specs.ExternalForm.{fits}
+use Rattle.nc_classic_c.proofs.Words.{◌≡◌, ◌∙◌, ℕ, length, map, sym, ap, subst, true, arith, range_with_len, take_all, Value, fits}
 use Rattle.nc_classic_c.proofs.ValueLaws.{one_read, value_fits, value_in}
 use Rattle.nc_classic_c.proofs.unpacking.write_all.Goals as goal
 

@@ -1,6 +1,5 @@
 -- The values so far are written.
-use Rattle.std.proofs.Common.{◌≡◌, map, take}
-use Rattle.std.specs.List.{range_with_len}
+use Rattle.nc_classic_c.proofs.Words.{◌≡◌, map, take, range_with_len}
 use Rattle.nc_classic_c.proofs.ValueLaws.{value_in}
 use Rattle.nc_classic_c.proofs.unpacking.write_all.Given as goal
 

@@ -1,5 +1,5 @@
 -- The header has no such variable.
-use Rattle.std.proofs.Common.{inr, refl}
+use Rattle.nc_classic_c.proofs.Words.{inr, refl}
 use Rattle.nc_classic_c.proofs.Answering.{number_kept}
 use Rattle.nc_classic_c.proofs.variables.ncv_inq_var.Goals as goal
 

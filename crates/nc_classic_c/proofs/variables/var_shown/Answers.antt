@@ -1,8 +1,5 @@
 -- Slab and vsize are those of the variable that stands there.
-use Rattle.std.proofs.Common.{◌≡◌}
-use Rattle.std.specs.Prelude.{slice_get}
-use Rattle.list_laws.proofs.Optional.{if_some_at}
-use Rattle.nc_base.specs.declared.header.Var.{Var}
+use Rattle.nc_classic_c.proofs.Words.{◌≡◌, slice_get, if_some_at, Var}
 use Rattle.serial_spec.specs.Layout as layout
 use Rattle.nc_classic_c.proofs.VarLaws.{there_below}
 use Rattle.nc_classic_c.proofs.variables.var_shown.Goals as goal

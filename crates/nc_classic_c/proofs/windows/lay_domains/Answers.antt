@@ -1,13 +1,6 @@
 -- One domain after another.
-use Rattle.std.proofs.Common.{◌+◌, ◌∙◌, ◌++◌, List, length, drop, refl, sym, ap, length-append, arith}
+use Rattle.nc_classic_c.proofs.Words.{◌+◌, ◌∙◌, ◌++◌, List, length, drop, refl, sym, ap, length-append, arith, length-map, windows_left, spans_ascend, spans, NcvWindow, filled, laid_from, shown}
 use Rattle.std.specs.Prelude.{map}
-use Rattle.std.proofs.lemmas.List.{length-map}
-use Rattle.file_domains.specs.Rounds.{windows_left}
-use Rattle.overlay_laws.proofs.CoverLaws.{spans_ascend}
-use Rattle.serial_spec.specs.Extents.{spans}
-use Rattle.nc_classic_c.specs.declared.windows.NcvWindow.{NcvWindow}
-use Rattle.nc_classic_c.specs.Extents.{filled, laid_from}
-use Rattle.nc_classic_c.specs.Windows.{shown}
 use Rattle.nc_classic_c.proofs.LayLaws.{laid_whole, part_laid}
 use Rattle.nc_classic_c.proofs.WindowLaws.{all_windows, divided, domain_windows, next_windows, no_windows, share_windows, windows_few_in_all, windows_from}
 use Rattle.nc_classic_c.proofs.windows.lay_domains.Goals as goal

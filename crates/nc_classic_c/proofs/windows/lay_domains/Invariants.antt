@@ -1,7 +1,5 @@
 -- The windows of the domains that are left are laid next.
-use Rattle.std.proofs.Common.{◌≡◌, ◌+◌, length}
-use Rattle.serial_spec.specs.Extents.{spans}
-use Rattle.nc_classic_c.specs.Extents.{laid_from}
+use Rattle.nc_classic_c.proofs.Words.{◌≡◌, ◌+◌, length, spans, laid_from}
 use Rattle.nc_classic_c.proofs.WindowLaws.{windows_from}
 use Rattle.nc_classic_c.proofs.windows.lay_domains.Given as goal
 

@@ -1,9 +1,5 @@
 -- The cover has the bytes that are asked for.
-use Rattle.std.proofs.Common.{◌∙◌, List, sym, ap}
-use Rattle.nc_base.specs.declared.plan.Extent.{Extent}
-use Rattle.serial_spec.specs.DeviceCalls.{first_of}
-use Rattle.serial_spec.specs.Extents.{spans}
-use Rattle.nc_classic_c.specs.Windows.{end_of}
+use Rattle.nc_classic_c.proofs.Words.{◌∙◌, List, sym, ap, Extent, first_of, spans, end_of}
 use Rattle.nc_classic_c.proofs.StepLaws.{step_told}
 use Rattle.nc_classic_c.proofs.windows.lay_step.Goals as goal
 

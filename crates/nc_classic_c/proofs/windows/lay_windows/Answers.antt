@@ -1,12 +1,6 @@
 -- The windows are laid one by one.
-use Rattle.std.proofs.Common.{◌≡◌, ◌+◌, ◌∙◌, List, length, sym, ap, arith}
+use Rattle.nc_classic_c.proofs.Words.{◌≡◌, ◌+◌, ◌∙◌, List, length, sym, ap, arith, windows_left, Window, WindowWalk, NcvWindow, laid_at, laid_from, shown}
 use Rattle.std.specs.Prelude.{map}
-use Rattle.file_domains.specs.Rounds.{windows_left}
-use Rattle.file_domains.specs.declared.walk.Window.{Window}
-use Rattle.file_domains.specs.declared.walk.WindowWalk.{WindowWalk}
-use Rattle.nc_classic_c.specs.declared.windows.NcvWindow.{NcvWindow}
-use Rattle.nc_classic_c.specs.Extents.{laid_at, laid_from}
-use Rattle.nc_classic_c.specs.Windows.{shown}
 use Rattle.nc_classic_c.proofs.LayLaws.{item_laid}
 use Rattle.nc_classic_c.proofs.windows.lay_windows.Goals as goal
 

@@ -1,9 +1,6 @@
 -- The windows that are left are laid next.
-use Rattle.std.proofs.Common.{◌≡◌, ◌+◌, length}
+use Rattle.nc_classic_c.proofs.Words.{◌≡◌, ◌+◌, length, windows_left, laid_from, shown}
 use Rattle.std.specs.Prelude.{map}
-use Rattle.file_domains.specs.Rounds.{windows_left}
-use Rattle.nc_classic_c.specs.Extents.{laid_from}
-use Rattle.nc_classic_c.specs.Windows.{shown}
 use Rattle.nc_classic_c.proofs.windows.lay_windows.Given as goal
 
 abbrev pub invariant-loop-window : goal.invariant-loop-window

@@ -1,9 +1,7 @@
-use Rattle.std.proofs.Common.{◌∙◌, refl, subst, sym}
-use Rattle.dataset_start.specs.Dataset.{IsKept}
+use Rattle.ncmpi_cli.proofs.Words.{◌∙◌, refl, subst, sym, IsKept, on_err}
 use Rattle.ncmpi_cli.proofs.Made.{made_is, made_kept, never_four, never_told}
 use Rattle.ncmpi_cli.proofs.CutOff.{made_unready, unready_made}
 use Rattle.ncmpi_cli.proofs.made_run.begin_made.Goals as goal
-use Rattle.list_laws.proofs.Results.{on_err}
 
 pub make_ready-requires-clause-kept : goal.make_ready-requires-clause-kept
 make_ready-requires-clause-kept g c =

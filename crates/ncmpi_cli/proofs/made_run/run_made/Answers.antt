@@ -1,18 +1,10 @@
-use Rattle.std.proofs.Common.{◌≡◌, ◌∙◌, [], ap, inl, inr, refl, subst, sym, true, ℕ, Some, arith, rules}
-use Rattle.std.specs.Prelude.{Err}
-use Rattle.nc_base.specs.declared.run.RunEnd.{RunEnd}
-use Rattle.nc_base.specs.declared.script.Script.{Script}
+use Rattle.ncmpi_cli.proofs.Words.{◌≡◌, ◌∙◌, [], ap, inl, inr, refl, subst, sym, true, ℕ, Some, arith, rules, Err, RunEnd, Script, Stop, is_lawful, has_counts, Output, output_at, rose_before}
 use Rattle.nc_base.specs.declared.step.StepErr.TheVariants as fault
-use Rattle.dataset_start.specs.declared.stop.Stop.{Stop}
-use Rattle.serial_spec.specs.Lawful.{is_lawful}
-use Rattle.script_spec.specs.Generator.{has_counts}
-use Rattle.ncmpi_cli.specs.Outside.{Output, output_at}
 use Rattle.ncmpi_cli.proofs.CutOff.{made_cut}
 use Rattle.ncmpi_cli.proofs.Made.{made_begins, made_begins_none, made_counts, made_kept, made_ran, made_status, made_wants}
 use Rattle.ncmpi_cli.proofs.Reading.{told_by_no_text}
 use Rattle.ncmpi_cli.proofs.Telling.{made_end, no_disk, whole_or_memory}
 use Rattle.ncmpi_cli.proofs.made_run.run_made.Goals as goal
-use Rattle.nc_outside.proofs.ToldLaws.{rose_before}
 
 pub run_ranks-end-requires-clause-lawful : goal.run_ranks-end-requires-clause-lawful
 run_ranks-end-requires-clause-lawful g c =

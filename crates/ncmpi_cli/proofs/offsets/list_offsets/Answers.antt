@@ -1,6 +1,4 @@
-use Rattle.std.proofs.Common.{ap}
-use Rattle.std.specs.Prelude.{Err}
-use Rattle.dataset_start.specs.declared.stop.Stop.{Stop}
+use Rattle.ncmpi_cli.proofs.Words.{ap, Err, Stop}
 use Rattle.ncmpi_cli.proofs.Listed.{dataset, not_faulty, wants_memory}
 use Rattle.ncmpi_cli.proofs.offsets.list_offsets.Goals as goal
 

@@ -1,7 +1,4 @@
-use Rattle.std.proofs.Common.{◌≡◌, ◌∙◌, ap, subst, sym, take, List, ℕ, Option, Some, rules}
-use Rattle.nc_outside.specs.Told.{with_end}
-use Rattle.ncmpi_cli.specs.Readings.{whole_text}
-use Rattle.ncmpi_cli.specs.declared.watched_run.RunReadings.{RunReadings}
+use Rattle.ncmpi_cli.proofs.Words.{◌≡◌, ◌∙◌, ap, subst, sym, take, List, ℕ, Option, Some, rules, with_end, whole_text, RunReadings}
 use Rattle.ncmpi_cli.proofs.report.finish.Goals as goal
 
 pub returns-in-Ok-clause-front : goal.returns-in-Ok-clause-front

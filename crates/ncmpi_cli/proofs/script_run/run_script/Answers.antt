@@ -1,18 +1,11 @@
-use Rattle.std.proofs.Common.{◌≡◌, ◌∙◌, ap, inl, inr, refl, List, [], length, ℕ, Some, arith, rules}
-use Rattle.std.specs.Prelude.{Err}
-use Rattle.nc_base.specs.declared.run.RunEnd.{RunEnd}
-use Rattle.nc_base.specs.declared.script.Script.{Script}
+use Rattle.ncmpi_cli.proofs.Words.{◌≡◌, ◌∙◌, ap, inl, inr, refl, List, [], length, ℕ, Some, arith, rules, Err, RunEnd, Script, Stop, read_lawful, pairs_of, readings_of, rose_before}
 use Rattle.nc_base.specs.declared.step.StepErr.TheVariants as fault
-use Rattle.dataset_start.specs.declared.stop.Stop.{Stop}
 use Rattle.dataset_start.specs.declared.stop.Stop.TheVariants as stops
-use Rattle.script_laws.proofs.LawfulLaws.{read_lawful}
-use Rattle.ncmpi_cli.specs.Readings.{pairs_of, readings_of}
 use Rattle.ncmpi_cli.proofs.CutOff.{cut_off}
 use Rattle.ncmpi_cli.proofs.Ran.{have_begun, nobody_read, ran}
 use Rattle.ncmpi_cli.proofs.Reading.{read, told_by_no_text, untold}
 use Rattle.ncmpi_cli.proofs.Telling.{dataset, faulty, mislaid, no_dataset, no_disk, no_script, not_mislaid, not_unread, not_wrong, refused, told_script, wants_memory, whole_or_memory, IsToldBy}
 use Rattle.ncmpi_cli.proofs.script_run.run_script.Goals as goal
-use Rattle.nc_outside.proofs.ToldLaws.{rose_before}
 
 pub run_beside-run-requires-clause-lawful : goal.run_beside-run-requires-clause-lawful
 run_beside-run-requires-clause-lawful g c = λ _ _. read_lawful c.in-Ok.ensures.read.0 c.in-Ok.ready.script c.in-Ok.ensures.read.1

@@ -1,7 +1,5 @@
-use Rattle.std.proofs.Common.{◌≡◌, ap, option_map, None, refl, rules, Some, sym, ◌∙◌}
+use Rattle.ncmpi_cli.proofs.Words.{◌≡◌, ap, option_map, None, refl, rules, Some, sym, ◌∙◌, asked_of, form_of, generate, offsets, run, texts}
 use Rattle.program_words.specs.declared.command.Form.TheVariants as form
-use Rattle.program_words.specs.Forms.{asked_of}
-use Rattle.program_words.specs.Words.{form_of, generate, offsets, run, texts}
 use Rattle.dataset_start.specs.declared.stop.Stop.TheVariants as stops
 use Rattle.ncmpi_cli.proofs.Asking.{ends, no_form_status, wanting}
 use Rattle.ncmpi_cli.proofs.Reading.{told_by_no_text, untold, unwatched, watched}

@@ -1,5 +1,4 @@
-use Rattle.std.proofs.Common.{◌≡◌, take}
-use Rattle.ncmpi_cli.specs.Watched.{seen_counts}
+use Rattle.ncmpi_cli.proofs.Words.{◌≡◌, take, seen_counts}
 use Rattle.ncmpi_cli.proofs.watched_run.counts_of.Given as goal
 
 abbrev pub invariant-loop-pair : goal.invariant-loop-pair

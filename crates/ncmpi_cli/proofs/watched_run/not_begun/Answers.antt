@@ -1,10 +1,6 @@
-use Rattle.std.proofs.Common.{◌≡◌, List, [], sym, subst, refl, ◌∙◌}
-use Rattle.nc_base.specs.declared.step.Mark.{Mark}
+use Rattle.ncmpi_cli.proofs.Words.{◌≡◌, List, [], sym, subst, refl, ◌∙◌, Mark, marks, same_cause, unbegun_run, cut_run, no_answers, no_rows, stood_first}
 use Rattle.nc_base.specs.declared.step.StepErr.TheVariants as fault
-use Rattle.serial_spec.specs.History.{marks}
 use Rattle.turn_run.specs.Begun.{HasBegun}
-use Rattle.turn_run.proofs.CutEnds.{same_cause, unbegun_run}
-use Rattle.turn_run.proofs.CutRuns.{cut_run, no_answers, no_rows, stood_first}
 use Rattle.ncmpi_cli.proofs.watched_run.not_begun.Goals as goal
 
 pub returns-clause-run : goal.returns-clause-run

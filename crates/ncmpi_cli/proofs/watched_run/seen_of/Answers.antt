@@ -1,5 +1,4 @@
-use Rattle.std.proofs.Common.{rules, ◌≡◌, ◌+◌, List, ℕ, All, length, sym, ap, subst, ◌∙◌}
-use Rattle.ncmpi_cli.specs.Watched.{AreReadings}
+use Rattle.ncmpi_cli.proofs.Words.{rules, ◌≡◌, ◌+◌, List, ℕ, All, length, sym, ap, subst, ◌∙◌, AreReadings}
 use Rattle.ncmpi_cli.proofs.WatchedTables.{readings_push}
 use Rattle.ncmpi_cli.proofs.watched_run.seen_of.Goals as goal
 

@@ -1,5 +1,4 @@
-use Rattle.std.proofs.Common.{◌≡◌, ◌+◌, length, All}
-use Rattle.ncmpi_cli.specs.Watched.{AreReadings}
+use Rattle.ncmpi_cli.proofs.Words.{◌≡◌, ◌+◌, length, All, AreReadings}
 use Rattle.ncmpi_cli.proofs.watched_run.seen_of.Given as goal
 
 abbrev pub invariant-loop-one : goal.invariant-loop-one

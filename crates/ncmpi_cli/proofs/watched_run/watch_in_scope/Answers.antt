@@ -1,6 +1,5 @@
-use Rattle.std.proofs.Crossing.{crosses}
+use Rattle.ncmpi_cli.proofs.Words.{crosses, view_send}
 use denote.Param.Send.{sendable}
-use Rattle.run_watch.proofs.Sent.{view_send}
 use Rattle.ncmpi_cli.proofs.watched_run.watch_in_scope.Goals as goal
 
 pub spawn-child-requires-send-F : goal.spawn-child-requires-send-F

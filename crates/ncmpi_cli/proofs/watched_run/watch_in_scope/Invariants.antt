@@ -1,4 +1,4 @@
-use Rattle.std.proofs.Common.{◌≡◌, ◌≤◌, ◌+◌, length, vec_capacity}
+use Rattle.ncmpi_cli.proofs.Words.{◌≡◌, ◌≤◌, ◌+◌, length, vec_capacity}
 use Rattle.ncmpi_cli.proofs.watched_run.watch_in_scope.Given as goal
 
 abbrev pub invariant-loop-view : goal.invariant-loop-view

@@ -1,4 +1,4 @@
-use Rattle.std.proofs.Common.{◌≡◌, ◌<◌, ℕ, length, min, slice_index}
+use Rattle.ncmpi_cli.proofs.Words.{◌≡◌, ◌<◌, ℕ, length, min, slice_index}
 use Rattle.ncmpi_cli.proofs.watcher.numbers.Given as goal
 
 abbrev pub invariant-loop-number : goal.invariant-loop-number

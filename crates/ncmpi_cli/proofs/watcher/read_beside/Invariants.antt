@@ -1,4 +1,4 @@
-use Rattle.std.proofs.Common.{◌≡◌, ◌≤◌, ◌<◌, ℕ, length, slice_index}
+use Rattle.ncmpi_cli.proofs.Words.{◌≡◌, ◌≤◌, ◌<◌, ℕ, length, slice_index}
 use Rattle.ncmpi_cli.proofs.watcher.read_beside.Given as goal
 
 abbrev pub invariant-loop-number : goal.invariant-loop-number

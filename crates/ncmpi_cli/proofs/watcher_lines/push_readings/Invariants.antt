@@ -1,7 +1,4 @@
-use Rattle.std.proofs.Common.{◌≡◌, ◌++◌, take}
-use Rattle.std.specs.List.{flat_map}
-use Rattle.script_spec.specs.Texts.{reading_line}
-use Rattle.ncmpi_cli.specs.Readings.{counted}
+use Rattle.ncmpi_cli.proofs.Words.{◌≡◌, ◌++◌, take, flat_map, reading_line, counted}
 use Rattle.ncmpi_cli.proofs.watcher_lines.push_readings.Given as goal
 
 abbrev pub invariant-loop-steps : goal.invariant-loop-steps

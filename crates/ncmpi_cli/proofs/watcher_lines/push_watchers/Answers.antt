@@ -1,6 +1,4 @@
-use Rattle.std.proofs.Common.{arith}
-use Rattle.std.proofs.lemmas.Grind.{common_steps}
-use Rattle.ncmpi_cli.specs.Readings.{counted}
+use Rattle.ncmpi_cli.proofs.Words.{arith, common_steps, counted}
 use Rattle.ncmpi_cli.proofs.WatcherLaws.{watchers_more}
 use Rattle.ncmpi_cli.proofs.watcher_lines.push_watchers.Goals as goal
 

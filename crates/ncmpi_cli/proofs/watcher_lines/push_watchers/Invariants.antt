@@ -1,6 +1,4 @@
-use Rattle.std.proofs.Common.{◌≡◌, ◌++◌, map, take}
-use Rattle.script_spec.specs.Texts.{watch_text}
-use Rattle.ncmpi_cli.specs.Readings.{counted}
+use Rattle.ncmpi_cli.proofs.Words.{◌≡◌, ◌++◌, map, take, watch_text, counted}
 use Rattle.ncmpi_cli.proofs.watcher_lines.push_watchers.Given as goal
 
 abbrev pub invariant-loop-watcher : goal.invariant-loop-watcher

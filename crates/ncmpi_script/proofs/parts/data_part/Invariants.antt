@@ -1,6 +1,4 @@
-use Rattle.std.proofs.Common.{◌≡◌, length}
-use Rattle.script_spec.specs.ScriptWords.{significant_of}
-use Rattle.script_spec.specs.ScriptGrammar.{data_part}
+use Rattle.ncmpi_script.proofs.Words.{◌≡◌, length, significant_of, data_part}
 use Rattle.ncmpi_script.proofs.parts.data_part.Given as goal
 
 abbrev pub invariant-loop-line : goal.invariant-loop-line

@@ -1,6 +1,4 @@
-use Rattle.std.proofs.Common.{◌≡◌, length}
-use Rattle.script_spec.specs.ScriptWords.{significant_of}
-use Rattle.script_spec.specs.ScriptGrammar.{definitions}
+use Rattle.ncmpi_script.proofs.Words.{◌≡◌, length, significant_of, definitions}
 use Rattle.ncmpi_script.proofs.parts.definitions.Given as goal
 
 abbrev pub invariant-loop-line : goal.invariant-loop-line

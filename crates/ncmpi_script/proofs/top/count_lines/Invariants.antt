@@ -1,5 +1,4 @@
-use Rattle.std.proofs.Common.{◌≡◌, ◌+◌, length}
-use Rattle.script_spec.specs.ScriptWords.{text_lines}
+use Rattle.ncmpi_script.proofs.Words.{◌≡◌, ◌+◌, length, text_lines}
 use Rattle.ncmpi_script.proofs.top.count_lines.Given as goal
 
 abbrev pub invariant-loop-count : goal.invariant-loop-count

@@ -1,5 +1,4 @@
-use Rattle.std.proofs.Common.{◌≡◌, ◌≤◌, take}
-use Rattle.script_spec.specs.ScriptGrammar.{newlines}
+use Rattle.ncmpi_script.proofs.Words.{◌≡◌, ◌≤◌, take, newlines}
 use Rattle.ncmpi_script.proofs.top.newlines.Given as goal
 
 abbrev pub invariant-loop-character : goal.invariant-loop-character

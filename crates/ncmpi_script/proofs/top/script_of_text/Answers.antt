@@ -1,11 +1,4 @@
-use Rattle.std.proofs.Common.{◌≡◌, ◌∙◌, Result, Bool, true, false, length, nat_lt, ◌==◌, sym, subst, arith}
-use Rattle.std.specs.Str.Lossy.{utf8_valid_len}
-use Rattle.std.proofs.lemmas.Str.{utf8_valid_len-IsUtf8}
-use Rattle.std.proofs.lemmas.Bool.Decides.{nat_tests}
-use Rattle.nc_base.specs.declared.errors.ScriptErr.{ScriptErr}
-use Rattle.nc_base.specs.declared.script.Script.{Script}
-use Rattle.script_spec.specs.ScriptGrammar.{most_bytes}
-use Rattle.script_words.specs.Given.{GivesAt}
+use Rattle.ncmpi_script.proofs.Words.{◌≡◌, ◌∙◌, Result, Bool, true, false, length, nat_lt, ◌==◌, sym, subst, arith, utf8_valid_len, utf8_valid_len-IsUtf8, nat_tests, ScriptErr, Script, most_bytes, GivesAt}
 use Rattle.ncmpi_script.proofs.TopLaws.{text_is}
 use Rattle.ncmpi_script.proofs.top.script_of_text.Goals as goal
 

@@ -1,15 +1,5 @@
 -- What is planned of a variable is its filling.
-use Rattle.std.proofs.Common.{◌≡◌, ◌∙◌, ◌++◌, sym, ap, false, true, arith}
-use Rattle.std.specs.Prelude.{slice_get}
-use Rattle.std.proofs.lemmas.List.{append-nil}
-use Rattle.std.proofs.lemmas.Result.{on_ok_weaker}
-use Rattle.list_laws.proofs.Optional.{if_some_at}
-use Rattle.serial_spec.specs.HeaderBytes.{header_len}
-use Rattle.serial_spec.specs.Layout.{is_record, slab}
-use Rattle.var_layout.proofs.ElementPlaces.{sound_end}
-use Rattle.var_layout.proofs.Soundness.{if_there}
-use Rattle.fill_records.specs.Filling.{variable_stores}
-use Rattle.fill_records.proofs.VariableLaws.{got, fixed_end, record_stores, fixed_stores}
+use Rattle.opening_plan.proofs.Words.{◌≡◌, ◌∙◌, ◌++◌, sym, ap, false, true, arith, slice_get, append-nil, on_ok_weaker, if_some_at, header_len, is_record, slab, sound_end, if_there, variable_stores, got, fixed_end, record_stores, fixed_stores}
 use Rattle.opening_plan.proofs.fills.push_fill.Goals as goal
 
 pub returns-then-is_record : goal.returns-then-is_record

@@ -1,11 +1,5 @@
 -- A variable more is filled.
-use Rattle.std.proofs.Common.{◌≡◌, ◌∙◌, ◌+◌, ◌≤◌, ◌++◌, ap, take, length, arith}
-use Rattle.std.specs.Prelude.{flat_map}
-use Rattle.std.proofs.Math.Seq.{take_all}
-use Rattle.serial_spec.specs.DeviceCalls.{stores}
-use Rattle.serial_spec.specs.Layout.{fixed_variables, slab}
-use Rattle.fill_records.specs.Filling.{variable_stores}
-use Rattle.fill_records.proofs.VariableLaws.{known_at, fill_stores_more}
+use Rattle.opening_plan.proofs.Words.{◌≡◌, ◌∙◌, ◌+◌, ◌≤◌, ◌++◌, ap, take, length, arith, flat_map, take_all, stores, fixed_variables, slab, variable_stores, known_at, fill_stores_more}
 use Rattle.opening_plan.proofs.CallLaws.{calls_more}
 use Rattle.opening_plan.proofs.fills.push_fills.Goals as goal
 

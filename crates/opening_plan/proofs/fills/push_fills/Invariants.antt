@@ -1,8 +1,5 @@
 -- The fixed variables so far are filled.
-use Rattle.std.proofs.Common.{◌≡◌, ◌++◌, take}
-use Rattle.std.specs.Prelude.{flat_map}
-use Rattle.serial_spec.specs.DeviceCalls.{stores}
-use Rattle.serial_spec.specs.Layout.{fixed_variables, slab}
+use Rattle.opening_plan.proofs.Words.{◌≡◌, ◌++◌, take, flat_map, stores, fixed_variables, slab}
 use Rattle.opening_plan.proofs.fills.push_fills.Given as goal
 
 abbrev pub invariant-loop-number : goal.invariant-loop-number

@@ -1,7 +1,5 @@
 -- Each window goes on where the one above it ended.
-use Rattle.std.proofs.Common.{◌∙◌, ◌+◌, ap, ◌++◌, arith}
-use Rattle.redef_mover.specs.Moves.{slab_of, window_calls}
-use Rattle.redef_mover.proofs.WindowLaws.{all_called, calls_before, window_called}
+use Rattle.opening_plan.proofs.Words.{◌∙◌, ◌+◌, ap, ◌++◌, arith, slab_of, window_calls, all_called, calls_before, window_called}
 use Rattle.opening_plan.proofs.CallLaws.{calls_more}
 use Rattle.opening_plan.proofs.moving.push_move.Goals as goal
 

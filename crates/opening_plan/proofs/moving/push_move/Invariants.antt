@@ -1,7 +1,5 @@
 -- The windows so far, from the top.
-use Rattle.std.proofs.Common.{◌≡◌, ◌++◌}
-use Rattle.redef_mover.specs.Moves.{slab_of}
-use Rattle.redef_mover.proofs.WindowLaws.{calls_before}
+use Rattle.opening_plan.proofs.Words.{◌≡◌, ◌++◌, slab_of, calls_before}
 use Rattle.opening_plan.proofs.moving.push_move.Given as goal
 
 abbrev pub invariant-loop-number : goal.invariant-loop-number

@@ -1,11 +1,5 @@
 -- The last of the records that are left is moved; the fixed variables come last.
-use Rattle.std.proofs.Common.{◌≡◌, ◌∙◌, ◌+◌, ◌-◌, sym, refl, subst, ap, List, ◌++◌, arith}
-use Rattle.std.specs.Prelude.{reverse}
-use Rattle.std.proofs.lemmas.Result.{on_ok_weaker}
-use Rattle.overlay_laws.specs.Entries.{In}
-use Rattle.redef_mover.specs.declared.slabs.Shift.{Shift}
-use Rattle.redef_mover.specs.Moves.{all_calls, listed}
-use Rattle.redef_mover.proofs.MovesLaws.{below, fixed_last, fixed_listed, record_first, record_listed}
+use Rattle.opening_plan.proofs.Words.{◌≡◌, ◌∙◌, ◌+◌, ◌-◌, sym, refl, subst, ap, List, ◌++◌, arith, reverse, on_ok_weaker, In, Shift, all_calls, listed, below, fixed_last, fixed_listed, record_first, record_listed}
 use Rattle.opening_plan.proofs.CallLaws.{last_left, moves_left, slabs_further}
 use Rattle.opening_plan.proofs.moving.push_moves.Goals as goal
 

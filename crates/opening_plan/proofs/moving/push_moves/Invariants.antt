@@ -1,8 +1,5 @@
 -- The moves of the records that are left and of the fixed variables give the whole.
-use Rattle.std.proofs.Common.{◌≡◌, ◌++◌}
-use Rattle.std.specs.Prelude.{reverse}
-use Rattle.redef_mover.specs.Moves.{all_calls, listed}
-use Rattle.redef_mover.proofs.MovesLaws.{below}
+use Rattle.opening_plan.proofs.Words.{◌≡◌, ◌++◌, reverse, all_calls, listed, below}
 use Rattle.opening_plan.proofs.moving.push_moves.Given as goal
 
 abbrev pub invariant-loop-record : goal.invariant-loop-record

@@ -1,11 +1,5 @@
 -- The last of the slabs that are left is moved.
-use Rattle.std.proofs.Common.{◌≡◌, ◌+◌, ◌-◌, ◌<◌, ◌^◌, sym, subst, ap, length, List, [], ◌∷◌, ◌++◌, get_or, take, ℕ, arith}
-use Rattle.std.specs.Prelude.{reverse}
-use Rattle.std.proofs.Math.Seq.{take_all}
-use Rattle.serial_spec.specs.DeviceCalls.{Slab}
-use Rattle.redef_mover.specs.declared.slabs.Shift.{Shift}
-use Rattle.redef_mover.specs.Moves.{all_calls, further, slab_of}
-use Rattle.redef_mover.proofs.MovesLaws.{in_record, slab_first}
+use Rattle.opening_plan.proofs.Words.{◌≡◌, ◌+◌, ◌-◌, ◌<◌, ◌^◌, sym, subst, ap, length, List, [], ◌∷◌, ◌++◌, get_or, take, ℕ, arith, reverse, take_all, Slab, Shift, all_calls, further, slab_of, in_record, slab_first}
 use Rattle.opening_plan.proofs.CallLaws.{moves_left, none_left, slabs_further}
 use Rattle.opening_plan.proofs.moving.push_record.Goals as goal
 

@@ -1,7 +1,5 @@
 -- The moves that are left give the whole.
-use Rattle.std.proofs.Common.{◌≡◌, ◌++◌, take}
-use Rattle.std.specs.Prelude.{reverse}
-use Rattle.redef_mover.specs.Moves.{all_calls}
+use Rattle.opening_plan.proofs.Words.{◌≡◌, ◌++◌, take, reverse, all_calls}
 use Rattle.opening_plan.proofs.CallLaws.{slabs_further}
 use Rattle.opening_plan.proofs.moving.push_record.Given as goal
 

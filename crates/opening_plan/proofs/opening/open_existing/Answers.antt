@@ -1,6 +1,5 @@
 -- The front is read, the file grows where it is too short, and what is added is carried out.
-use Rattle.std.proofs.Common.{arith}
-use Rattle.var_layout.proofs.ElementPlaces.{sound_end}
+use Rattle.opening_plan.proofs.Words.{arith, sound_end}
 use Rattle.opening_plan.proofs.OpeningLaws.{existing_calls, existing_size, new_records, new_sound, same_place}
 use Rattle.opening_plan.proofs.opening.open_existing.Goals as goal
 

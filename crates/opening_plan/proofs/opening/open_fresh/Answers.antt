@@ -1,10 +1,5 @@
 -- The dataset grows to its end, its header is written, and then its fill values.
-use Rattle.std.proofs.Common.{◌≡◌, arith}
-use Rattle.nc_base.specs.declared.step.DiskCall.TheVariants.{Grow, Store}
-use Rattle.serial_spec.specs.HeaderBytes.{header_len}
-use Rattle.var_layout.proofs.ElementPlaces.{sound_end}
-use Rattle.var_layout.proofs.Soundness.{header_short}
-use Rattle.dataset_start.specs.Readiness.{fill_calls_if}
+use Rattle.opening_plan.proofs.Words.{◌≡◌, arith, Grow, Store, header_len, sound_end, header_short, fill_calls_if}
 use Rattle.opening_plan.proofs.OpeningLaws.{created_all, created_calls, created_size}
 use Rattle.opening_plan.proofs.opening.open_fresh.Goals as goal
 

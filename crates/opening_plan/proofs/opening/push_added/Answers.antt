@@ -1,10 +1,5 @@
 -- A script that adds nothing makes no call.
-use Rattle.std.proofs.Common.{◌∙◌, ◌++◌, sym, ap}
-use Rattle.std.proofs.lemmas.Bool.{both_ways}
-use Rattle.std.proofs.lemmas.List.{append-nil}
-use Rattle.std.proofs.lemmas.Result.{on_ok_weaker}
-use Rattle.dataset_start.proofs.Keeping.{kept_wr_buffer}
-use Rattle.dataset_start.proofs.ReadyLaws.{some_extras}
+use Rattle.opening_plan.proofs.Words.{◌∙◌, ◌++◌, sym, ap, both_ways, append-nil, on_ok_weaker, kept_wr_buffer, some_extras}
 use Rattle.opening_plan.proofs.OpeningLaws.{nothing_added, something_added}
 use Rattle.opening_plan.proofs.opening.push_added.Goals as goal
 

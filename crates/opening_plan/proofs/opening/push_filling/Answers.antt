@@ -1,8 +1,5 @@
 -- Where the script asks for no filling, there is none.
-use Rattle.std.proofs.Common.{◌∙◌, ◌++◌, sym, ap, Bool}
-use Rattle.std.proofs.lemmas.List.{append-nil}
-use Rattle.std.proofs.lemmas.Result.{on_ok_weaker}
-use Rattle.dataset_start.specs.Readiness.{fill_calls_if}
+use Rattle.opening_plan.proofs.Words.{◌∙◌, ◌++◌, sym, ap, Bool, append-nil, on_ok_weaker, fill_calls_if}
 use Rattle.opening_plan.proofs.OpeningLaws.{kept_cb_buffer}
 use Rattle.opening_plan.proofs.opening.push_filling.Goals as goal
 

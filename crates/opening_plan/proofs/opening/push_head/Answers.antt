@@ -1,5 +1,5 @@
 -- A file of no bytes has none that are read.
-use Rattle.std.proofs.Common.{◌<◌, arith}
+use Rattle.opening_plan.proofs.Words.{◌<◌, arith}
 use Rattle.opening_plan.proofs.OpeningLaws.{no_head, some_head}
 use Rattle.opening_plan.proofs.opening.push_head.Goals as goal
 

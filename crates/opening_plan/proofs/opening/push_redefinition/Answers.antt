@@ -1,12 +1,5 @@
 -- The slabs rise below the new end, and their moves and zeros are those of the definitions.
-use Rattle.std.proofs.Common.{◌≡◌, refl, arith}
-use Rattle.serial_spec.specs.HeaderBytes.{header_len}
-use Rattle.redef_laws.specs.RisingSlabs.{rising}
-use Rattle.redef_laws.specs.Shifted.{new_end}
-use Rattle.redef_laws.proofs.MovedLaws.{writable_is_sound}
-use Rattle.redef_mover.specs.Moves.{listed}
-use Rattle.redef_mover.proofs.CarryLaws.{carriable_spaced}
-use Rattle.var_layout.proofs.Soundness.{header_short}
+use Rattle.opening_plan.proofs.Words.{◌≡◌, refl, arith, header_len, rising, new_end, writable_is_sound, listed, carriable_spaced, header_short}
 use Rattle.opening_plan.proofs.OpeningLaws.{carried_calls, laws_of, rising_low}
 use Rattle.opening_plan.proofs.opening.push_redefinition.Goals as goal
 

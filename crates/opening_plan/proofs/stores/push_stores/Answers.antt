@@ -1,7 +1,5 @@
 -- Each window is one store more.
-use Rattle.std.proofs.Common.{◌∙◌, ◌+◌, ◌*◌, ◌-◌, min, ap, ◌++◌, ◌∷◌, [], arith}
-use Rattle.nc_base.specs.declared.step.DiskCall.TheVariants.{Store}
-use Rattle.overlay_laws.proofs.WindowCounts.{count_is, stores_before}
+use Rattle.opening_plan.proofs.Words.{◌∙◌, ◌+◌, ◌*◌, ◌-◌, min, ap, ◌++◌, ◌∷◌, [], arith, Store, count_is, stores_before}
 use Rattle.opening_plan.proofs.CallLaws.{calls_more, one_stored}
 use Rattle.opening_plan.proofs.stores.push_stores.Goals as goal
 

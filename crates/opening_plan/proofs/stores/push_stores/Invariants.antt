@@ -1,6 +1,5 @@
 -- The windows so far, one store each.
-use Rattle.std.proofs.Common.{◌≡◌, ◌++◌}
-use Rattle.overlay_laws.proofs.WindowCounts.{stores_before}
+use Rattle.opening_plan.proofs.Words.{◌≡◌, ◌++◌, stores_before}
 use Rattle.opening_plan.proofs.stores.push_stores.Given as goal
 
 abbrev pub invariant-loop-number : goal.invariant-loop-number

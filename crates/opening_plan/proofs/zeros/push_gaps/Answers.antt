@@ -1,9 +1,5 @@
 -- The first of the slabs that are left ends where the next gap begins.
-use Rattle.std.proofs.Common.{◌∙◌, ◌+◌, ◌-◌, ◌≤◌, ◌^◌, sym, refl, ap, length, List, ◌++◌, get_or, drop, ℕ, arith}
-use Rattle.serial_spec.specs.DeviceCalls.{Slab}
-use Rattle.redef_mover.specs.declared.slabs.Shift.{Shift}
-use Rattle.redef_mover.specs.Moves.{behind, further, gap_calls, gaps_before, slab_of}
-use Rattle.redef_mover.proofs.ClearLaws.{none_after, none_behind, slabs_left, spaced_low}
+use Rattle.opening_plan.proofs.Words.{◌∙◌, ◌+◌, ◌-◌, ◌≤◌, ◌^◌, sym, refl, ap, length, List, ◌++◌, get_or, drop, ℕ, arith, Slab, Shift, behind, further, gap_calls, gaps_before, slab_of, none_after, none_behind, slabs_left, spaced_low}
 use Rattle.opening_plan.proofs.CallLaws.{none_left, one_zeros_left, slabs_further, spaced_first}
 use Rattle.opening_plan.proofs.zeros.push_gaps.Goals as goal
 

@@ -1,6 +1,5 @@
 -- The zeros before the slabs that are left give the whole.
-use Rattle.std.proofs.Common.{◌≡◌, ◌^◌, ◌++◌, drop}
-use Rattle.redef_mover.specs.Moves.{behind, gap_calls, gaps_before, AreSpaced}
+use Rattle.opening_plan.proofs.Words.{◌≡◌, ◌^◌, ◌++◌, drop, behind, gap_calls, gaps_before, AreSpaced}
 use Rattle.opening_plan.proofs.CallLaws.{slabs_further}
 use Rattle.opening_plan.proofs.zeros.push_gaps.Given as goal
 

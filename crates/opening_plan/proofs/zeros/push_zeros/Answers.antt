@@ -1,10 +1,5 @@
 -- The gaps of the fixed variables come first, then those of record after record, then the last one.
-use Rattle.std.proofs.Common.{◌∙◌, ◌+◌, ◌^◌, sym, refl, ap, subst, List, ◌++◌, arith}
-use Rattle.redef_laws.specs.RisingSlabs.{gaps}
-use Rattle.serial_spec.specs.DeviceCalls.{Slab}
-use Rattle.redef_mover.specs.declared.slabs.Shift.{Shift}
-use Rattle.redef_mover.specs.Moves.{gap_calls, gaps_before, listed, AreSpaced}
-use Rattle.redef_mover.proofs.ClearLaws.{above, fixed_first, gaps_on, next_record, spaced_front, spaced_on}
+use Rattle.opening_plan.proofs.Words.{◌∙◌, ◌+◌, ◌^◌, sym, refl, ap, subst, List, ◌++◌, arith, gaps, Slab, Shift, gap_calls, gaps_before, listed, AreSpaced, above, fixed_first, gaps_on, next_record, spaced_front, spaced_on}
 use Rattle.opening_plan.proofs.CallLaws.{slabs_further, spaced_wider, zeros_left}
 use Rattle.opening_plan.proofs.zeros.push_zeros.Goals as goal
 

@@ -1,8 +1,5 @@
 -- The zeros between the slabs of the records that are left give the whole.
-use Rattle.std.proofs.Common.{◌≡◌, ◌++◌}
-use Rattle.redef_laws.specs.RisingSlabs.{gaps}
-use Rattle.redef_mover.specs.Moves.{gap_calls, listed, AreSpaced}
-use Rattle.redef_mover.proofs.ClearLaws.{above}
+use Rattle.opening_plan.proofs.Words.{◌≡◌, ◌++◌, gaps, gap_calls, listed, AreSpaced, above}
 use Rattle.opening_plan.proofs.zeros.push_zeros.Given as goal
 
 abbrev pub invariant-loop-record : goal.invariant-loop-record

@@ -1,9 +1,5 @@
 -- An entry that holds the byte is one more holder.
-use Rattle.std.proofs.Common.{ℕ, ◌+◌, ◌^◌, ◌<◌, take, get_or, subst, sym, ◌∙◌, refl, arith}
-use Rattle.overlap_report.specs.declared.holders.Least.{Least}
-use Rattle.overlap_report.specs.declared.holders.Least.TheVariants.{Nobody, One, Two}
-use Rattle.overlap_report.specs.SharedBytes.{Covers}
-use Rattle.overlap_report.specs.Holders.{AreLeast}
+use Rattle.overlap_report.proofs.Words.{ℕ, ◌+◌, ◌^◌, ◌<◌, take, get_or, subst, sym, ◌∙◌, refl, arith, Least, Nobody, One, Two, Covers, AreLeast}
 use Rattle.overlap_report.proofs.CoverSteps.{entry_ends}
 use Rattle.overlap_report.proofs.KeySteps.{nothing, next_at}
 use Rattle.overlap_report.proofs.PairSteps.{least_next, least_same, all_least, one_clear, nobody_clear}

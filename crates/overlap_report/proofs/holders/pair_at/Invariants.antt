@@ -1,6 +1,5 @@
 -- The least requests of the entries so far.
-use Rattle.std.proofs.Common.{take}
-use Rattle.overlap_report.specs.Holders.{AreLeast}
+use Rattle.overlap_report.proofs.Words.{take, AreLeast}
 use Rattle.overlap_report.proofs.holders.pair_at.Given as goal
 
 abbrev pub invariant-loop-entry : goal.invariant-loop-entry

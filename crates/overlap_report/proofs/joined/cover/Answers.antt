@@ -1,10 +1,5 @@
 -- The runs that were added are all runs of the entries.
-use Rattle.std.proofs.Common.{◌≡◌, ℕ, ◌+◌, ◌^◌, ◌<◌, List, subst, sym, ◌∙◌, arith}
-use Rattle.nc_base.specs.declared.plan.Extent.{Extent}
-use Rattle.overlay_laws.specs.Entries.{HaveSame, ranges}
-use Rattle.overlay_laws.specs.Lines.{extents}
-use Rattle.overlay_laws.specs.Walks.{IsCover}
-use Rattle.serial_spec.specs.Extents.{spans}
+use Rattle.overlap_report.proofs.Words.{◌≡◌, ℕ, ◌+◌, ◌^◌, ◌<◌, List, subst, sym, ◌∙◌, arith, Extent, HaveSame, ranges, extents, IsCover, spans}
 use Rattle.overlap_report.proofs.CoverSteps.{joined_from, last_run, all_cover, all_bytes_joined, entry_ends}
 use Rattle.overlap_report.proofs.joined.cover.Goals as goal
 

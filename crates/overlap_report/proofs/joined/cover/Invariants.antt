@@ -1,6 +1,5 @@
 -- What was added, with the runs of what is left, is the whole.
-use Rattle.std.proofs.Common.{◌≡◌, ◌++◌, ◌≤◌, drop}
-use Rattle.overlay_laws.specs.Lines.{extents}
+use Rattle.overlap_report.proofs.Words.{◌≡◌, ◌++◌, ◌≤◌, drop, extents}
 use Rattle.overlap_report.proofs.CoverSteps.{joined_from}
 use Rattle.overlap_report.proofs.joined.cover.Given as goal
 

@@ -1,6 +1,5 @@
 -- What a pop takes is the first.
-use Rattle.std.proofs.Common.{arith}
-use Rattle.std.specs.BinaryHeap.{heap_items, heap_len}
+use Rattle.overlap_report.proofs.Words.{arith, heap_items, heap_len}
 use Rattle.overlap_report.proofs.ClaimSteps.{popped_heap, popped_rest, unchanged_items}
 use Rattle.overlap_report.proofs.serial.drop_top.Goals as goal
 

@@ -1,13 +1,5 @@
 -- Each entry is served up to where the next begins.
-use Rattle.std.proofs.Common.{◌≡◌, ℕ, suc, ◌+◌, ◌-◌, ◌^◌, ◌≤◌, List, take, drop, get_or, subst, sym, arith}
-use Rattle.std.specs.BinaryHeap.{heap_items}
-use Rattle.overlay_laws.proofs.Members.{entry_in}
-use Rattle.nc_base.specs.declared.plan.Owned.{Owned}
-use Rattle.overlay_laws.specs.Entries.{In}
-use Rattle.overlay_laws.specs.Lines.{extents, IsInLine, EndBelow}
-use Rattle.overlay_laws.specs.Origins.{IsResolved}
-use Rattle.overlap_report.specs.Parts.{IsPartOfOne}
-use Rattle.overlap_report.specs.Sweep.{entries_of}
+use Rattle.overlap_report.proofs.Words.{◌≡◌, ℕ, suc, ◌+◌, ◌-◌, ◌^◌, ◌≤◌, List, take, drop, get_or, subst, sym, arith, heap_items, entry_in, Owned, In, extents, IsInLine, EndBelow, IsResolved, IsPartOfOne, entries_of}
 use Rattle.overlap_report.proofs.CoverSteps.{entry_ends}
 use Rattle.overlap_report.proofs.KeySteps.{nothing, next_at}
 use Rattle.overlap_report.proofs.ClaimSteps.{pushed_fit, pushed_swept, at_dropped, later_begin, all_resolved, all_parts, all_ends}

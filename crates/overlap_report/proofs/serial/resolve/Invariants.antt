@@ -1,9 +1,5 @@
 -- The sweep has come to the last entry's begin, and each entry left begins there or later.
-use Rattle.std.proofs.Common.{◌≤◌, ◌<◌, ◌^◌, take, drop}
-use Rattle.std.specs.BinaryHeap.{IsHeap, heap_items}
-use Rattle.nc_base.specs.declared.plan.Owned.{Owned}
-use Rattle.overlay_laws.specs.Entries.{In}
-use Rattle.overlap_report.specs.Sweep.{entries_of, claim_cmp, AreFit, Swept}
+use Rattle.overlap_report.proofs.Words.{◌≤◌, ◌<◌, ◌^◌, take, drop, IsHeap, heap_items, Owned, In, entries_of, claim_cmp, AreFit, Swept}
 use Rattle.overlap_report.proofs.serial.resolve.Given as goal
 
 abbrev pub invariant-loop-entry : goal.invariant-loop-entry

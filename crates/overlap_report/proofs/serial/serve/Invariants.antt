@@ -1,8 +1,5 @@
 -- The sweep has come so far, over the entries that go on.
-use Rattle.std.proofs.Common.{◌+◌, ◌-◌, ◌≤◌, List}
-use Rattle.std.specs.BinaryHeap.{IsHeap, heap_items, heap_len}
-use Rattle.nc_base.specs.declared.plan.Owned.{Owned}
-use Rattle.overlap_report.specs.Sweep.{entries_of, AreFit, Swept, claim_cmp}
+use Rattle.overlap_report.proofs.Words.{◌+◌, ◌-◌, ◌≤◌, List, IsHeap, heap_items, heap_len, Owned, entries_of, AreFit, Swept, claim_cmp}
 use Rattle.overlap_report.proofs.serial.serve.Given as goal
 
 abbrev pub invariant-bytes : goal.invariant-bytes

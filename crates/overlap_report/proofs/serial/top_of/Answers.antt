@@ -1,9 +1,5 @@
 -- The first of a heap.
-use Rattle.std.proofs.Common.{◌≡◌, [], Option, subst, sym}
-use Rattle.std.specs.Prelude.{MatchOption}
-use Rattle.std.specs.BinaryHeap.{heap_items}
-use Rattle.overlap_report.specs.declared.serial.Claim.{Claim}
-use Rattle.overlap_report.specs.Sweep.{IsTop}
+use Rattle.overlap_report.proofs.Words.{◌≡◌, [], Option, subst, sym, MatchOption, heap_items, Claim, IsTop}
 use Rattle.overlap_report.proofs.ClaimSteps.{top_told}
 use Rattle.overlap_report.proofs.serial.top_of.Goals as goal
 

@@ -1,13 +1,10 @@
 -- An entry shares a byte with those before it where one of another request reaches past its begin.
-use Rattle.std.proofs.Common.{◌≡◌, ℕ, ◌+◌, ◌^◌, ◌<◌, ◌≤◌, take, get_or, subst, sym, ◌∙◌, cond, arith}
-use Rattle.overlap_report.specs.declared.shared.Reach.{Reach}
-use Rattle.overlap_report.specs.Reach.{same_as}
+use Rattle.overlap_report.proofs.Words.{◌≡◌, ℕ, ◌+◌, ◌^◌, ◌<◌, ◌≤◌, take, get_or, subst, sym, ◌∙◌, cond, arith, Reach, same_as, get_or_default}
 use Rattle.overlap_report.proofs.CoverSteps.{entry_ends}
 use Rattle.overlap_report.proofs.KeySteps.{nothing, next_at}
 use Rattle.overlap_report.proofs.SharedSteps.{Reaches, reach_next, reach_same, first_found, all_clear}
 use Rattle.overlap_report.proofs.shared.first_shared.Goals as goal
 use Rattle.overlap_report.proofs.shared.first_shared.Goals.{then-entry-gt0+else-entry-of_others, else-entry-gt0}
-use Rattle.std.proofs.lemmas.List.{get_or_default}
 
 pub returns-then-entry-of_others : goal.returns-then-entry-of_others
 returns-then-entry-of_others c =

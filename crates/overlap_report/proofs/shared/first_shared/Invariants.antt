@@ -1,5 +1,5 @@
 -- How far the entries so far reach.
-use Rattle.std.proofs.Common.{take}
+use Rattle.overlap_report.proofs.Words.{take}
 use Rattle.overlap_report.proofs.SharedSteps.{Reaches}
 use Rattle.overlap_report.proofs.shared.first_shared.Given as goal
 

@@ -1,16 +1,7 @@
-use Rattle.std.proofs.Common.{◌≡◌, ◌⊎◌, List, ℕ, refl, subst}
-use Rattle.std.specs.Prelude.{Err, Result}
-use Rattle.std.specs.Result.{IsErrAnd}
-use Rattle.nc_base.specs.declared.errors.HeaderErr.{HeaderErr}
+use Rattle.plan_cli.proofs.Words.{◌≡◌, ◌⊎◌, List, ℕ, refl, subst, Err, Result, IsErrAnd, HeaderErr, HasFault, BeginsWith, stop_of_header, Stop, faultless, tells, Looked}
 use Rattle.nc_base.specs.declared.errors.HeaderErr.TheVariants as fault
-use Rattle.serial_spec.specs.HeaderFaults.{HasFault}
-use Rattle.cdf_header.specs.Decoded.{BeginsWith}
-use Rattle.dataset_start.specs.Stops.{stop_of_header}
-use Rattle.dataset_start.specs.declared.stop.Stop.{Stop}
 use Rattle.dataset_start.specs.declared.stop.Stop.TheVariants as stops
-use Rattle.dataset_start.proofs.Opened.{faultless, tells}
 use Rattle.redef_laws.proofs.OpenedLaws as laws
-use Rattle.plan_cli.specs.declared.existing.Looked.{Looked}
 use Rattle.plan_cli.proofs.FrontLaws.{opened}
 use Rattle.plan_cli.proofs.existing.look.Goals as goal
 

@@ -1,4 +1,4 @@
-use Rattle.dataset_start.proofs.Keeping.{kept_extras, kept_whole_extras}
+use Rattle.plan_cli.proofs.Words.{kept_extras, kept_whole_extras}
 use Rattle.plan_cli.proofs.existing.redefine.Goals as goal
 
 pub apply-requires-clause-lawful : goal.apply-requires-clause-lawful

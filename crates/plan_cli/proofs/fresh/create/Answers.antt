@@ -1,6 +1,4 @@
-use Rattle.redef_laws.proofs.MovedLaws.{writable_is_sound}
-use Rattle.dataset_start.proofs.Keeping.{kept_created, kept_records}
-use Rattle.dataset_start.proofs.ReadyLaws.{created_long}
+use Rattle.plan_cli.proofs.Words.{writable_is_sound, kept_created, kept_records, created_long}
 use Rattle.plan_cli.proofs.OpeningLaws.{created}
 use Rattle.plan_cli.proofs.fresh.create.Goals as goal
 

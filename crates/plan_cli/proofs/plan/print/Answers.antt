@@ -1,4 +1,4 @@
-use Rattle.plan_cli.specs.Headline.{document}
+use Rattle.plan_cli.proofs.Words.{document}
 use Rattle.plan_cli.proofs.plan.print.Goals as goal
 
 pub returns-then-json : goal.returns-then-json

@@ -1,6 +1,4 @@
-use Rattle.dataset_start.proofs.Keeping.{kept_hints}
-use Rattle.list_laws.proofs.Truth.{and_second}
-use Rattle.serial_spec.proofs.LawfulTests.{within_is}
+use Rattle.plan_cli.proofs.Words.{kept_hints, and_second, within_is}
 use Rattle.plan_cli.proofs.plan.print_plan.Goals as goal
 
 pub sum_up-requires : goal.sum_up-requires

@@ -1,8 +1,4 @@
-use Rattle.std.proofs.Common.{refl}
-use Rattle.dataset_start.proofs.Keeping.{read_kept}
-use Rattle.plan_cli.specs.Outside.{held_of}
-use Rattle.plan_cli.specs.Stopped.{IsStoppedBy}
-use Rattle.plan_cli.specs.Words.{name_of}
+use Rattle.plan_cli.proofs.Words.{refl, read_kept, held_of, IsStoppedBy, name_of}
 use Rattle.plan_cli.proofs.StopLaws.{passed, unprepared, untaken}
 use Rattle.plan_cli.proofs.start.begin.Goals as goal
 

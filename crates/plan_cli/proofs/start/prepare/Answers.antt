@@ -1,6 +1,4 @@
-use Rattle.std.proofs.lemmas.Result.{IfOk-weaker}
-use Rattle.plan_cli.specs.Outside.{held_of}
-use Rattle.plan_cli.specs.Words.{name_of}
+use Rattle.plan_cli.proofs.Words.{IfOk-weaker, held_of, name_of}
 use Rattle.plan_cli.proofs.StopLaws.{unlaid}
 use Rattle.plan_cli.proofs.start.prepare.Goals as goal
 

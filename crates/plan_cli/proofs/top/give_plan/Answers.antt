@@ -1,8 +1,4 @@
-use Rattle.std.proofs.Common.{Option, List, ℕ, ap, sym, subst}
-use Rattle.dataset_start.proofs.Keeping.{read_kept}
-use Rattle.plan_cli.specs.Headline.{TellsPlan}
-use Rattle.plan_cli.specs.Outside.{held_of}
-use Rattle.plan_cli.specs.Words.{name_of, wanted_of}
+use Rattle.plan_cli.proofs.Words.{Option, List, ℕ, ap, sym, subst, read_kept, TellsPlan, held_of, name_of, wanted_of}
 use Rattle.plan_cli.proofs.EndLaws.{given, stopped}
 use Rattle.plan_cli.proofs.ForetoldLaws.{planned}
 use Rattle.plan_cli.proofs.GivenEnds.{given_after_start, given_is_told, given_status, given_without_line}

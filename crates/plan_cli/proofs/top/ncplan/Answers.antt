@@ -1,7 +1,5 @@
-use Rattle.std.proofs.Common.{◌≡◌, ap, option_map, rules, Option, Some, sym, subst, ◌∙◌}
-use Rattle.plan_cli.specs.Ends.{EndsAs}
-use Rattle.plan_cli.specs.Outside.{seen_at}
-use Rattle.plan_cli.specs.Words.{form_of, named_by, texts, wanted_of, Wanted}
+use Rattle.plan_cli.proofs.Words.{◌≡◌, ap, rules, Option, Some, sym, subst, ◌∙◌, EndsAs, seen_at, form_of, named_by, texts, wanted_of, Wanted}
+use Rattle.std.proofs.Common.{option_map}
 use Rattle.plan_cli.proofs.top.ncplan.Goals as goal
 
 pub returns-in-Some-clause-ends : goal.returns-in-Some-clause-ends

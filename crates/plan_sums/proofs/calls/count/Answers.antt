@@ -1,9 +1,5 @@
 -- One call more.
-use Rattle.std.proofs.Common.{◌∙◌, ap, List, take, sym}
-use Rattle.std.proofs.lemmas.List.{take_more}
-use Rattle.nc_base.specs.declared.step.DiskCall.{DiskCall}
-use Rattle.nc_base.specs.declared.step.DiskCall.TheVariants.{Grow}
-use Rattle.plan_sums.specs.Tallies.{counted}
+use Rattle.plan_sums.proofs.Words.{◌∙◌, ap, List, take, sym, take_more, DiskCall, Grow, counted}
 use Rattle.plan_sums.proofs.calls.count.Goals as goal
 
 pub loop-call-init : goal.loop-call-init

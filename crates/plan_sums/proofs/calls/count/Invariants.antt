@@ -1,6 +1,5 @@
 -- The calls so far, by their kinds.
-use Rattle.std.proofs.Common.{◌≡◌, take}
-use Rattle.plan_sums.specs.Tallies.{counted}
+use Rattle.plan_sums.proofs.Words.{◌≡◌, take, counted}
 use Rattle.plan_sums.proofs.calls.count.Given as goal
 
 abbrev pub invariant-loop-call : goal.invariant-loop-call

@@ -1,8 +1,6 @@
 -- The calls of one step more.
-use Rattle.step_plan.specs.Steps.{file_calls}
-use Rattle.step_plan.specs.declared.plan.StepPlan.{StepPlan}
+use Rattle.plan_sums.proofs.Words.{file_calls, StepPlan, []}
 use Rattle.plan_sums.proofs.ListLaws.{flat_added}
-use Rattle.std.proofs.Common.{[]}
 use Rattle.plan_sums.proofs.calls.steps_calls.Goals as goal
 
 pub loop-step-preserved : goal.loop-step-preserved

@@ -1,6 +1,5 @@
 -- The calls of the steps so far.
-use Rattle.std.proofs.Common.{◌≡◌, take}
-use Rattle.run_plan.specs.Planned.{calls_in}
+use Rattle.plan_sums.proofs.Words.{◌≡◌, take, calls_in}
 use Rattle.plan_sums.proofs.calls.steps_calls.Given as goal
 
 abbrev pub invariant-loop-step : goal.invariant-loop-step

@@ -1,8 +1,5 @@
 -- The bytes of one share more.
-use Rattle.std.proofs.Common.{◌∙◌, ap, get_or, sym, take, List}
-use Rattle.std.proofs.lemmas.List.{take_more}
-use Rattle.window_plan.specs.declared.plan.Share.{Share}
-use Rattle.plan_sums.specs.Cells.{bytes_of}
+use Rattle.plan_sums.proofs.Words.{◌∙◌, ap, get_or, sym, take, List, take_more, Share, bytes_of}
 use Rattle.plan_sums.proofs.CellLaws.{share_more}
 use Rattle.plan_sums.proofs.cells.bytes_of.Goals as goal
 

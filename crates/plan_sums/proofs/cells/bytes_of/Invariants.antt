@@ -1,6 +1,5 @@
 -- The rank's bytes so far.
-use Rattle.std.proofs.Common.{◌≡◌, take}
-use Rattle.plan_sums.specs.Cells.{bytes_of}
+use Rattle.plan_sums.proofs.Words.{◌≡◌, take, bytes_of}
 use Rattle.plan_sums.proofs.cells.bytes_of.Given as goal
 
 abbrev pub invariant-loop-share : goal.invariant-loop-share

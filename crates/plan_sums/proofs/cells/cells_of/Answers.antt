@@ -1,5 +1,5 @@
 -- The cells of one rank more.
-use Rattle.std.proofs.Common.{◌∙◌}
+use Rattle.plan_sums.proofs.Words.{◌∙◌}
 use Rattle.plan_sums.proofs.CellLaws.{rank_more}
 use Rattle.plan_sums.proofs.cells.cells_of.Goals as goal
 

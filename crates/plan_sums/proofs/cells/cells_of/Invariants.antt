@@ -1,6 +1,5 @@
 -- The cells of the ranks so far.
-use Rattle.std.proofs.Common.{◌≡◌}
-use Rattle.plan_sums.specs.Cells.{cells_in}
+use Rattle.plan_sums.proofs.Words.{◌≡◌, cells_in}
 use Rattle.plan_sums.proofs.cells.cells_of.Given as goal
 
 abbrev pub invariant-loop-rank : goal.invariant-loop-rank

@@ -1,9 +1,5 @@
 -- The cell of one aggregator more.
-use Rattle.std.proofs.Common.{◌++◌, ◌∙◌, ap}
-use Rattle.plan_sums.specs.Cells.{some_cell}
-use Rattle.plan_sums.specs.Served.{cell_of}
-use Rattle.plan_sums.specs.declared.cells.Cell.{Cell}
-use Rattle.plan_sums.specs.declared.cells.Served.{Served}
+use Rattle.plan_sums.proofs.Words.{◌++◌, ◌∙◌, ap, some_cell, cell_of, Cell, Served}
 use Rattle.plan_sums.proofs.ListLaws.{flat_added}
 use Rattle.plan_sums.proofs.cells.push_rank.Goals as goal
 

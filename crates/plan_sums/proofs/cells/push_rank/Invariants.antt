@@ -1,8 +1,5 @@
 -- The cells of the aggregators so far.
-use Rattle.std.proofs.Common.{◌≡◌, ◌++◌, take}
-use Rattle.std.specs.Prelude.{flat_map}
-use Rattle.plan_sums.specs.Cells.{some_cell}
-use Rattle.plan_sums.specs.Served.{cell_of}
+use Rattle.plan_sums.proofs.Words.{◌≡◌, ◌++◌, take, flat_map, some_cell, cell_of}
 use Rattle.plan_sums.proofs.cells.push_rank.Given as goal
 
 abbrev pub invariant-loop-served : goal.invariant-loop-served

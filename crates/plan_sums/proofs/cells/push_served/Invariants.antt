@@ -1,7 +1,5 @@
 -- The shares of the domains so far that the aggregator serves.
-use Rattle.std.proofs.Common.{◌≡◌, ◌++◌, take}
-use Rattle.std.specs.Prelude.{filter}
-use Rattle.plan_sums.specs.Cells.{is_served_by, shares_in}
+use Rattle.plan_sums.proofs.Words.{◌≡◌, ◌++◌, take, filter, is_served_by, shares_in}
 use Rattle.plan_sums.proofs.cells.push_served.Given as goal
 
 abbrev pub invariant-loop-domain : goal.invariant-loop-domain

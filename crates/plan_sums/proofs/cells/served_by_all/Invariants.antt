@@ -1,7 +1,5 @@
 -- What the aggregators so far serve.
-use Rattle.std.proofs.Common.{◌≡◌, map}
-use Rattle.std.specs.List.{range_with_len}
-use Rattle.plan_sums.specs.Served.{served_by}
+use Rattle.plan_sums.proofs.Words.{◌≡◌, map, range_with_len, served_by}
 use Rattle.plan_sums.proofs.cells.served_by_all.Given as goal
 
 abbrev pub invariant-loop-aggregator : goal.invariant-loop-aggregator

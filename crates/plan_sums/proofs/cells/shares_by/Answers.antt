@@ -1,6 +1,5 @@
 -- The shares of one step more.
-use Rattle.std.proofs.Common.{◌∙◌, ap}
-use Rattle.step_plan.specs.declared.plan.Phase.{Phase}
+use Rattle.plan_sums.proofs.Words.{◌∙◌, ap, Phase}
 use Rattle.plan_sums.proofs.CellLaws.{step_more}
 use Rattle.plan_sums.proofs.cells.shares_by.Goals as goal
 

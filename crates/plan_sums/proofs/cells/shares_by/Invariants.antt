@@ -1,6 +1,5 @@
 -- The shares of the steps so far.
-use Rattle.std.proofs.Common.{◌≡◌, take}
-use Rattle.plan_sums.specs.Cells.{shares_by}
+use Rattle.plan_sums.proofs.Words.{◌≡◌, take, shares_by}
 use Rattle.plan_sums.proofs.cells.shares_by.Given as goal
 
 abbrev pub invariant-loop-step : goal.invariant-loop-step

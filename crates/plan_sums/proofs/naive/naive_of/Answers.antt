@@ -1,9 +1,5 @@
 -- What one step more asks for.
-use Rattle.std.proofs.Common.{◌++◌, ◌∙◌, ap, take, List}
-use Rattle.step_plan.specs.declared.plan.Asked.{Asked}
-use Rattle.step_plan.specs.declared.plan.Phase.{Phase}
-use Rattle.step_plan.specs.declared.plan.StepPlan.{StepPlan}
-use Rattle.plan_sums.specs.Naive.{asked_in, naive_sum, phase_of}
+use Rattle.plan_sums.proofs.Words.{◌++◌, ◌∙◌, ap, take, List, Asked, Phase, StepPlan, asked_in, naive_sum, phase_of}
 use Rattle.plan_sums.proofs.ListLaws.{flat_next}
 use Rattle.plan_sums.proofs.naive.naive_of.Goals as goal
 

@@ -1,6 +1,5 @@
 -- What the steps so far ask for.
-use Rattle.std.proofs.Common.{◌≡◌, take}
-use Rattle.plan_sums.specs.Naive.{asked_in, naive_sum}
+use Rattle.plan_sums.proofs.Words.{◌≡◌, take, asked_in, naive_sum}
 use Rattle.plan_sums.proofs.naive.naive_of.Given as goal
 
 abbrev pub invariant-loop-step : goal.invariant-loop-step

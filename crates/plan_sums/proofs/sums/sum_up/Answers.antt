@@ -1,14 +1,5 @@
 -- All calls are the opening's, the steps' and the close's; the ranks' alone are the steps'.
-use Rattle.std.proofs.Common.{◌++◌, ◌∙◌, ap, List}
-use Rattle.std.proofs.lemmas.List.{append_assoc}
-use Rattle.nc_base.specs.declared.request.Direction.TheVariants.{Put, Get}
-use Rattle.nc_base.specs.declared.step.DiskCall.{DiskCall}
-use Rattle.step_plan.specs.Steps.{count_call}
-use Rattle.step_plan.specs.declared.plan.StepPlan.{StepPlan}
-use Rattle.run_plan.specs.Planned.{calls_in}
-use Rattle.plan_sums.specs.Cells.{cells_in}
-use Rattle.plan_sums.specs.Naive.{asked_in, naive_sum}
-use Rattle.plan_sums.specs.Tallies.{counted}
+use Rattle.plan_sums.proofs.Words.{◌++◌, ◌∙◌, ap, List, append_assoc, Put, Get, DiskCall, count_call, StepPlan, calls_in, cells_in, asked_in, naive_sum, counted}
 use Rattle.plan_sums.proofs.SumLaws.{summed}
 use Rattle.plan_sums.proofs.sums.sum_up.Goals as goal
 

@@ -1,10 +1,4 @@
-use Rattle.std.proofs.Common.{List, ℕ, ◌++◌, codes, ap, ◌∙◌}
-use Rattle.std.specs.List.{flat_map}
-use Rattle.list_laws.proofs.Appends.{then_append}
-use Rattle.script_spec.specs.Texts.{text_line}
-use Rattle.step_plan.specs.Steps.{count_call}
-use Rattle.plan_text.specs.PlanTexts.{head_lines, sum_lines}
-use Rattle.plan_text.specs.StepTexts.{device_lines, step_lines}
+use Rattle.plan_text.proofs.Words.{List, ℕ, ◌++◌, codes, ap, ◌∙◌, flat_map, then_append, text_line, count_call, head_lines, sum_lines, device_lines, step_lines}
 use Rattle.plan_text.proofs.LineLaws.{then_words}
 use Rattle.plan_text.proofs.head.plan_text.Goals as goal
 

@@ -1,9 +1,4 @@
-use Rattle.std.proofs.Common.{◌≡◌, List, ℕ, [], ◌∷◌, ◌++◌, codes, decimal, arith}
-use Rattle.list_laws.proofs.Appends.{then_append}
-use Rattle.serial_spec.specs.HeaderBytes.{header_len}
-use Rattle.serial_spec.specs.Layout.{recsize}
-use Rattle.var_layout.proofs.Soundness.{header_short}
-use Rattle.plan_text.specs.StepTexts.{in_bytes}
+use Rattle.plan_text.proofs.Words.{◌≡◌, List, ℕ, [], ◌∷◌, ◌++◌, codes, decimal, arith, then_append, header_len, recsize, header_short, in_bytes}
 use Rattle.plan_text.proofs.LineLaws.{then_words}
 use Rattle.plan_text.proofs.head.push_dataset.Goals as goal
 

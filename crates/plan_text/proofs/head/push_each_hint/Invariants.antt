@@ -1,7 +1,4 @@
-use Rattle.std.proofs.Common.{◌≡◌, ◌++◌, take}
-use Rattle.std.specs.List.{flat_map}
-use Rattle.hint_table.specs.HintNames.{row_of}
-use Rattle.plan_text.specs.PlanTexts.{hint_line}
+use Rattle.plan_text.proofs.Words.{◌≡◌, ◌++◌, take, flat_map, row_of, hint_line}
 use Rattle.plan_text.proofs.head.push_each_hint.Given as goal
 
 abbrev pub invariant-loop-name : goal.invariant-loop-name

@@ -1,11 +1,4 @@
-use Rattle.std.proofs.Common.{List, ℕ, ◌∷◌, ◌++◌, codes, map}
-use Rattle.std.specs.List.{flat_map}
-use Rattle.list_laws.proofs.Appends.{then_append}
-use Rattle.script_spec.specs.HintTable.{hint_table}
-use Rattle.script_spec.specs.Texts.{line, mark_word, text_line}
-use Rattle.step_plan.specs.declared.plan.StepPlan.{StepPlan}
-use Rattle.plan_text.specs.PlanTexts.{dataset_line, hint_line, variable_line}
-use Rattle.plan_text.specs.StepTexts.{counted}
+use Rattle.plan_text.proofs.Words.{List, ℕ, ◌∷◌, ◌++◌, codes, map, flat_map, then_append, hint_table, line, mark_word, text_line, StepPlan, dataset_line, hint_line, variable_line, counted}
 use Rattle.plan_text.proofs.head.push_head.Goals as goal
 
 pub returns : goal.returns

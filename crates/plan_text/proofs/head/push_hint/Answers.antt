@@ -1,7 +1,4 @@
-use Rattle.std.proofs.Common.{List, ℕ, [], ◌∷◌, ◌++◌, ap, ◌∙◌, codes}
-use Rattle.list_laws.proofs.Appends.{then_append}
-use Rattle.script_spec.specs.HintTable.{shown_value}
-use Rattle.hint_table.specs.HintNames.{row_of}
+use Rattle.plan_text.proofs.Words.{List, ℕ, [], ◌∷◌, ◌++◌, ap, ◌∙◌, codes, then_append, shown_value, row_of}
 use Rattle.plan_text.proofs.LineLaws.{five_words}
 use Rattle.plan_text.proofs.head.push_hint.Goals as goal
 

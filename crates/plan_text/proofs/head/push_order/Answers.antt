@@ -1,7 +1,4 @@
-use Rattle.std.proofs.Common.{append_assoc, codes, map}
-use Rattle.script_spec.specs.Texts.{mark_word}
-use Rattle.step_plan.specs.declared.plan.StepPlan.{StepPlan}
-use Rattle.printed_text.proofs.WordLaws.{joined_spaced}
+use Rattle.plan_text.proofs.Words.{append_assoc, codes, map, mark_word, StepPlan, joined_spaced}
 use Rattle.plan_text.proofs.head.push_order.Goals as goal
 
 pub returns : goal.returns

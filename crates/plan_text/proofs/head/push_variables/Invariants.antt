@@ -1,6 +1,4 @@
-use Rattle.std.proofs.Common.{◌≡◌, ◌++◌, take}
-use Rattle.std.specs.List.{flat_map}
-use Rattle.plan_text.specs.PlanTexts.{variable_line}
+use Rattle.plan_text.proofs.Words.{◌≡◌, ◌++◌, take, flat_map, variable_line}
 use Rattle.plan_text.proofs.head.push_variables.Given as goal
 
 abbrev pub invariant-loop-var : goal.invariant-loop-var

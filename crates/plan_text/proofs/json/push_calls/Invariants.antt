@@ -1,6 +1,4 @@
-use Rattle.std.proofs.Common.{◌≡◌, ◌++◌, map, take}
-use Rattle.script_spec.specs.Texts.{joined}
-use Rattle.plan_text.specs.JsonSteps.{device_call}
+use Rattle.plan_text.proofs.Words.{◌≡◌, ◌++◌, map, take, joined, device_call}
 use Rattle.plan_text.proofs.json.push_calls.Given as goal
 
 abbrev pub invariant-loop-number : goal.invariant-loop-number

@@ -1,6 +1,4 @@
-use Rattle.std.proofs.Common.{◌≡◌, ◌++◌, take}
-use Rattle.std.specs.List.{flat_map}
-use Rattle.plan_text.specs.Json.{json_character}
+use Rattle.plan_text.proofs.Words.{◌≡◌, ◌++◌, take, flat_map, json_character}
 use Rattle.plan_text.proofs.json.push_text.Given as goal
 
 abbrev pub invariant-loop-byte : goal.invariant-loop-byte

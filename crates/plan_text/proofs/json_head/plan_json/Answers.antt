@@ -1,8 +1,5 @@
-use Rattle.std.proofs.Common.{ℕ, List, [], ◌∷◌, ◌++◌, ap, ◌∙◌, arith}
-use Rattle.script_spec.specs.Texts.{joined}
-use Rattle.plan_text.specs.JsonPlan.{head_members, plan_members}
+use Rattle.plan_text.proofs.Words.{ℕ, List, [], ◌∷◌, ◌++◌, ap, ◌∙◌, arith, joined, head_members, plan_members, then_append}
 use Rattle.plan_text.proofs.ArrayLaws.{document_closed}
-use Rattle.list_laws.proofs.Appends.{then_append}
 use Rattle.plan_text.proofs.json_head.plan_json.Goals as goal
 
 pub returns : goal.returns

@@ -1,7 +1,4 @@
-use Rattle.std.proofs.Common.{◌≡◌, arith}
-use Rattle.serial_spec.specs.HeaderBytes.{header_len}
-use Rattle.var_layout.proofs.Soundness.{header_short}
-use Rattle.list_laws.proofs.Appends.{then_append}
+use Rattle.plan_text.proofs.Words.{◌≡◌, arith, header_len, header_short, then_append}
 use Rattle.plan_text.proofs.json_head.push_dataset.Goals as goal
 
 pub returns : goal.returns

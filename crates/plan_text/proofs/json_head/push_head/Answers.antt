@@ -1,5 +1,4 @@
-use Rattle.std.specs.Fmt.{digits}
-use Rattle.list_laws.proofs.Appends.{then_append}
+use Rattle.plan_text.proofs.Words.{digits, then_append}
 use Rattle.plan_text.proofs.json_head.push_head.Goals as goal
 
 pub returns : goal.returns

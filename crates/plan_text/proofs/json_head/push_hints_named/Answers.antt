@@ -1,7 +1,4 @@
-use Rattle.std.proofs.Common.{arith}
-use Rattle.hint_table.specs.HintNames.{row_of}
-use Rattle.hint_table.specs.declared.HintName.{HintName}
-use Rattle.plan_text.specs.JsonHead.{hint_object}
+use Rattle.plan_text.proofs.Words.{arith, row_of, HintName, hint_object}
 use Rattle.plan_text.proofs.ArrayLaws.{copy_pushed}
 use Rattle.plan_text.proofs.json_head.push_hints_named.Goals as goal
 

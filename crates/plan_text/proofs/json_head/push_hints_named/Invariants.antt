@@ -1,7 +1,4 @@
-use Rattle.std.proofs.Common.{◌≡◌, ◌++◌, map, take}
-use Rattle.script_spec.specs.Texts.{joined}
-use Rattle.plan_text.specs.JsonHead.{hint_object}
-use Rattle.hint_table.specs.HintNames.{row_of}
+use Rattle.plan_text.proofs.Words.{◌≡◌, ◌++◌, map, take, joined, hint_object, row_of}
 use Rattle.plan_text.proofs.json_head.push_hints_named.Given as goal
 
 abbrev pub invariant-loop-number : goal.invariant-loop-number

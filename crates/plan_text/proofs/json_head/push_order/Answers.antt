@@ -1,7 +1,4 @@
-use Rattle.std.proofs.Common.{arith}
-use Rattle.script_spec.specs.Texts.{mark_word}
-use Rattle.step_plan.specs.declared.plan.StepPlan.{StepPlan}
-use Rattle.plan_text.specs.Json.{json_text}
+use Rattle.plan_text.proofs.Words.{arith, mark_word, StepPlan, json_text}
 use Rattle.plan_text.proofs.ArrayLaws.{item_pushed}
 use Rattle.plan_text.proofs.json_head.push_order.Goals as goal
 

@@ -1,6 +1,4 @@
-use Rattle.std.proofs.Common.{◌≡◌, ◌++◌, map, take}
-use Rattle.script_spec.specs.Texts.{joined, mark_word}
-use Rattle.plan_text.specs.Json.{json_text}
+use Rattle.plan_text.proofs.Words.{◌≡◌, ◌++◌, map, take, joined, mark_word, json_text}
 use Rattle.plan_text.proofs.json_head.push_order.Given as goal
 
 abbrev pub invariant-loop-number : goal.invariant-loop-number

@@ -1,7 +1,5 @@
-use Rattle.std.proofs.Common.{ℕ, List, ◌∷◌, ◌++◌, ap, ◌∙◌}
-use Rattle.plan_text.specs.JsonSteps.{file_members}
+use Rattle.plan_text.proofs.Words.{ℕ, List, ◌∷◌, ◌++◌, ap, ◌∙◌, file_members, then_append}
 use Rattle.plan_text.proofs.ArrayLaws.{closed_end}
-use Rattle.list_laws.proofs.Appends.{then_append}
 use Rattle.plan_text.proofs.json_steps.push_step.Goals as goal
 
 pub returns : goal.returns

@@ -1,7 +1,4 @@
-use Rattle.std.proofs.Common.{arith}
-use Rattle.step_plan.specs.declared.plan.StepPlan.{StepPlan}
-use Rattle.plan_text.specs.Json.{on_line}
-use Rattle.plan_text.specs.JsonSteps.{step_object}
+use Rattle.plan_text.proofs.Words.{arith, StepPlan, on_line, step_object}
 use Rattle.plan_text.proofs.ArrayLaws.{item_pushed}
 use Rattle.plan_text.proofs.json_steps.push_steps.Goals as goal
 

@@ -1,7 +1,4 @@
-use Rattle.std.proofs.Common.{◌≡◌, ◌++◌, map, take}
-use Rattle.script_spec.specs.Texts.{joined}
-use Rattle.plan_text.specs.Json.{on_line}
-use Rattle.plan_text.specs.JsonSteps.{step_object}
+use Rattle.plan_text.proofs.Words.{◌≡◌, ◌++◌, map, take, joined, on_line, step_object}
 use Rattle.plan_text.proofs.json_steps.push_steps.Given as goal
 
 abbrev pub invariant-loop-number : goal.invariant-loop-number

@@ -1,6 +1,4 @@
-use Rattle.std.proofs.Common.{◌≡◌, ◌++◌, map, take}
-use Rattle.script_spec.specs.Texts.{joined}
-use Rattle.plan_text.specs.JsonSums.{cell_object}
+use Rattle.plan_text.proofs.Words.{◌≡◌, ◌++◌, map, take, joined, cell_object}
 use Rattle.plan_text.proofs.json_sums.push_cells.Given as goal
 
 abbrev pub invariant-loop-number : goal.invariant-loop-number

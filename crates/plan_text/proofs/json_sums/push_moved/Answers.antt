@@ -1,4 +1,4 @@
-use Rattle.list_laws.proofs.Appends.{then_append}
+use Rattle.plan_text.proofs.Words.{then_append}
 use Rattle.plan_text.proofs.json_sums.push_moved.Goals as goal
 
 pub returns : goal.returns

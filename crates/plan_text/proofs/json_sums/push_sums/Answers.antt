@@ -1,7 +1,5 @@
-use Rattle.std.proofs.Common.{ℕ, List, ◌∷◌, ◌++◌, ap, ◌∙◌, arith}
-use Rattle.plan_text.specs.JsonSums.{beside_members, moved_members}
+use Rattle.plan_text.proofs.Words.{ℕ, List, ◌∷◌, ◌++◌, ap, ◌∙◌, arith, beside_members, moved_members, then_append}
 use Rattle.plan_text.proofs.ArrayLaws.{closed_more}
-use Rattle.list_laws.proofs.Appends.{then_append}
 use Rattle.plan_text.proofs.json_sums.push_sums.Goals as goal
 
 pub returns : goal.returns

@@ -1,6 +1,4 @@
-use Rattle.std.proofs.Common.{◌≡◌, ◌++◌, take}
-use Rattle.std.specs.List.{flat_map}
-use Rattle.plan_text.specs.StepTexts.{asked_line}
+use Rattle.plan_text.proofs.Words.{◌≡◌, ◌++◌, take, flat_map, asked_line}
 use Rattle.plan_text.proofs.phases.push_asked.Given as goal
 
 abbrev pub invariant-loop-asked : goal.invariant-loop-asked

@@ -1,6 +1,4 @@
-use Rattle.std.proofs.Common.{◌+◌, refl, arith}
-use Rattle.printed_text.proofs.WordLaws.{next_pushed}
-use Rattle.plan_text.specs.StepTexts.{domain_lines}
+use Rattle.plan_text.proofs.Words.{◌+◌, refl, arith, next_pushed, domain_lines}
 use Rattle.plan_text.proofs.phases.push_domains.Goals as goal
 
 pub loop-domain-preserved : goal.loop-domain-preserved

@@ -1,6 +1,4 @@
-use Rattle.std.proofs.Common.{◌≡◌, ◌++◌, take}
-use Rattle.std.specs.List.{flat_map}
-use Rattle.plan_text.specs.StepTexts.{domain_lines}
+use Rattle.plan_text.proofs.Words.{◌≡◌, ◌++◌, take, flat_map, domain_lines}
 use Rattle.plan_text.proofs.phases.push_domains.Given as goal
 
 abbrev pub invariant-loop-domain : goal.invariant-loop-domain

@@ -1,9 +1,4 @@
-use Rattle.std.proofs.Common.{List, ℕ, ◌++◌, codes}
-use Rattle.std.specs.List.{flat_map}
-use Rattle.list_laws.proofs.Appends.{then_append}
-use Rattle.nc_base.specs.declared.request.Direction.TheVariants.{Put, Get}
-use Rattle.step_plan.specs.Steps.{count_call, grow_call}
-use Rattle.plan_text.specs.StepTexts.{asked_line, device_lines, domain_lines, overlap_line}
+use Rattle.plan_text.proofs.Words.{List, ℕ, ◌++◌, codes, flat_map, then_append, Put, Get, count_call, grow_call, asked_line, device_lines, domain_lines, overlap_line}
 use Rattle.plan_text.proofs.phases.push_file.Goals as goal
 
 pub returns : goal.returns

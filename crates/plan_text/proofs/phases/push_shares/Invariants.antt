@@ -1,6 +1,4 @@
-use Rattle.std.proofs.Common.{◌≡◌, ◌++◌, take}
-use Rattle.std.specs.List.{flat_map}
-use Rattle.plan_text.specs.StepTexts.{share_words}
+use Rattle.plan_text.proofs.Words.{◌≡◌, ◌++◌, take, flat_map, share_words}
 use Rattle.plan_text.proofs.phases.push_shares.Given as goal
 
 abbrev pub invariant-loop-share : goal.invariant-loop-share

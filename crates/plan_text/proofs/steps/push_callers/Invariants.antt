@@ -1,6 +1,4 @@
-use Rattle.std.proofs.Common.{◌≡◌, ◌++◌, take}
-use Rattle.std.specs.List.{flat_map}
-use Rattle.plan_text.specs.StepTexts.{caller_line}
+use Rattle.plan_text.proofs.Words.{◌≡◌, ◌++◌, take, flat_map, caller_line}
 use Rattle.plan_text.proofs.steps.push_callers.Given as goal
 
 abbrev pub invariant-loop-caller : goal.invariant-loop-caller

@@ -1,8 +1,4 @@
-use Rattle.std.proofs.Common.{List, ℕ, ◌++◌, codes}
-use Rattle.std.specs.List.{flat_map}
-use Rattle.list_laws.proofs.Appends.{then_append}
-use Rattle.script_spec.specs.Texts.{mark_word, text_line}
-use Rattle.plan_text.specs.StepTexts.{caller_line, file_lines}
+use Rattle.plan_text.proofs.Words.{List, ℕ, ◌++◌, codes, flat_map, then_append, mark_word, text_line, caller_line, file_lines}
 use Rattle.plan_text.proofs.steps.push_step.Goals as goal
 
 pub returns : goal.returns

@@ -1,6 +1,4 @@
-use Rattle.std.proofs.Common.{◌+◌, refl, arith}
-use Rattle.printed_text.proofs.WordLaws.{next_pushed}
-use Rattle.plan_text.specs.StepTexts.{step_lines}
+use Rattle.plan_text.proofs.Words.{◌+◌, refl, arith, next_pushed, step_lines}
 use Rattle.plan_text.proofs.steps.push_steps.Goals as goal
 
 pub loop-step-preserved : goal.loop-step-preserved

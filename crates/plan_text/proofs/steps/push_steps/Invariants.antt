@@ -1,6 +1,4 @@
-use Rattle.std.proofs.Common.{◌≡◌, ◌++◌, take}
-use Rattle.std.specs.List.{flat_map}
-use Rattle.plan_text.specs.StepTexts.{step_lines}
+use Rattle.plan_text.proofs.Words.{◌≡◌, ◌++◌, take, flat_map, step_lines}
 use Rattle.plan_text.proofs.steps.push_steps.Given as goal
 
 abbrev pub invariant-loop-step : goal.invariant-loop-step

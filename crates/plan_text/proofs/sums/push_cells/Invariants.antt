@@ -1,6 +1,4 @@
-use Rattle.std.proofs.Common.{◌≡◌, ◌++◌, take}
-use Rattle.std.specs.List.{flat_map}
-use Rattle.plan_text.specs.PlanTexts.{cell_line}
+use Rattle.plan_text.proofs.Words.{◌≡◌, ◌++◌, take, flat_map, cell_line}
 use Rattle.plan_text.proofs.sums.push_cells.Given as goal
 
 abbrev pub invariant-loop-cell : goal.invariant-loop-cell

@@ -1,8 +1,4 @@
-use Rattle.std.proofs.Common.{List, ℕ, ◌++◌, codes, decimal}
-use Rattle.std.specs.List.{flat_map}
-use Rattle.list_laws.proofs.Appends.{then_append}
-use Rattle.script_spec.specs.Texts.{text_line}
-use Rattle.plan_text.specs.PlanTexts.{beside_line, cell_line, moved_lines}
+use Rattle.plan_text.proofs.Words.{List, ℕ, ◌++◌, codes, decimal, flat_map, then_append, text_line, beside_line, cell_line, moved_lines}
 use Rattle.plan_text.proofs.sums.push_sums.Goals as goal
 
 pub returns : goal.returns

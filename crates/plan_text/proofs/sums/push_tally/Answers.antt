@@ -1,5 +1,4 @@
-use Rattle.std.proofs.Common.{List, ℕ, ◌++◌, codes, decimal}
-use Rattle.plan_text.specs.StepTexts.{in_bytes}
+use Rattle.plan_text.proofs.Words.{List, ℕ, ◌++◌, codes, decimal, in_bytes}
 use Rattle.plan_text.proofs.LineLaws.{then_end, then_words}
 use Rattle.plan_text.proofs.sums.push_tally.Goals as goal
 

@@ -1,6 +1,4 @@
-use Rattle.std.proofs.Common.{refl}
-use Rattle.std.specs.Fmt.{digits}
-use Rattle.serial_spec.specs.HeaderBytes.{canon}
+use Rattle.plan_text.proofs.Words.{refl, digits, canon}
 use Rattle.plan_text.proofs.worked_plans.worked_variable.Goals as goal
 
 pub returns : goal.returns

@@ -1,5 +1,4 @@
-use Rattle.std.proofs.Common.{◌≡◌, ℕ, drop, subst, arith}
-use Rattle.printed_text.specs.Digits.{FindsNames}
+use Rattle.printed_text.proofs.Words.{◌≡◌, ℕ, drop, subst, arith, FindsNames}
 use Rattle.printed_text.proofs.digits.names_index.Goals as goal
 
 pub returns : goal.returns

@@ -1,5 +1,4 @@
-use Rattle.std.proofs.Common.{◌≡◌, ℕ, drop, subst, arith}
-use Rattle.printed_text.specs.Digits.{FindsPosts}
+use Rattle.printed_text.proofs.Words.{◌≡◌, ℕ, drop, subst, arith, FindsPosts}
 use Rattle.printed_text.proofs.digits.posts_index.Goals as goal
 
 pub returns : goal.returns

@@ -1,6 +1,4 @@
-use Rattle.std.proofs.Common.{◌≡◌, ◌++◌, map, take}
-use Rattle.std.specs.List.{flat_map}
-use Rattle.script_spec.specs.Texts.{dim_name}
+use Rattle.printed_text.proofs.Words.{◌≡◌, ◌++◌, map, take, flat_map, dim_name}
 use Rattle.printed_text.proofs.dimensions.push_other_names.Given as goal
 
 abbrev pub invariant-loop-id : goal.invariant-loop-id

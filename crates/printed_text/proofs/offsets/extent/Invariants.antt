@@ -1,5 +1,4 @@
-use Rattle.std.proofs.Common.{◌≡◌, min, take, fold}
-use Rattle.nc_base.specs.declared.header.Var.{Var}
+use Rattle.printed_text.proofs.Words.{◌≡◌, min, take, fold, Var}
 use Rattle.printed_text.proofs.offsets.extent.Given as goal
 
 abbrev pub invariant-loop-var : goal.invariant-loop-var

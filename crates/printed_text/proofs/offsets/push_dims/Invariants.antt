@@ -1,6 +1,4 @@
-use Rattle.std.proofs.Common.{◌≡◌, ◌++◌, take}
-use Rattle.std.specs.List.{flat_map}
-use Rattle.script_spec.specs.Texts.{dim_length_line}
+use Rattle.printed_text.proofs.Words.{◌≡◌, ◌++◌, take, flat_map, dim_length_line}
 use Rattle.printed_text.proofs.offsets.push_dims.Given as goal
 
 abbrev pub invariant-loop-dim : goal.invariant-loop-dim

@@ -1,9 +1,5 @@
-use Rattle.std.proofs.Common.{◌≡◌, List, ℕ, ◌++◌, arith, codes, decimal}
-use Rattle.serial_spec.specs.HeaderBytes.{header_len}
-use Rattle.script_spec.specs.Texts.{extent_of, text_line}
-use Rattle.var_layout.proofs.Soundness.{header_short}
+use Rattle.printed_text.proofs.Words.{◌≡◌, List, ℕ, ◌++◌, arith, codes, decimal, header_len, extent_of, text_line, header_short, then_append}
 use Rattle.printed_text.proofs.offsets.push_head.Goals as goal
-use Rattle.list_laws.proofs.Appends.{then_append}
 
 pub returns : goal.returns
 returns c =

@@ -1,10 +1,5 @@
-use Rattle.std.proofs.Common.{List, ℕ, ◌++◌, codes}
-use Rattle.std.specs.List.{flat_map}
-use Rattle.serial_spec.specs.Layout.{fixed_variables, record_variables}
-use Rattle.script_spec.specs.Texts.{dim_length_line, text_line, var_lines}
-use Rattle.printed_text.specs.Offsets.{head_lines}
+use Rattle.printed_text.proofs.Words.{List, ℕ, ◌++◌, codes, flat_map, fixed_variables, record_variables, dim_length_line, text_line, var_lines, head_lines, then_append}
 use Rattle.printed_text.proofs.offsets.push_offsets.Goals as goal
-use Rattle.list_laws.proofs.Appends.{then_append}
 
 pub returns : goal.returns
 returns c =

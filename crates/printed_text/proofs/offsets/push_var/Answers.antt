@@ -1,9 +1,5 @@
-use Rattle.std.proofs.Common.{◌≡◌, List, ℕ, ◌+◌, ◌++◌, arith, codes, decimal}
-use Rattle.serial_spec.specs.Layout.{slab}
-use Rattle.script_spec.specs.Texts.{text_line}
-use Rattle.printed_text.specs.Offsets.{title_line}
+use Rattle.printed_text.proofs.Words.{◌≡◌, List, ℕ, ◌+◌, ◌++◌, arith, codes, decimal, slab, text_line, title_line, then_append}
 use Rattle.printed_text.proofs.offsets.push_var.Goals as goal
-use Rattle.list_laws.proofs.Appends.{then_append}
 
 pub returns : goal.returns
 returns c =

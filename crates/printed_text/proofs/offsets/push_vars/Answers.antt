@@ -1,6 +1,4 @@
-use Rattle.std.proofs.Common.{arith}
-use Rattle.script_spec.specs.Texts.{var_lines}
-use Rattle.printed_text.specs.Offsets.{is_listed}
+use Rattle.printed_text.proofs.Words.{arith, var_lines, is_listed}
 use Rattle.printed_text.proofs.OffsetLaws.{var_ends, listed_more, unlisted_more}
 use Rattle.printed_text.proofs.offsets.push_vars.Goals as goal
 use Rattle.printed_text.proofs.offsets.push_vars.Goals.{then-is_listed+in_ok-push_var, else-is_listed}

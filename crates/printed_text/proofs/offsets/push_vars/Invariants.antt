@@ -1,7 +1,4 @@
-use Rattle.std.proofs.Common.{◌≡◌, ◌++◌, take}
-use Rattle.std.specs.List.{filter, flat_map}
-use Rattle.script_spec.specs.Texts.{var_lines}
-use Rattle.printed_text.specs.Offsets.{is_listed}
+use Rattle.printed_text.proofs.Words.{◌≡◌, ◌++◌, take, filter, flat_map, var_lines, is_listed}
 use Rattle.printed_text.proofs.offsets.push_vars.Given as goal
 
 abbrev pub invariant-loop-var : goal.invariant-loop-var

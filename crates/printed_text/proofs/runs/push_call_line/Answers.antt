@@ -1,6 +1,4 @@
-use Rattle.std.proofs.lemmas.List.{append_assoc}
-use Rattle.std.proofs.Common.{ℕ, [], ◌∷◌, decimal, sym}
-use Rattle.script_spec.specs.Texts.{call_word, option_words, outcome, value_words}
+use Rattle.printed_text.proofs.Words.{append_assoc, ℕ, [], ◌∷◌, decimal, sym, call_word, option_words, outcome, value_words}
 use Rattle.printed_text.proofs.WordLaws.{call_words}
 use Rattle.printed_text.proofs.runs.push_call_line.Goals as goal
 

@@ -1,13 +1,4 @@
-use Rattle.std.proofs.Common.{ℕ, ap, ◌∙◌, List, [], ◌∷◌, ◌++◌, length}
-use Rattle.std.specs.List.{enumerate_from, zip}
-use Rattle.std.proofs.lemmas.List.{length_push}
-use Rattle.std.proofs.lemmas.Iterator.{YieldsList-from_slice, YieldsList-from_zip}
-use Rattle.std.proofs.lemmas.Iterator.Consumers.{YieldsList-from_enumerate, YieldsList-turn, YieldsList-end}
-use Rattle.std.specs.Borrow.{Bor}
-use Rattle.nc_base.specs.declared.header.Header.{Header}
-use Rattle.nc_base.specs.declared.request.Call.{Call}
-use Rattle.nc_base.specs.declared.answer.Answer.{Answer}
-use Rattle.script_spec.specs.Texts.{call_lines}
+use Rattle.printed_text.proofs.Words.{ℕ, ap, ◌∙◌, List, [], ◌∷◌, ◌++◌, length, enumerate_from, zip, length_push, YieldsList-from_slice, YieldsList-from_zip, YieldsList-from_enumerate, YieldsList-turn, YieldsList-end, Bor, Header, Call, Answer, call_lines}
 use Rattle.printed_text.proofs.WordLaws.{next_pushed, all_pushed}
 use Rattle.printed_text.proofs.runs.push_calls.Goals as goal
 

@@ -1,6 +1,5 @@
-use Rattle.std.proofs.Common.{◌∷◌, ◌++◌, decimal}
+use Rattle.printed_text.proofs.Words.{◌∷◌, ◌++◌, decimal, then_append}
 use Rattle.printed_text.proofs.runs.push_holder.Goals as goal
-use Rattle.list_laws.proofs.Appends.{then_append}
 
 pub returns : goal.returns
 returns c =

@@ -1,6 +1,4 @@
-use Rattle.std.proofs.lemmas.List.{append_assoc}
-use Rattle.std.proofs.Common.{decimal, sym}
-use Rattle.script_spec.specs.Texts.{code_word, option_words, value_words}
+use Rattle.printed_text.proofs.Words.{append_assoc, decimal, sym, code_word, option_words, value_words}
 use Rattle.printed_text.proofs.WordLaws.{item_words}
 use Rattle.printed_text.proofs.runs.push_item_line.Goals as goal
 

@@ -1,5 +1,4 @@
-use Rattle.std.proofs.Common.{◌+◌, refl, arith}
-use Rattle.script_spec.specs.Texts.{item_line}
+use Rattle.printed_text.proofs.Words.{◌+◌, refl, arith, item_line}
 use Rattle.printed_text.proofs.WordLaws.{next_pushed}
 use Rattle.printed_text.proofs.runs.push_items.Goals as goal
 

@@ -1,6 +1,4 @@
-use Rattle.std.proofs.Common.{◌≡◌, ◌++◌, take}
-use Rattle.std.specs.List.{flat_map}
-use Rattle.script_spec.specs.Texts.{item_line}
+use Rattle.printed_text.proofs.Words.{◌≡◌, ◌++◌, take, flat_map, item_line}
 use Rattle.printed_text.proofs.runs.push_items.Given as goal
 
 abbrev pub invariant-loop-item : goal.invariant-loop-item

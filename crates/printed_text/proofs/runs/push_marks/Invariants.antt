@@ -1,6 +1,4 @@
-use Rattle.std.proofs.Common.{◌≡◌, ◌++◌, map, take}
-use Rattle.script_spec.specs.Texts.{mark_word}
-use Rattle.printed_text.specs.Spaced.{spaced}
+use Rattle.printed_text.proofs.Words.{◌≡◌, ◌++◌, map, take, mark_word, spaced}
 use Rattle.printed_text.proofs.runs.push_marks.Given as goal
 
 abbrev pub invariant-loop-mark : goal.invariant-loop-mark

@@ -1,6 +1,4 @@
-use Rattle.std.proofs.lemmas.List.{append_assoc}
-use Rattle.std.proofs.Common.{map, codes}
-use Rattle.script_spec.specs.Texts.{mark_word}
+use Rattle.printed_text.proofs.Words.{append_assoc, map, codes, mark_word}
 use Rattle.printed_text.proofs.WordLaws.{joined_spaced}
 use Rattle.printed_text.proofs.runs.push_order.Goals as goal
 

@@ -1,7 +1,6 @@
-use Rattle.std.proofs.Common.{List, ℕ, ◌∷◌, ◌++◌, codes, decimal, ap, ◌∙◌}
+use Rattle.printed_text.proofs.Words.{List, ℕ, ◌∷◌, ◌++◌, codes, decimal, ap, ◌∙◌, then_append}
 use Rattle.printed_text.proofs.WordLaws.{pair_spaced}
 use Rattle.printed_text.proofs.runs.push_pair.Goals as goal
-use Rattle.list_laws.proofs.Appends.{then_append}
 
 pub returns : goal.returns
 returns c =

@@ -1,8 +1,5 @@
-use Rattle.std.proofs.Common.{List, ℕ, ◌++◌, codes, decimal}
-use Rattle.std.specs.List.{enumerate_from, flat_map, zip}
-use Rattle.script_spec.specs.Texts.{call_lines, text_line}
+use Rattle.printed_text.proofs.Words.{List, ℕ, ◌++◌, codes, decimal, enumerate_from, flat_map, zip, call_lines, text_line, then_append}
 use Rattle.printed_text.proofs.runs.push_rank.Goals as goal
-use Rattle.list_laws.proofs.Appends.{then_append}
 
 pub returns : goal.returns
 returns c =

@@ -1,6 +1,4 @@
-use Rattle.std.proofs.Common.{◌≡◌, ◌++◌, length, take}
-use Rattle.std.specs.List.{enumerate_from, flat_map, zip}
-use Rattle.script_spec.specs.Texts.{rank_lines}
+use Rattle.printed_text.proofs.Words.{◌≡◌, ◌++◌, length, take, enumerate_from, flat_map, zip, rank_lines}
 use Rattle.printed_text.proofs.runs.push_ranks.Given as goal
 
 abbrev pub invariant-loop-rank : goal.invariant-loop-rank

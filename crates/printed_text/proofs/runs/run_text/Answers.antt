@@ -1,8 +1,5 @@
-use Rattle.std.proofs.Common.{List, ℕ, ◌∷◌, ◌++◌, codes, decimal, map, ap, ◌∙◌}
-use Rattle.std.specs.List.{enumerate_from, flat_map, zip}
-use Rattle.script_spec.specs.Texts.{line, mark_word, offsets_text, rank_lines, text_line}
+use Rattle.printed_text.proofs.Words.{List, ℕ, ◌∷◌, ◌++◌, codes, decimal, map, ap, ◌∙◌, enumerate_from, flat_map, zip, line, mark_word, offsets_text, rank_lines, text_line, then_append}
 use Rattle.printed_text.proofs.runs.run_text.Goals as goal
-use Rattle.list_laws.proofs.Appends.{then_append}
 
 pub returns : goal.returns
 returns c =

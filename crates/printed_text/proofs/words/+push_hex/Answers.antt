@@ -1,5 +1,5 @@
-use Rattle.std.proofs.Common.{ℕ, ◌-◌, ◌/◌, List, [], ◌∷◌, ◌++◌, sym, ap, ◌∙◌, append_assoc, arith}
-use Rattle.script_spec.specs.Texts.{hex}
+use Rattle.printed_text.proofs.Words.{ℕ, ◌-◌, ◌/◌, List, [], ◌∷◌, ◌++◌, sym, ap, ◌∙◌, arith, hex}
+use Rattle.std.proofs.Common.{append_assoc}
 use Rattle.printed_text.proofs.WordLaws.{hex_last}
 use Rattle.printed_text.proofs.words.+push_hex.Goals as goal
 

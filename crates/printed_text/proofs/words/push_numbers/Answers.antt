@@ -1,9 +1,6 @@
-use Rattle.std.proofs.Common.{◌≡◌, arith}
-use Rattle.std.proofs.lemmas.Grind.{common_steps}
-use Rattle.std.proofs.lemmas.Int.{to_z-of_z}
+use Rattle.printed_text.proofs.Words.{◌≡◌, arith, common_steps, to_z-of_z, signed_decimal}
 use mir.Syntax.{w128}
 use mir.Val.{to_z, of_z}
-use Rattle.std.specs.Fmt.{signed_decimal}
 use Rattle.printed_text.proofs.WordLaws.{spaced_next}
 use Rattle.printed_text.proofs.words.push_numbers.Goals as goal
 

@@ -1,6 +1,4 @@
-use Rattle.std.proofs.Common.{◌≡◌, ◌++◌, map, take}
-use Rattle.std.specs.Fmt.{signed_decimal}
-use Rattle.printed_text.specs.Spaced.{spaced}
+use Rattle.printed_text.proofs.Words.{◌≡◌, ◌++◌, map, take, signed_decimal, spaced}
 use Rattle.printed_text.proofs.words.push_numbers.Given as goal
 
 abbrev pub invariant-loop-k : goal.invariant-loop-k

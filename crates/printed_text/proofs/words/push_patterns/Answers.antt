@@ -1,6 +1,4 @@
-use Rattle.std.proofs.Common.{◌∷◌, ℕ, arith}
-use Rattle.std.proofs.lemmas.Grind.{common_steps}
-use Rattle.script_spec.specs.Texts.{hex}
+use Rattle.printed_text.proofs.Words.{◌∷◌, ℕ, arith, common_steps, hex}
 use Rattle.printed_text.proofs.WordLaws.{spaced_next}
 use Rattle.printed_text.proofs.words.push_patterns.Goals as goal
 

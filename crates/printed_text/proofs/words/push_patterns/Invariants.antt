@@ -1,6 +1,4 @@
-use Rattle.std.proofs.Common.{◌≡◌, ◌∷◌, ◌++◌, map, take}
-use Rattle.script_spec.specs.Texts.{hex}
-use Rattle.printed_text.specs.Spaced.{spaced}
+use Rattle.printed_text.proofs.Words.{◌≡◌, ◌∷◌, ◌++◌, map, take, hex, spaced}
 use Rattle.printed_text.proofs.words.push_patterns.Given as goal
 
 abbrev pub invariant-loop-k : goal.invariant-loop-k

@@ -1,6 +1,4 @@
-use Rattle.std.proofs.Common.{◌≡◌, ◌++◌, take}
-use Rattle.std.specs.List.{flat_map}
-use Rattle.script_spec.specs.Texts.{text_char}
+use Rattle.printed_text.proofs.Words.{◌≡◌, ◌++◌, take, flat_map, text_char}
 use Rattle.printed_text.proofs.words.push_quoted.Given as goal
 
 abbrev pub invariant-loop-byte : goal.invariant-loop-byte

@@ -1,6 +1,5 @@
 -- Each digit goes before those that are written.
-use Rattle.std.proofs.Common.{◌≡◌, ◌+◌, ◌-◌, arith}
-use Rattle.std.proofs.lemmas.Grind.{common_steps}
+use Rattle.printed_text.proofs.Words.{◌≡◌, ◌+◌, ◌-◌, arith, common_steps}
 use Rattle.printed_text.proofs.WordLaws.{hex_next}
 use Rattle.printed_text.proofs.words.write_hex.Goals as goal
 

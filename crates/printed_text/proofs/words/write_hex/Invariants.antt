@@ -1,5 +1,4 @@
-use Rattle.std.proofs.Common.{◌≡◌, ◌≤◌, ◌-◌, ◌++◌, drop}
-use Rattle.script_spec.specs.Texts.{hex}
+use Rattle.printed_text.proofs.Words.{◌≡◌, ◌≤◌, ◌-◌, ◌++◌, drop, hex}
 use Rattle.printed_text.proofs.words.write_hex.Given as goal
 
 abbrev pub invariant-loop-at : goal.invariant-loop-at

@@ -1,7 +1,5 @@
 -- Where no helper did anything the parts are as they were.
-use Rattle.std.proofs.Common.{◌≡◌, List, Option, Some, Result, subst}
-use Rattle.std.specs.Prelude.{slice_get, IfNone}
-use Rattle.nc_outside.specs.declared.disk.DiskErr.{DiskErr}
+use Rattle.put_exchange.proofs.Words.{◌≡◌, List, Option, Some, Result, subst, slice_get, IfNone, DiskErr}
 use Rattle.put_exchange.proofs.exchange.exchange_put.Goals as goal
 
 pub put_in_turn-requires-in-None-clause-domains : goal.put_in_turn-requires-in-None-clause-domains

@@ -1,19 +1,5 @@
 -- The helpers that were started, told to go, fed and joined.
-use Rattle.std.proofs.Common.{◌≡◌, ℕ, List, subst, length, Some, rules, arith}
-use Rattle.std.proofs.lemmas.List.{nil_from_length}
-use Rattle.std.proofs.lemmas.Grind.{common_steps}
-use Rattle.std.specs.Prelude.{slice_get}
-use Rattle.std.specs.List.{AllZip}
-use Rattle.nc_base.specs.declared.plan.Extent.{Extent}
-use Rattle.nc_outside.specs.Cause.{Rose}
-use Rattle.overlay_laws.specs.Entries.{In}
-use Rattle.exchange_crew.specs.Plan.{planned_turns, source_in}
-use Rattle.exchange_crew.specs.Parts.{part_state, SomeZip}
-use Rattle.put_exchange.specs.Put.{HasPut}
-use Rattle.put_exchange.specs.Workers.{domain_of, part_of, HasFed, IsToldToGo}
-use Rattle.put_exchange.specs.declared.starting.Worker.{Worker}
-use Rattle.exchange_crew.proofs.BackLaws.{lent_twice}
-use Rattle.exchange_crew.proofs.CrewLaws.{all_of, some_of}
+use Rattle.put_exchange.proofs.Words.{◌≡◌, ℕ, List, subst, length, Some, rules, arith, nil_from_length, common_steps, slice_get, AllZip, Extent, Rose, In, planned_turns, source_in, part_state, SomeZip, HasPut, domain_of, part_of, HasFed, IsToldToGo, Worker, lent_twice, all_of, some_of}
 use Rattle.put_exchange.proofs.WorkerLaws.{fed_of, fed_workers, told_workers}
 use Rattle.put_exchange.proofs.exchange.put_in_scope.Goals as goal
 

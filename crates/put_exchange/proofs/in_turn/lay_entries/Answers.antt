@@ -1,8 +1,5 @@
 -- Each entry has its bytes in its post.
-use Rattle.std.proofs.Common.{◌+◌, ◌∙◌, get_or}
-use Rattle.nc_base.specs.declared.plan.Owned.{Owned}
-use Rattle.overlay_laws.proofs.Members.{entry_in}
-use Rattle.exchange_crew.specs.Turns.{source_of}
+use Rattle.put_exchange.proofs.Words.{◌+◌, ◌∙◌, get_or, Owned, entry_in, source_of}
 use Rattle.put_exchange.proofs.TakenLaws.{entries_more}
 use Rattle.put_exchange.proofs.in_turn.lay_entries.Goals as goal
 

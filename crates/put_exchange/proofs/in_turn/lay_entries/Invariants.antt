@@ -1,9 +1,5 @@
 -- The buffer has the bytes of the entries so far.
-use Rattle.std.proofs.Common.{◌≡◌, ◌+◌, length, take, map}
-use Rattle.serial_spec.specs.Said.{write_cells, moved_down}
-use Rattle.overlay_laws.specs.Entries.{cell_of}
-use Rattle.overlay_laws.specs.Windows.{clips}
-use Rattle.exchange_crew.specs.Turns.{source_of}
+use Rattle.put_exchange.proofs.Words.{◌≡◌, ◌+◌, length, take, map, write_cells, moved_down, cell_of, clips, source_of}
 use Rattle.put_exchange.proofs.in_turn.lay_entries.Given as goal
 
 abbrev pub invariant-loop-entry : goal.invariant-loop-entry

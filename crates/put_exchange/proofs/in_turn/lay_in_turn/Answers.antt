@@ -1,18 +1,6 @@
 -- Each window is overlaid with the entries' bytes.
-use Rattle.std.proofs.Common.{◌≡◌, ◌+◌, ◌∙◌, refl, sym, subst, min, ℕ, List, arith}
-use Rattle.nc_base.specs.declared.plan.Batch.{Batch}
-use Rattle.nc_outside.specs.Told.{after, BothTold}
-use Rattle.overlay_laws.specs.Changes.{IsBetween}
-use Rattle.aggregator_rounds.specs.Pieces.{told_window}
-use Rattle.exchange_crew.specs.Pieces.{ArePieces}
-use Rattle.exchange_crew.specs.Plan.{planned_turns, source_in}
-use Rattle.put_exchange.specs.Sent.{cells_in}
-use Rattle.put_exchange.specs.Taken.{put_window, IsFilledBy}
-use Rattle.exchange_crew.specs.Turns.{source_of, turns_ahead}
-use Rattle.exchange_crew.proofs.BackLaws.{err_not_ok}
+use Rattle.put_exchange.proofs.Words.{◌≡◌, ◌+◌, ◌∙◌, refl, sym, subst, min, ℕ, List, arith, Batch, after, BothTold, IsBetween, told_window, ArePieces, planned_turns, source_in, cells_in, put_window, IsFilledBy, source_of, turns_ahead, err_not_ok, plan_on, plan_windows, due_now, served_are}
 use Rattle.put_exchange.proofs.InTurnLaws.{in_turn_begin, in_turn_cut, in_turn_end, in_turn_next, in_turn_whole, served_filled}
-use Rattle.exchange_crew.proofs.PlanLaws.{plan_on, plan_windows}
-use Rattle.exchange_crew.proofs.TurnLaws.{due_now, served_are}
 use Rattle.put_exchange.proofs.in_turn.lay_in_turn.Goals as goal
 
 pub turns-init : goal.turns-init

@@ -1,7 +1,5 @@
 -- What is left to be served gives the whole.
-use Rattle.std.proofs.Common.{◌≡◌, ◌≤◌, length, min}
-use Rattle.exchange_crew.specs.Plan.{planned_turns, source_in}
-use Rattle.exchange_crew.specs.Turns.{turns_ahead}
+use Rattle.put_exchange.proofs.Words.{◌≡◌, ◌≤◌, length, min, planned_turns, source_in, turns_ahead}
 use Rattle.put_exchange.proofs.InTurnLaws.{IsInTurn}
 use Rattle.put_exchange.proofs.in_turn.lay_in_turn.Given as goal
 

@@ -1,18 +1,5 @@
 -- One part more was served.
-use Rattle.std.proofs.Common.{◌≡◌, ◌<◌, ◌∙◌, ◌++◌, ◌∷◌, [], sym, ap, subst, length, append_assoc, get_or, List, Result, rules, arith}
-use Rattle.std.proofs.lemmas.Option.{slice_get_within}
-use Rattle.std.proofs.lemmas.Grind.{common_steps}
-use Rattle.std.specs.Prelude.{zip}
-use Rattle.std.specs.List.{AllZip}
-use Rattle.nc_base.specs.declared.plan.Extent.{Extent}
-use Rattle.nc_outside.specs.Cause.{Rose}
-use Rattle.nc_outside.specs.declared.disk.DiskErr.{DiskErr}
-use Rattle.serial_spec.proofs.MemberLaws.{at_in}
-use Rattle.exchange_crew.specs.Plan.{planned_turns, source_in}
-use Rattle.exchange_crew.specs.Parts.{part_state}
-use Rattle.put_exchange.specs.Put.{HasPut}
-use Rattle.list_laws.proofs.Places.{middle_at}
-use Rattle.exchange_crew.proofs.BackLaws.{at_index, back_more, both_long, failed_more, zip_push, zip_same}
+use Rattle.put_exchange.proofs.Words.{◌≡◌, ◌<◌, ◌∙◌, ◌++◌, ◌∷◌, [], sym, ap, subst, length, append_assoc, get_or, List, Result, rules, arith, slice_get_within, common_steps, zip, AllZip, Extent, Rose, DiskErr, at_in, planned_turns, source_in, part_state, HasPut, middle_at, at_index, back_more, both_long, failed_more, zip_push, zip_same}
 use Rattle.put_exchange.proofs.PutLaws.{put_later, put_untouched}
 use Rattle.put_exchange.proofs.in_turn.put_in_turn.Goals as goal
 

@@ -1,12 +1,5 @@
 -- The parts so far were served, up to the first fault.
-use Rattle.std.proofs.Common.{◌≡◌, ◌++◌, length, vec_capacity}
-use Rattle.std.specs.Prelude.{zip, IsErrOf}
-use Rattle.std.specs.List.{AllZip}
-use Rattle.nc_outside.specs.Cause.{Rose}
-use Rattle.nc_outside.specs.declared.disk.DiskErr.TheVariants.{Failed}
-use Rattle.exchange_crew.specs.Plan.{planned_turns, source_in}
-use Rattle.exchange_crew.specs.Parts.{part_state, SomeZip}
-use Rattle.put_exchange.specs.Put.{HasPut}
+use Rattle.put_exchange.proofs.Words.{◌≡◌, ◌++◌, length, vec_capacity, zip, IsErrOf, AllZip, Rose, Failed, planned_turns, source_in, part_state, SomeZip, HasPut}
 use Rattle.put_exchange.proofs.in_turn.put_in_turn.Given as goal
 
 abbrev pub invariant-loop-part : goal.invariant-loop-part

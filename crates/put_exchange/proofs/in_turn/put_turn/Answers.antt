@@ -1,13 +1,5 @@
 -- The hull as it is written is the old one with the entries' bytes.
-use Rattle.std.proofs.Common.{◌≡◌, ◌+◌, length, map, rules, arith}
-use Rattle.std.proofs.lemmas.Grind.{common_steps}
-use Rattle.overlay_laws.specs.Entries.{cell_of}
-use Rattle.overlay_laws.proofs.WindowLaws.{clips_from, clips_within}
-use Rattle.aggregator_rounds.specs.Pieces.{told_window}
-use Rattle.aggregator_rounds.proofs.RoundLaws.{window_told_by, window_refused_by}
-use Rattle.put_exchange.specs.Sent.{cells_in}
-use Rattle.put_exchange.specs.Taken.{put_window}
-use Rattle.exchange_crew.specs.Turns.{source_of}
+use Rattle.put_exchange.proofs.Words.{◌≡◌, ◌+◌, length, map, rules, arith, common_steps, cell_of, clips_from, clips_within, told_window, window_told_by, window_refused_by, cells_in, put_window, source_of}
 use Rattle.put_exchange.proofs.PutLaws.{told_kept, told_whole}
 use Rattle.put_exchange.proofs.in_turn.put_turn.Goals as goal
 

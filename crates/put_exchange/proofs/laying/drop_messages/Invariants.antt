@@ -1,6 +1,5 @@
 -- The messages so far were taken.
-use Rattle.std.proofs.Common.{◌≡◌, ◌-◌, ◌≤◌}
-use Rattle.put_exchange.specs.Taken.{HasTaken}
+use Rattle.put_exchange.proofs.Words.{◌≡◌, ◌-◌, ◌≤◌, HasTaken}
 use Rattle.put_exchange.proofs.laying.drop_messages.Given as goal
 
 abbrev pub invariant-messages : goal.invariant-messages

@@ -1,12 +1,5 @@
 -- Each window is served by the messages that are planned for it.
-use Rattle.std.proofs.Common.{◌∙◌, inl, inr, refl, ap, sym, subst, length, min, ℕ, List, arith}
-use Rattle.std.proofs.lemmas.List.{get_or_read}
-use Rattle.aggregator_rounds.specs.Pieces.{told_window}
-use Rattle.exchange_crew.specs.Plan.{planned_turns, source_in}
-use Rattle.exchange_crew.specs.Turns.{Told, turns_ahead}
-use Rattle.exchange_crew.proofs.PlanLaws.{plan_on, plan_turns, plan_windows}
-use Rattle.put_exchange.specs.Sent.{message_counts, messages_in}
-use Rattle.put_exchange.specs.Taken.{turn_due, HasPutTaken}
+use Rattle.put_exchange.proofs.Words.{◌∙◌, inl, inr, refl, ap, sym, subst, length, min, ℕ, List, arith, get_or_read, told_window, planned_turns, source_in, Told, turns_ahead, plan_on, plan_turns, plan_windows, message_counts, messages_in, turn_due, HasPutTaken}
 use Rattle.put_exchange.proofs.ServeLaws.{next_turn, served_begin, served_next, served_end}
 use Rattle.put_exchange.proofs.TakenLaws.{count_here, count_below}
 use Rattle.put_exchange.proofs.laying.lay_part.Goals as goal

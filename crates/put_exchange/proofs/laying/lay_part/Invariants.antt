@@ -1,11 +1,5 @@
 -- What is left to be served gives the whole, once the planned messages were taken.
-use Rattle.std.proofs.Common.{◌≡◌, ◌≤◌, drop, length, min}
-use Rattle.std.specs.Prelude.{IsErrOf}
-use Rattle.nc_outside.specs.Cause.{Rose}
-use Rattle.nc_outside.specs.declared.disk.DiskErr.TheVariants.{Failed}
-use Rattle.exchange_crew.specs.Plan.{planned_turns, source_in}
-use Rattle.exchange_crew.specs.Turns.{turns_ahead}
-use Rattle.put_exchange.specs.Sent.{message_counts}
+use Rattle.put_exchange.proofs.Words.{◌≡◌, ◌≤◌, drop, length, min, IsErrOf, Rose, Failed, planned_turns, source_in, turns_ahead, message_counts}
 use Rattle.put_exchange.proofs.ServeLaws.{IsServed}
 use Rattle.put_exchange.proofs.laying.lay_part.Given as goal
 

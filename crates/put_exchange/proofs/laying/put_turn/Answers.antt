@@ -1,18 +1,6 @@
 -- The hull as it is written is the old one with the bytes of what was taken.
-use Rattle.std.proofs.Common.{◌≡◌, ◌∙◌, ◌+◌, List, ap, length, rules, arith}
-use Rattle.std.proofs.lemmas.Grind.{common_steps}
+use Rattle.put_exchange.proofs.Words.{◌≡◌, ◌∙◌, ◌+◌, List, ap, length, rules, arith, common_steps, after, cell_of, clips_from, clips_within, told_window, window_told_by, window_refused_by, Owned, Cell, write_cells, moved_down, Source, cells_in, put_window, Carry, IsFilledBy, err_not_ok}
 use Rattle.std.specs.Prelude.{map}
-use Rattle.nc_outside.specs.Told.{after}
-use Rattle.overlay_laws.specs.Entries.{cell_of}
-use Rattle.overlay_laws.proofs.WindowLaws.{clips_from, clips_within}
-use Rattle.aggregator_rounds.specs.Pieces.{told_window}
-use Rattle.aggregator_rounds.proofs.RoundLaws.{window_told_by, window_refused_by}
-use Rattle.nc_base.specs.declared.plan.Owned.{Owned}
-use Rattle.serial_spec.specs.Said.{Cell, write_cells, moved_down}
-use Rattle.overlay_laws.specs.Entries.{Source}
-use Rattle.put_exchange.specs.Sent.{cells_in}
-use Rattle.put_exchange.specs.Taken.{put_window, Carry, IsFilledBy}
-use Rattle.exchange_crew.proofs.BackLaws.{err_not_ok}
 use Rattle.put_exchange.proofs.PutLaws.{told_kept, told_whole}
 use Rattle.put_exchange.proofs.laying.put_turn.Goals as goal
 

@@ -1,5 +1,5 @@
 -- One message more was laid.
-use Rattle.std.proofs.Common.{◌-◌, ◌∙◌, arith}
+use Rattle.put_exchange.proofs.Words.{◌-◌, ◌∙◌, arith}
 use Rattle.put_exchange.proofs.TakenLaws.{laid_more}
 use Rattle.put_exchange.proofs.laying.take_messages.Goals as goal
 

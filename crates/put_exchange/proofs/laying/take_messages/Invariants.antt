@@ -1,6 +1,5 @@
 -- The messages so far were laid.
-use Rattle.std.proofs.Common.{◌≡◌, ◌-◌, ◌≤◌, length}
-use Rattle.put_exchange.specs.Taken.{HasLaid}
+use Rattle.put_exchange.proofs.Words.{◌≡◌, ◌-◌, ◌≤◌, length, HasLaid}
 use Rattle.put_exchange.proofs.laying.take_messages.Given as goal
 
 abbrev pub invariant-messages : goal.invariant-messages

@@ -1,5 +1,5 @@
 -- Each piece lies in the hull.
-use Rattle.std.proofs.Common.{◌+◌}
+use Rattle.put_exchange.proofs.Words.{◌+◌}
 use Rattle.put_exchange.proofs.MessageLaws.{piece_from, piece_within}
 use Rattle.put_exchange.proofs.message.lay_pieces.Goals as goal
 

@@ -1,7 +1,5 @@
 -- The pieces so far were laid.
-use Rattle.std.proofs.Common.{◌≡◌, length, take}
-use Rattle.serial_spec.specs.Said.{write_cells, moved_down}
-use Rattle.put_exchange.specs.Sent.{cells_of}
+use Rattle.put_exchange.proofs.Words.{◌≡◌, length, take, write_cells, moved_down, cells_of}
 use Rattle.put_exchange.proofs.message.lay_pieces.Given as goal
 
 abbrev pub invariant-loop-piece : goal.invariant-loop-piece

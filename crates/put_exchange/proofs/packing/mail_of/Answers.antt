@@ -1,14 +1,5 @@
 -- One window more.
-use Rattle.std.proofs.Common.{◌≡◌, ◌<◌, ◌≤◌, List, subst, sym, length, min, rules, arith}
-use Rattle.std.proofs.lemmas.Grind.{common_steps}
-use Rattle.nc_base.specs.declared.plan.Batch.{Batch}
-use Rattle.nc_base.specs.declared.plan.Owned.{Owned}
-use Rattle.overlay_laws.specs.Entries.{In}
-use Rattle.exchange_crew.specs.Pieces.{ArePieces}
-use Rattle.aggregator_rounds.specs.Pieces.{told_window}
-use Rattle.exchange_crew.specs.Plan.{planned_turns, source_in}
-use Rattle.exchange_crew.specs.Turns.{source_of}
-use Rattle.put_exchange.specs.Sent.{messages_in}
+use Rattle.put_exchange.proofs.Words.{◌≡◌, ◌<◌, ◌≤◌, List, subst, sym, length, min, rules, arith, common_steps, Batch, Owned, In, ArePieces, told_window, planned_turns, source_in, source_of, messages_in}
 use Rattle.put_exchange.proofs.MailLaws.{packing_begin, packing_end, packing_next, packing_now}
 use Rattle.put_exchange.proofs.packing.mail_of.Goals as goal
 

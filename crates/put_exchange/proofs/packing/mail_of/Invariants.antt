@@ -1,7 +1,5 @@
 -- What was packed and what is left of the windows are the whole.
-use Rattle.std.proofs.Common.{length, min}
-use Rattle.exchange_crew.specs.Plan.{planned_turns, source_in}
-use Rattle.exchange_crew.specs.Turns.{turns_ahead}
+use Rattle.put_exchange.proofs.Words.{length, min, planned_turns, source_in, turns_ahead}
 use Rattle.put_exchange.proofs.MailLaws.{IsPacking}
 use Rattle.put_exchange.proofs.packing.mail_of.Given as goal
 

@@ -1,9 +1,5 @@
 -- Those are kept that have a piece.
-use Rattle.std.proofs.Common.{◌∙◌, List, ap, rules}
-use Rattle.std.specs.Prelude.{filter}
-use Rattle.std.proofs.lemmas.Fn.{filter_same}
-use Rattle.std.proofs.lemmas.List.{with_items_is}
-use Rattle.put_exchange.specs.Sent.{has_pieces, Sent}
+use Rattle.put_exchange.proofs.Words.{◌∙◌, List, ap, rules, filter, filter_same, with_items_is, has_pieces, Sent}
 use Rattle.put_exchange.proofs.packing.messages_of.Goals as goal
 
 pub returns : goal.returns

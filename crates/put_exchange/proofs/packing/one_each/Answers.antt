@@ -1,8 +1,5 @@
 -- One rank more.
-use Rattle.std.proofs.Common.{◌∙◌, ◌++◌, ◌∷◌, [], ◌+◌, List, ap, sym, length, rules, arith}
-use Rattle.std.proofs.lemmas.Grind.{common_steps}
-use Rattle.std.proofs.lemmas.List.{length-append}
-use Rattle.put_exchange.specs.Sent.{sent, Sent}
+use Rattle.put_exchange.proofs.Words.{◌∙◌, ◌++◌, ◌∷◌, [], ◌+◌, List, ap, sym, length, rules, arith, common_steps, length-append, sent, Sent}
 use Rattle.put_exchange.proofs.PackLaws.{map_push}
 use Rattle.put_exchange.proofs.packing.one_each.Goals as goal
 

@@ -1,7 +1,5 @@
 -- One for each rank so far.
-use Rattle.std.proofs.Common.{◌≡◌, [], length, map, vec_capacity}
-use Rattle.std.specs.List.{range_with_len}
-use Rattle.put_exchange.specs.Sent.{sent}
+use Rattle.put_exchange.proofs.Words.{◌≡◌, [], length, map, vec_capacity, range_with_len, sent}
 use Rattle.put_exchange.proofs.packing.one_each.Given as goal
 
 abbrev pub invariant-loop-rank : goal.invariant-loop-rank

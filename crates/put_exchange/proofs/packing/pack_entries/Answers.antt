@@ -1,12 +1,5 @@
 -- One entry more.
-use Rattle.std.proofs.Common.{◌∙◌, ap, sym, length, take, get_or, set, arith}
-use Rattle.nc_base.specs.declared.plan.Extent.{Extent}
-use Rattle.nc_base.specs.declared.plan.Owned.{Owned}
-use Rattle.overlay_laws.proofs.Members.{entry_in}
-use Rattle.aggregator_rounds.specs.Pieces.{told_window}
-use Rattle.aggregator_rounds.proofs.SplitSteps.{entry_ends}
-use Rattle.exchange_crew.specs.Turns.{source_of}
-use Rattle.put_exchange.specs.Sent.{Sent}
+use Rattle.put_exchange.proofs.Words.{◌∙◌, ap, sym, length, take, get_or, set, arith, Extent, Owned, entry_in, told_window, entry_ends, source_of, Sent}
 use Rattle.put_exchange.proofs.PackLaws.{entry_kept, entry_packed, hull_at, messages_long}
 use Rattle.put_exchange.proofs.packing.pack_entries.Goals as goal
 use Rattle.put_exchange.proofs.packing.pack_entries.Goals.{then-has_piece+in_ok-push, else-has_piece}

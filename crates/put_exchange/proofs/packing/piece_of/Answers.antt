@@ -1,8 +1,5 @@
 -- The part that is cut out is the entry's cell in the hull.
-use Rattle.std.proofs.Common.{◌+◌, ap, List, ℕ, drop, length, arith}
-use Rattle.std.proofs.lemmas.List.{length-take}
-use Rattle.aggregator_rounds.proofs.PartSteps.{part_high}
-use Rattle.exchange_crew.specs.Turns.{source_of}
+use Rattle.put_exchange.proofs.Words.{◌+◌, ap, List, ℕ, drop, length, arith, length-take, part_high, source_of}
 use Rattle.put_exchange.proofs.PackLaws.{cut_clip}
 use Rattle.put_exchange.proofs.packing.piece_of.Goals as goal
 

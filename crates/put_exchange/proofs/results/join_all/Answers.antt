@@ -1,15 +1,5 @@
 -- One helper more was joined.
-use Rattle.std.proofs.Common.{◌∙◌, ◌++◌, ◌∷◌, [], inl, inr, sym, ap, subst, append_assoc, Result}
-use Rattle.std.specs.Prelude.{IsErrOf, IsOk, OnOk}
-use Rattle.nc_outside.specs.Cause.{Rose}
-use Rattle.nc_outside.specs.declared.disk.DiskErr.{DiskErr}
-use Rattle.nc_outside.specs.declared.disk.DiskErr.TheVariants.{Failed}
-use Rattle.exchange_crew.specs.Plan.{planned_turns, source_in}
-use Rattle.exchange_crew.specs.Parts.{part_state}
-use Rattle.put_exchange.specs.Put.{HasPut}
-use Rattle.put_exchange.specs.Workers.{domain_of, part_of}
-use Rattle.put_exchange.specs.declared.starting.Worker.{Worker}
-use Rattle.exchange_crew.proofs.BackLaws.{and_failed, and_first_ok, and_second_ok, back_more, both_long, failed_more, middle_in}
+use Rattle.put_exchange.proofs.Words.{◌∙◌, ◌++◌, ◌∷◌, [], inl, inr, sym, ap, subst, append_assoc, Result, IsErrOf, IsOk, OnOk, Rose, DiskErr, Failed, planned_turns, source_in, part_state, HasPut, domain_of, part_of, Worker, and_failed, and_first_ok, and_second_ok, back_more, both_long, failed_more, middle_in}
 use Rattle.put_exchange.proofs.PutLaws.{put_later}
 use Rattle.put_exchange.proofs.results.join_all.Goals as goal
 

@@ -1,13 +1,5 @@
 -- The parts of the helpers so far came back.
-use Rattle.std.proofs.Common.{◌≡◌, ◌++◌, length, vec_capacity}
-use Rattle.std.specs.Prelude.{IsErrOf}
-use Rattle.std.specs.List.{AllZip}
-use Rattle.nc_outside.specs.Cause.{Rose}
-use Rattle.nc_outside.specs.declared.disk.DiskErr.TheVariants.{Failed}
-use Rattle.exchange_crew.specs.Plan.{planned_turns, source_in}
-use Rattle.exchange_crew.specs.Parts.{part_state, SomeZip}
-use Rattle.put_exchange.specs.Put.{HasPut}
-use Rattle.put_exchange.specs.Workers.{domain_of, part_of}
+use Rattle.put_exchange.proofs.Words.{◌≡◌, ◌++◌, length, vec_capacity, IsErrOf, AllZip, Rose, Failed, planned_turns, source_in, part_state, SomeZip, HasPut, domain_of, part_of}
 use Rattle.put_exchange.proofs.results.join_all.Given as goal
 
 abbrev pub invariant-loop-worker : goal.invariant-loop-worker

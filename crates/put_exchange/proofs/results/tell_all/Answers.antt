@@ -1,8 +1,5 @@
 -- One helper more was told.
-use Rattle.std.proofs.Common.{refl, sym, ◌∙◌, get_or, length-set, arith}
-use Rattle.std.proofs.lemmas.Option.{slice_get-get_or, slice_get_within}
-use Rattle.list_laws.proofs.Places.{each_more, left_more}
-use Rattle.put_exchange.specs.Workers.{IsToldToGo}
+use Rattle.put_exchange.proofs.Words.{refl, sym, ◌∙◌, get_or, length-set, arith, slice_get-get_or, slice_get_within, each_more, left_more, IsToldToGo}
 use Rattle.put_exchange.proofs.results.tell_all.Goals as goal
 
 pub loop-worker-preserved : goal.loop-worker-preserved

@@ -1,8 +1,5 @@
 -- The helpers so far were told, and the others are as they were.
-use Rattle.std.proofs.Common.{◌≡◌, ℕ, ◌<◌, ◌≤◌, length, Some}
-use Rattle.std.specs.Prelude.{slice_get}
-use Rattle.put_exchange.specs.Workers.{IsToldToGo}
-use Rattle.put_exchange.specs.declared.starting.Worker.{Worker}
+use Rattle.put_exchange.proofs.Words.{◌≡◌, ℕ, ◌<◌, ◌≤◌, length, Some, slice_get, IsToldToGo, Worker}
 use Rattle.put_exchange.proofs.results.tell_all.Given as goal
 
 abbrev pub invariant-loop-worker : goal.invariant-loop-worker

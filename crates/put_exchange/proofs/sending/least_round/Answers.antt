@@ -1,11 +1,5 @@
 -- One part more.
-use Rattle.std.proofs.Common.{◌≡◌, ◌∙◌, ℕ, ◌+◌, ◌<◌, ◌≤◌, min, [], List, refl, sym, ap, subst, Bool, true, false, inl, inr, ◌⊎◌, Option, Some, None, ◌∷◌, length, get_or, arith}
-use Rattle.std.proofs.lemmas.Bool.Decides.{nat_tests}
-use Rattle.std.proofs.lemmas.Option.{same_Some, slice_get-get_or, slice_get_within}
-use Rattle.std.specs.Prelude.{nat_lt, slice_get, IfSome, IfNone}
-use Rattle.put_exchange.specs.Feeds.{earlier_of, next_round_of, number_of, HasRound, IsNotBefore}
-use Rattle.put_exchange.specs.declared.packing.Round.{Round}
-use Rattle.put_exchange.specs.declared.starting.Worker.{Worker}
+use Rattle.put_exchange.proofs.Words.{◌≡◌, ◌∙◌, ℕ, ◌+◌, ◌<◌, ◌≤◌, min, [], List, refl, sym, ap, subst, Bool, true, false, inl, inr, ◌⊎◌, Option, Some, None, ◌∷◌, length, get_or, arith, nat_tests, same_Some, slice_get-get_or, slice_get_within, nat_lt, slice_get, IfSome, IfNone, earlier_of, next_round_of, number_of, HasRound, IsNotBefore, Round, Worker}
 use Rattle.put_exchange.proofs.RoundLaws.{earlier_none, earlier_second, earlier_some}
 use Rattle.put_exchange.proofs.sending.least_round.Goals as goal
 

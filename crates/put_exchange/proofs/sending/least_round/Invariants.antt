@@ -1,8 +1,5 @@
 -- Of the parts so far.
-use Rattle.std.proofs.Common.{◌≡◌, ℕ, ◌<◌, [], Some}
-use Rattle.std.specs.Prelude.{slice_get, IfSome, IfNone}
-use Rattle.put_exchange.specs.Feeds.{HasRound, IsNotBefore}
-use Rattle.put_exchange.specs.declared.starting.Worker.{Worker}
+use Rattle.put_exchange.proofs.Words.{◌≡◌, ℕ, ◌<◌, [], Some, slice_get, IfSome, IfNone, HasRound, IsNotBefore, Worker}
 use Rattle.put_exchange.proofs.sending.least_round.Given as goal
 
 abbrev pub invariant-loop-worker : goal.invariant-loop-worker

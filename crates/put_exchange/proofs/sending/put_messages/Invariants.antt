@@ -1,5 +1,5 @@
 -- The messages so far were put.
-use Rattle.std.proofs.Common.{◌≡◌, ◌++◌}
+use Rattle.put_exchange.proofs.Words.{◌≡◌, ◌++◌}
 use Rattle.put_exchange.proofs.sending.put_messages.Given as goal
 
 abbrev pub invariant-loop-message : goal.invariant-loop-message

@@ -1,9 +1,5 @@
 -- One round was sent.
-use Rattle.std.proofs.Common.{◌∙◌}
-use Rattle.put_exchange.specs.Feeds.{HasSent, HaveFed}
-use Rattle.put_exchange.specs.declared.sending.Feed.{Feed}
-use Rattle.put_exchange.specs.declared.starting.Worker.{Worker}
-use Rattle.exchange_crew.proofs.OneChanged.{each_twice}
+use Rattle.put_exchange.proofs.Words.{◌∙◌, HasSent, HaveFed, Feed, Worker, each_twice}
 use Rattle.put_exchange.proofs.sending.send_all.Goals as goal
 
 fed_twice : (a b c : Feed) → HaveFed a b → HaveFed b c → HaveFed a c

@@ -1,8 +1,5 @@
 -- What was put and what is left of each part are what was to be put.
-use Rattle.std.proofs.Common.{◌≡◌, ℕ, length, Some}
-use Rattle.std.specs.Prelude.{slice_get}
-use Rattle.put_exchange.specs.Feeds.{rounds_in, HasSent}
-use Rattle.put_exchange.specs.declared.starting.Worker.{Worker}
+use Rattle.put_exchange.proofs.Words.{◌≡◌, ℕ, length, Some, slice_get, rounds_in, HasSent, Worker}
 use Rattle.put_exchange.proofs.sending.send_all.Given as goal
 
 abbrev pub invariant-rounds : goal.invariant-rounds

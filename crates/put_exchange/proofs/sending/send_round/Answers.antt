@@ -1,13 +1,5 @@
 -- One part more.
-use Rattle.std.proofs.Common.{◌≡◌, ℕ, ◌+◌, ◌<◌, ◌≤◌, refl, sym, ◌∙◌, ap, List, get_or, length, set, length-set, Bool, true, false, Some, arith}
-use Rattle.std.proofs.lemmas.Bool.Decides.{nat_tests}
-use Rattle.std.proofs.lemmas.Option.{same_Some, slice_get-get_or, slice_get_within}
-use Rattle.std.specs.Prelude.{nat_lt, slice_get}
-use Rattle.list_laws.proofs.Places.{each_more, left_more}
-use Rattle.put_exchange.specs.Feeds.{next_round_of, rounds_in, HasSent}
-use Rattle.put_exchange.specs.declared.packing.Round.{Round}
-use Rattle.put_exchange.specs.declared.starting.Worker.{Worker}
-use Rattle.exchange_crew.proofs.OneChanged.{fewer_all, no_more_all}
+use Rattle.put_exchange.proofs.Words.{◌≡◌, ℕ, ◌+◌, ◌<◌, ◌≤◌, refl, sym, ◌∙◌, ap, List, get_or, length, set, length-set, Bool, true, false, Some, arith, nat_tests, same_Some, slice_get-get_or, slice_get_within, nat_lt, slice_get, each_more, left_more, next_round_of, rounds_in, HasSent, Round, Worker, fewer_all, no_more_all}
 use Rattle.put_exchange.proofs.sending.send_round.Goals as goal
 
 -- the parts so far, or the one whose messages were sent, have a round fewer

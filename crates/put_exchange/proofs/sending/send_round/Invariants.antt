@@ -1,8 +1,5 @@
 -- Messages of the parts so far were sent, and the others are as they were.
-use Rattle.std.proofs.Common.{◌≡◌, ℕ, ◌<◌, ◌≤◌, length, Some}
-use Rattle.std.specs.Prelude.{slice_get}
-use Rattle.put_exchange.specs.Feeds.{next_round_of, rounds_in, HasSent}
-use Rattle.put_exchange.specs.declared.starting.Worker.{Worker}
+use Rattle.put_exchange.proofs.Words.{◌≡◌, ℕ, ◌<◌, ◌≤◌, length, Some, slice_get, next_round_of, rounds_in, HasSent, Worker}
 use Rattle.put_exchange.proofs.sending.send_round.Given as goal
 
 abbrev pub invariant-loop-worker : goal.invariant-loop-worker

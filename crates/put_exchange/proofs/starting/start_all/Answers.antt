@@ -1,13 +1,5 @@
 -- One part more.
-use Rattle.std.proofs.Common.{◌≡◌, ◌<◌, ◌∙◌, ◌++◌, ◌∷◌, [], sym, ap, length, append_assoc, rules, arith}
-use Rattle.std.proofs.lemmas.Option.{slice_get_within}
-use Rattle.std.proofs.lemmas.List.{nil_from_length}
-use Rattle.std.proofs.lemmas.Grind.{common_steps}
-use Rattle.nc_base.specs.declared.plan.Extent.{Extent}
-use Rattle.put_exchange.specs.Workers.{domain_of, part_of, IsFresh}
-use Rattle.list_laws.proofs.Places.{middle_at}
-use Rattle.exchange_crew.proofs.BackLaws.{at_index}
-use Rattle.exchange_crew.proofs.CrewLaws.{crew_domains, crew_each, crew_parts, workers_few}
+use Rattle.put_exchange.proofs.Words.{◌≡◌, ◌<◌, ◌∙◌, ◌++◌, ◌∷◌, [], sym, ap, length, append_assoc, rules, arith, slice_get_within, nil_from_length, common_steps, Extent, domain_of, part_of, IsFresh, middle_at, at_index, crew_domains, crew_each, crew_parts, workers_few}
 use Rattle.put_exchange.proofs.starting.start_all.Goals as goal
 
 abbrev none : Extent

@@ -1,8 +1,5 @@
 -- A helper was started for each part so far, or the part is among the rest.
-use Rattle.std.proofs.Common.{◌≡◌, ◌++◌, length, map, take, vec_capacity}
-use Rattle.overlay_laws.specs.Entries.{In}
-use Rattle.put_exchange.specs.Workers.{domain_of, part_of, IsFresh}
-use Rattle.put_exchange.specs.declared.starting.Worker.{Worker}
+use Rattle.put_exchange.proofs.Words.{◌≡◌, ◌++◌, length, map, take, vec_capacity, In, domain_of, part_of, IsFresh, Worker}
 use Rattle.put_exchange.proofs.starting.start_all.Given as goal
 
 abbrev pub invariant-loop-part : goal.invariant-loop-part

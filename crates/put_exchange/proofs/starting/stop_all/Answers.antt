@@ -1,6 +1,5 @@
 -- Each helper was told nothing yet.
-use Rattle.std.proofs.Common.{◌∙◌, ◌++◌, sym, ap}
-use Rattle.exchange_crew.proofs.BackLaws.{middle_in}
+use Rattle.put_exchange.proofs.Words.{◌∙◌, ◌++◌, sym, ap, middle_in}
 use Rattle.put_exchange.proofs.starting.stop_all.Goals as goal
 
 pub stop_one-requires-clause-of : goal.stop_one-requires-clause-of

@@ -1,6 +1,5 @@
 -- The parts of the helpers so far came back.
-use Rattle.std.proofs.Common.{◌≡◌, ◌++◌, map, vec_capacity}
-use Rattle.put_exchange.specs.Workers.{part_of}
+use Rattle.put_exchange.proofs.Words.{◌≡◌, ◌++◌, map, vec_capacity, part_of}
 use Rattle.put_exchange.proofs.starting.stop_all.Given as goal
 
 abbrev pub invariant-loop-worker : goal.invariant-loop-worker

@@ -1,9 +1,6 @@
 -- Each blob so far is as long as its get asks for.
-use Rattle.std.proofs.Common.{◌≡◌, ◌<◌, ◌∙◌, ap, sym, List, ℕ, length, map, take, arith}
-use Rattle.std.proofs.Math.Seq.{take-length}
+use Rattle.rank_core.proofs.Words.{◌≡◌, ◌<◌, ◌∙◌, ap, sym, List, ℕ, length, map, take, arith, take-length, read_in, wanted}
 use Rattle.nc_base.specs.declared.request.Direction.TheVariants as way
-use Rattle.overlay_laws.proofs.Members.{read_in}
-use Rattle.serial_spec.specs.RankSide.{wanted}
 use Rattle.rank_core.proofs.FittingLaws.{are_same, not_same, same_more}
 use Rattle.rank_core.proofs.HeardLaws.{same_at}
 use Rattle.rank_core.proofs.fit.are_as_long.Goals as goal

@@ -1,5 +1,4 @@
-use Rattle.std.proofs.Common.{◌≡◌, map, length, take}
-use Rattle.serial_spec.specs.RankSide.{wanted}
+use Rattle.rank_core.proofs.Words.{◌≡◌, map, length, take, wanted}
 use Rattle.rank_core.proofs.fit.are_as_long.Given as goal
 
 abbrev pub invariant-loop-index : goal.invariant-loop-index

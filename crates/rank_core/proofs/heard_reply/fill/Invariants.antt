@@ -1,12 +1,4 @@
-use Rattle.std.proofs.Common.{◌≡◌, map, true}
-use Rattle.std.specs.Ordering.{nat_cmp}
-use Rattle.std.specs.BTreeMap.{get}
-use Rattle.std.specs.Vec.Iter.{into_iter_items}
-use Rattle.nc_base.specs.declared.answer.Item.{Item}
-use Rattle.overlay_laws.specs.Entries.{In}
-use Rattle.serial_spec.specs.RegionCheck.{is_ok_code}
-use Rattle.rank_core.specs.Heard.{filled_by}
-use Rattle.rank_core.specs.Requests.{AreOnce}
+use Rattle.rank_core.proofs.Words.{◌≡◌, map, true, nat_cmp, get, into_iter_items, Item, In, is_ok_code, filled_by, AreOnce}
 use Rattle.rank_core.proofs.heard_reply.fill.Given as goal
 
 abbrev pub invariant-loop-item : goal.invariant-loop-item

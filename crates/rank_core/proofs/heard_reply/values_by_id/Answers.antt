@@ -1,10 +1,4 @@
-use Rattle.std.proofs.Common.{◌≡◌, ◌+◌, ◌<◌, ◌∙◌, ℕ, ap, sym, refl, List, [], ◌∷◌, length, drop, zip, Option, Some, arith}
-use Rattle.std.specs.Ordering.{nat_cmp}
-use Rattle.std.specs.BTreeMap.{get}
-use Rattle.overlay_laws.proofs.Members.{read_in}
-use Rattle.nc_base.specs.declared.request.Values.{Values}
-use Rattle.serial_spec.specs.RankMachine.{got_values, values_for}
-use Rattle.serial_spec.specs.RankSide.{wanted}
+use Rattle.rank_core.proofs.Words.{◌≡◌, ◌+◌, ◌<◌, ◌∙◌, ℕ, ap, sym, refl, List, [], ◌∷◌, length, drop, zip, Option, Some, arith, nat_cmp, get, read_in, Values, got_values, values_for, wanted}
 use Rattle.rank_core.proofs.HeardLaws.{shape, followed, added, added_next, got_more, got_shape, shapes_next, zip_next, same_at, same_long}
 use Rattle.rank_core.proofs.heard_reply.values_by_id.Goals as goal
 

@@ -1,7 +1,4 @@
-use Rattle.std.proofs.Common.{◌≡◌, ℕ, drop, zip}
-use Rattle.std.specs.Ordering.{nat_cmp}
-use Rattle.std.specs.BTreeMap.{get}
-use Rattle.serial_spec.specs.RankMachine.{got_values, values_for}
+use Rattle.rank_core.proofs.Words.{◌≡◌, ℕ, drop, zip, nat_cmp, get, got_values, values_for}
 use Rattle.rank_core.proofs.HeardLaws.{followed, HaveShapes}
 use Rattle.rank_core.proofs.heard_reply.values_by_id.Given as goal
 

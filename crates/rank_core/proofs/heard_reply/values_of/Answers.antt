@@ -1,10 +1,5 @@
-use Rattle.std.proofs.Common.{◌*◌, ◌∙◌, ap, sym, List, [], ◌∷◌, Option, Some, None, get_or}
-use Rattle.std.proofs.lemmas.Result.{IfOk-weaker}
-use Rattle.nc_base.specs.declared.header.Var.{Var}
+use Rattle.rank_core.proofs.Words.{◌*◌, ◌∙◌, ap, sym, List, [], ◌∷◌, Option, Some, None, get_or, IfOk-weaker, Var, Values, size_of, product}
 use Rattle.nc_base.specs.declared.request.Direction.TheVariants as way
-use Rattle.nc_base.specs.declared.request.Values.{Values}
-use Rattle.serial_spec.specs.ExternalForm.{size_of}
-use Rattle.serial_spec.specs.Layout.{product}
 use Rattle.rank_core.proofs.GetLaws.{mapped, there}
 use Rattle.rank_core.proofs.HeardLaws.{got_is}
 use Rattle.rank_core.proofs.heard_reply.values_of.Goals as goal

@@ -1,4 +1,4 @@
-use Rattle.std.specs.Option.{option_copied}
+use Rattle.rank_core.proofs.Words.{option_copied}
 use Rattle.rank_core.proofs.TargetLaws.{at_parts, at_region}
 use Rattle.rank_core.proofs.look.look_at.Goals as goal
 

@@ -1,6 +1,4 @@
-use Rattle.std.proofs.Common.{arith}
-use Rattle.std.proofs.lemmas.Grind.{common_steps}
-use Rattle.imap_extents.proofs.PositionLaws.{range_more}
+use Rattle.rank_core.proofs.Words.{arith, common_steps, range_more}
 use Rattle.rank_core.proofs.names.all_places.Goals as goal
 
 pub loop-place-preserved : goal.loop-place-preserved

@@ -1,8 +1,4 @@
-use Rattle.std.proofs.Common.{◌≡◌, ◌∙◌, sym, map, true, false, arith}
-use Rattle.std.specs.Prelude.{bytes_eq}
-use Rattle.std.proofs.lemmas.Bool.{both_ways}
-use Rattle.std.proofs.lemmas.List.{length-map}
-use Rattle.std.proofs.lemmas.Slice.Eq.{bytes_eq-Decides}
+use Rattle.rank_core.proofs.Words.{◌≡◌, ◌∙◌, sym, map, true, false, arith, bytes_eq, both_ways, length-map, bytes_eq-Decides}
 use Rattle.rank_core.proofs.NameLaws.{first_found, none_other, none_past, place_within}
 use Rattle.rank_core.proofs.names.first_named.Goals as goal
 

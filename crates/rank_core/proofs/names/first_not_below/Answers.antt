@@ -1,6 +1,4 @@
-use Rattle.std.proofs.Common.{map}
-use Rattle.std.proofs.lemmas.List.Sorted.{IsPartitionPoint-from_clause}
-use Rattle.rank_core.specs.Indexed.{is_below}
+use Rattle.rank_core.proofs.Words.{map, IsPartitionPoint-from_clause, is_below}
 use Rattle.rank_core.proofs.NameLaws.{partitioned}
 use Rattle.rank_core.proofs.names.first_not_below.Goals as goal
 

@@ -1,9 +1,4 @@
-use Rattle.std.proofs.Common.{◌∙◌, sym, ap, subst, List, ℕ, map}
-use Rattle.std.specs.List.{range_with_len}
-use Rattle.std.specs.List.Sorted.{IsPermutation}
-use Rattle.std.proofs.lemmas.List.{length-map, with_items_is}
-use Rattle.std.proofs.lemmas.List.Sorted.{length_permutation}
-use Rattle.rank_core.specs.Indexed.{IsInOrder}
+use Rattle.rank_core.proofs.Words.{◌∙◌, sym, ap, subst, List, ℕ, map, range_with_len, IsPermutation, length-map, with_items_is, length_permutation, IsInOrder}
 use Rattle.rank_core.proofs.names.in_order.Goals as goal
 
 pub returns : goal.returns

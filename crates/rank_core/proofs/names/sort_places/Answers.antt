@@ -1,7 +1,4 @@
-use Rattle.std.proofs.Common.{map, rules}
-use Rattle.std.specs.Ordering.{is_lt}
-use Rattle.std.proofs.lemmas.Fn.{always_returns_same}
-use Rattle.rank_core.specs.Indexed.{place_cmp}
+use Rattle.rank_core.proofs.Words.{map, rules, is_lt, always_returns_same, place_cmp}
 use Rattle.rank_core.proofs.NameLaws.{place_ranks}
 use Rattle.rank_core.proofs.names.sort_places.Goals as goal
 

@@ -1,11 +1,5 @@
-use Rattle.std.proofs.Common.{◌≡◌, ◌⊎◌, inl, inr, ℕ, Option, Some, List, length, sym, ap, subst, ◌∙◌}
-use Rattle.std.specs.Prelude.{IfErr}
-use Rattle.std.proofs.lemmas.Result.{err_from_is_err_and}
-use Rattle.nc_base.specs.declared.errors.RedefErr.{RedefErr}
+use Rattle.redef_mover.proofs.Words.{◌≡◌, ◌⊎◌, inl, inr, ℕ, Option, Some, List, length, sym, ap, subst, ◌∙◌, IfErr, err_from_is_err_and, RedefErr, redefined_fault, begins_by_number, with_begins, Place, pairs, capped_pairs, HasOneEach}
 use Rattle.nc_base.specs.declared.errors.RedefErr.TheVariants as fault
-use Rattle.serial_spec.specs.Redefinition.{redefined_fault, begins_by_number, with_begins}
-use Rattle.redef_mover.specs.declared.new_begins.Place.{Place}
-use Rattle.redef_mover.specs.NewBegins.{pairs, capped_pairs, HasOneEach}
 use Rattle.redef_mover.proofs.Written.{each_placed}
 use Rattle.redef_mover.proofs.Redefined.{fault_of_size, fault_of_begin, no_fault, length_kept}
 use Rattle.redef_mover.proofs.applied.apply.Goals as goal

@@ -1,6 +1,4 @@
-use Rattle.std.proofs.Common.{◌≡◌, ◌<◌, length, get_or, refl, arith}
-use Rattle.std.proofs.lemmas.List.{get_or_default}
-use Rattle.redef_mover.specs.declared.new_begins.Place.{Place}
+use Rattle.redef_mover.proofs.Words.{◌≡◌, ◌<◌, length, get_or, refl, arith, get_or_default, Place}
 use Rattle.redef_mover.proofs.Ranges.{place_inside}
 use Rattle.redef_mover.proofs.Written.{last_none, written_next, written_whole}
 use Rattle.redef_mover.proofs.begins.write_begins.Goals as goal

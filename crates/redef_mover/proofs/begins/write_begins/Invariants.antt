@@ -1,5 +1,4 @@
-use Rattle.std.proofs.Common.{◌≡◌, take}
-use Rattle.redef_mover.specs.NewBegins.{pairs}
+use Rattle.redef_mover.proofs.Words.{◌≡◌, take, pairs}
 use Rattle.redef_mover.proofs.Written.{with_last}
 use Rattle.redef_mover.proofs.begins.write_begins.Given as goal
 

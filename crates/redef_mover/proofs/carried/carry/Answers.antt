@@ -1,20 +1,11 @@
 -- The lists stand for all slabs, which rise below the new end.
-use Rattle.std.proofs.Common.{◌≡◌, ◌∙◌, ◌-◌, ◌≤◌, refl, subst, ap, length, List, ℕ, arith}
-use Rattle.std.proofs.lemmas.Result.{on_err_weaker, on_ok_weaker}
-use Rattle.serial_spec.specs.DeviceCalls.{Slab}
-use Rattle.serial_spec.specs.HeaderBytes.{header_len}
-use Rattle.overlay_laws.specs.Entries.{In}
-use Rattle.redef_laws.specs.RisingSlabs.{gaps, rising}
-use Rattle.redef_laws.specs.Shifted.{new_end}
-use Rattle.redef_mover.specs.Moves.{listed}
+use Rattle.redef_mover.proofs.Words.{◌≡◌, ◌∙◌, ◌-◌, ◌≤◌, refl, subst, ap, length, List, ℕ, arith, on_err_weaker, on_ok_weaker, Slab, header_len, In, gaps, rising, new_end, listed, IsBeside, IsUnmoved, on_err}
 use Rattle.redef_mover.proofs.CallsLaws.{carry_called}
 use Rattle.redef_mover.proofs.CutLaws.{not_begun, on_way_cleared, on_way_end, on_way_grown, on_way_headed, on_way_moved, room_grown, room_kept}
-use Rattle.redef_mover.specs.Kept.{IsBeside, IsUnmoved}
 use Rattle.redef_mover.proofs.CarryLaws.{carriable_spaced}
 use Rattle.redef_mover.proofs.ListedLaws.{risen_up}
 use Rattle.redef_mover.proofs.ToldSteps.{when_ok}
 use Rattle.redef_mover.proofs.carried.carry.Goals as goal
-use Rattle.list_laws.proofs.Results.{on_err}
 
 pub grow_to-requires-clause-below : goal.grow_to-requires-clause-below
 grow_to-requires-clause-below g c κs within =

@@ -1,6 +1,4 @@
-use Rattle.std.proofs.Common.{◌∙◌, List, sym, ap}
-use Rattle.nc_base.specs.declared.header.Attr.{Attr}
-use Rattle.serial_spec.specs.Redefinition.{has_attr}
+use Rattle.redef_mover.proofs.Words.{◌∙◌, List, sym, ap, Attr, has_attr}
 use Rattle.redef_mover.proofs.IndexLaws.{attrs_found, attrs_missing}
 use Rattle.redef_mover.proofs.extra_faults.has_var_attr.Goals as goal
 

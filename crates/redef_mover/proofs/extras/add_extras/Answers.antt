@@ -1,11 +1,5 @@
-use Rattle.std.proofs.Common.{◌≡◌, ◌≤◌, ◌⊎◌, inr, Some, List, length, get_or, fold, sym, ap, subst, ◌∙◌, arith}
-use Rattle.std.specs.Prelude.{IfErr}
-use Rattle.std.proofs.lemmas.Result.{err_from_is_err_and}
-use Rattle.nc_base.specs.declared.header.Header.{Header}
-use Rattle.nc_base.specs.declared.script.Extra.{Extra}
+use Rattle.redef_mover.proofs.Words.{◌≡◌, ◌≤◌, ◌⊎◌, inr, Some, List, length, get_or, fold, sym, ap, subst, ◌∙◌, arith, IfErr, err_from_is_err_and, Header, Extra, most_dims, with_extra, extras_from, extras_fault}
 use Rattle.nc_base.specs.declared.errors.RedefErr.TheVariants as redef
-use Rattle.serial_spec.specs.Limits.{most_dims}
-use Rattle.serial_spec.specs.Redefinition.{with_extra, extras_from, extras_fault}
 use Rattle.redef_mover.proofs.Additions.{added_next, added_stops, added_whole}
 use Rattle.redef_mover.proofs.extras.add_extras.Goals as goal
 

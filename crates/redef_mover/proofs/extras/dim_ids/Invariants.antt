@@ -1,5 +1,4 @@
-use Rattle.std.proofs.Common.{◌≡◌, take, map}
-use Rattle.serial_spec.specs.Redefinition.{dim_id}
+use Rattle.redef_mover.proofs.Words.{◌≡◌, take, map, dim_id}
 use Rattle.redef_mover.proofs.extras.dim_ids.Given as goal
 
 abbrev pub invariant-loop-name : goal.invariant-loop-name

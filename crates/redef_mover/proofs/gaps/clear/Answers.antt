@@ -1,16 +1,9 @@
 -- Each window goes on where the one before it ended.
-use Rattle.std.proofs.Common.{◌≡◌, ◌∙◌, ◌+◌, ◌-◌, ◌*◌, ◌<◌, ◌≤◌, min, refl, sym, ap, subst, ℕ, length, [], ◌∷◌, arith}
-use Rattle.nc_base.specs.declared.step.DiskCall.TheVariants.{Store}
-use Rattle.nc_outside.specs.Told.{after, with_end}
-use Rattle.serial_spec.specs.File.{written}
-use Rattle.redef_mover.specs.Kept.{IsOutside}
-use Rattle.redef_mover.specs.Moves.{cleared}
+use Rattle.redef_mover.proofs.Words.{◌≡◌, ◌∙◌, ◌+◌, ◌-◌, ◌*◌, ◌<◌, ◌≤◌, min, refl, sym, ap, subst, ℕ, length, [], ◌∷◌, arith, Store, after, with_end, written, IsOutside, cleared, calls_more, window_inside, windows_reach, stores_before, stores_more}
 use Rattle.redef_mover.proofs.KeptLaws.{first_kept, kept_long, kept_more, kept_written, outside_part}
 use Rattle.redef_mover.proofs.ClearLaws.{all_stored, window_cleared, window_zeros, zeros_count}
 use Rattle.redef_mover.proofs.ToldSteps.{told_more}
 use Rattle.redef_mover.proofs.gaps.clear.Goals as goal
-use Rattle.nc_outside.proofs.ToldLaws.{calls_more}
-use Rattle.overlay_laws.proofs.WindowCounts.{window_inside, windows_reach, stores_before, stores_more}
 
 pub loop-window-preserved : goal.loop-window-preserved
 loop-window-preserved g c =

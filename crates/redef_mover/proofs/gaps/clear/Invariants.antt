@@ -1,9 +1,6 @@
 -- The windows so far have zeros, and each was one store.
-use Rattle.std.proofs.Common.{◌≡◌, ◌*◌, ◌≤◌, min}
-use Rattle.nc_outside.specs.Told.{after, with_end}
-use Rattle.redef_mover.specs.Moves.{cleared}
+use Rattle.redef_mover.proofs.Words.{◌≡◌, ◌*◌, ◌≤◌, min, after, with_end, cleared, stores_before}
 use Rattle.redef_mover.proofs.gaps.clear.Given as goal
-use Rattle.overlay_laws.proofs.WindowCounts.{stores_before}
 
 abbrev pub invariant-loop-window : goal.invariant-loop-window
 invariant-loop-window g l = record {

@@ -1,10 +1,5 @@
 -- The first of the slabs that are left ends where the next gap begins.
-use Rattle.std.proofs.Common.{refl, ◌∙◌, ◌+◌, ◌-◌, ◌≤◌, sym, ap, length, List, get_or, drop, ℕ, arith}
-use Rattle.nc_outside.specs.Told.{after, with_end}
-use Rattle.serial_spec.specs.DeviceCalls.{Slab}
-use Rattle.redef_mover.specs.declared.slabs.Shift.{Shift}
-use Rattle.redef_mover.specs.Kept.{IsBeside, IsOutside}
-use Rattle.redef_mover.specs.Moves.{all_cleared, behind, further, gap_calls, gaps_before, slab_of}
+use Rattle.redef_mover.proofs.Words.{refl, ◌∙◌, ◌+◌, ◌-◌, ◌≤◌, sym, ap, length, List, get_or, drop, ℕ, arith, after, with_end, Slab, Shift, IsBeside, IsOutside, all_cleared, behind, further, gap_calls, gaps_before, slab_of}
 use Rattle.redef_mover.proofs.KeptLaws.{beside_first, beside_rest, kept_more, kept_still}
 use Rattle.redef_mover.proofs.ClearLaws.{first_clearable, left_cleared, left_stored, none_after, none_behind, none_uncleared, none_unstored, slabs_left}
 use Rattle.redef_mover.proofs.gaps.clear_before.Invariants.{left}

@@ -1,10 +1,5 @@
 -- The gaps before the slabs that are left, cleared as they are, give the whole.
-use Rattle.std.proofs.Common.{◌≡◌, ◌≤◌, drop, length, map, List, ℕ}
-use Rattle.nc_outside.specs.Told.{after, with_end, BothTold}
-use Rattle.redef_mover.specs.Kept.{IsBeside, IsKept}
-use Rattle.serial_spec.specs.DeviceCalls.{Slab}
-use Rattle.redef_mover.specs.declared.slabs.Shift.{Shift}
-use Rattle.redef_mover.specs.Moves.{all_cleared, behind, further, gap_calls, gaps_before, slab_of, AreClearable}
+use Rattle.redef_mover.proofs.Words.{◌≡◌, ◌≤◌, drop, length, map, List, ℕ, after, with_end, BothTold, IsBeside, IsKept, Slab, Shift, all_cleared, behind, further, gap_calls, gaps_before, slab_of, AreClearable}
 use Rattle.redef_mover.proofs.gaps.clear_before.Given as goal
 
 abbrev pub left : ℕ → ℕ → List Shift → List Slab

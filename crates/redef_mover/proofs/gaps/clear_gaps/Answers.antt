@@ -1,11 +1,5 @@
 -- The gaps of the fixed variables come first, then those of record after record, then the last one.
-use Rattle.std.proofs.Common.{◌∙◌, ◌+◌, ◌-◌, ◌≤◌, sym, refl, ap, length, List, ◌++◌, map, ℕ, arith}
-use Rattle.nc_outside.specs.Told.{after, with_end}
-use Rattle.redef_laws.specs.RisingSlabs.{gaps}
-use Rattle.serial_spec.specs.DeviceCalls.{Slab}
-use Rattle.redef_mover.specs.declared.slabs.Shift.{Shift}
-use Rattle.redef_mover.specs.Kept.{IsBeside, IsOutside}
-use Rattle.redef_mover.specs.Moves.{all_cleared, behind, further, gap_calls, gaps_before, listed, slab_of}
+use Rattle.redef_mover.proofs.Words.{◌∙◌, ◌+◌, ◌-◌, ◌≤◌, sym, refl, ap, length, List, ◌++◌, map, ℕ, arith, after, with_end, gaps, Slab, Shift, IsBeside, IsOutside, all_cleared, behind, further, gap_calls, gaps_before, listed, slab_of}
 use Rattle.redef_mover.proofs.KeptLaws.{beside_back, beside_front, kept_more, kept_of, last_beside}
 use Rattle.redef_mover.proofs.ClearLaws.{above, all_left_cleared, all_left_stored, fixed_first, front_clearable, gaps_on, next_record, spaced_on}
 use Rattle.redef_mover.proofs.gaps.clear_gaps.Goals as goal

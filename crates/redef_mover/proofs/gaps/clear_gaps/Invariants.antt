@@ -1,9 +1,5 @@
 -- The gaps between the slabs of the records that are left, cleared as they are, give the whole.
-use Rattle.std.proofs.Common.{◌≡◌, ◌≤◌, ℕ}
-use Rattle.nc_outside.specs.Told.{after, with_end, BothTold}
-use Rattle.redef_mover.specs.Kept.{IsBeside, IsKept}
-use Rattle.redef_laws.specs.RisingSlabs.{gaps}
-use Rattle.redef_mover.specs.Moves.{all_cleared, gap_calls, listed, AreSpaced}
+use Rattle.redef_mover.proofs.Words.{◌≡◌, ◌≤◌, ℕ, after, with_end, BothTold, IsBeside, IsKept, gaps, all_cleared, gap_calls, listed, AreSpaced}
 use Rattle.redef_mover.proofs.ClearLaws.{above}
 use Rattle.redef_mover.proofs.gaps.clear_gaps.Given as goal
 

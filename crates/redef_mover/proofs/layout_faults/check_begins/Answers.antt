@@ -1,13 +1,6 @@
-use Rattle.std.proofs.Common.{◌<◌, inr, Bool, true, false, List, length, get_or, sym, ap, ◌∙◌, arith}
-use Rattle.std.specs.Prelude.{option_map}
-use Rattle.std.specs.List.{enumerate_from}
-use Rattle.std.proofs.lemmas.List.{get_or_default, length-map}
-use Rattle.std.proofs.lemmas.List.FromFn.{length-enumerate_from}
+use Rattle.redef_mover.proofs.Words.{◌<◌, inr, Bool, true, false, List, length, get_or, sym, ap, ◌∙◌, arith, option_map, enumerate_from, get_or_default, length-map, length-enumerate_from, Numbered, Place, is_bad_var}
 use Rattle.nc_base.specs.declared.errors.LayoutErr.TheVariants as layout_fault
 use Rattle.nc_base.specs.declared.errors.RedefErr.TheVariants as fault
-use Rattle.serial_spec.specs.Redefinition.{Numbered}
-use Rattle.redef_mover.specs.declared.new_begins.Place.{Place}
-use Rattle.redef_mover.specs.Ranges.{is_bad_var}
 use Rattle.redef_mover.proofs.Ranges.{place_inside, bad_here, find_stops, find_goes_on, find_ends}
 use Rattle.redef_mover.proofs.layout_faults.check_begins.Goals as goal
 

@@ -1,5 +1,4 @@
-use Rattle.std.proofs.Common.{List, length, get_or, refl, ap, ◌∙◌, arith}
-use Rattle.nc_base.specs.declared.header.Var.{Var}
+use Rattle.redef_mover.proofs.Words.{List, length, get_or, refl, ap, ◌∙◌, arith, Var}
 use Rattle.redef_mover.proofs.Ranges.{ranged_next, ranged_whole}
 use Rattle.redef_mover.proofs.layout_faults.out_of_range.Goals as goal
 

@@ -1,13 +1,5 @@
 -- The last of the records that are left is moved; the fixed variables come last.
-use Rattle.std.proofs.Common.{◌≡◌, ◌∙◌, ◌+◌, ◌-◌, sym, refl, subst, ap, List, ◌++◌, map, ℕ, arith}
-use Rattle.std.specs.Prelude.{reverse}
-use Rattle.std.proofs.lemmas.Result.{on_ok_weaker}
-use Rattle.nc_outside.specs.Told.{after, with_end}
-use Rattle.serial_spec.specs.DeviceCalls.{Slab}
-use Rattle.overlay_laws.specs.Entries.{In}
-use Rattle.redef_mover.specs.declared.slabs.Shift.{Shift}
-use Rattle.redef_mover.specs.Kept.{IsUnmoved}
-use Rattle.redef_mover.specs.Moves.{all_calls, all_moved, further, listed, slab_of}
+use Rattle.redef_mover.proofs.Words.{◌≡◌, ◌∙◌, ◌+◌, ◌-◌, sym, refl, subst, ap, List, ◌++◌, map, ℕ, arith, reverse, on_ok_weaker, after, with_end, Slab, In, Shift, IsUnmoved, all_calls, all_moved, further, listed, slab_of}
 use Rattle.redef_mover.proofs.KeptLaws.{kept_more, kept_still, unmoved_of}
 use Rattle.redef_mover.proofs.MovesLaws.{below, fixed_last, fixed_listed, last_called, last_moved, left_called, left_moved, record_first, record_listed}
 use Rattle.redef_mover.proofs.moving.move_all.Goals as goal

@@ -1,9 +1,5 @@
 -- The slabs of the records that are left and of the fixed variables give the whole.
-use Rattle.std.proofs.Common.{◌≡◌, ◌≤◌}
-use Rattle.std.specs.Prelude.{reverse}
-use Rattle.nc_outside.specs.Told.{after, with_end, BothTold}
-use Rattle.redef_mover.specs.Kept.{IsKept, IsUnmoved}
-use Rattle.redef_mover.specs.Moves.{all_calls, all_moved, listed}
+use Rattle.redef_mover.proofs.Words.{◌≡◌, ◌≤◌, reverse, after, with_end, BothTold, IsKept, IsUnmoved, all_calls, all_moved, listed}
 use Rattle.redef_mover.proofs.MovesLaws.{below}
 use Rattle.redef_mover.proofs.moving.move_all.Given as goal
 

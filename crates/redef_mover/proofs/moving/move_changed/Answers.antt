@@ -1,7 +1,5 @@
 -- A slab that is moved changes its place.
-use Rattle.std.proofs.Common.{◌∷◌, []}
-use Rattle.redef_mover.specs.Kept.{IsOutside, IsUnmoved}
-use Rattle.redef_mover.specs.Moves.{slab_of}
+use Rattle.redef_mover.proofs.Words.{◌∷◌, [], IsOutside, IsUnmoved, slab_of}
 use Rattle.redef_mover.proofs.KeptLaws.{kept_of, outside_one}
 use Rattle.redef_mover.proofs.moving.move_changed.Goals as goal
 

@@ -1,14 +1,9 @@
 -- Each window goes on where the one above it ended.
-use Rattle.std.proofs.Common.{◌≡◌, ◌∙◌, ◌+◌, ◌*◌, ◌<◌, ◌≤◌, ap, ◌++◌, ℕ, arith}
-use Rattle.nc_outside.specs.Told.{with_end}
-use Rattle.redef_mover.specs.Kept.{IsOutside}
-use Rattle.redef_mover.specs.Moves.{slab_moved, slab_of, window_calls}
+use Rattle.redef_mover.proofs.Words.{◌≡◌, ◌∙◌, ◌+◌, ◌*◌, ◌<◌, ◌≤◌, ap, ◌++◌, ℕ, arith, with_end, IsOutside, slab_moved, slab_of, window_calls, calls_more, window_inside, windows_reach}
 use Rattle.redef_mover.proofs.KeptLaws.{kept_more, outside_window, upper_kept}
 use Rattle.redef_mover.proofs.ToldSteps.{told_end, told_more}
 use Rattle.redef_mover.proofs.WindowLaws.{all_called, calls_before, upper, whole_moved, window_called, window_moved}
 use Rattle.redef_mover.proofs.moving.move_slab.Goals as goal
-use Rattle.nc_outside.proofs.ToldLaws.{calls_more}
-use Rattle.overlay_laws.proofs.WindowCounts.{window_inside, windows_reach}
 
 pub loop-number-preserved : goal.loop-number-preserved
 loop-number-preserved g c =

@@ -1,7 +1,5 @@
 -- The windows so far are moved, each by one read and one write.
-use Rattle.std.proofs.Common.{◌≡◌, ◌≤◌}
-use Rattle.nc_outside.specs.Told.{after, with_end}
-use Rattle.redef_mover.specs.Moves.{slab_moved, slab_of}
+use Rattle.redef_mover.proofs.Words.{◌≡◌, ◌≤◌, after, with_end, slab_moved, slab_of}
 use Rattle.redef_mover.proofs.WindowLaws.{calls_before, upper}
 use Rattle.redef_mover.proofs.moving.move_slab.Given as goal
 

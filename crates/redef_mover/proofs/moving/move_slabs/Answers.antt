@@ -1,13 +1,6 @@
 -- The last of the slabs that are left is moved.
-use Rattle.std.proofs.Common.{◌≡◌, ◌∙◌, ◌+◌, ◌-◌, ◌<◌, sym, refl, subst, ap, length, List, [], ◌∷◌, get_or, map, take, ℕ, arith}
-use Rattle.std.specs.Prelude.{reverse}
+use Rattle.redef_mover.proofs.Words.{◌≡◌, ◌∙◌, ◌+◌, ◌-◌, ◌<◌, sym, refl, subst, ap, length, List, [], ◌∷◌, get_or, map, take, ℕ, arith, reverse, after, with_end, Slab, In, Shift, IsUnmoved, all_calls, all_moved, further, slab_of, IsMovable}
 use Rattle.std.proofs.Math.Seq.{take_all}
-use Rattle.nc_outside.specs.Told.{after, with_end}
-use Rattle.serial_spec.specs.DeviceCalls.{Slab}
-use Rattle.overlay_laws.specs.Entries.{In}
-use Rattle.redef_mover.specs.declared.slabs.Shift.{Shift}
-use Rattle.redef_mover.specs.Kept.{IsUnmoved}
-use Rattle.redef_mover.specs.Moves.{all_calls, all_moved, further, slab_of, IsMovable}
 use Rattle.redef_mover.proofs.KeptLaws.{kept_more, kept_still, unmoved_one}
 use Rattle.redef_mover.proofs.MovesLaws.{in_record, left_called, left_moved, none_left, none_uncalled, slab_first}
 use Rattle.redef_mover.proofs.moving.move_slabs.Goals as goal

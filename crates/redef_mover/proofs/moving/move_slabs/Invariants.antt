@@ -1,9 +1,5 @@
 -- The slabs that are left, moved as they are, give the whole.
-use Rattle.std.proofs.Common.{◌≡◌, ◌≤◌, map, take}
-use Rattle.std.specs.Prelude.{reverse}
-use Rattle.nc_outside.specs.Told.{after, with_end, BothTold}
-use Rattle.redef_mover.specs.Kept.{IsKept, IsUnmoved}
-use Rattle.redef_mover.specs.Moves.{all_calls, all_moved, further, slab_of}
+use Rattle.redef_mover.proofs.Words.{◌≡◌, ◌≤◌, map, take, reverse, after, with_end, BothTold, IsKept, IsUnmoved, all_calls, all_moved, further, slab_of}
 use Rattle.redef_mover.proofs.moving.move_slabs.Given as goal
 
 abbrev pub invariant-loop-k : goal.invariant-loop-k

@@ -1,9 +1,5 @@
 -- The bytes that are written are those that were read.
-use Rattle.std.proofs.Common.{◌≡◌, ◌∙◌, ◌-◌, length, arith}
-use Rattle.std.proofs.lemmas.List.{length-take}
-use Rattle.std.proofs.lemmas.Result.{on_ok_weaker}
-use Rattle.redef_mover.specs.Kept.{IsOutside}
-use Rattle.redef_mover.specs.Moves.{slab_of}
+use Rattle.redef_mover.proofs.Words.{◌≡◌, ◌∙◌, ◌-◌, length, arith, length-take, on_ok_weaker, IsOutside, slab_of}
 use Rattle.redef_mover.proofs.KeptLaws.{kept_same, kept_written}
 use Rattle.redef_mover.proofs.WindowLaws.{window_told}
 use Rattle.redef_mover.proofs.moving.move_window.Goals as goal

@@ -1,8 +1,4 @@
-use Rattle.std.proofs.Common.{◌∙◌, ◌+◌, ◌<◌, ◌||◌, ◌&&◌, List, ℕ, [], ◌∷◌, ◌++◌, length, take, bytes_eq, sym, ap, arith}
-use Rattle.std.proofs.lemmas.List.{take_more, take_all}
-use Rattle.nc_base.specs.declared.header.Attr.{Attr}
-use Rattle.serial_spec.specs.Redefinition.{has_attr}
-use Rattle.redef_mover.specs.Indexed.{has_name, is_same}
+use Rattle.redef_mover.proofs.Words.{◌∙◌, ◌+◌, ◌<◌, ◌||◌, ◌&&◌, List, ℕ, [], ◌∷◌, ◌++◌, length, take, bytes_eq, sym, ap, arith, take_more, take_all, Attr, has_attr, has_name, is_same}
 use Rattle.redef_mover.proofs.IndexLaws.{names_next, or_none}
 use Rattle.redef_mover.proofs.name_index.add_attrs.Goals as goal
 

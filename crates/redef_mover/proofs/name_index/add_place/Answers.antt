@@ -1,5 +1,5 @@
 use Rattle.redef_mover.proofs.IndexLaws.{absent, put_new}
-use Rattle.redef_mover.specs.Indexed.{place_of}
+use Rattle.redef_mover.proofs.Words.{place_of}
 use Rattle.redef_mover.proofs.name_index.add_place.Goals as goal
 
 pub returns-in_ok-insert : goal.returns-in_ok-insert

@@ -1,9 +1,4 @@
-use Rattle.std.proofs.Common.{◌∙◌, ◌+◌, ◌<◌, ◌||◌, ◌&&◌, List, None, get_or, Some, [], ◌∷◌, ◌++◌, length, take, sym, ap, arith}
-use Rattle.std.proofs.lemmas.List.{take_more, take_all, length-take-le}
-use Rattle.nc_base.specs.declared.header.Attr.{Attr}
-use Rattle.nc_base.specs.declared.header.Var.{Var}
-use Rattle.serial_spec.specs.Redefinition.{has_attr}
-use Rattle.redef_mover.specs.Indexed.{attrs_among, has_name, is_same}
+use Rattle.redef_mover.proofs.Words.{◌∙◌, ◌+◌, ◌<◌, ◌||◌, ◌&&◌, List, None, get_or, Some, [], ◌∷◌, ◌++◌, length, take, sym, ap, arith, take_more, take_all, length-take-le, Attr, Var, has_attr, attrs_among, has_name, is_same}
 use Rattle.redef_mover.proofs.IndexLaws.{owners_next, owners_none}
 use Rattle.redef_mover.proofs.name_index.attr_names.Goals as goal
 

@@ -1,6 +1,4 @@
-use Rattle.std.proofs.Common.{◌≡◌, List, ℕ, Option, take}
-use Rattle.serial_spec.specs.Redefinition.{has_attr}
-use Rattle.redef_mover.specs.Indexed.{has_name, attrs_among}
+use Rattle.redef_mover.proofs.Words.{◌≡◌, List, ℕ, Option, take, has_attr, has_name, attrs_among}
 use Rattle.redef_mover.proofs.name_index.attr_names.Given as goal
 
 abbrev pub invariant-loop-place : goal.invariant-loop-place

@@ -1,7 +1,4 @@
-use Rattle.std.proofs.Common.{◌≡◌, ◌∙◌, ◌+◌, ◌<◌, List, ℕ, [], ◌∷◌, ◌++◌, length, take, get_or, cond, bytes_eq, Some, None, sym, ap, arith}
-use Rattle.std.proofs.lemmas.List.{take_more, length-take-le}
-use Rattle.std.specs.Option.{option_or}
-use Rattle.redef_mover.specs.Indexed.{place_of}
+use Rattle.redef_mover.proofs.Words.{◌≡◌, ◌∙◌, ◌+◌, ◌<◌, List, ℕ, [], ◌∷◌, ◌++◌, length, take, get_or, cond, bytes_eq, Some, None, sym, ap, arith, take_more, length-take-le, option_or, place_of}
 use Rattle.redef_mover.proofs.IndexLaws.{places_next}
 use Rattle.redef_mover.proofs.name_index.first_places.Goals as goal
 

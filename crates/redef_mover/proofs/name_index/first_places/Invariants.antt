@@ -1,5 +1,4 @@
-use Rattle.std.proofs.Common.{◌≡◌, List, ℕ, take, position, bytes_eq}
-use Rattle.redef_mover.specs.Indexed.{place_of}
+use Rattle.redef_mover.proofs.Words.{◌≡◌, List, ℕ, take, position, bytes_eq, place_of}
 use Rattle.redef_mover.proofs.name_index.first_places.Given as goal
 
 abbrev pub invariant-loop-place : goal.invariant-loop-place

@@ -1,10 +1,4 @@
-use Rattle.std.proofs.Common.{◌++◌, List, length, map, sym, ap, ◌∙◌}
-use Rattle.std.proofs.lemmas.List.{map-append}
-use Rattle.serial_spec.specs.Redefinition.{by_begin}
-use Rattle.redef_mover.specs.declared.new_begins.NumberedVar.{NumberedVar}
-use Rattle.redef_mover.specs.declared.new_begins.Side.TheVariants.{Old, New}
-use Rattle.redef_mover.specs.NewBegins.{fixed_var, fixed_at, in_order}
-use Rattle.list_laws.proofs.Refills.{refilled}
+use Rattle.redef_mover.proofs.Words.{◌++◌, List, length, map, sym, ap, ◌∙◌, map-append, by_begin, NumberedVar, Old, New, fixed_var, fixed_at, in_order, refilled}
 use Rattle.redef_mover.proofs.Sorting.{sorted_map}
 use Rattle.redef_mover.proofs.new_begins.fixed_order.Goals as goal
 

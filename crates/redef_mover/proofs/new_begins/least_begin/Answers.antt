@@ -1,10 +1,4 @@
-use Rattle.std.proofs.Common.{◌<◌, List, length, get_or, map, sym, ap, ◌∙◌, arith}
-use Rattle.nc_base.specs.declared.header.Var.{Var}
-use Rattle.serial_spec.specs.Layout.{is_record}
-use Rattle.serial_spec.specs.SharedByte.{least}
-use Rattle.serial_spec.specs.Redefinition.{Numbered}
-use Rattle.redef_mover.specs.declared.new_begins.Side.TheVariants.{Old}
-use Rattle.redef_mover.specs.NewBegins.{on_side}
+use Rattle.redef_mover.proofs.Words.{◌<◌, List, length, get_or, map, sym, ap, ◌∙◌, arith, Var, is_record, least, Numbered, Old, on_side}
 use Rattle.redef_mover.proofs.Places.{least_more, chosen_same, chosen_all}
 use Rattle.redef_mover.proofs.new_begins.least_begin.Goals as goal
 use Rattle.redef_mover.proofs.new_begins.least_begin.Goals.{then-is_record_at, else-is_record_at}

@@ -1,7 +1,4 @@
-use Rattle.std.proofs.Common.{◌≡◌, map}
-use Rattle.serial_spec.specs.SharedByte.{least}
-use Rattle.serial_spec.specs.Redefinition.{Numbered}
-use Rattle.redef_mover.specs.declared.new_begins.Side.TheVariants.{Old}
+use Rattle.redef_mover.proofs.Words.{◌≡◌, map, least, Numbered, Old}
 use Rattle.redef_mover.proofs.Places.{records_before}
 use Rattle.redef_mover.proofs.new_begins.least_begin.Given as goal
 

@@ -1,12 +1,6 @@
-use Rattle.std.proofs.Common.{ℕ, ◌+◌, ◌∙◌, ap}
-use Rattle.serial_spec.specs.HeaderBytes.{header_len}
-use Rattle.serial_spec.specs.Redefinition.{by_begin, fixed_order, front_after, first_record}
-use Rattle.var_layout.specs.Capped.{capped}
-use Rattle.redef_mover.specs.declared.new_begins.Side.TheVariants.{Old}
-use Rattle.redef_mover.specs.NewBegins.{records_at}
+use Rattle.redef_mover.proofs.Words.{ℕ, ◌+◌, ◌∙◌, ap, header_len, by_begin, fixed_order, front_after, first_record, capped, Old, records_at, vsizes}
 use Rattle.redef_mover.proofs.Places.{placed_all, shares_sorted}
 use Rattle.redef_mover.proofs.new_begins.place_all.Goals as goal
-use Rattle.redef_laws.proofs.BeginLaws.{vsizes}
 
 pub returns : goal.returns
 returns c =

@@ -1,6 +1,4 @@
-use Rattle.std.proofs.Common.{◌<◌, length, get_or, arith}
-use Rattle.std.proofs.lemmas.List.{get_or_default}
-use Rattle.redef_mover.specs.declared.new_begins.NumberedVar.{NumberedVar}
+use Rattle.redef_mover.proofs.Words.{◌<◌, length, get_or, arith, get_or_default, NumberedVar}
 use Rattle.redef_mover.proofs.Places.{placed_none, placed_next, placed_whole}
 use Rattle.redef_mover.proofs.new_begins.place_fixed.Goals as goal
 

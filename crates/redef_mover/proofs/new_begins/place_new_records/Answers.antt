@@ -1,6 +1,4 @@
-use Rattle.std.proofs.Common.{ℕ, ◌+◌, ◌<◌, List, length, get_or, sym, ap, subst, ◌∙◌, arith}
-use Rattle.nc_base.specs.declared.header.Var.{Var}
-use Rattle.redef_mover.specs.declared.new_begins.Place.{Place}
+use Rattle.redef_mover.proofs.Words.{ℕ, ◌+◌, ◌<◌, List, length, get_or, sym, ap, subst, ◌∙◌, arith, Var, Place}
 use Rattle.redef_mover.proofs.Places.{NewSoFar, new_none, new_next, new_passed, new_whole}
 use Rattle.redef_mover.proofs.new_begins.place_new_records.Goals as goal
 use Rattle.redef_mover.proofs.new_begins.place_new_records.Goals.{then-is_record_at+in_ok-push, else-is_record_at}

@@ -1,7 +1,4 @@
-use Rattle.std.proofs.Common.{ℕ, ◌+◌, ◌<◌, length, get_or, ap, ◌∙◌, arith}
-use Rattle.std.proofs.lemmas.List.{get_or_default}
-use Rattle.var_layout.specs.Capped.{capped}
-use Rattle.redef_mover.specs.declared.new_begins.NumberedVar.{NumberedVar}
+use Rattle.redef_mover.proofs.Words.{ℕ, ◌+◌, ◌<◌, length, get_or, ap, ◌∙◌, arith, get_or_default, capped, NumberedVar}
 use Rattle.redef_mover.proofs.Places.{old_none, old_next, old_whole}
 use Rattle.redef_mover.proofs.new_begins.place_old_records.Goals as goal
 

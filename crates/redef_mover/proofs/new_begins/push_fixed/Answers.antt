@@ -1,8 +1,4 @@
-use Rattle.std.proofs.Common.{◌<◌, ◌++◌, List, length, get_or, map, sym, ap, ◌∙◌, arith}
-use Rattle.std.specs.Prelude.{not}
-use Rattle.nc_base.specs.declared.header.Var.{Var}
-use Rattle.serial_spec.specs.Layout.{is_record}
-use Rattle.redef_mover.specs.NewBegins.{fixed_var, on_side}
+use Rattle.redef_mover.proofs.Words.{◌<◌, ◌++◌, List, length, get_or, map, sym, ap, ◌∙◌, arith, not, Var, is_record, fixed_var, on_side}
 use Rattle.redef_mover.proofs.Places.{fixed_pushed, fixed_passed, chosen_all}
 use Rattle.redef_mover.proofs.new_begins.push_fixed.Goals as goal
 use Rattle.redef_mover.proofs.new_begins.push_fixed.Goals.{then-is_fixed_at+in_ok-push, else-is_fixed_at}

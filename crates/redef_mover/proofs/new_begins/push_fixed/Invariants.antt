@@ -1,5 +1,4 @@
-use Rattle.std.proofs.Common.{◌≡◌, ◌++◌, map}
-use Rattle.redef_mover.specs.NewBegins.{fixed_var}
+use Rattle.redef_mover.proofs.Words.{◌≡◌, ◌++◌, map, fixed_var}
 use Rattle.redef_mover.proofs.Places.{fixed_before}
 use Rattle.redef_mover.proofs.new_begins.push_fixed.Given as goal
 

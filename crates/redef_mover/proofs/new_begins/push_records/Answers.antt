@@ -1,8 +1,4 @@
-use Rattle.std.proofs.Common.{◌<◌, ◌++◌, List, length, get_or, map, sym, ap, ◌∙◌, arith}
-use Rattle.redef_mover.specs.declared.new_begins.Side.TheVariants.{Old}
-use Rattle.nc_base.specs.declared.header.Var.{Var}
-use Rattle.serial_spec.specs.Layout.{is_record}
-use Rattle.redef_mover.specs.NewBegins.{record_var, on_side}
+use Rattle.redef_mover.proofs.Words.{◌<◌, ◌++◌, List, length, get_or, map, sym, ap, ◌∙◌, arith, Old, Var, is_record, record_var, on_side}
 use Rattle.redef_mover.proofs.Places.{records_pushed, records_passed, chosen_all}
 use Rattle.redef_mover.proofs.new_begins.push_records.Goals as goal
 use Rattle.redef_mover.proofs.new_begins.push_records.Goals.{then-is_record_at+in_ok-push, else-is_record_at}

@@ -1,6 +1,4 @@
-use Rattle.std.proofs.Common.{◌≡◌, ◌++◌, map}
-use Rattle.redef_mover.specs.NewBegins.{record_var}
-use Rattle.redef_mover.specs.declared.new_begins.Side.TheVariants.{Old}
+use Rattle.redef_mover.proofs.Words.{◌≡◌, ◌++◌, map, record_var, Old}
 use Rattle.redef_mover.proofs.Places.{records_before}
 use Rattle.redef_mover.proofs.new_begins.push_records.Given as goal
 

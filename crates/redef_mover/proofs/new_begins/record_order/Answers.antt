@@ -1,8 +1,4 @@
-use Rattle.std.proofs.Common.{◌++◌, List, length, map, ap, ◌∙◌}
-use Rattle.redef_mover.specs.declared.new_begins.NumberedVar.{NumberedVar}
-use Rattle.redef_mover.specs.declared.new_begins.Side.TheVariants.{Old}
-use Rattle.redef_mover.specs.NewBegins.{record_var, records_at, in_order}
-use Rattle.list_laws.proofs.Refills.{refilled}
+use Rattle.redef_mover.proofs.Words.{◌++◌, List, length, map, ap, ◌∙◌, NumberedVar, Old, record_var, records_at, in_order, refilled}
 use Rattle.redef_mover.proofs.Sorting.{sorted_map}
 use Rattle.redef_mover.proofs.new_begins.record_order.Goals as goal
 

@@ -1,7 +1,4 @@
-use Rattle.std.proofs.Common.{◌≡◌, ℕ, refl, rules}
-use Rattle.std.proofs.lemmas.Fn.{always_returns_same}
-use Rattle.std.proofs.lemmas.List.Sorted.{IsNonDecreasingBy-from_sort_by_key}
-use Rattle.redef_mover.specs.declared.new_begins.NumberedVar.{NumberedVar}
+use Rattle.redef_mover.proofs.Words.{◌≡◌, ℕ, refl, rules, always_returns_same, IsNonDecreasingBy-from_sort_by_key, NumberedVar}
 use Rattle.redef_mover.proofs.Sorting.{sort_is, stable_is}
 use Rattle.redef_mover.proofs.new_begins.sort_by_begin.Goals as goal
 

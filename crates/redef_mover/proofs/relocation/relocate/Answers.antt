@@ -1,17 +1,6 @@
 -- The laws of a redefinition, of the two headers.
-use Rattle.std.proofs.Common.{◌∙◌, ◌<◌, ap, List, arith}
-use Rattle.std.proofs.lemmas.Option.{IfSome_then}
-use Rattle.std.proofs.lemmas.Result.{on_err_weaker, on_ok_weaker}
-use Rattle.nc_base.specs.declared.header.Header.{Header}
-use Rattle.nc_base.specs.declared.script.Extra.{Extra}
-use Rattle.nc_outside.specs.Told.{with_end}
-use Rattle.nc_outside.proofs.ToldLaws.{after-same}
-use Rattle.serial_spec.specs.Redefinition.{redefined}
-use Rattle.redef_laws.specs.Applied.{IsApplied}
-use Rattle.redef_laws.proofs.AppliedLaws.{applied_shifted, applied_risen, applied_falls, applied_zeros, applied_moved}
-use Rattle.redef_laws.proofs.RisingLaws.{rising_all}
+use Rattle.redef_mover.proofs.Words.{◌∙◌, ◌<◌, ap, List, arith, IfSome_then, on_err_weaker, on_ok_weaker, Header, Extra, with_end, after-same, redefined, IsApplied, applied_shifted, applied_risen, applied_falls, applied_zeros, applied_moved, rising_all, carried}
 use Rattle.redef_laws.proofs.WrittenLaws.{written}
-use Rattle.redef_mover.specs.Carried.{carried}
 use Rattle.redef_mover.proofs.AppliedLaws.{has_laws, HasLaws, relocated, relocation_called}
 use Rattle.redef_mover.proofs.CutLaws.{relocation_keeps, relocation_torn}
 use Rattle.redef_mover.proofs.relocation.relocate.Goals as goal

@@ -1,15 +1,6 @@
 -- One variable more is listed, if it is of the kind.
-use Rattle.std.proofs.Common.{◌∙◌, ap, length, ℕ, [], ◌∷◌, ◌++◌}
-use Rattle.std.specs.Borrow.{Bor}
-use Rattle.std.specs.List.{zip}
-use Rattle.std.proofs.lemmas.List.{length_push}
-use Rattle.std.proofs.lemmas.Iterator.{YieldsList-from_slice, YieldsList-from_zip}
-use Rattle.std.proofs.lemmas.Iterator.Consumers.{YieldsList-from_enumerate, YieldsList-turn, YieldsList-end}
+use Rattle.redef_mover.proofs.Words.{◌∙◌, ap, length, ℕ, [], ◌∷◌, ◌++◌, Bor, zip, length_push, YieldsList-from_slice, YieldsList-from_zip, YieldsList-from_enumerate, YieldsList-turn, YieldsList-end, Var, is_record, first_slab, is_kind}
 use mathlib.Core.Bool.{beq}
-use Rattle.nc_base.specs.declared.header.Var.{Var}
-use Rattle.serial_spec.specs.Layout.{is_record}
-use Rattle.redef_laws.specs.RisingSlabs.{first_slab}
-use Rattle.redef_mover.specs.Moves.{is_kind}
 use Rattle.redef_mover.proofs.SortLaws.{all_listed, kind_listed, pair_at, pairs_end, same_kind}
 use Rattle.redef_mover.proofs.slabs.first_slabs.Goals as goal
 

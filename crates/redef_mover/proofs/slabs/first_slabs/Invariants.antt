@@ -1,9 +1,6 @@
 -- The slabs of the variables so far that are of the kind.
-use Rattle.std.proofs.Common.{◌≡◌, length, map, take}
-use Rattle.std.specs.List.{filter, zip}
-use Rattle.serial_spec.specs.Layout.{is_record}
-use Rattle.redef_laws.specs.RisingSlabs.{first_slab}
-use Rattle.redef_mover.specs.Moves.{is_kind, slab_of}
+use Rattle.redef_mover.proofs.Words.{◌≡◌, length, map, take, zip, is_record, first_slab, is_kind, slab_of}
+use Rattle.std.specs.List.{filter}
 use Rattle.redef_mover.proofs.slabs.first_slabs.Given as goal
 
 abbrev pub invariant-loop-number : goal.invariant-loop-number

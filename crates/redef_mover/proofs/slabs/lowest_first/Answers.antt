@@ -1,5 +1,5 @@
 -- A stable sort by place is that of the definitions.
-use Rattle.redef_mover.specs.Moves.{first_slabs}
+use Rattle.redef_mover.proofs.Words.{first_slabs}
 use Rattle.redef_mover.proofs.SortLaws.{sorted_is}
 use Rattle.redef_mover.proofs.slabs.lowest_first.Goals as goal
 

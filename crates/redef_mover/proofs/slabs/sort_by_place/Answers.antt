@@ -1,7 +1,5 @@
 -- The key of a slab is its old place.
-use Rattle.std.proofs.Common.{rules}
-use Rattle.std.proofs.lemmas.Fn.{always_returns_same}
-use Rattle.redef_mover.specs.declared.slabs.Shift.{Shift}
+use Rattle.redef_mover.proofs.Words.{rules, always_returns_same, Shift}
 use Rattle.redef_mover.proofs.slabs.sort_by_place.Goals as goal
 
 pub returns-clause-sorted : goal.returns-clause-sorted

@@ -1,7 +1,4 @@
-use Rattle.std.proofs.Common.{◌-◌, ◌^◌, ◌∙◌, ap, min, List}
-use Rattle.std.proofs.lemmas.List.{take_all}
-use Rattle.nc_base.specs.declared.plan.Post.{Post}
-use Rattle.serial_spec.specs.RankMachine.{bytes_in}
+use Rattle.request_queue.proofs.Words.{◌-◌, ◌^◌, ◌∙◌, ap, min, List, take_all, Post, bytes_in}
 use Rattle.request_queue.proofs.queue.len_of.Goals as goal
 
 pub returns : goal.returns

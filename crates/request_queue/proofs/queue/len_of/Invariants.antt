@@ -1,5 +1,4 @@
-use Rattle.std.proofs.Common.{◌≡◌, ◌-◌, ◌^◌, min, take}
-use Rattle.serial_spec.specs.RankMachine.{bytes_in}
+use Rattle.request_queue.proofs.Words.{◌≡◌, ◌-◌, ◌^◌, min, take, bytes_in}
 use Rattle.request_queue.proofs.queue.len_of.Given as goal
 
 abbrev pub invariant-loop-post : goal.invariant-loop-post

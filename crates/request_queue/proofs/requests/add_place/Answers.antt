@@ -1,8 +1,4 @@
-use Rattle.std.proofs.Common.{◌∙◌, ap, sym, ◌||◌}
-use Rattle.std.specs.Option.{option_copied}
-use Rattle.std.specs.Ordering.{nat_cmp}
-use Rattle.std.specs.BTreeSet.{contains}
-use Rattle.request_queue.specs.Indexed.{is_place}
+use Rattle.request_queue.proofs.Words.{◌∙◌, ap, sym, ◌||◌, option_copied, nat_cmp, contains, is_place}
 use Rattle.request_queue.proofs.TakeLaws.{insert_is}
 use Rattle.request_queue.proofs.requests.add_place.Goals as goal
 

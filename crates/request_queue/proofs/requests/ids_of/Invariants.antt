@@ -1,6 +1,4 @@
-use Rattle.std.proofs.Common.{◌≡◌, ◌++◌, map}
-use Rattle.std.specs.BTreeMap.{values}
-use Rattle.request_queue.specs.declared.queue.Request.{Request}
+use Rattle.request_queue.proofs.Words.{◌≡◌, ◌++◌, map, values, Request}
 use Rattle.request_queue.proofs.requests.ids_of.Given as goal
 
 abbrev pub invariant-loop-request : goal.invariant-loop-request

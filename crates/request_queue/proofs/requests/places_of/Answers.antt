@@ -1,9 +1,4 @@
-use Rattle.std.proofs.Common.{◌∙◌, ap, sym, Bool, ◌||◌, Option, take, get_or, ℕ}
-use Rattle.std.specs.List.{list_any}
-use Rattle.std.specs.Ordering.{nat_cmp}
-use Rattle.std.specs.BTreeSet.{contains}
-use Rattle.std.proofs.lemmas.List.Folds.{list_any_more}
-use Rattle.request_queue.specs.Indexed.{is_place, stands_at}
+use Rattle.request_queue.proofs.Words.{◌∙◌, ap, sym, Bool, ◌||◌, Option, take, get_or, ℕ, list_any, nat_cmp, contains, list_any_more, is_place, stands_at}
 use Rattle.request_queue.proofs.TakeLaws.{or_swap}
 use Rattle.request_queue.proofs.requests.places_of.Goals as goal
 

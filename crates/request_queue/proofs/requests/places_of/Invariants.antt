@@ -1,8 +1,4 @@
-use Rattle.std.proofs.Common.{◌≡◌, ℕ, take}
-use Rattle.std.specs.List.{list_any}
-use Rattle.std.specs.Ordering.{nat_cmp}
-use Rattle.std.specs.BTreeSet.{contains}
-use Rattle.request_queue.specs.Indexed.{stands_at}
+use Rattle.request_queue.proofs.Words.{◌≡◌, ℕ, take, list_any, nat_cmp, contains, stands_at}
 use Rattle.request_queue.proofs.requests.places_of.Given as goal
 
 abbrev pub invariant-loop-id : goal.invariant-loop-id

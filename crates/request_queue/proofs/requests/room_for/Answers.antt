@@ -1,15 +1,4 @@
-use Rattle.std.proofs.Common.{◌≡◌, ℕ, ◌+◌, ◌++◌, ◌∙◌, ap, sym, subst, List, length, arith, rules}
-use Rattle.std.specs.Prelude.{sum_by}
-use Rattle.std.specs.Option.{option_copied}
-use Rattle.std.specs.List.Sorted.{IsStrictlySortedBy}
-use Rattle.std.specs.Ordering.{nat_cmp}
-use Rattle.std.specs.Map.{values_of}
-use Rattle.std.specs.Map.Iter.{deref}
-use Rattle.std.proofs.lemmas.List.Sums.{sum_by-cons}
-use Rattle.std.proofs.lemmas.Map.Iter.{rest_more, rest_all}
-use Rattle.std.proofs.lemmas.Map.Keys.{sorted_tail}
-use Rattle.request_queue.specs.declared.queue.Request.{Request}
-use Rattle.request_queue.specs.Kept.{posts_of}
+use Rattle.request_queue.proofs.Words.{◌≡◌, ℕ, ◌+◌, ◌++◌, ◌∙◌, ap, sym, subst, List, length, arith, rules, sum_by, option_copied, IsStrictlySortedBy, nat_cmp, values_of, deref, sum_by-cons, rest_more, rest_all, sorted_tail, Request, posts_of}
 use Rattle.request_queue.proofs.PlaceLaws.{at_keys, at_keys-none, found, none_left, found_next}
 use Rattle.request_queue.proofs.requests.room_for.Goals as goal
 

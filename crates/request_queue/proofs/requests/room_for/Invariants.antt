@@ -1,10 +1,4 @@
-use Rattle.std.proofs.Common.{◌≡◌, ◌+◌, length}
-use Rattle.std.specs.Prelude.{sum_by}
-use Rattle.std.specs.List.Sorted.{IsStrictlySortedBy}
-use Rattle.std.specs.Ordering.{nat_cmp}
-use Rattle.std.specs.Map.{values_of}
-use Rattle.request_queue.specs.declared.queue.Request.{Request}
-use Rattle.request_queue.specs.Kept.{posts_of}
+use Rattle.request_queue.proofs.Words.{◌≡◌, ◌+◌, length, sum_by, IsStrictlySortedBy, nat_cmp, values_of, Request, posts_of}
 use Rattle.request_queue.proofs.PlaceLaws.{at_keys}
 use Rattle.request_queue.proofs.requests.room_for.Given as goal
 

@@ -1,13 +1,4 @@
-use Rattle.std.proofs.Common.{ℕ, ◌++◌, ◌∙◌, ap, sym, subst, List, length, None, refl, arith, append-nil}
-use Rattle.std.specs.Prelude.{IfNone}
-use Rattle.std.specs.List.Sorted.{IsStrictlySortedBy}
-use Rattle.std.specs.Ordering.{nat_cmp}
-use Rattle.std.specs.Map.{values_of}
-use Rattle.std.specs.Map.Iter.{deref}
-use Rattle.std.specs.BTreeMap.{IsUnchanged}
-use Rattle.std.proofs.lemmas.Map.Iter.{rest_more, rest_all}
-use Rattle.std.proofs.lemmas.Map.Keys.{sorted_tail}
-use Rattle.request_queue.specs.declared.queue.Request.{Request}
+use Rattle.request_queue.proofs.Words.{ℕ, ◌++◌, ◌∙◌, ap, sym, subst, List, length, None, refl, arith, append-nil, IfNone, IsStrictlySortedBy, nat_cmp, values_of, deref, IsUnchanged, rest_more, rest_all, sorted_tail, Request}
 use Rattle.request_queue.proofs.IndexLaws.{index_removed, index_same}
 use Rattle.request_queue.proofs.PlaceLaws.{at_keys, at_others, at_keys-none, at_others-none, none_left, taken_next, left_next}
 use Rattle.request_queue.proofs.requests.take_all.Goals as goal

@@ -1,10 +1,4 @@
-use Rattle.std.proofs.Common.{◌≡◌, ◌+◌, ◌≤◌, ◌++◌, length, vec_len}
-use Rattle.std.specs.Vec.{vec_capacity}
-use Rattle.std.specs.List.Sorted.{IsStrictlySortedBy}
-use Rattle.std.specs.Ordering.{nat_cmp}
-use Rattle.std.specs.Map.{values_of}
-use Rattle.std.specs.BTreeMap.{IsOrdered}
-use Rattle.request_queue.specs.Indexed.{IsIndex}
+use Rattle.request_queue.proofs.Words.{◌≡◌, ◌+◌, ◌≤◌, ◌++◌, length, vec_len, vec_capacity, IsStrictlySortedBy, nat_cmp, values_of, IsOrdered, IsIndex}
 use Rattle.request_queue.proofs.PlaceLaws.{at_keys, at_others}
 use Rattle.request_queue.proofs.requests.take_all.Given as goal
 

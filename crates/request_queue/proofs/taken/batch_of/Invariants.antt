@@ -1,8 +1,4 @@
-use Rattle.std.proofs.Common.{◌≡◌, ◌+◌, ◌≤◌, length, vec_len}
-use Rattle.std.specs.Prelude.{sum_by, flat_map}
-use Rattle.std.specs.Vec.{vec_capacity}
-use Rattle.std.specs.Vec.Iter.{into_iter_items}
-use Rattle.request_queue.specs.Kept.{puts_of, gets_of}
+use Rattle.request_queue.proofs.Words.{◌≡◌, ◌+◌, ◌≤◌, length, vec_len, sum_by, flat_map, vec_capacity, into_iter_items, puts_of, gets_of}
 use Rattle.request_queue.proofs.taken.batch_of.Given as goal
 
 abbrev pub invariant-loop-request : goal.invariant-loop-request

@@ -1,10 +1,4 @@
-use Rattle.std.proofs.Common.{◌≡◌, ◌-◌, ◌^◌, ◌∙◌, ap, sym, subst, min, List, Option, get_or, arith, rules}
-use Rattle.attached_buffer.specs.Buffer.{Account}
-use Rattle.nc_base.specs.declared.plan.Post.{Post}
-use Rattle.nc_base.specs.declared.request.PostKind.{PostKind}
-use Rattle.nc_base.specs.declared.request.PostKind.TheVariants.{Bput}
-use Rattle.serial_spec.specs.RankMachine.{Waiting, buffered, bytes_in}
-use Rattle.request_queue.specs.Kept.{held, HasUsed}
+use Rattle.request_queue.proofs.Words.{◌≡◌, ◌-◌, ◌^◌, ◌∙◌, ap, sym, subst, min, List, Option, get_or, arith, rules, Account, Post, PostKind, Bput, Waiting, buffered, bytes_in, held, HasUsed}
 use Rattle.request_queue.proofs.AccountLaws.{has_used}
 use Rattle.request_queue.proofs.taken.free.Goals as goal
 

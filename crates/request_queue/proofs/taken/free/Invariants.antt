@@ -1,6 +1,4 @@
-use Rattle.std.proofs.Common.{◌≡◌, ◌+◌, take}
-use Rattle.std.specs.Prelude.{sum_by, count_by}
-use Rattle.request_queue.specs.Kept.{held, is_buffered, freed}
+use Rattle.request_queue.proofs.Words.{◌≡◌, ◌+◌, take, sum_by, count_by, held, is_buffered, freed}
 use Rattle.request_queue.proofs.taken.free.Given as goal
 
 abbrev pub invariant-loop-request : goal.invariant-loop-request

@@ -1,9 +1,4 @@
-use Rattle.std.proofs.Common.{◌≡◌, ◌+◌, ◌∷◌, ◌++◌, [], ◌∙◌, ap, sym, ◌||◌, eqb, ℕ, List, None, drop, get_or, append_assoc, add-one, drop-cons}
-use Rattle.nc_base.specs.declared.answer.Code.{Code}
-use Rattle.std.specs.Ordering.{nat_cmp}
-use Rattle.std.specs.BTreeSet.{contains}
-use Rattle.nc_base.specs.declared.answer.Item.{Item}
-use Rattle.request_queue.specs.Kept.{has_waiting, items_by, code_by}
+use Rattle.request_queue.proofs.Words.{◌≡◌, ◌+◌, ◌∷◌, ◌++◌, [], ◌∙◌, ap, sym, ◌||◌, eqb, ℕ, List, None, drop, get_or, append_assoc, add-one, drop-cons, Code, nat_cmp, contains, Item, has_waiting, items_by, code_by}
 use Rattle.request_queue.proofs.TakeLaws.{insert_is}
 use Rattle.request_queue.proofs.taken.list_items.Goals as goal
 

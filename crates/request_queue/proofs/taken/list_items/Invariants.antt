@@ -1,7 +1,4 @@
-use Rattle.std.proofs.Common.{◌≡◌, ◌++◌, drop, false}
-use Rattle.std.specs.Ordering.{nat_cmp}
-use Rattle.std.specs.BTreeSet.{contains}
-use Rattle.request_queue.specs.Kept.{has_waiting, items_by}
+use Rattle.request_queue.proofs.Words.{◌≡◌, ◌++◌, drop, false, nat_cmp, contains, has_waiting, items_by}
 use Rattle.request_queue.proofs.taken.list_items.Given as goal
 
 abbrev pub invariant-loop-id : goal.invariant-loop-id

@@ -1,7 +1,4 @@
-use Rattle.std.proofs.Common.{◌≡◌, ◌+◌, ◌++◌, ◌∷◌, [], map, All, refl, sym, subst, rules}
-use Rattle.std.specs.List.{range_with_len}
-use Rattle.crossbeam_channel.specs.Ends.{sends_on}
-use Rattle.ruled_line.specs.Ends.{line_of}
+use Rattle.ruled_line.proofs.Words.{◌≡◌, ◌+◌, ◌++◌, ◌∷◌, [], map, All, refl, sym, subst, rules, range_with_len, sends_on, line_of}
 use Rattle.ruled_line.proofs.InboxMoves.{begins, opens, gives}
 use Rattle.ruled_line.proofs.SenderLists.{same-push, numbers-push, empty-push}
 use Rattle.ruled_line.proofs.inbox_ends.inbox.Goals as goal

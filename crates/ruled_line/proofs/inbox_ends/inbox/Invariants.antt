@@ -1,9 +1,4 @@
-use Rattle.std.proofs.Common.{◌≡◌, [], map, length, All}
-use Rattle.std.specs.List.{range_with_len}
-use Rattle.crossbeam_channel.specs.Claims.{view, IsSeatAt}
-use Rattle.crossbeam_channel.specs.Ends.{sends_on, ruled_capacity}
-use Rattle.ruled_line.specs.InboxRule.{receiver_view, idle_view}
-use Rattle.ruled_line.specs.Ends.{line_of}
+use Rattle.ruled_line.proofs.Words.{◌≡◌, [], map, length, All, range_with_len, view, IsSeatAt, sends_on, ruled_capacity, receiver_view, idle_view, line_of}
 use Rattle.ruled_line.proofs.inbox_ends.inbox.Given as goal
 
 abbrev pub ghosts-another : goal.ghosts-another

@@ -1,5 +1,4 @@
-use Rattle.std.proofs.Common.{rules}
-use Rattle.ruled_line.specs.Ends.{items_under}
+use Rattle.ruled_line.proofs.Words.{rules, items_under}
 use Rattle.ruled_line.proofs.InboxMoves.{meets, learns}
 use Rattle.ruled_line.proofs.inbox_ends.settle_from.Goals as goal
 

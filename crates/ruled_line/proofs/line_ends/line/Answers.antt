@@ -1,4 +1,4 @@
-use Rattle.std.proofs.Common.{rules}
+use Rattle.ruled_line.proofs.Words.{rules}
 use Rattle.ruled_line.proofs.LineMoves.{begins, forks}
 use Rattle.ruled_line.proofs.line_ends.line.Goals as goal
 

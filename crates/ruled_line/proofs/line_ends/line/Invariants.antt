@@ -1,6 +1,4 @@
-use Rattle.std.proofs.Common.{true, false, []}
-use Rattle.crossbeam_channel.specs.Ends.{sends_on, ruled_capacity}
-use Rattle.ruled_line.specs.LineRule.{line_view}
+use Rattle.ruled_line.proofs.Words.{true, false, [], sends_on, ruled_capacity, line_view}
 use Rattle.ruled_line.proofs.line_ends.line.Given as goal
 
 abbrev pub ghosts-another : goal.ghosts-another

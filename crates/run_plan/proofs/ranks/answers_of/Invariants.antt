@@ -1,6 +1,5 @@
 -- The answers of those so far.
-use Rattle.std.proofs.Common.{◌≡◌, ◌++◌, map}
-use Rattle.run_plan.specs.Runs.{without_values}
+use Rattle.run_plan.proofs.Words.{◌≡◌, ◌++◌, map, without_values}
 use Rattle.run_plan.proofs.ranks.answers_of.Given as goal
 
 abbrev pub invariant-loop-runner : goal.invariant-loop-runner

@@ -1,7 +1,5 @@
 -- One rank more.
-use Rattle.std.proofs.Common.{ap, arith}
-use Rattle.collective_round.proofs.NeedLaws.{greatest_more}
-use Rattle.turn_run.specs.declared.runners.Runner.{Runner}
+use Rattle.run_plan.proofs.Words.{ap, arith, greatest_more, Runner}
 use Rattle.run_plan.proofs.ranks.greatest_known.Goals as goal
 
 pub loop-runner-preserved : goal.loop-runner-preserved

@@ -1,6 +1,5 @@
 -- The greatest of those so far.
-use Rattle.std.proofs.Common.{◌≡◌, take}
-use Rattle.run_plan.specs.Runs.{greatest_known}
+use Rattle.run_plan.proofs.Words.{◌≡◌, take, greatest_known}
 use Rattle.run_plan.proofs.ranks.greatest_known.Given as goal
 
 abbrev pub invariant-loop-runner : goal.invariant-loop-runner

@@ -1,6 +1,5 @@
 -- The items so far.
-use Rattle.std.proofs.Common.{◌≡◌, map}
-use Rattle.run_plan.specs.Runs.{item_without_values}
+use Rattle.run_plan.proofs.Words.{◌≡◌, map, item_without_values}
 use Rattle.run_plan.proofs.ranks.items_without_values.Given as goal
 
 abbrev pub invariant-loop-item : goal.invariant-loop-item

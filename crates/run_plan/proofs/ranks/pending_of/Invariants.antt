@@ -1,5 +1,5 @@
 -- The numbers of those so far.
-use Rattle.std.proofs.Common.{◌≡◌, take, map}
+use Rattle.run_plan.proofs.Words.{◌≡◌, take, map}
 use Rattle.serial_spec.specs.RankMachine as machine
 use Rattle.run_plan.proofs.ranks.pending_of.Given as goal
 

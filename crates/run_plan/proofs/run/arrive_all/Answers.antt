@@ -1,16 +1,5 @@
 -- One rank more has arrived.
-use Rattle.std.proofs.Common.{◌≡◌, ◌<◌, ◌≤◌, ◌+◌, ℕ, refl, sym, ◌∙◌, subst, Some, None, arith}
-use Rattle.std.specs.Prelude.{slice_get, slice_index_or}
-use Rattle.std.proofs.lemmas.Option.{slice_get_within}
-use Rattle.serial_spec.specs.SerialEnd.{setting_of}
-use Rattle.run_laws.proofs.LawfulLaws.{ranks_lawful}
-use Rattle.turn_run.specs.Counts.{IsCount}
-use Rattle.turn_run.specs.Running.{calls_of, HasArrived}
-use Rattle.turn_run.specs.Stages.{arrived, arrived_all}
-use Rattle.turn_run.specs.declared.runners.Runner.{Runner}
-use Rattle.turn_run.proofs.CountLaws.{count_longer}
-use Rattle.turn_run.proofs.TurnSteps.{below_other, get_at, grown_meetings, runners_step, set_each}
-use Rattle.run_plan.specs.Planned.{order_in, plan_stage, rank_plan, HasPlannedAll}
+use Rattle.run_plan.proofs.Words.{◌≡◌, ◌<◌, ◌≤◌, ◌+◌, ℕ, refl, sym, ◌∙◌, subst, Some, None, arith, slice_get, slice_index_or, slice_get_within, setting_of, ranks_lawful, IsCount, calls_of, HasArrived, arrived, arrived_all, Runner, count_longer, below_other, get_at, grown_meetings, runners_step, set_each, order_in, plan_stage, rank_plan, HasPlannedAll}
 use Rattle.run_plan.proofs.FollowLaws.{all_none, all_then, one_of_all, planned_grown}
 use Rattle.run_plan.proofs.run.arrive_all.Goals as goal
 

@@ -1,12 +1,5 @@
 -- The ranks so far have arrived, and the others hold no offer.
-use Rattle.std.proofs.Common.{◌≡◌, ℕ, ◌<◌, ◌≤◌, Some, None}
-use Rattle.std.specs.Prelude.{slice_get}
-use Rattle.serial_spec.specs.SerialEnd.{setting_of}
-use Rattle.run_laws.specs.Ways.{meetings}
-use Rattle.turn_run.specs.Running.{calls_of, AreRunners, HasArrived}
-use Rattle.turn_run.specs.Stages.{arrived_all}
-use Rattle.turn_run.specs.declared.runners.Runner.{Runner}
-use Rattle.run_plan.specs.Planned.{order_in, plan_stage, HasPlannedAll}
+use Rattle.run_plan.proofs.Words.{◌≡◌, ℕ, ◌<◌, ◌≤◌, Some, None, slice_get, setting_of, meetings, calls_of, AreRunners, HasArrived, arrived_all, Runner, order_in, plan_stage, HasPlannedAll}
 use Rattle.run_plan.proofs.run.arrive_all.Given as goal
 
 abbrev pub invariant-loop-number : goal.invariant-loop-number

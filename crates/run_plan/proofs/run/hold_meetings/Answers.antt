@@ -1,14 +1,5 @@
 -- One meeting more is planned, and all have arrived again.
-use Rattle.std.proofs.Common.{◌<◌, ap, sym, ◌∙◌, List, true≢false, arith}
-use Rattle.serial_spec.specs.Lawful.{most_calls}
-use Rattle.serial_spec.specs.SerialEnd.{setting_of}
-use Rattle.run_laws.specs.Ways.{meetings}
-use Rattle.step_plan.specs.declared.plan.StepPlan.{StepPlan}
-use Rattle.turn_run.specs.Stages.{arrived_all}
-use Rattle.turn_run.specs.declared.runners.Runner.{Runner}
-use Rattle.turn_run.proofs.TurnEnds.{all_ended, next_meeting}
-use Rattle.run_plan.specs.Planned.{order_in, plan_stage}
-use Rattle.run_plan.specs.declared.steps.Progress.{Progress}
+use Rattle.run_plan.proofs.Words.{◌<◌, ap, sym, ◌∙◌, List, true≢false, arith, most_calls, setting_of, meetings, StepPlan, arrived_all, Runner, all_ended, next_meeting, order_in, plan_stage, Progress}
 use Rattle.run_plan.proofs.FollowLaws.{all_then}
 use Rattle.run_plan.proofs.run.hold_meetings.Goals as goal
 

@@ -1,12 +1,5 @@
 -- The ranks stand at their next meeting, or at their ends.
-use Rattle.std.proofs.Common.{◌≡◌, ◌-◌}
-use Rattle.serial_spec.specs.Lawful.{most_calls}
-use Rattle.serial_spec.specs.SerialEnd.{setting_of}
-use Rattle.run_laws.specs.Ways.{meetings}
-use Rattle.turn_run.specs.Counts.{IsCount}
-use Rattle.turn_run.specs.Running.{AreRunners, HaveArrived}
-use Rattle.turn_run.specs.Stages.{arrived_all}
-use Rattle.run_plan.specs.Planned.{order_in, plan_stage, HasPlannedAll}
+use Rattle.run_plan.proofs.Words.{◌≡◌, ◌-◌, most_calls, setting_of, meetings, IsCount, AreRunners, HaveArrived, arrived_all, order_in, plan_stage, HasPlannedAll}
 use Rattle.run_plan.proofs.run.hold_meetings.Given as goal
 
 abbrev pub invariant-meetings : goal.invariant-meetings

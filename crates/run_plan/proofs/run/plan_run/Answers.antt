@@ -1,12 +1,5 @@
 -- The plan of a run, from its first stage to its end.
-use Rattle.std.proofs.Common.{refl, sym, ◌∙◌, subst, List, rules}
-use Rattle.std.proofs.lemmas.List.{with_items_is}
-use Rattle.step_plan.specs.declared.plan.StepPlan.{StepPlan}
-use Rattle.turn_run.specs.Running.{AreRunners}
-use Rattle.turn_run.specs.declared.runners.Runner.{Runner}
-use Rattle.turn_run.proofs.TurnRuns.{first_count, first_free, first_runners}
-use Rattle.run_plan.specs.Planned.{order_in}
-use Rattle.run_plan.specs.Runs.{HasEnded}
+use Rattle.run_plan.proofs.Words.{refl, sym, ◌∙◌, subst, List, rules, with_items_is, StepPlan, AreRunners, Runner, first_count, first_free, first_runners, order_in, HasEnded}
 use Rattle.run_plan.proofs.EndLaws.{are_planned, ok_so}
 use Rattle.run_plan.proofs.run.plan_run.Goals as goal
 

@@ -1,18 +1,5 @@
 -- The rank goes on from one solo offer to the next.
-use Rattle.std.proofs.Common.{◌≡◌, ℕ, suc, refl, sym, ◌∙◌, ap, subst, length, drop, List, [], None, arith}
-use Rattle.nc_base.specs.declared.answer.Answer.{Answer}
-use Rattle.nc_base.specs.declared.request.Call.{Call}
-use Rattle.serial_spec.specs.SerialEnd.{setting_of, Going}
-use Rattle.run_laws.specs.Arrivals.{Arrived}
-use Rattle.run_laws.specs.Ways.{AsksAlone, IsOnWay}
-use Rattle.run_laws.proofs.LawfulLaws.{ranks_lawful}
-use Rattle.run_laws.proofs.TogetherLaws.{call_number}
-use Rattle.turn_run.specs.Counts.{IsCount}
-use Rattle.turn_run.specs.Running.{asking, between, calls_of}
-use Rattle.turn_run.specs.Stages.{arrived}
-use Rattle.turn_run.specs.declared.runners.Runner.{Runner}
-use Rattle.turn_run.proofs.AloneLaws.{alone_asks, arrived_gone, same_runner, taken_asks, way_free, went_runner}
-use Rattle.run_plan.specs.Planned.{order_in, rank_plan, HasPlanned}
+use Rattle.run_plan.proofs.Words.{◌≡◌, ℕ, suc, refl, sym, ◌∙◌, ap, subst, length, drop, List, [], None, arith, Answer, Call, setting_of, Going, Arrived, AsksAlone, IsOnWay, ranks_lawful, call_number, IsCount, asking, between, calls_of, arrived, Runner, alone_asks, arrived_gone, same_runner, taken_asks, way_free, went_runner, order_in, rank_plan, HasPlanned}
 use Rattle.run_plan.proofs.FollowLaws.{planned_same, planned_then}
 use Rattle.run_plan.proofs.steps.arrive.Goals as goal
 

@@ -1,11 +1,5 @@
 -- The steps that the rank has made alone, up to where it stands.
-use Rattle.std.proofs.Common.{◌≡◌, ◌-◌, ◌≤◌, [], length, drop, None}
-use Rattle.serial_spec.specs.Lawful.{most_calls}
-use Rattle.serial_spec.specs.SerialEnd.{setting_of}
-use Rattle.turn_run.specs.Counts.{IsCount}
-use Rattle.turn_run.specs.Running.{calls_of, IsRunner}
-use Rattle.turn_run.specs.Stages.{arrived}
-use Rattle.run_plan.specs.Planned.{order_in, rank_plan, HasPlanned}
+use Rattle.run_plan.proofs.Words.{◌≡◌, ◌-◌, ◌≤◌, [], length, drop, None, most_calls, setting_of, IsCount, calls_of, IsRunner, arrived, order_in, rank_plan, HasPlanned}
 use Rattle.run_plan.proofs.steps.arrive.Given as goal
 
 abbrev pub invariant-alone : goal.invariant-alone

@@ -1,8 +1,5 @@
 -- Each rank comes with the call after those that it has answered.
-use Rattle.std.proofs.Common.{ℕ, ◌∷◌, [], ◌++◌, ◌∙◌, ap, length, arith}
-use Rattle.turn_run.specs.declared.runners.Runner.{Runner}
-use Rattle.turn_run.proofs.TurnSteps.{get_at}
-use Rattle.run_plan.specs.Planned.{caller}
+use Rattle.run_plan.proofs.Words.{ℕ, ◌∷◌, [], ◌++◌, ◌∙◌, ap, length, arith, Runner, get_at, caller}
 use Rattle.run_plan.proofs.CallerLaws.{one_more}
 use Rattle.run_plan.proofs.steps.callers_of.Goals as goal
 

@@ -1,7 +1,5 @@
 -- The ranks so far have come, and those that are left make all.
-use Rattle.std.proofs.Common.{◌≡◌, ◌++◌, drop, map}
-use Rattle.std.specs.List.{enumerate_from}
-use Rattle.run_plan.specs.Planned.{meeting_callers, runner_caller}
+use Rattle.run_plan.proofs.Words.{◌≡◌, ◌++◌, drop, map, enumerate_from, meeting_callers, runner_caller}
 use Rattle.run_plan.proofs.steps.callers_of.Given as goal
 
 abbrev pub invariant-loop-rank : goal.invariant-loop-rank

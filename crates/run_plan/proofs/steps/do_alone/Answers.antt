@@ -1,23 +1,5 @@
 -- The step is planned, and the rank has heard zeros.
-use Rattle.std.proofs.Common.{◌≡◌, ◌∙◌, refl, sym, ap, subst, List, ℕ, Some, None, max, inr, arith}
-use Rattle.nc_base.specs.declared.step.Mark.{Mark}
-use Rattle.nc_base.specs.declared.step.Mark.TheVariants.{Solo}
-use Rattle.serial_spec.specs.FileStep.{puts_of}
-use Rattle.serial_spec.specs.Owner.{needed_now}
-use Rattle.serial_spec.specs.SerialEnd.{advance, setting_of}
-use Rattle.serial_spec.proofs.LawfulTests.{lawful_hints}
-use Rattle.run_laws.specs.Ways.{IsOnWay}
-use Rattle.run_laws.proofs.LawfulLaws.{ranks_lawful}
-use Rattle.step_plan.specs.declared.plan.StepPlan.{StepPlan}
-use Rattle.turn_run.specs.Counts.{IsCount}
-use Rattle.turn_run.specs.Running.{asking, between, calls_of}
-use Rattle.turn_run.specs.Stages.{arrived}
-use Rattle.turn_run.proofs.AloneLaws.{alone_waits, arrived_free, fits_open, heard_known, order_is}
-use Rattle.turn_run.proofs.CountLaws.{count_begins, count_longer, count_max}
-use Rattle.turn_run.proofs.MeetOffers.{asked_fit}
-use Rattle.turn_run.proofs.MeetPosts.{get_of, put_of, ranked_puts}
-use Rattle.turn_run.proofs.RunnerLaws.{alone_heard, heard_runner}
-use Rattle.run_plan.specs.Planned.{order_in, rank_plan, HasPlanned}
+use Rattle.run_plan.proofs.Words.{◌≡◌, ◌∙◌, refl, sym, ap, subst, List, ℕ, Some, None, max, inr, arith, Mark, Solo, puts_of, needed_now, advance, setting_of, lawful_hints, IsOnWay, ranks_lawful, StepPlan, IsCount, asking, between, calls_of, arrived, alone_waits, arrived_free, fits_open, heard_known, order_is, count_begins, count_longer, count_max, asked_fit, get_of, put_of, ranked_puts, alone_heard, heard_runner, order_in, rank_plan, HasPlanned}
 use Rattle.run_plan.proofs.CountSteps.{grown, solo_counted}
 use Rattle.run_plan.proofs.FollowLaws.{order_more}
 use Rattle.run_plan.proofs.SoloLaws.{alone_device, alone_planned}

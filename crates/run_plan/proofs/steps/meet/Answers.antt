@@ -1,18 +1,5 @@
 -- The meeting is planned, and each rank has heard zeros.
-use Rattle.std.proofs.Common.{refl, sym, ◌∙◌, ap, subst, List, length, map, arith}
-use Rattle.nc_base.specs.declared.step.Mark.TheVariants.{Meet}
-use Rattle.serial_spec.specs.SerialEnd.{setting_of}
-use Rattle.serial_spec.proofs.LawfulTests.{lawful_hints}
-use Rattle.collective_round.specs.Rounds.{puts_in}
-use Rattle.collective_round.proofs.GetLaws.{batch_gets, zero_rows}
-use Rattle.run_laws.proofs.LawfulLaws.{ranks_lawful}
-use Rattle.step_plan.specs.declared.plan.StepPlan.{StepPlan}
-use Rattle.turn_run.specs.Stages.{arrived_all}
-use Rattle.turn_run.proofs.CountLaws.{count_begins}
-use Rattle.turn_run.proofs.MeetDone.{are_done, free_after, order_at, runners_after, table_long, to_hear}
-use Rattle.turn_run.proofs.MeetOffers.{meets_job, meets_rise}
-use Rattle.turn_run.proofs.TurnEnds.{met_number}
-use Rattle.run_plan.specs.Planned.{order_in, plan_stage, HasPlannedAll}
+use Rattle.run_plan.proofs.Words.{refl, sym, ◌∙◌, ap, subst, List, length, map, arith, Meet, setting_of, lawful_hints, puts_in, batch_gets, zero_rows, ranks_lawful, StepPlan, arrived_all, count_begins, are_done, free_after, order_at, runners_after, table_long, to_hear, meets_job, meets_rise, met_number, order_in, plan_stage, HasPlannedAll}
 use Rattle.run_plan.proofs.CallerLaws.{few_answers}
 use Rattle.run_plan.proofs.CountSteps.{grown, met_counted}
 use Rattle.run_plan.proofs.FollowLaws.{order_more}

@@ -1,9 +1,5 @@
 -- As many zeros as each get asks for.
-use Rattle.std.proofs.Common.{◌∙◌, ap, subst, List, map, length, ℕ}
-use Rattle.nc_base.specs.declared.plan.Post.{Post}
-use Rattle.overlay_laws.specs.Entries.{In}
-use Rattle.collective_round.specs.Blobs.{blobs_for}
-use Rattle.collective_round.proofs.GetLaws.{zero_row}
+use Rattle.run_plan.proofs.Words.{◌∙◌, ap, subst, List, map, length, ℕ, Post, In, blobs_for, zero_row}
 use Rattle.run_plan.proofs.steps.zero_reply.Goals as goal
 
 pub zeros_for-requires : goal.zeros_for-requires

@@ -1,5 +1,4 @@
-use Rattle.std.proofs.Common.{rules, drop}
-use Rattle.left_right.specs.Sides.{view}
+use Rattle.run_watch.proofs.Words.{rules, drop, view}
 use Rattle.run_watch.proofs.Results.{pushed}
 use Rattle.run_watch.proofs.board.add.Goals as goal
 

@@ -1,5 +1,4 @@
-use Rattle.std.proofs.Common.{None, drop, refl, ap}
-use Rattle.run_watch.specs.declared.rule.Shown.{Shown}
+use Rattle.run_watch.proofs.Words.{None, drop, refl, ap, Shown}
 use Rattle.run_watch.proofs.Moves.{begins, reads_at}
 use Rattle.run_watch.proofs.Results.{none_shown}
 use Rattle.run_watch.proofs.board.opened_writer.Goals as goal

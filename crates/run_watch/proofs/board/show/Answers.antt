@@ -1,10 +1,4 @@
-use Rattle.std.proofs.Common.{◌≡◌, ◌++◌, ◌∷◌, [], List, Option, Some, drop, fold, refl, sym, ap, ◌∙◌, subst}
-use Rattle.left_right.specs.Sides.{view}
-use Rattle.crossbeam_utils.specs.Register.{TurnsAt}
-use Rattle.run_watch.specs.declared.rule.Heard.{Heard}
-use Rattle.run_watch.specs.declared.rule.Shown.{Shown}
-use Rattle.run_watch.specs.Heard.{summary}
-use Rattle.run_watch.specs.BoardRule.{Keeps, TellsMore}
+use Rattle.run_watch.proofs.Words.{◌≡◌, ◌++◌, ◌∷◌, [], List, Option, Some, drop, fold, refl, sym, ap, ◌∙◌, subst, view, TurnsAt, Heard, Shown, summary, Keeps, TellsMore}
 use Rattle.run_watch.proofs.Moves.{tells}
 use Rattle.run_watch.proofs.Results.{ok_of, done, last_shown, shown, summed, told_more}
 use Rattle.run_watch.proofs.board.show.Goals as goal

@@ -1,5 +1,4 @@
-use Rattle.std.proofs.Common.{◌≡◌, length, All}
-use Rattle.run_watch.specs.Heard.{opened}
+use Rattle.run_watch.proofs.Words.{◌≡◌, length, All, opened}
 use Rattle.run_watch.proofs.board.watch.Given as goal
 
 abbrev pub invariant-loop-number : goal.invariant-loop-number

@@ -1,5 +1,4 @@
-use Rattle.std.proofs.Common.{◌≡◌, [], length}
-use Rattle.script_spec.specs.ScriptCalls.{ids}
+use Rattle.script_calls.proofs.Words.{◌≡◌, [], length, ids}
 use Rattle.script_calls.proofs.calls.ids.Given as goal
 
 abbrev pub invariant-loop-found : goal.invariant-loop-found

@@ -1,5 +1,4 @@
-use Rattle.std.proofs.Common.{◌≡◌, ◌≤◌, ◌-◌, length}
-use Rattle.script_spec.specs.ScriptCalls.{is_difference}
+use Rattle.script_calls.proofs.Words.{◌≡◌, ◌≤◌, ◌-◌, length, is_difference}
 use Rattle.script_calls.proofs.MismatchLaws.{left}
 use Rattle.script_calls.proofs.mismatch.first_difference.Given as goal
 

@@ -1,5 +1,4 @@
-use Rattle.std.proofs.Common.{◌≡◌, ◌≤◌, take, length}
-use Rattle.serial_spec.specs.History.{kinds}
+use Rattle.script_calls.proofs.Words.{◌≡◌, ◌≤◌, take, length, kinds}
 use Rattle.script_calls.proofs.rank_calls.kinds.Given as goal
 
 abbrev pub invariant-loop-call : goal.invariant-loop-call

@@ -1,6 +1,4 @@
-use Rattle.std.proofs.Common.{◌≡◌, length}
-use Rattle.std.specs.List.{list_any}
-use Rattle.script_spec.specs.ScriptDefinitions.{is_added_record}
+use Rattle.script_definitions.proofs.Words.{◌≡◌, length, list_any, is_added_record}
 use Rattle.script_definitions.proofs.added.any_record.Given as goal
 
 abbrev pub invariant-loop-name : goal.invariant-loop-name

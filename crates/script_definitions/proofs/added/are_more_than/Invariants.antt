@@ -1,4 +1,4 @@
-use Rattle.std.proofs.Common.{◌≡◌, length, nat_lt}
+use Rattle.script_definitions.proofs.Words.{◌≡◌, length, nat_lt}
 use Rattle.script_definitions.proofs.added.are_more_than.Given as goal
 
 abbrev pub invariant-loop-left : goal.invariant-loop-left

@@ -1,4 +1,4 @@
-use Rattle.std.proofs.Common.{◌≡◌, ◌++◌, length}
+use Rattle.script_definitions.proofs.Words.{◌≡◌, ◌++◌, length}
 use Rattle.script_definitions.proofs.added.owned_names.Given as goal
 
 abbrev pub invariant-loop-name : goal.invariant-loop-name

@@ -1,7 +1,4 @@
-use Rattle.std.proofs.Common.{◌≡◌, ◌∙◌, ℕ, ap, flat_map, arith}
-use Rattle.std.specs.List.{range_with_len}
-use Rattle.nc_base.specs.Values.{count_of}
-use Rattle.serial_spec.specs.Request.{ext_of, value_at}
+use Rattle.script_definitions.proofs.Words.{◌≡◌, ◌∙◌, ℕ, ap, flat_map, arith, range_with_len, count_of, ext_of, value_at}
 use Rattle.script_definitions.proofs.ListLaws.{bytes_more, bytes_of_all}
 use Rattle.script_definitions.proofs.attributes.external_bytes.Goals as goal
 

@@ -1,6 +1,4 @@
-use Rattle.std.proofs.Common.{◌≡◌, flat_map}
-use Rattle.std.specs.List.{range_with_len}
-use Rattle.serial_spec.specs.Request.{ext_of, value_at}
+use Rattle.script_definitions.proofs.Words.{◌≡◌, flat_map, range_with_len, ext_of, value_at}
 use Rattle.script_definitions.proofs.attributes.external_bytes.Given as goal
 
 abbrev pub invariant-loop-k : goal.invariant-loop-k

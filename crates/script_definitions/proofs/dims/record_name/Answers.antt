@@ -1,4 +1,4 @@
-use Rattle.std.specs.Prelude.{option_map}
+use Rattle.script_definitions.proofs.Words.{option_map}
 use Rattle.script_definitions.proofs.DimLaws.{record_pushed}
 use Rattle.script_definitions.proofs.dims.record_name.Goals as goal
 

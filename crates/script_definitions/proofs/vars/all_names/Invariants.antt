@@ -1,6 +1,4 @@
-use Rattle.std.proofs.Common.{◌≡◌, length}
-use Rattle.std.specs.List.{list_all}
-use Rattle.script_spec.specs.ScriptWords.{is_name}
+use Rattle.script_definitions.proofs.Words.{◌≡◌, length, list_all, is_name}
 use Rattle.script_definitions.proofs.vars.all_names.Given as goal
 
 abbrev pub invariant-loop-part : goal.invariant-loop-part

@@ -1,6 +1,4 @@
-use Rattle.std.proofs.Common.{◌≡◌, length}
-use Rattle.script_spec.specs.ScriptDefinitions.{dim_ids}
-use Rattle.script_values.proofs.FoundLaws.{with_found}
+use Rattle.script_definitions.proofs.Words.{◌≡◌, length, dim_ids, with_found}
 use Rattle.script_definitions.proofs.vars.dim_ids.Given as goal
 
 abbrev pub invariant-loop-name : goal.invariant-loop-name

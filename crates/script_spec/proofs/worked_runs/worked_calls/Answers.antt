@@ -1,6 +1,4 @@
-use Rattle.std.proofs.Common.{refl}
-use Rattle.std.specs.Fmt.{digits}
-use Rattle.serial_spec.specs.HeaderBytes.{canon}
+use Rattle.script_spec.proofs.Words.{refl, digits, canon}
 use Rattle.script_spec.proofs.worked_runs.worked_calls.Goals as goal
 
 pub returns-clause-overlap : goal.returns-clause-overlap

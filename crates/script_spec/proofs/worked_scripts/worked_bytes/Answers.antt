@@ -1,8 +1,5 @@
-use Rattle.std.proofs.Common.{refl}
-use Rattle.std.specs.Fmt.{digits}
-use Rattle.std.specs.Str.{is_utf8, chars}
+use Rattle.script_spec.proofs.Words.{refl, digits, is_utf8, chars, utf8_valid_len}
 use lib.Utf8.{encode}
-use Rattle.std.specs.Str.Lossy.{utf8_valid_len}
 use Rattle.script_spec.proofs.worked_scripts.worked_bytes.Goals as goal
 
 pub returns-clause-no_first : goal.returns-clause-no_first

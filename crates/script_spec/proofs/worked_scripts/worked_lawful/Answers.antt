@@ -1,5 +1,4 @@
-use Rattle.std.proofs.Common.{refl}
-use Rattle.std.specs.Fmt.{digits}
+use Rattle.script_spec.proofs.Words.{refl, digits}
 use Rattle.script_spec.proofs.worked_scripts.worked_lawful.Goals as goal
 
 pub returns-clause-halves : goal.returns-clause-halves

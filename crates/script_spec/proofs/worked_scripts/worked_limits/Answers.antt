@@ -1,6 +1,5 @@
-use Rattle.std.proofs.Common.{◌≡◌, length, Bool, true, false, refl, ap}
+use Rattle.script_spec.proofs.Words.{◌≡◌, length, Bool, true, false, refl, ap, fault_of}
 use Rattle.std.specs.Prelude.{nat_lt, ◌^◌}
-use Rattle.script_spec.specs.ScriptGrammar.{fault_of}
 use Rattle.script_spec.proofs.worked_scripts.worked_limits.Goals as goal
 
 chosen : {A : Type 0} (t : Bool) (x y : A) → t ≡ true → elim t as (λ b. A) [ true ↦ x | false ↦ y ] ≡ x

@@ -1,5 +1,4 @@
-use Rattle.std.proofs.Common.{refl}
-use Rattle.std.specs.Fmt.{digits}
+use Rattle.script_spec.proofs.Words.{refl, digits}
 use Rattle.script_spec.proofs.worked_scripts.worked_plain_calls.Goals as goal
 
 pub returns-clause-shown_requests : goal.returns-clause-shown_requests

@@ -1,4 +1,4 @@
-use Rattle.std.proofs.Common.{refl}
+use Rattle.script_spec.proofs.Words.{refl}
 use Rattle.script_spec.proofs.worked_scripts.worked_script_faults.Goals as goal
 
 pub returns-clause-ranks_twice : goal.returns-clause-ranks_twice

@@ -1,6 +1,4 @@
-use Rattle.std.proofs.Common.{[], ◌∷◌, refl, pos, neg_ℤ, codes, arith}
-use Rattle.script_spec.specs.ScriptWords.{words}
-use Rattle.script_spelling.specs.SpelledValues.{OfNumbers, OfBits, OfSequence}
+use Rattle.script_spelling.proofs.Words.{[], ◌∷◌, refl, pos, neg_ℤ, codes, arith, words, OfNumbers, OfBits, OfSequence}
 use Rattle.script_spelling.proofs.worked_lines.worked_calls.Goals as goal
 
 pub returns-clause-put : goal.returns-clause-put

@@ -1,4 +1,4 @@
-use Rattle.std.proofs.Common.{[], ◌∷◌, refl, arith}
+use Rattle.script_spelling.proofs.Words.{[], ◌∷◌, refl, arith}
 use Rattle.script_spelling.proofs.worked_lines.worked_order.Goals as goal
 
 pub returns-clause-before : goal.returns-clause-before

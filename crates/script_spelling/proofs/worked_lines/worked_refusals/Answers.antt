@@ -1,4 +1,4 @@
-use Rattle.std.proofs.Common.{refl}
+use Rattle.script_spelling.proofs.Words.{refl}
 use Rattle.nc_base.specs.declared.errors.ScriptKind.TheVariants as kind
 use Rattle.script_spelling.proofs.Told.{unread}
 use Rattle.script_spelling.proofs.worked_lines.worked_refusals.Goals as goal

@@ -1,9 +1,4 @@
-use Rattle.std.proofs.Common.{◌≡◌, ℕ, List, [], ◌∷◌, Some, None, refl, subst, codes}
-use Rattle.nc_base.specs.declared.header.NcType.TheVariants.{UByte}
-use Rattle.nc_base.specs.declared.request.Values.TheVariants.{Text}
-use Rattle.script_spec.specs.ScriptWords.{Plain, Quoted}
-use Rattle.script_spec.specs.ScriptDefinitions.{type_of}
-use Rattle.script_spelling.specs.SpelledValues.{OfText}
+use Rattle.script_spelling.proofs.Words.{◌≡◌, ℕ, List, [], ◌∷◌, Some, None, refl, subst, codes, UByte, Text, Plain, Quoted, type_of, OfText}
 use Rattle.script_spelling.proofs.worked_lines.worked_statements.Goals as goal
 
 pub returns-clause-ranks : goal.returns-clause-ranks

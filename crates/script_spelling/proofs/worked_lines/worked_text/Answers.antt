@@ -1,13 +1,6 @@
-use Rattle.std.proofs.Common.{[], ◌∷◌, true, pos, refl, codes, arith}
-use Rattle.std.proofs.lemmas.Bool.{leb-true}
-use Rattle.nc_base.specs.declared.header.NcType.TheVariants.{Int}
-use Rattle.nc_base.specs.declared.request.Values.TheVariants.{Numbers}
+use Rattle.script_spelling.proofs.Words.{[], ◌∷◌, true, pos, refl, codes, arith, leb-true, Int, Numbers, given_of, words, OfNumbers, RanksAre, DimIs, VarIs}
 use Rattle.nc_base.specs.declared.request.Form.TheVariants as form
 use Rattle.nc_base.specs.declared.request.Call.TheVariants as call
-use Rattle.script_spec.specs.ScriptCalls.{given_of}
-use Rattle.script_spec.specs.ScriptWords.{words}
-use Rattle.script_spelling.specs.SpelledValues.{OfNumbers}
-use Rattle.script_spelling.specs.Statements.{RanksAre, DimIs, VarIs}
 use Rattle.script_spelling.proofs.worked_lines.worked_text.Goals as goal
 
 pub returns-clause-lines : goal.returns-clause-lines

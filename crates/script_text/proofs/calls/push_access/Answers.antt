@@ -1,9 +1,5 @@
-use Rattle.std.proofs.Common.{List, ℕ, ◌∷◌, ◌++◌, sym, ap, ◌∙◌}
-use Rattle.std.proofs.lemmas.List.Concat.{flat_map-append}
-use Rattle.script_spec.specs.Shown.{region_words, shown_values}
-use Rattle.printed_text.specs.Spaced.{spaced}
+use Rattle.script_text.proofs.Words.{List, ℕ, ◌∷◌, ◌++◌, sym, ap, ◌∙◌, flat_map-append, region_words, shown_values, spaced, then_append}
 use Rattle.script_text.proofs.calls.push_access.Goals as goal
-use Rattle.list_laws.proofs.Appends.{then_append}
 
 pub returns : goal.returns
 returns c =

@@ -1,10 +1,6 @@
-use Rattle.std.proofs.Common.{List, ℕ, [], ◌∷◌, ◌++◌, decimal, ap, ◌∙◌}
-use Rattle.script_spec.specs.Shown.{call_words}
-use Rattle.script_spec.specs.Texts.{call_word}
-use Rattle.printed_text.specs.Spaced.{spaced}
+use Rattle.script_text.proofs.Words.{List, ℕ, [], ◌∷◌, ◌++◌, decimal, ap, ◌∙◌, call_words, call_word, spaced, then_append}
 use Rattle.script_text.proofs.PrintingLaws.{line_words}
 use Rattle.script_text.proofs.calls.push_call.Goals as goal
-use Rattle.list_laws.proofs.Appends.{then_append}
 
 pub returns : goal.returns
 returns c =

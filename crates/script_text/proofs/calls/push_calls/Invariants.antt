@@ -1,6 +1,4 @@
-use Rattle.std.proofs.Common.{◌≡◌, ◌++◌, take}
-use Rattle.std.specs.List.{flat_map}
-use Rattle.script_spec.specs.Shown.{shown_call}
+use Rattle.script_text.proofs.Words.{◌≡◌, ◌++◌, take, flat_map, shown_call}
 use Rattle.script_text.proofs.calls.push_calls.Given as goal
 
 abbrev pub invariant-loop-call : goal.invariant-loop-call

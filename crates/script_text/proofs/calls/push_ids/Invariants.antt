@@ -1,5 +1,4 @@
-use Rattle.std.proofs.Common.{◌≡◌, ◌++◌, map, take, decimal}
-use Rattle.printed_text.specs.Spaced.{spaced}
+use Rattle.script_text.proofs.Words.{◌≡◌, ◌++◌, map, take, decimal, spaced}
 use Rattle.script_text.proofs.calls.push_ids.Given as goal
 
 abbrev pub invariant-loop-id : goal.invariant-loop-id

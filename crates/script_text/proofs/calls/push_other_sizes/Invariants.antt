@@ -1,5 +1,4 @@
-use Rattle.std.proofs.Common.{◌≡◌, ◌∷◌, ◌++◌, map, take, decimal}
-use Rattle.std.specs.List.{flat_map}
+use Rattle.script_text.proofs.Words.{◌≡◌, ◌∷◌, ◌++◌, map, take, decimal, flat_map}
 use Rattle.script_text.proofs.calls.push_other_sizes.Given as goal
 
 abbrev pub invariant-loop-size : goal.invariant-loop-size

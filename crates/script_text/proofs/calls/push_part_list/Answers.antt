@@ -1,11 +1,6 @@
-use Rattle.std.proofs.Common.{List, ℕ, ◌∷◌, ◌++◌, length, decimal, ap, ◌∙◌}
-use Rattle.std.specs.List.{flat_map}
-use Rattle.nc_base.specs.declared.request.Part.{Part}
-use Rattle.script_spec.specs.Shown.{part_words}
-use Rattle.printed_text.specs.Spaced.{spaced}
+use Rattle.script_text.proofs.Words.{List, ℕ, ◌∷◌, ◌++◌, length, decimal, ap, ◌∙◌, flat_map, Part, part_words, spaced, then_append}
 use Rattle.script_text.proofs.PrintingLaws.{spaced_parts}
 use Rattle.script_text.proofs.calls.push_part_list.Goals as goal
-use Rattle.list_laws.proofs.Appends.{then_append}
 
 pub returns : goal.returns
 returns c =

@@ -1,7 +1,4 @@
-use Rattle.std.proofs.Common.{◌≡◌, ◌++◌, take}
-use Rattle.std.specs.List.{flat_map}
-use Rattle.script_spec.specs.Shown.{part_words}
-use Rattle.printed_text.specs.Spaced.{spaced}
+use Rattle.script_text.proofs.Words.{◌≡◌, ◌++◌, take, flat_map, part_words, spaced}
 use Rattle.script_text.proofs.calls.push_parts.Given as goal
 
 abbrev pub invariant-loop-part : goal.invariant-loop-part

@@ -1,8 +1,5 @@
-use Rattle.std.proofs.Common.{◌∷◌}
-use Rattle.script_spec.specs.Shown.{region_words}
-use Rattle.printed_text.specs.Spaced.{spaced}
+use Rattle.script_text.proofs.Words.{◌∷◌, region_words, spaced, then_append}
 use Rattle.script_text.proofs.calls.push_place.Goals as goal
-use Rattle.list_laws.proofs.Appends.{then_append}
 
 pub returns : goal.returns
 returns c =

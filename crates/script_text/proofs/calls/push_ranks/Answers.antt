@@ -1,7 +1,4 @@
-use Rattle.std.proofs.Common.{ℕ, List, arith}
-use Rattle.std.specs.List.{flat_map}
-use Rattle.nc_base.specs.declared.request.Call.{Call}
-use Rattle.script_spec.specs.Shown.{shown_call}
+use Rattle.script_text.proofs.Words.{ℕ, List, arith, flat_map, Call, shown_call}
 use Rattle.script_text.proofs.PrintingLaws.{rank_pushed, ranks_pushed}
 use Rattle.script_text.proofs.calls.push_ranks.Goals as goal
 

@@ -1,6 +1,4 @@
-use Rattle.std.proofs.Common.{◌≡◌, ◌++◌, take}
-use Rattle.std.specs.List.{enumerate_from, flat_map}
-use Rattle.script_spec.specs.Shown.{shown_call}
+use Rattle.script_text.proofs.Words.{◌≡◌, ◌++◌, take, enumerate_from, flat_map, shown_call}
 use Rattle.script_text.proofs.calls.push_ranks.Given as goal
 
 abbrev pub invariant-loop-rank : goal.invariant-loop-rank

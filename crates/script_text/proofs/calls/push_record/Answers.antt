@@ -1,7 +1,5 @@
-use Rattle.std.proofs.Common.{List, ℕ, ◌∷◌, ◌++◌, decimal, sym, ap, ◌∙◌}
-use Rattle.printed_text.proofs.WordLaws.{spaced_one}
+use Rattle.script_text.proofs.Words.{List, ℕ, ◌∷◌, ◌++◌, decimal, sym, ap, ◌∙◌, spaced_one, then_append}
 use Rattle.script_text.proofs.calls.push_record.Goals as goal
-use Rattle.list_laws.proofs.Appends.{then_append}
 
 pub returns : goal.returns
 returns c =

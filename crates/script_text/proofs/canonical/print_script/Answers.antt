@@ -1,10 +1,5 @@
-use Rattle.std.proofs.Common.{List, ℕ, [], ◌∷◌, ◌++◌, cond, codes, decimal, ap, ◌∙◌}
-use Rattle.std.specs.List.{enumerate_from, flat_map}
-use Rattle.nc_base.specs.declared.request.Call.{Call}
-use Rattle.script_spec.specs.Shown.{shown_call, shown_definitions, shown_extra, shown_hints}
-use Rattle.script_spec.specs.Texts.{line}
+use Rattle.script_text.proofs.Words.{List, ℕ, [], ◌∷◌, ◌++◌, cond, codes, decimal, ap, ◌∙◌, enumerate_from, flat_map, Call, shown_call, shown_definitions, shown_extra, shown_hints, line, then_append}
 use Rattle.script_text.proofs.canonical.print_script.Goals as goal
-use Rattle.list_laws.proofs.Appends.{then_append}
 
 pub returns : goal.returns
 returns c =

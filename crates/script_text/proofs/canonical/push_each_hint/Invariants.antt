@@ -1,7 +1,4 @@
-use Rattle.std.proofs.Common.{◌≡◌, ◌++◌, take}
-use Rattle.std.specs.List.{flat_map}
-use Rattle.script_spec.specs.Shown.{shown_hint}
-use Rattle.hint_table.specs.HintNames.{row_of}
+use Rattle.script_text.proofs.Words.{◌≡◌, ◌++◌, take, flat_map, shown_hint, row_of}
 use Rattle.script_text.proofs.canonical.push_each_hint.Given as goal
 
 abbrev pub invariant-loop-name : goal.invariant-loop-name

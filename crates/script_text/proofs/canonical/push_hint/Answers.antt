@@ -1,7 +1,4 @@
-use Rattle.std.proofs.Common.{List, ℕ, [], ◌∷◌, ◌++◌, codes}
-use Rattle.script_spec.specs.HintTable.{shown_value}
-use Rattle.hint_table.specs.HintNames.{row_of}
-use Rattle.list_laws.proofs.Appends.{then_append}
+use Rattle.script_text.proofs.Words.{List, ℕ, [], ◌∷◌, ◌++◌, codes, shown_value, row_of, then_append}
 use Rattle.script_text.proofs.canonical.push_hint.Goals as goal
 
 pub returns : goal.returns

@@ -1,8 +1,5 @@
-use Rattle.std.proofs.Common.{List, ℕ, [], ◌∷◌, ◌++◌, cond, codes, decimal}
-use Rattle.script_spec.specs.Shown.{shown_hints}
-use Rattle.script_spec.specs.Texts.{line}
+use Rattle.script_text.proofs.Words.{List, ℕ, [], ◌∷◌, ◌++◌, cond, codes, decimal, shown_hints, line, then_append}
 use Rattle.script_text.proofs.canonical.push_opening.Goals as goal
-use Rattle.list_laws.proofs.Appends.{then_append}
 
 pub returns : goal.returns
 returns c =

@@ -1,10 +1,6 @@
-use Rattle.std.proofs.Common.{List, ℕ, [], ◌∷◌, ◌++◌, codes, ap, ◌∙◌}
-use Rattle.script_spec.specs.Shown.{attr_values, shown_values}
-use Rattle.script_spec.specs.Texts.{type_word}
-use Rattle.printed_text.specs.Spaced.{spaced}
+use Rattle.script_text.proofs.Words.{List, ℕ, [], ◌∷◌, ◌++◌, codes, ap, ◌∙◌, attr_values, shown_values, type_word, spaced, then_append}
 use Rattle.script_text.proofs.PrintingLaws.{attr_words}
 use Rattle.script_text.proofs.definitions.push_attr.Goals as goal
-use Rattle.list_laws.proofs.Appends.{then_append}
 
 pub returns : goal.returns
 returns c =

@@ -1,5 +1,4 @@
-use Rattle.std.proofs.Common.{ap, ◌∙◌, arith}
-use Rattle.serial_spec.specs.Lawful.{is_whole_attr}
+use Rattle.script_text.proofs.Words.{ap, ◌∙◌, arith, is_whole_attr}
 use Rattle.script_text.proofs.PrintingLaws.{all_at}
 use Rattle.script_text.proofs.definitions.push_attrs.Goals as goal
 

@@ -1,9 +1,5 @@
-use Rattle.std.proofs.Common.{List, ℕ, ◌++◌, codes}
-use Rattle.std.specs.List.{flat_map}
-use Rattle.nc_base.specs.declared.header.Var.{Var}
-use Rattle.script_spec.specs.Shown.{shown_attr, shown_dim, shown_var}
+use Rattle.script_text.proofs.Words.{List, ℕ, ◌++◌, codes, flat_map, Var, shown_attr, shown_dim, shown_var, then_append}
 use Rattle.script_text.proofs.definitions.push_definitions.Goals as goal
-use Rattle.list_laws.proofs.Appends.{then_append}
 
 pub returns : goal.returns
 returns c =

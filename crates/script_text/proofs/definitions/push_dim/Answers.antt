@@ -1,6 +1,5 @@
-use Rattle.std.proofs.Common.{List, ℕ, [], ◌∷◌, ◌++◌, ◌==◌, cond, codes, decimal}
+use Rattle.script_text.proofs.Words.{List, ℕ, [], ◌∷◌, ◌++◌, ◌==◌, cond, codes, decimal, then_append}
 use Rattle.script_text.proofs.definitions.push_dim.Goals as goal
-use Rattle.list_laws.proofs.Appends.{then_append}
 
 pub returns : goal.returns
 returns c =

@@ -1,6 +1,4 @@
-use Rattle.std.proofs.Common.{◌≡◌, ◌++◌, take}
-use Rattle.std.specs.List.{flat_map}
-use Rattle.script_spec.specs.Shown.{shown_dim}
+use Rattle.script_text.proofs.Words.{◌≡◌, ◌++◌, take, flat_map, shown_dim}
 use Rattle.script_text.proofs.definitions.push_dims.Given as goal
 
 abbrev pub invariant-loop-dim : goal.invariant-loop-dim

@@ -1,9 +1,6 @@
-use Rattle.std.proofs.Common.{List, ℕ, [], ◌∷◌, ◌++◌, map, sym, ap, ◌∙◌}
-use Rattle.std.specs.List.{flat_map}
-use Rattle.script_spec.specs.Texts.{dim_name}
+use Rattle.script_text.proofs.Words.{List, ℕ, [], ◌∷◌, ◌++◌, map, sym, ap, ◌∙◌, flat_map, dim_name, then_append}
 use Rattle.script_text.proofs.PrintingLaws.{joined_parts}
 use Rattle.script_text.proofs.definitions.push_first_dim.Goals as goal
-use Rattle.list_laws.proofs.Appends.{then_append}
 
 pub returns : goal.returns
 returns c =

@@ -1,8 +1,6 @@
-use Rattle.std.proofs.Common.{List, ℕ, [], ◌∷◌, ◌++◌, sym, ap, ◌∙◌}
-use Rattle.std.specs.List.{flat_map}
+use Rattle.script_text.proofs.Words.{List, ℕ, [], ◌∷◌, ◌++◌, sym, ap, ◌∙◌, flat_map, then_append}
 use Rattle.script_text.proofs.PrintingLaws.{joined_parts}
 use Rattle.script_text.proofs.definitions.push_first_name.Goals as goal
-use Rattle.list_laws.proofs.Appends.{then_append}
 
 pub returns : goal.returns
 returns c =

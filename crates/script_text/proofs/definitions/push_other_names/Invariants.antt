@@ -1,5 +1,4 @@
-use Rattle.std.proofs.Common.{◌≡◌, ◌∷◌, ◌++◌, take}
-use Rattle.std.specs.List.{flat_map}
+use Rattle.script_text.proofs.Words.{◌≡◌, ◌∷◌, ◌++◌, take, flat_map}
 use Rattle.script_text.proofs.definitions.push_other_names.Given as goal
 
 abbrev pub invariant-loop-name : goal.invariant-loop-name

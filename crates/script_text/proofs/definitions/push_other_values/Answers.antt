@@ -1,6 +1,4 @@
-use Rattle.std.proofs.Common.{List, ℕ, ◌++◌, ap, ◌∙◌}
-use Rattle.serial_spec.specs.ExternalForm.{size_of}
-use Rattle.script_spec.specs.Shown.{pieces}
+use Rattle.script_text.proofs.Words.{List, ℕ, ◌++◌, ap, ◌∙◌, size_of, pieces}
 use Rattle.script_text.proofs.PrintingLaws.{values_pushed}
 use Rattle.script_text.proofs.definitions.push_other_values.Goals as goal
 

@@ -1,7 +1,4 @@
-use Rattle.std.proofs.Common.{◌≡◌, ◌-◌, ◌∙◌, ap, ℕ, List, ◌∷◌, ◌++◌, length, take, drop, suc, arith}
-use Rattle.nc_base.specs.declared.request.Value.{Value}
-use Rattle.serial_spec.specs.ExternalForm.{size_of, val}
-use Rattle.script_text.specs.CanonicalParts.{value_word}
+use Rattle.script_text.proofs.Words.{◌≡◌, ◌-◌, ◌∙◌, ap, ℕ, List, ◌∷◌, ◌++◌, length, take, drop, suc, arith, Value, size_of, val, value_word}
 use Rattle.script_text.proofs.PrintingLaws.{piece_pushed, pieces_last}
 use Rattle.script_text.proofs.definitions.push_pieces.Goals as goal
 

@@ -1,8 +1,4 @@
-use Rattle.std.proofs.Common.{◌≡◌, ◌*◌, ◌∷◌, ◌++◌, length}
-use Rattle.std.specs.List.{flat_map}
-use Rattle.serial_spec.specs.ExternalForm.{size_of, val}
-use Rattle.script_spec.specs.Shown.{pieces}
-use Rattle.script_text.specs.CanonicalParts.{value_word}
+use Rattle.script_text.proofs.Words.{◌≡◌, ◌*◌, ◌∷◌, ◌++◌, length, flat_map, size_of, val, pieces, value_word}
 use Rattle.script_text.proofs.definitions.push_pieces.Given as goal
 
 -- what is left gives the whole

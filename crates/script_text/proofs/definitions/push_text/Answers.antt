@@ -1,8 +1,6 @@
-use Rattle.std.proofs.Common.{List, ℕ, [], ◌∷◌, ◌++◌, sym, ap, ◌∙◌}
-use Rattle.script_spec.specs.Texts.{quoted}
+use Rattle.script_text.proofs.Words.{List, ℕ, [], ◌∷◌, ◌++◌, sym, ap, ◌∙◌, quoted, then_append}
 use Rattle.script_text.proofs.PrintingLaws.{text_pushed}
 use Rattle.script_text.proofs.definitions.push_text.Goals as goal
-use Rattle.list_laws.proofs.Appends.{then_append}
 
 pub returns : goal.returns
 returns c =

@@ -1,9 +1,6 @@
-use Rattle.std.proofs.Common.{List, ℕ, [], ◌∷◌, ◌++◌, codes, map, ap, ◌∙◌}
-use Rattle.script_spec.specs.Shown.{bracketed}
-use Rattle.script_spec.specs.Texts.{dim_name, joined, type_word}
+use Rattle.script_text.proofs.Words.{List, ℕ, [], ◌∷◌, ◌++◌, codes, map, ap, ◌∙◌, bracketed, dim_name, joined, type_word, then_append}
 use Rattle.script_text.proofs.PrintingLaws.{title_then}
 use Rattle.script_text.proofs.definitions.push_var.Goals as goal
-use Rattle.list_laws.proofs.Appends.{then_append}
 
 pub returns : goal.returns
 returns c =

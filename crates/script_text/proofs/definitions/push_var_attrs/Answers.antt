@@ -1,8 +1,4 @@
-use Rattle.std.proofs.Common.{List, ap, ◌∙◌, arith}
-use Rattle.std.specs.List.{list_all}
-use Rattle.nc_base.specs.declared.header.Attr.{Attr}
-use Rattle.nc_base.specs.declared.header.Var.{Var}
-use Rattle.serial_spec.specs.Lawful.{is_whole_attr}
+use Rattle.script_text.proofs.Words.{List, ap, ◌∙◌, arith, list_all, Attr, Var, is_whole_attr}
 use Rattle.script_text.proofs.PrintingLaws.{all_at}
 use Rattle.script_text.proofs.definitions.push_var_attrs.Goals as goal
 

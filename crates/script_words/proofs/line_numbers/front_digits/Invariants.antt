@@ -1,7 +1,4 @@
-use Rattle.std.proofs.Common.{◌≡◌, ◌≤◌, ◌<◌, ◌-◌, take, true}
-use Rattle.std.specs.List.{list_all}
-use Rattle.script_spec.proofs.NumeralLaws.{tens}
-use Rattle.script_spec.specs.ScriptWords.{is_digit, digits_value}
+use Rattle.script_words.proofs.Words.{◌≡◌, ◌≤◌, ◌<◌, ◌-◌, take, true, list_all, tens, is_digit, digits_value}
 use Rattle.script_words.proofs.line_numbers.front_digits.Given as goal
 
 abbrev pub invariant-loop-len : goal.invariant-loop-len

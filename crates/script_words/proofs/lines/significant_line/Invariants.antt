@@ -1,5 +1,4 @@
-use Rattle.std.proofs.Common.{◌≡◌, length}
-use Rattle.script_spec.specs.ScriptWords.{significant_of}
+use Rattle.script_words.proofs.Words.{◌≡◌, length, significant_of}
 use Rattle.script_words.proofs.lines.significant_line.Given as goal
 
 abbrev pub invariant-loop-number : goal.invariant-loop-number

@@ -1,5 +1,4 @@
-use Rattle.std.proofs.Common.{◌≡◌, ◌≤◌, ◌+◌, ◌*◌, ◌-◌, arith, get_or, take}
-use Rattle.script_spec.specs.ScriptWords.{digits_value}
+use Rattle.script_words.proofs.Words.{◌≡◌, ◌≤◌, ◌+◌, ◌*◌, ◌-◌, arith, get_or, take, digits_value}
 use Rattle.script_words.proofs.NumberLaws.{digit_at, value_more}
 use Rattle.script_words.proofs.numbers.digits_below.Goals as goal
 

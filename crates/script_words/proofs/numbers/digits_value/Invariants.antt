@@ -1,6 +1,4 @@
-use Rattle.std.proofs.Common.{◌≡◌, ◌<◌, take}
-use Rattle.script_spec.proofs.NumeralLaws.{tens}
-use Rattle.script_spec.specs.ScriptWords.{digits_value}
+use Rattle.script_words.proofs.Words.{◌≡◌, ◌<◌, take, tens, digits_value}
 use Rattle.script_words.proofs.numbers.digits_value.Given as goal
 
 abbrev pub invariant-loop-d : goal.invariant-loop-d

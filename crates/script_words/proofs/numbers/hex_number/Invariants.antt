@@ -1,6 +1,4 @@
-use Rattle.std.proofs.Common.{◌≡◌, ◌<◌, drop, fold, Some}
-use Rattle.script_spec.proofs.NumeralLaws.{sixteens}
-use Rattle.script_spec.specs.ScriptWords.{hex_sum}
+use Rattle.script_words.proofs.Words.{◌≡◌, ◌<◌, drop, fold, Some, sixteens, hex_sum}
 use Rattle.script_words.proofs.numbers.hex_number.Given as goal
 
 abbrev pub invariant-loop-digit : goal.invariant-loop-digit

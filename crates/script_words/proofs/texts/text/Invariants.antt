@@ -1,5 +1,4 @@
-use Rattle.std.proofs.Common.{◌≡◌, ◌+◌, ◌≤◌, length}
-use Rattle.script_spec.specs.ScriptWords.{text_from, Between}
+use Rattle.script_words.proofs.Words.{◌≡◌, ◌+◌, ◌≤◌, length, text_from, Between}
 use Rattle.script_words.proofs.TextLaws.{with_front}
 use Rattle.script_words.proofs.texts.text.Given as goal
 

@@ -1,5 +1,5 @@
 -- The answers of those so far.
-use Rattle.std.proofs.Common.{◌≡◌, map}
+use Rattle.serial_run.proofs.Words.{◌≡◌, map}
 use Rattle.serial_run.proofs.end.answers_of.Given as goal
 
 abbrev pub invariant-loop-runner : goal.invariant-loop-runner

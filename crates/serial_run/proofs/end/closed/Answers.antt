@@ -1,10 +1,6 @@
 -- The file, its count, and what the ranks leave.
-use Rattle.std.proofs.Common.{ℕ, ◌<◌, ◌∙◌, sym, ap, subst, List, map}
-use Rattle.serial_spec.specs.Limits.{record_limit}
+use Rattle.serial_run.proofs.Words.{ℕ, ◌<◌, ◌∙◌, sym, ap, subst, List, map, record_limit, setting, most_known, Runner}
 use Rattle.serial_spec.specs.RankMachine as machine
-use Rattle.element_steps.specs.Requests.{setting}
-use Rattle.serial_run.specs.Ended.{most_known}
-use Rattle.serial_run.specs.declared.runners.Runner.{Runner}
 use Rattle.serial_run.proofs.EndLaws.{closed_is, known_low}
 use Rattle.serial_run.proofs.end.closed.Goals as goal
 

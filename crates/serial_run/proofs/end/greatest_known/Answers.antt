@@ -1,5 +1,5 @@
 -- One rank more.
-use Rattle.std.proofs.Common.{arith}
+use Rattle.serial_run.proofs.Words.{arith}
 use Rattle.serial_run.proofs.EndLaws.{known_end, known_step}
 use Rattle.serial_run.proofs.end.greatest_known.Goals as goal
 

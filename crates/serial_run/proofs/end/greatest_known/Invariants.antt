@@ -1,6 +1,5 @@
 -- The greatest of those so far.
-use Rattle.std.proofs.Common.{◌≡◌, drop, max}
-use Rattle.serial_run.specs.Ended.{most_known}
+use Rattle.serial_run.proofs.Words.{◌≡◌, drop, max, most_known}
 use Rattle.serial_run.proofs.end.greatest_known.Given as goal
 
 abbrev pub invariant-loop-runner : goal.invariant-loop-runner

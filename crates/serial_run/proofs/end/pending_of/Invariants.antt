@@ -1,5 +1,5 @@
 -- The numbers of those so far.
-use Rattle.std.proofs.Common.{◌≡◌, take, map}
+use Rattle.serial_run.proofs.Words.{◌≡◌, take, map}
 use Rattle.serial_spec.specs.RankMachine as machine
 use Rattle.serial_run.proofs.end.pending_of.Given as goal
 

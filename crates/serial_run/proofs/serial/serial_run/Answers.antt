@@ -1,16 +1,8 @@
 -- One step more, and the close.
-use Rattle.std.proofs.Common.{◌≡◌, ◌∙◌, sym, ap, map, get_or}
-use Rattle.std.proofs.lemmas.List.Sums.{fold_more}
-use Rattle.std.proofs.lemmas.Option.{slice_get-get_or}
-use Rattle.std.proofs.lemmas.Result.{IfOk-weaker}
+use Rattle.serial_run.proofs.Words.{◌≡◌, ◌∙◌, sym, ap, map, get_or, fold_more, slice_get-get_or, IfOk-weaker, serial_from, setting_of, close_by, counted, setting, first_stand, step_to, as_end, going_of}
 use Rattle.nc_base.specs.declared.script.OverlapRule.{OverlapRule as Rule}
 use Rattle.nc_base.specs.declared.step.Mark.TheVariants as mark
-use Rattle.serial_spec.specs.SerialEnd.{serial_from, setting_of, close_by}
-use Rattle.element_steps.specs.Requests.{counted, setting}
 use Rattle.run_laws.specs.Arrivals as arrivals
-use Rattle.run_laws.specs.Arrivals.{first_stand, step_to}
-use Rattle.serial_run.specs.Ended.{as_end}
-use Rattle.serial_run.specs.Running.{going_of}
 use Rattle.serial_run.proofs.EndLaws.{closes}
 use Rattle.serial_run.proofs.serial.serial_run.Goals as goal
 

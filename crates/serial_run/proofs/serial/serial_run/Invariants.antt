@@ -1,8 +1,5 @@
 -- The run has done the steps so far.
-use Rattle.std.proofs.Common.{◌≡◌, take, fold}
-use Rattle.serial_spec.specs.SerialEnd.{setting_of}
-use Rattle.run_laws.specs.Arrivals.{first_stand, step_to}
-use Rattle.serial_run.specs.Stands.{stand_of, IsStanding}
+use Rattle.serial_run.proofs.Words.{◌≡◌, take, fold, setting_of, first_stand, step_to, stand_of, IsStanding}
 use Rattle.serial_run.proofs.serial.serial_run.Given as goal
 
 abbrev pub invariant-loop-place : goal.invariant-loop-place

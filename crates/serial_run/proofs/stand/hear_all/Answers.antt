@@ -1,9 +1,5 @@
 -- One rank more has heard.
-use Rattle.std.proofs.Common.{◌≡◌, ◌∙◌, refl, sym, subst, length, get_or, Some, arith}
-use Rattle.std.proofs.lemmas.Option.{slice_get-get_or, slice_get_read, slice_get_within}
-use Rattle.std.specs.Prelude.{slice_get}
-use Rattle.nc_base.specs.declared.step.Reply.{Reply}
-use Rattle.list_laws.proofs.Places.{entry_set_other}
+use Rattle.serial_run.proofs.Words.{◌≡◌, ◌∙◌, refl, sym, subst, length, get_or, Some, arith, slice_get-get_or, slice_get_read, slice_get_within, slice_get, Reply, entry_set_other}
 use Rattle.serial_run.proofs.StepLaws.{hear_more, heard_by, hears_fit, holds_one, may_hear}
 use Rattle.serial_run.proofs.stand.hear_all.Goals as goal
 

@@ -1,9 +1,5 @@
 -- The ranks so far have heard, and the others wait as they did.
-use Rattle.std.proofs.Common.{◌≡◌, ℕ, ◌<◌, ◌≤◌, Some}
-use Rattle.std.specs.Prelude.{slice_get}
-use Rattle.nc_base.specs.declared.step.Reply.{Reply}
-use Rattle.serial_run.specs.Stands.{Heard}
-use Rattle.serial_run.specs.declared.runners.Runner.{Runner}
+use Rattle.serial_run.proofs.Words.{◌≡◌, ℕ, ◌<◌, ◌≤◌, Some, slice_get, Reply, Heard, Runner}
 use Rattle.serial_run.proofs.stand.hear_all.Given as goal
 
 abbrev pub invariant-loop-number : goal.invariant-loop-number

@@ -1,7 +1,5 @@
 -- The offer of one rank more.
-use Rattle.std.proofs.Common.{arith}
-use Rattle.serial_spec.specs.SerialEnd.{offers_of}
-use Rattle.serial_run.specs.Stands.{all_arrived}
+use Rattle.serial_run.proofs.Words.{arith, offers_of, all_arrived}
 use Rattle.serial_run.proofs.StepLaws.{offers_end, offers_step}
 use Rattle.serial_run.proofs.stand.held_offers.Goals as goal
 

@@ -1,15 +1,5 @@
-use Rattle.std.proofs.Common.{◌≡◌, ℕ, zero, suc, refl, inl, lit<, arith}
-use Rattle.std.specs.Prelude.{List, [], ◌∷◌, slice_get}
-use Rattle.list_laws.proofs.Optional.{if_some_at, no_none_some}
-use Rattle.nc_base.specs.declared.header.Var.{Var}
-use Rattle.nc_base.specs.declared.header.NcType.TheVariants.{Int, Short}
-use Rattle.serial_spec.specs.Examples.{dataset_a, dataset_aq, file_halves, more_var}
-use Rattle.serial_spec.specs.HeaderBytes.{canon}
-use Rattle.serial_spec.specs.EdgeExamples.{var_at}
-use Rattle.serial_spec.specs.ExternalForm.{size_of}
-use Rattle.serial_spec.specs.Place.{AreApart, IsIndex, place}
-use Rattle.serial_spec.specs.RegionCheck.{known_lengths}
-use Rattle.serial_spec.specs.Redefinition.{Moves}
+use Rattle.serial_spec.proofs.Words.{◌≡◌, ℕ, zero, suc, refl, inl, lit<, arith, slice_get, if_some_at, no_none_some, Var, Int, Short, dataset_a, dataset_aq, file_halves, more_var, canon, var_at, size_of, AreApart, IsIndex, place, known_lengths, Moves}
+use Rattle.std.specs.Prelude.{List, [], ◌∷◌}
 use Rattle.serial_spec.proofs.AddedLaws.{redefined_keeps}
 use Rattle.serial_spec.proofs.MoveLaws.{redefined_is}
 use Rattle.serial_spec.proofs.worked_additions.worked_redefined.Goals as goal

@@ -1,13 +1,6 @@
-use Rattle.std.proofs.Common.{◌≡◌, ℕ, ◌^◌, ◌<◌, refl, sym, ap, subst, take, length, ◌++◌, lit<, arith, length-append}
-use Rattle.std.specs.Prelude.{List, [], ◌∷◌, Bool, true, cond, Option, Some, None, option_map}
-use Rattle.std.specs.Option.{option_or}
-use Rattle.std.proofs.lemmas.Bool.{lt-ltb}
-use Rattle.nc_base.specs.declared.script.Extra.TheVariants.{Att}
-use Rattle.nc_base.specs.declared.header.Header.{Header}
+use Rattle.serial_spec.proofs.Words.{◌≡◌, ℕ, ◌^◌, ◌<◌, refl, sym, ap, subst, take, length, ◌++◌, lit<, arith, length-append, option_map, option_or, lt-ltb, Att, Header, canon, header_len, redefined_header, dataset_a, title}
+use Rattle.std.specs.Prelude.{List, [], ◌∷◌, Bool, true, cond, Option, Some, None}
 use Rattle.nc_base.specs.declared.errors.RedefErr.TheVariants as redef
-use Rattle.serial_spec.specs.HeaderBytes.{canon, header_len}
-use Rattle.serial_spec.specs.Redefinition.{redefined_header}
-use Rattle.serial_spec.specs.Examples.{dataset_a, title}
 use Rattle.serial_spec.proofs.worked_additions.worked_refusals.Goals as goal
 
 told_first : {A : Type 0} (test : Bool) (told : A) (later : Option A) → test ≡ true → option_or (cond test (Some told) None) later ≡ Some told

@@ -1,15 +1,5 @@
-use Rattle.std.proofs.Common.{◌≡◌, ℕ, refl, sym, subst, ap, arith, inl, inr, take, Option, Some}
-use Rattle.list_laws.proofs.Optional.{no_none_some}
+use Rattle.serial_spec.proofs.Words.{◌≡◌, ℕ, refl, sym, subst, ap, arith, inl, inr, take, Option, Some, no_none_some, Header, HeaderErr, Truncated, canon, first_check, Spells, is_redefinable_var, dataset_a, header_a, header_a_with, word, dataset_a_at}
 use Rattle.std.specs.Prelude.{[]}
-use Rattle.nc_base.specs.declared.header.Header.{Header}
-use Rattle.nc_base.specs.declared.errors.HeaderErr.{HeaderErr}
-use Rattle.nc_base.specs.declared.errors.HeaderErr.TheVariants.{Truncated}
-use Rattle.serial_spec.specs.HeaderBytes.{canon}
-use Rattle.serial_spec.specs.HeaderFaults.{first_check}
-use Rattle.serial_spec.specs.HeaderGrammar.{Spells}
-use Rattle.serial_spec.specs.SoundHeaders.{is_redefinable_var}
-use Rattle.serial_spec.specs.Examples.{dataset_a, header_a, header_a_with, word}
-use Rattle.serial_spec.specs.EdgeExamples.{dataset_a_at}
 use Rattle.serial_spec.proofs.FaultLaws.{fault_found, fault_only}
 use Rattle.serial_spec.proofs.OnceLaws.{spells_once}
 use Rattle.serial_spec.proofs.SpellingLaws.{canon_spelled, parts_spelled, redefinable_var_spelled}

@@ -1,5 +1,4 @@
-use Rattle.std.proofs.Common.{refl, inr, lit<, arith}
-use Rattle.serial_spec.specs.EdgeExamples.{met_by_the_last, two_fixed_at}
+use Rattle.serial_spec.proofs.Words.{refl, inr, lit<, arith, met_by_the_last, two_fixed_at}
 use Rattle.serial_spec.proofs.SharingLaws.{sharing_found, sharing_only}
 use Rattle.serial_spec.proofs.worked_headers.worked_sharing.Goals as goal
 

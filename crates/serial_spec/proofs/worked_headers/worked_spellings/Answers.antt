@@ -1,9 +1,5 @@
-use Rattle.std.proofs.Common.{◌≡◌, ℕ, refl, inl, inr, lit<, take, arith}
+use Rattle.serial_spec.proofs.Words.{◌≡◌, ℕ, refl, inl, inr, lit<, take, arith, Int, canon, AttributeOf, DimensionOf, VariableOf, ListOf, dataset_a, odd_header_a, dim, var, word}
 use Rattle.std.specs.Prelude.{[], ◌∷◌, ◌++◌}
-use Rattle.nc_base.specs.declared.header.NcType.TheVariants.{Int}
-use Rattle.serial_spec.specs.HeaderBytes.{canon}
-use Rattle.serial_spec.specs.HeaderGrammar.{AttributeOf, DimensionOf, VariableOf, ListOf}
-use Rattle.serial_spec.specs.Examples.{dataset_a, odd_header_a, dim, var, word}
 use Rattle.serial_spec.proofs.SpellingLaws.{both}
 use Rattle.serial_spec.proofs.LengthLaws.{spelling_long}
 use Rattle.serial_spec.proofs.worked_headers.worked_spellings.Goals as goal

@@ -1,22 +1,6 @@
-use Rattle.std.proofs.Common.{◌≡◌, ◌≤◌, ◌<◌, ℕ, zero, suc, refl, inl, inr, ◌⊎◌, lit<, arith, List, [], ◌∷◌, length, Bool, true, false, Some}
-use Rattle.std.specs.Prelude.{filter, slice_get, nat_lt, ◌==◌, ◌||◌, ◌&&◌}
-use Rattle.std.specs.List.{list_all, range_with_len}
+use Rattle.serial_spec.proofs.Words.{◌≡◌, ◌≤◌, ◌<◌, ℕ, zero, suc, refl, inl, inr, ◌⊎◌, lit<, arith, List, [], ◌∷◌, length, Bool, true, false, Some, filter, slice_get, nat_lt, ◌==◌, list_all, range_with_len, and_first, if_some_at, no_none_some, Answer, Ok, Meet, Solo, Disk, file_a, whole_then_ends, dataset_a, at, Counted, canon, IsLegal, concerns, marks, answer, Going, setting_of, state_after, HasAnswers, IsTorn, StoodAt, in_step, in_close, between, may_change}
+use Rattle.std.specs.Prelude.{◌||◌, ◌&&◌}
 use borrow.Author.Tests.{eqb-true, ltb-true}
-use Rattle.list_laws.proofs.Truth.{and_first}
-use Rattle.list_laws.proofs.Optional.{if_some_at, no_none_some}
-use Rattle.nc_base.specs.declared.answer.Answer.{Answer}
-use Rattle.nc_base.specs.declared.answer.Code.TheVariants.{Ok}
-use Rattle.nc_base.specs.declared.step.Mark.TheVariants.{Meet, Solo}
-use Rattle.nc_base.specs.declared.step.StepErr.TheVariants.{Disk}
-use Rattle.serial_spec.specs.EdgeExamples.{file_a, whole_then_ends}
-use Rattle.serial_spec.specs.Examples.{dataset_a}
-use Rattle.serial_spec.specs.File.{at}
-use Rattle.serial_spec.specs.FileStep.{Counted}
-use Rattle.serial_spec.specs.HeaderBytes.{canon}
-use Rattle.serial_spec.specs.History.{IsLegal, concerns, marks}
-use Rattle.serial_spec.specs.RankMachine.{answer}
-use Rattle.serial_spec.specs.SerialEnd.{Going, setting_of, state_after}
-use Rattle.serial_spec.specs.Torn.{HasAnswers, IsTorn, StoodAt, in_step, in_close, between, may_change}
 use Rattle.serial_spec.proofs.EachBelow.{each_below}
 use Rattle.serial_spec.proofs.worked_steps.worked_cut_run.Goals as goal
 

@@ -1,8 +1,5 @@
-use Rattle.std.proofs.Common.{◌≡◌, ℕ, zero, suc, ◌<◌, refl, lit<, arith}
-use Rattle.std.specs.Prelude.{filter, ◌∷◌, []}
-use Rattle.nc_base.specs.declared.step.Mark.TheVariants.{Meet, Solo}
-use Rattle.serial_spec.specs.History.{marks, concerns}
-use Rattle.serial_spec.specs.Examples.{two_alone}
+use Rattle.serial_spec.proofs.Words.{◌≡◌, ℕ, zero, suc, ◌<◌, refl, lit<, arith, filter, Meet, Solo, marks, concerns, two_alone}
+use Rattle.std.specs.Prelude.{◌∷◌, []}
 use Rattle.serial_spec.proofs.worked_steps.worked_legal.Goals as goal
 
 each_rank : (r : ℕ) → r < 2 → filter (concerns r) (Meet 0 ∷ Solo 1 1 ∷ Solo 0 1 ∷ Meet 1 ∷ []) ≡ marks two_alone.calls r

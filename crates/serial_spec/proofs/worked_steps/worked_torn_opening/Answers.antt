@@ -1,10 +1,6 @@
-use Rattle.std.proofs.Common.{◌≡◌, ◌<◌, ℕ, refl, inl, inr, ◌⊎◌, lit<, arith, ap, Bool, true, false, List, [], ◌∷◌, ◌++◌, length, take, replicate}
-use Rattle.std.specs.Prelude.{◌==◌, ◌||◌}
+use Rattle.serial_spec.proofs.Words.{◌≡◌, ◌<◌, ℕ, refl, inl, inr, ◌⊎◌, lit<, arith, ap, Bool, true, false, List, [], ◌∷◌, ◌++◌, length, take, replicate, ◌==◌, file_a, dataset_aq, file_halves, header_a, int_bytes, at, canon}
+use Rattle.std.specs.Prelude.{◌||◌}
 use borrow.Author.Tests.{eqb-true}
-use Rattle.serial_spec.specs.EdgeExamples.{file_a}
-use Rattle.serial_spec.specs.Examples.{dataset_aq, file_halves, header_a, int_bytes}
-use Rattle.serial_spec.specs.File.{at}
-use Rattle.serial_spec.specs.HeaderBytes.{canon}
 use Rattle.serial_spec.proofs.EachBelow.{each_below}
 use Rattle.serial_spec.proofs.worked_steps.worked_torn_opening.Goals as goal
 

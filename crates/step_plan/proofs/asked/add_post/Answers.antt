@@ -1,8 +1,5 @@
 -- A piece after another.
-use Rattle.std.proofs.Common.{ap}
-use Rattle.vara_extents.specs.Left.{extents_left}
-use Rattle.vara_extents.specs.declared.walk.Extents.{Extents}
-use Rattle.collective_round.proofs.PostEntries.{left_of, there_is}
+use Rattle.step_plan.proofs.Words.{ap, extents_left, Extents, left_of, there_is}
 use Rattle.step_plan.proofs.AskedLaws.{no_piece, piece_added, pieces_left}
 use Rattle.step_plan.proofs.asked.add_post.Goals as goal
 

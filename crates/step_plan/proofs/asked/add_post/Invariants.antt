@@ -1,8 +1,5 @@
 -- What is counted, and the pieces that are left, is all.
-use Rattle.std.proofs.Common.{◌≡◌}
-use Rattle.std.specs.Prelude.{fold}
-use Rattle.vara_extents.specs.Left.{extents_left}
-use Rattle.step_plan.specs.Asked.{asked_with, with_piece}
+use Rattle.step_plan.proofs.Words.{◌≡◌, fold, extents_left, asked_with, with_piece}
 use Rattle.step_plan.proofs.asked.add_post.Given as goal
 
 abbrev pub invariant-loop-extent : goal.invariant-loop-extent

@@ -1,12 +1,5 @@
 -- What one rank more asks for.
-use Rattle.std.proofs.Common.{ℕ, ◌+◌, ◌++◌, ◌∙◌, ap, sym, subst, List, arith}
-use Rattle.list_laws.proofs.Maps.{next_numbered}
-use Rattle.nc_base.specs.declared.plan.Batch.{Batch}
-use Rattle.nc_base.specs.declared.plan.Post.{Post}
-use Rattle.overlay_laws.specs.Entries.{In}
-use Rattle.overlay_laws.proofs.Members.{read_in}
-use Rattle.collective_round.specs.Gathered.{posts_of}
-use Rattle.step_plan.specs.Asked.{asked_of, some_asked}
+use Rattle.step_plan.proofs.Words.{ℕ, ◌+◌, ◌++◌, ◌∙◌, ap, sym, subst, List, arith, next_numbered, Batch, Post, In, read_in, posts_of, asked_of, some_asked}
 use Rattle.step_plan.proofs.asked.all_asked.Goals as goal
 
 pub asked_by-asked-requires-clause-accepted : goal.asked_by-asked-requires-clause-accepted

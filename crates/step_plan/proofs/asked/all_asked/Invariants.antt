@@ -1,9 +1,5 @@
 -- What the ranks so far ask for, and those that are left, is all.
-use Rattle.std.proofs.Common.{◌≡◌, ◌+◌, ◌++◌, drop}
-use Rattle.std.specs.Prelude.{flat_map}
-use Rattle.std.specs.List.{enumerate_from}
-use Rattle.collective_round.specs.Gathered.{posts_of}
-use Rattle.step_plan.specs.Asked.{asked_by_all, asked_of, some_asked}
+use Rattle.step_plan.proofs.Words.{◌≡◌, ◌+◌, ◌++◌, drop, flat_map, enumerate_from, posts_of, asked_by_all, asked_of, some_asked}
 use Rattle.step_plan.proofs.asked.all_asked.Given as goal
 
 abbrev pub invariant-loop-number : goal.invariant-loop-number

@@ -1,5 +1,5 @@
 -- Each request is one of the list.
-use Rattle.overlay_laws.proofs.Members.{read_in}
+use Rattle.step_plan.proofs.Words.{read_in}
 use Rattle.step_plan.proofs.asked.asked_by.Goals as goal
 
 pub add_post-requires-clause-accepted : goal.add_post-requires-clause-accepted

@@ -1,6 +1,5 @@
 -- What the requests so far ask for.
-use Rattle.std.proofs.Common.{◌≡◌, take}
-use Rattle.step_plan.specs.Asked.{asked_of}
+use Rattle.step_plan.proofs.Words.{◌≡◌, take, asked_of}
 use Rattle.step_plan.proofs.asked.asked_by.Given as goal
 
 abbrev pub invariant-loop-post : goal.invariant-loop-post

@@ -1,17 +1,5 @@
 -- The domains are those of the covered bytes.
-use Rattle.std.proofs.Common.{◌≡◌, ◌^◌, refl, sym, subst, List, length, map}
-use Rattle.std.specs.Prelude.{flat_map}
-use Rattle.nc_base.specs.declared.plan.Extent.{Extent}
-use Rattle.nc_base.specs.declared.plan.Owned.{Owned}
-use Rattle.serial_spec.specs.DeviceCalls.{collective_windows}
-use Rattle.serial_spec.specs.Extents.{spans}
-use Rattle.overlay_laws.specs.Entries.{ranges, HaveSame}
-use Rattle.overlay_laws.specs.Lines.{EndBelow}
-use Rattle.overlay_laws.specs.Walks.{told_of}
-use Rattle.exchange_crew.specs.Turns.{turns_of}
-use Rattle.collective_round.specs.Parts.{AreDomains}
-use Rattle.collective_round.proofs.PutLaws.{cover_ends, lawful}
-use Rattle.step_plan.specs.Steps.{AreDivided}
+use Rattle.step_plan.proofs.Words.{◌≡◌, ◌^◌, refl, sym, subst, List, length, map, flat_map, Extent, Owned, collective_windows, spans, ranges, HaveSame, EndBelow, told_of, turns_of, AreDomains, cover_ends, lawful, AreDivided}
 use Rattle.step_plan.proofs.DomainLaws.{all_divided, ok_so}
 use Rattle.step_plan.proofs.PhaseLaws.{are_planned}
 use Rattle.step_plan.proofs.domains.collective_domains.Goals as goal

@@ -1,11 +1,5 @@
 -- One domain more.
-use Rattle.std.proofs.Common.{◌+◌, refl, sym, subst, length, List, Some, get_or, arith}
-use Rattle.nc_base.specs.declared.plan.Extent.{Extent}
-use Rattle.nc_base.specs.declared.plan.Owned.{Owned}
-use Rattle.get_exchange.specs.Gets.{IsGetPlan}
-use Rattle.window_plan.specs.Windows.{AreShared}
-use Rattle.step_plan.specs.Steps.{AreDivided}
-use Rattle.step_plan.specs.declared.plan.DomainPlan.{DomainPlan}
+use Rattle.step_plan.proofs.Words.{◌+◌, refl, sym, subst, length, List, Some, get_or, arith, Extent, Owned, IsGetPlan, AreShared, AreDivided, DomainPlan}
 use Rattle.step_plan.proofs.DomainLaws.{divided_all, divided_more, none_divided}
 use Rattle.step_plan.proofs.domains.plan_each.Goals as goal
 

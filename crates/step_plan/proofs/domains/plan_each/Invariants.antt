@@ -1,5 +1,5 @@
 -- The domains so far are planned.
-use Rattle.step_plan.specs.Steps.{AreDivided}
+use Rattle.step_plan.proofs.Words.{AreDivided}
 use Rattle.step_plan.proofs.domains.plan_each.Given as goal
 
 abbrev pub invariant-loop-number : goal.invariant-loop-number

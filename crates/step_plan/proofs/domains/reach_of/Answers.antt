@@ -1,6 +1,5 @@
 -- From where the first window begins to where the last one ends.
-use Rattle.std.proofs.Common.{ℕ, ◌∙◌, sym, ap, Option, Some}
-use Rattle.nc_base.specs.declared.plan.Extent.{Extent}
+use Rattle.step_plan.proofs.Words.{ℕ, ◌∙◌, sym, ap, Option, Some, Extent}
 use Rattle.step_plan.proofs.DomainLaws.{from_to, reach_is}
 use Rattle.step_plan.proofs.domains.reach_of.Goals as goal
 

@@ -1,6 +1,5 @@
 -- The step of all ranks, by its puts and its gets.
-use Rattle.collective_round.proofs.GetLaws.{batch_gets}
-use Rattle.collective_round.proofs.StepEntries.{puts_accepted}
+use Rattle.step_plan.proofs.Words.{batch_gets, puts_accepted}
 use Rattle.step_plan.proofs.PhaseLaws.{collective_gets}
 use Rattle.step_plan.proofs.meeting.plan_meeting.Goals as goal
 

@@ -1,14 +1,6 @@
 -- Puts with a pair come to nothing; others are laid.
-use Rattle.std.proofs.Common.{◌^◌, ◌<◌, ◌∙◌, ℕ, refl, sym, ap, subst, max, ◌++◌}
+use Rattle.step_plan.proofs.Words.{◌^◌, ◌<◌, ◌∙◌, ℕ, refl, sym, ap, subst, max, ◌++◌, collective_windows, header_len, end_of, puts_in, setting, laid_needs, puts_needed, shared_needs, list_laid, list_shared, refused, laid, grow_call}
 use Rattle.serial_spec.specs.DeviceCalls as device
-use Rattle.serial_spec.specs.DeviceCalls.{collective_windows}
-use Rattle.serial_spec.specs.HeaderBytes.{header_len}
-use Rattle.serial_spec.specs.Layout.{end_of}
-use Rattle.collective_round.specs.Rounds.{puts_in, setting}
-use Rattle.collective_round.proofs.PutLaws.{laid_needs, puts_needed, shared_needs}
-use Rattle.collective_round.proofs.StepLaws.{list_laid, list_shared}
-use Rattle.step_plan.specs.Phases.HavePutDomains.{refused, laid}
-use Rattle.step_plan.specs.Steps.{grow_call}
 use Rattle.step_plan.specs.Steps as steps
 use Rattle.step_plan.specs.declared.plan.Puts.{Puts}
 use Rattle.step_plan.proofs.PhaseLaws.{collective_calls, laid_size, refused_calls, refused_size}

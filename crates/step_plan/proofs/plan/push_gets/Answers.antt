@@ -1,7 +1,5 @@
 -- The calls of one domain more.
-use Rattle.std.proofs.Common.{◌∙◌, ap}
-use Rattle.window_plan.specs.Windows.{get_calls}
-use Rattle.step_plan.specs.declared.plan.DomainPlan.{DomainPlan}
+use Rattle.step_plan.proofs.Words.{◌∙◌, ap, get_calls, DomainPlan}
 use Rattle.step_plan.proofs.DomainLaws.{domain_more}
 use Rattle.step_plan.proofs.plan.push_gets.Goals as goal
 

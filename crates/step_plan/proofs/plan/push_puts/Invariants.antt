@@ -1,6 +1,5 @@
 -- The calls of the domains so far.
-use Rattle.std.proofs.Common.{◌≡◌, ◌++◌, take}
-use Rattle.step_plan.specs.Steps.{stores_in}
+use Rattle.step_plan.proofs.Words.{◌≡◌, ◌++◌, take, stores_in}
 use Rattle.step_plan.proofs.plan.push_puts.Given as goal
 
 abbrev pub invariant-loop-domain : goal.invariant-loop-domain

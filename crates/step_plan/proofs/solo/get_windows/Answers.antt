@@ -1,8 +1,5 @@
 -- The windows of the entries of the gets.
-use Rattle.std.proofs.Common.{subst, List}
-use Rattle.nc_base.specs.declared.plan.Batch.{Batch}
-use Rattle.collective_round.specs.Laid.{AreGot}
-use Rattle.collective_round.proofs.PutLaws.{lawful}
+use Rattle.step_plan.proofs.Words.{subst, List, Batch, AreGot, lawful}
 use Rattle.step_plan.proofs.DomainLaws.{ok_so}
 use Rattle.step_plan.proofs.SoloLaws.{few_alone, gets_alone}
 use Rattle.step_plan.proofs.solo.get_windows.Goals as goal

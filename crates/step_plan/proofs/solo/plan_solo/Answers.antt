@@ -1,8 +1,5 @@
 -- The step of one rank, by its puts and its gets.
-use Rattle.std.proofs.Common.{◌∙◌, ap, List}
-use Rattle.nc_base.specs.declared.plan.Batch.{Batch}
-use Rattle.nc_base.specs.declared.request.Direction.TheVariants.{Put, Get}
-use Rattle.step_plan.specs.Asked.{asked_by_all}
+use Rattle.step_plan.proofs.Words.{◌∙◌, ap, List, Batch, Put, Get, asked_by_all}
 use Rattle.step_plan.proofs.PhaseLaws.{sieved_gets}
 use Rattle.step_plan.proofs.SoloLaws.{get_alone, put_alone}
 use Rattle.step_plan.proofs.solo.plan_solo.Goals as goal

@@ -1,17 +1,7 @@
 -- Puts with a pair come to nothing; others are laid.
-use Rattle.std.proofs.Common.{◌^◌, ◌<◌, ◌∙◌, ℕ, sym, ap, subst, max, List, ◌++◌}
+use Rattle.step_plan.proofs.Words.{◌^◌, ◌<◌, ◌∙◌, ℕ, sym, ap, subst, max, List, ◌++◌, sieving_windows, header_len, end_of, puts_of_batch, setting, laid_needs, lawful, puts_needed, shared_needs, Post, In, own_puts, own_once, own_shared, grow_call}
 use Rattle.serial_spec.specs.DeviceCalls as device
-use Rattle.serial_spec.specs.DeviceCalls.{sieving_windows}
-use Rattle.serial_spec.specs.HeaderBytes.{header_len}
-use Rattle.serial_spec.specs.Layout.{end_of}
-use Rattle.collective_round.specs.Rounds.{puts_of_batch, setting}
-use Rattle.collective_round.proofs.PutLaws.{laid_needs, lawful, puts_needed, shared_needs}
-use Rattle.nc_base.specs.declared.plan.Post.{Post}
-use Rattle.overlay_laws.specs.Entries.{In}
-use Rattle.collective_round.proofs.BatchLaws.{own_puts}
-use Rattle.collective_round.proofs.StepLaws.{own_once, own_shared}
 use Rattle.step_plan.specs.Phases.HavePutWindows.{refused, laid}
-use Rattle.step_plan.specs.Steps.{grow_call}
 use Rattle.step_plan.specs.Steps as steps
 use Rattle.step_plan.specs.declared.plan.Puts.{Puts}
 use Rattle.step_plan.proofs.PhaseLaws.{laid_size, refused_calls, refused_size, sieved_calls}

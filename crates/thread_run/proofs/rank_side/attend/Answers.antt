@@ -1,13 +1,7 @@
 -- What was put before the last item, and the last item.
-use Rattle.std.proofs.Common.{◌≡◌, ap, sym, subst, refl, ◌∙◌, [], ◌∷◌, ◌++◌, Bool, true, false, Result}
-use Rattle.nc_base.specs.declared.memory.Memory.{Memory}
-use Rattle.nc_base.specs.declared.run.RankEnd.{RankEnd}
-use Rattle.nc_base.specs.declared.run.RankStop.{RankStop}
+use Rattle.thread_run.proofs.Words.{◌≡◌, ap, sym, subst, refl, ◌∙◌, [], ◌∷◌, ◌++◌, Bool, true, false, Result, Memory, RankEnd, RankStop, HasAttended, HasStood, runner_end, calls_of}
 use Rattle.nc_base.specs.declared.run.RankStop.TheVariants as stop
 use Rattle.nc_base.specs.declared.step.RankItem.TheVariants as item
-use Rattle.thread_run.specs.RankSides.{HasAttended, HasStood}
-use Rattle.turn_run.specs.RankEnds.{runner_end}
-use Rattle.turn_run.specs.Running.{calls_of}
 use Rattle.thread_run.proofs.AttendLaws.{attended_broken, attended_through}
 use Rattle.thread_run.proofs.AttendWay.{items_more}
 use Rattle.thread_run.proofs.rank_side.attend.Goals.{in-Ok, in-Err}

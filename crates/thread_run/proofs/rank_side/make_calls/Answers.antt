@@ -1,19 +1,10 @@
 -- From one offer to the next, or to the end.
-use Rattle.std.proofs.Common.{◌≡◌, ℕ, ◌<◌, ap, sym, subst, refl, ◌∙◌, length, List, [], ◌∷◌, ◌++◌, Ok, length-append, arith}
-use Rattle.std.proofs.lemmas.List.{append-nil}
-use Rattle.nc_base.specs.declared.answer.Answer.{Answer}
-use Rattle.nc_base.specs.declared.request.Call.{Call}
+use Rattle.thread_run.proofs.Words.{◌≡◌, ℕ, ◌<◌, ap, sym, subst, refl, ◌∙◌, length, List, [], ◌∷◌, ◌++◌, Ok, length-append, arith, append-nil, Answer, Call, advance, HasStood, asking, between, calls_of, going_of, Runner, fits_open, heard_runner}
 use Rattle.nc_base.specs.declared.run.RankStop.TheVariants as stop
 use Rattle.nc_base.specs.declared.step.OwnerItem.TheVariants as owner_item
 use Rattle.nc_base.specs.declared.step.RankItem.TheVariants as item
-use Rattle.serial_spec.specs.SerialEnd.{advance}
-use Rattle.thread_run.specs.RankSides.{HasStood}
-use Rattle.turn_run.specs.Running.{asking, between, calls_of, going_of}
-use Rattle.turn_run.specs.declared.runners.Runner.{Runner}
-use Rattle.turn_run.proofs.AloneLaws.{fits_open}
 use Rattle.thread_run.proofs.AttendLaws.{accounted_first, accounted_free, accounted_held, accounted_on, broken_at, broken_first, stood_done, stood_misfit, stood_stopped, unheard_begins}
 use Rattle.thread_run.proofs.AttendWay.{asked_own, first_between, first_some, first_way, fits_is, fits_long, items_more, later_some, placed_heard, placed_held, placed_number, placed_waits}
-use Rattle.turn_run.proofs.RunnerLaws.{heard_runner}
 use Rattle.thread_run.proofs.rank_side.make_calls.Goals as goal
 
 pub go_on-requires-clause-way : goal.go_on-requires-clause-way

@@ -1,13 +1,5 @@
 -- What was put and taken so far brought the rank to its next offer, or to its end.
-use Rattle.std.proofs.Common.{◌≡◌, ◌-◌, ◌++◌, drop, length, List, [], None}
-use Rattle.std.specs.Prelude.{IfSome}
-use Rattle.nc_base.specs.declared.step.Mark.{Mark}
-use Rattle.nc_base.specs.declared.step.OwnerItem.{OwnerItem}
-use Rattle.nc_base.specs.declared.step.RankItem.{RankItem}
-use Rattle.serial_spec.specs.Lawful.{most_calls}
-use Rattle.thread_run.specs.RankSides.{IsAccounted}
-use Rattle.turn_run.specs.Counts.{IsAsked}
-use Rattle.turn_run.specs.Running.{going_of, IsPlaced}
+use Rattle.thread_run.proofs.Words.{◌≡◌, ◌-◌, ◌++◌, drop, length, List, [], None, IfSome, Mark, OwnerItem, RankItem, most_calls, IsAccounted, IsAsked, going_of, IsPlaced}
 use Rattle.thread_run.proofs.rank_side.make_calls.Given as goal
 
 abbrev pub invariant-offers : goal.invariant-offers

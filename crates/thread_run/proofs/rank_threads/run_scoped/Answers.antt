@@ -1,5 +1,5 @@
 -- What the scope's closure asks.
-use Rattle.std.proofs.Common.{of_calls}
+use Rattle.thread_run.proofs.Words.{of_calls}
 use Rattle.thread_run.proofs.rank_threads.run_scoped.Goals as goal
 
 pub scoped-back-requires : goal.scoped-back-requires

@@ -1,19 +1,10 @@
 -- The threads, the owner and the close together.
-use Rattle.std.proofs.Common.{◌≡◌, List, [], ◌∷◌, All, sym, ◌∙◌, ap, subst, length, rules, Some}
-use Rattle.std.proofs.lemmas.List.{with_items_is}
-use Rattle.nc_base.specs.declared.step.OwnerItem.{OwnerItem}
-use Rattle.ruled_line.specs.Ends.{End}
-use Rattle.thread_run.specs.RankHandle.{AreRankHandles, AreSettled}
-use Rattle.file_owner.specs.Service.{arrived, gained}
-use Rattle.thread_run.specs.declared.rank_handle.RankHandle.{RankHandle}
-use Rattle.thread_run.specs.declared.rank_handle.Word.TheVariants.{Go}
+use Rattle.thread_run.proofs.Words.{◌≡◌, List, [], ◌∷◌, All, sym, ◌∙◌, ap, subst, length, rules, Some, with_items_is, OwnerItem, End, AreRankHandles, AreSettled, arrived, gained, RankHandle, Go, StepErr, lawful_hints}
 use Rattle.thread_run.proofs.ThreadAll.{known_sound, owner_of, run_all}
-use Rattle.nc_base.specs.declared.step.StepErr.{StepErr}
 use Rattle.thread_run.proofs.ThreadCut.{run_cut}
 use Rattle.thread_run.proofs.ThreadTold.{run_told}
 use Rattle.thread_run.proofs.ThreadSettles.{AreTold, handles_told, told_all}
 use Rattle.thread_run.proofs.rank_threads.run_started.Goals as goal
-use Rattle.serial_spec.proofs.LawfulTests.{lawful_hints}
 
 pub serve-served-requires-clause-hints : goal.serve-served-requires-clause-hints
 serve-served-requires-clause-hints g c κs within = lawful_hints c.args.lent.now.script.now c.requires.runnable.lawful

@@ -1,6 +1,5 @@
 -- One thread more.
-use Rattle.std.proofs.Common.{◌≡◌, ℕ, sym, ◌∙◌, ap, subst, ◌++◌, [], ◌<◌, All}
-use Rattle.std.proofs.lemmas.List.Elements.{All-push}
+use Rattle.thread_run.proofs.Words.{◌≡◌, ℕ, sym, ◌∙◌, ap, subst, ◌++◌, [], ◌<◌, All, All-push}
 use Rattle.thread_run.proofs.ThreadStarts.{all_middle, both_long, number_middle, of_push, handle_at, handles_push, snoc_append}
 use Rattle.thread_run.proofs.rank_threads.start_all.Goals as goal
 

@@ -1,8 +1,5 @@
 -- The threads of the senders so far were started.
-use Rattle.std.proofs.Common.{◌≡◌, ◌++◌, ℕ, [], All, length, vec_capacity}
-use Rattle.nc_base.specs.declared.step.RankItem.{RankItem}
-use Rattle.ruled_line.specs.Ends.{Line}
-use Rattle.thread_run.specs.RankHandle.{AreOf, AreRankHandles}
+use Rattle.thread_run.proofs.Words.{◌≡◌, ◌++◌, ℕ, [], All, length, vec_capacity, RankItem, Line, AreOf, AreRankHandles}
 use Rattle.thread_run.proofs.rank_threads.start_all.Given as goal
 
 abbrev pub invariant-loop-out : goal.invariant-loop-out

@@ -1,9 +1,7 @@
 -- One thread more was told.
-use Rattle.std.proofs.Common.{refl, sym, ◌∙◌, get_or, length-set, arith}
-use Rattle.thread_run.specs.RankHandle.{IsToldToGo}
+use Rattle.thread_run.proofs.Words.{refl, sym, ◌∙◌, get_or, arith, IsToldToGo, slice_get_within, slice_get-get_or, left_more, each_more}
+use Rattle.std.proofs.Common.{length-set}
 use Rattle.thread_run.proofs.rank_threads.tell_all.Goals as goal
-use Rattle.std.proofs.lemmas.Option.{slice_get_within, slice_get-get_or}
-use Rattle.list_laws.proofs.Places.{left_more, each_more}
 
 pub loop-one-preserved : goal.loop-one-preserved
 loop-one-preserved g c =

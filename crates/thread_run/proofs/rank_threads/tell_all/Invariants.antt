@@ -1,8 +1,5 @@
 -- The threads so far were told, and the others are as they were.
-use Rattle.std.proofs.Common.{◌≡◌, ℕ, ◌<◌, ◌≤◌, length, Some}
-use Rattle.std.specs.Prelude.{slice_get}
-use Rattle.thread_run.specs.RankHandle.{IsToldToGo}
-use Rattle.thread_run.specs.declared.rank_handle.RankHandle.{RankHandle}
+use Rattle.thread_run.proofs.Words.{◌≡◌, ℕ, ◌<◌, ◌≤◌, length, Some, slice_get, IsToldToGo, RankHandle}
 use Rattle.thread_run.proofs.rank_threads.tell_all.Given as goal
 
 abbrev pub invariant-loop-one : goal.invariant-loop-one

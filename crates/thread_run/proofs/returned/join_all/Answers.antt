@@ -1,9 +1,8 @@
 -- One thread more was joined.
-use Rattle.std.proofs.Common.{◌≡◌, ◌<◌, ◌++◌, refl, sym, ◌∙◌, ap, length, map, rules}
+use Rattle.thread_run.proofs.Words.{◌≡◌, ◌<◌, ◌++◌, refl, sym, ◌∙◌, ap, length, map, rules, slice_get_within}
 use Rattle.thread_run.proofs.ThreadStarts.{both_long, get_mapped, own_number}
 use Rattle.thread_run.proofs.ThreadJoins.{map_snoc, none_left, of_either, settled_first, settled_push}
 use Rattle.thread_run.proofs.returned.join_all.Goals as goal
-use Rattle.std.proofs.lemmas.Option.{slice_get_within}
 
 pub loop-one-init : goal.loop-one-init
 loop-one-init g c = record {

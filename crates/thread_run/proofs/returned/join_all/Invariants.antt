@@ -1,11 +1,5 @@
 -- The threads so far were joined, and the inbox is as it was.
-use Rattle.std.proofs.Common.{◌≡◌, ◌++◌, ℕ, Some, map, length, vec_capacity}
-use Rattle.std.specs.Prelude.{slice_get}
-use Rattle.nc_base.specs.declared.run.RankEnd.{RankEnd}
-use Rattle.nc_base.specs.declared.step.OwnerItem.{OwnerItem}
-use Rattle.ruled_line.specs.Ends.{End, items_under}
-use Rattle.thread_run.specs.RankHandle.{IsSettledOf}
-use Rattle.thread_run.specs.declared.rank_handle.RankHandle.{RankHandle}
+use Rattle.thread_run.proofs.Words.{◌≡◌, ◌++◌, ℕ, Some, map, length, vec_capacity, slice_get, RankEnd, OwnerItem, End, items_under, IsSettledOf, RankHandle}
 use Rattle.thread_run.proofs.returned.join_all.Given as goal
 
 abbrev pub invariant-loop-one : goal.invariant-loop-one

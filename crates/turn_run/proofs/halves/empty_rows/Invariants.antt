@@ -1,4 +1,4 @@
-use Rattle.std.proofs.Common.{◌≡◌, [], take, map}
+use Rattle.turn_run.proofs.Words.{◌≡◌, [], take, map}
 use Rattle.turn_run.proofs.halves.empty_rows.Given as goal
 
 abbrev pub invariant-loop-batch : goal.invariant-loop-batch

@@ -1,7 +1,5 @@
 -- No gets read nothing.
-use Rattle.std.proofs.Common.{◌∙◌, sym}
-use Rattle.serial_spec.specs.RankSide.{wanted}
-use Rattle.collective_round.specs.Rounds.{setting}
+use Rattle.turn_run.proofs.Words.{◌∙◌, sym, wanted, setting}
 use Rattle.turn_run.proofs.HalfLaws.{calls_of_none, got_of_none, lens_of_none}
 use Rattle.turn_run.proofs.halves.get_half.Goals as goal
 

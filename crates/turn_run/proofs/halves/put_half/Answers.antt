@@ -1,8 +1,5 @@
 -- No puts change nothing.
-use Rattle.std.proofs.Common.{◌≤◌, ◌∙◌, ℕ, subst, sym}
-use Rattle.serial_spec.specs.DeviceCalls.{collective_windows}
-use Rattle.serial_spec.specs.FileStep.{end_for}
-use Rattle.collective_round.specs.Rounds.{puts_in, setting}
+use Rattle.turn_run.proofs.Words.{◌≤◌, ◌∙◌, ℕ, subst, sym, collective_windows, end_for, puts_in, setting}
 use Rattle.turn_run.proofs.HalfLaws.{bytes_of_none, needed_of_none, put_calls_of_none, puts_of_none}
 use Rattle.turn_run.proofs.halves.put_half.Goals as goal
 

@@ -1,24 +1,13 @@
 -- One rank more has arrived.
-use Rattle.std.proofs.Common.{◌≡◌, ◌<◌, ◌≤◌, ◌+◌, ℕ, refl, sym, ◌∙◌, subst, Some, None, arith}
-use Rattle.std.specs.Prelude.{slice_get, slice_index_or}
-use Rattle.turn_run.specs.declared.runners.Runner.{Runner}
-use Rattle.turn_run.specs.Running.{calls_of, HasArrived}
+use Rattle.turn_run.proofs.Words.{◌≡◌, ◌<◌, ◌≤◌, ◌+◌, ℕ, refl, sym, ◌∙◌, subst, Some, None, arith, slice_get, slice_index_or, Runner, calls_of, HasArrived, err_from_is_err_and, setting_of, ranks_lawful, IsCount, IsNext, MayFollow, arrived_all, stage, slice_get_within, left_more}
 use Rattle.turn_run.proofs.CountLaws.{count_longer}
 use Rattle.turn_run.proofs.StageLaws.{has_led_at, has_led_none, has_led_then}
 use Rattle.turn_run.proofs.TurnSteps.{below_other, get_at, gone_led, grown_meetings, runners_begun, runners_step, set_each, step_begun}
-use Rattle.std.proofs.lemmas.Result.{err_from_is_err_and}
-use Rattle.serial_spec.specs.SerialEnd.{setting_of}
-use Rattle.run_laws.proofs.LawfulLaws.{ranks_lawful}
-use Rattle.turn_run.specs.Counts.{IsCount}
-use Rattle.turn_run.specs.Cuts.{IsNext, MayFollow}
-use Rattle.turn_run.specs.Stages.{arrived_all, stage}
 use Rattle.turn_run.proofs.CutLaws.{stopped_at, stopped_then, stopped_as, follows_next, same_err}
 use Rattle.turn_run.proofs.TurnSteps.{calls_there, get_arrived}
 use Rattle.turn_run.proofs.SaidLaws.{answers_cut, grown_beside}
 use Rattle.turn_run.proofs.TellLaws.{told_at, told_none, told_then}
 use Rattle.turn_run.proofs.in_turn.arrive_all.Goals as goal
-use Rattle.std.proofs.lemmas.Option.{slice_get_within}
-use Rattle.list_laws.proofs.Places.{left_more}
 
 pub loop-number-init : goal.loop-number-init
 loop-number-init g c = record {

@@ -1,14 +1,5 @@
 -- The ranks so far have arrived, and the others hold no offer.
-use Rattle.std.proofs.Common.{◌≡◌, ℕ, ◌<◌, ◌≤◌, None, Some}
-use Rattle.std.specs.Prelude.{slice_get, filter}
-use Rattle.serial_spec.specs.History.{concerns}
-use Rattle.serial_spec.specs.SerialEnd.{setting_of}
-use Rattle.run_laws.specs.Ways.{meetings}
-use Rattle.turn_run.specs.Known.{point}
-use Rattle.turn_run.specs.Running.{calls_of, AreRunners, HasArrived}
-use Rattle.turn_run.specs.Stages.{arrived_all, stage, HasLed}
-use Rattle.turn_run.specs.Told.{HasToldMore}
-use Rattle.turn_run.specs.declared.runners.Runner.{Runner}
+use Rattle.turn_run.proofs.Words.{◌≡◌, ℕ, ◌<◌, ◌≤◌, None, Some, slice_get, filter, concerns, setting_of, meetings, point, calls_of, AreRunners, HasArrived, arrived_all, stage, HasLed, HasToldMore, Runner}
 use Rattle.turn_run.proofs.in_turn.arrive_all.Given as goal
 
 abbrev pub invariant-loop-number : goal.invariant-loop-number

@@ -1,6 +1,5 @@
 -- The ends of the ranks so far.
-use Rattle.std.proofs.Common.{◌≡◌, ◌++◌, map, vec_capacity}
-use Rattle.turn_run.specs.RankEnds.{runner_end}
+use Rattle.turn_run.proofs.Words.{◌≡◌, ◌++◌, map, vec_capacity, runner_end}
 use Rattle.turn_run.proofs.in_turn.end_all.Given as goal
 
 abbrev pub invariant-loop-runner : goal.invariant-loop-runner

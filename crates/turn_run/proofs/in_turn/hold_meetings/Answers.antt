@@ -1,17 +1,10 @@
 -- One meeting more is held, and all have arrived again.
-use Rattle.std.proofs.Common.{◌<◌, sym, ◌∙◌, true≢false, arith}
-use Rattle.std.proofs.lemmas.Result.{err_from_is_err_and}
-use Rattle.serial_spec.specs.Lawful.{most_calls}
-use Rattle.run_laws.specs.Ways.{meetings}
+use Rattle.turn_run.proofs.Words.{◌<◌, sym, ◌∙◌, true≢false, arith, err_from_is_err_and, most_calls, meetings, setting_of, IsNext, arrived_all, stage, all_between, AllSay}
 use Rattle.turn_run.proofs.StageLaws.{has_led_then}
 use Rattle.turn_run.proofs.TurnCauses.{cause_after, cause_done}
 use Rattle.turn_run.proofs.TurnEnds.{all_ended, met_number, next_meeting}
 use Rattle.turn_run.proofs.TurnSteps.{runners_begun}
-use Rattle.serial_spec.specs.SerialEnd.{setting_of}
-use Rattle.turn_run.specs.Cuts.{IsNext}
-use Rattle.turn_run.specs.Stages.{arrived_all, stage}
 use Rattle.turn_run.proofs.CutLaws.{stopped_then, same_err}
-use Rattle.turn_run.specs.Said.{all_between, AllSay}
 use Rattle.turn_run.proofs.SaidLaws.{between_up, have_reached, reached_then}
 use Rattle.turn_run.proofs.SaidMeet.{answers_after}
 use Rattle.turn_run.proofs.TellLaws.{told_then}

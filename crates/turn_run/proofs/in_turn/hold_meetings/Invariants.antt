@@ -1,13 +1,5 @@
 -- The ranks stand at their next meeting, or at their ends.
-use Rattle.std.proofs.Common.{◌≡◌, ◌-◌, ◌≤◌}
-use Rattle.serial_spec.specs.Lawful.{most_calls}
-use Rattle.serial_spec.specs.SerialEnd.{setting_of}
-use Rattle.run_laws.specs.Ways.{meetings}
-use Rattle.turn_run.specs.Known.{point}
-use Rattle.turn_run.specs.Counts.{IsCount}
-use Rattle.turn_run.specs.Running.{AreRunners, HaveArrived}
-use Rattle.turn_run.specs.Stages.{arrived_all, stage, HasLed}
-use Rattle.turn_run.specs.Told.{HasToldMore}
+use Rattle.turn_run.proofs.Words.{◌≡◌, ◌-◌, ◌≤◌, most_calls, setting_of, meetings, point, IsCount, AreRunners, HaveArrived, arrived_all, stage, HasLed, HasToldMore}
 use Rattle.turn_run.proofs.in_turn.hold_meetings.Given as goal
 
 abbrev pub invariant-meetings : goal.invariant-meetings

@@ -1,15 +1,6 @@
 -- The run of a script, from its first stage to its end.
-use Rattle.std.proofs.Common.{◌≡◌, sym, ◌∙◌, ap, subst, List, map, Some, None, Err, rules}
-use Rattle.std.proofs.lemmas.List.{with_items_is}
-use Rattle.std.specs.Result.{result_err}
-use Rattle.nc_base.specs.declared.run.ServeEnd.{ServeEnd}
-use Rattle.nc_base.specs.declared.step.Mark.{Mark}
-use Rattle.nc_base.specs.declared.step.StepErr.{StepErr}
+use Rattle.turn_run.proofs.Words.{◌≡◌, sym, ◌∙◌, ap, subst, List, map, Some, None, Err, rules, with_items_is, result_err, ServeEnd, Mark, StepErr, ranks_lawful, runner_end, AreRunners, Runner}
 use Rattle.nc_base.specs.declared.step.StepErr.TheVariants as fault
-use Rattle.run_laws.proofs.LawfulLaws.{ranks_lawful}
-use Rattle.turn_run.specs.RankEnds.{runner_end}
-use Rattle.turn_run.specs.Running.{AreRunners}
-use Rattle.turn_run.specs.declared.runners.Runner.{Runner}
 use Rattle.turn_run.proofs.CutRuns.{first_long}
 use Rattle.turn_run.proofs.TellLaws.{told_nothing, told_whole}
 use Rattle.turn_run.proofs.TurnRuns.{first_count, first_free, first_runners}

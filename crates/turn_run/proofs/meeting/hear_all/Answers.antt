@@ -1,14 +1,9 @@
 -- One more rank has heard.
-use Rattle.std.proofs.Common.{◌≡◌, ℕ, sym, ◌∙◌, subst, map, length, List, Some, get_or, length-set, arith}
-use Rattle.std.specs.Prelude.{slice_get, IfSome}
-use Rattle.std.proofs.lemmas.Option.{same_Some, slice_get_within, slice_get-get_or}
-use Rattle.serial_spec.specs.RankSide.{wanted}
-use Rattle.turn_run.specs.Running.{reply_of, IsAnswered}
+use Rattle.turn_run.proofs.Words.{◌≡◌, ℕ, sym, ◌∙◌, subst, map, length, List, Some, get_or, arith, slice_get, IfSome, same_Some, slice_get_within, slice_get-get_or, wanted, reply_of, IsAnswered, on_err, left_more, each_more}
+use Rattle.std.proofs.Common.{length-set}
 use Rattle.turn_run.proofs.MeetHear.{answered_by}
 use Rattle.turn_run.proofs.SaidMeet.{heard_part}
 use Rattle.turn_run.proofs.meeting.hear_all.Goals as goal
-use Rattle.list_laws.proofs.Results.{on_err}
-use Rattle.list_laws.proofs.Places.{left_more, each_more}
 
 pub hear-requires-clause-waits : goal.hear-requires-clause-waits
 hear-requires-clause-waits c =

@@ -1,8 +1,5 @@
 -- The ranks so far have heard, and the other runners and blobs are as they were.
-use Rattle.std.proofs.Common.{◌≡◌, ℕ, ◌<◌, ◌≤◌, length, List, Some}
-use Rattle.std.specs.Prelude.{slice_get}
-use Rattle.turn_run.specs.Running.{reply_of, IsAnswered}
-use Rattle.turn_run.specs.declared.runners.Runner.{Runner}
+use Rattle.turn_run.proofs.Words.{◌≡◌, ℕ, ◌<◌, ◌≤◌, length, List, Some, slice_get, reply_of, IsAnswered, Runner}
 use Rattle.turn_run.proofs.meeting.hear_all.Given as goal
 
 abbrev pub invariant-loop-number : goal.invariant-loop-number

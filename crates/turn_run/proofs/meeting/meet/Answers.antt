@@ -1,24 +1,14 @@
 -- A meeting of all ranks.
-use Rattle.std.proofs.Common.{sym, ◌∙◌}
-use Rattle.collective_round.specs.Rounds.{setting}
-use Rattle.run_laws.proofs.LawfulLaws.{ranks_lawful}
+use Rattle.turn_run.proofs.Words.{sym, ◌∙◌, setting, ranks_lawful, refl, inr, err_from_is_err_and, setting_of, meetings, IsNext, arrived_all, AllSay, lawful_hints}
 use Rattle.turn_run.proofs.MeetDone.{are_done, begun_after, begun_still, free_after, order_at, runners_after, table_long, to_hear}
 use Rattle.turn_run.proofs.MeetOffers.{meets_job, meets_once, meets_rise}
 use Rattle.turn_run.proofs.MeetStep.{meeting_led}
-use Rattle.std.proofs.Common.{refl, inr}
-use Rattle.std.proofs.lemmas.Result.{err_from_is_err_and}
-use Rattle.serial_spec.specs.SerialEnd.{setting_of}
-use Rattle.run_laws.specs.Ways.{meetings}
-use Rattle.turn_run.specs.Cuts.{IsNext}
-use Rattle.turn_run.specs.Stages.{arrived_all}
 use Rattle.turn_run.proofs.CutLaws.{stopped_between, memory_of}
 use Rattle.turn_run.proofs.CutMeet.{stopped_meet, stopped_deaf, met_done, next_meets}
-use Rattle.turn_run.specs.Said.{AllSay}
 use Rattle.turn_run.proofs.SaidLaws.{reached_here}
 use Rattle.turn_run.proofs.SaidMeet.{all_say_here, meeting_between, part_of_freed, reached_deaf}
 use Rattle.turn_run.proofs.TellLaws.{told_meeting, told_none}
 use Rattle.turn_run.proofs.meeting.meet.Goals as goal
-use Rattle.serial_spec.proofs.LawfulTests.{lawful_hints}
 use Rattle.turn_run.proofs.TurnSteps.{runners_begun}
 
 pub returns-in_err-job-clause-begun : goal.returns-in_err-job-clause-begun

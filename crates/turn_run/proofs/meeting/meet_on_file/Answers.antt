@@ -1,11 +1,9 @@
 -- The puts raise the count of the file, and then the ranks.
-use Rattle.std.proofs.Common.{◌≡◌, ◌≤◌, ℕ, ◌∙◌, arith}
-use Rattle.collective_round.specs.Rounds.{puts_in, setting}
+use Rattle.turn_run.proofs.Words.{◌≡◌, ◌≤◌, ℕ, ◌∙◌, arith, puts_in, setting, on_err}
 use Rattle.turn_run.proofs.CountLaws.{count_begins, count_longer, count_small, count_still, rise_small}
 use Rattle.turn_run.proofs.MeetFile.{met_bytes, met_called, met_count, round_count}
 use Rattle.turn_run.proofs.CutMeet.{round_met_of, count_met_of, met_done_of, count_left, count_kept, count_all}
 use Rattle.turn_run.proofs.meeting.meet_on_file.Goals as goal
-use Rattle.list_laws.proofs.Results.{on_err}
 
 no_less : (a b : ℕ) → b ≡ a → a ≤ b
 no_less a b e = omega arith

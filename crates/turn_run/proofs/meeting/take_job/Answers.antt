@@ -1,11 +1,8 @@
 -- One more offer is taken.
-use Rattle.std.proofs.Common.{◌<◌, sym, ◌∙◌, length, get_or, arith}
-use Rattle.turn_run.specs.Running.{IsFreed}
+use Rattle.turn_run.proofs.Words.{◌<◌, sym, ◌∙◌, length, get_or, arith, IsFreed, slice_get_within, slice_get-get_or, left_more, each_more}
 use Rattle.turn_run.proofs.MeetJob.{batches_next, known_next}
 use Rattle.turn_run.proofs.SaidMeet.{keep_freed, keep_part}
 use Rattle.turn_run.proofs.meeting.take_job.Goals as goal
-use Rattle.std.proofs.lemmas.Option.{slice_get_within, slice_get-get_or}
-use Rattle.list_laws.proofs.Places.{left_more, each_more}
 
 pub loop-runner-preserved : goal.loop-runner-preserved
 loop-runner-preserved c =

@@ -1,9 +1,5 @@
 -- The offers of the runners so far are taken, and the other runners are as they were.
-use Rattle.std.proofs.Common.{◌≡◌, ℕ, ◌<◌, ◌≤◌, take, Some}
-use Rattle.std.specs.Prelude.{slice_get}
-use Rattle.turn_run.specs.Running.{IsFreed}
-use Rattle.turn_run.specs.Steps.{batches_of, held_offers, known_of}
-use Rattle.turn_run.specs.declared.runners.Runner.{Runner}
+use Rattle.turn_run.proofs.Words.{◌≡◌, ℕ, ◌<◌, ◌≤◌, take, Some, slice_get, IsFreed, batches_of, held_offers, known_of, Runner}
 use Rattle.turn_run.proofs.meeting.take_job.Given as goal
 
 abbrev pub invariant-loop-runner : goal.invariant-loop-runner

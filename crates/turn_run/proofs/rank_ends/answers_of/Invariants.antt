@@ -1,5 +1,5 @@
 -- The answers of those so far.
-use Rattle.std.proofs.Common.{◌≡◌, map}
+use Rattle.turn_run.proofs.Words.{◌≡◌, map}
 use Rattle.turn_run.proofs.rank_ends.answers_of.Given as goal
 
 abbrev pub invariant-loop-end : goal.invariant-loop-end

@@ -1,16 +1,11 @@
 -- Nothing went wrong before.
-use Rattle.std.proofs.Common.{◌≡◌, ℕ, refl, sym, subst, None, true, rules, ◌∙◌, ap, Some}
-use Rattle.std.proofs.lemmas.Result.{on_err_weaker}
-use Rattle.join_laws.proofs.CountLaws.{sound_small}
-use Rattle.serial_spec.specs.SoundHeaders.{is_sound}
-use Rattle.nc_base.specs.declared.step.StepErr.{StepErr}
+use Rattle.turn_run.proofs.Words.{◌≡◌, ℕ, refl, sym, subst, None, true, rules, ◌∙◌, ap, Some, on_err_weaker, sound_small, is_sound, StepErr, on_ok}
 use Rattle.nc_base.specs.declared.step.StepErr.TheVariants as fault
 use Rattle.turn_run.proofs.CountLaws.{count_begins, count_small}
 use Rattle.turn_run.proofs.CutEnds.{closing_torn}
 use Rattle.turn_run.proofs.TurnKnown.{raised_sound}
 use Rattle.turn_run.proofs.EndedLaws.{ended_before, ended_err, ended_memory, err_is}
 use Rattle.turn_run.proofs.rank_ends.close.Goals as goal
-use Rattle.list_laws.proofs.Results.{on_ok}
 
 pub raise_records-requires-clause-records : goal.raise_records-requires-clause-records
 raise_records-requires-clause-records g c κs within =

@@ -1,8 +1,7 @@
 -- The answers are kept, or there was no memory for them.
-use Rattle.std.proofs.Common.{sym, ◌∙◌}
+use Rattle.turn_run.proofs.Words.{sym, ◌∙◌, inl, inr}
 use Rattle.nc_base.specs.declared.step.StepErr.TheVariants as fault
 use Rattle.turn_run.proofs.CutEnds.{not_disk, same_cause}
-use Rattle.std.proofs.Common.{inl, inr}
 use Rattle.turn_run.proofs.rank_ends.cut_off.Goals as goal
 
 pub returns-in-Ok-clause-disk : goal.returns-in-Ok-clause-disk

@@ -1,10 +1,5 @@
 -- The ranks' ends, as a list that is lent.
-use Rattle.std.proofs.Common.{◌≡◌, List, sym, subst, None, true, ap, Err, inr, refl}
-use Rattle.nc_base.specs.declared.step.StepErr.{StepErr}
-use Rattle.nc_base.specs.declared.run.RankEnd.{RankEnd}
-use Rattle.serial_spec.specs.SoundHeaders.{is_sound}
-use Rattle.turn_run.specs.Known.{contents_of}
-use Rattle.turn_run.specs.RankEnds.{most_known_of, NoneBroke, EndedAt}
+use Rattle.turn_run.proofs.Words.{◌≡◌, List, sym, subst, None, true, ap, Err, inr, refl, StepErr, RankEnd, is_sound, contents_of, most_known_of, NoneBroke, EndedAt}
 use Rattle.turn_run.proofs.EndedLaws.{ended_as, ended_closed}
 use Rattle.turn_run.proofs.rank_ends.end_run.Goals as goal
 

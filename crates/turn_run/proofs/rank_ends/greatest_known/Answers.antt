@@ -1,5 +1,5 @@
 -- One rank more.
-use Rattle.std.proofs.Common.{arith}
+use Rattle.turn_run.proofs.Words.{arith}
 use Rattle.turn_run.proofs.TurnKnown.{known_more}
 use Rattle.turn_run.proofs.rank_ends.greatest_known.Goals as goal
 

@@ -1,6 +1,5 @@
 -- The greatest of those so far.
-use Rattle.std.proofs.Common.{◌≡◌, take}
-use Rattle.turn_run.specs.RankEnds.{most_known_of}
+use Rattle.turn_run.proofs.Words.{◌≡◌, take, most_known_of}
 use Rattle.turn_run.proofs.rank_ends.greatest_known.Given as goal
 
 abbrev pub invariant-loop-end : goal.invariant-loop-end

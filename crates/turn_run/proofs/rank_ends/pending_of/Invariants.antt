@@ -1,5 +1,5 @@
 -- The numbers of those so far.
-use Rattle.std.proofs.Common.{◌≡◌, take, map}
+use Rattle.turn_run.proofs.Words.{◌≡◌, take, map}
 use Rattle.turn_run.proofs.rank_ends.pending_of.Given as goal
 
 abbrev pub invariant-loop-end : goal.invariant-loop-end

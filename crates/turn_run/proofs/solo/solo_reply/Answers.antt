@@ -1,13 +1,9 @@
 -- The step of one rank, by its puts and its gets.
-use Rattle.std.proofs.Common.{◌∙◌, ap, max}
-use Rattle.collective_round.specs.Rounds.{setting}
+use Rattle.turn_run.proofs.Words.{◌∙◌, ap, max, setting, puts_of, told, done_torn, on_err}
 use Rattle.turn_run.proofs.CountLaws.{count_begins, count_longer}
 use Rattle.turn_run.proofs.MeetPosts.{get_of, needed_solo, put_of, ranked_puts, solo_count}
 use Rattle.turn_run.proofs.MeetSolo.{solo_replied}
-use Rattle.serial_spec.specs.FileStep.{puts_of, told}
-use Rattle.collective_round.proofs.TornLaws.{done_torn}
 use Rattle.turn_run.proofs.solo.solo_reply.Goals as goal
-use Rattle.list_laws.proofs.Results.{on_err}
 
 pub put_solo-requires-clause-puts : goal.put_solo-requires-clause-puts
 put_solo-requires-clause-puts g c κs within =

@@ -1,6 +1,4 @@
-use Rattle.std.proofs.Common.{Some, sym, ap, ◌∙◌}
-use Rattle.std.specs.Result.{result_err}
-use Rattle.std.proofs.lemmas.Result.{err_from_is_err_and}
+use Rattle.var_layout.proofs.Words.{Some, sym, ap, ◌∙◌, result_err, err_from_is_err_and}
 use Rattle.var_layout.proofs.CreatedFiles.{fault_is, is_second, is_third, is_none_of, first_record_is, no_far}
 use Rattle.var_layout.proofs.begins.check_layout.Goals as goal
 

@@ -1,6 +1,4 @@
-use Rattle.std.proofs.Common.{◌+◌, ◌<◌, ℕ, List, length, get_or, sym, ap, subst, ◌∙◌, arith}
-use Rattle.std.specs.Prelude.{option_map}
-use Rattle.nc_base.specs.declared.header.Var.{Var}
+use Rattle.var_layout.proofs.Words.{◌+◌, ◌<◌, ℕ, List, length, get_or, sym, ap, subst, ◌∙◌, arith, option_map, Var}
 use Rattle.nc_base.specs.declared.errors.LayoutErr.TheVariants as fault
 use Rattle.var_layout.proofs.CreatedFiles.{RecordsSoFar, records_skip, records_next, records_stop, records_whole}
 use Rattle.var_layout.proofs.begins.check_records.Goals as goal

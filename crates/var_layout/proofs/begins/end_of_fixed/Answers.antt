@@ -1,9 +1,5 @@
-use Rattle.std.proofs.Common.{◌+◌, ◌<◌, ℕ, List, length, get_or, sym, ap, subst, ◌∙◌, arith}
-use Rattle.std.specs.Prelude.{option_map}
-use Rattle.nc_base.specs.declared.header.Var.{Var}
+use Rattle.var_layout.proofs.Words.{◌+◌, ◌<◌, ℕ, List, length, get_or, sym, ap, subst, ◌∙◌, arith, option_map, Var, vsize, lies_too_far}
 use Rattle.nc_base.specs.declared.errors.LayoutErr.TheVariants as fault
-use Rattle.serial_spec.specs.Layout.{vsize}
-use Rattle.var_layout.specs.Begins.{lies_too_far}
 use Rattle.var_layout.proofs.CreatedFiles.{FixedSoFar, at_begin, fixed_skip, fixed_next, fixed_stops, fixed_whole}
 use Rattle.var_layout.proofs.begins.end_of_fixed.Goals as goal
 use Rattle.var_layout.proofs.begins.end_of_fixed.Goals.{then-not-is_record+in-Some, else-not-is_record}

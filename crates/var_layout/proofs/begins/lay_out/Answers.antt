@@ -1,11 +1,4 @@
-use Rattle.std.proofs.Common.{◌≡◌, ℕ, List, sym, ap, subst, ◌∙◌}
-use Rattle.list_laws.proofs.Optional.{both_none}
-use Rattle.nc_base.specs.declared.header.Header.{Header}
-use Rattle.nc_base.specs.declared.header.Var.{Var}
-use Rattle.nc_base.specs.declared.script.Align.{Align}
-use Rattle.serial_spec.specs.Layout.{begins, placed}
-use Rattle.serial_spec.specs.SoundHeaders.{is_sound, is_writable}
-use Rattle.var_layout.specs.Begins.{HasPlace}
+use Rattle.var_layout.proofs.Words.{◌≡◌, ℕ, List, sym, ap, subst, ◌∙◌, both_none, Header, Var, Align, begins, placed, is_sound, is_writable, HasPlace}
 use Rattle.var_layout.proofs.LaidOut.{laid_sound}
 use Rattle.var_layout.proofs.LaidWritable.{laid_writable}
 use Rattle.var_layout.proofs.begins.lay_out.Goals as goal

@@ -1,5 +1,4 @@
-use Rattle.std.proofs.Common.{◌≡◌, ◌<◌, length, get_or, sym, ap, ◌∙◌, arith}
-use Rattle.nc_base.specs.declared.header.Var.{Var}
+use Rattle.var_layout.proofs.Words.{◌≡◌, ◌<◌, length, get_or, sym, ap, ◌∙◌, arith, Var}
 use Rattle.var_layout.proofs.CreatedFiles.{whole_header, item_there, record_near, write_record, write_fixed, written_whole}
 use Rattle.var_layout.proofs.begins.write_begins.Goals as goal
 use Rattle.var_layout.proofs.begins.write_begins.Goals.{then-is_record, else-is_record}

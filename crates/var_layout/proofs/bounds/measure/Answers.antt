@@ -1,8 +1,4 @@
-use Rattle.std.proofs.Common.{◌<◌, List, length, take, get_or, ap, sym, ◌∙◌, refl, arith}
-use Rattle.std.specs.Prelude.{sum_by}
-use Rattle.nc_base.specs.declared.header.Var.{Var}
-use Rattle.serial_spec.specs.Layout.{record_share}
-use Rattle.var_layout.specs.Capped.{capped}
+use Rattle.var_layout.proofs.Words.{◌<◌, List, length, take, get_or, ap, sym, ◌∙◌, refl, arith, sum_by, Var, record_share, capped}
 use Rattle.var_layout.proofs.Capping.{capped_sum_more}
 use Rattle.var_layout.proofs.Soundness.{stops_at, goes_on_at}
 use Rattle.var_layout.proofs.bounds.measure.Goals as goal

@@ -1,8 +1,4 @@
-use Rattle.std.proofs.Common.{◌≡◌, take, drop}
-use Rattle.std.specs.Prelude.{sum_by}
-use Rattle.serial_spec.specs.Layout.{record_share}
-use Rattle.serial_spec.specs.HeaderFaults.{measure, past_bound}
-use Rattle.var_layout.specs.Capped.{capped}
+use Rattle.var_layout.proofs.Words.{◌≡◌, take, drop, sum_by, record_share, measure, past_bound, capped}
 use Rattle.var_layout.proofs.bounds.measure.Given as goal
 
 abbrev pub invariant-loop-k : goal.invariant-loop-k

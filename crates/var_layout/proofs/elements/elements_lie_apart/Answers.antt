@@ -1,5 +1,4 @@
-use Rattle.serial_spec.specs.HeaderBytes.{header_len}
-use Rattle.serial_spec.proofs.ApartLaws.{elements_apart, elements_past_header}
+use Rattle.var_layout.proofs.Words.{header_len, elements_apart, elements_past_header}
 use Rattle.var_layout.proofs.ElementPlaces.{before_end}
 use Rattle.var_layout.proofs.elements.elements_lie_apart.Goals as goal
 

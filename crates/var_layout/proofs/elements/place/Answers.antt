@@ -1,10 +1,5 @@
-use Rattle.std.proofs.Common.{◌≡◌, ◌+◌, ◌≤◌, ℕ, arith}
-use Rattle.serial_spec.specs.ExternalForm.{size_of}
-use Rattle.serial_spec.specs.HeaderBytes.{header_len}
-use Rattle.serial_spec.specs.Layout.{end_of}
+use Rattle.var_layout.proofs.Words.{◌≡◌, ◌+◌, ◌≤◌, ℕ, arith, size_of, header_len, end_of, elements_past_header, records_for}
 use Rattle.serial_spec.specs.Place as spec
-use Rattle.serial_spec.proofs.ApartLaws.{elements_past_header}
-use Rattle.var_layout.specs.Reached.{records_for}
 use Rattle.var_layout.proofs.ElementPlaces.{before_end}
 use Rattle.var_layout.proofs.Soundness.{if_there}
 use Rattle.var_layout.proofs.elements.place.Goals as goal

@@ -1,10 +1,4 @@
-use Rattle.std.proofs.Common.{◌≡◌, ◌<◌, ◌+◌, ◌*◌, ℕ, List, length, get_or, map, sym, ◌∙◌, refl, arith}
-use Rattle.std.specs.Prelude.{slice_get}
-use Rattle.std.proofs.lemmas.List.{length-map}
-use Rattle.std.proofs.Math.ListN.{get_or-map}
-use Rattle.nc_base.specs.declared.header.Header.{Header}
-use Rattle.serial_spec.specs.Layout.{length_of}
-use Rattle.serial_spec.specs.Place.{IsIndex}
+use Rattle.var_layout.proofs.Words.{◌≡◌, ◌<◌, ◌+◌, ◌*◌, ℕ, List, length, get_or, map, sym, ◌∙◌, refl, arith, slice_get, length-map, get_or-map, Header, length_of, IsIndex}
 use Rattle.var_layout.proofs.ElementPlaces.{RowSoFar, same_len, one_more, so_far_below}
 use Rattle.var_layout.proofs.elements.row.Goals as goal
 

@@ -1,6 +1,4 @@
-use Rattle.std.proofs.Common.{map}
-use Rattle.std.specs.Prelude.{slice_get}
-use Rattle.serial_spec.specs.Layout.{length_of}
+use Rattle.var_layout.proofs.Words.{map, slice_get, length_of}
 use Rattle.var_layout.proofs.ElementPlaces.{RowSoFar}
 use Rattle.var_layout.proofs.elements.row.Given as goal
 

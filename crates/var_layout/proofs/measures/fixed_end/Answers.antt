@@ -1,9 +1,4 @@
-use Rattle.std.proofs.Common.{◌≡◌, List, length, get_or, map, max, ap, ◌∙◌, arith}
-use Rattle.std.proofs.lemmas.List.{take_all}
-use Rattle.nc_base.specs.declared.header.Var.{Var}
-use Rattle.serial_spec.specs.HeaderBytes.{header_len}
-use Rattle.serial_spec.specs.Layout.{greatest, end_of_var}
-use Rattle.var_layout.specs.Capped.{capped}
+use Rattle.var_layout.proofs.Words.{◌≡◌, List, length, get_or, map, max, ap, ◌∙◌, arith, take_all, Var, header_len, greatest, end_of_var, capped}
 use Rattle.var_layout.proofs.Capping.{capped_greatest_more}
 use Rattle.var_layout.proofs.measures.fixed_end.Goals as goal
 

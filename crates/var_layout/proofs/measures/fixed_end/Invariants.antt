@@ -1,7 +1,4 @@
-use Rattle.std.proofs.Common.{◌≡◌, map, take, max}
-use Rattle.serial_spec.specs.HeaderBytes.{header_len}
-use Rattle.serial_spec.specs.Layout.{greatest, end_of_var}
-use Rattle.var_layout.specs.Capped.{capped}
+use Rattle.var_layout.proofs.Words.{◌≡◌, map, take, max, header_len, greatest, end_of_var, capped}
 use Rattle.var_layout.proofs.measures.fixed_end.Given as goal
 
 abbrev pub invariant-loop-var : goal.invariant-loop-var

@@ -1,7 +1,4 @@
-use Rattle.std.proofs.Common.{◌≡◌, map, take, max}
-use Rattle.serial_spec.specs.Layout.{greatest}
-use Rattle.var_layout.specs.Capped.{capped}
-use Rattle.var_layout.specs.Measures.{first_end}
+use Rattle.var_layout.proofs.Words.{◌≡◌, map, take, max, greatest, capped, first_end}
 use Rattle.var_layout.proofs.measures.record_end.Given as goal
 
 abbrev pub invariant-loop-var : goal.invariant-loop-var

@@ -1,5 +1,4 @@
-use Rattle.std.proofs.Common.{◌∙◌, List, length, ap, arith}
-use Rattle.nc_base.specs.declared.header.Var.{Var}
+use Rattle.var_layout.proofs.Words.{◌∙◌, List, length, ap, arith, Var}
 use Rattle.var_layout.proofs.Soundness.{recsize_whole}
 use Rattle.var_layout.proofs.record.record_size.Goals as goal
 

@@ -1,7 +1,4 @@
-use Rattle.std.proofs.Common.{◌≡◌, take}
-use Rattle.std.specs.Prelude.{sum_by}
-use Rattle.serial_spec.specs.Layout.{last_share, record_variables}
-use Rattle.var_layout.specs.Capped.{capped}
+use Rattle.var_layout.proofs.Words.{◌≡◌, take, sum_by, last_share, record_variables, capped}
 use Rattle.var_layout.proofs.record.record_size.Given as goal
 
 abbrev pub invariant-loop-var : goal.invariant-loop-var

@@ -1,4 +1,4 @@
-use Rattle.std.proofs.Common.{arith}
+use Rattle.var_layout.proofs.Words.{arith}
 use Rattle.var_layout.proofs.Soundness.{recsize_small}
 use Rattle.var_layout.proofs.record.recsize.Goals as goal
 

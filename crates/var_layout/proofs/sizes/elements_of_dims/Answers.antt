@@ -1,7 +1,4 @@
-use Rattle.std.proofs.Common.{ℕ, ◌*◌, ap, ◌∙◌, arith}
-use Rattle.std.specs.Prelude.{slice_get}
-use Rattle.serial_spec.specs.Layout.{length_of}
-use Rattle.var_layout.specs.Capped.{capped}
+use Rattle.var_layout.proofs.Words.{ℕ, ◌*◌, ap, ◌∙◌, arith, slice_get, length_of, capped}
 use Rattle.var_layout.proofs.Capping.{capped_product_more}
 use Rattle.var_layout.proofs.sizes.elements_of_dims.Goals as goal
 

@@ -1,7 +1,4 @@
-use Rattle.std.proofs.Common.{◌≡◌, map, take}
-use Rattle.std.specs.Prelude.{slice_get}
-use Rattle.serial_spec.specs.Layout.{product, length_of}
-use Rattle.var_layout.specs.Capped.{capped}
+use Rattle.var_layout.proofs.Words.{◌≡◌, map, take, slice_get, product, length_of, capped}
 use Rattle.var_layout.proofs.sizes.elements_of_dims.Given as goal
 
 abbrev pub invariant-loop-id : goal.invariant-loop-id

@@ -1,4 +1,4 @@
-use Rattle.std.proofs.Common.{◌≡◌, arith}
+use Rattle.var_layout.proofs.Words.{◌≡◌, arith}
 use Rattle.serial_spec.specs.Layout as layout
 use Rattle.var_layout.proofs.Soundness.{if_there, slab_small}
 use Rattle.var_layout.proofs.sizes.slab.Goals as goal

@@ -1,6 +1,4 @@
-use Rattle.std.proofs.Common.{◌∙◌, List, length, ap, arith}
-use Rattle.nc_base.specs.declared.header.Dim.{Dim}
-use Rattle.serial_spec.specs.HeaderBytes.{dimension}
+use Rattle.var_layout.proofs.Words.{◌∙◌, List, length, ap, arith, Dim, dimension}
 use Rattle.var_layout.proofs.WrittenLengths.{list_whole}
 use Rattle.var_layout.proofs.written.dims_len.Goals as goal
 

@@ -1,8 +1,4 @@
-use Rattle.std.proofs.Common.{◌≡◌, ◌+◌, length, take}
-use Rattle.std.specs.Prelude.{sum_by}
-use Rattle.std.specs.Int.{byte_len}
-use Rattle.serial_spec.specs.HeaderBytes.{count_width, dimension}
-use Rattle.var_layout.specs.Capped.{capped}
+use Rattle.var_layout.proofs.Words.{◌≡◌, ◌+◌, length, take, sum_by, byte_len, count_width, dimension, capped}
 use Rattle.var_layout.proofs.written.dims_len.Given as goal
 
 abbrev pub invariant-loop-dim : goal.invariant-loop-dim

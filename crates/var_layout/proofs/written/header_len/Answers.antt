@@ -1,4 +1,4 @@
-use Rattle.std.proofs.Common.{arith}
+use Rattle.var_layout.proofs.Words.{arith}
 use Rattle.var_layout.proofs.WrittenLengths.{canon_len}
 use Rattle.var_layout.proofs.written.header_len.Goals as goal
 

@@ -1,7 +1,5 @@
-use Rattle.std.proofs.Common.{◌≡◌, ℕ, ◌*◌, ap, ◌∙◌, arith}
+use Rattle.var_layout.proofs.Words.{◌≡◌, ℕ, ◌*◌, ap, ◌∙◌, arith, byte_len, count_width}
 use Rattle.std.specs.Prelude.{length}
-use Rattle.std.specs.Int.{byte_len}
-use Rattle.serial_spec.specs.HeaderBytes.{count_width}
 use Rattle.var_layout.proofs.WrittenLengths.{variable_len}
 use Rattle.var_layout.proofs.written.var_len.Goals as goal
 

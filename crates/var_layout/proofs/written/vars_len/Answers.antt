@@ -1,6 +1,4 @@
-use Rattle.std.proofs.Common.{◌∙◌, List, length, ap, arith}
-use Rattle.nc_base.specs.declared.header.Var.{Var}
-use Rattle.serial_spec.specs.HeaderBytes.{variable}
+use Rattle.var_layout.proofs.Words.{◌∙◌, List, length, ap, arith, Var, variable}
 use Rattle.var_layout.proofs.WrittenLengths.{list_whole}
 use Rattle.var_layout.proofs.written.vars_len.Goals as goal
 

@@ -1,4 +1,4 @@
-use Rattle.std.proofs.Common.{length}
+use Rattle.vara_extents.proofs.Words.{length}
 use Rattle.vara_extents.proofs.boxes.+is_past.Given as goal
 
 abbrev pub decreases-is_past : goal.decreases-is_past

@@ -1,4 +1,4 @@
-use Rattle.std.proofs.Common.{length}
+use Rattle.vara_extents.proofs.Words.{length}
 use Rattle.vara_extents.proofs.boxes.+meet.Given as goal
 
 abbrev pub decreases-meet : goal.decreases-meet

@@ -1,11 +1,4 @@
-use Rattle.std.proofs.Common.{◌∙◌, sym, subst, List, rules}
-use Rattle.std.specs.Prelude.{filter}
-use Rattle.std.specs.List.Sorted.{IsPermutation}
-use Rattle.std.proofs.lemmas.Fn.{filter_same}
-use Rattle.std.proofs.lemmas.List.{with_items_is}
-use Rattle.std.proofs.lemmas.List.Sorted.{length_permutation}
-use Rattle.nc_base.specs.declared.request.Region.{Region}
-use Rattle.serial_spec.specs.RegionCheck.{has_element}
+use Rattle.vara_extents.proofs.Words.{◌∙◌, sym, subst, List, rules, filter, IsPermutation, filter_same, with_items_is, length_permutation, Region, has_element}
 use Rattle.vara_extents.proofs.boxes.in_order.Goals as goal
 
 pub returns-clause-permutation : goal.returns-clause-permutation

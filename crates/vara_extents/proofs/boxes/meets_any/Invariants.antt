@@ -1,5 +1,4 @@
-use Rattle.std.proofs.Common.{◌≡◌, drop}
-use Rattle.vara_extents.specs.Boxes.{meets_any}
+use Rattle.vara_extents.proofs.Words.{◌≡◌, drop, meets_any}
 use Rattle.vara_extents.proofs.boxes.meets_any.Given as goal
 
 abbrev pub invariant-loop-other : goal.invariant-loop-other

@@ -1,5 +1,4 @@
-use Rattle.std.proofs.Common.{◌≡◌, drop}
-use Rattle.vara_extents.specs.Boxes.{some_meet}
+use Rattle.vara_extents.proofs.Words.{◌≡◌, drop, some_meet}
 use Rattle.vara_extents.proofs.boxes.some_meet_in_order.Given as goal
 
 abbrev pub invariant-loop-k : goal.invariant-loop-k

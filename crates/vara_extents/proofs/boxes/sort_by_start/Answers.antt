@@ -1,5 +1,4 @@
-use Rattle.std.proofs.Common.{rules}
-use Rattle.std.proofs.lemmas.Fn.{always_returns_same}
+use Rattle.vara_extents.proofs.Words.{rules, always_returns_same}
 use Rattle.vara_extents.proofs.SweepLaws.{by_start, start_ranks, starts_before}
 use Rattle.vara_extents.proofs.boxes.sort_by_start.Goals as goal
 

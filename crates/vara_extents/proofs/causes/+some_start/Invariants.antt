@@ -1,4 +1,4 @@
-use Rattle.std.proofs.Common.{length}
+use Rattle.vara_extents.proofs.Words.{length}
 use Rattle.vara_extents.proofs.causes.+some_start.Given as goal
 
 abbrev pub decreases-some_start : goal.decreases-some_start

@@ -1,6 +1,4 @@
-use Rattle.std.proofs.Common.{◌≡◌, ℕ, map, take}
-use Rattle.std.specs.Prelude.{slice_get, if◌then◌else◌, ◌==◌}
-use Rattle.serial_spec.specs.Layout.{length_of}
+use Rattle.vara_extents.proofs.Words.{◌≡◌, ℕ, map, take, slice_get, if◌then◌else◌, ◌==◌, length_of}
 use Rattle.vara_extents.proofs.forms.known_lengths.Given as goal
 
 abbrev pub invariant-loop-id : goal.invariant-loop-id

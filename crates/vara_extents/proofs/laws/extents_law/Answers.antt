@@ -1,4 +1,4 @@
-use Rattle.vara_extents.specs.Joined.{element_extents}
+use Rattle.vara_extents.proofs.Words.{element_extents}
 use Rattle.vara_extents.proofs.JoinLaws.{joined_is}
 use Rattle.vara_extents.proofs.OnceLaws.{spans_are, spans_once, post_once}
 use Rattle.vara_extents.proofs.PlaceLaws.{extents_inside, extents_some}

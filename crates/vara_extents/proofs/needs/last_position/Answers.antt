@@ -1,8 +1,4 @@
-use Rattle.std.proofs.Common.{◌-◌, ◌*◌, ℕ, List, ap, ◌∙◌, get_or, zip, arith}
-use Rattle.std.specs.Prelude.{sum_by}
-use Rattle.std.proofs.lemmas.List.{take_all}
-use Rattle.std.proofs.lemmas.Slice.Zip.{length-zip}
-use Rattle.var_layout.specs.Capped.{capped}
+use Rattle.vara_extents.proofs.Words.{◌-◌, ◌*◌, ℕ, List, ap, ◌∙◌, get_or, zip, arith, sum_by, take_all, length-zip, capped}
 use Rattle.vara_extents.proofs.CountLaws.{one_farther}
 use Rattle.vara_extents.proofs.needs.last_position.Goals as goal
 

@@ -1,6 +1,4 @@
-use Rattle.std.proofs.Common.{◌≡◌, ◌*◌, ◌-◌, ℕ, take, zip}
-use Rattle.std.specs.Prelude.{sum_by}
-use Rattle.var_layout.specs.Capped.{capped}
+use Rattle.vara_extents.proofs.Words.{◌≡◌, ◌*◌, ◌-◌, ℕ, take, zip, sum_by, capped}
 use Rattle.vara_extents.proofs.needs.last_position.Given as goal
 
 abbrev pub invariant-loop-k : goal.invariant-loop-k

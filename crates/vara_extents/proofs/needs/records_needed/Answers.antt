@@ -1,7 +1,4 @@
-use Rattle.std.proofs.Common.{◌≡◌, sym, Some, arith}
-use Rattle.std.specs.Prelude.{slice_get}
-use Rattle.var_layout.proofs.Soundness.{if_there}
-use Rattle.serial_spec.specs.Records.{records_of}
+use Rattle.vara_extents.proofs.Words.{◌≡◌, sym, Some, arith, slice_get, if_there, records_of}
 use Rattle.vara_extents.proofs.AcceptedLaws.{records_fit}
 use Rattle.vara_extents.proofs.needs.records_needed.Goals as goal
 

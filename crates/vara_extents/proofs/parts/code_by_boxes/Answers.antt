@@ -1,6 +1,4 @@
-use Rattle.std.proofs.Common.{◌∙◌, ap, List, rules}
-use Rattle.nc_base.specs.declared.request.Region.{Region}
-use Rattle.vara_extents.specs.Parts.{refusal_of}
+use Rattle.vara_extents.proofs.Words.{◌∙◌, ap, List, rules, Region, refusal_of}
 use Rattle.vara_extents.proofs.PartLaws.{accepted_by, refused_by}
 use Rattle.vara_extents.proofs.parts.code_by_boxes.Goals as goal
 

@@ -1,9 +1,4 @@
-use Rattle.std.proofs.Common.{List, ap, ◌∙◌}
-use Rattle.std.specs.Prelude.{sum_by}
-use Rattle.std.proofs.lemmas.List.{take_all}
-use Rattle.nc_base.specs.declared.request.Region.{Region}
-use Rattle.serial_spec.specs.Layout.{product}
-use Rattle.var_layout.specs.Capped.{capped}
+use Rattle.vara_extents.proofs.Words.{List, ap, ◌∙◌, sum_by, take_all, Region, product, capped}
 use Rattle.vara_extents.proofs.PartLaws.{one_part_more}
 use Rattle.vara_extents.proofs.parts.elements_of_all.Goals as goal
 

@@ -1,8 +1,4 @@
-use Rattle.std.proofs.Common.{◌≡◌, take}
-use Rattle.std.specs.Prelude.{sum_by}
-use Rattle.nc_base.specs.declared.request.Region.{Region}
-use Rattle.serial_spec.specs.Layout.{product}
-use Rattle.var_layout.specs.Capped.{capped}
+use Rattle.vara_extents.proofs.Words.{◌≡◌, take, sum_by, Region, product, capped}
 use Rattle.vara_extents.proofs.parts.elements_of_all.Given as goal
 
 abbrev pub invariant-loop-region : goal.invariant-loop-region

@@ -1,5 +1,4 @@
-use Rattle.std.proofs.Common.{◌≡◌, drop}
-use Rattle.vara_extents.specs.Parts.{refusal_of}
+use Rattle.vara_extents.proofs.Words.{◌≡◌, drop, refusal_of}
 use Rattle.vara_extents.proofs.parts.first_refusal.Given as goal
 
 abbrev pub invariant-loop-region : goal.invariant-loop-region

@@ -1,5 +1,4 @@
-use Rattle.std.proofs.Common.{◌≡◌, map, take}
-use Rattle.serial_spec.specs.RegionCheck.{part_region}
+use Rattle.vara_extents.proofs.Words.{◌≡◌, map, take, part_region}
 use Rattle.vara_extents.proofs.parts.part_regions.Given as goal
 
 abbrev pub invariant-loop-part : goal.invariant-loop-part

@@ -1,5 +1,4 @@
-use Rattle.std.proofs.Common.{refl, true, false, rules}
-use Rattle.vara_extents.specs.Boxes.{some_meet}
+use Rattle.vara_extents.proofs.Words.{refl, true, false, rules, some_meet}
 use Rattle.vara_extents.proofs.PartLaws.{few_are, large_is}
 use Rattle.vara_extents.proofs.parts.together_code.Goals as goal
 

@@ -1,6 +1,5 @@
 -- An outer dimension keeps the runs of the inner ones, or makes one run of them.
-use Rattle.std.proofs.Common.{◌≡◌, ◌⊎◌, inl, inr, sym, ◌∙◌, get_or}
-use Rattle.std.proofs.lemmas.Bool.{eqb-true}
+use Rattle.vara_extents.proofs.Words.{◌≡◌, ◌⊎◌, inl, inr, sym, ◌∙◌, get_or, eqb-true}
 use Rattle.vara_extents.proofs.RowSteps.{inner_kept, inner_merged}
 use Rattle.vara_extents.proofs.runs.+inner_run.Goals as goal
 use Rattle.vara_extents.proofs.runs.+inner_run.Goals.{then-count-eq1, else-count-eq1}

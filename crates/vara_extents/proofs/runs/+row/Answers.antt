@@ -1,5 +1,5 @@
 -- A row, one dimension at a time.
-use Rattle.std.proofs.Common.{◌∙◌, refl, arith, rules}
+use Rattle.vara_extents.proofs.Words.{◌∙◌, refl, arith, rules}
 use Rattle.vara_extents.proofs.RowSteps.{row_step, no_counts}
 use Rattle.vara_extents.proofs.runs.+row.Goals as goal
 

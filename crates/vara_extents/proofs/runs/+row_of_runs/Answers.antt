@@ -1,5 +1,5 @@
 -- The innermost dimension that takes a run for each of its indices.
-use Rattle.std.proofs.Common.{arith}
+use Rattle.vara_extents.proofs.Words.{arith}
 use Rattle.vara_extents.proofs.RowLaws.{rows_here, rows_inside}
 use Rattle.vara_extents.proofs.RowSteps.{inner_small}
 use Rattle.vara_extents.proofs.runs.+row_of_runs.Goals as goal

@@ -1,9 +1,5 @@
 -- The begin and the bytes of the rows before.
-use Rattle.std.proofs.Common.{◌≡◌, ◌+◌, ◌*◌, ℕ, ap, ◌∙◌, arith}
-use Rattle.serial_spec.specs.ExternalForm.{size_of}
-use Rattle.serial_spec.specs.Layout.{product}
-use Rattle.var_layout.proofs.ElementPlaces.{row_below_bytes}
-use Rattle.vara_extents.specs.Numbered.{row_of}
+use Rattle.vara_extents.proofs.Words.{◌≡◌, ◌+◌, ◌*◌, ℕ, ap, ◌∙◌, arith, size_of, product, row_below_bytes, row_of}
 use Rattle.vara_extents.proofs.RowSteps.{same_row, same_valid, fixed_valid, fixed_is}
 use Rattle.vara_extents.proofs.runs.fixed_place.Goals as goal
 

@@ -1,9 +1,5 @@
 -- The begin, the records before, and the bytes of the rows before in the record.
-use Rattle.std.proofs.Common.{◌≡◌, ◌+◌, ◌*◌, ◌/◌, ◌%◌, ℕ, get_or, length, ap, ◌∙◌, arith}
-use Rattle.std.proofs.Math.Nat.{mul-le-mul_left}
-use Rattle.serial_spec.specs.ExternalForm.{size_of}
-use Rattle.var_layout.proofs.ElementPlaces.{row_below_bytes}
-use Rattle.vara_extents.specs.Numbered.{row_of}
+use Rattle.vara_extents.proofs.Words.{◌≡◌, ◌+◌, ◌*◌, ◌/◌, ◌%◌, ℕ, get_or, length, ap, ◌∙◌, arith, mul-le-mul_left, size_of, row_below_bytes, row_of}
 use Rattle.vara_extents.proofs.RowSteps.{rest, record_step, no_record_counts}
 use Rattle.vara_extents.proofs.runs.record_place.Goals as goal
 

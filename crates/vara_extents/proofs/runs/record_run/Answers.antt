@@ -1,11 +1,5 @@
 -- The runs of a record, and those of records that touch.
-use Rattle.std.proofs.Common.{◌*◌, ◌^◌, ℕ, List, length, get_or, ap, sym, subst, ◌∙◌, arith}
-use Rattle.std.proofs.lemmas.Nat.{mul-le}
-use Rattle.serial_spec.proofs.LengthLaws.{size_most}
-use Rattle.serial_spec.specs.ExternalForm.{size_of}
-use Rattle.serial_spec.specs.Layout.{product}
-use Rattle.serial_spec.specs.Place.{place}
-use Rattle.vara_extents.specs.Numbered.{index_of, AreRuns}
+use Rattle.vara_extents.proofs.Words.{◌*◌, ◌^◌, ℕ, List, length, get_or, ap, sym, subst, ◌∙◌, arith, mul-le, size_most, size_of, product, place, index_of, AreRuns}
 use Rattle.vara_extents.proofs.RowSteps.{rest, inner_small, record_kept, record_merged, same_have_rests, run_low}
 use Rattle.vara_extents.proofs.runs.record_run.Goals as goal
 

@@ -1,4 +1,4 @@
-use Rattle.std.proofs.Common.{sym, ◌∙◌}
+use Rattle.vara_extents.proofs.Words.{sym, ◌∙◌}
 use Rattle.vara_extents.proofs.RowSteps.{fixed_runs, same_have}
 use Rattle.vara_extents.proofs.runs.run_of.Goals as goal
 

@@ -1,7 +1,6 @@
-use Rattle.std.proofs.Common.{refl}
+use Rattle.whole_run_laws.proofs.Words.{refl, replies_long}
 use Rattle.whole_run_laws.proofs.ToldLaws.{replies_told, pair_is_least, none_shared, only_refused}
 use Rattle.whole_run_laws.proofs.overlaps.telling_law.Goals as goal
-use Rattle.join_laws.proofs.StepLaws.{replies_long}
 
 pub returns-clause-one_each : goal.returns-clause-one_each
 returns-clause-one_each c = replies_long

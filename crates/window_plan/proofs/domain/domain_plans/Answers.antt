@@ -1,17 +1,6 @@
 -- Each window is planned by the entries that may have bytes in it.
-use Rattle.std.proofs.Common.{◌+◌, ◌++◌, ◌∙◌, sym, ap, subst, List, map, min, arith}
-use Rattle.aggregator_rounds.specs.Left.{entries_left}
-use Rattle.aggregator_rounds.specs.Pieces.{told_window}
-use Rattle.aggregator_rounds.proofs.PastSteps.{all_left, walk_begin}
-use Rattle.aggregator_rounds.proofs.SplitSteps.{sorted_right}
-use Rattle.nc_base.specs.declared.plan.Owned.{Owned}
-use Rattle.exchange_crew.specs.Cursor.{AreInFront}
-use Rattle.exchange_crew.specs.Hulls.{AreTurns}
-use Rattle.exchange_crew.specs.Turns.{Told, turns_ahead, turns_of}
-use Rattle.exchange_crew.proofs.DomainTurns.{domain_turns}
-use Rattle.exchange_crew.proofs.TurnLaws.{at_begin, front_carried, left_ends, left_filled, left_sorted, served_ends, served_now, turn_limit}
-use Rattle.window_plan.specs.Windows.{told_plan, AreShared}
-use Rattle.window_plan.specs.declared.plan.WindowPlan.{WindowPlan}
+use Rattle.window_plan.proofs.Words.{◌+◌, ◌++◌, ◌∙◌, sym, ap, subst, List, map, min, arith, entries_left, told_window, all_left, walk_begin, sorted_right, Owned, AreInFront, AreTurns, Told, turns_ahead, turns_of, domain_turns, at_begin, front_carried, left_ends, left_filled, left_sorted, served_now, turn_limit, told_plan, AreShared, WindowPlan}
+use Rattle.exchange_crew.proofs.TurnLaws.{served_ends}
 use Rattle.window_plan.proofs.PlanLaws.{all_told, none_shared, planned_next, IsPlanning}
 use Rattle.window_plan.proofs.domain.domain_plans.Goals as goal
 

@@ -1,7 +1,5 @@
 -- The windows that are planned, and those that are left, are all.
-use Rattle.std.proofs.Common.{length, min}
-use Rattle.aggregator_rounds.specs.Left.{entries_left}
-use Rattle.exchange_crew.specs.Turns.{turns_ahead, turns_of}
+use Rattle.window_plan.proofs.Words.{length, min, entries_left, turns_ahead, turns_of}
 use Rattle.window_plan.proofs.PlanLaws.{IsPlanning}
 use Rattle.window_plan.proofs.domain.domain_plans.Given as goal
 

@@ -1,6 +1,5 @@
 -- Each entry is one of the list.
-use Rattle.nc_base.specs.declared.plan.Owned.{Owned}
-use Rattle.aggregator_rounds.proofs.SplitSteps.{entry_ends}
+use Rattle.window_plan.proofs.Words.{Owned, entry_ends}
 use Rattle.window_plan.proofs.owners.push_owners.Goals as goal
 
 abbrev none : Owned

@@ -1,6 +1,5 @@
 -- The owners by the entries so far.
-use Rattle.std.proofs.Common.{◌≡◌, ◌++◌, take}
-use Rattle.window_plan.specs.Windows.{owners_in}
+use Rattle.window_plan.proofs.Words.{◌≡◌, ◌++◌, take, owners_in}
 use Rattle.window_plan.proofs.owners.push_owners.Given as goal
 
 abbrev pub invariant-loop-entry : goal.invariant-loop-entry

@@ -1,12 +1,5 @@
 -- The entries that are carried, and those behind them, end below the limit.
-use Rattle.std.proofs.Common.{List, sym, subst}
-use Rattle.std.proofs.lemmas.List.{map-append}
-use Rattle.nc_base.specs.declared.plan.Extent.{Extent}
-use Rattle.nc_base.specs.declared.plan.Owned.{Owned}
-use Rattle.aggregator_rounds.proofs.SplitSteps.{extents_left}
-use Rattle.overlay_laws.specs.Entries.{In}
-use Rattle.overlay_laws.specs.Lines.{extents}
-use Rattle.overlay_laws.proofs.HullLaws.{in_right}
+use Rattle.window_plan.proofs.Words.{List, sym, subst, map-append, Extent, Owned, extents_left, In, extents, in_right}
 use Rattle.window_plan.proofs.plan.plan_window.Goals as goal
 
 pub push_owners-requires-clause-ends : goal.push_owners-requires-clause-ends

@@ -1,5 +1,5 @@
 -- The bytes of one owner more.
-use Rattle.window_plan.specs.declared.plan.Owner.{Owner}
+use Rattle.window_plan.proofs.Words.{Owner}
 use Rattle.window_plan.proofs.ShareLaws.{share_more}
 use Rattle.window_plan.proofs.shares.bytes_of.Goals as goal
 

@@ -1,6 +1,5 @@
 -- The bytes that the owners so far give the rank.
-use Rattle.std.proofs.Common.{◌≡◌, take}
-use Rattle.window_plan.specs.Windows.{share_of}
+use Rattle.window_plan.proofs.Words.{◌≡◌, take, share_of}
 use Rattle.window_plan.proofs.shares.bytes_of.Given as goal
 
 abbrev pub invariant-loop-owner : goal.invariant-loop-owner

@@ -1,6 +1,5 @@
 -- The ranks up to the last one of one owner more.
-use Rattle.std.proofs.Common.{◌+◌, ◌∙◌, ap, max, rules}
-use Rattle.window_plan.specs.declared.plan.Owner.{Owner}
+use Rattle.window_plan.proofs.Words.{◌+◌, ◌∙◌, ap, max, rules, Owner}
 use Rattle.window_plan.proofs.ShareLaws.{ranks_more}
 use Rattle.window_plan.proofs.shares.ranks_in.Goals as goal
 

@@ -1,6 +1,5 @@
 -- The ranks up to the last one of the owners so far.
-use Rattle.std.proofs.Common.{◌≡◌, ◌^◌, ◌≤◌, take}
-use Rattle.window_plan.specs.Windows.{ranks_in}
+use Rattle.window_plan.proofs.Words.{◌≡◌, ◌^◌, ◌≤◌, take, ranks_in}
 use Rattle.window_plan.proofs.shares.ranks_in.Given as goal
 
 abbrev pub invariant-loop-owner : goal.invariant-loop-owner

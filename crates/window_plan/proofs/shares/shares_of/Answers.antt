@@ -1,5 +1,5 @@
 -- The share of one rank more.
-use Rattle.window_plan.specs.Windows.{some_share}
+use Rattle.window_plan.proofs.Words.{some_share}
 use Rattle.window_plan.proofs.ShareLaws.{shares_more}
 use Rattle.window_plan.proofs.shares.shares_of.Goals as goal
 

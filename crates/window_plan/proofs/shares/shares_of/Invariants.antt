@@ -1,7 +1,5 @@
 -- The shares of the ranks so far.
-use Rattle.std.proofs.Common.{◌≡◌}
-use Rattle.std.specs.List.{flat_map, range_with_len}
-use Rattle.window_plan.specs.Windows.{some_share}
+use Rattle.window_plan.proofs.Words.{◌≡◌, flat_map, range_with_len, some_share}
 use Rattle.window_plan.proofs.shares.shares_of.Given as goal
 
 abbrev pub invariant-loop-rank : goal.invariant-loop-rank

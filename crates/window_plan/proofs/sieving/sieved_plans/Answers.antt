@@ -1,15 +1,5 @@
 -- Each window is planned by the entries that may have bytes in it.
-use Rattle.std.proofs.Common.{◌++◌, ◌∷◌, [], ◌∙◌, refl, sym, ap, subst, List, ℕ, map, arith}
-use Rattle.aggregator_rounds.specs.Left.{entries_left}
-use Rattle.aggregator_rounds.proofs.PastSteps.{past_twice, all_left, walk_begin}
-use Rattle.data_sieving.specs.Sieving.{entry_windows}
-use Rattle.data_sieving.specs.Walked.{entries_in, windows_from, IsNext}
-use Rattle.data_sieving.proofs.LoopSteps.{none_carried, walk_ready}
-use Rattle.data_sieving.proofs.ReachSteps.{hull_end, served_ends}
-use Rattle.data_sieving.proofs.WindowSteps.{all_windows, goes_on}
-use Rattle.overlay_laws.specs.Walks.{told_of}
-use Rattle.window_plan.specs.Windows.{told_plan, AreShared}
-use Rattle.window_plan.specs.declared.plan.WindowPlan.{WindowPlan}
+use Rattle.window_plan.proofs.Words.{◌++◌, ◌∷◌, [], ◌∙◌, refl, sym, ap, subst, List, ℕ, map, arith, entries_left, past_twice, all_left, walk_begin, entry_windows, entries_in, windows_from, IsNext, none_carried, walk_ready, hull_end, served_ends, all_windows, goes_on, told_of, told_plan, AreShared, WindowPlan}
 use Rattle.window_plan.proofs.PlanLaws.{none_shared, sieved_end, sieved_next, IsSieving}
 use Rattle.window_plan.proofs.sieving.sieved_plans.Goals as goal
 

@@ -1,9 +1,5 @@
 -- The windows that are planned, and those that are left, are all.
-use Rattle.std.proofs.Common.{◌≡◌, ◌-◌, ◌^◌, map}
-use Rattle.aggregator_rounds.specs.Left.{entries_left}
-use Rattle.data_sieving.specs.Sieving.{entry_windows}
-use Rattle.data_sieving.specs.Walked.{AreLeft, LieAcross}
-use Rattle.overlay_laws.specs.Walks.{told_of}
+use Rattle.window_plan.proofs.Words.{◌≡◌, ◌-◌, ◌^◌, map, entries_left, entry_windows, AreLeft, LieAcross, told_of}
 use Rattle.window_plan.proofs.PlanLaws.{IsSieving}
 use Rattle.window_plan.proofs.sieving.sieved_plans.Given as goal
 

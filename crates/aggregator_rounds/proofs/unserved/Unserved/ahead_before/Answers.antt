@@ -1,7 +1,5 @@
 -- Those in front that begin before the place.
-use Rattle.std.proofs.Common.{List, subst, sym}
-use Rattle.nc_base.specs.declared.plan.Owned.{Owned}
-use Rattle.aggregator_rounds.specs.Left.{BeginBefore}
+use Rattle.aggregator_rounds.proofs.Words.{List, subst, sym, Owned, BeginBefore}
 use Rattle.aggregator_rounds.proofs.SplitSteps.{taken_before}
 use Rattle.aggregator_rounds.proofs.unserved.Unserved.ahead_before.Goals as goal
 

@@ -1,11 +1,7 @@
 -- Those passed end at the place or are carried.
-use Rattle.std.proofs.Common.{◌⊎◌, ◌++◌, ◌<◌, List, sym, subst}
-use Rattle.nc_base.specs.declared.plan.Owned.{Owned}
-use Rattle.overlay_laws.specs.Entries.{In}
-use Rattle.aggregator_rounds.specs.Left.{entries_left, IsPast}
+use Rattle.aggregator_rounds.proofs.Words.{◌⊎◌, ◌++◌, ◌<◌, List, sym, subst, Owned, In, entries_left, IsPast, in_extents}
 use Rattle.aggregator_rounds.proofs.PastSteps.{ahead_in, past_filter, passed_past, passed_carried, kept_carried, first_further, first_ahead, none_ahead}
 use Rattle.aggregator_rounds.proofs.SplitSteps.{extents_left}
-use Rattle.overlay_laws.proofs.EntryLaws.{in_extents}
 use Rattle.aggregator_rounds.proofs.unserved.Unserved.pass.Goals as goal
 
 pub leave_out-requires : goal.leave_out-requires

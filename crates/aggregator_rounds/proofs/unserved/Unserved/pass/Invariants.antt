@@ -1,8 +1,5 @@
 -- Those passed end at the place or are carried.
-use Rattle.std.proofs.Common.{◌⊎◌, ◌+◌, ◌<◌, length}
-use Rattle.nc_base.specs.declared.plan.Owned.{Owned}
-use Rattle.overlay_laws.specs.Entries.{In}
-use Rattle.aggregator_rounds.specs.Left.{entries_left, IsPast}
+use Rattle.aggregator_rounds.proofs.Words.{◌⊎◌, ◌+◌, ◌<◌, length, Owned, In, entries_left, IsPast}
 use Rattle.aggregator_rounds.proofs.unserved.Unserved.pass.Given as goal
 
 abbrev pub invariant-ahead : goal.invariant-ahead

@@ -1,10 +1,5 @@
 -- The window is that of the entries that begin before its end.
-use Rattle.std.proofs.Common.{◌++◌, List, sym, subst, arith}
-use Rattle.nc_base.specs.declared.plan.Owned.{Owned}
-use Rattle.overlay_laws.proofs.HullLaws.{in_right}
-use Rattle.aggregator_rounds.specs.Left.{entries_left}
-use Rattle.data_sieving.specs.Walked.{IsNext}
-use Rattle.aggregator_rounds.proofs.SplitSteps.{none_got, sorted_right, front_sorted}
+use Rattle.data_sieving.proofs.Words.{◌++◌, List, sym, subst, arith, Owned, in_right, entries_left, IsNext, none_got, sorted_right, front_sorted}
 use Rattle.data_sieving.proofs.ReachSteps.{served_ends, served_filled}
 use Rattle.data_sieving.proofs.NextSteps.{first_below, some_served, carried_at, is_next, is_ready, Ready}
 use Rattle.data_sieving.proofs.walk.SieveWalk.next_window.Goals.{After-ahead_before-fresh}

@@ -1,5 +1,5 @@
 -- What is left behind the place is left of what was left before.
-use Rattle.aggregator_rounds.specs.Left.{entries_left}
+use Rattle.data_sieving.proofs.Words.{entries_left}
 use Rattle.data_sieving.proofs.NextSteps.{past_left, across_further}
 use Rattle.data_sieving.proofs.walk.SieveWalk.pass.Goals as goal
 

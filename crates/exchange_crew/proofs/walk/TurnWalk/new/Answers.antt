@@ -1,11 +1,5 @@
 -- No entry is gone.
-use Rattle.std.proofs.Common.{◌^◌, List, min, subst, sym, arith}
-use Rattle.nc_base.specs.declared.plan.Owned.{Owned}
-use Rattle.aggregator_rounds.specs.Left.{IsPast}
-use Rattle.aggregator_rounds.proofs.PastSteps.{past_none}
-use Rattle.overlay_laws.specs.Lines.{extents, EndBelow, IsByPlace}
-use Rattle.exchange_crew.specs.Hulls.{AreTurns}
-use Rattle.exchange_crew.specs.Turns.{Told, turns_ahead}
+use Rattle.exchange_crew.proofs.Words.{◌^◌, List, min, subst, sym, arith, Owned, IsPast, past_none, extents, EndBelow, IsByPlace, AreTurns, Told, turns_ahead}
 use Rattle.exchange_crew.proofs.PlanLaws.{plan_turns}
 use Rattle.exchange_crew.proofs.TurnLaws.{at_begin, turn_end, turn_in}
 use Rattle.exchange_crew.proofs.walk.TurnWalk.new.Goals as goal

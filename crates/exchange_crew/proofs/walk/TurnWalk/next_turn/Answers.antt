@@ -1,13 +1,5 @@
 -- The entries that have begun before the hull's end may have bytes in it; those that end by it are served.
-use Rattle.std.proofs.Common.{◌+◌, ◌^◌, List, sym, subst, arith, inl, inr, refl}
-use Rattle.nc_base.specs.declared.plan.Owned.{Owned}
-use Rattle.overlay_laws.specs.Entries.{In}
-use Rattle.overlay_laws.specs.Lines.{extents, IsByPlace, EndBelow}
-use Rattle.aggregator_rounds.specs.Pieces.{told_window}
-use Rattle.aggregator_rounds.specs.Left.{IsPast}
-use Rattle.aggregator_rounds.proofs.SplitSteps.{sorted_dropped, extents_dropped, taken_before, dropped_past}
-use Rattle.exchange_crew.specs.Cursor.{AreInFront}
-use Rattle.exchange_crew.specs.Turns.{Told}
+use Rattle.exchange_crew.proofs.Words.{◌+◌, ◌^◌, List, sym, subst, arith, inl, inr, refl, Owned, In, extents, IsByPlace, EndBelow, told_window, IsPast, sorted_dropped, extents_dropped, taken_before, dropped_past, AreInFront, Told}
 use Rattle.exchange_crew.proofs.TurnLaws.{begun_front}
 use Rattle.exchange_crew.proofs.walk.TurnWalk.next_turn.Goals as goal
 

@@ -1,12 +1,8 @@
 -- A window is the first of those left.
-use Rattle.std.proofs.Common.{ℕ, ◌-◌, ◌^◌, sym, ◌∙◌, ap, min, arith}
-use Rattle.serial_spec.proofs.MemberLaws.{at_in}
-use Rattle.overlay_laws.proofs.Members.{entry_in}
-use Rattle.file_domains.specs.Rounds.{IsWalk, windows_left}
+use Rattle.file_domains.proofs.Words.{ℕ, ◌-◌, ◌^◌, sym, ◌∙◌, ap, min, arith, at_in, entry_in, IsWalk, windows_left, goes_on}
 use Rattle.file_domains.proofs.CoverParts.{get_is, long_enough}
 use Rattle.file_domains.proofs.WalkSteps.{next_window_at, empty_left, none_left_at, first_ends, stops_past}
 use Rattle.file_domains.proofs.walk.WindowWalkIterator.next.Goals as goal
-use Rattle.list_laws.proofs.Walks.{goes_on}
 
 pub returns-then-at-self-clause-steps : goal.returns-then-at-self-clause-steps
 returns-then-at-self-clause-steps c =

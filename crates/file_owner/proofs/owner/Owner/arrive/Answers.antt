@@ -1,17 +1,9 @@
 -- An end, an offer that a number makes alone, a meeting, and an offer that is held.
-use Rattle.std.proofs.Common.{ℕ, [], sym, refl, ◌∙◌, ap, subst}
-use Rattle.std.proofs.lemmas.Result.{on_err_weaker, on_ok_weaker}
-use Rattle.std.specs.List.{list_all}
+use Rattle.file_owner.proofs.Words.{ℕ, [], sym, refl, ◌∙◌, ap, subst, on_err_weaker, on_ok_weaker, list_all, holds, dataset_setting, owner_of, standing, count_longer, IsCount, entry_read}
 use Rattle.nc_base.specs.declared.step.RankItem.TheVariants as item
-use Rattle.serial_spec.specs.Owner.{holds}
-use Rattle.collective_round.specs.Rounds.{dataset_setting}
-use Rattle.file_owner.specs.Owned.{owner_of, standing}
 use Rattle.file_owner.proofs.ArriveSteps.{all_stopped, as_item, done_alone, done_ended, done_held, done_together, good_at, held_as, on_ok_three, client_read, steady_alone, steady_ended, steady_held, stopped_as}
-use Rattle.turn_run.proofs.CountLaws.{count_longer}
-use Rattle.turn_run.specs.Counts.{IsCount}
 use Rattle.file_owner.proofs.RefusedSteps.{arrival_alone, arrival_ended, arrival_together}
 use Rattle.file_owner.proofs.owner.Owner.arrive.Goals as goal
-use Rattle.list_laws.proofs.Places.{entry_read}
 
 pub do_alone-requires-clause-fit : goal.do_alone-requires-clause-fit
 do_alone-requires-clause-fit g c κs within =

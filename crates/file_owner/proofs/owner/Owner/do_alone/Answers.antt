@@ -1,6 +1,5 @@
 -- After an error each offer that is held, and this one, has a stop.
-use Rattle.std.proofs.Common.{ap, ◌∙◌}
-use Rattle.nc_base.specs.declared.step.OwnerItem.TheVariants.{Stop}
+use Rattle.file_owner.proofs.Words.{ap, ◌∙◌, Stop}
 use Rattle.file_owner.proofs.ArriveSteps.{alone_stopped}
 use Rattle.file_owner.proofs.PutLaws.{one_put}
 use Rattle.file_owner.proofs.owner.Owner.do_alone.Goals as goal

@@ -1,11 +1,7 @@
 -- The tests are those of the definition, which depend on no byte of the file.
-use Rattle.std.proofs.Common.{sym, ◌∙◌, ap}
-use Rattle.nc_base.specs.declared.header.Header.{Header}
-use Rattle.file_owner.specs.Owned.{owner_of}
-use Rattle.file_owner.specs.Strange.{fails_test}
+use Rattle.file_owner.proofs.Words.{sym, ◌∙◌, ap, Header, owner_of, fails_test, entry_read}
 use Rattle.file_owner.proofs.StrangeLaws.{strange_is}
 use Rattle.file_owner.proofs.owner.Owner.is_strange.Goals as goal
-use Rattle.list_laws.proofs.Places.{entry_read}
 
 pub returns : goal.returns
 returns c = λ s file records e.

@@ -1,6 +1,5 @@
 -- So many clients are free.
-use Rattle.std.proofs.Common.{◌≡◌, replicate}
-use Rattle.serial_spec.specs.Owner.{free_client}
+use Rattle.file_owner.proofs.Words.{◌≡◌, replicate, free_client}
 use Rattle.file_owner.proofs.owner.Owner.new.Given as goal
 
 abbrev pub invariant-loop : goal.invariant-loop

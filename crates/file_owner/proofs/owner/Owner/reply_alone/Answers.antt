@@ -1,17 +1,9 @@
 -- The step is done, and its reply is put.
-use Rattle.std.proofs.Common.{ℕ, sym, refl, subst, inr}
-use Rattle.nc_base.specs.declared.step.OwnerItem.TheVariants.{Reply}
-use Rattle.turn_run.specs.Counts.{IsCount}
-use Rattle.collective_round.specs.Rounds.{dataset_setting}
-use Rattle.file_owner.specs.Owned.{standing}
+use Rattle.file_owner.proofs.Words.{ℕ, sym, refl, subst, inr, Reply, IsCount, dataset_setting, standing, count_longer, count_max, puts_of, told, done_torn, on_err}
 use Rattle.file_owner.proofs.AloneSteps.{alone}
-use Rattle.turn_run.proofs.CountLaws.{count_longer, count_max}
 use Rattle.file_owner.proofs.PutLaws.{one_put}
-use Rattle.serial_spec.specs.FileStep.{puts_of, told}
-use Rattle.collective_round.proofs.TornLaws.{done_torn}
 use Rattle.file_owner.proofs.RefusedSteps.{refused_alone}
 use Rattle.file_owner.proofs.owner.Owner.reply_alone.Goals as goal
-use Rattle.list_laws.proofs.Results.{on_err}
 
 pub returns-clause-done : goal.returns-clause-done
 returns-clause-done g c =

@@ -1,23 +1,9 @@
 -- The meeting is done, and its replies are put.
-use Rattle.std.proofs.Common.{ℕ, ◌+◌, ◌++◌, ◌∷◌, [], sym, ◌∙◌, ap, subst, length, map, max, List}
-use Rattle.std.proofs.lemmas.List.{length-map}
-use Rattle.nc_base.specs.declared.plan.Batch.{Batch}
-use Rattle.nc_base.specs.declared.step.Offer.{Offer}
-use Rattle.nc_base.specs.declared.step.Mark.TheVariants.{Meet}
-use Rattle.nc_outside.specs.Told.{with_end}
-use Rattle.serial_spec.specs.Owner.{offers_held}
-use Rattle.serial_spec.specs.RankSide.{wanted}
-use Rattle.turn_run.specs.Counts.{IsRise}
-use Rattle.join_laws.proofs.StepLaws.{offers_long}
-use Rattle.collective_round.specs.Rounds.{dataset_setting}
-use Rattle.file_owner.specs.Owned.{standing, standing_at}
-use Rattle.turn_run.specs.Steps.{IsJob}
+use Rattle.file_owner.proofs.Words.{ℕ, ◌+◌, ◌++◌, ◌∷◌, [], sym, ◌∙◌, ap, subst, length, map, max, List, length-map, Batch, Offer, Meet, with_end, offers_held, wanted, IsRise, offers_long, dataset_setting, standing, standing_at, IsJob, refl, on_err}
 use Rattle.file_owner.proofs.HeldLaws.{held_job, held_low, held_once, held_rise, steady_freed}
 use Rattle.file_owner.proofs.TogetherSteps.{together}
-use Rattle.std.proofs.Common.{refl}
 use Rattle.file_owner.proofs.RefusedSteps.{done_once, none_once, refused_once}
 use Rattle.file_owner.proofs.owner.Owner.reply_together.Goals as goal
-use Rattle.list_laws.proofs.Results.{on_err}
 
 pub meet_on_file-requires-clause-job : goal.meet_on_file-requires-clause-job
 meet_on_file-requires-clause-job g c κs within = subst (λ (bs : List Batch). IsJob c.args.dataset.now.header.now (g.D.Disk.len c.args.out.now.disk.now) bs) (sym c.in_ok-job.ensures.batches) (held_job c.args.dataset.now.header.now (g.D.Disk.len c.args.out.now.disk.now) (standing g.D.Disk g.T.Told c.args.self.now c.args.out.now) c.requires.steady)

@@ -1,8 +1,7 @@
 -- The boxes of a range are those of its rows.
-use Rattle.serial_spec.specs.Fill.{boxes}
+use Rattle.fill_records.proofs.Words.{boxes, on_ok_weaker}
 use Rattle.fill_records.proofs.CutLaws.{found_none, found_row, found_rows, found_counts}
 use Rattle.fill_records.proofs.box_parts.Cutter.+cutting.Goals as goal
-use Rattle.std.proofs.lemmas.Result.{on_ok_weaker}
 
 pub cut-returns-then-from-to-clause-found : goal.cut-returns-then-from-to-clause-found
 cut-returns-then-from-to-clause-found t c =

@@ -1,5 +1,5 @@
 -- A row has one dimension less.
-use Rattle.std.proofs.Common.{◌+◌, ◌*◌, length}
+use Rattle.fill_records.proofs.Words.{◌+◌, ◌*◌, length}
 use Rattle.fill_records.proofs.box_parts.Cutter.+cutting.Given as goal
 
 abbrev pub decreases-cut : goal.decreases-cut

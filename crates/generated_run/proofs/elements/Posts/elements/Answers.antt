@@ -1,10 +1,5 @@
-use Rattle.std.proofs.Common.{◌≡◌, IfOk, ℕ, List, Option, sym, ap, subst, ◌∙◌}
-use Rattle.std.specs.Prelude.{option_map}
-use Rattle.std.specs.Option.{option_copied}
-use Rattle.std.specs.Borrow.{Bor}
-use Rattle.nc_base.specs.declared.request.Call.{Call}
-use Rattle.nc_base.specs.declared.request.Given.{Given}
-use Rattle.script_spec.specs.Generator.{elements_given, posted_elements}
+use Rattle.generated_run.proofs.Words.{◌≡◌, ℕ, List, Option, sym, ap, subst, ◌∙◌, option_map, option_copied, Bor, Call, Given, elements_given, posted_elements}
+use Rattle.std.proofs.Common.{IfOk}
 use Rattle.generated_run.proofs.PostLaws.{elements_of, found_are}
 use Rattle.generated_run.proofs.elements.Posts.elements.Goals as goal
 

@@ -1,7 +1,5 @@
 -- Those of the first can go on.
-use Rattle.std.proofs.Common.{subst, sym, List}
-use Rattle.get_exchange.specs.Lenders.{AreReady, IsReady}
-use Rattle.get_exchange.specs.declared.buffers.Lender.{Lender}
+use Rattle.get_exchange.proofs.Words.{subst, sym, List, AreReady, IsReady, Lender}
 use Rattle.get_exchange.proofs.LenderLaws.{each_taken}
 use Rattle.get_exchange.proofs.buffers.Lenders.keep.Goals as goal
 

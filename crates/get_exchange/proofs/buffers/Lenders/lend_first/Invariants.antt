@@ -1,5 +1,5 @@
 -- Each lender can go on.
-use Rattle.get_exchange.specs.Lenders.{AreReady}
+use Rattle.get_exchange.proofs.Words.{AreReady}
 use Rattle.get_exchange.proofs.buffers.Lenders.lend_first.Given as goal
 
 abbrev pub invariant-loop-blob : goal.invariant-loop-blob

@@ -1,11 +1,5 @@
 -- No entry is gone.
-use Rattle.std.proofs.Common.{List, min, subst, sym, ◌∙◌, arith}
-use Rattle.aggregator_rounds.specs.Left.{entries_left}
-use Rattle.aggregator_rounds.proofs.PastSteps.{all_left, walk_begin}
-use Rattle.exchange_crew.specs.Hulls.{AreTurns}
-use Rattle.exchange_crew.specs.Turns.{Told, turns_ahead}
-use Rattle.exchange_crew.proofs.DomainTurns.{domain_turns}
-use Rattle.exchange_crew.proofs.TurnLaws.{at_begin}
+use Rattle.get_exchange.proofs.Words.{List, min, subst, sym, ◌∙◌, arith, entries_left, all_left, walk_begin, AreTurns, Told, turns_ahead, domain_turns, at_begin}
 use Rattle.get_exchange.proofs.walk.ReadWalk.new.Goals as goal
 
 pub returns-clause-at : goal.returns-clause-at

@@ -1,10 +1,5 @@
 -- Those carried, and those behind them that begin before the hull ends.
-use Rattle.std.proofs.Common.{◌+◌, ◌++◌, List, sym, subst}
-use Rattle.nc_base.specs.declared.plan.Owned.{Owned}
-use Rattle.aggregator_rounds.specs.Left.{entries_left}
-use Rattle.aggregator_rounds.proofs.SplitSteps.{sorted_right}
-use Rattle.exchange_crew.specs.Cursor.{AreInFront}
-use Rattle.exchange_crew.proofs.TurnLaws.{front_carried}
+use Rattle.get_exchange.proofs.Words.{◌+◌, ◌++◌, List, sym, subst, Owned, entries_left, sorted_right, AreInFront, front_carried}
 use Rattle.get_exchange.proofs.walk.ReadWalk.turn.Goals as goal
 
 pub ahead_before-requires : goal.ahead_before-requires

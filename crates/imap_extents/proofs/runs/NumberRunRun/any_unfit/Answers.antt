@@ -1,6 +1,4 @@
-use Rattle.std.proofs.Common.{◌≡◌, ◌+◌, ◌-◌, ◌∙◌, ap, sym, not, arith}
-use Rattle.nc_base.specs.declared.request.Value.{Value}
-use Rattle.serial_spec.specs.ExternalForm.{fits}
+use Rattle.imap_extents.proofs.Words.{◌≡◌, ◌+◌, ◌-◌, ◌∙◌, ap, sym, not, arith, Value, fits}
 use Rattle.imap_extents.proofs.EndLaws.{numbers_by_last}
 use Rattle.imap_extents.proofs.runs.NumberRunRun.any_unfit.Goals as goal
 

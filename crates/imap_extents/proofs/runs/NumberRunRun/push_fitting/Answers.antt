@@ -1,7 +1,5 @@
-use Rattle.std.proofs.Common.{◌++◌, ◌∙◌, ap, ℕ, List}
-use Rattle.std.specs.Prelude.{pos, ◌+ℤ◌, ◌*ℤ◌}
-use Rattle.std.specs.Int.{w64, cast_unsigned, int_wrap}
-use Rattle.std.proofs.lemmas.Result.{on_ok_weaker}
+use Rattle.imap_extents.proofs.Words.{◌++◌, ◌∙◌, ap, ℕ, List, ◌*ℤ◌, w64, cast_unsigned, int_wrap, on_ok_weaker}
+use Rattle.std.specs.Prelude.{pos, ◌+ℤ◌}
 use Rattle.nc_base.specs.declared.request.Value.TheVariants as value
 use Rattle.imap_extents.proofs.CodeLaws.{number_form, fitting_forms}
 use Rattle.imap_extents.proofs.runs.NumberRunRun.push_fitting.Goals as goal

@@ -1,5 +1,4 @@
-use Rattle.std.proofs.Common.{◌≡◌, ◌++◌}
-use Rattle.nc_base.specs.BitForms.{bit_steps}
+use Rattle.nc_base.proofs.Words.{◌≡◌, ◌++◌, bit_steps}
 use Rattle.nc_base.proofs.bits.BitList.push_run.Given as goal
 
 abbrev pub invariant-loop-k : goal.invariant-loop-k

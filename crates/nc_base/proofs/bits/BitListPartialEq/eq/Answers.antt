@@ -1,4 +1,4 @@
-use Rattle.std.proofs.Common.{arith}
+use Rattle.nc_base.proofs.Words.{arith}
 use Rattle.nc_base.proofs.EqLaws.{equal_bits}
 use Rattle.nc_base.proofs.bits.BitListPartialEq.eq.Goals as goal
 

@@ -1,5 +1,4 @@
-use Rattle.std.proofs.Common.{◌≡◌, ◌<◌, ℕ}
-use Rattle.std.specs.Prelude.{slice_get}
+use Rattle.nc_base.proofs.Words.{◌≡◌, ◌<◌, ℕ, slice_get}
 use Rattle.nc_base.proofs.bits.BitListPartialEq.eq.Given as goal
 
 abbrev pub invariant-loop-k : goal.invariant-loop-k

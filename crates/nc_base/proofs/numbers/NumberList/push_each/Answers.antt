@@ -1,6 +1,4 @@
-use Rattle.std.proofs.Common.{◌≡◌, ◌++◌, ◌∷◌, [], arith}
-use Rattle.std.proofs.lemmas.Grind.{common_steps}
-use Rattle.std.proofs.lemmas.Int.{to_z-of_z}
+use Rattle.nc_base.proofs.Words.{◌≡◌, ◌++◌, ◌∷◌, [], arith, common_steps, to_z-of_z}
 use Rattle.nc_base.proofs.EqLaws.{after_some}
 use Rattle.nc_base.proofs.numbers.NumberList.push_each.Goals as goal
 

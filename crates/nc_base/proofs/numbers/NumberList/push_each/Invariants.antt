@@ -1,4 +1,4 @@
-use Rattle.std.proofs.Common.{◌≡◌, ◌++◌, take}
+use Rattle.nc_base.proofs.Words.{◌≡◌, ◌++◌, take}
 use Rattle.nc_base.proofs.numbers.NumberList.push_each.Given as goal
 
 abbrev pub invariant-loop-k : goal.invariant-loop-k

@@ -1,5 +1,4 @@
-use Rattle.std.proofs.Common.{◌≡◌, ◌++◌, take}
-use Rattle.nc_base.specs.NumberForms.{numbers_of_runs}
+use Rattle.nc_base.proofs.Words.{◌≡◌, ◌++◌, take, numbers_of_runs}
 use Rattle.nc_base.proofs.numbers.NumberList.push_runs.Given as goal
 
 abbrev pub invariant-loop-run : goal.invariant-loop-run

@@ -1,6 +1,4 @@
-use Rattle.std.proofs.Common.{◌∙◌, sym, arith}
-use Rattle.std.proofs.lemmas.Option.{same_Some}
-use Rattle.std.proofs.lemmas.Int.{ints}
+use Rattle.nc_base.proofs.Words.{◌∙◌, sym, arith, same_Some, ints}
 use Rattle.nc_base.proofs.EqLaws.{equal_numbers, other_numbers}
 use Rattle.nc_base.proofs.numbers.NumberListPartialEq.eq.Goals as goal
 

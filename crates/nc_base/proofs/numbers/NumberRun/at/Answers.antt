@@ -1,7 +1,5 @@
-use Rattle.std.proofs.Common.{◌≡◌, ◌∙◌, ◌≤◌, ◌^◌, ap, rules, arith}
-use Rattle.std.specs.Prelude.{ℤ, pos, ◌+ℤ◌, ◌*ℤ◌, unsigned_abs}
-use Rattle.std.proofs.lemmas.Int.{ints, to_z-of_z, fits_signed_mul, unsigned_abs-mul}
-use Rattle.std.proofs.Math.Nat.{mul-le-mul}
+use Rattle.nc_base.proofs.Words.{◌≡◌, ◌∙◌, ◌≤◌, ap, rules, arith, ℤ, pos, ◌+ℤ◌, ◌*ℤ◌, unsigned_abs, ints, to_z-of_z, fits_signed_mul, unsigned_abs-mul, mul-le-mul}
+use Rattle.std.proofs.Common.{◌^◌}
 use mir.Syntax.{w64, w128}
 use mir.Val.{SFits, to_z, of_z}
 use Rattle.nc_base.proofs.numbers.NumberRun.at.Goals as goal

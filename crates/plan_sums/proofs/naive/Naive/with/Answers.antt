@@ -1,7 +1,5 @@
 -- What one rank more asks for.
-use Rattle.std.proofs.Common.{◌++◌, ◌∙◌, ap, get_or, take, List}
-use Rattle.step_plan.specs.declared.plan.Asked.{Asked}
-use Rattle.plan_sums.specs.Naive.{naive_sum}
+use Rattle.plan_sums.proofs.Words.{◌++◌, ◌∙◌, ap, get_or, take, List, Asked, naive_sum}
 use Rattle.plan_sums.proofs.AskedLaws.{asked_more}
 use Rattle.plan_sums.proofs.ListLaws.{taken_more}
 use Rattle.plan_sums.proofs.naive.Naive.with.Goals as goal

@@ -1,7 +1,5 @@
 -- What is asked for so far.
-use Rattle.std.proofs.Common.{◌≡◌, ◌++◌, List, take}
-use Rattle.step_plan.specs.declared.plan.Asked.{Asked}
-use Rattle.plan_sums.specs.Naive.{naive_sum}
+use Rattle.plan_sums.proofs.Words.{◌≡◌, ◌++◌, List, take, Asked, naive_sum}
 use Rattle.plan_sums.proofs.naive.Naive.with.Given as goal
 
 abbrev pub invariant-loop-one : goal.invariant-loop-one

@@ -1,7 +1,4 @@
-use Rattle.std.proofs.Common.{ℕ, Option, ap, ◌∙◌}
-use Rattle.std.specs.Prelude.{unwrap_or}
-use Rattle.nc_base.specs.declared.header.Header.{Header}
-use Rattle.script_spec.specs.Texts.{digits_of_name}
+use Rattle.printed_text.proofs.Words.{ℕ, Option, ap, ◌∙◌, unwrap_or, Header, digits_of_name}
 use Rattle.printed_text.proofs.DigitLaws.{digits_named}
 use Rattle.printed_text.proofs.digits.NameDigits.of_name.Goals as goal
 

@@ -1,9 +1,5 @@
 -- A piece more, which lies in the hull too.
-use Rattle.std.proofs.Common.{◌≡◌, ◌∙◌, ◌+◌, ◌≤◌, List, ap, subst, sym, length}
-use Rattle.nc_base.specs.declared.plan.Extent.{Extent}
-use Rattle.serial_spec.specs.Said.{Cell, IsFrom, IsWithin}
-use Rattle.put_exchange.specs.Sent.{cells_of, Sent}
-use Rattle.put_exchange.specs.declared.message.LentPiece.{LentPiece}
+use Rattle.put_exchange.proofs.Words.{◌≡◌, ◌∙◌, ◌+◌, ◌≤◌, List, ap, subst, sym, length, Extent, Cell, IsFrom, IsWithin, cells_of, Sent, LentPiece}
 use Rattle.put_exchange.proofs.MessageLaws.{cells_push, from_push, within_push}
 use Rattle.put_exchange.proofs.message.Message.push.Goals as goal
 

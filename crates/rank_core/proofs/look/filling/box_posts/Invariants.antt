@@ -1,4 +1,4 @@
-use Rattle.std.proofs.Common.{◌≡◌, map, take}
+use Rattle.rank_core.proofs.Words.{◌≡◌, map, take}
 use Rattle.serial_spec.specs.Looks as looks
 use Rattle.rank_core.proofs.look.filling.box_posts.Given as goal
 

@@ -1,5 +1,4 @@
-use Rattle.std.proofs.Common.{◌≡◌, take}
-use Rattle.serial_spec.specs.Layout.{lengths_of}
+use Rattle.rank_core.proofs.Words.{◌≡◌, take, lengths_of}
 use Rattle.rank_core.proofs.look.filling.lengths_of.Given as goal
 
 abbrev pub invariant-loop-id : goal.invariant-loop-id

@@ -1,9 +1,4 @@
-use Rattle.std.proofs.Common.{◌∙◌, sym, ap, ℕ, List, map, subst, arith}
-use Rattle.std.specs.List.{AllByRecursion}
-use Rattle.nc_base.specs.declared.request.Part.{Part}
-use Rattle.serial_spec.specs.Layout.{product}
-use Rattle.serial_spec.specs.Looks.{box_post}
-use Rattle.rank_core.specs.Targets.{IsSmall}
+use Rattle.rank_core.proofs.Words.{◌∙◌, sym, ap, ℕ, List, map, subst, arith, AllByRecursion, Part, product, box_post, IsSmall}
 use Rattle.rank_core.proofs.FillLaws.{not_record, record_filled, record_too_large, share_grows, share_within}
 use Rattle.rank_core.proofs.FillPostLaws.{boxes_small}
 use Rattle.rank_core.proofs.look.filling.look_record.Goals as goal

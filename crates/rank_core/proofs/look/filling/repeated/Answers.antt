@@ -1,5 +1,4 @@
-use Rattle.std.proofs.Common.{◌++◌, ◌∙◌, ap, sym, List, ℕ}
-use Rattle.imap_extents.proofs.PositionLaws.{rows_more}
+use Rattle.rank_core.proofs.Words.{◌++◌, ◌∙◌, ap, sym, List, ℕ, rows_more}
 use Rattle.rank_core.proofs.look.filling.repeated.Goals as goal
 
 pub loop-number-preserved : goal.loop-number-preserved

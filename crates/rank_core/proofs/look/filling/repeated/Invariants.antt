@@ -1,6 +1,4 @@
-use Rattle.std.proofs.Common.{◌≡◌}
-use Rattle.std.specs.Prelude.{flat_map}
-use Rattle.std.specs.List.{range_with_len}
+use Rattle.rank_core.proofs.Words.{◌≡◌, flat_map, range_with_len}
 use Rattle.rank_core.proofs.look.filling.repeated.Given as goal
 
 abbrev pub invariant-loop-number : goal.invariant-loop-number

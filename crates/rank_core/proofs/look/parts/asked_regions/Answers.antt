@@ -1,8 +1,5 @@
 -- The parts as regions, those without an element dropped.
-use Rattle.std.proofs.Common.{◌∙◌, ap, rules}
-use Rattle.std.specs.Prelude.{filter}
-use Rattle.std.proofs.lemmas.Fn.{filter_same}
-use Rattle.serial_spec.specs.RegionCheck.{has_element}
+use Rattle.rank_core.proofs.Words.{◌∙◌, ap, rules, filter, filter_same, has_element}
 use Rattle.rank_core.proofs.look.parts.asked_regions.Goals as goal
 
 pub returns : goal.returns

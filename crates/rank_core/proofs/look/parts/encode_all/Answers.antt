@@ -1,6 +1,4 @@
-use Rattle.std.proofs.Common.{List, ℕ, ◌+◌, ◌++◌, Bool, not, ap, refl, sym, ◌∙◌}
-use Rattle.std.proofs.lemmas.Result.{err_from_is_err_and}
-use Rattle.rank_core.specs.Looked.{ext_at}
+use Rattle.rank_core.proofs.Words.{List, ℕ, ◌+◌, ◌++◌, Bool, not, ap, refl, sym, ◌∙◌, err_from_is_err_and, ext_at}
 use Rattle.rank_core.proofs.ValueLaws.{one_unfit, still_fit, unfit_more, values_more}
 use Rattle.rank_core.proofs.look.parts.encode_all.Goals as goal
 

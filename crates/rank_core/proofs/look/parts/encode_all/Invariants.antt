@@ -1,6 +1,5 @@
-use Rattle.std.proofs.Common.{◌≡◌, false, Some}
+use Rattle.rank_core.proofs.Words.{◌≡◌, false, Some, some_unfit}
 use Rattle.serial_spec.specs.Looks as looks
-use Rattle.rank_core.specs.Looked.{some_unfit}
 use Rattle.rank_core.proofs.look.parts.encode_all.Given as goal
 
 abbrev pub invariant-loop-number : goal.invariant-loop-number

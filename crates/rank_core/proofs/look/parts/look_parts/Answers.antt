@@ -1,11 +1,4 @@
-use Rattle.std.proofs.Common.{◌∙◌, sym, ap, subst, List, ℕ, map, arith}
-use Rattle.std.specs.Prelude.{filter}
-use Rattle.std.specs.Option.{option_copied}
-use Rattle.std.proofs.lemmas.Bool.{eqb-false, eqb-true}
-use Rattle.std.proofs.lemmas.Result.{err_from_is_err_and}
-use Rattle.nc_base.specs.declared.request.Part.{Part}
-use Rattle.serial_spec.specs.RegionCheck.{has_element, part_region}
-use Rattle.rank_core.specs.Looked.{look_of, HasValues}
+use Rattle.rank_core.proofs.Words.{◌∙◌, sym, ap, subst, List, ℕ, map, arith, filter, option_copied, eqb-false, eqb-true, err_from_is_err_and, Part, has_element, part_region, look_of, HasValues}
 use Rattle.rank_core.proofs.OutcomeLaws.{is_error, is_refused}
 use Rattle.rank_core.proofs.TargetLaws.{all_counted, parts_come, parts_empty, parts_refused, parts_short, regions_few}
 use Rattle.rank_core.proofs.look.parts.look_parts.Goals as goal

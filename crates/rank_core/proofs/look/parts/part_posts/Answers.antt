@@ -1,11 +1,4 @@
-use Rattle.std.proofs.Common.{◌≡◌, ◌+◌, ◌≤◌, ap, List, ℕ, arith}
-use Rattle.std.specs.Option.{option_copied}
-use Rattle.std.specs.Vec.Iter.{into_iter_items}
-use Rattle.std.proofs.lemmas.List.Sums.{sum_by-cons, sum_by_push}
-use Rattle.std.proofs.lemmas.Result.{err_from_is_err_and}
-use Rattle.nc_base.specs.declared.request.Region.{Region}
-use Rattle.serial_spec.specs.Layout.{product}
-use Rattle.serial_spec.specs.RegionCheck.{elements_of_all}
+use Rattle.rank_core.proofs.Words.{◌≡◌, ◌+◌, ◌≤◌, ap, List, ℕ, arith, option_copied, into_iter_items, sum_by-cons, sum_by_push, err_from_is_err_and, Region, product, elements_of_all}
 use Rattle.rank_core.proofs.ValueLaws.{part_more, part_unfit, still_fit, unfit_append}
 use Rattle.rank_core.proofs.look.parts.part_posts.Goals as goal
 

@@ -1,9 +1,5 @@
-use Rattle.std.proofs.Common.{◌≡◌, ◌+◌, false}
-use Rattle.std.specs.Option.{option_copied}
-use Rattle.std.specs.Vec.Iter.{into_iter_items}
+use Rattle.rank_core.proofs.Words.{◌≡◌, ◌+◌, false, option_copied, into_iter_items, elements_of_all, some_unfit}
 use Rattle.serial_spec.specs.Looks as looks
-use Rattle.serial_spec.specs.RegionCheck.{elements_of_all}
-use Rattle.rank_core.specs.Looked.{some_unfit}
 use Rattle.rank_core.proofs.look.parts.part_posts.Given as goal
 
 abbrev pub invariant-loop-region : goal.invariant-loop-region

@@ -1,8 +1,4 @@
-use Rattle.std.proofs.Common.{◌≡◌, ◌∙◌, sym, ap, true, false, ltb}
-use Rattle.std.specs.Option.{option_copied}
-use Rattle.std.proofs.lemmas.Result.{err_from_is_err_and}
-use Rattle.serial_spec.specs.Layout.{product}
-use Rattle.rank_core.specs.Looked.{look_of}
+use Rattle.rank_core.proofs.Words.{◌≡◌, ◌∙◌, sym, ap, true, false, ltb, option_copied, err_from_is_err_and, product, look_of}
 use Rattle.rank_core.proofs.OutcomeLaws.{is_error, is_refused}
 use Rattle.rank_core.proofs.TargetLaws.{region_asks, region_empty, region_mapped, region_refused, region_unfit}
 use Rattle.rank_core.proofs.look.region.look_region.Goals as goal

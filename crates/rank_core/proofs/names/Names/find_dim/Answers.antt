@@ -1,7 +1,4 @@
-use Rattle.std.proofs.Common.{List, ℕ, ap, map, ◌∙◌}
-use Rattle.std.specs.Prelude.{bytes_eq, position}
-use Rattle.list_laws.proofs.Maps.{position_map}
-use Rattle.nc_base.specs.declared.header.Dim.{Dim}
+use Rattle.rank_core.proofs.Words.{List, ℕ, ap, map, ◌∙◌, bytes_eq, position, position_map, Dim}
 use Rattle.rank_core.proofs.names.Names.find_dim.Goals as goal
 
 pub returns-clause-found : goal.returns-clause-found

@@ -1,7 +1,4 @@
-use Rattle.std.proofs.Common.{List, ℕ, ap, map, ◌∙◌}
-use Rattle.std.specs.Prelude.{bytes_eq, position}
-use Rattle.list_laws.proofs.Maps.{position_map}
-use Rattle.nc_base.specs.declared.header.Var.{Var}
+use Rattle.rank_core.proofs.Words.{List, ℕ, ap, map, ◌∙◌, bytes_eq, position, position_map, Var}
 use Rattle.rank_core.proofs.names.Names.find_var.Goals as goal
 
 pub returns-clause-found : goal.returns-clause-found

@@ -1,8 +1,5 @@
-use Rattle.std.proofs.Common.{ap, arith, None}
+use Rattle.rank_core.proofs.Words.{ap, arith, None, Answered, is_chosen, named, posts_held}
 use Rattle.nc_base.specs.declared.answer.Code.TheVariants as code
-use Rattle.nc_base.specs.declared.step.Want.TheVariants.{Answered}
-use Rattle.serial_spec.specs.RankMachine.{is_chosen, named}
-use Rattle.run_laws.specs.Requests.{posts_held}
 use Rattle.rank_core.proofs.RequestLaws.{held_without}
 use Rattle.rank_core.proofs.rank.Rank.cancel.Goals as goal
 

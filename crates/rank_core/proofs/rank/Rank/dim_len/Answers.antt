@@ -1,10 +1,4 @@
-use Rattle.std.proofs.Common.{◌≡◌, ◌∙◌, ap, subst, sym, cond, eqb, List, Some, get_or}
-use Rattle.std.specs.Prelude.{option_map}
-use Rattle.std.proofs.lemmas.Bool.{cond-true, cond-false, eq-eqb, ne_eqb}
-use Rattle.nc_base.specs.declared.header.Dim.{Dim}
-use Rattle.serial_spec.specs.Looks.{find_dim}
-use Rattle.serial_spec.specs.RankMachine.{dim_at}
-use Rattle.rank_core.specs.Ranked.{Ranked}
+use Rattle.rank_core.proofs.Words.{◌≡◌, ◌∙◌, ap, subst, sym, cond, eqb, List, Some, get_or, option_map, cond-true, cond-false, eq-eqb, ne_eqb, Dim, find_dim, dim_at, Ranked}
 use Rattle.rank_core.proofs.StepLaws.{dim_is, dim_there}
 use Rattle.rank_core.proofs.rank.Rank.dim_len.Goals as goal
 

@@ -1,8 +1,5 @@
-use Rattle.std.proofs.Common.{◌≤◌, subst, sym, arith, Option}
+use Rattle.rank_core.proofs.Words.{◌≤◌, subst, sym, arith, Option, as_open, IsOpen, OpenOffer}
 use Rattle.std.specs.Prelude.{IfSome}
-use Rattle.rank_core.specs.OpenOffers.{as_open}
-use Rattle.rank_core.specs.Requests.{IsOpen}
-use Rattle.rank_core.specs.declared.open_offer.OpenOffer.{OpenOffer}
 use Rattle.rank_core.proofs.RequestLaws.{requests_more}
 use Rattle.rank_core.proofs.rank.Rank.hear.Goals as goal
 

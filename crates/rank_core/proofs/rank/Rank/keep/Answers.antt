@@ -1,11 +1,4 @@
-use Rattle.std.proofs.Common.{◌≡◌, ◌∙◌, ap, subst, sym, ℕ}
-use Rattle.std.specs.Prelude.{OnOk}
-use Rattle.request_queue.specs.Queued.{Queued, with_request}
-use Rattle.std.proofs.lemmas.Result.{on_ok_weaker}
-use Rattle.serial_spec.specs.RankMachine.{Waiting, status_of, with_posted}
-use Rattle.rank_core.specs.Kept.{state_of}
-use Rattle.rank_core.specs.Ranked.{Ranked}
-use Rattle.rank_core.specs.Requests.{AreTowards, direction_of_kind}
+use Rattle.rank_core.proofs.Words.{◌≡◌, ◌∙◌, ap, subst, sym, ℕ, OnOk, Queued, with_request, on_ok_weaker, Waiting, status_of, with_posted, state_of, Ranked, AreTowards, direction_of_kind}
 use Rattle.rank_core.proofs.StepLaws.{requests_kept, id_is}
 use Rattle.rank_core.proofs.rank.Rank.keep.Goals as goal
 

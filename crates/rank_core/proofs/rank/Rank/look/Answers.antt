@@ -1,9 +1,5 @@
-use Rattle.std.proofs.Common.{◌∙◌}
-use Rattle.std.specs.Option.{option_copied}
-use Rattle.std.proofs.lemmas.Result.{IfOk-weaker}
+use Rattle.rank_core.proofs.Words.{◌∙◌, option_copied, IfOk-weaker, Refused, as_look}
 use Rattle.nc_base.specs.declared.answer.Code.TheVariants as code
-use Rattle.rank_core.specs.declared.look.Look.TheVariants.{Refused}
-use Rattle.rank_core.specs.Looked.{as_look}
 use Rattle.rank_core.specs.Targets.{look_at}
 use Rattle.rank_core.proofs.AskedLaws.{look_is}
 use Rattle.rank_core.proofs.OutcomeLaws.{settled_is}

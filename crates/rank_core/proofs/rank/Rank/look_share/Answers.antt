@@ -1,9 +1,5 @@
-use Rattle.std.proofs.Common.{◌∙◌, arith}
-use Rattle.std.proofs.lemmas.Result.{IfOk-weaker}
+use Rattle.rank_core.proofs.Words.{◌∙◌, arith, IfOk-weaker, Refused, as_look, posts_of, look_record}
 use Rattle.nc_base.specs.declared.answer.Code.TheVariants as code
-use Rattle.rank_core.specs.declared.look.Look.TheVariants.{Refused}
-use Rattle.rank_core.specs.Looked.{as_look, posts_of}
-use Rattle.rank_core.specs.Targets.{look_record}
 use Rattle.rank_core.proofs.FillLaws.{fill_found, fill_missing}
 use Rattle.rank_core.proofs.FillLookLaws.{fill_few, fill_posts}
 use Rattle.rank_core.proofs.OutcomeLaws.{settled_is}

@@ -1,8 +1,4 @@
-use Rattle.std.proofs.Common.{◌∙◌, ap, subst, sym}
-use Rattle.request_queue.specs.Queued.{Queued}
-use Rattle.serial_spec.specs.RankMachine.{NullRequest, status_of}
-use Rattle.rank_core.specs.Ranked.{Ranked}
-use Rattle.rank_core.specs.Requests.{AreRequests}
+use Rattle.rank_core.proofs.Words.{◌∙◌, ap, subst, sym, Queued, NullRequest, status_of, Ranked, AreRequests}
 use Rattle.rank_core.proofs.RequestLaws.{requests_push}
 use Rattle.rank_core.proofs.rank.Rank.post_null.Goals as goal
 

@@ -1,8 +1,4 @@
-use Rattle.std.proofs.Common.{arith, subst, sym}
-use Rattle.std.proofs.lemmas.Result.{IfOk-weaker}
-use Rattle.nc_base.specs.declared.step.Want.{Want}
-use Rattle.serial_spec.specs.RankMachine.{Rank}
-use Rattle.rank_core.specs.Ranked.{WaitsFor}
+use Rattle.rank_core.proofs.Words.{arith, subst, sym, IfOk-weaker, Want, Rank, WaitsFor}
 use Rattle.rank_core.proofs.StepLaws.{call_few}
 use Rattle.rank_core.proofs.WaitLaws.{step_waits}
 use Rattle.rank_core.proofs.rank.Rank.step.Goals as goal

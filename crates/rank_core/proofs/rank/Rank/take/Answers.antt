@@ -1,11 +1,4 @@
-use Rattle.std.proofs.Common.{subst, sym}
-use Rattle.std.specs.Prelude.{IfOk}
-use Rattle.std.proofs.lemmas.Result.{IfOk-weaker}
-use Rattle.nc_base.specs.declared.plan.Batch.{Batch}
-use Rattle.serial_spec.specs.RankMachine.{is_chosen, named}
-use Rattle.request_queue.specs.Queued.{rank_with}
-use Rattle.rank_core.specs.Ranked.{Ranked}
-use Rattle.rank_core.specs.Requests.{ArePuts, AreGets}
+use Rattle.rank_core.proofs.Words.{subst, sym, IfOk, IfOk-weaker, Batch, is_chosen, named, rank_with, Ranked, ArePuts, AreGets}
 use Rattle.rank_core.proofs.RequestLaws.{puts_taken, gets_taken}
 use Rattle.rank_core.proofs.StepLaws.{requests_after}
 use Rattle.rank_core.proofs.rank.Rank.take.Goals as goal

@@ -1,12 +1,6 @@
-use Rattle.std.proofs.Common.{◌∙◌, ap, subst, sym, length, arith, false, Some}
+use Rattle.rank_core.proofs.Words.{◌∙◌, ap, subst, sym, length, arith, false, Some, Header, Batch, is_chosen, named, chosen, batch_chosen, wants, IsSoundWant, posts_held, AreOnce}
 use Rattle.nc_base.specs.declared.answer.Code.TheVariants as code
-use Rattle.nc_base.specs.declared.header.Header.{Header}
-use Rattle.nc_base.specs.declared.plan.Batch.{Batch}
 use Rattle.serial_spec.specs.RankMachine as machine
-use Rattle.serial_spec.specs.RankMachine.{is_chosen, named, chosen, batch_chosen, wants}
-use Rattle.rank_core.specs.Offered.{IsSoundWant}
-use Rattle.run_laws.specs.Requests.{posts_held}
-use Rattle.rank_core.specs.Requests.{AreOnce}
 use Rattle.rank_core.proofs.RequestLaws.{once_items, taken_few}
 use Rattle.rank_core.proofs.rank.Rank.wait.Goals as goal
 

@@ -1,7 +1,4 @@
-use Rattle.std.proofs.Common.{◌≡◌, ◌∙◌, List, ℕ, None, [], ◌∷◌, ◌++◌, ◌||◌, ◌&&◌, bytes_eq, refl, sym, ap, subst}
-use Rattle.nc_base.specs.declared.header.Attr.{Attr}
-use Rattle.redef_mover.specs.declared.name_index.NameIndex.{NameIndex}
-use Rattle.redef_mover.specs.Indexed.{has_name, is_same, IsIndexOf}
+use Rattle.redef_mover.proofs.Words.{◌≡◌, ◌∙◌, List, ℕ, None, [], ◌∷◌, ◌++◌, ◌||◌, ◌&&◌, bytes_eq, refl, sym, ap, subst, Attr, NameIndex, has_name, is_same, IsIndexOf}
 use Rattle.redef_mover.proofs.IndexLaws.{attr_indexed}
 use Rattle.redef_mover.proofs.indexed_header.IndexedHeader.with_attr.Goals as goal
 

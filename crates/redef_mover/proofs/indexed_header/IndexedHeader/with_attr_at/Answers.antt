@@ -1,11 +1,5 @@
-use Rattle.std.proofs.Common.{◌∙◌, ◌<◌, List, ℕ, Some, length, ◌||◌, ◌&&◌, bytes_eq, refl, sym, ap, subst}
-use Rattle.nc_base.specs.declared.header.Attr.{Attr}
-use Rattle.nc_base.specs.declared.header.Header.{Header}
-use Rattle.nc_base.specs.declared.header.Var.{Var}
-use Rattle.redef_mover.specs.declared.name_index.NameIndex.{NameIndex}
-use Rattle.redef_mover.specs.Indexed.{given, has_name, is_same, IsIndexOf}
+use Rattle.redef_mover.proofs.Words.{◌∙◌, ◌<◌, List, ℕ, Some, length, ◌||◌, ◌&&◌, bytes_eq, refl, sym, ap, subst, Attr, Header, Var, NameIndex, given, has_name, is_same, IsIndexOf, refilled}
 use Rattle.redef_mover.proofs.IndexLaws.{var_attr_indexed}
-use Rattle.list_laws.proofs.Refills.{refilled}
 use Rattle.redef_mover.proofs.indexed_header.IndexedHeader.with_attr_at.Goals as goal
 
 pub invariant_of-result : goal.invariant_of-result

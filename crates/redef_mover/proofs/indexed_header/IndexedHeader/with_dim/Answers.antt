@@ -1,8 +1,4 @@
-use Rattle.std.proofs.Common.{◌≡◌, ◌∙◌, List, ℕ, Some, None, [], ◌∷◌, ◌++◌, cond, bytes_eq, refl, sym, ap, subst}
-use Rattle.std.specs.Option.{option_or}
-use Rattle.nc_base.specs.declared.header.Dim.{Dim}
-use Rattle.redef_mover.specs.declared.name_index.NameIndex.{NameIndex}
-use Rattle.redef_mover.specs.Indexed.{place_of, IsIndexOf}
+use Rattle.redef_mover.proofs.Words.{◌≡◌, ◌∙◌, List, ℕ, Some, None, [], ◌∷◌, ◌++◌, cond, bytes_eq, refl, sym, ap, subst, option_or, Dim, NameIndex, place_of, IsIndexOf}
 use Rattle.redef_mover.proofs.IndexLaws.{dim_indexed}
 use Rattle.redef_mover.proofs.indexed_header.IndexedHeader.with_dim.Goals as goal
 

@@ -1,8 +1,4 @@
-use Rattle.std.proofs.Common.{◌∙◌, List, sym, ap, bytes_eq}
-use Rattle.std.proofs.lemmas.Result.{IfOk-weaker}
-use Rattle.list_laws.proofs.Places.{position_below}
-use Rattle.nc_base.specs.declared.header.Header.{Header}
-use Rattle.nc_base.specs.declared.header.Var.{Var}
+use Rattle.redef_mover.proofs.Words.{◌∙◌, List, sym, ap, bytes_eq, IfOk-weaker, position_below, Header, Var}
 use Rattle.redef_mover.proofs.IndexLaws.{attr_nowhere, attr_there}
 use Rattle.redef_mover.proofs.indexed_header.IndexedHeader.with_var_attr.Goals as goal
 

@@ -1,9 +1,5 @@
 -- The lists stand for all slabs.
-use Rattle.std.proofs.Common.{◌≡◌, ◌∙◌, ap, length, List, arith}
-use Rattle.redef_laws.specs.RisingSlabs.{rising}
-use Rattle.redef_mover.specs.declared.slabs.Shift.{Shift}
-use Rattle.redef_mover.specs.declared.slabs.Slabs.{Slabs}
-use Rattle.redef_mover.specs.Moves.{listed}
+use Rattle.redef_mover.proofs.Words.{◌≡◌, ◌∙◌, ap, length, List, arith, rising, Shift, Slabs, listed}
 use Rattle.redef_mover.proofs.ListedLaws.{listed_is, steps_are}
 use Rattle.redef_mover.proofs.slabs.Slabs.new.Goals as goal
 

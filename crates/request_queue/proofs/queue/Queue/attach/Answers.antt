@@ -1,9 +1,6 @@
-use Rattle.std.proofs.Common.{◌∙◌, sym, subst, Option, Some}
-use Rattle.attached_buffer.specs.Buffer.{Account}
-use Rattle.request_queue.specs.Kept.{Accounts}
+use Rattle.request_queue.proofs.Words.{◌∙◌, sym, subst, Option, Some, Account, Accounts, not_some}
 use Rattle.request_queue.proofs.AccountLaws.{accounts-new}
 use Rattle.request_queue.proofs.queue.Queue.attach.Goals as goal
-use Rattle.list_laws.proofs.Optional.{not_some}
 
 pub invariant_of-self : goal.invariant_of-self
 invariant_of-self c =

@@ -1,7 +1,4 @@
-use Rattle.std.proofs.Common.{◌∙◌, ap, sym, not, arith}
-use Rattle.serial_spec.specs.RankMachine.{detach_code}
-use Rattle.request_queue.specs.Queued.{Queued, rank_with}
-use Rattle.request_queue.specs.Kept.{posted_of}
+use Rattle.request_queue.proofs.Words.{◌∙◌, ap, sym, not, arith, detach_code, Queued, rank_with, posted_of}
 use Rattle.request_queue.proofs.AccountLaws.{detach_pending, detach_right}
 use Rattle.request_queue.proofs.queue.Queue.detach.Goals as goal
 

@@ -1,10 +1,4 @@
-use Rattle.std.proofs.Common.{◌∙◌, ap, refl, []}
-use Rattle.std.specs.Ordering.{nat_cmp}
-use Rattle.std.specs.BTreeSet.{contains}
-use Rattle.serial_spec.specs.RankMachine.{items_from}
-use Rattle.request_queue.specs.Queued.{Queued}
-use Rattle.request_queue.specs.Kept.{has_waiting}
-use Rattle.std.proofs.lemmas.Result.{IfOk-weaker}
+use Rattle.request_queue.proofs.Words.{◌∙◌, ap, refl, [], nat_cmp, contains, items_from, Queued, has_waiting, IfOk-weaker}
 use Rattle.request_queue.proofs.TakeLaws.{items_is}
 use Rattle.request_queue.proofs.queue.Queue.items.Goals as goal
 

@@ -1,8 +1,4 @@
-use Rattle.std.proofs.Common.{◌∙◌, ap, sym}
-use Rattle.std.proofs.lemmas.Result.{IfOk-weaker}
-use Rattle.serial_spec.specs.RankMachine.{waiting_ids, named}
-use Rattle.request_queue.specs.Queued.{Queued, rank_with}
-use Rattle.request_queue.specs.Kept.{posted_of}
+use Rattle.request_queue.proofs.Words.{◌∙◌, ap, sym, IfOk-weaker, waiting_ids, named, Queued, rank_with, posted_of}
 use Rattle.request_queue.proofs.LeaveLaws.{waiting_ids_is}
 use Rattle.request_queue.proofs.queue.Queue.named.Goals as goal
 

@@ -1,11 +1,4 @@
-use Rattle.std.proofs.Common.{◌≡◌, ◌∷◌, ◌++◌, [], ◌∙◌, ap, sym, subst, List, None, Bool, true, ◌||◌, eqb}
-use Rattle.std.proofs.lemmas.List.{map-append}
-use Rattle.std.specs.Ordering.{nat_cmp}
-use Rattle.std.specs.BTreeSet.{contains}
-use Rattle.serial_spec.specs.RankMachine.{Posted, status_of}
-use Rattle.request_queue.specs.declared.queue.Posting.{Posting}
-use Rattle.request_queue.specs.Queued.{Queued}
-use Rattle.request_queue.specs.Kept.{posted_of, standing, is_null}
+use Rattle.request_queue.proofs.Words.{◌≡◌, ◌∷◌, ◌++◌, [], ◌∙◌, ap, sym, subst, List, None, Bool, true, ◌||◌, eqb, map-append, nat_cmp, contains, Posted, status_of, Posting, Queued, posted_of, standing, is_null}
 use Rattle.request_queue.proofs.PostedLaws.{not_posted, null-push, waiting-null}
 use Rattle.request_queue.proofs.TakeLaws.{insert_is}
 use Rattle.request_queue.proofs.queue.Queue.post_null.Goals as goal

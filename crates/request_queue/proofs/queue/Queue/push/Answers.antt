@@ -1,12 +1,5 @@
-use Rattle.std.proofs.Common.{◌≡◌, ◌∷◌, ◌++◌, [], refl, sym, ◌∙◌, ap, subst, ℕ, List, arith, None, map, false, option_map}
-use Rattle.std.proofs.lemmas.Bool.{cond-false}
-use Rattle.serial_spec.specs.RankMachine.{Posted, status_of}
-use Rattle.request_queue.specs.Queued.{Queued, with_request}
-use Rattle.serial_spec.specs.RankMachine.{Waiting}
-use Rattle.request_queue.specs.Kept.{as_posted, is_null, is_buffered, posted_of, Accounts}
-use Rattle.request_queue.specs.declared.queue.Request.{Request}
-use Rattle.request_queue.specs.declared.queue.Posting.{Posting}
-use Rattle.attached_buffer.specs.Buffer.{Account}
+use Rattle.request_queue.proofs.Words.{◌≡◌, ◌∷◌, ◌++◌, [], refl, sym, ◌∙◌, ap, subst, ℕ, List, arith, None, map, false, cond-false, Posted, status_of, Queued, with_request, Waiting, as_posted, is_null, is_buffered, posted_of, Accounts, Request, Posting, Account}
+use Rattle.std.proofs.Common.{option_map}
 use Rattle.request_queue.proofs.PostedLaws.{posted-push, is_null-push, waiting-push, count-push, accounts-push, new_lacks}
 use Rattle.request_queue.proofs.queue.Queue.push.Goals as goal
 

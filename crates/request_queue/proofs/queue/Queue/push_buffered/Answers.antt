@@ -1,14 +1,7 @@
-use Rattle.std.proofs.Common.{◌≡◌, ◌≤◌, ◌-◌, ◌^◌, ◌∷◌, ◌++◌, [], min, map, refl, sym, ◌∙◌, ap, subst, ℕ, List, arith, None, Some, Option, false, option_map, length}
-use Rattle.std.proofs.lemmas.Grind.{common_steps}
-use Rattle.attached_buffer.specs.Buffer.{Account}
+use Rattle.request_queue.proofs.Words.{◌≡◌, ◌≤◌, ◌-◌, ◌^◌, ◌∷◌, ◌++◌, [], min, map, refl, sym, ◌∙◌, ap, subst, ℕ, List, arith, None, Some, Option, false, length, common_steps, Account, Post, Posted, Waiting, status_of, bytes_in, buffer_code, Posting, Request, Queued, with_request, rank_with, as_posted, is_null, posted_of, Accounts, claimed, claim_code}
+use Rattle.std.proofs.Common.{option_map}
 use Rattle.nc_base.specs.declared.answer.Code.TheVariants as code
-use Rattle.nc_base.specs.declared.plan.Post.{Post}
 use Rattle.nc_base.specs.declared.request.PostKind.TheVariants as kind
-use Rattle.serial_spec.specs.RankMachine.{Posted, Waiting, status_of, bytes_in, buffer_code}
-use Rattle.request_queue.specs.declared.queue.Posting.{Posting}
-use Rattle.request_queue.specs.declared.queue.Request.{Request}
-use Rattle.request_queue.specs.Queued.{Queued, with_request, rank_with}
-use Rattle.request_queue.specs.Kept.{as_posted, is_null, posted_of, Accounts, claimed, claim_code}
 use Rattle.request_queue.proofs.PostedLaws.{held_posted, posted-push, is_null-push, waiting-push, count-push, new_lacks}
 use Rattle.request_queue.proofs.AccountLaws.{same_code, accounts-claim}
 use Rattle.request_queue.proofs.queue.Queue.push_buffered.Goals as goal

@@ -1,11 +1,4 @@
-use Rattle.std.proofs.Common.{◌≡◌, ◌∙◌, ap, sym, subst, arith, List, map, Option, cond}
-use Rattle.request_queue.specs.declared.queue.Posting.{Posting}
-use Rattle.std.specs.Prelude.{filter, sum_by, count_by, option_map}
-use Rattle.attached_buffer.specs.Buffer.{Account}
-use Rattle.serial_spec.specs.RankMachine.{Posted, status_of, has_id}
-use Rattle.request_queue.specs.declared.queue.Request.{Request}
-use Rattle.request_queue.specs.Queued.{Queued}
-use Rattle.request_queue.specs.Kept.{as_posted, is_listed, removed, held, is_buffered, freed, is_null, posted_of, Accounts, Holds}
+use Rattle.request_queue.proofs.Words.{◌≡◌, ◌∙◌, ap, sym, subst, arith, List, map, Option, cond, Posting, filter, sum_by, count_by, option_map, Account, Posted, status_of, has_id, Request, Queued, as_posted, is_listed, removed, held, is_buffered, freed, is_null, posted_of, Accounts, Holds}
 use Rattle.request_queue.proofs.LeaveLaws.{taken, posted-left, is_null-removed, waiting-left, taken_is, sum_by-parts, holds_taken, accounts_left, size-freed}
 use Rattle.request_queue.proofs.queue.Queue.remove.Goals as goal
 

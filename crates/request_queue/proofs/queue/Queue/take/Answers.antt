@@ -1,11 +1,4 @@
-use Rattle.std.proofs.Common.{◌≡◌, ◌≤◌, ◌∙◌, ap, sym, subst, List, ℕ, map, length, arith}
-use Rattle.std.specs.Prelude.{filter, sum_by}
-use Rattle.std.specs.Vec.{vec_capacity}
-use Rattle.std.proofs.lemmas.List.Folds.{flat_map-map}
-use Rattle.serial_spec.specs.RankMachine.{Posted, batch_chosen, chosen, named, is_chosen, has_id, puts_in, gets_in}
-use Rattle.request_queue.specs.declared.queue.Request.{Request}
-use Rattle.request_queue.specs.Queued.{Queued, rank_with}
-use Rattle.request_queue.specs.Kept.{as_posted, is_listed, puts_of, gets_of}
+use Rattle.request_queue.proofs.Words.{◌≡◌, ◌≤◌, ◌∙◌, ap, sym, subst, List, ℕ, map, length, arith, filter, sum_by, vec_capacity, flat_map-map, Posted, batch_chosen, chosen, named, is_chosen, has_id, puts_in, gets_in, Request, Queued, rank_with, as_posted, is_listed, puts_of, gets_of}
 use Rattle.request_queue.proofs.LeaveLaws.{taken, taken_is, same_posts}
 use Rattle.request_queue.proofs.queue.Queue.take.Goals as goal
 

@@ -1,6 +1,4 @@
-use Rattle.std.proofs.Common.{◌∙◌, ap, List}
-use Rattle.request_queue.specs.declared.queue.Request.{Request}
-use Rattle.request_queue.specs.Kept.{has_waiting}
+use Rattle.request_queue.proofs.Words.{◌∙◌, ap, List, Request, has_waiting}
 use Rattle.request_queue.proofs.IndexLaws.{index_has}
 use Rattle.request_queue.proofs.requests.Requests.contains.Goals as goal
 

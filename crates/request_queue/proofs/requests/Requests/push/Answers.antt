@@ -1,12 +1,4 @@
-use Rattle.std.proofs.Common.{◌≡◌, ◌<◌, ◌+◌, ◌∷◌, ◌++◌, [], ◌∙◌, ℕ, ap, sym, subst, List, arith, rules}
-use Rattle.std.specs.List.{All}
-use Rattle.std.specs.Ordering.{nat_cmp}
-use Rattle.std.specs.Map.{values_of, remove_entry}
-use Rattle.std.specs.BTreeMap.{is_at}
-use Rattle.std.proofs.lemmas.List.{map_push}
-use Rattle.std.proofs.lemmas.List.Elements.{recursion_from_All, All-weaker, All-push}
-use Rattle.request_queue.specs.declared.queue.Request.{Request}
-use Rattle.request_queue.specs.Kept.{has_waiting}
+use Rattle.request_queue.proofs.Words.{◌≡◌, ◌<◌, ◌+◌, ◌∷◌, ◌++◌, [], ◌∙◌, ℕ, ap, sym, subst, List, arith, rules, All, nat_cmp, values_of, remove_entry, is_at, map_push, recursion_from_All, All-weaker, All-push, Request, has_waiting}
 use Rattle.request_queue.proofs.IndexLaws.{index_added, index_lacks, index_same}
 use Rattle.request_queue.proofs.PlaceLaws.{insert_last, remove_last, lookup_past}
 use Rattle.request_queue.proofs.requests.Requests.push.Goals as goal

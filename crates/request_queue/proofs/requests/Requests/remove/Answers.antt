@@ -1,12 +1,4 @@
-use Rattle.std.proofs.Common.{◌<◌, ◌++◌, ◌∙◌, ℕ, ap, sym, subst, List, not}
-use Rattle.std.specs.Prelude.{filter}
-use Rattle.std.specs.List.{All}
-use Rattle.std.specs.Ordering.{nat_cmp}
-use Rattle.std.specs.Map.{values_of}
-use Rattle.std.specs.BTreeSet.{contains}
-use Rattle.std.proofs.lemmas.List.Elements.{All-filter}
-use Rattle.serial_spec.specs.RankMachine.{has_id}
-use Rattle.request_queue.specs.declared.queue.Request.{Request}
+use Rattle.request_queue.proofs.Words.{◌<◌, ◌++◌, ◌∙◌, ℕ, ap, sym, subst, List, not, filter, All, nat_cmp, values_of, contains, All-filter, has_id, Request}
 use Rattle.request_queue.proofs.IndexLaws.{all_stand, filter_values}
 use Rattle.request_queue.proofs.requests.Requests.remove.Goals as goal
 

@@ -1,11 +1,4 @@
-use Rattle.std.proofs.Common.{◌≤◌, ◌∙◌, ap, subst, List, length}
-use Rattle.std.specs.Prelude.{filter, sum_by}
-use Rattle.std.specs.Ordering.{nat_cmp}
-use Rattle.std.specs.Vec.{vec_capacity}
-use Rattle.std.specs.BTreeSet.{contains}
-use Rattle.serial_spec.specs.RankMachine.{has_id}
-use Rattle.request_queue.specs.declared.queue.Request.{Request}
-use Rattle.request_queue.specs.Kept.{puts_of, gets_of}
+use Rattle.request_queue.proofs.Words.{◌≤◌, ◌∙◌, ap, subst, List, length, filter, sum_by, nat_cmp, vec_capacity, contains, has_id, Request, puts_of, gets_of}
 use Rattle.request_queue.proofs.IndexLaws.{all_stand, filter_values}
 use Rattle.request_queue.proofs.requests.Requests.rooms.Goals as goal
 

@@ -1,4 +1,4 @@
-use Rattle.std.proofs.Common.{rules}
+use Rattle.ruled_line.proofs.Words.{rules}
 use Rattle.ruled_line.proofs.InboxMoves.{sends}
 use Rattle.ruled_line.proofs.inbox_ends.InPut.put.Goals as goal
 

@@ -1,6 +1,4 @@
-use Rattle.std.proofs.Common.{◌≡◌}
-use Rattle.crossbeam_channel.specs.Claims.{view, IsSeatAt}
-use Rattle.crossbeam_channel.specs.Ends.{sends_on}
+use Rattle.ruled_line.proofs.Words.{◌≡◌, view, IsSeatAt, sends_on}
 use Rattle.ruled_line.proofs.inbox_ends.InPut.put.Given as goal
 
 abbrev pub invariant-loop : goal.invariant-loop

@@ -1,4 +1,4 @@
-use Rattle.std.proofs.Common.{rules}
+use Rattle.ruled_line.proofs.Words.{rules}
 use Rattle.ruled_line.proofs.InboxMoves.{receives}
 use Rattle.ruled_line.proofs.inbox_ends.InTake.take.Goals as goal
 

@@ -1,6 +1,4 @@
-use Rattle.std.proofs.Common.{◌≡◌}
-use Rattle.crossbeam_channel.specs.Claims.{view, IsSeatAt}
-use Rattle.crossbeam_channel.specs.Ends.{receives_on}
+use Rattle.ruled_line.proofs.Words.{◌≡◌, view, IsSeatAt, receives_on}
 use Rattle.ruled_line.proofs.line_ends.LineTake.take.Given as goal
 
 abbrev pub invariant-loop : goal.invariant-loop

@@ -1,4 +1,4 @@
-use Rattle.std.proofs.Common.{rules}
+use Rattle.run_watch.proofs.Words.{rules}
 use Rattle.run_watch.proofs.Beginnings.{learned}
 use Rattle.run_watch.proofs.view.View.learn.Goals as goal
 

@@ -1,10 +1,4 @@
-use Rattle.std.proofs.Common.{◌≡◌, ◌∙◌, ℕ, List, Result, length, get_or, sym, ap, subst, arith}
-use Rattle.nc_base.specs.declared.errors.ScriptKind.{ScriptKind}
-use Rattle.nc_base.specs.declared.request.Call.{Call}
-use Rattle.script_spec.specs.ScriptWords.{Word}
-use Rattle.script_spec.specs.ScriptCalls.{Called, call_of, calls_of}
-use Rattle.script_words.specs.Given.{Gives}
-use Rattle.script_calls.specs.CallWords.{line_by}
+use Rattle.script_calls.proofs.Words.{◌≡◌, ◌∙◌, ℕ, List, Result, length, get_or, sym, ap, subst, arith, ScriptKind, Call, Word, Called, call_of, calls_of, Gives, line_by}
 use Rattle.script_calls.proofs.CallLaws.{found_own}
 use Rattle.script_calls.proofs.CallWordLaws.{same_call}
 use Rattle.script_calls.proofs.LineOfCall.{line_of_next}

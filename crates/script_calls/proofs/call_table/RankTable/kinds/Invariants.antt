@@ -1,6 +1,4 @@
-use Rattle.std.proofs.Common.{◌≡◌, ◌<◌, ◌^◌, take, map, length}
-use Rattle.std.specs.List.{All}
-use Rattle.serial_spec.specs.History.{kinds}
+use Rattle.script_calls.proofs.Words.{◌≡◌, ◌<◌, ◌^◌, take, map, length, All, kinds}
 use Rattle.script_calls.proofs.call_table.RankTable.kinds.Given as goal
 
 abbrev pub invariant-loop-own : goal.invariant-loop-own

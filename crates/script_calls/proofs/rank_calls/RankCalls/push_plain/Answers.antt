@@ -1,5 +1,4 @@
-use Rattle.std.proofs.Common.{◌≡◌, ◌∙◌, ◌++◌, ◌∷◌, [], length, length-append, sym, ap, arith}
-use Rattle.script_spec.specs.ScriptCalls.{posted}
+use Rattle.script_calls.proofs.Words.{◌≡◌, ◌∙◌, ◌++◌, ◌∷◌, [], length, length-append, sym, ap, arith, posted}
 use Rattle.script_calls.proofs.CallLaws.{posted_same}
 use Rattle.script_calls.proofs.rank_calls.RankCalls.push_plain.Goals as goal
 

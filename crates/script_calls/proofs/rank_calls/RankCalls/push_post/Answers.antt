@@ -1,6 +1,4 @@
-use Rattle.std.proofs.Common.{◌≡◌, ◌∙◌, List, ◌++◌, ◌∷◌, [], false, length, length-append, sym, ap, arith}
-use Rattle.nc_base.specs.declared.request.Call.{Call}
-use Rattle.script_spec.specs.ScriptCalls.{posted, is_posted}
+use Rattle.script_calls.proofs.Words.{◌≡◌, ◌∙◌, List, ◌++◌, ◌∷◌, [], false, length, length-append, sym, ap, arith, Call, posted, is_posted}
 use Rattle.script_calls.proofs.CallLaws.{posted_grown}
 use Rattle.script_calls.proofs.rank_calls.RankCalls.push_post.Goals as goal
 

@@ -1,6 +1,4 @@
-use Rattle.std.proofs.Common.{◌∙◌, sym, ap}
-use Rattle.std.specs.List.{list_any}
-use Rattle.script_spec.specs.ScriptDefinitions.{is_unlimited}
+use Rattle.script_definitions.proofs.Words.{◌∙◌, sym, ap, list_any, is_unlimited}
 use Rattle.script_definitions.proofs.DimLaws.{some_of_map, some_record}
 use Rattle.script_definitions.proofs.dims.Dims.has_unlimited.Goals as goal
 

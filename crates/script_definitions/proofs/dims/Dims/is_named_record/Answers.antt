@@ -1,7 +1,4 @@
-use Rattle.std.proofs.Common.{◌∙◌, List, Option, None, Some, false, bytes_eq, Bor, ℕ, sym, ap}
-use Rattle.std.specs.Prelude.{option_map}
-use Rattle.nc_base.specs.declared.header.Dim.{Dim}
-use Rattle.script_spec.specs.ScriptDefinitions.{is_added_record}
+use Rattle.script_definitions.proofs.Words.{◌∙◌, List, Option, None, Some, false, bytes_eq, Bor, ℕ, sym, ap, option_map, Dim, is_added_record}
 use Rattle.script_definitions.proofs.DimLaws.{is_record_name}
 use Rattle.script_definitions.proofs.dims.Dims.is_named_record.Goals as goal
 

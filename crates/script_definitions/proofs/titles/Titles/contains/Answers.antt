@@ -1,7 +1,4 @@
-use Rattle.std.proofs.Common.{◌∙◌, sym, ap}
-use Rattle.std.specs.List.{list_any}
-use Rattle.list_laws.proofs.Maps.{any_map}
-use Rattle.script_spec.specs.ScriptDefinitions.{same_title}
+use Rattle.script_definitions.proofs.Words.{◌∙◌, sym, ap, list_any, any_map, same_title}
 use Rattle.script_definitions.proofs.titles.Titles.contains.Goals as goal
 
 pub returns : goal.returns

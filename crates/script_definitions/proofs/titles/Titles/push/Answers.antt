@@ -1,8 +1,4 @@
-use Rattle.std.proofs.Common.{◌∙◌, List, [], ◌∷◌, ◌++◌, sym, ap}
-use Rattle.std.specs.List.{list_any}
-use Rattle.list_laws.proofs.Maps.{any_map}
-use Rattle.script_spec.specs.ScriptDefinitions.{Title, same_title}
-use Rattle.script_words.proofs.NameLaws.{pushed}
+use Rattle.script_definitions.proofs.Words.{◌∙◌, List, [], ◌∷◌, ◌++◌, sym, ap, list_any, any_map, Title, same_title, pushed}
 use Rattle.script_definitions.proofs.titles.Titles.push.Goals as goal
 
 pub returns : goal.returns

@@ -1,7 +1,4 @@
-use Rattle.std.proofs.Common.{◌≡◌, ◌∙◌, List, ◌++◌, ◌∷◌, [], slice_set, length, refl, sym, ap, arith}
-use Rattle.std.proofs.lemmas.Result.{on_ok_weaker}
-use Rattle.nc_base.specs.declared.header.Attr.{Attr}
-use Rattle.script_spec.specs.ScriptDefinitions.{with_attr_at}
+use Rattle.script_definitions.proofs.Words.{◌≡◌, ◌∙◌, List, ◌++◌, ◌∷◌, [], slice_set, length, refl, sym, ap, arith, on_ok_weaker, Attr, with_attr_at}
 use Rattle.script_definitions.proofs.VarLaws.{names_kept, attached}
 use Rattle.script_definitions.proofs.vars.Vars.attach.Goals as goal
 

@@ -1,6 +1,4 @@
-use Rattle.std.proofs.Common.{◌∙◌, sym, ap, bytes_eq}
-use Rattle.list_laws.proofs.Maps.{any_map}
-use Rattle.script_spec.specs.ScriptDefinitions.{is_among}
+use Rattle.script_words.proofs.Words.{◌∙◌, sym, ap, bytes_eq, any_map, is_among}
 use Rattle.script_words.proofs.names.Names.contains.Goals as goal
 
 pub returns : goal.returns

@@ -1,7 +1,5 @@
 -- One call more, an offer, or no call.
-use Rattle.std.proofs.Common.{◌∙◌, ◌-◌, length, take, drop}
-use Rattle.run_laws.proofs.TogetherLaws.{call_share}
-use Rattle.serial_run.specs.Running.{going_of}
+use Rattle.serial_run.proofs.Words.{◌∙◌, ◌-◌, length, take, drop, call_share, going_of}
 use Rattle.serial_run.proofs.RunnerLaws.{comes_answered, first_call, gone_offer, gone_over}
 use Rattle.serial_run.proofs.runners.Runner.go_on.Goals as goal
 

@@ -1,6 +1,5 @@
 -- The rank has come here by calls that it answers alone.
-use Rattle.std.proofs.Common.{◌≡◌, length, None}
-use Rattle.serial_run.specs.Running.{going_of}
+use Rattle.serial_run.proofs.Words.{◌≡◌, length, None, going_of}
 use Rattle.serial_run.proofs.RunnerLaws.{Comes}
 use Rattle.serial_run.proofs.runners.Runner.go_on.Given as goal
 

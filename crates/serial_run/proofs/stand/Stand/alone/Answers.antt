@@ -1,7 +1,5 @@
 -- The rank waits with an offer, and hears the reply to it.
-use Rattle.std.proofs.Common.{refl, length}
-use Rattle.std.proofs.lemmas.Option.{slice_get_read}
-use Rattle.element_steps.specs.Requests.{setting}
+use Rattle.serial_run.proofs.Words.{refl, length, slice_get_read, setting}
 use Rattle.serial_run.proofs.StepLaws.{alone_step, has_heard, heard_by, held_asked, holds_one, may_hear, own_fits, own_reply, runner_offer}
 use Rattle.serial_run.proofs.stand.Stand.alone.Goals as goal
 

@@ -1,14 +1,6 @@
 -- The next step of a legal order.
-use Rattle.std.proofs.Common.{◌≡◌, ◌+◌, ◌<◌, ◌∙◌, sym, ap, subst, take, Some}
-use Rattle.std.proofs.lemmas.Option.{same_Some, slice_get-get_or}
-use Rattle.std.proofs.lemmas.Result.{on_ok_weaker}
-use Rattle.nc_base.specs.declared.step.Mark.{Mark}
+use Rattle.serial_run.proofs.Words.{◌≡◌, ◌+◌, ◌<◌, ◌∙◌, sym, ap, subst, take, Some, same_Some, slice_get-get_or, on_ok_weaker, Mark, record_limit, setting_of, step_to, ok_both, stand_of, HaveHeard, IsStanding}
 use Rattle.nc_base.specs.declared.step.Mark.TheVariants as mark
-use Rattle.serial_spec.specs.Limits.{record_limit}
-use Rattle.serial_spec.specs.SerialEnd.{setting_of}
-use Rattle.run_laws.specs.Arrivals.{step_to}
-use Rattle.rank_core.proofs.StepLaws.{ok_both}
-use Rattle.serial_run.specs.Stands.{stand_of, HaveHeard, IsStanding}
 use Rattle.serial_run.proofs.EndLaws.{meeting_all_wait, meeting_stands, own_stands, own_wait}
 use Rattle.serial_run.proofs.stand.Stand.do_step.Goals as goal
 

@@ -1,6 +1,5 @@
 -- One rank more.
-use Rattle.std.proofs.Common.{refl, ap, List, length, arith}
-use Rattle.nc_base.specs.declared.request.Call.{Call}
+use Rattle.serial_run.proofs.Words.{refl, ap, List, length, arith, Call}
 use Rattle.serial_run.proofs.FirstLaws.{first_is, first_more, first_stands, own_there, ready_first}
 use Rattle.serial_run.proofs.stand.Stand.first.Goals as goal
 

@@ -1,19 +1,7 @@
 -- The ranks hold their offers, and hear the replies to them.
-use Rattle.std.proofs.Common.{ℕ, ◌<◌, ◌∙◌, sym, ap, subst, List, length, arith}
-use Rattle.std.proofs.lemmas.List.{with_items_is}
-use Rattle.std.proofs.lemmas.Result.{on_ok_weaker}
-use Rattle.nc_base.specs.declared.step.Offer.{Offer}
-use Rattle.nc_base.specs.declared.step.Reply.{Reply}
-use Rattle.serial_spec.specs.FileStep.{meeting}
-use Rattle.serial_spec.specs.Limits.{record_limit}
-use Rattle.serial_spec.specs.Lists.{In}
-use Rattle.serial_spec.specs.SerialEnd.{offers_of}
-use Rattle.element_steps.specs.Requests.{counted, setting}
-use Rattle.serial_run.specs.Stands.{all_arrived, AllHear, AreWaiting, DoFit, HaveHeard}
-use Rattle.serial_run.specs.declared.runners.Runner.{Runner}
+use Rattle.serial_run.proofs.Words.{ℕ, ◌<◌, ◌∙◌, sym, ap, subst, List, length, arith, with_items_is, on_ok_weaker, Offer, Reply, meeting, record_limit, In, offers_of, counted, setting, all_arrived, AllHear, AreWaiting, DoFit, HaveHeard, Runner, replies_long}
 use Rattle.serial_run.proofs.StepLaws.{have_heard, meeting_low, meeting_step, offered_in, offers_long, replies_fit}
 use Rattle.serial_run.proofs.stand.Stand.meet.Goals as goal
-use Rattle.join_laws.proofs.StepLaws.{replies_long}
 
 pub meeting-requires-clause-ranks : goal.meeting-requires-clause-ranks
 meeting-requires-clause-ranks c =

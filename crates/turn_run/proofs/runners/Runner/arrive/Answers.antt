@@ -1,26 +1,11 @@
 -- The rank goes on from one solo offer to the next.
-use Rattle.std.proofs.Common.{◌≡◌, ℕ, refl, sym, ◌∙◌, ap, subst, length, drop, List, [], None, Some, arith}
-use Rattle.nc_base.specs.declared.request.Call.{Call}
-use Rattle.serial_spec.specs.SerialEnd.{setting_of}
-use Rattle.run_laws.specs.Ways.{IsOnWay}
-use Rattle.run_laws.proofs.LawfulLaws.{ranks_lawful}
-use Rattle.turn_run.specs.Counts.{IsCount}
-use Rattle.turn_run.specs.Running.{asking, between, calls_of}
-use Rattle.run_laws.specs.Arrivals.{Arrived}
-use Rattle.turn_run.specs.Stages.{arrived, HasGone, rank_stage}
-use Rattle.nc_base.specs.declared.answer.Answer.{Answer}
-use Rattle.run_laws.proofs.TogetherLaws.{call_number}
-use Rattle.turn_run.specs.declared.runners.Runner.{Runner}
+use Rattle.turn_run.proofs.Words.{◌≡◌, ℕ, refl, sym, ◌∙◌, ap, subst, length, drop, List, [], None, Some, arith, Call, setting_of, IsOnWay, ranks_lawful, IsCount, asking, between, calls_of, Arrived, arrived, HasGone, rank_stage, Answer, call_number, Runner, err_from_is_err_and, MayFollow, SaysAt, on_err}
 use Rattle.turn_run.proofs.RunnerLaws.{placed_rest, way_rest}
 use Rattle.turn_run.proofs.AloneLaws.{alone_asks, gone_grown, gone_then, grown_then, same_runner, taken_asks, way_free, went_gone, went_runner}
-use Rattle.std.proofs.lemmas.Result.{err_from_is_err_and}
-use Rattle.turn_run.specs.Cuts.{MayFollow}
 use Rattle.turn_run.proofs.CutLaws.{gone_stopped, stopped_between, memory_of, same_err}
-use Rattle.turn_run.specs.Said.{SaysAt}
 use Rattle.turn_run.proofs.SaidLaws.{gone_reached, part_arrived, reached_here, said_part, says_here}
 use Rattle.turn_run.proofs.TellLaws.{told_at, told_gone, told_none}
 use Rattle.turn_run.proofs.runners.Runner.arrive.Goals as goal
-use Rattle.list_laws.proofs.Results.{on_err}
 
 pub own_calls-calls-requires : goal.own_calls-calls-requires
 own_calls-calls-requires g c = let long = (ranks_lawful c.args.lent.now.setup.script.now c.requires.lawful).one_each in omega arith

@@ -1,14 +1,5 @@
 -- The rank stands at its next offer, or at its end.
-use Rattle.std.proofs.Common.{◌≡◌, ◌-◌, ◌≤◌, drop, length, List, [], None, Some}
-use Rattle.std.specs.Prelude.{slice_get}
-use Rattle.serial_spec.specs.Lawful.{most_calls}
-use Rattle.serial_spec.specs.SerialEnd.{setting_of}
-use Rattle.turn_run.specs.Known.{point}
-use Rattle.turn_run.specs.Counts.{IsCount}
-use Rattle.turn_run.specs.Running.{calls_of, IsRunner}
-use Rattle.run_laws.specs.Arrivals.{Arrived}
-use Rattle.turn_run.specs.Stages.{arrived, HasGone, rank_stage}
-use Rattle.turn_run.specs.Told.{HasToldMore}
+use Rattle.turn_run.proofs.Words.{◌≡◌, ◌-◌, ◌≤◌, drop, length, List, [], None, Some, slice_get, most_calls, setting_of, point, IsCount, calls_of, IsRunner, Arrived, arrived, HasGone, rank_stage, HasToldMore}
 use Rattle.turn_run.proofs.runners.Runner.arrive.Given as goal
 
 abbrev pub invariant-alone : goal.invariant-alone

@@ -1,30 +1,13 @@
 -- The step is done, and the rank has heard its reply.
-use Rattle.std.proofs.Common.{◌≡◌, refl, sym, ◌∙◌, ap, subst, List, Some, inr}
-use Rattle.nc_base.specs.declared.step.Mark.{Mark}
-use Rattle.serial_spec.specs.SerialEnd.{advance, setting_of}
-use Rattle.run_laws.specs.Ways.{IsOnWay}
+use Rattle.turn_run.proofs.Words.{◌≡◌, refl, sym, ◌∙◌, ap, subst, List, Some, inr, Mark, advance, setting_of, IsOnWay, IsCount, asking, between, calls_of, arrived, MayFollow, length, [], ◌∷◌, ◌++◌, err_from_is_err_and, Solo, Reply, puts_of, told, done_torn, SaysAt, None, ℕ, on_err, lawful_hints}
 use Rattle.turn_run.proofs.CountLaws.{count_longer, count_max}
 use Rattle.turn_run.proofs.MeetOffers.{asked_fit}
 use Rattle.turn_run.proofs.RunnerLaws.{alone_done, alone_heard, alone_rest, heard_runner, HasRest}
 use Rattle.turn_run.proofs.AloneLaws.{alone_alike, alone_led, alone_waits, arrived_free, fits_open, gone_alone, grown_one, heard_known, order_is}
-use Rattle.turn_run.specs.Counts.{IsCount}
-use Rattle.turn_run.specs.Running.{asking, between, calls_of}
-use Rattle.turn_run.specs.Stages.{arrived}
-use Rattle.turn_run.specs.Cuts.{MayFollow}
-use Rattle.std.proofs.Common.{length, [], ◌∷◌, ◌++◌}
-use Rattle.std.proofs.lemmas.Result.{err_from_is_err_and}
-use Rattle.nc_base.specs.declared.step.Mark.TheVariants.{Solo}
-use Rattle.nc_base.specs.declared.step.Reply.{Reply}
-use Rattle.serial_spec.specs.FileStep.{puts_of, told}
-use Rattle.collective_round.proofs.TornLaws.{done_torn}
 use Rattle.turn_run.proofs.CutLaws.{stopped_solo, stopped_unheard, memory_of, own_is}
-use Rattle.turn_run.specs.Said.{SaysAt}
 use Rattle.turn_run.proofs.SaidLaws.{reached_here, reached_unheard, said_here, says_here}
 use Rattle.turn_run.proofs.TellLaws.{told_alone, told_none}
 use Rattle.turn_run.proofs.runners.Runner.do_alone.Goals as goal
-use Rattle.std.proofs.Common.{None, ℕ}
-use Rattle.list_laws.proofs.Results.{on_err}
-use Rattle.serial_spec.proofs.LawfulTests.{lawful_hints}
 
 pub solo_reply-requires-clause-hints : goal.solo_reply-requires-clause-hints
 solo_reply-requires-clause-hints g c κs within = lawful_hints c.args.lent.now.setup.script.now c.requires.lawful

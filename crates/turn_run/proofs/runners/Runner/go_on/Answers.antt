@@ -1,18 +1,9 @@
 -- One call more, or an offer.
-use Rattle.std.proofs.Common.{◌≡◌, refl, ◌∙◌, ap, length, List, Some, inl, inr, [], ◌∷◌, length-append, arith}
-use Rattle.nc_base.specs.declared.answer.Answer.{Answer}
-use Rattle.std.specs.Prelude.{slice_get, ◌⊎◌}
+use Rattle.turn_run.proofs.Words.{◌≡◌, refl, ◌∙◌, ap, length, List, Some, inl, inr, [], ◌∷◌, length-append, arith, Answer, slice_get, advance, call_fresh, call_lawful, call_posts, meets_keeps, solo_keeps, alone_keeps, IsAsked, between, asking, IsPlaced, on_err, drop_at, said_at}
+use Rattle.std.specs.Prelude.{◌⊎◌}
 use Rattle.nc_base.specs.declared.step.Want.TheVariants as want
-use Rattle.serial_spec.specs.SerialEnd.{advance}
-use Rattle.run_laws.proofs.TogetherLaws.{call_fresh, call_lawful, call_posts}
-use Rattle.run_laws.proofs.CallLaws.{meets_keeps, solo_keeps, alone_keeps}
-use Rattle.turn_run.specs.Counts.{IsAsked}
-use Rattle.turn_run.specs.Running.{between, asking, IsPlaced}
 use Rattle.turn_run.proofs.RunnerLaws.{next_call, way_on, advance_on, placed_meeting, placed_alone, advance_meeting, advance_alone, answers_on_way, asked_meeting, asked_alone, sound_at, few_at}
 use Rattle.turn_run.proofs.runners.Runner.go_on.Goals as goal
-use Rattle.list_laws.proofs.Results.{on_err}
-use Rattle.list_laws.proofs.Places.{drop_at}
-use Rattle.join_laws.proofs.RankLaws.{said_at}
 
 pub step-requires-clause-fresh : goal.step-requires-clause-fresh
 step-requires-clause-fresh g c =

@@ -1,9 +1,5 @@
 -- The rank is on its way, and its next offer is the same as it was.
-use Rattle.std.proofs.Common.{◌≡◌, ◌-◌, ◌≤◌, length, List, None}
-use Rattle.nc_base.specs.declared.step.Mark.{Mark}
-use Rattle.serial_spec.specs.SerialEnd.{advance}
-use Rattle.run_laws.specs.Ways.{IsOnWay}
-use Rattle.turn_run.specs.Running.{between}
+use Rattle.turn_run.proofs.Words.{◌≡◌, ◌-◌, ◌≤◌, length, List, None, Mark, advance, IsOnWay, between}
 use Rattle.turn_run.proofs.runners.Runner.go_on.Given as goal
 
 abbrev pub invariant-calls : goal.invariant-calls

@@ -1,8 +1,4 @@
-use Rattle.std.proofs.Common.{ℕ, ◌∙◌, sym, ap, arith}
-use Rattle.serial_spec.specs.HeaderBytes.{header_len}
-use Rattle.serial_spec.specs.Layout.{end_of}
-use Rattle.var_layout.specs.Capped.{capped}
-use Rattle.var_layout.specs.Measures.{AreMeasures}
+use Rattle.var_layout.proofs.Words.{ℕ, ◌∙◌, sym, ap, arith, header_len, end_of, capped, AreMeasures}
 use Rattle.var_layout.proofs.EndLaws.{capped_end_after}
 use Rattle.var_layout.proofs.measures.Measures.file_end.Goals as goal
 

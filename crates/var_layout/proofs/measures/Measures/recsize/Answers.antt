@@ -1,5 +1,4 @@
-use Rattle.std.proofs.Common.{arith}
-use Rattle.var_layout.specs.Measures.{AreMeasures}
+use Rattle.var_layout.proofs.Words.{arith, AreMeasures}
 use Rattle.var_layout.proofs.Soundness.{recsize_small}
 use Rattle.var_layout.proofs.measures.Measures.recsize.Goals as goal
 

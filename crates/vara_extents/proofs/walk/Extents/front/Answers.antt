@@ -1,8 +1,5 @@
 -- A run that begins at the end is joined, and one that does not is left.
-use Rattle.std.proofs.Common.{◌+◌, ◌∷◌, List, sym, ap, ◌∙◌, arith}
-use Rattle.nc_base.specs.declared.plan.Extent.{Extent}
-use Rattle.vara_extents.specs.Joined.{joined_to}
-use Rattle.vara_extents.specs.Left.{extents_from}
+use Rattle.vara_extents.proofs.Words.{◌+◌, ◌∷◌, List, sym, ap, ◌∙◌, arith, Extent, joined_to, extents_from}
 use Rattle.vara_extents.proofs.JoinLaws.{extent, join_far, join_two}
 use Rattle.vara_extents.proofs.WalkLaws.{none_left, placed_run}
 use Rattle.vara_extents.proofs.walk.Extents.front.Goals as goal

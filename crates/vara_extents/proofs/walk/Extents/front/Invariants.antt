@@ -1,7 +1,5 @@
 -- What is left of the extents is this one, joined to those from the next run on.
-use Rattle.std.proofs.Common.{◌≡◌, ◌+◌, ◌^◌, ◌≤◌}
-use Rattle.vara_extents.specs.Joined.{joined_to}
-use Rattle.vara_extents.specs.Left.{extents_from, extents_left, IsRunOf}
+use Rattle.vara_extents.proofs.Words.{◌≡◌, ◌+◌, ◌^◌, ◌≤◌, joined_to, extents_from, extents_left, IsRunOf}
 use Rattle.vara_extents.proofs.walk.Extents.front.Given as goal
 
 abbrev pub invariant-loop-number : goal.invariant-loop-number

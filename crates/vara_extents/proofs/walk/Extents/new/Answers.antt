@@ -1,8 +1,5 @@
 -- Nothing is given when a walk begins.
-use Rattle.std.proofs.Common.{◌≡◌, ℕ, sym, subst}
-use Rattle.std.specs.Prelude.{IfSome, slice_get}
-use Rattle.vara_extents.specs.Joined.{extents_of}
-use Rattle.vara_extents.specs.Left.{extents_from}
+use Rattle.vara_extents.proofs.Words.{◌≡◌, ℕ, sym, subst, IfSome, slice_get, extents_of, extents_from}
 use Rattle.vara_extents.proofs.walk.Extents.new.Goals as goal
 
 pub returns-clause-extents : goal.returns-clause-extents

@@ -1,8 +1,7 @@
 -- The next extent is the first of those left.
-use Rattle.vara_extents.specs.Left.{extents_left, IsReady}
+use Rattle.vara_extents.proofs.Words.{extents_left, IsReady, goes_on}
 use Rattle.vara_extents.proofs.WalkLaws.{none_left}
 use Rattle.vara_extents.proofs.walk.ExtentsIterator.next.Goals as goal
-use Rattle.list_laws.proofs.Walks.{goes_on}
 
 pub returns-then-self-clause-steps : goal.returns-then-self-clause-steps
 returns-then-self-clause-steps c =

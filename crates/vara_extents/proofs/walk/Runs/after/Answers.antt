@@ -1,5 +1,5 @@
 -- The next run of a row is a step farther.
-use Rattle.std.proofs.Common.{arith}
+use Rattle.vara_extents.proofs.Words.{arith}
 use Rattle.vara_extents.proofs.WalkLaws.{inside, run_here, next_in_row}
 use Rattle.vara_extents.proofs.walk.Runs.after.Goals as goal
 

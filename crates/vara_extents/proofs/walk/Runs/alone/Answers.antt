@@ -1,13 +1,5 @@
 -- A region that is accepted is a whole number of runs, and they are all of it.
-use Rattle.std.proofs.Common.{◌≡◌, ◌*◌, ◌/◌, ℕ, refl, sym, ap, subst, ◌∙◌, arith}
-use Rattle.serial_spec.specs.ExternalForm.{size_of}
-use Rattle.serial_spec.specs.Layout.{product}
-use Rattle.serial_spec.specs.Place.{place}
-use Rattle.var_layout.proofs.Soundness.{if_there}
-use Rattle.vara_extents.specs.declared.walk.Runs.{Runs}
-use Rattle.vara_extents.specs.Joined.{extents_of}
-use Rattle.vara_extents.specs.Left.{extents_from}
-use Rattle.vara_extents.specs.Numbered.{index_of, AreRuns}
+use Rattle.vara_extents.proofs.Words.{◌≡◌, ◌*◌, ◌/◌, ℕ, refl, sym, ap, subst, ◌∙◌, arith, size_of, product, place, if_there, Runs, extents_of, extents_from, index_of, AreRuns}
 use Rattle.vara_extents.proofs.PlaceLaws.{small_of}
 use Rattle.vara_extents.proofs.RowLaws.{single}
 use Rattle.vara_extents.proofs.WalkLaws.{all_left, no_runs, whole_runs}

@@ -1,4 +1,4 @@
-use Rattle.std.proofs.Common.{◌*◌, ℕ, ap, arith}
+use Rattle.vara_extents.proofs.Words.{◌*◌, ℕ, ap, arith}
 use Rattle.vara_extents.proofs.WalkLaws.{inside}
 use Rattle.vara_extents.proofs.walk.Runs.bytes.Goals as goal
 

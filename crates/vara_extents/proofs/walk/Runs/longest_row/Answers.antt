@@ -1,8 +1,5 @@
 -- A row's step is the difference of its first two places.
-use Rattle.std.proofs.Common.{◌≡◌, ◌-◌, ℕ, List, length, ap, sym, subst, arith}
-use Rattle.serial_spec.specs.Layout.{product}
-use Rattle.vara_extents.specs.Left.{run_place}
-use Rattle.vara_extents.specs.Numbered.{coordinates_of, weighted, AreRuns, HaveRows}
+use Rattle.vara_extents.proofs.Words.{◌≡◌, ◌-◌, ℕ, List, length, ap, sym, subst, arith, product, run_place, coordinates_of, weighted, AreRuns, HaveRows}
 use Rattle.vara_extents.proofs.RowLaws.{single}
 use Rattle.vara_extents.proofs.WalkLaws.{inside, steps_up}
 use Rattle.vara_extents.proofs.walk.Runs.longest_row.Goals as goal

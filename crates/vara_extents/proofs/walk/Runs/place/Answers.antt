@@ -1,4 +1,4 @@
-use Rattle.std.proofs.Common.{arith}
+use Rattle.vara_extents.proofs.Words.{arith}
 use Rattle.vara_extents.proofs.WalkLaws.{inside}
 use Rattle.vara_extents.proofs.walk.Runs.place.Goals as goal
 

@@ -1,7 +1,5 @@
 -- The runs of a row go up by equal steps.
-use Rattle.std.proofs.Common.{◌≡◌, ◌<◌, ◌∙◌, arith}
-use Rattle.std.proofs.lemmas.Nat.{mod_below}
-use Rattle.vara_extents.specs.Left.{run_place}
+use Rattle.vara_extents.proofs.Words.{◌≡◌, ◌<◌, ◌∙◌, arith, mod_below, run_place}
 use Rattle.vara_extents.proofs.WalkLaws.{in_row}
 use Rattle.vara_extents.proofs.walk.Runs.run.Goals as goal
 use Rattle.vara_extents.proofs.walk.Runs.run.Goals.{then-number-self, else-number-self}
