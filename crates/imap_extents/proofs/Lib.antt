@@ -1,4 +1,4 @@
-mod Words
+mod Names
 mod BlockLaws
 mod CodeLaws
 mod EndLaws

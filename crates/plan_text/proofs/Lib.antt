@@ -1,4 +1,4 @@
-mod Words
+mod Names
 pub mod ArrayLaws
 mod LineLaws
 pub mod PlainLaws

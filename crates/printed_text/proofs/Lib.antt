@@ -1,4 +1,4 @@
-mod Words
+mod Names
 mod DigitLaws
 mod OffsetLaws
 pub mod WordLaws

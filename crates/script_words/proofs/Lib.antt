@@ -1,4 +1,4 @@
-mod Words
+mod Names
 mod WordLaws
 mod NumberLaws
 mod FrontLaws
