@@ -1,4 +1,4 @@
-mod Names
+mod Cited
 mod BlockLaws
 mod CodeLaws
 mod EndLaws

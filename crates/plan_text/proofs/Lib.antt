@@ -1,4 +1,4 @@
-mod Names
+mod Cited
 pub mod ArrayLaws
 mod LineLaws
 pub mod PlainLaws

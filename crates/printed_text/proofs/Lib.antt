@@ -1,4 +1,4 @@
-mod Names
+mod Cited
 mod DigitLaws
 mod OffsetLaws
 pub mod WordLaws

@@ -1,4 +1,4 @@
-mod Names
+mod Cited
 mod WordLaws
 mod NumberLaws
 mod FrontLaws
