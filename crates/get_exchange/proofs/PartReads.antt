@@ -1,5 +1,5 @@
 -- The windows of all parts, each read of its own part, are the file's bytes of all entries.
-use Rattle.get_exchange.proofs.Words.{◌≡◌, ℕ, ◌+◌, ◌-◌, ◌<◌, ◌≤◌, ◌⊎◌, inl, inr, refl, sym, ◌∙◌, ap, subst, List, [], ◌∷◌, ◌++◌, length, map, Option, Some, None, Result, Ok, Err, arith, slice_get_within, append-nil, length-map, map-append, slice_get, zip, IfErr, IfSome, IsErrOf, IsOk, OnOk, AllZip, result_and, entry_below, Extent, DiskErr, Failed, Memory, at, read, read_at, read_same, In, in_either, in_left, in_right, at_in, in_at, in_map, in_zip, map_in, zip_in, IsCovered, AreAsLong, FitTable, HasRead, HaveOnePlaces, get_turns, AreRead, HasGot, IsGetPlanned, told_in, HasReadParts, HasReadTurns, HasTaken, HaveTakenTurns, IsKept, IsReadOf, Log, IsDomainOf, PartState, domain_of, part_of, turns_due, IsFresh, Told, Reading, Hull, ReadWorker, GetPlan, map_new, AreOf, domain_part, domain_windows}
+use Rattle.get_exchange.proofs.Words.{◌≡◌, ℕ, ◌+◌, ◌-◌, ◌<◌, ◌≤◌, ◌⊎◌, inl, inr, refl, sym, ◌∙◌, ap, subst, List, [], ◌∷◌, ◌++◌, length, map, Option, Some, None, Result, Ok, Err, arith, slice_get_within, append-nil, length-map, slice_get, zip, IfErr, IfSome, IsErrOf, IsOk, OnOk, AllZip, result_and, entry_below, Extent, DiskErr, Failed, Memory, at, read, read_at, read_same, In, in_either, in_left, in_right, at_in, in_at, in_map, in_zip, map_in, zip_in, IsCovered, AreAsLong, FitTable, HasRead, HaveOnePlaces, get_turns, AreRead, HasGot, IsGetPlanned, told_in, HasReadParts, HasReadTurns, HasTaken, HaveTakenTurns, IsKept, IsReadOf, Log, IsDomainOf, PartState, domain_of, part_of, turns_due, IsFresh, Told, Reading, Hull, ReadWorker, GetPlan, map_new, AreOf, domain_part, domain_windows}
 use Rattle.get_exchange.proofs.FetchLaws.{got_later}
 use Rattle.get_exchange.proofs.ReadLaws.{log_joined, read_law}
 use Rattle.get_exchange.proofs.TakeLaws.{items_read}

@@ -1,5 +1,5 @@
 -- The first parts, which helpers read, and those behind them, which are read in turn.
-use Rattle.get_exchange.proofs.Words.{◌≡◌, ℕ, zero, suc, ◌+◌, min, inl, inr, sym, ◌∙◌, ap, subst, List, [], ◌∷◌, ◌++◌, length, take, drop, Option, Some, Result, Ok, Err, arith, map-append, AllZip-long, length-zip, slice_get, zip, IsErrOf, OnOk, AllZip, result_and, Extent, Owned, DiskErr, Failed, In, in_either, in_left, in_right, get_turns, HasGot, told_in, HasReadParts, IsDomainOf, PartState, SomeZip, Told, GetPlan, and_failed, and_first_ok, and_second_ok, some_first, some_second, zip_joined, zip_split}
+use Rattle.get_exchange.proofs.Words.{◌≡◌, ℕ, zero, suc, ◌+◌, inl, inr, sym, ◌∙◌, ap, subst, List, [], ◌∷◌, ◌++◌, length, take, drop, Option, Some, Result, Ok, Err, arith, map-append, AllZip-long, length-zip, slice_get, zip, IsErrOf, OnOk, AllZip, result_and, Extent, Owned, DiskErr, Failed, In, in_either, in_left, in_right, get_turns, HasGot, told_in, HasReadParts, IsDomainOf, PartState, SomeZip, Told, GetPlan, and_failed, and_first_ok, and_second_ok, some_first, some_second, zip_joined, zip_split}
 use Rattle.get_exchange.proofs.PartReads.{all_got_later}
 use Rattle.get_exchange.proofs.ReadLaws.{log_joined}
 

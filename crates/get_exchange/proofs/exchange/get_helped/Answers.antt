@@ -1,5 +1,5 @@
 -- The first parts came back from helpers, and those behind them were read in turn.
-use Rattle.get_exchange.proofs.Words.{◌≡◌, ◌+◌, ◌-◌, ◌≤◌, ◌∙◌, ◌++◌, ℕ, List, sym, ap, subst, length, take, drop, vec_capacity, Result, rules, arith, common_steps, length-drop, take_rest, zip, IsErrOf, OnOk, AllZip, Extent, Rose, DiskErr, Failed, part_state, SomeZip, get_turns, HasGot, HasReadParts}
+use Rattle.get_exchange.proofs.Words.{◌≡◌, ◌-◌, ◌∙◌, ℕ, List, sym, ap, subst, length, take, drop, Result, rules, arith, common_steps, length-drop, take_rest, zip, IsErrOf, OnOk, AllZip, Extent, Rose, DiskErr, Failed, part_state, get_turns, HasGot, HasReadParts}
 use Rattle.get_exchange.proofs.CollectLaws.{fit_as_long}
 use Rattle.get_exchange.proofs.SplitReads.{back_long, domains_behind, failed_joined, got_joined, parts_joined}
 use Rattle.get_exchange.proofs.exchange.get_helped.Goals as goal
@@ -35,7 +35,7 @@ give_back-requires g c =
     let room = c.get_served-back.ensures.room in
     let long : length more ≡ length served.rest.items = omega arith in
     let many = back_long (λ (p : g.row.D.Denot × Extent) (d : g.row.D.Denot). HasGot (get_turns c.args.plan.now p.1) (state p.0) (state d) others.1) served.rest.items more others.0.items
-        long c.get_in_turn-others.ensures.got in
+    long c.get_in_turn-others.ensures.got in
     omega arith
 
 pub returns-clause-got : goal.returns-clause-got
