@@ -3,6 +3,7 @@ pub mod CollectLaws
 mod ReadLaws
 mod TakeLaws
 mod PartReads
+mod SplitReads
 mod TurnReads
 mod FetchLaws
 mod ShelfLaws

@@ -1,5 +1,5 @@
 -- The windows of all parts, each read of its own part, are the file's bytes of all entries.
-use Rattle.get_exchange.proofs.Words.{◌≡◌, ℕ, ◌+◌, ◌-◌, ◌<◌, ◌≤◌, ◌⊎◌, inl, inr, refl, sym, ◌∙◌, ap, subst, List, [], ◌∷◌, ◌++◌, length, map, take, drop, Option, Some, None, Result, Ok, Err, arith, slice_get_within, append-nil, length-map, map-append, slice_get, zip, IfErr, IfSome, IsErrOf, IsOk, OnOk, AllZip, result_and, entry_below, Extent, DiskErr, Failed, Memory, at, read, read_at, read_same, In, in_either, in_left, in_right, at_in, in_at, in_map, in_zip, map_in, zip_in, IsCovered, AreAsLong, FitTable, HasRead, HaveOnePlaces, get_turns, AreRead, HasGot, IsGetPlanned, told_in, HasReadParts, HasReadTurns, HasTaken, HaveTakenTurns, IsKept, IsReadOf, Log, IsDomainOf, PartState, domain_of, part_of, turns_due, IsFresh, Told, Reading, Hull, ReadWorker, GetPlan, map_new, AreOf, zip_split, domain_part, domain_windows}
+use Rattle.get_exchange.proofs.Words.{◌≡◌, ℕ, ◌+◌, ◌-◌, ◌<◌, ◌≤◌, ◌⊎◌, inl, inr, refl, sym, ◌∙◌, ap, subst, List, [], ◌∷◌, ◌++◌, length, map, Option, Some, None, Result, Ok, Err, arith, slice_get_within, append-nil, length-map, slice_get, zip, IfErr, IfSome, IsErrOf, IsOk, OnOk, AllZip, result_and, entry_below, Extent, DiskErr, Failed, Memory, at, read, read_at, read_same, In, in_either, in_left, in_right, at_in, in_at, in_map, in_zip, map_in, zip_in, IsCovered, AreAsLong, FitTable, HasRead, HaveOnePlaces, get_turns, AreRead, HasGot, IsGetPlanned, told_in, HasReadParts, HasReadTurns, HasTaken, HaveTakenTurns, IsKept, IsReadOf, Log, IsDomainOf, PartState, domain_of, part_of, turns_due, IsFresh, Told, Reading, Hull, ReadWorker, GetPlan, map_new, AreOf, domain_part, domain_windows}
 use Rattle.get_exchange.proofs.FetchLaws.{got_later}
 use Rattle.get_exchange.proofs.ReadLaws.{log_joined, read_law}
 use Rattle.get_exchange.proofs.TakeLaws.{items_read}
@@ -54,34 +54,6 @@ parts_on from held plan pairs more pair old mid now end (Err x) e ok h t = tt
 parts_on from held plan pairs more pair old mid now (Err y) (Ok x) e ok h t = absurd cc
 parts_on {D} from held plan pairs more pair old mid now (Ok y) (Ok x) e ok h t =
     subst (λ (ps : List (D × Extent)). HasReadParts from held plan ps old now) (sym e) (parts_more from held plan pairs pair old mid now h t)
-
--- the first parts, and those behind them
-parts_both : {D : Type 0} (from : D → ℕ) (held : D → Option (List ℕ)) (plan : GetPlan) (pairs more : List (D × Extent)) (old mid now : List (List (List ℕ)))
-    → HasReadParts from held plan pairs old mid → HasReadParts from held plan more mid now → HasReadParts from held plan (pairs ++ more) old now
-parts_both {D} from held plan pairs more old mid now h t = record {
-  log = h.log ++ t.log;
-  collected = log_joined plan.list.now h.log t.log old mid now h.collected t.collected;
-  all = λ p u m k. subst (λ (ts : List Told). In ts u) (sym (map-append (λ (e : Told × List ℕ). e.0) h.log t.log)) (elim (in_either pairs more p m) [
-    | inl g ↦ in_left (told_in h.log) (told_in t.log) u (h.all p u g k)
-    | inr g ↦ in_right (told_in h.log) (told_in t.log) u (t.all p u g k)
-  ]);
-  only = λ e m. elim (in_either h.log t.log e m) [
-    | inl g ↦ (let r = h.only e g in record { pair = r.pair; inside = in_left pairs more r.pair r.inside; turn = r.turn; told = r.told })
-    | inr g ↦ (let r = t.only e g in record { pair = r.pair; inside = in_right pairs more r.pair r.inside; turn = r.turn; told = r.told })
-  ];
-}
-
--- as long as nothing was refused
-pub parts_joined : {D T U V E : Type 0} (from : D → ℕ) (held : D → Option (List ℕ)) (plan : GetPlan) (k : ℕ) (parts : List D) (domains : List Extent) (old mid now : List (List (List ℕ)))
-    (end : Result T E) (came : Result U E) (both : Result V E) → length domains ≡ length parts → OnOk both (IsOk end) → OnOk both (IsOk came)
-    → OnOk end (HasReadParts from held plan (zip (take k parts) (take k domains)) old mid) → OnOk came (HasReadParts from held plan (zip (drop k parts) (drop k domains)) mid now)
-    → OnOk both (HasReadParts from held plan (zip parts domains) old now)
-parts_joined from held plan k parts domains old mid now end came (Err x) long first second h t = tt
-parts_joined from held plan k parts domains old mid now (Err y) came (Ok x) long first second h t = absurd cc
-parts_joined from held plan k parts domains old mid now (Ok z) (Err y) (Ok x) long first second h t = absurd cc
-parts_joined {D} from held plan k parts domains old mid now (Ok z) (Ok y) (Ok x) long first second h t =
-    subst (λ (ps : List (D × Extent)). HasReadParts from held plan ps old now) (sym (zip_split k parts domains long))
-    (parts_both from held plan (zip (take k parts) (take k domains)) (zip (drop k parts) (drop k domains)) old mid now h t)
 
 -- ---- helpers of which all was taken
 

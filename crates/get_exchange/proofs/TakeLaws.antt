@@ -1,5 +1,5 @@
 -- Hulls that are taken off the lines of helpers, one after another.
-use Rattle.get_exchange.proofs.Words.{◌≡◌, ℕ, ◌+◌, ◌-◌, min, inl, inr, refl, sym, ◌∙◌, ap, subst, List, [], ◌∷◌, ◌++◌, length, map, set, Bool, true, false, Option, Some, None, Result, Ok, Err, append_assoc, arith, append-nil, length-map, map-append, same_Some, slice_get_within, slice_get, ◌==◌, IfErr, IfSome, OnOk, result_and, entry_below, entry_set, entry_set_other, Owned, DiskErr, Memory, read, In, in_either, in_left, in_right, domain_of, turns_due, IsFresh, IsStartedFor, FitTable, HasCollected, HaveOnePlaces, AreServed, get_turns, reading_of, AreRead, told_in, HasTaken, HasTakenOf, HasTakenTurn, HaveTakenTurns, IsKept, IsTakenOf, Log, told_window, Told, Reading, Hull, Shelf, ReadWorker, GetPlan, each_new, set_each}
+use Rattle.get_exchange.proofs.Words.{◌≡◌, ℕ, ◌+◌, ◌-◌, inl, inr, refl, sym, ◌∙◌, ap, subst, List, [], ◌∷◌, ◌++◌, length, map, set, Bool, true, false, Option, Some, None, Result, Ok, Err, append_assoc, arith, append-nil, length-map, map-append, same_Some, slice_get_within, slice_get, ◌==◌, IfErr, IfSome, OnOk, result_and, entry_below, entry_set, entry_set_other, Owned, DiskErr, Memory, read, In, in_either, in_left, in_right, turns_due, IsFresh, IsStartedFor, FitTable, HasCollected, HaveOnePlaces, AreServed, get_turns, reading_of, AreRead, told_in, HasTaken, HasTakenOf, HasTakenTurn, HaveTakenTurns, IsKept, IsTakenOf, Log, told_window, Told, Reading, Hull, Shelf, ReadWorker, GetPlan, each_new, set_each}
 use borrow.Author.Tests.{eqb-true, eqb-false}
 use Rattle.get_exchange.proofs.ReadLaws.{hull_collected, log_joined, log_one}
 

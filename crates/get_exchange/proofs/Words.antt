@@ -4,9 +4,10 @@ pub use Rattle.std.proofs.Math.ListN.{get_or-map}
 pub use Rattle.std.proofs.Math.Seq.{map-set_same}
 pub use Rattle.std.proofs.lemmas.Bool.{and_from}
 pub use Rattle.std.proofs.lemmas.Grind.{common_steps, fold-append}
-pub use Rattle.std.proofs.lemmas.List.{append-nil, drop_all, ext_get_or, get_or-set_other, get_or-set_same, get_or_default, length-append, length-map, length-take, map-append, nil_from_length, take_all, take_more}
+pub use Rattle.std.proofs.lemmas.List.{append-nil, drop_all, ext_get_or, get_or-set_other, get_or-set_same, get_or_default, length-append, length-drop, length-map, length-take, map-append, nil_from_length, take_all, take_more, take_rest}
 pub use Rattle.std.proofs.lemmas.List.Elements.{filter-append}
 pub use Rattle.std.proofs.lemmas.Option.{same_Some, slice_get-get_or, slice_get_within}
+pub use Rattle.std.proofs.lemmas.Slice.Zip.{AllZip-long, length-zip}
 pub use Rattle.std.specs.List.{AllZip}
 pub use Rattle.std.specs.Prelude.{IfErr, IfNone, IfSome, IsErrOf, IsOk, OnOk, flat_map, is_some, replicate, slice_get, zip, ◌==◌}
 pub use Rattle.std.specs.Result.{result_and}

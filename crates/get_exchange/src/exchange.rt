@@ -30,7 +30,7 @@ use std::sync::Wait;
 
 /// Does the gets of a plan on the parts of a disk. Each part is handed to a helper of its own, over the domain at its place, and the hulls
 /// of its windows come from it over a line of so many items as the hints say. From the first part on for which there is no helper the
-/// parts are read in turn, under the same clauses; all are, where the hints have no threads or there is one part alone.
+/// parts are read in turn, under the same clauses.
 ///
 /// The parts come back in order. Refused, some bytes of the blobs may be read, and the fault is the first of the parts'; `Memory` comes
 /// also where a list of the parts or a buffer can't be had.
@@ -83,7 +83,7 @@ fn get_parts<R: Wait, D: Disk, G: Gate, P: Send + Drop>(
     ensures blobs { AreAsLong into.old into.new }
     ensures failed { IsErrOf result.1 Failed → SomeZip (λ old new. Rose (D.faults old) (D.faults new)) parts.items result.0.items }
 {
-    if !plan.hints.threads || parts.len() < 2 {
+    if helpers.is_empty() {
         return get_in_turn(tools, plan, 0, domains, parts, into);
     }
     match fetching_of(tools.alloc, plan, domains) {

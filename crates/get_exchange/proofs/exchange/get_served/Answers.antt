@@ -1,5 +1,5 @@
 -- The parts that helpers took are the first ones, and come back read.
-use Rattle.get_exchange.proofs.Words.{◌≡◌, ◌∙◌, ℕ, List, sym, ap, subst, length, map, take, vec_capacity, Some, Result, rules, arith, common_steps, slice_get, zip, IsErrOf, IsOk, OnOk, AllZip, Extent, Rose, DiskErr, Failed, In, at_in, AreAsLong, FitTable, get_turns, AreRead, HasGot, HasReadParts, HaveTakenTurns, IsKept, part_state, SomeZip, domain_of, part_of, ReadWorker, and_first_ok, slice_kept, all_of, some_of, workers_few, AreOf, first_parts, parts_behind}
+use Rattle.get_exchange.proofs.Words.{◌≡◌, ◌∙◌, ℕ, List, sym, ap, subst, length, map, take, vec_capacity, Some, Result, rules, arith, common_steps, slice_get, zip, IsErrOf, IsOk, OnOk, AllZip, Extent, Rose, DiskErr, Failed, In, at_in, AreAsLong, get_turns, AreRead, HasGot, HasReadParts, HaveTakenTurns, IsKept, part_state, SomeZip, domain_of, part_of, ReadWorker, and_first_ok, slice_kept, all_of, some_of, workers_few, AreOf, first_parts, parts_behind}
 use Rattle.get_exchange.proofs.PartReads.{all_got_later, all_read, and_memory, kept_domains, kept_parts, rows_long}
 use Rattle.get_exchange.proofs.TakeLaws.{kept_workers}
 use Rattle.get_exchange.proofs.exchange.get_served.Goals as goal

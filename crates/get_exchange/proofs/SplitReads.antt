@@ -1,0 +1,89 @@
+-- The first parts, which helpers read, and those behind them, which are read in turn.
+use Rattle.get_exchange.proofs.Words.{◌≡◌, ℕ, zero, suc, ◌+◌, inl, inr, sym, ◌∙◌, ap, subst, List, [], ◌∷◌, ◌++◌, length, take, drop, Option, Some, Result, Ok, Err, arith, map-append, AllZip-long, length-zip, slice_get, zip, IsErrOf, OnOk, AllZip, result_and, Extent, Owned, DiskErr, Failed, In, in_either, in_left, in_right, get_turns, HasGot, told_in, HasReadParts, IsDomainOf, PartState, SomeZip, Told, GetPlan, and_failed, and_first_ok, and_second_ok, some_first, some_second, zip_joined, zip_split}
+use Rattle.get_exchange.proofs.PartReads.{all_got_later}
+use Rattle.get_exchange.proofs.ReadLaws.{log_joined}
+
+-- ---- where they lie
+
+behind_at : {X : Type 0} (n : ℕ) (xs : List X) (k : ℕ) (x : X) → slice_get (drop n xs) k ≡ Some x → slice_get xs (n + k) ≡ Some x
+behind_at zero xs k x e = let same : zero + k ≡ k = omega arith in ap (λ (i : ℕ). slice_get xs i) same ∙ e
+behind_at (suc n) [] k x e = absurd cc
+behind_at (suc n) (y ∷ xs) k x e = let same : suc n + k ≡ suc (n + k) = omega arith in ap (λ (i : ℕ). slice_get (y ∷ xs) i) same ∙ behind_at n xs k x e
+
+pub domains_behind : {D : Type 0} (from len : D → ℕ) (list : List Owned) (n : ℕ) (parts rest : List D) (domains more : List Extent) → rest ≡ drop n parts → more ≡ drop n domains
+    → ((k : ℕ) (part : D) (domain : Extent) → slice_get parts k ≡ Some part → slice_get domains k ≡ Some domain → IsDomainOf list (from part) (len part) domain)
+    → (k : ℕ) (part : D) (domain : Extent) → slice_get rest k ≡ Some part → slice_get more k ≡ Some domain → IsDomainOf list (from part) (len part) domain
+domains_behind {D} from len list n parts rest domains more behind later each k part domain e f =
+    each (n + k) part domain
+    (behind_at n parts k part (subst (λ (ps : List D). slice_get ps k ≡ Some part) behind e))
+    (behind_at n domains k domain (subst (λ (ds : List Extent). slice_get ds k ≡ Some domain) later f))
+
+-- as many parts come back as were read
+pub back_long : {A B C : Type 0} (Q : A × B → C → Type 0) (xs : List A) (ds : List B) (ys : List C) → length ds ≡ length xs → AllZip Q (zip xs ds) ys → length ys ≡ length xs
+back_long Q xs ds ys long all =
+    let a = AllZip-long Q (zip xs ds) ys all in
+    let b = length-zip xs ds in
+    omega arith
+
+-- ---- what came of both
+
+pub got_joined : {D T : Type 0} (plan : GetPlan) (state : D → PartState) (parts rest : List D) (domains more : List Extent) (back others whole : List D) (end came : Result T DiskErr)
+    → length domains ≡ length parts → rest ≡ drop (length back) parts → more ≡ drop (length back) domains → whole ≡ back ++ others
+    → AllZip (λ p d. HasGot (get_turns plan p.1) (state p.0) (state d) end) (zip (take (length back) parts) (take (length back) domains)) back
+    → AllZip (λ p d. HasGot (get_turns plan p.1) (state p.0) (state d) came) (zip rest more) others
+    → AllZip (λ p d. HasGot (get_turns plan p.1) (state p.0) (state d) (result_and end came)) (zip parts domains) whole
+got_joined {D} plan state parts rest domains more back others whole end came long behind later all first second =
+    subst (λ (ds : List D). AllZip Got (zip parts domains) ds) (sym all)
+    (zip_joined Got (length back) parts domains back others long
+    (all_got_later turns state (zip (take (length back) parts) (take (length back) domains)) back end (result_and end came) (and_first_ok end came) first)
+    (subst (λ (ps : List (D × Extent)). AllZip Got ps others) pairs
+    (all_got_later turns state (zip rest more) others came (result_and end came) (and_second_ok end came) second)))
+  where
+    turns : D × Extent → List Told
+    turns p = get_turns plan p.1
+
+    Got : D × Extent → D → Type 0
+    Got p d = HasGot (turns p) (state p.0) (state d) (result_and end came)
+
+    pairs : zip rest more ≡ zip (drop (length back) parts) (drop (length back) domains)
+    pairs = ap (λ (ps : List D). zip ps more) behind ∙ ap (λ (ds : List Extent). zip (drop (length back) parts) ds) later
+
+pub failed_joined : {D T : Type 0} (R : D → D → Type 0) (parts rest back others whole : List D) (end came : Result T DiskErr) → rest ≡ drop (length back) parts → whole ≡ back ++ others
+    → (IsErrOf end Failed → SomeZip R (take (length back) parts) back) → (IsErrOf came Failed → SomeZip R rest others) → IsErrOf (result_and end came) Failed → SomeZip R parts whole
+failed_joined {D} R parts rest back others whole end came behind all first second f =
+    subst (λ (ds : List D). SomeZip R parts ds) (sym all)
+    (elim (and_failed end came f) [
+      | inl e ↦ some_first R (length back) parts back others (first e)
+      | inr e ↦ some_second R parts back others (subst (λ (ps : List D). SomeZip R ps others) behind (second e))
+    ])
+
+parts_both : {D : Type 0} (from : D → ℕ) (held : D → Option (List ℕ)) (plan : GetPlan) (pairs more : List (D × Extent)) (old mid now : List (List (List ℕ)))
+    → HasReadParts from held plan pairs old mid → HasReadParts from held plan more mid now → HasReadParts from held plan (pairs ++ more) old now
+parts_both {D} from held plan pairs more old mid now h t = record {
+  log = h.log ++ t.log;
+  collected = log_joined plan.list.now h.log t.log old mid now h.collected t.collected;
+  all = λ p u m k. subst (λ (ts : List Told). In ts u) (sym (map-append (λ (e : Told × List ℕ). e.0) h.log t.log)) (elim (in_either pairs more p m) [
+    | inl g ↦ in_left (told_in h.log) (told_in t.log) u (h.all p u g k)
+    | inr g ↦ in_right (told_in h.log) (told_in t.log) u (t.all p u g k)
+  ]);
+  only = λ e m. elim (in_either h.log t.log e m) [
+    | inl g ↦ (let r = h.only e g in record { pair = r.pair; inside = in_left pairs more r.pair r.inside; turn = r.turn; told = r.told })
+    | inr g ↦ (let r = t.only e g in record { pair = r.pair; inside = in_right pairs more r.pair r.inside; turn = r.turn; told = r.told })
+  ];
+}
+
+-- as long as nothing was refused
+pub parts_joined : {D T E : Type 0} (from : D → ℕ) (held : D → Option (List ℕ)) (plan : GetPlan) (n : ℕ) (parts rest : List D) (domains more : List Extent) (old mid now : List (List (List ℕ)))
+    (end came : Result T E) → length domains ≡ length parts → rest ≡ drop n parts → more ≡ drop n domains
+    → OnOk end (HasReadParts from held plan (zip (take n parts) (take n domains)) old mid) → OnOk came (HasReadParts from held plan (zip rest more) mid now)
+    → OnOk (result_and end came) (HasReadParts from held plan (zip parts domains) old now)
+parts_joined from held plan n parts rest domains more old mid now (Err x) came long behind later h t = tt
+parts_joined from held plan n parts rest domains more old mid now (Ok y) (Err x) long behind later h t = tt
+parts_joined {D} from held plan n parts rest domains more old mid now (Ok y) (Ok x) long behind later h t =
+    subst (λ (ps : List (D × Extent)). HasReadParts from held plan ps old now) (sym whole) (parts_both from held plan (zip (take n parts) (take n domains)) (zip rest more) old mid now h t)
+  where
+    whole : zip parts domains ≡ zip (take n parts) (take n domains) ++ zip rest more
+    whole =
+        zip_split n parts domains long
+        ∙ ap (λ (ps : List D). zip (take n parts) (take n domains) ++ zip ps (drop n domains)) (sym behind)
+        ∙ ap (λ (ds : List Extent). zip (take n parts) (take n domains) ++ zip rest ds) (sym later)
