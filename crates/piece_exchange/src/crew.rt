@@ -1,14 +1,12 @@
 // The helpers of a run.
 use crossbeam_channel::{Receiver, Sender};
 use exchange_crew::{Errand, STACK_SIZE, Tools};
-use get_exchange::{GetJob, serve};
+use get_exchange::GetJob;
 use nc_outside::{Disk, Gate};
+use put_exchange::PutJob;
 use std::alloc::Global;
 use std::sync::Wait;
 use std::thread::{Builder, Scope, Threads};
-
-// Puts go to helpers that are started for each step.
-type GetErrand<D> = Errand<(), GetJob<D>>;
 
 /// Helpers of a run, by their numbers from 0. They are started as steps want them, in the scope of the run's threads, and wait for jobs from
 /// then on. They end once this is dropped, so it has to be dropped inside that scope.
@@ -16,7 +14,7 @@ type GetErrand<D> = Errand<(), GetJob<D>>;
 pub struct Crew<'s, E, R, G, D: Disk> {
     scope: Option<&'s Scope<'s, E>>,
     tools: &'s Tools<'s, R, G>,
-    lines: Vec<Sender<GetErrand<D>>>,
+    lines: Vec<Sender<Errand<PutJob<D>, GetJob<D>>>>,
 }
 
 impl<'s, E, R: Threads + Wait + Sync, G: Gate, D: Disk + 's> Crew<'s, E, R, G, D> {
@@ -29,8 +27,8 @@ impl<'s, E, R: Threads + Wait + Sync, G: Gate, D: Disk + 's> Crew<'s, E, R, G, D
         }
     }
 
-    /// Starts helpers until there are so many, or no more can be had: the line to each.
-    pub fn reach(&mut self, count: usize) -> &[Sender<GetErrand<D>>] {
+    /// The lines to the first helpers, so many of them, which are started where they are missing. They are fewer where no more can be had.
+    pub fn reach(&mut self, count: usize) -> &[Sender<Errand<PutJob<D>, GetJob<D>>>] {
         if let Some(scope) = self.scope {
             for _ in self.lines.len()..count {
                 let Some(line) = start(scope, self.tools) else {
@@ -41,7 +39,8 @@ impl<'s, E, R: Threads + Wait + Sync, G: Gate, D: Disk + 's> Crew<'s, E, R, G, D
                 }
             }
         }
-        self.lines.as_slice()
+        let reached = self.lines.len().min(count);
+        &self.lines[..reached]
     }
 }
 
@@ -49,8 +48,11 @@ impl<'s, E, R: Threads + Wait + Sync, G: Gate, D: Disk + 's> Crew<'s, E, R, G, D
 fn start<'s, E, R: Threads + Wait + Sync, G: Gate, D: Disk + 's>(
     scope: &'s Scope<'s, E>,
     tools: &'s Tools<'s, R, G>,
-) -> Option<Sender<GetErrand<D>>> {
-    let (to, from) = crossbeam_channel::bounded::<GetErrand<D>, Global>(tools.alloc, 1).ok()?;
+) -> Option<Sender<Errand<PutJob<D>, GetJob<D>>>> {
+    let (to, from) = crossbeam_channel::bounded::<Errand<PutJob<D>, GetJob<D>>, Global>(
+        tools.alloc,
+        1,
+    ).ok()?;
     Builder::new()
         .stack_size(STACK_SIZE)
         .spawn_scoped(scope, move || help(tools, &from))
@@ -59,20 +61,33 @@ fn start<'s, E, R: Threads + Wait + Sync, G: Gate, D: Disk + 's>(
 }
 
 // Does the jobs that come, until no more can.
-fn help<R: Wait, G: Gate, D: Disk>(tools: &Tools<R, G>, errands: &Receiver<GetErrand<D>>) {
+fn help<R: Wait, G: Gate, D: Disk>(
+    tools: &Tools<R, G>,
+    errands: &Receiver<Errand<PutJob<D>, GetJob<D>>>,
+) {
     for _ in tools.rt.forever() {
         let Ok(errand) = errands.recv(tools.rt) else {
             return;
         };
-        let Errand::Get(job) = errand else {
-            return;
-        };
-        let GetJob {
-            number,
-            windows,
-            ends,
-            answer,
-        } = job;
-        serve(tools, number, windows, ends, answer);
+        match errand {
+            Errand::Put(job) => {
+                let PutJob {
+                    number,
+                    dues,
+                    ends,
+                    answer,
+                } = job;
+                put_exchange::serve(tools, number, dues, ends, answer);
+            }
+            Errand::Get(job) => {
+                let GetJob {
+                    number,
+                    windows,
+                    ends,
+                    answer,
+                } = job;
+                get_exchange::serve(tools, number, windows, ends, answer);
+            }
+        }
     }
 }

@@ -3,15 +3,18 @@ ghost use Rattle.std.specs.Prelude.{◌≡◌, true};
 ghost use Rattle.serial_spec.specs.SoundHeaders.{is_sound};
 ghost use Rattle.serial_spec.specs.Lawful.{are_lawful_hints};
 
-use super::steps::{Dataset, IN_TURN, Way, get_two, posted, put_two, small_dataset};
+use super::steps::together::{get_by, get_two, put_by, put_two};
+use super::steps::{Dataset, IN_TURN, Way, posted, small_dataset};
 use super::{OLD, disk_of, has_bytes, has_calls, old_file};
 use collective_round::PutEnd;
 use nc_base::{Blob, DiskCall, GotTable, NcType, StepErr};
 use nc_outside::{FailOp, Gate, MeetGate, MemDisk, OpenGate, Point};
+use piece_exchange::{Crew, Tools};
 use std::alloc::Global;
 use std::process::Abort;
 use std::sync::Wait;
-use std::thread::Threads;
+use std::thread;
+use std::thread::{Scope, Threads};
 use test_fixtures::{Asked, NO_MEMORY};
 
 /// What a test says where gets are refused that should not be.
@@ -188,6 +191,11 @@ fn is_got<R: Abort + Threads + Wait + Sync>(
     let [a, b] = &ASKED;
     let (first, second) = (posted(rt, alloc, a), posted(rt, alloc, b));
     let got = get_two(rt, alloc, disk, set, first, second);
+    has_ints(rt, got);
+}
+
+fn has_ints(rt: &impl Abort, got: Result<GotTable, StepErr>) {
+    let [a, b] = &ASKED;
     let table = got.expect(rt, NO_TABLE);
     has_blob(rt, &table, 0, a.bytes);
     has_blob(rt, &table, 1, b.bytes);
@@ -318,5 +326,64 @@ fn meets<R: Abort + Threads + Wait + Sync>(rt: &R, alloc: Global, meeting: &Meet
 fn aggregators_work_side_by_side(rt: HostRuntime) {
     for meeting in &MEETINGS {
         meets(&rt, rt.alloc(), meeting);
+    }
+}
+
+/// Puts the ints and gets them by helpers that may have done so before.
+fn put_and_get<'s, E, R: Abort + Threads + Wait + Sync>(
+    tools: &Tools<R, OpenGate>,
+    crew: &mut Crew<'s, E, R, OpenGate, MemDisk>,
+    disk: &mut MemDisk,
+    set: &Dataset,
+)
+    requires sound { is_sound set.now.header ≡ true }
+    requires hints { are_lawful_hints set.now.hints ≡ true }
+{
+    let (rt, alloc) = (tools.rt, tools.alloc);
+    let [a, b] = &ASKED;
+    let (first, second) = (posted(rt, alloc, a), posted(rt, alloc, b));
+    let (end, records) = put_by(tools, crew, disk, set, first, second);
+    assert!(rt; end == Ok(PutEnd::Done) && records == 0);
+    let (first, second) = (posted(rt, alloc, a), posted(rt, alloc, b));
+    has_ints(rt, get_by(tools, crew, disk, set, first, second));
+}
+
+fn put_and_get_again<'s, E, R: Abort + Threads + Wait + Sync>(
+    scope: &'s Scope<'s, E>,
+    tools: &'s Tools<'s, R, OpenGate>,
+    set: &Dataset,
+)
+    requires sound { is_sound set.now.header ≡ true }
+    requires hints { are_lawful_hints set.now.hints ≡ true }
+{
+    let (rt, alloc) = (tools.rt, tools.alloc);
+    let mut disk = disk_of(rt, alloc, old_file(rt, alloc, 112), &[]);
+    let mut crew = Crew::new(Some(scope), tools);
+    for _ in 0..3 {
+        put_and_get(tools, &mut crew, &mut disk, set);
+    }
+    has_bytes(rt, alloc, &disk, 80, PUT);
+}
+
+fn stay<R: Abort + Threads + Wait + Sync>(rt: &R, alloc: Global, way: Way) {
+    let set = eight_ints(rt, alloc, way);
+    let tools = Tools {
+        rt,
+        alloc,
+        gate: &OpenGate,
+    };
+    thread::scope(
+        thread::scope_env(),
+        rt,
+        |scope| -> ()
+            requires { (is_sound set.header ≡ true) × (are_lawful_hints set.hints ≡ true) }
+        { put_and_get_again(scope, &tools, &set) },
+    )
+}
+
+#[test]
+fn helpers_do_one_step_after_another(rt: HostRuntime) {
+    for way in WAYS {
+        stay(&rt, rt.alloc(), way);
     }
 }

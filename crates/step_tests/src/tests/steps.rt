@@ -8,14 +8,14 @@ ghost use Rattle.collective_round.specs.Rounds.{IsGet, IsPut};
 
 mod alone;
 mod puts;
+pub(super) mod together;
 
-use collective_round::{Dataset as Lent, PutEnd, get_all, get_solo, put_all, put_solo};
+use collective_round::{Dataset as Lent, PutEnd, get_solo, put_all, put_solo};
 use nc_base::{
-    Batch, BlobList, Direction, GotTable, Header, Hints, Job, NcType, OverlapRule, Post, PostList,
-    StepErr,
+    Batch, BlobList, Direction, Header, Hints, Job, NcType, OverlapRule, Post, PostList, StepErr,
 };
-use nc_outside::{Disk, Gate, MemDisk, OpenGate};
-use piece_exchange::Tools;
+use nc_outside::{Disk, MemDisk, OpenGate};
+use piece_exchange::{Crew, SharedJob, Tools};
 use std::alloc::Global;
 use std::process::Abort;
 use std::sync::Wait;
@@ -179,36 +179,6 @@ fn is_long(rt: &impl Abort, header: &Header, disk: &MemDisk)
     assert!(rt; from == 0 && end <= size && size < 1000);
 }
 
-/// How the puts of two ranks end, one each, and the record count then.
-pub(super) fn put_two<R: Abort + Threads + Wait + Sync, G: Gate>(
-    rt: &R,
-    alloc: Global,
-    gate: &G,
-    disk: &mut MemDisk,
-    set: &Dataset,
-    a: Post,
-    b: Post,
-) -> (Result<PutEnd, StepErr>, u64)
-    requires sound { is_sound set.now.header ≡ true }
-    requires hints { are_lawful_hints set.now.hints ≡ true }
-{
-    let header = &set.header;
-    is_put(rt, header, &a);
-    is_put(rt, header, &b);
-    is_long(rt, header, disk);
-    let job = puts_of(rt, alloc, a, b);
-    let measures = Measures::of(header);
-    let dataset = Lent {
-        header,
-        measures: &measures,
-        hints: &set.hints,
-    };
-    let tools = Tools { rt, alloc, gate };
-    let mut records = 0;
-    let end = put_all(&tools, disk, &dataset, &mut records, &job);
-    (end, records)
-}
-
 /// How the put of a run's only rank ends by one aggregator, and the record count then.
 pub(super) fn put_by_one<R: Abort + Threads + Wait + Sync>(
     rt: &R,
@@ -222,6 +192,7 @@ pub(super) fn put_by_one<R: Abort + Threads + Wait + Sync>(
     is_put(rt, header, &a);
     is_long(rt, header, disk);
     let job = only_put(rt, alloc, a);
+    let shared = SharedJob::new(alloc, job).expect(rt, NO_MEMORY);
     let measures = Measures::of(header);
     let hints = Hints {
         cb_nodes: 1,
@@ -237,41 +208,10 @@ pub(super) fn put_by_one<R: Abort + Threads + Wait + Sync>(
         alloc,
         gate: &OpenGate,
     };
+    let mut crew = Crew::<(), R, OpenGate, MemDisk>::new(None, &tools);
     let mut records = 0;
-    let end = put_all(&tools, disk, &dataset, &mut records, &job);
+    let end = put_all(&tools, &mut crew, disk, &dataset, &mut records, &shared);
     (end, records)
-}
-
-/// What two ranks get, one blob each.
-pub(super) fn get_two<R: Abort + Threads + Wait + Sync>(
-    rt: &R,
-    alloc: Global,
-    disk: &mut MemDisk,
-    set: &Dataset,
-    a: Post,
-    b: Post,
-) -> Result<GotTable, StepErr>
-    requires sound { is_sound set.now.header ≡ true }
-    requires hints { are_lawful_hints set.now.hints ≡ true }
-{
-    let header = &set.header;
-    is_long(rt, header, disk);
-    let len = disk.size();
-    is_get(rt, header, len, &a);
-    is_get(rt, header, len, &b);
-    let job = gets_of(rt, alloc, a, b);
-    let measures = Measures::of(header);
-    let dataset = Lent {
-        header,
-        measures: &measures,
-        hints: &set.hints,
-    };
-    let tools = Tools {
-        rt,
-        alloc,
-        gate: &OpenGate,
-    };
-    get_all(&tools, disk, &dataset, &job)
 }
 
 /// How the put of a rank alone ends.

@@ -2,7 +2,8 @@
 ghost use Rattle.std.specs.Prelude.{◌≡◌, true};
 ghost use Rattle.serial_spec.specs.SoundHeaders.{is_sound};
 
-use super::{IN_TURN, Way, posted, put_by_one, put_two, small_dataset};
+use super::together::put_two;
+use super::{IN_TURN, Way, posted, put_by_one, small_dataset};
 use crate::tests::{OLD, disk_of, has_bytes, has_calls, old_file};
 use collective_round::PutEnd;
 use nc_base::{Blob, DiskCall, Header, NcType, OverlapRule, Pair, StepErr};

@@ -2,7 +2,7 @@
 use Rattle.std.proofs.Common.{ℕ, subst, arith}
 use Rattle.collective_round.specs.Rounds.{gets_in, AreGets}
 use Rattle.step_tests.proofs.TwoPosts.{two_gets}
-use Rattle.step_tests.proofs.tests.steps.get_two.Goals as goal
+use Rattle.step_tests.proofs.tests.steps.together.get_by.Goals as goal
 
 pub is_get-requires : goal.is_get-requires
 is_get-requires g c = omega (arith, c.size-len.ensures.size, c.is_long.ensures.small)

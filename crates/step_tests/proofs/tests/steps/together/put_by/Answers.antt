@@ -1,6 +1,6 @@
 -- Both posts are puts, of which no byte stands twice.
 use Rattle.step_tests.proofs.TwoPosts.{two_own, two_puts}
-use Rattle.step_tests.proofs.tests.steps.put_two.Goals as goal
+use Rattle.step_tests.proofs.tests.steps.together.put_by.Goals as goal
 
 pub put_all-end-requires-clause-puts : goal.put_all-end-requires-clause-puts
 put_all-end-requires-clause-puts g c κs within =
