@@ -1,10 +1,11 @@
 // The two ends of a reply.
-ghost use Rattle.std.specs.Prelude.{◌≡◌, Some, IfOk};
+ghost use Rattle.std.specs.Prelude.{◌≡◌, Some, IfOk, IfSome};
 ghost use Rattle.std.specs.Option.{ForSome};
 
 use crate::reply_rule::{Giving, Named, Naming, ReplyRule, ReplyView, Taking};
 use crossbeam_channel::{Pass, RuledReceiver, RuledSender, bounded_with};
 use nc_base::Memory;
+use ruled_line::LOOKS;
 use std::alloc::Global;
 use std::marker::{Brand, Model};
 use std::snapshot::Snapshot;
@@ -109,17 +110,33 @@ impl<T: Send + Drop, P: Promise<T>> Awaited<T, P> {
     pub fn take<R: Wait>(self, rt: &R) -> T
         ensures { P.kept_by self result }
     {
-        let Awaited {
-            receiver,
-            mut pass,
-            promise: _,
-        } = self;
+        let mut end = self;
+        let mut looks: u32 = 0;
         for _ in rt.forever() {
-            if let Ok(item) = receiver.recv_as::<Taking, R>(rt, &mut pass) {
+            if let Some(item) = end.look(rt, looks < LOOKS) {
                 return item;
             }
+            looks = looks.saturating_add(1);
             thread::yield_now();
         }
         unreachable!()
+    }
+
+    // Takes the item, if it is there: at once, or after sleeping until it comes.
+    fn look<R: Wait>(&mut self, rt: &R, at_once: bool) -> Option<T>
+        ensures kept { IfSome result (λ item. P.kept_by self.old item) }
+        ensures same { self.new ≡ self.old }
+    {
+        if at_once {
+            match self.receiver.try_recv_as::<Taking, R>(rt, &mut self.pass) {
+                Ok(item) => Some(item),
+                Err(_) => None,
+            }
+        } else {
+            match self.receiver.recv_as::<Taking, R>(rt, &mut self.pass) {
+                Ok(item) => Some(item),
+                Err(_) => None,
+            }
+        }
     }
 }

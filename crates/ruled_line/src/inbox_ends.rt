@@ -1,9 +1,10 @@
 // The ends of an inbox.
-ghost use Rattle.std.specs.Prelude.{◌≡◌, ◌≤◌, ◌<◌, ◌+◌, ◌∷◌, ◌++◌, [], length, map, IfOk, All};
+ghost use Rattle.std.specs.Prelude.{◌≡◌, ◌≤◌, ◌<◌, ◌+◌, ◌∷◌, ◌++◌, [], length, map, IfOk, IfSome, IfNone, All};
 ghost use Rattle.std.specs.List.{range_with_len};
 ghost use mathlib.Core.List.{IsPrefix};
 ghost use Rattle.ruled_line.specs.Ends.{items_under};
 
+use crate::LOOKS;
 use crate::inbox_rule::{InboxRule, InboxView, Numbering, Putting, Settling, Taking};
 use crossbeam_channel::{Pass, RuledReceiver, RuledSender, bounded_with};
 use nc_base::{Items, Memory};
@@ -133,13 +134,36 @@ impl<T: Send + Drop> InTake<T> {
         ensures senders { self.new.senders ≡ self.old.senders }
         ensures of { self.new.of ≡ self.old.of }
     {
+        let mut looks: u32 = 0;
         for _ in rt.forever() {
-            if let Ok(item) = self.receiver.recv_as::<Taking, R>(rt, &mut self.pass) {
+            if let Some(item) = self.look(rt, looks < LOOKS) {
                 return item;
             }
+            looks = looks.saturating_add(1);
             thread::yield_now();
         }
         unreachable!()
+    }
+
+    // Takes the item at the front, if there is one: at once, or after sleeping until one comes.
+    fn look<R: Wait>(&mut self, rt: &R, at_once: bool) -> Option<(u32, T)>
+        ensures items { IfSome result (λ item. self.new.items ≡ self.old.items ++ item ∷ []) }
+        ensures number { IfSome result (λ item. item.0 < self.old.senders) }
+        ensures none { IfNone result (self.new.items ≡ self.old.items) }
+        ensures senders { self.new.senders ≡ self.old.senders }
+        ensures of { self.new.of ≡ self.old.of }
+    {
+        if at_once {
+            match self.receiver.try_recv_as::<Taking, R>(rt, &mut self.pass) {
+                Ok(item) => Some(item),
+                Err(_) => None,
+            }
+        } else {
+            match self.receiver.recv_as::<Taking, R>(rt, &mut self.pass) {
+                Ok(item) => Some(item),
+                Err(_) => None,
+            }
+        }
     }
 }
 

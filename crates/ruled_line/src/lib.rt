@@ -14,3 +14,7 @@ mod line_rule;
 pub use inbox_ends::{InPut, InPutList, InTake, inbox, settle_from};
 pub use line_ends::{LinePut, LineTake, line, settle};
 pub use line_list::LinePutList;
+
+/// How often whoever waits looks for what is to come before it sleeps. Between two looks other threads may run. What comes within a few
+/// microseconds is found so, and nobody has to wake a thread for it. (own)
+pub const LOOKS: u32 = 16;

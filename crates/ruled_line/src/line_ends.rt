@@ -1,7 +1,8 @@
 // The two ends of a line.
-ghost use Rattle.std.specs.Prelude.{◌≡◌, ◌≤◌, ◌+◌, ◌∷◌, ◌++◌, [], length, IfOk};
+ghost use Rattle.std.specs.Prelude.{◌≡◌, ◌≤◌, ◌+◌, ◌∷◌, ◌++◌, [], length, IfOk, IfSome, IfNone};
 ghost use mathlib.Core.List.{IsPrefix};
 
+use crate::LOOKS;
 use crate::line_rule::{LineRule, LineView, Putting, Settling, Taking};
 use crossbeam_channel::{Pass, RuledReceiver, RuledSender, bounded_with};
 use nc_base::Memory;
@@ -98,13 +99,34 @@ impl<T: Send + Drop> LineTake<T> {
         ensures items { self.new.items ≡ self.old.items ++ result ∷ [] }
         ensures of { self.new.of ≡ self.old.of }
     {
+        let mut looks: u32 = 0;
         for _ in rt.forever() {
-            if let Ok(item) = self.receiver.recv_as::<Taking, R>(rt, &mut self.pass) {
+            if let Some(item) = self.look(rt, looks < LOOKS) {
                 return item;
             }
+            looks = looks.saturating_add(1);
             thread::yield_now();
         }
         unreachable!()
+    }
+
+    // Takes the item at the front, if there is one: at once, or after sleeping until one comes.
+    fn look<R: Wait>(&mut self, rt: &R, at_once: bool) -> Option<T>
+        ensures some { IfSome result (λ item. self.new.items ≡ self.old.items ++ item ∷ []) }
+        ensures none { IfNone result (self.new.items ≡ self.old.items) }
+        ensures of { self.new.of ≡ self.old.of }
+    {
+        if at_once {
+            match self.receiver.try_recv_as::<Taking, R>(rt, &mut self.pass) {
+                Ok(item) => Some(item),
+                Err(_) => None,
+            }
+        } else {
+            match self.receiver.recv_as::<Taking, R>(rt, &mut self.pass) {
+                Ok(item) => Some(item),
+                Err(_) => None,
+            }
+        }
     }
 }
 
