@@ -1,5 +1,5 @@
 -- A run of ranks at their next offers is that of ranks which wait where they heard their last reply.
-use Rattle.run_laws.proofs.Words.{◌≡◌, ℕ, zero, suc, refl, sym, ◌∙◌, ap, List, [], ◌∷◌, ◌++◌, map, set, Option, Some, None, slice_get, zip, fold, nat_lt, map_map, Header, Call, Hints, Script, DiskCall, Mark, Meet, Solo, Offer, mark_calls, store_records, run_calls, Setting, Counted, meeting, Going, advance, hears, offers_of, solo_of, after_mark, first_going, first_state, setting_of, closed, serial_from, close_by, calls_so_far, Arrived, Stand, solo_to, step_to, step_calls, calls_over, ended_from, all_calls_over, first_stand, map-set}
+use Rattle.run_laws.proofs.Words.{◌≡◌, ℕ, zero, suc, refl, sym, ◌∙◌, ap, List, [], ◌∷◌, ◌++◌, map, set, Option, Some, None, slice_get, fold, nat_lt, map_map, Header, Call, Hints, Script, Mark, Offer, mark_calls, store_records, run_calls, Setting, Counted, Going, advance, solo_of, after_mark, first_state, setting_of, closed, serial_from, calls_so_far, Arrived, Stand, solo_to, step_to, step_calls, calls_over, ended_from, all_calls_over, first_stand, map-set, arith, nat_tests}
 use Rattle.run_laws.proofs.OrderLaws.{calls_close}
 use Rattle.run_laws.proofs.StandingLaws.{calls_at}
 
@@ -28,60 +28,33 @@ state_at s r c goings m = elim m [
 ]
 
 pub arrival_step : (s : Setting) (state : Counted × List Going) (m : Mark) → step_to s (gone_up s state) m ≡ gone_up s (after_mark s state m)
-arrival_step s (c, goings) (Meet k) =
-    let stepped = meeting s (offers_of (map (advance s.header) goings)) c in
-    ap (λ (ranks : List Arrived). (stepped.0, ranks))
-    (sym (map_map (advance s.header) (λ p. hears s.header p.0.0 p.1) (zip (map (advance s.header) goings) stepped.1)))
-arrival_step s (c, goings) (Solo r n) =
-    ap (stand_at s r c (map (advance s.header) goings)) (get_up s goings r) ∙ by (slice_get goings r)
-  where
-    by : (m : Option Going) → stand_at s r c (map (advance s.header) goings) (up s m) ≡ gone_up s (state_at s r c goings m)
-    by None = refl
-    by (Some g) =
-        let done = solo_of s r c (advance s.header g) in
-        ap (λ (ranks : List Arrived). (done.0, ranks)) (sym (map-set (advance s.header) goings r done.1))
+arrival_step s state m = grind (arith, nat_tests, map_map, get_up, map-set)
 
 abbrev pub offer_of : Option Arrived → Option Offer
 offer_of m = elim m [ None ↦ None | Some a ↦ a.1 ]
 
 pub arrival_call : (hints : Hints) (s : Setting) (state : Counted × List Going) (m : Mark) → step_calls hints s (gone_up s state) m ≡ mark_calls hints s state m
-arrival_call hints s (c, goings) (Meet k) = refl
-arrival_call hints s (c, goings) (Solo r n) =
-    ap (λ (m : Option Arrived). calls_at hints s r c (offer_of m)) (get_up s goings r) ∙ by (slice_get goings r)
-  where
-    by : (m : Option Going) → calls_at hints s r c (offer_of (up s m)) ≡ calls_at hints s r c (elim m [ None ↦ None | Some g ↦ (advance s.header g).1 ])
-    by None = refl
-    by (Some g) = refl
+arrival_call hints s state m = grind (arith, nat_tests, calls_at, get_up)
 
 -- ---- a run
 
 pub arrival_steps : (s : Setting) (state : Counted × List Going) (order : List Mark)
     → fold (step_to s) (gone_up s state) order ≡ gone_up s (fold (after_mark s) state order)
 arrival_steps s state [] = refl
-arrival_steps s state (m ∷ order) =
-    ap (λ (stand : Stand). fold (step_to s) stand order) (arrival_step s state m) ∙ arrival_steps s (after_mark s state m) order
+arrival_steps s state (m ∷ order) = grind (arith, nat_tests, arrival_steps s (after_mark s state m) order, arrival_step)
 
 pub arrival_calls : (hints : Hints) (s : Setting) (state : Counted × List Going) (order : List Mark)
     → calls_over hints s (gone_up s state) order ≡ calls_so_far hints s state order
 arrival_calls hints s state [] = refl
-arrival_calls hints s state (m ∷ order) =
-    let first = arrival_call hints s state m in
-    let next = arrival_step s state m in
-    (λ i. first i ++ calls_over hints s (next i) order)
-    ∙ ap (λ (cs : List DiskCall). mark_calls hints s state m ++ cs) (arrival_calls hints s (after_mark s state m) order)
+arrival_calls hints s state (m ∷ order) = grind (arith, nat_tests, arrival_calls hints s (after_mark s state m) order, arrival_call, arrival_step)
 
 arrival_end : (s : Setting) (state : Counted × List Going) (order : List Mark)
     → ended_from s (gone_up s state) order ≡ closed s (fold (after_mark s) state order)
-arrival_end s state order =
-    ap (λ (stand : Stand). close_by s stand.0 (map (λ a. a.0) stand.1)) (arrival_steps s state order)
-    ∙ ap (λ (gs : List Going). close_by s (fold (after_mark s) state order).0 gs)
-    (map_map (λ (a : Arrived). a.0) (advance s.header) (fold (after_mark s) state order).1)
+arrival_end s state order = grind (arith, nat_tests, arrival_steps, map_map)
 
 pub first_up : (header : Header) (s : Setting) (file : List ℕ) (calls : List (List Call)) → s.header ≡ header
     → first_stand header file calls ≡ gone_up s (first_state header file calls)
-first_up header s file calls e =
-    ap (λ (ranks : List Arrived). (record { file = file; records = header.records }, ranks))
-    (sym (map_map (advance header) (first_going header) calls) ∙ ap (λ (h : Header). map (advance h) (map (first_going header) calls)) (sym e))
+first_up header s file calls e = grind (arith, nat_tests, map_map)
 
 pub serial_of_arrivals : (script : Script) (header : Header) (file : List ℕ) (order : List Mark)
     → serial_from script header file order ≡ ended_from (setting_of script header) (first_stand header file script.calls) order

@@ -1,5 +1,5 @@
 -- One call of a rank: its mode, its kind, its mark, its offer and its requests.
-use Rattle.run_laws.proofs.Words.{◌≡◌, ℕ, refl, sym, ◌∙◌, ap, subst, List, [], ◌∷◌, ◌++◌, map, Bool, true, false, cond, not, ◌&&◌, max, Option, Some, None, ◌==◌, if◌then◌else◌, is_none, is_some, IfSome, find, option_map, and-false, value_of_some, Header, Call, Code, Answer, Batch, Post, Offer, OfferKind, MeetKind, Reply, Want, Look, Refused, Empty, Asks, look, Rank, Open, Posted, Status, Gone, NullRequest, Waiting, step, hear, hear_open, posts, post_after, attach_code, detach_code, buffer_code, bytes_in, values_of_post, status_of, is_chosen, named, without_chosen, with_posted, is_ok_code, is_collective, is_data, mode_after, kind_of_call, id_posted}
+use Rattle.run_laws.proofs.Words.{◌≡◌, ℕ, refl, sym, ◌∙◌, ap, subst, List, [], ◌∷◌, ◌++◌, map, Bool, true, false, cond, not, ◌&&◌, max, Option, Some, None, ◌==◌, if◌then◌else◌, is_none, is_some, IfSome, and-false, value_of_some, Header, Call, Code, Answer, Batch, Post, Offer, OfferKind, MeetKind, Reply, Want, Look, Refused, Empty, Asks, look, Rank, Open, Posted, Status, Gone, NullRequest, Waiting, step, hear, posts, post_after, buffer_code, bytes_in, values_of_post, status_of, is_chosen, named, without_chosen, with_posted, is_collective, is_data, mode_after, kind_of_call, id_posted, arith, nat_tests}
 use Rattle.nc_base.specs.declared.request.Call.TheVariants as call
 use Rattle.nc_base.specs.declared.answer.Code.TheVariants as code
 use Rattle.nc_base.specs.declared.step.OfferKind.TheVariants as offer
@@ -20,37 +20,13 @@ abbrev pub Frees : Rank → Call → Rank → Type 0
 Frees r c r' = (id : ℕ) → is_other (id_posted c) id ≡ true → is_free r.posted id ≡ true → is_free r'.posted id ≡ true
 
 free_after : (posted : List Posted) (p : Posted) (id : ℕ) → not (p.id == id) ≡ true → is_free posted id ≡ true → is_free (posted ++ p ∷ []) id ≡ true
-free_after [] p id e h = by (p.id == id) e
-  where
-    by : (t : Bool) → not t ≡ true → is_none (option_map (λ q. q.status) (cond t (Some p) None)) ≡ true
-    by true w = cc
-    by false w = refl
-free_after (q ∷ posted) p id e h = by (q.id == id) h (free_after posted p id e)
-  where
-    by : (t : Bool) → is_none (option_map (λ x. x.status) (cond t (Some q) (find (λ x. x.id == id) posted))) ≡ true
-        → (is_free posted id ≡ true → is_free (posted ++ p ∷ []) id ≡ true)
-        → is_none (option_map (λ x. x.status) (cond t (Some q) (find (λ x. x.id == id) (posted ++ p ∷ [])))) ≡ true
-    by true w again = cc
-    by false w again = again w
+free_after [] p id e h = grind (arith, nat_tests, not)
+free_after (q ∷ posted) p id e h = grind (arith, nat_tests, free_after posted p id e)
 
 free_gone : (c : Posted → Bool) (posted : List Posted) (id : ℕ) → is_free posted id ≡ true
     → is_free (map (λ p. if c p then record p { status = Gone } else p) posted) id ≡ true
 free_gone c [] id h = refl
-free_gone c (q ∷ posted) id h = by_chosen (c q) h (free_gone c posted id)
-  where
-    by : (t : Bool) (q' : Posted) (m m' : Option Posted) → is_none (option_map (λ x. x.status) (cond t (Some q) m)) ≡ true
-        → (is_none (option_map (λ x. x.status) m) ≡ true → is_none (option_map (λ x. x.status) m') ≡ true)
-        → is_none (option_map (λ x. x.status) (cond t (Some q') m')) ≡ true
-    by true q' m m' w again = cc
-    by false q' m m' w again = again w
-
-    gone : List Posted
-    gone = map (λ p. if c p then record p { status = Gone } else p) posted
-
-    by_chosen : (t : Bool) → is_free (q ∷ posted) id ≡ true → (is_free posted id ≡ true → is_free gone id ≡ true)
-        → is_free (cond t (record q { status = Gone }) q ∷ gone) id ≡ true
-    by_chosen true w again = by (q.id == id) (record q { status = Gone }) _ _ w again
-    by_chosen false w again = by (q.id == id) q _ _ w again
+free_gone c (q ∷ posted) id h = grind (arith, nat_tests, free_gone c posted id)
 
 -- ---- what a call does
 
@@ -102,26 +78,10 @@ with_true false t e = e
 
 answered_alone : (r : Rank) (c : Call) (r' : Rank) → r'.independent ≡ r.independent → r'.known ≡ r.known → r'.«open» ≡ r.«open» → is_data c ≡ false
     → is_collective c ≡ false → kind_of_call c ≡ None → Frees r c r' → Alone r c r'
-answered_alone r c r' mode known still of_data alone kind frees = record {
-  mode = mode;
-  known = known;
-  still = still;
-  solo = ap (λ (b : Bool). r.independent && b) of_data ∙ and-false r.independent;
-  alone = alone;
-  kind = kind;
-  frees = frees;
-}
+answered_alone r c r' mode known still of_data alone kind frees = grind (arith, nat_tests, and-false)
 
 refused_alone : (r : Rank) (c : Call) → r.independent ≡ false → is_data c ≡ true → is_collective c ≡ false → kind_of_call c ≡ None → Alone r c r
-refused_alone r c e of_data alone kind = record {
-  mode = refl;
-  known = refl;
-  still = refl;
-  solo = ap (λ (b : Bool). r.independent && b) of_data ∙ with_true r.independent false e;
-  alone = alone;
-  kind = kind;
-  frees = λ id h f. f;
-}
+refused_alone r c e of_data alone kind = grind (arith, nat_tests, with_true)
 
 asks_with : (r : Rank) (c : Call) (k : OfferKind) (b : Batch) (o : Open) → o.independent ≡ mode_after r.independent c → o.gets ≡ b.gets
     → Asking r c (record r { «open» = Some o }) (record { kind = k; known = r.known; batch = b })
@@ -135,46 +95,23 @@ meets_with r c k b o e f kind together = record { asking = asks_with r c (offer.
 solo_with : (r : Rank) (c : Call) (b : Batch) (o : Open) → o.independent ≡ mode_after r.independent c → o.gets ≡ b.gets
     → kind_of_call c ≡ None → is_collective c ≡ false → is_data c ≡ true → r.independent ≡ true
     → AloneAsking r c (record r { «open» = Some o }) (record { kind = offer.Solo; known = r.known; batch = b })
-solo_with r c b o e f kind alone of_data mode = record {
-  asking = asks_with r c offer.Solo b o e f;
-  kind = kind;
-  is_solo = refl;
-  alone = alone;
-  solo = ap (λ (t : Bool). r.independent && t) of_data ∙ with_true r.independent true mode;
-}
+solo_with r c b o e f kind alone of_data mode = grind (arith, nat_tests, asks_with, with_true)
 
 -- after those of the chosen are gone
 gone_asks : (r : Rank) (c : Call) (r' r'' : Rank) (o : Offer) → id_posted c ≡ None → r'.independent ≡ r.independent → r'.known ≡ r.known
     → ((id : ℕ) → is_free r.posted id ≡ true → is_free r'.posted id ≡ true) → Asking r' c r'' o → Asking r c r'' o
-gone_asks r c r' r'' o none mode known frees w = record {
-  known = w.known ∙ known;
-  told = w.told ∙ known;
-  open_with = w.open_with;
-  is_open = w.is_open;
-  mode = w.mode ∙ ap (λ (b : Bool). mode_after b c) mode;
-  gets = w.gets;
-  kept = w.kept ∙ mode;
-  frees = λ id h f. w.frees id h (frees id f);
-}
+gone_asks r c r' r'' o none mode known frees w = grind (arith, nat_tests)
 
 post_frees : (r : Rank) (c : Call) (id : ℕ) (s : Status) → id_posted c ≡ Some id → Frees r c (with_posted r id s)
-post_frees r c id s e n other free =
-    free_after r.posted (record { id = id; status = s }) n (sym (ap (λ (m : Option ℕ). is_other m n) e) ∙ other) free
+post_frees r c id s e n other free = grind (arith, nat_tests, free_after)
 
 pub step_says : (header : Header) (r : Rank) (c : Call) → Says r c (step header r c)
-step_says header r (call.Put true name given values) =
-    either (Says r (call.Put true name given values)) r.independent _ _ (λ e. meets_with r _ meets.Put _ _ refl refl refl refl) (λ e. meets_with r _ meets.Put _ _ refl refl refl refl)
-step_says header r (call.Put false name given values) =
-    either (Says r (call.Put false name given values)) r.independent _ _ (λ e. solo_with r _ _ _ refl refl refl refl refl e) (λ e. refused_alone r _ e refl refl refl)
-step_says header r (call.Get true name given) =
-    either (Says r (call.Get true name given)) r.independent _ _ (λ e. meets_with r _ meets.Get _ _ refl refl refl refl) (λ e. meets_with r _ meets.Get _ _ refl refl refl refl)
-step_says header r (call.Get false name given) =
-    either (Says r (call.Get false name given)) r.independent _ _ (λ e. solo_with r _ _ _ refl refl refl refl refl e) (λ e. refused_alone r _ e refl refl refl)
+step_says header r (call.Put true name given values) = grind (arith, nat_tests, either, meets_with)
+step_says header r (call.Put false name given values) = grind (arith, nat_tests, either, solo_with, refused_alone)
+step_says header r (call.Get true name given) = grind (arith, nat_tests, either, meets_with)
+step_says header r (call.Get false name given) = grind (arith, nat_tests, either, solo_with, refused_alone)
 step_says header r (call.Post id kind name given values) = by_look (look header r.known id name given (values_of_post kind values))
   where
-    this : Call
-    this = call.Post id kind name given values
-
     same : Alone r (call.Post id kind name given values) r
     same = answered_alone r (call.Post id kind name given values) r refl refl refl refl refl refl (λ n h f. f)
 
@@ -212,21 +149,13 @@ step_says header r (call.Wait false choice) =
     (λ e. refused_alone r _ e refl refl refl)
 step_says header r (call.Cancel choice) =
     answered_alone r (call.Cancel choice) (without_chosen r choice) refl refl refl refl refl refl (λ id h f. free_gone (is_chosen (named r choice)) r.posted id f)
-step_says header r (call.Attach size) =
-    either (λ (x : Rank). Alone r (call.Attach size) x) (is_ok_code (attach_code r.attached size)) _ _
-    (λ e. answered_alone r (call.Attach size) _ refl refl refl refl refl refl (λ n h f. f))
-    (λ e. answered_alone r (call.Attach size) r refl refl refl refl refl refl (λ n h f. f))
-step_says header r call.Detach =
-    either (λ (x : Rank). Alone r call.Detach x) (is_ok_code (detach_code r)) _ _
-    (λ e. answered_alone r call.Detach _ refl refl refl refl refl refl (λ n h f. f))
-    (λ e. answered_alone r call.Detach r refl refl refl refl refl refl (λ n h f. f))
+step_says header r (call.Attach size) = grind (arith, nat_tests, either, answered_alone)
+step_says header r call.Detach = grind (arith, nat_tests, either, answered_alone)
 step_says header r call.BeginIndep = meets_with r call.BeginIndep meets.Begin _ _ refl refl refl refl
 step_says header r call.EndIndep = meets_with r call.EndIndep meets.End _ _ refl refl refl refl
 step_says header r call.SyncRecords = meets_with r call.SyncRecords meets.Sync _ _ refl refl refl refl
 step_says header r (call.InqDim name) = answered_alone r (call.InqDim name) r refl refl refl refl refl refl (λ n h f. f)
-step_says header r (call.FillRec name number share ranks) =
-    either (Says r (call.FillRec name number share ranks)) r.independent _ _
-    (λ e. meets_with r _ meets.Put _ _ refl refl refl refl) (λ e. meets_with r _ meets.Put _ _ refl refl refl refl)
+step_says header r (call.FillRec name number share ranks) = grind (arith, nat_tests, either, meets_with)
 
 -- what is known where the step is
 pub says_at : (header : Header) (r : Rank) (c : Call) (p : Rank × Want) → p ≡ step header r c → Says r c p
@@ -247,16 +176,11 @@ keeps_gets (Some v) o w e f = let a : v ≡ w = cc in (refl, ap (λ (x : Open). 
 
 pub meets_keeps : (header : Header) (rank next : Rank) (c : Call) (o : Offer) → (next, want.Meet o) ≡ step header rank c
     → (next.known ≡ rank.known) × ((o.known ≡ rank.known) × Keeps next.«open» o)
-meets_keeps header rank next c o e =
-    let w = (says_at header rank c (next, want.Meet o) e).asking in
-    (w.known, (w.told, keeps_gets next.«open» o w.open_with w.is_open w.gets))
+meets_keeps header rank next c o e = grind (arith, nat_tests, says_at header rank c (next, want.Meet o) e, keeps_gets)
 
 pub solo_keeps : (header : Header) (rank next : Rank) (c : Call) (o : Offer) → (next, want.Solo o) ≡ step header rank c
     → (o.kind ≡ offer.Solo) × ((next.known ≡ rank.known) × ((o.known ≡ rank.known) × Keeps next.«open» o))
-solo_keeps header rank next c o e =
-    let v = says_at header rank c (next, want.Solo o) e in
-    let w = v.asking in
-    (v.is_solo, (w.known, (w.told, keeps_gets next.«open» o w.open_with w.is_open w.gets)))
+solo_keeps header rank next c o e = grind (arith, nat_tests, says_at header rank c (next, want.Solo o) e, keeps_gets)
 
 -- ---- hearing
 
@@ -269,18 +193,8 @@ pub record Heard (rank heard : Rank) (reply : Reply) (o : Open) : Type 0 where
 
 pub heard_at : (header : Header) (rank heard : Rank) (reply : Reply) (a : Answer) (o : Open) → rank.«open» ≡ Some o → (heard, a) ≡ hear header rank reply
     → Heard rank heard reply o
-heard_at header rank heard reply a o e f =
-    let g : (heard, a) ≡ hear_open header rank reply (Some o) = f ∙ ap (λ (m : Option Open). hear_open header rank reply m) e in
-    record {
-      known = ap (λ (p : Rank × Answer). p.0.known) g;
-      closed = ap (λ (p : Rank × Answer). p.0.«open») g;
-      posted = ap (λ (p : Rank × Answer). p.0.posted) g;
-      mode = ap (λ (p : Rank × Answer). p.0.independent) g;
-    }
+heard_at header rank heard reply a o e f = grind (arith, nat_tests)
 
 pub hears_keeps : (header : Header) (rank heard : Rank) (reply : Reply) (a : Answer) → is_some rank.«open» ≡ true → (heard, a) ≡ hear header rank reply
     → (heard.known ≡ max rank.known reply.records) × ((heard.«open» ≡ None) × (heard.posted ≡ rank.posted))
-hears_keeps header rank heard reply a e f =
-    let o = value_of_some rank.«open» e in
-    let w = heard_at header rank heard reply a o.0 o.1 f in
-    (w.known, (w.closed, w.posted))
+hears_keeps header rank heard reply a e f = grind (arith, nat_tests, value_of_some, heard_at)

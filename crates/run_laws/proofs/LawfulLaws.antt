@@ -1,5 +1,5 @@
 -- What a lawful script has of the calls of one rank.
-use Rattle.run_laws.proofs.Words.{◌≡◌, ℕ, zero, suc, ◌+◌, ◌≤◌, refl, sym, ap, List, [], ◌∷◌, length, map, true, Option, Some, None, arith, bytes_eq-Decides, slice_get, bytes_eq, fold, list_all, enumerate_from, cons_option, same_Some, passes_at, Call, Script, MeetKind, kinds, kind_number, kind_of_call, is_lawful, is_lawful_call, agree, kind_numbers, are_different, posted_ids, most_calls, IsLawful, kinds_of, le_two, lawful_parts}
+use Rattle.run_laws.proofs.Words.{◌≡◌, ℕ, zero, suc, ◌+◌, ◌≤◌, refl, sym, ap, List, [], ◌∷◌, length, map, true, Some, arith, bytes_eq-Decides, slice_get, fold, list_all, enumerate_from, same_Some, passes_at, Call, Script, MeetKind, kinds, kind_number, is_lawful, is_lawful_call, agree, kind_numbers, are_different, posted_ids, most_calls, IsLawful, kinds_of, le_two, lawful_parts, nat_tests}
 use Rattle.nc_base.specs.declared.step.MeetKind.TheVariants as meets
 
 -- ---- tests and lists
@@ -26,40 +26,23 @@ get_length (o ∷ calls) (suc r) own e = get_length calls r own e
 -- ---- the ranks agree
 
 same_kind : (a b : MeetKind) → kind_number (Some a) ≡ kind_number (Some b) → a ≡ b
-same_kind meets.Put meets.Put e = refl
-same_kind meets.Get meets.Get e = refl
-same_kind meets.Wait meets.Wait e = refl
-same_kind meets.Begin meets.Begin e = refl
-same_kind meets.End meets.End e = refl
-same_kind meets.Sync meets.Sync e = refl
-same_kind a b e = absurd (omega arith)
+same_kind a b e = grind (arith, nat_tests)
 
 same_kinds : (a b : List MeetKind) → map (λ k. kind_number (Some k)) a ≡ map (λ k. kind_number (Some k)) b → a ≡ b
 same_kinds [] [] e = refl
 same_kinds [] (k ∷ b) e = cc
 same_kinds (k ∷ a) [] e = cc
-same_kinds (j ∷ a) (k ∷ b) e =
-    let first : kind_number (Some j) ≡ kind_number (Some k) = cc in
-    let rest : map (λ k. kind_number (Some k)) a ≡ map (λ k. kind_number (Some k)) b = cc in
-    let f = same_kind j k first in
-    let g = same_kinds a b rest in
-    λ i. f i ∷ g i
+same_kinds (j ∷ a) (k ∷ b) e = grind (arith, nat_tests, same_kinds a b, same_kind)
 
 pub one_list : (calls : List (List Call)) (r : ℕ) (own : List Call) → agree calls ≡ true → slice_get calls r ≡ Some own
     → kinds own ≡ elim calls [ [] ↦ [] | first ∷ others ↦ kinds first ]
 one_list [] r own h e = cc
 one_list (first ∷ others) zero own h e = sym (ap (λ (l : List Call). kinds l) (same_Some first own e))
-one_list (first ∷ others) (suc r) own h e =
-    same_kinds (kinds own) (kinds first) ((bytes_eq-Decides (kind_numbers own) (kind_numbers first)).0
-    (passes_at (λ o. bytes_eq (kind_numbers o) (kind_numbers first)) others h r own e))
+one_list (first ∷ others) (suc r) own h e = grind (arith, nat_tests, bytes_eq-Decides (kind_numbers own) (kind_numbers first), same_kinds, passes_at)
 
 kinds_few : (calls : List Call) → length (kinds calls) ≤ length calls
 kinds_few [] = omega arith
-kinds_few (c ∷ calls) = by (kind_of_call c) (kinds_few calls)
-  where
-    by : (m : Option MeetKind) → length (kinds calls) ≤ length calls → length (cons_option m (kinds calls)) ≤ length (c ∷ calls)
-    by None h = omega arith
-    by (Some k) h = omega arith
+kinds_few (c ∷ calls) = grind (arith, nat_tests, kinds_few calls)
 
 -- ---- a lawful script
 

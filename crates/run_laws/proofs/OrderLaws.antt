@@ -1,5 +1,5 @@
 -- Longer orders: their states and device calls, and the solo steps of one rank in a row.
-use Rattle.run_laws.proofs.Words.{◌≡◌, ℕ, refl, sym, ◌∙◌, ap, List, [], ◌∷◌, ◌++◌, set, true, Some, append_assoc, append-nil, set-set, fold-append, slice_get, ◌==◌, nat_lt, fold, list_all, eqb-true, and_first, and_second, Header, Hints, Script, Mark, Meet, Solo, DiskCall, Setting, Counted, mark_calls, store_records, calls_from, Going, setting_of, first_state, state_after, after_mark, after_solo, solo_of, advance, closed, is_solo_of, own_step, own_calls, calls_so_far, entry_set, set_own}
+use Rattle.run_laws.proofs.Words.{◌≡◌, ℕ, refl, sym, ◌∙◌, ap, List, [], ◌∷◌, ◌++◌, set, true, Some, append_assoc, append-nil, set-set, fold-append, slice_get, ◌==◌, nat_lt, fold, list_all, eqb-true, and_first, and_second, Header, Hints, Script, Mark, Meet, Solo, Setting, Counted, mark_calls, store_records, calls_from, Going, setting_of, first_state, state_after, after_mark, after_solo, solo_of, advance, closed, is_solo_of, own_step, own_calls, calls_so_far, entry_set, set_own, arith, nat_tests}
 use Rattle.run_laws.proofs.StandingLaws.{solo_goes, solo_calls_go}
 
 -- ---- states
@@ -17,24 +17,17 @@ state_more script header file order m = states_more script header file order (m 
 pub calls_more : (hints : Hints) (s : Setting) (state : Counted × List Going) (order more : List Mark)
     → calls_so_far hints s state (order ++ more) ≡ calls_so_far hints s state order ++ calls_so_far hints s (fold (after_mark s) state order) more
 calls_more hints s state [] more = refl
-calls_more hints s state (m ∷ order) more =
-    ap (λ (cs : List DiskCall). mark_calls hints s state m ++ cs) (calls_more hints s (after_mark s state m) order more)
-    ∙ sym (append_assoc (mark_calls hints s state m) (calls_so_far hints s (after_mark s state m) order)
-    (calls_so_far hints s (fold (after_mark s) (after_mark s state m) order) more))
+calls_more hints s state (m ∷ order) more = grind (arith, nat_tests, calls_more hints s (after_mark s state m) order more, append_assoc)
 
 pub call_more : (hints : Hints) (s : Setting) (state : Counted × List Going) (order : List Mark) (m : Mark)
     → calls_so_far hints s state (order ++ m ∷ []) ≡ calls_so_far hints s state order ++ mark_calls hints s (fold (after_mark s) state order) m
-call_more hints s state order m =
-    calls_more hints s state order (m ∷ [])
-    ∙ ap (λ (cs : List DiskCall). calls_so_far hints s state order ++ cs) (append-nil (mark_calls hints s (fold (after_mark s) state order) m))
+call_more hints s state order m = grind (arith, nat_tests, calls_more, append-nil)
 
 pub calls_close : (hints : Hints) (s : Setting) (state : Counted × List Going) (order : List Mark)
     → calls_from hints s state order ≡ calls_so_far hints s state order
     ++ store_records s (nat_lt (fold (after_mark s) state order).0.records (closed s (fold (after_mark s) state order)).records)
 calls_close hints s state [] = refl
-calls_close hints s state (m ∷ order) =
-    ap (λ (cs : List DiskCall). mark_calls hints s state m ++ cs) (calls_close hints s (after_mark s state m) order)
-    ∙ sym (append_assoc (mark_calls hints s state m) (calls_so_far hints s (after_mark s state m) order) _)
+calls_close hints s state (m ∷ order) = grind (arith, nat_tests, calls_close hints s (after_mark s state m) order, append_assoc)
 
 -- ---- the solo steps of one rank
 

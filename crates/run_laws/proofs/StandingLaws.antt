@@ -1,5 +1,5 @@
 -- A rank that answers alone, and the steps of ranks that stand at their offers.
-use Rattle.run_laws.proofs.Words.{◌≡◌, ℕ, suc, refl, sym, ◌∙◌, ap, List, [], ◌∷◌, ◌++◌, length, map, set, Option, Some, None, arith, slice_get, zip, Header, Call, Answer, Hints, Mark, Meet, Solo, Offer, Reply, DiskCall, Want, Setting, Counted, meeting, solo, mark_calls, meeting_calls, solo_calls, step, hear, Going, go, advance, hears, offers_of, after_meeting, after_solo, solo_of, closed, close_by, answered, asking, HasCome, AreAt, AreEnded, all_hear, own_step}
+use Rattle.run_laws.proofs.Words.{◌≡◌, ℕ, suc, refl, sym, ◌∙◌, ap, List, [], ◌∷◌, ◌++◌, length, map, set, Option, Some, None, arith, slice_get, zip, Header, Call, Answer, Hints, Mark, Meet, Solo, Offer, Reply, DiskCall, Want, Setting, Counted, meeting, solo, mark_calls, meeting_calls, solo_calls, step, hear, Going, go, advance, hears, offers_of, after_meeting, after_solo, solo_of, closed, close_by, answered, asking, HasCome, AreAt, AreEnded, all_hear, own_step, nat_tests}
 use Rattle.nc_base.specs.declared.step.Want.TheVariants as want
 use Rattle.serial_spec.specs.RankMachine as machine
 
@@ -29,9 +29,7 @@ pub comes_to_solo : (header : Header) (g s : Going) (next : machine.Rank) (o : O
 comes_to_solo header g s next o c calls h e f = sym (ap (went_by header s.answers calls) f ∙ sym (next_call header s c calls e) ∙ h)
 
 pub comes_to_end : (header : Header) (g s : Going) → HasCome header g s → s.calls ≡ [] → advance header g ≡ (s, None)
-comes_to_end header g s h e =
-    let f = sym e in
-    sym h ∙ ap (λ (cs : List Call). go header s.rank s.answers cs) e ∙ (λ i. (record { rank = s.rank; answers = s.answers; calls = f i }, None))
+comes_to_end header g s h e = grind (arith, nat_tests)
 
 pub hears_as : (header : Header) (s : Going) (reply : Reply) (heard : machine.Rank) (a : Answer)
     → (heard, a) ≡ hear header s.rank reply → hears header s reply ≡ answered s heard a s.calls
@@ -88,35 +86,28 @@ meeting_of s c goings ss offers w =
 pub meeting_calls_of : (hints : Hints) (s : Setting) (c : Counted) (goings ss : List Going) (offers : List Offer) (k : ℕ) → AreAt s.header goings ss offers
     → mark_calls hints s (c, goings) (Meet k) ≡ meeting_calls hints s offers c
 meeting_calls_of hints s c goings ss offers k w =
-    ap (λ (at : List (Going × Option Offer)). meeting_calls hints s (offers_of at) c) (arrived s.header goings ss offers w)
-    ∙ ap (λ (os : List Offer). meeting_calls hints s os c) (offers_at ss offers (beside_offers s.header goings ss offers w))
+    grind (arith, nat_tests, arrived s.header goings ss offers w, offers_at ss offers (beside_offers s.header goings ss offers w), beside_offers)
 
 -- ---- one rank at its solo offer
 
 pub solo_goes : (s : Setting) (r : ℕ) (c : Counted) (goings : List Going) (g : Going) → slice_get goings r ≡ Some g
     → after_solo s r c goings ≡ ((solo_of s r c (advance s.header g)).0, set goings r (solo_of s r c (advance s.header g)).1)
-solo_goes s r c goings g e = ap (λ (m : Option Going). elim m [
-  | None ↦ (c, goings)
-  | Some x ↦ ((solo_of s r c (advance s.header x)).0, set goings r (solo_of s r c (advance s.header x)).1)
-]) e
+solo_goes s r c goings g e = grind (arith, nat_tests, set)
 
 pub solo_at : (s : Setting) (r : ℕ) (c : Counted) (goings : List Going) (g t : Going) (o : Offer) → slice_get goings r ≡ Some g → advance s.header g ≡ (t, Some o)
     → after_solo s r c goings ≡ ((solo s r o c).0, set goings r (hears s.header t (solo s r o c).1))
-solo_at s r c goings g t o e f =
-    solo_goes s r c goings g e ∙ ap (λ (p : Going × Option Offer). ((solo_of s r c p).0, set goings r (solo_of s r c p).1)) f
+solo_at s r c goings g t o e f = grind (arith, nat_tests, solo_goes, set)
 
 abbrev pub calls_at : Hints → Setting → ℕ → Counted → Option Offer → List DiskCall
 calls_at hints s r c m = elim m [ None ↦ [] | Some o ↦ solo_calls hints s r o c ]
 
 pub solo_calls_go : (hints : Hints) (s : Setting) (r n : ℕ) (c : Counted) (goings : List Going) (g : Going) → slice_get goings r ≡ Some g
     → mark_calls hints s (c, goings) (Solo r n) ≡ elim ((advance s.header g).1) [ None ↦ [] | Some o ↦ solo_calls hints s r o c ]
-solo_calls_go hints s r n c goings g e =
-    ap (λ (m : Option Going). calls_at hints s r c (elim m [ None ↦ None | Some x ↦ (advance s.header x).1 ])) e
+solo_calls_go hints s r n c goings g e = grind (arith, nat_tests)
 
 pub solo_calls_at : (hints : Hints) (s : Setting) (r n : ℕ) (c : Counted) (goings : List Going) (g t : Going) (o : Offer)
     → slice_get goings r ≡ Some g → advance s.header g ≡ (t, Some o) → mark_calls hints s (c, goings) (Solo r n) ≡ solo_calls hints s r o c
-solo_calls_at hints s r n c goings g t o e f =
-    solo_calls_go hints s r n c goings g e ∙ ap (λ (p : Going × Option Offer). calls_at hints s r c p.1) f
+solo_calls_at hints s r n c goings g t o e f = grind (arith, nat_tests, solo_calls_go)
 
 pub own_step_at : (s : Setting) (r : ℕ) (c : Counted) (g t : Going) (o : Offer) (m : Mark) → advance s.header g ≡ (t, Some o)
     → own_step s r (c, g) m ≡ ((solo s r o c).0, hears s.header t (solo s r o c).1)

@@ -1,5 +1,5 @@
 -- What a rank on its way has at its next call, and that all ranks meet and end together.
-use Rattle.run_laws.proofs.Words.{◌≡◌, ℕ, suc, ◌+◌, ◌*◌, ◌^◌, ◌<◌, ◌≤◌, ◌≢◌, refl, sym, ◌∙◌, ap, subst, List, [], ◌∷◌, ◌++◌, length, drop, true, Option, Some, None, arith, length-drop, append-nil, list_all-append, nat_tests, slice_get, ◌==◌, nat_lt, filter, list_all, and_from, eqb-true, entry_below, first_same, none_of_test, and_first, and_second, Call, Script, Mark, Meet, Solo, MeetKind, Offer, Open, Going, kinds, marks, marks_from, concerns, is_of_rank_below, IsLegal, is_lawful, is_lawful_call, most_calls, most_parts, posted_ids, IsFresh, IsShare, posts_held, meetings, kinds_of, Waits, IsOnWay}
+use Rattle.run_laws.proofs.Words.{◌≡◌, ℕ, suc, ◌+◌, ◌*◌, ◌^◌, ◌<◌, ◌≤◌, ◌≢◌, refl, ◌∙◌, List, [], ◌∷◌, ◌++◌, length, drop, true, Option, Some, None, arith, length-drop, append-nil, list_all-append, nat_tests, slice_get, nat_lt, filter, list_all, and_from, eqb-true, entry_below, first_same, none_of_test, and_first, and_second, Call, Script, Mark, Meet, Solo, MeetKind, Offer, Open, Going, kinds, marks, concerns, is_of_rank_below, IsLegal, is_lawful, is_lawful_call, most_calls, most_parts, posted_ids, IsFresh, IsShare, posts_held, meetings, kinds_of, Waits, IsOnWay}
 use Rattle.nc_base.specs.declared.request.Call.TheVariants as call
 use Rattle.nc_base.specs.declared.step.OfferKind.TheVariants as offer
 use Rattle.serial_spec.specs.RankMachine as machine
@@ -22,26 +22,14 @@ fresh_first r c calls h = tt
 
 pub call_fresh : (script : Script) (order : List Mark) (r : ℕ) (s : Going) (c : Call) (calls : List Call) → IsOnWay script order r s None → s.calls ≡ c ∷ calls
     → IsFresh s.rank c
-call_fresh script order r s c calls w e =
-    fresh_first s.rank c calls (subst (λ (cs : List Call). list_all (is_free s.rank.posted) (posted_ids cs) ≡ true) e w.new.fresh)
+call_fresh script order r s c calls w e = grind (arith, nat_tests, fresh_first)
 
 pub call_lawful : (script : Script) (order : List Mark) (r : ℕ) (s : Going) (c : Call) (calls : List Call) → IsOnWay script order r s None → s.calls ≡ c ∷ calls
     → is_lawful_call script.ranks r c ≡ true
-call_lawful script order r s c calls w e =
-    and_first (is_lawful_call script.ranks r c) _ (sym (ap (λ (cs : List Call). list_all (is_lawful_call script.ranks r) cs) e) ∙ w.lawful)
+call_lawful script order r s c calls w e = grind (arith, nat_tests, and_first)
 
 share_of : (ranks r : ℕ) (c : Call) → r < ranks → ranks ≤ 64 → is_lawful_call ranks r c ≡ true → IsShare c
-share_of ranks r (call.FillRec name number share others) l m h =
-    let one = eqb-true share r (and_second _ _ (and_first _ (others == ranks) h)) in
-    let all = eqb-true others ranks (and_second _ _ h) in
-    (below share r ranks others one l all, few others ranks all m)
-  where
-    below : (a b c d : ℕ) → a ≡ b → b < c → d ≡ c → a < d
-    below a b c d e k f = omega arith
-
-    few : (a b : ℕ) → a ≡ b → b ≤ 64 → a ≤ 64
-    few a b e k = omega arith
-share_of ranks r c l m h = tt
+share_of ranks r c l m h = grind (arith, nat_tests, eqb-true, and_second, and_first)
 
 pub call_share : (script : Script) (order : List Mark) (r : ℕ) (s : Going) (c : Call) (calls : List Call) → is_lawful script ≡ true → r < script.ranks
     → IsOnWay script order r s None → s.calls ≡ c ∷ calls → IsShare c
@@ -62,20 +50,14 @@ pub call_posts : (script : Script) (order : List Mark) (r : ℕ) (s : Going) (c 
 call_posts script order r s c calls w e = room_left _ _ w.posts (call_number script order r s c calls w e)
 
 pub call_waits : (script : Script) (order : List Mark) (r : ℕ) (s : Going) (o : Offer) → IsOnWay script order r s (Some o) → Keeps s.rank.«open» o
-call_waits script order r s o w = by s.rank.«open» w.waits
-  where
-    by : (m : Option Open) → Waits m (Some o) → Keeps m o
-    by None h = absurd h
-    by (Some v) h = (refl, h)
+call_waits script order r s o w = grind (arith, nat_tests)
 
 -- ---- all together
 
 -- the kinds that are left to a rank which holds the offer of a meeting
 holds : (script : Script) (order : List Mark) (r : ℕ) (s : Going) (o : Offer) → IsOnWay script order r s (Some o)
     → (kind : MeetKind) × ((o.kind ≡ offer.Meet kind) × (kind ∷ kinds s.calls ≡ drop (meetings order) (kinds_of script)))
-holds script order r s o w =
-    let k = kind_some o w.meets in
-    (k.0, (k.1.0, sym (ap (λ (ks : List MeetKind). ks ++ kinds s.calls) k.1.1) ∙ w.kinds))
+holds script order r s o w = grind (arith, nat_tests, kind_some)
 
 not_over : (calls : List Call) (kind : MeetKind) (ks : List MeetKind) → kind ∷ ks ≡ kinds calls → calls ≢ []
 not_over [] kind ks e f = cc
@@ -83,22 +65,14 @@ not_over (c ∷ calls) kind ks e f = cc
 
 pub together_all : (script : Script) (order : List Mark) (r q : ℕ) (s t : Going) (o : Offer) → IsOnWay script order r s (Some o) → IsOnWay script order q t None
     → t.calls ≢ []
-together_all script order r q s t o w v =
-    let h = holds script order r s o w in
-    not_over t.calls h.0 (kinds s.calls) (h.1.1 ∙ sym v.kinds)
+together_all script order r q s t o w v = grind (arith, nat_tests, holds, not_over)
 
 pub together_kind : (script : Script) (order : List Mark) (r q : ℕ) (s t : Going) (o p : Offer) → IsOnWay script order r s (Some o) → IsOnWay script order q t (Some p)
     → p.kind ≡ o.kind
-together_kind script order r q s t o p w v =
-    let h = holds script order r s o w in
-    let g = holds script order q t p v in
-    g.1.0 ∙ ap offer.Meet (first_same g.0 h.0 (kinds t.calls) (kinds s.calls) (g.1.1 ∙ sym h.1.1)) ∙ sym h.1.0
+together_kind script order r q s t o p w v = grind (arith, nat_tests, holds, first_same)
 
 dropped : {X : Type 0} (k : ℕ) (xs : List X) (x : X) (ys : List X) → x ∷ ys ≡ drop k xs → k < length xs
-dropped k xs x ys e =
-    let a = ap (λ (zs : List _). length zs) e in
-    let b = length-drop k xs in
-    omega arith
+dropped k xs x ys e = grind (arith, nat_tests, length-drop k xs)
 
 pub together_number : (script : Script) (order : List Mark) (r : ℕ) (s : Going) (o : Offer) → is_lawful script ≡ true → IsOnWay script order r s (Some o)
     → meetings order < most_calls
@@ -127,10 +101,7 @@ pub meeting_of_known : (ranks k : ℕ) (order : List Mark) → list_all (is_of_r
 meeting_of_known ranks k order h = all_more ranks order (Meet k) refl h
 
 at_end : (script : Script) (order : List Mark) (r : ℕ) (s : Going) → IsOnWay script order r s None → s.calls ≡ [] → filter (concerns r) order ≡ marks script.calls r
-at_end script order r s w e =
-    sym (append-nil (filter (concerns r) order))
-    ∙ sym (ap (λ (cs : List Call). filter (concerns r) order ++ marks_from r (length s.answers) (meetings order) s.rank.independent cs) e)
-    ∙ w.marks
+at_end script order r s w e = grind (arith, nat_tests, append-nil)
 
 pub order_legal : (script : Script) (order : List Mark) (ss : List Going) → length ss ≡ script.ranks → list_all (is_of_rank_below script.ranks) order ≡ true
     → ((r : ℕ) (s : Going) → slice_get ss r ≡ Some s → IsOnWay script order r s None × (s.calls ≡ [])) → IsLegal script order

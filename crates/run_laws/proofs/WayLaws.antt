@@ -1,5 +1,5 @@
 -- A rank on its way: how it begins, how its calls and its replies change what is left to it, and what others leave as it was.
-use Rattle.run_laws.proofs.Words.{◌≡◌, ℕ, zero, suc, ◌+◌, ◌*◌, ◌≤◌, ◌≢◌, refl, sym, ◌∙◌, ap, subst, inl, inr, ◌⊎◌, List, [], ◌∷◌, ◌++◌, length, drop, Bool, true, false, not, cond, ◌&&◌, ◌||◌, Option, Some, None, arith, true≢false, append_assoc, append-nil, sum_by-append, filter-append, eq-eqb, and_from, eqb-true, eqb_tells, slice_get, ◌==◌, filter, is_some, list_all, list_any, cons_option, and_first, and_second, Header, Call, Answer, Script, Mark, Meet, Solo, MeetKind, Offer, OfferKind, Reply, Open, Posted, step, hear, Going, first_going, kinds, marks_from, concerns, kind_of_call, kind_of_meeting, mode_after, is_collective, is_data, is_meeting, is_lawful, is_lawful_call, most_calls, most_parts, are_different, posted_ids, id_posted, posts_held, answered, asking, is_solo_of, meetings, mode_heard, marks_left, kind_of_offer, kinds_of, Waits, AreNew, IsOnWay, long_push}
+use Rattle.run_laws.proofs.Words.{◌≡◌, ℕ, zero, suc, ◌+◌, ◌*◌, ◌≤◌, ◌≢◌, refl, sym, ◌∙◌, ap, subst, List, [], ◌∷◌, ◌++◌, length, drop, Bool, true, false, not, cond, ◌&&◌, ◌||◌, Option, Some, None, arith, true≢false, append_assoc, append-nil, sum_by-append, filter-append, eq-eqb, and_from, eqb-true, eqb_tells, slice_get, ◌==◌, filter, is_some, list_all, list_any, cons_option, and_first, and_second, Header, Call, Answer, Script, Mark, Meet, Solo, MeetKind, Offer, OfferKind, Reply, Open, Posted, step, hear, Going, first_going, kinds, marks_from, concerns, kind_of_call, kind_of_meeting, mode_after, is_collective, is_data, is_meeting, is_lawful, is_lawful_call, most_calls, most_parts, are_different, posted_ids, id_posted, posts_held, answered, asking, is_solo_of, meetings, mode_heard, kind_of_offer, kinds_of, Waits, AreNew, IsOnWay, long_push, nat_tests}
 use Rattle.nc_base.specs.declared.request.Call.TheVariants as call
 use Rattle.nc_base.specs.declared.step.OfferKind.TheVariants as offer
 use Rattle.nc_base.specs.declared.step.Want.TheVariants as want
@@ -10,12 +10,10 @@ use Rattle.run_laws.proofs.LawfulLaws.{own_lawful}
 -- ---- the marks of an order
 
 filter_one : (r : ℕ) (order : List Mark) (m : Mark) → concerns r m ≡ true → filter (concerns r) (order ++ m ∷ []) ≡ filter (concerns r) order ++ m ∷ []
-filter_one r order m e =
-    filter-append (concerns r) order (m ∷ []) ∙ ap (λ (b : Bool). filter (concerns r) order ++ cond b (m ∷ []) []) e
+filter_one r order m e = grind (arith, nat_tests, filter-append)
 
 filter_none : (r : ℕ) (order more : List Mark) → filter (concerns r) more ≡ [] → filter (concerns r) (order ++ more) ≡ filter (concerns r) order
-filter_none r order more e =
-    filter-append (concerns r) order more ∙ ap (λ (ms : List Mark). filter (concerns r) order ++ ms) e ∙ append-nil (filter (concerns r) order)
+filter_none r order more e = grind (arith, nat_tests, filter-append, append-nil)
 
 meetings_more : (order more : List Mark) (n : ℕ) → meetings more ≡ n → meetings (order ++ more) ≡ meetings order + n
 meetings_more order more n e = sum_by-append (λ (m : Mark). cond (is_meeting m) 1 0) order more ∙ ap (λ (k : ℕ). meetings order + k) e
@@ -27,11 +25,7 @@ meetings_same : (order more : List Mark) → meetings more ≡ 0 → meetings (o
 meetings_same order more e = let f = meetings_more order more 0 e in omega arith
 
 not_own : (q r : ℕ) → q ≢ r → (q == r) ≡ false
-not_own q r n = by (eqb_tells q r)
-  where
-    by : (((q == r) ≡ true) × (q ≡ r)) ⊎ (((q == r) ≡ false) × (q ≡ r → ⊥)) → (q == r) ≡ false
-    by (inl (e, f)) = absurd (n f)
-    by (inr (e, f)) = e
+not_own q r n = grind (arith, nat_tests, eqb_tells)
 
 -- ---- one step of the marks and kinds that are left
 
@@ -54,18 +48,12 @@ pub marks_solo : (q n k : ℕ) (ind : Bool) (c : Call) (calls : List Call) → i
 marks_solo q n k ind c calls e f = rw (e, marks_from) (rw f refl)
 
 pub mode_alone : (ind : Bool) (c : Call) → kind_of_call c ≡ None → mode_after ind c ≡ ind
-mode_alone ind call.BeginIndep e = cc
-mode_alone ind call.EndIndep e = cc
-mode_alone ind c e = refl
+mode_alone ind c e = grind (arith, nat_tests)
 
 -- ---- ids of its own
 
 ids_apart : (n m : ℕ) → (m == n) ≡ false → not (n == m) ≡ true
-ids_apart n m e = by (eqb_tells n m)
-  where
-    by : (((n == m) ≡ true) × (n ≡ m)) ⊎ (((n == m) ≡ false) × (n ≡ m → ⊥)) → not (n == m) ≡ true
-    by (inl (f, g)) = absurd (true≢false (sym (eq-eqb m n (sym g)) ∙ e))
-    by (inr (f, g)) = ap not f
+ids_apart n m e = grind (arith, nat_tests, eqb_tells, not, true≢false, eq-eqb)
 
 neither : (a b : Bool) → not (a || b) ≡ true → (a ≡ false) × (not b ≡ true)
 neither true b e = cc
@@ -75,14 +63,11 @@ still_free : (r r' : machine.Rank) (n : Option ℕ) (ids : List ℕ) → ((id : 
     → list_all (is_other n) ids ≡ true → list_all (is_free r.posted) ids ≡ true → list_all (is_free r'.posted) ids ≡ true
 still_free r r' n [] f o h = refl
 still_free r r' n (id ∷ ids) f o h =
-    and_from _ _ (f id (and_first (is_other n id) _ o) (and_first (is_free r.posted id) _ h))
-    (still_free r r' n ids f (and_second (is_other n id) _ o) (and_second (is_free r.posted id) _ h))
+    grind (arith, nat_tests, still_free r r' n ids f (and_second (is_other n id) _ o) (and_second (is_free r.posted id) _ h), and_from, and_first, and_second)
 
 all_other : (n : ℕ) (ids : List ℕ) → not (list_any (λ m. m == n) ids) ≡ true → list_all (is_other (Some n)) ids ≡ true
 all_other n [] h = refl
-all_other n (m ∷ ids) h =
-    let w = neither (m == n) _ h in
-    and_from _ _ (ids_apart n m w.0) (all_other n ids w.1)
+all_other n (m ∷ ids) h = grind (arith, nat_tests, all_other n ids (neither (m == n) _ h).1, neither, and_from, ids_apart)
 
 none_other : (ids : List ℕ) → list_all (is_other None) ids ≡ true
 none_other [] = refl
@@ -128,17 +113,7 @@ from_none n h = omega arith
 pub way_begins : (script : Script) (header : Header) (r : ℕ) (own : List Call) → is_lawful script ≡ true → slice_get script.calls r ≡ Some own
     → IsOnWay script [] r (first_going header own) None
 way_begins script header r own h e =
-    let w = own_lawful script r own h e in
-    record {
-      marks = sym (ap (λ (m : Option (List Call)). elim m [ None ↦ [] | Some calls ↦ marks_from r 0 0 false calls ]) e);
-      kinds = w.agreed;
-      waits = tt;
-      meets = tt;
-      lawful = w.lawful;
-      new = record { different = w.different; fresh = all_free (posted_ids own) };
-      few = from_none (length own) w.few;
-      posts = omega arith;
-    }
+    grind (arith, nat_tests, own_lawful script r own h e, all_free (posted_ids own), from_none (length own) (own_lawful script r own h e).few)
 
 -- ---- its own calls
 
@@ -146,23 +121,19 @@ pub way_answers : (script : Script) (order : List Mark) (r : ℕ) (header : Head
     → IsOnWay script order r s None → s.calls ≡ c ∷ calls → (next, want.Answered a) ≡ step header s.rank c → posts_held next ≤ posts_held s.rank + most_parts
     → IsOnWay script order r (answered s next a calls) None
 way_answers script order r header s next a c calls w e f p =
-    let says = says_at header s.rank c (next, want.Answered a) f in
-    let new = are_new s next c calls w.new e says.frees in
-    let long = long_push s.answers a in
-    let k = meetings order in
-    let left = (λ i. marks_from r (long i) k (says.mode i) calls)
-    ∙ sym (marks_alone r (length s.answers) k s.rank.independent c calls says.alone says.solo)
-    ∙ ap (λ (cs : List Call). marks_from r (length s.answers) k s.rank.independent cs) (sym e) in
-    record {
-      marks = ap (λ (ms : List Mark). filter (concerns r) order ++ ms) left ∙ w.marks;
-      kinds = sym (kinds_skip c calls says.kind) ∙ sym (ap (λ (cs : List Call). kinds cs) e) ∙ w.kinds;
-      waits = subst (λ (m : Option Open). Waits m None) (sym says.still) w.waits;
-      meets = tt;
-      lawful = and_second (is_lawful_call script.ranks r c) _ (sym (ap (λ (cs : List Call). list_all (is_lawful_call script.ranks r) cs) e) ∙ w.lawful);
-      new = record { different = new.0; fresh = new.1 };
-      few = moved _ _ _ _ most_calls long (calls_long s c calls e) w.few;
-      posts = held_more _ _ _ _ long p w.posts;
-    }
+    grind (
+      arith,
+      nat_tests,
+      says_at header s.rank c (next, want.Answered a) f,
+      are_new s next c calls w.new e (says_at header s.rank c (next, want.Answered a) f).frees,
+      long_push s.answers a,
+      kinds_skip c calls (says_at header s.rank c (next, want.Answered a) f).kind,
+      moved _ _ _ _ most_calls (long_push s.answers a) (calls_long s c calls e) w.few,
+      held_more _ _ _ _ (long_push s.answers a) p w.posts,
+      marks_alone,
+      and_second,
+      calls_long,
+    )
 
 some_meeting : (o : Offer) (kind : MeetKind) → o.kind ≡ offer.Meet kind → is_some (kind_of_meeting o.kind) ≡ true
 some_meeting o kind e = ap (λ (k : OfferKind). is_some (kind_of_meeting k)) e
@@ -177,25 +148,21 @@ pub way_meets : (script : Script) (order : List Mark) (r : ℕ) (header : Header
     → IsOnWay script order r s None → s.calls ≡ c ∷ calls → (next, want.Meet o) ≡ step header s.rank c → posts_held next ≤ posts_held s.rank + most_parts
     → IsOnWay script order r (asking s next calls) (Some o)
 way_meets script order r header s next o c calls w e f p =
-    let says = says_at header s.rank c (next, want.Meet o) f in
-    let asks = says.asking in
-    let new = are_new s next c calls w.new e asks.frees in
-    let k = meetings order in
-    let n = length s.answers in
-    let left = ap (λ (b : Bool). Meet k ∷ marks_from r (suc n) (suc k) b calls) (mode_with next asks.open_with asks.is_open ∙ asks.mode)
-    ∙ sym (marks_meet r n k s.rank.independent c calls says.together)
-    ∙ ap (λ (cs : List Call). marks_from r n k s.rank.independent cs) (sym e) in
-    let kind = ap (λ (x : OfferKind). elim (kind_of_meeting x) [ None ↦ [] | Some y ↦ y ∷ [] ] ++ kinds calls) says.meets in
-    record {
-      marks = ap (λ (ms : List Mark). filter (concerns r) order ++ ms) left ∙ w.marks;
-      kinds = kind ∙ sym (kinds_take c calls says.of_kind says.kind) ∙ sym (ap (λ (cs : List Call). kinds cs) e) ∙ w.kinds;
-      waits = waits_for next.«open» asks.open_with o asks.is_open asks.gets;
-      meets = some_meeting o says.of_kind says.meets;
-      lawful = and_second (is_lawful_call script.ranks r c) _ (sym (ap (λ (cs : List Call). list_all (is_lawful_call script.ranks r) cs) e) ∙ w.lawful);
-      new = record { different = new.0; fresh = new.1 };
-      few = moved _ _ _ _ most_calls refl (calls_long s c calls e) w.few;
-      posts = held_more _ _ _ _ refl p w.posts;
-    }
+    grind (
+      arith,
+      nat_tests,
+      says_at header s.rank c (next, want.Meet o) f,
+      are_new s next c calls w.new e ((says_at header s.rank c (next, want.Meet o) f).asking).frees,
+      moved _ _ _ _ most_calls refl (calls_long s c calls e) w.few,
+      held_more _ _ _ _ refl p w.posts,
+      mode_with,
+      marks_meet,
+      kinds_take,
+      waits_for,
+      some_meeting,
+      and_second,
+      calls_long,
+    )
 
 -- ---- replies
 
@@ -241,11 +208,7 @@ drop_next (suc k) xs (y ∷ ys) x e = drop_next k xs ys x e
 
 -- the offer of a meeting is of a kind
 pub kind_some : (o : Offer) → is_some (kind_of_meeting o.kind) ≡ true → (kind : MeetKind) × ((o.kind ≡ offer.Meet kind) × (kind_of_offer o ≡ kind ∷ []))
-kind_some o e = by o.kind refl e
-  where
-    by : (k : OfferKind) → o.kind ≡ k → is_some (kind_of_meeting k) ≡ true → (kind : MeetKind) × ((o.kind ≡ offer.Meet kind) × (kind_of_offer o ≡ kind ∷ []))
-    by (offer.Meet kind) f g = (kind, (f, ap (λ (x : OfferKind). elim (kind_of_meeting x) [ None ↦ [] | Some y ↦ y ∷ [] ]) f))
-    by offer.Solo f g = cc
+kind_some o e = grind (arith, nat_tests)
 
 pub waits_open : (m : Option Open) (o : Offer) → Waits m (Some o) → (w : Open) × ((m ≡ Some w) × (w.gets ≡ o.batch.gets))
 waits_open None o h = absurd h
@@ -284,16 +247,7 @@ way_hears script order r header s heard o reply a w g =
 
 way_same : (script : Script) (order order' : List Mark) (r : ℕ) (s : Going) (held : Option Offer) → filter (concerns r) order' ≡ filter (concerns r) order
     → meetings order' ≡ meetings order → IsOnWay script order r s held → IsOnWay script order' r s held
-way_same script order order' r s held e f w = record {
-  marks = (λ i. e i ++ marks_left r (f i) s held) ∙ w.marks;
-  kinds = w.kinds ∙ ap (λ (j : ℕ). drop j (kinds_of script)) (sym f);
-  waits = w.waits;
-  meets = w.meets;
-  lawful = w.lawful;
-  new = w.new;
-  few = w.few;
-  posts = w.posts;
-}
+way_same script order order' r s held e f w = grind (arith, nat_tests)
 
 pub one_of : (q n : ℕ) → list_all (is_solo_of q) (Solo q n ∷ []) ≡ true
 one_of q n = and_from (q == q) true (eq-eqb q q refl) refl
@@ -301,10 +255,7 @@ one_of q n = and_from (q == q) true (eq-eqb q q refl) refl
 pub others_filter : (q r : ℕ) (more : List Mark) → q ≢ r → list_all (is_solo_of q) more ≡ true → filter (concerns r) more ≡ []
 others_filter q r [] n h = refl
 others_filter q r (Meet k ∷ more) n h = cc
-others_filter q r (Solo p m ∷ more) n h =
-    let p_is = eqb-true p q (and_first (p == q) _ h) in
-    ap (λ (b : Bool). cond b (Solo p m ∷ filter (concerns r) more) (filter (concerns r) more)) (not_own p r (λ z. n (sym p_is ∙ z)))
-    ∙ others_filter q r more n (and_second (p == q) _ h)
+others_filter q r (Solo p m ∷ more) n h = grind (arith, nat_tests, others_filter q r more n (and_second (p == q) _ h), eqb-true, and_first, not_own, and_second)
 
 pub others_meetings : (q : ℕ) (more : List Mark) → list_all (is_solo_of q) more ≡ true → meetings more ≡ 0
 others_meetings q [] h = refl
