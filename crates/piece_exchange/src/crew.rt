@@ -4,8 +4,10 @@ use exchange_crew::{Errand, STACK_SIZE, Tools};
 use get_exchange::GetJob;
 use nc_outside::{Disk, Gate};
 use put_exchange::PutJob;
+use ruled_line::LOOKS;
 use std::alloc::Global;
 use std::sync::Wait;
+use std::thread;
 use std::thread::{Builder, Scope, Threads};
 
 /// Helpers of a run, by their numbers from 0. They are started as steps want them, in the scope of the run's threads, and wait for jobs from
@@ -66,7 +68,7 @@ fn help<R: Wait, G: Gate, D: Disk>(
     errands: &Receiver<Errand<PutJob<D>, GetJob<D>>>,
 ) {
     for _ in tools.rt.forever() {
-        let Ok(errand) = errands.recv(tools.rt) else {
+        let Some(errand) = next_errand(tools.rt, errands) else {
             return;
         };
         match errand {
@@ -90,4 +92,18 @@ fn help<R: Wait, G: Gate, D: Disk>(
             }
         }
     }
+}
+
+// The next job. The helper looks for it some times before it sleeps. None where no more can come.
+fn next_errand<R: Wait, D: Disk>(
+    rt: &R,
+    errands: &Receiver<Errand<PutJob<D>, GetJob<D>>>,
+) -> Option<Errand<PutJob<D>, GetJob<D>>> {
+    for _ in 0..LOOKS {
+        if let Ok(errand) = errands.try_recv(rt) {
+            return Some(errand);
+        }
+        thread::yield_now();
+    }
+    errands.recv(rt).ok()
 }

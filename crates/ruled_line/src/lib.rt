@@ -17,4 +17,4 @@ pub use line_list::LinePutList;
 
 /// How often whoever waits looks for what is to come before it sleeps. Between two looks other threads may run. What comes within a few
 /// microseconds is found so, and nobody has to wake a thread for it. (own)
-pub const LOOKS: u32 = 16;
+pub const LOOKS: u32 = 32;
