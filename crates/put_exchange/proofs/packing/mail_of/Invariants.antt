@@ -6,7 +6,7 @@ use Rattle.put_exchange.proofs.packing.mail_of.Given as goal
 abbrev pub invariant-turns : goal.invariant-turns
 invariant-turns l =
     IsPacking (source_in l.plan) (length l.plan.job.now.batches) (min l.plan.hints.now.cb_buffer l.fn.domain.len) l.plan.list.now (planned_turns l.plan l.fn.domain)
-    l.walk l.rounds.items l.counts.items
+    l.walk l.rounds.items l.dues.items
 
 abbrev pub decreases-turns : goal.decreases-turns
 decreases-turns l = length (turns_ahead l.walk.windows)

@@ -1,12 +1,12 @@
 -- One part more.
 use Rattle.put_exchange.proofs.Words.{◌≡◌, ◌<◌, ◌∙◌, ◌++◌, ◌∷◌, [], sym, ap, length, append_assoc, rules, arith, slice_get_within, nil_from_length, common_steps, Extent, domain_of, part_of, IsFresh, middle_at, at_index, crew_domains, crew_each, crew_parts, workers_few}
-use Rattle.put_exchange.proofs.starting.start_all.Goals as goal
+use Rattle.put_exchange.proofs.handing.hand_all.Goals as goal
 
 abbrev none : Extent
 none = record { at = 0; len = 0 }
 
-pub start_one-requires-clause-domain : goal.start_one-requires-clause-domain
-start_one-requires-clause-domain g c κs within =
+pub hand_one-requires-clause-domain : goal.hand_one-requires-clause-domain
+hand_one-requires-clause-domain g c κs within =
     let middle = ap (λ v. c.loop-part.yielded ++ v) (sym c.in-Some.ensures.steps.0) ∙ c.loop-part.invariant.all in
     let here = middle_at c.loop-part.yielded _ c.args.parts.items c.in-Some.part middle in
     let low : length c.loop-part.yielded < length c.args.parts.items = slice_get_within c.args.parts.items (length c.loop-part.yielded) c.in-Some.part here in
@@ -42,7 +42,7 @@ loop-part-preserved-in-Ok g c =
           c.in-Ok.ensures.part c.loop-part.invariant.parts;
       domains = crew_domains (λ worker. domain_of worker) c.loop-part.crew.workers.items _ c.in-Ok.worker c.args.domains.now _ pushed c.in-Ok.ensures.domain
           (at_index c.args.domains.now c.len-number.result (length c.loop-part.crew.workers.items) none (omega arith) (sym number)) c.loop-part.invariant.domains;
-      workers = crew_each (λ worker. IsFresh c.args.plan.now worker) c.loop-part.crew.workers.items _ c.in-Ok.worker pushed c.loop-part.invariant.workers c.in-Ok.ensures.worker;
+      workers = crew_each (λ worker. IsFresh g.D.Disk c.args.plan.now worker) c.loop-part.crew.workers.items _ c.in-Ok.worker pushed c.loop-part.invariant.workers c.in-Ok.ensures.worker;
       workers_room = c.push_reserved.ensures.capacity ∙ c.loop-part.invariant.workers_room;
       rest_room = c.loop-part.invariant.rest_room;
       back = c.loop-part.invariant.back;

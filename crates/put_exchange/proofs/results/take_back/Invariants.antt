@@ -1,6 +1,6 @@
 -- The parts of the helpers so far came back.
 use Rattle.put_exchange.proofs.Words.{◌≡◌, ◌++◌, length, vec_capacity, IsErrOf, AllZip, Rose, Failed, planned_turns, source_in, part_state, SomeZip, HasPut, domain_of, part_of}
-use Rattle.put_exchange.proofs.results.join_all.Given as goal
+use Rattle.put_exchange.proofs.results.take_back.Given as goal
 
 abbrev pub invariant-loop-worker : goal.invariant-loop-worker
 invariant-loop-worker g l = record {
