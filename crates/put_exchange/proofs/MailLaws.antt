@@ -1,5 +1,5 @@
 -- The messages of a domain, window after window.
-use Rattle.put_exchange.proofs.Words.{◌≡◌, ℕ, ◌+◌, ◌^◌, ◌<◌, sym, ◌∙◌, ap, List, [], ◌∷◌, ◌++◌, length, append_assoc, append-nil, flat_map-append, Owned, In, Source, extents, EndBelow, IsPast, AreInFront, AreServed, IsAt, ArePieces, Told, turns_ahead, IsTurnWalk, TurnWalk, Window, told_window, map-append, counts_due, turns_due, Due, at_next, served_are, served_ends, served_in, served_now, turn_limit, sent_in, message_counts, messages_in, messages_of, Sent, Round}
+use Rattle.put_exchange.proofs.Words.{◌≡◌, ℕ, ◌+◌, ◌^◌, ◌<◌, ◌≤◌, inl, refl, subst, arith, sym, ◌∙◌, ap, List, [], ◌∷◌, ◌++◌, length, append_assoc, append-nil, flat_map-append, Extent, Owned, In, Source, IsByPlace, IsDomainOf, IsWalk, LieOnPart, AreTurns, WindowWalk, at_begin, past_extents, past_sorted, past_twice, extents, EndBelow, IsPast, AreInFront, AreServed, IsAt, ArePieces, Told, turns_ahead, IsTurnWalk, TurnWalk, Window, told_window, map-append, counts_due, turns_due, Due, at_next, served_are, served_ends, served_in, served_now, turn_limit, sent_in, message_counts, messages_in, messages_of, Sent, Round}
 use Rattle.put_exchange.proofs.SentLaws.{messages_served}
 
 -- what was packed and what is left of the windows are the whole
@@ -19,6 +19,36 @@ packing_begin source ranks room list all w rounds dues ready at ahead none nothi
   windows = (λ i. turns_due (nothing i) ++ ahead i);
   many = (λ i. counts_due (nothing i) ++ message_counts source ranks list (ahead i));
 }
+
+-- ---- where packing has come to
+
+-- a walk that goes on from there
+pub record IsOnward (list : List Owned) (room : ℕ) (w : TurnWalk) : Type 0 where
+  pub ready : IsTurnWalk w
+  pub at : IsAt list room (turns_ahead w.windows) w.entries.now
+
+pub walk_onward : (place : ℕ) (list : List Owned) (room : ℕ) (domain : Extent) (w v : TurnWalk) → IsByPlace (extents list) → EndBelow (2 ^ 62) (extents list) → IsPast place list v.entries.now
+    → place ≤ domain.at → LieOnPart domain.at domain.len (turns_ahead w.windows) → v.windows ≡ w.windows → IsTurnWalk w → AreTurns list room (turns_ahead w.windows) → IsOnward list room v
+walk_onward place list room domain w v sorted ends past low on same ready turns = record {
+  ready = record {
+    walk = subst (λ (ws : WindowWalk). IsWalk ws) (sym same) ready.walk;
+    sorted = past_sorted place list v.entries.now sorted past;
+    ends = λ e m. ends e (past_extents place list v.entries.now e past m);
+    limit = subst (λ (ws : WindowWalk). (t : Told) → In (turns_ahead ws) t → t.0 + t.1 < 2 ^ 62) (sym same) ready.limit;
+  };
+  at = subst (λ (ws : WindowWalk). IsAt list room (turns_ahead ws) v.entries.now) (sym same)
+      (at_begin list v.entries.now room place (turns_ahead w.windows) past (λ t m. let here = (on t m).0 in omega arith) turns);
+}
+
+-- the whole domain has what it has
+pub own_domain : (list : List Owned) (domain : Extent) → IsDomainOf list domain.at domain.len domain
+own_domain list domain = record { low = omega arith; high = omega arith; whole = λ x l h c. (l, h) }
+
+pub past_turn : (list left later : List Owned) (room : ℕ) (ahead rest : List Told) (t : Told) → IsAt list room ahead left → ahead ≡ t ∷ rest → IsPast (t.0 + t.1) left later → IsPast (t.0 + t.1) list later
+past_turn list left later room ahead rest t a e p =
+    past_twice t.0 (t.0 + t.1) list left later (omega arith) (a.past t (subst (λ (ts : List Told). In ts t) (sym e) (inl refl))) p
+
+-- ---- one window more
 
 -- what packing a window asks of its entries
 pub record IsToPack (source : Source) (ranks : ℕ) (begun : List Owned) (t : Told) : Type 0 where

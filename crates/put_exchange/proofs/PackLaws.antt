@@ -1,7 +1,12 @@
 -- Packing: one entry more goes into the list of its rank, and one list more into a message.
 use Rattle.put_exchange.proofs.Words.{◌≡◌, ℕ, zero, suc, ◌+◌, ◌<◌, ◌≤◌, inl, inr, refl, sym, ◌∙◌, ap, subst, List, [], ◌∷◌, ◌++◌, length, map, take, set, get_or, Bool, true, false, cond, Some, ◌&&◌, arith, and_parts, and_right, eqb-true, append-nil, length-map, map-append, take_more, length-range_with_len, filter, filter-append, slice_get-get_or, slice_get, ◌==◌, range_with_len, range_push, equal_true, Batch, Extent, Owned, Post, Cell, Vec, Global, In, map_in, filter_in, cell_of, clip, part_at, part_bytes, slot_in, meets, of_rank, ArePieces, Told, puts_of_some, source_of, AreCuts, IsCut, binned, bytes_of, cells_in, cells_of, cut_in, cuts_by, has_pieces, hull_of, posts_of, sent, sent_by, Cut, Sent}
 
--- ---- the puts of a rank
+-- ---- the bytes of an entry's post
+
+pub batch_in : (batches : List Batch) (rank slot : ℕ) → 1 ≤ length (source_of batches rank slot) → rank < length batches
+batch_in [] rank slot h = absurd (omega arith)
+batch_in (b ∷ batches) zero slot h = omega arith
+batch_in (b ∷ batches) (suc rank) slot h = let l = batch_in batches rank slot h in omega arith
 
 pub batch_puts : (batches : List Batch) (rank : ℕ) (d : Batch) → rank < length batches → (get_or batches rank d).puts ≡ puts_of_some (slice_get batches rank)
 batch_puts batches rank d l = sym (ap puts_of_some (slice_get-get_or batches rank d l))
@@ -111,7 +116,7 @@ bin_at f a (suc n) (suc k) (b ∷ bins) bin e at =
     bin_at f (a + 1) n k bins bin rest at ∙ ap f next
 
 pub bin_is : (f : ℕ → List Cut) (n k : ℕ) (bins : List (Vec Cut Global)) (bin : Vec Cut Global) → binned bins ≡ map f (range_with_len 0 n) → slice_get bins k ≡ Some bin → bin.items ≡ f k
-bin_is f n k bins bin e at = bin_at f 0 n k bins bin e at
+bin_is f n k bins bin e at = let here : 0 + k ≡ k = omega arith in bin_at f 0 n k bins bin e at ∙ ap f here
 
 -- an entry that has a piece goes into the list of its rank
 binned_more : (n : ℕ) (xs : List Owned) (o : Owned) (t : Told) (bins : List (Vec Cut Global)) (bin : Vec Cut Global) (d : Vec Cut Global) → o.rank < n → meets t.0 (t.0 + t.1) o ≡ true
@@ -167,17 +172,15 @@ map_push f k =
     ap (λ (n : ℕ). map f (range_with_len 0 n)) next ∙ ap (λ (ns : List ℕ). map f ns) (range_push 0 k k (omega arith)) ∙ map-append f (range_with_len 0 k) (k ∷ [])
 
 -- the messages of so many ranks, and of one more
-pub messages_push : (batches : List Batch) (list : List Owned) (t : Told) (k : ℕ) (now before : List Sent) (cuts : List Cut) (test : Bool)
-    → cuts ≡ cuts_by t list k → has_pieces (sent (hull_of t) k (cells_of (posts_of batches k) cuts)) ≡ test
+pub messages_push : (batches : List Batch) (list : List Owned) (t : Told) (k : ℕ) (now before : List Sent) (cuts : List Cut) → cuts ≡ cuts_by t list k
     → before ≡ filter has_pieces (map (λ r. sent_by (source_of batches) list t r) (range_with_len 0 k))
-    → now ≡ before ++ cond test (sent (hull_of t) k (cells_of (posts_of batches k) cuts) ∷ []) []
+    → now ≡ before ++ filter has_pieces (sent (hull_of t) k (cells_of (posts_of batches k) cuts) ∷ [])
     → now ≡ filter has_pieces (map (λ r. sent_by (source_of batches) list t r) (range_with_len 0 (k + 1)))
-messages_push batches list t k now before cuts test of some is put =
+messages_push batches list t k now before cuts of is put =
     let f : ℕ → Sent = λ r. sent_by (source_of batches) list t r in
     let own : sent (hull_of t) k (cells_of (posts_of batches k) cuts) ≡ f k
     = ap (λ (cs : List Cut). sent (hull_of t) k (cells_of (posts_of batches k) cs)) of ∙ ap (λ (cells : List Cell). sent (hull_of t) k cells) (cuts_cells batches t k list) in
     put
-    ∙ ap (λ (b : Bool). before ++ cond b (sent (hull_of t) k (cells_of (posts_of batches k) cuts) ∷ []) []) (sym some)
     ∙ ap (λ (m : Sent). before ++ filter has_pieces (m ∷ [])) own
     ∙ ap (λ (ms : List Sent). ms ++ filter has_pieces (f k ∷ [])) is
     ∙ sym (filter-append has_pieces (map f (range_with_len 0 k)) (f k ∷ []))

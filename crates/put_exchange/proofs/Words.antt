@@ -15,7 +15,7 @@ pub use Rattle.std.specs.Result.{result_and}
 pub use Rattle.std.specs.Prelude.{IfNone, IfSome, Vec, IsErr, IsErrOf, IsOk, OnOk, filter, flat_map, nat_lt, slice_get, zip, ◌==◌}
 pub use Rattle.aggregator_rounds.proofs.EntryCells.{covered_place, entry_cells}
 pub use Rattle.aggregator_rounds.proofs.PartSteps.{part_bytes, slot_bytes, slot_in}
-pub use Rattle.aggregator_rounds.proofs.PastSteps.{past_same}
+pub use Rattle.aggregator_rounds.proofs.PastSteps.{past_extents, past_none, past_same, past_sorted, past_twice}
 pub use Rattle.aggregator_rounds.proofs.RoundLaws.{from_less, window_refused_by, window_told_by}
 pub use Rattle.aggregator_rounds.proofs.SplitSteps.{entry_ends}
 pub use Rattle.aggregator_rounds.specs.EntryParts.{IsCovered, part_at, part_in}
@@ -26,16 +26,18 @@ pub use Rattle.exchange_crew.proofs.CrewLaws.{AreOf, all_of, crew_domains, crew_
 pub use Rattle.exchange_crew.proofs.OneChanged.{each_twice, fewer_all, no_more_all}
 pub use Rattle.exchange_crew.proofs.PlanLaws.{plan_on, plan_turns, plan_windows}
 pub use Rattle.exchange_crew.proofs.SplitLaws.{first_parts, parts_behind, some_first, some_second, zip_joined}
-pub use Rattle.exchange_crew.proofs.TurnLaws.{at_next, due_now, in_served, served_are, served_covered, served_ends, served_in, served_now, turn_limit}
+pub use Rattle.exchange_crew.proofs.TurnLaws.{at_begin, at_next, turn_end, turn_in, due_now, in_served, served_are, served_covered, served_ends, served_in, served_now, turn_limit}
 pub use Rattle.exchange_crew.specs.Cursor.{AreInFront, AreServed, IsAt}
 pub use Rattle.exchange_crew.specs.Hulls.{AreTurns, HaveWindows, IsTurn, LieOnPart}
 pub use Rattle.exchange_crew.specs.Parts.{PartState, SomeZip, part_state}
 pub use Rattle.exchange_crew.specs.Pieces.{ArePieces, meets, of_rank, pieces_in}
 pub use Rattle.exchange_crew.specs.Plan.{IsDomainOf, IsPlan, planned_turns, source_in}
-pub use Rattle.exchange_crew.specs.Turns.{IsTurnWalk, Told, puts_of_some, source_of, turns_ahead}
+pub use Rattle.exchange_crew.specs.Turns.{IsTurnWalk, Told, puts_of_some, source_of, turns_ahead, turns_of}
 pub use Rattle.exchange_crew.specs.declared.plan.PutPlan.{PutPlan}
 pub use Rattle.exchange_crew.specs.declared.walk.TurnWalk.{TurnWalk}
+pub use Rattle.file_domains.specs.Rounds.{IsWalk}
 pub use Rattle.file_domains.specs.declared.walk.Window.{Window}
+pub use Rattle.file_domains.specs.declared.walk.WindowWalk.{WindowWalk}
 pub use Rattle.list_laws.proofs.Each.{zip_weaker}
 pub use Rattle.list_laws.proofs.Optional.{no_none_some}
 pub use Rattle.list_laws.proofs.Places.{drop_at, each_more, left_more, middle_at}
@@ -43,6 +45,7 @@ pub use Rattle.list_laws.proofs.Ranges.{range_push}
 pub use Rattle.list_laws.proofs.Truth.{equal_true}
 pub use Rattle.nc_base.specs.declared.plan.Batch.{Batch}
 pub use Rattle.nc_base.specs.declared.plan.Extent.{Extent}
+pub use Rattle.nc_base.specs.declared.plan.Job.{Job}
 pub use Rattle.nc_base.specs.declared.plan.Owned.{Owned}
 pub use Rattle.nc_base.specs.declared.plan.Post.{Post}
 pub use Rattle.nc_base.specs.declared.step.DiskCall.{DiskCall}
@@ -61,7 +64,7 @@ pub use Rattle.overlay_laws.proofs.WalkLaws.{filter_none}
 pub use Rattle.overlay_laws.proofs.WindowLaws.{clips_from, clips_in, clips_within, moved_said, none_below, none_past, within_lowered, within_more}
 pub use Rattle.overlay_laws.specs.Changes.{IsBetween, store_calls}
 pub use Rattle.overlay_laws.specs.Entries.{In, Source, cell_of}
-pub use Rattle.overlay_laws.specs.Lines.{EndBelow, extents}
+pub use Rattle.overlay_laws.specs.Lines.{EndBelow, IsByPlace, extents}
 pub use Rattle.overlay_laws.specs.Origins.{AreFound}
 pub use Rattle.overlay_laws.specs.Windows.{IsPart, clip, clips}
 pub use Rattle.put_exchange.specs.Dues.{AreDue, counts_due, turns_due}

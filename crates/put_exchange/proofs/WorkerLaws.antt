@@ -1,5 +1,5 @@
 -- Helpers that have their jobs, and were fed.
-use Rattle.put_exchange.proofs.Words.{◌≡◌, ℕ, sym, ◌∙◌, ap, subst, List, ◌++◌, length, map, Some, Result, append-nil, slice_get, In, DiskErr, DiskGhosts, feed_left, sent_in, planned_messages, Sent, domain_of, part_of, HasFed, IsFed, IsFresh, IsStartedFor, HasPut, HasServed, IsPlanOn, counts_due, turns_due, message_counts, messages_of, planned_turns, source_in, AreTurns, HaveWindows, IsPlan, PartState, Told, Round, PutPlan, Worker, each_new, map_new, plan_turns, plan_windows}
+use Rattle.put_exchange.proofs.Words.{◌≡◌, ℕ, sym, ◌∙◌, ap, subst, List, ◌++◌, length, map, min, Some, Result, append-nil, slice_get, In, DiskErr, DiskGhosts, feed_left, sent_in, planned_messages, Sent, domain_of, part_of, HasFed, IsFed, IsFresh, IsStartedFor, HasPut, HasServed, IsPlanOn, counts_due, turns_due, message_counts, messages_of, planned_turns, source_in, AreTurns, HaveWindows, IsPlan, PartState, Told, Round, PutPlan, Worker, AreDue, Batch, Extent, IsDomainOf, Owned, ◌≤◌, arith, each_new, map_new, plan_on, plan_turns, plan_windows, turn_end, turn_in, turns_of}
 
 fed_worker : {D : Type 0} (disk : DiskGhosts D) (plan : PutPlan) (old new : Worker D) → HasFed old new → IsFresh disk plan old → IsFed disk plan new
 fed_worker disk plan old new h f = record {
@@ -34,6 +34,17 @@ pub fed_domains : {D : Type 0} (old new : List (Worker D)) → length new ≡ le
     → map (λ worker. domain_of worker) new ≡ map (λ worker. domain_of worker) old
 fed_domains old new long fed = map_new (λ worker. domain_of worker) (λ a b. HasFed a b) old new long fed (λ a b h. ap (λ helper. helper.domain) h.helper)
 
+-- ---- what a helper is handed
+
+-- the windows of a domain lie on its part, and fit a buffer
+pub plan_due : (batches : List Batch) (list : List Owned) (cover : List Extent) (size from len room : ℕ) (domain : Extent) → IsPlan batches list cover size → IsDomainOf list from len domain
+    → room ≡ min size domain.len → AreDue from len room (turns_of size domain cover)
+plan_due batches list cover size from len room domain p d e = record {
+  on_part = plan_on batches list cover size from len domain p d;
+  short = λ t m. let short = (turn_in list (min size domain.len) (turns_of size domain cover) t (plan_turns batches list cover size domain p) m).short in omega arith;
+  limit = λ t m. turn_end list (min size domain.len) t p.ends (turn_in list (min size domain.len) (turns_of size domain cover) t (plan_turns batches list cover size domain p) m);
+}
+
 -- ---- one that was fed has served its part
 
 plan_of : {D : Type 0} (disk : DiskGhosts D) (plan : PutPlan) (worker : Worker D) → IsPlan plan.job.now.batches plan.list.now plan.cover.now plan.hints.now.cb_buffer → IsStartedFor disk plan worker
@@ -49,8 +60,8 @@ plan_of disk plan worker p s =
       pieces = p.pieces;
       below = p.below;
       one = p.one;
-      room = _;
-      turns = subst (λ (ts : List Told). AreTurns list _ ts) (sym s.windows) (plan_turns batches list cover size (domain_of worker) p);
+      room = min size (domain_of worker).len;
+      turns = subst (λ (ts : List Told). AreTurns list (min size (domain_of worker).len) ts) (sym s.windows) (plan_turns batches list cover size (domain_of worker) p);
       windows = subst (λ (ts : List Told). HaveWindows from len list ts) (sym s.windows) (plan_windows batches list cover size from len (domain_of worker) p s.domain);
       counts = s.counts ∙ sym (ap (λ (ts : List Told). message_counts (source_in plan) (length batches) list ts) s.windows);
     }

@@ -2,6 +2,7 @@
 ghost use Rattle.std.specs.Prelude.{◌≡◌, ◌≤◌, ◌++◌, [], ℕ, length, map, take, slice_get, vec_capacity, Some, IfOk, IfErr};
 ghost use Rattle.nc_base.specs.declared.plan.Extent.{Extent};
 ghost use Rattle.overlay_laws.specs.Entries.{In};
+ghost use Rattle.aggregator_rounds.specs.Left.{IsPast};
 ghost use Rattle.exchange_crew.specs.Plan.{IsDomainOf, IsPlanned};
 ghost use Rattle.put_exchange.specs.Dues.{turns_due, AreDue};
 ghost use Rattle.put_exchange.specs.Workers.{domain_of, part_of, IsFresh};
@@ -10,7 +11,7 @@ ghost use Rattle.put_exchange.specs.declared.handing.Worker.{Worker};
 use crate::helper::{PutDuty, PutJob, PutLines};
 use crate::laying::Due;
 use crate::message::Message;
-use crate::packing::{Mail, mail_of};
+use crate::packing::{Ahead, Mail, mail_of};
 use crate::sending::Feed;
 use crossbeam_channel::Sender;
 use exchange_crew::{Aggregator, Crew, Errand, PartBack, PartEnds, PutPlan, Tools};
@@ -59,6 +60,8 @@ pub(crate) fn hand_all<R: Wait, D: Disk, G, K: Send + Drop>(
     ensures domains { map (λ worker. domain_of worker) crew.new.workers.items ≡ take (length crew.new.workers.items) domains.now }
     ensures workers { (worker : Worker D) → In crew.new.workers.items worker → IsFresh D.Disk plan.now worker }
 {
+    let entries = plan.list.as_slice();
+    let mut ahead = Ahead { place: 0, entries };
     for part in parts {
         if crew.rest.is_empty() {
             let number = crew.workers.len();
@@ -66,7 +69,7 @@ pub(crate) fn hand_all<R: Wait, D: Disk, G, K: Send + Drop>(
                 number: number as u32,
                 domain: domains[number],
             };
-            match hand_one(tools, helpers, plan, aggregator, part) {
+            match hand_one(tools, helpers, plan, aggregator, part, &mut ahead) {
                 Ok(worker) => crew.workers.push_reserved(worker),
                 Err(part) => crew.rest.push_reserved(part),
             }
@@ -78,17 +81,20 @@ pub(crate) fn hand_all<R: Wait, D: Disk, G, K: Send + Drop>(
 
 // Hands a part to the helper of its number, with a line of its own, its messages and a buffer. Where there is none, or one of them can't be
 // had, the part comes back as it was.
-fn hand_one<R: Wait, D: Disk, G, K: Send + Drop>(
+fn hand_one<'a, R: Wait, D: Disk, G, K: Send + Drop>(
     tools: &Tools<R, G>,
     helpers: &[Sender<Errand<PutJob<D>, K>>],
-    plan: &PutPlan,
+    plan: &PutPlan<'a>,
     aggregator: Aggregator,
     part: D,
+    ahead: &mut Ahead<'a>,
 ) -> Result<Worker<D>, D>
     requires plan { IsPlanned plan.now }
     requires line_low { 1 ≤ plan.now.hints.now.line_room }
     requires line_high { plan.now.hints.now.line_room ≤ 64 }
     requires domain { IsDomainOf plan.now.list.now (D.from part) (D.len part) aggregator.domain }
+    requires past { IsPast ahead.old.place plan.now.list.now ahead.old.entries.now }
+    ensures past { IsPast ahead.new.place plan.now.list.now ahead.new.entries.now }
     ensures kept { IfErr result (λ back. back ≡ part) }
     ensures worker { IfOk result (λ worker. IsFresh D.Disk plan.now worker) }
     ensures part { IfOk result (λ worker. part_of worker ≡ part) }
@@ -101,7 +107,7 @@ fn hand_one<R: Wait, D: Disk, G, K: Send + Drop>(
     let Ok((put, taken)) = line::<Message>(tools.alloc, plan.hints.line_room) else {
         return Err(part);
     };
-    let Ok(Mail { rounds, dues }) = mail_of(tools.alloc, plan, domain) else {
+    let Ok(Mail { rounds, dues }) = mail_of(tools.alloc, plan, domain, ahead) else {
         return Err(part);
     };
     let room = plan.hints.cb_buffer.min(domain.len) as usize;

@@ -1,9 +1,9 @@
 // Messages: what a rank puts into one window.
-ghost use Rattle.std.specs.Prelude.{◌≡◌, ◌-◌, length};
+ghost use Rattle.std.specs.Prelude.{◌≡◌, ◌+◌, ◌-◌, ◌<◌, ◌≤◌, length};
 ghost use Rattle.overlay_laws.specs.Entries.{In};
 ghost use Rattle.serial_spec.specs.File.{written};
 ghost use Rattle.serial_spec.specs.Said.{write_cells, moved_down};
-ghost use Rattle.put_exchange.specs.Sent.{bytes_of, cells_of, posts_of, sent, AreCuts, IsCut};
+ghost use Rattle.put_exchange.specs.Sent.{bytes_of, cells_of, posts_of, put_bytes, sent, AreCuts, IsCut};
 
 use exchange_crew::SharedJob;
 use nc_base::{Extent, Post};
@@ -86,9 +86,20 @@ fn lay_cut(hull: Extent, puts: &[Post], cut: &Cut, buf: &mut [u8])
     requires cut { IsCut puts.now hull cut.now }
     ensures { buf.new ≡ written buf.old (cut.now.at - hull.at) (bytes_of puts.now cut.now) }
 {
+    let bytes = cut_bytes(puts, cut);
+    let at = (cut.at - hull.at) as usize;
+    buf[at..at + bytes.len()].copy_from_slice(bytes);
+}
+
+// The bytes of a cut.
+fn cut_bytes<'a>(puts: &'a [Post], cut: &Cut) -> &'a [u8]
+    requires put { cut.now.slot < length puts.now }
+    requires found { cut.now.from + cut.now.len ≤ length (put_bytes puts.now cut.now.slot) }
+    ensures bytes { result.now ≡ bytes_of puts.now cut.now }
+    ensures long { length result.now ≡ cut.now.len }
+{
     let from = cut.from as usize;
     let len = cut.len as usize;
-    let bytes = &puts[cut.slot as usize].bytes.as_slice()[from..from + len];
-    let at = (cut.at - hull.at) as usize;
-    buf[at..at + len].copy_from_slice(bytes);
+    let bytes = puts[cut.slot as usize].bytes.as_slice();
+    &bytes[from..from + len]
 }

@@ -1,21 +1,23 @@
 // Packing: all messages of a domain, before its helper is asked.
-ghost use Rattle.std.specs.Prelude.{◌≡◌, ◌+◌, ◌^◌, ◌<◌, ◌≤◌, [], length, map, true, OnOk, IfOk};
+ghost use Rattle.std.specs.Prelude.{◌≡◌, ◌++◌, ◌+◌, ◌^◌, ◌<◌, ◌≤◌, ◌∷◌, [], filter, length, map, min, true, OnOk, IfOk};
 ghost use Rattle.std.specs.List.{range_with_len};
 ghost use Rattle.nc_base.specs.declared.plan.Owned.{Owned};
 ghost use Rattle.overlay_laws.specs.Entries.{In};
 ghost use Rattle.overlay_laws.specs.Lines.{extents, EndBelow};
 ghost use Rattle.aggregator_rounds.specs.Pieces.{told_window};
-ghost use Rattle.exchange_crew.specs.Pieces.{meets, ArePieces};
+ghost use Rattle.aggregator_rounds.specs.Left.{IsPast};
+ghost use Rattle.exchange_crew.specs.Cursor.{IsAt};
+ghost use Rattle.exchange_crew.specs.Pieces.{meets, ArePieces, IsPiece};
 ghost use Rattle.exchange_crew.specs.Plan.{planned_turns, IsPlanned};
-ghost use Rattle.exchange_crew.specs.Turns.{source_of};
+ghost use Rattle.exchange_crew.specs.Turns.{source_of, turns_ahead, IsTurnWalk};
 ghost use Rattle.put_exchange.specs.Dues.{counts_due, turns_due};
 ghost use Rattle.put_exchange.specs.Feeds.{sent_in};
-ghost use Rattle.put_exchange.specs.Sent.{binned, cut_in, cuts_by, messages_in, planned_counts, planned_messages};
+ghost use Rattle.put_exchange.specs.Sent.{binned, cells_of, cut_in, cuts_by, has_pieces, messages_in, planned_counts, planned_messages, posts_of, sent, AreCuts};
 
 use crate::laying::Due;
 use crate::message::{Cut, Message};
 use exchange_crew::{PutPlan, SharedJob, Turn, TurnWalk};
-use nc_base::{Extent, Memory, Owned};
+use nc_base::{Batch, Extent, Memory, Owned};
 use std::alloc::Global;
 use std::collections::VecDeque;
 
@@ -33,16 +35,30 @@ pub(crate) struct Mail {
     pub dues: Vec<Due>,
 }
 
+/// What of the sorted entries packing has still to come to: from the first one on that does not end by this place.
+#[derive(Clone, Copy, Drop)]
+pub(crate) struct Ahead<'a> {
+    pub place: u64,
+    pub entries: &'a [Owned],
+}
+
 /// Packs the messages of a domain.
-pub(crate) fn mail_of(alloc: Global, plan: &PutPlan, domain: Extent) -> Result<Mail, Memory>
-    requires { IsPlanned plan.now }
+pub(crate) fn mail_of<'a>(
+    alloc: Global,
+    plan: &PutPlan<'a>,
+    domain: Extent,
+    ahead: &mut Ahead<'a>,
+) -> Result<Mail, Memory>
+    requires plan { IsPlanned plan.now }
+    requires past { IsPast ahead.old.place plan.now.list.now ahead.old.entries.now }
+    ensures past { IsPast ahead.new.place plan.now.list.now ahead.new.entries.now }
     ensures messages { IfOk result (λ mail. sent_in mail.rounds.items ≡ planned_messages plan.now domain) }
     ensures windows { IfOk result (λ mail. turns_due mail.dues.items ≡ planned_turns plan.now domain) }
     ensures counts { IfOk result (λ mail. counts_due mail.dues.items ≡ planned_counts plan.now domain) }
 {
     let mut rounds = VecDeque::new(alloc);
     let mut dues = Vec::new(alloc);
-    let mut walk = TurnWalk::new(plan, domain);
+    let mut walk = walk_of(plan, domain, ahead);
     'turns: while let Some(turn) = walk.next_turn() {
         let window = turn.window;
         let messages = messages_of(alloc, plan.job, &turn)?;
@@ -54,8 +70,30 @@ pub(crate) fn mail_of(alloc: Global, plan: &PutPlan, domain: Extent) -> Result<M
             number: window.round,
             messages,
         })?;
+        *ahead = Ahead {
+            place: window.hull.at + window.hull.len,
+            entries: walk.entries,
+        };
     }
     Ok(Mail { rounds, dues })
+}
+
+// The walk over the windows of a domain, which goes on from where packing has come to. It begins anew where the domain begins before that.
+fn walk_of<'a>(plan: &PutPlan<'a>, domain: Extent, ahead: &Ahead<'a>) -> TurnWalk<'a>
+    requires plan { IsPlanned plan.now }
+    requires past { IsPast ahead.now.place plan.now.list.now ahead.now.entries.now }
+    ensures ready { IsTurnWalk result }
+    ensures windows { turns_ahead result.windows ≡ planned_turns plan.now domain }
+    ensures at { IsAt plan.now.list.now (min plan.now.hints.now.cb_buffer domain.len) (turns_ahead result.windows) result.entries.now }
+{
+    let walk = TurnWalk::new(plan, domain);
+    if domain.at < ahead.place {
+        return walk;
+    }
+    TurnWalk {
+        windows: walk.windows,
+        entries: ahead.entries,
+    }
 }
 
 // The messages of a window: one for each rank that has a piece in it.
@@ -71,7 +109,7 @@ fn messages_of(alloc: Global, job: &SharedJob, turn: &Turn) -> Result<Vec<Messag
     let ranks = batches.len();
     let share = turn.entries.len() / ranks.max(1) + 1;
     let mut bins = empty_bins(alloc, ranks, share)?;
-    fill_bins(turn, bins.as_mut_slice())?;
+    fill_bins(batches, turn, bins.as_mut_slice())?;
     with_bins(alloc, job, turn, bins)
 }
 
@@ -80,17 +118,17 @@ fn empty_bins(alloc: Global, ranks: usize, room: usize) -> Result<Vec<Vec<Cut>>,
     ensures { IfOk result (λ bins. binned bins.items ≡ map (λ _. []) (range_with_len 0 ranks)) }
 {
     let mut bins = Vec::with_capacity(alloc, ranks)?;
-    for _ in 0..ranks {
+    'ranks: while bins.len() < ranks {
         bins.push_reserved(Vec::with_capacity(alloc, room)?);
     }
     Ok(bins)
 }
 
 // Puts each cut of the window into the list of its rank.
-fn fill_bins(turn: &Turn, bins: &mut [Vec<Cut>]) -> Result<(), Memory>
+fn fill_bins(batches: &[Batch], turn: &Turn, bins: &mut [Vec<Cut>]) -> Result<(), Memory>
     requires ends { EndBelow (2 ^ 62) (extents turn.now.entries.now) }
     requires hull { turn.now.window.hull.at + turn.now.window.hull.len < 2 ^ 62 }
-    requires from { (o : Owned) → In turn.now.entries.now o → o.from + o.extent.len < 2 ^ 64 }
+    requires pieces { ArePieces (source_of batches.now) turn.now.entries.now }
     requires below { (o : Owned) → In turn.now.entries.now o → o.rank < length bins.old }
     requires empty { binned bins.old ≡ map (λ _. []) (range_with_len 0 (length bins.old)) }
     ensures { OnOk result (binned bins.new ≡ map (λ r. cuts_by (told_window turn.now.window) turn.now.entries.now r) (range_with_len 0 (length bins.old))) }
@@ -98,11 +136,21 @@ fn fill_bins(turn: &Turn, bins: &mut [Vec<Cut>]) -> Result<(), Memory>
     let hull = turn.window.hull;
     for entry in turn.entries {
         if has_piece(hull, entry) {
+            let _bytes = post_bytes(batches, entry);
             let bin = &mut bins[entry.rank as usize];
             bin.push(cut_of(hull, entry))?;
         }
     }
     Ok(())
+}
+
+// The bytes of the post that an entry is of.
+fn post_bytes<'a>(batches: &'a [Batch], entry: &Owned) -> &'a [u8]
+    requires { IsPiece (source_of batches.now) entry.now }
+    ensures { result.now ≡ source_of batches.now entry.now.rank entry.now.slot }
+{
+    let puts = batches[entry.rank as usize].puts.as_slice();
+    puts[entry.slot as usize].bytes.as_slice()
 }
 
 // Whether an entry has a byte in a hull.
@@ -148,10 +196,27 @@ fn with_bins(
     let mut messages = Vec::new(alloc);
     let mut rank = 0;
     for cuts in bins {
-        if !cuts.is_empty() {
-            messages.push(Message::new(turn.window.hull, rank, job.share()?, cuts))?;
-        }
+        add_message(&mut messages, job, turn.window.hull, rank, cuts)?;
         rank += 1;
     }
     Ok(messages)
+}
+
+// Puts the message of a rank behind the others, if it has a cut.
+fn add_message(
+    messages: &mut Vec<Message>,
+    job: &SharedJob,
+    hull: Extent,
+    rank: u32,
+    cuts: Vec<Cut>,
+) -> Result<(), Memory>
+    requires { AreCuts job.now.batches hull rank cuts.items }
+    ensures { OnOk result (messages.new.items ≡ messages.old.items ++ filter has_pieces (sent hull rank (cells_of (posts_of job.now.batches rank) cuts.items) ∷ [])) }
+{
+    if cuts.is_empty() {
+        return Ok(());
+    }
+    let message = Message::new(hull, rank, job.share()?, cuts);
+    messages.push(message)?;
+    Ok(())
 }

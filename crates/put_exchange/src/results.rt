@@ -28,10 +28,10 @@ pub(crate) fn take_back<R: Wait, D: Disk>(
     requires none { back.old.items ≡ [] }
     requires room { length workers.items ≤ vec_capacity back.old }
     ensures room { vec_capacity back.new ≡ vec_capacity back.old }
-    ensures long { length back.new.items ≡ length workers.entry.items }
+    ensures long { length back.new.items ≡ length workers.items }
     ensures put { AllZip (λ worker new. HasPut (source_in plan.now) plan.now.list.now (planned_turns plan.now (domain_of worker))
-        (part_state D.Disk (part_of worker)) (part_state D.Disk new) result) workers.entry.items back.new.items }
-    ensures failed { IsErrOf result Failed → SomeZip (λ worker new. Rose (D.faults (part_of worker)) (D.faults new)) workers.entry.items back.new.items }
+        (part_state D.Disk (part_of worker)) (part_state D.Disk new) result) workers.items back.new.items }
+    ensures failed { IsErrOf result Failed → SomeZip (λ worker new. Rose (D.faults (part_of worker)) (D.faults new)) workers.items back.new.items }
 {
     let mut end = Ok(());
     for worker in workers {
@@ -50,9 +50,9 @@ fn take_one<R: Wait, D: Disk>(
 ) -> (D, Result<(), DiskErr>)
     requires plan { IsPlanned plan.now }
     requires worker { IsFed D.Disk plan.now worker }
-    ensures put { HasPut (source_in plan.now) plan.now.list.now (planned_turns plan.now (domain_of worker.entry))
-        (part_state D.Disk (part_of worker.entry)) (part_state D.Disk result.0) result.1 }
-    ensures failed { IsErrOf result.1 Failed → Rose (D.faults (part_of worker.entry)) (D.faults result.0) }
+    ensures put { HasPut (source_in plan.now) plan.now.list.now (planned_turns plan.now (domain_of worker))
+        (part_state D.Disk (part_of worker)) (part_state D.Disk result.0) result.1 }
+    ensures failed { IsErrOf result.1 Failed → Rose (D.faults (part_of worker)) (D.faults result.0) }
 {
     let Worker { helper, feed } = worker;
     let PartBack { ends, end } = helper.awaited.take(rt);

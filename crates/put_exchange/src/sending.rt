@@ -91,7 +91,7 @@ fn send_next<R: Wait>(rt: &R, feed: &mut Feed)
 // Puts messages behind the others.
 fn put_messages<R: Wait>(rt: &R, messages: Vec<Message>, line: &mut LinePut<Message>)
     ensures of { line.new.of ≡ line.old.of }
-    ensures put { line.new.items ≡ line.old.items ++ messages.entry.items }
+    ensures put { line.new.items ≡ line.old.items ++ messages.items }
 {
     for message in messages {
         line.put(rt, message);

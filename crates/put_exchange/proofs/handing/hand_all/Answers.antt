@@ -1,9 +1,22 @@
 -- One part more.
-use Rattle.put_exchange.proofs.Words.{◌≡◌, ◌<◌, ◌∙◌, ◌++◌, ◌∷◌, [], sym, ap, length, append_assoc, rules, arith, slice_get_within, nil_from_length, common_steps, Extent, domain_of, part_of, IsFresh, middle_at, at_index, crew_domains, crew_each, crew_parts, workers_few}
+use Rattle.put_exchange.proofs.Words.{In, IsPast, List, Owned, Worker, map, past_none, refl, subst, take, ◌≡◌, ◌<◌, ◌∙◌, ◌++◌, ◌∷◌, [], sym, ap, length, append_assoc, rules, arith, slice_get_within, nil_from_length, common_steps, Extent, domain_of, part_of, IsFresh, middle_at, at_index, crew_domains, crew_each, crew_parts, workers_few}
 use Rattle.put_exchange.proofs.handing.hand_all.Goals as goal
 
 abbrev none : Extent
 none = record { at = 0; len = 0 }
+
+pub loop-part-init : goal.loop-part-init
+loop-part-init g c = record {
+  all = first_of (search rules, grind (arith, common_steps));
+  parts = (λ i. map (λ worker. part_of worker) (c.requires.workers i) ++ c.requires.rest i);
+  domains = ap (λ (ws : List (Worker g.row.D.Denot)). map (λ worker. domain_of worker) ws) c.requires.workers
+      ∙ sym (ap (λ (ws : List (Worker g.row.D.Denot)). take (length ws) c.args.domains.now) c.requires.workers);
+  workers = λ worker m. absurd (subst (λ (ws : List (Worker g.row.D.Denot)). In ws worker) c.requires.workers m);
+  workers_room = refl;
+  rest_room = refl;
+  past = subst (λ (os : List Owned). IsPast 0 c.args.plan.now.list.now os) (sym c.as_slice-entries.ensures) (past_none 0 c.args.plan.now.list.now);
+  back = refl;
+}
 
 pub hand_one-requires-clause-domain : goal.hand_one-requires-clause-domain
 hand_one-requires-clause-domain g c κs within =
@@ -45,5 +58,6 @@ loop-part-preserved-in-Ok g c =
       workers = crew_each (λ worker. IsFresh g.D.Disk c.args.plan.now worker) c.loop-part.crew.workers.items _ c.in-Ok.worker pushed c.loop-part.invariant.workers c.in-Ok.ensures.worker;
       workers_room = c.push_reserved.ensures.capacity ∙ c.loop-part.invariant.workers_room;
       rest_room = c.loop-part.invariant.rest_room;
+      past = c.hand_one.ensures.past;
       back = c.loop-part.invariant.back;
     }

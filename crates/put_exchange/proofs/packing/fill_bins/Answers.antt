@@ -1,5 +1,5 @@
 -- One entry more.
-use Rattle.put_exchange.proofs.Words.{◌∙◌, sym, length, take, get_or, arith, Owned, entry_in, told_window, entry_ends, cuts_by}
+use Rattle.put_exchange.proofs.Words.{◌∙◌, ℕ, List, ap, sym, length, take, get_or, arith, Owned, entry_in, told_window, entry_ends, cuts_by}
 use Rattle.put_exchange.proofs.PackLaws.{bins_long, entry_binned, entry_kept}
 use Rattle.put_exchange.proofs.packing.fill_bins.Goals as goal
 use Rattle.put_exchange.proofs.packing.fill_bins.Goals.{then-has_piece+in_ok-push, else-has_piece}
@@ -15,7 +15,15 @@ cut_of-requires-clause-end c = entry_ends c.args.turn.now.entries.now c.loop-ent
 
 pub cut_of-requires-clause-from : goal.cut_of-requires-clause-from
 cut_of-requires-clause-from c =
-    c.requires.from (get_or c.args.turn.now.entries.now c.loop-entry.entry-index none) (entry_in c.args.turn.now.entries.now c.loop-entry.entry-index none c.loop-entry-test.true)
+    let piece = c.requires.pieces (get_or c.args.turn.now.entries.now c.loop-entry.entry-index none) (entry_in c.args.turn.now.entries.now c.loop-entry.entry-index none c.loop-entry-test.true) in
+    let room = piece.found in
+    let long = c.post_bytes-bytes.type_inv.0 in
+    let same = ap (λ (b : List ℕ). length b) c.post_bytes-bytes.ensures in
+    omega arith
+
+pub post_bytes-bytes-requires : goal.post_bytes-bytes-requires
+post_bytes-bytes-requires c =
+    c.requires.pieces (get_or c.args.turn.now.entries.now c.loop-entry.entry-index none) (entry_in c.args.turn.now.entries.now c.loop-entry.entry-index none c.loop-entry-test.true)
 
 pub bounds-bins-entry : goal.bounds-bins-entry
 bounds-bins-entry c =
