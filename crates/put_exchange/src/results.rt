@@ -43,11 +43,7 @@ pub(crate) fn take_back<R: Wait, D: Disk>(
 }
 
 // Takes the part of a helper back, and ends its line. What was taken is what was put, so the part has it.
-fn take_one<R: Wait, D: Disk>(
-    rt: &R,
-    plan: &PutPlan,
-    worker: Worker<D>,
-) -> (D, Result<(), DiskErr>)
+fn take_one<R: Wait, D: Disk>(rt: &R, plan: &PutPlan, worker: Worker<D>) -> (D, Result<(), DiskErr>)
     requires plan { IsPlanned plan.now }
     requires worker { IsFed D.Disk plan.now worker }
     ensures put { HasPut (source_in plan.now) plan.now.list.now (planned_turns plan.now (domain_of worker))

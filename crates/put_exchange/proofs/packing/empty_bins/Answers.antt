@@ -6,7 +6,7 @@ use Rattle.put_exchange.proofs.packing.empty_bins.Goals as goal
 pub ranks-preserved : goal.ranks-preserved
 ranks-preserved c =
     let before = c.ranks.bins.items in
-    let bin = c.in_ok-with_capacity.ok in
+    let bin = c.in_ok-with_capacity.field-0 in
     let empty : bin.items ≡ [] = first_of (search rules, grind (arith, common_steps)) in
     let grown = c.push_reserved.ensures.items in
     let long = length-append before (bin ∷ []) in

@@ -1,5 +1,5 @@
 -- One entry more.
-use Rattle.put_exchange.proofs.Words.{◌∙◌, ℕ, List, ap, sym, length, take, get_or, arith, Owned, entry_in, told_window, entry_ends, cuts_by}
+use Rattle.put_exchange.proofs.Words.{◌∙◌, ℕ, List, ap, sym, length, take, get_or, arith, Owned, entry_in, told_window, entry_ends, Vec, Global, binned, cuts_by, Cut}
 use Rattle.put_exchange.proofs.PackLaws.{bins_long, entry_binned, entry_kept}
 use Rattle.put_exchange.proofs.packing.fill_bins.Goals as goal
 use Rattle.put_exchange.proofs.packing.fill_bins.Goals.{then-has_piece+in_ok-push, else-has_piece}
@@ -47,6 +47,6 @@ loop-entry-preserved c =
             c.loop-entry.invariant.binned w.cut_of.ensures w.in_ok-push.ensures.items w.bins-is;
       }
       | else-has_piece w ↦ record {
-        binned = w.bins-is ∙ entry_kept n i list none t bins c.loop-entry-test.true (sym c.has_piece.ensures ∙ w.if-has_piece.false) c.loop-entry.invariant.binned;
+        binned = ap (λ (bs : List (Vec Cut Global)). binned bs) w.bins-is ∙ entry_kept n i list none t (binned bins) c.loop-entry-test.true (sym c.has_piece.ensures ∙ w.if-has_piece.false) c.loop-entry.invariant.binned;
       }
     ]

@@ -8,7 +8,7 @@ turns-init c =
     let plan = c.args.plan.now in
     record {
       packing = packing_begin (source_in plan) (length plan.job.now.batches) (min plan.hints.now.cb_buffer c.args.domain.len) plan.list.now (planned_turns plan c.args.domain) c.walk_of-walk.result _ _
-    c.walk_of-walk.ensures.ready c.walk_of-walk.ensures.at c.walk_of-walk.ensures.windows c.new-rounds.ensures.items c.new-dues.ensures.items;
+          c.walk_of-walk.ensures.ready c.walk_of-walk.ensures.at c.walk_of-walk.ensures.windows c.new-rounds.ensures.items c.new-dues.ensures.items;
       past = c.requires.past;
     }
 
@@ -51,8 +51,8 @@ turns-preserved c =
     let many : c.len.result ≡ length c.in_ok-messages.messages.items = first_of (search rules, grind (arith, common_steps)) in
     record {
       packing = packing_next (source_in plan) (length plan.job.now.batches) (min plan.hints.now.cb_buffer c.args.domain.len) plan.list.now begun (planned_turns plan c.args.domain)
-    c.turns.walk c.next_turn.new.self c.in-Some.turn.window c.turns.rounds.items _ _ c.turns.dues.items _ _ c.turns.invariant.packing c.in-Some.ensures.some c.in-Some.ensures.ready c.in-Some.ensures.front
-    c.in-Some.ensures.past c.in_ok-push_back.ensures.items c.in_ok-messages.ensures c.in_ok-push.ensures.items refl many;
+          c.turns.walk c.next_turn.new.self c.in-Some.turn.window c.turns.rounds.items _ _ c.turns.dues.items _ _ c.turns.invariant.packing c.in-Some.ensures.some c.in-Some.ensures.ready c.in-Some.ensures.front
+          c.in-Some.ensures.past c.in_ok-push_back.ensures.items c.in_ok-messages.ensures c.in_ok-push.ensures.items refl many;
       past = past_turn plan.list.now c.turns.walk.entries.now c.next_turn.new.self.entries.now (min plan.hints.now.cb_buffer c.args.domain.len) (turns_ahead c.turns.walk.windows)
           (turns_ahead c.next_turn.new.self.windows) (told_window c.in-Some.turn.window) c.turns.invariant.packing.here c.in-Some.ensures.some c.in-Some.ensures.past;
     }

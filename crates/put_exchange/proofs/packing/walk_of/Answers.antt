@@ -1,5 +1,5 @@
 -- The windows of a domain begin no earlier than it does.
-use Rattle.put_exchange.proofs.Words.{◌≤◌, List, min, refl, rules, arith, common_steps, subst, sym, AreTurns, LieOnPart, Told, plan_on, plan_turns}
+use Rattle.put_exchange.proofs.Words.{◌≤◌, List, min, refl, rules, arith, common_steps, subst, sym, AreTurns, LieOnPart, Told, TurnWalk, plan_on, plan_turns}
 use Rattle.put_exchange.proofs.MailLaws.{own_domain, walk_onward}
 use Rattle.put_exchange.proofs.packing.walk_of.Goals as goal
 
@@ -16,7 +16,8 @@ returns-clause-ready c =
     let on = subst (λ (ts : List Told). LieOnPart domain.at domain.len ts) (sym c.new-walk.ensures.windows)
     (plan_on batches list cover size domain.at domain.len domain c.requires.plan (own_domain list domain)) in
     let turns = subst (λ (ts : List Told). AreTurns list room ts) (sym c.new-walk.ensures.windows) (plan_turns batches list cover size domain c.requires.plan) in
-    (walk_onward c.args.ahead.now.place list room domain c.new-walk.result _ c.requires.plan.sorted c.requires.plan.ends c.requires.past low on refl c.new-walk.ensures.ready turns).ready
+    let onward : TurnWalk = record { windows = c.new-walk.result.windows; entries = c.args.ahead.now.entries } in
+    (walk_onward c.args.ahead.now.place list room domain c.new-walk.result onward c.requires.plan.sorted c.requires.plan.ends c.requires.past low on refl c.new-walk.ensures.ready turns).ready
 
 pub returns-clause-at : goal.returns-clause-at
 returns-clause-at c =
@@ -31,4 +32,5 @@ returns-clause-at c =
     let on = subst (λ (ts : List Told). LieOnPart domain.at domain.len ts) (sym c.new-walk.ensures.windows)
     (plan_on batches list cover size domain.at domain.len domain c.requires.plan (own_domain list domain)) in
     let turns = subst (λ (ts : List Told). AreTurns list room ts) (sym c.new-walk.ensures.windows) (plan_turns batches list cover size domain c.requires.plan) in
-    (walk_onward c.args.ahead.now.place list room domain c.new-walk.result _ c.requires.plan.sorted c.requires.plan.ends c.requires.past low on refl c.new-walk.ensures.ready turns).at
+    let onward : TurnWalk = record { windows = c.new-walk.result.windows; entries = c.args.ahead.now.entries } in
+    (walk_onward c.args.ahead.now.place list room domain c.new-walk.result onward c.requires.plan.sorted c.requires.plan.ends c.requires.past low on refl c.new-walk.ensures.ready turns).at
