@@ -56,7 +56,7 @@ and_second_ok (Ok x) (Ok y) = refl
 and_second_ok (Ok x) (Err y) = tt
 and_second_ok (Err x) came = tt
 
--- ---- workers that were told to go and were fed
+-- ---- workers that were lent, and came back changed
 
 pub each_new : {X : Type 0} (P Q : X → Type 0) (R : X → X → Type 0) (old new : List X) → length new ≡ length old
     → ((k : ℕ) (x y : X) → slice_get old k ≡ Some x → slice_get new k ≡ Some y → R x y) → ((x : X) → In old x → P x) → ((x y : X) → R x y → P x → Q y) → (y : X) → In new y → Q y
@@ -126,24 +126,3 @@ zip_same Q (x ∷ xs) (d ∷ ds) long f = (f x d, zip_same Q xs ds (omega arith)
 
 pub slice_kept : {X : Type 0} (n : ℕ) (new old : List X) → n ≡ length old → length new ≡ length old → take n (new ++ drop (length new) old) ≡ new
 slice_kept {X} n new old e l = ap (λ (m : ℕ). take m (new ++ drop (length new) old)) e ∙ refilled old new l
-
--- it was lent twice: what came back first is what was lent again, and what came back then stands there
-pub record WasLentTwice {X : Type 0} (n : ℕ) (first mid again last : List X) : Type 0 where
-  pub long : length mid ≡ length first
-  pub same : again ≡ mid
-  pub longer : length last ≡ length mid
-  pub whole : take n (last ++ drop (length last) (take n (mid ++ drop (length mid) first))) ≡ last
-
-pub lent_twice : {X : Type 0} (n : ℕ) (first lent mid again last : List X) → n ≡ length first → lent ≡ first → length mid ≡ length lent
-    → again ≡ take n (mid ++ drop (length mid) first) → length last ≡ length again → WasLentTwice n first mid again last
-lent_twice {X} n first lent mid again last e f l g m =
-    let long = l ∙ ap (λ (xs : List X). length xs) f in
-    let kept = slice_kept n mid first e long in
-    let stands = ap (λ (xs : List X). length xs) kept in
-    let longer = m ∙ ap (λ (xs : List X). length xs) (g ∙ kept) in
-    record {
-      long = long;
-      same = g ∙ kept;
-      longer = longer;
-      whole = slice_kept n last (take n (mid ++ drop (length mid) first)) (e ∙ sym long ∙ sym stands) (longer ∙ sym stands);
-    }

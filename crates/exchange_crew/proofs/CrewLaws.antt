@@ -1,15 +1,6 @@
--- Helpers that were started one after another, each for the next part.
-use Rattle.exchange_crew.proofs.Words.{◌≡◌, ℕ, ◌+◌, inl, inr, sym, ◌∙◌, ap, subst, List, [], ◌∷◌, ◌++◌, length, map, take, Some, Result, Ok, Err, arith, append-nil, length-append, length-map, map-append, take_all, slice_get, zip, IsOk, OnOk, AllZip, take_next, Extent, In, in_either, SomeZip}
-use Rattle.exchange_crew.proofs.BackLaws.{map_new, some_mapped, zip_mapped}
-
--- where a helper was started for each part, they are those of the parts and domains
-pub all_started : {S D : Type 0} (part : S → D) (share : S → Extent) (workers : List S) (rest parts : List D) (domains : List Extent) → rest ≡ [] → map part workers ++ rest ≡ parts
-    → map share workers ≡ take (length workers) domains → length domains ≡ length parts → (map part workers ≡ parts) × (map share workers ≡ domains)
-all_started {S} {D} part share workers rest parts domains none whole shares long =
-    let all : map part workers ≡ parts = sym (append-nil (map part workers)) ∙ ap (λ (r : List D). map part workers ++ r) (sym none) ∙ whole in
-    let many = length-map workers part in
-    let same = ap (λ (ds : List D). length ds) all in
-    (all, shares ∙ take_all (length workers) domains (omega arith))
+-- Helpers that were handed parts one after another, each the next part.
+use Rattle.exchange_crew.proofs.Words.{◌≡◌, ℕ, ◌+◌, inl, inr, sym, ◌∙◌, ap, subst, List, [], ◌∷◌, ◌++◌, length, map, take, Some, Result, Ok, Err, arith, append-nil, length-append, length-map, map-append, slice_get, zip, IsOk, OnOk, AllZip, take_next, Extent, In, in_either, SomeZip}
+use Rattle.exchange_crew.proofs.BackLaws.{some_mapped, zip_mapped}
 
 pub workers_few : {S D : Type 0} (part : S → D) (workers : List S) (rest parts : List D) → map part workers ++ rest ≡ parts → length workers + length rest ≡ length parts
 workers_few {S} {D} part workers rest parts whole =
@@ -18,7 +9,7 @@ workers_few {S} {D} part workers rest parts whole =
     let same = ap (λ (ds : List D). length ds) whole in
     omega arith
 
--- ---- one helper more was started
+-- ---- one helper more was handed its part
 
 pub crew_parts : {S D : Type 0} (part : S → D) (workers now : List S) (worker : S) (rest yielded : List D) (own : D) → now ≡ workers ++ worker ∷ [] → rest ≡ [] → part worker ≡ own
     → map part workers ++ rest ≡ yielded → map part now ++ rest ≡ yielded ++ own ∷ []
@@ -50,7 +41,7 @@ crew_each {S} P workers now worker e all own s m =
       | inr (inr g) ↦ absurd g
     ]
 
--- ---- one helper more was joined
+-- ---- one part more came back
 
 -- what holds of each worker so far and of the last one, where nothing was refused
 pub each_joined : {S T U V E : Type 0} (P : S → Type 0) (workers : List S) (worker : S) (end : Result T E) (came : Result U E) (both : Result V E) → OnOk both (IsOk end) → OnOk both (IsOk came)
@@ -61,34 +52,10 @@ each_joined P workers worker (Ok u) (Ok v) (Ok w) first second all own =
 each_joined P workers worker (Err u) came (Ok w) first second all own = absurd cc
 each_joined P workers worker (Ok u) (Err v) (Ok w) first second all own = absurd cc
 
--- ---- helpers that were started, told to go, and done with
-
 -- they are of these parts and domains
 pub record AreOf {S D : Type 0} (part : S → D) (share : S → Extent) (workers : List S) (parts : List D) (domains : List Extent) : Type 0 where
   pub of_parts : map part workers ≡ parts
   pub of_domains : map share workers ≡ domains
-
--- each keeps its part and its domain
-abbrev pub Keeps : {S D : Type 0} → (S → D) → (S → Extent) → (S → S → Type 0) → Type 0
-Keeps {S} part share R = (a b : S) → R a b → (part b ≡ part a) × (share b ≡ share a)
-
--- those that were started for all parts, as they were lent to be told, and lent again to be done with
-abbrev pub StayOf : {S D : Type 0} → (S → D) → (S → Extent) → (S → S → Type 0) → (S → S → Type 0) → Type 0
-StayOf {S} {D} part share Told Done =
-    (first lent mid again last : List S) (rest parts : List D) (domains : List Extent) → lent ≡ first → again ≡ mid
-    → length mid ≡ length lent → ((k : ℕ) (a b : S) → slice_get lent k ≡ Some a → slice_get mid k ≡ Some b → Told a b)
-    → length last ≡ length again → ((k : ℕ) (a b : S) → slice_get again k ≡ Some a → slice_get last k ≡ Some b → Done a b)
-    → rest ≡ [] → map part first ++ rest ≡ parts → map share first ≡ take (length first) domains → length domains ≡ length parts → AreOf part share last parts domains
-
-pub stay_of : {S D : Type 0} (part : S → D) (share : S → Extent) (Told Done : S → S → Type 0) → Keeps part share Told → Keeps part share Done → StayOf part share Told Done
-stay_of {S} {D} part share Told Done t d first lent mid again last rest parts domains e f long told longer done none whole shares one_each =
-    let started = all_started part share first rest parts domains none whole shares one_each in
-    record {
-      of_parts = map_new part Done again last longer done (λ a b h. (d a b h).0) ∙ ap (λ (ws : List S). map part ws) f
-          ∙ map_new part Told lent mid long told (λ a b h. (t a b h).0) ∙ ap (λ (ws : List S). map part ws) e ∙ started.0;
-      of_domains = map_new share Done again last longer done (λ a b h. (d a b h).1) ∙ ap (λ (ws : List S). map share ws) f
-          ∙ map_new share Told lent mid long told (λ a b h. (t a b h).1) ∙ ap (λ (ws : List S). map share ws) e ∙ started.1;
-    }
 
 pub all_of : {S D : Type 0} (part : S → D) (share : S → Extent) (workers : List S) (parts back : List D) (domains : List Extent) (Q : D × Extent → D → Type 0) → AreOf part share workers parts domains
     → AllZip (λ worker new. Q (part worker, share worker) new) workers back → AllZip Q (zip parts domains) back

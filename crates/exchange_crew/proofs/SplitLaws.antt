@@ -1,5 +1,6 @@
 -- The first parts, and those behind them: what holds of both holds of all.
-use Rattle.exchange_crew.proofs.Words.{◌≡◌, ℕ, zero, suc, inl, inr, ap, sym, ◌∙◌, List, [], ◌∷◌, ◌++◌, length, map, take, drop, arith, drop-append_seam, take-append_seam, length-map, zip, AllZip, SomeZip}
+use Rattle.exchange_crew.proofs.Words.{◌≡◌, ℕ, zero, suc, ◌+◌, inl, inr, ap, subst, sym, ◌∙◌, List, [], ◌∷◌, ◌++◌, length, map, take, drop, Some, Result, arith, drop-append_seam, take-append_seam, length-map, slice_get, zip, IsErrOf, AllZip, result_and, Extent, Owned, DiskErr, Failed, IsDomainOf, SomeZip}
+use Rattle.exchange_crew.proofs.BackLaws.{and_failed}
 
 pub zip_split : {A B : Type 0} (k : ℕ) (xs : List A) (ds : List B) → length ds ≡ length xs → zip xs ds ≡ zip (take k xs) (take k ds) ++ zip (drop k xs) (drop k ds)
 zip_split zero xs ds long = λ i. zip xs ds
@@ -46,3 +47,27 @@ parts_behind {S} {D} part workers rest parts k many whole =
     sym (drop-append_seam (map part workers) rest)
     ∙ ap (λ (ds : List D). drop (length (map part workers)) ds) whole
     ∙ ap (λ (n : ℕ). drop n parts) (sym long)
+
+behind_at : {X : Type 0} (n : ℕ) (xs : List X) (k : ℕ) (x : X) → slice_get (drop n xs) k ≡ Some x → slice_get xs (n + k) ≡ Some x
+behind_at zero xs k x e = let same : zero + k ≡ k = omega arith in ap (λ (i : ℕ). slice_get xs i) same ∙ e
+behind_at (suc n) [] k x e = absurd cc
+behind_at (suc n) (y ∷ xs) k x e = let same : suc n + k ≡ suc (n + k) = omega arith in ap (λ (i : ℕ). slice_get (y ∷ xs) i) same ∙ behind_at n xs k x e
+
+pub domains_behind : {D : Type 0} (from len : D → ℕ) (list : List Owned) (n : ℕ) (parts rest : List D) (domains more : List Extent) → rest ≡ drop n parts → more ≡ drop n domains
+    → ((k : ℕ) (part : D) (domain : Extent) → slice_get parts k ≡ Some part → slice_get domains k ≡ Some domain → IsDomainOf list (from part) (len part) domain)
+    → (k : ℕ) (part : D) (domain : Extent) → slice_get rest k ≡ Some part → slice_get more k ≡ Some domain → IsDomainOf list (from part) (len part) domain
+domains_behind {D} from len list n parts rest domains more behind later each k part domain e f =
+    each (n + k) part domain
+    (behind_at n parts k part (subst (λ (ps : List D). slice_get ps k ≡ Some part) behind e))
+    (behind_at n domains k domain (subst (λ (ds : List Extent). slice_get ds k ≡ Some domain) later f))
+
+-- ---- a fault among them
+
+pub failed_joined : {D T : Type 0} (R : D → D → Type 0) (parts rest back others whole : List D) (end came : Result T DiskErr) → rest ≡ drop (length back) parts → whole ≡ back ++ others
+    → (IsErrOf end Failed → SomeZip R (take (length back) parts) back) → (IsErrOf came Failed → SomeZip R rest others) → IsErrOf (result_and end came) Failed → SomeZip R parts whole
+failed_joined {D} R parts rest back others whole end came behind all first second f =
+    subst (λ (ds : List D). SomeZip R parts ds) (sym all)
+    (elim (and_failed end came f) [
+      | inl e ↦ some_first R (length back) parts back others (first e)
+      | inr e ↦ some_second R parts back others (subst (λ (ps : List D). SomeZip R ps others) behind (second e))
+    ])

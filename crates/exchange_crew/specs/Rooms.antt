@@ -1,4 +1,4 @@
--- Lists that are made before any helper is started. (own)
+-- Lists that are made before any part is handed out. (own)
 --     HasRooms n crew     they are empty, and each has room for so many items
 use Rattle.std.specs.Prelude.{◌≡◌, ℕ, ◌≤◌, [], vec_capacity}
 use Rattle.exchange_crew.specs.declared.crew.Crew.{Crew}

@@ -1,8 +1,8 @@
-//! What the puts and the gets of an exchange stand on: what each is lent, the windows of a part with their entries, and helper threads,
-//! from the word that one waits for to the part that it gives back.
+//! What the puts and the gets of an exchange stand on: what each is lent, the windows of a part with their entries, and helpers, from the
+//! part that one is handed to what comes back of it.
 //!
-//! Helper and caller each go over the windows of a part by a walk of their own over what is lent to both, which does not change. So both
-//! know its pieces and its windows, and nobody has to say where a line ends.
+//! A helper goes over the windows that stand in its job, and the caller over the same ones. So both know how many items go over a line,
+//! and nobody has to say where it ends.
 #![tactic(auto)]
 
 mod crew;
@@ -11,7 +11,7 @@ mod plan;
 mod shared_job;
 mod walk;
 
-pub use crew::{Crew, Ends, Returned, STACK_SIZE, Word, give_back, make_rooms, stopped};
+pub use crew::{Crew, STACK_SIZE, give_back, make_rooms};
 pub use errand::{Errand, PartBack, PartEnds};
 pub use plan::{Aggregator, GetPlan, PutPlan, Tools};
 pub use shared_job::SharedJob;

@@ -10,3 +10,4 @@ mod RoundLaws
 mod MessageLaws
 mod InTurnLaws
 mod WorkerLaws
+mod SplitPuts

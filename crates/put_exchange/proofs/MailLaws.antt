@@ -1,22 +1,54 @@
 -- The messages of a domain, window after window.
-use Rattle.put_exchange.proofs.Words.{◌≡◌, ℕ, ◌+◌, ◌^◌, ◌<◌, sym, ◌∙◌, ap, List, [], ◌∷◌, ◌++◌, length, append_assoc, append-nil, flat_map-append, Owned, In, Source, extents, EndBelow, IsPast, AreInFront, AreServed, IsAt, ArePieces, Told, turns_ahead, IsTurnWalk, TurnWalk, at_next, served_are, served_ends, served_in, served_now, turn_limit, sent_in, message_counts, messages_in, messages_of, Sent, Round}
+use Rattle.put_exchange.proofs.Words.{◌≡◌, ℕ, ◌+◌, ◌^◌, ◌<◌, ◌≤◌, inl, refl, subst, arith, sym, ◌∙◌, ap, List, [], ◌∷◌, ◌++◌, length, append_assoc, append-nil, flat_map-append, Extent, Owned, In, Source, IsByPlace, IsDomainOf, IsWalk, LieOnPart, AreTurns, WindowWalk, at_begin, past_extents, past_sorted, past_twice, extents, EndBelow, IsPast, AreInFront, AreServed, IsAt, ArePieces, Told, turns_ahead, IsTurnWalk, TurnWalk, Window, told_window, map-append, counts_due, turns_due, Due, at_next, served_are, served_ends, served_in, served_now, turn_limit, sent_in, message_counts, messages_in, messages_of, Sent, Round}
 use Rattle.put_exchange.proofs.SentLaws.{messages_served}
 
 -- what was packed and what is left of the windows are the whole
-pub record IsPacking (source : Source) (ranks room : ℕ) (list : List Owned) (all : List Told) (w : TurnWalk) (rounds : List Round) (counts : List ℕ) : Type 0 where
+pub record IsPacking (source : Source) (ranks room : ℕ) (list : List Owned) (all : List Told) (w : TurnWalk) (rounds : List Round) (dues : List Due) : Type 0 where
   pub ready : IsTurnWalk w
   pub here : IsAt list room (turns_ahead w.windows) w.entries.now
   pub messages : sent_in rounds ++ messages_of source ranks list (turns_ahead w.windows) ≡ messages_of source ranks list all
-  pub many : counts ++ message_counts source ranks list (turns_ahead w.windows) ≡ message_counts source ranks list all
+  pub windows : turns_due dues ++ turns_ahead w.windows ≡ all
+  pub many : counts_due dues ++ message_counts source ranks list (turns_ahead w.windows) ≡ message_counts source ranks list all
 
-pub packing_begin : (source : Source) (ranks room : ℕ) (list : List Owned) (all : List Told) (w : TurnWalk) (rounds : List Round) (counts : List ℕ) → IsTurnWalk w
-    → IsAt list room (turns_ahead w.windows) w.entries.now → turns_ahead w.windows ≡ all → rounds ≡ [] → counts ≡ [] → IsPacking source ranks room list all w rounds counts
-packing_begin source ranks room list all w rounds counts ready at ahead none nothing = record {
+pub packing_begin : (source : Source) (ranks room : ℕ) (list : List Owned) (all : List Told) (w : TurnWalk) (rounds : List Round) (dues : List Due) → IsTurnWalk w
+    → IsAt list room (turns_ahead w.windows) w.entries.now → turns_ahead w.windows ≡ all → rounds ≡ [] → dues ≡ [] → IsPacking source ranks room list all w rounds dues
+packing_begin source ranks room list all w rounds dues ready at ahead none nothing = record {
   ready = ready;
   here = at;
   messages = (λ i. sent_in (none i) ++ messages_of source ranks list (ahead i));
-  many = (λ i. nothing i ++ message_counts source ranks list (ahead i));
+  windows = (λ i. turns_due (nothing i) ++ ahead i);
+  many = (λ i. counts_due (nothing i) ++ message_counts source ranks list (ahead i));
 }
+
+-- ---- where packing has come to
+
+-- a walk that goes on from there
+pub record IsOnward (list : List Owned) (room : ℕ) (w : TurnWalk) : Type 0 where
+  pub ready : IsTurnWalk w
+  pub at : IsAt list room (turns_ahead w.windows) w.entries.now
+
+pub walk_onward : (place : ℕ) (list : List Owned) (room : ℕ) (domain : Extent) (w v : TurnWalk) → IsByPlace (extents list) → EndBelow (2 ^ 62) (extents list) → IsPast place list v.entries.now
+    → place ≤ domain.at → LieOnPart domain.at domain.len (turns_ahead w.windows) → v.windows ≡ w.windows → IsTurnWalk w → AreTurns list room (turns_ahead w.windows) → IsOnward list room v
+walk_onward place list room domain w v sorted ends past low on same ready turns = record {
+  ready = record {
+    walk = subst (λ (ws : WindowWalk). IsWalk ws) (sym same) ready.walk;
+    sorted = past_sorted place list v.entries.now sorted past;
+    ends = λ e m. ends e (past_extents place list v.entries.now e past m);
+    limit = subst (λ (ws : WindowWalk). (t : Told) → In (turns_ahead ws) t → t.0 + t.1 < 2 ^ 62) (sym same) ready.limit;
+  };
+  at = subst (λ (ws : WindowWalk). IsAt list room (turns_ahead ws) v.entries.now) (sym same)
+      (at_begin list v.entries.now room place (turns_ahead w.windows) past (λ t m. let here = (on t m).0 in omega arith) turns);
+}
+
+-- the whole domain has what it has
+pub own_domain : (list : List Owned) (domain : Extent) → IsDomainOf list domain.at domain.len domain
+own_domain list domain = record { low = omega arith; high = omega arith; whole = λ x l h c. (l, h) }
+
+pub past_turn : (list left later : List Owned) (room : ℕ) (ahead rest : List Told) (t : Told) → IsAt list room ahead left → ahead ≡ t ∷ rest → IsPast (t.0 + t.1) left later → IsPast (t.0 + t.1) list later
+past_turn list left later room ahead rest t a e p =
+    past_twice t.0 (t.0 + t.1) list left later (omega arith) (a.past t (subst (λ (ts : List Told). In ts t) (sym e) (inl refl))) p
+
+-- ---- one window more
 
 -- what packing a window asks of its entries
 pub record IsToPack (source : Source) (ranks : ℕ) (begun : List Owned) (t : Told) : Type 0 where
@@ -25,10 +57,10 @@ pub record IsToPack (source : Source) (ranks : ℕ) (begun : List Owned) (t : To
   pub pieces : ArePieces source begun
   pub below : (o : Owned) → In begun o → o.rank < ranks
 
-pub packing_now : (source : Source) (ranks room : ℕ) (list begun : List Owned) (all : List Told) (w v : TurnWalk) (t : Told) (rounds : List Round) (counts : List ℕ)
-    → EndBelow (2 ^ 62) (extents list) → ArePieces source list → ((o : Owned) → In list o → o.rank < ranks) → IsPacking source ranks room list all w rounds counts
+pub packing_now : (source : Source) (ranks room : ℕ) (list begun : List Owned) (all : List Told) (w v : TurnWalk) (t : Told) (rounds : List Round) (dues : List Due)
+    → EndBelow (2 ^ 62) (extents list) → ArePieces source list → ((o : Owned) → In list o → o.rank < ranks) → IsPacking source ranks room list all w rounds dues
     → turns_ahead w.windows ≡ t ∷ turns_ahead v.windows → AreInFront (t.0 + t.1) w.entries.now begun → IsToPack source ranks begun t
-packing_now source ranks room list begun all w v t rounds counts ends pieces below p e front =
+packing_now source ranks room list begun all w v t rounds dues ends pieces below p e front =
     let served : AreServed list begun t.0 (t.0 + t.1) = served_now list w.entries.now begun room (turns_ahead w.windows) (turns_ahead v.windows) t p.here e front in
     record {
       ends = served_ends list begun t.0 (t.0 + t.1) served ends;
@@ -37,11 +69,13 @@ packing_now source ranks room list begun all w v t rounds counts ends pieces bel
       below = λ o m. below o (served_in list begun t.0 (t.0 + t.1) o served m);
     }
 
-pub packing_next : (source : Source) (ranks room count : ℕ) (list begun : List Owned) (all : List Told) (w v : TurnWalk) (t : Told) (rounds now : List Round) (round : Round) (counts more : List ℕ)
-    → IsPacking source ranks room list all w rounds counts → turns_ahead w.windows ≡ t ∷ turns_ahead v.windows → IsTurnWalk v → AreInFront (t.0 + t.1) w.entries.now begun
-    → IsPast (t.0 + t.1) w.entries.now v.entries.now → now ≡ rounds ++ round ∷ [] → round.messages.items ≡ messages_in source ranks begun t
-    → more ≡ counts ++ count ∷ [] → count ≡ length round.messages.items → IsPacking source ranks room list all v now more
-packing_next source ranks room count list begun all w v t rounds now round counts more p e ready front past pushed packed counted many =
+pub packing_next : (source : Source) (ranks room : ℕ) (list begun : List Owned) (all : List Told) (w v : TurnWalk) (window : Window) (rounds now : List Round) (round : Round) (dues more : List Due)
+    (due : Due) → IsPacking source ranks room list all w rounds dues → turns_ahead w.windows ≡ told_window window ∷ turns_ahead v.windows → IsTurnWalk v
+    → AreInFront (window.hull.at + window.hull.len) w.entries.now begun → IsPast (window.hull.at + window.hull.len) w.entries.now v.entries.now → now ≡ rounds ++ round ∷ []
+    → round.messages.items ≡ messages_in source ranks begun (told_window window) → more ≡ dues ++ due ∷ [] → due.window ≡ window → due.count ≡ length round.messages.items
+    → IsPacking source ranks room list all v now more
+packing_next source ranks room list begun all w v window rounds now round dues more due p e ready front past pushed packed counted of many =
+    let t = told_window window in
     let served = served_now list w.entries.now begun room (turns_ahead w.windows) (turns_ahead v.windows) t p.here e front in
     let here : round.messages.items ≡ messages_in source ranks list t = packed ∙ messages_served source ranks list begun t served in
     let rest = messages_of source ranks list (turns_ahead v.windows) in
@@ -57,17 +91,32 @@ packing_next source ranks room count list begun all w v t rounds now round count
           ∙ append_assoc (sent_in rounds) (messages_in source ranks list t) rest
           ∙ ap (λ (ts : List Told). sent_in rounds ++ messages_of source ranks list ts) (sym e)
           ∙ p.messages;
+      windows =
+          ap (λ (ds : List Due). turns_due ds ++ turns_ahead v.windows) counted
+          ∙ ap (λ (ts : List Told). ts ++ turns_ahead v.windows) (map-append (λ (d : Due). told_window d.window) dues (due ∷ []))
+          ∙ append_assoc (turns_due dues) (told_window due.window ∷ []) (turns_ahead v.windows)
+          ∙ ap (λ (u : Window). turns_due dues ++ told_window u ∷ turns_ahead v.windows) of
+          ∙ ap (λ (ts : List Told). turns_due dues ++ ts) (sym e)
+          ∙ p.windows;
       many =
-          ap (λ (ns : List ℕ). ns ++ left) counted
-          ∙ append_assoc counts (count ∷ []) left
-          ∙ ap (λ (n : ℕ). counts ++ n ∷ left) (many ∙ ap (λ (ms : List Sent). length ms) here)
-          ∙ ap (λ (ts : List Told). counts ++ message_counts source ranks list ts) (sym e)
+          ap (λ (ds : List Due). counts_due ds ++ left) counted
+          ∙ ap (λ (ns : List ℕ). ns ++ left) (map-append (λ (d : Due). d.count) dues (due ∷ []))
+          ∙ append_assoc (counts_due dues) (due.count ∷ []) left
+          ∙ ap (λ (n : ℕ). counts_due dues ++ n ∷ left) (many ∙ ap (λ (ms : List Sent). length ms) here)
+          ∙ ap (λ (ts : List Told). counts_due dues ++ message_counts source ranks list ts) (sym e)
           ∙ p.many;
     }
 
-pub packing_end : (source : Source) (ranks room : ℕ) (list : List Owned) (all : List Told) (w : TurnWalk) (rounds : List Round) (counts : List ℕ)
-    → IsPacking source ranks room list all w rounds counts → turns_ahead w.windows ≡ [] → (sent_in rounds ≡ messages_of source ranks list all) × (counts ≡ message_counts source ranks list all)
-packing_end source ranks room list all w rounds counts p none = (
-  sym (append-nil (sent_in rounds)) ∙ ap (λ (ts : List Told). sent_in rounds ++ messages_of source ranks list ts) (sym none) ∙ p.messages,
-  sym (append-nil counts) ∙ ap (λ (ts : List Told). counts ++ message_counts source ranks list ts) (sym none) ∙ p.many,
-)
+-- what was packed of a domain
+pub record IsPacked (source : Source) (ranks : ℕ) (list : List Owned) (all : List Told) (rounds : List Round) (dues : List Due) : Type 0 where
+  pub messages : sent_in rounds ≡ messages_of source ranks list all
+  pub windows : turns_due dues ≡ all
+  pub many : counts_due dues ≡ message_counts source ranks list all
+
+pub packing_end : (source : Source) (ranks room : ℕ) (list : List Owned) (all : List Told) (w : TurnWalk) (rounds : List Round) (dues : List Due)
+    → IsPacking source ranks room list all w rounds dues → turns_ahead w.windows ≡ [] → IsPacked source ranks list all rounds dues
+packing_end source ranks room list all w rounds dues p none = record {
+  messages = sym (append-nil (sent_in rounds)) ∙ ap (λ (ts : List Told). sent_in rounds ++ messages_of source ranks list ts) (sym none) ∙ p.messages;
+  windows = sym (append-nil (turns_due dues)) ∙ ap (λ (ts : List Told). turns_due dues ++ ts) (sym none) ∙ p.windows;
+  many = sym (append-nil (counts_due dues)) ∙ ap (λ (ts : List Told). counts_due dues ++ message_counts source ranks list ts) (sym none) ∙ p.many;
+}

@@ -1,36 +1,17 @@
--- Pieces of a message, one after another.
-use Rattle.put_exchange.proofs.Words.{◌≡◌, ℕ, ◌+◌, ◌-◌, ◌≤◌, sym, ◌∙◌, ap, List, [], ◌∷◌, ◌++◌, length, get_or, take, zero, suc, ◌<◌, arith, map-append, take_more, written, Cell, write_cells, moved_down, IsFrom, IsWithin, cells_of, LentPiece}
+-- Cuts of a message, one after another.
+use Rattle.put_exchange.proofs.Words.{◌≡◌, ℕ, ◌+◌, ◌-◌, ◌<◌, sym, ◌∙◌, ap, List, [], ◌∷◌, ◌++◌, length, get_or, take, map-append, take_more, written, Cell, write_cells, moved_down, bytes_of, cells_of, Cut, Post}
 use Rattle.put_exchange.proofs.TakenLaws.{written_more}
 
-pub cells_push : (pieces : List LentPiece) (p : LentPiece) → cells_of (pieces ++ p ∷ []) ≡ cells_of pieces ++ (p.at, p.bytes.now) ∷ []
-cells_push pieces p = map-append (λ (q : LentPiece). (q.at, q.bytes.now)) pieces (p ∷ [])
+cells_push : (posts : List Post) (cuts : List Cut) (c : Cut) → cells_of posts (cuts ++ c ∷ []) ≡ cells_of posts cuts ++ (c.at, bytes_of posts c) ∷ []
+cells_push posts cuts c = map-append (λ (d : Cut). (d.at, bytes_of posts d)) cuts (c ∷ [])
 
-pub from_push : (lo : ℕ) (cells : List Cell) (c : Cell) → IsFrom lo cells → lo ≤ c.0 → IsFrom lo (cells ++ c ∷ [])
-from_push lo [] c h l = (l, tt)
-from_push lo (d ∷ cells) c h l = (h.0, from_push lo cells c h.1 l)
-
-pub within_push : (n : ℕ) (cells : List Cell) (c : Cell) → IsWithin cells n → c.0 + length c.1 ≤ n → IsWithin (cells ++ c ∷ []) n
-within_push n [] c h l = (l, tt)
-within_push n (d ∷ cells) c h l = (h.0, within_push n cells c h.1 l)
-
-pub piece_from : (lo i : ℕ) (pieces : List LentPiece) (d : LentPiece) → IsFrom lo (cells_of pieces) → i < length pieces → lo ≤ (get_or pieces i d).at
-piece_from lo i [] d h l = absurd (omega arith)
-piece_from lo zero (p ∷ pieces) d h l = h.0
-piece_from lo (suc i) (p ∷ pieces) d h l = piece_from lo i pieces d h.1 (omega arith)
-
-pub piece_within : (n i : ℕ) (pieces : List LentPiece) (d : LentPiece) → IsWithin (cells_of pieces) n → i < length pieces
-    → (get_or pieces i d).at + length (get_or pieces i d).bytes.now ≤ n
-piece_within n i [] d h l = absurd (omega arith)
-piece_within n zero (p ∷ pieces) d h l = h.0
-piece_within n (suc i) (p ∷ pieces) d h l = piece_within n i pieces d h.1 (omega arith)
-
--- one piece more that is laid
-pub laid_piece : (lo i : ℕ) (pieces : List LentPiece) (d : LentPiece) (old buf new : List ℕ) → i < length pieces → buf ≡ write_cells old (moved_down lo (cells_of (take i pieces)))
-    → new ≡ written buf ((get_or pieces i d).at - lo) (get_or pieces i d).bytes.now → new ≡ write_cells old (moved_down lo (cells_of (take (i + 1) pieces)))
-laid_piece lo i pieces d old buf new l e f =
-    let p = get_or pieces i d in
+-- one cut more that is laid
+pub laid_cut : (lo i : ℕ) (posts : List Post) (cuts : List Cut) (d : Cut) (old buf new : List ℕ) → i < length cuts → buf ≡ write_cells old (moved_down lo (cells_of posts (take i cuts)))
+    → new ≡ written buf ((get_or cuts i d).at - lo) (bytes_of posts (get_or cuts i d)) → new ≡ write_cells old (moved_down lo (cells_of posts (take (i + 1) cuts)))
+laid_cut lo i posts cuts d old buf new l e f =
+    let c = get_or cuts i d in
     f
-    ∙ ap (λ (b : List ℕ). written b (p.at - lo) p.bytes.now) e
-    ∙ written_more lo (cells_of (take i pieces)) ((p.at, p.bytes.now) ∷ []) old
-    ∙ sym (ap (λ (ps : List LentPiece). write_cells old (moved_down lo (cells_of ps))) (take_more pieces i d l)
-    ∙ ap (λ (cells : List Cell). write_cells old (moved_down lo cells)) (cells_push (take i pieces) p))
+    ∙ ap (λ (b : List ℕ). written b (c.at - lo) (bytes_of posts c)) e
+    ∙ written_more lo (cells_of posts (take i cuts)) ((c.at, bytes_of posts c) ∷ []) old
+    ∙ sym (ap (λ (cs : List Cut). write_cells old (moved_down lo (cells_of posts cs))) (take_more cuts i d l)
+    ∙ ap (λ (cells : List Cell). write_cells old (moved_down lo cells)) (cells_push posts (take i cuts) c))

@@ -1,6 +1,5 @@
--- Packing: one entry more goes into the message of its rank.
-use Rattle.put_exchange.proofs.Words.{◌≡◌, ℕ, zero, suc, ◌+◌, ◌<◌, ◌≤◌, refl, sym, ◌∙◌, ap, List, [], ◌∷◌, ◌++◌, length, map, take, drop, set, get_or, Bool, true, false, cond, ◌&&◌, arith, and_right, eqb-true, append-nil, length-map, map-append, take_more, length-range_with_len, filter-append, slice_get-get_or, slice_get, ◌==◌, range_with_len, range_push, equal_true, Batch, Owned, Cell, Source, cell_of, clip, part_at, part_in, part_bytes, meets, of_rank, Told, puts_of_some, source_of, cells_in, hull_of, sent, sent_by, with_piece, Sent}
-use Rattle.put_exchange.proofs.SentLaws.{cells_joined}
+-- Packing: one entry more goes into the list of its rank, and one list more into a message.
+use Rattle.put_exchange.proofs.Words.{◌≡◌, ℕ, zero, suc, ◌+◌, ◌<◌, ◌≤◌, inl, inr, refl, sym, ◌∙◌, ap, subst, List, [], ◌∷◌, ◌++◌, length, map, take, set, get_or, Bool, true, false, cond, Some, ◌&&◌, arith, and_parts, and_right, eqb-true, append-nil, length-map, map-append, take_more, length-range_with_len, filter, filter-append, slice_get-get_or, slice_get, ◌==◌, range_with_len, range_push, equal_true, Batch, Extent, Owned, Post, Cell, Vec, Global, In, map_in, filter_in, cell_of, clip, part_at, part_bytes, slot_in, meets, of_rank, ArePieces, Told, puts_of_some, source_of, AreCuts, IsCut, binned, bytes_of, cells_in, cells_of, cut_in, cuts_by, has_pieces, hull_of, posts_of, sent, sent_by, Cut, Sent}
 
 -- ---- the bytes of an entry's post
 
@@ -12,33 +11,69 @@ batch_in (b ∷ batches) (suc rank) slot h = let l = batch_in batches rank slot 
 pub batch_puts : (batches : List Batch) (rank : ℕ) (d : Batch) → rank < length batches → (get_or batches rank d).puts ≡ puts_of_some (slice_get batches rank)
 batch_puts batches rank d l = sym (ap puts_of_some (slice_get-get_or batches rank d l))
 
--- the piece of an entry is its cell in the hull
-pub cut_clip : (lo hi : ℕ) (source : Source) (o p : Owned) (post bytes : List ℕ) → p ≡ part_in lo hi o → bytes ≡ take p.extent.len (drop p.from post) → post ≡ source o.rank o.slot
-    → (p.extent.at, bytes) ≡ clip lo hi (cell_of source o)
-cut_clip lo hi source o p post bytes part is of =
-    ap (λ (b : List ℕ). (p.extent.at, b)) (is ∙ ap (λ (b : List ℕ). take p.extent.len (drop p.from b)) of)
-    ∙ ap (λ (q : Owned). (q.extent.at, take q.extent.len (drop q.from (source o.rank o.slot)))) part
-    ∙ ap (λ (b : List ℕ). (part_at lo hi o, b)) (part_bytes lo hi o (source o.rank o.slot))
+-- ---- the cuts of a rank's entries
+
+-- an entry of a rank, as a cut and as a cell
+cut_cell : (batches : List Batch) (lo hi r : ℕ) (o : Owned) → o.rank ≡ r → ((cut_in lo hi o).at, bytes_of (posts_of batches r) (cut_in lo hi o)) ≡ clip lo hi (cell_of (source_of batches) o)
+cut_cell batches lo hi r o e =
+    sym (ap (λ (k : ℕ). ((cut_in lo hi o).at, bytes_of (posts_of batches k) (cut_in lo hi o))) e)
+    ∙ ap (λ (b : List ℕ). (part_at lo hi o, b)) (part_bytes lo hi o (source_of batches o.rank o.slot))
+
+cut_cells : (batches : List Batch) (t : Told) (r : ℕ) (os : List Owned) → ((o : Owned) → In os o → o.rank ≡ r)
+    → cells_of (posts_of batches r) (map (λ o. cut_in t.0 (t.0 + t.1) o) os) ≡ cells_in (source_of batches) t os
+cut_cells batches t r [] own = refl
+cut_cells batches t r (o ∷ os) own =
+    let first = cut_cell batches t.0 (t.0 + t.1) r o (own o (inl refl)) in
+    let rest = cut_cells batches t r os (λ p m. own p (inr m)) in
+    λ i. first i ∷ rest i
+
+-- what is told of an entry of a rank
+pub record IsOfRank (list : List Owned) (lo hi r : ℕ) (o : Owned) : Type 0 where
+  pub inside : In list o
+  pub rank : o.rank ≡ r
+
+of_rank_in : (list : List Owned) (lo hi r : ℕ) (o : Owned) → In (of_rank lo hi r list) o → IsOfRank list lo hi r o
+of_rank_in list lo hi r o m =
+    let f = filter_in (λ p. p.rank == r && meets lo hi p) list o m in
+    record { inside = f.0; rank = eqb-true _ _ (and_parts (o.rank == r) (meets lo hi o) f.1).0 }
+
+pub cuts_cells : (batches : List Batch) (t : Told) (r : ℕ) (list : List Owned)
+    → cells_of (posts_of batches r) (cuts_by t list r) ≡ cells_in (source_of batches) t (of_rank t.0 (t.0 + t.1) r list)
+cuts_cells batches t r list = cut_cells batches t r (of_rank t.0 (t.0 + t.1) r list) (λ o m. (of_rank_in list t.0 (t.0 + t.1) r o m).rank)
+
+pub cuts_are : (batches : List Batch) (t : Told) (r : ℕ) (list : List Owned) → ArePieces (source_of batches) list → r < length batches → AreCuts batches (hull_of t) r (cuts_by t list r)
+cuts_are batches t r list pieces l = record {
+  batch = l;
+  each = λ c m.
+      (let found = map_in (λ o. cut_in t.0 (t.0 + t.1) o) (of_rank t.0 (t.0 + t.1) r list) c m in
+      let of = of_rank_in list t.0 (t.0 + t.1) r found.0 found.1 in
+      subst (λ (d : Cut). IsCut (posts_of batches r) (hull_of t) d) found.2 (one found.0 of.inside of.rank));
+}
+  where
+    one : (o : Owned) → In list o → o.rank ≡ r → IsCut (posts_of batches r) (hull_of t) (cut_in t.0 (t.0 + t.1) o)
+    one o m e =
+        let p = pieces o m in
+        let some = p.some in
+        let room = p.found in
+        let same : length (source_of batches o.rank o.slot) ≡ length (source_of batches r o.slot) = ap (λ (k : ℕ). length (source_of batches k o.slot)) e in
+        record { low = omega arith; high = omega arith; put = slot_in (posts_of batches r) o.slot (omega arith); found = omega arith }
 
 -- ---- what one entry more changes
 
-sent_cells : (source : Source) (xs : List Owned) (o : Owned) (t : Told) (r : ℕ) (test : Bool) → (o.rank == r && meets t.0 (t.0 + t.1) o) ≡ test
-    → sent_by source (xs ++ o ∷ []) t r ≡ sent (hull_of t) r (cells_in source t (of_rank t.0 (t.0 + t.1) r xs) ++ cells_in source t (cond test (o ∷ []) []))
-sent_cells source xs o t r test e =
-    ap (λ (os : List Owned). sent (hull_of t) r (cells_in source t os)) (filter-append (λ p. p.rank == r && meets t.0 (t.0 + t.1) p) xs (o ∷ [])
+cuts_tested : (xs : List Owned) (o : Owned) (t : Told) (r : ℕ) (test : Bool) → (o.rank == r && meets t.0 (t.0 + t.1) o) ≡ test
+    → cuts_by t (xs ++ o ∷ []) r ≡ cuts_by t xs r ++ map (λ p. cut_in t.0 (t.0 + t.1) p) (cond test (o ∷ []) [])
+cuts_tested xs o t r test e =
+    ap (λ (os : List Owned). map (λ p. cut_in t.0 (t.0 + t.1) p) os) (filter-append (λ p. p.rank == r && meets t.0 (t.0 + t.1) p) xs (o ∷ [])
     ∙ ap (λ (b : Bool). of_rank t.0 (t.0 + t.1) r xs ++ cond b (o ∷ []) []) e)
-    ∙ ap (λ (cells : List Cell). sent (hull_of t) r cells) (cells_joined source t (of_rank t.0 (t.0 + t.1) r xs) (cond test (o ∷ []) []))
+    ∙ map-append (λ p. cut_in t.0 (t.0 + t.1) p) (of_rank t.0 (t.0 + t.1) r xs) (cond test (o ∷ []) [])
 
-sent_kept : (source : Source) (xs : List Owned) (o : Owned) (t : Told) (r : ℕ) → (o.rank == r && meets t.0 (t.0 + t.1) o) ≡ false → sent_by source xs t r ≡ sent_by source (xs ++ o ∷ []) t r
-sent_kept source xs o t r e =
-    sym (sent_cells source xs o t r false e ∙ ap (λ (cells : List Cell). sent (hull_of t) r cells) (append-nil (cells_in source t (of_rank t.0 (t.0 + t.1) r xs))))
+cuts_kept : (xs : List Owned) (o : Owned) (t : Told) (r : ℕ) → (o.rank == r && meets t.0 (t.0 + t.1) o) ≡ false → cuts_by t xs r ≡ cuts_by t (xs ++ o ∷ []) r
+cuts_kept xs o t r e = sym (cuts_tested xs o t r false e ∙ append-nil (cuts_by t xs r))
 
-pub sent_more : (source : Source) (xs : List Owned) (o : Owned) (t : Told) → meets t.0 (t.0 + t.1) o ≡ true
-    → with_piece (sent_by source xs t o.rank) (clip t.0 (t.0 + t.1) (cell_of source o)) ≡ sent_by source (xs ++ o ∷ []) t o.rank
-sent_more source xs o t e =
-    sym (sent_cells source xs o t o.rank true (ap (λ (b : Bool). b && meets t.0 (t.0 + t.1) o) (equal_true o.rank o.rank refl) ∙ e))
+cuts_more : (xs : List Owned) (o : Owned) (t : Told) → meets t.0 (t.0 + t.1) o ≡ true → cuts_by t xs o.rank ++ cut_in t.0 (t.0 + t.1) o ∷ [] ≡ cuts_by t (xs ++ o ∷ []) o.rank
+cuts_more xs o t e = sym (cuts_tested xs o t o.rank true (ap (λ (b : Bool). b && meets t.0 (t.0 + t.1) o) (equal_true o.rank o.rank refl) ∙ e))
 
--- ---- the messages of all ranks
+-- ---- lists for all ranks
 
 same_map : {X : Type 0} (f g : ℕ → X) (a n : ℕ) → ((j : ℕ) → a ≤ j → f j ≡ g j) → map f (range_with_len a n) ≡ map g (range_with_len a n)
 same_map f g a zero h = refl
@@ -56,24 +91,48 @@ set_map f g a (suc n) (suc k) y l e h =
     let rest = set_map f g (a + 1) n k y (omega arith) (e ∙ ap g next) (λ j m. h j (λ s. m (s ∙ next))) in
     λ i. h a (λ s. omega arith) i ∷ rest i
 
-pub map_at : {X : Type 0} (f : ℕ → X) (a n k : ℕ) (d : X) → k < n → get_or (map f (range_with_len a n)) k d ≡ f (a + k)
-map_at f a zero k d l = absurd (omega arith)
-map_at f a (suc n) zero d l = let here : a ≡ a + 0 = omega arith in ap f here
-map_at f a (suc n) (suc k) d l = let next : a + 1 + k ≡ a + suc k = omega arith in map_at f (a + 1) n k d (omega arith) ∙ ap f next
+-- ---- the lists themselves
 
--- an entry that has a piece goes into the message of its rank
-pub packed_more : (source : Source) (n : ℕ) (xs : List Owned) (o : Owned) (t : Told) (messages : List Sent) (piece : Cell) (d : Sent) → o.rank < n → meets t.0 (t.0 + t.1) o ≡ true
-    → messages ≡ map (λ r. sent_by source xs t r) (range_with_len 0 n) → piece ≡ clip t.0 (t.0 + t.1) (cell_of source o)
-    → set messages o.rank (with_piece (get_or messages o.rank d) piece) ≡ map (λ r. sent_by source (xs ++ o ∷ []) t r) (range_with_len 0 n)
-packed_more source n xs o t messages piece d below meet is cut =
-    let old : ℕ → Sent = λ r. sent_by source xs t r in
-    let new : ℕ → Sent = λ r. sent_by source (xs ++ o ∷ []) t r in
-    let cell = clip t.0 (t.0 + t.1) (cell_of source o) in
+bins_set : (bins : List (Vec Cut Global)) (k : ℕ) (bin : Vec Cut Global) → binned (set bins k bin) ≡ set (binned bins) k bin.items
+bins_set [] k bin = refl
+bins_set (b ∷ bins) zero bin = refl
+bins_set (b ∷ bins) (suc k) bin = ap (λ (r : List (List Cut)). b.items ∷ r) (bins_set bins k bin)
+
+pub bins_long : (f : ℕ → List Cut) (n : ℕ) (bins : List (Vec Cut Global)) → binned bins ≡ map f (range_with_len 0 n) → length bins ≡ n
+bins_long f n bins e =
+    sym (length-map bins (λ bin. bin.items)) ∙ ap (λ (bs : List (List Cut)). length bs) e ∙ length-map (range_with_len 0 n) f ∙ length-range_with_len 0 n
+
+bin_at : (f : ℕ → List Cut) (a n k : ℕ) (bins : List (Vec Cut Global)) (bin : Vec Cut Global) → binned bins ≡ map f (range_with_len a n) → slice_get bins k ≡ Some bin → bin.items ≡ f (a + k)
+bin_at f a n k [] bin e at = absurd cc
+bin_at f a zero k (b ∷ bins) bin e at = absurd cc
+bin_at f a (suc n) zero (b ∷ bins) bin e at =
+    let same : b ≡ bin = cc in
+    let first : b.items ≡ f a = cc in
+    let here : a ≡ a + 0 = omega arith in
+    sym (ap (λ (v : Vec Cut Global). v.items) same) ∙ first ∙ ap f here
+bin_at f a (suc n) (suc k) (b ∷ bins) bin e at =
+    let rest : binned bins ≡ map f (range_with_len (a + 1) n) = cc in
+    let next : a + 1 + k ≡ a + suc k = omega arith in
+    bin_at f (a + 1) n k bins bin rest at ∙ ap f next
+
+pub bin_is : (f : ℕ → List Cut) (n k : ℕ) (bins : List (Vec Cut Global)) (bin : Vec Cut Global) → binned bins ≡ map f (range_with_len 0 n) → slice_get bins k ≡ Some bin → bin.items ≡ f k
+bin_is f n k bins bin e at = let here : 0 + k ≡ k = omega arith in bin_at f 0 n k bins bin e at ∙ ap f here
+
+-- an entry that has a piece goes into the list of its rank
+binned_more : (n : ℕ) (xs : List Owned) (o : Owned) (t : Told) (bins : List (Vec Cut Global)) (bin : Vec Cut Global) (d : Vec Cut Global) → o.rank < n → meets t.0 (t.0 + t.1) o ≡ true
+    → binned bins ≡ map (λ r. cuts_by t xs r) (range_with_len 0 n) → bin.items ≡ (get_or bins o.rank d).items ++ cut_in t.0 (t.0 + t.1) o ∷ []
+    → binned (set bins o.rank bin) ≡ map (λ r. cuts_by t (xs ++ o ∷ []) r) (range_with_len 0 n)
+binned_more n xs o t bins bin d below meet is put =
+    let old : ℕ → List Cut = λ r. cuts_by t xs r in
+    let new : ℕ → List Cut = λ r. cuts_by t (xs ++ o ∷ []) r in
     let here : 0 + o.rank ≡ o.rank = omega arith in
-    (λ i. set (is i) o.rank (with_piece (get_or (is i) o.rank d) (cut i)))
-    ∙ ap (λ (m : Sent). set (map old (range_with_len 0 n)) o.rank (with_piece m cell)) (map_at old 0 n o.rank d below ∙ ap old here)
-    ∙ set_map old new 0 n o.rank (with_piece (old o.rank) cell) below (sent_more source xs o t meet ∙ ap new (sym here))
-    (λ j other. sent_kept source xs o t j (ap (λ (b : Bool). b && meets t.0 (t.0 + t.1) o) (unequal o.rank j (λ e. other (sym e ∙ sym here)))))
+    let long = bins_long old n bins is in
+    let own : (get_or bins o.rank d).items ≡ old o.rank = bin_is old n o.rank bins (get_or bins o.rank d) is (slice_get-get_or bins o.rank d (omega arith)) in
+    bins_set bins o.rank bin
+    ∙ ap (λ (bs : List (List Cut)). set bs o.rank bin.items) is
+    ∙ set_map old new 0 n o.rank bin.items below
+    (put ∙ ap (λ (cs : List Cut). cs ++ cut_in t.0 (t.0 + t.1) o ∷ []) own ∙ cuts_more xs o t meet ∙ ap new (sym here))
+    (λ j other. cuts_kept xs o t j (ap (λ (b : Bool). b && meets t.0 (t.0 + t.1) o) (unequal o.rank j (λ e. other (sym e ∙ sym here)))))
   where
     unequal : (a b : ℕ) → (a ≡ b → ⊥) → (a == b) ≡ false
     unequal a b ne = by_test (a == b) refl
@@ -83,38 +142,27 @@ packed_more source n xs o t messages piece d below meet is cut =
         by_test false e = e
 
 -- one that has none changes nothing
-pub packed_kept : (source : Source) (n : ℕ) (xs : List Owned) (o : Owned) (t : Told) (messages : List Sent) → meets t.0 (t.0 + t.1) o ≡ false
-    → messages ≡ map (λ r. sent_by source xs t r) (range_with_len 0 n) → messages ≡ map (λ r. sent_by source (xs ++ o ∷ []) t r) (range_with_len 0 n)
-packed_kept source n xs o t messages none is =
-    is ∙ same_map (λ r. sent_by source xs t r) (λ r. sent_by source (xs ++ o ∷ []) t r) 0 n
-    (λ j l. sent_kept source xs o t j (and_right (o.rank == j) (meets t.0 (t.0 + t.1) o) none))
+binned_kept : (n : ℕ) (xs : List Owned) (o : Owned) (t : Told) (bins : List (List Cut)) → meets t.0 (t.0 + t.1) o ≡ false
+    → bins ≡ map (λ r. cuts_by t xs r) (range_with_len 0 n) → bins ≡ map (λ r. cuts_by t (xs ++ o ∷ []) r) (range_with_len 0 n)
+binned_kept n xs o t bins none is =
+    is ∙ same_map (λ r. cuts_by t xs r) (λ r. cuts_by t (xs ++ o ∷ []) r) 0 n (λ j l. cuts_kept xs o t j (and_right (o.rank == j) (meets t.0 (t.0 + t.1) o) none))
 
 -- ---- the same along a list
 
-pub entry_packed : (source : Source) (n i : ℕ) (list : List Owned) (e : Owned) (t : Told) (messages now : List Sent) (piece : Cell) (d : Sent) → i < length list → (get_or list i e).rank < n
-    → meets t.0 (t.0 + t.1) (get_or list i e) ≡ true → messages ≡ map (λ r. sent_by source (take i list) t r) (range_with_len 0 n)
-    → piece ≡ clip t.0 (t.0 + t.1) (cell_of source (get_or list i e)) → now ≡ set messages (get_or list i e).rank (with_piece (get_or messages (get_or list i e).rank d) piece)
-    → now ≡ map (λ r. sent_by source (take (i + 1) list) t r) (range_with_len 0 n)
-entry_packed source n i list e t messages now piece d l below meet is cut put =
-    put
-    ∙ packed_more source n (take i list) (get_or list i e) t messages piece d below meet is cut
-    ∙ ap (λ (os : List Owned). map (λ r. sent_by source os t r) (range_with_len 0 n)) (sym (take_more list i e l))
+pub entry_binned : (n i : ℕ) (list : List Owned) (e : Owned) (t : Told) (bins now : List (Vec Cut Global)) (bin d : Vec Cut Global) (cut : Cut) → i < length list → (get_or list i e).rank < n
+    → meets t.0 (t.0 + t.1) (get_or list i e) ≡ true → binned bins ≡ map (λ r. cuts_by t (take i list) r) (range_with_len 0 n)
+    → cut ≡ cut_in t.0 (t.0 + t.1) (get_or list i e) → bin.items ≡ (get_or bins (get_or list i e).rank d).items ++ cut ∷ [] → now ≡ set bins (get_or list i e).rank bin
+    → binned now ≡ map (λ r. cuts_by t (take (i + 1) list) r) (range_with_len 0 n)
+entry_binned n i list e t bins now bin d cut l below meet is of pushed put =
+    let o = get_or list i e in
+    ap (λ (bs : List (Vec Cut Global)). binned bs) put
+    ∙ binned_more n (take i list) o t bins bin d below meet is (pushed ∙ ap (λ (c : Cut). (get_or bins o.rank d).items ++ c ∷ []) of)
+    ∙ ap (λ (os : List Owned). map (λ r. cuts_by t os r) (range_with_len 0 n)) (sym (take_more list i e l))
 
-pub entry_kept : (source : Source) (n i : ℕ) (list : List Owned) (e : Owned) (t : Told) (messages : List Sent) → i < length list → meets t.0 (t.0 + t.1) (get_or list i e) ≡ false
-    → messages ≡ map (λ r. sent_by source (take i list) t r) (range_with_len 0 n) → messages ≡ map (λ r. sent_by source (take (i + 1) list) t r) (range_with_len 0 n)
-entry_kept source n i list e t messages l none is =
-    packed_kept source n (take i list) (get_or list i e) t messages none is
-    ∙ ap (λ (os : List Owned). map (λ r. sent_by source os t r) (range_with_len 0 n)) (sym (take_more list i e l))
-
--- the hull of a rank's message
-pub hull_at : (source : Source) (n k : ℕ) (xs : List Owned) (t : Told) (messages : List Sent) (d : Sent) → k < n → messages ≡ map (λ r. sent_by source xs t r) (range_with_len 0 n)
-    → (get_or messages k d).hull ≡ hull_of t
-hull_at source n k xs t messages d l is =
-    ap (λ (ms : List Sent). (get_or ms k d).hull) is ∙ ap (λ (m : Sent). m.hull) (map_at (λ r. sent_by source xs t r) 0 n k d l)
-
-pub messages_long : (source : Source) (n : ℕ) (xs : List Owned) (t : Told) (messages : List Sent) → messages ≡ map (λ r. sent_by source xs t r) (range_with_len 0 n) → length messages ≡ n
-messages_long source n xs t messages is =
-    ap (λ (ms : List Sent). length ms) is ∙ length-map (range_with_len 0 n) (λ r. sent_by source xs t r) ∙ length-range_with_len 0 n
+pub entry_kept : (n i : ℕ) (list : List Owned) (e : Owned) (t : Told) (bins : List (List Cut)) → i < length list → meets t.0 (t.0 + t.1) (get_or list i e) ≡ false
+    → bins ≡ map (λ r. cuts_by t (take i list) r) (range_with_len 0 n) → bins ≡ map (λ r. cuts_by t (take (i + 1) list) r) (range_with_len 0 n)
+entry_kept n i list e t bins l none is =
+    binned_kept n (take i list) (get_or list i e) t bins none is ∙ ap (λ (os : List Owned). map (λ r. cuts_by t os r) (range_with_len 0 n)) (sym (take_more list i e l))
 
 -- ---- one rank more
 
@@ -122,3 +170,18 @@ pub map_push : {X : Type 0} (f : ℕ → X) (k : ℕ) → map f (range_with_len 
 map_push f k =
     let next : k + 1 ≡ suc k = omega arith in
     ap (λ (n : ℕ). map f (range_with_len 0 n)) next ∙ ap (λ (ns : List ℕ). map f ns) (range_push 0 k k (omega arith)) ∙ map-append f (range_with_len 0 k) (k ∷ [])
+
+-- the messages of so many ranks, and of one more
+pub messages_push : (batches : List Batch) (list : List Owned) (t : Told) (k : ℕ) (now before : List Sent) (cuts : List Cut) → cuts ≡ cuts_by t list k
+    → before ≡ filter has_pieces (map (λ r. sent_by (source_of batches) list t r) (range_with_len 0 k))
+    → now ≡ before ++ filter has_pieces (sent (hull_of t) k (cells_of (posts_of batches k) cuts) ∷ [])
+    → now ≡ filter has_pieces (map (λ r. sent_by (source_of batches) list t r) (range_with_len 0 (k + 1)))
+messages_push batches list t k now before cuts of is put =
+    let f : ℕ → Sent = λ r. sent_by (source_of batches) list t r in
+    let own : sent (hull_of t) k (cells_of (posts_of batches k) cuts) ≡ f k
+    = ap (λ (cs : List Cut). sent (hull_of t) k (cells_of (posts_of batches k) cs)) of ∙ ap (λ (cells : List Cell). sent (hull_of t) k cells) (cuts_cells batches t k list) in
+    put
+    ∙ ap (λ (m : Sent). before ++ filter has_pieces (m ∷ [])) own
+    ∙ ap (λ (ms : List Sent). ms ++ filter has_pieces (f k ∷ [])) is
+    ∙ sym (filter-append has_pieces (map f (range_with_len 0 k)) (f k ∷ []))
+    ∙ ap (λ (ms : List Sent). filter has_pieces ms) (sym (map_push f k))

@@ -1,5 +1,5 @@
 -- A helper that took the planned messages has served its part.
-use Rattle.put_exchange.proofs.Words.{◌≡◌, ℕ, ◌+◌, ◌<◌, ◌≤◌, inl, inr, refl, sym, ◌∙◌, ap, subst, List, [], ◌∷◌, ◌++◌, length, Option, Some, None, Result, Ok, Err, append_assoc, arith, append-nil, length-append, flat_map, IfSome, IsOk, IsErr, OnOk, Owned, DiskCall, with_end-nil, after, with_end, BothTold, said_by, IsOneValued, store_calls, IsBetween, In, Source, cell_of, covered_place, IsWalk, WindowWalk, pieces_in, ArePieces, put_part, cells_in, messages_in, messages_of, Sent, turn_due, Carry, HasPutTaken, HasTaken, IsFilledBy, Told, turns_ahead, AreTurns, HaveWindows, IsTurn, LieOnPart}
+use Rattle.put_exchange.proofs.Words.{◌≡◌, ℕ, ◌+◌, ◌<◌, ◌≤◌, inl, inr, refl, sym, ◌∙◌, ap, subst, List, [], ◌∷◌, ◌++◌, length, Option, Some, None, Result, Ok, Err, append_assoc, arith, append-nil, length-append, flat_map, IfSome, IsOk, IsErr, OnOk, Owned, DiskCall, with_end-nil, after, with_end, BothTold, said_by, IsOneValued, store_calls, IsBetween, In, Source, cell_of, covered_place, in_map, entry_in, drop_at, told_window, pieces_in, ArePieces, put_part, cells_in, messages_in, messages_of, Sent, turn_due, Carry, HasPutTaken, HasTaken, IsFilledBy, Told, AreTurns, HaveWindows, IsTurn, Due, counts_due, turns_due, zero, suc, drop, get_or, slice_get}
 use Rattle.std.specs.Prelude.{map}
 use Rattle.put_exchange.proofs.PieceLaws.{pieces_are, pieces_covered, pieces_found, pieces_picked}
 use Rattle.put_exchange.proofs.PutLaws.{IsPutSoFar, told_begin, told_end, told_more, told_next, told_nothing}
@@ -31,31 +31,27 @@ pieces_filled source ranks room list t pieces below turn f x l h =
 
 -- ---- a helper on its way
 
-pub record IsServed {T E : Type 0} (source : Source) (from len ranks room : ℕ) (list : List Owned) (all : List Told) (w : WindowWalk) (taken : List Sent)
+pub record IsServed {T E : Type 0} (source : Source) (from ranks room : ℕ) (list : List Owned) (all ahead : List Told) (taken : List Sent)
     (held now : Option (List ℕ)) (calls made : Option (List DiskCall)) (end : Result T E) : Type 0 where
-  pub ready : IsWalk w
-  pub turns : AreTurns list room (turns_ahead w)
-  pub on_part : LieOnPart from len (turns_ahead w)
+  pub turns : AreTurns list room ahead
   pub done : List Sent
-  pub whole : messages_of source ranks list all ≡ done ++ messages_of source ranks list (turns_ahead w)
+  pub whole : messages_of source ranks list all ≡ done ++ messages_of source ranks list ahead
   pub many : length taken ≡ length done
   pub between : taken ≡ done → BothTold (λ old left. IsBetween old (put_part source list from old) left) held now
-  pub bytes : OnOk end (taken ≡ done → BothTold (λ old left. IsPutSoFar source list from (turns_ahead w) old left) held now)
-  pub device : OnOk end (with_end made (flat_map store_calls (turns_ahead w)) ≡ with_end calls (flat_map store_calls all))
+  pub bytes : OnOk end (taken ≡ done → BothTold (λ old left. IsPutSoFar source list from ahead old left) held now)
+  pub device : OnOk end (with_end made (flat_map store_calls ahead) ≡ with_end calls (flat_map store_calls all))
 
-pub served_begin : {T E : Type 0} (source : Source) (from len ranks room : ℕ) (list : List Owned) (all : List Told) (w : WindowWalk) (taken : List Sent) (held : Option (List ℕ))
-    (calls : Option (List DiskCall)) (x : T) → IsWalk w → turns_ahead w ≡ all → AreTurns list room all → LieOnPart from len all → HaveWindows from len list all
-    → IfSome held (λ file. length file ≡ len) → taken ≡ [] → IsServed {E = E} source from len ranks room list all w taken held held calls calls (Ok x)
-served_begin source from len ranks room list all w taken held calls x ready ahead turns on windows told none = record {
-  ready = ready;
-  turns = subst (λ (ts : List Told). AreTurns list room ts) (sym ahead) turns;
-  on_part = subst (λ (ts : List Told). LieOnPart from len ts) (sym ahead) on;
+pub served_begin : {T E : Type 0} (source : Source) (from len ranks room : ℕ) (list : List Owned) (all : List Told) (taken : List Sent) (held : Option (List ℕ))
+    (calls : Option (List DiskCall)) (x : T) → AreTurns list room all → HaveWindows from len list all → IfSome held (λ file. length file ≡ len) → taken ≡ []
+    → IsServed {E = E} source from ranks room list all all taken held held calls calls (Ok x)
+served_begin source from len ranks room list all taken held calls x turns windows told none = record {
+  turns = turns;
   done = [];
-  whole = sym (ap (λ (ts : List Told). messages_of source ranks list ts) ahead);
+  whole = refl;
   many = ap (λ (ms : List Sent). length ms) none;
   between = λ e. told_nothing held (put_part source list from);
-  bytes = λ e. told_begin source list from len (turns_ahead w) held told (subst (λ (ts : List Told). HaveWindows from len list ts) (sym ahead) windows);
-  device = ap (λ (ts : List Told). with_end calls (flat_map store_calls ts)) ahead;
+  bytes = λ e. told_begin source list from len all held told windows;
+  device = refl;
 }
 
 -- where the planned messages were taken, those of the window are the planned ones, which carry its pieces
@@ -124,46 +120,27 @@ next_calls t ts whole calls made drawn (Ok x) (Ok y) ok device b = calls_more t 
 next_calls t ts whole calls made drawn (Err x) (Ok y) ok device b = absurd cc
 next_calls t ts whole calls made drawn before (Err y) ok device b = tt
 
--- the window that comes next
-pub record IsNext (list : List Owned) (room from len : ℕ) (t : Told) (ts : List Told) : Type 0 where
-  pub turn : IsTurn list room t
-  pub turns : AreTurns list room ts
-  pub low : from ≤ t.0
-  pub high : t.0 + t.1 ≤ from + len
-  pub on_part : LieOnPart from len ts
-
-pub next_turn : {T E : Type 0} (source : Source) (from len ranks room : ℕ) (list : List Owned) (all : List Told) (w v : WindowWalk) (t : Told) (taken : List Sent)
-    (held mid : Option (List ℕ)) (calls made : Option (List DiskCall)) (before : Result T E)
-    → IsServed source from len ranks room list all w taken held mid calls made before → turns_ahead w ≡ t ∷ turns_ahead v → IsNext list room from len t (turns_ahead v)
-next_turn source from len ranks room list all w v t taken held mid calls made before s e =
-    let turns : AreTurns list room (t ∷ turns_ahead v) = subst (λ (ts : List Told). AreTurns list room ts) e s.turns in
-    let on : LieOnPart from len (t ∷ turns_ahead v) = subst (λ (ts : List Told). LieOnPart from len ts) e s.on_part in
-    let here = on t (inl refl) in
-    record { turn = turns.0; turns = turns.2; low = here.0; high = here.1; on_part = λ u m. on u (inr m) }
-
-pub served_next : {T E : Type 0} (source : Source) (from len ranks room count : ℕ) (list : List Owned) (all : List Told) (w v : WindowWalk) (t : Told) (taken more : List Sent)
+pub served_next : {T E : Type 0} (source : Source) (from len ranks room count : ℕ) (list : List Owned) (all ahead rest : List Told) (t : Told) (taken more : List Sent)
     (held mid now : Option (List ℕ)) (calls made drawn : Option (List DiskCall)) (before end : Result T E)
-    → IsGiven source ranks list from len held → IsServed source from len ranks room list all w taken held mid calls made before
-    → turns_ahead w ≡ t ∷ turns_ahead v → IsWalk v → count ≡ length (messages_in source ranks list t) → DidTurn from count t taken more mid now made drawn before end
-    → IsServed source from len ranks room list all v more held now calls drawn end
-served_next source from len ranks room count list all w v t taken more held mid now calls made drawn before end given s e ready counts d =
-    let here = next_turn source from len ranks room list all w v t taken held mid calls made before s e in
+    → IsGiven source ranks list from len held → IsServed source from ranks room list all ahead taken held mid calls made before
+    → ahead ≡ t ∷ rest → from ≤ t.0 → t.0 + t.1 ≤ from + len → count ≡ length (messages_in source ranks list t) → DidTurn from count t taken more mid now made drawn before end
+    → IsServed source from ranks room list all rest more held now calls drawn end
+served_next source from len ranks room count list all ahead rest t taken more held mid now calls made drawn before end given s e low high counts d =
+    let turns : AreTurns list room (t ∷ rest) = subst (λ (ts : List Told). AreTurns list room ts) e s.turns in
     let a = length-append taken d.took.got in
     let c = length-append s.done (messages_in source ranks list t) in
     let long : length more ≡ length (taken ++ d.took.got) = ap (λ (ms : List Sent). length ms) d.took.taken in
     let many = s.many in
     let got = d.took.many in
     record {
-      ready = ready;
-      turns = here.turns;
-      on_part = here.on_part;
+      turns = turns.2;
       done = s.done ++ messages_in source ranks list t;
-      whole = s.whole ∙ ap (λ (ts : List Told). s.done ++ messages_of source ranks list ts) e ∙ sym (append_assoc s.done (messages_in source ranks list t) (messages_of source ranks list (turns_ahead v)));
+      whole = s.whole ∙ ap (λ (ts : List Told). s.done ++ messages_of source ranks list ts) e ∙ sym (append_assoc s.done (messages_in source ranks list t) (messages_of source ranks list rest));
       many = omega arith;
-      between = next_between source from len ranks room count list t s.done taken more held mid now made drawn before end given here.turn here.low here.high s.many d s.between;
-      bytes = next_bytes source from len ranks room count list t (turns_ahead v) s.done taken more held mid now made drawn before end given here.turn here.low here.high s.many d
+      between = next_between source from len ranks room count list t s.done taken more held mid now made drawn before end given turns.0 low high s.many d s.between;
+      bytes = next_bytes source from len ranks room count list t rest s.done taken more held mid now made drawn before end given turns.0 low high s.many d
           (subst (λ (ts : List Told). OnOk before (taken ≡ s.done → BothTold (λ old left. IsPutSoFar source list from ts old left) held mid)) e s.bytes);
-      device = next_calls t (turns_ahead v) (with_end calls (flat_map store_calls all)) calls made drawn before end d.ok d.device
+      device = next_calls t rest (with_end calls (flat_map store_calls all)) calls made drawn before end d.ok d.device
           (subst (λ (ts : List Told). OnOk before (with_end made (flat_map store_calls ts) ≡ with_end calls (flat_map store_calls all))) e s.device);
     }
 
@@ -184,14 +161,30 @@ calls_end : {T E : Type 0} (ts : List Told) (whole made : Option (List DiskCall)
 calls_end ts whole made (Ok x) none b = sym (ap (λ (us : List Told). with_end made (flat_map store_calls us)) none ∙ with_end-nil made) ∙ b
 calls_end ts whole made (Err x) none b = tt
 
-pub served_end : {T E : Type 0} (source : Source) (from len ranks room : ℕ) (list : List Owned) (all : List Told) (w : WindowWalk) (taken : List Sent)
+pub served_end : {T E : Type 0} (source : Source) (from ranks room : ℕ) (list : List Owned) (all ahead : List Told) (taken : List Sent)
     (held now : Option (List ℕ)) (calls made : Option (List DiskCall)) (end : Result T E)
-    → IsServed source from len ranks room list all w taken held now calls made end → turns_ahead w ≡ [] → IsThrough source from ranks list all taken held now calls made end
-served_end source from len ranks room list all w taken held now calls made end s none =
+    → IsServed source from ranks room list all ahead taken held now calls made end → ahead ≡ [] → IsThrough source from ranks list all taken held now calls made end
+served_end source from ranks room list all ahead taken held now calls made end s none =
     let whole : messages_of source ranks list all ≡ s.done = s.whole ∙ ap (λ (ts : List Told). s.done ++ messages_of source ranks list ts) none ∙ append-nil s.done in
     record {
       many = s.many ∙ sym (ap (λ (ms : List Sent). length ms) whole);
       between = λ e. s.between (e ∙ whole);
-      bytes = λ e. bytes_end source from list taken s.done (turns_ahead w) held now end none (e ∙ whole) s.bytes;
-      device = calls_end (turns_ahead w) (with_end calls (flat_map store_calls all)) made end none s.device;
+      bytes = λ e. bytes_end source from list taken s.done ahead held now end none (e ∙ whole) s.bytes;
+      device = calls_end ahead (with_end calls (flat_map store_calls all)) made end none s.device;
     }
+
+-- ---- the windows that are due, one after another
+
+pub dues_left : (dues : List Due) (i : ℕ) (due : Due) → slice_get dues i ≡ Some due → turns_due (drop i dues) ≡ told_window due.window ∷ turns_due (drop (i + 1) dues)
+dues_left dues i due at =
+    let next : suc i ≡ i + 1 = omega arith in
+    ap (λ (ds : List Due). turns_due ds) (drop_at dues i due at ∙ ap (λ (n : ℕ). due ∷ drop n dues) next)
+
+pub count_at : (f : Told → ℕ) (dues : List Due) (i : ℕ) (d : Due) → i < length dues → counts_due dues ≡ map f (turns_due dues)
+    → (get_or dues i d).count ≡ f (told_window (get_or dues i d).window)
+count_at f [] i d l e = absurd (omega arith)
+count_at f (due ∷ dues) zero d l e = cc
+count_at f (due ∷ dues) (suc i) d l e = let rest : counts_due dues ≡ map f (turns_due dues) = cc in count_at f dues i d (omega arith) rest
+
+pub due_in : (dues : List Due) (i : ℕ) (d : Due) → i < length dues → In (turns_due dues) (told_window (get_or dues i d).window)
+due_in dues i d l = in_map (λ (due : Due). told_window due.window) dues (get_or dues i d) (entry_in dues i d l)

@@ -1,75 +1,84 @@
 -- The words of this crate's proofs, from where they stand.
 pub use Rattle.std.proofs.Common.{Bool, Err, List, None, Ok, Option, Result, Some, [], ap, append_assoc, arith, cond, drop, false, get_or, inl, inr, length, length-set, map, min, refl, rules, set, subst, suc, sym, take, true, vec_capacity, zero, ℕ, ◌&&◌, ◌++◌, ◌+◌, ◌-◌, ◌<◌, ◌^◌, ◌∙◌, ◌∷◌, ◌≡◌, ◌≤◌, ◌⊎◌}
 pub use Rattle.std.proofs.Math.Seq.{drop-append_seam, take-append_seam}
-pub use Rattle.std.proofs.lemmas.Bool.{and_from, and_right, eqb-true, le-ltb, lt-ltb, ltb-false, ltb-true}
+pub use Rattle.std.proofs.lemmas.Bool.{and_from, and_parts, and_right, eqb-true, le-ltb, lt-ltb, ltb-false, ltb-true}
 pub use Rattle.std.proofs.lemmas.Bool.Decides.{nat_tests}
-pub use Rattle.std.proofs.lemmas.Fn.{filter_same}
 pub use Rattle.std.proofs.lemmas.Grind.{common_steps, fold-append}
-pub use Rattle.std.proofs.lemmas.List.{append-nil, get_or_read, length-append, length-map, length-take, map-append, nil_from_length, take_more, with_items_is}
+pub use Rattle.std.proofs.lemmas.List.{append-nil, drop_all, length-append, length-drop, length-map, length-take, map-append, nil_from_length, take_more, take_rest}
 pub use Rattle.std.proofs.lemmas.List.Concat.{flat_map-append}
 pub use Rattle.std.proofs.lemmas.List.Elements.{filter-append}
 pub use Rattle.std.proofs.lemmas.List.FromFn.{length-range_with_len}
 pub use Rattle.std.proofs.lemmas.Option.{same_Some, slice_get-get_or, slice_get_within}
 pub use Rattle.std.specs.List.{AllZip, enumerate_from, range_with_len}
-pub use Rattle.std.specs.Prelude.{IfNone, IfSome, IsErr, IsErrOf, IsOk, OnOk, filter, flat_map, nat_lt, slice_get, zip, ◌==◌}
+pub use Rattle.std.specs.declared.alloc.Global.{Global}
+pub use Rattle.std.specs.Result.{result_and}
+pub use Rattle.std.specs.Prelude.{IfNone, IfSome, Vec, IsErr, IsErrOf, IsOk, OnOk, filter, flat_map, nat_lt, slice_get, zip, ◌==◌}
 pub use Rattle.aggregator_rounds.proofs.EntryCells.{covered_place, entry_cells}
-pub use Rattle.aggregator_rounds.proofs.PartSteps.{part_bytes, part_high}
-pub use Rattle.aggregator_rounds.proofs.PastSteps.{past_same}
+pub use Rattle.aggregator_rounds.proofs.PartSteps.{part_bytes, slot_bytes, slot_in}
+pub use Rattle.aggregator_rounds.proofs.PastSteps.{past_extents, past_none, past_same, past_sorted, past_twice}
 pub use Rattle.aggregator_rounds.proofs.RoundLaws.{from_less, window_refused_by, window_told_by}
 pub use Rattle.aggregator_rounds.proofs.SplitSteps.{entry_ends}
 pub use Rattle.aggregator_rounds.specs.EntryParts.{IsCovered, part_at, part_in}
 pub use Rattle.aggregator_rounds.specs.Left.{IsPast}
 pub use Rattle.aggregator_rounds.specs.Pieces.{told_window}
-pub use Rattle.exchange_crew.proofs.BackLaws.{and_failed, and_first_ok, and_second_ok, at_index, back_more, both_long, each_new, err_not_ok, failed_more, lent_twice, middle_in, zip_push, zip_same}
-pub use Rattle.exchange_crew.proofs.CrewLaws.{Keeps, StayOf, all_of, crew_domains, crew_each, crew_parts, some_of, stay_of, workers_few}
+pub use Rattle.exchange_crew.proofs.BackLaws.{and_failed, and_first_ok, and_second_ok, at_index, back_more, both_long, each_new, err_not_ok, failed_more, map_new, middle_in, slice_kept, zip_push, zip_same}
+pub use Rattle.exchange_crew.proofs.CrewLaws.{AreOf, all_of, crew_domains, crew_each, crew_parts, some_of, workers_few}
 pub use Rattle.exchange_crew.proofs.OneChanged.{each_twice, fewer_all, no_more_all}
 pub use Rattle.exchange_crew.proofs.PlanLaws.{plan_on, plan_turns, plan_windows}
-pub use Rattle.exchange_crew.proofs.TurnLaws.{at_next, due_now, in_served, served_are, served_covered, served_ends, served_in, served_now, turn_limit}
+pub use Rattle.exchange_crew.proofs.SplitLaws.{first_parts, parts_behind, some_first, some_second, zip_joined}
+pub use Rattle.exchange_crew.proofs.TurnLaws.{at_begin, at_next, turn_end, turn_in, due_now, in_served, served_are, served_covered, served_ends, served_in, served_now, turn_limit}
 pub use Rattle.exchange_crew.specs.Cursor.{AreInFront, AreServed, IsAt}
 pub use Rattle.exchange_crew.specs.Hulls.{AreTurns, HaveWindows, IsTurn, LieOnPart}
 pub use Rattle.exchange_crew.specs.Parts.{PartState, SomeZip, part_state}
 pub use Rattle.exchange_crew.specs.Pieces.{ArePieces, meets, of_rank, pieces_in}
-pub use Rattle.exchange_crew.specs.Plan.{planned_turns, source_in}
-pub use Rattle.exchange_crew.specs.Turns.{IsTurnWalk, Told, puts_of_some, source_of, turns_ahead}
-pub use Rattle.exchange_crew.specs.declared.crew.Word.TheVariants.{Go}
+pub use Rattle.exchange_crew.specs.Plan.{IsDomainOf, IsPlan, planned_turns, source_in}
+pub use Rattle.exchange_crew.specs.Turns.{IsTurnWalk, Told, puts_of_some, source_of, turns_ahead, turns_of}
 pub use Rattle.exchange_crew.specs.declared.plan.PutPlan.{PutPlan}
 pub use Rattle.exchange_crew.specs.declared.walk.TurnWalk.{TurnWalk}
 pub use Rattle.file_domains.specs.Rounds.{IsWalk}
+pub use Rattle.file_domains.specs.declared.walk.Window.{Window}
 pub use Rattle.file_domains.specs.declared.walk.WindowWalk.{WindowWalk}
+pub use Rattle.list_laws.proofs.Each.{zip_weaker}
 pub use Rattle.list_laws.proofs.Optional.{no_none_some}
-pub use Rattle.list_laws.proofs.Places.{each_more, left_more, middle_at}
+pub use Rattle.list_laws.proofs.Places.{drop_at, each_more, left_more, middle_at}
 pub use Rattle.list_laws.proofs.Ranges.{range_push}
 pub use Rattle.list_laws.proofs.Truth.{equal_true}
 pub use Rattle.nc_base.specs.declared.plan.Batch.{Batch}
 pub use Rattle.nc_base.specs.declared.plan.Extent.{Extent}
+pub use Rattle.nc_base.specs.declared.plan.Job.{Job}
 pub use Rattle.nc_base.specs.declared.plan.Owned.{Owned}
+pub use Rattle.nc_base.specs.declared.plan.Post.{Post}
 pub use Rattle.nc_base.specs.declared.step.DiskCall.{DiskCall}
 pub use Rattle.nc_outside.proofs.ToldLaws.{with_end-nil}
 pub use Rattle.nc_outside.specs.Cause.{Rose}
 pub use Rattle.nc_outside.specs.Told.{BothTold, after, with_end}
+pub use Rattle.nc_outside.specs.declared.disk.Disk.{Ghosts as DiskGhosts}
 pub use Rattle.nc_outside.specs.declared.disk.DiskErr.{DiskErr}
 pub use Rattle.nc_outside.specs.declared.disk.DiskErr.TheVariants.{Failed}
 pub use Rattle.overlay_laws.proofs.ChangeLaws.{between_next}
 pub use Rattle.overlay_laws.proofs.EntryLaws.{says_cases, says_left, says_right}
 pub use Rattle.overlay_laws.proofs.HullLaws.{flat_in, in_flat, in_left, in_range, in_right}
-pub use Rattle.overlay_laws.proofs.Members.{entry_in}
+pub use Rattle.overlay_laws.proofs.Members.{entry_in, in_map, map_in}
 pub use Rattle.overlay_laws.proofs.SaidLaws.{cells_long, one_said, said_is, same_file}
 pub use Rattle.overlay_laws.proofs.WalkLaws.{filter_none}
 pub use Rattle.overlay_laws.proofs.WindowLaws.{clips_from, clips_in, clips_within, moved_said, none_below, none_past, within_lowered, within_more}
 pub use Rattle.overlay_laws.specs.Changes.{IsBetween, store_calls}
 pub use Rattle.overlay_laws.specs.Entries.{In, Source, cell_of}
-pub use Rattle.overlay_laws.specs.Lines.{EndBelow, extents}
+pub use Rattle.overlay_laws.specs.Lines.{EndBelow, IsByPlace, extents}
 pub use Rattle.overlay_laws.specs.Origins.{AreFound}
 pub use Rattle.overlay_laws.specs.Windows.{IsPart, clip, clips}
+pub use Rattle.put_exchange.specs.Dues.{AreDue, counts_due, turns_due}
 pub use Rattle.put_exchange.specs.Feeds.{HasRound, HasSent, HaveFed, IsNotBefore, earlier_of, feed_left, next_round_of, number_of, rounds_in, sent_in}
+pub use Rattle.put_exchange.specs.Helped.{HasServed, IsPlanOn}
 pub use Rattle.put_exchange.specs.Put.{HasPut, put_part}
-pub use Rattle.put_exchange.specs.Sent.{Sent, cells_in, cells_of, has_pieces, hull_of, message_counts, messages_in, messages_of, planned_messages, sent, sent_by, with_piece}
+pub use Rattle.put_exchange.specs.Sent.{AreCuts, IsCut, Sent, binned, bytes_of, cells_in, cells_of, cut_in, cuts_by, has_pieces, hull_of, message_counts, messages_in, messages_of, planned_messages, posts_of, sent, sent_by}
 pub use Rattle.put_exchange.specs.Taken.{AreFor, Carry, HasLaid, HasPutTaken, HasTaken, IsFilledBy, pieces_in_all, put_window, turn_due}
-pub use Rattle.put_exchange.specs.Workers.{HasFed, IsFed, IsFresh, IsStartedFor, IsToldToGo, domain_of, part_of}
-pub use Rattle.put_exchange.specs.declared.message.LentPiece.{LentPiece}
+pub use Rattle.put_exchange.specs.Workers.{HasFed, IsFed, IsFresh, IsStartedFor, domain_of, part_of}
+pub use Rattle.put_exchange.specs.declared.handing.Worker.{Worker}
+pub use Rattle.put_exchange.specs.declared.laying.Due.{Due}
+pub use Rattle.put_exchange.specs.declared.message.Cut.{Cut}
 pub use Rattle.put_exchange.specs.declared.packing.Round.{Round}
 pub use Rattle.put_exchange.specs.declared.sending.Feed.{Feed}
-pub use Rattle.put_exchange.specs.declared.starting.Worker.{Worker}
 pub use Rattle.serial_spec.proofs.MemberLaws.{at_in, filter_in, in_filter}
 pub use Rattle.serial_spec.proofs.SaidLaws.{cells_said}
 pub use Rattle.serial_spec.specs.File.{at, written}

@@ -1,69 +1,82 @@
--- Helpers that were started, told to go, and fed.
-use Rattle.put_exchange.proofs.Words.{◌≡◌, ℕ, sym, ◌∙◌, ap, List, [], ◌∷◌, ◌++◌, length, Some, append-nil, slice_get, In, feed_left, sent_in, planned_messages, Sent, domain_of, part_of, HasFed, IsFed, IsFresh, IsStartedFor, IsToldToGo, Go, Round, Feed, PutPlan, Worker, each_new, stay_of, Keeps, StayOf}
+-- Helpers that have their jobs, and were fed.
+use Rattle.put_exchange.proofs.Words.{◌≡◌, ℕ, sym, ◌∙◌, ap, subst, List, ◌++◌, length, map, min, Some, Result, append-nil, slice_get, In, DiskErr, DiskGhosts, feed_left, sent_in, planned_messages, Sent, domain_of, part_of, HasFed, IsFed, IsFresh, IsStartedFor, HasPut, HasServed, IsPlanOn, counts_due, turns_due, message_counts, messages_of, planned_turns, source_in, AreTurns, HaveWindows, IsPlan, PartState, Told, Round, PutPlan, Worker, AreDue, Batch, Extent, IsDomainOf, Owned, ◌≤◌, arith, each_new, map_new, plan_on, plan_turns, plan_windows, turn_end, turn_in, turns_of}
 
--- told to go, with all its messages left
-pub record IsTold {D : Type 0} (plan : PutPlan) (worker : Worker D) : Type 0 where
-  pub started : IsStartedFor plan worker
-  pub word : worker.helper.word.items ≡ Go ∷ []
-  pub line : worker.feed.line.items ≡ []
-  pub left : feed_left worker.feed ≡ planned_messages plan (domain_of worker)
+fed_worker : {D : Type 0} (disk : DiskGhosts D) (plan : PutPlan) (old new : Worker D) → HasFed old new → IsFresh disk plan old → IsFed disk plan new
+fed_worker disk plan old new h f = record {
+  started = subst (λ helper. IsStartedFor disk plan (record { helper = helper; feed = new.feed })) (sym h.helper) (record {
+    domain = f.started.domain;
+    windows = f.started.windows;
+    counts = f.started.counts;
+    line_of = h.fed.of ∙ f.started.line_of;
+  });
+  put =
+      sym (append-nil new.feed.line.items)
+      ∙ ap (λ (rounds : List Round). new.feed.line.items ++ sent_in rounds) (sym h.none)
+      ∙ h.fed.put
+      ∙ ap (λ (items : List Sent). items ++ feed_left old.feed) f.line
+      ∙ f.left
+      ∙ sym (ap (λ helper. planned_messages plan helper.domain) h.helper);
+}
 
-go_worker : {D : Type 0} (plan : PutPlan) (old new : Worker D) → IsToldToGo old new → IsFresh plan old → IsTold plan new
-go_worker plan old new t f =
-    let s = f.started in
+pub fed_workers : {D : Type 0} (disk : DiskGhosts D) (plan : PutPlan) (old new : List (Worker D)) → length new ≡ length old
+    → ((k : ℕ) (a b : Worker D) → slice_get old k ≡ Some a → slice_get new k ≡ Some b → HasFed a b) → ((worker : Worker D) → In old worker → IsFresh disk plan worker)
+    → (worker : Worker D) → In new worker → IsFed disk plan worker
+fed_workers disk plan old new long fed fresh =
+    each_new (λ worker. IsFresh disk plan worker) (λ worker. IsFed disk plan worker) (λ a b. HasFed a b) old new long fed fresh (λ a b h f. fed_worker disk plan a b h f)
+
+-- ---- they stay those of their parts and domains
+
+pub fed_parts : {D : Type 0} (old new : List (Worker D)) → length new ≡ length old → ((k : ℕ) (a b : Worker D) → slice_get old k ≡ Some a → slice_get new k ≡ Some b → HasFed a b)
+    → map (λ worker. part_of worker) new ≡ map (λ worker. part_of worker) old
+fed_parts old new long fed = map_new (λ worker. part_of worker) (λ a b. HasFed a b) old new long fed (λ a b h. ap (λ helper. helper.awaited.ends.value.part) h.helper)
+
+pub fed_domains : {D : Type 0} (old new : List (Worker D)) → length new ≡ length old → ((k : ℕ) (a b : Worker D) → slice_get old k ≡ Some a → slice_get new k ≡ Some b → HasFed a b)
+    → map (λ worker. domain_of worker) new ≡ map (λ worker. domain_of worker) old
+fed_domains old new long fed = map_new (λ worker. domain_of worker) (λ a b. HasFed a b) old new long fed (λ a b h. ap (λ helper. helper.domain) h.helper)
+
+-- ---- what a helper is handed
+
+-- the windows of a domain lie on its part, and fit a buffer
+pub plan_due : (batches : List Batch) (list : List Owned) (cover : List Extent) (size from len room : ℕ) (domain : Extent) → IsPlan batches list cover size → IsDomainOf list from len domain
+    → room ≡ min size domain.len → AreDue from len room (turns_of size domain cover)
+plan_due batches list cover size from len room domain p d e = record {
+  on_part = plan_on batches list cover size from len domain p d;
+  short = λ t m. let short = (turn_in list (min size domain.len) (turns_of size domain cover) t (plan_turns batches list cover size domain p) m).short in omega arith;
+  limit = λ t m. turn_end list (min size domain.len) t p.ends (turn_in list (min size domain.len) (turns_of size domain cover) t (plan_turns batches list cover size domain p) m);
+}
+
+-- ---- one that was fed has served its part
+
+plan_of : {D : Type 0} (disk : DiskGhosts D) (plan : PutPlan) (worker : Worker D) → IsPlan plan.job.now.batches plan.list.now plan.cover.now plan.hints.now.cb_buffer → IsStartedFor disk plan worker
+    → IsPlanOn (source_in plan) (length plan.job.now.batches) plan.list.now (disk.from (part_of worker)) (disk.len (part_of worker)) worker.helper.awaited.dues.value.items
+plan_of disk plan worker p s =
+    let batches = plan.job.now.batches in
+    let list = plan.list.now in
+    let cover = plan.cover.now in
+    let size = plan.hints.now.cb_buffer in
+    let from = disk.from (part_of worker) in
+    let len = disk.len (part_of worker) in
     record {
-      started = record {
-        list = ap (λ child. child.promise.list.value) t.child ∙ s.list;
-        cover = ap (λ child. child.promise.cover.value) t.child ∙ s.cover;
-        job = ap (λ child. child.promise.job.value) t.child ∙ s.job;
-        size = ap (λ child. child.promise.size.value) t.child ∙ s.size;
-        word_of = t.of ∙ s.word_of ∙ sym (ap (λ child. child.promise.ends.value.word.of) t.child);
-        line_of = ap (λ (feed : Feed). feed.line.of) t.feed ∙ s.line_of ∙ sym (ap (λ child. child.promise.ends.value.lines.intake.line.of) t.child);
-      };
-      word = t.words ∙ ap (λ words. words ++ Go ∷ []) f.word;
-      line = ap (λ (feed : Feed). feed.line.items) t.feed ∙ f.line;
-      left = ap (λ (feed : Feed). feed_left feed) t.feed ∙ f.left ∙ sym (ap (λ child. planned_messages plan child.promise.domain.value) t.child);
+      pieces = p.pieces;
+      below = p.below;
+      one = p.one;
+      room = min size (domain_of worker).len;
+      turns = subst (λ (ts : List Told). AreTurns list (min size (domain_of worker).len) ts) (sym s.windows) (plan_turns batches list cover size (domain_of worker) p);
+      windows = subst (λ (ts : List Told). HaveWindows from len list ts) (sym s.windows) (plan_windows batches list cover size from len (domain_of worker) p s.domain);
+      counts = s.counts ∙ sym (ap (λ (ts : List Told). message_counts (source_in plan) (length batches) list ts) s.windows);
     }
 
-fed_worker : {D : Type 0} (plan : PutPlan) (old new : Worker D) → HasFed old new → IsTold plan old → IsFed plan new
-fed_worker plan old new h t =
-    let s = t.started in
-    record {
-      started = record {
-        list = ap (λ helper. helper.child.promise.list.value) h.helper ∙ s.list;
-        cover = ap (λ helper. helper.child.promise.cover.value) h.helper ∙ s.cover;
-        job = ap (λ helper. helper.child.promise.job.value) h.helper ∙ s.job;
-        size = ap (λ helper. helper.child.promise.size.value) h.helper ∙ s.size;
-        word_of = ap (λ helper. helper.word.of) h.helper ∙ s.word_of ∙ sym (ap (λ helper. helper.child.promise.ends.value.word.of) h.helper);
-        line_of = h.fed.of ∙ s.line_of ∙ sym (ap (λ helper. helper.child.promise.ends.value.lines.intake.line.of) h.helper);
-      };
-      word = ap (λ helper. helper.word.items) h.helper ∙ t.word;
-      put =
-          sym (append-nil new.feed.line.items)
-          ∙ ap (λ (rounds : List Round). new.feed.line.items ++ sent_in rounds) (sym h.none)
-          ∙ h.fed.put
-          ∙ ap (λ (items : List Sent). items ++ feed_left old.feed) t.line
-          ∙ t.left
-          ∙ sym (ap (λ helper. planned_messages plan helper.child.promise.domain.value) h.helper);
-    }
-
-pub told_workers : {D : Type 0} (plan : PutPlan) (old new : List (Worker D)) → length new ≡ length old
-    → ((k : ℕ) (a b : Worker D) → slice_get old k ≡ Some a → slice_get new k ≡ Some b → IsToldToGo a b) → ((worker : Worker D) → In old worker → IsFresh plan worker)
-    → (worker : Worker D) → In new worker → IsTold plan worker
-told_workers plan old new long told fresh = each_new (λ worker. IsFresh plan worker) (λ worker. IsTold plan worker) (λ a b. IsToldToGo a b) old new long told fresh (λ a b t f. go_worker plan a b t f)
-
-pub fed_workers : {D : Type 0} (plan : PutPlan) (old new : List (Worker D)) → length new ≡ length old
-    → ((k : ℕ) (a b : Worker D) → slice_get old k ≡ Some a → slice_get new k ≡ Some b → HasFed a b) → ((worker : Worker D) → In old worker → IsTold plan worker)
-    → (worker : Worker D) → In new worker → IsFed plan worker
-fed_workers plan old new long fed told = each_new (λ worker. IsTold plan worker) (λ worker. IsFed plan worker) (λ a b. HasFed a b) old new long fed told (λ a b h t. fed_worker plan a b h t)
-
--- ---- they stay those of their parts
-
-told_stays : {D : Type 0} → Keeps {S = Worker D} (λ worker. part_of worker) (λ worker. domain_of worker) (λ a b. IsToldToGo a b)
-told_stays a b t = (ap (λ child. child.promise.ends.value.part) t.child, ap (λ child. child.promise.domain.value) t.child)
-
-fed_stays : {D : Type 0} → Keeps {S = Worker D} (λ worker. part_of worker) (λ worker. domain_of worker) (λ a b. HasFed a b)
-fed_stays a b h = (ap (λ helper. helper.child.promise.ends.value.part) h.helper, ap (λ helper. helper.child.promise.domain.value) h.helper)
-
-pub fed_of : {D : Type 0} → StayOf {S = Worker D} (λ worker. part_of worker) (λ worker. domain_of worker) (λ a b. IsToldToGo a b) (λ a b. HasFed a b)
-fed_of = stay_of (λ worker. part_of worker) (λ worker. domain_of worker) (λ a b. IsToldToGo a b) (λ a b. HasFed a b) told_stays fed_stays
+pub worker_served : {D T : Type 0} (disk : DiskGhosts D) (plan : PutPlan) (worker : Worker D) (old new : PartState) (taken : List Sent) (end : Result T DiskErr)
+    → IsPlan plan.job.now.batches plan.list.now plan.cover.now plan.hints.now.cb_buffer → IsFed disk plan worker → old.from ≡ disk.from (part_of worker) → old.len ≡ disk.len (part_of worker)
+    → HasServed worker.helper.awaited.dues.value.items old new taken end → (length taken ≡ length worker.feed.line.items → taken ≡ worker.feed.line.items)
+    → HasPut (source_in plan) plan.list.now (planned_turns plan (domain_of worker)) old new end
+worker_served disk plan worker old new taken end p f from len served equal =
+    let batches = plan.job.now.batches in
+    let list = plan.list.now in
+    let dues = worker.helper.awaited.dues.value.items in
+    let on = subst (λ (m : ℕ). IsPlanOn (source_in plan) (length batches) list old.from m dues) (sym len)
+    (subst (λ (n : ℕ). IsPlanOn (source_in plan) (length batches) list n (disk.len (part_of worker)) dues) (sym from) (plan_of disk plan worker p f.started)) in
+    let put : worker.feed.line.items ≡ messages_of (source_in plan) (length batches) list (turns_due dues)
+    = f.put ∙ sym (ap (λ (ts : List Told). messages_of (source_in plan) (length batches) list ts) f.started.windows) in
+    subst (λ (ts : List Told). HasPut (source_in plan) list ts old new end) f.started.windows
+    (served.put (source_in plan) (length batches) list on (equal (served.many (source_in plan) (length batches) list on ∙ sym (ap (λ (ms : List Sent). length ms) put)) ∙ put))

@@ -11,7 +11,7 @@ use Rattle.std.specs.Prelude.{◌≡◌, ℕ, ◌≤◌, min, List, ◌++◌, fl
 use Rattle.put_exchange.specs.Sent.{Sent}
 use Rattle.put_exchange.specs.declared.packing.Round.{Round}
 use Rattle.put_exchange.specs.declared.sending.Feed.{Feed}
-use Rattle.put_exchange.specs.declared.starting.Worker.{Worker}
+use Rattle.put_exchange.specs.declared.handing.Worker.{Worker}
 
 abbrev pub sent_in : List Round → List Sent
 sent_in rounds = flat_map (λ r. r.messages.items) rounds

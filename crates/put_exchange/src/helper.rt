@@ -1,140 +1,99 @@
-// One helper's thread, which waits for its word.
-ghost use Rattle.std.specs.Prelude.{◌≡◌, [], length, min, None, IfOk, IfErr};
-ghost use Rattle.put_exchange.specs.Helped.{part_puts, HasReturned};
-ghost use Rattle.exchange_crew.specs.Plan.{IsDomainOf, IsPlanned};
-ghost use Rattle.exchange_crew.specs.Turns.{turns_of};
-ghost use Rattle.put_exchange.specs.Sent.{planned_counts};
+// The job of a helper of puts: the windows that it serves, and what it serves them by.
+ghost use Rattle.std.specs.Prelude.{◌≡◌, [], length};
+ghost use Rattle.std.specs.Option.{ForSome};
+ghost use Rattle.put_exchange.specs.Dues.{turns_due, AreDue};
+ghost use Rattle.put_exchange.specs.Helped.{HasGivenBack};
 
-use crate::laying::{Intake, lay_part};
-use core::thread::Stack;
-use exchange_crew::{Aggregator, Ends, PutPlan, Returned, STACK_SIZE, Tools, Word, stopped};
-use nc_base::{Extent, ExtentList, Job, OwnedList};
+use crate::laying::{Due, lay_part};
+use crate::message::Message;
+use exchange_crew::{PartBack, PartEnds, Tools};
 use nc_outside::{Disk, Gate};
-use ruled_line::LinePut;
+use promised_reply::Answer;
+use ruled_line::LineTake;
+use std::marker::Model;
 use std::snapshot::Snapshot;
 use std::sync::Wait;
-use std::thread::{Promise, PromisedHandle, Scope, Threads};
+use std::thread::Promise;
 
-/// What a helper of puts serves its part by: its messages as they come, and a buffer for one window.
+/// What a helper of puts serves its part by: the line of its messages, and a buffer for one window.
 #[derive(Drop)]
-pub(crate) struct PutLines<'a> {
-    pub intake: Intake<'a>,
+pub struct PutLines {
+    pub line: LineTake<Message>,
     pub buf: Vec<u8>,
 }
 
-/// A helper serves its part of the step by the ends that it was given, or leaves the part as it is, and gives the ends back.
+/// A helper serves these windows of its part, and gives the ends back.
 #[derive(Drop)]
-pub(crate) struct Duty<'a, D: Drop> {
-    list: Snapshot<OwnedList>,
-    cover: Snapshot<ExtentList>,
-    job: Snapshot<Job>,
-    size: Snapshot<u64>,
-    domain: Snapshot<Extent>,
-    ends: Snapshot<Ends<D, PutLines<'a>>>,
+pub struct PutDuty<D: Drop> {
+    pub dues: Snapshot<Vec<Due>>,
+    pub ends: Snapshot<PartEnds<D, PutLines>>,
 }
 
-impl<'a, D: Disk> Promise<Returned<D, PutLines<'a>>> for Duty<'a, D> {
-    ghost kept_by = { λ p r. HasReturned D.Disk (part_puts p.job.value.batches p.list.value (turns_of p.size.value p.domain.value p.cover.value)) p.ends.value r
-        × (r.end ≡ None → r.ends.part ≡ p.ends.value.part) };
+impl<D: Disk> Promise<PartBack<D, PutLines>> for PutDuty<D> {
+    ghost kept_by = { λ duty back. HasGivenBack D.Disk duty.dues.value.items duty.ends.value back };
 }
 
-/// What the calling thread has of a helper's thread.
+/// A part on its way to the helper that serves it. Contracts see what the helper serves it by; the rest is for the helper, which knows by
+/// this type that the windows lie on the part and fit the buffer, that nothing was taken off the line, and that the answer is promised for
+/// both.
 #[derive(Drop)]
-pub(crate) struct Helper<'a, D: Disk> {
-    pub word: LinePut<Word>,
-    pub child: PromisedHandle<Returned<D, PutLines<'a>>, Duty<'a, D>>,
+pub struct PutJob<D: Disk> {
+    pub number: u32,
+    pub dues: Vec<Due>,
+    pub ends: PartEnds<D, PutLines>,
+    pub answer: Answer<PartBack<D, PutLines>, PutDuty<D>>,
 }
 
-/// Starts a helper with these ends. Where no thread can be had, the part comes back as it was: this thread does what a helper does that
-/// is told to stop.
-pub(crate) fn start<'s, E, D: Disk + 's, G: Gate, R: Threads + Wait + Sync>(
-    scope: &'s Scope<'s, E>,
-    tools: &'s Tools<'s, R, G>,
-    plan: &'s PutPlan<'s>,
-    aggregator: Aggregator,
-    go: LinePut<Word>,
-    ends: Ends<D, PutLines<'s>>,
-) -> Result<Helper<'s, D>, D>
-    requires plan { IsPlanned plan.now }
-    requires domain { IsDomainOf plan.now.list.now (D.from ends.part) (D.len ends.part) aggregator.domain }
-    requires room { length ends.lines.buf.items ≡ min plan.now.hints.now.cb_buffer aggregator.domain.len }
-    requires of { go.of ≡ ends.word.of }
-    requires go { go.items ≡ [] }
-    requires word { ends.word.items ≡ [] }
-    requires counts { ends.lines.intake.counts.items ≡ planned_counts plan.now aggregator.domain }
-    requires line { ends.lines.intake.line.items ≡ [] }
-    ensures list { IfOk result (λ h. h.child.promise.list.value ≡ plan.now.list.now) }
-    ensures cover { IfOk result (λ h. h.child.promise.cover.value ≡ plan.now.cover.now) }
-    ensures job { IfOk result (λ h. h.child.promise.job.value ≡ plan.now.job.now) }
-    ensures size { IfOk result (λ h. h.child.promise.size.value ≡ plan.now.hints.now.cb_buffer) }
-    ensures domain { IfOk result (λ h. h.child.promise.domain.value ≡ aggregator.domain) }
-    ensures ends { IfOk result (λ h. h.child.promise.ends.value ≡ ends.entry) }
-    ensures word { IfOk result (λ h. h.word ≡ go) }
-    ensures kept { IfErr result (λ part. part ≡ ends.entry.part) }
-{
-    let duty = Duty {
-        list: Snapshot::of(plan.list),
-        cover: Snapshot::of(plan.cover),
-        job: Snapshot::of(plan.job),
-        size: Snapshot::of(&plan.hints.cb_buffer),
-        domain: Snapshot::of(&aggregator.domain),
-        ends: Snapshot::of(&ends),
-    };
-    let work = move || -> Returned<D, PutLines>
-        requires { IsPlanned plan.now × IsDomainOf plan.now.list.now (D.from ends.part) (D.len ends.part) aggregator.domain
-            × (length ends.lines.buf.items ≡ min plan.now.hints.now.cb_buffer aggregator.domain.len) × (ends.lines.intake.counts.items ≡ planned_counts plan.now aggregator.domain) × (ends.word.items ≡ []) × (ends.lines.intake.line.items ≡ []) }
-    { take_part(tools, plan, aggregator, ends) };
-    match Stack::new()
-        .stack_size(STACK_SIZE)
-        .spawn_scoped_with(scope, duty, work)
-    {
-        Ok(child) => Ok(Helper { word: go, child }),
-        Err(refused) => {
-            let mut go = go;
-            go.put(tools.rt, Word::Stop);
-            let work = refused.value;
-            Err(stopped(go, work()))
-        }
-    }
+impl<D: Disk> Model for PutJob<D> {
+    ghost use Rattle.std.specs.Prelude.{◌≡◌, [], length};
+    ghost use Rattle.std.specs.Option.{ForSome};
+    ghost use Rattle.exchange_crew.specs.declared.errand.PartEnds.{PartEnds};
+    ghost use Rattle.put_exchange.specs.Dues.{turns_due, AreDue};
+    ghost use Rattle.put_exchange.specs.declared.helper.PutLines.{PutLines};
+
+    ghost Value = { PartEnds D PutLines };
+
+    ghost view = { λ job. job.ends };
+
+    ghost invariant = { λ job. AreDue (D.from job.ends.part) (D.len job.ends.part) (length job.ends.lines.buf.items) (turns_due job.dues.items) × (job.ends.lines.line.items ≡ [])
+        × ForSome job.answer (λ duty. (duty.dues.value ≡ job.dues) × (duty.ends.value ≡ job.ends)) };
 }
 
-// What a helper's thread runs.
-fn take_part<'a, R: Wait, D: Disk, G: Gate>(
+/// Does a job, and answers. The job comes in its parts: the kit does not cover a call that takes by value both a part and an answer whose
+/// promise is made of its type.
+pub fn serve<R: Wait, D: Disk, G: Gate>(
     tools: &Tools<R, G>,
-    plan: &PutPlan,
-    aggregator: Aggregator,
-    ends: Ends<D, PutLines<'a>>,
-) -> Returned<D, PutLines<'a>>
-    requires plan { IsPlanned plan.now }
-    requires domain { IsDomainOf plan.now.list.now (D.from ends.part) (D.len ends.part) aggregator.domain }
-    requires room { length ends.lines.buf.items ≡ min plan.now.hints.now.cb_buffer aggregator.domain.len }
-    requires word { ends.word.items ≡ [] }
-    requires counts { ends.lines.intake.counts.items ≡ planned_counts plan.now aggregator.domain }
-    requires line { ends.lines.intake.line.items ≡ [] }
-    ensures returned { HasReturned D.Disk (part_puts plan.now.job.now.batches plan.now.list.now (turns_of plan.now.hints.now.cb_buffer aggregator.domain plan.now.cover.now)) ends.entry result }
-    ensures untouched { result.end ≡ None → result.ends.part ≡ ends.entry.part }
+    number: u32,
+    dues: Vec<Due>,
+    ends: PartEnds<D, PutLines>,
+    answer: Answer<PartBack<D, PutLines>, PutDuty<D>>,
+)
+    requires due { AreDue (D.from ends.part) (D.len ends.part) (length ends.lines.buf.items) (turns_due dues.items) }
+    requires line { ends.lines.line.items ≡ [] }
+    requires duty { ForSome answer (λ duty. (duty.dues.value ≡ dues) × (duty.ends.value ≡ ends)) }
 {
-    let Ends {
-        mut word,
-        mut part,
-        lines,
-    } = ends;
-    let PutLines {
-        mut intake,
-        mut buf,
-    } = lines;
-    let end = match word.take(tools.rt) {
-        Word::Go => {
-            let end = lay_part(tools, plan, aggregator, &mut part, &mut intake, &mut buf);
-            Some(end)
-        }
-        Word::Stop => None,
-    };
-    Returned {
-        ends: Ends {
-            word,
+    let back = lay_windows(tools, number, dues.as_slice(), ends);
+    answer.give(tools.rt, back);
+}
+
+// Serves the windows, and gives the ends back.
+fn lay_windows<R: Wait, D: Disk, G: Gate>(
+    tools: &Tools<R, G>,
+    number: u32,
+    dues: &[Due],
+    ends: PartEnds<D, PutLines>,
+) -> PartBack<D, PutLines>
+    requires due { AreDue (D.from ends.part) (D.len ends.part) (length ends.lines.buf.items) (turns_due dues.now) }
+    requires line { ends.lines.line.items ≡ [] }
+    ensures { HasGivenBack D.Disk dues.now ends result }
+{
+    let PartEnds { mut part, lines } = ends;
+    let PutLines { mut line, mut buf } = lines;
+    let end = lay_part(tools, number, dues, &mut part, &mut line, &mut buf);
+    PartBack {
+        ends: PartEnds {
             part,
-            lines: PutLines { intake, buf },
+            lines: PutLines { line, buf },
         },
         end,
     }

@@ -41,7 +41,7 @@ pub(crate) fn lay_in_turn<R: Wait, D: Disk, G: Gate>(
     ensures failed { IsErrOf result Failed → Rose (D.faults part.old) (D.faults part.new) }
 {
     let _size = part.size();
-    let batches = plan.job.batches.as_slice();
+    let batches = plan.job.job().batches.as_slice();
     let mut walk = TurnWalk::new(plan, aggregator.domain);
     'turns: while let Some(turn) = walk.next_turn() {
         tools.gate.pass(
@@ -104,17 +104,19 @@ fn lay_piece(hull: Extent, entry: &Owned, batches: &[Batch], buf: &mut [u8])
     lay_entry(hull, entry, &batches[entry.rank as usize].puts, buf);
 }
 
-/// Serves the parts one after another, by one buffer, up to the first fault. They come back in order.
+/// Serves the parts one after another, by one buffer, up to the first fault. They come back in order. The first has this number.
 pub(crate) fn put_in_turn<R: Wait, D: Disk, G: Gate>(
     tools: &Tools<R, G>,
     plan: &PutPlan,
+    first: u32,
     domains: &[Extent],
     parts: Vec<D>,
 ) -> (Vec<D>, Result<(), DiskErr>)
     requires plan { IsPlanned plan.now }
-    requires few { length domains.now ≤ 64 }
+    requires few { first + length domains.now ≤ 64 }
     requires one_each { length domains.now ≡ length parts.items }
     requires domains { (k : ℕ) (part : D) (domain : Extent) → slice_get parts.items k ≡ Some part → slice_get domains.now k ≡ Some domain → IsDomainOf plan.now.list.now (D.from part) (D.len part) domain }
+    ensures long { length result.0.items ≡ length parts.items }
     ensures put { AllZip (λ p new. HasPut (source_in plan.now) plan.now.list.now (planned_turns plan.now p.1)
         (part_state D.Disk p.0) (part_state D.Disk new) result.1) (zip parts.items domains.now) result.0.items }
     ensures failed { IsErrOf result.1 Failed → SomeZip (λ old new. Rose (D.faults old) (D.faults new)) parts.items result.0.items }
@@ -132,7 +134,7 @@ pub(crate) fn put_in_turn<R: Wait, D: Disk, G: Gate>(
     for part in parts {
         let number = back.len();
         let aggregator = Aggregator {
-            number: number as u32,
+            number: first + number as u32,
             domain: domains[number],
         };
         let (part, came) = serve_next(tools, plan, aggregator, part, &mut buf, end);

@@ -1,76 +1,55 @@
 // What a helper does: window after window it takes the messages of its part, and lays them.
-ghost use Rattle.std.specs.Prelude.{◌≡◌, ◌+◌, ◌^◌, ◌<◌, ◌≤◌, [], length, min, IsOk, IsErr, IsErrOf, OnOk, ◌⊎◌};
+ghost use Rattle.std.specs.Prelude.{◌≡◌, ◌+◌, ◌^◌, ◌<◌, ◌≤◌, [], length, IsOk, IsErr, IsErrOf, OnOk, ◌⊎◌};
 ghost use Rattle.nc_outside.specs.Cause.{HasDiskCause, Rose};
 ghost use Rattle.nc_outside.specs.declared.disk.DiskErr.TheVariants.{Failed};
 ghost use Rattle.nc_outside.specs.Told.{with_end};
 ghost use Rattle.overlay_laws.specs.Changes.{store_calls};
 ghost use Rattle.aggregator_rounds.specs.Pieces.{told_window};
-ghost use Rattle.exchange_crew.specs.Plan.{planned_turns, source_in, IsDomainOf, IsPlanned};
 ghost use Rattle.exchange_crew.specs.Parts.{part_state};
-ghost use Rattle.put_exchange.specs.Put.{HasPut};
-ghost use Rattle.put_exchange.specs.Sent.{planned_counts, planned_messages};
+ghost use Rattle.put_exchange.specs.Dues.{turns_due, AreDue};
+ghost use Rattle.put_exchange.specs.Helped.{HasServed};
 ghost use Rattle.put_exchange.specs.Taken.{turn_due, HasLaid, HasPutTaken, HasTaken};
 
 use crate::message::Message;
 use aggregator_rounds::{close_window, open_window};
-use exchange_crew::{Aggregator, PutPlan, Tools, domain_windows, next_window};
+use exchange_crew::Tools;
 use file_domains::Window;
 use nc_base::Extent;
 use nc_outside::{Disk, DiskErr, Gate, Point};
 use ruled_line::LineTake;
 use std::sync::Wait;
 
-/// A helper's end of its line of messages, and how many of them each of its windows has.
-#[derive(Drop)]
-pub(crate) struct Intake<'a> {
-    pub line: LineTake<Message<'a>>,
-    pub counts: Vec<usize>,
-}
-
-// A window whose messages are due, and how many come.
+/// A window whose messages are due, and how many come.
 #[derive(Clone, Copy, Drop)]
-struct Due {
-    window: Window,
-    count: usize,
+pub struct Due {
+    pub window: Window,
+    pub count: usize,
 }
 
-/// Serves the windows of an aggregator's domain, which lies on the part: takes their messages off the line, and overlays each hull by one
-/// read at most and one write. The buffer holds the longest hull.
+/// Serves the windows of a part, for the aggregator of this number: takes their messages off the line, and overlays each hull by one read
+/// at most and one write. The buffer holds the longest hull.
 ///
 /// Refused, it goes on taking to the last message, and drops what it takes.
 pub(crate) fn lay_part<R: Wait, D: Disk, G: Gate>(
     tools: &Tools<R, G>,
-    plan: &PutPlan,
-    aggregator: Aggregator,
+    number: u32,
+    dues: &[Due],
     part: &mut D,
-    intake: &mut Intake,
+    line: &mut LineTake<Message>,
     buf: &mut [u8],
 ) -> Result<(), DiskErr>
-    requires plan { IsPlanned plan.now }
-    requires domain { IsDomainOf plan.now.list.now (D.from part.old) (D.len part.old) aggregator.domain }
-    requires room { min plan.now.hints.now.cb_buffer aggregator.domain.len ≤ length buf.old }
-    requires counts { intake.old.counts.items ≡ planned_counts plan.now aggregator.domain }
-    requires empty { intake.old.line.items ≡ [] }
-    ensures of { intake.new.line.of ≡ intake.old.line.of }
-    ensures many { length intake.new.line.items ≡ length (planned_messages plan.now aggregator.domain) }
-    ensures put { intake.new.line.items ≡ planned_messages plan.now aggregator.domain → HasPut (source_in plan.now) plan.now.list.now (planned_turns plan.now aggregator.domain)
-        (part_state D.Disk part.old) (part_state D.Disk part.new) result }
-    ensures failed { IsErrOf result Failed → Rose (D.faults part.old) (D.faults part.new) }
+    requires due { AreDue (D.from part.old) (D.len part.old) (length buf.old) (turns_due dues.now) }
+    requires empty { line.old.items ≡ [] }
+    ensures of { line.new.of ≡ line.old.of }
+    ensures served { HasServed dues.now (part_state D.Disk part.old) (part_state D.Disk part.new) line.new.items result }
 {
     let _size = part.size();
-    let mut walk = domain_windows(plan.cover, plan.hints.cb_buffer, aggregator.domain);
-    let mut number = 0;
     let mut end = Ok(());
-    'windows: while let Some(window) = next_window(&mut walk) {
+    for due in dues {
         tools
             .gate
-            .pass(tools.rt, Point::Window(aggregator.number, window.round));
-        let due = Due {
-            window,
-            count: intake.counts[number],
-        };
-        number += 1;
-        end = serve_turn(tools, &due, part, &mut intake.line, buf, end);
+            .pass(tools.rt, Point::Window(number, due.window.round));
+        end = serve_turn(tools, due, part, line, buf, end);
     }
     end
 }

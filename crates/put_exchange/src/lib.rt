@@ -1,8 +1,9 @@
-//! Collective puts on a disk in parts. Each part is served by an aggregator, a helper thread of its own, and the pieces of the puts go to it
-//! over a line, in a message for each rank and window.
+//! Collective puts on a disk in parts. Each part is handed to an aggregator, a helper of its own that stays for the whole run, and the
+//! pieces of the puts go to it over a line, in a message for each rank and window.
 #![tactic(auto)]
 
 mod exchange;
+mod handing;
 mod helper;
 mod in_turn;
 mod laying;
@@ -10,6 +11,8 @@ mod message;
 mod packing;
 mod results;
 mod sending;
-mod starting;
 
 pub use exchange::exchange_put;
+pub use helper::{PutDuty, PutJob, PutLines, serve};
+pub use laying::Due;
+pub use message::{Cut, Message};

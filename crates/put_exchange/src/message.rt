@@ -1,102 +1,105 @@
 // Messages: what a rank puts into one window.
-ghost use Rattle.std.specs.Prelude.{◌≡◌, ◌+◌, ◌-◌, ◌^◌, ◌<◌, ◌≤◌, [], length, IfOk, OnOk};
+ghost use Rattle.std.specs.Prelude.{◌≡◌, ◌+◌, ◌-◌, ◌<◌, ◌≤◌, length};
+ghost use Rattle.overlay_laws.specs.Entries.{In};
 ghost use Rattle.serial_spec.specs.File.{written};
-ghost use Rattle.serial_spec.specs.Said.{write_cells, moved_down, IsFrom, IsWithin};
-ghost use Rattle.put_exchange.specs.Sent.{cells_of, has_pieces, sent, with_piece};
+ghost use Rattle.serial_spec.specs.Said.{write_cells, moved_down};
+ghost use Rattle.put_exchange.specs.Sent.{bytes_of, cells_of, posts_of, put_bytes, sent, AreCuts, IsCut};
 
-use nc_base::{Extent, Memory};
-use std::alloc::Global;
+use exchange_crew::SharedJob;
+use nc_base::{Extent, Post};
 use std::marker::Model;
 
-/// Bytes of a post that go to one place of the file. They are a slice of the post, so no byte is copied to send them.
+/// Bytes of a put that go to one place of the file.
 #[derive(Clone, Copy, Drop)]
-pub(crate) struct LentPiece<'a> {
+pub struct Cut {
     /// The first byte's place in the file.
     pub at: u64,
-    pub bytes: &'a [u8],
+    /// The put's place among those of its rank.
+    pub slot: u32,
+    /// The first byte's place among those of the put.
+    pub from: u64,
+    pub len: u64,
 }
 
-/// The pieces of one rank in one window, in order of place. Each lies in the window's hull.
+/// What one rank puts into one window: cuts of its puts, in order of place. It owns a share of the job, in which the bytes stand, so none
+/// is copied to send them. Each cut lies in the window's hull and in its put.
 #[derive(Drop)]
-pub(crate) struct Message<'a> {
+pub struct Message {
     hull: Extent,
     rank: u32,
-    pieces: Vec<LentPiece<'a>>,
+    job: SharedJob,
+    cuts: Vec<Cut>,
 }
 
-impl<'a> Model for Message<'a> {
-    ghost use Rattle.std.specs.Prelude.{◌+◌, ◌^◌, ◌<◌};
-    ghost use Rattle.serial_spec.specs.Said.{IsFrom, IsWithin};
-    ghost use Rattle.put_exchange.specs.Sent.{cells_of, sent, Sent};
+impl Model for Message {
+    ghost use Rattle.put_exchange.specs.Sent.{cells_of, posts_of, sent, AreCuts, Sent};
 
     ghost Value = { Sent };
 
-    ghost view = { λ m. sent m.hull m.rank (cells_of m.pieces.items) };
+    ghost view = { λ m. sent m.hull m.rank (cells_of (posts_of m.job.batches m.rank) m.cuts.items) };
 
-    ghost invariant = { λ m. (m.hull.at + m.hull.len < 2 ^ 62) × IsFrom m.hull.at (cells_of m.pieces.items) × IsWithin (cells_of m.pieces.items) (m.hull.at + m.hull.len) };
+    ghost invariant = { λ m. AreCuts m.job.batches m.hull m.rank m.cuts.items };
 }
 
-impl<'a> Message<'a> {
-    /// One that has no piece yet, and room for so many.
-    pub fn new(alloc: Global, hull: Extent, rank: u32, room: usize) -> Result<Self, Memory>
-        requires { hull.at + hull.len < 2 ^ 62 }
-        ensures { IfOk result (λ message. message ≡ sent hull rank []) }
+impl Message {
+    /// One of these cuts.
+    pub(crate) fn new(hull: Extent, rank: u32, job: SharedJob, cuts: Vec<Cut>) -> Self
+        requires { AreCuts job.batches hull rank cuts.items }
+        ensures { result ≡ sent hull rank (cells_of (posts_of job.batches rank) cuts.items) }
     {
-        Ok(Message {
+        Message {
             hull,
             rank,
-            pieces: Vec::with_capacity(alloc, room)?,
-        })
+            job,
+            cuts,
+        }
     }
 
-    /// Puts a piece behind the others.
-    pub fn push(&mut self, piece: LentPiece<'a>) -> Result<(), Memory>
-        requires low { self.old.hull.at ≤ piece.at }
-        requires high { piece.at + length piece.bytes.now ≤ self.old.hull.at + self.old.hull.len }
-        ensures { OnOk result (self.new ≡ with_piece self.old (piece.entry.at, piece.entry.bytes.now)) }
-    {
-        self.pieces.push(piece)?;
-        Ok(())
-    }
-
-    /// Whether it has a piece.
-    pub fn has_pieces(&self) -> bool
-        ensures { result ≡ has_pieces self.now }
-    {
-        self.pieces.len() > 0
-    }
-
-    /// Lays the pieces over the bytes of a hull, if it is the message's own.
-    pub fn lay(&self, hull: Extent, buf: &mut [u8])
+    /// Lays its bytes over those of a hull, if it is the message's own.
+    pub(crate) fn lay(&self, hull: Extent, buf: &mut [u8])
         requires room { length buf.old ≡ hull.len }
         ensures laid { self.now.hull ≡ hull → buf.new ≡ write_cells buf.old (moved_down hull.at self.now.pieces) }
         ensures long { length buf.new ≡ length buf.old }
     {
         if self.hull == hull {
-            lay_pieces(hull, &self.pieces, buf);
+            let batches = self.job.job().batches.as_slice();
+            let puts = batches[self.rank as usize].puts.as_slice();
+            lay_cuts(hull, puts, self.cuts.as_slice(), buf);
         }
     }
 }
 
-// Lays pieces of a hull over its bytes, one after another.
-fn lay_pieces(hull: Extent, pieces: &[LentPiece], buf: &mut [u8])
+// Lays cuts of a rank's puts over the bytes of a hull, one after another.
+fn lay_cuts(hull: Extent, puts: &[Post], cuts: &[Cut], buf: &mut [u8])
     requires room { length buf.old ≡ hull.len }
-    requires low { IsFrom hull.at (cells_of pieces.now) }
-    requires high { IsWithin (cells_of pieces.now) (hull.at + hull.len) }
-    ensures { buf.new ≡ write_cells buf.old (moved_down hull.at (cells_of pieces.now)) }
+    requires cuts { (cut : Cut) → In cuts.now cut → IsCut puts.now hull cut }
+    ensures { buf.new ≡ write_cells buf.old (moved_down hull.at (cells_of puts.now cuts.now)) }
 {
-    for piece in pieces {
-        lay_piece(hull, piece, buf);
+    for cut in cuts {
+        lay_cut(hull, puts, cut, buf);
     }
 }
 
-// Lays one piece of a hull over its bytes.
-fn lay_piece(hull: Extent, piece: &LentPiece, buf: &mut [u8])
+// Lays one cut over the bytes of a hull.
+fn lay_cut(hull: Extent, puts: &[Post], cut: &Cut, buf: &mut [u8])
     requires room { length buf.old ≡ hull.len }
-    requires low { hull.at ≤ piece.now.at }
-    requires high { piece.now.at + length piece.now.bytes.now ≤ hull.at + hull.len }
-    ensures { buf.new ≡ written buf.old (piece.now.at - hull.at) piece.now.bytes.now }
+    requires cut { IsCut puts.now hull cut.now }
+    ensures { buf.new ≡ written buf.old (cut.now.at - hull.at) (bytes_of puts.now cut.now) }
 {
-    let at = (piece.at - hull.at) as usize;
-    buf[at..at + piece.bytes.len()].copy_from_slice(piece.bytes);
+    let bytes = cut_bytes(puts, cut);
+    let at = (cut.at - hull.at) as usize;
+    buf[at..at + bytes.len()].copy_from_slice(bytes);
+}
+
+// The bytes of a cut.
+fn cut_bytes<'a>(puts: &'a [Post], cut: &Cut) -> &'a [u8]
+    requires put { cut.now.slot < length puts.now }
+    requires found { cut.now.from + cut.now.len ≤ length (put_bytes puts.now cut.now.slot) }
+    ensures bytes { result.now ≡ bytes_of puts.now cut.now }
+    ensures long { length result.now ≡ cut.now.len }
+{
+    let from = cut.from as usize;
+    let len = cut.len as usize;
+    let bytes = puts[cut.slot as usize].bytes.as_slice();
+    &bytes[from..from + len]
 }

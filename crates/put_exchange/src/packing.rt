@@ -1,36 +1,45 @@
-// Packing: all messages of a domain, before its helper is started.
-ghost use Rattle.std.specs.Prelude.{◌≡◌, ◌+◌, ◌-◌, ◌^◌, ◌<◌, ◌≤◌, [], ℕ, length, map, take, drop, OnOk, IfOk};
+// Packing: all messages of a domain, before its helper is asked.
+ghost use Rattle.std.specs.Prelude.{◌≡◌, ◌++◌, ◌+◌, ◌^◌, ◌<◌, ◌≤◌, ◌∷◌, [], filter, length, map, min, true, OnOk, IfOk};
 ghost use Rattle.std.specs.List.{range_with_len};
 ghost use Rattle.nc_base.specs.declared.plan.Owned.{Owned};
-ghost use Rattle.overlay_laws.specs.Entries.{cell_of, In};
+ghost use Rattle.overlay_laws.specs.Entries.{In};
 ghost use Rattle.overlay_laws.specs.Lines.{extents, EndBelow};
-ghost use Rattle.overlay_laws.specs.Windows.{clip};
-ghost use Rattle.aggregator_rounds.specs.EntryParts.{part_in};
 ghost use Rattle.aggregator_rounds.specs.Pieces.{told_window};
+ghost use Rattle.aggregator_rounds.specs.Left.{IsPast};
+ghost use Rattle.exchange_crew.specs.Cursor.{IsAt};
 ghost use Rattle.exchange_crew.specs.Pieces.{meets, ArePieces, IsPiece};
-ghost use Rattle.exchange_crew.specs.Plan.{IsPlanned};
-ghost use Rattle.exchange_crew.specs.Turns.{source_of};
+ghost use Rattle.exchange_crew.specs.Plan.{planned_turns, IsPlanned};
+ghost use Rattle.exchange_crew.specs.Turns.{source_of, turns_ahead, IsTurnWalk};
+ghost use Rattle.put_exchange.specs.Dues.{counts_due, turns_due};
 ghost use Rattle.put_exchange.specs.Feeds.{sent_in};
-ghost use Rattle.put_exchange.specs.Sent.{messages_in, planned_counts, planned_messages, sent, sent_by};
+ghost use Rattle.put_exchange.specs.Sent.{binned, cells_of, cut_in, cuts_by, has_pieces, messages_in, planned_counts, planned_messages, posts_of, sent, AreCuts};
 
-use crate::message::{LentPiece, Message};
-use exchange_crew::{PutPlan, Turn, TurnWalk};
+use crate::laying::Due;
+use crate::message::{Cut, Message};
+use exchange_crew::{PutPlan, SharedJob, Turn, TurnWalk};
 use nc_base::{Batch, Extent, Memory, Owned};
 use std::alloc::Global;
 use std::collections::VecDeque;
 
 /// The messages of one window, by rank.
 #[derive(Drop)]
-pub(crate) struct Round<'a> {
+pub(crate) struct Round {
     pub number: u64,
-    pub messages: Vec<Message<'a>>,
+    pub messages: Vec<Message>,
 }
 
-/// All messages of a domain, window after window, and how many each window has.
+/// All messages of a domain, window after window, and what is due in each.
 #[derive(Drop)]
-pub(crate) struct Mail<'a> {
-    pub rounds: VecDeque<Round<'a>>,
-    pub counts: Vec<usize>,
+pub(crate) struct Mail {
+    pub rounds: VecDeque<Round>,
+    pub dues: Vec<Due>,
+}
+
+/// What of the sorted entries packing has still to come to: from the first one on that does not end by this place.
+#[derive(Clone, Copy, Drop)]
+pub(crate) struct Ahead<'a> {
+    pub place: u64,
+    pub entries: &'a [Owned],
 }
 
 /// Packs the messages of a domain.
@@ -38,87 +47,110 @@ pub(crate) fn mail_of<'a>(
     alloc: Global,
     plan: &PutPlan<'a>,
     domain: Extent,
-) -> Result<Mail<'a>, Memory>
-    requires { IsPlanned plan.now }
+    ahead: &mut Ahead<'a>,
+) -> Result<Mail, Memory>
+    requires plan { IsPlanned plan.now }
+    requires past { IsPast ahead.old.place plan.now.list.now ahead.old.entries.now }
+    ensures past { IsPast ahead.new.place plan.now.list.now ahead.new.entries.now }
     ensures messages { IfOk result (λ mail. sent_in mail.rounds.items ≡ planned_messages plan.now domain) }
-    ensures counts { IfOk result (λ mail. mail.counts.items ≡ planned_counts plan.now domain) }
+    ensures windows { IfOk result (λ mail. turns_due mail.dues.items ≡ planned_turns plan.now domain) }
+    ensures counts { IfOk result (λ mail. counts_due mail.dues.items ≡ planned_counts plan.now domain) }
 {
-    let batches = plan.job.batches.as_slice();
     let mut rounds = VecDeque::new(alloc);
-    let mut counts = Vec::new(alloc);
-    let mut walk = TurnWalk::new(plan, domain);
+    let mut dues = Vec::new(alloc);
+    let mut walk = walk_of(plan, domain, ahead);
     'turns: while let Some(turn) = walk.next_turn() {
-        let messages = messages_of(alloc, batches, &turn)?;
-        counts.push(messages.len())?;
+        let window = turn.window;
+        let messages = messages_of(alloc, plan.job, &turn)?;
+        dues.push(Due {
+            window,
+            count: messages.len(),
+        })?;
         rounds.push_back(Round {
-            number: turn.window.round,
+            number: window.round,
             messages,
         })?;
+        *ahead = Ahead {
+            place: window.hull.at + window.hull.len,
+            entries: walk.entries,
+        };
     }
-    Ok(Mail { rounds, counts })
+    Ok(Mail { rounds, dues })
+}
+
+// The walk over the windows of a domain, which goes on from where packing has come to. It begins anew where the domain begins before that.
+fn walk_of<'a>(plan: &PutPlan<'a>, domain: Extent, ahead: &Ahead<'a>) -> TurnWalk<'a>
+    requires plan { IsPlanned plan.now }
+    requires past { IsPast ahead.now.place plan.now.list.now ahead.now.entries.now }
+    ensures ready { IsTurnWalk result }
+    ensures windows { turns_ahead result.windows ≡ planned_turns plan.now domain }
+    ensures at { IsAt plan.now.list.now (min plan.now.hints.now.cb_buffer domain.len) (turns_ahead result.windows) result.entries.now }
+{
+    let walk = TurnWalk::new(plan, domain);
+    if domain.at < ahead.place {
+        return walk;
+    }
+    TurnWalk {
+        windows: walk.windows,
+        entries: ahead.entries,
+    }
 }
 
 // The messages of a window: one for each rank that has a piece in it.
-fn messages_of<'a>(
-    alloc: Global,
-    batches: &'a [Batch],
-    turn: &Turn<'a>,
-) -> Result<Vec<Message<'a>>, Memory>
+fn messages_of(alloc: Global, job: &SharedJob, turn: &Turn) -> Result<Vec<Message>, Memory>
     requires ends { EndBelow (2 ^ 62) (extents turn.now.entries.now) }
     requires hull { turn.now.window.hull.at + turn.now.window.hull.len < 2 ^ 62 }
-    requires pieces { ArePieces (source_of batches.now) turn.now.entries.now }
-    requires below { (o : Owned) → In turn.now.entries.now o → o.rank < length batches.now }
-    requires few { length batches.now ≤ 64 }
-    ensures { IfOk result (λ messages. messages.items ≡ messages_in (source_of batches.now) (length batches.now) turn.now.entries.now (told_window turn.now.window)) }
+    requires pieces { ArePieces (source_of job.now.batches) turn.now.entries.now }
+    requires below { (o : Owned) → In turn.now.entries.now o → o.rank < length job.now.batches }
+    requires few { length job.now.batches ≤ 64 }
+    ensures { IfOk result (λ messages. messages.items ≡ messages_in (source_of job.now.batches) (length job.now.batches) turn.now.entries.now (told_window turn.now.window)) }
 {
+    let batches = job.job().batches.as_slice();
     let ranks = batches.len();
     let share = turn.entries.len() / ranks.max(1) + 1;
-    let mut messages = one_each(alloc, turn.window.hull, ranks, share)?;
-    pack_entries(batches, turn, messages.as_mut_slice())?;
-    messages.retain(|message| message.has_pieces());
-    Ok(messages)
+    let mut bins = empty_bins(alloc, ranks, share)?;
+    fill_bins(batches, turn, bins.as_mut_slice())?;
+    with_bins(alloc, job, turn, bins)
 }
 
-// A message without a piece for each rank, each with room for so many.
-fn one_each<'a>(
-    alloc: Global,
-    hull: Extent,
-    ranks: usize,
-    room: usize,
-) -> Result<Vec<Message<'a>>, Memory>
-    requires hull { hull.at + hull.len < 2 ^ 62 }
-    requires few { ranks ≤ 64 }
-    ensures { IfOk result (λ messages. messages.items ≡ map (λ r. sent hull r []) (range_with_len 0 ranks)) }
+// A list without a cut for each rank, each with room for so many.
+fn empty_bins(alloc: Global, ranks: usize, room: usize) -> Result<Vec<Vec<Cut>>, Memory>
+    ensures { IfOk result (λ bins. binned bins.items ≡ map (λ _. []) (range_with_len 0 ranks)) }
 {
-    let mut messages = Vec::with_capacity(alloc, ranks)?;
-    for rank in 0..ranks {
-        messages.push_reserved(Message::new(alloc, hull, rank as u32, room)?);
+    let mut bins = Vec::with_capacity(alloc, ranks)?;
+    'ranks: while bins.len() < ranks {
+        bins.push_reserved(Vec::with_capacity(alloc, room)?);
     }
-    Ok(messages)
+    Ok(bins)
 }
 
-// Puts each piece of the window into the message of its rank.
-fn pack_entries<'a>(
-    batches: &'a [Batch],
-    turn: &Turn<'a>,
-    messages: &mut [Message<'a>],
-) -> Result<(), Memory>
+// Puts each cut of the window into the list of its rank.
+fn fill_bins(batches: &[Batch], turn: &Turn, bins: &mut [Vec<Cut>]) -> Result<(), Memory>
     requires ends { EndBelow (2 ^ 62) (extents turn.now.entries.now) }
     requires hull { turn.now.window.hull.at + turn.now.window.hull.len < 2 ^ 62 }
     requires pieces { ArePieces (source_of batches.now) turn.now.entries.now }
-    requires below { (o : Owned) → In turn.now.entries.now o → o.rank < length batches.now }
-    requires empty { messages.old ≡ map (λ r. sent turn.now.window.hull r []) (range_with_len 0 (length batches.now)) }
-    ensures { OnOk result (messages.new ≡ map (λ r. sent_by (source_of batches.now) turn.now.entries.now (told_window turn.now.window) r) (range_with_len 0 (length batches.now))) }
+    requires below { (o : Owned) → In turn.now.entries.now o → o.rank < length bins.old }
+    requires empty { binned bins.old ≡ map (λ _. []) (range_with_len 0 (length bins.old)) }
+    ensures { OnOk result (binned bins.new ≡ map (λ r. cuts_by (told_window turn.now.window) turn.now.entries.now r) (range_with_len 0 (length bins.old))) }
 {
     let hull = turn.window.hull;
     for entry in turn.entries {
         if has_piece(hull, entry) {
-            let piece = piece_of(hull, entry, batches);
-            let message = &mut messages[entry.rank as usize];
-            message.push(piece)?;
+            let _bytes = post_bytes(batches, entry);
+            let bin = &mut bins[entry.rank as usize];
+            bin.push(cut_of(hull, entry))?;
         }
     }
     Ok(())
+}
+
+// The bytes of the post that an entry is of.
+fn post_bytes<'a>(batches: &'a [Batch], entry: &Owned) -> &'a [u8]
+    requires { IsPiece (source_of batches.now) entry.now }
+    ensures { result.now ≡ source_of batches.now entry.now.rank entry.now.slot }
+{
+    let puts = batches[entry.rank as usize].puts.as_slice();
+    puts[entry.slot as usize].bytes.as_slice()
 }
 
 // Whether an entry has a byte in a hull.
@@ -131,56 +163,60 @@ fn has_piece(hull: Extent, entry: &Owned) -> bool
     at < hull.at + hull.len && hull.at < at + len
 }
 
-// The piece that an entry has in a hull; it has no byte where the two do not meet.
-fn piece_of<'a>(hull: Extent, entry: &Owned, batches: &'a [Batch]) -> LentPiece<'a>
+// The part of an entry that lies in a hull, with which it meets.
+fn cut_of(hull: Extent, entry: &Owned) -> Cut
     requires hull { hull.at + hull.len < 2 ^ 62 }
-    requires piece { IsPiece (source_of batches.now) entry.now }
-    ensures piece { (result.at, result.bytes.now) ≡ clip hull.at (hull.at + hull.len) (cell_of (source_of batches.now) entry.now) }
-    ensures low { hull.at ≤ result.at }
-    ensures high { result.at + length result.bytes.now ≤ hull.at + hull.len }
-{
-    let bytes = post_bytes(batches, entry);
-    let part = cut(entry, hull);
-    let bytes = part_of(bytes, part.from as usize, part.extent.len as usize);
-    LentPiece {
-        at: part.extent.at,
-        bytes,
-    }
-}
-
-// The part of an entry that lies in a hull.
-fn cut(entry: &Owned, hull: Extent) -> Owned
-    requires end { entry.now.extent.at + entry.now.extent.len < 2 ^ 64 }
+    requires end { entry.now.extent.at + entry.now.extent.len < 2 ^ 62 }
     requires from { entry.now.from + entry.now.extent.len < 2 ^ 64 }
-    requires hull { hull.at + hull.len < 2 ^ 64 }
-    ensures { result ≡ part_in hull.at (hull.at + hull.len) entry.now }
+    requires meets { meets hull.at (hull.at + hull.len) entry.now ≡ true }
+    ensures { result ≡ cut_in hull.at (hull.at + hull.len) entry.now }
 {
-    let end = hull.at + hull.len;
-    let at = entry.extent.at.max(hull.at).min(end);
-    let stop = (entry.extent.at + entry.extent.len).min(end).max(at);
-    let skipped = at.saturating_sub(entry.extent.at).min(entry.extent.len);
-    Owned {
-        extent: Extent { at, len: stop - at },
-        rank: entry.rank,
-        request: entry.request,
+    let at = entry.extent.at.max(hull.at);
+    let end = (entry.extent.at + entry.extent.len).min(hull.at + hull.len);
+    Cut {
+        at,
         slot: entry.slot,
-        from: entry.from + skipped,
+        from: entry.from + (at - entry.extent.at),
+        len: end - at,
     }
 }
 
-// Some of a slice's bytes.
-fn part_of(bytes: &[u8], from: usize, len: usize) -> &[u8]
-    requires { from + len ≤ length bytes.now }
-    ensures { result.now ≡ take len (drop from bytes.now) }
+// A message for each rank that has a cut in the window.
+fn with_bins(
+    alloc: Global,
+    job: &SharedJob,
+    turn: &Turn,
+    bins: Vec<Vec<Cut>>,
+) -> Result<Vec<Message>, Memory>
+    requires pieces { ArePieces (source_of job.now.batches) turn.now.entries.now }
+    requires few { length job.now.batches ≤ 64 }
+    requires bins { binned bins.items ≡ map (λ r. cuts_by (told_window turn.now.window) turn.now.entries.now r) (range_with_len 0 (length job.now.batches)) }
+    ensures { IfOk result (λ messages. messages.items ≡ messages_in (source_of job.now.batches) (length job.now.batches) turn.now.entries.now (told_window turn.now.window)) }
 {
-    &bytes[from..from + len]
+    let mut messages = Vec::new(alloc);
+    let mut rank = 0;
+    for cuts in bins {
+        add_message(&mut messages, job, turn.window.hull, rank, cuts)?;
+        rank += 1;
+    }
+    Ok(messages)
 }
 
-// The bytes of the post that an entry is of.
-fn post_bytes<'a>(batches: &'a [Batch], entry: &Owned) -> &'a [u8]
-    requires { IsPiece (source_of batches.now) entry.now }
-    ensures { result.now ≡ source_of batches.now entry.now.rank entry.now.slot }
+// Puts the message of a rank behind the others, if it has a cut.
+fn add_message(
+    messages: &mut Vec<Message>,
+    job: &SharedJob,
+    hull: Extent,
+    rank: u32,
+    cuts: Vec<Cut>,
+) -> Result<(), Memory>
+    requires { AreCuts job.now.batches hull rank cuts.items }
+    ensures { OnOk result (messages.new.items ≡ messages.old.items ++ filter has_pieces (sent hull rank (cells_of (posts_of job.now.batches rank) cuts.items) ∷ [])) }
 {
-    let puts = batches[entry.rank as usize].puts.as_slice();
-    puts[entry.slot as usize].bytes.as_slice()
+    if cuts.is_empty() {
+        return Ok(());
+    }
+    let message = Message::new(hull, rank, job.share()?, cuts);
+    messages.push(message)?;
+    Ok(())
 }

@@ -2,11 +2,11 @@
 ghost use Rattle.std.specs.Prelude.{◌≡◌, ◌++◌, ◌<◌, ◌≤◌, ℕ, [], length, slice_get, IfSome, IfNone, Some};
 ghost use Rattle.put_exchange.specs.Feeds.{earlier_of, next_round_of, rounds_in, HasRound, HasSent, HaveFed, IsNotBefore};
 ghost use Rattle.put_exchange.specs.Workers.{HasFed};
-ghost use Rattle.put_exchange.specs.declared.starting.Worker.{Worker};
+ghost use Rattle.put_exchange.specs.declared.handing.Worker.{Worker};
 
+use crate::handing::Worker;
 use crate::message::Message;
 use crate::packing::Round;
-use crate::starting::Worker;
 use nc_outside::Disk;
 use ruled_line::LinePut;
 use std::collections::VecDeque;
@@ -14,9 +14,9 @@ use std::sync::Wait;
 
 /// The caller's end of one line, with the messages that are left to be put on it.
 #[derive(Drop)]
-pub(crate) struct Feed<'a> {
-    pub line: LinePut<Message<'a>>,
-    pub rounds: VecDeque<Round<'a>>,
+pub(crate) struct Feed {
+    pub line: LinePut<Message>,
+    pub rounds: VecDeque<Round>,
 }
 
 /// Puts all messages: round by round, in a round by aggregator, and in a window by rank.
@@ -89,16 +89,16 @@ fn send_next<R: Wait>(rt: &R, feed: &mut Feed)
 }
 
 // Puts messages behind the others.
-fn put_messages<'a, R: Wait>(rt: &R, messages: Vec<Message<'a>>, line: &mut LinePut<Message<'a>>)
+fn put_messages<R: Wait>(rt: &R, messages: Vec<Message>, line: &mut LinePut<Message>)
     ensures of { line.new.of ≡ line.old.of }
-    ensures put { line.new.items ≡ line.old.items ++ messages.entry.items }
+    ensures put { line.new.items ≡ line.old.items ++ messages.items }
 {
     for message in messages {
         line.put(rt, message);
     }
 }
 
-impl<'a> Feed<'a> {
+impl Feed {
     // The round of the next window.
     fn next_round(&self) -> Option<u64>
         ensures { result ≡ next_round_of self.now }

@@ -1,5 +1,5 @@
 -- Each window is overlaid with the entries' bytes.
-use Rattle.put_exchange.proofs.Words.{◌≡◌, ◌+◌, ◌∙◌, refl, sym, subst, min, ℕ, List, arith, Batch, after, BothTold, IsBetween, told_window, ArePieces, planned_turns, source_in, cells_in, put_window, IsFilledBy, source_of, turns_ahead, err_not_ok, plan_on, plan_windows, due_now, served_are}
+use Rattle.put_exchange.proofs.Words.{ap, Job, ◌≡◌, ◌+◌, ◌∙◌, refl, sym, subst, min, ℕ, List, arith, Batch, after, BothTold, IsBetween, told_window, ArePieces, planned_turns, source_in, cells_in, put_window, IsFilledBy, source_of, turns_ahead, err_not_ok, plan_on, plan_windows, due_now, served_are}
 use Rattle.put_exchange.proofs.InTurnLaws.{in_turn_begin, in_turn_cut, in_turn_end, in_turn_next, in_turn_whole, served_filled}
 use Rattle.put_exchange.proofs.in_turn.lay_in_turn.Goals as goal
 
@@ -61,7 +61,7 @@ put_turn-requires-clause-pieces g c κs within =
     let room = min plan.hints.now.cb_buffer c.args.aggregator.domain.len in
     let due = due_now plan.list.now c.turns.walk.entries.now c.in-Some.turn.entries.now room (g.D.Disk.from c.args.part.now) (g.D.Disk.len c.args.part.now) (turns_ahead c.turns.walk.windows) (turns_ahead c.next_turn.new.self.windows)
     t c.requires.plan.ends c.turns.invariant.served.here c.turns.invariant.served.on_part c.in-Some.ensures.some c.in-Some.ensures.front in
-    subst (λ (bs : List Batch). ArePieces (source_of bs) c.in-Some.turn.entries.now) (sym c.as_slice-batches.ensures)
+    subst (λ (bs : List Batch). ArePieces (source_of bs) c.in-Some.turn.entries.now) (sym (c.as_slice-batches.ensures ∙ ap (λ (j : Job). j.batches) c.job.ensures))
     (served_are (source_in plan) plan.list.now c.in-Some.turn.entries.now t.0 (t.0 + t.1) due.served c.requires.plan.pieces)
 
 pub put_turn-requires-clause-whole : goal.put_turn-requires-clause-whole
@@ -71,7 +71,7 @@ put_turn-requires-clause-whole g c κs within =
     let room = min plan.hints.now.cb_buffer c.args.aggregator.domain.len in
     let due = due_now plan.list.now c.turns.walk.entries.now c.in-Some.turn.entries.now room (g.D.Disk.from c.args.part.now) (g.D.Disk.len c.args.part.now) (turns_ahead c.turns.walk.windows) (turns_ahead c.next_turn.new.self.windows)
     t c.requires.plan.ends c.turns.invariant.served.here c.turns.invariant.served.on_part c.in-Some.ensures.some c.in-Some.ensures.front in
-    subst (λ (bs : List Batch). IsFilledBy t (cells_in (source_of bs) t c.in-Some.turn.entries.now)) (sym c.as_slice-batches.ensures)
+    subst (λ (bs : List Batch). IsFilledBy t (cells_in (source_of bs) t c.in-Some.turn.entries.now)) (sym (c.as_slice-batches.ensures ∙ ap (λ (j : Job). j.batches) c.job.ensures))
     (served_filled (source_in plan) plan.list.now c.in-Some.turn.entries.now room t due.served c.requires.plan.pieces due.turn)
 
 pub turns-preserved : goal.turns-preserved
@@ -87,7 +87,7 @@ turns-preserved g c =
           (planned_turns plan c.args.aggregator.domain) c.turns.walk c.next_turn.new.self t
           (g.D.Disk.held c.args.part.now) (g.D.Disk.held c.turns.part) (g.D.Disk.held c.put_turn.new.part) (g.D.Disk.calls c.args.part.now) (g.D.Disk.calls c.turns.part) (g.D.Disk.calls c.put_turn.new.part)
           c.size-size.ensures.told c.requires.plan.one c.turns.invariant.served c.in-Some.ensures.some c.in-Some.ensures.ready c.in-Some.ensures.front c.in-Some.ensures.past
-          (subst (λ (bs : List Batch). g.D.Disk.held c.put_turn.new.part ≡ after (put_window (source_of bs) from t begun) (g.D.Disk.held c.turns.part)) c.as_slice-batches.ensures
+          (subst (λ (bs : List Batch). g.D.Disk.held c.put_turn.new.part ≡ after (put_window (source_of bs) from t begun) (g.D.Disk.held c.turns.part)) (c.as_slice-batches.ensures ∙ ap (λ (j : Job). j.batches) c.job.ensures)
           (subst (λ (n : ℕ). g.D.Disk.held c.put_turn.new.part ≡ after (put_window (source_of c.as_slice-batches.result.now) n t begun) (g.D.Disk.held c.turns.part)) c.turns.invariant.from
           c.in_ok-put_turn.ensures.bytes))
           c.in_ok-put_turn.ensures.calls;
@@ -112,7 +112,7 @@ returns-in_err-put_turn-clause-put g c =
           (planned_turns plan c.args.aggregator.domain) c.turns.walk c.next_turn.new.self t
           (g.D.Disk.held c.args.part.now) (g.D.Disk.held c.turns.part) (g.D.Disk.held c.put_turn.new.part) (g.D.Disk.calls c.args.part.now) (g.D.Disk.calls c.turns.part)
           c.size-size.ensures.told c.requires.plan.one c.turns.invariant.served c.in-Some.ensures.some c.in-Some.ensures.front
-          (subst (λ (bs : List Batch). BothTold (λ old left. IsBetween old (put_window (source_of bs) from t begun old) left) (g.D.Disk.held c.turns.part) (g.D.Disk.held c.put_turn.new.part)) c.as_slice-batches.ensures
+          (subst (λ (bs : List Batch). BothTold (λ old left. IsBetween old (put_window (source_of bs) from t begun old) left) (g.D.Disk.held c.turns.part) (g.D.Disk.held c.put_turn.new.part)) (c.as_slice-batches.ensures ∙ ap (λ (j : Job). j.batches) c.job.ensures)
           (subst (λ (n : ℕ). BothTold (λ old left. IsBetween old (put_window (source_of c.as_slice-batches.result.now) n t begun old) left) (g.D.Disk.held c.turns.part) (g.D.Disk.held c.put_turn.new.part))
           c.turns.invariant.from c.in_err-put_turn.ensures.between));
       device = err_not_ok _ c.from_residual.result c.from_residual.ensures.0;

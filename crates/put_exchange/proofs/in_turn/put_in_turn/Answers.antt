@@ -73,3 +73,8 @@ loop-part-preserved g c =
       failed = failed_more (λ (a b : g.row.D.Denot). Rose (g.D.Disk.faults a) (g.D.Disk.faults b)) c.loop-part.yielded c.loop-part.back.items _ c.in-Some.part part c.loop-part.end came
           many c.loop-part.invariant.failed c.serve_next-part.ensures.failed pushed;
     }
+
+pub returns-clause-long : goal.returns-clause-long
+returns-clause-long g c =
+    let whole : c.loop-part.yielded ≡ c.args.parts.items = first_of (search rules, grind (arith, common_steps)) in
+    c.loop-part.invariant.long ∙ ap (λ (ds : List g.row.D.Denot). length ds) whole

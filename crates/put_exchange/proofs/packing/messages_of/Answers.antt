@@ -1,10 +1,37 @@
--- Those are kept that have a piece.
-use Rattle.put_exchange.proofs.Words.{◌∙◌, List, ap, rules, filter, filter_same, with_items_is, has_pieces, Sent}
+-- Each cut goes into the list of its rank, and each list into a message.
+use Rattle.put_exchange.proofs.Words.{◌≡◌, ◌∙◌, ℕ, List, [], Vec, Global, ap, subst, sym, length, map, rules, arith, common_steps, range_with_len, slice_kept, told_window, source_of, ArePieces, Batch, Job, binned, cuts_by, Cut}
+use Rattle.put_exchange.proofs.PackLaws.{bins_long}
 use Rattle.put_exchange.proofs.packing.messages_of.Goals as goal
 
-pub returns : goal.returns
-returns c =
-    let packed = c.pack_entries.new.messages in
-    let long = c.pack_entries.auto.messages ∙ c.as_mut_slice.ensures.len in
-    filter_same _ has_pieces _ (λ x b h k. search rules) _ _ c.retain.ensures.filtered
-    ∙ ap (λ (ms : List Sent). filter has_pieces ms) (with_items_is c.in_ok-messages.messages packed long ∙ c.in_ok-pack_entries.ensures)
+pub fill_bins-requires-clause-pieces : goal.fill_bins-requires-clause-pieces
+fill_bins-requires-clause-pieces c =
+    subst (λ (bs : List Batch). ArePieces (source_of bs) c.args.turn.now.entries.now) (sym (c.as_slice-batches.ensures ∙ ap (λ (j : Job). j.batches) c.job.ensures)) c.requires.pieces
+
+pub fill_bins-requires-clause-below : goal.fill_bins-requires-clause-below
+fill_bins-requires-clause-below c =
+    let batches : c.as_slice-batches.result.now ≡ c.args.job.now.batches = c.as_slice-batches.ensures ∙ ap (λ (j : Job). j.batches) c.job.ensures in
+    let ranks = ap (λ (bs : List Batch). length bs) batches in
+    let long = bins_long (λ r. []) (length c.as_slice-batches.result.now) c.in_ok-bins.bins.items c.in_ok-bins.ensures in
+    let lent = ap (λ (bins : List (Vec Cut Global)). length bins) c.as_mut_slice.ensures.value in
+    λ o m. let below = c.requires.below o m in omega arith
+
+pub fill_bins-requires-clause-empty : goal.fill_bins-requires-clause-empty
+fill_bins-requires-clause-empty c =
+    let batches : c.as_slice-batches.result.now ≡ c.args.job.now.batches = c.as_slice-batches.ensures ∙ ap (λ (j : Job). j.batches) c.job.ensures in
+    let ranks = ap (λ (bs : List Batch). length bs) batches in
+    let long = bins_long (λ r. []) (length c.as_slice-batches.result.now) c.in_ok-bins.bins.items c.in_ok-bins.ensures in
+    let lent = ap (λ (bins : List (Vec Cut Global)). length bins) c.as_mut_slice.ensures.value in
+    ap (λ (bins : List (Vec Cut Global)). binned bins) c.as_mut_slice.ensures.value
+    ∙ c.in_ok-bins.ensures
+    ∙ ap (λ (n : ℕ). map (λ (r : ℕ). []) (range_with_len 0 n)) (sym (lent ∙ long))
+
+pub with_bins-requires-clause-bins : goal.with_bins-requires-clause-bins
+with_bins-requires-clause-bins c =
+    let batches : c.as_slice-batches.result.now ≡ c.args.job.now.batches = c.as_slice-batches.ensures ∙ ap (λ (j : Job). j.batches) c.job.ensures in
+    let ranks = ap (λ (bs : List Batch). length bs) batches in
+    let long = bins_long (λ r. []) (length c.as_slice-batches.result.now) c.in_ok-bins.bins.items c.in_ok-bins.ensures in
+    let lent = ap (λ (bins : List (Vec Cut Global)). length bins) c.as_mut_slice.ensures.value in
+    let n : c.in_ok-bins.bins.len ≡ length c.in_ok-bins.bins.items = first_of (search rules, grind (arith, common_steps)) in
+    ap (λ (bins : List (Vec Cut Global)). binned bins) (slice_kept c.in_ok-bins.bins.len c.fill_bins.new.bins c.in_ok-bins.bins.items n (c.fill_bins.auto.bins ∙ lent))
+    ∙ c.in_ok-fill_bins.ensures
+    ∙ ap (λ (k : ℕ). map (λ r. cuts_by (told_window c.args.turn.now.window) c.args.turn.now.entries.now r) (range_with_len 0 k)) (lent ∙ long ∙ ranks)

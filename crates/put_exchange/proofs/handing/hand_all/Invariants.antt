@@ -1,0 +1,15 @@
+-- Each part so far was handed to a helper, or the part is among the rest.
+use Rattle.put_exchange.proofs.Words.{◌≡◌, IsPast, ◌++◌, length, map, take, vec_capacity, In, domain_of, part_of, IsFresh, Worker}
+use Rattle.put_exchange.proofs.handing.hand_all.Given as goal
+
+abbrev pub invariant-loop-part : goal.invariant-loop-part
+invariant-loop-part g l = record {
+  all : l.yielded ++ l.part-iterator.rest.items ≡ l.fn.parts.items;
+  parts : map (λ worker. part_of worker) l.crew.workers.items ++ l.crew.rest.items ≡ l.yielded;
+  domains : map (λ worker. domain_of worker) l.crew.workers.items ≡ take (length l.crew.workers.items) l.domains;
+  workers : (worker : Worker _) → In l.crew.workers.items worker → IsFresh g.D.Disk l.plan worker;
+  workers_room : vec_capacity l.crew.workers ≡ vec_capacity l.initial.crew.workers;
+  rest_room : vec_capacity l.crew.rest ≡ vec_capacity l.initial.crew.rest;
+  past : IsPast l.ahead.place l.plan.list.now l.ahead.entries.now;
+  back : l.crew.back ≡ l.initial.crew.back;
+}

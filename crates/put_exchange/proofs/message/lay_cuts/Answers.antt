@@ -1,0 +1,18 @@
+-- One cut more, which lies in the hull and in its put.
+use Rattle.put_exchange.proofs.Words.{◌∙◌, get_or, entry_in, Cut}
+use Rattle.put_exchange.proofs.MessageLaws.{laid_cut}
+use Rattle.put_exchange.proofs.message.lay_cuts.Goals as goal
+
+abbrev none : Cut
+none = record { at = 0; slot = 0; from = 0; len = 0 }
+
+pub lay_cut-requires-clause-cut : goal.lay_cut-requires-clause-cut
+lay_cut-requires-clause-cut c =
+    c.requires.cuts (get_or c.args.cuts.now c.loop-cut.cut-index none) (entry_in c.args.cuts.now c.loop-cut.cut-index none c.loop-cut-test.true)
+
+pub loop-cut-preserved : goal.loop-cut-preserved
+loop-cut-preserved c = record {
+  laid = laid_cut c.args.hull.at c.loop-cut.cut-index c.args.puts.now c.args.cuts.now none c.args.buf.now c.loop-cut.buf c.lay_cut.new.buf c.loop-cut-test.true
+      c.loop-cut.invariant.laid c.lay_cut.ensures;
+  long = c.lay_cut.auto.buf ∙ c.loop-cut.invariant.long;
+}
