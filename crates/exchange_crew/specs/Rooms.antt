@@ -1,12 +1,12 @@
 -- Lists that are made before any part is handed out. (own)
---     HasRooms n crew     they are empty, and each has room for so many items
+--     HasRooms n shares     they are empty, and each has room for so many items
 use Rattle.std.specs.Prelude.{◌≡◌, ℕ, ◌≤◌, [], vec_capacity}
-use Rattle.exchange_crew.specs.declared.crew.Crew.{Crew}
+use Rattle.exchange_crew.specs.declared.shares.Shares.{Shares}
 
-pub record HasRooms {W D : Type 0} (n : ℕ) (crew : Crew W D) : Type 0 where
-  pub no_workers : crew.workers.items ≡ []
-  pub no_rest : crew.rest.items ≡ []
-  pub no_back : crew.back.items ≡ []
-  pub for_workers : n ≤ vec_capacity crew.workers
-  pub for_rest : n ≤ vec_capacity crew.rest
-  pub for_back : n ≤ vec_capacity crew.back
+pub record HasRooms {W D : Type 0} (n : ℕ) (shares : Shares W D) : Type 0 where
+  pub no_workers : shares.workers.items ≡ []
+  pub no_rest : shares.rest.items ≡ []
+  pub no_back : shares.back.items ≡ []
+  pub for_workers : n ≤ vec_capacity shares.workers
+  pub for_rest : n ≤ vec_capacity shares.rest
+  pub for_back : n ≤ vec_capacity shares.back

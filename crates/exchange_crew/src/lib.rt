@@ -5,14 +5,14 @@
 //! and nobody has to say where it ends.
 #![tactic(auto)]
 
-mod crew;
 mod errand;
 mod plan;
 mod shared_job;
+mod shares;
 mod walk;
 
-pub use crew::{Crew, STACK_SIZE, give_back, make_rooms};
 pub use errand::{Errand, PartBack, PartEnds};
 pub use plan::{Aggregator, GetPlan, PutPlan, Tools};
 pub use shared_job::SharedJob;
+pub use shares::{STACK_SIZE, Shares, give_back, make_rooms};
 pub use walk::{Turn, TurnWalk, domain_windows, longest_window, next_window, window_list};

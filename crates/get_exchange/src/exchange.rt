@@ -22,7 +22,7 @@ use crate::helper::GetJob;
 use crate::in_turn::get_in_turn;
 use crate::results::take_back;
 use crossbeam_channel::Sender;
-use exchange_crew::{Crew, Errand, GetPlan, Tools, give_back, make_rooms};
+use exchange_crew::{Errand, GetPlan, Shares, Tools, give_back, make_rooms};
 use nc_base::{Extent, GotTable, Memory};
 use nc_outside::{Disk, DiskErr, Gate};
 use std::alloc::Global;
@@ -95,7 +95,7 @@ fn get_parts<R: Wait, D: Disk, G: Gate, P: Send + Drop>(
 // The lists that are made before a part is handed out, and the blobs that are lent.
 #[derive(Drop)]
 struct Fetching<'a, D: Disk> {
-    crew: Crew<ReadWorker<'a, D>, D>,
+    shares: Shares<ReadWorker<'a, D>, D>,
     lending: Lending<'a>,
 }
 
@@ -105,11 +105,11 @@ fn fetching_of<'a, D: Disk>(
     domains: &[Extent],
 ) -> Result<Fetching<'a, D>, Memory>
     requires { IsGetPlanned plan.now }
-    ensures rooms { IfOk result (λ fetching. HasRooms (length domains.now) fetching.crew) }
+    ensures rooms { IfOk result (λ fetching. HasRooms (length domains.now) fetching.shares) }
     ensures ready { IfOk result (λ fetching. AreReady fetching.lending.lenders.each.items) }
 {
     Ok(Fetching {
-        crew: make_rooms(alloc, domains.len())?,
+        shares: make_rooms(alloc, domains.len())?,
         lending: lending_of(alloc, plan, domains)?,
     })
 }
@@ -133,7 +133,7 @@ fn get_helped<'a, R: Wait, D: Disk, G: Gate, P: Send + Drop>(
     requires fit { FitTable into.old plan.now.list.now }
     requires one_place { HaveOnePlaces plan.now.list.now }
     requires lenders { AreReady fetching.lending.lenders.each.items }
-    requires rooms { HasRooms (length parts.items) fetching.crew }
+    requires rooms { HasRooms (length parts.items) fetching.shares }
     ensures got { AllZip (λ p new. HasGot (get_turns plan.now p.1)
         (part_state D.Disk p.0) (part_state D.Disk new) result.1) (zip parts.items domains.now) result.0.items }
     ensures read { OnOk result.1 (HasReadParts (λ part. D.from part) (λ part. D.held part) plan.now (zip parts.items domains.now) into.old into.new) }
@@ -178,7 +178,7 @@ fn get_served<'a, R: Wait, D: Disk, G: Gate, P: Send + Drop>(
     requires fit { FitTable into.old plan.now.list.now }
     requires one_place { HaveOnePlaces plan.now.list.now }
     requires lenders { AreReady fetching.lending.lenders.each.items }
-    requires rooms { HasRooms (length parts.items) fetching.crew }
+    requires rooms { HasRooms (length parts.items) fetching.shares }
     ensures rest { result.rest.items ≡ drop (length result.back.items) parts.items }
     ensures served { length result.back.items ≤ length parts.items }
     ensures room { length parts.items ≤ vec_capacity result.back }
@@ -189,7 +189,10 @@ fn get_served<'a, R: Wait, D: Disk, G: Gate, P: Send + Drop>(
     ensures blobs { AreAsLong into.old into.new }
     ensures failed { IsErrOf result.end Failed → SomeZip (λ old new. Rose (D.faults old) (D.faults new)) (take (length result.back.items) parts.items) result.back.items }
 {
-    let Fetching { mut crew, lending } = fetching;
+    let Fetching {
+        mut shares,
+        lending,
+    } = fetching;
     let Lending {
         mut lenders,
         spares,
@@ -201,13 +204,13 @@ fn get_served<'a, R: Wait, D: Disk, G: Gate, P: Send + Drop>(
         plan,
         domains,
         Supply { parts, spares },
-        &mut crew,
+        &mut shares,
     );
-    let Crew {
+    let Shares {
         mut workers,
         rest,
         mut back,
-    } = crew;
+    } = shares;
     lenders.keep(workers.len());
     lenders.lend_first(tools.rt, blobs);
     let mut table = into.take().into_vec();

@@ -13,7 +13,7 @@ use crate::helper::{GetDuty, GetJob, GetLines};
 use crate::reading::Reading;
 use crate::shelf::{Shelf, shelf_of};
 use crossbeam_channel::Sender;
-use exchange_crew::{Aggregator, Crew, Errand, GetPlan, PartBack, PartEnds, Tools, window_list};
+use exchange_crew::{Aggregator, Errand, GetPlan, PartBack, PartEnds, Shares, Tools, window_list};
 use file_domains::Window;
 use nc_base::{Blob, Extent};
 use nc_outside::Disk;
@@ -50,7 +50,7 @@ pub(crate) fn hand_all<'a, R: Wait, D: Disk, G, P: Send + Drop>(
     plan: &GetPlan<'a>,
     domains: &[Extent],
     supply: Supply<D>,
-    crew: &mut Crew<ReadWorker<'a, D>, D>,
+    shares: &mut Shares<ReadWorker<'a, D>, D>,
 )
     requires plan { IsGetPlanned plan.now }
     requires line_low { 1 ≤ plan.now.hints.now.line_room }
@@ -58,29 +58,29 @@ pub(crate) fn hand_all<'a, R: Wait, D: Disk, G, P: Send + Drop>(
     requires few { length domains.now ≤ 64 }
     requires one_each { length domains.now ≡ length supply.parts.items }
     requires domains { (k : ℕ) (part : D) (domain : Extent) → slice_get supply.parts.items k ≡ Some part → slice_get domains.now k ≡ Some domain → IsDomainOf plan.now.list.now (D.from part) (D.len part) domain }
-    requires workers { crew.old.workers.items ≡ [] }
-    requires rest { crew.old.rest.items ≡ [] }
-    requires workers_room { length supply.parts.items ≤ vec_capacity crew.old.workers }
-    requires rest_room { length supply.parts.items ≤ vec_capacity crew.old.rest }
-    ensures parts { map (λ worker. part_of worker) crew.new.workers.items ++ crew.new.rest.items ≡ supply.parts.items }
-    ensures back { crew.new.back ≡ crew.old.back }
-    ensures domains { map (λ worker. domain_of worker) crew.new.workers.items ≡ take (length crew.new.workers.items) domains.now }
-    ensures workers { (worker : ReadWorker D) → In crew.new.workers.items worker → IsFresh plan.now worker }
+    requires workers { shares.old.workers.items ≡ [] }
+    requires rest { shares.old.rest.items ≡ [] }
+    requires workers_room { length supply.parts.items ≤ vec_capacity shares.old.workers }
+    requires rest_room { length supply.parts.items ≤ vec_capacity shares.old.rest }
+    ensures parts { map (λ worker. part_of worker) shares.new.workers.items ++ shares.new.rest.items ≡ supply.parts.items }
+    ensures back { shares.new.back ≡ shares.old.back }
+    ensures domains { map (λ worker. domain_of worker) shares.new.workers.items ≡ take (length shares.new.workers.items) domains.now }
+    ensures workers { (worker : ReadWorker D) → In shares.new.workers.items worker → IsFresh plan.now worker }
 {
     let Supply { parts, mut spares } = supply;
     for part in parts {
-        if crew.rest.is_empty() {
-            let number = crew.workers.len();
+        if shares.rest.is_empty() {
+            let number = shares.workers.len();
             let aggregator = Aggregator {
                 number: number as u32,
                 domain: domains[number],
             };
             match hand_one(tools, helpers, plan, aggregator, part, spares.pop()) {
-                Ok(worker) => crew.workers.push_reserved(worker),
-                Err(part) => crew.rest.push_reserved(part),
+                Ok(worker) => shares.workers.push_reserved(worker),
+                Err(part) => shares.rest.push_reserved(part),
             }
         } else {
-            crew.rest.push_reserved(part);
+            shares.rest.push_reserved(part);
         }
     }
 }

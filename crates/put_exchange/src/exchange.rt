@@ -15,7 +15,7 @@ use crate::in_turn::put_in_turn;
 use crate::results::take_back;
 use crate::sending::send_all;
 use crossbeam_channel::Sender;
-use exchange_crew::{Crew, Errand, PutPlan, Tools, give_back, make_rooms};
+use exchange_crew::{Errand, PutPlan, Shares, Tools, give_back, make_rooms};
 use nc_base::Extent;
 use nc_outside::{Disk, DiskErr, Gate};
 use std::sync::Wait;
@@ -47,7 +47,7 @@ pub fn exchange_put<R: Wait, D: Disk, G: Gate, K: Send + Drop>(
         return put_in_turn(tools, plan, 0, domains, parts);
     }
     match make_rooms(tools.alloc, parts.len()) {
-        Ok(crew) => put_helped(tools, helpers, plan, domains, parts, crew),
+        Ok(shares) => put_helped(tools, helpers, plan, domains, parts, shares),
         Err(_) => put_in_turn(tools, plan, 0, domains, parts),
     }
 }
@@ -59,7 +59,7 @@ fn put_helped<R: Wait, D: Disk, G: Gate, K: Send + Drop>(
     plan: &PutPlan,
     domains: &[Extent],
     parts: Vec<D>,
-    crew: Crew<Worker<D>, D>,
+    shares: Shares<Worker<D>, D>,
 ) -> (Vec<D>, Result<(), DiskErr>)
     requires plan { IsPlanned plan.now }
     requires line_low { 1 ≤ plan.now.hints.now.line_room }
@@ -67,7 +67,7 @@ fn put_helped<R: Wait, D: Disk, G: Gate, K: Send + Drop>(
     requires few { length domains.now ≤ 64 }
     requires one_each { length domains.now ≡ length parts.items }
     requires domains { (k : ℕ) (part : D) (domain : Extent) → slice_get parts.items k ≡ Some part → slice_get domains.now k ≡ Some domain → IsDomainOf plan.now.list.now (D.from part) (D.len part) domain }
-    requires rooms { HasRooms (length parts.items) crew }
+    requires rooms { HasRooms (length parts.items) shares }
     ensures put { AllZip (λ p new. HasPut (source_in plan.now) plan.now.list.now (planned_turns plan.now p.1)
         (part_state D.Disk p.0) (part_state D.Disk new) result.1) (zip parts.items domains.now) result.0.items }
     ensures failed { IsErrOf result.1 Failed → SomeZip (λ old new. Rose (D.faults old) (D.faults new)) parts.items result.0.items }
@@ -76,7 +76,7 @@ fn put_helped<R: Wait, D: Disk, G: Gate, K: Send + Drop>(
         mut back,
         rest,
         end,
-    } = put_served(tools, helpers, plan, domains, parts, crew);
+    } = put_served(tools, helpers, plan, domains, parts, shares);
     let served = back.len();
     let (others, other) = put_in_turn(tools, plan, served as u32, &domains[served..], rest);
     give_back(others, &mut back);
@@ -98,7 +98,7 @@ fn put_served<R: Wait, D: Disk, G: Gate, K: Send + Drop>(
     plan: &PutPlan,
     domains: &[Extent],
     parts: Vec<D>,
-    crew: Crew<Worker<D>, D>,
+    shares: Shares<Worker<D>, D>,
 ) -> Served<D>
     requires plan { IsPlanned plan.now }
     requires line_low { 1 ≤ plan.now.hints.now.line_room }
@@ -106,7 +106,7 @@ fn put_served<R: Wait, D: Disk, G: Gate, K: Send + Drop>(
     requires few { length domains.now ≤ 64 }
     requires one_each { length domains.now ≡ length parts.items }
     requires domains { (k : ℕ) (part : D) (domain : Extent) → slice_get parts.items k ≡ Some part → slice_get domains.now k ≡ Some domain → IsDomainOf plan.now.list.now (D.from part) (D.len part) domain }
-    requires rooms { HasRooms (length parts.items) crew }
+    requires rooms { HasRooms (length parts.items) shares }
     ensures rest { result.rest.items ≡ drop (length result.back.items) parts.items }
     ensures served { length result.back.items ≤ length parts.items }
     ensures room { length parts.items ≤ vec_capacity result.back }
@@ -114,13 +114,13 @@ fn put_served<R: Wait, D: Disk, G: Gate, K: Send + Drop>(
         (part_state D.Disk p.0) (part_state D.Disk new) result.end) (zip (take (length result.back.items) parts.items) (take (length result.back.items) domains.now)) result.back.items }
     ensures failed { IsErrOf result.end Failed → SomeZip (λ old new. Rose (D.faults old) (D.faults new)) (take (length result.back.items) parts.items) result.back.items }
 {
-    let mut crew = crew;
-    hand_all(tools, helpers, plan, domains, parts, &mut crew);
-    let Crew {
+    let mut shares = shares;
+    hand_all(tools, helpers, plan, domains, parts, &mut shares);
+    let Shares {
         mut workers,
         rest,
         mut back,
-    } = crew;
+    } = shares;
     send_all(tools.rt, &mut workers);
     let end = take_back(tools.rt, plan, workers, &mut back);
     Served { back, rest, end }

@@ -14,7 +14,7 @@ use crate::message::Message;
 use crate::packing::{Ahead, Mail, mail_of};
 use crate::sending::Feed;
 use crossbeam_channel::Sender;
-use exchange_crew::{Aggregator, Crew, Errand, PartBack, PartEnds, PutPlan, Tools};
+use exchange_crew::{Aggregator, Errand, PartBack, PartEnds, PutPlan, Shares, Tools};
 use nc_base::Extent;
 use nc_outside::Disk;
 use promised_reply::{Awaited, reply};
@@ -43,7 +43,7 @@ pub(crate) fn hand_all<R: Wait, D: Disk, G, K: Send + Drop>(
     plan: &PutPlan,
     domains: &[Extent],
     parts: Vec<D>,
-    crew: &mut Crew<Worker<D>, D>,
+    shares: &mut Shares<Worker<D>, D>,
 )
     requires plan { IsPlanned plan.now }
     requires line_low { 1 ≤ plan.now.hints.now.line_room }
@@ -51,30 +51,30 @@ pub(crate) fn hand_all<R: Wait, D: Disk, G, K: Send + Drop>(
     requires few { length domains.now ≤ 64 }
     requires one_each { length domains.now ≡ length parts.items }
     requires domains { (k : ℕ) (part : D) (domain : Extent) → slice_get parts.items k ≡ Some part → slice_get domains.now k ≡ Some domain → IsDomainOf plan.now.list.now (D.from part) (D.len part) domain }
-    requires workers { crew.old.workers.items ≡ [] }
-    requires rest { crew.old.rest.items ≡ [] }
-    requires workers_room { length parts.items ≤ vec_capacity crew.old.workers }
-    requires rest_room { length parts.items ≤ vec_capacity crew.old.rest }
-    ensures parts { map (λ worker. part_of worker) crew.new.workers.items ++ crew.new.rest.items ≡ parts.items }
-    ensures back { crew.new.back ≡ crew.old.back }
-    ensures domains { map (λ worker. domain_of worker) crew.new.workers.items ≡ take (length crew.new.workers.items) domains.now }
-    ensures workers { (worker : Worker D) → In crew.new.workers.items worker → IsFresh D.Disk plan.now worker }
+    requires workers { shares.old.workers.items ≡ [] }
+    requires rest { shares.old.rest.items ≡ [] }
+    requires workers_room { length parts.items ≤ vec_capacity shares.old.workers }
+    requires rest_room { length parts.items ≤ vec_capacity shares.old.rest }
+    ensures parts { map (λ worker. part_of worker) shares.new.workers.items ++ shares.new.rest.items ≡ parts.items }
+    ensures back { shares.new.back ≡ shares.old.back }
+    ensures domains { map (λ worker. domain_of worker) shares.new.workers.items ≡ take (length shares.new.workers.items) domains.now }
+    ensures workers { (worker : Worker D) → In shares.new.workers.items worker → IsFresh D.Disk plan.now worker }
 {
     let entries = plan.list.as_slice();
     let mut ahead = Ahead { place: 0, entries };
     for part in parts {
-        if crew.rest.is_empty() {
-            let number = crew.workers.len();
+        if shares.rest.is_empty() {
+            let number = shares.workers.len();
             let aggregator = Aggregator {
                 number: number as u32,
                 domain: domains[number],
             };
             match hand_one(tools, helpers, plan, aggregator, part, &mut ahead) {
-                Ok(worker) => crew.workers.push_reserved(worker),
-                Err(part) => crew.rest.push_reserved(part),
+                Ok(worker) => shares.workers.push_reserved(worker),
+                Err(part) => shares.rest.push_reserved(part),
             }
         } else {
-            crew.rest.push_reserved(part);
+            shares.rest.push_reserved(part);
         }
     }
 }

@@ -6,15 +6,15 @@ use Rattle.get_exchange.proofs.exchange.get_served.Goals as goal
 
 pub take_all-came-requires-clause-ready : goal.take_all-came-requires-clause-ready
 take_all-came-requires-clause-ready g c κs within =
-    let first = c.hand_all.new.crew.workers.items in
+    let first = c.hand_all.new.shares.workers.items in
     λ k worker e.
     (_, (c.hand_all.ensures.workers worker (at_in first k worker (subst (λ (ws : List (ReadWorker g.row.D.Denot)). slice_get ws k ≡ Some worker) c.deref_mut.ensures.value e))).ready)
 
 pub take_back-end-requires-clause-workers : goal.take_back-end-requires-clause-workers
 take_back-end-requires-clause-workers g c κs within =
-    let first = c.hand_all.new.crew.workers.items in
+    let first = c.hand_all.new.shares.workers.items in
     let last = c.take_all-came.new.workers in
-    let count = c.hand_all.new.crew.workers.len in
+    let count = c.hand_all.new.shares.workers.len in
     let n : count ≡ length first = first_of (search rules, grind (arith, common_steps)) in
     let lent : c.deref_mut.result.now ≡ first = c.deref_mut.ensures.value in
     let long : length last ≡ length first = c.take_all-came.ensures.long ∙ ap (λ (ws : List (ReadWorker g.row.D.Denot)). length ws) lent in
@@ -25,23 +25,23 @@ take_back-end-requires-clause-workers g c κs within =
 
 pub returns-clause-rest : goal.returns-clause-rest
 returns-clause-rest g c =
-    let first = c.hand_all.new.crew.workers.items in
+    let first = c.hand_all.new.shares.workers.items in
     let last = c.take_all-came.new.workers in
-    let count = c.hand_all.new.crew.workers.len in
+    let count = c.hand_all.new.shares.workers.len in
     let n : count ≡ length first = first_of (search rules, grind (arith, common_steps)) in
     let lent : c.deref_mut.result.now ≡ first = c.deref_mut.ensures.value in
     let long : length last ≡ length first = c.take_all-came.ensures.long ∙ ap (λ (ws : List (ReadWorker g.row.D.Denot)). length ws) lent in
     let whole = slice_kept count last first n long in
     let back = c.take_back-end.new.back.items in
     let many : length back ≡ length first = c.take_back-end.ensures.long ∙ ap (λ (ws : List (ReadWorker g.row.D.Denot)). length ws) whole ∙ long in
-    parts_behind (λ worker. part_of worker) first c.hand_all.new.crew.rest.items c.args.parts.items (length back) many c.hand_all.ensures.parts
+    parts_behind (λ worker. part_of worker) first c.hand_all.new.shares.rest.items c.args.parts.items (length back) many c.hand_all.ensures.parts
 
 pub returns-clause-got : goal.returns-clause-got
 returns-clause-got g c =
     let plan = c.args.plan.now in
-    let first = c.hand_all.new.crew.workers.items in
+    let first = c.hand_all.new.shares.workers.items in
     let last = c.take_all-came.new.workers in
-    let count = c.hand_all.new.crew.workers.len in
+    let count = c.hand_all.new.shares.workers.len in
     let n : count ≡ length first = first_of (search rules, grind (arith, common_steps)) in
     let lent : c.deref_mut.result.now ≡ first = c.deref_mut.ensures.value in
     let long : length last ≡ length first = c.take_all-came.ensures.long ∙ ap (λ (ws : List (ReadWorker g.row.D.Denot)). length ws) lent in
@@ -52,7 +52,7 @@ returns-clause-got g c =
     let domains = c.args.domains.now in
     let many : length back ≡ length first = c.take_back-end.ensures.long ∙ ap (λ (ws : List (ReadWorker g.row.D.Denot)). length ws) whole ∙ long in
     let of_parts : map (λ worker. part_of worker) last ≡ take (length back) parts =
-    kept_parts first last long kept ∙ sym (first_parts (λ worker. part_of worker) first c.hand_all.new.crew.rest.items parts (length back) many c.hand_all.ensures.parts) in
+    kept_parts first last long kept ∙ sym (first_parts (λ worker. part_of worker) first c.hand_all.new.shares.rest.items parts (length back) many c.hand_all.ensures.parts) in
     let of_domains : map (λ worker. domain_of worker) last ≡ take (length back) domains =
     kept_domains first last long kept ∙ c.hand_all.ensures.domains ∙ ap (λ (k : ℕ). take k domains) (sym many) in
     let of : AreOf (λ worker. part_of worker) (λ worker. domain_of worker) last (take (length back) parts) (take (length back) domains) = record { of_parts = of_parts; of_domains = of_domains } in
@@ -66,9 +66,9 @@ returns-clause-got g c =
 
 pub returns-clause-failed : goal.returns-clause-failed
 returns-clause-failed g c =
-    let first = c.hand_all.new.crew.workers.items in
+    let first = c.hand_all.new.shares.workers.items in
     let last = c.take_all-came.new.workers in
-    let count = c.hand_all.new.crew.workers.len in
+    let count = c.hand_all.new.shares.workers.len in
     let n : count ≡ length first = first_of (search rules, grind (arith, common_steps)) in
     let lent : c.deref_mut.result.now ≡ first = c.deref_mut.ensures.value in
     let long : length last ≡ length first = c.take_all-came.ensures.long ∙ ap (λ (ws : List (ReadWorker g.row.D.Denot)). length ws) lent in
@@ -79,7 +79,7 @@ returns-clause-failed g c =
     let domains = c.args.domains.now in
     let many : length back ≡ length first = c.take_back-end.ensures.long ∙ ap (λ (ws : List (ReadWorker g.row.D.Denot)). length ws) whole ∙ long in
     let of_parts : map (λ worker. part_of worker) last ≡ take (length back) parts =
-    kept_parts first last long kept ∙ sym (first_parts (λ worker. part_of worker) first c.hand_all.new.crew.rest.items parts (length back) many c.hand_all.ensures.parts) in
+    kept_parts first last long kept ∙ sym (first_parts (λ worker. part_of worker) first c.hand_all.new.shares.rest.items parts (length back) many c.hand_all.ensures.parts) in
     let of_domains : map (λ worker. domain_of worker) last ≡ take (length back) domains =
     kept_domains first last long kept ∙ c.hand_all.ensures.domains ∙ ap (λ (k : ℕ). take k domains) (sym many) in
     let of : AreOf (λ worker. part_of worker) (λ worker. domain_of worker) last (take (length back) parts) (take (length back) domains) = record { of_parts = of_parts; of_domains = of_domains } in
@@ -91,15 +91,15 @@ returns-clause-failed g c =
 
 pub returns-clause-served : goal.returns-clause-served
 returns-clause-served g c =
-    let first = c.hand_all.new.crew.workers.items in
+    let first = c.hand_all.new.shares.workers.items in
     let last = c.take_all-came.new.workers in
-    let count = c.hand_all.new.crew.workers.len in
+    let count = c.hand_all.new.shares.workers.len in
     let n : count ≡ length first = first_of (search rules, grind (arith, common_steps)) in
     let lent : c.deref_mut.result.now ≡ first = c.deref_mut.ensures.value in
     let long : length last ≡ length first = c.take_all-came.ensures.long ∙ ap (λ (ws : List (ReadWorker g.row.D.Denot)). length ws) lent in
     let whole = slice_kept count last first n long in
     let many : length c.take_back-end.new.back.items ≡ length first = c.take_back-end.ensures.long ∙ ap (λ (ws : List (ReadWorker g.row.D.Denot)). length ws) whole ∙ long in
-    let few = workers_few (λ worker. part_of worker) first c.hand_all.new.crew.rest.items c.args.parts.items c.hand_all.ensures.parts in
+    let few = workers_few (λ worker. part_of worker) first c.hand_all.new.shares.rest.items c.args.parts.items c.hand_all.ensures.parts in
     omega arith
 
 pub returns-clause-room : goal.returns-clause-room
@@ -125,9 +125,9 @@ returns-clause-blobs g c =
 pub returns-clause-read : goal.returns-clause-read
 returns-clause-read g c =
     let plan = c.args.plan.now in
-    let first = c.hand_all.new.crew.workers.items in
+    let first = c.hand_all.new.shares.workers.items in
     let last = c.take_all-came.new.workers in
-    let count = c.hand_all.new.crew.workers.len in
+    let count = c.hand_all.new.shares.workers.len in
     let n : count ≡ length first = first_of (search rules, grind (arith, common_steps)) in
     let lent : c.deref_mut.result.now ≡ first = c.deref_mut.ensures.value in
     let long : length last ≡ length first = c.take_all-came.ensures.long ∙ ap (λ (ws : List (ReadWorker g.row.D.Denot)). length ws) lent in
@@ -138,7 +138,7 @@ returns-clause-read g c =
     let domains = c.args.domains.now in
     let many : length back ≡ length first = c.take_back-end.ensures.long ∙ ap (λ (ws : List (ReadWorker g.row.D.Denot)). length ws) whole ∙ long in
     let of_parts : map (λ worker. part_of worker) last ≡ take (length back) parts =
-    kept_parts first last long kept ∙ sym (first_parts (λ worker. part_of worker) first c.hand_all.new.crew.rest.items parts (length back) many c.hand_all.ensures.parts) in
+    kept_parts first last long kept ∙ sym (first_parts (λ worker. part_of worker) first c.hand_all.new.shares.rest.items parts (length back) many c.hand_all.ensures.parts) in
     let of_domains : map (λ worker. domain_of worker) last ≡ take (length back) domains =
     kept_domains first last long kept ∙ c.hand_all.ensures.domains ∙ ap (λ (k : ℕ). take k domains) (sym many) in
     let of : AreOf (λ worker. part_of worker) (λ worker. domain_of worker) last (take (length back) parts) (take (length back) domains) = record { of_parts = of_parts; of_domains = of_domains } in

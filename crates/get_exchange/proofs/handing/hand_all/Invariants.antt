@@ -5,10 +5,10 @@ use Rattle.get_exchange.proofs.handing.hand_all.Given as goal
 abbrev pub invariant-loop-part : goal.invariant-loop-part
 invariant-loop-part g l = record {
   all : l.yielded ++ l.part-iterator.rest.items ≡ l.fn.supply.parts.items;
-  parts : map (λ worker. part_of worker) l.crew.workers.items ++ l.crew.rest.items ≡ l.yielded;
-  domains : map (λ worker. domain_of worker) l.crew.workers.items ≡ take (length l.crew.workers.items) l.domains;
-  workers : (worker : ReadWorker _) → In l.crew.workers.items worker → IsFresh l.plan worker;
-  workers_room : vec_capacity l.crew.workers ≡ vec_capacity l.initial.crew.workers;
-  rest_room : vec_capacity l.crew.rest ≡ vec_capacity l.initial.crew.rest;
-  back : l.crew.back ≡ l.initial.crew.back;
+  parts : map (λ worker. part_of worker) l.shares.workers.items ++ l.shares.rest.items ≡ l.yielded;
+  domains : map (λ worker. domain_of worker) l.shares.workers.items ≡ take (length l.shares.workers.items) l.domains;
+  workers : (worker : ReadWorker _) → In l.shares.workers.items worker → IsFresh l.plan worker;
+  workers_room : vec_capacity l.shares.workers ≡ vec_capacity l.initial.shares.workers;
+  rest_room : vec_capacity l.shares.rest ≡ vec_capacity l.initial.shares.rest;
+  back : l.shares.back ≡ l.initial.shares.back;
 }

@@ -5,9 +5,9 @@ use Rattle.put_exchange.proofs.exchange.put_served.Goals as goal
 
 pub take_back-end-requires-clause-workers : goal.take_back-end-requires-clause-workers
 take_back-end-requires-clause-workers g c κs within =
-    let first = c.hand_all.new.crew.workers.items in
+    let first = c.hand_all.new.shares.workers.items in
     let last = c.send_all.new.workers in
-    let count = c.hand_all.new.crew.workers.len in
+    let count = c.hand_all.new.shares.workers.len in
     let n : count ≡ length first = first_of (search rules, grind (arith, common_steps)) in
     let lent : c.deref_mut.result.now ≡ first = c.deref_mut.ensures.value in
     let long : length last ≡ length first = c.send_all.ensures.long ∙ ap (λ (ws : List (Worker g.row.D.Denot)). length ws) lent in
@@ -18,29 +18,29 @@ take_back-end-requires-clause-workers g c κs within =
 
 pub returns-clause-rest : goal.returns-clause-rest
 returns-clause-rest g c =
-    let first = c.hand_all.new.crew.workers.items in
+    let first = c.hand_all.new.shares.workers.items in
     let last = c.send_all.new.workers in
-    let count = c.hand_all.new.crew.workers.len in
+    let count = c.hand_all.new.shares.workers.len in
     let n : count ≡ length first = first_of (search rules, grind (arith, common_steps)) in
     let lent : c.deref_mut.result.now ≡ first = c.deref_mut.ensures.value in
     let long : length last ≡ length first = c.send_all.ensures.long ∙ ap (λ (ws : List (Worker g.row.D.Denot)). length ws) lent in
     let whole = slice_kept count last first n long in
     let back = c.take_back-end.new.back.items in
     let many : length back ≡ length first = c.take_back-end.ensures.long ∙ ap (λ (ws : List (Worker g.row.D.Denot)). length ws) whole ∙ long in
-    parts_behind (λ worker. part_of worker) first c.hand_all.new.crew.rest.items c.args.parts.items (length back) many c.hand_all.ensures.parts
+    parts_behind (λ worker. part_of worker) first c.hand_all.new.shares.rest.items c.args.parts.items (length back) many c.hand_all.ensures.parts
 
 pub returns-clause-served : goal.returns-clause-served
 returns-clause-served g c =
-    let first = c.hand_all.new.crew.workers.items in
+    let first = c.hand_all.new.shares.workers.items in
     let last = c.send_all.new.workers in
-    let count = c.hand_all.new.crew.workers.len in
+    let count = c.hand_all.new.shares.workers.len in
     let n : count ≡ length first = first_of (search rules, grind (arith, common_steps)) in
     let lent : c.deref_mut.result.now ≡ first = c.deref_mut.ensures.value in
     let long : length last ≡ length first = c.send_all.ensures.long ∙ ap (λ (ws : List (Worker g.row.D.Denot)). length ws) lent in
     let whole = slice_kept count last first n long in
     let back = c.take_back-end.new.back.items in
     let many : length back ≡ length first = c.take_back-end.ensures.long ∙ ap (λ (ws : List (Worker g.row.D.Denot)). length ws) whole ∙ long in
-    let few = workers_few (λ worker. part_of worker) first c.hand_all.new.crew.rest.items c.args.parts.items c.hand_all.ensures.parts in
+    let few = workers_few (λ worker. part_of worker) first c.hand_all.new.shares.rest.items c.args.parts.items c.hand_all.ensures.parts in
     omega arith
 
 pub returns-clause-room : goal.returns-clause-room
@@ -54,9 +54,9 @@ pub returns-clause-put : goal.returns-clause-put
 returns-clause-put g c =
     let plan = c.args.plan.now in
     let state = part_state g.D.Disk in
-    let first = c.hand_all.new.crew.workers.items in
+    let first = c.hand_all.new.shares.workers.items in
     let last = c.send_all.new.workers in
-    let count = c.hand_all.new.crew.workers.len in
+    let count = c.hand_all.new.shares.workers.len in
     let n : count ≡ length first = first_of (search rules, grind (arith, common_steps)) in
     let lent : c.deref_mut.result.now ≡ first = c.deref_mut.ensures.value in
     let long : length last ≡ length first = c.send_all.ensures.long ∙ ap (λ (ws : List (Worker g.row.D.Denot)). length ws) lent in
@@ -67,7 +67,7 @@ returns-clause-put g c =
     let parts = c.args.parts.items in
     let domains = c.args.domains.now in
     let of_parts : map (λ worker. part_of worker) last ≡ take (length back) parts =
-    fed_parts first last long fed ∙ sym (first_parts (λ worker. part_of worker) first c.hand_all.new.crew.rest.items parts (length back) many c.hand_all.ensures.parts) in
+    fed_parts first last long fed ∙ sym (first_parts (λ worker. part_of worker) first c.hand_all.new.shares.rest.items parts (length back) many c.hand_all.ensures.parts) in
     let of_domains : map (λ worker. domain_of worker) last ≡ take (length back) domains =
     fed_domains first last long fed ∙ c.hand_all.ensures.domains ∙ ap (λ (k : ℕ). take k domains) (sym many) in
     let of : AreOf (λ worker. part_of worker) (λ worker. domain_of worker) last (take (length back) parts) (take (length back) domains) = record { of_parts = of_parts; of_domains = of_domains } in
@@ -78,9 +78,9 @@ returns-clause-put g c =
 
 pub returns-clause-failed : goal.returns-clause-failed
 returns-clause-failed g c =
-    let first = c.hand_all.new.crew.workers.items in
+    let first = c.hand_all.new.shares.workers.items in
     let last = c.send_all.new.workers in
-    let count = c.hand_all.new.crew.workers.len in
+    let count = c.hand_all.new.shares.workers.len in
     let n : count ≡ length first = first_of (search rules, grind (arith, common_steps)) in
     let lent : c.deref_mut.result.now ≡ first = c.deref_mut.ensures.value in
     let long : length last ≡ length first = c.send_all.ensures.long ∙ ap (λ (ws : List (Worker g.row.D.Denot)). length ws) lent in
@@ -91,7 +91,7 @@ returns-clause-failed g c =
     let parts = c.args.parts.items in
     let domains = c.args.domains.now in
     let of_parts : map (λ worker. part_of worker) last ≡ take (length back) parts =
-    fed_parts first last long fed ∙ sym (first_parts (λ worker. part_of worker) first c.hand_all.new.crew.rest.items parts (length back) many c.hand_all.ensures.parts) in
+    fed_parts first last long fed ∙ sym (first_parts (λ worker. part_of worker) first c.hand_all.new.shares.rest.items parts (length back) many c.hand_all.ensures.parts) in
     let of_domains : map (λ worker. domain_of worker) last ≡ take (length back) domains =
     fed_domains first last long fed ∙ c.hand_all.ensures.domains ∙ ap (λ (k : ℕ). take k domains) (sym many) in
     let of : AreOf (λ worker. part_of worker) (λ worker. domain_of worker) last (take (length back) parts) (take (length back) domains) = record { of_parts = of_parts; of_domains = of_domains } in

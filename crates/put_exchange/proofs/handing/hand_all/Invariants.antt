@@ -5,11 +5,11 @@ use Rattle.put_exchange.proofs.handing.hand_all.Given as goal
 abbrev pub invariant-loop-part : goal.invariant-loop-part
 invariant-loop-part g l = record {
   all : l.yielded ++ l.part-iterator.rest.items ≡ l.fn.parts.items;
-  parts : map (λ worker. part_of worker) l.crew.workers.items ++ l.crew.rest.items ≡ l.yielded;
-  domains : map (λ worker. domain_of worker) l.crew.workers.items ≡ take (length l.crew.workers.items) l.domains;
-  workers : (worker : Worker _) → In l.crew.workers.items worker → IsFresh g.D.Disk l.plan worker;
-  workers_room : vec_capacity l.crew.workers ≡ vec_capacity l.initial.crew.workers;
-  rest_room : vec_capacity l.crew.rest ≡ vec_capacity l.initial.crew.rest;
+  parts : map (λ worker. part_of worker) l.shares.workers.items ++ l.shares.rest.items ≡ l.yielded;
+  domains : map (λ worker. domain_of worker) l.shares.workers.items ≡ take (length l.shares.workers.items) l.domains;
+  workers : (worker : Worker _) → In l.shares.workers.items worker → IsFresh g.D.Disk l.plan worker;
+  workers_room : vec_capacity l.shares.workers ≡ vec_capacity l.initial.shares.workers;
+  rest_room : vec_capacity l.shares.rest ≡ vec_capacity l.initial.shares.rest;
   past : IsPast l.ahead.place l.plan.list.now l.ahead.entries.now;
-  back : l.crew.back ≡ l.initial.crew.back;
+  back : l.shares.back ≡ l.initial.shares.back;
 }

@@ -1,6 +1,6 @@
 -- The parts so far came back.
 use Rattle.exchange_crew.proofs.Words.{◌≡◌, ◌++◌, vec_capacity}
-use Rattle.exchange_crew.proofs.crew.give_back.Given as goal
+use Rattle.exchange_crew.proofs.shares.give_back.Given as goal
 
 abbrev pub invariant-loop-part : goal.invariant-loop-part
 invariant-loop-part g l = record {

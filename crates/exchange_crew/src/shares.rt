@@ -11,17 +11,17 @@ pub const STACK_SIZE: usize = 1 << 20;
 /// The helpers that were handed a part, in order of their parts, the parts behind them, for which there is none, and the parts that came
 /// back.
 #[derive(Drop)]
-pub struct Crew<W: Drop, D: Drop> {
+pub struct Shares<W: Drop, D: Drop> {
     pub workers: Vec<W>,
     pub rest: Vec<D>,
     pub back: Vec<D>,
 }
 
 /// Room for so many helpers, and for their parts.
-pub fn make_rooms<W: Drop, D: Drop>(alloc: Global, count: usize) -> Result<Crew<W, D>, Memory>
-    ensures { IfOk result (λ crew. HasRooms count crew) }
+pub fn make_rooms<W: Drop, D: Drop>(alloc: Global, count: usize) -> Result<Shares<W, D>, Memory>
+    ensures { IfOk result (λ shares. HasRooms count shares) }
 {
-    Ok(Crew {
+    Ok(Shares {
         workers: Vec::with_capacity(alloc, count)?,
         rest: Vec::with_capacity(alloc, count)?,
         back: Vec::with_capacity(alloc, count)?,
