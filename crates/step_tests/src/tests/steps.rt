@@ -180,8 +180,8 @@ fn is_long(rt: &impl Abort, header: &Header, disk: &MemDisk)
 }
 
 /// How the put of a run's only rank ends by one aggregator, and the record count then.
-pub(super) fn put_by_one<R: Abort + Threads + Wait + Sync>(
-    rt: &R,
+pub(super) fn put_by_one<'a, R: Abort + Threads + Wait + Sync>(
+    rt: &'a R,
     alloc: Global,
     disk: &mut MemDisk,
     header: &Header,
@@ -189,6 +189,23 @@ pub(super) fn put_by_one<R: Abort + Threads + Wait + Sync>(
 ) -> (Result<PutEnd, StepErr>, u64)
     requires { is_sound header.now ≡ true }
 {
+    let tools = Tools {
+        rt,
+        alloc,
+        gate: &OpenGate,
+    };
+    put_without_helpers(&tools, disk, header, a)
+}
+
+fn put_without_helpers<'s, R: Abort + Threads + Wait + Sync>(
+    tools: &'s Tools<'s, R, OpenGate>,
+    disk: &mut MemDisk,
+    header: &Header,
+    a: Post,
+) -> (Result<PutEnd, StepErr>, u64)
+    requires { is_sound header.now ≡ true }
+{
+    let (rt, alloc) = (tools.rt, tools.alloc);
     is_put(rt, header, &a);
     is_long(rt, header, disk);
     let job = only_put(rt, alloc, a);
@@ -203,14 +220,9 @@ pub(super) fn put_by_one<R: Abort + Threads + Wait + Sync>(
         measures: &measures,
         hints: &hints,
     };
-    let tools = Tools {
-        rt,
-        alloc,
-        gate: &OpenGate,
-    };
-    let mut crew = Crew::<(), R, OpenGate, MemDisk>::new(None, &tools);
+    let mut crew = Crew::<(), R, OpenGate, MemDisk>::new(None, tools);
     let mut records = 0;
-    let end = put_all(&tools, &mut crew, disk, &dataset, &mut records, &shared);
+    let end = put_all(tools, &mut crew, disk, &dataset, &mut records, &shared);
     (end, records)
 }
 
