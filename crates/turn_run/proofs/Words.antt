@@ -42,6 +42,7 @@ pub use Rattle.nc_base.specs.declared.answer.Pair.{Pair}
 pub use Rattle.nc_base.specs.declared.header.Header.{Header}
 pub use Rattle.nc_base.specs.declared.header.Var.{Var}
 pub use Rattle.nc_base.specs.declared.plan.Batch.{Batch}
+pub use Rattle.nc_base.specs.declared.plan.Job.{Job}
 pub use Rattle.nc_base.specs.declared.plan.Post.{Post}
 pub use Rattle.nc_base.specs.declared.request.Call.{Call}
 pub use Rattle.nc_base.specs.declared.request.Direction.TheVariants.{Get, Put}

@@ -39,7 +39,7 @@ hear_all-requires-clause-long g c =
 
 pub hear_all-requires-clause-fit : goal.hear_all-requires-clause-fit
 hear_all-requires-clause-fit g c =
-    to_hear c.args.lent.now.setup.script.now c.args.lent.now.setup.header.now _ c.args.progress.now.order c.args.runners.now c.take_job.new.runners c.in_ok-job.job.batches c.in_ok-pair.table c.requires.runners c.requires.met c.requires.arrived
+    to_hear c.args.lent.now.setup.script.now c.args.lent.now.setup.header.now _ c.args.progress.now.order c.args.runners.now c.take_shared_job.new.runners c.in_ok-job.job.batches c.in_ok-pair.table c.requires.runners c.requires.met c.requires.arrived
     c.in_ok-job.ensures.freed c.in_ok-job.ensures.batches c.in_ok-pair.ensures.fits
 
 pub returns-in_err-hear_all-clause-begun : goal.returns-in_err-hear_all-clause-begun
@@ -49,14 +49,14 @@ returns-in_err-hear_all-clause-begun g c =
 
 pub returns-clause-runners : goal.returns-clause-runners
 returns-clause-runners g c =
-    runners_after c.args.lent.now.setup.script.now c.args.lent.now.setup.header.now _ _ c.args.progress.now.order c.note_step.new.order c.args.runners.now c.take_job.new.runners c.hear_all.new.runners c.in_ok-pair.pair
+    runners_after c.args.lent.now.setup.script.now c.args.lent.now.setup.header.now _ _ c.args.progress.now.order c.note_step.new.order c.args.runners.now c.take_shared_job.new.runners c.hear_all.new.runners c.in_ok-pair.pair
     c.meet_on_file.new.records c.in_ok-pair.table c.requires.runners c.requires.met c.requires.arrived c.in_ok-job.ensures.freed c.in_ok-hear_all.ensures.all
     (table_long c.args.lent.now.setup.header.now c.args.runners.now c.in_ok-job.job.batches c.in_ok-pair.table c.requires.met c.in_ok-job.ensures.batches c.in_ok-pair.ensures.fits)
     c.in_ok-pair.ensures.longer c.in_ok-pair.ensures.count (order_at c.args.progress.now.order c.note_step.new.order c.args.number c.requires.number c.in_ok-note_step.ensures.order)
 
 pub returns-clause-free : goal.returns-clause-free
 returns-clause-free g c =
-    free_after c.args.runners.now c.take_job.new.runners c.hear_all.new.runners c.in_ok-pair.pair c.meet_on_file.new.records c.in_ok-pair.table c.in_ok-job.ensures.freed c.in_ok-hear_all.ensures.all
+    free_after c.args.runners.now c.take_shared_job.new.runners c.hear_all.new.runners c.in_ok-pair.pair c.meet_on_file.new.records c.in_ok-pair.table c.in_ok-job.ensures.freed c.in_ok-hear_all.ensures.all
     (table_long c.args.lent.now.setup.header.now c.args.runners.now c.in_ok-job.job.batches c.in_ok-pair.table c.requires.met c.in_ok-job.ensures.batches c.in_ok-pair.ensures.fits)
 
 pub returns-clause-led : goal.returns-clause-led
@@ -66,7 +66,7 @@ returns-clause-led g c =
     let wide = table_long c.args.lent.now.setup.header.now c.args.runners.now c.in_ok-job.job.batches c.in_ok-pair.table c.requires.met c.in_ok-job.ensures.batches c.in_ok-pair.ensures.fits in
     meeting_led c.args.lent.now.setup.script.now.hints s c.args.progress.now.order c.note_step.new.order c.args.lent.now.setup.script.now.calls c.args.runners.now c.hear_all.new.runners c.in_ok-job.job.batches c.in_ok-job.known
     c.args.progress.now.records c.meet_on_file.new.records c.args.number _ _ _ _ c.in_ok-pair.pair c.in_ok-pair.table long (c.in_ok-hear_all.ensures.all.long ∙ c.in_ok-job.ensures.freed.long) wide c.requires.met
-    (are_done c.args.lent.now.setup.script.now c.args.lent.now.setup.header.now _ c.args.progress.now.order c.args.runners.now c.take_job.new.runners c.hear_all.new.runners c.in_ok-pair.pair c.meet_on_file.new.records c.in_ok-pair.table
+    (are_done c.args.lent.now.setup.script.now c.args.lent.now.setup.header.now _ c.args.progress.now.order c.args.runners.now c.take_shared_job.new.runners c.hear_all.new.runners c.in_ok-pair.pair c.meet_on_file.new.records c.in_ok-pair.table
     c.requires.runners c.requires.met c.requires.arrived c.in_ok-job.ensures.freed c.in_ok-hear_all.ensures.all)
     c.in_ok-job.ensures.batches c.in_ok-job.ensures.known c.in_ok-pair.ensures.told c.in_ok-pair.ensures.records c.in_ok-pair.ensures.bytes c.in_ok-pair.ensures.got c.in_ok-pair.ensures.fits
     (c.in_ok-pair.ensures.calls (meets_once c.args.lent.now.setup.script.now c.args.lent.now.setup.header.now _ c.args.progress.now.order c.args.runners.now c.in_ok-job.known c.in_ok-job.job.batches c.requires.runners c.requires.met c.requires.arrived c.in_ok-job.ensures.known c.in_ok-job.ensures.batches))
@@ -123,27 +123,27 @@ returns-in_err-job-clause-answered g c e is =
     let script = c.args.lent.now.setup.script.now in
     let header = c.args.lent.now.setup.header.now in
     let long = (ranks_lawful script c.requires.lawful).one_each ∙ sym c.requires.runners.all in
-    reached_here (AllSay e c.take_job.new.runners) (setting_of script header) c.args.progress.now.order c.args.progress.now.order (g.D.Disk.held c.args.disk.now) c.args.progress.now.records
+    reached_here (AllSay e c.take_shared_job.new.runners) (setting_of script header) c.args.progress.now.order c.args.progress.now.order (g.D.Disk.held c.args.disk.now) c.args.progress.now.records
     (arrived_all header script.calls c.args.runners.now) refl
-    (λ n. all_say_here script header e c.args.runners.now c.take_job.new.runners n long c.take_job.auto.runners c.requires.arrived c.take_job.ensures.kept)
+    (λ n. all_say_here script header e c.args.runners.now c.take_shared_job.new.runners n long c.take_shared_job.auto.runners c.requires.arrived c.take_shared_job.ensures.kept)
 
 pub returns-in_err-pair-clause-answered : goal.returns-in_err-pair-clause-answered
 returns-in_err-pair-clause-answered g c e is =
     let script = c.args.lent.now.setup.script.now in
     let header = c.args.lent.now.setup.header.now in
     let long = (ranks_lawful script c.requires.lawful).one_each ∙ sym c.requires.runners.all in
-    reached_here (AllSay e c.take_job.new.runners) (setting_of script header) c.args.progress.now.order c.args.progress.now.order (g.D.Disk.held c.args.disk.now) c.args.progress.now.records
+    reached_here (AllSay e c.take_shared_job.new.runners) (setting_of script header) c.args.progress.now.order c.args.progress.now.order (g.D.Disk.held c.args.disk.now) c.args.progress.now.records
     (arrived_all header script.calls c.args.runners.now) refl
-    (λ n. all_say_here script header e c.args.runners.now c.take_job.new.runners n long c.in_ok-job.ensures.freed.long c.requires.arrived c.take_job.ensures.kept)
+    (λ n. all_say_here script header e c.args.runners.now c.take_shared_job.new.runners n long c.in_ok-job.ensures.freed.long c.requires.arrived c.take_shared_job.ensures.kept)
 
 pub returns-in_err-note_step-clause-answered : goal.returns-in_err-note_step-clause-answered
 returns-in_err-note_step-clause-answered g c e is =
     let script = c.args.lent.now.setup.script.now in
     let header = c.args.lent.now.setup.header.now in
     let long = (ranks_lawful script c.requires.lawful).one_each ∙ sym c.requires.runners.all in
-    reached_here (AllSay e c.take_job.new.runners) (setting_of script header) c.args.progress.now.order c.note_step.new.order (g.D.Disk.held c.args.disk.now) c.args.progress.now.records
+    reached_here (AllSay e c.take_shared_job.new.runners) (setting_of script header) c.args.progress.now.order c.note_step.new.order (g.D.Disk.held c.args.disk.now) c.args.progress.now.records
     (arrived_all header script.calls c.args.runners.now) c.in_err-note_step.ensures.kept
-    (λ n. all_say_here script header e c.args.runners.now c.take_job.new.runners n long c.in_ok-job.ensures.freed.long c.requires.arrived c.take_job.ensures.kept)
+    (λ n. all_say_here script header e c.args.runners.now c.take_shared_job.new.runners n long c.in_ok-job.ensures.freed.long c.requires.arrived c.take_shared_job.ensures.kept)
 
 pub returns-in_err-hear_all-clause-answered : goal.returns-in_err-hear_all-clause-answered
 returns-in_err-hear_all-clause-answered g c e is =
@@ -158,7 +158,7 @@ returns-in_err-hear_all-clause-answered g c e is =
     c.meet_on_file.new.records c.args.number s (g.D.Disk.held c.args.disk.now) (g.D.Disk.held c.meet_on_file.new.disk) c.in_ok-pair.pair c.in_ok-pair.table refl
     (memory_of c.from_residual-in_err-hear_all.result e p.0 is p.1 p.2) c.in_ok-note_step.ensures.order long (c.hear_all.auto.runners ∙ mid.long) wide c.requires.runners c.requires.met c.requires.arrived
     c.in_ok-job.ensures.batches c.in_ok-job.ensures.known c.in_ok-pair.ensures.told c.in_ok-pair.ensures.records c.in_ok-pair.ensures.bytes c.in_ok-pair.ensures.got
-    (part_of_freed c.in_ok-pair.pair c.meet_on_file.new.records c.in_ok-pair.table c.args.runners.now c.take_job.new.runners c.hear_all.new.runners mid.long mid c.in_err-hear_all.ensures.part)
+    (part_of_freed c.in_ok-pair.pair c.meet_on_file.new.records c.in_ok-pair.table c.args.runners.now c.take_shared_job.new.runners c.hear_all.new.runners mid.long mid c.in_err-hear_all.ensures.part)
 
 pub returns-clause-between : goal.returns-clause-between
 returns-clause-between g c =
@@ -168,7 +168,7 @@ returns-clause-between g c =
     meeting_between s c.args.lent.now.setup.script.now.calls c.args.runners.now c.hear_all.new.runners c.in_ok-job.job.batches c.in_ok-job.known c.args.progress.now.records c.meet_on_file.new.records
     (meetings c.args.progress.now.order) (g.D.Disk.held c.args.disk.now) (g.D.Disk.held c.meet_on_file.new.disk) c.in_ok-pair.pair c.in_ok-pair.table long
     (c.in_ok-hear_all.ensures.all.long ∙ c.in_ok-job.ensures.freed.long) wide c.requires.met
-    (are_done c.args.lent.now.setup.script.now c.args.lent.now.setup.header.now _ c.args.progress.now.order c.args.runners.now c.take_job.new.runners c.hear_all.new.runners c.in_ok-pair.pair c.meet_on_file.new.records c.in_ok-pair.table
+    (are_done c.args.lent.now.setup.script.now c.args.lent.now.setup.header.now _ c.args.progress.now.order c.args.runners.now c.take_shared_job.new.runners c.hear_all.new.runners c.in_ok-pair.pair c.meet_on_file.new.records c.in_ok-pair.table
     c.requires.runners c.requires.met c.requires.arrived c.in_ok-job.ensures.freed c.in_ok-hear_all.ensures.all)
     c.in_ok-job.ensures.batches c.in_ok-job.ensures.known c.in_ok-pair.ensures.told c.in_ok-pair.ensures.records c.in_ok-pair.ensures.bytes c.in_ok-pair.ensures.got
 
