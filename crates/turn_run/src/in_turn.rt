@@ -35,14 +35,14 @@ use std::thread::Threads;
 /// then rank 0 goes on first. The last thing done is the close, which raises the record count to the greatest that a rank knows.
 ///
 /// With a fault the run ends in that step, and the order has the finished ones.
-pub fn run_in_turn<R: Threads + Wait + Sync, D: Disk, G: Gate>(
-    rt: &R,
+pub fn run_in_turn<'a, R: Threads + Wait + Sync, D: Disk, G: Gate>(
+    rt: &'a R,
     alloc: Global,
     disk: &mut D,
     header: &Header,
     records: &mut u64,
     script: &Script,
-    gate: &G,
+    gate: &'a G,
 ) -> RunEnd
     requires sound { is_sound header.now ≡ true }
     requires lawful { is_lawful script.now ≡ true }
@@ -52,8 +52,15 @@ pub fn run_in_turn<R: Threads + Wait + Sync, D: Disk, G: Gate>(
     ensures run { RunsOn D.Disk script.now header.now disk.old disk.new records.new result }
 {
     let tools = Tools { rt, alloc, gate };
-    let mut crew = Crew::<(), R, G, D>::new(None, &tools);
+    let mut crew = without_helpers(&tools);
     run_in_turn_told(&tools, &mut crew, disk, header, records, script, &mut Deaf)
+}
+
+// Nobody starts a helper where there is no scope.
+fn without_helpers<'s, R: Threads + Wait + Sync, D: Disk + 's, G: Gate>(
+    tools: &'s Tools<'s, R, G>,
+) -> Crew<'s, (), R, G, D> {
+    Crew::new(None, tools)
 }
 
 /// Runs the ranks as `run_in_turn` does, with the helpers of a crew, and tells each step once it is done: its mark, with the file's
@@ -92,7 +99,11 @@ pub fn run_in_turn_told<'s, E, R: Threads + Wait + Sync, D: Disk + 's, G: Gate, 
         Err(_) => return stopped(alloc, order, StepErr::Memory),
     };
     let lent = Lent {
-        tools,
+        tools: Tools {
+            rt: tools.rt,
+            alloc,
+            gate: tools.gate,
+        },
         setup: Setup {
             header,
             measures: names.measures(header),

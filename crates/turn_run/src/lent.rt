@@ -14,7 +14,7 @@ pub(crate) struct Setup<'a> {
 /// What a run lends to each of its steps.
 #[derive(Drop)]
 pub(crate) struct Lent<'a, R, G> {
-    pub tools: &'a Tools<'a, R, G>,
+    pub tools: Tools<'a, R, G>,
     pub setup: Setup<'a>,
 }
 

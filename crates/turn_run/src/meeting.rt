@@ -82,7 +82,7 @@ pub(crate) fn meet<'s, E, R: Threads + Wait + Sync, D: Disk + 's, G: Gate, T: To
         hints: &lent.setup.script.hints,
     };
     let (pair, table) = meet_on_file(
-        lent.tools,
+        &lent.tools,
         crew,
         disk,
         &dataset,

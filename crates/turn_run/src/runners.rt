@@ -101,10 +101,10 @@ impl<'a> Runner<'a> {
     {
         let Setup { header, script, .. } = lent.setup;
         let calls = own_calls(script, number);
-        self.go_on(lent.tools, header, script, number, calls)?;
+        self.go_on(&lent.tools, header, script, number, calls)?;
         'alone: while let Some(offer) = self.take_alone() {
             self.do_alone(lent, disk, told, progress, Ask { number, offer })?;
-            self.go_on(lent.tools, header, script, number, calls)?;
+            self.go_on(&lent.tools, header, script, number, calls)?;
         }
         Ok(())
     }

@@ -2,7 +2,7 @@
 use Rattle.turn_run.proofs.Words.{◌≡◌, ◌≤◌, ℕ, ◌∙◌, arith, puts_in, setting, on_err}
 use Rattle.turn_run.proofs.CountLaws.{count_begins, count_longer, count_small, count_still, rise_small}
 use Rattle.turn_run.proofs.MeetFile.{met_bytes, met_called, met_count, round_count}
-use Rattle.turn_run.proofs.CutMeet.{round_met_of, count_met_of, met_done_of, count_left, count_kept, count_all}
+use Rattle.turn_run.proofs.CutMeet.{round_met, count_met, met_done_of, count_left, count_kept, count_all}
 use Rattle.turn_run.proofs.meeting.meet_on_file.Goals as goal
 
 no_less : (a b : ℕ) → b ≡ a → a ≤ b
@@ -75,16 +75,15 @@ returns-clause-count g c =
 
 pub returns-in_err-end-clause-refused : goal.returns-in_err-end-clause-refused
 returns-in_err-end-clause-refused g c =
-    on_err _ (round_met_of (setting c.args.dataset.now.header.now c.args.dataset.now.hints.now) c.args.job.now.batches c.args.records.now c.args.known (g.D.Disk.held c.args.disk.now) (g.D.Disk.held c.put_half.new.disk)
+    on_err _ (round_met (setting c.args.dataset.now.header.now c.args.dataset.now.hints.now) c.args.job.now.batches c.args.records.now c.args.known (g.D.Disk.held c.args.disk.now) (g.D.Disk.held c.put_half.new.disk)
     c.in_err-end.ensures.refused)
 
 pub returns-in_err-end-clause-kept : goal.returns-in_err-end-clause-kept
-returns-in_err-end-clause-kept g c =
-    on_err _ (count_kept (setting c.args.dataset.now.header.now c.args.dataset.now.hints.now) (puts_in c.args.job.now.batches) c.args.records.now c.put_half.new.records c.args.known c.in_err-end.ensures.kept)
+returns-in_err-end-clause-kept g c = on_err _ (count_kept (setting c.args.dataset.now.header.now c.args.dataset.now.hints.now) (puts_in c.args.job.now.batches) c.args.records.now c.put_half.new.records c.args.known c.in_err-end.ensures.kept)
 
 pub returns-in_err-raise_records-clause-refused : goal.returns-in_err-raise_records-clause-refused
 returns-in_err-raise_records-clause-refused g c =
-    on_err _ (count_met_of (setting c.args.dataset.now.header.now c.args.dataset.now.hints.now) c.args.job.now.batches c.args.records.now c.put_half.new.records c.args.known
+    on_err _ (count_met (setting c.args.dataset.now.header.now c.args.dataset.now.hints.now) c.args.job.now.batches c.args.records.now c.put_half.new.records c.args.known
     (g.D.Disk.held c.args.disk.now) (g.D.Disk.held c.put_half.new.disk) (g.D.Disk.held c.raise_records.new.disk) c.in_ok-end.ensures.bytes c.in_ok-end.ensures.records
     c.in_err-raise_records.ensures.refused)
 
