@@ -1,5 +1,5 @@
 -- A meeting that is planned.
-use Rattle.run_plan.proofs.Words.{◌≡◌, ℕ, ◌≤◌, refl, sym, ◌∙◌, ap, subst, List, [], ◌∷◌, ◌++◌, length, map, max, true, Option, None, arith, flat_map, nat_lt, Pair, Batch, Call, Hints, DiskCall, Mark, Meet, Offer, collective_windows, get_bytes, loads, meeting_calls, put_calls, store_records, after_puts, end_for, meeting, told, Counted, Setting, needed_now, wanted, offers_of, is_sound, raised_records, counted, gets_in, puts_in, ArePuts, offers_beside, count_call, file_calls, grow_call, windows_in, FilePlan, StepPlan, arrived_all, LeadsAlike, batches_of, held_offers, known_of, met, Runner, AllHold, meeting_led, met_calls_are, met_is, offers_are, AreDone, meeting_callers, plan_stage, Follows, HasPlannedAll, IsMeetingPlan}
+use Rattle.run_plan.proofs.Words.{◌≡◌, ℕ, ◌≤◌, refl, sym, ◌∙◌, ap, subst, List, [], ◌∷◌, ◌++◌, length, max, true, Option, arith, flat_map, nat_lt, Pair, Batch, Call, Hints, DiskCall, Meet, Offer, collective_windows, get_bytes, loads, meeting_calls, put_calls, store_records, after_puts, end_for, meeting, told, Counted, Setting, needed_now, offers_of, is_sound, raised_records, counted, gets_in, puts_in, ArePuts, offers_beside, count_call, file_calls, grow_call, windows_in, FilePlan, StepPlan, arrived_all, batches_of, held_offers, met, Runner, met_calls_are, met_is, offers_are, meeting_callers, plan_stage, Follows, HasPlannedAll, IsMeetingPlan, FitsGets, HaveDone, IsTaken, meeting_alike}
 use Rattle.window_plan.specs.Windows as window
 use Rattle.run_plan.proofs.CallerLaws.{callers_beside}
 use Rattle.run_plan.proofs.FileLengths.{puts_long, raised_long}
@@ -29,14 +29,13 @@ met_long s batches known size later c sound are long grows same =
 pub meeting_planned : (hints : Hints) (s : Setting) (steps : List StepPlan) (calls : List (List Call)) (runners now : List Runner) (batches : List Batch) (known r n k size later : ℕ)
     (pair : Option Pair) (table : List (List (List ℕ))) (step : StepPlan)
     → is_sound s.header ≡ true → ArePuts s.header (puts_in batches) → end_for s 0 ≤ size
-    → length calls ≡ length runners → length now ≡ length runners → length table ≡ length runners → AllHold runners → AreDone s.header pair n runners now table
-    → batches ≡ batches_of (held_offers runners) → known ≡ known_of (held_offers runners) → pair ≡ told s (puts_in batches)
-    → n ≡ max r (max (needed_now s (puts_in batches)) known) → map (λ blobs. map (λ blob. length blob) blobs) table ≡ map (λ b. map (wanted s.header) b.gets) batches
+    → IsTaken calls runners batches known → HaveDone s.header pair n runners now table → pair ≡ told s (puts_in batches)
+    → n ≡ max r (max (needed_now s (puts_in batches)) known) → FitsGets s.header batches table
     → step.mark ≡ Meet k → later ≡ max size (end_for s (needed_now s (puts_in batches)))
     → file_calls step.file ≡ put_calls s (collective_windows hints) (puts_in batches) size ++ store_records s (nat_lt r n) ++ flat_map loads (collective_windows hints (get_bytes s (gets_in batches)))
     → IsMeetingPlan s.header hints batches step.file → step.callers ≡ meeting_callers runners
     → HasPlannedAll hints s steps (steps ++ step ∷ []) (plan_stage size r (arrived_all s.header calls runners)) (plan_stage later n (arrived_all s.header calls now))
-meeting_planned hints s steps calls runners now batches known r n k size later pair table step sound are long l m w hold d e f p count rows mark grows device plan callers =
+meeting_planned hints s steps calls runners now batches known r n k size later pair table step sound are long t d p count rows mark grows device plan callers =
     let same : step ≡ record step { mark = Meet k } = λ i. record step { mark = mark i } in
     record {
       more = step ∷ [];
@@ -44,32 +43,27 @@ meeting_planned hints s steps calls runners now batches known r n k size later p
       led = subst (λ (x : StepPlan). Follows hints s (x ∷ []) (plan_stage size r (arrived_all s.header calls runners)) (plan_stage later n (arrived_all s.header calls now))) (sym same) follow;
     }
   where
-    alike : LeadsAlike s (Meet k ∷ []) r (arrived_all s.header calls runners) n (arrived_all s.header calls now)
-    alike =
-        let led = meeting_led hints s [] (Meet k ∷ []) calls runners now batches known r n k None None None None pair table l m w hold d e f p count refl tt rows tt refl in
-        subst (λ (ms : List Mark). LeadsAlike s ms r (arrived_all s.header calls runners) n (arrived_all s.header calls now)) (sym led.grown) led.alike
-
     follow : Follows hints s (record step { mark = Meet k } ∷ []) (plan_stage size r (arrived_all s.header calls runners)) (plan_stage later n (arrived_all s.header calls now))
     follow (c, ps) beside =
-        let offers : offers_of ps ≡ held_offers runners = offers_beside ps (arrived_all s.header calls runners) beside.like.beside ∙ offers_are s.header calls runners l hold in
-        let file = met_is s (held_offers runners) batches known c e f in
+        let offers : offers_of ps ≡ held_offers runners = offers_beside ps (arrived_all s.header calls runners) beside.like.beside ∙ offers_are s.header calls runners t.long t.hold in
+        let file = met_is s (held_offers runners) batches known c t.offered t.most in
         let number = met_records s batches known r n c count beside.like.records in
-        let asked : batches ≡ batches_of (offers_of ps) = e ∙ ap (λ (os : List Offer). batches_of os) (sym offers) in
+        let asked : batches ≡ batches_of (offers_of ps) = t.offered ∙ ap (λ (os : List Offer). batches_of os) (sym offers) in
         record {
           beside = record {
             long = ap (λ (os : List Offer). length (meeting s os c).0.file) offers ∙ ap (λ (x : Counted). length x.file) file
                 ∙ met_long s batches known size later c sound are long grows beside.long;
-            like = alike (c, ps) beside.like;
+            like = meeting_alike s k t d p count rows (c, ps) beside.like;
           };
           over = ap (λ (cs : List DiskCall). cs ++ [])
               (ap (λ (os : List Offer). meeting_calls hints s os c) offers
-              ∙ met_calls_are hints s (held_offers runners) batches known c e f
+              ∙ met_calls_are hints s (held_offers runners) batches known c t.offered t.most
               ∙ (λ i. put_calls s (collective_windows hints) (puts_in batches) (beside.long i) ++ store_records s (nat_lt (beside.like.records i) (sym number i))
               ++ flat_map loads (collective_windows hints (get_bytes s (gets_in batches))))
               ∙ sym device);
           each = (
             record {
-              callers = callers ∙ callers_beside s.header calls runners ps l hold beside.like.beside;
+              callers = callers ∙ callers_beside s.header calls runners ps t.long t.hold beside.like.beside;
               file = subst (λ (bs : List Batch). IsMeetingPlan s.header hints bs step.file) asked plan;
             },
             tt,

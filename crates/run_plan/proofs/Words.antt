@@ -70,10 +70,10 @@ pub use Rattle.step_plan.specs.declared.plan.FilePlan.{FilePlan}
 pub use Rattle.step_plan.specs.declared.plan.StepPlan.{StepPlan}
 pub use Rattle.turn_run.proofs.AloneLaws.{alone_alike, alone_asks, alone_waits, arrived_free, arrived_gone, arrived_held, call_alone, fits_open, heard_known, order_is, same_runner, step_at, taken_asks, way_free, went_runner}
 pub use Rattle.turn_run.proofs.CountLaws.{count_begins, count_longer, count_max, rise_longer, rise_max}
-pub use Rattle.turn_run.proofs.MeetDone.{are_done, free_after, order_at, runners_after, table_long, to_hear}
+pub use Rattle.turn_run.proofs.MeetDone.{free_after, have_done, runners_after, table_long, taken_by, to_hear}
 pub use Rattle.turn_run.proofs.MeetOffers.{AllHold, asked_fit, meets_job, meets_rise}
 pub use Rattle.turn_run.proofs.MeetPosts.{get_of, needed_rise, put_of, ranked_puts}
-pub use Rattle.turn_run.proofs.MeetStep.{AreDone, meeting_led, met_calls_are, met_is, offers_are}
+pub use Rattle.turn_run.proofs.MeetStep.{FitsGets, HaveDone, IsTaken, meeting_alike, met_calls_are, met_is, offers_are}
 pub use Rattle.turn_run.proofs.RunnerLaws.{alone_heard, heard_runner}
 pub use Rattle.turn_run.proofs.TurnEnds.{AreOver, Comes, all_ended, are_over, comes, ended_legal, free, holding, map_ended, met_number, next_meeting}
 pub use Rattle.turn_run.proofs.TurnKnown.{most_known}

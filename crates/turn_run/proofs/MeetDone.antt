@@ -1,27 +1,30 @@
 -- The runners after a meeting.
-use Rattle.turn_run.proofs.Words.{◌≡◌, ℕ, ◌<◌, ◌≤◌, refl, sym, ◌∙◌, ap, subst, List, [], ◌∷◌, ◌++◌, length, map, Option, Some, None, inr, arith, slice_get, is_some, IfSome, length-map, same_Some, slice_get_within, Answer, Pair, Header, Batch, Script, Mark, Meet, Offer, Reply, hear, Open, wanted, Going, Ranked, meetings, IsOnWay, hears_keeps, call_waits, meeting_of_known, way_hears, HasBegun, IsAsked, IsCount, asking, between, calls_of, going_of, reply_of, AreFreed, AreHeard, AreRunners, HasHeard, HaveArrived, HaveMet, IsPlaced, IsToHear, batches_of, held_offers, Runner, entry_below, entry_map}
+use Rattle.turn_run.proofs.Words.{◌≡◌, ℕ, ◌<◌, ◌≤◌, refl, sym, ◌∙◌, ap, subst, List, [], ◌∷◌, ◌++◌, length, map, Option, Some, None, inr, arith, slice_get, is_some, IfSome, length-map, same_Some, slice_get_within, Answer, Pair, Header, Batch, Script, Mark, Meet, Offer, Reply, hear, Open, wanted, Going, Ranked, meetings, IsOnWay, hears_keeps, call_waits, meeting_of_known, way_hears, HasBegun, IsAsked, IsCount, asking, between, calls_of, going_of, reply_of, AreFreed, AreHeard, AreRunners, HasHeard, HaveArrived, HaveMet, IsPlaced, IsToHear, batches_of, held_offers, known_of, is_lawful, ranks_lawful, true, Runner, entry_below, entry_map}
 use Rattle.turn_run.proofs.CountLaws.{count_longer, count_max}
 use Rattle.turn_run.proofs.MeetOffers.{held_at, held_long, meets_at}
-use Rattle.turn_run.proofs.MeetStep.{AreDone}
+use Rattle.turn_run.proofs.MeetStep.{AreDone, FitsGets, HaveDone, IsTaken}
 use Rattle.turn_run.proofs.RunnerLaws.{answered_is, way_rest}
 use Rattle.turn_run.proofs.TurnSteps.{runners_begun}
 
 -- ---- what the meeting requires
 
+pub taken_by : {script : Script} {header : Header} {len : ℕ} {order : List Mark} {runners : List Runner} {batches : List Batch} {known : ℕ} → is_lawful script ≡ true
+    → AreRunners script header len order runners → HaveMet runners → batches ≡ batches_of (held_offers runners) → known ≡ known_of (held_offers runners) → IsTaken script.calls runners batches known
+taken_by {script} lawful all met e f = record { long = (ranks_lawful script lawful).one_each ∙ sym all.all; hold = met; offered = e; most = f }
+
 pub table_long : (header : Header) (runners : List Runner) (batches : List Batch) (table : List (List (List ℕ))) → HaveMet runners → batches ≡ batches_of (held_offers runners)
-    → map (λ blobs. map (λ blob. length blob) blobs) table ≡ map (λ b. map (wanted header) b.gets) batches → length table ≡ length runners
+    → FitsGets header batches table → length table ≡ length runners
 table_long header runners batches table met e f =
     sym (length-map table (λ (blobs : List (List ℕ)). map (λ blob. length blob) blobs)) ∙ ap (λ (xs : List (List ℕ)). length xs) f
     ∙ length-map batches (λ (b : Batch). map (wanted header) b.gets) ∙ ap (λ (bs : List Batch). length bs) e
     ∙ length-map (held_offers runners) (λ (o : Offer). o.batch) ∙ held_long runners met
 
-pub to_hear : (script : Script) (header : Header) (len : ℕ) (order : List Mark) (runners mid : List Runner) (batches : List Batch) (table : List (List (List ℕ)))
+pub to_hear : {script : Script} {header : Header} {len : ℕ} {order : List Mark} {runners mid : List Runner} {batches : List Batch} (table : List (List (List ℕ)))
     → AreRunners script header len order runners → HaveMet runners → HaveArrived script runners → AreFreed runners mid → batches ≡ batches_of (held_offers runners)
-    → map (λ blobs. map (λ blob. length blob) blobs) table ≡ map (λ b. map (wanted header) b.gets) batches
-    → (r : ℕ) (runner : Runner) (blobs : List (List ℕ)) → slice_get mid r ≡ Some runner → slice_get table r ≡ Some blobs → IsToHear runner blobs
-to_hear script header len order runners mid batches table all met come freed e f r runner blobs h t =
+    → FitsGets header batches table → (r : ℕ) (runner : Runner) (blobs : List (List ℕ)) → slice_get mid r ≡ Some runner → slice_get table r ≡ Some blobs → IsToHear runner blobs
+to_hear {script} {header} {order} {runners} {mid} {batches} table all met come freed e f r runner blobs h t =
     let a = entry_below runners r (within (slice_get_within mid r runner h) freed.long) in
-    let m = meets_at script header len order runners all met come r a.0 a.1 in
+    let m = meets_at all met come r a.0 a.1 in
     let o = m.0 in
     let keeps = call_waits script order r (asking (calls_of script r) a.0) o m.1.way in
     let rank = (freed.each r a.0 runner a.1 h).rank in
@@ -53,11 +56,11 @@ heard_before m a b reply e f h = record {
   answers = h.answers ∙ ap (λ (xs : List Answer). xs ++ h.answer ∷ []) f;
 }
 
-pub are_done : (script : Script) (header : Header) (len : ℕ) (order : List Mark) (runners mid now : List Runner) (pair : Option Pair) (n : ℕ) (table : List (List (List ℕ)))
+are_done : {script : Script} {header : Header} {len : ℕ} {order : List Mark} {runners mid now : List Runner} {pair : Option Pair} {n : ℕ} {table : List (List (List ℕ))}
     → AreRunners script header len order runners → HaveMet runners → HaveArrived script runners → AreFreed runners mid → AreHeard pair n table mid now → AreDone header pair n runners now table
-are_done script header len order runners mid now pair n table all met come freed heard r a b blobs g h t =
+are_done {runners} {mid} {pair} {n} {table} all met come freed heard r a b blobs g h t =
     let m = entry_below mid r (within (slice_get_within runners r a g) freed.long) in
-    let o = meets_at script header len order runners all met come r a g in
+    let o = meets_at all met come r a g in
     let free = freed.each r a m.0 g m.1 in
     let said = heard.each r m.0 b blobs m.1 h t in (
       o.0,
@@ -73,6 +76,11 @@ are_done script header len order runners mid now pair n table all met come freed
     within : {n k : ℕ} → r < n → k ≡ n → r < k
     within l e = subst (λ (m : ℕ). r < m) (sym e) l
 
+pub have_done : {script : Script} {header : Header} {len : ℕ} {order : List Mark} {runners mid now : List Runner} {pair : Option Pair} {n : ℕ} {table : List (List (List ℕ))}
+    → AreRunners script header len order runners → HaveMet runners → HaveArrived script runners → AreFreed runners mid → AreHeard pair n table mid now → length table ≡ length runners
+    → HaveDone header pair n runners now table
+have_done all met come freed heard wide = record { long = heard.long ∙ freed.long; wide = wide; each = are_done all met come freed heard }
+
 pub placed_free : (script : Script) (header : Header) (order : List Mark) (r : ℕ) (own : List _) (b : Runner) → b.held ≡ None → IsOnWay script order r (between own b) None
     → IsPlaced script header order r (going_of own b) b.held
 placed_free script header order r own b e w =
@@ -80,10 +88,10 @@ placed_free script header order r own b e w =
 
 -- ---- all ranks after the meeting
 
-pub runners_after : (script : Script) (header : Header) (before len : ℕ) (order now_order : List Mark) (runners mid now : List Runner) (pair : Option Pair) (n : ℕ) (table : List (List (List ℕ)))
+pub runners_after : {script : Script} {header : Header} {before len : ℕ} {order now_order : List Mark} {runners mid now : List Runner} {pair : Option Pair} {n : ℕ} {table : List (List (List ℕ))}
     → AreRunners script header before order runners → HaveMet runners → HaveArrived script runners → AreFreed runners mid → AreHeard pair n table mid now → length table ≡ length runners
     → before ≤ len → IsCount header len n → now_order ≡ order ++ Meet (meetings order) ∷ [] → AreRunners script header len now_order now
-runners_after script header before len order now_order runners mid now pair n table all met come freed heard wide longer count e =
+runners_after {script} {header} {before} {len} {order} {runners} {mid} {now} {pair} {n} {table} all met come freed heard wide longer count e =
     subst (λ (ms : List Mark). AreRunners script header len ms now) (sym e) (record {
       all = heard.long ∙ freed.long ∙ all.all;
       known_ranks = meeting_of_known script.ranks (meetings order) order all.known_ranks;
@@ -91,7 +99,7 @@ runners_after script header before len order now_order runners mid now pair n ta
           let a = entry_below runners r (within r b h) in
           let row = entry_below table r (across r b h) in
           let d = done r a.0 b row.0 a.1 h row.1 in
-          let m = meets_at script header before order runners all met come r a.0 a.1 in
+          let m = meets_at all met come r a.0 a.1 in
           record {
             of_header = d.1.same_header ∙ d.1.of_header;
             placed = placed_free script header (order ++ Meet (meetings order) ∷ []) r (calls_of script r) b d.1.free
@@ -102,7 +110,7 @@ runners_after script header before len order now_order runners mid now pair n ta
           let a = entry_below runners r (within r b h) in
           let row = entry_below table r (across r b h) in
           let d = done r a.0 b row.0 a.1 h row.1 in
-          let m = meets_at script header before order runners all met come r a.0 a.1 in
+          let m = meets_at all met come r a.0 a.1 in
           let waits = call_waits script order r (asking (calls_of script r) a.0) m.0 m.1.way in
           let keeps = hears_keeps header a.0.rank.state b.rank.state (reply_of pair n row.0) d.1.heard.answer waits.0 (said a.0 b (reply_of pair n row.0) d.1.of_header d.1.heard) in
           subst (λ (k : ℕ). IsCount header len k) (sym keeps.0)
@@ -110,7 +118,7 @@ runners_after script header before len order now_order runners mid now pair n ta
     })
   where
     done : AreDone header pair n runners now table
-    done = are_done script header before order runners mid now pair n table all met come freed heard
+    done = are_done all met come freed heard
 
     within : (r : ℕ) (b : Runner) → slice_get now r ≡ Some b → r < length runners
     within r b h = let l = slice_get_within now r b h in let p = heard.long in let q = freed.long in omega arith
@@ -128,9 +136,9 @@ runners_after script header before len order now_order runners mid now pair n ta
         (answered_is (calls_of script r) a.rank.state b.rank.state a.answers b.answers h.answer h.answers)
         (way_hears script order r header (asking (calls_of script r) a) b.rank.state o reply h.answer w (said a b reply f h))
 
-pub free_after : (runners mid now : List Runner) (pair : Option Pair) (n : ℕ) (table : List (List (List ℕ)))
+pub free_after : {runners mid now : List Runner} {pair : Option Pair} {n : ℕ} {table : List (List (List ℕ))}
     → AreFreed runners mid → AreHeard pair n table mid now → length table ≡ length runners → (r : ℕ) (b : Runner) → slice_get now r ≡ Some b → b.held ≡ None
-free_after runners mid now pair n table freed heard wide r b h =
+free_after {runners} {mid} {now} {table} freed heard wide r b h =
     let l = slice_get_within now r b h in
     let p = heard.long in
     let q = freed.long in
@@ -141,23 +149,19 @@ free_after runners mid now pair n table freed heard wide r b h =
 
 -- ---- the marks
 
-pub begun_after : (script : Script) (header : Header) (len : ℕ) (order now_order : List Mark) (runners : List Runner) → AreRunners script header len order runners → HaveMet runners → HaveArrived script runners
+pub begun_after : {script : Script} {header : Header} {len : ℕ} {order now_order : List Mark} {runners : List Runner} → AreRunners script header len order runners → HaveMet runners → HaveArrived script runners
     → now_order ≡ order ++ Meet (meetings order) ∷ [] → HasBegun script now_order
-begun_after script header len order now_order runners all met come e = subst (λ (ms : List Mark). HasBegun script ms) (sym e) (record {
+begun_after {script} {header} {order} {runners} all met come e = subst (λ (ms : List Mark). HasBegun script ms) (sym e) (record {
   known_ranks = meeting_of_known script.ranks (meetings order) order all.known_ranks;
   each_rank = λ r l.
       let long = all.all in
       let a = entry_below runners r (omega arith) in
-      let m = meets_at script header len order runners all met come r a.0 a.1 in
+      let m = meets_at all met come r a.0 a.1 in
       let none = reply_of None 0 [] in
       let said = hear header a.0.rank.state none in
       way_rest script (order ++ Meet (meetings order) ∷ []) r _ None
       (way_hears script order r header (asking (calls_of script r) a.0) said.0 m.0 none said.1 m.1.way refl);
 })
 
-pub begun_still : (script : Script) (header : Header) (len : ℕ) (order now_order : List Mark) (runners : List Runner) → AreRunners script header len order runners → now_order ≡ order → HasBegun script now_order
-begun_still script header len order now_order runners all e = subst (λ (ms : List Mark). HasBegun script ms) (sym e) (runners_begun script header len order runners all)
-
--- the meeting's number
-pub order_at : (order now_order : List Mark) (number : ℕ) → number ≡ meetings order → now_order ≡ order ++ Meet number ∷ [] → now_order ≡ order ++ Meet (meetings order) ∷ []
-order_at order now_order number e f = f ∙ ap (λ (k : ℕ). order ++ Meet k ∷ []) e
+pub begun_still : {script : Script} {header : Header} {len : ℕ} {order now_order : List Mark} {runners : List Runner} → AreRunners script header len order runners → now_order ≡ order → HasBegun script now_order
+begun_still {script} {header} {len} {order} {runners} all e = subst (λ (ms : List Mark). HasBegun script ms) (sym e) (runners_begun script header len order runners all)

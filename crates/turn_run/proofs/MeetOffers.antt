@@ -47,9 +47,9 @@ pub record Meets (script : Script) (header : Header) (len : ℕ) (order : List M
   pub known : IsCount header len runner.rank.state.known
   pub of_header : runner.rank.header ≡ header
 
-pub meets_at : (script : Script) (header : Header) (len : ℕ) (order : List Mark) (runners : List Runner) → AreRunners script header len order runners → HaveMet runners → HaveArrived script runners
+pub meets_at : {script : Script} {header : Header} {len : ℕ} {order : List Mark} {runners : List Runner} → AreRunners script header len order runners → HaveMet runners → HaveArrived script runners
     → (r : ℕ) (runner : Runner) → slice_get runners r ≡ Some runner → (o : Offer) × Meets script header len order r runner o
-meets_at script header len order runners all met come r runner e =
+meets_at {script} {header} {len} {order} {runners} all met come r runner e =
     let s = all.each r runner e in
     by_held runner.held refl (met r runner e) (come r runner e).met s.placed s.asked s.of_header
   where
@@ -79,11 +79,8 @@ asked_fit header len known o asked count =
     let few = asked.few in
     record { sound = asked.sound; known = subst (λ (n : ℕ). IsCount header len n) (sym asked.told) count; few = omega arith }
 
-brought : (script : Script) (header : Header) (len : ℕ) (order : List Mark) (r : ℕ) (runner : Runner) (o : Offer) → Meets script header len order r runner o → IsFit header len o
-brought script header len order r runner o m = asked_fit header len runner.rank.state.known o m.asked m.known
-
-single : (script : Script) (header : Header) (len : ℕ) (order : List Mark) (r : ℕ) (runner : Runner) (o : Offer) → Meets script header len order r runner o → IsSingleOffer o
-single script header len order r runner o m = m.asked.one
+brought : {script : Script} {header : Header} {len : ℕ} {order : List Mark} {r : ℕ} {runner : Runner} {o : Offer} → Meets script header len order r runner o → IsFit header len o
+brought {header} {len} {runner} {o} m = asked_fit header len runner.rank.state.known o m.asked m.known
 
 -- the puts of ranks from one on
 abbrev puts_from : ℕ → List Offer → Puts
@@ -253,44 +250,40 @@ offers_job header len offers most own =
 
 -- ---- the job
 
-pub all_brought : (script : Script) (header : Header) (len : ℕ) (order : List Mark) (runners : List Runner) → AreRunners script header len order runners → HaveMet runners → HaveArrived script runners
+all_brought : {script : Script} {header : Header} {len : ℕ} {order : List Mark} {runners : List Runner} → AreRunners script header len order runners → HaveMet runners → HaveArrived script runners
     → AllByRecursion (IsFit header len) (held_offers runners)
-all_brought script header len order runners all met come =
-    held_all (IsFit header len) runners (λ r runner e.
-    let m = meets_at script header len order runners all met come r runner e in
-    (m.0, (m.1.held, brought script header len order r runner m.0 m.1)))
+all_brought {header} {len} {runners} all met come =
+    held_all (IsFit header len) runners (λ r runner e. let m = meets_at all met come r runner e in (m.0, (m.1.held, brought m.1)))
 
-one_kind : (script : Script) (header : Header) (len : ℕ) (order : List Mark) (runners : List Runner) → AreRunners script header len order runners → HaveMet runners → HaveArrived script runners
+one_kind : {script : Script} {header : Header} {len : ℕ} {order : List Mark} {runners : List Runner} → AreRunners script header len order runners → HaveMet runners → HaveArrived script runners
     → (kind : OfferKind) × AllByRecursion (λ o. o.kind ≡ kind) (held_offers runners)
-one_kind script header len order runners all met come = by_list runners refl
+one_kind {script} {header} {len} {order} {runners} all met come = by_list runners refl
   where
     by_list : (ss : List Runner) → runners ≡ ss → (kind : OfferKind) × AllByRecursion (λ o. o.kind ≡ kind) (held_offers runners)
     by_list [] e = (offer.Solo, subst (λ (ss : List Runner). AllByRecursion (λ o. o.kind ≡ offer.Solo) (held_offers ss)) (sym e) tt)
     by_list (x ∷ xs) e =
-        let first = meets_at script header len order runners all met come 0 x (ap (λ (ss : List Runner). slice_get ss 0) e) in (
+        let first = meets_at all met come 0 x (ap (λ (ss : List Runner). slice_get ss 0) e) in (
           first.0.kind,
           held_all (λ o. o.kind ≡ first.0.kind) runners (λ r runner f.
-              let m = meets_at script header len order runners all met come r runner f in
+              let m = meets_at all met come r runner f in
               (m.0, (m.1.held, together_kind script order 0 r (asking (calls_of script 0) x) (asking (calls_of script r) runner) first.0 m.0 first.1.way m.1.way))),
         )
 
-pub meets_job : (script : Script) (header : Header) (len : ℕ) (order : List Mark) (runners : List Runner) (batches : List Batch) → is_lawful script ≡ true
+pub meets_job : {script : Script} {header : Header} {len : ℕ} {order : List Mark} {runners : List Runner} {batches : List Batch} → is_lawful script ≡ true
     → AreRunners script header len order runners → HaveMet runners → HaveArrived script runners → batches ≡ batches_of (held_offers runners) → IsJob header len batches
-meets_job script header len order runners batches lawful all met come f =
+meets_job {script} {header} {len} {runners} lawful all met come f =
     let most = (ranks_lawful script lawful).most in
     let long = all.all in
     let held = held_long runners met in
-    subst (λ (bs : List Batch). IsJob header len bs) (sym f) (offers_job header len (held_offers runners) (omega arith) (all_brought script header len order runners all met come))
+    subst (λ (bs : List Batch). IsJob header len bs) (sym f) (offers_job header len (held_offers runners) (omega arith) (all_brought all met come))
 
-pub meets_once : (script : Script) (header : Header) (len : ℕ) (order : List Mark) (runners : List Runner) (known : ℕ) (batches : List Batch) → AreRunners script header len order runners → HaveMet runners
+pub meets_once : {script : Script} {header : Header} {len : ℕ} {order : List Mark} {runners : List Runner} {known : ℕ} {batches : List Batch} → AreRunners script header len order runners → HaveMet runners
     → HaveArrived script runners → known ≡ known_of (held_offers runners) → batches ≡ batches_of (held_offers runners) → IsOneRise known batches
-meets_once script header len order runners known batches all met come e f =
-    let same = one_kind script header len order runners all met come in
-    let alone = held_all IsSingleOffer runners (λ r runner g.
-    let m = meets_at script header len order runners all met come r runner g in (m.0, (m.1.held, single script header len order r runner m.0 m.1))) in
-    subst (λ (n : ℕ). IsOneRise n batches) (sym e) (subst (λ (bs : List Batch). IsOneRise (known_of (held_offers runners)) bs) (sym f) (one_rise same.0 (held_offers runners) alone same.1))
+meets_once {runners} all met come e f =
+    let same = one_kind all met come in
+    let alone = held_all IsSingleOffer runners (λ r runner g. let m = meets_at all met come r runner g in (m.0, (m.1.held, m.1.asked.one))) in
+    rw (e, f) (one_rise same.0 (held_offers runners) alone same.1)
 
-pub meets_rise : (script : Script) (header : Header) (len : ℕ) (order : List Mark) (runners : List Runner) (known : ℕ) → AreRunners script header len order runners → HaveMet runners → HaveArrived script runners
+pub meets_rise : {script : Script} {header : Header} {len : ℕ} {order : List Mark} {runners : List Runner} {known : ℕ} → AreRunners script header len order runners → HaveMet runners → HaveArrived script runners
     → known ≡ known_of (held_offers runners) → IsRise header len known
-meets_rise script header len order runners known all met come e =
-    subst (λ (n : ℕ). IsRise header len n) (sym e) (rise_brought header len (held_offers runners) (all_brought script header len order runners all met come))
+meets_rise {header} {len} {runners} all met come e = subst (λ (n : ℕ). IsRise header len n) (sym e) (rise_brought header len (held_offers runners) (all_brought all met come))

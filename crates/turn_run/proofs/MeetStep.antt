@@ -64,18 +64,28 @@ abbrev pub AreDone : Header → Option Pair → ℕ → List Runner → List Run
 AreDone header pair n runners now table = (r : ℕ) (a b : Runner) (blobs : List (List ℕ)) → slice_get runners r ≡ Some a → slice_get now r ≡ Some b → slice_get table r ≡ Some blobs
     → (o : Offer) × IsDone header (reply_of pair n blobs) o a b
 
-pub ranks_done : (header : Header) (pair : Option Pair) (n : ℕ) (calls : List (List Call)) (runners now : List Runner) (table : List (List (List ℕ)))
-    → length now ≡ length runners → length table ≡ length runners → AreDone header pair n runners now table
+-- what the ranks have of a meeting
+pub record HaveDone (header : Header) (pair : Option Pair) (n : ℕ) (runners now : List Runner) (table : List (List (List ℕ))) : Type 0 where
+  pub long : length now ≡ length runners
+  pub wide : length table ≡ length runners
+  pub each : AreDone header pair n runners now table
+
+-- those behind the first
+pub done_behind : {header : Header} {pair : Option Pair} {n : ℕ} {a b : Runner} {runners now : List Runner} {blobs : List (List ℕ)} {table : List (List (List ℕ))}
+    → HaveDone header pair n (a ∷ runners) (b ∷ now) (blobs ∷ table) → HaveDone header pair n runners now table
+done_behind d = record { long = omega arith; wide = omega arith; each = λ r x y z e f g. d.each (suc r) x y z e f g }
+
+pub ranks_done : (header : Header) (pair : Option Pair) (n : ℕ) (calls : List (List Call)) (runners now : List Runner) (table : List (List (List ℕ))) → HaveDone header pair n runners now table
     → map (heard header) (zip (arrived_all header calls runners) (map (reply_of pair n) table)) ≡ arrived_all header calls now
-ranks_done header pair n [] runners now table l m d = refl
-ranks_done header pair n (own ∷ calls) [] [] table l m d = refl
-ranks_done header pair n (own ∷ calls) [] (b ∷ now) table l m d = absurd (omega arith)
-ranks_done header pair n (own ∷ calls) (a ∷ runners) [] table l m d = absurd (omega arith)
-ranks_done header pair n (own ∷ calls) (a ∷ runners) (b ∷ now) [] l m d = absurd (omega arith)
-ranks_done header pair n (own ∷ calls) (a ∷ runners) (b ∷ now) (blobs ∷ table) l m d =
-    let first = d 0 a b blobs refl refl refl in
+ranks_done header pair n [] runners now table d = refl
+ranks_done header pair n (own ∷ calls) [] [] table d = refl
+ranks_done header pair n (own ∷ calls) [] (b ∷ now) table d = absurd (omega arith)
+ranks_done header pair n (own ∷ calls) (a ∷ runners) [] table d = absurd (omega arith)
+ranks_done header pair n (own ∷ calls) (a ∷ runners) (b ∷ now) [] d = absurd (omega arith)
+ranks_done header pair n (own ∷ calls) (a ∷ runners) (b ∷ now) (blobs ∷ table) d =
+    let first = d.each 0 a b blobs refl refl refl in
     let own_done = arrived_done header own (reply_of pair n blobs) first.0 a b first.1 in
-    let others = ranks_done header pair n calls runners now table (omega arith) (omega arith) (λ r x y z e f g. d (suc r) x y z e f g) in
+    let others = ranks_done header pair n calls runners now table (done_behind d) in
     λ i. own_done i ∷ others i
 
 pub offers_are : (header : Header) (calls : List (List Call)) (runners : List Runner) → length calls ≡ length runners → AllHold runners → offers_of (arrived_all header calls runners) ≡ held_offers runners
@@ -90,19 +100,47 @@ offers_are header (own ∷ calls) (x ∷ runners) l m =
 
 -- ---- the step
 
-pub step_over : (s : Setting) (calls : List (List Call)) (runners now : List Runner) (batches : List Batch) (known n k : ℕ) (c : Counted) (pair : Option Pair) (table : List (List (List ℕ)))
-    → length calls ≡ length runners → length now ≡ length runners → length table ≡ length runners → AllHold runners → AreDone s.header pair n runners now table
-    → batches ≡ batches_of (held_offers runners) → known ≡ known_of (held_offers runners) → pair ≡ told s (puts_in batches) → n ≡ (met s batches known c).records
-    → table ≡ map (λ b. map (get_post s (met s batches known c).file) b.gets) batches
-    → step_to s (c, arrived_all s.header calls runners) (Meet k) ≡ (counted (met s batches known c).file n, arrived_all s.header calls now)
-step_over s calls runners now batches known n k c pair table l m w hold d e f p r t =
+-- what a meeting takes: the offers that all runners hold
+pub record IsTaken (calls : List (List Call)) (runners : List Runner) (batches : List Batch) (known : ℕ) : Type 0 where
+  pub long : length calls ≡ length runners
+  pub hold : AllHold runners
+  pub offered : batches ≡ batches_of (held_offers runners)
+  pub most : known ≡ known_of (held_offers runners)
+
+-- what it comes to: the pair that all are told, the count, the bytes of the file and those of the gets
+pub record HasGiven (s : Setting) (batches : List Batch) (known r n : ℕ) (held left : Option (List ℕ)) (pair : Option Pair) (table : List (List (List ℕ))) : Type 0 where
+  pub shared : pair ≡ told s (puts_in batches)
+  pub count : n ≡ max r (max (needed_now s (puts_in batches)) known)
+  pub bytes : left ≡ after (λ file. (met s batches known (counted file r)).file) held
+  pub got : IfSome left (λ file. table ≡ map (λ b. map (get_post s file) b.gets) batches)
+
+pub met_count : (s : Setting) (batches : List Batch) (known : ℕ) (file : List ℕ) (r : ℕ) → (met s batches known (counted file r)).records ≡ max r (max (needed_now s (puts_in batches)) known)
+met_count s batches known file r = raised_records s (counted (after_puts s (puts_in batches) (told s (puts_in batches)) file) r) (max (needed_now s (puts_in batches)) known)
+
+pub meet_at : (s : Setting) {calls : List (List Call)} {runners : List Runner} {batches : List Batch} {known : ℕ} (k : ℕ) (c : Counted) → IsTaken calls runners batches known
+    → met s batches known c ≡ (step_to s (c, arrived_all s.header calls runners) (Meet k)).0
+meet_at s {calls} {runners} {batches} {known} k c t =
+    sym (ap (λ (os : List Offer). (meeting s os c).0) (offers_are s.header calls runners t.long t.hold) ∙ met_is s (held_offers runners) batches known c t.offered t.most)
+
+-- the replies, where the offers that the runners hold are those of the ranks
+pub replies_of : {s : Setting} {calls : List (List Call)} {runners : List Runner} {batches : List Batch} {known r n : ℕ} {file : List ℕ} {left : Option (List ℕ)} {pair : Option Pair} {table : List (List (List ℕ))}
+    → IsTaken calls runners batches known → HasGiven s batches known r n (Some file) left pair table
+    → (meeting s (offers_of (arrived_all s.header calls runners)) (counted file r)).1 ≡ map (reply_of pair n) table
+replies_of {s} {calls} {runners} {batches} {known} {r} {n} {file} {left} {pair} {table} t h =
+    ap (λ (os : List Offer). (meeting s os (counted file r)).1) (offers_are s.header calls runners t.long t.hold)
+    ∙ replies_are s (held_offers runners) batches known n (counted file r) pair table t.offered t.most h.shared (h.count ∙ sym (met_count s batches known file r))
+    (if_some_at (λ x. table ≡ map (λ b. map (get_post s x) b.gets) batches) left (met s batches known (counted file r)).file h.bytes h.got)
+
+pub step_over : {s : Setting} {calls : List (List Call)} {runners now : List Runner} {batches : List Batch} {known r n : ℕ} {file : List ℕ} {left : Option (List ℕ)} {pair : Option Pair} {table : List (List (List ℕ))} (k : ℕ)
+    → IsTaken calls runners batches known → HaveDone s.header pair n runners now table → HasGiven s batches known r n (Some file) left pair table
+    → step_to s (counted file r, arrived_all s.header calls runners) (Meet k) ≡ (counted (met s batches known (counted file r)).file n, arrived_all s.header calls now)
+step_over {s} {calls} {runners} {now} {batches} {known} {r} {n} {file} {left} {pair} {table} k t d h =
     let ranks = arrived_all s.header calls runners in
-    let file = met_is s (held_offers runners) batches known c e f in
-    let replies = replies_are s (held_offers runners) batches known n c pair table e f p r t in
-    let done = ranks_done s.header pair n calls runners now table m w d in
-    ap (λ (os : List Offer). ((meeting s os c).0, map (heard s.header) (zip ranks (meeting s os c).1))) (offers_are s.header calls runners l hold)
-    ∙ (λ i. (file i, map (heard s.header) (zip ranks (replies i))))
-    ∙ (λ i. (counted (met s batches known c).file (sym r i), done i))
+    let c = counted file r in
+    let replies = replies_of t h in
+    let count = h.count ∙ sym (met_count s batches known file r) in
+    let done = ranks_done s.header pair n calls runners now table d in
+    (λ i. (sym (meet_at s k c t) i, map (heard s.header) (zip ranks (replies i)))) ∙ (λ i. (counted (met s batches known c).file (sym count i), done i))
 
 -- the replies of a meeting over any file tell what these tell, but for the bytes of the gets
 tells_table : (s : Setting) (one pair : Option Pair) (m n : ℕ) (file : List ℕ) (offers : List Offer) (table : List (List (List ℕ))) → one ≡ pair → m ≡ n
@@ -115,62 +153,46 @@ tells_table s one pair m n file (o ∷ offers) (blobs ∷ table) e f fits =
     let head : map (λ (blob : List ℕ). length blob) blobs ≡ map (wanted s.header) o.batch.gets = cc in
     (record { pair = e; records = f; lengths = gots_long s file o.batch.gets ∙ sym head }, tells_table s one pair m n file offers table e f cc)
 
-meeting_alike : (s : Setting) (calls : List (List Call)) (runners now : List Runner) (batches : List Batch) (known r n k : ℕ) (pair : Option Pair) (table : List (List (List ℕ)))
-    → length calls ≡ length runners → length now ≡ length runners → length table ≡ length runners → AllHold runners → AreDone s.header pair n runners now table
-    → batches ≡ batches_of (held_offers runners) → known ≡ known_of (held_offers runners) → pair ≡ told s (puts_in batches)
-    → n ≡ max r (max (needed_now s (puts_in batches)) known)
-    → map (λ (blobs : List (List ℕ)). map (λ (blob : List ℕ). length blob) blobs) table ≡ map (λ (b : Batch). map (wanted s.header) b.gets) batches
-    → LeadsAlike s (Meet k ∷ []) r (arrived_all s.header calls runners) n (arrived_all s.header calls now)
-meeting_alike s calls runners now batches known r n k pair table l m w hold d e f p count fits stand like =
-    let ranks = arrived_all s.header calls runners in
-    let offers = offers_are s.header calls runners l hold in
+-- the lengths of the bytes that the gets of a meeting give
+abbrev pub FitsGets : Header → List Batch → List (List (List ℕ)) → Type 0
+FitsGets header batches table = map (λ (blobs : List (List ℕ)). map (λ (blob : List ℕ). length blob) blobs) table ≡ map (λ (b : Batch). map (wanted header) b.gets) batches
+
+pub meeting_alike : (s : Setting) {calls : List (List Call)} {runners now : List Runner} {batches : List Batch} {known r n : ℕ} (k : ℕ) {pair : Option Pair} {table : List (List (List ℕ))}
+    → IsTaken calls runners batches known → HaveDone s.header pair n runners now table → pair ≡ told s (puts_in batches) → n ≡ max r (max (needed_now s (puts_in batches)) known)
+    → FitsGets s.header batches table → LeadsAlike s (Meet k ∷ []) r (arrived_all s.header calls runners) n (arrived_all s.header calls now)
+meeting_alike s {calls} {runners} {now} {batches} {known} {r} {n} k {pair} {table} t d shared count fits stand like =
+    let offers = offers_are s.header calls runners t.long t.hold in
+    let held = held_offers runners in
     let c = stand.0 in
-    let written = counted (after_puts s (puts_in batches) (told s (puts_in batches)) c.file) c.records in
-    let records_is : (meeting s (held_offers runners) c).0.records ≡ n =
-    ap (λ (x : Counted). x.records) (met_is s (held_offers runners) batches known c e f)
-    ∙ raised_records s written (max (needed_now s (puts_in batches)) known)
+    let records_is : (meeting s held c).0.records ≡ n =
+    ap (λ (x : Counted). x.records) (met_is s held batches known c t.offered t.most) ∙ met_count s batches known c.file c.records
     ∙ ap (λ (j : ℕ). max j (max (needed_now s (puts_in batches)) known)) like.records ∙ sym count in
-    let both : told s (flat_map puts_of (enumerate_from 0 (held_offers runners))) ≡ pair = ap (told s) (puts_same 0 (held_offers runners) ∙ ap puts_in (sym e)) ∙ sym p in
-    let tells : AllTell (meeting s (held_offers runners) c).1 (map (reply_of pair n) table) =
-    tells_table s (told s (flat_map puts_of (enumerate_from 0 (held_offers runners)))) pair (meeting s (held_offers runners) c).0.records n
-    (meeting s (held_offers runners) c).0.file (held_offers runners) table both records_is
-    (fits ∙ ap (λ (bs : List Batch). map (λ (b : Batch). map (wanted s.header) b.gets) bs) e) in
-    subst (λ (to : List Arrived). IsLike (step_to s stand (Meet k)) n to) (ranks_done s.header pair n calls runners now table m w d)
-    (meets_like s stand k r n ranks (map (reply_of pair n) table) like (ap (λ (os : List Offer). (meeting s os c).0.records) offers ∙ records_is)
+    let both : told s (flat_map puts_of (enumerate_from 0 held)) ≡ pair = ap (told s) (puts_same 0 held ∙ ap puts_in (sym t.offered)) ∙ sym shared in
+    let tells : AllTell (meeting s held c).1 (map (reply_of pair n) table) =
+    tells_table s (told s (flat_map puts_of (enumerate_from 0 held))) pair (meeting s held c).0.records n (meeting s held c).0.file held table both records_is
+    (fits ∙ ap (λ (bs : List Batch). map (λ (b : Batch). map (wanted s.header) b.gets) bs) t.offered) in
+    subst (λ (to : List Arrived). IsLike (step_to s stand (Meet k)) n to) (ranks_done s.header pair n calls runners now table d)
+    (meets_like s stand k r n (arrived_all s.header calls runners) (map (reply_of pair n) table) like (ap (λ (os : List Offer). (meeting s os c).0.records) offers ∙ records_is)
     (subst (λ (os : List Offer). AllTell (meeting s os c).1 (map (reply_of pair n) table)) (sym offers) tells))
 
-pub meeting_led : (hints : Hints) (s : Setting) (order now_order : List Mark) (calls : List (List Call)) (runners now : List Runner) (batches : List Batch) (known r n k : ℕ)
-    (held left : Option (List ℕ)) (before made : Option (List DiskCall)) (pair : Option Pair) (table : List (List (List ℕ)))
-    → length calls ≡ length runners → length now ≡ length runners → length table ≡ length runners → AllHold runners → AreDone s.header pair n runners now table
-    → batches ≡ batches_of (held_offers runners) → known ≡ known_of (held_offers runners) → pair ≡ told s (puts_in batches)
-    → n ≡ max r (max (needed_now s (puts_in batches)) known) → left ≡ after (λ file. (met s batches known (counted file r)).file) held
-    → IfSome left (λ file. table ≡ map (λ b. map (get_post s file) b.gets) batches)
-    → map (λ (blobs : List (List ℕ)). map (λ (blob : List ℕ). length blob) blobs) table ≡ map (λ (b : Batch). map (wanted s.header) b.gets) batches
+pub meeting_led : {hints : Hints} {s : Setting} {order now_order : List Mark} {calls : List (List Call)} {runners now : List Runner} {batches : List Batch} {known r n : ℕ} (k : ℕ)
+    {held left : Option (List ℕ)} {before made : Option (List DiskCall)} {pair : Option Pair} {table : List (List (List ℕ))}
+    → IsTaken calls runners batches known → HaveDone s.header pair n runners now table → HasGiven s batches known r n held left pair table → FitsGets s.header batches table
     → IfSome held (λ file. made ≡ with_end before (met_calls hints s batches known (counted file r))) → now_order ≡ order ++ Meet k ∷ []
     → HasLed hints s order now_order (stage held before r (arrived_all s.header calls runners)) (stage left made n (arrived_all s.header calls now))
-meeting_led hints s order now_order calls runners now batches known r n k held left before made pair table l m w hold d e f p count bytes got fits over o =
-    record {
-      more = Meet k ∷ [];
-      grown = o;
-      led = led held bytes over;
-      alike = meeting_alike s calls runners now batches known r n k pair table l m w hold d e f p count fits;
-    }
+meeting_led {hints} {s} {order} {now_order} {calls} {runners} {now} {batches} {known} {r} {n} k {held} {left} {before} {made} {pair} {table} t d h fits over grown =
+    record { more = Meet k ∷ []; grown = grown; led = led held h over; alike = meeting_alike s k t d h.shared h.count fits }
   where
-    led : (held : Option (List ℕ)) → left ≡ after (λ file. (met s batches known (counted file r)).file) held
-        → IfSome held (λ file. made ≡ with_end before (met_calls hints s batches known (counted file r)))
+    led : (held : Option (List ℕ)) → HasGiven s batches known r n held left pair table → IfSome held (λ file. made ≡ with_end before (met_calls hints s batches known (counted file r)))
         → Leads hints s (Meet k ∷ []) (stage held before r (arrived_all s.header calls runners)) (stage left made n (arrived_all s.header calls now))
-    led None b v = tt
-    led (Some file) b v =
+    led None h v = tt
+    led (Some file) h v =
         let c = counted file r in
-        let after_puts' = counted (after_puts s (puts_in batches) (told s (puts_in batches)) file) r in
-        let same : n ≡ (met s batches known c).records = count ∙ sym (raised_records s after_puts' (max (needed_now s (puts_in batches)) known)) in
-        let offers = offers_are s.header calls runners l hold in
-        let its = met_calls_are hints s (held_offers runners) batches known c e f in
         record {
           left = (met s batches known c).file;
-          told = b;
-          state = step_over s calls runners now batches known n k c pair table l m w hold d e f p same
-              (if_some_at (λ x. table ≡ map (λ b. map (get_post s x) b.gets) batches) left (met s batches known c).file b got);
-          calls = v ∙ ap (with_end before) (sym its ∙ ap (λ (os : List Offer). meeting_calls hints s os c) (sym offers)
+          told = h.bytes;
+          state = step_over k t d h;
+          calls = v ∙ ap (with_end before) (sym (met_calls_are hints s (held_offers runners) batches known c t.offered t.most)
+              ∙ ap (λ (os : List Offer). meeting_calls hints s os c) (sym (offers_are s.header calls runners t.long t.hold))
               ∙ sym (append-nil (meeting_calls hints s (offers_of (arrived_all s.header calls runners)) c)));
         }

@@ -1,10 +1,10 @@
 -- The answers of the ranks of a meeting, also where it was cut off.
-use Rattle.turn_run.proofs.Words.{◌≡◌, ℕ, zero, suc, ◌<◌, ◌≤◌, refl, sym, ◌∙◌, ap, subst, inl, inr, ◌⊎◌, List, [], ◌∷◌, ◌++◌, length, map, max, set, Bool, true, false, Option, Some, None, append_assoc, arith, nat_tests, fold-append, append_cancel_left, same_Some, slice_get_within, slice_get, fold, zip, nat_lt, IfSome, Answer, Pair, Header, Batch, Call, Hints, Script, Mark, Meet, Offer, Reply, StepErr, Memory, after, needed_now, Setting, Counted, after_puts, get_post, meeting, told, Going, advance, after_mark, hears, offers_of, Begins, counted, puts_in, Arrived, Stand, heard, step_to, point, HasSaid, AllSay, HasReached, AreAnswers, HaveAnswers, HaveHeardInPart, KeepAnswers, all_between, asking, between, calls_of, reply_of, AreFreed, HasHeard, HaveArrived, HaveMet, AreRunners, Stage, Leads, IsLed, HasLed, arrived, arrived_all, stand_of, batches_of, held_offers, known_of, met, Runner, if_some_at, entry_below, entry_map, raised_records, gone_up}
+use Rattle.turn_run.proofs.Words.{◌≡◌, ℕ, zero, suc, ◌<◌, ◌≤◌, refl, sym, ◌∙◌, ap, subst, inl, inr, ◌⊎◌, List, [], ◌∷◌, ◌++◌, length, map, max, set, Bool, true, false, Option, Some, None, append_assoc, arith, nat_tests, fold-append, append_cancel_left, same_Some, slice_get_within, slice_get, fold, zip, nat_lt, IfSome, Answer, Pair, Header, Batch, Call, Hints, Script, Mark, Meet, Offer, Reply, StepErr, Memory, after, needed_now, Setting, Counted, after_puts, get_post, meeting, told, Going, advance, after_mark, hears, offers_of, Begins, counted, puts_in, Arrived, Stand, heard, step_to, point, HasSaid, AllSay, HasReached, AreAnswers, HaveAnswers, HaveHeardInPart, KeepAnswers, all_between, asking, between, calls_of, reply_of, AreFreed, HasHeard, HaveArrived, HaveMet, AreRunners, Stage, Leads, IsLed, HasLed, arrived, arrived_all, stand_of, batches_of, held_offers, known_of, met, Runner, if_some_at, entry_below, entry_map, gone_up, is_lawful, ranks_lawful, setting_of}
 use Rattle.turn_run.proofs.AloneLaws.{arrived_held}
 use Rattle.turn_run.proofs.MeetDone.{heard_before}
-use Rattle.turn_run.proofs.MeetOffers.{meets_at, AllHold}
-use Rattle.turn_run.proofs.MeetStep.{offers_are, replies_are, AreDone}
-use Rattle.turn_run.proofs.SaidLaws.{arrived_said, begins_heard, begins_up, said_here, said_part, up_after}
+use Rattle.turn_run.proofs.MeetOffers.{meets_at}
+use Rattle.turn_run.proofs.MeetStep.{done_behind, replies_of, HasGiven, HaveDone, IsTaken}
+use Rattle.turn_run.proofs.SaidLaws.{arrived_said, begins_heard, begins_up, reached_here, said_here, said_part, up_after}
 use Rattle.turn_run.proofs.RunnerLaws.{heard_runner}
 use Rattle.turn_run.proofs.StageLaws.{led_then}
 use Rattle.turn_run.proofs.TurnSteps.{calls_there, get_arrived, set_each}
@@ -20,6 +20,13 @@ all_say_here script header fault runners now c long same come kept r b k a g =
     same_Some _ _ (sym (get_arrived header script.calls runners r (calls_of script r) was.0 (calls_there script r (omega arith)) was.1) ∙ g) in
     said_here fault a b.answers
     (kept r was.0 b was.1 k ∙ sym (arrived_said header (calls_of script r) was.0 (come r was.0 was.1)) ∙ ap (λ (x : Arrived). x.0.answers) is)
+
+pub all_reached_here : {script : Script} {header : Header} {len : ℕ} {fault : StepErr} {before now_order : List Mark} {held : Option (List ℕ)} {records : ℕ} {runners : List Runner} (now : List Runner)
+    → is_lawful script ≡ true → AreRunners script header len before runners → length now ≡ length runners → HaveArrived script runners → KeepAnswers runners now → now_order ≡ before
+    → HasReached (AllSay fault now) (setting_of script header) (point before held records) (arrived_all header script.calls runners) now_order
+all_reached_here {script} {header} {fault} {before} {now_order} {held} {records} {runners} now lawful all same come kept e =
+    reached_here (AllSay fault now) (setting_of script header) before now_order held records (arrived_all header script.calls runners) e
+    (λ n. all_say_here script header fault runners now n ((ranks_lawful script lawful).one_each ∙ sym all.all) same come kept)
 
 pub keep_own : (runners : List Runner) → KeepAnswers runners runners
 keep_own runners r a b e f = ap (λ (x : Runner). x.answers) (sym (same_Some a b (sym e ∙ f)))
@@ -51,18 +58,6 @@ get_zip f (a ∷ xs) (b ∷ ys) zero x y z e g h =
     let q = same_Some b y g in
     (λ i. f (sym p i, sym q i)) ∙ same_Some (f (a, b)) z h
 get_zip f (a ∷ xs) (b ∷ ys) (suc r) x y z e g h = get_zip f xs ys r x y z e g h
-
--- the replies, where the offers that the runners hold are those of the ranks
-replies_of : (s : Setting) (calls : List (List Call)) (runners : List Runner) (batches : List Batch) (known r n : ℕ) (file : List ℕ) (pair : Option Pair) (table : List (List (List ℕ)))
-    (left : Option (List ℕ)) → length calls ≡ length runners → AllHold runners → batches ≡ batches_of (held_offers runners) → known ≡ known_of (held_offers runners) → pair ≡ told s (puts_in batches)
-    → n ≡ max r (max (needed_now s (puts_in batches)) known) → left ≡ Some (met s batches known (counted file r)).file → IfSome left (λ f. table ≡ map (λ b. map (get_post s f) b.gets) batches)
-    → (meeting s (offers_of (arrived_all s.header calls runners)) (counted file r)).1 ≡ map (reply_of pair n) table
-replies_of s calls runners batches known r n file pair table left l hold e f p count bytes got =
-    let after' = counted (after_puts s (puts_in batches) (told s (puts_in batches)) file) r in
-    let same : n ≡ (met s batches known (counted file r)).records = count ∙ sym (raised_records s after' (max (needed_now s (puts_in batches)) known)) in
-    ap (λ (os : List Offer). (meeting s os (counted file r)).1) (offers_are s.header calls runners l hold)
-    ∙ replies_are s (held_offers runners) batches known n (counted file r) pair table e f p same
-    (if_some_at (λ x. table ≡ map (λ b. map (get_post s x) b.gets) batches) left (met s batches known (counted file r)).file bytes got)
 
 -- ---- some have heard
 
@@ -101,66 +96,58 @@ part_of_freed pair n table runners mid now long freed part r a b blobs e g t =
     by_part m k h (inl q) = inl (q ∙ h)
     by_part m k h (inr q) = inr (heard_before m a b (reply_of pair n blobs) k h q)
 
-pub reached_deaf : (script : Script) (header : Header) (len : ℕ) (fault : StepErr) (order now_order : List Mark) (runners now : List Runner) (batches : List Batch) (known r n k : ℕ) (s : Setting)
-    (held left : Option (List ℕ)) (pair : Option Pair) (table : List (List (List ℕ))) → s.header ≡ header → fault ≡ Memory → now_order ≡ order ++ Meet k ∷ []
-    → length script.calls ≡ length runners → length now ≡ length runners → length table ≡ length runners → AreRunners script header len order runners → HaveMet runners → HaveArrived script runners
-    → batches ≡ batches_of (held_offers runners) → known ≡ known_of (held_offers runners) → pair ≡ told s (puts_in batches)
-    → n ≡ max r (max (needed_now s (puts_in batches)) known) → left ≡ after (λ file. (met s batches known (counted file r)).file) held
-    → IfSome left (λ file. table ≡ map (λ b. map (get_post s file) b.gets) batches) → HaveHeardInPart pair n table runners now
+pub reached_deaf : {script : Script} {header : Header} {len : ℕ} {fault : StepErr} {order now_order : List Mark} {runners : List Runner} (now : List Runner) {batches : List Batch} {known r n : ℕ} (k : ℕ) {s : Setting}
+    {held left : Option (List ℕ)} {pair : Option Pair} {table : List (List (List ℕ))} → s.header ≡ header → fault ≡ Memory → now_order ≡ order ++ Meet k ∷ []
+    → length now ≡ length runners → length table ≡ length runners → AreRunners script header len order runners → HaveArrived script runners
+    → IsTaken script.calls runners batches known → HasGiven s batches known r n held left pair table → HaveHeardInPart pair n table runners now
     → HasReached (AllSay fault now) s (point order held r) (arrived_all s.header script.calls runners) now_order
-reached_deaf script header len fault order now_order runners now batches known r n k s held left pair table of_header memory grown l m w all hold come e f p count bytes got part =
-    record { more = Meet k ∷ []; grown = grown; ends = by_held held bytes }
+reached_deaf {script} {header} {fault} {runners} now {batches} {known} {r} {n} k {s} {held} {left} {pair} {table} of_header memory grown m w all come t given part =
+    record { more = Meet k ∷ []; grown = grown; ends = by_held held given }
   where
-    by_held : (h : Option (List ℕ)) → left ≡ after (λ file. (met s batches known (counted file r)).file) h
-        → IfSome h (λ file. AllSay fault now (step_to s (counted file r, arrived_all s.header script.calls runners) (Meet k)))
+    by_held : (h : Option (List ℕ)) → HasGiven s batches known r n h left pair table → IfSome h (λ file. AllSay fault now (step_to s (counted file r, arrived_all s.header script.calls runners) (Meet k)))
     by_held None b = tt
     by_held (Some file) b = λ q x h a g.
         let within : q < length runners = (let i = slice_get_within now q x h in omega arith) in
+        let long = t.long in
         let was = entry_below runners q within in
         let row = entry_below table q (omega arith) in
-        let o = meets_at script header len order runners all hold come q was.0 was.1 in
-        let replies = replies_of s script.calls runners batches known r n file pair table left l hold e f p count b got in
+        let o = meets_at all t.hold come q was.0 was.1 in
         let is : heard s.header (arrived s.header (calls_of script q) was.0, reply_of pair n row.0) ≡ a =
         get_zip (heard s.header) (arrived_all s.header script.calls runners) (map (reply_of pair n) table) q (arrived s.header (calls_of script q) was.0) (reply_of pair n row.0) a
         (get_arrived s.header script.calls runners q (calls_of script q) was.0 (calls_there script q (omega arith)) was.1) (entry_map (reply_of pair n) table q row.0 row.1)
-        (ap (λ (ys : List Reply). slice_get (map (heard s.header) (zip (arrived_all s.header script.calls runners) ys)) q) (sym replies) ∙ g) in
+        (ap (λ (ys : List Reply). slice_get (map (heard s.header) (zip (arrived_all s.header script.calls runners) ys)) q) (sym (replies_of t b)) ∙ g) in
         subst (λ (y : Arrived). HasSaid fault y x.answers) is
         (said_in_part s.header fault (calls_of script q) was.0 x o.0 (reply_of pair n row.0) memory o.1.held (o.1.of_header ∙ sym of_header) (part q was.0 x row.0 was.1 h row.1))
 
 -- ---- all have heard
 
-between_done : (header : Header) (pair : Option Pair) (n : ℕ) (calls : List (List Call)) (runners now : List Runner) (table : List (List (List ℕ)))
-    → length now ≡ length runners → length table ≡ length runners → AreDone header pair n runners now table
+between_done : (header : Header) (pair : Option Pair) (n : ℕ) (calls : List (List Call)) (runners now : List Runner) (table : List (List (List ℕ))) → HaveDone header pair n runners now table
     → map (λ p. hears header p.0.0 p.1) (zip (arrived_all header calls runners) (map (reply_of pair n) table)) ≡ all_between calls now
-between_done header pair n [] runners now table l m d = refl
-between_done header pair n (own ∷ calls) [] [] table l m d = refl
-between_done header pair n (own ∷ calls) [] (b ∷ now) table l m d = absurd (omega arith)
-between_done header pair n (own ∷ calls) (a ∷ runners) [] table l m d = absurd (omega arith)
-between_done header pair n (own ∷ calls) (a ∷ runners) (b ∷ now) [] l m d = absurd (omega arith)
-between_done header pair n (own ∷ calls) (a ∷ runners) (b ∷ now) (blobs ∷ table) l m d =
-    let first = d 0 a b blobs refl refl refl in
+between_done header pair n [] runners now table d = refl
+between_done header pair n (own ∷ calls) [] [] table d = refl
+between_done header pair n (own ∷ calls) [] (b ∷ now) table d = absurd (omega arith)
+between_done header pair n (own ∷ calls) (a ∷ runners) [] table d = absurd (omega arith)
+between_done header pair n (own ∷ calls) (a ∷ runners) (b ∷ now) [] d = absurd (omega arith)
+between_done header pair n (own ∷ calls) (a ∷ runners) (b ∷ now) (blobs ∷ table) d =
+    let first = d.each 0 a b blobs refl refl refl in
     let reply = reply_of pair n blobs in
     let one : hears header (arrived header own a).0 reply ≡ between own b =
     ap (λ (x : Arrived). hears header x.0 reply) (arrived_held header own a first.0 first.1.held) ∙ sym (heard_runner header own a b reply first.1.of_header first.1.heard) in
-    let others = between_done header pair n calls runners now table (omega arith) (omega arith) (λ r x y z e f g. d (suc r) x y z e f g) in
+    let others = between_done header pair n calls runners now table (done_behind d) in
     λ i. one i ∷ others i
 
-pub meeting_between : (s : Setting) (calls : List (List Call)) (runners now : List Runner) (batches : List Batch) (known r n k : ℕ) (held left : Option (List ℕ)) (pair : Option Pair)
-    (table : List (List (List ℕ))) → length calls ≡ length runners → length now ≡ length runners → length table ≡ length runners → AllHold runners → AreDone s.header pair n runners now table
-    → batches ≡ batches_of (held_offers runners) → known ≡ known_of (held_offers runners) → pair ≡ told s (puts_in batches)
-    → n ≡ max r (max (needed_now s (puts_in batches)) known) → left ≡ after (λ file. (met s batches known (counted file r)).file) held
-    → IfSome left (λ file. table ≡ map (λ b. map (get_post s file) b.gets) batches)
+pub meeting_between : {s : Setting} {calls : List (List Call)} {runners now : List Runner} {batches : List Batch} {known r n : ℕ} (k : ℕ) {held left : Option (List ℕ)} {pair : Option Pair}
+    {table : List (List (List ℕ))} → IsTaken calls runners batches known → HaveDone s.header pair n runners now table → HasGiven s batches known r n held left pair table
     → (goings : List Going) → map (advance s.header) goings ≡ arrived_all s.header calls runners
     → IfSome held (λ file. (after_mark s (counted file r, goings) (Meet k)).1 ≡ all_between calls now)
-meeting_between s calls runners now batches known r n k held left pair table l m w hold d e f p count bytes got goings up = by_held held bytes
+meeting_between {s} {calls} {runners} {now} {batches} {known} {r} {n} k {held} {left} {pair} {table} t d given goings up = by_held held given
   where
-    by_held : (h : Option (List ℕ)) → left ≡ after (λ file. (met s batches known (counted file r)).file) h → IfSome h (λ file. (after_mark s (counted file r, goings) (Meet k)).1 ≡ all_between calls now)
+    by_held : (h : Option (List ℕ)) → HasGiven s batches known r n h left pair table → IfSome h (λ file. (after_mark s (counted file r, goings) (Meet k)).1 ≡ all_between calls now)
     by_held None b = tt
     by_held (Some file) b =
-        let replies = replies_of s calls runners batches known r n file pair table left l hold e f p count b got in
         (λ i. map (λ p. hears s.header p.0.0 p.1) (zip (up i) (meeting s (offers_of (up i)) (counted file r)).1))
-        ∙ (λ i. map (λ p. hears s.header p.0.0 p.1) (zip (arrived_all s.header calls runners) (replies i)))
-        ∙ between_done s.header pair n calls runners now table m w d
+        ∙ (λ i. map (λ p. hears s.header p.0.0 p.1) (zip (arrived_all s.header calls runners) (replies_of t b i)))
+        ∙ between_done s.header pair n calls runners now table d
 
 -- ---- steps before
 

@@ -1,8 +1,7 @@
 -- What is told of steps, one after another, and of a whole run.
 use Rattle.turn_run.proofs.Words.{◌≡◌, ◌+◌, ℕ, suc, refl, sym, ◌∙◌, ap, subst, List, [], ◌∷◌, ◌++◌, length, map, max, replicate, set, take, true, Option, Some, None, append_assoc, length-append, arith, append-nil, append_cancel_left, map-append, fold-append, slice_get, fold, IfSome, enumerate_from, Header, Batch, Call, Hints, Script, DiskCall, Mark, Meet, Solo, Offer, with_end, needed_now, Counted, Setting, is_lawful, told_of, Going, after_mark, first_state, setting_of, counted, puts_in, step_to, Arrived, Stand, point, arrived_all, stage, stand_of, HasGone, HasLed, IsLed, Stage, rank_stage, batches_of, first_runner, held_offers, known_of, counts_along, told_marks, told_over, HasTold, HasToldMore, Runner, entry_set, with_end-with_end, with_end-nil, gone_up, arrival_step}
 use Rattle.turn_run.proofs.CutLaws.{solo_at}
-use Rattle.turn_run.proofs.CutMeet.{meet_at, met_count}
-use Rattle.turn_run.proofs.MeetOffers.{AllHold}
+use Rattle.turn_run.proofs.MeetStep.{meet_at, met_count, IsTaken}
 use Rattle.turn_run.proofs.TurnRuns.{first_stage}
 
 -- ---- nothing, and one step
@@ -50,13 +49,12 @@ told_alone s r n held records before now told heard t o e f ranks at =
     told_one s (Solo r n) records held records ranks before now told heard e f
     (λ file. ap (λ (c : Counted). c.records) (sym (solo_at s r n (counted file records) ranks t o at)))
 
-pub told_meeting : (s : Setting) (k : ℕ) (held : Option (List ℕ)) (calls : List (List Call)) (runners : List Runner) (batches : List Batch) (known r n : ℕ) (before now : List Mark)
-    (told heard : Option (List (Mark × ℕ))) → now ≡ before ++ Meet k ∷ [] → heard ≡ with_end told ((Meet k, n) ∷ []) → length calls ≡ length runners → AllHold runners
-    → batches ≡ batches_of (held_offers runners) → known ≡ known_of (held_offers runners) → n ≡ max r (max (needed_now s (puts_in batches)) known)
-    → HasToldMore s (point before held r) (arrived_all s.header calls runners) now told heard
-told_meeting s k held calls runners batches known r n before now told heard e f l hold b m count =
+pub told_meeting : {s : Setting} (k : ℕ) {held : Option (List ℕ)} {calls : List (List Call)} {runners : List Runner} {batches : List Batch} {known r n : ℕ} {before now : List Mark}
+    {told heard : Option (List (Mark × ℕ))} → IsTaken calls runners batches known → now ≡ before ++ Meet k ∷ [] → heard ≡ with_end told ((Meet k, n) ∷ [])
+    → n ≡ max r (max (needed_now s (puts_in batches)) known) → HasToldMore s (point before held r) (arrived_all s.header calls runners) now told heard
+told_meeting {s} k {held} {calls} {runners} {batches} {known} {r} {n} {before} {now} {told} {heard} t e f count =
     told_one s (Meet k) n held r (arrived_all s.header calls runners) before now told heard e f
-    (λ file. sym (count ∙ sym (met_count s batches known file r) ∙ ap (λ (c : Counted). c.records) (meet_at s calls runners batches known k (counted file r) l hold b m)))
+    (λ file. sym (count ∙ sym (met_count s batches known file r) ∙ ap (λ (c : Counted). c.records) (meet_at s k (counted file r) t)))
 
 -- ---- steps one after another
 

@@ -4,7 +4,7 @@ pub use Rattle.std.proofs.Math.Seq.{drop-append-add, drop-append_seam, take-appe
 pub use Rattle.std.proofs.lemmas.Bool.{and_from, and_parts, eqb-true}
 pub use Rattle.std.proofs.lemmas.Bool.Decides.{eqb_tells, nat_tests}
 pub use Rattle.std.proofs.lemmas.Grind.{flat_map-append, fold-append}
-pub use Rattle.std.proofs.lemmas.List.{append-nil, append_cancel_left, length-map, length-replicate, length-set, map-append, set-set, with_items_is}
+pub use Rattle.std.proofs.lemmas.List.{append-nil, append_cancel_left, ext_get_or, length-map, length-replicate, length-set, map-append, set-set, with_items_is}
 pub use Rattle.std.proofs.lemmas.List.Elements.{filter-append}
 pub use Rattle.std.proofs.lemmas.List.Folds.{list_all-append}
 pub use Rattle.std.proofs.lemmas.List.Sums.{sum_by-append}
@@ -42,6 +42,7 @@ pub use Rattle.nc_base.specs.declared.answer.Pair.{Pair}
 pub use Rattle.nc_base.specs.declared.header.Header.{Header}
 pub use Rattle.nc_base.specs.declared.header.Var.{Var}
 pub use Rattle.nc_base.specs.declared.plan.Batch.{Batch}
+pub use Rattle.nc_base.specs.declared.plan.Job.{Job}
 pub use Rattle.nc_base.specs.declared.plan.Post.{Post}
 pub use Rattle.nc_base.specs.declared.request.Call.{Call}
 pub use Rattle.nc_base.specs.declared.request.Direction.TheVariants.{Get, Put}
@@ -106,7 +107,7 @@ pub use Rattle.serial_spec.specs.RegionCheck.{bad_edge, bound, check_some, some_
 pub use Rattle.serial_spec.specs.SerialEnd.{End, Going, advance, after_mark, close_by, closed, first_going, first_state, go, hears, offers_of, serial_from, setting_of, solo_of, state_after}
 pub use Rattle.serial_spec.specs.SharedByte.{Holding, IsOwnOnce, Puts, bytes_of, covered, holdings}
 pub use Rattle.serial_spec.specs.SoundHeaders.{is_sound}
-pub use Rattle.serial_spec.specs.Torn.{Begins, HasAnswers, HasAnswersOfEach, IsCutRun, IsLeft, IsTorn, StoodAt, bytes_of_mark}
+pub use Rattle.serial_spec.specs.Torn.{Begins, HasAnswers, HasAnswersOfEach, IsCutRun, IsLeft, IsTorn, StoodAt, bytes_of_mark, may_change}
 pub use Rattle.turn_run.specs.Begun.{HasBegun}
 pub use Rattle.turn_run.specs.Counts.{IsAsked, IsCount, IsFit, IsRise, raises}
 pub use Rattle.turn_run.specs.Cuts.{HasStopped, IsNext, MayFollow, StopsAt, bytes_at}

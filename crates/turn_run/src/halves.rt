@@ -22,19 +22,20 @@ ghost use Rattle.var_layout.specs.Measures.{AreMeasures};
 use collective_round::{Dataset, PutEnd, get_all, put_all};
 use nc_base::{Batch, BlobList, GotTable, Job, Memory, Post, StepErr};
 use nc_outside::{Disk, Gate};
-use piece_exchange::Tools;
+use piece_exchange::{Crew, SharedJob, Tools};
 use std::alloc::Global;
 use std::sync::Wait;
 use std::thread::Threads;
 
 /// The puts of a meeting, and the record count that they need.
 #[tactic(auto, using(crate::proofs::HalfLaws::puts_of_none, crate::proofs::HalfLaws::told_of_none, crate::proofs::HalfLaws::needed_of_none))]
-pub(crate) fn put_half<R: Threads + Wait + Sync, D: Disk, G: Gate>(
+pub(crate) fn put_half<'s, E, R: Threads + Wait + Sync, D: Disk + 's, G: Gate>(
     tools: &Tools<R, G>,
+    crew: &mut Crew<'s, E, R, G, D>,
     disk: &mut D,
     dataset: &Dataset,
     records: &mut u64,
-    job: &Job,
+    job: &SharedJob,
 ) -> Result<PutEnd, StepErr>
     requires sound { is_sound dataset.now.header.now ≡ true }
     requires measured { AreMeasures dataset.now.header.now dataset.now.measures.now }
@@ -58,11 +59,11 @@ pub(crate) fn put_half<R: Threads + Wait + Sync, D: Disk, G: Gate>(
     ensures grown { D.len disk.old ≤ D.len disk.new }
     ensures cause { HasStepCause (D.faults disk.old) (D.faults disk.new) result }
 {
-    if have_no_puts(job.batches.as_slice()) {
+    if have_no_puts(job.job().batches.as_slice()) {
         let _size = disk.size();
         return Ok(PutEnd::Done);
     }
-    put_all(tools, disk, dataset, records, job)
+    put_all(tools, crew, disk, dataset, records, job)
 }
 
 /// Whether no batch has a put.
@@ -73,8 +74,9 @@ fn have_no_puts(batches: &[Batch]) -> bool
 }
 
 /// The gets of a meeting.
-pub(crate) fn get_half<R: Threads + Wait + Sync, D: Disk, G: Gate>(
+pub(crate) fn get_half<'s, E, R: Threads + Wait + Sync, D: Disk + 's, G: Gate>(
     tools: &Tools<R, G>,
+    crew: &mut Crew<'s, E, R, G, D>,
     disk: &mut D,
     dataset: &Dataset,
     job: &Job,
@@ -97,7 +99,7 @@ pub(crate) fn get_half<R: Threads + Wait + Sync, D: Disk, G: Gate>(
     if have_no_gets(batches) {
         return Ok(empty_rows(tools.alloc, batches)?);
     }
-    get_all(tools, disk, dataset, job)
+    get_all(tools, crew, disk, dataset, job)
 }
 
 /// Whether no batch has a get.

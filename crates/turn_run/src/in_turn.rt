@@ -25,7 +25,7 @@ use crate::rank_ends::{end_run, stopped};
 use crate::runners::Runner;
 use nc_base::{Header, MarkList, Memory, RankEnd, RankStop, RunEnd, Script, ServeEnd, StepErr};
 use nc_outside::{Deaf, Disk, Gate, Told};
-use piece_exchange::Tools;
+use piece_exchange::{Crew, Tools};
 use rank_core::Names;
 use std::alloc::Global;
 use std::sync::Wait;
@@ -35,14 +35,14 @@ use std::thread::Threads;
 /// then rank 0 goes on first. The last thing done is the close, which raises the record count to the greatest that a rank knows.
 ///
 /// With a fault the run ends in that step, and the order has the finished ones.
-pub fn run_in_turn<R: Threads + Wait + Sync, D: Disk, G: Gate>(
-    rt: &R,
+pub fn run_in_turn<'a, R: Threads + Wait + Sync, D: Disk, G: Gate>(
+    rt: &'a R,
     alloc: Global,
     disk: &mut D,
     header: &Header,
     records: &mut u64,
     script: &Script,
-    gate: &G,
+    gate: &'a G,
 ) -> RunEnd
     requires sound { is_sound header.now ≡ true }
     requires lawful { is_lawful script.now ≡ true }
@@ -51,21 +51,29 @@ pub fn run_in_turn<R: Threads + Wait + Sync, D: Disk, G: Gate>(
     requires long { end_of header.now (header_len header.now) header.now.records ≤ D.len disk.old }
     ensures run { RunsOn D.Disk script.now header.now disk.old disk.new records.new result }
 {
-    run_in_turn_told(rt, alloc, disk, header, records, script, gate, &mut Deaf)
+    let tools = Tools { rt, alloc, gate };
+    let mut crew = without_helpers(&tools);
+    run_in_turn_told(&tools, &mut crew, disk, header, records, script, &mut Deaf)
 }
 
-/// Runs the ranks as `run_in_turn` does, and tells each step once it is done: its mark, with the file's record count after it. The
-/// close is not told.
+// Nobody starts a helper where there is no scope.
+fn without_helpers<'s, R: Threads + Wait + Sync, D: Disk + 's, G: Gate>(
+    tools: &'s Tools<'s, R, G>,
+) -> Crew<'s, (), R, G, D> {
+    Crew::new(None, tools)
+}
+
+/// Runs the ranks as `run_in_turn` does, with the helpers of a crew, and tells each step once it is done: its mark, with the file's
+/// record count after it. The close is not told.
 ///
 /// Where there is no memory to tell a step, the run ends with that fault, and the order doesn't have that step either.
-pub fn run_in_turn_told<R: Threads + Wait + Sync, D: Disk, G: Gate, T: Told>(
-    rt: &R,
-    alloc: Global,
+pub fn run_in_turn_told<'s, E, R: Threads + Wait + Sync, D: Disk + 's, G: Gate, T: Told>(
+    tools: &Tools<R, G>,
+    crew: &mut Crew<'s, E, R, G, D>,
     disk: &mut D,
     header: &Header,
     records: &mut u64,
     script: &Script,
-    gate: &G,
     told: &mut T,
 ) -> RunEnd
     requires sound { is_sound header.now ≡ true }
@@ -76,6 +84,7 @@ pub fn run_in_turn_told<R: Threads + Wait + Sync, D: Disk, G: Gate, T: Told>(
     ensures run { RunsOn D.Disk script.now header.now disk.old disk.new records.new result }
     ensures told { HasTold script.now header.now (D.held disk.old) (T.heard told.old) (T.heard told.new) result.order }
 {
+    let alloc = tools.alloc;
     let order = MarkList::new(alloc);
     let names = match Names::new(alloc, header) {
         Ok(names) => names,
@@ -90,7 +99,11 @@ pub fn run_in_turn_told<R: Threads + Wait + Sync, D: Disk, G: Gate, T: Told>(
         Err(_) => return stopped(alloc, order, StepErr::Memory),
     };
     let lent = Lent {
-        tools: Tools { rt, alloc, gate },
+        tools: Tools {
+            rt: tools.rt,
+            alloc,
+            gate: tools.gate,
+        },
         setup: Setup {
             header,
             measures: names.measures(header),
@@ -101,7 +114,7 @@ pub fn run_in_turn_told<R: Threads + Wait + Sync, D: Disk, G: Gate, T: Told>(
         records: *records,
         order,
     };
-    let done = hold_meetings(&lent, disk, told, &mut progress, &mut runners);
+    let done = hold_meetings(&lent, crew, disk, told, &mut progress, &mut runners);
     *records = progress.records;
     end_all(runners, stop_after(&done), &mut ends);
     let served = ServeEnd {
@@ -132,8 +145,9 @@ pub fn runners_of<'a>(
 }
 
 /// Holds the meetings of all ranks, one after another, until all calls are made.
-fn hold_meetings<R: Threads + Wait + Sync, D: Disk, G: Gate, T: Told>(
+fn hold_meetings<'s, E, R: Threads + Wait + Sync, D: Disk + 's, G: Gate, T: Told>(
     lent: &Lent<R, G>,
+    crew: &mut Crew<'s, E, R, G, D>,
     disk: &mut D,
     told: &mut T,
     progress: &mut Progress,
@@ -164,7 +178,7 @@ fn hold_meetings<R: Threads + Wait + Sync, D: Disk, G: Gate, T: Told>(
     let mut meetings = 0;
     arrive_all(lent, disk, told, progress, runners)?;
     'meetings: while all_hold(runners) {
-        meet(lent, disk, told, progress, runners, meetings)?;
+        meet(lent, crew, disk, told, progress, runners, meetings)?;
         meetings += 1;
         arrive_all(lent, disk, told, progress, runners)?;
     }

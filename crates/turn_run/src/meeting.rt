@@ -34,14 +34,15 @@ use nc_base::{
     Batch, BatchList, GotTable, Job, Mark, MeetKind, Memory, Offer, OfferKind, Pair, Reply, StepErr,
 };
 use nc_outside::{Disk, Gate, Told};
-use piece_exchange::Tools;
+use piece_exchange::{Crew, SharedJob, Tools};
 use std::alloc::Global;
 use std::sync::Wait;
 use std::thread::Threads;
 
 /// Does the meeting whose offers the ranks hold, and lets each hear its reply.
-pub(crate) fn meet<R: Threads + Wait + Sync, D: Disk, G: Gate, T: Told>(
+pub(crate) fn meet<'s, E, R: Threads + Wait + Sync, D: Disk + 's, G: Gate, T: Told>(
     lent: &Lent<R, G>,
+    crew: &mut Crew<'s, E, R, G, D>,
     disk: &mut D,
     told: &mut T,
     progress: &mut Progress,
@@ -74,7 +75,7 @@ pub(crate) fn meet<R: Threads + Wait + Sync, D: Disk, G: Gate, T: Told>(
     ensures longer { D.len disk.old ≤ D.len disk.new }
     ensures cause { HasStepCause (D.faults disk.old) (D.faults disk.new) result }
 {
-    let (job, known) = take_job(lent.tools.alloc, runners)?;
+    let (job, known) = take_shared_job(lent.tools.alloc, runners)?;
     let dataset = Dataset {
         header: lent.setup.header,
         measures: lent.setup.measures,
@@ -82,6 +83,7 @@ pub(crate) fn meet<R: Threads + Wait + Sync, D: Disk, G: Gate, T: Told>(
     };
     let (pair, table) = meet_on_file(
         &lent.tools,
+        crew,
         disk,
         &dataset,
         &mut progress.records,
@@ -99,6 +101,17 @@ pub(crate) fn meet<R: Threads + Wait + Sync, D: Disk, G: Gate, T: Told>(
     )?;
     hear_all(runners, pair, records, table)?;
     Ok(())
+}
+
+/// Takes the offers of a meeting as `take_job` does, for helpers to share.
+fn take_shared_job(alloc: Global, runners: &mut [Runner]) -> Result<(SharedJob, u64), Memory>
+    ensures batches { IfOk result (λ taken. taken.0.batches ≡ batches_of (held_offers runners.old)) }
+    ensures known { IfOk result (λ taken. taken.1 ≡ known_of (held_offers runners.old)) }
+    ensures freed { OnOk result (AreFreed runners.old runners.new) }
+    ensures kept { KeepAnswers runners.old runners.new }
+{
+    let (job, known) = take_job(alloc, runners)?;
+    Ok((SharedJob::new(alloc, job)?, known))
 }
 
 /// Takes the offers of a meeting: their batches, and the count to which it raises that of the file.
@@ -158,12 +171,13 @@ pub fn known_by(offer: &Offer) -> u64
 }
 
 /// The puts of a meeting, its record count, and its gets: the pair that all ranks are told, and the bytes for each rank.
-pub fn meet_on_file<R: Threads + Wait + Sync, D: Disk, G: Gate>(
+pub fn meet_on_file<'s, E, R: Threads + Wait + Sync, D: Disk + 's, G: Gate>(
     tools: &Tools<R, G>,
+    crew: &mut Crew<'s, E, R, G, D>,
     disk: &mut D,
     dataset: &Dataset,
     records: &mut u64,
-    job: &Job,
+    job: &SharedJob,
     known: u64,
 ) -> Result<(Option<Pair>, GotTable), StepErr>
     requires sound { is_sound dataset.now.header.now ≡ true }
@@ -188,9 +202,9 @@ pub fn meet_on_file<R: Threads + Wait + Sync, D: Disk, G: Gate>(
     ensures cause { HasStepCause (D.faults disk.old) (D.faults disk.new) result }
 {
     let _size = disk.size();
-    let end = put_half(tools, disk, dataset, records, job)?;
+    let end = put_half(tools, crew, disk, dataset, records, job)?;
     raise_records(tools.alloc, disk, dataset.header, records, known)?;
-    let table = get_half(tools, disk, dataset, job)?;
+    let table = get_half(tools, crew, disk, dataset, job.job())?;
     Ok((told_pair(end), table))
 }
 

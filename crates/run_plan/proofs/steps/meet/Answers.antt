@@ -1,5 +1,5 @@
 -- The meeting is planned, and each rank has heard zeros.
-use Rattle.run_plan.proofs.Words.{refl, sym, ◌∙◌, ap, subst, List, length, map, arith, Meet, setting_of, lawful_hints, puts_in, batch_gets, zero_rows, ranks_lawful, StepPlan, arrived_all, count_begins, are_done, free_after, order_at, runners_after, table_long, to_hear, meets_job, meets_rise, met_number, order_in, plan_stage, HasPlannedAll}
+use Rattle.run_plan.proofs.Words.{ℕ, [], ◌∷◌, ◌++◌, refl, sym, ◌∙◌, ap, subst, List, length, map, arith, Meet, setting_of, lawful_hints, puts_in, batch_gets, zero_rows, ranks_lawful, StepPlan, arrived_all, count_begins, free_after, have_done, runners_after, table_long, taken_by, to_hear, meets_job, meets_rise, met_number, order_in, plan_stage, HasPlannedAll}
 use Rattle.run_plan.proofs.CallerLaws.{few_answers}
 use Rattle.run_plan.proofs.CountSteps.{grown, met_counted}
 use Rattle.run_plan.proofs.FollowLaws.{order_more}
@@ -17,23 +17,19 @@ plan_meeting-requires-clause-hints g c = lawful_hints c.args.lent.now.script.now
 
 pub plan_meeting-requires-clause-few : goal.plan_meeting-requires-clause-few
 plan_meeting-requires-clause-few g c =
-    (meets_job c.args.lent.now.script.now c.args.lent.now.header.now _ (order_in c.args.progress.now.steps) c.args.runners.now c.as_slice-batches.result.now c.requires.lawful c.requires.runners c.requires.met
-    c.requires.arrived (c.as_slice-batches.ensures ∙ c.in_ok-job.ensures.batches)).few
+    (meets_job c.requires.lawful c.requires.runners c.requires.met c.requires.arrived (c.as_slice-batches.ensures ∙ c.in_ok-job.ensures.batches)).few
 
 pub plan_meeting-requires-clause-puts : goal.plan_meeting-requires-clause-puts
 plan_meeting-requires-clause-puts g c =
-    (meets_job c.args.lent.now.script.now c.args.lent.now.header.now _ (order_in c.args.progress.now.steps) c.args.runners.now c.as_slice-batches.result.now c.requires.lawful c.requires.runners c.requires.met
-    c.requires.arrived (c.as_slice-batches.ensures ∙ c.in_ok-job.ensures.batches)).puts
+    (meets_job c.requires.lawful c.requires.runners c.requires.met c.requires.arrived (c.as_slice-batches.ensures ∙ c.in_ok-job.ensures.batches)).puts
 
 pub plan_meeting-requires-clause-own : goal.plan_meeting-requires-clause-own
 plan_meeting-requires-clause-own g c =
-    (meets_job c.args.lent.now.script.now c.args.lent.now.header.now _ (order_in c.args.progress.now.steps) c.args.runners.now c.as_slice-batches.result.now c.requires.lawful c.requires.runners c.requires.met
-    c.requires.arrived (c.as_slice-batches.ensures ∙ c.in_ok-job.ensures.batches)).own
+    (meets_job c.requires.lawful c.requires.runners c.requires.met c.requires.arrived (c.as_slice-batches.ensures ∙ c.in_ok-job.ensures.batches)).own
 
 pub plan_meeting-requires-clause-gets : goal.plan_meeting-requires-clause-gets
 plan_meeting-requires-clause-gets g c =
-    (meets_job c.args.lent.now.script.now c.args.lent.now.header.now _ (order_in c.args.progress.now.steps) c.args.runners.now c.as_slice-batches.result.now c.requires.lawful c.requires.runners c.requires.met
-    c.requires.arrived (c.as_slice-batches.ensures ∙ c.in_ok-job.ensures.batches)).gets
+    (meets_job c.requires.lawful c.requires.runners c.requires.met c.requires.arrived (c.as_slice-batches.ensures ∙ c.in_ok-job.ensures.batches)).gets
 
 pub plan_meeting-requires-clause-long : goal.plan_meeting-requires-clause-long
 plan_meeting-requires-clause-long g c = count_begins c.args.lent.now.header.now c.args.progress.now.size c.args.progress.now.records c.requires.records
@@ -41,8 +37,7 @@ plan_meeting-requires-clause-long g c = count_begins c.args.lent.now.header.now 
 pub table_for-requires : goal.table_for-requires
 table_for-requires g c = λ b m.
     batch_gets c.args.lent.now.header.now c.args.progress.now.size c.as_slice-batches.result.now
-    (meets_job c.args.lent.now.script.now c.args.lent.now.header.now _ (order_in c.args.progress.now.steps) c.args.runners.now c.as_slice-batches.result.now c.requires.lawful c.requires.runners c.requires.met
-    c.requires.arrived (c.as_slice-batches.ensures ∙ c.in_ok-job.ensures.batches)).gets b m
+    (meets_job c.requires.lawful c.requires.runners c.requires.met c.requires.arrived (c.as_slice-batches.ensures ∙ c.in_ok-job.ensures.batches)).gets b m
 
 pub hear_all-requires-clause-long : goal.hear_all-requires-clause-long
 hear_all-requires-clause-long g c =
@@ -54,35 +49,32 @@ pub hear_all-requires-clause-fit : goal.hear_all-requires-clause-fit
 hear_all-requires-clause-fit g c =
     let header = c.args.lent.now.header.now in
     let rows = ap (λ t. map (λ blobs. map (λ blob. length blob) blobs) t) c.in_ok-zeros.ensures ∙ zero_rows header c.as_slice-batches.result.now in
-    to_hear c.args.lent.now.script.now header _ (order_in c.args.progress.now.steps) c.args.runners.now c.take_job.new.runners c.as_slice-batches.result.now c.in_ok-zeros.zeros c.requires.runners c.requires.met
-    c.requires.arrived c.in_ok-job.ensures.freed (c.as_slice-batches.ensures ∙ c.in_ok-job.ensures.batches) rows
+    to_hear c.in_ok-zeros.zeros c.requires.runners c.requires.met c.requires.arrived c.in_ok-job.ensures.freed (c.as_slice-batches.ensures ∙ c.in_ok-job.ensures.batches) rows
 
 pub returns-clause-runners : goal.returns-clause-runners
 returns-clause-runners g c =
     let script = c.args.lent.now.script.now in
     let header = c.args.lent.now.header.now in
-    let job = meets_job script header _ (order_in c.args.progress.now.steps) c.args.runners.now c.as_slice-batches.result.now c.requires.lawful c.requires.runners c.requires.met c.requires.arrived
-    (c.as_slice-batches.ensures ∙ c.in_ok-job.ensures.batches) in
+    let job = meets_job c.requires.lawful c.requires.runners c.requires.met c.requires.arrived (c.as_slice-batches.ensures ∙ c.in_ok-job.ensures.batches) in
     let s = setting_of script header in
     let batches = c.as_slice-batches.result.now in
     let order = order_in c.args.progress.now.steps in
     let rows = ap (λ t. map (λ blobs. map (λ blob. length blob) blobs) t) c.in_ok-zeros.ensures ∙ zero_rows header batches in
     let size = c.add.ensures.size ∙ c.in_ok-planned.ensures.size in
-    let rise = meets_rise script header _ order c.args.runners.now c.in_ok-job.known c.requires.runners c.requires.met c.requires.arrived c.in_ok-job.ensures.known in
-    runners_after script header c.args.progress.now.size c.add.new.self.size order (order_in c.add.new.self.steps) c.args.runners.now c.take_job.new.runners c.hear_all.new.runners
-    c.in_ok-planned.planned.file.overlap c.in_ok-planned.planned.records c.in_ok-zeros.zeros c.requires.runners c.requires.met c.requires.arrived c.in_ok-job.ensures.freed c.in_ok-hear_all.ensures.all
+    let rise = meets_rise c.requires.runners c.requires.met c.requires.arrived c.in_ok-job.ensures.known in
+    runners_after c.requires.runners c.requires.met c.requires.arrived c.in_ok-job.ensures.freed c.in_ok-hear_all.ensures.all
     (table_long header c.args.runners.now batches c.in_ok-zeros.zeros c.requires.met (c.as_slice-batches.ensures ∙ c.in_ok-job.ensures.batches) rows)
     (grown c.args.progress.now.size c.add.new.self.size _ size)
     (met_counted s (puts_in batches) c.args.progress.now.size c.add.new.self.size c.args.progress.now.records c.in_ok-job.known c.in_ok-planned.planned.records c.requires.sound
     job.puts c.requires.records rise size c.in_ok-planned.ensures.records)
-    (order_at order (order_in c.add.new.self.steps) c.args.number c.requires.number (order_more c.args.progress.now.steps c.add.new.self.steps _ c.in_ok-add.ensures.steps))
+    (order_more c.args.progress.now.steps c.add.new.self.steps _ c.in_ok-add.ensures.steps ∙ ap (λ (k : ℕ). order ++ Meet k ∷ []) c.requires.number)
 
 pub returns-clause-free : goal.returns-clause-free
 returns-clause-free g c =
     let header = c.args.lent.now.header.now in
     let batches = c.as_slice-batches.result.now in
     let rows = ap (λ t. map (λ blobs. map (λ blob. length blob) blobs) t) c.in_ok-zeros.ensures ∙ zero_rows header batches in
-    free_after c.args.runners.now c.take_job.new.runners c.hear_all.new.runners c.in_ok-planned.planned.file.overlap c.in_ok-planned.planned.records c.in_ok-zeros.zeros c.in_ok-job.ensures.freed c.in_ok-hear_all.ensures.all
+    free_after c.in_ok-job.ensures.freed c.in_ok-hear_all.ensures.all
     (table_long header c.args.runners.now batches c.in_ok-zeros.zeros c.requires.met (c.as_slice-batches.ensures ∙ c.in_ok-job.ensures.batches) rows)
 
 pub returns-clause-meetings : goal.returns-clause-meetings
@@ -94,10 +86,9 @@ pub returns-clause-records : goal.returns-clause-records
 returns-clause-records g c =
     let script = c.args.lent.now.script.now in
     let header = c.args.lent.now.header.now in
-    let job = meets_job script header _ (order_in c.args.progress.now.steps) c.args.runners.now c.as_slice-batches.result.now c.requires.lawful c.requires.runners c.requires.met c.requires.arrived
-    (c.as_slice-batches.ensures ∙ c.in_ok-job.ensures.batches) in
+    let job = meets_job c.requires.lawful c.requires.runners c.requires.met c.requires.arrived (c.as_slice-batches.ensures ∙ c.in_ok-job.ensures.batches) in
     let order = order_in c.args.progress.now.steps in
-    let rise = meets_rise script header _ order c.args.runners.now c.in_ok-job.known c.requires.runners c.requires.met c.requires.arrived c.in_ok-job.ensures.known in
+    let rise = meets_rise c.requires.runners c.requires.met c.requires.arrived c.in_ok-job.ensures.known in
     met_counted (setting_of script header) (puts_in c.as_slice-batches.result.now) c.args.progress.now.size c.add.new.self.size c.args.progress.now.records c.in_ok-job.known c.in_ok-planned.planned.records c.requires.sound
     job.puts c.requires.records rise (c.add.ensures.size ∙ c.in_ok-planned.ensures.size) c.in_ok-planned.ensures.records
 
@@ -105,15 +96,13 @@ pub returns-clause-planned : goal.returns-clause-planned
 returns-clause-planned g c =
     let script = c.args.lent.now.script.now in
     let header = c.args.lent.now.header.now in
-    let job = meets_job script header _ (order_in c.args.progress.now.steps) c.args.runners.now c.as_slice-batches.result.now c.requires.lawful c.requires.runners c.requires.met c.requires.arrived
-    (c.as_slice-batches.ensures ∙ c.in_ok-job.ensures.batches) in
+    let job = meets_job c.requires.lawful c.requires.runners c.requires.met c.requires.arrived (c.as_slice-batches.ensures ∙ c.in_ok-job.ensures.batches) in
     let s = setting_of script header in
     let batches = c.as_slice-batches.result.now in
     let order = order_in c.args.progress.now.steps in
     let file = c.in_ok-planned.planned.file in
     let step : StepPlan = record { mark = Meet c.args.number; callers = c.in_ok-callers.callers; file = file } in
     let rows = ap (λ t. map (λ blobs. map (λ blob. length blob) blobs) t) c.in_ok-zeros.ensures ∙ zero_rows header batches in
-    let long = (ranks_lawful script c.requires.lawful).one_each ∙ sym c.requires.runners.all in
     let same = c.as_slice-batches.ensures ∙ c.in_ok-job.ensures.batches in
     let wide = table_long header c.args.runners.now batches c.in_ok-zeros.zeros c.requires.met same rows in
     subst (λ (steps : List StepPlan). HasPlannedAll script.hints s c.args.progress.now.steps steps
@@ -121,10 +110,8 @@ returns-clause-planned g c =
     (plan_stage c.add.new.self.size c.in_ok-planned.planned.records (arrived_all header script.calls c.hear_all.new.runners))) (sym c.in_ok-add.ensures.steps)
     (meeting_planned script.hints s c.args.progress.now.steps script.calls c.args.runners.now c.hear_all.new.runners batches c.in_ok-job.known c.args.progress.now.records c.in_ok-planned.planned.records c.args.number
     c.args.progress.now.size c.add.new.self.size file.overlap c.in_ok-zeros.zeros step c.requires.sound job.puts
-    (count_begins header c.args.progress.now.size c.args.progress.now.records c.requires.records) long (c.in_ok-hear_all.ensures.all.long ∙ c.in_ok-job.ensures.freed.long) wide c.requires.met
-    (are_done script header _ order c.args.runners.now c.take_job.new.runners c.hear_all.new.runners file.overlap c.in_ok-planned.planned.records c.in_ok-zeros.zeros
-    c.requires.runners c.requires.met c.requires.arrived c.in_ok-job.ensures.freed c.in_ok-hear_all.ensures.all)
-    same c.in_ok-job.ensures.known c.in_ok-planned.ensures.overlap c.in_ok-planned.ensures.records rows refl (c.add.ensures.size ∙ c.in_ok-planned.ensures.size)
+    (count_begins header c.args.progress.now.size c.args.progress.now.records c.requires.records) (taken_by c.requires.lawful c.requires.runners c.requires.met same c.in_ok-job.ensures.known)
+    (have_done c.requires.runners c.requires.met c.requires.arrived c.in_ok-job.ensures.freed c.in_ok-hear_all.ensures.all wide) c.in_ok-planned.ensures.overlap c.in_ok-planned.ensures.records rows refl (c.add.ensures.size ∙ c.in_ok-planned.ensures.size)
     (meet_device script.hints s batches c.args.progress.now.size c.args.progress.now.records c.in_ok-planned.planned.records file c.in_ok-planned.ensures.put_calls c.in_ok-planned.ensures.count_calls
     c.in_ok-planned.ensures.get_calls)
     (record {

@@ -2,7 +2,7 @@
 use Rattle.turn_run.proofs.Words.{◌≡◌, ◌≤◌, ℕ, ◌∙◌, arith, puts_in, setting, on_err}
 use Rattle.turn_run.proofs.CountLaws.{count_begins, count_longer, count_small, count_still, rise_small}
 use Rattle.turn_run.proofs.MeetFile.{met_bytes, met_called, met_count, round_count}
-use Rattle.turn_run.proofs.CutMeet.{round_met_of, count_met_of, met_done_of, count_left, count_kept, count_all}
+use Rattle.turn_run.proofs.CutMeet.{round_met, count_met, met_done_of, count_left, count_kept, count_all}
 use Rattle.turn_run.proofs.meeting.meet_on_file.Goals as goal
 
 no_less : (a b : ℕ) → b ≡ a → a ≤ b
@@ -44,6 +44,18 @@ returns-in_err-table-clause-count g c =
     c.requires.records c.in_ok-end.ensures.grown c.in_ok-end.ensures.long c.in_ok-end.ensures.records in
     met_count s _ _ _ c.put_half.new.records c.raise_records.new.records c.args.known round c.in_ok-end.ensures.grown c.requires.known (c.in_err-table.ensures.len ∙ c.in_ok-raise_records.ensures.len) c.in_ok-raise_records.ensures.records
 
+pub get_half-requires-clause-few : goal.get_half-requires-clause-few
+get_half-requires-clause-few g c κs within = rw c.job.ensures c.requires.job.few
+
+pub get_half-requires-clause-gets : goal.get_half-requires-clause-gets
+get_half-requires-clause-gets g c κs within = rw c.job.ensures (λ p i. let k = c.requires.job.gets p i in record { accepted = k.accepted; there = omega arith })
+
+pub returns-clause-got : goal.returns-clause-got
+returns-clause-got g c = rw (c.in_ok-table.ensures.bytes, ← c.job.ensures) c.in_ok-table.ensures.got
+
+pub returns-clause-fits : goal.returns-clause-fits
+returns-clause-fits g c = rw (← c.job.ensures) c.in_ok-table.ensures.fits
+
 pub returns-clause-bytes : goal.returns-clause-bytes
 returns-clause-bytes g c =
     met_bytes (setting c.args.dataset.now.header.now c.args.dataset.now.hints.now) c.args.job.now.batches c.args.records.now c.put_half.new.records c.args.known _ _ _ _
@@ -52,7 +64,7 @@ returns-clause-bytes g c =
 pub returns-clause-calls : goal.returns-clause-calls
 returns-clause-calls g c one =
     met_called c.args.dataset.now.hints.now (setting c.args.dataset.now.header.now c.args.dataset.now.hints.now) c.args.job.now.batches c.args.records.now c.put_half.new.records c.args.known _ _ _ _ _ _ one
-    c.size-size.ensures.told c.in_ok-end.ensures.calls c.in_ok-end.ensures.records c.in_ok-raise_records.ensures.calls c.in_ok-table.ensures.calls
+    c.size-size.ensures.told c.in_ok-end.ensures.calls c.in_ok-end.ensures.records c.in_ok-raise_records.ensures.calls (rw c.job.ensures at c.in_ok-table.ensures.calls)
 
 pub returns-clause-count : goal.returns-clause-count
 returns-clause-count g c =
@@ -63,16 +75,15 @@ returns-clause-count g c =
 
 pub returns-in_err-end-clause-refused : goal.returns-in_err-end-clause-refused
 returns-in_err-end-clause-refused g c =
-    on_err _ (round_met_of (setting c.args.dataset.now.header.now c.args.dataset.now.hints.now) c.args.job.now.batches c.args.records.now c.args.known (g.D.Disk.held c.args.disk.now) (g.D.Disk.held c.put_half.new.disk)
+    on_err _ (round_met (setting c.args.dataset.now.header.now c.args.dataset.now.hints.now) c.args.job.now.batches c.args.records.now c.args.known (g.D.Disk.held c.args.disk.now) (g.D.Disk.held c.put_half.new.disk)
     c.in_err-end.ensures.refused)
 
 pub returns-in_err-end-clause-kept : goal.returns-in_err-end-clause-kept
-returns-in_err-end-clause-kept g c =
-    on_err _ (count_kept (setting c.args.dataset.now.header.now c.args.dataset.now.hints.now) (puts_in c.args.job.now.batches) c.args.records.now c.put_half.new.records c.args.known c.in_err-end.ensures.kept)
+returns-in_err-end-clause-kept g c = on_err _ (count_kept (setting c.args.dataset.now.header.now c.args.dataset.now.hints.now) (puts_in c.args.job.now.batches) c.args.records.now c.put_half.new.records c.args.known c.in_err-end.ensures.kept)
 
 pub returns-in_err-raise_records-clause-refused : goal.returns-in_err-raise_records-clause-refused
 returns-in_err-raise_records-clause-refused g c =
-    on_err _ (count_met_of (setting c.args.dataset.now.header.now c.args.dataset.now.hints.now) c.args.job.now.batches c.args.records.now c.put_half.new.records c.args.known
+    on_err _ (count_met (setting c.args.dataset.now.header.now c.args.dataset.now.hints.now) c.args.job.now.batches c.args.records.now c.put_half.new.records c.args.known
     (g.D.Disk.held c.args.disk.now) (g.D.Disk.held c.put_half.new.disk) (g.D.Disk.held c.raise_records.new.disk) c.in_ok-end.ensures.bytes c.in_ok-end.ensures.records
     c.in_err-raise_records.ensures.refused)
 
