@@ -28,10 +28,9 @@ use crate::stops::{Senders, stop_arrival, stop_held, stop_rest};
 use collective_round::Dataset;
 use nc_base::{Header, Hints, MarkList, OwnerItem, ServeEnd, StepErr};
 use nc_outside::{Disk, Gate, Told};
-use piece_exchange::Tools;
+use piece_exchange::{Crew, Tools};
 use rank_items::SentItem;
 use ruled_line::{InTake, LinePutList};
-use std::alloc::Global;
 use std::sync::Wait;
 use std::thread::Threads;
 use var_layout::Measures;
@@ -50,9 +49,9 @@ enum Halt {
 /// arrives, a meeting as the last of its offers arrives, and each offer gets one item on the line of its number. After a fault, or
 /// an arrival that no rank of a script makes, nothing more is done, and each offer without a reply gets a stop. `told` is told of each
 /// step before any of its replies is put; want of memory there is that of the step.
-pub fn serve<R: Threads + Wait + Sync, D: Disk, G: Gate, T: Told>(
-    rt: &R,
-    alloc: Global,
+pub fn serve<'s, E, R: Threads + Wait + Sync, D: Disk + 's, G: Gate, T: Told>(
+    tools: &Tools<R, G>,
+    crew: &mut Crew<'s, E, R, G, D>,
     disk: &mut D,
     header: &Header,
     measures: &Measures,
@@ -60,7 +59,6 @@ pub fn serve<R: Threads + Wait + Sync, D: Disk, G: Gate, T: Told>(
     hints: &Hints,
     inbox: &mut InTake<SentItem>,
     back: &mut LinePutList<OwnerItem>,
-    gate: &G,
     told: &mut T,
 ) -> ServeEnd
     requires sound { is_sound header.now ≡ true }
@@ -107,7 +105,6 @@ pub fn serve<R: Threads + Wait + Sync, D: Disk, G: Gate, T: Told>(
     ensures longer { D.len disk.old ≤ D.len disk.new }
     ensures later { D.faults disk.old ≤ D.faults disk.new }
 {
-    let tools = Tools { rt, alloc, gate };
     let dataset = Dataset {
         header,
         measures,
@@ -119,7 +116,7 @@ pub fn serve<R: Threads + Wait + Sync, D: Disk, G: Gate, T: Told>(
         told,
         back,
     };
-    let (order, halt) = serve_to_end(&tools, &dataset, &mut out, inbox);
+    let (order, halt) = serve_to_end(tools, crew, &dataset, &mut out, inbox);
     ServeEnd {
         order,
         fault: fault_of(halt),
@@ -128,8 +125,9 @@ pub fn serve<R: Threads + Wait + Sync, D: Disk, G: Gate, T: Told>(
 }
 
 /// Serves from a owner at which nothing arrived, and then stops what still comes.
-fn serve_to_end<R: Threads + Wait + Sync, D: Disk, G: Gate, T: Told>(
+fn serve_to_end<'s, E, R: Threads + Wait + Sync, D: Disk + 's, G: Gate, T: Told>(
     tools: &Tools<R, G>,
+    crew: &mut Crew<'s, E, R, G, D>,
     dataset: &Dataset,
     out: &mut Outlets<D, T>,
     inbox: &mut InTake<SentItem>,
@@ -147,7 +145,7 @@ fn serve_to_end<R: Threads + Wait + Sync, D: Disk, G: Gate, T: Told>(
     ensures cause { HasHaltCause (D.faults out.old.disk.now) (D.faults out.new.disk.now) result.1 }
 {
     let mut senders = Senders::new();
-    let (order, halt) = open_owner(tools, dataset, out, &mut senders, inbox);
+    let (order, halt) = open_owner(tools, crew, dataset, out, &mut senders, inbox);
     finish(tools.rt, halt, &mut senders, inbox, out.back, tools.gate);
     (order, halt)
 }
@@ -191,8 +189,9 @@ fn stranger_of(halt: Halt) -> Option<u32>
 }
 
 /// Serves from a owner at which nothing arrived.
-fn open_owner<R: Threads + Wait + Sync, D: Disk, G: Gate, T: Told>(
+fn open_owner<'s, E, R: Threads + Wait + Sync, D: Disk + 's, G: Gate, T: Told>(
     tools: &Tools<R, G>,
+    crew: &mut Crew<'s, E, R, G, D>,
     dataset: &Dataset,
     out: &mut Outlets<D, T>,
     senders: &mut Senders,
@@ -215,15 +214,16 @@ fn open_owner<R: Threads + Wait + Sync, D: Disk, G: Gate, T: Told>(
     match Owner::new(tools.alloc, out.back.len(), *out.records) {
         Err(_) => (MarkList::new(tools.alloc), Halt::Fault(StepErr::Memory)),
         Ok(mut owner) => {
-            let halt = serve_all(tools, dataset, out, &mut owner, senders, inbox);
+            let halt = serve_all(tools, crew, dataset, out, &mut owner, senders, inbox);
             (owner.order, halt)
         }
     }
 }
 
 /// Does what arrives until each number has ended, or a fault or a strange arrival. Each offer that is held then has a stop.
-fn serve_all<R: Threads + Wait + Sync, D: Disk, G: Gate, T: Told>(
+fn serve_all<'s, E, R: Threads + Wait + Sync, D: Disk + 's, G: Gate, T: Told>(
     tools: &Tools<R, G>,
+    crew: &mut Crew<'s, E, R, G, D>,
     dataset: &Dataset,
     out: &mut Outlets<D, T>,
     owner: &mut Owner,
@@ -255,7 +255,7 @@ fn serve_all<R: Threads + Wait + Sync, D: Disk, G: Gate, T: Told>(
             stop_arrival(tools.rt, out.back, number, &item);
             return Halt::Stranger(number);
         }
-        let done = owner.arrive(tools, dataset, out, number, item);
+        let done = owner.arrive(tools, crew, dataset, out, number, item);
         if let Err(fault) = done {
             return Halt::Fault(fault);
         }

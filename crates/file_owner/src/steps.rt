@@ -17,10 +17,10 @@ use crate::owner::{Owner, all_hold, take_all};
 use crate::stops::{stop_each, stop_held};
 use collective_round::Dataset;
 use nc_base::{
-    GotTable, Job, Mark, Memory, Offer, OfferKind, OwnerItem, Pair, RankItem, Reply, StepErr,
+    GotTable, Mark, Memory, Offer, OfferKind, OwnerItem, Pair, RankItem, Reply, StepErr,
 };
 use nc_outside::{Disk, Gate, Told};
-use piece_exchange::Tools;
+use piece_exchange::{Crew, SharedJob, Tools};
 use ruled_line::LinePutList;
 use std::alloc::Global;
 use std::sync::Wait;
@@ -37,9 +37,10 @@ pub(crate) struct Solo<'a> {
 
 impl Owner {
     /// Does what an arrival brings that is not strange. After an error each offer that is held, and the one that arrived, has a stop.
-    pub(crate) fn arrive<R: Threads + Wait + Sync, D: Disk, G: Gate, T: Told>(
+    pub(crate) fn arrive<'s, E, R: Threads + Wait + Sync, D: Disk + 's, G: Gate, T: Told>(
         &mut self,
         tools: &Tools<R, G>,
+        crew: &mut Crew<'s, E, R, G, D>,
         dataset: &Dataset,
         out: &mut Outlets<D, T>,
         number: u32,
@@ -86,7 +87,7 @@ impl Owner {
                 OfferKind::Meet(_) => {
                     self.clients[number as usize].hold(offer);
                     if all_hold(&self.clients) {
-                        self.do_together(tools, dataset, out)
+                        self.do_together(tools, crew, dataset, out)
                     } else {
                         Ok(())
                     }
@@ -183,9 +184,10 @@ impl Owner {
     }
 
     /// Does the meeting whose offers are held. After an error each of them has a stop.
-    fn do_together<R: Threads + Wait + Sync, D: Disk, G: Gate, T: Told>(
+    fn do_together<'s, E, R: Threads + Wait + Sync, D: Disk + 's, G: Gate, T: Told>(
         &mut self,
         tools: &Tools<R, G>,
+        crew: &mut Crew<'s, E, R, G, D>,
         dataset: &Dataset,
         out: &mut Outlets<D, T>,
     ) -> Result<(), StepErr>
@@ -207,7 +209,7 @@ impl Owner {
         ensures longer { D.len out.old.disk.now ≤ D.len out.new.disk.now }
         ensures cause { HasStepCause (D.faults out.old.disk.now) (D.faults out.new.disk.now) result }
     {
-        match self.reply_together(tools, dataset, out) {
+        match self.reply_together(tools, crew, dataset, out) {
             Ok(()) => Ok(()),
             Err(fault) => {
                 stop_each(tools.rt, out.back);
@@ -216,8 +218,9 @@ impl Owner {
         }
     }
 
-    /// Takes the offers that are held: their batches, and the count to which a meeting of them raises that of the file.
-    fn take_job(&mut self, alloc: Global) -> Result<(Job, u64), Memory>
+    /// Takes the offers that are held: their batches, to be shared with helpers, and the count to which a meeting of them raises that of
+    /// the file.
+    fn take_job(&mut self, alloc: Global) -> Result<(SharedJob, u64), Memory>
         ensures batches { IfOk result (λ taken. taken.0.batches ≡ batches_of (offers_held self.old.clients.items)) }
         ensures known { IfOk result (λ taken. taken.1 ≡ known_of (offers_held self.old.clients.items)) }
         ensures freed { OnOk result (self.new.clients.items ≡ map freed self.old.clients.items) }
@@ -225,13 +228,15 @@ impl Owner {
         ensures reached { self.new.reached ≡ self.old.reached }
         ensures order { self.new.order ≡ self.old.order }
     {
-        take_all(alloc, &mut self.clients)
+        let (job, known) = take_all(alloc, &mut self.clients)?;
+        Ok((SharedJob::new(alloc, job)?, known))
     }
 
     /// Does the meeting whose offers are held, and puts their replies.
-    fn reply_together<R: Threads + Wait + Sync, D: Disk, G: Gate, T: Told>(
+    fn reply_together<'s, E, R: Threads + Wait + Sync, D: Disk + 's, G: Gate, T: Told>(
         &mut self,
         tools: &Tools<R, G>,
+        crew: &mut Crew<'s, E, R, G, D>,
         dataset: &Dataset,
         out: &mut Outlets<D, T>,
     ) -> Result<(), StepErr>
@@ -255,7 +260,7 @@ impl Owner {
     {
         let Tools { rt, alloc, gate: _ } = *tools;
         let (job, known) = self.take_job(alloc)?;
-        let (pair, table) = meet_on_file(tools, out.disk, dataset, out.records, &job, known)?;
+        let (pair, table) = meet_on_file(tools, crew, out.disk, dataset, out.records, &job, known)?;
         let met = next_number(self.met)?;
         let mark = Mark::Meet(self.met);
         let records = *out.records;

@@ -7,6 +7,6 @@ use Rattle.rank_core.specs.Indexed.{IsIndexOf}
 use Rattle.thread_run.specs.declared.lent.Lent.{Lent}
 
 pub record IsRunnable {R G : Type 0} (lent : Lent R G) : Type 0 where
-  pub sound : is_sound lent.header.now ≡ true
-  pub lawful : is_lawful lent.script.now ≡ true
-  pub names : IsIndexOf lent.header.now lent.names.now
+  pub sound : is_sound lent.run.now.header.now ≡ true
+  pub lawful : is_lawful lent.run.now.script.now ≡ true
+  pub names : IsIndexOf lent.run.now.header.now lent.names.now

@@ -1,15 +1,19 @@
 // What a run lends to its threads.
 use nc_base::{Header, Script};
+use piece_exchange::Tools;
 use rank_core::Names;
-use std::alloc::Global;
 
-/// What a run lends to each of its threads.
+/// A run: a script, the header of the dataset that it runs on, and what it is done with.
+#[derive(Drop)]
+pub(crate) struct Run<'a, R, G> {
+    pub tools: &'a Tools<'a, R, G>,
+    pub header: &'a Header,
+    pub script: &'a Script,
+}
+
+/// What a run lends to each of its ranks' threads.
 #[derive(Drop)]
 pub(crate) struct Lent<'a, R, G> {
-    pub rt: &'a R,
-    pub alloc: Global,
-    pub gate: &'a G,
-    pub header: &'a Header,
+    pub run: &'a Run<'a, R, G>,
     pub names: &'a Names,
-    pub script: &'a Script,
 }

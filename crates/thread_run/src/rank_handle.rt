@@ -6,10 +6,11 @@ ghost use Rattle.serial_spec.specs.Lawful.{is_lawful};
 ghost use Rattle.thread_run.specs.Lent.{IsRunnable};
 ghost use Rattle.thread_run.specs.RankHandle.{HasReturned, IsFresh, IsOf, IsRankHandle};
 
-use crate::lent::Lent;
+use crate::lent::{Lent, Run};
 use crate::rank_side::attend;
 use nc_base::{Header, OwnerItem, RankEnd, Script};
 use nc_outside::Gate;
+use piece_exchange::Tools;
 use rank_items::SentItem;
 use ruled_line::{InPut, LinePut, LineTake, line};
 use std::snapshot::Snapshot;
@@ -60,18 +61,18 @@ pub(crate) struct RankHandle {
 /// Starts a rank's thread, and makes the line of what goes back to it. None where it can't be started.
 pub(crate) fn start<'s, E, G: Gate, R: Threads + Wait + Sync>(
     scope: &'s Scope<'s, E>,
-    lent: &'s Lent<'s, R, G>,
+    lent: &Lent<'s, R, G>,
     out: InPut<SentItem>,
 ) -> Option<(RankHandle, LinePut<OwnerItem>)>
     requires runnable { IsRunnable lent.now }
-    requires number { out.number < lent.now.script.now.ranks }
+    requires number { out.number < lent.now.run.now.script.now.ranks }
     requires put { out.items ≡ [] }
-    ensures of { IfSome result (λ pair. IsOf lent.now.header.now lent.now.script.now pair.0) }
+    ensures of { IfSome result (λ pair. IsOf lent.now.run.now.header.now lent.now.run.now.script.now pair.0) }
     ensures handle { IfSome result (λ pair. IsRankHandle out.of out.number [] pair.0 pair.1) }
     ensures empty { IfSome result (λ pair. pair.1.items ≡ []) }
 {
-    let (go, word) = line::<Word>(lent.alloc, 1).ok()?;
-    let (put, back) = line::<OwnerItem>(lent.alloc, 1).ok()?;
+    let (go, word) = line::<Word>(lent.run.tools.alloc, 1).ok()?;
+    let (put, back) = line::<OwnerItem>(lent.run.tools.alloc, 1).ok()?;
     let ends = Ends { word, out, back };
     let child = spawn(scope, lent, ends)?;
     Some((RankHandle { word: go, child }, put))
@@ -80,40 +81,27 @@ pub(crate) fn start<'s, E, G: Gate, R: Threads + Wait + Sync>(
 /// Starts a rank's thread with these ends.
 fn spawn<'s, E, G: Gate, R: Threads + Wait + Sync>(
     scope: &'s Scope<'s, E>,
-    lent: &'s Lent<'s, R, G>,
+    lent: &Lent<'s, R, G>,
     ends: Ends,
 ) -> Option<PromisedHandle<Returned, Part>>
     requires runnable { IsRunnable lent.now }
-    requires number { ends.out.number < lent.now.script.now.ranks }
+    requires number { ends.out.number < lent.now.run.now.script.now.ranks }
     requires fresh { IsFresh ends }
-    ensures header { IfSome result (λ child. child.promise.header.value ≡ lent.now.header.now) }
-    ensures script { IfSome result (λ child. child.promise.script.value ≡ lent.now.script.now) }
+    ensures header { IfSome result (λ child. child.promise.header.value ≡ lent.now.run.now.header.now) }
+    ensures script { IfSome result (λ child. child.promise.script.value ≡ lent.now.run.now.script.now) }
     ensures ends { IfSome result (λ child. child.promise.ends.value ≡ ends) }
 {
+    let Lent { run, names } = *lent;
     let part = Part {
-        header: Snapshot::of(lent.header),
-        script: Snapshot::of(lent.script),
+        header: Snapshot::of(run.header),
+        script: Snapshot::of(run.script),
         ends: Snapshot::of(&ends),
     };
-    let Lent {
-        rt,
-        alloc,
-        gate,
-        header,
-        names,
-        script,
-    } = *lent;
     let work = move || -> Returned
-        requires { (is_sound header.now ≡ true) × (is_lawful script.now ≡ true) × IsIndexOf header.now names.now × (ends.out.number < script.now.ranks) × IsFresh ends }
+        requires { (is_sound run.now.header.now ≡ true) × (is_lawful run.now.script.now ≡ true) × IsIndexOf run.now.header.now names.now
+            × (ends.out.number < run.now.script.now.ranks) × IsFresh ends }
     {
-        let lent = Lent {
-            rt,
-            alloc,
-            gate,
-            header,
-            names,
-            script,
-        };
+        let lent = Lent { run, names };
         take_part(&lent, ends)
     };
     scope.spawn_with(part, work).ok()
@@ -122,23 +110,22 @@ fn spawn<'s, E, G: Gate, R: Threads + Wait + Sync>(
 /// What a rank's thread runs.
 fn take_part<R: Wait, G: Gate>(lent: &Lent<R, G>, ends: Ends) -> Returned
     requires runnable { IsRunnable lent.now }
-    requires number { ends.out.number < lent.now.script.now.ranks }
+    requires number { ends.out.number < lent.now.run.now.script.now.ranks }
     requires fresh { IsFresh ends }
-    ensures { HasReturned lent.now.header.now lent.now.script.now ends result }
+    ensures { HasReturned lent.now.run.now.header.now lent.now.run.now.script.now ends result }
 {
     let Ends {
         mut word,
         mut out,
         mut back,
     } = ends;
-    let Lent {
-        rt,
-        alloc,
-        gate,
+    let Lent { run, names } = *lent;
+    let Run {
+        tools,
         header,
-        names,
         script,
-    } = *lent;
+    } = *run;
+    let Tools { rt, alloc, gate } = *tools;
     let end = match word.take(rt) {
         Word::Go => Some(attend(rt, alloc, header, names, script, &mut out, &mut back, gate)),
         Word::Stop => None,

@@ -12,18 +12,19 @@ ghost use Rattle.nc_base.specs.declared.step.RankItem.{RankItem};
 ghost use Rattle.ruled_line.specs.Ends.{End, Line};
 ghost use Rattle.turn_run.specs.Run.{RunsOn};
 ghost use Rattle.turn_run.specs.Told.{HasTold};
+ghost use Rattle.rank_core.specs.Indexed.{IsIndexOf};
 ghost use Rattle.thread_run.specs.Lent.{IsRunnable};
 ghost use Rattle.thread_run.specs.RankHandle.{AreOf, AreRankHandles, IsToldToGo};
-ghost use Rattle.thread_run.specs.Threads.{HasRooms};
+ghost use Rattle.thread_run.specs.Threads.{HasRooms, HaveStarted};
 ghost use Rattle.thread_run.specs.declared.rank_handle.RankHandle.{RankHandle};
 
-use crate::lent::Lent;
+use crate::lent::{Lent, Run};
 use crate::rank_handle::{RankHandle, Word, start};
 use crate::returned::join_all;
 use file_owner::serve;
 use nc_base::{Header, Memory, OwnerItem, RankEnd, RunEnd, Script};
 use nc_outside::{Deaf, Disk, Gate, Told};
-use piece_exchange::Tools;
+use piece_exchange::{Crew, Tools};
 use rank_core::Names;
 use rank_items::SentItem;
 use ruled_line::{InPut, InTake, LinePut, LinePutList, inbox};
@@ -32,6 +33,7 @@ use std::sync::Wait;
 use std::thread;
 use std::thread::{Scope, Threads};
 use turn_run::{end_run, run_in_turn_told};
+use var_layout::Measures;
 
 /// Runs the ranks of a script, each on a thread of its own, whose offers this thread takes as they come. Where the threads are off, or
 /// one can't be started, the ranks run in turn, and so does a rank that is alone: there is nobody to run beside.
@@ -76,14 +78,24 @@ pub fn run_ranks_told<R: Threads + Wait + Sync, D: Disk, G: Gate, T: Told>(
     ensures run { RunsOn D.Disk script.now header.now disk.old disk.new records.new result }
     ensures told { HasTold script.now header.now (D.held disk.old) (T.heard told.old) (T.heard told.new) result.order }
 {
-    if !script.hints.threads || script.ranks < 2 {
-        return run_in_turn_told(rt, alloc, disk, header, records, script, gate, told);
-    }
     let tools = Tools { rt, alloc, gate };
-    match run_on_threads(&tools, disk, header, records, script, told) {
-        Some(end) => end,
-        None => run_in_turn_told(rt, alloc, disk, header, records, script, gate, told),
+    let names = names_on_threads(alloc, header, script);
+    let run = Run {
+        tools: &tools,
+        header,
+        script,
+    };
+    run_scoped(&run, names.as_ref(), disk, records, told)
+}
+
+/// The names by which the ranks' threads go. None where the ranks run in turn, or there is no memory for them.
+fn names_on_threads(alloc: Global, header: &Header, script: &Script) -> Option<Names>
+    ensures { IfSome result (IsIndexOf header.now) }
+{
+    if !script.hints.threads || script.ranks < 2 {
+        return None;
     }
+    Names::new(alloc, header).ok()
 }
 
 /// Lists that are made before any thread is started, and the ends of the inbox.
@@ -98,72 +110,38 @@ pub(crate) struct Rooms {
 
 /// The threads of a run that were all started, and this thread's ends of their lines.
 #[derive(Drop)]
-pub(crate) struct StartedRanks {
+pub(crate) struct StartedRanks<'a> {
+    pub measures: &'a Measures,
     pub inbox: InTake<SentItem>,
     pub ones: Vec<RankHandle>,
     pub lines: Vec<LinePut<OwnerItem>>,
     pub ends: Vec<RankEnd>,
 }
 
-/// What a scope of threads gives back: what was lent to it, and the end of the run, if all threads were started.
+/// What a scope of threads gives back: what was lent to it, and the end of the run.
 pub(crate) struct Scoped<'d, 't, D, T> {
     pub disk: &'d mut D,
     pub records: u64,
     pub told: &'t mut T,
-    pub end: Option<RunEnd>,
-}
-
-/// The run on threads. None where one can't be started: then nothing was done.
-fn run_on_threads<R: Threads + Wait + Sync, D: Disk, G: Gate, T: Told>(
-    tools: &Tools<R, G>,
-    disk: &mut D,
-    header: &Header,
-    records: &mut u64,
-    script: &Script,
-    told: &mut T,
-) -> Option<RunEnd>
-    requires sound { is_sound header.now ≡ true }
-    requires lawful { is_lawful script.now ≡ true }
-    requires records { records.old ≡ header.now.records }
-    requires from { D.from disk.old ≡ 0 }
-    requires long { end_of header.now (header_len header.now) header.now.records ≤ D.len disk.old }
-    ensures run { IfSome result (RunsOn D.Disk script.now header.now disk.old disk.new records.new) }
-    ensures told { IfSome result (λ end. HasTold script.now header.now (D.held disk.old) (T.heard told.old) (T.heard told.new) end.order) }
-    ensures kept { result ≡ None → (disk.new ≡ disk.old) × (records.new ≡ records.old) × (told.new ≡ told.old) }
-{
-    let Ok(names) = Names::new(tools.alloc, header) else {
-        return None;
-    };
-    let Ok(rooms) = make_rooms(tools.alloc, script.ranks) else {
-        return None;
-    };
-    let lent = Lent {
-        rt: tools.rt,
-        alloc: tools.alloc,
-        gate: tools.gate,
-        header,
-        names: &names,
-        script,
-    };
-    run_scoped(&lent, disk, records, told, rooms)
+    pub end: RunEnd,
 }
 
 /// The run in a scope of threads.
 fn run_scoped<R: Threads + Wait + Sync, D: Disk, G: Gate, T: Told>(
-    lent: &Lent<R, G>,
+    run: &Run<R, G>,
+    names: Option<&Names>,
     disk: &mut D,
     records: &mut u64,
     told: &mut T,
-    rooms: Rooms,
-) -> Option<RunEnd>
-    requires runnable { IsRunnable lent.now }
-    requires records { records.old ≡ lent.now.header.now.records }
+) -> RunEnd
+    requires sound { is_sound run.now.header.now ≡ true }
+    requires lawful { is_lawful run.now.script.now ≡ true }
+    requires names { IfSome names (λ names. IsIndexOf run.now.header.now names.now) }
+    requires records { records.old ≡ run.now.header.now.records }
     requires from { D.from disk.old ≡ 0 }
-    requires long { end_of lent.now.header.now (header_len lent.now.header.now) lent.now.header.now.records ≤ D.len disk.old }
-    requires rooms { HasRooms lent.now.script.now.ranks rooms }
-    ensures run { IfSome result (RunsOn D.Disk lent.now.script.now lent.now.header.now disk.old disk.new records.new) }
-    ensures told { IfSome result (λ end. HasTold lent.now.script.now lent.now.header.now (D.held disk.old) (T.heard told.old) (T.heard told.new) end.order) }
-    ensures kept { result ≡ None → (disk.new ≡ disk.old) × (records.new ≡ records.old) × (told.new ≡ told.old) }
+    requires long { end_of run.now.header.now (header_len run.now.header.now) run.now.header.now.records ≤ D.len disk.old }
+    ensures run { RunsOn D.Disk run.now.script.now run.now.header.now disk.old disk.new records.new result }
+    ensures told { HasTold run.now.script.now run.now.header.now (D.held disk.old) (T.heard told.old) (T.heard told.new) result.order }
 {
     let count = *records;
     let Scoped {
@@ -173,16 +151,16 @@ fn run_scoped<R: Threads + Wait + Sync, D: Disk, G: Gate, T: Told>(
         end,
     } = thread::scope(
         thread::scope_env(),
-        lent.rt,
+        run.tools.rt,
         |scope| -> Scoped<D, T>
-            requires { IsRunnable lent.now × (count ≡ lent.now.header.now.records) × (D.from disk.now ≡ 0)
-                × (end_of lent.now.header.now (header_len lent.now.header.now) lent.now.header.now.records ≤ D.len disk.now) × HasRooms lent.now.script.now.ranks rooms }
-            ensures run { IfSome result.end (RunsOn D.Disk lent.entry.now.script.now lent.entry.now.header.now disk.entry.now result.disk.now result.records) }
-            ensures told { IfSome result.end (λ end. HasTold lent.entry.now.script.now lent.entry.now.header.now (D.held disk.entry.now) (T.heard told.entry.now) (T.heard result.told.now) end.order) }
-            ensures kept { result.end ≡ None → (result.disk.now ≡ disk.entry.now) × (result.records ≡ count) × (result.told.now ≡ told.entry.now) }
+            requires { (is_sound run.now.header.now ≡ true) × (is_lawful run.now.script.now ≡ true) × IfSome names (λ names. IsIndexOf run.now.header.now names.now)
+                × (count ≡ run.now.header.now.records) × (D.from disk.now ≡ 0)
+                × (end_of run.now.header.now (header_len run.now.header.now) run.now.header.now.records ≤ D.len disk.now) }
+            ensures run { RunsOn D.Disk run.entry.now.script.now run.entry.now.header.now disk.entry.now result.disk.now result.records result.end }
+            ensures told { HasTold run.entry.now.script.now run.entry.now.header.now (D.held disk.entry.now) (T.heard told.entry.now) (T.heard result.told.now) result.end.order }
             ensures same_disk { result.disk.ghost_name ≡ disk.entry.ghost_name }
             ensures same_told { result.told.ghost_name ≡ told.entry.ghost_name }
-        { run_in_scope(scope, lent, disk, count, told, rooms) },
+        { run_in_scope(scope, run, names, disk, count, told) },
     );
     take_back(back);
     take_back(ear);
@@ -211,74 +189,96 @@ fn make_rooms(alloc: Global, ranks: u32) -> Result<Rooms, Memory>
     })
 }
 
-/// Starts a thread for each rank, and does the run where all were started. Else those that were started are told to stop.
-fn run_in_scope<'s, 'd, 't, E, R: Threads + Wait + Sync, D: Disk, G: Gate, T: Told>(
+/// Runs the ranks on threads where all of them can be started, and else in turn. The helpers of the run end with this call.
+fn run_in_scope<'s, 'd, 't, E, R: Threads + Wait + Sync, D: Disk + 's, G: Gate, T: Told>(
     scope: &'s Scope<'s, E>,
-    lent: &'s Lent<'s, R, G>,
+    run: &'s Run<'s, R, G>,
+    names: Option<&'s Names>,
     disk: &'d mut D,
     records: u64,
     told: &'t mut T,
-    rooms: Rooms,
 ) -> Scoped<'d, 't, D, T>
-    requires runnable { IsRunnable lent.now }
-    requires records { records ≡ lent.now.header.now.records }
+    requires sound { is_sound run.now.header.now ≡ true }
+    requires lawful { is_lawful run.now.script.now ≡ true }
+    requires names { IfSome names (λ names. IsIndexOf run.now.header.now names.now) }
+    requires records { records ≡ run.now.header.now.records }
     requires from { D.from disk.old ≡ 0 }
-    requires long { end_of lent.now.header.now (header_len lent.now.header.now) lent.now.header.now.records ≤ D.len disk.old }
-    requires rooms { HasRooms lent.now.script.now.ranks rooms }
-    ensures run { IfSome result.end (RunsOn D.Disk lent.now.script.now lent.now.header.now disk.old result.disk.now result.records) }
-    ensures told { IfSome result.end (λ end. HasTold lent.now.script.now lent.now.header.now (D.held disk.old) (T.heard told.old) (T.heard result.told.now) end.order) }
-    ensures kept { result.end ≡ None → (result.disk.now ≡ disk.old) × (result.records ≡ records) × (result.told.now ≡ told.old) }
+    requires long { end_of run.now.header.now (header_len run.now.header.now) run.now.header.now.records ≤ D.len disk.old }
+    ensures run { RunsOn D.Disk run.now.script.now run.now.header.now disk.old result.disk.now result.records result.end }
+    ensures told { HasTold run.now.script.now run.now.header.now (D.held disk.old) (T.heard told.old) (T.heard result.told.now) result.end.order }
     ensures same_disk { result.disk.ghost_name ≡ disk.entry.ghost_name }
     ensures same_told { result.told.ghost_name ≡ told.entry.ghost_name }
 {
+    let mut crew = Crew::new(Some(scope), run.tools);
+    let mut records = records;
+    let end = match start_ranks(scope, run, names) {
+        Some(started) => run_started(run, &mut crew, disk, &mut records, told, started),
+        None => {
+            let Run {
+                tools,
+                header,
+                script,
+            } = *run;
+            run_in_turn_told(tools, &mut crew, disk, header, &mut records, script, told)
+        }
+    };
+    Scoped {
+        disk,
+        records,
+        told,
+        end,
+    }
+}
+
+/// Starts a thread for each rank. None where one can't be started: those that were started are told to stop.
+fn start_ranks<'s, E, R: Threads + Wait + Sync, G: Gate>(
+    scope: &'s Scope<'s, E>,
+    run: &'s Run<'s, R, G>,
+    names: Option<&'s Names>,
+) -> Option<StartedRanks<'s>>
+    requires sound { is_sound run.now.header.now ≡ true }
+    requires lawful { is_lawful run.now.script.now ≡ true }
+    requires names { IfSome names (λ names. IsIndexOf run.now.header.now names.now) }
+    ensures { IfSome result (HaveStarted run.now.header.now run.now.script.now) }
+{
+    let names = names?;
     let Rooms {
         senders,
         inbox,
         mut ones,
         mut lines,
         ends,
-    } = rooms;
-    if !start_all(scope, lent, senders, &mut ones, &mut lines) {
-        stop_all(lent.rt, ones);
-        return Scoped {
-            disk,
-            records,
-            told,
-            end: None,
-        };
+    } = make_rooms(run.tools.alloc, run.script.ranks).ok()?;
+    let lent = Lent { run, names };
+    if !start_all(scope, &lent, senders, &mut ones, &mut lines) {
+        stop_all(run.tools.rt, ones);
+        return None;
     }
-    let started = StartedRanks {
+    Some(StartedRanks {
+        measures: names.measures(run.header),
         inbox,
         ones,
         lines,
         ends,
-    };
-    let mut records = records;
-    let end = run_started(lent, disk, &mut records, told, started);
-    Scoped {
-        disk,
-        records,
-        told,
-        end: Some(end),
-    }
+    })
 }
 
 /// Starts a thread for each sender of the inbox, until one can't be started. Tells whether all were.
 fn start_all<'s, E, R: Threads + Wait + Sync, G: Gate>(
     scope: &'s Scope<'s, E>,
-    lent: &'s Lent<'s, R, G>,
+    lent: &Lent<'s, R, G>,
     senders: Vec<InPut<SentItem>>,
     ones: &mut Vec<RankHandle>,
     lines: &mut Vec<LinePut<OwnerItem>>,
 ) -> bool
     requires runnable { IsRunnable lent.now }
-    requires numbers { map (λ s. s.number) senders.items ≡ range_with_len 0 lent.now.script.now.ranks }
+    requires numbers { map (λ s. s.number) senders.items ≡ range_with_len 0 lent.now.run.now.script.now.ranks }
     requires put { All (λ s. s.items ≡ []) senders.items }
     requires ones { ones.old.items ≡ [] }
     requires lines { lines.old.items ≡ [] }
     requires ones_room { length senders.items ≤ vec_capacity ones.old }
     requires lines_room { length senders.items ≤ vec_capacity lines.old }
-    ensures of { AreOf lent.now.header.now lent.now.script.now ones.new.items }
+    ensures of { AreOf lent.now.run.now.header.now lent.now.run.now.script.now ones.new.items }
     ensures handles { (inbox : Line (ℕ × RankItem)) → All (λ s. s.of ≡ inbox) senders.items → AreRankHandles inbox [] ones.new.items lines.new.items }
     ensures empty { All (λ line. line.items ≡ []) lines.new.items }
     ensures all { result ≡ true → length ones.new.items ≡ length senders.items }
@@ -318,47 +318,49 @@ fn tell_all<R: Wait>(rt: &R, ones: &mut [RankHandle])
 }
 
 /// Lets the threads go, serves them, and ends the run by what they came to.
-fn run_started<R: Threads + Wait + Sync, D: Disk, G: Gate, T: Told>(
-    lent: &Lent<R, G>,
+fn run_started<'s, E, R: Threads + Wait + Sync, D: Disk + 's, G: Gate, T: Told>(
+    run: &Run<R, G>,
+    crew: &mut Crew<'s, E, R, G, D>,
     disk: &mut D,
     records: &mut u64,
     told: &mut T,
     started: StartedRanks,
 ) -> RunEnd
-    requires runnable { IsRunnable lent.now }
-    requires records { records.old ≡ lent.now.header.now.records }
+    requires sound { is_sound run.now.header.now ≡ true }
+    requires lawful { is_lawful run.now.script.now ≡ true }
+    requires records { records.old ≡ run.now.header.now.records }
     requires from { D.from disk.old ≡ 0 }
-    requires long { end_of lent.now.header.now (header_len lent.now.header.now) lent.now.header.now.records ≤ D.len disk.old }
-    requires of { AreOf lent.now.header.now lent.now.script.now started.ones.items }
-    requires handles { AreRankHandles started.inbox.of [] started.ones.items started.lines.items }
-    requires all { length started.ones.items ≡ lent.now.script.now.ranks }
-    requires empty { All (λ line. line.items ≡ []) started.lines.items }
-    requires taken { started.inbox.items ≡ [] }
-    requires senders { started.inbox.senders ≡ lent.now.script.now.ranks }
-    requires none { started.ends.items ≡ [] }
-    requires room { lent.now.script.now.ranks ≤ vec_capacity started.ends }
-    ensures run { RunsOn D.Disk lent.now.script.now lent.now.header.now disk.old disk.new records.new result }
-    ensures told { HasTold lent.now.script.now lent.now.header.now (D.held disk.old) (T.heard told.old) (T.heard told.new) result.order }
+    requires long { end_of run.now.header.now (header_len run.now.header.now) run.now.header.now.records ≤ D.len disk.old }
+    requires started { HaveStarted run.now.header.now run.now.script.now started }
+    ensures run { RunsOn D.Disk run.now.script.now run.now.header.now disk.old disk.new records.new result }
+    ensures told { HasTold run.now.script.now run.now.header.now (D.held disk.old) (T.heard told.old) (T.heard told.new) result.order }
 {
-    let Lent {
-        rt,
-        alloc,
+    let Run {
+        tools,
         header,
-        ..
-    } = *lent;
-    let measures = lent.names.measures(header);
-    let hints = &lent.script.hints;
+        script,
+    } = *run;
     let StartedRanks {
+        measures,
         mut inbox,
         mut ones,
         lines,
         mut ends,
     } = started;
     let mut back = LinePutList::from_vec(lines);
-    tell_all(rt, &mut ones);
+    tell_all(tools.rt, &mut ones);
     let served = serve(
-        rt, alloc, disk, header, measures, records, hints, &mut inbox, &mut back, lent.gate, told,
+        tools,
+        crew,
+        disk,
+        header,
+        measures,
+        records,
+        &script.hints,
+        &mut inbox,
+        &mut back,
+        told,
     );
-    join_all(rt, ones, back.into_vec(), inbox, &mut ends);
-    end_run(alloc, disk, header, records, served, ends)
+    join_all(tools.rt, ones, back.into_vec(), inbox, &mut ends);
+    end_run(tools.alloc, disk, header, records, served, ends)
 }

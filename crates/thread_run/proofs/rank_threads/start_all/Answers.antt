@@ -6,8 +6,8 @@ use Rattle.thread_run.proofs.rank_threads.start_all.Goals as goal
 pub start-requires-clause-number : goal.start-requires-clause-number
 start-requires-clause-number g c κs within =
     let middle = ap (λ v. c.loop-out.yielded ++ v) (sym c.in-Some.ensures.steps.0) ∙ c.loop-out.invariant.all in
-    let number = number_middle (λ s. s.number) c.loop-out.yielded c.in-Some.out _ c.args.senders.items c.args.lent.now.script.now.ranks middle c.requires.numbers in
-    subst (λ (n : ℕ). n < c.args.lent.now.script.now.ranks) (sym number.0) number.1
+    let number = number_middle (λ s. s.number) c.loop-out.yielded c.in-Some.out _ c.args.senders.items c.args.lent.now.run.now.script.now.ranks middle c.requires.numbers in
+    subst (λ (n : ℕ). n < c.args.lent.now.run.now.script.now.ranks) (sym number.0) number.1
 
 pub start-requires-clause-put : goal.start-requires-clause-put
 start-requires-clause-put g c κs within =
@@ -17,12 +17,12 @@ start-requires-clause-put g c κs within =
 pub loop-out-preserved : goal.loop-out-preserved
 loop-out-preserved g c =
     let middle = ap (λ v. c.loop-out.yielded ++ v) (sym c.in-Some.ensures.steps.0) ∙ c.loop-out.invariant.all in
-    let number = number_middle (λ s. s.number) c.loop-out.yielded c.in-Some.out _ c.args.senders.items c.args.lent.now.script.now.ranks middle c.requires.numbers in
+    let number = number_middle (λ s. s.number) c.loop-out.yielded c.in-Some.out _ c.args.senders.items c.args.lent.now.run.now.script.now.ranks middle c.requires.numbers in
     record {
       all = snoc_append c.loop-out.yielded c.in-Some.out _ ∙ middle;
       long = both_long c.loop-out.ones.items _ c.in-Some-start.one c.loop-out.yielded c.in-Some.out c.push_reserved.ensures.items c.loop-out.invariant.long;
       as_long = both_long c.loop-out.lines.items _ c.in-Some-start.line c.loop-out.yielded c.in-Some.out c.push_reserved-in-Some-start.ensures.items c.loop-out.invariant.as_long;
-      of = of_push c.args.lent.now.header.now c.args.lent.now.script.now c.loop-out.ones.items _ c.in-Some-start.one c.push_reserved.ensures.items c.loop-out.invariant.of c.in-Some-start.ensures.of;
+      of = of_push c.args.lent.now.run.now.header.now c.args.lent.now.run.now.script.now c.loop-out.ones.items _ c.in-Some-start.one c.push_reserved.ensures.items c.loop-out.invariant.of c.in-Some-start.ensures.of;
       handles = λ inbox every.
           handles_push inbox [] c.loop-out.ones.items _ c.loop-out.lines.items _ c.in-Some-start.one c.in-Some-start.line c.push_reserved.ensures.items c.push_reserved-in-Some-start.ensures.items
           (c.loop-out.invariant.handles inbox every)

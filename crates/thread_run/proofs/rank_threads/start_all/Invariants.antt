@@ -7,7 +7,7 @@ invariant-loop-out g l = record {
   all : l.yielded ++ l.out-iterator.rest.items ≡ l.fn.senders.items;
   long : length l.ones.items ≡ length l.yielded;
   as_long : length l.lines.items ≡ length l.yielded;
-  of : AreOf l.lent.header.now l.lent.script.now l.ones.items;
+  of : AreOf l.lent.run.now.header.now l.lent.run.now.script.now l.ones.items;
   handles : (inbox : Line (ℕ × RankItem)) → All (λ s. s.of ≡ inbox) l.fn.senders.items → AreRankHandles inbox [] l.ones.items l.lines.items;
   empty : All (λ line. line.items ≡ []) l.lines.items;
   ones_room : vec_capacity l.ones ≡ vec_capacity l.initial.ones;
