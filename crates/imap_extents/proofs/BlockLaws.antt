@@ -1,5 +1,5 @@
 -- Lists that are made a block at a time.
-use Rattle.imap_extents.proofs.Words.{◌≡◌, ℕ, ◌+◌, ◌<◌, refl, ◌∙◌, ap, sym, arith, List, [], ◌∷◌, ◌++◌, length, map, take, set, append_assoc, flat_map, range_with_len, take_more_set, flat_map-append, flat_map-map, map-range_with_len_more, range_append}
+use Rattle.imap_extents.proofs.Cited.{◌≡◌, ℕ, ◌+◌, ◌<◌, refl, ◌∙◌, ap, sym, arith, List, [], ◌∷◌, ◌++◌, length, map, take, set, append_assoc, flat_map, range_with_len, take_more_set, flat_map-append, flat_map-map, map-range_with_len_more, range_append}
 
 -- one element more is written
 pub written_more : {X : Type 0} (f : ℕ → X) (s i : ℕ) (xs : List X) (y : X) → i < length xs → take i xs ≡ map f (range_with_len s i) → y ≡ f (s + i)

@@ -1,5 +1,5 @@
 -- Whether values of equal steps are in a type's range is seen at their ends.
-use Rattle.imap_extents.proofs.Words.{◌≡◌, ℕ, zero, suc, ◌+◌, ◌*◌, ◌^◌, ◌<◌, ◌≤◌, refl, ◌∙◌, ap, map, ◌||◌, Bool, true, false, not, arith, pos, negsuc, ◌≤ℤ◌, ◌+ℤ◌, ◌*ℤ◌, ◌%◌, list_any, range_with_len, not-false, not_from_true, nat_tests, ints, neg_ℤ, mul-le-mul_left, NcType, Value, Class, Signed, Unsigned, Pattern, class_of, size_of, fits_in, fits}
+use Rattle.imap_extents.proofs.Cited.{◌≡◌, ℕ, zero, suc, ◌+◌, ◌*◌, ◌^◌, ◌<◌, ◌≤◌, refl, ◌∙◌, ap, map, ◌||◌, Bool, true, false, not, arith, pos, negsuc, ◌≤ℤ◌, ◌+ℤ◌, ◌*ℤ◌, ◌%◌, list_any, range_with_len, not-false, not_from_true, nat_tests, ints, neg_ℤ, mul-le-mul_left, NcType, Value, Class, Signed, Unsigned, Pattern, class_of, size_of, fits_in, fits}
 use Rattle.std.proofs.Common.{ℤ}
 use Rattle.nc_base.specs.declared.request.Value.TheVariants as value
 use Rattle.serial_spec.specs.ExternalForm.{Text}

@@ -1,4 +1,4 @@
-mod Words
+mod Cited
 mod BlockLaws
 mod CodeLaws
 mod EndLaws

@@ -1,5 +1,5 @@
 -- The first values of runs, one run more of them.
-use Rattle.imap_extents.proofs.Words.{◌≡◌, ℕ, zero, suc, ◌+◌, ◌-◌, ◌<◌, refl, ◌∙◌, ap, sym, arith, List, [], ◌∷◌, ◌++◌, ◌||◌, length, map, take, drop, get_or, append-nil, append_assoc, length-append, Bool, true, false, flat_map, min, ◌*ℤ◌, ◌%◌, list_any, range_with_len, or_left, or_right, take_more, map-append, take-append-drop, take-map, flat_map-append, flat_map-map, list_any-append, length-map-range_with_len, map-range_with_len_more, any_map, map_map, or_false, BitRun, NumberRun, Value, numbers_of_runs, bits_of_runs}
+use Rattle.imap_extents.proofs.Cited.{◌≡◌, ℕ, zero, suc, ◌+◌, ◌-◌, ◌<◌, refl, ◌∙◌, ap, sym, arith, List, [], ◌∷◌, ◌++◌, ◌||◌, length, map, take, drop, get_or, append-nil, append_assoc, length-append, Bool, true, false, flat_map, min, ◌*ℤ◌, ◌%◌, list_any, range_with_len, or_left, or_right, take_more, map-append, take-append-drop, take-map, flat_map-append, flat_map-map, list_any-append, length-map-range_with_len, map-range_with_len_more, any_map, map_map, or_false, BitRun, NumberRun, Value, numbers_of_runs, bits_of_runs}
 use Rattle.std.specs.Prelude.{pos, ◌+ℤ◌, ◌*◌, ◌^◌}
 use Rattle.nc_base.specs.declared.request.Value.TheVariants as value
 

@@ -1,5 +1,5 @@
 -- Arrays that are written item by item, and objects that are written in two parts.
-use Rattle.plan_text.proofs.Words.{◌≡◌, ℕ, zero, suc, ◌+◌, ◌<◌, ◌≤◌, List, [], ◌∷◌, ◌++◌, length, map, take, get_or, refl, sym, ap, ◌∙◌, arith, map_more, common_steps, slice_get-get_or, slice_get, joined, closed, comma}
+use Rattle.plan_text.proofs.Cited.{◌≡◌, ℕ, zero, suc, ◌+◌, ◌<◌, ◌≤◌, List, [], ◌∷◌, ◌++◌, length, map, take, get_or, refl, sym, ap, ◌∙◌, arith, map_more, common_steps, slice_get-get_or, slice_get, joined, closed, comma}
 use Rattle.std.proofs.lemmas.List.{append_assoc}
 use Rattle.std.specs.Prelude.{Some}
 

@@ -1,4 +1,4 @@
-mod Words
+mod Cited
 pub mod ArrayLaws
 mod LineLaws
 pub mod PlainLaws

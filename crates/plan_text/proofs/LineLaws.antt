@@ -1,5 +1,5 @@
 -- Words and numbers that a line goes on with.
-use Rattle.plan_text.proofs.Words.{◌≡◌, ℕ, List, [], ◌∷◌, ◌++◌, sym, ap, ◌∙◌, append_assoc, then_append, text_line}
+use Rattle.plan_text.proofs.Cited.{◌≡◌, ℕ, List, [], ◌∷◌, ◌++◌, sym, ap, ◌∙◌, append_assoc, then_append, text_line}
 
 -- words and what follows them, behind a front
 pub then_words : (o x y a b c : List ℕ) → x ≡ o ++ a → y ≡ x ++ (b ++ c) → y ≡ o ++ (a ++ b ++ c)

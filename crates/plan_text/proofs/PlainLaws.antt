@@ -1,5 +1,5 @@
 -- Texts in which nothing is escaped.
-use Rattle.plan_text.proofs.Words.{◌≡◌, ℕ, zero, suc, ◌+◌, ◌/◌, ◌%◌, ◌<◌, ◌==◌, List, [], ◌∷◌, ◌++◌, Bool, true, false, cond, Option, Some, None, refl, sym, ap, ◌∙◌, arith, decimal, codes, lt-ltb, le-leb, ne_eqb, slice_get, flat_map, digit_glyph, digits, digits_onto, flat_map-append, Call, Form, PostKind, Iput, Iget, Bput, Mark, Meet, Solo, call_word, form_word, kind_word, mark_word, with_all, json_character, json_text, word_in, word_of_some}
+use Rattle.plan_text.proofs.Cited.{◌≡◌, ℕ, zero, suc, ◌+◌, ◌/◌, ◌%◌, ◌<◌, ◌==◌, List, [], ◌∷◌, ◌++◌, Bool, true, false, cond, Option, Some, None, refl, sym, ap, ◌∙◌, arith, decimal, codes, lt-ltb, le-leb, ne_eqb, slice_get, flat_map, digit_glyph, digits, digits_onto, flat_map-append, Call, Form, PostKind, Iput, Iget, Bput, Mark, Meet, Solo, call_word, form_word, kind_word, mark_word, with_all, json_character, json_text, word_in, word_of_some}
 use Rattle.std.proofs.lemmas.List.{append_assoc}
 use Rattle.nc_base.specs.declared.request.Call.TheVariants as call
 use Rattle.nc_base.specs.declared.request.Form.TheVariants as form

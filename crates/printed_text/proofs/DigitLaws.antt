@@ -1,5 +1,5 @@
 -- Digits, looked up by names and ids.
-use Rattle.printed_text.proofs.Words.{◌≡◌, ℕ, List, length, Bool, true, false, cond, Option, Some, None, refl, ap, ◌∙◌, unwrap_or, option_map, nat_lt, bytes_eq, find, position, slice_get, position_or_len, find_at, slice_get_past, ltb-false, Header, Var, digits_of, digits_of_name, digits_of_var, named_digits}
+use Rattle.printed_text.proofs.Cited.{◌≡◌, ℕ, List, length, Bool, true, false, cond, Option, Some, None, refl, ap, ◌∙◌, unwrap_or, option_map, nat_lt, bytes_eq, find, position, slice_get, position_or_len, find_at, slice_get_past, ltb-false, Header, Var, digits_of, digits_of_name, digits_of_var, named_digits}
 
 -- of the first variable that a test passes
 named_by : (header : Header) (p : Var → Bool) → unwrap_or (option_map (λ v. digits_of v.kind) (find p header.vars)) 16 ≡ digits_of_var header (position p header.vars)

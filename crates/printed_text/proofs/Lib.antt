@@ -1,4 +1,4 @@
-mod Words
+mod Cited
 mod DigitLaws
 mod OffsetLaws
 pub mod WordLaws

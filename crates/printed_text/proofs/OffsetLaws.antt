@@ -1,5 +1,5 @@
 -- Where variables lie.
-use Rattle.printed_text.proofs.Words.{◌≡◌, ◌+◌, ◌^◌, ◌<◌, ℕ, List, [], ◌∷◌, ◌++◌, length, take, get_or, Bool, true, false, cond, Some, sym, ap, ◌∙◌, arith, filter, flat_map, append-nil, append_assoc, flat_map-append, filter_more, slice_get-get_or, slab_below, Header, Var, is_sound, slab, vsize, var_kept}
+use Rattle.printed_text.proofs.Cited.{◌≡◌, ◌+◌, ◌^◌, ◌<◌, ℕ, List, [], ◌∷◌, ◌++◌, length, take, get_or, Bool, true, false, cond, Some, sym, ap, ◌∙◌, arith, filter, flat_map, append-nil, append_assoc, flat_map-append, filter_more, slice_get-get_or, slab_below, Header, Var, is_sound, slab, vsize, var_kept}
 use Rattle.std.specs.List.{slice_get}
 
 -- a variable of a sound header ends within a file

@@ -1,5 +1,5 @@
 -- Words on a line.
-use Rattle.printed_text.proofs.Words.{◌≡◌, ℕ, zero, suc, ◌+◌, ◌-◌, ◌/◌, ◌%◌, ◌<◌, ◌≤◌, List, [], ◌∷◌, ◌++◌, length, map, take, drop, set, get_or, sym, ap, ◌∙◌, inl, inr, ◌⊎◌, Some, None, arith, append-nil, drop-set, append_assoc, flat_map_more, map_more, take_all, take_more, flat_map-append, slice_get_cases, same_Some, slice_get, flat_map, joined, hex, hex_digit, spaced}
+use Rattle.printed_text.proofs.Cited.{◌≡◌, ℕ, zero, suc, ◌+◌, ◌-◌, ◌/◌, ◌%◌, ◌<◌, ◌≤◌, List, [], ◌∷◌, ◌++◌, length, map, take, drop, set, get_or, sym, ap, ◌∙◌, inl, inr, ◌⊎◌, Some, None, arith, append-nil, drop-set, append_assoc, flat_map_more, map_more, take_all, take_more, flat_map-append, slice_get_cases, same_Some, slice_get, flat_map, joined, hex, hex_digit, spaced}
 
 -- the first word stands by itself, each other one behind a blank
 pub joined_spaced : (w : List ℕ) (ws : List (List ℕ)) → joined 32 (w ∷ ws) ≡ w ++ spaced ws

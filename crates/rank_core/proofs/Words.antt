@@ -104,8 +104,7 @@ pub use Rattle.serial_spec.specs.HeaderBytes.{header_len}
 pub use Rattle.serial_spec.specs.Lawful.{are_sizes, are_values, has_its_lists, is_given, is_lawful_call, is_part, is_post_of, most_parts}
 pub use Rattle.serial_spec.specs.Layout.{end_of, greatest, inner_lengths, is_record, length_of, lengths, lengths_of, product, starts_with_zero, without_record}
 pub use Rattle.serial_spec.specs.Limits.{file_limit, most_elements, record_limit}
-pub use Rattle.serial_spec.specs.Looks.{box_post, box_region, data_bytes, data_code, direction_of, fills, find_dim, find_var, is_record_past, is_varn, kind_code, look, look_fill, part_posts, parts_code, some_fits, values_bytes, values_code}
-unfoldable pub use Rattle.serial_spec.specs.Looks.{look_at, look_parts, look_region}
+pub use Rattle.serial_spec.specs.Looks.{box_post, box_region, data_bytes, data_code, direction_of, fills, find_dim, find_var, is_record_past, is_varn, kind_code, look, look_at, look_fill, look_parts, look_region, part_posts, parts_code, some_fits, values_bytes, values_code}
 pub use Rattle.serial_spec.specs.Place.{AreApart, IsElement, IsElementBelow, IsIndex, place, row}
 pub use Rattle.serial_spec.specs.RankMachine.{Gone, NullRequest, Open, Posted, Rank, Status, Waiting, answer, answers, attach_code, batch_chosen, batch_of, buffer_code, bytes_in, chosen, code_of_look, detach_code, dim_at, gets_in, got_values, has_id, is_chosen, item_code, items_from, items_of, kind_at, meets_refused, named, no_posts, offers, offers_look, open_blocking, open_empty, post_after, posts, puts_in, status_of, values_for, values_of_post, waits, wants, with_more, with_posted, without_chosen}
 pub use Rattle.serial_spec.specs.RankSide.{wanted}

@@ -1,5 +1,5 @@
 -- A number at the front of a line.
-use Rattle.script_words.proofs.Words.{◌≡◌, ℕ, zero, suc, ◌+◌, ◌-◌, ◌≤◌, ◌<◌, ◌==◌, List, [], ◌∷◌, length, take, drop, Bool, true, false, Option, Some, None, ℤ, refl, sym, ap, ◌∙◌, arith, option_map, nat_lt, nat_le, ◌&&◌, ◌^◌, pos, neg_ℤ, position_or_len, list_all, and_parts, nat_tests, cond_some, and_first, and_second, take_all, common_steps, digit_bounds, tens, is_blank, is_digit, is_digits, begins_blank, digits_value, natural_of, number_of_text, words, after_blanks, first_for}
+use Rattle.script_words.proofs.Cited.{◌≡◌, ℕ, zero, suc, ◌+◌, ◌-◌, ◌≤◌, ◌<◌, ◌==◌, List, [], ◌∷◌, length, take, drop, Bool, true, false, Option, Some, None, ℤ, refl, sym, ap, ◌∙◌, arith, option_map, nat_lt, nat_le, ◌&&◌, ◌^◌, pos, neg_ℤ, position_or_len, list_all, and_parts, nat_tests, cond_some, and_first, and_second, take_all, common_steps, digit_bounds, tens, is_blank, is_digit, is_digits, begins_blank, digits_value, natural_of, number_of_text, words, after_blanks, first_for}
 use Rattle.script_words.proofs.WordLaws.{takes_plain}
 
 digit_no_blank : (c : ℕ) → is_digit c ≡ true → is_blank c ≡ false

@@ -1,4 +1,4 @@
-mod Words
+mod Cited
 mod WordLaws
 mod NumberLaws
 mod FrontLaws

@@ -1,5 +1,5 @@
 -- The first line of a text.
-use Rattle.script_words.proofs.Words.{◌≡◌, ◌≢◌, ℕ, suc, ◌+◌, ◌<◌, ◌≤◌, List, [], ◌∷◌, length, take, drop, Bool, true, false, not, Option, Some, None, refl, ap, ◌∙◌, arith, position, cond, get_or, slice_split_first, length-slice_split, prefix_len-le-length, count_by-le-length, position_or_len_is, false_from_ne_true, IsFirstByte, is_byte, position_or_len, slice_split, onto_first, before_first, after_first, length-enumerate_from, first_line_kept, text_lines, is_newline, without_empty_end, is_comma}
+use Rattle.script_words.proofs.Cited.{◌≡◌, ◌≢◌, ℕ, suc, ◌+◌, ◌<◌, ◌≤◌, List, [], ◌∷◌, length, take, drop, Bool, true, false, not, Option, Some, None, refl, ap, ◌∙◌, arith, position, cond, get_or, slice_split_first, length-slice_split, prefix_len-le-length, count_by-le-length, position_or_len_is, false_from_ne_true, IsFirstByte, is_byte, position_or_len, slice_split, onto_first, before_first, after_first, length-enumerate_from, first_line_kept, text_lines, is_newline, without_empty_end, is_comma}
 
 -- what `position` found
 pub found_at : {X : Type 0} (p : X → Bool) (xs : List X) (n : ℕ) → position p xs ≡ Some n → (position_or_len p xs ≡ n) × (n < length xs)

@@ -1,5 +1,5 @@
 -- The value of digits, from left to right.
-use Rattle.script_words.proofs.Words.{◌≡◌, ℕ, zero, suc, ◌+◌, ◌-◌, ◌*◌, ◌^◌, ◌≤◌, ◌<◌, List, [], ◌∷◌, length, take, get_or, true, fold, Option, Some, None, option_map, drop, drop-cons, add-one, refl, ap, ◌∙◌, arith, fold_push, take_more, list_all, and_parts, digit_bounds, sixteens-le, no_sum, sixteens, is_digit, digits_value, hex_sum, hex_value}
+use Rattle.script_words.proofs.Cited.{◌≡◌, ℕ, zero, suc, ◌+◌, ◌-◌, ◌*◌, ◌^◌, ◌≤◌, ◌<◌, List, [], ◌∷◌, length, take, get_or, true, fold, Option, Some, None, option_map, drop, drop-cons, add-one, refl, ap, ◌∙◌, arith, fold_push, take_more, list_all, and_parts, digit_bounds, sixteens-le, no_sum, sixteens, is_digit, digits_value, hex_sum, hex_value}
 
 pub digit_at : (ds : List ℕ) (i d : ℕ) → list_all is_digit ds ≡ true → i < length ds → (48 ≤ get_or ds i d) × (get_or ds i d ≤ 57)
 digit_at [] i d all h = absurd (omega arith)

@@ -1,4 +1,4 @@
-use Rattle.imap_extents.proofs.Words.{◌++◌, ◌∙◌, ap, ℕ, List, arith, to_be_bytes, length-take-le, length-replicate, on_ok_weaker}
+use Rattle.imap_extents.proofs.Cited.{◌++◌, ◌∙◌, ap, ℕ, List, arith, to_be_bytes, length-take-le, length-replicate, on_ok_weaker}
 use Rattle.std.specs.Prelude.{replicate}
 use Rattle.imap_extents.proofs.BlockLaws.{block_bytes}
 use Rattle.imap_extents.proofs.blocks.push_block.Goals as goal

@@ -1,4 +1,4 @@
-use Rattle.imap_extents.proofs.Words.{arith, to_be_bytes}
+use Rattle.imap_extents.proofs.Cited.{arith, to_be_bytes}
 use Rattle.imap_extents.proofs.BlockLaws.{blocks_more}
 use Rattle.imap_extents.proofs.blocks.push_blocks.Goals as goal
 

@@ -1,4 +1,4 @@
-use Rattle.imap_extents.proofs.Words.{◌≡◌, ◌≤◌, ◌-◌, ◌++◌, flat_map, to_be_bytes, range_with_len}
+use Rattle.imap_extents.proofs.Cited.{◌≡◌, ◌≤◌, ◌-◌, ◌++◌, flat_map, to_be_bytes, range_with_len}
 use Rattle.imap_extents.proofs.blocks.push_blocks.Given as goal
 
 abbrev pub invariant-loop-done : goal.invariant-loop-done

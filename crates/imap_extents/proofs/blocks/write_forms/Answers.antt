@@ -1,4 +1,4 @@
-use Rattle.imap_extents.proofs.Words.{◌∙◌, ap, ℕ, arith, to_be_bytes}
+use Rattle.imap_extents.proofs.Cited.{◌∙◌, ap, ℕ, arith, to_be_bytes}
 use Rattle.imap_extents.proofs.BlockLaws.{written_more}
 use Rattle.imap_extents.proofs.blocks.write_forms.Goals as goal
 

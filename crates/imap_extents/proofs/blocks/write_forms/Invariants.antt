@@ -1,4 +1,4 @@
-use Rattle.imap_extents.proofs.Words.{◌≡◌, map, take, to_be_bytes, range_with_len}
+use Rattle.imap_extents.proofs.Cited.{◌≡◌, map, take, to_be_bytes, range_with_len}
 use Rattle.imap_extents.proofs.blocks.write_forms.Given as goal
 
 abbrev pub invariant-loop-i : goal.invariant-loop-i

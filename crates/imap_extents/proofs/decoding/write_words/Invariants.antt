@@ -1,4 +1,4 @@
-use Rattle.imap_extents.proofs.Words.{◌≡◌, map, take}
+use Rattle.imap_extents.proofs.Cited.{◌≡◌, map, take}
 use Rattle.imap_extents.proofs.decoding.write_words.Given as goal
 
 abbrev pub invariant-loop-i : goal.invariant-loop-i

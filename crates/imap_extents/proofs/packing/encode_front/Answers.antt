@@ -1,4 +1,4 @@
-use Rattle.imap_extents.proofs.Words.{◌∙◌, refl, sym, subst, Bool, IfErr, IfOk-weaker, on_ok_weaker, IsRangeRefusal}
+use Rattle.imap_extents.proofs.Cited.{◌∙◌, refl, sym, subst, Bool, IfErr, IfOk-weaker, on_ok_weaker, IsRangeRefusal}
 use Rattle.imap_extents.proofs.FrontLaws.{forms_of_numbers, unfit_of_numbers, forms_of_text, unfit_of_text, forms_of_bits, unfit_of_bits}
 use Rattle.imap_extents.proofs.packing.encode_front.Goals as goal
 

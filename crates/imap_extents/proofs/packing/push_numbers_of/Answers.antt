@@ -1,4 +1,4 @@
-use Rattle.imap_extents.proofs.Words.{take, Byte, Short, Int, UByte, UShort, UInt, Int64, UInt64, numbers_in}
+use Rattle.imap_extents.proofs.Cited.{take, Byte, Short, Int, UByte, UShort, UInt, Int64, UInt64, numbers_in}
 use Rattle.nc_base.specs.declared.request.Value.TheVariants as value
 use Rattle.imap_extents.proofs.FrontLaws.{refused_at}
 use Rattle.imap_extents.proofs.packing.push_numbers_of.Goals as goal

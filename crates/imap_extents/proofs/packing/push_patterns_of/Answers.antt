@@ -1,4 +1,4 @@
-use Rattle.imap_extents.proofs.Words.{take, Float, Double}
+use Rattle.imap_extents.proofs.Cited.{take, Float, Double}
 use Rattle.nc_base.specs.declared.request.Value.TheVariants as value
 use Rattle.nc_base.specs.BitForms.{bits_in}
 use Rattle.imap_extents.proofs.FrontLaws.{refused_at}

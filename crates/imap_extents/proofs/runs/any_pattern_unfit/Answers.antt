@@ -1,4 +1,4 @@
-use Rattle.imap_extents.proofs.Words.{◌+◌, ◌*◌, ◌^◌, ◌∙◌, ap, sym, not, ℕ, ◌%◌, fits}
+use Rattle.imap_extents.proofs.Cited.{◌+◌, ◌*◌, ◌^◌, ◌∙◌, ap, sym, not, ℕ, ◌%◌, fits}
 use Rattle.nc_base.specs.declared.request.Value.TheVariants as value
 use Rattle.imap_extents.proofs.EndLaws.{hit_at}
 use Rattle.imap_extents.proofs.RunLaws.{step_fits}

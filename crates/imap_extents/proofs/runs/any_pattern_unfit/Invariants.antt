@@ -1,4 +1,4 @@
-use Rattle.imap_extents.proofs.Words.{◌≡◌, ◌+◌, ◌*◌, ◌^◌, false, not, map, ◌%◌, list_any, range_with_len, fits}
+use Rattle.imap_extents.proofs.Cited.{◌≡◌, ◌+◌, ◌*◌, ◌^◌, false, not, map, ◌%◌, list_any, range_with_len, fits}
 use Rattle.nc_base.specs.declared.request.Value.TheVariants as value
 use Rattle.imap_extents.proofs.runs.any_pattern_unfit.Given as goal
 

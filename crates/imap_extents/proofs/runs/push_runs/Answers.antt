@@ -1,4 +1,4 @@
-use Rattle.imap_extents.proofs.Words.{◌-◌, ◌++◌, ◌∙◌, ap, sym, refl, not, map, append-nil, arith, ℕ, List, min, flat_map, list_any, range_with_len, err_from_is_err_and, Value, ext, fits}
+use Rattle.imap_extents.proofs.Cited.{◌-◌, ◌++◌, ◌∙◌, ap, sym, refl, not, map, append-nil, arith, ℕ, List, min, flat_map, list_any, range_with_len, err_from_is_err_and, Value, ext, fits}
 use Rattle.imap_extents.proofs.RefusalLaws.{part_refused}
 use Rattle.imap_extents.proofs.RunLaws.{forms_more, fits_more, rest_more, part_hit, none_first}
 use Rattle.imap_extents.proofs.runs.push_runs.Goals as goal

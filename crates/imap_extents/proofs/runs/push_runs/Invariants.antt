@@ -1,4 +1,4 @@
-use Rattle.imap_extents.proofs.Words.{◌≡◌, ◌++◌, ◌-◌, false, not, take, length, flat_map, list_any, ext, fits}
+use Rattle.imap_extents.proofs.Cited.{◌≡◌, ◌++◌, ◌-◌, false, not, take, length, flat_map, list_any, ext, fits}
 use Rattle.imap_extents.proofs.RunLaws.{told}
 use Rattle.imap_extents.proofs.runs.push_runs.Given as goal
 

@@ -1,4 +1,4 @@
-use Rattle.imap_extents.proofs.Words.{◌≡◌, ◌∙◌, ap, ℕ, List, map, Some, arith, take_all, val, number_in, ℤ, common_steps, to_z-of_z}
+use Rattle.imap_extents.proofs.Cited.{◌≡◌, ◌∙◌, ap, ℕ, List, map, Some, arith, take_all, val, number_in, ℤ, common_steps, to_z-of_z}
 use mir.Syntax.{w128}
 use mir.Val.{to_z, of_z}
 use Rattle.imap_extents.proofs.unpacking.decode_numbers.Goals as goal

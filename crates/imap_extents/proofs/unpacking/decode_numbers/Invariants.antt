@@ -1,4 +1,4 @@
-use Rattle.imap_extents.proofs.Words.{◌≡◌, map, take, Some, val, number_in}
+use Rattle.imap_extents.proofs.Cited.{◌≡◌, map, take, Some, val, number_in}
 use Rattle.imap_extents.proofs.unpacking.decode_numbers.Given as goal
 
 abbrev pub invariant-loop-form : goal.invariant-loop-form

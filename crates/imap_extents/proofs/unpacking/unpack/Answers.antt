@@ -1,4 +1,4 @@
-use Rattle.imap_extents.proofs.Words.{◌*◌, ◌/◌, ◌∙◌, refl, sym, ap, ℕ, List, Option, length, map, IfOk-weaker, size_of, product, char_in, bits_in, in_order, Value}
+use Rattle.imap_extents.proofs.Cited.{◌*◌, ◌/◌, ◌∙◌, refl, sym, ap, ℕ, List, Option, length, map, IfOk-weaker, size_of, product, char_in, bits_in, in_order, Value}
 use Rattle.imap_extents.proofs.PositionLaws.{length-positions}
 use Rattle.imap_extents.proofs.OrderLaws.{spread_packed, all_of_them}
 use Rattle.imap_extents.proofs.PlacingLaws.{spread_text, spread_bits}

@@ -1,4 +1,4 @@
-use Rattle.imap_extents.proofs.Words.{◌++◌, ◌∙◌, ap, sym, subst, not, take, map, ℕ, List, Bool, ℤ, IfErr, list_any, on_ok_weaker, numbers_in, ext, fits, IsRangeRefusal}
+use Rattle.imap_extents.proofs.Cited.{◌++◌, ◌∙◌, ap, sym, subst, not, take, map, ℕ, List, Bool, ℤ, IfErr, list_any, on_ok_weaker, numbers_in, ext, fits, IsRangeRefusal}
 use Rattle.nc_base.specs.declared.request.Value.TheVariants as value
 use Rattle.imap_extents.proofs.RunLaws.{told_numbers, kind_forms, kind_unfit}
 use Rattle.imap_extents.proofs.words.push_numbers.Goals as goal

@@ -1,4 +1,4 @@
-use Rattle.imap_extents.proofs.Words.{◌++◌, ◌∙◌, ap, sym, subst, not, take, map, ℕ, List, Bool, IfErr, list_any, on_ok_weaker, ext, fits, IsRangeRefusal}
+use Rattle.imap_extents.proofs.Cited.{◌++◌, ◌∙◌, ap, sym, subst, not, take, map, ℕ, List, Bool, IfErr, list_any, on_ok_weaker, ext, fits, IsRangeRefusal}
 use Rattle.nc_base.specs.declared.request.Value.TheVariants as value
 use Rattle.nc_base.specs.BitForms.{bits_in}
 use Rattle.imap_extents.proofs.RunLaws.{told_bits, kind_forms, kind_unfit}

@@ -1,4 +1,4 @@
-use Rattle.imap_extents.proofs.Words.{◌≡◌, ◌++◌, false, not, take, flat_map, list_any, ext, fits}
+use Rattle.imap_extents.proofs.Cited.{◌≡◌, ◌++◌, false, not, take, flat_map, list_any, ext, fits}
 use Rattle.imap_extents.proofs.words.push_words.Given as goal
 
 abbrev pub invariant-loop-word : goal.invariant-loop-word

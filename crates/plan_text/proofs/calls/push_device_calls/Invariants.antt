@@ -1,4 +1,4 @@
-use Rattle.plan_text.proofs.Words.{◌≡◌, ◌++◌, take, device_lines}
+use Rattle.plan_text.proofs.Cited.{◌≡◌, ◌++◌, take, device_lines}
 use Rattle.plan_text.proofs.calls.push_device_calls.Given as goal
 
 abbrev pub invariant-loop-call : goal.invariant-loop-call

@@ -1,4 +1,4 @@
-use Rattle.plan_text.proofs.Words.{List, ℕ, ◌++◌, codes, ap, ◌∙◌, flat_map, then_append, text_line, count_call, head_lines, sum_lines, device_lines, step_lines}
+use Rattle.plan_text.proofs.Cited.{List, ℕ, ◌++◌, codes, ap, ◌∙◌, flat_map, then_append, text_line, count_call, head_lines, sum_lines, device_lines, step_lines}
 use Rattle.plan_text.proofs.LineLaws.{then_words}
 use Rattle.plan_text.proofs.head.plan_text.Goals as goal
 

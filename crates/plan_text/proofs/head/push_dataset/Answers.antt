@@ -1,4 +1,4 @@
-use Rattle.plan_text.proofs.Words.{◌≡◌, List, ℕ, [], ◌∷◌, ◌++◌, codes, decimal, arith, then_append, header_len, recsize, header_short, in_bytes}
+use Rattle.plan_text.proofs.Cited.{◌≡◌, List, ℕ, [], ◌∷◌, ◌++◌, codes, decimal, arith, then_append, header_len, recsize, header_short, in_bytes}
 use Rattle.plan_text.proofs.LineLaws.{then_words}
 use Rattle.plan_text.proofs.head.push_dataset.Goals as goal
 

@@ -1,4 +1,4 @@
-use Rattle.plan_text.proofs.Words.{◌≡◌, ◌++◌, take, flat_map, row_of, hint_line}
+use Rattle.plan_text.proofs.Cited.{◌≡◌, ◌++◌, take, flat_map, row_of, hint_line}
 use Rattle.plan_text.proofs.head.push_each_hint.Given as goal
 
 abbrev pub invariant-loop-name : goal.invariant-loop-name

@@ -1,4 +1,4 @@
-use Rattle.plan_text.proofs.Words.{List, ℕ, ◌∷◌, ◌++◌, codes, map, flat_map, then_append, hint_table, line, mark_word, text_line, StepPlan, dataset_line, hint_line, variable_line, counted}
+use Rattle.plan_text.proofs.Cited.{List, ℕ, ◌∷◌, ◌++◌, codes, map, flat_map, then_append, hint_table, line, mark_word, text_line, StepPlan, dataset_line, hint_line, variable_line, counted}
 use Rattle.plan_text.proofs.head.push_head.Goals as goal
 
 pub returns : goal.returns

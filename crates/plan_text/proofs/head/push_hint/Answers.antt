@@ -1,4 +1,4 @@
-use Rattle.plan_text.proofs.Words.{List, ℕ, [], ◌∷◌, ◌++◌, ap, ◌∙◌, codes, then_append, shown_value, row_of}
+use Rattle.plan_text.proofs.Cited.{List, ℕ, [], ◌∷◌, ◌++◌, ap, ◌∙◌, codes, then_append, shown_value, row_of}
 use Rattle.plan_text.proofs.LineLaws.{five_words}
 use Rattle.plan_text.proofs.head.push_hint.Goals as goal
 

@@ -1,4 +1,4 @@
-use Rattle.plan_text.proofs.Words.{◌≡◌, ◌++◌, map, take, mark_word, spaced}
+use Rattle.plan_text.proofs.Cited.{◌≡◌, ◌++◌, map, take, mark_word, spaced}
 use Rattle.plan_text.proofs.head.push_marks.Given as goal
 
 abbrev pub invariant-loop-step : goal.invariant-loop-step

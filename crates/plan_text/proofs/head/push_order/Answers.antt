@@ -1,4 +1,4 @@
-use Rattle.plan_text.proofs.Words.{append_assoc, codes, map, mark_word, StepPlan, joined_spaced}
+use Rattle.plan_text.proofs.Cited.{append_assoc, codes, map, mark_word, StepPlan, joined_spaced}
 use Rattle.plan_text.proofs.head.push_order.Goals as goal
 
 pub returns : goal.returns

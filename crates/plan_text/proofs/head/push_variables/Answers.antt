@@ -1,4 +1,4 @@
-use Rattle.plan_text.proofs.Words.{arith}
+use Rattle.plan_text.proofs.Cited.{arith}
 use Rattle.plan_text.proofs.VariableLaws.{size_at}
 use Rattle.plan_text.proofs.head.push_variables.Goals as goal
 

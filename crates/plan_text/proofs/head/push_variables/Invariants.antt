@@ -1,4 +1,4 @@
-use Rattle.plan_text.proofs.Words.{◌≡◌, ◌++◌, take, flat_map, variable_line}
+use Rattle.plan_text.proofs.Cited.{◌≡◌, ◌++◌, take, flat_map, variable_line}
 use Rattle.plan_text.proofs.head.push_variables.Given as goal
 
 abbrev pub invariant-loop-var : goal.invariant-loop-var

@@ -1,4 +1,4 @@
-use Rattle.plan_text.proofs.Words.{arith, device_call}
+use Rattle.plan_text.proofs.Cited.{arith, device_call}
 use Rattle.plan_text.proofs.ArrayLaws.{copy_pushed}
 use Rattle.plan_text.proofs.json.push_calls.Goals as goal
 

@@ -1,4 +1,4 @@
-use Rattle.plan_text.proofs.Words.{◌≡◌, ◌++◌, map, take, joined, device_call}
+use Rattle.plan_text.proofs.Cited.{◌≡◌, ◌++◌, map, take, joined, device_call}
 use Rattle.plan_text.proofs.json.push_calls.Given as goal
 
 abbrev pub invariant-loop-number : goal.invariant-loop-number

@@ -1,4 +1,4 @@
-use Rattle.plan_text.proofs.Words.{◌≡◌, ◌++◌, take, flat_map, json_character}
+use Rattle.plan_text.proofs.Cited.{◌≡◌, ◌++◌, take, flat_map, json_character}
 use Rattle.plan_text.proofs.json.push_text.Given as goal
 
 abbrev pub invariant-loop-byte : goal.invariant-loop-byte

@@ -1,4 +1,4 @@
-use Rattle.plan_text.proofs.Words.{ℕ, List, [], ◌∷◌, ◌++◌, ap, ◌∙◌, arith, joined, head_members, plan_members, then_append}
+use Rattle.plan_text.proofs.Cited.{ℕ, List, [], ◌∷◌, ◌++◌, ap, ◌∙◌, arith, joined, head_members, plan_members, then_append}
 use Rattle.plan_text.proofs.ArrayLaws.{document_closed}
 use Rattle.plan_text.proofs.json_head.plan_json.Goals as goal
 

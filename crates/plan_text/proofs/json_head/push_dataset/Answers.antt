@@ -1,4 +1,4 @@
-use Rattle.plan_text.proofs.Words.{◌≡◌, arith, header_len, header_short, then_append}
+use Rattle.plan_text.proofs.Cited.{◌≡◌, arith, header_len, header_short, then_append}
 use Rattle.plan_text.proofs.json_head.push_dataset.Goals as goal
 
 pub returns : goal.returns

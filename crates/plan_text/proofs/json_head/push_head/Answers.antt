@@ -1,4 +1,4 @@
-use Rattle.plan_text.proofs.Words.{digits, then_append}
+use Rattle.plan_text.proofs.Cited.{digits, then_append}
 use Rattle.plan_text.proofs.json_head.push_head.Goals as goal
 
 pub returns : goal.returns

@@ -1,4 +1,4 @@
-use Rattle.plan_text.proofs.Words.{arith, row_of, HintName, hint_object}
+use Rattle.plan_text.proofs.Cited.{arith, row_of, HintName, hint_object}
 use Rattle.plan_text.proofs.ArrayLaws.{copy_pushed}
 use Rattle.plan_text.proofs.json_head.push_hints_named.Goals as goal
 

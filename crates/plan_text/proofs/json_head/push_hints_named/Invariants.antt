@@ -1,4 +1,4 @@
-use Rattle.plan_text.proofs.Words.{◌≡◌, ◌++◌, map, take, joined, hint_object, row_of}
+use Rattle.plan_text.proofs.Cited.{◌≡◌, ◌++◌, map, take, joined, hint_object, row_of}
 use Rattle.plan_text.proofs.json_head.push_hints_named.Given as goal
 
 abbrev pub invariant-loop-number : goal.invariant-loop-number

@@ -1,4 +1,4 @@
-use Rattle.plan_text.proofs.Words.{mark_word}
+use Rattle.plan_text.proofs.Cited.{mark_word}
 use Rattle.plan_text.proofs.PlainLaws.{mark_plain, text_pushed}
 use Rattle.plan_text.proofs.json_head.push_mark_text.Goals as goal
 

@@ -1,4 +1,4 @@
-use Rattle.plan_text.proofs.Words.{arith, mark_word, StepPlan, json_text}
+use Rattle.plan_text.proofs.Cited.{arith, mark_word, StepPlan, json_text}
 use Rattle.plan_text.proofs.ArrayLaws.{item_pushed}
 use Rattle.plan_text.proofs.json_head.push_order.Goals as goal
 

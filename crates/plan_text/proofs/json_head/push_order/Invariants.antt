@@ -1,4 +1,4 @@
-use Rattle.plan_text.proofs.Words.{◌≡◌, ◌++◌, map, take, joined, mark_word, json_text}
+use Rattle.plan_text.proofs.Cited.{◌≡◌, ◌++◌, map, take, joined, mark_word, json_text}
 use Rattle.plan_text.proofs.json_head.push_order.Given as goal
 
 abbrev pub invariant-loop-number : goal.invariant-loop-number

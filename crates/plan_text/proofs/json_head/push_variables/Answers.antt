@@ -1,4 +1,4 @@
-use Rattle.plan_text.proofs.Words.{arith, variable_object}
+use Rattle.plan_text.proofs.Cited.{arith, variable_object}
 use Rattle.plan_text.proofs.ArrayLaws.{item_at, item_pushed}
 use Rattle.plan_text.proofs.json_head.push_variables.Goals as goal
 

@@ -1,4 +1,4 @@
-use Rattle.plan_text.proofs.Words.{arith, piece_array}
+use Rattle.plan_text.proofs.Cited.{arith, piece_array}
 use Rattle.plan_text.proofs.ArrayLaws.{copy_pushed}
 use Rattle.plan_text.proofs.json_steps.push_owners.Goals as goal
 

@@ -1,4 +1,4 @@
-use Rattle.plan_text.proofs.Words.{◌≡◌, ◌++◌, map, take, joined, piece_array}
+use Rattle.plan_text.proofs.Cited.{◌≡◌, ◌++◌, map, take, joined, piece_array}
 use Rattle.plan_text.proofs.json_steps.push_owners.Given as goal
 
 abbrev pub invariant-loop-number : goal.invariant-loop-number

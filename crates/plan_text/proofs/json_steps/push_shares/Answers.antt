@@ -1,4 +1,4 @@
-use Rattle.plan_text.proofs.Words.{arith, share_object}
+use Rattle.plan_text.proofs.Cited.{arith, share_object}
 use Rattle.plan_text.proofs.ArrayLaws.{copy_pushed}
 use Rattle.plan_text.proofs.json_steps.push_shares.Goals as goal
 

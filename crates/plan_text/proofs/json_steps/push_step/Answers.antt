@@ -1,4 +1,4 @@
-use Rattle.plan_text.proofs.Words.{ℕ, List, ◌∷◌, ◌++◌, ap, ◌∙◌, file_members, then_append}
+use Rattle.plan_text.proofs.Cited.{ℕ, List, ◌∷◌, ◌++◌, ap, ◌∙◌, file_members, then_append}
 use Rattle.plan_text.proofs.ArrayLaws.{closed_end}
 use Rattle.plan_text.proofs.json_steps.push_step.Goals as goal
 

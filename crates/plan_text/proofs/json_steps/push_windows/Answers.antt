@@ -1,4 +1,4 @@
-use Rattle.plan_text.proofs.Words.{arith, window_object}
+use Rattle.plan_text.proofs.Cited.{arith, window_object}
 use Rattle.plan_text.proofs.ArrayLaws.{item_pushed}
 use Rattle.plan_text.proofs.json_steps.push_windows.Goals as goal
 

@@ -1,4 +1,4 @@
-use Rattle.plan_text.proofs.Words.{slice_get, word_in}
+use Rattle.plan_text.proofs.Cited.{slice_get, word_in}
 use Rattle.plan_text.proofs.PlainLaws.{text_pushed, word_plain}
 use Rattle.plan_text.proofs.json_steps.push_word_text.Goals as goal
 

@@ -1,4 +1,4 @@
-use Rattle.plan_text.proofs.Words.{then_append}
+use Rattle.plan_text.proofs.Cited.{then_append}
 use Rattle.plan_text.proofs.json_sums.push_cell.Goals as goal
 
 pub returns : goal.returns

@@ -1,4 +1,4 @@
-use Rattle.plan_text.proofs.Words.{arith, cell_object}
+use Rattle.plan_text.proofs.Cited.{arith, cell_object}
 use Rattle.plan_text.proofs.ArrayLaws.{copy_pushed}
 use Rattle.plan_text.proofs.json_sums.push_cells.Goals as goal
 

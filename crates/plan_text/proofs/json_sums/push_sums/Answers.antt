@@ -1,4 +1,4 @@
-use Rattle.plan_text.proofs.Words.{ℕ, List, ◌∷◌, ◌++◌, ap, ◌∙◌, arith, beside_members, moved_members, then_append}
+use Rattle.plan_text.proofs.Cited.{ℕ, List, ◌∷◌, ◌++◌, ap, ◌∙◌, arith, beside_members, moved_members, then_append}
 use Rattle.plan_text.proofs.ArrayLaws.{closed_more}
 use Rattle.plan_text.proofs.json_sums.push_sums.Goals as goal
 

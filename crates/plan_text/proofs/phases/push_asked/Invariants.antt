@@ -1,4 +1,4 @@
-use Rattle.plan_text.proofs.Words.{◌≡◌, ◌++◌, take, flat_map, asked_line}
+use Rattle.plan_text.proofs.Cited.{◌≡◌, ◌++◌, take, flat_map, asked_line}
 use Rattle.plan_text.proofs.phases.push_asked.Given as goal
 
 abbrev pub invariant-loop-asked : goal.invariant-loop-asked

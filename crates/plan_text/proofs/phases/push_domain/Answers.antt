@@ -1,4 +1,4 @@
-use Rattle.plan_text.proofs.Words.{append_assoc}
+use Rattle.plan_text.proofs.Cited.{append_assoc}
 use Rattle.plan_text.proofs.phases.push_domain.Goals as goal
 
 pub returns : goal.returns

@@ -1,4 +1,4 @@
-use Rattle.plan_text.proofs.Words.{◌+◌, refl, arith, next_pushed, domain_lines}
+use Rattle.plan_text.proofs.Cited.{◌+◌, refl, arith, next_pushed, domain_lines}
 use Rattle.plan_text.proofs.phases.push_domains.Goals as goal
 
 pub loop-domain-preserved : goal.loop-domain-preserved

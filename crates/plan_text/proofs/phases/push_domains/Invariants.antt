@@ -1,4 +1,4 @@
-use Rattle.plan_text.proofs.Words.{◌≡◌, ◌++◌, take, flat_map, domain_lines}
+use Rattle.plan_text.proofs.Cited.{◌≡◌, ◌++◌, take, flat_map, domain_lines}
 use Rattle.plan_text.proofs.phases.push_domains.Given as goal
 
 abbrev pub invariant-loop-domain : goal.invariant-loop-domain

@@ -1,4 +1,4 @@
-use Rattle.plan_text.proofs.Words.{List, ℕ, ◌++◌, codes, flat_map, then_append, Put, Get, count_call, grow_call, asked_line, device_lines, domain_lines, overlap_line}
+use Rattle.plan_text.proofs.Cited.{List, ℕ, ◌++◌, codes, flat_map, then_append, Put, Get, count_call, grow_call, asked_line, device_lines, domain_lines, overlap_line}
 use Rattle.plan_text.proofs.phases.push_file.Goals as goal
 
 pub returns : goal.returns

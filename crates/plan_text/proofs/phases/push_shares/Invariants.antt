@@ -1,4 +1,4 @@
-use Rattle.plan_text.proofs.Words.{◌≡◌, ◌++◌, take, flat_map, share_words}
+use Rattle.plan_text.proofs.Cited.{◌≡◌, ◌++◌, take, flat_map, share_words}
 use Rattle.plan_text.proofs.phases.push_shares.Given as goal
 
 abbrev pub invariant-loop-share : goal.invariant-loop-share

@@ -1,4 +1,4 @@
-use Rattle.plan_text.proofs.Words.{◌+◌, refl, arith, next_pushed, window_lines}
+use Rattle.plan_text.proofs.Cited.{◌+◌, refl, arith, next_pushed, window_lines}
 use Rattle.plan_text.proofs.phases.push_windows.Goals as goal
 
 pub loop-window-preserved : goal.loop-window-preserved

@@ -1,4 +1,4 @@
-use Rattle.plan_text.proofs.Words.{◌≡◌, ◌++◌, take, flat_map, window_lines}
+use Rattle.plan_text.proofs.Cited.{◌≡◌, ◌++◌, take, flat_map, window_lines}
 use Rattle.plan_text.proofs.phases.push_windows.Given as goal
 
 abbrev pub invariant-loop-window : goal.invariant-loop-window

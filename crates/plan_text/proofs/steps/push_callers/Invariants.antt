@@ -1,4 +1,4 @@
-use Rattle.plan_text.proofs.Words.{◌≡◌, ◌++◌, take, flat_map, caller_line}
+use Rattle.plan_text.proofs.Cited.{◌≡◌, ◌++◌, take, flat_map, caller_line}
 use Rattle.plan_text.proofs.steps.push_callers.Given as goal
 
 abbrev pub invariant-loop-caller : goal.invariant-loop-caller

@@ -1,4 +1,4 @@
-use Rattle.plan_text.proofs.Words.{List, ℕ, ◌++◌, codes, flat_map, then_append, mark_word, text_line, caller_line, file_lines}
+use Rattle.plan_text.proofs.Cited.{List, ℕ, ◌++◌, codes, flat_map, then_append, mark_word, text_line, caller_line, file_lines}
 use Rattle.plan_text.proofs.steps.push_step.Goals as goal
 
 pub returns : goal.returns

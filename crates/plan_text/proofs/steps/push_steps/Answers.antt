@@ -1,4 +1,4 @@
-use Rattle.plan_text.proofs.Words.{◌+◌, refl, arith, next_pushed, step_lines}
+use Rattle.plan_text.proofs.Cited.{◌+◌, refl, arith, next_pushed, step_lines}
 use Rattle.plan_text.proofs.steps.push_steps.Goals as goal
 
 pub loop-step-preserved : goal.loop-step-preserved

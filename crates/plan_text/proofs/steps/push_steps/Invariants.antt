@@ -1,4 +1,4 @@
-use Rattle.plan_text.proofs.Words.{◌≡◌, ◌++◌, take, flat_map, step_lines}
+use Rattle.plan_text.proofs.Cited.{◌≡◌, ◌++◌, take, flat_map, step_lines}
 use Rattle.plan_text.proofs.steps.push_steps.Given as goal
 
 abbrev pub invariant-loop-step : goal.invariant-loop-step

@@ -1,4 +1,4 @@
-use Rattle.plan_text.proofs.Words.{List, ℕ, ◌++◌, codes, decimal}
+use Rattle.plan_text.proofs.Cited.{List, ℕ, ◌++◌, codes, decimal}
 use Rattle.plan_text.proofs.LineLaws.{then_end, then_words}
 use Rattle.plan_text.proofs.sums.push_cell.Goals as goal
 

@@ -1,4 +1,4 @@
-use Rattle.plan_text.proofs.Words.{◌≡◌, ◌++◌, take, flat_map, cell_line}
+use Rattle.plan_text.proofs.Cited.{◌≡◌, ◌++◌, take, flat_map, cell_line}
 use Rattle.plan_text.proofs.sums.push_cells.Given as goal
 
 abbrev pub invariant-loop-cell : goal.invariant-loop-cell

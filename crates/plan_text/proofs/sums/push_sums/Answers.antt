@@ -1,4 +1,4 @@
-use Rattle.plan_text.proofs.Words.{List, ℕ, ◌++◌, codes, decimal, flat_map, then_append, text_line, beside_line, cell_line, moved_lines}
+use Rattle.plan_text.proofs.Cited.{List, ℕ, ◌++◌, codes, decimal, flat_map, then_append, text_line, beside_line, cell_line, moved_lines}
 use Rattle.plan_text.proofs.sums.push_sums.Goals as goal
 
 pub returns : goal.returns

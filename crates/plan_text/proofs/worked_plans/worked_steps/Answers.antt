@@ -1,4 +1,4 @@
-use Rattle.plan_text.proofs.Words.{refl, digits}
+use Rattle.plan_text.proofs.Cited.{refl, digits}
 use Rattle.plan_text.proofs.worked_plans.worked_steps.Goals as goal
 
 pub returns-clause-record : goal.returns-clause-record

@@ -1,4 +1,4 @@
-use Rattle.plan_text.proofs.Words.{refl, digits, canon}
+use Rattle.plan_text.proofs.Cited.{refl, digits, canon}
 use Rattle.plan_text.proofs.worked_plans.worked_variable.Goals as goal
 
 pub returns : goal.returns

@@ -1,4 +1,4 @@
-use Rattle.printed_text.proofs.Words.{◌≡◌, ℕ, drop, subst, arith, FindsNames}
+use Rattle.printed_text.proofs.Cited.{◌≡◌, ℕ, drop, subst, arith, FindsNames}
 use Rattle.printed_text.proofs.digits.names_index.Goals as goal
 
 pub returns : goal.returns

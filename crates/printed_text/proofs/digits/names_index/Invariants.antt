@@ -1,4 +1,4 @@
-use Rattle.printed_text.proofs.Words.{drop, FindsNames}
+use Rattle.printed_text.proofs.Cited.{drop, FindsNames}
 use Rattle.printed_text.proofs.digits.names_index.Given as goal
 
 abbrev pub invariant-loop-k : goal.invariant-loop-k

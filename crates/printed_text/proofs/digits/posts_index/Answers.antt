@@ -1,4 +1,4 @@
-use Rattle.printed_text.proofs.Words.{◌≡◌, ℕ, drop, subst, arith, FindsPosts}
+use Rattle.printed_text.proofs.Cited.{◌≡◌, ℕ, drop, subst, arith, FindsPosts}
 use Rattle.printed_text.proofs.digits.posts_index.Goals as goal
 
 pub returns : goal.returns

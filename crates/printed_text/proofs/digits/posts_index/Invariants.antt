@@ -1,4 +1,4 @@
-use Rattle.printed_text.proofs.Words.{drop, FindsPosts}
+use Rattle.printed_text.proofs.Cited.{drop, FindsPosts}
 use Rattle.printed_text.proofs.digits.posts_index.Given as goal
 
 abbrev pub invariant-loop-k : goal.invariant-loop-k

@@ -1,4 +1,4 @@
-use Rattle.printed_text.proofs.Words.{◌≡◌, ◌++◌, map, take, flat_map, dim_name}
+use Rattle.printed_text.proofs.Cited.{◌≡◌, ◌++◌, map, take, flat_map, dim_name}
 use Rattle.printed_text.proofs.dimensions.push_other_names.Given as goal
 
 abbrev pub invariant-loop-id : goal.invariant-loop-id

@@ -1,4 +1,4 @@
-use Rattle.printed_text.proofs.Words.{◌≡◌, min, take, fold, Var}
+use Rattle.printed_text.proofs.Cited.{◌≡◌, min, take, fold, Var}
 use Rattle.printed_text.proofs.offsets.extent.Given as goal
 
 abbrev pub invariant-loop-var : goal.invariant-loop-var

@@ -1,4 +1,4 @@
-use Rattle.printed_text.proofs.Words.{◌≡◌, ◌++◌, take, flat_map, dim_length_line}
+use Rattle.printed_text.proofs.Cited.{◌≡◌, ◌++◌, take, flat_map, dim_length_line}
 use Rattle.printed_text.proofs.offsets.push_dims.Given as goal
 
 abbrev pub invariant-loop-dim : goal.invariant-loop-dim

@@ -1,4 +1,4 @@
-use Rattle.printed_text.proofs.Words.{◌≡◌, List, ℕ, ◌++◌, arith, codes, decimal, header_len, extent_of, text_line, header_short, then_append}
+use Rattle.printed_text.proofs.Cited.{◌≡◌, List, ℕ, ◌++◌, arith, codes, decimal, header_len, extent_of, text_line, header_short, then_append}
 use Rattle.printed_text.proofs.offsets.push_head.Goals as goal
 
 pub returns : goal.returns

@@ -1,4 +1,4 @@
-use Rattle.printed_text.proofs.Words.{List, ℕ, ◌++◌, codes, flat_map, fixed_variables, record_variables, dim_length_line, text_line, var_lines, head_lines, then_append}
+use Rattle.printed_text.proofs.Cited.{List, ℕ, ◌++◌, codes, flat_map, fixed_variables, record_variables, dim_length_line, text_line, var_lines, head_lines, then_append}
 use Rattle.printed_text.proofs.offsets.push_offsets.Goals as goal
 
 pub returns : goal.returns

@@ -1,4 +1,4 @@
-use Rattle.printed_text.proofs.Words.{◌≡◌, List, ℕ, ◌+◌, ◌++◌, arith, codes, decimal, slab, text_line, title_line, then_append}
+use Rattle.printed_text.proofs.Cited.{◌≡◌, List, ℕ, ◌+◌, ◌++◌, arith, codes, decimal, slab, text_line, title_line, then_append}
 use Rattle.printed_text.proofs.offsets.push_var.Goals as goal
 
 pub returns : goal.returns

@@ -1,4 +1,4 @@
-use Rattle.printed_text.proofs.Words.{arith, var_lines, is_listed}
+use Rattle.printed_text.proofs.Cited.{arith, var_lines, is_listed}
 use Rattle.printed_text.proofs.OffsetLaws.{var_ends, listed_more, unlisted_more}
 use Rattle.printed_text.proofs.offsets.push_vars.Goals as goal
 use Rattle.printed_text.proofs.offsets.push_vars.Goals.{then-is_listed+in_ok-push_var, else-is_listed}

@@ -1,4 +1,4 @@
-use Rattle.printed_text.proofs.Words.{◌≡◌, ◌++◌, take, filter, flat_map, var_lines, is_listed}
+use Rattle.printed_text.proofs.Cited.{◌≡◌, ◌++◌, take, filter, flat_map, var_lines, is_listed}
 use Rattle.printed_text.proofs.offsets.push_vars.Given as goal
 
 abbrev pub invariant-loop-var : goal.invariant-loop-var

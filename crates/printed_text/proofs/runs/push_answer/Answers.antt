@@ -1,4 +1,4 @@
-use Rattle.printed_text.proofs.Words.{append_assoc}
+use Rattle.printed_text.proofs.Cited.{append_assoc}
 use Rattle.printed_text.proofs.runs.push_answer.Goals as goal
 
 pub returns : goal.returns

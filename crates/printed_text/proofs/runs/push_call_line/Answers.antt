@@ -1,4 +1,4 @@
-use Rattle.printed_text.proofs.Words.{append_assoc, ℕ, [], ◌∷◌, decimal, sym, call_word, option_words, outcome, value_words}
+use Rattle.printed_text.proofs.Cited.{append_assoc, ℕ, [], ◌∷◌, decimal, sym, call_word, option_words, outcome, value_words}
 use Rattle.printed_text.proofs.WordLaws.{call_words}
 use Rattle.printed_text.proofs.runs.push_call_line.Goals as goal
 

@@ -1,4 +1,4 @@
-use Rattle.printed_text.proofs.Words.{ℕ, ap, ◌∙◌, List, [], ◌∷◌, ◌++◌, length, enumerate_from, zip, length_push, YieldsList-from_slice, YieldsList-from_zip, YieldsList-from_enumerate, YieldsList-turn, YieldsList-end, Bor, Header, Call, Answer, call_lines}
+use Rattle.printed_text.proofs.Cited.{ℕ, ap, ◌∙◌, List, [], ◌∷◌, ◌++◌, length, enumerate_from, zip, length_push, YieldsList-from_slice, YieldsList-from_zip, YieldsList-from_enumerate, YieldsList-turn, YieldsList-end, Bor, Header, Call, Answer, call_lines}
 use Rattle.printed_text.proofs.WordLaws.{next_pushed, all_pushed}
 use Rattle.printed_text.proofs.runs.push_calls.Goals as goal
 

@@ -1,4 +1,4 @@
-use Rattle.printed_text.proofs.Words.{◌∷◌, ◌++◌, decimal, then_append}
+use Rattle.printed_text.proofs.Cited.{◌∷◌, ◌++◌, decimal, then_append}
 use Rattle.printed_text.proofs.runs.push_holder.Goals as goal
 
 pub returns : goal.returns

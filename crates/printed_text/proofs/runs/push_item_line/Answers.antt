@@ -1,4 +1,4 @@
-use Rattle.printed_text.proofs.Words.{append_assoc, decimal, sym, code_word, option_words, value_words}
+use Rattle.printed_text.proofs.Cited.{append_assoc, decimal, sym, code_word, option_words, value_words}
 use Rattle.printed_text.proofs.WordLaws.{item_words}
 use Rattle.printed_text.proofs.runs.push_item_line.Goals as goal
 

@@ -1,4 +1,4 @@
-use Rattle.printed_text.proofs.Words.{◌+◌, refl, arith, item_line}
+use Rattle.printed_text.proofs.Cited.{◌+◌, refl, arith, item_line}
 use Rattle.printed_text.proofs.WordLaws.{next_pushed}
 use Rattle.printed_text.proofs.runs.push_items.Goals as goal
 

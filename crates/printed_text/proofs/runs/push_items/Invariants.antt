@@ -1,4 +1,4 @@
-use Rattle.printed_text.proofs.Words.{◌≡◌, ◌++◌, take, flat_map, item_line}
+use Rattle.printed_text.proofs.Cited.{◌≡◌, ◌++◌, take, flat_map, item_line}
 use Rattle.printed_text.proofs.runs.push_items.Given as goal
 
 abbrev pub invariant-loop-item : goal.invariant-loop-item

@@ -1,4 +1,4 @@
-use Rattle.printed_text.proofs.Words.{◌≡◌, ◌++◌, map, take, mark_word, spaced}
+use Rattle.printed_text.proofs.Cited.{◌≡◌, ◌++◌, map, take, mark_word, spaced}
 use Rattle.printed_text.proofs.runs.push_marks.Given as goal
 
 abbrev pub invariant-loop-mark : goal.invariant-loop-mark

@@ -1,4 +1,4 @@
-use Rattle.printed_text.proofs.Words.{append_assoc, map, codes, mark_word}
+use Rattle.printed_text.proofs.Cited.{append_assoc, map, codes, mark_word}
 use Rattle.printed_text.proofs.WordLaws.{joined_spaced}
 use Rattle.printed_text.proofs.runs.push_order.Goals as goal
 

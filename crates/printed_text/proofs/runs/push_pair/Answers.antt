@@ -1,4 +1,4 @@
-use Rattle.printed_text.proofs.Words.{List, ℕ, ◌∷◌, ◌++◌, codes, decimal, ap, ◌∙◌, then_append}
+use Rattle.printed_text.proofs.Cited.{List, ℕ, ◌∷◌, ◌++◌, codes, decimal, ap, ◌∙◌, then_append}
 use Rattle.printed_text.proofs.WordLaws.{pair_spaced}
 use Rattle.printed_text.proofs.runs.push_pair.Goals as goal
 

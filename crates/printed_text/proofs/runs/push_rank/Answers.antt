@@ -1,4 +1,4 @@
-use Rattle.printed_text.proofs.Words.{List, ℕ, ◌++◌, codes, decimal, enumerate_from, flat_map, zip, call_lines, text_line, then_append}
+use Rattle.printed_text.proofs.Cited.{List, ℕ, ◌++◌, codes, decimal, enumerate_from, flat_map, zip, call_lines, text_line, then_append}
 use Rattle.printed_text.proofs.runs.push_rank.Goals as goal
 
 pub returns : goal.returns

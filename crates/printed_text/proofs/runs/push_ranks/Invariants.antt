@@ -1,4 +1,4 @@
-use Rattle.printed_text.proofs.Words.{◌≡◌, ◌++◌, length, take, enumerate_from, flat_map, zip, rank_lines}
+use Rattle.printed_text.proofs.Cited.{◌≡◌, ◌++◌, length, take, enumerate_from, flat_map, zip, rank_lines}
 use Rattle.printed_text.proofs.runs.push_ranks.Given as goal
 
 abbrev pub invariant-loop-rank : goal.invariant-loop-rank

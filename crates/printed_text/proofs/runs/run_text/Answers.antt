@@ -1,4 +1,4 @@
-use Rattle.printed_text.proofs.Words.{List, ℕ, ◌∷◌, ◌++◌, codes, decimal, map, ap, ◌∙◌, enumerate_from, flat_map, zip, line, mark_word, offsets_text, rank_lines, text_line, then_append}
+use Rattle.printed_text.proofs.Cited.{List, ℕ, ◌∷◌, ◌++◌, codes, decimal, map, ap, ◌∙◌, enumerate_from, flat_map, zip, line, mark_word, offsets_text, rank_lines, text_line, then_append}
 use Rattle.printed_text.proofs.runs.run_text.Goals as goal
 
 pub returns : goal.returns

@@ -1,4 +1,4 @@
-use Rattle.printed_text.proofs.Words.{ℕ, ◌-◌, ◌/◌, List, [], ◌∷◌, ◌++◌, sym, ap, ◌∙◌, arith, hex}
+use Rattle.printed_text.proofs.Cited.{ℕ, ◌-◌, ◌/◌, List, [], ◌∷◌, ◌++◌, sym, ap, ◌∙◌, arith, hex}
 use Rattle.std.proofs.Common.{append_assoc}
 use Rattle.printed_text.proofs.WordLaws.{hex_last}
 use Rattle.printed_text.proofs.words.+push_hex.Goals as goal

@@ -1,4 +1,4 @@
-use Rattle.printed_text.proofs.Words.{◌≡◌, arith, common_steps, to_z-of_z, signed_decimal}
+use Rattle.printed_text.proofs.Cited.{◌≡◌, arith, common_steps, to_z-of_z, signed_decimal}
 use mir.Syntax.{w128}
 use mir.Val.{to_z, of_z}
 use Rattle.printed_text.proofs.WordLaws.{spaced_next}

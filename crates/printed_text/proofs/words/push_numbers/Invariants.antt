@@ -1,4 +1,4 @@
-use Rattle.printed_text.proofs.Words.{◌≡◌, ◌++◌, map, take, signed_decimal, spaced}
+use Rattle.printed_text.proofs.Cited.{◌≡◌, ◌++◌, map, take, signed_decimal, spaced}
 use Rattle.printed_text.proofs.words.push_numbers.Given as goal
 
 abbrev pub invariant-loop-k : goal.invariant-loop-k

@@ -1,4 +1,4 @@
-use Rattle.printed_text.proofs.Words.{◌∷◌, ℕ, arith, common_steps, hex}
+use Rattle.printed_text.proofs.Cited.{◌∷◌, ℕ, arith, common_steps, hex}
 use Rattle.printed_text.proofs.WordLaws.{spaced_next}
 use Rattle.printed_text.proofs.words.push_patterns.Goals as goal
 

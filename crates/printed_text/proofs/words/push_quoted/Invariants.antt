@@ -1,4 +1,4 @@
-use Rattle.printed_text.proofs.Words.{◌≡◌, ◌++◌, take, flat_map, text_char}
+use Rattle.printed_text.proofs.Cited.{◌≡◌, ◌++◌, take, flat_map, text_char}
 use Rattle.printed_text.proofs.words.push_quoted.Given as goal
 
 abbrev pub invariant-loop-byte : goal.invariant-loop-byte

@@ -1,5 +1,5 @@
 -- Each digit goes before those that are written.
-use Rattle.printed_text.proofs.Words.{◌≡◌, ◌+◌, ◌-◌, arith, common_steps}
+use Rattle.printed_text.proofs.Cited.{◌≡◌, ◌+◌, ◌-◌, arith, common_steps}
 use Rattle.printed_text.proofs.WordLaws.{hex_next}
 use Rattle.printed_text.proofs.words.write_hex.Goals as goal
 

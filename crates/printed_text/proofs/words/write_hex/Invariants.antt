@@ -1,4 +1,4 @@
-use Rattle.printed_text.proofs.Words.{◌≡◌, ◌≤◌, ◌-◌, ◌++◌, drop, hex}
+use Rattle.printed_text.proofs.Cited.{◌≡◌, ◌≤◌, ◌-◌, ◌++◌, drop, hex}
 use Rattle.printed_text.proofs.words.write_hex.Given as goal
 
 abbrev pub invariant-loop-at : goal.invariant-loop-at

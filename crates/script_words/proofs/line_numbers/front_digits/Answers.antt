@@ -1,5 +1,5 @@
 -- So few digits have room.
-use Rattle.script_words.proofs.Words.{arith, get_or, sym, ◌∙◌, digit_bounds}
+use Rattle.script_words.proofs.Cited.{arith, get_or, sym, ◌∙◌, digit_bounds}
 use Rattle.script_words.proofs.FrontLaws.{tens-few}
 use Rattle.script_words.proofs.line_numbers.front_digits.Goals as goal
 

@@ -1,4 +1,4 @@
-use Rattle.script_words.proofs.Words.{◌≡◌, ◌≤◌, ◌<◌, ◌-◌, take, true, list_all, tens, is_digit, digits_value}
+use Rattle.script_words.proofs.Cited.{◌≡◌, ◌≤◌, ◌<◌, ◌-◌, take, true, list_all, tens, is_digit, digits_value}
 use Rattle.script_words.proofs.line_numbers.front_digits.Given as goal
 
 abbrev pub invariant-loop-len : goal.invariant-loop-len

@@ -1,4 +1,4 @@
-use Rattle.script_words.proofs.Words.{arith, ints}
+use Rattle.script_words.proofs.Cited.{arith, ints}
 use Rattle.script_words.proofs.line_numbers.negative.Goals as goal
 
 pub returns : goal.returns

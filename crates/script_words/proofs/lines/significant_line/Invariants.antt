@@ -1,4 +1,4 @@
-use Rattle.script_words.proofs.Words.{◌≡◌, length, significant_of}
+use Rattle.script_words.proofs.Cited.{◌≡◌, length, significant_of}
 use Rattle.script_words.proofs.lines.significant_line.Given as goal
 
 abbrev pub invariant-loop-number : goal.invariant-loop-number

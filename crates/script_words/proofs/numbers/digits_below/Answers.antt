@@ -1,4 +1,4 @@
-use Rattle.script_words.proofs.Words.{◌≡◌, ◌≤◌, ◌+◌, ◌*◌, ◌-◌, arith, get_or, take, digits_value}
+use Rattle.script_words.proofs.Cited.{◌≡◌, ◌≤◌, ◌+◌, ◌*◌, ◌-◌, arith, get_or, take, digits_value}
 use Rattle.script_words.proofs.NumberLaws.{digit_at, value_more}
 use Rattle.script_words.proofs.numbers.digits_below.Goals as goal
 

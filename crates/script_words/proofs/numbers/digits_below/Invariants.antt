@@ -1,4 +1,4 @@
-use Rattle.script_words.proofs.Words.{◌≡◌, take, min, digits_value}
+use Rattle.script_words.proofs.Cited.{◌≡◌, take, min, digits_value}
 use Rattle.script_words.proofs.numbers.digits_below.Given as goal
 
 abbrev pub invariant-loop-d : goal.invariant-loop-d

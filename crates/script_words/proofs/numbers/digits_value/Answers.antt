@@ -1,4 +1,4 @@
-use Rattle.script_words.proofs.Words.{◌≡◌, ◌≤◌, ◌+◌, ◌*◌, ◌-◌, arith, get_or, take, add-one, tens-fits, digits_value}
+use Rattle.script_words.proofs.Cited.{◌≡◌, ◌≤◌, ◌+◌, ◌*◌, ◌-◌, arith, get_or, take, add-one, tens-fits, digits_value}
 use Rattle.script_words.proofs.NumberLaws.{digit_at, value_more}
 use Rattle.script_words.proofs.numbers.digits_value.Goals as goal
 

@@ -1,4 +1,4 @@
-use Rattle.script_words.proofs.Words.{arith, common_steps}
+use Rattle.script_words.proofs.Cited.{arith, common_steps}
 use Rattle.script_words.proofs.NumberLaws.{sixteens-more, bad_digit}
 use Rattle.script_words.proofs.numbers.hex_number.Goals as goal
 

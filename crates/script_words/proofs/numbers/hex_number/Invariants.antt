@@ -1,4 +1,4 @@
-use Rattle.script_words.proofs.Words.{◌≡◌, ◌<◌, drop, fold, Some, sixteens, hex_sum}
+use Rattle.script_words.proofs.Cited.{◌≡◌, ◌<◌, drop, fold, Some, sixteens, hex_sum}
 use Rattle.script_words.proofs.numbers.hex_number.Given as goal
 
 abbrev pub invariant-loop-digit : goal.invariant-loop-digit

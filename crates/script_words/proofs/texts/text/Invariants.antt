@@ -1,4 +1,4 @@
-use Rattle.script_words.proofs.Words.{◌≡◌, ◌+◌, ◌≤◌, length, text_from, Between}
+use Rattle.script_words.proofs.Cited.{◌≡◌, ◌+◌, ◌≤◌, length, text_from, Between}
 use Rattle.script_words.proofs.TextLaws.{with_front}
 use Rattle.script_words.proofs.texts.text.Given as goal
 

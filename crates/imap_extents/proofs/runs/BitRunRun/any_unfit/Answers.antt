@@ -1,4 +1,4 @@
-use Rattle.imap_extents.proofs.Words.{◌≡◌, ◌+◌, ◌-◌, ◌∙◌, sym, arith}
+use Rattle.imap_extents.proofs.Cited.{◌≡◌, ◌+◌, ◌-◌, ◌∙◌, sym, arith}
 use Rattle.imap_extents.proofs.EndLaws.{patterns_by_last}
 use Rattle.imap_extents.proofs.runs.BitRunRun.any_unfit.Goals as goal
 

@@ -1,4 +1,4 @@
-use Rattle.imap_extents.proofs.Words.{◌+◌, ◌*◌, ◌^◌, ◌++◌, ◌∙◌, ap, refl, ℕ, List, ◌%◌, on_ok_weaker}
+use Rattle.imap_extents.proofs.Cited.{◌+◌, ◌*◌, ◌^◌, ◌++◌, ◌∙◌, ap, refl, ℕ, List, ◌%◌, on_ok_weaker}
 use Rattle.nc_base.specs.declared.request.Value.TheVariants as value
 use Rattle.imap_extents.proofs.CodeLaws.{fitting_forms}
 use Rattle.imap_extents.proofs.runs.BitRunRun.push_fitting.Goals as goal

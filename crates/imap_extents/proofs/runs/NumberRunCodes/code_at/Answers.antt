@@ -1,4 +1,4 @@
-use Rattle.imap_extents.proofs.Words.{rules, ◌^◌, ◌<◌, ◌∙◌, ap, refl, arith, pos, FitsSigned, of_z, w64}
+use Rattle.imap_extents.proofs.Cited.{rules, ◌^◌, ◌<◌, ◌∙◌, ap, refl, arith, pos, FitsSigned, of_z, w64}
 use Rattle.std.proofs.Common.{ℤ}
 use Rattle.imap_extents.proofs.CodeLaws.{wrapped_step}
 use Rattle.imap_extents.proofs.runs.NumberRunCodes.code_at.Goals as goal

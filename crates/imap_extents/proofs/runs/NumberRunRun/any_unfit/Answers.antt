@@ -1,4 +1,4 @@
-use Rattle.imap_extents.proofs.Words.{◌≡◌, ◌+◌, ◌-◌, ◌∙◌, ap, sym, not, arith, Value, fits}
+use Rattle.imap_extents.proofs.Cited.{◌≡◌, ◌+◌, ◌-◌, ◌∙◌, ap, sym, not, arith, Value, fits}
 use Rattle.imap_extents.proofs.EndLaws.{numbers_by_last}
 use Rattle.imap_extents.proofs.runs.NumberRunRun.any_unfit.Goals as goal
 

@@ -1,4 +1,4 @@
-use Rattle.imap_extents.proofs.Words.{◌++◌, ◌∙◌, ap, ℕ, List, ◌*ℤ◌, w64, cast_unsigned, int_wrap, on_ok_weaker}
+use Rattle.imap_extents.proofs.Cited.{◌++◌, ◌∙◌, ap, ℕ, List, ◌*ℤ◌, w64, cast_unsigned, int_wrap, on_ok_weaker}
 use Rattle.std.specs.Prelude.{pos, ◌+ℤ◌}
 use Rattle.nc_base.specs.declared.request.Value.TheVariants as value
 use Rattle.imap_extents.proofs.CodeLaws.{number_form, fitting_forms}

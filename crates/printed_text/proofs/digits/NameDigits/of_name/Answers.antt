@@ -1,4 +1,4 @@
-use Rattle.printed_text.proofs.Words.{ℕ, Option, ap, ◌∙◌, unwrap_or, Header, digits_of_name}
+use Rattle.printed_text.proofs.Cited.{ℕ, Option, ap, ◌∙◌, unwrap_or, Header, digits_of_name}
 use Rattle.printed_text.proofs.DigitLaws.{digits_named}
 use Rattle.printed_text.proofs.digits.NameDigits.of_name.Goals as goal
 

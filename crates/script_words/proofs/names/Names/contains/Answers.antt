@@ -1,4 +1,4 @@
-use Rattle.script_words.proofs.Words.{◌∙◌, sym, ap, bytes_eq, any_map, is_among}
+use Rattle.script_words.proofs.Cited.{◌∙◌, sym, ap, bytes_eq, any_map, is_among}
 use Rattle.script_words.proofs.names.Names.contains.Goals as goal
 
 pub returns : goal.returns

@@ -1,4 +1,4 @@
-use Rattle.script_words.proofs.Words.{◌∙◌, sym, ap, bytes_eq, position, position_map}
+use Rattle.script_words.proofs.Cited.{◌∙◌, sym, ap, bytes_eq, position, position_map}
 use Rattle.script_words.proofs.names.Names.find.Goals as goal
 
 pub returns-clause-value : goal.returns-clause-value

@@ -1,4 +1,4 @@
-use Rattle.script_words.proofs.Words.{◌∙◌, List, ℕ, [], ◌∷◌, ◌++◌, sym, ap, bytes_eq, any_map, is_among}
+use Rattle.script_words.proofs.Cited.{◌∙◌, List, ℕ, [], ◌∷◌, ◌++◌, sym, ap, bytes_eq, any_map, is_among}
 use Rattle.script_words.proofs.NameLaws.{pushed}
 use Rattle.script_words.proofs.names.Names.push.Goals as goal
 

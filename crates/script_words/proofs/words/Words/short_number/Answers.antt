@@ -1,5 +1,5 @@
 -- The first word is the one whose number was read.
-use Rattle.script_words.proofs.Words.{◌≡◌, sym, arith, common_steps, to_z-of_z}
+use Rattle.script_words.proofs.Cited.{◌≡◌, sym, arith, common_steps, to_z-of_z}
 use mir.Syntax.{w64}
 use mir.Val.{to_z, of_z}
 use Rattle.script_words.proofs.FrontLaws.{number_first}

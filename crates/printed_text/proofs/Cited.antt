@@ -1,4 +1,4 @@
--- The words of this crate's proofs, from where they stand.
+-- The words that this crate's proofs cite, from where they stand.
 pub use Rattle.std.proofs.Common.{Bool, List, None, Option, Some, [], ap, arith, codes, cond, decimal, drop, false, fold, get_or, inl, inr, length, map, min, refl, set, subst, suc, sym, take, true, zero, ℕ, ◌%◌, ◌++◌, ◌+◌, ◌-◌, ◌/◌, ◌<◌, ◌^◌, ◌∙◌, ◌∷◌, ◌≡◌, ◌≤◌, ◌⊎◌}
 pub use Rattle.std.proofs.lemmas.Bool.{ltb-false}
 pub use Rattle.std.proofs.lemmas.Grind.{common_steps}

@@ -1,4 +1,4 @@
--- The words of this crate's proofs, from where they stand.
+-- The words that this crate's proofs cite, from where they stand.
 pub use Rattle.std.proofs.Common.{Bool, FitsSigned, List, None, Option, Some, [], ap, append-nil, append_assoc, arith, cond, drop, eqb, false, get_or, inl, inr, leb, length, length-append, length-set, map, max, negsuc, not, of_z, pos, refl, replicate, rules, set, subst, suc, sym, take, to_z, true, zero, zip, ℕ, ◌*◌, ◌++◌, ◌+ℤ◌, ◌+◌, ◌-◌, ◌/◌, ◌<◌, ◌^◌, ◌||◌, ◌∙◌, ◌∷◌, ◌≡◌, ◌≤ℤ◌, ◌≤◌, ◌⊎◌}
 pub use Rattle.std.proofs.Math.IntN.{neg_ℤ}
 pub use Rattle.std.proofs.Math.Nat.{mul-le-mul_left}

@@ -1,4 +1,4 @@
--- The words of this crate's proofs, from where they stand.
+-- The words that this crate's proofs cite, from where they stand.
 pub use Rattle.std.proofs.Common.{Bool, List, None, Option, Some, [], add-one, ap, arith, bytes_eq, cond, drop, drop-cons, false, fold, get_or, length, length-drop, map, min, nat_le, nat_lt, neg_ℤ, not, option_map, pos, position, refl, subst, suc, sym, take, true, zero, ℕ, ℤ, ◌&&◌, ◌*◌, ◌++◌, ◌+◌, ◌-◌, ◌<◌, ◌==◌, ◌^◌, ◌∙◌, ◌∷◌, ◌≡◌, ◌≢◌, ◌≤◌}
 pub use Rattle.std.proofs.lemmas.Bool.{and_parts, false_from_ne_true}
 pub use Rattle.std.proofs.lemmas.Bool.Decides.{nat_tests}

@@ -1,4 +1,4 @@
--- The words of this crate's proofs, from where they stand.
+-- The words that this crate's proofs cite, from where they stand.
 pub use Rattle.std.proofs.Common.{Bool, List, None, Option, Some, [], ap, append_assoc, arith, codes, cond, decimal, false, get_or, le-leb, length, lt-ltb, map, ne_eqb, refl, suc, sym, take, true, zero, ℕ, ◌%◌, ◌++◌, ◌+◌, ◌/◌, ◌<◌, ◌==◌, ◌^◌, ◌∙◌, ◌∷◌, ◌≡◌, ◌≤◌}
 pub use Rattle.std.proofs.lemmas.Grind.{common_steps}
 pub use Rattle.std.proofs.lemmas.List.{map_more}
