@@ -1,5 +1,5 @@
 -- A meeting that was cut off.
-use Rattle.turn_run.proofs.Words.{◌≡◌, ℕ, ◌+◌, ◌<◌, ◌≤◌, refl, sym, ◌∙◌, ap, subst, inl, inr, ◌⊎◌, List, [], ◌∷◌, ◌++◌, length, max, Bool, true, false, cond, Option, Some, None, arith, append-nil, flat_map, nat_lt, ◌==◌, IfSome, if◌then◌else◌, enumerate_from, list_any, byte_len, Batch, Call, Mark, Meet, Offer, StepErr, Memory, after, BothTold, needed_now, at, Setting, Counted, after_puts, meeting, puts_of, raised, told, count, count_width, with_records, Puts, covered, IsTorn, IsLeft, at-written_before, after_keeps, after_round, counted, puts_in, counted_past, torn_by, torn_sides, round_grows, told_as, Header, Script, is_lawful, meetings, completed_by, point, AreRunners, HaveArrived, HaveMet, StopsAt, HasStopped, IsNext, bytes_at, in_step, step_to, arrived_all, batches_of, held_offers, known_of, met, Runner, after_grows, raised_grows, ext_get_or, may_change}
+use Rattle.turn_run.proofs.Words.{◌≡◌, ℕ, ◌+◌, ◌<◌, ◌≤◌, refl, sym, ◌∙◌, ap, subst, inl, inr, ◌⊎◌, List, [], ◌∷◌, ◌++◌, length, max, Bool, true, false, cond, Option, Some, None, arith, append-nil, flat_map, nat_lt, ◌==◌, IfSome, if◌then◌else◌, enumerate_from, list_any, byte_len, Batch, Call, Mark, Meet, Offer, StepErr, Memory, after, BothTold, needed_now, at, Setting, Counted, after_puts, puts_of, raised, told, count, count_width, with_records, Puts, covered, IsTorn, IsLeft, at-written_before, after_keeps, after_round, counted, puts_in, counted_past, torn_by, torn_sides, round_grows, told_as, Header, Script, is_lawful, meetings, completed_by, point, AreRunners, HaveArrived, HaveMet, StopsAt, HasStopped, IsNext, bytes_at, in_step, step_to, arrived_all, held_offers, met, Runner, after_grows, raised_grows, ext_get_or, may_change}
 use Rattle.turn_run.proofs.MeetDone.{begun_after}
 use Rattle.turn_run.specs.Cuts.StopsAt.{between}
 use Rattle.turn_run.proofs.HalfLaws.{needed_of_none}

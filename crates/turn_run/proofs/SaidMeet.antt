@@ -1,5 +1,5 @@
 -- The answers of the ranks of a meeting, also where it was cut off.
-use Rattle.turn_run.proofs.Words.{◌≡◌, ℕ, zero, suc, ◌<◌, ◌≤◌, refl, sym, ◌∙◌, ap, subst, inl, inr, ◌⊎◌, List, [], ◌∷◌, ◌++◌, length, map, max, set, Bool, true, false, Option, Some, None, append_assoc, arith, nat_tests, fold-append, append_cancel_left, same_Some, slice_get_within, slice_get, fold, zip, nat_lt, IfSome, Answer, Pair, Header, Batch, Call, Hints, Script, Mark, Meet, Offer, Reply, StepErr, Memory, after, needed_now, Setting, Counted, after_puts, get_post, meeting, told, Going, advance, after_mark, hears, offers_of, Begins, counted, puts_in, Arrived, Stand, heard, step_to, point, HasSaid, AllSay, HasReached, AreAnswers, HaveAnswers, HaveHeardInPart, KeepAnswers, all_between, asking, between, calls_of, reply_of, AreFreed, HasHeard, HaveArrived, HaveMet, AreRunners, Stage, Leads, IsLed, HasLed, arrived, arrived_all, stand_of, batches_of, held_offers, known_of, met, Runner, if_some_at, entry_below, entry_map, gone_up, is_lawful, ranks_lawful, setting_of}
+use Rattle.turn_run.proofs.Words.{◌≡◌, ℕ, zero, suc, ◌<◌, ◌≤◌, refl, sym, ◌∙◌, ap, subst, inl, inr, ◌⊎◌, List, [], ◌∷◌, ◌++◌, length, map, set, Bool, true, false, Option, Some, None, append_assoc, arith, nat_tests, fold-append, append_cancel_left, same_Some, slice_get_within, slice_get, fold, zip, nat_lt, IfSome, Answer, Pair, Header, Batch, Call, Hints, Script, Mark, Meet, Offer, Reply, StepErr, Memory, Setting, Counted, meeting, Going, advance, after_mark, hears, offers_of, Begins, counted, Arrived, Stand, heard, step_to, point, HasSaid, AllSay, HasReached, AreAnswers, HaveAnswers, HaveHeardInPart, KeepAnswers, all_between, asking, between, calls_of, reply_of, AreFreed, HasHeard, HaveArrived, AreRunners, Stage, Leads, IsLed, HasLed, arrived, arrived_all, stand_of, Runner, if_some_at, entry_below, entry_map, gone_up, is_lawful, ranks_lawful, setting_of}
 use Rattle.turn_run.proofs.AloneLaws.{arrived_held}
 use Rattle.turn_run.proofs.MeetDone.{heard_before}
 use Rattle.turn_run.proofs.MeetOffers.{meets_at}

@@ -1,5 +1,5 @@
 -- What is told of steps, one after another, and of a whole run.
-use Rattle.turn_run.proofs.Words.{◌≡◌, ◌+◌, ℕ, suc, refl, sym, ◌∙◌, ap, subst, List, [], ◌∷◌, ◌++◌, length, map, max, replicate, set, take, true, Option, Some, None, append_assoc, length-append, arith, append-nil, append_cancel_left, map-append, fold-append, slice_get, fold, IfSome, enumerate_from, Header, Batch, Call, Hints, Script, DiskCall, Mark, Meet, Solo, Offer, with_end, needed_now, Counted, Setting, is_lawful, told_of, Going, after_mark, first_state, setting_of, counted, puts_in, step_to, Arrived, Stand, point, arrived_all, stage, stand_of, HasGone, HasLed, IsLed, Stage, rank_stage, batches_of, first_runner, held_offers, known_of, counts_along, told_marks, told_over, HasTold, HasToldMore, Runner, entry_set, with_end-with_end, with_end-nil, gone_up, arrival_step}
+use Rattle.turn_run.proofs.Words.{◌≡◌, ◌+◌, ℕ, suc, refl, sym, ◌∙◌, ap, subst, List, [], ◌∷◌, ◌++◌, length, map, max, replicate, set, take, true, Option, Some, None, append_assoc, length-append, arith, append-nil, append_cancel_left, map-append, fold-append, slice_get, fold, IfSome, enumerate_from, Header, Batch, Call, Hints, Script, DiskCall, Mark, Meet, Solo, Offer, with_end, needed_now, Counted, Setting, is_lawful, told_of, Going, after_mark, first_state, setting_of, counted, puts_in, step_to, Arrived, Stand, point, arrived_all, stage, stand_of, HasGone, HasLed, IsLed, Stage, rank_stage, first_runner, counts_along, told_marks, told_over, HasTold, HasToldMore, Runner, entry_set, with_end-with_end, with_end-nil, gone_up, arrival_step}
 use Rattle.turn_run.proofs.CutLaws.{solo_at}
 use Rattle.turn_run.proofs.MeetStep.{meet_at, met_count, IsTaken}
 use Rattle.turn_run.proofs.TurnRuns.{first_stage}
