@@ -1,5 +1,5 @@
 -- Counts and positions, one dimension more.
-use Rattle.vara_extents.proofs.Words.{◌≡◌, ℕ, ◌+◌, ◌-◌, ◌*◌, ◌<◌, ◌∙◌, ap, sym, List, length, take, get_or, zip, arith, sum_by, sum_by_more, length-zip, get_or-zip, product, capped, capped_product, product_more}
+use Rattle.vara_extents.proofs.Words.{◌≡◌, ℕ, ◌+◌, ◌-◌, ◌*◌, ◌<◌, ap, List, length, take, get_or, zip, arith, sum_by, sum_by_more, length-zip, get_or-zip, capped}
 
 pub one_farther : (counts imap : List ℕ) (i s n : ℕ) → i < length counts → length imap ≡ length counts
     → s ≡ capped (sum_by (λ (p : ℕ × ℕ). (p.0 - 1) * p.1) (take i (zip counts imap))) → n ≡ capped ((get_or counts i 0 - 1) * get_or imap i 0)

@@ -1,5 +1,5 @@
 -- Rows and runs of elements by their numbers, one dimension more.
-use Rattle.vara_extents.proofs.Words.{◌≡◌, ℕ, zero, suc, ◌+◌, ◌-◌, ◌*◌, ◌/◌, ◌%◌, ◌^◌, ◌<◌, ◌≤◌, ◌⊎◌, min, inr, refl, sym, ap, subst, ◌∙◌, List, [], ◌∷◌, length, take, drop, get_or, true, false, arith, slice_get, take_rest, mod_below, mul-le, mul-le-mul_left, eqb-true, eqb-false, index_fixed, index_record, Header, Var, Region, size_of, product, length_of, recsize, is_record, starts_with_zero, without_record, lengths_of, row, place, record_of, within_record, HasRecord, IsIndex, IsElement, index_at, product_pos, place_fixed, place_record, capped, coordinates_of, index_of, row_of, AreRuns}
+use Rattle.vara_extents.proofs.Words.{◌≡◌, ℕ, zero, suc, ◌+◌, ◌-◌, ◌*◌, ◌/◌, ◌%◌, ◌^◌, ◌<◌, ◌≤◌, ◌⊎◌, min, inr, refl, sym, ap, subst, ◌∙◌, List, [], ◌∷◌, length, take, drop, get_or, true, false, arith, slice_get, take_rest, mod_below, mul-le, mul-le-mul_left, eqb-true, eqb-false, index_fixed, index_record, Header, Var, Region, size_of, product, length_of, recsize, is_record, starts_with_zero, without_record, lengths_of, row, place, record_of, within_record, HasRecord, IsIndex, IsElement, index_at, product_pos, place_fixed, place_record, coordinates_of, index_of, row_of, AreRuns}
 use Rattle.vara_extents.proofs.RunLaws.{kept, merged, same_runs, sized}
 
 -- the list after its first entry, as a pattern takes it

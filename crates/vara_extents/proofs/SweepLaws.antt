@@ -1,6 +1,6 @@
 -- Whether regions meet is the same in any order and without those that have no element, and the sweep over regions in the order of
 -- their first elements finds it.
-use Rattle.vara_extents.proofs.Words.{◌≡◌, ℕ, zero, suc, ◌+◌, ◌*◌, ◌<◌, ◌≤◌, ◌∙◌, ap, sym, refl, inl, inr, ◌⊎◌, List, [], ◌∷◌, length, drop, get_or, subst, Bool, true, false, cond, ltb, eqb, ◌||◌, ◌&&◌, max, min, arith, filter, slice_cmp, IsStrictWeakOrder, swap, IsPermutation, IsSortedBy, is_lt, nat_cmp, ordering_then, Less, Equal, Greater, both_ways, ltb-true, lt-ltb, le-ltb, eqb-true, eq-eqb, and_from, and_parts, or_cases, or_left, or_right, or_parts, cases_lt, cases_eq, and_right, nat_list_cmp_total, mul-le, get_or-drop, get_or_default, length-drop, length-swap, swapped_from_swap, All-head, All-tail, ranks_by, sorted_far, IsPermutation-keeps, IsPermutation-sym, drop-cons, no_false, Region, product, has_element, boxes_meet, is_past, meets_any, some_meet, AreByStart, BeginsBy}
+use Rattle.vara_extents.proofs.Words.{◌≡◌, ℕ, zero, suc, ◌+◌, ◌*◌, ◌<◌, ◌≤◌, ◌∙◌, ap, sym, refl, inl, inr, ◌⊎◌, List, [], ◌∷◌, length, drop, get_or, subst, Bool, true, false, cond, ltb, eqb, ◌||◌, ◌&&◌, max, min, arith, filter, slice_cmp, IsStrictWeakOrder, swap, IsPermutation, IsSortedBy, is_lt, nat_cmp, ordering_then, Less, Equal, Greater, both_ways, ltb-true, lt-ltb, le-ltb, eqb-true, eq-eqb, and_from, and_parts, or_cases, or_left, or_right, or_parts, cases_lt, cases_eq, and_right, nat_list_cmp_total, mul-le, get_or-drop, get_or_default, length-drop, length-swap, swapped_from_swap, All-head, All-tail, ranks_by, sorted_far, IsPermutation-keeps, IsPermutation-sym, drop-cons, no_false, Region, product, has_element, boxes_meet, is_past, meets_any, some_meet, AreByStart, BeginsBy, begins_past, led_by, slice_get, unwrap_or}
 use Rattle.std.specs.List.{All}
 
 -- ---- past the last index of a box
@@ -66,48 +66,74 @@ past_apart [] counts others lengths h = no_false h
 
 -- ---- regions in the order of their first elements
 
-abbrev pub starts_before : Region → Region → Bool
-starts_before g h = is_lt (slice_cmp nat_cmp g.start h.start)
+abbrev pub starts_before : ℕ → Region → Region → Bool
+starts_before axis g h = is_lt (slice_cmp nat_cmp (led_by axis 0 g.start) (led_by axis 0 h.start))
 
-pub start_ranks : IsStrictWeakOrder starts_before
-start_ranks = ranks_by nat_list_cmp_total (λ (g : Region). g.start)
+pub start_ranks : (axis : ℕ) → IsStrictWeakOrder (starts_before axis)
+start_ranks axis = ranks_by nat_list_cmp_total (λ (g : Region). led_by axis 0 g.start)
 
-pub by_start : (regions : List Region) → IsSortedBy starts_before regions → AreByStart regions
-by_start regions up i j d l m = sorted_far starts_before start_ranks regions up i j d (omega (arith, l)) m
+pub by_start : (axis : ℕ) (regions : List Region) → IsSortedBy (starts_before axis) regions → AreByStart axis regions
+by_start axis regions up i j d l m = sorted_far (starts_before axis) (start_ranks axis) regions up i j d (omega (arith, l)) m
 
-pub in_order_drop : (n : ℕ) (regions : List Region) → AreByStart regions → AreByStart (drop n regions)
-in_order_drop n regions up i j d l m =
+pub in_order_drop : (axis n : ℕ) (regions : List Region) → AreByStart axis regions → AreByStart axis (drop n regions)
+in_order_drop axis n regions up i j d l m =
     let long = length-drop n regions in
-    subst (λ (g : Region). BeginsBy g (get_or (drop n regions) j d)) (sym (get_or-drop n regions i d))
-    (subst (λ (h : Region). BeginsBy (get_or regions (n + i) d) h) (sym (get_or-drop n regions j d)) (up (n + i) (n + j) d (omega (arith, l)) (omega (arith, m, long))))
+    subst (λ (g : Region). BeginsBy axis g (get_or (drop n regions) j d)) (sym (get_or-drop n regions i d))
+    (subst (λ (h : Region). BeginsBy axis (get_or regions (n + i) d) h) (sym (get_or-drop n regions j d)) (up (n + i) (n + j) d (omega (arith, l)) (omega (arith, m, long))))
 
-later_past : (g other : Region) (others : List Region) → is_past g.start g.count other.start ≡ true → All (BeginsBy other) others → meets_any g others ≡ false
-later_past g other [] h up = refl
-later_past g other (x ∷ others) h up =
-    λ j. past_apart g.start g.count x.start x.count (past_on g.start g.count other.start x.start h (All-head (BeginsBy other) x others up)) j
-    || later_past g other others h (All-tail (BeginsBy other) x others up) j
+not_then : (b c : Bool) → (b ≡ true → c ≡ true) → c ≡ false → b ≡ false
+not_then false c f e = refl
+not_then true c f e = absurd (both_ways c e (f refl))
+
+-- two boxes that share an index do so along each axis
+meet_along : (starts counts others lengths : List ℕ) (axis : ℕ) → boxes_meet starts counts others lengths ≡ true
+    → boxes_meet (led_by axis 0 starts) (led_by axis 1 counts) (led_by axis 0 others) (led_by axis 1 lengths) ≡ true
+meet_along starts counts others lengths axis h =
+    and_from (ltb (max (first starts 0) (first others 0)) (min (first starts 0 + first counts 1) (first others 0 + first lengths 1))) (boxes_meet starts counts others lengths)
+    (along starts counts others lengths axis h) h
+  where
+    first : List ℕ → ℕ → ℕ
+    first xs none = unwrap_or (slice_get xs axis) none
+
+    along : (starts counts others lengths : List ℕ) (axis : ℕ) → boxes_meet starts counts others lengths ≡ true
+        → ltb (max (unwrap_or (slice_get starts axis) 0) (unwrap_or (slice_get others axis) 0))
+        (min (unwrap_or (slice_get starts axis) 0 + unwrap_or (slice_get counts axis) 1) (unwrap_or (slice_get others axis) 0 + unwrap_or (slice_get lengths axis) 1)) ≡ true
+    along (s ∷ starts) (n ∷ counts) (t ∷ others) (m ∷ lengths) zero h = (and_parts (ltb (max s t) (min (s + n) (t + m))) (boxes_meet starts counts others lengths) h).0
+    along (s ∷ starts) (n ∷ counts) (t ∷ others) (m ∷ lengths) (suc axis) h =
+        along starts counts others lengths axis (and_parts (ltb (max s t) (min (s + n) (t + m))) (boxes_meet starts counts others lengths) h).1
+    along [] [] [] [] axis h = refl
+    along _ _ _ _ axis h = no_false h
+
+-- a region that begins past another in the order that an axis leads shares no index with it
+apart_along : (axis : ℕ) (g h : Region) → begins_past axis g h ≡ true → boxes_meet g.start g.count h.start h.count ≡ false
+apart_along axis g h p =
+    not_then (boxes_meet g.start g.count h.start h.count) (boxes_meet (led_by axis 0 g.start) (led_by axis 1 g.count) (led_by axis 0 h.start) (led_by axis 1 h.count))
+    (meet_along g.start g.count h.start h.count axis) (past_apart (led_by axis 0 g.start) (led_by axis 1 g.count) (led_by axis 0 h.start) (led_by axis 1 h.count) p)
+
+later_past : (axis : ℕ) (g other : Region) (others : List Region) → begins_past axis g other ≡ true → All (BeginsBy axis other) others → meets_any g others ≡ false
+later_past axis g other [] h up = refl
+later_past axis g other (x ∷ others) h up =
+    λ j. apart_along axis g x
+    (past_on (led_by axis 0 g.start) (led_by axis 1 g.count) (led_by axis 0 other.start) (led_by axis 0 x.start) h (All-head (BeginsBy axis other) x others up)) j
+    || later_past axis g other others h (All-tail (BeginsBy axis other) x others up) j
 
 -- from the first that begins past a region on, none shares an element with it
-pub none_later : (g : Region) (others : List Region) (i : ℕ) (d : Region) → AreByStart others → i < length others
-    → is_past g.start g.count (get_or others i d).start ≡ true → meets_any g (drop i others) ≡ false
-none_later g others i d up l h =
+pub none_later : (axis : ℕ) (g : Region) (others : List Region) (i : ℕ) (d : Region) → AreByStart axis others → i < length others
+    → begins_past axis g (get_or others i d) ≡ true → meets_any g (drop i others) ≡ false
+none_later axis g others i d up l h =
     ap (meets_any g) (drop-cons others i d l)
-    ∙ (λ j. past_apart g.start g.count (get_or others i d).start (get_or others i d).count h j || later_past g (get_or others i d) (drop (suc i) others) h later j)
+    ∙ (λ j. apart_along axis g (get_or others i d) h j || later_past axis g (get_or others i d) (drop (suc i) others) h later j)
   where
-    later : All (BeginsBy (get_or others i d)) (drop (suc i) others)
+    later : All (BeginsBy axis (get_or others i d)) (drop (suc i) others)
     later k e m =
         let long = length-drop (suc i) others in
         let far : suc i + k < length others = omega (arith, m, long) in
-        subst (BeginsBy (get_or others i d)) (get_or_default others (suc i + k) d e far ∙ sym (get_or-drop (suc i) others k e)) (up i (suc i + k) d (omega arith) far)
+        subst (BeginsBy axis (get_or others i d)) (get_or_default others (suc i + k) d e far ∙ sym (get_or-drop (suc i) others k e)) (up i (suc i + k) d (omega arith) far)
 
 -- ---- regions in another order
 
 abbrev Apart : Region → Region → Type 0
 Apart g h = boxes_meet g.start g.count h.start h.count ≡ false
-
-not_then : (b c : Bool) → (b ≡ true → c ≡ true) → c ≡ false → b ≡ false
-not_then false c f e = refl
-not_then true c f e = absurd (both_ways c e (f refl))
 
 turned : (starts counts others lengths : List ℕ) → boxes_meet starts counts others lengths ≡ true → boxes_meet others lengths starts counts ≡ true
 turned (s ∷ starts) (n ∷ counts) (t ∷ others) (m ∷ lengths) h =

@@ -11,7 +11,7 @@ pub use Rattle.std.proofs.lemmas.List.Edits.{length-swap, swapped_from_swap}
 pub use Rattle.std.proofs.lemmas.List.Elements.{All-cons, All-head, All-map, All-nil, All-tail}
 pub use Rattle.std.proofs.lemmas.List.Folds.{list_any-append}
 pub use Rattle.std.proofs.lemmas.List.FromFn.{length-range_with_len}
-pub use Rattle.std.proofs.lemmas.List.Sorted.{IsPermutation-keeps, IsPermutation-sym, length_permutation, ranks_by, sorted_far}
+pub use Rattle.std.proofs.lemmas.List.Sorted.{IsPermutation-keeps, IsPermutation-sym, IsPermutation-trans, length_permutation, ranks_by, sorted_far}
 pub use Rattle.std.proofs.lemmas.List.Sums.{sum_by_more}
 pub use Rattle.std.proofs.lemmas.Nat.{div-add-mod', div-mul-add, div_below, mod-mul-add, mod_below, mul-le}
 pub use Rattle.std.proofs.lemmas.Option.{same_Some, slice_get_within}
@@ -21,7 +21,7 @@ pub use Rattle.std.specs.Cmp.Lexicographic.{slice_cmp}
 pub use Rattle.std.specs.List.{AllByRecursion, list_any, range_with_len, swap}
 pub use Rattle.std.specs.List.Sorted.{IsPermutation, IsSortedBy}
 pub use Rattle.std.specs.Ordering.{is_lt, nat_cmp, ordering_then}
-pub use Rattle.std.specs.Prelude.{All, IfSome, bytes_eq, filter, flat_map, if◌then◌else◌, slice_get, sum_by, ◌==◌}
+pub use Rattle.std.specs.Prelude.{All, IfSome, bytes_eq, filter, flat_map, if◌then◌else◌, slice_get, sum_by, ◌==◌, unwrap_or}
 pub use Rattle.std.specs.declared.cmp.Ordering.TheVariants.{Equal, Greater, Less}
 pub use Rattle.list_laws.proofs.Each.{each_at, each_map, each_weaker}
 pub use Rattle.list_laws.proofs.Maps.{any_map, entry_map}
@@ -63,7 +63,7 @@ pub use Rattle.var_layout.proofs.ElementPlaces.{place_fixed, place_record, produ
 pub use Rattle.var_layout.proofs.Soundness.{if_there}
 pub use Rattle.var_layout.specs.Capped.{capped}
 pub use Rattle.vara_extents.specs.Accepted.{IsAccepted}
-pub use Rattle.vara_extents.specs.Boxes.{AreByStart, BeginsBy, IsBox, boxes_meet, is_past, meets_any, some_meet}
+pub use Rattle.vara_extents.specs.Boxes.{AreByStart, BeginsBy, IsBox, begins_past, boxes_meet, is_past, led_by, meets_any, some_meet}
 pub use Rattle.vara_extents.specs.Joined.{IsJoined, IsNotNext, cut_by, element_extents, extents_of, joined, joined_to}
 pub use Rattle.vara_extents.specs.Left.{AreReady, IsReady, IsRunOf, extents_from, extents_left, run_place}
 pub use Rattle.vara_extents.specs.Numbered.{AreRuns, HaveRows, coordinates_of, index_of, row_of, weighted}

@@ -1,5 +1,5 @@
 -- Boxes of indices.
-use Rattle.std.specs.Prelude.{◌≡◌, ◌==◌, ℕ, ◌+◌, max, min, List, [], ◌∷◌, length, replicate, Bool, true, false, ◌&&◌, ◌||◌, nat_lt}
+use Rattle.std.specs.Prelude.{◌≡◌, ◌==◌, ℕ, ◌+◌, max, min, List, [], ◌∷◌, length, replicate, Bool, true, false, ◌&&◌, ◌||◌, nat_lt, slice_get, unwrap_or}
 use Rattle.std.specs.Cmp.Lexicographic.{slice_cmp}
 use Rattle.std.specs.List.{AllPairs}
 use Rattle.std.specs.Ordering.{is_lt, nat_cmp}
@@ -29,9 +29,17 @@ abbrev pub is_past : List ℕ → List ℕ → List ℕ → Bool
 is_past (s ∷ starts) (n ∷ counts) (x ∷ index) = nat_lt (s + n) (x + 1) || (x + 1 == s + n && is_past starts counts index)
 is_past _ _ _ = false
 
--- the first region does not begin after the other, in row-major order
-abbrev pub BeginsBy : Region → Region → Type 0
-BeginsBy g h = is_lt (slice_cmp nat_cmp h.start g.start) ≡ false
+-- a list of one number for each dimension, with that of one of them before it
+abbrev pub led_by : ℕ → ℕ → List ℕ → List ℕ
+led_by axis none xs = unwrap_or (slice_get xs axis) none ∷ xs
 
-abbrev pub AreByStart : List Region → Type 0
-AreByStart regions = AllPairs BeginsBy regions
+-- the other region begins past the last index of the first, in row-major order with an axis before all dimensions
+abbrev pub begins_past : ℕ → Region → Region → Bool
+begins_past axis g other = is_past (led_by axis 0 g.start) (led_by axis 1 g.count) (led_by axis 0 other.start)
+
+-- the first region does not begin after the other, in that order
+abbrev pub BeginsBy : ℕ → Region → Region → Type 0
+BeginsBy axis g h = is_lt (slice_cmp nat_cmp (led_by axis 0 h.start) (led_by axis 0 g.start)) ≡ false
+
+abbrev pub AreByStart : ℕ → List Region → Type 0
+AreByStart axis regions = AllPairs (BeginsBy axis) regions

@@ -1,7 +1,7 @@
 -- Many regions of one call: PnetCDF C API reference, ncmpi_put_varn and ncmpi_get_varn.
 --     code_by_boxes                 the code of parts of a variable, by where their ranges meet
 --     parts_code                    the first cause of a refusal, or Ok; a variable that is not there is the first part's cause
-use Rattle.std.specs.Prelude.{◌≡◌, ℕ, List, [], ◌∷◌, map, ◌&&◌, nat_lt, if◌then◌else◌, Option, Some, None, slice_get}
+use Rattle.std.specs.Prelude.{ℕ, List, [], ◌∷◌, map, ◌&&◌, nat_lt, if◌then◌else◌, Option, Some, None, slice_get}
 use Rattle.nc_base.specs.declared.header.Header.{Header}
 use Rattle.nc_base.specs.declared.header.Var.{Var}
 use Rattle.nc_base.specs.declared.request.Given.{Given}
