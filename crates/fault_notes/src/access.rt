@@ -1,6 +1,7 @@
 // The calls that name a region of a variable, by their words.
 use crate::cursor::Cursor;
-use crate::slots::Slot;
+use crate::slot::{COUNT, ID, IMAP, NAME, NOTHING, PARTS, START, STRIDE, Slot, VALUE};
+use crate::table::beside;
 use nc_base::Form;
 use script_values::regions::form_of_text;
 use script_words::numbers::size_of_text;
@@ -13,35 +14,75 @@ pub(crate) struct Access {
     pub has_values: bool,
 }
 
+// A call by the first bytes of its word.
+#[derive(Clone, Copy)]
+struct Kind {
+    is_post: bool,
+    has_values: bool,
+}
+
+const KINDS: [(&[u8], Kind); 5] = [
+    (
+        b"put_",
+        Kind {
+            is_post: false,
+            has_values: true,
+        },
+    ),
+    (
+        b"get_",
+        Kind {
+            is_post: false,
+            has_values: false,
+        },
+    ),
+    (
+        b"iput",
+        Kind {
+            is_post: true,
+            has_values: true,
+        },
+    ),
+    (
+        b"bput",
+        Kind {
+            is_post: true,
+            has_values: true,
+        },
+    ),
+    (
+        b"iget",
+        Kind {
+            is_post: true,
+            has_values: false,
+        },
+    ),
+];
+
 fn form_of(word: &[u8]) -> Option<Form> {
     form_of_text(word.strip_suffix(b"_all".as_slice()).unwrap_or(word))
+}
+
+fn posted_form(rest: &[u8]) -> Option<Form> {
+    form_of_text(rest.strip_prefix(b"_".as_slice())?)
 }
 
 impl Access {
     /// The access of a call's word, where it is one.
     pub(crate) fn of_word(word: &[u8]) -> Option<Access> {
-        let (kind, form) = word.split_at_checked(4)?;
-        match kind {
-            b"put_" => Access::blocking(form, true),
-            b"get_" => Access::blocking(form, false),
-            b"iput" | b"bput" => Access::post(form, true),
-            b"iget" => Access::post(form, false),
-            _ => None,
-        }
-    }
-
-    fn blocking(form: &[u8], has_values: bool) -> Option<Access> {
-        Some(Access {
-            form: form_of(form)?,
-            is_post: false,
+        let (first, rest) = word.split_at_checked(4)?;
+        let Kind {
+            is_post,
             has_values,
-        })
-    }
-
-    fn post(rest: &[u8], has_values: bool) -> Option<Access> {
+        } = beside(first, &KINDS)?;
+        let form = if is_post {
+            posted_form(rest)
+        } else {
+            form_of(rest)
+        };
         Some(Access {
-            form: form_of_text(rest.strip_prefix(b"_".as_slice())?)?,
-            is_post: true,
+            form: form?,
+            is_post,
             has_values,
         })
     }
@@ -52,54 +93,48 @@ impl Access {
         let mut place = place;
         if self.is_post {
             if place == 0 {
-                return Slot::Id;
+                return ID;
             }
             words.take();
             place -= 1;
         }
         if place == 0 {
-            return Slot::Name;
+            return NAME;
         }
         words.take();
         match self.region_slot(words, place - 1) {
             Some(slot) => slot,
-            None if self.has_values => Slot::Value,
-            None => Slot::Nothing,
+            None if self.has_values => VALUE,
+            None => NOTHING,
         }
     }
 
     // What a word of the region is for; none behind it.
     fn region_slot(&self, words: Cursor<'_>, place: usize) -> Option<Slot> {
-        if self.form == Form::Varn {
-            return varn_slot(words, place);
-        }
         let lists = match self.form {
-            Form::Var | Form::Varn => 0,
+            Form::Varn => return varn_slot(words, place),
+            Form::Var => 0,
             Form::Var1 => 1,
             Form::Vara => 2,
             Form::Vars => 3,
             Form::Varm => 4,
         };
-        if place < lists {
-            LISTS.get(place).map(|name| Slot::List(name))
-        } else {
-            None
-        }
+        LISTS.get(..lists)?.get(place).copied()
     }
 }
 
 // The lists of a region, in order.
-const LISTS: [&str; 4] = ["START", "COUNT", "STRIDE", "IMAP"];
+const LISTS: [Slot; 4] = [START, COUNT, STRIDE, IMAP];
 
 // The same for many regions: their number, and a START and a COUNT of each.
 fn varn_slot(words: Cursor<'_>, place: usize) -> Option<Slot> {
     if place == 0 {
-        return Some(Slot::Parts);
+        return Some(PARTS);
     }
     let mut words = words;
     let parts = size_of_text(words.take()?)?;
     if place as u64 > parts.saturating_mul(2) {
         return None;
     }
-    Some(Slot::List(if place % 2 == 1 { "START" } else { "COUNT" }))
+    Some(if place % 2 == 1 { START } else { COUNT })
 }

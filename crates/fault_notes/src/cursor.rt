@@ -33,6 +33,14 @@ impl<'a> Cursor<'a> {
         self.rest = rest.get(end..).unwrap_or(&[]);
         rest.get(..end)
     }
+
+    /// The word behind so many others.
+    pub(crate) fn take_behind(&mut self, others: usize) -> Option<&'a [u8]> {
+        for _ in 0..others {
+            self.take()?;
+        }
+        self.take()
+    }
 }
 
 /// The first words of a line, an empty one for each that it lacks.

@@ -1,6 +1,7 @@
 // What earlier lines of a script name.
 use crate::access::Access;
 use crate::cursor::first_words;
+use crate::definition::Definition;
 use crate::lines::{Line, Part};
 use script_words::ListParts;
 use script_words::numbers::{begins_rank, between_brackets, digits_below, id_of_text};
@@ -8,8 +9,8 @@ use script_words::numbers::{begins_rank, between_brackets, digits_below, id_of_t
 // What a line names: no two lines of a script may name the same.
 #[derive(Clone, Copy, PartialEq, Eq)]
 enum Named<'a> {
-    Once(&'a [u8]),
-    Plain(&'a [u8], &'a [u8]),
+    Once(Definition),
+    Plain(Definition, &'a [u8]),
     Attribute(&'a [u8], &'a [u8]),
     Post(u32, u32),
 }
@@ -25,13 +26,13 @@ fn name_of(line: Line<'_>) -> Option<Named<'_>> {
 
 fn defined<'a>(words: [&'a [u8]; 5]) -> Option<Named<'a>> {
     let [kind, first, second, ..] = words;
-    match kind {
-        b"ranks" | b"fill" => Some(Named::Once(kind)),
-        b"hint" | b"dim" => Some(Named::Plain(kind, first)),
-        b"var" => Some(Named::Plain(kind, second)),
-        b"att" => Some(Named::Attribute(first, second)),
-        _ => None,
-    }
+    let definition = Definition::of_word(kind)?;
+    Some(match definition {
+        Definition::Ranks | Definition::Fill => Named::Once(definition),
+        Definition::Hint | Definition::Dim => Named::Plain(definition, first),
+        Definition::Var => Named::Plain(definition, second),
+        Definition::Att => Named::Attribute(first, second),
+    })
 }
 
 fn posted(words: [&[u8]; 5]) -> Option<Named<'_>> {
@@ -59,15 +60,16 @@ pub(crate) fn first_naming<'a>(lines: &[Line<'a>], line: Line<'a>) -> Option<u32
 // Whether a line before this one defines a dimension of this name.
 fn is_dim(lines: &[Line<'_>], name: &[u8], line: Line<'_>) -> bool {
     lines.iter().any(|other| {
-        other.number < line.number && name_of(*other) == Some(Named::Plain(b"dim", name))
+        other.number < line.number && name_of(*other) == Some(Named::Plain(Definition::Dim, name))
     })
 }
 
 /// The dimension or the owner that a line of the definitions names and that no line before it defines.
 pub(crate) fn undefined<'a>(lines: &[Line<'a>], line: Line<'a>) -> Option<&'a [u8]> {
-    match first_words(line.text) {
-        [b"att", owner, ..] => Some(owner),
-        [b"var", _, _, shape, ..] => undefined_dim(lines, shape, line),
+    let [kind, owner, _, shape, ..] = first_words(line.text);
+    match Definition::of_word(kind)? {
+        Definition::Att => Some(owner),
+        Definition::Var => undefined_dim(lines, shape, line),
         _ => None,
     }
 }
@@ -85,8 +87,10 @@ fn undefined_dim<'a>(lines: &[Line<'a>], shape: &'a [u8], line: Line<'a>) -> Opt
 
 /// The line that gives a dimension the length `unlimited`.
 pub(crate) fn record_dim<'a>(lines: &[Line<'a>]) -> Option<Line<'a>> {
-    lines.iter().copied().find(|line| matches!(
-        first_words(line.text),
-        [b"dim", _, b"unlimited", ..]
-    ))
+    lines.iter().copied().find(|line| is_record_dim(line.text))
+}
+
+fn is_record_dim(text: &[u8]) -> bool {
+    let [kind, _, length, ..] = first_words(text);
+    kind == b"dim".as_slice() && length == b"unlimited".as_slice()
 }

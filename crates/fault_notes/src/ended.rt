@@ -1,31 +1,56 @@
 // What standard error says.
 use crate::header_fault::push_header_fault;
+use crate::heard_sink::HeardSink;
+use crate::kept_source::KeptSource;
 use crate::kinds::push_script_note;
 use crate::layout_fault::push_layout_fault;
+use crate::opened_disk::OpenedDisk;
 use crate::pending::{Pending, push_pending};
 use crate::redefinition::push_redefinition;
 use crate::shortfall::{header_of, push_shortfall};
 use crate::shown::shown;
 use crate::surplus::push_surplus;
+use nc_outside::{Disk, Sink, Source};
 use std::alloc::{AllocError, Global};
 use std::io;
 
 /// What is known of a run that has ended.
 #[derive(Drop)]
 pub struct Run<'a> {
-    pub status: u8,
+    pub(crate) status: u8,
     /// The bytes of the script; none where none was read.
-    pub script: &'a [u8],
+    pub(crate) script: &'a [u8],
     /// The front of the text, in which a line that tells a fault is whole.
-    pub line: &'a [u8],
+    pub(crate) line: &'a [u8],
     /// The requests that the text tells as pending.
-    pub pending: Option<Pending>,
+    pub(crate) pending: Option<Pending>,
     /// The first bytes of a dataset that was opened, among which its header stands; none where none was.
-    pub front: &'a [u8],
+    pub(crate) front: &'a [u8],
     /// How many bytes it had then.
-    pub length: u64,
+    pub(crate) length: u64,
     /// Why a call of the disk failed.
-    pub cause: Option<io::Error>,
+    pub(crate) cause: Option<io::Error>,
+}
+
+impl<'a> Run<'a> {
+    /// A run that ended with this status, by what was kept of it, and why a call of the disk failed, where one did.
+    pub fn new<S: Source + Drop, K: Sink + Drop, D: Disk>(
+        status: u8,
+        source: &'a KeptSource<S>,
+        sink: &'a HeardSink<K>,
+        disk: &'a OpenedDisk<D>,
+        cause: Option<io::Error>,
+    ) -> Self {
+        Run {
+            status,
+            script: source.kept(),
+            line: sink.line(),
+            pending: sink.pending(),
+            front: disk.front(),
+            length: disk.length(),
+            cause,
+        }
+    }
 }
 
 /// The lines for standard error, none of them where nothing is to be said.
@@ -55,15 +80,15 @@ fn fault_note(alloc: Global, dataset: &str, run: &Run<'_>) -> Result<String, All
 fn push_dataset_fault(out: &mut String, alloc: Global, run: &Run<'_>) -> Result<(), AllocError> {
     let told = run.line.strip_suffix(b"\n".as_slice()).unwrap_or(run.line);
     let header = header_of(alloc, run.front);
+    let is_refused = header.is_none() && !run.front.is_empty();
     match told.strip_prefix(b"ncrun: header ".as_slice()) {
-        Some(b"is too large") if header.is_some() || run.front.is_empty() => {
-            push_layout_fault(out, alloc, run.script, header.as_ref(), told)
+        Some(fault) if fault != b"is too large".as_slice() || is_refused => {
+            push_header_fault(out, alloc, run.front, run.length, fault)
         }
-        Some(fault) => push_header_fault(out, alloc, run.front, run.length, fault),
         None if told.starts_with(b"ncrun: redefinition ") => {
             push_redefinition(out, alloc, run.script, run.line)
         }
-        None => push_layout_fault(out, alloc, run.script, header.as_ref(), told),
+        _ => push_layout_fault(out, alloc, run.script, header.as_ref(), told),
     }
 }
 

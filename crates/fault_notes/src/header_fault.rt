@@ -1,8 +1,27 @@
 // What is wrong with the header of a dataset, in words: the field that is at fault, and whose it is.
 use crate::header_walk::{Goal, Named, Owner, Walk, spelled};
 use crate::shown::shown;
+use crate::table::beside;
 use script_words::numbers::size_of_text;
 use std::alloc::{AllocError, Global};
+
+/// A fault that the text tells without a place.
+#[derive(Clone, Copy)]
+enum Fault {
+    OtherFormat,
+    Version,
+    RecordDims,
+    Streaming,
+    TooLarge,
+}
+
+const FAULTS: [(&[u8], Fault); 5] = [
+    (b"is not CDF", Fault::OtherFormat),
+    (b"has an unknown version", Fault::Version),
+    (b"has two record dimensions", Fault::RecordDims),
+    (b"has a streaming record count", Fault::Streaming),
+    (b"is too large", Fault::TooLarge),
+];
 
 /// What is said of a header that was refused, by the words that tell its fault.
 pub(crate) fn push_header_fault(
@@ -12,13 +31,13 @@ pub(crate) fn push_header_fault(
     length: u64,
     told: &[u8],
 ) -> Result<(), AllocError> {
-    match told {
-        b"is not CDF" => push_other_format(out, alloc, front),
-        b"has an unknown version" => push_version(out, front),
-        b"has two record dimensions" => push_record_dims(out, alloc, front),
-        b"has a streaming record count" => out.push_str(STREAMING),
-        b"is too large" => out.push_str(TOO_LARGE),
-        _ => match last_number(told) {
+    match beside(told, &FAULTS) {
+        Some(Fault::OtherFormat) => push_other_format(out, alloc, front),
+        Some(Fault::Version) => push_version(out, front),
+        Some(Fault::RecordDims) => push_record_dims(out, alloc, front),
+        Some(Fault::Streaming) => out.push_str(STREAMING),
+        Some(Fault::TooLarge) => out.push_str(TOO_LARGE),
+        None => match last_number(told) {
             Some((words, number)) => push_placed(out, alloc, front, length, words, number),
             None => Ok(()),
         },
@@ -38,6 +57,27 @@ fn last_number(told: &[u8]) -> Option<(&[u8], u64)> {
     Some((told.get(..blank)?, number))
 }
 
+/// A fault at a byte or in a variable, whose number the text tells.
+#[derive(Clone, Copy)]
+enum Placed {
+    Cut,
+    Field,
+    Late,
+    Unknown,
+}
+
+const PLACED: [(&[u8], Placed); 6] = [
+    (b"truncated at byte", Placed::Cut),
+    (b"has a bad tag at byte", Placed::Field),
+    (b"has a bad type at byte", Placed::Field),
+    (b"has a bad number at byte", Placed::Field),
+    (
+        b"has the record dimension not first in variable",
+        Placed::Late,
+    ),
+    (b"has a bad dimension id in variable", Placed::Unknown),
+];
+
 fn push_placed(
     out: &mut String,
     alloc: Global,
@@ -46,19 +86,25 @@ fn push_placed(
     words: &[u8],
     number: u64,
 ) -> Result<(), AllocError> {
-    match words {
-        b"truncated at byte" => push_cut(out, alloc, front, length, number),
-        b"has a bad tag at byte" | b"has a bad type at byte" | b"has a bad number at byte" => {
-            push_field(out, alloc, front, number)
-        }
-        b"has the record dimension not first in variable" => push_late(out, alloc, front, number),
-        b"has a bad dimension id in variable" => push_unknown(out, alloc, front, number),
-        _ => match last_number(words.strip_suffix(b" and".as_slice()).unwrap_or(&[])) {
-            Some((b"has shared bytes of variables", first)) => {
-                push_shared(out, alloc, front, [first, number])
-            }
-            _ => Ok(()),
+    match beside(words, &PLACED) {
+        Some(Placed::Cut) => push_cut(out, alloc, front, length, number),
+        Some(Placed::Field) => push_field(out, alloc, front, number),
+        Some(Placed::Late) => push_late(out, alloc, front, number),
+        Some(Placed::Unknown) => push_unknown(out, alloc, front, number),
+        None => match sharing(words) {
+            Some(first) => push_shared(out, alloc, front, [first, number]),
+            None => Ok(()),
         },
+    }
+}
+
+// The first of two variables that share bytes, by the words before the second's number.
+fn sharing(words: &[u8]) -> Option<u64> {
+    let (words, first) = last_number(words.strip_suffix(b" and".as_slice())?)?;
+    if words == b"has shared bytes of variables".as_slice() {
+        Some(first)
+    } else {
+        None
     }
 }
 

@@ -122,8 +122,8 @@ fn push_shape(
     line: Line<'_>,
 ) -> Result<(), AllocError> {
     let number = line.number;
-    match (first_words(line.text)[0], record_dim(lines)) {
-        (b"dim", Some(record)) => {
+    match other_record_dim(lines, line) {
+        Some(record) => {
             let name = shown(alloc, first_words(record.text)[1])?;
             let first = record.number;
             write!(
@@ -131,23 +131,33 @@ fn push_shape(
                 "line {number}: a dataset has one unlimited dimension, and {name} is it on line {first}"
             )
         }
-        _ => write!(
+        None => write!(
             out,
             "line {number}: the record dimension stands first in a variable, and once"
         ),
     }
 }
 
+// The record dimension, where this line would define another.
+fn other_record_dim<'a>(lines: &[Line<'a>], line: Line<'_>) -> Option<Line<'a>> {
+    if first_words(line.text)[0] == b"dim".as_slice() {
+        record_dim(lines)
+    } else {
+        None
+    }
+}
+
 fn push_head(out: &mut String, line: Line<'_>) -> Result<(), AllocError> {
     let number = line.number;
+    let mark = if line.text.starts_with(b"\xEF\xBB\xBF") {
+        ", and not with a byte-order mark"
+    } else {
+        ""
+    };
     write!(
         out,
-        "line {number}: a script begins with `create 1`, `create 2`, `create 5` or `open`"
-    )?;
-    if line.text.starts_with(b"\xEF\xBB\xBF") {
-        out.push_str(", and not with a byte-order mark")?;
-    }
-    Ok(())
+        "line {number}: a script begins with `create 1`, `create 2`, `create 5` or `open`{mark}"
+    )
 }
 
 fn push_end(out: &mut String, line: Line<'_>) -> Result<(), AllocError> {
@@ -171,15 +181,24 @@ fn push_after_end(out: &mut String, lines: &[Line<'_>], line: Line<'_>) -> Resul
     }
 }
 
+// What is at most so many; none where that can't be seen in a script's lines.
+fn limit_of(name: LimitName) -> Option<&'static str> {
+    match name {
+        LimitName::Dims => Some("a script defines at most 1024 dimensions"),
+        LimitName::Vars => Some("a script defines at most 8192 variables"),
+        LimitName::VarDims => Some("a variable has at most 32 dimensions"),
+        LimitName::Elements => Some("a call has at most 2^20 values"),
+        LimitName::Values => {
+            Some("the calls and attributes of a script have at most 2^24 values")
+        }
+        LimitName::Parts => Some("a varn has from 1 to 1024 parts"),
+        LimitName::Script | LimitName::Lines => None,
+    }
+}
+
 fn push_limit(out: &mut String, line: Line<'_>, name: LimitName) -> Result<(), AllocError> {
-    let limit = match name {
-        LimitName::Dims => "a script defines at most 1024 dimensions",
-        LimitName::Vars => "a script defines at most 8192 variables",
-        LimitName::VarDims => "a variable has at most 32 dimensions",
-        LimitName::Elements => "a call has at most 2^20 values",
-        LimitName::Values => "the calls and attributes of a script have at most 2^24 values",
-        LimitName::Parts => "a varn has from 1 to 1024 parts",
-        LimitName::Script | LimitName::Lines => return Ok(()),
+    let Some(limit) = limit_of(name) else {
+        return Ok(());
     };
     let number = line.number;
     write!(out, "line {number}: {limit}")

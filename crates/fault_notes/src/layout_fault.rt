@@ -1,6 +1,7 @@
 // A variable that gets no place in a dataset: its name, and the line of the script that defines it.
 use crate::cursor::first_words;
-use crate::lines::{Line, Part, lines_of};
+use crate::definition::Definition;
+use crate::lines::{Line, lines_of};
 use crate::shown::shown;
 use nc_base::Header;
 use script_words::numbers::size_of_text;
@@ -19,16 +20,23 @@ pub(crate) fn push_layout_fault(
         return out.push_str("its dimensions, variables and attributes take more than 2^20 bytes");
     };
     push_var(out, alloc, lines.as_slice(), header, number)?;
-    match cause {
-        b"is too large" => out.push_str(
-            " has more than 2^31 - 4 bytes, or a record of it has; datasets of version 5 take it",
-        ),
-        _ if version_of(header, lines.as_slice()) == 1 => out.push_str(
-            " would begin at byte 2^31 or behind it; in datasets of version 2 and 5 it can",
-        ),
-        _ => out.push_str(" would end at byte 2^62 or behind it"),
-    }
+    let what = if cause == b"is too large".as_slice() {
+        LARGE
+    } else if version_of(header, lines.as_slice()) == 1 {
+        FAR_IN_VERSION_1
+    } else {
+        FAR
+    };
+    out.push_str(what)
 }
+
+const LARGE: &str =
+    " has more than 2^31 - 4 bytes, or a record of it has; datasets of version 5 take it";
+
+const FAR_IN_VERSION_1: &str =
+    " would begin at byte 2^31 or behind it; in datasets of version 2 and 5 it can";
+
+const FAR: &str = " would end at byte 2^62 or behind it";
 
 // The number of a variable in a line such as `ncrun: variable 0 is too large`, and what follows it.
 fn parsed(told: &[u8]) -> Option<(u64, &[u8])> {
@@ -79,5 +87,5 @@ fn push_var(
 }
 
 fn is_var(line: &Line<'_>) -> bool {
-    line.part == Part::Definitions && first_words(line.text)[0] == b"var".as_slice()
+    Definition::of_line(line) == Some(Definition::Var)
 }

@@ -6,6 +6,7 @@
 
 mod access;
 mod cursor;
+mod definition;
 mod earlier;
 mod ended;
 mod explained;
@@ -25,8 +26,11 @@ mod replay;
 mod shapes;
 mod shortfall;
 mod shown;
+mod slot;
 mod slots;
 mod surplus;
+mod table;
+mod values;
 mod words;
 
 pub use ended::Run;

@@ -5,12 +5,16 @@ use crate::shown::shown;
 use script_words::numbers::{begins_rank, digits_below};
 use std::alloc::{AllocError, Global};
 
+// The collective calls whose words don't say so.
+const COLLECTIVE: [&[u8]; 4] = [
+    b"begin_indep_data",
+    b"end_indep_data",
+    b"sync_numrecs",
+    b"fill_var_rec",
+];
+
 fn is_collective(call: &[u8]) -> bool {
-    call.ends_with(b"_all")
-        || matches!(
-            call,
-            b"begin_indep_data" | b"end_indep_data" | b"sync_numrecs" | b"fill_var_rec"
-        )
+    call.ends_with(b"_all") || COLLECTIVE.contains(&call)
 }
 
 // The line of a rank's collective call of this number, from 0.

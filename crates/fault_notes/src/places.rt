@@ -2,8 +2,9 @@
 // what they took ends before it.
 use crate::cursor::Cursor;
 use crate::lines::Line;
-use crate::slots::{Slot, slot_of};
-use crate::surplus::product;
+use crate::slot::{Slot, Sort};
+use crate::slots::slot_of;
+use crate::values::{has_bits, product};
 use nc_base::ScriptKind;
 use script_words::numbers::{bits_of_text, number_of_text, size_of_text};
 
@@ -17,36 +18,46 @@ pub(crate) fn place_of(line: Line<'_>, kind: ScriptKind, taken: usize) -> usize 
     let Some(next) = words.take() else {
         return taken;
     };
-    let behind = match slot_of(line, taken) {
-        Slot::Choice if kind == ScriptKind::ExtraWord && next == b"all".as_slice() => 2,
-        Slot::Value | Slot::Typed(_) if is_read(slot_of(line, taken.saturating_sub(1)), last) => {
-            ahead(kind, next, words)
-        }
-        _ => 0,
+    let slot = slot_of(line, taken);
+    let behind = if slot.sort == Sort::Choice {
+        behind_all(kind, next)
+    } else if slot.is_value() && is_read(slot_of(line, taken.saturating_sub(1)), last) {
+        ahead(kind, next, words)
+    } else {
+        0
     };
     taken.saturating_add(behind)
 }
 
+// How far it stands behind `all`.
+fn behind_all(kind: ScriptKind, first: &[u8]) -> usize {
+    if kind == ScriptKind::ExtraWord && first == b"all".as_slice() {
+        2
+    } else {
+        0
+    }
+}
+
 // Whether the last word before values was no fault.
 fn is_read(slot: Slot, last: &[u8]) -> bool {
-    match slot {
-        Slot::Value | Slot::Typed(_) => false,
-        Slot::List(_) => product(last).is_some(),
-        _ => true,
+    if slot.sort == Sort::List {
+        product(last).is_some()
+    } else {
+        !slot.is_value()
     }
 }
 
 // How far the refused word stands behind the words before the values, of which this one is the first.
 fn ahead(kind: ScriptKind, first: &[u8], words: Cursor<'_>) -> usize {
-    match (kind, first) {
-        (ScriptKind::BadNumber | ScriptKind::MissingWord | ScriptKind::ExtraWord, b"seq") => {
-            in_sequence(words, false)
+    match kind {
+        ScriptKind::BadText => 1,
+        ScriptKind::ExtraWord if first.first() == Some(&b'"') => 2,
+        ScriptKind::BadNumber | ScriptKind::MissingWord | ScriptKind::ExtraWord => {
+            match has_bits(first) {
+                Some(has_bits) => in_sequence(words, has_bits),
+                None => 0,
+            }
         }
-        (ScriptKind::BadNumber | ScriptKind::MissingWord | ScriptKind::ExtraWord, b"seqx") => {
-            in_sequence(words, true)
-        }
-        (ScriptKind::ExtraWord, [b'"', ..]) => 2,
-        (ScriptKind::BadText, _) => 1,
         _ => 0,
     }
 }

@@ -1,7 +1,9 @@
 // The line of a script that a dataset does not take.
 use crate::cursor::first_words;
-use crate::lines::{Line, Part, lines_of};
+use crate::definition::Definition;
+use crate::lines::{Line, lines_of};
 use crate::shown::shown;
+use crate::table::beside;
 use script_words::numbers::size_of_text;
 use std::alloc::{AllocError, Global};
 
@@ -35,8 +37,27 @@ fn parsed(told: &[u8]) -> Option<(usize, &[u8])> {
 }
 
 fn adds(line: &Line<'_>) -> bool {
-    line.part == Part::Definitions && matches!(first_words(line.text)[0], b"dim" | b"var" | b"att")
+    matches!(
+        Definition::of_line(line),
+        Some(Definition::Dim | Definition::Var | Definition::Att)
+    )
 }
+
+/// Why it is refused.
+#[derive(Clone, Copy)]
+enum Cause {
+    Taken,
+    Unknown,
+    Shape,
+    Type,
+}
+
+const CAUSES: [(&[u8], Cause); 4] = [
+    (b"name taken", Cause::Taken),
+    (b"unknown name", Cause::Unknown),
+    (b"bad shape", Cause::Shape),
+    (b"bad type", Cause::Type),
+];
 
 fn push_cause(
     out: &mut String,
@@ -47,84 +68,91 @@ fn push_cause(
     let number = line.number;
     write!(out, "line {number}: ")?;
     let words = first_words(line.text);
-    match cause {
-        b"name taken" => push_taken(out, alloc, words),
-        b"unknown name" => push_unknown(out, alloc, words),
-        b"bad shape" => push_shape(out, alloc, words),
-        b"bad type" => push_type(out, alloc, words),
-        _ => push_many(out, alloc, words),
+    match beside(cause, &CAUSES) {
+        Some(Cause::Taken) => push_taken(out, alloc, words),
+        Some(Cause::Unknown) => push_unknown(out, alloc, words),
+        Some(Cause::Shape) => push_shape(out, alloc, words),
+        Some(Cause::Type) => push_type(out, alloc, words),
+        None => push_many(out, alloc, words),
     }
 }
 
 // The name that a line adds.
 fn added<'a>(words: [&'a [u8]; 5]) -> &'a [u8] {
     let [kind, first, second, ..] = words;
-    if kind == b"dim".as_slice() {
-        first
-    } else {
-        second
-    }
+    if is_dim(kind) { first } else { second }
+}
+
+fn is_dim(kind: &[u8]) -> bool {
+    kind == b"dim".as_slice()
 }
 
 fn push_taken(out: &mut String, alloc: Global, words: [&[u8]; 5]) -> Result<(), AllocError> {
     let name = shown(alloc, added(words))?;
-    match words {
-        [b"dim", ..] => write!(out, "the dataset has a dimension {name} already"),
-        [b"var", ..] => write!(out, "the dataset has a variable {name} already"),
-        [_, b":", ..] => write!(out, "the dataset has an attribute {name} already"),
-        [_, owner, ..] => {
-            let owner = shown(alloc, owner)?;
+    let [kind, owner, ..] = words;
+    match Definition::of_word(kind) {
+        Some(Definition::Dim) => write!(out, "the dataset has a dimension {name} already"),
+        Some(Definition::Var) => write!(out, "the dataset has a variable {name} already"),
+        _ => {
+            let owner = owner_of(alloc, owner)?;
             write!(out, "{owner} has an attribute {name} already")
         }
     }
 }
 
-fn push_unknown(out: &mut String, alloc: Global, words: [&[u8]; 5]) -> Result<(), AllocError> {
-    match words {
-        [b"att", owner, ..] => {
-            let owner = shown(alloc, owner)?;
-            write!(out, "the dataset has no variable {owner}")
-        }
-        [_, _, _, dims, ..] => {
-            let dims = shown(alloc, dims)?;
-            write!(out, "the dataset lacks a dimension of {dims}")
-        }
+// The owner of an attribute.
+fn owner_of(alloc: Global, owner: &[u8]) -> Result<String, AllocError> {
+    if owner == b":".as_slice() {
+        String::from_str(alloc, "the dataset")
+    } else {
+        shown(alloc, owner)
     }
+}
+
+fn push_unknown(out: &mut String, alloc: Global, words: [&[u8]; 5]) -> Result<(), AllocError> {
+    let [kind, owner, _, dims, ..] = words;
+    if Definition::of_word(kind) == Some(Definition::Att) {
+        let owner = shown(alloc, owner)?;
+        return write!(out, "the dataset has no variable {owner}");
+    }
+    let dims = shown(alloc, dims)?;
+    write!(out, "the dataset lacks a dimension of {dims}")
 }
 
 fn push_shape(out: &mut String, alloc: Global, words: [&[u8]; 5]) -> Result<(), AllocError> {
-    match words {
-        [b"dim", name, ..] => {
-            let name = shown(alloc, name)?;
-            write!(
-                out,
-                "the dataset has a record dimension already, so {name} can be none"
-            )
-        }
-        [_, _, _, dims, ..] => {
-            let dims = shown(alloc, dims)?;
-            write!(
-                out,
-                "the record dimension stands first in a variable, and once, and not as in {dims}"
-            )
-        }
+    let [kind, name, _, dims, ..] = words;
+    if is_dim(kind) {
+        let name = shown(alloc, name)?;
+        return write!(
+            out,
+            "the dataset has a record dimension already, so {name} can be none"
+        );
     }
+    let dims = shown(alloc, dims)?;
+    write!(
+        out,
+        "the record dimension stands first in a variable, and once, and not as in {dims}"
+    )
 }
 
 fn push_type(out: &mut String, alloc: Global, words: [&[u8]; 5]) -> Result<(), AllocError> {
-    match words {
-        [b"dim", _, length, ..] => {
-            let length = shown(alloc, length)?;
+    let [kind, first, second, third, ..] = words;
+    match Definition::of_word(kind) {
+        Some(Definition::Dim) => {
+            let length = shown(alloc, second)?;
             write!(
                 out,
                 "a dataset of version 1 or 2 has no dimension so long as {length}"
             )
         }
-        [b"var", kind, ..] | [_, _, _, kind, ..] => {
-            let kind = shown(alloc, kind)?;
-            write!(out, "a dataset of version 1 or 2 has no type {kind}")
-        }
+        Some(Definition::Var) => push_no_type(out, alloc, first),
+        _ => push_no_type(out, alloc, third),
     }
+}
+
+fn push_no_type(out: &mut String, alloc: Global, kind: &[u8]) -> Result<(), AllocError> {
+    let kind = shown(alloc, kind)?;
+    write!(out, "a dataset of version 1 or 2 has no type {kind}")
 }
 
 fn push_many(out: &mut String, alloc: Global, words: [&[u8]; 5]) -> Result<(), AllocError> {

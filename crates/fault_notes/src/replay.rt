@@ -1,6 +1,7 @@
 // A script read once more, by the readers that read it first, up to the line that they refuse.
 use crate::lines::{Line, Part};
 use crate::places::place_of;
+use crate::table::beside;
 use nc_base::ScriptKind;
 use script_calls::RankTable;
 use script_calls::mismatch::mismatch;
@@ -18,6 +19,24 @@ pub(crate) struct Refused<'a> {
     pub place: usize,
     /// How many ranks there are, where that is known.
     pub ranks: u32,
+}
+
+/// How a script begins.
+#[derive(Clone, Copy)]
+enum Head {
+    Create,
+    Open,
+}
+
+const HEADS: [(&[u8], Head); 2] = [(b"create", Head::Create), (b"open", Head::Open)];
+
+fn head_of(first: Token<'_>) -> Result<Head, ReadErr> {
+    if let Token::Plain(word) = first {
+        if let Some(head) = beside(word, &HEADS) {
+            return Ok(head);
+        }
+    }
+    Err(ReadErr::Fault(ScriptKind::NoHead))
 }
 
 /// What was read so far.
@@ -89,10 +108,9 @@ impl<'a> Replay<'a> {
     }
 
     fn read_head(&mut self, first: Token<'a>, words: &mut Words<'a>) -> Result<(), ReadErr> {
-        match first {
-            Token::Plain(b"create") => self.version = version(words)?,
-            Token::Plain(b"open") => {}
-            _ => return Err(ReadErr::Fault(ScriptKind::NoHead)),
+        match head_of(first)? {
+            Head::Create => self.version = version(words)?,
+            Head::Open => {}
         }
         no_more(words)?;
         self.part = Part::Definitions;

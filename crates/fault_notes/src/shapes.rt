@@ -1,5 +1,6 @@
 // How many elements the variables of a run have that don't grow.
 use crate::cursor::first_words;
+use crate::definition::Definition;
 use crate::lines::{Line, Part};
 use nc_base::{Header, Var};
 use script_words::numbers::{between_brackets, size_of_text};
@@ -64,9 +65,10 @@ impl<'a> Shapes<'a> {
     }
 
     fn add_line(&mut self, line: Line<'a>) -> Result<(), AllocError> {
-        match first_words(line.text) {
-            [b"dim", name, length, ..] => self.add_dim(name, size_of_text(length).unwrap_or(0)),
-            [b"var", _, name, dims, ..] => self.add_var(name, self.count_over(dims)),
+        let [kind, first, second, dims, ..] = first_words(line.text);
+        match Definition::of_word(kind) {
+            Some(Definition::Dim) => self.add_dim(first, size_of_text(second).unwrap_or(0)),
+            Some(Definition::Var) => self.add_var(second, self.count_over(dims)),
             _ => Ok(()),
         }
     }

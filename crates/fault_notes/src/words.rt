@@ -3,7 +3,8 @@ use crate::cursor::first_words;
 use crate::lines::Line;
 use crate::replay::Refused;
 use crate::shown::shown;
-use crate::slots::{Slot, slot_of};
+use crate::slot::Slot;
+use crate::slots::slot_of;
 use nc_base::ScriptKind;
 use script_words::{Token, Words};
 use std::alloc::{AllocError, Global};
@@ -62,7 +63,7 @@ fn push_wanted(out: &mut String, slot: Slot, word: &str) -> Result<(), AllocErro
             "no such value; a float's values are given as bits, x{float:08X}, and a double's as x{double:016X}"
         ),
         None => {
-            out.push_str(slot.missed())?;
+            out.push_str(slot.missed)?;
             out.push_str("; ")?;
             slot.push_wanted(out)
         }

@@ -84,15 +84,8 @@ fn main(rt: HostRuntime) -> ExitCode {
         &progress,
     );
     progress.clear();
-    let run = Run {
-        status: outcome.status,
-        script: source.kept(),
-        line: sink.line(),
-        pending: sink.pending(),
-        front: disk.front(),
-        length: disk.length(),
-        cause: disk.disk().cause(),
-    };
+    let cause = disk.disk().cause();
+    let run = Run::new(outcome.status, &source, &sink, &disk, cause);
     let _ = explain(&rt, alloc, &texts, &run);
     ExitCode::from(outcome.status)
 }
