@@ -1,5 +1,5 @@
 -- The variables of a redefined header stand apart.
-use Rattle.redef_laws.proofs.Words.{◌≡◌, ℕ, ◌+◌, ◌-◌, ◌<◌, ◌≤◌, max, List, length, Bool, true, false, ◌&&◌, Some, None, refl, sym, ap, ◌∙◌, inl, inr, arith, nat_lt, slice_get, nat_tests, ltb-true, ltb-false, slab_below, each_at, Header, Var, Extra, is_record, slab, vsize, recsize, share, sharing, header_len, is_sound, AreApart, added, fixed_order, begins_by_number, begin_of_number, redefined_header, at_begin, shares_by, fixed_then_record, record_then_fixed, no_sharing_from}
+use Rattle.redef_laws.proofs.Words.{◌≡◌, ℕ, ◌+◌, ◌-◌, ◌<◌, ◌≤◌, List, length, Bool, true, false, Some, None, refl, sym, ap, ◌∙◌, inl, inr, arith, nat_lt, slice_get, nat_tests, ltb-true, ltb-false, slab_below, each_at, Header, Var, Extra, is_record, slab, vsize, recsize, share, sharing, header_len, is_sound, AreApart, added, fixed_order, begins_by_number, begin_of_number, redefined_header, at_begin, shares_by, fixed_then_record, record_then_fixed, no_sharing_from}
 use Rattle.redef_laws.proofs.GrownLaws.{IsFitVar, IsFit}
 use Rattle.redef_laws.proofs.RebegunLaws.{rebegun, rebegun_at, rebegun_recsize, rebegun_len}
 use Rattle.redef_laws.proofs.BeginLaws.{at_number, found_is, front_grows, vsizes}
@@ -19,25 +19,12 @@ pub record IsFixedAt (header : Header) (n : ℕ) (v : Var) (b : ℕ) : Type 0 wh
 
 pub fixed_at : (header : Header) (n k : ℕ) (v : Var) (b : ℕ) → slice_get header.vars k ≡ Some v → is_record header v ≡ false → IsFound header n k b → IsFixedAt header n v b
 fixed_at header n k v b g e at =
-    let place = fixed_place header n k v g e in
-    let is = found_is (begins_by_number header n) k b place.0 at place.1.at in
-    let low = place.1.low in
-    let high = place.1.high in
-    let up = first_up header n in
-    record { low = omega arith; high = omega arith }
+    grind (arith, nat_tests, fixed_place header n k v g e, found_is (begins_by_number header n) k b (fixed_place header n k v g e).0, first_up header n)
 
 fixed_two : (header : Header) (n i j : ℕ) (v w : Var) (b c : ℕ) → slice_get header.vars i ≡ Some v → slice_get header.vars j ≡ Some w → is_record header v ≡ false
     → is_record header w ≡ false → (i ≡ j → ⊥) → IsFound header n i b → IsFound header n j c → AreApart b (slab header v) c (slab header w)
 fixed_two header n i j v w b c g f d e other at at' =
-    let p = fixed_place header n i v g d in
-    let q = fixed_place header n j w f e in
-    let is = found_is (begins_by_number header n) i b p.0 at p.1.at in
-    let is' = found_is (begins_by_number header n) j c q.0 at' q.1.at in
-    moved p.0 q.0 (slab header v) (slab header w) is is' (fixed_places_apart header n i j v w p.0 q.0 g f d e other p.1 q.1)
-  where
-    moved : (a a' m m' : ℕ) → b ≡ a → c ≡ a' → AreApart a m a' m' → AreApart b m c m'
-    moved a a' m m' p q (inl h) = inl (omega arith)
-    moved a a' m m' p q (inr h) = inr (omega arith)
+    grind (arith, nat_tests, fixed_place header n i v g d, fixed_place header n j w f e, found_is, fixed_places_apart)
 
 old_at : (header : Header) (n k : ℕ) (v : Var) (b : ℕ) → slice_get header.vars k ≡ Some v → is_record header v ≡ true → k < n → IsFound header n k b → b ≡ old_place_of header n v
 old_at header n k v b g e l at = found_is (begins_by_number header n) k b (old_place_of header n v) at (old_place header n k v g e l)
@@ -47,25 +34,12 @@ record IsNewAt (header : Header) (n : ℕ) (v : Var) (b : ℕ) : Type 0 where
   high : b + vsize header v ≤ new_from header n + vsizes header (new_records header n)
 
 new_at : (header : Header) (n k : ℕ) (v : Var) (b : ℕ) → slice_get header.vars k ≡ Some v → is_record header v ≡ true → n ≤ k → IsFound header n k b → IsNewAt header n v b
-new_at header n k v b g e l at =
-    let place = new_place header n k v g e l in
-    let is = found_is (begins_by_number header n) k b place.0 at place.1.at in
-    let low = place.1.low in
-    let high = place.1.high in
-    record { low = omega arith; high = omega arith }
+new_at header n k v b g e l at = grind (arith, nat_tests, new_place header n k v g e l, found_is (begins_by_number header n) k b (new_place header n k v g e l).0)
 
 new_two : (header : Header) (n i j : ℕ) (v w : Var) (b c : ℕ) → slice_get header.vars i ≡ Some v → slice_get header.vars j ≡ Some w → is_record header v ≡ true
     → is_record header w ≡ true → n ≤ i → n ≤ j → (i ≡ j → ⊥) → IsFound header n i b → IsFound header n j c → AreApart b (vsize header v) c (vsize header w)
 new_two header n i j v w b c g f d e l l' other at at' =
-    let p = new_place header n i v g d l in
-    let q = new_place header n j w f e l' in
-    let is = found_is (begins_by_number header n) i b p.0 at p.1.at in
-    let is' = found_is (begins_by_number header n) j c q.0 at' q.1.at in
-    moved p.0 q.0 (vsize header v) (vsize header w) is is' (new_places_apart header n i j v w p.0 q.0 g f d e l l' other p.1 q.1)
-  where
-    moved : (a a' m m' : ℕ) → b ≡ a → c ≡ a' → AreApart a m a' m' → AreApart b m c m'
-    moved a a' m m' p q (inl h) = inl (omega arith)
-    moved a a' m m' p q (inr h) = inr (omega arith)
+    grind (arith, nat_tests, new_place header n i v g d l, new_place header n j w f e l', found_is, new_places_apart)
 
 -- record variables begin past the fixed ones
 pub record_low : (header : Header) (n k : ℕ) (v : Var) (b : ℕ) → slice_get header.vars k ≡ Some v → is_record header v ≡ true → IsFound header n k b → first_place header n ≤ b
@@ -146,12 +120,7 @@ records_two old extras i j v w b c sound l g f d e at at' = by_numbers (nat_lt i
 -- ---- any two variables
 
 fixed_apart : (a n b m size : ℕ) → AreApart a n b m → shares_by false false a n b m size ≡ false
-fixed_apart a n b m size (inl h) = ap (λ (t : Bool). t && nat_lt (max a b) (b + m)) (let e : nat_lt (max a b) (a + n) ≡ false = grind (arith, nat_tests) in e)
-fixed_apart a n b m size (inr h) = both_false (nat_lt (max a b) (a + n)) (let e : nat_lt (max a b) (b + m) ≡ false = grind (arith, nat_tests) in e)
-  where
-    both_false : (t : Bool) → nat_lt (max a b) (b + m) ≡ false → (t && nat_lt (max a b) (b + m)) ≡ false
-    both_false true e = e
-    both_false false e = refl
+fixed_apart a n b m size xs = grind (arith, nat_tests)
 
 two_apart : (old : Header) (extras : List Extra) (i j : ℕ) (v w : Var) (b c : ℕ) → is_sound old ≡ true → IsFit (added old extras) → i < j
     → slice_get (added old extras).vars i ≡ Some v → slice_get (added old extras).vars j ≡ Some w
@@ -161,15 +130,9 @@ two_apart old extras i j v w b c sound fit l g f at at' false false d e =
     let header = added old extras in
     fixed_apart b (slab header v) c (slab header w) (recsize header) (fixed_two header (length old.vars) i j v w b c g f d e (λ same. absurd (omega arith)) at at')
 two_apart old extras i j v w b c sound fit l g f at at' false true d e =
-    let header = added old extras in
-    let high = (fixed_at header (length old.vars) i v b g d at).high in
-    let low = record_low header (length old.vars) j w c f e at' in
-    fixed_then_record b (slab header v) c (slab header w) (recsize header) (omega arith)
+    grind (arith, nat_tests, fixed_at (added old extras) (length old.vars) i v b g d, record_low (added old extras) (length old.vars) j w c f e at', fixed_then_record)
 two_apart old extras i j v w b c sound fit l g f at at' true false d e =
-    let header = added old extras in
-    let high = (fixed_at header (length old.vars) j w c f e at').high in
-    let low = record_low header (length old.vars) i v b g d at in
-    record_then_fixed b (slab header v) c (slab header w) (recsize header) (omega arith)
+    grind (arith, nat_tests, fixed_at (added old extras) (length old.vars) j w c f e at', record_low (added old extras) (length old.vars) i v b g d, record_then_fixed)
 two_apart old extras i j v w b c sound fit l g f at at' true true d e =
     let header = added old extras in
     ordered_apart b (slab header v) c (slab header w) (recsize header)

@@ -4,43 +4,26 @@
 --     Numbers vars list      each variable of the list stands with its number
 --     fixed_begin, map_begin, record_begin      what is found for a variable of the list
 --     fixed_apart, record_apart                 two variables of the list stand apart
-use Rattle.redef_laws.proofs.Words.{◌≡◌, ℕ, zero, suc, ◌+◌, ◌≤◌, List, [], ◌∷◌, map, Bool, true, false, cond, Option, Some, None, refl, sym, ap, subst, ◌∙◌, inl, inr, ◌⊎◌, arith, nat_le, ◌==◌, filter, find, sum_by, slice_get, enumerate_from, AllByRecursion, sum_by-cons, leb-true, eqb-true, ne_eqb, equal_true, Header, Var, slab, vsize, round_up, AreApart, inserted_by, Numbered, begins_before, by_begin, begin_at, fixed_begins, front_after, record_begins, In}
+use Rattle.redef_laws.proofs.Words.{◌≡◌, ℕ, zero, suc, ◌+◌, ◌≤◌, List, [], ◌∷◌, map, Bool, true, false, cond, Option, Some, None, refl, sym, ap, ◌∙◌, inl, inr, ◌⊎◌, arith, ◌==◌, filter, find, sum_by, slice_get, enumerate_from, AllByRecursion, sum_by-cons, leb-true, eqb-true, ne_eqb, equal_true, Header, Var, slab, vsize, AreApart, inserted_by, Numbered, begins_before, by_begin, begin_at, fixed_begins, front_after, record_begins, In, nat_tests}
 
 -- ---- members and numbers
 
 pub in_numbered : (n : ℕ) (vs : List Var) (k : ℕ) (v : Var) → slice_get vs k ≡ Some v → In (enumerate_from n vs) (n + k, v)
 in_numbered n [] k v h = absurd cc
-in_numbered n (x ∷ vs) zero v h =
-    let same : x ≡ v = cc in
-    let plain : n ≡ n + 0 = omega arith in
-    inl (λ t. (plain t, same t))
-in_numbered n (x ∷ vs) (suc k) v h =
-    let next : n + 1 + k ≡ n + suc k = omega arith in
-    inr (subst (λ (m : ℕ). In (enumerate_from (n + 1) vs) (m, v)) next (in_numbered (n + 1) vs k v h))
+in_numbered n (x ∷ vs) zero v h = grind (arith, nat_tests)
+in_numbered n (x ∷ vs) (suc k) v h = grind (arith, nat_tests, in_numbered (n + 1) vs k v h)
 
 pub each_filter : {A : Type 0} (P : A → Type 0) (p : A → Bool) (xs : List A) → AllByRecursion P xs → AllByRecursion P (filter p xs)
 each_filter P p [] h = tt
-each_filter P p (x ∷ xs) h = by_test (p x) (each_filter P p xs h.1)
-  where
-    by_test : (t : Bool) → AllByRecursion P (filter p xs) → AllByRecursion P (cond t (x ∷ filter p xs) (filter p xs))
-    by_test true rest = (h.0, rest)
-    by_test false rest = rest
+each_filter P p (x ∷ xs) h = grind (arith, nat_tests, each_filter P p xs h.1)
 
 pub each_filtered : {A : Type 0} (p : A → Bool) (xs : List A) → AllByRecursion (λ x. p x ≡ true) (filter p xs)
 each_filtered p [] = tt
-each_filtered p (x ∷ xs) = by_test (p x) refl (each_filtered p xs)
-  where
-    by_test : (t : Bool) → p x ≡ t → AllByRecursion (λ y. p y ≡ true) (filter p xs) → AllByRecursion (λ y. p y ≡ true) (cond t (x ∷ filter p xs) (filter p xs))
-    by_test true e rest = (e, rest)
-    by_test false e rest = rest
+each_filtered p (x ∷ xs) = grind (arith, nat_tests, each_filtered p xs)
 
 each_inserted : (P : Numbered → Type 0) (v : Numbered) (vs : List Numbered) → P v → AllByRecursion P vs → AllByRecursion P (inserted_by begins_before v vs)
 each_inserted P v [] p h = (p, tt)
-each_inserted P v (w ∷ vs) p h = by_test (nat_le v.1.begin w.1.begin) (each_inserted P v vs p h.1)
-  where
-    by_test : (t : Bool) → AllByRecursion P (inserted_by begins_before v vs) → AllByRecursion P (cond t (v ∷ w ∷ vs) (w ∷ inserted_by begins_before v vs))
-    by_test true rest = (p, h)
-    by_test false rest = (h.0, rest)
+each_inserted P v (w ∷ vs) p h = grind (arith, nat_tests, each_inserted P v vs p h.1)
 
 pub each_by_begin : (P : Numbered → Type 0) (vs : List Numbered) → AllByRecursion P vs → AllByRecursion P (by_begin vs)
 each_by_begin P [] h = tt
@@ -48,13 +31,7 @@ each_by_begin P (v ∷ vs) h = each_inserted P v (by_begin vs) h.0 (each_by_begi
 
 in_inserted : (v : Numbered) (vs : List Numbered) (x : Numbered) → (v ≡ x) ⊎ In vs x → In (inserted_by begins_before v vs) x
 in_inserted v [] x h = h
-in_inserted v (w ∷ vs) x h = by_test (nat_le v.1.begin w.1.begin) (λ g. in_inserted v vs x g) h
-  where
-    by_test : (t : Bool) → ((v ≡ x) ⊎ In vs x → In (inserted_by begins_before v vs) x) → (v ≡ x) ⊎ ((w ≡ x) ⊎ In vs x) → In (cond t (v ∷ w ∷ vs) (w ∷ inserted_by begins_before v vs)) x
-    by_test true rest g = g
-    by_test false rest (inl e) = inr (rest (inl e))
-    by_test false rest (inr (inl e)) = inl e
-    by_test false rest (inr (inr g)) = inr (rest (inr g))
+in_inserted v (w ∷ vs) x h = grind (arith, nat_tests, in_inserted v vs x)
 
 pub in_by_begin : (vs : List Numbered) (x : Numbered) → In vs x → In (by_begin vs) x
 in_by_begin [] x h = h
@@ -102,11 +79,7 @@ found_on m k b rest e = ap (λ (t : Bool). cond t (Some (m, b)) (at_number rest 
 -- ---- fixed variables
 
 pub begin_past : (front : ℕ) (v : Var) → front ≤ begin_at front v
-begin_past front v = by_test (nat_le front v.begin) refl
-  where
-    by_test : (t : Bool) → nat_le front v.begin ≡ t → front ≤ cond t v.begin (round_up 4 front)
-    by_test true e = leb-true front v.begin e
-    by_test false e = omega arith
+begin_past front v = grind (arith, nat_tests, leb-true)
 
 pub front_grows : (header : Header) (front : ℕ) (list : List Numbered) → front ≤ front_after header front list
 front_grows header front [] = omega arith
@@ -195,9 +168,7 @@ HasNone k list = AllByRecursion (λ p. p.0 ≡ k → ⊥) list
 
 pub fixed_none : (header : Header) (front : ℕ) (list : List Numbered) (k : ℕ) → HasNone k list → at_number (fixed_begins header front list) k ≡ None
 fixed_none header front [] k none = refl
-fixed_none header front (p ∷ list) k none =
-    found_on p.0 k (begin_at front p.1) (fixed_begins header (begin_at front p.1 + slab header p.1) list) (ne_eqb p.0 k none.0)
-    ∙ fixed_none header (begin_at front p.1 + slab header p.1) list k none.1
+fixed_none header front (p ∷ list) k none = grind (arith, nat_tests, fixed_none header (begin_at front p.1 + slab header p.1) list k none.1, found_on, ne_eqb)
 
 -- ---- old record variables
 
@@ -207,12 +178,7 @@ mapped_begins f list = map (λ p. (p.0, f p.1)) list
 pub map_begin : (f : Var → ℕ) (vars : List Var) (list : List Numbered) (k : ℕ) (v : Var) → Numbers vars list → slice_get vars k ≡ Some v → In list (k, v)
     → at_number (mapped_begins f list) k ≡ Some (k, f v)
 map_begin f vars [] k v all g h = absurd h
-map_begin f vars (p ∷ list) k v all g h = by_test (λ i. map_begin f vars list k v all.1 g i) (p.0 == k) refl
-  where
-    by_test : (In list (k, v) → at_number (mapped_begins f list) k ≡ Some (k, f v)) → (t : Bool) → (p.0 == k) ≡ t → at_number (mapped_begins f (p ∷ list)) k ≡ Some (k, f v)
-    by_test rest true e =
-        found_if p.0 k (f p.1) (mapped_begins f list) e ∙ ap (λ (w : Var). Some (k, f w)) (same_var vars k p.0 v p.1 g all.0 (eqb-true p.0 k e))
-    by_test rest false e = found_on p.0 k (f p.1) (mapped_begins f list) e ∙ rest (in_tail p list k v e h)
+map_begin f vars (p ∷ list) k v all g h = grind (arith, nat_tests, map_begin f vars list k v all.1 g, found_if, same_var, eqb-true, found_on, in_tail)
 
 pub map_none : (f : Var → ℕ) (list : List Numbered) (k : ℕ) → HasNone k list → at_number (mapped_begins f list) k ≡ None
 map_none f [] k none = refl

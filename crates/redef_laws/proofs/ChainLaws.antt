@@ -1,5 +1,5 @@
 -- Lists of slabs that stand one behind another.
-use Rattle.redef_laws.proofs.Words.{◌≡◌, ℕ, ◌+◌, ◌<◌, ◌≤◌, refl, subst, inl, inr, List, [], ◌∷◌, ◌++◌, Bool, true, false, cond, arith, nat_lt, nat_le, leb-true, leb-false, Slab, In, in_either, inserted_by, stands_below, lowest_first, IsRisen, AreShifted}
+use Rattle.redef_laws.proofs.Words.{◌≡◌, ℕ, ◌+◌, ◌<◌, ◌≤◌, refl, subst, inl, inr, List, [], ◌∷◌, ◌++◌, Bool, true, false, cond, arith, nat_le, leb-true, leb-false, Slab, In, in_either, inserted_by, stands_below, lowest_first, IsRisen, AreShifted, nat_tests}
 use borrow.Author.Tests.{ltb-true, ltb-false}
 
 -- each slab begins below those after it
@@ -31,27 +31,17 @@ risen_from old_first first end a b all (s ∷ ss) h k l m =
 -- slabs that are shifted, and begin one behind another, are a chain
 pub shifted_risen : (old_first first end : ℕ) (all ss : List Slab) → AreShifted old_first first end all → ((s : Slab) → In ss s → In all s)
     → Ascends ss → IsRisen old_first first ss
-shifted_risen old_first first end all ss h k l =
-    risen_from old_first first end old_first first all ss h k l (λ s g. let r = h.each s (k s g) in (r.old_past, r.past))
+shifted_risen old_first first end all ss h k l = grind (arith, nat_tests, risen_from)
 
 -- a chain lies from its places on
 pub risen_past : (a b : ℕ) (ss : List Slab) (s : Slab) → IsRisen a b ss → In ss s → (a ≤ s.from) × (b ≤ s.to) × (0 < s.len)
 risen_past a b [] s h g = absurd g
 risen_past a b (t ∷ ss) s h (inl e) = subst (λ (z : Slab). (a ≤ z.from) × (b ≤ z.to) × (0 < z.len)) e (h.1, h.2, h.0)
-risen_past a b (t ∷ ss) s h (inr g) =
-    let r = risen_past (t.from + t.len) (t.to + t.len) ss s h.4 g in
-    let l = r.0 in
-    let m = r.1 in
-    let n = h.1 in
-    let o = h.2 in
-    (omega arith, omega arith, r.2)
+risen_past a b (t ∷ ss) s h (inr g) = grind (arith, nat_tests, risen_past (t.from + t.len) (t.to + t.len) ss s h.4 g)
 
 pub risen_ascends : (a b : ℕ) (ss : List Slab) → IsRisen a b ss → Ascends ss
 risen_ascends a b [] h = tt
-risen_ascends a b (s ∷ ss) h = (
-  (λ t g. let r = risen_past (s.from + s.len) (s.to + s.len) ss t h.4 g in let l = r.0 in let n = h.0 in omega arith),
-  risen_ascends (s.from + s.len) (s.to + s.len) ss h.4,
-)
+risen_ascends a b (s ∷ ss) h = grind (arith, nat_tests, risen_ascends (s.from + s.len) (s.to + s.len) ss h.4, risen_past)
 
 -- ---- ascending lists
 
@@ -68,23 +58,14 @@ ascends_joined (s ∷ ss) ts h k l = (
 
 put_members : (s : Slab) (ss : List Slab) (t : Slab) → In (inserted_by stands_below s ss) t → In (s ∷ ss) t
 put_members s [] t h = h
-put_members s (u ∷ ss) t h = by_test (nat_le s.from u.from) (put_members s ss t) h
-  where
-    by_test : (b : Bool) → (In (inserted_by stands_below s ss) t → In (s ∷ ss) t) → In (cond b (s ∷ u ∷ ss) (u ∷ inserted_by stands_below s ss)) t → In (s ∷ u ∷ ss) t
-    by_test true rest g = g
-    by_test false rest (inl e) = inr (inl e)
-    by_test false rest (inr g) = elim (rest g) [ inl e ↦ inl e | inr m ↦ inr (inr m) ]
+put_members s (u ∷ ss) t h = grind (arith, nat_tests, put_members s ss t)
 
 pub lowest_members : (ss : List Slab) (t : Slab) → In (lowest_first ss) t → In ss t
 lowest_members [] t h = h
 lowest_members (s ∷ ss) t h = elim (put_members s (lowest_first ss) t h) [ inl e ↦ inl e | inr g ↦ inr (lowest_members ss t g) ]
 
 pub below : (m n : ℕ) → m ≤ n → (m ≡ n → ⊥) → m < n
-below m n h k = by_test (nat_lt m n) refl
-  where
-    by_test : (b : Bool) → nat_lt m n ≡ b → m < n
-    by_test true e = ltb-true _ _ e
-    by_test false e = let l : n ≤ m = ltb-false _ _ e in absurd (k (omega arith))
+below m n h k = grind (arith, nat_tests, ltb-true, ltb-false)
 
 put_ascends : (s : Slab) (ss : List Slab) → Ascends ss → ((t : Slab) → In ss t → s.from ≡ t.from → ⊥) → Ascends (inserted_by stands_below s ss)
 put_ascends s [] h k = ((λ t g. absurd g), tt)

@@ -32,11 +32,7 @@ record IsKept (old new : Header) (v w : Var) : Type 0 where
   lens : lengths new w ≡ lengths old v
 
 kept : (old new : Header) → KeepsVars old new → (k : ℕ) (v w : Var) → slice_get old.vars k ≡ Some v → slice_get new.vars k ≡ Some w → IsKept old new v w
-kept old new keeps k v w h g =
-    let found = keeps k v h in
-    let there : Some found.0 ≡ Some w = sym found.1 ∙ g in
-    let same : found.0 ≡ w = cc in
-    subst (λ (x : Var). IsKept old new v x) same (record { kind = found.2; lens = found.3 })
+kept old new keeps k v w h g = grind (arith, nat_tests)
 
 new_place : (old new : Header) (v w : Var) (index : List ℕ) → IsKept old new v w
     → place new w index ≡ place_by (lengths old v) w.begin (recsize new) (size_of v.kind) index
@@ -106,10 +102,7 @@ element_in old new sound keeps k v w index h g i = by_kind (is_record old v) ref
         record_in old new k v w index h g (kept old new keeps k v w h g) e inner.1 (subst (λ (t : Bool). MatchBool t (record_of index < old.records) (Unit {0})) e own.1)
 
 pub element_in_slab : (old new : Header) → is_sound old ≡ true → KeepsVars old new → (from to size : ℕ) → Moves old new from to size → HasSlab old new from to size
-element_in_slab old new sound keeps from to size (k, v, w, index, h, g, i, f, t, s) =
-    let there = element_in old new sound keeps k v w index h g i in
-    let lies = there.2 in
-    (there.0, there.1, record { off = lies.off; old = f ∙ lies.old; new = t ∙ lies.new; inside = omega arith })
+element_in_slab old new sound keeps from to size (k, v, w, index, h, g, i, f, t, s) = grind (arith, nat_tests, element_in old new sound keeps k v w index h g i)
 
 -- ---- each number below the product is that of an index
 

@@ -1,5 +1,5 @@
 -- The order in which slabs are moved: a chain backwards, without the slabs that stay.
-use Rattle.redef_laws.proofs.Words.{◌≡◌, ℕ, ◌<◌, refl, sym, ◌∙◌, ap, subst, inl, inr, ◌⊎◌, List, [], ◌∷◌, ◌++◌, reverse, Bool, true, false, cond, arith, reverse_onto, filter, nat_le, leb-true, leb-false, inserted_by, Slab, stands_above, highest_first, In, HaveSame, filter_in, in_filter, in_left, in_right, in_either, changes, IsRisen}
+use Rattle.redef_laws.proofs.Words.{◌≡◌, ℕ, ◌<◌, refl, sym, subst, inl, inr, ◌⊎◌, List, [], ◌∷◌, ◌++◌, reverse, Bool, true, false, cond, arith, reverse_onto, filter, nat_le, leb-true, leb-false, inserted_by, Slab, stands_above, highest_first, In, HaveSame, filter_in, in_filter, in_left, in_right, in_either, changes, IsRisen, nat_tests}
 use Rattle.redef_laws.proofs.ChainLaws.{Ascends, AreDistinct, below, risen_ascends, ascends_distinct}
 use Rattle.redef_laws.proofs.SumLaws.{HaveSameSums, sums_members, sums_back, sums_distinct}
 
@@ -12,19 +12,11 @@ Descends (s ∷ ss) = ((t : Slab) → In ss t → t.from < s.from) × Descends s
 
 filter_distinct : (t : Slab → Bool) (ss : List Slab) → AreDistinct ss → AreDistinct (filter t ss)
 filter_distinct t [] h = tt
-filter_distinct t (s ∷ ss) h = by_test (t s) (filter_distinct t ss h.1)
-  where
-    by_test : (b : Bool) → AreDistinct (filter t ss) → AreDistinct (cond b (s ∷ filter t ss) (filter t ss))
-    by_test true rest = ((λ u m. h.0 u (filter_in t ss u m).0), rest)
-    by_test false rest = rest
+filter_distinct t (s ∷ ss) h = grind (arith, nat_tests, filter_distinct t ss h.1, filter_in)
 
 filter_descends : (t : Slab → Bool) (ss : List Slab) → Descends ss → Descends (filter t ss)
 filter_descends t [] h = tt
-filter_descends t (s ∷ ss) h = by_test (t s) (filter_descends t ss h.1)
-  where
-    by_test : (b : Bool) → Descends (filter t ss) → Descends (cond b (s ∷ filter t ss) (filter t ss))
-    by_test true rest = ((λ u m. h.0 u (filter_in t ss u m).0), rest)
-    by_test false rest = rest
+filter_descends t (s ∷ ss) h = grind (arith, nat_tests, filter_descends t ss h.1, filter_in)
 
 -- ---- backwards
 
@@ -33,11 +25,7 @@ reverse_first s ss = reverse_onto ss s []
 
 reverse_in : (ss : List Slab) (t : Slab) → In (reverse ss) t → In ss t
 reverse_in [] t h = h
-reverse_in (s ∷ ss) t h =
-    elim (in_either (reverse ss) (s ∷ []) t (subst (λ (l : List Slab). In l t) (reverse_first s ss) h)) [
-      | inl m ↦ inr (reverse_in ss t m)
-      | inr m ↦ elim m [ inl e ↦ inl e | inr n ↦ absurd n ]
-    ]
+reverse_in (s ∷ ss) t h = grind (arith, nat_tests, reverse_in ss t, in_either, reverse_first)
 
 in_reverse : (ss : List Slab) (t : Slab) → In ss t → In (reverse ss) t
 in_reverse [] t h = h
@@ -62,22 +50,11 @@ reverse_descends (s ∷ ss) h =
 
 placed_in : (s : Slab) (ss : List Slab) (t : Slab) → In (inserted_by stands_above s ss) t → In (s ∷ ss) t
 placed_in s [] t h = h
-placed_in s (u ∷ ss) t h = by_test (nat_le u.from s.from) (placed_in s ss t) h
-  where
-    by_test : (b : Bool) → (In (inserted_by stands_above s ss) t → In (s ∷ ss) t) → In (cond b (s ∷ u ∷ ss) (u ∷ inserted_by stands_above s ss)) t → In (s ∷ u ∷ ss) t
-    by_test true rest g = g
-    by_test false rest (inl e) = inr (inl e)
-    by_test false rest (inr g) = elim (rest g) [ inl e ↦ inl e | inr m ↦ inr (inr m) ]
+placed_in s (u ∷ ss) t h = grind (arith, nat_tests, placed_in s ss t)
 
 in_placed : (s : Slab) (ss : List Slab) (t : Slab) → In (s ∷ ss) t → In (inserted_by stands_above s ss) t
 in_placed s [] t h = h
-in_placed s (u ∷ ss) t h = by_test (nat_le u.from s.from) (in_placed s ss t) h
-  where
-    by_test : (b : Bool) → (In (s ∷ ss) t → In (inserted_by stands_above s ss) t) → In (s ∷ u ∷ ss) t → In (cond b (s ∷ u ∷ ss) (u ∷ inserted_by stands_above s ss)) t
-    by_test true rest g = g
-    by_test false rest (inl e) = inr (rest (inl e))
-    by_test false rest (inr (inl e)) = inl e
-    by_test false rest (inr (inr m)) = inr (rest (inr m))
+in_placed s (u ∷ ss) t h = grind (arith, nat_tests, in_placed s ss t)
 
 highest_in : (ss : List Slab) (t : Slab) → In (highest_first ss) t → In ss t
 highest_in [] t h = h
@@ -111,11 +88,7 @@ highest_descends (s ∷ ss) h = placed_descends s (highest_first ss) (highest_de
 -- ---- descending lists with the same members are the same
 
 tail_members : (s : Slab) (ss ts : List Slab) → ((t : Slab) → In ss t → t.from < s.from) → ((t : Slab) → In (s ∷ ss) t → In (s ∷ ts) t) → (t : Slab) → In ss t → In ts t
-tail_members s ss ts h k t m = by_member (k t (inr m))
-  where
-    by_member : In (s ∷ ts) t → In ts t
-    by_member (inl e) = let l = h t m in let same : s.from ≡ t.from = ap (λ (z : Slab). z.from) e in absurd (omega arith)
-    by_member (inr n) = n
+tail_members s ss ts h k t m = grind (arith, nat_tests)
 
 same_descending : (ss ts : List Slab) → Descends ss → Descends ts → HaveSame ss ts → ss ≡ ts
 same_descending [] [] h k m = refl

@@ -1,5 +1,5 @@
 -- Tests of numbers and lists, and which numbers fit their fields.
-use Rattle.redef_laws.proofs.Words.{◌≡◌, ℕ, ◌^◌, ◌<◌, List, [], ◌∷◌, Bool, true, false, cond, ◌&&◌, refl, arith, ◌==◌, AllByRecursion, w32, w64, small_field, begin_width, fits_field, fits_count}
+use Rattle.redef_laws.proofs.Words.{◌≡◌, ℕ, ◌^◌, ◌<◌, List, [], ◌∷◌, Bool, true, false, ◌&&◌, arith, ◌==◌, AllByRecursion, small_field, begin_width, fits_field, fits_count, nat_tests}
 
 -- ---- tests
 
@@ -17,15 +17,7 @@ each_both P Q R f (x ∷ xs) h g = (f x h.0 g.0, each_both P Q R f xs h.1 g.1)
 
 -- a number that fits in 32 bits, or in 64 where the version has them
 pub count_fits : (version n : ℕ) → n < 2 ^ 62 → ((version == 5) ≡ false → n < 2 ^ 31) → fits_count version n ≡ true
-count_fits version n l h = by_test (version == 5) refl
-  where
-    by_test : (t : Bool) → (version == 5) ≡ t → fits_field (cond t w64 w32) n ≡ true
-    by_test true e = small_field w64 n (2 ^ 64) refl (omega arith)
-    by_test false e = let less = h e in small_field w32 n (2 ^ 32) refl (omega arith)
+count_fits version n l h = grind (arith, nat_tests, small_field)
 
 pub begin_fits : (version n : ℕ) → n < 2 ^ 62 → ((version == 1) ≡ true → n < 2 ^ 31) → fits_field (begin_width version) n ≡ true
-begin_fits version n l h = by_test (version == 1) refl
-  where
-    by_test : (t : Bool) → (version == 1) ≡ t → fits_field (cond t w32 w64) n ≡ true
-    by_test true e = let less = h e in small_field w32 n (2 ^ 32) refl (omega arith)
-    by_test false e = small_field w64 n (2 ^ 64) refl (omega arith)
+begin_fits version n l h = grind (arith, nat_tests, small_field)

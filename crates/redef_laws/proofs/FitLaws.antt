@@ -1,5 +1,5 @@
 -- A header that can be redefined has the facts that extras keep, and so has the new header.
-use Rattle.redef_laws.proofs.Words.{◌≡◌, ℕ, ◌+◌, ◌*◌, ◌<◌, ◌≤◌, List, [], ◌∷◌, length, drop, Bool, true, false, cond, ◌||◌, Some, None, refl, sym, ap, ◌∙◌, arith, not, nat_le, ◌==◌, count_by, position, option_map, is_none, list_all, position_from, AllByRecursion, position_from-zero, length-filter, or_parts, not-false, leb-true, ltb-false, leb-false, eqb-true, passes_each, fails_each, each_weaker, and_first, and_second, both_none, none_of_test, none_before_map, neither_some, Header, Dim, Attr, Var, most_dims, most_dims_of_var, file_limit, record_limit, size_of, sharing, is_version, header_len, all_ones, first_check, first_with, fault_if, two_record_dims, record_later, is_record_id, bad_id, is_too_large, measure, is_sound, counts_are_small, fits_count, is_writable_dim, is_writable_attr, is_writable_list, is_redefinable, is_redefinable_var, no_fault}
+use Rattle.redef_laws.proofs.Words.{◌≡◌, ℕ, ◌+◌, ◌<◌, ◌≤◌, List, [], ◌∷◌, length, drop, Bool, true, false, cond, Some, None, refl, sym, ap, ◌∙◌, arith, nat_le, ◌==◌, count_by, position, list_all, position_from, AllByRecursion, position_from-zero, length-filter, or_parts, not-false, leb-true, ltb-false, leb-false, eqb-true, passes_each, fails_each, each_weaker, and_first, and_second, both_none, none_of_test, none_before_map, neither_some, Header, Dim, Attr, Var, most_dims, most_dims_of_var, record_limit, sharing, is_version, header_len, all_ones, first_check, two_record_dims, record_later, is_record_id, bad_id, measure, is_sound, counts_are_small, fits_count, is_writable_dim, is_writable_attr, is_writable_list, is_redefinable, is_redefinable_var, no_fault, nat_tests}
 use Rattle.nc_base.specs.declared.errors.HeaderErr.TheVariants as fault
 use Rattle.redef_laws.proofs.GrownLaws.{IsTyped, HasFitLength, IsFitVar, IsFit, is_record_dim}
 
@@ -16,46 +16,16 @@ pub record IsChecked (header : Header) : Type 0 where
   pub apart : sharing header (header_len header) ≡ None
 
 pub checked : (header : Header) → is_sound header ≡ true → IsChecked header
-checked header h =
-    let checks : first_check header ≡ None = none_of_test _ (and_second _ _ h) in
-    let a = both_none (fault_if (two_record_dims header) fault.TwoRecordDims) _ checks in
-    let b = both_none (first_with (record_later header) (λ k. fault.RecordDimNotFirst k) header.vars) _ a.1 in
-    let c = both_none (first_with (bad_id header) (λ k. fault.BadDimId k) header.vars) _ b.1 in
-    let d = both_none (fault_if (header.records == all_ones header.version) fault.Streaming) _ c.1 in
-    let e = both_none (fault_if (is_too_large header) fault.TooLarge) _ d.1 in
-    let large = or_parts (not (is_none (measure header))) (nat_le (record_limit header.version) header.records) (no_fault (is_too_large header) fault.TooLarge e.0) in
-    record {
-      one_record = no_fault (two_record_dims header) fault.TwoRecordDims a.0;
-      first = none_before_map (λ k. fault.RecordDimNotFirst k) _ b.0;
-      ids = none_before_map (λ k. fault.BadDimId k) _ c.0;
-      counted = no_fault (header.records == all_ones header.version) fault.Streaming d.0;
-      measured = none_of_test (measure header) (not-false _ large.0);
-      few = large.1;
-      apart = none_before_map (λ p. fault.Shared p.0 p.1) _ e.1;
-    }
+checked header h = grind (arith, nat_tests, none_of_test, and_second, both_none, or_parts, no_fault, none_before_map, not-false)
 
 pub passes_checks : (header : Header) → IsChecked header → first_check header ≡ None
-passes_checks header c =
-    neither_some _ _ (ap (λ (t : Bool). fault_if t fault.TwoRecordDims) c.one_record)
-    (neither_some _ _ (ap (λ o. option_map (λ k. fault.RecordDimNotFirst k) o) c.first)
-    (neither_some _ _ (ap (λ o. option_map (λ k. fault.BadDimId k) o) c.ids)
-    (neither_some _ _ (ap (λ (t : Bool). fault_if t fault.Streaming) c.counted)
-    (neither_some _ _ (ap (λ (t : Bool). fault_if t fault.TooLarge) small)
-    (ap (λ o. option_map (λ p. fault.Shared p.0 p.1) o) c.apart)))))
-  where
-    small : is_too_large header ≡ false
-    small = ap (λ o. not (is_none o) || nat_le (record_limit header.version) header.records) c.measured ∙ c.few
+passes_checks header c = grind (arith, nat_tests, neither_some)
 
 -- ---- searches that find nothing
 
 none_from : {A : Type 0} (test : A → Bool) (n : ℕ) (xs : List A) → position_from test n xs ≡ None → AllByRecursion (λ x. test x ≡ false) xs
 none_from test n [] h = tt
-none_from test n (x ∷ xs) h = by_test (λ g. none_from test (n + 1) xs g) (test x) refl h
-  where
-    by_test : (position_from test (n + 1) xs ≡ None → AllByRecursion (λ x. test x ≡ false) xs)
-        → (t : Bool) → test x ≡ t → cond t (Some n) (position_from test (n + 1) xs) ≡ None → (test x ≡ false) × AllByRecursion (λ x. test x ≡ false) xs
-    by_test rest true e g = absurd cc
-    by_test rest false e g = (e, rest g)
+none_from test n (x ∷ xs) h = grind (arith, nat_tests, none_from test (n + 1) xs)
 
 pub none_found : {A : Type 0} (test : A → Bool) (xs : List A) → position test xs ≡ None → AllByRecursion (λ x. test x ≡ false) xs
 none_found test xs h = none_from test 0 xs (sym (position_from-zero test xs) ∙ h)
@@ -77,11 +47,7 @@ pub record IsOpened (old : Header) : Type 0 where
   pub dim_names : AllByRecursion (λ d. fits_count old.version (length d.name) ≡ true) old.dims
 
 fit_attr : (version : ℕ) (a : Attr) → is_writable_attr version a ≡ true → IsTyped version a
-fit_attr version a h =
-    record {
-      kind = and_second (fits_count version (length a.name)) _ (and_first _ _ (and_first _ _ h));
-      whole = eqb-true (length a.bytes) (a.count * size_of a.kind) (and_second _ _ h);
-    }
+fit_attr version a h = grind (arith, nat_tests, and_second, and_first, eqb-true)
 
 fit_attrs : (version : ℕ) (attrs : List Attr) → is_writable_list version (is_writable_attr version) attrs ≡ true → AllByRecursion (IsTyped version) attrs
 fit_attrs version attrs h =
@@ -89,11 +55,7 @@ fit_attrs version attrs h =
     (passes_each (is_writable_attr version) attrs (and_second (fits_count version (length attrs)) _ h))
 
 fit_dim : (version : ℕ) (d : Dim) → is_writable_dim version d ≡ true → HasFitLength version d
-fit_dim version d h =
-    record {
-      fits = and_second (fits_count version (length d.name)) _ (and_first _ _ h);
-      small = leb-true d.len file_limit (and_second _ _ h);
-    }
+fit_dim version d h = grind (arith, nat_tests, and_second, and_first, leb-true)
 
 -- of a variable, what the tests of its number of ids, of the ids, of the record dimension and of its parts tell
 record IsToldVar (header : Header) (v : Var) : Type 0 where
@@ -119,8 +81,7 @@ told_vars : (header : Header) (vs : List Var) → AllByRecursion (λ (v : Var). 
     → AllByRecursion (λ v. record_later header v ≡ false) vs → AllByRecursion (λ v. is_redefinable_var header v ≡ true) vs
     → AllByRecursion (IsFitVar header.version header.dims) vs
 told_vars header [] a b c d = tt
-told_vars header (v ∷ vs) a b c d =
-    (fit_var header v (record { few = a.0; ids = b.0; later = c.0; parts = d.0 }), told_vars header vs a.1 b.1 c.1 d.1)
+told_vars header (v ∷ vs) a b c d = grind (arith, nat_tests, told_vars header vs a.1 b.1 c.1 d.1, fit_var)
 
 pub opened_old : (old : Header) → is_redefinable old ≡ true → IsOpened old
 opened_old old h =

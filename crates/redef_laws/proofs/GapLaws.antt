@@ -1,7 +1,6 @@
 -- The bytes between slabs.
-use Rattle.redef_laws.proofs.Words.{◌≡◌, ℕ, zero, suc, ◌+◌, ◌-◌, ◌*◌, ◌<◌, ◌≤◌, refl, sym, ◌∙◌, ap, inl, inr, List, [], ◌∷◌, ◌++◌, length, Bool, true, false, cond, ◌&&◌, ◌||◌, min, arith, append-nil, div_below, filter, flat_map, nat_le, nat_lt, ◌==◌, range_with_len, list_any, length-range_with_len, or_left, or_right, or_cases, lt-ltb, le-ltb, le-leb, lt-leb, and_right, equal_above, equal_true, range_append, DiskCall, Store, Slab, run_before, runs, stores, first_of, window_count, In, HaveSame, range_low, range_high, in_either, filter_same, filter_none, filter_all, gaps, IsRisen, filter-append, any_member}
+use Rattle.redef_laws.proofs.Words.{◌≡◌, ℕ, zero, suc, ◌+◌, ◌-◌, ◌<◌, ◌≤◌, refl, ◌∙◌, ap, inl, inr, List, [], ◌∷◌, ◌++◌, length, Bool, true, false, cond, ◌&&◌, ◌||◌, arith, append-nil, div_below, filter, flat_map, nat_le, nat_lt, ◌==◌, range_with_len, list_any, length-range_with_len, or_left, or_cases, lt-ltb, le-ltb, le-leb, lt-leb, and_right, equal_above, equal_true, range_append, DiskCall, Slab, run_before, runs, stores, first_of, In, HaveSame, range_low, range_high, in_either, filter_same, filter_none, filter_all, gaps, IsRisen, filter-append, any_member, nat_tests}
 use Rattle.std.proofs.Common.{not}
-use Rattle.std.specs.Prelude.{map}
 use Rattle.redef_laws.proofs.ChainLaws.{risen_past}
 
 -- x is one of the slab's bytes in the new file
@@ -43,8 +42,7 @@ EndsBy end ss = (s : Slab) → In ss s → s.to + s.len ≤ end
 
 pub bare_gaps : (a b end : ℕ) (ss : List Slab) → IsRisen a b ss → b ≤ end → EndsBy end ss
     → filter (is_bare ss) (range_with_len b (end - b)) ≡ flat_map gap_bytes (gaps b end ss)
-bare_gaps a b end [] h k l =
-    filter_all (is_bare []) (range_with_len b (end - b)) (λ y m. refl) ∙ sym (append-nil (range_with_len b (end - b)))
+bare_gaps a b end [] h k l = grind (arith, nat_tests, filter_all, append-nil)
 bare_gaps a b end (s ∷ ss) h k l =
     ap (λ n. filter (is_bare (s ∷ ss)) (range_with_len b n)) parts
     ∙ ap (filter (is_bare (s ∷ ss))) (three_parts b (s.to - b) s.len left)
@@ -108,9 +106,7 @@ run_next x ys others = ap (λ b. cond b ((x ∷ (x + 1) ∷ ys) ∷ others) ((x 
 -- a number that none follows at once is a run
 run_alone : (x : ℕ) (rest : List ℕ) → ((y : ℕ) → In rest y → x + 1 < y) → run_before x (runs rest) ≡ (x ∷ []) ∷ runs rest
 run_alone x [] h = refl
-run_alone x (y ∷ ys) h =
-    let start = run_starts y (runs ys) in
-    ap (run_before x) start.2 ∙ run_apart x y start.0 start.1 (h y (inl refl)) ∙ ap (λ r. (x ∷ []) ∷ r) (sym start.2)
+run_alone x (y ∷ ys) h = grind (arith, nat_tests, run_starts y (runs ys), run_apart x y (run_starts y (runs ys)).0 (run_starts y (runs ys)).1 (h y (inl refl)))
 
 -- numbers one after another, and then a greater one, or none
 run_of_range : (a n : ℕ) (rest : List ℕ) → ((y : ℕ) → In rest y → a + suc n < y) → runs (range_with_len a (suc n) ++ rest) ≡ range_with_len a (suc n) ∷ runs rest
@@ -131,28 +127,16 @@ separate_lower m n (g ∷ gs) h k = let l = k.0 in (omega arith, k.1)
 
 gaps_separate : (a b end : ℕ) (ss : List Slab) → IsRisen a b ss → AreSeparate b (gaps b end ss)
 gaps_separate a b end [] h = (omega arith, tt)
-gaps_separate a b end (s ∷ ss) h =
-    let some = h.0 in
-    let low = h.2 in (
-      omega arith,
-      separate_lower (b + (s.to - b) + 1) (s.to + s.len) (gaps (s.to + s.len) end ss) (omega arith) (gaps_separate (s.from + s.len) (s.to + s.len) end ss h.4),
-    )
+gaps_separate a b end (s ∷ ss) h = grind (arith, nat_tests, gaps_separate (s.from + s.len) (s.to + s.len) end ss h.4, separate_lower)
 
 gap_bytes_past : (at : ℕ) (gs : List (ℕ × ℕ)) (y : ℕ) → AreSeparate at gs → In (flat_map gap_bytes gs) y → at ≤ y
 gap_bytes_past at [] y h m = absurd m
-gap_bytes_past at (g ∷ gs) y h m =
-    elim (in_either (gap_bytes g) (flat_map gap_bytes gs) y m) [
-      | inl k ↦ (let a = h.0 in let b = range_low g.0 g.1 y k in omega arith)
-      | inr k ↦ (let a = h.0 in let b = gap_bytes_past (g.0 + g.1 + 1) gs y h.1 k in omega arith)
-    ]
+gap_bytes_past at (g ∷ gs) y h m = grind (arith, nat_tests, gap_bytes_past (g.0 + g.1 + 1) gs y h.1, in_either, range_low)
 
 -- ---- the calls that write zeros
 
 stores_none : (z from : ℕ) → 0 < z → stores z from 0 ≡ []
-stores_none z from h =
-    let few = div_below (0 + (z - 1)) z 1 (omega arith) (omega arith) in
-    let none : window_count z 0 ≡ 0 = omega arith in
-    ap (λ n. map (λ j. Store (from + j * z) (min z (0 - j * z))) (range_with_len 0 n)) none
+stores_none z from h = grind (arith, nat_tests, div_below (0 + (z - 1)) z 1 (omega arith) (omega arith))
 
 abbrev pub run_stores : ℕ → List ℕ → List DiskCall
 run_stores z r = stores z (first_of r) (length r)
@@ -163,31 +147,18 @@ gap_stores z g = stores z g.0 g.1
 stores_of_gaps : (z at : ℕ) (gs : List (ℕ × ℕ)) → 0 < z → AreSeparate at gs
     → flat_map (run_stores z) (runs (flat_map gap_bytes gs)) ≡ flat_map (gap_stores z) gs
 stores_of_gaps z at [] h k = refl
-stores_of_gaps z at ((from, zero) ∷ gs) h k =
-    stores_of_gaps z (from + 0 + 1) gs h k.1 ∙ ap (λ c. c ++ flat_map (gap_stores z) gs) (sym (stores_none z from h))
+stores_of_gaps z at ((from, zero) ∷ gs) h k = grind (arith, nat_tests, stores_of_gaps z (from + 0 + 1) gs h k.1, stores_none)
 stores_of_gaps z at ((from, suc n) ∷ gs) h k =
-    ap (flat_map (run_stores z)) (run_of_range from n (flat_map gap_bytes gs) (λ y m. let l = gap_bytes_past (from + suc n + 1) gs y k.1 m in omega arith))
-    ∙ ap (λ len. stores z from len ++ flat_map (run_stores z) (runs (flat_map gap_bytes gs))) (length-range_with_len from (suc n))
-    ∙ ap (λ c. stores z from (suc n) ++ c) (stores_of_gaps z (from + suc n + 1) gs h k.1)
+    grind (arith, nat_tests, stores_of_gaps z (from + suc n + 1) gs h k.1, run_of_range, gap_bytes_past, length-range_with_len)
 
 -- ---- lists with the same members
 
 any_found : (t : Slab → Bool) (ss : List Slab) → list_any t ss ≡ true → (s : Slab) × In ss s × (t s ≡ true)
 any_found t [] h = cc
-any_found t (u ∷ ss) h =
-    elim (or_cases (t u) (list_any t ss) h) [
-      | inl e ↦ (u, inl refl, e)
-      | inr k ↦ (let r = any_found t ss k in (r.0, inr r.1, r.2))
-    ]
+any_found t (u ∷ ss) h = grind (arith, nat_tests, any_found t ss, or_cases)
 
 any_same : (t : Slab → Bool) (ss rs : List Slab) → HaveSame ss rs → list_any t ss ≡ list_any t rs
-any_same t ss rs h = by_tests (list_any t ss) (list_any t rs) refl refl
-  where
-    by_tests : (b c : Bool) → list_any t ss ≡ b → list_any t rs ≡ c → b ≡ c
-    by_tests true true e f = refl
-    by_tests false false e f = refl
-    by_tests true false e f = let r = any_found t ss e in let there = any_member t rs r.0 (h.0 r.0 r.1) r.2 in sym there ∙ f
-    by_tests false true e f = let r = any_found t rs f in let there = any_member t ss r.0 (h.1 r.0 r.1) r.2 in sym e ∙ there
+any_same t ss rs h = grind (arith, nat_tests, any_found, any_member)
 
 -- The runs of the bytes that are in no slab get the calls of the gaps between the slabs as they rise.
 pub zeros_between : (z old_first first end : ℕ) (ss rs : List Slab) → 0 < z → IsRisen old_first first rs → first ≤ end → EndsBy end rs → HaveSame ss rs

@@ -1,5 +1,5 @@
 -- What a header keeps while extras are added to it.
-use Rattle.redef_laws.proofs.Words.{◌≡◌, ℕ, suc, ◌+◌, ◌*◌, ◌^◌, ◌<◌, ◌≤◌, List, [], ◌∷◌, ◌++◌, length, drop, map, Bool, true, false, cond, ◌&&◌, ◌||◌, Option, Some, None, refl, sym, ap, subst, ◌∙◌, arith, length-append, not, nat_lt, nat_le, ◌==◌, is_none, unwrap_or, filter, slice_get, bytes_eq, list_any, list_all, position_from, AllByRecursion, position_from-zero, length-map, filter-append, le-leb, leb-true, ltb-true, ltb-false, leb-false, eqb-true, slice_get_within, fails_each, each_weaker, each_push, each_later, each_at, each_map, and_first, and_second, Header, Dim, Attr, Var, NcType, Extra, RedefErr, most_dims, most_vars, file_limit, record_limit, size_of, length_of, is_record_id, fits_count, is_type, find_dim, is_lawful_extra, is_whole_extra, with_var_attr, with_extra, added, dim_id, is_taken, is_unknown, has_bad_shape, is_one_too_many, has_bad_kind, extra_fault, extras_from, get_left}
+use Rattle.redef_laws.proofs.Words.{◌≡◌, ℕ, suc, ◌+◌, ◌*◌, ◌<◌, ◌≤◌, List, [], ◌∷◌, ◌++◌, length, drop, map, Bool, true, false, cond, ◌&&◌, Option, Some, None, refl, sym, ap, subst, ◌∙◌, arith, length-append, not, nat_lt, nat_le, ◌==◌, is_none, unwrap_or, filter, slice_get, bytes_eq, list_any, list_all, position_from, AllByRecursion, position_from-zero, length-map, filter-append, le-leb, leb-true, ltb-true, ltb-false, leb-false, eqb-true, slice_get_within, fails_each, each_weaker, each_push, each_later, each_map, and_first, and_second, Header, Dim, Attr, Var, NcType, Extra, RedefErr, most_dims, most_vars, file_limit, record_limit, size_of, length_of, is_record_id, fits_count, is_type, find_dim, is_lawful_extra, is_whole_extra, with_var_attr, with_extra, added, dim_id, is_taken, is_unknown, has_bad_shape, is_one_too_many, has_bad_kind, extra_fault, extras_from, get_left, nat_tests}
 use Rattle.nc_base.specs.declared.script.Extra.TheVariants as extra
 use Rattle.nc_base.specs.declared.errors.RedefErr.TheVariants as redef
 use Rattle.redef_laws.proofs.FieldLaws.{not_both, each_both, count_fits}
@@ -90,52 +90,18 @@ more_dims dims d id h = ap (λ (o : Option Dim). length_of o == 0) (get_left dim
 
 fit_with_dim : (version : ℕ) (dims : List Dim) (d : Dim) (ids : List ℕ) (kind : NcType) (attrs : List Attr) → IsFitShape version dims ids kind attrs
     → IsFitShape version (dims ++ d ∷ []) ids kind attrs
-fit_with_dim version dims d ids kind attrs fit =
-    let long = length-append dims (d ∷ []) in
-    record {
-      few = fit.few;
-      known = each_weaker (λ id. id < length dims) (λ id. id < length (dims ++ d ∷ [])) (λ id l. omega arith) ids fit.known;
-      later =
-          each_both (λ id. id < length dims) (λ id. is_record_at dims id ≡ false) (λ id. is_record_at (dims ++ d ∷ []) id ≡ false)
-          (λ id l e. more_dims dims d id l ∙ e) (drop 1 ids) (each_later (λ id. id < length dims) ids fit.known) fit.later;
-      known_type = fit.known_type;
-      typed = fit.typed;
-    }
+fit_with_dim version dims d ids kind attrs fit = grind (arith, nat_tests, length-append, each_weaker, each_both, more_dims, each_later)
 
 no_record : (dims : List Dim) → list_any (λ (e : Dim). e.len == 0) dims ≡ false → filter is_record_dim dims ≡ []
 no_record [] h = refl
-no_record (d ∷ dims) h = by_test (d.len == 0) (no_record dims) h
-  where
-    by_test : (t : Bool) → (list_any (λ (e : Dim). e.len == 0) dims ≡ false → filter is_record_dim dims ≡ []) → (t || list_any (λ (e : Dim). e.len == 0) dims) ≡ false
-        → cond t (d ∷ filter is_record_dim dims) (filter is_record_dim dims) ≡ []
-    by_test true rest g = absurd cc
-    by_test false rest g = rest g
+no_record (d ∷ dims) h = grind (arith, nat_tests, no_record dims)
 
 one_record_still : (dims : List Dim) (d : Dim) → length (filter is_record_dim dims) ≤ 1 → (d.len == 0 && list_any (λ (e : Dim). e.len == 0) dims) ≡ false
     → length (filter is_record_dim (dims ++ d ∷ [])) ≤ 1
-one_record_still dims d l h =
-    let split = ap (λ (ds : List Dim). length ds) (filter-append is_record_dim dims (d ∷ [])) ∙ length-append (filter is_record_dim dims) (filter is_record_dim (d ∷ [])) in
-    by_test (d.len == 0) refl split
-  where
-    by_test : (t : Bool) → (d.len == 0) ≡ t
-        → length (filter is_record_dim (dims ++ d ∷ [])) ≡ length (filter is_record_dim dims) + length (cond (d.len == 0) (d ∷ []) [])
-        → length (filter is_record_dim (dims ++ d ∷ [])) ≤ 1
-    by_test true e s =
-        let none = ap (λ (ds : List Dim). length ds) (no_record dims (not_both (d.len == 0) _ h e)) in
-        let one = ap (λ (t : Bool). length (cond t (d ∷ []) [])) e in
-        omega arith
-    by_test false e s = let one = ap (λ (t : Bool). length (cond t (d ∷ []) [])) e in omega arith
+one_record_still dims d l h = grind (arith, nat_tests, filter-append, length-append, no_record, not_both)
 
 length_fits : (version : ℕ) (d : Dim) → nat_lt d.len (record_limit 5) ≡ true → (not (version == 5) && nat_le (record_limit version) d.len) ≡ false → HasFitLength version d
-length_fits version d lawful h =
-    let small : d.len < 2 ^ 62 = ltb-true d.len (record_limit 5) lawful in
-    record {
-      fits =
-          count_fits version d.len small
-          (λ e. subst (λ (n : ℕ). d.len < n) (ap (λ (t : Bool). cond t (2 ^ 62) (2 ^ 31)) e)
-          (leb-false (record_limit version) d.len (not_both (not (version == 5)) _ h (ap (λ (t : Bool). not t) e))));
-      small = omega arith;
-    }
+length_fits version d lawful h = grind (arith, nat_tests, ltb-true, count_fits, leb-false, not_both)
 
 with_dim : (h : Header) (d : Dim) → IsFit h → HasNoFault h (extra.Dim d) → is_lawful_extra (extra.Dim d) ≡ true → IsFit (with_extra h (extra.Dim d))
 with_dim h d fit none lawful =
@@ -170,9 +136,7 @@ known_dim h name e = by_found (find_dim h name) refl e
         subst (λ (n : ℕ). IsKnownDim h.dims name n) same (record { dim = found.item; there = found.there })
 
 ids_known : (h : Header) (names : List (List ℕ)) → AllByRecursion (λ n. is_none (find_dim h n) ≡ false) names → AllByRecursion (λ n. dim_id h n < length h.dims) names
-ids_known h names all =
-    each_weaker (λ n. is_none (find_dim h n) ≡ false) (λ n. dim_id h n < length h.dims)
-    (λ n e. let found = known_dim h n e in slice_get_within h.dims (dim_id h n) found.dim found.there) names all
+ids_known h names all = grind (arith, nat_tests, each_weaker, known_dim, slice_get_within)
 
 later_mapped : {A B : Type 0} (P : B → Type 0) (f : A → B) (xs : List A) → AllByRecursion P (map f (drop 1 xs)) → AllByRecursion P (drop 1 (map f xs))
 later_mapped P f [] h = tt
@@ -198,20 +162,7 @@ fit_new_var h kind name names none lawful =
 with_var : (h : Header) (kind : NcType) (name : List ℕ) (names : List (List ℕ)) → IsFit h → HasNoFault h (extra.Var kind name names)
     → is_lawful_extra (extra.Var kind name names) ≡ true → IsFit (with_extra h (extra.Var kind name names))
 with_var h kind name names fit none lawful =
-    let v = new_var in
-    let long = length-append h.vars (v ∷ []) in
-    let room = leb-false most_vars (length h.vars) none.room in
-    record {
-      few_dims = fit.few_dims;
-      few_vars = omega arith;
-      lengths = fit.lengths;
-      one_record = fit.one_record;
-      attrs = fit.attrs;
-      vars = each_push (IsFitVar h.version h.dims) h.vars v fit.vars (fit_new_var h kind name names none lawful);
-    }
-  where
-    new_var : Var
-    new_var = record { name = name; dims = map (dim_id h) names; attrs = []; kind = kind; begin = 0 }
+    grind (arith, nat_tests, leb-false most_vars (length h.vars) none.room, fit_new_var h kind name names none lawful, length-append, each_push)
 
 -- ---- one more attribute
 
@@ -221,48 +172,21 @@ typed h owner a none whole = record { kind = le-leb _ _ (ltb-false _ _ none.kind
 pub attr_pushed : (P : Var → Type 0) (name : List ℕ) (a : Attr) (vs : List Var) → ((v : Var) → P v → P (record v { attrs = v.attrs ++ a ∷ [] }))
     → AllByRecursion P vs → AllByRecursion P (with_var_attr name a vs)
 attr_pushed P name a [] push all = tt
-attr_pushed P name a (v ∷ vs) push all = by_name (bytes_eq v.name name) (attr_pushed P name a vs push all.1)
-  where
-    by_name : (t : Bool) → AllByRecursion P (with_var_attr name a vs) → AllByRecursion P (cond t (record v { attrs = v.attrs ++ a ∷ [] } ∷ vs) (v ∷ with_var_attr name a vs))
-    by_name true rest = (push v all.0, all.1)
-    by_name false rest = (all.0, rest)
+attr_pushed P name a (v ∷ vs) push all = grind (arith, nat_tests, attr_pushed P name a vs push all.1)
 
 attr_long : (name : List ℕ) (a : Attr) (vs : List Var) → length (with_var_attr name a vs) ≡ length vs
 attr_long name a [] = refl
-attr_long name a (v ∷ vs) = by_name (bytes_eq v.name name) (attr_long name a vs)
-  where
-    by_name : (t : Bool) → length (with_var_attr name a vs) ≡ length vs → length (cond t (record v { attrs = v.attrs ++ a ∷ [] } ∷ vs) (v ∷ with_var_attr name a vs)) ≡ length (v ∷ vs)
-    by_name true rest = refl
-    by_name false rest = ap suc rest
+attr_long name a (v ∷ vs) = grind (arith, nat_tests, attr_long name a vs)
 
 fit_with_attr : (version : ℕ) (dims : List Dim) (a : Attr) (ids : List ℕ) (kind : NcType) (attrs : List Attr) → IsTyped version a
     → IsFitShape version dims ids kind attrs → IsFitShape version dims ids kind (attrs ++ a ∷ [])
-fit_with_attr version dims a ids kind attrs t fit =
-    record { few = fit.few; known = fit.known; later = fit.later; known_type = fit.known_type; typed = each_push (IsTyped version) attrs a fit.typed t }
+fit_with_attr version dims a ids kind attrs t fit = grind (arith, nat_tests, typed, each_push)
 
 with_file_attr : (h : Header) (a : Attr) → IsFit h → IsTyped h.version a → IsFit (with_extra h (extra.Att None a))
-with_file_attr h a fit t =
-    record {
-      few_dims = fit.few_dims;
-      few_vars = fit.few_vars;
-      lengths = fit.lengths;
-      one_record = fit.one_record;
-      attrs = each_push (IsTyped h.version) h.attrs a fit.attrs t;
-      vars = fit.vars;
-    }
+with_file_attr h a fit t = grind (arith, nat_tests, each_push)
 
 with_owned_attr : (h : Header) (owner : List ℕ) (a : Attr) → IsFit h → IsTyped h.version a → IsFit (with_extra h (extra.Att (Some owner) a))
-with_owned_attr h owner a fit t =
-    let long = attr_long owner a h.vars in
-    record {
-      few_dims = fit.few_dims;
-      few_vars = omega (arith, long, fit.few_vars);
-      lengths = fit.lengths;
-      one_record = fit.one_record;
-      attrs = fit.attrs;
-      vars =
-          attr_pushed (IsFitVar h.version h.dims) owner a h.vars (λ v f. fit_with_attr h.version h.dims a v.dims v.kind v.attrs t f) fit.vars;
-    }
+with_owned_attr h owner a fit t = grind (arith, nat_tests, attr_long, attr_pushed, fit_with_attr)
 
 -- ---- all extras
 
@@ -295,14 +219,8 @@ pub record HasVersionOf (old new : Header) : Type 0 where
   pub records : new.records ≡ old.records
 
 one_same : (h : Header) (e : Extra) → HasVersionOf h (with_extra h e)
-one_same h (extra.Dim d) = record { version = refl; records = refl }
-one_same h (extra.Var kind name names) = record { version = refl; records = refl }
-one_same h (extra.Att None a) = record { version = refl; records = refl }
-one_same h (extra.Att (Some owner) a) = record { version = refl; records = refl }
+one_same h e = grind (arith, nat_tests)
 
 pub all_same : (h : Header) (extras : List Extra) → HasVersionOf h (added h extras)
 all_same h [] = record { version = refl; records = refl }
-all_same h (e ∷ extras) =
-    let one = one_same h e in
-    let rest = all_same (with_extra h e) extras in
-    record { version = rest.version ∙ one.version; records = rest.records ∙ one.records }
+all_same h (e ∷ extras) = grind (arith, nat_tests, all_same (with_extra h e) extras, one_same)

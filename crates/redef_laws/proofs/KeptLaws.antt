@@ -1,5 +1,5 @@
 -- The old variables in the header with what is added: their begins, slabs and records.
-use Rattle.redef_laws.proofs.Words.{◌≡◌, ℕ, zero, suc, ◌+◌, ◌*◌, ◌<◌, ◌≤◌, List, [], ◌∷◌, ◌++◌, length, Bool, true, false, cond, Some, None, refl, sym, ap, subst, ◌∙◌, arith, not, nat_lt, nat_le, sum_by, slice_get, bytes_eq, enumerate_from, nat_tests, sum_by-cons, sum_by-filter_both, lt-ltb, entry_below, Header, Attr, Var, NcType, Extra, size_of, product, lengths, starts_with_zero, without_record, is_record, round_up, slab, vsize, recsize, record_share, record_variables, is_sound, Numbered, with_var_attr, with_extra, added, records_in, old_of, begins_by_number, redefined_keeps, in_front, recsize_below}
+use Rattle.redef_laws.proofs.Words.{◌≡◌, ℕ, zero, suc, ◌+◌, ◌*◌, ◌<◌, ◌≤◌, List, [], ◌∷◌, ◌++◌, length, Bool, true, false, cond, Some, None, refl, sym, ap, subst, ◌∙◌, arith, nat_lt, sum_by, slice_get, bytes_eq, enumerate_from, nat_tests, sum_by-cons, sum_by-filter_both, lt-ltb, entry_below, Header, Attr, Var, NcType, Extra, size_of, product, lengths, starts_with_zero, without_record, is_record, round_up, slab, vsize, recsize, record_share, record_variables, is_sound, Numbered, with_var_attr, with_extra, added, records_in, old_of, begins_by_number, redefined_keeps, in_front, recsize_below}
 use Rattle.nc_base.specs.declared.script.Extra.TheVariants as extra
 use Rattle.redef_laws.proofs.RebegunLaws.{rebegun_at}
 use Rattle.redef_laws.proofs.BeginLaws.{vsizes}
@@ -29,10 +29,7 @@ one_begin h (extra.Att (Some owner) a) k v g = attr_begin owner a h.vars k v g
 
 begin_kept : (h : Header) (extras : List Extra) (k : ℕ) (v : Var) → slice_get h.vars k ≡ Some v → BeginsAt (added h extras).vars k v.begin
 begin_kept h [] k v g = (v, g, refl)
-begin_kept h (e ∷ extras) k v g =
-    let one = one_begin h e k v g in
-    let rest = begin_kept (with_extra h e) extras k one.0 one.1 in
-    (rest.0, rest.1, rest.2 ∙ one.2)
+begin_kept h (e ∷ extras) k v g = grind (arith, nat_tests, begin_kept (with_extra h e) extras k (one_begin h e k v g).0 (one_begin h e k v g).1, one_begin)
 
 -- ---- an old variable
 
@@ -71,25 +68,13 @@ kept_var old extras k v sound g =
 pub old_var : (old : Header) (extras : List Extra) (k : ℕ) (w : Var) → is_sound old ≡ true → k < length old.vars → slice_get (added old extras).vars k ≡ Some w
     → (v : Var) × (slice_get old.vars k ≡ Some v) × IsKept old (added old extras) v w
 old_var old extras k w sound l g =
-    let found = entry_below old.vars k l in
-    let kept = kept_var old extras k found.0 sound found.1 in
-    let same = one_var (added old extras) k kept.0 w kept.1 g in
-    (found.0, found.1, subst (λ (x : Var). IsKept old (added old extras) found.0 x) same kept.2)
+    grind (arith, nat_tests, entry_below old.vars k l, kept_var old extras k (entry_below old.vars k l).0 sound (entry_below old.vars k l).1, one_var)
 
 -- ---- records
 
 none_old : (header : Header) (n a : ℕ) (vs : List Var) → n ≤ a → old_of n (records_in header (enumerate_from a vs)) ≡ []
 none_old header n a [] l = refl
-none_old header n a (v ∷ vs) l = by_tests (is_record header v) (none_old header n (a + 1) vs (omega arith))
-  where
-    past : nat_lt a n ≡ false
-    past = grind (arith, nat_tests)
-
-    by_tests : (t : Bool) → old_of n (records_in header (enumerate_from (a + 1) vs)) ≡ []
-        → old_of n (cond t ((a, v) ∷ records_in header (enumerate_from (a + 1) vs)) (records_in header (enumerate_from (a + 1) vs))) ≡ []
-    by_tests true rest =
-        ap (λ (t : Bool). cond t ((a, v) ∷ old_of n (records_in header (enumerate_from (a + 1) vs))) (old_of n (records_in header (enumerate_from (a + 1) vs)))) past ∙ rest
-    by_tests false rest = rest
+none_old header n a (v ∷ vs) l = grind (arith, nat_tests, none_old header n (a + 1) vs (omega arith))
 
 -- the old record variables have the sizes that they had
 old_sizes : (old header : Header) (n a : ℕ) (os vs : List Var) → n ≡ a + length os
@@ -127,11 +112,7 @@ old_sizes old header n a (o ∷ os) (w ∷ vs) e kept =
         omega arith
 
 pub old_recsize : (old : Header) (extras : List Extra) → is_sound old ≡ true → recsize old ≤ vsizes (added old extras) (old_records (added old extras) (length old.vars))
-old_recsize old extras sound =
-    let plain : length old.vars ≡ 0 + length old.vars = omega arith in
-    let sizes = old_sizes old (added old extras) (length old.vars) 0 old.vars (added old extras).vars plain (λ k v g. kept_var old extras k v sound g) in
-    let below = recsize_below old in
-    omega arith
+old_recsize old extras sound = grind (arith, nat_tests, old_sizes, kept_var, recsize_below)
 
 -- all record variables are old or new
 records_whole : (header : Header) (a : ℕ) (vs : List Var) → vsizes header (records_in header (enumerate_from a vs)) ≡ sum_by (λ v. vsize header v) (record_variables header vs)
@@ -147,13 +128,4 @@ records_whole header a (v ∷ vs) = by_kind (is_record header v) (records_whole 
     by_kind false rest = rest
 
 pub all_sizes : (header : Header) (n : ℕ) → vsizes header (old_records header n) + vsizes header (new_records header n) ≡ sum_by (λ v. vsize header v) (record_variables header header.vars)
-all_sizes header n =
-    sum_by-filter_both (λ (p : Numbered). nat_lt p.0 n) (λ (p : Numbered). nat_le n p.0) (λ p. other p.0) (λ (p : Numbered). vsize header p.1) (records_in header (numbered header))
-    ∙ records_whole header 0 header.vars
-  where
-    other : (k : ℕ) → nat_le n k ≡ not (nat_lt k n)
-    other k = by_test (nat_lt k n) refl
-      where
-        by_test : (t : Bool) → nat_lt k n ≡ t → nat_le n k ≡ not t
-        by_test true e = grind (arith, nat_tests)
-        by_test false e = grind (arith, nat_tests)
+all_sizes header n = grind (arith, nat_tests, sum_by-filter_both, numbered, records_whole)

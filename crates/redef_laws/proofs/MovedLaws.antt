@@ -1,5 +1,5 @@
 -- A file in which each slab stands at its new place is the redefined one: the redefined file is such a file, and there is no other.
-use Rattle.redef_laws.proofs.Words.{◌≡◌, ℕ, ◌+◌, ◌-◌, ◌<◌, ◌≤◌, refl, sym, ◌∙◌, ap, subst, inl, inr, ◌⊎◌, List, [], ◌∷◌, get_or, true, arith, cases_lt, same_number_lists, get_or-take, and_first, Header, Extra, Slab, slabs, at, header_len, is_sound, is_writable, AreApart, redefined, KeepsVars, Moves, IsRedefined, redefined_keeps, read_at, redefined_is, In, IsApplied, new_end, IsMoved}
+use Rattle.redef_laws.proofs.Words.{◌≡◌, ℕ, ◌+◌, ◌-◌, ◌<◌, ◌≤◌, refl, sym, ◌∙◌, ap, subst, inl, inr, ◌⊎◌, List, [], ◌∷◌, get_or, true, arith, cases_lt, same_number_lists, get_or-take, and_first, Header, Extra, Slab, slabs, at, header_len, is_sound, is_writable, AreApart, redefined, KeepsVars, Moves, IsRedefined, redefined_keeps, read_at, redefined_is, In, IsApplied, new_end, IsMoved, nat_tests}
 use Rattle.redef_laws.proofs.ElementSlabs.{HasSlab, element_in_slab, slab_bytes}
 
 -- ---- a byte lies in a slab, or apart from all
@@ -33,9 +33,7 @@ in_or_bare (t ∷ ss) x = by_first (cases_lt x t.to) (cases_lt x (t.to + t.len))
 -- ---- there is one such file
 
 at_moved : (old new : Header) (file left : List ℕ) → IsMoved old new file left → (x : ℕ) → (i : IsIn (slabs old new) x) → at left x ≡ at file (i.0.from + (x - i.0.to))
-at_moved old new file left m x (s, h, low, high) =
-    let again : x ≡ s.to + (x - s.to) = omega arith in
-    ap (λ (y : ℕ). at left y) again ∙ m.moved s h (x - s.to) (omega arith)
+at_moved old new file left m x i = grind (arith, nat_tests)
 
 same_byte : (old new : Header) (file a b : List ℕ) → IsMoved old new file a → IsMoved old new file b → (x : ℕ) → at a x ≡ at b x
 same_byte old new file a b m n x = by_head (cases_lt x (header_len new)) (cases_lt x (new_end old new))

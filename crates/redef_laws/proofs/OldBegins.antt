@@ -1,5 +1,5 @@
 -- Where old variables begin that share no byte: fixed variables apart and below the records, record variables within one record.
-use Rattle.redef_laws.proofs.Words.{◌≡◌, ℕ, suc, ◌+◌, ◌<◌, ◌≤◌, sym, ◌∙◌, ap, inl, inr, ◌⊎◌, List, [], ◌∷◌, Bool, true, false, true≢false, cond, ◌&&◌, None, max, arith, filter, zip, nat_lt, nat_le, lt-ltb, or_parts, told_else, both_none, Header, Var, is_record, recsize, slab, meet, share, records_meet, sharing_with, sharing_from, In, filter_in, zip_left, share_by}
+use Rattle.redef_laws.proofs.Words.{◌≡◌, ℕ, suc, ◌+◌, ◌<◌, ◌≤◌, sym, ◌∙◌, ap, inl, inr, ◌⊎◌, List, [], ◌∷◌, Bool, true, false, true≢false, None, arith, filter, zip, nat_lt, lt-ltb, or_parts, told_else, both_none, Header, Var, is_record, recsize, slab, share, records_meet, sharing_with, sharing_from, In, filter_in, zip_left, share_by, nat_tests}
 use borrow.Author.Tests.{ltb-false}
 
 -- any two places of the list have variables that share none
@@ -21,11 +21,7 @@ zip_shares_none old first k (v ∷ vs) (w ∷ ws) h =
 
 pub filter_shares_none : (old : Header) (t : Var × Var → Bool) (ps : List (Var × Var)) → ShareNone old ps → ShareNone old (filter t ps)
 filter_shares_none old t [] h = tt
-filter_shares_none old t (p ∷ ps) h = by_test (t p) (filter_shares_none old t ps h.1)
-  where
-    by_test : (b : Bool) → ShareNone old (filter t ps) → ShareNone old (cond b (p ∷ filter t ps) (filter t ps))
-    by_test true rest = ((λ q m. h.0 q (filter_in t ps q m).0), rest)
-    by_test false rest = rest
+filter_shares_none old t (p ∷ ps) h = grind (arith, nat_tests, filter_shares_none old t ps h.1, filter_in)
 
 -- of two members one stands before the other, or they are the same
 pub either_way : (old : Header) (ps : List (Var × Var)) (p q : Var × Var) → ShareNone old ps → In ps p → In ps q
@@ -43,10 +39,7 @@ share_known old v w a b e f = λ i. share_by old v w (e i) (f i)
 
 pub fixed_begins_differ : (old : Header) (v w : Var) → is_record old v ≡ false → is_record old w ≡ false → 0 < slab old v → 0 < slab old w
     → share old v w ≡ false → v.begin ≡ w.begin → ⊥
-fixed_begins_differ old v w e f h k g same = true≢false (sym both_lie ∙ sym (share_known old v w false false e f) ∙ g)
-  where
-    both_lie : meet v.begin (slab old v) w.begin (slab old w) ≡ true
-    both_lie = λ i. lt-ltb (max v.begin w.begin) (v.begin + slab old v) (omega arith) i && lt-ltb (max v.begin w.begin) (w.begin + slab old w) (omega arith) i
+fixed_begins_differ old v w e f h k g same = grind (arith, nat_tests, true≢false, share_known, lt-ltb)
 
 pub fixed_below_record : (old : Header) (v w : Var) → is_record old v ≡ false → is_record old w ≡ true
     → (share old v w ≡ false) ⊎ (share old w v ≡ false) → v.begin + slab old v ≤ w.begin
@@ -58,19 +51,12 @@ abbrev pub Follows : Header → Var → Var → Type 0
 Follows old v w = (v.begin + slab old v ≤ w.begin) × (w.begin + slab old w ≤ v.begin + recsize old)
 
 follows : (old : Header) (v w : Var) → records_meet old v w ≡ false → Follows old v w
-follows old v w h =
-    let r = or_parts (nat_lt w.begin (v.begin + slab old v)) (nat_lt (v.begin + recsize old) (w.begin + slab old w)) h in
-    (ltb-false _ _ r.0, ltb-false _ _ r.1)
+follows old v w h = grind (arith, nat_tests, or_parts, ltb-false)
 
 pub records_follow : (old : Header) (v w : Var) → is_record old v ≡ true → is_record old w ≡ true → share old v w ≡ false
     → Follows old v w ⊎ Follows old w v
-records_follow old v w e f g = by_order (nat_le v.begin w.begin) (sym (share_known old v w true true e f) ∙ g)
-  where
-    by_order : (b : Bool) → cond b (records_meet old v w) (records_meet old w v) ≡ false → Follows old v w ⊎ Follows old w v
-    by_order true h = inl (follows old v w h)
-    by_order false h = inr (follows old w v h)
+records_follow old v w e f g = grind (arith, nat_tests, share_known, follows)
 
 pub record_begins_differ : (old : Header) (v w : Var) → is_record old v ≡ true → is_record old w ≡ true → 0 < slab old v → 0 < slab old w
     → share old v w ≡ false → v.begin ≡ w.begin → ⊥
-record_begins_differ old v w e f h k g same =
-    elim (records_follow old v w e f g) [ inl l ↦ (let a = l.0 in omega arith) | inr l ↦ (let a = l.0 in omega arith) ]
+record_begins_differ old v w e f h k g same = grind (arith, nat_tests, records_follow)

@@ -2,7 +2,7 @@
 --     fixed_place, old_place, new_place     of a fixed variable, an old record variable, a new one
 --     fixed_places_apart, new_places_apart  of two
 --     any_place                             each number has a begin
-use Rattle.redef_laws.proofs.Words.{◌≡◌, ℕ, ◌+◌, ◌-◌, ◌<◌, ◌≤◌, min, List, [], ◌∷◌, ◌++◌, map, Bool, true, false, cond, Option, Some, None, refl, sym, ap, subst, ◌∙◌, inl, inr, ◌⊎◌, arith, not, nat_lt, nat_le, ◌==◌, fold, slice_get, unwrap_or, enumerate_from, AllByRecursion, option_or, find-append, not-true, lt-ltb, le-leb, leb-true, ltb-true, ltb-false, leb-false, each_append, each_weaker, in_filter, in_map, map_in, Header, Var, slab, vsize, is_record, round_up, header_len, least, AreApart, Numbered, fixed_of, records_in, old_of, new_of, by_begin, fixed_order, fixed_begins, front_after, first_record, record_begins, begins_by_number, begin_of_number, In, in_left, in_right}
+use Rattle.redef_laws.proofs.Words.{◌≡◌, ℕ, ◌+◌, ◌-◌, ◌<◌, ◌≤◌, min, List, [], ◌∷◌, ◌++◌, map, Bool, true, false, Option, Some, None, refl, sym, ap, subst, ◌∙◌, inl, inr, ◌⊎◌, arith, not, nat_lt, nat_le, fold, slice_get, unwrap_or, enumerate_from, AllByRecursion, find-append, not-true, lt-ltb, le-leb, leb-true, ltb-true, ltb-false, leb-false, each_append, each_weaker, in_filter, in_map, map_in, Header, Var, slab, vsize, is_record, header_len, least, AreApart, Numbered, fixed_of, records_in, old_of, new_of, by_begin, fixed_order, fixed_begins, front_after, first_record, record_begins, begins_by_number, begin_of_number, In, in_left, in_right, nat_tests}
 use Rattle.redef_laws.proofs.FieldLaws.{each_both}
 use Rattle.redef_laws.proofs.BeginLaws.{in_numbered, each_filter, each_filtered, each_by_begin, in_by_begin, Numbers, numbers_of, at_number, fixed_begin, fixed_apart, HasNone, fixed_none, mapped_begins, map_begin, map_none, vsizes, record_begin, record_apart}
 
@@ -39,15 +39,7 @@ abbrev pub new_from : Header → ℕ → ℕ
 new_from header n = first_place header n + vsizes header (old_records header n)
 
 pub first_up : (header : Header) (n : ℕ) → fixed_end header n ≤ first_place header n
-first_up header n = by_least (fixed_end header n) (least (map (λ v. v.1.begin) (old_records header n)))
-  where
-    by_least : (front : ℕ) (o : Option ℕ) → front ≤ first_record front o
-    by_least front None = omega arith
-    by_least front (Some begin) = by_test (nat_le front begin) refl
-      where
-        by_test : (t : Bool) → nat_le front begin ≡ t → front ≤ cond t begin (round_up 4 front)
-        by_test true e = leb-true front begin e
-        by_test false e = omega arith
+first_up header n = grind (arith, nat_tests, leb-true)
 
 -- ---- members
 
@@ -55,38 +47,17 @@ in_whole : (header : Header) (k : ℕ) (v : Var) → slice_get header.vars k ≡
 in_whole header k v g = let plain : 0 + k ≡ k = omega arith in subst (λ (m : ℕ). In (numbered header) (m, v)) plain (in_numbered 0 header.vars k v g)
 
 in_fixed : (header : Header) (n k : ℕ) (v : Var) → slice_get header.vars k ≡ Some v → is_record header v ≡ false → In (fixed_order header n) (k, v)
-in_fixed header n k v g e = by_number (nat_lt k n) refl
-  where
-    fixed : List Numbered
-    fixed = fixed_of header (numbered header)
-
-    there : In (fixed_of header (numbered header)) (k, v)
-    there = in_filter (λ (p : Numbered). not (is_record header p.1)) (numbered header) (k, v) (in_whole header k v g) (ap (λ (t : Bool). not t) e)
-
-    by_number : (t : Bool) → nat_lt k n ≡ t → In (fixed_order header n) (k, v)
-    by_number true l =
-        in_left (by_begin (old_of n (fixed_of header (numbered header)))) (new_of n (fixed_of header (numbered header))) (k, v)
-        (in_by_begin (old_of n (fixed_of header (numbered header))) (k, v) (in_filter (λ (p : Numbered). nat_lt p.0 n) (fixed_of header (numbered header)) (k, v) there l))
-    by_number false l =
-        in_right (by_begin (old_of n (fixed_of header (numbered header)))) (new_of n (fixed_of header (numbered header))) (k, v)
-        (in_filter (λ (p : Numbered). nat_le n p.0) (fixed_of header (numbered header)) (k, v) there (le-leb n k (ltb-false k n l)))
+in_fixed header n k v g e = grind (arith, nat_tests, in_filter, in_whole, in_left, in_by_begin, in_right, le-leb, ltb-false)
 
 pub in_old : (header : Header) (n k : ℕ) (v : Var) → slice_get header.vars k ≡ Some v → is_record header v ≡ true → k < n → In (old_records header n) (k, v)
-in_old header n k v g e l =
-    in_filter (λ (p : Numbered). nat_lt p.0 n) (records_in header (numbered header)) (k, v)
-    (in_filter (λ (p : Numbered). is_record header p.1) (numbered header) (k, v) (in_whole header k v g) e) (lt-ltb k n l)
+in_old header n k v g e l = grind (arith, nat_tests, in_filter, in_whole, lt-ltb)
 
 pub in_new : (header : Header) (n k : ℕ) (v : Var) → slice_get header.vars k ≡ Some v → is_record header v ≡ true → n ≤ k → In (new_records header n) (k, v)
-in_new header n k v g e l =
-    in_filter (λ (p : Numbered). nat_le n p.0) (records_in header (numbered header)) (k, v)
-    (in_filter (λ (p : Numbered). is_record header p.1) (numbered header) (k, v) (in_whole header k v g) e) (le-leb n k l)
+in_new header n k v g e l = grind (arith, nat_tests, in_filter, in_whole, le-leb)
 
 -- what holds of each fixed variable, in the order in which they are placed
 each_fixed : (P : Numbered → Type 0) (header : Header) (n : ℕ) → AllByRecursion P (fixed_of header (numbered header)) → AllByRecursion P (fixed_order header n)
-each_fixed P header n all =
-    each_append P (by_begin (old_of n (fixed_of header (numbered header)))) (new_of n (fixed_of header (numbered header)))
-    (each_by_begin P (old_of n (fixed_of header (numbered header))) (each_filter P (λ p. nat_lt p.0 n) (fixed_of header (numbered header)) all))
-    (each_filter P (λ p. nat_le n p.0) (fixed_of header (numbered header)) all)
+each_fixed xs header n all = grind (arith, nat_tests, each_append, each_by_begin, each_filter)
 
 fixed_numbers : (header : Header) (n : ℕ) → Numbers header.vars (fixed_order header n)
 fixed_numbers header n =
@@ -117,26 +88,18 @@ not_fixed header n k v g e =
         absurd cc
 
 not_old : (header : Header) (n k : ℕ) → n ≤ k → HasNone k (old_records header n)
-not_old header n k l =
-    each_weaker (λ (p : Numbered). nat_lt p.0 n ≡ true) (λ p. p.0 ≡ k → ⊥) (λ p e same. let low = ltb-true p.0 n e in absurd (omega arith)) (old_records header n)
-    (each_filtered (λ (p : Numbered). nat_lt p.0 n) (records_in header (numbered header)))
+not_old header n k l = grind (arith, nat_tests, each_weaker, ltb-true, each_filtered)
 
 -- ---- places
 
 first_of : (a b c : List (ℕ × ℕ)) (k : ℕ) (x : ℕ × ℕ) → at_number a k ≡ Some x → at_number (a ++ b ++ c) k ≡ Some x
-first_of a b c k x e =
-    find-append (λ p. p.0 == k) (a ++ b) c ∙ ap (λ o. option_or o (at_number c k)) (find-append (λ p. p.0 == k) a b)
-    ∙ ap (λ o. option_or (option_or o (at_number b k)) (at_number c k)) e
+first_of a b c k x e = grind (arith, nat_tests, find-append)
 
 second_of : (a b c : List (ℕ × ℕ)) (k : ℕ) (x : ℕ × ℕ) → at_number a k ≡ None → at_number b k ≡ Some x → at_number (a ++ b ++ c) k ≡ Some x
-second_of a b c k x none e =
-    find-append (λ p. p.0 == k) (a ++ b) c ∙ ap (λ o. option_or o (at_number c k)) (find-append (λ p. p.0 == k) a b)
-    ∙ ap (λ o. option_or (option_or o (at_number b k)) (at_number c k)) none ∙ ap (λ o. option_or o (at_number c k)) e
+second_of a b c k x none e = grind (arith, nat_tests, find-append)
 
 third_of : (a b c : List (ℕ × ℕ)) (k : ℕ) (x : ℕ × ℕ) → at_number a k ≡ None → at_number b k ≡ None → at_number c k ≡ Some x → at_number (a ++ b ++ c) k ≡ Some x
-third_of a b c k x none none' e =
-    find-append (λ p. p.0 == k) (a ++ b) c ∙ ap (λ o. option_or o (at_number c k)) (find-append (λ p. p.0 == k) a b)
-    ∙ ap (λ o. option_or (option_or o (at_number b k)) (at_number c k)) none ∙ ap (λ o. option_or o (at_number c k)) none' ∙ e
+third_of a b c k x none none' e = grind (arith, nat_tests, find-append)
 
 pub record IsFixedPlace (header : Header) (n k : ℕ) (v : Var) (b : ℕ) : Type 0 where
   pub at : at_number (begins_by_number header n) k ≡ Some (k, b)
@@ -199,9 +162,7 @@ new_place header n k v g e l =
 pub new_places_apart : (header : Header) (n k m : ℕ) (v w : Var) (b c : ℕ) → slice_get header.vars k ≡ Some v → slice_get header.vars m ≡ Some w
     → is_record header v ≡ true → is_record header w ≡ true → n ≤ k → n ≤ m → (k ≡ m → ⊥) → IsNewPlace header n k v b → IsNewPlace header n m w c
     → AreApart b (vsize header v) c (vsize header w)
-new_places_apart header n k m v w b c g f d e l l' other p q =
-    record_apart header header.vars (new_from header n) (new_records header n) k m v w b c (new_numbers header n) g f (in_new header n k v g d l) (in_new header n m w f e l') other
-    p.inner q.inner
+new_places_apart header n k m v w b c g f d e l l' other p q = grind (arith, nat_tests, record_apart, new_numbers, in_new)
 
 pub any_place : (header : Header) (n k : ℕ) (v : Var) → slice_get header.vars k ≡ Some v → (b : ℕ) × (at_number (begins_by_number header n) k ≡ Some (k, b))
 any_place header n k v g = by_kind (is_record header v) (nat_lt k n) refl refl

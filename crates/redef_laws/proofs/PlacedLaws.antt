@@ -1,5 +1,5 @@
 -- Where the old variables begin in a redefined header: no lower than before, and in the same order.
-use Rattle.redef_laws.proofs.Words.{◌≡◌, ℕ, ◌+◌, ◌-◌, ◌<◌, ◌≤◌, refl, sym, ◌∙◌, ap, subst, inl, inr, ◌⊎◌, List, [], ◌∷◌, ◌++◌, map, Bool, true, false, cond, Option, Some, None, arith, nat_tests, find-append, slice_get, find, not, nat_lt, nat_le, ◌==◌, unwrap_or, sum_by, enumerate_from, option_or, lt-ltb, Header, Var, is_record, slab, vsize, round_up, header_len, least, Numbered, fixed_of, records_in, old_of, new_of, by_begin, fixed_order, begin_at, fixed_begins, front_after, first_record, record_begins, begins_by_number, begin_of_number, In, in_either, in_filter, filter_in, in_map, in_numbered, numbered_in}
+use Rattle.redef_laws.proofs.Words.{◌≡◌, ℕ, ◌+◌, ◌-◌, ◌<◌, ◌≤◌, refl, sym, ◌∙◌, ap, subst, inl, inr, ◌⊎◌, List, [], ◌∷◌, ◌++◌, map, Bool, true, false, cond, Option, Some, None, arith, nat_tests, find-append, slice_get, find, not, nat_lt, nat_le, ◌==◌, unwrap_or, sum_by, enumerate_from, option_or, lt-ltb, Header, Var, is_record, slab, vsize, header_len, least, Numbered, fixed_of, records_in, old_of, new_of, by_begin, fixed_order, begin_at, fixed_begins, front_after, first_record, record_begins, begins_by_number, begin_of_number, In, in_either, in_filter, filter_in, in_map, in_numbered, numbered_in}
 use borrow.Author.Tests.{eqb-true}
 use Rattle.redef_laws.proofs.PlaceLaws.{least_low}
 use Rattle.redef_laws.proofs.BeginLaws.{begin_past}
@@ -12,27 +12,15 @@ abbrev pub AreOf : Header → List Numbered → Type 0
 AreOf header vars = (p : Numbered) → In vars p → slice_get header.vars p.0 ≡ Some p.1
 
 only : (header : Header) (p : Numbered) (vars : List Numbered) (k : ℕ) (u : Var) → AreOf header (p ∷ vars) → In (p ∷ vars) (k, u) → p.0 ≡ k → p.1 ≡ u
-only header p vars k u of h number =
-    let there : Some p.1 ≡ Some u = sym (of p (inl refl)) ∙ ap (λ (n : ℕ). slice_get header.vars n) number ∙ of (k, u) h in
-    cc
+only header p vars k u of h number = grind (arith, nat_tests)
 
 later : (p : Numbered) (vars : List Numbered) (k : ℕ) (u : Var) → In (p ∷ vars) (k, u) → (p.0 == k) ≡ false → In vars (k, u)
-later p vars k u (inl e) f = absurd (differs (ap (λ (q : Numbered). q.0) e) f)
-  where
-    differs : p.0 ≡ k → (p.0 == k) ≡ false → ⊥
-    differs g f = absurd (grind (arith, nat_tests))
-later p vars k u (inr h) f = h
+later p vars k u xs f = grind (arith, nat_tests)
 
 -- ---- fixed variables
 
 begin_up : (front : ℕ) (v : Var) → v.begin ≤ begin_at front v
-begin_up front v = by_test (nat_le front v.begin) refl
-  where
-    by_test : (t : Bool) → nat_le front v.begin ≡ t → v.begin ≤ cond t v.begin (round_up 4 front)
-    by_test true e = omega arith
-    by_test false e =
-        let low : v.begin < front = grind (arith, nat_tests) in
-        omega arith
+begin_up front v = grind (arith, nat_tests)
 
 -- variable k is placed there, past the front and no lower than before
 pub record IsPlaced (placed : List (ℕ × ℕ)) (front k : ℕ) (v : Var) (begin : ℕ) : Type 0 where
@@ -42,15 +30,11 @@ pub record IsPlaced (placed : List (ℕ × ℕ)) (front k : ℕ) (v : Var) (begi
 
 skips : (header : Header) (front : ℕ) (p : Numbered) (vars : List Numbered) (k : ℕ) → (p.0 == k) ≡ false
     → find (λ b. b.0 == k) (fixed_begins header front (p ∷ vars)) ≡ find (λ b. b.0 == k) (fixed_begins header (begin_at front p.1 + slab header p.1) vars)
-skips header front p vars k e =
-    ap (λ (t : Bool). cond t (Some (p.0, begin_at front p.1)) (find (λ b. b.0 == k) (fixed_begins header (begin_at front p.1 + slab header p.1) vars))) e
+skips header front p vars k e = grind (arith, nat_tests)
 
 stops : (header : Header) (front : ℕ) (p : Numbered) (vars : List Numbered) (k : ℕ) → (p.0 == k) ≡ true
     → find (λ b. b.0 == k) (fixed_begins header front (p ∷ vars)) ≡ Some (k, begin_at front p.1)
-stops header front p vars k e =
-    let number : p.0 ≡ k = eqb-true _ _ e in
-    ap (λ (t : Bool). cond t (Some (p.0, begin_at front p.1)) (find (λ b. b.0 == k) (fixed_begins header (begin_at front p.1 + slab header p.1) vars))) e
-    ∙ (λ t. Some (number t, begin_at front p.1))
+stops header front p vars k e = grind (arith, nat_tests, eqb-true)
 
 fixed_placed : (header : Header) (front : ℕ) (vars : List Numbered) (k : ℕ) (u : Var) → AreOf header vars → In vars (k, u)
     → (begin : ℕ) × IsPlaced (fixed_begins header front vars) front k u begin
@@ -144,14 +128,7 @@ map_placed header f (p ∷ vars) k u of h = by_test (λ g. map_placed header f v
         ap (λ (t : Bool). cond t (Some (p.0, f p)) (find (λ (b : ℕ × ℕ). b.0 == k) (map (λ (v : Numbered). (v.0, f v)) vars))) e ∙ rest (later p vars k u h e)
 
 first_past : (front : ℕ) (before : Option ℕ) → unwrap_or before 0 ≤ first_record front before
-first_past front None = omega arith
-first_past front (Some begin) = by_test (nat_le front begin) refl
-  where
-    by_test : (t : Bool) → nat_le front begin ≡ t → begin ≤ cond t begin (round_up 4 front)
-    by_test true e = omega arith
-    by_test false e =
-        let low : begin < front = grind (arith, nat_tests) in
-        omega arith
+first_past front before = grind (arith, nat_tests)
 
 -- ---- the variables of a header, the first n of which are old
 
@@ -165,26 +142,16 @@ abbrev pub old_records : Header → ℕ → List Numbered
 old_records header n = old_of n (records_in header (enumerate_from 0 header.vars))
 
 fixed_is_old : (header : Header) (n k : ℕ) (v : Var) → slice_get header.vars k ≡ Some v → k < n → is_record header v ≡ false → In (by_begin (old_fixed header n)) (k, v)
-fixed_is_old header n k v h l e =
-    (by_begin_same (old_fixed header n)).1 (k, v)
-    (in_filter (λ w. nat_lt w.0 n) (fixed_of header (enumerate_from 0 header.vars)) (k, v)
-    (in_filter (λ w. not (is_record header w.1)) (enumerate_from 0 header.vars) (k, v) (in_numbered header.vars k v h) (ap not e)) (lt-ltb k n l))
+fixed_is_old header n k v h l e = grind (arith, nat_tests, by_begin_same (old_fixed header n), in_numbered header.vars k v h, lt-ltb k n l, in_filter)
 
 record_is_old : (header : Header) (n k : ℕ) (v : Var) → slice_get header.vars k ≡ Some v → k < n → is_record header v ≡ true → In (old_records header n) (k, v)
-record_is_old header n k v h l e =
-    in_filter (λ w. nat_lt w.0 n) (records_in header (enumerate_from 0 header.vars)) (k, v)
-    (in_filter (λ w. is_record header w.1) (enumerate_from 0 header.vars) (k, v) (in_numbered header.vars k v h) e) (lt-ltb k n l)
+record_is_old header n k v h l e = grind (arith, nat_tests, in_filter, in_numbered, lt-ltb)
 
 fixed_of_header : (header : Header) (n : ℕ) → AreOf header (by_begin (old_fixed header n))
-fixed_of_header header n p h =
-    let old = (by_begin_same (old_fixed header n)).0 p h in
-    let fixed = (filter_in (λ w. nat_lt w.0 n) (fixed_of header (enumerate_from 0 header.vars)) p old).0 in
-    all_of header p (filter_in (λ w. not (is_record header w.1)) (enumerate_from 0 header.vars) p fixed).0
+fixed_of_header header n p h = grind (arith, nat_tests, by_begin_same (old_fixed header n), filter_in, all_of)
 
 records_of_header : (header : Header) (n : ℕ) → AreOf header (old_records header n)
-records_of_header header n p h =
-    let records = (filter_in (λ w. nat_lt w.0 n) (records_in header (enumerate_from 0 header.vars)) p h).0 in
-    all_of header p (filter_in (λ w. is_record header w.1) (enumerate_from 0 header.vars) p records).0
+records_of_header header n p h = grind (arith, nat_tests, filter_in, all_of)
 
 -- what is placed first is fixed
 order_is_fixed : (header : Header) (n : ℕ) (p : Numbered) → In (fixed_order header n) p → (slice_get header.vars p.0 ≡ Some p.1) × (not (is_record header p.1) ≡ true)
@@ -311,7 +278,4 @@ begin_rises header n k v h l = by_kind (is_record header v) refl
 pub record_begins_rise : (header : Header) (n k m : ℕ) (v w : Var) → slice_get header.vars k ≡ Some v → slice_get header.vars m ≡ Some w → k < n → m < n
     → is_record header v ≡ true → is_record header w ≡ true → v.begin < w.begin
     → begin_of_number (begins_by_number header n) k ≤ begin_of_number (begins_by_number header n) m
-record_begins_rise header n k m v w h g i j e f l =
-    let one = record_begin_is header n k v h i e in
-    let two = record_begin_is header n m w g j f in
-    omega (arith, one, two)
+record_begins_rise header n k m v w h g i j e f l = grind (arith, nat_tests, record_begin_is header n k v h i e, record_begin_is header n m w g j f)

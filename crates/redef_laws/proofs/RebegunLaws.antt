@@ -1,5 +1,5 @@
 -- A header with other begins: what does not look at them stays.
-use Rattle.redef_laws.proofs.Words.{◌≡◌, ℕ, zero, suc, ◌+◌, List, [], ◌∷◌, length, map, Bool, true, false, cond, Some, refl, sym, ap, ◌∙◌, arith, sum_by, slice_get, enumerate_from, AllByRecursion, sum_by-cons, Header, Var, slab, is_record, recsize, record_size, record_variables, header_len, variable, begin_of_number, with_begins, list_len, variable_len, canon_len, at_begin}
+use Rattle.redef_laws.proofs.Words.{◌≡◌, ℕ, zero, suc, ◌+◌, List, [], ◌∷◌, length, map, Some, refl, sym, ap, ◌∙◌, arith, sum_by, slice_get, enumerate_from, AllByRecursion, sum_by-cons, Header, Var, slab, recsize, record_size, record_variables, header_len, variable, begin_of_number, with_begins, list_len, variable_len, canon_len, at_begin, nat_tests}
 
 -- variables of which the first has number n, with the begins that are found
 abbrev pub rebegun : List (ℕ × ℕ) → ℕ → List Var → List Var
@@ -17,31 +17,19 @@ rebegun_long found n (v ∷ vs) = ap suc (rebegun_long found (n + 1) vs)
 pub rebegun_sum : (f : Var → ℕ) → ((v : Var) (b : ℕ) → f (at_begin v b) ≡ f v) → (found : List (ℕ × ℕ)) (n : ℕ) (vs : List Var)
     → sum_by f (rebegun found n vs) ≡ sum_by f vs
 rebegun_sum f same found n [] = refl
-rebegun_sum f same found n (v ∷ vs) =
-    sum_by-cons f (at_begin v (begin_of_number found n)) (rebegun found (n + 1) vs)
-    ∙ ap (λ (m : ℕ). m + sum_by f (rebegun found (n + 1) vs)) (same v (begin_of_number found n))
-    ∙ ap (λ (m : ℕ). f v + m) (rebegun_sum f same found (n + 1) vs)
-    ∙ sym (sum_by-cons f v vs)
+rebegun_sum f same found n (v ∷ vs) = grind (arith, nat_tests, rebegun_sum f same found (n + 1) vs, sum_by-cons, at_begin)
 
 pub rebegun_at : (found : List (ℕ × ℕ)) (n : ℕ) (vs : List Var) (k : ℕ) (w : Var) → slice_get (rebegun found n vs) k ≡ Some w
     → (v : Var) × (slice_get vs k ≡ Some v) × (at_begin v (begin_of_number found (n + k)) ≡ w)
 rebegun_at found n [] k w h = absurd cc
 rebegun_at found n (v ∷ vs) zero w h =
     (v, refl, ap (λ (m : ℕ). at_begin v (begin_of_number found m)) (let e : n + 0 ≡ n = omega arith in e) ∙ (let e : at_begin v (begin_of_number found n) ≡ w = cc in e))
-rebegun_at found n (v ∷ vs) (suc k) w h =
-    let rest = rebegun_at found (n + 1) vs k w h in
-    (rest.0, rest.1, ap (λ (m : ℕ). at_begin rest.0 (begin_of_number found m)) (let e : n + suc k ≡ n + 1 + k = omega arith in e) ∙ rest.2)
+rebegun_at found n (v ∷ vs) (suc k) w h = grind (arith, nat_tests, rebegun_at found (n + 1) vs k w h, at_begin)
 
 rebegun_slabs : (header : Header) (found : List (ℕ × ℕ)) (n : ℕ) (vs : List Var)
     → map (λ v. slab header v) (record_variables header (rebegun found n vs)) ≡ map (λ v. slab header v) (record_variables header vs)
 rebegun_slabs header found n [] = refl
-rebegun_slabs header found n (v ∷ vs) = by_test (is_record header v) (rebegun_slabs header found (n + 1) vs)
-  where
-    by_test : (t : Bool) → map (λ w. slab header w) (record_variables header (rebegun found (n + 1) vs)) ≡ map (λ w. slab header w) (record_variables header vs)
-        → map (λ w. slab header w) (cond t (at_begin v (begin_of_number found n) ∷ record_variables header (rebegun found (n + 1) vs)) (record_variables header (rebegun found (n + 1) vs)))
-        ≡ map (λ w. slab header w) (cond t (v ∷ record_variables header vs) (record_variables header vs))
-    by_test true rest = ap (λ ns. slab header v ∷ ns) rest
-    by_test false rest = rest
+rebegun_slabs header found n (v ∷ vs) = grind (arith, nat_tests, rebegun_slabs header found (n + 1) vs, at_begin)
 
 pub rebegun_recsize : (header : Header) (found : List (ℕ × ℕ)) → recsize (with_begins header found) ≡ recsize header
 rebegun_recsize header found = ap (λ ns. record_size ns) (rebegun_slabs header found 0 header.vars)

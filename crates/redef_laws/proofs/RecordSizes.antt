@@ -1,5 +1,5 @@
 -- A record grows by the variables that are added to it.
-use Rattle.redef_laws.proofs.Words.{◌≡◌, ℕ, suc, ◌*◌, ◌≤◌, refl, ◌∙◌, ap, List, [], ◌∷◌, ◌++◌, map, Bool, true, false, cond, Some, None, arith, sum_by-cons, slice_get, filter, sum_by, Header, Var, size_of, product, without_record, starts_with_zero, lengths, is_record, slab, recsize, record_size, round_up, KeepsVars}
+use Rattle.redef_laws.proofs.Words.{◌≡◌, ℕ, suc, ◌*◌, ◌≤◌, refl, ◌∙◌, ap, List, [], ◌∷◌, ◌++◌, map, Bool, true, false, cond, Some, None, arith, sum_by-cons, slice_get, filter, sum_by, Header, Var, size_of, product, without_record, starts_with_zero, lengths, is_record, slab, recsize, record_size, round_up, KeepsVars, nat_tests}
 
 pub same_slab : (old new : Header) (v w : Var) → w.kind ≡ v.kind → lengths new w ≡ lengths old v → slab new w ≡ slab old v
 same_slab old new v w kind lens = λ t. product (without_record (lens t)) * size_of (kind t)
@@ -63,8 +63,4 @@ size_grows (n ∷ []) (m ∷ ys) =
 size_grows (n ∷ m ∷ xs) ys = sum_grows (n ∷ m ∷ xs) ys
 
 pub record_grows : (old new : Header) → KeepsVars old new → recsize old ≤ recsize new
-record_grows old new keeps =
-    let all = sizes_more old new old.vars new.vars keeps in
-    let grows = size_grows (sizes_in old old.vars) all.0 in
-    let same : recsize new ≡ record_size (sizes_in old old.vars ++ all.0) = ap record_size all.1 in
-    omega arith
+record_grows old new keeps = grind (arith, nat_tests, sizes_more, size_grows)

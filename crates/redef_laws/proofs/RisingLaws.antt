@@ -1,11 +1,11 @@
 -- The slabs of the old variables as they rise: they are all slabs, and each begins above those before it.
-use Rattle.redef_laws.proofs.Words.{◌≡◌, ℕ, zero, suc, ◌+◌, ◌*◌, ◌<◌, ◌≤◌, refl, sym, ◌∙◌, ap, subst, inl, inr, ◌⊎◌, ◌↔◌, List, [], ◌∷◌, Bool, true, false, true≢false, Some, reverse, arith, mul-le, sum_by-append, sum_by-filter_both, filter, flat_map, zip, sum_by, nat_lt, range_with_len, not-true, Header, Var, Slab, highest_first, slabs, slabs_of, stores, zero_calls, header_len, is_sound, is_record, recsize, slab, share, none_shared, slab_fits, In, filter_in, in_left, in_right, in_flat, flat_in, in_range, range_low, range_high, first_slab, lowest_first, fixed_slabs, record_slabs, in_record, slabs_of_record, rising, changes, gaps, IsRisen, new_end, AreShifted, in_map, map_in, zip_in}
+use Rattle.redef_laws.proofs.Words.{◌≡◌, ℕ, zero, suc, ◌+◌, ◌*◌, ◌<◌, ◌≤◌, refl, sym, ◌∙◌, ap, inl, inr, ◌⊎◌, ◌↔◌, List, [], ◌∷◌, Bool, true, false, true≢false, Some, reverse, arith, mul-le, sum_by-append, sum_by-filter_both, filter, flat_map, zip, sum_by, range_with_len, not-true, Header, Var, Slab, highest_first, slabs, slabs_of, stores, zero_calls, header_len, is_sound, is_record, recsize, slab, share, none_shared, slab_fits, In, filter_in, in_left, in_right, in_flat, flat_in, in_range, range_low, range_high, first_slab, lowest_first, fixed_slabs, record_slabs, in_record, slabs_of_record, rising, changes, gaps, IsRisen, new_end, AreShifted, in_map, map_in, zip_in, nat_tests}
 use Rattle.std.proofs.Common.{not, slice_get}
 use Rattle.std.specs.Prelude.{map}
 use borrow.Author.Tests.{ltb-true, ltb-false}
 use Rattle.redef_laws.proofs.ElementSlabs.{slabs_fixed}
 use Rattle.redef_laws.proofs.ChainLaws.{Ascends, AreDistinct, ascends_joined, lowest_members, lowest_ascends, shifted_risen}
-use Rattle.redef_laws.proofs.OldBegins.{ShareNone, zip_shares_none, filter_shares_none, either_way, Follows, fixed_begins_differ, fixed_below_record, records_follow, record_begins_differ}
+use Rattle.redef_laws.proofs.OldBegins.{ShareNone, zip_shares_none, filter_shares_none, either_way, fixed_begins_differ, fixed_below_record, records_follow, record_begins_differ}
 use Rattle.redef_laws.proofs.FallingLaws.{falls_backwards}
 use Rattle.redef_laws.proofs.GapLaws.{zeros_between}
 use Rattle.redef_laws.proofs.SumLaws.{HaveSameSums, sum_mapped, sum_joined, sum_same, sum_turned, sum_lowest, sums_members, sums_back}
@@ -34,17 +34,10 @@ abbrev record_sum : Header → Header → (Slab → ℕ) → Var × Var → ℕ
 record_sum old new f p = sum_by (λ r. f (slab_in old new p r)) (range_with_len 0 old.records)
 
 fixed_sum : (old new : Header) (f : Slab → ℕ) → sum_by (λ p. sum_by f (slabs_of old new p)) (fixed_pairs old new) ≡ sum_by f (fixed_slabs old new)
-fixed_sum old new f =
-    sum_same (λ p. sum_by f (slabs_of old new p)) (λ p. f (first_slab old p)) (fixed_pairs old new)
-    (λ p m. ap (sum_by f) (slabs_fixed old new p (not-true (is_record old p.0) (filter_in (λ q. not (is_record old q.0)) (pairs old new) p m).1)) ∙ omega arith)
-    ∙ sym (sum_mapped f (first_slab old) (fixed_pairs old new))
-    ∙ sym (sum_lowest f (map (first_slab old) (fixed_pairs old new)))
+fixed_sum old new f = grind (arith, nat_tests, sum_same, slabs_fixed, not-true, filter_in, not, sum_mapped, sum_lowest)
 
 sum_of_record : (old new : Header) (f : Slab → ℕ) (r : ℕ) → sum_by f (slabs_of_record old new r) ≡ sum_by (λ p. f (slab_in old new p r)) (record_pairs old new)
-sum_of_record old new f r =
-    sum_mapped f (in_record (recsize old) (recsize new) r) (record_slabs old new)
-    ∙ sum_lowest (λ s. f (in_record (recsize old) (recsize new) r s)) (map (first_slab old) (record_pairs old new))
-    ∙ sum_mapped (λ s. f (in_record (recsize old) (recsize new) r s)) (first_slab old) (record_pairs old new)
+sum_of_record old new f r = grind (arith, nat_tests, sum_mapped, sum_lowest)
 
 records_sum : (old new : Header) (f : Slab → ℕ)
     → sum_by (λ p. sum_by f (slabs_of old new p)) (record_pairs old new) ≡ sum_by f (flat_map (slabs_of_record old new) (range_with_len 0 old.records))
@@ -85,15 +78,7 @@ first_slabs_distinct old (p ∷ ps) h k = (
 
 in_record_ascends : (old_step step r : ℕ) (ss : List Slab) → Ascends ss → Ascends (map (in_record old_step step r) ss)
 in_record_ascends old_step step r [] h = tt
-in_record_ascends old_step step r (s ∷ ss) h = (
-  (λ t m.
-      let u = map_in (in_record old_step step r) ss t m in
-      let low = h.0 u.0 u.1 in
-      let from : u.0.from + r * old_step ≡ t.from = ap (λ (z : Slab). z.from) u.2 in
-      let lower : s.from + r * old_step < u.0.from + r * old_step = omega arith in
-      omega arith),
-  in_record_ascends old_step step r ss h.1,
-)
+in_record_ascends old_step step r (s ∷ ss) h = grind (arith, nat_tests, in_record_ascends old_step step r ss h.1, map_in)
 
 flat_ascends : (f : ℕ → List Slab) (a n : ℕ) → ((r : ℕ) → Ascends (f r))
     → ((r q : ℕ) (s t : Slab) → r < q → q < a + n → In (f r) s → In (f q) t → s.from < t.from) → Ascends (flat_map f (range_with_len a n))
@@ -159,50 +144,21 @@ record_full old new p h some m = record {
 -- a record begins above those before it
 next_record : (old : Header) (ps : List (Var × Var)) (p q : Var × Var) → ShareNone old ps → In ps p → In ps q → IsRecord old p → IsRecord old q
     → p.0.begin < q.0.begin + recsize old
-next_record old ps p q h m n a b = by_way (either_way old ps p q h m n)
-  where
-    apart : Follows old p.0 q.0 ⊎ Follows old q.0 p.0 → p.0.begin < q.0.begin + recsize old
-    apart (inl f) = let c = a.full in let d = f.0 in omega arith
-    apart (inr f) = let c = a.full in let d = f.1 in omega arith
-
-    by_way : (p ≡ q) ⊎ ((share old p.0 q.0 ≡ false) ⊎ (share old q.0 p.0 ≡ false)) → p.0.begin < q.0.begin + recsize old
-    by_way (inl e) =
-        let same : p.0.begin ≡ q.0.begin = ap (λ (z : Var × Var). z.0.begin) e in
-        let c = a.full in
-        let d = a.long in
-        omega arith
-    by_way (inr (inl f)) = apart (records_follow old p.0 q.0 a.recorded b.recorded f)
-    by_way (inr (inr f)) = apart (elim (records_follow old q.0 p.0 b.recorded a.recorded f) [ inl g ↦ inr g | inr g ↦ inl g ])
+next_record old ps p q h m n a b = grind (arith, nat_tests, either_way old ps p q h m n, records_follow)
 
 fixed_from : (old new : Header) (s : Slab) → In (fixed_slabs old new) s → (p : Var × Var) × In (fixed_pairs old new) p × (p.0.begin ≡ s.from)
-fixed_from old new s m =
-    let r = map_in (first_slab old) (fixed_pairs old new) s (lowest_members (map (first_slab old) (fixed_pairs old new)) s m) in
-    (r.0, r.1, ap (λ (z : Slab). z.from) r.2)
+fixed_from old new s m = grind (arith, nat_tests, map_in, lowest_members)
 
 record_from : (old new : Header) (r : ℕ) (s : Slab) → In (slabs_of_record old new r) s
     → (p : Var × Var) × In (record_pairs old new) p × (p.0.begin + r * recsize old ≡ s.from)
-record_from old new r s m =
-    let u = map_in (in_record (recsize old) (recsize new) r) (record_slabs old new) s m in
-    let p = map_in (first_slab old) (record_pairs old new) u.0 (lowest_members (map (first_slab old) (record_pairs old new)) u.0 u.1) in
-    (p.0, p.1, ap (λ (z : Slab). z.from + r * recsize old) p.2 ∙ ap (λ (z : Slab). z.from) u.2)
+record_from old new r s m = grind (arith, nat_tests, map_in, lowest_members)
 
 fixed_ascend : (old new : Header) → IsFull old new → Ascends (fixed_slabs old new)
-fixed_ascend old new h =
-    lowest_ascends (map (first_slab old) (fixed_pairs old new))
-    (first_slabs_distinct old (fixed_pairs old new) (filter_shares_none old (λ p. not (is_record old p.0)) (pairs old new) (pairs_share_none old new h.sound))
-    (λ p q m n g same.
-    let a = fixed_full old new p h m in
-    let b = fixed_full old new q h n in
-    fixed_begins_differ old p.0 q.0 a.fixed b.fixed a.full b.full g same))
+fixed_ascend old new h = grind (arith, nat_tests, lowest_ascends, first_slabs_distinct, filter_shares_none, not, pairs_share_none, fixed_full, fixed_begins_differ)
 
 record_ascends : (old new : Header) → IsFull old new → 0 < old.records → Ascends (record_slabs old new)
 record_ascends old new h some =
-    lowest_ascends (map (first_slab old) (record_pairs old new))
-    (first_slabs_distinct old (record_pairs old new) (filter_shares_none old (λ p. is_record old p.0) (pairs old new) (pairs_share_none old new h.sound))
-    (λ p q m n g same.
-    let a = record_full old new p h some m in
-    let b = record_full old new q h some n in
-    record_begins_differ old p.0 q.0 a.recorded b.recorded a.full b.full g same))
+    grind (arith, nat_tests, lowest_ascends, first_slabs_distinct, filter_shares_none, pairs_share_none, record_full, record_begins_differ)
 
 records_ascend : (old new : Header) → IsFull old new → 0 < old.records → Ascends (flat_map (slabs_of_record old new) (range_with_len 0 old.records))
 records_ascend old new h some =
@@ -244,16 +200,7 @@ fixed_below_records old new s t h m n =
         ]
 
 rising_ascends : (old new : Header) → IsFull old new → Ascends (rising old new)
-rising_ascends old new h =
-    ascends_joined (fixed_slabs old new) (flat_map (slabs_of_record old new) (range_with_len 0 old.records)) (fixed_ascend old new h)
-    (by_count (nat_lt 0 old.records) refl) (λ s t m n. fixed_below_records old new s t h m n)
-  where
-    by_count : (b : Bool) → nat_lt 0 old.records ≡ b → Ascends (flat_map (slabs_of_record old new) (range_with_len 0 old.records))
-    by_count true e = records_ascend old new h (ltb-true _ _ e)
-    by_count false e =
-        let few : old.records ≤ 0 = ltb-false _ _ e in
-        let none : 0 ≡ old.records = omega arith in
-        subst (λ (n : ℕ). Ascends (flat_map (slabs_of_record old new) (range_with_len 0 n))) none tt
+rising_ascends old new h = grind (arith, nat_tests, ascends_joined, fixed_ascend, fixed_below_records, records_ascend, ltb-true, ltb-false)
 
 -- ---- the law
 
@@ -263,14 +210,11 @@ rising_all old new s = (rising_in old new s, sums_members (slabs old new) (risin
 
 pub rising_risen : (old new : Header) → is_sound old ≡ true → AreShifted (header_len old) (header_len new) (new_end old new) (slabs old new)
     → IsRisen (header_len old) (header_len new) (rising old new)
-rising_risen old new h k =
-    shifted_risen (header_len old) (header_len new) (new_end old new) (slabs old new) (rising old new) k (rising_in old new)
-    (rising_ascends old new (record { sound = h; some = λ s m. (k.each s m).some }))
+rising_risen old new h k = grind (arith, nat_tests, shifted_risen, rising_in, rising_ascends)
 
 pub rising_falls : (old new : Header) → is_sound old ≡ true → AreShifted (header_len old) (header_len new) (new_end old new) (slabs old new)
     → highest_first (filter changes (slabs old new)) ≡ filter changes (reverse (rising old new))
-rising_falls old new h k =
-    falls_backwards (header_len old) (header_len new) (slabs old new) (rising old new) (rising_risen old new h k) (rising_sums old new)
+rising_falls old new h k = grind (arith, nat_tests, rising_risen old new h k, rising_sums old new, falls_backwards)
 
 pub rising_zeros : (old new : Header) (z : ℕ) → is_sound old ≡ true → AreShifted (header_len old) (header_len new) (new_end old new) (slabs old new) → 0 < z
     → zero_calls z old new ≡ flat_map (λ g. stores z g.0 g.1) (gaps (header_len new) (new_end old new) (rising old new))

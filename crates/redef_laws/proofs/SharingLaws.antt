@@ -1,5 +1,5 @@
 -- No two variables of a redefined header share a byte, and none has one of the header.
-use Rattle.redef_laws.proofs.Words.{◌≡◌, ℕ, zero, suc, ◌+◌, ◌<◌, ◌≤◌, List, [], ◌∷◌, length, drop, map, Bool, true, false, cond, ◌||◌, Some, refl, sym, ap, ◌∙◌, inl, inr, ◌⊎◌, arith, nat_lt, nat_le, ◌==◌, sum_by, slice_get, AllByRecursion, mul-pos, nat_tests, length-map, sum_by-cons, ltb-true, ltb-false, eqb-true, slab_below, each_in, equal_true, no_both, equal_suc, Header, Dim, Var, NcType, Byte, Char, Short, Int, Float, Double, UByte, UShort, UInt, Int64, UInt64, Extra, size_of, product, length_of, lengths, without_record, is_record, slab, vsize, recsize, record_variables, share, header_len, is_sound, Numbered, added, records_in, none_from, recsize_shared, shares_by, count_two, In, filter_in}
+use Rattle.redef_laws.proofs.Words.{◌≡◌, ℕ, zero, suc, ◌+◌, ◌<◌, ◌≤◌, List, [], ◌∷◌, length, drop, map, Bool, true, false, cond, Some, refl, sym, ap, ◌∙◌, inl, inr, ◌⊎◌, arith, nat_lt, ◌==◌, sum_by, slice_get, AllByRecursion, mul-pos, nat_tests, length-map, sum_by-cons, ltb-true, ltb-false, eqb-true, slab_below, each_in, equal_true, no_both, equal_suc, Header, Dim, Var, NcType, Extra, size_of, product, length_of, without_record, is_record, slab, vsize, recsize, record_variables, share, header_len, is_sound, Numbered, added, none_from, recsize_shared, shares_by, count_two, In, filter_in}
 use Rattle.serial_spec.specs.Layout.{record_slabs}
 use Rattle.redef_laws.proofs.GrownLaws.{IsFitVar, is_record_at}
 use Rattle.redef_laws.proofs.FitLaws.{checked}
@@ -11,10 +11,7 @@ use Rattle.redef_laws.proofs.KeptLaws.{old_var, old_recsize, all_sizes}
 
 product_some : (ns : List ℕ) → AllByRecursion (λ n. (n == 0) ≡ false) ns → 0 < product ns
 product_some [] h = omega arith
-product_some (n ∷ ns) h = mul-pos (some n h.0) (product_some ns h.1)
-  where
-    some : (n : ℕ) → (n == 0) ≡ false → 0 < n
-    some n e = grind (arith, nat_tests)
+product_some (n ∷ ns) h = grind (arith, nat_tests, product_some ns h.1, mul-pos)
 
 inner_some : (ns : List ℕ) → AllByRecursion (λ n. (n == 0) ≡ false) (drop 1 ns) → AllByRecursion (λ n. (n == 0) ≡ false) (without_record ns)
 inner_some [] h = tt
@@ -31,21 +28,10 @@ lengths_later dims (id ∷ ids) h = each ids h
     each (id ∷ ids) h = (h.0, each ids h.1)
 
 size_some : (kind : NcType) → 0 < size_of kind
-size_some Byte = omega arith
-size_some Char = omega arith
-size_some Short = omega arith
-size_some Int = omega arith
-size_some Float = omega arith
-size_some Double = omega arith
-size_some UByte = omega arith
-size_some UShort = omega arith
-size_some UInt = omega arith
-size_some Int64 = omega arith
-size_some UInt64 = omega arith
+size_some kind = grind (arith, nat_tests)
 
 pub slab_some : (header : Header) (v : Var) → IsFitVar header.version header.dims v → 0 < slab header v
-slab_some header v fit =
-    mul-pos (product_some (without_record (lengths header v)) (inner_some (lengths header v) (lengths_later header.dims v.dims fit.later))) (size_some v.kind)
+slab_some header v fit = grind (arith, nat_tests, mul-pos, product_some, inner_some, lengths_later, size_some)
 
 -- ---- two record variables
 
@@ -54,37 +40,10 @@ abbrev pub AreOrdered : ℕ → ℕ → ℕ → ℕ → ℕ → Type 0
 AreOrdered a n b m size = ((a + n ≤ b) × (b + m ≤ a + size)) ⊎ ((b + m ≤ a) × (a + n ≤ b + size))
 
 ordered_from : (a n b m size : ℕ) → shares_by true true a n b m size ≡ false → AreOrdered a n b m size
-ordered_from a n b m size h = by_test (nat_le a b) h
-  where
-    by_test : (t : Bool) → cond t (nat_lt b (a + n) || nat_lt (a + size) (b + m)) (nat_lt a (b + m) || nat_lt (b + size) (a + n)) ≡ false → AreOrdered a n b m size
-    by_test true e = inl (front, back)
-      where
-        front : a + n ≤ b
-        front = grind (arith, nat_tests)
-
-        back : b + m ≤ a + size
-        back = grind (arith, nat_tests)
-    by_test false e = inr (front, back)
-      where
-        front : b + m ≤ a
-        front = grind (arith, nat_tests)
-
-        back : a + n ≤ b + size
-        back = grind (arith, nat_tests)
+ordered_from a n b m size h = grind (arith, nat_tests)
 
 pub ordered_apart : (a n b m size : ℕ) → 0 < m → AreOrdered a n b m size → shares_by true true a n b m size ≡ false
-ordered_apart a n b m size some (inl (h, g)) =
-    let order : nat_le a b ≡ true = grind (arith, nat_tests) in
-    let front : nat_lt b (a + n) ≡ false = grind (arith, nat_tests) in
-    let back : nat_lt (a + size) (b + m) ≡ false = grind (arith, nat_tests) in
-    ap (λ (t : Bool). cond t (nat_lt b (a + n) || nat_lt (a + size) (b + m)) (nat_lt a (b + m) || nat_lt (b + size) (a + n))) order
-    ∙ ap (λ (t : Bool). t || nat_lt (a + size) (b + m)) front ∙ back
-ordered_apart a n b m size some (inr (h, g)) =
-    let order : nat_le a b ≡ false = grind (arith, nat_tests) in
-    let front : nat_lt a (b + m) ≡ false = grind (arith, nat_tests) in
-    let back : nat_lt (b + size) (a + n) ≡ false = grind (arith, nat_tests) in
-    ap (λ (t : Bool). cond t (nat_lt b (a + n) || nat_lt (a + size) (b + m)) (nat_lt a (b + m) || nat_lt (b + size) (a + n))) order
-    ∙ ap (λ (t : Bool). t || nat_lt (b + size) (a + n)) front ∙ back
+ordered_apart a n b m size some xs = grind (arith, nat_tests)
 
 ordered_turned : (a n b m size : ℕ) → AreOrdered a n b m size → AreOrdered b m a n size
 ordered_turned a n b m size (inl h) = inr h
@@ -149,14 +108,7 @@ record IsOldRecord (header : Header) (n : ℕ) (p : Numbered) : Type 0 where
   low : p.0 < n
 
 old_member : (header : Header) (n : ℕ) (p : Numbered) → In (old_records header n) p → IsOldRecord header n p
-old_member header n p h =
-    let outer = filter_in (λ (q : Numbered). nat_lt q.0 n) (records_in header (numbered header)) p h in
-    let inner = filter_in (λ (q : Numbered). is_record header q.1) (numbered header) p outer.0 in
-    record {
-      there = each_in (λ q. slice_get header.vars q.0 ≡ Some q.1) (old_records header n) p (old_numbers header n) h;
-      kind = inner.1;
-      low = ltb-true p.0 n outer.1;
-    }
+old_member header n p h = grind (arith, nat_tests, filter_in, numbered, each_in, old_numbers, ltb-true)
 
 -- two old record variables in the header with what is added
 pub old_pair : (old : Header) (extras : List Extra) (i j : ℕ) (v w : Var) → is_sound old ≡ true → i < length old.vars → j < length old.vars

@@ -1,5 +1,5 @@
 -- A redefinition moves the slabs of the old variables up, or lets them stay, and none passes another.
-use Rattle.redef_laws.proofs.Words.{◌≡◌, ℕ, zero, suc, ◌<◌, ◌≤◌, refl, sym, ◌∙◌, ap, subst, List, [], ◌∷◌, ◌++◌, length, Bool, true, false, cond, Some, None, arith, slice_get_within, slice_get, bytes_eq, enumerate_from, and_first, Header, Var, Attr, Extra, slabs, header_len, is_sound, is_redefinable, is_record, with_var_attr, with_extra, added, begins_by_number, begin_of_number, with_begins, redefined_header, redefined_keeps, IsApplied, AreShifted, new_end, numbered_at, entry_map}
+use Rattle.redef_laws.proofs.Words.{◌≡◌, ℕ, zero, suc, ◌<◌, ◌≤◌, refl, sym, ◌∙◌, ap, List, [], ◌∷◌, ◌++◌, length, Bool, true, false, cond, Some, None, arith, slice_get_within, slice_get, bytes_eq, enumerate_from, and_first, Header, Var, Attr, Extra, slabs, header_len, is_sound, is_redefinable, is_record, with_var_attr, with_extra, added, begins_by_number, begin_of_number, with_begins, redefined_header, redefined_keeps, IsApplied, AreShifted, new_end, numbered_at, entry_map, nat_tests}
 use Rattle.nc_base.specs.declared.script.Extra.TheVariants as extra
 use Rattle.redef_laws.proofs.PlacedLaws.{begin_rises, fixed_begins_rise, record_begins_rise}
 use Rattle.redef_laws.proofs.SlabLaws.{IsRaised, pair_at}
@@ -38,9 +38,7 @@ begins_with_extra header (extra.Att (Some owner) a) = begins_with_attr owner a h
 begins_added : (header : Header) (extras : List Extra) → KeepBegins header.vars (added header extras).vars
 begins_added header [] k v h = (v, h, refl)
 begins_added header (e ∷ extras) k v h =
-    let one = begins_with_extra header e k v h in
-    let all = begins_added (with_extra header e) extras k one.0 one.1 in
-    (all.0, all.1, all.2 ∙ one.2)
+    grind (arith, nat_tests, begins_added (with_extra header e) extras k (begins_with_extra header e k v h).0 (begins_with_extra header e k v h).1, begins_with_extra)
 
 -- ---- an old variable on its way
 
@@ -110,7 +108,4 @@ sound_before header h = and_first _ _ (and_first _ _ (and_first _ _ (and_first _
 
 pub shifts : (old new : Header) (extras : List Extra) → IsApplied old extras new → is_sound new ≡ true
     → AreShifted (header_len old) (header_len new) (new_end old new) (slabs old new)
-shifts old new extras applied sound =
-    let sound_new : is_sound (redefined_header old extras) ≡ true = sym (ap (λ (h : Header). is_sound h) applied.made) ∙ sound in
-    subst (λ (h : Header). AreShifted (header_len old) (header_len h) (new_end old h) (slabs old h)) (sym applied.made)
-    (raised_shifts old (redefined_header old extras) (redefined_raised old extras (sound_before old applied.redefinable) sound_new))
+shifts old new extras applied sound = grind (arith, nat_tests, raised_shifts, redefined_raised, sound_before)

@@ -1,5 +1,5 @@
 -- In a header that is short each name, list and attribute is short.
-use Rattle.redef_laws.proofs.Words.{◌≡◌, ℕ, ◌-◌, ◌*◌, ◌^◌, ◌≤◌, List, [], ◌∷◌, ◌++◌, length, true, ◌&&◌, refl, arith, length-append, sum_by, replicate, AllByRecursion, sum_by-cons, and_from, row_below_bytes, small_count, each_passes, equal_true, Header, Dim, Attr, Var, size_of, round_up, name, padded, count, tag, number_of, list_of, dimension, attribute, variable, header_len, is_writable_attr, is_writable_list, fits_count, is_type, list_len, variable_len, canon_len}
+use Rattle.redef_laws.proofs.Words.{◌≡◌, ℕ, ◌-◌, ◌^◌, ◌≤◌, List, [], ◌∷◌, ◌++◌, length, true, arith, length-append, sum_by, replicate, AllByRecursion, sum_by-cons, and_from, row_below_bytes, small_count, each_passes, equal_true, Header, Dim, Attr, Var, round_up, name, padded, count, tag, number_of, list_of, dimension, attribute, variable, header_len, is_writable_attr, is_writable_list, fits_count, list_len, variable_len, canon_len, nat_tests}
 use Rattle.redef_laws.proofs.FieldLaws.{each_both}
 use Rattle.redef_laws.proofs.GrownLaws.{IsTyped}
 
@@ -20,10 +20,7 @@ padded_long : (text : List ℕ) → length text ≤ length (padded text)
 padded_long text = let whole = length-append text (replicate (round_up 4 (length text) - length text) 0) in omega arith
 
 name_long : (version : ℕ) (text : List ℕ) → length text ≤ length (name version text)
-name_long version text =
-    let whole = length-append (count version (length text)) (padded text) in
-    let inner = padded_long text in
-    omega arith
+name_long version text = grind (arith, nat_tests, length-append, padded_long)
 
 pub dim_long : (version : ℕ) (d : Dim) → length d.name ≤ length (dimension version d)
 dim_long version d = let whole = length-append (name version d.name) (count version d.len) in let own = name_long version d.name in omega arith
@@ -35,29 +32,18 @@ record IsAttrLong (version : ℕ) (a : Attr) : Type 0 where
 
 attr_long : (version : ℕ) (a : Attr) → IsAttrLong version a
 attr_long version a =
-    let first = name version a.name in
-    let second = first ++ tag (number_of a.kind) in
-    let third = second ++ count version a.count in
-    let whole = length-append third (padded a.bytes) in
-    let counted = length-append second (count version a.count) in
-    let typed = length-append first (tag (number_of a.kind)) in
-    let own = name_long version a.name in
-    let inner = padded_long a.bytes in
-    let four : length (tag (number_of a.kind)) ≡ 4 = refl in
-    record { named = omega arith; valued = omega arith; some = omega arith }
+    grind (
+      arith,
+      nat_tests,
+      length-append (((name version a.name) ++ tag (number_of a.kind)) ++ count version a.count) (padded a.bytes),
+      length-append ((name version a.name) ++ tag (number_of a.kind)) (count version a.count),
+      length-append (name version a.name) (tag (number_of a.kind)),
+      name_long version a.name,
+      padded_long a.bytes,
+    )
 
 attr_written : (version : ℕ) (a : Attr) → IsTyped version a → length (attribute version a) ≤ 2 ^ 20 → is_writable_attr version a ≡ true
-attr_written version a t short =
-    let long = attr_long version a in
-    let named = long.named in
-    let valued = long.valued in
-    let whole = t.whole in
-    let counted = row_below_bytes a.count a.kind in
-    and_from (fits_count version (length a.name) && is_type version a.kind && fits_count version a.count) _
-    (and_from (fits_count version (length a.name) && is_type version a.kind) _
-    (and_from (fits_count version (length a.name)) _ (small_count version (length a.name) (omega arith)) t.kind)
-    (small_count version a.count (omega arith)))
-    (equal_true (length a.bytes) (a.count * size_of a.kind) whole)
+attr_written version a t short = grind (arith, nat_tests, attr_long, row_below_bytes, and_from, small_count, equal_true)
 
 -- ---- a list of attributes
 

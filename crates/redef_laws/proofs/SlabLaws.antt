@@ -1,5 +1,5 @@
 -- The slabs of the old variables: what they are, and where each lies.
-use Rattle.redef_laws.proofs.Words.{◌≡◌, ℕ, ◌+◌, ◌-◌, ◌*◌, ◌<◌, ◌≤◌, refl, sym, ◌∙◌, ap, inl, inr, ◌⊎◌, List, [], ◌∷◌, map, Bool, true, false, cond, Some, arith, mul-le, slice_get, zip, ◌==◌, range_with_len, Header, Var, Slab, slabs, slabs_of, header_len, is_sound, is_record, slab, vsize, recsize, last_share, end_of_var, lengths, KeepsVars, end_holds, slab_below, slab_shared, some_record, In, flat_in, range_high, IsShifted, new_end, map_in, zip_in}
+use Rattle.redef_laws.proofs.Words.{◌≡◌, ℕ, ◌+◌, ◌-◌, ◌*◌, ◌<◌, ◌≤◌, refl, sym, ◌∙◌, ap, inl, inr, ◌⊎◌, List, [], ◌∷◌, map, Bool, true, false, Some, arith, mul-le, slice_get, zip, range_with_len, Header, Var, Slab, slabs, slabs_of, header_len, is_sound, is_record, slab, recsize, end_of_var, lengths, KeepsVars, end_holds, slab_below, slab_shared, some_record, In, flat_in, range_high, IsShifted, new_end, map_in, zip_in, nat_tests}
 use Rattle.redef_laws.proofs.RecordSizes.{same_slab, same_record, record_grows}
 use Rattle.redef_laws.proofs.SoundVars.{slab_holds, past_front}
 
@@ -103,21 +103,10 @@ slab_in old new s keeps h =
 -- ---- where a slab lies
 
 fixed_ends : (header : Header) (n : ℕ) (v : Var) → is_record header v ≡ false → v.begin + slab header v ≤ end_of_var header n v
-fixed_ends header n v e =
-    let own : end_of_var header n v ≡ v.begin + vsize header v =
-    ap (λ (t : Bool). cond t (cond (n == 0) 0 (v.begin + (n - 1) * recsize header + last_share header v)) (v.begin + vsize header v)) e in
-    let below = slab_below header v in
-    omega arith
+fixed_ends header n v e = grind (arith, nat_tests, slab_below)
 
 record_ends : (header : Header) (n r : ℕ) (v : Var) → is_record header v ≡ true → r < n → v.begin + r * recsize header + slab header v ≤ end_of_var header n v
-record_ends header n r v e h =
-    let some = some_record r n h in
-    let own : end_of_var header n v ≡ v.begin + (n - 1) * recsize header + last_share header v =
-    ap (λ (t : Bool). cond t (cond (n == 0) 0 (v.begin + (n - 1) * recsize header + last_share header v)) (v.begin + vsize header v)) e
-    ∙ ap (λ (t : Bool). cond t 0 (v.begin + (n - 1) * recsize header + last_share header v)) some in
-    let rows : r * recsize header ≤ (n - 1) * recsize header = mul-le r (recsize header) (n - 1) (recsize header) (omega arith) (omega arith) in
-    let below = slab_shared header v in
-    omega arith
+record_ends header n r v e h = grind (arith, nat_tests, some_record, mul-le, slab_shared)
 
 fixed_lies : (old new : Header) → IsRaised old new → (s : Slab) → IsFixedSlab old new s → IsShifted (header_len old) (header_len new) (new_end old new) s
 fixed_lies old new raised s f =

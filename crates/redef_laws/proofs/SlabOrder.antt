@@ -1,5 +1,5 @@
 -- No slab of an old variable passes another.
-use Rattle.redef_laws.proofs.Words.{◌≡◌, ℕ, ◌+◌, ◌*◌, ◌<◌, ◌≤◌, sym, ◌∙◌, ap, subst, inl, inr, ◌⊎◌, Bool, true, false, Some, arith, cases_lt, cases_eq, row_fits, mul-le, slice_get, Header, Var, Slab, slabs, header_len, is_sound, is_record, slab, recsize, slab_fits, IsLower, AreShifted, new_end}
+use Rattle.redef_laws.proofs.Words.{◌≡◌, ℕ, ◌+◌, ◌*◌, ◌<◌, ◌≤◌, sym, ◌∙◌, ap, inl, inr, ◌⊎◌, Bool, true, false, arith, cases_lt, cases_eq, row_fits, mul-le, Header, Var, Slab, slabs, header_len, is_sound, is_record, slab, recsize, slab_fits, IsLower, AreShifted, new_end, nat_tests}
 use Rattle.redef_laws.proofs.RecordSizes.{record_grows}
 use Rattle.redef_laws.proofs.SoundVars.{slab_holds, vars_apart, IsApart, InTurn, swapped}
 use Rattle.redef_laws.proofs.SlabLaws.{IsRaised, IsPair, IsFixedSlab, IsRecordSlab, slab_in, slab_lies}
@@ -19,14 +19,7 @@ turn_ends size a n b m p l (inr t) = let h = t.next in omega arith
 
 -- an earlier record ends before a later one begins
 record_passed : (size a n b m r u : ℕ) → Turns size a n b m → r < u → a + r * size + n ≤ b + u * size
-record_passed size a n b m r u (inl t) l =
-    let h = t.next in
-    let fits : r * size + size ≤ u * size = row_fits r size u size l (omega arith) in
-    omega arith
-record_passed size a n b m r u (inr t) l =
-    let h = t.last in
-    let fits : r * size + size ≤ u * size = row_fits r size u size l (omega arith) in
-    omega arith
+record_passed size a n b m r u xs l = grind (arith, nat_tests, row_fits)
 
 same_row : (size r u : ℕ) → r ≤ u → u ≤ r → r * size ≡ u * size
 same_row size r u l h = let e : r ≡ u = omega arith in ap (λ (x : ℕ). x * size) e
@@ -60,38 +53,19 @@ own_place : (size n r u : ℕ) → n ≤ size → r < u → r * size + n ≤ u *
 own_place size n r u fits l = let row : r * size + size ≤ u * size = row_fits r size u size l (omega arith) in omega arith
 
 own_lower : (size a r u : ℕ) → a + r * size < a + u * size → r < u
-own_lower size a r u h = by_record (cases_lt r u)
-  where
-    by_record : (r < u) ⊎ (u ≤ r) → r < u
-    by_record (inl l) = l
-    by_record (inr l) = let rows : u * size ≤ r * size = mul-le u size r size l (omega arith) in absurd (omega arith)
+own_lower size a r u h = grind (arith, nat_tests, cases_lt, mul-le)
 
 own_same : (size a n r u : ℕ) → 0 < n → n ≤ size → a + r * size ≡ a + u * size → r ≡ u
-own_same size a n r u p fits e = by_record (cases_lt r u) (cases_lt u r)
-  where
-    by_record : (r < u) ⊎ (u ≤ r) → (u < r) ⊎ (r ≤ u) → r ≡ u
-    by_record (inl l) o = let h = own_place size n r u fits l in absurd (omega arith)
-    by_record (inr l) (inl k) = let h = own_place size n u r fits k in absurd (omega arith)
-    by_record (inr l) (inr k) = omega arith
+own_same size a n r u p fits e = grind (arith, nat_tests, cases_lt, own_place)
 
 -- ---- two old variables
 
 apart_now : (old new : Header) (k m : ℕ) (v w x y : Var) → is_sound new ≡ true → IsPair old new k v w → IsPair old new m x y → (k ≡ m → ⊥)
     → IsApart (recsize new) w.begin (slab old v) y.begin (slab old x) (is_record old v) (is_record old x)
-apart_now old new k m v w x y sound p q differ =
-    subst (λ (t : Bool). IsApart (recsize new) w.begin (slab old v) y.begin (slab old x) (is_record old v) t) q.kind
-    (subst (λ (t : Bool). IsApart (recsize new) w.begin (slab old v) y.begin (slab old x) t (is_record new y)) p.kind
-    (subst (λ (n : ℕ). IsApart (recsize new) w.begin (slab old v) y.begin n (is_record new w) (is_record new y)) q.size
-    (subst (λ (n : ℕ). IsApart (recsize new) w.begin n y.begin (slab new y) (is_record new w) (is_record new y)) p.size
-    (vars_apart new k m w y sound p.at_new q.at_new differ))))
+apart_now old new k m v w x y sound p q differ = grind (arith, nat_tests, vars_apart)
 
 same_var : (old new : Header) (k m : ℕ) (v w x y : Var) → IsPair old new k v w → IsPair old new m x y → k ≡ m → (v ≡ x) × (w ≡ y)
-same_var old new k m v w x y p q e =
-    let one : Some v ≡ Some x = sym p.at_old ∙ ap (λ (n : ℕ). slice_get old.vars n) e ∙ q.at_old in
-    let two : Some w ≡ Some y = sym p.at_new ∙ ap (λ (n : ℕ). slice_get new.vars n) e ∙ q.at_new in
-    let was : v ≡ x = cc in
-    let now : w ≡ y = cc in
-    (was, now)
+same_var old new k m v w x y p q e = grind (arith, nat_tests)
 
 same_slab : (s t : Slab) → s.from ≡ t.from → s.to ≡ t.to → s.len ≡ t.len → s ≡ t
 same_slab s t from to len = λ i. record { from = from i; to = to i; len = len i }

@@ -1,5 +1,5 @@
 -- The slabs of a sound header's variables: each holds a byte, and no two of them share one.
-use Rattle.redef_laws.proofs.Words.{◌≡◌, ℕ, zero, suc, ◌+◌, ◌*◌, ◌<◌, ◌≤◌, refl, inl, inr, ◌⊎◌, List, [], ◌∷◌, Bool, true, false, cond, ◌||◌, Some, arith, cases_lt, nat_tests, mul-le, slice_get, nat_lt, nat_le, ◌==◌, AllByRecursion, size_pos, Header, Var, size_of, product, without_record, lengths, inner_lengths, is_record, slab, recsize, meet, header_len, is_sound, none_from, none_shared, past_header, none_later, not_zero}
+use Rattle.redef_laws.proofs.Words.{◌≡◌, ℕ, zero, suc, ◌+◌, ◌<◌, ◌≤◌, inl, inr, ◌⊎◌, List, [], ◌∷◌, Bool, true, false, cond, ◌||◌, Some, arith, cases_lt, nat_tests, mul-le, slice_get, nat_lt, nat_le, ◌==◌, AllByRecursion, size_pos, Header, Var, product, without_record, is_record, slab, recsize, meet, header_len, is_sound, none_from, none_shared, past_header, none_later, not_zero}
 use Rattle.std.specs.Prelude.{drop}
 use borrow.Author.Tests.{ltb-false}
 
@@ -7,27 +7,16 @@ use borrow.Author.Tests.{ltb-false}
 
 product_holds : (ns : List ℕ) → AllByRecursion (λ n. (n == 0) ≡ false) ns → 1 ≤ product ns
 product_holds [] h = omega arith
-product_holds (n ∷ ns) h =
-    let some : 1 ≤ n = not_zero n h.0 in
-    let rest = product_holds ns h.1 in
-    let all : 1 * 1 ≤ n * product ns = mul-le 1 1 n (product ns) some rest in
-    omega arith
+product_holds (n ∷ ns) h = grind (arith, nat_tests, product_holds ns h.1, not_zero n h.0, mul-le 1 1 n (product ns) (not_zero n h.0) (product_holds ns h.1))
 
 inner_holds : (ls : List ℕ) → AllByRecursion (λ n. (n == 0) ≡ false) (drop 1 ls) → 1 ≤ product (without_record ls)
 inner_holds [] h = omega arith
 inner_holds (zero ∷ ns) h = product_holds ns h
-inner_holds (suc n ∷ ns) h =
-    let rest = product_holds ns h in
-    let all : 1 * 1 ≤ suc n * product ns = mul-le 1 1 (suc n) (product ns) (omega arith) rest in
-    omega arith
+inner_holds (suc n ∷ ns) h = grind (arith, nat_tests, product_holds, mul-le)
 
 -- a slab holds a byte
 pub slab_holds : (header : Header) (k : ℕ) (v : Var) → is_sound header ≡ true → slice_get header.vars k ≡ Some v → 0 < slab header v
-slab_holds header k v sound h =
-    let some = inner_holds (lengths header v) (none_later header k v sound h) in
-    let size = size_pos v.kind in
-    let all : 1 * 1 ≤ product (inner_lengths header v) * size_of v.kind = mul-le 1 1 (product (inner_lengths header v)) (size_of v.kind) some size in
-    omega arith
+slab_holds header k v sound h = grind (arith, nat_tests, inner_holds, none_later, size_pos, mul-le)
 
 pub past_front : (header : Header) (k : ℕ) (v : Var) → is_sound header ≡ true → slice_get header.vars k ≡ Some v → header_len header ≤ v.begin
 past_front header k v sound h = past_header header (header_len header) 0 header.vars k v (none_shared header sound) h
@@ -53,18 +42,10 @@ pub record IsApart (size a n b m : ℕ) (s t : Bool) : Type 0 where
   pub both_records : s ≡ true → t ≡ true → InTurn size a n b m ⊎ InTurn size b m a n
 
 other : (t : Bool) {A : Type 0} → t ≡ false → t ≡ true → A
-other t p q = absurd (contrary t p q)
-  where
-    contrary : (u : Bool) → u ≡ false → u ≡ true → ⊥
-    contrary true p q = cc
-    contrary false p q = cc
+other t p q = grind (arith, nat_tests)
 
 meet_apart : (a n b m : ℕ) → 0 < n → 0 < m → meet a n b m ≡ false → (a + n ≤ b) ⊎ (b + m ≤ a)
-meet_apart a n b m p q h = by_order (cases_lt a b)
-  where
-    by_order : (a < b) ⊎ (b ≤ a) → (a + n ≤ b) ⊎ (b + m ≤ a)
-    by_order (inl l) = inl (grind (arith, nat_tests))
-    by_order (inr l) = inr (grind (arith, nat_tests))
+meet_apart a n b m p q h = grind (arith, nat_tests, cases_lt)
 
 in_turn : (size a n b m : ℕ) → (nat_lt b (a + n) || nat_lt (a + size) (b + m)) ≡ false → InTurn size a n b m
 in_turn size a n b m h = record { next = grind (arith, nat_tests); last = grind (arith, nat_tests) }
@@ -75,47 +56,14 @@ one_then_other size a n b m true h = inl (in_turn size a n b m h)
 one_then_other size a n b m false h = inr (in_turn size b m a n h)
 
 unshared : (size a n b m : ℕ) (s t : Bool) → 0 < n → 0 < m → share_by size a n b m s t ≡ false → IsApart size a n b m s t
-unshared size a n b m false false p q h =
-    record {
-      both_fixed = λ e f. meet_apart a n b m p q h;
-      record_last = λ e f. other false refl f;
-      record_first = λ e f. other false refl e;
-      both_records = λ e f. other false refl e;
-    }
-unshared size a n b m false true p q h =
-    record {
-      both_fixed = λ e f. other true f refl;
-      record_last = λ e f. ltb-false _ _ h;
-      record_first = λ e f. other false refl e;
-      both_records = λ e f. other false refl e;
-    }
-unshared size a n b m true false p q h =
-    record {
-      both_fixed = λ e f. other true e refl;
-      record_last = λ e f. other true e refl;
-      record_first = λ e f. ltb-false _ _ h;
-      both_records = λ e f. other false refl f;
-    }
-unshared size a n b m true true p q h =
-    record {
-      both_fixed = λ e f. other true e refl;
-      record_last = λ e f. other true e refl;
-      record_first = λ e f. other true f refl;
-      both_records = λ e f. one_then_other size a n b m (nat_le a b) h;
-    }
+unshared size a n b m s t p q h = grind (arith, nat_tests, meet_apart, other, ltb-false, one_then_other)
 
 pub swapped : {A B : Type 0} → A ⊎ B → B ⊎ A
 swapped (inl x) = inr x
 swapped (inr y) = inl y
 
 turned : (size a n b m : ℕ) (s t : Bool) → IsApart size a n b m s t → IsApart size b m a n t s
-turned size a n b m s t h =
-    record {
-      both_fixed = λ e f. swapped (h.both_fixed f e);
-      record_last = λ e f. h.record_first f e;
-      record_first = λ e f. h.record_last f e;
-      both_records = λ e f. swapped (h.both_records f e);
-    }
+turned size a n b m s t h = grind (arith, nat_tests, swapped)
 
 pub vars_apart : (header : Header) (k m : ℕ) (v w : Var) → is_sound header ≡ true → slice_get header.vars k ≡ Some v → slice_get header.vars m ≡ Some w
     → (k ≡ m → ⊥) → IsApart (recsize header) v.begin (slab header v) w.begin (slab header w) (is_record header v) (is_record header w)

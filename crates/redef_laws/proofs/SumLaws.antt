@@ -1,5 +1,5 @@
 -- Lists that have the same slabs, each as often: every function sums up to the same over both.
-use Rattle.redef_laws.proofs.Words.{◌≡◌, ℕ, ◌+◌, ◌<◌, ◌≤◌, refl, sym, ◌∙◌, ap, subst, inl, inr, List, [], ◌∷◌, Bool, true, false, cond, ◌&&◌, arith, sum_by-cons, sum_by-append, flat_map, sum_by, nat_le, nat_lt, ◌==◌, and_parts, equal_true, Slab, In, inserted_by, stands_below, lowest_first}
+use Rattle.redef_laws.proofs.Words.{◌≡◌, ℕ, ◌+◌, ◌<◌, ◌≤◌, refl, sym, ◌∙◌, ap, subst, inl, inr, List, [], ◌∷◌, Bool, true, false, cond, ◌&&◌, arith, sum_by-cons, sum_by-append, flat_map, sum_by, nat_le, nat_lt, ◌==◌, and_parts, equal_true, Slab, In, inserted_by, stands_below, lowest_first, nat_tests}
 use Rattle.std.specs.Prelude.{map}
 use borrow.Author.Tests.{ltb-true, ltb-false, eqb-true}
 use Rattle.redef_laws.proofs.ChainLaws.{AreDistinct}
@@ -90,13 +90,7 @@ itself : (s : Slab) → is_slab s s ≡ true
 itself s = λ i. equal_true s.from s.from refl i && (equal_true s.to s.to refl i && equal_true s.len s.len refl i)
 
 same_slab : (s t : Slab) → is_slab s t ≡ true → t ≡ s
-same_slab s t h =
-    let a = and_parts (t.from == s.from) _ h in
-    let b = and_parts (t.to == s.to) _ a.1 in
-    let from : t.from ≡ s.from = eqb-true _ _ a.0 in
-    let to : t.to ≡ s.to = eqb-true _ _ b.0 in
-    let len : t.len ≡ s.len = eqb-true _ _ b.1 in
-    λ i. record { from = from i; to = to i; len = len i }
+same_slab s t h = grind (arith, nat_tests, and_parts, eqb-true)
 
 counted : (b : Bool) → 0 < cond b 1 0 → b ≡ true
 counted true h = refl
@@ -121,11 +115,7 @@ abbrev begins_at : ℕ → Slab → ℕ
 begins_at k s = cond (s.from == k) 1 0
 
 begins_elsewhere : (k : ℕ) (s : Slab) → (s.from ≡ k → ⊥) → begins_at k s ≡ 0
-begins_elsewhere k s h = by_test (s.from == k) refl
-  where
-    by_test : (b : Bool) → (s.from == k) ≡ b → ◌≡◌ {A = ℕ} (cond b 1 0) 0
-    by_test true e = absurd (h (eqb-true _ _ e))
-    by_test false e = refl
+begins_elsewhere k s h = grind (arith, nat_tests, eqb-true)
 
 none_begins : (k : ℕ) (ss : List Slab) → ((s : Slab) → In ss s → s.from ≡ k → ⊥) → sum_by (begins_at k) ss ≡ 0
 none_begins k ss h = sum_same (begins_at k) (λ s. 0) ss (λ s m. begins_elsewhere k s (h s m)) ∙ sum_zero ss

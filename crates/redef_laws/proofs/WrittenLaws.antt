@@ -1,5 +1,5 @@
 -- The header of an accepted redefinition is sound, and each of its numbers fits its field.
-use Rattle.redef_laws.proofs.Words.{◌≡◌, ℕ, suc, ◌+◌, ◌-◌, ◌^◌, ◌<◌, ◌≤◌, List, [], ◌∷◌, length, take, drop, Bool, true, false, cond, ◌&&◌, Option, Some, None, refl, sym, ap, subst, ◌∙◌, arith, not, nat_lt, nat_le, ◌==◌, count_by, filter, find, position, option_map, is_none, slice_get, sum_by, AllByRecursion, option_or, nat_tests, length-filter, and_from, not-true, not-false, le-leb, ltb-true, ltb-false, leb-false, past_none, small_count, vsize_fits, each_passes, each_fails, each_weaker, each_at, and_first, and_second, both_none, none_before_map, untold, Header, Dim, Var, Extra, RedefErr, most_dims, most_vars, most_dims_of_var, most_header_bytes, file_limit, record_limit, vsize, record_share, sharing, attribute, list_of, is_version, header_len, all_ones, record_later, is_record_id, bad_id, measure, keeps_bound, is_sound, counts_are_small, fits_count, is_type, is_writable, is_writable_dim, is_writable_attr, is_writable_list, is_redefinable_var, is_writable_var, added, extras_fault, begins_by_number, with_begins, redefined_header, redefined_fault, is_large_var, is_far_begin, is_bad_begin, size_fault, IsApplied}
+use Rattle.redef_laws.proofs.Words.{◌≡◌, ℕ, suc, ◌+◌, ◌-◌, ◌^◌, ◌<◌, ◌≤◌, List, [], ◌∷◌, length, take, drop, Bool, true, false, ◌&&◌, Some, None, refl, sym, ap, subst, ◌∙◌, arith, not, nat_lt, nat_le, ◌==◌, count_by, filter, find, position, slice_get, sum_by, AllByRecursion, nat_tests, length-filter, and_from, not-true, not-false, le-leb, ltb-true, ltb-false, leb-false, past_none, small_count, vsize_fits, each_passes, each_fails, each_weaker, each_at, and_first, and_second, both_none, none_before_map, untold, Header, Dim, Var, Extra, file_limit, record_limit, record_share, sharing, attribute, list_of, header_len, all_ones, record_later, is_record_id, bad_id, measure, keeps_bound, is_sound, counts_are_small, fits_count, is_writable, is_writable_dim, is_writable_list, is_writable_var, added, extras_fault, begins_by_number, with_begins, redefined_header, redefined_fault, is_large_var, is_far_begin, is_bad_begin, IsApplied}
 use Rattle.nc_base.specs.declared.errors.LayoutErr.TheVariants as layout
 use Rattle.nc_base.specs.declared.errors.RedefErr.TheVariants as redef
 use Rattle.redef_laws.proofs.FieldLaws.{not_both, each_both, begin_fits}
@@ -18,48 +18,14 @@ pub record HasNoFault (old : Header) (extras : List Extra) : Type 0 where
   pub begins : find (is_bad_begin (redefined_header old extras)) (begins_by_number (added old extras) (length old.vars)) ≡ None
 
 pub no_fault : (old : Header) (extras : List Extra) → redefined_fault old extras ≡ None → HasNoFault old extras
-no_fault old extras h = by_extras (extras_fault old extras) refl h
-  where
-    by_layout : extras_fault old extras ≡ None
-        → option_map (λ e. redef.Layout e)
-        (option_or (size_fault (redefined_header old extras))
-        (option_map (λ b. layout.BeginRange b.0) (find (is_bad_begin (redefined_header old extras)) (begins_by_number (added old extras) (length old.vars))))) ≡ None
-        → HasNoFault old extras
-    by_layout none g =
-        let new = redefined_header old extras in
-        let both = both_none (size_fault new) _ (none_before_map (λ e. redef.Layout e) _ g) in
-        let sizes = both_none (option_map (λ k. layout.VarSize k) (position (is_large_var new) new.vars)) _ both.0 in
-        record {
-          accepted = none;
-          sizes = none_before_map (λ k. layout.VarSize k) (position (is_large_var new) new.vars) sizes.0;
-          short = ltb-false (2 ^ 20) (header_len new) (untold (nat_lt most_header_bytes (header_len new)) layout.HeaderRange sizes.1);
-          begins = none_before_map (λ b. layout.BeginRange b.0) (find (is_bad_begin new) (begins_by_number (added old extras) (length old.vars))) both.1;
-        }
-
-    by_extras : (o : Option RedefErr) → extras_fault old extras ≡ o
-        → elim o as (λ u. Option RedefErr) [
-          | Some fault ↦ Some fault
-          | None ↦
-              option_map (λ e. redef.Layout e)
-              (option_or (size_fault (redefined_header old extras))
-              (option_map (λ b. layout.BeginRange b.0) (find (is_bad_begin (redefined_header old extras)) (begins_by_number (added old extras) (length old.vars)))))
-        ] ≡ None
-        → HasNoFault old extras
-    by_extras (Some fault) e g = absurd cc
-    by_extras None e g = by_layout e g
+no_fault old extras h = grind (arith, nat_tests, both_none, none_before_map, ltb-false, untold)
 
 -- ---- each variable keeps its bound
 
 -- what is not found fails the test
 pub found_fails : {A : Type 0} (bad p : A → Bool) (xs : List A) (x : A) → find bad xs ≡ None → find p xs ≡ Some x → bad x ≡ false
 found_fails bad p [] x h g = absurd cc
-found_fails {A} bad p (y ∷ xs) x h g = by_tests (bad y) (p y) refl h g (λ h' g'. found_fails bad p xs x h' g')
-  where
-    by_tests : (s t : Bool) → bad y ≡ s → cond s (Some y) (find bad xs) ≡ None → cond t (Some y) (find p xs) ≡ Some x
-        → (find bad xs ≡ None → find p xs ≡ Some x → bad x ≡ false) → bad x ≡ false
-    by_tests true t e i j rest = absurd cc
-    by_tests false true e i j rest = let same : y ≡ x = cc in sym (ap bad same) ∙ e
-    by_tests false false e i j rest = rest i j
+found_fails {A} bad p (y ∷ xs) x h g = grind (arith, nat_tests, found_fails bad p xs x)
 
 -- what is said of a variable's begin and end
 pub record IsBound (header : Header) (k : ℕ) (v : Var) : Type 0 where
@@ -67,10 +33,7 @@ pub record IsBound (header : Header) (k : ℕ) (v : Var) : Type 0 where
   pub keeps : keeps_bound header (sum_by (λ w. record_share header w) (take k header.vars)) v ≡ true
 
 bound_by : (header : Header) (k b : ℕ) (v : Var) → slice_get header.vars k ≡ Some v → is_bad_begin header (k, b) ≡ false → IsBound header k v
-bound_by header k b v g h =
-    let kept : (not (is_far_begin header v) && keeps_bound header (sum_by (λ w. record_share header w) (take k header.vars)) v) ≡ true =
-    not-false _ (sym (ap (λ (o : Option Var). elim o as (λ u. Bool) [ None ↦ false | Some w ↦ not (not (is_far_begin header w) && keeps_bound header (sum_by (λ x. record_share header x) (take k header.vars)) w) ]) g) ∙ h) in
-    record { near = not-true (is_far_begin header v) (and_first _ _ kept); keeps = and_second (not (is_far_begin header v)) _ kept }
+bound_by header k b v g h = grind (arith, nat_tests, not-false, not-true, and_first, and_second)
 
 pub each_bound : (old : Header) (extras : List Extra) → HasNoFault old extras → (k : ℕ) (x : Var) → slice_get (redefined_header old extras).vars k ≡ Some x
     → IsBound (redefined_header old extras) k x
@@ -104,16 +67,7 @@ pub record IsKnown (old new : Header) : Type 0 where
   pub apart : sharing new (header_len new) ≡ None
 
 fit_rebegun : (header : Header) (found : List (ℕ × ℕ)) → IsFit header → IsFit (with_begins header found)
-fit_rebegun header found fit =
-    let long = rebegun_long found 0 header.vars in
-    record {
-      few_dims = fit.few_dims;
-      few_vars = omega (arith, long, fit.few_vars);
-      lengths = fit.lengths;
-      one_record = fit.one_record;
-      attrs = fit.attrs;
-      vars = rebegun_each (IsFitVar header.version header.dims) (λ v b f. f) found 0 header.vars fit.vars;
-    }
+fit_rebegun header found fit = grind (arith, nat_tests, rebegun_long, rebegun_each)
 
 pub known : (old new : Header) (extras : List Extra) → IsApplied old extras new → IsKnown old new
 known old new extras applied =
@@ -159,19 +113,10 @@ checks old new k =
     above n id l = grind (arith, nat_tests)
 
 counts : (header : Header) → IsFit header → counts_are_small header ≡ true
-counts header fit =
-    and_from (nat_le (length header.dims) most_dims && nat_le (length header.vars) most_vars) _
-    (and_from (nat_le (length header.dims) most_dims) _ (le-leb (length header.dims) 1024 fit.few_dims) (le-leb (length header.vars) 8192 fit.few_vars))
-    (each_passes (λ (v : Var). nat_le (length v.dims) most_dims_of_var) header.vars
-    (each_weaker (IsFitVar header.version header.dims) (λ (v : Var). nat_le (length v.dims) most_dims_of_var ≡ true) (λ v f. le-leb (length v.dims) 32 f.few) header.vars fit.vars))
+counts header fit = grind (arith, nat_tests, and_from, le-leb, each_passes, each_weaker)
 
 pub sound : (old new : Header) → IsKnown old new → is_sound new ≡ true
-sound old new k =
-    and_from (is_version new.version && counts_are_small new && nat_le (header_len new) most_header_bytes) _
-    (and_from (is_version new.version && counts_are_small new) _
-    (and_from (is_version new.version) _ (ap (λ (v : ℕ). is_version v) k.same.version ∙ k.opened.version) (counts new k.fit))
-    (le-leb (header_len new) (2 ^ 20) k.short))
-    (ap (λ o. is_none o) (passes_checks new (checks old new k)))
+sound old new k = grind (arith, nat_tests, and_from, counts, le-leb, passes_checks, checks)
 
 -- ---- each number fits its field
 
@@ -199,30 +144,11 @@ record IsKnownVar (header : Header) (k : ℕ) (v : Var) : Type 0 where
   bound : IsBound header k v
 
 dims_of_var : (header : Header) (k : ℕ) (v : Var) → IsKnownVar header k v → is_writable_list header.version (λ id. fits_count header.version id) v.dims ≡ true
-dims_of_var header k v is =
-    let few = is.fit.few in
-    let all = is.few_dims in
-    and_from (fits_count header.version (length v.dims)) _ (small_count header.version (length v.dims) (omega arith))
-    (each_passes (λ id. fits_count header.version id) v.dims
-    (each_weaker (λ id. id < length header.dims) (λ id. fits_count header.version id ≡ true) (λ id l. small_count header.version id (omega arith)) v.dims is.fit.known))
+dims_of_var header k v is = grind (arith, nat_tests, and_from, small_count, each_passes, each_weaker)
 
 var_written : (header : Header) (k : ℕ) (v : Var) → IsKnownVar header k v → is_writable_var header v ≡ true
 var_written header k v is =
-    let version = header.version in
-    let named = is.named in
-    let names = fits_count version (length v.name) in
-    let dims = is_writable_list version (λ id. fits_count version id) v.dims in
-    let attrs = is_writable_list version (is_writable_attr version) v.attrs in
-    let end = ltb-true (v.begin + vsize header v) file_limit (and_second (nat_lt (vsize header v) file_limit) _ (and_first (nat_lt (vsize header v) file_limit && nat_lt (v.begin + vsize header v) file_limit) _ is.bound.keeps)) in
-    and_from (is_redefinable_var header v) _
-    (and_from (names && dims && attrs && is_type version v.kind) _
-    (and_from (names && dims && attrs) _
-    (and_from (names && dims) _
-    (and_from names _ (small_count version (length v.name) (omega arith)) (dims_of_var header k v is))
-    (attrs_written version v.attrs is.fit.typed is.attrs))
-    is.fit.known_type)
-    (begin_fits version v.begin (omega arith) (λ e. leb-false (2 ^ 31) v.begin (not_both (version == 1) _ is.bound.near e))))
-    (vsize_fits header v (omega arith) is.stored)
+    grind (arith, nat_tests, ltb-true, and_second, and_first, and_from, small_count, dims_of_var, attrs_written, begin_fits, leb-false, not_both, vsize_fits)
 
 vars_written : (old new : Header) → IsKnown old new → is_writable_list new.version (is_writable_var new) new.vars ≡ true
 vars_written old new k =
@@ -242,16 +168,14 @@ vars_written old new k =
 
 pub written : (old new : Header) (extras : List Extra) → IsApplied old extras new → is_writable new ≡ true
 written old new extras applied =
-    let k = known old new extras applied in
-    let version = new.version in
-    let records = fits_count version new.records in
-    let dims = is_writable_list version (is_writable_dim version) new.dims in
-    let attrs = is_writable_list version (is_writable_attr version) new.attrs in
-    and_from (is_sound new && records && dims && attrs) _
-    (and_from (is_sound new && records && dims) _
-    (and_from (is_sound new && records) _
-    (and_from (is_sound new) _ (sound old new k)
-    (ap (λ (v : ℕ). fits_count v new.records) k.same.version ∙ ap (λ (n : ℕ). fits_count old.version n) k.same.records ∙ k.opened.records))
-    (dims_written old new k))
-    (attrs_written version new.attrs k.fit.attrs (is_short new k.short).attrs))
-    (vars_written old new k)
+    grind (
+      arith,
+      nat_tests,
+      known old new extras applied,
+      sound old new (known old new extras applied),
+      dims_written old new (known old new extras applied),
+      is_short new (known old new extras applied).short,
+      vars_written old new (known old new extras applied),
+      and_from,
+      attrs_written,
+    )
