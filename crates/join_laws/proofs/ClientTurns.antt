@@ -1,5 +1,5 @@
 -- One number and its client: how both change at an event of the owner.
-use Rattle.join_laws.proofs.Words.{◌≡◌, ℕ, suc, ◌≤◌, refl, sym, ◌∙◌, ap, List, [], ◌∷◌, ◌++◌, length, Bool, true, false, Option, Some, None, filter, Header, Offer, MeetKind, Mark, Meet, Solo, RankItem, OwnerItem, Reply, concerns, marks_from, kinds, Going, advance, hears, Client, freed, strange_offer, fits_offer, waiting_end, end_by, waiting_stop, stop_by}
+use Rattle.join_laws.proofs.Words.{◌≡◌, ℕ, suc, ◌≤◌, sym, ◌∙◌, ap, List, [], ◌∷◌, ◌++◌, length, Bool, true, false, Option, Some, None, filter, Header, Offer, MeetKind, Mark, Meet, Solo, RankItem, OwnerItem, Reply, concerns, marks_from, kinds, Going, advance, hears, Client, freed, strange_offer, fits_offer, waiting_end, end_by, waiting_stop, stop_by, arith, nat_tests}
 use Rattle.nc_base.specs.declared.step.OfferKind.TheVariants as offer
 use Rattle.nc_base.specs.declared.step.RankItem.TheVariants as item
 use Rattle.nc_base.specs.declared.step.Reply as reply
@@ -33,12 +33,7 @@ pub record Turn (header : Header) (Good : ℕ → Going → Type 0) (ks : List M
 pub turn_stays : (header : Header) (Good : ℕ → Going → Type 0) (lasting : Lasting header Good) (ks : List MeetKind) (m n q k : ℕ) (x : Client) (g : Going) (coming : List RankItem) (back : List OwnerItem) (marks : List Mark)
     → m ≤ n → filter (concerns q) marks ≡ [] → IsPaired header Good ks m x g coming back
     → Turn header Good ks n q k k x g x g coming back [] marks
-turn_stays header Good lasting ks m n q k x g coming back marks l e s = record {
-  paired_at = record { stream = s.stream; waits = s.waits; kind_list = s.kind_list; good = lasting.grows m n g l s.good };
-  ends = refl;
-  stops = refl;
-  in_order = ap (λ (ms : List Mark). ms ++ marks_of q k g) e;
-}
+turn_stays header xs lasting ks m n q k x g coming back marks l e s = grind (arith, nat_tests)
 
 abbrev pub client_ended : Client → Bool → Client
 client_ended x m = record { held = x.held; ended = Some m }
@@ -50,54 +45,18 @@ client_held x o = record { held = Some o; ended = x.ended }
 pub turn_ended : (header : Header) (Good : ℕ → Going → Type 0) (ks : List MeetKind) (n q k : ℕ) (x : Client) (g : Going) (m : Bool) (coming : List RankItem) (back : List OwnerItem)
     → x.ended ≡ None → IsPaired header Good ks n x g (item.Ended m ∷ coming) back
     → Turn header Good ks n q k k x g (client_ended x m) g coming back [] []
-turn_ended header Good ks n q k x g m coming back e s = record {
-  paired_at = record {
-    stream = sym (ap (λ (z : Option Bool). ended_item z ++ item.Ended m ∷ coming) e) ∙ s.stream;
-    waits = s.waits;
-    kind_list = s.kind_list;
-    good = s.good;
-  };
-  ends = refl;
-  stops = refl;
-  in_order = refl;
-}
+turn_ended header xs ks n q k x g m coming back e s = grind (arith, nat_tests)
 
 -- what its offer tells
 pub offered_now : (header : Header) (Good : ℕ → Going → Type 0) (ks : List MeetKind) (n : ℕ) (x : Client) (g : Going) (c : ℕ) (o : Offer) (coming : List RankItem) (back : List OwnerItem)
     → x.ended ≡ None → x.held ≡ None → IsPaired header Good ks n x g (item.Offer c o ∷ coming) back → Offered header (advance header g) back c o coming
-offered_now header Good ks n x g c o coming back e h s =
-    offered_offer header (advance header g) back c o coming
-    (sym (ap (λ (z : Option Bool). ended_item z ++ item.Offer c o ∷ coming) e) ∙ s.stream ∙ ap (λ (z : Option Offer). to_come header z g back) h)
+offered_now header xs ks n x g c o coming back e h s = grind (arith, nat_tests, offered_offer)
 
 -- its meeting offer arrives and is held
 pub turn_held : (header : Header) (Good : ℕ → Going → Type 0) (ks : List MeetKind) (n q k : ℕ) (x : Client) (g : Going) (c : ℕ) (o : Offer) (kind : MeetKind) (coming : List RankItem) (back : List OwnerItem)
     → x.ended ≡ None → x.held ≡ None → o.kind ≡ offer.Meet kind → IsPaired header Good ks n x g (item.Offer c o ∷ coming) back
     → Turn header Good ks n q k k x g (client_held x o) g coming back [] []
-turn_held header Good ks n q k x g c o kind coming back e h m s = record {
-  paired_at = record {
-    stream = ap (λ (z : Option Bool). ended_item z ++ coming) e ∙ now.after;
-    waits = λ o' f. (now.is ∙ f, (kind, ap (λ (z : Offer). z.kind) (sym (some_is o o' f)) ∙ m));
-    kind_list = s.kind_list;
-    good = s.good;
-  };
-  ends = ap (λ (z : Option Offer). client_end header z g back) h ∙ by (advance header g) now.is;
-  stops = ap (λ (z : Option Offer). client_stop header z g back) h ∙ by_stop (advance header g) now.is;
-  in_order = refl;
-}
-  where
-    now : Offered header (advance header g) back c o coming
-    now = offered_now header Good ks n x g c o coming back e h s
-
-    some_is : (a b : Offer) → Some a ≡ Some b → a ≡ b
-    some_is a b f = cc
-
-    by : (p : Going × Option Offer) → p.1 ≡ Some o → end_by header p back ≡ waiting_end header p.0 o back
-    by (g', None) f = cc
-    by (g', Some o') f = let a : o' ≡ o = cc in ap (λ (z : Offer). waiting_end header g' z back) a
-
-    by_stop : (p : Going × Option Offer) → p.1 ≡ Some o → stop_by header p back ≡ waiting_stop header p.0 o back
-    by_stop (g', None) f = cc
-    by_stop (g', Some o') f = let a : o' ≡ o = cc in ap (λ (z : Offer). waiting_stop header g' z back) a
+turn_held header xs ks n q k x g c o kind coming back e h m s = grind (arith, nat_tests, offered_now)
 
 -- ---- a reply
 

@@ -15,13 +15,7 @@ rest_solo r k zero m xs e h = and_from _ _ e h
 rest_solo r k (suc n) m xs e h = (m ∷ h.0, h.1, ap (λ (ys : List Mark). m ∷ ys) h.2, and_from _ _ e h.3, h.4)
 
 pub collective_kind : (c : Call) → is_collective c ≡ is_some (kind_of_call c)
-collective_kind (call.Put true name given vs) = refl
-collective_kind (call.Put false name given vs) = refl
-collective_kind (call.Get true name given) = refl
-collective_kind (call.Get false name given) = refl
-collective_kind (call.Wait true ch) = refl
-collective_kind (call.Wait false ch) = refl
-collective_kind c = refl
+collective_kind c = grind (arith, nat_tests)
 
 marks_rest : (r c k : ℕ) (ind : Bool) (calls : List Call) → IsRest r k (length (kinds calls)) (marks_from r c k ind calls)
 marks_rest r c k ind [] = refl
@@ -66,9 +60,7 @@ Left r k n met rest = (m : ℕ) × (met + m ≡ n) × IsRest r (k + met) m rest
 
 rest_after : (p rest : List Mark) (r k n : ℕ) → IsRest r k n (p ++ rest) → Left r k n (meetings p) rest
 rest_after [] rest r k n h = (n, omega arith, (let e : k ≡ k + 0 = omega arith in subst (λ (j : ℕ). IsRest r j n rest) e h))
-rest_after (m ∷ p) rest r k zero h =
-    let e : meetings (m ∷ p) ≡ meetings p = meetings_solo r m p (and_first _ _ h) in
-    subst (λ (j : ℕ). Left r k zero j rest) (sym e) (rest_after p rest r k zero (and_second (is_solo_of r m) _ h))
+rest_after (m ∷ p) rest r k zero h = grind (arith, nat_tests, rest_after p rest r k zero (and_second (is_solo_of r m) _ h), meetings_solo, and_first, and_second)
 rest_after (m ∷ p) rest r k (suc n) h =
     by_front h.0 h.2 h.3 (λ i. rest_after p rest r (suc k) n i) (λ i. rest_after p rest r k (suc n) i)
   where
@@ -94,17 +86,12 @@ rest_after (m ∷ p) rest r k (suc n) h =
 own_kept : (r : ℕ) (xs : List Mark) → list_all (is_solo_of r) xs ≡ true → filter (concerns r) xs ≡ xs
 own_kept r [] h = refl
 own_kept r (Meet k ∷ xs) h = cc
-own_kept r (Solo q n ∷ xs) h =
-    ap (λ (b : Bool). cond b (Solo q n ∷ filter (concerns r) xs) (filter (concerns r) xs)) (and_first (q == r) _ h)
-    ∙ ap (λ (ys : List Mark). Solo q n ∷ ys) (own_kept r xs (and_second (q == r) _ h))
+own_kept r (Solo q n ∷ xs) h = grind (arith, nat_tests, own_kept r xs (and_second (q == r) _ h), and_first, and_second)
 
 own_known : (s ranks : ℕ) (xs : List Mark) → s < ranks → list_all (is_solo_of s) xs ≡ true → list_all (is_of_rank_below ranks) xs ≡ true
 own_known s ranks [] l h = refl
 own_known s ranks (Meet k ∷ xs) l h = cc
-own_known s ranks (Solo q c ∷ xs) l h =
-    let same : q ≡ s = eqb-true _ _ (and_first (q == s) _ h) in
-    let low : nat_lt s ranks ≡ true = grind (arith, nat_tests) in
-    and_from _ _ (ap (λ (j : ℕ). nat_lt j ranks) same ∙ low) (own_known s ranks xs l (and_second (q == s) _ h))
+own_known s ranks (Solo q c ∷ xs) l h = grind (arith, nat_tests, own_known s ranks xs l (and_second (q == s) _ h), eqb-true, and_first, and_from, and_second)
 
 record AreSolos (m ranks : ℕ) (fronts : ℕ → List Mark) : Type 0 where
   pub all : List Mark
@@ -148,10 +135,7 @@ record AreLast (ranks : ℕ) (rests : ℕ → List Mark) : Type 0 where
   pub own : (r : ℕ) → r < ranks → filter (concerns r) later ≡ rests r
 
 last_of : (n k ranks : ℕ) (rests : ℕ → List Mark) → ((r : ℕ) → IsRest r k n (rests r)) → AreLast ranks rests
-last_of zero k ranks rests h = ended (solos_of ranks ranks rests h (omega arith))
-  where
-    ended : AreSolos ranks ranks rests → AreLast ranks rests
-    ended s = record { later = s.all; known = s.known; own = s.own }
+last_of zero k ranks rests h = grind (arith, nat_tests, solos_of ranks ranks rests h (omega arith))
 last_of (suc n) k ranks rests h =
     met (solos_of ranks ranks (λ r. (h r).0) (λ r. (h r).3) (omega arith)) (last_of n (suc k) ranks (λ r. (h r).1) (λ r. (h r).4))
   where
@@ -251,5 +235,4 @@ pub completed_by : (script : Script) (order : List Mark) (m : Mark) → is_lawfu
     → ((r : ℕ) → r < script.ranks → (rest : List Mark) × (filter (concerns r) (order ++ m ∷ []) ++ rest ≡ marks script.calls r))
     → (later : List Mark) × IsLegal script (order ++ m ∷ later)
 completed_by script order m lawful known each =
-    let c = completed script (order ++ m ∷ []) lawful known each in
-    (c.0, subst (λ (xs : List Mark). IsLegal script xs) (append_assoc order (m ∷ []) c.0) c.1)
+    grind (arith, nat_tests, completed script (order ++ m ∷ []) lawful known each, append_assoc order (m ∷ []) (completed script (order ++ m ∷ []) lawful known each).0)

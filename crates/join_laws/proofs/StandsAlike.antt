@@ -1,5 +1,5 @@
 -- Runs over files that differ in their bytes, step by step: ranks beside one another, and ends that are alike.
-use Rattle.join_laws.proofs.Words.{◌≡◌, ℕ, zero, suc, ◌+◌, refl, sym, ◌∙◌, ap, subst, List, [], ◌∷◌, map, set, Option, Some, None, slice_get, flat_map, fold, take, zip, enumerate_from, Header, Call, Script, Mark, Meet, Solo, Offer, Setting, Counted, get_post, meeting, puts_of, raised, solo, told, greatest, pending, told_of, Going, End, advance, close_by, count_after, first_state, hears, offers_of, serial_from, setting_of, state_after, Arrived, Stand, ended_from, first_stand, heard, solo_to, step_to, arrival_steps, first_up, gone_up, serial_of_arrivals, blank, AllBeside, AreAlikeEnds, AreBeside, IsLike, TellAlike}
+use Rattle.join_laws.proofs.Words.{◌≡◌, ℕ, zero, suc, ◌+◌, refl, sym, ◌∙◌, ap, subst, List, [], ◌∷◌, map, set, Option, Some, None, slice_get, flat_map, fold, take, zip, enumerate_from, Header, Call, Script, Mark, Meet, Solo, Offer, Setting, Counted, get_post, meeting, puts_of, solo, told, pending, told_of, Going, End, advance, close_by, count_after, first_state, hears, offers_of, serial_from, setting_of, state_after, Arrived, Stand, ended_from, first_stand, heard, solo_to, step_to, arrival_steps, first_up, gone_up, serial_of_arrivals, blank, AllBeside, AreAlikeEnds, AreBeside, IsLike, TellAlike, arith, nat_tests}
 use Rattle.nc_base.specs.declared.step.Reply as reply
 use Rattle.join_laws.proofs.AlikeLaws.{advance_beside, hears_near, same_near}
 use Rattle.join_laws.proofs.OwnerAlikeLaws.{meeting_records, raised_records, solo_alike}
@@ -24,9 +24,7 @@ pub offers_beside : (one other : List Arrived) → AllBeside one other → offer
 offers_beside [] [] w = refl
 offers_beside [] (q ∷ other) w = absurd w
 offers_beside (p ∷ one) [] w = absurd w
-offers_beside (p ∷ one) (q ∷ other) w =
-    let again = offers_beside one other w.1 in
-    offers_first p one ∙ (λ i. before_others (w.0.1 i) (again i)) ∙ sym (offers_first q other)
+offers_beside (p ∷ one) (q ∷ other) w = grind (arith, nat_tests, offers_beside one other w.1, offers_first)
 
 abbrev BesideAt : Option Arrived → Option Arrived → Type 0
 BesideAt None None = Unit {0}
@@ -173,12 +171,7 @@ answers_beside (p ∷ one) (q ∷ other) w = let again = answers_beside one othe
 
 pub close_alike : (s : Setting) (x : Stand) (c : Counted) (ranks : List Arrived) → IsLike x c.records ranks
     → AreAlikeEnds (close_by s x.0 (map (λ (a : Arrived). a.0) x.1)) (close_by s c (map (λ (a : Arrived). a.0) ranks))
-close_alike s x c ranks w = record {
-  records = raised_records s x.0 c (greatest (map (λ (g : Going). g.rank.known) (map (λ (a : Arrived). a.0) x.1))) w.records
-      ∙ ap (λ (ks : List ℕ). (raised s c (greatest ks)).records) (known_beside x.1 ranks w.beside);
-  answers = answers_beside x.1 ranks w.beside;
-  pending = pending_beside x.1 ranks w.beside;
-}
+close_alike s x c ranks w = grind (arith, nat_tests, raised_records, known_beside, answers_beside, pending_beside)
 
 -- ---- a run
 
@@ -214,5 +207,4 @@ counts_same f g e [] = refl
 counts_same f g e (m ∷ marks) = let first = e (m.0 + 1) in let others = counts_same f g e marks in λ i. (m.1, first i) ∷ others i
 
 pub told_alike : (script : Script) (header : Header) (file other : List ℕ) (order : List Mark) → told_of script header file order ≡ told_of script header other order
-told_alike script header file other order =
-    counts_same (count_after script header file order) (count_after script header other order) (count_alike script header file other order) (enumerate_from 0 order)
+told_alike script header file other order = grind (arith, nat_tests, counts_same, count_alike)
