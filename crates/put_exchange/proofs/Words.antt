@@ -25,7 +25,7 @@ pub use Rattle.exchange_crew.proofs.BackLaws.{and_failed, and_first_ok, and_seco
 pub use Rattle.exchange_crew.proofs.CrewLaws.{AreOf, all_of, crew_domains, crew_each, crew_parts, some_of, workers_few}
 pub use Rattle.exchange_crew.proofs.OneChanged.{each_twice, fewer_all, no_more_all}
 pub use Rattle.exchange_crew.proofs.PlanLaws.{plan_on, plan_turns, plan_windows}
-pub use Rattle.exchange_crew.proofs.SplitLaws.{first_parts, parts_behind, some_first, some_second, zip_joined}
+pub use Rattle.exchange_crew.proofs.SplitLaws.{domains_behind, failed_joined, first_parts, parts_behind, zip_joined}
 pub use Rattle.exchange_crew.proofs.TurnLaws.{at_begin, at_next, turn_end, turn_in, due_now, in_served, served_are, served_covered, served_ends, served_in, served_now, turn_limit}
 pub use Rattle.exchange_crew.specs.Cursor.{AreInFront, AreServed, IsAt}
 pub use Rattle.exchange_crew.specs.Hulls.{AreTurns, HaveWindows, IsTurn, LieOnPart}

@@ -1,6 +1,6 @@
 -- The first parts came back from helpers, and those behind them were served in turn.
-use Rattle.put_exchange.proofs.Words.{◌≡◌, ◌+◌, ◌-◌, ◌∙◌, ℕ, List, sym, ap, subst, length, take, drop, vec_capacity, Result, rules, arith, common_steps, length-drop, take_rest, zip, IsErrOf, AllZip, Extent, Rose, DiskErr, Failed, planned_turns, source_in, part_state, HasPut}
-use Rattle.put_exchange.proofs.SplitPuts.{domains_behind, failed_joined, put_joined}
+use Rattle.put_exchange.proofs.Words.{◌≡◌, ◌+◌, ◌-◌, ◌∙◌, ℕ, List, sym, ap, subst, length, take, drop, vec_capacity, Result, rules, arith, common_steps, length-drop, take_rest, zip, IsErrOf, AllZip, Extent, Rose, DiskErr, Failed, planned_turns, source_in, part_state, HasPut, domains_behind, failed_joined}
+use Rattle.put_exchange.proofs.SplitPuts.{put_joined}
 use Rattle.put_exchange.proofs.exchange.put_helped.Goals as goal
 
 pub put_in_turn-others-requires-clause-domains : goal.put_in_turn-others-requires-clause-domains
