@@ -1,22 +1,7 @@
 -- The first parts, which helpers read, and those behind them, which are read in turn.
-use Rattle.get_exchange.proofs.Words.{◌≡◌, ℕ, zero, suc, ◌+◌, inl, inr, sym, ◌∙◌, ap, subst, List, [], ◌∷◌, ◌++◌, length, take, drop, Option, Some, Result, Ok, Err, arith, map-append, AllZip-long, length-zip, slice_get, zip, IsErrOf, OnOk, AllZip, result_and, Extent, Owned, DiskErr, Failed, In, in_either, in_left, in_right, get_turns, HasGot, told_in, HasReadParts, IsDomainOf, PartState, SomeZip, Told, GetPlan, and_failed, and_first_ok, and_second_ok, some_first, some_second, zip_joined, zip_split}
+use Rattle.get_exchange.proofs.Words.{◌≡◌, ℕ, ◌+◌, inl, inr, sym, ◌∙◌, ap, subst, List, [], ◌∷◌, ◌++◌, length, take, drop, Option, Some, Result, Ok, Err, arith, map-append, AllZip-long, length-zip, slice_get, zip, OnOk, AllZip, result_and, Extent, DiskErr, In, in_either, in_left, in_right, get_turns, HasGot, told_in, HasReadParts, PartState, Told, GetPlan, and_first_ok, and_second_ok, zip_joined, zip_split}
 use Rattle.get_exchange.proofs.PartReads.{all_got_later}
 use Rattle.get_exchange.proofs.ReadLaws.{log_joined}
-
--- ---- where they lie
-
-behind_at : {X : Type 0} (n : ℕ) (xs : List X) (k : ℕ) (x : X) → slice_get (drop n xs) k ≡ Some x → slice_get xs (n + k) ≡ Some x
-behind_at zero xs k x e = let same : zero + k ≡ k = omega arith in ap (λ (i : ℕ). slice_get xs i) same ∙ e
-behind_at (suc n) [] k x e = absurd cc
-behind_at (suc n) (y ∷ xs) k x e = let same : suc n + k ≡ suc (n + k) = omega arith in ap (λ (i : ℕ). slice_get (y ∷ xs) i) same ∙ behind_at n xs k x e
-
-pub domains_behind : {D : Type 0} (from len : D → ℕ) (list : List Owned) (n : ℕ) (parts rest : List D) (domains more : List Extent) → rest ≡ drop n parts → more ≡ drop n domains
-    → ((k : ℕ) (part : D) (domain : Extent) → slice_get parts k ≡ Some part → slice_get domains k ≡ Some domain → IsDomainOf list (from part) (len part) domain)
-    → (k : ℕ) (part : D) (domain : Extent) → slice_get rest k ≡ Some part → slice_get more k ≡ Some domain → IsDomainOf list (from part) (len part) domain
-domains_behind {D} from len list n parts rest domains more behind later each k part domain e f =
-    each (n + k) part domain
-    (behind_at n parts k part (subst (λ (ps : List D). slice_get ps k ≡ Some part) behind e))
-    (behind_at n domains k domain (subst (λ (ds : List Extent). slice_get ds k ≡ Some domain) later f))
 
 -- as many parts come back as were read
 pub back_long : {A B C : Type 0} (Q : A × B → C → Type 0) (xs : List A) (ds : List B) (ys : List C) → length ds ≡ length xs → AllZip Q (zip xs ds) ys → length ys ≡ length xs
@@ -47,15 +32,6 @@ got_joined {D} plan state parts rest domains more back others whole end came lon
 
     pairs : zip rest more ≡ zip (drop (length back) parts) (drop (length back) domains)
     pairs = ap (λ (ps : List D). zip ps more) behind ∙ ap (λ (ds : List Extent). zip (drop (length back) parts) ds) later
-
-pub failed_joined : {D T : Type 0} (R : D → D → Type 0) (parts rest back others whole : List D) (end came : Result T DiskErr) → rest ≡ drop (length back) parts → whole ≡ back ++ others
-    → (IsErrOf end Failed → SomeZip R (take (length back) parts) back) → (IsErrOf came Failed → SomeZip R rest others) → IsErrOf (result_and end came) Failed → SomeZip R parts whole
-failed_joined {D} R parts rest back others whole end came behind all first second f =
-    subst (λ (ds : List D). SomeZip R parts ds) (sym all)
-    (elim (and_failed end came f) [
-      | inl e ↦ some_first R (length back) parts back others (first e)
-      | inr e ↦ some_second R parts back others (subst (λ (ps : List D). SomeZip R ps others) behind (second e))
-    ])
 
 parts_both : {D : Type 0} (from : D → ℕ) (held : D → Option (List ℕ)) (plan : GetPlan) (pairs more : List (D × Extent)) (old mid now : List (List (List ℕ)))
     → HasReadParts from held plan pairs old mid → HasReadParts from held plan more mid now → HasReadParts from held plan (pairs ++ more) old now

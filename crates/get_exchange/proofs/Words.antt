@@ -21,7 +21,7 @@ pub use Rattle.exchange_crew.proofs.BackLaws.{and_failed, and_first_ok, and_seco
 pub use Rattle.exchange_crew.proofs.CrewLaws.{AreOf, all_of, crew_domains, crew_each, crew_parts, each_joined, some_of, workers_few}
 pub use Rattle.exchange_crew.proofs.DomainTurns.{domain_part, domain_turns, domain_windows}
 pub use Rattle.exchange_crew.proofs.OneChanged.{fewer_all, set_each}
-pub use Rattle.exchange_crew.proofs.SplitLaws.{first_parts, parts_behind, some_first, some_second, zip_joined, zip_split}
+pub use Rattle.exchange_crew.proofs.SplitLaws.{domains_behind, failed_joined, first_parts, parts_behind, some_first, some_second, zip_joined, zip_split}
 pub use Rattle.exchange_crew.proofs.TurnLaws.{at_begin, at_next, due_now, front_carried, in_served, left_ends, left_filled, left_sorted, served_ends, served_in, served_now, turn_limit}
 pub use Rattle.exchange_crew.specs.Cursor.{AreInFront, AreServed, IsAt}
 pub use Rattle.exchange_crew.specs.Hulls.{AreTurns, LieOnPart}

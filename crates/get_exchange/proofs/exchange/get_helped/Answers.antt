@@ -1,7 +1,7 @@
 -- The first parts came back from helpers, and those behind them were read in turn.
-use Rattle.get_exchange.proofs.Words.{◌≡◌, ◌-◌, ◌∙◌, ℕ, List, sym, ap, subst, length, take, drop, Result, rules, arith, common_steps, length-drop, take_rest, zip, IsErrOf, OnOk, AllZip, Extent, Rose, DiskErr, Failed, part_state, get_turns, HasGot, HasReadParts}
+use Rattle.get_exchange.proofs.Words.{◌≡◌, ◌-◌, ◌∙◌, ℕ, List, sym, ap, subst, length, take, drop, Result, rules, arith, common_steps, length-drop, take_rest, zip, IsErrOf, OnOk, AllZip, Extent, Rose, DiskErr, Failed, part_state, get_turns, HasGot, HasReadParts, domains_behind, failed_joined}
 use Rattle.get_exchange.proofs.CollectLaws.{fit_as_long}
-use Rattle.get_exchange.proofs.SplitReads.{back_long, domains_behind, failed_joined, got_joined, parts_joined}
+use Rattle.get_exchange.proofs.SplitReads.{back_long, got_joined, parts_joined}
 use Rattle.get_exchange.proofs.exchange.get_helped.Goals as goal
 
 pub get_in_turn-others-requires-clause-domains : goal.get_in_turn-others-requires-clause-domains
