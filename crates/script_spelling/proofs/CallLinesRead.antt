@@ -1,5 +1,5 @@
 -- The lines of calls that are read spell them, and each rank has the calls of its lines.
-use Rattle.script_spelling.proofs.Words.{◌≡◌, ◌∙◌, ℕ, zero, suc, ◌+◌, ◌<◌, List, [], ◌∷◌, ◌++◌, map, length, replicate, Bool, true, false, cond, nat_lt, ◌==◌, Some, None, slice_set, Result, Ok, Err, refl, sym, ap, subst, append_assoc, append-nil, length-set, arith, bytes_eq, codes, AllZip, cons_option, list_all, range_with_len, and_from, lt-ltb, ltb-true, eq-eqb, ne_eqb, ScriptKind, ScriptErr, Call, Word, Plain, Quoted, Broken, Line, begins_rank, digits_value, ◌>>=◌, next, whole, Called, calls_of, rank_of_text, with_call, call_line, called_after, at_line, call_step, data_part, went, same_ok, whole_value, bytes_same, line_ok, data_by, SpellsCallLine, calls_in}
+use Rattle.script_spelling.proofs.Words.{◌≡◌, ◌∙◌, ℕ, zero, suc, ◌+◌, ◌<◌, List, [], ◌∷◌, ◌++◌, map, length, replicate, Bool, true, false, cond, nat_lt, ◌==◌, Some, None, slice_set, Result, Ok, Err, refl, sym, ap, subst, append_assoc, append-nil, length-set, arith, bytes_eq, codes, AllZip, cons_option, list_all, range_with_len, and_from, lt-ltb, ltb-true, eq-eqb, ne_eqb, ScriptKind, ScriptErr, Call, Word, Plain, Quoted, Broken, Line, begins_rank, digits_value, ◌>>=◌, next, whole, Called, calls_of, rank_of_text, with_call, call_line, called_after, at_line, call_step, data_part, went, same_ok, whole_value, bytes_same, line_ok, data_by, SpellsCallLine, calls_in, nat_tests}
 use Rattle.nc_base.specs.declared.errors.ScriptKind.TheVariants as kind
 use Rattle.script_spelling.proofs.CallsRead.{call_spelled}
 
@@ -30,30 +30,17 @@ elsewhere r k c more low = ap (λ (b : Bool). cons_option (cond b (Some c) None)
 
 all_later : (r a : ℕ) (c : Call) (more : ℕ → List Call) (calls : List (List Call)) → r < a → with_calls more a calls ≡ with_calls (first_of r c more) a calls
 all_later r a c more [] low = refl
-all_later r a c more (own ∷ calls) low =
-    ap (λ (xs : List Call). (own ++ xs) ∷ with_calls more (a + 1) calls) (sym (elsewhere r a c more low))
-    ∙ ap (λ (xs : List (List Call)). (own ++ first_of r c more a) ∷ xs) (all_later r (a + 1) c more calls (omega arith))
+all_later r a c more (own ∷ calls) low = grind (arith, nat_tests, all_later r (a + 1) c more calls (omega arith), elsewhere)
 
 pub one_first : (more : ℕ → List Call) (a i r : ℕ) (c : Call) (calls : List (List Call)) → a + i ≡ r → with_calls more a (slice_set calls i (calls_of i calls ++ c ∷ [])) ≡ with_calls (first_of r c more) a calls
 one_first more a i r c [] e = refl
-one_first more a zero r c (own ∷ calls) e =
-    ap (λ (xs : List Call). xs ∷ with_calls more (a + 1) calls) (append_assoc own (c ∷ []) (more a) ∙ ap (λ (xs : List Call). own ++ xs) (sym (here r a c more (omega arith))))
-    ∙ ap (λ (xs : List (List Call)). (own ++ first_of r c more a) ∷ xs) (all_later r (a + 1) c more calls (omega arith))
-one_first more a (suc i) r c (own ∷ calls) e =
-    let other : (r == a) ≡ false = ne_eqb r a (λ k. omega arith) in
-    ap (λ (b : Bool). (own ++ cons_option (cond b (Some c) None) (more a)) ∷ with_calls more (a + 1) (slice_set calls i (calls_of i calls ++ c ∷ []))) (sym other)
-    ∙ ap (λ (xs : List (List Call)). (own ++ first_of r c more a) ∷ xs) (one_first more (a + 1) i r c calls (omega arith))
+one_first more a zero r c (own ∷ calls) e = grind (arith, nat_tests, append_assoc, here, all_later)
+one_first more a (suc i) r c (own ∷ calls) e = grind (arith, nat_tests, one_first more (a + 1) i r c calls (omega arith), ne_eqb, slice_set)
 
 -- ---- a line
 
 rank_is : (ranks : ℕ) (w : List ℕ) (r : ℕ) → rank_of_text ranks w ≡ Ok r → (begins_rank w ≡ true) × (digits_value w ≡ r) × (r < ranks)
-rank_is ranks w r h = by (begins_rank w) (nat_lt (digits_value w) ranks) refl refl h
-  where
-    by : (a b : Bool) → begins_rank w ≡ a → nat_lt (digits_value w) ranks ≡ b → cond {A = Result ℕ ScriptKind} a (cond b (Ok (digits_value w)) (Err kind.BadRank)) (Err kind.UnknownWord) ≡ Ok r
-        → (begins_rank w ≡ true) × (digits_value w ≡ r) × (r < ranks)
-    by true true e f k = let same = same_ok (digits_value w) r k in (e, same, subst (λ (x : ℕ). x < ranks) same (ltb-true (digits_value w) ranks f))
-    by true false e f k = absurd (cc)
-    by false b e f k = absurd (cc)
+rank_is ranks w r h = grind (arith, nat_tests, nat_lt, same_ok, ltb-true)
 
 -- the words behind a rank spell a call of its
 abbrev SpellsRest : List Word → ℕ → Call → Type 0
@@ -63,9 +50,7 @@ rest_spelled : (d : Called) (r : ℕ) (ws : List Word) (c : Call) → call_line 
 rest_spelled d r [] c h w a b = absurd (cc)
 rest_spelled d r (Broken ∷ ws) c h w a b = absurd (cc)
 rest_spelled d r (Quoted text ∷ ws) c h w a b = absurd (cc)
-rest_spelled d r (Plain word ∷ ws) c h w a b =
-    let k = call_spelled (length d.calls) r (calls_of r d.calls) d.values word ws c h in
-    (w, ws, ap (λ (x : List ℕ). Plain w ∷ Plain x ∷ ws) k.0, a, b, k.1)
+rest_spelled d r (Plain word ∷ ws) c h w a b = grind (arith, nat_tests, call_spelled (length d.calls) r (calls_of r d.calls) d.values word ws c h)
 
 pub record CallTaken (d : Called) (words : List Word) (next : Called) : Type 0 where
   pub rank : ℕ

@@ -1,5 +1,5 @@
 -- Lines that spell the calls of a lawful script are read as its calls.
-use Rattle.script_spelling.proofs.Words.{◌≡◌, ◌∙◌, ℕ, zero, suc, ◌+◌, ◌<◌, ◌≤◌, List, [], ◌∷◌, ◌++◌, map, drop, length, Bool, true, false, nat_lt, Some, slice_get, Result, Ok, Err, refl, sym, ap, subst, length-set, arith, bytes_eq, codes, AllZip, list_all, enumerate_from, and_parts, cond-true, lt-ltb, ltb-true, list_all-append, passes_at, first_same, entry_numbered, ScriptKind, Call, most_values, is_lawful_call, values_in_call, posted_ids, are_different, call_word, Word, Plain, Line, begins_rank, digits_value, Called, calls_of, rank_of_text, with_call, call_line, call_of, called_after, at_line, call_step, data_part, go_on, by_false, bytes_same, count, count_all, count_set, data_by, NewId, SpellsCall, SpellsCallLine, calls_in}
+use Rattle.script_spelling.proofs.Words.{◌≡◌, ◌∙◌, ℕ, zero, suc, ◌+◌, ◌<◌, ◌≤◌, List, [], ◌∷◌, ◌++◌, map, drop, length, Bool, true, false, nat_lt, Some, slice_get, Result, Ok, Err, refl, sym, ap, subst, length-set, arith, bytes_eq, codes, AllZip, list_all, enumerate_from, and_parts, cond-true, lt-ltb, ltb-true, list_all-append, passes_at, first_same, entry_numbered, ScriptKind, Call, most_values, is_lawful_call, values_in_call, posted_ids, are_different, call_word, Word, Plain, Line, begins_rank, digits_value, Called, calls_of, rank_of_text, with_call, call_line, call_of, called_after, at_line, call_step, data_part, go_on, by_false, bytes_same, count, count_all, count_set, data_by, NewId, SpellsCall, SpellsCallLine, calls_in, nat_tests}
 use Rattle.nc_base.specs.declared.errors.ScriptKind.TheVariants as kind
 use Rattle.script_text.proofs.ExpressedCalls.{new_id}
 use Rattle.script_spelling.proofs.CallLinesRead.{with_calls, no_more, here, one_first, words_of}
@@ -13,10 +13,7 @@ count_more (c ∷ cs) more = let rest = count_more cs more in omega arith
 
 count_with : (more : ℕ → List Call) (a : ℕ) (calls : List (List Call)) → count_all calls ≤ count_all (with_calls more a calls)
 count_with more a [] = omega arith
-count_with more a (own ∷ calls) =
-    let first = count_more own (more a) in
-    let rest = count_with more (a + 1) calls in
-    omega arith
+count_with more a (own ∷ calls) = grind (arith, nat_tests, count_with more (a + 1) calls, count_more)
 
 -- ---- what holds of the calls of all ranks, and of those that have been read
 
@@ -63,18 +60,11 @@ no_end w h = by (bytes_eq w (codes "end")) refl
     by true e = let digits : begins_rank (codes "end") ≡ true = subst (λ (x : List ℕ). begins_rank x ≡ true) (bytes_same w (codes "end") e) h in absurd (cc)
 
 rank_told : (ranks r : ℕ) (w : List ℕ) → begins_rank w ≡ true → digits_value w ≡ r → r < ranks → rank_of_text ranks w ≡ Ok r
-rank_told ranks r w digits same low =
-    cond-true _ _ _ digits ∙ (cond-true _ _ _ (ap (λ (n : ℕ). nat_lt n ranks) same ∙ lt-ltb r ranks low) ∙ ap (λ (n : ℕ). Ok n) same)
+rank_told ranks r w digits same low = grind (arith, nat_tests, cond-true, nat_lt, lt-ltb)
 
 module _ (ranks base r : ℕ) (all : List (List Call)) (later : List (ℕ × Call)) (c : Call) (d : Called) where
   going_on : r < ranks → Going ranks base all ((r, c) ∷ later) d → Going ranks base all later (with_call r c d)
-  going_on low going =
-      let there : r < length d.calls = omega (arith, going.long) in
-      record {
-        calls = one_first (λ k. calls_in k later) 0 r r c d.calls (omega arith) ∙ going.calls;
-        long = length-set d.calls r (calls_of r d.calls ++ c ∷ []) ∙ going.long;
-        counted = omega (arith, going.counted, count_set d.calls r c there);
-      }
+  going_on low going = grind (arith, nat_tests, one_first, length-set, count_set)
 
   called_told : (w : List ℕ) (more : List Word) → LawfulCalls ranks base all → Going ranks base all ((r, c) ∷ later) d → r < ranks → begins_rank w ≡ true → digits_value w ≡ r → SpellsCall more c
       → called_after d w (Plain (call_word c) ∷ more) ≡ Ok (with_call r c d)
@@ -100,10 +90,7 @@ step_by d ws = elim ws [ [] ↦ Err kind.MissingWord | w ∷ more ↦ call_step 
 step_told : (ranks base r : ℕ) (all : List (List Call)) (later : List (ℕ × Call)) (c : Call) (d : Called) (ws : List Word) → LawfulCalls ranks base all → Going ranks base all ((r, c) ∷ later) d → r < ranks → SpellsCallLine ws (r, c)
     → step_by d ws ≡ Ok (false, with_call r c d)
 step_told ranks base r all later c d ws lawful going low (w, more, are, digits, same, h) =
-    let rest = Plain (call_word c) ∷ more in
-    ap (step_by d) are
-    ∙ (by_false (bytes_eq w (codes "end")) _ _ (no_end w digits)
-    ∙ go_on (called_after d w rest) (λ x. Ok (false, x)) (with_call r c d) (false, with_call r c d) (called_told ranks base r all later c d w more lawful going low digits same h) refl)
+    grind (arith, nat_tests, bytes_eq w (codes "end"), no_end w digits, called_told ranks base r all later c d w more lawful going low digits same h, by_false, codes, go_on)
 
 -- ---- all lines
 

@@ -1,5 +1,5 @@
 -- The words of calls that are read spell them, and each rank has the calls of its lines.
-use Rattle.script_spelling.proofs.Words.{◌≡◌, ◌∙◌, ℕ, ◌-◌, List, [], ◌∷◌, ◌++◌, take, drop, length, Bool, true, false, Option, Some, None, option_map, Result, Ok, refl, sym, ap, subst, append-nil, bytes_eq, codes, take-append-drop, cond_some, found_passes, faultless_some, ScriptKind, Values, Numbers, Form, PostKind, Iput, Iget, Bput, Choice, Every, Listed, Given, Call, call_word, form_word, kind_word, with_all, Word, Plain, Quoted, Broken, is_word, ◌>>=◌, refuse_if, or_fault, reads_as, size, name, ended, whole, values, after_prefix, before_suffix, forms, form_of_text, form_and_all, region, id_of_text, one_id, ids, choice, posted, is_posted, new_id, put_call, get_call, post_values, post_call, behind, row_call, plain_call, post_of_text, call_of, Family, Requests, Size, Name, Record, Nothing, Behind, CallRow, call_table, row_of_text, HasNoRegion, IsRow, found_row, made_word, went, same_ok, is_end, whole_value, carried, bytes_same, Each, SpellsPosted, SpellsChoice, SpellsPlace, SpellsBehind, SpellsInRow, SpellsPlain, SpellsCall, some_of_map}
+use Rattle.script_spelling.proofs.Words.{◌≡◌, ◌∙◌, ℕ, ◌-◌, List, [], ◌∷◌, ◌++◌, take, drop, length, Bool, true, false, Option, Some, None, option_map, Result, Ok, refl, sym, ap, subst, append-nil, bytes_eq, codes, take-append-drop, cond_some, found_passes, faultless_some, ScriptKind, Values, Numbers, Form, PostKind, Iput, Iget, Bput, Choice, Every, Listed, Given, Call, call_word, form_word, kind_word, with_all, Word, Plain, Quoted, Broken, is_word, ◌>>=◌, refuse_if, or_fault, reads_as, size, name, ended, whole, values, after_prefix, before_suffix, forms, form_of_text, form_and_all, region, id_of_text, one_id, ids, choice, posted, is_posted, new_id, put_call, get_call, post_values, post_call, behind, row_call, plain_call, post_of_text, call_of, Family, Requests, Size, Name, Record, Nothing, Behind, CallRow, call_table, row_of_text, HasNoRegion, IsRow, found_row, made_word, went, same_ok, is_end, whole_value, carried, bytes_same, Each, SpellsPosted, SpellsChoice, SpellsPlace, SpellsBehind, SpellsPlain, SpellsCall, some_of_map, arith, nat_tests}
 use Rattle.nc_base.specs.declared.errors.ScriptKind.TheVariants as kind
 use Rattle.nc_base.specs.declared.request.Call.TheVariants as call
 use Rattle.script_spelling.proofs.WordsRead.{WordRead, word_is, one_is, name_is, size_is}
@@ -45,17 +45,7 @@ get_word true f = refl
 get_word false f = refl
 
 post_word : (w : List ℕ) (r : PostKind × List ℕ) → post_of_text w ≡ Some r → w ≡ kind_word r.0 ++ r.1
-post_word w r h = by (after_prefix (codes "iput_") w) (after_prefix (codes "bput_") w) refl refl h
-  where
-    by : (i j : Option (List ℕ)) → after_prefix (codes "iput_") w ≡ i → after_prefix (codes "bput_") w ≡ j → elim i as (λ x. Option (PostKind × List ℕ)) [
-      | Some f ↦ Some (Iput, f)
-      | None ↦ elim j as (λ x. Option (PostKind × List ℕ)) [ Some f ↦ Some (Bput, f) | None ↦ option_map (λ f. (Iget, f)) (after_prefix (codes "iget_") w) ]
-    ] ≡ Some r → w ≡ kind_word r.0 ++ r.1
-    by (Some f) j a b k = let same : (Iput, f) ≡ r = cc in subst (λ (x : PostKind × List ℕ). w ≡ kind_word x.0 ++ x.1) same (prefixed (codes "iput_") w f a)
-    by None (Some f) a b k = let same : (Bput, f) ≡ r = cc in subst (λ (x : PostKind × List ℕ). w ≡ kind_word x.0 ++ x.1) same (prefixed (codes "bput_") w f b)
-    by None None a b k =
-        let m = some_of_map (λ (f : List ℕ). (Iget, f)) (after_prefix (codes "iget_") w) r k in
-        subst (λ (x : PostKind × List ℕ). w ≡ kind_word x.0 ++ x.1) m.2 (prefixed (codes "iget_") w m.0 m.1)
+post_word w r h = grind (arith, nat_tests, codes, option_map, prefixed, some_of_map)
 
 -- ---- what stands behind them
 
@@ -164,11 +154,7 @@ one_word w ws rest a b = a ∙ ap (λ (xs : List Word). Plain w ∷ xs) b
 
 behind_spelled : (f : Family) (ws : List Word) (b : Behind f) → behind f ws ≡ Ok b → SpellsBehind ws f b
 behind_spelled Requests ws c h = choice_spelled ws c h
-behind_spelled Size ws n h =
-    let a = went (size ws) whole n h in
-    let s = size_is ws a.value a.first in
-    let end = whole_value a.value n a.rest in
-    subst (SpellsBehind ws Size) end.0 (s.word, one_word s.word ws a.value.1 s.are end.1, s.says)
+behind_spelled Size ws n h = grind (arith, nat_tests, went, size_is, whole_value, one_word)
 behind_spelled Name ws n h =
     let a = went (name ws) whole n h in
     let s = name_is ws a.value a.first in
@@ -186,16 +172,10 @@ behind_spelled Nothing ws u h = (whole_value (tt, ws) u h).1
 
 -- a call that a row makes is spelled by what stands behind the row's word
 made_spelled : (row : CallRow) → IsRow row → (ranks r : ℕ) (b : Behind row.family) (ws : List Word) → SpellsBehind ws row.family b → SpellsPlain ws (row.made ranks r b)
-made_spelled row is ranks r b ws h =
-    let c = row.made ranks r b in
-    let in_row : SpellsInRow ws row c = subst (λ (o : Option (Behind row.family)). elim o as (λ _. Type 0) [ None ↦ ws ≡ [] | Some x ↦ SpellsBehind ws row.family x ]) (sym (is.again ranks r b)) h in
-    subst (λ (o : Option CallRow). elim o as (λ _. Type 0) [ None ↦ ws ≡ [] | Some x ↦ SpellsInRow ws x c ]) (sym (is.found ranks r b)) in_row
+made_spelled row is ranks r b ws h = grind (arith, nat_tests)
 
 apart_spelled : (c : Call) (ws : List Word) → HasNoRegion c → SpellsPlain ws c → SpellsCall ws c
-apart_spelled (call.Put all n g vs) ws apart h = absurd apart
-apart_spelled (call.Get all n g) ws apart h = absurd apart
-apart_spelled (call.Post id k n g vs) ws apart h = absurd apart
-apart_spelled _ ws apart h = h
+apart_spelled c ws apart h = grind (arith, nat_tests)
 
 plain_spelled : (ranks r : ℕ) (w : List ℕ) (ws : List Word) (c : Call) → plain_call ranks r w ws ≡ Ok c → IsCall w ws c
 plain_spelled ranks r w ws c h =

@@ -1,5 +1,5 @@
 -- Words that spell a lawful call are read as this call.
-use Rattle.script_spelling.proofs.Words.{◌≡◌, ◌∙◌, ℕ, ◌+◌, ◌≤◌, List, [], ◌∷◌, ◌++◌, Bool, true, false, Option, Some, None, Ok, refl, sym, ap, subst, append_assoc, append-nil, codes, and_parts, leb-true, count_of, Values, Numbers, Text, Bits, PostKind, Iput, Iget, Bput, Choice, Every, Listed, Given, Call, most_elements, most_values, is_given, are_values, is_post_of, is_lawful_call, values_in_call, call_word, Word, Plain, is_word, size_of_text, refuse_if, reads_as, size, name, whole, values, region, id_of_text, one_id, ids, choice, posted, is_posted, new_id, put_call, get_call, post_values, post_call, behind, call_of, Family, Requests, Size, Name, Record, Nothing, Behind, CallRow, HasNoRegion, IsRow, made_word, of_row, go_on, passed, faultless, word_read, carry_on, by_false, HasRoom, name_again, put_word, get_word, post_word, NewId, Each, SpellsPosted, SpellsChoice, SpellsPlace, SpellsBehind, SpellsInRow, SpellsPlain, SpellsCall}
+use Rattle.script_spelling.proofs.Words.{◌≡◌, ◌∙◌, ℕ, ◌+◌, ◌≤◌, List, [], ◌∷◌, ◌++◌, Bool, true, false, Option, Some, None, Ok, refl, sym, ap, subst, append_assoc, append-nil, codes, and_parts, leb-true, count_of, Values, PostKind, Iput, Iget, Bput, Choice, Every, Listed, Given, Call, most_elements, most_values, is_given, are_values, is_post_of, is_lawful_call, values_in_call, call_word, Word, Plain, size_of_text, size, name, whole, values, region, id_of_text, ids, choice, posted, is_posted, new_id, put_call, get_call, post_values, post_call, behind, call_of, Family, Requests, Size, Name, Record, Nothing, Behind, CallRow, HasNoRegion, IsRow, made_word, of_row, go_on, passed, faultless, word_read, carry_on, by_false, HasRoom, name_again, put_word, get_word, post_word, NewId, Each, SpellsPosted, SpellsChoice, SpellsPlace, SpellsBehind, SpellsInRow, SpellsPlain, SpellsCall, arith, nat_tests}
 use Rattle.nc_base.specs.declared.errors.ScriptKind.TheVariants as kind
 use Rattle.nc_base.specs.declared.request.Call.TheVariants as call
 use Rattle.script_spelling.proofs.ValuesTold.{other_word, values_told}
@@ -8,9 +8,7 @@ use Rattle.script_spelling.proofs.RegionsTold.{region_told}
 -- ---- the values of a call
 
 few_values : (vs : Values) → are_values vs ≡ true → count_of vs ≤ most_elements
-few_values (Numbers zs) h = leb-true _ _ (and_parts _ _ h).0
-few_values (Text text) h = leb-true _ _ h
-few_values (Bits ns) h = leb-true _ _ h
+few_values vs h = grind (arith, nat_tests, leb-true, and_parts)
 
 room_of : (before : ℕ) (vs : Values) → are_values vs ≡ true → before + count_of vs ≤ most_values → HasRoom None before (count_of vs)
 room_of before vs lawful few = record { all = few; own = λ none. few_values vs lawful }
@@ -34,26 +32,14 @@ put_told all n g before vs ws (place, last, are, (own, is, named, spelled), told
 
 get_told : (all : Bool) (n : List ℕ) (g : Given) (ws : List Word) → SpellsPlace ws n g → is_given g ≡ true → get_call all g.form ws ≡ Ok (call.Get all n g)
 get_told all n g ws (own, is, named, spelled) given =
-    let c = call.Get all n g in
-    let rest = own ++ [] in
-    ap (get_call all g.form) (is ∙ ap (λ (xs : List Word). Plain n ∷ xs) (sym (append-nil own)))
-    ∙ go_on (name (Plain n ∷ rest)) _ (n, rest) c (name_again n rest named) (go_on (region g.form rest) _ (g, []) c (region_told g own [] spelled given) refl)
+    grind (arith, nat_tests, append-nil own, name_again n (own ++ []) named, region_told g own [] spelled given, go_on)
 
 id_told : (before : List ℕ) (w : List ℕ) (id : ℕ) (more : List Word) → id_of_text w ≡ Some id → is_posted id before ≡ false → new_id before (Plain w ∷ more) ≡ Ok (id, more)
-id_told before w id more h fresh =
-    go_on (reads_as id_of_text kind.BadNumber (Plain w ∷ more)) _ (id, more) (id, more) (word_read id_of_text kind.BadNumber w id more h)
-    (go_on (refuse_if (is_posted id before) kind.TwiceNamed) _ tt (id, more) (passed _ _ fresh) refl)
+id_told before w id more h fresh = grind (arith, nat_tests, go_on, word_read, passed)
 
 post_told : (k : PostKind) (found : List ℕ) (id : ℕ) (n : List ℕ) (g : Given) (before : ℕ) (vs : Values) (ws : List Word) → SpellsCall ws (call.Post id k n g vs) → is_posted id found ≡ false → is_given g ≡ true → is_post_of k vs ≡ true
     → before + count_of vs ≤ most_values → post_call k found g.form before ws ≡ Ok (call.Post id k n g vs)
-post_told k found id n g before vs ws (w, place, last, are, number, (own, is, named, spelled), told) fresh given lawful few =
-    let c = call.Post id k n g vs in
-    let rest = own ++ last in
-    ap (post_call k found g.form before) (are ∙ ap (λ (xs : List Word). Plain w ∷ (xs ++ last)) is)
-    ∙ go_on (new_id found (Plain w ∷ Plain n ∷ rest)) _ (id, Plain n ∷ rest) c (id_told found w id (Plain n ∷ rest) number fresh)
-    (go_on (name (Plain n ∷ rest)) _ (n, rest) c (name_again n rest named)
-    (go_on (region g.form rest) _ (g, last) c (region_told g own last spelled given)
-    (go_on (post_values k before last) _ vs c (posted_told k before last vs told lawful few) refl)))
+post_told k found id n g before vs ws xs fresh given lawful few = grind (arith, nat_tests, go_on, id_told, name_again, region_told, posted_told)
 
 -- ---- calls of no region
 
@@ -61,17 +47,14 @@ ids_told : (found : List ℕ) (ws : List Word) (ns : List ℕ) → Each id_of_te
 ids_told found [] [] h = ap (λ (xs : List ℕ). Ok xs) (sym (append-nil found))
 ids_told found [] (n ∷ ns) h = absurd h
 ids_told found (w ∷ ws) [] h = absurd h
-ids_told found (w ∷ ws) (n ∷ ns) h =
-    carry_on (one_id w) (λ x. ids (found ++ x ∷ []) ws) n (found ++ n ∷ ns) (ap one_id h.0.1 ∙ faultless kind.BadNumber (id_of_text h.0.0) n h.0.2)
-    (ids_told (found ++ n ∷ []) ws ns h.1 ∙ ap (λ (xs : List ℕ). Ok xs) (append_assoc found (n ∷ []) ns))
+ids_told found (w ∷ ws) (n ∷ ns) h = grind (arith, nat_tests, ids_told (found ++ n ∷ []) ws ns h.1, carry_on, faultless, append_assoc)
 
 listed_told : (ws : List Word) (ns : List ℕ) → Each id_of_text ws ns → choice ws ≡ Ok (Listed ns)
 listed_told [] [] h = refl
 listed_told [] (n ∷ ns) h = absurd h
 listed_told (w ∷ ws) [] h = absurd h
 listed_told (w ∷ ws) (n ∷ ns) h =
-    let not_all : is_word (codes "all") w ≡ false = ap (is_word (codes "all")) h.0.1 ∙ other_word id_of_text h.0.0 (codes "all") n refl h.0.2 in
-    by_false (is_word (codes "all") w) _ _ not_all ∙ go_on (ids [] (w ∷ ws)) (λ found. Ok (Listed found)) (n ∷ ns) (Listed (n ∷ ns)) (ids_told [] (w ∷ ws) (n ∷ ns) h) refl
+    grind (arith, nat_tests, codes "all", other_word id_of_text h.0.0 (codes "all") n refl h.0.2, ids_told [] (w ∷ ws) (n ∷ ns) h, by_false, go_on)
 
 choice_told : (ws : List Word) (c : Choice) → SpellsChoice ws c → choice ws ≡ Ok c
 choice_told ws Every h = ap choice h
@@ -81,10 +64,7 @@ behind_told : (f : Family) (ws : List Word) (b : Behind f) → SpellsBehind ws f
 behind_told Requests ws c h = choice_told ws c h
 behind_told Size ws n (w, are, told) = ap (behind Size) are ∙ go_on (size (Plain w ∷ [])) whole (n, []) n (word_read size_of_text kind.BadNumber w n [] told) refl
 behind_told Name ws n (are, named) = ap (behind Name) are ∙ go_on (name (Plain n ∷ [])) whole (n, []) n (name_again n [] named) refl
-behind_told Record ws (n, k) (w, are, named, told) =
-    ap (behind Record) are
-    ∙ go_on (name (Plain n ∷ Plain w ∷ [])) _ (n, Plain w ∷ []) (n, k) (name_again n (Plain w ∷ []) named)
-    (go_on (size (Plain w ∷ [])) _ (k, []) (n, k) (word_read size_of_text kind.BadNumber w k [] told) refl)
+behind_told Record ws (n, k) (w, are, named, told) = grind (arith, nat_tests, go_on, name_again, word_read)
 behind_told Nothing ws u h = ap (behind Nothing) h
 
 made_told : (ranks r : ℕ) (own : List Call) (before : ℕ) (row : CallRow) (is : IsRow row) (b : Behind row.family) (ws : List Word) → SpellsPlain ws (row.made ranks r b)

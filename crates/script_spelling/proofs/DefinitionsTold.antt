@@ -1,5 +1,5 @@
 -- A line that says a statement leads on to where the later statements lead to the same.
-use Rattle.script_spelling.proofs.Words.{◌≡◌, ◌∙◌, ℕ, suc, ◌+◌, ◌<◌, ◌≤◌, List, [], ◌∷◌, ◌++◌, length, Bool, true, false, cond, ◌==◌, Option, Some, None, is_some, slice_set, Ok, refl, sym, ap, subst, length-set, append_assoc, arith, bytes_eq, codes, eqb-true, equal_itself, position_below, count_of, Dim, Attr, Var, Values, Extra, most_values, values_in_extra, Word, Plain, ◌>>=◌, refuse_if, reads_as, hint_table, hint_form, hint_in, ranks_line, dim_ids, dim_line, var_head, var_names, var_line, owner_of_text, owner_place, attribute, Defined, with_dim, with_var, with_attr_of_owner, with_attr_at, with_title, att_line, definition, Added, added_shape, addition, Known, go_on, word_read, by_false, more_ids, HasRoom, Leads, pushes, found_name, count_attrs, count_own, count-attr, count-var, count-pushed, leads_by, hint_leads, VarLine, Statement, RanksAre, HintIs, IsFilled, DimIs, VarIs, AttIs, owner_word, Says, Stand, title_of, at_most_one, ranks_in, hint_values, fills_in, dims_in, vars_in, own_attrs, attrs_of, extras_in}
+use Rattle.script_spelling.proofs.Words.{◌≡◌, ◌∙◌, ℕ, suc, ◌+◌, ◌<◌, ◌≤◌, List, [], ◌∷◌, ◌++◌, length, Bool, true, false, cond, ◌==◌, Option, Some, None, is_some, slice_set, Ok, refl, sym, ap, subst, length-set, append_assoc, arith, bytes_eq, codes, eqb-true, equal_itself, position_below, count_of, Dim, Attr, Var, Values, Extra, most_values, values_in_extra, Word, Plain, ◌>>=◌, refuse_if, reads_as, hint_table, hint_form, hint_in, dim_ids, dim_line, var_head, var_names, var_line, owner_of_text, owner_place, attribute, Defined, with_dim, with_var, with_attr_of_owner, with_attr_at, with_title, att_line, definition, Added, added_shape, addition, Known, go_on, word_read, more_ids, HasRoom, Leads, pushes, found_name, count_attrs, count_own, count-attr, count-var, count-pushed, leads_by, hint_leads, VarLine, Statement, RanksAre, HintIs, IsFilled, DimIs, VarIs, AttIs, owner_word, Says, Stand, title_of, at_most_one, hint_values, fills_in, dims_in, vars_in, own_attrs, attrs_of, extras_in, nat_tests}
 use Rattle.nc_base.specs.declared.errors.ScriptKind.TheVariants as kind
 use Rattle.nc_base.specs.declared.script.Extra.TheVariants as extra
 use Rattle.script_spelling.proofs.GrownVars.{are_apart, apart_pushed, names_pushed, names_kept, later_names, GrownVars}
@@ -28,17 +28,7 @@ extras_pushed [] e = omega arith
 extras_pushed (x ∷ es) e = omega (arith, extras_pushed es e)
 
 pub total_grown : (opened : Bool) (k : Known) (ss : List Statement) (last : Known) → Part opened k ss last → total k ≤ total last
-total_grown true k ss last p =
-    let defined = ap (λ (d : Defined). count_attrs d.attrs + count_own d.vars) p.0 in
-    omega (arith, defined, ap count_extras p.1, extras_later k.added.extras (extras_in ss))
-total_grown false k ss last p =
-    omega (
-      arith,
-      ap count_extras p.0,
-      ap count_attrs p.2,
-      count_later k.defined.attrs (own_attrs ss),
-      count_grown last.defined.dims (λ n. attrs_of n ss) k.defined.vars (vars_in ss) last.defined.vars p.3,
-    )
+total_grown opened k ss last p = grind (arith, nat_tests, extras_later, count_later, count_grown)
 
 -- ---- where a line leads
 
@@ -57,37 +47,18 @@ pub record Led (opened : Bool) (version : ℕ) (k : Known) (words : List Word) (
 
 -- nothing is given twice
 one_left : (o p : Option ℕ) (n : ℕ) (ns : List ℕ) → at_most_one o ≡ at_most_one p ++ n ∷ ns → p ≡ None
-one_left o None n ns h = refl
-one_left None (Some m) n ns h = absurd (cc)
-one_left (Some x) (Some m) n ns h = absurd (cc)
+one_left o p n ns h = grind (arith, nat_tests)
 
 ranks_behind : (opened : Bool) (k : Known) (n : ℕ) (ss : List Statement) (last : Known) → Part opened k (RanksAre n ∷ ss) last → Part opened (record k { ranks = Some n }) ss last
 ranks_behind true k n ss last p = p
 ranks_behind false k n ss last p = p
 
 ranks_led : (opened : Bool) (version of_lines : ℕ) (k : Known) (words : List Word) (n : ℕ) (ss : List Statement) (last : Known) → Sound k → Says of_lines words (RanksAre n) → Grown opened k (RanksAre n ∷ ss) last → Led opened version k words ss last
-ranks_led opened version of_lines k words n ss last sound (w, are, told) g =
-    let none = one_left last.ranks k.ranks n (ranks_in ss) g.ranks in
-    let next : Known = record k { ranks = Some n } in
-    let read : ranks_line k.ranks (Plain w ∷ []) ≡ Ok n = ap (λ (o : Option ℕ). ranks_line o (Plain w ∷ [])) none ∙ ranks_told w n told in
-    record {
-      next = next;
-      leads = subst (λ (ws : List Word). Leads version k ws next) (sym are) (refl, go_on (ranks_line k.ranks (Plain w ∷ [])) (λ x. Ok (record k { ranks = Some x })) n next read refl);
-      sound = record { fine = record { long = sound.fine.long; apart = sound.fine.apart }; counted = sound.counted };
-      grown = record { ranks = g.ranks ∙ ap (λ (o : Option ℕ). at_most_one o ++ n ∷ ranks_in ss) none; hints = g.hints; filled = g.filled; part = ranks_behind opened k n ss last g.part };
-    }
+ranks_led opened version of_lines k words n ss last sound xs g = grind (arith, nat_tests, one_left, ranks_told, go_on, ranks_behind)
 
 hint_behind : (hints : List (Option ℕ)) (i v j : ℕ) (later found : List ℕ) → hint_in i hints ≡ None → i < length hints → found ≡ at_most_one (hint_in j hints) ++ cond (i == j) (v ∷ later) later
     → found ≡ at_most_one (hint_in j (slice_set hints i (Some v))) ++ later
-hint_behind hints i v j later found free low h = by (i == j) refl h
-  where
-    by : (b : Bool) → (i == j) ≡ b → found ≡ at_most_one (hint_in j hints) ++ cond b (v ∷ later) later → found ≡ at_most_one (hint_in j (slice_set hints i (Some v))) ++ later
-    by true e k =
-        let same = eqb-true i j e in
-        let set : hint_in j (slice_set hints i (Some v)) ≡ Some v = subst (λ (n : ℕ). hint_in n (slice_set hints i (Some v)) ≡ Some v) same (hint_here hints i v low) in
-        let none : hint_in j hints ≡ None = subst (λ (n : ℕ). hint_in n hints ≡ None) same free in
-        k ∙ (ap (λ (o : Option ℕ). at_most_one o ++ v ∷ later) none ∙ ap (λ (o : Option ℕ). at_most_one o ++ later) (sym set))
-    by false e k = k ∙ ap (λ (o : Option ℕ). at_most_one o ++ later) (sym (hint_elsewhere hints i j v (λ same. differ i j e (sym same))))
+hint_behind hints i v j later found free low h = grind (arith, nat_tests, slice_set, eqb-true, hint_here, hint_elsewhere, differ)
 
 hints_behind : (opened : Bool) (k : Known) (i v : ℕ) (hints : List (Option ℕ)) (ss : List Statement) (last : Known) → Part opened k (HintIs i v ∷ ss) last → Part opened (record k { hints = hints }) ss last
 hints_behind true k i v hints ss last p = p
@@ -117,12 +88,7 @@ hint_led opened version of_lines k words i v ss last sound (word, w, are, at, to
 defined_led : (version : ℕ) (k : Known) (words : List Word) (ss : List Statement) (last : Known) (first : List ℕ) (ws : List Word) (r : ℕ × Defined) → (version == 0) ≡ false → bytes_eq first (codes "ranks") ≡ false
     → bytes_eq first (codes "hint") ≡ false → bytes_eq first (codes "data") ≡ false → words ≡ Plain first ∷ ws → definition version k.values k.defined first ws ≡ Ok r → Sound (defined_next k r) → Grown false (defined_next k r) ss last
     → Led false version k words ss last
-defined_led version k words ss last first ws r new a b c are read sound g = record {
-  next = defined_next k r;
-  leads = subst (λ (xs : List Word). Leads version k xs (defined_next k r)) (sym are) (leads_by version k first ws r new a b c read);
-  sound = sound;
-  grown = g;
-}
+defined_led version k words ss last first ws r new a b c are read sound g = grind (arith, nat_tests, leads_by)
 
 new_dim_led : (version : ℕ) (k : Known) (words : List Word) (d : Dim) (ss : List Statement) (last : Known) → (version == 0) ≡ false → Sound k → Says version words (DimIs d) → Grown false k (DimIs d ∷ ss) last → Led false version k words ss last
 new_dim_led version k words d ss last new sound (w, are, named, told) g =
@@ -232,9 +198,7 @@ new_attr_led version k words owner a ss last new few sound (w, given, vs, are, i
     }) after
 
 unfilled : (now before : Bool) (n : ℕ) → flag now ≡ flag before + suc n → before ≡ false
-unfilled now false n h = refl
-unfilled true true n h = absurd (omega arith)
-unfilled false true n h = absurd (omega arith)
+unfilled now before n h = grind (arith, nat_tests)
 
 fill_led : (version : ℕ) (k : Known) (words : List Word) (ss : List Statement) (last : Known) → (version == 0) ≡ false → Sound k → Says version words IsFilled → Grown false k (IsFilled ∷ ss) last → Led false version k words ss last
 fill_led version k words ss last new sound are g =
@@ -248,24 +212,10 @@ fill_led version k words ss last new sound are g =
 
 -- ---- a dataset that is opened
 
-by_true : {A : Type 0} (b : Bool) (x y : A) → b ≡ true → elim b as (λ t. A) [ true ↦ x | false ↦ y ] ≡ x
-by_true true x y h = refl
-by_true false x y h = absurd (cc)
-
 added_led : (version : ℕ) (k : Known) (words : List Word) (ss : List Statement) (last : Known) (first : List ℕ) (ws : List Word) (r : ℕ × Added) → (version == 0) ≡ true → bytes_eq first (codes "ranks") ≡ false
     → bytes_eq first (codes "hint") ≡ false → bytes_eq first (codes "data") ≡ false → words ≡ Plain first ∷ ws → addition k.values k.added first ws ≡ Ok r → Sound (added_next k r) → Grown true (added_next k r) ss last
     → Led true version k words ss last
-added_led version k words ss last first ws r old a b c are read sound g = record {
-  next = added_next k r;
-  leads = subst (λ (xs : List Word). Leads version k xs (added_next k r)) (sym are) (
-    c,
-    by_false (bytes_eq first (codes "ranks")) _ _ a
-        ∙ (by_false (bytes_eq first (codes "hint")) _ _ b
-        ∙ (by_true (version == 0) _ _ old ∙ go_on (addition k.values k.added first ws) (λ x. Ok (record k { added = x.1; values = k.values + x.0 })) r (added_next k r) read refl)),
-  );
-  sound = sound;
-  grown = g;
-}
+added_led version k words ss last first ws r old a b c are read sound g = grind (arith, nat_tests)
 
 added_dim_led : (version : ℕ) (k : Known) (words : List Word) (x : Dim) (ss : List Statement) (last : Known) → (version == 0) ≡ true → Sound k → Says 5 words (DimIs x) → Grown true k (DimIs x ∷ ss) last → Led true version k words ss last
 added_dim_led version k words x ss last old sound (w, are, named, told) g =

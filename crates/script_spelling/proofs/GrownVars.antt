@@ -1,5 +1,5 @@
 -- The variables of a new dataset, and what later lines give them.
-use Rattle.script_spelling.proofs.Words.{◌≡◌, ◌∙◌, ℕ, zero, suc, List, [], ◌∷◌, ◌++◌, map, position, Bool, true, false, not, cond, ◌&&◌, Some, refl, sym, ap, subst, ⊎_elim, append_assoc, append-nil, bytes_eq, AllZip, and_parts, and_from, or_parts, or_from, or_left, not-true, not_from_false, cond-true, cond-false, map-append, list_any-append, Dim, Attr, Var, dim_ids, is_among, var_names, Title, bytes_same, bytes_own, Later, place_cases, with_own, push_attr, VarLine, Statement, RanksAre, HintIs, IsFilled, DimIs, VarIs, AttIs, Stand, vars_in, IsVarOf}
+use Rattle.script_spelling.proofs.Words.{◌≡◌, ◌∙◌, ℕ, zero, suc, List, [], ◌∷◌, ◌++◌, map, position, Bool, true, false, not, cond, ◌&&◌, Some, refl, sym, ap, subst, ⊎_elim, append_assoc, append-nil, bytes_eq, AllZip, and_parts, and_from, or_parts, or_from, or_left, not-true, not_from_false, cond-true, cond-false, map-append, list_any-append, Dim, Attr, Var, dim_ids, is_among, var_names, Title, bytes_same, bytes_own, Later, place_cases, with_own, push_attr, VarLine, Statement, RanksAre, HintIs, IsFilled, DimIs, VarIs, AttIs, Stand, vars_in, IsVarOf, arith, nat_tests}
 
 -- ---- names
 
@@ -65,10 +65,7 @@ pub record IsBare (dims : List Dim) (line : VarLine) (v : Var) : Type 0 where
   pub same : v ≡ record { name = line.name; dims = v.dims; attrs = []; kind = line.kind; begin = 0 }
 
 var_of_line : (dims : List Dim) (more : List ℕ → List Attr) (line : VarLine) (v w : Var) → IsBare dims line v → w ≡ record v { attrs = v.attrs ++ more v.name } → IsVarOf dims (more line.name) line w
-var_of_line dims more line v w bare e =
-    let form : Var = record { name = line.name; dims = v.dims; attrs = more line.name; kind = line.kind; begin = 0 } in
-    let same : w ≡ form = e ∙ ap (λ (x : Var). record x { attrs = x.attrs ++ more x.name }) bare.same in
-    subst (IsVarOf dims (more line.name) line) (sym same) (bare.found, refl)
+var_of_line dims more line v w bare e = grind (arith, nat_tests)
 
 pub var_first : (dims : List Dim) (more : List ℕ → List Attr) (vars : List Var) (line : VarLine) (lines : List VarLine) (v : Var) (last : List Var) → IsBare dims line v
     → GrownVars dims more (vars ++ v ∷ []) lines last → GrownVars dims more vars (line ∷ lines) last

@@ -1,5 +1,5 @@
 -- Each line between the head and `data` says a statement, and what is known at `data` is what the statements say.
-use Rattle.script_spelling.proofs.Words.{◌≡◌, ◌∙◌, ℕ, ◌+◌, List, [], ◌∷◌, ◌++◌, map, Bool, true, false, cond, ◌==◌, Option, Some, None, slice_set, Result, Ok, Err, refl, sym, ap, subst, append-nil, arith, bytes_eq, codes, AllZip, faultless_some, ScriptKind, ScriptErr, Word, Plain, Quoted, Broken, Line, ◌>>=◌, or_fault, hint_in, hint_line, ranks_line, definition, addition, Known, definition_or_addition, known_after, at_line, data_line, definition_step, definitions, went, same_ok, whole_value, bytes_same, line_ok, Statement, Says, at_most_one, defined_by}
+use Rattle.script_spelling.proofs.Words.{◌≡◌, ◌∙◌, ℕ, ◌+◌, List, [], ◌∷◌, ◌++◌, map, Bool, true, false, cond, ◌==◌, Option, Some, None, slice_set, Result, Ok, Err, refl, sym, ap, subst, append-nil, arith, bytes_eq, codes, AllZip, faultless_some, ScriptKind, ScriptErr, Word, Plain, Quoted, Broken, Line, ◌>>=◌, or_fault, hint_line, ranks_line, definition, addition, Known, definition_or_addition, known_after, at_line, data_line, definition_step, definitions, went, same_ok, whole_value, bytes_same, line_ok, Statement, Says, defined_by, nat_tests}
 use Rattle.nc_base.specs.declared.errors.ScriptKind.TheVariants as kind
 use Rattle.script_spelling.proofs.GrownVars.{none_grown}
 use Rattle.script_spelling.proofs.CallLinesRead.{words_of}
@@ -59,12 +59,7 @@ same_part true k = (refl, sym (append-nil k.added.extras), tt)
 same_part false k = (refl, sym (append-nil k.defined.dims), sym (append-nil k.defined.attrs), none_grown k.defined.dims k.defined.vars, tt)
 
 none_said : (opened : Bool) (k : Known) → Grown opened k [] k
-none_said opened k = record {
-  ranks = sym (append-nil (at_most_one k.ranks));
-  hints = λ h. sym (append-nil (at_most_one (hint_in h k.hints)));
-  filled = omega arith;
-  part = same_part opened k;
-}
+none_said opened k = grind (arith, nat_tests, append-nil, same_part)
 
 -- a line is `data`, or says a statement
 abbrev StepTaken : Bool → ℕ → Known → List Word → Option ℕ × Known → Type 0
@@ -72,20 +67,11 @@ StepTaken opened version k words (Some n, next) = (words ≡ Plain (codes "data"
 StepTaken opened version k words (None, next) = Taken opened (lines_version opened version) k words next
 
 no_text : (version : ℕ) (k next : Known) (ws : List Word) → known_after version k (34 ∷ []) ws ≡ Ok next → ⊥
-no_text version k next ws h = by (version == 0) h
-  where
-    by : (b : Bool) → elim b as (λ x. Result Known ScriptKind) [
-      | true ↦ (addition k.values k.added (34 ∷ []) ws >>= λ x. Ok (record k { added = x.1; values = k.values + x.0 }))
-      | false ↦ (definition version k.values k.defined (34 ∷ []) ws >>= λ x. Ok (record k { defined = x.1; values = k.values + x.0 }))
-    ] ≡ Ok next → ⊥
-    by true g = absurd (cc)
-    by false g = absurd (cc)
+no_text version k next ws h = grind (arith, nat_tests)
 
 step_taken : (opened : Bool) (version : ℕ) (k : Known) (w : Word) (ws : List Word) (s : Option ℕ × Known) → (version == 0) ≡ opened → Fine k → definition_step version k w ws ≡ Ok s → StepTaken opened version k (w ∷ ws) s
 step_taken opened version k Broken ws s e fine h = absurd (cc)
-step_taken opened version k (Quoted text) ws s e fine h =
-    let a = went (known_after version k (34 ∷ []) ws) (λ more. Ok (None, more)) s h in
-    absurd (no_text version k a.value ws a.first)
+step_taken opened version k (Quoted text) ws s e fine h = grind (arith, nat_tests, went, no_text)
 step_taken opened version k (Plain first) ws s e fine h = by (bytes_eq first (codes "data")) refl h
   where
     by : (b : Bool) → bytes_eq first (codes "data") ≡ b → elim b as (λ x. Result (Option ℕ × Known) ScriptKind) [

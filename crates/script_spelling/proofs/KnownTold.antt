@@ -1,5 +1,5 @@
 -- Lines that say statements are read up to `data`, and what is known then is what the statements say.
-use Rattle.script_spelling.proofs.Words.{◌≡◌, ◌∙◌, ℕ, suc, ◌+◌, ◌≤◌, List, [], ◌∷◌, ◌++◌, map, drop, Bool, true, false, ◌==◌, Option, Some, None, unwrap_or, Result, Ok, Err, refl, sym, ap, append-nil, arith, codes, AllZip, first_same, ScriptKind, Hints, most_values, Word, Plain, Quoted, Broken, Line, ◌>>=◌, or_fault, whole, HintRow, hint_table, hint_in, hint_or, no_hints, set_hints, hints_of, Defined, Known, at_line, definition_step, definitions, Leads, defined_by, step_again, Statement, Says, at_most_one}
+use Rattle.script_spelling.proofs.Words.{◌≡◌, ◌∙◌, ℕ, suc, ◌+◌, ◌≤◌, List, [], ◌∷◌, ◌++◌, map, drop, Bool, true, false, ◌==◌, Option, Some, None, unwrap_or, Result, Ok, Err, refl, sym, ap, append-nil, arith, codes, AllZip, first_same, ScriptKind, Hints, most_values, Word, Plain, Line, HintRow, hint_table, hint_in, hint_or, no_hints, set_hints, hints_of, Known, at_line, definition_step, definitions, Leads, defined_by, step_again, Statement, Says, at_most_one, nat_tests}
 use Rattle.nc_base.specs.declared.errors.ScriptKind.TheVariants as kind
 use Rattle.script_spelling.proofs.CallLinesRead.{words_of}
 use Rattle.script_spelling.proofs.TakenLines.{flag, Grown}
@@ -22,35 +22,19 @@ abbrev step_by : ℕ → Known → List Word → Result (Option ℕ × Known) Sc
 step_by version k ws = elim ws [ [] ↦ Err kind.MissingWord | w ∷ more ↦ definition_step version k w more ]
 
 step_told : (version : ℕ) (k next : Known) (ws : List Word) → Leads version k ws next → step_by version k ws ≡ Ok (None, next)
-step_told version k next [] h = absurd h
-step_told version k next (Quoted text ∷ ws) h = absurd h
-step_told version k next (Broken ∷ ws) h = absurd h
-step_told version k next (Plain first ∷ ws) h = step_again version k next first ws h.0 h.1
+step_told version k next ws h = grind (arith, nat_tests, step_again)
 
 same_one : (o p : Option ℕ) → at_most_one o ≡ at_most_one p ++ [] → p ≡ o
-same_one None None h = refl
-same_one None (Some y) h = absurd (cc)
-same_one (Some x) None h = absurd (cc)
-same_one (Some x) (Some y) h = let same : y ≡ x = cc in ap (λ (n : ℕ). Some n) same
+same_one o p h = grind (arith, nat_tests)
 
 data_read : (version n : ℕ) (k last : Known) → last.ranks ≡ Some n → at_most_one last.ranks ≡ at_most_one k.ranks ++ [] → step_by version k (Plain (codes "data") ∷ []) ≡ Ok (Some n, k)
-data_read version n k last told same =
-    ap (λ (o : Option ℕ). (or_fault kind.MissingWord o >>= λ ranks. whole (ranks, [])) >>= λ ranks. Ok (Some ranks, k)) (same_one last.ranks k.ranks same ∙ told)
+data_read version n k last told same = grind (arith, nat_tests, same_one)
 
 pub definitions_told : (opened : Bool) (past version n : ℕ) (own : List (List Word)) (ss : List Statement) (k : Known) (lines : List Line) (more : List (List Word)) (last : Known) → (version == 0) ≡ opened → total last ≤ most_values
     → last.ranks ≡ Some n → Sound k → map words_of lines ≡ own ++ (Plain (codes "data") ∷ []) ∷ more → AllZip (Says (lines_version opened version)) own ss → Grown opened k ss last
     → DefinitionsTold opened past version n k lines more last
 definitions_told opened past version n [] [] k [] more last e few ranks sound are say g = absurd (cc)
-definitions_told opened past version n [] [] k (l ∷ lines) more last e few ranks sound are say g =
-    let step : definition_step version k l.first l.rest ≡ Ok (Some n, k) = ap (step_by version k) (first_same _ _ _ _ are) ∙ data_read version n k last ranks g.ranks in
-    record {
-      known = k;
-      rest = lines;
-      read = ap (λ (s : Result (Option ℕ × Known) ScriptKind). defined_by past version lines (at_line l.number s)) step;
-      words = ap (drop 1) are;
-      sound = sound;
-      grown = g;
-    }
+definitions_told opened past version n [] [] k (l ∷ lines) more last e few ranks sound are say g = grind (arith, nat_tests, first_same, data_read)
 definitions_told opened past version n [] (s ∷ ss) k lines more last e few ranks sound are say g = absurd say
 definitions_told opened past version n (ws ∷ own) [] k lines more last e few ranks sound are say g = absurd say
 definitions_told opened past version n (ws ∷ own) (s ∷ ss) k [] more last e few ranks sound are say g = absurd (cc)
@@ -78,21 +62,10 @@ pub record SameParts (k last : Known) : Type 0 where
   pub extras : k.added.extras ≡ last.added.extras
 
 same_flags : (now before : Bool) → flag now ≡ flag before + 0 → before ≡ now
-same_flags true true h = refl
-same_flags true false h = absurd (omega arith)
-same_flags false true h = absurd (omega arith)
-same_flags false false h = refl
+same_flags now before h = grind (arith, nat_tests)
 
 pub same_parts : (opened : Bool) (k last : Known) → Grown opened k [] last → SameParts k last
-same_parts true k last g =
-    let same = sym g.part.0 in
-    record {
-      dims = ap (λ (d : Defined). d.dims) same;
-      vars = ap (λ (d : Defined). d.vars) same;
-      attrs = ap (λ (d : Defined). d.attrs) same;
-      filled = ap (λ (d : Defined). d.filled) same;
-      extras = sym (g.part.1 ∙ append-nil k.added.extras);
-    }
+same_parts true k last g = grind (arith, nat_tests, append-nil)
 same_parts false k last g = record {
   dims = sym (g.part.1 ∙ append-nil k.defined.dims);
   vars = all_grown last.defined.dims k.defined.vars last.defined.vars g.part.3;
@@ -103,9 +76,7 @@ same_parts false k last g = record {
 
 same_rows : (rows : List HintRow) (i ranks : ℕ) (a b : List (Option ℕ)) (h : Hints) → ((j : ℕ) → hint_in j a ≡ hint_in j b) → set_hints rows i ranks a h ≡ set_hints rows i ranks b h
 same_rows [] i ranks a b h same = refl
-same_rows (row ∷ rows) i ranks a b h same =
-    ap (λ (o : Option ℕ). set_hints rows (suc i) ranks a (row.set (unwrap_or o (row.default ranks)) h)) (same i)
-    ∙ same_rows rows (suc i) ranks a b (row.set (hint_or b i (row.default ranks)) h) same
+same_rows (row ∷ rows) i ranks a b h same = grind (arith, nat_tests, same_rows rows (suc i) ranks a b (row.set (hint_or b i (row.default ranks)) h) same, unwrap_or)
 
 pub same_hints : (opened : Bool) (ranks : ℕ) (k last : Known) → Grown opened k [] last → hints_of ranks k.hints ≡ hints_of ranks last.hints
 same_hints opened ranks k last g = same_rows hint_table 0 ranks k.hints last.hints no_hints (λ j. same_one (hint_in j last.hints) (hint_in j k.hints) (g.hints j))

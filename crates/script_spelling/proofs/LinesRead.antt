@@ -1,5 +1,5 @@
 -- What the words of a line between the head and `data` say, where they are read, and that it may stand there.
-use Rattle.script_spelling.proofs.Words.{◌≡◌, ◌∙◌, ℕ, zero, suc, ◌<◌, ◌≤◌, List, [], ◌∷◌, position, drop, length, Bool, true, false, not, cond, nat_lt, nat_le, ◌==◌, ◌&&◌, Option, Some, None, is_some, is_none, slice_get, unwrap_or, map, Ok, refl, sym, ap, subst, arith, bytes_eq, codes, list_any, list_all, and_parts, length-map, cond_some, none_of_test, not_some, some_of_map, faultless_some, NcType, Dim, Attr, Var, most_dims, most_dims_of_var, most_vars, Word, Plain, is_name, between_brackets, parts, all_some, refuse_if, or_fault, reads_as, name, name_of_text, ended, values, HintForm, Within, Either, HintRow, hint_table, hint_form, hint_of_text, no_row, hint_in, hint_value, hint_line, ranks_line, number_within, one_of_two, type_of, length_of_text, is_among, dim_names, dim_ids, is_unlimited, is_record_dim, is_added_record, dim_line, var_head, name_list, shape, added_shape, var_names, var_line, owner_of_text, owner_name, Title, same_title, attr_of, attribute_name, attribute, went, same_ok, not_refused, is_end, whole_value, bytes_same, VarLine, RanksAre, HintIs, DimIs, VarIs, AttIs, hint_value_of, owner_word, IsOwner, Says, DimStands, VarStands}
+use Rattle.script_spelling.proofs.Words.{◌≡◌, ◌∙◌, ℕ, zero, suc, ◌<◌, ◌≤◌, List, [], ◌∷◌, position, drop, length, Bool, true, false, not, cond, nat_lt, nat_le, ◌==◌, ◌&&◌, Option, Some, None, is_some, is_none, slice_get, unwrap_or, Ok, refl, sym, ap, subst, arith, bytes_eq, codes, list_any, list_all, and_parts, length-map, cond_some, none_of_test, not_some, some_of_map, faultless_some, NcType, Dim, Attr, Var, most_dims, most_dims_of_var, most_vars, Word, Plain, is_name, between_brackets, parts, all_some, refuse_if, or_fault, reads_as, name, name_of_text, ended, values, HintForm, Within, Either, HintRow, hint_table, hint_form, hint_of_text, no_row, hint_in, hint_value, hint_line, ranks_line, number_within, one_of_two, type_of, length_of_text, is_among, dim_names, dim_ids, is_unlimited, is_record_dim, is_added_record, dim_line, var_head, name_list, shape, added_shape, var_names, var_line, owner_of_text, owner_name, Title, same_title, attr_of, attribute_name, attribute, went, same_ok, not_refused, is_end, bytes_same, VarLine, RanksAre, HintIs, DimIs, VarIs, AttIs, hint_value_of, owner_word, IsOwner, Says, DimStands, VarStands, nat_tests}
 use borrow.Author.Tests.{not-false, leb-false, ltb-false}
 use Rattle.nc_base.specs.declared.errors.ScriptKind.TheVariants as kind
 use Rattle.nc_base.specs.declared.errors.LimitName.TheVariants as limit
@@ -15,12 +15,7 @@ three_words first one two ws a b e1 e2 e3 = ap (λ (xs : List Word). Plain first
 -- ---- ranks and hints
 
 pub ranks_said : (version : ℕ) (ranks : Option ℕ) (ws : List Word) (n : ℕ) → ranks_line ranks ws ≡ Ok n → Says version (Plain (codes "ranks") ∷ ws) (RanksAre n) × (ranks ≡ None)
-ranks_said version ranks ws n h =
-    let a = went (refuse_if (is_some ranks) kind.TwiceNamed) _ n h in
-    let b = went (reads_as (number_within 1 64 1) kind.BadNumber ws) _ n a.rest in
-    let w = word_is (number_within 1 64 1) kind.BadNumber ws b.value refl b.first in
-    let end = whole_value b.value n b.rest in
-    ((w.word, two_words (codes "ranks") w.word ws b.value.1 w.are end.1, w.says ∙ ap (λ (x : ℕ). Some x) end.0), not_some ranks (not_refused _ _ a.value a.first))
+ranks_said version ranks ws n h = grind (arith, nat_tests)
 
 hint_word : (f : HintForm) (ws : List Word) (r : ℕ × List Word) → hint_value_of f (34 ∷ []) ≡ None → hint_value f ws ≡ Ok r → WordRead (hint_value_of f) ws r
 hint_word (Within low high unit) ws r none h = let w = word_is (number_within low high unit) kind.BadNumber ws r none h in record { word = w.word; are = w.are; says = w.says }
@@ -112,17 +107,7 @@ names_said ws r h =
 
 var_says : (version : ℕ) (names : List (List ℕ)) (ws : List Word) (v : (NcType × List ℕ) × List Word) (ns : List (List ℕ) × List Word) → HeadSaid version names ws v → NamesSaid v.1 ns → ns.1 ≡ []
     → Says version (Plain (codes "var") ∷ ws) (VarIs (record { kind = v.0.0; name = v.0.1; dims = ns.0 }))
-var_says version names ws v ns head shape_said end = (
-  head.word,
-  shape_said.word,
-  shape_said.inside,
-  ap (λ (xs : List Word). Plain (codes "var") ∷ xs) (head.are ∙ ap (λ (xs : List Word). Plain head.word ∷ Plain v.0.1 ∷ xs) (shape_said.are ∙ ap (λ (xs : List Word). Plain shape_said.word ∷ xs) end)),
-  head.kind,
-  head.named,
-  shape_said.between,
-  shape_said.parts_are,
-  shape_said.named,
-)
+var_says version names ws v ns head shape_said end = grind (arith, nat_tests, codes)
 
 pub all_found : {A : Type 0} (os : List (Option A)) (xs : List A) → all_some os ≡ Some xs → length xs ≡ length os
 all_found [] xs h = let same : [] ≡ xs = cc in ap length (sym same)
@@ -132,9 +117,7 @@ all_found (Some x ∷ os) xs h =
     ap length (sym rest.2) ∙ ap suc (all_found os rest.0 rest.1)
 
 few_dims : (dims : List Dim) (names : List (List ℕ)) (ids : List ℕ) → dim_ids dims names ≡ Some ids → length ids ≤ most_dims_of_var → length names ≤ most_dims_of_var
-few_dims dims names ids e few =
-    let places = map (λ n. position (bytes_eq n) (dim_names dims)) names in
-    omega (arith, all_found places ids e, length-map names (λ n. position (bytes_eq n) (dim_names dims)))
+few_dims dims names ids e few = grind (arith, nat_tests, position, bytes_eq, all_found, length-map)
 
 -- a variable of a new dataset, by the line that defines it
 pub record VarSaid (version : ℕ) (dims : List Dim) (names : List (List ℕ)) (words : List Word) (v : Var) : Type 0 where

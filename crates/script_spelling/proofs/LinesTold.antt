@@ -1,5 +1,5 @@
 -- Words that say a statement are read as what they say, where it may stand.
-use Rattle.script_spelling.proofs.Words.{◌≡◌, ◌∙◌, ℕ, suc, ◌<◌, ◌≤◌, List, [], ◌∷◌, map, position, drop, length, Bool, true, false, not, nat_lt, nat_le, ◌==◌, ◌&&◌, ◌||◌, Option, Some, None, Ok, refl, sym, ap, inr, arith, bytes_eq, codes, list_any, list_all, cond-false, le-ltb, lt-leb, length-map, count_of, NcType, Dim, Attr, Var, Values, most_dims, most_dims_of_var, most_vars, Word, Plain, is_name, between_brackets, parts, refuse_if, or_fault, reads_as, name, values, HintForm, Within, Either, hint_value, ranks_line, number_within, one_of_two, type_of, length_of_text, is_among, dim_names, dim_ids, is_unlimited, is_record_dim, is_added_record, dim_line, var_head, name_list, shape, added_shape, var_names, var_line, owner_of_text, owner_name, owner_place, Title, same_title, attr_of, attribute_name, attribute, go_on, passed, faultless, word_read, by_false, place_here, place_later, HasRoom, name_again, owner_again, no_colon, SpellsValues, VarLine, hint_value_of, owner_word, IsOwner, DimStands, VarStands}
+use Rattle.script_spelling.proofs.Words.{◌≡◌, ℕ, suc, ◌<◌, ◌≤◌, List, [], ◌∷◌, position, drop, length, Bool, true, false, not, nat_lt, ◌||◌, Option, Some, None, Ok, refl, sym, ap, inr, arith, bytes_eq, codes, list_any, list_all, cond-false, le-ltb, length-map, count_of, Dim, Attr, Var, Values, most_dims_of_var, most_vars, Word, Plain, is_name, between_brackets, parts, refuse_if, reads_as, name, values, HintForm, Within, Either, hint_value, ranks_line, number_within, one_of_two, type_of, length_of_text, is_among, dim_ids, is_added_record, dim_line, var_head, name_list, added_shape, var_names, var_line, owner_of_text, owner_name, owner_place, Title, same_title, attr_of, attribute_name, attribute, go_on, passed, faultless, word_read, by_false, place_here, place_later, HasRoom, name_again, owner_again, no_colon, SpellsValues, VarLine, hint_value_of, owner_word, IsOwner, DimStands, VarStands, nat_tests}
 use Rattle.nc_base.specs.declared.errors.ScriptKind.TheVariants as kind
 use Rattle.nc_base.specs.declared.errors.LimitName.TheVariants as limit
 use Rattle.script_spelling.proofs.LinesRead.{all_found}
@@ -17,13 +17,7 @@ hint_told (Either a b) w v h = word_read (one_of_two a b) kind.UnknownWord w v [
 -- ---- dimensions
 
 pub dim_told : (version : ℕ) (dims : List Dim) (d : Dim) (w : List ℕ) → is_name d.name ≡ true → length_of_text version w ≡ Some d.len → DimStands dims d → dim_line version dims (Plain d.name ∷ Plain w ∷ []) ≡ Ok d
-dim_told version dims d w named told stands =
-    let rest = Plain w ∷ [] in
-    go_on (name (Plain d.name ∷ rest)) _ (d.name, rest) d (name_again d.name rest named)
-    (go_on (refuse_if (is_among d.name (dim_names dims)) kind.TwiceNamed) _ tt d (passed _ _ stands.0)
-    (go_on (refuse_if (nat_le most_dims (length dims)) (kind.Limit limit.Dims)) _ tt d (passed _ _ (lt-leb most_dims (length dims) stands.1))
-    (go_on (reads_as (length_of_text version) kind.BadNumber rest) _ (d.len, []) d (word_read (length_of_text version) kind.BadNumber w d.len [] told)
-    (go_on (refuse_if (d.len == 0 && list_any is_unlimited dims) kind.BadShape) _ tt d (passed _ _ stands.2) refl))))
+dim_told version dims d w named told stands = grind (arith, nat_tests)
 
 -- ---- variables
 
@@ -39,40 +33,22 @@ pub record VarWords (version : ℕ) (line : VarLine) : Type 0 where
   pub dims_named : list_all is_name line.dims ≡ true
 
 names_told : (version : ℕ) (line : VarLine) (w : VarWords version line) → name_list (Plain w.shape_word ∷ []) ≡ Ok (line.dims, [])
-names_told version line w =
-    go_on (reads_as between_brackets kind.BadNumber (Plain w.shape_word ∷ [])) _ (w.inside, []) (line.dims, []) (word_read between_brackets kind.BadNumber w.shape_word w.inside [] w.between)
-    (go_on (refuse_if (not (list_all is_name (parts w.inside))) kind.BadName) _ tt (line.dims, []) (passed _ _ (ap (λ (ns : List (List ℕ)). not (list_all is_name ns)) w.parts_are ∙ ap not w.dims_named))
-    (ap (λ (ns : List (List ℕ)). Ok (ns, [])) w.parts_are))
+names_told version line w = grind (arith, nat_tests, go_on, word_read, not, passed)
 
 head_told : (version : ℕ) (names : List (List ℕ)) (line : VarLine) (w : VarWords version line) (more : List Word) → is_among line.name names ≡ false → length names < most_vars
     → var_head version names (Plain w.kind_word ∷ Plain line.name ∷ more) ≡ Ok ((line.kind, line.name), more)
-head_told version names line w more fresh room =
-    let r : (NcType × List ℕ) × List Word = ((line.kind, line.name), more) in
-    go_on (reads_as (type_of version) kind.UnknownWord (Plain w.kind_word ∷ Plain line.name ∷ more)) _ (line.kind, Plain line.name ∷ more) r (word_read (type_of version) kind.UnknownWord w.kind_word line.kind (Plain line.name ∷ more) w.kind)
-    (go_on (name (Plain line.name ∷ more)) _ (line.name, more) r (name_again line.name more w.named)
-    (go_on (refuse_if (is_among line.name names) kind.TwiceNamed) _ tt r (passed _ _ fresh)
-    (go_on (refuse_if (nat_le most_vars (length names)) (kind.Limit limit.Vars)) _ tt r (passed _ _ (lt-leb most_vars (length names) room)) refl)))
+head_told version names line w more fresh room = grind (arith, nat_tests)
 
 -- a variable of a new dataset, as its line defines it
 abbrev pub var_of : VarLine → List ℕ → Var
 var_of line ids = record { name = line.name; dims = ids; attrs = []; kind = line.kind; begin = 0 }
 
 few_ids : (dims : List Dim) (names : List (List ℕ)) (ids : List ℕ) → dim_ids dims names ≡ Some ids → length names ≤ most_dims_of_var → length ids ≤ most_dims_of_var
-few_ids dims names ids e few =
-    let places = map (λ n. position (bytes_eq n) (dim_names dims)) names in
-    omega (arith, all_found places ids e, length-map names (λ n. position (bytes_eq n) (dim_names dims)))
+few_ids dims names ids e few = grind (arith, nat_tests, position, bytes_eq, all_found, length-map)
 
 pub var_told : (version : ℕ) (dims : List Dim) (vars : List Var) (line : VarLine) (w : VarWords version line) (stands : VarStands false dims (var_names vars) line)
     → var_line version dims vars (Plain w.kind_word ∷ Plain line.name ∷ Plain w.shape_word ∷ []) ≡ Ok (var_of line stands.3.0)
-var_told version dims vars line w (fresh, room, few, (ids, found, records)) =
-    let rest = Plain w.shape_word ∷ [] in
-    let v = var_of line ids in
-    go_on (var_head version (var_names vars) (Plain w.kind_word ∷ Plain line.name ∷ rest)) _ ((line.kind, line.name), rest) v (head_told version (var_names vars) line w rest fresh room)
-    (go_on (shape dims rest) _ (ids, []) v
-    (go_on (name_list rest) _ (line.dims, []) (ids, []) (names_told version line w)
-    (go_on (or_fault kind.UnknownName (dim_ids dims line.dims)) _ ids (ids, []) (faultless kind.UnknownName (dim_ids dims line.dims) ids found)
-    (go_on (refuse_if (nat_lt most_dims_of_var (length ids)) (kind.Limit limit.VarDims)) _ tt (ids, []) (passed _ _ (le-ltb most_dims_of_var (length ids) (few_ids dims line.dims ids found few)))
-    (go_on (refuse_if (list_any (is_record_dim dims) (drop 1 ids)) kind.BadShape) _ tt (ids, []) (passed _ _ records) refl)))) refl)
+var_told version dims vars line w stands = grind (arith, nat_tests, go_on, head_told, names_told, faultless, nat_lt, passed, le-ltb, few_ids)
 
 -- what a line adds to a dataset that is opened
 pub record AddedTold (dims : List Dim) (names : List (List ℕ)) (line : VarLine) (words : List Word) : Type 0 where
@@ -121,6 +97,4 @@ place_told n (x ∷ names) h = by (bytes_eq n x) refl h (λ k. place_told n name
     by false e k more = let later = more k in record { place = suc later.place; found = place_later (bytes_eq n) x names later.place e later.found }
 
 pub owner_found : (vars : List Var) (owner : List ℕ) → is_name owner ≡ true → (p : PlaceOf owner (var_names vars)) → owner_place vars owner ≡ Ok (Some p.place)
-owner_found vars owner is p =
-    by_false (bytes_eq owner (codes ":")) _ _ (no_colon owner is)
-    ∙ go_on (or_fault kind.UnknownName (position (bytes_eq owner) (var_names vars))) (λ k. Ok (Some k)) p.place (Some p.place) (faultless kind.UnknownName (position (bytes_eq owner) (var_names vars)) p.place p.found) refl
+owner_found vars owner is p = grind (arith, nat_tests, by_false, bytes_eq, codes, no_colon, go_on, position, faultless)

@@ -1,9 +1,9 @@
 -- The lines that define a new dataset, each with its statement.
-use Rattle.script_spelling.proofs.Words.{◌≡◌, ◌∙◌, ℕ, ◌+◌, List, [], ◌∷◌, ◌++◌, position, Bool, true, false, not, Option, Some, None, is_some, Result, Ok, Err, refl, sym, ap, subst, ⊎_elim, append_assoc, arith, bytes_eq, codes, list_any, or_left, or_right, faultless_some, ScriptKind, Dim, Attr, Var, Word, Plain, ◌>>=◌, refuse_if, or_fault, reads_as, ended, is_among, dim_ids, dim_line, var_line, var_names, owner_of_text, owner_place, Title, same_title, attribute, Defined, with_dim, with_var, with_title, with_attr_of_owner, with_attr_at, att_line, dim_definition, var_definition, fill_line, definition, Known, went, same_ok, not_refused, is_end, Later, bytes_same, more_ids, place_cases, pushes, Statement, IsFilled, DimIs, VarIs, AttIs, owner_word, IsOwner, Says, title_of, Stand, dims_in, vars_in, own_attrs, attrs_of}
+use Rattle.script_spelling.proofs.Words.{◌≡◌, ◌∙◌, ℕ, ◌+◌, List, [], ◌∷◌, ◌++◌, position, Bool, true, false, not, Option, Some, None, is_some, Result, Ok, Err, refl, sym, ap, subst, ⊎_elim, append_assoc, arith, bytes_eq, codes, list_any, or_left, or_right, faultless_some, ScriptKind, Dim, Attr, Var, Word, Plain, ◌>>=◌, or_fault, reads_as, is_among, dim_ids, dim_line, var_line, var_names, owner_of_text, owner_place, Title, same_title, attribute, Defined, with_dim, with_var, with_title, with_attr_of_owner, with_attr_at, att_line, dim_definition, var_definition, fill_line, definition, Known, went, same_ok, Later, bytes_same, more_ids, place_cases, pushes, Statement, DimIs, VarIs, AttIs, owner_word, IsOwner, Says, title_of, Stand, dims_in, vars_in, own_attrs, attrs_of, nat_tests}
 use Rattle.nc_base.specs.declared.errors.ScriptKind.TheVariants as kind
 use Rattle.script_spelling.proofs.LinesRead.{dim_said, var_said, owner_said, attr_said}
 use Rattle.script_spelling.proofs.GrownVars.{are_apart, apart_pushed, names_pushed, names_kept, later_names, GrownVars, var_first, attr_first}
-use Rattle.script_spelling.proofs.TakenLines.{flag, Fine, Taken}
+use Rattle.script_spelling.proofs.TakenLines.{Fine, Taken}
 
 -- ---- the definitions of a new dataset
 
@@ -162,22 +162,7 @@ new_att version k ws x fine h =
         (subst (λ (w : List ℕ). list_any (same_title (w, a.name)) k.defined.titles ≡ false) same fresh)))
 
 new_fill : (version : ℕ) (k : Known) (ws : List Word) (x : ℕ × Defined) → Fine k → fill_line k.defined ws ≡ Ok x → TakenNew version k (Plain (codes "fill") ∷ ws) x
-new_fill version k ws x fine h =
-    let d = k.defined in
-    let a = went (refuse_if d.filled kind.TwiceNamed) _ x h in
-    let b = went (ended ws) _ x a.rest in
-    let none = not_refused d.filled kind.TwiceNamed a.value a.first in
-    subst (TakenNew version k (Plain (codes "fill") ∷ ws)) (same_ok (0, record d { filled = true }) x b.rest) (record {
-      statement = IsFilled;
-      says = ap (λ (xs : List Word). Plain (codes "fill") ∷ xs) (is_end ws b.value b.first);
-      fine = record { long = fine.long; apart = fine.apart };
-      grown = λ ss last g. record {
-        ranks = g.ranks;
-        hints = g.hints;
-        filled = omega (arith, g.filled, ap flag none);
-        part = (g.part.0, g.part.1, g.part.2, g.part.3, (refl, g.part.4));
-      };
-    })
+new_fill version k ws x fine h = grind (arith, nat_tests)
 
 pub at_first : (opened : Bool) (version : ℕ) (k next : Known) (first word : List ℕ) (ws : List Word) → bytes_eq first word ≡ true → Taken opened version k (Plain word ∷ ws) next → Taken opened version k (Plain first ∷ ws) next
 at_first opened version k next first word ws e h = subst (λ (w : List ℕ). Taken opened version k (Plain w ∷ ws) next) (sym (bytes_same first word e)) h

@@ -1,5 +1,5 @@
 -- A text that is read spells its script.
-use Rattle.script_spelling.proofs.Words.{◌≡◌, ◌∙◌, ℕ, zero, suc, ◌+◌, List, [], ◌∷◌, ◌++◌, map, replicate, length, Bool, true, false, not, cond, nat_lt, ◌==◌, Option, Some, None, Result, Ok, Err, refl, sym, ap, subst, append_assoc, arith, bytes_eq, codes, utf8_valid_len, AllZip, list_all, range_with_len, eqb-true, ne_eqb, length-replicate, ScriptKind, Call, Script, Word, Plain, Quoted, Broken, Line, size_of_text, text_lines, significant, is_version, reads_as, whole, hint_in, Known, nothing_known, Called, at_line, version_of_text, version_line, head, definitions, data_part, finish, header_of, script_of, no_calls, script_of_lines, Reads, read_lawful, went, same_ok, whole_value, line_ok, bytes_same, is_text, Statement, Says, Stand, calls_in, fills_in, hint_values, at_most_one, ToDataset, Describes, SpellsCallLine, SpellsHead, version_of_lines, Sections, lines_of, Spells}
+use Rattle.script_spelling.proofs.Words.{◌≡◌, ◌∙◌, ℕ, zero, suc, ◌+◌, List, [], ◌∷◌, ◌++◌, map, replicate, length, Bool, true, false, not, cond, nat_lt, ◌==◌, Some, None, Result, Ok, Err, refl, sym, ap, subst, append_assoc, arith, bytes_eq, codes, utf8_valid_len, AllZip, list_all, range_with_len, eqb-true, ne_eqb, length-replicate, ScriptKind, Call, Script, Word, Plain, Quoted, Broken, Line, text_lines, significant, reads_as, whole, hint_in, Known, nothing_known, Called, at_line, version_of_text, version_line, head, definitions, data_part, finish, script_of, no_calls, script_of_lines, Reads, read_lawful, went, same_ok, whole_value, line_ok, bytes_same, is_text, Statement, Says, Stand, calls_in, ToDataset, Describes, SpellsCallLine, SpellsHead, version_of_lines, Sections, lines_of, Spells, nat_tests}
 use Rattle.nc_base.specs.declared.errors.ScriptKind.TheVariants as kind
 use Rattle.script_spelling.proofs.WordsRead.{word_is}
 use Rattle.script_spelling.proofs.CallLinesRead.{words_of, from_none, CallsRead, calls_read}
@@ -13,16 +13,7 @@ HeadRead words version = SpellsHead words (not (version == 0)) version
 
 -- a version that stands in a script is not 0
 pub no_zero : (w : List ℕ) (version : ℕ) → version_of_text w ≡ Some version → (version == 0) ≡ false
-no_zero w version h = by (size_of_text w) h
-  where
-    by_test : (n : ℕ) (b : Bool) → is_version n ≡ b → cond {A = Option ℕ} b (Some n) None ≡ Some version → (version == 0) ≡ false
-    by_test zero true e k = absurd (cc)
-    by_test (suc n) true e k = let same : suc n ≡ version = cc in subst (λ (x : ℕ). (x == 0) ≡ false) same (ne_eqb (suc n) 0 (omega arith))
-    by_test n false e k = absurd (cc)
-
-    by : (o : Option ℕ) → elim o as (λ x. Option ℕ) [ None ↦ None | Some n ↦ cond (is_version n) (Some n) None ] ≡ Some version → (version == 0) ≡ false
-    by None k = absurd (cc)
-    by (Some n) k = by_test n (is_version n) refl k
+no_zero w version h = grind (arith, nat_tests, ne_eqb)
 
 head_read : (w : Word) (ws : List Word) (version : ℕ) → head w ws ≡ Ok version → HeadRead (w ∷ ws) version
 head_read Broken ws version h = absurd (cc)
@@ -56,10 +47,7 @@ none_given (suc n) (suc h) = none_given n h
 
 dataset_read : (opened : Bool) (version ranks : ℕ) (ss : List Statement) (known : Known) (calls : List (List Call)) → (version == 0) ≡ opened → Part opened nothing_known ss known
     → ToDataset (not opened) ss (script_of version ranks known calls)
-dataset_read true version ranks ss known calls e p =
-    let zero_version = eqb-true version 0 e in
-    record { header = ap (λ (v : ℕ). header_of v known.defined) zero_version ∙ ap (λ d. header_of 0 d) p.0; extra = p.1 }
-dataset_read false version ranks ss known calls e p = record { dims = p.1; vars = p.3; attrs = p.2; records = refl; extra = p.0 }
+dataset_read opened version ranks ss known calls e p = grind (arith, nat_tests, eqb-true)
 
 filled_as : (filled : Bool) (n : ℕ) → flag filled ≡ 0 + n → n ≡ cond filled 1 0
 filled_as filled n h = omega (arith, h)
@@ -67,16 +55,7 @@ filled_as filled n h = omega (arith, h)
 describes_read : (version ranks : ℕ) (ss : List Statement) (known : Known) (called : List (ℕ × Call)) (calls : List (List Call))
     → Grown (version == 0) nothing_known ss known → known.ranks ≡ Some ranks → list_all (λ c. nat_lt c.0 ranks) called ≡ true → calls ≡ map (λ r. calls_in r called) (range_with_len 0 ranks)
     → Describes ss called (script_of version ranks known calls)
-describes_read version ranks ss known called calls grown told low same = record {
-  ranks = sym grown.ranks ∙ ap at_most_one told;
-  hint_table = known.hints;
-  given = λ h. sym (grown.hints h ∙ ap (λ (o : Option ℕ). at_most_one o ++ hint_values h ss) (none_given 10 h));
-  hints = refl;
-  filled = filled_as known.defined.filled (fills_in ss) grown.filled;
-  dataset = dataset_read (version == 0) version ranks ss known calls refl grown.part;
-  there = low;
-  calls = same;
-}
+describes_read version ranks ss known called calls grown told low same = grind (arith, nat_tests, none_given, filled_as, dataset_read)
 
 stand_read : (opened : Bool) (ss : List Statement) (known : Known) → Part opened nothing_known ss known → Stand opened [] [] [] ss
 stand_read true ss known p = p.2
@@ -142,20 +121,11 @@ lines_spelled past (l ∷ lines) script h =
 
 pub read_spelled : (text : List ℕ) (script : Script) → Reads text script → Spells text script
 read_spelled text script h =
-    let t = is_text text script h in
-    let l = lines_spelled (length (text_lines text) + 1) (significant text) script t.told in
-    record {
-      short = t.short;
-      few = t.few;
-      utf8 = eqb-true (utf8_valid_len text) (length text) t.valid;
-      sections = l.sections;
-      lines = l.are;
-      head = l.head;
-      statements = l.statements;
-      say = l.say;
-      stand = l.stand;
-      called = l.called;
-      call = l.call;
-      describes = l.describes;
-      lawful = read_lawful text script h;
-    }
+    grind (
+      arith,
+      nat_tests,
+      is_text text script h,
+      lines_spelled (length (text_lines text) + 1) (significant text) script (is_text text script h).told,
+      eqb-true (utf8_valid_len text) (length text) (is_text text script h).valid,
+      read_lawful text script h,
+    )

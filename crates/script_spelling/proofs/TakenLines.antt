@@ -1,5 +1,5 @@
 -- What later statements add to what is known; a line of ranks or of a hint.
-use Rattle.script_spelling.proofs.Words.{◌≡◌, ◌∙◌, ℕ, ◌+◌, ◌<◌, List, ◌∷◌, ◌++◌, length, Bool, true, false, cond, ◌==◌, Option, Some, None, slice_set, Ok, refl, sym, ap, subst, length-set, arith, bytes_eq, codes, eqb-true, equal_true, entry_below, entry_set, entry_set_other, position_below, Word, Plain, ◌>>=◌, hint_table, hint_in, hint_line, ranks_line, var_names, Known, went, same_ok, Statement, RanksAre, HintIs, Says, Stand, ranks_in, hint_values, fills_in, dims_in, vars_in, own_attrs, attrs_of, extras_in, at_most_one}
+use Rattle.script_spelling.proofs.Words.{◌≡◌, ◌∙◌, ℕ, ◌+◌, ◌<◌, List, ◌∷◌, ◌++◌, length, Bool, true, false, cond, ◌==◌, Option, Some, None, slice_set, Ok, sym, ap, subst, length-set, arith, bytes_eq, codes, eqb-true, equal_true, entry_below, entry_set, entry_set_other, position_below, Word, Plain, ◌>>=◌, hint_table, hint_in, hint_line, ranks_line, var_names, Known, went, same_ok, Statement, RanksAre, HintIs, Says, Stand, ranks_in, hint_values, fills_in, dims_in, vars_in, own_attrs, attrs_of, extras_in, at_most_one, nat_tests}
 use Rattle.script_spelling.proofs.LinesRead.{ranks_said, hint_said}
 use Rattle.script_spelling.proofs.GrownVars.{are_apart, GrownVars}
 
@@ -76,15 +76,7 @@ differ i j e same = let equal = equal_true i j same in absurd (cc)
 
 hint_first : (hints : List (Option ℕ)) (i v j : ℕ) (later found : List ℕ) → hint_in i hints ≡ None → i < length hints → found ≡ at_most_one (hint_in j (slice_set hints i (Some v))) ++ later
     → found ≡ at_most_one (hint_in j hints) ++ cond (i == j) (v ∷ later) later
-hint_first hints i v j later found free low h = by (i == j) refl
-  where
-    by : (b : Bool) → (i == j) ≡ b → found ≡ at_most_one (hint_in j hints) ++ cond b (v ∷ later) later
-    by true e =
-        let same = eqb-true i j e in
-        let set : hint_in j (slice_set hints i (Some v)) ≡ Some v = subst (λ (n : ℕ). hint_in n (slice_set hints i (Some v)) ≡ Some v) same (hint_here hints i v low) in
-        let none : hint_in j hints ≡ None = subst (λ (n : ℕ). hint_in n hints ≡ None) same free in
-        h ∙ (ap (λ (o : Option ℕ). at_most_one o ++ later) set ∙ ap (λ (o : Option ℕ). at_most_one o ++ v ∷ later) (sym none))
-    by false e = h ∙ ap (λ (o : Option ℕ). at_most_one o ++ later) (hint_elsewhere hints i j v (λ same. differ i j e (sym same)))
+hint_first hints i v j later found free low h = grind (arith, nat_tests, eqb-true, slice_set, hint_here, hint_elsewhere, differ)
 
 pub hint_taken : (opened : Bool) (version : ℕ) (k : Known) (ws : List Word) (next : Known) → Fine k → (hint_line k.hints ws >>= λ h. Ok (record k { hints = slice_set k.hints h.0 (Some h.1) })) ≡ Ok next
     → Taken opened version k (Plain (codes "hint") ∷ ws) next

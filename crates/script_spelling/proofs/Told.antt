@@ -1,5 +1,5 @@
 -- A text that spells a script is read as this script.
-use Rattle.script_spelling.proofs.Words.{◌≡◌, ◌∙◌, ℕ, ◌+◌, ◌≤◌, List, [], ◌∷◌, ◌++◌, map, sum, drop, length, Bool, true, false, not, cond, ◌==◌, Option, Some, None, Result, Ok, Err, refl, sym, ap, subst, append_assoc, arith, codes, AllZip, utf8_valid_len, eq-eqb, length-replicate, some_not_none, first_same, ScriptErr, ScriptKind, Attr, Dim, Header, Var, Call, Extra, Hints, Script, most_values, attr_values, extra_values, values_in_extra, values_in_script, lawful_parts, Word, Plain, Line, text_lines, significant, reads_as, whole, hints_of, no_definition, Defined, Known, nothing_known, at_line, version_of_text, head, definitions, data_part, finish, header_of, script_of, no_calls, script_of_lines, script_of_text, fault_of, script_fault, Reads, sum_cons, go_on, same_ok, word_read, count_all, count_attrs, count_own, agreement, all_counted, finish_by, count_empty, text_again, Statement, RanksAre, HintIs, IsFilled, DimIs, VarIs, AttIs, Says, Stand, calls_in, fills_in, hint_values, at_most_one, ToDataset, Describes, SpellsHead, Sections, lines_of, Spells}
+use Rattle.script_spelling.proofs.Words.{◌≡◌, ◌∙◌, ℕ, ◌+◌, ◌≤◌, List, [], ◌∷◌, ◌++◌, map, sum, drop, length, Bool, true, false, not, cond, ◌==◌, Option, Some, None, Result, Ok, Err, refl, sym, ap, subst, append_assoc, arith, codes, AllZip, utf8_valid_len, eq-eqb, length-replicate, some_not_none, first_same, ScriptErr, ScriptKind, Attr, Dim, Header, Var, Call, Extra, Hints, Script, most_values, attr_values, extra_values, values_in_extra, values_in_script, lawful_parts, Word, Plain, Line, text_lines, significant, whole, hints_of, no_definition, Defined, Known, nothing_known, head, definitions, data_part, finish, header_of, script_of, no_calls, script_of_lines, script_of_text, fault_of, script_fault, Reads, sum_cons, go_on, same_ok, word_read, count_all, count_attrs, count_own, agreement, all_counted, finish_by, count_empty, text_again, Statement, RanksAre, HintIs, IsFilled, DimIs, VarIs, AttIs, Says, Stand, calls_in, fills_in, ToDataset, Describes, SpellsHead, Sections, lines_of, Spells, nat_tests}
 use Rattle.nc_base.specs.declared.errors.ScriptKind.TheVariants as kind
 use Rattle.script_spelling.proofs.Spelled.{no_zero, none_given, no_not, read_spelled}
 use Rattle.script_spelling.proofs.CallLinesRead.{words_of, from_none}
@@ -19,11 +19,7 @@ record HeadTold (ws : List Word) (fresh : Bool) (version : ℕ) : Type 0 where
   mode : (version == 0) ≡ not fresh
 
 head_told : (ws : List Word) (fresh : Bool) (version : ℕ) → SpellsHead ws fresh version → HeadTold ws fresh version
-head_told ws true version (w, are, told) = record {
-  read = ap head_by are ∙ go_on (reads_as version_of_text kind.BadNumber (Plain w ∷ [])) (λ v. whole v) (version, []) version (word_read version_of_text kind.BadNumber w version [] told) refl;
-  mode = no_zero w version told;
-}
-head_told ws false version (are, none) = record { read = ap head_by are ∙ ap (λ (n : ℕ). Ok n) (sym none); mode = ap (λ (n : ℕ). n == 0) none }
+head_told ws fresh version xs = grind (arith, nat_tests, go_on, word_read, no_zero)
 
 -- ---- what statements say, as what is known
 
@@ -53,20 +49,14 @@ not_filled false n h none = refl
 
 opened_defines : (header : Header) (filled : Bool) → header ≡ header_of 0 no_definition → filled ≡ false
     → ◌≡◌ {A = Defined} (record { dims = header.dims; vars = header.vars; attrs = header.attrs; titles = []; filled = filled }) no_definition
-opened_defines header filled e none =
-    ap (λ (h : Header). record { dims = h.dims; vars = h.vars; attrs = h.attrs; titles = []; filled = filled }) e ∙ ap (λ (b : Bool). record { dims = []; vars = []; attrs = []; titles = []; filled = b }) none
+opened_defines header filled e none = grind (arith, nat_tests)
 
 part_told : (fresh : Bool) (s : Script) (hints : List (Option ℕ)) (ss : List Statement) → fills_in ss ≡ cond s.filled 1 0 → ToDataset fresh ss s → Stand (not fresh) [] [] [] ss → Part (not fresh) nothing_known ss (known_of s hints)
 part_told true s hints ss filled d stand = (d.extra, d.dims, d.attrs, d.vars, stand)
 part_told false s hints ss filled d stand = (opened_defines s.header s.filled d.header (not_filled s.filled (fills_in ss) filled (no_fill ss [] [] [] stand)), d.extra, stand)
 
 grown_told : (s : Script) (ss : List Statement) (called : List (ℕ × Call)) (d : Describes ss called s) → Stand (not s.fresh) [] [] [] ss → Grown (not s.fresh) nothing_known ss (known_of s d.hint_table)
-grown_told s ss called d stand = record {
-  ranks = sym d.ranks;
-  hints = λ h. sym (d.given h) ∙ ap (λ (o : Option ℕ). at_most_one o ++ hint_values h ss) (sym (none_given 10 h));
-  filled = omega (arith, d.filled);
-  part = part_told s.fresh s d.hint_table ss d.filled d.dataset stand;
-}
+grown_told s ss called d stand = grind (arith, nat_tests, none_given, part_told)
 
 -- ---- how many values it has
 
@@ -120,11 +110,7 @@ script_told s ss called d known mode g =
 parts_told : (past version n : ℕ) (l : Line) (lines rest : List Line) (known : Known) (end values : ℕ) (calls : List (List Call)) (s : Script) → head l.first l.rest ≡ Ok version
     → definitions past version nothing_known lines ≡ Ok (n, (known, rest)) → data_part past (no_calls n known) rest ≡ Ok (end, (record { calls = calls; values = values }, [])) → finish end calls [] ≡ Ok tt → script_of version n known calls ≡ s
     → script_of_lines past (l ∷ lines) ≡ Ok s
-parts_told past version n l lines rest known end values calls s first defined called last same =
-    go_on (at_line l.number (head l.first l.rest)) _ version s (ap (at_line l.number) first)
-    (go_on (definitions past version nothing_known lines) _ (n, (known, rest)) s defined
-    (go_on (data_part past (no_calls n known) rest) _ (end, (record { calls = calls; values = values }, [])) s called
-    (go_on (finish end calls []) _ tt s last (ap (λ (x : Script). Ok x) same))))
+parts_told past version n l lines rest known end values calls s first defined called last same = grind (arith, nat_tests, go_on)
 
 -- the lines, from the first on
 in_order : (lines : List Line) (s : Sections) → map words_of lines ≡ lines_of s → map words_of lines ≡ s.head ∷ (s.before_data ++ ((Plain (codes "data") ∷ []) ∷ (s.after_data ++ (Plain (codes "end") ∷ []) ∷ [])))

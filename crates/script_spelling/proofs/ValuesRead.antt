@@ -1,5 +1,5 @@
 -- The words of values and regions that are read spell them.
-use Rattle.script_spelling.proofs.Words.{◌≡◌, ◌∙◌, ℕ, zero, suc, ◌+◌, ◌<◌, List, [], ◌∷◌, ◌++◌, flat_map, length, Bool, true, false, not, nat_lt, ◌==◌, ◌&&◌, Option, Some, None, Result, Ok, ℤ, refl, sym, ap, subst, append_assoc, append-nil, arith, bytes_eq, codes, and_from, lt-ltb, ScriptKind, NcType, Values, Numbers, Text, Bits, Form, Given, Part, Class, most_parts, Word, Plain, Quoted, Broken, size_of_text, number_of_text, bits_of_text, list_of_text, ◌>>=◌, refuse_if, or_fault, bare, reads_as, size, list, ended, within_limits, are_numbers, are_patterns, are_text, may_be, wrong_kind, number_for, pattern_for, one_value, each_value, sequence_count, sequence, last_number, is_term, term, numbers_between, pattern_sequence, last_pattern, is_pattern_term, pattern_term, patterns_between, seq_values, seqx_values, pattern_values, text_values, number_values, bits_values, listed_kind, listed_values, values, given_of, given_parts, part, part_list, many_regions, region, went, same_ok, not_refused, is_end, carried, bytes_same, SpellsOne, Each, SpellsSequence, SpellsBitSequence, SpellsValues, OfNothing, OfText, OfNumbers, OfBits, OfSequence, OfBitSequence, SpellsForm, SpellsRegion}
+use Rattle.script_spelling.proofs.Words.{◌≡◌, ◌∙◌, ℕ, zero, suc, ◌+◌, ◌<◌, List, [], ◌∷◌, ◌++◌, flat_map, length, Bool, true, false, not, nat_lt, ◌==◌, ◌&&◌, Option, Some, None, Result, Ok, ℤ, refl, sym, ap, subst, append_assoc, append-nil, arith, bytes_eq, codes, and_from, lt-ltb, ScriptKind, NcType, Values, Numbers, Text, Bits, Form, Given, Part, Class, most_parts, Word, Plain, Quoted, Broken, size_of_text, number_of_text, bits_of_text, list_of_text, refuse_if, reads_as, size, list, ended, within_limits, are_numbers, are_patterns, are_text, may_be, wrong_kind, number_for, pattern_for, one_value, each_value, sequence_count, sequence, last_number, is_term, term, numbers_between, pattern_sequence, last_pattern, is_pattern_term, pattern_term, patterns_between, seq_values, seqx_values, pattern_values, text_values, number_values, bits_values, listed_kind, listed_values, values, given_of, given_parts, part, part_list, many_regions, region, went, same_ok, not_refused, is_end, carried, bytes_same, SpellsOne, Each, SpellsSequence, SpellsBitSequence, SpellsValues, OfNothing, OfText, OfNumbers, OfBits, OfSequence, OfBitSequence, SpellsForm, SpellsRegion, nat_tests}
 use borrow.Author.Tests.{not-false}
 use Rattle.nc_base.specs.declared.errors.ScriptKind.TheVariants as kind
 use Rattle.nc_base.specs.declared.errors.LimitName.TheVariants as limit
@@ -10,12 +10,7 @@ use Rattle.script_spelling.proofs.WordsRead.{WordRead, word_is, one_is, size_is,
 -- ---- values that are written out
 
 one_spelled : {A : Type 0} (f : List ℕ → Option A) (t : Option NcType) (before n : ℕ) (w : Word) (x : A) → f (34 ∷ []) ≡ None → one_value f t before n w ≡ Ok x → SpellsOne f w x
-one_spelled f t before n w x none h =
-    let a = went (bare w) _ x h in
-    let b = went (or_fault kind.BadNumber (f a.value)) _ x a.rest in
-    let c = went (within_limits t before (n + 1)) _ x b.rest in
-    let read : (bare w >>= λ v. or_fault kind.BadNumber (f v)) ≡ Ok b.value = ap (λ (r : Result (List ℕ) ScriptKind). r >>= λ v. or_fault kind.BadNumber (f v)) a.first ∙ b.first in
-    subst (SpellsOne f w) (same_ok b.value x c.rest) (one_is f kind.BadNumber w b.value none read)
+one_spelled f t before n w x none h = grind (arith, nat_tests, went, same_ok, one_is)
 
 pub record EachRead {A : Type 0} (f : List ℕ → Option A) (found : List A) (ws : List Word) (xs : List A) : Type 0 where
   pub more : List A
@@ -72,10 +67,7 @@ pattern_spelled t n ws r h =
     (record { word = word_is bits_of_text kind.BadNumber ws a.value refl a.first; fits = not-false _ (not_refused _ _ b.value b.first) })
 
 three_words : (first one two three : List ℕ) (ws a b c : List Word) → ws ≡ Plain one ∷ a → a ≡ Plain two ∷ b → b ≡ Plain three ∷ c → c ≡ [] → Plain first ∷ ws ≡ Plain first ∷ Plain one ∷ Plain two ∷ Plain three ∷ []
-three_words first one two three ws a b c e1 e2 e3 e4 =
-    ap (λ (xs : List Word). Plain first ∷ xs) e1
-    ∙ (ap (λ (xs : List Word). Plain first ∷ Plain one ∷ xs) e2
-    ∙ (ap (λ (xs : List Word). Plain first ∷ Plain one ∷ Plain two ∷ xs) e3 ∙ ap (λ (xs : List Word). Plain first ∷ Plain one ∷ Plain two ∷ Plain three ∷ xs) e4))
+three_words first one two three ws a b c e1 e2 e3 e4 = grind (arith, nat_tests)
 
 seq_spelled : (t : Option NcType) (before : ℕ) (ws : List Word) (vs : Values) → seq_values t before ws ≡ Ok vs → SpellsSequence t (Plain (codes "seq") ∷ ws) vs
 seq_spelled t before ws vs h =

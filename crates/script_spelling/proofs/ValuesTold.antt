@@ -1,24 +1,17 @@
 -- Words that spell values are read as these values.
-use Rattle.script_spelling.proofs.Words.{◌≡◌, ◌∙◌, ℕ, zero, suc, ◌+◌, ◌<◌, List, [], ◌∷◌, ◌++◌, fold, length, Bool, true, false, not, cond, nat_lt, nat_le, ◌==◌, ◌&&◌, Option, Some, None, option_map, Ok, ℤ, pos, refl, sym, ap, subst, append_assoc, append-nil, length-append, arith, bytes_eq, codes, and_parts, and_right, cond-false, eqb-true, some_not_none, count_of, NcType, Values, Numbers, Text, Bits, Class, class_of, size_of, fits_in, Word, Plain, natural_of, size_of_text, number_of_text, bits_of_text, hex_sum, refuse_if, or_fault, reads_as, size, within_limits, are_numbers, are_patterns, are_text, may_be, may_have, wrong_kind, number_for, pattern_for, one_value, each_value, sequence_count, sequence, last_number, is_term, term, numbers_between, pattern_sequence, last_pattern, is_pattern_term, pattern_term, patterns_between, seq_values, seqx_values, pattern_values, text_values, number_values, bits_values, begins_x, listed_kind, listed_values, values, go_on, passed, faultless, word_read, carry_on, by_false, bytes_same, length-sequence, length-pattern_sequence, HasRoom, room_again, less_room, number_fit, pattern_fit, SpellsOne, Each, SpellsSequence, SpellsBitSequence, SpellsValues, OfNothing, OfText, OfNumbers, OfBits, OfSequence, OfBitSequence}
+use Rattle.script_spelling.proofs.Words.{◌≡◌, ◌∙◌, ℕ, ◌+◌, ◌<◌, List, [], ◌∷◌, ◌++◌, fold, length, Bool, true, false, not, cond, nat_lt, nat_le, Option, Some, None, Ok, ℤ, refl, sym, ap, subst, append_assoc, append-nil, length-append, arith, bytes_eq, codes, and_parts, some_not_none, count_of, NcType, Values, Numbers, Text, Bits, Class, class_of, size_of, fits_in, Word, Plain, size_of_text, number_of_text, bits_of_text, refuse_if, reads_as, size, are_numbers, are_text, may_be, number_for, pattern_for, one_value, each_value, sequence_count, sequence, last_number, is_term, term, numbers_between, is_pattern_term, pattern_term, seq_values, pattern_values, text_values, number_values, bits_values, begins_x, listed_kind, listed_values, values, go_on, passed, faultless, word_read, carry_on, by_false, bytes_same, length-sequence, length-pattern_sequence, HasRoom, room_again, less_room, number_fit, pattern_fit, SpellsOne, Each, SpellsSequence, SpellsBitSequence, SpellsValues, OfNothing, OfText, OfNumbers, OfBits, OfSequence, OfBitSequence, nat_tests}
 use Rattle.nc_base.specs.declared.errors.ScriptKind.TheVariants as kind
 use Rattle.nc_base.specs.declared.request.Value.TheVariants as value
 use Rattle.serial_spec.specs.ExternalForm as class
 
 -- a word that this reads is no word that it doesn't
 pub other_word : {A : Type 0} (f : List ℕ → Option A) (w text : List ℕ) (x : A) → f text ≡ None → f w ≡ Some x → bytes_eq w text ≡ false
-other_word {A} f w text x none some = by (bytes_eq w text) refl
-  where
-    by : (b : Bool) → bytes_eq w text ≡ b → b ≡ false
-    by false e = refl
-    by true e = absurd (some_not_none x (f text) (subst (λ (v : List ℕ). f v ≡ Some x) (bytes_same w text e) some) none)
+other_word f w text x none some = grind (arith, nat_tests, bytes_eq, some_not_none, bytes_same)
 
 -- ---- values that are written out
 
 one_told : {A : Type 0} (f : List ℕ → Option A) (t : Option NcType) (before n : ℕ) (w : Word) (x : A) → SpellsOne f w x → HasRoom t before (n + 1) → one_value f t before n w ≡ Ok x
-one_told {A} f t before n w x h room =
-    subst (λ (u : Word). one_value f t before n u ≡ Ok x) (sym h.1)
-    (go_on (or_fault kind.BadNumber (f h.0)) _ x x (faultless kind.BadNumber (f h.0) x h.2)
-    (go_on (within_limits t before (n + 1)) _ tt x (room_again t before (n + 1) room) refl))
+one_told f t before n w x h room = grind (arith, nat_tests, go_on, faultless, room_again)
 
 each_told : {A : Type 0} (f : List ℕ → Option A) (t : Option NcType) (before : ℕ) (found : List A) (ws : List Word) (xs : List A) → Each f ws xs → HasRoom t before (length (found ++ xs))
     → each_value f t before found ws ≡ Ok (found ++ xs)
@@ -34,28 +27,12 @@ each_told {A} f t before found (w ∷ ws) (x ∷ xs) h room =
 
 -- ---- numbers
 
-no_natural : (cs : List ℕ) → natural_of (120 ∷ cs) ≡ None
-no_natural cs = cond-false _ _ _ (and_right _ _ refl)
-
-abbrev number_by : Option ℤ → Option ℤ
-number_by o = elim o [ None ↦ None | Some z ↦ cond (may_have None (value.Number z)) (Some z) None ]
-
 -- a number has no x
 number_begins : (w : List ℕ) (z : ℤ) → number_for None w ≡ Some z → begins_x w ≡ false
-number_begins [] z h = absurd (cc)
-number_begins (c ∷ cs) z h = by (c == 120) refl
-  where
-    by : (b : Bool) → (c == 120) ≡ b → b ≡ false
-    by false e = refl
-    by true e =
-        let some : number_for None (120 ∷ cs) ≡ Some z = subst (λ (x : ℕ). number_for None (x ∷ cs) ≡ Some z) (eqb-true c 120 e) h in
-        absurd (some_not_none z (number_for None (120 ∷ cs)) some (ap (λ (o : Option ℕ). number_by (option_map (λ n. pos n) o)) (no_natural cs)))
+number_begins w z h = grind (arith, nat_tests)
 
 listed_numbers : (c : Class) (n : ℕ) (t : Option NcType) (before : ℕ) (ws : List Word) (z : ℤ) → fits_in c n (value.Number z) ≡ true → listed_values c t before ws ≡ number_values t before ws
-listed_numbers class.Signed n t before ws z h = refl
-listed_numbers class.Unsigned n t before ws z h = refl
-listed_numbers class.Text n t before ws z h = absurd (cc)
-listed_numbers class.Pattern n t before ws z h = absurd (cc)
+listed_numbers c n t before ws z h = grind (arith, nat_tests)
 
 as_numbers : (t : Option NcType) (before : ℕ) (w : List ℕ) (ws : List Word) (z : ℤ) → number_for t w ≡ Some z → listed_values (listed_kind t w) t before ws ≡ number_values t before ws
 as_numbers None before w ws z h = ap (λ (b : Bool). listed_values (cond b class.Pattern class.Signed) None before ws) (number_begins w z h)
@@ -83,25 +60,13 @@ numbers_told t before (w ∷ ws) (z ∷ zs) h room =
 -- ---- bits
 
 bits_begin : (w : List ℕ) (n : ℕ) → bits_of_text w ≡ Some n → begins_x w ≡ true
-bits_begin [] n h = absurd (cc)
-bits_begin (c ∷ hs) n h = by (c == 120) h
-  where
-    by : (b : Bool) → cond {A = Option ℕ} (b && nat_lt 0 (length hs) && nat_le (length hs) 16) (fold hex_sum (Some 0) hs) None ≡ Some n → b ≡ true
-    by true k = refl
-    by false k = absurd (cc)
+bits_begin w n h = grind (arith, nat_tests, nat_lt, nat_le, fold)
 
 pattern_begins : (w : List ℕ) (n : ℕ) → pattern_for None w ≡ Some n → begins_x w ≡ true
-pattern_begins w n h = by (bits_of_text w) refl h
-  where
-    by : (o : Option ℕ) → bits_of_text w ≡ o → elim o as (λ x. Option ℕ) [ None ↦ None | Some m ↦ cond (may_have None (value.Bits m)) (Some m) None ] ≡ Some n → begins_x w ≡ true
-    by None e k = absurd (cc)
-    by (Some m) e k = bits_begin w m e
+pattern_begins w n h = grind (arith, nat_tests, bits_begin)
 
 listed_bits : (c : Class) (size : ℕ) (t : Option NcType) (before : ℕ) (ws : List Word) (n : ℕ) → fits_in c size (value.Bits n) ≡ true → listed_values c t before ws ≡ bits_values t before ws
-listed_bits class.Signed size t before ws n h = absurd (cc)
-listed_bits class.Unsigned size t before ws n h = absurd (cc)
-listed_bits class.Text size t before ws n h = absurd (cc)
-listed_bits class.Pattern size t before ws n h = refl
+listed_bits c size t before ws n h = grind (arith, nat_tests)
 
 as_bits : (t : Option NcType) (before : ℕ) (w : List ℕ) (ws : List Word) (n : ℕ) → pattern_for t w ≡ Some n → listed_values (listed_kind t w) t before ws ≡ bits_values t before ws
 as_bits None before w ws n h = ap (λ (b : Bool). listed_values (cond b class.Pattern class.Signed) None before ws) (pattern_begins w n h)
@@ -123,22 +88,12 @@ bits_told t before (w ∷ ws) (n ∷ ns) some h room =
 
 -- ---- sequences
 
-suited : (suits : Bool) (n : ℕ) → (0 < n → suits ≡ true) → (nat_lt 0 n && not suits) ≡ false
-suited true n h = and_right _ _ refl
-suited false zero h = refl
-suited false (suc n) h = let no : false ≡ true = h (omega arith) in absurd (cc)
-
 count_told : (suits : Bool) (t : Option NcType) (before : ℕ) (count : List ℕ) (n : ℕ) (more : List Word) → size_of_text count ≡ Some n → (0 < n → suits ≡ true) → HasRoom t before n
     → sequence_count suits t before (Plain count ∷ more) ≡ Ok (n, more)
-count_told suits t before count n more h fits room =
-    go_on (size (Plain count ∷ more)) _ (n, more) (n, more) (word_read size_of_text kind.BadNumber count n more h)
-    (go_on (refuse_if (nat_lt 0 n && not suits) (wrong_kind t)) _ tt (n, more) (passed _ _ (suited suits n fits))
-    (go_on (within_limits t before n) _ tt (n, more) (room_again t before n room) refl))
+count_told suits t before count n more h fits room = grind (arith, nat_tests)
 
 term_told : (t : Option NcType) (n : ℕ) (w : List ℕ) (a : ℤ) (more : List Word) → number_of_text w ≡ Some a → is_term t n a ≡ true → term t n (Plain w ∷ more) ≡ Ok (a, more)
-term_told t n w a more h fits =
-    go_on (reads_as number_of_text kind.BadNumber (Plain w ∷ more)) _ (a, more) (a, more) (word_read number_of_text kind.BadNumber w a more h)
-    (go_on (refuse_if (not (is_term t n a)) kind.BadNumber) _ tt (a, more) (passed _ _ (ap not fits)) refl)
+term_told t n w a more h fits = grind (arith, nat_tests, go_on, word_read, not, passed)
 
 seq_told : (t : Option NcType) (before : ℕ) (ws : List Word) (vs : Values) → SpellsSequence t ws vs → HasRoom t before (count_of vs) → values t before ws ≡ Ok vs
 seq_told t before ws vs (count, first, step, n, a, b, are, told, low, by, suits, least, most, same) room =
@@ -155,42 +110,24 @@ seq_told t before ws vs (count, first, step, n, a, b, are, told, low, by, suits,
     ap (values t before) are ∙ (read ∙ ap (λ (x : Values). Ok x) (sym same))
 
 pattern_told : (t : Option NcType) (n : ℕ) (w : List ℕ) (a : ℕ) (more : List Word) → bits_of_text w ≡ Some a → is_pattern_term t n a ≡ true → pattern_term t n (Plain w ∷ more) ≡ Ok (a, more)
-pattern_told t n w a more h fits =
-    go_on (reads_as bits_of_text kind.BadNumber (Plain w ∷ more)) _ (a, more) (a, more) (word_read bits_of_text kind.BadNumber w a more h)
-    (go_on (refuse_if (not (is_pattern_term t n a)) kind.BadNumber) _ tt (a, more) (passed _ _ (ap not fits)) refl)
+pattern_told t n w a more h fits = grind (arith, nat_tests, go_on, word_read, not, passed)
 
 count_of_patterns : (ns : List ℕ) → count_of (pattern_values ns) ≡ length ns
 count_of_patterns [] = refl
 count_of_patterns (n ∷ ns) = refl
 
 seqx_told : (t : Option NcType) (before : ℕ) (ws : List Word) (vs : Values) → SpellsBitSequence t ws vs → HasRoom t before (count_of vs) → values t before ws ≡ Ok vs
-seqx_told t before ws vs (count, first, step, n, a, b, are, told, low, by, suits, least, most, same) room =
-    let last = Plain step ∷ [] in
-    let ns = pattern_sequence a b n in
-    let fits = subst (λ (m : ℕ). HasRoom t before m) (ap count_of same ∙ (count_of_patterns ns ∙ length-pattern_sequence a b n)) room in
-    let terms : patterns_between t n (Plain first ∷ last) ≡ Ok ns =
-    go_on (pattern_term t n (Plain first ∷ last)) _ (a, last) ns (pattern_told t n first a last low least)
-    (go_on (reads_as bits_of_text kind.BadNumber last) _ (b, []) ns (word_read bits_of_text kind.BadNumber step b [] by)
-    (go_on (refuse_if (not (is_pattern_term t n (last_pattern a b n))) kind.BadNumber) _ tt ns (passed _ _ (ap not most)) refl)) in
-    let read : seqx_values t before (Plain count ∷ Plain first ∷ last) ≡ Ok (pattern_values ns) =
-    go_on (sequence_count (may_be are_patterns t) t before (Plain count ∷ Plain first ∷ last)) _ (n, Plain first ∷ last) (pattern_values ns) (count_told (may_be are_patterns t) t before count n (Plain first ∷ last) told suits fits)
-    (go_on (patterns_between t n (Plain first ∷ last)) _ ns (pattern_values ns) terms refl) in
-    ap (values t before) are ∙ (read ∙ ap (λ (x : Values). Ok x) (sym same))
+seqx_told t before ws vs xs room = grind (arith, nat_tests, count_of_patterns, length-pattern_sequence, go_on, pattern_told, word_read, not, passed, count_told)
 
 -- ---- all values
 
 text_told : (t : Option NcType) (before : ℕ) (text : List ℕ) → may_be are_text t ≡ true → HasRoom t before (length text) → text_values t before text [] ≡ Ok (Text text)
-text_told t before text may room =
-    go_on (refuse_if (not (may_be are_text t)) kind.BadNumber) _ tt (Text text) (passed _ _ (ap not may))
-    (go_on (within_limits t before (length text)) _ tt (Text text) (room_again t before (length text) room) refl)
+text_told t before text may room = grind (arith, nat_tests, go_on, not, passed, room_again)
 
 pub values_told : (t : Option NcType) (before : ℕ) (ws : List Word) (vs : Values) → SpellsValues t ws vs → HasRoom t before (count_of vs) → values t before ws ≡ Ok vs
 values_told t before ws vs (OfNothing none same) room = ap (values t before) none ∙ ap (λ (x : Values). Ok x) (sym same)
-values_told t before ws vs (OfText text are may same) room =
-    ap (values t before) are ∙ (text_told t before text may (subst (λ (x : Values). HasRoom t before (count_of x)) same room) ∙ ap (λ (x : Values). Ok x) (sym same))
-values_told t before ws vs (OfNumbers zs each same) room =
-    numbers_told t before ws zs each (subst (λ (x : Values). HasRoom t before (count_of x)) same room) ∙ ap (λ (x : Values). Ok x) (sym same)
-values_told t before ws vs (OfBits ns some each same) room =
-    bits_told t before ws ns some each (subst (λ (x : Values). HasRoom t before (count_of x)) same room) ∙ ap (λ (x : Values). Ok x) (sym same)
+values_told t before ws vs (OfText text are may same) room = grind (arith, nat_tests, text_told)
+values_told t before ws vs (OfNumbers zs each same) room = grind (arith, nat_tests, numbers_told)
+values_told t before ws vs (OfBits ns some each same) room = grind (arith, nat_tests, bits_told)
 values_told t before ws vs (OfSequence h) room = seq_told t before ws vs h room
 values_told t before ws vs (OfBitSequence h) room = seqx_told t before ws vs h room

@@ -1,5 +1,5 @@
 -- The variables of a new dataset, where the line of one of them, or of an attribute, goes from the later lines to those before.
-use Rattle.script_spelling.proofs.Words.{◌≡◌, ◌∙◌, ℕ, ◌≤◌, List, [], ◌∷◌, ◌++◌, position, true, false, Some, refl, sym, ap, subst, ⊎_elim, append_assoc, append-nil, arith, bytes_eq, and_parts, or_parts, not-true, cond-true, cond-false, same_Some, Dim, Attr, Var, dim_ids, is_among, var_names, bytes_same, Later, place_cases, with_own, push_attr, count_attrs, count_own, VarLine, IsVarOf}
+use Rattle.script_spelling.proofs.Words.{◌≡◌, ◌∙◌, ℕ, ◌≤◌, List, [], ◌∷◌, ◌++◌, position, true, false, Some, refl, sym, ap, subst, ⊎_elim, append_assoc, append-nil, arith, bytes_eq, and_parts, or_parts, not-true, cond-true, cond-false, same_Some, Dim, Attr, Var, dim_ids, is_among, var_names, bytes_same, Later, place_cases, with_own, push_attr, count_attrs, count_own, VarLine, IsVarOf, nat_tests}
 use Rattle.script_spelling.proofs.GrownVars.{are_apart, line_names, GrownVars, first_of}
 use Rattle.script_spelling.proofs.LinesTold.{var_of}
 
@@ -12,11 +12,7 @@ count_later (a ∷ list) more = let rest = count_later list more in omega arith
 pub count_grown : (dims : List Dim) (more : List ℕ → List Attr) (vars : List Var) (lines : List VarLine) (last : List Var) → GrownVars dims more vars lines last → count_own vars ≤ count_own last
 count_grown dims more [] lines last h = omega arith
 count_grown dims more (v ∷ vars) lines [] h = absurd h
-count_grown dims more (v ∷ vars) lines (w ∷ last) h =
-    let first = count_later v.attrs (more v.name) in
-    let same = ap (λ (x : Var). count_attrs x.attrs) h.0 in
-    let rest = count_grown dims more vars lines last h.1 in
-    omega (arith, first, same, rest)
+count_grown dims more (v ∷ vars) lines (w ∷ last) h = grind (arith, nat_tests, count_grown dims more vars lines last h.1, count_later)
 
 -- ---- at the end
 
@@ -24,17 +20,13 @@ pub all_grown : (dims : List Dim) (vars last : List Var) → GrownVars dims (λ 
 all_grown dims [] [] h = refl
 all_grown dims [] (w ∷ last) h = absurd h
 all_grown dims (v ∷ vars) [] h = absurd h
-all_grown dims (v ∷ vars) (w ∷ last) h =
-    let same : v ≡ w = ap (λ (list : List Attr). record v { attrs = list }) (sym (append-nil v.attrs)) ∙ sym h.0 in
-    ap (λ (x : Var). x ∷ vars) same ∙ ap (λ (xs : List Var). w ∷ xs) (all_grown dims vars last h.1)
+all_grown dims (v ∷ vars) (w ∷ last) h = grind (arith, nat_tests, all_grown dims vars last h.1, append-nil)
 
 -- ---- the line of a variable
 
 -- the variable that the line defines, with what later lines give it
 line_grown : (dims : List Dim) (list : List Attr) (line : VarLine) (ids : List ℕ) (w : Var) → dim_ids dims line.dims ≡ Some ids → IsVarOf dims list line w → w ≡ record (var_of line ids) { attrs = list }
-line_grown dims list line ids w found h =
-    let same : w.dims ≡ ids = same_Some w.dims ids (sym h.0 ∙ found) in
-    h.1 ∙ ap (λ (places : List ℕ). record (var_of line places) { attrs = list }) same
+line_grown dims list line ids w found h = grind (arith, nat_tests, same_Some)
 
 pub var_behind : (dims : List Dim) (more : List ℕ → List Attr) (vars : List Var) (line : VarLine) (lines : List VarLine) (ids : List ℕ) (last : List Var) → dim_ids dims line.dims ≡ Some ids
     → GrownVars dims more vars (line ∷ lines) last → GrownVars dims more (vars ++ var_of line ids ∷ []) lines last

@@ -1,5 +1,5 @@
 -- Words that are read stand as they are.
-use Rattle.script_spelling.proofs.Words.{◌≡◌, ◌∙◌, ℕ, List, [], ◌∷◌, true, Option, Some, None, Ok, refl, ap, subst, cond_some, faultless_some, ScriptKind, Word, Plain, Quoted, Broken, is_name, size_of_text, list_of_text, ◌>>=◌, or_fault, bare, reads_as, size, list, name, name_of_text, went, same_ok, SpellsOne}
+use Rattle.script_spelling.proofs.Words.{◌≡◌, ◌∙◌, ℕ, List, [], ◌∷◌, true, Option, Some, None, Ok, refl, ap, subst, cond_some, faultless_some, ScriptKind, Word, Plain, is_name, size_of_text, list_of_text, ◌>>=◌, or_fault, bare, reads_as, size, list, name, name_of_text, went, same_ok, SpellsOne, arith, nat_tests}
 use Rattle.nc_base.specs.declared.errors.ScriptKind.TheVariants as kind
 
 -- the word that is read, and what follows it
@@ -10,21 +10,11 @@ pub record WordRead {A : Type 0} (f : List ℕ → Option A) (ws : List Word) (r
 
 -- what reads no lone quote reads a word as it stands
 pub word_is : {A : Type 0} (f : List ℕ → Option A) (e : ScriptKind) (ws : List Word) (r : A × List Word) → f (34 ∷ []) ≡ None → reads_as f e ws ≡ Ok r → WordRead f ws r
-word_is f e [] r none h = absurd (cc)
-word_is f e (Broken ∷ ws) r none h = absurd (cc)
-word_is f e (Quoted text ∷ ws) r none h =
-    let a = went (or_fault e (f (34 ∷ []))) (λ x. Ok (x, ws)) r h in
-    let some = faultless_some e (f (34 ∷ [])) a.value a.first in
-    absurd (cc)
-word_is f e (Plain w ∷ ws) r none h =
-    let a = went (or_fault e (f w)) (λ x. Ok (x, ws)) r h in
-    subst (WordRead f (Plain w ∷ ws)) (same_ok (a.value, ws) r a.rest) (record { word = w; are = refl; says = faultless_some e (f w) a.value a.first })
+word_is f e ws r none h = grind (arith, nat_tests, went, faultless_some, same_ok)
 
 -- one word by itself
 pub one_is : {A : Type 0} (f : List ℕ → Option A) (e : ScriptKind) (w : Word) (x : A) → f (34 ∷ []) ≡ None → (bare w >>= λ v. or_fault e (f v)) ≡ Ok x → SpellsOne f w x
-one_is f e Broken x none h = absurd (cc)
-one_is f e (Quoted text) x none h = let some = faultless_some e (f (34 ∷ [])) x h in absurd (cc)
-one_is f e (Plain w) x none h = (w, refl, faultless_some e (f w) x h)
+one_is f e w x none h = grind (arith, nat_tests, faultless_some)
 
 -- ---- names
 

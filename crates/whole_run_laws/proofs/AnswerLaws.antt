@@ -1,5 +1,5 @@
 -- The answer to the call of a meeting, or of a rank's own step, stands at the number of that call.
-use Rattle.whole_run_laws.proofs.Words.{◌≡◌, ℕ, zero, suc, ◌+◌, ◌<◌, refl, sym, ◌∙◌, ap, subst, inl, inr, ◌⊎◌, List, [], ◌∷◌, ◌++◌, length, map, set, drop, Bool, true, false, Option, Some, None, arith, append_assoc, length-append, same_Some, slice_get_within, fold, slice_get, ◌==◌, list_all, entry_below, entry_set, get_left, get_right, and_first, and_second, Answer, Pair, Header, Call, Script, Mark, Meet, Solo, MeetKind, Offer, OfferKind, Want, Counted, Setting, solo, is_collective, is_of_rank_below, IsLegal, kind_of_meeting, is_lawful, Rank, step, advance, after_mark, after_meeting, after_solo, first_going, first_state, go, Going, hears, serial_from, setting_of, state_after, kinds_of, Says, step_says, ranks_lawful, state_more, hear_length, IsToldAt, meeting_call, told_at, set_cases}
+use Rattle.whole_run_laws.proofs.Words.{◌≡◌, ℕ, zero, suc, ◌+◌, ◌<◌, refl, sym, ◌∙◌, ap, subst, List, [], ◌∷◌, ◌++◌, length, map, set, drop, Bool, true, false, Option, Some, None, arith, append_assoc, length-append, same_Some, slice_get_within, fold, slice_get, list_all, entry_below, entry_set, get_left, get_right, and_first, and_second, Answer, Pair, Header, Call, Script, Mark, Meet, Solo, MeetKind, Offer, OfferKind, Want, Counted, Setting, solo, is_collective, is_of_rank_below, IsLegal, kind_of_meeting, is_lawful, Rank, step, advance, after_mark, after_meeting, after_solo, first_going, first_state, go, Going, hears, serial_from, setting_of, state_after, kinds_of, Says, step_says, ranks_lawful, state_more, hear_length, IsToldAt, meeting_call, told_at, set_cases, nat_tests}
 use borrow.Author.Tests.{ltb-true}
 use Rattle.nc_base.specs.declared.step.OfferKind.TheVariants as offer
 use Rattle.nc_base.specs.declared.step.Want.TheVariants as want
@@ -30,15 +30,7 @@ Places n calls (g, None) = Unit {0}
 Places n calls (g, Some o) = PlacesBy n calls g (kind_of_meeting o.kind)
 
 places_on : (n m : ℕ) (c : Call) (calls : List Call) (p : Going × Option Offer) → m ≡ n + 1 → is_collective c ≡ false → Places m calls p → Places n (c ∷ calls) p
-places_on n m c calls (g, None) e f w = tt
-places_on n m c calls (g, Some o) e f w = by (kind_of_meeting o.kind) w
-  where
-    by : (k : Option MeetKind) → PlacesBy m calls g k → PlacesBy n (c ∷ calls) g k
-    by None v = λ j. let a = v j in let b = call_alone c calls j f in omega arith
-    by (Some kind) v = (
-      (let a = v.0 in let b = call_alone c calls 0 f in omega arith),
-      λ j. let a = v.1 j in let b = call_alone c calls (suc j) f in omega arith,
-    )
+places_on n m c calls p e f w = grind (arith, nat_tests, call_alone)
 
 longer : (answers : List Answer) (a : Answer) → length (answers ++ a ∷ []) ≡ length answers + 1
 longer answers a = length-append answers (a ∷ [])
@@ -77,12 +69,7 @@ go_places header (c ∷ calls) r answers = by (step header r c) (step_says heade
 
 -- where the rank stands at its offer
 places_at : (n : ℕ) (calls : List Call) (p : Going × Option Offer) (o : Offer) (k : OfferKind) → Places n calls p → p.1 ≡ Some o → o.kind ≡ k → PlacesBy n calls p.0 (kind_of_meeting k)
-places_at n calls (g, None) o k w e f = absurd (none e)
-  where
-    none : None ≡ Some o → ⊥
-    none z = cc
-places_at n calls (g, Some o') o k w e f =
-    subst (λ (x : OfferKind). PlacesBy n calls g (kind_of_meeting x)) (ap (λ (z : Offer). z.kind) (same_Some o' o e) ∙ f) w
+places_at n calls p o k w e f = grind (arith, nat_tests, same_Some)
 
 -- ---- all ranks
 
@@ -123,30 +110,17 @@ met_placed s calls ranks j rest c goings a = record {
 solo_placed : (s : Setting) (calls : List (List Call)) (ranks r n : ℕ) (rest : List Mark) (c : Counted) (goings : List Going) → r < ranks → AlongPlaced calls ranks (Solo r n ∷ rest) goings
     → AlongPlaced calls ranks rest (after_solo s r c goings).1
 solo_placed s calls ranks r n rest c goings l a =
-    let st = steps s c ranks a.met r n a.kinds_left rest goings l a.on in
-    let b = st.before in
-    let p = advance s.header b in
-    let y = (solo s r st.at.asks.offer c).1 in
-    let next = hears s.header p.0 y in
-    let places = places_at (length b.answers) b.calls p st.at.asks.offer offer.Solo (go_places s.header b.calls b.rank b.answers) st.at.asks.is_offer st.at.of_kind in
-    record {
-      met = a.met;
-      kinds_left = a.kinds_left;
-      on = solo_on s c ranks a.met r n a.kinds_left rest goings l a.on;
-      placed = subst (λ (z : Counted × List Going). Placed calls a.met z.1) (sym st.state) (record {
-        each = λ q g own e f i. by b next st.was
-            (λ own f i. heard_more (length b.answers) (meeting_call i b.calls) (length p.0.answers) (meeting_call (a.met + i) own) (meeting_call i p.0.calls) (length next.answers)
-            (a.placed.each r b own st.was f i) (places i) (hear_length s.header p.0 y)) q g own f i (set_cases goings r q next g e);
-      });
-    }
-  where
-    by : (b next : Going) → slice_get goings r ≡ Some b
-        → ((own : List Call) → slice_get calls r ≡ Some own → (i : ℕ) → meeting_call (a.met + i) own ≡ length next.answers + meeting_call i next.calls)
-        → (q : ℕ) (g : Going) (own : List Call) → slice_get calls q ≡ Some own → (i : ℕ) → ((q ≡ r) × (g ≡ next)) ⊎ (((r == q) ≡ false) × (slice_get goings q ≡ Some g))
-        → meeting_call (a.met + i) own ≡ length g.answers + meeting_call i g.calls
-    by b next was mine q g own f i (inl (z, w)) =
-        mine own (ap (λ (k : ℕ). slice_get calls k) (sym z) ∙ f) i ∙ ap (λ (v : Going). length v.answers + meeting_call i v.calls) (sym w)
-    by b next was mine q g own f i (inr (x, e)) = a.placed.each q g own e f i
+    grind (
+      arith,
+      nat_tests,
+      steps s c ranks a.met r n a.kinds_left rest goings l a.on,
+      solo_on s c ranks a.met r n a.kinds_left rest goings l a.on,
+      places_at,
+      go_places,
+      heard_more,
+      hear_length,
+      set_cases,
+    )
 
 mark_placed : (s : Setting) (calls : List (List Call)) (ranks : ℕ) (m : Mark) (rest : List Mark) (state : Counted × List Going) → is_of_rank_below ranks m ≡ true
     → AlongPlaced calls ranks (m ∷ rest) state.1 → AlongPlaced calls ranks rest (after_mark s state m).1

@@ -1,5 +1,5 @@
 -- The record count of a run: the greater of the old one and the greatest that a completed put needed.
-use Rattle.whole_run_laws.proofs.Words.{◌≡◌, ℕ, zero, suc, ◌≤◌, refl, sym, ◌∙◌, ap, subst, inl, inr, ◌⊎◌, List, [], ◌∷◌, ◌++◌, map, set, max, true, false, Option, Some, None, arith, map-append, slice_get_within, same_Some, eqb_tells, fold, slice_get, ◌==◌, list_all, entry_below, entry_set, entry_set_other, and_first, and_second, Pair, Header, Call, Post, Script, Mark, Meet, Solo, MeetKind, Offer, after_puts, Counted, known_by, meeting, needs, Setting, solo, told, is_of_rank_below, IsLegal, is_lawful, greatest, needed, needed_by, advance, after_mark, after_meeting, closed, first_going, first_state, Going, hears, offers_of, rank_offer, serial_from, setting_of, Puts, go_went, hear_known, Went, meeting_within, completed, completed_from, completed_puts, puts_asked, puts_at, puts_met, unless_told, set_cases, same_le, greatest_joined, raised_records}
+use Rattle.whole_run_laws.proofs.Words.{◌≡◌, ℕ, zero, suc, ◌≤◌, refl, sym, ◌∙◌, ap, subst, inl, inr, ◌⊎◌, List, [], ◌∷◌, ◌++◌, map, set, max, true, false, Option, Some, None, arith, map-append, slice_get_within, same_Some, eqb_tells, fold, slice_get, ◌==◌, list_all, entry_below, entry_set, entry_set_other, and_first, and_second, Pair, Header, Call, Script, Mark, Meet, Solo, MeetKind, Offer, Counted, meeting, needs, Setting, solo, told, is_of_rank_below, IsLegal, is_lawful, greatest, needed_by, advance, after_mark, after_meeting, closed, first_going, first_state, Going, hears, offers_of, rank_offer, serial_from, setting_of, Puts, go_went, hear_known, Went, meeting_within, completed, completed_from, completed_puts, puts_asked, puts_at, puts_met, unless_told, set_cases, same_le, greatest_joined, raised_records, nat_tests}
 use borrow.Author.Tests.{ltb-true}
 use Rattle.join_laws.proofs.WholeLaws.{get_map as mapped_from}
 use Rattle.whole_run_laws.proofs.Courses.{AreAlong, AreOn, first_along, Heard, heard_by, hears_then, mark_along, meets, offer_met, offers_met_long, Stepped, steps}
@@ -23,9 +23,7 @@ completed_needs s puts None = refl
 completed_needs s puts (Some p) = refl
 
 needed_both : (header : Header) (a b : Puts) → needed_by header (a ++ b) ≡ max (needed_by header a) (needed_by header b)
-needed_both header a b =
-    let f : ℕ × Post → ℕ = λ p. needed header p.1 in
-    ap (λ (xs : List ℕ). greatest xs) (map-append f a b) ∙ greatest_joined (map f a) (map f b)
+needed_both header a b = grind (arith, nat_tests, map-append, greatest_joined)
 
 -- ---- the greatest of the file's count and of those that the ranks know
 
@@ -57,20 +55,10 @@ module _ (s : Setting) (ranks k j n : ℕ) (ks : List MeetKind) (rest : List Mar
   met_most = meeting_within s offers c n counts.count offers_within
 
   met_least : (c.records ≤ (meeting s offers c).0.records) × (asked ≤ (meeting s offers c).0.records)
-  met_least =
-      let known = greatest (map (λ o. known_by o.kind o.known) offers) in
-      let file = after_puts s (puts_met offers) (told s (puts_met offers)) c.file in
-      both c.records asked known (meeting s offers c).0.records (raised_records s (record { file = file; records = c.records }) (max asked known))
-    where
-      both : (a b d m : ℕ) → m ≡ max a (max b d) → (a ≤ m) × (b ≤ m)
-      both a b d m e = (omega arith, omega arith)
+  met_least = grind (arith, nat_tests, raised_records)
 
   heard_known : (q : ℕ) (g : Going) (h : Heard s c goings q g) → g.rank.known ≡ max h.before.rank.known (meeting s offers c).0.records
-  heard_known q g h =
-      let at = meets s.header ranks k j q ks rest goings h.before on h.was in
-      ap (λ (z : Going). z.rank.known) h.is
-      ∙ hear_known s.header (advance s.header h.before).0 h.reply at.asks.open_with at.asks.is_open
-      ∙ (λ i. max (at.asks.known i) (h.records i))
+  heard_known q g h = grind (arith, nat_tests, meets s.header ranks k j q ks rest goings h.before on h.was, hear_known)
 
   met_counts : Counts (max n asked) (meeting s offers c).0 (after_meeting s (c, goings)).1
   met_counts = record {
@@ -111,9 +99,7 @@ module _ (s : Setting) (ranks k r n : ℕ) (ks : List MeetKind) (rest : List Mar
   next = hears s.header (advance s.header st.before).0 (solo s r own c).1
 
   next_known : next.rank.known ≡ max st.before.rank.known (max st.before.rank.known asked_alone)
-  next_known =
-      hear_known s.header (advance s.header st.before).0 (solo s r own c).1 st.at.asks.open_with st.at.asks.is_open
-      ∙ (λ i. max (st.at.asks.known i) (max (st.at.asks.told i) asked_alone))
+  next_known = grind (arith, nat_tests, hear_known)
 
   solo_counts : Counts (max n asked_alone) (solo s r own c).0 (set goings r next)
   solo_counts = record {
@@ -155,8 +141,7 @@ module _ (s : Setting) (ranks k r n : ℕ) (ks : List MeetKind) (rest : List Mar
       reaches a b later asked was now h i e l = omega arith
 
   puts_alone : puts_asked r (rank_offer s goings r) ≡ puts_asked r (Some own)
-  puts_alone = ap (λ (m : Option Offer). puts_asked r m)
-      (ap (λ (m : Option Going). elim m as (λ z. Option Offer) [ None ↦ None | Some g ↦ (advance s.header g).1 ]) st.was ∙ st.at.asks.is_offer)
+  puts_alone = grind (arith, nat_tests)
 
 -- ---- a run
 
@@ -164,9 +149,7 @@ mark_counts : (s : Setting) (ranks n : ℕ) (m : Mark) (rest : List Mark) (c : C
     → AreAlong ranks (m ∷ rest) goings → Counts n c goings
     → Counts (max n (needed_by s.header (completed s (puts_at s (c, goings) m)))) (after_mark s (c, goings) m).0 (after_mark s (c, goings) m).1
 mark_counts s ranks n (Meet j) rest c goings known a counts =
-    let puts = puts_met (offers_of (map (advance s.header) goings)) in
-    subst (λ (z : ℕ). Counts (max n z) (after_meeting s (c, goings)).0 (after_meeting s (c, goings)).1) (sym (completed_needs s puts (told s puts)))
-    (met_counts s ranks a.met j n a.kinds_left rest c goings a.on counts)
+    grind (arith, nat_tests, met_counts s ranks a.met j n a.kinds_left rest c goings a.on counts, completed_needs)
 mark_counts s ranks n (Solo r i) rest c goings known a counts =
     let st = steps s c ranks a.met r i a.kinds_left rest goings (ltb-true r ranks known) a.on in
     let puts = puts_asked r (Some st.at.asks.offer) in
@@ -182,26 +165,15 @@ went_known q k n ks ms (g, Some o) w = w.known
 
 ends_known : (header : Header) (goings : List Going) → known_of (map (λ g. (advance header g).0) goings) ≡ known_of goings
 ends_known header [] = refl
-ends_known header (g ∷ goings) =
-    let first = went_known 0 0 g.rank.known _ _ (advance header g) (go_went header 0 0 g.rank g.answers g.calls) in
-    λ i. first i ∷ ends_known header goings i
+ends_known header (g ∷ goings) = grind (arith, nat_tests, ends_known header goings, go_went header 0 0 g.rank g.answers g.calls, went_known)
 
 closed_count : (s : Setting) (n : ℕ) (c : Counted) (goings : List Going) → Counts n c goings → (closed s (c, goings)).records ≡ n
-closed_count s n c goings counts =
-    raised_records s c (greatest (known_of (map (λ g. (advance s.header g).0) goings)))
-    ∙ ap (λ (xs : List ℕ). max c.records (greatest xs)) (ends_known s.header goings)
-    ∙ whole c.records (greatest (known_of goings)) counts.count (known_below goings n counts.known) counts.reached
-  where
-    whole : (a b : ℕ) → a ≤ n → b ≤ n → n ≤ max a b → max a b ≡ n
-    whole a b h k l = omega arith
+closed_count s n c goings counts = grind (arith, nat_tests, ends_known s.header goings, known_below goings n counts.known, raised_records)
 
 order_count : (s : Setting) (ranks n : ℕ) (order : List Mark) (state : Counted × List Going) → list_all (is_of_rank_below ranks) order ≡ true
     → AreAlong ranks order state.1 → Counts n state.0 state.1
     → (closed s (fold (after_mark s) state order)).records ≡ max n (needed_by s.header (completed_from s state order))
-order_count s ranks n [] state known a counts = closed_count s n state.0 state.1 counts ∙ none n
-  where
-    none : (n : ℕ) → n ≡ max n 0
-    none n = omega arith
+order_count s ranks n [] state known a counts = grind (arith, nat_tests, closed_count s n state.0 state.1 counts)
 order_count s ranks n (m ∷ order) state known a counts =
     let now = completed s (puts_at s state m) in
     let later = completed_from s (after_mark s state m) order in

@@ -1,5 +1,5 @@
 -- The ranks along a legal order: at each mark they stand at the offers of its step.
-use Rattle.whole_run_laws.proofs.Words.{◌≡◌, ℕ, zero, suc, ◌<◌, refl, sym, ◌∙◌, ap, subst, inl, inr, ◌⊎◌, List, [], ◌∷◌, ◌++◌, length, map, set, drop, Bool, true, false, cond, Option, Some, None, arith, length-map, length-set, same_Some, slice_get_within, fold, slice_get, filter, ◌==◌, list_all, entry_below, and_first, and_second, equal_itself, Header, Call, Script, Mark, Meet, Solo, MeetKind, Offer, Reply, Open, concerns, is_of_rank_below, IsLegal, kinds, marks_from, is_lawful, Counted, Setting, meeting, solo, Going, advance, after_mark, after_meeting, after_solo, first_going, hears, offers_of, set_cases, kinds_of, own_lawful, ranks_lawful, solo_goes, Went, Kinded, at_meeting, at_solo, go_went, hear_mode, hear_length, going_after, goings_long, replied, solo_of_is, entry_map, cons_rest, nil_cons}
+use Rattle.whole_run_laws.proofs.Words.{◌≡◌, ℕ, zero, suc, ◌<◌, refl, sym, ◌∙◌, ap, subst, inl, inr, ◌⊎◌, List, [], ◌∷◌, ◌++◌, length, map, set, drop, Bool, true, false, cond, Option, Some, None, arith, length-map, length-set, same_Some, slice_get_within, fold, slice_get, filter, ◌==◌, list_all, entry_below, and_first, and_second, equal_itself, Header, Call, Script, Mark, Meet, Solo, MeetKind, Offer, Reply, Open, concerns, is_of_rank_below, IsLegal, kinds, marks_from, is_lawful, Counted, Setting, meeting, solo, Going, advance, after_mark, after_meeting, after_solo, first_going, hears, offers_of, set_cases, kinds_of, own_lawful, ranks_lawful, solo_goes, Went, Kinded, at_meeting, at_solo, go_went, hear_mode, hear_length, going_after, goings_long, replied, solo_of_is, entry_map, cons_rest, nil_cons, nat_tests}
 use borrow.Author.Tests.{ltb-true}
 use Rattle.nc_base.specs.declared.step.OfferKind.TheVariants as offer
 use Rattle.join_laws.proofs.WholeLaws.{get_map as mapped_from}
@@ -59,27 +59,11 @@ to_meeting q k n j ks ks' ms rest (g, Some o) w f e = by w.kinded
 
 -- the next meeting has the number of those before it
 to_number : (q k n j : ℕ) (ks : List MeetKind) (ms rest : List Mark) (p : Going × Option Offer) → Went q k n ks ms p → ms ≡ Meet j ∷ filter (concerns q) rest → k ≡ j
-to_number q k n j ks ms rest (g, None) w e = nil_cons (Meet j) (filter (concerns q) rest) (sym w.marks_none ∙ e)
-to_number q k n j ks ms rest (g, Some o) w e = by w.kinded
-  where
-    heads : (xs ys : List Mark) → Meet k ∷ xs ≡ Meet j ∷ ys → k ≡ j
-    heads xs ys f = cc
-
-    by : Kinded q k ks ms g w.open_with.independent o → k ≡ j
-    by (at_meeting kind a b d) = heads _ (filter (concerns q) rest) (sym d ∙ e)
-    by (at_solo a b d) = not_solo j q (length g.answers) _ (filter (concerns q) rest) (sym d ∙ e)
+to_number q k n j ks ms rest p w e = grind (arith, nat_tests, nil_cons, not_solo)
 
 -- its own step is that of its next call
 to_call : (q k n c : ℕ) (ks : List MeetKind) (ms rest : List Mark) (p : Going × Option Offer) → Went q k n ks ms p → ms ≡ Solo q c ∷ filter (concerns q) rest → length p.0.answers ≡ c
-to_call q k n c ks ms rest (g, None) w e = nil_cons (Solo q c) (filter (concerns q) rest) (sym w.marks_none ∙ e)
-to_call q k n c ks ms rest (g, Some o) w e = by w.kinded
-  where
-    heads : (xs ys : List Mark) → Solo q (length g.answers) ∷ xs ≡ Solo q c ∷ ys → length g.answers ≡ c
-    heads xs ys f = cc
-
-    by : Kinded q k ks ms g w.open_with.independent o → length g.answers ≡ c
-    by (at_solo a b d) = heads _ (filter (concerns q) rest) (sym d ∙ e)
-    by (at_meeting kind a b d) = not_solo k q c (filter (concerns q) rest) _ (sym e ∙ d)
+to_call q k n c ks ms rest p w e = grind (arith, nat_tests, nil_cons, not_solo)
 
 to_solo : (q k n c : ℕ) (ks ks' : List MeetKind) (ms rest : List Mark) (p : Going × Option Offer) → Went q k n ks ms p → ks ≡ ks'
     → ms ≡ Solo q c ∷ filter (concerns q) rest → AtSolo q k n ks' rest p
@@ -105,16 +89,10 @@ to_solo q k n c ks ks' ms rest (g, Some o) w f e = by w.kinded
 -- a rank that hears goes on
 heard_on : (header : Header) (q k n : ℕ) (ks : List MeetKind) (rest : List Mark) (p : Going × Option Offer) (y : Reply) → Asks q k n rest p
     → kinds p.0.calls ≡ ks → OnCourse q k ks rest (hears header p.0 y)
-heard_on header q k n ks rest p y a e = record {
-  marks = (λ i. marks_from q (hear_length header p.0 y i) k (hear_mode header p.0 y a.open_with a.is_open i) p.0.calls) ∙ a.left;
-  kinds = e;
-}
+heard_on header q k n ks rest p y a e = grind (arith, nat_tests, hear_length, hear_mode)
 
 other_on : (q k r c : ℕ) (ks : List MeetKind) (rest : List Mark) (g : Going) → (r == q) ≡ false → OnCourse q k ks (Solo r c ∷ rest) g → OnCourse q k ks rest g
-other_on q k r c ks rest g e on = record {
-  marks = on.marks ∙ ap (λ (b : Bool). cond b (Solo r c ∷ filter (concerns q) rest) (filter (concerns q) rest)) e;
-  kinds = on.kinds;
-}
+other_on q k r c ks rest g e on = grind (arith, nat_tests)
 
 -- ---- all ranks
 
@@ -139,15 +117,11 @@ goes_alone header ranks k r c ks rest goings g on e =
 
 pub meets_number : (header : Header) (ranks k j q : ℕ) (ks : List MeetKind) (rest : List Mark) (goings : List Going) (g : Going) → AreOn ranks k ks (Meet j ∷ rest) goings
     → slice_get goings q ≡ Some g → k ≡ j
-meets_number header ranks k j q ks rest goings g on e =
-    to_number q k g.rank.known j (kinds g.calls) (marks_from q (length g.answers) k g.rank.independent g.calls) rest (advance header g) (go_went header q k g.rank g.answers g.calls)
-    (on.each q g e).marks
+meets_number header ranks k j q ks rest goings g on e = grind (arith, nat_tests, go_went header q k g.rank g.answers g.calls, to_number)
 
 pub goes_number : (header : Header) (ranks k r c : ℕ) (ks : List MeetKind) (rest : List Mark) (goings : List Going) (g : Going) → AreOn ranks k ks (Solo r c ∷ rest) goings
     → slice_get goings r ≡ Some g → length (advance header g).0.answers ≡ c
-goes_number header ranks k r c ks rest goings g on e =
-    to_call r k g.rank.known c (kinds g.calls) (marks_from r (length g.answers) k g.rank.independent g.calls) rest (advance header g) (go_went header r k g.rank g.answers g.calls)
-    ((on.each r g e).marks ∙ ap (λ (b : Bool). cond b (Solo r c ∷ filter (concerns r) rest) (filter (concerns r) rest)) (equal_itself r))
+goes_number header ranks k r c ks rest goings g on e = grind (arith, nat_tests, go_went header r k g.rank g.answers g.calls, equal_itself r, to_call)
 
 -- ---- the offers of a meeting
 
@@ -166,9 +140,7 @@ offer_at : (ps : List (Going × Option Offer)) (q : ℕ) (p : Going × Option Of
     → slice_get (offers_of ps) q ≡ Some o
 offer_at [] q p o f e h = cc
 offer_at ((g, None) ∷ ps) q p o f e h = no_offer (f 0 (g, None) refl)
-offer_at ((g, Some o') ∷ ps) zero p o f e h =
-    let same : (g, Some o') ≡ p = same_Some _ p e in
-    ap (λ (z : Going × Option Offer). z.1) same ∙ h
+offer_at ((g, Some o') ∷ ps) zero p o f e h = grind (arith, nat_tests, same_Some)
 offer_at ((g, Some o') ∷ ps) (suc q) p o f e h = offer_at ps q p o (λ r z d. f (suc r) z d) e h
 
 pub all_ask : (header : Header) (ranks k j : ℕ) (ks : List MeetKind) (rest : List Mark) (goings : List Going) → AreOn ranks k ks (Meet j ∷ rest) goings
@@ -181,9 +153,7 @@ all_ask header ranks k j ks rest goings on q p e =
 pub offer_met : (header : Header) (ranks k j q : ℕ) (ks : List MeetKind) (rest : List Mark) (goings : List Going) (g : Going) (on : AreOn ranks k ks (Meet j ∷ rest) goings)
     → (e : slice_get goings q ≡ Some g) → slice_get (offers_of (map (advance header) goings)) q ≡ Some (meets header ranks k j q ks rest goings g on e).asks.offer
 offer_met header ranks k j q ks rest goings g on e =
-    let at = meets header ranks k j q ks rest goings g on e in
-    offer_at (map (advance header) goings) q (advance header g) at.asks.offer (all_ask header ranks k j ks rest goings on)
-    (entry_map (advance header) goings q g e) at.asks.is_offer
+    grind (arith, nat_tests, meets header ranks k j q ks rest goings g on e, all_ask header ranks k j ks rest goings on, entry_map (advance header) goings q g e, offer_at)
 
 pub offers_met_long : (header : Header) (ranks k j : ℕ) (ks : List MeetKind) (rest : List Mark) (goings : List Going) → AreOn ranks k ks (Meet j ∷ rest) goings
     → length (offers_of (map (advance header) goings)) ≡ length goings
@@ -287,8 +257,7 @@ pub record AreAlong (ranks : ℕ) (rest : List Mark) (goings : List Going) : Typ
 
 pub mark_along : (s : Setting) (ranks : ℕ) (m : Mark) (rest : List Mark) (state : Counted × List Going) → is_of_rank_below ranks m ≡ true → AreAlong ranks (m ∷ rest) state.1
     → AreAlong ranks rest (after_mark s state m).1
-mark_along s ranks (Meet j) rest (c, goings) known a =
-    record { met = suc a.met; kinds_left = drop 1 a.kinds_left; on = met_on s c ranks a.met j a.kinds_left rest goings a.on }
+mark_along s ranks (Meet j) rest (c, goings) known a = grind (arith, nat_tests, met_on s c ranks a.met j a.kinds_left rest goings a.on)
 mark_along s ranks (Solo r n) rest (c, goings) known a =
     record { met = a.met; kinds_left = a.kinds_left; on = solo_on s c ranks a.met r n a.kinds_left rest goings (ltb-true r ranks known) a.on }
 

@@ -1,5 +1,5 @@
 -- The header's field has the record count wherever that grew, and is as it was where it didn't.
-use Rattle.whole_run_laws.proofs.Words.{◌≡◌, ℕ, ◌+◌, ◌-◌, ◌<◌, ◌≤◌, refl, sym, ◌∙◌, ap, subst, List, [], ◌∷◌, length, map, max, get_or, Bool, true, false, cond, Option, arith, fold, nat_lt, list_all, byte_len, and_first, and_second, any_in, Pair, Header, Script, Mark, Meet, Solo, read, written, after_puts, Counted, known_by, needs, puts_of, raised, Setting, told, count, count_width, is_sound, is_of_rank_below, IsLegal, is_lawful, greatest, with_records, advance, after_mark, first_state, Going, offers_of, serial_from, setting_of, covered, Puts, after_keeps, count_long, at-written_inside, canon_len, is_held, puts_at, puts_met}
+use Rattle.whole_run_laws.proofs.Words.{◌≡◌, ℕ, ◌+◌, ◌<◌, ◌≤◌, refl, sym, subst, List, [], ◌∷◌, length, map, max, Bool, true, false, cond, Option, arith, fold, nat_lt, list_all, byte_len, and_first, and_second, any_in, Pair, Header, Script, Mark, Meet, Solo, read, written, after_puts, Counted, known_by, needs, puts_of, raised, Setting, told, count, count_width, is_sound, is_of_rank_below, IsLegal, is_lawful, greatest, with_records, advance, after_mark, first_state, Going, offers_of, serial_from, setting_of, covered, Puts, after_keeps, count_long, at-written_inside, canon_len, is_held, puts_at, puts_met, nat_tests}
 use borrow.Author.Tests.{ltb-true}
 use Rattle.whole_run_laws.proofs.Courses.{AreAlong, first_along, mark_along, steps}
 use Rattle.whole_run_laws.proofs.FilledFile.{read_all, read_kept}
@@ -13,9 +13,7 @@ record FieldIs (header : Header) (file : List ℕ) (c : Counted) : Type 0 where
   tells : header.records < c.records → read c.file 4 (byte_len (count_width header.version)) ≡ count header.version c.records
 
 read_written : (file b : List ℕ) (x n : ℕ) → n ≡ length b → read (written file x b) x n ≡ b
-read_written file b x n e = read_all (written file x b) b x n e (λ i l.
-    let back : x + i - x ≡ i = omega arith in
-    at-written_inside file b x (x + i) (omega arith) (omega arith) ∙ ap (λ (k : ℕ). get_or b k 0) back)
+read_written file b x n e = grind (arith, nat_tests, read_all, at-written_inside)
 
 puts_beside : (s : Setting) (puts : Puts) (pair : Option Pair) (file : List ℕ) → AllPast s.header puts
     → read (after_puts s puts pair file) 4 (byte_len (count_width s.header.version)) ≡ read file 4 (byte_len (count_width s.header.version))
@@ -31,11 +29,7 @@ puts_beside s puts pair file past =
 
 with_puts : (s : Setting) (puts : Puts) (pair : Option Pair) (file : List ℕ) (c : Counted) → AllPast s.header puts → FieldIs s.header file c
     → FieldIs s.header file (record { file = after_puts s puts pair c.file; records = c.records })
-with_puts s puts pair file c past f = record {
-  least = f.least;
-  same = λ e. puts_beside s puts pair c.file past ∙ f.same e;
-  tells = λ l. puts_beside s puts pair c.file past ∙ f.tells l;
-}
+with_puts s puts pair file c past f = grind (arith, nat_tests, puts_beside)
 
 raised_field : (s : Setting) (file : List ℕ) (c : Counted) (n : ℕ) → FieldIs s.header file c → FieldIs s.header file (raised s c n)
 raised_field s file c n f = by (nat_lt c.records n) refl

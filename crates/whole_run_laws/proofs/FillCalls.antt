@@ -1,5 +1,5 @@
 -- A meeting to which every rank comes to fill its share of a record.
-use Rattle.whole_run_laws.proofs.Words.{◌≡◌, ℕ, ◌+◌, ◌-◌, ◌||◌, ◌≤◌, refl, sym, ◌∙◌, ap, List, [], ◌∷◌, ◌++◌, length, map, Bool, true, false, cond, Option, Some, None, arith, slice_get_within, same_Some, nat_lt, slice_get, entry_below, Header, Var, Batch, Script, Mark, Meet, Offer, size_of, read, Counted, Setting, told, fill_bytes, share_begin, is_sound, IsLegal, is_lawful, inner_lengths, is_record, product, most_elements, IsIndex, place, find_var, fills, is_record_past, look_fill, look_record, code_of_look, meets_refused, offers_look, posts_of, Rank, step, advance, after_meeting, Going, offers_of, setting_of, state_after, state_more, comes_to_meeting, puts_at, puts_met, AllFill, filling, Fills, share_boxes, some_rank}
+use Rattle.whole_run_laws.proofs.Words.{◌≡◌, ℕ, ◌≤◌, sym, ◌∙◌, ap, List, [], ◌∷◌, ◌++◌, length, map, true, false, Some, None, arith, slice_get_within, same_Some, slice_get, entry_below, Header, Var, Batch, Script, Mark, Meet, Offer, size_of, read, Counted, Setting, told, fill_bytes, is_sound, IsLegal, is_lawful, inner_lengths, is_record, IsIndex, place, find_var, look_fill, look_record, code_of_look, offers_look, posts_of, Rank, step, advance, after_meeting, Going, offers_of, setting_of, state_after, state_more, comes_to_meeting, puts_at, puts_met, AllFill, filling, Fills, some_rank, nat_tests}
 use Rattle.nc_base.specs.declared.answer.Code.TheVariants as code
 use Rattle.nc_base.specs.declared.request.Call.TheVariants as call
 use Rattle.nc_base.specs.declared.step.MeetKind.TheVariants as meets_as
@@ -12,12 +12,7 @@ use Rattle.whole_run_laws.proofs.ToldLaws.{along_at}
 -- a filling by name is that of the variable
 look_is : (header : Header) (name : List ℕ) (k number r ranks : ℕ) (v : Var) → find_var header name ≡ Some k → slice_get header.vars k ≡ Some v
     → look_fill header name number r ranks ≡ look_record header k number r ranks v
-look_is header name k number r ranks v e f =
-    ap (λ (m : Option ℕ). elim m as (λ z. looks.Look) [
-      | None ↦ looks.Refused code.ENotVar
-      | Some n ↦ elim (slice_get header.vars n) as (λ z. looks.Look) [ None ↦ looks.Refused code.ENotVar | Some w ↦ look_record header n number r ranks w ]
-    ]) e
-    ∙ ap (λ (m : Option Var). elim m as (λ z. looks.Look) [ None ↦ looks.Refused code.ENotVar | Some w ↦ look_record header k number r ranks w ]) f
+look_is header name k number r ranks v e f = grind (arith, nat_tests)
 
 abbrev share_batch : looks.Look → Batch
 share_batch l = record { puts = posts_of l; gets = [] }
@@ -26,33 +21,15 @@ share_batch l = record { puts = posts_of l; gets = [] }
 step_fills : (header : Header) (rank : Rank) (name : List ℕ) (number r ranks : ℕ) → rank.independent ≡ false
     → step header rank (call.FillRec name number r ranks)
     ≡ offers_look rank (offer.Meet meets_as.Put) (look_fill header name number r ranks) (share_batch (look_fill header name number r ranks))
-step_fills header rank name number r ranks e =
-    let l = look_fill header name number r ranks in
-    ap (λ (b : Bool). cond b (meets_refused rank meets_as.Put) (offers_look rank (offer.Meet meets_as.Put) l (share_batch l))) e
+step_fills header rank name number r ranks e = grind (arith, nat_tests)
 
 -- so its offer brings it
 fill_offer : (header : Header) (name : List ℕ) (number ranks r : ℕ) (g : Going) (o : Offer) → Fills header name number ranks r g → (advance header g).1 ≡ Some o
     → o.batch.puts ≡ posts_of (look_fill header name number r ranks)
-fill_offer header name number ranks r g o f e =
-    let l = look_fill header name number r ranks in
-    let own = offers_look f.there.rank (offer.Meet meets_as.Put) l (share_batch l) in
-    let at = comes_to_meeting header g f.there own.0 (record { kind = offer.Meet meets_as.Put; known = f.there.rank.known; batch = share_batch l }) (call.FillRec name number r ranks) f.later
-    f.comes f.next (sym (step_fills header f.there.rank name number r ranks f.collective)) in
-    ap (λ (z : Offer). z.batch.puts) (same_Some o _ (sym e ∙ ap (λ (p : Going × Option Offer). p.1) at))
+fill_offer header name number ranks r g o f e = grind (arith, nat_tests, comes_to_meeting, step_fills, same_Some)
 
 of_records : (header : Header) (k number r ranks : ℕ) (v : Var) → code_of_look (look_record header k number r ranks v) ≡ code.Ok → is_record header v ≡ true
-of_records header k number r ranks v e =
-    by (is_record header v) (nat_lt most_elements (share_begin (product (inner_lengths header v)) (r + 1) ranks - share_begin (product (inner_lengths header v)) r ranks) || is_record_past header number) e
-  where
-    by : (a b : Bool) → code_of_look (elim a as (λ z. looks.Look) [
-      | false ↦ looks.Refused code.ENotRec
-      | true ↦ elim b as (λ z. looks.Look) [
-        | true ↦ looks.Refused code.ETooLarge
-        | false ↦ fills k v number (share_boxes (inner_lengths header v) r ranks)
-      ]
-    ]) ≡ code.Ok → a ≡ true
-    by true b f = refl
-    by false b f = absurd cc
+of_records header k number r ranks v e = grind (arith, nat_tests)
 
 module _ (s : Setting) (ranks j k number : ℕ) (name : List ℕ) (v : Var) (rest : List Mark) (c : Counted) (goings : List Going) (some : 1 ≤ ranks)
     (found : find_var s.header name ≡ Some k) (there : slice_get s.header.vars k ≡ Some v) (along : AreAlong ranks (Meet j ∷ rest) goings)

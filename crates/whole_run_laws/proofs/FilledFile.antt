@@ -1,5 +1,5 @@
 -- A filled file reads its fill values: elements that were written, no two of which share a byte.
-use Rattle.whole_run_laws.proofs.Words.{◌≡◌, ℕ, zero, suc, ◌+◌, ◌-◌, ◌<◌, ◌≤◌, refl, sym, ◌∙◌, ap, subst, inl, inr, ◌⊎◌, List, [], ◌∷◌, length, map, get_or, Bool, true, false, not, Option, Some, None, arith, eqb_tells, fold-append, fold-map, same_Some, flat_map, fold, slice_get, ◌==◌, MatchBool, enumerate_from, option_or, first_counts, second_counts, flat_in, in_flat, at_in, in_at, in_filter, filter_in, each_in, in_map, map_in, Header, Var, Script, Mark, size_of, at, longer, read, written, end_for, fill_bytes, fill_var, filled, canon, header_len, is_sound, fixed_variables, inner_lengths, is_record, In, AreApart, HasRecord, IsElement, IsIndex, place, row, within_record, fills, cells, coordinates, byte_or, Cell, said_at, said_by, write_cells, serial, setting_of, start, coordinates_all, elements_apart, elements_past_header, coordinates_at, row_once, cells_said, said_append, said_below, said_inside, said_past, canon_len, completed_puts, IsBesideCount, is_held, found_long, resized, IsOrApart}
+use Rattle.whole_run_laws.proofs.Words.{◌≡◌, ℕ, zero, suc, ◌+◌, ◌<◌, ◌≤◌, refl, sym, ◌∙◌, ap, subst, inl, inr, ◌⊎◌, List, [], ◌∷◌, length, map, get_or, Bool, true, false, not, Option, Some, None, arith, eqb_tells, fold-append, fold-map, same_Some, flat_map, fold, slice_get, ◌==◌, enumerate_from, option_or, first_counts, second_counts, flat_in, in_flat, at_in, in_at, in_filter, filter_in, each_in, in_map, map_in, Header, Var, Script, Mark, size_of, at, longer, read, end_for, fill_bytes, fill_var, filled, canon, header_len, is_sound, fixed_variables, inner_lengths, is_record, In, IsElement, IsIndex, place, row, fills, cells, coordinates, byte_or, Cell, said_at, said_by, write_cells, serial, setting_of, start, coordinates_all, elements_apart, elements_past_header, coordinates_at, row_once, cells_said, said_append, said_below, said_inside, said_past, canon_len, completed_puts, IsBesideCount, is_held, found_long, resized, IsOrApart, nat_tests}
 use Rattle.whole_run_laws.proofs.KeptLaws.{end_kept}
 
 -- ---- cells of which each is another one's or apart from it
@@ -12,14 +12,10 @@ module _ (e : Cell) (i : ℕ) (inside : i < length e.1) where
   byte = Some (get_or e.1 i 0)
 
   own : said_at (enumerate_from e.0 e.1) (e.0 + i) ≡ Some (get_or e.1 i 0)
-  own =
-      let back : e.0 + i - e.0 ≡ i = omega arith in
-      said_inside e.0 e.1 (e.0 + i) 0 (omega arith) (omega arith) ∙ ap (λ (n : ℕ). Some (get_or e.1 n 0)) back
+  own = grind (arith, nat_tests, said_inside e.0 e.1 (e.0 + i) 0 (omega arith) (omega arith))
 
   one : (d : Cell) → IsOrApart e d → (said_at (enumerate_from d.0 d.1) (e.0 + i) ≡ None) ⊎ (said_at (enumerate_from d.0 d.1) (e.0 + i) ≡ Some (get_or e.1 i 0))
-  one d (inl f) = inr (ap (λ (z : Cell). said_at (enumerate_from z.0 z.1) (e.0 + i)) f ∙ own)
-  one d (inr (inl h)) = inl (said_past d.0 d.1 (e.0 + i) (omega arith))
-  one d (inr (inr h)) = inl (said_below d.0 d.1 (e.0 + i) (omega arith))
+  one d xs = grind (arith, nat_tests, own, said_past, said_below)
 
   joined : (d : Cell) (cells : List Cell) → said_at (said_by (d ∷ cells)) (e.0 + i) ≡ option_or (said_at (said_by cells) (e.0 + i)) (said_at (enumerate_from d.0 d.1) (e.0 + i))
   joined d cells = said_append (enumerate_from d.0 d.1) (said_by cells) (e.0 + i)
@@ -40,11 +36,7 @@ module _ (e : Cell) (i : ℕ) (inside : i < length e.1) where
   says_that [] h f = absurd h
   says_that (d ∷ cells) (inr h) f =
       joined d cells ∙ first_counts (said_at (said_by cells) (e.0 + i)) _ _ (says_that cells h (λ z k. f z (inr k)))
-  says_that (d ∷ cells) (inl g) f = by (some_or_that cells (λ z k. f z (inr k)))
-    where
-      by : (said_at (said_by cells) (e.0 + i) ≡ None) ⊎ (said_at (said_by cells) (e.0 + i) ≡ Some (get_or e.1 i 0)) → said_at (said_by (d ∷ cells)) (e.0 + i) ≡ Some (get_or e.1 i 0)
-      by (inr a) = joined d cells ∙ first_counts (said_at (said_by cells) (e.0 + i)) _ _ a
-      by (inl a) = joined d cells ∙ second_counts (said_at (said_by cells) (e.0 + i)) _ a ∙ ap (λ (z : Cell). said_at (enumerate_from z.0 z.1) (e.0 + i)) g ∙ own
+  says_that (d ∷ cells) (inl g) f = grind (arith, nat_tests, some_or_that, joined, first_counts, second_counts, own)
 
 -- ---- reading
 
@@ -70,24 +62,14 @@ fill_long v = found_long v.kind v.attrs
 
 pub cells_apart : (header : Header) (k m : ℕ) (v w : Var) (i j : List ℕ) → is_sound header ≡ true → slice_get header.vars k ≡ Some v → slice_get header.vars m ≡ Some w
     → IsElement header v i → IsElement header w j → ((m ≡ k) × (j ≡ i)) ⊎ (((k ≡ m) × (i ≡ j)) → ⊥) → IsOrApart (cell_of header v i) (cell_of header w j)
-cells_apart header k m v w i j sound e f p q (inl (a, b)) =
-    let same : w ≡ v = same_Some w v (sym f ∙ ap (λ (z : ℕ). slice_get header.vars z) a ∙ e) in
-    inl (λ t. cell_of header (same t) (b t))
-cells_apart header k m v w i j sound e f p q (inr n) =
-    inr (turned (place header v i) (length (fill_bytes v)) (place header w j) (length (fill_bytes w)) (resized (place header v i) (size_of v.kind) (place header w j) (size_of w.kind) (length (fill_bytes v)) (length (fill_bytes w)) (sym (fill_long v)) (sym (fill_long w))
-    (elements_apart header k m v w i j sound e f p q n)))
-  where
-    turned : (a n b m : ℕ) → AreApart a n b m → AreApart b m a n
-    turned a n b m (inl h) = inr h
-    turned a n b m (inr h) = inl h
+cells_apart header k m v w i j sound e f p q (inl (a, b)) = grind (arith, nat_tests, same_Some)
+cells_apart header k m v w i j sound e f p q (inr n) = grind (arith, nat_tests, fill_long v, fill_long w, elements_apart header k m v w i j sound e f p q n, resized)
 
 fixed_element : (header : Header) (v : Var) (index : List ℕ) → is_record header v ≡ false → IsIndex (inner_lengths header v) index → IsElement header v index
-fixed_element header v index e h =
-    subst (λ (t : Bool). MatchBool t (HasRecord index × IsIndex (inner_lengths header v) (within_record index)) (IsIndex (inner_lengths header v) index)) (sym e) h
+fixed_element header v index e h = grind (arith, nat_tests)
 
 pub record_element : (header : Header) (v : Var) (number : ℕ) (index : List ℕ) → is_record header v ≡ true → IsIndex (inner_lengths header v) index → IsElement header v (number ∷ index)
-record_element header v number index e h =
-    subst (λ (t : Bool). MatchBool t (HasRecord (number ∷ index) × IsIndex (inner_lengths header v) index) (IsIndex (inner_lengths header v) (number ∷ index))) (sym e) (tt, h)
+record_element header v number index e h = grind (arith, nat_tests)
 
 pub index_in : (lengths index : List ℕ) → IsIndex lengths index → In (coordinates lengths) index
 index_in lengths index h = at_in (coordinates lengths) (row lengths index) index (coordinates_at lengths index h)
@@ -113,15 +95,11 @@ abbrev cells_of_vars : Header → List Var → List Cell
 cells_of_vars header vars = flat_map (cells_of_var header) vars
 
 var_cells : (header : Header) (v : Var) (file : List ℕ) → fill_var header file v ≡ write_cells file (cells_of_var header v)
-var_cells header v file =
-    sym (fold-map (λ (f : List ℕ) (cell : Cell). written f cell.0 cell.1) (cell_of header v) file (coordinates (inner_lengths header v)))
+var_cells header v file = grind (arith, nat_tests, fold-map)
 
 vars_cells : (header : Header) (vars : List Var) (file : List ℕ) → fold (fill_var header) file vars ≡ write_cells file (cells_of_vars header vars)
 vars_cells header [] file = refl
-vars_cells header (v ∷ vars) file =
-    vars_cells header vars (fill_var header file v)
-    ∙ ap (λ (f : List ℕ). write_cells f (cells_of_vars header vars)) (var_cells header v file)
-    ∙ sym (fold-append (λ (f : List ℕ) (cell : Cell). written f cell.0 cell.1) file (cells_of_var header v) (cells_of_vars header vars))
+vars_cells header (v ∷ vars) file = grind (arith, nat_tests, vars_cells header vars (fill_var header file v), var_cells, fold-append)
 
 filled_apart : (header : Header) (k : ℕ) (v : Var) (index : List ℕ) → is_sound header ≡ true → slice_get header.vars k ≡ Some v → is_record header v ≡ false
     → IsIndex (inner_lengths header v) index → (d : Cell) → In (cells_of_vars header (fixed_variables header header.vars)) d → IsOrApart (cell_of header v index) d
@@ -179,13 +157,7 @@ read_kept new old p (suc n) f =
 
 starts_filled : (script : Script) (header : Header) (file : List ℕ) → script.fresh ≡ true → script.filled ≡ true
     → start script header file ≡ filled header (longer (canon header) (end_for (setting_of script header) 0))
-starts_filled script header file e f = λ t. elim (e t) as (λ z. List ℕ) [
-  | false ↦ longer file (end_for (setting_of script header) header.records)
-  | true ↦ elim (f t) as (λ z. List ℕ) [
-    | false ↦ longer (canon header) (end_for (setting_of script header) 0)
-    | true ↦ filled header (longer (canon header) (end_for (setting_of script header) 0))
-  ]
-]
+starts_filled script header file e f = grind (arith, nat_tests)
 
 pub filled_stays : (script : Script) (header : Header) (file : List ℕ) (order : List Mark) (k : ℕ) (v : Var) (index : List ℕ)
     → script.fresh ≡ true → script.filled ≡ true → is_sound header ≡ true → slice_get header.vars k ≡ Some v

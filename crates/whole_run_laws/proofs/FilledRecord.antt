@@ -1,8 +1,6 @@
 -- A record that all ranks filled reads its fill values.
-use Rattle.whole_run_laws.proofs.Words.{◌≡◌, ℕ, zero, suc, ◌+◌, ◌-◌, ◌*◌, ◌/◌, ◌<◌, ◌≤◌, refl, sym, ◌∙◌, ap, subst, inl, inr, List, [], ◌∷◌, ◌++◌, length, map, take, drop, replicate, Bool, true, false, Option, Some, None, add-one, arith, mul-div_cancel, mul-le-mul_left, drop-append-add, take_all, flat_map-append, append-nil, length-map, map-append, take_at, flat_map, slice_get, zip, nat_lt, AllByRecursion, enumerate_from, range_with_len, each_weaker, map_map, div_grows, in_map, map_in, Header, Var, Post, Part, Offer, Pair, size_of, at, read, Counted, meeting, puts_of, Setting, told, box_indices, fill_bytes, share_begin, shifted, is_sound, inner_lengths, is_record, product, most_elements, In, IsIndex, place, box_post, box_region, fills, is_record_past, look_record, code_of_look, posts_of, cells, coordinates, elements, index_at, byte_or, Cell, said_at, said_by, bytes_of, bytes_of_some, said_by_puts, coordinates_all, elements_past_header, boxes_right, length-coordinates, post_says, same_len, share_grows, share_within, shifted_is, completed, puts_met, unless_told, AllFill, filling, share_boxes, posts_filled, IsOrApart, part, part_joined, part_none}
-use Rattle.std.specs.Prelude.{◌||◌}
+use Rattle.whole_run_laws.proofs.Words.{◌≡◌, ℕ, zero, suc, ◌+◌, ◌*◌, ◌<◌, ◌≤◌, refl, sym, ◌∙◌, ap, subst, inl, inr, List, [], ◌∷◌, ◌++◌, length, map, take, drop, replicate, true, Option, Some, None, add-one, arith, mul-div_cancel, mul-le-mul_left, drop-append-add, take_all, flat_map-append, append-nil, length-map, map-append, take_at, flat_map, slice_get, zip, AllByRecursion, enumerate_from, range_with_len, each_weaker, map_map, div_grows, in_map, map_in, Header, Var, Post, Part, Offer, Pair, size_of, at, read, Counted, meeting, puts_of, Setting, told, box_indices, fill_bytes, share_begin, shifted, is_sound, inner_lengths, is_record, product, In, IsIndex, place, box_post, box_region, look_record, code_of_look, posts_of, cells, coordinates, elements, index_at, byte_or, Cell, said_at, said_by, bytes_of, bytes_of_some, said_by_puts, coordinates_all, elements_past_header, boxes_right, length-coordinates, post_says, same_len, share_grows, share_within, shifted_is, completed, puts_met, unless_told, AllFill, filling, share_boxes, posts_filled, IsOrApart, part, part_joined, part_none, nat_tests}
 use Rattle.nc_base.specs.declared.answer.Code.TheVariants as code
-use Rattle.serial_spec.specs.Looks as looks
 use Rattle.whole_run_laws.proofs.KeptLaws.{meeting_said}
 use Rattle.whole_run_laws.proofs.FilledFile.{read_all, cell_of, fill_long, cells_apart, record_element, index_in, in_index, same_or_not, past_count, says_that}
 
@@ -19,62 +17,24 @@ module _ (lengths : List ℕ) (ranks : ℕ) (some : 0 < ranks) where
   share r = flat_map box_indices (share_boxes lengths r ranks)
 
   shares_from : (a n : ℕ) → a + n ≤ ranks → flat_map share (range_with_len a n) ≡ part (begins a) (begins (a + n)) (coordinates lengths)
-  shares_from a zero h =
-      sym (part_none (coordinates lengths) (begins a) (begins (a + zero)) (share_rises (product lengths) (a + zero) a ranks some (omega arith)))
-  shares_from a (suc n) h =
-      let next : a + 1 + n ≡ a + suc n = omega arith in
-      let here : share a ≡ part (begins a) (begins (a + 1)) (coordinates lengths) =
-      boxes_right lengths (begins a) (begins (a + 1)) (share_grows (product lengths) a ranks (omega arith)) (share_within (product lengths) a ranks (omega arith)) in
-      let later = shares_from (a + 1) n (omega arith) in
-      (λ t. here t ++ later t)
-      ∙ sym (part_joined (coordinates lengths) (begins a) (begins (a + 1)) (begins (a + 1 + n)) (share_rises (product lengths) a (a + 1) ranks some (omega arith))
-      (share_rises (product lengths) (a + 1) (a + 1 + n) ranks some (omega arith)))
-      ∙ ap (λ (m : ℕ). part (begins a) (begins m) (coordinates lengths)) next
+  shares_from a zero h = grind (arith, nat_tests, part_none, share_rises)
+  shares_from a (suc n) h = grind (arith, nat_tests, shares_from (a + 1) n (omega arith), boxes_right, share_grows, share_within, part_joined, share_rises)
 
   first_begins : begins 0 ≡ 0
-  first_begins =
-      let none : product lengths * 0 ≡ 0 * ranks = omega arith in
-      ap (λ (z : ℕ). z / ranks) none ∙ mul-div_cancel 0 {n = ranks} some
+  first_begins = grind (arith, nat_tests, mul-div_cancel)
 
   last_ends : begins (0 + ranks) ≡ product lengths
-  last_ends =
-      let all : 0 + ranks ≡ ranks = omega arith in
-      ap begins all ∙ mul-div_cancel (product lengths) {n = ranks} some
+  last_ends = grind (arith, nat_tests, mul-div_cancel)
 
   pub shares_cover : flat_map share (range_with_len 0 ranks) ≡ coordinates lengths
-  shares_cover =
-      let long = length-coordinates lengths in
-      let from = first_begins in
-      let to = last_ends in
-      shares_from 0 ranks (omega arith)
-      ∙ (λ t. part (from t) (to t) (coordinates lengths))
-      ∙ take_all (product lengths - 0) (coordinates lengths) (omega arith)
+  shares_cover = grind (arith, nat_tests, length-coordinates, first_begins, last_ends, shares_from, take_all)
 
 pub shares_all : (lengths : List ℕ) (ranks : ℕ) → 0 < ranks → flat_map (λ r. flat_map box_indices (share_boxes lengths r ranks)) (range_with_len 0 ranks) ≡ coordinates lengths
 shares_all lengths ranks some = shares_cover lengths ranks some
 
 pub record_puts : (header : Header) (k number r ranks : ℕ) (v : Var) → code_of_look (look_record header k number r ranks v) ≡ code.Ok
     → posts_of (look_record header k number r ranks v) ≡ filling header k v number ranks r
-record_puts header k number r ranks v e =
-    by (is_record header v) (nat_lt most_elements (share_begin (product (inner_lengths header v)) (r + 1) ranks - share_begin (product (inner_lengths header v)) r ranks) || is_record_past header number) e
-  where
-    by : (a b : Bool) → code_of_look (elim a as (λ z. looks.Look) [
-      | false ↦ looks.Refused code.ENotRec
-      | true ↦ elim b as (λ z. looks.Look) [
-        | true ↦ looks.Refused code.ETooLarge
-        | false ↦ fills k v number (share_boxes (inner_lengths header v) r ranks)
-      ]
-    ]) ≡ code.Ok
-        → posts_of (elim a as (λ z. looks.Look) [
-          | false ↦ looks.Refused code.ENotRec
-          | true ↦ elim b as (λ z. looks.Look) [
-            | true ↦ looks.Refused code.ETooLarge
-            | false ↦ fills k v number (share_boxes (inner_lengths header v) r ranks)
-          ]
-        ]) ≡ filling header k v number ranks r
-    by false b f = absurd cc
-    by true true f = absurd cc
-    by true false f = posts_filled k v number (share_boxes (inner_lengths header v) r ranks)
+record_puts header k number r ranks v e = grind (arith, nat_tests, posts_filled)
 
 -- ---- what the puts of a filling say
 
@@ -86,12 +46,7 @@ abbrev at_box : ℕ → Part → List ℕ → List ℕ
 at_box number p c = index_at (number ∷ p.start) (replicate (length p.count + 1) 1) c
 
 one_index : (number : ℕ) (p : Part) (c : List ℕ) → IsIndex p.count c → at_box number p (0 ∷ c) ≡ number ∷ shifted p.start c
-one_index number p c h =
-    let long = same_len p.count c h in
-    let ones : ◌≡◌ {A = List ℕ} (replicate (length p.count + 1) 1) (1 ∷ replicate (length p.count) 1) = ap (λ (n : ℕ). replicate n 1) (add-one (length p.count)) in
-    let first : number + 0 * 1 ≡ number = omega arith in
-    ap (λ (strides : List ℕ). index_at (number ∷ p.start) strides (0 ∷ c)) ones
-    ∙ (λ j. first j ∷ shifted_is p.start c (length p.count) (omega (arith, long)) j)
+one_index number p c h = grind (arith, nat_tests, same_len, add-one, shifted_is)
 
 box_elements : (number : ℕ) (p : Part) → elements (box_region number p) ≡ map (λ c. number ∷ c) (box_indices p)
 box_elements number p =
@@ -139,15 +94,11 @@ module _ (header : Header) (k number : ℕ) (v : Var) (there : slice_get header.
           ∙ length-coordinates (1 ∷ p.count) ∙ one)
 
   said_joined : (a b : List (List ℕ)) → said_by (map cell_at a) ++ said_by (map cell_at b) ≡ said_by (map cell_at (a ++ b))
-  said_joined a b =
-      sym (flat_map-append (λ (cell : Cell). enumerate_from cell.0 cell.1) (map cell_at a) (map cell_at b)) ∙ ap (λ (cs : List Cell). said_by cs) (sym (map-append cell_at a b))
+  said_joined a b = grind (arith, nat_tests, flat_map-append, map-append)
 
   boxes_said : (r : ℕ) (parts : List Part) → said_by_puts header (map (λ (post : Post). (r, post)) (map (box_post k v number) parts)) ≡ said_by (map cell_at (flat_map box_indices parts))
   boxes_said r [] = refl
-  boxes_said r (p ∷ parts) =
-      let here = box_said p in
-      let later = boxes_said r parts in
-      (λ t. here t ++ later t) ∙ said_joined (box_indices p) (flat_map box_indices parts)
+  boxes_said r (p ∷ parts) = grind (arith, nat_tests, boxes_said r parts, box_said, said_joined)
 
   all_said : (offers : List Offer) (a ranks : ℕ) → ((r : ℕ) (o : Offer) → slice_get offers r ≡ Some o → o.batch.puts ≡ filling header k v number ranks (a + r))
       → said_by_puts header (flat_map puts_of (enumerate_from a offers))

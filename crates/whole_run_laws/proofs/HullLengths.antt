@@ -1,24 +1,15 @@
 -- No window's hull is longer than its buffer, and no call of a step transfers more.
-use Rattle.whole_run_laws.proofs.Words.{◌≡◌, ℕ, zero, suc, ◌+◌, ◌-◌, ◌/◌, ◌%◌, ◌<◌, ◌≤◌, refl, ap, subst, inl, inr, ◌⊎◌, List, [], ◌∷◌, ◌++◌, length, map, Bool, true, false, cond, not, max, ◌&&◌, Option, Some, None, arith, filter, flat_map, nat_le, nat_lt, ◌==◌, is_none, enumerate_from, range_with_len, byte_len, equal_itself, IsAscending, filter_in, filter_ascends, flat_in, in_either, in_order_ascends, last_below, map_in, Header, Post, Hints, Script, DiskCall, Grow, Load, Store, Mark, Meet, Solo, Offer, calls_from, collective_windows, domain_size, domains, first_of, get_bytes, gets_of, grow_to, hull_len, in_order, last_of, loads, mark_calls, meeting_calls, not_empty, overlays, put_calls, run_calls, sieved, sieving_windows, solo_calls, store_records, windows, Counted, Setting, end_for, meeting, puts_of, told, count_width, is_lawful, In, is_empty, needed_by, Going, advance, after_mark, closed, first_state, offers_of, rank_offer, setting_of, Puts, bytes_of, covered, is_count_store, longest, transferred, le_two, window_short}
+use Rattle.whole_run_laws.proofs.Words.{◌≡◌, ℕ, zero, suc, ◌+◌, ◌<◌, ◌≤◌, ap, subst, inl, inr, ◌⊎◌, List, [], ◌∷◌, ◌++◌, length, map, Bool, true, false, cond, not, max, ◌&&◌, Option, Some, None, arith, filter, flat_map, nat_le, nat_lt, is_none, enumerate_from, equal_itself, IsAscending, filter_in, filter_ascends, flat_in, in_either, in_order_ascends, last_below, map_in, Header, Post, Hints, Script, DiskCall, Load, Mark, Meet, Solo, Offer, calls_from, collective_windows, domains, first_of, get_bytes, gets_of, grow_to, hull_len, in_order, last_of, loads, mark_calls, meeting_calls, overlays, put_calls, run_calls, sieved, sieving_windows, solo_calls, store_records, Counted, Setting, end_for, meeting, puts_of, told, is_lawful, In, is_empty, needed_by, Going, advance, after_mark, closed, first_state, offers_of, rank_offer, setting_of, Puts, bytes_of, covered, is_count_store, longest, transferred, le_two, window_short, nat_tests}
 use borrow.Author.Tests.{ltb-true, ltb-false}
 use Rattle.whole_run_laws.proofs.Hints.{some_buffers}
 
 -- ---- hulls
 
 domain_ascends : (nodes unit : ℕ) (bytes d : List ℕ) → IsAscending bytes → In (domains nodes unit bytes) d → IsAscending d
-domain_ascends nodes unit bytes d asc h =
-    let lo = first_of bytes in
-    let low = lo - lo % unit in
-    let s = max 1 (domain_size low (last_of bytes + 1) nodes unit) in
-    let m = map_in (λ a. filter (λ x. (x - low) / s == a) bytes) (range_with_len 0 nodes) d h in
-    subst IsAscending m.2 (filter_ascends (λ x. (x - low) / s == m.0) bytes asc)
+domain_ascends nodes unit bytes d asc h = grind (arith, nat_tests, map_in, filter_ascends)
 
 pub collective_short : (hints : Hints) (bytes w : List ℕ) → 1 ≤ hints.cb_buffer → In (collective_windows hints (in_order bytes)) w → hull_len w ≤ hints.cb_buffer
-collective_short hints bytes w l h =
-    let all = domains hints.cb_nodes hints.striping_unit (in_order bytes) in
-    let d = flat_in (λ d. windows hints.cb_buffer d) (not_empty all) w h in
-    let kept = filter_in (λ (w : List ℕ). not (is_empty w)) all d.0 d.1 in
-    window_short hints.cb_buffer d.0 w l (domain_ascends hints.cb_nodes hints.striping_unit (in_order bytes) d.0 (in_order_ascends bytes) kept.0) d.2
+collective_short hints bytes w l h = grind (arith, nat_tests, flat_in, filter_in, not, window_short, domain_ascends, in_order_ascends)
 
 front_short : (x buffer : ℕ) (rest : List ℕ) (t : Bool) → 1 ≤ buffer → nat_lt x (x + buffer) ≡ t
     → ((y : ℕ) → In (cond t (x ∷ rest) rest) y → y < x + buffer) → hull_len (cond t (x ∷ rest) rest) ≤ buffer
@@ -28,10 +19,7 @@ front_short x buffer rest false l e h = let k : x + buffer ≤ x = ltb-false _ _
 sieved_short : (fuel buffer : ℕ) (bytes w : List ℕ) → 1 ≤ buffer → In (sieved fuel buffer bytes) w → hull_len w ≤ buffer
 sieved_short zero buffer bytes w l h = absurd h
 sieved_short (suc fuel) buffer [] w l h = absurd h
-sieved_short (suc fuel) buffer (x ∷ bytes) w l (inl e) =
-    subst (λ (v : List ℕ). hull_len v ≤ buffer) e
-    (front_short x buffer (filter (λ y. nat_lt y (x + buffer)) bytes) (nat_lt x (x + buffer)) l refl
-    (λ y k. ltb-true _ _ (filter_in (λ y. nat_lt y (x + buffer)) (x ∷ bytes) y k).1))
+sieved_short (suc fuel) buffer (x ∷ bytes) w l (inl e) = grind (arith, nat_tests, front_short, ltb-true, filter_in)
 sieved_short (suc fuel) buffer (x ∷ bytes) w l (inr h) = sieved_short fuel buffer (filter (λ y. nat_le (x + buffer) y) bytes) w l h
 
 pub sieving_short : (buffer : ℕ) (bytes w : List ℕ) → 1 ≤ buffer → In (sieving_windows buffer bytes) w → hull_len w ≤ buffer
@@ -47,24 +35,10 @@ load_short w n call l (inl e) = call_short (Load (first_of w) (hull_len w)) call
 load_short w n call l (inr h) = absurd h
 
 overlay_short : (w : List ℕ) (n : ℕ) (call : DiskCall) → hull_len w ≤ n → In (overlays w) call → transferred call ≤ n
-overlay_short w n call l h = by (length w == hull_len w) h
-  where
-    stored : In (Store (first_of w) (hull_len w) ∷ []) call → transferred call ≤ n
-    stored (inl e) = call_short (Store (first_of w) (hull_len w)) call n e l
-    stored (inr k) = absurd k
-
-    by : (t : Bool) → In (cond t [] (loads w) ++ Store (first_of w) (hull_len w) ∷ []) call → transferred call ≤ n
-    by true k = stored k
-    by false (inl e) = call_short (Load (first_of w) (hull_len w)) call n e l
-    by false (inr k) = stored k
+overlay_short w n call l h = grind (arith, nat_tests, call_short)
 
 grow_short : (size end n : ℕ) (call : DiskCall) → In (grow_to size end) call → transferred call ≤ n
-grow_short size end n call h = by (nat_lt size end) h
-  where
-    by : (t : Bool) → In (cond t (Grow end ∷ []) []) call → transferred call ≤ n
-    by true (inl e) = call_short (Grow end) call n e (omega arith)
-    by true (inr k) = absurd k
-    by false k = absurd k
+grow_short size end n call h = grind (arith, nat_tests, call_short)
 
 put_short : (s : Setting) (cut : List ℕ → List (List ℕ)) (puts : Puts) (size n : ℕ) (call : DiskCall)
     → ((w : List ℕ) → In (cut (in_order (covered s.header puts))) w → hull_len w ≤ n) → In (put_calls s cut puts size) call → transferred call ≤ n
@@ -82,10 +56,7 @@ get_short : (ws : List (List ℕ)) (n : ℕ) (call : DiskCall) → ((w : List �
 get_short ws n call f h = let w = flat_in loads ws call h in load_short w.0 n call (f w.0 w.1) w.2
 
 count_stored : (s : Setting) (grew : Bool) (call : DiskCall) → In (store_records s grew) call → is_count_store s.header call ≡ true
-count_stored s true call (inl e) =
-    subst (λ (c : DiskCall). is_count_store s.header c ≡ true) e (equal_itself (byte_len (count_width s.header.version)))
-count_stored s true call (inr k) = absurd k
-count_stored s false call k = absurd k
+count_stored s grew call k = grind (arith, nat_tests, equal_itself)
 
 abbrev ShortOrCount : ℕ → Header → DiskCall → Type 0
 ShortOrCount n header call = (transferred call ≤ n) ⊎ (is_count_store header call ≡ true)
@@ -93,15 +64,7 @@ ShortOrCount n header call = (transferred call ≤ n) ⊎ (is_count_store header
 -- puts, the record count, gets
 three_short : (n : ℕ) (header : Header) (a b d : List DiskCall) (call : DiskCall) → (In a call → transferred call ≤ n) → (In b call → is_count_store header call ≡ true)
     → (In d call → transferred call ≤ n) → In ((a ++ b) ++ d) call → ShortOrCount n header call
-three_short n header a b d call f g h k = by_last (in_either (a ++ b) d call k)
-  where
-    by_first : In a call ⊎ In b call → ShortOrCount n header call
-    by_first (inl m) = inl (f m)
-    by_first (inr m) = inr (g m)
-
-    by_last : In (a ++ b) call ⊎ In d call → ShortOrCount n header call
-    by_last (inl m) = by_first (in_either a b call m)
-    by_last (inr m) = inl (h m)
+three_short n header a b d call f g h k = grind (arith, nat_tests, in_either)
 
 pub meeting_short : (hints : Hints) (s : Setting) (offers : List Offer) (c : Counted) (call : DiskCall) → 1 ≤ hints.cb_buffer
     → In (meeting_calls hints s offers c) call → (transferred call ≤ hints.cb_buffer) ⊎ (is_count_store s.header call ≡ true)
@@ -179,11 +142,7 @@ mark_short hints s (c, goings) (Solo r n) call a b d h = by (rank_offer s goings
 calls_short : (hints : Hints) (s : Setting) (state : Counted × List Going) (order : List Mark) (call : DiskCall) → 1 ≤ hints.cb_buffer → 1 ≤ hints.wr_buffer → 1 ≤ hints.rd_buffer
     → In (calls_from hints s state order) call → Short hints s.header call
 calls_short hints s state [] call a b d h = inr (count_stored s (nat_lt state.0.records (closed s state).records) call h)
-calls_short hints s state (m ∷ order) call a b d h =
-    elim (in_either (mark_calls hints s state m) (calls_from hints s (after_mark s state m) order) call h) [
-      | inl k ↦ mark_short hints s state m call a b d k
-      | inr k ↦ calls_short hints s (after_mark s state m) order call a b d k
-    ]
+calls_short hints s state (m ∷ order) call a b d h = grind (arith, nat_tests, calls_short hints s (after_mark s state m) order call a b d, in_either, mark_short)
 
 pub run_short : (script : Script) (header : Header) (file : List ℕ) (order : List Mark) (call : DiskCall) → is_lawful script ≡ true
     → In (run_calls script header file order) call → (transferred call ≤ longest script.hints) ⊎ (is_count_store header call ≡ true)

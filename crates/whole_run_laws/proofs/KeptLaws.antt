@@ -1,5 +1,5 @@
 -- What a run leaves of each byte: what the last completed put that holds it says, else the old one.
-use Rattle.whole_run_laws.proofs.Words.{◌≡◌, ℕ, ◌+◌, ◌<◌, ◌≤◌, refl, sym, ◌∙◌, ap, inl, inr, ◌⊎◌, List, [], ◌∷◌, ◌++◌, length, map, set, Bool, true, false, max, Option, Some, None, arith, flat_map-append, get_or_past, fold, zip, slice_get, Header, Pair, Post, Script, Mark, Meet, Solo, Offer, at, longer, filled, canon, count, greatest, needed_by, said_at, byte_or, Puts, bytes_of, said_by_puts, Setting, Counted, after_puts, end_for, known_by, meeting, needs, told, Going, advance, after_mark, closed, first_state, offers_of, serial, serial_from, start, setting_of, solo_of, count_long, puts_keep, raised_keeps, at-longer, byte_or_later, puts_said, said_append, completed, completed_from, completed_puts, IsBesideCount, is_held, puts_asked, puts_at, puts_met, unless_told, raised_grows, mark_grows}
+use Rattle.whole_run_laws.proofs.Words.{◌≡◌, ℕ, ◌+◌, ◌<◌, ◌≤◌, refl, ◌∙◌, inl, inr, ◌⊎◌, List, [], ◌∷◌, ◌++◌, length, map, set, false, max, Option, Some, None, arith, flat_map-append, get_or_past, fold, Header, Pair, Script, Mark, Offer, at, count, greatest, said_at, byte_or, Puts, said_by_puts, Setting, Counted, after_puts, known_by, meeting, needs, told, Going, advance, after_mark, closed, first_state, serial, serial_from, start, setting_of, solo_of, count_long, puts_keep, raised_keeps, at-longer, byte_or_later, puts_said, said_append, completed, completed_from, completed_puts, IsBesideCount, is_held, puts_asked, puts_at, puts_met, unless_told, raised_grows, mark_grows, nat_tests}
 
 -- ---- a step
 
@@ -32,56 +32,33 @@ solo_said s r c (g, Some o) x = after_said s (puts_asked r (Some o)) (told s (pu
 
 mark_said : (s : Setting) (state : Counted × List Going) (m : Mark) (x : ℕ) → IsBesideCount s.header x
     → at (after_mark s state m).0.file x ≡ byte_or (said_at (said_by_puts s.header (completed s (puts_at s state m))) x) (at state.0.file x)
-mark_said s (c, goings) (Meet k) x h = meeting_said s (offers_of (map (advance s.header) goings)) c x h
-mark_said s (c, goings) (Solo r n) x h = by (slice_get goings r)
-  where
-    by : (m : Option Going)
-        → at (elim m as (λ w. Counted × List Going) [
-          | None ↦ (c, goings)
-          | Some g ↦ ((solo_of s r c (advance s.header g)).0, set goings r (solo_of s r c (advance s.header g)).1)
-        ]).0.file x
-        ≡ byte_or (said_at (said_by_puts s.header (completed s (puts_asked r (elim m as (λ w. Option Offer) [ None ↦ None | Some g ↦ (advance s.header g).1 ])))) x) (at c.file x)
-    by None = nothing_said s.header (told s []) x (at c.file x)
-    by (Some g) = solo_said s r c (advance s.header g) x
+mark_said s state m x h = grind (arith, nat_tests, meeting_said, set, nothing_said, solo_said)
 
 -- ---- a run
 
 said_both : (header : Header) (a b : Puts) (x old : ℕ)
     → byte_or (said_at (said_by_puts header b) x) (byte_or (said_at (said_by_puts header a) x) old) ≡ byte_or (said_at (said_by_puts header (a ++ b)) x) old
-said_both header a b x old =
-    byte_or_later (said_at (said_by_puts header b) x) (said_at (said_by_puts header a) x) old
-    ∙ ap (λ (o : Option ℕ). byte_or o old) (sym (said_append (said_by_puts header a) (said_by_puts header b) x))
-    ∙ ap (λ (ps : List (ℕ × ℕ)). byte_or (said_at ps x) old) (sym (flat_map-append (λ (p : ℕ × Post). zip (bytes_of header p.1) p.1.bytes) a b))
+said_both header a b x old = grind (arith, nat_tests, byte_or_later, said_append, flat_map-append)
 
 state_said : (s : Setting) (state : Counted × List Going) (order : List Mark) (x : ℕ) → IsBesideCount s.header x
     → at (fold (after_mark s) state order).0.file x ≡ byte_or (said_at (said_by_puts s.header (completed_from s state order)) x) (at state.0.file x)
 state_said s state [] x h = refl
-state_said s state (m ∷ order) x h =
-    let later = completed_from s (after_mark s state m) order in
-    let now = completed s (puts_at s state m) in
-    state_said s (after_mark s state m) order x h
-    ∙ ap (λ (b : ℕ). byte_or (said_at (said_by_puts s.header later) x) b) (mark_said s state m x h)
-    ∙ said_both s.header now later x (at state.0.file x)
+state_said s state (m ∷ order) x h = grind (arith, nat_tests, state_said s (after_mark s state m) order x h, mark_said, said_both)
 
 closed_keeps : (s : Setting) (state : Counted × List Going) (x : ℕ) → IsBesideCount s.header x → at (closed s state).bytes x ≡ at state.0.file x
-closed_keeps s (c, goings) x h =
-    let n = greatest (map (λ g. g.rank.known) (map (λ g. (advance s.header g).0) goings)) in
-    raised_keeps s c n x (beside s n x h)
+closed_keeps s state x h = grind (arith, nat_tests, raised_keeps, beside)
 
 pub end_said : (script : Script) (header : Header) (file : List ℕ) (order : List Mark) (x : ℕ) → IsBesideCount header x
     → at (serial_from script header file order).bytes x ≡ byte_or (said_at (said_by_puts header (completed_puts script header file order)) x) (at file x)
 end_said script header file order x h =
-    let s = setting_of script header in
-    let state = first_state header file script.calls in
-    closed_keeps s (fold (after_mark s) state order) x h ∙ state_said s state order x h
+    grind (arith, nat_tests, state_said (setting_of script header) (first_state header file script.calls) order x h, closed_keeps)
 
 -- ---- what no put holds
 
 -- what the puts make of a file that has the byte is what is said of it
 untouched : (s : Setting) (puts : Puts) (file : List ℕ) (x : ℕ) → is_held s.header puts x ≡ false
     → byte_or (said_at (said_by_puts s.header puts) x) (at file x) ≡ at file x
-untouched s puts file x h =
-    sym (puts_said s puts file x) ∙ puts_keep s puts (longer file (end_for s (needed_by s.header puts))) x h ∙ at-longer file (end_for s (needed_by s.header puts)) x
+untouched s puts file x h = grind (arith, nat_tests, puts_said, puts_keep, at-longer)
 
 pub end_kept : (script : Script) (header : Header) (file : List ℕ) (order : List Mark) (x : ℕ) → IsBesideCount header x
     → is_held header (completed_puts script header file order) x ≡ false → at (serial_from script header file order).bytes x ≡ at file x
@@ -94,16 +71,7 @@ end_grown script header file order x h k l = end_kept script header file order x
 
 pub opened_kept : (script : Script) (header : Header) (file : List ℕ) (order : List Mark) (x : ℕ) → script.fresh ≡ false → IsBesideCount header x
     → is_held header (completed_puts script header (start script header file) order) x ≡ false → at (serial script header file order).bytes x ≡ at file x
-opened_kept script header file order x opened h k =
-    end_kept script header (start script header file) order x h k
-    ∙ ap (λ (b : Bool). at (elim b as (λ z. List ℕ) [
-      | false ↦ longer file (end_for (setting_of script header) header.records)
-      | true ↦ elim (script.filled) as (λ z. List ℕ) [
-        | false ↦ longer (canon header) (end_for (setting_of script header) 0)
-        | true ↦ filled header (longer (canon header) (end_for (setting_of script header) 0))
-      ]
-    ]) x) opened
-    ∙ at-longer file (end_for (setting_of script header) header.records) x
+opened_kept script header file order x opened h k = grind (arith, nat_tests, end_kept, at-longer)
 
 -- ---- lengths
 

@@ -1,5 +1,5 @@
 -- A script whose ranks have no steps of their own has one order: all its meetings in turn.
-use Rattle.whole_run_laws.proofs.Words.{◌≡◌, ℕ, zero, suc, ◌+◌, ◌<◌, refl, sym, ◌∙◌, ap, subst, List, [], ◌∷◌, length, map, Bool, true, false, cond, not, ◌&&◌, Option, Some, None, arith, and-false, or_from, slice_get, filter, ◌==◌, is_some, list_all, list_any, range_with_len, fails_each, fails_at, entry_below, and_first, equal_itself, no_false, or_first_false, or_second_false, in_range, each_in, Header, Call, Script, Mark, Meet, Solo, MeetKind, concerns, is_collective, is_data, is_of_rank_below, IsLegal, kind_of_call, kinds, marks, marks_from, mode_after, is_meeting, is_lawful, serial_from, kinds_of, own_lawful, ranks_lawful, kinds_skip, kinds_take, marks_alone, marks_meet, marks_solo, all_meetings, has_independent, has_solo, is_independent, collective_kind, some_rank}
+use Rattle.whole_run_laws.proofs.Words.{◌≡◌, ℕ, zero, suc, ◌+◌, ◌<◌, refl, sym, ◌∙◌, ap, subst, List, [], ◌∷◌, length, map, Bool, true, false, not, ◌&&◌, Option, Some, None, arith, and-false, or_from, slice_get, filter, is_some, list_all, list_any, range_with_len, fails_each, fails_at, entry_below, and_first, equal_itself, no_false, or_first_false, or_second_false, in_range, each_in, Header, Call, Script, Mark, Meet, Solo, MeetKind, concerns, is_collective, is_data, is_of_rank_below, IsLegal, kind_of_call, kinds, marks, marks_from, mode_after, is_meeting, is_lawful, serial_from, kinds_of, own_lawful, ranks_lawful, kinds_skip, kinds_take, marks_alone, marks_meet, marks_solo, all_meetings, has_independent, has_solo, is_independent, collective_kind, some_rank, nat_tests}
 use borrow.Author.Tests.{ltb-true}
 
 abbrev is_solo : Mark → Bool
@@ -12,9 +12,7 @@ meets_from k n = map (λ j. Meet j) (range_with_len k n)
 -- ---- the marks of one rank
 
 meets_more : (k n m : ℕ) → m ≡ suc n → Meet k ∷ meets_from (suc k) n ≡ meets_from k m
-meets_more k n m e =
-    let next : suc k ≡ k + 1 = omega arith in
-    ap (λ (j : ℕ). Meet k ∷ meets_from j n) next ∙ ap (λ (j : ℕ). meets_from k j) (sym e)
+meets_more k n m e = grind (arith, nat_tests)
 
 same_alone : (a b : List Mark) → a ≡ b → list_any is_solo a ≡ false → list_any is_solo b ≡ false
 same_alone a b e h = subst (λ (ms : List Mark). list_any is_solo ms ≡ false) e h
@@ -45,12 +43,7 @@ marks_meet_all r c k ind (x ∷ calls) h =
 -- ---- no step of its own
 
 not_data : (c : Call) → is_collective c ≡ false → is_independent c ≡ false → is_data c ≡ false
-not_data c e h = by (is_data c) (is_collective c) e h
-  where
-    by : (d t : Bool) → t ≡ false → (d && not t) ≡ false → d ≡ false
-    by true true e h = cc
-    by true false e h = cc
-    by false t e h = refl
+not_data c e h = grind (arith, nat_tests, not)
 
 none_alone : (r c k : ℕ) (ind : Bool) (calls : List Call) → list_any is_independent calls ≡ false → list_any is_solo (marks_from r c k ind calls) ≡ false
 none_alone r c k ind [] h = refl
@@ -68,11 +61,7 @@ abbrev marks_of_own : ℕ → Option (List Call) → List Mark
 marks_of_own r m = elim m [ None ↦ [] | Some own ↦ marks_from r 0 0 false own ]
 
 rank_not_alone : (script : Script) (r : ℕ) → has_independent script ≡ false → list_any is_solo (marks script.calls r) ≡ false
-rank_not_alone script r h = by (slice_get script.calls r) refl
-  where
-    by : (m : Option (List Call)) → slice_get script.calls r ≡ m → list_any is_solo (marks_of_own r m) ≡ false
-    by None e = refl
-    by (Some own) e = none_alone r 0 0 false own (fails_at (λ (o : List Call). list_any is_independent o) script.calls r own h e)
+rank_not_alone script r h = grind (arith, nat_tests, none_alone, fails_at)
 
 none_any : (p : ℕ → Bool) (xs : List ℕ) → ((x : ℕ) → p x ≡ false) → list_any p xs ≡ false
 none_any p [] f = refl
@@ -120,10 +109,7 @@ all_concern : (ranks : ℕ) (order : List Mark) → list_all (is_of_rank_below r
 all_concern ranks [] known f = refl
 all_concern ranks (Meet k ∷ order) known f =
     ap (λ (ms : List Mark). Meet k ∷ ms) (all_concern ranks order known (λ r l. f r l))
-all_concern ranks (Solo q n ∷ order) known f =
-    let own = f q (ltb-true q ranks (and_first _ _ known)) in
-    let alone : list_any is_solo (cond (q == q) (Solo q n ∷ filter (concerns q) order) (filter (concerns q) order)) ≡ false = own in
-    no_false (sym (subst (λ (b : Bool). list_any is_solo (cond b (Solo q n ∷ filter (concerns q) order) (filter (concerns q) order)) ≡ false) (equal_itself q) alone))
+all_concern ranks (Solo q n ∷ order) known f = grind (arith, nat_tests, equal_itself q, ltb-true, and_first, no_false)
 
 meetings_not_alone : (k n : ℕ) → list_any is_solo (meets_from k n) ≡ false
 meetings_not_alone k zero = refl
@@ -137,5 +123,4 @@ no_other script order lawful h legal =
 
 pub one_end : (script : Script) (header : Header) (file : List ℕ) (a b : List Mark) → is_lawful script ≡ true → has_solo script ≡ false
     → IsLegal script a → IsLegal script b → serial_from script header file a ≡ serial_from script header file b
-one_end script header file a b lawful h k l =
-    ap (λ (order : List Mark). serial_from script header file order) (no_other script a lawful h k ∙ sym (no_other script b lawful h l))
+one_end script header file a b lawful h k l = grind (arith, nat_tests, no_other script a lawful h k, no_other script b lawful h l)

@@ -1,27 +1,19 @@
 -- The posts of a call of form varn are those of calls on its parts, each with its share of the values.
-use Rattle.whole_run_laws.proofs.Words.{◌≡◌, ℕ, zero, suc, ◌+◌, ◌<◌, ◌≤◌, refl, sym, ◌∙◌, ap, inl, inr, List, [], ◌∷◌, ◌++◌, length, map, take, drop, Bool, true, false, not, cond, ltb, ◌||◌, Option, Some, None, option_map, arith, ℤ, filter, flat_map, slice_get, list_any, range_with_len, lt-ltb, ltb-false, sum_by-cons, any_map, entry_below, or_first_false, or_second_false, count_of, Code, Header, NcType, Var, Post, Direction, Get, Put, Form, Varn, Given, Part, Region, Value, Values, Numbers, Text, Bits, Class, class_of, product, In, data_code, find_var, is_varn, kind_code, look, look_at, look_parts, look_region, part_posts, parts_code, some_fits, values_bytes, values_code, code_of_look, posts_of, check_parts, check_var, elements_of_all, has_element, is_ok_code, part_region, part_regions, ext_of, packed_bytes, value_at, parts_pass, outcome, on_part, own_values, values_from}
+use Rattle.whole_run_laws.proofs.Words.{◌≡◌, ℕ, zero, suc, ◌+◌, ◌<◌, ◌≤◌, refl, ◌∙◌, ap, inl, inr, List, [], ◌∷◌, ◌++◌, length, map, take, drop, Bool, true, false, not, cond, ltb, ◌||◌, Option, Some, None, option_map, arith, ℤ, filter, flat_map, slice_get, list_any, range_with_len, lt-ltb, ltb-false, sum_by-cons, any_map, entry_below, or_first_false, or_second_false, count_of, Code, Header, NcType, Var, Post, Direction, Get, Put, Varn, Given, Part, Region, Values, Numbers, Text, Bits, Class, class_of, product, In, data_code, find_var, kind_code, look, look_at, look_parts, look_region, part_posts, parts_code, some_fits, values_bytes, code_of_look, posts_of, check_parts, check_var, elements_of_all, has_element, is_ok_code, part_region, part_regions, ext_of, packed_bytes, value_at, parts_pass, outcome, on_part, own_values, values_from, nat_tests}
 use Rattle.std.proofs.Common.{is_none}
 use Rattle.nc_base.specs.declared.answer.Code.TheVariants as code
 use Rattle.nc_base.specs.declared.request.Value.TheVariants as value
-use Rattle.serial_spec.specs.ExternalForm as form
 use Rattle.serial_spec.specs.Looks as looks
 
 -- ---- a call that is not refused
 
 passed : (checked : Code) (some : Bool) (asked : List Post) (last : Code) → code_of_look (outcome checked some asked last) ≡ code.Ok
     → (checked ≡ code.Ok) × (some ≡ true → last ≡ code.Ok)
-passed code.Ok true asked code.Ok h = (refl, λ t. refl)
-passed code.Ok true asked last h = absurd cc
-passed code.Ok false asked last h = (refl, λ t. absurd cc)
-passed checked some asked last h = absurd cc
+passed checked some asked last h = grind (arith, nat_tests)
 
 asks : (checked : Code) (some : Bool) (asked : List Post) (last : Code) → checked ≡ code.Ok → (some ≡ true → last ≡ code.Ok)
     → posts_of (outcome checked some asked last) ≡ cond some asked []
-asks checked some asked last e f = ap (λ (c : Code). posts_of (outcome c some asked last)) e ∙ by some f
-  where
-    by : (b : Bool) → (b ≡ true → last ≡ code.Ok) → posts_of (outcome code.Ok b asked last) ≡ cond b asked []
-    by false g = refl
-    by true g = ap (λ (c : Code). posts_of (outcome code.Ok true asked c)) (g refl)
+asks checked some asked last e f = grind (arith, nat_tests, outcome)
 
 -- ---- a share of the values
 
@@ -32,32 +24,14 @@ taken [] (suc k) zero i l = absurd (omega arith)
 taken [] (suc k) (suc n) i l = refl
 taken (x ∷ xs) zero zero i l = absurd (omega arith)
 taken (x ∷ xs) zero (suc n) zero l = refl
-taken (x ∷ xs) zero (suc n) (suc i) l =
-    let here : 0 + i ≡ i = omega arith in
-    let there : suc i ≡ 0 + suc i = omega arith in
-    taken xs 0 n i (omega arith) ∙ ap (λ (m : ℕ). slice_get xs m) here ∙ ap (λ (m : ℕ). slice_get (x ∷ xs) m) there
-taken (x ∷ xs) (suc k) n i l =
-    let there : suc (k + i) ≡ suc k + i = omega arith in
-    taken xs k n i l ∙ ap (λ (m : ℕ). slice_get (x ∷ xs) m) there
+taken (x ∷ xs) zero (suc n) (suc i) l = grind (arith, nat_tests, taken xs 0 n i (omega arith))
+taken (x ∷ xs) (suc k) n i l = grind (arith, nat_tests, taken xs k n i l)
 
 same_value : (values : Values) (k n i : ℕ) → i < n → value_at (values_from values k n) i ≡ value_at values (k + i)
-same_value (Numbers zs) k n i l = ap (λ (o : Option ℤ). option_map (λ z. value.Number z) o) (taken zs k n i l)
-same_value (Text cs) k n i l = ap (λ (o : Option ℕ). option_map (λ c. value.Char c) o) (taken cs k n i l)
-same_value (Bits ns) k n i l = ap (λ (o : Option ℕ). option_map (λ b. value.Bits b) o) (taken ns k n i l)
+same_value values k n i l = grind (arith, nat_tests, option_map, taken)
 
 same_kind : (c : Class) (values : Values) (k n : ℕ) → kind_code c (values_from values k n) ≡ kind_code c values
-same_kind form.Signed (Numbers zs) k n = refl
-same_kind form.Signed (Text cs) k n = refl
-same_kind form.Signed (Bits ns) k n = refl
-same_kind form.Unsigned (Numbers zs) k n = refl
-same_kind form.Unsigned (Text cs) k n = refl
-same_kind form.Unsigned (Bits ns) k n = refl
-same_kind form.Text (Numbers zs) k n = refl
-same_kind form.Text (Text cs) k n = refl
-same_kind form.Text (Bits ns) k n = refl
-same_kind form.Pattern (Numbers zs) k n = refl
-same_kind form.Pattern (Text cs) k n = refl
-same_kind form.Pattern (Bits ns) k n = refl
+same_kind c values k n = grind (arith, nat_tests)
 
 -- over two ranges that say the same
 flat_shifted : {A : Type 0} (f h : ℕ → List A) (a b n : ℕ) → ((i : ℕ) → i < n → f (a + i) ≡ h (b + i)) → flat_map f (range_with_len a n) ≡ flat_map h (range_with_len b n)
@@ -74,10 +48,7 @@ flat_shifted f h a b (suc n) e =
 
 own_bytes : (kind : NcType) (values : Values) (k n : ℕ)
     → flat_map (λ m. ext_of kind (value_at (values_from values k n) m)) (range_with_len 0 n) ≡ values_bytes kind (Some values) k n
-own_bytes kind values k n =
-    flat_shifted (λ m. ext_of kind (value_at (values_from values k n) m)) (λ m. ext_of kind (value_at values m)) 0 k n (λ i l.
-    let here : 0 + i ≡ i = omega arith in
-    ap (λ (m : ℕ). ext_of kind (value_at (values_from values k n) m)) here ∙ ap (λ (o : Option Value). ext_of kind o) (same_value values k n i l))
+own_bytes kind values k n = grind (arith, nat_tests, flat_shifted, same_value)
 
 -- ---- the values are enough, and fit
 
@@ -90,23 +61,16 @@ abbrev of_values : Code → Bool → Bool → Code
 of_values kinds lacking unfit = cond (not (is_ok_code kinds)) kinds (cond lacking code.EMapSize (cond unfit code.ERange code.Ok))
 
 all_right : (kinds : Code) (lacking unfit : Bool) → of_values kinds lacking unfit ≡ code.Ok → (kinds ≡ code.Ok) × (lacking ≡ false) × (unfit ≡ false)
-all_right code.Ok false false h = (refl, refl, refl)
-all_right code.Ok false true h = absurd cc
-all_right code.Ok true unfit h = absurd cc
-all_right kinds lacking unfit h = absurd cc
+all_right kinds lacking unfit h = grind (arith, nat_tests)
 
 from_right : (kinds : Code) (lacking unfit : Bool) → kinds ≡ code.Ok → lacking ≡ false → unfit ≡ false → of_values kinds lacking unfit ≡ code.Ok
-from_right kinds lacking unfit e f g =
-    ap (λ (c : Code). of_values c lacking unfit) e ∙ ap (λ (b : Bool). of_values code.Ok b unfit) f ∙ ap (λ (b : Bool). of_values code.Ok false b) g
+from_right kinds lacking unfit e f g = grind (arith, nat_tests)
 
 none_of_range : (test : ℕ → Bool) (a n : ℕ) → list_any test (range_with_len a n) ≡ false → (i : ℕ) → i < n → test (a + i) ≡ false
 none_of_range test a zero h i l = absurd (omega arith)
-none_of_range test a (suc n) h zero l =
-    let here : a + 0 ≡ a = omega arith in
-    ap test here ∙ or_first_false (test a) (list_any test (range_with_len (a + 1) n)) h
+none_of_range test a (suc n) h zero l = grind (arith, nat_tests, or_first_false)
 none_of_range test a (suc n) h (suc i) l =
-    let there : a + suc i ≡ a + 1 + i = omega arith in
-    ap test there ∙ none_of_range test (a + 1) n (or_second_false (test a) (list_any test (range_with_len (a + 1) n)) h) i (omega arith)
+    grind (arith, nat_tests, none_of_range test (a + 1) n (or_second_false (test a) (list_any test (range_with_len (a + 1) n)) h) i (omega arith), or_second_false)
 
 none_in_range : (test : ℕ → Bool) (a n : ℕ) → ((i : ℕ) → i < n → test (a + i) ≡ false) → list_any test (range_with_len a n) ≡ false
 none_in_range test a zero h = refl
@@ -135,18 +99,7 @@ own_right : (kind : NcType) (values : Values) (all k n : ℕ) → AreRight kind 
     → of_values (kind_code (class_of kind) (values_from values k n))
     (list_any (λ v. is_none v) (map (λ m. value_at (values_from values k n) m) (range_with_len 0 n)))
     (list_any (λ v. not (some_fits kind v)) (map (λ m. value_at (values_from values k n) m) (range_with_len 0 n))) ≡ code.Ok
-own_right kind values all k n r room =
-    let own = values_from values k n in
-    from_right (kind_code (class_of kind) own) _ _ (same_kind (class_of kind) values k n ∙ r.kinds)
-    (any_map (λ v. is_none v) (λ m. value_at own m) (range_with_len 0 n)
-    ∙ none_in_range (λ m. is_none (value_at own m)) 0 n (λ i l. at_value (λ v. is_none v) i l (value_there values (k + i) (let e = r.enough in omega arith))))
-    (any_map (λ v. not (some_fits kind v)) (λ m. value_at own m) (range_with_len 0 n)
-    ∙ none_in_range (λ m. not (some_fits kind (value_at own m))) 0 n (λ i l. at_value (λ v. not (some_fits kind v)) i l (r.fit (k + i) (omega arith))))
-  where
-    at_value : (test : Option Value → Bool) (i : ℕ) → i < n → test (value_at values (k + i)) ≡ false → test (value_at (values_from values k n) (0 + i)) ≡ false
-    at_value test i l h =
-        let here : 0 + i ≡ i = omega arith in
-        ap (λ (m : ℕ). test (value_at (values_from values k n) m)) here ∙ ap test (same_value values k n i l) ∙ h
+own_right kind values all k n r room = grind (arith, nat_tests, from_right, same_kind, any_map, is_none, none_in_range, value_there, not, same_value)
 
 -- ---- one part
 
@@ -175,8 +128,7 @@ module _ (header : Header) (known id k : ℕ) (var : Var) where
 
   get_part : (p : Part) (n : ℕ) → check_var header var (region p) known Get ≡ code.Ok
       → of_part p None ≡ cond (has_element (region p)) (post None n (region p) ∷ []) []
-  get_part p n ok =
-      asks (check_var header var (region p) known Get) (has_element (region p)) (post None n (region p) ∷ []) code.Ok ok (λ t. refl)
+  get_part p n ok = grind (arith, nat_tests, asks)
 
   -- ---- all parts
 
@@ -185,15 +137,7 @@ module _ (header : Header) (known id k : ℕ) (var : Var) where
       → own ≡ cond (has_element (region p)) (post values n (region p) ∷ []) []
       → part_posts id k var.kind values (n + product p.count) rest ≡ later
       → part_posts id k var.kind values n (cond (has_element (region p)) (region p ∷ rest) rest) ≡ own ++ later
-  first_part values n p rest own later e f = by (has_element (region p)) refl ∙ ap (λ (ps : List Post). ps ++ later) (sym e)
-    where
-      by : (b : Bool) → has_element (region p) ≡ b
-          → part_posts id k var.kind values n (cond b (region p ∷ rest) rest) ≡ cond b (post values n (region p) ∷ []) [] ++ later
-      by true g = ap (λ (ps : List Post). post values n (region p) ∷ ps) f
-      by false g =
-          let none : product p.count ≤ 0 = ltb-false 0 (product p.count) g in
-          let same : n ≡ n + product p.count = omega arith in
-          ap (λ (m : ℕ). part_posts id k var.kind values m rest) same ∙ f
+  first_part values n p rest own later e f = grind (arith, nat_tests, ltb-false)
 
   abbrev Right : Values → ℕ → List Region → Type 0
   Right values all regions = 0 < length regions → AreRight var.kind values all
@@ -268,36 +212,16 @@ module _ (header : Header) (known id : ℕ) (given : Given) (many : given.form �
   at_name each values o = elim o [ None ↦ looks.Refused code.ENotVar | Some k ↦ look_at header known id k each values (slice_get header.vars k) ]
 
   as_parts : (k : ℕ) (values : Option Values) (var : Var) → look_at header known id k given values (Some var) ≡ look_parts header known id k given values var
-  as_parts k values var =
-      ap (λ (f : Form). elim (is_varn f) as (λ z. looks.Look) [
-        | true ↦ look_parts header known id k given values var
-        | false ↦ look_region header known id k given values var
-      ]) many
+  as_parts k values var = grind (arith, nat_tests)
 
   puts_at : (values : Values) (o : Option ℕ) → code_of_look (at_name given (Some values) o) ≡ code.Ok
       → posts_of (at_name given (Some values) o) ≡ flat_map (λ part. posts_of (at_name (on_part part.0) (Some part.1) o)) (own_values values 0 given.parts)
   puts_at values None h = absurd cc
-  puts_at values (Some k) h = by (slice_get header.vars k) h
-    where
-      by : (v : Option Var) → code_of_look (look_at header known id k given (Some values) v) ≡ code.Ok
-          → posts_of (look_at header known id k given (Some values) v)
-          ≡ flat_map (λ part. posts_of (look_at header known id k (on_part part.0) (Some part.1) v)) (own_values values 0 given.parts)
-      by None g = absurd cc
-      by (Some var) g =
-          let is = as_parts k (Some values) var in
-          ap posts_of is ∙ parts_put header known id k var given values (sym (ap code_of_look is) ∙ g)
+  puts_at values (Some k) h = grind (arith, nat_tests, as_parts, parts_put)
 
   gets_at : (o : Option ℕ) → code_of_look (at_name given None o) ≡ code.Ok
       → posts_of (at_name given None o) ≡ flat_map (λ part. posts_of (at_name (on_part part) None o)) given.parts
-  gets_at None h = absurd cc
-  gets_at (Some k) h = by (slice_get header.vars k) h
-    where
-      by : (v : Option Var) → code_of_look (look_at header known id k given None v) ≡ code.Ok
-          → posts_of (look_at header known id k given None v) ≡ flat_map (λ part. posts_of (look_at header known id k (on_part part) None v)) given.parts
-      by None g = absurd cc
-      by (Some var) g =
-          let is = as_parts k None var in
-          ap posts_of is ∙ parts_get header known id k var given (sym (ap code_of_look is) ∙ g)
+  gets_at o h = grind (arith, nat_tests, as_parts, parts_get)
 
 pub varn_puts : (header : Header) (known id : ℕ) (name : List ℕ) (given : Given) (values : Values) → given.form ≡ Varn
     → code_of_look (look header known id name given (Some values)) ≡ code.Ok

@@ -1,6 +1,5 @@
 -- The puts of a step one after another, and an independent put of many regions region by region.
-use Rattle.whole_run_laws.proofs.Words.{◌≡◌, ℕ, zero, suc, ◌+◌, ◌<◌, ◌≤◌, max, refl, sym, ◌∙◌, ap, subst, inl, inr, ◌⊎◌, List, [], ◌∷◌, ◌++◌, length, map, Bool, true, false, cond, ltb, Option, Some, None, arith, cases_lt, or_cases, nat_tests, common_steps, fold-append, map-append, AllByRecursion, list_any, filter, flat_map, fold, slice_get, ◌==◌, some_or_none, and_first, no_both, Code, Pair, Header, NcType, Var, Post, Call, Put, Varn, Given, Part, Region, Values, Offer, Want, size_of, at, longer, written, Counted, Setting, after_puts, end_for, put_post, put_some, told, header_len, lengths, product, data_bytes, data_code, direction_of, find_var, is_varn, look, look_at, look_parts, look_region, part_posts, parts_code, Rank, answer, answers, batch_of, code_of_look, offers_look, posts_of, needed, needed_by, asks_too_much, bound, check_parts, check_var, elements_of_all, first_code, has_element, other_shape, part_region, part_regions, some_edge, some_start, widen, cells, places, Cell, byte_or, said_at, said_by, write_cells, Going, go, solo_of, Holding, Holds, Key, Puts, first_end, has_byte, holdings, key_below, same_key, second_end, at-longer, longer-enough, longer_long, after_grows, key_equal, end_grows, cells_said, same_file, outcome, outcome_posts, makes, on_part, own_values, put_parts}
-use Rattle.std.specs.Prelude.{◌&&◌}
+use Rattle.whole_run_laws.proofs.Words.{◌≡◌, ℕ, zero, suc, ◌+◌, ◌≤◌, max, refl, sym, ◌∙◌, ap, inl, inr, ◌⊎◌, List, [], ◌∷◌, ◌++◌, length, map, Bool, true, false, cond, ltb, Option, Some, None, arith, cases_lt, or_cases, nat_tests, common_steps, fold-append, map-append, AllByRecursion, filter, flat_map, fold, slice_get, some_or_none, and_first, no_both, Code, Pair, Header, NcType, Var, Post, Call, Put, Varn, Given, Part, Region, Values, Offer, Want, size_of, at, longer, written, Counted, Setting, after_puts, end_for, put_post, put_some, told, product, data_bytes, data_code, direction_of, find_var, is_varn, look, look_at, look_parts, look_region, part_posts, parts_code, Rank, answer, answers, batch_of, code_of_look, offers_look, posts_of, needed, needed_by, bound, check_parts, check_var, elements_of_all, has_element, part_regions, widen, cells, places, Cell, write_cells, Going, go, solo_of, Holding, Holds, Key, Puts, first_end, holdings, key_below, second_end, at-longer, longer-enough, longer_long, after_grows, key_equal, end_grows, cells_said, same_file, outcome, outcome_posts, makes, on_part, own_values, put_parts}
 use Rattle.nc_base.specs.declared.answer.Code.TheVariants as code
 use Rattle.nc_base.specs.declared.request.Call.TheVariants as call
 use Rattle.nc_base.specs.declared.step.OfferKind.TheVariants as offer
@@ -17,9 +16,7 @@ written_long file x b = grind (arith, common_steps)
 cells_longer : (f g : List ℕ) (n : ℕ) (cs : List Cell) → length f ≡ max (length g) n → length (write_cells f cs) ≡ max (length (write_cells g cs)) n
 cells_longer f g n [] e = e
 cells_longer f g n (c ∷ cs) e =
-    let one = written_long f c.0 c.1 in
-    let two = written_long g c.0 c.1 in
-    cells_longer (written f c.0 c.1) (written g c.0 c.1) n cs (omega (arith, e, one, two))
+    grind (arith, nat_tests, cells_longer (written f c.0 c.1) (written g c.0 c.1) n cs (omega (arith, e, (written_long f c.0 c.1), (written_long g c.0 c.1))), written_long)
 
 put_longer : (s : Setting) (v : Option Var) (post : Post) (f g : List ℕ) (n : ℕ) → length f ≡ max (length g) n
     → length (put_some s v post f) ≡ max (length (put_some s v post g)) n
@@ -27,25 +24,10 @@ put_longer s None post f g n e = e
 put_longer s (Some v) post f g n e = cells_longer f g n (cells (size_of v.kind) (places s.header v post.region) post.bytes) e
 
 put_same : (s : Setting) (v : Option Var) (post : Post) (f g : List ℕ) → ((x : ℕ) → at f x ≡ at g x) → (x : ℕ) → at (put_some s v post f) x ≡ at (put_some s v post g) x
-put_same s None post f g e x = e x
-put_same s (Some v) post f g e x =
-    let cs = cells (size_of v.kind) (places s.header v post.region) post.bytes in
-    cells_said cs f x ∙ ap (λ (b : ℕ). byte_or (said_at (said_by cs) x) b) (e x) ∙ sym (cells_said cs g x)
+put_same s v post f g e x = grind (arith, nat_tests, cells_said)
 
 end_most : (s : Setting) (a b : ℕ) → end_for s (max a b) ≡ max (end_for s a) (end_for s b)
-end_most s a b = by (cases_lt a b)
-  where
-    by : (a < b) ⊎ (b ≤ a) → end_for s (max a b) ≡ max (end_for s a) (end_for s b)
-    by (inl l) =
-        let up = end_grows s.header (header_len s.header) a b (omega arith) in
-        let most : max a b ≡ b = omega arith in
-        let e : end_for s b ≡ max (end_for s a) (end_for s b) = omega (arith, up) in
-        ap (end_for s) most ∙ e
-    by (inr l) =
-        let up = end_grows s.header (header_len s.header) b a l in
-        let most : max a b ≡ a = omega arith in
-        let e : end_for s a ≡ max (end_for s a) (end_for s b) = omega (arith, up) in
-        ap (end_for s) most ∙ e
+end_most s a b = grind (arith, nat_tests, cases_lt, end_grows)
 
 -- ---- one put after another
 
@@ -78,8 +60,7 @@ pub in_turn : (s : Setting) (puts : Puts) (file : List ℕ) → end_for s 0 ≤ 
     → after_puts s puts None file ≡ fold (λ left put. after_puts s (put ∷ []) None left) file puts
 in_turn s [] file h = longer-enough file (end_for s 0) h
 in_turn s (p ∷ puts) file h =
-    let grown = after_grows s (p ∷ []) None file in
-    first_then s p puts file ∙ in_turn s puts (left_by s file p) (omega (arith, grown, h))
+    grind (arith, nat_tests, in_turn s puts (left_by s file p) (omega (arith, (after_grows s (p ∷ []) None file), h)), after_grows, first_then)
 
 both_in_turn : (s : Setting) (a b : Puts) (file : List ℕ) → end_for s 0 ≤ length file → after_puts s b None (after_puts s a None file) ≡ after_puts s (a ++ b) None file
 both_in_turn s a b file h =
@@ -96,11 +77,7 @@ not_below_itself k = grind (arith, nat_tests)
 
 holder_is : (held : List Holding) (k key : Key) (x : ℕ) → AllByRecursion (λ (h : Holding). h.0 ≡ k) held → Holds held key x → k ≡ key
 holder_is [] k key x all h = absurd cc
-holder_is (g ∷ held) k key x all h = by (or_cases (same_key g.0 key && has_byte x g) _ h) (λ e. holder_is held k key x all.1 e)
-  where
-    by : ((same_key g.0 key && has_byte x g) ≡ true) ⊎ Holds held key x → (Holds held key x → k ≡ key) → k ≡ key
-    by (inl e) later = sym all.0 ∙ key_equal g.0 key (and_first (same_key g.0 key) (has_byte x g) e)
-    by (inr e) later = later e
+holder_is (g ∷ held) k key x all h = grind (arith, nat_tests, holder_is held k key x all.1, or_cases, key_equal, and_first)
 
 abbrev numbered : ℕ → List Post → Puts
 numbered number posts = map (λ post. (number, post)) posts
@@ -129,12 +106,7 @@ no_pair_of_one s number id posts all = by (some_or_none (told s (numbered number
 -- ---- the posts of a call have its id
 
 outcome_ids : (id : ℕ) (checked : Code) (some : Bool) (asked : List Post) (last : Code) → HaveId id asked → HaveId id (posts_of (outcome checked some asked last))
-outcome_ids id checked some asked last h = by (outcome_posts checked some asked last)
-  where
-    by : (posts_of (outcome checked some asked last) ≡ []) ⊎ ((posts_of (outcome checked some asked last) ≡ asked) × (checked ≡ code.Ok) × (last ≡ code.Ok))
-        → HaveId id (posts_of (outcome checked some asked last))
-    by (inl e) = subst (HaveId id) (sym e) tt
-    by (inr e) = subst (HaveId id) (sym e.0) h
+outcome_ids id checked some asked last h = grind (arith, nat_tests, outcome_posts, outcome)
 
 part_ids : (id k : ℕ) (kind : NcType) (values : Option Values) (n : ℕ) (gs : List Region) → HaveId id (part_posts id k kind values n gs)
 part_ids id k kind values n [] = tt
@@ -175,39 +147,9 @@ same_bounds a b [] = refl
 same_bounds a b (zero ∷ ns) = ap (λ (os : List (Option ℕ)). None ∷ os) (same_bounds a b ns)
 same_bounds a b (suc n ∷ ns) = ap (λ (os : List (Option ℕ)). Some (suc n) ∷ os) (same_bounds a b ns)
 
-abbrev code_by : Header → Var → Region → List (Option ℕ) → Code
-code_by header var g ends =
-    first_code (
-    (other_shape (length var.dims) g, code.EInvalCoords)
-    ∷ (list_any (λ d. d == 0) g.stride, code.EStride)
-    ∷ (some_start ends g.start g.count, code.EInvalCoords)
-    ∷ (some_edge ends g.start g.count g.stride, code.EEdge)
-    ∷ (asks_too_much header var g, code.ETooLarge)
-    ∷ [])
-
 known_free : (header : Header) (a b id : ℕ) (name : List ℕ) (p : Part) (values : Values)
     → look header a id name (on_part p) (Some values) ≡ look header b id name (on_part p) (Some values)
-known_free header a b id name p values = by (find_var header name)
-  where
-    by_var : (k : ℕ) (v : Option Var) → look_at header a id k (on_part p) (Some values) v ≡ look_at header b id k (on_part p) (Some values) v
-    by_var k None = refl
-    by_var k (Some var) =
-        let g = part_region var p in
-        ap (λ (ends : List (Option ℕ)). outcome (code_by header var g ends) (has_element g)
-        (record { id = id; var = k; region = g; bytes = data_bytes var.kind g (Some values) } ∷ []) (data_code var.kind g (Some values)))
-        (same_bounds a b (lengths header var))
-
-    by : (o : Option ℕ)
-        → elim o as (λ z. looks.Look) [
-          | None ↦ looks.Refused code.ENotVar
-          | Some k ↦ look_at header a id k (on_part p) (Some values) (slice_get header.vars k)
-        ]
-        ≡ elim o as (λ z. looks.Look) [
-          | None ↦ looks.Refused code.ENotVar
-          | Some k ↦ look_at header b id k (on_part p) (Some values) (slice_get header.vars k)
-        ]
-    by None = refl
-    by (Some k) = by_var k (slice_get header.vars k)
+known_free header a b id name p values = grind (arith, nat_tests, outcome, same_bounds)
 
 -- ---- an independent put
 
@@ -242,11 +184,7 @@ module _ (s : Setting) (number : ℕ) (name : List ℕ) where
   put_file : (state : Counted × Going) (given : Given) (values : Values) → state.1.rank.independent ≡ true
       → (makes s number state (call.Put false name given values)).0.file
       ≡ after_puts s (numbered number (posts_of (put_look state.1.rank.known given values))) None state.0.file
-  put_file state given values e =
-      let posts = posts_of (put_look state.1.rank.known given values) in
-      ap (λ (z : Counted × Going). z.0.file) (put_made state given values e)
-      ∙ ap (λ (pair : Option Pair). after_puts s (numbered number posts) pair state.0.file)
-      (no_pair_of_one s number 0 posts (look_ids s.header state.1.rank.known 0 name given (Some values)))
+  put_file state given values e = grind (arith, nat_tests, put_made, no_pair_of_one, look_ids)
 
   abbrev put_call : Part × Values → Call
   put_call q = call.Put false name (on_part q.0) q.1

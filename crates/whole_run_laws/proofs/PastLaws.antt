@@ -1,5 +1,5 @@
 -- No completed put holds a byte of the header, so its bytes stay but for the record count.
-use Rattle.whole_run_laws.proofs.Words.{◌≡◌, ℕ, ◌<◌, ◌≤◌, refl, sym, ◌∙◌, ap, subst, inl, inr, ◌⊎◌, List, [], ◌∷◌, map, Bool, true, false, ◌||◌, Option, Some, None, arith, flat_map-append, same_Some, slice_get_within, slice_get, ◌==◌, enumerate_from, list_all, range_with_len, fails_each, entry_below, and_first, and_second, or_first_false, any_in, flat_in, in_either, range_low, each_in, map_in, numbered_in, Pair, Header, Var, Post, Call, Script, Mark, Meet, Solo, Offer, Reply, refused, wrong_length, size_of, at, Counted, puts_of, Setting, solo, told, header_len, is_sound, is_of_rank_below, IsLegal, is_lawful, In, IsElementBelow, place, records_of, check_some, elements, places, advance, after_mark, first_going, first_state, Going, hears, offers_of, rank_offer, serial_from, setting_of, bytes_of, bytes_of_some, covered, Puts, accepted_elements, elements_past_header, Fit, good_first, heard_fits, most_posts_held, offer_fits, completed, completed_from, completed_puts, IsBesideCount, is_held, puts_asked, puts_at, puts_met, unless_told, set_cases}
+use Rattle.whole_run_laws.proofs.Words.{◌≡◌, ℕ, ◌<◌, ◌≤◌, refl, sym, ◌∙◌, ap, subst, inl, inr, ◌⊎◌, List, [], ◌∷◌, map, Bool, true, false, ◌||◌, Option, Some, None, arith, flat_map-append, same_Some, slice_get_within, slice_get, ◌==◌, list_all, range_with_len, fails_each, entry_below, and_first, and_second, or_first_false, any_in, flat_in, in_either, range_low, each_in, map_in, numbered_in, Header, Var, Post, Call, Script, Mark, Meet, Solo, Offer, Reply, refused, wrong_length, size_of, at, Counted, puts_of, Setting, solo, header_len, is_sound, is_of_rank_below, IsLegal, is_lawful, In, IsElementBelow, place, records_of, check_some, elements, places, advance, after_mark, first_going, first_state, Going, hears, offers_of, rank_offer, serial_from, setting_of, bytes_of, bytes_of_some, covered, Puts, accepted_elements, elements_past_header, Fit, good_first, heard_fits, most_posts_held, offer_fits, completed, completed_from, completed_puts, IsBesideCount, is_held, puts_asked, puts_at, puts_met, set_cases, nat_tests}
 use borrow.Author.Tests.{ltb-true}
 use Rattle.nc_base.specs.declared.answer.Code.TheVariants as code
 use Rattle.nc_base.specs.declared.request.Direction.TheVariants as way
@@ -56,25 +56,14 @@ abbrev pub AllPast : Header → Puts → Type 0
 AllPast header puts = (x : ℕ) → In (covered header puts) x → header_len header ≤ x
 
 own_past : (header : Header) (r : ℕ) (o : Offer) → ((p : Post) → In o.batch.puts p → Past header p) → AllPast header (puts_of (r, o))
-own_past header r o f x m =
-    let p = flat_in (λ (p : ℕ × Post). bytes_of header p.1) (puts_of (r, o)) x m in
-    let q = map_in (λ (post : Post). let z : ℕ × Post = (r, post) in z) o.batch.puts p.0 p.1 in
-    f q.0 q.1 x (subst (λ (z : ℕ × Post). In (bytes_of header z.1) x) (sym q.2) p.2)
+own_past header r o f x m = grind (arith, nat_tests, flat_in, map_in)
 
 met_past : (header : Header) (offers : List Offer) → ((q : ℕ) (o : Offer) → slice_get offers q ≡ Some o → (p : Post) → In o.batch.puts p → Past header p)
     → AllPast header (puts_met offers)
-met_past header offers f x m =
-    let p = flat_in (λ (p : ℕ × Post). bytes_of header p.1) (puts_met offers) x m in
-    let o = flat_in puts_of (enumerate_from 0 offers) p.0 p.1 in
-    let q = map_in (λ (post : Post). let z : ℕ × Post = (o.0.0, post) in z) o.0.1.batch.puts p.0 o.2 in
-    f o.0.0 o.0.1 (numbered_in offers o.0 o.1) q.0 q.1 x (subst (λ (z : ℕ × Post). In (bytes_of header z.1) x) (sym q.2) p.2)
+met_past header offers f x m = grind (arith, nat_tests, flat_in, map_in, numbered_in)
 
 done_past : (s : Setting) (puts : Puts) → AllPast s.header puts → AllPast s.header (completed s puts)
-done_past s puts f = by (told s puts)
-  where
-    by : (pair : Option Pair) → AllPast s.header (unless_told puts pair)
-    by None = f
-    by (Some p) = λ x m. absurd m
+done_past s puts f = grind (arith, nat_tests)
 
 pub mark_past : (s : Setting) (ranks : ℕ) (m : Mark) (rest : List Mark) (c : Counted) (goings : List Going) → is_sound s.header ≡ true → is_of_rank_below ranks m ≡ true
     → AreAlong ranks (m ∷ rest) goings → AllFit s.header ranks goings → AllPast s.header (puts_at s (c, goings) m)
@@ -94,8 +83,7 @@ mark_past s ranks (Solo r n) rest c goings sound known a fit =
 
 heard_fit : (header : Header) (ranks : ℕ) (g next : Going) (o : Offer) (y : Reply) → is_sound header ≡ true → IsFit header ranks g → (advance header g).1 ≡ Some o
     → next ≡ hears header (advance header g).0 y → IsFit header ranks next
-heard_fit header ranks g next o y sound f e h =
-    subst (IsFit header ranks) (sym h) (record { number = f.number; low = f.low; fit = heard_fits header sound ranks f.number most_posts_held f.low g o y f.fit e })
+heard_fit header ranks g next o y sound f e h = grind (arith, nat_tests, heard_fits header sound ranks f.number most_posts_held f.low g o y f.fit e)
 
 pub mark_fit : (s : Setting) (ranks : ℕ) (m : Mark) (rest : List Mark) (c : Counted) (goings : List Going) → is_sound s.header ≡ true → is_of_rank_below ranks m ≡ true
     → AreAlong ranks (m ∷ rest) goings → AllFit s.header ranks goings → AllFit s.header ranks (after_mark s (c, goings) m).1

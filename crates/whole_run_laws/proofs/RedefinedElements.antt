@@ -1,15 +1,11 @@
 -- What the elements of old and added variables read in a redefined file.
-use Rattle.whole_run_laws.proofs.Words.{◌≡◌, ℕ, ◌+◌, ◌<◌, ◌≤◌, refl, sym, ◌∙◌, ap, subst, inl, inr, List, [], ◌∷◌, length, map, take, replicate, Some, None, arith, slice_get, get_or-replicate, length-replicate, same_Some, slice_get_within, Header, Var, Extra, size_of, val, read, canon, header_len, lengths, AreApart, IsElementBelow, IsIndex, place, added, redefined, with_extra, IsRedefined, KeepsVars, Moves, redefined_keeps, elements_apart, elements_past_header, redefined_is, element_inside, index_is_element, known_of, element_value, IsCounted, IsRedefinition}
-use Rattle.nc_base.specs.declared.script.Extra.TheVariants as extra
+use Rattle.whole_run_laws.proofs.Words.{◌≡◌, ℕ, ◌+◌, ◌<◌, ◌≤◌, refl, sym, ◌∙◌, ap, subst, inl, inr, List, [], ◌∷◌, length, map, take, replicate, Some, arith, slice_get, get_or-replicate, length-replicate, same_Some, slice_get_within, Header, Var, Extra, size_of, val, read, canon, header_len, lengths, AreApart, IsElementBelow, IsIndex, place, added, redefined, with_extra, IsRedefined, KeepsVars, Moves, redefined_keeps, elements_apart, elements_past_header, redefined_is, element_inside, index_is_element, known_of, element_value, IsCounted, IsRedefinition, nat_tests}
 use Rattle.whole_run_laws.proofs.FilledFile.{read_all}
 
 -- ---- the record count stays
 
 one_more : (header : Header) (e : Extra) → (with_extra header e).records ≡ header.records
-one_more header (extra.Dim d) = refl
-one_more header (extra.Var kind name dims) = refl
-one_more header (extra.Att None a) = refl
-one_more header (extra.Att (Some owner) a) = refl
+one_more header e = grind (arith, nat_tests)
 
 records_stay : (header : Header) (extras : List Extra) → (added header extras).records ≡ header.records
 records_stay header [] = refl
@@ -29,10 +25,7 @@ module _ (old new : Header) (extras : List Extra) (a : IsRedefinition old extras
     lens : lengths new w ≡ lengths old v
 
   kept : (k : ℕ) (v w : Var) → slice_get old.vars k ≡ Some v → slice_get new.vars k ≡ Some w → IsKept v w
-  kept k v w h g =
-      let found = keeps k v h in
-      let same : found.0 ≡ w = same_Some found.0 w (sym found.1 ∙ g) in
-      subst (IsKept v) same (record { kind = found.2; lens = found.3 })
+  kept k v w h g = grind (arith, nat_tests, keeps k v h, same_Some (keeps k v h).0 w (sym (keeps k v h).1 ∙ g))
 
   still : (k : ℕ) (v w : Var) (index : List ℕ) → slice_get old.vars k ≡ Some v → slice_get new.vars k ≡ Some w → IsCounted old v index
       → IsElementBelow new w old.records index
@@ -40,9 +33,7 @@ module _ (old new : Header) (extras : List Extra) (a : IsRedefinition old extras
       index_is_element new k w old.records index a.new_sound g (subst (λ (ls : List ℕ). IsIndex (map (known_of old.records) ls) index) (sym (kept k v w h g).lens) i)
 
   pub counted_still : (k : ℕ) (v w : Var) (index : List ℕ) → slice_get old.vars k ≡ Some v → slice_get new.vars k ≡ Some w → IsCounted old v index → IsCounted new w index
-  counted_still k v w index h g i =
-      subst (λ (n : ℕ). IsIndex (map (known_of n) (lengths new w)) index) (sym same_count)
-      (subst (λ (ls : List ℕ). IsIndex (map (known_of old.records) ls) index) (sym (kept k v w h g).lens) i)
+  counted_still k v w index h g i = grind (arith, nat_tests, same_count, kept)
 
   module _ (file : List ℕ) where
     is : IsRedefined old new file (redefined file old new)

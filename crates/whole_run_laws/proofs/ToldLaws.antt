@@ -1,9 +1,8 @@
 -- What a step tells its ranks, and that a step with a pair changes nothing.
-use Rattle.whole_run_laws.proofs.Words.{◌≡◌, ℕ, suc, ◌+◌, ◌<◌, refl, sym, ◌∙◌, ap, subst, List, [], ◌∷◌, ◌++◌, map, set, max, Bool, true, false, cond, Option, Some, None, arith, slice_get_within, same_Some, nat_tests, flat_map, slice_get, nat_lt, enumerate_from, list_all, entry_below, entry_set, and_first, and_second, in_at, Answer, Pair, Header, Post, Call, OverlapRule, Refuse, Serial, Script, Mark, Meet, Solo, MeetKind, Offer, OfferKind, Reply, Want, after_puts, Counted, get_post, known_by, meeting, needs, puts_of, raised, raises, Setting, solo, told, told_under, is_of_rank_below, IsLegal, is_lawful, greatest, In, hear_open, Open, Rank, step, with_records, advance, after_mark, after_meeting, after_solo, first_state, go, Going, hears, offers_of, rank_offer, setting_of, state_after, holdings, IsSharedPair, IsUnshared, Puts, shared_pair, pair_found, pair_none, state_more, puts_asked, puts_at, puts_met, IsQuiet, quiet_step, nil_cons}
+use Rattle.whole_run_laws.proofs.Words.{◌≡◌, ℕ, suc, ◌+◌, ◌<◌, refl, sym, ◌∙◌, ap, subst, List, [], ◌∷◌, ◌++◌, map, set, Bool, true, false, Option, Some, None, arith, slice_get_within, same_Some, nat_tests, flat_map, slice_get, enumerate_from, list_all, entry_below, entry_set, and_first, and_second, in_at, Answer, Pair, Header, Post, Call, OverlapRule, Refuse, Serial, Script, Mark, Meet, Solo, MeetKind, Offer, OfferKind, Reply, after_puts, Counted, get_post, known_by, meeting, puts_of, raised, raises, Setting, solo, told, told_under, is_of_rank_below, IsLegal, is_lawful, greatest, In, Open, Rank, advance, after_mark, after_meeting, after_solo, first_state, go, Going, hears, offers_of, rank_offer, setting_of, state_after, holdings, IsSharedPair, IsUnshared, Puts, shared_pair, pair_found, pair_none, state_more, puts_asked, puts_at, puts_met, quiet_step, nil_cons}
 use borrow.Author.Tests.{ltb-true}
 use Rattle.nc_base.specs.declared.step.MeetKind.TheVariants as meets_as
 use Rattle.nc_base.specs.declared.step.OfferKind.TheVariants as offer
-use Rattle.nc_base.specs.declared.step.Want.TheVariants as want
 use Rattle.whole_run_laws.proofs.Courses.{AreAlong, AreOn, first_along, hears_then, marks_along, meets, offer_met, offers_met_long, Stepped, steps}
 use Rattle.join_laws.proofs.WholeLaws.{get_map as mapped_from}
 
@@ -45,30 +44,13 @@ only_refused s puts p e = (told_shared s.overlap (shared_pair s.header puts) p e
 -- ---- an offer that raises the count by its kind brings no put
 
 quiet_go : (header : Header) (o : Offer) (calls : List Call) (r : Rank) (answers : List Answer) → (go header r answers calls).1 ≡ Some o → raises o.kind ≡ true → o.batch.puts ≡ []
-quiet_go header o [] r answers e = absurd (never e)
-  where
-    never : None ≡ Some o → ⊥
-    never z = cc
-quiet_go header o (c ∷ calls) r answers e = by (step header r c) (quiet_step header r c) (λ r' answers' f. quiet_go header o calls r' answers' f) e
-  where
-    by : (next : Rank × Want) → IsQuiet next → ((r' : Rank) (answers' : List Answer) → (go header r' answers' calls).1 ≡ Some o → raises o.kind ≡ true → o.batch.puts ≡ [])
-        → (elim next.1 as (λ (x : Want). Going × Option Offer) [
-          | want.Answered a ↦ go header next.0 (answers ++ a ∷ []) calls
-          | want.Meet p ↦ (record { rank = next.0; answers = answers; calls = calls }, Some p)
-          | want.Solo p ↦ (record { rank = next.0; answers = answers; calls = calls }, Some p)
-        ]).1 ≡ Some o → raises o.kind ≡ true → o.batch.puts ≡ []
-    by (r', want.Answered a) q again f = again r' (answers ++ a ∷ []) f
-    by (r', want.Meet p) q again f = subst (λ (z : Offer). raises z.kind ≡ true → z.batch.puts ≡ []) (same_Some p o f) q
-    by (r', want.Solo p) q again f = subst (λ (z : Offer). raises z.kind ≡ true → z.batch.puts ≡ []) (same_Some p o f) q
+quiet_go header o [] r answers e = grind (arith, nat_tests)
+quiet_go header o (c ∷ calls) r answers e = grind (arith, nat_tests, quiet_go header o calls, quiet_step, same_Some)
 
 -- ---- nothing is done
 
 no_pair : {A : Type 0} (s : Setting) (p : Pair) → told s [] ≡ Some p → A
-no_pair s p e = by s.overlap e
-  where
-    by : {A : Type 0} (rule : OverlapRule) → told_under rule (shared_pair s.header []) ≡ Some p → A
-    by Refuse f = absurd cc
-    by Serial f = absurd cc
+no_pair s p e = grind (arith, nat_tests)
 
 none_asked : (offers : List Offer) (a : ℕ) → ((q : ℕ) (o : Offer) → slice_get offers q ≡ Some o → o.batch.puts ≡ []) → flat_map puts_of (enumerate_from a offers) ≡ []
 none_asked [] a f = refl
@@ -90,32 +72,18 @@ none_known (o ∷ offers) f =
     by k e = refl
 
 not_raised : (s : Setting) (c : Counted) → raised s c 0 ≡ c
-not_raised s c = by (nat_lt c.records 0) (below c.records)
-  where
-    below : (n : ℕ) → nat_lt n 0 ≡ false
-    below n = grind (arith, nat_tests)
-
-    by : (t : Bool) → t ≡ false → cond t (record { file = with_records s.header.version c.file 0; records = 0 }) c ≡ c
-    by true e = cc
-    by false e = refl
+not_raised s c = grind (arith, nat_tests)
 
 meeting_nothing : (s : Setting) (offers : List Offer) (c : Counted) (p : Pair) → told s (puts_met offers) ≡ Some p
     → greatest (map (λ o. known_by o.kind o.known) offers) ≡ 0 → (meeting s offers c).0 ≡ c
-meeting_nothing s offers c p e f =
-    let puts = puts_met offers in
-    let known = greatest (map (λ o. known_by o.kind o.known) offers) in
-    ap (λ (pair : Option Pair). raised s (record { file = after_puts s puts pair c.file; records = c.records }) (max (needs s puts pair) known)) e
-    ∙ ap (λ (n : ℕ). raised s c (max 0 n)) f ∙ not_raised s c
+meeting_nothing s offers c p e f = grind (arith, nat_tests, not_raised)
 
 solo_nothing : (s : Setting) (r : ℕ) (o : Offer) (c : Counted) (p : Pair) → told s (puts_of (r, o)) ≡ Some p → (solo s r o c).0 ≡ c
 solo_nothing s r o c p e = ap (λ (pair : Option Pair). let d : Counted = record { file = after_puts s (puts_of (r, o)) pair c.file; records = c.records } in d) e
 
 -- the kind of a meeting is the first of the kinds that are left
 kind_left : (k : MeetKind) (ks xs : List MeetKind) (j : MeetKind) (ys : List MeetKind) → ks ≡ k ∷ xs → ks ≡ j ∷ ys → k ≡ j
-kind_left k ks xs j ys e f = first (sym e ∙ f)
-  where
-    first : k ∷ xs ≡ j ∷ ys → k ≡ j
-    first g = cc
+kind_left k ks xs j ys e f = grind (arith, nat_tests)
 
 -- ---- in a run
 
@@ -172,8 +140,7 @@ module _ (s : Setting) (ranks k j : ℕ) (ks : List MeetKind) (rest : List Mark)
 
 -- the pair of the answer to a reply
 heard_pair : (header : Header) (g : Going) (y : Reply) (o : Open) → g.rank.«open» ≡ Some o → IsLastTold (hears header g y).answers y.pair
-heard_pair header g y o e =
-    (g.answers, (hear_open header g.rank y g.rank.«open»).1, refl, ap (λ (m : Option Open). (hear_open header g.rank y m).1.pair) e)
+heard_pair header g y o e = grind (arith, nat_tests)
 
 pub along_at : (script : Script) (header : Header) (file : List ℕ) (before later : List Mark) → is_lawful script ≡ true → IsLegal script (before ++ later)
     → AreAlong script.ranks later (state_after script header file before).1
@@ -186,16 +153,12 @@ known_mark ranks (x ∷ before) later m h = known_mark ranks before later m (and
 
 pub offered_alone : (s : Setting) (r : ℕ) (c : Counted) (goings : List Going) (k : ℕ) (ks : List MeetKind) (rest : List Mark) (st : Stepped s r c goings k ks rest)
     → puts_asked r (rank_offer s goings r) ≡ puts_of (r, st.at.asks.offer)
-offered_alone s r c goings k ks rest st = ap (λ (m : Option Offer). puts_asked r m)
-    (ap (λ (m : Option Going). elim m as (λ z. Option Offer) [ None ↦ None | Some g ↦ (advance s.header g).1 ]) st.was ∙ st.at.asks.is_offer)
+offered_alone s r c goings k ks rest st = grind (arith, nat_tests)
 
 step_nothing : (s : Setting) (ranks : ℕ) (m : Mark) (rest : List Mark) (c : Counted) (goings : List Going) (p : Pair) → is_of_rank_below ranks m ≡ true
     → AreAlong ranks (m ∷ rest) goings → told s (puts_at s (c, goings) m) ≡ Some p → (after_mark s (c, goings) m).0 ≡ c
 step_nothing s ranks (Meet j) rest c goings p known a e = meeting_alike s ranks a.met j a.kinds_left rest c goings a.on p e
-step_nothing s ranks (Solo r n) rest c goings p known a e =
-    let st = steps s c ranks a.met r n a.kinds_left rest goings (ltb-true r ranks known) a.on in
-    ap (λ (z : Counted × List Going). z.0) st.state
-    ∙ solo_nothing s r st.at.asks.offer c p (sym (ap (λ (ps : Puts). told s ps) (offered_alone s r c goings a.met a.kinds_left rest st)) ∙ e)
+step_nothing s ranks (Solo r n) rest c goings p known a e = grind (arith, nat_tests, steps, ltb-true, solo_nothing, offered_alone)
 
 pub mark_nothing : (script : Script) (header : Header) (file : List ℕ) (before later : List Mark) (m : Mark) (p : Pair)
     → is_lawful script ≡ true → IsLegal script (before ++ m ∷ later)

@@ -1,12 +1,9 @@
 -- The file of a run goes at least to the end for no records.
-use Rattle.whole_run_laws.proofs.Words.{ℕ, ◌≤◌, List, [], ◌∷◌, length, Bool, true, false, arith, fold, Header, Var, Script, Mark, longer, written, fill_bytes, fill_var, filled, Counted, end_for, canon, header_len, fixed_variables, inner_lengths, place, coordinates, Going, after_mark, first_state, setting_of, start, state_after, longer_long, mark_grows, written_grows, end_grows}
+use Rattle.whole_run_laws.proofs.Words.{ℕ, ◌≤◌, List, [], ◌∷◌, length, arith, fold, Header, Var, Script, Mark, written, fill_bytes, fill_var, filled, Counted, end_for, fixed_variables, inner_lengths, place, coordinates, Going, after_mark, first_state, setting_of, start, state_after, longer_long, mark_grows, written_grows, end_grows, nat_tests}
 
 fold_grows : {A B : Type 0} (size : B → ℕ) (f : B → A → B) → ((b : B) (x : A) → size b ≤ size (f b x)) → (b : B) (xs : List A) → size b ≤ size (fold f b xs)
 fold_grows size f h b [] = omega arith
-fold_grows size f h b (x ∷ xs) =
-    let one = h b x in
-    let rest = fold_grows size f h (f b x) xs in
-    omega arith
+fold_grows size f h b (x ∷ xs) = grind (arith, nat_tests, fold_grows size f h (f b x) xs)
 
 var_grows : (header : Header) (file : List ℕ) (v : Var) → length file ≤ length (fill_var header file v)
 var_grows header file v =
@@ -17,24 +14,7 @@ filled_grows : (header : Header) (file : List ℕ) → length file ≤ length (f
 filled_grows header file = fold_grows (λ (f : List ℕ). length f) (fill_var header) (var_grows header) file (fixed_variables header header.vars)
 
 start_long : (script : Script) (header : Header) (file : List ℕ) → end_for (setting_of script header) 0 ≤ length (start script header file)
-start_long script header file = by script.fresh script.filled
-  where
-    by : (fresh fills : Bool) → end_for (setting_of script header) 0 ≤ length (elim fresh as (λ z. List ℕ) [
-      | false ↦ longer file (end_for (setting_of script header) header.records)
-      | true ↦ elim fills as (λ z. List ℕ) [
-        | false ↦ longer (canon header) (end_for (setting_of script header) 0)
-        | true ↦ filled header (longer (canon header) (end_for (setting_of script header) 0))
-      ]
-    ])
-    by false fills =
-        let long = longer_long file (end_for (setting_of script header) header.records) in
-        let more = end_grows header (header_len header) 0 header.records (omega arith) in
-        omega arith
-    by true false = let long = longer_long (canon header) (end_for (setting_of script header) 0) in omega arith
-    by true true =
-        let long = longer_long (canon header) (end_for (setting_of script header) 0) in
-        let more = filled_grows header (longer (canon header) (end_for (setting_of script header) 0)) in
-        omega arith
+start_long script header file = grind (arith, nat_tests, longer_long, end_grows, filled_grows)
 
 pub run_long : (script : Script) (header : Header) (file : List ℕ) (order : List Mark)
     → end_for (setting_of script header) 0 ≤ length (state_after script header (start script header file) order).0.file
