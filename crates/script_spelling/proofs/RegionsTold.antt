@@ -1,7 +1,6 @@
 -- Words that spell a region are read as this region, and what follows them is left.
 use Rattle.script_spelling.proofs.Words.{◌≡◌, ◌∙◌, ℕ, ◌≤◌, List, [], ◌∷◌, ◌++◌, flat_map, length, true, false, not, nat_lt, ◌==◌, Ok, sym, ap, subst, append_assoc, append-nil, arith, and_parts, le-ltb, leb-true, ne_eqb, Form, Given, Part, most_parts, has_lists_of, is_given, is_empty, Word, list_of_text, list, part_list, region, go_on, passed, word_read, carry_on, empty_list, region_with, same_region, SpellsOne, Each, SpellsForm, SpellsRegion, nat_tests}
 use Rattle.nc_base.specs.declared.errors.ScriptKind.TheVariants as kind
-use Rattle.nc_base.specs.declared.errors.LimitName.TheVariants as limit
 use Rattle.nc_base.specs.declared.request.Form.TheVariants as form
 
 -- ---- lists and parts
