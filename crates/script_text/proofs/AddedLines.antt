@@ -1,5 +1,5 @@
 -- Runs of lines of the definitions, and what is added to a dataset that is opened: each line, printed, is read in the state in which it was read before.
-use Rattle.script_text.proofs.Words.{◌≡◌, ◌⊎◌, ◌∙◌, ℕ, ◌+◌, ◌≤◌, List, [], ◌∷◌, ◌++◌, map, length, drop, Bool, true, false, cond, nat_lt, Option, Some, None, Result, Ok, Err, refl, sym, ap, subst, ⊎_elim, inl, inr, arith, bytes_eq, codes, list_all, list_any, and_from, cond-true, cond-false, bytes_eq-Decides, ScriptKind, ScriptErr, Attr, Extra, most_dims_of_var, most_values, type_word, line, bracketed, shown_extra, shown_attr, Word, Plain, Quoted, Broken, Line, is_name, refuse_if, reads_as, name_of_text, ended, dim_line, var_head, name_list, owner_of_text, owner_name, attribute, Added, is_added_record, added_shape, dim_addition, var_addition, att_addition, addition, Known, known_after, at_line, definition_step, definitions}
+use Rattle.script_text.proofs.Words.{◌≡◌, ◌⊎◌, ◌∙◌, ℕ, ◌+◌, ◌≤◌, List, [], ◌∷◌, ◌++◌, map, length, drop, Bool, true, false, cond, nat_lt, Option, Some, None, Result, Ok, Err, refl, sym, ap, subst, ⊎_elim, inl, inr, arith, bytes_eq, codes, list_all, list_any, and_from, cond-true, cond-false, bytes_eq-Decides, ScriptKind, ScriptErr, Attr, Extra, most_dims_of_var, most_values, type_word, line, bracketed, shown_extra, shown_attr, Word, Plain, Quoted, Broken, Line, is_name, refuse_if, reads_as, name_of_text, ended, dim_line, var_head, name_list, owner_of_text, owner_name, attribute, Added, is_added_record, added_shape, dim_addition, var_addition, att_addition, addition, Known, known_after, definition_step, definitions, nat_tests}
 use Rattle.std.proofs.Common.{flat_map}
 use Rattle.nc_base.specs.declared.errors.ScriptKind.TheVariants as kind
 use Rattle.nc_base.specs.declared.errors.LimitName.TheVariants as limit
@@ -38,19 +38,12 @@ step_again version k x first ws other h = by_false (bytes_eq first (codes "data"
 
 line_on : (past version n : ℕ) (k x : Known) (ws : List Word) (wss : List (List Word)) → Leads version k ws x
     → definitions past version k (numbered n (ws ∷ wss)) ≡ definitions past version x (numbered (n + 1) wss)
-line_on past version n k x [] wss h = absurd h
-line_on past version n k x (Quoted text ∷ ws) wss h = absurd h
-line_on past version n k x (Broken ∷ ws) wss h = absurd h
-line_on past version n k x (Plain first ∷ ws) wss h =
-    ap (λ (r : Result (Option ℕ × Known) ScriptKind). defined_by past version (numbered (n + 1) wss) (at_line n r)) (step_again version k x first ws h.0 h.1)
+line_on past version n k x ws wss h = grind (arith, nat_tests, numbered, step_again)
 
 pub run_again : (past version n m : ℕ) (k x : Known) (wss more : List (List Word)) → n + length wss ≡ m → Runs version k wss x
     → definitions past version k (numbered n (wss ++ more)) ≡ definitions past version x (numbered m more)
-run_again past version n m k x [] more e h =
-    let same : n ≡ m = omega arith in
-    ap (λ (z : Known). definitions past version z (numbered n more)) h ∙ ap (λ (j : ℕ). definitions past version x (numbered j more)) same
-run_again past version n m k x (ws ∷ wss) more e h =
-    line_on past version n k h.0 ws (wss ++ more) h.1 ∙ run_again past version (n + 1) m h.0 x wss more (omega arith) h.2
+run_again past version n m k x [] more e h = grind (arith, nat_tests, numbered)
+run_again past version n m k x (ws ∷ wss) more e h = grind (arith, nat_tests, run_again past version (n + 1) m h.0 x wss more (omega arith) h.2, line_on)
 
 -- ---- what is added, as it is printed
 
@@ -82,9 +75,7 @@ extras_spelled [] = refl
 extras_spelled (e ∷ es) = ap (λ (text : List ℕ). text ++ flat_map spelled (map extra_line es)) (extra_spelled e) ∙ ap (λ (text : List ℕ). shown_extra e ++ text) (extras_spelled es)
 
 extra_is_line : (e : Extra) → list_all is_good (extra_rest e) ≡ true → is_line (extra_line e) ≡ true
-extra_is_line (extra.Dim d) h = h
-extra_is_line (extra.Var t n dims) h = h
-extra_is_line (extra.Att owner a) h = h
+extra_is_line e h = grind (arith, nat_tests)
 
 -- ---- a line that adds
 
@@ -168,10 +159,7 @@ owner_again o h = ⊎_elim
 
 -- the words of the owner, as an extra's
 owner_rest : (o : List ℕ) (a : Attr) → Owner o → extra_rest (extra.Att (owner_name o) a) ≡ Plain o ∷ attr_tokens a
-owner_rest o a h = ⊎_elim
-    (λ (e : o ≡ codes ":"). subst (λ (x : List ℕ). extra_rest (extra.Att (owner_name x) a) ≡ Plain x ∷ attr_tokens a) (sym e) refl)
-    (λ (k : (bytes_eq o (codes ":") ≡ false) × (is_name o ≡ true)). ap (λ (x : Option (List ℕ)). extra_rest (extra.Att x a)) (cond-false _ _ _ k.0))
-    h
+owner_rest o a h = grind (arith, nat_tests, cond-false)
 
 att_added : (values : ℕ) (d : Added) (ws : List Word) (r : ℕ × Added) → values ≤ most_values → list_all is_read ws ≡ true → att_addition values d ws ≡ Ok r → AddedBy values d r
 att_added values d ws r low read h =
@@ -217,12 +205,7 @@ Replay v d (e ∷ es) w x = (r : ℕ × Added) × (list_all is_good (extra_rest 
 
 replay_pushed : (v w : ℕ) (d x : Added) (es : List Extra) (e : Extra) (r : ℕ × Added) → Replay v d es w x → list_all is_good (extra_rest e) ≡ true → addition w x (extra_word e) (extra_rest e) ≡ Ok r
     → Replay v d (es ++ e ∷ []) (w + r.0) r.1
-replay_pushed v w d x [] e r h good again = (
-  r,
-  good,
-  ap (λ (n : ℕ). addition n d (extra_word e) (extra_rest e)) h.0 ∙ (ap (λ (y : Added). addition w y (extra_word e) (extra_rest e)) h.1 ∙ again),
-  (ap (λ (n : ℕ). n + r.0) h.0, refl),
-)
+replay_pushed v w d x [] e r h good again = grind (arith, nat_tests)
 replay_pushed v w d x (f ∷ es) e r h good again = (h.0, h.1, h.2, replay_pushed (v + h.0.0) w h.0.1 x es e r h.3 good again)
 
 pub replay_on : (v w : ℕ) (d x : Added) (r : ℕ × Added) → Replay v d x.extras w x → AddedBy w x r → Replay v d r.1.extras (w + r.0) r.1
@@ -233,14 +216,8 @@ replay_lines v w d x [] h = refl
 replay_lines v w d x (e ∷ es) h = and_from _ _ (extra_is_line e h.1) (replay_lines (v + h.0.0) w h.0.1 x es h.3)
 
 extra_leads : (k : Known) (e : Extra) (r : ℕ × Added) → addition k.values k.added (extra_word e) (extra_rest e) ≡ Ok r → Leads 0 k (extra_line e) (record k { added = r.1; values = k.values + r.0 })
-extra_leads k (extra.Dim d) r h = (refl, go_on (addition k.values k.added (codes "dim") (dim_tokens d)) (λ x. Ok (record k { added = x.1; values = k.values + x.0 })) r _ h refl)
-extra_leads k (extra.Var t n dims) r h = (refl, go_on (addition k.values k.added (codes "var") (extra_rest (extra.Var t n dims))) (λ x. Ok (record k { added = x.1; values = k.values + x.0 })) r _ h refl)
-extra_leads k (extra.Att owner a) r h = (refl, go_on (addition k.values k.added (codes "att") (extra_rest (extra.Att owner a))) (λ x. Ok (record k { added = x.1; values = k.values + x.0 })) r _ h refl)
+extra_leads k e r h = grind (arith, nat_tests, go_on, codes)
 
 pub replay_runs : (v w : ℕ) (d x : Added) (es : List Extra) (k : Known) → Replay v d es w x → Runs 0 (record k { added = d; values = v }) (map extra_line es) (record k { added = x; values = w })
 replay_runs v w d x [] k h = ap (λ (n : ℕ). record k { added = d; values = n }) h.0 ∙ ap (λ (y : Added). record k { added = y; values = w }) h.1
-replay_runs v w d x (e ∷ es) k h = (
-  record k { added = h.0.1; values = v + h.0.0 },
-  extra_leads (record k { added = d; values = v }) e h.0 h.2,
-  replay_runs (v + h.0.0) w h.0.1 x es k h.3,
-)
+replay_runs v w d x (e ∷ es) k h = grind (arith, nat_tests, replay_runs (v + h.0.0) w h.0.1 x es k h.3, extra_leads)

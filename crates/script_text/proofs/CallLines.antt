@@ -1,5 +1,5 @@
 -- The calls of all ranks, printed rank by rank, are read as the same calls.
-use Rattle.script_text.proofs.Words.{◌≡◌, ◌∙◌, ℕ, zero, suc, ◌+◌, ◌≤◌, ◌<◌, List, [], ◌∷◌, ◌++◌, map, length, replicate, Bool, true, false, not, cond, nat_lt, slice_set, Result, Ok, Err, refl, sym, ap, subst, append_assoc, append-nil, length-append, arith, bytes_eq, codes, decimal, list_all, enumerate_from, and_parts, and_from, cond-true, ne_eqb, set_at, ScriptKind, ScriptErr, Call, most_values, values_in_call, call_word, line, shown_call, Word, Plain, Line, is_comment, is_digit, begins_rank, digits_value, ◌>>=◌, bare, next, whole, Called, calls_of, rank_of_text, with_call, call_line, call_of, called_after, at_line, call_step, data_part, flat_map-append, all_joined}
+use Rattle.script_text.proofs.Words.{◌≡◌, ◌∙◌, ℕ, zero, suc, ◌+◌, ◌≤◌, ◌<◌, List, [], ◌∷◌, ◌++◌, map, length, replicate, Bool, true, false, not, nat_lt, slice_set, Result, Ok, Err, refl, sym, ap, subst, append_assoc, append-nil, length-append, arith, bytes_eq, codes, decimal, list_all, enumerate_from, and_parts, and_from, cond-true, ne_eqb, set_at, ScriptKind, ScriptErr, Call, most_values, values_in_call, call_word, line, shown_call, Word, Plain, Line, is_comment, is_digit, ◌>>=◌, bare, next, whole, Called, calls_of, rank_of_text, with_call, call_line, call_of, called_after, at_line, call_step, data_part, flat_map-append, all_joined, nat_tests}
 use Rattle.std.proofs.Common.{flat_map}
 use borrow.Author.Tests.{ltb-true, lt-ltb}
 use Rattle.nc_base.specs.declared.errors.ScriptKind.TheVariants as kind
@@ -63,18 +63,10 @@ pub record Holds (ranks v : ℕ) (d : Called) : Type 0 where
   pub few : d.values ≤ most_values
 
 rank_bound : (ranks : ℕ) (w : List ℕ) (r : ℕ) → rank_of_text ranks w ≡ Ok r → r < ranks
-rank_bound ranks w r h = by (begins_rank w) (nat_lt (digits_value w) ranks) refl h
-  where
-    by : (a b : Bool) → nat_lt (digits_value w) ranks ≡ b → cond {A = Result ℕ ScriptKind} a (cond b (Ok (digits_value w)) (Err kind.BadRank)) (Err kind.UnknownWord) ≡ Ok r → r < ranks
-    by true true e k = subst (λ x. x < ranks) (same_ok (digits_value w) r k) (ltb-true (digits_value w) ranks e)
-    by true false e k = absurd (cc)
-    by false b e k = absurd (cc)
+rank_bound ranks w r h = grind (arith, nat_tests, nat_lt, same_ok, ltb-true)
 
 next_read : (ws : List Word) (r : List ℕ × List Word) → next ws ≡ Ok r → list_all is_read ws ≡ true → list_all is_read r.1 ≡ true
-next_read [] r h all = absurd (cc)
-next_read (w ∷ ws) r h all =
-    let a = went (bare w) (λ x. Ok (x, ws)) r h in
-    subst (λ xs. list_all is_read xs ≡ true) (ap (λ (p : List ℕ × List Word). p.1) (same_ok (a.value, ws) r a.rest)) (and_parts (is_read w) _ all).1
+next_read ws r h all = grind (arith, nat_tests, went, same_ok, and_parts)
 
 pub holds_on : (ranks v : ℕ) (d e : Called) (first : List ℕ) (ws : List Word) → Holds ranks v d → list_all is_read ws ≡ true → called_after d first ws ≡ Ok e → Holds ranks v e
 holds_on ranks v d e first ws holds read h =
@@ -150,24 +142,17 @@ call_lines r (own ∷ more) = own_lines r own ++ call_lines (r + 1) more
 
 own_spelled : (r : ℕ) (cs : List Call) → flat_map spelled (own_lines r cs) ≡ flat_map (shown_call r) cs
 own_spelled r [] = refl
-own_spelled r (c ∷ cs) =
-    ap (λ (ws : List (List ℕ)). line (decimal r ∷ call_word c ∷ ws) ++ flat_map spelled (own_lines r cs)) (call_spelled c) ∙ ap (λ (text : List ℕ). shown_call r c ++ text) (own_spelled r cs)
+own_spelled r (c ∷ cs) = grind (arith, nat_tests, own_spelled r cs, decimal, flat_map, call_spelled)
 
 pub calls_spelled : (r : ℕ) (calls : List (List Call)) → flat_map spelled (call_lines r calls) ≡ flat_map (λ p. flat_map (shown_call p.0) p.1) (enumerate_from r calls)
 calls_spelled r [] = refl
-calls_spelled r (own ∷ more) =
-    flat_map-append spelled (own_lines r own) (call_lines (r + 1) more)
-    ∙ (ap (λ (text : List ℕ). text ++ flat_map spelled (call_lines (r + 1) more)) (own_spelled r own) ∙ ap (λ (text : List ℕ). flat_map (shown_call r) own ++ text) (calls_spelled (r + 1) more))
+calls_spelled r (own ∷ more) = grind (arith, nat_tests, calls_spelled (r + 1) more, flat_map-append, flat_map, own_spelled)
 
 digits_no_comment : (ds : List ℕ) → 0 < length ds → list_all is_digit ds ≡ true → is_comment (Plain ds) ≡ false
-digits_no_comment [] some h = absurd (omega arith)
-digits_no_comment (d ∷ ds) some h =
-    ne_eqb d 35 (λ e. let k : is_digit 35 ≡ true = subst (λ x. is_digit x ≡ true) e (and_parts (is_digit d) (list_all is_digit ds) h).0 in absurd (cc))
+digits_no_comment ds some h = grind (arith, nat_tests, ne_eqb, and_parts)
 
 call_is_line : (ranks r : ℕ) (own : List Call) (c : Call) → r < 64 → CallAgain ranks r own c → is_line (call_tokens_of r c) ≡ true
-call_is_line ranks r own c low again =
-    let d = decimal_numeral r (omega arith) in
-    and_from _ _ (ap not (digits_no_comment (decimal r) d.some d.digits)) (and_from _ _ (decimal_plain r (omega arith)) (and_from _ _ (call_plain c) again.good))
+call_is_line ranks r own c low again = grind (arith, nat_tests, decimal_numeral, and_from, not, digits_no_comment, decimal, decimal_plain, call_plain)
 
 own_are_lines : (ranks r : ℕ) (cs own : List Call) → r < 64 → Chain ranks r own cs → list_all is_line (own_lines r cs) ≡ true
 own_are_lines ranks r [] own low h = refl
@@ -175,17 +160,12 @@ own_are_lines ranks r (c ∷ cs) own low h = and_from _ _ (call_is_line ranks r 
 
 pub calls_are_lines : (ranks r : ℕ) (calls : List (List Call)) → r + length calls ≤ 64 → Chains ranks r calls → list_all is_line (call_lines r calls) ≡ true
 calls_are_lines ranks r [] low h = refl
-calls_are_lines ranks r (own ∷ more) low h =
-    all_joined is_line (own_lines r own) (call_lines (r + 1) more) (own_are_lines ranks r own [] (omega arith) h.0) (calls_are_lines ranks (r + 1) more (omega arith) h.1)
+calls_are_lines ranks r (own ∷ more) low h = grind (arith, nat_tests, calls_are_lines ranks (r + 1) more (omega arith) h.1, all_joined, own_are_lines)
 
 -- ---- and they are read again
 
 rank_again : (ranks r : ℕ) → r < ranks → r < 64 → rank_of_text ranks (decimal r) ≡ Ok r
-rank_again ranks r low small =
-    let d = decimal_numeral r (omega arith) in
-    let digits : begins_rank (decimal r) ≡ true = and_from _ _ (lt-ltb 0 (length (decimal r)) d.some) d.digits in
-    let inner : nat_lt (digits_value (decimal r)) ranks ≡ true = ap (λ x. nat_lt x ranks) d.value ∙ lt-ltb r ranks low in
-    cond-true _ _ _ digits ∙ (cond-true _ _ _ inner ∙ ap (λ x. Ok x) d.value)
+rank_again ranks r low small = grind (arith, nat_tests, decimal_numeral, decimal, and_from, lt-ltb, nat_lt, cond-true)
 
 abbrev at_rank : List (List Call) → List Call → List (List Call) → ℕ → Called
 at_rank front own back v = record { calls = front ++ own ∷ back; values = v }
@@ -197,10 +177,7 @@ own_at (x ∷ front) own back zero e = absurd (omega arith)
 own_at (x ∷ front) own back (suc r) e = own_at front own back r (omega arith)
 
 with_call_at : (front : List (List Call)) (own : List Call) (back : List (List Call)) (v r : ℕ) (c : Call) → length front ≡ r → with_call r c (at_rank front own back v) ≡ at_rank front (own ++ c ∷ []) back (v + values_in_call c)
-with_call_at front own back v r c e =
-    let calls = front ++ own ∷ back in
-    ap (λ (x : List Call). record { calls = slice_set calls r (x ++ c ∷ []); values = v + values_in_call c }) (own_at front own back r e)
-    ∙ ap (λ (xs : List (List Call)). record { calls = xs; values = v + values_in_call c }) (set_at front own back (own ++ c ∷ []) r e)
+with_call_at front own back v r c e = grind (arith, nat_tests, slice_set, own_at, set_at)
 
 call_again_step : (ranks : ℕ) (front : List (List Call)) (own : List Call) (back : List (List Call)) (v r : ℕ) (c : Call) → length front ≡ r → r < 64 → length (front ++ own ∷ back) ≡ ranks
     → CallAgain ranks r own c → v + values_in_call c ≤ most_values
@@ -226,11 +203,7 @@ data_on past n d e w ws lines h = ap (λ (r : Result (Bool × Called) ScriptKind
 own_again : (ranks past : ℕ) (cs : List Call) (front : List (List Call)) (own : List Call) (back : List (List Call)) (v r n m : ℕ) (more : List (List Word))
     → length front ≡ r → r < 64 → length (front ++ own ∷ back) ≡ ranks → Chain ranks r own cs → v + count cs ≤ most_values → n + length cs ≡ m
     → data_part past (at_rank front own back v) (numbered n (own_lines r cs ++ more)) ≡ data_part past (at_rank front (own ++ cs) back (v + count cs)) (numbered m more)
-own_again ranks past [] front own back v r n m more e small long h few num =
-    let same : v ≡ v + 0 = omega arith in
-    let line : n ≡ m = omega arith in
-    ap (λ (k : ℕ). data_part past (at_rank front own back v) (numbered k more)) line
-    ∙ (ap (λ (x : List Call). data_part past (at_rank front x back v) (numbered m more)) (sym (append-nil own)) ∙ ap (λ (x : ℕ). data_part past (at_rank front (own ++ []) back x) (numbered m more)) same)
+own_again ranks past [] front own back v r n m more e small long h few num = grind (arith, nat_tests, numbered, append-nil)
 own_again ranks past (c ∷ cs) front own back v r n m more e small long h few num =
     let step = call_again_step ranks front own back v r c e small long h.0 (omega arith) in
     let next_own = own ++ c ∷ [] in
@@ -252,10 +225,7 @@ from_rank front rest v = record { calls = front ++ rest; values = v }
 calls_again : (ranks past : ℕ) (calls front : List (List Call)) (v r n m : ℕ) (more : List (List Word))
     → length front ≡ r → r + length calls ≡ ranks → ranks ≤ 64 → Chains ranks r calls → v + count_all calls ≤ most_values → n + lines_in calls ≡ m
     → data_part past (from_rank front (replicate (length calls) []) v) (numbered n (call_lines r calls ++ more)) ≡ data_part past (from_rank front calls (v + count_all calls)) (numbered m more)
-calls_again ranks past [] front v r n m more e long small h few num =
-    let same : v ≡ v + 0 = omega arith in
-    let line : n ≡ m = omega arith in
-    ap (λ (k : ℕ). data_part past (from_rank front [] v) (numbered k more)) line ∙ ap (λ (x : ℕ). data_part past (from_rank front [] x) (numbered m more)) same
+calls_again ranks past [] front v r n m more e long small h few num = grind (arith, nat_tests, numbered)
 calls_again ranks past (own ∷ calls) front v r n m more e long small h few num =
     let back : List (List Call) = replicate (length calls) [] in
     let whole_long : length (front ++ [] ∷ back) ≡ ranks = omega (arith, length-append front ([] ∷ back), length_replicate (length calls)) in

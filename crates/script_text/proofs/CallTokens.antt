@@ -1,5 +1,5 @@
 -- The words of a call that is printed.
-use Rattle.script_text.proofs.Words.{◌≡◌, ◌∙◌, ℕ, ◌+◌, List, [], ◌∷◌, ◌++◌, map, Bool, true, false, Option, Some, None, refl, ap, codes, decimal, Values, Form, Given, PostKind, Iput, Iget, Bput, Call, call_word, form_word, kind_word, with_all, call_words, region_words, shown_values, words_behind, Word, Plain, posted, put_call, get_call, post_call, call_of, Family, Requests, Size, Name, Record, Nothing, Behind, CallRow, in_row, of_behind, HasNoRegion, IsRow, made_behind}
+use Rattle.script_text.proofs.Words.{◌≡◌, ◌∙◌, ℕ, ◌+◌, List, [], ◌∷◌, ◌++◌, map, Bool, true, Option, Some, None, refl, ap, codes, decimal, Values, Form, Given, PostKind, Call, call_word, form_word, kind_word, with_all, call_words, region_words, shown_values, words_behind, Word, Plain, posted, put_call, get_call, post_call, call_of, Family, Requests, Size, Name, Record, Nothing, Behind, CallRow, in_row, of_behind, HasNoRegion, IsRow, made_behind, arith, nat_tests}
 use Rattle.nc_base.specs.declared.request.Form.TheVariants as form
 use Rattle.nc_base.specs.declared.request.Call.TheVariants as call
 use Rattle.script_spec.specs.CallTable.{row_of}
@@ -24,10 +24,7 @@ call_tokens (call.Post id k n g vs) = Plain (decimal id) ∷ Plain n ∷ (region
 call_tokens c = of_behind [] tokens_behind c
 
 apart_tokens : (c : Call) → HasNoRegion c → call_tokens c ≡ of_behind [] tokens_behind c
-apart_tokens (call.Put all n g vs) h = absurd h
-apart_tokens (call.Get all n g) h = absurd h
-apart_tokens (call.Post id k n g vs) h = absurd h
-apart_tokens _ h = refl
+apart_tokens c h = grind (arith, nat_tests)
 
 pub made_tokens : (row : CallRow) → IsRow row → (ranks r : ℕ) (b : Behind row.family) → call_tokens (row.made ranks r b) ≡ tokens_behind row.family b
 made_tokens row is ranks r b = apart_tokens (row.made ranks r b) (is.apart ranks r b) ∙ made_behind row is ranks r b [] tokens_behind
@@ -72,92 +69,20 @@ call_spelled c = plain_spelled c
 -- ---- the words of calls
 
 with_all_plain : (all : Bool) (f : Form) → (is_plain (with_all all (codes "put_" ++ form_word f)) ≡ true) × (is_plain (with_all all (codes "get_" ++ form_word f)) ≡ true)
-with_all_plain true form.Var1 = (refl, refl)
-with_all_plain true form.Var = (refl, refl)
-with_all_plain true form.Vara = (refl, refl)
-with_all_plain true form.Vars = (refl, refl)
-with_all_plain true form.Varm = (refl, refl)
-with_all_plain true form.Varn = (refl, refl)
-with_all_plain false form.Var1 = (refl, refl)
-with_all_plain false form.Var = (refl, refl)
-with_all_plain false form.Vara = (refl, refl)
-with_all_plain false form.Vars = (refl, refl)
-with_all_plain false form.Varm = (refl, refl)
-with_all_plain false form.Varn = (refl, refl)
+with_all_plain all f = grind (arith, nat_tests)
 
 post_plain : (k : PostKind) (f : Form) → is_plain (kind_word k ++ form_word f) ≡ true
-post_plain Iput form.Var1 = refl
-post_plain Iput form.Var = refl
-post_plain Iput form.Vara = refl
-post_plain Iput form.Vars = refl
-post_plain Iput form.Varm = refl
-post_plain Iput form.Varn = refl
-post_plain Iget form.Var1 = refl
-post_plain Iget form.Var = refl
-post_plain Iget form.Vara = refl
-post_plain Iget form.Vars = refl
-post_plain Iget form.Varm = refl
-post_plain Iget form.Varn = refl
-post_plain Bput form.Var1 = refl
-post_plain Bput form.Var = refl
-post_plain Bput form.Vara = refl
-post_plain Bput form.Vars = refl
-post_plain Bput form.Varm = refl
-post_plain Bput form.Varn = refl
+post_plain k f = grind (arith, nat_tests)
 
 pub call_plain : (c : Call) → is_plain (call_word c) ≡ true
-call_plain (call.Put all n g vs) = (with_all_plain all g.form).0
-call_plain (call.Get all n g) = (with_all_plain all g.form).1
-call_plain (call.Post id k n g vs) = post_plain k g.form
-call_plain (call.Wait true c) = refl
-call_plain (call.Wait false c) = refl
-call_plain _ = refl
+call_plain c = grind (arith, nat_tests, with_all_plain, post_plain)
 
 module _ (ranks r : ℕ) (own : List Call) (before : ℕ) (ws : List Word) where
   pub put_word : (all : Bool) (f : Form) → call_of ranks r own before (with_all all (codes "put_" ++ form_word f)) ws ≡ put_call all f before ws
-  put_word true form.Var1 = refl
-  put_word true form.Var = refl
-  put_word true form.Vara = refl
-  put_word true form.Vars = refl
-  put_word true form.Varm = refl
-  put_word true form.Varn = refl
-  put_word false form.Var1 = refl
-  put_word false form.Var = refl
-  put_word false form.Vara = refl
-  put_word false form.Vars = refl
-  put_word false form.Varm = refl
-  put_word false form.Varn = refl
+  put_word all f = grind (arith, nat_tests)
 
   pub get_word : (all : Bool) (f : Form) → call_of ranks r own before (with_all all (codes "get_" ++ form_word f)) ws ≡ get_call all f ws
-  get_word true form.Var1 = refl
-  get_word true form.Var = refl
-  get_word true form.Vara = refl
-  get_word true form.Vars = refl
-  get_word true form.Varm = refl
-  get_word true form.Varn = refl
-  get_word false form.Var1 = refl
-  get_word false form.Var = refl
-  get_word false form.Vara = refl
-  get_word false form.Vars = refl
-  get_word false form.Varm = refl
-  get_word false form.Varn = refl
+  get_word all f = grind (arith, nat_tests)
 
   pub post_word : (k : PostKind) (f : Form) → call_of ranks r own before (kind_word k ++ form_word f) ws ≡ post_call k (posted own) f before ws
-  post_word Iput form.Var1 = refl
-  post_word Iput form.Var = refl
-  post_word Iput form.Vara = refl
-  post_word Iput form.Vars = refl
-  post_word Iput form.Varm = refl
-  post_word Iput form.Varn = refl
-  post_word Iget form.Var1 = refl
-  post_word Iget form.Var = refl
-  post_word Iget form.Vara = refl
-  post_word Iget form.Vars = refl
-  post_word Iget form.Varm = refl
-  post_word Iget form.Varn = refl
-  post_word Bput form.Var1 = refl
-  post_word Bput form.Var = refl
-  post_word Bput form.Vara = refl
-  post_word Bput form.Vars = refl
-  post_word Bput form.Varm = refl
-  post_word Bput form.Varn = refl
+  post_word k f = grind (arith, nat_tests)

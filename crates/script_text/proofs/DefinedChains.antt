@@ -1,5 +1,5 @@
 -- What is known of the definitions of a new dataset once they are read: each dimension, variable and attribute, printed after those before it, is read again.
-use Rattle.script_text.proofs.Words.{◌≡◌, ◌∙◌, ℕ, zero, suc, ◌+◌, ◌≤◌, List, [], ◌∷◌, ◌++◌, map, position, length, drop, Bool, true, false, nat_lt, Option, Some, None, slice_get, slice_set, Result, Ok, Err, refl, sym, ap, subst, ⊎_elim, append_assoc, append-nil, arith, bytes_eq, codes, list_all, list_any, and_parts, and_from, or_from, or_left, or_right, list_any-append, faultless_some, ScriptKind, NcType, Dim, Attr, Var, most_dims_of_var, most_values, Word, is_name, ◌>>=◌, refuse_if, or_fault, reads_as, ended, is_among, dim_line, var_head, name_list, dim_ids, is_record_dim, var_names, shape, var_line, owner_of_text, owner_place, Title, same_title, attribute, Defined, with_dim, with_var, with_attr_at, with_title, with_attr_of_owner, att_line, dim_definition, var_definition, fill_line, definition, all_joined}
+use Rattle.script_text.proofs.Words.{◌≡◌, ◌∙◌, ℕ, zero, suc, ◌+◌, ◌≤◌, List, [], ◌∷◌, ◌++◌, map, position, length, drop, Bool, true, false, nat_lt, Option, Some, None, slice_get, slice_set, Result, Ok, Err, refl, sym, ap, subst, ⊎_elim, append_assoc, append-nil, arith, bytes_eq, codes, list_all, list_any, and_parts, and_from, or_from, or_left, or_right, list_any-append, faultless_some, ScriptKind, NcType, Dim, Attr, Var, most_dims_of_var, most_values, Word, is_name, refuse_if, or_fault, reads_as, ended, is_among, dim_line, var_head, name_list, dim_ids, is_record_dim, var_names, shape, var_line, owner_of_text, owner_place, Title, same_title, attribute, Defined, with_dim, with_var, with_attr_at, with_title, with_attr_of_owner, att_line, dim_definition, var_definition, fill_line, definition, all_joined, nat_tests}
 use Rattle.nc_base.specs.declared.errors.ScriptKind.TheVariants as kind
 use Rattle.nc_base.specs.declared.errors.LimitName.TheVariants as limit
 use Rattle.script_text.proofs.Steps.{went, same_ok, not_refused}
@@ -46,17 +46,12 @@ vars_pushed version dims names (x ∷ vs) v h k =
 vars_more : (version : ℕ) (dims more : List Dim) (names : List (List ℕ)) (vs : List Var) → VarChain version dims names vs → VarChain version (dims ++ more) names vs
 vars_more version dims more names [] h = tt
 vars_more version dims more names (v ∷ vs) h =
-    let k = h.0 in (
-      record {
-        dim_list = k.dim_list;
-        named = k.named;
-        found = more_ids dims more k.dim_list v.dims k.found;
-        few = k.few;
-        records = more_records dims more k.dim_list v.dims k.found k.records;
-        head = k.head;
-        no_start = k.no_start;
-      },
+    grind (
+      arith,
+      nat_tests,
       vars_more version dims more (names ++ v.name ∷ []) vs h.1,
+      more_ids dims more h.0.dim_list v.dims h.0.found,
+      more_records dims more h.0.dim_list v.dims h.0.found h.0.records,
     )
 
 -- ---- attributes
@@ -91,17 +86,13 @@ titled_fresh titles owner n (a ∷ list) h fresh =
         absurd (cc)
 
 titled_more : (titles more : List Title) (owner : List ℕ) (list : List Attr) → titled titles owner list ≡ true → titled (titles ++ more) owner list ≡ true
-titled_more titles more owner list h =
-    all_more (λ (a : Attr). list_any (same_title (owner, a.name)) titles) (λ (a : Attr). list_any (same_title (owner, a.name)) (titles ++ more))
-    (λ a k. list_any-append (same_title (owner, a.name)) titles more ∙ or_left _ _ k) list h
+titled_more titles more owner list h = grind (arith, nat_tests, all_more, list_any-append, or_left)
 
 titled_new : (titles : List Title) (owner n : List ℕ) → list_any (same_title (owner, n)) (titles ++ (owner, n) ∷ []) ≡ true
 titled_new titles owner n = list_any-append (same_title (owner, n)) titles ((owner, n) ∷ []) ∙ or_right _ _ (or_left _ _ (and_from _ _ (bytes_own owner) (bytes_own n)))
 
 titled_pushed : (titles : List Title) (owner : List ℕ) (list : List Attr) (a : Attr) → titled titles owner list ≡ true → titled (titles ++ (owner, a.name) ∷ []) owner (list ++ a ∷ []) ≡ true
-titled_pushed titles owner list a h =
-    let next = titles ++ (owner, a.name) ∷ [] in
-    all_joined (λ (b : Attr). list_any (same_title (owner, b.name)) next) list (a ∷ []) (titled_more titles ((owner, a.name) ∷ []) owner list h) (and_from _ _ (titled_new titles owner a.name) refl)
+titled_pushed titles owner list a h = grind (arith, nat_tests, all_joined, titled_more, and_from, titled_new)
 
 -- the attributes of the variables
 abbrev pub OwnChains : ℕ → List Title → List Var → Type 0
@@ -128,11 +119,7 @@ push_attr (suc k) a (v ∷ vs) = v ∷ push_attr k a vs
 pub pushes : (k : ℕ) (a : Attr) (vs : List Var) → with_attr_at k a vs ≡ push_attr k a vs
 pushes k a [] = refl
 pushes zero a (v ∷ vs) = refl
-pushes (suc k) a (v ∷ vs) = by (slice_get vs k) ∙ ap (λ (xs : List Var). v ∷ xs) (pushes k a vs)
-  where
-    by : (o : Option Var) → elim o as (λ x. List Var) [ None ↦ v ∷ vs | Some w ↦ v ∷ slice_set vs k (record w { attrs = w.attrs ++ a ∷ [] }) ] ≡ v ∷ elim o as (λ x. List Var) [ None ↦ vs | Some w ↦ slice_set vs k (record w { attrs = w.attrs ++ a ∷ [] }) ]
-    by None = refl
-    by (Some w) = refl
+pushes (suc k) a (v ∷ vs) = grind (arith, nat_tests, pushes k a vs, slice_get, slice_set)
 
 abbrev pub NameAt : List Var → ℕ → List ℕ → Type 0
 NameAt [] k n = ⊥
@@ -154,14 +141,8 @@ vars_attr version dims names (suc k) a (v ∷ vs) h = (h.0, vars_attr version di
 own_attr : (version : ℕ) (titles : List Title) (k : ℕ) (owner : List ℕ) (a : Attr) (vs : List Var) → OwnChains version titles vs → NameAt vs k owner → AttrAgain version a → list_any (same_title (owner, a.name)) titles ≡ false
     → OwnChains version (titles ++ (owner, a.name) ∷ []) (push_attr k a vs)
 own_attr version titles k owner a [] h at again fresh = absurd at
-own_attr version titles zero owner a (v ∷ vs) h at again fresh =
-    let fresh_own = subst (λ n. list_any (same_title (n, a.name)) titles ≡ false) at fresh in (
-      attrs_pushed version [] v.attrs a h.0 again (titled_fresh titles v.name a.name v.attrs h.1 fresh_own),
-      subst (λ n. titled (titles ++ (n, a.name) ∷ []) v.name (v.attrs ++ a ∷ []) ≡ true) (sym at) (titled_pushed titles v.name v.attrs a h.1),
-      own_more version titles ((owner, a.name) ∷ []) vs h.2,
-    )
-own_attr version titles (suc k) owner a (v ∷ vs) h at again fresh =
-    (h.0, titled_more titles ((owner, a.name) ∷ []) v.name v.attrs h.1, own_attr version titles k owner a vs h.2 at again fresh)
+own_attr version titles zero owner a (v ∷ vs) h at again fresh = grind (arith, nat_tests, attrs_pushed, titled_fresh, titled_pushed, own_more)
+own_attr version titles (suc k) owner a (v ∷ vs) h at again fresh = grind (arith, nat_tests, own_attr version titles k owner a vs h.2 at again fresh, titled_more)
 
 -- ---- how many values
 
@@ -259,49 +240,17 @@ var_on version values d ws r low ok h =
 
 -- an attribute of the dataset, or of the variable at a place
 att_of_dataset : (version values : ℕ) (d : Defined) (owner : List ℕ) (a : Attr) → DefinedOk version values d → owner ≡ codes ":" → AttrRead version d.titles values owner a → DefinedOn version values (a.count, with_title owner a.name (with_attr_of_owner None a d))
-att_of_dataset version values d owner a ok e read =
-    let at = codes ":" in
-    let fresh = subst (λ o. list_any (same_title (o, a.name)) d.titles ≡ false) e read.fresh in
-    record {
-      same = record {
-        dims = ok.dims;
-        vars = ok.vars;
-        attrs = attrs_pushed version [] d.attrs a ok.attrs read.same (titled_fresh d.titles at a.name d.attrs ok.has_titles fresh);
-        has_titles = subst (λ o. titled (d.titles ++ (o, a.name) ∷ []) at (d.attrs ++ a ∷ []) ≡ true) (sym e) (titled_pushed d.titles at d.attrs a ok.has_titles);
-        own = own_more version d.titles ((owner, a.name) ∷ []) d.vars ok.own;
-        counted = omega (arith, ok.counted, count-attr d.attrs a);
-      };
-      few = read.few;
-    }
+att_of_dataset version values d owner a ok e read = grind (arith, nat_tests, codes, attrs_pushed, titled_fresh, titled_pushed, own_more, count-attr)
 
 att_of_var : (version values : ℕ) (d : Defined) (owner : List ℕ) (k : ℕ) (a : Attr) → DefinedOk version values d → NameAt d.vars k owner → AttrRead version d.titles values owner a → DefinedOn version values (a.count, with_title owner a.name (with_attr_of_owner (Some k) a d))
-att_of_var version values d owner k a ok at read =
-    let same_vars = sym (pushes k a d.vars) in
-    record {
-      same = record {
-        dims = ok.dims;
-        vars = subst (VarChain version d.dims []) same_vars (vars_attr version d.dims [] k a d.vars ok.vars);
-        attrs = ok.attrs;
-        has_titles = titled_more d.titles ((owner, a.name) ∷ []) (codes ":") d.attrs ok.has_titles;
-        own = subst (OwnChains version (d.titles ++ (owner, a.name) ∷ [])) same_vars (own_attr version d.titles k owner a d.vars ok.own at read.same read.fresh);
-        counted = omega (arith, ok.counted, count-pushed k owner a d.vars at, ap count_own same_vars);
-      };
-      few = read.few;
-    }
+att_of_var version values d owner k a ok at read = grind (arith, nat_tests, pushes, vars_attr, titled_more, codes, own_attr, count-pushed)
 
 abbrev PlaceOf : List Var → List ℕ → Option ℕ → Type 0
 PlaceOf vars owner None = owner ≡ codes ":"
 PlaceOf vars owner (Some k) = NameAt vars k owner
 
 place_read : (vars : List Var) (owner : List ℕ) (o : Option ℕ) → owner_place vars owner ≡ Ok o → PlaceOf vars owner o
-place_read vars owner o h = by (bytes_eq owner (codes ":")) refl h
-  where
-    by : (b : Bool) → bytes_eq owner (codes ":") ≡ b
-        → elim b as (λ x. Result (Option ℕ) ScriptKind) [ true ↦ Ok None | false ↦ (or_fault kind.UnknownName (position (bytes_eq owner) (var_names vars)) >>= λ k. Ok (Some k)) ] ≡ Ok o → PlaceOf vars owner o
-    by true e k = subst (PlaceOf vars owner) (same_ok None o k) (bytes_same owner (codes ":") e)
-    by false e k =
-        let a = went (or_fault kind.UnknownName (position (bytes_eq owner) (var_names vars))) (λ j. Ok (Some j)) o k in
-        subst (PlaceOf vars owner) (same_ok (Some a.value) o a.rest) (found_name owner vars a.value (faultless_some kind.UnknownName (position (bytes_eq owner) (var_names vars)) a.value a.first))
+place_read vars owner o h = grind (arith, nat_tests, bytes_eq, codes, position, same_ok, bytes_same, went, found_name, faultless_some)
 
 att_by_place : (version values : ℕ) (d : Defined) (owner : List ℕ) (o : Option ℕ) (a : Attr) → DefinedOk version values d → PlaceOf d.vars owner o → AttrRead version d.titles values owner a → DefinedOn version values (a.count, with_title owner a.name (with_attr_of_owner o a d))
 att_by_place version values d owner None a ok at read = att_of_dataset version values d owner a ok at read
@@ -317,13 +266,7 @@ att_on version values d ws r low read ok h =
     (attr_read version d.titles values o.value.0 o.value.1 a.value low (kept is_read owner_of_text kind.BadName ws o.value o.first read) a.first))
 
 fill_on : (version values : ℕ) (d : Defined) (ws : List Word) (r : ℕ × Defined) → values ≤ most_values → DefinedOk version values d → fill_line d ws ≡ Ok r → DefinedOn version values r
-fill_on version values d ws r low ok h =
-    let a = went (refuse_if d.filled kind.TwiceNamed) _ r h in
-    let b = went (ended ws) _ r a.rest in
-    subst (DefinedOn version values) (same_ok (0, record d { filled = true }) r b.rest) (record {
-      same = record { dims = ok.dims; vars = ok.vars; attrs = ok.attrs; has_titles = ok.has_titles; own = ok.own; counted = omega (arith, ok.counted) };
-      few = omega arith;
-    })
+fill_on version values d ws r low ok h = grind (arith, nat_tests, went, same_ok)
 
 pub definition_read : (version values : ℕ) (d : Defined) (first : List ℕ) (ws : List Word) (r : ℕ × Defined) → values ≤ most_values → list_all is_read ws ≡ true → DefinedOk version values d → definition version values d first ws ≡ Ok r → DefinedOn version values r
 definition_read version values d first ws r low read ok h = by (bytes_eq first (codes "dim")) (bytes_eq first (codes "var")) (bytes_eq first (codes "att")) (bytes_eq first (codes "fill")) h

@@ -1,5 +1,5 @@
 -- The definitions of a new dataset, printed in their canonical order, are read as the same definitions.
-use Rattle.script_text.proofs.Words.{◌≡◌, ◌∙◌, ℕ, suc, ◌+◌, ◌≤◌, List, [], ◌∷◌, ◌++◌, map, position, length, drop, Bool, true, false, nat_lt, ◌==◌, ◌||◌, Some, None, Ok, refl, sym, ap, subst, inr, append_assoc, append-nil, arith, bytes_eq, codes, list_all, list_any, and_parts, and_from, and_left, and_right, or_from, or_parts, ne_eqb, list_any-append, Dim, Attr, Var, most_dims_of_var, most_values, type_word, bracketed, Word, Plain, is_name, starts_name, ◌>>=◌, refuse_if, or_fault, reads_as, is_among, dim_line, var_head, name_list, dim_ids, is_record_dim, var_names, shape, var_line, owner_of_text, owner_place, Title, same_title, attribute, Defined, with_dim, with_var, with_attr_at, with_title, with_attr_of_owner, att_line, definition, Known, all_joined}
+use Rattle.script_text.proofs.Words.{◌≡◌, ◌∙◌, ℕ, suc, ◌+◌, ◌≤◌, List, [], ◌∷◌, ◌++◌, map, position, length, Bool, true, false, nat_lt, ◌==◌, Some, None, Ok, refl, sym, ap, subst, append_assoc, append-nil, arith, bytes_eq, codes, list_all, list_any, and_parts, and_from, and_left, and_right, or_from, or_parts, ne_eqb, list_any-append, Dim, Attr, Var, most_values, type_word, bracketed, Word, Plain, is_name, is_among, var_names, var_line, owner_place, Title, same_title, Defined, with_var, with_title, with_attr_of_owner, att_line, definition, Known, all_joined, nat_tests}
 use Rattle.nc_base.specs.declared.errors.ScriptKind.TheVariants as kind
 use Rattle.nc_base.specs.declared.errors.LimitName.TheVariants as limit
 use Rattle.script_text.proofs.Steps.{go_on, passed, faultless, word_read, by_false}
@@ -7,7 +7,7 @@ use Rattle.script_text.proofs.Lexing.{is_plain}
 use Rattle.script_text.proofs.Lines.{is_line}
 use Rattle.script_text.proofs.Numerals.{name_plain}
 use Rattle.script_text.proofs.PrintedAttributes.{type_plain, attr_tokens, AttrAgain}
-use Rattle.script_text.proofs.PrintedDefinitions.{dim_tokens, HeadAgain, head_again, names_plain, names_again}
+use Rattle.script_text.proofs.PrintedDefinitions.{dim_tokens, head_again, names_plain, names_again}
 use Rattle.script_text.proofs.AddedLines.{Leads, Runs, runs_on, owner_again}
 use Rattle.script_text.proofs.Places.{name_at, names_shown, place_of_new}
 use Rattle.script_text.proofs.DefinedChains.{DimChain, VarOk, VarChain, AttrChain, OwnChains, with_own, push_attr, pushes, count_attrs, count_own}
@@ -20,13 +20,7 @@ at_state k d v = record k { defined = d; values = v }
 
 pub leads_by : (version : ℕ) (k : Known) (first : List ℕ) (ws : List Word) (r : ℕ × Defined) → (version == 0) ≡ false → bytes_eq first (codes "ranks") ≡ false → bytes_eq first (codes "hint") ≡ false → bytes_eq first (codes "data") ≡ false
     → definition version k.values k.defined first ws ≡ Ok r → Leads version k (Plain first ∷ ws) (record k { defined = r.1; values = k.values + r.0 })
-leads_by version k first ws r new a b c h = (
-  c,
-  by_false (bytes_eq first (codes "ranks")) _ _ a
-      ∙ (by_false (bytes_eq first (codes "hint")) _ _ b
-      ∙ (by_false (version == 0) _ _ new
-      ∙ go_on (definition version k.values k.defined first ws) (λ x. Ok (record k { defined = x.1; values = k.values + x.0 })) r _ h refl)),
-)
+leads_by version k first ws r new a b c h = grind (arith, nat_tests, by_false, bytes_eq, codes, go_on)
 
 -- ---- dimensions
 
@@ -36,14 +30,7 @@ line_of_dim d = Plain (codes "dim") ∷ dim_tokens d
 dims_run : (version : ℕ) (k : Known) (d : Defined) (ds front : List Dim) → (version == 0) ≡ false → DimChain version front ds
     → Runs version (at_state k (record d { dims = front }) 0) (map line_of_dim ds) (at_state k (record d { dims = front ++ ds }) 0)
 dims_run version k d [] front new h = ap (λ (xs : List Dim). at_state k (record d { dims = xs }) 0) (sym (append-nil front))
-dims_run version k d (x ∷ ds) front new h =
-    let here = record d { dims = front } in
-    let next = record d { dims = front ++ x ∷ [] } in
-    let more = dims_run version k d ds (front ++ x ∷ []) new h.1 in (
-      at_state k next 0,
-      leads_by version (at_state k here 0) (codes "dim") (dim_tokens x) (0, next) new refl refl refl (go_on (dim_line version front (dim_tokens x)) (λ y. Ok (0, with_dim y here)) x (0, next) h.0.again refl),
-      subst (λ (xs : List Dim). Runs version (at_state k next 0) (map line_of_dim ds) (at_state k (record d { dims = xs }) 0)) (append_assoc front (x ∷ []) ds) more,
-    )
+dims_run version k d (x ∷ ds) front new h = grind (arith, nat_tests, dims_run version k d ds (front ++ x ∷ []) new h.1, leads_by, codes, go_on, append_assoc)
 
 -- ---- variables
 
@@ -59,16 +46,7 @@ full v = record { name = v.name; dims = v.dims; attrs = v.attrs; kind = v.kind; 
 
 var_again : (version : ℕ) (dims : List Dim) (names : List (List ℕ)) (done : List Var) (v : Var) → VarOk version dims names v → var_names done ≡ names
     → var_line version dims done (Plain (type_word v.kind) ∷ Plain v.name ∷ Plain (bracketed (map (name_at dims) v.dims)) ∷ []) ≡ Ok (bare v)
-var_again version dims names done v ok same =
-    let rest = Plain (bracketed ok.dim_list) ∷ [] in
-    let head = subst (λ ns. HeadAgain version ns v.kind v.name) (sym same) ok.head in
-    ap (λ (ns : List (List ℕ)). var_line version dims done (Plain (type_word v.kind) ∷ Plain v.name ∷ Plain (bracketed ns) ∷ [])) (names_shown dims ok.dim_list v.dims ok.found)
-    ∙ go_on (var_head version (var_names done) (Plain (type_word v.kind) ∷ Plain v.name ∷ rest)) _ ((v.kind, v.name), rest) (bare v) (head_again version (var_names done) v.kind v.name rest head)
-    (go_on (shape dims rest) _ (v.dims, []) (bare v)
-    (go_on (name_list rest) _ (ok.dim_list, []) (v.dims, []) (names_again ok.dim_list [] ok.named)
-    (go_on (or_fault kind.UnknownName (dim_ids dims ok.dim_list)) _ v.dims (v.dims, []) (faultless kind.UnknownName (dim_ids dims ok.dim_list) v.dims ok.found)
-    (go_on (refuse_if (nat_lt most_dims_of_var (length v.dims)) (kind.Limit limit.VarDims)) _ tt (v.dims, []) (passed _ _ ok.few)
-    (go_on (refuse_if (list_any (is_record_dim dims) (drop 1 v.dims)) kind.BadShape) _ tt (v.dims, []) (passed _ _ ok.records) refl)))) refl)
+var_again version dims names done v ok same = grind (arith, nat_tests, names_shown, go_on, head_again, names_again, faultless, nat_lt, passed)
 
 joined_vars : (vs more : List Var) → var_names (vs ++ more) ≡ var_names vs ++ var_names more
 joined_vars [] more = refl
@@ -98,10 +76,7 @@ abbrev FreshOwner : List Title → List ℕ → List (List ℕ) → Type 0
 FreshOwner titles owner names = (n : List ℕ) → is_among n names ≡ false → list_any (same_title (owner, n)) titles ≡ false
 
 fresh_pushed : (titles : List Title) (owner : List ℕ) (names : List (List ℕ)) (m : List ℕ) → FreshOwner titles owner names → FreshOwner (titles ++ (owner, m) ∷ []) owner (names ++ m ∷ [])
-fresh_pushed titles owner names m h n none =
-    let both = or_parts (is_among n names) (bytes_eq n m || false) (sym (list_any-append (bytes_eq n) names (m ∷ [])) ∙ none) in
-    let other = (or_parts (bytes_eq n m) false both.1).0 in
-    list_any-append (same_title (owner, n)) titles ((owner, m) ∷ []) ∙ or_from _ _ (h n both.0) (or_from _ _ (and_right _ _ other) refl)
+fresh_pushed titles owner names m h n none = grind (arith, nat_tests, or_parts, bytes_eq, list_any-append, or_from, and_right)
 
 abbrev titles_of : List ℕ → List Attr → List Title
 titles_of owner list = map (λ (a : Attr). (owner, a.name)) list
@@ -111,20 +86,11 @@ with_atts d list titles = record d { attrs = list; titles = titles }
 
 att_dataset_again : (version : ℕ) (d : Defined) (v : ℕ) (a : Attr) → AttrAgain version a → list_any (same_title (codes ":", a.name)) d.titles ≡ false → v + a.count ≤ most_values
     → att_line version v d (Plain (codes ":") ∷ attr_tokens a) ≡ Ok (a.count, with_title (codes ":") a.name (with_attr_of_owner None a d))
-att_dataset_again version d v a again fresh few =
-    let owner = codes ":" in
-    let r : ℕ × Defined = (a.count, with_title owner a.name (with_attr_of_owner None a d)) in
-    go_on (reads_as owner_of_text kind.BadName (Plain owner ∷ attr_tokens a))
-    (λ o. owner_place d.vars o.0 >>= λ k. attribute version d.titles v o.0 o.1 >>= λ x. Ok (x.count, with_title o.0 x.name (with_attr_of_owner k x d)))
-    (owner, attr_tokens a) r (word_read owner_of_text kind.BadName owner owner (attr_tokens a) refl)
-    (go_on (attribute version d.titles v owner (attr_tokens a)) (λ x. Ok (x.count, with_title owner x.name (with_attr_of_owner None x d))) a r (again.again d.titles v owner fresh few) refl)
+att_dataset_again version d v a again fresh few = grind (arith, nat_tests, codes, go_on, word_read)
 
 dataset_run : (version : ℕ) (k : Known) (d : Defined) (list : List Attr) (names : List (List ℕ)) (front : List Attr) (titles : List Title) (v : ℕ) → (version == 0) ≡ false → AttrChain version names list → FreshOwner titles (codes ":") names → v + count_attrs list ≤ most_values
     → Runs version (at_state k (with_atts d front titles) v) (map (line_of_att (codes ":")) list) (at_state k (with_atts d (front ++ list) (titles ++ titles_of (codes ":") list)) (v + count_attrs list))
-dataset_run version k d [] names front titles v new h fresh few =
-    let zero_more : v ≡ v + 0 = omega arith in
-    ap (λ (xs : List Attr). at_state k (with_atts d xs titles) v) (sym (append-nil front))
-    ∙ (ap (λ (ts : List Title). at_state k (with_atts d (front ++ []) ts) v) (sym (append-nil titles)) ∙ ap (λ (n : ℕ). at_state k (with_atts d (front ++ []) (titles ++ [])) n) zero_more)
+dataset_run version k d [] names front titles v new h fresh few = grind (arith, nat_tests, append-nil)
 dataset_run version k d (a ∷ list) names front titles v new h fresh few =
     let owner = codes ":" in
     let here = with_atts d front titles in
@@ -144,10 +110,7 @@ dataset_run version k d (a ∷ list) names front titles v new h fresh few =
 -- ---- attributes of the variables
 
 pub no_colon : (n : List ℕ) → is_name n ≡ true → bytes_eq n (codes ":") ≡ false
-no_colon [] h = absurd (cc)
-no_colon (c ∷ cs) h =
-    let starts = (and_parts (starts_name c) _ (and_parts _ _ h).0).0 in
-    and_left _ _ (ne_eqb c 58 (λ e. let k : starts_name 58 ≡ true = subst (λ x. starts_name x ≡ true) e starts in absurd (cc)))
+no_colon n h = grind (arith, nat_tests, and_parts, and_left, ne_eqb)
 
 length_var_names : (vs : List Var) → length (var_names vs) ≡ length vs
 length_var_names [] = refl
@@ -155,10 +118,7 @@ length_var_names (v ∷ vs) = ap suc (length_var_names vs)
 
 place_again : (front back : List Var) (w : Var) → is_name w.name ≡ true → is_among w.name (var_names front) ≡ false → owner_place (front ++ w ∷ back) w.name ≡ Ok (Some (length front))
 place_again front back w named fresh =
-    let at : position (bytes_eq w.name) (var_names (front ++ w ∷ back)) ≡ Some (length front) =
-    ap (position (bytes_eq w.name)) (joined_vars front (w ∷ back)) ∙ (place_of_new w.name (var_names front) (var_names back) fresh ∙ ap (λ (n : ℕ). Some n) (length_var_names front)) in
-    by_false (bytes_eq w.name (codes ":")) _ _ (no_colon w.name named)
-    ∙ go_on (or_fault kind.UnknownName (position (bytes_eq w.name) (var_names (front ++ w ∷ back)))) (λ j. Ok (Some j)) (length front) (Some (length front)) (faultless kind.UnknownName _ (length front) at) refl
+    grind (arith, nat_tests, position, bytes_eq, joined_vars, place_of_new, length_var_names, by_false, codes, no_colon, go_on, faultless)
 
 push_at : (front back : List Var) (w : Var) (a : Attr) → push_attr (length front) a (front ++ w ∷ back) ≡ front ++ with_own a w ∷ back
 push_at [] back w a = refl
@@ -174,13 +134,7 @@ att_own_again : (version : ℕ) (d : Defined) (front back : List Var) (w : Var) 
     → list_any (same_title (w.name, a.name)) titles ≡ false → v + a.count ≤ most_values
     → att_line version v (with_vars d (front ++ w ∷ back) titles) (Plain w.name ∷ attr_tokens a) ≡ Ok (a.count, with_vars d (front ++ with_own a w ∷ back) (titles ++ (w.name, a.name) ∷ []))
 att_own_again version d front back w titles v a named fresh again new few =
-    let here = with_vars d (front ++ w ∷ back) titles in
-    let r : ℕ × Defined = (a.count, with_vars d (front ++ with_own a w ∷ back) (titles ++ (w.name, a.name) ∷ [])) in
-    let same : with_attr_at (length front) a (front ++ w ∷ back) ≡ front ++ with_own a w ∷ back = pushes (length front) a (front ++ w ∷ back) ∙ push_at front back w a in
-    go_on (reads_as owner_of_text kind.BadName (Plain w.name ∷ attr_tokens a)) _ (w.name, attr_tokens a) r (word_read owner_of_text kind.BadName w.name w.name (attr_tokens a) (owner_again w.name (inr (no_colon w.name named, named))).1)
-    (go_on (owner_place (front ++ w ∷ back) w.name) _ (Some (length front)) r (place_again front back w named fresh)
-    (go_on (attribute version titles v w.name (attr_tokens a)) _ a r (again.again titles v w.name new few)
-    (ap (λ (xs : List Var). Ok (a.count, with_vars d xs (titles ++ (w.name, a.name) ∷ []))) same)))
+    grind (arith, nat_tests, pushes, push_at, go_on, word_read, owner_again, no_colon, place_again)
 
 own_run : (version : ℕ) (k : Known) (d : Defined) (front back : List Var) (list : List Attr) (names : List (List ℕ)) (w : Var) (titles : List Title) (v : ℕ) → (version == 0) ≡ false
     → is_name w.name ≡ true → is_among w.name (var_names front) ≡ false → AttrChain version names list → FreshOwner titles w.name names → v + count_attrs list ≤ most_values
@@ -215,10 +169,7 @@ other_titles owner other n [] h = refl
 other_titles owner other n (a ∷ list) h = or_from _ _ (and_left _ _ h) (other_titles owner other n list h)
 
 apart_pushed : (titles : List Title) (names : List (List ℕ)) (m : List ℕ) (list : List Attr) → Apart titles names → Apart (titles ++ titles_of m list) (names ++ m ∷ [])
-apart_pushed titles names m list h owner colon none n =
-    let both = or_parts (is_among owner names) (bytes_eq owner m || false) (sym (list_any-append (bytes_eq owner) names (m ∷ [])) ∙ none) in
-    list_any-append (same_title (owner, n)) titles (titles_of m list)
-    ∙ or_from _ _ (h owner colon both.0 n) (other_titles owner m n list (or_parts (bytes_eq owner m) false both.1).0)
+apart_pushed titles names m list h owner colon none n = grind (arith, nat_tests, or_parts, bytes_eq, list_any-append, or_from, other_titles)
 
 abbrev titles_after : List Title → List Var → List Title
 titles_after titles [] = titles
@@ -231,8 +182,7 @@ lines_of_own (v ∷ vs) = map (line_of_att v.name) v.attrs ++ lines_of_own vs
 all_own_run : (version : ℕ) (k : Known) (d : Defined) (old : List Title) (names : List (List ℕ)) (vs done : List Var) (titles : List Title) (v : ℕ) → (version == 0) ≡ false
     → VarChain version d.dims names vs → OwnChains version old vs → var_names done ≡ names → Apart titles names → v + count_own vs ≤ most_values
     → Runs version (at_state k (with_vars d (done ++ map bare vs) titles) v) (lines_of_own vs) (at_state k (with_vars d (done ++ map full vs) (titles_after titles vs)) (v + count_own vs))
-all_own_run version k d old names [] done titles v new h own same apart few =
-    let zero_more : v ≡ v + 0 = omega arith in ap (λ (n : ℕ). at_state k (with_vars d (done ++ []) titles) n) zero_more
+all_own_run version k d old names [] done titles v new h own same apart few = grind (arith, nat_tests)
 all_own_run version k d old names (x ∷ vs) done titles v new h own same apart few =
     let named = h.0.head.named in
     let alone : is_among x.name (var_names done) ≡ false = subst (λ ns. is_among x.name ns ≡ false) (sym same) h.0.head.fresh in
@@ -254,9 +204,7 @@ all_own_run version k d old names (x ∷ vs) done titles v new h own same apart 
 
 full_again : (version : ℕ) (dims : List Dim) (names : List (List ℕ)) (vs : List Var) → VarChain version dims names vs → map full vs ≡ vs
 full_again version dims names [] h = refl
-full_again version dims names (v ∷ vs) h =
-    ap (λ (b : ℕ). record { name = v.name; dims = v.dims; attrs = v.attrs; kind = v.kind; begin = b } ∷ map full vs) (sym h.0.no_start)
-    ∙ ap (λ (xs : List Var). v ∷ xs) (full_again version dims (names ++ v.name ∷ []) vs h.1)
+full_again version dims names (v ∷ vs) h = grind (arith, nat_tests, full_again version dims (names ++ v.name ∷ []) vs h.1)
 
 -- ---- all definitions
 
@@ -303,9 +251,7 @@ dims_are_lines version front [] h = refl
 dims_are_lines version front (d ∷ ds) h = and_from _ _ h.0.good (dims_are_lines version (front ++ d ∷ []) ds h.1)
 
 var_is_line : (version : ℕ) (dims : List Dim) (names : List (List ℕ)) (v : Var) → VarOk version dims names v → is_line (line_of_var dims v) ≡ true
-var_is_line version dims names v ok =
-    let shown : is_plain (bracketed (map (name_at dims) v.dims)) ≡ true = ap (λ (ns : List (List ℕ)). is_plain (bracketed ns)) (names_shown dims ok.dim_list v.dims ok.found) ∙ names_plain ok.dim_list ok.named in
-    and_from _ _ (type_plain v.kind) (and_from _ _ (name_plain v.name ok.head.named) (and_from _ _ shown refl))
+var_is_line version dims names v ok = grind (arith, nat_tests, names_shown, names_plain, and_from, type_plain, name_plain)
 
 vars_are_lines : (version : ℕ) (dims : List Dim) (names : List (List ℕ)) (vs : List Var) → VarChain version dims names vs → list_all is_line (map (line_of_var dims) vs) ≡ true
 vars_are_lines version dims names [] h = refl
@@ -321,7 +267,4 @@ own_are_lines version dims old names (v ∷ vs) h own =
     all_joined is_line (map (line_of_att v.name) v.attrs) (lines_of_own vs) (atts_are_lines version v.name [] v.attrs (name_plain v.name h.0.head.named) own.0) (own_are_lines version dims old (names ++ v.name ∷ []) vs h.1 own.2)
 
 pub definitions_are_lines : (version : ℕ) (d : Defined) → DimChain version [] d.dims → VarChain version d.dims [] d.vars → AttrChain version [] d.attrs → OwnChains version d.titles d.vars → list_all is_line (definition_lines d) ≡ true
-definitions_are_lines version d hd hv ha ho =
-    all_joined is_line (map line_of_dim d.dims) _ (dims_are_lines version [] d.dims hd)
-    (all_joined is_line (map (line_of_var d.dims) d.vars) _ (vars_are_lines version d.dims [] d.vars hv)
-    (all_joined is_line (map (line_of_att (codes ":")) d.attrs) (lines_of_own d.vars) (atts_are_lines version (codes ":") [] d.attrs refl ha) (own_are_lines version d.dims d.titles [] d.vars hv ho)))
+definitions_are_lines version d hd hv ha ho = grind (arith, nat_tests, all_joined, dims_are_lines, vars_are_lines, codes, atts_are_lines, own_are_lines)

@@ -1,11 +1,11 @@
 -- A lawful script that words can express is read from what is printed of it.
-use Rattle.script_text.proofs.Words.{◌≡◌, ◌∙◌, ℕ, zero, suc, ◌+◌, ◌*◌, ◌/◌, ◌%◌, ◌^◌, ◌≤◌, List, [], ◌∷◌, ◌++◌, find, map, sum, length, length-append, codes, Bool, true, false, not, cond, nat_le, ◌==◌, ◌&&◌, Option, Some, None, is_some, option_map, refl, sym, ap, subst, arith, bytes_eq, list_all, range_with_len, enumerate_from, and_parts, and_from, cond-false, cond-true, eqb-true, eq-eqb, leb-true, ne_eqb, length-map, sum_by-cons, bytes_eq-Decides, ScriptKind, Attr, Header, Extra, Hints, Script, Call, MeetKind, most_dims, most_vars, is_version, kinds, kind_number, added_dims, added_vars, agree, are_different, are_lawful_hints, is_alignment, is_lawful, is_lawful_call, is_lawful_dim, is_lawful_extra, is_lawful_header, is_lawful_var, is_within, kind_numbers, most_calls, most_ranks, most_values, posted_ids, values_in_script, is_empty, shown, Word, Plain, Within, kind_at, differs_at, is_difference, mismatch, Reads, most_bytes, most_lines, is_expressible, is_expressible_call, is_expressible_header, printed_lines}
+use Rattle.script_text.proofs.Words.{◌≡◌, ◌∙◌, ℕ, zero, suc, ◌+◌, ◌%◌, ◌^◌, ◌≤◌, List, [], ◌∷◌, ◌++◌, find, map, sum, length, length-append, codes, Bool, true, false, not, cond, nat_le, ◌==◌, ◌&&◌, Option, Some, None, is_some, option_map, refl, ap, subst, arith, bytes_eq, list_all, range_with_len, enumerate_from, and_parts, and_from, cond-false, cond-true, eqb-true, eq-eqb, leb-true, ne_eqb, length-map, sum_by-cons, bytes_eq-Decides, ScriptKind, Header, Extra, Hints, Script, Call, MeetKind, most_dims, most_vars, is_version, kinds, kind_number, added_dims, added_vars, agree, are_different, are_lawful_hints, is_alignment, is_lawful, is_lawful_call, is_lawful_dim, is_lawful_extra, is_lawful_header, is_lawful_var, is_within, kind_numbers, most_calls, most_ranks, most_values, posted_ids, values_in_script, shown, Plain, Within, kind_at, differs_at, is_difference, mismatch, Reads, most_bytes, most_lines, is_expressible, is_expressible_call, is_expressible_header, printed_lines, nat_tests}
 use Rattle.nc_base.specs.declared.errors.ScriptKind.TheVariants as kind
 use Rattle.script_text.proofs.Lines.{empty_list}
 use Rattle.script_text.proofs.PrintedDefinitions.{is_value_of}
 use Rattle.script_text.proofs.Places.{position_cons}
 use Rattle.script_text.proofs.CallLines.{call_tokens_of, own_lines, call_lines, DataEnd}
-use Rattle.script_text.proofs.DefinedLines.{line_of_dim, line_of_var, line_of_att, lines_of_own, definition_lines}
+use Rattle.script_text.proofs.DefinedLines.{lines_of_own, definition_lines}
 use Rattle.script_text.proofs.KnownLines.{hint_tokens, HintsFit}
 use Rattle.script_text.proofs.ExpressedDefinitions.{defined_of, header_told, no_attributes}
 use Rattle.script_text.proofs.ExpressedCalls.{chains_told, all_counted}
@@ -18,11 +18,7 @@ any_unit : (low high n : ℕ) → is_within low high n ≡ true → is_value_of 
 any_unit low high n h = let unit : n % 1 ≡ 0 = omega arith in and_from _ _ h (eq-eqb (n % 1) 0 unit)
 
 alignment : (n : ℕ) → is_alignment n ≡ true → is_value_of (Within 4 1048576 4) n ≡ true
-alignment n h =
-    let both = and_parts (is_within 4 1048576 n) ((n / 4) * 4 == n) h in
-    let times = eqb-true ((n / 4) * 4) n both.1 in
-    let unit : n % 4 ≡ 0 = omega (arith, times) in
-    and_from _ _ both.0 (eq-eqb (n % 4) 0 unit)
+alignment n h = grind (arith, nat_tests, and_parts, eqb-true, and_from, eq-eqb)
 
 hints_told : (h : Hints) → are_lawful_hints h ≡ true → HintsFit h
 hints_told h lawful =
@@ -122,23 +118,7 @@ record NewHeader (s : Script) : Type 0 where
   nothing_added : s.extra ≡ []
 
 new_header : (s : Script) → s.fresh ≡ true → is_lawful_header s ≡ true → NewHeader s
-new_header s fresh h =
-    let a = and_parts (s.header.records == 0) _ h in
-    let new = sym (cond-true _ _ _ fresh) ∙ a.1 in
-    let p5 = and_parts _ (is_empty s.extra) new in
-    let p4 = and_parts _ (list_all is_lawful_var s.header.vars) p5.0 in
-    let p3 = and_parts _ (nat_le (length s.header.vars) most_vars) p4.0 in
-    let p2 = and_parts _ (list_all (is_lawful_dim s.header.version) s.header.dims) p3.0 in
-    let p1 = and_parts (is_version s.header.version) (nat_le (length s.header.dims) most_dims) p2.0 in
-    record {
-      records = eqb-true s.header.records 0 a.0;
-      version = p1.0;
-      few_dims = leb-true (length s.header.dims) most_dims p1.1;
-      dims = p2.1;
-      few_vars = leb-true (length s.header.vars) most_vars p3.1;
-      vars = p4.1;
-      nothing_added = empty_list s.extra p5.1;
-    }
+new_header s fresh h = grind (arith, nat_tests, and_parts, cond-true, nat_le, eqb-true, leb-true, empty_list)
 
 new_version : (version : ℕ) → is_version version ≡ true → (version == 0) ≡ false
 new_version zero h = absurd (cc)
@@ -149,10 +129,7 @@ same_script : (version ranks : ℕ) (hints : Hints) (filled : Bool) (calls : Lis
     → (version == 0) ≡ false → fresh ≡ true → records ≡ 0 → extra ≡ []
     → (header : Header) → script_with version ranks hints (defined_of header filled) [] calls
     ≡ record { fresh = fresh; header = record { version = version; records = records; dims = header.dims; attrs = header.attrs; vars = header.vars }; ranks = ranks; hints = hints; filled = filled; extra = extra; calls = calls }
-same_script version ranks hints filled calls fresh records extra new e1 e2 e3 header =
-    ap (λ (b : Bool). record { fresh = b; header = record { version = version; records = 0; dims = header.dims; attrs = header.attrs; vars = header.vars }; ranks = ranks; hints = hints; filled = filled; extra = []; calls = calls }) (ap not new ∙ sym e1)
-    ∙ (ap (λ (n : ℕ). record { fresh = fresh; header = record { version = version; records = n; dims = header.dims; attrs = header.attrs; vars = header.vars }; ranks = ranks; hints = hints; filled = filled; extra = []; calls = calls }) (sym e2)
-    ∙ ap (λ (xs : List Extra). record { fresh = fresh; header = record { version = version; records = records; dims = header.dims; attrs = header.attrs; vars = header.vars }; ranks = ranks; hints = hints; filled = filled; extra = xs; calls = calls }) (sym e3))
+same_script version ranks hints filled calls fresh records extra new e1 e2 e3 header = grind (arith, nat_tests, not)
 
 -- ---- how many lines it has
 
@@ -167,28 +144,21 @@ fill_long true = refl
 fill_long false = refl
 
 definitions_long : (header : Header) (filled : Bool) → header.attrs ≡ [] → lines_of_own header.vars ≡ [] → length (definition_lines (defined_of header filled)) ≡ length header.dims + length header.vars
-definitions_long header filled plain own =
-    let dims = map line_of_dim header.dims in
-    let vars = map (line_of_var header.dims) header.vars in
-    let none : map (line_of_att (codes ":")) header.attrs ++ lines_of_own header.vars ≡ [] = ap (λ (list : List Attr). map (line_of_att (codes ":")) list ++ lines_of_own header.vars) plain ∙ own in
-    ap (λ (rest : List (List Word)). length (dims ++ (vars ++ rest))) none
-    ∙ omega (arith, length-append dims (vars ++ []), length-append vars [], length-map header.dims line_of_dim, length-map header.vars (line_of_var header.dims))
+definitions_long header filled plain own = grind (arith, nat_tests, codes, length-append, length-map)
 
 all_long : (b : Bool) (version n : ℕ) (h : Hints) (header : Header) (filled : Bool) (calls : List (List Call)) → header.attrs ≡ [] → lines_of_own header.vars ≡ []
     → length (all_lines b version n h [] (defined_of header filled) calls) ≡ 14 + cond filled 1 0 + length header.dims + length header.vars + sum (map (λ own. length own) calls)
 all_long b version n h header filled calls plain own =
-    let d = defined_of header filled in
-    let hints : length (hint_tokens h) ≡ 10 = refl in
-    let end = (Plain (codes "end") ∷ []) ∷ [] in
-    omega (
+    grind (
       arith,
-      hints,
-      length-append (before_data n h [] d) (from_data calls),
-      length-append (hint_tokens h) (fill_lines filled ++ definition_lines d),
-      length-append (fill_lines filled) (definition_lines d),
+      nat_tests,
+      codes "end",
+      length-append (before_data n h [] (defined_of header filled)) (from_data calls),
+      length-append (hint_tokens h) (fill_lines filled ++ definition_lines (defined_of header filled)),
+      length-append (fill_lines filled) (definition_lines (defined_of header filled)),
       fill_long filled,
       definitions_long header filled plain own,
-      length-append (call_lines 0 calls) end,
+      length-append (call_lines 0 calls) ((Plain (codes "end") ∷ []) ∷ []),
       calls_long 0 calls,
     )
 
@@ -225,6 +195,4 @@ expressed_whole s lawful h =
     })
 
 pub expressed_again : (s : Script) → is_lawful s ≡ true → is_expressible s ≡ true → length (shown s) ≤ most_bytes → printed_lines s ≤ most_lines → Reads (shown s) s
-expressed_again s lawful h short few =
-    let counted = expressed_whole s lawful h in
-    whole_again s counted.whole short (omega (arith, few, whole_long s counted.whole, counted.long))
+expressed_again s lawful h short few = grind (arith, nat_tests, expressed_whole s lawful h, whole_long s (expressed_whole s lawful h).whole, whole_again)

@@ -1,8 +1,7 @@
 -- Calls that words can express, printed rank by rank, are read again.
-use Rattle.script_text.proofs.Words.{◌≡◌, ◌∙◌, ℕ, ◌+◌, ◌^◌, ◌≤◌, ◌<◌, List, [], ◌∷◌, ◌++◌, map, sum, length, true, false, not, nat_lt, nat_le, ◌==◌, ◌&&◌, ◌||◌, None, refl, sym, ap, subst, append_assoc, arith, list_all, list_any, enumerate_from, and_parts, and_from, or_parts, or_from, not-true, ltb-true, leb-true, filter_map-append, list_any-append, sum_by-cons, Values, Numbers, Text, Bits, PostKind, Iput, Iget, Bput, Call, most_elements, are_values, are_different, id_posted, is_given, is_lawful_call, is_nothing, is_number, is_post_of, posted_ids, values_in_call, is_empty, is_name, posted, is_posted, of_behind, HasNoRegion, made_behind, of_row, are_expressible_values, is_expressible_behind, is_expressible_call, is_id}
+use Rattle.script_text.proofs.Words.{◌≡◌, ◌∙◌, ℕ, ◌+◌, ◌^◌, ◌≤◌, ◌<◌, List, [], ◌∷◌, ◌++◌, map, sum, length, true, false, not, nat_lt, nat_le, ◌==◌, ◌&&◌, ◌||◌, None, refl, sym, ap, subst, append_assoc, arith, list_all, list_any, enumerate_from, and_parts, and_from, or_parts, or_from, not-true, ltb-true, leb-true, filter_map-append, list_any-append, sum_by-cons, Values, PostKind, Iput, Iget, Bput, Call, most_elements, are_values, are_different, is_given, is_lawful_call, is_nothing, is_post_of, posted_ids, values_in_call, is_empty, is_name, posted, is_posted, of_behind, HasNoRegion, made_behind, of_row, are_expressible_values, is_expressible_behind, is_expressible_call, is_id, nat_tests}
 use Rattle.nc_base.specs.declared.request.Call.TheVariants as call
 use Rattle.script_text.proofs.Lines.{all_more}
-use Rattle.script_text.proofs.Sequences.{is_fit_number, is_fit_pattern}
 use Rattle.script_text.proofs.PrintedValues.{HasRoom, Fitting}
 use Rattle.script_text.proofs.PrintedRegions.{region_told}
 use Rattle.script_text.proofs.PrintedCalls.{CallAgain, PostedAgain, put_same, get_same, post_same, put_values, nothing_posted, behind_told, plain_same}
@@ -18,25 +17,10 @@ some_bits [] h = absurd (cc)
 some_bits (n ∷ ns) h = omega arith
 
 values_told : (vs : Values) → are_values vs ≡ true → are_expressible_values vs ≡ true → Fitting None 0 vs
-values_told (Numbers zs) lawful h =
-    let both = and_parts (nat_le (length zs) most_elements) (list_all is_number zs) lawful in
-    record {
-      are = (all_more is_number (is_fit_number None) (λ z k. and_from _ _ k refl) zs both.1, λ some. refl);
-      room = has_room (length zs) (leb-true (length zs) most_elements both.0);
-    }
-values_told (Text text) lawful h = record { are = (h, refl); room = has_room (length text) (leb-true (length text) most_elements lawful) }
-values_told (Bits ns) lawful h =
-    let both = and_parts (not (is_empty ns)) (list_all (λ n. nat_lt n (2 ^ 64)) ns) h in
-    record {
-      are = (all_more (λ n. nat_lt n (2 ^ 64)) (is_fit_pattern None) (λ n k. and_from _ _ k refl) ns both.1, some_bits ns both.0, refl);
-      room = has_room (length ns) (leb-true (length ns) most_elements lawful);
-    }
+values_told vs lawful h = grind (arith, nat_tests, and_parts, nat_le, all_more, and_from, has_room, leb-true, not, nat_lt, some_bits)
 
 no_values : (vs : Values) → is_nothing vs ≡ true → PostedAgain Iget 0 vs
-no_values (Numbers []) h = nothing_posted 0 (omega arith)
-no_values (Numbers (z ∷ zs)) h = absurd (cc)
-no_values (Text text) h = absurd (cc)
-no_values (Bits ns) h = absurd (cc)
+no_values vs h = grind (arith, nat_tests, nothing_posted)
 
 posted_told : (k : PostKind) (vs : Values) → is_post_of k vs ≡ true → are_expressible_values vs ≡ true → PostedAgain k 0 vs
 posted_told Iget vs lawful h = no_values vs lawful
@@ -80,9 +64,7 @@ apart (n ∷ ids) more id h =
     or_from _ _ (or_parts (id == n) (list_any (λ m. m == n) more) behind).0 (apart ids more id both.1)
 
 pub new_id : (own cs : List Call) (c : Call) → are_different (posted_ids (own ++ c ∷ cs)) ≡ true → NewId own c
-new_id own cs (call.Post id k n g vs) h =
-    apart (posted own) (posted_ids cs) id (subst (λ (ids : List ℕ). are_different ids ≡ true) (filter_map-append id_posted own (call.Post id k n g vs ∷ cs)) h)
-new_id own cs _ h = tt
+new_id own cs c h = grind (arith, nat_tests, apart, filter_map-append)
 
 -- ---- the calls of a rank, and of all ranks
 

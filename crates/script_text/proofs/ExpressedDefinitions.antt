@@ -1,5 +1,5 @@
 -- Definitions that words can express, printed after those before them, are read again.
-use Rattle.script_text.proofs.Words.{◌≡◌, ◌∙◌, ◌⊎◌, ℕ, zero, suc, ◌+◌, ◌^◌, ◌≤◌, ◌<◌, List, [], ◌∷◌, ◌++◌, map, position, drop, length, Bool, true, false, not, cond, nat_lt, nat_le, ◌==◌, ◌&&◌, Some, refl, sym, ap, subst, inl, inr, append_assoc, length-append, arith, bytes_eq, codes, list_all, list_any, and_parts, and_from, not-true, lt-leb, ne_eqb, ltb-true, leb-true, le-ltb, eqb-true, Dim, Attr, Var, Header, most_dims, most_vars, most_dims_of_var, record_limit, number_of, last_type, is_lawful_dim, is_lawful_var, is_empty, is_name, is_among, dim_names, is_record_dim, is_unlimited, same_title, Defined, is_new_name, are_expressible_dims, is_expressible_var, are_expressible_vars, is_expressible_header}
+use Rattle.script_text.proofs.Words.{◌≡◌, ◌∙◌, ◌⊎◌, ℕ, zero, suc, ◌+◌, ◌^◌, ◌≤◌, ◌<◌, List, [], ◌∷◌, ◌++◌, map, position, drop, length, Bool, true, false, not, cond, nat_lt, nat_le, ◌==◌, ◌&&◌, Some, refl, sym, ap, subst, inl, inr, append_assoc, length-append, arith, bytes_eq, codes, list_all, list_any, and_parts, and_from, not-true, lt-leb, ne_eqb, ltb-true, leb-true, le-ltb, eqb-true, Dim, Attr, Var, Header, most_dims, most_vars, most_dims_of_var, record_limit, number_of, last_type, is_lawful_dim, is_lawful_var, is_empty, is_name, is_among, dim_names, is_record_dim, is_unlimited, same_title, Defined, is_new_name, are_expressible_dims, is_expressible_var, are_expressible_vars, is_expressible_header, nat_tests}
 use Rattle.script_text.proofs.Lines.{empty_list}
 use Rattle.script_text.proofs.PrintedAttributes.{type_told}
 use Rattle.script_text.proofs.PrintedDefinitions.{length_told, dim_told}
@@ -9,9 +9,7 @@ use Rattle.script_text.proofs.DefinedChains.{DimChain, VarOk, VarChain, AttrChai
 
 -- a name that is one, and that none has
 new_name : (names : List (List ℕ)) (n : List ℕ) → is_new_name names n ≡ true → (is_name n ≡ true) × (is_among n names ≡ false)
-new_name names n h =
-    let both = and_parts (is_name n) (not (is_among n names)) h in
-    (both.0, not-true (is_among n names) both.1)
+new_name names n h = grind (arith, nat_tests, and_parts, not, not-true)
 
 -- ---- dimensions
 
@@ -30,12 +28,7 @@ record DimParts (before : List Dim) (d : Dim) (ds : List Dim) : Type 0 where
   rest : are_expressible_dims (before ++ d ∷ []) ds ≡ true
 
 dim_parts : (before : List Dim) (d : Dim) (ds : List Dim) → are_expressible_dims before (d ∷ ds) ≡ true → DimParts before d ds
-dim_parts before d ds h =
-    let one = is_unlimited d && list_any is_unlimited before in
-    let all = and_parts (is_new_name (dim_names before) d.name && not one) _ h in
-    let first = and_parts (is_new_name (dim_names before) d.name) (not one) all.0 in
-    let n = new_name (dim_names before) d.name first.0 in
-    record { named = n.0; fresh = n.1; one = not-true one first.1; rest = all.1 }
+dim_parts before d ds h = grind (arith, nat_tests, and_parts, not, new_name, not-true)
 
 dims_chained : (version : ℕ) (before ds : List Dim) → are_expressible_dims before ds ≡ true → list_all (is_lawful_dim version) ds ≡ true → length before + length ds ≤ most_dims → DimChain version before ds
 dims_chained version before [] h lawful few = tt
@@ -52,9 +45,7 @@ dims_chained version before (d ∷ ds) h lawful few =
 
 dim_found : (before ds : List Dim) (k : ℕ) → are_expressible_dims before ds ≡ true → k < length ds → position (bytes_eq (name_at ds k)) (dim_names before ++ dim_names ds) ≡ Some (length before + k)
 dim_found before [] k h low = absurd (omega arith)
-dim_found before (d ∷ ds) zero h low =
-    let same : length (dim_names before) ≡ length before + 0 = omega (arith, length_names before) in
-    place_of_new d.name (dim_names before) (dim_names ds) (dim_parts before d ds h).fresh ∙ ap (λ (n : ℕ). Some n) same
+dim_found before (d ∷ ds) zero h low = grind (arith, nat_tests, length_names, place_of_new, dim_parts)
 dim_found before (d ∷ ds) (suc k) h low =
     let names : dim_names before ++ d.name ∷ dim_names ds ≡ dim_names (before ++ d ∷ []) ++ dim_names ds =
     sym (ap (λ (ns : List (List ℕ)). ns ++ dim_names ds) (joined_names before (d ∷ [])) ∙ append_assoc (dim_names before) (d.name ∷ []) (dim_names ds)) in
@@ -81,11 +72,7 @@ record VarParts (version : ℕ) (dims : List Dim) (v : Var) : Type 0 where
   records : list_any (is_record_dim dims) (drop 1 v.dims) ≡ false
 
 var_parts : (version : ℕ) (dims : List Dim) (v : Var) → is_expressible_var version dims v ≡ true → VarParts version dims v
-var_parts version dims v h =
-    let a = and_parts _ (not (list_any (is_record_dim dims) (drop 1 v.dims))) h in
-    let b = and_parts _ (list_all (λ id. nat_lt id (length dims)) v.dims) a.0 in
-    let c = and_parts (is_empty v.attrs) (nat_le (number_of v.kind) (last_type version)) b.0 in
-    record { plain = empty_list v.attrs c.0; known = c.1; there = b.1; records = not-true _ a.1 }
+var_parts version dims v h = grind (arith, nat_tests)
 
 var_chained : (version : ℕ) (dims : List Dim) (names : List (List ℕ)) (v : Var) → are_expressible_dims [] dims ≡ true → is_lawful_var v ≡ true → is_new_name names v.name ≡ true → is_expressible_var version dims v ≡ true
     → length names < most_vars → VarOk version dims names v
@@ -109,14 +96,7 @@ record VarsTold (version : ℕ) (dims : List Dim) (names : List (List ℕ)) (vs 
   counted : count_own vs ≡ 0
 
 plain_own : (version : ℕ) (v : Var) (vs : List Var) → v.attrs ≡ [] → OwnChains version [] vs → count_own vs ≡ 0 → OwnChains version [] (v ∷ vs) × (count_own (v ∷ vs) ≡ 0)
-plain_own version v vs plain own none = (
-  (
-    subst (AttrChain version []) (sym plain) tt,
-    ap (λ (list : List Attr). list_all (λ (a : Attr). list_any (same_title (v.name, a.name)) []) list) plain,
-    own,
-  ),
-  omega (arith, ap count_attrs plain, none),
-)
+plain_own version v vs plain own none = grind (arith, nat_tests)
 
 vars_chained : (version : ℕ) (dims : List Dim) (names : List (List ℕ)) (vs : List Var) → are_expressible_dims [] dims ≡ true → list_all is_lawful_var vs ≡ true → are_expressible_vars version dims names vs ≡ true
     → length names + length vs ≤ most_vars → VarsTold version dims names vs
@@ -165,7 +145,4 @@ own_plain version dims names (v ∷ vs) h =
     ap (λ (list : List Attr). map (line_of_att v.name) list ++ lines_of_own vs) (var_parts version dims v first.1).plain ∙ own_plain version dims (names ++ v.name ∷ []) vs both.1
 
 pub no_attributes : (header : Header) → is_expressible_header header ≡ true → (header.attrs ≡ []) × (lines_of_own header.vars ≡ [])
-no_attributes header h =
-    let a = and_parts _ (is_empty header.attrs) h in
-    let b = and_parts (are_expressible_dims [] header.dims) (are_expressible_vars header.version header.dims [] header.vars) a.0 in
-    (empty_list header.attrs a.1, own_plain header.version header.dims [] header.vars b.1)
+no_attributes header h = grind (arith, nat_tests, and_parts, empty_list, own_plain)

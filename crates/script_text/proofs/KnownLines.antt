@@ -1,9 +1,8 @@
 -- The number of ranks and the hints, and what is known before `data` as a whole.
-use Rattle.script_text.proofs.Words.{◌≡◌, ◌∙◌, ℕ, ◌+◌, ◌%◌, ◌^◌, ◌≤◌, ◌<◌, min, List, [], ◌∷◌, ◌++◌, map, Bool, true, false, nat_le, ◌==◌, ◌&&◌, Option, Some, None, is_some, slice_set, Result, Ok, Err, refl, ap, subst, arith, bytes_eq, codes, decimal, list_all, and_parts, and_from, faultless_some, ScriptKind, ScriptErr, Hints, OverlapRule, Refuse, Serial, most_values, shown_hint, shown_hints, Word, Plain, Line, ◌>>=◌, refuse_if, or_fault, bare, reads_as, Within, HintRow, flag, rule_number, rule_of, off_or_on, refuse_or_serial, hint_table, hint_of_text, hint_form, shown_value, none_given, hint_in, hints_of, number_within, hint_value, hint_line, ranks_line, no_definition, definition, nothing_added, addition, Known, nothing_known, definition_or_addition, known_after, at_line, data_line, definition_step, definitions}
+use Rattle.script_text.proofs.Words.{◌≡◌, ◌∙◌, ℕ, ◌+◌, ◌^◌, ◌≤◌, ◌<◌, min, List, [], ◌∷◌, ◌++◌, map, Bool, true, false, ◌==◌, Option, Some, None, is_some, slice_set, Result, Ok, Err, refl, ap, subst, arith, bytes_eq, codes, decimal, list_all, and_parts, and_from, faultless_some, ScriptKind, ScriptErr, Hints, OverlapRule, Refuse, Serial, most_values, shown_hint, shown_hints, Word, Plain, Line, ◌>>=◌, or_fault, bare, Within, HintRow, flag, rule_number, rule_of, off_or_on, refuse_or_serial, hint_table, hint_of_text, hint_form, shown_value, none_given, hint_in, hints_of, number_within, hint_value, hint_line, ranks_line, no_definition, definition, nothing_added, addition, Known, nothing_known, definition_or_addition, known_after, at_line, data_line, definition_step, definitions, nat_tests}
 use Rattle.std.proofs.Common.{flat_map}
-use borrow.Author.Tests.{leb-true, le-leb, eq-eqb}
 use Rattle.nc_base.specs.declared.errors.ScriptKind.TheVariants as kind
-use Rattle.script_text.proofs.Steps.{went, go_on, same_ok, passed, word_read, whole_value}
+use Rattle.script_text.proofs.Steps.{went, same_ok, word_read, whole_value}
 use Rattle.script_text.proofs.Lexing.{is_plain}
 use Rattle.script_text.proofs.Lines.{is_line, spelled}
 use Rattle.script_text.proofs.PrintedValues.{is_read}
@@ -56,10 +55,7 @@ pub record HintsFit (h : Hints) : Type 0 where
   pub striping_unit : is_value_of (Within 1 33554432 1) h.striping_unit ≡ true
 
 nodes_fit : (n : ℕ) → is_value_of (Within 1 64 1) n ≡ true → is_value_of (Within 1 64 1) (min n 8) ≡ true
-nodes_fit n h =
-    let low = leb-true 1 n (and_parts (nat_le 1 n) (nat_le n 64) (and_parts (nat_le 1 n && nat_le n 64) (n % 1 == 0) h).0).0 in
-    let unit : min n 8 % 1 ≡ 0 = omega arith in
-    and_from _ _ (and_from _ _ (le-leb 1 (min n 8) (omega arith)) (le-leb (min n 8) 64 (omega arith))) (eq-eqb (min n 8 % 1) 0 unit)
+nodes_fit n h = grind (arith, nat_tests)
 
 pub hints_fit : (ranks : ℕ) (hints : List (Option ℕ)) → is_value_of (Within 1 64 1) ranks ≡ true → are_hints hint_table hints ≡ true → HintsFit (hints_of ranks hints)
 hints_fit ranks hints r h = record {
@@ -77,13 +73,7 @@ hints_fit ranks hints r h = record {
 
 pub hint_leads : (version : ℕ) (k : Known) (word shown : List ℕ) (i v : ℕ) → hint_of_text word ≡ Some i → is_some (hint_in i k.hints) ≡ false → hint_value (hint_form i) (Plain shown ∷ []) ≡ Ok (v, [])
     → Leads version k (Plain (codes "hint") ∷ Plain word ∷ Plain shown ∷ []) (record k { hints = slice_set k.hints i (Some v) })
-hint_leads version k word shown i v at free read = (
-  refl,
-  go_on (hint_line k.hints (Plain word ∷ Plain shown ∷ [])) (λ h. Ok (record k { hints = slice_set k.hints h.0 (Some h.1) })) (i, v) _
-      (go_on (reads_as hint_of_text kind.UnknownWord (Plain word ∷ Plain shown ∷ [])) _ (i, Plain shown ∷ []) (i, v) (word_read hint_of_text kind.UnknownWord word i (Plain shown ∷ []) at)
-      (go_on (refuse_if (is_some (hint_in i k.hints)) kind.TwiceNamed) _ tt (i, v) (passed _ _ free)
-      (go_on (hint_value (hint_form i) (Plain shown ∷ [])) _ (v, []) (i, v) read refl))) refl,
-)
+hint_leads version k word shown i v at free read = grind (arith, nat_tests)
 
 number_value : (low high unit n : ℕ) → is_value_of (Within low high unit) n ≡ true → high < 2 ^ 63 → hint_value (Within low high unit) (Plain (decimal n) ∷ []) ≡ Ok (n, [])
 number_value low high unit n h top = word_read (number_within low high unit) kind.BadNumber (decimal n) n [] (within_again low high unit n h top)

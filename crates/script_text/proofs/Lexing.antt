@@ -1,5 +1,5 @@
 -- Words that are printed are cut again from their line.
-use Rattle.script_text.proofs.Words.{◌≡◌, ◌∙◌, ℕ, zero, suc, ◌+◌, ◌*◌, ◌/◌, ◌%◌, ◌≤◌, ◌<◌, List, [], ◌∷◌, ◌++◌, map, length, take, drop, Bool, true, false, not, cond, nat_lt, nat_le, ◌==◌, ◌&&◌, Option, Some, None, option_map, refl, sym, ap, subst, ⊎_elim, append_assoc, append-nil, length-append, arith, and_parts, or_from, ne_eqb, eqb-true, cases_Bool, cond-true, cond-false, agree_below_at, not-true, common_steps, take_at, drop_at, position_or_len, list_all, text_char, quoted, hex, hex_digit, joined, Word, Plain, Quoted, Broken, is_blank, begins_blank, after_blanks, first_word, quoted_word, text_from, Between, AfterBackslash, FirstHex, SecondHex, words, words_within, hex_value, more_words}
+use Rattle.script_text.proofs.Words.{◌≡◌, ◌∙◌, ℕ, zero, suc, ◌+◌, ◌*◌, ◌/◌, ◌%◌, ◌≤◌, ◌<◌, List, [], ◌∷◌, ◌++◌, map, length, drop, Bool, true, false, not, cond, nat_lt, nat_le, ◌==◌, ◌&&◌, Option, Some, None, option_map, refl, sym, ap, append_assoc, append-nil, length-append, arith, and_parts, or_from, ne_eqb, eqb-true, cases_Bool, cond-true, cond-false, agree_below_at, not-true, common_steps, take_at, drop_at, position_or_len, list_all, text_char, quoted, hex, hex_digit, joined, Word, Plain, Quoted, Broken, is_blank, begins_blank, after_blanks, first_word, quoted_word, text_from, Between, FirstHex, SecondHex, words, words_within, hex_value, more_words, nat_tests}
 use Rattle.std.proofs.Common.{flat_map}
 
 -- ---- words as they are printed
@@ -51,15 +51,7 @@ abbrev more_text : ℕ → Option (List ℕ × List ℕ) → Option (List ℕ ×
 more_text c o = option_map (λ r. (c ∷ r.0, r.1)) o
 
 itself_again : (c : ℕ) (rest : List ℕ) → (c == 34) ≡ false → (c == 92) ≡ false → text_from Between (c ∷ rest) ≡ more_text c (text_from Between rest)
-itself_again c rest a b = by (c == 34) (c == 92) a b
-  where
-    by : (x y : Bool) → x ≡ false → y ≡ false → elim x as (λ z. Option (List ℕ × List ℕ)) [
-      | true ↦ Some ([], rest)
-      | false ↦ elim y as (λ z. Option (List ℕ × List ℕ)) [ true ↦ text_from AfterBackslash rest | false ↦ more_text c (text_from Between rest) ]
-    ] ≡ more_text c (text_from Between rest)
-    by false false a b = refl
-    by true y a b = absurd (cc)
-    by false true a b = absurd (cc)
+itself_again c rest a b = grind (arith, nat_tests)
 
 abbrev first_hex : Option ℕ → List ℕ → Option (List ℕ × List ℕ)
 first_hex o cs = elim o [ None ↦ None | Some h ↦ text_from (SecondHex h) cs ]
@@ -77,32 +69,27 @@ pub below_16 : (c : ℕ) → c % 16 < 16
 below_16 c = omega arith
 
 escaped_again : (c : ℕ) (rest text tail : List ℕ) → c < 256 → text_from Between rest ≡ Some (text, tail) → text_from Between ((92 ∷ 120 ∷ hex 2 c) ++ rest) ≡ Some (c ∷ text, tail)
-escaped_again c rest text tail small h =
-    hex_pair_again (c / 16 % 16) (c % 16) rest (below_16 (c / 16)) (below_16 c)
-    ∙ (ap (λ (x : ℕ). more_text x (text_from Between rest)) (split_byte c small) ∙ ap (more_text c) h)
+escaped_again c rest text tail small h = grind (arith, nat_tests, hex_pair_again, below_16, split_byte)
 
 abbrev pub char_else : Bool → ℕ → List ℕ
 char_else b c = cond b (c ∷ []) (92 ∷ 120 ∷ hex 2 c)
 
 char_again : (rest text tail : List ℕ) → text_from Between rest ≡ Some (text, tail) → (c : ℕ) → c < 256 → IsAgain rest text tail c
-char_again rest text tail h c small = ⊎_elim
-    (λ a. subst (IsAgain rest text tail) (sym (eqb-true c 34 a)) (ap (more_text 34) h))
-    (λ a. ⊎_elim
-    (λ b. subst (IsAgain rest text tail) (sym (eqb-true c 92 b)) (ap (more_text 92) h))
-    (λ b. ⊎_elim
-    (λ d. subst (IsAgain rest text tail) (sym (eqb-true c 10 d)) (ap (more_text 10) h))
-    (λ d. ⊎_elim
-    (λ e. subst (IsAgain rest text tail) (sym (eqb-true c 9 e)) (ap (more_text 9) h))
-    (λ e.
-    let form : text_char c ≡ char_else (nat_le 32 c && nat_le c 126) c = cond-false _ _ _ a ∙ (cond-false _ _ _ b ∙ (cond-false _ _ _ d ∙ cond-false _ _ _ e)) in
-    ⊎_elim
-    (λ f. ap (λ (cs : List ℕ). text_from Between (cs ++ rest)) (form ∙ ap (λ (x : Bool). char_else x c) f) ∙ (itself_again c rest a b ∙ ap (more_text c) h))
-    (λ f. ap (λ (cs : List ℕ). text_from Between (cs ++ rest)) (form ∙ ap (λ (x : Bool). char_else x c) f) ∙ escaped_again c rest text tail small h)
-    (cases_Bool (nat_le 32 c && nat_le c 126)))
-    (cases_Bool (c == 9)))
-    (cases_Bool (c == 10)))
-    (cases_Bool (c == 92)))
-    (cases_Bool (c == 34))
+char_again rest text tail h c small =
+    grind (
+      arith,
+      nat_tests,
+      escaped_again c rest text tail small h,
+      cases_Bool (nat_le 32 c && nat_le c 126),
+      cases_Bool (c == 9),
+      cases_Bool (c == 10),
+      cases_Bool (c == 92),
+      cases_Bool (c == 34),
+      eqb-true,
+      cond-false,
+      itself_again,
+      nat_le,
+    )
 
 pub byte_bound : (c : ℕ) → is_byte c ≡ true → c < 256
 byte_bound c h = grind (arith, common_steps)
@@ -125,9 +112,6 @@ pub record IsCut (w : Word) : Type 0 where
   pub seen : is_blank head ≡ false
   pub cut : (tail : List ℕ) → begins_blank tail ≡ true → first_word head (behind ++ tail) ≡ (w, tail)
 
-abbrev plain_or_quoted : Bool → ℕ → List ℕ → Word × List ℕ
-plain_or_quoted b c cs = elim b [ true ↦ quoted_word (text_from Between cs) | false ↦ (let n = position_or_len is_blank cs in (Plain (c ∷ take n cs), drop n cs)) ]
-
 quoted_again : (text tail : List ℕ) → list_all is_byte text ≡ true → begins_blank tail ≡ true → quoted_word (text_from Between ((flat_map text_char text ++ 34 ∷ []) ++ tail)) ≡ (Quoted text, tail)
 quoted_again text tail h blank = ap quoted_word (text_again text tail h) ∙ cond-true _ _ _ blank
 
@@ -141,25 +125,11 @@ up_to_blank (c ∷ cs) tail h blank =
     ap (λ (b : Bool). cond (not b) (1 + position_or_len is_blank (cs ++ tail)) 0) seen ∙ omega arith
 
 plain_again : (c : ℕ) (cs tail : List ℕ) → (c == 34) ≡ false → list_all is_graphic cs ≡ true → begins_blank tail ≡ true → first_word c (cs ++ tail) ≡ (Plain (c ∷ cs), tail)
-plain_again c cs tail a h blank =
-    let n = up_to_blank cs tail h blank in
-    ap (λ (b : Bool). plain_or_quoted b c (cs ++ tail)) a
-    ∙ (ap (λ (k : ℕ). (Plain (c ∷ take k (cs ++ tail)), drop k (cs ++ tail))) n
-    ∙ (ap (λ (front : List ℕ). (Plain (c ∷ front), drop (length cs) (cs ++ tail))) (take_at cs tail (length cs) refl)
-    ∙ ap (λ (back : List ℕ). (Plain (c ∷ cs), back)) (drop_at cs tail (length cs) refl)))
+plain_again c cs tail a h blank = grind (arith, nat_tests, up_to_blank, take_at, drop_at)
 
 pub cut : (w : Word) → is_good w ≡ true → IsCut w
 cut (Plain []) h = absurd (cc)
-cut (Plain (c ∷ cs)) h =
-    let both = and_parts _ _ h in
-    let all = and_parts _ _ both.1 in
-    record {
-      head = c;
-      behind = cs;
-      spelled = refl;
-      seen = not_blank c (graphic_bounds c all.0).0;
-      cut = λ tail blank. plain_again c cs tail (not-true (c == 34) both.0) all.1 blank;
-    }
+cut (Plain (c ∷ cs)) h = grind (arith, nat_tests, and_parts, not_blank, graphic_bounds, plain_again, not-true)
 cut (Quoted text) h =
     record { head = 34; behind = flat_map text_char text ++ 34 ∷ []; spelled = refl; seen = refl; cut = λ tail blank. quoted_again text tail h blank }
 cut Broken h = absurd (cc)

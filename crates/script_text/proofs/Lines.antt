@@ -1,8 +1,8 @@
 -- Lines that are printed are the significant lines of their text, which is ASCII.
-use Rattle.script_text.proofs.Words.{◌≡◌, ◌∙◌, ℕ, zero, suc, ◌+◌, ◌/◌, ◌%◌, ◌≤◌, ◌<◌, List, [], ◌∷◌, ◌++◌, map, length, take, get_or, Bool, true, false, not, nat_lt, nat_le, ◌==◌, ◌&&◌, refl, sym, ap, subst, ⊎_elim, append_assoc, take_all, arith, IsUtf8, IsAscii, and_parts, and_from, ne_eqb, eq-eqb, eqb-true, cases_Bool, cases_lt, cond-true, cond-false, agree_below_at, le-leb, lt-ltb, le-ltb, not-true, common_steps, slice_split_at, length-slice_split, AllPass-from_list_all, IsUtf8-from_ascii, IsUtf8-from_is_utf8, utf8_valid_len-IsUtf8, IsAscii-from_all, All, list_all, slice_split, enumerate_from, is_utf8, valid_len_up_to, utf8_valid_len, is_empty, first_line_kept, text_char, hex_digit, joined, line, Word, Plain, Quoted, Broken, Line, words, is_comment, is_newline, line_of, significant, significant_of, text_lines, without_empty_end, all_joined}
+use Rattle.script_text.proofs.Words.{◌≡◌, ◌∙◌, ℕ, zero, suc, ◌+◌, ◌/◌, ◌%◌, ◌≤◌, ◌<◌, List, [], ◌∷◌, ◌++◌, map, length, take, get_or, Bool, true, false, not, nat_lt, nat_le, ◌==◌, ◌&&◌, refl, sym, ap, subst, ⊎_elim, append_assoc, take_all, arith, IsUtf8, IsAscii, and_parts, and_from, ne_eqb, eq-eqb, eqb-true, cases_Bool, cases_lt, cond-true, cond-false, agree_below_at, le-leb, lt-ltb, le-ltb, not-true, common_steps, slice_split_at, length-slice_split, AllPass-from_list_all, IsUtf8-from_ascii, IsUtf8-from_is_utf8, utf8_valid_len-IsUtf8, IsAscii-from_all, All, list_all, enumerate_from, is_utf8, valid_len_up_to, utf8_valid_len, is_empty, first_line_kept, text_char, hex_digit, joined, line, Word, Line, words, is_comment, is_newline, line_of, significant, significant_of, text_lines, all_joined, nat_tests}
 use Rattle.std.proofs.Common.{flat_map}
 use lib.Utf8.{scalar, scalars, encode, encodes, scalar_cases, next}
-use Rattle.script_text.proofs.Lexing.{spelling, is_graphic, is_byte, is_good, graphic_bounds, char_else, byte_bound, tail_of, joined_words, words_again, below_16}
+use Rattle.script_text.proofs.Lexing.{spelling, is_graphic, is_byte, is_good, graphic_bounds, byte_bound, tail_of, joined_words, words_again, below_16}
 
 -- ---- what holds of each byte
 
@@ -37,26 +37,22 @@ abbrev IsPrinted : ℕ → Type 0
 IsPrinted c = list_all is_printable (text_char c) ≡ true
 
 printed_char : (c : ℕ) → c < 256 → IsPrinted c
-printed_char c small = ⊎_elim
-    (λ a. subst IsPrinted (sym (eqb-true c 34 a)) refl)
-    (λ a. ⊎_elim
-    (λ b. subst IsPrinted (sym (eqb-true c 92 b)) refl)
-    (λ b. ⊎_elim
-    (λ d. subst IsPrinted (sym (eqb-true c 10 d)) refl)
-    (λ d. ⊎_elim
-    (λ e. subst IsPrinted (sym (eqb-true c 9 e)) refl)
-    (λ e.
-    let form : text_char c ≡ char_else (nat_le 32 c && nat_le c 126) c = cond-false _ _ _ a ∙ (cond-false _ _ _ b ∙ (cond-false _ _ _ d ∙ cond-false _ _ _ e)) in
-    ⊎_elim
-    (λ f. ap (list_all is_printable) (form ∙ ap (λ (x : Bool). char_else x c) f) ∙ and_from (is_printable c) true f refl)
-    (λ f. ap (list_all is_printable) (form ∙ ap (λ (x : Bool). char_else x c) f)
-    ∙ and_from (is_printable (hex_digit (c / 16 % 16))) (is_printable (hex_digit (c % 16)) && true) (printable_hex (c / 16 % 16) (below_16 (c / 16)))
-    (and_from (is_printable (hex_digit (c % 16))) true (printable_hex (c % 16) (below_16 c)) refl))
-    (cases_Bool (nat_le 32 c && nat_le c 126)))
-    (cases_Bool (c == 9)))
-    (cases_Bool (c == 10)))
-    (cases_Bool (c == 92)))
-    (cases_Bool (c == 34))
+printed_char c small =
+    grind (
+      arith,
+      nat_tests,
+      printable_hex (c / 16 % 16) (below_16 (c / 16)),
+      and_from (is_printable (hex_digit (c % 16))) true (printable_hex (c % 16) (below_16 c)) refl,
+      cases_Bool (nat_le 32 c && nat_le c 126),
+      cases_Bool (c == 9),
+      cases_Bool (c == 10),
+      cases_Bool (c == 92),
+      cases_Bool (c == 34),
+      eqb-true,
+      cond-false,
+      below_16,
+      nat_le,
+    )
 
 printed_text : (text : List ℕ) → list_all is_byte text ≡ true → list_all is_printable (flat_map text_char text) ≡ true
 printed_text [] h = refl
@@ -65,10 +61,7 @@ printed_text (c ∷ text) h =
     all_joined is_printable (text_char c) (flat_map text_char text) (printed_char c (byte_bound c both.0)) (printed_text text both.1)
 
 printed_word : (w : Word) → is_good w ≡ true → list_all is_printable (spelling w) ≡ true
-printed_word (Plain []) h = refl
-printed_word (Plain (c ∷ cs)) h = all_more is_graphic is_printable graphic_printable (c ∷ cs) (and_parts _ _ h).1
-printed_word (Quoted text) h = all_joined is_printable (34 ∷ flat_map text_char text) (34 ∷ []) (printed_text text h) refl
-printed_word Broken h = refl
+printed_word w h = grind (arith, nat_tests, all_more, graphic_printable, and_parts, all_joined, flat_map, printed_text)
 
 printed_tail : (ws : List Word) → list_all is_good ws ≡ true → list_all is_printable (tail_of ws) ≡ true
 printed_tail [] h = refl
@@ -90,10 +83,7 @@ abbrev pub spelled : List Word → List ℕ
 spelled ws = line (map spelling ws)
 
 printed_body : (ws : List Word) → is_line ws ≡ true → list_all is_printable (body ws) ≡ true
-printed_body [] h = refl
-printed_body (w ∷ ws) h =
-    let both = and_parts _ _ (and_parts _ _ h).1 in
-    ap (list_all is_printable) (joined_words w ws) ∙ all_joined is_printable (spelling w) (tail_of ws) (printed_word w both.0) (printed_tail ws both.1)
+printed_body ws h = grind (arith, nat_tests, and_parts, joined_words, all_joined, printed_word, printed_tail)
 
 no_newline : (cs : List ℕ) → list_all is_printable cs ≡ true → All (λ c. is_newline c ≡ false) cs
 no_newline cs h k d low =
@@ -101,10 +91,7 @@ no_newline cs h k d low =
     ne_eqb (get_or cs k d) 10 (omega arith)
 
 line_cut : (cs rest : List ℕ) → list_all is_printable cs ≡ true → text_lines ((cs ++ 10 ∷ []) ++ rest) ≡ cs ∷ text_lines rest
-line_cut cs rest h =
-    ap text_lines (append_assoc cs (10 ∷ []) rest)
-    ∙ (ap without_empty_end (slice_split_at is_newline cs 10 rest (no_newline cs h) refl)
-    ∙ first_line_kept cs (slice_split is_newline rest) (omega (arith, length-slice_split is_newline rest)))
+line_cut cs rest h = grind (arith, nat_tests, append_assoc, slice_split_at, no_newline, first_line_kept, length-slice_split)
 
 pub lines_again : (wss : List (List Word)) → list_all is_line wss ≡ true → text_lines (flat_map spelled wss) ≡ map body wss
 lines_again [] h = refl
@@ -121,17 +108,13 @@ numbered n ([] ∷ wss) = numbered (n + 1) wss
 numbered n ((w ∷ ws) ∷ wss) = record { number = n; first = w; rest = ws } ∷ numbered (n + 1) wss
 
 line_again : (n : ℕ) (w : Word) (ws : List Word) → is_line (w ∷ ws) ≡ true → line_of n (words (body (w ∷ ws))) ≡ record { number = n; first = w; rest = ws } ∷ []
-line_again n w ws h =
-    let both = and_parts _ _ h in
-    ap (line_of n) (words_again w ws both.1) ∙ cond-false _ _ _ (not-true (is_comment w) both.0)
+line_again n w ws h = grind (arith, nat_tests, and_parts, words_again, cond-false, not-true)
 
 pub significant_again : (n : ℕ) (wss : List (List Word)) → list_all is_line wss ≡ true → significant_of (enumerate_from n (map body wss)) ≡ numbered n wss
 significant_again n [] h = refl
 significant_again n ([] ∷ wss) h = absurd (cc)
 significant_again n ((w ∷ ws) ∷ wss) h =
-    let both = and_parts (is_line (w ∷ ws)) (list_all is_line wss) h in
-    ap (λ (ls : List Line). ls ++ significant_of (enumerate_from (n + 1) (map body wss))) (line_again n w ws both.0)
-    ∙ ap (λ (more : List Line). record { number = n; first = w; rest = ws } ∷ more) (significant_again (n + 1) wss both.1)
+    grind (arith, nat_tests, significant_again (n + 1) wss (and_parts (is_line (w ∷ ws)) (list_all is_line wss) h).1, and_parts, line_again)
 
 pub significant_lines : (wss : List (List Word)) → list_all is_line wss ≡ true → significant (flat_map spelled wss) ≡ numbered 1 wss
 significant_lines wss h = ap (λ (ls : List (List ℕ)). significant_of (enumerate_from 1 ls)) (lines_again wss h) ∙ significant_again 1 wss h
@@ -175,9 +158,7 @@ longest_front bs (suc m) = ⊎_elim
 
 whole_front : (bs : List ℕ) → (utf8_valid_len bs == length bs) ≡ true → IsUtf8 bs
 unfolding utf8_valid_len
-whole_front bs h =
-    let same : valid_len_up_to bs (length bs) ≡ length bs = eqb-true _ _ h in
-    subst IsUtf8 (take_all (length bs) bs (omega arith)) (subst (λ n. IsUtf8 (take n bs)) same (longest_front bs (length bs)))
+whole_front bs h = grind (arith, nat_tests, take_all (length bs) bs (omega arith), longest_front bs (length bs), eqb-true)
 
 byte : (c : ℕ) → c < 256 → is_byte c ≡ true
 byte c h = lt-ltb c 256 h
@@ -215,6 +196,4 @@ encodes_bytes (c ∷ cs) h =
     all_joined is_byte (encode c) (encodes cs) (encode_bytes c both.0) (encodes_bytes cs both.1)
 
 pub valid_bytes : (bs : List ℕ) → (utf8_valid_len bs == length bs) ≡ true → list_all is_byte bs ≡ true
-valid_bytes bs h =
-    let u = whole_front bs h in
-    subst (λ (xs : List ℕ). list_all is_byte xs ≡ true) u.1.1 (encodes_bytes u.0 u.1.0)
+valid_bytes bs h = grind (arith, nat_tests, whole_front, is_byte, encodes_bytes)

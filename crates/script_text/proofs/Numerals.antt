@@ -1,5 +1,5 @@
 -- Numbers, bits, lists and names that are printed are read as themselves, and what is read of them is within its range.
-use Rattle.script_text.proofs.Words.{◌≡◌, ◌∙◌, ℕ, zero, suc, ◌+◌, ◌-◌, ◌*◌, ◌/◌, ◌%◌, ◌^◌, ◌≤◌, ◌<◌, List, [], ◌∷◌, ◌++◌, map, length, take, get_or, fold, Bool, true, false, not, cond, nat_lt, nat_le, ◌==◌, ◌&&◌, ◌||◌, Option, Some, None, option_map, option_and_then, ℤ, pos, negsuc, neg_ℤ, unsigned_abs, refl, sym, ap, subst, length-append, arith, decimal, signed_decimal, list_all, slice_split, All, and_parts, and_from, ne_eqb, eq-eqb, cond-true, cond-false, le-leb, lt-ltb, not-true, decimal_by_steps_wide, length-decimal-le_wide, common_steps, take_at, get_or_at, fold_push, AllPass-from_list_all, slice_split_at, slice_split_none, digit_bounds, natural_small, no_sum, sixteens-le, sixteens, size_read, hex, hex_digit, joined, bracketed, size_list, is_digit, digits_value, is_digits, natural_of, below, size_of_text, number_of_text, hex_sum, hex_value, bits_of_text, starts_name, in_name, is_name, between_brackets, is_comma, parts, all_some, list_of_text, all_joined}
+use Rattle.script_text.proofs.Words.{◌≡◌, ◌∙◌, ℕ, zero, suc, ◌+◌, ◌-◌, ◌*◌, ◌/◌, ◌%◌, ◌^◌, ◌≤◌, ◌<◌, List, [], ◌∷◌, ◌++◌, map, length, get_or, fold, Bool, true, false, not, cond, nat_lt, nat_le, ◌==◌, ◌&&◌, ◌||◌, Option, Some, None, option_map, option_and_then, ℤ, pos, negsuc, neg_ℤ, unsigned_abs, refl, ap, subst, length-append, arith, decimal, signed_decimal, list_all, slice_split, All, and_parts, and_from, ne_eqb, eq-eqb, cond-true, cond-false, le-leb, lt-ltb, not-true, decimal_by_steps_wide, length-decimal-le_wide, common_steps, take_at, get_or_at, fold_push, AllPass-from_list_all, slice_split_at, slice_split_none, digit_bounds, natural_small, no_sum, sixteens-le, sixteens, size_read, hex, hex_digit, joined, bracketed, size_list, is_digit, digits_value, is_digits, natural_of, below, size_of_text, number_of_text, hex_sum, hex_value, bits_of_text, starts_name, in_name, is_name, between_brackets, is_comma, parts, all_some, list_of_text, all_joined, nat_tests}
 use native.Mathlib.Nat.{mul-le-mul_right}
 use Rattle.script_text.proofs.Lexing.{is_graphic, is_plain, hex_again}
 use Rattle.script_text.proofs.Lines.{all_more}
@@ -15,9 +15,6 @@ digit d low high = and_from _ _ (le-leb 48 d low) (le-leb d 57 high)
 digit_graphic : (d : ℕ) → is_digit d ≡ true → is_graphic d ≡ true
 digit_graphic d h = let b = digit_bounds d h in graphic d (omega arith) (omega arith)
 
-abbrev add_digit : ℕ → ℕ → ℕ
-add_digit n d = 10 * n + (d - 48)
-
 pub record IsNumeral (n : ℕ) (ds : List ℕ) : Type 0 where
   pub some : 0 < length ds
   pub digits : list_all is_digit ds ≡ true
@@ -27,14 +24,7 @@ one_digit : (n : ℕ) → n < 10 → IsNumeral n ((48 + n) ∷ [])
 one_digit n h = record { some = omega arith; digits = and_from _ _ (digit (48 + n) (omega arith) (omega arith)) refl; value = omega arith }
 
 digit_more : (n : ℕ) (ds : List ℕ) → 10 ≤ n → IsNumeral (n / 10) ds → IsNumeral n (ds ++ (48 + n % 10) ∷ [])
-digit_more n ds h d =
-    let last : is_digit (48 + n % 10) ≡ true = digit (48 + n % 10) (omega arith) (omega arith) in
-    let front : digits_value ds ≡ n / 10 = d.value in
-    record {
-      some = omega (arith, length-append ds ((48 + n % 10) ∷ []));
-      digits = all_joined is_digit ds ((48 + n % 10) ∷ []) d.digits (and_from _ _ last refl);
-      value = fold_push add_digit 0 ds (48 + n % 10) ∙ omega arith;
-    }
+digit_more n ds h d = grind (arith, nat_tests, digit, length-append, all_joined, and_from, fold_push)
 
 pub decimal_numeral : (n : ℕ) → n < 10 ^ 64 → IsNumeral n (decimal n)
 decimal_numeral n h = decimal_by_steps_wide IsNumeral one_digit digit_more n h
@@ -47,10 +37,7 @@ natural_again n h =
     cond-true _ _ _ all ∙ ap (λ (x : ℕ). Some x) d.value
 
 digits_plain : (ds : List ℕ) → 0 < length ds → list_all is_digit ds ≡ true → is_plain ds ≡ true
-digits_plain [] some h = absurd (omega arith)
-digits_plain (d ∷ ds) some h =
-    let low = (digit_bounds d (and_parts _ _ h).0).0 in
-    and_from _ _ (ap not (ne_eqb d 34 (omega arith))) (all_more is_digit is_graphic digit_graphic (d ∷ ds) h)
+digits_plain ds some h = grind (arith, nat_tests, digit_bounds, and_parts, and_from, not, ne_eqb, all_more, digit_graphic)
 
 pub decimal_plain : (n : ℕ) → n < 10 ^ 64 → is_plain (decimal n) ≡ true
 decimal_plain n h = let d = decimal_numeral n h in digits_plain (decimal n) d.some d.digits
@@ -58,14 +45,7 @@ decimal_plain n h = let d = decimal_numeral n h in digits_plain (decimal n) d.so
 -- ---- sizes
 
 pub below_bound : (limit : ℕ) (o : Option ℕ) (n : ℕ) → below limit o ≡ Some n → (o ≡ Some n) × (n < limit)
-below_bound limit None n h = absurd (cc)
-below_bound limit (Some x) n h = by (nat_lt x limit) refl h
-  where
-    by : (b : Bool) → nat_lt x limit ≡ b → cond {A = Option ℕ} b (Some x) None ≡ Some n → ◌≡◌ {A = Option ℕ} (Some x) (Some n) × (n < limit)
-    by true e k =
-        let same : x ≡ n = cc in
-        (k, grind (arith, common_steps))
-    by false e k = absurd (cc)
+below_bound limit o n h = grind (arith, nat_tests, nat_lt, common_steps)
 
 pub below_again : (limit : ℕ) (o : Option ℕ) (n : ℕ) → o ≡ Some n → n < limit → below limit o ≡ Some n
 below_again limit o n e h = ap (below limit) e ∙ cond-true _ _ _ (lt-ltb n limit h)
@@ -79,9 +59,7 @@ size_plain n h = decimal_plain n (omega arith)
 -- ---- numbers with a sign
 
 negative_bound : (o : Option ℕ) (z : ℤ) → ((n : ℕ) → o ≡ Some n → n < 10 ^ 20) → option_map (λ n. neg_ℤ (pos n)) o ≡ Some z → unsigned_abs z < 10 ^ 20
-negative_bound None z h e = absurd (cc)
-negative_bound (Some zero) z h e = let same : pos 0 ≡ z = cc in subst (λ (y : ℤ). unsigned_abs y < 10 ^ 20) same (h 0 refl)
-negative_bound (Some (suc n)) z h e = let same : negsuc n ≡ z = cc in subst (λ (y : ℤ). unsigned_abs y < 10 ^ 20) same (h (suc n) refl)
+negative_bound o z h e = grind (arith, nat_tests, pos, unsigned_abs, negsuc)
 
 positive_bound : (o : Option ℕ) (z : ℤ) → ((n : ℕ) → o ≡ Some n → n < 10 ^ 20) → option_map (λ n. pos n) o ≡ Some z → unsigned_abs z < 10 ^ 20
 positive_bound None z h e = absurd (cc)
@@ -96,16 +74,10 @@ number_bound (c ∷ cs) z h = by (c == 45) h
     by false k = positive_bound (natural_of (c ∷ cs)) z (natural_small (c ∷ cs)) k
 
 unsigned_number : (ds : List ℕ) → 0 < length ds → list_all is_digit ds ≡ true → number_of_text ds ≡ option_map (λ n. pos n) (natural_of ds)
-unsigned_number [] some h = absurd (omega arith)
-unsigned_number (d ∷ ds) some h =
-    let low = (digit_bounds d (and_parts _ _ h).0).0 in
-    cond-false _ _ _ (ne_eqb d 45 (omega arith))
+unsigned_number ds some h = grind (arith, nat_tests, digit_bounds, and_parts, cond-false, ne_eqb)
 
 pub number_again : (z : ℤ) → unsigned_abs z < 10 ^ 20 → number_of_text (signed_decimal z) ≡ Some z
-number_again (pos n) h =
-    let d = decimal_numeral n (omega arith) in
-    unsigned_number (decimal n) d.some d.digits ∙ ap (option_map (λ x. pos x)) (natural_again n h)
-number_again (negsuc n) h = ap (option_map (λ x. neg_ℤ (pos x))) (natural_again (suc n) h)
+number_again z h = grind (arith, nat_tests, decimal_numeral, unsigned_number, decimal, option_map, natural_again, neg_ℤ)
 
 -- what begins a number begins no word of letters
 pub record IsNumberWord (w : List ℕ) : Type 0 where
@@ -120,44 +92,26 @@ digits_word [] some h = absurd (omega arith)
 digits_word (d ∷ ds) some h = record { head = d; behind = ds; spelled = refl; low = (digit_bounds d (and_parts _ _ h).0).1; plain = digits_plain (d ∷ ds) some h }
 
 pub number_word : (z : ℤ) → unsigned_abs z < 10 ^ 20 → IsNumberWord (signed_decimal z)
-number_word (pos n) h = let d = decimal_numeral n (omega arith) in digits_word (decimal n) d.some d.digits
-number_word (negsuc n) h =
-    let d = decimal_numeral (suc n) (omega arith) in
-    record { head = 45; behind = decimal (suc n); spelled = refl; low = omega arith; plain = all_more is_digit is_graphic digit_graphic (decimal (suc n)) d.digits }
+number_word z h = grind (arith, nat_tests, decimal_numeral, digits_word, decimal, all_more, digit_graphic)
 
 -- ---- bits
 
 hex_push : (hs : List ℕ) (d n : ℕ) → fold hex_sum (Some 0) hs ≡ Some n → d < 16 → fold hex_sum (Some 0) (hs ++ hex_digit d ∷ []) ≡ Some (16 * n + d)
-hex_push hs d n h low =
-    fold_push hex_sum (Some 0) hs (hex_digit d)
-    ∙ (ap (λ (o : Option ℕ). hex_sum o (hex_digit d)) h ∙ ap (option_map (λ x. 16 * n + x)) (hex_again d low))
+hex_push hs d n h low = grind (arith, nat_tests, fold_push, option_map, hex_again)
 
 hex_sum_again : (k n : ℕ) → n < sixteens k → fold hex_sum (Some 0) (hex k n) ≡ Some n
 hex_sum_again zero n h = let none : 0 ≡ n = omega arith in ap (λ (x : ℕ). Some x) none
-hex_sum_again (suc k) n h =
-    let split : 16 * (n / 16) + n % 16 ≡ n = omega arith in
-    hex_push (hex k (n / 16)) (n % 16) (n / 16) (hex_sum_again k (n / 16) (omega arith)) (omega arith) ∙ ap (λ (x : ℕ). Some x) split
+hex_sum_again (suc k) n h = grind (arith, nat_tests, hex_sum_again k (n / 16) (omega arith), hex_push)
 
 pub length-hex : (k n : ℕ) → length (hex k n) ≡ k
 length-hex zero n = refl
 length-hex (suc k) n = omega (arith, length-append (hex k (n / 16)) (hex_digit (n % 16) ∷ []), length-hex k (n / 16))
 
 pub bits_again : (k n : ℕ) → 0 < k → k ≤ 16 → n < sixteens k → bits_of_text (120 ∷ hex k n) ≡ Some n
-bits_again k n some short h =
-    let long = length-hex k n in
-    let test : (true && nat_lt 0 (length (hex k n)) && nat_le (length (hex k n)) 16) ≡ true =
-    and_from _ _ (and_from _ _ refl (lt-ltb 0 (length (hex k n)) (omega arith))) (le-leb (length (hex k n)) 16 (omega arith)) in
-    cond-true _ _ _ test ∙ hex_sum_again k n h
+bits_again k n some short h = grind (arith, nat_tests, length-hex, nat_lt, nat_le, and_from, lt-ltb, le-leb, cond-true, hex_sum_again)
 
 pub hex_value_bound : (c h : ℕ) → hex_value c ≡ Some h → h < 16
-hex_value_bound c h e = by (is_digit c) (nat_le 65 c && nat_le c 70) (nat_le 97 c && nat_le c 102) refl refl refl e
-  where
-    by : (x y z : Bool) → is_digit c ≡ x → (nat_le 65 c && nat_le c 70) ≡ y → (nat_le 97 c && nat_le c 102) ≡ z
-        → cond {A = Option ℕ} x (Some (c - 48)) (cond y (Some (c - 55)) (cond z (Some (c - 87)) None)) ≡ Some h → h < 16
-    by true y z a b d k = let same : c - 48 ≡ h = cc in let bounds = digit_bounds c a in omega arith
-    by false true z a b d k = let same : c - 55 ≡ h = cc in grind (arith, common_steps)
-    by false false true a b d k = let same : c - 87 ≡ h = cc in grind (arith, common_steps)
-    by false false false a b d k = absurd (cc)
+hex_value_bound c h e = grind (arith, nat_tests, nat_le, digit_bounds, common_steps)
 
 hex_sum_bound : (hs : List ℕ) (a n most : ℕ) → fold hex_sum (Some a) hs ≡ Some n → (a + 1) * sixteens (length hs) ≤ most → n < most
 hex_sum_bound [] a n most e le = let same : a ≡ n = cc in omega arith
@@ -200,13 +154,7 @@ is_item [] = false
 is_item (c ∷ cs) = list_all is_item_byte (c ∷ cs)
 
 pub brackets_again : (inside : List ℕ) → between_brackets (91 ∷ (inside ++ 93 ∷ [])) ≡ Some inside
-brackets_again inside =
-    let cs = inside ++ 93 ∷ [] in
-    let long = length-append inside (93 ∷ []) in
-    let last : length cs - 1 ≡ length inside = omega arith in
-    let closed : (get_or cs (length cs - 1) 0 == 93) ≡ true = eq-eqb _ _ (ap (λ (k : ℕ). get_or cs k 0) last ∙ get_or_at inside 93 [] 0 (length inside) refl) in
-    let test : (true && nat_lt 0 (length cs) && (get_or cs (length cs - 1) 0 == 93)) ≡ true = and_from _ _ (and_from _ _ refl (lt-ltb 0 (length cs) (omega arith))) closed in
-    cond-true _ _ _ test ∙ ap (λ (x : List ℕ). Some x) (ap (λ (k : ℕ). take k cs) last ∙ take_at inside (93 ∷ []) (length inside) refl)
+brackets_again inside = grind (arith, nat_tests, length-append, eq-eqb, get_or_at, nat_lt, and_from, lt-ltb, cond-true, take_at)
 
 item_bytes : (w : List ℕ) → is_item w ≡ true → list_all is_item_byte w ≡ true
 item_bytes [] h = refl
@@ -221,17 +169,14 @@ no_comma w h k d low = not-true (is_comma (get_or w k d)) (and_parts _ _ (AllPas
 cut_parts : (w : List ℕ) (ws : List (List ℕ)) → list_all is_item (w ∷ ws) ≡ true → slice_split is_comma (joined 44 (w ∷ ws)) ≡ w ∷ ws
 cut_parts w [] h = slice_split_none is_comma w (no_comma w (item_bytes w (and_parts _ _ h).0))
 cut_parts w (x ∷ ws) h =
-    let both = and_parts (is_item w) (list_all is_item (x ∷ ws)) h in
-    slice_split_at is_comma w 44 (joined 44 (x ∷ ws)) (no_comma w (item_bytes w both.0)) refl ∙ ap (λ (more : List (List ℕ)). w ∷ more) (cut_parts x ws both.1)
+    grind (arith, nat_tests, cut_parts x ws (and_parts (is_item w) (list_all is_item (x ∷ ws)) h).1, and_parts, slice_split_at, no_comma, item_bytes)
 
 some_parts : (cs : List ℕ) → 0 < length cs → parts cs ≡ slice_split is_comma cs
 some_parts [] h = absurd (omega arith)
 some_parts (c ∷ cs) h = refl
 
 some_joined : (w : List ℕ) (ws : List (List ℕ)) → is_item w ≡ true → 0 < length (joined 44 (w ∷ ws))
-some_joined [] ws h = absurd (cc)
-some_joined (c ∷ w) [] h = omega arith
-some_joined (c ∷ w) (x ∷ ws) h = omega (arith, length-append (c ∷ w) (44 ∷ joined 44 (x ∷ ws)))
+some_joined w ws h = grind (arith, nat_tests, length-append)
 
 pub parts_again : (ws : List (List ℕ)) → list_all is_item ws ≡ true → parts (joined 44 ws) ≡ ws
 parts_again [] h = refl
@@ -241,8 +186,7 @@ joined_bytes : (ws : List (List ℕ)) → list_all is_item ws ≡ true → list_
 joined_bytes [] h = refl
 joined_bytes (w ∷ []) h = item_graphic w (and_parts _ _ h).0
 joined_bytes (w ∷ x ∷ ws) h =
-    let both = and_parts (is_item w) (list_all is_item (x ∷ ws)) h in
-    all_joined is_graphic w (44 ∷ joined 44 (x ∷ ws)) (item_graphic w both.0) (joined_bytes (x ∷ ws) both.1)
+    grind (arith, nat_tests, joined_bytes (x ∷ ws) (and_parts (is_item w) (list_all is_item (x ∷ ws)) h).1, and_parts, all_joined, item_graphic)
 
 pub bracketed_plain : (ws : List (List ℕ)) → list_all is_item ws ≡ true → is_plain (bracketed ws) ≡ true
 bracketed_plain ws h = all_joined is_graphic (joined 44 ws) (93 ∷ []) (joined_bytes ws h) refl
@@ -257,23 +201,10 @@ size_low n h = grind (arith, common_steps)
 
 sizes_bound : (ws : List (List ℕ)) (ns : List ℕ) → all_some (map size_of_text ws) ≡ Some ns → list_all is_size ns ≡ true
 sizes_bound [] ns h = let same : [] ≡ ns = cc in subst (λ (xs : List ℕ). list_all is_size xs ≡ true) same refl
-sizes_bound (w ∷ ws) ns h = by (size_of_text w) (all_some (map size_of_text ws)) refl refl h (λ xs. sizes_bound ws xs)
-  where
-    by : (o : Option ℕ) (p : Option (List ℕ)) → size_of_text w ≡ o → all_some (map size_of_text ws) ≡ p → all_some (o ∷ map size_of_text ws) ≡ Some ns
-        → ((xs : List ℕ) → all_some (map size_of_text ws) ≡ Some xs → list_all is_size xs ≡ true) → list_all is_size ns ≡ true
-    by None p a b k more = absurd (cc)
-    by (Some n) None a b k more = let none : option_map (λ xs. n ∷ xs) None ≡ Some ns = ap (option_map (λ xs. n ∷ xs)) (sym b) ∙ k in absurd (cc)
-    by (Some n) (Some xs) a b k more =
-        let same : Some (n ∷ xs) ≡ Some ns = ap (option_map (λ xs. n ∷ xs)) (sym b) ∙ k in
-        let lists : n ∷ xs ≡ ns = cc in
-        subst (λ (ys : List ℕ). list_all is_size ys ≡ true) lists (and_from _ _ (lt-ltb n (2 ^ 63) (size_read w n a)) (more xs b))
+sizes_bound (w ∷ ws) ns h = grind (arith, nat_tests, sizes_bound ws, option_map, and_from, lt-ltb, size_read)
 
 pub list_bound : (w : List ℕ) (ns : List ℕ) → list_of_text w ≡ Some ns → list_all is_size ns ≡ true
-list_bound w ns h = by (between_brackets w) h
-  where
-    by : (o : Option (List ℕ)) → option_and_then (λ inside. all_some (map size_of_text (parts inside))) o ≡ Some ns → list_all is_size ns ≡ true
-    by None k = absurd (cc)
-    by (Some inside) k = sizes_bound (parts inside) ns k
+list_bound w ns h = grind (arith, nat_tests, option_and_then, sizes_bound)
 
 digit_item : (d : ℕ) → is_digit d ≡ true → is_item_byte d ≡ true
 digit_item d h = let b = digit_bounds d h in and_from _ _ (digit_graphic d h) (ap not (ne_eqb d 44 (omega arith)))
@@ -296,13 +227,8 @@ sizes_again (n ∷ ns) h =
     let both = and_parts _ _ h in
     ap (λ (o : Option ℕ). all_some (o ∷ map size_of_text (map decimal ns))) (size_again n (size_low n both.0)) ∙ ap (option_map (λ xs. n ∷ xs)) (sizes_again ns both.1)
 
-abbrev sizes_of : List (List ℕ) → Option (List ℕ)
-sizes_of ws = all_some (map size_of_text ws)
-
 pub list_again : (ns : List ℕ) → list_all is_size ns ≡ true → list_of_text (size_list ns) ≡ Some ns
-list_again ns h =
-    ap (option_and_then (λ inside. all_some (map size_of_text (parts inside)))) (brackets_again (joined 44 (map decimal ns)))
-    ∙ (ap sizes_of (parts_again (map decimal ns) (sizes_items ns h)) ∙ sizes_again ns h)
+list_again ns h = grind (arith, nat_tests, option_and_then, brackets_again, decimal, parts_again, sizes_items, sizes_again)
 
 pub list_plain : (ns : List ℕ) → list_all is_size ns ≡ true → is_plain (size_list ns) ≡ true
 list_plain ns h = bracketed_plain (map decimal ns) (sizes_items ns h)
@@ -313,19 +239,14 @@ in_name_bounds : (c : ℕ) → in_name c ≡ true → (43 ≤ c) × (c ≤ 122)
 in_name_bounds c h = grind (arith, common_steps)
 
 in_name_item : (c : ℕ) → in_name c ≡ true → is_item_byte c ≡ true
-in_name_item c h =
-    let b = in_name_bounds c h in
-    let other : c ≡ 44 → ⊥ = λ e. let k : in_name 44 ≡ true = subst (λ (x : ℕ). in_name x ≡ true) e h in absurd (cc) in
-    and_from _ _ (graphic c (omega arith) (omega arith)) (ap not (ne_eqb c 44 other))
+in_name_item c h = grind (arith, nat_tests, in_name_bounds, and_from, graphic, not, ne_eqb)
 
 starts_in : (c : ℕ) → starts_name c ≡ true → in_name c ≡ true
 starts_in c h = ap (λ (b : Bool). b || c == 46 || c == 45 || c == 43 || c == 64) h
 
 pub name_item : (n : List ℕ) → is_name n ≡ true → is_item n ≡ true
 name_item [] h = absurd (cc)
-name_item (c ∷ cs) h =
-    let both = and_parts _ _ (and_parts (starts_name c && list_all in_name cs) (nat_lt (length cs) 256) h).0 in
-    all_more in_name is_item_byte in_name_item (c ∷ cs) (and_from _ _ (starts_in c both.0) both.1)
+name_item (c ∷ cs) h = grind (arith, nat_tests, and_parts, nat_lt, all_more, in_name_item, and_from, starts_in)
 
 pub name_plain : (n : List ℕ) → is_name n ≡ true → is_plain n ≡ true
 name_plain [] h = absurd (cc)

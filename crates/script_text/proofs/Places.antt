@@ -1,22 +1,13 @@
 -- Places of names in a list.
-use Rattle.script_text.proofs.Words.{◌≡◌, ◌⊎◌, ◌∙◌, ℕ, suc, ◌+◌, ◌≤◌, ◌<◌, List, [], ◌∷◌, ◌++◌, map, position, length, drop, Bool, true, false, not, cond, nat_lt, ◌||◌, Option, Some, None, option_map, slice_get, refl, sym, ap, subst, ⊎_elim, arith, bytes_eq, inl, inr, list_all, list_any, position_or_len, and_parts, and_from, or_parts, cases_lt, cond-true, cond-false, bytes_eq-Decides, position_below, get_left, Dim, all_some, is_among, dim_names, dim_ids, is_record_dim, is_unlimited}
-use borrow.Author.Tests.{ltb-true, lt-ltb, le-ltb}
+use Rattle.script_text.proofs.Words.{◌≡◌, ◌⊎◌, ◌∙◌, ℕ, suc, ◌+◌, ◌<◌, List, [], ◌∷◌, ◌++◌, map, position, length, drop, Bool, true, false, cond, nat_lt, Option, Some, None, option_map, slice_get, refl, sym, ap, ⊎_elim, arith, bytes_eq, list_all, list_any, and_parts, and_from, or_parts, cond-true, cond-false, bytes_eq-Decides, position_below, get_left, Dim, all_some, is_among, dim_names, dim_ids, is_record_dim, nat_tests}
+use borrow.Author.Tests.{ltb-true, lt-ltb}
 
 abbrev place : ℕ → ℕ → Option ℕ
 place k n = cond (nat_lt k n) (Some k) None
 
 -- the first place, by the first element
 pub position_cons : {A : Type 0} (p : A → Bool) (x : A) (xs : List A) → position p (x ∷ xs) ≡ cond (p x) (Some 0) (option_map suc (position p xs))
-position_cons p x xs = by (p x) (position_or_len p xs) (length xs)
-  where
-    by : (b : Bool) (m n : ℕ) → place (cond (not b) (1 + m) 0) (suc n) ≡ cond b (Some 0) (option_map suc (place m n))
-    by true m n = cond-true _ _ _ (lt-ltb 0 (suc n) (omega arith))
-    by false m n = ⊎_elim
-        (λ (low : m < n).
-        let next : 1 + m ≡ suc m = omega arith in
-        cond-true _ _ _ (lt-ltb (1 + m) (suc n) (omega arith)) ∙ (ap (λ (k : ℕ). Some k) next ∙ ap (option_map suc) (sym (cond-true _ _ _ (lt-ltb m n low)))))
-        (λ (high : n ≤ m). cond-false _ _ _ (le-ltb (1 + m) (suc n) (omega arith)) ∙ ap (option_map suc) (sym (cond-false _ _ _ (le-ltb m n high))))
-        (cases_lt m n)
+position_cons p x xs = grind (arith, nat_tests)
 
 -- a place, by the first element: it passes, or the place is one further
 pub record Later {A : Type 0} (p : A → Bool) (xs : List A) (k : ℕ) : Type 0 where
@@ -25,18 +16,10 @@ pub record Later {A : Type 0} (p : A → Bool) (xs : List A) (k : ℕ) : Type 0 
   pub found : position p xs ≡ Some before
 
 later_from : {A : Type 0} (p : A → Bool) (xs : List A) (k : ℕ) → option_map suc (position p xs) ≡ Some k → Later p xs k
-later_from p xs k h = by (position p xs) refl h
-  where
-    by : (o : Option ℕ) → position p xs ≡ o → option_map suc o ≡ Some k → Later p xs k
-    by None e j = absurd (cc)
-    by (Some m) e j = let same : suc m ≡ k = cc in record { before = m; next = sym same; found = e }
+later_from p xs k h = grind (arith, nat_tests, position, option_map)
 
 pub place_cases : {A : Type 0} (p : A → Bool) (x : A) (xs : List A) (k : ℕ) → position p (x ∷ xs) ≡ Some k → ((p x ≡ true) × (k ≡ 0)) ⊎ ((p x ≡ false) × Later p xs k)
-place_cases p x xs k h = by (p x) refl (sym (position_cons p x xs) ∙ h)
-  where
-    by : (b : Bool) → p x ≡ b → cond b (Some 0) (option_map suc (position p xs)) ≡ Some k → ((p x ≡ true) × (k ≡ 0)) ⊎ ((p x ≡ false) × Later p xs k)
-    by true e j = let same : 0 ≡ k = cc in inl (e, sym same)
-    by false e j = inr (e, later_from p xs k j)
+place_cases p x xs k h = grind (arith, nat_tests, position_cons, option_map, position, later_from)
 
 pub place_here : {A : Type 0} (p : A → Bool) (x : A) (xs : List A) → p x ≡ true → position p (x ∷ xs) ≡ Some 0
 place_here p x xs h = position_cons p x xs ∙ cond-true _ _ _ h
@@ -61,8 +44,7 @@ bytes_own a = (bytes_eq-Decides a a).1 refl
 pub place_of_new : (n : List ℕ) (names more : List (List ℕ)) → is_among n names ≡ false → position (bytes_eq n) (names ++ n ∷ more) ≡ Some (length names)
 place_of_new n [] more h = place_here (bytes_eq n) n more (bytes_own n)
 place_of_new n (x ∷ names) more h =
-    let both = or_parts (bytes_eq n x) (is_among n names) h in
-    place_later (bytes_eq n) x (names ++ n ∷ more) (length names) both.0 (place_of_new n names more both.1)
+    grind (arith, nat_tests, place_of_new n names more (or_parts (bytes_eq n x) (is_among n names) h).1, or_parts, bytes_eq, place_later)
 
 -- ---- the places of the names of dimensions
 
@@ -86,16 +68,7 @@ Zipped f (x ∷ xs) (y ∷ ys) = (f x ≡ Some y) × Zipped f xs ys
 zipped_from : {A B : Type 0} (f : A → Option B) (xs : List A) (ys : List B) → all_some (map f xs) ≡ Some ys → Zipped f xs ys
 zipped_from f [] [] h = tt
 zipped_from f [] (y ∷ ys) h = absurd (cc)
-zipped_from {A} {B} f (x ∷ xs) ys h = by (f x) (all_some (map f xs)) refl refl ys h (λ zs. zipped_from f xs zs)
-  where
-    by : (o : Option B) (p : Option (List B)) → f x ≡ o → all_some (map f xs) ≡ p → (zs : List B) → all_some (o ∷ map f xs) ≡ Some zs
-        → ((us : List B) → all_some (map f xs) ≡ Some us → Zipped f xs us) → Zipped f (x ∷ xs) zs
-    by None p a b zs k more = absurd (cc)
-    by (Some z) None a b zs k more = let none : option_map (λ us. z ∷ us) None ≡ Some zs = ap (option_map (λ us. z ∷ us)) (sym b) ∙ k in absurd (cc)
-    by (Some z) (Some us) a b zs k more =
-        let same : Some (z ∷ us) ≡ Some zs = ap (option_map (λ vs. z ∷ vs)) (sym b) ∙ k in
-        let lists : z ∷ us ≡ zs = cc in
-        subst (Zipped f (x ∷ xs)) lists (a, more us b)
+zipped_from {A} {B} f (x ∷ xs) ys h = grind (arith, nat_tests, zipped_from f xs, option_map)
 
 zipped_to : {A B : Type 0} (f : A → Option B) (xs : List A) (ys : List B) → Zipped f xs ys → all_some (map f xs) ≡ Some ys
 zipped_to f [] [] h = refl
@@ -110,8 +83,7 @@ names_zipped : (dims : List Dim) (ns : List (List ℕ)) (ids : List ℕ) → Zip
 names_zipped dims [] [] h = refl
 names_zipped dims [] (i ∷ ids) h = absurd h
 names_zipped dims (n ∷ ns) [] h = absurd h
-names_zipped dims (n ∷ ns) (i ∷ ids) h =
-    ap (λ (x : List ℕ). x ∷ map (name_at dims) ids) (name_of_place n dims i h.0) ∙ ap (λ (xs : List (List ℕ)). n ∷ xs) (names_zipped dims ns ids h.1)
+names_zipped dims (n ∷ ns) (i ∷ ids) h = grind (arith, nat_tests, names_zipped dims ns ids h.1, name_of_place)
 
 -- the dimensions' names by their places
 pub names_shown : (dims : List Dim) (ns : List (List ℕ)) (ids : List ℕ) → dim_ids dims ns ≡ Some ids → map (name_at dims) ids ≡ ns
@@ -125,8 +97,7 @@ more_zipped : (dims more : List Dim) (ns : List (List ℕ)) (ids : List ℕ) →
 more_zipped dims more [] [] h = tt
 more_zipped dims more [] (i ∷ ids) h = absurd h
 more_zipped dims more (n ∷ ns) [] h = absurd h
-more_zipped dims more (n ∷ ns) (i ∷ ids) h =
-    (ap (position (bytes_eq n)) (joined_names dims more) ∙ place_more (bytes_eq n) (dim_names dims) (dim_names more) i h.0, more_zipped dims more ns ids h.1)
+more_zipped dims more (n ∷ ns) (i ∷ ids) h = grind (arith, nat_tests, more_zipped dims more ns ids h.1, position, bytes_eq, joined_names, place_more)
 
 -- more dimensions leave these where they are
 pub more_ids : (dims more : List Dim) (ns : List (List ℕ)) (ids : List ℕ) → dim_ids dims ns ≡ Some ids → dim_ids (dims ++ more) ns ≡ Some ids
@@ -153,19 +124,12 @@ within_zipped : (dims : List Dim) (ns : List (List ℕ)) (ids : List ℕ) → Zi
 within_zipped dims [] [] h = refl
 within_zipped dims [] (i ∷ ids) h = absurd h
 within_zipped dims (n ∷ ns) [] h = absurd h
-within_zipped dims (n ∷ ns) (i ∷ ids) h =
-    let low = position_below (bytes_eq n) (dim_names dims) i h.0 in
-    and_from _ _ (lt-ltb i (length dims) (omega (arith, low, length_names dims))) (within_zipped dims ns ids h.1)
-
-abbrev record_by : Option Dim → Bool
-record_by o = elim o [ None ↦ false | Some d ↦ is_unlimited d ]
+within_zipped dims (n ∷ ns) (i ∷ ids) h = grind (arith, nat_tests, within_zipped dims ns ids h.1, position_below, bytes_eq, and_from, lt-ltb, length_names)
 
 same_records : (dims more : List Dim) (ids : List ℕ) → are_within dims ids ≡ true → list_any (is_record_dim (dims ++ more)) ids ≡ list_any (is_record_dim dims) ids
 same_records dims more [] h = refl
 same_records dims more (i ∷ ids) h =
-    let both = and_parts (nat_lt i (length dims)) (are_within dims ids) h in
-    ap (λ (o : Option Dim). record_by o || list_any (is_record_dim (dims ++ more)) ids) (get_left dims more i (ltb-true i (length dims) both.0))
-    ∙ ap (λ (b : Bool). is_record_dim dims i || b) (same_records dims more ids both.1)
+    grind (arith, nat_tests, same_records dims more ids (and_parts (nat_lt i (length dims)) (are_within dims ids) h).1, and_parts, nat_lt, get_left, ltb-true)
 
 rest_within : (dims : List Dim) (ids : List ℕ) → are_within dims ids ≡ true → are_within dims (drop 1 ids) ≡ true
 rest_within dims [] h = refl

@@ -1,5 +1,5 @@
 -- Types and attributes that are printed are read again.
-use Rattle.script_text.proofs.Words.{◌≡◌, ◌∙◌, ℕ, ◌+◌, ◌≤◌, ◌<◌, List, [], ◌∷◌, ◌++◌, map, find, length, take, drop, Bool, true, false, cond, nat_le, Option, Some, None, Ok, ℤ, refl, ap, subst, arith, bytes_eq, list_all, list_any, and_parts, and_from, cond-true, take_at, drop_at, NcType, Byte, Char, Short, Int, Float, Double, UByte, UShort, UInt, Int64, UInt64, Attr, Value, Values, Numbers, Text, Bits, Class, class_of, width_of, size_of, ext, val, fits, types, number_of, last_type, most_values, count_of, number_in, code_in, gathered, val-ext, ext_long, type_word, pieces, attr_values, shown_values, Word, Plain, is_name, refuse_if, reads_as, name, name_of_text, are_numbers, are_patterns, are_text, values, type_of, Title, same_title, external_bytes, attr_of, attribute_name, attribute}
+use Rattle.script_text.proofs.Words.{◌≡◌, ◌∙◌, ℕ, ◌+◌, ◌≤◌, ◌<◌, List, [], ◌∷◌, map, find, length, Bool, true, false, cond, nat_le, Option, Some, None, Ok, ℤ, refl, ap, subst, arith, bytes_eq, list_all, list_any, and_parts, and_from, cond-true, take_at, drop_at, NcType, Char, Attr, Value, Values, Numbers, Text, Bits, Class, class_of, size_of, ext, val, fits, types, number_of, last_type, most_values, count_of, number_in, code_in, gathered, val-ext, ext_long, type_word, pieces, attr_values, shown_values, Word, Plain, is_name, refuse_if, reads_as, name, name_of_text, are_numbers, are_patterns, are_text, values, type_of, Title, same_title, external_bytes, attr_of, attribute_name, attribute, nat_tests}
 use Rattle.std.proofs.Common.{flat_map}
 use Rattle.nc_base.specs.declared.errors.ScriptKind.TheVariants as kind
 use Rattle.nc_base.specs.declared.request.Value.TheVariants as value
@@ -14,41 +14,16 @@ use Rattle.script_text.proofs.PrintedRegions.{kept, name_read, name_again}
 -- ---- types
 
 find_type : (t : NcType) → find (λ s. bytes_eq (type_word t) (type_word s)) types ≡ Some t
-find_type Byte = refl
-find_type Char = refl
-find_type Short = refl
-find_type Int = refl
-find_type Float = refl
-find_type Double = refl
-find_type UByte = refl
-find_type UShort = refl
-find_type UInt = refl
-find_type Int64 = refl
-find_type UInt64 = refl
+find_type t = grind (arith, nat_tests)
 
 pub type_plain : (t : NcType) → is_plain (type_word t) ≡ true
-type_plain Byte = refl
-type_plain Char = refl
-type_plain Short = refl
-type_plain Int = refl
-type_plain Float = refl
-type_plain Double = refl
-type_plain UByte = refl
-type_plain UShort = refl
-type_plain UInt = refl
-type_plain Int64 = refl
-type_plain UInt64 = refl
+type_plain t = grind (arith, nat_tests)
 
 abbrev type_by : ℕ → Option NcType → Option NcType
 type_by version o = elim o [ None ↦ None | Some t ↦ cond (nat_le (number_of t) (last_type version)) (Some t) None ]
 
 type_known : (version : ℕ) (o : Option NcType) (t : NcType) → type_by version o ≡ Some t → nat_le (number_of t) (last_type version) ≡ true
-type_known version None t h = absurd (cc)
-type_known version (Some s) t h = by (nat_le (number_of s) (last_type version)) refl h
-  where
-    by : (b : Bool) → nat_le (number_of s) (last_type version) ≡ b → cond {A = Option NcType} b (Some s) None ≡ Some t → nat_le (number_of t) (last_type version) ≡ true
-    by true e k = let same : s ≡ t = cc in subst (λ x. nat_le (number_of x) (last_type version) ≡ true) same e
-    by false e k = absurd (cc)
+type_known version o t h = grind (arith, nat_tests, nat_le)
 
 pub type_told : (version : ℕ) (t : NcType) → nat_le (number_of t) (last_type version) ≡ true → type_of version (type_word t) ≡ Some t
 type_told version t h = ap (type_by version) (find_type t) ∙ cond-true _ _ _ h
@@ -72,14 +47,7 @@ seen_again : {A : Type 0} (t : NcType) (h : A → Value) (test : A → Bool) →
     → seen t (length xs) (flat_map (λ x. ext t (h x)) xs) ≡ map (λ x. Some (h x)) xs
 seen_again t h test each [] all = refl
 seen_again t h test each (x ∷ xs) all =
-    let both = and_parts (test x) (list_all test xs) all in
-    let rest = flat_map (λ y. ext t (h y)) xs in
-    let front : take (size_of t) (ext t (h x) ++ rest) ≡ ext t (h x) = take_at (ext t (h x)) rest (size_of t) (ext_long t (h x)) in
-    let back : drop (size_of t) (ext t (h x) ++ rest) ≡ rest = drop_at (ext t (h x)) rest (size_of t) (ext_long t (h x)) in
-    ap (λ (bs : List ℕ). Some (val t bs) ∷ seen t (length xs) (drop (size_of t) (ext t (h x) ++ rest))) front
-    ∙ (ap (λ (bs : List ℕ). Some (val t (ext t (h x))) ∷ seen t (length xs) bs) back
-    ∙ (ap (λ (v : Value). Some v ∷ seen t (length xs) rest) (val-ext t (h x) (each x both.0))
-    ∙ ap (λ (vs : List (Option Value)). Some (h x) ∷ vs) (seen_again t h test each xs both.1)))
+    grind (arith, nat_tests, seen_again t h test each xs (and_parts (test x) (list_all test xs) all).1, and_parts, flat_map, take_at, ext_long, drop_at, val-ext)
 
 numbers_of : (zs : List ℤ) → map number_in (map (λ z. Some (value.Number z)) zs) ≡ zs
 numbers_of [] = refl
@@ -101,33 +69,16 @@ pub record AttrShown (n : List ℕ) (t : NcType) (vs : Values) : Type 0 where
 
 -- values that are shown as they are
 as_they_are : (n : List ℕ) (t : NcType) (before : ℕ) (vs : Values) → attr_values (attr_of n t vs) ≡ vs → Fitting (Some t) before vs → AttrShown n t vs
-as_they_are n t before vs same fit = record {
-  good = ap (λ (us : Values). list_all is_good (value_tokens us)) same ∙ values_good (Some t) vs fit.are;
-  again = λ now few. (
-    vs,
-    ap (λ (us : Values). values (Some t) now (value_tokens us)) same
-        ∙ values_again (Some t) now vs (record { are = fit.are; room = record { all = few; own = λ none. absurd (cc) } }),
-    refl,
-  );
-}
+as_they_are n t before vs same fit = grind (arith, nat_tests, is_good, values_good, values_again)
 
 gathered_numbers : (c : Class) (os : List (Option Value)) → are_numbers c ≡ true → gathered c os ≡ Numbers (map number_in os)
-gathered_numbers class.Signed os h = refl
-gathered_numbers class.Unsigned os h = refl
-gathered_numbers class.Text os h = absurd (cc)
-gathered_numbers class.Pattern os h = absurd (cc)
+gathered_numbers c os h = grind (arith, nat_tests)
 
 gathered_text : (c : Class) (os : List (Option Value)) → are_text c ≡ true → gathered c os ≡ Text (map code_in os)
-gathered_text class.Text os h = refl
-gathered_text class.Signed os h = absurd (cc)
-gathered_text class.Unsigned os h = absurd (cc)
-gathered_text class.Pattern os h = absurd (cc)
+gathered_text c os h = grind (arith, nat_tests)
 
 gathered_bits : (c : Class) (os : List (Option Value)) → are_patterns c ≡ true → gathered c os ≡ Bits (map code_in os)
-gathered_bits class.Pattern os h = refl
-gathered_bits class.Text os h = absurd (cc)
-gathered_bits class.Signed os h = absurd (cc)
-gathered_bits class.Unsigned os h = absurd (cc)
+gathered_bits c os h = grind (arith, nat_tests)
 
 nothing_shown : (n : List ℕ) (t : NcType) (c : Class) → class_of t ≡ c → AttrShown n t (Numbers [])
 nothing_shown n t class.Signed e = record {
@@ -170,17 +121,7 @@ bits_shown n t before ns fit =
     as_they_are n t before (Bits ns) (gathered_bits (class_of t) os fit.are.2 ∙ ap (λ (ys : List ℕ). Bits ys) (ap (map code_in) same ∙ bits_of ns)) fit
 
 char_fits : (t : NcType) → are_text (class_of t) ≡ true → (c : ℕ) → is_byte c ≡ true → fits t (value.Char c) ≡ true
-char_fits Char h c b = b
-char_fits Byte h c b = absurd (cc)
-char_fits Short h c b = absurd (cc)
-char_fits Int h c b = absurd (cc)
-char_fits Float h c b = absurd (cc)
-char_fits Double h c b = absurd (cc)
-char_fits UByte h c b = absurd (cc)
-char_fits UShort h c b = absurd (cc)
-char_fits UInt h c b = absurd (cc)
-char_fits Int64 h c b = absurd (cc)
-char_fits UInt64 h c b = absurd (cc)
+char_fits t h c b = grind (arith, nat_tests)
 
 text_shown : (n : List ℕ) (t : NcType) (before : ℕ) (cs : List ℕ) → Fitting (Some t) before (Text cs) → AttrShown n t (Text cs)
 text_shown n t before cs fit =

@@ -1,5 +1,5 @@
 -- A call that is printed is read as the same call.
-use Rattle.script_text.proofs.Words.{◌≡◌, ◌∙◌, ℕ, ◌+◌, ◌^◌, ◌≤◌, ◌<◌, List, [], ◌∷◌, ◌++◌, Bool, true, false, Option, Some, None, Result, Ok, refl, sym, ap, subst, append-nil, arith, codes, decimal, list_all, and_from, ltb-true, ScriptKind, Values, Numbers, Form, Given, PostKind, Iput, Iget, Bput, Choice, Call, most_values, values_in_call, count_of, call_word, Word, Plain, is_name, ◌>>=◌, refuse_if, or_fault, reads_as, size, name, name_of_text, ended, whole, values, after_prefix, form_of_text, form_and_all, region, id_of_text, choice, posted, is_posted, new_id, put_call, get_call, post_values, post_call, behind, row_call, plain_call, post_of_text, call_of, Family, Requests, Size, Name, Record, Nothing, Behind, CallRow, row_of_text, faultless_some, is_sized, IsRow, found_row, made_word, made_no_values, is_expressible_behind, all_joined}
+use Rattle.script_text.proofs.Words.{◌≡◌, ◌∙◌, ℕ, ◌+◌, ◌^◌, ◌≤◌, ◌<◌, List, [], ◌∷◌, ◌++◌, Bool, true, false, Option, Some, None, Result, Ok, refl, sym, ap, subst, append-nil, arith, codes, decimal, list_all, and_from, ltb-true, ScriptKind, Values, Numbers, Form, Given, PostKind, Iput, Iget, Bput, Choice, Call, most_values, values_in_call, count_of, call_word, Word, Plain, is_name, ◌>>=◌, refuse_if, or_fault, reads_as, size, name, name_of_text, ended, whole, values, after_prefix, form_of_text, form_and_all, region, id_of_text, posted, is_posted, new_id, put_call, get_call, post_values, post_call, behind, row_call, plain_call, post_of_text, call_of, Family, Requests, Size, Name, Record, Nothing, Behind, CallRow, row_of_text, faultless_some, is_sized, IsRow, found_row, made_word, made_no_values, is_expressible_behind, all_joined, nat_tests}
 use Rattle.nc_base.specs.declared.errors.ScriptKind.TheVariants as kind
 use Rattle.nc_base.specs.declared.request.Call.TheVariants as call
 use Rattle.script_text.proofs.Steps.{went, go_on, same_ok, not_refused, passed, read_word, word_read, whole_value}
@@ -80,10 +80,7 @@ pub record PostedAgain (k : PostKind) (before : ℕ) (vs : Values) : Type 0 wher
   pub few : before + count_of vs ≤ most_values
 
 pub put_values : (before : ℕ) (vs : Values) → Fitting None before vs → PostedAgain Iput before vs × PostedAgain Bput before vs
-put_values before vs fit = (
-  record { good = values_good None vs fit.are; again = λ now low. values_again None now vs (fitting_at vs before now fit low); few = fit.room.all },
-  record { good = values_good None vs fit.are; again = λ now low. values_again None now vs (fitting_at vs before now fit low); few = fit.room.all },
-)
+put_values before vs fit = grind (arith, nat_tests, values_good, values_again, fitting_at)
 
 pub nothing_posted : (before : ℕ) → before ≤ most_values → PostedAgain Iget before (Numbers [])
 nothing_posted before low = record { good = refl; again = λ now fits. refl; few = omega arith }
@@ -148,11 +145,8 @@ name_behind : (n : List ℕ) → is_name n ≡ true → BehindAgain Name n
 name_behind n named = record { good = and_from _ _ (name_plain n named) refl; again = go_on (name (Plain n ∷ [])) whole (n, []) n (name_again n [] named) refl }
 
 record_behind : (n : List ℕ) (k : ℕ) → is_name n ≡ true → k < 2 ^ 63 → BehindAgain Record (n, k)
-record_behind n k named small = record {
-  good = and_from _ _ (name_plain n named) (and_from _ _ (size_plain k small) refl);
-  again = go_on (name (Plain n ∷ Plain (decimal k) ∷ [])) _ (n, Plain (decimal k) ∷ []) (n, k) (name_again n (Plain (decimal k) ∷ []) named)
-      (go_on (size (Plain (decimal k) ∷ [])) _ (k, []) (n, k) (size_word k [] small) refl);
-}
+record_behind n k named small =
+    grind (arith, nat_tests, name_plain n named, size_plain k small, decimal k, name_again n (Plain (decimal k) ∷ []) named, size_word k [] small, and_from, go_on)
 
 nothing_behind : (u : Unit {0}) → BehindAgain Nothing u
 nothing_behind u = record { good = refl; again = refl }

@@ -1,15 +1,15 @@
 -- Hints, dimensions and variables that are printed are read again.
-use Rattle.script_text.proofs.Words.{◌≡◌, ◌⊎◌, ◌∙◌, ℕ, zero, suc, ◌%◌, ◌^◌, ◌<◌, List, [], ◌∷◌, length, Bool, true, false, not, cond, nat_le, ◌==◌, ◌&&◌, ◌||◌, Option, Some, None, is_some, slice_get, slice_set, unwrap_or, Ok, refl, sym, ap, subst, ⊎_elim, arith, bytes_eq, codes, decimal, inl, inr, list_all, list_any, and_parts, and_from, cond-true, cond-false, NcType, Dim, most_dims, most_vars, record_limit, type_word, joined, bracketed, Word, Plain, is_name, below, size_of_text, between_brackets, parts, refuse_if, reads_as, name, ended, HintForm, Within, Either, HintRow, hint_table, hint_of_text, hint_form, hint_in, no_row, number_within, one_of_two, hint_value, hint_line, ranks_line, type_of, is_among, length_of_text, is_unlimited, dim_names, dim_line, var_head, name_list, size_read}
+use Rattle.script_text.proofs.Words.{◌≡◌, ◌⊎◌, ◌∙◌, ℕ, zero, suc, ◌%◌, ◌^◌, ◌<◌, List, [], ◌∷◌, length, Bool, true, false, not, cond, nat_le, ◌==◌, ◌&&◌, ◌||◌, Option, Some, None, is_some, slice_get, slice_set, unwrap_or, Ok, refl, sym, ap, subst, ⊎_elim, arith, bytes_eq, codes, decimal, list_all, list_any, and_parts, and_from, cond-true, cond-false, NcType, Dim, most_dims, most_vars, record_limit, type_word, bracketed, Word, Plain, is_name, size_of_text, between_brackets, parts, refuse_if, reads_as, name, ended, HintForm, Within, Either, HintRow, hint_table, hint_of_text, hint_form, hint_in, no_row, number_within, one_of_two, hint_value, hint_line, ranks_line, type_of, is_among, length_of_text, is_unlimited, dim_names, dim_line, var_head, name_list, size_read, nat_tests}
 use borrow.Author.Tests.{leb-true, not-false}
 use Rattle.nc_base.specs.declared.errors.ScriptKind.TheVariants as kind
 use Rattle.nc_base.specs.declared.errors.LimitName.TheVariants as limit
-use Rattle.script_text.proofs.Steps.{went, go_on, same_ok, not_refused, passed, read_word, word_read, whole_value}
+use Rattle.script_text.proofs.Steps.{went, go_on, same_ok, not_refused, passed, read_word, word_read}
 use Rattle.script_text.proofs.Lexing.{is_plain, is_good}
 use Rattle.script_text.proofs.Lines.{all_more}
 use Rattle.script_text.proofs.Numerals.{below_bound, below_again, size_again, size_plain, decimal_word, brackets_again, parts_again, bracketed_plain, is_item, name_item, name_plain}
 use Rattle.script_text.proofs.PrintedValues.{not_letters}
 use Rattle.script_text.proofs.PrintedRegions.{name_read, name_again}
-use Rattle.script_text.proofs.PrintedAttributes.{type_read, type_word_again}
+use Rattle.script_text.proofs.PrintedAttributes.{type_read}
 
 -- ---- hints
 
@@ -18,24 +18,13 @@ is_value_of (Within low high unit) n = nat_le low n && nat_le n high && n % unit
 is_value_of (Either zero_word one_word) n = n == 0 || n == 1
 
 within_read : (low high unit : ℕ) (w : List ℕ) (n : ℕ) → number_within low high unit w ≡ Some n → is_value_of (Within low high unit) n ≡ true
-within_read low high unit w n h = by (size_of_text w) h
-  where
-    by_test : (m : ℕ) (b : Bool) → (nat_le low m && nat_le m high && m % unit == 0) ≡ b → cond {A = Option ℕ} b (Some m) None ≡ Some n → (nat_le low n && nat_le n high && n % unit == 0) ≡ true
-    by_test m true e k = let same : m ≡ n = cc in subst (λ x. (nat_le low x && nat_le x high && x % unit == 0) ≡ true) same e
-    by_test m false e k = absurd (cc)
-
-    by : (o : Option ℕ) → elim o as (λ x. Option ℕ) [ None ↦ None | Some m ↦ cond (nat_le low m && nat_le m high && m % unit == 0) (Some m) None ] ≡ Some n → (nat_le low n && nat_le n high && n % unit == 0) ≡ true
-    by None k = absurd (cc)
-    by (Some m) k = by_test m (nat_le low m && nat_le m high && m % unit == 0) refl k
+within_read low high unit w n h = grind (arith, nat_tests, nat_le)
 
 abbrev within_by : ℕ → ℕ → ℕ → Option ℕ → Option ℕ
 within_by low high unit o = elim o [ None ↦ None | Some m ↦ cond (nat_le low m && nat_le m high && m % unit == 0) (Some m) None ]
 
 within_low : (low high unit n : ℕ) → is_value_of (Within low high unit) n ≡ true → high < 2 ^ 63 → n < 2 ^ 63
-within_low low high unit n h top =
-    let both = and_parts (nat_le low n && nat_le n high) (n % unit == 0) h in
-    let most = leb-true n high (and_parts (nat_le low n) (nat_le n high) both.0).1 in
-    omega arith
+within_low low high unit n h top = grind (arith, nat_tests, and_parts, nat_le, leb-true)
 
 pub within_again : (low high unit n : ℕ) → is_value_of (Within low high unit) n ≡ true → high < 2 ^ 63 → number_within low high unit (decimal n) ≡ Some n
 within_again low high unit n h top = ap (within_by low high unit) (size_again n (within_low low high unit n h top)) ∙ cond-true _ _ _ h
@@ -44,12 +33,7 @@ pub within_plain : (low high unit n : ℕ) → is_value_of (Within low high unit
 within_plain low high unit n h top = size_plain n (within_low low high unit n h top)
 
 either_read : (a b w : List ℕ) (n : ℕ) → one_of_two a b w ≡ Some n → is_value_of (Either a b) n ≡ true
-either_read a b w n h = by (bytes_eq w a) (bytes_eq w b) h
-  where
-    by : (x y : Bool) → cond {A = Option ℕ} x (Some 0) (cond y (Some 1) None) ≡ Some n → (n == 0 || n == 1) ≡ true
-    by true y k = let same : 0 ≡ n = cc in subst (λ m. (m == 0 || m == 1) ≡ true) same refl
-    by false true k = let same : 1 ≡ n = cc in subst (λ m. (m == 0 || m == 1) ≡ true) same refl
-    by false false k = absurd (cc)
+either_read a b w n h = grind (arith, nat_tests, bytes_eq)
 
 value_read : (f : HintForm) (ws : List Word) (r : ℕ × List Word) → hint_value f ws ≡ Ok r → is_value_of f r.0 ≡ true
 value_read (Within low high unit) ws r h = let w = read_word (number_within low high unit) kind.BadNumber ws r h in within_read low high unit w.0 r.0 w.1
@@ -74,8 +58,7 @@ hints_set (f ∷ fs) (None ∷ os) zero v a b = and_from _ _ b a
 hints_set (f ∷ fs) (Some n ∷ os) zero v a b = and_from _ _ b (and_parts (is_value_of f.form n) (are_hints fs os) a).1
 hints_set (f ∷ fs) (None ∷ os) (suc h) v a b = hints_set fs os h v a b
 hints_set (f ∷ fs) (Some n ∷ os) (suc h) v a b =
-    let both = and_parts (is_value_of f.form n) (are_hints fs os) a in
-    and_from _ _ both.0 (hints_set fs os h v both.1 b)
+    grind (arith, nat_tests, hints_set fs os h v (and_parts (is_value_of f.form n) (are_hints fs os) a).1 b, and_parts, and_from)
 
 pub hint_read : (hints : List (Option ℕ)) (ws : List Word) (r : ℕ × ℕ) → are_hints hint_table hints ≡ true → hint_line hints ws ≡ Ok r → are_hints hint_table (slice_set hints r.0 (Some r.1)) ≡ true
 hint_read hints ws r all h =
@@ -98,16 +81,10 @@ hint_or_fits (f ∷ fs) (Some n ∷ os) (suc k) d a b = hint_or_fits fs os k d (
 -- ---- the number of ranks
 
 pub ranks_read : (ranks : Option ℕ) (ws : List Word) (n : ℕ) → ranks_line ranks ws ≡ Ok n → is_value_of (Within 1 64 1) n ≡ true
-ranks_read ranks ws n h =
-    let a = went (refuse_if (is_some ranks) kind.TwiceNamed) _ n h in
-    let b = went (reads_as (number_within 1 64 1) kind.BadNumber ws) _ n a.rest in
-    let w = read_word (number_within 1 64 1) kind.BadNumber ws b.value b.first in
-    subst (λ x. is_value_of (Within 1 64 1) x ≡ true) (whole_value b.value n b.rest).0 (within_read 1 64 1 w.0 b.value.0 w.1)
+ranks_read ranks ws n h = grind (arith, nat_tests)
 
 pub ranks_again : (n : ℕ) → is_value_of (Within 1 64 1) n ≡ true → ranks_line None (Plain (decimal n) ∷ []) ≡ Ok n
-ranks_again n h =
-    go_on (reads_as (number_within 1 64 1) kind.BadNumber (Plain (decimal n) ∷ [])) _ (n, []) n
-    (word_read (number_within 1 64 1) kind.BadNumber (decimal n) n [] (within_again 1 64 1 n h (omega arith))) refl
+ranks_again n h = grind (arith, nat_tests, go_on, decimal, word_read, within_again)
 
 -- ---- dimensions
 
@@ -122,21 +99,7 @@ length_by o = elim o [ None ↦ None | Some n ↦ cond (n == 0) None (Some n) ]
 
 -- a length that is read: unlimited, or a number within the limit
 length_is : (version : ℕ) (w : List ℕ) (n : ℕ) → length_of_text version w ≡ Some n → (n ≡ 0) ⊎ (((n == 0) ≡ false) × (n < record_limit version) × (n < 2 ^ 63))
-length_is version w n h = by (bytes_eq w (codes "unlimited")) h
-  where
-    by_zero : (m : ℕ) (b : Bool) → (m == 0) ≡ b → size_of_text w ≡ Some m → m < record_limit version → cond {A = Option ℕ} b None (Some m) ≡ Some n → (n ≡ 0) ⊎ (((n == 0) ≡ false) × (n < record_limit version) × (n < 2 ^ 63))
-    by_zero m true e s low k = absurd (cc)
-    by_zero m false e s low k =
-        let same : m ≡ n = cc in
-        inr (subst (λ x. ((x == 0) ≡ false) × (x < record_limit version) × (x < 2 ^ 63)) same (e, low, size_read w m s))
-
-    by_size : (o : Option ℕ) → below (record_limit version) (size_of_text w) ≡ o → length_by o ≡ Some n → (n ≡ 0) ⊎ (((n == 0) ≡ false) × (n < record_limit version) × (n < 2 ^ 63))
-    by_size None e k = absurd (cc)
-    by_size (Some m) e k = let b = below_bound (record_limit version) (size_of_text w) m e in by_zero m (m == 0) refl b.0 b.1 k
-
-    by : (b : Bool) → cond {A = Option ℕ} b (Some 0) (length_by (below (record_limit version) (size_of_text w))) ≡ Some n → (n ≡ 0) ⊎ (((n == 0) ≡ false) × (n < record_limit version) × (n < 2 ^ 63))
-    by true k = let same : 0 ≡ n = cc in inl (sym same)
-    by false k = by_size (below (record_limit version) (size_of_text w)) refl k
+length_is version w n h = grind (arith, nat_tests, bytes_eq, codes, size_read, below_bound)
 
 pub record LengthAgain (version n : ℕ) : Type 0 where
   pub plain : is_plain (length_word n) ≡ true
@@ -213,11 +176,7 @@ head_read version names ws r h =
 
 pub head_again : (version : ℕ) (names : List (List ℕ)) (t : NcType) (n : List ℕ) (more : List Word) → HeadAgain version names t n
     → var_head version names (Plain (type_word t) ∷ Plain n ∷ more) ≡ Ok ((t, n), more)
-head_again version names t n more h =
-    go_on (reads_as (type_of version) kind.UnknownWord (Plain (type_word t) ∷ Plain n ∷ more)) _ (t, Plain n ∷ more) ((t, n), more) (type_word_again version t (Plain n ∷ more) h.known)
-    (go_on (name (Plain n ∷ more)) _ (n, more) ((t, n), more) (name_again n more h.named)
-    (go_on (refuse_if (is_among n names) kind.TwiceNamed) _ tt ((t, n), more) (passed _ _ h.fresh)
-    (go_on (refuse_if (nat_le most_vars (length names)) (kind.Limit limit.Vars)) _ tt ((t, n), more) (passed _ _ h.room) refl)))
+head_again version names t n more h = grind (arith, nat_tests)
 
 pub names_read : (ws : List Word) (r : List (List ℕ) × List Word) → name_list ws ≡ Ok r → list_all is_name r.0 ≡ true
 names_read ws r h =
@@ -229,9 +188,4 @@ pub names_plain : (ns : List (List ℕ)) → list_all is_name ns ≡ true → is
 names_plain ns h = bracketed_plain ns (all_more is_name is_item name_item ns h)
 
 pub names_again : (ns : List (List ℕ)) (more : List Word) → list_all is_name ns ≡ true → name_list (Plain (bracketed ns) ∷ more) ≡ Ok (ns, more)
-names_again ns more h =
-    let inside = joined 44 ns in
-    let again : parts inside ≡ ns = parts_again ns (all_more is_name is_item name_item ns h) in
-    go_on (reads_as between_brackets kind.BadNumber (Plain (bracketed ns) ∷ more)) _ (inside, more) (ns, more) (word_read between_brackets kind.BadNumber (bracketed ns) inside more (brackets_again inside))
-    (go_on (refuse_if (not (list_all is_name (parts inside))) kind.BadName) _ tt (ns, more) (passed _ _ (ap (λ (xs : List (List ℕ)). not (list_all is_name xs)) again ∙ ap not h))
-    (ap (λ (xs : List (List ℕ)). Ok (xs, more)) again))
+names_again ns more h = grind (arith, nat_tests, parts_again, all_more, name_item, go_on, word_read, brackets_again, not, passed)

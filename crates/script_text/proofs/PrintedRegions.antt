@@ -1,5 +1,5 @@
 -- Names, regions, ids and choices that are printed are read again.
-use Rattle.script_text.proofs.Words.{◌≡◌, ◌∙◌, ℕ, zero, suc, ◌+◌, ◌^◌, ◌≤◌, ◌<◌, List, [], ◌∷◌, ◌++◌, map, length, Bool, true, false, not, cond, nat_lt, nat_le, ◌==◌, ◌&&◌, Option, Some, None, Result, Ok, refl, sym, ap, subst, append_assoc, append-nil, length-append, arith, bytes_eq, codes, decimal, list_all, and_parts, and_from, cond-true, ne_eqb, faultless_some, ScriptKind, Form, Given, Part, Choice, Every, Listed, most_parts, has_lists_of, has_its_lists, is_given, is_empty, size_list, part_words, form_words, choice_words, Word, Plain, is_word, is_name, size_of_text, list_of_text, ◌>>=◌, refuse_if, bare, reads_as, size, list, name, name_of_text, whole, given_of, given_parts, part, part_list, region, id_of_text, one_id, ids, choice, is_id, is_expressible_choice, all_joined}
+use Rattle.script_text.proofs.Words.{◌≡◌, ◌∙◌, ℕ, zero, suc, ◌+◌, ◌^◌, ◌≤◌, ◌<◌, List, [], ◌∷◌, ◌++◌, map, length, Bool, true, false, not, cond, nat_lt, nat_le, ◌==◌, ◌&&◌, Option, Some, None, Result, Ok, refl, sym, ap, subst, append_assoc, append-nil, length-append, arith, bytes_eq, codes, decimal, list_all, and_parts, and_from, cond-true, ne_eqb, faultless_some, ScriptKind, Form, Given, Part, Choice, Every, Listed, most_parts, has_lists_of, has_its_lists, is_given, is_empty, size_list, part_words, form_words, choice_words, Word, Plain, is_word, is_name, size_of_text, list_of_text, ◌>>=◌, refuse_if, reads_as, size, list, name, name_of_text, whole, given_of, given_parts, part, part_list, region, id_of_text, one_id, ids, choice, is_id, is_expressible_choice, all_joined, nat_tests}
 use Rattle.std.proofs.Common.{flat_map}
 use borrow.Author.Tests.{ltb-true, ltb-false, lt-ltb, le-ltb, leb-true}
 use Rattle.nc_base.specs.declared.errors.ScriptKind.TheVariants as kind
@@ -14,9 +14,7 @@ use Rattle.script_spec.proofs.NumeralLaws.{size_read as size_bound}
 
 -- what holds of each word holds of each that follows the one that is read
 pub kept : {A : Type 0} (p : Word → Bool) (f : List ℕ → Option A) (e : ScriptKind) (ws : List Word) (r : A × List Word) → reads_as f e ws ≡ Ok r → list_all p ws ≡ true → list_all p r.1 ≡ true
-kept p f e ws r h all =
-    let b = word_before f e ws r h in
-    (and_parts (p b.0) (list_all p r.1) (subst (λ xs. list_all p xs ≡ true) b.1 all)).1
+kept p f e ws r h all = grind (arith, nat_tests, word_before, and_parts)
 
 -- ---- names
 
@@ -66,25 +64,16 @@ part_read ws r h =
     subst (λ p. is_part p ≡ true) same (and_from _ _ (list_read ws a.value a.first) (list_read a.value.1 b.value b.first))
 
 part_kept : (p : Word → Bool) (ws : List Word) (r : Part × List Word) → part ws ≡ Ok r → list_all p ws ≡ true → list_all p r.1 ≡ true
-part_kept p ws r h all =
-    let a = went (list ws) _ r h in
-    let b = went (list a.value.1) _ r a.rest in
-    let same = ap (λ (x : Part × List Word). x.1) (same_ok (record { start = a.value.0; count = b.value.0 }, b.value.1) r b.rest) in
-    subst (λ xs. list_all p xs ≡ true) same (list_kept p a.value.1 b.value b.first (list_kept p ws a.value a.first all))
+part_kept p ws r h all = grind (arith, nat_tests, went, same_ok, list_kept)
 
 part_again : (p : Part) (more : List Word) → is_part p ≡ true → part (Plain (size_list p.start) ∷ Plain (size_list p.count) ∷ more) ≡ Ok (p, more)
-part_again p more h =
-    let both = and_parts (are_sizes p.start) (are_sizes p.count) h in
-    go_on (list (Plain (size_list p.start) ∷ Plain (size_list p.count) ∷ more)) _ (p.start, Plain (size_list p.count) ∷ more) (p, more) (list_word p.start _ both.0)
-    (go_on (list (Plain (size_list p.count) ∷ more)) _ (p.count, more) (p, more) (list_word p.count more both.1) refl)
+part_again p more h = grind (arith, nat_tests, and_parts, go_on, list_word)
 
 part_pushed : (found : List Part) (p : Part) → list_all is_part found ≡ true → is_part p ≡ true → list_all is_part (found ++ p ∷ []) ≡ true
 part_pushed found p a b = all_joined is_part found (p ∷ []) a (and_from _ _ b refl)
 
 parts_read : (n : ℕ) (found : List Part) (ws : List Word) (r : List Part × List Word) → list_all is_part found ≡ true → part_list n found ws ≡ Ok r → (list_all is_part r.0 ≡ true) × (length found + n ≡ length r.0)
-parts_read zero found ws r h e =
-    let same = ap (λ (x : List Part × List Word). x.0) (same_ok (found, ws) r e) in
-    (subst (λ ps. list_all is_part ps ≡ true) same h, omega (arith, ap length same))
+parts_read zero found ws r h e = grind (arith, nat_tests, same_ok)
 parts_read (suc n) found ws r h e =
     let a = carried (part ws) (λ p. part_list n (found ++ p.0 ∷ []) p.1) r e in
     let more = parts_read n (found ++ a.value.0 ∷ []) a.value.1 r (part_pushed found a.value.0 h (part_read ws a.value a.first)) a.rest in
@@ -99,10 +88,7 @@ parts_kept p (suc n) found ws r e all =
 parts_again : (ps found : List Part) (more : List Word) → list_all is_part ps ≡ true → part_list (length ps) found (flat_map part_tokens ps ++ more) ≡ Ok (found ++ ps, more)
 parts_again [] found more h = ap (λ (xs : List Part). Ok (xs, more)) (sym (append-nil found))
 parts_again (p ∷ ps) found more h =
-    let both = and_parts (is_part p) (list_all is_part ps) h in
-    let rest = flat_map part_tokens ps ++ more in
-    carry_on (part (Plain (size_list p.start) ∷ Plain (size_list p.count) ∷ rest)) (λ q. part_list (length ps) (found ++ q.0 ∷ []) q.1) (p, rest) _ (part_again p rest both.0)
-    (parts_again ps (found ++ p ∷ []) more both.1 ∙ ap (λ (xs : List Part). Ok (xs, more)) (append_assoc found (p ∷ []) ps))
+    grind (arith, nat_tests, parts_again ps (found ++ p ∷ []) more (and_parts (is_part p) (list_all is_part ps) h).1, and_parts, flat_map, carry_on, part_again, append_assoc)
 
 parts_spelled : (ps : List Part) → map spelling (flat_map part_tokens ps) ≡ flat_map part_words ps
 parts_spelled [] = refl
@@ -110,10 +96,7 @@ parts_spelled (p ∷ ps) = ap (λ (ws : List (List ℕ)). size_list p.start ∷ 
 
 parts_good : (ps : List Part) → list_all is_part ps ≡ true → list_all is_good (flat_map part_tokens ps) ≡ true
 parts_good [] h = refl
-parts_good (p ∷ ps) h =
-    let both = and_parts (is_part p) (list_all is_part ps) h in
-    let two = and_parts (are_sizes p.start) (are_sizes p.count) both.0 in
-    and_from _ _ (list_plain p.start two.0) (and_from _ _ (list_plain p.count two.1) (parts_good ps both.1))
+parts_good (p ∷ ps) h = grind (arith, nat_tests, parts_good ps (and_parts (is_part p) (list_all is_part ps) h).1, and_parts, and_from, list_plain)
 
 -- ---- regions
 
@@ -126,12 +109,7 @@ region_tokens form.Varm g = Plain (size_list g.start) ∷ Plain (size_list g.cou
 region_tokens form.Varn g = Plain (decimal (length g.parts)) ∷ flat_map part_tokens g.parts
 
 pub region_spelled : (f : Form) (g : Given) → map spelling (region_tokens f g) ≡ form_words f g
-region_spelled form.Var g = refl
-region_spelled form.Var1 g = refl
-region_spelled form.Vara g = refl
-region_spelled form.Vars g = refl
-region_spelled form.Varm g = refl
-region_spelled form.Varn g = ap (λ (ws : List (List ℕ)). decimal (length g.parts) ∷ ws) (parts_spelled g.parts)
+region_spelled f g = grind (arith, nat_tests, decimal, parts_spelled)
 
 pub record RegionAgain (f : Form) (g : Given) : Type 0 where
   pub same_form : f ≡ g.form
@@ -139,38 +117,16 @@ pub record RegionAgain (f : Form) (g : Given) : Type 0 where
   pub again : (more : List Word) → region f (region_tokens f g ++ more) ≡ Ok (g, more)
 
 var1_again : (s : List ℕ) → are_sizes s ≡ true → RegionAgain form.Var1 (given_of form.Var1 s [] [] [])
-var1_again s hs = record {
-  same_form = refl;
-  good = and_from _ _ (list_plain s hs) refl;
-  again = λ more. go_on (list (Plain (size_list s) ∷ more)) _ (s, more) _ (list_word s more hs) refl;
-}
+var1_again s hs = grind (arith, nat_tests, and_from, list_plain, go_on, list_word)
 
 vara_again : (s c : List ℕ) → are_sizes s ≡ true → are_sizes c ≡ true → RegionAgain form.Vara (given_of form.Vara s c [] [])
-vara_again s c hs hc = record {
-  same_form = refl;
-  good = and_from _ _ (list_plain s hs) (and_from _ _ (list_plain c hc) refl);
-  again = λ more. go_on (list (Plain (size_list s) ∷ Plain (size_list c) ∷ more)) _ (s, Plain (size_list c) ∷ more) _ (list_word s _ hs)
-      (go_on (list (Plain (size_list c) ∷ more)) _ (c, more) _ (list_word c more hc) refl);
-}
+vara_again s c hs hc = grind (arith, nat_tests, and_from, list_plain, go_on, list_word)
 
 vars_again : (s c d : List ℕ) → are_sizes s ≡ true → are_sizes c ≡ true → are_sizes d ≡ true → RegionAgain form.Vars (given_of form.Vars s c d [])
-vars_again s c d hs hc hd = record {
-  same_form = refl;
-  good = and_from _ _ (list_plain s hs) (and_from _ _ (list_plain c hc) (and_from _ _ (list_plain d hd) refl));
-  again = λ more. go_on (list (Plain (size_list s) ∷ Plain (size_list c) ∷ Plain (size_list d) ∷ more)) _ (s, Plain (size_list c) ∷ Plain (size_list d) ∷ more) _ (list_word s _ hs)
-      (go_on (list (Plain (size_list c) ∷ Plain (size_list d) ∷ more)) _ (c, Plain (size_list d) ∷ more) _ (list_word c _ hc)
-      (go_on (list (Plain (size_list d) ∷ more)) _ (d, more) _ (list_word d more hd) refl));
-}
+vars_again s c d hs hc hd = grind (arith, nat_tests, and_from, list_plain, go_on, list_word)
 
 varm_again : (s c d m : List ℕ) → are_sizes s ≡ true → are_sizes c ≡ true → are_sizes d ≡ true → are_sizes m ≡ true → RegionAgain form.Varm (given_of form.Varm s c d m)
-varm_again s c d m hs hc hd hm = record {
-  same_form = refl;
-  good = and_from _ _ (list_plain s hs) (and_from _ _ (list_plain c hc) (and_from _ _ (list_plain d hd) (and_from _ _ (list_plain m hm) refl)));
-  again = λ more. go_on (list (Plain (size_list s) ∷ Plain (size_list c) ∷ Plain (size_list d) ∷ Plain (size_list m) ∷ more)) _ (s, Plain (size_list c) ∷ Plain (size_list d) ∷ Plain (size_list m) ∷ more) _ (list_word s _ hs)
-      (go_on (list (Plain (size_list c) ∷ Plain (size_list d) ∷ Plain (size_list m) ∷ more)) _ (c, Plain (size_list d) ∷ Plain (size_list m) ∷ more) _ (list_word c _ hc)
-      (go_on (list (Plain (size_list d) ∷ Plain (size_list m) ∷ more)) _ (d, Plain (size_list m) ∷ more) _ (list_word d _ hd)
-      (go_on (list (Plain (size_list m) ∷ more)) _ (m, more) _ (list_word m more hm) refl)));
-}
+varm_again s c d m hs hc hd hm = grind (arith, nat_tests, and_from, list_plain, go_on, list_word)
 
 varn_again : (ps : List Part) → list_all is_part ps ≡ true → (length ps == 0) ≡ false → nat_lt most_parts (length ps) ≡ false → RegionAgain form.Varn (given_parts ps)
 varn_again ps h some few =
@@ -191,8 +147,7 @@ left : {x y : Given × List Word} (p : Word → Bool) → x ≡ y → list_all p
 left p e h = subst (λ (z : Given × List Word). list_all p z.1 ≡ true) e h
 
 pub region_again : (f : Form) (ws : List Word) (r : Given × List Word) → region f ws ≡ Ok r → RegionAgain f r.0
-region_again form.Var ws r h =
-    given form.Var (same_ok (given_of form.Var [] [] [] [], ws) r h) (record { same_form = refl; good = refl; again = λ more. refl })
+region_again form.Var ws r h = grind (arith, nat_tests, given, same_ok)
 region_again form.Var1 ws r h =
     let a = went (list ws) _ r h in
     given form.Var1 (same_ok (given_of form.Var1 a.value.0 [] [] [], a.value.1) r a.rest) (var1_again a.value.0 (list_read ws a.value a.first))
@@ -226,34 +181,11 @@ region_again form.Varn ws r h =
 
 pub region_kept : (p : Word → Bool) (f : Form) (ws : List Word) (r : Given × List Word) → region f ws ≡ Ok r → list_all p ws ≡ true → list_all p r.1 ≡ true
 region_kept p form.Var ws r h all = left p (same_ok (given_of form.Var [] [] [] [], ws) r h) all
-region_kept p form.Var1 ws r h all =
-    let a = went (list ws) _ r h in
-    left p (same_ok (given_of form.Var1 a.value.0 [] [] [], a.value.1) r a.rest) (list_kept p ws a.value a.first all)
-region_kept p form.Vara ws r h all =
-    let a = went (list ws) _ r h in
-    let b = went (list a.value.1) _ r a.rest in
-    left p (same_ok (given_of form.Vara a.value.0 b.value.0 [] [], b.value.1) r b.rest)
-    (list_kept p a.value.1 b.value b.first (list_kept p ws a.value a.first all))
-region_kept p form.Vars ws r h all =
-    let a = went (list ws) _ r h in
-    let b = went (list a.value.1) _ r a.rest in
-    let c = went (list b.value.1) _ r b.rest in
-    left p (same_ok (given_of form.Vars a.value.0 b.value.0 c.value.0 [], c.value.1) r c.rest)
-    (list_kept p b.value.1 c.value c.first (list_kept p a.value.1 b.value b.first (list_kept p ws a.value a.first all)))
-region_kept p form.Varm ws r h all =
-    let a = went (list ws) _ r h in
-    let b = went (list a.value.1) _ r a.rest in
-    let c = went (list b.value.1) _ r b.rest in
-    let d = went (list c.value.1) _ r c.rest in
-    left p (same_ok (given_of form.Varm a.value.0 b.value.0 c.value.0 d.value.0, d.value.1) r d.rest)
-    (list_kept p c.value.1 d.value d.first (list_kept p b.value.1 c.value c.first (list_kept p a.value.1 b.value b.first (list_kept p ws a.value a.first all))))
-region_kept p form.Varn ws r h all =
-    let a = went (size ws) _ r h in
-    let b = went (refuse_if (a.value.0 == 0) kind.BadNumber) _ r a.rest in
-    let c = went (refuse_if (nat_lt most_parts a.value.0) (kind.Limit limit.Parts)) _ r b.rest in
-    let d = went (part_list a.value.0 [] a.value.1) _ r c.rest in
-    left p (same_ok (given_parts d.value.0, d.value.1) r d.rest)
-    (parts_kept p a.value.0 [] a.value.1 d.value d.first (kept p size_of_text kind.BadNumber ws a.value a.first all))
+region_kept p form.Var1 ws r h all = grind (arith, nat_tests, went, left, same_ok, list_kept)
+region_kept p form.Vara ws r h all = grind (arith, nat_tests, went, left, same_ok, list_kept)
+region_kept p form.Vars ws r h all = grind (arith, nat_tests, went, left, same_ok, list_kept)
+region_kept p form.Varm ws r h all = grind (arith, nat_tests, went, left, same_ok, list_kept)
+region_kept p form.Varn ws r h all = grind (arith, nat_tests, went, nat_lt, left, same_ok, parts_kept, kept)
 
 -- ---- a region that has just the lists of its form
 
@@ -265,13 +197,7 @@ same_region f s c d m s2 c2 d2 m2 ps ps2 e1 e2 e3 e4 e5 = cc
 
 region_by : (f : Form) (s c d m : List ℕ) (ps : List Part) → has_lists_of f (region_with f s c d m ps) ≡ true → are_sizes s ≡ true → are_sizes c ≡ true → are_sizes d ≡ true → are_sizes m ≡ true → list_all is_part ps ≡ true
     → length ps ≤ most_parts → RegionAgain f (region_with f s c d m ps)
-region_by form.Var s c d m ps lists hs hc hd hm hp few =
-    let p4 = and_parts (is_empty s && is_empty c && is_empty d && is_empty m) (is_empty ps) lists in
-    let p3 = and_parts (is_empty s && is_empty c && is_empty d) (is_empty m) p4.0 in
-    let p2 = and_parts (is_empty s && is_empty c) (is_empty d) p3.0 in
-    let p1 = and_parts (is_empty s) (is_empty c) p2.0 in
-    let same = same_region form.Var [] [] [] [] s c d m [] ps (empty_list s p1.0) (empty_list c p1.1) (empty_list d p2.1) (empty_list m p3.1) (empty_list ps p4.1) in
-    subst (RegionAgain form.Var) same (record { same_form = refl; good = refl; again = λ more. refl })
+region_by form.Var s c d m ps lists hs hc hd hm hp few = grind (arith, nat_tests, and_parts, same_region, empty_list)
 region_by form.Var1 s c d m ps lists hs hc hd hm hp few =
     let p3 = and_parts (is_empty c && is_empty d && is_empty m) (is_empty ps) lists in
     let p2 = and_parts (is_empty c && is_empty d) (is_empty m) p3.0 in
@@ -288,8 +214,7 @@ region_by form.Vars s c d m ps lists hs hc hd hm hp few =
     let same = same_region form.Vars s c d [] s c d m [] ps refl refl refl (empty_list m p1.0) (empty_list ps p1.1) in
     subst (RegionAgain form.Vars) same (vars_again s c d hs hc hd)
 region_by form.Varm s c d m ps lists hs hc hd hm hp few =
-    let same = same_region form.Varm s c d m s c d m [] ps refl refl refl refl (empty_list ps lists) in
-    subst (RegionAgain form.Varm) same (varm_again s c d m hs hc hd hm)
+    grind (arith, nat_tests, same_region form.Varm s c d m s c d m [] ps refl refl refl refl (empty_list ps lists), empty_list ps lists, varm_again s c d m hs hc hd hm)
 region_by form.Varn s c d m ps lists hs hc hd hm hp few =
     let p4 = and_parts (is_empty s && is_empty c && is_empty d && is_empty m) (not (is_empty ps)) lists in
     let p3 = and_parts (is_empty s && is_empty c && is_empty d) (is_empty m) p4.0 in
@@ -324,9 +249,7 @@ pub id_plain : (n : ℕ) → n < 2 ^ 32 → is_plain (decimal n) ≡ true
 id_plain n h = size_plain n (omega arith)
 
 one_id_read : (w : Word) (n : ℕ) → one_id w ≡ Ok n → is_id n ≡ true
-one_id_read w n h =
-    let a = went (bare w) _ n h in
-    lt-ltb n (2 ^ 32) (id_bound a.value n (faultless_some kind.BadNumber (id_of_text a.value) n a.rest))
+one_id_read w n h = grind (arith, nat_tests, went, lt-ltb, id_bound, faultless_some)
 
 ids_read : (ws : List Word) (found r : List ℕ) → list_all is_id found ≡ true → ids found ws ≡ Ok r → list_all is_id r ≡ true
 ids_read [] found r h e = subst (λ xs. list_all is_id xs ≡ true) (same_ok found r e) h
@@ -343,9 +266,7 @@ ids_again (n ∷ ns) found h =
 
 ids_good : (ns : List ℕ) → list_all is_id ns ≡ true → list_all is_good (map (λ n. Plain (decimal n)) ns) ≡ true
 ids_good [] h = refl
-ids_good (n ∷ ns) h =
-    let both = and_parts (is_id n) (list_all is_id ns) h in
-    and_from _ _ (id_plain n (ltb-true n (2 ^ 32) both.0)) (ids_good ns both.1)
+ids_good (n ∷ ns) h = grind (arith, nat_tests, ids_good ns (and_parts (is_id n) (list_all is_id ns) h).1, and_parts, and_from, id_plain, ltb-true)
 
 -- ---- choices
 

@@ -1,6 +1,6 @@
 -- Values that are printed are read as the same values.
-use Rattle.script_text.proofs.Words.{◌≡◌, ◌∙◌, ℕ, suc, ◌+◌, ◌^◌, ◌≤◌, ◌<◌, List, [], ◌∷◌, ◌++◌, map, length, Bool, true, false, not, cond, nat_lt, ◌&&◌, Option, Some, None, is_some, Result, Ok, ℤ, unsigned_abs, refl, sym, ap, subst, append_assoc, append-nil, length-append, arith, bytes_eq, codes, signed_decimal, list_all, and_parts, and_from, and_left, cond-true, ne_eqb, sixteens, faultless_some, ScriptKind, NcType, Values, Numbers, Text, Bits, Class, class_of, most_elements, most_values, count_of, hex, shown_values, Word, Plain, Quoted, Broken, number_of_text, bits_of_text, refuse_if, or_fault, bare, reads_as, size, ended, within_limits, are_numbers, are_patterns, are_text, may_be, may_have, wrong_kind, number_for, pattern_for, one_value, each_value, sequence_count, sequence, last_number, is_term, term, numbers_between, pattern_sequence, last_pattern, is_pattern_term, pattern_term, patterns_between, seq_values, seqx_values, pattern_values, text_values, number_values, bits_values, begins_x, listed_kind, listed_values, values}
-use borrow.Author.Tests.{ltb-true, ltb-false, lt-ltb, le-ltb, not-false}
+use Rattle.script_text.proofs.Words.{◌≡◌, ◌∙◌, ℕ, suc, ◌+◌, ◌^◌, ◌≤◌, ◌<◌, List, [], ◌∷◌, ◌++◌, map, length, Bool, true, false, not, cond, nat_lt, ◌&&◌, Option, Some, None, is_some, Result, Ok, ℤ, unsigned_abs, refl, sym, ap, subst, append_assoc, append-nil, length-append, arith, bytes_eq, codes, signed_decimal, list_all, and_parts, and_from, and_left, cond-true, ne_eqb, sixteens, faultless_some, ScriptKind, NcType, Values, Numbers, Text, Bits, Class, most_elements, most_values, count_of, hex, shown_values, Word, Plain, Quoted, Broken, number_of_text, bits_of_text, refuse_if, or_fault, bare, reads_as, size, ended, within_limits, are_numbers, are_patterns, are_text, may_be, may_have, wrong_kind, number_for, pattern_for, one_value, each_value, sequence_count, sequence, last_number, is_term, term, numbers_between, pattern_sequence, last_pattern, is_pattern_term, pattern_term, patterns_between, seq_values, seqx_values, pattern_values, text_values, number_values, bits_values, begins_x, listed_kind, listed_values, values, nat_tests}
+use borrow.Author.Tests.{ltb-true, lt-ltb, not-false}
 use Rattle.nc_base.specs.declared.errors.ScriptKind.TheVariants as kind
 use Rattle.nc_base.specs.declared.errors.LimitName.TheVariants as limit
 use Rattle.nc_base.specs.declared.request.Value.TheVariants as value
@@ -47,32 +47,17 @@ pub record Fitting (t : Option NcType) (before : ℕ) (vs : Values) : Type 0 whe
   pub room : HasRoom t before (count_of vs)
 
 room_from : (t : Option NcType) (before n : ℕ) (u : Unit {0}) → within_limits t before n ≡ Ok u → HasRoom t before n
-room_from t before n u h =
-    let a = went (refuse_if (not (is_some t) && nat_lt most_elements n) (kind.Limit limit.Elements)) _ u h in
-    let first = not_refused _ _ a.value a.first in
-    let second = not_refused (nat_lt most_values (before + n)) (kind.Limit limit.Values) u a.rest in
-    record {
-      all = ltb-false most_values (before + n) second;
-      own = λ none. ltb-false most_elements n (ap (λ (b : Bool). not b && nat_lt most_elements n) (sym none) ∙ first);
-    }
-
-not_above : (t : Option NcType) (n : ℕ) → (is_some t ≡ false → n ≤ most_elements) → (not (is_some t) && nat_lt most_elements n) ≡ false
-not_above None n h = le-ltb most_elements n (h refl)
-not_above (Some k) n h = refl
+room_from t before n u h = grind (arith, nat_tests)
 
 pub room_again : (t : Option NcType) (before n : ℕ) → HasRoom t before n → within_limits t before n ≡ Ok tt
-room_again t before n r =
-    go_on (refuse_if (not (is_some t) && nat_lt most_elements n) (kind.Limit limit.Elements)) _ tt tt (passed _ _ (not_above t n r.own))
-    (passed (nat_lt most_values (before + n)) (kind.Limit limit.Values) (le-ltb most_values (before + n) r.all))
+room_again t before n r = grind (arith, nat_tests)
 
 -- ---- values that are written out
 
 each_fit : {A : Type 0} (f : List ℕ → Option A) (test : A → Bool) → ((w : List ℕ) (x : A) → f w ≡ Some x → test x ≡ true)
     → (t : Option NcType) (before : ℕ) (ws : List Word) (found xs : List A) → list_all test found ≡ true → HasRoom t before (length found)
     → each_value f t before found ws ≡ Ok xs → (list_all test xs ≡ true) × HasRoom t before (length xs) × (length found + length ws ≡ length xs)
-each_fit f test each t before [] found xs h room e =
-    let same = same_ok found xs e in
-    (subst (λ ys. list_all test ys ≡ true) same h, subst (λ ys. HasRoom t before (length ys)) same room, omega (arith, ap length same))
+each_fit f test each t before [] found xs h room e = grind (arith, nat_tests, same_ok)
 each_fit f test each t before (w ∷ ws) found xs h room e =
     let a = carried (one_value f t before (length found) w) (λ x. each_value f t before (found ++ x ∷ []) ws) xs e in
     let b = went (bare w) _ a.value a.first in
@@ -90,14 +75,10 @@ each_fit f test each t before (w ∷ ws) found xs h room e =
     all_pushed test (y ∷ xs) x h e = let both = and_parts _ _ h in and_from _ _ both.0 (all_pushed test xs x both.1 e)
 
 pub less_room : (t : Option NcType) (before m n : ℕ) → m ≤ n → HasRoom t before n → HasRoom t before m
-less_room t before m n le r =
-    let all = r.all in
-    record { all = omega arith; own = λ none. let own = r.own none in omega arith }
+less_room t before m n le r = grind (arith, nat_tests)
 
 one_again : {A : Type 0} (f : List ℕ → Option A) (t : Option NcType) (before n : ℕ) (w : List ℕ) (x : A) → f w ≡ Some x → HasRoom t before (n + 1) → one_value f t before n (Plain w) ≡ Ok x
-one_again f t before n w x e r =
-    go_on (or_fault kind.BadNumber (f w)) _ x x (faultless kind.BadNumber (f w) x e)
-    (go_on (within_limits t before (n + 1)) _ tt x (room_again t before (n + 1) r) refl)
+one_again f t before n w x e r = grind (arith, nat_tests, go_on, faultless, room_again)
 
 each_again : {A : Type 0} (f : List ℕ → Option A) (test : A → Bool) (p : A → List ℕ) → ((x : A) → test x ≡ true → f (p x) ≡ Some x)
     → (t : Option NcType) (before : ℕ) (xs found : List A) → list_all test xs ≡ true → HasRoom t before (length found + length xs)
@@ -139,13 +120,8 @@ pattern_fit t w n h = by (bits_of_text w) refl h
     by None e k = absurd (cc)
     by (Some y) e k = by_test y (may_have t (value.Bits y)) e refl k
 
-abbrev number_by : Option NcType → Option ℤ → Option ℤ
-number_by t o = elim o [ None ↦ None | Some y ↦ cond (may_have t (value.Number y)) (Some y) None ]
-
 number_for_again : (t : Option NcType) (z : ℤ) → is_fit_number t z ≡ true → number_for t (signed_decimal z) ≡ Some z
-number_for_again t z h =
-    let both = and_parts _ _ h in
-    ap (number_by t) (number_again z (ltb-true _ _ both.0)) ∙ cond-true _ _ _ both.1
+number_for_again t z h = grind (arith, nat_tests, and_parts, number_again, ltb-true, cond-true)
 
 abbrev pattern_by : Option NcType → Option ℕ → Option ℕ
 pattern_by t o = elim o [ None ↦ None | Some y ↦ cond (may_have t (value.Bits y)) (Some y) None ]
@@ -287,32 +263,16 @@ values_fit t before (Plain w ∷ ws) vs low read h = by (bytes_eq w (codes "seq"
 -- ---- printed values again
 
 pub not_letters : (w : List ℕ) (c : ℕ) (cs : List ℕ) → IsNumberWord w → 57 < c → bytes_eq w (c ∷ cs) ≡ false
-not_letters w c cs n high =
-    let low = n.low in
-    ap (λ x. bytes_eq x (c ∷ cs)) n.spelled ∙ and_left _ _ (ne_eqb n.head c (omega arith))
+not_letters w c cs n high = grind (arith, nat_tests, bytes_eq, and_left, ne_eqb)
 
 no_x : (w : List ℕ) → IsNumberWord w → begins_x w ≡ false
 no_x w n = let low = n.low in ap begins_x n.spelled ∙ ne_eqb n.head 120 (omega arith)
 
 listed_number : (t : Option NcType) (before : ℕ) (w : List ℕ) (ws : List Word) → begins_x w ≡ false → may_be are_numbers t ≡ true → listed_values (listed_kind t w) t before ws ≡ number_values t before ws
-listed_number None before w ws e may = ap (λ (b : Bool). listed_values (cond b class.Pattern class.Signed) None before ws) e
-listed_number (Some k) before w ws e may = by (class_of k) may
-  where
-    by : (c : Class) → are_numbers c ≡ true → listed_values c (Some k) before ws ≡ number_values (Some k) before ws
-    by class.Signed h = refl
-    by class.Unsigned h = refl
-    by class.Text h = absurd (cc)
-    by class.Pattern h = absurd (cc)
+listed_number t before w ws e may = grind (arith, nat_tests)
 
 listed_pattern : (t : Option NcType) (before : ℕ) (w : List ℕ) (ws : List Word) → begins_x w ≡ true → may_be are_patterns t ≡ true → listed_values (listed_kind t w) t before ws ≡ bits_values t before ws
-listed_pattern None before w ws e may = ap (λ (b : Bool). listed_values (cond b class.Pattern class.Signed) None before ws) e
-listed_pattern (Some k) before w ws e may = by (class_of k) may
-  where
-    by : (c : Class) → are_patterns c ≡ true → listed_values c (Some k) before ws ≡ bits_values (Some k) before ws
-    by class.Signed h = absurd (cc)
-    by class.Unsigned h = absurd (cc)
-    by class.Text h = absurd (cc)
-    by class.Pattern h = refl
+listed_pattern t before w ws e may = grind (arith, nat_tests)
 
 numbers_again : (t : Option NcType) (before : ℕ) (zs : List ℤ) → Fitting t before (Numbers zs) → values t before (value_tokens (Numbers zs)) ≡ Ok (Numbers zs)
 numbers_again t before [] fit = refl
@@ -336,14 +296,10 @@ bits_values_again t before (n ∷ ns) fit =
     ∙ go_on (each_value (pattern_for t) t before [] ws) (λ ys. Ok (Bits ys)) (n ∷ ns) (Bits (n ∷ ns)) each refl
 
 text_again : (t : Option NcType) (before : ℕ) (text : List ℕ) → Fitting t before (Text text) → values t before (value_tokens (Text text)) ≡ Ok (Text text)
-text_again t before text fit =
-    go_on (refuse_if (not (may_be are_text t)) kind.BadNumber) _ tt (Text text) (passed _ _ (ap not fit.are.1))
-    (go_on (within_limits t before (length text)) _ tt (Text text) (room_again t before (length text) fit.room) refl)
+text_again t before text fit = grind (arith, nat_tests, go_on, not, passed, room_again)
 
 pub values_again : (t : Option NcType) (before : ℕ) (vs : Values) → Fitting t before vs → values t before (value_tokens vs) ≡ Ok vs
-values_again t before (Numbers zs) fit = numbers_again t before zs fit
-values_again t before (Text text) fit = text_again t before text fit
-values_again t before (Bits ns) fit = bits_values_again t before ns fit
+values_again t before vs fit = grind (arith, nat_tests, numbers_again, text_again, bits_values_again)
 
 -- ---- they are cut again
 
@@ -358,6 +314,4 @@ bits_good [] = refl
 bits_good (n ∷ ns) = and_from _ _ (hex_graphic 16 n) (bits_good ns)
 
 pub values_good : (t : Option NcType) (vs : Values) → AreFit t vs → list_all is_good (value_tokens vs) ≡ true
-values_good t (Numbers zs) h = numbers_good t zs h.0
-values_good t (Text text) h = and_from _ _ h.0 refl
-values_good t (Bits ns) h = bits_good ns
+values_good t vs h = grind (arith, nat_tests, numbers_good, and_from, bits_good)

@@ -1,15 +1,11 @@
 -- What is pushed of a script.
-use Rattle.script_text.proofs.Words.{◌≡◌, ◌<◌, ◌+◌, ◌*◌, ℕ, zero, suc, List, [], ◌∷◌, ◌++◌, map, length, take, drop, get_or, Bool, true, false, Some, ℤ, pos, refl, sym, ap, ◌∙◌, arith, enumerate_from, flat_map, list_all, signed_decimal, w8, w16, w32, w64, from_be_bytes, cast_signed, eqb-true, flat_map-append, list_all_at, length-enumerate_from, get_or-enumerate_from, Attr, NcType, Byte, Char, Short, Int, Float, Double, UByte, UShort, UInt, Int64, UInt64, Values, class_of, size_of, val, is_whole_attr, code_in, gathered, number_in, attr_values, pieces, shown_values, hex, joined, quoted, spaced, all_pushed, item_words, joined_spaced, next_pushed, spaced_one, value_word}
+use Rattle.script_text.proofs.Words.{◌≡◌, ◌<◌, ◌+◌, ◌*◌, ℕ, zero, suc, List, [], ◌∷◌, ◌++◌, map, length, take, drop, get_or, Bool, true, Some, ℤ, pos, refl, sym, ap, ◌∙◌, arith, enumerate_from, flat_map, list_all, signed_decimal, w8, w16, w32, w64, from_be_bytes, cast_signed, eqb-true, flat_map-append, list_all_at, length-enumerate_from, get_or-enumerate_from, Attr, NcType, Byte, Char, Short, Int, Float, Double, UByte, UShort, UInt, Int64, UInt64, Values, class_of, size_of, val, is_whole_attr, code_in, gathered, number_in, attr_values, pieces, shown_values, hex, joined, quoted, spaced, all_pushed, item_words, joined_spaced, next_pushed, spaced_one, value_word, nat_tests}
 use Rattle.std.proofs.lemmas.List.{append-nil, append_assoc}
 use Rattle.nc_base.specs.declared.request.Value.TheVariants as value
 
 -- what each item passes, one passes
 pub all_at : {A : Type 0} (test : A → Bool) (xs : List A) (i : ℕ) (d : A) → list_all test xs ≡ true → i < length xs → test (get_or xs i d) ≡ true
-all_at {A} test xs i d all within = by (test (get_or xs i d)) refl
-  where
-    by : (b : Bool) → test (get_or xs i d) ≡ b → b ≡ true
-    by true e = refl
-    by false e = absurd (cc (list_all_at test xs i d within e))
+all_at test xs i d all within = grind (arith, nat_tests, list_all_at)
 
 -- the first part stands by itself, each other one behind the byte
 pub joined_parts : (c : ℕ) (w : List ℕ) (ws : List (List ℕ)) → joined c (w ∷ ws) ≡ w ++ flat_map (λ x. c ∷ x) ws
@@ -78,10 +74,7 @@ pub chars_back : (n : ℕ) (bytes : List ℕ) → length bytes ≡ n → map cod
 chars_back zero [] h = refl
 chars_back zero (c ∷ cs) h = absurd (omega arith)
 chars_back (suc n) [] h = absurd (omega arith)
-chars_back (suc n) (c ∷ cs) h =
-    let less : length cs ≡ n = omega arith in
-    ap (λ (d : ℕ). d ∷ map code_in (map (λ b. Some (val Char b)) (pieces n 1 cs))) (char_back c)
-    ∙ ap (λ (ds : List ℕ). c ∷ ds) (chars_back n cs less)
+chars_back (suc n) (c ∷ cs) h = grind (arith, nat_tests, chars_back n cs, char_back)
 
 -- a text is one word
 text_of : (kind : NcType) (n : ℕ) (bytes : List ℕ) → kind ≡ Char → length bytes ≡ n * size_of kind → spaced (shown_values (as_values kind (pieces n (size_of kind) bytes))) ≡ 32 ∷ quoted bytes
@@ -113,13 +106,7 @@ pieces_last n m size r s one whole less =
 pub piece_pushed : (w : List ℕ → List ℕ) (size : ℕ) (now next whole : List ℕ) (n m : ℕ) (rest piece others : List ℕ) → n ≡ suc m
     → piece ≡ take size rest → others ≡ drop size rest → next ≡ now ++ w piece → now ++ flat_map w (pieces n size rest) ≡ whole
     → next ++ flat_map w (pieces m size others) ≡ whole
-piece_pushed w size now next whole n m rest piece others one front back pushed so_far =
-    ap (λ (t : List ℕ). t ++ flat_map w (pieces m size others)) pushed
-    ∙ append_assoc now (w piece) (flat_map w (pieces m size others))
-    ∙ ap (λ (t : List ℕ). now ++ (w t ++ flat_map w (pieces m size others))) front
-    ∙ ap (λ (t : List ℕ). now ++ (w (take size rest) ++ flat_map w (pieces m size t))) back
-    ∙ ap (λ (k : ℕ). now ++ flat_map w (pieces k size rest)) (sym one)
-    ∙ so_far
+piece_pushed w size now next whole n m rest piece others one front back pushed so_far = grind (arith, nat_tests, append_assoc)
 
 -- ---- ranks
 

@@ -1,5 +1,5 @@
 -- The texts on the lines of bytes have bytes.
-use Rattle.script_text.proofs.Words.{◌≡◌, ℕ, zero, suc, ◌+◌, ◌*◌, ◌<◌, List, [], ◌∷◌, length, take, drop, Bool, true, false, not, cond, ◌==◌, ◌||◌, Option, Some, None, option_map, refl, subst, arith, list_all, slice_split, onto_first, enumerate_from, position_or_len, and_parts, and_from, Word, Plain, Quoted, Broken, Line, is_blank, is_comment, is_newline, begins_blank, after_blanks, first_word, quoted_word, text_from, TextState, Between, AfterBackslash, FirstHex, SecondHex, words, words_within, hex_value, escape, without_empty_end, text_lines, line_of, significant, significant_of, all_joined}
+use Rattle.script_text.proofs.Words.{◌≡◌, ℕ, zero, suc, ◌+◌, ◌<◌, List, [], ◌∷◌, drop, Bool, true, false, not, ◌==◌, Option, Some, None, option_map, refl, arith, list_all, slice_split, onto_first, enumerate_from, position_or_len, and_parts, and_from, Word, is_blank, is_newline, after_blanks, first_word, quoted_word, text_from, TextState, Between, AfterBackslash, FirstHex, SecondHex, words_within, hex_value, escape, without_empty_end, text_lines, line_of, significant, significant_of, all_joined, nat_tests}
 use borrow.Author.Tests.{lt-ltb}
 use Rattle.script_text.proofs.Lexing.{is_byte}
 use Rattle.script_text.proofs.Numerals.{hex_value_bound}
@@ -26,28 +26,21 @@ with_byte x None b h = tt
 with_byte x (Some t) b h = (and_from _ _ b h.0, h.1)
 
 escape_byte : (c x : ℕ) → is_byte c ≡ true → escape c ≡ Some x → is_byte x ≡ true
-escape_byte c x b h = by (c == 34 || c == 92) (c == 110) (c == 116) h
-  where
-    by : (i j k : Bool) → cond {A = Option ℕ} i (Some c) (cond j (Some 10) (cond k (Some 9) None)) ≡ Some x → is_byte x ≡ true
-    by true j k e = let same : c ≡ x = cc in subst (λ y. is_byte y ≡ true) same b
-    by false true k e = let same : 10 ≡ x = cc in subst (λ y. is_byte y ≡ true) same refl
-    by false false true e = let same : 9 ≡ x = cc in subst (λ y. is_byte y ≡ true) same refl
-    by false false false e = absurd (cc)
+escape_byte c x b h = grind (arith, nat_tests, is_byte)
 
 text_bytes : (state : TextState) (cs : List ℕ) → StateOk state → are_bytes cs ≡ true → BytesOf (text_from state cs)
 text_bytes state [] ok h = tt
 text_bytes Between (c ∷ cs) ok h =
-    let both = and_parts (is_byte c) (are_bytes cs) h in
-    by (c == 34) (c == 92) both.0 both.1 (text_bytes AfterBackslash cs tt both.1) (text_bytes Between cs tt both.1)
-  where
-    by : (i j : Bool) → is_byte c ≡ true → are_bytes cs ≡ true → BytesOf (text_from AfterBackslash cs) → BytesOf (text_from Between cs)
-        → BytesOf (elim i as (λ z. Option (List ℕ × List ℕ)) [
-          | true ↦ Some ([], cs)
-          | false ↦ elim j as (λ z. Option (List ℕ × List ℕ)) [ true ↦ text_from AfterBackslash cs | false ↦ option_map (λ r. (c ∷ r.0, r.1)) (text_from Between cs) ]
-        ])
-    by true j b rest one two = (refl, rest)
-    by false true b rest one two = one
-    by false false b rest one two = with_byte c (text_from Between cs) b two
+    grind (
+      arith,
+      nat_tests,
+      text_bytes AfterBackslash cs tt (and_parts (is_byte c) (are_bytes cs) h).1,
+      text_bytes Between cs tt (and_parts (is_byte c) (are_bytes cs) h).1,
+      and_parts,
+      is_byte,
+      option_map,
+      with_byte,
+    )
 text_bytes AfterBackslash (c ∷ cs) ok h =
     let both = and_parts (is_byte c) (are_bytes cs) h in
     by (c == 120) (escape c) refl both.0 (text_bytes FirstHex cs tt both.1) (text_bytes Between cs tt both.1)
@@ -68,14 +61,7 @@ text_bytes FirstHex (c ∷ cs) ok h =
     by None e more = tt
     by (Some g) e more = more g (hex_value_bound c g e)
 text_bytes (SecondHex g) (c ∷ cs) ok h =
-    let both = and_parts (is_byte c) (are_bytes cs) h in
-    by (hex_value c) refl (text_bytes Between cs tt both.1)
-  where
-    by : (o : Option ℕ) → hex_value c ≡ o → BytesOf (text_from Between cs) → BytesOf (elim o as (λ z. Option (List ℕ × List ℕ)) [ None ↦ None | Some k ↦ option_map (λ r. ((16 * g + k) ∷ r.0, r.1)) (text_from Between cs) ])
-    by None e more = tt
-    by (Some k) e more =
-        let low = hex_value_bound c k e in
-        with_byte (16 * g + k) (text_from Between cs) (lt-ltb (16 * g + k) 256 (omega arith)) more
+    grind (arith, nat_tests, text_bytes Between cs tt (and_parts (is_byte c) (are_bytes cs) h).1, and_parts, is_byte, option_map, hex_value_bound, with_byte, lt-ltb)
 
 -- ---- a word
 
@@ -83,12 +69,7 @@ abbrev WordOk : Word × List ℕ → Type 0
 WordOk w = (is_read w.0 ≡ true) × (are_bytes w.1 ≡ true)
 
 quoted_ok : (o : Option (List ℕ × List ℕ)) → BytesOf o → WordOk (quoted_word o)
-quoted_ok None h = (refl, refl)
-quoted_ok (Some t) h = by (begins_blank t.1)
-  where
-    by : (b : Bool) → WordOk (cond b (Quoted t.0, t.1) (Broken, []))
-    by true = h
-    by false = (refl, refl)
+quoted_ok o h = grind (arith, nat_tests)
 
 all_dropped : (n : ℕ) (cs : List ℕ) → are_bytes cs ≡ true → are_bytes (drop n cs) ≡ true
 all_dropped zero cs h = h
@@ -96,11 +77,7 @@ all_dropped (suc n) [] h = refl
 all_dropped (suc n) (c ∷ cs) h = all_dropped n cs (and_parts (is_byte c) (are_bytes cs) h).1
 
 first_ok : (c : ℕ) (cs : List ℕ) → are_bytes cs ≡ true → WordOk (first_word c cs)
-first_ok c cs h = by (c == 34)
-  where
-    by : (b : Bool) → WordOk (elim b as (λ z. Word × List ℕ) [ true ↦ quoted_word (text_from Between cs) | false ↦ (Plain (c ∷ take (position_or_len is_blank cs) cs), drop (position_or_len is_blank cs) cs) ])
-    by true = quoted_ok (text_from Between cs) (text_bytes Between cs tt h)
-    by false = (refl, all_dropped (position_or_len is_blank cs) cs h)
+first_ok c cs h = grind (arith, nat_tests, quoted_ok, text_bytes, all_dropped)
 
 words_read : (n : ℕ) (line : List ℕ) → are_bytes line ≡ true → list_all is_read (words_within n line) ≡ true
 words_read zero line h = refl
@@ -119,43 +96,25 @@ abbrev are_texts : List (List ℕ) → Bool
 are_texts lines = list_all are_bytes lines
 
 onto_bytes : (x : ℕ) (parts : List (List ℕ)) → is_byte x ≡ true → are_texts parts ≡ true → are_texts (onto_first x parts) ≡ true
-onto_bytes x [] b h = and_from _ _ (and_from _ _ b refl) refl
-onto_bytes x (part ∷ parts) b h =
-    let both = and_parts (are_bytes part) (are_texts parts) h in
-    and_from _ _ (and_from _ _ b both.0) both.1
+onto_bytes x parts b h = grind (arith, nat_tests, and_from, and_parts)
 
 split_bytes : (p : ℕ → Bool) (text : List ℕ) → are_bytes text ≡ true → are_texts (slice_split p text) ≡ true
 split_bytes p [] h = refl
-split_bytes p (x ∷ text) h =
-    let both = and_parts (is_byte x) (are_bytes text) h in
-    by (p x) both.0 (split_bytes p text both.1)
-  where
-    by : (b : Bool) → is_byte x ≡ true → are_texts (slice_split p text) ≡ true → are_texts (cond b ([] ∷ slice_split p text) (onto_first x (slice_split p text))) ≡ true
-    by true b h = h
-    by false b h = onto_bytes x (slice_split p text) b h
+split_bytes p (x ∷ text) h = grind (arith, nat_tests, split_bytes p text (and_parts (is_byte x) (are_bytes text) h).1, and_parts, is_byte, onto_bytes)
 
 kept_bytes : (lines : List (List ℕ)) → are_texts lines ≡ true → are_texts (without_empty_end lines) ≡ true
 kept_bytes [] h = refl
 kept_bytes ([] ∷ []) h = refl
 kept_bytes ((c ∷ cs) ∷ []) h = h
-kept_bytes (x ∷ y ∷ more) h =
-    let both = and_parts (are_bytes x) (are_texts (y ∷ more)) h in
-    and_from _ _ both.0 (kept_bytes (y ∷ more) both.1)
+kept_bytes (x ∷ y ∷ more) h = grind (arith, nat_tests, kept_bytes (y ∷ more) (and_parts (are_bytes x) (are_texts (y ∷ more)) h).1, and_parts, and_from)
 
 line_read : (n : ℕ) (ws : List Word) → list_all is_read ws ≡ true → are_read (line_of n ws) ≡ true
-line_read n [] h = refl
-line_read n (w ∷ ws) h = by (is_comment w) (and_parts (is_read w) (list_all is_read ws) h).1
-  where
-    by : (b : Bool) → list_all is_read ws ≡ true → are_read (cond {A = List Line} b [] (record { number = n; first = w; rest = ws } ∷ [])) ≡ true
-    by true k = refl
-    by false k = and_from _ _ k refl
+line_read n ws h = grind (arith, nat_tests, and_parts, and_from)
 
 lines_read : (n : ℕ) (lines : List (List ℕ)) → are_texts lines ≡ true → are_read (significant_of (enumerate_from n lines)) ≡ true
 lines_read n [] h = refl
 lines_read n (line ∷ lines) h =
-    let both = and_parts (are_bytes line) (are_texts lines) h in
-    all_joined (λ (l : Line). list_all is_read l.rest) (line_of n (words line)) (significant_of (enumerate_from (n + 1) lines))
-    (line_read n (words line) (words_read (length line) line both.0)) (lines_read (n + 1) lines both.1)
+    grind (arith, nat_tests, lines_read (n + 1) lines (and_parts (are_bytes line) (are_texts lines) h).1, and_parts, all_joined, line_read, words_read)
 
 pub significant_read : (text : List ℕ) → list_all is_byte text ≡ true → are_read (significant text) ≡ true
 significant_read text h = lines_read 1 (text_lines text) (kept_bytes (slice_split is_newline text) (split_bytes is_newline text h))

@@ -1,5 +1,5 @@
 -- A script as its lines, which spell what is shown of it.
-use Rattle.script_text.proofs.Words.{◌≡◌, ◌∙◌, ℕ, ◌+◌, List, [], ◌∷◌, ◌++◌, map, Bool, true, false, not, cond, ◌==◌, refl, sym, ap, append_assoc, append-nil, codes, decimal, enumerate_from, Header, Var, Hints, Extra, Script, Call, line, shown, shown_hints, shown_extra, shown_dim, shown_var, shown_attr, shown_call, Word, Plain, Defined, header_of, flat_map-append}
+use Rattle.script_text.proofs.Words.{◌≡◌, ◌∙◌, ℕ, ◌+◌, List, [], ◌∷◌, ◌++◌, map, Bool, true, false, not, cond, ◌==◌, refl, sym, ap, append_assoc, append-nil, codes, decimal, enumerate_from, Header, Var, Hints, Extra, Script, Call, line, shown, shown_hints, shown_extra, shown_dim, shown_var, shown_attr, shown_call, Word, Plain, Defined, header_of, flat_map-append, arith, nat_tests}
 use Rattle.std.proofs.Common.{flat_map}
 use Rattle.script_text.proofs.Lines.{spelled}
 use Rattle.script_text.proofs.CallLines.{call_lines, calls_spelled}
@@ -41,8 +41,7 @@ flat_then xs ys text rest a b = flat_map-append spelled xs ys ∙ (ap (λ (t : L
 
 own_spelled : (vs : List Var) → flat_map spelled (lines_of_own vs) ≡ flat_map (λ v. flat_map (shown_attr v.name) v.attrs) vs
 own_spelled [] = refl
-own_spelled (v ∷ vs) = flat_then (map (line_of_att v.name) v.attrs) (lines_of_own vs) (flat_map (shown_attr v.name) v.attrs) (flat_map (λ v. flat_map (shown_attr v.name) v.attrs) vs)
-    (mapped_spelled (shown_attr v.name) (line_of_att v.name) (att_spelled v.name) v.attrs) (own_spelled vs)
+own_spelled (v ∷ vs) = grind (arith, nat_tests, own_spelled vs, flat_then, flat_map, mapped_spelled, att_spelled)
 
 abbrev definitions_text : Header → List ℕ
 definitions_text header =

@@ -1,10 +1,8 @@
 -- The terms of a sequence lie between its first and its last, so that what holds of these two holds of them.
-use Rattle.script_text.proofs.Words.{◌≡◌, ◌∙◌, ℕ, zero, suc, ◌+◌, ◌-◌, ◌*◌, ◌^◌, ◌≤◌, ◌<◌, length, Bool, true, nat_lt, ◌==◌, ◌&&◌, Option, Some, None, ℤ, pos, negsuc, neg_ℤ, ◌+ℤ◌, ◌*ℤ◌, unsigned_abs, refl, ⊎_elim, arith, list_all, range_with_len, and_parts, and_from, or_cases, common_steps, ints, list_all-map, length-map-range_with_len, NcType, Class, Signed, Unsigned, Pattern, class_of, size_of, fits_in, may_have, sequence, last_number, is_term, pattern_sequence, last_pattern, is_pattern_term, bits_in}
-use borrow.Author.Tests.{ltb-true, lt-ltb}
+use Rattle.script_text.proofs.Words.{◌≡◌, ◌∙◌, ℕ, zero, suc, ◌+◌, ◌-◌, ◌*◌, ◌^◌, ◌≤◌, ◌<◌, length, Bool, true, nat_lt, ◌==◌, ◌&&◌, Option, ℤ, pos, negsuc, neg_ℤ, ◌+ℤ◌, ◌*ℤ◌, unsigned_abs, refl, ⊎_elim, arith, list_all, range_with_len, and_from, or_cases, common_steps, ints, list_all-map, length-map-range_with_len, NcType, may_have, sequence, last_number, is_term, pattern_sequence, last_pattern, is_pattern_term, nat_tests}
 use lib.Signed.{◌≤ℤ◌}
 use native.Mathlib.Nat.{mul-le-mul_left}
 use Rattle.nc_base.specs.declared.request.Value.TheVariants as value
-use Rattle.serial_spec.specs.ExternalForm.{Text}
 
 -- a number that may stand here, and has few digits
 abbrev pub is_fit_number : Option NcType → ℤ → Bool
@@ -15,37 +13,11 @@ is_fit_pattern t n = nat_lt n (2 ^ 64) && may_have t (value.Bits n)
 
 -- ---- what is nearer to zero fits too
 
-positive_in : (c : Class) (size m n : ℕ) → m ≤ n → fits_in c size (value.Number (pos n)) ≡ true → fits_in c size (value.Number (pos m)) ≡ true
-positive_in Signed size m n le h = let b = ltb-true (2 * n) (256 ^ size) h in lt-ltb (2 * m) (256 ^ size) (omega arith)
-positive_in Unsigned size m n le h = let b = ltb-true n (256 ^ size) h in lt-ltb m (256 ^ size) (omega arith)
-positive_in Text size m n le h = absurd (cc)
-positive_in Pattern size m n le h = absurd (cc)
-
-negative_in : (c : Class) (size m n : ℕ) → m ≤ n → fits_in c size (value.Number (negsuc n)) ≡ true → fits_in c size (value.Number (negsuc m)) ≡ true
-negative_in Signed size m n le h = let b = ltb-true (2 * n) (256 ^ size) h in lt-ltb (2 * m) (256 ^ size) (omega arith)
-negative_in Unsigned size m n le h = absurd (cc)
-negative_in Text size m n le h = absurd (cc)
-negative_in Pattern size m n le h = absurd (cc)
-
-positive_may : (t : Option NcType) (m n : ℕ) → m ≤ n → may_have t (value.Number (pos n)) ≡ true → may_have t (value.Number (pos m)) ≡ true
-positive_may None m n le h = refl
-positive_may (Some k) m n le h = positive_in (class_of k) (size_of k) m n le h
-
-negative_may : (t : Option NcType) (m n : ℕ) → m ≤ n → may_have t (value.Number (negsuc n)) ≡ true → may_have t (value.Number (negsuc m)) ≡ true
-negative_may None m n le h = refl
-negative_may (Some k) m n le h = negative_in (class_of k) (size_of k) m n le h
-
 positive_fit : (t : Option NcType) (m n : ℕ) → m ≤ n → is_fit_number t (pos n) ≡ true → is_fit_number t (pos m) ≡ true
-positive_fit t m n le h =
-    let both = and_parts (nat_lt n (10 ^ 20)) (may_have t (value.Number (pos n))) h in
-    let b = ltb-true n (10 ^ 20) both.0 in
-    and_from _ _ (lt-ltb m (10 ^ 20) (omega arith)) (positive_may t m n le both.1)
+positive_fit t m n le h = grind (arith, nat_tests)
 
 negative_fit : (t : Option NcType) (m n : ℕ) → m ≤ n → is_fit_number t (negsuc n) ≡ true → is_fit_number t (negsuc m) ≡ true
-negative_fit t m n le h =
-    let both = and_parts (nat_lt (suc n) (10 ^ 20)) (may_have t (value.Number (negsuc n))) h in
-    let b = ltb-true (suc n) (10 ^ 20) both.0 in
-    and_from _ _ (lt-ltb (suc m) (10 ^ 20) (omega arith)) (negative_may t m n le both.1)
+negative_fit t m n le h = grind (arith, nat_tests)
 
 between : (t : Option NcType) (a z c : ℤ) → a ≤ℤ z → z ≤ℤ c → is_fit_number t a ≡ true → is_fit_number t c ≡ true → is_fit_number t z ≡ true
 between t a (pos m) (pos n) low high h k = positive_fit t m n (omega (arith, ints)) k
@@ -83,15 +55,8 @@ length-sequence a b n = length-map-range_with_len (λ k. a +ℤ (b *ℤ pos k)) 
 
 -- ---- terms of a sequence of bits
 
-bits_may : (t : Option NcType) (m n : ℕ) → m ≤ n → may_have t (value.Bits n) ≡ true → may_have t (value.Bits m) ≡ true
-bits_may None m n le h = refl
-bits_may (Some k) m n le h = bits_in (class_of k) (size_of k) m n le h
-
 bits_fit : (t : Option NcType) (m n : ℕ) → m ≤ n → is_fit_pattern t n ≡ true → is_fit_pattern t m ≡ true
-bits_fit t m n le h =
-    let both = and_parts (nat_lt n (2 ^ 64)) (may_have t (value.Bits n)) h in
-    let b = ltb-true n (2 ^ 64) both.0 in
-    and_from _ _ (lt-ltb m (2 ^ 64) (omega arith)) (bits_may t m n le both.1)
+bits_fit t m n le h = grind (arith, nat_tests)
 
 pub patterns_fit : (t : Option NcType) (a b n : ℕ) → is_pattern_term t n (last_pattern a b n) ≡ true → list_all (is_fit_pattern t) (pattern_sequence a b n) ≡ true
 patterns_fit t a b zero last = refl

@@ -1,5 +1,5 @@
 -- Steps from word to word, forwards and backwards.
-use Rattle.script_text.proofs.Words.{◌≡◌, ◌∙◌, ℕ, List, [], ◌∷◌, Bool, true, false, Option, Some, Result, Ok, Err, refl, ap, faultless_some, ScriptKind, Word, Plain, Quoted, Broken, ◌>>=◌, refuse_if, or_fault, bare, next, reads_as, ended, whole}
+use Rattle.script_text.proofs.Words.{◌≡◌, ◌∙◌, ℕ, List, [], ◌∷◌, Bool, true, false, Option, Some, Result, Ok, Err, refl, ap, faultless_some, ScriptKind, Word, Plain, ◌>>=◌, refuse_if, or_fault, bare, next, reads_as, ended, whole, arith, nat_tests}
 
 -- ---- what a step that gave something says of its parts
 
@@ -40,25 +40,16 @@ abbrev pub Read : {A : Type 0} → (List ℕ → Option A) → A → Type 0
 Read f x = (w : List ℕ) × (f w ≡ Some x)
 
 pub read_word : {A : Type 0} (f : List ℕ → Option A) (e : ScriptKind) (ws : List Word) (r : A × List Word) → reads_as f e ws ≡ Ok r → Read f r.0
-read_word f e ws r h =
-    let a = went (next ws) _ r h in
-    let b = went (or_fault e (f a.value.0)) _ r a.rest in
-    let same = ap (λ (p : _ × List Word). p.0) (same_ok (b.value, a.value.1) r b.rest) in
-    (a.value.0, faultless_some e (f a.value.0) b.value b.first ∙ ap (λ (z : _). Some z) same)
+read_word f e ws r h = grind (arith, nat_tests, went, same_ok, faultless_some)
 
 pub word_read : {A : Type 0} (f : List ℕ → Option A) (e : ScriptKind) (w : List ℕ) (x : A) (more : List Word) → f w ≡ Some x → reads_as f e (Plain w ∷ more) ≡ Ok (x, more)
 word_read f e w x more h = ap (λ (o : Option _). or_fault e o >>= λ y. Ok (y, more)) h
 
 pub is_end : (ws : List Word) (u : Unit {0}) → ended ws ≡ Ok u → ws ≡ []
-is_end [] u h = refl
-is_end (Plain w ∷ ws) u h = absurd (cc)
-is_end (Quoted w ∷ ws) u h = absurd (cc)
-is_end (Broken ∷ ws) u h = absurd (cc)
+is_end ws u h = grind (arith, nat_tests)
 
 pub whole_value : {A : Type 0} (p : A × List Word) (x : A) → whole p ≡ Ok x → (p.0 ≡ x) × (p.1 ≡ [])
-whole_value p x h =
-    let a = went (ended p.1) _ x h in
-    (same_ok p.0 x a.rest, is_end p.1 a.value a.first)
+whole_value p x h = grind (arith, nat_tests, went, same_ok, is_end)
 
 -- the words after a word that is read
 pub word_before : {A : Type 0} (f : List ℕ → Option A) (e : ScriptKind) (ws : List Word) (r : A × List Word) → reads_as f e ws ≡ Ok r → (w : Word) × (ws ≡ w ∷ r.1)

@@ -1,10 +1,10 @@
 -- A whole script: what is printed of what was read is read as the same script.
-use Rattle.script_text.proofs.Words.{◌≡◌, ◌∙◌, ℕ, zero, suc, ◌+◌, ◌%◌, ◌^◌, ◌≤◌, ◌<◌, List, [], ◌∷◌, ◌++◌, map, replicate, length, Bool, true, false, not, cond, nat_lt, nat_le, ◌==◌, ◌&&◌, ◌||◌, Option, Some, None, Result, Ok, Err, refl, sym, ap, subst, ⊎_elim, arith, bytes_eq, codes, decimal, take, list_all, utf8_valid_len, and_parts, and_from, or_cases, cond-true, ne_eqb, eqb-true, finished, ScriptKind, ScriptErr, Hints, Extra, Script, Call, is_version, kinds, most_values, shown, Word, Plain, Quoted, Broken, Line, size_of_text, text_lines, significant, ◌>>=◌, reads_as, whole, Within, hints_of, Defined, no_definition, Added, nothing_added, Known, nothing_known, ranks_line, Called, mismatch, at_line, version_of_text, version_line, head, definitions, data_part, finish, script_of, no_calls, script_of_lines, most_bytes, most_lines, newlines, too_many_lines, within_lines, script_of_utf8, Reads, is_mismatch, length-map, all_joined}
+use Rattle.script_text.proofs.Words.{◌≡◌, ◌∙◌, ℕ, zero, suc, ◌+◌, ◌%◌, ◌^◌, ◌≤◌, ◌<◌, List, [], ◌∷◌, ◌++◌, map, replicate, length, Bool, true, false, not, cond, nat_lt, nat_le, ◌==◌, ◌&&◌, Option, Some, None, Result, Ok, Err, refl, sym, ap, subst, arith, codes, decimal, list_all, utf8_valid_len, and_parts, and_from, or_cases, cond-true, ne_eqb, eqb-true, finished, ScriptKind, ScriptErr, Hints, Extra, Script, Call, is_version, kinds, most_values, shown, Word, Plain, Line, text_lines, significant, ◌>>=◌, whole, Within, hints_of, Defined, no_definition, Added, nothing_added, Known, nothing_known, ranks_line, Called, mismatch, at_line, version_of_text, head, definitions, data_part, finish, script_of, no_calls, script_of_lines, most_bytes, most_lines, within_lines, Reads, length-map, all_joined, nat_tests}
 use Rattle.std.proofs.Common.{flat_map}
 use borrow.Author.Tests.{leb-true, le-ltb, ltb-false}
 use Rattle.nc_base.specs.declared.errors.ScriptKind.TheVariants as kind
 use Rattle.nc_base.specs.declared.errors.LimitName.TheVariants as limit
-use Rattle.script_text.proofs.Steps.{went, go_on, same_ok, read_word, word_read, whole_value}
+use Rattle.script_text.proofs.Steps.{went, go_on, same_ok, word_read}
 use Rattle.script_text.proofs.Lines.{is_line, spelled, body, numbered, lines_again, significant_lines, valid_lines, valid_bytes}
 use Rattle.script_text.proofs.Numerals.{size_again, size_plain}
 use Rattle.script_text.proofs.PrintedDefinitions.{is_value_of, ranks_again, within_plain}
@@ -94,35 +94,11 @@ pub version_head : (version : ℕ) → is_version version ≡ true → HeadIs ve
 version_head zero h = absurd (cc)
 version_head (suc n) h = record { existing = false; test = ne_eqb (suc n) 0 (omega arith); told = h }
 
-version_known : (o : Option ℕ) (version : ℕ) → elim o as (λ x. Option ℕ) [ None ↦ None | Some n ↦ cond (is_version n) (Some n) None ] ≡ Some version → is_version version ≡ true
-version_known None version h = absurd (cc)
-version_known (Some n) version h = by (is_version n) refl h
-  where
-    by : (b : Bool) → is_version n ≡ b → cond {A = Option ℕ} b (Some n) None ≡ Some version → is_version version ≡ true
-    by true e k = let same : n ≡ version = cc in subst (λ x. is_version x ≡ true) same e
-    by false e k = absurd (cc)
-
 head_read : (w : Word) (ws : List Word) (version : ℕ) → head w ws ≡ Ok version → HeadIs version
-head_read Broken ws version h = absurd (cc)
-head_read (Quoted text) ws version h = absurd (cc)
-head_read (Plain w) ws version h = by (bytes_eq w (codes "create")) (bytes_eq w (codes "open")) h
-  where
-    by : (i j : Bool) → elim i as (λ x. Result ℕ ScriptKind) [
-      | true ↦ version_line ws
-      | false ↦ elim j as (λ x. Result ℕ ScriptKind) [ true ↦ whole (0, ws) | false ↦ Err kind.NoHead ]
-    ] ≡ Ok version → HeadIs version
-    by true j e =
-        let a = went (reads_as version_of_text kind.BadNumber ws) (λ v. whole v) version e in
-        let r = read_word version_of_text kind.BadNumber ws a.value a.first in
-        version_head version (subst (λ x. is_version x ≡ true) (whole_value a.value version a.rest).0 (version_known (size_of_text r.0) a.value.0 r.1))
-    by false true e = subst HeadIs (whole_value (0, ws) version e).0 (record { existing = true; test = refl; told = refl })
-    by false false e = absurd (cc)
+head_read w ws version h = grind (arith, nat_tests)
 
 version_low : (version : ℕ) → is_version version ≡ true → version < 2 ^ 63
-version_low version h = ⊎_elim
-    (λ a. ⊎_elim (λ b. let e = eqb-true version 1 b in omega arith) (λ b. let e = eqb-true version 2 b in omega arith) (or_cases (version == 1) (version == 2) a))
-    (λ a. let e = eqb-true version 5 a in omega arith)
-    (or_cases (version == 1 || version == 2) (version == 5) h)
+version_low version h = grind (arith, nat_tests, eqb-true, or_cases)
 
 abbrev version_by : Option ℕ → Option ℕ
 version_by o = elim o [ None ↦ None | Some n ↦ cond (is_version n) (Some n) None ]
@@ -141,11 +117,7 @@ told_after past version lines =
     >>= (λ d. data_part past (no_calls d.0 d.1.0) d.1.1 >>= (λ c. finish c.0 c.1.0.calls c.1.1 >>= (λ u. Ok (script_of version d.0 d.1.0 c.1.0.calls))))
 
 head_again : (b : Bool) (past version : ℕ) (wss : List (List Word)) (script : Script) → HeadLine b version → told_after past version (numbered 2 wss) ≡ Ok script → script_of_lines past (numbered 1 (head_words b version ∷ wss)) ≡ Ok script
-head_again true past version wss script e h = subst (λ v. told_after past v (numbered 2 wss) ≡ Ok script) e h
-head_again false past version wss script e h =
-    let read : version_line (Plain (decimal version) ∷ []) ≡ Ok version =
-    go_on (reads_as version_of_text kind.BadNumber (Plain (decimal version) ∷ [])) (λ v. whole v) (version, []) version (word_read version_of_text kind.BadNumber (decimal version) version [] (version_again version e)) refl in
-    go_on (at_line 1 (version_line (Plain (decimal version) ∷ []))) (λ v. told_after past v (numbered 2 wss)) version script (ap (at_line 1) read) h
+head_again b past version wss script e h = grind (arith, nat_tests, numbered, decimal, go_on, word_read, version_again)
 
 -- ---- the script again
 
@@ -221,12 +193,8 @@ from_drafted version n values h es d calls first small again end agree = refl
 
 -- the mode of the script decides what its definitions are
 known_again : (b : Bool) (version n : ℕ) (h : Hints) (k : Known) → (version == 0) ≡ b → is_value_of (Within 1 64 1) n ≡ true → HintsFit h → k.values ≤ most_values → What b version k → KnownAgain version n h k.added.extras k.defined k.values
-known_again true version n h k test r fit few what =
-    let zero_version : version ≡ 0 = eqb-true version 0 test in
-    subst (λ v. KnownAgain v n h k.added.extras k.defined k.values) (sym zero_version)
-    (subst (λ (d : Defined). KnownAgain 0 n h k.added.extras d k.values) (sym what.0) (open_again n k.values h k.added r fit what.1))
-known_again false version n h k test r fit few what =
-    subst (λ (added : Added). KnownAgain version n h added.extras k.defined k.values) (sym what.0) (create_again version n k.values h k.defined test r fit what.1 few)
+known_again true version n h k test r fit few what = grind (arith, nat_tests, eqb-true version 0 test, open_again n k.values h k.added r fit what.1)
+known_again false version n h k test r fit few what = grind (arith, nat_tests, create_again version n k.values h k.defined test r fit what.1 few)
 
 at_most_64 : (n : ℕ) → is_value_of (Within 1 64 1) n ≡ true → n ≤ 64
 at_most_64 n h = leb-true n 64 (and_parts (nat_le 1 n) (nat_le n 64) (and_parts (nat_le 1 n && nat_le n 64) (n % 1 == 0) h).0).1
@@ -259,35 +227,8 @@ whole_read past (l ∷ lines) script read h =
 
 -- ---- a whole text
 
-abbrev within_by : Bool → Result Script ScriptErr → Result Script ScriptErr
-within_by b told = elim b [
-  | false ↦ told
-  | true ↦ elim told [
-    | Ok script ↦ too_many_lines
-    | Err e ↦ elim (nat_le e.line most_lines && not (is_mismatch e.kind)) [ true ↦ Err e | false ↦ too_many_lines ]
-  ]
-]
-
-abbrev text_by : Bool → Bool → List ℕ → Result Script ScriptErr
-text_by i j text = elim i [
-  | true ↦ Err (record { line = 1; kind = kind.Limit limit.Script })
-  | false ↦ elim j [
-    | false ↦ Err (record { line = newlines (take (utf8_valid_len text) text) + 1; kind = kind.NotUtf8 })
-    | true ↦ script_of_utf8 text
-  ]
-]
-
 within_told : (n : ℕ) (told : Result Script ScriptErr) (script : Script) → within_lines n told ≡ Ok script → (told ≡ Ok script) × (n ≤ most_lines)
-within_told n told script h = by (nat_lt most_lines n) told refl h
-  where
-    by_line : (e : ScriptErr) (b : Bool) → elim b as (λ x. Result Script ScriptErr) [ true ↦ Err e | false ↦ too_many_lines ] ≡ Ok script → ⊥
-    by_line e true k = absurd (cc)
-    by_line e false k = absurd (cc)
-
-    by : (b : Bool) (told : Result Script ScriptErr) → nat_lt most_lines n ≡ b → within_by b told ≡ Ok script → (told ≡ Ok script) × (n ≤ most_lines)
-    by false told i k = (k, ltb-false most_lines n i)
-    by true (Ok s) i k = absurd (cc)
-    by true (Err e) i k = absurd (by_line e (nat_le e.line most_lines && not (is_mismatch e.kind)) k)
+within_told n told script h = grind (arith, nat_tests, nat_lt, ltb-false, nat_le, not)
 
 -- a text that is read
 pub record IsText (text : List ℕ) (script : Script) : Type 0 where
@@ -297,28 +238,15 @@ pub record IsText (text : List ℕ) (script : Script) : Type 0 where
   pub told : script_of_lines (length (text_lines text) + 1) (significant text) ≡ Ok script
 
 pub is_text : (text : List ℕ) (script : Script) → Reads text script → IsText text script
-is_text text script h = by (nat_lt most_bytes (length text)) (utf8_valid_len text == length text) refl refl h
-  where
-    by : (i j : Bool) → nat_lt most_bytes (length text) ≡ i → (utf8_valid_len text == length text) ≡ j → text_by i j text ≡ Ok script → IsText text script
-    by true j d e k = absurd (cc)
-    by false false d e k = absurd (cc)
-    by false true d e k =
-        let told = within_told (length (text_lines text)) (script_of_lines (length (text_lines text) + 1) (significant text)) script k in
-        record { short = ltb-false most_bytes (length text) d; few = told.1; valid = e; told = told.0 }
+is_text text script h = grind (arith, nat_tests, nat_lt, within_told, ltb-false)
 
 pub text_again : (text : List ℕ) (script : Script) → length text ≤ most_bytes → (utf8_valid_len text == length text) ≡ true → length (text_lines text) ≤ most_lines
     → script_of_lines (length (text_lines text) + 1) (significant text) ≡ Ok script → Reads text script
-text_again text script short valid few told =
-    ap (λ (i : Bool). text_by i (utf8_valid_len text == length text) text) (le-ltb most_bytes (length text) short)
-    ∙ (ap (λ (j : Bool). text_by false j text) valid
-    ∙ (ap (λ (b : Bool). within_by b (script_of_lines (length (text_lines text) + 1) (significant text))) (le-ltb most_lines (length (text_lines text)) few) ∙ told))
+text_again text script short valid few told = grind (arith, nat_tests, le-ltb)
 
 -- the text of a script that is read from its lines is read as it
 pub whole_again : (script : Script) → Whole script → length (shown script) ≤ most_bytes → length (text_lines (shown script)) ≤ most_lines → Reads (shown script) script
-whole_again script w short few =
-    let valid = subst (λ (x : List ℕ). (utf8_valid_len x == length x) ≡ true) w.text (valid_lines w.drafted w.lines) in
-    let lines : significant (shown script) ≡ numbered 1 w.drafted = ap significant (sym w.text) ∙ significant_lines w.drafted w.lines in
-    text_again (shown script) script short valid few (ap (script_of_lines (length (text_lines (shown script)) + 1)) lines ∙ w.again (length (text_lines (shown script)) + 1))
+whole_again script w short few = grind (arith, nat_tests, valid_lines, numbered, significant_lines, text_again)
 
 -- its text has a line for each of them
 pub whole_long : (script : Script) (w : Whole script) → length (text_lines (shown script)) ≡ length w.drafted
