@@ -100,6 +100,7 @@ fn spawn<'s, E, G: Gate, R: Threads + Wait + Sync>(
     let work = move || -> Returned
         requires { (is_sound run.now.header.now ≡ true) × (is_lawful run.now.script.now ≡ true) × IsIndexOf run.now.header.now names.now
             × (ends.out.number < run.now.script.now.ranks) × IsFresh ends }
+        ensures { HasReturned run.entry.now.header.now run.entry.now.script.now ends result }
     {
         let lent = Lent { run, names };
         take_part(&lent, ends)
