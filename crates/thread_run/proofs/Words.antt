@@ -123,6 +123,7 @@ pub use Rattle.thread_run.specs.RankSides.{HasAttended, HasBroken, HasFinished, 
 pub use Rattle.thread_run.specs.declared.rank_handle.RankHandle.{RankHandle}
 pub use Rattle.thread_run.specs.declared.rank_handle.Word.{Word}
 pub use Rattle.thread_run.specs.declared.rank_handle.Word.TheVariants.{Go}
+pub use Rattle.thread_run.specs.Threads.{HasRooms}
 pub use Rattle.turn_run.proofs.AloneLaws.{alone_waits, fits_open, going_free, going_held}
 pub use Rattle.turn_run.proofs.CutRuns.{cut_rows, no_answers}
 pub use Rattle.turn_run.proofs.EndedLaws.{Closing, EndOfCut}

@@ -11,6 +11,7 @@ use crate::rank_side::attend;
 use nc_base::{Header, OwnerItem, RankEnd, Script};
 use nc_outside::Gate;
 use piece_exchange::Tools;
+use rank_core::Names;
 use rank_items::SentItem;
 use ruled_line::{InPut, LinePut, LineTake, line};
 use std::snapshot::Snapshot;
@@ -92,39 +93,46 @@ fn spawn<'s, E, G: Gate, R: Threads + Wait + Sync>(
     ensures ends { IfSome result (λ child. child.promise.ends.value ≡ ends) }
 {
     let Lent { run, names } = *lent;
+    let Run {
+        tools,
+        header,
+        script,
+    } = *run;
+    let Tools { rt, alloc, gate } = *tools;
     let part = Part {
-        header: Snapshot::of(run.header),
-        script: Snapshot::of(run.script),
+        header: Snapshot::of(header),
+        script: Snapshot::of(script),
         ends: Snapshot::of(&ends),
     };
     let work = move || -> Returned
-        requires { (is_sound run.now.header.now ≡ true) × (is_lawful run.now.script.now ≡ true) × IsIndexOf run.now.header.now names.now
-            × (ends.out.number < run.now.script.now.ranks) × IsFresh ends }
+        requires { (is_sound header.now ≡ true) × (is_lawful script.now ≡ true) × IsIndexOf header.now names.now × (ends.out.number < script.now.ranks) × IsFresh ends }
     {
-        let lent = Lent { run, names };
-        take_part(&lent, ends)
+        let tools = Tools { rt, alloc, gate };
+        take_part(&tools, header, names, script, ends)
     };
     scope.spawn_with(part, work).ok()
 }
 
 /// What a rank's thread runs.
-fn take_part<R: Wait, G: Gate>(lent: &Lent<R, G>, ends: Ends) -> Returned
-    requires runnable { IsRunnable lent.now }
-    requires number { ends.out.number < lent.now.run.now.script.now.ranks }
+fn take_part<R: Wait, G: Gate>(
+    tools: &Tools<R, G>,
+    header: &Header,
+    names: &Names,
+    script: &Script,
+    ends: Ends,
+) -> Returned
+    requires sound { is_sound header.now ≡ true }
+    requires lawful { is_lawful script.now ≡ true }
+    requires names { IsIndexOf header.now names.now }
+    requires number { ends.out.number < script.now.ranks }
     requires fresh { IsFresh ends }
-    ensures { HasReturned lent.now.run.now.header.now lent.now.run.now.script.now ends result }
+    ensures { HasReturned header.now script.now ends result }
 {
     let Ends {
         mut word,
         mut out,
         mut back,
     } = ends;
-    let Lent { run, names } = *lent;
-    let Run {
-        tools,
-        header,
-        script,
-    } = *run;
     let Tools { rt, alloc, gate } = *tools;
     let end = match word.take(rt) {
         Word::Go => Some(attend(rt, alloc, header, names, script, &mut out, &mut back, gate)),

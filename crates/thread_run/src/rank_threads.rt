@@ -242,13 +242,16 @@ fn start_ranks<'s, E, R: Threads + Wait + Sync, G: Gate>(
     ensures { IfSome result (HaveStarted run.now.header.now run.now.script.now) }
 {
     let names = names?;
+    let Ok(rooms) = make_rooms(run.tools.alloc, run.script.ranks) else {
+        return None;
+    };
     let Rooms {
         senders,
         inbox,
         mut ones,
         mut lines,
         ends,
-    } = make_rooms(run.tools.alloc, run.script.ranks).ok()?;
+    } = rooms;
     let lent = Lent { run, names };
     if !start_all(scope, &lent, senders, &mut ones, &mut lines) {
         stop_all(run.tools.rt, ones);
