@@ -1,4 +1,4 @@
-//! Tests of nc_outside, ruled_line, promised_reply and run_watch.
+//! Tests of nc_outside, ruled_line and run_watch.
 #![tactic(auto)]
 
 #[cfg(test)]

@@ -3,7 +3,6 @@ mod boards;
 mod disks;
 mod gates;
 mod lines;
-mod replies;
 mod streams;
 
 use nc_base::Blob;
