@@ -5,6 +5,7 @@ use crate::tests::attending::{items_of, reply, strange_items_of};
 use crate::tests::fixtures::{disk_of_zeros, has_no_calls, is_counted, is_long, placed};
 use nc_base::{Hints, Mark, NcType, OverlapRule, OwnerItem, ServeEnd};
 use nc_outside::{Deaf, MemDisk, OpenGate};
+use piece_exchange::{Crew, Tools};
 use rank_items::SentItem;
 use rank_meeting::serve;
 use ruled_line::{InPut, InTake, LinePut, LinePutList, LineTake, inbox, line};
@@ -39,12 +40,31 @@ fn served<R: Abort + Threads + Wait + Sync>(
     requires two { taken.old.senders ≡ 2 }
     requires lines { length lines.old ≡ 2 }
 {
-    let header = placed(rt, alloc, 4, NcType::Int);
-    is_long(rt, &header, disk);
-    let mut records = header.records;
-    serve(
+    let tools = Tools {
         rt,
         alloc,
+        gate: &OpenGate,
+    };
+    served_by(&tools, disk, taken, lines)
+}
+
+/// Serves two senders, without helpers.
+fn served_by<'s, R: Abort + Threads + Wait + Sync>(
+    tools: &'s Tools<'s, R, OpenGate>,
+    disk: &mut MemDisk,
+    taken: &mut InTake<SentItem>,
+    lines: &mut LinePutList<OwnerItem>,
+) -> ServeEnd
+    requires two { taken.old.senders ≡ 2 }
+    requires lines { length lines.old ≡ 2 }
+{
+    let header = placed(tools.rt, tools.alloc, 4, NcType::Int);
+    is_long(tools.rt, &header, disk);
+    let mut records = header.records;
+    let mut crew = Crew::<(), R, OpenGate, MemDisk>::new(None, tools);
+    serve(
+        tools,
+        &mut crew,
         disk,
         &header,
         &Measures::of(&header),
@@ -52,7 +72,6 @@ fn served<R: Abort + Threads + Wait + Sync>(
         &HINTS,
         taken,
         lines,
-        &OpenGate,
         &mut Deaf,
     )
 }

@@ -120,23 +120,25 @@ fn batch_of_gets(rt: &impl Abort, alloc: Global, a: Post, b: Post) -> Batch
 }
 
 /// The put of a run's only rank.
-fn only_put(rt: &impl Abort, alloc: Global, post: Post) -> Job
+fn only_put(rt: &impl Abort, alloc: Global, post: Post) -> SharedJob
     ensures { result.batches ≡ record { puts = post ∷ []; gets = [] } ∷ [] }
 {
     let batch = batch_of_put(rt, alloc, post);
-    Job {
+    let job = Job {
         batches: one(alloc, batch).expect(rt, NO_MEMORY),
-    }
+    };
+    SharedJob::new(alloc, job).expect(rt, NO_MEMORY)
 }
 
 /// A put of each of two ranks.
-fn puts_of(rt: &impl Abort, alloc: Global, a: Post, b: Post) -> Job
+fn puts_of(rt: &impl Abort, alloc: Global, a: Post, b: Post) -> SharedJob
     ensures { result.batches ≡ record { puts = a ∷ []; gets = [] } ∷ record { puts = b ∷ []; gets = [] } ∷ [] }
 {
     let (first, second) = (batch_of_put(rt, alloc, a), batch_of_put(rt, alloc, b));
-    Job {
+    let job = Job {
         batches: two(alloc, first, second).expect(rt, NO_MEMORY),
-    }
+    };
+    SharedJob::new(alloc, job).expect(rt, NO_MEMORY)
 }
 
 /// A get of each of two ranks.
@@ -209,7 +211,6 @@ fn put_without_helpers<'s, R: Abort + Threads + Wait + Sync>(
     is_put(rt, header, &a);
     is_long(rt, header, disk);
     let job = only_put(rt, alloc, a);
-    let shared = SharedJob::new(alloc, job).expect(rt, NO_MEMORY);
     let measures = Measures::of(header);
     let hints = Hints {
         cb_nodes: 1,
@@ -222,7 +223,7 @@ fn put_without_helpers<'s, R: Abort + Threads + Wait + Sync>(
     };
     let mut crew = Crew::<(), R, OpenGate, MemDisk>::new(None, tools);
     let mut records = 0;
-    let end = put_all(tools, &mut crew, disk, &dataset, &mut records, &shared);
+    let end = put_all(tools, &mut crew, disk, &dataset, &mut records, &job);
     (end, records)
 }
 

@@ -7,13 +7,12 @@ use super::{Dataset, gets_of, is_get, is_long, is_put, puts_of};
 use collective_round::{Dataset as Lent, PutEnd, get_all, put_all};
 use nc_base::{GotTable, Post, StepErr};
 use nc_outside::{Disk, Gate, MemDisk, OpenGate};
-use piece_exchange::{Crew, SharedJob, Tools};
+use piece_exchange::{Crew, Tools};
 use std::alloc::Global;
 use std::process::Abort;
 use std::sync::Wait;
 use std::thread;
 use std::thread::{Scope, Threads};
-use test_fixtures::NO_MEMORY;
 use var_layout::Measures;
 
 /// How the puts of two ranks end, one each, and the record count then.
@@ -72,7 +71,6 @@ pub(crate) fn put_by<'s, E, R: Abort + Threads + Wait + Sync, G: Gate>(
     is_put(rt, header, &b);
     is_long(rt, header, disk);
     let job = puts_of(rt, tools.alloc, a, b);
-    let shared = SharedJob::new(tools.alloc, job).expect(rt, NO_MEMORY);
     let measures = Measures::of(header);
     let dataset = Lent {
         header,
@@ -80,7 +78,7 @@ pub(crate) fn put_by<'s, E, R: Abort + Threads + Wait + Sync, G: Gate>(
         hints: &set.hints,
     };
     let mut records = 0;
-    let end = put_all(tools, crew, disk, &dataset, &mut records, &shared);
+    let end = put_all(tools, crew, disk, &dataset, &mut records, &job);
     (end, records)
 }
 
