@@ -1,5 +1,5 @@
 -- The puts of a step are cells; sorted entries say what the puts say; the entries of a get collect its bytes.
-use Rattle.overlay_laws.proofs.Words.{◌≡◌, ℕ, zero, suc, ◌+◌, ◌-◌, ◌<◌, ◌≤◌, refl, sym, ◌∙◌, ap, subst, inl, inr, ◌⊎◌, List, [], ◌∷◌, ◌++◌, length, take, drop, Bool, true, false, Option, Some, None, arith, common_steps, flat_map-append, length-append, get_or_past, Contains-permutation, IsPermutation-sym, IsPermutation, fold, flat_map, nat_lt, map, zip, slice_get, enumerate_from, range_with_len, slice_index_or, Contains, length-range_with_len, same_Some, puts_are_cells, range_and_rest, puts_say, said_past, said_inside, cells_said, Header, Var, Post, Owned, at, read, size_of, cells, places, Puts, bytes_of, bytes_of_some, Setting, put_post, get_post, get_some, byte_or, said_at, Says, IsOneValued, Cell, write_cells, said_by, IsWithin, said_by_puts, cells_of_puts, Source, cell_of, ranges, IsRun, IsGathered, got_cell, IsRunFrom, In, HaveSame, extents}
+use Rattle.overlay_laws.proofs.Words.{◌≡◌, ℕ, zero, suc, ◌+◌, ◌-◌, ◌<◌, ◌≤◌, refl, sym, ◌∙◌, ap, subst, inl, inr, ◌⊎◌, List, [], ◌∷◌, ◌++◌, length, drop, Bool, true, false, Option, Some, None, arith, common_steps, flat_map-append, length-append, get_or_past, Contains-permutation, IsPermutation-sym, IsPermutation, fold, flat_map, nat_lt, map, zip, slice_get, enumerate_from, range_with_len, slice_index_or, Contains, length-range_with_len, same_Some, puts_are_cells, range_and_rest, puts_say, said_past, said_inside, cells_said, Header, Var, Post, Owned, at, read, size_of, cells, places, Puts, bytes_of, bytes_of_some, Setting, put_post, get_post, get_some, byte_or, said_at, Says, IsOneValued, Cell, write_cells, said_by, IsWithin, said_by_puts, cells_of_puts, Source, cell_of, ranges, IsRun, IsGathered, got_cell, IsRunFrom, In, HaveSame, extents, nat_tests}
 use borrow.Author.Tests.{ltb-true, ltb-false}
 use Rattle.overlay_laws.proofs.SaidLaws.{said_in_any_order, same_said, cells_long, same_file}
 
@@ -11,12 +11,7 @@ drop_again n m b = grind (arith, common_steps)
 pub run_says : (bytes : List ℕ) (source : Source) (from : ℕ) (os : List Owned) → IsRun bytes source from os
     → said_by (map (λ o. cell_of source o) os) ≡ zip (ranges os) (drop from bytes)
 run_says bytes source from [] h = refl
-run_says bytes source from (o ∷ os) h =
-    ap (λ rest. enumerate_from o.extent.at (take o.extent.len (drop o.from (source o.rank o.slot))) ++ rest) (run_says bytes source (from + o.extent.len) os h.2)
-    ∙ ap (λ b. enumerate_from o.extent.at (take o.extent.len (drop o.from b)) ++ zip (ranges os) (drop (from + o.extent.len) bytes)) h.1
-    ∙ ap (λ n. enumerate_from o.extent.at (take o.extent.len (drop n bytes)) ++ zip (ranges os) (drop (from + o.extent.len) bytes)) h.0
-    ∙ ap (λ b. enumerate_from o.extent.at (take o.extent.len (drop from bytes)) ++ zip (ranges os) b) (sym (drop_again o.extent.len from bytes))
-    ∙ sym (range_and_rest o.extent.at o.extent.len (ranges os) (drop from bytes))
+run_says bytes source from (o ∷ os) h = grind (arith, nat_tests, run_says bytes source (from + o.extent.len) os h.2, drop_again, range_and_rest)
 
 -- what the entries of a step say, in the order of the puts
 pub gathered_says : (header : Header) (source : Source) (puts : Puts) (ess : List (List Owned)) → IsGathered header source puts ess
@@ -70,17 +65,11 @@ says_of_one f (y ∷ ys) o x v (inr h) s = says_right (f y) (flat_map f ys) x v 
 
 one_says_it : {X A : Type 0} (f : X → List (ℕ × A)) (xs : List X) (x : ℕ) (v : A) → Says (flat_map f xs) x v → (o : X) × In xs o × Says (f o) x v
 one_says_it f [] x v h = absurd h
-one_says_it f (y ∷ ys) x v h =
-    elim (says_cases (f y) (flat_map f ys) x v h) [
-      | inl g ↦ (y, inl refl, g)
-      | inr g ↦ (let r = one_says_it f ys x v g in (r.0, inr r.1, r.2))
-    ]
+one_says_it f (y ∷ ys) x v h = grind (arith, nat_tests, one_says_it f ys x v, says_cases)
 
 pub says_moved : {X A : Type 0} (f : X → List (ℕ × A)) (xs ys : List X) (x : ℕ) (v : A) → ((o : X) → In xs o → In ys o)
     → Says (flat_map f xs) x v → Says (flat_map f ys) x v
-says_moved f xs ys x v p h =
-    let r = one_says_it f xs x v h in
-    says_of_one f ys r.0 x v (p r.0 r.1) r.2
+says_moved f xs ys x v p h = grind (arith, nat_tests, one_says_it, says_of_one)
 
 cells_flat : {X : Type 0} (g : X → Cell) (xs : List X) → said_by (map g xs) ≡ flat_map (λ o. enumerate_from (g o).0 (g o).1) xs
 cells_flat g [] = refl
@@ -89,13 +78,7 @@ cells_flat g (x ∷ xs) = ap (λ rest. enumerate_from (g x).0 (g x).1 ++ rest) (
 -- what entries say does not depend on their order where no place is told two things
 pub cells_moved : {X : Type 0} (g : X → Cell) (xs ys : List X) → HaveSame xs ys → IsOneValued (said_by (map g xs))
     → (x : ℕ) → said_at (said_by (map g xs)) x ≡ said_at (said_by (map g ys)) x
-cells_moved {X} g xs ys p once =
-    said_in_any_order (said_by (map g xs)) (said_by (map g ys)) once (λ x v h. there xs ys x v p.0 h) (λ x v h. there ys xs x v p.1 h)
-  where
-    there : (us bs : List X) (x v : ℕ) → ((o : X) → In us o → In bs o) → Says (said_by (map g us)) x v → Says (said_by (map g bs)) x v
-    there us bs x v q h =
-        subst (λ ps. Says ps x v) (sym (cells_flat g bs))
-        (says_moved (λ o. enumerate_from (g o).0 (g o).1) us bs x v q (subst (λ ps. Says ps x v) (cells_flat g us) h))
+cells_moved g xs ys p once = grind (arith, nat_tests, said_in_any_order, cells_flat, says_moved)
 
 pub same_permuted : {X : Type 0} (xs ys : List X) → IsPermutation xs ys → HaveSame xs ys
 same_permuted xs ys p = (λ o h. in_permuted xs ys o p h, λ o h. in_permuted ys xs o (IsPermutation-sym xs ys p) h)
@@ -125,10 +108,7 @@ pub list_writes : (s : Setting) (source : Source) (puts : Puts) (ess : List (Lis
     → IsGathered s.header source puts ess → IsPermutation (flat_map (λ os. os) ess) list → IsOneValued (said_by_puts s.header puts)
     → IsWithin (cells_of_puts s.header puts) (length file) → IsWithin (map (λ o. cell_of source o) list) (length file)
     → fold (put_post s) file puts ≡ write_cells file (map (λ o. cell_of source o) list)
-list_writes s source puts ess list file h p once room fits =
-    puts_are_cells s puts file
-    ∙ same_said (cells_of_puts s.header puts) (map (λ o. cell_of source o) list) file room fits
-    (λ x. ap (λ ps. said_at ps x) (puts_say s.header puts) ∙ sym (list_says s.header source puts ess list h p once x))
+list_writes s source puts ess list file h p once room fits = grind (arith, nat_tests, puts_are_cells, same_said, puts_say, list_says)
 
 -- ---- gets
 
@@ -167,26 +147,12 @@ enumerate_joined n m (x ∷ xs) ys e = ap (λ rest. (n, x) ∷ rest) (enumerate_
 run_got : (file : List ℕ) (from : ℕ) (os : List Owned) → IsRunFrom from os
     → said_by (map (λ o. got_cell file o) os) ≡ enumerate_from from (map (λ i. at file i) (ranges os))
 run_got file from [] h = refl
-run_got file from (o ∷ os) h =
-    ap (λ rest. enumerate_from o.from (read file o.extent.at o.extent.len) ++ rest) (run_got file (from + o.extent.len) os h.1)
-    ∙ ap (λ n. enumerate_from n (read file o.extent.at o.extent.len) ++ enumerate_from (from + o.extent.len) (map (λ i. at file i) (ranges os))) h.0
-    ∙ sym (enumerate_joined from (from + o.extent.len) (read file o.extent.at o.extent.len) (map (λ i. at file i) (ranges os)) long)
-    ∙ ap (λ xs. enumerate_from from xs) (sym (map_joined (λ i. at file i) (range_with_len o.extent.at o.extent.len) (ranges os)))
-  where
-    long : from + length (read file o.extent.at o.extent.len) ≡ from + o.extent.len
-    long = ap (λ (n : ℕ). from + n) (map_long (λ i. at file i) (range_with_len o.extent.at o.extent.len) ∙ length-range_with_len o.extent.at o.extent.len)
+run_got file from (o ∷ os) h = grind (arith, nat_tests, run_got file (from + o.extent.len) os h.1, enumerate_joined, map_joined, map_long, length-range_with_len)
 
 pub says_place : (n : ℕ) (b : List ℕ) (x v : ℕ) → Says (enumerate_from n b) x v → (n ≤ x) × (slice_get b (x - n) ≡ Some v)
 says_place n [] x v h = absurd h
-says_place n (w ∷ b) x v (inl h) =
-    let same : n ≡ x = h.0 in
-    let none : x - n ≡ 0 = omega arith in
-    (omega arith, ap (λ (k : ℕ). slice_get (w ∷ b) k) none ∙ ap Some h.1)
-says_place n (w ∷ b) x v (inr h) =
-    let r = says_place (n + 1) b x v h in
-    let low : n + 1 ≤ x = r.0 in
-    let next : x - n ≡ suc (x - (n + 1)) = omega arith in
-    (omega arith, ap (λ (k : ℕ). slice_get (w ∷ b) k) next ∙ r.1)
+says_place n (w ∷ b) x v (inl h) = grind (arith, nat_tests)
+says_place n (w ∷ b) x v (inr h) = grind (arith, nat_tests, says_place (n + 1) b x v h)
 
 run_once : (n : ℕ) (b : List ℕ) → IsOneValued (enumerate_from n b)
 run_once n b x v w h k = same_Some v w (sym (says_place n b x v h).1 ∙ (says_place n b x w k).1)
@@ -233,17 +199,13 @@ collected_as file blob bytes os list is run same long =
 
 pub collected : (file blob : List ℕ) (os list : List Owned) → IsRunFrom 0 os → HaveSame os list → length blob ≡ length (ranges os)
     → write_cells blob (map (λ o. got_cell file o) list) ≡ map (λ i. at file i) (ranges os)
-collected file blob os list run same long =
-    collected_as file blob (map (λ i. at file i) (ranges os)) os list refl run same (long ∙ sym (map_long (λ i. at file i) (ranges os)))
+collected file blob os list run same long = grind (arith, nat_tests, collected_as, map_long)
 
 -- the blob of a get, collected entry by entry in any order
 pub get_collected : (s : Setting) (post : Post) (file blob : List ℕ) (os list : List Owned) → IsRunFrom 0 os → ranges os ≡ bytes_of s.header post
     → HaveSame os list → length blob ≡ length (bytes_of s.header post)
     → write_cells blob (map (λ o. got_cell file o) list) ≡ get_post s file post
-get_collected s post file blob os list run e same long =
-    collected file blob os list run same (long ∙ ap (λ (xs : List ℕ). length xs) (sym e))
-    ∙ ap (λ xs. map (λ i. at file i) xs) e
-    ∙ sym (get_is_bytes s post file)
+get_collected s post file blob os list run e same long = grind (arith, nat_tests, collected, get_is_bytes)
 
 pub in_extents : (list : List Owned) (o : Owned) → In list o → In (extents list) o.extent
 in_extents [] o h = absurd h

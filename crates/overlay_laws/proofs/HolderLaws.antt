@@ -1,5 +1,5 @@
 -- Entries and the puts that they were gathered from hold the same bytes for the same requests.
-use Rattle.overlay_laws.proofs.Words.{◌≡◌, ℕ, refl, sym, ◌∙◌, ap, subst, inl, inr, List, [], ◌∷◌, true, ◌&&◌, arith, nat_tests, flat_map, map, ◌==◌, list_any, range_with_len, and_from, or_left, or_right, or_cases, and_first, and_second, no_false, Header, Post, Owned, Puts, Key, bytes_of, holdings, holdings_of_entries, same_key, Holds, shared_pair, shared_pair_of, same_pair, Source, AreOf, IsGathered, In, HaveSame}
+use Rattle.overlay_laws.proofs.Words.{◌≡◌, ℕ, refl, sym, ◌∙◌, ap, subst, inl, inr, List, [], ◌∷◌, true, arith, nat_tests, flat_map, map, range_with_len, and_from, or_left, or_right, or_cases, and_first, and_second, no_false, Header, Post, Owned, Puts, Key, bytes_of, holdings, holdings_of_entries, same_key, Holds, shared_pair, shared_pair_of, same_pair, Source, AreOf, IsGathered, In, HaveSame}
 use borrow.Author.Tests.{eqb-true}
 use Rattle.overlay_laws.proofs.HullLaws.{any_in, in_any, in_left, in_right, in_either, in_flat, flat_in}
 
@@ -13,12 +13,8 @@ keys_same a b h k = grind (arith, nat_tests)
 pub holds_by : {X : Type 0} (key : X → Key) (bytes : X → List ℕ) (xs : List X) (k : Key) (x : ℕ) (o : X) → In xs o → (key o).0 ≡ k.0 → (key o).1 ≡ k.1 → In (bytes o) x
     → Holds (map (λ z. (key z, bytes z)) xs) k x
 holds_by key bytes [] k x o h e f m = absurd h
-holds_by {X} key bytes (y ∷ ys) k x o (inl g) e f m =
-    or_left (same_key (key y) k && list_any (λ z. z == x) (bytes y)) _
-    (subst (λ (z : X). (same_key (key z) k && list_any (λ u. u == x) (bytes z)) ≡ true) (sym g)
-    (and_from (same_key (key o) k) (list_any (λ u. u == x) (bytes o)) (keys_same (key o) k e f) (in_any (bytes o) x m)))
-holds_by key bytes (y ∷ ys) k x o (inr h) e f m =
-    or_right (same_key (key y) k && list_any (λ z. z == x) (bytes y)) _ (holds_by key bytes ys k x o h e f m)
+holds_by {X} key bytes (y ∷ ys) k x o (inl g) e f m = grind (arith, nat_tests, or_left, and_from, keys_same, in_any)
+holds_by key bytes (y ∷ ys) k x o (inr h) e f m = grind (arith, nat_tests, holds_by key bytes ys k x o h e f m, or_right)
 
 pub record IsHolder {X : Type 0} (key : X → Key) (bytes : X → List ℕ) (xs : List X) (k : Key) (x : ℕ) : Type 0 where
   pub holder : X
@@ -30,13 +26,7 @@ pub record IsHolder {X : Type 0} (key : X → Key) (bytes : X → List ℕ) (xs 
 pub holder_of : {X : Type 0} (key : X → Key) (bytes : X → List ℕ) (xs : List X) (k : Key) (x : ℕ) → Holds (map (λ z. (key z, bytes z)) xs) k x
     → IsHolder key bytes xs k x
 holder_of key bytes [] k x h = no_false h
-holder_of key bytes (y ∷ ys) k x h =
-    elim (or_cases (same_key (key y) k && list_any (λ z. z == x) (bytes y)) _ h) [
-      | inl g ↦ (let e = same_keys (key y) k (and_first _ _ g) in
-          record { holder = y; is_one = inl refl; rank = e.0; request = e.1; has = any_in (bytes y) x (and_second (same_key (key y) k) _ g) })
-      | inr g ↦ (let r = holder_of key bytes ys k x g in
-          record { holder = r.holder; is_one = inr r.is_one; rank = r.rank; request = r.request; has = r.has })
-    ]
+holder_of key bytes (y ∷ ys) k x h = grind (arith, nat_tests, holder_of key bytes ys k x, or_cases, same_keys, and_first, any_in, and_second)
 
 -- ---- from an entry to its put, and back
 
@@ -83,20 +73,8 @@ to_entry : (header : Header) (source : Source) (puts : Puts) (ess : List (List O
 to_entry header source [] [] p x h k m = absurd k
 to_entry header source [] (os ∷ ess) p x h k m = absurd h
 to_entry header source (q ∷ puts) [] p x h k m = absurd h
-to_entry header source (q ∷ puts) (os ∷ ess) p x h (inr k) m =
-    let r = to_entry header source puts ess p x h.2 k m in
-    record { entry = r.entry; is_one = in_right os (flat_map (λ z. z) ess) r.entry r.is_one; rank = r.rank; request = r.request; has = r.has }
-to_entry header source (q ∷ puts) (os ∷ ess) p x h (inl e) m =
-    let r = flat_in (λ o. range_with_len o.extent.at o.extent.len) os x
-    (subst (λ (xs : List ℕ). In xs x) (sym h.1) (subst (λ (z : ℕ × Post). In (bytes_of header z.1) x) (sym e) m)) in
-    let f = entry_of q os r.0 h.3 r.1 in
-    record {
-      entry = r.0;
-      is_one = in_left os (flat_map (λ z. z) ess) r.0 r.1;
-      rank = f.0 ∙ ap (λ (z : ℕ × Post). z.0) e;
-      request = f.1 ∙ ap (λ (z : ℕ × Post). z.1.id) e;
-      has = r.2;
-    }
+to_entry header source (q ∷ puts) (os ∷ ess) p x h (inr k) m = grind (arith, nat_tests, to_entry header source puts ess p x h.2 k m, in_right)
+to_entry header source (q ∷ puts) (os ∷ ess) p x h (inl e) m = grind (arith, nat_tests, flat_in, entry_of, in_left)
 
 -- ---- the pair
 

@@ -1,5 +1,5 @@
 -- The windows of the device calls have every covered byte, so that hulls written over them are the step.
-use Rattle.overlay_laws.proofs.Words.{◌≡◌, ℕ, zero, suc, ◌+◌, ◌-◌, ◌*◌, ◌/◌, ◌%◌, ◌<◌, ◌≤◌, refl, sym, ◌∙◌, ap, subst, inl, inr, ◌⊎◌, List, [], ◌∷◌, ◌++◌, length, Bool, true, false, not, cond, min, max, arith, nat_tests, div_below, le-div, mod_below, div-add-mod', mul-le, mul_comm, fold, flat_map, filter, map, zip, nat_lt, nat_le, ◌==◌, range_with_len, list_any, or_left, or_right, or_cases, in_filter, filter_in, no_false, equal_true, puts_are_cells, puts_say, Header, Hints, greatest, Puts, covered, bytes_of, Setting, put_post, in_order, first_of, last_of, not_empty, domain_size, domains, windows, collective_windows, sieved, sieving_windows, is_empty, Cell, said_at, said_by, Says, IsWithin, IsInOne, HasEach, said_by_puts, In, cells_of_puts, hulls, IsAscending, written_over, AreHints, filter_at_most}
+use Rattle.overlay_laws.proofs.Words.{◌≡◌, ℕ, zero, suc, ◌+◌, ◌-◌, ◌*◌, ◌/◌, ◌%◌, ◌<◌, ◌≤◌, refl, sym, ◌∙◌, ap, subst, inl, inr, ◌⊎◌, List, [], ◌∷◌, ◌++◌, length, Bool, true, false, not, cond, min, max, arith, nat_tests, div_below, le-div, mod_below, div-add-mod', mul-le, mul_comm, fold, flat_map, filter, map, zip, nat_lt, nat_le, ◌==◌, range_with_len, list_any, or_left, or_right, or_cases, in_filter, filter_in, no_false, equal_true, puts_are_cells, puts_say, Header, Hints, Puts, covered, Setting, put_post, in_order, first_of, last_of, not_empty, domain_size, domains, windows, collective_windows, sieved, sieving_windows, is_empty, Cell, said_at, said_by, Says, IsWithin, IsInOne, HasEach, said_by_puts, In, cells_of_puts, hulls, IsAscending, written_over, AreHints, filter_at_most}
 use borrow.Author.Tests.{ltb-false, eqb-true}
 use Rattle.overlay_laws.proofs.Members.{in_map}
 use Rattle.overlay_laws.proofs.SaidLaws.{said_is, same_said}
@@ -34,11 +34,7 @@ in_flat f (z ∷ xs) x y (inr h) k = in_right (f z) (flat_map f xs) y (in_flat f
 
 pub flat_in : {X Y : Type 0} (f : X → List Y) (xs : List X) (y : Y) → In (flat_map f xs) y → (x : X) × In xs x × In (f x) y
 flat_in f [] y h = absurd h
-flat_in f (z ∷ xs) y h =
-    elim (in_either (f z) (flat_map f xs) y h) [
-      | inl g ↦ (z, inl refl, g)
-      | inr g ↦ (let r = flat_in f xs y g in (r.0, inr r.1, r.2))
-    ]
+flat_in f (z ∷ xs) y h = grind (arith, nat_tests, flat_in f xs y, in_either)
 
 pub in_range : (a n x : ℕ) → a ≤ x → x < a + n → In (range_with_len a n) x
 in_range a zero x h k = absurd (omega arith)
@@ -110,27 +106,14 @@ least_low x (z ∷ xs) y (inr (inr h)) = least_low (min x z) xs y (inr h)
 
 pub in_in_order : (xs : List ℕ) (y : ℕ) → In xs y → In (in_order xs) y
 in_in_order [] y h = absurd h
-in_in_order (x ∷ xs) y h =
-    let lo = fold (λ a b. min a b) x xs in
-    let low : fold (λ a b. min a b) x xs ≤ y = least_low x xs y (turned h) in
-    let high : y ≤ greatest (x ∷ xs) = last_most (x ∷ xs) y h in
-    in_filter (λ y. list_any (λ z. z == y) (x ∷ xs)) (range_with_len lo (greatest (x ∷ xs) + 1 - lo)) y
-    (in_range lo (greatest (x ∷ xs) + 1 - lo) y low (omega arith)) (in_any (x ∷ xs) y h)
-  where
-    turned : In (x ∷ xs) y → (y ≡ x) ⊎ In xs y
-    turned (inl e) = inl (sym e)
-    turned (inr k) = inr k
+in_in_order (x ∷ xs) y h = grind (arith, nat_tests, least_low, last_most, in_filter, in_range, in_any)
 
 pub in_order_in : (xs : List ℕ) (y : ℕ) → In (in_order xs) y → In xs y
 in_order_in [] y h = absurd h
-in_order_in (x ∷ xs) y h =
-    any_in (x ∷ xs) y (filter_in (λ y. list_any (λ z. z == y) (x ∷ xs)) (range_with_len (fold (λ a b. min a b) x xs) (greatest (x ∷ xs) + 1 - fold (λ a b. min a b) x xs)) y h).1
+in_order_in (x ∷ xs) y h = grind (arith, nat_tests, any_in, filter_in)
 
 pub in_order_ascends : (xs : List ℕ) → IsAscending (in_order xs)
-in_order_ascends [] = tt
-in_order_ascends (x ∷ xs) =
-    filter_ascends (λ y. list_any (λ z. z == y) (x ∷ xs)) (range_with_len (fold (λ a b. min a b) x xs) (greatest (x ∷ xs) + 1 - fold (λ a b. min a b) x xs))
-    (range_ascends (fold (λ a b. min a b) x xs) (greatest (x ∷ xs) + 1 - fold (λ a b. min a b) x xs))
+in_order_ascends xs = grind (arith, nat_tests, filter_ascends, range_ascends)
 
 -- ---- a window that has the byte
 
@@ -146,8 +129,7 @@ not_empty_has (y ∷ ys) x h = refl
 
 has_hull : (ws : List (List ℕ)) (w : List ℕ) (x : ℕ) → In ws w → In w x → IsAscending w → HasEach (hulls ws) x
 has_hull [] w x h k g = absurd h
-has_hull (v ∷ ws) w x (inl e) k g =
-    inl (subst (λ (u : List ℕ). (first_of u ≤ x) × (x < last_of u + 1)) (sym e) (first_least w x g k, (let l = last_most w x k in omega arith)))
+has_hull (v ∷ ws) w x (inl e) k g = grind (arith, nat_tests, first_least, last_most)
 has_hull (v ∷ ws) w x (inr h) k g = inr (has_hull ws w x h k g)
 
 pub window_hull : (ws : List (List ℕ)) (x : ℕ) → HasWindow ws x → HasEach (hulls ws) x
@@ -156,10 +138,7 @@ window_hull ws x h = has_hull ws h.window x h.is_one h.has h.ascends
 -- ---- division
 
 pub ceil_covers : (n k : ℕ) → 1 ≤ k → n ≤ (n + (k - 1)) / k * k
-ceil_covers n k h =
-    let whole = div-add-mod' (n + (k - 1)) k in
-    let part = mod_below (n + (k - 1)) k (omega arith) in
-    omega arith
+ceil_covers n k h = grind (arith, nat_tests, div-add-mod', mod_below)
 
 pub div_grows : (m n k : ℕ) → 1 ≤ k → m ≤ n → m / k ≤ n / k
 div_grows m n k h l = let whole = div-add-mod' m k in le-div (m / k) n k (omega arith) (omega arith)
@@ -184,11 +163,7 @@ windows_have buffer bytes x h asc k =
     }
 
 windows_only : (buffer : ℕ) (bytes w : List ℕ) (x : ℕ) → In (windows buffer bytes) w → In w x → In bytes x
-windows_only buffer bytes w x h k =
-    let lo = first_of bytes in
-    let made = filter_in (λ (w : List ℕ). not (is_empty w)) (map (λ j. filter (λ y. (y - lo) / buffer == j) bytes) (range_with_len 0 ((last_of bytes - lo) / buffer + 1))) w h in
-    let r = map_in (λ j. filter (λ y. (y - lo) / buffer == j) bytes) (range_with_len 0 ((last_of bytes - lo) / buffer + 1)) w made.0 in
-    (filter_in (λ y. (y - lo) / buffer == r.0) bytes x (subst (λ (u : List ℕ). In u x) (sym r.1) k)).0
+windows_only buffer bytes w x h k = grind (arith, nat_tests, filter_in, not, map_in)
 
 -- ---- domains
 
@@ -214,12 +189,7 @@ domains_have nodes unit bytes x h u asc k =
     }
 
 domains_only : (nodes unit : ℕ) (bytes d : List ℕ) (x : ℕ) → In (domains nodes unit bytes) d → In d x → In bytes x
-domains_only nodes unit bytes d x h k =
-    let lo = first_of bytes in
-    let low = lo - lo % unit in
-    let s = max 1 (domain_size low (last_of bytes + 1) nodes unit) in
-    let r = map_in (λ a. filter (λ y. (y - low) / s == a) bytes) (range_with_len 0 nodes) d h in
-    (filter_in (λ y. (y - low) / s == r.0) bytes x (subst (λ (u : List ℕ). In u x) (sym r.1) k)).0
+domains_only nodes unit bytes d x h k = grind (arith, nat_tests, map_in, filter_in)
 
 pub collective_have : (hints : Hints) (bytes : List ℕ) (x : ℕ) → AreHints hints → IsAscending bytes → In bytes x → HasWindow (collective_windows hints bytes) x
 collective_have hints bytes x h asc k =
@@ -234,10 +204,7 @@ collective_have hints bytes x h asc k =
     }
 
 pub collective_only : (hints : Hints) (bytes w : List ℕ) (x : ℕ) → In (collective_windows hints bytes) w → In w x → In bytes x
-collective_only hints bytes w x h k =
-    let r = flat_in (λ d. windows hints.cb_buffer d) (not_empty (domains hints.cb_nodes hints.striping_unit bytes)) w h in
-    let d = filter_in (λ (w : List ℕ). not (is_empty w)) (domains hints.cb_nodes hints.striping_unit bytes) r.0 r.1 in
-    domains_only hints.cb_nodes hints.striping_unit bytes r.0 x d.0 (windows_only hints.cb_buffer r.0 w x r.2 k)
+collective_only hints bytes w x h k = grind (arith, nat_tests, flat_in, filter_in, not, domains_only, windows_only)
 
 -- ---- sieving windows
 
@@ -273,8 +240,7 @@ sieved_have (suc fuel) buffer (y ∷ ys) x h l asc k =
 sieved_only : (fuel buffer : ℕ) (bytes w : List ℕ) (x : ℕ) → In (sieved fuel buffer bytes) w → In w x → In bytes x
 sieved_only zero buffer bytes w x h k = absurd h
 sieved_only (suc fuel) buffer [] w x h k = absurd h
-sieved_only (suc fuel) buffer (y ∷ ys) w x (inl e) k =
-    (filter_in (λ z. nat_lt z (y + buffer)) (y ∷ ys) x (subst (λ (u : List ℕ). In u x) (sym e) k)).0
+sieved_only (suc fuel) buffer (y ∷ ys) w x (inl e) k = grind (arith, nat_tests, filter_in)
 sieved_only (suc fuel) buffer (y ∷ ys) w x (inr h) k =
     inr (filter_in (λ z. nat_le (y + buffer) z) ys x (sieved_only fuel buffer (filter (λ z. nat_le (y + buffer) z) ys) w x h k)).0
 
@@ -298,11 +264,7 @@ zip_in (y ∷ xs) (w ∷ b) x v (inr h) = inr (zip_in xs b x v h)
 
 pub said_covered : (header : Header) (puts : Puts) (x v : ℕ) → Says (said_by_puts header puts) x v → In (covered header puts) x
 said_covered header [] x v h = absurd h
-said_covered header (p ∷ puts) x v h =
-    elim (says_cases (zip (bytes_of header p.1) p.1.bytes) (said_by_puts header puts) x v h) [
-      | inl g ↦ in_left (bytes_of header p.1) (covered header puts) x (zip_in (bytes_of header p.1) p.1.bytes x v g)
-      | inr g ↦ in_right (bytes_of header p.1) (covered header puts) x (said_covered header puts x v g)
-    ]
+said_covered header (p ∷ puts) x v h = grind (arith, nat_tests, said_covered header puts x v, says_cases, in_left, zip_in, in_right)
 
 hulls_done : (s : Setting) (puts : Puts) (file : List ℕ) (cells : List Cell) (ws : List (List ℕ)) → 1 ≤ length file
     → IsWithin (cells_of_puts s.header puts) (length file) → IsWithin cells (length file)
@@ -324,9 +286,7 @@ pub collective_done : (hints : Hints) (s : Setting) (puts : Puts) (file : List �
     → ((x : ℕ) → In (covered s.header puts) x → x < length file)
     → written_over file cells (collective_windows hints (in_order (covered s.header puts))) ≡ fold (put_post s) file puts
 collective_done hints s puts file cells h one room fits same below =
-    hulls_done s puts file cells (collective_windows hints (in_order (covered s.header puts))) one room fits same below
-    (λ w x g k. in_order_in (covered s.header puts) x (collective_only hints (in_order (covered s.header puts)) w x g k))
-    (λ x g. collective_have hints (in_order (covered s.header puts)) x h (in_order_ascends (covered s.header puts)) (in_in_order (covered s.header puts) x g))
+    grind (arith, nat_tests, hulls_done, in_order_in, collective_only, collective_have, in_order_ascends, in_in_order)
 
 pub sieving_done : (buffer : ℕ) (s : Setting) (puts : Puts) (file : List ℕ) (cells : List Cell) → 1 ≤ buffer → 1 ≤ length file
     → IsWithin (cells_of_puts s.header puts) (length file) → IsWithin cells (length file)
@@ -334,6 +294,4 @@ pub sieving_done : (buffer : ℕ) (s : Setting) (puts : Puts) (file : List ℕ) 
     → ((x : ℕ) → In (covered s.header puts) x → x < length file)
     → written_over file cells (sieving_windows buffer (in_order (covered s.header puts))) ≡ fold (put_post s) file puts
 sieving_done buffer s puts file cells h one room fits same below =
-    hulls_done s puts file cells (sieving_windows buffer (in_order (covered s.header puts))) one room fits same below
-    (λ w x g k. in_order_in (covered s.header puts) x (sieving_only buffer (in_order (covered s.header puts)) w x g k))
-    (λ x g. sieving_have buffer (in_order (covered s.header puts)) x h (in_order_ascends (covered s.header puts)) (in_in_order (covered s.header puts) x g))
+    grind (arith, nat_tests, in_order_ascends (covered s.header puts), hulls_done, in_order_in, sieving_only, sieving_have, in_in_order)

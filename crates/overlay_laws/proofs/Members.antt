@@ -1,5 +1,5 @@
 -- Members of lists: of filtered, mapped, entry_numbered and paired ones, by place, of a list's first entries.
-use Rattle.overlay_laws.proofs.Words.{◌≡◌, ℕ, zero, suc, ◌+◌, ◌<◌, refl, subst, length, take, get_or, ◌∙◌, ap, inl, inr, List, [], ◌∷◌, Bool, true, false, cond, Some, arith, filter, zip, slice_get, enumerate_from, AllByRecursion, slice_get_read, In, at_in, entry_numbered}
+use Rattle.overlay_laws.proofs.Words.{◌≡◌, ℕ, zero, suc, ◌+◌, ◌<◌, refl, subst, length, take, get_or, ap, inl, inr, List, [], ◌∷◌, Some, arith, zip, slice_get, enumerate_from, AllByRecursion, slice_get_read, In, at_in, entry_numbered, nat_tests}
 use Rattle.std.proofs.Common.{map}
 
 pub in_map : {X Y : Type 0} (f : X → Y) (xs : List X) (x : X) → In xs x → In (map f xs) (f x)
@@ -37,28 +37,21 @@ in_taken (suc n) (y ∷ xs) x (inr h) = inr (in_taken n xs x h)
 -- ---- numbers
 
 pub numbered_at : {X : Type 0} (xs : List X) (k : ℕ) (x : X) → slice_get xs k ≡ Some x → slice_get (enumerate_from 0 xs) k ≡ Some (k, x)
-numbered_at xs k x h =
-    let plain : 0 + k ≡ k = omega arith in
-    entry_numbered 0 xs k x h ∙ (λ t. Some (plain t, x))
+numbered_at xs k x h = grind (arith, nat_tests, entry_numbered)
 
 pub in_numbered : {X : Type 0} (xs : List X) (k : ℕ) (x : X) → slice_get xs k ≡ Some x → In (enumerate_from 0 xs) (k, x)
 in_numbered xs k x h = at_in (enumerate_from 0 xs) k (k, x) (numbered_at xs k x h)
 
 pub numbered_from : {X : Type 0} (n : ℕ) (xs : List X) (p : ℕ × X) → In (enumerate_from n xs) p → (k : ℕ) × (p.0 ≡ n + k) × (slice_get xs k ≡ Some p.1)
 numbered_from n [] p h = absurd h
-numbered_from {X} n (y ∷ xs) p (inl e) =
-    let number : p.0 ≡ n + 0 = omega (arith, ap (λ (q : ℕ × X). q.0) e) in
-    (0, number, ap (λ (q : ℕ × X). Some q.1) e)
+numbered_from {X} n (y ∷ xs) p (inl e) = grind (arith, nat_tests)
 numbered_from {X} n (y ∷ xs) p (inr h) =
     let rest = numbered_from (n + 1) xs p h in
     let number : p.0 ≡ n + suc rest.0 = omega (arith, rest.1) in
     (suc rest.0, number, rest.2)
 
 pub numbered_in : {X : Type 0} (xs : List X) (p : ℕ × X) → In (enumerate_from 0 xs) p → slice_get xs p.0 ≡ Some p.1
-numbered_in xs p h =
-    let found = numbered_from 0 xs p h in
-    let same : p.0 ≡ found.0 = omega (arith, found.1) in
-    ap (λ (k : ℕ). slice_get xs k) same ∙ found.2
+numbered_in xs p h = grind (arith, nat_tests, numbered_from)
 
 pub zip_in : {X Y : Type 0} (xs : List X) (ys : List Y) (p : X × Y) → In (zip xs ys) p
     → (k : ℕ) × (slice_get xs k ≡ Some p.0) × (slice_get ys k ≡ Some p.1)
@@ -70,10 +63,7 @@ zip_in (x ∷ xs) (y ∷ ys) p (inr h) = let r = zip_in xs ys p h in (suc r.0, r
 pub in_zip : {X Y : Type 0} (xs : List X) (ys : List Y) (k : ℕ) (x : X) (y : Y) → slice_get xs k ≡ Some x → slice_get ys k ≡ Some y → In {X = X × Y} (zip xs ys) (x, y)
 in_zip [] ys k x y h g = absurd cc
 in_zip (a ∷ xs) [] k x y h g = absurd cc
-in_zip (a ∷ xs) (b ∷ ys) zero x y h g =
-    let one : a ≡ x = cc in
-    let two : b ≡ y = cc in
-    inl (λ t. (one t, two t))
+in_zip (a ∷ xs) (b ∷ ys) zero x y h g = grind (arith, nat_tests)
 in_zip (a ∷ xs) (b ∷ ys) (suc k) x y h g = inr (in_zip xs ys k x y h g)
 
 -- the first of a pair is a member of the first list

@@ -1,19 +1,12 @@
 -- The bytes of entries by where they come from; where requests overlap, the last in rank order counts.
-use Rattle.overlay_laws.proofs.Words.{◌≡◌, ℕ, zero, suc, ◌+◌, ◌<◌, ◌≤◌, refl, sym, ◌∙◌, ap, subst, inl, inr, ◌⊎◌, List, [], ◌∷◌, ◌++◌, length, take, drop, Bool, true, false, Option, Some, None, arith, drop_more, map-append, fold, flat_map, map, option_map, ◌==◌, enumerate_from, range_with_len, no_none_some, puts_are_cells, puts_say, one_hit, Owned, at, Puts, Setting, put_post, option_or, same_Some, one_says, said_at, Says, IsOneValued, write_cells, said_by, IsWithin, cells_of_puts, Source, cell_of, IsGathered, In, HaveSame, Origin, origins_of, origins, byte_at, AreFound, AtMost, IsGreatest, IsResolved, IsOnceEach, IsInOrder}
+use Rattle.overlay_laws.proofs.Words.{◌≡◌, ℕ, zero, suc, ◌+◌, ◌<◌, ◌≤◌, refl, sym, ◌∙◌, ap, subst, inl, inr, ◌⊎◌, List, [], ◌∷◌, ◌++◌, length, take, drop, Bool, true, false, Option, Some, None, arith, drop_more, map-append, fold, flat_map, map, option_map, ◌==◌, enumerate_from, range_with_len, no_none_some, puts_are_cells, puts_say, one_hit, Owned, at, Puts, Setting, put_post, option_or, same_Some, one_says, said_at, Says, IsOneValued, write_cells, said_by, IsWithin, cells_of_puts, Source, cell_of, IsGathered, In, HaveSame, Origin, origins_of, origins, byte_at, AreFound, AtMost, IsGreatest, IsResolved, IsOnceEach, IsInOrder, nat_tests}
 use Rattle.overlay_laws.proofs.SaidLaws.{said_is, says_some, one_said, same_said}
 use Rattle.overlay_laws.proofs.EntryLaws.{says_cases, says_moved, gathered_says}
 
 -- ---- bytes by their origins
 
 one_mapped : {A B : Type 0} (f : A → B) (y : ℕ) (a : A) (x : ℕ) → one_says y (f a) x ≡ option_map f (one_says y a x)
-one_mapped {A} {B} f y a x = by_test (y == x) refl
-  where
-    by_test : (t : Bool) → (y == x) ≡ t → one_says y (f a) x ≡ option_map f (one_says y a x)
-    by_test true e = one_hit y x (f a) e ∙ ap (λ o. option_map f o) (sym (one_hit y x a e))
-    by_test false e = miss (f a) e ∙ ap (λ o. option_map f o) (sym (miss a e))
-      where
-        miss : {C : Type 0} (c : C) → (y == x) ≡ false → one_says y c x ≡ None
-        miss c g = cc
+one_mapped f y a x = grind (arith, nat_tests, one_hit)
 
 else_mapped : {A B : Type 0} (f : A → B) (o q : Option A) → option_or (option_map f o) (option_map f q) ≡ option_map f (option_or o q)
 else_mapped f None q = refl
@@ -21,10 +14,7 @@ else_mapped f (Some a) q = refl
 
 pub said_mapped : {A B : Type 0} (f : A → B) (ps : List (ℕ × A)) (x : ℕ) → said_at (map (λ p. (p.0, f p.1)) ps) x ≡ option_map f (said_at ps x)
 said_mapped f [] x = refl
-said_mapped f (p ∷ ps) x =
-    ap (λ o. option_or o (one_says p.0 (f p.1) x)) (said_mapped f ps x)
-    ∙ ap (λ q. option_or (option_map f (said_at ps x)) q) (one_mapped f p.0 p.1 x)
-    ∙ else_mapped f (said_at ps x) (one_says p.0 p.1 x)
+said_mapped f (p ∷ ps) x = grind (arith, nat_tests, said_mapped f ps x, one_mapped, else_mapped)
 
 pub slice_step : (b : List ℕ) (from n : ℕ) → from < length b → take (suc n) (drop from b) ≡ at b from ∷ take n (drop (from + 1) b)
 slice_step b from n h = ap (λ (xs : List ℕ). take (suc n) xs) (drop_more b from 0 h)
@@ -33,17 +23,12 @@ cell_origins : (source : Source) (r k p from n : ℕ) → from + n ≤ length (s
     → enumerate_from p (take n (drop from (source r k)))
     ≡ map (λ q. (q.0, byte_at source q.1)) (enumerate_from p (map (λ i. (r, k, i)) (range_with_len from n)))
 cell_origins source r k p from zero h = refl
-cell_origins source r k p from (suc n) h =
-    ap (λ xs. enumerate_from p xs) (slice_step (source r k) from n (omega arith))
-    ∙ ap (λ rest. (p, at (source r k) from) ∷ rest) (cell_origins source r k (p + 1) (from + 1) n (omega arith))
+cell_origins source r k p from (suc n) h = grind (arith, nat_tests, cell_origins source r k (p + 1) (from + 1) n (omega arith), slice_step)
 
 pub cells_by_origins : (source : Source) (os : List Owned) → AreFound source os
     → said_by (map (λ o. cell_of source o) os) ≡ map (λ q. (q.0, byte_at source q.1)) (origins os)
 cells_by_origins source [] h = refl
-cells_by_origins source (o ∷ os) h =
-    ap (λ rest. enumerate_from o.extent.at (take o.extent.len (drop o.from (source o.rank o.slot))) ++ rest) (cells_by_origins source os h.1)
-    ∙ ap (λ first. first ++ map (λ q. (q.0, byte_at source q.1)) (origins os)) (cell_origins source o.rank o.slot o.extent.at o.from o.extent.len h.0)
-    ∙ sym (map-append (λ q. (q.0, byte_at source q.1)) (origins_of o) (origins os))
+cells_by_origins source (o ∷ os) h = grind (arith, nat_tests, cells_by_origins source os h.1, cell_origins, map-append)
 
 -- ---- the greatest is the last
 
@@ -74,15 +59,10 @@ last_is_greatest (p ∷ ps) h x a b e k = by_rest (λ g l. last_is_greatest ps h
     by_rest ih None g (inl l) f = subst (λ (z : Origin). AtMost z a) l.1 (subst (λ (z : Origin). AtMost p.1 z) (by_one (p.0 == x) refl f) (itself p.1))
 
 same_ends : (a b : Origin) → AtMost a b → AtMost b a → (a.0 ≡ b.0) × (a.1 ≡ b.1)
-same_ends a b (inl h) (inl k) = absurd (omega arith)
-same_ends a b (inl h) (inr k) = let e = k.0 in absurd (omega arith)
-same_ends a b (inr h) (inl k) = let e = h.0 in absurd (omega arith)
-same_ends a b (inr h) (inr k) = let e = h.1 in let f = k.1 in (h.0, omega arith)
+same_ends a b xs ys = grind (arith, nat_tests)
 
 pub greatest_once : (ps : List (ℕ × Origin)) → IsOnceEach ps → (x : ℕ) (a b : Origin) → IsGreatest ps x a → IsGreatest ps x b → a ≡ b
-greatest_once ps once x a b ha hb =
-    let e = same_ends a b (hb.1 a ha.0) (ha.1 b hb.0) in
-    once x a b ha.0 hb.0 e.0 e.1
+greatest_once ps once x a b ha hb = grind (arith, nat_tests, same_ends)
 
 -- ---- entries in order
 

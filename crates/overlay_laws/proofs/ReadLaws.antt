@@ -1,5 +1,5 @@
 -- Windows that are each read, overlaid and written, one after another.
-use Rattle.overlay_laws.proofs.Words.{◌≡◌, ℕ, zero, suc, ◌+◌, ◌-◌, ◌<◌, ◌≤◌, None, refl, sym, ◌∙◌, ap, subst, List, [], ◌∷◌, length, Some, arith, take, drop, fold, map, read_long, at, read, written, Cell, write_cells, IsWithin, IsFrom, moved_down, said_at, said_by, clips, IsInOne, HasEach, read_overlaid, all_read_overlaid}
+use Rattle.overlay_laws.proofs.Words.{◌≡◌, ℕ, zero, suc, ◌+◌, ◌-◌, ◌<◌, ◌≤◌, None, refl, sym, ◌∙◌, ap, subst, List, [], ◌∷◌, length, Some, arith, take, drop, fold, map, read_long, at, read, written, Cell, write_cells, IsWithin, IsFrom, moved_down, said_at, said_by, clips, IsInOne, HasEach, read_overlaid, all_read_overlaid, nat_tests}
 use Rattle.overlay_laws.proofs.SaidLaws.{cells_long}
 use Rattle.overlay_laws.proofs.WindowLaws.{clips_within, clips_from, within_more, window_done, windows_done}
 use Rattle.overlay_laws.proofs.OriginLaws.{slice_step}
@@ -10,23 +10,17 @@ read_at file x (suc n) zero h = let e : x ≡ x + 0 = omega arith in ap (λ (k :
 read_at file x (suc n) (suc i) h = let e : x + 1 + i ≡ x + suc i = omega arith in read_at file (x + 1) n i (omega arith) ∙ ap (λ (k : ℕ). at file k) e
 
 pub kept_read : (file buf : List ℕ) (lo n x : ℕ) → buf ≡ read file lo n → lo ≤ x → x < lo + n → at buf (x - lo) ≡ at file x
-kept_read file buf lo n x e h k =
-    let place : lo + (x - lo) ≡ x = omega arith in
-    ap (λ (b : List ℕ). at b (x - lo)) e ∙ read_at file lo n (x - lo) (omega arith) ∙ ap (λ (i : ℕ). at file i) place
+kept_read file buf lo n x e h k = grind (arith, nat_tests, read_at)
 
 pub window_answer : (file buf : List ℕ) (n lo : ℕ) (cells : List Cell) → length buf ≡ n → lo + n ≤ length file → IsFrom lo cells → IsWithin cells (lo + n)
     → ((x : ℕ) → lo ≤ x → x < lo + n → said_at (said_by cells) x ≡ None → at buf (x - lo) ≡ at file x)
     → written file lo (write_cells buf (moved_down lo cells)) ≡ write_cells file cells
-window_answer file buf n lo cells e room low high kept =
-    window_done file buf lo cells (omega arith) low (subst (λ (k : ℕ). IsWithin cells (lo + k)) (sym e) high) (λ x h k g. kept x h (omega arith) g)
+window_answer file buf n lo cells e room low high kept = grind (arith, nat_tests, window_done)
 
 one_read : (file : List ℕ) (cells : List Cell) (w : ℕ × ℕ) → w.0 ≤ w.1 → w.1 ≤ length file
     → read_overlaid file cells w ≡ write_cells file (clips w.0 w.1 cells)
 one_read file cells w h k =
-    let whole : w.0 + (w.1 - w.0) ≡ w.1 = omega arith in
-    window_answer file (read file w.0 (w.1 - w.0)) (w.1 - w.0) w.0 (clips w.0 w.1 cells) (read_long file w.0 (w.1 - w.0)) (omega arith)
-    (clips_from w.0 w.1 cells h) (subst (λ (n : ℕ). IsWithin (clips w.0 w.1 cells) n) (sym whole) (clips_within w.0 w.1 cells h))
-    (λ x l m g. kept_read file (read file w.0 (w.1 - w.0)) w.0 (w.1 - w.0) x refl l m)
+    grind (arith, nat_tests, read_long file w.0 (w.1 - w.0), clips_from w.0 w.1 cells h, clips_within w.0 w.1 cells h, window_answer, kept_read)
 
 in_one_moved : (windows : List (ℕ × ℕ)) (n m : ℕ) → n ≡ m → IsInOne windows n → IsInOne windows m
 in_one_moved windows n m e h = subst (λ (k : ℕ). IsInOne windows k) e h
@@ -49,5 +43,4 @@ all_read file cells windows within each has = windows_read windows file cells ea
 -- bytes read within a file, as a slice of it
 pub read_slice : (file : List ℕ) (x n : ℕ) → x + n ≤ length file → read file x n ≡ take n (drop x file)
 read_slice file x zero h = refl
-read_slice file x (suc n) h =
-    ap (λ r. at file x ∷ r) (read_slice file (x + 1) n (omega arith)) ∙ sym (slice_step file x n (omega arith))
+read_slice file x (suc n) h = grind (arith, nat_tests, read_slice file (x + 1) n (omega arith), slice_step)

@@ -1,16 +1,11 @@
 -- The elements of a region have different indices, so those of a sound header's variable lie apart.
-use Rattle.overlay_laws.proofs.Words.{◌≡◌, ℕ, zero, suc, ◌+◌, ◌-◌, ◌*◌, ◌<◌, ◌≤◌, refl, sym, ◌∙◌, ap, subst, inl, inr, ◌⊎◌, List, [], ◌∷◌, ◌++◌, length, get_or, drop, true, Some, arith, flat_map, map, slice_get, range_with_len, length-map, same_Some, no_none_some, same_factor, Header, Var, Region, size_of, is_sound, product, row, place, IsIndex, IsElement, AreApart, coordinates, index_at, elements, places, length-coordinates, elements_apart, LieApart, HaveStrides}
+use Rattle.overlay_laws.proofs.Words.{◌≡◌, ℕ, zero, suc, ◌+◌, ◌-◌, ◌*◌, ◌<◌, ◌≤◌, refl, sym, ◌∙◌, ap, subst, inl, inr, ◌⊎◌, List, [], ◌∷◌, ◌++◌, length, get_or, drop, true, Some, arith, flat_map, map, slice_get, range_with_len, length-map, same_Some, no_none_some, same_factor, Header, Var, Region, size_of, is_sound, product, row, place, IsIndex, IsElement, AreApart, coordinates, index_at, elements, places, length-coordinates, elements_apart, LieApart, HaveStrides, nat_tests}
 
 split_at : {A : Type 0} (xs ys : List A) (m : ℕ) (c : A) → slice_get (xs ++ ys) m ≡ Some c
     → (slice_get xs m ≡ Some c) ⊎ ((length xs ≤ m) × (slice_get ys (m - length xs) ≡ Some c))
 split_at [] ys m c h = let e : m ≡ m - 0 = omega arith in inr (omega arith, ap (λ (k : ℕ). slice_get ys k) (sym e) ∙ h)
 split_at (x ∷ xs) ys zero c h = inl h
-split_at {A} (x ∷ xs) ys (suc m) c h = by_rest (split_at xs ys m c h)
-  where
-    by_rest : (slice_get xs m ≡ Some c) ⊎ ((length xs ≤ m) × (slice_get ys (m - length xs) ≡ Some c))
-        → (slice_get xs m ≡ Some c) ⊎ ((suc (length xs) ≤ suc m) × (slice_get ys (suc m - suc (length xs)) ≡ Some c))
-    by_rest (inl g) = inl g
-    by_rest (inr g) = let a = g.0 in let e : suc m - suc (length xs) ≡ m - length xs = omega arith in inr (omega arith, ap (λ (k : ℕ). slice_get ys k) e ∙ g.1)
+split_at {A} (x ∷ xs) ys (suc m) c h = grind (arith, nat_tests, split_at xs ys m c h)
 
 map_at : {A B : Type 0} (f : A → B) (xs : List A) (m : ℕ) (c : B) → slice_get (map f xs) m ≡ Some c → (d : A) × (slice_get xs m ≡ Some d) × (f d ≡ c)
 map_at f [] m c h = no_none_some c h

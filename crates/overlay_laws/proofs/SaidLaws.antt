@@ -1,5 +1,5 @@
 -- Cells written one after another: each byte is what the last cell that has it says, else the old one.
-use Rattle.overlay_laws.proofs.Words.{◌≡◌, ℕ, ◌-◌, refl, sym, ◌∙◌, ap, subst, inl, inr, ◌⊎◌, List, [], ◌∷◌, length, Bool, true, false, cond, Option, Some, None, ext_get_or, ◌==◌, equal_true, one_hit, cells_said, no_none_some, first_counts, at, written, length-written_inside, option_or, same_Some, one_says, said_at, byte_or, Says, IsOneValued, Cell, write_cells, said_by, IsWithin}
+use Rattle.overlay_laws.proofs.Words.{◌≡◌, ℕ, ◌-◌, refl, sym, ◌∙◌, subst, inl, inr, List, [], ◌∷◌, length, Option, Some, None, ext_get_or, equal_true, one_hit, cells_said, no_none_some, first_counts, at, written, length-written_inside, option_or, same_Some, one_says, said_at, Says, IsOneValued, Cell, write_cells, said_by, IsWithin, arith, nat_tests}
 use borrow.Author.Tests.{eqb-true}
 
 -- ---- cells
@@ -17,23 +17,13 @@ same_file f g h k = ext_get_or 0 f g h (λ i l. k i)
 -- cells that say the same make the same file
 pub same_said : (a b : List Cell) (file : List ℕ) → IsWithin a (length file) → IsWithin b (length file)
     → ((x : ℕ) → said_at (said_by a) x ≡ said_at (said_by b) x) → write_cells file a ≡ write_cells file b
-same_said a b file ha hb k =
-    same_file (write_cells file a) (write_cells file b) (cells_long a file ha ∙ sym (cells_long b file hb))
-    (λ x. cells_said a file x ∙ ap (λ (o : Option ℕ). byte_or o (at file x)) (k x) ∙ sym (cells_said b file x))
+same_said a b file ha hb k = grind (arith, nat_tests, same_file, cells_long, cells_said)
 
 -- ---- in any order
 
 pub said_is : {A : Type 0} (ps : List (ℕ × A)) (x : ℕ) (v : A) → said_at ps x ≡ Some v → Says ps x v
 said_is [] x v h = no_none_some v h
-said_is {A} (p ∷ ps) x v h = by_rest (λ e. said_is ps x v e) (said_at ps x) refl h
-  where
-    by_one : (t : Bool) → (p.0 == x) ≡ t → cond t (Some p.1) None ≡ Some v → ((p.0 ≡ x) × (p.1 ≡ v)) ⊎ Says ps x v
-    by_one true e g = inl (eqb-true _ _ e, same_Some p.1 v g)
-    by_one false e g = no_none_some v g
-
-    by_rest : (said_at ps x ≡ Some v → Says ps x v) → (o : Option A) → said_at ps x ≡ o → option_or o (one_says p.0 p.1 x) ≡ Some v → ((p.0 ≡ x) × (p.1 ≡ v)) ⊎ Says ps x v
-    by_rest ih (Some a) e g = inr (ih (e ∙ g))
-    by_rest ih None e g = by_one (p.0 == x) refl g
+said_is {A} (p ∷ ps) x v h = grind (arith, nat_tests, said_is ps x v, eqb-true, same_Some, no_none_some)
 
 -- a place of which something is said
 pub says_some : {A : Type 0} (ps : List (ℕ × A)) (x : ℕ) (v : A) → Says ps x v → (w : A) × (said_at ps x ≡ Some w)
@@ -46,9 +36,7 @@ says_some {A} (p ∷ ps) x v (inl h) = by_rest (said_at ps x) refl
     by_rest None e = (p.1, one_hit p.0 x p.1 (equal_true p.0 x h.0))
 
 pub one_said : {A : Type 0} (ps : List (ℕ × A)) → IsOneValued ps → (x : ℕ) (v : A) → Says ps x v → said_at ps x ≡ Some v
-one_said ps once x v h =
-    let s = says_some ps x v h in
-    s.1 ∙ ap Some (once x s.0 v (said_is ps x s.0 s.1) h)
+one_said ps once x v h = grind (arith, nat_tests, says_some ps x v h, said_is ps x (says_some ps x v h).0 (says_some ps x v h).1)
 
 -- lists that say the same pairs, in whatever order
 pub said_in_any_order : {A : Type 0} (a b : List (ℕ × A)) → IsOneValued a → ((x : ℕ) (v : A) → Says a x v → Says b x v)

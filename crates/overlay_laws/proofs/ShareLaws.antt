@@ -1,5 +1,5 @@
 -- Puts of which no two requests share a byte, and no request holds one twice, say one thing of each place.
-use Rattle.overlay_laws.proofs.Words.{◌≡◌, ℕ, zero, suc, refl, sym, ◌∙◌, ap, subst, inl, inr, List, [], ◌∷◌, true, ◌&&◌, Option, Some, None, slice_get-map, same_Some, zip, slice_get, option_map, ◌==◌, list_any, or_left, or_right, and_from, equal_true, no_none_some, some_of_map, Header, Post, Puts, Key, Holding, bytes_of, holdings, same_key, has_byte, Holds, IsUnshared, shared_pair, said_by_puts, IsOwnOnce, key_itself, pair_none, Says, IsOneValued, HaveOwnKeys, IsOnce}
+use Rattle.overlay_laws.proofs.Words.{◌≡◌, ℕ, zero, suc, refl, sym, ◌∙◌, ap, inl, inr, List, [], ◌∷◌, true, ◌&&◌, Some, None, slice_get-map, same_Some, zip, slice_get, ◌==◌, list_any, or_left, or_right, and_from, equal_true, no_none_some, some_of_map, Header, Post, Puts, Holding, bytes_of, holdings, same_key, has_byte, Holds, IsUnshared, shared_pair, said_by_puts, IsOwnOnce, key_itself, pair_none, Says, IsOneValued, HaveOwnKeys, IsOnce, arith, nat_tests}
 use Rattle.overlay_laws.proofs.EntryLaws.{says_cases}
 
 has_at : (xs : List ℕ) (k x : ℕ) → slice_get xs k ≡ Some x → list_any (λ y. y == x) xs ≡ true
@@ -9,10 +9,7 @@ has_at (y ∷ xs) (suc k) x h = or_right (y == x) _ (has_at xs k x h)
 
 holds_at : (held : List Holding) (i k x : ℕ) (h : Holding) → slice_get held i ≡ Some h → slice_get h.1 k ≡ Some x → Holds held h.0 x
 holds_at [] i k x h e f = no_none_some h e
-holds_at (g ∷ held) zero k x h e f =
-    let same : g ≡ h = same_Some g h e in
-    or_left (same_key g.0 h.0 && has_byte x g) _
-    (subst (λ (z : Holding). (same_key z.0 h.0 && has_byte x z) ≡ true) (sym same) (and_from (same_key h.0 h.0) (has_byte x h) (key_itself h.0) (has_at h.1 k x f)))
+holds_at (g ∷ held) zero k x h e f = grind (arith, nat_tests, same_Some, or_left, and_from, key_itself, has_at)
 holds_at (g ∷ held) (suc i) k x h e f = or_right (same_key g.0 h.0 && has_byte x g) _ (holds_at held i k x h e f)
 
 zip_at : (xs b : List ℕ) (x v : ℕ) → Says (zip xs b) x v → (k : ℕ) × (slice_get xs k ≡ Some x) × (slice_get b k ≡ Some v)
@@ -39,9 +36,7 @@ said_where header (p ∷ puts) x v h =
     ]
 
 held_at : (header : Header) (puts : Puts) (i : ℕ) (p : ℕ × Post) → slice_get puts i ≡ Some p → slice_get (holdings header puts) i ≡ Some ((p.0, p.1.id), bytes_of header p.1)
-held_at header puts i p e =
-    slice_get-map (λ (q : ℕ × Post). ((q.0, q.1.id), bytes_of header q.1)) puts i
-    ∙ ap (λ o. option_map (λ (q : ℕ × Post). ((q.0, q.1.id), bytes_of header q.1)) o) e
+held_at header puts i p e = grind (arith, nat_tests, slice_get-map)
 
 pub unshared_once : (header : Header) (puts : Puts) → ((x : ℕ) → IsUnshared (holdings header puts) x) → IsOwnOnce (holdings header puts)
     → IsOneValued (said_by_puts header puts)
@@ -66,21 +61,9 @@ no_pair_once header puts none own = unshared_once header puts (pair_none (holdin
 
 put_at : (header : Header) (puts : Puts) (i : ℕ) (g : Holding) → slice_get (holdings header puts) i ≡ Some g
     → (p : ℕ × Post) × (slice_get puts i ≡ Some p) × (((p.0, p.1.id), bytes_of header p.1) ≡ g)
-put_at header puts i g e =
-    some_of_map (λ (q : ℕ × Post). ((q.0, q.1.id), bytes_of header q.1)) (slice_get puts i) g
-    (sym (slice_get-map (λ (q : ℕ × Post). ((q.0, q.1.id), bytes_of header q.1)) puts i) ∙ e)
+put_at header puts i g e = grind (arith, nat_tests, some_of_map, slice_get-map)
 
 -- it is so where no two posts are of one request, and no post holds a byte twice
 pub own_once : (header : Header) (puts : Puts) → HaveOwnKeys puts → ((i : ℕ) (p : ℕ × Post) → slice_get puts i ≡ Some p → IsOnce (bytes_of header p.1))
     → IsOwnOnce (holdings header puts)
-own_once header puts keys once i j g h k l x e f key a b =
-    let p = put_at header puts i g e in
-    let q = put_at header puts j h f in
-    let rank : p.0.0 ≡ q.0.0 = ap (λ (z : Holding). z.0.0) p.2 ∙ ap (λ (z : Key). z.0) key ∙ sym (ap (λ (z : Holding). z.0.0) q.2) in
-    let id : p.0.1.id ≡ q.0.1.id = ap (λ (z : Holding). z.0.1) p.2 ∙ ap (λ (z : Key). z.1) key ∙ sym (ap (λ (z : Holding). z.0.1) q.2) in
-    let same : i ≡ j = keys i j p.0 q.0 p.1 q.1 rank id in
-    let one : p.0 ≡ q.0 = same_Some p.0 q.0 (sym p.1 ∙ ap (λ (n : ℕ). slice_get puts n) same ∙ q.1) in (
-      same,
-      once i p.0 p.1 k l x (ap (λ (z : Holding). slice_get z.1 k) p.2 ∙ a)
-          (ap (λ (z : ℕ × Post). slice_get (bytes_of header z.1) l) one ∙ ap (λ (z : Holding). slice_get z.1 l) q.2 ∙ b),
-    )
+own_once header puts keys once i j g h k l x e f key a b = grind (arith, nat_tests, put_at, same_Some)

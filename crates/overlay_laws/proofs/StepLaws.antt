@@ -1,5 +1,5 @@
 -- A step: gathered entries, written window by window over hulls, make the file of the model.
-use Rattle.overlay_laws.proofs.Words.{◌≡◌, ℕ, ◌≤◌, sym, ◌∙◌, ap, subst, List, length, None, flat_map, map, Hints, Owned, Header, longer, Puts, covered, holdings, holdings_of_entries, shared_pair_of, needed_by, Setting, end_for, after_puts, in_order, collective_windows, sieving_windows, said_at, said_by, IsOneValued, said_by_puts, IsOwnOnce, Source, cell_of, IsGathered, HaveSame, written_over, AreHints, origins, byte_at, AreFound, IsResolved, IsOnceEach, IsInOrder, HasRoom, option_map}
+use Rattle.overlay_laws.proofs.Words.{◌≡◌, ℕ, ◌≤◌, sym, ◌∙◌, ap, List, length, None, flat_map, map, Hints, Owned, Header, longer, Puts, covered, holdings, holdings_of_entries, shared_pair_of, needed_by, Setting, end_for, after_puts, in_order, collective_windows, sieving_windows, said_at, said_by, IsOneValued, said_by_puts, IsOwnOnce, Source, cell_of, IsGathered, HaveSame, written_over, AreHints, origins, byte_at, AreFound, IsResolved, IsOnceEach, IsInOrder, HasRoom, option_map, arith, nat_tests}
 use Rattle.overlay_laws.proofs.EntryLaws.{gathered_says, cells_moved}
 use Rattle.overlay_laws.proofs.ShareLaws.{no_pair_once}
 use Rattle.overlay_laws.proofs.HolderLaws.{entries_pair}
@@ -9,9 +9,7 @@ use Rattle.overlay_laws.proofs.HullLaws.{collective_done, sieving_done}
 list_told : (header : Header) (source : Source) (puts : Puts) (ess : List (List Owned)) (list : List Owned)
     → IsGathered header source puts ess → HaveSame (flat_map (λ os. os) ess) list → IsOneValued (said_by_puts header puts)
     → (x : ℕ) → said_at (said_by (map (λ o. cell_of source o) list)) x ≡ said_at (said_by_puts header puts) x
-list_told header source puts ess list h same once x =
-    let e = gathered_says header source puts ess h in
-    sym (cells_moved (λ o. cell_of source o) (flat_map (λ os. os) ess) list same (subst (λ ps. IsOneValued ps) (sym e) once) x) ∙ ap (λ ps. said_at ps x) e
+list_told header source puts ess list h same once x = grind (arith, nat_tests, gathered_says, cells_moved)
 
 resolved_told : (header : Header) (source : Source) (puts : Puts) (ess : List (List Owned)) (list result : List Owned)
     → IsGathered header source puts ess → HaveSame (flat_map (λ os. os) ess) list → IsInOrder (flat_map (λ os. os) ess) → IsOnceEach (origins (flat_map (λ os. os) ess))
@@ -33,8 +31,7 @@ pub collective_step : (hints : Hints) (s : Setting) (source : Source) (puts : Pu
     → written_over (longer file (end_for s (needed_by s.header puts))) (map (λ o. cell_of source o) list) (collective_windows hints (in_order (covered s.header puts)))
     ≡ after_puts s puts None file
 collective_step hints s source puts ess list file h g same none own room =
-    collective_done hints s puts (longer file (end_for s (needed_by s.header puts))) (map (λ o. cell_of source o) list) h room.0 room.1 room.2
-    (list_told s.header source puts ess list g same (no_pair_once s.header puts (sym (entries_pair s.header source puts ess list g same) ∙ none) own)) room.3
+    grind (arith, nat_tests, no_pair_once s.header puts (sym (entries_pair s.header source puts ess list g same) ∙ none) own, collective_done, list_told, entries_pair)
 
 -- a solo step without a pair
 pub solo_step : (buffer : ℕ) (s : Setting) (source : Source) (puts : Puts) (ess : List (List Owned)) (list : List Owned) (file : List ℕ)
@@ -44,8 +41,7 @@ pub solo_step : (buffer : ℕ) (s : Setting) (source : Source) (puts : Puts) (es
     → written_over (longer file (end_for s (needed_by s.header puts))) (map (λ o. cell_of source o) list) (sieving_windows buffer (in_order (covered s.header puts)))
     ≡ after_puts s puts None file
 solo_step buffer s source puts ess list file h g same none own room =
-    sieving_done buffer s puts (longer file (end_for s (needed_by s.header puts))) (map (λ o. cell_of source o) list) h room.0 room.1 room.2
-    (list_told s.header source puts ess list g same (no_pair_once s.header puts (sym (entries_pair s.header source puts ess list g same) ∙ none) own)) room.3
+    grind (arith, nat_tests, no_pair_once s.header puts (sym (entries_pair s.header source puts ess list g same) ∙ none) own, sieving_done, list_told, entries_pair)
 
 -- a collective step under the serial rule
 pub serial_step : (hints : Hints) (s : Setting) (source : Source) (puts : Puts) (ess : List (List Owned)) (list result : List Owned) (file : List ℕ)
@@ -55,5 +51,4 @@ pub serial_step : (hints : Hints) (s : Setting) (source : Source) (puts : Puts) 
     → written_over (longer file (end_for s (needed_by s.header puts))) (map (λ o. cell_of source o) result) (collective_windows hints (in_order (covered s.header puts)))
     ≡ after_puts s puts None file
 serial_step hints s source puts ess list result file h g same order once resolved found found_result room =
-    collective_done hints s puts (longer file (end_for s (needed_by s.header puts))) (map (λ o. cell_of source o) result) h room.0 room.1 room.2
-    (resolved_told s.header source puts ess list result g same order once resolved found found_result) room.3
+    grind (arith, nat_tests, resolved_told s.header source puts ess list result g same order once resolved found found_result, collective_done)

@@ -1,5 +1,5 @@
 -- No window's hull is longer than its buffer.
-use Rattle.overlay_laws.proofs.Words.{◌≡◌, ℕ, ◌+◌, ◌-◌, ◌*◌, ◌/◌, ◌<◌, ◌≤◌, ap, subst, inl, refl, List, [], ◌∷◌, not, arith, mod_below, div-add-mod', eqb-true, filter, map, ◌==◌, range_with_len, first_of, hull_len, last_of, windows, is_empty, In, IsAscending, filter_in}
+use Rattle.overlay_laws.proofs.Words.{◌≡◌, ℕ, ◌+◌, ◌-◌, ◌/◌, ◌<◌, ◌≤◌, subst, inl, refl, List, [], ◌∷◌, not, arith, mod_below, div-add-mod', eqb-true, filter, map, ◌==◌, range_with_len, first_of, hull_len, last_of, windows, is_empty, In, IsAscending, filter_in, nat_tests}
 use Rattle.overlay_laws.proofs.HullLaws.{first_least, last_below}
 use Rattle.overlay_laws.proofs.Members.{map_in}
 
@@ -11,13 +11,7 @@ hull_short (a ∷ w) n l h =
 
 -- two bytes with one quotient
 one_part : (lo buffer j x y : ℕ) → 1 ≤ buffer → lo ≤ x → lo ≤ y → (x - lo) / buffer ≡ j → (y - lo) / buffer ≡ j → x < y + buffer
-one_part lo buffer j x y h a b e f =
-    let whole = div-add-mod' (x - lo) buffer in
-    let part = mod_below (x - lo) buffer (omega arith) in
-    let other = div-add-mod' (y - lo) buffer in
-    let same : (x - lo) / buffer * buffer ≡ j * buffer = ap (λ (n : ℕ). n * buffer) e in
-    let too : (y - lo) / buffer * buffer ≡ j * buffer = ap (λ (n : ℕ). n * buffer) f in
-    omega arith
+one_part lo buffer j x y h a b e f = grind (arith, nat_tests, div-add-mod', mod_below)
 
 abbrev window_at : ℕ → List ℕ → ℕ → List ℕ
 window_at buffer bytes j = filter (λ x. (x - first_of bytes) / buffer == j) bytes

@@ -1,5 +1,5 @@
 -- Windows that are read, overlaid and written are cells that are written; windows that have every cell are the cells.
-use Rattle.overlay_laws.proofs.Words.{◌≡◌, ℕ, ◌+◌, ◌-◌, ◌<◌, ◌≤◌, refl, sym, ◌∙◌, ap, inl, inr, List, [], ◌∷◌, ◌++◌, length, drop, get_or, Bool, true, false, Option, Some, None, arith, common_steps, flat_map-append, fold-append, get_or-take, get_or-drop, fold, flat_map, nat_lt, map, enumerate_from, at-written_before, at-written_after, length-written_inside, said_below, said_past, said_inside, at-written_inside, said_append, cells_said, no_none_some, neither_some, second_counts, first_counts, at, written, option_or, said_at, byte_or, Cell, write_cells, said_by, IsWithin, IsFrom, moved_down, IsPart, AreParts, SomeSays, clip, clips, IsInOne, HasEach}
+use Rattle.overlay_laws.proofs.Words.{◌≡◌, ℕ, ◌+◌, ◌-◌, ◌<◌, ◌≤◌, refl, sym, ◌∙◌, ap, inl, inr, List, [], ◌∷◌, ◌++◌, length, drop, get_or, Bool, true, false, Option, Some, None, arith, common_steps, flat_map-append, fold-append, get_or-take, get_or-drop, fold, flat_map, nat_lt, map, enumerate_from, at-written_before, at-written_after, length-written_inside, said_below, said_past, said_inside, at-written_inside, said_append, cells_said, no_none_some, neither_some, second_counts, first_counts, at, written, option_or, said_at, byte_or, Cell, write_cells, said_by, IsWithin, IsFrom, moved_down, IsPart, AreParts, SomeSays, clip, clips, IsInOne, HasEach, nat_tests}
 use borrow.Author.Tests.{ltb-true, ltb-false}
 use Rattle.overlay_laws.proofs.SaidLaws.{cells_long, same_file, same_said}
 
@@ -27,17 +27,11 @@ two_else o p q r e f = ap (λ s. option_or s q) e ∙ ap (λ s. option_or p s) f
 pub moved_said : (lo : ℕ) (cells : List Cell) (x : ℕ) → IsFrom lo cells → lo ≤ x
     → said_at (said_by (moved_down lo cells)) (x - lo) ≡ said_at (said_by cells) x
 moved_said lo [] x h k = refl
-moved_said lo (c ∷ cells) x h k =
-    said_append (enumerate_from (c.0 - lo) c.1) (said_by (moved_down lo cells)) (x - lo)
-    ∙ two_else _ _ _ _ (moved_said lo cells x h.1 k) (one_moved lo c.0 c.1 x h.0 k)
-    ∙ sym (said_append (enumerate_from c.0 c.1) (said_by cells) x)
+moved_said lo (c ∷ cells) x h k = grind (arith, nat_tests, moved_said lo cells x h.1 k, said_append, two_else, one_moved)
 
 pub within_lowered : (lo n : ℕ) (cells : List Cell) → IsFrom lo cells → IsWithin cells (lo + n) → IsWithin (moved_down lo cells) n
 within_lowered lo n [] h k = tt
-within_lowered lo n (c ∷ cells) h k =
-    let a : lo ≤ c.0 = h.0 in
-    let b : c.0 + length c.1 ≤ lo + n = k.0 in
-    (omega arith, within_lowered lo n cells h.1 k.1)
+within_lowered lo n (c ∷ cells) h k = grind (arith, nat_tests, within_lowered lo n cells h.1 k.1)
 
 pub within_more : (cells : List Cell) (n m : ℕ) → n ≤ m → IsWithin cells n → IsWithin cells m
 within_more [] n m h k = tt
@@ -45,17 +39,11 @@ within_more (c ∷ cells) n m h k = let b : c.0 + length c.1 ≤ n = k.0 in (ome
 
 pub none_below : (lo : ℕ) (cells : List Cell) (x : ℕ) → IsFrom lo cells → x < lo → said_at (said_by cells) x ≡ None
 none_below lo [] x h k = refl
-none_below lo (c ∷ cells) x h k =
-    let a : lo ≤ c.0 = h.0 in
-    said_append (enumerate_from c.0 c.1) (said_by cells) x
-    ∙ neither_some (said_at (said_by cells) x) _ (none_below lo cells x h.1 k) (said_below c.0 c.1 x (omega arith))
+none_below lo (c ∷ cells) x h k = grind (arith, nat_tests, none_below lo cells x h.1 k, said_append, neither_some, said_below)
 
 pub none_past : (n : ℕ) (cells : List Cell) (x : ℕ) → IsWithin cells n → n ≤ x → said_at (said_by cells) x ≡ None
 none_past n [] x h k = refl
-none_past n (c ∷ cells) x h k =
-    let a : c.0 + length c.1 ≤ n = h.0 in
-    said_append (enumerate_from c.0 c.1) (said_by cells) x
-    ∙ neither_some (said_at (said_by cells) x) _ (none_past n cells x h.1 k) (said_past c.0 c.1 x (omega arith))
+none_past n (c ∷ cells) x h k = grind (arith, nat_tests, none_past n cells x h.1 k, said_append, neither_some, said_past)
 
 -- ---- one window
 
@@ -96,17 +84,13 @@ window_by file buf inner lo pieces long inside room low high kept =
 pub window_done : (file buf : List ℕ) (lo : ℕ) (pieces : List Cell) → lo + length buf ≤ length file → IsFrom lo pieces → IsWithin pieces (lo + length buf)
     → ((x : ℕ) → lo ≤ x → x < lo + length buf → said_at (said_by pieces) x ≡ None → at buf (x - lo) ≡ at file x)
     → written file lo (write_cells buf (moved_down lo pieces)) ≡ write_cells file pieces
-window_done file buf lo pieces room low high kept =
-    window_by file buf (write_cells buf (moved_down lo pieces)) lo pieces
-    (cells_long (moved_down lo pieces) buf (within_lowered lo (length buf) pieces low high))
-    (λ x. cells_said (moved_down lo pieces) buf (x - lo)) room low high kept
+window_done file buf lo pieces room low high kept = grind (arith, nat_tests, window_by, cells_long, within_lowered, cells_said)
 
 -- ---- one window after another
 
 pub write_joined : (lists : List (List Cell)) (file : List ℕ) → fold (λ f cells. write_cells f cells) file lists ≡ write_cells file (flat_map (λ cells. cells) lists)
 write_joined [] file = refl
-write_joined (cells ∷ lists) file =
-    write_joined lists (write_cells file cells) ∙ sym (fold-append (λ f cell. written f cell.0 cell.1) file cells (flat_map (λ c. c) lists))
+write_joined (cells ∷ lists) file = grind (arith, nat_tests, write_joined lists (write_cells file cells), fold-append)
 
 pub said_by_joined : (a b : List Cell) → said_by (a ++ b) ≡ said_by a ++ said_by b
 said_by_joined a b = flat_map-append (λ cell. enumerate_from cell.0 cell.1) a b
@@ -117,19 +101,11 @@ said_joined a b x = ap (λ ps. said_at ps x) (said_by_joined a b) ∙ said_appen
 parts_only : (whole : List (ℕ × ℕ)) (lists : List (List Cell)) → AreParts whole lists → (x v : ℕ)
     → said_at (said_by (flat_map (λ cells. cells) lists)) x ≡ Some v → said_at whole x ≡ Some v
 parts_only whole [] h x v e = no_none_some v e
-parts_only whole (cells ∷ lists) h x v e =
-    by_rest (λ g. parts_only whole lists h.1 x v g) (said_at (said_by (flat_map (λ c. c) lists)) x) refl (sym (said_joined cells (flat_map (λ c. c) lists) x) ∙ e)
-  where
-    by_rest : (said_at (said_by (flat_map (λ c. c) lists)) x ≡ Some v → said_at whole x ≡ Some v)
-        → (o : Option ℕ) → said_at (said_by (flat_map (λ c. c) lists)) x ≡ o → option_or o (said_at (said_by cells) x) ≡ Some v → said_at whole x ≡ Some v
-    by_rest ih (Some w) g k = ih (g ∙ k)
-    by_rest ih None g k = h.0 x v k
+parts_only whole (cells ∷ lists) h x v e = grind (arith, nat_tests, parts_only whole lists h.1 x v, said_joined)
 
 some_joined : (lists : List (List Cell)) (x v : ℕ) → SomeSays lists x v → (w : ℕ) × (said_at (said_by (flat_map (λ cells. cells) lists)) x ≡ Some w)
 some_joined [] x v h = absurd h
-some_joined (cells ∷ lists) x v (inr h) =
-    let s = some_joined lists x v h in
-    (s.0, said_joined cells (flat_map (λ c. c) lists) x ∙ first_counts (said_at (said_by (flat_map (λ c. c) lists)) x) _ s.0 s.1)
+some_joined (cells ∷ lists) x v (inr h) = grind (arith, nat_tests, some_joined lists x v h, said_joined, first_counts)
 some_joined (cells ∷ lists) x v (inl h) = by_rest (said_at (said_by (flat_map (λ c. c) lists)) x) refl
   where
     by_rest : (o : Option ℕ) → said_at (said_by (flat_map (λ c. c) lists)) x ≡ o → (w : ℕ) × (said_at (said_by (flat_map (λ c. c) (cells ∷ lists))) x ≡ Some w)
@@ -141,9 +117,6 @@ pub parts_said : (whole : List (ℕ × ℕ)) (lists : List (List Cell)) → AreP
     → (x : ℕ) → said_at (said_by (flat_map (λ cells. cells) lists)) x ≡ said_at whole x
 parts_said whole lists are each x = by_whole (said_at whole x) refl
   where
-    joined : List (ℕ × ℕ)
-    joined = said_by (flat_map (λ cells. cells) lists)
-
     by_joined : (o : Option ℕ) → said_at (said_by (flat_map (λ cells. cells) lists)) x ≡ o → said_at whole x ≡ None
         → said_at (said_by (flat_map (λ cells. cells) lists)) x ≡ said_at whole x
     by_joined None g e = g ∙ sym e
@@ -198,21 +171,11 @@ clip_in lo hi c x h k = by_front (nat_lt x c.0) refl
 
 pub clips_in : (lo hi : ℕ) (cells : List Cell) (x : ℕ) → lo ≤ x → x < hi → said_at (said_by (clips lo hi cells)) x ≡ said_at (said_by cells) x
 clips_in lo hi [] x h k = refl
-clips_in lo hi (c ∷ cells) x h k =
-    said_append (enumerate_from (clip lo hi c).0 (clip lo hi c).1) (said_by (clips lo hi cells)) x
-    ∙ two_else _ _ _ _ (clips_in lo hi cells x h k) (clip_in lo hi c x h k)
-    ∙ sym (said_append (enumerate_from c.0 c.1) (said_by cells) x)
+clips_in lo hi (c ∷ cells) x h k = grind (arith, nat_tests, clips_in lo hi cells x h k, said_append, two_else, clip_in)
 
 pub clips_part : (lo hi : ℕ) (cells : List Cell) → lo ≤ hi → IsPart (said_by cells) (clips lo hi cells)
-clips_part lo hi cells h x v e = by_front (nat_lt x lo) refl
-  where
-    by_back : (t : Bool) → nat_lt x hi ≡ t → lo ≤ x → said_at (said_by cells) x ≡ Some v
-    by_back true g l = sym (clips_in lo hi cells x l (ltb-true _ _ g)) ∙ e
-    by_back false g l = no_none_some v (sym (none_past hi (clips lo hi cells) x (clips_within lo hi cells h) (ltb-false _ _ g)) ∙ e)
-
-    by_front : (t : Bool) → nat_lt x lo ≡ t → said_at (said_by cells) x ≡ Some v
-    by_front true g = no_none_some v (sym (none_below lo (clips lo hi cells) x (clips_from lo hi cells h) (ltb-true _ _ g)) ∙ e)
-    by_front false g = by_back (nat_lt x hi) refl (ltb-false _ _ g)
+clips_part lo hi cells h x v e =
+    grind (arith, nat_tests, clips_within lo hi cells h, clips_from lo hi cells h, clips_in, ltb-true, no_none_some, none_past, ltb-false, none_below)
 
 -- ---- the windows of a step
 
@@ -238,8 +201,4 @@ windows_within cells (w ∷ windows) n h =
 pub windows_done : (file : List ℕ) (cells : List Cell) (windows : List (ℕ × ℕ)) → IsWithin cells (length file) → IsInOne windows (length file)
     → ((x v : ℕ) → said_at (said_by cells) x ≡ Some v → HasEach windows x)
     → fold (λ f pieces. write_cells f pieces) file (map (λ w. clips w.0 w.1 cells) windows) ≡ write_cells file cells
-windows_done file cells windows within each has =
-    write_joined (map (λ w. clips w.0 w.1 cells) windows) file
-    ∙ same_said (flat_map (λ c. c) (map (λ w. clips w.0 w.1 cells) windows)) cells file (windows_within cells windows (length file) each) within
-    (parts_said (said_by cells) (map (λ w. clips w.0 w.1 cells) windows) (windows_are_parts cells windows (length file) each)
-    (λ x v e. window_says cells windows x v (has x v e) e))
+windows_done file cells windows within each has = grind (arith, nat_tests, write_joined, same_said, windows_within, parts_said, windows_are_parts, window_says)
