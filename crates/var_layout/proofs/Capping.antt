@@ -1,5 +1,5 @@
 -- Capped sums and products, one step at a time.
-use Rattle.var_layout.proofs.Words.{◌≡◌, ℕ, zero, suc, ◌+◌, ◌*◌, ◌^◌, ◌<◌, ◌≤◌, List, [], ◌∷◌, ◌++◌, length, take, get_or, map, Bool, true, false, cond, sym, ap, ◌∙◌, arith, inl, inr, ◌⊎◌, max, sum_by, filter, take_more, map-append, append-nil, sum_by_more, sum_by_push, filter_more, cases_lt, mul_comm, mul_assoc, mul-one, product, greatest, capped}
+use Rattle.var_layout.proofs.Words.{◌≡◌, ℕ, zero, suc, ◌+◌, ◌*◌, ◌^◌, ◌<◌, ◌≤◌, List, [], ◌∷◌, ◌++◌, length, take, get_or, map, Bool, true, false, sym, ap, ◌∙◌, arith, max, sum_by, filter, take_more, map-append, append-nil, sum_by_more, sum_by_push, filter_more, cases_lt, mul_comm, mul_assoc, mul-one, product, greatest, capped, nat_tests}
 
 small : (n : ℕ) → n < 2 ^ 62 → capped n ≡ n
 small n h = omega arith
@@ -18,17 +18,10 @@ large_product zero a h = omega arith
 large_product (suc b) a h = omega arith
 
 pub capped_product : (a b : ℕ) → capped (capped a * b) ≡ capped (a * b)
-capped_product a b = by_size (cases_lt a (2 ^ 62))
-  where
-    by_size : (a < 2 ^ 62) ⊎ (2 ^ 62 ≤ a) → capped (capped a * b) ≡ capped (a * b)
-    by_size (inl h) = ap (λ (n : ℕ). capped (n * b)) (small a h)
-    by_size (inr h) = ap (λ (n : ℕ). capped (n * b)) (large a h) ∙ large_product b a h
+capped_product a b = grind (arith, nat_tests, cases_lt, small, large, large_product)
 
 pub capped_times : (a b s : ℕ) → s ≡ capped b → capped (a * s) ≡ capped (a * b)
-capped_times a b s e =
-    ap (λ (n : ℕ). capped n) (ap (λ (n : ℕ). a * n) e ∙ mul_comm a (capped b))
-    ∙ capped_product b a
-    ∙ ap (λ (n : ℕ). capped n) (mul_comm b a)
+capped_times a b s e = grind (arith, nat_tests, mul_comm, capped_product)
 
 greatest-push : (xs : List ℕ) (y : ℕ) → greatest (xs ++ y ∷ []) ≡ max (greatest xs) y
 greatest-push [] y = omega arith
@@ -39,18 +32,14 @@ pub capped_greatest_more : {A : Type 0} (f : A → ℕ) (xs : List A) (i : ℕ) 
     → e ≡ capped (max first (greatest (map f (take i xs)))) → n ≡ capped (f (get_or xs i d))
     → max e n ≡ capped (max first (greatest (map f (take (i + 1) xs))))
 capped_greatest_more f xs i d first e n h g k =
-    let more = ap (λ ys. greatest (map f ys)) (take_more xs i d h)
-    ∙ ap (λ ns. greatest ns) (map-append f (take i xs) (get_or xs i d ∷ []))
-    ∙ greatest-push (map f (take i xs)) (f (get_or xs i d)) in
-    omega arith
+    grind (arith, nat_tests, take_more xs i d h, map-append f (take i xs) (get_or xs i d ∷ []), greatest-push (map f (take i xs)) (f (get_or xs i d)))
 
 pub product-append : (xs ys : List ℕ) → product (xs ++ ys) ≡ product xs * product ys
 product-append [] ys = omega arith
 product-append (x ∷ xs) ys = ap (λ (n : ℕ). x * n) (product-append xs ys) ∙ sym (mul_assoc x (product xs) (product ys))
 
 pub product_more : (xs : List ℕ) (i d : ℕ) → i < length xs → product (take (i + 1) xs) ≡ product (take i xs) * get_or xs i d
-product_more xs i d h =
-    ap product (take_more xs i d h) ∙ product-append (take i xs) (get_or xs i d ∷ []) ∙ ap (λ (n : ℕ). product (take i xs) * n) (mul-one (get_or xs i d))
+product_more xs i d h = grind (arith, nat_tests, take_more xs i d h, product-append (take i xs) (get_or xs i d ∷ []), mul-one (get_or xs i d))
 
 pub product-map_more : {A : Type 0} (f : A → ℕ) (xs : List A) (i : ℕ) (d : A) → i < length xs
     → product (map f (take (i + 1) xs)) ≡ product (map f (take i xs)) * f (get_or xs i d)
@@ -64,25 +53,19 @@ product-map_more f xs i d h =
 pub capped_product_more : {A : Type 0} (f : A → ℕ) (xs : List A) (i : ℕ) (d : A) (n : ℕ) → i < length xs
     → n ≡ capped (product (map f (take i xs)))
     → capped (n * f (get_or xs i d)) ≡ capped (product (map f (take (i + 1) xs)))
-capped_product_more f xs i d n h e =
-    ap (λ (m : ℕ). capped (m * f (get_or xs i d))) e
-    ∙ capped_product (product (map f (take i xs))) (f (get_or xs i d))
-    ∙ ap (λ (m : ℕ). capped m) (sym (product-map_more f xs i d h))
+capped_product_more f xs i d n h e = grind (arith, nat_tests, capped_product, product-map_more)
 
 pub filter_yes : {A : Type 0} (p : A → Bool) (xs : List A) (i : ℕ) (d : A) → i < length xs → p (get_or xs i d) ≡ true
     → filter p (take (i + 1) xs) ≡ filter p (take i xs) ++ get_or xs i d ∷ []
-filter_yes p xs i d h t =
-    filter_more p xs i d h ∙ ap (λ (b : Bool). filter p (take i xs) ++ cond b (get_or xs i d ∷ []) []) t
+filter_yes p xs i d h t = grind (arith, nat_tests, filter_more p xs i d h)
 
 pub filter_no : {A : Type 0} (p : A → Bool) (xs : List A) (i : ℕ) (d : A) → i < length xs → p (get_or xs i d) ≡ false
     → filter p (take (i + 1) xs) ≡ filter p (take i xs)
-filter_no p xs i d h t =
-    filter_more p xs i d h ∙ ap (λ (b : Bool). filter p (take i xs) ++ cond b (get_or xs i d ∷ []) []) t ∙ append-nil (filter p (take i xs))
+filter_no p xs i d h t = grind (arith, nat_tests, filter_more p xs i d h, append-nil (filter p (take i xs)))
 
 pub sum_filter_yes : {A : Type 0} (p : A → Bool) (f : A → ℕ) (xs : List A) (i : ℕ) (d : A) → i < length xs → p (get_or xs i d) ≡ true
     → sum_by f (filter p (take (i + 1) xs)) ≡ sum_by f (filter p (take i xs)) + f (get_or xs i d)
-sum_filter_yes p f xs i d h t =
-    ap (λ ys. sum_by f ys) (filter_yes p xs i d h t) ∙ sum_by_push f (filter p (take i xs)) (get_or xs i d)
+sum_filter_yes p f xs i d h t = grind (arith, nat_tests, filter_yes p xs i d h t, sum_by_push f (filter p (take i xs)) (get_or xs i d))
 
 -- the capped sum of one more item
 pub capped_sum_more : {A : Type 0} (f : A → ℕ) (xs : List A) (i : ℕ) (d : A) (a s n : ℕ) → i < length xs

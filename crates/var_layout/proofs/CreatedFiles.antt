@@ -1,5 +1,5 @@
 -- Where the variables of a created file lie, one variable after another.
-use Rattle.var_layout.proofs.Words.{◌≡◌, ℕ, zero, suc, ◌+◌, ◌^◌, ◌<◌, ◌≤◌, List, [], ◌∷◌, ◌++◌, length, take, drop, get_or, Bool, true, false, cond, Option, Some, None, refl, sym, ap, ◌∙◌, arith, find, sum_by, not, option_map, option_or, enumerate_from, take_all, drop_all, append-nil, set, get_or-enumerate_from, length-enumerate_from, fold_push, and_second, Header, Var, Align, round_up, vsize, is_record, fixed_variables, record_variables, end_of_fixed, begin_of, placed, begins, header_len, Numbered, fixed_of, records_in, size_fault, layout_fault, find-append, not_from_false, not_from_true, fixed_end, first_record, lies_too_far, far_fixed, far_record, capped}
+use Rattle.var_layout.proofs.Words.{◌≡◌, ℕ, zero, suc, ◌+◌, ◌^◌, ◌<◌, ◌≤◌, List, [], ◌∷◌, ◌++◌, length, take, drop, get_or, Bool, true, false, Option, Some, None, refl, sym, ap, ◌∙◌, arith, find, sum_by, not, option_map, option_or, enumerate_from, take_all, drop_all, append-nil, set, get_or-enumerate_from, length-enumerate_from, fold_push, and_second, Header, Var, Align, round_up, vsize, is_record, fixed_variables, record_variables, end_of_fixed, begin_of, placed, begins, header_len, Numbered, fixed_of, records_in, size_fault, layout_fault, find-append, not_from_false, not_from_true, fixed_end, first_record, lies_too_far, far_fixed, far_record, capped, nat_tests}
 use borrow.Author.Tests.{ltb-true}
 use Rattle.nc_base.specs.declared.errors.LayoutErr.TheVariants as fault
 use Rattle.var_layout.proofs.Capping.{filter_yes, filter_no, sum_filter_yes}
@@ -17,9 +17,7 @@ pub get_or-placed : (header : Header) (align : Align) (first n : ℕ) (vs : List
     → get_or (placed header align first n vs) k d ≡ in_place header align first (n + k) (get_or vs k d)
 get_or-placed header align first n [] k d h = absurd (omega arith)
 get_or-placed header align first n (v ∷ vs) zero d h = ap (λ (m : ℕ). in_place header align first m v) (let e : n ≡ n + 0 = omega arith in e)
-get_or-placed header align first n (v ∷ vs) (suc k) d h =
-    get_or-placed header align first (suc n) vs k d (omega arith)
-    ∙ ap (λ (m : ℕ). in_place header align first m (get_or vs k d)) (let e : suc n + k ≡ n + suc k = omega arith in e)
+get_or-placed header align first n (v ∷ vs) (suc k) d h = grind (arith, nat_tests, get_or-placed header align first (suc n) vs k d (omega arith))
 
 pub length-placed : (header : Header) (align : Align) (first n : ℕ) (vs : List Var) → length (placed header align first n vs) ≡ length vs
 length-placed header align first n [] = refl
@@ -27,30 +25,18 @@ length-placed header align first n (v ∷ vs) = ap (λ (m : ℕ). suc m) (length
 
 numbered_at : (header : Header) (align : Align) (first k : ℕ) (v : Var) → k < length header.vars → v ≡ get_or header.vars k v
     → get_or (enumerate_from 0 (placed header align first 0 header.vars)) k (0, v) ≡ (k, in_place header align first k v)
-numbered_at header align first k v h e =
-    get_or-enumerate_from 0 (placed header align first 0 header.vars) k (0, v) (let l = length-placed header align first 0 header.vars in omega arith)
-    ∙ ap (λ (n : ℕ). (n, get_or (placed header align first 0 header.vars) k v)) (let z : 0 + k ≡ k = omega arith in z)
-    ∙ ap (λ (w : Var). (k, w)) (get_or-placed header align first 0 header.vars k v h
-    ∙ ap (λ (n : ℕ). in_place header align first n (get_or header.vars k v)) (let z : 0 + k ≡ k = omega arith in z)
-    ∙ ap (λ (w : Var). in_place header align first k w) (sym e))
+numbered_at header align first k v h e = grind (arith, nat_tests, get_or-enumerate_from, length-placed, get_or-placed)
 
 numbered_long : (header : Header) (align : Align) (first k : ℕ) → k < length header.vars → k < length (enumerate_from 0 (placed header align first 0 header.vars))
-numbered_long header align first k h =
-    let l = length-placed header align first 0 header.vars in
-    let m = length-enumerate_from 0 (placed header align first 0 header.vars) in
-    omega arith
+numbered_long header align first k h = grind (arith, nat_tests, length-placed, length-enumerate_from)
 
 pub begin_fixed : (header : Header) (align : Align) (first k : ℕ) (v : Var) → is_record header v ≡ false
     → begin_of header align first k v ≡ round_up align.var (fixed_end header align first k)
-begin_fixed header align first k v e =
-    ap (λ (t : Bool). cond t (first_record header align first + sum_by (λ w. vsize header w) (record_variables header (take k header.vars)))
-    (round_up align.var (fixed_end header align first k))) e
+begin_fixed header align first k v e = grind (arith, nat_tests)
 
 pub begin_record : (header : Header) (align : Align) (first k : ℕ) (v : Var) → is_record header v ≡ true
     → begin_of header align first k v ≡ first_record header align first + sum_by (λ w. vsize header w) (record_variables header (take k header.vars))
-begin_record header align first k v e =
-    ap (λ (t : Bool). cond t (first_record header align first + sum_by (λ w. vsize header w) (record_variables header (take k header.vars)))
-    (round_up align.var (fixed_end header align first k))) e
+begin_record header align first k v e = grind (arith, nat_tests)
 
 -- ---- one variable on
 
@@ -64,22 +50,17 @@ fixed_end_more header align first k v h e f =
 
 pub fixed_end_same : (header : Header) (align : Align) (first k : ℕ) (v : Var) → k < length header.vars → v ≡ get_or header.vars k v → is_record header v ≡ true
     → fixed_end header align first (k + 1) ≡ fixed_end header align first k
-fixed_end_same header align first k v h e f =
-    ap (λ vs. end_of_fixed header align.var (round_up align.header first) vs)
-    (filter_no (λ w. not (is_record header w)) header.vars k v h (not_from_true _ (ap (λ (w : Var). is_record header w) (sym e) ∙ f)))
+fixed_end_same header align first k v h e f = grind (arith, nat_tests, filter_no, not_from_true)
 
 pub records_more : (header : Header) (k : ℕ) (v : Var) → k < length header.vars → v ≡ get_or header.vars k v → is_record header v ≡ true
     → sum_by (λ w. vsize header w) (record_variables header (take (k + 1) header.vars))
     ≡ sum_by (λ w. vsize header w) (record_variables header (take k header.vars)) + vsize header v
-records_more header k v h e f =
-    sum_filter_yes (λ w. is_record header w) (λ w. vsize header w) header.vars k v h (ap (λ (w : Var). is_record header w) (sym e) ∙ f)
-    ∙ ap (λ (w : Var). sum_by (λ x. vsize header x) (record_variables header (take k header.vars)) + vsize header w) (sym e)
+records_more header k v h e f = grind (arith, nat_tests, sum_filter_yes)
 
 pub records_same : (header : Header) (k : ℕ) (v : Var) → k < length header.vars → v ≡ get_or header.vars k v → is_record header v ≡ false
     → sum_by (λ w. vsize header w) (record_variables header (take (k + 1) header.vars))
     ≡ sum_by (λ w. vsize header w) (record_variables header (take k header.vars))
-records_same header k v h e f =
-    ap (λ vs. sum_by (λ w. vsize header w) vs) (filter_no (λ w. is_record header w) header.vars k v h (ap (λ (w : Var). is_record header w) (sym e) ∙ f))
+records_same header k v h e f = grind (arith, nat_tests, filter_no)
 
 -- ---- the fixed variables, as far as the loop has come
 
@@ -127,15 +108,11 @@ fixed_stops header align first k end v h e f far so =
 
 whole_list : (header : Header) (align : Align) (first n : ℕ) → length header.vars ≤ n
     → take n (enumerate_from 0 (placed header align first 0 header.vars)) ≡ enumerate_from 0 (placed header align first 0 header.vars)
-whole_list header align first n h =
-    let l = length-placed header align first 0 header.vars in
-    let m = length-enumerate_from 0 (placed header align first 0 header.vars) in
-    take_all n (enumerate_from 0 (placed header align first 0 header.vars)) (omega arith)
+whole_list header align first n h = grind (arith, nat_tests, length-placed, length-enumerate_from, take_all)
 
 pub fixed_whole : (header : Header) (align : Align) (first n end : ℕ) → length header.vars ≤ n → FixedSoFar header align first n end
     → far_fixed (begins header align first) ≡ None
-fixed_whole header align first n end h so =
-    ap (λ vs. find (λ w. lies_too_far (begins header align first) w.1) (fixed_of (begins header align first) vs)) (sym (whole_list header align first n h)) ∙ so.none
+fixed_whole header align first n end h so = grind (arith, nat_tests, whole_list)
 
 -- ---- the record variables, as far as the loop has come
 
@@ -182,8 +159,7 @@ records_stop header align first k begin v h e f far so =
 
 pub records_whole : (header : Header) (align : Align) (first n begin : ℕ) → length header.vars ≤ n → RecordsSoFar header align first n begin
     → far_record (begins header align first) ≡ None
-records_whole header align first n begin h so =
-    ap (λ vs. find (λ w. lies_too_far (begins header align first) w.1) (records_in (begins header align first) vs)) (sym (whole_list header align first n h)) ∙ so.none
+records_whole header align first n begin h so = grind (arith, nat_tests, whole_list)
 
 -- ---- the begins that are written, the variables standing apart from their header
 
@@ -211,11 +187,7 @@ seam_at (n ∷ new) (o ∷ old) zero d l h = refl
 seam_at (n ∷ new) (o ∷ old) (suc k) d l h = seam_at new old k d (omega arith) (omega arith)
 
 pub near_end : (header : Header) (v : Var) → lies_too_far header v ≡ false → v.begin + vsize header v < 2 ^ 62
-near_end header v h = ltb-true _ _ (and_second _ _ (was_true _ h))
-  where
-    was_true : (t : Bool) → not t ≡ false → t ≡ true
-    was_true true e = refl
-    was_true false e = cc
+near_end header v h = grind (arith, nat_tests, ltb-true, and_second)
 
 pub fixed_fits : (header : Header) (align : Align) (first k : ℕ) (v : Var) → far_fixed (begins header align first) ≡ None → k < length header.vars
     → v ≡ get_or header.vars k v → is_record header v ≡ false → lies_too_far header (in_place header align first k v) ≡ false
@@ -247,8 +219,7 @@ record_near header align first k v none h e f =
 -- the item at the seam
 pub item_there : (header : Header) (align : Align) (first : ℕ) (old now : List Var) (k fixed begin : ℕ) (v : Var) → k < length old → v ≡ get_or now k v
     → WrittenSoFar header align first old now k fixed begin → v ≡ get_or old k v
-item_there header align first old now k fixed begin v h e so =
-    e ∙ ap (λ vs. get_or vs k v) so.items ∙ seam_at (placed (whole_header header old) align first 0 old) old k v (length-placed (whole_header header old) align first 0 old) h
+item_there header align first old now k fixed begin v h e so = grind (arith, nat_tests, seam_at, length-placed)
 
 suc_is : (n : ℕ) → suc n ≡ n + 1
 suc_is n = omega arith
@@ -311,12 +282,7 @@ write_fixed header align first old now k fixed begin bytes place v new fixed' be
 
 pub written_whole : (header : Header) (align : Align) (first : ℕ) (old now : List Var) (k fixed begin : ℕ) → length old ≤ k
     → WrittenSoFar header align first old now k fixed begin → now ≡ placed (whole_header header old) align first 0 old
-written_whole header align first old now k fixed begin h so =
-    let all = length-placed (whole_header header old) align first 0 old in
-    so.items
-    ∙ ap (λ vs. take k (placed (whole_header header old) align first 0 old) ++ vs) (drop_all k old h)
-    ∙ append-nil (take k (placed (whole_header header old) align first 0 old))
-    ∙ take_all k (placed (whole_header header old) align first 0 old) (omega arith)
+written_whole header align first old now k fixed begin h so = grind (arith, nat_tests, length-placed, drop_all, append-nil, take_all)
 
 -- ---- why a layout is refused
 
@@ -352,6 +318,4 @@ no_far f (Some x) e = cc
 
 pub first_record_is : (header : Header) (align : Align) (first end begin : ℕ) → end ≡ fixed_end header align first (length header.vars)
     → begin ≡ round_up align.var end → begin ≡ first_record header align first
-first_record_is header align first end begin e f =
-    f ∙ ap (λ (n : ℕ). round_up align.var n) e
-    ∙ ap (λ vs. round_up align.var (end_of_fixed header align.var (round_up align.header first) (fixed_variables header vs))) (take_all (length header.vars) header.vars (omega arith))
+first_record_is header align first end begin e f = grind (arith, nat_tests, take_all)

@@ -1,5 +1,5 @@
 -- Rows of elements, one dimension at a time, and where elements end.
-use Rattle.var_layout.proofs.Words.{◌≡◌, ℕ, zero, suc, ◌+◌, ◌-◌, ◌*◌, ◌^◌, ◌<◌, ◌≤◌, List, [], ◌∷◌, length, drop, get_or, map, Bool, true, false, cond, Some, refl, sym, ap, subst, ◌∙◌, arith, slice_get, nat_lt, ◌==◌, drop_more, row_fits, mul-le, mul-le-mul_left, nat_tests, size_pos, slab_shared, end_fixed, slab_below, index_fixed, index_record, Header, Var, NcType, size_of, product, greatest, is_record, inner_lengths, slab, vsize, recsize, last_share, end_of, end_of_var, row, place, record_of, within_record, IsIndex, IsElement, row_below, records_for, header_len, is_sound}
+use Rattle.var_layout.proofs.Words.{◌≡◌, ℕ, zero, suc, ◌+◌, ◌-◌, ◌*◌, ◌^◌, ◌<◌, ◌≤◌, List, [], ◌∷◌, length, drop, get_or, map, Bool, true, false, cond, Some, refl, ap, arith, slice_get, nat_lt, drop_more, row_fits, mul-le, mul-le-mul_left, nat_tests, size_pos, slab_shared, end_fixed, slab_below, index_fixed, index_record, Header, Var, NcType, size_of, product, greatest, is_record, inner_lengths, slab, recsize, last_share, end_of, end_of_var, row, place, record_of, within_record, IsIndex, IsElement, row_below, records_for, header_len, is_sound}
 use Rattle.var_layout.proofs.Soundness.{Keeps, var_kept, header_short}
 use borrow.Author.Tests.{ltb-true, ltb-false}
 
@@ -24,26 +24,15 @@ step_whole a n p i r = omega arith
 
 next_row : (lengths index ns is : List ℕ) (n i so_far : ℕ) (k : ℕ) → drop k lengths ≡ n ∷ ns → drop k index ≡ i ∷ is → RowSoFar lengths index k so_far
     → ((so_far * n + i) * product ns + row ns is ≡ row lengths index) × IsIndex ns is
-next_row lengths index ns is n i so_far k e f h =
-    let whole = ap (λ xs. so_far * product xs + row xs (drop k index)) (sym e) in
-    let there = ap (λ ys. so_far * product (n ∷ ns) + row (n ∷ ns) ys) (sym f) in
-    let valid : IsIndex (n ∷ ns) (i ∷ is) = subst (λ ys. IsIndex (n ∷ ns) ys) f (subst (λ xs. IsIndex xs (drop k index)) e h.valid) in
-    (sym (step_whole so_far n (product ns) i (row ns is)) ∙ there ∙ whole ∙ h.whole, valid.1)
+next_row lengths index ns is n i so_far k e f h = grind (arith, nat_tests, step_whole)
 
 pub one_more : (lengths index : List ℕ) (k d n i so_far : ℕ) → k < length lengths → k < length index → n ≡ get_or lengths k d → i ≡ get_or index k 0
     → RowSoFar lengths index k so_far → RowSoFar lengths index (k + 1) (so_far * n + i)
-one_more lengths index k d n i so_far h g e f so =
-    let ns = drop_more lengths k d h ∙ ap (λ (m : ℕ). m ∷ drop (k + 1) lengths) (sym e) in
-    let is = drop_more index k 0 g ∙ ap (λ (m : ℕ). m ∷ drop (k + 1) index) (sym f) in
-    let next = next_row lengths index (drop (k + 1) lengths) (drop (k + 1) index) n i so_far k ns is so in
-    record { whole = next.0; valid = next.1 }
+one_more lengths index k d n i so_far h g e f so = grind (arith, nat_tests, drop_more, next_row)
 
 -- it never passes the whole row
 pub so_far_below : (lengths index : List ℕ) (k so_far : ℕ) → RowSoFar lengths index k so_far → so_far ≤ row lengths index
-so_far_below lengths index k so_far h =
-    let some = product_pos (drop k lengths) (drop k index) h.valid in
-    let e = h.whole in
-    omega (arith, mul-le-mul_left so_far some)
+so_far_below lengths index k so_far h = grind (arith, nat_tests, product_pos, mul-le-mul_left)
 
 -- ---- elements
 
@@ -57,8 +46,7 @@ place_record header v index e = ap (λ (t : Bool). cond t (v.begin + record_of i
 
 in_slab : (header : Header) (v : Var) (index : List ℕ) → IsIndex (inner_lengths header v) index
     → row (inner_lengths header v) index * size_of v.kind + size_of v.kind ≤ slab header v
-in_slab header v index h =
-    row_fits (row (inner_lengths header v) index) (size_of v.kind) (product (inner_lengths header v)) (size_of v.kind) (row_below (inner_lengths header v) index h) (omega arith)
+in_slab header v index h = grind (arith, nat_tests, row_fits, row_below)
 
 -- a row is no more than its bytes
 pub row_below_bytes : (n : ℕ) (kind : NcType) → n ≤ n * size_of kind
@@ -72,17 +60,10 @@ greatest_holds f (y ∷ xs) zero x h = let e : f y ≡ f x = cc in omega arith
 greatest_holds f (y ∷ xs) (suc k) x h = let l = greatest_holds f xs k x h in omega arith
 
 end_record : (header : Header) (n : ℕ) (v : Var) → is_record header v ≡ true → 0 < n → end_of_var header n v ≡ v.begin + (n - 1) * recsize header + last_share header v
-end_record header n v e h =
-    ap (λ (t : Bool). cond t (cond (n == 0) 0 (v.begin + (n - 1) * recsize header + last_share header v)) (v.begin + vsize header v)) e
-    ∙ ap (λ (t : Bool). cond t 0 (v.begin + (n - 1) * recsize header + last_share header v)) (not_none n h)
-  where
-    not_none : (m : ℕ) → 0 < m → (m == 0) ≡ false
-    not_none m l = grind (arith, nat_tests)
+end_record header n v e h = grind (arith, nat_tests)
 
 end_none : (header : Header) (n : ℕ) (v : Var) → is_record header v ≡ true → n ≡ 0 → end_of_var header n v ≡ 0
-end_none header n v e h =
-    ap (λ (t : Bool). cond t (cond (n == 0) 0 (v.begin + (n - 1) * recsize header + last_share header v)) (v.begin + vsize header v)) e
-    ∙ ap (λ (t : Bool). cond t 0 (v.begin + (n - 1) * recsize header + last_share header v)) (ap (λ (m : ℕ). m == 0) h)
+end_none header n v e h = grind (arith, nat_tests)
 
 for_record : (header : Header) (v : Var) (index : List ℕ) → is_record header v ≡ true → records_for header v index ≡ record_of index + 1
 for_record header v index e = ap (λ (t : Bool). cond t (record_of index + 1) 0) e
@@ -109,10 +90,7 @@ before_end_of_var header v index n h l = by_test (is_record header v) refl
 
 pub before_end : (header : Header) (first k : ℕ) (v : Var) (index : List ℕ) (n : ℕ) → slice_get header.vars k ≡ Some v → IsElement header v index
     → records_for header v index ≤ n → place header v index + size_of v.kind ≤ end_of header first n
-before_end header first k v index n h e l =
-    let own = before_end_of_var header v index n e l in
-    let all = greatest_holds (λ w. end_of_var header n w) header.vars k v h in
-    omega arith
+before_end header first k v index n h e l = grind (arith, nat_tests, before_end_of_var header v index n e l, greatest_holds)
 
 -- ---- a sound header's file
 

@@ -1,5 +1,5 @@
 -- The end of a file by the measures of its header.
-use Rattle.var_layout.proofs.Words.{◌≡◌, ℕ, zero, suc, ◌+◌, ◌-◌, ◌*◌, ◌<◌, ◌≤◌, List, [], ◌∷◌, map, Bool, true, false, cond, refl, ap, ◌∙◌, arith, inl, inr, ◌⊎◌, max, Header, Var, header_len, greatest, is_record, vsize, last_share, recsize, record_size, record_variables, slab, end_of, end_of_var, capped, first_end, record_end, equal_suc}
+use Rattle.var_layout.proofs.Words.{◌≡◌, ℕ, zero, suc, ◌+◌, ◌-◌, ◌*◌, ◌<◌, ◌≤◌, List, [], ◌∷◌, map, Bool, true, false, cond, refl, arith, inr, ◌⊎◌, max, Header, Var, header_len, greatest, is_record, vsize, last_share, recsize, record_variables, end_of, end_of_var, capped, first_end, record_end, equal_suc, nat_tests}
 use Rattle.var_layout.proofs.Capping.{capped_times}
 
 -- ---- later records move the ends of the record variables alone
@@ -12,10 +12,7 @@ first_ends header vs = greatest (map (λ v. first_end header v) vs)
 
 later : (header : Header) (n : ℕ) (v : Var)
     → end_of_var header (suc n) v ≡ cond (is_record header v) (v.begin + n * recsize header + last_share header v) (v.begin + vsize header v)
-later header n v =
-    ap (λ (t : Bool). cond (is_record header v) (cond t 0 (v.begin + (suc n - 1) * recsize header + last_share header v)) (v.begin + vsize header v)) (equal_suc n)
-    ∙ ap (λ (m : ℕ). cond (is_record header v) (v.begin + m * recsize header + last_share header v) (v.begin + vsize header v))
-    (let o : suc n - 1 ≡ n = omega arith in o)
+later header n v = grind (arith, nat_tests, equal_suc)
 
 moved : (header : Header) (n : ℕ) (vs : List Var)
     → max (n * recsize header) (ends header (suc n) vs) ≡ max (ends header 0 vs) (first_ends header vs + n * recsize header)
@@ -32,39 +29,20 @@ moved header n (v ∷ vs) = by_test (is_record header v) (later header n v) (mov
 -- so far a file goes at least, if there is a record variable
 some_record : (header : Header) (n : ℕ) (vs : List Var) → (n * recsize header ≤ ends header (suc n) vs) ⊎ (record_variables header vs ≡ [])
 some_record header n [] = inr refl
-some_record header n (v ∷ vs) = by_test (is_record header v) (later header n v) (some_record header n vs)
-  where
-    by_test : (t : Bool) → end_of_var header (suc n) v ≡ cond t (v.begin + n * recsize header + last_share header v) (v.begin + vsize header v)
-        → (n * recsize header ≤ ends header (suc n) vs) ⊎ (record_variables header vs ≡ [])
-        → (n * recsize header ≤ max (end_of_var header (suc n) v) (ends header (suc n) vs)) ⊎ (cond t (v ∷ record_variables header vs) (record_variables header vs) ≡ [])
-    by_test true e h = inl (omega arith)
-    by_test false e (inl h) = inl (omega arith)
-    by_test false e (inr h) = inr h
+some_record header n (v ∷ vs) = grind (arith, nat_tests, some_record header n vs, later)
 
 no_size : (header : Header) (n : ℕ) → record_variables header header.vars ≡ [] → n * recsize header ≡ 0
-no_size header n e =
-    let none : recsize header ≡ 0 = ap (λ vs. record_size (map (λ v. slab header v) vs)) e in
-    ap (λ (m : ℕ). n * m) none ∙ omega arith
+no_size header n e = grind (arith, nat_tests)
 
 end_later : (header : Header) (first n : ℕ) → end_of header first (suc n) ≡ max (end_of header first 0) (record_end header + n * recsize header)
-end_later header first n = by_size (some_record header n header.vars)
-  where
-    by_size : (n * recsize header ≤ ends header (suc n) header.vars) ⊎ (record_variables header header.vars ≡ [])
-        → end_of header first (suc n) ≡ max (end_of header first 0) (record_end header + n * recsize header)
-    by_size (inl h) = let m = moved header n header.vars in omega arith
-    by_size (inr h) = let m = moved header n header.vars in let z = no_size header n h in omega arith
+end_later header first n = grind (arith, nat_tests, some_record header n header.vars, moved header n header.vars, no_size)
 
 end_after : (header : Header) (first n : ℕ) → 0 < n → end_of header first n ≡ max (end_of header first 0) (record_end header + (n - 1) * recsize header)
 end_after header first zero h = absurd (omega arith)
-end_after header first (suc n) h =
-    end_later header first n
-    ∙ ap (λ (m : ℕ). max (end_of header first 0) (record_end header + m * recsize header)) (let o : n ≡ suc n - 1 = omega arith in o)
+end_after header first (suc n) h = grind (arith, nat_tests, end_later)
 
 -- the end by capped measures: the size of a record, the end of the fixed variables and that of the record variables
 pub capped_end_after : (header : Header) (n size fixed first later whole : ℕ) → 0 < n
     → size ≡ capped (recsize header) → fixed ≡ capped (end_of header (header_len header) 0) → first ≡ capped (record_end header)
     → later ≡ capped ((n - 1) * size) → whole ≡ capped (first + later) → max fixed whole ≡ capped (end_of header (header_len header) n)
-capped_end_after header n size fixed first later whole h s f r l w =
-    let e = end_after header (header_len header) n h in
-    let t = capped_times (n - 1) (recsize header) size s in
-    omega arith
+capped_end_after header n size fixed first later whole h s f r l w = grind (arith, nat_tests, end_after, capped_times)

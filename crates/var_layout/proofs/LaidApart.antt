@@ -1,5 +1,5 @@
 -- No two variables of a laid out header share a byte.
-use Rattle.var_layout.proofs.Words.{◌≡◌, ℕ, zero, suc, ◌+◌, ◌-◌, ◌<◌, ◌≤◌, List, [], ◌∷◌, length, map, Bool, true, false, cond, ◌&&◌, ◌||◌, Some, None, refl, sym, ap, subst, ◌∙◌, arith, max, filter, sum_by, nat_lt, nat_le, ◌==◌, slice_get, option_or, nat_tests, length-map, slice_get_read, slab_below, Header, Var, Align, slab, vsize, is_record, recsize, record_size, record_slabs, record_variables, sharing, sharing_with, sharing_from, share, meet, placed, begins, begin_of, HasPlace}
+use Rattle.var_layout.proofs.Words.{◌≡◌, ℕ, zero, suc, ◌+◌, ◌-◌, ◌<◌, ◌≤◌, List, [], ◌∷◌, length, map, Bool, true, false, cond, ◌&&◌, ◌||◌, Some, None, refl, sym, ap, subst, ◌∙◌, arith, max, filter, sum_by, nat_lt, nat_le, slice_get, option_or, nat_tests, length-map, slice_get_read, slab_below, Header, Var, Align, slab, vsize, is_record, recsize, record_size, record_variables, sharing, sharing_with, sharing_from, share, meet, placed, begins, begin_of, HasPlace}
 use Rattle.var_layout.proofs.Soundness.{recsize_shared}
 use Rattle.var_layout.proofs.CreatedFiles.{in_place}
 use Rattle.var_layout.proofs.LaidPlaces.{Lies, lies_at, fixed_grows, all_records, records_grow, fixed_at, record_at, first_low, header_low}
@@ -22,63 +22,31 @@ pub record_then_fixed : (a n b m size : ℕ) → b + m ≤ a → shares_by true 
 record_then_fixed a n b m size h = let e : nat_lt a (b + m) ≡ false = grind (arith, nat_tests) in e
 
 records_apart : (a n b m size : ℕ) → a + n ≤ b → b + m ≤ a + size → shares_by true true a n b m size ≡ false
-records_apart a n b m size h g =
-    let order : nat_le a b ≡ true = grind (arith, nat_tests) in
-    let front : nat_lt b (a + n) ≡ false = grind (arith, nat_tests) in
-    let back : nat_lt (a + size) (b + m) ≡ false = grind (arith, nat_tests) in
-    ap (λ (t : Bool). cond t (nat_lt b (a + n) || nat_lt (a + size) (b + m)) (nat_lt a (b + m) || nat_lt (b + size) (a + n))) order
-    ∙ ap (λ (t : Bool). t || nat_lt (a + size) (b + m)) front ∙ back
+records_apart a n b m size h g = grind (arith, nat_tests)
 
 placed_slabs : (header : Header) (align : Align) (first n : ℕ) (vs : List Var)
     → map (λ v. slab header v) (record_variables header (placed header align first n vs)) ≡ map (λ v. slab header v) (record_variables header vs)
 placed_slabs header align first n [] = refl
-placed_slabs header align first n (v ∷ vs) = by_test (is_record header v) (placed_slabs header align first (suc n) vs)
-  where
-    by_test : (t : Bool) → map (λ w. slab header w) (record_variables header (placed header align first (suc n) vs)) ≡ map (λ w. slab header w) (record_variables header vs)
-        → map (λ w. slab header w) (cond t (in_place header align first n v ∷ record_variables header (placed header align first (suc n) vs)) (record_variables header (placed header align first (suc n) vs)))
-        ≡ map (λ w. slab header w) (cond t (v ∷ record_variables header vs) (record_variables header vs))
-    by_test true rest = ap (λ ns. slab header v ∷ ns) rest
-    by_test false rest = rest
+placed_slabs header align first n (v ∷ vs) = grind (arith, nat_tests, placed_slabs header align first (suc n) vs)
 
 laid_recsize : (header : Header) (align : Align) (first : ℕ) → recsize (begins header align first) ≡ recsize header
 laid_recsize header align first = ap (λ ns. record_size ns) (placed_slabs header align first 0 header.vars)
 
 pub count_one : {A : Type 0} (p : A → Bool) (xs : List A) (k : ℕ) (x : A) → slice_get xs k ≡ Some x → p x ≡ true → 1 ≤ length (filter p xs)
 count_one p [] k x h e = cc
-count_one p (y ∷ xs) zero x h e =
-    let same : y ≡ x = cc in
-    let f = ap (λ (t : Bool). length (cond t (y ∷ filter p xs) (filter p xs))) (ap (λ z. p z) same ∙ e) in
-    omega arith
-count_one p (y ∷ xs) (suc k) x h e = by_test (p y) (count_one p xs k x h e)
-  where
-    by_test : (t : Bool) → 1 ≤ length (filter p xs) → 1 ≤ length (cond t (y ∷ filter p xs) (filter p xs))
-    by_test true l = omega arith
-    by_test false l = l
+count_one p (y ∷ xs) zero x h e = grind (arith, nat_tests)
+count_one p (y ∷ xs) (suc k) x h e = grind (arith, nat_tests, count_one p xs k x h e)
 
 pub count_two : {A : Type 0} (p : A → Bool) (xs : List A) (i j : ℕ) (x y : A) → i < j → slice_get xs i ≡ Some x → slice_get xs j ≡ Some y → p x ≡ true → p y ≡ true
     → 2 ≤ length (filter p xs)
 count_two p [] i j x y l h g e f = cc
 count_two p (z ∷ xs) i zero x y l h g e f = absurd (omega arith)
-count_two p (z ∷ xs) zero (suc j) x y l h g e f =
-    let same : z ≡ x = cc in
-    let later = count_one p xs j y g f in
-    let here = ap (λ (t : Bool). length (cond t (z ∷ filter p xs) (filter p xs))) (ap (λ w. p w) same ∙ e) in
-    omega arith
-count_two p (z ∷ xs) (suc i) (suc j) x y l h g e f = by_test (p z) (count_two p xs i j x y (omega arith) h g e f)
-  where
-    by_test : (t : Bool) → 2 ≤ length (filter p xs) → 2 ≤ length (cond t (z ∷ filter p xs) (filter p xs))
-    by_test true m = omega arith
-    by_test false m = m
+count_two p (z ∷ xs) zero (suc j) x y l h g e f = grind (arith, nat_tests, count_one)
+count_two p (z ∷ xs) (suc i) (suc j) x y l h g e f = grind (arith, nat_tests, count_two p xs i j x y (omega arith) h g e f)
 
 -- with two record variables at least, a record has the sum of their vsizes
 recsize_of_two : (header : Header) → 2 ≤ length (record_variables header header.vars) → recsize header ≡ sum_by (λ v. vsize header v) (record_variables header header.vars)
-recsize_of_two header h =
-    let long = length-map (record_variables header header.vars) (λ v. slab header v) in
-    recsize_shared header
-    ∙ ap (λ (t : Bool). sum_by (λ v. cond t (slab header v) (vsize header v)) (record_variables header header.vars)) (not_one (length (record_slabs header)) (omega arith))
-  where
-    not_one : (n : ℕ) → 2 ≤ n → (n == 1) ≡ false
-    not_one n l = grind (arith, nat_tests)
+recsize_of_two header h = grind (arith, nat_tests, length-map, recsize_shared)
 
 pub get_there : (header : Header) (k : ℕ) (v : Var) → Lies header k v → slice_get header.vars k ≡ Some v
 get_there header k v lies = slice_get_read header.vars (length header.vars) k v refl lies.within lies.there
@@ -86,14 +54,7 @@ get_there header k v lies = slice_get_read header.vars (length header.vars) k v 
 laid_apart : (header : Header) (align : Align) (len first : ℕ) → 0 < align.var → HasPlace header align len first → (i j : ℕ) (v w : Var) → i < j → Lies header i v → Lies header j w
     → (t u : Bool) → is_record header v ≡ t → is_record header w ≡ u
     → shares_by t u (begin_of header align len i v) (slab header v) (begin_of header align len j w) (slab header w) (recsize header) ≡ false
-laid_apart header align len first pos place i j v w l lies lies' false false e f =
-    let a = fixed_at header align len i v pos lies e in
-    let b = fixed_at header align len j w pos lies' f in
-    let grows = fixed_grows header align len (i + 1) j v pos (omega arith) (let q = lies'.within in omega arith) in
-    let s = slab_below header v in
-    let high = a.high in
-    let low = b.low in
-    fixed_apart (begin_of header align len i v) (slab header v) (begin_of header align len j w) (slab header w) (recsize header) (omega arith)
+laid_apart header align len first pos place i j v w l lies lies' false false e f = grind (arith, nat_tests, fixed_at, fixed_grows, slab_below, fixed_apart)
 laid_apart header align len first pos place i j v w l lies lies' false true e f =
     let a = fixed_at header align len i v pos lies e in
     let b = record_at header align len j w lies' f in

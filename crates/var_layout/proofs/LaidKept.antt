@@ -1,43 +1,31 @@
 -- What the begins that a layout gives leave as it was: sums and tests over the variables, and the length of the header.
-use Rattle.var_layout.proofs.Words.{◌≡◌, ℕ, zero, suc, ◌+◌, ◌-◌, List, [], ◌∷◌, length, take, Bool, ◌&&◌, ◌||◌, refl, sym, ap, ◌∙◌, arith, sum_by, nat_le, list_any, list_all, sum_by-cons, Header, Var, Align, most_dims, most_vars, most_dims_of_var, placed, begins, begin_of, header_len, variable, counts_are_small}
+use Rattle.var_layout.proofs.Words.{◌≡◌, ℕ, zero, suc, ◌-◌, List, [], ◌∷◌, length, take, Bool, refl, sym, ◌∙◌, arith, sum_by, list_any, list_all, sum_by-cons, Header, Var, Align, placed, begins, header_len, variable, counts_are_small, nat_tests}
 use Rattle.var_layout.proofs.WrittenLengths.{list_len, variable_len, canon_len}
-use Rattle.var_layout.proofs.CreatedFiles.{at_begin, in_place, length-placed}
+use Rattle.var_layout.proofs.CreatedFiles.{at_begin, length-placed}
 
 -- ---- what does not look at the begins
 
 placed_all : (test : Var → Bool) → ((v : Var) (b : ℕ) → test (at_begin v b) ≡ test v) → (header : Header) (align : Align) (first n : ℕ) (vs : List Var)
     → list_all test (placed header align first n vs) ≡ list_all test vs
 placed_all test same header align first n [] = refl
-placed_all test same header align first n (v ∷ vs) =
-    ap (λ (t : Bool). t && list_all test (placed header align first (suc n) vs)) (same v (begin_of header align first n v))
-    ∙ ap (λ (t : Bool). test v && t) (placed_all test same header align first (suc n) vs)
+placed_all test same header align first n (v ∷ vs) = grind (arith, nat_tests, placed_all test same header align first (suc n) vs)
 
 pub placed_any : (test : Var → Bool) → ((v : Var) (b : ℕ) → test (at_begin v b) ≡ test v) → (header : Header) (align : Align) (first n : ℕ) (vs : List Var)
     → list_any test (placed header align first n vs) ≡ list_any test vs
 placed_any test same header align first n [] = refl
-placed_any test same header align first n (v ∷ vs) =
-    ap (λ (t : Bool). t || list_any test (placed header align first (suc n) vs)) (same v (begin_of header align first n v))
-    ∙ ap (λ (t : Bool). test v || t) (placed_any test same header align first (suc n) vs)
+placed_any test same header align first n (v ∷ vs) = grind (arith, nat_tests, placed_any test same header align first (suc n) vs)
 
 placed_sum : (f : Var → ℕ) → ((v : Var) (b : ℕ) → f (at_begin v b) ≡ f v) → (header : Header) (align : Align) (first n : ℕ) (vs : List Var)
     → sum_by f (placed header align first n vs) ≡ sum_by f vs
 placed_sum f same header align first n [] = refl
-placed_sum f same header align first n (v ∷ vs) =
-    sum_by-cons f (in_place header align first n v) (placed header align first (suc n) vs)
-    ∙ ap (λ (m : ℕ). m + sum_by f (placed header align first (suc n) vs)) (same v (begin_of header align first n v))
-    ∙ ap (λ (m : ℕ). f v + m) (placed_sum f same header align first (suc n) vs)
-    ∙ sym (sum_by-cons f v vs)
+placed_sum f same header align first n (v ∷ vs) = grind (arith, nat_tests, placed_sum f same header align first (suc n) vs, sum_by-cons)
 
 pub placed_sum_front : (f : Var → ℕ) → ((v : Var) (b : ℕ) → f (at_begin v b) ≡ f v) → (header : Header) (align : Align) (first n : ℕ) (vs : List Var) (k : ℕ)
     → sum_by f (take k (placed header align first n vs)) ≡ sum_by f (take k vs)
 placed_sum_front f same header align first n [] zero = refl
 placed_sum_front f same header align first n [] (suc k) = refl
 placed_sum_front f same header align first n (v ∷ vs) zero = refl
-placed_sum_front f same header align first n (v ∷ vs) (suc k) =
-    sum_by-cons f (in_place header align first n v) (take k (placed header align first (suc n) vs))
-    ∙ ap (λ (m : ℕ). m + sum_by f (take k (placed header align first (suc n) vs))) (same v (begin_of header align first n v))
-    ∙ ap (λ (m : ℕ). f v + m) (placed_sum_front f same header align first (suc n) vs k)
-    ∙ sym (sum_by-cons f v (take k vs))
+placed_sum_front f same header align first n (v ∷ vs) (suc k) = grind (arith, nat_tests, placed_sum_front f same header align first (suc n) vs k, sum_by-cons)
 
 -- the length of the header
 pub laid_len : (header : Header) (align : Align) (first : ℕ) → header_len (begins header align first) ≡ header_len header
@@ -50,8 +38,4 @@ laid_len header align first =
     omega (arith, new, old, new_list, old_list, same)
 
 pub counts_kept : (header : Header) (align : Align) (first : ℕ) → counts_are_small (begins header align first) ≡ counts_are_small header
-counts_kept header align first =
-    ap (λ (n : ℕ). nat_le (length header.dims) most_dims && nat_le n most_vars && list_all (λ v. nat_le (length v.dims) most_dims_of_var) (placed header align first 0 header.vars))
-    (length-placed header align first 0 header.vars)
-    ∙ ap (λ (t : Bool). nat_le (length header.dims) most_dims && nat_le (length header.vars) most_vars && t)
-    (placed_all (λ v. nat_le (length v.dims) most_dims_of_var) (λ v b. refl) header align first 0 header.vars)
+counts_kept header align first = grind (arith, nat_tests, length-placed, placed_all)

@@ -1,5 +1,5 @@
 -- Each variable of a laid out header lies where it is placed, before the next of its kind, and keeps its bound.
-use Rattle.var_layout.proofs.Words.{◌≡◌, ℕ, zero, suc, ◌+◌, ◌-◌, ◌*◌, ◌^◌, ◌<◌, ◌≤◌, List, [], ◌∷◌, length, take, get_or, Bool, true, false, cond, ◌&&◌, ◌||◌, Some, None, refl, sym, ap, ◌∙◌, arith, sum_by, not, nat_lt, ◌==◌, slice_get, nat_tests, take_all, get_or_default, sum_by-cons, slice_get_within, get_or_from_slice_get, and_from, Header, Var, Align, vsize, is_record, recsize, record_variables, record_share, last_share, round_up, placed, begins, begin_of, end_of_fixed, fixed_variables, measure, past_bound, keeps_bound, fixed_end, first_record, HasPlace}
+use Rattle.var_layout.proofs.Words.{◌≡◌, ℕ, zero, suc, ◌+◌, ◌-◌, ◌^◌, ◌<◌, ◌≤◌, List, [], ◌∷◌, length, take, get_or, Bool, true, false, cond, Some, None, refl, sym, ap, ◌∙◌, arith, sum_by, nat_lt, slice_get, nat_tests, take_all, get_or_default, sum_by-cons, slice_get_within, get_or_from_slice_get, and_from, Header, Var, Align, vsize, is_record, record_variables, record_share, round_up, placed, begins, begin_of, measure, past_bound, keeps_bound, fixed_end, first_record, HasPlace}
 use Rattle.var_layout.proofs.Soundness.{shares_are}
 use Rattle.var_layout.proofs.CreatedFiles.{in_place, fixed_end_more, fixed_end_same, records_more, records_same, begin_fixed, begin_record, fixed_near, record_near}
 use Rattle.var_layout.proofs.LaidKept.{placed_sum_front}
@@ -15,19 +15,11 @@ placed_get : (header : Header) (align : Align) (first n : ℕ) (vs : List Var) (
 placed_get header align first n [] k w h = cc
 placed_get header align first n (v ∷ vs) zero w h =
     (v, refl, ap (λ (m : ℕ). in_place header align first m v) (let e : n + 0 ≡ n = omega arith in e) ∙ (let e : in_place header align first n v ≡ w = cc in e))
-placed_get header align first n (v ∷ vs) (suc k) w h =
-    let rest = placed_get header align first (suc n) vs k w h in
-    (rest.0, rest.1, ap (λ (m : ℕ). in_place header align first m rest.0) (let e : n + suc k ≡ suc n + k = omega arith in e) ∙ rest.2)
+placed_get header align first n (v ∷ vs) (suc k) w h = grind (arith, nat_tests, placed_get header align first (suc n) vs k w h)
 
 pub lies_at : (header : Header) (align : Align) (first k : ℕ) (w : Var) → slice_get (placed header align first 0 header.vars) k ≡ Some w
     → (v : Var) × Lies header k v × (in_place header align first k v ≡ w)
-lies_at header align first k w h =
-    let found = placed_get header align first 0 header.vars k w h in
-    let v = found.0 in (
-      v,
-      record { within = slice_get_within header.vars k v found.1; there = sym (get_or_from_slice_get header.vars k v v found.1) },
-      ap (λ (m : ℕ). in_place header align first m v) (let e : k ≡ 0 + k = omega arith in e) ∙ found.2,
-    )
+lies_at header align first k w h = grind (arith, nat_tests, placed_get, slice_get_within, get_or_from_slice_get)
 
 up : (unit n : ℕ) → 0 < unit → n ≤ round_up unit n
 up unit n h = omega arith
@@ -47,17 +39,10 @@ fixed_step header align first k d pos h = by_test (is_record header (get_or head
 
 fixed_on : (header : Header) (align : Align) (first k : ℕ) (d : Var) (j : ℕ) → 0 < align.var → k + j ≤ length header.vars → fixed_end header align first k ≤ fixed_end header align first (k + j)
 fixed_on header align first k d zero pos h = let e = ap (λ (m : ℕ). fixed_end header align first m) (let z : k + 0 ≡ k = omega arith in z) in omega arith
-fixed_on header align first k d (suc j) pos h =
-    let rest = fixed_on header align first k d j pos (omega arith) in
-    let step = fixed_step header align first (k + j) d pos (omega arith) in
-    let e = ap (λ (m : ℕ). fixed_end header align first m) (let z : k + suc j ≡ k + j + 1 = omega arith in z) in
-    omega arith
+fixed_on header align first k d (suc j) pos h = grind (arith, nat_tests, fixed_on header align first k d j pos (omega arith), fixed_step)
 
 pub fixed_grows : (header : Header) (align : Align) (first k m : ℕ) (d : Var) → 0 < align.var → k ≤ m → m ≤ length header.vars → fixed_end header align first k ≤ fixed_end header align first m
-fixed_grows header align first k m d pos l h =
-    let on = fixed_on header align first k d (m - k) pos (omega arith) in
-    let e = ap (λ (n : ℕ). fixed_end header align first n) (let z : k + (m - k) ≡ m = omega arith in z) in
-    omega arith
+fixed_grows header align first k m d pos l h = grind (arith, nat_tests, fixed_on header align first k d (m - k) pos (omega arith))
 
 pub records_before : Header → ℕ → ℕ
 records_before header k = sum_by (λ v. vsize header v) (record_variables header (take k header.vars))
@@ -73,17 +58,10 @@ records_step header k d h = by_test (is_record header (get_or header.vars k d)) 
 
 records_on : (header : Header) (k : ℕ) (d : Var) (j : ℕ) → k + j ≤ length header.vars → records_before header k ≤ records_before header (k + j)
 records_on header k d zero h = let e = ap (λ (m : ℕ). records_before header m) (let z : k + 0 ≡ k = omega arith in z) in omega arith
-records_on header k d (suc j) h =
-    let rest = records_on header k d j (omega arith) in
-    let step = records_step header (k + j) d (omega arith) in
-    let e = ap (λ (m : ℕ). records_before header m) (let z : k + suc j ≡ k + j + 1 = omega arith in z) in
-    omega arith
+records_on header k d (suc j) h = grind (arith, nat_tests, records_on header k d j (omega arith), records_step, records_before)
 
 pub records_grow : (header : Header) (k m : ℕ) (d : Var) → k ≤ m → m ≤ length header.vars → records_before header k ≤ records_before header m
-records_grow header k m d l h =
-    let on = records_on header k d (m - k) (omega arith) in
-    let e = ap (λ (n : ℕ). records_before header n) (let z : k + (m - k) ≡ m = omega arith in z) in
-    omega arith
+records_grow header k m d l h = grind (arith, nat_tests, records_on header k d (m - k) (omega arith), records_before)
 
 pub all_records : (header : Header) → records_before header (length header.vars) ≡ sum_by (λ v. vsize header v) (record_variables header header.vars)
 unfolding records_before
@@ -95,11 +73,7 @@ pub record FixedAt (header : Header) (align : Align) (first k begin : ℕ) (v : 
   pub high : begin + vsize header v ≡ fixed_end header align first (k + 1)
 
 pub fixed_at : (header : Header) (align : Align) (first k : ℕ) (v : Var) → 0 < align.var → Lies header k v → is_record header v ≡ false → FixedAt header align first k (begin_of header align first k v) v
-fixed_at header align first k v pos lies e =
-    let at = begin_fixed header align first k v e in
-    let more = fixed_end_more header align first k v lies.within lies.there e in
-    let l = up align.var (fixed_end header align first k) pos in
-    record { low = omega arith; high = omega arith }
+fixed_at header align first k v pos lies e = grind (arith, nat_tests, begin_fixed, fixed_end_more, up)
 
 pub record RecordAt (header : Header) (align : Align) (first k begin : ℕ) (v : Var) : Type 0 where
   pub low : begin ≡ first_record header align first + records_before header k
@@ -113,16 +87,10 @@ record_at header align first k v lies e =
     record { low = at; high = omega arith }
 
 pub first_low : (header : Header) (align : Align) (first : ℕ) → 0 < align.var → fixed_end header align first (length header.vars) ≤ first_record header align first
-first_low header align first pos =
-    let l = up align.var (fixed_end header align first (length header.vars)) pos in
-    let f = ap (λ vs. round_up align.var (end_of_fixed header align.var (round_up align.header first) (fixed_variables header vs))) (take_all (length header.vars) header.vars (omega arith)) in
-    omega arith
+first_low header align first pos = grind (arith, nat_tests, up, take_all)
 
 pub header_low : (header : Header) (align : Align) (first k : ℕ) (d : Var) → 0 < align.header → 0 < align.var → k ≤ length header.vars → first ≤ fixed_end header align first k
-header_low header align first k d pos pos' h =
-    let l = up align.header first pos in
-    let grows = fixed_grows header align first 0 k d pos' (omega arith) h in
-    omega arith
+header_low header align first k d pos pos' h = grind (arith, nat_tests, up align.header first pos, fixed_grows header align first 0 k d pos' (omega arith) h)
 
 -- ---- each variable keeps its bound
 
@@ -148,22 +116,7 @@ pub record Fits (header : Header) (before : ℕ) (v : Var) : Type 0 where
   pub records : is_record header v ≡ true → before + vsize header v < 2 ^ 62
 
 keeps : (header : Header) (before : ℕ) (v : Var) → header.records ≡ 0 → Fits header before v → keeps_bound header before v ≡ true
-keeps header before v none h =
-    let end = h.end in
-    and_from (nat_lt (vsize header v) (2 ^ 62) && nat_lt (v.begin + vsize header v) (2 ^ 62)) _ (and_from _ _ (fits (vsize header v) (omega arith)) (fits (v.begin + vsize header v) end))
-    (by_test (is_record header v) refl)
-  where
-    past : Bool
-    past = nat_lt (v.begin + (header.records - 1) * recsize header + last_share header v) (2 ^ 62)
-
-    by_test : (t : Bool) → is_record header v ≡ t
-        → (not (is_record header v) || (nat_lt (before + vsize header v) (2 ^ 62) && (header.records == 0 || nat_lt (v.begin + (header.records - 1) * recsize header + last_share header v) (2 ^ 62)))) ≡ true
-    by_test false e =
-        ap (λ (t : Bool). not t || (nat_lt (before + vsize header v) (2 ^ 62) && (header.records == 0 || nat_lt (v.begin + (header.records - 1) * recsize header + last_share header v) (2 ^ 62)))) e
-    by_test true e =
-        ap (λ (t : Bool). not t || (nat_lt (before + vsize header v) (2 ^ 62) && (header.records == 0 || nat_lt (v.begin + (header.records - 1) * recsize header + last_share header v) (2 ^ 62)))) e
-        ∙ and_from _ _ (fits (before + vsize header v) (h.records e))
-        (ap (λ (n : ℕ). n == 0 || nat_lt (v.begin + (header.records - 1) * recsize header + last_share header v) (2 ^ 62)) none)
+keeps header before v none h = grind (arith, nat_tests, and_from, fits)
 
 pub laid_measure : (header : Header) (align : Align) (len first : ℕ) → header.records ≡ 0 → HasPlace header align len first → measure (begins header align len) ≡ None
 unfolding records_before

@@ -1,5 +1,5 @@
 -- A laid out header can be written where its names, types and attributes can.
-use Rattle.var_layout.proofs.Words.{◌≡◌, ℕ, suc, ◌+◌, ◌-◌, ◌*◌, ◌^◌, ◌<◌, ◌≤◌, List, [], ◌∷◌, length, Bool, true, false, cond, ◌&&◌, Option, Some, None, refl, sym, ap, ◌∙◌, arith, not, nat_lt, nat_le, ◌==◌, option_map, slice_get, position, list_any, list_all, prefix_len, Width, w32, w64, byte_len, nat_tests, prefix_len_passes, slice_get_within, get_or_from_slice_get, and_from, or_parts, leb-true, both_none, and_first, and_second, passes_at, fails_at, Header, Var, Align, most_dims, most_vars, most_dims_of_var, vsize, is_record, placed, begins, begin_width, bad_id, is_sound, is_writable, is_writable_list, is_writable_dim, is_writable_attr, is_redefinable_var, is_writable_var, fits_field, fits_count, is_type, is_large_var, size_fault, lies_too_far, HasPlace, is_unplaced, has_writable_names, has_writable_parts}
+use Rattle.var_layout.proofs.Words.{◌≡◌, ℕ, suc, ◌-◌, ◌*◌, ◌^◌, ◌<◌, ◌≤◌, List, [], ◌∷◌, length, Bool, true, false, ◌&&◌, Option, Some, None, refl, sym, ap, ◌∙◌, arith, nat_lt, nat_le, option_map, slice_get, position, list_any, list_all, Width, byte_len, nat_tests, prefix_len_passes, slice_get_within, get_or_from_slice_get, and_from, or_parts, leb-true, both_none, and_first, and_second, passes_at, fails_at, Header, Var, Align, most_dims, most_vars, most_dims_of_var, vsize, is_record, placed, begins, begin_width, bad_id, is_sound, is_writable, is_writable_list, is_writable_dim, is_writable_attr, is_redefinable_var, is_writable_var, fits_field, fits_count, is_type, is_large_var, size_fault, lies_too_far, HasPlace, is_unplaced, has_writable_names, has_writable_parts}
 use borrow.Author.Tests.{ltb-false}
 use Rattle.nc_base.specs.declared.errors.LayoutErr.TheVariants as fault
 use Rattle.var_layout.proofs.CreatedFiles.{in_place, near_end, fixed_fits, record_fits, length-placed}
@@ -15,21 +15,7 @@ all_at test (x ∷ xs) h = and_from (test x) (list_all test xs) (h 0 x refl) (al
 
 -- where the position of the first is none, each fails
 no_position : {A : Type 0} (test : A → Bool) (xs : List A) (k : ℕ) (x : A) → position test xs ≡ None → slice_get xs k ≡ Some x → test x ≡ false
-no_position {A} test xs k x h g =
-    let within = slice_get_within xs k x g in
-    let passes = prefix_len_passes (λ y. not (test y)) xs k x (short (prefix_len (λ y. not (test y)) xs) within h) in
-    was_false (test x) (sym (ap (λ y. not (test y)) (get_or_from_slice_get xs k x x g)) ∙ passes)
-  where
-    short : (n : ℕ) → k < length xs → cond (nat_lt n (length xs)) (Some n) None ≡ None → k < n
-    short n l e = let m = ltb-false n (length xs) (chosen (nat_lt n (length xs)) e) in omega arith
-      where
-        chosen : (t : Bool) → cond t (Some n) None ≡ None → t ≡ false
-        chosen true f = cc
-        chosen false f = refl
-
-    was_false : (t : Bool) → not t ≡ true → t ≡ false
-    was_false true e = cc
-    was_false false e = refl
+no_position {A} test xs k x h g = grind (arith, nat_tests, slice_get_within xs k x g, get_or_from_slice_get xs k x x g, prefix_len_passes, ltb-false)
 
 -- ---- fields
 
@@ -37,46 +23,18 @@ pub small_field : (w : Width) (n m : ℕ) → 256 ^ byte_len w ≡ m → 2 * n <
 small_field w n m e h = ap (λ (k : ℕ). nat_lt (2 * n) k) e ∙ (let f : nat_lt (2 * n) m ≡ true = grind (arith, nat_tests) in f)
 
 pub small_count : (version n : ℕ) → n < 2 ^ 31 → fits_count version n ≡ true
-small_count version n h = by_test (version == 5)
-  where
-    by_test : (t : Bool) → fits_field (cond t w64 w32) n ≡ true
-    by_test true = small_field w64 n (2 ^ 64) refl (omega arith)
-    by_test false = small_field w32 n (2 ^ 32) refl (omega arith)
+small_count version n h = grind (arith, nat_tests, small_field)
 
 -- a vsize that the version can store
 pub vsize_fits : (header : Header) (v : Var) → vsize header v < 2 ^ 62 → is_large_var header v ≡ false → fits_count header.version (vsize header v) ≡ true
-vsize_fits header v l h = by_test (header.version == 5) h
-  where
-    by_test : (t : Bool) → (not t && nat_lt (2 ^ 31 - 4) (vsize header v)) ≡ false → fits_field (cond t w64 w32) (vsize header v) ≡ true
-    by_test true e = small_field w64 (vsize header v) (2 ^ 64) refl (omega arith)
-    by_test false e = let m = ltb-false (2 ^ 31 - 4) (vsize header v) e in small_field w32 (vsize header v) (2 ^ 32) refl (omega arith)
+vsize_fits header v l h = grind (arith, nat_tests, small_field, ltb-false)
 
 begin_fits : (header : Header) (v : Var) → lies_too_far header v ≡ false → fits_field (begin_width header.version) v.begin ≡ true
-begin_fits header v h = by_test (header.version == 1) (and_first _ _ (was_true _ h)) (near_end header v h)
-  where
-    was_true : (t : Bool) → not t ≡ false → t ≡ true
-    was_true true e = refl
-    was_true false e = cc
-
-    was_false : (t : Bool) → not t ≡ true → t ≡ false
-    was_false true e = cc
-    was_false false e = refl
-
-    not_le : nat_le (2 ^ 31) v.begin ≡ false → v.begin < 2 ^ 31
-    not_le e = grind (arith, nat_tests)
-
-    by_test : (t : Bool) → not (t && nat_le (2 ^ 31) v.begin) ≡ true → v.begin + vsize header v < 2 ^ 62 → fits_field (cond t w32 w64) v.begin ≡ true
-    by_test true e near = let l = not_le (was_false _ e) in small_field w32 v.begin (2 ^ 32) refl (omega arith)
-    by_test false e near = small_field w64 v.begin (2 ^ 64) refl (omega arith)
+begin_fits header v h = grind (arith, nat_tests, and_first, near_end, small_field)
 
 ids_fit : (version count : ℕ) (ids : List ℕ) → count ≤ 1024 → list_any (λ id. nat_le count id) ids ≡ false → list_all (λ id. fits_count version id) ids ≡ true
 ids_fit version count [] l h = refl
-ids_fit version count (id ∷ ids) l h =
-    let both = or_parts (nat_le count id) _ h in
-    and_from (fits_count version id) _ (small_count version id (below id both.0)) (ids_fit version count ids l both.1)
-  where
-    below : (n : ℕ) → nat_le count n ≡ false → n < 2 ^ 31
-    below n e = grind (arith, nat_tests)
+ids_fit version count (id ∷ ids) l h = grind (arith, nat_tests, ids_fit version count ids l (or_parts (nat_le count id) _ h).1, or_parts, and_from, small_count)
 
 -- ---- one variable
 

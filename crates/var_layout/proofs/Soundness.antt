@@ -1,25 +1,15 @@
 -- What a sound header bounds.
-use Rattle.var_layout.proofs.Words.{◌≡◌, ℕ, zero, suc, ◌+◌, ◌-◌, ◌*◌, ◌^◌, ◌<◌, ◌≤◌, List, [], ◌∷◌, length, take, drop, get_or, map, Bool, true, false, cond, ◌&&◌, ◌||◌, Option, Some, None, refl, sym, ap, subst, ◌∙◌, arith, count_by, sum_by, not, nat_lt, nat_le, ◌==◌, slice_get, IfSome, nat_tests, take_all, drop_more, length-map, length-filter, sum_by-cons, sum_by_more, not-false, slab_below, none_of_test, both_none, untold, told_unless, and_first, and_second, or_first_false, Header, Var, file_limit, slab, vsize, is_record, recsize, record_size, record_slabs, record_variables, record_share, last_share, round_up, header_len, all_ones, first_check, fault_if, first_with, two_record_dims, record_later, bad_id, is_too_large, measure, past_bound, keeps_bound, is_sound, capped}
+use Rattle.var_layout.proofs.Words.{◌≡◌, ℕ, zero, suc, ◌+◌, ◌-◌, ◌*◌, ◌^◌, ◌<◌, ◌≤◌, List, [], ◌∷◌, length, take, drop, get_or, map, Bool, true, false, cond, Option, Some, None, refl, sym, ap, subst, ◌∙◌, arith, count_by, sum_by, ◌==◌, slice_get, IfSome, nat_tests, take_all, drop_more, length-map, length-filter, sum_by-cons, sum_by_more, not-false, slab_below, none_of_test, both_none, untold, told_unless, and_first, and_second, or_first_false, Header, Var, slab, vsize, is_record, recsize, record_size, record_slabs, record_variables, record_share, last_share, round_up, header_len, measure, past_bound, keeps_bound, is_sound, capped}
 use borrow.Author.Tests.{ltb-true}
 use Rattle.nc_base.specs.declared.errors.HeaderErr.TheVariants as fault
 
 -- ---- each variable keeps its bound
 
 pub measured : (header : Header) → is_sound header ≡ true → measure header ≡ None
-measured header h =
-    let checks : first_check header ≡ None = none_of_test _ (and_second _ _ h) in
-    let a = (both_none (fault_if (two_record_dims header) fault.TwoRecordDims) _ checks).1 in
-    let b = (both_none (first_with (record_later header) (λ k. fault.RecordDimNotFirst k) header.vars) _ a).1 in
-    let c = (both_none (first_with (bad_id header) (λ k. fault.BadDimId k) header.vars) _ b).1 in
-    let d = (both_none (fault_if (header.records == all_ones header.version) fault.Streaming) _ c).1 in
-    let e = (both_none (fault_if (is_too_large header) fault.TooLarge) _ d).0 in
-    none_of_test _ (not-false _ (or_first_false _ _ (untold (is_too_large header) fault.TooLarge e)))
+measured header h = grind (arith, nat_tests, none_of_test, and_second, both_none, not-false, or_first_false, untold)
 
 pub header_short : (header : Header) → is_sound header ≡ true → header_len header ≤ 2 ^ 20
-header_short header h = short (header_len header) (and_second _ _ (and_first _ _ h))
-  where
-    short : (n : ℕ) → nat_le n (2 ^ 20) ≡ true → n ≤ 2 ^ 20
-    short n e = grind (arith, nat_tests)
+header_short header h = grind (arith, nat_tests, and_second, and_first)
 
 pub record Keeps (header : Header) (before : ℕ) (v : Var) : Type 0 where
   pub size : vsize header v < 2 ^ 62
@@ -28,35 +18,11 @@ pub record Keeps (header : Header) (before : ℕ) (v : Var) : Type 0 where
   pub last : is_record header v ≡ true → 0 < header.records → v.begin + (header.records - 1) * recsize header + last_share header v < 2 ^ 62
 
 keeps : (header : Header) (before : ℕ) (v : Var) → keeps_bound header before v ≡ true → Keeps header before v
-keeps header before v h =
-    let first = and_first _ _ h in
-    record {
-      size = ltb-true _ _ (and_first _ _ first);
-      end = ltb-true _ _ (and_second _ _ first);
-      records = λ e. (of_record (is_record header v) e (and_second _ _ h)).0;
-      last = λ e. (of_record (is_record header v) e (and_second _ _ h)).1;
-    }
-  where
-    last_one : (t : Bool) → (t ≡ true → header.records ≡ 0) → (t || nat_lt (v.begin + (header.records - 1) * recsize header + last_share header v) file_limit) ≡ true
-        → 0 < header.records → v.begin + (header.records - 1) * recsize header + last_share header v < 2 ^ 62
-    last_one true z k l = let none = z refl in absurd (omega arith)
-    last_one false z k l = ltb-true _ _ k
-
-    is_zero : (n : ℕ) → (n == 0) ≡ true → n ≡ 0
-    is_zero n e = grind (arith, nat_tests)
-
-    of_record : (t : Bool) → t ≡ true → (not t || (nat_lt (before + vsize header v) file_limit
-        && (header.records == 0 || nat_lt (v.begin + (header.records - 1) * recsize header + last_share header v) file_limit))) ≡ true
-        → (before + vsize header v < 2 ^ 62) × (0 < header.records → v.begin + (header.records - 1) * recsize header + last_share header v < 2 ^ 62)
-    of_record true e k = (ltb-true _ _ (and_first _ _ k), last_one (header.records == 0) (is_zero header.records) (and_second _ _ k))
-    of_record false e k = cc
+keeps header before v h = grind (arith, nat_tests, and_first, ltb-true, and_second)
 
 kept : (header : Header) (before n : ℕ) (vs : List Var) (k : ℕ) (v : Var) → past_bound header before n vs ≡ None → slice_get vs k ≡ Some v → (seen : ℕ) × Keeps header seen v
 kept header before n [] k v h g = cc
-kept header before n (w ∷ vs) zero v h g =
-    let same : w ≡ v = cc in
-    let here = (told_unless (keeps_bound header before w) _ _ h).0 in
-    (before, keeps header before v (sym (ap (λ (x : Var). keeps_bound header before x) same) ∙ here))
+kept header before n (w ∷ vs) zero v h g = grind (arith, nat_tests, told_unless, keeps)
 kept header before n (w ∷ vs) (suc k) v h g = kept header (before + record_share header w) (suc n) vs k v (told_unless (keeps_bound header before w) _ _ h).1 g
 
 pub var_kept : (header : Header) (k : ℕ) (v : Var) → is_sound header ≡ true → slice_get header.vars k ≡ Some v → (seen : ℕ) × Keeps header seen v
@@ -88,17 +54,13 @@ one_on header vars k v h e =
 pub stops_at : (header : Header) (vars : List Var) (k : ℕ) (v : Var) → k < length vars → v ≡ get_or vars k v
     → keeps_bound header (sum_by (λ w. record_share header w) (take k vars)) v ≡ false
     → past_bound header (sum_by (λ w. record_share header w) (take k vars)) k (drop k vars) ≡ Some k
-stops_at header vars k v h e f =
-    one_on header vars k v h e
-    ∙ ap (λ (b : Bool). cond b (past_bound header (sum_by (λ w. record_share header w) (take (k + 1) vars)) (k + 1) (drop (k + 1) vars)) (Some k)) f
+stops_at header vars k v h e f = grind (arith, nat_tests, one_on header vars k v h e)
 
 pub goes_on_at : (header : Header) (vars : List Var) (k : ℕ) (v : Var) → k < length vars → v ≡ get_or vars k v
     → keeps_bound header (sum_by (λ w. record_share header w) (take k vars)) v ≡ true
     → past_bound header (sum_by (λ w. record_share header w) (take k vars)) k (drop k vars)
     ≡ past_bound header (sum_by (λ w. record_share header w) (take (k + 1) vars)) (k + 1) (drop (k + 1) vars)
-goes_on_at header vars k v h e f =
-    one_on header vars k v h e
-    ∙ ap (λ (b : Bool). cond b (past_bound header (sum_by (λ w. record_share header w) (take (k + 1) vars)) (k + 1) (drop (k + 1) vars)) (Some k)) f
+goes_on_at header vars k v h e f = grind (arith, nat_tests, one_on header vars k v h e)
 
 -- ---- a record
 
@@ -141,15 +103,10 @@ padded_slabs header (v ∷ vs) =
 
 -- A record is no larger than its variables with their padding.
 size_below : (header : Header) (vs : List Var) → record_size (map (λ v. slab header v) vs) ≤ sum_by (λ v. vsize header v) vs
-size_below header [] = omega arith
-size_below header (v ∷ []) = let l = slab_below header v in omega arith
-size_below header (v ∷ w ∷ vs) = let e = padded_slabs header (v ∷ w ∷ vs) in omega arith
+size_below header vs = grind (arith, nat_tests, slab_below, padded_slabs)
 
 pub recsize_below : (header : Header) → recsize header ≤ sum_by (λ v. record_share header v) header.vars
-recsize_below header =
-    let all = size_below header (record_variables header header.vars) in
-    let same = shares_are header header.vars in
-    omega arith
+recsize_below header = grind (arith, nat_tests, size_below, shares_are)
 
 pub recsize_small : (header : Header) → is_sound header ≡ true → recsize header < 2 ^ 62
 recsize_small header h = let l = records_small header h in let m = recsize_below header in omega arith
@@ -162,9 +119,7 @@ sizes_shared : (header : Header) (vs : List Var)
     → record_size (map (λ v. slab header v) vs) ≡ sum_by (λ v. cond (length (map (λ w. slab header w) vs) == 1) (slab header v) (vsize header v)) vs
 sizes_shared header [] = refl
 sizes_shared header (v ∷ []) = omega arith
-sizes_shared header (v ∷ w ∷ vs) =
-    padded_slabs header (v ∷ w ∷ vs)
-    ∙ sym (ap (λ (t : Bool). sum_by (λ x. cond t (slab header x) (vsize header x)) (v ∷ w ∷ vs)) (not_one (length (map (λ x. slab header x) vs))))
+sizes_shared header (v ∷ w ∷ vs) = grind (arith, nat_tests, padded_slabs header (v ∷ w ∷ vs), not_one)
 
 pub recsize_shared : (header : Header) → recsize header ≡ sum_by (λ v. last_share header v) (record_variables header header.vars)
 recsize_shared header = sizes_shared header (record_variables header header.vars)
@@ -172,14 +127,10 @@ recsize_shared header = sizes_shared header (record_variables header header.vars
 -- all of them, at the end of a loop
 pub recsize_whole : (header : Header) (n : ℕ) → length header.vars ≤ n
     → capped (sum_by (λ v. last_share header v) (record_variables header (take n header.vars))) ≡ capped (recsize header)
-recsize_whole header n h =
-    ap (λ vs. capped (sum_by (λ v. last_share header v) (record_variables header vs))) (take_all n header.vars h)
-    ∙ ap (λ (m : ℕ). capped m) (sym (recsize_shared header))
+recsize_whole header n h = grind (arith, nat_tests, take_all, recsize_shared)
 
 pub slab_count : (header : Header) → length (record_slabs header) ≡ count_by (λ v. is_record header v) header.vars
-slab_count header =
-    length-map (record_variables header header.vars) (λ v. slab header v)
-    ∙ length-filter (λ v. is_record header v) header.vars
+slab_count header = grind (arith, nat_tests, length-map, length-filter)
 
 -- ---- a variable by its number
 
