@@ -6,7 +6,7 @@ use Rattle.nc_base.specs.declared.step.MeetKind.TheVariants.{Put}
 use Rattle.nc_base.specs.declared.step.Offer.{Offer}
 use Rattle.nc_base.specs.declared.step.OfferKind.TheVariants as kind
 use Rattle.overlay_laws.specs.Entries.{In}
-use Rattle.element_steps.specs.Requests.{IsPut, IsRight}
+use Rattle.reference.specs.Requests.{IsPut, IsRight}
 
 abbrev pub lone : Post → Offer
 lone p = record { kind = kind.Meet Put; known = 0; batch = record { puts = p ∷ []; gets = [] } }

@@ -2,7 +2,7 @@
 use crate::tests::fixtures::{ALONE, script_of};
 use nc_base::Mark;
 use nc_base::Mark::{Meet, Solo};
-use serial_eval::legal;
+use reference::legal;
 
 // Orders, and whether each is one of the script's histories.
 const CASES: [(&[Mark], bool); 7] = [

@@ -3,13 +3,13 @@ ghost use Rattle.std.specs.Prelude.{◌≡◌, [], ◌∷◌, true, IfOk};
 ghost use Rattle.nc_base.specs.declared.step.MeetKind.TheVariants.{Put};
 ghost use Rattle.nc_base.specs.declared.step.OfferKind.TheVariants as kind;
 ghost use Rattle.serial_spec.specs.SoundHeaders.{is_sound};
-ghost use Rattle.element_steps.specs.Requests.{IsPut};
+ghost use Rattle.reference.specs.Requests.{IsPut};
 
 use crate::tests::fixtures::placed;
-use element_steps::meeting;
 use nc_base::{
     Batch, Direction, Header, MeetKind, NcType, Offer, OfferKind, OverlapRule, Pair, Post, PostList,
 };
+use reference::meeting;
 use std::alloc::{AllocError, Global};
 use std::process::Abort;
 use std::test::Fail;

@@ -7,8 +7,8 @@ ghost use Rattle.serial_spec.specs.Lawful.{is_lawful};
 use crate::tests::{joined, program, serial};
 use generated_run::make_script;
 use nc_base::{Blob, OverlapRule, Script};
+use reference::SerialEnd;
 use run_fixtures::{Ended, NO_MEMORY, PLAIN, Run};
-use serial_run::SerialEnd;
 use std::alloc::Global;
 use std::process::Abort;
 

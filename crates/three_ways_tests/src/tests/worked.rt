@@ -2,8 +2,8 @@
 use crate::tests::{header_of, joined, program, script_of, serial};
 use nc_base::{Blob, MarkList, RunEnd};
 use printed_text::run_text;
+use reference::SerialEnd;
 use run_fixtures::{Ended, NO_MEMORY, PLAIN, Run};
-use serial_run::SerialEnd;
 use std::alloc::Global;
 use std::process::Abort;
 use std::sync::Wait;

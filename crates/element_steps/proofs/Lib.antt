@@ -1,8 +1,0 @@
-mod Words
-mod GatherLaws
-mod IndexLaws
-pub mod MeetSteps
-mod PairSteps
-mod PutSteps
-mod StepSteps
-mod WriteSteps

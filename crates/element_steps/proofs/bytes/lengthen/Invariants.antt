@@ -1,9 +1,0 @@
--- The zeros that are still to come make the whole.
-use Rattle.element_steps.proofs.Words.{◌≡◌, length, longer}
-use Rattle.element_steps.proofs.bytes.lengthen.Given as goal
-
-abbrev pub invariant-loop-length : goal.invariant-loop-length
-invariant-loop-length l = record {
-  whole : longer l.file.items l.size ≡ longer l.initial.file.items l.size;
-  long : length l.file.items ≡ l._length;
-}

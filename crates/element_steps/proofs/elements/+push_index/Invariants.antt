@@ -1,5 +1,0 @@
-use Rattle.element_steps.proofs.Words.{length}
-use Rattle.element_steps.proofs.elements.+push_index.Given as goal
-
-abbrev pub decreases-push_index : goal.decreases-push_index
-decreases-push_index l = length l.starts.now

@@ -1,6 +1,0 @@
--- The numbers so far.
-use Rattle.element_steps.proofs.Words.{◌≡◌, ◌++◌, range_with_len}
-use Rattle.element_steps.proofs.elements.push_range.Given as goal
-
-abbrev pub invariant-loop-k : goal.invariant-loop-k
-invariant-loop-k l = l.list.items ≡ l.initial.list.items ++ range_with_len l.at l.k

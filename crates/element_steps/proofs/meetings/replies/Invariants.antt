@@ -1,7 +1,0 @@
--- The replies so far, and those to the offers that are left.
-use Rattle.element_steps.proofs.Words.{◌≡◌, ◌++◌, map, drop, Setting, reply_to}
-use Rattle.element_steps.proofs.meetings.replies.Given as goal
-
-abbrev pub invariant-loop-offer : goal.invariant-loop-offer
-invariant-loop-offer l = (s : Setting) → s.header ≡ l.header
-    → l.all.items ++ map (reply_to s l.pair l.records l.file) (drop l.offer-index l.offers) ≡ map (reply_to s l.pair l.records l.file) l.offers

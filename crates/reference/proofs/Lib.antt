@@ -1,0 +1,14 @@
+mod Words
+mod GatherLaws
+mod IndexLaws
+pub mod MeetSteps
+mod PairSteps
+mod PutSteps
+mod StepSteps
+mod WriteSteps
+mod RunnerLaws
+mod FirstLaws
+mod NextLaws
+mod StepLaws
+mod EndLaws
+mod MarkLaws

@@ -1,0 +1,72 @@
+-- The requests that hold a byte, and the least byte that two hold, one holding after another.
+use Rattle.reference.proofs.Words.{◌≡◌, ℕ, ◌+◌, ◌<◌, refl, sym, ap, ◌∙◌, List, [], ◌∷◌, ◌++◌, length, map, drop, get_or, filter, fold, min, Bool, true, false, cond, Option, Some, None, drop_more, filter-append, list_any, Holding, Key, all_bytes, distinct, has_byte, holders, least, same_key, least_with, lesser_of}
+
+-- ---- holders
+
+kept : (h : Holding) (rest : List Holding) (x : ℕ) (t : Bool) → has_byte x h ≡ t
+    → holders (h ∷ rest) x ≡ distinct (map (λ h. h.0) (cond t (h ∷ filter (has_byte x) rest) (filter (has_byte x) rest)))
+kept h rest x t e = ap (λ (u : Bool). distinct (map (λ h. h.0) (cond u (h ∷ filter (has_byte x) rest) (filter (has_byte x) rest)))) e
+
+told_once : (k : Key) (keys : List Key) (t : Bool) → list_any (λ l. same_key l k) keys ≡ t
+    → cond (list_any (λ l. same_key l k) keys) keys (k ∷ keys) ≡ cond t keys (k ∷ keys)
+told_once k keys t e = ap (λ (u : Bool). cond u keys (k ∷ keys)) e
+
+pub no_holder : (h : Holding) (rest : List Holding) (x : ℕ) (keys : List Key) → has_byte x h ≡ false → keys ≡ holders rest x → keys ≡ holders (h ∷ rest) x
+no_holder h rest x keys e f = f ∙ sym (kept h rest x false e)
+
+pub known_holder : (h : Holding) (rest : List Holding) (x : ℕ) (keys : List Key) → has_byte x h ≡ true → list_any (λ l. same_key l h.0) keys ≡ true
+    → keys ≡ holders rest x → keys ≡ holders (h ∷ rest) x
+known_holder h rest x keys e k f =
+    f
+    ∙ sym (told_once h.0 (holders rest x) true (ap (λ (ks : List Key). list_any (λ l. same_key l h.0) ks) (sym f) ∙ k))
+    ∙ sym (kept h rest x true e)
+
+pub new_holder : (h : Holding) (rest : List Holding) (x : ℕ) (keys : List Key) → has_byte x h ≡ true → list_any (λ l. same_key l h.0) keys ≡ false
+    → keys ≡ holders rest x → h.0 ∷ keys ≡ holders (h ∷ rest) x
+new_holder h rest x keys e k f =
+    ap (λ (ks : List Key). h.0 ∷ ks) f
+    ∙ sym (told_once h.0 (holders rest x) false (ap (λ (ks : List Key). list_any (λ l. same_key l h.0) ks) (sym f) ∙ k))
+    ∙ sym (kept h rest x true e)
+
+-- ---- the least
+
+folds_on : (a : ℕ) (xs : List ℕ) → least_with (Some a) xs ≡ Some (fold (λ a b. min a b) a xs)
+folds_on a [] = refl
+folds_on a (x ∷ xs) = folds_on (min a x) xs
+
+pub least_is : (xs : List ℕ) → least_with None xs ≡ least xs
+least_is [] = refl
+least_is (x ∷ xs) = folds_on x xs
+
+pub least_joined : (xs : List ℕ) (known : Option ℕ) (ys : List ℕ) → least_with known (xs ++ ys) ≡ least_with (least_with known xs) ys
+least_joined [] known ys = refl
+least_joined (x ∷ xs) known ys = least_joined xs (Some (lesser_of known x)) ys
+
+-- ---- one entry more
+
+pub next_left : {A : Type 0} (xs : List A) (i : ℕ) (x d : A) → i < length xs → x ≡ get_or xs i d → drop i xs ≡ x ∷ drop (i + 1) xs
+next_left {A} xs i x d h e = drop_more xs i d h ∙ ap (λ (y : A). y ∷ drop (i + 1) xs) (sym e)
+
+pub least_step : (p : ℕ → Bool) (xs : List ℕ) (i b : ℕ) (s : Bool) (known known' whole : Option ℕ) → i < length xs → b ≡ get_or xs i 0 → s ≡ p b
+    → known' ≡ cond s (Some (lesser_of known b)) known → least_with known (filter p (drop i xs)) ≡ whole → least_with known' (filter p (drop (i + 1) xs)) ≡ whole
+least_step p xs i b s known known' whole h e t k w =
+    ap (λ (o : Option ℕ). least_with o (filter p (drop (i + 1) xs))) (k ∙ ap (λ (u : Bool). cond u (Some (lesser_of known b)) known) t)
+    ∙ by_test (p b)
+    ∙ sym (ap (λ (l : List ℕ). least_with known (filter p l)) (next_left xs i b 0 h e))
+    ∙ w
+  where
+    by_test : (u : Bool) → least_with (cond u (Some (lesser_of known b)) known) (filter p (drop (i + 1) xs))
+        ≡ least_with known (cond u (b ∷ filter p (drop (i + 1) xs)) (filter p (drop (i + 1) xs)))
+    by_test true = refl
+    by_test false = refl
+
+pub held_step : (p : ℕ → Bool) (held : List Holding) (i : ℕ) (h : Holding) (known known' whole : Option ℕ) → i < length held → h ≡ get_or held i h
+    → known' ≡ least_with known (filter p h.1) → least_with known (filter p (all_bytes (drop i held))) ≡ whole
+    → least_with known' (filter p (all_bytes (drop (i + 1) held))) ≡ whole
+held_step p held i h known known' whole l e k w =
+    let rest = drop (i + 1) held in
+    ap (λ (o : Option ℕ). least_with o (filter p (all_bytes rest))) k
+    ∙ sym (least_joined (filter p h.1) known (filter p (all_bytes rest)))
+    ∙ ap (λ (ys : List ℕ). least_with known ys) (sym (filter-append p h.1 (all_bytes rest)))
+    ∙ sym (ap (λ (hs : List Holding). least_with known (filter p (all_bytes hs))) (next_left held i h h l e))
+    ∙ w

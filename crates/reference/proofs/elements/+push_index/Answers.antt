@@ -1,0 +1,28 @@
+-- An index, one dimension after another.
+use Rattle.reference.proofs.Words.{◌++◌, ◌∙◌, ◌^◌, ◌%◌, ℕ, List, ap, sym, subst, append-nil, append_assoc, rules, on_ok_weaker, index_at, coordinates_of, AreBelow, rest}
+use Rattle.reference.proofs.IndexLaws.{index_step, no_counts}
+use Rattle.reference.proofs.elements.+push_index.Goals as goal
+
+pub returns-in_default-counts : goal.returns-in_default-counts
+returns-in_default-counts t c =
+    sym (ap (λ (l : List ℕ). c.args.index.now.items ++ l) (no_counts c.args.starts.now c.args.counts.now c.args.strides.now c.args.number c.in_default-counts.len_below)
+    ∙ append-nil c.args.index.now.items)
+
+pub push_index-requires : goal.push_index-requires
+push_index-requires t c =
+    let step = index_step c.args.starts.now c.args.counts.now c.args.strides.now c.args.number c.element_count-inner.result
+    c.in-len1-up.len_at_least c.in-len1-up-counts.len_at_least c.in-len1-up-strides.len_at_least c.requires.number c.requires.few c.element_count-inner.ensures in
+    (search rules, (step.number_low, (step.few, (subst (λ (l : List ℕ). AreBelow (2 ^ 62) l) step.is c.requires.low).1)))
+
+pub returns : goal.returns
+returns t c =
+    let index = c.args.index.now.items in
+    let step = index_step c.args.starts.now c.args.counts.now c.args.strides.now c.args.number c.element_count-inner.result
+    c.in-len1-up.len_at_least c.in-len1-up-counts.len_at_least c.in-len1-up-strides.len_at_least c.requires.number c.requires.few c.element_count-inner.ensures in
+    let later = index_at (rest c.args.starts.now) (rest c.args.strides.now) (coordinates_of (rest c.args.counts.now) (c.args.number % c.element_count-inner.result)) in
+    on_ok_weaker c.push_index.result
+    (λ e. e
+    ∙ ap (λ (l : List ℕ). l ++ later) c.in_ok-push.ensures.items
+    ∙ append_assoc index _ later
+    ∙ ap (λ (l : List ℕ). index ++ l) (sym step.is))
+    c.push_index.ensures

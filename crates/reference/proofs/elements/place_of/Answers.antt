@@ -1,0 +1,33 @@
+-- The index is that of the element.
+use Rattle.reference.proofs.Words.{◌≡◌, ◌∙◌, arith, if_some_at, place, slice_get_within}
+use Rattle.reference.proofs.IndexLaws.{index_is, numbered_below, numbered_element, numbered_low}
+use Rattle.reference.proofs.elements.place_of.Goals as goal
+
+pub push_index-requires-clause-low : goal.push_index-requires-clause-low
+push_index-requires-clause-low c =
+    rw (c.as_slice.ensures, c.as_slice-2.ensures, c.as_slice-3.ensures)
+    (numbered_below c.args.header.now c.args.var c.args.of.now c.args.region.now c.args.number c.requires.sound c.requires.there c.requires.accepted c.requires.number)
+
+pub place-requires-clause-there : goal.place-requires-clause-there
+place-requires-clause-there c = slice_get_within c.args.header.now.vars c.args.var c.args.of.now c.requires.there
+
+pub place-requires-clause-valid : goal.place-requires-clause-valid
+place-requires-clause-valid c = λ x there.
+    numbered_element c.args.header.now c.args.var c.args.of.now x c.args.region.now c.args.number _ c.requires.sound c.requires.there c.requires.accepted c.requires.number
+    (index_is c.args.region.now c.args.number _ _ _ _ _ c.new-index.ensures.items c.as_slice.ensures c.as_slice-2.ensures c.as_slice-3.ensures (c.as_slice-4.ensures.value ∙ c.in_ok-push_index.ensures))
+    there
+
+pub place-requires-clause-below : goal.place-requires-clause-below
+place-requires-clause-below c = λ x there.
+    let low = numbered_low c.args.header.now c.args.var c.args.of.now x c.args.region.now c.args.number c.as_slice-4.result.now c.requires.sound c.requires.there c.requires.accepted c.requires.number
+    (index_is c.args.region.now c.args.number _ _ _ _ _ c.new-index.ensures.items c.as_slice.ensures c.as_slice-2.ensures c.as_slice-3.ensures (c.as_slice-4.ensures.value ∙ c.in_ok-push_index.ensures))
+    there in
+    omega (arith, low)
+
+pub returns-clause-low : goal.returns-clause-low
+returns-clause-low c =
+    let low = numbered_low c.args.header.now c.args.var c.args.of.now c.args.of.now c.args.region.now c.args.number c.as_slice-4.result.now c.requires.sound c.requires.there c.requires.accepted c.requires.number
+    (index_is c.args.region.now c.args.number _ _ _ _ _ c.new-index.ensures.items c.as_slice.ensures c.as_slice-2.ensures c.as_slice-3.ensures (c.as_slice-4.ensures.value ∙ c.in_ok-push_index.ensures))
+    c.requires.there in
+    let is = if_some_at (λ v. c.place.result ≡ place c.args.header.now v c.as_slice-4.result.now) _ c.args.of.now c.requires.there c.place.ensures.value in
+    omega (arith, low, is)

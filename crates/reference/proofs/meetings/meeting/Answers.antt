@@ -1,0 +1,65 @@
+-- The puts are those of all ranks, and the step is that of the definition.
+use Rattle.reference.proofs.Words.{ℕ, List, ◌∙◌, refl, ap, subst, map, arith, In, after_puts, needs, told, Puts, reply_to, setting, some_limit}
+use Rattle.reference.proofs.MeetSteps.{known_low, meeting_file, meeting_records, meeting_replies, needs_low, puts_right, Done}
+use Rattle.reference.proofs.meetings.meeting.Goals as goal
+
+pub told-requires-clause-accepted : goal.told-requires-clause-accepted
+told-requires-clause-accepted c = λ p m.
+    (puts_right c.args.header.now 0 c.args.offers.now p c.requires.right (subst (λ (ps : Puts). In ps p) (c.as_slice.ensures.value ∙ c.in_ok-puts.ensures) m)).accepted
+
+pub do_puts-requires-clause-right : goal.do_puts-requires-clause-right
+do_puts-requires-clause-right c = λ p m.
+    puts_right c.args.header.now 0 c.args.offers.now p c.requires.right (subst (λ (ps : Puts). In ps p) (c.as_slice-2.ensures.value ∙ c.in_ok-puts.ensures) m)
+
+pub raise-requires : goal.raise-requires
+raise-requires c =
+    let s = setting c.args.header.now c.args.overlap in
+    let needed = needs_low s c.as_slice-2.result.now c.in_ok-pair.pair
+    (λ p m. puts_right c.args.header.now 0 c.args.offers.now p c.requires.right (subst (λ (ps : Puts). In ps p) (c.as_slice-2.ensures.value ∙ c.in_ok-puts.ensures) m)) in
+    let is = c.in_ok-needed.ensures.needs s refl in
+    let known = known_low c.args.offers.now _ (some_limit c.args.header.now.version) c.requires.known in
+    record { needed = omega (arith, needed, is, known, c.known_of.ensures, c.max.ensures) }
+
+pub returns-clause-file : goal.returns-clause-file
+returns-clause-file c =
+    let s = setting c.args.header.now c.args.overlap in
+    let done : Done s c.args.offers.now c.args.file.now.items c.do_puts.new.file.items c.in_ok-needed.needed c.known_of.result c.in_ok-puts.puts.items c.in_ok-pair.pair = record {
+      puts_are = c.in_ok-puts.ensures;
+      pair_is = c.in_ok-pair.ensures ∙ ap (λ (ps : Puts). told s ps) c.as_slice.ensures.value;
+      file = c.in_ok-needed.ensures.file s refl ∙ ap (λ (ps : Puts). after_puts s ps c.in_ok-pair.pair c.args.file.now.items) c.as_slice-2.ensures.value;
+      needs = c.in_ok-needed.ensures.needs s refl ∙ ap (λ (ps : Puts). needs s ps c.in_ok-pair.pair) c.as_slice-2.ensures.value;
+      known = c.known_of.ensures;
+    } in
+    meeting_file s c.args.offers.now c.args.file.now.items c.do_puts.new.file.items _ c.args.records.now c.in_ok-needed.needed c.known_of.result c.max.result _ _ done
+    c.max.ensures c.in_ok-raise.ensures.file
+
+pub returns-clause-records : goal.returns-clause-records
+returns-clause-records c =
+    let s = setting c.args.header.now c.args.overlap in
+    let done : Done s c.args.offers.now c.args.file.now.items c.do_puts.new.file.items c.in_ok-needed.needed c.known_of.result c.in_ok-puts.puts.items c.in_ok-pair.pair = record {
+      puts_are = c.in_ok-puts.ensures;
+      pair_is = c.in_ok-pair.ensures ∙ ap (λ (ps : Puts). told s ps) c.as_slice.ensures.value;
+      file = c.in_ok-needed.ensures.file s refl ∙ ap (λ (ps : Puts). after_puts s ps c.in_ok-pair.pair c.args.file.now.items) c.as_slice-2.ensures.value;
+      needs = c.in_ok-needed.ensures.needs s refl ∙ ap (λ (ps : Puts). needs s ps c.in_ok-pair.pair) c.as_slice-2.ensures.value;
+      known = c.known_of.ensures;
+    } in
+    meeting_records s c.args.offers.now c.args.file.now.items c.do_puts.new.file.items c.args.records.now _ c.in_ok-needed.needed c.known_of.result c.max.result _ _ done
+    c.max.ensures c.in_ok-raise.ensures.records
+
+pub returns-clause-replies : goal.returns-clause-replies
+returns-clause-replies c =
+    let s = setting c.args.header.now c.args.overlap in
+    let done : Done s c.args.offers.now c.args.file.now.items c.do_puts.new.file.items c.in_ok-needed.needed c.known_of.result c.in_ok-puts.puts.items c.in_ok-pair.pair = record {
+      puts_are = c.in_ok-puts.ensures;
+      pair_is = c.in_ok-pair.ensures ∙ ap (λ (ps : Puts). told s ps) c.as_slice.ensures.value;
+      file = c.in_ok-needed.ensures.file s refl ∙ ap (λ (ps : Puts). after_puts s ps c.in_ok-pair.pair c.args.file.now.items) c.as_slice-2.ensures.value;
+      needs = c.in_ok-needed.ensures.needs s refl ∙ ap (λ (ps : Puts). needs s ps c.in_ok-pair.pair) c.as_slice-2.ensures.value;
+      known = c.known_of.ensures;
+    } in
+    meeting_replies s c.args.offers.now c.args.file.now.items c.do_puts.new.file.items c.raise.new.file.items c.args.records.now c.raise.new.records c.in_ok-needed.needed c.known_of.result
+    _ _ _ done
+    (meeting_file s c.args.offers.now c.args.file.now.items c.do_puts.new.file.items _ c.args.records.now c.in_ok-needed.needed c.known_of.result c.max.result _ _ done
+    c.max.ensures c.in_ok-raise.ensures.file)
+    (meeting_records s c.args.offers.now c.args.file.now.items c.do_puts.new.file.items c.args.records.now _ c.in_ok-needed.needed c.known_of.result c.max.result _ _ done
+    c.max.ensures c.in_ok-raise.ensures.records)
+    (c.in_ok-all.ensures s refl ∙ ap (λ (f : List ℕ). map (reply_to s c.in_ok-pair.pair c.raise.new.records f) c.args.offers.now) c.as_slice-3.ensures.value)

@@ -1,0 +1,20 @@
+-- One put more.
+use Rattle.reference.proofs.Words.{read_in}
+use Rattle.reference.proofs.PutSteps.{needed_end, needed_is, needed_step}
+use Rattle.reference.proofs.puts.needed_by.Goals as goal
+
+pub records_needed-requires : goal.records_needed-requires
+records_needed-requires c = record {
+  accepted = c.requires.accepted c.put-item.result (read_in c.args.puts.now c.loop-put.put-index c.put-item.result c.loop-put-test.true c.put-item.is);
+}
+
+pub loop-put-preserved : goal.loop-put-preserved
+loop-put-preserved c =
+    needed_step c.args.header.now c.args.puts.now c.loop-put.put-index c.put-item.result c.loop-put.needed c.records_needed.result c.max-needed.result _
+    c.loop-put-test.true c.put-item.is
+    (needed_is c.args.header.now c.put-item.result c.records_needed.result
+    (c.requires.accepted c.put-item.result (read_in c.args.puts.now c.loop-put.put-index c.put-item.result c.loop-put-test.true c.put-item.is)) c.records_needed.ensures)
+    c.max-needed.ensures c.loop-put.invariant
+
+pub returns : goal.returns
+returns c = needed_end c.args.header.now c.args.puts.now c.loop-put.put-index c.loop-put.needed _ c.loop-put-test.false c.loop-put.invariant

@@ -1,0 +1,34 @@
+-- One call more, an offer, or no call.
+use Rattle.reference.proofs.Words.{◌∙◌, ◌-◌, length, take, drop, call_share, going_of}
+use Rattle.reference.proofs.RunnerLaws.{comes_answered, first_call, gone_offer, gone_over}
+use Rattle.reference.proofs.runners.Runner.go_on.Goals as goal
+
+pub step-requires-clause-share : goal.step-requires-clause-share
+step-requires-clause-share c =
+    let own = c.calls.self.calls.now in
+    let ready = c.calls.invariant.come.ready in
+    call_share ready.script ready.order ready.r (going_of c.calls.self) c.call-item.result (take (length own - 1) (drop 1 own)) ready.lawful ready.one_of ready.way
+    (first_call own c.call-item.result c.in-len1-up.len_at_least c.call-item.is)
+
+pub calls-preserved : goal.calls-preserved
+calls-preserved c =
+    let own = c.calls.self.calls.now in
+    record {
+      of_header = c.in_ok-answer.ensures.header ∙ c.calls.invariant.of_header;
+      free = c.calls.invariant.free;
+      come = comes_answered c.args.self.now.rank.header c.calls.self.rank.header (going_of c.args.self.now) (going_of c.calls.self) c.step.new.self.state c.in_ok-answer.field-0
+          c.in-Answered.answer c.push.new.self c.call-item.result (take (length own - 1) (drop 1 own)) c.calls.invariant.come
+          (first_call own c.call-item.result c.in-len1-up.len_at_least c.call-item.is) c.calls.invariant.of_header c.in_ok-answer.ensures.step c.in-Answered.is
+          c.in_ok-answer.ensures.held c.in_ok-push-in-Answered.ensures.ok;
+    }
+
+pub returns-in-Meet-clause-gone : goal.returns-in-Meet-clause-gone
+returns-in-Meet-clause-gone c =
+    let own = c.calls.self.calls.now in
+    gone_offer c.args.self.now.rank.header c.calls.self.rank.header (going_of c.args.self.now) (going_of c.calls.self) c.step.new.self.state c.in-Meet.offer c.in_ok-answer.field-0
+    c.call-item.result (take (length own - 1) (drop 1 own)) c.calls.invariant.come (first_call own c.call-item.result c.in-len1-up.len_at_least c.call-item.is)
+    c.calls.invariant.of_header c.in_ok-answer.ensures.step c.in_ok-answer.ensures.held c.in_ok-answer.ensures.sound c.in-Meet.is
+
+pub returns-clause-gone : goal.returns-clause-gone
+returns-clause-gone c =
+    gone_over c.args.self.now.rank.header (going_of c.args.self.now) (going_of c.calls.self) c.calls.self.held c.calls.invariant.come c.in_default.len_below c.calls.invariant.free

@@ -1,0 +1,71 @@
+-- One rank more has heard.
+use Rattle.reference.proofs.Words.{◌≡◌, ◌∙◌, refl, sym, subst, length, get_or, Some, arith, slice_get-get_or, slice_get_read, slice_get_within, slice_get, Reply, entry_set_other}
+use Rattle.reference.proofs.StepLaws.{hear_more, heard_by, hears_fit, holds_one, may_hear}
+use Rattle.reference.proofs.stand.hear_all.Goals as goal
+
+pub hear-requires-clause-waits : goal.hear-requires-clause-waits
+hear-requires-clause-waits c =
+    let i = c.loop-number.number in
+    let now = c.loop-number.runners in
+    let long = c.loop-number.auto.runners in
+    let test = c.loop-number-test.true in
+    let runner = get_or now i c.index-runners-number.result in
+    let there = sym (c.loop-number.invariant.left i (omega arith)) ∙ slice_get-get_or now i c.index-runners-number.result (omega arith) in
+    (holds_one c.args.header.now runner (c.requires.waiting i runner there)).asked.waits
+
+pub hear-requires-clause-fits : goal.hear-requires-clause-fits
+hear-requires-clause-fits c =
+    let i = c.loop-number.number in
+    let now = c.loop-number.runners in
+    let long = c.loop-number.auto.runners in
+    let all = c.requires.long in
+    let test = c.loop-number-test.true in
+    let runner = get_or now i c.index-runners-number.result in
+    let there = sym (c.loop-number.invariant.left i (omega arith)) ∙ slice_get-get_or now i c.index-runners-number.result (omega arith) in
+    let waits = c.requires.waiting i runner there in
+    let holds = holds_one c.args.header.now runner waits in
+    let said = slice_get_read c.args.replies.now (length c.args.replies.now) i c.index-replies-number.result refl (omega arith) c.index-replies-number.is in
+    hears_fit c.args.header.now runner holds.offer c.in_ok-clone.field-0 waits holds.is
+    (c.requires.fit i runner holds.offer c.in_ok-clone.field-0 there holds.is (subst (λ (y : Reply). slice_get c.args.replies.now i ≡ Some y) (sym c.in_ok-clone.ensures) said))
+
+pub hear-requires-clause-ready : goal.hear-requires-clause-ready
+hear-requires-clause-ready c =
+    let i = c.loop-number.number in
+    let now = c.loop-number.runners in
+    let long = c.loop-number.auto.runners in
+    let test = c.loop-number-test.true in
+    let runner = get_or now i c.index-runners-number.result in
+    let there = sym (c.loop-number.invariant.left i (omega arith)) ∙ slice_get-get_or now i c.index-runners-number.result (omega arith) in
+    may_hear c.args.header.now runner c.in_ok-clone.field-0 (c.requires.waiting i runner there)
+
+pub loop-number-preserved : goal.loop-number-preserved
+loop-number-preserved c =
+    let i = c.loop-number.number in
+    let old = c.args.runners.now in
+    let now = c.loop-number.runners in
+    let long = c.loop-number.auto.runners in
+    let all = c.requires.long in
+    let test = c.loop-number-test.true in
+    let runner = get_or now i c.index-runners-number.result in
+    let own = slice_get-get_or now i c.index-runners-number.result (omega arith) in
+    let there = sym (c.loop-number.invariant.left i (omega arith)) ∙ own in
+    let waits = c.requires.waiting i runner there in
+    let said = slice_get_read c.args.replies.now (length c.args.replies.now) i c.index-replies-number.result refl (omega arith) c.index-replies-number.is in
+    record {
+      heard = hear_more c.args.header.now c.args.replies.now old now i runner c.hear.new.self c.in_ok-clone.field-0 there own
+          (subst (λ (y : Reply). slice_get c.args.replies.now i ≡ Some y) (sym c.in_ok-clone.ensures) said)
+          (heard_by c.args.header.now runner c.hear.new.self c.in_ok-clone.field-0 waits.of_header c.in_ok-hear.ensures.header c.in_ok-hear.ensures.gone)
+          c.loop-number.invariant.heard;
+      left = λ r l. entry_set_other now i r c.hear.new.self (λ e. absurd (omega arith)) ∙ c.loop-number.invariant.left r (omega arith);
+    }
+
+pub returns : goal.returns
+returns c = record {
+  heard = record {
+    long = c.loop-number.auto.runners;
+    each = λ r a b y e f g.
+        let l = slice_get_within c.loop-number.runners r b f in
+        let past = c.loop-number-test.false in
+        c.loop-number.invariant.heard r a b y (omega arith) e f g;
+  };
+}

@@ -1,6 +1,0 @@
-mod Words
-mod RunnerLaws
-mod FirstLaws
-mod NextLaws
-mod StepLaws
-mod EndLaws

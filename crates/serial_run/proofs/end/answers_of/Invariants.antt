@@ -1,6 +1,0 @@
--- The answers of those so far.
-use Rattle.serial_run.proofs.Words.{◌≡◌, map}
-use Rattle.serial_run.proofs.end.answers_of.Given as goal
-
-abbrev pub invariant-loop-runner : goal.invariant-loop-runner
-invariant-loop-runner l = l.table.items ≡ map (λ runner. runner.answers) l.yielded
