@@ -5,3 +5,4 @@ mod PlaceLaws
 pub mod PostedLaws
 mod TakeLaws
 mod LeaveLaws
+mod Freed

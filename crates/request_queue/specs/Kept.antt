@@ -14,7 +14,7 @@ use Rattle.request_queue.specs.declared.queue.Posting.{Posting}
 use Rattle.request_queue.specs.declared.queue.Request.{Request}
 use Rattle.request_queue.specs.declared.queue.Queue.TheInside.{Inside}
 use Rattle.request_queue.specs.Queued.{Queued}
-use Rattle.attached_buffer.specs.Buffer.{Account}
+use Rattle.request_queue.specs.Buffer.{Account}
 
 abbrev pub status_in : List Request → ℕ → Status
 status_in [] id = Gone

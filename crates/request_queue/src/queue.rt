@@ -10,7 +10,7 @@ ghost use Rattle.request_queue.specs.Queued.{rank_with, with_request, id_of, IsC
 ghost use Rattle.serial_spec.specs.Refusal.{IsRefusal};
 
 use crate::requests::Requests;
-use attached_buffer::Room;
+use crate::room::Room;
 use nc_base::{CallErr, Code, Memory, Post, PostKind, PostList};
 use std::alloc::Global;
 use std::collections::BTreeSet;

@@ -10,7 +10,7 @@ ghost use Rattle.request_queue.specs.Kept.{as_posted, has_waiting, puts_of, gets
 use crate::Queue;
 use crate::queue::{Request, len_of, release};
 use crate::requests::Requests;
-use attached_buffer::Room;
+use crate::room::Room;
 use nc_base::{Batch, Choice, Code, Item, ItemList, Memory, Post, PostKind, PostList};
 use std::alloc::Global;
 use std::collections::BTreeSet;

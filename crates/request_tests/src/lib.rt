@@ -1,4 +1,4 @@
-//! Tests of vara_extents, imap_extents, attached_buffer and request_queue.
+//! Tests of vara_extents, imap_extents and request_queue.
 #![tactic(auto)]
 
 #[cfg(test)]

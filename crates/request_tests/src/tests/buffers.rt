@@ -1,6 +1,6 @@
 use super::REFUSED;
-use attached_buffer::Attached;
 use nc_base::{CallErr, Code};
+use request_queue::Attached;
 
 #[test]
 fn freed_bytes_serve_again(rt: HostRuntime) {

@@ -1,9 +1,9 @@
 // The buffer with what stands in it.
 ghost use Rattle.std.specs.Prelude.{◌≡◌, ◌+◌, ◌<◌, ◌≤◌, ◌∷◌, ◌++◌, [], length, Some, None, IsSome, IfOk, IfErr, OnOk, OnErr, MatchResult, slice_set};
 ghost use Rattle.nc_base.specs.declared.answer.Code.TheVariants as code;
-ghost use Rattle.attached_buffer.specs.Buffer.{bytes_under, new_code, used, IsNewRefusal, IsPlaceRefusal};
+ghost use Rattle.request_queue.specs.Buffer.{bytes_under, new_code, used, IsNewRefusal, IsPlaceRefusal};
 
-use crate::Room;
+use crate::room::Room;
 use nc_base::{Blob, CallErr, Code, Memory};
 use std::alloc::Global;
 use std::marker::Model;
@@ -25,7 +25,7 @@ pub struct Attached {
 
 impl Model for Attached {
     ghost use Rattle.std.specs.Prelude.{◌≡◌, sum_by};
-    ghost use Rattle.attached_buffer.specs.Buffer.{Buffer, len_of};
+    ghost use Rattle.request_queue.specs.Buffer.{Buffer, len_of};
 
     ghost Value = { Buffer };
 

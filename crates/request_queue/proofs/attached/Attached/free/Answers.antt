@@ -1,7 +1,7 @@
 use Rattle.std.proofs.Common.{ap, ◌∙◌, sym, arith}
-use Rattle.attached_buffer.specs.Buffer.{Account, Buffer, bytes_under}
-use Rattle.attached_buffer.proofs.Freed.{freed}
-use Rattle.attached_buffer.proofs.attached.Attached.free.Goals as goal
+use Rattle.request_queue.specs.Buffer.{Account, Buffer, bytes_under}
+use Rattle.request_queue.proofs.Freed.{freed}
+use Rattle.request_queue.proofs.attached.Attached.free.Goals as goal
 
 pub release-requires : goal.release-requires
 release-requires c =

@@ -1,7 +1,7 @@
 // The account of a buffer.
 ghost use Rattle.std.specs.Prelude.{◌≡◌, ◌↔◌, ◌+◌, ◌-◌, ◌<◌, ◌≤◌, Ok, Err, IfOk, MatchResult, IfErr, OnOk, OnErr};
 ghost use Rattle.nc_base.specs.declared.answer.Code.TheVariants as code;
-ghost use Rattle.attached_buffer.specs.Buffer.{new_code};
+ghost use Rattle.request_queue.specs.Buffer.{new_code};
 
 use nc_base::{Code, MAX_ATTACHED};
 use std::marker::Model;
@@ -15,7 +15,7 @@ pub struct Room {
 
 impl Model for Room {
     ghost use Rattle.std.specs.Prelude.{◌≤◌};
-    ghost use Rattle.attached_buffer.specs.Buffer.{Account};
+    ghost use Rattle.request_queue.specs.Buffer.{Account};
 
     ghost Value = { Account };
 

@@ -2,7 +2,7 @@
 use Rattle.std.proofs.Common.{◌≡◌, ℕ, zero, suc, ◌+◌, List, [], ◌∷◌, length, Option, Some, None, set, arith}
 use Rattle.std.specs.Prelude.{slice_get, sum_by}
 use Rattle.std.proofs.lemmas.List.Sums.{sum_by-cons}
-use Rattle.attached_buffer.specs.Buffer.{len_of, unless_freed}
+use Rattle.request_queue.specs.Buffer.{len_of, unless_freed}
 
 pub freed : (placed : List (Option (List ℕ))) (n : ℕ) (bytes : List ℕ) → unless_freed (slice_get placed n) ≡ Some bytes
     → sum_by len_of (set placed n None) + length bytes ≡ sum_by len_of placed
