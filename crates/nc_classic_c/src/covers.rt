@@ -53,7 +53,7 @@ fn sorted_entries(alloc: Global, asked: &[NcvExtent]) -> Result<Vec<Owned>, Memo
     ensures entries { IfOk result (λ list. IsPermutation (map entry asked.now) list.items) }
 {
     let mut list = entries(alloc, asked)?;
-    gather(alloc, list.as_mut_slice())?;
+    gather(list.as_mut_slice());
     Ok(list)
 }
 

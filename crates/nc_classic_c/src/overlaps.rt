@@ -73,7 +73,7 @@ fn sorted_entries(alloc: Global, held: &[NcvHeld]) -> Result<Vec<Owned>, Memory>
     ensures entries { IfOk result (λ list. IsPermutation (map entry held.now) list.items) }
 {
     let mut list = entries(alloc, held)?;
-    gather(alloc, list.as_mut_slice())?;
+    gather(list.as_mut_slice());
     Ok(list)
 }
 

@@ -1,5 +1,5 @@
 -- What entries say of a byte, as origins.
-use Rattle.overlap_report.proofs.Words.{◌≡◌, ℕ, zero, suc, ◌+◌, ◌-◌, ◌^◌, ◌<◌, ◌≤◌, ◌⊎◌, refl, sym, ◌∙◌, ap, subst, inl, inr, List, [], ◌∷◌, ◌++◌, map, Bool, true, false, arith, nat_tests, ◌==◌, range_with_len, enumerate_from, Owned, Says, In, Origin, origins_of, origins, AtMost, IsGreatest, IsResolved, IsOnceEach, says_left, says_right, says_cases, greatest_once, Covers, Winner, StandsBy}
+use Rattle.overlap_report.proofs.Words.{◌≡◌, ℕ, zero, suc, ◌+◌, ◌-◌, ◌<◌, ◌≤◌, refl, sym, ◌∙◌, ap, subst, inl, inr, List, [], ◌∷◌, map, Bool, true, false, arith, nat_tests, ◌==◌, range_with_len, enumerate_from, Owned, Says, In, Origin, origins_of, origins, AtMost, IsGreatest, IsResolved, IsOnceEach, says_left, says_right, says_cases, greatest_once, Covers, Winner}
 use borrow.Author.Tests.{eqb-true}
 
 abbrev pub origin_at : Owned → ℕ → Origin

@@ -5,14 +5,14 @@ pub use Rattle.std.proofs.lemmas.Bool.{lt-ltb}
 pub use Rattle.std.proofs.lemmas.Bool.Decides.{nat_tests}
 pub use Rattle.std.proofs.lemmas.Grind.{flat_map-append}
 pub use Rattle.std.proofs.lemmas.List.{append-nil, get_or_default, map-append, take_all, take_more}
-pub use Rattle.std.proofs.lemmas.List.Sorted.{answers_always}
+pub use Rattle.std.proofs.lemmas.List.Sorted.{IsPermutation-put_mid, IsPermutation-trans, answers_always}
 pub use Rattle.std.proofs.lemmas.Option.{same_Some}
 pub use Rattle.std.specs.BinaryHeap.{IsHeap, IsUpperBound, PopsGreatest, heap_items, heap_len}
 pub use Rattle.std.specs.Cmp.{nat_cmp_is}
-pub use Rattle.std.specs.List.{enumerate_from, range_with_len}
+pub use Rattle.std.specs.List.{IsAllAdjacentAnswer, enumerate_from, range_with_len}
 pub use Rattle.std.specs.List.Sorted.{IsPermutation}
 pub use Rattle.std.specs.Option.{option_copied}
-pub use Rattle.std.specs.Ordering.{ordering_then}
+pub use Rattle.std.specs.Ordering.{is_ge, ordering_then}
 pub use Rattle.std.specs.Prelude.{IfNone, IfSome, MatchOption, nat_lt, ◌==◌}
 pub use Rattle.std.specs.Slice.{IsItemAt}
 pub use Rattle.std.specs.declared.cmp.Ordering.{Ordering}

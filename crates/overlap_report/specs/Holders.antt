@@ -1,5 +1,5 @@
 -- The two least requests of those that hold a byte.
-use Rattle.std.specs.Prelude.{◌≡◌, ℕ, List, Bool, true, ◌⊎◌, if◌then◌else◌}
+use Rattle.std.specs.Prelude.{◌≡◌, ℕ, List, if◌then◌else◌}
 use Rattle.nc_base.specs.declared.plan.Owned.{Owned}
 use Rattle.serial_spec.specs.SharedByte.{Key, same_key, key_below}
 use Rattle.overlap_report.specs.declared.holders.Request.{Request}

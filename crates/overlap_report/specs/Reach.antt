@@ -1,5 +1,5 @@
 -- How far entries reach, one after another.
-use Rattle.std.specs.Prelude.{ℕ, ◌+◌, max, Bool, if◌then◌else◌}
+use Rattle.std.specs.Prelude.{◌+◌, max, Bool, if◌then◌else◌}
 use Rattle.nc_base.specs.declared.plan.Owned.{Owned}
 use Rattle.serial_spec.specs.SharedByte.{same_key}
 use Rattle.overlap_report.specs.declared.shared.Reach.{Reach}

@@ -5,7 +5,7 @@
 --     IsFirst list x        it is the least such byte
 --     HasHolder list k x    an entry of this request holds the byte
 --     ArePairAt list a b x  the two least requests that hold it are these
-use Rattle.std.specs.Prelude.{◌≡◌, ℕ, ◌+◌, ◌<◌, ◌≤◌, List, true, false, ◌⊎◌, Option, Some, None}
+use Rattle.std.specs.Prelude.{◌≡◌, ℕ, ◌+◌, ◌<◌, ◌≤◌, List, true, false, ◌⊎◌}
 use Rattle.nc_base.specs.declared.plan.Owned.{Owned}
 use Rattle.serial_spec.specs.SharedByte.{Key, same_key, key_below}
 use Rattle.overlay_laws.specs.Entries.{In}

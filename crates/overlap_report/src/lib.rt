@@ -1,6 +1,7 @@
 //! The entries of a step: sorted, what they cover, and what they share.
 #![tactic(auto)]
 
+mod dealt;
 mod holders;
 mod joined;
 mod serial;

@@ -60,21 +60,21 @@ fn slots_rise(list: &[Owned]) -> bool
     true
 }
 
-fn has_pair(rt: &impl Abort, alloc: Global, list: &mut [Owned], wanted: Pair) {
-    gather(alloc, list).expect(rt, NO_MEMORY);
+fn has_pair(rt: &impl Abort, list: &mut [Owned], wanted: Pair) {
+    gather(list);
     assert!(rt; end_below(list));
     assert!(rt; first_pair(list) == Some(wanted));
 }
 
 fn has_cover(rt: &impl Abort, alloc: Global, list: &mut [Owned], wanted: &[Extent]) {
-    gather(alloc, list).expect(rt, NO_MEMORY);
+    gather(list);
     assert!(rt; end_below(list));
     let found = cover(alloc, list).expect(rt, NO_MEMORY);
     assert!(rt; found.as_slice() == wanted);
 }
 
 fn resolved_of(rt: &impl Abort, alloc: Global, list: &mut [Owned]) -> OwnedList {
-    gather(alloc, list).expect(rt, NO_MEMORY);
+    gather(list);
     assert!(rt; end_below(list));
     assert!(rt; found_below(list));
     assert!(rt; slots_rise(list));
@@ -138,7 +138,7 @@ const BYTES: [(u64, u32, u64); 11] = [
 fn many_entries_are_gathered_covered_and_resolved(rt: HostRuntime) {
     let alloc = rt.alloc();
     let mut list = overlapping(&rt, alloc);
-    has_pair(&rt, alloc, list.as_mut_slice(), FIRST);
+    has_pair(&rt, list.as_mut_slice(), FIRST);
     has_cover(&rt, alloc, list.as_mut_slice(), &COVERED);
     let mut found = resolved_of(&rt, alloc, list.as_mut_slice());
     for (at, slot, byte) in &BYTES {

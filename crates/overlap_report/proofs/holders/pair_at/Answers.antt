@@ -1,8 +1,8 @@
 -- An entry that holds the byte is one more holder.
-use Rattle.overlap_report.proofs.Words.{ℕ, ◌+◌, ◌^◌, ◌<◌, take, get_or, subst, sym, ◌∙◌, refl, arith, Least, Nobody, One, Two, Covers, AreLeast}
+use Rattle.overlap_report.proofs.Words.{◌+◌, ◌^◌, take, get_or, subst, sym, ◌∙◌, refl, arith, Least, AreLeast}
 use Rattle.overlap_report.proofs.CoverSteps.{entry_ends}
 use Rattle.overlap_report.proofs.KeySteps.{nothing, next_at}
-use Rattle.overlap_report.proofs.PairSteps.{least_next, least_same, all_least, one_clear, nobody_clear}
+use Rattle.overlap_report.proofs.PairSteps.{least_next, least_same}
 use Rattle.overlap_report.proofs.holders.pair_at.Goals as goal
 use Rattle.overlap_report.proofs.holders.pair_at.Goals.{then-entry-at+then-at-entry, else-entry-at, else-entry-at-via-then-entry-at+else-at-entry, else-entry-at-via-else-entry-at}
 

@@ -1,5 +1,5 @@
 -- The runs that were added are all runs of the entries.
-use Rattle.overlap_report.proofs.Words.{◌≡◌, ℕ, ◌+◌, ◌^◌, ◌<◌, List, subst, sym, ◌∙◌, arith, Extent, HaveSame, ranges, extents, IsCover, spans}
+use Rattle.overlap_report.proofs.Words.{◌^◌, List, subst, sym, ◌∙◌, arith, Extent, HaveSame, ranges, extents, IsCover, spans}
 use Rattle.overlap_report.proofs.CoverSteps.{joined_from, last_run, all_cover, all_bytes_joined, entry_ends}
 use Rattle.overlap_report.proofs.joined.cover.Goals as goal
 

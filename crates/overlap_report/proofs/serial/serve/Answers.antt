@@ -1,5 +1,5 @@
 -- One step of the sweep.
-use Rattle.overlap_report.proofs.Words.{◌≡◌, ℕ, ◌+◌, ◌-◌, ◌^◌, ◌<◌, ◌≤◌, List, subst, sym, ◌∙◌, arith, heap_items, heap_len, Owned, entries_of, Swept}
+use Rattle.overlap_report.proofs.Words.{◌≡◌, ℕ, subst, arith, heap_items, entries_of, Swept}
 use Rattle.overlap_report.proofs.ClaimSteps.{top_fit, ended_fit, ended_swept, later_fit, served_swept, none_swept}
 use Rattle.overlap_report.proofs.serial.serve.Goals as goal
 

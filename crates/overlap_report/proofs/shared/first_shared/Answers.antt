@@ -1,5 +1,5 @@
 -- An entry shares a byte with those before it where one of another request reaches past its begin.
-use Rattle.overlap_report.proofs.Words.{◌≡◌, ℕ, ◌+◌, ◌^◌, ◌<◌, ◌≤◌, take, get_or, subst, sym, ◌∙◌, cond, arith, Reach, same_as, get_or_default}
+use Rattle.overlap_report.proofs.Words.{ℕ, ◌+◌, ◌^◌, ◌<◌, ◌≤◌, take, get_or, subst, sym, ◌∙◌, arith, Reach, get_or_default}
 use Rattle.overlap_report.proofs.CoverSteps.{entry_ends}
 use Rattle.overlap_report.proofs.KeySteps.{nothing, next_at}
 use Rattle.overlap_report.proofs.SharedSteps.{Reaches, reach_next, reach_same, first_found, all_clear}
