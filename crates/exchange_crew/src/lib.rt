@@ -9,10 +9,12 @@ mod errand;
 mod plan;
 mod shared_job;
 mod shares;
+mod spares;
 mod walk;
 
 pub use errand::{Errand, PartBack, PartEnds};
 pub use plan::{Aggregator, GetPlan, PutPlan, Tools};
 pub use shared_job::SharedJob;
 pub use shares::{STACK_SIZE, Shares, give_back, make_rooms};
+pub use spares::Spares;
 pub use walk::{Turn, TurnWalk, domain_windows, longest_window, next_window, window_list};

@@ -3,7 +3,7 @@ ghost use Rattle.std.specs.Prelude.{◌≡◌, ◌<◌, ℕ, length, slice_get, 
 ghost use Rattle.get_exchange.specs.Gets.{IsGetPlanned};
 ghost use Rattle.get_exchange.specs.Lenders.{AreReady, IsReady};
 
-use exchange_crew::GetPlan;
+use exchange_crew::{GetPlan, Spares};
 use file_domains::{Window, WindowWalk, windows};
 use nc_base::{Blob, Extent, Memory};
 use ruled_line::{LinePut, LineTake, line};
@@ -31,7 +31,7 @@ pub(crate) struct Lenders<'a> {
 #[derive(Drop)]
 pub(crate) struct Lending<'a> {
     pub lenders: Lenders<'a>,
-    pub spares: Vec<LineTake<Blob>>,
+    pub lines: Vec<LineTake<Blob>>,
     pub blobs: Vec<Blob>,
 }
 
@@ -39,6 +39,7 @@ pub(crate) struct Lending<'a> {
 /// line may hold, but no more than there are domains. So many windows are read side by side.
 pub(crate) fn lending_of<'a>(
     alloc: Global,
+    spares: &mut Spares,
     plan: &GetPlan<'a>,
     domains: &[Extent],
 ) -> Result<Lending<'a>, Memory>
@@ -46,29 +47,34 @@ pub(crate) fn lending_of<'a>(
     ensures { IfOk result (λ lending. AreReady lending.lenders.each.items) }
 {
     let mut each = Vec::new(alloc);
-    let mut spares = Vec::new(alloc);
+    let mut lines = Vec::new(alloc);
     for domain in domains {
         let (put, take) = line::<Blob>(alloc, 1)?;
         each.push(Lender::new(plan, *domain, put))?;
-        spares.push(take)?;
+        lines.push(take)?;
     }
-    spares.reverse();
+    lines.reverse();
     Ok(Lending {
         lenders: Lenders { each },
-        spares,
-        blobs: make_blobs(alloc, plan, domains)?,
+        lines,
+        blobs: make_blobs(alloc, spares, plan, domains)?,
     })
 }
 
-// Blobs that go round.
-fn make_blobs(alloc: Global, plan: &GetPlan, domains: &[Extent]) -> Result<Vec<Blob>, Memory>
+// Blobs that go round, of spare buffers.
+fn make_blobs(
+    alloc: Global,
+    spares: &mut Spares,
+    plan: &GetPlan,
+    domains: &[Extent],
+) -> Result<Vec<Blob>, Memory>
     requires { IsGetPlanned plan.now }
 {
     let longest = longest_hull(plan, domains) as usize;
     let count = domains.len().min(plan.hints.line_room as usize);
     let mut blobs = Vec::new(alloc);
     for _ in 0..count {
-        blobs.push(Blob::with_capacity(alloc, longest)?)?;
+        blobs.push(Blob::from_vec(spares.take(alloc, longest)?))?;
     }
     Ok(blobs)
 }
@@ -137,12 +143,12 @@ impl<'a> Lenders<'a> {
     }
 
     /// Lends each blob, where a helper is left without one.
-    pub fn lend_first<R: Wait>(&mut self, rt: &R, blobs: Vec<Blob>)
+    pub fn lend_first<R: Wait>(&mut self, rt: &R, spares: &mut Spares, blobs: Vec<Blob>)
         requires { AreReady self.old.each.items }
         ensures { AreReady self.new.each.items }
     {
         for blob in blobs {
-            self.lend(rt, blob);
+            self.lend(rt, spares, blob);
         }
     }
 
@@ -157,15 +163,16 @@ impl<'a> Lenders<'a> {
     }
 
     /// Lends a blob to the helper whose hull is the next one to be taken of those for which none is lent. Where there is none it is
-    /// dropped.
+    /// kept for the next step.
     ///
     /// So blobs are lent in the order in which hulls are taken, and the helper for whose hull the calling thread waits has one.
-    pub fn lend<R: Wait>(&mut self, rt: &R, blob: Blob)
+    pub fn lend<R: Wait>(&mut self, rt: &R, spares: &mut Spares, blob: Blob)
         requires { AreReady self.old.each.items }
         ensures { AreReady self.new.each.items }
     {
-        if let Some(k) = first_wanting(&self.each) {
-            self.each[k].lend(rt, blob);
+        match first_wanting(&self.each) {
+            Some(k) => self.each[k].lend(rt, blob),
+            None => spares.keep(blob.into_vec()),
         }
     }
 }

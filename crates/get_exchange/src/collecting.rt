@@ -17,7 +17,7 @@ use crate::reading::Reading;
 use crate::shelf::Shelf;
 use crate::walk::ReadTurn;
 use aggregator_rounds::collect_entry;
-use exchange_crew::{GetPlan, next_window};
+use exchange_crew::{GetPlan, Spares, next_window};
 use nc_base::{Blob, BlobList, Extent, Owned};
 use nc_outside::{Disk, DiskErr};
 use std::sync::Wait;
@@ -26,6 +26,7 @@ use std::sync::Wait;
 /// the fault.
 pub(crate) fn take_all<R: Wait, D: Disk>(
     rt: &R,
+    spares: &mut Spares,
     plan: &GetPlan,
     workers: &mut [ReadWorker<D>],
     lenders: &mut Lenders,
@@ -48,19 +49,26 @@ pub(crate) fn take_all<R: Wait, D: Disk>(
         let shelf = &mut workers[k].shelf;
         let (came, blob) = take_turn(rt, plan, shelf, table);
         end = end.and(came);
-        hand_on(rt, lenders, k, shelf.next.is_none(), blob);
+        hand_on(rt, spares, lenders, k, shelf.next.is_none(), blob);
     }
     end
 }
 
 // Lends the blob that came back from a helper to the next one, where one came.
-fn hand_on<R: Wait>(rt: &R, lenders: &mut Lenders, number: usize, ended: bool, blob: Option<Blob>)
+fn hand_on<R: Wait>(
+    rt: &R,
+    spares: &mut Spares,
+    lenders: &mut Lenders,
+    number: usize,
+    ended: bool,
+    blob: Option<Blob>,
+)
     requires { AreReady lenders.old.each.items }
     ensures { AreReady lenders.new.each.items }
 {
     lenders.come_back(number, ended);
     if let Some(blob) = blob {
-        lenders.lend(rt, blob);
+        lenders.lend(rt, spares, blob);
     }
 }
 

@@ -22,7 +22,7 @@ use crate::helper::GetJob;
 use crate::in_turn::get_in_turn;
 use crate::results::take_back;
 use crossbeam_channel::Sender;
-use exchange_crew::{Errand, GetPlan, Shares, Tools, give_back, make_rooms};
+use exchange_crew::{Errand, GetPlan, Shares, Spares, Tools, give_back, make_rooms};
 use nc_base::{Extent, GotTable, Memory};
 use nc_outside::{Disk, DiskErr, Gate};
 use std::alloc::Global;
@@ -30,13 +30,14 @@ use std::sync::Wait;
 
 /// Does the gets of a plan on the parts of a disk. Each part is handed to a helper of its own, over the domain at its place, and the hulls
 /// of its windows come from it over a line of so many items as the hints say. From the first part on for which there is no helper the
-/// parts are read in turn, under the same clauses.
+/// parts are read in turn, under the same clauses. Buffers come from the spare ones, and are kept for the next step.
 ///
 /// The parts come back in order. Refused, some bytes of the blobs may be read, and the fault is the first of the parts'; `Memory` comes
 /// also where a list of the parts or a buffer can't be had.
 pub fn exchange_get<R: Wait, D: Disk, G: Gate, P: Send + Drop>(
     tools: &Tools<R, G>,
     helpers: &[Sender<Errand<P, GetJob<D>>>],
+    spares: &mut Spares,
     plan: &GetPlan,
     domains: &[Extent],
     parts: Vec<D>,
@@ -57,13 +58,14 @@ pub fn exchange_get<R: Wait, D: Disk, G: Gate, P: Send + Drop>(
     ensures blobs { AreAsLong into.old into.new }
     ensures failed { IsErrOf result.1 Failed → SomeZip (λ old new. Rose (D.faults old) (D.faults new)) parts.items result.0.items }
 {
-    get_parts(tools, helpers, plan, domains, parts, into)
+    get_parts(tools, helpers, spares, plan, domains, parts, into)
 }
 
 // The gets of all parts.
 fn get_parts<R: Wait, D: Disk, G: Gate, P: Send + Drop>(
     tools: &Tools<R, G>,
     helpers: &[Sender<Errand<P, GetJob<D>>>],
+    spares: &mut Spares,
     plan: &GetPlan,
     domains: &[Extent],
     parts: Vec<D>,
@@ -84,11 +86,11 @@ fn get_parts<R: Wait, D: Disk, G: Gate, P: Send + Drop>(
     ensures failed { IsErrOf result.1 Failed → SomeZip (λ old new. Rose (D.faults old) (D.faults new)) parts.items result.0.items }
 {
     if helpers.is_empty() {
-        return get_in_turn(tools, plan, 0, domains, parts, into);
+        return get_in_turn(tools, spares, plan, 0, domains, parts, into);
     }
-    match fetching_of(tools.alloc, plan, domains) {
-        Ok(fetching) => get_helped(tools, helpers, plan, domains, parts, fetching, into),
-        Err(Memory) => get_in_turn(tools, plan, 0, domains, parts, into),
+    match fetching_of(tools.alloc, spares, plan, domains) {
+        Ok(fetching) => get_helped(tools, helpers, spares, plan, domains, parts, fetching, into),
+        Err(Memory) => get_in_turn(tools, spares, plan, 0, domains, parts, into),
     }
 }
 
@@ -101,6 +103,7 @@ struct Fetching<'a, D: Disk> {
 
 fn fetching_of<'a, D: Disk>(
     alloc: Global,
+    spares: &mut Spares,
     plan: &GetPlan<'a>,
     domains: &[Extent],
 ) -> Result<Fetching<'a, D>, Memory>
@@ -110,7 +113,7 @@ fn fetching_of<'a, D: Disk>(
 {
     Ok(Fetching {
         shares: make_rooms(alloc, domains.len())?,
-        lending: lending_of(alloc, plan, domains)?,
+        lending: lending_of(alloc, spares, plan, domains)?,
     })
 }
 
@@ -118,6 +121,7 @@ fn fetching_of<'a, D: Disk>(
 fn get_helped<'a, R: Wait, D: Disk, G: Gate, P: Send + Drop>(
     tools: &Tools<R, G>,
     helpers: &[Sender<Errand<P, GetJob<D>>>],
+    spares: &mut Spares,
     plan: &GetPlan<'a>,
     domains: &[Extent],
     parts: Vec<D>,
@@ -144,9 +148,17 @@ fn get_helped<'a, R: Wait, D: Disk, G: Gate, P: Send + Drop>(
         mut back,
         rest,
         end,
-    } = get_served(tools, helpers, plan, domains, parts, fetching, into);
+    } = get_served(tools, helpers, spares, plan, domains, parts, fetching, into);
     let served = back.len();
-    let (others, other) = get_in_turn(tools, plan, served as u32, &domains[served..], rest, into);
+    let (others, other) = get_in_turn(
+        tools,
+        spares,
+        plan,
+        served as u32,
+        &domains[served..],
+        rest,
+        into,
+    );
     give_back(others, &mut back);
     (back, end.and(other))
 }
@@ -163,6 +175,7 @@ struct Served<D: Drop> {
 fn get_served<'a, R: Wait, D: Disk, G: Gate, P: Send + Drop>(
     tools: &Tools<R, G>,
     helpers: &[Sender<Errand<P, GetJob<D>>>],
+    spares: &mut Spares,
     plan: &GetPlan<'a>,
     domains: &[Extent],
     parts: Vec<D>,
@@ -195,7 +208,7 @@ fn get_served<'a, R: Wait, D: Disk, G: Gate, P: Send + Drop>(
     } = fetching;
     let Lending {
         mut lenders,
-        spares,
+        lines,
         blobs,
     } = lending;
     hand_all(
@@ -203,7 +216,7 @@ fn get_served<'a, R: Wait, D: Disk, G: Gate, P: Send + Drop>(
         helpers,
         plan,
         domains,
-        Supply { parts, spares },
+        Supply { parts, lines },
         &mut shares,
     );
     let Shares {
@@ -212,9 +225,16 @@ fn get_served<'a, R: Wait, D: Disk, G: Gate, P: Send + Drop>(
         mut back,
     } = shares;
     lenders.keep(workers.len());
-    lenders.lend_first(tools.rt, blobs);
+    lenders.lend_first(tools.rt, spares, blobs);
     let mut table = into.take().into_vec();
-    let came = take_all(tools.rt, plan, &mut workers, &mut lenders, &mut table);
+    let came = take_all(
+        tools.rt,
+        spares,
+        plan,
+        &mut workers,
+        &mut lenders,
+        &mut table,
+    );
     *into = GotTable::from_vec(table);
     let end = take_back(tools.rt, plan, workers, &mut back);
     Served {

@@ -40,7 +40,7 @@ pub(crate) struct ReadWorker<'a, D: Disk> {
 #[derive(Drop)]
 pub(crate) struct Supply<D: Drop> {
     pub parts: Vec<D>,
-    pub spares: Vec<LineTake<Blob>>,
+    pub lines: Vec<LineTake<Blob>>,
 }
 
 /// Hands each part to the helper of its number, up to the first for which there is none. That one and those behind it are the rest.
@@ -67,7 +67,7 @@ pub(crate) fn hand_all<'a, R: Wait, D: Disk, G, P: Send + Drop>(
     ensures domains { map (λ worker. domain_of worker) shares.new.workers.items ≡ take (length shares.new.workers.items) domains.now }
     ensures workers { (worker : ReadWorker D) → In shares.new.workers.items worker → IsFresh plan.now worker }
 {
-    let Supply { parts, mut spares } = supply;
+    let Supply { parts, mut lines } = supply;
     for part in parts {
         if shares.rest.is_empty() {
             let number = shares.workers.len();
@@ -75,7 +75,7 @@ pub(crate) fn hand_all<'a, R: Wait, D: Disk, G, P: Send + Drop>(
                 number: number as u32,
                 domain: domains[number],
             };
-            match hand_one(tools, helpers, plan, aggregator, part, spares.pop()) {
+            match hand_one(tools, helpers, plan, aggregator, part, lines.pop()) {
                 Ok(worker) => shares.workers.push_reserved(worker),
                 Err(part) => shares.rest.push_reserved(part),
             }

@@ -19,7 +19,7 @@ ghost use Rattle.exchange_crew.specs.Parts.{part_state, SomeZip};
 use crate::collecting::collect_entries;
 use crate::walk::{ReadTurn, ReadWalk};
 use aggregator_rounds::get_window;
-use exchange_crew::{Aggregator, GetPlan, Tools, longest_window, next_window};
+use exchange_crew::{Aggregator, GetPlan, Spares, Tools, longest_window, next_window};
 use nc_base::{BlobList, Extent, GotTable};
 use nc_outside::{Disk, DiskErr, Gate, Point};
 use std::alloc::Global;
@@ -35,6 +35,7 @@ struct ReadRoom {
 /// Reads the parts one after another, by one buffer, up to the first fault. They come back in order. The first has this number.
 pub(crate) fn get_in_turn<R: Wait, D: Disk, G: Gate>(
     tools: &Tools<R, G>,
+    spares: &mut Spares,
     plan: &GetPlan,
     first: u32,
     domains: &[Extent],
@@ -57,7 +58,7 @@ pub(crate) fn get_in_turn<R: Wait, D: Disk, G: Gate>(
         return (parts, Err(DiskErr::Memory));
     };
     let size = longest_window(plan.hints.cb_buffer, domains) as usize;
-    let Ok(buf) = vec![in tools.alloc; 0; size] else {
+    let Ok(buf) = spares.take(tools.alloc, size) else {
         return (parts, Err(DiskErr::Memory));
     };
     let mut room = ReadRoom {
@@ -65,7 +66,9 @@ pub(crate) fn get_in_turn<R: Wait, D: Disk, G: Gate>(
         buf,
     };
     let came = read_parts(tools, plan, first, domains, parts, back, &mut room);
-    *into = GotTable::from_vec(room.table);
+    let ReadRoom { table, buf } = room;
+    *into = GotTable::from_vec(table);
+    spares.keep(buf);
     came
 }
 

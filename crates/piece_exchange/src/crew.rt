@@ -1,6 +1,6 @@
 // The helpers of a run.
 use crossbeam_channel::{Receiver, Sender};
-use exchange_crew::{Errand, STACK_SIZE, Tools};
+use exchange_crew::{Errand, STACK_SIZE, Spares, Tools};
 use get_exchange::GetJob;
 use nc_outside::{Disk, Gate};
 use put_exchange::PutJob;
@@ -10,13 +10,28 @@ use std::sync::Wait;
 use std::thread;
 use std::thread::{Builder, Scope, Threads};
 
-/// Helpers of a run, by their numbers from 0. They are started as steps want them, in the scope of the run's threads, and wait for jobs from
-/// then on. They end once this is dropped, so it has to be dropped inside that scope.
+/// Helpers of a run, by their numbers from 0, and the buffers that its steps have left. Helpers are started as steps want them, in the scope
+/// of the run's threads, and wait for jobs from then on. They end once this is dropped, so it has to be dropped inside that scope.
 #[derive(Drop)]
 pub struct Crew<'s, E, R, G, D: Disk> {
     scope: Option<&'s Scope<'s, E>>,
     tools: &'s Tools<'s, R, G>,
     lines: Vec<Sender<Errand<PutJob<D>, GetJob<D>>>>,
+    spares: Spares,
+}
+
+/// What a step has of a crew: the lines to its helpers, and the buffers that steps have left.
+#[derive(Drop)]
+pub struct Reached<'c, D: Disk> {
+    pub helpers: &'c [Sender<Errand<PutJob<D>, GetJob<D>>>],
+    pub spares: &'c mut Spares,
+}
+
+impl<'s, R: Threads + Wait + Sync, G: Gate, D: Disk + 's> Crew<'s, (), R, G, D> {
+    /// One that never has a helper.
+    pub fn alone(tools: &'s Tools<'s, R, G>) -> Self {
+        Crew::new(None, tools)
+    }
 }
 
 impl<'s, E, R: Threads + Wait + Sync, G: Gate, D: Disk + 's> Crew<'s, E, R, G, D> {
@@ -26,11 +41,13 @@ impl<'s, E, R: Threads + Wait + Sync, G: Gate, D: Disk + 's> Crew<'s, E, R, G, D
             scope,
             tools,
             lines: Vec::new(tools.alloc),
+            spares: Spares::new(tools.alloc),
         }
     }
 
-    /// The lines to the first helpers, so many of them, which are started where they are missing. They are fewer where no more can be had.
-    pub fn reach(&mut self, count: usize) -> &[Sender<Errand<PutJob<D>, GetJob<D>>>] {
+    /// The first helpers, so many of them, which are started where they are missing, and the buffers. The helpers are fewer where no more
+    /// can be had.
+    pub fn reach(&mut self, count: usize) -> Reached<'_, D> {
         if let Some(scope) = self.scope {
             for _ in self.lines.len()..count {
                 let Some(line) = start(scope, self.tools) else {
@@ -42,7 +59,10 @@ impl<'s, E, R: Threads + Wait + Sync, G: Gate, D: Disk + 's> Crew<'s, E, R, G, D
             }
         }
         let reached = self.lines.len().min(count);
-        &self.lines[..reached]
+        Reached {
+            helpers: &self.lines[..reached],
+            spares: &mut self.spares,
+        }
     }
 }
 

@@ -5,7 +5,7 @@
 
 mod crew;
 
-pub use crew::Crew;
+pub use crew::{Crew, Reached};
 pub use exchange_crew::{GetPlan, PutPlan, SharedJob, Tools};
 pub use get_exchange::exchange_get;
 pub use put_exchange::exchange_put;

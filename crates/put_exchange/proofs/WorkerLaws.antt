@@ -38,7 +38,7 @@ fed_domains old new long fed = map_new (λ worker. domain_of worker) (λ a b. Ha
 
 -- the windows of a domain lie on its part, and fit a buffer
 pub plan_due : (batches : List Batch) (list : List Owned) (cover : List Extent) (size from len room : ℕ) (domain : Extent) → IsPlan batches list cover size → IsDomainOf list from len domain
-    → room ≡ min size domain.len → AreDue from len room (turns_of size domain cover)
+    → min size domain.len ≤ room → AreDue from len room (turns_of size domain cover)
 plan_due batches list cover size from len room domain p d e = record {
   on_part = plan_on batches list cover size from len domain p d;
   short = λ t m. let short = (turn_in list (min size domain.len) (turns_of size domain cover) t (plan_turns batches list cover size domain p) m).short in omega arith;

@@ -15,20 +15,21 @@ use crate::in_turn::put_in_turn;
 use crate::results::take_back;
 use crate::sending::send_all;
 use crossbeam_channel::Sender;
-use exchange_crew::{Errand, PutPlan, Shares, Tools, give_back, make_rooms};
+use exchange_crew::{Errand, PutPlan, Shares, Spares, Tools, give_back, make_rooms};
 use nc_base::Extent;
 use nc_outside::{Disk, DiskErr, Gate};
 use std::sync::Wait;
 
 /// Does the puts of a plan on the parts of a disk. Each part is handed to a helper of its own, over the domain at its place, and the pieces
 /// go to it in messages, over a line of so many as the hints say. From the first part on for which there is no helper the parts are served
-/// in turn, under the same clauses; all are, where the hints have no threads or there is one part alone.
+/// in turn, under the same clauses. Buffers come from the spare ones, and are kept for the next step.
 ///
 /// The parts come back in order. Refused, each byte of a part is old or new, and the fault is the first of the parts'; `Memory` comes
 /// also where a list of the parts or a buffer can't be had.
 pub fn exchange_put<R: Wait, D: Disk, G: Gate, K: Send + Drop>(
     tools: &Tools<R, G>,
     helpers: &[Sender<Errand<PutJob<D>, K>>],
+    spares: &mut Spares,
     plan: &PutPlan,
     domains: &[Extent],
     parts: Vec<D>,
@@ -43,12 +44,12 @@ pub fn exchange_put<R: Wait, D: Disk, G: Gate, K: Send + Drop>(
         (part_state D.Disk p.0) (part_state D.Disk new) result.1) (zip parts.items domains.now) result.0.items }
     ensures failed { IsErrOf result.1 Failed → SomeZip (λ old new. Rose (D.faults old) (D.faults new)) parts.items result.0.items }
 {
-    if !plan.hints.threads || parts.len() < 2 {
-        return put_in_turn(tools, plan, 0, domains, parts);
+    if helpers.is_empty() {
+        return put_in_turn(tools, spares, plan, 0, domains, parts);
     }
     match make_rooms(tools.alloc, parts.len()) {
-        Ok(shares) => put_helped(tools, helpers, plan, domains, parts, shares),
-        Err(_) => put_in_turn(tools, plan, 0, domains, parts),
+        Ok(shares) => put_helped(tools, helpers, spares, plan, domains, parts, shares),
+        Err(_) => put_in_turn(tools, spares, plan, 0, domains, parts),
     }
 }
 
@@ -56,6 +57,7 @@ pub fn exchange_put<R: Wait, D: Disk, G: Gate, K: Send + Drop>(
 fn put_helped<R: Wait, D: Disk, G: Gate, K: Send + Drop>(
     tools: &Tools<R, G>,
     helpers: &[Sender<Errand<PutJob<D>, K>>],
+    spares: &mut Spares,
     plan: &PutPlan,
     domains: &[Extent],
     parts: Vec<D>,
@@ -76,9 +78,9 @@ fn put_helped<R: Wait, D: Disk, G: Gate, K: Send + Drop>(
         mut back,
         rest,
         end,
-    } = put_served(tools, helpers, plan, domains, parts, shares);
+    } = put_served(tools, helpers, spares, plan, domains, parts, shares);
     let served = back.len();
-    let (others, other) = put_in_turn(tools, plan, served as u32, &domains[served..], rest);
+    let (others, other) = put_in_turn(tools, spares, plan, served as u32, &domains[served..], rest);
     give_back(others, &mut back);
     (back, end.and(other))
 }
@@ -95,6 +97,7 @@ struct Served<D: Drop> {
 fn put_served<R: Wait, D: Disk, G: Gate, K: Send + Drop>(
     tools: &Tools<R, G>,
     helpers: &[Sender<Errand<PutJob<D>, K>>],
+    spares: &mut Spares,
     plan: &PutPlan,
     domains: &[Extent],
     parts: Vec<D>,
@@ -115,13 +118,13 @@ fn put_served<R: Wait, D: Disk, G: Gate, K: Send + Drop>(
     ensures failed { IsErrOf result.end Failed → SomeZip (λ old new. Rose (D.faults old) (D.faults new)) (take (length result.back.items) parts.items) result.back.items }
 {
     let mut shares = shares;
-    hand_all(tools, helpers, plan, domains, parts, &mut shares);
+    hand_all(tools, helpers, spares, plan, domains, parts, &mut shares);
     let Shares {
         mut workers,
         rest,
         mut back,
     } = shares;
     send_all(tools.rt, &mut workers);
-    let end = take_back(tools.rt, plan, workers, &mut back);
+    let end = take_back(tools.rt, spares, plan, workers, &mut back);
     Served { back, rest, end }
 }

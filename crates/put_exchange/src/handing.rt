@@ -14,7 +14,7 @@ use crate::message::Message;
 use crate::packing::{Ahead, Mail, mail_of};
 use crate::sending::Feed;
 use crossbeam_channel::Sender;
-use exchange_crew::{Aggregator, Errand, PartBack, PartEnds, PutPlan, Shares, Tools};
+use exchange_crew::{Aggregator, Errand, PartBack, PartEnds, PutPlan, Shares, Spares, Tools};
 use nc_base::Extent;
 use nc_outside::Disk;
 use promised_reply::{Awaited, reply};
@@ -40,6 +40,7 @@ pub(crate) struct Worker<D: Disk> {
 pub(crate) fn hand_all<R: Wait, D: Disk, G, K: Send + Drop>(
     tools: &Tools<R, G>,
     helpers: &[Sender<Errand<PutJob<D>, K>>],
+    spares: &mut Spares,
     plan: &PutPlan,
     domains: &[Extent],
     parts: Vec<D>,
@@ -69,7 +70,7 @@ pub(crate) fn hand_all<R: Wait, D: Disk, G, K: Send + Drop>(
                 number: number as u32,
                 domain: domains[number],
             };
-            match hand_one(tools, helpers, plan, aggregator, part, &mut ahead) {
+            match hand_one(tools, helpers, spares, plan, aggregator, part, &mut ahead) {
                 Ok(worker) => shares.workers.push_reserved(worker),
                 Err(part) => shares.rest.push_reserved(part),
             }
@@ -84,6 +85,7 @@ pub(crate) fn hand_all<R: Wait, D: Disk, G, K: Send + Drop>(
 fn hand_one<'a, R: Wait, D: Disk, G, K: Send + Drop>(
     tools: &Tools<R, G>,
     helpers: &[Sender<Errand<PutJob<D>, K>>],
+    spares: &mut Spares,
     plan: &PutPlan<'a>,
     aggregator: Aggregator,
     part: D,
@@ -111,7 +113,7 @@ fn hand_one<'a, R: Wait, D: Disk, G, K: Send + Drop>(
         return Err(part);
     };
     let room = plan.hints.cb_buffer.min(domain.len) as usize;
-    let Ok(buf) = vec![in tools.alloc; 0; room] else {
+    let Ok(buf) = spares.take(tools.alloc, room) else {
         return Err(part);
     };
     let ends = PartEnds {

@@ -19,7 +19,7 @@ ghost use Rattle.put_exchange.specs.Taken.{put_window, IsFilledBy};
 ghost use Rattle.exchange_crew.specs.Turns.{source_of};
 
 use aggregator_rounds::{close_window, lay_entry, open_window};
-use exchange_crew::{Aggregator, PutPlan, Tools, Turn, TurnWalk, longest_window};
+use exchange_crew::{Aggregator, PutPlan, Spares, Tools, Turn, TurnWalk, longest_window};
 use nc_base::{Batch, Extent, Owned};
 use nc_outside::{Disk, DiskErr, Gate, Point};
 use std::alloc::Global;
@@ -107,6 +107,7 @@ fn lay_piece(hull: Extent, entry: &Owned, batches: &[Batch], buf: &mut [u8])
 /// Serves the parts one after another, by one buffer, up to the first fault. They come back in order. The first has this number.
 pub(crate) fn put_in_turn<R: Wait, D: Disk, G: Gate>(
     tools: &Tools<R, G>,
+    spares: &mut Spares,
     plan: &PutPlan,
     first: u32,
     domains: &[Extent],
@@ -126,7 +127,7 @@ pub(crate) fn put_in_turn<R: Wait, D: Disk, G: Gate>(
         Err(_) => return (parts, Err(DiskErr::Memory)),
     };
     let size = longest_window(plan.hints.cb_buffer, domains) as usize;
-    let mut buf = match vec![in tools.alloc; 0; size] {
+    let mut buf = match spares.take(tools.alloc, size) {
         Ok(buf) => buf,
         Err(_) => return (parts, Err(DiskErr::Memory)),
     };
@@ -141,6 +142,7 @@ pub(crate) fn put_in_turn<R: Wait, D: Disk, G: Gate>(
         back.push_reserved(part);
         end = came;
     }
+    spares.keep(buf);
     (back, end)
 }
 

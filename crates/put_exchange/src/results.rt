@@ -11,14 +11,17 @@ ghost use Rattle.put_exchange.specs.Workers.{domain_of, part_of, IsFed};
 ghost use Rattle.put_exchange.specs.declared.handing.Worker.{Worker};
 
 use crate::handing::Worker;
-use exchange_crew::{PartBack, PartEnds, PutPlan};
+use crate::helper::PutLines;
+use exchange_crew::{PartBack, PartEnds, PutPlan, Spares};
 use nc_outside::{Disk, DiskErr};
 use ruled_line::settle;
 use std::sync::Wait;
 
 /// Takes the parts back from the helpers, which were sent their messages, in order, and the first fault among them, if there was one.
+/// Their buffers are kept.
 pub(crate) fn take_back<R: Wait, D: Disk>(
     rt: &R,
+    spares: &mut Spares,
     plan: &PutPlan,
     workers: Vec<Worker<D>>,
     back: &mut Vec<D>,
@@ -35,15 +38,20 @@ pub(crate) fn take_back<R: Wait, D: Disk>(
 {
     let mut end = Ok(());
     for worker in workers {
-        let (part, came) = take_one(rt, plan, worker);
+        let (part, came) = take_one(rt, spares, plan, worker);
         back.push_reserved(part);
         end = end.and(came);
     }
     end
 }
 
-// Takes the part of a helper back, and ends its line. What was taken is what was put, so the part has it.
-fn take_one<R: Wait, D: Disk>(rt: &R, plan: &PutPlan, worker: Worker<D>) -> (D, Result<(), DiskErr>)
+// Takes the part of a helper back, keeps its buffer, and ends its line. What was taken is what was put, so the part has it.
+fn take_one<R: Wait, D: Disk>(
+    rt: &R,
+    spares: &mut Spares,
+    plan: &PutPlan,
+    worker: Worker<D>,
+) -> (D, Result<(), DiskErr>)
     requires plan { IsPlanned plan.now }
     requires worker { IsFed D.Disk plan.now worker }
     ensures put { HasPut (source_in plan.now) plan.now.list.now (planned_turns plan.now (domain_of worker))
@@ -53,6 +61,8 @@ fn take_one<R: Wait, D: Disk>(rt: &R, plan: &PutPlan, worker: Worker<D>) -> (D, 
     let Worker { helper, feed } = worker;
     let PartBack { ends, end } = helper.awaited.take(rt);
     let PartEnds { part, lines } = ends;
-    settle(feed.line, lines.line);
+    let PutLines { line, buf } = lines;
+    settle(feed.line, line);
+    spares.keep(buf);
     (part, end)
 }

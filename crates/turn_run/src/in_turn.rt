@@ -52,15 +52,8 @@ pub fn run_in_turn<'a, R: Threads + Wait + Sync, D: Disk, G: Gate>(
     ensures run { RunsOn D.Disk script.now header.now disk.old disk.new records.new result }
 {
     let tools = Tools { rt, alloc, gate };
-    let mut crew = without_helpers(&tools);
+    let mut crew = Crew::alone(&tools);
     run_in_turn_told(&tools, &mut crew, disk, header, records, script, &mut Deaf)
-}
-
-// Nobody starts a helper where there is no scope.
-fn without_helpers<'s, R: Threads + Wait + Sync, D: Disk + 's, G: Gate>(
-    tools: &'s Tools<'s, R, G>,
-) -> Crew<'s, (), R, G, D> {
-    Crew::new(None, tools)
 }
 
 /// Runs the ranks as `run_in_turn` does, with the helpers of a crew, and tells each step once it is done: its mark, with the file's

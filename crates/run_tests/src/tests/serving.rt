@@ -61,7 +61,7 @@ fn served_by<'s, R: Abort + Threads + Wait + Sync>(
     let header = placed(tools.rt, tools.alloc, 4, NcType::Int);
     is_long(tools.rt, &header, disk);
     let mut records = header.records;
-    let mut crew = Crew::<(), R, OpenGate, MemDisk>::new(None, tools);
+    let mut crew = Crew::<(), R, OpenGate, MemDisk>::alone(tools);
     serve(
         tools,
         &mut crew,

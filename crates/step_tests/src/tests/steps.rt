@@ -221,7 +221,7 @@ fn put_without_helpers<'s, R: Abort + Threads + Wait + Sync>(
         measures: &measures,
         hints: &hints,
     };
-    let mut crew = Crew::<(), R, OpenGate, MemDisk>::new(None, tools);
+    let mut crew = Crew::<(), R, OpenGate, MemDisk>::alone(tools);
     let mut records = 0;
     let end = put_all(tools, &mut crew, disk, &dataset, &mut records, &job);
     (end, records)

@@ -9,8 +9,8 @@ returns-in_default-clause-got g c =
     (λ p domain. got_untouched (get_turns c.args.plan.now domain)
     (part_state g.D.Disk p) _)
 
-pub returns-in_default-vec-clause-got : goal.returns-in_default-vec-clause-got
-returns-in_default-vec-clause-got g c =
+pub returns-in_default-take-clause-got : goal.returns-in_default-take-clause-got
+returns-in_default-take-clause-got g c =
     zip_same _ c.args.parts.items c.args.domains.now c.requires.one_each
     (λ p domain. got_untouched (get_turns c.args.plan.now domain)
     (part_state g.D.Disk p) _)

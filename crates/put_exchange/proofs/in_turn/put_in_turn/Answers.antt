@@ -1,5 +1,5 @@
 -- One part more was served.
-use Rattle.put_exchange.proofs.Words.{◌≡◌, ◌<◌, ◌∙◌, ◌++◌, ◌∷◌, [], sym, ap, subst, length, append_assoc, get_or, List, Result, rules, arith, slice_get_within, common_steps, zip, AllZip, Extent, Rose, DiskErr, at_in, planned_turns, source_in, part_state, HasPut, middle_at, at_index, back_more, both_long, failed_more, zip_push, zip_same}
+use Rattle.put_exchange.proofs.Words.{◌≡◌, ◌<◌, ◌≤◌, ◌∙◌, ◌++◌, ◌∷◌, [], sym, ap, subst, length, append_assoc, get_or, List, Result, rules, arith, slice_get_within, common_steps, zip, AllZip, Extent, Rose, DiskErr, at_in, planned_turns, source_in, part_state, HasPut, middle_at, at_index, back_more, both_long, failed_more, zip_push, zip_same}
 use Rattle.put_exchange.proofs.PutLaws.{put_later, put_untouched}
 use Rattle.put_exchange.proofs.in_turn.put_in_turn.Goals as goal
 
@@ -12,8 +12,8 @@ returns-in-Err-clause-put g c =
     (λ p domain. put_untouched (source_in c.args.plan.now) c.args.plan.now.list.now (planned_turns c.args.plan.now domain)
     (part_state g.D.Disk p) _)
 
-pub returns-in-Err-vec-clause-put : goal.returns-in-Err-vec-clause-put
-returns-in-Err-vec-clause-put g c =
+pub returns-in-Err-take-clause-put : goal.returns-in-Err-take-clause-put
+returns-in-Err-take-clause-put g c =
     zip_same _ c.args.parts.items c.args.domains.now c.requires.one_each
     (λ p domain. put_untouched (source_in c.args.plan.now) c.args.plan.now.list.now (planned_turns c.args.plan.now domain)
     (part_state g.D.Disk p) _)
@@ -41,7 +41,7 @@ serve_next-part-requires-clause-room g c κs within =
     let most = c.longest_window-size.ensures domain (at_in c.args.domains.now c.len-number.result domain at) in
     let lent = ap (λ (v : List _). length v) c.deref_mut.ensures.value in
     let kept = c.loop-part.invariant.buf in
-    let made : length c.in-Ok-vec.buf.items ≡ c.longest_window-size.result = first_of (search rules, grind (arith, common_steps)) in
+    let made : c.longest_window-size.result ≤ length c.in-Ok-take.buf.items = first_of (search rules, grind (arith, common_steps)) in
     omega arith
 
 pub loop-part-preserved : goal.loop-part-preserved
