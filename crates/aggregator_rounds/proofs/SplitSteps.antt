@@ -6,10 +6,9 @@ use Rattle.aggregator_rounds.proofs.PastSteps.{past_front}
 -- ---- members by index
 
 pub taken_at : {X : Type 0} (n : ℕ) (xs : List X) (x : X) → In (take n xs) x → (i : ℕ) × (i < n) × (slice_get xs i ≡ Some x)
-taken_at zero xs x h = absurd h
-taken_at (suc n) [] x h = absurd h
 taken_at (suc n) (y ∷ xs) x (inl e) = (zero, omega arith, ap Some e)
 taken_at (suc n) (y ∷ xs) x (inr h) = let r = taken_at n xs x h in let l = r.1 in (suc r.0, omega arith, r.2)
+taken_at _ _ x h = absurd h
 
 pub none_got : {X : Type 0} (xs : List X) → slice_get xs 0 ≡ None → xs ≡ []
 none_got [] h = refl
@@ -30,14 +29,13 @@ extents_dropped (suc n) (o ∷ list) e h = inr (extents_dropped n list e h)
 -- those from the one on that begins at the place or later
 later_all : (n place : ℕ) (list : List Owned) → IsByPlace (extents list) → ((o : Owned) → slice_get list n ≡ Some o → place ≤ o.extent.at)
     → (o : Owned) → In (drop n list) o → place ≤ o.extent.at
-later_all zero place [] h k o m = absurd m
 later_all zero place (p ∷ list) h k o (inl e) = k o (ap Some e)
 later_all zero place (p ∷ list) h k o (inr m) =
     let first = k p refl in
     let above = h.0 o.extent (in_extents list o m) in
     omega arith
-later_all (suc n) place [] h k o m = absurd m
 later_all (suc n) place (p ∷ list) h k o m = later_all n place list h.1 k o m
+later_all _ place _ h k o m = absurd m
 
 -- no entry begins before the first
 pub first_begins : (list : List Owned) (first o : Owned) → IsByPlace (extents list) → slice_get list 0 ≡ Some first → In list o → first.extent.at ≤ o.extent.at
