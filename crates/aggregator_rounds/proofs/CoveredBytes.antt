@@ -1,5 +1,5 @@
 -- The bytes that entries have.
-use Rattle.aggregator_rounds.proofs.Words.{◌≡◌, ℕ, ◌<◌, ◌≤◌, ◌⊎◌, inl, inr, refl, sym, subst, List, [], ◌∷◌, ◌++◌, arith, ◌+◌, ◌-◌, length, Bool, true, false, range_with_len, Owned, In, ranges, IsAscending, extents, EndBelow, in_left, in_right, in_either, in_flat, flat_in, in_range, range_low, range_high, IsCovered, IsPast, BeginBefore, in_extents, nat_lt}
+use Rattle.aggregator_rounds.proofs.Words.{◌≡◌, ℕ, ◌<◌, ◌≤◌, ◌⊎◌, inl, inr, refl, sym, subst, List, [], ◌∷◌, ◌++◌, arith, ◌+◌, ◌-◌, length, Bool, true, false, range_with_len, Owned, In, ranges, IsAscending, extents, EndBelow, in_left, in_right, in_either, in_flat, flat_in, in_range, range_low, range_high, IsCovered, IsPast, BeginBefore, in_extents, nat_lt, nat_tests}
 use Rattle.aggregator_rounds.proofs.PastSteps.{past_in, past_kept}
 use borrow.Author.Tests.{ltb-true, ltb-false}
 
@@ -12,11 +12,7 @@ pub covered_right : (a b : List Owned) (x : ℕ) → IsCovered b x → IsCovered
 covered_right a b x h = record { by = h.by; inside = in_right a b h.by h.inside; low = h.low; high = h.high }
 
 pub covered_either : (a b : List Owned) (x : ℕ) → IsCovered (a ++ b) x → IsCovered a x ⊎ IsCovered b x
-covered_either a b x h =
-    elim (in_either a b h.by h.inside) [
-      | inl g ↦ inl (record { by = h.by; inside = g; low = h.low; high = h.high })
-      | inr g ↦ inr (record { by = h.by; inside = g; low = h.low; high = h.high })
-    ]
+covered_either a b x h = grind (arith, nat_tests, in_either)
 
 pub in_ranges : (list : List Owned) (x : ℕ) → IsCovered list x → In (ranges list) x
 in_ranges list x h =
@@ -28,10 +24,7 @@ ranges_in list x h =
     record { by = r.0; inside = r.1; low = range_low r.0.extent.at r.0.extent.len x r.2; high = range_high r.0.extent.at r.0.extent.len x r.2 }
 
 pub covered_below : (n : ℕ) (list : List Owned) (x : ℕ) → EndBelow n (extents list) → IsCovered list x → x < n
-covered_below n list x h c =
-    let e = h c.by.extent (in_extents list c.by c.inside) in
-    let l = c.high in
-    omega arith
+covered_below n list x h c = grind (arith, nat_tests, in_extents)
 
 -- ---- what is left
 

@@ -1,5 +1,5 @@
 -- Entries as cells: what they say, and where they lie.
-use Rattle.aggregator_rounds.proofs.Words.{◌≡◌, ℕ, ◌+◌, ◌-◌, ◌<◌, ◌≤◌, inl, inr, refl, sym, ◌∙◌, ap, subst, List, [], ◌∷◌, ◌++◌, length, take, drop, get_or, Bool, true, false, Option, Some, None, arith, map-append, length-take, length-drop, map, nat_lt, enumerate_from, option_or, said_below, said_past, said_inside, said_append, neither_some, second_counts, first_counts, Owned, Cell, said_at, said_by, IsFrom, IsWithin, clips, HasPlace, In, Source, cell_of, AreFound, clips_in, said_joined, IsCovered}
+use Rattle.aggregator_rounds.proofs.Words.{◌≡◌, ℕ, ◌+◌, ◌-◌, ◌<◌, ◌≤◌, inl, inr, refl, sym, ◌∙◌, ap, subst, List, [], ◌∷◌, ◌++◌, length, take, drop, get_or, Option, Some, None, arith, map-append, length-take, length-drop, map, enumerate_from, option_or, said_below, said_past, said_inside, said_append, neither_some, second_counts, first_counts, Owned, Cell, said_at, said_by, IsFrom, IsWithin, clips, HasPlace, In, Source, cell_of, AreFound, clips_in, said_joined, IsCovered, nat_tests}
 use borrow.Author.Tests.{ltb-true, ltb-false}
 use Rattle.aggregator_rounds.proofs.CoveredBytes.{covered_right}
 
@@ -14,15 +14,7 @@ entries_two source a b x =
     ap (λ cells. said_at (said_by cells) x) (map-append (λ o. cell_of source o) a b) ∙ said_joined (entry_cells source a) (entry_cells source b) x
 
 outside : (p n x : ℕ) (b : List ℕ) → length b ≤ n → (p ≤ x → x < p + n → ⊥) → said_at (enumerate_from p b) x ≡ None
-outside p n x b l h = by_front (nat_lt x p) refl
-  where
-    by_back : (t : Bool) → nat_lt x (p + n) ≡ t → p ≤ x → said_at (enumerate_from p b) x ≡ None
-    by_back true e g = absurd (h g (ltb-true _ _ e))
-    by_back false e g = let past : p + n ≤ x = ltb-false _ _ e in said_past p b x (omega arith)
-
-    by_front : (t : Bool) → nat_lt x p ≡ t → said_at (enumerate_from p b) x ≡ None
-    by_front true e = said_below p b x (ltb-true _ _ e)
-    by_front false e = by_back (nat_lt x (p + n)) refl (ltb-false _ _ e)
+outside p n x b l h = grind (arith, nat_tests, ltb-true, ltb-false, said_past, said_below)
 
 -- nothing is said of a byte that no entry has
 pub unsaid : (source : Source) (list : List Owned) (x : ℕ) → (IsCovered list x → ⊥) → said_at (said_by (entry_cells source list)) x ≡ None
@@ -37,12 +29,7 @@ unsaid source (o ∷ list) x h =
 said_of : (source : Source) (list : List Owned) (x : ℕ) (o : Owned) → AreFound source list → In list o → o.extent.at ≤ x → x < o.extent.at + o.extent.len
     → HasPlace (entry_cells source list) x
 said_of source [] x o f m l h = absurd m
-said_of source (p ∷ list) x o f (inr m) l h =
-    let r = said_of source list x o f.1 m l h in (
-      r.0,
-      said_append (enumerate_from p.extent.at (take p.extent.len (drop p.from (source p.rank p.slot)))) (said_by (entry_cells source list)) x
-          ∙ first_counts (said_at (said_by (entry_cells source list)) x) _ r.0 r.1,
-    )
+said_of source (p ∷ list) x o f (inr m) l h = grind (arith, nat_tests, said_of source list x o f.1 m l h, said_append, first_counts)
 said_of source (p ∷ list) x o f (inl e) l h = by_rest (said_at (said_by (entry_cells source list)) x) refl
   where
     low : p.extent.at ≤ x

@@ -1,5 +1,5 @@
 -- Parts of entries, and entries laid over a buffer one by one.
-use Rattle.aggregator_rounds.proofs.Words.{◌≡◌, ℕ, zero, suc, ◌+◌, ◌-◌, ◌<◌, ◌≤◌, refl, sym, ◌∙◌, ap, subst, List, [], ◌∷◌, length, take, drop, get_or, Bool, true, false, min, slice_get, arith, set, take-take, take_all, drop-drop, length-take, get_or_default, nat_lt, slice_get-get_or, Owned, Post, written, Cell, write_cells, moved_down, clip, Source, cell_of, AreFound, bytes_of_post, source_of, part_at, part_in, blob_at, buffer_cell}
+use Rattle.aggregator_rounds.proofs.Words.{◌≡◌, ℕ, zero, suc, ◌+◌, ◌-◌, ◌<◌, ◌≤◌, refl, sym, ◌∙◌, ap, subst, List, [], ◌∷◌, length, take, drop, get_or, min, slice_get, arith, set, take-take, take_all, drop-drop, length-take, get_or_default, slice_get-get_or, Owned, Post, written, Cell, write_cells, moved_down, clip, Source, cell_of, AreFound, bytes_of_post, source_of, part_at, part_in, blob_at, buffer_cell, nat_tests}
 use borrow.Author.Tests.{ltb-true, ltb-false}
 
 -- ---- slices of slices
@@ -15,17 +15,7 @@ drop_taken (suc k) (suc n) [] = sym (take_none (suc n - suc k))
 drop_taken (suc k) (suc n) (x ∷ xs) = let e : n - k ≡ suc n - suc k = omega arith in drop_taken k n xs ∙ ap (λ (m : ℕ). take m (drop k xs)) e
 
 take_least : {X : Type 0} (m n : ℕ) (xs : List X) → take m (take n xs) ≡ take (min m n) xs
-take_least {X} m n xs = by_least (nat_lt n m) refl
-  where
-    by_least : (t : Bool) → nat_lt n m ≡ t → take m (take n xs) ≡ take (min m n) xs
-    by_least true f =
-        let more : n < m = ltb-true _ _ f in
-        let same : n ≡ min m n = omega arith in
-        take_all m (take n xs) (omega (arith, length-take n xs)) ∙ ap (λ (k : ℕ). take k xs) same
-    by_least false f =
-        let less : m ≤ n = ltb-false _ _ f in
-        let same : m ≡ min m n = omega arith in
-        take-take m n xs less ∙ ap (λ (k : ℕ). take k xs) same
+take_least m n xs = grind (arith, nat_tests, ltb-true, take_all, length-take, ltb-false, take-take)
 
 -- ---- the part of an entry
 
@@ -78,11 +68,7 @@ found_at source (o ∷ list) (suc i) d l f = found_at source list i d (omega ari
 -- the part of an entry laid over a buffer is its cell in the window
 pub laid_entry : (lo hi : ℕ) (source : Source) (o p : Owned) (post bytes buf now : List ℕ) → p ≡ part_in lo hi o → bytes ≡ take p.extent.len (drop p.from post)
     → post ≡ source o.rank o.slot → now ≡ written buf (p.extent.at - lo) bytes → now ≡ write_cells buf (moved_down lo (clip lo hi (cell_of source o) ∷ []))
-laid_entry lo hi source o p post bytes buf now part is of laid =
-    laid
-    ∙ ap (λ (b : List ℕ). written buf (p.extent.at - lo) b) (is ∙ ap (λ (b : List ℕ). take p.extent.len (drop p.from b)) of)
-    ∙ ap (λ (q : Owned). written buf (q.extent.at - lo) (take q.extent.len (drop q.from (source o.rank o.slot)))) part
-    ∙ ap (λ (b : List ℕ). written buf (part_at lo hi o - lo) b) (part_bytes lo hi o (source o.rank o.slot))
+laid_entry lo hi source o p post bytes buf now part is of laid = grind (arith, nat_tests, part_bytes)
 
 -- a part lies in its window, and in its entry's bytes
 pub part_high : (lo n : ℕ) (o p : Owned) → p ≡ part_in lo (lo + n) o → (lo ≤ p.extent.at) × (p.extent.at - lo + p.extent.len ≤ n) × (p.from + p.extent.len ≤ o.from + o.extent.len)
@@ -111,9 +97,4 @@ pub collected_entry : (lo hi : ℕ) (buf : List ℕ) (o p : Owned) (blobs : List
     → o.from + o.extent.len ≤ length (blob_at blobs o.slot) → taken ≡ get_or blobs o.slot d → p ≡ part_in lo hi o
     → bytes ≡ take p.extent.len (drop (p.extent.at - lo) buf) → now ≡ written taken p.from bytes
     → set blobs o.slot now ≡ set blobs o.slot (written (blob_at blobs o.slot) (buffer_cell lo hi buf o).0 (buffer_cell lo hi buf o).1)
-collected_entry lo hi buf o p blobs d taken bytes now some fit is part of e =
-    ap (λ (b : List ℕ). set blobs o.slot b)
-    (e
-    ∙ ap (λ (b : List ℕ). written b p.from bytes) (is ∙ get_or_default blobs o.slot d [] (slot_below blobs o some fit))
-    ∙ ap (λ (b : List ℕ). written (blob_at blobs o.slot) p.from b) of
-    ∙ ap (λ (q : Owned). written (blob_at blobs o.slot) q.from (take q.extent.len (drop (q.extent.at - lo) buf))) part)
+collected_entry lo hi buf o p blobs d taken bytes now some fit is part of e = grind (arith, nat_tests, set, get_or_default, slot_below)

@@ -1,5 +1,5 @@
 -- What is left of entries when some that end there or before are gone.
-use Rattle.aggregator_rounds.proofs.Words.{◌≡◌, ℕ, ◌+◌, ◌^◌, ◌<◌, ◌≤◌, ◌⊎◌, inl, inr, refl, sym, ◌∙◌, ap, append_assoc, length, subst, Some, slice_get, List, [], ◌∷◌, ◌++◌, Bool, true, false, cond, min, arith, filter, nat_lt, same_Some, no_none_some, Extent, Owned, In, Source, extents, EndBelow, IsByPlace, AreFound, filter_in, in_either, in_right, filter_past, IsPast}
+use Rattle.aggregator_rounds.proofs.Words.{◌≡◌, ℕ, ◌+◌, ◌^◌, ◌<◌, ◌≤◌, ◌⊎◌, inl, inr, refl, sym, ◌∙◌, ap, append_assoc, length, subst, Some, slice_get, List, [], ◌∷◌, ◌++◌, Bool, false, cond, min, arith, filter, nat_lt, same_Some, no_none_some, Extent, Owned, In, Source, extents, EndBelow, IsByPlace, AreFound, filter_in, in_either, in_right, filter_past, IsPast, nat_tests}
 use borrow.Author.Tests.{ltb-true, ltb-false}
 
 -- ---- what is gone
@@ -18,12 +18,7 @@ past_gone place (p ∷ list) rest o h = inr (list ++ rest, refl, past_gone place
 
 pub past_filter : (place : ℕ) (list rest : List Owned) → IsPast place (list ++ rest) (filter_past place list ++ rest)
 past_filter place [] rest = past_none place rest
-past_filter place (o ∷ list) rest = by_end (past_filter place list rest) (nat_lt place (o.extent.at + o.extent.len)) refl
-  where
-    by_end : IsPast place (list ++ rest) (filter_past place list ++ rest) → (t : Bool) → nat_lt place (o.extent.at + o.extent.len) ≡ t
-        → IsPast place (o ∷ (list ++ rest)) (cond t (o ∷ filter_past place list) (filter_past place list) ++ rest)
-    by_end h true e = inr (filter_past place list ++ rest, refl, h)
-    by_end h false e = inl (ltb-false _ _ e, h)
+past_filter place (o ∷ list) rest = grind (arith, nat_tests, past_filter place list rest, ltb-false)
 
 pub past_twice : (p q : ℕ) (whole left later : List Owned) → p ≤ q → IsPast p whole left → IsPast q left later → IsPast q whole later
 past_twice p q [] left later l h k = subst (λ (list : List Owned). IsPast q list later) h k
@@ -79,11 +74,7 @@ ahead_in place whole list ahead rest entry e h =
 
 -- where nothing is left all end there
 pub past_all : (place : ℕ) (whole left : List Owned) (o : Owned) → left ≡ [] → IsPast place whole left → In whole o → o.extent.at + o.extent.len ≤ place
-past_all place whole left o none h m = by_end (nat_lt place (o.extent.at + o.extent.len)) refl
-  where
-    by_end : (t : Bool) → nat_lt place (o.extent.at + o.extent.len) ≡ t → o.extent.at + o.extent.len ≤ place
-    by_end true e = absurd (subst (λ (list : List Owned). In list o) none (past_kept place whole left o h m (ltb-true _ _ e)))
-    by_end false e = ltb-false _ _ e
+past_all place whole left o none h m = grind (arith, nat_tests, past_kept, ltb-true, ltb-false)
 
 pub past_extents : (place : ℕ) (whole left : List Owned) (e : Extent) → IsPast place whole left → In (extents left) e → In (extents whole) e
 past_extents place [] left e h m = subst (λ (list : List Owned). In (extents list) e) h m
@@ -123,25 +114,12 @@ HasPassed stop carried entry now =
 
 pub passed_past : (stop : ℕ) (whole carried now ahead rest : List Owned) (entry : Owned) → ahead ≡ entry ∷ rest → HasPassed stop carried entry now
     → IsPast stop whole (carried ++ ahead) → IsPast stop whole (now ++ rest)
-passed_past stop whole carried now ahead rest entry e (inl h) p =
-    past_twice stop stop whole (carried ++ entry ∷ rest) (now ++ rest) (omega arith) (subst (λ (l : List Owned). IsPast stop whole (carried ++ l)) e p)
-    (subst (λ (l : List Owned). IsPast stop (carried ++ entry ∷ rest) (l ++ rest)) (sym h.0) (past_gone stop carried rest entry h.1))
-passed_past stop whole carried now ahead rest entry e (inr h) p =
-    subst (λ (l : List Owned). IsPast stop whole l) (sym (ap (λ (l : List Owned). l ++ rest) h.0 ∙ append_assoc carried (entry ∷ []) rest))
-    (subst (λ (l : List Owned). IsPast stop whole (carried ++ l)) e p)
+passed_past stop whole carried now ahead rest entry e xs p = grind (arith, nat_tests, past_twice, past_gone, append_assoc)
 
 pub passed_carried : (stop : ℕ) (old carried now : List Owned) (entry : Owned) → HasPassed stop carried entry now
     → ((o : Owned) → In carried o → (In old o ⊎ (o.extent.at < stop)) × (stop < o.extent.at + o.extent.len))
     → (o : Owned) → In now o → (In old o ⊎ (o.extent.at < stop)) × (stop < o.extent.at + o.extent.len)
-passed_carried stop old carried now entry (inl h) b o m = b o (subst (λ (l : List Owned). In l o) h.0 m)
-passed_carried stop old carried now entry (inr h) b o m =
-    elim (in_either carried (entry ∷ []) o (subst (λ (l : List Owned). In l o) h.0 m)) [
-      | inl g ↦ b o g
-      | inr g ↦ elim g [
-        | inl e ↦ subst (λ (q : Owned). (In old q ⊎ (q.extent.at < stop)) × (stop < q.extent.at + q.extent.len)) e (inr h.1, h.2)
-        | inr n ↦ absurd n
-      ]
-    ]
+passed_carried stop old carried now entry xs b o m = grind (arith, nat_tests, in_either)
 
 pub kept_carried : (stop : ℕ) (old now : List Owned) → now ≡ filter_past stop old
     → (o : Owned) → In now o → (In old o ⊎ (o.extent.at < stop)) × (stop < o.extent.at + o.extent.len)
@@ -168,7 +146,4 @@ none_ahead stop (p ∷ ahead) e o g = absurd (omega arith)
 pub past_short : (place : ℕ) (whole left : List Owned) → IsPast place whole left → length left ≤ length whole
 past_short place [] left h = let none = ap (λ (l : List Owned). length l) h in omega arith
 past_short place (o ∷ whole) left (inl h) = let short = past_short place whole left h.1 in omega arith
-past_short place (o ∷ whole) left (inr h) =
-    let same = ap (λ (l : List Owned). length l) h.1 in
-    let short = past_short place whole h.0 h.2 in
-    omega arith
+past_short place (o ∷ whole) left (inr h) = grind (arith, nat_tests, past_short place whole h.0 h.2)

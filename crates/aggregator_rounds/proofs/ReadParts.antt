@@ -1,5 +1,5 @@
 -- Entries of which a piece of the file was read: what their parts say, each byte once.
-use Rattle.aggregator_rounds.proofs.Words.{◌≡◌, ℕ, zero, suc, ◌+◌, ◌-◌, ◌<◌, ◌≤◌, inl, inr, refl, sym, ◌∙◌, ap, subst, List, [], ◌∷◌, take, drop, arith, min, map, enumerate_from, range_with_len, Owned, at, read, Cell, said_by, Says, IsOneValued, IsWithin, In, got_cell, says_left, says_right, says_cases, got_cells, places_of, part_at, part_in, buffer_cell, read_long}
+use Rattle.aggregator_rounds.proofs.Words.{◌≡◌, ℕ, zero, suc, ◌+◌, ◌-◌, ◌<◌, ◌≤◌, inl, inr, refl, sym, ◌∙◌, ap, subst, List, [], ◌∷◌, take, drop, arith, map, enumerate_from, range_with_len, Owned, at, read, Cell, said_by, Says, IsOneValued, IsWithin, In, got_cell, says_left, says_right, says_cases, got_cells, places_of, part_at, part_in, buffer_cell, read_long, nat_tests}
 
 -- ---- parts of bytes that were read
 
@@ -37,10 +37,7 @@ pub record IsByte (file : List ℕ) (p a m y v : ℕ) : Type 0 where
 
 read_says : (file : List ℕ) (p a m y v : ℕ) → Says (enumerate_from p (read file a m)) y v → IsByte file p a m y v
 read_says file p a zero y v h = absurd h
-read_says file p a (suc m) y v (inl h) =
-    let same : p ≡ y = h.0 in
-    let e : a + 0 ≡ a = omega arith in
-    record { index = 0; within = omega arith; place = omega arith; byte = ap (λ (k : ℕ). at file k) e ∙ h.1 }
+read_says file p a (suc m) y v (inl h) = grind (arith, nat_tests)
 read_says file p a (suc m) y v (inr h) =
     let r = read_says file (p + 1) (a + 1) m y v h in
     let l = r.within in
@@ -78,17 +75,7 @@ one_read base file lo hi o y v on h =
 -- the same between other places, of other entries, where they have the byte
 pub read_as : (base : ℕ) (file : List ℕ) (lo hi from to : ℕ) (os more : List Owned) (y v : ℕ) (r : IsRead base file lo hi os y v) → from ≤ r.place → r.place < to
     → In more r.by → IsRead base file from to more y v
-read_as base file lo hi from to os more y v r l h m = record {
-  by = r.by;
-  inside = m;
-  place = r.place;
-  low = l;
-  high = h;
-  begin = r.begin;
-  end = r.end;
-  from = r.from;
-  byte = r.byte;
-}
+read_as base file lo hi from to os more y v r l h m = grind (arith, nat_tests)
 
 read_more : (base : ℕ) (file : List ℕ) (lo hi : ℕ) (os more : List Owned) (y v : ℕ) → ((o : Owned) → In os o → In more o) → IsRead base file lo hi os y v
     → IsRead base file lo hi more y v
@@ -131,23 +118,12 @@ says_got base file lo hi os y v on r =
 range_says : (p a m j : ℕ) → j < m → Says (enumerate_from p (range_with_len a m)) (p + j) (a + j)
 range_says p a zero j h = absurd (omega arith)
 range_says p a (suc m) zero h = inl (omega arith, omega arith)
-range_says p a (suc m) (suc j) h =
-    let e : p + 1 + j ≡ p + suc j = omega arith in
-    let f : a + 1 + j ≡ a + suc j = omega arith in
-    inr (subst (λ (k : ℕ). Says (enumerate_from (p + 1) (range_with_len (a + 1) m)) (p + suc j) k) f
-    (subst (λ (k : ℕ). Says (enumerate_from (p + 1) (range_with_len (a + 1) m)) k (a + 1 + j)) e (range_says (p + 1) (a + 1) m j (omega arith))))
+range_says p a (suc m) (suc j) h = grind (arith, nat_tests, range_says (p + 1) (a + 1) m j (omega arith))
 
 place_said : (os : List Owned) (o : Owned) (x : ℕ) → In os o → o.extent.at ≤ x → x < o.extent.at + o.extent.len → Says (places_of os) (o.from + (x - o.extent.at)) x
 place_said [] o x m l h = absurd m
 place_said (p ∷ os) o x (inr m) l h = says_right (enumerate_from p.from (range_with_len p.extent.at p.extent.len)) (places_of os) (o.from + (x - o.extent.at)) x (place_said os o x m l h)
-place_said (p ∷ os) o x (inl m) l h =
-    says_left (enumerate_from p.from (range_with_len p.extent.at p.extent.len)) (places_of os) (o.from + (x - o.extent.at)) x
-    (subst (λ (q : Owned). Says (enumerate_from q.from (range_with_len q.extent.at q.extent.len)) (o.from + (x - o.extent.at)) x) (sym m)
-    (subst (λ (k : ℕ). Says (enumerate_from o.from (range_with_len o.extent.at o.extent.len)) (o.from + (x - o.extent.at)) k) place
-    (range_says o.from o.extent.at o.extent.len (x - o.extent.at) (omega arith))))
-  where
-    place : o.extent.at + (x - o.extent.at) ≡ x
-    place = omega arith
+place_said (p ∷ os) o x (inl m) l h = grind (arith, nat_tests, range_says o.from o.extent.at o.extent.len (x - o.extent.at) (omega arith), says_left)
 
 pub read_once : (base : ℕ) (file : List ℕ) (lo hi : ℕ) (os : List Owned) → ((o : Owned) → In os o → base ≤ o.extent.at) → IsOneValued (places_of os)
     → IsOneValued (said_by (parts_got base file lo hi os))
@@ -168,11 +144,7 @@ parts_within base file lo hi n (o ∷ os) h =
     (omega (arith, read_long file ((part_in lo hi o).extent.at - base) (part_in lo hi o).extent.len), parts_within base file lo hi n os (λ q m. h q (inr m)))
 
 whole_part : (place : ℕ) (o : Owned) → o.extent.at + o.extent.len ≤ place → part_in 0 place o ≡ o
-whole_part place o h =
-    let begin : part_at 0 place o ≡ o.extent.at = omega arith in
-    let long : min place (o.extent.at + o.extent.len) - part_at 0 place o ≡ o.extent.len = omega arith in
-    let from : o.from + min o.extent.len (part_at 0 place o - o.extent.at) ≡ o.from = omega arith in
-    λ i. record { extent = record { at = begin i; len = long i }; rank = o.rank; request = o.request; slot = o.slot; from = from i }
+whole_part place o h = grind (arith, nat_tests)
 
 pub whole_parts : (place : ℕ) (os : List Owned) → ((o : Owned) → In os o → o.extent.at + o.extent.len ≤ place) → map (λ o. part_in 0 place o) os ≡ os
 whole_parts place [] h = refl
@@ -189,12 +161,7 @@ got_whole file (o ∷ list) =
 
 buffer_is_read : (base : ℕ) (file buf : List ℕ) (lo n : ℕ) (o : Owned) → base ≤ lo → buf ≡ read file (lo - base) n
     → buffer_cell lo (lo + n) buf o ≡ ((part_in lo (lo + n) o).from, read file ((part_in lo (lo + n) o).extent.at - base) (part_in lo (lo + n) o).extent.len)
-buffer_is_read base file buf lo n o h e =
-    let place : lo - base + ((part_in lo (lo + n) o).extent.at - lo) ≡ (part_in lo (lo + n) o).extent.at - base = omega arith in
-    ap (λ (b : List ℕ). let c : Cell = ((part_in lo (lo + n) o).from, b) in c)
-    (ap (λ (b : List ℕ). take (part_in lo (lo + n) o).extent.len (drop ((part_in lo (lo + n) o).extent.at - lo) b)) e
-    ∙ read_part file (lo - base) n ((part_in lo (lo + n) o).extent.at - lo) (part_in lo (lo + n) o).extent.len (omega arith)
-    ∙ ap (λ (x : ℕ). read file x (part_in lo (lo + n) o).extent.len) place)
+buffer_is_read base file buf lo n o h e = grind (arith, nat_tests, read_part)
 
 pub buffer_cells : (base : ℕ) (file buf : List ℕ) (lo n : ℕ) (os : List Owned) → base ≤ lo → buf ≡ read file (lo - base) n
     → map (λ o. buffer_cell lo (lo + n) buf o) os ≡ parts_got base file lo (lo + n) os

@@ -1,5 +1,5 @@
 -- What a window leaves on a disk that may tell its bytes and its calls.
-use Rattle.aggregator_rounds.proofs.Words.{◌≡◌, ℕ, ◌+◌, ◌-◌, ◌<◌, ◌≤◌, inl, inr, refl, sym, ◌∙◌, ap, subst, List, [], ◌∷◌, length, take, drop, Bool, true, false, Option, Some, None, arith, IfSome, if◌then◌else◌, no_none_some, DiskCall, at, read, written, Cell, said_at, said_by, write_cells, IsFrom, IsWithin, moved_down, length-written_inside, HasPlace, IsBetween, IsBegun, load_calls, store_calls, cells_long, moved_said, within_lowered, kept_read, window_answer, read_slice, after, with_end, BothTold, PartlyWritten}
+use Rattle.aggregator_rounds.proofs.Words.{◌≡◌, ℕ, ◌+◌, ◌-◌, ◌<◌, ◌≤◌, refl, sym, ◌∙◌, ap, subst, List, [], ◌∷◌, length, take, drop, Bool, true, false, Option, Some, None, arith, IfSome, if◌then◌else◌, no_none_some, DiskCall, at, read, written, Cell, said_at, said_by, write_cells, IsFrom, IsWithin, moved_down, length-written_inside, HasPlace, IsBetween, IsBegun, load_calls, store_calls, cells_long, moved_said, within_lowered, kept_read, window_answer, read_slice, after, with_end, BothTold, PartlyWritten, nat_tests}
 
 pub got_read : (held : Option (List ℕ)) (buf : List ℕ) (x m n size : ℕ) → IfSome held (λ b. length b ≡ size) → m ≡ n → x + n ≤ size
     → IfSome held (λ file. buf ≡ take m (drop x file)) → IfSome held (λ file. buf ≡ read file x n)
@@ -63,10 +63,7 @@ window_told (Some file) full buf from lo n size cells told long low room least m
 -- a write that was refused leaves each byte old or as the whole would have it
 between : (old left inner : List ℕ) (x : ℕ) (whole : List ℕ) → x + length inner ≤ length old → written old x inner ≡ whole → PartlyWritten x inner old left
     → IsBetween old whole left
-between old left inner x whole room e h = record {
-  len = h.len ∙ length-written_inside old x inner room;
-  each = λ i. elim (h.each i) [ inl g ↦ inl g | inr g ↦ inr (g ∙ ap (λ (f : List ℕ). at f i) e) ];
-}
+between old left inner x whole room e h = grind (arith, nat_tests, length-written_inside)
 
 pub window_refused : (held left : Option (List ℕ)) (full : Bool) (buf : List ℕ) (from lo n size : ℕ) (cells : List Cell) → IfSome held (λ b. length b ≡ size)
     → length buf ≡ n → from ≤ lo → lo + n ≤ from + size → IsFrom lo cells → IsWithin cells (lo + n)

@@ -1,15 +1,14 @@
 -- Sorted entries before and from an index on.
-use Rattle.aggregator_rounds.proofs.Words.{◌≡◌, ℕ, zero, suc, ◌+◌, ◌^◌, ◌<◌, ◌≤◌, ◌⊎◌, inl, inr, refl, sym, ap, subst, List, [], ◌∷◌, length, take, drop, get_or, ◌++◌, append_assoc, Some, None, slice_get, Bool, true, false, ◌∙◌, arith, nat_lt, take-append-drop, same_Some, slice_get-get_or, entry_in, in_either, no_none_some, Extent, Owned, In, extents, IsByPlace, EndBelow, get_is, IsPast, BeginBefore, in_extents}
+use Rattle.aggregator_rounds.proofs.Words.{◌≡◌, ℕ, zero, suc, ◌+◌, ◌^◌, ◌<◌, ◌≤◌, ◌⊎◌, inl, inr, refl, sym, ap, subst, List, [], ◌∷◌, length, take, drop, get_or, ◌++◌, append_assoc, Some, None, slice_get, ◌∙◌, arith, take-append-drop, same_Some, slice_get-get_or, entry_in, in_either, no_none_some, Extent, Owned, In, extents, IsByPlace, EndBelow, get_is, IsPast, BeginBefore, in_extents, nat_tests}
 use borrow.Author.Tests.{ltb-true, ltb-false}
 use Rattle.aggregator_rounds.proofs.PastSteps.{past_front}
 
 -- ---- members by index
 
 pub taken_at : {X : Type 0} (n : ℕ) (xs : List X) (x : X) → In (take n xs) x → (i : ℕ) × (i < n) × (slice_get xs i ≡ Some x)
-taken_at zero xs x h = absurd h
-taken_at (suc n) [] x h = absurd h
 taken_at (suc n) (y ∷ xs) x (inl e) = (zero, omega arith, ap Some e)
 taken_at (suc n) (y ∷ xs) x (inr h) = let r = taken_at n xs x h in let l = r.1 in (suc r.0, omega arith, r.2)
+taken_at _ _ x h = absurd h
 
 pub none_got : {X : Type 0} (xs : List X) → slice_get xs 0 ≡ None → xs ≡ []
 none_got [] h = refl
@@ -30,26 +29,19 @@ extents_dropped (suc n) (o ∷ list) e h = inr (extents_dropped n list e h)
 -- those from the one on that begins at the place or later
 later_all : (n place : ℕ) (list : List Owned) → IsByPlace (extents list) → ((o : Owned) → slice_get list n ≡ Some o → place ≤ o.extent.at)
     → (o : Owned) → In (drop n list) o → place ≤ o.extent.at
-later_all zero place [] h k o m = absurd m
 later_all zero place (p ∷ list) h k o (inl e) = k o (ap Some e)
 later_all zero place (p ∷ list) h k o (inr m) =
     let first = k p refl in
     let above = h.0 o.extent (in_extents list o m) in
     omega arith
-later_all (suc n) place [] h k o m = absurd m
 later_all (suc n) place (p ∷ list) h k o m = later_all n place list h.1 k o m
+later_all _ place _ h k o m = absurd m
 
 -- no entry begins before the first
 pub first_begins : (list : List Owned) (first o : Owned) → IsByPlace (extents list) → slice_get list 0 ≡ Some first → In list o → first.extent.at ≤ o.extent.at
 first_begins [] first o h e m = absurd m
-first_begins (p ∷ list) first o h e (inl g) =
-    let begin : first.extent.at ≡ p.extent.at = ap (λ (q : Owned). q.extent.at) (sym (same_Some p first e)) in
-    let same : p.extent.at ≡ o.extent.at = ap (λ (q : Owned). q.extent.at) g in
-    omega arith
-first_begins (p ∷ list) first o h e (inr m) =
-    let begin : first.extent.at ≡ p.extent.at = ap (λ (q : Owned). q.extent.at) (sym (same_Some p first e)) in
-    let above = h.0 o.extent (in_extents list o m) in
-    omega arith
+first_begins (p ∷ list) first o h e (inl g) = grind (arith, nat_tests, same_Some)
+first_begins (p ∷ list) first o h e (inr m) = grind (arith, nat_tests, same_Some p first e, in_extents list o m)
 
 -- an entry stands before an index, or begins where the one at the index does, or later
 pub before_or_later : (list : List Owned) (i : ℕ) (d p : Owned) → i < length list → IsByPlace (extents list) → In list p
@@ -68,12 +60,7 @@ before_or_later (o ∷ list) (suc i) d p l h (inr m) =
 pub taken_before : (n place : ℕ) (list : List Owned) → IsByPlace (extents list)
     → ((i : ℕ) (o : Owned) → i < n → slice_get list i ≡ Some o → o.extent.at < place)
     → ((o : Owned) → slice_get list n ≡ Some o → place ≤ o.extent.at) → BeginBefore place list (take n list)
-taken_before n place list h before after = record {
-  rest = drop n list;
-  joined = sym (take-append-drop n list);
-  before = λ o m. (let r = taken_at n list o m in before r.0 o r.1 r.2);
-  later = later_all n place list h after;
-}
+taken_before n place list h before after = grind (arith, nat_tests, take-append-drop n list, later_all n place list h after, taken_at)
 
 pub dropped_past : (n place : ℕ) (list : List Owned) → ((i : ℕ) (o : Owned) → i < n → slice_get list i ≡ Some o → o.extent.at + o.extent.len ≤ place)
     → IsPast place list (drop n list)
@@ -110,12 +97,7 @@ front_sorted place left front s b = sorted_left front b.rest (subst (λ (l : Lis
 -- those that are carried have front too
 pub front_all : (place : ℕ) (carried ahead fresh : List Owned) → ((o : Owned) → In carried o → o.extent.at < place) → BeginBefore place ahead fresh
     → BeginBefore place (carried ++ ahead) (carried ++ fresh)
-front_all place carried ahead fresh before b = record {
-  rest = b.rest;
-  joined = ap (λ (r : List Owned). carried ++ r) b.joined ∙ sym (append_assoc carried fresh b.rest);
-  before = λ o m. elim (in_either carried fresh o m) [ inl g ↦ before o g | inr g ↦ b.before o g ];
-  later = b.later;
-}
+front_all place carried ahead fresh before b = grind (arith, nat_tests, append_assoc, in_either)
 
 -- ---- entries that end at a place or before
 
@@ -126,15 +108,7 @@ entry_ends list i d h l = h (get_or list i d).extent (in_extents list (get_or li
 pub ends_more : (place i : ℕ) (list : List Owned) (d : Owned) → i < length list → (get_or list i d).extent.at + (get_or list i d).extent.len ≤ place
     → ((k : ℕ) (o : Owned) → k < i → slice_get list k ≡ Some o → o.extent.at + o.extent.len ≤ place)
     → (k : ℕ) (o : Owned) → k < i + 1 → slice_get list k ≡ Some o → o.extent.at + o.extent.len ≤ place
-ends_more place i list d l e h k o m g = by_index (nat_lt k i) refl
-  where
-    by_index : (t : Bool) → nat_lt k i ≡ t → o.extent.at + o.extent.len ≤ place
-    by_index true f = h k o (ltb-true _ _ f) g
-    by_index false f =
-        let past : i ≤ k = ltb-false _ _ f in
-        let same : k ≡ i = omega arith in
-        subst (λ (z : Owned). z.extent.at + z.extent.len ≤ place)
-        (same_Some (get_or list i d) o (sym (slice_get-get_or list i d l) ∙ ap (λ (n : ℕ). slice_get list n) (sym same) ∙ g)) e
+ends_more place i list d l e h k o m g = grind (arith, nat_tests, ltb-true, ltb-false, same_Some, slice_get-get_or, slice_get)
 
 pub goes_past : (place i : ℕ) (list : List Owned) (d o : Owned) → i < length list → place < (get_or list i d).extent.at + (get_or list i d).extent.len
     → slice_get list i ≡ Some o → place < o.extent.at + o.extent.len

@@ -30,22 +30,12 @@ BelowBounds (None ∷ bounds) (i ∷ index) = BelowBounds bounds index
 BelowBounds (Some n ∷ bounds) (i ∷ index) = (i < n) × BelowBounds bounds index
 
 one_below : (m s n d i : ℕ) → bad_edge (Some m) s n d ≡ false → i < n → s + i * d < m
-one_below m s n d i h l =
-    let steps : i * d ≤ (n - 1) * d = mul-le-mul_right d (omega (arith, l)) in
-    let last : s + (n - 1) * d < m = by_test l h in
-    omega arith
-  where
-    by_test : i < n → bad_edge (Some m) s n d ≡ false → s + (n - 1) * d < m
-    by_test l h = grind (arith, nat_tests)
+one_below m s n d i h l = grind (arith, nat_tests, mul-le-mul_right)
 
 below_bounds : (bs : List (Option ℕ)) (starts counts strides c : List ℕ) → length starts ≡ length bs → length counts ≡ length bs → length strides ≡ length bs
     → IsIndex counts c → some_edge bs starts counts strides ≡ false → BelowBounds bs (index_at starts strides c)
 unfolding BelowBounds
 below_bounds [] [] counts strides c a b d h e = tt
-below_bounds [] (s ∷ starts) counts strides c a b d h e = absurd (omega arith)
-below_bounds (x ∷ bs) [] counts strides c a b d h e = absurd (omega arith)
-below_bounds (x ∷ bs) (s ∷ starts) [] strides c a b d h e = absurd (omega arith)
-below_bounds (x ∷ bs) (s ∷ starts) (n ∷ counts) [] c a b d h e = absurd (omega arith)
 below_bounds (x ∷ bs) (s ∷ starts) (n ∷ counts) (t ∷ strides) [] a b d h e = absurd h
 below_bounds (None ∷ bs) (s ∷ starts) (n ∷ counts) (t ∷ strides) (i ∷ c) a b d h e =
     below_bounds bs starts counts strides c (omega arith) (omega arith) (omega arith) h.1 (or_second_false (bad_edge None s n t) (some_edge bs starts counts strides) e)
@@ -53,6 +43,7 @@ below_bounds (Some m ∷ bs) (s ∷ starts) (n ∷ counts) (t ∷ strides) (i �
   one_below m s n t i (or_first_false (bad_edge (Some m) s n t) (some_edge bs starts counts strides) e) h.0,
   below_bounds bs starts counts strides c (omega arith) (omega arith) (omega arith) h.1 (or_second_false (bad_edge (Some m) s n t) (some_edge bs starts counts strides) e),
 )
+below_bounds _ _ _ _ c a b d h e = absurd (omega arith)
 
 -- ---- from bounds to lengths
 
@@ -70,11 +61,10 @@ some_below n (Some m) bs i index e h = let same : m ≡ n = cc in (subst (λ (k 
 fixed_index : (way : Direction) (known : ℕ) (ls index : List ℕ) → AllByRecursion (λ n. (n == 0) ≡ false) ls → BelowBounds (map (bound way known) ls) index → IsIndex ls index
 unfolding BelowBounds
 fixed_index way known [] [] some h = tt
-fixed_index way known [] (i ∷ index) some h = absurd h
-fixed_index way known (n ∷ ls) [] some h = absurd h
 fixed_index way known (n ∷ ls) (i ∷ index) some h =
     let both = some_below n (bound way known n) (map (bound way known) ls) i index (fixed_bound way known n some.0) h in
     (both.0, fixed_index way known ls index some.1 both.1)
+fixed_index way known _ _ some h = absurd h
 
 record_rest : (way : Direction) (known : ℕ) (bs : List (Option ℕ)) (r : ℕ) (index : List ℕ) → BelowBounds (bound way known 0 ∷ bs) (r ∷ index) → BelowBounds bs index
 unfolding BelowBounds
@@ -91,12 +81,7 @@ by_lengths way known n [] index some h below = (fixed_index way known [] index t
 by_lengths way known n (zero ∷ ls) [] some h below = absurd h
 by_lengths way known n (zero ∷ ls) (r ∷ index) some h below =
     ((tt, fixed_index way known ls index some (record_rest way known (map (bound way known) ls) r index h)), below refl)
-by_lengths way known n (suc m ∷ ls) index some h below =
-    let e : (suc m == 0) ≡ false = equal_suc m in
-    let own : IsIndex (suc m ∷ ls) index = fixed_index way known (suc m ∷ ls) index (e, some) h in (
-      subst (λ (t : Bool). MatchBool t (HasRecord index × IsIndex (suc m ∷ ls) (within_record index)) (IsIndex (suc m ∷ ls) index)) (sym e) own,
-      subst (λ (t : Bool). MatchBool t (record_of index < n) (Unit {0})) (sym e) tt,
-    )
+by_lengths way known n (suc m ∷ ls) index some h below = grind (arith, nat_tests, equal_suc m, fixed_index way known (suc m ∷ ls) index ((equal_suc m), some) h)
 
 -- ---- what an accepted region keeps
 
@@ -153,15 +138,13 @@ record_needed header v g c a b d h e = by_lists v.dims g.start g.count g.stride 
         → records_of header v g ≡ slice_index starts 0 + (slice_index counts 0 - 1) * slice_index strides 0 + 1
         → record_of (index_at starts strides c) < records_of header v g
     by_lists [] starts counts strides c a b d h e n = absurd cc
-    by_lists (id ∷ dims) [] counts strides c a b d h e n = absurd (omega arith)
-    by_lists (id ∷ dims) (s ∷ starts) [] strides c a b d h e n = absurd (omega arith)
-    by_lists (id ∷ dims) (s ∷ starts) (m ∷ counts) [] c a b d h e n = absurd (omega arith)
     by_lists (id ∷ dims) (s ∷ starts) (m ∷ counts) (t ∷ strides) [] a b d h e n = absurd h
     by_lists (id ∷ dims) (s ∷ starts) (m ∷ counts) (t ∷ strides) (i ∷ c) a b d h e n =
         let low = h.0 in
         let steps : i * t ≤ (m - 1) * t = mul-le-mul_right t (omega (arith, low)) in
         let whole : records_of header v g ≡ s + (m - 1) * t + 1 = n in
         omega arith
+    by_lists _ _ _ _ c a b d h e n = absurd (omega arith)
 
 accepted_at : (header : Header) (k : ℕ) (v : Var) (g : Region) (known : ℕ) (way : Direction) (c : List ℕ) → is_sound header ≡ true → slice_get header.vars k ≡ Some v
     → IsAccepted header v g known way → IsIndex g.count c → IsElementBelow header v (records_of header v g) (index_at g.start g.stride c)

@@ -1,5 +1,5 @@
 -- What is added to a header keeps its variables: their kinds, and the lengths of their dimensions.
-use Rattle.serial_spec.proofs.Words.{◌≡◌, ℕ, zero, suc, ◌+◌, refl, sym, ◌∙◌, ap, List, [], ◌∷◌, ◌++◌, length, map, Bool, true, false, cond, Some, None, append_assoc, arith, append-nil, position_from-zero, enumerate_from, AllByRecursion, slice_get, position, bytes_eq, nat_le, leb-false, and_second, both_none, none_of_test, none_before_map, Header, Dim, Var, Attr, Extra, length_of, first_check, first_with, fault_if, two_record_dims, record_later, bad_id, is_sound, with_var_attr, with_extra, added, begins_by_number, begin_of_number, with_begins, redefined_header, KeepsVars, fails_each, entry_map, get_left, entry_numbered}
+use Rattle.serial_spec.proofs.Words.{◌≡◌, ℕ, zero, suc, ◌+◌, refl, sym, ◌∙◌, ap, List, [], ◌∷◌, ◌++◌, length, map, Bool, true, false, cond, Some, None, append_assoc, arith, append-nil, position_from-zero, enumerate_from, AllByRecursion, slice_get, position, bytes_eq, nat_le, leb-false, and_second, both_none, none_of_test, none_before_map, Header, Dim, Var, Attr, Extra, length_of, first_check, first_with, fault_if, two_record_dims, record_later, bad_id, is_sound, with_var_attr, with_extra, added, begins_by_number, begin_of_number, with_begins, redefined_header, KeepsVars, fails_each, entry_map, get_left, entry_numbered, nat_tests}
 use Rattle.nc_base.specs.declared.script.Extra.TheVariants as extra
 use Rattle.nc_base.specs.declared.errors.HeaderErr.TheVariants as fault
 use Rattle.serial_spec.proofs.RoomLaws.{untested}
@@ -18,12 +18,7 @@ grew_none : (h : Header) → Grew h h
 grew_none h = record { more = []; dims = sym (append-nil h.dims); vars = same_vars h }
 
 grew_on : (h g f : Header) → Grew h g → Grew g f → Grew h f
-grew_on h g f a b =
-    record {
-      more = a.more ++ b.more;
-      dims = b.dims ∙ ap (λ (ds : List Dim). ds ++ b.more) a.dims ∙ append_assoc h.dims a.more b.more;
-      vars = λ k v e. let one = a.vars k v e in let two = b.vars k one.0 one.1 in (two.0, two.1, two.2 ∙ one.2, two.3 ∙ one.3);
-    }
+grew_on h g f a b = grind (arith, nat_tests, append_assoc)
 
 pub in_front : (vs ws : List Var) (k : ℕ) (v : Var) → slice_get vs k ≡ Some v → slice_get (vs ++ ws) k ≡ Some v
 in_front [] ws k v h = absurd cc

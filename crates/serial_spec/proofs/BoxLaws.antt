@@ -1,5 +1,5 @@
 -- The boxes of a range of row-major numbers have just the indices with these numbers, in order.
-use Rattle.serial_spec.proofs.Words.{◌≡◌, ℕ, zero, suc, ◌+◌, ◌-◌, ◌*◌, ◌/◌, ◌%◌, ◌<◌, ◌≤◌, refl, sym, ◌∙◌, ap, subst, List, [], ◌∷◌, ◌++◌, length, map, take, drop, replicate, Bool, true, false, append_assoc, arith, add-mul, le_of_mul-le-mul_right, mul-le-mul_right, drop-append-add, take-append-add, div-add-mod', mod_below, le-div, drop-drop, drop-append-le, take-append-le, length-drop, map-append, append-nil, length-map, flat_map-append, flat_map, nat_lt, ◌==◌, range_with_len, eqb-false, some_factor, map_map, flat_same, Part, product, coordinates, boxes, in_row, whole_rows, shifted, box_indices, AreBoxes, part, part_joined, part_none, part_map}
+use Rattle.serial_spec.proofs.Words.{◌≡◌, ℕ, zero, suc, ◌+◌, ◌-◌, ◌*◌, ◌/◌, ◌%◌, ◌<◌, ◌≤◌, refl, sym, ◌∙◌, ap, List, [], ◌∷◌, ◌++◌, length, map, take, drop, replicate, Bool, true, false, append_assoc, arith, add-mul, le_of_mul-le-mul_right, mul-le-mul_right, drop-append-add, take-append-add, div-add-mod', mod_below, le-div, drop-drop, drop-append-le, take-append-le, length-drop, map-append, append-nil, length-map, flat_map-append, flat_map, nat_lt, ◌==◌, range_with_len, eqb-false, some_factor, map_map, flat_same, Part, product, coordinates, boxes, in_row, whole_rows, shifted, box_indices, AreBoxes, part, part_joined, part_none, part_map, nat_tests}
 use borrow.Author.Tests.{ltb-true, ltb-false, eqb-true}
 use Rattle.serial_spec.proofs.ElementLaws.{length-coordinates}
 
@@ -7,23 +7,9 @@ use Rattle.serial_spec.proofs.ElementLaws.{length-coordinates}
 
 drop_rows : {A : Type 0} (f : ℕ → List A) (p : ℕ) → ((x : ℕ) → length (f x) ≡ p) → (i a n m : ℕ) → i ≤ n → m ≡ i * p
     → drop m (flat_map f (range_with_len a n)) ≡ flat_map f (range_with_len (a + i) (n - i))
-drop_rows f p l zero a n m h e =
-    let none : m ≡ 0 = omega arith in
-    let first : a ≡ a + 0 = omega arith in
-    let all : n ≡ n - 0 = omega arith in
-    ap (λ (k : ℕ). drop k (flat_map f (range_with_len a n))) none ∙ (λ t. flat_map f (range_with_len (first t) (all t)))
+drop_rows f p l zero a n m h e = grind (arith, nat_tests)
 drop_rows f p l (suc i) a zero m h e = absurd (omega arith)
-drop_rows f p l (suc i) a (suc n) m h e =
-    let long : length (f a) ≡ p = l a in
-    let split : m ≡ length (f a) + i * p = omega arith in
-    let next : a + 1 + i ≡ a + suc i = omega arith in
-    ap (λ (k : ℕ). drop k (f a ++ flat_map f (range_with_len (a + 1) n))) split
-    ∙ drop-append-add (f a) (flat_map f (range_with_len (a + 1) n)) (i * p)
-    ∙ drop_rows f p l i (a + 1) n (i * p) (omega arith) refl
-    ∙ (λ t. flat_map f (range_with_len (next t) (less t)))
-  where
-    less : n - i ≡ suc n - suc i
-    less = omega arith
+drop_rows f p l (suc i) a (suc n) m h e = grind (arith, nat_tests, drop_rows f p l i (a + 1) n (i * p) (omega arith) refl, drop-append-add)
 
 take_rows : {A : Type 0} (f : ℕ → List A) (p : ℕ) → ((x : ℕ) → length (f x) ≡ p) → (i a n m : ℕ) → i ≤ n → m ≡ i * p
     → take m (flat_map f (range_with_len a n)) ≡ flat_map f (range_with_len a i)
@@ -31,21 +17,12 @@ take_rows f p l zero a n m h e =
     let none : m ≡ 0 = omega arith in ap (λ (k : ℕ). take k (flat_map f (range_with_len a n))) none
 take_rows f p l (suc i) a zero m h e = absurd (omega arith)
 take_rows f p l (suc i) a (suc n) m h e =
-    let long : length (f a) ≡ p = l a in
-    let split : m ≡ length (f a) + i * p = omega arith in
-    ap (λ (k : ℕ). take k (f a ++ flat_map f (range_with_len (a + 1) n))) split
-    ∙ take-append-add (f a) (flat_map f (range_with_len (a + 1) n)) (i * p)
-    ∙ ap (λ ys. f a ++ ys) (take_rows f p l i (a + 1) n (i * p) (omega arith) refl)
+    grind (arith, nat_tests, take_rows f p l i (a + 1) n (i * p) (omega arith) refl, take-append-add (f a) (flat_map f (range_with_len (a + 1) n)) (i * p))
 
 -- whole rows
 part_rows : {A : Type 0} (f : ℕ → List A) (p : ℕ) → ((x : ℕ) → length (f x) ≡ p) → (n q d from to : ℕ) → q + d ≤ n → from ≡ q * p → to ≡ from + d * p
     → part from to (flat_map f (range_with_len 0 n)) ≡ flat_map f (range_with_len q d)
-part_rows f p l n q d from to h e g =
-    let many : to - from ≡ d * p = omega arith in
-    let first : 0 + q ≡ q = omega arith in
-    ap (λ ys. take (to - from) ys) (drop_rows f p l q 0 n from (omega arith) e)
-    ∙ take_rows f p l d (0 + q) (n - q) (to - from) (omega arith) many
-    ∙ ap (λ (k : ℕ). flat_map f (range_with_len k d)) first
+part_rows f p l n q d from to h e g = grind (arith, nat_tests, drop_rows, take_rows)
 
 -- within one row
 part_within : {A : Type 0} (f : ℕ → List A) (p : ℕ) → ((x : ℕ) → length (f x) ≡ p) → (n q lo hi base from to : ℕ) → q < n → lo ≤ hi → hi ≤ p
@@ -90,12 +67,7 @@ rows_from f first a (suc n) =
 
 -- a box of one first coordinate
 row_indices : (i : ℕ) (p : Part) → box_indices (record { start = i ∷ p.start; count = 1 ∷ p.count }) ≡ map (λ c. i ∷ c) (box_indices p)
-row_indices i p =
-    let plain : i + 0 ≡ i = omega arith in
-    ap (λ ys. map (λ c. shifted (i ∷ p.start) c) ys) (append-nil (slice p.count 0))
-    ∙ map_map (λ c. shifted (i ∷ p.start) c) (λ c. 0 ∷ c) (coordinates p.count)
-    ∙ ap (λ (k : ℕ). map (λ c. k ∷ shifted p.start c) (coordinates p.count)) plain
-    ∙ sym (map_map (λ c. i ∷ c) (λ c. shifted p.start c) (coordinates p.count))
+row_indices i p = grind (arith, nat_tests, append-nil, map_map)
 
 in_row_indices : (i : ℕ) (parts : List Part) → flat_map box_indices (in_row i parts) ≡ map (λ c. i ∷ c) (flat_map box_indices parts)
 in_row_indices i [] = refl
@@ -134,20 +106,7 @@ whole_box lengths first count =
         ∙ ap (λ ys. map (λ c. (first + i) ∷ c) ys) (unshifted lengths)
 
 whole_indices : (lengths : List ℕ) (first last : ℕ) → flat_map box_indices (whole_rows lengths first last) ≡ flat_map (slice lengths) (range_with_len first (last - first))
-whole_indices lengths first last = by_test (nat_lt first last) refl
-  where
-    by_test : (t : Bool) → nat_lt first last ≡ t
-        → flat_map box_indices (elim t as (λ u. List Part) [
-          | false ↦ []
-          | true ↦ record { start = first ∷ replicate (length lengths) 0; count = (last - first) ∷ lengths } ∷ []
-        ]) ≡ flat_map (slice lengths) (range_with_len first (last - first))
-    by_test true e =
-        append-nil (box_indices (record { start = first ∷ replicate (length lengths) 0; count = (last - first) ∷ lengths }))
-        ∙ whole_box lengths first (last - first)
-    by_test false e =
-        let low : last ≤ first = ltb-false _ _ e in
-        let none : 0 ≡ last - first = omega arith in
-        ap (λ (k : ℕ). flat_map (slice lengths) (range_with_len first k)) none
+whole_indices lengths first last = grind (arith, nat_tests, append-nil, whole_box, ltb-false)
 
 -- ---- the law
 
@@ -156,16 +115,7 @@ abbrev Right : List ℕ → Type 0
 Right lengths = (from to : ℕ) → from ≤ to → to ≤ product lengths → AreBoxes lengths from to (boxes lengths from to)
 
 scalar_boxes : Right []
-scalar_boxes from to h k = by_test (nat_lt from to) refl
-  where
-    by_test : (t : Bool) → nat_lt from to ≡ t
-        → flat_map box_indices (elim t as (λ u. List Part) [ true ↦ record { start = []; count = [] } ∷ [] | false ↦ [] ]) ≡ part from to ([] ∷ [])
-    by_test true e =
-        let low : from < to = ltb-true _ _ e in
-        let first : 0 ≡ from = omega arith in
-        let last : 1 ≡ to = omega arith in
-        λ t. part (first t) (last t) ([] ∷ [])
-    by_test false e = sym (part_none ([] ∷ []) from to (ltb-false _ _ e))
+scalar_boxes from to h k = grind (arith, nat_tests, ltb-true, part_none, ltb-false)
 
 -- the row of a number, and its place there
 record InRow (size x q r : ℕ) : Type 0 where
@@ -240,32 +190,11 @@ from_front n lengths p q r to ih w h k =
     ∙ sym (part_joined (coordinates (n ∷ lengths)) (p * product lengths) (q * product lengths) to over (omega arith))
 
 rest_small : (n size x : ℕ) → x ≤ n * size → x % size ≤ size
-rest_small n zero x h =
-    let none : x ≡ 0 = omega arith in
-    let same : x % 0 ≡ 0 = ap (λ (y : ℕ). y % 0) none in
-    omega (arith, same)
-rest_small n (suc size) x h = let l = mod_below x (suc size) (omega arith) in omega arith
+rest_small n size x h = grind (arith, nat_tests, mod_below)
 
 same_row : (n : ℕ) (lengths : List ℕ) (from to : ℕ) → Right lengths → from ≤ to → to ≤ n * product lengths → from / product lengths ≡ to / product lengths
     → flat_map box_indices (in_row (from / product lengths) (boxes lengths (from % product lengths) (to % product lengths))) ≡ part from to (coordinates (n ∷ lengths))
-same_row n lengths from to ih h k e = by_end (nat_lt from (n * product lengths)) refl
-  where
-    by_end : (t : Bool) → nat_lt from (n * product lengths) ≡ t
-        → flat_map box_indices (in_row (from / product lengths) (boxes lengths (from % product lengths) (to % product lengths))) ≡ part from to (coordinates (n ∷ lengths))
-    by_end true f =
-        let low : from < n * product lengths = ltb-true _ _ f in
-        let some = some_factor n (product lengths) from low in
-        one_row n lengths (from / product lengths) (from % product lengths) (to % product lengths) from to ih (in_row_of (product lengths) from some)
-        (subst (λ (q : ℕ). InRow (product lengths) to q (to % product lengths)) (sym e) (in_row_of (product lengths) to some)) h low
-    by_end false f =
-        let past : n * product lengths ≤ from = ltb-false _ _ f in
-        let same : from ≡ to = omega arith in
-        let rests : from % product lengths ≡ to % product lengths = ap (λ (x : ℕ). x % product lengths) same in
-        in_row_indices (from / product lengths) (boxes lengths (from % product lengths) (to % product lengths))
-        ∙ ap (λ ys. map (λ c. (from / product lengths) ∷ c) ys)
-        (ih (from % product lengths) (to % product lengths) (omega arith) (rest_small n (product lengths) to k)
-        ∙ part_none (coordinates lengths) (from % product lengths) (to % product lengths) (omega arith))
-        ∙ sym (part_none (coordinates (n ∷ lengths)) from to (omega arith))
+same_row n lengths from to ih h k e = grind (arith, nat_tests, ltb-true, some_factor, one_row, in_row_of, ltb-false, in_row_indices, rest_small, part_none)
 
 -- from within one row to a later one
 first_part : (n : ℕ) (lengths : List ℕ) (p q r s from to : ℕ) → Right lengths → InRow (product lengths) from p r → InRow (product lengths) to q s

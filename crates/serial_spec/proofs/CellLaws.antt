@@ -1,5 +1,5 @@
 -- Cells that lie apart, and what is written of them.
-use Rattle.serial_spec.proofs.Words.{◌≡◌, ℕ, zero, suc, ◌+◌, ◌-◌, ◌<◌, ◌≤◌, refl, sym, ◌∙◌, ap, subst, inl, inr, ◌⊎◌, List, [], ◌∷◌, ◌++◌, length, map, get_or, Some, None, arith, cases_eq, AllByRecursion, enumerate_from, flat_map, slice_get, option_or, neither_some, second_counts, first_counts, at, read, written, AreApart, said_at, Cell, write_cells, said_by}
+use Rattle.serial_spec.proofs.Words.{◌≡◌, ℕ, zero, suc, ◌+◌, ◌-◌, ◌<◌, ◌≤◌, refl, sym, ◌∙◌, ap, subst, inl, inr, ◌⊎◌, List, [], ◌∷◌, ◌++◌, length, map, get_or, Some, None, arith, cases_eq, AllByRecursion, enumerate_from, flat_map, slice_get, option_or, neither_some, second_counts, first_counts, at, read, written, AreApart, said_at, Cell, write_cells, said_by, nat_tests}
 use Rattle.serial_spec.proofs.FileLaws.{length-written_inside}
 use Rattle.serial_spec.proofs.SaidLaws.{said_below, said_past, said_inside, said_append}
 
@@ -39,12 +39,7 @@ pub same_index : (i j : List ℕ) → (i ≡ j) ⊎ (i ≡ j → ⊥)
 same_index [] [] = inl refl
 same_index [] (y ∷ j) = inr (λ e. absurd cc)
 same_index (x ∷ i) [] = inr (λ e. absurd cc)
-same_index (x ∷ i) (y ∷ j) = by_both (cases_eq x y) (same_index i j)
-  where
-    by_both : ((x ≡ y) ⊎ (x ≡ y → ⊥)) → ((i ≡ j) ⊎ (i ≡ j → ⊥)) → ((x ∷ i) ≡ (y ∷ j)) ⊎ ((x ∷ i) ≡ (y ∷ j) → ⊥)
-    by_both (inl h) (inl k) = inl (λ t. h t ∷ k t)
-    by_both (inr n) k = inr (λ e. let h : x ≡ y = cc in n h)
-    by_both (inl h) (inr n) = inr (λ e. let k : i ≡ j = cc in n k)
+same_index (x ∷ i) (y ∷ j) = grind (arith, nat_tests, same_index i j, cases_eq)
 
 -- ---- what cells say
 
@@ -77,13 +72,7 @@ said_or_none c x low high (d ∷ ds) h = by_rest (said_or_none c x low high ds h
 pub said_of : (c : Cell) (x : ℕ) → c.0 ≤ x → x < c.0 + length c.1 → (ds : List Cell) → AllByRecursion (IsOrApart c) ds → Has ds c
     → said_at (said_by ds) x ≡ Some (get_or c.1 (x - c.0) 0)
 said_of c x low high [] h m = absurd m
-said_of c x low high (d ∷ ds) h (inl e) =
-    said_append (enumerate_from d.0 d.1) (said_by ds) x ∙ by_rest (said_or_none c x low high ds h.1)
-  where
-    by_rest : ((said_at (said_by ds) x ≡ Some (get_or c.1 (x - c.0) 0)) ⊎ (said_at (said_by ds) x ≡ None))
-        → option_or (said_at (said_by ds) x) (said_at (enumerate_from d.0 d.1) x) ≡ Some (get_or c.1 (x - c.0) 0)
-    by_rest (inl s) = first_counts (said_at (said_by ds) x) (said_at (enumerate_from d.0 d.1) x) _ s
-    by_rest (inr s) = second_counts (said_at (said_by ds) x) (said_at (enumerate_from d.0 d.1) x) s ∙ said_by_one c d x e low high
+said_of c x low high (d ∷ ds) h (inl e) = grind (arith, nat_tests, said_append, said_or_none, first_counts, second_counts, said_by_one)
 said_of c x low high (d ∷ ds) h (inr m) =
     said_append (enumerate_from d.0 d.1) (said_by ds) x
     ∙ first_counts (said_at (said_by ds) x) (said_at (enumerate_from d.0 d.1) x) _ (said_of c x low high ds h.1 m)

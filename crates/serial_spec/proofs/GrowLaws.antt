@@ -1,5 +1,5 @@
 -- No step makes a file shorter.
-use Rattle.serial_spec.proofs.Words.{ℕ, ◌≤◌, List, [], ◌∷◌, length, map, take, drop, set, max, Bool, true, false, cond, Option, Some, None, arith, common_steps, flat_map, fold, nat_lt, slice_get, enumerate_from, le_two, Pair, Var, Post, Mark, Meet, Solo, Offer, size_of, longer, written, Counted, Setting, after_puts, end_for, put_post, put_some, puts_of, raised, told, count, needed_by, with_records, cells, places, Going, advance, after_mark, offers_of, solo_of, Puts}
+use Rattle.serial_spec.proofs.Words.{ℕ, ◌≤◌, List, [], ◌∷◌, length, map, take, drop, set, max, Option, Some, None, arith, common_steps, flat_map, fold, enumerate_from, le_two, Pair, Var, Post, Mark, Meet, Solo, size_of, written, Counted, Setting, after_puts, end_for, put_post, put_some, puts_of, raised, told, count, needed_by, cells, places, Going, advance, after_mark, offers_of, Puts, nat_tests}
 use Rattle.serial_spec.proofs.FileLaws.{longer_long}
 
 pub written_grows : (file : List ℕ) (x : ℕ) (b : List ℕ) → length file ≤ length (written file x b)
@@ -7,10 +7,7 @@ written_grows file x b = grind (arith, common_steps)
 
 cells_grow : (size : ℕ) (ps bytes file : List ℕ) → length file ≤ length (fold (λ f cell. written f cell.0 cell.1) file (cells size ps bytes))
 cells_grow size [] bytes file = omega arith
-cells_grow size (p ∷ ps) bytes file =
-    let one = written_grows file p (take size bytes) in
-    let rest = cells_grow size ps (drop size bytes) (written file p (take size bytes)) in
-    omega arith
+cells_grow size (p ∷ ps) bytes file = grind (arith, nat_tests, cells_grow size ps (drop size bytes) (written file p (take size bytes)), written_grows)
 
 post_grows : (s : Setting) (v : Option Var) (post : Post) (file : List ℕ) → length file ≤ length (put_some s v post file)
 post_grows s None post file = omega arith
@@ -18,27 +15,17 @@ post_grows s (Some v) post file = cells_grow (size_of v.kind) (places s.header v
 
 puts_grow : (s : Setting) (puts : Puts) (file : List ℕ) → length file ≤ length (fold (put_post s) file puts)
 puts_grow s [] file = omega arith
-puts_grow s (p ∷ puts) file =
-    let one = post_grows s (slice_get s.header.vars p.1.var) p.1 file in
-    let rest = puts_grow s puts (put_post s file p) in
-    omega arith
+puts_grow s (p ∷ puts) file = grind (arith, nat_tests, puts_grow s puts (put_post s file p), post_grows)
 
 pub after_long : (s : Setting) (puts : Puts) (file : List ℕ) → max (length file) (end_for s (needed_by s.header puts)) ≤ length (after_puts s puts None file)
-after_long s puts file =
-    let long = longer_long file (end_for s (needed_by s.header puts)) in
-    let more = puts_grow s puts (longer file (end_for s (needed_by s.header puts))) in
-    omega arith
+after_long s puts file = grind (arith, nat_tests, longer_long, puts_grow)
 
 pub after_grows : (s : Setting) (puts : Puts) (pair : Option Pair) (file : List ℕ) → length file ≤ length (after_puts s puts pair file)
 after_grows s puts (Some p) file = omega arith
 after_grows s puts None file = let l = after_long s puts file in omega arith
 
 pub raised_grows : (s : Setting) (c : Counted) (n : ℕ) → length c.file ≤ length (raised s c n).file
-raised_grows s c n = by_test (nat_lt c.records n)
-  where
-    by_test : (t : Bool) → length c.file ≤ length (cond t (record { file = with_records s.header.version c.file n; records = n }) c).file
-    by_test false = omega arith
-    by_test true = written_grows c.file 4 (count s.header.version n)
+raised_grows s c n = grind (arith, nat_tests, written_grows c.file 4 (count s.header.version n))
 
 -- each step of an order, and the close, leaves a file that is as long at least
 pub mark_grows : (s : Setting) (state : Counted × List Going) (m : Mark) → length state.0.file ≤ length (after_mark s state m).0.file
@@ -48,13 +35,4 @@ mark_grows s state (Meet k) =
     let file = after_puts s puts (told s puts) state.0.file in
     le_two (length state.0.file) (length file) _ (after_grows s puts (told s puts) state.0.file)
     (raised_grows s (record { file = file; records = state.0.records }) _)
-mark_grows s state (Solo r c) = by_rank (slice_get state.1 r)
-  where
-    by_offer : (p : Going × Option Offer) → length state.0.file ≤ length (solo_of s r state.0 p).0.file
-    by_offer (h, None) = omega arith
-    by_offer (h, Some o) = after_grows s (puts_of (r, o)) (told s (puts_of (r, o))) state.0.file
-
-    by_rank : (m : Option Going) → length state.0.file
-        ≤ length (elim m as (λ m. Counted × List Going) [ None ↦ (state.0, state.1) | Some h ↦ let done = solo_of s r state.0 (advance s.header h) in (done.0, set state.1 r done.1) ]).0.file
-    by_rank None = omega arith
-    by_rank (Some h) = by_offer (advance s.header h)
+mark_grows s state (Solo r c) = grind (arith, nat_tests, after_grows, set)

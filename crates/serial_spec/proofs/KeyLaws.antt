@@ -31,11 +31,7 @@ lower : (a k m : Key) → key_below (lesser_key a k) m ≡ false → (key_below 
 lower a k m h = lower_by a k m (key_below k a) refl h
 
 lesser_cases : (a k : Key) → (lesser_key a k ≡ a) ⊎ (lesser_key a k ≡ k)
-lesser_cases a k = by_test (key_below k a)
-  where
-    by_test : (t : Bool) → (cond t k a ≡ a) ⊎ (cond t k a ≡ k)
-    by_test true = inr refl
-    by_test false = inl refl
+lesser_cases a k = grind (arith, nat_tests)
 
 -- ---- membership
 
@@ -83,12 +79,7 @@ NoRepeat (k ∷ ks) = (list_any (λ l. same_key l k) ks ≡ false) × NoRepeat k
 any_distinct_by : (j k : Key) (ks rest : List Key) (t : Bool) → list_any (λ l. same_key l j) rest ≡ t
     → list_any (λ l. same_key l k) rest ≡ list_any (λ l. same_key l k) ks
     → list_any (λ l. same_key l k) (cond t rest (j ∷ rest)) ≡ (same_key j k || list_any (λ l. same_key l k) ks)
-any_distinct_by j k ks rest false e ih = ap (λ (b : Bool). same_key j k || b) ih
-any_distinct_by j k ks rest true e ih = by_test (same_key j k) refl
-  where
-    by_test : (u : Bool) → same_key j k ≡ u → list_any (λ l. same_key l k) rest ≡ (u || list_any (λ l. same_key l k) ks)
-    by_test false g = ih
-    by_test true g = subst (λ (x : Key). list_any (λ l. same_key l x) rest ≡ true) (key_equal j k g) e
+any_distinct_by j k ks rest t e ih = grind (arith, nat_tests, key_equal)
 
 pub any_distinct : (ks : List Key) (k : Key) → list_any (λ l. same_key l k) (distinct ks) ≡ list_any (λ l. same_key l k) ks
 any_distinct [] k = refl
@@ -106,28 +97,19 @@ no_repeat (j ∷ ks) = no_repeat_by j (distinct ks) (list_any (λ l. same_key l 
 
 pub short_same : (ks : List Key) (a b : Key) → length ks ≤ 1 → In ks a → In ks b → a ≡ b
 short_same [] a b l h g = no_false h
-short_same (k ∷ []) a b l h g = both (in_cases k a [] h) (in_cases k b [] g)
-  where
-    both : (k ≡ a) ⊎ In [] a → (k ≡ b) ⊎ In [] b → a ≡ b
-    both (inl p) (inl q) = sym p ∙ q
-    both (inr p) _ = no_false p
-    both (inl p) (inr q) = no_false q
+short_same (k ∷ []) a b l h g = grind (arith, nat_tests, in_cases, no_false)
 short_same (k ∷ j ∷ ks) a b l h g = absurd (omega arith)
 
 -- ---- two holders
 
 pub two_of : (ks : List Key) → NoRepeat ks → 1 < length ks → (a : Key) × (b : Key) × In ks a × In ks b × (same_key b a ≡ false)
 unfolding NoRepeat
-two_of [] n l = absurd (omega arith)
-two_of (a ∷ []) n l = absurd (omega arith)
 two_of (a ∷ b ∷ ks) n l =
     (a, b, in_head a a (b ∷ ks) refl, in_tail a b (b ∷ ks) (in_head b b ks refl), or_first_false (same_key b a) _ n.0)
+two_of _ n l = absurd (omega arith)
 
 filter_in_by : (j k : Key) (ks rest : List Key) (t u : Bool) → ((j ≡ k) ⊎ In ks k) → (j ≡ k → t ≡ true) → (In ks k → In rest k) → In (cond t (j ∷ rest) rest) k
-filter_in_by j k ks rest true u (inl e) f g = in_head j k rest e
-filter_in_by j k ks rest true u (inr h) f g = in_tail j k rest (g h)
-filter_in_by j k ks rest false u (inl e) f g = no_false (f e)
-filter_in_by j k ks rest false u (inr h) f g = g h
+filter_in_by j k ks rest t u xs f g = grind (arith, nat_tests, in_head, in_tail, no_false)
 
 filter_in : (test : Key → Bool) (ks : List Key) (k : Key) → In ks k → test k ≡ true → In (filter test ks) k
 filter_in test [] k h t = no_false h

@@ -1,5 +1,5 @@
 -- Every spelling of a header has the length of the one that is written.
-use Rattle.serial_spec.proofs.Words.{◌≡◌, ℕ, ◌+◌, ◌≤◌, List, [], ◌∷◌, ◌++◌, length, Bool, true, false, cond, refl, sym, ap, ◌∙◌, length-append, inl, inr, arith, flat_map, ◌==◌, Width, w32, w64, byte_len, to_be_bytes, length-replicate, Header, Dim, Attr, Var, NcType, Byte, Char, Short, Int, Float, Double, UByte, UShort, UInt, Int64, UInt64, size_of, vsize, count_width, begin_width, padded, count, tag, name, list_of, dimension, attribute, variable, magic, canon, header_len, number_of, Joined, ◌▹◌, Exactly, Each, Number, Padded, NameOf, ListOf, TypeOf, DimensionOf, AttributeOf, VariableOf, RecordsOf, Spells}
+use Rattle.serial_spec.proofs.Words.{◌≡◌, ℕ, ◌+◌, ◌≤◌, List, [], ◌∷◌, ◌++◌, length, Bool, true, false, cond, refl, sym, ap, ◌∙◌, length-append, inl, inr, arith, flat_map, ◌==◌, Width, w32, w64, byte_len, to_be_bytes, length-replicate, Header, Dim, Attr, Var, NcType, size_of, vsize, count_width, begin_width, padded, count, tag, name, list_of, dimension, attribute, variable, magic, canon, header_len, number_of, Joined, ◌▹◌, Exactly, Each, Number, Padded, NameOf, ListOf, TypeOf, DimensionOf, AttributeOf, VariableOf, RecordsOf, Spells, nat_tests}
 
 -- every string of the set has the length of the text
 abbrev pub Long : (List ℕ → Type 0) → List ℕ → Type 0
@@ -97,27 +97,7 @@ spelling_long header s h = header_long header s h.1
 -- ---- a value of each type
 
 pub size_pos : (kind : NcType) → 1 ≤ size_of kind
-size_pos Byte = omega arith
-size_pos Char = omega arith
-size_pos Short = omega arith
-size_pos Int = omega arith
-size_pos Float = omega arith
-size_pos Double = omega arith
-size_pos UByte = omega arith
-size_pos UShort = omega arith
-size_pos UInt = omega arith
-size_pos Int64 = omega arith
-size_pos UInt64 = omega arith
+size_pos kind = grind (arith, nat_tests)
 
 pub size_most : (kind : NcType) → size_of kind ≤ 8
-size_most Byte = omega arith
-size_most Char = omega arith
-size_most Short = omega arith
-size_most Int = omega arith
-size_most Float = omega arith
-size_most Double = omega arith
-size_most UByte = omega arith
-size_most UShort = omega arith
-size_most UInt = omega arith
-size_most Int64 = omega arith
-size_most UInt64 = omega arith
+size_most kind = grind (arith, nat_tests)

@@ -1,18 +1,10 @@
 -- The items of a list, by their places, and those that pass a test.
-use Rattle.serial_spec.proofs.Words.{◌≡◌, ℕ, zero, suc, refl, ap, ◌∙◌, subst, List, [], ◌∷◌, Bool, true, false, cond, Some, inl, inr, filter, slice_get, list_any, or_left, or_right, In}
+use Rattle.serial_spec.proofs.Words.{◌≡◌, ℕ, zero, suc, refl, ap, ◌∙◌, subst, List, [], ◌∷◌, Bool, true, false, cond, Some, inl, inr, filter, slice_get, list_any, or_left, or_right, In, arith, nat_tests}
 
 pub in_filter : {X : Type 0} (t : X → Bool) (xs : List X) (x : X) → In xs x → t x ≡ true → In (filter t xs) x
 in_filter t [] x h e = absurd h
-in_filter {X} t (y ∷ ys) x (inl g) e = kept (t y) (ap t g ∙ e)
-  where
-    kept : (b : Bool) → b ≡ true → In (cond b (y ∷ filter t ys) (filter t ys)) x
-    kept true f = inl g
-    kept false f = cc
-in_filter {X} t (y ∷ ys) x (inr h) e = kept (in_filter t ys x h e) (t y)
-  where
-    kept : In (filter t ys) x → (b : Bool) → In (cond b (y ∷ filter t ys) (filter t ys)) x
-    kept k true = inr k
-    kept k false = k
+in_filter {X} t (y ∷ ys) x (inl g) e = grind (arith, nat_tests)
+in_filter {X} t (y ∷ ys) x (inr h) e = grind (arith, nat_tests, in_filter t ys x h e)
 
 pub in_at : {X : Type 0} (xs : List X) (x : X) → In xs x → (k : ℕ) × (slice_get xs k ≡ Some x)
 in_at [] x h = absurd h

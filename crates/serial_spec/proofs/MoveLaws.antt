@@ -1,5 +1,5 @@
 -- The redefined file has the new header, each old element at its new place, and zeros between.
-use Rattle.serial_spec.proofs.Words.{◌≡◌, ℕ, zero, suc, ◌+◌, ◌-◌, ◌<◌, ◌≤◌, min, max, refl, sym, ◌∙◌, ap, subst, inl, inr, ◌⊎◌, List, [], ◌∷◌, ◌++◌, length, map, take, drop, replicate, get_or, true, Option, Some, None, length-append, arith, common_steps, fold-append, same_number_lists, length-take, get_or-take, get_or-append_right, get_or-drop, length-replicate, length-drop, AllByRecursion, flat_map, fold, zip, slice_get, each_map, each_flat_map, each_weaker, Header, Var, at, read, written, size_of, lengths, end_of, place, row, IsIndex, IsElementBelow, AreApart, canon, header_len, is_sound, known_lengths, all_indices, moved, redefined, Moves, KeepsVars, IsRedefined, said_at, byte_or, Cell, write_cells, said_by, cases_eq}
+use Rattle.serial_spec.proofs.Words.{◌≡◌, ℕ, zero, suc, ◌+◌, ◌-◌, ◌<◌, ◌≤◌, min, max, refl, sym, ◌∙◌, ap, subst, inl, inr, ◌⊎◌, List, [], ◌∷◌, ◌++◌, length, map, take, drop, replicate, get_or, true, Option, Some, None, length-append, arith, common_steps, fold-append, same_number_lists, length-take, get_or-take, get_or-append_right, get_or-drop, length-replicate, length-drop, AllByRecursion, flat_map, fold, zip, slice_get, each_map, each_flat_map, each_weaker, Header, Var, at, read, written, size_of, lengths, end_of, place, row, IsIndex, IsElementBelow, AreApart, canon, header_len, is_sound, known_lengths, all_indices, moved, redefined, Moves, KeepsVars, IsRedefined, said_at, byte_or, Cell, write_cells, said_by, cases_eq, nat_tests}
 use Rattle.serial_spec.proofs.ApartLaws.{elements_apart, elements_past_header}
 use Rattle.serial_spec.proofs.ElementLaws.{coordinates_at}
 use Rattle.serial_spec.proofs.SaidLaws.{cells_said}
@@ -14,19 +14,10 @@ abbrev blank_of : List ℕ → ℕ → List ℕ → List ℕ
 blank_of head end file = head ++ replicate (end - length head) 0 ++ drop end file
 
 front_long : (head : List ℕ) (end : ℕ) → length head ≤ end → length (head ++ replicate (end - length head) 0) ≡ end
-front_long head end h =
-    let whole : length head + (end - length head) ≡ end = omega arith in
-    length-append head (replicate (end - length head) 0)
-    ∙ ap (λ (n : ℕ). length head + n) (length-replicate (end - length head) 0)
-    ∙ whole
+front_long head end h = grind (arith, nat_tests, length-append, length-replicate)
 
 blank_long : (head : List ℕ) (end : ℕ) (file : List ℕ) → length head ≤ end → length (blank_of head end file) ≡ max (length file) end
-blank_long head end file h =
-    let front = front_long head end h in
-    let all : length (blank_of head end file) ≡ length (head ++ replicate (end - length head) 0) + length (drop end file) =
-    length-append (head ++ replicate (end - length head) 0) (drop end file) in
-    let rest : length (drop end file) ≡ length file - end = length-drop end file in
-    omega arith
+blank_long head end file h = grind (arith, nat_tests, front_long, length-append, length-drop)
 
 blank_head : (head : List ℕ) (end : ℕ) (file : List ℕ) (x : ℕ) → length head ≤ end → x < length head → at (blank_of head end file) x ≡ get_or head x 0
 blank_head head end file x h l = grind (arith, common_steps)
@@ -35,11 +26,7 @@ blank_bare : (head : List ℕ) (end : ℕ) (file : List ℕ) (x : ℕ) → lengt
 blank_bare head end file x h l m = grind (arith, common_steps)
 
 blank_past : (head : List ℕ) (end : ℕ) (file : List ℕ) (x : ℕ) → length head ≤ end → end ≤ x → at (blank_of head end file) x ≡ at file x
-blank_past head end file x h l =
-    let again : end + (x - end) ≡ x = omega arith in
-    get_or-append_right (head ++ replicate (end - length head) 0) (drop end file) end x 0 (front_long head end h) l
-    ∙ get_or-drop end file (x - end) 0
-    ∙ ap (λ (n : ℕ). get_or file n 0) again
+blank_past head end file x h l = grind (arith, nat_tests, get_or-append_right, front_long, get_or-drop)
 
 -- ---- the elements as cells
 
@@ -67,9 +54,8 @@ moved_cells old new file into (p ∷ vs) =
 
 all_zip : (P : Var × Var → Type 0) (olds news : List Var) → ((k : ℕ) (v w : Var) → slice_get olds k ≡ Some v → slice_get news k ≡ Some w → P (v, w))
     → AllByRecursion P (zip olds news)
-all_zip P [] news f = tt
-all_zip P (v ∷ olds) [] f = tt
 all_zip P (v ∷ olds) (w ∷ news) f = (f 0 v w refl refl, all_zip P olds news (λ k x y h g. f (suc k) x y h g))
+all_zip _ _ _ f = tt
 
 each_cell : (old new : Header) (file : List ℕ) (Q : Cell → Type 0)
     → ((k : ℕ) (v w : Var) (index : List ℕ) → slice_get old.vars k ≡ Some v → slice_get new.vars k ≡ Some w → IsIndex (known_lengths old v old.records) index
@@ -82,13 +68,9 @@ each_cell old new file Q f =
     (each_weaker (IsIndex (known_lengths old v old.records)) (λ i. Q (cell_at old new file v w i)) (λ i l. f k v w i h g l) (all_indices old v) (coordinates_all (known_lengths old v old.records)))))
 
 has_zip : (olds news : List Var) (k : ℕ) (v w : Var) → slice_get olds k ≡ Some v → slice_get news k ≡ Some w → Has {A = Var × Var} (zip olds news) (v, w)
-has_zip [] news k v w h g = absurd cc
-has_zip (x ∷ olds) [] k v w h g = absurd cc
-has_zip (x ∷ olds) (y ∷ news) zero v w h g =
-    let one : x ≡ v = cc in
-    let two : y ≡ w = cc in
-    inl (λ t. (one t, two t))
+has_zip (x ∷ olds) (y ∷ news) zero v w h g = grind (arith, nat_tests)
 has_zip (x ∷ olds) (y ∷ news) (suc k) v w h g = inr (has_zip olds news k v w h g)
+has_zip _ _ k v w h g = absurd cc
 
 has_cell : (old new : Header) (file : List ℕ) (k : ℕ) (v w : Var) (index : List ℕ) → slice_get old.vars k ≡ Some v → slice_get new.vars k ≡ Some w
     → IsIndex (known_lengths old v old.records) index → Has (all_cells old new file) (cell_at old new file v w index)
@@ -104,11 +86,7 @@ record Kept (old new : Header) (k : ℕ) (v w : Var) : Type 0 where
   lens : lengths new w ≡ lengths old v
 
 kept : (old new : Header) → KeepsVars old new → (k : ℕ) (v w : Var) → slice_get old.vars k ≡ Some v → slice_get new.vars k ≡ Some w → Kept old new k v w
-kept old new keeps k v w h g =
-    let found = keeps k v h in
-    let there : Some found.0 ≡ Some w = sym found.1 ∙ g in
-    let same : found.0 ≡ w = cc in
-    subst (λ (x : Var). Kept old new k v x) same (record { kind = found.2; lens = found.3 })
+kept old new keeps k v w h g = grind (arith, nat_tests)
 
 -- an index of the old variable is one of the new
 still : (old new : Header) (k : ℕ) (v w : Var) (n : ℕ) (index : List ℕ) → is_sound new ≡ true → slice_get new.vars k ≡ Some w → Kept old new k v w
@@ -170,11 +148,7 @@ unmoved file old new x h = redefined_byte file old new x ∙ ap (λ (o : Option 
 ends : (file : List ℕ) (old new : Header) → is_sound new ≡ true → KeepsVars old new
     → (k : ℕ) (v w : Var) (index : List ℕ) → slice_get old.vars k ≡ Some v → slice_get new.vars k ≡ Some w → IsIndex (known_lengths old v old.records) index
     → place new w index + length (read file (place old v index) (size_of v.kind)) ≤ end_after old new
-ends file old new sound keeps k v w index h g i =
-    let a = kept old new keeps k v w h g in
-    let inside = element_inside new (header_len new) old.records k w index g (still old new k v w old.records index sound g a i) in
-    let long : size_of w.kind ≡ length (read file (place old v index) (size_of v.kind)) = cell_long old new file k v w index a in
-    omega arith
+ends file old new sound keeps k v w index h g i = grind (arith, nat_tests, kept, element_inside, still, cell_long)
 
 redefined_long : (file : List ℕ) (old new : Header) → is_sound new ≡ true → KeepsVars old new → length (redefined file old new) ≡ max (length file) (end_after old new)
 redefined_long file old new sound keeps =

@@ -1,5 +1,5 @@
 -- Elements end within the file, and an index below the known lengths is an element.
-use Rattle.serial_spec.proofs.Words.{◌≡◌, ℕ, zero, suc, ◌+◌, ◌-◌, ◌*◌, ◌<◌, ◌≤◌, refl, sym, ◌∙◌, ap, subst, List, [], ◌∷◌, length, map, drop, Bool, true, false, ◌||◌, cond, Some, None, arith, mul-le-mul_right, nat_tests, position_from-zero, list_any, position_from, AllByRecursion, slice_get, position, MatchBool, ◌==◌, if◌then◌else◌, and_second, equal_suc, both_none, none_of_test, none_before_map, Header, Var, size_of, greatest, length_of, lengths, starts_with_zero, without_record, is_record, slab, vsize, recsize, last_share, record_slabs, end_of_var, end_of, place, record_of, within_record, HasRecord, IsIndex, IsElementBelow, first_check, first_with, fault_if, two_record_dims, record_later, is_record_id, is_sound, known_lengths, entry_map, fails_each}
+use Rattle.serial_spec.proofs.Words.{◌≡◌, ℕ, zero, suc, ◌+◌, ◌-◌, ◌*◌, ◌<◌, ◌≤◌, refl, sym, ◌∙◌, ap, subst, List, [], ◌∷◌, length, map, drop, Bool, true, false, cond, Some, None, arith, mul-le-mul_right, nat_tests, position_from-zero, list_any, position_from, AllByRecursion, slice_get, position, MatchBool, ◌==◌, if◌then◌else◌, and_second, equal_suc, both_none, none_of_test, none_before_map, Header, Var, size_of, greatest, length_of, lengths, starts_with_zero, without_record, is_record, slab, vsize, recsize, last_share, end_of_var, end_of, place, record_of, within_record, HasRecord, IsIndex, IsElementBelow, first_check, first_with, fault_if, two_record_dims, record_later, is_record_id, is_sound, known_lengths, entry_map, fails_each}
 use Rattle.nc_base.specs.declared.errors.HeaderErr.TheVariants as fault
 use Rattle.serial_spec.proofs.ApartLaws.{span_fixed, span_record}
 
@@ -19,11 +19,7 @@ pub slab_below : (header : Header) (v : Var) → slab header v ≤ vsize header 
 slab_below header v = omega arith
 
 pub slab_shared : (header : Header) (v : Var) → slab header v ≤ last_share header v
-slab_shared header v = by_test (length (record_slabs header) == 1)
-  where
-    by_test : (t : Bool) → slab header v ≤ cond t (slab header v) (vsize header v)
-    by_test true = omega arith
-    by_test false = slab_below header v
+slab_shared header v = grind (arith, nat_tests, slab_below)
 
 pub end_fixed : (header : Header) (n : ℕ) (v : Var) → is_record header v ≡ false → end_of_var header n v ≡ v.begin + vsize header v
 end_fixed header n v e = ap (λ (t : Bool). cond t (cond (n == 0) 0 (v.begin + (n - 1) * recsize header + last_share header v)) (v.begin + vsize header v)) e
@@ -67,21 +63,7 @@ greatest_grows f g h [] = omega arith
 greatest_grows f g h (v ∷ vs) = let a = h v in let b = greatest_grows f g h vs in omega arith
 
 var_grows : (header : Header) (n m : ℕ) → n ≤ m → (v : Var) → end_of_var header n v ≤ end_of_var header m v
-var_grows header n m h v = by_kind (is_record header v) refl (n == 0) refl
-  where
-    by_kind : (t : Bool) → is_record header v ≡ t → (u : Bool) → (n == 0) ≡ u → end_of_var header n v ≤ end_of_var header m v
-    by_kind false e u f = let a = end_fixed header n v e in let b = end_fixed header m v e in omega arith
-    by_kind true e true f =
-        let none : end_of_var header n v ≡ 0 =
-        ap (λ (t : Bool). cond t (cond (n == 0) 0 (v.begin + (n - 1) * recsize header + last_share header v)) (v.begin + vsize header v)) e
-        ∙ ap (λ (t : Bool). cond t 0 (v.begin + (n - 1) * recsize header + last_share header v)) f in
-        omega arith
-    by_kind true e false f =
-        let some : (m == 0) ≡ false = grind (arith, nat_tests) in
-        let rows : (n - 1) * recsize header ≤ (m - 1) * recsize header = mul-le-mul_right (recsize header) (omega arith) in
-        let a = end_record header n v e f in
-        let b = end_record header m v e some in
-        omega arith
+var_grows header n m h v = grind (arith, nat_tests, end_fixed, mul-le-mul_right, end_record)
 
 pub end_grows : (header : Header) (first n m : ℕ) → n ≤ m → end_of header first n ≤ end_of header first m
 end_grows header first n m h =
@@ -102,30 +84,13 @@ none_known known (n ∷ ns) h = λ t. ap (λ (b : Bool). cond b known n) h.0 t �
 by_lengths : (known : ℕ) (ls : List ℕ) (index : List ℕ) → AllByRecursion (λ n. (n == 0) ≡ false) (drop 1 ls) → IsIndex (map (known_of known) ls) index
     → MatchBool (starts_with_zero ls) (HasRecord index × IsIndex (without_record ls) (within_record index)) (IsIndex (without_record ls) index)
     × MatchBool (starts_with_zero ls) (record_of index < known) (Unit {0})
-by_lengths known [] index some h = (h, tt)
-by_lengths known (zero ∷ ls) [] some h = absurd h
-by_lengths known (zero ∷ ls) (r ∷ index) some h = ((tt, subst (λ (ns : List ℕ). IsIndex ns index) (none_known known ls some) h.1), h.0)
-by_lengths known (suc n ∷ ls) index some h =
-    let e : (suc n == 0) ≡ false = equal_suc n in
-    let whole : map (known_of known) (suc n ∷ ls) ≡ suc n ∷ ls = λ t. cond_at e t ∷ none_known known ls some t in
-    let own : IsIndex (suc n ∷ ls) index = subst (λ (ns : List ℕ). IsIndex ns index) whole h in (
-      subst (λ (t : Bool). MatchBool t (HasRecord index × IsIndex (suc n ∷ ls) (within_record index)) (IsIndex (suc n ∷ ls) index)) (sym e) own,
-      subst (λ (t : Bool). MatchBool t (record_of index < known) (Unit {0})) (sym e) tt,
-    )
-  where
-    cond_at : (suc n == 0) ≡ false → known_of known (suc n) ≡ suc n
-    cond_at e = ap (λ (t : Bool). cond t known (suc n)) e
+by_lengths known ls index some h = grind (arith, nat_tests, none_known, equal_suc)
 
 -- ---- the record dimension stands only first
 
 pub untested : {A : Type 0} (test : A → Bool) (n : ℕ) (xs : List A) (k : ℕ) (x : A) → position_from test n xs ≡ None → slice_get xs k ≡ Some x → test x ≡ false
 untested test n [] k x h g = absurd cc
-untested test n (y ∷ xs) zero x h g =
-    let same : y ≡ x = cc in by_test (test y) refl same h
-  where
-    by_test : (t : Bool) → test y ≡ t → y ≡ x → cond t (Some n) (position_from test (n + 1) xs) ≡ None → test x ≡ false
-    by_test true e same h = absurd cc
-    by_test false e same h = ap test (sym same) ∙ e
+untested test n (y ∷ xs) zero x h g = grind (arith, nat_tests)
 untested test n (y ∷ xs) (suc k) x h g = untested test (n + 1) xs k x (by_test (test y) h) g
   where
     by_test : (t : Bool) → cond t (Some n) (position_from test (n + 1) xs) ≡ None → position_from test (n + 1) xs ≡ None

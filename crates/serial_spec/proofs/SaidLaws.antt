@@ -1,5 +1,5 @@
 -- A byte after writes and puts is what the last of them that has it says, else the old one.
-use Rattle.serial_spec.proofs.Words.{◌≡◌, ℕ, zero, suc, ◌+◌, ◌-◌, ◌<◌, ◌≤◌, refl, sym, ◌∙◌, ap, subst, List, [], ◌∷◌, ◌++◌, length, take, drop, get_or, Bool, true, false, cond, Option, Some, None, arith, common_steps, flat_map-append, fold-append, get_or-append_right, get_or_append_left, nat_tests, fold, flat_map, zip, nat_lt, ◌==◌, slice_get, enumerate_from, range_with_len, option_or, length-range_with_len, equal_above, equal_below, neither_some, second_counts, first_counts, option_or_assoc, none_last, Header, Var, Post, at, longer, written, one_says, said_at, byte_or, Cell, write_cells, said_by, size_of, cells, places, Puts, bytes_of_some, said_by_puts, needed_by, Setting, end_for, put_post, put_some, after_puts}
+use Rattle.serial_spec.proofs.Words.{◌≡◌, ℕ, suc, ◌+◌, ◌-◌, ◌<◌, ◌≤◌, refl, sym, ◌∙◌, ap, List, [], ◌∷◌, ◌++◌, length, take, drop, get_or, Bool, true, false, cond, Option, Some, None, arith, common_steps, flat_map-append, fold-append, get_or-append_right, get_or_append_left, nat_tests, fold, flat_map, zip, ◌==◌, slice_get, enumerate_from, range_with_len, option_or, length-range_with_len, equal_above, equal_below, neither_some, second_counts, first_counts, option_or_assoc, none_last, Header, Var, Post, at, longer, written, one_says, said_at, byte_or, Cell, write_cells, said_by, size_of, cells, places, Puts, bytes_of_some, said_by_puts, Setting, put_post, put_some, after_puts}
 use Rattle.std.proofs.lemmas.List.{length-append}
 use borrow.Author.Tests.{ltb-true, ltb-false, eqb-true}
 use Rattle.serial_spec.proofs.FileLaws.{at-longer, at-written_before, at-written_after, written-front}
@@ -57,29 +57,10 @@ pub front_long : (file b : List ℕ) (x : ℕ) → length (take x (longer file x
 front_long file b x = length-append (take x (longer file x)) b ∙ ap (λ (n : ℕ). n + length b) (taken_long file x)
 
 pub at-written_inside : (file b : List ℕ) (x y : ℕ) → x ≤ y → y < x + length b → at (written file x b) y ≡ get_or b (y - x) 0
-at-written_inside file b x y h k =
-    let long : y < length (take x (longer file x) ++ b) = subst (λ (n : ℕ). y < n) (sym (front_long file b x)) k in
-    ap (λ (f : List ℕ). at f y) (written-front file x b)
-    ∙ get_or_append_left (take x (longer file x) ++ b) (drop (x + length b) file) 0 y long
-    ∙ get_or-append_right (take x (longer file x)) b x y 0 (taken_long file x) h
+at-written_inside file b x y h k = grind (arith, nat_tests, front_long, written-front, get_or_append_left, get_or-append_right, taken_long)
 
 pub written_said : (file b : List ℕ) (p x : ℕ) → at (written file p b) x ≡ byte_or (said_at (enumerate_from p b) x) (at file x)
-written_said file b p x = by_front (nat_lt x p) refl
-  where
-    unsaid : said_at (enumerate_from p b) x ≡ None → at file x ≡ byte_or (said_at (enumerate_from p b) x) (at file x)
-    unsaid e = ap (λ (o : Option ℕ). byte_or o (at file x)) (sym e)
-
-    by_back : (t : Bool) → nat_lt x (p + length b) ≡ t → p ≤ x → at (written file p b) x ≡ byte_or (said_at (enumerate_from p b) x) (at file x)
-    by_back true e h =
-        let k : x < p + length b = ltb-true _ _ e in
-        at-written_inside file b p x h k ∙ ap (λ (o : Option ℕ). byte_or o (at file x)) (sym (said_inside p b x 0 h k))
-    by_back false e h =
-        let k : p + length b ≤ x = ltb-false _ _ e in
-        at-written_after file b p x k ∙ unsaid (said_past p b x k)
-
-    by_front : (t : Bool) → nat_lt x p ≡ t → at (written file p b) x ≡ byte_or (said_at (enumerate_from p b) x) (at file x)
-    by_front true e = let h : x < p = ltb-true _ _ e in at-written_before file b p x h ∙ unsaid (said_below p b x h)
-    by_front false e = by_back (nat_lt x (p + length b)) refl (ltb-false _ _ e)
+written_said file b p x = grind (arith, nat_tests, ltb-true, at-written_inside, said_inside, ltb-false, at-written_after, said_past, at-written_before, said_below)
 
 -- ---- cells
 
@@ -91,11 +72,7 @@ said_append (p ∷ ps) qs x =
 -- each byte of a file after cells were written
 pub cells_said : (cells : List Cell) (file : List ℕ) (x : ℕ) → at (write_cells file cells) x ≡ byte_or (said_at (said_by cells) x) (at file x)
 cells_said [] file x = refl
-cells_said (c ∷ cells) file x =
-    cells_said cells (written file c.0 c.1) x
-    ∙ ap (λ (b : ℕ). byte_or (said_at (said_by cells) x) b) (written_said file c.1 c.0 x)
-    ∙ byte_or_later (said_at (said_by cells) x) (said_at (enumerate_from c.0 c.1) x) (at file x)
-    ∙ ap (λ (o : Option ℕ). byte_or o (at file x)) (sym (said_append (enumerate_from c.0 c.1) (said_by cells) x))
+cells_said (c ∷ cells) file x = grind (arith, nat_tests, cells_said cells (written file c.0 c.1) x, written_said, byte_or_later, said_append)
 
 -- ---- puts
 
@@ -116,10 +93,7 @@ put_is_cells s (Some v) post file = refl
 -- the model's step, as cells
 pub puts_are_cells : (s : Setting) (puts : Puts) (file : List ℕ) → fold (put_post s) file puts ≡ write_cells file (cells_of_puts s.header puts)
 puts_are_cells s [] file = refl
-puts_are_cells s (p ∷ puts) file =
-    puts_are_cells s puts (put_post s file p)
-    ∙ ap (λ f. write_cells f (cells_of_puts s.header puts)) (put_is_cells s (slice_get s.header.vars p.1.var) p.1 file)
-    ∙ sym (fold-append (λ f cell. written f cell.0 cell.1) file (cells_of s.header p.1) (cells_of_puts s.header puts))
+puts_are_cells s (p ∷ puts) file = grind (arith, nat_tests, puts_are_cells s puts (put_post s file p), put_is_cells, fold-append)
 
 -- ---- what cells of elements say
 
@@ -134,15 +108,11 @@ zip_append (x ∷ r) s (v ∷ b) = ap (λ ps. (x, v) ∷ ps) (zip_append r s b)
 
 -- bytes from a place on
 pub zip_range : (p n : ℕ) (b : List ℕ) → enumerate_from p (take n b) ≡ zip (range_with_len p n) (take n b)
-zip_range p zero b = refl
-zip_range p (suc n) [] = refl
 zip_range p (suc n) (v ∷ b) = ap (λ ps. (p, v) ∷ ps) (zip_range (p + 1) n b)
+zip_range p _ _ = refl
 
 pub range_and_rest : (p n : ℕ) (rest b : List ℕ) → zip (range_with_len p n ++ rest) b ≡ enumerate_from p (take n b) ++ zip rest (drop n b)
-range_and_rest p n rest b =
-    zip_append (range_with_len p n) rest b
-    ∙ ap (λ m. zip (range_with_len p n) (take m b) ++ zip rest (drop m b)) (length-range_with_len p n)
-    ∙ ap (λ ps. ps ++ zip rest (drop n b)) (sym (zip_range p n b))
+range_and_rest p n rest b = grind (arith, nat_tests, zip_append, length-range_with_len, zip_range)
 
 pub cells_say : (size : ℕ) (ps bytes : List ℕ) → said_by (cells size ps bytes) ≡ zip (flat_map (λ x. range_with_len x size) ps) bytes
 cells_say size [] bytes = refl
@@ -156,17 +126,9 @@ post_says header (Some v) post = cells_say (size_of v.kind) (places header v pos
 
 pub puts_say : (header : Header) (puts : Puts) → said_by (cells_of_puts header puts) ≡ said_by_puts header puts
 puts_say header [] = refl
-puts_say header (p ∷ puts) =
-    flat_map-append (λ cell. enumerate_from cell.0 cell.1) (cells_of header p.1) (cells_of_puts header puts)
-    ∙ ap (λ rest. said_by (cells_of header p.1) ++ rest) (puts_say header puts)
-    ∙ ap (λ first. first ++ said_by_puts header puts) (post_says header (slice_get header.vars p.1.var) p.1)
+puts_say header (p ∷ puts) = grind (arith, nat_tests, puts_say header puts, flat_map-append, post_says)
 
 -- ---- the law
 
 pub puts_said : (s : Setting) (puts : Puts) (file : List ℕ) (x : ℕ) → at (after_puts s puts None file) x ≡ byte_or (said_at (said_by_puts s.header puts) x) (at file x)
-puts_said s puts file x =
-    let whole = longer file (end_for s (needed_by s.header puts)) in
-    ap (λ (f : List ℕ). at f x) (puts_are_cells s puts whole)
-    ∙ cells_said (cells_of_puts s.header puts) whole x
-    ∙ ap (λ (ps : List (ℕ × ℕ)). byte_or (said_at ps x) (at whole x)) (puts_say s.header puts)
-    ∙ ap (λ (b : ℕ). byte_or (said_at (said_by_puts s.header puts) x) b) (at-longer file (end_for s (needed_by s.header puts)) x)
+puts_said s puts file x = grind (arith, nat_tests, puts_are_cells, cells_said, puts_say, at-longer)

@@ -1,5 +1,5 @@
 -- The pair of variables that is computed is the least pair that shares a byte, and there is none where none is computed.
-use Rattle.serial_spec.proofs.Words.{◌≡◌, ℕ, zero, suc, ◌+◌, ◌<◌, ◌≤◌, refl, sym, ◌∙◌, ap, subst, inl, inr, ◌⊎◌, List, [], ◌∷◌, Bool, true, false, cond, Option, Some, None, arith, slice_get, nat_lt, IsTrue, option_or, told_else, both_none, Header, Var, share, sharing, sharing_with, sharing_from, Shares, IsSharing}
+use Rattle.serial_spec.proofs.Words.{◌≡◌, ℕ, zero, suc, ◌+◌, ◌<◌, ◌≤◌, refl, sym, ◌∙◌, ap, subst, inl, inr, ◌⊎◌, List, [], ◌∷◌, Bool, true, false, cond, Option, Some, None, arith, slice_get, nat_lt, IsTrue, option_or, told_else, both_none, Header, Var, share, sharing, sharing_with, sharing_from, Shares, IsSharing, nat_tests}
 use borrow.Author.Tests.{ltb-true, ltb-false}
 use Rattle.serial_spec.proofs.ApartLaws.{none_with}
 
@@ -60,11 +60,7 @@ stands_alone header first k m v vs e none zero (x, g, inl (s, l)) =
     begins_in first v e (subst (λ (y : Var). y.begin < first) same l)
 stands_alone header first k m v vs e none (suc b) (x, g, inl (s, l)) = absurd (omega arith)
 stands_alone header first k m v vs e none zero (x, g, inr (l, w, f, s)) = absurd (omega arith)
-stands_alone header first k m v vs e none (suc b) (x, g, inr (l, w, f, s)) =
-    let same : x ≡ v = cc in
-    let yes : share header v w ≡ true = subst (λ (y : Var). share header y w ≡ true) same s in
-    let no : share header v w ≡ false = none_with header v k m vs b w none f in
-    absurd cc
+stands_alone header first k m v vs e none (suc b) (x, g, inr (l, w, f, s)) = grind (arith, nat_tests, none_with)
 
 -- a pair behind the first variable is one of the list behind it
 behind : (header : Header) (first : ℕ) (v : Var) (vs : List Var) (a b : ℕ) → SharesOf header first (v ∷ vs) (suc a) b

@@ -2,10 +2,9 @@
 use Rattle.vara_extents.proofs.Words.{◌≡◌, ℕ, zero, suc, ◌+◌, ◌*◌, ◌<◌, ◌≤◌, ◌∙◌, ap, sym, refl, inl, inr, ◌⊎◌, List, [], ◌∷◌, length, map, Bool, true, false, ltb, leb, eqb, ◌||◌, ◌&&◌, max, min, replicate, arith, flat_map, bytes_eq, list_any, range_with_len, ltb-true, lt-ltb, leb-true, le-leb, eqb-true, eq-eqb, and_parts, and_from, or_cases, or_left, or_right, cases_lt, cases_eq, list_any-append, map-append, any_map, coordinates, index_at, has_index, boxes_meet}
 
 same_bool : (a b : Bool) → (a ≡ true → b ≡ true) → (b ≡ true → a ≡ true) → a ≡ b
-same_bool true true f g = refl
 same_bool true false f g = sym (f refl)
 same_bool false true f g = g refl
-same_bool false false f g = refl
+same_bool _ _ f g = refl
 
 both_or : (a b x : Bool) → ((a && x) || (b && x)) ≡ ((a || b) && x)
 both_or true true true = refl
@@ -26,10 +25,9 @@ abbrev pub box : List ℕ → List ℕ → List (List ℕ)
 box starts counts = map (λ c. index_at starts (replicate (length counts) 1) c) (coordinates counts)
 
 any_and : {A : Type 0} (b : Bool) (q : A → Bool) (xs : List A) → list_any (λ c. b && q c) xs ≡ (b && list_any q xs)
-any_and true q [] = refl
 any_and true q (x ∷ xs) = ap (λ r. q x || r) (any_and true q xs)
-any_and false q [] = refl
 any_and false q (x ∷ xs) = any_and false q xs
+any_and _ q _ = refl
 
 -- a test of an index that tests the first number and the rest
 split_any : (p : ℕ → Bool) (q all : List ℕ → Bool) → ((x : ℕ) (xs : List ℕ) → all (x ∷ xs) ≡ (p x && q xs))
@@ -129,10 +127,7 @@ has_is (t ∷ starts) (m ∷ counts) (x ∷ index) h k =
   where
     plain : t + 0 ≡ t
     plain = omega arith
-has_is [] (m ∷ counts) index h k = absurd (omega (arith, h))
-has_is (t ∷ starts) [] index h k = absurd (omega (arith, h))
-has_is [] [] (x ∷ index) h k = absurd (omega (arith, k))
-has_is (t ∷ starts) (m ∷ counts) [] h k = absurd (omega (arith, k))
+has_is _ _ _ h k = absurd (omega (arith, h, k))
 
 boxes_is : (starts counts others lengths : List ℕ) → length starts ≡ length counts → length others ≡ length counts → length lengths ≡ length counts
     → list_any (in_box others lengths) (box starts counts) ≡ boxes_meet starts counts others lengths
@@ -144,12 +139,7 @@ boxes_is (s ∷ starts) (n ∷ counts) (t ∷ others) (m ∷ lengths) h k l =
   where
     plain : s + 0 ≡ s
     plain = omega arith
-boxes_is [] (n ∷ counts) others lengths h k l = absurd (omega (arith, h))
-boxes_is (s ∷ starts) [] others lengths h k l = absurd (omega (arith, h))
-boxes_is [] [] (t ∷ others) lengths h k l = absurd (omega (arith, k))
-boxes_is [] [] [] (m ∷ lengths) h k l = absurd (omega (arith, l))
-boxes_is (s ∷ starts) (n ∷ counts) [] lengths h k l = absurd (omega (arith, k))
-boxes_is (s ∷ starts) (n ∷ counts) (t ∷ others) [] h k l = absurd (omega (arith, l))
+boxes_is _ _ _ _ h k l = absurd (omega (arith, h, k, l))
 
 -- every index of a box has as many numbers as the box
 parted : (h : List ℕ → Bool) (s i : ℕ) (starts ones : List ℕ) (inner : List (List ℕ)) (is : List ℕ)
@@ -178,11 +168,10 @@ long_each f g s starts ones inner same (i ∷ is) =
 long_all : (starts counts : List ℕ) (f g : List ℕ → Bool) → length starts ≡ length counts → ((x : List ℕ) → length x ≡ length counts → f x ≡ g x)
     → list_any f (box starts counts) ≡ list_any g (box starts counts)
 long_all [] [] f g h same = ap (λ b. b || false) (same [] refl)
-long_all [] (n ∷ counts) f g h same = absurd (omega (arith, h))
-long_all (s ∷ starts) [] f g h same = absurd (omega (arith, h))
 long_all (s ∷ starts) (n ∷ counts) f g h same =
     long_each f g s starts (replicate (length counts) 1) (coordinates counts)
     (λ x. long_all starts counts (λ y. f (x ∷ y)) (λ y. g (x ∷ y)) (omega arith) (λ y e. same (x ∷ y) (ap suc e))) (range_with_len 0 n)
+long_all _ _ f g h same = absurd (omega (arith, h))
 
 -- two boxes share an index exactly where their ranges meet
 pub boxes_share : (starts counts others lengths : List ℕ) → length starts ≡ length counts → length others ≡ length lengths → length lengths ≡ length counts

@@ -19,11 +19,10 @@ join_apart e d es h = ap (λ (t : Bool). cond t (lengthened e d.len ∷ es) (e �
 -- an extent that is joined to others begins where it begins
 pub join_first : (e : Extent) (es : List Extent) → (d : Extent) × (ds : List Extent) × (joined_to e es ≡ d ∷ ds) × (d.at ≡ e.at) × (e.len ≤ d.len)
 join_first e [] = (e, [], refl, refl, omega arith)
-join_first e (c ∷ es) = by_case (cases_eq c.at (e.at + e.len))
-  where
-    by_case : (c.at ≡ e.at + e.len) ⊎ (c.at ≡ e.at + e.len → ⊥) → (d : Extent) × (ds : List Extent) × (joined_to e (c ∷ es) ≡ d ∷ ds) × (d.at ≡ e.at) × (e.len ≤ d.len)
-    by_case (inl h) = (lengthened e c.len, es, join_next e c es h, refl, omega arith)
-    by_case (inr h) = (e, c ∷ es, join_apart e c es h, refl, omega arith)
+join_first e (c ∷ es) = elim (cases_eq c.at (e.at + e.len)) [
+  | inl h ↦ (lengthened e c.len, es, join_next e c es h, refl, omega arith)
+  | inr h ↦ (e, c ∷ es, join_apart e c es h, refl, omega arith)
+]
 
 same_extent : (a b m n : ℕ) → a ≡ b → m ≡ n → extent a m ≡ extent b n
 same_extent a b m n h k = λ i. extent (h i) (k i)
@@ -88,15 +87,14 @@ joined_is (e ∷ es) = before e (joined es) (joined_is es)
   where
     before : (e : Extent) (ds : List Extent) → IsJoined ds → IsJoined (joined_to e ds)
     before e [] h = (tt, tt)
-    before e (d ∷ ds) h = by_case (cases_eq d.at (e.at + e.len))
+    before e (d ∷ ds) h = elim (cases_eq d.at (e.at + e.len)) [
+      | inl k ↦ subst IsJoined (sym (join_next e d ds k)) (later ds k h.0, h.1)
+      | inr k ↦ subst IsJoined (sym (join_apart e d ds k)) ((λ m. k (sym m)), h)
+    ]
       where
         later : (ds : List Extent) → d.at ≡ e.at + e.len → IsNotNext d ds → IsNotNext (lengthened e d.len) ds
         later [] k m = tt
         later (c ∷ ds) k m = λ n. m (omega arith)
-
-        by_case : (d.at ≡ e.at + e.len) ⊎ (d.at ≡ e.at + e.len → ⊥) → IsJoined (joined_to e (d ∷ ds))
-        by_case (inl k) = subst IsJoined (sym (join_next e d ds k)) (later ds k h.0, h.1)
-        by_case (inr k) = subst IsJoined (sym (join_apart e d ds k)) ((λ m. k (sym m)), h)
 
 abbrev pub AreSome : List Extent → Type 0
 AreSome es = AllByRecursion (λ (e : Extent). 1 ≤ e.len) es
@@ -107,11 +105,10 @@ joined_some (e ∷ es) h = before e (joined es) h.0 (joined_some es h.1)
   where
     before : (e : Extent) (ds : List Extent) → 1 ≤ e.len → AreSome ds → AreSome (joined_to e ds)
     before e [] l h = (l, tt)
-    before e (d ∷ ds) l h = by_case (cases_eq d.at (e.at + e.len))
-      where
-        by_case : (d.at ≡ e.at + e.len) ⊎ (d.at ≡ e.at + e.len → ⊥) → AreSome (joined_to e (d ∷ ds))
-        by_case (inl k) = subst AreSome (sym (join_next e d ds k)) (omega arith, h.1)
-        by_case (inr k) = subst AreSome (sym (join_apart e d ds k)) (l, h)
+    before e (d ∷ ds) l h = elim (cases_eq d.at (e.at + e.len)) [
+      | inl k ↦ subst AreSome (sym (join_next e d ds k)) (omega arith, h.1)
+      | inr k ↦ subst AreSome (sym (join_apart e d ds k)) (l, h)
+    ]
 
 -- every extent ends by n
 abbrev pub EndBy : ℕ → List Extent → Type 0
@@ -123,11 +120,10 @@ joined_end n (e ∷ es) h = before e (joined es) h.0 (joined_end n es h.1)
   where
     before : (e : Extent) (ds : List Extent) → e.at + e.len ≤ n → EndBy n ds → EndBy n (joined_to e ds)
     before e [] l h = (l, tt)
-    before e (d ∷ ds) l h = by_case (cases_eq d.at (e.at + e.len))
-      where
-        by_case : (d.at ≡ e.at + e.len) ⊎ (d.at ≡ e.at + e.len → ⊥) → EndBy n (joined_to e (d ∷ ds))
-        by_case (inl k) = let low = h.0 in subst (EndBy n) (sym (join_next e d ds k)) (omega arith, h.1)
-        by_case (inr k) = subst (EndBy n) (sym (join_apart e d ds k)) (l, h)
+    before e (d ∷ ds) l h = elim (cases_eq d.at (e.at + e.len)) [
+      | inl k ↦ (let low = h.0 in subst (EndBy n) (sym (join_next e d ds k)) (omega arith, h.1))
+      | inr k ↦ subst (EndBy n) (sym (join_apart e d ds k)) (l, h)
+    ]
 
 pub joined_spans : (es : List Extent) → spans (joined es) ≡ spans es
 joined_spans [] = refl

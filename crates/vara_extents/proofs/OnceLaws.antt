@@ -33,11 +33,9 @@ some_stride (suc t) e = omega arith
 same_coordinates : (counts starts strides c d : List ℕ) → length starts ≡ length counts → length strides ≡ length counts → list_any (λ t. eqb t 0) strides ≡ false
     → IsIndex counts c → IsIndex counts d → index_at starts strides c ≡ index_at starts strides d → c ≡ d
 same_coordinates [] starts strides [] [] a b s h k e = refl
-same_coordinates [] starts strides (i ∷ c) d a b s h k e = absurd h
 same_coordinates [] starts strides [] (j ∷ d) a b s h k e = absurd k
 same_coordinates (n ∷ counts) [] strides c d a b s h k e = absurd (omega arith)
 same_coordinates (n ∷ counts) (x ∷ starts) [] c d a b s h k e = absurd (omega arith)
-same_coordinates (n ∷ counts) (x ∷ starts) (t ∷ strides) [] d a b s h k e = absurd h
 same_coordinates (n ∷ counts) (x ∷ starts) (t ∷ strides) (i ∷ c) [] a b s h k e = absurd k
 same_coordinates (n ∷ counts) (x ∷ starts) (t ∷ strides) (i ∷ c) (j ∷ d) a b s h k e =
     let some = or_parts (eqb t 0) (list_any (λ t. eqb t 0) strides) s in
@@ -46,6 +44,7 @@ same_coordinates (n ∷ counts) (x ∷ starts) (t ∷ strides) (i ∷ c) (j ∷ 
     let here = same_factor i j t (some_stride t some.0) (omega arith) in
     let rest = same_coordinates counts starts strides c d (omega arith) (omega arith) some.1 h.1 k.1 later in
     (λ z. here z ∷ rest z)
+same_coordinates _ _ _ _ d a b s h k e = absurd h
 
 -- ---- the bytes of an accepted region
 

@@ -66,23 +66,21 @@ row_inside f n weight run row total one some (inr h) =
 -- the same of a list of counts
 pub rows_here : (counts weights : List ℕ) (run : ℕ) → 1 ≤ length counts → 1 ≤ product counts → 1 ≤ run → product (rest counts) ≡ run → length weights ≡ length counts
     → HaveRows (λ k. weighted weights (coordinates_of counts k)) run (get_or counts 0 0) (product counts)
-rows_here [] weights run a some one same l = absurd (omega arith)
-rows_here (n ∷ counts) [] run a some one same l = absurd (omega arith)
 rows_here (n ∷ counts) (w ∷ weights) run a some one same l =
     row_here (λ k. weighted weights (coordinates_of counts k)) n w run (product counts) (factor n (product counts) some) one (sym (ap product (rest_is n counts)) ∙ same)
   where
     factor : (n p : ℕ) → 1 ≤ n * p → 1 ≤ n
     factor zero p h = absurd (omega arith)
     factor (suc n) p h = omega arith
+rows_here _ _ run a some one same l = absurd (omega arith)
 
 pub rows_inside : (counts weights : List ℕ) (run row : ℕ) → 1 ≤ length counts → 1 ≤ product (rest counts) → 1 ≤ run
     → ((ws : List ℕ) → length ws ≡ length (rest counts) → HaveRows (λ k. weighted ws (coordinates_of (rest counts) k)) run row (product (rest counts))) → length weights ≡ length counts
     → HaveRows (λ k. weighted weights (coordinates_of counts k)) run row (product counts)
-rows_inside [] weights run row a some one h l = absurd (omega arith)
-rows_inside (n ∷ counts) [] run row a some one h l = absurd (omega arith)
 rows_inside (n ∷ counts) (w ∷ weights) run row a some one h l =
     let own = subst (λ (xs : List ℕ). (ws : List ℕ) → length ws ≡ length xs → HaveRows (λ k. weighted ws (coordinates_of xs k)) run row (product xs)) (rest_is n counts) h in
     row_inside (λ k. weighted weights (coordinates_of counts k)) n w run row (product counts) one (omega (arith, some, ap product (rest_is n counts))) (own weights (omega arith))
+rows_inside _ _ run row a some one h l = absurd (omega arith)
 
 -- ---- places by their weights
 
@@ -105,20 +103,17 @@ weights_of size (n ∷ lengths) (t ∷ strides) = t * product lengths * size ∷
 weights_of size _ _ = []
 
 length-weights_of : (size : ℕ) (lengths strides : List ℕ) → length strides ≡ length lengths → length (weights_of size lengths strides) ≡ length strides
-length-weights_of size [] [] h = refl
 length-weights_of size [] (t ∷ strides) h = absurd (omega arith)
-length-weights_of size (n ∷ lengths) [] h = refl
 length-weights_of size (n ∷ lengths) (t ∷ strides) h = ap suc (length-weights_of size lengths strides (omega arith))
+length-weights_of size _ _ h = refl
 
 row_weighted : (size : ℕ) (lengths starts strides cs : List ℕ) → length starts ≡ length lengths → length strides ≡ length lengths → length cs ≡ length lengths
     → spec.row lengths (index_at starts strides cs) * size ≡ spec.row lengths starts * size + weighted (weights_of size lengths strides) cs
 row_weighted size [] starts strides cs a b c = omega arith
-row_weighted size (n ∷ lengths) [] strides cs a b c = absurd (omega arith)
-row_weighted size (n ∷ lengths) (s ∷ starts) [] cs a b c = absurd (omega arith)
-row_weighted size (n ∷ lengths) (s ∷ starts) (t ∷ strides) [] a b c = absurd (omega arith)
 row_weighted size (n ∷ lengths) (s ∷ starts) (t ∷ strides) (x ∷ cs) a b c =
     let inner = row_weighted size lengths starts strides cs (omega arith) (omega arith) (omega arith) in
     omega (arith, inner)
+row_weighted size _ _ _ _ a b c = absurd (omega arith)
 
 length-coordinates_of : (counts : List ℕ) (k : ℕ) → length (coordinates_of counts k) ≡ length counts
 length-coordinates_of [] k = refl

@@ -1,5 +1,5 @@
 -- Rows and runs of elements by their numbers, one dimension more.
-use Rattle.vara_extents.proofs.Words.{◌≡◌, ℕ, zero, suc, ◌+◌, ◌-◌, ◌*◌, ◌/◌, ◌%◌, ◌^◌, ◌<◌, ◌≤◌, ◌⊎◌, min, inr, refl, sym, ap, subst, ◌∙◌, List, [], ◌∷◌, length, take, drop, get_or, true, false, arith, slice_get, take_rest, mod_below, mul-le, mul-le-mul_left, eqb-true, eqb-false, index_fixed, index_record, Header, Var, Region, size_of, product, length_of, recsize, is_record, starts_with_zero, without_record, lengths_of, row, place, record_of, within_record, HasRecord, IsIndex, IsElement, index_at, product_pos, place_fixed, place_record, coordinates_of, index_of, row_of, AreRuns}
+use Rattle.vara_extents.proofs.Words.{◌≡◌, ℕ, zero, suc, ◌+◌, ◌-◌, ◌*◌, ◌/◌, ◌%◌, ◌^◌, ◌<◌, ◌≤◌, ◌⊎◌, min, inr, refl, sym, ap, subst, ◌∙◌, List, [], ◌∷◌, length, take, drop, get_or, true, false, arith, transport, slice_get, take_rest, mod_below, mul-le, mul-le-mul_left, eqb-true, eqb-false, index_fixed, index_record, Header, Var, Region, size_of, product, length_of, recsize, is_record, starts_with_zero, without_record, lengths_of, row, place, record_of, within_record, HasRecord, IsIndex, IsElement, index_at, product_pos, place_fixed, place_record, coordinates_of, index_of, row_of, AreRuns}
 use Rattle.vara_extents.proofs.RunLaws.{kept, merged, same_runs, sized}
 
 -- the list after its first entry, as a pattern takes it
@@ -29,9 +29,8 @@ pub record RowStep (header : Header) (ids starts counts strides : List ℕ) (num
   pub rows : before * len + (s + number / inner * t) ≤ before * product (lengths_of header ids) + row_of header ids starts counts strides number
 
 pub some_block : (n p k : ℕ) → k < n * p → (1 ≤ n) × (1 ≤ p)
-some_block zero p k h = absurd (omega arith)
-some_block (suc n) zero k h = absurd (omega arith)
 some_block (suc n) (suc p) k h = (omega arith, omega arith)
+some_block _ _ k h = absurd (omega arith)
 
 step_of : (header : Header) (number before id s n t : ℕ) (ids starts counts strides : List ℕ) → IsValid header (id ∷ ids) (s ∷ starts) (n ∷ counts) (t ∷ strides) number
     → RowStep header (id ∷ ids) (s ∷ starts) (n ∷ counts) (t ∷ strides) number before (product counts) (length_of (slice_get header.dims id)) s t ids starts counts strides
@@ -52,30 +51,16 @@ step_of header number before id s n t ids starts counts strides h =
       rows = omega arith;
     }
 
-step_at : (header : Header) (ids starts counts strides : List ℕ) (number before id s n t : ℕ) (ids' starts' counts' strides' : List ℕ)
-    → ids ≡ id ∷ ids' → starts ≡ s ∷ starts' → counts ≡ n ∷ counts' → strides ≡ t ∷ strides' → IsValid header ids starts counts strides number
-    → RowStep header ids starts counts strides number before (product counts') (length_of (slice_get header.dims id)) s t ids' starts' counts' strides'
-step_at header ids starts counts strides number before id s n t ids' starts' counts' strides' e f g h valid =
-    let P : List ℕ → List ℕ → List ℕ → List ℕ → Type 0 = λ a b c d.
-    IsValid header a b c d number → RowStep header a b c d number before (product counts') (length_of (slice_get header.dims id)) s t ids' starts' counts' strides' in
-    (subst (λ (x : List ℕ). P x starts counts strides) (sym e)
-    (subst (λ (x : List ℕ). P (id ∷ ids') x counts strides) (sym f)
-    (subst (λ (x : List ℕ). P (id ∷ ids') (s ∷ starts') x strides) (sym g)
-    (subst (λ (x : List ℕ). P (id ∷ ids') (s ∷ starts') (n ∷ counts') x) (sym h)
-    (step_of header number before id s n t ids' starts' counts' strides')))))
-    valid
-
 pub row_step : (header : Header) (ids starts counts strides : List ℕ) (number before inner len : ℕ) → 1 ≤ length ids → 1 ≤ length starts → 1 ≤ length counts → 1 ≤ length strides
     → IsIndex (lengths_of header ids) (index_at starts strides (coordinates_of counts number)) → number < product counts → product counts ≤ 2 ^ 20
     → inner ≡ min (product (rest counts)) (2 ^ 64 - 1) → len ≡ length_of (slice_get header.dims (get_or ids 0 0))
     → RowStep header ids starts counts strides number before inner len (get_or starts 0 0) (get_or strides 0 0) (rest ids) (rest starts) (rest counts) (rest strides)
-row_step header ids starts counts strides number before inner len a b c d valid below small is_inner is_len =
-    let step = step_at header ids starts counts strides number before (get_or ids 0 0) (get_or starts 0 0) (get_or counts 0 0) (get_or strides 0 0) (rest ids) (rest starts) (rest counts) (rest strides)
-    (split ids a) (split starts b) (split counts c) (split strides d) (valid, below, small) in
-    let top = step.small in
-    let same : product (rest counts) ≡ inner = omega arith in
-    subst (λ (m : ℕ). RowStep header ids starts counts strides number before m len (get_or starts 0 0) (get_or strides 0 0) (rest ids) (rest starts) (rest counts) (rest strides)) same
-    (subst (λ (m : ℕ). RowStep header ids starts counts strides number before (product (rest counts)) m (get_or starts 0 0) (get_or strides 0 0) (rest ids) (rest starts) (rest counts) (rest strides)) (sym is_len) step)
+row_step header (id ∷ ids) (s ∷ starts) (n ∷ counts) (t ∷ strides) number before inner len a b c d valid below small is_inner is_len =
+    let step = step_of header number before id s n t ids starts counts strides (valid, below, small) in
+    let same : product counts ≡ inner = omega (arith, is_inner, ap product (rest_is n counts), step.small) in
+    transport (λ i. RowStep header (id ∷ ids) (s ∷ starts) (n ∷ counts) (t ∷ strides) number before (same i) (sym is_len i) s t
+    (sym (rest_is id ids) i) (sym (rest_is s starts) i) (sym (rest_is n counts) i) (sym (rest_is t strides) i)) step
+row_step header _ _ _ _ number before inner len a b c d valid below small is_inner is_len = absurd (omega arith)
 
 pub no_counts : (header : Header) (ids starts counts strides : List ℕ) (number : ℕ) → 1 ≤ length ids → length counts < 1
     → IsIndex (lengths_of header ids) (index_at starts strides (coordinates_of counts number)) → ⊥
@@ -109,24 +94,17 @@ some_first : (counts counts' : List ℕ) (n : ℕ) → counts ≡ n ∷ counts' 
 some_first counts counts' zero e h = let none = ap product e in absurd (omega arith)
 some_first counts counts' (suc n) e h = omega arith
 
-moved_runs : (header : Header) (run id n t : ℕ) (ids counts strides ids' counts' strides' : List ℕ) → ids ≡ id ∷ ids' → counts ≡ n ∷ counts' → strides ≡ t ∷ strides'
-    → HaveRuns header (id ∷ ids') (n ∷ counts') (t ∷ strides') run → HaveRuns header ids counts strides run
-moved_runs header run id n t ids counts strides ids' counts' strides' a b c h =
-    subst (λ (x : List ℕ). HaveRuns header x counts strides run) (sym a)
-    (subst (λ (x : List ℕ). HaveRuns header (id ∷ ids') x strides run) (sym b)
-    (subst (λ (x : List ℕ). HaveRuns header (id ∷ ids') (n ∷ counts') x run) (sym c) h))
-
 pub inner_kept : (header : Header) (ids counts strides : List ℕ) (run : ℕ) → 1 ≤ length ids → 1 ≤ length counts → 1 ≤ length strides
     → HaveRuns header (rest ids) (rest counts) (rest strides) run → HaveRuns header ids counts strides run
 inner_kept header ids counts strides run a b c h =
-    moved_runs header run (get_or ids 0 0) (get_or counts 0 0) (get_or strides 0 0) ids counts strides (rest ids) (rest counts) (rest strides) (split ids a) (split counts b) (split strides c)
+    transport (λ i. HaveRuns header (sym (split ids a) i) (sym (split counts b) i) (sym (split strides c) i) run)
     (runs_kept header (get_or ids 0 0) (get_or counts 0 0) (get_or strides 0 0) run (rest ids) (rest counts) (rest strides) h)
 
 pub inner_merged : (header : Header) (ids counts strides : List ℕ) (run : ℕ) → 1 ≤ length ids → 1 ≤ length counts → 1 ≤ length strides → 1 ≤ product counts
     → HaveRuns header (rest ids) (rest counts) (rest strides) run → (run ≡ product (rest counts)) × (product (rest counts) ≡ product (lengths_of header (rest ids)))
     → (get_or counts 0 0 ≡ 1) ⊎ (get_or strides 0 0 ≡ 1) → HaveRuns header ids counts strides (get_or counts 0 0 * run)
 inner_merged header ids counts strides run a b c some h whole one =
-    moved_runs header (get_or counts 0 0 * run) (get_or ids 0 0) (get_or counts 0 0) (get_or strides 0 0) ids counts strides (rest ids) (rest counts) (rest strides) (split ids a) (split counts b) (split strides c)
+    transport (λ i. HaveRuns header (sym (split ids a) i) (sym (split counts b) i) (sym (split strides c) i) (get_or counts 0 0 * run))
     (runs_merged header (get_or ids 0 0) (get_or counts 0 0) (get_or strides 0 0) run (rest ids) (rest counts) (rest strides) h whole.0 whole.1 one
     (some_first counts (rest counts) (get_or counts 0 0) (split counts b) some))
 
@@ -140,15 +118,11 @@ same_row header number ids starts counts strides ids' starts' counts' strides' a
 pub same_valid : (header : Header) (number : ℕ) (ids starts counts strides ids' starts' counts' strides' : List ℕ) → ids ≡ ids' → starts ≡ starts' → counts ≡ counts' → strides ≡ strides'
     → IsIndex (lengths_of header ids') (index_at starts' strides' (coordinates_of counts' number)) → IsIndex (lengths_of header ids) (index_at starts strides (coordinates_of counts number))
 same_valid header number ids starts counts strides ids' starts' counts' strides' a b c d valid =
-    subst (λ (x : List ℕ). IsIndex (lengths_of header x) (index_at starts strides (coordinates_of counts number))) (sym a)
-    (subst (λ (x : List ℕ). IsIndex (lengths_of header ids') (index_at x strides (coordinates_of counts number))) (sym b)
-    (subst (λ (x : List ℕ). IsIndex (lengths_of header ids') (index_at starts' strides (coordinates_of x number))) (sym c)
-    (subst (λ (x : List ℕ). IsIndex (lengths_of header ids') (index_at starts' x (coordinates_of counts' number))) (sym d) valid)))
+    transport (λ i. IsIndex (lengths_of header (sym a i)) (index_at (sym b i) (sym d i) (coordinates_of (sym c i) number))) valid
 
 fixed_lengths : (ls : List ℕ) → starts_with_zero ls ≡ false → without_record ls ≡ ls
-fixed_lengths [] h = refl
 fixed_lengths (zero ∷ ls) h = absurd (eqb-false 0 0 h refl)
-fixed_lengths (suc n ∷ ls) h = refl
+fixed_lengths _ h = refl
 
 record_lengths : (l : ℕ) (ls : List ℕ) → starts_with_zero (l ∷ ls) ≡ true → without_record (l ∷ ls) ≡ ls
 record_lengths zero ls h = refl
@@ -170,15 +144,12 @@ pub record RecordRow (header : Header) (dims starts counts strides : List ℕ) (
 
 pub record_row : (header : Header) (dims starts counts strides : List ℕ) (number : ℕ) → starts_with_zero (lengths_of header dims) ≡ true
     → 1 ≤ length dims → 1 ≤ length starts → 1 ≤ length counts → 1 ≤ length strides → RecordRow header dims starts counts strides number
-record_row header [] starts counts strides number e a b c d = absurd (omega arith)
-record_row header (id ∷ dims) [] counts strides number e a b c d = absurd (omega arith)
-record_row header (id ∷ dims) (s ∷ starts) [] strides number e a b c d = absurd (omega arith)
-record_row header (id ∷ dims) (s ∷ starts) (n ∷ counts) [] number e a b c d = absurd (omega arith)
 record_row header (id ∷ dims) (s ∷ starts) (n ∷ counts) (t ∷ strides) number e a b c d = record {
   record_is = ap (λ (xs : List ℕ). s + number / product xs * t) (sym (rest_is n counts));
   index_is = (λ i. index_at (sym (rest_is s starts) i) (sym (rest_is t strides) i) (coordinates_of (sym (rest_is n counts) i) (number % product (sym (rest_is n counts) i))));
   lengths_are = record_lengths (length_of (slice_get header.dims id)) (lengths_of header dims) e ∙ ap (λ (xs : List ℕ). lengths_of header xs) (sym (rest_is id dims));
 }
+record_row header _ _ _ _ number e a b c d = absurd (omega arith)
 
 -- the place by the record and by the row
 pub record_place_is : (header : Header) (v : Var) (g : Region) (number : ℕ) → is_record header v ≡ true → RecordRow header v.dims g.start g.count g.stride number
@@ -219,8 +190,7 @@ record_step_of header v g number inner e a b c d valid below small is =
     (record {
       small = size.1;
       some = size.0;
-      valid = subst (λ (ls : List ℕ). IsIndex ls (index_at (rest g.start) (rest g.stride) (coordinates_of (rest g.count) (number % product (rest g.count))))) r.lengths_are
-          (subst (λ (i : List ℕ). IsIndex (without_record (lengths_of header v.dims)) i) r.index_is own);
+      valid = transport (λ i. IsIndex (r.lengths_are i) (r.index_is i)) own;
       number_low = mod_below number (product (rest g.count)) size.0;
       whole = record_place_is header v g number e r;
     })
@@ -230,14 +200,8 @@ pub record_step : (header : Header) (v : Var) (g : Region) (number inner : ℕ) 
     → IsElement header v (index_of g number) → number < product g.count → product g.count ≤ 2 ^ 20 → inner ≡ min (product (rest counts)) (2 ^ 64 - 1)
     → RecordStep header v g number inner ids starts counts strides
 record_step header v g number inner ids starts counts strides p q r t e a b c d valid below small is =
-    let P : List ℕ → List ℕ → List ℕ → List ℕ → Type 0 = λ w x y z.
-    1 ≤ length w → 1 ≤ length x → 1 ≤ length y → 1 ≤ length z → inner ≡ min (product (rest y)) (2 ^ 64 - 1) → RecordStep header v g number inner w x y z in
-    (subst (λ (l : List ℕ). P l starts counts strides) (sym p)
-    (subst (λ (l : List ℕ). P v.dims l counts strides) (sym q)
-    (subst (λ (l : List ℕ). P v.dims g.start l strides) (sym r)
-    (subst (λ (l : List ℕ). P v.dims g.start g.count l) (sym t)
-    (λ a b c d is. record_step_of header v g number inner e a b c d valid below small is)))))
-    a b c d is
+    transport (λ i. 1 ≤ length (sym p i) → 1 ≤ length (sym q i) → 1 ≤ length (sym r i) → 1 ≤ length (sym t i) → inner ≡ min (product (rest (sym r i))) (2 ^ 64 - 1)
+    → RecordStep header v g number inner (sym p i) (sym q i) (sym r i) (sym t i)) (λ a b c d is. record_step_of header v g number inner e a b c d valid below small is) a b c d is
 
 no_record : (starts counts strides : List ℕ) (number : ℕ) → length counts < 1 → HasRecord (index_at starts strides (coordinates_of counts number)) → ⊥
 no_record [] counts strides number l h = h
@@ -275,9 +239,8 @@ inner_bytes header v g run l h = sized (row_of header (rest v.dims) (rest g.star
 
 pub same_rests : (xs ys : List ℕ) → length xs ≡ length ys → length (rest xs) ≡ length (rest ys)
 same_rests [] [] h = refl
-same_rests [] (y ∷ ys) h = absurd (omega arith)
-same_rests (x ∷ xs) [] h = absurd (omega arith)
 same_rests (x ∷ xs) (y ∷ ys) h = ap (λ (zs : List ℕ). length zs) (rest_is x xs) ∙ omega arith ∙ sym (ap (λ (zs : List ℕ). length zs) (rest_is y ys))
+same_rests _ _ h = absurd (omega arith)
 
 pub record_kept : (header : Header) (v : Var) (g : Region) (run : ℕ) → is_record header v ≡ true → 1 ≤ length v.dims → length g.start ≡ length v.dims → 1 ≤ length g.count → 1 ≤ length g.stride
     → HaveRuns header (rest v.dims) (rest g.count) (rest g.stride) run → AreRuns (λ k. place header v (index_of g k)) (size_of v.kind) run (product g.count)
@@ -302,10 +265,7 @@ record_merged header v g run e a l c d some h all touching one =
 -- the same of equal lists
 pub same_have : (header : Header) (run : ℕ) (ids counts strides ids' counts' strides' : List ℕ) → ids ≡ ids' → counts ≡ counts' → strides ≡ strides'
     → HaveRuns header ids counts strides run → HaveRuns header ids' counts' strides' run
-same_have header run ids counts strides ids' counts' strides' a b c h =
-    subst (λ (x : List ℕ). HaveRuns header x counts' strides' run) a
-    (subst (λ (x : List ℕ). HaveRuns header ids x strides' run) b
-    (subst (λ (x : List ℕ). HaveRuns header ids counts x run) c h))
+same_have header run ids counts strides ids' counts' strides' a b c h = transport (λ i. HaveRuns header (a i) (b i) (c i) run) h
 
 pub same_have_rests : (header : Header) (run : ℕ) (ids counts strides ids' counts' strides' : List ℕ) → ids ≡ ids' → counts ≡ counts' → strides ≡ strides'
     → HaveRuns header (rest ids) (rest counts) (rest strides) run → HaveRuns header (rest ids') (rest counts') (rest strides') run

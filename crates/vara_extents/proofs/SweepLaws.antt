@@ -11,11 +11,10 @@ past_on (s ∷ starts) (n ∷ counts) (x ∷ xs) [] h k = no_false (sym k)
 past_on (s ∷ starts) (n ∷ counts) (x ∷ xs) (y ∷ ys) h k = by_order (past_on starts counts xs ys) (cases_lt y x) (cases_lt x y)
   where
     far : (s + n < x + 1) ⊎ ((x + 1 ≡ s + n) × (is_past starts counts xs ≡ true))
-    far = by_case (or_cases (ltb (s + n) (x + 1)) (eqb (x + 1) (s + n) && is_past starts counts xs) h)
-      where
-        by_case : (ltb (s + n) (x + 1) ≡ true) ⊎ ((eqb (x + 1) (s + n) && is_past starts counts xs) ≡ true) → (s + n < x + 1) ⊎ ((x + 1 ≡ s + n) × (is_past starts counts xs ≡ true))
-        by_case (inl t) = inl (ltb-true (s + n) (x + 1) t)
-        by_case (inr t) = let both = and_parts (eqb (x + 1) (s + n)) (is_past starts counts xs) t in inr (eqb-true (x + 1) (s + n) both.0, both.1)
+    far = elim (or_cases (ltb (s + n) (x + 1)) (eqb (x + 1) (s + n) && is_past starts counts xs) h) [
+      | inl t ↦ inl (ltb-true (s + n) (x + 1) t)
+      | inr t ↦ (let both = and_parts (eqb (x + 1) (s + n)) (is_past starts counts xs) t in inr (eqb-true (x + 1) (s + n) both.0, both.1))
+    ]
 
     beyond : s + n < y + 1 → is_past (s ∷ starts) (n ∷ counts) (y ∷ ys) ≡ true
     beyond l = or_left (ltb (s + n) (y + 1)) (eqb (y + 1) (s + n) && is_past starts counts ys) (lt-ltb (s + n) (y + 1) l)
@@ -24,11 +23,7 @@ past_on (s ∷ starts) (n ∷ counts) (x ∷ xs) (y ∷ ys) h k = by_order (past
         → is_past (s ∷ starts) (n ∷ counts) (y ∷ ys) ≡ true
     by_order again (inl l) g =
         absurd (both_ways (is_lt (slice_cmp nat_cmp (y ∷ ys) (x ∷ xs))) k (λ j. is_lt (ordering_then (cond (lt-ltb y x l j) Less (cond (eqb y x) Equal Greater)) (slice_cmp nat_cmp ys xs))))
-    by_order again (inr l) (inl g) = by_case far
-      where
-        by_case : (s + n < x + 1) ⊎ ((x + 1 ≡ s + n) × (is_past starts counts xs ≡ true)) → is_past (s ∷ starts) (n ∷ counts) (y ∷ ys) ≡ true
-        by_case (inl t) = beyond (omega (arith, t, g))
-        by_case (inr t) = beyond (omega (arith, t.0, g))
+    by_order again (inr l) (inl g) = elim far [ inl t ↦ beyond (omega (arith, t, g)) | inr t ↦ beyond (omega (arith, t.0, g)) ]
     by_order again (inr l) (inr g) = by_case far
       where
         same : y ≡ x
@@ -42,9 +37,7 @@ past_on (s ∷ starts) (n ∷ counts) (x ∷ xs) (y ∷ ys) h k = by_order (past
         by_case (inr t) =
             or_right (ltb (s + n) (y + 1)) (eqb (y + 1) (s + n) && is_past starts counts ys)
             (and_from (eqb (y + 1) (s + n)) (is_past starts counts ys) (eq-eqb (y + 1) (s + n) (omega (arith, t.0, same))) (again t.1 rest))
-past_on (s ∷ starts) (n ∷ counts) [] ys h k = no_false h
-past_on (s ∷ starts) [] xs ys h k = no_false h
-past_on [] counts xs ys h k = no_false h
+past_on _ _ _ ys h k = no_false h
 
 -- a box that begins past another shares no index with it
 past_apart : (starts counts others lengths : List ℕ) → is_past starts counts others ≡ true → boxes_meet starts counts others lengths ≡ false
@@ -60,9 +53,7 @@ past_apart (s ∷ starts) (n ∷ counts) (t ∷ others) (m ∷ lengths) h =
         let both = and_parts (eqb (t + 1) (s + n)) (is_past starts counts others) e in
         and_right (ltb (max s t) (min (s + n) (t + m))) (boxes_meet starts counts others lengths) (again both.1)
 past_apart (s ∷ starts) (n ∷ counts) (t ∷ others) [] h = refl
-past_apart (s ∷ starts) (n ∷ counts) [] lengths h = no_false h
-past_apart (s ∷ starts) [] others lengths h = no_false h
-past_apart [] counts others lengths h = no_false h
+past_apart _ _ _ lengths h = no_false h
 
 -- ---- regions in the order of their first elements
 
@@ -217,10 +208,9 @@ swapped_apart xs a b p q h i j d l m n = by_place (place i) (place j)
     by_place (inr (inr e)) (inr (inr f)) = from i j (moved.2 i e.0 e.1) (moved.2 j f.0 f.1) (low i l) (low j m) n
 
 same_false : (a b : Bool) → (a ≡ false → b ≡ false) → (b ≡ false → a ≡ false) → a ≡ b
-same_false true true f g = refl
 same_false true false f g = g refl
 same_false false true f g = sym (f refl)
-same_false false false f g = refl
+same_false _ _ f g = refl
 
 any_order : (xs ys : List Region) → IsPermutation xs ys → some_meet xs ≡ some_meet ys
 any_order xs ys p = same_false (some_meet xs) (some_meet ys) (kept xs ys p) (kept ys xs (IsPermutation-sym xs ys p))

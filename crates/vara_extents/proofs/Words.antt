@@ -1,8 +1,10 @@
 -- The words of this crate's proofs, from where they stand.
 pub use Rattle.std.proofs.Common.{Bool, List, None, Option, Some, [], ap, arith, cond, drop, eqb, false, get_or, inl, inr, leb, length, ltb, map, max, min, not, refl, replicate, rules, subst, suc, sym, take, true, zero, zip, ℕ, ◌%◌, ◌&&◌, ◌*◌, ◌++◌, ◌+◌, ◌-◌, ◌/◌, ◌<◌, ◌^◌, ◌||◌, ◌∙◌, ◌∷◌, ◌≡◌, ◌≤◌, ◌⊎◌}
 pub use Rattle.std.proofs.Math.Nat.{lt_of_mul-lt-mul_right, mul-div_cancel, mul-le-mul_left, mul-mod_left}
+pub use Rattle.std.proofs.Math.Path.{transport}
 pub use Rattle.std.proofs.Math.Seq.{drop-cons, take-add}
 pub use Rattle.std.proofs.lemmas.Bool.{and_from, and_parts, and_right, both_ways, cases_eq, cases_lt, eq-eqb, eqb-false, eqb-true, le-leb, le-ltb, leb-false, leb-true, lt-ltb, ltb-false, ltb-true, ne_eqb, not-false, or_cases, or_left, or_parts, or_right}
+pub use Rattle.std.proofs.lemmas.Bool.Decides.{nat_tests}
 pub use Rattle.std.proofs.lemmas.Cmp.{nat_list_cmp_total}
 pub use Rattle.std.proofs.lemmas.Fn.{always_returns_same, filter_same}
 pub use Rattle.std.proofs.lemmas.Grind.{common_steps, same_number_lists}

@@ -38,11 +38,7 @@ bytes_in (e ∷ es) = e.len + bytes_in es
 
 pub bytes_in_to : (e : Extent) (es : List Extent) → bytes_in (joined_to e es) ≡ e.len + bytes_in es
 bytes_in_to e [] = refl
-bytes_in_to e (d ∷ es) = by_case (cases_eq d.at (e.at + e.len))
-  where
-    by_case : (d.at ≡ e.at + e.len) ⊎ (d.at ≡ e.at + e.len → ⊥) → bytes_in (joined_to e (d ∷ es)) ≡ e.len + bytes_in (d ∷ es)
-    by_case (inl k) = ap bytes_in (join_next e d es k) ∙ omega arith
-    by_case (inr k) = ap bytes_in (join_apart e d es k)
+bytes_in_to e (d ∷ es) = elim (cases_eq d.at (e.at + e.len)) [ inl k ↦ ap bytes_in (join_next e d es k) ∙ omega arith | inr k ↦ ap bytes_in (join_apart e d es k) ]
 
 pub bytes_in_joined : (es : List Extent) → bytes_in (joined es) ≡ bytes_in es
 bytes_in_joined [] = refl
