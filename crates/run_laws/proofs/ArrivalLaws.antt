@@ -12,9 +12,8 @@ up s None = None
 up s (Some g) = Some (advance s.header g)
 
 get_up : (s : Setting) (goings : List Going) (r : ℕ) → slice_get (map (advance s.header) goings) r ≡ up s (slice_get goings r)
-get_up s [] r = refl
-get_up s (g ∷ goings) zero = refl
 get_up s (g ∷ goings) (suc r) = get_up s goings r
+get_up s xs r = refl
 
 -- ---- one step
 

@@ -30,9 +30,8 @@ same_kind a b e = grind (arith, nat_tests)
 
 same_kinds : (a b : List MeetKind) → map (λ k. kind_number (Some k)) a ≡ map (λ k. kind_number (Some k)) b → a ≡ b
 same_kinds [] [] e = refl
-same_kinds [] (k ∷ b) e = cc
-same_kinds (k ∷ a) [] e = cc
 same_kinds (j ∷ a) (k ∷ b) e = grind (arith, nat_tests, same_kinds a b, same_kind)
+same_kinds xs ys e = cc
 
 pub one_list : (calls : List (List Call)) (r : ℕ) (own : List Call) → agree calls ≡ true → slice_get calls r ≡ Some own
     → kinds own ≡ elim calls [ [] ↦ [] | first ∷ others ↦ kinds first ]

@@ -19,10 +19,6 @@ pub calls_more : (hints : Hints) (s : Setting) (state : Counted × List Going) (
 calls_more hints s state [] more = refl
 calls_more hints s state (m ∷ order) more = grind (arith, nat_tests, calls_more hints s (after_mark s state m) order more, append_assoc)
 
-pub call_more : (hints : Hints) (s : Setting) (state : Counted × List Going) (order : List Mark) (m : Mark)
-    → calls_so_far hints s state (order ++ m ∷ []) ≡ calls_so_far hints s state order ++ mark_calls hints s (fold (after_mark s) state order) m
-call_more hints s state order m = grind (arith, nat_tests, calls_more, append-nil)
-
 pub calls_close : (hints : Hints) (s : Setting) (state : Counted × List Going) (order : List Mark)
     → calls_from hints s state order ≡ calls_so_far hints s state order
     ++ store_records s (nat_lt (fold (after_mark s) state order).0.records (closed s (fold (after_mark s) state order)).records)

@@ -31,16 +31,12 @@ comes_to_solo header g s next o c calls h e f = sym (ap (went_by header s.answer
 pub comes_to_end : (header : Header) (g s : Going) → HasCome header g s → s.calls ≡ [] → advance header g ≡ (s, None)
 comes_to_end header g s h e = grind (arith, nat_tests)
 
-pub hears_as : (header : Header) (s : Going) (reply : Reply) (heard : machine.Rank) (a : Answer)
-    → (heard, a) ≡ hear header s.rank reply → hears header s reply ≡ answered s heard a s.calls
-hears_as header s reply heard a e = sym (ap (λ (p : machine.Rank × Answer). answered s p.0 p.1 s.calls) e)
-
 -- ---- all ranks at their offers
 
 abbrev at_offers : List Going → List Offer → List (Going × Option Offer)
 at_offers ss offers = map (λ p. (p.0, Some p.1)) (zip ss offers)
 
-arrived : (header : Header) (goings ss : List Going) (offers : List Offer) → AreAt header goings ss offers → map (advance header) goings ≡ at_offers ss offers
+pub arrived : (header : Header) (goings ss : List Going) (offers : List Offer) → AreAt header goings ss offers → map (advance header) goings ≡ at_offers ss offers
 arrived header [] [] [] w = refl
 arrived header [] [] (o ∷ offers) w = let h = w.all in absurd (omega arith)
 arrived header [] (s ∷ ss) offers w = let h = w.long in absurd (omega arith)
@@ -55,48 +51,30 @@ arrived header (g ∷ goings) (s ∷ ss) (o ∷ offers) w =
     }) in
     λ i. first i ∷ others i
 
-offers_at : (ss : List Going) (offers : List Offer) → length ss ≡ length offers → offers_of (at_offers ss offers) ≡ offers
+pub offers_at : (ss : List Going) (offers : List Offer) → length ss ≡ length offers → offers_of (at_offers ss offers) ≡ offers
 offers_at [] [] e = refl
 offers_at [] (o ∷ offers) e = absurd (omega arith)
 offers_at (s ∷ ss) [] e = absurd (omega arith)
 offers_at (s ∷ ss) (o ∷ offers) e = ap (λ (os : List Offer). o ∷ os) (offers_at ss offers (omega arith))
 
-hears_at : (header : Header) (ss : List Going) (offers : List Offer) (replies : List Reply) → length ss ≡ length offers
+pub hears_at : (header : Header) (ss : List Going) (offers : List Offer) (replies : List Reply) → length ss ≡ length offers
     → map (λ p. hears header p.0.0 p.1) (zip (at_offers ss offers) replies) ≡ all_hear header ss replies
-hears_at header [] [] replies e = refl
 hears_at header [] (o ∷ offers) replies e = absurd (omega arith)
 hears_at header (s ∷ ss) [] replies e = absurd (omega arith)
-hears_at header (s ∷ ss) (o ∷ offers) [] e = refl
 hears_at header (s ∷ ss) (o ∷ offers) (y ∷ replies) e = ap (λ (gs : List Going). hears header s y ∷ gs) (hears_at header ss offers replies (omega arith))
+hears_at header xs ys replies e = refl
 
-beside_offers : (header : Header) (goings ss : List Going) (offers : List Offer) → AreAt header goings ss offers → length ss ≡ length offers
+pub beside_offers : (header : Header) (goings ss : List Going) (offers : List Offer) → AreAt header goings ss offers → length ss ≡ length offers
 beside_offers header goings ss offers w = let a = w.long in let b = w.all in omega arith
 
 abbrev met : Setting → Counted → List (Going × Option Offer) → List Offer → Counted × List Going
 met s c at offers = ((meeting s offers c).0, map (λ p. hears s.header p.0.0 p.1) (zip at (meeting s offers c).1))
-
-pub meeting_of : (s : Setting) (c : Counted) (goings ss : List Going) (offers : List Offer) → AreAt s.header goings ss offers
-    → after_meeting s (c, goings) ≡ ((meeting s offers c).0, all_hear s.header ss (meeting s offers c).1)
-meeting_of s c goings ss offers w =
-    let long = beside_offers s.header goings ss offers w in
-    ap (λ (at : List (Going × Option Offer)). met s c at (offers_of at)) (arrived s.header goings ss offers w)
-    ∙ ap (λ (os : List Offer). met s c (at_offers ss offers) os) (offers_at ss offers long)
-    ∙ ap (λ (gs : List Going). ((meeting s offers c).0, gs)) (hears_at s.header ss offers (meeting s offers c).1 long)
-
-pub meeting_calls_of : (hints : Hints) (s : Setting) (c : Counted) (goings ss : List Going) (offers : List Offer) (k : ℕ) → AreAt s.header goings ss offers
-    → mark_calls hints s (c, goings) (Meet k) ≡ meeting_calls hints s offers c
-meeting_calls_of hints s c goings ss offers k w =
-    grind (arith, nat_tests, arrived s.header goings ss offers w, offers_at ss offers (beside_offers s.header goings ss offers w), beside_offers)
 
 -- ---- one rank at its solo offer
 
 pub solo_goes : (s : Setting) (r : ℕ) (c : Counted) (goings : List Going) (g : Going) → slice_get goings r ≡ Some g
     → after_solo s r c goings ≡ ((solo_of s r c (advance s.header g)).0, set goings r (solo_of s r c (advance s.header g)).1)
 solo_goes s r c goings g e = grind (arith, nat_tests, set)
-
-pub solo_at : (s : Setting) (r : ℕ) (c : Counted) (goings : List Going) (g t : Going) (o : Offer) → slice_get goings r ≡ Some g → advance s.header g ≡ (t, Some o)
-    → after_solo s r c goings ≡ ((solo s r o c).0, set goings r (hears s.header t (solo s r o c).1))
-solo_at s r c goings g t o e f = grind (arith, nat_tests, solo_goes, set)
 
 abbrev pub calls_at : Hints → Setting → ℕ → Counted → Option Offer → List DiskCall
 calls_at hints s r c m = elim m [ None ↦ [] | Some o ↦ solo_calls hints s r o c ]
@@ -105,17 +83,9 @@ pub solo_calls_go : (hints : Hints) (s : Setting) (r n : ℕ) (c : Counted) (goi
     → mark_calls hints s (c, goings) (Solo r n) ≡ elim ((advance s.header g).1) [ None ↦ [] | Some o ↦ solo_calls hints s r o c ]
 solo_calls_go hints s r n c goings g e = grind (arith, nat_tests)
 
-pub solo_calls_at : (hints : Hints) (s : Setting) (r n : ℕ) (c : Counted) (goings : List Going) (g t : Going) (o : Offer)
-    → slice_get goings r ≡ Some g → advance s.header g ≡ (t, Some o) → mark_calls hints s (c, goings) (Solo r n) ≡ solo_calls hints s r o c
-solo_calls_at hints s r n c goings g t o e f = grind (arith, nat_tests, solo_calls_go)
-
-pub own_step_at : (s : Setting) (r : ℕ) (c : Counted) (g t : Going) (o : Offer) (m : Mark) → advance s.header g ≡ (t, Some o)
-    → own_step s r (c, g) m ≡ ((solo s r o c).0, hears s.header t (solo s r o c).1)
-own_step_at s r c g t o m f = ap (solo_of s r c) f
-
 -- ---- the close
 
-ended : (header : Header) (goings ss : List Going) → AreEnded header goings ss → map (λ g. (advance header g).0) goings ≡ ss
+pub ended : (header : Header) (goings ss : List Going) → AreEnded header goings ss → map (λ g. (advance header g).0) goings ≡ ss
 ended header [] [] w = refl
 ended header [] (s ∷ ss) w = let h = w.long in absurd (omega arith)
 ended header (g ∷ goings) [] w = let h = w.long in absurd (omega arith)
@@ -123,6 +93,3 @@ ended header (g ∷ goings) (s ∷ ss) w =
     let first = w.each 0 g s refl refl in
     let others = ended header goings ss (record { long = let h = w.long in omega arith; each = λ r g' s' a b. w.each (suc r) g' s' a b }) in
     λ i. (first i).0 ∷ others i
-
-pub closed_by : (s : Setting) (c : Counted) (goings ss : List Going) → AreEnded s.header goings ss → closed s (c, goings) ≡ close_by s c ss
-closed_by s c goings ss w = ap (λ (gs : List Going). close_by s c gs) (ended s.header goings ss w)

@@ -9,12 +9,9 @@ use Rattle.run_laws.proofs.WayLaws.{kind_some, calls_long}
 
 -- ---- the next call
 
-none_waits : (m : Option Open) → Waits m None → m ≡ None
+pub none_waits : (m : Option Open) → Waits m None → m ≡ None
 none_waits None h = refl
 none_waits (Some w) h = absurd h
-
-pub call_idle : (script : Script) (order : List Mark) (r : ℕ) (s : Going) → IsOnWay script order r s None → s.rank.«open» ≡ None
-call_idle script order r s w = none_waits s.rank.«open» w.waits
 
 fresh_first : (r : machine.Rank) (c : Call) (calls : List Call) → list_all (is_free r.posted) (posted_ids (c ∷ calls)) ≡ true → IsFresh r c
 fresh_first r (call.Post id kind name given values) calls h = none_of_test _ (and_first (is_free r.posted id) _ h)
@@ -85,16 +82,9 @@ together_number script order r s o l w =
 
 -- ---- a legal order
 
-all_more : (ranks : ℕ) (order : List Mark) (m : Mark) → is_of_rank_below ranks m ≡ true → list_all (is_of_rank_below ranks) order ≡ true
+pub all_more : (ranks : ℕ) (order : List Mark) (m : Mark) → is_of_rank_below ranks m ≡ true → list_all (is_of_rank_below ranks) order ≡ true
     → list_all (is_of_rank_below ranks) (order ++ m ∷ []) ≡ true
 all_more ranks order m e h = list_all-append (is_of_rank_below ranks) order (m ∷ []) ∙ and_from _ _ h (and_from _ true e refl)
-
-pub solo_of_known : (ranks r n : ℕ) (order : List Mark) → r < ranks → list_all (is_of_rank_below ranks) order ≡ true
-    → list_all (is_of_rank_below ranks) (order ++ Solo r n ∷ []) ≡ true
-solo_of_known ranks r n order l h = all_more ranks order (Solo r n) (below r ranks l) h
-  where
-    below : (a b : ℕ) → a < b → nat_lt a b ≡ true
-    below a b k = grind (arith, nat_tests)
 
 pub meeting_of_known : (ranks k : ℕ) (order : List Mark) → list_all (is_of_rank_below ranks) order ≡ true
     → list_all (is_of_rank_below ranks) (order ++ Meet k ∷ []) ≡ true

@@ -201,10 +201,8 @@ way_solo script order r header s next heard o reply a c calls w e f p g =
     }
 
 drop_next : {X : Type 0} (k : ℕ) (xs ys : List X) (x : X) → x ∷ xs ≡ drop k ys → xs ≡ drop (suc k) ys
-drop_next zero xs [] x e = cc
-drop_next zero xs (y ∷ ys) x e = cc
-drop_next (suc k) xs [] x e = cc
 drop_next (suc k) xs (y ∷ ys) x e = drop_next k xs ys x e
+drop_next n xs m x e = cc
 
 -- the offer of a meeting is of a kind
 pub kind_some : (o : Offer) → is_some (kind_of_meeting o.kind) ≡ true → (kind : MeetKind) × ((o.kind ≡ offer.Meet kind) × (kind_of_offer o ≡ kind ∷ []))

@@ -1,21 +1,19 @@
--- The lemmas of StandingLaws.
-use Rattle.run_laws.proofs.StandingLaws.{meeting_of, meeting_calls_of, solo_at, solo_calls_at, own_step_at, closed_by}
+use Rattle.run_laws.proofs.Words.{ap, arith, nat_tests, solo_of, meeting}
+use Rattle.run_laws.proofs.StandingLaws.{arrived, offers_at, hears_at, beside_offers, solo_goes, solo_calls_go, ended}
 use Rattle.run_laws.proofs.step_law.Goals as goal
 
-pub returns-clause-meeting : goal.returns-clause-meeting
-returns-clause-meeting c = meeting_of
-
-pub returns-clause-meeting_calls : goal.returns-clause-meeting_calls
-returns-clause-meeting_calls c = meeting_calls_of
-
-pub returns-clause-solo : goal.returns-clause-solo
-returns-clause-solo c = solo_at
-
-pub returns-clause-solo_calls : goal.returns-clause-solo_calls
-returns-clause-solo_calls c = solo_calls_at
-
-pub returns-clause-own_step : goal.returns-clause-own_step
-returns-clause-own_step c = own_step_at
-
-pub returns-clause-closed : goal.returns-clause-closed
-returns-clause-closed c = closed_by
+pub returns : goal.returns
+returns c = record {
+  meeting = λ s c goings ss offers w. grind (
+    arith,
+    nat_tests,
+    arrived s.header goings ss offers w,
+    offers_at ss offers (beside_offers s.header goings ss offers w),
+    hears_at s.header ss offers (meeting s offers c).1 (beside_offers s.header goings ss offers w),
+  );
+  meeting_calls = λ hints s c goings ss offers k w. grind (arith, nat_tests, arrived s.header goings ss offers w, offers_at ss offers (beside_offers s.header goings ss offers w));
+  solo = λ s r c goings g t o e f. grind (arith, nat_tests, solo_goes);
+  solo_calls = λ hints s r n c goings g t o e f. grind (arith, nat_tests, solo_calls_go);
+  own_step = λ s r c g t o m f. ap (solo_of s r c) f;
+  closed = λ s c goings ss w. grind (arith, nat_tests, ended s.header goings ss w);
+}
