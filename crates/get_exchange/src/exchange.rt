@@ -211,14 +211,8 @@ fn get_served<'a, R: Wait, D: Disk, G: Gate, P: Send + Drop>(
         lines,
         blobs,
     } = lending;
-    hand_all(
-        tools,
-        helpers,
-        plan,
-        domains,
-        Supply { parts, lines },
-        &mut shares,
-    );
+    let supply = Supply { parts, lines };
+    hand_all(tools, helpers, plan, domains, supply, &mut shares);
     let Shares {
         mut workers,
         rest,
