@@ -1,27 +1,19 @@
 -- The calls that were done, and those that are left.
-use Rattle.data_sieving.proofs.Words.{◌≡◌, ℕ, ◌+◌, ◌≤◌, refl, sym, ◌∙◌, ap, List, [], ◌∷◌, ◌++◌, length, take, drop, min, Option, Some, None, append_assoc, arith, append-nil, take_at, drop_at, take_min, take-append-le, take-add, flat_map, option_map, DiskCall, with_end, IsBegun, HasDone, no_calls, with_end-with_end}
+use Rattle.data_sieving.proofs.Words.{◌≡◌, ℕ, ◌+◌, ◌≤◌, refl, sym, ◌∙◌, ap, List, [], ◌∷◌, ◌++◌, length, take, min, Option, Some, None, append_assoc, arith, append-nil, take_at, drop_at, take_min, take-append-le, take-add, flat_map, option_map, DiskCall, with_end, IsBegun, HasDone, no_calls, with_end-with_end, nat_tests}
 
 pub none_done : (plan rest : List DiskCall) (old : Option (List DiskCall)) → plan ≡ rest → HasDone plan rest old old
 none_done plan rest old e = record { done = []; told = no_calls old; whole = e }
 
 pub done_more : (f : List ℕ → List DiskCall) (ws : List ℕ) (here later : List (List ℕ)) (plan calls : List DiskCall) (old mid now : Option (List DiskCall))
     → here ≡ ws ∷ later → f ws ≡ calls → now ≡ with_end mid calls → HasDone plan (flat_map f here) old mid → HasDone plan (flat_map f later) old now
-done_more f ws here later plan calls old mid now e g k h = record {
-  done = h.done ++ calls;
-  told = k ∙ ap (λ (m : Option (List DiskCall)). with_end m calls) h.told ∙ with_end-with_end old h.done calls;
-  whole = h.whole ∙ ap (λ (r : List DiskCall). h.done ++ r) (ap (λ (l : List (List ℕ)). flat_map f l) e ∙ ap (λ (c : List DiskCall). c ++ flat_map f later) g)
-      ∙ sym (append_assoc h.done calls (flat_map f later));
-}
+done_more f ws here later plan calls old mid now e g k h = grind (arith, nat_tests, with_end-with_end, append_assoc)
 
 pub all_done : (plan rest : List DiskCall) (old now : Option (List DiskCall)) → rest ≡ [] → HasDone plan rest old now → now ≡ with_end old plan
 all_done plan rest old now e h =
     h.told ∙ ap (λ (c : List DiskCall). with_end old c) (sym (h.whole ∙ ap (λ (r : List DiskCall). h.done ++ r) e ∙ append-nil h.done))
 
 take_past : (a b : List DiskCall) (m : ℕ) → take (length a + m) (a ++ b) ≡ a ++ take m b
-take_past a b m =
-    take-add (length a) m (a ++ b)
-    ∙ ap (λ (l : List DiskCall). l ++ take m (drop (length a) (a ++ b))) (take_at a b (length a) refl)
-    ∙ ap (λ (l : List DiskCall). a ++ take m l) (drop_at a b (length a) refl)
+take_past a b m = grind (arith, nat_tests, take-add, take_at, drop_at)
 
 -- what was begun of the next calls is a beginning of the plan
 pub done_begun : (plan calls rest : List DiskCall) (old mid now : Option (List DiskCall)) → HasDone plan (calls ++ rest) old mid → IsBegun calls mid now → IsBegun plan old now

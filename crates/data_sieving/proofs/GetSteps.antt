@@ -76,9 +76,6 @@ slot_said base file k list left place size w served stop y on once p n =
               (widened (got_says base file w.hull.at (w.hull.at + w.hull.len) (of_slot k served) x v served_on g))
         ]
       where
-        short : w.hull.at + w.hull.len ≤ stop
-        short = n.hull.short
-
         low : place ≤ w.hull.at
         low = n.from
 

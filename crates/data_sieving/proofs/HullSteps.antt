@@ -1,5 +1,5 @@
 -- The hull of entries, entry by entry.
-use Rattle.data_sieving.proofs.Words.{◌≡◌, ℕ, ◌+◌, ◌-◌, ◌<◌, ◌≤◌, ◌⊎◌, inl, inr, refl, sym, ◌∙◌, ap, subst, List, [], ◌∷◌, ◌++◌, append_assoc, length, take, get_or, Bool, true, false, min, max, Some, slice_get, arith, take_more, take_all, nat_lt, slice_get-get_or, entry_in, Owned, Window, In, extents, IsByPlace, in_either, in_left, in_right, AreFilled, IsCovered, IsHull, Reach, covered_left, before_or_later}
+use Rattle.data_sieving.proofs.Words.{◌≡◌, ℕ, ◌+◌, ◌-◌, ◌<◌, ◌≤◌, ◌⊎◌, inl, inr, refl, sym, ◌∙◌, ap, subst, List, [], ◌∷◌, ◌++◌, append_assoc, length, take, get_or, Bool, true, false, min, max, Some, slice_get, arith, take_more, take_all, nat_lt, slice_get-get_or, entry_in, Owned, Window, In, extents, IsByPlace, in_either, in_left, in_right, AreFilled, IsCovered, IsHull, Reach, covered_left, before_or_later, nat_tests}
 use borrow.Author.Tests.{ltb-true, ltb-false}
 
 -- the entries seen so far reach up to a place, with a hole before it or not
@@ -134,38 +134,10 @@ pub reach_more : (at stop end next i : ℕ) (list : List Owned) (d : Owned) → 
     → ((o : Owned) → In list o → (o.extent.at ≤ at) × (at < o.extent.at + o.extent.len))
     → next ≡ max end (min ((get_or list i d).extent.at + (get_or list i d).extent.len) stop) → at < stop
     → Reach at stop (take i list) end → Reach at stop (take (i + 1) list) next
-reach_more at stop end next i list d l across n room r = record {
-  low = (let h = r.low in omega arith);
-  high = (let h = r.high in omega arith);
-  each = λ o m. elim (more_in (take i list) (take (i + 1) list) (get_or list i d) o (take_more list i d l) m) [
-    | inl g ↦ (let h = r.each o g in omega arith)
-    | inr g ↦ subst (λ (z : Owned). min stop (z.extent.at + z.extent.len) ≤ next) g (omega arith)
-  ];
-  all = λ x h m. by_end x h m (nat_lt x end) refl;
-}
-  where
-    by_end : (x : ℕ) → at ≤ x → x < next → (t : Bool) → nat_lt x end ≡ t → IsCovered (take (i + 1) list) x
-    by_end x h m true f = more_seen (take i list) (take (i + 1) list) (get_or list i d) x (take_more list i d l) (r.all x h (ltb-true _ _ f))
-    by_end x h m false f =
-        let past : end ≤ x = ltb-false _ _ f in
-        let begin = (across (get_or list i d) (entry_in list i d l)).0 in
-        more_by (take i list) (take (i + 1) list) (get_or list i d) x (take_more list i d l) (omega arith) (omega arith)
+reach_more at stop end next i list d l across n room r =
+    grind (arith, nat_tests, take_more list i d l, entry_in list i d l, more_in, more_seen, ltb-true, ltb-false, more_by)
 
 pub all_scanned : (at stop end i : ℕ) (solid : Bool) (carried fresh : List Owned) (w : Window) → length fresh ≤ i → 1 ≤ length carried + i
     → Scanned at stop end solid (carried ++ fresh) (carried ++ take i fresh) (length carried + i)
     → w.hull.at ≡ at → w.hull.len ≡ end - at → w.full ≡ solid → IsHull at stop (carried ++ fresh) w
-all_scanned at stop end i solid carried fresh w l one h begin long is =
-    let seen : carried ++ take i fresh ≡ carried ++ fresh = ap (λ (r : List Owned). carried ++ r) (take_all i fresh l) in
-    let low = h.low in
-    let high = h.high in
-    let past = h.some one in
-    let same : end - 1 ≡ at + w.hull.len - 1 = omega arith in
-    record {
-      begin = begin;
-      some = omega arith;
-      short = omega arith;
-      each = λ x c m. (let r = h.reach c.by (subst (λ (s : List Owned). In s c.by) (sym seen) c.inside) in let g = c.high in omega arith);
-      last = subst (λ (s : List Owned). IsCovered s (at + w.hull.len - 1)) seen (subst (λ (k : ℕ). IsCovered (carried ++ take i fresh) k) same (h.last past));
-      full = λ s x m g. subst (λ (r : List Owned). IsCovered r x) seen (h.full (sym is ∙ s) x m (omega arith));
-      hole = λ s. (let r = h.hole (sym is ∙ s) in let m = r.2 in (r.0, r.1, omega arith, r.3));
-    }
+all_scanned at stop end i solid carried fresh w l one h begin long is = grind (arith, nat_tests, take_all)

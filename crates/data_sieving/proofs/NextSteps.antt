@@ -1,29 +1,21 @@
 -- The next window of what is left.
-use Rattle.data_sieving.proofs.Words.{◌≡◌, ℕ, ◌+◌, ◌-◌, ◌^◌, ◌<◌, ◌≤◌, ◌⊎◌, inl, inr, refl, sym, ◌∙◌, ap, subst, List, [], ◌∷◌, ◌++◌, length, max, min, Some, slice_get, arith, same_Some, at_in, Owned, In, Window, IsPast, BeginBefore, AreLeft, LieAcross, IsHull, IsNext, past_in, past_extents, past_sorted, front_all, first_begins, first_joined, in_extents}
+use Rattle.data_sieving.proofs.Words.{◌≡◌, ℕ, ◌+◌, ◌-◌, ◌^◌, ◌<◌, ◌≤◌, ◌⊎◌, inl, refl, sym, ◌∙◌, ap, subst, List, [], ◌∷◌, ◌++◌, length, max, min, Some, slice_get, arith, same_Some, at_in, Owned, In, Window, IsPast, BeginBefore, AreLeft, LieAcross, IsHull, IsNext, past_in, past_extents, past_sorted, front_all, first_begins, first_joined, in_extents, nat_tests}
 
 -- the first byte that is not served lies in the first entry
 pub at_below : (left : List Owned) (place size at : ℕ) (first : Owned) → AreLeft left place size → slice_get left 0 ≡ Some first → at ≡ max first.extent.at place
     → at < first.extent.at + first.extent.len
-at_below left place size at first l e is =
-    let next = l.next first e in
-    let some = l.filled first (at_in left 0 first e) in
-    omega arith
+at_below left place size at first l e is = grind (arith, nat_tests, at_in left 0 first e)
 
 -- what begins a window begins what is left
 pub first_below : (left served : List Owned) (place size at stop : ℕ) (first o : Owned) → AreLeft left place size → BeginBefore stop left served → slice_get left 0 ≡ Some first
     → at ≡ max first.extent.at place → slice_get served 0 ≡ Some o → at < o.extent.at + o.extent.len
 first_below left served place size at stop first o l b e is g =
-    subst (λ (p : Owned). at < p.extent.at + p.extent.len)
-    (same_Some first o (sym e ∙ ap (λ (list : List Owned). slice_get list 0) b.joined ∙ first_joined served b.rest o g))
-    (at_below left place size at first l e is)
+    grind (arith, nat_tests, first_joined served b.rest o g, at_below left place size at first l e is, same_Some, slice_get)
 
 pub stop_past : (left : List Owned) (place size at stop : ℕ) (first : Owned) → AreLeft left place size → slice_get left 0 ≡ Some first → at ≡ max first.extent.at place
     → stop ≡ min (at + size) (2 ^ 64 - 1) → at < stop
 stop_past left place size at stop first l e is ends =
-    let low = at_below left place size at first l e is in
-    let end = l.ends first.extent (in_extents left first (at_in left 0 first e)) in
-    let some = l.some in
-    omega arith
+    grind (arith, nat_tests, at_below left place size at first l e is, in_extents left first (at_in left 0 first e), at_in)
 
 -- the first entry begins before the stop, so there is one
 pub some_served : (left served : List Owned) (at stop : ℕ) (first : Owned) → slice_get left 0 ≡ Some first → first.extent.at ≤ at → at < stop → BeginBefore stop left served
@@ -55,15 +47,7 @@ pub record Ready (carried ahead fresh : List Owned) (place size at stop : ℕ) (
 ready_now : (carried ahead fresh : List Owned) (place size at stop : ℕ) (first : Owned) → AreLeft (carried ++ ahead) place size → LieAcross place carried
     → slice_get (carried ++ ahead) 0 ≡ Some first → at ≡ max first.extent.at place → stop ≡ min (at + size) (2 ^ 64 - 1) → BeginBefore stop ahead fresh
     → Ready carried ahead fresh place size at stop first
-ready_now carried ahead fresh place size at stop first l h e is ends b =
-    let room = stop_past (carried ++ ahead) place size at stop first l e is ends in
-    record {
-      left = l;
-      before = h;
-      at_first = e;
-      room = room;
-      front = front_all stop carried ahead fresh (λ o m. let before = (h o m).0 in omega arith) b;
-    }
+ready_now carried ahead fresh place size at stop first l h e is ends b = grind (arith, nat_tests, stop_past, front_all)
 
 pub is_ready : (items carried ahead fresh : List Owned) (place size at stop : ℕ) (first : Owned) → carried ≡ items → AreLeft (items ++ ahead) place size → LieAcross place items
     → Some first ≡ slice_get (items ++ ahead) 0 → at ≡ max first.extent.at place → stop ≡ min (at + size) (2 ^ 64 - 1) → BeginBefore stop ahead fresh
@@ -75,31 +59,14 @@ pub is_next : (left served : List Owned) (place size at stop : ℕ) (first : Own
     → at ≡ max first.extent.at place → stop ≡ min (at + size) (2 ^ 64 - 1) → BeginBefore stop left served → IsHull at stop served w
     → IsNext left place size w served stop
 is_next left served place size at stop first w l e is ends begins hull =
-    let begin = hull.begin in
-    let low = at_below left place size at first l e is in
-    record {
-      from = omega arith;
-      first = record { by = first; inside = at_in left 0 first e; low = omega arith; high = omega arith };
-      least = λ x c m. (let b = first_begins left first c.by l.sorted e c.inside in let g = c.low in omega arith);
-      ends = omega arith;
-      front = begins;
-      hull = subst (λ (a : ℕ). IsHull a stop served w) (sym begin) hull;
-    }
+    grind (arith, nat_tests, at_below left place size at first l e is, at_in left 0 first e, first_begins)
 
 -- ---- what is left behind it
 
 pub past_left : (left later : List Owned) (place stop size : ℕ) → AreLeft left place size → IsPast stop left later
     → ((o : Owned) → slice_get later 0 ≡ Some o → stop < o.extent.at + o.extent.len) → AreLeft later stop size
-past_left left later place stop size l p next = record {
-  sorted = past_sorted stop left later l.sorted p;
-  ends = λ e m. l.ends e (past_extents stop left later e p m);
-  filled = λ o m. l.filled o (past_in stop left later o p m);
-  next = next;
-  some = l.some;
-}
+past_left left later place stop size l p next = grind (arith, nat_tests, past_sorted, past_extents, past_in)
 
 pub across_further : (carried now : List Owned) (place stop : ℕ) → place ≤ stop → LieAcross place carried
     → ((o : Owned) → In now o → (In carried o ⊎ (o.extent.at < stop)) × (stop < o.extent.at + o.extent.len)) → LieAcross stop now
-across_further carried now place stop l h k o m =
-    let r = k o m in
-    (elim r.0 [ inl g ↦ (let b = (h o g).0 in omega arith) | inr g ↦ g ], r.1)
+across_further carried now place stop l h k o m = grind (arith, nat_tests)

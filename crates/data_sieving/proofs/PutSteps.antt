@@ -1,5 +1,5 @@
 -- Entries that are written window by window.
-use Rattle.data_sieving.proofs.Words.{◌≡◌, ℕ, ◌+◌, ◌-◌, ◌<◌, ◌≤◌, ◌⊎◌, inl, inr, refl, sym, ◌∙◌, ap, subst, List, [], ◌∷◌, ◌++◌, length, drop, Bool, true, false, max, min, Option, Some, None, arith, fold-append, map-append, length-take, length-drop, nat_lt, IfSome, option_or, from_less, cells_said, second_counts, Owned, Window, after, BothTold, at, written, Cell, said_at, said_by, byte_or, write_cells, IsFrom, IsWithin, moved_down, clips, In, Source, IsBetween, cells_long, same_said, moved_said, within_lowered, within_more, append_within, none_below, none_past, clips_within, clips_from, clips_in, said_joined, IsCovered, IsPast, IsNext, past_covered, front_covered, entry_cells, entries_two, unsaid}
+use Rattle.data_sieving.proofs.Words.{◌≡◌, ℕ, ◌+◌, ◌-◌, ◌<◌, ◌≤◌, ◌⊎◌, inl, inr, refl, sym, ◌∙◌, ap, subst, List, [], ◌∷◌, ◌++◌, length, Bool, true, false, max, Option, Some, None, arith, fold-append, map-append, length-take, length-drop, nat_lt, IfSome, option_or, from_less, cells_said, second_counts, Owned, Window, after, BothTold, at, written, Cell, said_at, said_by, write_cells, IsFrom, IsWithin, moved_down, clips, In, Source, IsBetween, cells_long, same_said, moved_said, within_lowered, within_more, append_within, none_below, none_past, clips_within, clips_from, clips_in, said_joined, IsCovered, IsPast, IsNext, past_covered, front_covered, entry_cells, entries_two, unsaid, nat_tests}
 use borrow.Author.Tests.{ltb-true, ltb-false}
 
 -- ---- entries laid
@@ -31,16 +31,11 @@ append_from lo (c ∷ a) b h k = (h.0, append_from lo a b h.1 k)
 
 clips_fit : (lo hi n : ℕ) (cells : List Cell) → lo ≤ hi → IsFrom lo cells → IsWithin cells n → IsWithin (clips lo hi cells) n
 clips_fit lo hi n [] l f h = tt
-clips_fit lo hi n (c ∷ cells) l f h =
-    let low : lo ≤ c.0 = f.0 in
-    let end : c.0 + length c.1 ≤ n = h.0 in
-    (omega (arith, length-take (hi - min hi (max lo c.0)) (drop (lo - c.0) c.1), length-drop (lo - c.0) c.1), clips_fit lo hi n cells l f.1 h.1)
+clips_fit lo hi n (c ∷ cells) l f h = grind (arith, nat_tests, clips_fit lo hi n cells l f.1 h.1, length-take, length-drop)
 
 -- what cells seen from a place say
 moved_at : (base : ℕ) (cells : List Cell) (i : ℕ) → IsFrom base cells → said_at (said_by (moved_down base cells)) i ≡ said_at (said_by cells) (i + base)
-moved_at base cells i f =
-    let place : i + base - base ≡ i = omega arith in
-    ap (λ (k : ℕ). said_at (said_by (moved_down base cells)) k) (sym place) ∙ moved_said base cells (i + base) f (omega arith)
+moved_at base cells i f = grind (arith, nat_tests, moved_said)
 
 -- ---- one window more
 
@@ -58,20 +53,13 @@ past_said source place (o ∷ whole) left x l (inl h) =
     ∙ or_none (said_at (said_by (entry_cells source whole)) x)
     ∙ past_said source place whole left x l h.1
 past_said source place (o ∷ whole) left x l (inr h) =
-    entries_two source (o ∷ []) whole x
-    ∙ ap (λ (s : Option ℕ). option_or s (said_at (said_by (entry_cells source (o ∷ []))) x)) (past_said source place whole h.0 x l h.2)
-    ∙ sym (entries_two source (o ∷ []) h.0 x)
-    ∙ ap (λ (os : List Owned). said_at (said_by (entry_cells source os)) x) (sym h.1)
+    grind (arith, nat_tests, past_said source place whole h.0 x l h.2, entries_two source (o ∷ []) whole x, entries_two source (o ∷ []) h.0 x)
 
 between : (source : Source) (list left : List Owned) (place size : ℕ) (w : Window) (served : List Owned) (stop x : ℕ) → IsPast place list left
     → IsNext left place size w served stop → place ≤ x → x < stop
     → said_at (said_by (entry_cells source list)) x ≡ said_at (said_by (entry_cells source served)) x
 between source list left place size w served stop x p n l h =
-    past_said source place list left x l p
-    ∙ ap (λ (es : List Owned). said_at (said_by (entry_cells source es)) x) n.front.joined
-    ∙ entries_two source served n.front.rest x
-    ∙ second_counts (said_at (said_by (entry_cells source n.front.rest)) x) (said_at (said_by (entry_cells source served)) x)
-    (unsaid source n.front.rest x (λ c. let e = n.front.later c.by c.inside in let k = c.low in absurd (omega arith)))
+    grind (arith, nat_tests, past_said source place list left x l p, entries_two source served n.front.rest x, second_counts, unsaid)
 
 -- the parts of the entries up to a window, and in it, say what their parts up to its end say
 step_said : (source : Source) (list left : List Owned) (place size : ℕ) (w : Window) (served : List Owned) (stop base x : ℕ) → IsPast place list left
@@ -84,12 +72,6 @@ step_said source list left place size w served stop base x p n low here =
   where
     from : place ≤ w.hull.at
     from = n.from
-
-    some : 1 ≤ w.hull.len
-    some = n.hull.some
-
-    short : w.hull.at + w.hull.len ≤ stop
-    short = n.hull.short
 
     in_left_of : max base place ≤ x → IsCovered list x → IsCovered left x
     in_left_of g c = past_covered place list left x p (omega arith) c
@@ -162,14 +144,10 @@ abbrev pub file_to : ℕ → ℕ → List Cell → List ℕ → List ℕ
 file_to base place cells file = write_cells file (moved_down base (clips base (max base place) cells))
 
 to_within : (base place n : ℕ) (cells : List Cell) → AreCells base n cells → IsWithin (moved_down base (clips base (max base place) cells)) n
-to_within base place n cells a =
-    within_lowered base n (clips base (max base place) cells) (clips_from base (max base place) cells (omega arith))
-    (clips_fit base (max base place) (base + n) cells (omega arith) a.from a.within)
+to_within base place n cells a = grind (arith, nat_tests, within_lowered, clips_from, clips_fit)
 
 pub to_long : (base place n : ℕ) (cells : List Cell) (file : List ℕ) → AreCells base n cells → length file ≡ n → length (file_to base place cells file) ≡ length file
-to_long base place n cells file a e =
-    cells_long (moved_down base (clips base (max base place) cells)) file
-    (subst (λ (k : ℕ). IsWithin (moved_down base (clips base (max base place) cells)) k) (sym e) (to_within base place n cells a))
+to_long base place n cells file a e = grind (arith, nat_tests, cells_long, to_within)
 
 pub file_step : (source : Source) (list left : List Owned) (place size : ℕ) (w : Window) (served : List Owned) (stop base n : ℕ) (file : List ℕ)
     → IsPast place list left → IsNext left place size w served stop → AreCells base n (entry_cells source list)
@@ -204,23 +182,21 @@ file_step source list left place size w served stop base n file p k a low high e
 -- each byte is old, or that of the whole
 pub to_either : (base place n : ℕ) (cells : List Cell) (file : List ℕ) (i : ℕ) → AreCells base n cells
     → (at (file_to base place cells file) i ≡ at file i) ⊎ (at (file_to base place cells file) i ≡ at (write_cells file (moved_down base cells)) i)
-to_either base place n cells file i a = by_place (nat_lt (i + base) (max base place)) refl
-  where
-    said_here : at (file_to base place cells file) i ≡ byte_or (said_at (said_by (clips base (max base place) cells)) (i + base)) (at file i)
-    said_here =
-        cells_said (moved_down base (clips base (max base place) cells)) file i
-        ∙ ap (λ (o : Option ℕ). byte_or o (at file i)) (moved_at base (clips base (max base place) cells) i (clips_from base (max base place) cells (omega arith)))
-
-    by_place : (t : Bool) → nat_lt (i + base) (max base place) ≡ t
-        → (at (file_to base place cells file) i ≡ at file i) ⊎ (at (file_to base place cells file) i ≡ at (write_cells file (moved_down base cells)) i)
-    by_place true e =
-        inr (said_here
-        ∙ ap (λ (o : Option ℕ). byte_or o (at file i)) (clips_in base (max base place) cells (i + base) (omega arith) (ltb-true _ _ e) ∙ sym (moved_at base cells i a.from))
-        ∙ sym (cells_said (moved_down base cells) file i))
-    by_place false e =
-        inl (said_here
-        ∙ ap (λ (o : Option ℕ). byte_or o (at file i)) (none_past (max base place) (clips base (max base place) cells) (i + base)
-        (clips_within base (max base place) cells (omega arith)) (ltb-false _ _ e)))
+to_either base place n cells file i a =
+    grind (
+      arith,
+      nat_tests,
+      cells_said (moved_down base (clips base (max base place) cells)) file i,
+      moved_at base (clips base (max base place) cells) i (clips_from base (max base place) cells (omega arith)),
+      moved_at base cells i a.from,
+      cells_said (moved_down base cells) file i,
+      clips_within base (max base place) cells (omega arith),
+      clips_from,
+      clips_in,
+      ltb-true,
+      none_past,
+      ltb-false,
+    )
 
 pub to_begin : (base n : ℕ) (cells : List Cell) (file : List ℕ) → AreCells base n cells → length file ≡ n → file ≡ file_to base 0 cells file
 to_begin base n cells file a e =

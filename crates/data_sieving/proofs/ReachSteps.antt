@@ -1,5 +1,5 @@
 -- What holds of all entries holds of those of a window.
-use Rattle.data_sieving.proofs.Words.{ℕ, ◌+◌, ◌^◌, ◌<◌, ◌≤◌, sym, subst, List, [], ◌∷◌, ◌++◌, arith, Extent, Owned, Window, In, Source, AreFound, extents, EndBelow, in_left, AreFilled, LieOn, IsPast, BeginBefore, AreLeft, IsNext, past_in, past_found, extents_left, in_extents}
+use Rattle.data_sieving.proofs.Words.{ℕ, ◌+◌, ◌^◌, ◌<◌, ◌≤◌, sym, subst, List, [], ◌∷◌, ◌++◌, arith, Extent, Owned, Window, In, Source, AreFound, extents, EndBelow, in_left, AreFilled, LieOn, IsPast, BeginBefore, AreLeft, IsNext, past_in, past_found, extents_left, in_extents, nat_tests}
 
 pub served_in : (place stop : ℕ) (list left served : List Owned) (o : Owned) → IsPast place list left → BeginBefore stop left served → In served o → In list o
 served_in place stop list left served o p b m =
@@ -9,21 +9,12 @@ served_in place stop list left served o p b m =
 
 pub hull_low : (list left : List Owned) (place size : ℕ) (w : Window) (served : List Owned) (stop from len : ℕ) → LieOn from len list → IsPast place list left
     → IsNext left place size w served stop → from ≤ w.hull.at
-hull_low list left place size w served stop from len on p n =
-    let r = on n.first.by (past_in place list left n.first.by p n.first.inside) in
-    let low = r.0 in
-    let begin = n.first.low in
-    omega arith
+hull_low list left place size w served stop from len on p n = grind (arith, nat_tests, past_in)
 
 pub hull_high : (list left : List Owned) (place size : ℕ) (w : Window) (served : List Owned) (stop from len : ℕ) → LieOn from len list → IsPast place list left
     → IsNext left place size w served stop → w.hull.at + w.hull.len ≤ from + len
 hull_high list left place size w served stop from len on p n =
-    let last = n.hull.last in
-    let r = on last.by (served_in place stop list left served last.by p n.front last.inside) in
-    let high = r.1 in
-    let end = last.high in
-    let some = n.hull.some in
-    omega arith
+    grind (arith, nat_tests, served_in place stop list left served n.hull.last.by p n.front n.hull.last.inside)
 
 served_extents : (stop : ℕ) (left served : List Owned) (e : Extent) → BeginBefore stop left served → In (extents served) e → In (extents left) e
 served_extents stop left served e b m = subst (λ (l : List Owned). In (extents l) e) (sym b.joined) (extents_left served b.rest e m)
@@ -55,6 +46,4 @@ found_right source (o ∷ a) b h = found_right source a b h.1
 
 pub served_found : (source : Source) (list left : List Owned) (place stop : ℕ) (served : List Owned) → AreFound source list → IsPast place list left → BeginBefore stop left served
     → AreFound source served
-served_found source list left place stop served f p b =
-    found_left source served b.rest
-    (subst (λ (l : List Owned). AreFound source l) b.joined (past_found source place list left f p))
+served_found source list left place stop served f p b = grind (arith, nat_tests, found_left, past_found)

@@ -2,6 +2,7 @@
 pub use Rattle.std.proofs.Common.{Bool, List, None, Option, Some, [], ap, append_assoc, arith, cond, drop, false, get_or, inl, inr, length, map, max, min, refl, rules, set, slice_get, subst, sym, take, true, ℕ, ◌++◌, ◌+◌, ◌-◌, ◌<◌, ◌^◌, ◌∙◌, ◌∷◌, ◌≡◌, ◌≢◌, ◌≤◌, ◌⊎◌}
 pub use Rattle.std.proofs.Math.Seq.{take-add, take-append_seam}
 pub use Rattle.std.proofs.lemmas.Bool.{le-leb, leb-true, lt-leb, lt-ltb}
+pub use Rattle.std.proofs.lemmas.Bool.Decides.{nat_tests}
 pub use Rattle.std.proofs.lemmas.Grind.{common_steps, fold-append}
 pub use Rattle.std.proofs.lemmas.List.{append-nil, drop_at, get_or-set_other, get_or-set_same, length-append, length-drop, length-set, length-take, map-append, take-append-le, take_all, take_at, take_min, take_more}
 pub use Rattle.std.proofs.lemmas.List.Elements.{filter-append}

@@ -1,20 +1,11 @@
 -- Two boxes share an element exactly where their ranges meet in each dimension.
-use Rattle.vara_extents.proofs.Words.{◌≡◌, ℕ, zero, suc, ◌+◌, ◌*◌, ◌<◌, ◌≤◌, ◌∙◌, ap, sym, refl, inl, inr, ◌⊎◌, List, [], ◌∷◌, length, map, Bool, true, false, ltb, leb, eqb, ◌||◌, ◌&&◌, max, min, replicate, arith, flat_map, bytes_eq, list_any, range_with_len, ltb-true, lt-ltb, leb-true, le-leb, eqb-true, eq-eqb, and_parts, and_from, or_cases, or_left, or_right, cases_lt, cases_eq, list_any-append, map-append, any_map, coordinates, index_at, has_index, boxes_meet}
+use Rattle.vara_extents.proofs.Words.{◌≡◌, ℕ, zero, suc, ◌+◌, ◌*◌, ◌∙◌, ap, sym, refl, List, [], ◌∷◌, length, map, Bool, true, false, ltb, leb, eqb, ◌||◌, ◌&&◌, max, min, replicate, arith, flat_map, bytes_eq, list_any, range_with_len, ltb-true, list_any-append, map-append, any_map, coordinates, index_at, has_index, boxes_meet, nat_tests}
 
 same_bool : (a b : Bool) → (a ≡ true → b ≡ true) → (b ≡ true → a ≡ true) → a ≡ b
-same_bool true false f g = sym (f refl)
-same_bool false true f g = g refl
-same_bool _ _ f g = refl
+same_bool a b f g = grind (arith, nat_tests)
 
 both_or : (a b x : Bool) → ((a && x) || (b && x)) ≡ ((a || b) && x)
-both_or true true true = refl
-both_or true true false = refl
-both_or true false true = refl
-both_or true false false = refl
-both_or false true true = refl
-both_or false true false = refl
-both_or false false true = refl
-both_or false false false = refl
+both_or a b x = grind (arith, nat_tests)
 
 neither : (x : Bool) → false ≡ (false && x)
 neither true = refl
@@ -52,63 +43,16 @@ split_any p q all h s starts ones inner (i ∷ is) =
 -- ---- one dimension
 
 in_range : (s x a n : ℕ) → list_any (λ i. eqb (s + i * 1) x) (range_with_len a n) ≡ (leb (s + a) x && ltb x (s + a + n))
-in_range s x a zero =
-    same_bool false (leb (s + a) x && ltb x (s + a + 0)) (λ e. cc)
-    (λ e. let p = and_parts (leb (s + a) x) (ltb x (s + a + 0)) e in let l = leb-true (s + a) x p.0 in let r = ltb-true x (s + a + 0) p.1 in absurd (omega arith))
-in_range s x a (suc n) =
-    ap (λ r. eqb (s + a * 1) x || r) (in_range s x (a + 1) n)
-    ∙ same_bool (eqb (s + a * 1) x || (leb (s + (a + 1)) x && ltb x (s + (a + 1) + n))) (leb (s + a) x && ltb x (s + a + suc n)) forth back
-  where
-    forth : (eqb (s + a * 1) x || (leb (s + (a + 1)) x && ltb x (s + (a + 1) + n))) ≡ true → (leb (s + a) x && ltb x (s + a + suc n)) ≡ true
-    forth e = by_case (or_cases (eqb (s + a * 1) x) (leb (s + (a + 1)) x && ltb x (s + (a + 1) + n)) e)
-      where
-        by_case : (eqb (s + a * 1) x ≡ true) ⊎ ((leb (s + (a + 1)) x && ltb x (s + (a + 1) + n)) ≡ true) → (leb (s + a) x && ltb x (s + a + suc n)) ≡ true
-        by_case (inl t) = let same = eqb-true (s + a * 1) x t in and_from _ _ (le-leb (s + a) x (omega arith)) (lt-ltb x (s + a + suc n) (omega arith))
-        by_case (inr t) =
-            let p = and_parts (leb (s + (a + 1)) x) (ltb x (s + (a + 1) + n)) t in let l = leb-true (s + (a + 1)) x p.0 in let r = ltb-true x (s + (a + 1) + n) p.1 in
-            and_from _ _ (le-leb (s + a) x (omega arith)) (lt-ltb x (s + a + suc n) (omega arith))
-
-    back : (leb (s + a) x && ltb x (s + a + suc n)) ≡ true → (eqb (s + a * 1) x || (leb (s + (a + 1)) x && ltb x (s + (a + 1) + n))) ≡ true
-    back e =
-        let p = and_parts (leb (s + a) x) (ltb x (s + a + suc n)) e in let l = leb-true (s + a) x p.0 in let r = ltb-true x (s + a + suc n) p.1 in
-        by_case (cases_eq (s + a) x)
-      where
-        by_case : (s + a ≡ x) ⊎ (s + a ≡ x → ⊥) → (eqb (s + a * 1) x || (leb (s + (a + 1)) x && ltb x (s + (a + 1) + n))) ≡ true
-        by_case (inl same) = or_left (eqb (s + a * 1) x) _ (eq-eqb (s + a * 1) x (omega arith))
-        by_case (inr other) =
-            let p = and_parts (leb (s + a) x) (ltb x (s + a + suc n)) e in let l = leb-true (s + a) x p.0 in let r = ltb-true x (s + a + suc n) p.1 in
-            or_right (eqb (s + a * 1) x) _ (and_from _ _ (le-leb (s + (a + 1)) x (omega (arith, other))) (lt-ltb x (s + (a + 1) + n) (omega arith)))
+in_range s x a zero = grind (arith, nat_tests)
+in_range s x a (suc n) = grind (arith, nat_tests, in_range s x (a + 1) n)
 
 abbrev within : ℕ → ℕ → ℕ → Bool
 within t m x = leb t x && ltb x (t + m)
 
-within_from : (t m x : ℕ) → t ≤ x → x < t + m → within t m x ≡ true
-within_from t m x l r = and_from (leb t x) (ltb x (t + m)) (le-leb t x l) (lt-ltb x (t + m) r)
-
 ranges_meet : (s t m a n : ℕ) → list_any (λ i. within t m (s + i * 1)) (range_with_len a n) ≡ ltb (max (s + a) t) (min (s + a + n) (t + m))
 ranges_meet s t m a zero = same_bool false (ltb (max (s + a) t) (min (s + a + 0) (t + m))) (λ e. cc)
     (λ e. let l = ltb-true (max (s + a) t) (min (s + a + 0) (t + m)) e in absurd (omega arith))
-ranges_meet s t m a (suc n) =
-    ap (λ r. within t m (s + a * 1) || r) (ranges_meet s t m (a + 1) n)
-    ∙ same_bool (within t m (s + a * 1) || ltb (max (s + (a + 1)) t) (min (s + (a + 1) + n) (t + m))) (ltb (max (s + a) t) (min (s + a + suc n) (t + m))) forth back
-  where
-    forth : (within t m (s + a * 1) || ltb (max (s + (a + 1)) t) (min (s + (a + 1) + n) (t + m))) ≡ true → ltb (max (s + a) t) (min (s + a + suc n) (t + m)) ≡ true
-    forth e = by_case (or_cases (within t m (s + a * 1)) (ltb (max (s + (a + 1)) t) (min (s + (a + 1) + n) (t + m))) e)
-      where
-        by_case : (within t m (s + a * 1) ≡ true) ⊎ (ltb (max (s + (a + 1)) t) (min (s + (a + 1) + n) (t + m)) ≡ true) → ltb (max (s + a) t) (min (s + a + suc n) (t + m)) ≡ true
-        by_case (inl w) =
-            let p = and_parts (leb t (s + a * 1)) (ltb (s + a * 1) (t + m)) w in let l = leb-true t (s + a * 1) p.0 in let r = ltb-true (s + a * 1) (t + m) p.1 in
-            lt-ltb (max (s + a) t) (min (s + a + suc n) (t + m)) (omega arith)
-        by_case (inr w) = let l = ltb-true (max (s + (a + 1)) t) (min (s + (a + 1) + n) (t + m)) w in lt-ltb (max (s + a) t) (min (s + a + suc n) (t + m)) (omega arith)
-
-    back : ltb (max (s + a) t) (min (s + a + suc n) (t + m)) ≡ true → (within t m (s + a * 1) || ltb (max (s + (a + 1)) t) (min (s + (a + 1) + n) (t + m))) ≡ true
-    back e = by_case (cases_lt (s + a) t)
-      where
-        by_case : (s + a < t) ⊎ (t ≤ s + a) → (within t m (s + a * 1) || ltb (max (s + (a + 1)) t) (min (s + (a + 1) + n) (t + m))) ≡ true
-        by_case (inl low) = let l = ltb-true (max (s + a) t) (min (s + a + suc n) (t + m)) e in
-            or_right (within t m (s + a * 1)) _ (lt-ltb (max (s + (a + 1)) t) (min (s + (a + 1) + n) (t + m)) (omega arith))
-        by_case (inr high) = let l = ltb-true (max (s + a) t) (min (s + a + suc n) (t + m)) e in
-            or_left (within t m (s + a * 1)) _ (within_from t m (s + a * 1) (omega arith) (omega arith))
+ranges_meet s t m a (suc n) = grind (arith, nat_tests, ranges_meet s t m (a + 1) n)
 
 -- ---- boxes
 
@@ -146,16 +90,7 @@ parted : (h : List ℕ → Bool) (s i : ℕ) (starts ones : List ℕ) (inner : L
     → list_any h (map (λ c. index_at (s ∷ starts) (1 ∷ ones) c) (flat_map (λ i. map (λ c. i ∷ c) inner) (i ∷ is)))
     ≡ (list_any (λ y. h ((s + i * 1) ∷ y)) (map (λ c. index_at starts ones c) inner)
     || list_any h (map (λ c. index_at (s ∷ starts) (1 ∷ ones) c) (flat_map (λ i. map (λ c. i ∷ c) inner) is)))
-parted h s i starts ones inner is =
-    ap (list_any h) (map-append (λ c. index_at (s ∷ starts) (1 ∷ ones) c) (map (λ c. i ∷ c) inner) (flat_map (λ i. map (λ c. i ∷ c) inner) is))
-    ∙ list_any-append h (map (λ c. index_at (s ∷ starts) (1 ∷ ones) c) (map (λ c. i ∷ c) inner)) (map (λ c. index_at (s ∷ starts) (1 ∷ ones) c) (flat_map (λ i. map (λ c. i ∷ c) inner) is))
-    ∙ ap (λ r. r || list_any h (map (λ c. index_at (s ∷ starts) (1 ∷ ones) c) (flat_map (λ i. map (λ c. i ∷ c) inner) is))) first
-  where
-    first : list_any h (map (λ c. index_at (s ∷ starts) (1 ∷ ones) c) (map (λ c. i ∷ c) inner)) ≡ list_any (λ y. h ((s + i * 1) ∷ y)) (map (λ c. index_at starts ones c) inner)
-    first =
-        any_map h (λ c. index_at (s ∷ starts) (1 ∷ ones) c) (map (λ c. i ∷ c) inner)
-        ∙ any_map (λ c. h (index_at (s ∷ starts) (1 ∷ ones) c)) (λ c. i ∷ c) inner
-        ∙ sym (any_map (λ y. h ((s + i * 1) ∷ y)) (λ c. index_at starts ones c) inner)
+parted h s i starts ones inner is = grind (arith, nat_tests, map-append, list_any-append, any_map)
 
 long_each : (f g : List ℕ → Bool) (s : ℕ) (starts ones : List ℕ) (inner : List (List ℕ))
     → ((x : ℕ) → list_any (λ y. f (x ∷ y)) (map (λ c. index_at starts ones c) inner) ≡ list_any (λ y. g (x ∷ y)) (map (λ c. index_at starts ones c) inner))
@@ -182,13 +117,7 @@ boxes_share starts counts others lengths h k l =
 
 any_or : {A : Type 0} (p q : A → Bool) (xs : List A) → list_any (λ x. p x || q x) xs ≡ (list_any p xs || list_any q xs)
 any_or p q [] = refl
-any_or p q (x ∷ xs) = ap (λ r. (p x || q x) || r) (any_or p q xs) ∙ four (p x) (q x) (list_any p xs) (list_any q xs)
-  where
-    four : (a b c d : Bool) → ((a || b) || (c || d)) ≡ ((a || c) || (b || d))
-    four true b c d = refl
-    four false true true d = refl
-    four false true false d = refl
-    four false false c d = refl
+any_or p q (x ∷ xs) = grind (arith, nat_tests, any_or p q xs)
 
 any_none : {A : Type 0} (xs : List A) → list_any (λ x. false) xs ≡ false
 any_none [] = refl
@@ -198,7 +127,4 @@ any_none (x ∷ xs) = any_none xs
 pub any_of : {A : Type 0} (f : A → List (List ℕ)) (regions : List A) (xs : List (List ℕ))
     → list_any (has_index (flat_map f regions)) xs ≡ list_any (λ r. list_any (has_index (f r)) xs) regions
 any_of f [] xs = any_none xs
-any_of f (r ∷ regions) xs =
-    (λ j. list_any (λ x. list_any-append (λ i. bytes_eq i x) (f r) (flat_map f regions) j) xs)
-    ∙ any_or (has_index (f r)) (has_index (flat_map f regions)) xs
-    ∙ ap (λ b. list_any (has_index (f r)) xs || b) (any_of f regions xs)
+any_of f (r ∷ regions) xs = grind (arith, nat_tests, any_of f regions xs, any_or (has_index (f r)) (has_index (flat_map f regions)) xs, list_any-append)

@@ -1,5 +1,5 @@
 -- Joined extents.
-use Rattle.vara_extents.proofs.Words.{◌≡◌, ℕ, zero, suc, ◌+◌, ◌*◌, ◌<◌, ◌≤◌, ◌⊎◌, inl, inr, refl, sym, ap, subst, ◌∙◌, List, [], ◌∷◌, ◌++◌, drop, Bool, cond, Some, arith, slice_get, range_with_len, AllByRecursion, eq-eqb, ne_eqb, cases_eq, append_assoc, range_append, Extent, joined_to, joined, IsNotNext, IsJoined, spans, drop_at}
+use Rattle.vara_extents.proofs.Words.{◌≡◌, ℕ, zero, suc, ◌+◌, ◌*◌, ◌<◌, ◌≤◌, inl, inr, refl, ap, ◌∙◌, List, [], ◌∷◌, drop, Bool, cond, Some, arith, slice_get, AllByRecursion, eq-eqb, ne_eqb, cases_eq, append_assoc, range_append, Extent, joined_to, joined, IsJoined, spans, drop_at, nat_tests}
 
 -- ---- one extent before joined ones
 
@@ -29,27 +29,11 @@ same_extent a b m n h k = λ i. extent (h i) (k i)
 
 -- an extent before one that begins at its end, which is joined to others
 pub join_two : (e d : Extent) (es : List Extent) → d.at ≡ e.at + e.len → joined_to e (joined_to d es) ≡ joined_to (lengthened e d.len) es
-join_two e d [] h = join_next e d [] h
-join_two e d (c ∷ es) h = by_case (cases_eq c.at (d.at + d.len))
-  where
-    by_case : (c.at ≡ d.at + d.len) ⊎ (c.at ≡ d.at + d.len → ⊥) → joined_to e (joined_to d (c ∷ es)) ≡ joined_to (lengthened e d.len) (c ∷ es)
-    by_case (inl k) =
-        ap (λ (ds : List Extent). joined_to e ds) (join_next d c es k)
-        ∙ join_next e (lengthened d c.len) es h
-        ∙ ap (λ (n : Extent). n ∷ es) (same_extent e.at e.at (e.len + (d.len + c.len)) (e.len + d.len + c.len) refl (omega arith))
-        ∙ sym (join_next (lengthened e d.len) c es (omega arith))
-    by_case (inr k) =
-        ap (λ (ds : List Extent). joined_to e ds) (join_apart d c es k)
-        ∙ join_next e d (c ∷ es) h
-        ∙ sym (join_apart (lengthened e d.len) c es (λ m. k (omega arith)))
+join_two e d es h = grind (arith, nat_tests, join_next, cases_eq, same_extent, join_apart)
 
 -- before one that does not begin at its end
 pub join_far : (e d : Extent) (es : List Extent) → (d.at ≡ e.at + e.len → ⊥) → joined_to e (joined_to d es) ≡ e ∷ joined_to d es
-join_far e d es h =
-    let first = join_first d es in
-    ap (λ (ds : List Extent). joined_to e ds) first.2
-    ∙ join_apart e first.0 first.1 (λ k. h (sym first.3 ∙ k))
-    ∙ ap (λ (ds : List Extent). e ∷ ds) (sym first.2)
+join_far e d es h = grind (arith, nat_tests, join_first, join_apart)
 
 -- ---- elements one after another
 
@@ -83,32 +67,14 @@ run_joined es len k (suc n) at h =
 
 pub joined_is : (es : List Extent) → IsJoined (joined es)
 joined_is [] = tt
-joined_is (e ∷ es) = before e (joined es) (joined_is es)
-  where
-    before : (e : Extent) (ds : List Extent) → IsJoined ds → IsJoined (joined_to e ds)
-    before e [] h = (tt, tt)
-    before e (d ∷ ds) h = elim (cases_eq d.at (e.at + e.len)) [
-      | inl k ↦ subst IsJoined (sym (join_next e d ds k)) (later ds k h.0, h.1)
-      | inr k ↦ subst IsJoined (sym (join_apart e d ds k)) ((λ m. k (sym m)), h)
-    ]
-      where
-        later : (ds : List Extent) → d.at ≡ e.at + e.len → IsNotNext d ds → IsNotNext (lengthened e d.len) ds
-        later [] k m = tt
-        later (c ∷ ds) k m = λ n. m (omega arith)
+joined_is (e ∷ es) = grind (arith, nat_tests, joined_is es, cases_eq, join_next, join_apart)
 
 abbrev pub AreSome : List Extent → Type 0
 AreSome es = AllByRecursion (λ (e : Extent). 1 ≤ e.len) es
 
 pub joined_some : (es : List Extent) → AreSome es → AreSome (joined es)
 joined_some [] h = tt
-joined_some (e ∷ es) h = before e (joined es) h.0 (joined_some es h.1)
-  where
-    before : (e : Extent) (ds : List Extent) → 1 ≤ e.len → AreSome ds → AreSome (joined_to e ds)
-    before e [] l h = (l, tt)
-    before e (d ∷ ds) l h = elim (cases_eq d.at (e.at + e.len)) [
-      | inl k ↦ subst AreSome (sym (join_next e d ds k)) (omega arith, h.1)
-      | inr k ↦ subst AreSome (sym (join_apart e d ds k)) (l, h)
-    ]
+joined_some (e ∷ es) h = grind (arith, nat_tests, joined_some es h.1, cases_eq, join_next, join_apart)
 
 -- every extent ends by n
 abbrev pub EndBy : ℕ → List Extent → Type 0
@@ -116,27 +82,8 @@ EndBy n es = AllByRecursion (λ (e : Extent). e.at + e.len ≤ n) es
 
 pub joined_end : (n : ℕ) (es : List Extent) → EndBy n es → EndBy n (joined es)
 joined_end n [] h = tt
-joined_end n (e ∷ es) h = before e (joined es) h.0 (joined_end n es h.1)
-  where
-    before : (e : Extent) (ds : List Extent) → e.at + e.len ≤ n → EndBy n ds → EndBy n (joined_to e ds)
-    before e [] l h = (l, tt)
-    before e (d ∷ ds) l h = elim (cases_eq d.at (e.at + e.len)) [
-      | inl k ↦ (let low = h.0 in subst (EndBy n) (sym (join_next e d ds k)) (omega arith, h.1))
-      | inr k ↦ subst (EndBy n) (sym (join_apart e d ds k)) (l, h)
-    ]
+joined_end n (e ∷ es) h = grind (arith, nat_tests, joined_end n es h.1, cases_eq, join_next, join_apart)
 
 pub joined_spans : (es : List Extent) → spans (joined es) ≡ spans es
 joined_spans [] = refl
-joined_spans (e ∷ es) = before e (joined es) ∙ ap (λ (xs : List ℕ). range_with_len e.at e.len ++ xs) (joined_spans es)
-  where
-    before : (e : Extent) (ds : List Extent) → spans (joined_to e ds) ≡ range_with_len e.at e.len ++ spans ds
-    before e [] = refl
-    before e (d ∷ ds) = by_case (cases_eq d.at (e.at + e.len))
-      where
-        by_case : (d.at ≡ e.at + e.len) ⊎ (d.at ≡ e.at + e.len → ⊥) → spans (joined_to e (d ∷ ds)) ≡ range_with_len e.at e.len ++ spans (d ∷ ds)
-        by_case (inl k) =
-            ap spans (join_next e d ds k)
-            ∙ ap (λ (xs : List ℕ). xs ++ spans ds) (range_append e.at e.len d.len)
-            ∙ append_assoc (range_with_len e.at e.len) (range_with_len (e.at + e.len) d.len) (spans ds)
-            ∙ ap (λ (b : ℕ). range_with_len e.at e.len ++ (range_with_len b d.len ++ spans ds)) (sym k)
-        by_case (inr k) = ap spans (join_apart e d ds k)
+joined_spans (e ∷ es) = grind (arith, nat_tests, joined_spans es, cases_eq, join_next, range_append, append_assoc, join_apart)

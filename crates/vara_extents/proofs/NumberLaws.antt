@@ -1,5 +1,5 @@
 -- The element with a number.
-use Rattle.vara_extents.proofs.Words.{◌≡◌, ℕ, zero, suc, ◌+◌, ◌*◌, ◌/◌, ◌%◌, ◌<◌, ◌≤◌, sym, ap, ◌∙◌, List, [], ◌∷◌, length, drop, Some, arith, slice_get, div-add-mod', div_below, mod_below, mul-le, lt_of_mul-lt-mul_right, length-map, Header, Var, Region, size_of, product, row, place, IsIndex, coordinates, index_at, elements, places, length-coordinates, coordinates_at, element_extents, joined, joined_to, coordinates_of, index_of, AreRuns, entry_map}
+use Rattle.vara_extents.proofs.Words.{◌≡◌, ℕ, zero, suc, ◌+◌, ◌*◌, ◌/◌, ◌%◌, ◌<◌, ◌≤◌, sym, ap, ◌∙◌, List, [], ◌∷◌, length, drop, Some, arith, slice_get, div-add-mod', div_below, mod_below, mul-le, lt_of_mul-lt-mul_right, length-map, Header, Var, Region, size_of, product, row, place, IsIndex, coordinates, index_at, elements, places, length-coordinates, coordinates_at, element_extents, joined, joined_to, coordinates_of, index_of, AreRuns, entry_map, nat_tests}
 use Rattle.vara_extents.proofs.JoinLaws.{run_joined}
 
 some_counts : (n p k : ℕ) → k < n * p → 1 ≤ p
@@ -9,8 +9,7 @@ some_counts n (suc p) k h = omega arith
 pub numbered_index : (counts : List ℕ) (k : ℕ) → k < product counts → IsIndex counts (coordinates_of counts k)
 numbered_index [] k h = tt
 numbered_index (n ∷ counts) k h =
-    let some = some_counts n (product counts) k h in
-    (div_below k (product counts) n some h, numbered_index counts (k % product counts) (mod_below k (product counts) some))
+    grind (arith, nat_tests, numbered_index counts (k % product counts) (mod_below k (product counts) (some_counts n (product counts) k h)), some_counts, div_below, mod_below)
 
 pub numbered_row : (counts : List ℕ) (k : ℕ) → k < product counts → row counts (coordinates_of counts k) ≡ k
 numbered_row [] k h = omega arith

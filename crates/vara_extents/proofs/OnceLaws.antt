@@ -1,5 +1,5 @@
 -- No byte of an accepted region stands twice.
-use Rattle.vara_extents.proofs.Words.{◌≡◌, ℕ, zero, suc, ◌+◌, ◌*◌, ◌/◌, ◌%◌, ◌<◌, ◌≤◌, ◌⊎◌, inl, inr, refl, sym, ap, subst, ◌∙◌, List, [], ◌∷◌, ◌++◌, length, map, true, false, eqb, Option, Some, None, arith, slice_get, flat_map, range_with_len, list_any, or_parts, eqb-false, cases_eq, div-add-mod', mod_below, slice_get_within, same_Some, length-range_with_len, size_pos, same_factor, Header, Var, Post, Region, size_of, is_sound, product, row, place, IsIndex, AreApart, index_at, places, bytes_of, bytes_of_some, elements_apart, IsAccepted, extents_of, element_extents, spans, IsOnce, coordinates_of, index_of, get_left, get_right}
+use Rattle.vara_extents.proofs.Words.{◌≡◌, ℕ, zero, suc, ◌+◌, ◌*◌, ◌/◌, ◌%◌, ◌<◌, ◌≤◌, ◌⊎◌, inl, inr, refl, sym, ap, subst, ◌∙◌, List, [], ◌∷◌, ◌++◌, length, map, true, false, eqb, Option, Some, None, arith, slice_get, flat_map, range_with_len, list_any, or_parts, eqb-false, cases_eq, div-add-mod', mod_below, slice_get_within, same_Some, length-range_with_len, size_pos, same_factor, Header, Var, Post, Region, size_of, is_sound, product, row, place, IsIndex, AreApart, index_at, places, bytes_of, bytes_of_some, elements_apart, IsAccepted, extents_of, element_extents, spans, IsOnce, coordinates_of, index_of, get_left, get_right, nat_tests}
 use Rattle.serial_spec.proofs.AcceptLaws as accept
 use Rattle.vara_extents.proofs.AcceptedLaws.{passed}
 use Rattle.vara_extents.proofs.JoinLaws.{joined_spans}
@@ -12,12 +12,9 @@ use Rattle.vara_extents.proofs.PlaceLaws.{accepted_var, accepted_place}
 pub in_block : {A B : Type 0} (f : A → List B) (p : ℕ) → ((x : A) → length (f x) ≡ p) → (xs : List A) (q r : ℕ) (b : B) → r < p → slice_get (flat_map f xs) (q * p + r) ≡ Some b
     → (x : A) × (slice_get xs q ≡ Some x) × (slice_get (f x) r ≡ Some b)
 in_block f p l [] q r b h e = absurd cc
-in_block f p l (x ∷ xs) zero r b h e =
-    let long : length (f x) ≡ p = l x in
-    (x, refl, sym (get_left (f x) (flat_map f xs) r (omega arith)) ∙ ap (λ (m : ℕ). slice_get (flat_map f (x ∷ xs)) m) (omega arith) ∙ e)
+in_block f p l (x ∷ xs) zero r b h e = grind (arith, nat_tests, get_left (f x) (flat_map f xs) r (omega arith))
 in_block f p l (x ∷ xs) (suc q) r b h e =
-    let long : length (f x) ≡ p = l x in
-    in_block f p l xs q r b h (sym (get_right (f x) (flat_map f xs) (q * p + r) (suc q * p + r) (omega arith)) ∙ e)
+    grind (arith, nat_tests, in_block f p l xs q r b h (sym (get_right (f x) (flat_map f xs) (q * p + r) (suc q * p + r) (omega arith)) ∙ e), get_right)
 
 pub range_at : (a n r b : ℕ) → slice_get (range_with_len a n) r ≡ Some b → b ≡ a + r
 range_at a zero r b e = absurd cc

@@ -1,5 +1,5 @@
 -- Parts of one call: the first refusal, the elements that two of them share, and the code of all.
-use Rattle.vara_extents.proofs.Words.{◌≡◌, ℕ, ◌+◌, ◌<◌, ◌≤◌, ◌∙◌, ap, sym, refl, inl, inr, ◌⊎◌, List, [], ◌∷◌, length, map, take, get_or, Bool, true, false, cond, ltb, eqb, ◌||◌, ◌&&◌, replicate, arith, flat_map, sum_by, All, list_any, both_ways, and_parts, not-false, eqb-true, lt-ltb, le-ltb, cases_lt, All-nil, All-cons, All-head, All-tail, All-map, sum_by_more, Header, Var, Part, Region, Direction, Code, product, most_elements, elements, coordinates, index_at, check_var, check_parts, first_refusal, is_ok_code, is_put, has_index, part_region, share_element, elements_of_all, capped, boxes_meet, meets_any, some_meet, IsBox, code_by_boxes, refusal_of, together_code}
+use Rattle.vara_extents.proofs.Words.{◌≡◌, ℕ, ◌+◌, ◌<◌, ◌≤◌, ◌∙◌, ap, sym, refl, inl, inr, ◌⊎◌, List, [], ◌∷◌, length, map, take, get_or, Bool, true, false, cond, ltb, ◌||◌, ◌&&◌, replicate, arith, flat_map, sum_by, All, list_any, both_ways, and_parts, not-false, eqb-true, lt-ltb, le-ltb, cases_lt, All-nil, All-cons, All-head, All-tail, All-map, sum_by_more, Header, Var, Part, Region, Direction, Code, product, most_elements, elements, coordinates, index_at, check_var, check_parts, first_refusal, is_ok_code, is_put, has_index, part_region, share_element, elements_of_all, capped, boxes_meet, meets_any, some_meet, IsBox, code_by_boxes, refusal_of, together_code, nat_tests}
 use Rattle.std.specs.Prelude.{not}
 use Rattle.nc_base.specs.declared.answer.Code.TheVariants as code
 use Rattle.vara_extents.proofs.AcceptedLaws.{passed}
@@ -37,9 +37,7 @@ not_picked large shared _ n = refl
 
 pub refused_first : (header : Header) (var : Var) (parts : List Region) (known : ℕ) (direction : Direction) (c : Code)
     → c ≡ refusal_of header var parts known direction → (c ≡ code.Ok → ⊥) → c ≡ check_parts header var parts known direction
-refused_first header var parts known direction c h n =
-    h ∙ sym (not_picked (ltb most_elements (elements_of_all parts)) (is_put direction && share_element parts)
-    (refusal_of header var parts known direction) (λ e. n (h ∙ e)))
+refused_first header var parts known direction c h n = grind (arith, nat_tests, not_picked)
 
 pub too_many : (header : Header) (var : Var) (parts : List Region) (known : ℕ) (direction : Direction)
     → refusal_of header var parts known direction ≡ code.Ok → most_elements < elements_of_all parts → code.ETooLarge ≡ check_parts header var parts known direction
@@ -56,13 +54,7 @@ by_share header var parts known direction b h few e =
 
 box_of : (header : Header) (var : Var) (known : ℕ) (direction : Direction) (g : Region)
     → check_var header var g known direction ≡ code.Ok → g.stride ≡ replicate (length var.dims) 1 → IsBox (length var.dims) g
-box_of header var known direction g h s =
-    let all = passed header var g known direction h in
-    let shape = not-false _ all.shape in
-    let three = and_parts (eqb (length g.start) (length var.dims) && eqb (length g.count) (length var.dims) && eqb (length g.stride) (length var.dims)) (g.packed || eqb (length g.imap) (length var.dims)) shape in
-    let two = and_parts (eqb (length g.start) (length var.dims) && eqb (length g.count) (length var.dims)) (eqb (length g.stride) (length var.dims)) three.0 in
-    let one = and_parts (eqb (length g.start) (length var.dims)) (eqb (length g.count) (length var.dims)) two.0 in
-    (eqb-true (length g.start) (length var.dims) one.0, eqb-true (length g.count) (length var.dims) one.1, s)
+box_of header var known direction g h s = grind (arith, nat_tests, passed, not-false, and_parts, eqb-true)
 
 abbrev HasStrides : Var → Region → Type 0
 HasStrides var g = g.stride ≡ replicate (length var.dims) 1
@@ -88,9 +80,7 @@ elements_box dims g h = ap (λ (s : List ℕ). map (λ c. index_at g.start s c) 
 
 meets_one : (dims : ℕ) (g other : Region) → IsBox dims g → IsBox dims other
     → list_any (has_index (elements other)) (elements g) ≡ boxes_meet g.start g.count other.start other.count
-meets_one dims g other h k =
-    (λ j. list_any (has_index (elements_box dims other k j)) (elements_box dims g h j))
-    ∙ boxes_share g.start g.count other.start other.count (h.0 ∙ sym h.1) (k.0 ∙ sym k.1) (k.1 ∙ sym h.1)
+meets_one dims g other h k = grind (arith, nat_tests, elements_box, boxes_share)
 
 meets_each : (dims : ℕ) (g : Region) (others : List Region) → IsBox dims g → All (IsBox dims) others
     → meets_any g others ≡ list_any (λ other. list_any (has_index (elements other)) (elements g)) others
@@ -163,6 +153,4 @@ few_are parts listed direction put share same few p s =
 pub one_part_more : (parts : List Region) (k : ℕ) (d : Region) (s n : ℕ) → k < length parts
     → s ≡ capped (sum_by (λ (g : Region). product g.count) (take k parts)) → n ≡ capped (product (get_or parts k d).count)
     → capped (s + n) ≡ capped (sum_by (λ (g : Region). product g.count) (take (k + 1) parts))
-one_part_more parts k d s n h e f =
-    let more = sum_by_more (λ (g : Region). product g.count) parts k d h in
-    omega (arith, e, f, more)
+one_part_more parts k d s n h e f = grind (arith, nat_tests, sum_by_more)

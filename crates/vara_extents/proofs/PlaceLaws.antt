@@ -1,5 +1,5 @@
 -- Where the elements of an accepted region lie.
-use Rattle.vara_extents.proofs.Words.{◌≡◌, ℕ, ◌+◌, ◌^◌, ◌<◌, ◌≤◌, sym, ap, ◌∙◌, List, [], ◌∷◌, map, true, false, not, ltb, leb, ◌||◌, ◌&&◌, Option, Some, arith, slice_get, or_parts, leb-false, ltb-false, mul-le, size_pos, each_map, each_weaker, each_at, Header, Var, Extent, Region, size_of, header_len, is_sound, product, end_of, inner_lengths, is_record, recsize, most_elements, record_limit, file_limit, place, within_record, IsElement, IsElementBelow, records_of, check_some, check_var, asks_too_much, last_position, elements, places, accepted_elements, slab_fits, index_record, element_inside, product_pos, IsAccepted, element_extents, extents_of, index_of}
+use Rattle.vara_extents.proofs.Words.{◌≡◌, ℕ, ◌+◌, ◌^◌, ◌<◌, ◌≤◌, sym, ap, ◌∙◌, List, [], ◌∷◌, map, true, false, Option, Some, arith, slice_get, or_parts, leb-false, ltb-false, mul-le, size_pos, each_map, each_weaker, each_at, Header, Var, Extent, Region, size_of, header_len, is_sound, product, end_of, inner_lengths, is_record, recsize, place, within_record, IsElement, IsElementBelow, records_of, check_some, check_var, asks_too_much, elements, places, accepted_elements, slab_fits, index_record, element_inside, product_pos, IsAccepted, element_extents, extents_of, index_of, nat_tests}
 use Rattle.nc_base.specs.declared.answer.Code.TheVariants as code
 use Rattle.vara_extents.proofs.AcceptedLaws.{passed}
 use Rattle.vara_extents.proofs.JoinLaws.{AreSome, EndBy, joined_some, joined_end}
@@ -14,13 +14,7 @@ pub record IsSmall (header : Header) (v : Var) (g : Region) : Type 0 where
   pub ends : end_of header (header_len header) (records_of header v g) < 2 ^ 62
 
 pub accepted_small : (header : Header) (v : Var) (g : Region) → asks_too_much header v g ≡ false → IsSmall header v g
-accepted_small header v g h =
-    let a = or_parts (ltb most_elements (product g.count) || (not g.packed && ltb 0 (product g.count) && leb most_elements (last_position g.count g.imap)) || leb (record_limit header.version) (records_of header v g))
-    (leb file_limit (end_of header (header_len header) (records_of header v g))) h in
-    let b = or_parts (ltb most_elements (product g.count) || (not g.packed && ltb 0 (product g.count) && leb most_elements (last_position g.count g.imap)))
-    (leb (record_limit header.version) (records_of header v g)) a.0 in
-    let c = or_parts (ltb most_elements (product g.count)) (not g.packed && ltb 0 (product g.count) && leb most_elements (last_position g.count g.imap)) b.0 in
-    record { elements = ltb-false most_elements (product g.count) c.0; ends = leb-false file_limit (end_of header (header_len header) (records_of header v g)) a.1 }
+accepted_small header v g h = grind (arith, nat_tests, or_parts, ltb-false, leb-false)
 
 -- element n of an accepted region
 pub record IsPlaced (header : Header) (v : Var) (g : Region) (n : ℕ) : Type 0 where

@@ -1,5 +1,5 @@
 -- Rows of runs: in one dimension the places of runs go up by equal steps.
-use Rattle.vara_extents.proofs.Words.{◌≡◌, ℕ, zero, suc, ◌+◌, ◌*◌, ◌/◌, ◌%◌, ◌<◌, ◌≤◌, inl, inr, refl, sym, ap, subst, ◌∙◌, List, [], ◌∷◌, length, get_or, Bool, true, false, arith, slice_get, length-map, div-mul-add, mod-mul-add, div-add-mod', mod_below, mul-le, mul-div_cancel, mul-mod_left, Header, Var, Region, size_of, product, length_of, recsize, is_record, starts_with_zero, lengths_of, place, index_at, coordinates_of, index_of, weighted, AreRuns, HaveRows}
+use Rattle.vara_extents.proofs.Words.{◌≡◌, ℕ, zero, suc, ◌+◌, ◌*◌, ◌/◌, ◌%◌, ◌<◌, ◌≤◌, inl, inr, refl, sym, ap, subst, ◌∙◌, List, [], ◌∷◌, length, get_or, Bool, true, false, arith, slice_get, length-map, div-mul-add, mod-mul-add, div-add-mod', mod_below, mul-le, mul-div_cancel, mul-mod_left, Header, Var, Region, size_of, product, length_of, recsize, is_record, starts_with_zero, lengths_of, place, index_at, coordinates_of, index_of, weighted, AreRuns, HaveRows, nat_tests}
 use Rattle.serial_spec.specs.Place as spec
 use Rattle.vara_extents.proofs.RowSteps.{rest, rest_is, fixed_is, record_place_is, record_row, same_rests, split}
 use Rattle.vara_extents.proofs.RunLaws.{kept, same_runs}
@@ -86,17 +86,7 @@ rows_inside _ _ run row a some one h l = absurd (omega arith)
 
 -- the same from a base on
 pub rows_from : (f g : ℕ → ℕ) (base run row total : ℕ) → ((k : ℕ) → base + f k ≡ g k) → HaveRows f run row total → HaveRows g run row total
-rows_from f g base run row total same (inl h) = inl h
-rows_from f g base run row total same (inr h) = inr (
-  h.0,
-  h.1,
-  h.2,
-  record {
-    some = h.3.some;
-    parts = h.3.parts;
-    follow = λ q i l below. sym (same ((q * row + i) * run)) ∙ omega (arith, h.3.follow q i l below, same (q * row * run));
-  },
-)
+rows_from f g base run row total same xs = grind (arith, nat_tests)
 
 abbrev weights_of : ℕ → List ℕ → List ℕ → List ℕ
 weights_of size (n ∷ lengths) (t ∷ strides) = t * product lengths * size ∷ weights_of size lengths strides
@@ -111,8 +101,7 @@ row_weighted : (size : ℕ) (lengths starts strides cs : List ℕ) → length st
     → spec.row lengths (index_at starts strides cs) * size ≡ spec.row lengths starts * size + weighted (weights_of size lengths strides) cs
 row_weighted size [] starts strides cs a b c = omega arith
 row_weighted size (n ∷ lengths) (s ∷ starts) (t ∷ strides) (x ∷ cs) a b c =
-    let inner = row_weighted size lengths starts strides cs (omega arith) (omega arith) (omega arith) in
-    omega (arith, inner)
+    grind (arith, nat_tests, row_weighted size lengths starts strides cs (omega arith) (omega arith) (omega arith))
 row_weighted size _ _ _ _ a b c = absurd (omega arith)
 
 length-coordinates_of : (counts : List ℕ) (k : ℕ) → length (coordinates_of counts k) ≡ length counts
@@ -140,15 +129,7 @@ record HasShape (v : Var) (g : Region) : Type 0 where
 
 fixed_sums : (header : Header) (v : Var) (g : Region) → is_record header v ≡ false → HasShape v g
     → AreSums header v g (weights_of (size_of v.kind) (lengths_of header v.dims) g.stride) (v.begin + spec.row (lengths_of header v.dims) g.start * size_of v.kind)
-fixed_sums header v g e h =
-    let dims = length-lengths_of header v.dims in
-    record {
-      long = length-weights_of (size_of v.kind) (lengths_of header v.dims) g.stride (h.strides ∙ sym dims) ∙ h.strides ∙ sym h.counts;
-      sum = λ k.
-          let own = row_weighted (size_of v.kind) (lengths_of header v.dims) g.start g.stride (coordinates_of g.count k) (h.starts ∙ sym dims) (h.strides ∙ sym dims)
-          (length-coordinates_of g.count k ∙ h.counts ∙ sym dims) in
-          omega (arith, own, fixed_is header v g k e);
-    }
+fixed_sums header v g e h = grind (arith, nat_tests, length-lengths_of, length-weights_of, row_weighted, length-coordinates_of, fixed_is)
 
 some_dims : (header : Header) (ids : List ℕ) → starts_with_zero (lengths_of header ids) ≡ true → 1 ≤ length ids
 some_dims header [] e = absurd (cc)

@@ -1,5 +1,5 @@
 -- Rows and runs of elements by their numbers, one dimension more.
-use Rattle.vara_extents.proofs.Words.{◌≡◌, ℕ, zero, suc, ◌+◌, ◌-◌, ◌*◌, ◌/◌, ◌%◌, ◌^◌, ◌<◌, ◌≤◌, ◌⊎◌, min, inr, refl, sym, ap, subst, ◌∙◌, List, [], ◌∷◌, length, take, drop, get_or, true, false, arith, transport, slice_get, take_rest, mod_below, mul-le, mul-le-mul_left, eqb-true, eqb-false, index_fixed, index_record, Header, Var, Region, size_of, product, length_of, recsize, is_record, starts_with_zero, without_record, lengths_of, row, place, record_of, within_record, HasRecord, IsIndex, IsElement, index_at, product_pos, place_fixed, place_record, coordinates_of, index_of, row_of, AreRuns}
+use Rattle.vara_extents.proofs.Words.{◌≡◌, ℕ, zero, suc, ◌+◌, ◌-◌, ◌*◌, ◌/◌, ◌%◌, ◌^◌, ◌<◌, ◌≤◌, ◌⊎◌, min, inr, refl, sym, ap, subst, ◌∙◌, List, [], ◌∷◌, length, take, drop, get_or, true, false, arith, transport, slice_get, take_rest, mod_below, mul-le, mul-le-mul_left, eqb-true, eqb-false, index_fixed, index_record, Header, Var, Region, size_of, product, length_of, recsize, is_record, starts_with_zero, without_record, lengths_of, row, place, record_of, within_record, HasRecord, IsIndex, IsElement, index_at, product_pos, place_fixed, place_record, coordinates_of, index_of, row_of, AreRuns, nat_tests}
 use Rattle.vara_extents.proofs.RunLaws.{kept, merged, same_runs, sized}
 
 -- the list after its first entry, as a pattern takes it
@@ -155,9 +155,7 @@ record_row header _ _ _ _ number e a b c d = absurd (omega arith)
 pub record_place_is : (header : Header) (v : Var) (g : Region) (number : ℕ) → is_record header v ≡ true → RecordRow header v.dims g.start g.count g.stride number
     → v.begin + (get_or g.start 0 0 + number / product (rest g.count) * get_or g.stride 0 0) * recsize header
     + row_of header (rest v.dims) (rest g.start) (rest g.count) (rest g.stride) (number % product (rest g.count)) * size_of v.kind ≡ place header v (index_of g number)
-record_place_is header v g number e r =
-    (λ i. v.begin + sym r.record_is i * recsize header + row (sym r.lengths_are i) (sym r.index_is i) * size_of v.kind)
-    ∙ sym (place_record header v (index_of g number) e)
+record_place_is header v g number e r = grind (arith, nat_tests, place_record)
 
 -- an element of a record variable, where a block of a record has `inner` elements of the region
 pub record RecordStep (header : Header) (v : Var) (g : Region) (number inner : ℕ) (ids starts counts strides : List ℕ) : Type 0 where
@@ -181,19 +179,16 @@ record_step_of : (header : Header) (v : Var) (g : Region) (number inner : ℕ) �
     → IsElement header v (index_of g number) → number < product g.count → product g.count ≤ 2 ^ 20 → inner ≡ min (product (rest g.count)) (2 ^ 64 - 1)
     → RecordStep header v g number inner v.dims g.start g.count g.stride
 record_step_of header v g number inner e a b c d valid below small is =
-    let r = record_row header v.dims g.start g.count g.stride number e a b c d in
-    let size = inner_small g.count number c below small in
-    let top = size.1 in
-    let same : product (rest g.count) ≡ inner = omega arith in
-    let own = (index_record header v (index_of g number) e valid).1 in
-    subst (λ (m : ℕ). RecordStep header v g number m v.dims g.start g.count g.stride) same
-    (record {
-      small = size.1;
-      some = size.0;
-      valid = transport (λ i. IsIndex (r.lengths_are i) (r.index_is i)) own;
-      number_low = mod_below number (product (rest g.count)) size.0;
-      whole = record_place_is header v g number e r;
-    })
+    grind (
+      arith,
+      nat_tests,
+      record_row header v.dims g.start g.count g.stride number e a b c d,
+      inner_small g.count number c below small,
+      index_record header v (index_of g number) e valid,
+      mod_below number (product (rest g.count)) (inner_small g.count number c below small).0,
+      record_place_is header v g number e (record_row header v.dims g.start g.count g.stride number e a b c d),
+      transport,
+    )
 
 pub record_step : (header : Header) (v : Var) (g : Region) (number inner : ℕ) (ids starts counts strides : List ℕ) → ids ≡ v.dims → starts ≡ g.start → counts ≡ g.count → strides ≡ g.stride
     → is_record header v ≡ true → 1 ≤ length ids → 1 ≤ length starts → 1 ≤ length counts → 1 ≤ length strides
@@ -217,21 +212,14 @@ no_record_counts header v g number e l valid = no_record g.start g.count g.strid
 pub fixed_runs : (header : Header) (v : Var) (g : Region) (run : ℕ) → is_record header v ≡ false → length g.start ≡ length v.dims → HaveRuns header v.dims g.count g.stride run
     → AreRuns (λ k. place header v (index_of g k)) (size_of v.kind) run (product g.count)
 fixed_runs header v g run e l h =
-    same_runs (λ k. v.begin + row_of header v.dims g.start g.count g.stride k * size_of v.kind) (λ k. place header v (index_of g k)) (size_of v.kind) run (product g.count)
-    (λ k. fixed_is header v g k e) (sized (row_of header v.dims g.start g.count g.stride) v.begin (size_of v.kind) run (product g.count) (h g.start l))
+    grind (arith, nat_tests, sized (row_of header v.dims g.start g.count g.stride) v.begin (size_of v.kind) run (product g.count) (h g.start l), same_runs, fixed_is)
 
 -- the inner runs of a record variable, by its records
 by_records : (header : Header) (v : Var) (g : Region) (run : ℕ) → is_record header v ≡ true → 1 ≤ length v.dims → 1 ≤ length g.start → 1 ≤ length g.count → 1 ≤ length g.stride
     → AreRuns (λ k. (get_or g.start 0 0 + k / product (rest g.count) * get_or g.stride 0 0) * recsize header
     + (v.begin + row_of header (rest v.dims) (rest g.start) (rest g.count) (rest g.stride) (k % product (rest g.count)) * size_of v.kind)) (size_of v.kind) run (get_or g.count 0 0 * product (rest g.count))
     → AreRuns (λ k. place header v (index_of g k)) (size_of v.kind) run (product g.count)
-by_records header v g run e a b c d h =
-    subst (λ (n : ℕ). AreRuns (λ k. place header v (index_of g k)) (size_of v.kind) run n) (sym (ap product (split g.count c)))
-    (same_runs _ (λ k. place header v (index_of g k)) (size_of v.kind) run (get_or g.count 0 0 * product (rest g.count))
-    (λ k. turned v.begin _ _ ∙ record_place_is header v g k e (record_row header v.dims g.start g.count g.stride k e a b c d)) h)
-  where
-    turned : (x y z : ℕ) → y + (x + z) ≡ x + y + z
-    turned x y z = omega arith
+by_records header v g run e a b c d h = grind (arith, nat_tests, split, same_runs, record_place_is, record_row)
 
 inner_bytes : (header : Header) (v : Var) (g : Region) (run : ℕ) → length (rest g.start) ≡ length (rest v.dims) → HaveRuns header (rest v.dims) (rest g.count) (rest g.stride) run
     → AreRuns (λ k. v.begin + row_of header (rest v.dims) (rest g.start) (rest g.count) (rest g.stride) k * size_of v.kind) (size_of v.kind) run (product (rest g.count))

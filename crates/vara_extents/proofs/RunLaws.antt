@@ -1,22 +1,12 @@
 -- Runs of elements, one dimension more.
-use Rattle.vara_extents.proofs.Words.{◌≡◌, ℕ, zero, suc, ◌+◌, ◌*◌, ◌/◌, ◌%◌, ◌<◌, ◌≤◌, ◌⊎◌, inl, inr, sym, ap, ◌∙◌, arith, div-mul-add, mod-mul-add, div-add-mod', div_below, mod_below, mul-le, AreRuns}
+use Rattle.vara_extents.proofs.Words.{◌≡◌, ℕ, zero, suc, ◌+◌, ◌*◌, ◌/◌, ◌%◌, ◌<◌, ◌≤◌, ◌⊎◌, inl, inr, sym, ap, ◌∙◌, arith, div-mul-add, mod-mul-add, div-add-mod', div_below, mod_below, mul-le, AreRuns, nat_tests}
 
 pub same_runs : (f g : ℕ → ℕ) (size run total : ℕ) → ((k : ℕ) → f k ≡ g k) → AreRuns f size run total → AreRuns g size run total
-same_runs f g size run total same h = record {
-  some = h.some;
-  parts = h.parts;
-  follow = λ q i l below. sym (same (q * run + i)) ∙ h.follow q i l below ∙ ap (λ (n : ℕ). n + i * size) (same (q * run));
-}
+same_runs f g size run total same h = grind (arith, nat_tests)
 
 -- elements of more bytes, from a base on
 pub sized : (f : ℕ → ℕ) (base size run total : ℕ) → AreRuns f 1 run total → AreRuns (λ k. base + f k * size) size run total
-sized f base size run total h = record {
-  some = h.some;
-  parts = h.parts;
-  follow = λ q i l below.
-      let one = ap (λ (n : ℕ). base + n * size) (h.follow q i l below) in
-      omega (arith, one);
-}
+sized f base size run total h = grind (arith, nat_tests)
 
 -- the part of a number in a block, and which block it is
 record InBlock (run m q i a b : ℕ) : Type 0 where
@@ -25,11 +15,7 @@ record InBlock (run m q i a b : ℕ) : Type 0 where
   fits : b * run + i < m * run
 
 in_block : (run m q i : ℕ) → i < run → 1 ≤ m → InBlock run m q i (q / m) (q % m)
-in_block run m q i l h =
-    let whole = div-add-mod' q m in
-    let low = mod_below q m h in
-    let rows = mul-le (q % m + 1) run m run (omega arith) (omega arith) in
-    record { is = sym whole; low = low; fits = omega arith }
+in_block run m q i l h = grind (arith, nat_tests, div-add-mod', mod_below, mul-le)
 
 kept_at : (f : ℕ → ℕ) (s t step size run m q i : ℕ) (a b : ℕ) → InBlock run m q i a b → f (b * run + i) ≡ f (b * run) + i * size → (total : ℕ) → total ≡ m * run
     → (s + (q * run + i) / total * t) * step + f ((q * run + i) % total) ≡ (s + (q * run) / total * t) * step + f ((q * run) % total) + i * size

@@ -1,6 +1,6 @@
 -- Whether regions meet is the same in any order and without those that have no element, and the sweep over regions in the order of
 -- their first elements finds it.
-use Rattle.vara_extents.proofs.Words.{◌≡◌, ℕ, zero, suc, ◌+◌, ◌*◌, ◌<◌, ◌≤◌, ◌∙◌, ap, sym, refl, inl, inr, ◌⊎◌, List, [], ◌∷◌, length, drop, get_or, subst, Bool, true, false, cond, ltb, eqb, ◌||◌, ◌&&◌, max, min, arith, filter, slice_cmp, IsStrictWeakOrder, swap, IsPermutation, IsSortedBy, is_lt, nat_cmp, ordering_then, Less, Equal, Greater, both_ways, ltb-true, lt-ltb, le-ltb, eqb-true, eq-eqb, and_from, and_parts, or_cases, or_left, or_right, or_parts, cases_lt, cases_eq, and_right, nat_list_cmp_total, mul-le, get_or-drop, get_or_default, length-drop, length-swap, swapped_from_swap, All-head, All-tail, ranks_by, sorted_far, IsPermutation-keeps, IsPermutation-sym, drop-cons, no_false, Region, product, has_element, boxes_meet, is_past, meets_any, some_meet, AreByStart, BeginsBy, begins_past, led_by, slice_get, unwrap_or}
+use Rattle.vara_extents.proofs.Words.{◌≡◌, ℕ, zero, suc, ◌+◌, ◌*◌, ◌<◌, ◌≤◌, ◌∙◌, ap, sym, refl, inl, inr, ◌⊎◌, List, [], ◌∷◌, length, drop, get_or, subst, Bool, true, false, ltb, ◌||◌, max, min, arith, filter, slice_cmp, IsStrictWeakOrder, swap, IsPermutation, IsSortedBy, is_lt, nat_cmp, both_ways, ltb-true, lt-ltb, and_from, and_parts, or_parts, cases_eq, nat_list_cmp_total, mul-le, get_or-drop, get_or_default, length-drop, length-swap, swapped_from_swap, All-head, All-tail, ranks_by, sorted_far, IsPermutation-keeps, IsPermutation-sym, drop-cons, no_false, Region, product, has_element, boxes_meet, is_past, meets_any, some_meet, AreByStart, BeginsBy, begins_past, led_by, slice_get, unwrap_or, nat_tests}
 use Rattle.std.specs.List.{All}
 
 -- ---- past the last index of a box
@@ -8,50 +8,12 @@ use Rattle.std.specs.List.{All}
 -- an index that is not before one that is past the box is past it too
 past_on : (starts counts xs ys : List ℕ) → is_past starts counts xs ≡ true → is_lt (slice_cmp nat_cmp ys xs) ≡ false → is_past starts counts ys ≡ true
 past_on (s ∷ starts) (n ∷ counts) (x ∷ xs) [] h k = no_false (sym k)
-past_on (s ∷ starts) (n ∷ counts) (x ∷ xs) (y ∷ ys) h k = by_order (past_on starts counts xs ys) (cases_lt y x) (cases_lt x y)
-  where
-    far : (s + n < x + 1) ⊎ ((x + 1 ≡ s + n) × (is_past starts counts xs ≡ true))
-    far = elim (or_cases (ltb (s + n) (x + 1)) (eqb (x + 1) (s + n) && is_past starts counts xs) h) [
-      | inl t ↦ inl (ltb-true (s + n) (x + 1) t)
-      | inr t ↦ (let both = and_parts (eqb (x + 1) (s + n)) (is_past starts counts xs) t in inr (eqb-true (x + 1) (s + n) both.0, both.1))
-    ]
-
-    beyond : s + n < y + 1 → is_past (s ∷ starts) (n ∷ counts) (y ∷ ys) ≡ true
-    beyond l = or_left (ltb (s + n) (y + 1)) (eqb (y + 1) (s + n) && is_past starts counts ys) (lt-ltb (s + n) (y + 1) l)
-
-    by_order : (is_past starts counts xs ≡ true → is_lt (slice_cmp nat_cmp ys xs) ≡ false → is_past starts counts ys ≡ true) → (y < x) ⊎ (x ≤ y) → (x < y) ⊎ (y ≤ x)
-        → is_past (s ∷ starts) (n ∷ counts) (y ∷ ys) ≡ true
-    by_order again (inl l) g =
-        absurd (both_ways (is_lt (slice_cmp nat_cmp (y ∷ ys) (x ∷ xs))) k (λ j. is_lt (ordering_then (cond (lt-ltb y x l j) Less (cond (eqb y x) Equal Greater)) (slice_cmp nat_cmp ys xs))))
-    by_order again (inr l) (inl g) = elim far [ inl t ↦ beyond (omega (arith, t, g)) | inr t ↦ beyond (omega (arith, t.0, g)) ]
-    by_order again (inr l) (inr g) = by_case far
-      where
-        same : y ≡ x
-        same = omega (arith, l, g)
-
-        rest : is_lt (slice_cmp nat_cmp ys xs) ≡ false
-        rest = sym (λ j. is_lt (ordering_then (cond (le-ltb y x l j) Less (cond (eq-eqb y x same j) Equal Greater)) (slice_cmp nat_cmp ys xs))) ∙ k
-
-        by_case : (s + n < x + 1) ⊎ ((x + 1 ≡ s + n) × (is_past starts counts xs ≡ true)) → is_past (s ∷ starts) (n ∷ counts) (y ∷ ys) ≡ true
-        by_case (inl t) = beyond (omega (arith, t, same))
-        by_case (inr t) =
-            or_right (ltb (s + n) (y + 1)) (eqb (y + 1) (s + n) && is_past starts counts ys)
-            (and_from (eqb (y + 1) (s + n)) (is_past starts counts ys) (eq-eqb (y + 1) (s + n) (omega (arith, t.0, same))) (again t.1 rest))
+past_on (s ∷ starts) (n ∷ counts) (x ∷ xs) (y ∷ ys) h k = grind (arith, nat_tests, past_on starts counts xs ys)
 past_on _ _ _ ys h k = no_false h
 
 -- a box that begins past another shares no index with it
 past_apart : (starts counts others lengths : List ℕ) → is_past starts counts others ≡ true → boxes_meet starts counts others lengths ≡ false
-past_apart (s ∷ starts) (n ∷ counts) (t ∷ others) (m ∷ lengths) h =
-    by_case (past_apart starts counts others lengths) (or_cases (ltb (s + n) (t + 1)) (eqb (t + 1) (s + n) && is_past starts counts others) h)
-  where
-    by_case : (is_past starts counts others ≡ true → boxes_meet starts counts others lengths ≡ false) → (ltb (s + n) (t + 1) ≡ true) ⊎ ((eqb (t + 1) (s + n) && is_past starts counts others) ≡ true)
-        → boxes_meet (s ∷ starts) (n ∷ counts) (t ∷ others) (m ∷ lengths) ≡ false
-    by_case again (inl e) =
-        let far = ltb-true (s + n) (t + 1) e in
-        λ j. le-ltb (max s t) (min (s + n) (t + m)) (omega (arith, far)) j && boxes_meet starts counts others lengths
-    by_case again (inr e) =
-        let both = and_parts (eqb (t + 1) (s + n)) (is_past starts counts others) e in
-        and_right (ltb (max s t) (min (s + n) (t + m))) (boxes_meet starts counts others lengths) (again both.1)
+past_apart (s ∷ starts) (n ∷ counts) (t ∷ others) (m ∷ lengths) h = grind (arith, nat_tests, past_apart starts counts others lengths)
 past_apart (s ∷ starts) (n ∷ counts) (t ∷ others) [] h = refl
 past_apart _ _ _ lengths h = no_false h
 
@@ -67,10 +29,7 @@ pub by_start : (axis : ℕ) (regions : List Region) → IsSortedBy (starts_befor
 by_start axis regions up i j d l m = sorted_far (starts_before axis) (start_ranks axis) regions up i j d (omega (arith, l)) m
 
 pub in_order_drop : (axis n : ℕ) (regions : List Region) → AreByStart axis regions → AreByStart axis (drop n regions)
-in_order_drop axis n regions up i j d l m =
-    let long = length-drop n regions in
-    subst (λ (g : Region). BeginsBy axis g (get_or (drop n regions) j d)) (sym (get_or-drop n regions i d))
-    (subst (λ (h : Region). BeginsBy axis (get_or regions (n + i) d) h) (sym (get_or-drop n regions j d)) (up (n + i) (n + j) d (omega (arith, l)) (omega (arith, m, long))))
+in_order_drop axis n regions up i j d l m = grind (arith, nat_tests, length-drop, get_or-drop)
 
 not_then : (b c : Bool) → (b ≡ true → c ≡ true) → c ≡ false → b ≡ false
 not_then false c f e = refl
@@ -128,9 +87,7 @@ Apart g h = boxes_meet g.start g.count h.start h.count ≡ false
 
 turned : (starts counts others lengths : List ℕ) → boxes_meet starts counts others lengths ≡ true → boxes_meet others lengths starts counts ≡ true
 turned (s ∷ starts) (n ∷ counts) (t ∷ others) (m ∷ lengths) h =
-    let both = and_parts (ltb (max s t) (min (s + n) (t + m))) (boxes_meet starts counts others lengths) h in
-    let meet = ltb-true (max s t) (min (s + n) (t + m)) both.0 in
-    and_from (ltb (max t s) (min (t + m) (s + n))) (boxes_meet others lengths starts counts) (lt-ltb (max t s) (min (t + m) (s + n)) (omega (arith, meet))) (turned starts counts others lengths both.1)
+    grind (arith, nat_tests, turned starts counts others lengths (and_parts (ltb (max s t) (min (s + n) (t + m))) (boxes_meet starts counts others lengths) h).1)
 turned [] [] [] [] h = refl
 turned _ _ _ _ h = no_false h
 
@@ -208,9 +165,7 @@ swapped_apart xs a b p q h i j d l m n = by_place (place i) (place j)
     by_place (inr (inr e)) (inr (inr f)) = from i j (moved.2 i e.0 e.1) (moved.2 j f.0 f.1) (low i l) (low j m) n
 
 same_false : (a b : Bool) → (a ≡ false → b ≡ false) → (b ≡ false → a ≡ false) → a ≡ b
-same_false true false f g = g refl
-same_false false true f g = sym (f refl)
-same_false _ _ f g = refl
+same_false a b f g = grind (arith, nat_tests)
 
 any_order : (xs ys : List Region) → IsPermutation xs ys → some_meet xs ≡ some_meet ys
 any_order xs ys p = same_false (some_meet xs) (some_meet ys) (kept xs ys p) (kept ys xs (IsPermutation-sym xs ys p))
@@ -235,21 +190,11 @@ no_element g e h =
 
 meets_with : (g : Region) (xs : List Region) → meets_any g (filter has_element xs) ≡ meets_any g xs
 meets_with g [] = refl
-meets_with g (x ∷ xs) = by_case (meets_with g xs) (has_element x) refl
-  where
-    by_case : meets_any g (filter has_element xs) ≡ meets_any g xs → (b : Bool) → has_element x ≡ b
-        → meets_any g (cond b (x ∷ filter has_element xs) (filter has_element xs)) ≡ meets_any g (x ∷ xs)
-    by_case again true e = ap (λ (r : Bool). boxes_meet g.start g.count x.start x.count || r) again
-    by_case again false e = again ∙ (λ j. sym (apart_sym x g (no_element x e g)) j || meets_any g xs)
+meets_with g (x ∷ xs) = grind (arith, nat_tests, meets_with g xs, apart_sym, no_element)
 
 some_with : (xs : List Region) → some_meet (filter has_element xs) ≡ some_meet xs
 some_with [] = refl
-some_with (x ∷ xs) = by_case (some_with xs) (has_element x) refl
-  where
-    by_case : some_meet (filter has_element xs) ≡ some_meet xs → (b : Bool) → has_element x ≡ b
-        → some_meet (cond b (x ∷ filter has_element xs) (filter has_element xs)) ≡ some_meet (x ∷ xs)
-    by_case again true e = λ j. meets_with x xs j || again j
-    by_case again false e = again ∙ (λ j. sym (none_meets x xs (λ k d l. no_element x e (get_or xs k d))) j || some_meet xs)
+some_with (x ∷ xs) = grind (arith, nat_tests, some_with xs, meets_with, none_meets, no_element)
 
 -- what the sweep goes over meets where all meet
 pub swept : (regions in_order : List Region) → IsPermutation (filter has_element regions) in_order → some_meet in_order ≡ some_meet regions

@@ -1,5 +1,5 @@
 -- The extents that are left, one run after another.
-use Rattle.vara_extents.proofs.Words.{◌≡◌, ℕ, zero, suc, ◌+◌, ◌*◌, ◌/◌, ◌^◌, ◌<◌, ◌≤◌, refl, sym, ap, ◌∙◌, List, [], length, drop, true, ◌-◌, ◌%◌, inl, inr, subst, arith, drop_all, div-add-mod', mod_below, mul-le, mul-div_cancel, Header, Var, Region, size_of, product, recsize, is_record, place, Run, Runs, element_extents, extents_of, joined, joined_to, extents_from, run_place, AreReady, IsRunOf, accepted, coordinates_of, index_of, weighted, AreRuns, HaveRows}
+use Rattle.vara_extents.proofs.Words.{◌≡◌, ℕ, zero, suc, ◌+◌, ◌*◌, ◌/◌, ◌^◌, ◌<◌, ◌≤◌, refl, sym, ap, ◌∙◌, List, [], length, drop, true, ◌-◌, ◌%◌, inl, inr, subst, arith, drop_all, div-add-mod', mod_below, mul-le, mul-div_cancel, Header, Var, Region, size_of, product, recsize, is_record, place, Run, Runs, element_extents, extents_of, joined, joined_to, extents_from, run_place, AreReady, IsRunOf, accepted, coordinates_of, index_of, weighted, AreRuns, HaveRows, nat_tests}
 use Rattle.vara_extents.proofs.RowLaws.{rows_of}
 use Rattle.vara_extents.proofs.AcceptedLaws.{passed}
 use Rattle.vara_extents.proofs.NumberLaws.{length-element_extents, run_is}
@@ -66,11 +66,7 @@ in_row r number at h is i l below =
     omega (arith, one, two, first, last, begin)
 
 pub run_here : (r : Runs) (run : Run) → IsRunOf r run → run.number < r.count → run.at ≡ run_place r run.number
-run_here r run placed l =
-    let own = placed.at 0 (omega arith) (omega arith) in
-    let same : run.number + 0 ≡ run.number = omega arith in
-    let at = ap (λ (k : ℕ). run_place r k) same in
-    omega (arith, own, at)
+run_here r run placed l = grind (arith, nat_tests)
 
 pub next_in_row : (r : Runs) (run : Run) → IsRunOf r run → run.number < r.count → (run.left ≡ 0 → ⊥)
     → IsRunOf r (record { number = run.number + 1; at = run.at + r.row.step; left = run.left - 1 })
@@ -120,30 +116,20 @@ steps_up r row h some long rows =
 pub placed_run : (r : Runs) (run next : Run) (len : ℕ) → AreReady r → IsRunOf r run → run.number < r.count → len ≡ r.elements * size_of r.var.now.kind → next.number ≡ run.number + 1
     → (extents_from r run.number ≡ joined_to (record { at = run.at; len = len }) (extents_from r next.number)) × (run.at + len ≤ 2 ^ 62)
 placed_run r run next len h placed l long after =
-    let at = run_here r run placed l in (
-      first_run r run.number run.at len h l at long ∙ ap (λ (k : ℕ). joined_to (record { at = run.at; len = len }) (extents_from r k)) (sym after),
-      omega (arith, at, long, (inside r run.number h l).low),
-    )
+    grind (arith, nat_tests, run_here r run placed l, first_run r run.number run.at len h l (run_here r run placed l) long, inside r run.number h l)
 
 -- nothing is left after the last run
 pub none_left : (r : Runs) (k : ℕ) → AreReady r → r.count ≤ k → extents_from r k ≡ []
 none_left r k h l =
-    let long = length-element_extents r.header.now r.var.now r.region.now in
-    let rows = mul-le r.count r.elements k r.elements l (omega arith) in
-    ap joined (drop_all (k * r.elements) (element_extents r.header.now r.var.now r.region.now) (omega (arith, long, h.total, rows)))
+    grind (arith, nat_tests, length-element_extents r.header.now r.var.now r.region.now, mul-le r.count r.elements k r.elements l (omega arith), drop_all)
 
 -- ---- a walk that begins
 
 pub all_left : (r : Runs) (k : ℕ) → k ≡ 0 → extents_from r k ≡ extents_of r.header.now r.var.now r.region.now
-all_left r k h =
-    let same = ap (λ (n : ℕ). n * r.elements) h in
-    let none : k * r.elements ≡ 0 = omega arith in
-    ap (λ (k : ℕ). joined (drop k (element_extents r.header.now r.var.now r.region.now))) none
+all_left r k h = grind (arith, nat_tests)
 
 pub whole_runs : (f : ℕ → ℕ) (size run total : ℕ) → AreRuns f size run total → total ≡ total / run * run
-whole_runs f size run total h =
-    let m = h.parts.0 in
-    h.parts.1 ∙ ap (λ (n : ℕ). n * run) (sym (ap (λ (n : ℕ). n / run) h.parts.1 ∙ mul-div_cancel m h.some))
+whole_runs f size run total h = grind (arith, nat_tests, mul-div_cancel)
 
 -- no element is in runs of one
 pub no_runs : (f : ℕ → ℕ) (size : ℕ) → AreRuns f size 1 0
