@@ -109,7 +109,9 @@ first_clearable long z room at s others ss e h = grind (arith, nat_tests, spaced
 -- the first of the slabs that are left
 pub first_left : (long z room at a b : ℕ) (ss : List Shift) (k : ℕ) (d : Shift) → k < length ss → AreClearable long z room at (map (further a b) (map slab_of (drop k ss)))
     → IsFirst long z room at (further a b (slab_of (get_or ss k d))) (map (further a b) (map slab_of (drop (k + 1) ss)))
-first_left long z room at a b ss k d h c = first_clearable long z room at _ _ _ (slabs_left a b ss k d h) c
+first_left long z room at a b ss k d h c =
+    first_clearable long z room at (further a b (slab_of (get_or ss k d))) (map (further a b) (map slab_of (drop (k + 1) ss))) (map (further a b) (map slab_of (drop k ss)))
+    (slabs_left a b ss k d h) c
 
 -- ---- the slabs of records that are left
 
