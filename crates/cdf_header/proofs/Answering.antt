@@ -1,5 +1,5 @@
 -- Bytes have one answer.
-use Rattle.cdf_header.proofs.Words.{◌≡◌, ℕ, ◌+◌, ◌-◌, ◌≤◌, ◌^◌, List, [], ◌∷◌, ◌++◌, take, drop, length, true, Option, Some, None, refl, sym, ap, subst, ◌∙◌, length-append, arith, inl, inr, take-append-drop, length-take-le, append-nil, take-append_seam, take-append-add, leb-true, and_first, and_second, Header, HeaderErr, canon, header_len, Spells, HasFault, field_fault, first_check, is_writable, is_sound, canon_spelled, fault_only, spells_once, BeginsWith, none_of_test}
+use Rattle.cdf_header.proofs.Words.{◌≡◌, ℕ, ◌+◌, ◌-◌, ◌≤◌, ◌^◌, List, [], ◌∷◌, ◌++◌, take, drop, length, true, Option, Some, None, refl, sym, ap, subst, ◌∙◌, length-append, arith, inl, inr, take-append-drop, length-take-le, append-nil, take-append_seam, take-append-add, leb-true, and_first, and_second, Header, HeaderErr, canon, header_len, Spells, HasFault, field_fault, is_writable, is_sound, canon_spelled, fault_only, spells_once, BeginsWith, none_of_test, nat_tests}
 use Rattle.cdf_header.proofs.Walks.{no_fault}
 
 no_some : {A : Type 0} (o : Option A) (x : A) → o ≡ None → o ≡ Some x → ⊥
@@ -17,28 +17,19 @@ pub one_fault : (bytes : List ℕ) (e f : HeaderErr) → HasFault bytes e → Ha
 one_fault bytes e f (inl p) (inl q) = same_some (field_fault bytes) e f (fault_only bytes e p) (fault_only bytes f q)
 one_fault bytes e f (inl p) (inr q) = absurd (no_some (field_fault bytes) e q.5 (fault_only bytes e p))
 one_fault bytes e f (inr p) (inl q) = absurd (no_some (field_fault bytes) f p.5 (fault_only bytes f q))
-one_fault bytes e f (inr p) (inr q) =
-    let once = spells_once p.0 q.0 p.1 q.1 p.2 q.2 p.4 q.4 (sym p.3 ∙ q.3) in
-    same_some (first_check q.0) e f (ap first_check (sym once.0) ∙ p.6) q.6
+one_fault bytes e f (inr p) (inr q) = grind (arith, nat_tests, spells_once p.0 q.0 p.1 q.1 p.2 q.2 p.4 q.4 (sym p.3 ∙ q.3), same_some)
 
 pub never_both : (bytes : List ℕ) (h : Header) (n : ℕ) (e : HeaderErr) → BeginsWith bytes h n → HasFault bytes e → ⊥
 never_both bytes h n e p (inl q) = no_some (field_fault bytes) e p.1 (fault_only bytes e q)
 never_both bytes h n e p (inr q) =
-    let once = spells_once h q.0 (take n bytes) q.1 (drop n bytes) q.2 p.0 q.4 (take-append-drop n bytes ∙ q.3) in
-    no_some (first_check h) e p.2 (ap first_check once.0 ∙ q.6)
+    grind (arith, nat_tests, spells_once h q.0 (take n bytes) q.1 (drop n bytes) q.2 p.0 q.4 (take-append-drop n bytes ∙ q.3), take-append-drop n bytes, no_some)
 
 pub begins_whole : (header : Header) (more : List ℕ) → is_writable header ≡ true → BeginsWith (canon header ++ more) header (header_len header)
-begins_whole header more is =
-    let sound : is_sound header ≡ true = and_first _ _ (and_first _ _ (and_first _ _ (and_first _ _ is))) in
-    let whole : take (header_len header) (canon header ++ more) ≡ canon header = take-append_seam (canon header) more in
-    let long = length-append (canon header) more in
-    (subst (λ (t : List ℕ). Spells header t) (sym whole) (canon_spelled header is), no_fault header more is, none_of_test (first_check header) (and_second _ _ sound), omega (arith, long))
+begins_whole header more is = grind (arith, nat_tests, and_first, take-append_seam, length-append, canon_spelled, no_fault, none_of_test, and_second)
 
 -- the first 2^20 bytes
 cut_after : (t more : List ℕ) (n : ℕ) → length t ≤ n → (rest : List ℕ) × (take n (t ++ more) ≡ t ++ rest)
-cut_after t more n h =
-    let far : n ≡ length t + (n - length t) = omega arith in
-    (take (n - length t) more, ap (λ (k : ℕ). take k (t ++ more)) far ∙ take-append-add t more (n - length t))
+cut_after t more n h = grind (arith, nat_tests, take-append-add t more (n - length t))
 
 pub begins_cut : (header : Header) (more : List ℕ) → is_writable header ≡ true → BeginsWith (take (2 ^ 20) (canon header ++ more)) header (header_len header)
 begins_cut header more is =

@@ -1,18 +1,10 @@
 -- Spans that are seen to share no byte share none.
-use Rattle.cdf_header.proofs.Words.{◌≡◌, ℕ, ◌+◌, ◌<◌, ◌≤◌, min, List, [], ◌∷◌, Bool, true, false, None, length, get_or, drop, refl, sym, ap, subst, ◌∙◌, inl, inr, ◌⊎◌, arith, nat_lt, nat_le, All, AllPairs, Contains, cases_lt, le-ltb, le-leb, lt-leb, get_or_default, get_or-drop, length-drop, All-contains, All-head, All-tail, All-get_or, Contains-get_or, Span, fixed_meet, records_meet, share, partner, NoneShares, EndsBefore, EndsBeforeNext, AreApart, HasAll, AreSpans}
+use Rattle.cdf_header.proofs.Words.{◌≡◌, ℕ, ◌+◌, ◌<◌, ◌≤◌, min, List, [], ◌∷◌, Bool, true, false, None, length, get_or, drop, refl, sym, ap, subst, inl, inr, ◌⊎◌, arith, nat_lt, nat_le, All, AllPairs, Contains, cases_lt, le-ltb, le-leb, lt-leb, get_or_default, get_or-drop, length-drop, All-contains, All-head, All-tail, All-get_or, Contains-get_or, Span, fixed_meet, records_meet, share, partner, NoneShares, EndsBefore, EndsBeforeNext, AreApart, HasAll, AreSpans, nat_tests}
 use Rattle.std.specs.Prelude.{cond}
 
 -- two different elements of a list stand one after the other
 pair_of : {X : Type 0} (R : X → X → Type 0) (xs : List X) (x y : X) → AllPairs R xs → Contains xs x → Contains xs y → (x ≡ y → ⊥) → R x y ⊎ R y x
-pair_of {X = X} R xs x y all p q differ =
-    elim (cases_lt p.0 q.0) [
-      | inl lt ↦ inl (subst (λ (u : X). R u y) p.2 (subst (λ (w : X). R (get_or xs p.0 x) w) (get_or_default xs q.0 x y q.1 ∙ q.2) (all p.0 q.0 x lt q.1)))
-      | inr le ↦
-          elim (cases_lt q.0 p.0) [
-            | inl lt ↦ inr (subst (λ (w : X). R y w) p.2 (subst (λ (u : X). R u (get_or xs p.0 x)) (get_or_default xs q.0 x y q.1 ∙ q.2) (all q.0 p.0 x lt p.1)))
-            | inr ge ↦ absurd (differ (let same : p.0 ≡ q.0 = omega arith in sym p.2 ∙ ap (λ (n : ℕ). get_or xs n x) same ∙ get_or_default xs q.0 x y q.1 ∙ q.2))
-          ]
-    ]
+pair_of {X = X} R xs x y all p q differ = grind (arith, nat_tests, cases_lt p.0 q.0, get_or_default xs q.0 x y q.1, cases_lt q.0 p.0)
 
 apart_fixed : (p q : Span) → (p.end ≤ q.begin) ⊎ (q.end ≤ p.begin) → fixed_meet p q ≡ false
 apart_fixed p q (inl h) = grind arith
@@ -23,10 +15,7 @@ apart_records size p q h k = grind arith
 
 record_pair : (size : ℕ) (p q : Span) → p.begin < p.end → q.begin < q.end → (p.end ≤ q.begin) ⊎ (q.end ≤ p.begin) → q.end ≤ p.begin + size → p.end ≤ q.begin + size
     → cond (nat_le p.begin q.begin) (records_meet size p q) (records_meet size q p) ≡ false
-record_pair size p q some more (inl h) k m =
-    let b : nat_le p.begin q.begin ≡ true = le-leb p.begin q.begin (omega arith) in rw b (apart_records size p q h k)
-record_pair size p q some more (inr h) k m =
-    let b : nat_le p.begin q.begin ≡ false = lt-leb p.begin q.begin (omega arith) in rw b (apart_records size q p h m)
+record_pair size p q some more xs k m = grind (arith, nat_tests, le-leb, apart_records, lt-leb)
 
 by_kind : (size : ℕ) (p q : Span) (s t : Bool) → p.is_record ≡ s → q.is_record ≡ t
     → cond s (cond t (cond (nat_le p.begin q.begin) (records_meet size p q) (records_meet size q p)) (nat_lt p.begin q.end)) (cond t (nat_lt q.begin p.end) (fixed_meet p q)) ≡ false
@@ -59,16 +48,8 @@ by_kinds n size spans fixed records p q clear has_fixed has_records two false fa
     let here = All-contains (λ s. s.is_record ≡ false → Contains fixed s) spans p has_fixed two.in_p e in
     let there = All-contains (λ s. s.is_record ≡ false → Contains fixed s) spans q has_fixed two.in_q f in
     apart_fixed p q (ends_before n p q two.low (pair_of (EndsBefore n) fixed p q clear.fixed_apart here there two.differ))
-by_kinds n size spans fixed records p q clear has_fixed has_records two false true e f =
-    let here = All-contains (λ s. s.is_record ≡ false → Contains fixed s) spans p has_fixed two.in_p e in
-    let there = All-contains (λ s. s.is_record ≡ true → Contains records s) spans q has_records two.in_q f in
-    let first = All-contains (λ s. EndsBefore n p s) records q (All-contains (λ r. All (λ s. EndsBefore n r s) records) fixed p clear.fixed_first here) there in
-    le-ltb q.begin p.end (first (low_left n p.number q.number two.low))
-by_kinds n size spans fixed records p q clear has_fixed has_records two true false e f =
-    let here = All-contains (λ s. s.is_record ≡ true → Contains records s) spans p has_records two.in_p e in
-    let there = All-contains (λ s. s.is_record ≡ false → Contains fixed s) spans q has_fixed two.in_q f in
-    let first = All-contains (λ s. EndsBefore n q s) records p (All-contains (λ r. All (λ s. EndsBefore n r s) records) fixed q clear.fixed_first there) here in
-    le-ltb p.begin q.end (first (low_right n p.number q.number two.low))
+by_kinds n size spans fixed records p q clear has_fixed has_records two false true e f = grind (arith, nat_tests, low_left n p.number q.number two.low, le-ltb)
+by_kinds n size spans fixed records p q clear has_fixed has_records two true false e f = grind (arith, nat_tests, low_right n p.number q.number two.low, le-ltb)
 by_kinds n size spans fixed records p q clear has_fixed has_records two true true e f =
     let here = All-contains (λ s. s.is_record ≡ true → Contains records s) spans p has_records two.in_p e in
     let there = All-contains (λ s. s.is_record ≡ true → Contains records s) spans q has_records two.in_q f in

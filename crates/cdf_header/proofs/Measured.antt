@@ -1,5 +1,5 @@
 -- What a header has whose variables keep their bounds.
-use Rattle.cdf_header.proofs.Words.{◌≡◌, ℕ, suc, ◌+◌, ◌^◌, ◌<◌, ◌≤◌, List, [], ◌∷◌, Bool, true, false, cond, Option, Some, None, refl, ap, arith, nat_le, ◌||◌, sum_by, is_none, All, AllByRecursion, ltb-true, All-from_recursion, sum_by-cons, and_first, and_second, recsize_below, Header, Var, record_limit, round_up, slab, vsize, is_record, record_share, recsize, keeps_bound, past_bound, measure, is_too_large}
+use Rattle.cdf_header.proofs.Words.{◌≡◌, ℕ, suc, ◌+◌, ◌^◌, ◌<◌, ◌≤◌, List, [], ◌∷◌, Bool, true, false, cond, Option, Some, None, refl, ap, arith, nat_le, ◌||◌, sum_by, is_none, All, AllByRecursion, ltb-true, All-from_recursion, sum_by-cons, and_first, and_second, recsize_below, Header, Var, record_limit, round_up, slab, vsize, is_record, record_share, recsize, keeps_bound, past_bound, measure, is_too_large, nat_tests}
 use Rattle.std.proofs.Common.{not, ◌&&◌}
 
 kept : (t : Bool) (k : ℕ) (o : Option ℕ) → cond t o (Some k) ≡ None → (t ≡ true) × (o ≡ None)
@@ -10,10 +10,7 @@ rounded : (n : ℕ) → n ≤ round_up 4 n
 rounded n = omega arith
 
 begin_kept : (header : Header) (before : ℕ) (v : Var) → keeps_bound header before v ≡ true → v.begin + slab header v < 2 ^ 62
-begin_kept header before v h =
-    let placed : v.begin + vsize header v < 2 ^ 62 = ltb-true _ _ (and_second _ _ (and_first _ _ h)) in
-    let more = rounded (slab header v) in
-    omega (arith, placed, more)
+begin_kept header before v h = grind (arith, nat_tests, rounded (slab header v), ltb-true, and_second, and_first)
 
 -- each vsize is below 2^62
 pub sizes_kept : (header : Header) → measure header ≡ None → AllByRecursion (λ v. vsize header v < 2 ^ 62) header.vars
@@ -45,9 +42,7 @@ is_measured header h = no_limit (measure header) (nat_le (record_limit header.ve
 -- ---- the record size
 
 or_true : (s t u : Bool) → s ≡ true → (not s || (t && u)) ≡ true → t ≡ true
-or_true true true u e h = refl
-or_true true false u e h = absurd cc
-or_true false t u e h = absurd cc
+or_true s t u e h = grind (arith, nat_tests)
 
 share_kept : (header : Header) (before : ℕ) (v : Var) → before < 2 ^ 62 → keeps_bound header before v ≡ true → before + record_share header v < 2 ^ 62
 share_kept header before v low h = by (is_record header v) refl
@@ -70,7 +65,4 @@ shares_kept header before k (v ∷ vs) low h =
     omega (arith, more, e)
 
 pub record_size_kept : (header : Header) → measure header ≡ None → recsize header < 2 ^ 62
-record_size_kept header h =
-    let shares = shares_kept header 0 0 header.vars (omega arith) h in
-    let below = recsize_below header in
-    omega (arith, shares, below)
+record_size_kept header h = grind (arith, nat_tests, shares_kept header 0 0 header.vars (omega arith) h, recsize_below header)

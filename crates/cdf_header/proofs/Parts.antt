@@ -1,26 +1,12 @@
 -- What `is_writable` says, part by part.
-use Rattle.cdf_header.proofs.Words.{◌≡◌, ℕ, ◌^◌, ◌<◌, List, [], ◌∷◌, Bool, true, AllByRecursion, list_all, passes_each, and_first, and_second, Header, Var, vsize, fits_count, is_writable, is_writable_attr, is_writable_dim, is_writable_list, is_writable_var, measured, IsWritableList, IsWritableVar}
+use Rattle.cdf_header.proofs.Words.{◌≡◌, ℕ, ◌^◌, ◌<◌, List, [], ◌∷◌, Bool, true, AllByRecursion, list_all, passes_each, and_first, and_second, Header, Var, vsize, fits_count, is_writable, is_writable_attr, is_writable_dim, is_writable_list, is_writable_var, measured, IsWritableList, IsWritableVar, arith, nat_tests}
 use Rattle.cdf_header.proofs.Measured.{sizes_kept}
 
 list_parts : {A : Type 0} (version : ℕ) (test : A → Bool) (xs : List A) → is_writable_list version test xs ≡ true → IsWritableList version test xs
 list_parts version test xs h = record { count = and_first _ _ h; each = passes_each test xs (and_second _ _ h) }
 
 var_parts : (h : Header) (v : Var) → is_writable_var h v ≡ true → vsize h v < 2 ^ 62 → IsWritableVar h v
-var_parts h v t small =
-    let t5 = and_first _ _ t in
-    let t4 = and_first _ _ t5 in
-    let t3 = and_first _ _ t4 in
-    let t2 = and_first _ _ t3 in
-    let ids = list_parts h.version (λ id. fits_count h.version id) v.dims (and_second _ _ t2) in
-    record {
-      name = and_first _ _ t2;
-      dim_count = ids.count;
-      ids = ids.each;
-      attrs = list_parts h.version (is_writable_attr h.version) v.attrs (and_second _ _ t3);
-      size = and_second _ _ t;
-      small = small;
-      begin = and_second _ _ t5;
-    }
+var_parts h v t small = grind (arith, nat_tests, and_first, list_parts, and_second)
 
 each_var : (h : Header) (vs : List Var) → list_all (is_writable_var h) vs ≡ true → AllByRecursion (λ v. vsize h v < 2 ^ 62) vs → AllByRecursion (IsWritableVar h) vs
 each_var h [] t l = tt

@@ -1,5 +1,5 @@
 -- The pair that the spans of a header's variables give is that of the header.
-use Rattle.cdf_header.proofs.Words.{◌≡◌, ℕ, zero, suc, ◌+◌, ◌<◌, ◌≤◌, List, [], ◌∷◌, length, get_or, Bool, true, false, cond, Option, Some, None, refl, sym, ◌∙◌, arith, nat_lt, option_map, position, AllPairs, AllByRecursion, position_from, option_or, position_from-zero, All-from_recursion, mul-le-mul_left, size_pos, Header, Var, size_of, product, inner_lengths, slab, recsize, sharing_with, sharing_from, sharing, record_later, Span, span_of, spans_of, partner, shared_pair, AreSpans, told_else}
+use Rattle.cdf_header.proofs.Words.{◌≡◌, ℕ, zero, suc, ◌+◌, ◌<◌, List, [], ◌∷◌, length, get_or, Bool, true, false, cond, Option, Some, None, refl, sym, ◌∙◌, arith, option_map, position, AllPairs, AllByRecursion, position_from, option_or, position_from-zero, All-from_recursion, mul-le-mul_left, size_pos, Header, Var, slab, recsize, sharing_with, sharing_from, sharing, record_later, Span, span_of, spans_of, partner, shared_pair, AreSpans, told_else, nat_tests}
 use Rattle.serial_spec.specs.Layout as layout
 use Rattle.cdf_header.proofs.Products.{inner-pos, product-pos}
 
@@ -11,8 +11,7 @@ one_partner false k m o p h = h
 by_partner : (header : Header) (v : Var) (k m : ℕ) (ws : List Var)
     → sharing_with header v k m ws ≡ option_map (λ n. (k, n)) (partner (recsize header) (span_of header k v) (spans_of header m ws))
 by_partner header v k m [] = refl
-by_partner header v k m (w ∷ ws) =
-    one_partner (layout.share header v w) k m (sharing_with header v k (suc m) ws) (partner (recsize header) (span_of header k v) (spans_of header (suc m) ws)) (by_partner header v k (suc m) ws)
+by_partner header v k m (w ∷ ws) = grind (arith, nat_tests, by_partner header v k (suc m) ws, one_partner)
 
 one_pair : (t : Bool) (s : ℕ × ℕ) (w p rest more : Option (ℕ × ℕ)) → w ≡ p → rest ≡ more → cond t (Some s) (option_or w rest) ≡ option_or (cond t (Some s) p) more
 one_pair true s w p rest more h k = refl
@@ -20,10 +19,7 @@ one_pair false s w p rest more h k = rw (h, k) refl
 
 by_pair : (header : Header) (first k : ℕ) (vs : List Var) → sharing_from header first k vs ≡ shared_pair (recsize header) first (spans_of header k vs)
 by_pair header first k [] = refl
-by_pair header first k (v ∷ vs) =
-    one_pair (nat_lt v.begin first) (k, k) (sharing_with header v k (suc k) vs) (option_map (λ n. (k, n)) (partner (recsize header) (span_of header k v) (spans_of header (suc k) vs)))
-    (sharing_from header first (suc k) vs) (shared_pair (recsize header) first (spans_of header (suc k) vs))
-    (by_partner header v k (suc k) vs) (by_pair header first (suc k) vs)
+by_pair header first k (v ∷ vs) = grind (arith, nat_tests, by_pair header first (suc k) vs, by_partner header v k (suc k) vs, one_pair)
 
 pub sharing_by_spans : (header : Header) (first : ℕ) → sharing header first ≡ shared_pair (recsize header) first (spans_of header 0 header.vars)
 sharing_by_spans header first = by_pair header first 0 header.vars
@@ -36,17 +32,10 @@ number_of header k (v ∷ vs) zero d h = omega arith
 number_of header k (v ∷ vs) (suc i) d h = let e = number_of header (suc k) vs i d (omega arith) in omega (arith, e)
 
 rising : (header : Header) (vs : List Var) → AllPairs (λ p q. p.number < q.number) (spans_of header 0 vs)
-rising header vs i j d lt within =
-    let a = number_of header 0 vs i d (omega arith) in
-    let b = number_of header 0 vs j d within in
-    omega (arith, a, b)
+rising header vs i j d lt within = grind (arith, nat_tests, number_of header 0 vs i d (omega arith), number_of header 0 vs j d within)
 
 some_bytes : (header : Header) (v : Var) → record_later header v ≡ false → v.begin < v.begin + slab header v
-some_bytes header v h =
-    let elements : 1 ≤ product (inner_lengths header v) = product-pos (inner_lengths header v) (inner-pos header v h) in
-    let size : 1 ≤ size_of v.kind = size_pos v.kind in
-    let more = mul-le-mul_left (product (inner_lengths header v)) size in
-    omega (arith, elements, more)
+some_bytes header v h = grind (arith, nat_tests, product-pos, inner-pos, size_pos, mul-le-mul_left)
 
 filled : (header : Header) (k n : ℕ) (vs : List Var) → position_from (record_later header) n vs ≡ None → AllByRecursion (λ s. s.begin < s.end) (spans_of header k vs)
 filled header k n [] h = tt

@@ -1,5 +1,5 @@
 -- Over what is written of a header the grammar asks for right fields only.
-use Rattle.cdf_header.proofs.Words.{◌≡◌, ℕ, ◌+◌, ◌-◌, ◌*◌, ◌^◌, ◌≤◌, ◌<◌, List, [], ◌∷◌, ◌++◌, take, drop, length, Bool, true, false, cond, Some, None, refl, sym, ap, subst, ◌∙◌, append_assoc, length-append, arith, ◌==◌, ◌||◌, ◌&&◌, not, nat_lt, nat_le, replicate, list_all, w32, w64, byte_len, to_be_bytes, from_be_bytes, drop-append_seam, take-append_seam, length-drop, length-replicate, drop-drop, from_be_bytes-to_be_bytes_4, from_be_bytes-to_be_bytes_8, ltb-true, eqb-true, le-ltb, leb-true, width_long, and_first, and_second, all_three, equal_itself, Header, Dim, Attr, Var, NcType, Byte, Char, Short, Int, Float, Double, UByte, UShort, UInt, Int64, UInt64, HeaderErr, most_dims, most_vars, most_dims_of_var, file_limit, size_of, round_up, vsize, number_of, last_type, is_version, count, tag, name, padded, list_of, dimension, attribute, variable, magic, canon, count_width, begin_width, Field, Magic, Records, Tag, Count, NameLength, Block, DimLength, AttrType, AttrCount, DimCount, DimId, VarType, Vsize, Begin, Entries, Dimensions, Attributes, Variables, Ids, Ask, One, Many, Run, stands, takes, asked, the_header, first_field, other_fields, many, block, most_of, tag_of, type_size, bad_type, version_of, fault_if, wrong, wrong_at, after_field, field_number, field_len, big_endian, field_fault, is_type, fits_field, fits_count, is_writable, is_writable_dim, is_writable_attr, is_writable_list, is_writable_var, run_on, run_whole, len_pos, known_version}
+use Rattle.cdf_header.proofs.Words.{◌≡◌, ℕ, ◌+◌, ◌-◌, ◌*◌, ◌^◌, ◌≤◌, ◌<◌, List, [], ◌∷◌, ◌++◌, take, drop, length, Bool, true, false, cond, Some, None, refl, sym, ap, subst, ◌∙◌, append_assoc, length-append, arith, ◌==◌, ◌||◌, ◌&&◌, not, nat_lt, nat_le, replicate, list_all, w32, w64, byte_len, to_be_bytes, from_be_bytes, drop-append_seam, take-append_seam, length-drop, length-replicate, drop-drop, from_be_bytes-to_be_bytes_4, from_be_bytes-to_be_bytes_8, ltb-true, eqb-true, le-ltb, leb-true, width_long, and_first, and_second, all_three, equal_itself, Header, Dim, Attr, Var, NcType, Byte, Char, Short, Int, Float, Double, UByte, UShort, UInt, Int64, UInt64, HeaderErr, most_dims, most_vars, most_dims_of_var, file_limit, size_of, round_up, vsize, number_of, is_version, count, tag, name, padded, list_of, dimension, attribute, variable, magic, canon, count_width, begin_width, Field, Magic, Records, Tag, Count, NameLength, Block, DimLength, AttrType, AttrCount, DimCount, DimId, VarType, Vsize, Begin, Entries, Dimensions, Attributes, Variables, Ids, Ask, One, Many, Run, stands, takes, asked, the_header, first_field, other_fields, many, block, most_of, tag_of, type_size, bad_type, version_of, fault_if, wrong, wrong_at, after_field, field_number, field_len, big_endian, field_fault, is_type, fits_field, fits_count, is_writable, is_writable_dim, is_writable_attr, is_writable_list, is_writable_var, run_on, run_whole, len_pos, known_version, nat_tests}
 use Rattle.std.specs.Prelude.{flat_map}
 use Rattle.nc_base.specs.declared.errors.HeaderErr.TheVariants as fault
 use Rattle.cdf_header.proofs.Pieces.{AtMost, above_none}
@@ -26,10 +26,7 @@ take_here : (b text more : List ℕ) (x n : ℕ) → drop x b ≡ text ++ more �
 take_here b text more x n e len = ap (λ (c : List ℕ). take n c) e ∙ ap (λ (k : ℕ). take k (text ++ more)) (sym len) ∙ take-append_seam text more
 
 inside : (b text more : List ℕ) (x n : ℕ) → drop x b ≡ text ++ more → length text ≡ n → 1 ≤ n → x + n ≤ length b
-inside b text more x n e len some =
-    let whole : length (drop x b) ≡ length text + length more = ap (λ (c : List ℕ). length c) e ∙ length-append text more in
-    let left_over = length-drop x b in
-    omega (arith, whole, left_over, len, some)
+inside b text more x n e len some = grind (arith, nat_tests, length-append text more, length-drop x b)
 
 -- the field is right, and what is asked after it is what is asked later
 abbrev RightAt : ℕ → List Ask → List Ask → Field → List ℕ → Type 0
@@ -136,10 +133,7 @@ number_known Int64 = (refl, omega arith, refl)
 number_known UInt64 = (refl, omega arith, refl)
 
 type_fine : (v : ℕ) (kind : NcType) (x : ℕ) → is_type v kind ≡ true → bad_type v x (number_of kind) ≡ None
-type_fine v kind x h = rw ((number_known kind).0, leb-true (number_of kind) (last_type v) h) refl
-  where
-    leb-true : (n m : ℕ) → nat_le n m ≡ true → nat_lt m n ≡ false
-    leb-true n m k = grind arith
+type_fine v kind x h = grind (arith, nat_tests, number_known kind)
 
 attr_walk : (v : ℕ) (a : Attr) (asks rest : List Ask) → asked asks ≡ Some (NameLength, One AttrType ∷ rest) → is_writable_attr v a ≡ true → Walk v asks rest (attribute v a)
 attr_walk v a asks rest e h =
@@ -172,11 +166,7 @@ each_walk v e f test one (x ∷ xs) h rest =
     (each_walk v e f test one xs (and_second _ _ h) rest)
 
 tag_fine : (n x : ℕ) → fault_if (not (n == 0 || n == n)) (fault.BadTag x) ≡ None
-tag_fine n x = rw (equal_itself n) (either_way (n == 0))
-  where
-    either_way : (t : Bool) → fault_if (not (t || true)) (fault.BadTag x) ≡ None
-    either_way true = refl
-    either_way false = refl
+tag_fine n x = grind (arith, nat_tests, equal_itself n)
 
 few_fine : (s t : Bool) (d e : HeaderErr) → s ≡ false → t ≡ false → cond s (Some d) (fault_if t e) ≡ None
 few_fine s t d e h k = rw (h, k) refl
@@ -215,9 +205,7 @@ list_walk v e f test tagged one (y ∷ ys) few fits all rest =
     (each_walk v e f test one (y ∷ ys) all rest)
 
 attrs_walk : (v : ℕ) (xs : List Attr) → is_writable_list v (is_writable_attr v) xs ≡ true → (rest : List Ask) → Walk v (One (Tag Attributes) ∷ rest) rest (list_of v 12 (λ a. attribute v a) xs)
-attrs_walk v xs h rest =
-    list_walk v Attributes (λ a. attribute v a) (is_writable_attr v) attributes_tagged
-    (λ a k asks more e. attr_walk v a asks more e k) xs tt (and_first _ _ h) (and_second _ _ h) rest
+attrs_walk v xs h rest = grind (arith, nat_tests, list_walk, attributes_tagged, attr_walk, and_first, and_second)
 
 -- ---- variables
 
@@ -273,13 +261,7 @@ both_tests p q [] h k = refl
 both_tests p q (x ∷ xs) h k = all_three (p x) (q x) _ (and_first _ _ h) (and_first _ _ k) (both_tests p q xs (and_second _ _ h) (and_second _ _ k))
 
 version_cases : (v : ℕ) (P : ℕ → Type 0) → P 1 → P 2 → P 5 → is_version v ≡ true → P v
-version_cases v P a b c h = by (v == 1) (v == 2) (v == 5) refl refl refl h
-  where
-    by : (s t u : Bool) → (v == 1) ≡ s → (v == 2) ≡ t → (v == 5) ≡ u → (s || t || u) ≡ true → P v
-    by true t u e f g h = subst P (sym (eqb-true _ _ e)) a
-    by false true u e f g h = subst P (sym (eqb-true _ _ f)) b
-    by false false true e f g h = subst P (sym (eqb-true _ _ g)) c
-    by false false false e f g h = absurd cc
+version_cases v P a b c h = grind (arith, nat_tests, eqb-true)
 
 magic_walk : (v : ℕ) (rest : List Ask) → is_version v ≡ true → Walk v (One Magic ∷ rest) rest (magic v)
 magic_walk v rest known =
@@ -327,7 +309,4 @@ unfolding canon
 version_there h more = let same : 0 + h.version ≡ h.version = omega arith in same
 
 pub no_fault : (h : Header) (more : List ℕ) → is_writable h ≡ true → field_fault (canon h ++ more) ≡ None
-no_fault h more is =
-    let b = canon h ++ more in
-    let run : Run h.version b the_header 0 [] (0 + length (canon h)) = header_walk h is b 0 more refl in
-    run_whole (length b + 1) (version_of b) b the_header 0 (0 + length (canon h)) (subst (λ (v : ℕ). Run v b the_header 0 [] (0 + length (canon h))) (sym (version_there h more)) run)
+no_fault h more is = grind (arith, nat_tests, header_walk h is (canon h ++ more) 0 more refl, version_there h more, run_whole)

@@ -1,5 +1,5 @@
 -- The boxes of a range, as they are found row by row.
-use Rattle.fill_records.proofs.Words.{◌≡◌, ℕ, zero, suc, ◌+◌, ◌-◌, ◌*◌, ◌/◌, ◌%◌, ◌<◌, ◌≤◌, refl, sym, ◌∙◌, ap, inl, inr, ◌⊎◌, List, [], ◌∷◌, ◌++◌, length, map, replicate, take, drop, Bool, true, false, append_assoc, length-append, arith, nat_lt, ◌==◌, mul-div_cancel, mul-mod_left, zero-mod, eqb-false, map-append, append-nil, length-map, take_all, div-add-mod', mod_below, div_below, some_factor, Part, product, boxes, in_row, whole_rows, at_row, boxes_before}
+use Rattle.fill_records.proofs.Words.{◌≡◌, ℕ, zero, suc, ◌+◌, ◌-◌, ◌*◌, ◌/◌, ◌%◌, ◌<◌, ◌≤◌, refl, sym, ◌∙◌, ap, inl, inr, ◌⊎◌, List, [], ◌∷◌, ◌++◌, length, map, replicate, take, drop, Bool, true, false, append_assoc, length-append, arith, nat_lt, ◌==◌, mul-div_cancel, mul-mod_left, zero-mod, eqb-false, map-append, append-nil, length-map, take_all, div-add-mod', mod_below, div_below, some_factor, Part, product, boxes, in_row, whole_rows, at_row, boxes_before, nat_tests}
 use borrow.Author.Tests.{eqb-true, ltb-true, ltb-false}
 
 -- ---- boxes in a row
@@ -9,15 +9,7 @@ one_more zero xs = refl
 one_more (suc n) xs = ap (λ ys. 1 ∷ ys) (one_more n xs)
 
 at_row_more : (row : List ℕ) (i : ℕ) (p : Part) → at_row (row ++ i ∷ []) p ≡ at_row row (record { start = i ∷ p.start; count = 1 ∷ p.count })
-at_row_more row i p = λ t. record { start = starts t; count = counts t }
-  where
-    starts : (row ++ i ∷ []) ++ p.start ≡ row ++ i ∷ p.start
-    starts = append_assoc row (i ∷ []) p.start
-
-    counts : replicate (length (row ++ i ∷ [])) 1 ++ p.count ≡ replicate (length row) 1 ++ 1 ∷ p.count
-    counts =
-        let long : length (row ++ i ∷ []) ≡ suc (length row) = length-append row (i ∷ []) ∙ omega arith in
-        ap (λ (n : ℕ). replicate n 1 ++ p.count) long ∙ one_more (length row) p.count
+at_row_more row i p = grind (arith, nat_tests, length-append row (i ∷ []), one_more (length row) p.count, append_assoc)
 
 pub in_row_more : (row : List ℕ) (i : ℕ) (parts : List Part) → map (λ p. at_row (row ++ i ∷ []) p) parts ≡ map (λ p. at_row row p) (in_row i parts)
 in_row_more row i [] = refl
@@ -35,81 +27,36 @@ at_first (p ∷ parts) = λ t. at_none p t ∷ at_first parts t
 -- what the boxes of rows are, by what their tests say
 pub one_row : (n : ℕ) (lengths : List ℕ) (from to : ℕ) → from / product lengths ≡ to / product lengths
     → boxes (n ∷ lengths) from to ≡ in_row (from / product lengths) (boxes lengths (from % product lengths) (to % product lengths))
-one_row n lengths from to e = by_test (from / product lengths == to / product lengths) refl
-  where
-    by_test : (t : Bool) → (from / product lengths == to / product lengths) ≡ t
-        → elim t as (λ v. List Part) [
-          | true ↦ in_row (from / product lengths) (boxes lengths (from % product lengths) (to % product lengths))
-          | false ↦ elim (from % product lengths == 0) as (λ v. List Part) [
-            | true ↦ whole_rows lengths (from / product lengths) (to / product lengths) ++ in_row (to / product lengths) (boxes lengths 0 (to % product lengths))
-            | false ↦ in_row (from / product lengths) (boxes lengths (from % product lengths) (product lengths))
-                ++ whole_rows lengths (from / product lengths + 1) (to / product lengths) ++ in_row (to / product lengths) (boxes lengths 0 (to % product lengths))
-          ]
-        ] ≡ in_row (from / product lengths) (boxes lengths (from % product lengths) (to % product lengths))
-    by_test true s = refl
-    by_test false s = absurd (eqb-false _ _ s e)
+one_row n lengths from to e = grind (arith, nat_tests, eqb-false)
 
 pub more_rows : (n : ℕ) (lengths : List ℕ) (from to : ℕ) → (from / product lengths ≡ to / product lengths → ⊥)
     → boxes (n ∷ lengths) from to ≡ boxes_before lengths from (to / product lengths) ++ in_row (to / product lengths) (boxes lengths 0 (to % product lengths))
-more_rows n lengths from to e = by_test (from / product lengths == to / product lengths) refl (from % product lengths == 0)
-  where
-    by_test : (t : Bool) → (from / product lengths == to / product lengths) ≡ t → (u : Bool)
-        → elim t as (λ v. List Part) [
-          | true ↦ in_row (from / product lengths) (boxes lengths (from % product lengths) (to % product lengths))
-          | false ↦ elim u as (λ v. List Part) [
-            | true ↦ whole_rows lengths (from / product lengths) (to / product lengths) ++ in_row (to / product lengths) (boxes lengths 0 (to % product lengths))
-            | false ↦ in_row (from / product lengths) (boxes lengths (from % product lengths) (product lengths))
-                ++ whole_rows lengths (from / product lengths + 1) (to / product lengths) ++ in_row (to / product lengths) (boxes lengths 0 (to % product lengths))
-          ]
-        ] ≡ elim u as (λ v. List Part) [
-          | true ↦ whole_rows lengths (from / product lengths) (to / product lengths)
-          | false ↦ in_row (from / product lengths) (boxes lengths (from % product lengths) (product lengths)) ++ whole_rows lengths (from / product lengths + 1) (to / product lengths)
-        ] ++ in_row (to / product lengths) (boxes lengths 0 (to % product lengths))
-    by_test true s u = absurd (e (eqb-true _ _ s))
-    by_test false s true = refl
-    by_test false s false = refl
+more_rows n lengths from to e = grind (arith, nat_tests, eqb-true)
 
 -- ---- no element
 
 same_below : (x : ℕ) → nat_lt x x ≡ false
-same_below x = by_test (nat_lt x x) refl
-  where
-    by_test : (t : Bool) → nat_lt x x ≡ t → t ≡ false
-    by_test true e = let h = ltb-true _ _ e in absurd (omega arith)
-    by_test false e = refl
+same_below x = grind (arith, nat_tests, ltb-true)
 
 pub no_boxes : (lengths : List ℕ) (x : ℕ) → boxes lengths x x ≡ []
 no_boxes [] x = ap (λ (t : Bool). elim t as (λ u. List Part) [ true ↦ record { start = []; count = [] } ∷ [] | false ↦ [] ]) (same_below x)
 no_boxes (n ∷ lengths) x = one_row n lengths x x refl ∙ ap (λ parts. in_row (x / product lengths) parts) (no_boxes lengths (x % product lengths))
 
 pub found_none : (row lengths : List ℕ) (from to : ℕ) (old : List Part) → from ≡ to → old ≡ old ++ map (λ p. at_row row p) (boxes lengths from to)
-found_none row lengths from to old e =
-    sym (ap (λ ps. old ++ map (λ p. at_row row p) ps) (ap (λ (x : ℕ). boxes lengths x to) e ∙ no_boxes lengths to) ∙ append-nil old)
+found_none row lengths from to old e = grind (arith, nat_tests, no_boxes lengths to, append-nil old)
 
 -- ---- what a step of the cutting found
 
 pub found_row : (row below : List ℕ) (i : ℕ) (parts old new : List Part) → below ≡ row ++ i ∷ [] → new ≡ old ++ map (λ p. at_row below p) parts
     → new ≡ old ++ map (λ p. at_row row p) (in_row i parts)
-found_row row below i parts old new e f =
-    f ∙ ap (λ (b : List ℕ). old ++ map (λ p. at_row b p) parts) e ∙ ap (λ ps. old ++ ps) (in_row_more row i parts)
+found_row row below i parts old new e f = grind (arith, nat_tests, in_row_more row i parts)
 
 pub found_rows : (row later : List ℕ) (lengths : List ℕ) (n size from to : ℕ) (old mid new : List Part) → size ≡ product lengths
     → (from / size ≡ to / size → ⊥) → later ≡ row
     → mid ≡ old ++ map (λ p. at_row row p) (boxes_before lengths from (to / size))
     → new ≡ mid ++ map (λ p. at_row later p) (in_row (to / size) (boxes lengths 0 (to % size)))
     → new ≡ old ++ map (λ p. at_row row p) (boxes (n ∷ lengths) from to)
-found_rows row later lengths n size from to old mid new s e r f g =
-    g
-    ∙ ap (λ (b : List ℕ). mid ++ map (λ p. at_row b p) (in_row (to / size) (boxes lengths 0 (to % size)))) r
-    ∙ ap (λ ps. ps ++ map (λ p. at_row row p) (in_row (to / size) (boxes lengths 0 (to % size)))) f
-    ∙ append_assoc old (map (λ p. at_row row p) (boxes_before lengths from (to / size))) (map (λ p. at_row row p) (in_row (to / size) (boxes lengths 0 (to % size))))
-    ∙ ap (λ ps. old ++ ps)
-    (sym (map-append (λ p. at_row row p) (boxes_before lengths from (to / size)) (in_row (to / size) (boxes lengths 0 (to % size))))
-    ∙ ap (λ ps. map (λ p. at_row row p) ps)
-    (ap (λ (z : ℕ). boxes_before lengths from (to / z) ++ in_row (to / z) (boxes lengths 0 (to % z))) s ∙ sym (more_rows n lengths from to apart)))
-  where
-    apart : from / product lengths ≡ to / product lengths → ⊥
-    apart h = e (ap (λ (z : ℕ). from / z) s ∙ h ∙ ap (λ (z : ℕ). to / z) (sym s))
+found_rows row later lengths n size from to old mid new s e r f g = grind (arith, nat_tests, append_assoc, map-append, more_rows)
 
 pub found_counts : (row counts : List ℕ) (from to : ℕ) (old new : List Part) → 1 ≤ length counts
     → ((count : ℕ) → new ≡ old ++ map (λ p. at_row row p) (boxes (count ∷ take (length counts - 1) (drop 1 counts)) from to)) → new ≡ old ++ map (λ p. at_row row p) (boxes counts from to)
@@ -121,8 +68,7 @@ found_counts row (n ∷ counts) from to old new h f =
 -- the boxes of the whole range
 pub found_first : (row lengths counts : List ℕ) (from to : ℕ) (none found result : List Part) → row ≡ [] → none ≡ [] → counts ≡ lengths
     → found ≡ none ++ map (λ p. at_row row p) (boxes counts from to) → result ≡ found → result ≡ boxes lengths from to
-found_first row lengths counts from to none found result e n s f g =
-    g ∙ f ∙ (λ t. n t ++ map (λ p. at_row (e t) p) (boxes (s t) from to)) ∙ at_first (boxes lengths from to)
+found_first row lengths counts from to none found result e n s f g = grind (arith, nat_tests, at_first (boxes lengths from to))
 
 -- ---- how many there are
 
@@ -130,70 +76,49 @@ in_row_long : (i : ℕ) (parts : List Part) → length (in_row i parts) ≡ leng
 in_row_long i parts = length-map parts (λ (p : Part). let q : Part = record { start = i ∷ p.start; count = 1 ∷ p.count } in q)
 
 whole_few : (lengths : List ℕ) (first last : ℕ) → length (whole_rows lengths first last) ≤ 1
-whole_few lengths first last = by_test (nat_lt first last)
-  where
-    by_test : (t : Bool) → length (elim t as (λ v. List Part) [
-      | false ↦ []
-      | true ↦ record { start = first ∷ replicate (length lengths) 0; count = (last - first) ∷ lengths } ∷ []
-    ]) ≤ 1
-    by_test true = omega arith
-    by_test false = omega arith
+whole_few lengths first last = grind (arith, nat_tests)
 
 -- the boxes before row `last`, where those of the first row's part are few
 before_few : (lengths : List ℕ) (from last few : ℕ) → length (boxes lengths (from % product lengths) (product lengths)) ≤ few → length (boxes_before lengths from last) ≤ few + 1
-before_few lengths from last few h = by_test (from % product lengths == 0)
-  where
-    by_test : (t : Bool) → length (elim t as (λ v. List Part) [
-      | true ↦ whole_rows lengths (from / product lengths) last
-      | false ↦ in_row (from / product lengths) (boxes lengths (from % product lengths) (product lengths)) ++ whole_rows lengths (from / product lengths + 1) last
-    ]) ≤ few + 1
-    by_test true = let w = whole_few lengths (from / product lengths) last in omega arith
-    by_test false =
-        let w = whole_few lengths (from / product lengths + 1) last in
-        let r = in_row_long (from / product lengths) (boxes lengths (from % product lengths) (product lengths)) in
-        let both = length-append (in_row (from / product lengths) (boxes lengths (from % product lengths) (product lengths))) (whole_rows lengths (from / product lengths + 1) last) in
-        omega arith
+before_few lengths from last few h =
+    grind (
+      arith,
+      nat_tests,
+      whole_few lengths (from / product lengths) last,
+      whole_few lengths (from / product lengths + 1) last,
+      in_row_long (from / product lengths) (boxes lengths (from % product lengths) (product lengths)),
+      length-append,
+    )
 
 -- those of rows, by those of one row and by those of the first and the last row's parts
 rows_few : (n : ℕ) (lengths : List ℕ) (from to few first last : ℕ)
     → (from / product lengths ≡ to / product lengths → length (boxes lengths (from % product lengths) (to % product lengths)) ≤ few)
     → length (boxes_before lengths from (to / product lengths)) ≤ first → length (boxes lengths 0 (to % product lengths)) ≤ last → first + last ≤ few
     → length (boxes (n ∷ lengths) from to) ≤ few
-rows_few n lengths from to few first last same before after sum = by_test (from / product lengths == to / product lengths) refl
-  where
-    by_test : (t : Bool) → (from / product lengths == to / product lengths) ≡ t → length (boxes (n ∷ lengths) from to) ≤ few
-    by_test true e =
-        let q = eqb-true _ _ e in
-        let long = ap (λ parts. length parts) (one_row n lengths from to q) ∙ in_row_long (from / product lengths) (boxes lengths (from % product lengths) (to % product lengths)) in
-        let h = same q in
-        omega arith
-    by_test false e =
-        let long = ap (λ parts. length parts) (more_rows n lengths from to (eqb-false _ _ e))
-        ∙ length-append (boxes_before lengths from (to / product lengths)) (in_row (to / product lengths) (boxes lengths 0 (to % product lengths))) in
-        let r = in_row_long (to / product lengths) (boxes lengths 0 (to % product lengths)) in
-        omega arith
+rows_few n lengths from to few first last same before after sum =
+    grind (
+      arith,
+      nat_tests,
+      in_row_long (from / product lengths) (boxes lengths (from % product lengths) (to % product lengths)),
+      in_row_long (to / product lengths) (boxes lengths 0 (to % product lengths)),
+      eqb-true,
+      one_row,
+      more_rows,
+      eqb-false,
+      length-append,
+    )
 
 -- ---- the bound
 
 less_or_same : (a b : ℕ) → a ≤ b → (a ≡ b) ⊎ (a < b)
-less_or_same a b h = by_test (nat_lt a b) refl
-  where
-    by_test : (t : Bool) → nat_lt a b ≡ t → (a ≡ b) ⊎ (a < b)
-    by_test true e = inr (ltb-true _ _ e)
-    by_test false e = let low : b ≤ a = ltb-false _ _ e in inl (omega arith)
+less_or_same a b h = grind (arith, nat_tests, ltb-true, ltb-false)
 
 none_few : (lengths : List ℕ) (from to few : ℕ) → from ≡ to → length (boxes lengths from to) ≤ few
-none_few lengths from to few e =
-    let long = ap (λ (x : ℕ). length (boxes lengths x to)) e ∙ ap (λ parts. length parts) (no_boxes lengths to) in
-    omega arith
+none_few lengths from to few e = grind (arith, nat_tests, no_boxes lengths to)
 
 -- the numbers below `to`
 front_few : (lengths : List ℕ) (to : ℕ) → length (boxes lengths 0 to) ≤ length lengths + 1
-front_few [] to = by_test (nat_lt 0 to)
-  where
-    by_test : (t : Bool) → length (elim t as (λ u. List Part) [ true ↦ record { start = []; count = [] } ∷ [] | false ↦ [] ]) ≤ 1
-    by_test true = omega arith
-    by_test false = omega arith
+front_few [] to = grind (arith, nat_tests)
 front_few (n ∷ lengths) to =
     let rest = front_few lengths (to % product lengths) in
     let rest_of_0 = ap (λ (x : ℕ). length (boxes lengths x (to % product lengths))) (zero-mod (product lengths)) in
@@ -208,11 +133,7 @@ front_few (n ∷ lengths) to =
 
 -- the numbers from `from` to the last one
 back_few : (lengths : List ℕ) (from : ℕ) → from ≤ product lengths → length (boxes lengths from (product lengths)) ≤ length lengths + 1
-back_few [] from h = by_test (nat_lt from 1)
-  where
-    by_test : (t : Bool) → length (elim t as (λ u. List Part) [ true ↦ record { start = []; count = [] } ∷ [] | false ↦ [] ]) ≤ 1
-    by_test true = omega arith
-    by_test false = omega arith
+back_few [] from h = grind (arith, nat_tests)
 back_few (n ∷ lengths) from h = by_cases (back_few lengths (from % product lengths)) (less_or_same from (n * product lengths) h)
   where
     by_cases : (from % product lengths ≤ product lengths → length (boxes lengths (from % product lengths) (product lengths)) ≤ length lengths + 1)
@@ -230,11 +151,7 @@ back_few (n ∷ lengths) from h = by_cases (back_few lengths (from % product len
         (none_few lengths 0 (n * product lengths % product lengths) 0 (sym whole)) (omega arith)
 
 pub boxes_few : (lengths : List ℕ) (from to : ℕ) → from ≤ to → to ≤ product lengths → length (boxes lengths from to) ≤ 2 * length lengths + 1
-boxes_few [] from to h k = by_test (nat_lt from to)
-  where
-    by_test : (t : Bool) → length (elim t as (λ u. List Part) [ true ↦ record { start = []; count = [] } ∷ [] | false ↦ [] ]) ≤ 1
-    by_test true = omega arith
-    by_test false = omega arith
+boxes_few [] from to h k = grind (arith, nat_tests)
 boxes_few (n ∷ lengths) from to h k = by_cases (boxes_few lengths (from % product lengths) (to % product lengths)) (less_or_same from to h)
   where
     IH : Type 0

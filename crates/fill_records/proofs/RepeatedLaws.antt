@@ -1,5 +1,5 @@
 -- A value's bytes over and over.
-use Rattle.fill_records.proofs.Words.{◌≡◌, ℕ, zero, suc, ◌+◌, ◌-◌, ◌*◌, ◌%◌, ◌<◌, ◌≤◌, refl, sym, ◌∙◌, ap, List, ◌∷◌, ◌++◌, length, take, drop, get_or, arith, slice_index, repeat, each_same, AllZip, add-mod_right, add-mod-mod, mod-eq_of_lt, same_number_lists, take_at, drop_at, length-map-range_with_len, get_or-map-range_with_len, repeated}
+use Rattle.fill_records.proofs.Words.{◌≡◌, ℕ, zero, suc, ◌+◌, ◌-◌, ◌*◌, ◌%◌, ◌<◌, ◌≤◌, refl, sym, ◌∙◌, ap, List, ◌∷◌, ◌++◌, length, take, drop, get_or, arith, slice_index, repeat, each_same, AllZip, add-mod_right, add-mod-mod, mod-eq_of_lt, same_number_lists, take_at, drop_at, length-map-range_with_len, get_or-map-range_with_len, repeated, nat_tests}
 
 pub repeated_long : (value : List ℕ) (from len : ℕ) → length (repeated value from len) ≡ len
 repeated_long value from len = length-map-range_with_len (λ (i : ℕ). slice_index value (i % length value)) from len
@@ -8,10 +8,7 @@ pub at_repeated : (value : List ℕ) (from len i : ℕ) → i < len → get_or (
 at_repeated value from len i h = get_or-map-range_with_len (λ (j : ℕ). slice_index value (j % length value)) from len i (from + i) 0 h refl
 
 pub repeated_more : (value : List ℕ) (from m n : ℕ) → repeated value from (m + n) ≡ repeated value from m ++ repeated value (from + m) n
-repeated_more value from zero n =
-    let all : 0 + n ≡ n = omega arith in
-    let same : from ≡ from + 0 = omega arith in
-    λ t. repeated value (same t) (all t)
+repeated_more value from zero n = grind (arith, nat_tests)
 repeated_more value from (suc m) n =
     let one : suc m + n ≡ suc (m + n) = omega arith in
     let next : from + 1 + m ≡ from + suc m = omega arith in
@@ -35,28 +32,15 @@ same_phase value a b n e =
         ∙ add-mod-mod k b (length value) ∙ ap (λ (i : ℕ). i % length value) turn_b
 
 pub once : (value : List ℕ) → repeated value 0 (length value) ≡ value
-once value =
-    same_number_lists (repeated value 0 (length value)) value (repeated_long value 0 (length value)) (λ k h.
-    let long = repeated_long value 0 (length value) in
-    let low : k < length value = omega arith in
-    at_repeated value 0 (length value) k low ∙ ap (λ (i : ℕ). get_or value i 0) (same k low))
-  where
-    same : (k : ℕ) → k < length value → (0 + k) % length value ≡ k
-    same k h = let plain : 0 + k ≡ k = omega arith in ap (λ (i : ℕ). i % length value) plain ∙ mod-eq_of_lt h
+once value = grind (arith, nat_tests, repeated_long value 0 (length value), same_number_lists, at_repeated, mod-eq_of_lt)
 
 -- one value, and more
 pub value_first : (value : List ℕ) (n m : ℕ) → m ≡ length value + n → value ++ repeated value 0 n ≡ repeated value 0 m
-value_first value n m e =
-    (λ t. sym (once value) t ++ same_phase value 0 (0 + length value) n whole t) ∙ sym (ap (λ (k : ℕ). repeated value 0 k) e ∙ repeated_more value 0 (length value) n)
-  where
-    whole : 0 % length value ≡ (0 + length value) % length value
-    whole = sym (add-mod_right 0 (length value))
+value_first value n m e = grind (arith, nat_tests, once value, repeated_more value 0 (length value) n, add-mod_right 0 (length value), same_phase)
 
 pub copies : (value : List ℕ) (n : ℕ) → repeat n value ≡ repeated value 0 (n * length value)
 copies value zero = let none : 0 ≡ zero * length value = omega arith in ap (λ (k : ℕ). repeated value 0 k) none
-copies value (suc n) =
-    ap (λ bytes. value ++ bytes) (copies value n)
-    ∙ value_first value (n * length value) (suc n * length value) (omega arith)
+copies value (suc n) = grind (arith, nat_tests, copies value n, value_first value (n * length value) (suc n * length value) (omega arith))
 
 -- some of the copies
 pub part_of_copies : (value : List ℕ) (k n m : ℕ) → k + n ≤ m → take n (drop k (repeated value 0 m)) ≡ repeated value k n

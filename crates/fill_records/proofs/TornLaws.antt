@@ -1,5 +1,5 @@
 -- What a filling that was refused leaves: each byte is old, or that of the filled file.
-use Rattle.fill_records.proofs.Words.{◌≡◌, ℕ, zero, suc, ◌+◌, ◌-◌, ◌<◌, ◌≤◌, ◌⊎◌, inl, inr, refl, sym, ◌∙◌, ap, subst, List, [], ◌∷◌, ◌++◌, length, take, Bool, true, false, not, cond, Option, Some, None, arith, fold, nat_lt, nat_le, slice_get, IfSome, cases_lt, nat_tests, told_else, both_none, Header, Var, PartlyWritten, after, BothTold, at, written, fill_bytes, fill_var, filled, header_len, is_sound, end_of, fixed_variables, is_record, meet, records_meet, share, sharing_from, sharing_with, slab, none_shared, none_with, length-written_inside, get_or-written_below, get_or-written_within, get_or-written_above, IsBetween, repeated, filled_variable, found_long, between_next}
+use Rattle.fill_records.proofs.Words.{◌≡◌, ℕ, zero, suc, ◌+◌, ◌-◌, ◌<◌, ◌≤◌, ◌⊎◌, inl, inr, refl, sym, ◌∙◌, ap, subst, List, [], ◌∷◌, ◌++◌, length, take, Bool, true, false, not, cond, Option, Some, None, arith, fold, nat_lt, slice_get, IfSome, cases_lt, nat_tests, told_else, both_none, Header, Var, PartlyWritten, after, BothTold, at, written, fill_bytes, fill_var, filled, header_len, is_sound, end_of, fixed_variables, is_record, share, sharing_from, sharing_with, slab, none_shared, none_with, length-written_inside, get_or-written_below, get_or-written_within, get_or-written_above, IsBetween, repeated, filled_variable, found_long, between_next}
 use Rattle.fill_records.proofs.RepeatedLaws.{repeated_long, at_repeated}
 use Rattle.fill_records.proofs.VariableLaws.{filled_more, fixed_end}
 use Rattle.fill_records.proofs.WindowLaws.{for_told}
@@ -15,25 +15,19 @@ partly_between place bytes file left room p = record { len = p.len ∙ length-wr
 -- the first of the bytes that are written
 pub some_written : (value file : List ℕ) (begin n len : ℕ) → n ≤ len → begin + len ≤ length file
     → IsBetween file (written file begin (repeated value 0 len)) (written file begin (repeated value 0 n))
-some_written value file begin n len h room = record {
-  len = (let long = repeated_long value 0 n in length-written_inside file begin (repeated value 0 n) (omega arith));
-  each = λ x. by_low x (cases_lt x begin);
-}
-  where
-    by_high : (x : ℕ) → begin ≤ x → (x < begin + n) ⊎ (begin + n ≤ x)
-        → (at (written file begin (repeated value 0 n)) x ≡ at file x) ⊎ (at (written file begin (repeated value 0 n)) x ≡ at (written file begin (repeated value 0 len)) x)
-    by_high x l (inr e) = let long = repeated_long value 0 n in inl (get_or-written_above file begin (repeated value 0 n) x (omega arith) (omega arith))
-    by_high x l (inl e) =
-        let some = repeated_long value 0 n in
-        let all = repeated_long value 0 len in
-        inr (get_or-written_within file begin (repeated value 0 n) x (omega arith) l (omega arith)
-        ∙ at_repeated value 0 n (x - begin) (omega arith)
-        ∙ sym (get_or-written_within file begin (repeated value 0 len) x (omega arith) l (omega arith) ∙ at_repeated value 0 len (x - begin) (omega arith)))
-
-    by_low : (x : ℕ) → (x < begin) ⊎ (begin ≤ x)
-        → (at (written file begin (repeated value 0 n)) x ≡ at file x) ⊎ (at (written file begin (repeated value 0 n)) x ≡ at (written file begin (repeated value 0 len)) x)
-    by_low x (inl l) = let long = repeated_long value 0 n in inl (get_or-written_below file begin (repeated value 0 n) x (omega arith) l)
-    by_low x (inr l) = by_high x l (cases_lt x (begin + n))
+some_written value file begin n len h room =
+    grind (
+      arith,
+      nat_tests,
+      repeated_long value 0 n,
+      repeated_long value 0 len,
+      length-written_inside,
+      cases_lt,
+      get_or-written_above,
+      get_or-written_within,
+      at_repeated,
+      get_or-written_below,
+    )
 
 -- ---- files that may be told
 
@@ -41,11 +35,7 @@ some_written value file begin n len h room = record {
 pub change_refused : (held mid now : Option (List ℕ)) (f g whole : List ℕ → List ℕ) → mid ≡ after f held
     → IfSome held (λ file. IsBetween file (whole file) (f file) × IsBetween file (whole file) (g (f file)))
     → BothTold (λ old left. IsBetween old (g old) left) mid now → BothTold (λ old left. IsBetween old (whole old) left) held now
-change_refused None mid now f g whole e s b = subst (λ (m : Option (List ℕ)). BothTold (λ old left. IsBetween old (g old) left) m now) e b
-change_refused (Some file) mid now f g whole e s b = by_told (subst (λ (m : Option (List ℕ)). BothTold (λ old left. IsBetween old (g old) left) m now) e b)
-  where
-    by_told : BothTold (λ old left. IsBetween old (g old) left) (Some (f file)) now → BothTold (λ old left. IsBetween old (whole old) left) (Some file) now
-    by_told r = (r.0, r.1, between_next file (whole file) (f file) (g (f file)) r.0 s.0 s.1 r.2)
+change_refused held mid now f g whole e s b = grind (arith, nat_tests, between_next)
 
 -- the write of some bytes was cut off
 pub write_refused : (mid now : Option (List ℕ)) (place : ℕ) (bytes : List ℕ) → IfSome mid (λ file. place + length bytes ≤ length file)
@@ -84,22 +74,12 @@ fill_written header v file fixed room = var_filled header v (fill_bytes v) file 
 
 fill_long : (header : Header) (v : Var) (file : List ℕ) → is_record header v ≡ false → v.begin + slab header v ≤ length file
     → length (fill_var header file v) ≡ length file
-fill_long header v file fixed room =
-    let long = repeated_long (fill_bytes v) 0 (slab header v) in
-    ap (λ (f : List ℕ). length f) (fill_written header v file fixed room)
-    ∙ length-written_inside file v.begin (repeated (fill_bytes v) 0 (slab header v)) (omega arith)
+fill_long header v file fixed room = grind (arith, nat_tests, repeated_long, fill_written, length-written_inside)
 
 -- bytes beside the variable stay
 fill_beside : (header : Header) (v : Var) (file : List ℕ) (x : ℕ) → is_record header v ≡ false → v.begin + slab header v ≤ length file
     → (x < v.begin) ⊎ (v.begin + slab header v ≤ x) → at (fill_var header file v) x ≡ at file x
-fill_beside header v file x fixed room (inl h) =
-    let long = repeated_long (fill_bytes v) 0 (slab header v) in
-    ap (λ (f : List ℕ). at f x) (fill_written header v file fixed room)
-    ∙ get_or-written_below file v.begin (repeated (fill_bytes v) 0 (slab header v)) x (omega arith) h
-fill_beside header v file x fixed room (inr h) =
-    let long = repeated_long (fill_bytes v) 0 (slab header v) in
-    ap (λ (f : List ℕ). at f x) (fill_written header v file fixed room)
-    ∙ get_or-written_above file v.begin (repeated (fill_bytes v) 0 (slab header v)) x (omega arith) (omega arith)
+fill_beside header v file x fixed room xs = grind (arith, nat_tests, repeated_long, fill_written, get_or-written_below, get_or-written_above)
 
 -- ---- some of the variables
 
@@ -151,10 +131,6 @@ two_apart : (header : Header) (v w : Var) (x : ℕ) → is_record header v ≡ f
     → v.begin ≤ x → x < v.begin + slab header v → (x < w.begin) ⊎ (w.begin + slab header w ≤ x)
 two_apart header v w x e f apart low high = by_low (cases_lt x w.begin)
   where
-    meets : meet v.begin (slab header v) w.begin (slab header w) ≡ false
-    meets = sym (λ t. cond (e t) (cond (is_record header w) (cond (nat_le v.begin w.begin) (records_meet header v w) (records_meet header w v)) (nat_lt v.begin (w.begin + slab header w)))
-        (cond (f t) (nat_lt w.begin (v.begin + slab header v)) (meet v.begin (slab header v) w.begin (slab header w)))) ∙ apart
-
     by_high : w.begin ≤ x → (x < w.begin + slab header w) ⊎ (w.begin + slab header w ≤ x) → (x < w.begin) ⊎ (w.begin + slab header w ≤ x)
     by_high l (inr h) = inr h
     by_high l (inl h) = absurd (grind (arith, nat_tests))

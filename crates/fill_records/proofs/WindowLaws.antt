@@ -1,5 +1,5 @@
 -- The windows of a value's bytes over and over: what is written, and the calls.
-use Rattle.fill_records.proofs.Words.{◌≡◌, ℕ, ◌+◌, ◌-◌, ◌*◌, ◌%◌, ◌<◌, ◌≤◌, min, refl, sym, ◌∙◌, ap, List, ◌++◌, length, take, drop, Option, Some, None, arith, IfSome, mod-mod, mod_below, DiskCall, after, with_end, stores, written, repeated, windows_of, count_is, stores_before}
+use Rattle.fill_records.proofs.Words.{◌≡◌, ℕ, ◌+◌, ◌-◌, ◌*◌, ◌%◌, ◌<◌, ◌≤◌, min, refl, sym, ◌∙◌, ap, List, ◌++◌, length, take, drop, Option, Some, None, arith, IfSome, mod-mod, mod_below, DiskCall, after, with_end, stores, written, repeated, windows_of, count_is, stores_before, nat_tests}
 use Rattle.fill_records.proofs.RepeatedLaws.{repeated_long, repeated_more, part_of_copies, same_phase}
 use Rattle.fill_records.proofs.WriteLaws.{write_next}
 
@@ -31,13 +31,7 @@ always_told (Some x) f = f x
 pub window_bytes : (value copies bytes : List ℕ) (period place n : ℕ) → period ≡ length value → 1 ≤ period → copies ≡ repeated value 0 (length copies) → n + period ≤ length copies
     → bytes ≡ take n (drop (place % period) copies) → bytes ≡ repeated value place n
 window_bytes value copies bytes period place n e some same room b =
-    let low = mod_below place period some in
-    b ∙ ap (λ (c : List ℕ). take n (drop (place % period) c)) same
-    ∙ part_of_copies value (place % period) n (length copies) (omega arith)
-    ∙ same_phase value (place % period) place n phase
-  where
-    phase : place % period % length value ≡ place % length value
-    phase = ap (λ (k : ℕ). place % k % length value) e ∙ mod-mod place (length value)
+    grind (arith, nat_tests, mod_below place period some, part_of_copies value (place % period) n (length copies) (omega arith), mod-mod place (length value), same_phase)
 
 -- all of them
 pub stores_all : (z begin len j count : ℕ) (old now : Option (List DiskCall)) → 0 < z → j ≡ count → count ≡ windows_of z len

@@ -1,5 +1,5 @@
 -- Writes of a value one after another are one write of its bytes over and over.
-use Rattle.fill_records.proofs.Words.{◌≡◌, ℕ, zero, suc, ◌+◌, ◌*◌, ◌≤◌, refl, sym, ◌∙◌, ap, List, [], ◌∷◌, ◌++◌, length, map, take, drop, false, append_assoc, length-append, arith, flat_map, fold, range_with_len, take_at, map-append, drop-drop, places, drop-append-add, fold-map, map_map, Header, Var, size_of, written, fill_bytes, fill_var, product, inner_lengths, is_record, slab, row, place, coordinates, written-inside, length-written_inside, write_none, place_fixed, repeated}
+use Rattle.fill_records.proofs.Words.{◌≡◌, ℕ, zero, suc, ◌+◌, ◌*◌, ◌≤◌, refl, sym, ◌∙◌, ap, List, [], ◌∷◌, ◌++◌, length, map, take, drop, false, append_assoc, length-append, arith, flat_map, fold, range_with_len, take_at, map-append, drop-drop, places, drop-append-add, fold-map, map_map, Header, Var, size_of, written, fill_bytes, fill_var, product, inner_lengths, is_record, slab, row, place, coordinates, written-inside, length-written_inside, write_none, place_fixed, repeated, nat_tests}
 use Rattle.fill_records.proofs.RepeatedLaws.{repeated_long, value_first}
 
 -- ---- two writes
@@ -39,21 +39,13 @@ write_next file xs ys place next e h =
 -- ---- elements in row-major order
 
 pub range_joined : (a m n k : ℕ) → k ≡ m + n → range_with_len a m ++ range_with_len (a + m) n ≡ range_with_len a k
-range_joined a zero n k e =
-    let first : a + 0 ≡ a = omega arith in
-    let all : n ≡ k = omega arith in
-    λ t. range_with_len (first t) (all t)
+range_joined a zero n k e = grind (arith, nat_tests)
 range_joined a (suc m) n zero e = absurd (omega arith)
-range_joined a (suc m) n (suc k) e =
-    let next : a + suc m ≡ a + 1 + m = omega arith in
-    ap (λ (b : ℕ). a ∷ range_with_len (a + 1) m ++ range_with_len b n) next
-    ∙ ap (λ ns. a ∷ ns) (range_joined (a + 1) m n k (omega arith))
+range_joined a (suc m) n (suc k) e = grind (arith, nat_tests, range_joined (a + 1) m n k (omega arith))
 
 range_moved : (b a n : ℕ) → map (λ k. b + k) (range_with_len a n) ≡ range_with_len (b + a) n
 range_moved b a zero = refl
-range_moved b a (suc n) =
-    let next : b + (a + 1) ≡ b + a + 1 = omega arith in
-    ap (λ ns. (b + a) ∷ ns) (range_moved b (a + 1) n ∙ ap (λ (k : ℕ). range_with_len k n) next)
+range_moved b a (suc n) = grind (arith, nat_tests, range_moved b (a + 1) n)
 
 pub map_same : {A B : Type 0} (f g : A → B) → ((x : A) → f x ≡ g x) → (xs : List A) → map f xs ≡ map g xs
 map_same f g h [] = refl
@@ -92,10 +84,7 @@ rows_in_order (n ∷ lengths) =
 write_each : (value : List ℕ) (begin a n : ℕ) (file : List ℕ) → begin + (a + n) * length value ≤ length file
     → fold (λ f p. written f p value) file (map (λ k. begin + k * length value) (range_with_len a n))
     ≡ written file (begin + a * length value) (repeated value 0 (n * length value))
-write_each value begin a zero file h =
-    let none : zero * length value ≡ 0 = omega arith in
-    let room : begin + a * length value ≤ length file = omega arith in
-    sym (ap (λ (k : ℕ). written file (begin + a * length value) (repeated value 0 k)) none ∙ write_none file (begin + a * length value) room)
+write_each value begin a zero file h = grind (arith, nat_tests, write_none)
 write_each value begin a (suc n) file h =
     let next : begin + (a + 1) * length value ≡ begin + a * length value + length value = omega arith in
     let all : (a + suc n) * length value ≡ a * length value + length value + n * length value = omega arith in

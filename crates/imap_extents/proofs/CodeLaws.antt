@@ -1,5 +1,6 @@
 -- The lowest bytes of a number: those of a value, where the value is in a type's range.
-use Rattle.imap_extents.proofs.Cited.{◌≡◌, ℕ, zero, suc, ◌+◌, ◌*◌, ◌^◌, ◌<◌, ◌≤◌, refl, ◌∙◌, ap, sym, List, ◌∷◌, ◌++◌, map, true, false, not, arith, pos, negsuc, ◌+ℤ◌, FitsSigned, to_z, of_z, ◌%◌, flat_map, list_any, range_with_len, Width, w8, w16, w32, w64, byte_len, byte_at, bytes_high_first, to_be_bytes, cast_unsigned, cast_signed, int_wrap, int_rem_euclid, unsigned_abs, not-false, or_parts, ltb-true, of_z-to_z, to_z-of_z, wrapping_add-bits, wrapping_mul-bits, int_wrap-add_right, NcType, Byte, Char, Short, Int, Float, Double, UByte, UShort, UInt, Int64, UInt64, Value, width_of, ext, fits}
+use Rattle.std.proofs.lemmas.Bool.Decides.{nat_tests}
+use Rattle.imap_extents.proofs.Cited.{◌≡◌, ℕ, zero, suc, ◌+◌, ◌*◌, ◌^◌, ◌<◌, ◌≤◌, refl, ◌∙◌, ap, List, ◌∷◌, ◌++◌, map, true, false, not, arith, pos, negsuc, ◌+ℤ◌, FitsSigned, to_z, of_z, ◌%◌, flat_map, list_any, range_with_len, Width, w8, w16, w32, w64, byte_len, byte_at, bytes_high_first, to_be_bytes, cast_unsigned, cast_signed, int_wrap, int_rem_euclid, unsigned_abs, not-false, or_parts, ltb-true, of_z-to_z, to_z-of_z, wrapping_add-bits, wrapping_mul-bits, int_wrap-add_right, NcType, Byte, Char, Short, Int, Float, Double, UByte, UShort, UInt, Int64, UInt64, Value, width_of, ext, fits}
 use Rattle.std.proofs.Common.{ℤ, ◌*ℤ◌}
 use Rattle.nc_base.specs.declared.request.Value.TheVariants as value
 use mir.Val.{bits}
@@ -15,9 +16,7 @@ in_8 n zero h = omega arith
 in_8 n (suc i) h = absurd (omega (arith, h))
 
 in_16 : (n i : ℕ) → i < 2 → byte_at i (n % 2 ^ 16) ≡ byte_at i n
-in_16 n zero h = omega arith
-in_16 n (suc zero) h = omega arith
-in_16 n (suc (suc i)) h = absurd (omega (arith, h))
+in_16 n i h = grind (arith, nat_tests)
 
 in_32 : (n i : ℕ) → i < 4 → byte_at i (n % 2 ^ 32) ≡ byte_at i n
 in_32 n zero h = omega arith
@@ -51,17 +50,7 @@ lowest_64 : (w : Width) (n : ℕ) → byte_len w ≤ 8 → to_be_bytes w (n % 2 
 lowest_64 w n few = same_bytes (byte_len w) (n % 2 ^ 64) n (λ i h. in_64 n i (omega (arith, h, few)))
 
 narrow : (kind : NcType) → byte_len (width_of kind) ≤ 8
-narrow Byte = omega arith
-narrow Char = omega arith
-narrow Short = omega arith
-narrow Int = omega arith
-narrow Float = omega arith
-narrow Double = omega arith
-narrow UByte = omega arith
-narrow UShort = omega arith
-narrow UInt = omega arith
-narrow Int64 = omega arith
-narrow UInt64 = omega arith
+narrow kind = grind (arith, nat_tests)
 
 -- ---- two's complement
 opened : (z : ℤ) → int_wrap w64 z ≡ cast_signed w64 (unsigned_abs (int_rem_euclid z (pos (2 ^ bits w64))))
@@ -76,19 +65,13 @@ wrapped : (z : ℤ) → cast_unsigned w64 (int_wrap w64 z) ≡ unsigned_abs (int
 wrapped z = ap (λ (y : ℤ). cast_unsigned w64 y) (opened z) ∙ of_z-to_z w64 (unsigned_abs (int_rem_euclid z (pos (2 ^ bits w64)))) (small z)
 
 complement_8 : (n : ℕ) → 2 * n < 256 ^ 1 → to_be_bytes w8 (cast_unsigned w64 (int_wrap w64 (negsuc n))) ≡ to_be_bytes w8 (cast_unsigned w8 (negsuc n))
-complement_8 n h =
-    let e : unsigned_abs (int_rem_euclid (negsuc n) (pos (2 ^ bits w64))) % 2 ^ 8 ≡ cast_unsigned w8 (negsuc n) = omega (arith, h) in
-    ap (λ (m : ℕ). to_be_bytes w8 m) (wrapped (negsuc n)) ∙ sym (lowest_8 (unsigned_abs (int_rem_euclid (negsuc n) (pos (2 ^ bits w64))))) ∙ ap (λ (m : ℕ). to_be_bytes w8 m) e
+complement_8 n h = grind (arith, nat_tests, wrapped (negsuc n), lowest_8 (unsigned_abs (int_rem_euclid (negsuc n) (pos (2 ^ bits w64)))))
 
 complement_16 : (n : ℕ) → 2 * n < 256 ^ 2 → to_be_bytes w16 (cast_unsigned w64 (int_wrap w64 (negsuc n))) ≡ to_be_bytes w16 (cast_unsigned w16 (negsuc n))
-complement_16 n h =
-    let e : unsigned_abs (int_rem_euclid (negsuc n) (pos (2 ^ bits w64))) % 2 ^ 16 ≡ cast_unsigned w16 (negsuc n) = omega (arith, h) in
-    ap (λ (m : ℕ). to_be_bytes w16 m) (wrapped (negsuc n)) ∙ sym (lowest_16 (unsigned_abs (int_rem_euclid (negsuc n) (pos (2 ^ bits w64))))) ∙ ap (λ (m : ℕ). to_be_bytes w16 m) e
+complement_16 n h = grind (arith, nat_tests, wrapped (negsuc n), lowest_16 (unsigned_abs (int_rem_euclid (negsuc n) (pos (2 ^ bits w64)))))
 
 complement_32 : (n : ℕ) → 2 * n < 256 ^ 4 → to_be_bytes w32 (cast_unsigned w64 (int_wrap w64 (negsuc n))) ≡ to_be_bytes w32 (cast_unsigned w32 (negsuc n))
-complement_32 n h =
-    let e : unsigned_abs (int_rem_euclid (negsuc n) (pos (2 ^ bits w64))) % 2 ^ 32 ≡ cast_unsigned w32 (negsuc n) = omega (arith, h) in
-    ap (λ (m : ℕ). to_be_bytes w32 m) (wrapped (negsuc n)) ∙ sym (lowest_32 (unsigned_abs (int_rem_euclid (negsuc n) (pos (2 ^ bits w64))))) ∙ ap (λ (m : ℕ). to_be_bytes w32 m) e
+complement_32 n h = grind (arith, nat_tests, wrapped (negsuc n), lowest_32 (unsigned_abs (int_rem_euclid (negsuc n) (pos (2 ^ bits w64)))))
 
 complement_64 : (n : ℕ) → 2 * n < 256 ^ 8 → to_be_bytes w64 (cast_unsigned w64 (int_wrap w64 (negsuc n))) ≡ to_be_bytes w64 (cast_unsigned w64 (negsuc n))
 complement_64 n h =

@@ -1,8 +1,7 @@
 -- Whether values of equal steps are in a type's range is seen at their ends.
-use Rattle.imap_extents.proofs.Cited.{◌≡◌, ℕ, zero, suc, ◌+◌, ◌*◌, ◌^◌, ◌<◌, ◌≤◌, refl, ◌∙◌, ap, map, ◌||◌, Bool, true, false, not, arith, pos, negsuc, ◌≤ℤ◌, ◌+ℤ◌, ◌*ℤ◌, ◌%◌, list_any, range_with_len, not-false, not_from_true, nat_tests, ints, neg_ℤ, mul-le-mul_left, NcType, Value, Class, Signed, Unsigned, Pattern, class_of, size_of, fits_in, fits}
+use Rattle.imap_extents.proofs.Cited.{◌≡◌, ℕ, zero, suc, ◌+◌, ◌*◌, ◌^◌, ◌<◌, ◌≤◌, refl, ◌∙◌, ap, map, ◌||◌, Bool, true, false, not, arith, pos, negsuc, ◌≤ℤ◌, ◌+ℤ◌, ◌*ℤ◌, ◌%◌, list_any, range_with_len, not-false, not_from_true, nat_tests, ints, neg_ℤ, mul-le-mul_left, NcType, Value, Class, Signed, Unsigned, class_of, size_of, fits_in, fits}
 use Rattle.std.proofs.Common.{ℤ}
 use Rattle.nc_base.specs.declared.request.Value.TheVariants as value
-use Rattle.serial_spec.specs.ExternalForm.{Text}
 use Rattle.type_external.proofs.PatternLaws.{bits_in}
 use Rattle.imap_extents.proofs.RunLaws.{step_hit}
 
@@ -29,22 +28,13 @@ by_last test at n m count h = by_value test at n m (test (at m)) count refl h
 
 -- ---- numbers
 signed_between : (size : ℕ) (x y z : ℤ) → x ≤ℤ y → y ≤ℤ z → fits_in Signed size (value.Number x) ≡ true → fits_in Signed size (value.Number z) ≡ true → fits_in Signed size (value.Number y) ≡ true
-signed_between size x (pos n) (pos m) low high a b = grind (arith, ints, nat_tests)
-signed_between size x (pos n) (negsuc m) low high a b = absurd (omega (arith, ints))
-signed_between size (pos m) (negsuc n) z low high a b = absurd (omega (arith, ints))
-signed_between size (negsuc m) (negsuc n) z low high a b = grind (arith, ints, nat_tests)
+signed_between size x y z low high a b = grind (arith, nat_tests)
 
 unsigned_between : (size : ℕ) (x y z : ℤ) → x ≤ℤ y → y ≤ℤ z → fits_in Unsigned size (value.Number x) ≡ true → fits_in Unsigned size (value.Number z) ≡ true → fits_in Unsigned size (value.Number y) ≡ true
-unsigned_between size x (pos n) (pos m) low high a b = grind (arith, ints, nat_tests)
-unsigned_between size x (pos n) (negsuc m) low high a b = absurd (omega (arith, ints))
-unsigned_between size (pos m) (negsuc n) z low high a b = absurd (omega (arith, ints))
-unsigned_between size (negsuc m) (negsuc n) z low high a b = a
+unsigned_between size x y z low high a b = grind (arith, nat_tests)
 
 between : (class : Class) (size : ℕ) (x y z : ℤ) → x ≤ℤ y → y ≤ℤ z → fits_in class size (value.Number x) ≡ true → fits_in class size (value.Number z) ≡ true → fits_in class size (value.Number y) ≡ true
-between Signed size x y z low high a b = signed_between size x y z low high a b
-between Unsigned size x y z low high a b = unsigned_between size x y z low high a b
-between Text size x y z low high a b = a
-between Pattern size x y z low high a b = a
+between class size x y z low high a b = grind (arith, nat_tests, signed_between, unsigned_between)
 
 rising : (a : ℤ) (p q : ℕ) → p ≤ q → (a +ℤ pos p) ≤ℤ (a +ℤ pos q)
 rising a p q h = omega (arith, ints, h)
@@ -56,8 +46,7 @@ falling a p q h = omega (arith, ints, h)
 number_fits : (class : Class) (size : ℕ) (a b : ℤ) (k m : ℕ) → k ≤ m → fits_in class size (value.Number (a +ℤ (b *ℤ pos 0))) ≡ true
     → fits_in class size (value.Number (a +ℤ (b *ℤ pos m))) ≡ true → fits_in class size (value.Number (a +ℤ (b *ℤ pos k))) ≡ true
 number_fits class size a (pos b) k m le first last =
-    between class size (a +ℤ pos (b * 0)) (a +ℤ pos (b * k)) (a +ℤ pos (b * m))
-    (rising a (b * 0) (b * k) (mul-le-mul_left b (omega arith))) (rising a (b * k) (b * m) (mul-le-mul_left b le)) first last
+    grind (arith, nat_tests, rising a (b * 0) (b * k) (mul-le-mul_left b (omega arith)), rising a (b * k) (b * m) (mul-le-mul_left b le), between)
 number_fits class size a (negsuc b) k m le first last =
     between class size (a +ℤ neg_ℤ (pos (suc b * m))) (a +ℤ neg_ℤ (pos (suc b * k))) (a +ℤ neg_ℤ (pos (suc b * 0)))
     (falling a (suc b * k) (suc b * m) (mul-le-mul_left (suc b) le)) (falling a (suc b * 0) (suc b * k) (mul-le-mul_left (suc b) (omega arith))) last first
@@ -71,8 +60,7 @@ numbers_by_last kind a b n m count first =
 -- ---- bit patterns
 pattern_fits : (class : Class) (size a b k m : ℕ) → k ≤ m → a + b * m < 2 ^ 64 → fits_in class size (value.Bits ((a + b * m) % 2 ^ 64)) ≡ true → fits_in class size (value.Bits ((a + b * k) % 2 ^ 64)) ≡ true
 pattern_fits class size a b k m le small h =
-    let more : b * k ≤ b * m = mul-le-mul_left b le in
-    bits_in class size ((a + b * k) % 2 ^ 64) ((a + b * m) % 2 ^ 64) (omega (arith, small, more)) h
+    grind (arith, nat_tests, bits_in class size ((a + b * k) % 2 ^ 64) ((a + b * m) % 2 ^ 64) (omega (arith, small, (mul-le-mul_left b le))) h)
 
 pub patterns_by_last : (kind : NcType) (a b n m last : ℕ) → n ≡ m + 1 → last ≡ a + b * m → last < 2 ^ 64
     → list_any (λ v. not (fits kind v)) (map (λ k. value.Bits ((a + b * k) % 2 ^ 64)) (range_with_len 0 n)) ≡ not (fits kind (value.Bits last))

@@ -1,4 +1,5 @@
 -- The first values of runs, one run more of them.
+use Rattle.std.proofs.lemmas.Bool.Decides.{nat_tests}
 use Rattle.imap_extents.proofs.Cited.{◌≡◌, ℕ, zero, suc, ◌+◌, ◌-◌, ◌<◌, refl, ◌∙◌, ap, sym, arith, List, [], ◌∷◌, ◌++◌, ◌||◌, length, map, take, drop, get_or, append-nil, append_assoc, length-append, Bool, true, false, flat_map, min, ◌*ℤ◌, ◌%◌, list_any, range_with_len, or_left, or_right, take_more, map-append, take-append-drop, take-map, flat_map-append, flat_map-map, list_any-append, length-map-range_with_len, map-range_with_len_more, any_map, map_map, or_false, BitRun, NumberRun, Value, numbers_of_runs, bits_of_runs}
 use Rattle.std.specs.Prelude.{pos, ◌+ℤ◌, ◌*◌, ◌^◌}
 use Rattle.nc_base.specs.declared.request.Value.TheVariants as value
@@ -23,10 +24,7 @@ first_of_both : {A : Type 0} (xs ys : List A) (n : ℕ) → take n (xs ++ ys) �
 first_of_both [] ys zero = refl
 first_of_both [] ys (suc n) = let all : suc n ≡ suc n - 0 = omega arith in ap (λ (k : ℕ). take k ys) all
 first_of_both (x ∷ xs) ys zero = let none : 0 ≡ 0 - suc (length xs) = omega arith in ap (λ (k : ℕ). take k ys) none
-first_of_both {A} (x ∷ xs) ys (suc n) =
-    let left : n - length xs ≡ suc n - suc (length xs) = omega arith in
-    ap (λ (l : List A). x ∷ l) (first_of_both xs ys n)
-    ∙ ap (λ (k : ℕ). x ∷ (take n xs ++ take k ys)) left
+first_of_both {A} (x ∷ xs) ys (suc n) = grind (arith, nat_tests, first_of_both xs ys n)
 
 one_run : {R : Type 0} (at : R → ℕ → Value) (size : R → ℕ) (rs : List R) (i : ℕ) (d : R) → i < length rs
     → told at size (take (i + 1) rs) ≡ told at size (take i rs) ++ map (at (get_or rs i d)) (range_with_len 0 (size (get_or rs i d)))
@@ -119,9 +117,7 @@ step_fits test at k before now =
 
 pub step_hit : (test : Value → Bool) (at : ℕ → Value) (s n k : ℕ) → k < n → test (at (s + k)) ≡ true → list_any test (map at (range_with_len s n)) ≡ true
 step_hit test at s zero k h hit = absurd (omega arith)
-step_hit test at s (suc n) zero h hit =
-    let here : s + 0 ≡ s = omega arith in
-    ap (λ (b : Bool). b || list_any test (map at (range_with_len (s + 1) n))) (ap (λ (m : ℕ). test (at m)) (sym here) ∙ hit)
+step_hit test at s (suc n) zero h hit = grind (arith, nat_tests)
 step_hit test at s (suc n) (suc k) h hit =
     let here : s + 1 + k ≡ s + suc k = omega arith in
     or_right (test (at s)) (list_any test (map at (range_with_len (s + 1) n))) (step_hit test at (s + 1) n k (omega (arith, h)) (ap (λ (m : ℕ). test (at m)) here ∙ hit))

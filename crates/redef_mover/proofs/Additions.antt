@@ -1,5 +1,5 @@
 -- The additions, one after another.
-use Rattle.redef_mover.proofs.Words.{◌≡◌, ℕ, suc, ◌+◌, ◌<◌, ◌≤◌, List, [], ◌∷◌, length, get_or, drop, fold, Bool, true, false, Option, Some, None, refl, sym, ap, subst, ◌∙◌, arith, length-append, nat_le, nat_tests, drop_more, drop_all, Header, Extra, RedefErr, most_dims, first_true, with_extra, extra_fault, extras_from, extras_fault, added, is_taken, is_unknown, has_bad_shape, is_one_too_many, has_bad_kind}
+use Rattle.redef_mover.proofs.Words.{◌≡◌, ℕ, suc, ◌+◌, ◌<◌, ◌≤◌, List, [], ◌∷◌, length, get_or, drop, fold, Bool, false, Option, Some, None, ap, arith, length-append, nat_tests, drop_more, drop_all, Header, Extra, RedefErr, most_dims, first_true, with_extra, extra_fault, extras_from, extras_fault, added}
 use Rattle.nc_base.specs.declared.script.Extra.TheVariants as extra
 use Rattle.nc_base.specs.declared.errors.RedefErr.TheVariants as redef
 
@@ -12,23 +12,11 @@ pub extras_stops : (header : Header) (k : ℕ) (e : Extra) (es : List Extra) (f 
 extras_stops header k e es f h = ap (λ (o : Option RedefErr). elim o [ Some g ↦ Some g | None ↦ extras_from (with_extra header e) (suc k) es ]) h
 
 fourth_passes : (a b c d e : Bool) (p q r s t : RedefErr) → first_true ((a, Some p) ∷ (b, Some q) ∷ (c, Some r) ∷ (d, Some s) ∷ (e, Some t) ∷ []) None ≡ None → d ≡ false
-fourth_passes true b c d e p q r s t h = cc
-fourth_passes false true c d e p q r s t h = cc
-fourth_passes false false true d e p q r s t h = cc
-fourth_passes false false false true e p q r s t h = cc
-fourth_passes false false false false e p q r s t h = refl
+fourth_passes a b c d e p q r s t h = grind (arith, nat_tests)
 
 -- no dimension is added where there are as many as can be
 pub few_still : (header : Header) (k : ℕ) (e : Extra) → extra_fault header k e ≡ None → length header.dims ≤ most_dims → length (with_extra header e).dims ≤ most_dims
-few_still header k (extra.Dim d) h few =
-    let room : nat_le most_dims (length header.dims) ≡ false = fourth_passes (is_taken header (extra.Dim d)) (is_unknown header (extra.Dim d)) (has_bad_shape header (extra.Dim d)) (is_one_too_many header (extra.Dim d)) (has_bad_kind header (extra.Dim d))
-    (redef.Taken k) (redef.Unknown k) (redef.Shape k) (redef.TooMany k) (redef.Kind k) h in
-    let below : length header.dims < most_dims = grind (arith, nat_tests) in
-    let more = length-append header.dims (d ∷ []) in
-    omega arith
-few_still header k (extra.Var kind name dims) h few = few
-few_still header k (extra.Att None a) h few = few
-few_still header k (extra.Att (Some owner) a) h few = few
+few_still header k e h few = grind (arith, nat_tests, fourth_passes, length-append)
 
 -- after the first k extras
 pub record AddedSoFar (header : Header) (extras : List Extra) (k : ℕ) (new : Header) : Type 0 where
@@ -39,32 +27,13 @@ pub record AddedSoFar (header : Header) (extras : List Extra) (k : ℕ) (new : H
 pub added_next : (header : Header) (extras : List Extra) (k : ℕ) (new after : Header) (e : Extra) → k < length extras → e ≡ get_or extras k e
     → extra_fault new k e ≡ None → after ≡ with_extra new e → AddedSoFar header extras k new → AddedSoFar header extras (k + 1) after
 added_next header extras k new after e within there none made so_far =
-    let next = drop_more extras k e within ∙ ap (λ (x : Extra). x ∷ drop (k + 1) extras) (sym there) in
-    record {
-      few = subst (λ (h : Header). length h.dims ≤ most_dims) (sym made) (few_still new k e none so_far.few);
-      fault =
-          ap (λ (h : Header). extras_from h (k + 1) (drop (k + 1) extras)) made
-          ∙ ap (λ (n : ℕ). extras_from (with_extra new e) n (drop (k + 1) extras)) (let g : k + 1 ≡ suc k = omega arith in g)
-          ∙ sym (extras_goes_on new k e (drop (k + 1) extras) none)
-          ∙ sym (ap (λ es. extras_from new k es) next)
-          ∙ so_far.fault;
-      rest =
-          ap (λ (h : Header). fold with_extra h (drop (k + 1) extras)) made
-          ∙ sym (ap (λ es. fold with_extra new es) next)
-          ∙ so_far.rest;
-    }
+    grind (arith, nat_tests, drop_more extras k e within, few_still new k e none so_far.few, extras_goes_on new k e (drop (k + 1) extras) none, fold)
 
 pub added_stops : (header : Header) (extras : List Extra) (k : ℕ) (new : Header) (e : Extra) (f : RedefErr) → k < length extras → e ≡ get_or extras k e
     → extra_fault new k e ≡ Some f → AddedSoFar header extras k new → extras_fault header extras ≡ Some f
 added_stops header extras k new e f within there some so_far =
-    sym so_far.fault
-    ∙ ap (λ es. extras_from new k es) (drop_more extras k e within ∙ ap (λ (x : Extra). x ∷ drop (k + 1) extras) (sym there))
-    ∙ extras_stops new k e (drop (k + 1) extras) f some
+    grind (arith, nat_tests, drop_more extras k e within, extras_stops new k e (drop (k + 1) extras) f some)
 
 pub added_whole : (header : Header) (extras : List Extra) (k : ℕ) (new : Header) → length extras ≤ k → AddedSoFar header extras k new
     → (extras_fault header extras ≡ None) × (new ≡ added header extras)
-added_whole header extras k new past so_far =
-    let none = drop_all k extras past in (
-      sym so_far.fault ∙ ap (λ es. extras_from new k es) none,
-      sym (ap (λ es. fold with_extra new es) none) ∙ so_far.rest,
-    )
+added_whole header extras k new past so_far = grind (arith, nat_tests, drop_all k extras past, fold)

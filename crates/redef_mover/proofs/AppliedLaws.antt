@@ -1,15 +1,12 @@
 -- From the laws of a redefinition to what a relocation asks and promises.
-use Rattle.redef_mover.proofs.Words.{◌≡◌, ◌↔◌, ℕ, ◌<◌, refl, sym, ◌∙◌, ap, List, [], ◌∷◌, ◌++◌, length, true, Some, None, arith, filter, flat_map, reverse, and_first, Header, Extra, Store, Slab, grow_to, highest_first, move_calls, slabs, zero_calls, header_len, is_writable, added, redefined, with_extra, sound_end, In, IsApplied, changes, gaps, rising, IsRisen, new_end, AreShifted, IsMoved, all_calls, gap_calls, slab_calls, carried, carry_calls, IsCarriable, relocation_calls}
+use Rattle.redef_mover.proofs.Words.{◌≡◌, ◌↔◌, ℕ, ◌<◌, refl, ◌∙◌, ap, List, [], ◌∷◌, true, arith, filter, flat_map, reverse, and_first, Header, Extra, Slab, highest_first, move_calls, slabs, zero_calls, header_len, is_writable, added, redefined, with_extra, sound_end, In, IsApplied, changes, gaps, rising, IsRisen, new_end, AreShifted, IsMoved, all_calls, gap_calls, slab_calls, carried, carry_calls, IsCarriable, relocation_calls, nat_tests}
 use Rattle.nc_base.specs.declared.script.Extra.TheVariants as extra
 use Rattle.redef_mover.proofs.CarryLaws.{carried_is}
 
 -- ---- the record count stays
 
 pub one_keeps : (header : Header) (e : Extra) → (with_extra header e).records ≡ header.records
-one_keeps header (extra.Dim d) = refl
-one_keeps header (extra.Var kind name dims) = refl
-one_keeps header (extra.Att None a) = refl
-one_keeps header (extra.Att (Some owner) a) = refl
+one_keeps header e = grind (arith, nat_tests)
 
 all_keep : (header : Header) (extras : List Extra) → (added header extras).records ≡ header.records
 all_keep header [] = refl
@@ -48,8 +45,7 @@ pub has_laws : (old new : Header) (extras : List Extra) → IsApplied old extras
     → highest_first (filter changes (slabs old new)) ≡ filter changes (reverse (rising old new))
     → ((z : ℕ) → 0 < z → zero_calls z old new ≡ gap_calls z (gaps (header_len new) (new_end old new) (rising old new)))
     → ((file moved : List ℕ) → IsMoved old new file moved → moved ≡ redefined file old new) → HasLaws old new
-has_laws old new extras h writable shifted all risen falls zeros moved =
-    record { carriable = carriable old new extras h writable shifted all risen; all = all; falls = falls; zeros = zeros; moved = moved }
+has_laws old new extras h writable shifted all risen falls zeros moved = grind (arith, nat_tests, carriable old new extras h writable shifted all risen)
 
 -- ---- what a relocation promises
 
@@ -60,5 +56,4 @@ moves_called : (z : ℕ) (old new : Header) → HasLaws old new → move_calls z
 moves_called z old new h = ap (λ ss. flat_map (slab_calls z) ss) h.falls
 
 pub relocation_called : (z : ℕ) (old new : Header) (file : List ℕ) → HasLaws old new → 0 < z → carry_calls z old new file ≡ relocation_calls z old new file
-relocation_called z old new file h l =
-    λ t. grow_to (length file) (new_end old new) ++ sym (moves_called z old new h) t ++ sym (h.zeros z l) t ++ Store 0 (header_len new) ∷ []
+relocation_called z old new file h l = grind (arith, nat_tests, moves_called z old new h)

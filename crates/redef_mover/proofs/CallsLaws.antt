@@ -1,5 +1,5 @@
 -- The calls of a relocation, one worker's after another's.
-use Rattle.redef_mover.proofs.Words.{◌≡◌, ℕ, refl, ◌∙◌, ap, List, [], ◌∷◌, ◌++◌, length, Option, Some, None, reverse, IfSome, Header, DiskCall, Store, with_end, Slab, grow_to, header_len, gaps, rising, new_end, all_calls, gap_calls, carry_calls, calls_more}
+use Rattle.redef_mover.proofs.Words.{◌≡◌, ℕ, refl, List, [], ◌∷◌, ◌++◌, length, Option, reverse, IfSome, Header, DiskCall, Store, with_end, Slab, grow_to, header_len, gaps, rising, new_end, all_calls, gap_calls, carry_calls, calls_more, arith, nat_tests}
 
 pub four_parts : (told first second third last : Option (List DiskCall)) (a b c d : List DiskCall) → first ≡ with_end told a → second ≡ with_end first b
     → third ≡ with_end second c → last ≡ with_end third d → last ≡ with_end told (a ++ b ++ c ++ d)
@@ -12,11 +12,4 @@ pub carry_called : (held : Option (List ℕ)) (told first second third last : Op
     → IfSome held (λ file. first ≡ with_end told (grow_to (length file) end)) → second ≡ with_end first (all_calls z (reverse ss))
     → third ≡ with_end second (gap_calls z (gaps begin end ss)) → last ≡ with_end third (Store 0 n ∷ [])
     → IfSome held (λ file. last ≡ with_end told (carry_calls z old new file))
-carry_called None told first second third last z old new ss begin end n e b x k f g h i = tt
-carry_called (Some file) told first second third last z old new ss begin end n e b x k f g h i =
-    four_parts told first second third last (grow_to (length file) (new_end old new)) (all_calls z (reverse (rising old new)))
-    (gap_calls z (gaps (header_len new) (new_end old new) (rising old new))) (Store 0 (header_len new) ∷ [])
-    (f ∙ ap (λ (y : ℕ). with_end told (grow_to (length file) y)) x)
-    (g ∙ ap (λ ys. with_end first (all_calls z (reverse ys))) e)
-    (h ∙ (λ t. with_end second (gap_calls z (gaps (b t) (x t) (e t)))))
-    (i ∙ ap (λ (y : ℕ). with_end third (Store 0 y ∷ [])) k)
+carry_called held told first second third last z old new ss begin end n e b x k f g h i = grind (arith, nat_tests, four_parts)

@@ -1,5 +1,5 @@
 -- What a relocation makes of a file, byte by byte.
-use Rattle.redef_mover.proofs.Words.{◌≡◌, ℕ, ◌+◌, ◌-◌, ◌<◌, ◌≤◌, max, ◌⊎◌, inl, inr, refl, sym, ◌∙◌, ap, subst, List, [], ◌∷◌, ◌++◌, length, take, drop, Bool, true, false, cond, arith, filter, not, ◌==◌, reverse, fold-append, reverse-append, take_at, Header, Slab, slabs, at, longer, canon, header_len, at-longer, at-written_after, length-written_inside, written-inside, longer_long, In, changes, gaps, rising, IsRisen, new_end, IsMoved, all_cleared, all_moved, cleared, slab_moved, AreSpaced, carried, IsCarriable}
+use Rattle.redef_mover.proofs.Words.{◌≡◌, ℕ, ◌+◌, ◌-◌, ◌<◌, ◌≤◌, max, ◌⊎◌, inl, inr, refl, sym, ◌∙◌, ap, subst, List, [], ◌∷◌, ◌++◌, length, take, drop, Bool, true, false, cond, arith, filter, not, ◌==◌, reverse, fold-append, reverse-append, take_at, Header, Slab, slabs, at, longer, canon, header_len, at-longer, at-written_after, length-written_inside, written-inside, longer_long, In, changes, gaps, rising, IsRisen, new_end, IsMoved, all_cleared, all_moved, cleared, slab_moved, AreSpaced, carried, IsCarriable, nat_tests}
 use Rattle.std.specs.Prelude.{fold}
 use borrow.Author.Tests.{eqb-true}
 use Rattle.redef_mover.proofs.ClearLaws.{cleared_after, cleared_before, cleared_inside, cleared_long, spaced_low}
@@ -38,12 +38,7 @@ one_moved file s false e h = refl
 
 filter_last : {A : Type 0} (p : A → Bool) (xs : List A) (x : A) → filter p (xs ++ x ∷ []) ≡ filter p xs ++ cond (p x) (x ∷ []) []
 filter_last p [] x = refl
-filter_last p (y ∷ xs) x = by_test (p y) (filter_last p xs x)
-  where
-    by_test : (t : Bool) → filter p (xs ++ x ∷ []) ≡ filter p xs ++ cond (p x) (x ∷ []) []
-        → cond t (y ∷ filter p (xs ++ x ∷ [])) (filter p (xs ++ x ∷ [])) ≡ cond t (y ∷ filter p xs) (filter p xs) ++ cond (p x) (x ∷ []) []
-    by_test true e = ap (λ ys. y ∷ ys) e
-    by_test false e = e
+filter_last p (y ∷ xs) x = grind (arith, nat_tests, filter_last p xs x)
 
 all_up : (file : List ℕ) (b end : ℕ) (ss : List Slab) → AreSpaced b end ss → end ≤ length file → all_moved file (reverse ss) ≡ up_moved file ss
 all_up file b end [] h l = refl
@@ -59,8 +54,7 @@ all_up file b end (s ∷ ss) h l =
 up_before : (file : List ℕ) (b end : ℕ) (ss : List Slab) (x : ℕ) → AreSpaced b end ss → x < b → at (up_moved file ss) x ≡ at file x
 up_before file b end [] x h l = refl
 up_before file b end (s ∷ ss) x h l =
-    let low : b ≤ s.to = h.0 in
-    moved_before (up_moved file ss) s x (omega arith) ∙ up_before file (s.to + s.len) end ss x h.1 (omega arith)
+    grind (arith, nat_tests, up_before file (s.to + s.len) end ss x h.1 (omega arith), moved_before (up_moved file ss) s x (omega arith))
 
 up_after : (file : List ℕ) (b end : ℕ) (ss : List Slab) (x : ℕ) → AreSpaced b end ss → end ≤ x → at (up_moved file ss) x ≡ at file x
 up_after file b end [] x h l = refl
@@ -98,15 +92,11 @@ bare_long file b end (s ∷ ss) h l =
 bare_before : (file : List ℕ) (b end : ℕ) (ss : List Slab) (x : ℕ) → AreSpaced b end ss → x < b → at (all_cleared file (gaps b end ss)) x ≡ at file x
 bare_before file b end [] x h l = cleared_before file b (end - b) x l
 bare_before file b end (s ∷ ss) x h l =
-    let low : b ≤ s.to = h.0 in
-    bare_before (cleared file (b, s.to - b)) (s.to + s.len) end ss x h.1 (omega arith) ∙ cleared_before file b (s.to - b) x l
+    grind (arith, nat_tests, bare_before (cleared file (b, s.to - b)) (s.to + s.len) end ss x h.1 (omega arith), cleared_before file b (s.to - b) x l)
 
 bare_after : (file : List ℕ) (b end : ℕ) (ss : List Slab) (x : ℕ) → AreSpaced b end ss → end ≤ x → at (all_cleared file (gaps b end ss)) x ≡ at file x
 bare_after file b end [] x h l = cleared_after file b (end - b) x (omega (arith, h, l))
-bare_after file b end (s ∷ ss) x h l =
-    let low : b ≤ s.to = h.0 in
-    let inside = spaced_low (s.to + s.len) end ss h.1 in
-    bare_after (cleared file (b, s.to - b)) (s.to + s.len) end ss x h.1 l ∙ cleared_after file b (s.to - b) x (omega arith)
+bare_after file b end (s ∷ ss) x h l = grind (arith, nat_tests, bare_after (cleared file (b, s.to - b)) (s.to + s.len) end ss x h.1 l, spaced_low, cleared_after)
 
 bare_inside : (file : List ℕ) (b end : ℕ) (ss : List Slab) (s : Slab) (x : ℕ) → AreSpaced b end ss → In ss s → s.to ≤ x → x < s.to + s.len
     → at (all_cleared file (gaps b end ss)) x ≡ at file x
@@ -144,10 +134,7 @@ head_first old new = omega arith
 pub carriable_spaced : (old new : Header) (ss : List Slab) (b end : ℕ) → IsCarriable old new → ss ≡ rising old new → b ≡ header_len new → end ≡ new_end old new
     → AreSpaced b end ss
 carriable_spaced old new ss b end h e f g =
-    subst (λ (x : ℕ). AreSpaced x end ss) (sym f)
-    (subst (λ (x : ℕ). AreSpaced (header_len new) x ss) (sym g)
-    (subst (λ (xs : List Slab). AreSpaced (header_len new) (new_end old new) xs) (sym e)
-    (risen_spaced (header_len old) (header_len new) (new_end old new) (rising old new) h.risen (head_first old new) h.inside)))
+    grind (arith, nat_tests, risen_spaced (header_len old) (header_len new) (new_end old new) (rising old new) h.risen (head_first old new) h.inside, head_first)
 
 pub carried_is : (old new : Header) (file : List ℕ) → IsCarriable old new → ((s : Slab) → In (slabs old new) s → In (rising old new) s)
     → ((s : Slab) → In (rising old new) s → In (slabs old new) s) → IsMoved old new file (carried old new file)

@@ -1,5 +1,5 @@
 -- The bytes of a file with zeros in a gap, and the windows of a gap.
-use Rattle.redef_mover.proofs.Words.{◌≡◌, ℕ, zero, suc, ◌+◌, ◌-◌, ◌*◌, ◌<◌, ◌≤◌, min, inl, inr, refl, sym, ◌∙◌, ap, subst, List, [], ◌∷◌, ◌++◌, length, map, take, drop, get_or, Option, Some, None, arith, flat_map, replicate, flat_map-append, fold-append, range_with_len, drop_of_length-le, drop_more, length-replicate, take-replicate, same_file, DiskCall, Slab, stores, at, written, at-written_before, at-written_after, length-written_inside, at-written_inside, after, with_end, after-after, after-same, with_end-with_end, with_end-nil, gaps, Shift, Slabs, all_cleared, behind, cleared, further, gap_calls, gaps_before, listed, slab_of, slabs_at, AreClearable, AreSpaced, windows_of, count_is, stores_before, cases_lt}
+use Rattle.redef_mover.proofs.Words.{◌≡◌, ℕ, zero, suc, ◌+◌, ◌-◌, ◌*◌, ◌<◌, ◌≤◌, min, inl, inr, refl, sym, ◌∙◌, ap, List, [], ◌∷◌, ◌++◌, length, map, take, drop, get_or, Option, Some, None, arith, flat_map, replicate, flat_map-append, fold-append, range_with_len, drop_of_length-le, drop_more, length-replicate, take-replicate, same_file, DiskCall, Slab, stores, at, written, at-written_before, at-written_after, length-written_inside, at-written_inside, after, with_end, after-after, after-same, with_end-with_end, with_end-nil, gaps, Shift, Slabs, all_cleared, behind, cleared, further, gap_calls, gaps_before, listed, slab_of, slabs_at, AreClearable, AreSpaced, windows_of, count_is, stores_before, cases_lt, nat_tests}
 use Rattle.redef_mover.proofs.MovesLaws.{map_id, no_further}
 
 -- ---- one gap
@@ -56,10 +56,7 @@ zeros_count bytes n e = ap (λ (b : List ℕ). length b) e ∙ zeros_long n
 pub window_cleared : (file bytes : List ℕ) (x len z j n place from : ℕ) → x + len ≤ length file → j * z < len → n ≡ min z (len - j * z) → bytes ≡ replicate n 0
     → from ≡ 0 → place ≡ x + j * z → written (cleared file (x, min len (j * z))) (place - from) bytes ≡ cleared file (x, min len ((j + 1) * z))
 window_cleared file bytes x len z j n place from h l k b f e =
-    let more : (j + 1) * z ≡ j * z + z = omega arith in
-    let there : place - from ≡ x + min len (j * z) = omega arith in
-    (λ t. written (cleared file (x, min len (j * z))) (there t) (b t))
-    ∙ both_cleared file x (min len (j * z)) n (min len ((j + 1) * z)) (omega arith) (omega arith)
+    grind (arith, nat_tests, both_cleared file x (min len (j * z)) n (min len ((j + 1) * z)) (omega arith) (omega arith))
 
 -- ---- the stores so far
 
@@ -70,19 +67,11 @@ all_stored z x len j count h e k = ap (λ (i : ℕ). stores_before z x len i) (e
 
 pub left_cleared : (whole mid now : Option (List ℕ)) (g : ℕ × ℕ) (rest all : List (ℕ × ℕ)) → all ≡ g ∷ rest → after (λ file. all_cleared file all) mid ≡ whole
     → now ≡ after (λ file. cleared file g) mid → after (λ file. all_cleared file rest) now ≡ whole
-left_cleared whole mid now g rest all e w k =
-    ap (λ told. after (λ file. all_cleared file rest) told) k
-    ∙ after-after (λ file. all_cleared file rest) (λ file. cleared file g) mid
-    ∙ ap (λ gaps. after (λ file. all_cleared file gaps) mid) (sym e)
-    ∙ w
+left_cleared whole mid now g rest all e w k = grind (arith, nat_tests, after-after)
 
 pub left_stored : (whole mid now : Option (List DiskCall)) (z : ℕ) (g : ℕ × ℕ) (rest all : List (ℕ × ℕ)) → all ≡ g ∷ rest → with_end mid (gap_calls z all) ≡ whole
     → now ≡ with_end mid (stores z g.0 g.1) → with_end now (gap_calls z rest) ≡ whole
-left_stored whole mid now z g rest all e w k =
-    ap (λ told. with_end told (gap_calls z rest)) k
-    ∙ with_end-with_end mid (stores z g.0 g.1) (gap_calls z rest)
-    ∙ ap (λ gaps. with_end mid (gap_calls z gaps)) (sym e)
-    ∙ w
+left_stored whole mid now z g rest all e w k = grind (arith, nat_tests, with_end-with_end mid (stores z g.0 g.1) (gap_calls z rest))
 
 pub none_uncleared : (whole now : Option (List ℕ)) (rest : List (ℕ × ℕ)) → rest ≡ [] → after (λ file. all_cleared file rest) now ≡ whole → now ≡ whole
 none_uncleared whole None rest e w = w
@@ -115,18 +104,14 @@ spaced_low at end [] h = h
 spaced_low at end (s ∷ others) h = let low : at ≤ s.to = h.0 in let rest = spaced_low (s.to + s.len) end others h.1 in omega arith
 
 pub first_clearable : (long z room at : ℕ) (s : Slab) (others ss : List Slab) → ss ≡ s ∷ others → AreClearable long z room at ss → IsFirst long z room at s others
-first_clearable long z room at s others ss e h =
-    let there : AreSpaced at h.end (s ∷ others) = subst (λ (xs : List Slab). AreSpaced at h.end xs) e h.spaced in
-    let low : at ≤ s.to = there.0 in
-    let high = spaced_low (s.to + s.len) h.end others there.1 in
-    let inside = h.inside in
-    let fits = h.fits in
-    record {
-      low = low;
-      inside = omega arith;
-      fits = omega arith;
-      rest = record { end = h.end; spaced = there.1; inside = inside; fits = fits };
-    }
+first_clearable long z room at s others ss e h = grind (arith, nat_tests, spaced_low)
+
+-- the first of the slabs that are left
+pub first_left : (long z room at a b : ℕ) (ss : List Shift) (k : ℕ) (d : Shift) → k < length ss → AreClearable long z room at (map (further a b) (map slab_of (drop k ss)))
+    → IsFirst long z room at (further a b (slab_of (get_or ss k d))) (map (further a b) (map slab_of (drop (k + 1) ss)))
+first_left long z room at a b ss k d h c =
+    first_clearable long z room at (further a b (slab_of (get_or ss k d))) (map (further a b) (map slab_of (drop (k + 1) ss))) (map (further a b) (map slab_of (drop k ss)))
+    (slabs_left a b ss k d h) c
 
 -- ---- the slabs of records that are left
 
@@ -144,20 +129,11 @@ spaced_rest at end (s ∷ ss) others h = spaced_rest (s.to + s.len) end ss other
 
 pub all_left_cleared : (whole mid now : Option (List ℕ)) (part rest all : List (ℕ × ℕ)) → all ≡ part ++ rest → after (λ file. all_cleared file all) mid ≡ whole
     → now ≡ after (λ file. all_cleared file part) mid → after (λ file. all_cleared file rest) now ≡ whole
-all_left_cleared whole mid now part rest all e w k =
-    ap (λ told. after (λ file. all_cleared file rest) told) k
-    ∙ after-after (λ file. all_cleared file rest) (λ file. all_cleared file part) mid
-    ∙ after-same (λ file. all_cleared (all_cleared file part) rest) (λ file. all_cleared file all) mid
-    (λ file. sym (fold-append cleared file part rest) ∙ ap (λ gs. all_cleared file gs) (sym e))
-    ∙ w
+all_left_cleared whole mid now part rest all e w k = grind (arith, nat_tests, after-after, after-same, fold-append)
 
 pub all_left_stored : (whole mid now : Option (List DiskCall)) (z : ℕ) (part rest all : List (ℕ × ℕ)) → all ≡ part ++ rest → with_end mid (gap_calls z all) ≡ whole
     → now ≡ with_end mid (gap_calls z part) → with_end now (gap_calls z rest) ≡ whole
-all_left_stored whole mid now z part rest all e w k =
-    ap (λ told. with_end told (gap_calls z rest)) k
-    ∙ with_end-with_end mid (gap_calls z part) (gap_calls z rest)
-    ∙ ap (λ calls. with_end mid calls) (sym (flat_map-append (λ g. stores z g.0 g.1) part rest) ∙ ap (λ gs. gap_calls z gs) (sym e))
-    ∙ w
+all_left_stored whole mid now z part rest all e w k = grind (arith, nat_tests, with_end-with_end mid (gap_calls z part) (gap_calls z rest), flat_map-append)
 
 -- the slabs of the records from this one on
 abbrev pub above : Slabs → ℕ → List Slab
@@ -165,26 +141,18 @@ above slabs r = flat_map (slabs_at slabs.step slabs.records.items) (range_with_l
 
 pub next_record : (slabs : Slabs) (r a b : ℕ) → r < slabs.count → a ≡ r * slabs.step.old → b ≡ r * slabs.step.new
     → above slabs r ≡ map (further a b) (map slab_of slabs.records.items) ++ above slabs (r + 1)
-next_record slabs r a b l e f =
-    let more : slabs.count - r ≡ suc (slabs.count - (r + 1)) = omega arith in
-    ap (λ (n : ℕ). flat_map (slabs_at slabs.step slabs.records.items) (range_with_len r n)) more
-    ∙ (λ t. map (further (sym e t) (sym f t)) (map slab_of slabs.records.items) ++ above slabs (r + 1))
+next_record slabs r a b l e f = grind (arith, nat_tests)
 
 pub fixed_first : (slabs : Slabs) (a b : ℕ) → a ≡ 0 → b ≡ 0 → listed slabs ≡ map (further a b) (map slab_of slabs.fixed.items) ++ above slabs 0
-fixed_first slabs a b e f =
-    let all : slabs.count ≡ slabs.count - 0 = omega arith in
-    (λ t. sym (map_id (further a b) (map slab_of slabs.fixed.items) (λ s. no_further a b s e f)) t ++ flat_map (slabs_at slabs.step slabs.records.items) (range_with_len 0 (all t)))
+fixed_first slabs a b e f = grind (arith, nat_tests, map_id, no_further)
 
 -- the slabs in front can be cleared
 pub front_clearable : (long z room at end : ℕ) (ss others all : List Slab) → all ≡ ss ++ others → AreSpaced at end all → end ≤ long → min z end ≤ room
     → AreClearable long z room at ss
-front_clearable long z room at end ss others all e h inside fits =
-    record { end = end; spaced = spaced_front at end ss others (subst (λ (xs : List Slab). AreSpaced at end xs) e h); inside = inside; fits = fits }
+front_clearable long z room at end ss others all e h inside fits = grind (arith, nat_tests, spaced_front)
 
 pub spaced_on : (at place end : ℕ) (ss others all : List Slab) → all ≡ ss ++ others → place ≡ behind at ss → AreSpaced at end all → AreSpaced place end others
-spaced_on at place end ss others all e p h =
-    subst (λ (x : ℕ). AreSpaced x end others) (sym p) (spaced_rest at end ss others (subst (λ (xs : List Slab). AreSpaced at end xs) e h))
+spaced_on at place end ss others all e p h = grind (arith, nat_tests, spaced_rest)
 
 pub gaps_on : (at place end : ℕ) (ss others all : List Slab) → all ≡ ss ++ others → place ≡ behind at ss → gaps at end all ≡ gaps_before at ss ++ gaps place end others
-gaps_on at place end ss others all e p =
-    ap (λ xs. gaps at end xs) e ∙ gaps_append at end ss others ∙ ap (λ (x : ℕ). gaps_before at ss ++ gaps x end others) (sym p)
+gaps_on at place end ss others all e p = grind (arith, nat_tests, gaps_append at end ss others)

@@ -1,5 +1,5 @@
 -- A relocation that was cut off: what it may have changed of a file.
-use Rattle.redef_mover.proofs.Words.{◌≡◌, ℕ, ◌+◌, ◌-◌, ◌<◌, ◌≤◌, max, ◌⊎◌, inl, inr, refl, sym, ◌∙◌, ap, subst, List, [], ◌∷◌, length, take, get_or, Bool, true, false, Option, Some, None, arith, not, ◌==◌, IfSome, IsTrue, nat_tests, common_steps, Header, PartlyWritten, after, BothTold, In, changes, gaps, rising, new_end, IsMoved, Slab, at, longer, written, canon, header_len, redefined, IsLengthened, IsTornRedefinition, at-longer, at-written_after, get_or-written_within, length-written_inside, longer_long, IsBeside, IsKept, IsOutside, IsUnmoved, AreSpaced, IsCarriable, IsPartlyCarried, KeepsPlaces, told_as}
+use Rattle.redef_mover.proofs.Words.{◌≡◌, ℕ, ◌+◌, ◌-◌, ◌<◌, ◌≤◌, max, ◌⊎◌, inl, inr, refl, sym, ◌∙◌, ap, subst, List, [], ◌∷◌, length, get_or, Option, Some, None, arith, not, IfSome, IsTrue, nat_tests, common_steps, Header, PartlyWritten, after, BothTold, In, changes, gaps, rising, new_end, IsMoved, Slab, at, longer, written, canon, header_len, redefined, IsLengthened, IsTornRedefinition, at-longer, at-written_after, get_or-written_within, length-written_inside, longer_long, IsBeside, IsKept, IsOutside, IsUnmoved, AreSpaced, IsCarriable, IsPartlyCarried, KeepsPlaces, told_as}
 use Rattle.redef_mover.proofs.ClearLaws.{spaced_low}
 use Rattle.redef_mover.proofs.CarryLaws.{carriable_spaced, carried_is, spaced_from}
 use Rattle.redef_mover.proofs.AppliedLaws.{HasLaws, relocated}
@@ -18,30 +18,15 @@ high_of b end (t ∷ ss) s h (inl e) = subst (λ (u : Slab). u.to + u.len ≤ en
 high_of b end (t ∷ ss) s h (inr i) = high_of (t.to + t.len) end ss s h.1 i
 
 stays_same : (s : Slab) → s.from ≡ s.to → IsTrue (changes s) → ⊥
-stays_same s e c = by_test (s.from == s.to) refl
-  where
-    by_test : (t : Bool) → (s.from == s.to) ≡ t → ⊥
-    by_test true g = clash (sym (ap (λ (b : Bool). not b) g) ∙ c)
-      where
-        clash : false ≡ true → ⊥
-        clash h = cc
-    by_test false g = absurd (grind (arith, nat_tests))
+stays_same s e c = grind (arith, nat_tests)
 
 -- a slab that moves is beside one that does not
 two_beside : (b end : ℕ) (ss : List Slab) (s t : Slab) (x : ℕ) → AreSpaced b end ss → In ss s → In ss t → s.from ≡ s.to → IsTrue (changes t) → s.to ≤ x → x < s.to + s.len
     → IsOutside t.to t.len x
 two_beside b end [] s t x h i j e c l k = absurd i
 two_beside b end (u ∷ ss) s t x h (inl i) (inl j) e c l k = absurd (stays_same t (subst (λ (v : Slab). v.from ≡ v.to) (sym i ∙ j) e) c)
-two_beside b end (u ∷ ss) s t x h (inl i) (inr j) e c l k =
-    let low = spaced_from (u.to + u.len) end ss t h.1 j in
-    let first : u.to ≡ s.to = ap (λ (v : Slab). v.to) i in
-    let long : u.len ≡ s.len = ap (λ (v : Slab). v.len) i in
-    inl (omega arith)
-two_beside b end (u ∷ ss) s t x h (inr i) (inl j) e c l k =
-    let low = spaced_from (u.to + u.len) end ss s h.1 i in
-    let first : u.to ≡ t.to = ap (λ (v : Slab). v.to) j in
-    let long : u.len ≡ t.len = ap (λ (v : Slab). v.len) j in
-    inr (omega arith)
+two_beside b end (u ∷ ss) s t x h (inl i) (inr j) e c l k = grind (arith, nat_tests, spaced_from (u.to + u.len) end ss t h.1 j)
+two_beside b end (u ∷ ss) s t x h (inr i) (inl j) e c l k = grind (arith, nat_tests, spaced_from (u.to + u.len) end ss s h.1 i)
 two_beside b end (u ∷ ss) s t x h (inr i) (inr j) e c l k = two_beside (u.to + u.len) end ss s t x h.1 i j e c l k
 
 spared_unmoved : (b end : ℕ) (ss : List Slab) (x : ℕ) → AreSpaced b end ss → Spared b end ss x → IsUnmoved ss x
@@ -58,20 +43,14 @@ gap_low b end (s ∷ ss) g h (inr i) = let low : b ≤ s.to = h.0 in let rest = 
 gap_high : (b end : ℕ) (ss : List Slab) (g : ℕ × ℕ) → AreSpaced b end ss → In (gaps b end ss) g → g.0 + g.1 ≤ end
 gap_high b end [] g h (inl e) = subst (λ (f : ℕ × ℕ). f.0 + f.1 ≤ end) e (let low : b ≤ end = h in omega arith)
 gap_high b end [] g h (inr i) = absurd i
-gap_high b end (s ∷ ss) g h (inl e) =
-    subst (λ (f : ℕ × ℕ). f.0 + f.1 ≤ end) e (let low : b ≤ s.to = h.0 in let rest = spaced_low (s.to + s.len) end ss h.1 in omega arith)
+gap_high b end (s ∷ ss) g h (inl e) = grind (arith, nat_tests, spaced_low (s.to + s.len) end ss h.1)
 gap_high b end (s ∷ ss) g h (inr i) = gap_high (s.to + s.len) end ss g h.1 i
 
 -- a gap is beside each slab
 gap_beside : (b end : ℕ) (ss : List Slab) (s : Slab) (g : ℕ × ℕ) (x : ℕ) → AreSpaced b end ss → In ss s → In (gaps b end ss) g → s.to ≤ x → x < s.to + s.len → IsOutside g.0 g.1 x
 gap_beside b end [] s g x h i j l k = absurd i
-gap_beside b end (t ∷ ss) s g x h i (inl e) l k =
-    subst (λ (f : ℕ × ℕ). IsOutside f.0 f.1 x) e (let low : b ≤ t.to = h.0 in let first = spaced_from t.to end (t ∷ ss) s (omega arith, h.1) i in inr (omega arith))
-gap_beside b end (t ∷ ss) s g x h (inl e) (inr j) l k =
-    let low = gap_low (t.to + t.len) end ss g h.1 j in
-    let first : t.to ≡ s.to = ap (λ (v : Slab). v.to) e in
-    let long : t.len ≡ s.len = ap (λ (v : Slab). v.len) e in
-    inl (omega arith)
+gap_beside b end (t ∷ ss) s g x h i (inl e) l k = grind (arith, nat_tests, spaced_from t.to end (t ∷ ss) s (omega arith, h.1) i)
+gap_beside b end (t ∷ ss) s g x h (inl e) (inr j) l k = grind (arith, nat_tests, gap_low (t.to + t.len) end ss g h.1 j)
 gap_beside b end (t ∷ ss) s g x h (inr i) (inr j) l k = gap_beside (t.to + t.len) end ss s g x h.1 i j l k
 
 spared_beside : (b end : ℕ) (ss : List Slab) (x : ℕ) → AreSpaced b end ss → Spared b end ss x → IsBeside (gaps b end ss) x
@@ -88,11 +67,7 @@ pub record IsOnWay (old new : Header) (file left : List ℕ) : Type 0 where
   pub spared : (x : ℕ) → Spared (header_len new) (new_end old new) (rising old new) x → at left x ≡ at file x
 
 way_grown : (old new : Header) (file left : List ℕ) (end : ℕ) → end ≡ new_end old new → IsLengthened end file left → IsOnWay old new file left
-way_grown old new file left end e l = record {
-  long = l.long;
-  short = subst (λ (n : ℕ). length left ≤ max (length file) n) e l.short;
-  spared = λ x h. ap (λ (f : List ℕ). at f x) l.kept ∙ at-longer file (length left) x;
-}
+way_grown old new file left end e l = grind (arith, nat_tests, at-longer)
 
 way_kept : (old new : Header) (P : ℕ → Type 0) (file mid left : List ℕ) → ((x : ℕ) → Spared (header_len new) (new_end old new) (rising old new) x → P x)
     → IsOnWay old new file mid → IsKept P mid left → IsOnWay old new file left
@@ -142,23 +117,11 @@ way_headed old new file mid left bytes place b p spaced room w q = record {
 
 told_twice : {A : Type 0} (R S T : A → A → Type 0) (held mid now : Option A) → ((old one two : A) → R old one → S one two → T old two)
     → BothTold R held mid → BothTold S mid now → BothTold T held now
-told_twice R S T None mid now f a b = subst (λ m. BothTold S m now) a b
-told_twice R S T (Some old) mid now f a b = by_mid (subst (λ m. BothTold S m now) a.1 b)
-  where
-    by_mid : BothTold S (Some a.0) now → BothTold T (Some old) now
-    by_mid c = (c.0, c.1, f old a.0 c.0 a.2 c.2)
+told_twice xs ys n held mid now f a b = grind (arith, nat_tests)
 
 -- nothing was changed
 pub not_begun : (old new : Header) (held now : Option (List ℕ)) → now ≡ held → BothTold (IsPartlyCarried old new) held now
-not_begun old new held now e = subst (λ (m : Option (List ℕ)). BothTold (IsPartlyCarried old new) held m) (sym e) (by_told held)
-  where
-    by_told : (h : Option (List ℕ)) → BothTold (IsPartlyCarried old new) h h
-    by_told None = refl
-    by_told (Some file) = (
-      file,
-      refl,
-      record { long = omega arith; short = omega arith; head = λ x l. inl refl; past = λ x l. refl; stays = λ s i e x l k. refl },
-    )
+not_begun old new held now e = grind (arith, nat_tests)
 
 pub on_way_grown : (old new : Header) (held now : Option (List ℕ)) (end : ℕ) → end ≡ new_end old new → BothTold (IsLengthened end) held now
     → BothTold (IsOnWay old new) held now
@@ -187,15 +150,11 @@ on_way_end old new held now b = told_as (IsOnWay old new) (IsPartlyCarried old n
 
 -- there is room up to the end
 pub room_grown : (held now : Option (List ℕ)) (end : ℕ) → now ≡ after (λ file. longer file end) held → IfSome now (λ file. end ≤ length file)
-room_grown None now end e = subst (λ (m : Option (List ℕ)). IfSome m (λ file. end ≤ length file)) (sym e) tt
-room_grown (Some file) now end e =
-    subst (λ (m : Option (List ℕ)). IfSome m (λ f. end ≤ length f)) (sym e) (let whole = longer_long file end in omega arith)
+room_grown held now end e = grind (arith, nat_tests, longer_long)
 
 pub room_kept : (P : ℕ → Type 0) (mid now : Option (List ℕ)) (end : ℕ) → IfSome mid (λ file. end ≤ length file) → BothTold (IsKept P) mid now
     → IfSome now (λ file. end ≤ length file)
-room_kept P None now end h k = subst (λ (m : Option (List ℕ)). IfSome m (λ file. end ≤ length file)) (sym k) tt
-room_kept P (Some file) now end h k =
-    subst (λ (m : Option (List ℕ)). IfSome m (λ f. end ≤ length f)) (sym k.1) (let same = k.2.len in omega arith)
+room_kept xs mid now end h k = grind (arith, nat_tests)
 
 pub on_way_headed : (old new : Header) (held mid now : Option (List ℕ)) (bytes : List ℕ) (place end : ℕ) → IsCarriable old new → bytes ≡ canon new → place ≡ 0
     → IfSome mid (λ file. end ≤ length file) → header_len new ≤ end → BothTold (IsOnWay old new) held mid → BothTold (PartlyWritten place bytes) mid now
@@ -216,11 +175,7 @@ on_way_headed old new held mid now bytes place end h b p room fits w q =
 -- ---- what a relocation promises
 
 head_at : (old new : Header) (file : List ℕ) → IsMoved old new file (redefined file old new) → (x : ℕ) → x < header_len new → at (canon new) x ≡ at (redefined file old new) x
-head_at old new file m x l =
-    sym (ap (λ (f : List ℕ). at f x) m.head) ∙ front (redefined file old new) (header_len new) x l
-  where
-    front : (f : List ℕ) (n y : ℕ) → y < n → at (take n f) y ≡ at f y
-    front f n y h = grind (arith, common_steps)
+head_at old new file m x l = grind (arith, nat_tests, common_steps)
 
 is_moved : (old new : Header) (file : List ℕ) → HasLaws old new → IsMoved old new file (redefined file old new)
 is_moved old new file h = subst (λ (f : List ℕ). IsMoved old new file f) (relocated old new h file) (carried_is old new file h.carriable (λ s. (h.all s).1) (λ s. (h.all s).0))
@@ -244,9 +199,7 @@ torn old new file left h p =
     by_head m x l (inr e) = inr (e ∙ head_at old new file m x l)
 
 keeps : (old new : Header) (file left : List ℕ) → HasLaws old new → IsPartlyCarried old new file left → KeepsPlaces old new file left
-keeps old new file left h p s i e d l =
-    let same : s.to + d ≡ s.from + d = omega arith in
-    p.stays s ((h.all s).1 i) e (s.to + d) (omega arith) (omega arith) ∙ ap (λ (x : ℕ). at file x) same
+keeps old new file left h p s i e d l = grind (arith, nat_tests)
 
 pub relocation_torn : (old new : Header) (held now : Option (List ℕ)) → HasLaws old new → BothTold (IsPartlyCarried old new) held now
     → BothTold (λ file left. IsTornRedefinition (header_len new) (new_end old new) file (redefined file old new) left) held now

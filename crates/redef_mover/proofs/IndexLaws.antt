@@ -1,6 +1,6 @@
 -- The index of a header's names, and what an addition makes of it.
-use Rattle.redef_mover.proofs.Words.{◌≡◌, ◌∙◌, ℕ, zero, suc, ◌+◌, ◌<◌, ◌≤◌, List, [], ◌∷◌, ◌++◌, length, get_or, map, position, set, Bool, true, false, cond, ◌&&◌, ◌||◌, Option, Some, None, is_some, bytes_eq, refl, sym, ap, subst, arith, nat_eq, Bor, BTreeMap, BTreeSet, tied_then, unsigned_tied, slice_cmp, list_any, position_from, position_or_len, prefix_len, option_or, option_cmp, is_eq, nat_cmp, ordering_then, ltb-false, nat_tests, same_from_decides, Decides-eqb, Decides-like, position_from-zero, list_any-append, find_at, position-Some, btree_map_updates_str, is_eq-slice_cmp, get_or_from_slice_get, slice_get_past, bytes_eq-Decides, position_map, second_counts, none_last, no_false, equal_below, equal_suc, entry_below, entry_set, entry_set_other, position_below, Attr, Dim, Header, Var, find_var, attrs_of_var, has_attr, with_var_attr, place_of, has_name, is_same, attrs_among, attrs_at, given, IsIndexOf, NameIndex}
-use Rattle.std.proofs.Common.{not, nat_lt, ◌==◌, slice_get}
+use Rattle.redef_mover.proofs.Words.{◌≡◌, ◌∙◌, ℕ, zero, suc, ◌+◌, ◌<◌, ◌≤◌, List, [], ◌∷◌, ◌++◌, length, get_or, map, position, set, Bool, true, false, cond, ◌&&◌, ◌||◌, Option, Some, None, is_some, bytes_eq, refl, sym, ap, subst, arith, nat_eq, Bor, BTreeMap, BTreeSet, tied_then, slice_cmp, position_from, prefix_len, option_or, option_cmp, is_eq, nat_cmp, ordering_then, ltb-false, nat_tests, same_from_decides, position_from-zero, list_any-append, find_at, position-Some, btree_map_updates_str, is_eq-slice_cmp, get_or_from_slice_get, slice_get_past, bytes_eq-Decides, position_map, second_counts, none_last, no_false, equal_below, equal_suc, entry_below, entry_set, entry_set_other, position_below, Attr, Dim, Header, Var, find_var, attrs_of_var, has_attr, with_var_attr, place_of, has_name, is_same, attrs_among, attrs_at, given, IsIndexOf, NameIndex}
+use Rattle.std.proofs.Common.{not, nat_lt, slice_get}
 use Rattle.std.specs.BTreeMap as tree
 use Rattle.std.specs.BTreeSet as sorted
 
@@ -9,30 +9,17 @@ use Rattle.std.specs.BTreeSet as sorted
 from_push : {A : Type 0} (p : A → Bool) (i : ℕ) (xs : List A) (x : A)
     → position_from p i (xs ++ x ∷ []) ≡ option_or (position_from p i xs) (cond (p x) (Some (i + length xs)) None)
 from_push p i [] x = let e : i ≡ i + 0 = omega arith in ap (λ (n : ℕ). cond (p x) (Some n) None) e
-from_push p i (y ∷ ys) x = by_test (p y) (from_push p (i + 1) ys x)
-  where
-    by_test : (t : Bool) → position_from p (i + 1) (ys ++ x ∷ []) ≡ option_or (position_from p (i + 1) ys) (cond (p x) (Some (i + 1 + length ys)) None)
-        → cond t (Some i) (position_from p (i + 1) (ys ++ x ∷ [])) ≡ option_or (cond t (Some i) (position_from p (i + 1) ys)) (cond (p x) (Some (i + length (y ∷ ys))) None)
-    by_test true h = refl
-    by_test false h =
-        let e : i + 1 + length ys ≡ i + length (y ∷ ys) = omega arith in
-        h ∙ ap (λ (n : ℕ). option_or (position_from p (i + 1) ys) (cond (p x) (Some n) None)) e
+from_push p i (y ∷ ys) x = grind (arith, nat_tests, from_push p (i + 1) ys x)
 
 pub position_push : {A : Type 0} (p : A → Bool) (xs : List A) (x : A) → position p (xs ++ x ∷ []) ≡ option_or (position p xs) (cond (p x) (Some (length xs)) None)
-position_push p xs x =
-    position_from-zero p (xs ++ x ∷ []) ∙ from_push p 0 xs x
-    ∙ (let e : 0 + length xs ≡ length xs = omega arith in ap (λ (n : ℕ). option_or (position_from p 0 xs) (cond (p x) (Some n) None)) e)
-    ∙ ap (λ (o : Option ℕ). option_or o (cond (p x) (Some (length xs)) None)) (sym (position_from-zero p xs))
+position_push p xs x = grind (arith, nat_tests, position_from-zero p (xs ++ x ∷ []), from_push p 0 xs x, position_from-zero p xs)
 
 -- a name that has no place gets one
 pub put_new : (old new : BTreeMap (Bor (List ℕ)) ℕ) (name : List ℕ) (place : ℕ) → place_of old name ≡ None
     → tree.UpdatesBy (λ x y. slice_cmp nat_cmp x.now y.now) (λ k. slice_cmp nat_cmp name k.now) old new (Some place)
     → (q : List ℕ) → place_of new q ≡ option_or (place_of old q) (cond (bytes_eq name q) (Some place) None)
-put_new old new name place none updates q = btree_map_updates_str name old new (Some place) updates q ∙ by_test (bytes_eq name q) refl
-  where
-    by_test : (t : Bool) → bytes_eq name q ≡ t → cond t (Some place) (place_of old q) ≡ option_or (place_of old q) (cond t (Some place) None)
-    by_test true e = sym (second_counts (place_of old q) (Some place) (ap (place_of old) (sym ((bytes_eq-Decides name q).0 e)) ∙ none))
-    by_test false e = none_last (place_of old q)
+put_new old new name place none updates q =
+    grind (arith, nat_tests, btree_map_updates_str name old new (Some place) updates q, bytes_eq name q, bytes_eq-Decides name q, none_last (place_of old q), second_counts)
 
 pub absent : {A : Type 0} (o : Option A) (t : Bool) → t ≡ is_some o → t ≡ false → o ≡ None
 absent None t same fails = refl
@@ -43,29 +30,19 @@ pub places_next : {A : Type 0} (name_of : A → List ℕ) (xs ys : List A) (x : 
     → ((q : List ℕ) → place_of old q ≡ position (λ y. bytes_eq (name_of y) q) xs)
     → ((q : List ℕ) → place_of new q ≡ option_or (place_of old q) (cond (bytes_eq (name_of x) q) (Some k) None))
     → (q : List ℕ) → place_of new q ≡ position (λ y. bytes_eq (name_of y) q) ys
-places_next name_of xs ys x k old new more long known put q =
-    put q
-    ∙ ap (λ (o : Option ℕ). option_or o (cond (bytes_eq (name_of x) q) (Some k) None)) (known q)
-    ∙ ap (λ (n : ℕ). option_or (position (λ y. bytes_eq (name_of y) q) xs) (cond (bytes_eq (name_of x) q) (Some n) None)) long
-    ∙ sym (position_push (λ y. bytes_eq (name_of y) q) xs x)
-    ∙ ap (position (λ y. bytes_eq (name_of y) q)) (sym more)
+places_next name_of xs ys x k old new more long known put q = grind (arith, nat_tests, bytes_eq (name_of x) q, position, position_push)
 
 -- ---- names of attributes
 
 tied_owners : (a b : Option ℕ) → is_eq (option_cmp nat_cmp a b) ≡ is_same a b
-tied_owners None None = refl
-tied_owners None (Some y) = refl
-tied_owners (Some x) None = refl
-tied_owners (Some x) (Some y) = unsigned_tied x y
+tied_owners a b = grind (arith, nat_tests)
 
 or_last : (a : Bool) → a ≡ (a || false)
 or_last true = refl
 or_last false = refl
 
 pub or_none : (a b : Bool) → a ≡ (a || (b && false))
-or_none true b = refl
-or_none false true = refl
-or_none false false = refl
+or_none a b = grind (arith, nat_tests)
 
 pub name_put : (old new : BTreeSet (Option ℕ × Bor (List ℕ))) (owner : Option ℕ) (name : Bor (List ℕ))
     → sorted.Updates (λ x y. ordering_then (option_cmp nat_cmp x.0 y.0) (slice_cmp nat_cmp x.1.now y.1.now)) old new (owner, name) true
@@ -84,30 +61,17 @@ name_put old new owner name updates o q =
     either_way false false = refl
 
 pub attr_pushed : (attrs : List Attr) (a : Attr) (q : List ℕ) → has_attr (attrs ++ a ∷ []) q ≡ (has_attr attrs q || bytes_eq a.name q)
-attr_pushed attrs a q =
-    list_any-append (λ (b : Attr). bytes_eq b.name q) attrs (a ∷ [])
-    ∙ ap (λ (t : Bool). has_attr attrs q || t) (sym (or_last (bytes_eq a.name q)))
+attr_pushed attrs a q = grind (arith, nat_tests, or_last (bytes_eq a.name q), list_any-append, bytes_eq)
 
 -- the attributes of one owner, one after another
 pub names_next : (owner : Option ℕ) (first more : List Attr) (a : Attr) (begun old new : BTreeSet (Option ℕ × Bor (List ℕ))) → more ≡ first ++ a ∷ []
     → ((o : Option ℕ) (q : List ℕ) → has_name old o q ≡ (has_name begun o q || (is_same owner o && has_attr first q)))
     → ((o : Option ℕ) (q : List ℕ) → has_name new o q ≡ (has_name old o q || (is_same owner o && bytes_eq a.name q)))
     → (o : Option ℕ) (q : List ℕ) → has_name new o q ≡ (has_name begun o q || (is_same owner o && has_attr more q))
-names_next owner first more a begun old new next known put o q =
-    put o q
-    ∙ ap (λ (t : Bool). t || (is_same owner o && bytes_eq a.name q)) (known o q)
-    ∙ together (has_name begun o q) (is_same owner o) (has_attr first q) (bytes_eq a.name q)
-    ∙ ap (λ (t : Bool). has_name begun o q || (is_same owner o && t)) (sym (attr_pushed first a q) ∙ ap (λ (l : List Attr). has_attr l q) (sym next))
-  where
-    together : (t s x y : Bool) → ((t || (s && x)) || (s && y)) ≡ (t || (s && (x || y)))
-    together true s x y = refl
-    together false true x y = refl
-    together false false x y = refl
+names_next owner first more a begun old new next known put o q = grind (arith, nat_tests, bytes_eq a.name q, attr_pushed first a q)
 
 suc_same : (n j : ℕ) → nat_eq (suc n) (suc j) ≡ nat_eq n j
-suc_same n j =
-    same_from_decides (nat_eq (suc n) (suc j)) (nat_eq n j)
-    (Decides-like (nat_eq (suc n) (suc j)) (λ e. omega (arith, e)) (λ e. ap suc e) (Decides-eqb (suc n) (suc j))) (Decides-eqb n j)
+suc_same n j = grind (arith, nat_tests, same_from_decides)
 
 -- a variable more
 pub attrs_pushed : (attrs : List Attr) (vs : List Var) (v : Var) (o : Option ℕ) (q : List ℕ)
@@ -115,36 +79,21 @@ pub attrs_pushed : (attrs : List Attr) (vs : List Var) (v : Var) (o : Option ℕ
 attrs_pushed attrs vs v None q = or_last (has_attr attrs q)
 attrs_pushed attrs [] v (Some zero) q = refl
 attrs_pushed attrs [] v (Some (suc j)) q = ap (λ (t : Bool). t && has_attr v.attrs q) (sym (equal_below 0 (suc j) (omega arith)))
-attrs_pushed attrs (w ∷ vs) v (Some zero) q =
-    or_last (has_attr w.attrs q) ∙ ap (λ (t : Bool). has_attr w.attrs q || (t && has_attr v.attrs q)) (sym (equal_suc (length vs)))
-attrs_pushed attrs (w ∷ vs) v (Some (suc j)) q =
-    attrs_pushed attrs vs v (Some j) q
-    ∙ ap (λ (t : Bool). has_attr (attrs_among attrs vs (Some j)) q || (t && has_attr v.attrs q)) (sym (suc_same (length vs) j))
+attrs_pushed attrs (w ∷ vs) v (Some zero) q = grind (arith, nat_tests, or_last (has_attr w.attrs q), equal_suc (length vs))
+attrs_pushed attrs (w ∷ vs) v (Some (suc j)) q = grind (arith, nat_tests, attrs_pushed attrs vs v (Some j) q, suc_same (length vs) j)
 
 -- the attributes of the first variables, and of one more
 pub owners_next : (attrs : List Attr) (vs more : List Var) (v : Var) (k : ℕ) (old new : BTreeSet (Option ℕ × Bor (List ℕ))) → more ≡ vs ++ v ∷ [] → k ≡ length vs
     → ((o : Option ℕ) (q : List ℕ) → has_name old o q ≡ has_attr (attrs_among attrs vs o) q)
     → ((o : Option ℕ) (q : List ℕ) → has_name new o q ≡ (has_name old o q || (is_same (Some k) o && has_attr v.attrs q)))
     → (o : Option ℕ) (q : List ℕ) → has_name new o q ≡ has_attr (attrs_among attrs more o) q
-owners_next attrs vs more v k old new next long known put o q =
-    put o q
-    ∙ ap (λ (t : Bool). t || (is_same (Some k) o && has_attr v.attrs q)) (known o q)
-    ∙ ap (λ (n : ℕ). has_attr (attrs_among attrs vs o) q || (is_same (Some n) o && has_attr v.attrs q)) long
-    ∙ sym (attrs_pushed attrs vs v o q)
-    ∙ ap (λ (l : List Var). has_attr (attrs_among attrs l o) q) (sym next)
+owners_next attrs vs more v k old new next long known put o q = grind (arith, nat_tests, attrs_pushed attrs vs v o q)
 
 -- of the dataset alone
 pub owners_none : (attrs : List Attr) (empty new : BTreeSet (Option ℕ × Bor (List ℕ))) → sorted.IsEmpty empty
     → ((o : Option ℕ) (q : List ℕ) → has_name new o q ≡ (has_name empty o q || (is_same None o && has_attr attrs q)))
     → (o : Option ℕ) (q : List ℕ) → has_name new o q ≡ has_attr (attrs_among attrs [] o) q
-owners_none attrs empty new none put o q = by_owner o (put o q ∙ ap (λ (t : Bool). t || (is_same None o && has_attr attrs q)) nothing)
-  where
-    nothing : has_name empty o q ≡ false
-    nothing = ap (λ keys. list_any (tree.is_at (λ k. ordering_then (option_cmp nat_cmp o k.0) (slice_cmp nat_cmp q k.1.now))) keys) none
-
-    by_owner : (p : Option ℕ) → has_name new o q ≡ (is_same None p && has_attr attrs q) → has_name new o q ≡ has_attr (attrs_among attrs [] p) q
-    by_owner None h = h
-    by_owner (Some k) h = h
+owners_none attrs empty new none put o q = grind (arith, nat_tests)
 
 -- ---- additions
 
@@ -184,16 +133,7 @@ pub attr_indexed : (header : Header) (index next : NameIndex) (a : Attr) → IsI
     → ((o : Option ℕ) (q : List ℕ) → has_name next.attrs o q ≡ (has_name index.attrs o q || (is_same None o && bytes_eq a.name q)))
     → next.dims ≡ index.dims → next.vars ≡ index.vars
     → IsIndexOf (record header { attrs = header.attrs ++ a ∷ [] }) next
-attr_indexed header index next a is put dims vars =
-    record {
-      dims = λ q. ap (λ m. place_of m q) dims ∙ is.dims q;
-      vars = λ q. ap (λ m. place_of m q) vars ∙ is.vars q;
-      attrs = λ o q. put o q ∙ ap (λ (t : Bool). t || (is_same None o && bytes_eq a.name q)) (is.attrs o q) ∙ one_more o q;
-    }
-  where
-    one_more : (o : Option ℕ) (q : List ℕ) → (has_attr (attrs_at header o) q || (is_same None o && bytes_eq a.name q)) ≡ has_attr (attrs_among (header.attrs ++ a ∷ []) header.vars o) q
-    one_more None q = sym (attr_pushed header.attrs a q)
-    one_more (Some k) q = sym (or_last (has_attr (attrs_at header (Some k)) q))
+attr_indexed header index next a is put dims vars = grind (arith, nat_tests, bytes_eq, attr_pushed, or_last)
 
 -- ---- an attribute of a variable
 
@@ -202,27 +142,12 @@ given_is vs k v a there = ap (λ (o : Option Var). elim o [ None ↦ vs | Some w
 
 names_given : (vs : List Var) (k : ℕ) (v w : Var) → slice_get vs k ≡ Some v → w.name ≡ v.name → map (λ (x : Var). x.name) (set vs k w) ≡ map (λ (x : Var). x.name) vs
 names_given [] k v w there same = refl
-names_given (x ∷ vs) zero v w there same =
-    ap (λ (n : List ℕ). n ∷ map (λ (y : Var). y.name) vs) (same ∙ ap (λ (o : Option Var). elim o [ None ↦ [] | Some y ↦ y.name ]) (sym there))
+names_given (x ∷ vs) zero v w there same = grind (arith, nat_tests)
 names_given (x ∷ vs) (suc k) v w there same = ap (λ (ns : List (List ℕ)). x.name ∷ ns) (names_given vs k v w there same)
 
 attrs_given : (attrs : List Attr) (vs : List Var) (k : ℕ) (v : Var) (a : Attr) → slice_get vs k ≡ Some v → (o : Option ℕ) (q : List ℕ)
     → (has_attr (attrs_among attrs vs o) q || (is_same (Some k) o && bytes_eq a.name q)) ≡ has_attr (attrs_among attrs (set vs k (record v { attrs = v.attrs ++ a ∷ [] })) o) q
-attrs_given attrs vs k v a there None q = sym (or_last (has_attr attrs q))
-attrs_given attrs vs k v a there (Some j) q = by_test (k == j) refl
-  where
-    own : Option Var → Bool
-    own o = has_attr (elim o [ None ↦ [] | Some w ↦ w.attrs ]) q
-
-    by_test : (t : Bool) → (k == j) ≡ t → (own (slice_get vs j) || (t && bytes_eq a.name q)) ≡ own (slice_get (set vs k (record v { attrs = v.attrs ++ a ∷ [] })) j)
-    by_test true e =
-        let same = (Decides-eqb k j).0 e in
-        ap (λ (o : Option Var). own o || bytes_eq a.name q) (ap (slice_get vs) (sym same) ∙ there)
-        ∙ sym (attr_pushed v.attrs a q)
-        ∙ ap own (sym (ap (slice_get (set vs k (record v { attrs = v.attrs ++ a ∷ [] }))) (sym same) ∙ entry_set vs k v (record v { attrs = v.attrs ++ a ∷ [] }) there))
-    by_test false e =
-        sym (or_last (own (slice_get vs j)))
-        ∙ ap own (sym (entry_set_other vs k j (record v { attrs = v.attrs ++ a ∷ [] }) (λ same. no_false (sym e ∙ (Decides-eqb k j).1 (sym same)))))
+attrs_given attrs vs k v a there o q = grind (arith, nat_tests, or_last, slice_get, bytes_eq, set, attr_pushed, entry_set, entry_set_other, no_false)
 
 pub var_attr_indexed : (header : Header) (index next : NameIndex) (k : ℕ) (a : Attr) → k < length header.vars → IsIndexOf header index
     → ((o : Option ℕ) (q : List ℕ) → has_name next.attrs o q ≡ (has_name index.attrs o q || (is_same (Some k) o && bytes_eq a.name q)))
@@ -251,9 +176,7 @@ attr_at : (name : List ℕ) (a : Attr) (vs : List Var) (k : ℕ) (v : Var) → s
     → ((j : ℕ) → j < k → bytes_eq (get_or vs j v).name name ≡ false)
     → with_var_attr name a vs ≡ set vs k (record v { attrs = v.attrs ++ a ∷ [] })
 attr_at name a [] k v there e f = absurd cc
-attr_at name a (w ∷ vs) zero v there e f =
-    ap (λ (x : Var). with_var_attr name a (x ∷ vs)) (ap (λ (o : Option Var). elim o [ None ↦ w | Some x ↦ x ]) there)
-    ∙ ap (λ (t : Bool). cond t (record v { attrs = v.attrs ++ a ∷ [] } ∷ vs) (v ∷ with_var_attr name a vs)) e
+attr_at name a (w ∷ vs) zero v there e f = grind (arith, nat_tests)
 attr_at name a (w ∷ vs) (suc k) v there e f =
     ap (λ (t : Bool). cond t (record w { attrs = w.attrs ++ a ∷ [] } ∷ vs) (w ∷ with_var_attr name a vs)) (f 0 (omega arith))
     ∙ ap (λ (ws : List Var). w ∷ ws) (attr_at name a vs k v there e (λ j g. f (suc j) (omega arith)))
@@ -290,18 +213,7 @@ attr_nowhere name a vs e = all_other vs (fewer _ _ e)
 
 -- what the header has under an owner's name
 found_attrs : (header : Header) (owner : List ℕ) → attrs_of_var header owner ≡ elim (find_var header owner) [ None ↦ [] | Some k ↦ attrs_at header (Some k) ]
-found_attrs header owner = ap own (find_at p header.vars) ∙ by_test (nat_lt (position_or_len p header.vars) (length header.vars)) refl
-  where
-    p : Var → Bool
-    p v = bytes_eq v.name owner
-
-    own : Option Var → List Attr
-    own o = elim o [ None ↦ [] | Some v ↦ v.attrs ]
-
-    by_test : (t : Bool) → nat_lt (position_or_len p header.vars) (length header.vars) ≡ t
-        → own (slice_get header.vars (position_or_len p header.vars)) ≡ elim (cond t (Some (position_or_len p header.vars)) None) [ None ↦ [] | Some k ↦ attrs_at header (Some k) ]
-    by_test true e = refl
-    by_test false e = ap own (slice_get_past header.vars (position_or_len p header.vars) (ltb-false (position_or_len p header.vars) (length header.vars) e))
+found_attrs header owner = grind (arith, nat_tests, find_at, nat_lt, bytes_eq, slice_get, slice_get_past, ltb-false)
 
 pub attrs_found : (header : Header) (owner : List ℕ) (k : ℕ) → Some k ≡ find_var header owner → attrs_of_var header owner ≡ attrs_at header (Some k)
 attrs_found header owner k e = found_attrs header owner ∙ ap (λ (o : Option ℕ). elim o [ None ↦ [] | Some j ↦ attrs_at header (Some j) ]) (sym e)

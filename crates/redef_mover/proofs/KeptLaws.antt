@@ -1,5 +1,5 @@
 -- What the moves and the zeros keep of a file.
-use Rattle.redef_mover.proofs.Words.{◌≡◌, ℕ, ◌+◌, ◌-◌, ◌≤◌, ◌⊎◌, inl, inr, refl, sym, ◌∙◌, ap, subst, List, [], ◌∷◌, ◌++◌, length, Bool, true, false, Option, Some, None, Result, Ok, Err, arith, not, ◌==◌, flat_map, IfSome, OnOk, OnErr, IsTrue, range_with_len, PartlyWritten, after, BothTold, In, in_left, in_right, changes, gaps, Slab, at, written, at-written_before, at-written_after, length-written_inside, IsBeside, IsKept, IsOutside, IsUnmoved, Slabs, cleared, slab_moved, slabs_at, window}
+use Rattle.redef_mover.proofs.Words.{◌≡◌, ℕ, ◌+◌, ◌-◌, ◌≤◌, inl, inr, refl, sym, ◌∙◌, ap, subst, List, [], ◌∷◌, ◌++◌, length, Option, Some, None, Result, Ok, Err, arith, flat_map, IfSome, OnOk, OnErr, IsTrue, range_with_len, PartlyWritten, after, BothTold, In, in_left, in_right, changes, gaps, Slab, at, written, at-written_before, at-written_after, length-written_inside, IsBeside, IsKept, IsOutside, IsUnmoved, Slabs, cleared, slab_moved, slabs_at, window, nat_tests}
 use borrow.Author.Tests.{eqb-true}
 use Rattle.redef_mover.proofs.ClearLaws.{above, cleared_after, cleared_before, cleared_long}
 use Rattle.redef_mover.proofs.SlabLaws.{moved_after, moved_before, moved_long}
@@ -26,11 +26,7 @@ write_keeps file bytes place room = record { len = length-written_inside file pl
 -- a write that was cut off
 part_keeps : (file bytes left : List ℕ) (place : ℕ) → place + length bytes ≤ length file → PartlyWritten place bytes file left
     → IsKept (IsOutside place (length bytes)) file left
-part_keeps file bytes left place room p = record { len = p.len ∙ length-written_inside file place bytes room; kept = λ x h. by_byte x h (p.each x) }
-  where
-    by_byte : (x : ℕ) → IsOutside place (length bytes) x → (at left x ≡ at file x) ⊎ (at left x ≡ at (written file place bytes) x) → at left x ≡ at file x
-    by_byte x h (inl e) = e
-    by_byte x h (inr e) = e ∙ write_beside file bytes place x h
+part_keeps file bytes left place room p = grind (arith, nat_tests, length-written_inside file place bytes room, write_beside)
 
 -- ---- files that may be told
 
@@ -42,11 +38,7 @@ pub kept_same : (P : ℕ → Type 0) (held now : Option (List ℕ)) → now ≡ 
 kept_same P held now e = subst (λ (m : Option (List ℕ)). BothTold (IsKept P) held m) (sym e) (kept_still P held)
 
 pub kept_twice : (P : ℕ → Type 0) (held mid now : Option (List ℕ)) → BothTold (IsKept P) held mid → BothTold (IsKept P) mid now → BothTold (IsKept P) held now
-kept_twice P None mid now a b = subst (λ (m : Option (List ℕ)). BothTold (IsKept P) m now) a b
-kept_twice P (Some file) mid now a b = by_mid (subst (λ (m : Option (List ℕ)). BothTold (IsKept P) m now) a.1 b)
-  where
-    by_mid : BothTold (IsKept P) (Some a.0) now → BothTold (IsKept P) (Some file) now
-    by_mid c = (c.0, c.1, twice P file a.0 c.0 a.2 c.2)
+kept_twice xs held mid now a b = grind (arith, nat_tests, twice)
 
 pub kept_of : (P Q : ℕ → Type 0) (held now : Option (List ℕ)) → ((x : ℕ) → Q x → P x) → BothTold (IsKept P) held now → BothTold (IsKept Q) held now
 kept_of P Q None now f a = a
@@ -79,25 +71,15 @@ kept_written r held mid now bytes place a n size long same p l room ok bad =
 -- the length of a file that was kept
 pub kept_long : (P : ℕ → Type 0) (held mid : Option (List ℕ)) (size : ℕ) → IfSome held (λ file. length file ≡ size) → BothTold (IsKept P) held mid
     → IfSome mid (λ file. length file ≡ size)
-kept_long P None mid size long a = subst (λ (m : Option (List ℕ)). IfSome m (λ file. length file ≡ size)) (sym a) tt
-kept_long P (Some file) mid size long a =
-    subst (λ (m : Option (List ℕ)). IfSome m (λ file. length file ≡ size)) (sym a.1) (a.2.len ∙ long)
+kept_long xs held mid size long a = grind (arith, nat_tests)
 
 -- ---- moves
 
 pub outside_window : (z j x : ℕ) (s w : Slab) → w ≡ window z s j → IsOutside s.to s.len x → IsOutside w.to w.len x
-outside_window z j x s w e h = subst (λ (v : Slab). IsOutside v.to v.len x) (sym e) (by_side h)
-  where
-    by_side : IsOutside s.to s.len x → IsOutside (window z s j).to (window z s j).len x
-    by_side (inl l) = inl (omega arith)
-    by_side (inr l) = inr (omega arith)
+outside_window z j x s w e h = grind (arith, nat_tests)
 
 changed : (s : Slab) → (s.from ≡ s.to → ⊥) → IsTrue (changes s)
-changed s differ = by_test (s.from == s.to) refl
-  where
-    by_test : (t : Bool) → (s.from == s.to) ≡ t → IsTrue (changes s)
-    by_test true e = absurd (differ (eqb-true s.from s.to e))
-    by_test false e = ap (λ (b : Bool). not b) e
+changed s differ = grind (arith, nat_tests, eqb-true)
 
 -- the only slab
 pub outside_one : (s : Slab) (x : ℕ) → (s.from ≡ s.to → ⊥) → IsUnmoved (s ∷ []) x → IsOutside s.to s.len x
@@ -131,13 +113,7 @@ outside_part a n b m x low high (inr l) = inr (omega arith)
 -- the first windows of a gap
 pub first_kept : (held now : Option (List ℕ)) (place n len size : ℕ) → IfSome held (λ file. length file ≡ size) → n ≤ len → place + len ≤ size
     → now ≡ after (λ file. cleared file (place, n)) held → BothTold (IsKept (IsOutside place len)) held now
-first_kept None now place n len size long few room e = e
-first_kept (Some file) now place n len size long few room e =
-    (cleared file (place, n), e, record { len = cleared_long file place n (omega arith); kept = by_side })
-  where
-    by_side : (x : ℕ) → IsOutside place len x → at (cleared file (place, n)) x ≡ at file x
-    by_side x (inl l) = cleared_before file place n x l
-    by_side x (inr l) = cleared_after file place n x (omega arith)
+first_kept held now place n len size long few room e = grind (arith, nat_tests, cleared_long, cleared_before, cleared_after)
 
 pub beside_first : (g : ℕ × ℕ) (rest all : List (ℕ × ℕ)) (x : ℕ) → all ≡ g ∷ rest → IsBeside all x → IsOutside g.0 g.1 x
 beside_first g rest all x e h = h g (subst (λ (gs : List (ℕ × ℕ)). In gs g) (sym e) (inl refl))

@@ -1,5 +1,5 @@
 -- The lists of the code stand for all slabs of the old variables.
-use Rattle.redef_mover.proofs.Words.{◌≡◌, ℕ, ◌+◌, ◌*◌, ◌^◌, ◌<◌, ◌≤◌, inl, inr, refl, sym, ◌∙◌, ap, subst, List, [], ◌∷◌, ◌++◌, length, map, get_or, arith, flat_map, range_with_len, Header, Slab, recsize, In, fixed_slabs, record_slabs, rising, slabs_of_record, IsRisen, Shift, Slabs, further, listed, slab_of, AreSteps}
+use Rattle.redef_mover.proofs.Words.{◌≡◌, ℕ, ◌+◌, ◌*◌, ◌^◌, ◌<◌, ◌≤◌, inl, inr, refl, ap, subst, List, [], ◌∷◌, ◌++◌, length, map, get_or, arith, flat_map, range_with_len, Header, Slab, recsize, In, fixed_slabs, record_slabs, rising, slabs_of_record, IsRisen, Shift, Slabs, further, listed, slab_of, AreSteps, nat_tests}
 use Rattle.redef_mover.proofs.MovesLaws.{in_record, record_listed}
 
 no_slabs : {A B : Type 0} (f : A → List B) (xs : List A) → ((x : A) → f x ≡ []) → flat_map f xs ≡ []
@@ -10,11 +10,8 @@ no_slabs f (x ∷ xs) h = λ t. h x t ++ no_slabs f xs h t
 of_records : (old new : Header) (records : List Shift) (count a b : ℕ) → map slab_of records ≡ record_slabs old new → (records ≡ [] → count ≡ 0)
     → (0 < length records → count ≡ old.records) → a ≡ recsize old → b ≡ recsize new
     → flat_map (λ r. map (further (r * a) (r * b)) (map slab_of records)) (range_with_len 0 count) ≡ flat_map (slabs_of_record old new) (range_with_len 0 old.records)
-of_records old new [] count a b e none some f g =
-    ap (λ (n : ℕ). flat_map (λ r. map (further (r * a) (r * b)) []) (range_with_len 0 n)) (none refl)
-    ∙ sym (no_slabs (slabs_of_record old new) (range_with_len 0 old.records) (λ r. ap (λ ss. map (further (r * recsize old) (r * recsize new)) ss) (sym e)))
-of_records old new (x ∷ records) count a b e none some f g =
-    λ t. flat_map (λ r. map (further (r * f t) (r * g t)) (e t)) (range_with_len 0 (some (omega arith) t))
+of_records old new [] count a b e none some f g = grind (arith, nat_tests, no_slabs)
+of_records old new (x ∷ records) count a b e none some f g = grind (arith, nat_tests)
 
 pub listed_is : (old new : Header) (slabs : Slabs) → map slab_of slabs.fixed.items ≡ fixed_slabs old new → map slab_of slabs.records.items ≡ record_slabs old new
     → (slabs.records.items ≡ [] → slabs.count ≡ 0) → (0 < length slabs.records.items → slabs.count ≡ old.records) → slabs.step.old ≡ recsize old → slabs.step.new ≡ recsize new

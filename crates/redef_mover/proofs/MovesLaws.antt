@@ -1,5 +1,5 @@
 -- Slabs moved one after another: what is left to be moved gives the whole.
-use Rattle.redef_mover.proofs.Words.{◌≡◌, ℕ, ◌+◌, ◌*◌, ◌<◌, refl, sym, ◌∙◌, ap, subst, List, [], ◌∷◌, ◌++◌, length, map, take, get_or, Option, Some, None, append_assoc, arith, filter, flat_map, reverse, range_with_len, fold-append, flat_map-append, append-nil, map-append, reverse-append, take_more, filter-append, entry_in, in_map, map_map, range_append, DiskCall, after, with_end, after-after, after-same, with_end-with_end, with_end-nil, Slab, In, in_flat, in_left, in_range, in_right, changes, Shift, Slabs, all_calls, all_moved, further, listed, slab_calls, slab_moved, slab_of, slabs_at}
+use Rattle.redef_mover.proofs.Words.{◌≡◌, ℕ, ◌+◌, ◌*◌, ◌<◌, refl, sym, ◌∙◌, ap, List, [], ◌∷◌, ◌++◌, length, map, take, get_or, Option, Some, None, append_assoc, arith, filter, flat_map, reverse, range_with_len, fold-append, flat_map-append, append-nil, map-append, reverse-append, take_more, filter-append, entry_in, in_map, map_map, range_append, DiskCall, after, with_end, after-after, after-same, with_end-with_end, with_end-nil, Slab, In, in_flat, in_left, in_range, in_right, changes, Shift, Slabs, all_calls, all_moved, further, listed, slab_calls, slab_moved, slab_of, slabs_at, nat_tests}
 use Rattle.std.specs.Prelude.{fold}
 
 -- ---- two lists of slabs
@@ -14,20 +14,11 @@ called_append z a b = ap (λ ss. flat_map (slab_calls z) ss) (filter-append chan
 
 pub left_moved : (whole mid now : Option (List ℕ)) (part rest all : List Slab) → all ≡ part ++ rest → after (λ file. all_moved file all) mid ≡ whole
     → now ≡ after (λ file. all_moved file part) mid → after (λ file. all_moved file rest) now ≡ whole
-left_moved whole mid now part rest all e w k =
-    ap (λ told. after (λ file. all_moved file rest) told) k
-    ∙ after-after (λ file. all_moved file rest) (λ file. all_moved file part) mid
-    ∙ after-same (λ file. all_moved (all_moved file part) rest) (λ file. all_moved file all) mid
-    (λ file. sym (moved_append file part rest) ∙ ap (λ ss. all_moved file ss) (sym e))
-    ∙ w
+left_moved whole mid now part rest all e w k = grind (arith, nat_tests, after-after, after-same, moved_append)
 
 pub left_called : (whole mid now : Option (List DiskCall)) (z : ℕ) (part rest all : List Slab) → all ≡ part ++ rest → with_end mid (all_calls z all) ≡ whole
     → now ≡ with_end mid (all_calls z part) → with_end now (all_calls z rest) ≡ whole
-left_called whole mid now z part rest all e w k =
-    ap (λ told. with_end told (all_calls z rest)) k
-    ∙ with_end-with_end mid (all_calls z part) (all_calls z rest)
-    ∙ ap (λ calls. with_end mid calls) (sym (called_append z part rest) ∙ ap (λ ss. all_calls z ss) (sym e))
-    ∙ w
+left_called whole mid now z part rest all e w k = grind (arith, nat_tests, with_end-with_end mid (all_calls z part) (all_calls z rest), called_append z part rest)
 
 pub none_left : (whole now : Option (List ℕ)) (rest : List Slab) → rest ≡ [] → after (λ file. all_moved file rest) now ≡ whole → now ≡ whole
 none_left whole None rest e w = w
@@ -50,18 +41,12 @@ last_called whole mid now z part all e w k = k ∙ ap (λ ss. with_end mid (all_
 pub last_first : {A B : Type 0} (f : A → B) (xs : List A) (k n : ℕ) (d : A) → n ≡ k + 1 → k < length xs
     → reverse (map f (take n xs)) ≡ f (get_or xs k d) ∷ reverse (map f (take k xs))
 last_first f xs k n d e h =
-    ap (λ (m : ℕ). reverse (map f (take m xs))) e
-    ∙ ap (λ ys. reverse (map f ys)) (take_more xs k d h)
-    ∙ ap (λ ys. reverse ys) (map-append f (take k xs) (get_or xs k d ∷ []))
-    ∙ reverse-append (map f (take k xs)) (f (get_or xs k d) ∷ [])
+    grind (arith, nat_tests, take_more xs k d h, map-append f (take k xs) (get_or xs k d ∷ []), reverse-append (map f (take k xs)) (f (get_or xs k d) ∷ []))
 
 -- the slabs of one record from the last one down: the last of the first n, and those before it
 pub slab_first : (a b : ℕ) (ss : List Shift) (k n : ℕ) (d : Shift) (s : Slab) → s ≡ further a b (slab_of (get_or ss k d)) → n ≡ k + 1 → k < length ss
     → reverse (map (further a b) (map slab_of (take n ss))) ≡ (s ∷ []) ++ reverse (map (further a b) (map slab_of (take k ss)))
-slab_first a b ss k n d s e m h =
-    ap (λ ys. reverse ys) (map_map (further a b) slab_of (take n ss))
-    ∙ last_first (λ s. further a b (slab_of s)) ss k n d m h
-    ∙ (λ t. sym e t ∷ reverse (sym (map_map (further a b) slab_of (take k ss)) t))
+slab_first a b ss k n d s e m h = grind (arith, nat_tests, map_map (further a b) slab_of (take n ss), map_map (further a b) slab_of (take k ss), last_first)
 
 pub in_record : (a b : ℕ) (ss : List Shift) (k : ℕ) (d : Shift) → k < length ss → In (map (further a b) (map slab_of ss)) (further a b (slab_of (get_or ss k d)))
 in_record a b ss k d h = in_map (further a b) (map slab_of ss) (slab_of (get_or ss k d)) (in_map slab_of ss (get_or ss k d) (entry_in ss k d h))
@@ -75,47 +60,31 @@ below slabs n = reverse (map slab_of slabs.fixed.items ++ flat_map (slabs_at sla
 pub record_first : (slabs : Slabs) (r n a b : ℕ) → n ≡ r + 1 → a ≡ r * slabs.step.old → b ≡ r * slabs.step.new
     → below slabs n ≡ reverse (map (further a b) (map slab_of slabs.records.items)) ++ below slabs r
 record_first slabs r n a b e f g =
-    let f_of = slabs_at slabs.step slabs.records.items in
-    let fixed = map slab_of slabs.fixed.items in
-    ap (λ (m : ℕ). below slabs m) e
-    ∙ ap (λ rs. reverse (fixed ++ flat_map f_of rs)) (range_append 0 r 1)
-    ∙ ap (λ ss. reverse (fixed ++ ss)) (flat_map-append f_of (range_with_len 0 r) (range_with_len (0 + r) 1))
-    ∙ ap (λ ss. reverse ss) (sym (append_assoc fixed (flat_map f_of (range_with_len 0 r)) (flat_map f_of (range_with_len (0 + r) 1))))
-    ∙ reverse-append (fixed ++ flat_map f_of (range_with_len 0 r)) (flat_map f_of (range_with_len (0 + r) 1))
-    ∙ ap (λ ss. reverse ss ++ below slabs r) one
-  where
-    one : flat_map (slabs_at slabs.step slabs.records.items) (range_with_len (0 + r) 1) ≡ map (further a b) (map slab_of slabs.records.items)
-    one =
-        let same : 0 + r ≡ r = omega arith in
-        append-nil (slabs_at slabs.step slabs.records.items (0 + r))
-        ∙ ap (λ (m : ℕ). slabs_at slabs.step slabs.records.items m) same
-        ∙ (λ t. map (further (sym f t) (sym g t)) (map slab_of slabs.records.items))
+    grind (
+      arith,
+      nat_tests,
+      range_append 0 r 1,
+      flat_map-append (slabs_at slabs.step slabs.records.items) (range_with_len 0 r) (range_with_len (0 + r) 1),
+      append-nil (slabs_at slabs.step slabs.records.items (0 + r)),
+      append_assoc,
+      reverse-append,
+    )
 
 pub no_further : (a b : ℕ) (s : Slab) → a ≡ 0 → b ≡ 0 → further a b s ≡ s
-no_further a b s e f =
-    let from : s.from + a ≡ s.from = omega arith in
-    let to : s.to + b ≡ s.to = omega arith in
-    λ t. record { from = from t; to = to t; len = s.len }
+no_further a b s e f = grind (arith, nat_tests)
 
 pub map_id : {A : Type 0} (f : A → A) (xs : List A) → ((x : A) → f x ≡ x) → map f xs ≡ xs
 map_id f [] h = refl
 map_id f (x ∷ xs) h = λ t. h x t ∷ map_id f xs h t
 
 pub fixed_last : (slabs : Slabs) (n a b : ℕ) → n ≡ 0 → a ≡ 0 → b ≡ 0 → below slabs n ≡ reverse (map (further a b) (map slab_of slabs.fixed.items))
-fixed_last slabs n a b e f g =
-    ap (λ (m : ℕ). below slabs m) e
-    ∙ ap (λ ss. reverse ss) (append-nil (map slab_of slabs.fixed.items) ∙ sym (map_id (further a b) (map slab_of slabs.fixed.items) (λ s. no_further a b s f g)))
+fixed_last slabs n a b e f g = grind (arith, nat_tests, append-nil (map slab_of slabs.fixed.items), map_id, no_further)
 
 -- ---- each slab is one of those listed
 
 pub fixed_listed : (slabs : Slabs) (a b : ℕ) (s : Slab) → a ≡ 0 → b ≡ 0 → In (map (further a b) (map slab_of slabs.fixed.items)) s → In (listed slabs) s
-fixed_listed slabs a b s e f h =
-    in_left (map slab_of slabs.fixed.items) (flat_map (slabs_at slabs.step slabs.records.items) (range_with_len 0 slabs.count)) s
-    (subst (λ (ss : List Slab). In ss s) (map_id (further a b) (map slab_of slabs.fixed.items) (λ s. no_further a b s e f)) h)
+fixed_listed slabs a b s e f h = grind (arith, nat_tests, in_left, map_id, no_further)
 
 pub record_listed : (slabs : Slabs) (r a b : ℕ) (s : Slab) → r < slabs.count → a ≡ r * slabs.step.old → b ≡ r * slabs.step.new
     → In (map (further a b) (map slab_of slabs.records.items)) s → In (listed slabs) s
-record_listed slabs r a b s l e f h =
-    in_right (map slab_of slabs.fixed.items) (flat_map (slabs_at slabs.step slabs.records.items) (range_with_len 0 slabs.count)) s
-    (in_flat (slabs_at slabs.step slabs.records.items) (range_with_len 0 slabs.count) r s (in_range 0 slabs.count r (omega arith) (omega arith))
-    (subst (λ (ss : List Slab). In ss s) (λ t. map (further (e t) (f t)) (map slab_of slabs.records.items)) h))
+record_listed slabs r a b s l e f h = grind (arith, nat_tests, in_range 0 slabs.count r (omega arith) (omega arith), in_right, in_flat)

@@ -1,5 +1,5 @@
 -- The loops that place the variables.
-use Rattle.redef_mover.proofs.Words.{◌≡◌, ℕ, ◌+◌, ◌-◌, ◌^◌, ◌<◌, ◌≤◌, List, [], ◌∷◌, ◌++◌, length, take, get_or, map, min, fold, Bool, true, false, cond, Option, Some, refl, sym, ap, subst, ◌∙◌, arith, MatchOption, filter, not, nat_le, unwrap_or, enumerate_from, take_more, take_all, map-append, append-nil, get_or-map, length-map, sum_by_push, sum_by-cons, filter_more, filter-append, get_or-enumerate_from, length-enumerate_from, Header, Var, Byte, header_len, is_record, slab, vsize, least, inserted_by, Numbered, fixed_begins, front_after, begin_at, first_record, record_begins, begins_before, by_begin, fixed_order, begins_by_number, capped, capped_sum, capped_both, NumberedVar, Place, Side, Old, New, on_side, records_at, fixed_var, record_var, pairs, capped_pairs, vsizes}
+use Rattle.redef_mover.proofs.Words.{◌≡◌, ℕ, ◌+◌, ◌-◌, ◌^◌, ◌<◌, ◌≤◌, List, [], ◌∷◌, ◌++◌, length, take, get_or, map, min, fold, Bool, true, false, cond, Option, Some, refl, sym, ap, subst, ◌∙◌, arith, MatchOption, filter, not, nat_le, unwrap_or, enumerate_from, take_more, take_all, map-append, append-nil, get_or-map, length-map, sum_by_push, sum_by-cons, filter_more, filter-append, get_or-enumerate_from, length-enumerate_from, Header, Var, Byte, header_len, is_record, slab, vsize, least, inserted_by, Numbered, fixed_begins, front_after, begin_at, first_record, record_begins, begins_before, by_begin, fixed_order, begins_by_number, capped, capped_sum, capped_both, NumberedVar, Place, Side, Old, New, on_side, records_at, fixed_var, record_var, pairs, capped_pairs, vsizes, nat_tests}
 use Rattle.std.specs.Prelude.{◌&&◌}
 use Rattle.std.proofs.lemmas.List.{append_assoc}
 
@@ -9,8 +9,7 @@ abbrev pub chosen : (Numbered → Bool) → (Numbered → Bool) → List Var →
 chosen p q vars k = filter q (filter p (take k (enumerate_from 0 vars)))
 
 numbered_at : (vars : List Var) (k : ℕ) (v : Var) → k < length vars → v ≡ get_or vars k v → get_or (enumerate_from 0 vars) k (k, v) ≡ (k, v)
-numbered_at vars k v h there =
-    get_or-enumerate_from 0 vars k (k, v) h ∙ ap (λ (w : Var). (0 + k, w)) (sym there) ∙ ap (λ (n : ℕ). (n, v)) (let e : 0 + k ≡ k = omega arith in e)
+numbered_at vars k v h there = grind (arith, nat_tests, get_or-enumerate_from 0 vars k (k, v) h)
 
 chosen_by : (p q : Numbered → Bool) (vars : List Var) (k : ℕ) (v : Var) → k < length vars → v ≡ get_or vars k v
     → chosen p q vars (k + 1) ≡ chosen p q vars k ++ filter q (cond (p (k, v)) ((k, v) ∷ []) [])
@@ -23,21 +22,11 @@ chosen_by p q vars k v h there =
 
 pub chosen_more : (p q : Numbered → Bool) (vars : List Var) (k : ℕ) (v : Var) → k < length vars → v ≡ get_or vars k v → (p (k, v) && q (k, v)) ≡ true
     → chosen p q vars (k + 1) ≡ chosen p q vars k ++ (k, v) ∷ []
-chosen_more p q vars k v h there e =
-    chosen_by p q vars k v h there ∙ ap (λ xs. chosen p q vars k ++ xs) (by_tests (p (k, v)) (q (k, v)) refl e)
-  where
-    by_tests : (t u : Bool) → q (k, v) ≡ u → (t && u) ≡ true → filter q (cond t ((k, v) ∷ []) []) ≡ (k, v) ∷ []
-    by_tests true u f g = ap (λ (b : Bool). cond b ((k, v) ∷ []) []) (f ∙ g)
-    by_tests false u f g = cc
+chosen_more p q vars k v h there e = grind (arith, nat_tests, chosen_by p q vars k v h there)
 
 pub chosen_same : (p q : Numbered → Bool) (vars : List Var) (k : ℕ) (v : Var) → k < length vars → v ≡ get_or vars k v → (p (k, v) && q (k, v)) ≡ false
     → chosen p q vars (k + 1) ≡ chosen p q vars k
-chosen_same p q vars k v h there e =
-    chosen_by p q vars k v h there ∙ ap (λ xs. chosen p q vars k ++ xs) (by_tests (p (k, v)) (q (k, v)) refl e) ∙ append-nil (chosen p q vars k)
-  where
-    by_tests : (t u : Bool) → q (k, v) ≡ u → (t && u) ≡ false → filter q (cond t ((k, v) ∷ []) []) ≡ []
-    by_tests true u f g = ap (λ (b : Bool). cond b ((k, v) ∷ []) []) (f ∙ g)
-    by_tests false u f g = refl
+chosen_same p q vars k v h there e = grind (arith, nat_tests, chosen_by p q vars k v h there, append-nil)
 
 pub chosen_all : (p q : Numbered → Bool) (vars : List Var) (k : ℕ) → length vars ≤ k → chosen p q vars k ≡ filter q (filter p (enumerate_from 0 vars))
 chosen_all p q vars k h =
@@ -62,18 +51,13 @@ pub fixed_pushed : (header : Header) (n k : ℕ) (side : Side) (v : Var) (len : 
     → now ≡ old ++ map (fixed_var header) (fixed_before header n side k)
     → after ≡ old ++ map (fixed_var header) (fixed_before header n side (k + 1))
 fixed_pushed header n k side v len old now after within there test long pushed so_far =
-    pushed
-    ∙ ap (λ (m : ℕ). now ++ record { number = k; begin = v.begin; len = m } ∷ []) long
-    ∙ ap (λ (xs : List NumberedVar). xs ++ fixed_var header (k, v) ∷ []) so_far
-    ∙ one_more (fixed_var header) old (fixed_before header n side k) (k, v)
-    ∙ ap (λ xs. old ++ map (fixed_var header) xs) (sym (chosen_more (λ w. not (is_record header w.1)) (on_side n side) header.vars k v within there test))
+    grind (arith, nat_tests, one_more (fixed_var header) old (fixed_before header n side k) (k, v), chosen_more)
 
 pub fixed_passed : (header : Header) (n k : ℕ) (side : Side) (v : Var) (old now : List NumberedVar) → k < length header.vars → v ≡ get_or header.vars k v
     → (not (is_record header v) && on_side n side (k, v)) ≡ false
     → now ≡ old ++ map (fixed_var header) (fixed_before header n side k)
     → now ≡ old ++ map (fixed_var header) (fixed_before header n side (k + 1))
-fixed_passed header n k side v old now within there test so_far =
-    so_far ∙ ap (λ xs. old ++ map (fixed_var header) xs) (sym (chosen_same (λ w. not (is_record header w.1)) (on_side n side) header.vars k v within there test))
+fixed_passed header n k side v old now within there test so_far = grind (arith, nat_tests, chosen_same)
 
 pub records_pushed : (header : Header) (n k : ℕ) (v : Var) (len : ℕ) (old now after : List NumberedVar) → k < length header.vars → v ≡ get_or header.vars k v
     → (is_record header v && on_side n Old (k, v)) ≡ true → len ≡ capped (vsize header v)
@@ -81,18 +65,13 @@ pub records_pushed : (header : Header) (n k : ℕ) (v : Var) (len : ℕ) (old no
     → now ≡ old ++ map (record_var header) (records_before header n Old k)
     → after ≡ old ++ map (record_var header) (records_before header n Old (k + 1))
 records_pushed header n k v len old now after within there test long pushed so_far =
-    pushed
-    ∙ ap (λ (m : ℕ). now ++ record { number = k; begin = v.begin; len = m } ∷ []) long
-    ∙ ap (λ (xs : List NumberedVar). xs ++ record_var header (k, v) ∷ []) so_far
-    ∙ one_more (record_var header) old (records_before header n Old k) (k, v)
-    ∙ ap (λ xs. old ++ map (record_var header) xs) (sym (chosen_more (λ w. is_record header w.1) (on_side n Old) header.vars k v within there test))
+    grind (arith, nat_tests, one_more (record_var header) old (records_before header n Old k) (k, v), chosen_more)
 
 pub records_passed : (header : Header) (n k : ℕ) (v : Var) (old now : List NumberedVar) → k < length header.vars → v ≡ get_or header.vars k v
     → (is_record header v && on_side n Old (k, v)) ≡ false
     → now ≡ old ++ map (record_var header) (records_before header n Old k)
     → now ≡ old ++ map (record_var header) (records_before header n Old (k + 1))
-records_passed header n k v old now within there test so_far =
-    so_far ∙ ap (λ xs. old ++ map (record_var header) xs) (sym (chosen_same (λ w. is_record header w.1) (on_side n Old) header.vars k v within there test))
+records_passed header n k v old now within there test so_far = grind (arith, nat_tests, chosen_same)
 
 -- ---- placing the fixed variables
 
@@ -105,17 +84,12 @@ pairs_pushed places p = map-append (λ (q : Place). (q.number, q.begin)) places 
 -- the pairs after one more
 pairs_more : (old now after : List Place) (p : Place) (found : List (ℕ × ℕ)) (begin : ℕ) → after ≡ now ++ p ∷ [] → p.begin ≡ capped begin
     → pairs now ≡ pairs old ++ capped_pairs found → pairs after ≡ pairs old ++ capped_pairs (found ++ (p.number, begin) ∷ [])
-pairs_more old now after p found begin pushed is so_far =
-    ap (λ ps. pairs ps) pushed ∙ pairs_pushed now p
-    ∙ ap (λ (n : ℕ). pairs now ++ (p.number, n) ∷ []) is
-    ∙ ap (λ (ps : List (ℕ × ℕ)). ps ++ (p.number, capped begin) ∷ []) so_far
-    ∙ one_more (λ (b : ℕ × ℕ). (b.0, capped b.1)) (pairs old) found (p.number, begin)
+pairs_more old now after p found begin pushed is so_far = grind (arith, nat_tests, pairs_pushed now p, one_more)
 
 begins_push : (header : Header) (front : ℕ) (vars : List Numbered) (v : Numbered)
     → fixed_begins header front (vars ++ v ∷ []) ≡ fixed_begins header front vars ++ (v.0, begin_at (front_after header front vars) v.1) ∷ []
 begins_push header front [] v = refl
-begins_push header front (w ∷ vars) v =
-    ap (λ bs. (w.0, begin_at front w.1) ∷ bs) (begins_push header (begin_at front w.1 + slab header w.1) vars v)
+begins_push header front (w ∷ vars) v = grind (arith, nat_tests, begins_push header (begin_at front w.1 + slab header w.1) vars v)
 
 front_push : (header : Header) (front : ℕ) (vars : List Numbered) (v : Numbered)
     → front_after header front (vars ++ v ∷ []) ≡ begin_at (front_after header front vars) v.1 + slab header v.1
@@ -194,11 +168,7 @@ kept_apart m least vars = map (λ v. (v.0, m + (v.1.begin - least))) vars
 
 end_more : (header : Header) (m : ℕ) (vars : List Numbered) (v : Numbered) (end next bytes : ℕ) → bytes ≡ capped (vsize header v.1) → next ≡ capped (end + bytes)
     → end ≡ capped (m + vsizes header vars) → next ≡ capped (m + vsizes header (vars ++ v ∷ []))
-end_more header m vars v end next bytes e f g =
-    let more = sum_by_push (λ (w : Numbered). vsize header w.1) vars v in
-    f ∙ ap (λ (i : ℕ). capped (end + i)) e ∙ ap (λ (i : ℕ). capped (i + capped (vsize header v.1))) g
-    ∙ capped_both (m + vsizes header vars) (vsize header v.1)
-    ∙ ap (λ (i : ℕ). capped i) (omega (arith, more))
+end_more header m vars v end next bytes e f g = grind (arith, nat_tests, capped_both (m + vsizes header vars) (vsize header v.1), sum_by_push)
 
 -- after the first k of the order
 pub record OldSoFar (order : List NumberedVar) (first least k : ℕ) (old now : List Place) (end : ℕ) : Type 0 where
@@ -206,8 +176,7 @@ pub record OldSoFar (order : List NumberedVar) (first least k : ℕ) (old now : 
       → (pairs now ≡ pairs old ++ capped_pairs (kept_apart m least (take k vars))) × (end ≡ capped (m + vsizes header (take k vars)))
 
 pub old_none : (order : List NumberedVar) (first least : ℕ) (old : List Place) → OldSoFar order first least 0 old old first
-old_none order first least old =
-    record { placed = λ header vars m e f. (sym (append-nil (pairs old)), f ∙ ap (λ (i : ℕ). capped i) (let z : m ≡ m + 0 = omega arith in z)) }
+old_none order first least old = grind (arith, nat_tests, append-nil (pairs old))
 
 pub old_next : (order : List NumberedVar) (first least k : ℕ) (old now after : List Place) (end begin next : ℕ) (item : NumberedVar) → k < length order → item ≡ get_or order k item
     → begin ≡ capped (first + (item.begin - least)) → next ≡ capped (end + item.len)
@@ -299,17 +268,11 @@ new_next header n first k v old now after begin next bytes within there test siz
 pub new_passed : (header : Header) (n first k : ℕ) (v : Var) (old now : List Place) (begin : ℕ) → k < length header.vars → v ≡ get_or header.vars k v
     → (is_record header v && on_side n New (k, v)) ≡ false
     → NewSoFar header n first k old now begin → NewSoFar header n first (k + 1) old now begin
-new_passed header n first k v old now begin within there test so_far = record {
-  placed = λ m e.
-      let same = sym (chosen_same (λ w. is_record header w.1) (on_side n New) header.vars k v within there test) in
-      let before = so_far.placed m e in
-      (before.0 ∙ ap (λ vs. pairs old ++ capped_pairs (record_begins header m vs)) same, before.1 ∙ ap (λ vs. capped (m + vsizes header vs)) same);
-}
+new_passed header n first k v old now begin within there test so_far = grind (arith, nat_tests, chosen_same)
 
 pub new_whole : (header : Header) (n first k : ℕ) (old now : List Place) (begin : ℕ) → length header.vars ≤ k → NewSoFar header n first k old now begin
     → (m : ℕ) → first ≡ capped m → pairs now ≡ pairs old ++ capped_pairs (record_begins header m (records_at header n New))
-new_whole header n first k old now begin past so_far m e =
-    (so_far.placed m e).0 ∙ ap (λ vs. pairs old ++ capped_pairs (record_begins header m vs)) (chosen_all (λ w. is_record header w.1) (on_side n New) header.vars k past)
+new_whole header n first k old now begin past so_far m e = grind (arith, nat_tests, chosen_all)
 
 -- ---- all of them
 

@@ -94,19 +94,15 @@ bad_here header bad places i p t d one h there told at = bad_told header bad p t
 
 find_step : (header : Header) (places : List Place) (i : ℕ) (p : Place) → i < length places → p ≡ get_or places i p
     → find (is_bad_begin header) (pairs (drop i places)) ≡ cond (is_bad_begin header (p.number, p.begin)) (Some (p.number, p.begin)) (find (is_bad_begin header) (pairs (drop (i + 1) places)))
-find_step header places i p h there =
-    ap (λ (ps : List Place). find (is_bad_begin header) (pairs ps)) (drop_more places i p h ∙ ap (λ (q : Place). q ∷ drop (i + 1) places) (sym there))
+find_step header places i p h there = grind (arith, nat_tests, drop_more places i p h)
 
 pub find_stops : (header : Header) (places : List Place) (i : ℕ) (p : Place) → i < length places → p ≡ get_or places i p → is_bad_begin header (p.number, p.begin) ≡ true
     → find (is_bad_begin header) (pairs (drop i places)) ≡ find (is_bad_begin header) (pairs places) → find (is_bad_begin header) (pairs places) ≡ Some (p.number, p.begin)
-find_stops header places i p h there bad so_far =
-    sym so_far ∙ find_step header places i p h there
-    ∙ ap (λ (t : Bool). cond t (Some (p.number, p.begin)) (find (is_bad_begin header) (pairs (drop (i + 1) places)))) bad
+find_stops header places i p h there bad so_far = grind (arith, nat_tests, find_step header places i p h there)
 
 pub find_goes_on : (header : Header) (places : List Place) (i : ℕ) (p : Place) → i < length places → p ≡ get_or places i p → is_bad_begin header (p.number, p.begin) ≡ false
     → find (is_bad_begin header) (pairs (drop i places)) ≡ find (is_bad_begin header) (pairs places) → find (is_bad_begin header) (pairs (drop (i + 1) places)) ≡ find (is_bad_begin header) (pairs places)
-find_goes_on header places i p h there good so_far =
-    sym (find_step header places i p h there ∙ ap (λ (t : Bool). cond t (Some (p.number, p.begin)) (find (is_bad_begin header) (pairs (drop (i + 1) places)))) good) ∙ so_far
+find_goes_on header places i p h there good so_far = grind (arith, nat_tests, find_step header places i p h there)
 
 pub find_ends : (header : Header) (places : List Place) (i : ℕ) → length places ≤ i → find (is_bad_begin header) (pairs (drop i places)) ≡ find (is_bad_begin header) (pairs places)
     → find (is_bad_begin header) (pairs places) ≡ None

@@ -1,6 +1,6 @@
 -- The header with its new begins, and why there is none.
-use Rattle.redef_mover.proofs.Words.{◌≡◌, ℕ, zero, suc, ◌+◌, ◌-◌, ◌*◌, ◌^◌, ◌<◌, List, [], ◌∷◌, length, take, map, Bool, true, false, cond, Option, Some, None, refl, sym, ap, ◌∙◌, arith, sum_by, find, option_map, slice_get, nat_lt, nat_le, not, ◌==◌, if◌then◌else◌, enumerate_from, prefix_len, option_or, nat_tests, sum_by-cons, found_passes, found_fails, none_before_map, rebegun_len, Header, Var, Extra, LayoutErr, RedefErr, most_header_bytes, file_limit, header_len, keeps_bound, is_record, slab, vsize, record_share, record_size, record_variables, Numbered, is_large_var, size_fault, is_far_begin, is_bad_begin, begin_of_number, with_begins, begins_by_number, extras_fault, added, redefined_header, redefined_fault, capped, capped_pairs}
-use Rattle.std.specs.Prelude.{position, ◌&&◌, ◌||◌}
+use Rattle.redef_mover.proofs.Words.{◌≡◌, ℕ, zero, suc, ◌+◌, ◌-◌, ◌*◌, ◌^◌, List, [], ◌∷◌, length, take, map, Bool, true, false, cond, Option, Some, None, refl, sym, ap, ◌∙◌, arith, sum_by, find, option_map, slice_get, nat_lt, nat_le, not, ◌==◌, if◌then◌else◌, enumerate_from, prefix_len, option_or, nat_tests, sum_by-cons, found_passes, found_fails, none_before_map, rebegun_len, Header, Var, Extra, LayoutErr, RedefErr, file_limit, keeps_bound, is_record, slab, vsize, record_share, record_size, record_variables, Numbered, is_large_var, size_fault, is_far_begin, is_bad_begin, begin_of_number, with_begins, begins_by_number, extras_fault, added, redefined_header, redefined_fault, capped, capped_pairs}
+use Rattle.std.specs.Prelude.{◌&&◌, ◌||◌}
 use Rattle.nc_base.specs.declared.errors.LayoutErr.TheVariants as layout
 use Rattle.nc_base.specs.declared.errors.RedefErr.TheVariants as redef
 use Rattle.serial_spec.specs.Layout.{record_slabs}
@@ -15,21 +15,12 @@ begun_sum_front : (f : Var → ℕ) → ((v : Var) (b : ℕ) → f (record v { b
 begun_sum_front f same found n [] zero = refl
 begun_sum_front f same found n [] (suc k) = refl
 begun_sum_front f same found n (v ∷ vars) zero = refl
-begun_sum_front f same found n (v ∷ vars) (suc k) =
-    sum_by-cons f (record v { begin = begin_of_number found n }) (take k (begun (n + 1) found vars))
-    ∙ ap (λ (m : ℕ). m + sum_by f (take k (begun (n + 1) found vars))) (same v (begin_of_number found n))
-    ∙ ap (λ (m : ℕ). f v + m) (begun_sum_front f same found (n + 1) vars k) ∙ sym (sum_by-cons f v (take k vars))
+begun_sum_front f same found n (v ∷ vars) (suc k) = grind (arith, nat_tests, begun_sum_front f same found (n + 1) vars k, sum_by-cons)
 
 begun_slabs : (header : Header) (found : List (ℕ × ℕ)) (n : ℕ) (vars : List Var)
     → map (λ v. slab header v) (record_variables header (begun n found vars)) ≡ map (λ v. slab header v) (record_variables header vars)
 begun_slabs header found n [] = refl
-begun_slabs header found n (v ∷ vars) = by_test (is_record header v) (begun_slabs header found (n + 1) vars)
-  where
-    by_test : (t : Bool) → map (λ w. slab header w) (record_variables header (begun (n + 1) found vars)) ≡ map (λ w. slab header w) (record_variables header vars)
-        → map (λ w. slab header w) (cond t (record v { begin = begin_of_number found n } ∷ record_variables header (begun (n + 1) found vars)) (record_variables header (begun (n + 1) found vars)))
-        ≡ map (λ w. slab header w) (cond t (v ∷ record_variables header vars) (record_variables header vars))
-    by_test true rest = ap (λ ns. slab header v ∷ ns) rest
-    by_test false rest = rest
+begun_slabs header found n (v ∷ vars) = grind (arith, nat_tests, begun_slabs header found (n + 1) vars)
 
 begun_large : (header : Header) (found : List (ℕ × ℕ)) (n : ℕ) (vars : List Var)
     → prefix_len (λ v. not (is_large_var header v)) (begun n found vars) ≡ prefix_len (λ v. not (is_large_var header v)) vars
@@ -41,12 +32,7 @@ length-begun found n [] = refl
 length-begun found n (v ∷ vars) = ap (λ (m : ℕ). suc m) (length-begun found (n + 1) vars)
 
 pub size_kept : (header : Header) (found : List (ℕ × ℕ)) → size_fault (with_begins header found) ≡ size_fault header
-size_kept header found =
-    ap (λ (m : ℕ). option_or (option_map (λ k. layout.VarSize k) (cond (nat_lt m (length (begun 0 found header.vars))) (Some m) None))
-    (if nat_lt most_header_bytes (header_len (with_begins header found)) then Some layout.HeaderRange else None)) (begun_large header found 0 header.vars)
-    ∙ ap (λ (m : ℕ). option_or (option_map (λ k. layout.VarSize k) (cond (nat_lt (prefix_len (λ v. not (is_large_var header v)) header.vars) m) (Some (prefix_len (λ v. not (is_large_var header v)) header.vars)) None))
-    (if nat_lt most_header_bytes (header_len (with_begins header found)) then Some layout.HeaderRange else None)) (length-begun found 0 header.vars)
-    ∙ ap (λ (m : ℕ). option_or (option_map (λ k. layout.VarSize k) (position (is_large_var header) header.vars)) (if nat_lt most_header_bytes m then Some layout.HeaderRange else None)) (rebegun_len header found)
+size_kept header found = grind (arith, nat_tests, begun_large header found 0 header.vars, length-begun found 0 header.vars, rebegun_len header found)
 
 -- ---- whether a begin is out of range, by its number alone
 
@@ -66,9 +52,7 @@ get_begun : (found : List (ℕ × ℕ)) (n : ℕ) (vars : List Var) (k : ℕ)
     → slice_get (begun n found vars) k ≡ option_map (λ (v : Var). record v { begin = begin_of_number found (n + k) }) (slice_get vars k)
 get_begun found n [] k = refl
 get_begun found n (v ∷ vars) zero = ap (λ (m : ℕ). Some (record v { begin = begin_of_number found m })) (let e : n ≡ n + 0 = omega arith in e)
-get_begun found n (v ∷ vars) (suc k) =
-    get_begun found (n + 1) vars k
-    ∙ ap (λ (m : ℕ). option_map (λ (w : Var). record w { begin = begin_of_number found m }) (slice_get vars k)) (let e : n + 1 + k ≡ n + suc k = omega arith in e)
+get_begun found n (v ∷ vars) (suc k) = grind (arith, nat_tests, get_begun found (n + 1) vars k)
 
 unfoldable bad_of : Header → List (ℕ × ℕ) → ℕ → Option Var → Bool
 bad_of header found k None = false
@@ -106,51 +90,21 @@ bad_is header found b =
 -- ---- capped begins
 
 far_capped : (n : ℕ) → nat_le (2 ^ 31) (capped n) ≡ nat_le (2 ^ 31) n
-far_capped n = by_tests (nat_le (2 ^ 31) (capped n)) (nat_le (2 ^ 31) n) refl refl
-  where
-    by_tests : (t u : Bool) → nat_le (2 ^ 31) (capped n) ≡ t → nat_le (2 ^ 31) n ≡ u → t ≡ u
-    by_tests true true e f = refl
-    by_tests true false e f = absurd (grind (arith, nat_tests))
-    by_tests false true e f = absurd (grind (arith, nat_tests))
-    by_tests false false e f = refl
+far_capped n = grind (arith, nat_tests)
 
 sum_capped : (n m : ℕ) → nat_lt (capped n + m) (2 ^ 62) ≡ nat_lt (n + m) (2 ^ 62)
-sum_capped n m = by_tests (nat_lt (capped n + m) (2 ^ 62)) (nat_lt (n + m) (2 ^ 62)) refl refl
-  where
-    by_tests : (t u : Bool) → nat_lt (capped n + m) (2 ^ 62) ≡ t → nat_lt (n + m) (2 ^ 62) ≡ u → t ≡ u
-    by_tests true true e f = refl
-    by_tests true false e f = absurd (grind (arith, nat_tests))
-    by_tests false true e f = absurd (grind (arith, nat_tests))
-    by_tests false false e f = refl
+sum_capped n m = grind (arith, nat_tests)
 
 two_capped : (n m k : ℕ) → nat_lt (capped n + m + k) (2 ^ 62) ≡ nat_lt (n + m + k) (2 ^ 62)
-two_capped n m k =
-    ap (λ (i : ℕ). nat_lt i (2 ^ 62)) (let e : capped n + m + k ≡ capped n + (m + k) = omega arith in e) ∙ sum_capped n (m + k)
-    ∙ ap (λ (i : ℕ). nat_lt i (2 ^ 62)) (let e : n + (m + k) ≡ n + m + k = omega arith in e)
+two_capped n m k = grind (arith, nat_tests, sum_capped n (m + k))
 
 bad_capped : (header : Header) (v : Var) (begin before : ℕ) (slabs : List ℕ) → bad_by header v (capped begin) before slabs ≡ bad_by header v begin before slabs
 unfolding bad_by
-bad_capped header v begin before slabs =
-    ap (λ (t : Bool). whole t (nat_lt (capped begin + vsize header v) file_limit) (nat_lt (capped begin + (header.records - 1) * record_size slabs + (if length slabs == 1 then slab header v else vsize header v)) file_limit)) (far_capped begin)
-    ∙ ap (λ (t : Bool). whole (nat_le (2 ^ 31) begin) t (nat_lt (capped begin + (header.records - 1) * record_size slabs + (if length slabs == 1 then slab header v else vsize header v)) file_limit)) (sum_capped begin (vsize header v))
-    ∙ ap (λ (t : Bool). whole (nat_le (2 ^ 31) begin) (nat_lt (begin + vsize header v) file_limit) t)
-    (two_capped begin ((header.records - 1) * record_size slabs) (if length slabs == 1 then slab header v else vsize header v))
-  where
-    whole : Bool → Bool → Bool → Bool
-    whole t u w =
-        not (not (header.version == 1 && t)
-        && (nat_lt (vsize header v) file_limit && u
-        && (not (is_record header v) || (nat_lt (before + vsize header v) file_limit && (header.records == 0 || w)))))
+bad_capped header v begin before slabs = grind (arith, nat_tests, far_capped begin, sum_capped begin (vsize header v), two_capped)
 
 number_capped : (found : List (ℕ × ℕ)) (k : ℕ) → begin_of_number (capped_pairs found) k ≡ capped (begin_of_number found k)
 number_capped [] k = refl
-number_capped (b ∷ found) k = by_test (b.0 == k) (number_capped found k)
-  where
-    by_test : (t : Bool) → begin_of_number (capped_pairs found) k ≡ capped (begin_of_number found k)
-        → elim (cond t (Some (b.0, capped b.1)) (find (λ (x : ℕ × ℕ). x.0 == k) (capped_pairs found))) [ None ↦ 0 | Some x ↦ x.1 ]
-        ≡ capped (elim (cond t (Some b) (find (λ (x : ℕ × ℕ). x.0 == k) found)) [ None ↦ 0 | Some x ↦ x.1 ])
-    by_test true rest = refl
-    by_test false rest = rest
+number_capped (b ∷ found) k = grind (arith, nat_tests, number_capped found k)
 
 same_bad : (header : Header) (found : List (ℕ × ℕ)) (b : ℕ × ℕ) → is_bad_begin (with_begins header (capped_pairs found)) (b.0, capped b.1) ≡ is_bad_begin (with_begins header found) b
 same_bad header found b =
@@ -190,18 +144,7 @@ none_first header found h =
 
 good_small : (header : Header) (v : Var) (begin before : ℕ) (slabs : List ℕ) → bad_by header v begin before slabs ≡ false → capped begin ≡ begin
 unfolding bad_by
-good_small header v begin before slabs h =
-    by_tests (header.version == 1 && nat_le (2 ^ 31) begin) (nat_lt (vsize header v) file_limit) (nat_lt (begin + vsize header v) file_limit)
-    (not (is_record header v)
-    || (nat_lt (before + vsize header v) file_limit
-    && (header.records == 0 || nat_lt (begin + (header.records - 1) * record_size slabs + (if length slabs == 1 then slab header v else vsize header v)) file_limit)))
-    refl h
-  where
-    by_tests : (t u w x : Bool) → nat_lt (begin + vsize header v) file_limit ≡ w → not (not t && (u && w && x)) ≡ false → capped begin ≡ begin
-    by_tests true u w x e f = cc
-    by_tests false true true x e f = let below : begin + vsize header v < 2 ^ 62 = grind (arith, nat_tests) in omega arith
-    by_tests false true false x e f = cc
-    by_tests false false w x e f = cc
+good_small header v begin before slabs h = grind (arith, nat_tests)
 
 -- where no begin is out of range, each is below 2^62
 number_same : (header : Header) (found : List (ℕ × ℕ)) (k : ℕ) (v : Var) → find (is_bad_begin (with_begins header found)) found ≡ None → slice_get header.vars k ≡ Some v
@@ -259,28 +202,18 @@ first_told (Some x) o e h = sym h
 
 second_told : (a : Option LayoutErr) (o : Option (ℕ × ℕ)) → a ≡ None
     → option_map (λ x. redef.Layout x) (option_or a (option_map (λ (b : ℕ × ℕ). layout.BeginRange b.0) o)) ≡ option_map (λ (b : ℕ × ℕ). redef.Layout (layout.BeginRange b.0)) o
-second_told None None h = refl
-second_told None (Some b) h = refl
-second_told (Some x) o h = cc
+second_told a o h = grind (arith, nat_tests)
 
 pub fault_of_size : (old new : Header) (extras : List Extra) (e : RedefErr) → extras_fault old extras ≡ None → new ≡ added old extras → Some e ≡ option_map (λ x. redef.Layout x) (size_fault new)
     → redefined_fault old extras ≡ Some e
 fault_of_size old new extras e none made told =
-    let header = added old extras in
-    let found = begins_by_number header (length old.vars) in
-    past_extras old extras none
-    ∙ first_told (size_fault (with_begins header found)) (find (is_bad_begin (with_begins header found)) found) e
-    (told ∙ ap (λ (h : Header). option_map (λ x. redef.Layout x) (size_fault h)) made ∙ ap (λ (o : Option LayoutErr). option_map (λ x. redef.Layout x) o) (sym (size_kept header found)))
+    grind (arith, nat_tests, past_extras old extras none, size_kept (added old extras) (begins_by_number (added old extras) (length old.vars)), first_told)
 
 past_sizes : (old new : Header) (extras : List Extra) → extras_fault old extras ≡ None → new ≡ added old extras → option_map (λ x. redef.Layout x) (size_fault new) ≡ None
     → redefined_fault old extras
     ≡ option_map (λ (b : ℕ × ℕ). redef.Layout (layout.BeginRange b.0)) (find (is_bad_begin (redefined_header old extras)) (begins_by_number (added old extras) (length old.vars)))
 past_sizes old new extras none made small =
-    let header = added old extras in
-    let found = begins_by_number header (length old.vars) in
-    past_extras old extras none
-    ∙ second_told (size_fault (with_begins header found)) (find (is_bad_begin (with_begins header found)) found)
-    (size_kept header found ∙ ap (λ (h : Header). size_fault h) (sym made) ∙ none_before_map (λ x. redef.Layout x) (size_fault new) small)
+    grind (arith, nat_tests, past_extras old extras none, size_kept (added old extras) (begins_by_number (added old extras) (length old.vars)), second_told, none_before_map)
 
 pub fault_of_begin : (old new left : Header) (extras : List Extra) (places : List (ℕ × ℕ)) (e : RedefErr) → extras_fault old extras ≡ None → new ≡ added old extras
     → option_map (λ x. redef.Layout x) (size_fault new) ≡ None → places ≡ capped_pairs (begins_by_number new (length old.vars)) → left ≡ with_begins new places

@@ -1,5 +1,5 @@
 -- The bytes of a file in which a slab was moved.
-use Rattle.redef_mover.proofs.Words.{◌≡◌, ℕ, ◌+◌, ◌-◌, ◌<◌, ◌≤◌, inl, inr, sym, ◌∙◌, ap, List, length, arith, same_file, Slab, at, read, read_long, read_at, at-written_before, at-written_after, length-written_inside, at-written_inside, slab_moved, cases_lt}
+use Rattle.redef_mover.proofs.Words.{◌≡◌, ℕ, ◌+◌, ◌-◌, ◌<◌, ◌≤◌, inl, inr, sym, ◌∙◌, ap, List, length, arith, same_file, Slab, at, read, read_long, read_at, at-written_before, at-written_after, length-written_inside, at-written_inside, slab_moved, cases_lt, nat_tests}
 
 -- ---- one slab
 
@@ -17,22 +17,11 @@ moved_after file s x h =
     at-written_after file (read file s.from s.len) s.to x (omega arith)
 
 pub moved_inside : (file : List ℕ) (s : Slab) (x : ℕ) → s.to ≤ x → x < s.to + s.len → at (slab_moved file s) x ≡ at file (s.from + (x - s.to))
-moved_inside file s x h k =
-    let bytes = read_long file s.from s.len in
-    at-written_inside file (read file s.from s.len) s.to x h (omega arith) ∙ read_at file s.from s.len (x - s.to) (omega arith)
+moved_inside file s x h k = grind (arith, nat_tests, read_long, at-written_inside, read_at)
 
 -- a slab that stays
 pub moved_nowhere : (file : List ℕ) (s : Slab) → s.from ≡ s.to → s.to + s.len ≤ length file → slab_moved file s ≡ file
-moved_nowhere file s e h = same_file (slab_moved file s) file (moved_long file s h) each
-  where
-    each : (x : ℕ) → at (slab_moved file s) x ≡ at file x
-    each x = elim (cases_lt x s.to) [
-      | inl l ↦ moved_before file s x l
-      | inr l ↦ elim (cases_lt x (s.to + s.len)) [
-        | inl m ↦ (let same : s.from + (x - s.to) ≡ x = omega arith in moved_inside file s x l m ∙ ap (λ (y : ℕ). at file y) same)
-        | inr m ↦ moved_after file s x m
-      ]
-    ]
+moved_nowhere file s e h = grind (arith, nat_tests, moved_long file s h, same_file, cases_lt, moved_before, moved_inside, moved_after)
 
 -- ---- the upper part first, then the lower one
 

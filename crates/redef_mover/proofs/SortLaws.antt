@@ -1,5 +1,5 @@
 -- The slabs of the variables, listed and sorted as the code does.
-use Rattle.redef_mover.proofs.Words.{◌≡◌, ℕ, zero, suc, ◌+◌, ◌<◌, ◌≤◌, ◌⊎◌, inl, inr, refl, sym, ◌∙◌, ap, subst, List, [], ◌∷◌, ◌++◌, length, map, take, get_or, Bool, true, false, cond, Less, Equal, Greater, arith, nat_lt, nat_le, ◌==◌, not, enumerate_from, zip, ties, IsNonDecreasingBy, IsSortedByKey, IsStableByKey, is_lt, nat_cmp, nat_tests, map-append, take_more, filter-append, IsNonDecreasingBy-from_sort, length-enumerate_from, Var, Slab, inserted_by, lowest_first, stands_below, Shift, is_kind, slab_of, first_same, cases_lt, cons_rest, nil_cons}
+use Rattle.redef_mover.proofs.Words.{◌≡◌, ℕ, zero, suc, ◌+◌, ◌<◌, ◌≤◌, refl, sym, ◌∙◌, ap, List, [], ◌∷◌, ◌++◌, length, map, take, get_or, Bool, true, false, cond, Less, Equal, Greater, arith, nat_lt, nat_le, ◌==◌, not, enumerate_from, zip, ties, IsNonDecreasingBy, IsSortedByKey, IsStableByKey, is_lt, nat_cmp, nat_tests, map-append, take_more, filter-append, IsNonDecreasingBy-from_sort, length-enumerate_from, Var, Slab, inserted_by, lowest_first, stands_below, Shift, is_kind, slab_of, first_same, cases_lt, cons_rest, nil_cons}
 use Rattle.std.specs.Prelude.{◌&&◌}
 use Rattle.std.specs.List.{filter}
 use Rattle.std.proofs.Math.Seq.{take_all}
@@ -12,18 +12,11 @@ use borrow.Author.Tests.{ltb-true, ltb-false, eqb-true, leb-true, leb-false}
 pub listed_more : {A B : Type 0} (test : A → Bool) (f : A → B) (all : List A) (n m : ℕ) (x : A) → n < length all → x ≡ get_or all n x → m ≡ n + 1
     → map f (filter test (take m all)) ≡ map f (filter test (take n all)) ++ map f (filter test (x ∷ []))
 listed_more test f all n m x h e k =
-    ap (λ (i : ℕ). map f (filter test (take i all))) k
-    ∙ ap (λ xs. map f (filter test xs)) (take_more all n x h)
-    ∙ ap (λ y. map f (filter test (take n all ++ y ∷ []))) (sym e)
-    ∙ ap (λ xs. map f xs) (filter-append test (take n all) (x ∷ []))
-    ∙ map-append f (filter test (take n all)) (filter test (x ∷ []))
+    grind (arith, nat_tests, take_more all n x h, filter-append test (take n all) (x ∷ []), map-append f (filter test (take n all)) (filter test (x ∷ [])))
 
 -- the test of the code
 pub same_kind : (kind records : Bool) → beq kind records ≡ is_kind records kind
-same_kind true true = refl
-same_kind true false = refl
-same_kind false true = refl
-same_kind false false = refl
+same_kind kind records = grind (arith, nat_tests)
 
 -- the slab of a variable is listed where its kind is asked for
 pub one_listed : {A : Type 0} (test : A → Bool) (f : A → Slab) (x : A) (s : Shift) (wanted : Bool) → wanted ≡ test x → slab_of s ≡ f x
@@ -35,9 +28,7 @@ pub kind_listed : {A : Type 0} (test : A → Bool) (f : A → Slab) (all : List 
     → m ≡ n + 1 → wanted ≡ test x → slab_of s ≡ f x → next ≡ now ++ cond wanted (s ∷ []) []
     → map slab_of now ≡ map f (filter test (take n all)) → map slab_of next ≡ map f (filter test (take m all))
 kind_listed test f all n m x s wanted now next h e k w g p so_far =
-    ap (λ ss. map slab_of ss) p ∙ map-append slab_of now (cond wanted (s ∷ []) [])
-    ∙ (λ t. so_far t ++ one_listed test f x s wanted w g t)
-    ∙ sym (listed_more test f all n m x h e k)
+    grind (arith, nat_tests, map-append slab_of now (cond wanted (s ∷ []) []), listed_more test f all n m x h e k, one_listed)
 
 pub all_listed : {A : Type 0} (test : A → Bool) (f : A → Slab) (all : List A) (n : ℕ) (now : List Shift) → n ≡ length all
     → map slab_of now ≡ map f (filter test (take n all)) → map slab_of now ≡ map f (filter test all)
@@ -51,16 +42,11 @@ pub record IsAt {A : Type 0} (xs : List A) (n : ℕ) (x : A) : Type 0 where
 enumerated : {A : Type 0} (xs : List A) (i n : ℕ) (x : ℕ × A) → n < length (enumerate_from i xs) → x ≡ get_or (enumerate_from i xs) n x → IsAt xs n x.1
 enumerated [] i n x h e = absurd (omega arith)
 enumerated (y ∷ xs) i zero x h e = record { within = omega arith; here = ap (λ p. p.1) e }
-enumerated (y ∷ xs) i (suc n) x h e =
-    let rest = enumerated xs (i + 1) n x (omega arith) e in
-    let within = rest.within in
-    record { within = omega arith; here = rest.here }
+enumerated (y ∷ xs) i (suc n) x h e = grind (arith, nat_tests, enumerated xs (i + 1) n x (omega arith) e)
 
 pub pair_at : (vs ws olds news : List Var) (n : ℕ) (x : ℕ × (Var × Var)) → vs ≡ olds → ws ≡ news → n < length (enumerate_from 0 (zip vs ws))
     → x ≡ get_or (enumerate_from 0 (zip vs ws)) n x → IsAt (zip olds news) n x.1
-pair_at vs ws olds news n x e f h g =
-    let there = enumerated (zip vs ws) 0 n x h g in
-    subst (λ (ps : List (Var × Var)). IsAt ps n x.1) (λ t. zip (e t) (f t)) there
+pair_at vs ws olds news n x e f h g = grind (arith, nat_tests, enumerated (zip vs ws) 0 n x h g)
 
 pub pairs_end : (vs ws olds news : List Var) (n : ℕ) → vs ≡ olds → ws ≡ news → n ≡ length (enumerate_from 0 (zip vs ws)) → n ≡ length (zip olds news)
 pairs_end vs ws olds news n e f h = h ∙ length-enumerate_from 0 (zip vs ws) ∙ (λ t. length (zip (e t) (f t)))
@@ -86,9 +72,7 @@ away k s e = grind (arith, nat_tests)
 
 none_below : (n k : ℕ) (ss : List Slab) → AreUp n ss → k < n → filter (at_place k) ss ≡ []
 none_below n k [] h l = refl
-none_below n k (s ∷ ss) h l =
-    let low : n ≤ s.from = h.0 in
-    one_more k s ss false (away k s (omega arith)) ∙ none_below s.from k ss h.1 (omega arith)
+none_below n k (s ∷ ss) h l = grind (arith, nat_tests, none_below s.from k ss h.1 (omega arith), one_more k s ss false (away k s (omega arith)), away)
 
 up_less : (m n : ℕ) (ss : List Slab) → m ≤ n → AreUp n ss → AreUp m ss
 up_less m n [] l h = tt
@@ -97,27 +81,12 @@ up_less m n (s ∷ ss) l h = let low : n ≤ s.from = h.0 in (omega arith, h.1)
 -- both begin with the same slab
 same_first : (n : ℕ) (s t : Slab) (ss ts : List Slab) → AreUp n (s ∷ ss) → AreUp n (t ∷ ts)
     → ((k : ℕ) → filter (at_place k) (s ∷ ss) ≡ filter (at_place k) (t ∷ ts)) → s ≡ t
-same_first n s t ss ts h g e = by_order (cases_lt s.from t.from) (cases_lt t.from s.from)
-  where
-    by_order : (s.from < t.from) ⊎ (t.from ≤ s.from) → (t.from < s.from) ⊎ (s.from ≤ t.from) → s ≡ t
-    by_order (inl l) q =
-        nil_cons s (filter (at_place s.from) ss)
-        (sym (one_more s.from t ts false (away s.from t l) ∙ none_below t.from s.from ts g.1 l) ∙ sym (e s.from) ∙ one_more s.from s ss true (here s.from s refl))
-    by_order (inr l) (inl m) =
-        nil_cons t (filter (at_place t.from) ts)
-        (sym (one_more t.from s ss false (away t.from s m) ∙ none_below s.from t.from ss h.1 m) ∙ e t.from ∙ one_more t.from t ts true (here t.from t refl))
-    by_order (inr l) (inr m) =
-        let same : t.from ≡ s.from = omega arith in
-        first_same s t (filter (at_place s.from) ss) (filter (at_place s.from) ts)
-        (sym (one_more s.from s ss true (here s.from s refl)) ∙ e s.from ∙ one_more s.from t ts true (here s.from t same))
+same_first n s t ss ts h g e =
+    grind (arith, nat_tests, cases_lt s.from t.from, cases_lt t.from s.from, here s.from s refl, here t.from t refl, nil_cons, one_more, away, none_below, first_same)
 
 same_rest : (k : ℕ) (s t : Slab) (ss ts : List Slab) (b : Bool) → at_place k s ≡ b → s ≡ t → filter (at_place k) (s ∷ ss) ≡ filter (at_place k) (t ∷ ts)
     → filter (at_place k) ss ≡ filter (at_place k) ts
-same_rest k s t ss ts true h g e =
-    cons_rest s t (filter (at_place k) ss) (filter (at_place k) ts)
-    (sym (one_more k s ss true h) ∙ e ∙ one_more k t ts true (ap (λ u. at_place k u) (sym g) ∙ h))
-same_rest k s t ss ts false h g e =
-    sym (one_more k s ss false h) ∙ e ∙ one_more k t ts false (ap (λ u. at_place k u) (sym g) ∙ h)
+same_rest k s t ss ts b h g e = grind (arith, nat_tests, cons_rest, one_more)
 
 -- sorted lists that have the same slabs at each place, in the same order, are one
 pub same_sorted : (n : ℕ) (ss ts : List Slab) → AreUp n ss → AreUp n ts → ((k : ℕ) → filter (at_place k) ss ≡ filter (at_place k) ts) → ss ≡ ts
@@ -145,29 +114,11 @@ lowest_up (s ∷ ss) = put_up 0 s (lowest_first ss) (omega arith) (lowest_up ss)
 
 put_same : (k : ℕ) (s : Slab) (ss : List Slab) → filter (at_place k) (inserted_by stands_below s ss) ≡ filter (at_place k) (s ∷ ss)
 put_same k s [] = refl
-put_same k s (t ∷ ss) = by_test (put_same k s ss) (nat_le s.from t.from) refl (at_place k s) refl (at_place k t) refl
-  where
-    by_test : filter (at_place k) (inserted_by stands_below s ss) ≡ filter (at_place k) (s ∷ ss) → (b : Bool) → nat_le s.from t.from ≡ b → (x : Bool) → at_place k s ≡ x → (y : Bool) → at_place k t ≡ y
-        → filter (at_place k) (cond b (s ∷ t ∷ ss) (t ∷ inserted_by stands_below s ss)) ≡ filter (at_place k) (s ∷ t ∷ ss)
-    by_test rest true e x f y g = refl
-    by_test rest false e true f true g =
-        let m : t.from < s.from = leb-false _ _ e in
-        let a : s.from ≡ k = eqb-true _ _ f in
-        let b : t.from ≡ k = eqb-true _ _ g in
-        absurd (omega arith)
-    by_test rest false e true f false g =
-        one_more k t (inserted_by stands_below s ss) false g ∙ rest ∙ one_more k s ss true f
-        ∙ ap (λ xs. s ∷ xs) (sym (one_more k t ss false g)) ∙ sym (one_more k s (t ∷ ss) true f)
-    by_test rest false e false f y g =
-        one_more k t (inserted_by stands_below s ss) y g ∙ ap (λ xs. cond y (t ∷ xs) xs) (rest ∙ one_more k s ss false f)
-        ∙ sym (one_more k t ss y g) ∙ sym (one_more k s (t ∷ ss) false f)
+put_same k s (t ∷ ss) = grind (arith, nat_tests, put_same k s ss, leb-false, eqb-true, one_more)
 
 pub lowest_same : (k : ℕ) (ss : List Slab) → filter (at_place k) (lowest_first ss) ≡ filter (at_place k) ss
 lowest_same k [] = refl
-lowest_same k (s ∷ ss) =
-    put_same k s (lowest_first ss)
-    ∙ one_more k s (lowest_first ss) (at_place k s) refl
-    ∙ ap (λ xs. cond (at_place k s) (s ∷ xs) xs) (lowest_same k ss)
+lowest_same k (s ∷ ss) = grind (arith, nat_tests, lowest_same k ss, put_same k s (lowest_first ss), one_more k s (lowest_first ss) (at_place k s) refl)
 
 -- ---- the sort of the code
 
@@ -177,9 +128,7 @@ sorted_up n (x ∷ xs) low h =
     (low x (omega arith), sorted_up x.from xs (λ d l. h 0 1 d (omega arith) (omega arith)) (λ i j d l m. h (suc i) (suc j) d (omega arith) (omega arith)))
 
 by_less : (t u : Bool) → is_lt (cond t Less (cond u Equal Greater)) ≡ t
-by_less true u = refl
-by_less false true = refl
-by_less false false = refl
+by_less t u = grind (arith, nat_tests)
 
 less_is : (a b : ℕ) → is_lt (nat_cmp a b) ≡ nat_lt a b
 less_is a b = by_less (nat_lt a b) (a == b)
@@ -194,26 +143,11 @@ apart : {P : Type 0} {a b : ℕ} → b ≤ a → a ≤ b → (b == a) ≡ false 
 apart {P} {a} {b} l m e = let s : a ≡ b = omega arith in absurd (true_false (sym (same_number a b s) ∙ e))
 
 tie_at : (a b : ℕ) → not (is_lt (nat_cmp a b)) && not (is_lt (nat_cmp b a)) ≡ (b == a)
-tie_at a b = (λ t. not (less_is a b t) && not (less_is b a t)) ∙ no_less (nat_lt a b) refl (nat_lt b a) refl (b == a) refl
-  where
-    no_less : (x : Bool) → nat_lt a b ≡ x → (y : Bool) → nat_lt b a ≡ y → (z : Bool) → (b == a) ≡ z → not x && not y ≡ z
-    no_less true e y f false g = refl
-    no_less true e y f true g = let l : a < b = ltb-true _ _ e in let m : b ≡ a = eqb-true _ _ g in absurd (omega arith)
-    no_less false e true f false g = refl
-    no_less false e true f true g = let l : b < a = ltb-true _ _ f in let m : b ≡ a = eqb-true _ _ g in absurd (omega arith)
-    no_less false e false f true g = refl
-    no_less false e false f false g = apart (ltb-false _ _ e) (ltb-false _ _ f) g
+tie_at a b = grind (arith, nat_tests, less_is, ltb-true, eqb-true, apart, ltb-false)
 
 filter_map : {A B : Type 0} (f : A → B) (p : B → Bool) (q : A → Bool) (xs : List A) → ((x : A) → q x ≡ p (f x)) → filter p (map f xs) ≡ map f (filter q xs)
 filter_map f p q [] h = refl
-filter_map {A} {B} f p q (x ∷ xs) h = one (p (f x)) (q x) (h x) (filter_map f p q xs h)
-  where
-    one : (a b : Bool) → b ≡ a → filter p (map f xs) ≡ map f (filter q xs)
-        → cond a (f x ∷ filter p (map f xs)) (filter p (map f xs)) ≡ map f (cond b (x ∷ filter q xs) (filter q xs))
-    one true true e rest = ap (λ ys. f x ∷ ys) rest
-    one false false e rest = rest
-    one true false e rest = absurd cc
-    one false true e rest = absurd cc
+filter_map {A} {B} f p q (x ∷ xs) h = grind (arith, nat_tests, filter_map f p q xs h)
 
 stable_same : (xs ys : List Shift) (k : ℕ) → IsStableByKey (λ (s : Shift). s.from) nat_cmp xs ys → filter (at_place k) (map slab_of ys) ≡ filter (at_place k) (map slab_of xs)
 stable_same xs ys k h =

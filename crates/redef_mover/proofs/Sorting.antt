@@ -1,7 +1,6 @@
 -- A stable sort by a number leaves just one list: the one that insertion leaves.
-use Rattle.redef_mover.proofs.Words.{◌≡◌, ℕ, suc, ◌<◌, ◌≤◌, List, [], ◌∷◌, length, get_or, map, Bool, true, false, cond, refl, sym, ap, ◌∙◌, arith, inl, inr, ◌⊎◌, filter, nat_lt, nat_le, not, ◌==◌, list_all, IsNonDecreasingBy, IsStableByKey, ties, nat_cmp, is_lt, nat_tests, cases_lt, and_parts, filter_agree}
+use Rattle.redef_mover.proofs.Words.{◌≡◌, ℕ, suc, ◌<◌, ◌≤◌, List, [], ◌∷◌, length, get_or, map, Bool, true, false, cond, refl, sym, ap, ◌∙◌, arith, inl, inr, ◌⊎◌, filter, nat_le, not, ◌==◌, list_all, IsNonDecreasingBy, IsStableByKey, ties, nat_cmp, is_lt, nat_tests, cases_lt, and_parts, filter_agree}
 use Rattle.std.specs.Prelude.{◌&&◌}
-use Rattle.std.specs.declared.cmp.Ordering.TheVariants.{Less, Equal, Greater}
 use Rattle.serial_spec.specs.Lists.{inserted_by, sorted_by as in_order_by}
 
 abbrev pub put_by : {A : Type 0} → (A → ℕ) → A → List A → List A
@@ -25,54 +24,25 @@ Rises key (x ∷ xs) = (lies_below key (key x) xs ≡ true) × Rises key xs
 
 put_keeps : {A : Type 0} (key : A → ℕ) (n : ℕ) (x : A) (xs : List A) → of_key key n (put_by key x xs) ≡ of_key key n (x ∷ xs)
 put_keeps key n x [] = refl
-put_keeps key n x (y ∷ ys) = by_order (nat_le (key x) (key y)) refl (put_keeps key n x ys)
-  where
-    apart : (t u : Bool) → (key x == n) ≡ t → (key y == n) ≡ u → nat_le (key x) (key y) ≡ false → of_key key n (put_by key x ys) ≡ cond t (x ∷ of_key key n ys) (of_key key n ys)
-        → cond u (y ∷ of_key key n (put_by key x ys)) (of_key key n (put_by key x ys)) ≡ cond t (x ∷ cond u (y ∷ of_key key n ys) (of_key key n ys)) (cond u (y ∷ of_key key n ys) (of_key key n ys))
-    apart true true e f g rest = absurd (grind (arith, nat_tests))
-    apart true false e f g rest = rest
-    apart false true e f g rest = ap (λ zs. y ∷ zs) rest
-    apart false false e f g rest = rest
-
-    by_order : (t : Bool) → nat_le (key x) (key y) ≡ t → of_key key n (put_by key x ys) ≡ of_key key n (x ∷ ys)
-        → of_key key n (cond t (x ∷ y ∷ ys) (y ∷ put_by key x ys)) ≡ of_key key n (x ∷ y ∷ ys)
-    by_order true e rest = refl
-    by_order false e rest = apart (key x == n) (key y == n) refl refl e rest
+put_keeps key n x (y ∷ ys) = grind (arith, nat_tests, put_keeps key n x ys)
 
 pub sorted_keeps : {A : Type 0} (key : A → ℕ) (n : ℕ) (xs : List A) → of_key key n (sorted_by key xs) ≡ of_key key n xs
 sorted_keeps key n [] = refl
-sorted_keeps key n (x ∷ xs) =
-    put_keeps key n x (sorted_by key xs) ∙ ap (λ ys. cond (key x == n) (x ∷ ys) ys) (sorted_keeps key n xs)
+sorted_keeps key n (x ∷ xs) = grind (arith, nat_tests, sorted_keeps key n xs, put_keeps key n x (sorted_by key xs))
 
 put_below : {A : Type 0} (key : A → ℕ) (n : ℕ) (x : A) (xs : List A) → n ≤ key x → lies_below key n xs ≡ true → lies_below key n (put_by key x xs) ≡ true
 put_below key n x [] h e = let first : nat_le n (key x) ≡ true = grind (arith, nat_tests) in ap (λ (t : Bool). t && true) first
 put_below key n x (y ∷ ys) h e =
-    let both = and_parts (nat_le n (key y)) (lies_below key n ys) e in
-    by_order (nat_le (key x) (key y)) both.0 (put_below key n x ys h both.1)
-  where
-    first : nat_le n (key x) ≡ true
-    first = grind (arith, nat_tests)
-
-    by_order : (t : Bool) → nat_le n (key y) ≡ true → lies_below key n (put_by key x ys) ≡ true → lies_below key n (cond t (x ∷ y ∷ ys) (y ∷ put_by key x ys)) ≡ true
-    by_order true f rest = ap (λ (t : Bool). t && lies_below key n (y ∷ ys)) first ∙ e
-    by_order false f rest = ap (λ (t : Bool). t && lies_below key n (put_by key x ys)) f ∙ rest
+    grind (arith, nat_tests, put_below key n x ys h (and_parts (nat_le n (key y)) (lies_below key n ys) e).1, and_parts (nat_le n (key y)) (lies_below key n ys) e)
 
 lower : {A : Type 0} (key : A → ℕ) (n m : ℕ) (xs : List A) → n ≤ m → lies_below key m xs ≡ true → lies_below key n xs ≡ true
 lower key n m [] h e = refl
 lower key n m (x ∷ xs) h e =
-    let both = and_parts (nat_le m (key x)) (lies_below key m xs) e in
-    let m_le = both.0 in
-    let first : nat_le n (key x) ≡ true = grind (arith, nat_tests) in
-    ap (λ (t : Bool). t && lies_below key n xs) first ∙ lower key n m xs h both.1
+    grind (arith, nat_tests, lower key n m xs h (and_parts (nat_le m (key x)) (lies_below key m xs) e).1, and_parts (nat_le m (key x)) (lies_below key m xs) e)
 
 put_rises : {A : Type 0} (key : A → ℕ) (x : A) (xs : List A) → Rises key xs → Rises key (put_by key x xs)
 put_rises key x [] h = (refl, tt)
-put_rises key x (y ∷ ys) h = by_order (nat_le (key x) (key y)) refl (put_rises key x ys h.1)
-  where
-    by_order : (t : Bool) → nat_le (key x) (key y) ≡ t → Rises key (put_by key x ys) → Rises key (cond t (x ∷ y ∷ ys) (y ∷ put_by key x ys))
-    by_order true e rest =
-        (ap (λ (t : Bool). t && lies_below key (key x) ys) e ∙ lower key (key x) (key y) ys (let g : key x ≤ key y = grind (arith, nat_tests) in g) h.0, h)
-    by_order false e rest = (put_below key (key y) x ys (let g : key y ≤ key x = grind (arith, nat_tests) in g) h.0, rest)
+put_rises key x (y ∷ ys) h = grind (arith, nat_tests, put_rises key x ys h.1, lower, put_below)
 
 pub sorted_rises : {A : Type 0} (key : A → ℕ) (xs : List A) → Rises key (sorted_by key xs)
 sorted_rises key [] = tt
@@ -89,17 +59,13 @@ other_key key n x xs e = ap (λ (t : Bool). cond t (x ∷ of_key key n xs) (of_k
 none_lower : {A : Type 0} (key : A → ℕ) (n m : ℕ) (xs : List A) → n < m → lies_below key m xs ≡ true → of_key key n xs ≡ []
 none_lower key n m [] h e = refl
 none_lower key n m (x ∷ xs) h e =
-    let both = and_parts (nat_le m (key x)) (lies_below key m xs) e in
-    let le = both.0 in
-    other_key key n x xs (let f : (key x == n) ≡ false = grind (arith, nat_tests) in f) ∙ none_lower key n m xs h both.1
+    grind (arith, nat_tests, none_lower key n m xs h (and_parts (nat_le m (key x)) (lies_below key m xs) e).1, and_parts (nat_le m (key x)) (lies_below key m xs) e, other_key)
 
 none_before : {A : Type 0} (key : A → ℕ) (n : ℕ) (x : A) (xs : List A) → n < key x → Rises key (x ∷ xs) → of_key key n (x ∷ xs) ≡ []
 none_before key n x xs h r = other_key key n x xs (let f : (key x == n) ≡ false = grind (arith, nat_tests) in f) ∙ none_lower key n (key x) xs h r.0
 
 not_lower : {A : Type 0} (key : A → ℕ) (x y : A) (xs ys : List A) → Rises key (y ∷ ys) → ((n : ℕ) → of_key key n (x ∷ xs) ≡ of_key key n (y ∷ ys)) → key x < key y → ⊥
-not_lower key x y xs ys r same h =
-    let e = sym (own_key key x xs) ∙ same (key x) ∙ none_before key (key x) y ys h r in
-    cc
+not_lower key x y xs ys r same h = grind (arith, nat_tests, own_key key x xs, none_before key (key x) y ys h r)
 
 pub one_sorted : {A : Type 0} (key : A → ℕ) (xs ys : List A) → Rises key xs → Rises key ys → ((n : ℕ) → of_key key n xs ≡ of_key key n ys) → xs ≡ ys
 one_sorted key [] [] r s same = refl
@@ -145,37 +111,18 @@ rises_from key (x ∷ xs) h =
     (all_from key (key x) x xs (λ j g. h 0 (suc j) x (omega arith) (omega arith)), rises_from key xs (λ i j d a b. h (suc i) (suc j) d (omega arith) (omega arith)))
 
 pub sort_is : {A : Type 0} (key : A → ℕ) (xs ys : List A) → IsNonDecreasingBy key ys → ((n : ℕ) → of_key key n ys ≡ of_key key n xs) → ys ≡ sorted_by key xs
-sort_is key xs ys up stable =
-    one_sorted key ys (sorted_by key xs) (rises_from key ys up) (sorted_rises key xs) (λ n. stable n ∙ sym (sorted_keeps key n xs))
+sort_is key xs ys up stable = grind (arith, nat_tests, rises_from key ys up, sorted_rises key xs, one_sorted, sorted_keeps)
 
 put_map : {A B : Type 0} (key : B → ℕ) (f : A → B) (x : A) (xs : List A) → put_by key (f x) (map f xs) ≡ map f (put_by (λ a. key (f a)) x xs)
 put_map key f x [] = refl
-put_map key f x (y ∷ ys) = by_order (nat_le (key (f x)) (key (f y))) (put_map key f x ys)
-  where
-    by_order : (t : Bool) → put_by key (f x) (map f ys) ≡ map f (put_by (λ a. key (f a)) x ys)
-        → cond t (f x ∷ f y ∷ map f ys) (f y ∷ put_by key (f x) (map f ys)) ≡ map f (cond t (x ∷ y ∷ ys) (y ∷ put_by (λ a. key (f a)) x ys))
-    by_order true rest = refl
-    by_order false rest = ap (λ zs. f y ∷ zs) rest
+put_map key f x (y ∷ ys) = grind (arith, nat_tests, put_map key f x ys)
 
 pub sorted_map : {A B : Type 0} (key : B → ℕ) (f : A → B) (xs : List A) → sorted_by key (map f xs) ≡ map f (sorted_by (λ a. key (f a)) xs)
 sorted_map key f [] = refl
 sorted_map key f (x ∷ xs) = ap (λ ys. put_by key (f x) ys) (sorted_map key f xs) ∙ put_map key f x (sorted_by (λ a. key (f a)) xs)
 
 tie_is : (a b : ℕ) → (not (is_lt (nat_cmp a b)) && not (is_lt (nat_cmp b a))) ≡ (b == a)
-tie_is a b = by_tests (nat_lt a b) (a == b) (nat_lt b a) (b == a) refl refl refl refl
-  where
-    by_tests : (t u v w : Bool) → nat_lt a b ≡ t → (a == b) ≡ u → nat_lt b a ≡ v → (b == a) ≡ w
-        → (not (is_lt (cond t Less (cond u Equal Greater))) && not (is_lt (cond v Less (cond w Equal Greater)))) ≡ w
-    by_tests true u v true e f g h = absurd (grind (arith, nat_tests))
-    by_tests true u v false e f g h = refl
-    by_tests false true true true e f g h = absurd (grind (arith, nat_tests))
-    by_tests false true true false e f g h = refl
-    by_tests false false true true e f g h = absurd (grind (arith, nat_tests))
-    by_tests false false true false e f g h = refl
-    by_tests false true false true e f g h = refl
-    by_tests false true false false e f g h = absurd (grind (arith, nat_tests))
-    by_tests false false false true e f g h = refl
-    by_tests false false false false e f g h = absurd (grind (arith, nat_tests))
+tie_is a b = grind (arith, nat_tests)
 
 -- from the clause of a stable sort, where each number is the key of something
 pub stable_is : {A : Type 0} (key : A → ℕ) (xs ys : List A) (at : ℕ → A) → ((n : ℕ) → key (at n) ≡ n) → IsStableByKey key nat_cmp xs ys → (n : ℕ) → of_key key n ys ≡ of_key key n xs

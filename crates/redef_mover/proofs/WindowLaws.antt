@@ -1,5 +1,5 @@
 -- The windows of a slab from its top.
-use Rattle.redef_mover.proofs.Words.{◌≡◌, ℕ, ◌+◌, ◌-◌, ◌*◌, ◌<◌, ◌≤◌, sym, ◌∙◌, ap, List, ◌++◌, length, take, drop, Option, Some, None, arith, flat_map, IfSome, range_with_len, flat_map-append, append-nil, range_append, DiskCall, Slab, move_window, read, written, after, slab_calls, slab_moved, window, window_calls, read_slice, windows_of, count_is}
+use Rattle.redef_mover.proofs.Words.{◌≡◌, ℕ, ◌+◌, ◌-◌, ◌*◌, ◌<◌, ◌≤◌, ◌∙◌, ap, List, ◌++◌, length, take, drop, Option, arith, flat_map, IfSome, range_with_len, flat_map-append, append-nil, range_append, DiskCall, Slab, move_window, read, written, after, slab_calls, slab_moved, window, window_calls, read_slice, windows_of, count_is, nat_tests}
 use Rattle.redef_mover.proofs.SlabLaws.{both_moved}
 
 -- ---- a read
@@ -8,14 +8,7 @@ use Rattle.redef_mover.proofs.SlabLaws.{both_moved}
 pub window_told : (held mid now : Option (List ℕ)) (bytes : List ℕ) (w : Slab) (m begin again size : ℕ) → IfSome held (λ b. length b ≡ size) → w.from + w.len ≤ size
     → m ≡ w.len → begin ≡ 0 → again ≡ begin → IfSome held (λ file. bytes ≡ take m (drop (w.from - begin) file)) → mid ≡ held
     → now ≡ after (λ file. written file (w.to - again) bytes) mid → now ≡ after (λ file. slab_moved file w) held
-window_told None mid now bytes w m begin again size long room e b a read f k = k ∙ ap (λ h. after (λ file. written file (w.to - again) bytes) h) f
-window_told (Some file) mid now bytes w m begin again size long room e b a read f k =
-    let from : w.from - begin ≡ w.from = omega arith in
-    let to : w.to - again ≡ w.to = omega arith in
-    k ∙ ap (λ h. after (λ file. written file (w.to - again) bytes) h) f
-    ∙ (λ t. Some (written file (to t) (read t)))
-    ∙ (λ t. Some (written file w.to (take (e t) (drop (from t) file))))
-    ∙ ap (λ b. Some (written file w.to b)) (sym (read_slice file w.from w.len (omega arith)))
+window_told held mid now bytes w m begin again size long room e b a read f k = grind (arith, nat_tests, read_slice)
 
 -- ---- the windows so far
 
@@ -34,11 +27,7 @@ window_moved z j s file up l h =
     (omega arith)
 
 pub whole_moved : (z j : ℕ) (s : Slab) (file : List ℕ) → s.len ≤ j * z → slab_moved file (upper z s j) ≡ slab_moved file s
-whole_moved z j s file h =
-    let from : s.from + (s.len - j * z) ≡ s.from = omega arith in
-    let to : s.to + (s.len - j * z) ≡ s.to = omega arith in
-    let len : s.len - (s.len - j * z) ≡ s.len = omega arith in
-    λ t. slab_moved file (record { from = from t; to = to t; len = len t })
+whole_moved z j s file h = grind (arith, nat_tests)
 
 -- ---- the calls so far
 
@@ -47,11 +36,7 @@ calls_before z s j = flat_map (move_window z s) (range_with_len 0 j)
 
 pub window_called : (z j : ℕ) (s : Slab) → calls_before z s j ++ window_calls (window z s j) ≡ calls_before z s (j + 1)
 window_called z j s =
-    let first : j ≡ 0 + j = omega arith in
-    ap (λ calls. calls_before z s j ++ calls) (sym (append-nil (move_window z s j)))
-    ∙ ap (λ (i : ℕ). calls_before z s j ++ flat_map (move_window z s) (range_with_len i 1)) first
-    ∙ sym (flat_map-append (move_window z s) (range_with_len 0 j) (range_with_len (0 + j) 1))
-    ∙ ap (λ js. flat_map (move_window z s) js) (sym (range_append 0 j 1))
+    grind (arith, nat_tests, append-nil (move_window z s j), flat_map-append (move_window z s) (range_with_len 0 j) (range_with_len (0 + j) 1), range_append 0 j 1)
 
 pub all_called : (z j count : ℕ) (s : Slab) → 0 < z → j ≡ count → count ≡ windows_of z s.len → calls_before z s j ≡ slab_calls z s
 all_called z j count s h e k = ap (λ (i : ℕ). calls_before z s i) (e ∙ k ∙ count_is z s.len h)

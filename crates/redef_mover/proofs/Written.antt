@@ -23,24 +23,14 @@ last_other found b k begin e = last_push found b k begin ∙ ap (λ (t : Bool). 
 
 later_same : (n : ℕ) (found : List (ℕ × ℕ)) (b : ℕ × ℕ) (vars : List Var) → b.0 < n → with_last n (found ++ b ∷ []) vars ≡ with_last n found vars
 later_same n found b [] h = refl
-later_same n found b (v ∷ vars) h =
-    ap (λ (m : ℕ). record v { begin = m } ∷ with_last (n + 1) (found ++ b ∷ []) vars) (last_other found b n v.begin (let e : (b.0 == n) ≡ false = grind (arith, nat_tests) in e))
-    ∙ ap (λ ws. record v { begin = last_begin found n v.begin } ∷ ws) (later_same (n + 1) found b vars (omega arith))
+later_same n found b (v ∷ vars) h = grind (arith, nat_tests, later_same (n + 1) found b vars (omega arith), last_other)
 
 set_last : (n : ℕ) (found : List (ℕ × ℕ)) (j begin : ℕ) (d : Var) (vars : List Var) → j < length vars
     → set (with_last n found vars) j (record (get_or (with_last n found vars) j d) { begin = begin }) ≡ with_last n (found ++ (n + j, begin) ∷ []) vars
 set_last n found j begin d [] h = absurd (omega arith)
 set_last n found zero begin d (v ∷ vars) h =
-    let same : (n + 0 == n) ≡ true = grind (arith, nat_tests) in
-    ap (λ (m : ℕ). record v { begin = m } ∷ with_last (n + 1) found vars)
-    (sym (last_push found (n + 0, begin) n v.begin ∙ ap (λ (t : Bool). cond t begin (last_begin found n v.begin)) same))
-    ∙ ap (λ ws. record v { begin = last_begin (found ++ (n + 0, begin) ∷ []) n v.begin } ∷ ws) (sym (later_same (n + 1) found (n + 0, begin) vars (omega arith)))
-set_last n found (suc j) begin d (v ∷ vars) h =
-    let other : (n + suc j == n) ≡ false = grind (arith, nat_tests) in
-    ap (λ (m : ℕ). record v { begin = m } ∷ set (with_last (n + 1) found vars) j (record (get_or (with_last (n + 1) found vars) j d) { begin = begin }))
-    (sym (last_other found (n + suc j, begin) n v.begin other))
-    ∙ ap (λ ws. record v { begin = last_begin (found ++ (n + suc j, begin) ∷ []) n v.begin } ∷ ws)
-    (set_last (n + 1) found j begin d vars (omega arith) ∙ ap (λ (m : ℕ). with_last (n + 1) (found ++ (m, begin) ∷ []) vars) (let e : n + 1 + j ≡ n + suc j = omega arith in e))
+    grind (arith, nat_tests, last_push found (n + 0, begin) n v.begin, later_same (n + 1) found (n + 0, begin) vars (omega arith))
+set_last n found (suc j) begin d (v ∷ vars) h = grind (arith, nat_tests, set_last (n + 1) found j begin d vars (omega arith), set, last_other)
 
 pub last_none : (n : ℕ) (vars : List Var) → vars ≡ with_last n [] vars
 last_none n [] = refl
@@ -85,19 +75,11 @@ pub written_next : (vars now after : List Var) (places : List Place) (i : ℕ) (
     → v ≡ get_or now p.number v → after ≡ set now p.number (record v { begin = p.begin })
     → now ≡ with_last 0 (pairs (take i places)) vars → after ≡ with_last 0 (pairs (take (i + 1) places)) vars
 written_next vars now after places i p v h there inside here set_there so_far =
-    set_there
-    ∙ ap (λ (w : Var). set now p.number (record w { begin = p.begin })) here
-    ∙ ap (λ (ws : List Var). set ws p.number (record (get_or ws p.number v) { begin = p.begin })) so_far
-    ∙ set_last 0 (pairs (take i places)) p.number p.begin v vars inside
-    ∙ ap (λ (m : ℕ). with_last 0 (pairs (take i places) ++ (m, p.begin) ∷ []) vars) (let e : 0 + p.number ≡ p.number = omega arith in e)
-    ∙ ap (λ bs. with_last 0 bs vars)
-    (sym (ap (λ (ps : List Place). pairs ps) (take_more places i p h ∙ ap (λ (q : Place). take i places ++ q ∷ []) (sym there))
-    ∙ map-append (λ (q : Place). (q.number, q.begin)) (take i places) (p ∷ [])))
+    grind (arith, nat_tests, set_last 0 (pairs (take i places)) p.number p.begin v vars inside, take_more places i p h, set, map-append)
 
 pub written_whole : (vars now : List Var) (places : List Place) (i : ℕ) → length places ≤ i → HasOneEach (length vars) (pairs places) → now ≡ with_last 0 (pairs (take i places)) vars
     → now ≡ map (λ (v : Numbered). record v.1 { begin = begin_of_number (pairs places) v.0 }) (enumerate_from 0 vars)
-written_whole vars now places i past one so_far =
-    so_far ∙ ap (λ (ps : List Place). with_last 0 (pairs ps) vars) (take_all i places past) ∙ each_once 0 (length vars) (pairs places) vars one (omega arith)
+written_whole vars now places i past one so_far = grind (arith, nat_tests, take_all i places past, each_once 0 (length vars) (pairs places) vars one (omega arith))
 
 -- ---- the numbers of the begins that are found
 
@@ -146,72 +128,27 @@ times_records k header at (v ∷ vars) =
 
 times_capped : (k : ℕ) (found : List (ℕ × ℕ)) → times k (capped_pairs found) ≡ times k found
 times_capped k [] = refl
-times_capped k (b ∷ found) =
-    times_cons k (b.0, capped b.1) (capped_pairs found) ∙ ap (λ (n : ℕ). cond (b.0 == k) 1 0 + n) (times_capped k found) ∙ sym (times_cons k b found)
+times_capped k (b ∷ found) = grind (arith, nat_tests, times_capped k found, times_cons k (b.0, capped b.1) (capped_pairs found), times_cons k b found)
 
 numbered_inserted : (k : ℕ) (v : Numbered) (vars : List Numbered) → numbered k (inserted_by begins_before v vars) ≡ cond (v.0 == k) 1 0 + numbered k vars
 numbered_inserted k v [] = numbered_cons k v []
-numbered_inserted k v (w ∷ vars) = by_test (nat_le v.1.begin w.1.begin) (numbered_inserted k v vars)
-  where
-    by_test : (t : Bool) → numbered k (inserted_by begins_before v vars) ≡ cond (v.0 == k) 1 0 + numbered k vars
-        → numbered k (cond t (v ∷ w ∷ vars) (w ∷ inserted_by begins_before v vars)) ≡ cond (v.0 == k) 1 0 + numbered k (w ∷ vars)
-    by_test true rest = numbered_cons k v (w ∷ vars)
-    by_test false rest =
-        let a = numbered_cons k w (inserted_by begins_before v vars) in
-        let b = numbered_cons k w vars in
-        omega (arith, a, b, rest)
+numbered_inserted k v (w ∷ vars) = grind (arith, nat_tests, numbered_inserted k v vars, numbered, numbered_cons)
 
 numbered_sorted : (k : ℕ) (vars : List Numbered) → numbered k (by_begin vars) ≡ numbered k vars
 numbered_sorted k [] = refl
-numbered_sorted k (v ∷ vars) =
-    numbered_inserted k v (by_begin vars) ∙ ap (λ (n : ℕ). cond (v.0 == k) 1 0 + n) (numbered_sorted k vars) ∙ sym (numbered_cons k v vars)
+numbered_sorted k (v ∷ vars) = grind (arith, nat_tests, numbered_sorted k vars, numbered_inserted k v (by_begin vars), numbered_cons k v vars)
 
 -- two tests of which each item passes one
 numbered_parts : (k : ℕ) (p q : Numbered → Bool) → ((v : Numbered) → q v ≡ not (p v)) → (vars : List Numbered) → numbered k (filter p vars) + numbered k (filter q vars) ≡ numbered k vars
 numbered_parts k p q other [] = omega (arith, numbered_none k)
-numbered_parts k p q other (v ∷ vars) =
-    ap (λ (t : Bool). numbered k (filter p (v ∷ vars)) + numbered k (cond t (v ∷ filter q vars) (filter q vars))) (other v)
-    ∙ by_test (p v) (numbered_parts k p q other vars)
-  where
-    by_test : (t : Bool) → numbered k (filter p vars) + numbered k (filter q vars) ≡ numbered k vars
-        → numbered k (cond t (v ∷ filter p vars) (filter p vars)) + numbered k (cond (not t) (v ∷ filter q vars) (filter q vars)) ≡ numbered k (v ∷ vars)
-    by_test true rest = let a = numbered_cons k v (filter p vars) in let b = numbered_cons k v vars in omega (arith, a, b, rest)
-    by_test false rest = let a = numbered_cons k v (filter q vars) in let b = numbered_cons k v vars in omega (arith, a, b, rest)
+numbered_parts k p q other (v ∷ vars) = grind (arith, nat_tests, numbered_parts k p q other vars, numbered, numbered_cons)
 
 numbered_all : (k n : ℕ) (vars : List Var) → numbered k (enumerate_from n vars) ≡ cond (nat_le n k && nat_lt k (n + length vars)) 1 0
-numbered_all k n [] = none (nat_le n k) (nat_lt k (n + 0)) refl refl
-  where
-    none : (t u : Bool) → nat_le n k ≡ t → nat_lt k (n + 0) ≡ u → numbered k [] ≡ cond (t && u) 1 0
-    none true true e f = absurd (grind (arith, nat_tests))
-    none true false e f = numbered_none k
-    none false u e f = numbered_none k
-numbered_all k n (v ∷ vars) =
-    numbered_cons k (n, v) (enumerate_from (n + 1) vars) ∙ ap (λ (m : ℕ). cond (n == k) 1 0 + m) (numbered_all k (n + 1) vars)
-    ∙ by_tests (n == k) (nat_le (n + 1) k) (nat_lt k (n + 1 + length vars)) (nat_le n k) (nat_lt k (n + suc (length vars))) refl refl refl refl refl
-  where
-    by_tests : (t u v w x : Bool) → (n == k) ≡ t → nat_le (n + 1) k ≡ u → nat_lt k (n + 1 + length vars) ≡ v → nat_le n k ≡ w → nat_lt k (n + suc (length vars)) ≡ x
-        → cond t 1 0 + cond (u && v) 1 0 ≡ cond (w && x) 1 0
-    by_tests true true v w x e f g h i = absurd (grind (arith, nat_tests))
-    by_tests true false v true true e f g h i = refl
-    by_tests true false v false x e f g h i = absurd (grind (arith, nat_tests))
-    by_tests true false v true false e f g h i = absurd (grind (arith, nat_tests))
-    by_tests false true true true true e f g h i = refl
-    by_tests false true true false x e f g h i = absurd (grind (arith, nat_tests))
-    by_tests false true true true false e f g h i = absurd (grind (arith, nat_tests))
-    by_tests false true false w true e f g h i = absurd (grind (arith, nat_tests))
-    by_tests false true false true false e f g h i = refl
-    by_tests false true false false false e f g h i = refl
-    by_tests false false v true x e f g h i = absurd (grind (arith, nat_tests))
-    by_tests false false v false x e f g h i = refl
+numbered_all k n [] = grind (arith, nat_tests, numbered k [], numbered_none k)
+numbered_all k n (v ∷ vars) = grind (arith, nat_tests, numbered_all k (n + 1) vars, numbered_cons k (n, v) (enumerate_from (n + 1) vars))
 
 other_side : (m n : ℕ) → nat_le n m ≡ not (nat_lt m n)
-other_side m n = by_tests (nat_le n m) (nat_lt m n) refl refl
-  where
-    by_tests : (t u : Bool) → nat_le n m ≡ t → nat_lt m n ≡ u → t ≡ not u
-    by_tests true true e f = absurd (grind (arith, nat_tests))
-    by_tests true false e f = refl
-    by_tests false true e f = refl
-    by_tests false false e f = absurd (grind (arith, nat_tests))
+other_side m n = grind (arith, nat_tests)
 
 sides : (k n : ℕ) (vars : List Numbered) → numbered k (old_of n vars) + numbered k (new_of n vars) ≡ numbered k vars
 sides k n vars = numbered_parts k (λ (v : Numbered). nat_lt v.0 n) (λ (v : Numbered). nat_le n v.0) (λ v. other_side v.0 n) vars

@@ -1,5 +1,5 @@
 -- The account of the buffer is the bytes of the waiting bputs, and refuses as the rank does.
-use Rattle.request_queue.proofs.Words.{◌≡◌, ℕ, ◌+◌, ◌-◌, ◌^◌, ◌<◌, ◌≤◌, ◌∙◌, ap, sym, refl, inl, inr, ◌⊎◌, List, [], ◌∷◌, ◌++◌, map, Bool, true, false, cond, ltb, eqb, ◌||◌, Option, Some, None, min, length, get_or, take, arith, filter, option_map, is_some, sum, sum_by, count_by, ltb-false, lt-ltb, le-ltb, cases_lt, cases_Bool, cond-true, list_any, sum_by_push, sum_by-cons, sum_by_more_le, Post, Bput, Account, new_code, Posted, Status, NullRequest, Waiting, Gone, is_waiting, buffered, buffer_code, bytes_in, is_bput, detach_code, Request, Queued, rank_with, as_posted, held, is_buffered, freed, Accounts, Holds, HasUsed, claim_code, claimed}
+use Rattle.request_queue.proofs.Words.{◌≡◌, ℕ, ◌+◌, ◌-◌, ◌^◌, ◌<◌, ◌≤◌, ◌∙◌, ap, sym, refl, inl, inr, ◌⊎◌, List, [], ◌∷◌, ◌++◌, map, Bool, true, false, cond, ltb, eqb, ◌||◌, Option, Some, None, min, length, get_or, take, arith, filter, option_map, is_some, sum, sum_by, count_by, ltb-false, lt-ltb, le-ltb, cases_lt, cases_Bool, cond-true, list_any, sum_by_push, sum_by-cons, sum_by_more_le, Post, Bput, Account, new_code, Posted, Status, NullRequest, Waiting, Gone, is_waiting, buffered, buffer_code, bytes_in, is_bput, detach_code, Request, Queued, rank_with, as_posted, held, is_buffered, freed, Accounts, Holds, HasUsed, claim_code, claimed, nat_tests}
 use Rattle.nc_base.specs.declared.answer.Code.TheVariants as code
 use Rattle.request_queue.proofs.PostedLaws.{not_held}
 
@@ -36,18 +36,11 @@ used_is posted w kept = used-filter posted ∙ ap (λ (l : List Posted). sum (ma
 
 -- a length cut off past the greatest size is refused as it would be
 cut_off : (size u v len : ℕ) → u ≡ v → size ≤ 2 ^ 26 → ltb size (u + min len (2 ^ 64 - 1)) ≡ ltb size (v + len)
-cut_off size u v len e h = by_order (cases_lt size (v + len))
-  where
-    by_order : (size < v + len) ⊎ (v + len ≤ size) → ltb size (u + min len (2 ^ 64 - 1)) ≡ ltb size (v + len)
-    by_order (inl a) = lt-ltb size (u + min len (2 ^ 64 - 1)) (omega arith) ∙ sym (lt-ltb size (v + len) a)
-    by_order (inr a) = le-ltb size (u + min len (2 ^ 64 - 1)) (omega arith) ∙ sym (le-ltb size (v + len) a)
+cut_off size u v len e h = grind (arith, nat_tests, cases_lt, ltb, lt-ltb, le-ltb)
 
 pub same_code : (room : Option Account) (w : List Request) (posted : List Posted) (len : ℕ) → filter (λ (p : Posted). is_waiting p.status) posted ≡ map as_posted w
     → Accounts room w → claim_code room (min len (2 ^ 64 - 1)) ≡ buffer_code (rank_with (record { posted = posted; attached = option_map (λ (a : Account). a.size) room })) Bput len
-same_code None w posted len kept a = refl
-same_code (Some room) w posted len kept a =
-    let e = cut_off room.size room.used (sum (map (λ (p : Posted). buffered p.status) posted)) len (a.0 ∙ sym (used_is posted w kept)) a.1 in
-    ap (λ (b : Bool). cond b code.EInsuffBuf code.Ok) e
+same_code room w posted len kept a = grind (arith, nat_tests, cut_off, used_is)
 
 claims_more : (room : Account) (len : ℕ) (b : Bool) → ltb room.size (room.used + len) ≡ b → cond b code.EInsuffBuf code.Ok ≡ code.Ok → room.used + len ≤ room.size
 claims_more room len true e h = cc
@@ -55,11 +48,7 @@ claims_more room len false e h = ltb-false room.size (room.used + len) e
 
 pub accounts-claim : (room : Option Account) (w : List Request) (id : ℕ) (posts : List Post) → claim_code room (min (bytes_in posts) (2 ^ 64 - 1)) ≡ code.Ok
     → Accounts room w → Accounts (claimed room (min (bytes_in posts) (2 ^ 64 - 1))) (w ++ record { id = id; kind = Bput; posts = posts } ∷ [])
-accounts-claim None w id posts h a = cc
-accounts-claim (Some room) w id posts h a =
-    let fits = claims_more room (min (bytes_in posts) (2 ^ 64 - 1)) (ltb room.size (room.used + min (bytes_in posts) (2 ^ 64 - 1))) refl h in
-    let whole : min (bytes_in posts) (2 ^ 64 - 1) ≡ bytes_in posts = omega (arith, fits, a.1) in
-    (omega (arith, whole, a.0, sum_by_push held w (record { id = id; kind = Bput; posts = posts })), a.1, omega (arith, whole, fits))
+accounts-claim room w id posts h a = grind (arith, nat_tests, claims_more, ltb, sum_by_push)
 
 -- ---- attaching and detaching
 
@@ -95,9 +84,7 @@ any_more : (s : Status) (id : ℕ) (posted : List Posted)
     → list_any (λ (p : Posted). is_bput p.status) posted ≡ list_any (λ (p : Posted). is_bput p.status) (filter (λ (p : Posted). is_waiting p.status) posted)
     → list_any (λ (p : Posted). is_bput p.status) (record { id = id; status = s } ∷ posted)
     ≡ list_any (λ (p : Posted). is_bput p.status) (filter (λ (p : Posted). is_waiting p.status) (record { id = id; status = s } ∷ posted))
-any_more NullRequest id posted ih = ih
-any_more Gone id posted ih = ih
-any_more (Waiting kind posts) id posted ih = ap (λ (b : Bool). is_bput (Waiting kind posts) || b) ih
+any_more s id posted ih = grind (arith, nat_tests)
 
 any-filter : (posted : List Posted) → list_any (λ (p : Posted). is_bput p.status) posted
     ≡ list_any (λ (p : Posted). is_bput p.status) (filter (λ (p : Posted). is_waiting p.status) posted)

@@ -1,5 +1,5 @@
 -- The index of the requests that wait: it stays one as requests come and go, and finds each by its id.
-use Rattle.request_queue.proofs.Words.{◌≡◌, ℕ, ◌∙◌, ap, sym, refl, inl, inr, ◌⊎◌, List, [], ◌∷◌, Bool, true, false, cond, eqb, Option, Some, None, filter, option_map, is_some, list_any, AllByRecursion, nat_cmp, nat_cmp_total, values_of, lookup, BTreeMap, get, is_at, values, IsOrdered, cases_eq, cases_Bool, cond-true, cond-false, eq-eqb, ne_eqb, eqb-true, or_left, or_right, or_cases, recursion_from_All, All-weaker, All-found, has_id, Request, has_waiting, IsIndex, is_place, stands_at}
+use Rattle.request_queue.proofs.Words.{◌≡◌, ℕ, ◌∙◌, ap, sym, refl, inl, inr, ◌⊎◌, List, [], ◌∷◌, Bool, true, false, cond, eqb, Option, Some, None, filter, option_map, is_some, list_any, AllByRecursion, nat_cmp, nat_cmp_total, values_of, lookup, BTreeMap, get, is_at, values, IsOrdered, cases_eq, cases_Bool, cond-true, cond-false, eq-eqb, ne_eqb, eqb-true, or_left, or_right, or_cases, recursion_from_All, All-weaker, All-found, has_id, Request, has_waiting, IsIndex, is_place, stands_at, arith, nat_tests}
 use Rattle.request_queue.proofs.PlaceLaws.{at_same, at_apart}
 
 abbrev id_at : Option Request → Option ℕ
@@ -8,10 +8,7 @@ id_at o = option_map (λ (r : Request). r.id) o
 -- the same entries have the same index
 pub index_same : (places new_places : BTreeMap ℕ ℕ) (by_place new_by_place : BTreeMap ℕ Request) → new_places.entries ≡ places.entries
     → new_by_place.entries ≡ by_place.entries → IsIndex places by_place → IsIndex new_places new_by_place
-index_same places new_places by_place new_by_place e f index id p =
-    let there : get nat_cmp new_places id ≡ get nat_cmp places id = ap (lookup (is_at (nat_cmp id))) e in
-    let here : id_at (get nat_cmp new_by_place p) ≡ id_at (get nat_cmp by_place p) = ap (λ (es : List (ℕ × Request)). id_at (lookup (is_at (nat_cmp p)) es)) f in
-    (λ h. here ∙ (index id p).0 (sym there ∙ h), λ h. there ∙ (index id p).1 (sym here ∙ h))
+index_same places new_places by_place new_by_place e f index id p = grind (arith, nat_tests)
 
 -- ---- one request less
 
@@ -73,12 +70,7 @@ module _ (places new_places : BTreeMap ℕ ℕ) (by_place new_by_place : BTreeMa
 lookup_waits_more : (test : ℕ → Bool) (e : ℕ × Request) (es : List (ℕ × Request)) (id : ℕ)
     → (id_at (lookup test es) ≡ Some id → has_waiting (values_of es) id ≡ true)
     → (b : Bool) → test e.0 ≡ b → id_at (lookup test (e ∷ es)) ≡ Some id → has_waiting (values_of (e ∷ es)) id ≡ true
-lookup_waits_more test e es id ih true t h =
-    let hit = ap id_at (cond-true (test e.0) (Some e.1) (lookup test es) t) in
-    let same : e.1.id ≡ id = cc in
-    or_left (eqb e.1.id id) (has_waiting (values_of es) id) (eq-eqb e.1.id id same)
-lookup_waits_more test e es id ih false t h =
-    or_right (eqb e.1.id id) (has_waiting (values_of es) id) (ih (sym (ap id_at (cond-false (test e.0) (Some e.1) (lookup test es) t)) ∙ h))
+lookup_waits_more test e es id ih b t h = grind (arith, nat_tests, cond-true, or_left, eqb, eq-eqb, or_right, cond-false)
 
 lookup_waits : (test : ℕ → Bool) (es : List (ℕ × Request)) (id : ℕ) → id_at (lookup test es) ≡ Some id → has_waiting (values_of es) id ≡ true
 lookup_waits test [] id h = cc
@@ -90,12 +82,8 @@ Listed places e = get nat_cmp places e.1.id ≡ Some e.0
 waits_listed : (places : BTreeMap ℕ ℕ) (es : List (ℕ × Request)) (id : ℕ) → AllByRecursion (Listed places) es → has_waiting (values_of es) id ≡ true
     → is_some (get nat_cmp places id) ≡ true
 waits_listed places [] id h w = cc
-waits_listed places (e ∷ es) id h w = by_case (waits_listed places es id h.1) (or_cases (eqb e.1.id id) (has_waiting (values_of es) id) w)
-  where
-    by_case : (has_waiting (values_of es) id ≡ true → is_some (get nat_cmp places id) ≡ true) → (eqb e.1.id id ≡ true) ⊎ (has_waiting (values_of es) id ≡ true)
-        → is_some (get nat_cmp places id) ≡ true
-    by_case ih (inl same) = ap (λ (n : ℕ). is_some (get nat_cmp places n)) (sym (eqb-true e.1.id id same)) ∙ ap is_some h.0
-    by_case ih (inr rest) = ih rest
+waits_listed places (e ∷ es) id h w =
+    grind (arith, nat_tests, waits_listed places es id h.1, or_cases (eqb e.1.id id) (has_waiting (values_of es) id) w, eqb e.1.id id, eqb-true)
 
 module _ (places : BTreeMap ℕ ℕ) (by_place : BTreeMap ℕ Request) (ordered : IsOrdered nat_cmp by_place) (index : IsIndex places by_place) where
   all_listed : AllByRecursion (Listed places) by_place.entries
@@ -156,7 +144,4 @@ cond_values false e es w h = h
 pub filter_values : (f : Bool → Bool) (listed : ℕ → Bool) (test : Request → Bool) (es : List (ℕ × Request)) → AllByRecursion (λ (e : ℕ × Request). listed e.0 ≡ test e.1) es
     → values_of (filter (λ (e : ℕ × Request). f (listed e.0)) es) ≡ filter (λ (r : Request). f (test r)) (values_of es)
 filter_values f listed test [] h = refl
-filter_values f listed test (e ∷ es) h =
-    let rest = filter_values f listed test es h.1 in
-    cond_values (f (listed e.0)) e (filter (λ (e : ℕ × Request). f (listed e.0)) es) (filter (λ (r : Request). f (test r)) (values_of es)) rest
-    ∙ ap (λ (b : Bool). cond (f b) (e.1 ∷ filter (λ (r : Request). f (test r)) (values_of es)) (filter (λ (r : Request). f (test r)) (values_of es))) h.0
+filter_values f listed test (e ∷ es) h = grind (arith, nat_tests, filter_values f listed test es h.1, cond_values)

@@ -1,5 +1,5 @@
 -- The listed requests leave: what waits is what is not listed, and the others keep their states.
-use Rattle.request_queue.proofs.Words.{◌≡◌, ℕ, ◌+◌, ◌∙◌, ap, sym, refl, inl, inr, ◌⊎◌, List, [], ◌∷◌, map, Bool, true, false, cond, eqb, not, ◌&&◌, Option, Some, None, length, arith, Post, find, filter, option_map, sum_by, cond_both, cond-false, cond-true, ne_eqb, cases_Bool, and_right, and_from, both_ways, sum_by-cons, Account, Posted, Status, NullRequest, Waiting, Gone, is_waiting, status_of, Posting, Request, status_in, posted_of, as_posted, is_null, held, is_buffered, Accounts, Holds, is_listed, removed, freed}
+use Rattle.request_queue.proofs.Words.{◌≡◌, ℕ, ◌+◌, ◌∙◌, ap, sym, refl, inl, inr, ◌⊎◌, List, [], ◌∷◌, map, Bool, true, false, cond, eqb, not, Option, Some, None, length, arith, Post, filter, option_map, sum_by, cond_both, cond-false, cond-true, ne_eqb, cases_Bool, and_right, and_from, both_ways, sum_by-cons, Account, Posted, Status, NullRequest, Waiting, Gone, is_waiting, status_of, Posting, Request, status_in, posted_of, as_posted, is_null, held, is_buffered, Accounts, Holds, is_listed, removed, freed, nat_tests}
 
 abbrev pub left : (ℕ → Bool) → List Request → List Request
 left listed w = filter (λ (r : Request). not (listed r.id)) w
@@ -14,10 +14,7 @@ marked listed p = cond (is_listed listed p) (record p { status = Gone }) p
 
 listed_gone_more : (listed : ℕ → Bool) (r : Request) (w : List Request) (id : ℕ) → listed id ≡ true → status_in (left listed w) id ≡ Gone
     → (b : Bool) → listed r.id ≡ b → status_in (left listed (r ∷ w)) id ≡ Gone
-listed_gone_more listed r w id t ih true e = rw e ih
-listed_gone_more listed r w id t ih false e =
-    let other : eqb r.id id ≡ false = ne_eqb r.id id (λ same. both_ways (listed id) (ap listed (sym same) ∙ e) t) in
-    rw e (cond-false (eqb r.id id) (Waiting r.kind r.posts) (status_in (left listed w) id) other ∙ ih)
+listed_gone_more listed r w id t ih b e = grind (arith, nat_tests, eqb, ne_eqb, both_ways, cond-false)
 
 listed_gone : (listed : ℕ → Bool) (w : List Request) (id : ℕ) → listed id ≡ true → status_in (left listed w) id ≡ Gone
 listed_gone listed [] id t = refl
@@ -25,10 +22,7 @@ listed_gone listed (r ∷ w) id t = listed_gone_more listed r w id t (listed_gon
 
 other_stays_more : (listed : ℕ → Bool) (r : Request) (w : List Request) (id : ℕ) → listed id ≡ false → status_in (left listed w) id ≡ status_in w id
     → (b : Bool) → listed r.id ≡ b → status_in (left listed (r ∷ w)) id ≡ status_in (r ∷ w) id
-other_stays_more listed r w id f ih true e =
-    let other : eqb r.id id ≡ false = ne_eqb r.id id (λ same. both_ways (listed id) f (ap listed (sym same) ∙ e)) in
-    rw e (ih ∙ sym (cond-false (eqb r.id id) (Waiting r.kind r.posts) (status_in w id) other))
-other_stays_more listed r w id f ih false e = rw e (ap (λ (s : Status). cond (eqb r.id id) (Waiting r.kind r.posts) s) ih)
+other_stays_more listed r w id f ih b e = grind (arith, nat_tests, eqb, ne_eqb, both_ways, cond-false)
 
 other_stays : (listed : ℕ → Bool) (w : List Request) (id : ℕ) → listed id ≡ false → status_in (left listed w) id ≡ status_in w id
 other_stays listed [] id f = refl
@@ -36,32 +30,15 @@ other_stays listed (r ∷ w) id f = other_stays_more listed r w id f (other_stay
 
 waits_or_gone : (w : List Request) (id : ℕ) → (is_waiting (status_in w id) ≡ true) ⊎ (status_in w id ≡ Gone)
 waits_or_gone [] id = inr refl
-waits_or_gone (r ∷ w) id =
-    cond_both (eqb r.id id) (Waiting r.kind r.posts) (status_in w id) (λ (s : Status). (is_waiting s ≡ true) ⊎ (s ≡ Gone)) (λ _. inl refl) (λ _. waits_or_gone w id)
+waits_or_gone (r ∷ w) id = grind (arith, nat_tests, waits_or_gone w id, eqb r.id id, cond_both)
 
 mark_status : (listed : ℕ → Bool) (id : ℕ) (s t : Status) → (listed id ≡ true → t ≡ Gone) → (listed id ≡ false → t ≡ s) → (is_waiting s ≡ true) ⊎ (s ≡ Gone)
     → record { id = id; status = t } ≡ marked listed (record { id = id; status = s })
-mark_status listed id s t when_listed when_not kind = by_test (cases_Bool (listed id)) kind
-  where
-    plain : Status → Posted
-    plain x = record { id = id; status = x }
-
-    by_test : (listed id ≡ true) ⊎ (listed id ≡ false) → (is_waiting s ≡ true) ⊎ (s ≡ Gone) → record { id = id; status = t } ≡ marked listed (record { id = id; status = s })
-    by_test (inl e) (inl waits) =
-        ap (λ (x : Status). record { id = id; status = x }) (when_listed e)
-        ∙ sym (cond-true (is_waiting s && listed id) (record { id = id; status = Gone }) (record { id = id; status = s }) (and_from (is_waiting s) (listed id) waits e))
-    by_test (inl e) (inr gone) =
-        ap (λ (x : Status). record { id = id; status = x }) (when_listed e)
-        ∙ sym (ap (λ (x : Status). marked listed (record { id = id; status = x })) gone)
-    by_test (inr e) _ =
-        ap (λ (x : Status). record { id = id; status = x }) (when_not e)
-        ∙ sym (cond-false (is_waiting s && listed id) (record { id = id; status = Gone }) (record { id = id; status = s }) (and_right (is_waiting s) (listed id) e))
+mark_status listed id s t when_listed when_not kind = grind (arith, nat_tests, cases_Bool, cond-true, and_from, cond-false, and_right)
 
 mark_standing : (listed : ℕ → Bool) (w : List Request) (id : ℕ) (null : Bool)
     → record { id = id; status = cond null NullRequest (status_in (left listed w) id) } ≡ marked listed (record { id = id; status = cond null NullRequest (status_in w id) })
-mark_standing listed w id true = refl
-mark_standing listed w id false =
-    mark_status listed id (status_in w id) (status_in (left listed w) id) (listed_gone listed w id) (other_stays listed w id) (waits_or_gone w id)
+mark_standing listed w id null = grind (arith, nat_tests, mark_status, listed_gone, other_stays, waits_or_gone)
 
 pub posted-left : (listed : ℕ → Bool) (history : List Posting) (w : List Request) → posted_of history (left listed w) ≡ removed listed (posted_of history w)
 posted-left listed [] w = refl
@@ -70,11 +47,7 @@ posted-left listed (p ∷ history) w = λ i. mark_standing listed w p.id p.null 
 -- ---- null requests
 
 mark_null : (listed : ℕ → Bool) (id : ℕ) (s : Status) → is_null (Some (marked listed (record { id = id; status = s })).status) ≡ is_null (Some s)
-mark_null listed id NullRequest = refl
-mark_null listed id Gone = refl
-mark_null listed id (Waiting kind posts) =
-    cond_both (listed id) (record { id = id; status = Gone }) (record { id = id; status = Waiting kind posts })
-    (λ (p : Posted). is_null (Some p.status) ≡ false) (λ _. refl) (λ _. refl)
+mark_null listed id s = grind (arith, nat_tests, cond_both)
 
 mark_id : (listed : ℕ → Bool) (p : Posted) → (marked listed p).id ≡ p.id
 mark_id listed p = cond_both (is_listed listed p) (record p { status = Gone }) p (λ (q : Posted). q.id ≡ p.id) (λ _. refl) (λ _. refl)
@@ -83,15 +56,10 @@ both_conds : (b : Bool) (f : Option Posted → Bool) (s t x y : Option Posted) �
 both_conds true f s t x y h k = h
 both_conds false f s t x y h k = k
 
-abbrev null_in : Option Posted → Bool
-null_in o = is_null (option_map (λ (q : Posted). q.status) o)
-
 pub is_null-removed : (listed : ℕ → Bool) (posted : List Posted) (id : ℕ) → is_null (status_of (removed listed posted) id) ≡ is_null (status_of posted id)
 is_null-removed listed [] id = refl
 is_null-removed listed (p ∷ posted) id =
-    ap (λ (n : ℕ). null_in (cond (eqb n id) (Some (marked listed p)) (find (λ (q : Posted). eqb q.id id) (removed listed posted)))) (mark_id listed p)
-    ∙ both_conds (eqb p.id id) null_in (Some (marked listed p)) (Some p) (find (λ (q : Posted). eqb q.id id) (removed listed posted)) (find (λ (q : Posted). eqb q.id id) posted)
-    (mark_null listed p.id p.status) (is_null-removed listed posted id)
+    grind (arith, nat_tests, is_null-removed listed posted id, mark_id listed p, eqb p.id id, mark_null listed p.id p.status, both_conds)
 
 -- ---- what waits
 
@@ -99,14 +67,7 @@ waiting_more : (listed : ℕ → Bool) (id : ℕ) (s : Status) (posted : List Po
     → filter (λ (p : Posted). is_waiting p.status) (removed listed posted) ≡ filter (λ (p : Posted). not (listed p.id)) (filter (λ (p : Posted). is_waiting p.status) posted)
     → filter (λ (p : Posted). is_waiting p.status) (removed listed (record { id = id; status = s } ∷ posted))
     ≡ filter (λ (p : Posted). not (listed p.id)) (filter (λ (p : Posted). is_waiting p.status) (record { id = id; status = s } ∷ posted))
-waiting_more listed id NullRequest posted ih = ih
-waiting_more listed id Gone posted ih = ih
-waiting_more listed id (Waiting kind posts) posted ih = by_test (cases_Bool (listed id))
-  where
-    by_test : (listed id ≡ true) ⊎ (listed id ≡ false) → filter (λ (p : Posted). is_waiting p.status) (removed listed (record { id = id; status = Waiting kind posts } ∷ posted))
-        ≡ filter (λ (p : Posted). not (listed p.id)) (filter (λ (p : Posted). is_waiting p.status) (record { id = id; status = Waiting kind posts } ∷ posted))
-    by_test (inl e) = rw e ih
-    by_test (inr e) = rw e (ap (λ (l : List Posted). record { id = id; status = Waiting kind posts } ∷ l) ih)
+waiting_more listed id s posted ih = grind (arith, nat_tests, cases_Bool, not)
 
 waiting-removed : (listed : ℕ → Bool) (posted : List Posted)
     → filter (λ (p : Posted). is_waiting p.status) (removed listed posted) ≡ filter (λ (p : Posted). not (listed p.id)) (filter (λ (p : Posted). is_waiting p.status) posted)
@@ -119,10 +80,7 @@ both_lists false f x y s t h k = k
 
 filter-as_posted : (test : ℕ → Bool) (w : List Request) → filter (λ (p : Posted). test p.id) (map as_posted w) ≡ map as_posted (filter (λ (r : Request). test r.id) w)
 filter-as_posted test [] = refl
-filter-as_posted test (r ∷ w) =
-    both_lists (test r.id) (map as_posted) (r ∷ filter (λ (r : Request). test r.id) w) (filter (λ (r : Request). test r.id) w)
-    (as_posted r ∷ filter (λ (p : Posted). test p.id) (map as_posted w)) (filter (λ (p : Posted). test p.id) (map as_posted w))
-    (ap (λ (l : List Posted). as_posted r ∷ l) (filter-as_posted test w)) (filter-as_posted test w)
+filter-as_posted test (r ∷ w) = grind (arith, nat_tests, filter-as_posted test w, both_lists)
 
 pub waiting-left : (listed : ℕ → Bool) (history : List Posting) (w : List Request) → filter (λ (p : Posted). is_waiting p.status) (posted_of history w) ≡ map as_posted w
     → filter (λ (p : Posted). is_waiting p.status) (posted_of history (left listed w)) ≡ map as_posted (left listed w)
@@ -134,10 +92,7 @@ chosen_more : (listed : ℕ → Bool) (id : ℕ) (s : Status) (posted : List Pos
     → filter (is_listed listed) posted ≡ filter (λ (p : Posted). listed p.id) (filter (λ (p : Posted). is_waiting p.status) posted)
     → filter (is_listed listed) (record { id = id; status = s } ∷ posted)
     ≡ filter (λ (p : Posted). listed p.id) (filter (λ (p : Posted). is_waiting p.status) (record { id = id; status = s } ∷ posted))
-chosen_more listed id NullRequest posted ih = ih
-chosen_more listed id Gone posted ih = ih
-chosen_more listed id (Waiting kind posts) posted ih =
-    ap (λ (l : List Posted). cond (listed id) (record { id = id; status = Waiting kind posts } ∷ l) l) ih
+chosen_more listed id s posted ih = grind (arith, nat_tests)
 
 chosen-waiting : (listed : ℕ → Bool) (posted : List Posted)
     → filter (is_listed listed) posted ≡ filter (λ (p : Posted). listed p.id) (filter (λ (p : Posted). is_waiting p.status) posted)
@@ -146,8 +101,7 @@ chosen-waiting listed (p ∷ posted) = chosen_more listed p.id p.status posted (
 
 pub taken_is : (listed : ℕ → Bool) (history : List Posting) (w : List Request) → filter (λ (p : Posted). is_waiting p.status) (posted_of history w) ≡ map as_posted w
     → map as_posted (taken listed w) ≡ filter (is_listed listed) (posted_of history w)
-taken_is listed history w kept =
-    sym (chosen-waiting listed (posted_of history w) ∙ ap (filter (λ (p : Posted). listed p.id)) kept ∙ filter-as_posted listed w)
+taken_is listed history w kept = grind (arith, nat_tests, chosen-waiting listed (posted_of history w), filter-as_posted listed w)
 
 -- ---- the account
 
@@ -161,14 +115,11 @@ sum_by-parts f listed [] = refl
 sum_by-parts f listed (r ∷ w) = sum_by-parts_more f listed r w (sum_by-parts f listed w) (cases_Bool (listed r.id))
 
 pub holds_taken : (room : Option Account) (listed : ℕ → Bool) (w : List Request) → Accounts room w → Holds room (taken listed w)
-holds_taken None listed w a = omega (arith, sum_by-parts (λ (r : Request). cond (is_buffered r) 1 0) listed w, a)
-holds_taken (Some room) listed w a =
-    let b = a.1 in let c = a.2 in (omega (arith, sum_by-parts held listed w, a.0), omega (arith, b, c))
+holds_taken room listed w a = grind (arith, nat_tests, sum_by-parts)
 
 pub accounts_left : (room : Option Account) (listed : ℕ → Bool) (w : List Request) → Accounts room w → Accounts (freed room (sum_by held (taken listed w))) (left listed w)
 accounts_left None listed w a = omega (arith, sum_by-parts (λ (r : Request). cond (is_buffered r) 1 0) listed w, a)
-accounts_left (Some room) listed w a =
-    let c = a.2 in (omega (arith, sum_by-parts held listed w, a.0), a.1, omega (arith, c))
+accounts_left (Some room) listed w a = grind (arith, nat_tests, sum_by-parts held listed w)
 
 pub size-freed : (room : Option Account) (len : ℕ) → option_map (λ (a : Account). a.size) (freed room len) ≡ option_map (λ (a : Account). a.size) room
 size-freed None len = refl

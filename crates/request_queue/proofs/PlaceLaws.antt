@@ -1,5 +1,5 @@
 -- The entries of a map at some keys, one key at a time from the least.
-use Rattle.request_queue.proofs.Words.{◌≡◌, ℕ, ◌<◌, ◌≤◌, ◌∙◌, ap, sym, refl, subst, inl, inr, ◌⊎◌, List, [], ◌∷◌, ◌++◌, Bool, true, false, cond, not, ◌||◌, Option, Some, None, append_assoc, arith, filter, list_any, AllByRecursion, IsStrictlySortedBy, nat_cmp, is_eq, match_ordering, nat_cmp_is, keys_of, values_of, lookup, remove_entry, is_at, insert_entry, Ordering, Less, Equal, Greater, cases_order, cases_eq, cond-true, cond-false, or_from, or_left, ranked, sorted_head, sorted_tail}
+use Rattle.request_queue.proofs.Words.{◌≡◌, ℕ, ◌<◌, ◌≤◌, ◌∙◌, ap, sym, refl, subst, inl, inr, ◌⊎◌, List, [], ◌∷◌, ◌++◌, Bool, true, false, not, Option, Some, None, append_assoc, arith, filter, list_any, AllByRecursion, IsStrictlySortedBy, nat_cmp, is_eq, nat_cmp_is, keys_of, values_of, lookup, remove_entry, is_at, insert_entry, Less, Equal, Greater, cases_order, cases_eq, cond-true, cond-false, or_from, or_left, ranked, sorted_head, sorted_tail, nat_tests}
 
 -- ---- one key
 
@@ -13,12 +13,7 @@ pub at_earlier : (k q : ℕ) → q < k → is_at (nat_cmp k) q ≡ false
 at_earlier k q l = ap is_eq (sym (nat_cmp_is k q Greater l))
 
 pub at_apart : (k q : ℕ) → (k ≡ q → ⊥) → is_at (nat_cmp k) q ≡ false
-at_apart k q apart = by_order (cases_order k q)
-  where
-    by_order : (k ≡ q) ⊎ ((k < q) ⊎ (q < k)) → is_at (nat_cmp k) q ≡ false
-    by_order (inl e) = absurd (apart e)
-    by_order (inr (inl l)) = at_later k q l
-    by_order (inr (inr g)) = at_earlier k q g
+at_apart k q apart = grind (arith, nat_tests, cases_order k q, at_later, at_earlier)
 
 less : (p q : ℕ) → nat_cmp p q ≡ Less → p < q
 less p q e = ranked p q Less (sym e)
@@ -71,38 +66,26 @@ module _ {X : Type 0} where
   remove_above : (k : ℕ) (es : List (ℕ × X)) → Above k es → remove_entry (is_at (nat_cmp k)) es ≡ es
   remove_above k [] h = refl
   remove_above k (e ∷ es) h =
-      cond-false (is_at (nat_cmp k) e.0) es (e ∷ remove_entry (is_at (nat_cmp k)) es) (at_later k e.0 h.0)
-      ∙ ap (λ (l : List (ℕ × X)). e ∷ l) (remove_above k es h.1)
+      grind (arith, nat_tests, remove_above k es h.1, cond-false (is_at (nat_cmp k) e.0) es (e ∷ remove_entry (is_at (nat_cmp k)) es) (at_later k e.0 h.0), at_later)
 
   part_above : (f : Bool → Bool) (k : ℕ) (ks : List ℕ) (es : List (ℕ × X)) → Above k es → part f (k ∷ ks) es ≡ part f ks es
   part_above f k ks [] h = refl
-  part_above f k ks (e ∷ es) h =
-      λ i. cond (f (at_earlier e.0 k h.0 i || among ks e.0)) (e ∷ part_above f k ks es h.1 i) (part_above f k ks es h.1 i)
+  part_above f k ks (e ∷ es) h = grind (arith, nat_tests, part_above f k ks es h.1, at_earlier)
 
   -- ---- the least of the keys first
 
   first_at : (k : ℕ) (ks : List ℕ) (e : ℕ × X) (es : List (ℕ × X)) → Above k es → AllByRecursion (λ q. k < q) ks → k ≡ e.0
       → values_of (at_keys (k ∷ ks) (e ∷ es)) ≡ found (lookup (is_at (nat_cmp k)) (e ∷ es)) ++ values_of (at_keys ks (e ∷ es))
-  first_at k ks e es up later same =
-      let head = cond-true (among (k ∷ ks) e.0) (e ∷ at_keys (k ∷ ks) es) (at_keys (k ∷ ks) es) (or_left (is_at (nat_cmp e.0) k) (among ks e.0) (at_same e.0 k (sym same))) in
-      let hit = cond-true (is_at (nat_cmp k) e.0) (Some e.1) (lookup (is_at (nat_cmp k)) es) (at_same k e.0 same) in
-      let rest = cond-false (among ks e.0) (e ∷ at_keys ks es) (at_keys ks es) (not_among e.0 ks (subst (λ (p : ℕ). AllByRecursion (λ q. p < q) ks) same later)) in
-      ap values_of head ∙ ap (λ (l : List (ℕ × X)). e.1 ∷ values_of l) (part_above (λ b. b) k ks es up)
-      ∙ sym (λ i. found (hit i) ++ values_of (rest i))
+  first_at k ks e es up later same = grind (arith, nat_tests, cond-true, or_left, at_same, cond-false, not_among, part_above)
 
   none_at : (k : ℕ) (ks : List ℕ) (es : List (ℕ × X)) → Above k es
       → values_of (at_keys (k ∷ ks) es) ≡ found (lookup (is_at (nat_cmp k)) es) ++ values_of (at_keys ks es)
-  none_at k ks es up =
-      ap values_of (part_above (λ b. b) k ks es up) ∙ sym (ap (λ (o : Option X). found o ++ values_of (at_keys ks es)) (lookup_above k es up))
+  none_at k ks es up = grind (arith, nat_tests, lookup_above k es up, part_above)
 
   later_at : (k : ℕ) (ks : List ℕ) (e : ℕ × X) (es : List (ℕ × X)) → AllByRecursion (λ q. e.0 < q) (k ∷ ks)
       → values_of (at_keys (k ∷ ks) es) ≡ found (lookup (is_at (nat_cmp k)) es) ++ values_of (at_keys ks es)
       → values_of (at_keys (k ∷ ks) (e ∷ es)) ≡ found (lookup (is_at (nat_cmp k)) (e ∷ es)) ++ values_of (at_keys ks (e ∷ es))
-  later_at k ks e es up ih =
-      let head = cond-false (among (k ∷ ks) e.0) (e ∷ at_keys (k ∷ ks) es) (at_keys (k ∷ ks) es) (not_among e.0 (k ∷ ks) up) in
-      let miss = cond-false (is_at (nat_cmp k) e.0) (Some e.1) (lookup (is_at (nat_cmp k)) es) (at_earlier k e.0 up.0) in
-      let rest = cond-false (among ks e.0) (e ∷ at_keys ks es) (at_keys ks es) (not_among e.0 ks up.1) in
-      ap values_of head ∙ ih ∙ sym (λ i. found (miss i) ++ values_of (rest i))
+  later_at k ks e es up ih = grind (arith, nat_tests, cond-false, not_among, at_earlier)
 
   pub at_keys-first : (k : ℕ) (ks : List ℕ) (es : List (ℕ × X)) → IsStrictlySortedBy nat_cmp (k ∷ ks) → IsStrictlySortedBy nat_cmp (keys_of es)
       → values_of (at_keys (k ∷ ks) es) ≡ found (lookup (is_at (nat_cmp k)) es) ++ values_of (at_keys ks es)
@@ -119,21 +102,12 @@ module _ {X : Type 0} where
 
   first_left : (k : ℕ) (ks : List ℕ) (e : ℕ × X) (es : List (ℕ × X)) → Above k es → k ≡ e.0
       → at_others (k ∷ ks) (e ∷ es) ≡ at_others ks (remove_entry (is_at (nat_cmp k)) (e ∷ es))
-  first_left k ks e es up same =
-      let t = or_left (is_at (nat_cmp e.0) k) (among ks e.0) (at_same e.0 k (sym same)) in
-      cond-false (not (among (k ∷ ks) e.0)) (e ∷ at_others (k ∷ ks) es) (at_others (k ∷ ks) es) (ap not t)
-      ∙ part_above not k ks es up
-      ∙ sym (ap (at_others ks) (cond-true (is_at (nat_cmp k) e.0) es (e ∷ remove_entry (is_at (nat_cmp k)) es) (at_same k e.0 same)))
+  first_left k ks e es up same = grind (arith, nat_tests, or_left, at_same, cond-false, not, part_above, cond-true)
 
   later_left : (k : ℕ) (ks : List ℕ) (e : ℕ × X) (es : List (ℕ × X)) → AllByRecursion (λ q. e.0 < q) (k ∷ ks)
       → at_others (k ∷ ks) es ≡ at_others ks (remove_entry (is_at (nat_cmp k)) es)
       → at_others (k ∷ ks) (e ∷ es) ≡ at_others ks (remove_entry (is_at (nat_cmp k)) (e ∷ es))
-  later_left k ks e es up ih =
-      let gone = remove_entry (is_at (nat_cmp k)) es in
-      cond-true (not (among (k ∷ ks) e.0)) (e ∷ at_others (k ∷ ks) es) (at_others (k ∷ ks) es) (ap not (not_among e.0 (k ∷ ks) up))
-      ∙ ap (λ (l : List (ℕ × X)). e ∷ l) ih
-      ∙ sym (ap (at_others ks) (cond-false (is_at (nat_cmp k) e.0) es (e ∷ gone) (at_earlier k e.0 up.0))
-      ∙ cond-true (not (among ks e.0)) (e ∷ at_others ks gone) (at_others ks gone) (ap not (not_among e.0 ks up.1)))
+  later_left k ks e es up ih = grind (arith, nat_tests, cond-true, not, not_among, cond-false, at_earlier)
 
   pub at_others-first : (k : ℕ) (ks : List ℕ) (es : List (ℕ × X)) → IsStrictlySortedBy nat_cmp (k ∷ ks) → IsStrictlySortedBy nat_cmp (keys_of es)
       → at_others (k ∷ ks) es ≡ at_others ks (remove_entry (is_at (nat_cmp k)) es)
@@ -152,18 +126,8 @@ module _ {X : Type 0} where
   pub at_keys-removed : (k : ℕ) (ks : List ℕ) (es : List (ℕ × X)) → IsStrictlySortedBy nat_cmp (k ∷ ks)
       → at_keys ks (remove_entry (is_at (nat_cmp k)) es) ≡ at_keys ks es
   at_keys-removed k ks [] sk = refl
-  at_keys-removed k ks (e ∷ es) sk = by_case (at_keys-removed k ks es sk) (cases_eq k e.0)
-    where
-      gone : List (ℕ × X)
-      gone = remove_entry (is_at (nat_cmp k)) es
-
-      by_case : at_keys ks gone ≡ at_keys ks es → (k ≡ e.0) ⊎ (k ≡ e.0 → ⊥) → at_keys ks (remove_entry (is_at (nat_cmp k)) (e ∷ es)) ≡ at_keys ks (e ∷ es)
-      by_case ih (inl same) =
-          ap (at_keys ks) (cond-true (is_at (nat_cmp k) e.0) es (e ∷ gone) (at_same k e.0 same))
-          ∙ sym (cond-false (among ks e.0) (e ∷ at_keys ks es) (at_keys ks es) (not_among e.0 ks (above_first e.0 k ks (omega (arith, same)) sk)))
-      by_case ih (inr apart) =
-          ap (at_keys ks) (cond-false (is_at (nat_cmp k) e.0) es (e ∷ gone) (at_apart k e.0 apart))
-          ∙ ap (λ (l : List (ℕ × X)). cond (among ks e.0) (e ∷ l) l) ih
+  at_keys-removed k ks (e ∷ es) sk =
+      grind (arith, nat_tests, at_keys-removed k ks es sk, cases_eq k e.0, cond-true, at_same, cond-false, not_among, above_first, at_apart)
 
   -- ---- a turn of a loop over the keys
 
@@ -199,15 +163,11 @@ module _ {X : Type 0} where
 
   pub insert_last : (es : List (ℕ × X)) (k : ℕ) (x : X) → AllByRecursion (λ e. e.0 < k) es → insert_entry nat_cmp es k x ≡ es ++ (k, x) ∷ []
   insert_last [] k x h = refl
-  insert_last (e ∷ es) k x h =
-      ap (λ (o : Ordering). match_ordering o ((k, x) ∷ e ∷ es) ((e.0, x) ∷ es) (e ∷ insert_entry nat_cmp es k x)) (sym (nat_cmp_is k e.0 Greater h.0))
-      ∙ ap (λ (l : List (ℕ × X)). e ∷ l) (insert_last es k x h.1)
+  insert_last (e ∷ es) k x h = grind (arith, nat_tests, insert_last es k x h.1)
 
   pub remove_last : (es : List (ℕ × X)) (k : ℕ) (x : X) → AllByRecursion (λ e. e.0 < k) es → remove_entry (is_at (nat_cmp k)) (es ++ (k, x) ∷ []) ≡ es
   remove_last [] k x h = cond-true (is_at (nat_cmp k) k) [] ((k, x) ∷ []) (at_same k k refl)
-  remove_last (e ∷ es) k x h =
-      cond-false (is_at (nat_cmp k) e.0) (es ++ (k, x) ∷ []) (e ∷ remove_entry (is_at (nat_cmp k)) (es ++ (k, x) ∷ [])) (at_earlier k e.0 h.0)
-      ∙ ap (λ (l : List (ℕ × X)). e ∷ l) (remove_last es k x h.1)
+  remove_last (e ∷ es) k x h = grind (arith, nat_tests, remove_last es k x h.1, at_earlier k e.0 h.0, cond-false)
 
   pub lookup_past : (es : List (ℕ × X)) (k : ℕ) → AllByRecursion (λ e. e.0 < k) es → lookup (is_at (nat_cmp k)) es ≡ None
   lookup_past [] k h = refl

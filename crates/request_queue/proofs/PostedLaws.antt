@@ -1,5 +1,5 @@
 -- A request that is posted under a new id stands last, and the others keep their states.
-use Rattle.request_queue.proofs.Words.{◌≡◌, ◌≤◌, ℕ, ◌+◌, ◌∙◌, ap, sym, refl, List, [], ◌∷◌, ◌++◌, map, Bool, true, false, cond, eqb, ◌||◌, Option, Some, None, length, arith, find, filter, option_map, count_by, list_any, or_parts, or_from, cond_both, ne_eqb, eqb-false, cond-false, cond-true, eq-eqb, eqb-true, filter-append, sum_by_push, length-filter, count_by-le-length, map-append, length-map, Account, Post, PostKind, Iput, Iget, Bput, Posted, Status, NullRequest, Waiting, Gone, is_waiting, is_bput, buffered, status_of, Posting, Request, status_in, standing, has_waiting, posted_of, as_posted, is_null, held, is_buffered, Accounts}
+use Rattle.request_queue.proofs.Words.{◌≡◌, ◌≤◌, ℕ, ◌+◌, ap, sym, refl, List, [], ◌∷◌, ◌++◌, map, Bool, true, false, cond, eqb, ◌||◌, Option, Some, None, length, arith, find, filter, option_map, count_by, list_any, or_parts, or_from, cond_both, ne_eqb, eqb-false, cond-false, cond-true, eq-eqb, eqb-true, filter-append, sum_by_push, length-filter, count_by-le-length, map-append, length-map, Account, Post, PostKind, Posted, Status, NullRequest, Waiting, Gone, is_waiting, is_bput, buffered, status_of, Posting, Request, status_in, standing, has_waiting, posted_of, as_posted, is_null, held, is_buffered, Accounts, nat_tests}
 
 -- some posted entry has the id
 abbrev pub has_posted : List Posted → ℕ → Bool
@@ -24,16 +24,12 @@ not_posted (p ∷ posted) id h = not_posted_more p posted id (not_posted posted 
 pub filter_lacks : (f : Posted → Bool) (posted : List Posted) (id : ℕ) → has_posted posted id ≡ false → has_posted (filter f posted) id ≡ false
 filter_lacks f [] id h = refl
 filter_lacks f (p ∷ posted) id h =
-    let parts = or_parts (eqb p.id id) (has_posted posted id) h in
-    let rest = filter_lacks f posted id parts.1 in
-    cond_both (f p) (p ∷ filter f posted) (filter f posted) (λ (l : List Posted). has_posted l id ≡ false)
-    (λ _. or_from (eqb p.id id) (has_posted (filter f posted) id) parts.0 rest) (λ _. rest)
+    grind (arith, nat_tests, filter_lacks f posted id (or_parts (eqb p.id id) (has_posted posted id) h).1, or_parts, eqb, cond_both, or_from)
 
 pub waiting_lacks : (waiting : List Request) (id : ℕ) → has_posted (map as_posted waiting) id ≡ false → has_waiting waiting id ≡ false
 waiting_lacks [] id h = refl
 waiting_lacks (r ∷ waiting) id h =
-    let parts = or_parts (eqb r.id id) (has_posted (map as_posted waiting) id) h in
-    or_from (eqb r.id id) (has_waiting waiting id) parts.0 (waiting_lacks waiting id parts.1)
+    grind (arith, nat_tests, waiting_lacks waiting id (or_parts (eqb r.id id) (has_posted (map as_posted waiting) id) h).1, or_parts, eqb, or_from)
 
 pub status_in-push : (waiting : List Request) (r : Request) (id : ℕ) → eqb r.id id ≡ false → status_in (waiting ++ r ∷ []) id ≡ status_in waiting id
 status_in-push [] r id h = cond-false (eqb r.id id) (Waiting r.kind r.posts) Gone h
@@ -42,8 +38,7 @@ status_in-push (s ∷ waiting) r id h = ap (λ (x : Status). cond (eqb s.id id) 
 pub status_in-new : (waiting : List Request) (r : Request) → has_waiting waiting r.id ≡ false → status_in (waiting ++ r ∷ []) r.id ≡ Waiting r.kind r.posts
 status_in-new [] r h = cond-true (eqb r.id r.id) (Waiting r.kind r.posts) Gone (eq-eqb r.id r.id refl)
 status_in-new (s ∷ waiting) r h =
-    let parts = or_parts (eqb s.id r.id) (has_waiting waiting r.id) h in
-    cond-false (eqb s.id r.id) (Waiting s.kind s.posts) (status_in (waiting ++ r ∷ []) r.id) parts.0 ∙ status_in-new waiting r parts.1
+    grind (arith, nat_tests, status_in-new waiting r (or_parts (eqb s.id r.id) (has_waiting waiting r.id) h).1, or_parts, eqb, cond-false)
 
 others_stay : (history : List Posting) (waiting : List Request) (r : Request) → has_posted (posted_of history waiting) r.id ≡ false
     → posted_of history (waiting ++ r ∷ []) ≡ posted_of history waiting
@@ -56,43 +51,33 @@ others_stay (p ∷ history) waiting r h =
 
 pub new_lacks : (h : List Posting) (w : List Request) (id : ℕ) → status_of (posted_of h w) id ≡ None
     → filter (λ (x : Posted). is_waiting x.status) (posted_of h w) ≡ map as_posted w → has_waiting w id ≡ false
-new_lacks h w id fresh kept =
-    waiting_lacks w id (ap (λ (l : List Posted). has_posted l id) (sym kept)
-    ∙ filter_lacks (λ (x : Posted). is_waiting x.status) (posted_of h w) id (not_posted (posted_of h w) id fresh))
+new_lacks h w id fresh kept = grind (arith, nat_tests, not_posted (posted_of h w) id fresh, waiting_lacks, filter_lacks)
 
 pub posted-push : (h h' : List Posting) (w w' : List Request) (p : Posting) (r : Request) → h' ≡ h ++ p ∷ [] → w' ≡ w ++ r ∷ [] → p.id ≡ r.id → p.null ≡ false
     → status_of (posted_of h w) r.id ≡ None → filter (λ (x : Posted). is_waiting x.status) (posted_of h w) ≡ map as_posted w
     → posted_of h' w' ≡ posted_of h w ++ as_posted r ∷ []
 posted-push h h' w w' p r eh ew i n fresh kept =
-    ap (λ (x : List Posting). posted_of x w') eh ∙ ap (λ (y : List Request). posted_of (h ++ p ∷ []) y) ew
-    ∙ map-append (standing (w ++ r ∷ [])) h (p ∷ []) ∙ (λ j. others j ++ last j ∷ [])
-  where
-    others : posted_of h (w ++ r ∷ []) ≡ posted_of h w
-    others = others_stay h w r (not_posted (posted_of h w) r.id fresh)
-
-    last : standing (w ++ r ∷ []) p ≡ as_posted r
-    last = let first : standing (w ++ r ∷ []) p ≡ record { id = r.id; status = status_in (w ++ r ∷ []) r.id } =
-        λ j. record { id = i j; status = cond (n j) NullRequest (status_in (w ++ r ∷ []) (i j)) } in
-        first ∙ ap (λ (s : Status). record { id = r.id; status = s }) (status_in-new w r (new_lacks h w r.id fresh kept))
+    grind (
+      arith,
+      nat_tests,
+      map-append (standing (w ++ r ∷ [])) h (p ∷ []),
+      not_posted (posted_of h w) r.id fresh,
+      status_in-new w r (new_lacks h w r.id fresh kept),
+      others_stay,
+      new_lacks,
+    )
 
 -- a new entry that is no null request makes no id null
 pub is_null-push : (posted : List Posted) (x : Posted) (id : ℕ) → is_null (Some x.status) ≡ false → is_null (status_of (posted ++ x ∷ []) id) ≡ is_null (status_of posted id)
-is_null-push [] x id h =
-    cond_both (eqb x.id id) (Some x) None (λ (o : Option Posted). is_null (option_map (λ (p : Posted). p.status) o) ≡ false) (λ _. h) (λ _. refl)
-is_null-push (p ∷ posted) x id h =
-    cond_same (eqb p.id id) (λ (o : Option Posted). is_null (option_map (λ (q : Posted). q.status) o)) (Some p)
-    (find (λ (q : Posted). eqb q.id id) (posted ++ x ∷ [])) (find (λ (q : Posted). eqb q.id id) posted) (is_null-push posted x id h)
+is_null-push [] x id h = grind (arith, nat_tests, eqb x.id id, cond_both)
+is_null-push (p ∷ posted) x id h = grind (arith, nat_tests, is_null-push posted x id h, eqb p.id id, cond_same)
 
 pub waiting-push : (posted : List Posted) (w : List Request) (r : Request) → filter (λ (x : Posted). is_waiting x.status) posted ≡ map as_posted w
     → filter (λ (x : Posted). is_waiting x.status) (posted ++ as_posted r ∷ []) ≡ map as_posted (w ++ r ∷ [])
-waiting-push posted w r kept =
-    filter-append (λ (x : Posted). is_waiting x.status) posted (as_posted r ∷ [])
-    ∙ ap (λ (l : List Posted). l ++ as_posted r ∷ []) kept ∙ sym (map-append as_posted w (r ∷ []))
+waiting-push posted w r kept = grind (arith, nat_tests, map-append as_posted w (r ∷ []), filter-append)
 
 pub not_held : (kind : PostKind) (posts : List Post) → is_bput (Waiting kind posts) ≡ false → buffered (Waiting kind posts) ≡ 0
-not_held Iput posts h = refl
-not_held Iget posts h = refl
-not_held Bput posts h = cc
+not_held kind posts h = grind (arith, nat_tests)
 
 pub count-push : (w : List Request) (r : Request) → count_by is_buffered (w ++ r ∷ []) ≡ count_by is_buffered w + cond (is_buffered r) 1 0
 count-push w r = sum_by_push (λ (x : Request). cond (is_buffered x) 1 0) w r
@@ -120,17 +105,12 @@ null_first k id false e = refl
 null_more : (p : Posted) (posted : List Posted) (k id : ℕ) → eqb p.id k ≡ false
     → is_null (status_of (posted ++ record { id = k; status = NullRequest } ∷ []) id) ≡ (eqb k id || is_null (status_of posted id))
     → (b : Bool) → eqb p.id id ≡ b → is_null (status_of (p ∷ posted ++ record { id = k; status = NullRequest } ∷ []) id) ≡ (eqb k id || is_null (status_of (p ∷ posted) id))
-null_more p posted k id differ ih true e =
-    let other : eqb k id ≡ false = ne_eqb k id (λ same. eqb-false p.id k differ (eqb-true p.id id e ∙ sym same)) in
-    rw (e, other) refl
-null_more p posted k id differ ih false e = rw e ih
+null_more p posted k id differ ih b e = grind (arith, nat_tests, eqb, ne_eqb, eqb-false, eqb-true)
 
 pub null-push : (posted : List Posted) (k id : ℕ) → has_posted posted k ≡ false
     → is_null (status_of (posted ++ record { id = k; status = NullRequest } ∷ []) id) ≡ (eqb k id || is_null (status_of posted id))
 null-push [] k id h = null_first k id (eqb k id) refl
-null-push (p ∷ posted) k id h =
-    let parts = or_parts (eqb p.id k) (has_posted posted k) h in
-    null_more p posted k id parts.0 (null-push posted k id parts.1) (eqb p.id id) refl
+null-push (p ∷ posted) k id h = grind (arith, nat_tests, null-push posted k id (or_parts (eqb p.id k) (has_posted posted k) h).1, or_parts, eqb, null_more)
 
 pub waiting-null : (posted : List Posted) (k : ℕ) → filter (λ (p : Posted). is_waiting p.status) (posted ++ record { id = k; status = NullRequest } ∷ []) ≡ filter (λ (p : Posted). is_waiting p.status) posted
 waiting-null [] k = refl

@@ -1,18 +1,6 @@
 -- The words of this crate's proofs, from where they stand.
 pub use Rattle.std.proofs.Common.{Bool, List, None, Option, Some, [], add-one, ap, append-nil, append_assoc, arith, cond, drop, drop-cons, eqb, false, get_or, inl, inr, length, ltb, map, min, not, refl, rules, subst, sym, take, true, vec_len, ℕ, ◌&&◌, ◌++◌, ◌+◌, ◌-◌, ◌<◌, ◌^◌, ◌||◌, ◌∙◌, ◌∷◌, ◌≡◌, ◌≤◌, ◌⊎◌}
-pub use Rattle.list_laws.proofs.Optional.{not_some}
-pub use Rattle.nc_base.specs.declared.answer.Code.{Code}
-pub use Rattle.nc_base.specs.declared.answer.Item.{Item}
-pub use Rattle.nc_base.specs.declared.plan.Post.{Post}
-pub use Rattle.nc_base.specs.declared.request.PostKind.{PostKind}
-pub use Rattle.nc_base.specs.declared.request.PostKind.TheVariants.{Bput, Iget, Iput}
-pub use Rattle.request_queue.specs.Buffer.{Account, new_code}
-pub use Rattle.request_queue.specs.Indexed.{IsIndex, is_place, stands_at}
-pub use Rattle.request_queue.specs.Kept.{Accounts, HasUsed, Holds, as_posted, claim_code, claimed, code_by, freed, gets_of, has_waiting, held, is_buffered, is_listed, is_null, items_by, posted_of, posts_of, puts_of, removed, standing, status_in}
-pub use Rattle.request_queue.specs.Queued.{Queued, rank_with, with_request}
-pub use Rattle.request_queue.specs.declared.queue.Posting.{Posting}
-pub use Rattle.request_queue.specs.declared.queue.Request.{Request}
-pub use Rattle.serial_spec.specs.RankMachine.{Gone, NullRequest, Posted, Status, Waiting, batch_chosen, buffer_code, buffered, bytes_in, chosen, detach_code, gets_in, has_id, is_bput, is_chosen, is_waiting, item_code, items_from, named, puts_in, status_of, waiting_ids}
+pub use Rattle.std.proofs.lemmas.Bool.Decides.{nat_tests}
 pub use Rattle.std.proofs.lemmas.Bool.{and_from, and_right, both_ways, cases_Bool, cases_eq, cases_lt, cases_order, cond-false, cond-true, cond_both, eq-eqb, eqb-false, eqb-true, le-ltb, lt-ltb, ltb-false, ne_eqb, or_cases, or_from, or_left, or_parts, or_right}
 pub use Rattle.std.proofs.lemmas.Cmp.{ranked}
 pub use Rattle.std.proofs.lemmas.Grind.{common_steps}
@@ -38,3 +26,16 @@ pub use Rattle.std.specs.Vec.{vec_capacity}
 pub use Rattle.std.specs.Vec.Iter.{into_iter_items}
 pub use Rattle.std.specs.declared.cmp.Ordering.{Ordering}
 pub use Rattle.std.specs.declared.cmp.Ordering.TheVariants.{Equal, Greater, Less}
+pub use Rattle.request_queue.specs.Buffer.{Account, new_code}
+pub use Rattle.list_laws.proofs.Optional.{not_some}
+pub use Rattle.nc_base.specs.declared.answer.Code.{Code}
+pub use Rattle.nc_base.specs.declared.answer.Item.{Item}
+pub use Rattle.nc_base.specs.declared.plan.Post.{Post}
+pub use Rattle.nc_base.specs.declared.request.PostKind.{PostKind}
+pub use Rattle.nc_base.specs.declared.request.PostKind.TheVariants.{Bput, Iget, Iput}
+pub use Rattle.request_queue.specs.Indexed.{IsIndex, is_place, stands_at}
+pub use Rattle.request_queue.specs.Kept.{Accounts, HasUsed, Holds, as_posted, claim_code, claimed, code_by, freed, gets_of, has_waiting, held, is_buffered, is_listed, is_null, items_by, posted_of, posts_of, puts_of, removed, standing, status_in}
+pub use Rattle.request_queue.specs.Queued.{Queued, rank_with, with_request}
+pub use Rattle.request_queue.specs.declared.queue.Posting.{Posting}
+pub use Rattle.request_queue.specs.declared.queue.Request.{Request}
+pub use Rattle.serial_spec.specs.RankMachine.{Gone, NullRequest, Posted, Status, Waiting, batch_chosen, buffer_code, buffered, bytes_in, chosen, detach_code, gets_in, has_id, is_bput, is_chosen, is_waiting, item_code, items_from, named, puts_in, status_of, waiting_ids}

@@ -1,7 +1,6 @@
 -- What the lines after `open` add to a dataset.
-use Rattle.script_laws.proofs.Words.{◌≡◌, ℕ, ◌+◌, ◌≤◌, List, [], ◌∷◌, ◌++◌, length, true, Err, IfOk, refl, arith, bytes_eq, codes, length-append, lt-ltb, le-leb, AllByRecursion, list_any, each_push, Dim, most_dims, most_vars, most_dims_of_var, most_values, is_dim, is_var, added_dims, added_vars, is_lawful_extra, is_whole_extra, values_in_extra, extra_values, Word, refuse_if, reads_as, ended, dim_line, var_head, name_list, owner_of_text, owner_name, attribute, Added, nothing_added, is_added_record, added_shape, dim_addition, var_addition, att_addition, addition}
+use Rattle.script_laws.proofs.Words.{◌≡◌, ℕ, ◌+◌, ◌≤◌, List, [], ◌∷◌, ◌++◌, length, true, Err, IfOk, refl, arith, bytes_eq, codes, length-append, lt-ltb, le-leb, AllByRecursion, each_push, Dim, most_dims, most_vars, most_dims_of_var, most_values, is_dim, is_var, added_dims, added_vars, is_lawful_extra, is_whole_extra, values_in_extra, extra_values, Word, reads_as, ended, dim_line, var_head, owner_of_text, owner_name, attribute, Added, nothing_added, added_shape, dim_addition, var_addition, att_addition, addition, nat_tests}
 use borrow.Author.Tests.{ltb-false}
-use Rattle.std.specs.Prelude.{drop, nat_lt}
 use Rattle.nc_base.specs.declared.errors.ScriptKind.TheVariants as kind
 use Rattle.nc_base.specs.declared.errors.LimitName.TheVariants as limit
 use Rattle.nc_base.specs.declared.script.Extra.TheVariants as extra
@@ -28,21 +27,10 @@ pub record FitsAddition (before : ℕ) (old : Added) (r : ℕ × Added) : Type 0
 
 dim_added : (d : Added) (x : Dim) → FitsAdded d → NewDim 5 d.dims x → FitsAdded (record d { dims = d.dims ++ x ∷ []; extras = d.extras ++ extra.Dim x ∷ [] })
 dim_added d x f new =
-    record {
-      dims = let dims = f.dims in omega (arith, count_more is_dim d.extras (extra.Dim x), length-append d.dims (x ∷ []));
-      few_dims = let room = new.room in omega (arith, length-append d.dims (x ∷ []));
-      vars = let vars = f.vars in omega (arith, count_more is_var d.extras (extra.Dim x));
-      few_vars = f.few_vars;
-      each = each_push (λ y. is_lawful_extra y ≡ true) d.extras (extra.Dim x) f.each (lt-ltb _ _ new.fits.short);
-      whole = each_push (λ y. is_whole_extra y ≡ true) d.extras (extra.Dim x) f.whole refl;
-    }
+    grind (arith, nat_tests, count_more is_dim d.extras (extra.Dim x), length-append d.dims (x ∷ []), count_more is_var d.extras (extra.Dim x), each_push, lt-ltb)
 
 added_shaped : (dims : List Dim) (ws : List Word) → IfOk (added_shape dims ws) (λ r. length r.0 ≤ most_dims_of_var)
-added_shaped dims ws =
-    first_then (name_list ws) _ _ (λ names _.
-    then_with (refuse_if (nat_lt most_dims_of_var (length names.0)) (kind.Limit limit.VarDims)) _ _ (λ _. length names.0 ≤ most_dims_of_var)
-    (unless_refused _ _ (length names.0 ≤ most_dims_of_var) (λ e. ltb-false _ _ e)) (λ _ few.
-    first_then (refuse_if (list_any (is_added_record dims) (drop 1 names.0)) kind.BadShape) _ _ (λ _ _. few)))
+added_shaped dims ws = grind (arith, nat_tests, first_then, then_with, unless_refused, ltb-false)
 
 pub addition_read : (before : ℕ) (d : Added) (first : List ℕ) (ws : List Word) → before ≤ most_values → FitsAdded d → IfOk (addition before d first ws) (FitsAddition before d)
 addition_read before d first ws h f =

@@ -1,5 +1,5 @@
 -- The ranks of a script agree on the kinds of their collective calls.
-use Rattle.script_laws.proofs.Words.{◌≡◌, ◌∙◌, ◌≤◌, ◌<◌, ℕ, zero, suc, ◌+◌, List, [], ◌∷◌, length, map, Bool, true, false, cond, not, Option, Some, None, Ok, refl, sym, ap, subst, arith, find, position, is_some, option_map, ◌==◌, nat_lt, bytes_eq, eqb-true, ltb-false, eq-or-lt_of_le, ◌⊎◌, inl, inr, true≢false, AllByRecursion, list_all, range_with_len, position_or_len, prefix_len, bytes_eq-Decides, and_from, finished, each_weaker, found_passes, none_before_map, not_some, untold, Call, MeetKind, kinds, kind_number, kind_numbers, agree, Line, kind_at, differs_at, is_difference, first_difference, mismatch, finish}
+use Rattle.script_laws.proofs.Words.{◌≡◌, ◌∙◌, ◌≤◌, ◌<◌, ℕ, zero, suc, ◌+◌, List, [], ◌∷◌, length, map, Bool, true, false, cond, not, Some, None, Ok, refl, ap, subst, arith, find, position, is_some, option_map, ◌==◌, nat_lt, bytes_eq, eqb-true, ltb-false, eq-or-lt_of_le, ◌⊎◌, inl, inr, true≢false, AllByRecursion, list_all, range_with_len, position_or_len, prefix_len, bytes_eq-Decides, and_from, finished, each_weaker, found_passes, none_before_map, not_some, untold, Call, MeetKind, kinds, kind_number, kind_numbers, agree, Line, kind_at, differs_at, is_difference, first_difference, mismatch, finish, nat_tests}
 use Rattle.nc_base.specs.declared.errors.ScriptKind.TheVariants as kind
 use Rattle.nc_base.specs.declared.step.MeetKind.TheVariants as meets
 
@@ -17,27 +17,13 @@ find_none p from (suc len) k h low high = by_first (p from) refl (eq-or-lt_of_le
     by_first false e (inr less) g rest = rest g (omega arith)
 
 no_difference : (ranks : List (List MeetKind)) (first : List MeetKind) → first_difference ranks first ≡ None → find (is_difference ranks first) (range_with_len 0 (length first + 1)) ≡ None
-no_difference ranks first h =
-    by_found (find (is_difference ranks first) (range_with_len 0 (length first + 1))) (λ k e. found_passes (is_difference ranks first) (range_with_len 0 (length first + 1)) k e) h
-  where
-    by_found : (o : Option ℕ) → ((k : ℕ) → o ≡ Some k → is_difference ranks first k ≡ true)
-        → elim o as (λ _. Option (ℕ × ℕ)) [ None ↦ None | Some k ↦ option_map (λ r. (k, r)) (differs_at ranks first k) ] ≡ None → o ≡ None
-    by_found None f g = refl
-    by_found (Some k) f g =
-        let there : is_difference ranks first k ≡ true = f k refl in
-        let none : is_difference ranks first k ≡ false = ap is_some (none_before_map (λ r. (k, r)) (differs_at ranks first k) g) in
-        absurd (true≢false (sym there ∙ none))
+no_difference ranks first h = grind (arith, nat_tests, find, found_passes, option_map, is_some, none_before_map, true≢false)
 
 -- ---- no rank differs
 
 prefix_all : {A : Type 0} (q : A → Bool) (xs : List A) → length xs ≤ prefix_len q xs → AllByRecursion (λ x. q x ≡ true) xs
 prefix_all q [] h = tt
-prefix_all {A} q (x ∷ xs) h = by_first (q x) refl h (λ g. prefix_all q xs g)
-  where
-    by_first : (b : Bool) → q x ≡ b → suc (length xs) ≤ cond b (1 + prefix_len q xs) 0 → (length xs ≤ prefix_len q xs → AllByRecursion (λ y. q y ≡ true) xs)
-        → AllByRecursion (λ y. q y ≡ true) (x ∷ xs)
-    by_first true e g rest = (e, rest (omega arith))
-    by_first false e g rest = absurd (omega arith)
+prefix_all {A} q (x ∷ xs) h = grind (arith, nat_tests, prefix_all q xs)
 
 position_none : {A : Type 0} (p : A → Bool) (xs : List A) → position p xs ≡ None → AllByRecursion (λ x. not (p x) ≡ true) xs
 position_none p xs h = prefix_all (λ x. not (p x)) xs (ltb-false _ _ (untold (nat_lt (position_or_len p xs) (length xs)) (position_or_len p xs) h))
@@ -62,12 +48,7 @@ all_swapped P n (x ∷ xs) h = (λ k l. (h k l).0, all_swapped P n xs (λ k l. (
 -- ---- the same kinds
 
 some_number : (x : MeetKind) → 1 ≤ kind_number (Some x)
-some_number meets.Put = omega arith
-some_number meets.Get = omega arith
-some_number meets.Wait = omega arith
-some_number meets.Begin = omega arith
-some_number meets.End = omega arith
-some_number meets.Sync = omega arith
+some_number x = grind (arith, nat_tests)
 
 abbrev numbers : List MeetKind → List ℕ
 numbers own = map (λ k. kind_number (Some k)) own

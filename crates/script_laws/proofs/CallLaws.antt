@@ -1,5 +1,5 @@
 -- The calls of a script, each as it is read.
-use Rattle.script_laws.proofs.Words.{◌≡◌, ℕ, zero, suc, ◌+◌, ◌^◌, ◌<◌, ◌≤◌, List, [], ◌∷◌, ◌++◌, length, Bool, true, false, not, Option, Some, None, Result, Ok, Err, IfOk, IfSome, refl, sym, subst, arith, nat_lt, nat_le, ◌==◌, map, codes, option_and_then, length-append, lt-ltb, le-leb, ltb-false, AllByRecursion, list_all, IfOk-weaker, and_from, each_push, if_some_at, ScriptKind, Values, Numbers, Form, Part, PostKind, Iput, Iget, Bput, Call, count_of, most_values, most_parts, is_size, are_sizes, is_part, has_lists_of, is_given, is_post_of, is_lawful_call, values_in_call, is_empty, Word, size_of_text, between_brackets, parts, all_some, list_of_text, refuse_if, or_fault, reads_as, size, list, name, ended, whole, values, after_prefix, form_and_all, form_of_text, given_of, given_parts, part, part_list, many_regions, region, id_of_text, choice, id_of_post, posted, put_call, get_call, post_values, is_posted, new_id, post_call, behind, plain_call, post_of_text, call_of, Family, Requests, Size, Name, Record, Nothing, row_of_text, size_read, faultless_some, is_sized, found_row, made_no_values, made_no_post}
+use Rattle.script_laws.proofs.Words.{◌≡◌, ℕ, zero, suc, ◌+◌, ◌^◌, ◌<◌, ◌≤◌, List, [], ◌∷◌, ◌++◌, length, Bool, true, false, not, Option, Some, None, Result, Ok, Err, IfOk, IfSome, refl, sym, subst, arith, nat_lt, nat_le, ◌==◌, map, codes, option_and_then, length-append, lt-ltb, le-leb, ltb-false, AllByRecursion, list_all, IfOk-weaker, and_from, each_push, if_some_at, Values, Numbers, Form, Part, PostKind, Iput, Iget, Bput, Call, count_of, most_values, most_parts, is_size, are_sizes, is_part, has_lists_of, is_given, is_post_of, is_lawful_call, values_in_call, is_empty, Word, size_of_text, between_brackets, parts, all_some, list_of_text, refuse_if, or_fault, size, list, name, ended, values, after_prefix, form_and_all, form_of_text, given_of, given_parts, part, part_list, many_regions, region, choice, id_of_post, posted, put_call, get_call, post_values, is_posted, new_id, post_call, behind, plain_call, post_of_text, call_of, Family, Requests, Size, Name, Record, Nothing, row_of_text, size_read, faultless_some, is_sized, found_row, made_no_values, made_no_post, nat_tests}
 use Rattle.nc_base.specs.declared.errors.ScriptKind.TheVariants as kind
 use Rattle.nc_base.specs.declared.errors.LimitName.TheVariants as limit
 use Rattle.nc_base.specs.declared.request.Form.TheVariants as form
@@ -29,8 +29,7 @@ list_word ws = read_as list_of_text kind.BadNumber ws (λ ns. are_sizes ns ≡ t
 
 given_fits : (f : Form) (s c d m : List ℕ) → has_lists_of f (given_of f s c d m) ≡ true → are_sizes s ≡ true → are_sizes c ≡ true → are_sizes d ≡ true → are_sizes m ≡ true
     → is_given (given_of f s c d m) ≡ true
-given_fits f s c d m lists starts counts strides steps =
-    and_from _ _ (and_from _ _ (and_from _ _ (and_from _ _ (and_from _ _ (and_from _ _ lists starts) counts) strides) steps) refl) refl
+given_fits f s c d m lists starts counts strides steps = grind (arith, nat_tests, and_from)
 
 part_read : (ws : List Word) → IfOk (part ws) (λ r. is_part r.0 ≡ true)
 part_read ws =
@@ -69,8 +68,7 @@ many_read ws =
 
 region_read : (f : Form) (ws : List Word) → IfOk (region f ws) (λ r. is_given r.0 ≡ true)
 region_read form.Var ws = refl
-region_read form.Var1 ws =
-    then_with (list ws) _ _ (λ r. are_sizes r.0 ≡ true) (list_word ws) (λ s starts. given_fits form.Var1 s.0 [] [] [] refl starts refl refl refl)
+region_read form.Var1 ws = grind (arith, nat_tests, list_word ws, then_with, given_fits)
 region_read form.Vara ws =
     then_with (list ws) _ _ (λ r. are_sizes r.0 ≡ true) (list_word ws) (λ s starts.
     then_with (list s.1) _ _ (λ r. are_sizes r.0 ≡ true) (list_word s.1) (λ c counts. given_fits form.Vara s.0 c.0 [] [] refl starts counts refl refl))
@@ -116,9 +114,7 @@ post_values_read Iput before ws h = IfOk-weaker (values None before ws) (FitsVal
 post_values_read Bput before ws h = IfOk-weaker (values None before ws) (FitsValues before) (FitsPost Bput before) (λ vs f. record { lawful = f.lawful; few = f.few }) (call_values_read before ws h)
 
 id_read : (ids : List ℕ) (ws : List Word) → IfOk (new_id ids ws) (λ r. is_posted r.0 ids ≡ false)
-id_read ids ws =
-    first_then (reads_as id_of_text kind.BadNumber ws) _ _ (λ id _.
-    then_with (refuse_if (is_posted id.0 ids) kind.TwiceNamed) _ _ (λ _. is_posted id.0 ids ≡ false) (unless_refused (is_posted id.0 ids) kind.TwiceNamed _ (λ e. e)) (λ _ e. e))
+id_read ids ws = grind (arith, nat_tests, first_then, then_with, unless_refused)
 
 post_read : (ranks r before : ℕ) (own : List Call) (k : PostKind) (f : Form) (ws : List Word) → before ≤ most_values → IfOk (post_call k (posted own) f before ws) (FitsCall ranks r before own)
 post_read ranks r before own k f ws h =
@@ -134,8 +130,7 @@ whatever (Err e) = tt
 
 behind_read : (f : Family) (ws : List Word) → IfOk (behind f ws) (λ b. is_sized f b ≡ true)
 behind_read Requests ws = whatever (choice ws)
-behind_read Size ws =
-    then_with (size ws) _ _ (λ n. n.0 < 2 ^ 63) (size_word ws) (λ n small. whole_line n.0 n.1 (λ x. is_sized Size x ≡ true) (lt-ltb n.0 (2 ^ 63) small))
+behind_read Size ws = grind (arith, nat_tests, size_word ws, then_with, whole_line, lt-ltb)
 behind_read Name ws = whatever (behind Name ws)
 behind_read Record ws =
     first_then (name ws) _ _ (λ v _.

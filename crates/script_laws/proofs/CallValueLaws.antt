@@ -1,5 +1,5 @@
 -- The values of a call: few, and each a number of 20 digits at most.
-use Rattle.script_laws.proofs.Words.{◌≡◌, ℕ, zero, suc, ◌+◌, ◌-◌, ◌*◌, ◌^◌, ◌<◌, ◌≤◌, List, [], ◌∷◌, ◌++◌, length, map, Bool, true, false, cond, not, ◌&&◌, ◌||◌, Option, Some, None, IfOk, refl, sym, subst, arith, nat_lt, ◌==◌, option_map, bytes_eq, codes, length-append, ℤ, pos, negsuc, neg_ℤ, ◌+ℤ◌, ◌*ℤ◌, unsigned_abs, lt-ltb, le-leb, ltb-true, ltb-false, eqb-true, mul-le-mul_left, AllByRecursion, range_with_len, ints, length-map-range_with_len, and_from, not-false, faultless_some, natural_small, each_push, and_first, Values, Numbers, Text, Class, most_elements, most_values, is_number, are_values, count_of, Word, Plain, Quoted, Broken, natural_of, number_of_text, refuse_if, or_fault, bare, reads_as, size, ended, within_limits, one_value, each_value, sequence_count, numbers_between, term, sequence, is_term, last_number, wrong_kind, may_be, are_numbers, are_patterns, seq_values, seqx_values, patterns_between, pattern_values, text_values, number_for, pattern_for, listed_values, listed_kind, values}
+use Rattle.script_laws.proofs.Words.{◌≡◌, ℕ, zero, suc, ◌+◌, ◌-◌, ◌*◌, ◌^◌, ◌<◌, ◌≤◌, List, [], ◌∷◌, ◌++◌, length, map, Bool, true, false, cond, not, ◌&&◌, Option, Some, None, IfOk, refl, sym, subst, arith, nat_lt, ◌==◌, option_map, bytes_eq, codes, length-append, ℤ, pos, negsuc, neg_ℤ, ◌+ℤ◌, ◌*ℤ◌, unsigned_abs, lt-ltb, le-leb, ltb-true, ltb-false, eqb-true, mul-le-mul_left, AllByRecursion, range_with_len, ints, length-map-range_with_len, and_from, not-false, faultless_some, natural_small, each_push, and_first, Values, Numbers, Text, Class, most_elements, most_values, are_values, count_of, Word, natural_of, number_of_text, refuse_if, or_fault, bare, reads_as, size, ended, within_limits, one_value, each_value, sequence_count, numbers_between, term, sequence, is_term, last_number, wrong_kind, may_be, are_numbers, are_patterns, seq_values, seqx_values, patterns_between, pattern_values, text_values, number_for, pattern_for, listed_values, values, nat_tests}
 use Rattle.nc_base.specs.declared.errors.ScriptKind.TheVariants as kind
 use Rattle.nc_base.specs.declared.errors.LimitName.TheVariants as limit
 use Rattle.serial_spec.specs.ExternalForm as class
@@ -29,11 +29,7 @@ number_small (c ∷ cs) z h = by_sign (c == 45) h
     by_sign false e = mapped_small (λ n. pos n) (natural_of (c ∷ cs)) z (λ n told. natural_small (c ∷ cs) n told) e
 
 number_for_small : (w : List ℕ) (z : ℤ) → number_for None w ≡ Some z → IsSmall z
-number_for_small w z h = by_number (number_of_text w) (λ y e. number_small w y e) h
-  where
-    by_number : (o : Option ℤ) → ((y : ℤ) → o ≡ Some y → IsSmall y) → elim o as (λ _. Option ℤ) [ None ↦ None | Some y ↦ Some y ] ≡ Some z → IsSmall z
-    by_number None f e = absurd (cc)
-    by_number (Some y) f e = f z e
+number_for_small w z h = grind (arith, nat_tests, number_small)
 
 -- ---- the terms of a sequence
 
@@ -52,16 +48,10 @@ terms_small a b m from zero h small last = tt
 terms_small a b m from (suc len) h small last = (term_small a b from m (omega arith) small last, terms_small a b m (from + 1) len (omega arith) small last)
 
 is_term_small : (n : ℕ) (z : ℤ) → is_term None n z ≡ true → 0 < n → IsSmall z
-is_term_small n z h some = by_none (n == 0) (λ e. eqb-true n 0 e) h
-  where
-    by_none : (b : Bool) → (b ≡ true → n ≡ 0) → (b || (nat_lt (unsigned_abs z) (10 ^ 20) && true)) ≡ true → IsSmall z
-    by_none true f e = let none : n ≡ 0 = f refl in absurd (omega arith)
-    by_none false f e = ltb-true (unsigned_abs z) (10 ^ 20) (and_first (nat_lt (unsigned_abs z) (10 ^ 20)) true e)
+is_term_small n z h some = grind (arith, nat_tests, nat_lt (unsigned_abs z) (10 ^ 20), unsigned_abs z, eqb-true, ltb-true, and_first)
 
 sequence_small : (a b : ℤ) (n : ℕ) → is_term None n a ≡ true → is_term None n (last_number a b n) ≡ true → AllByRecursion IsSmall (sequence a b n)
-sequence_small a b zero p q = tt
-sequence_small a b (suc n) p q =
-    terms_small a b (suc n - 1) 0 (suc n) (omega arith) (is_term_small (suc n) a p (omega arith)) (is_term_small (suc n) (last_number a b (suc n)) q (omega arith))
+sequence_small a b n p q = grind (arith, nat_tests, terms_small, is_term_small)
 
 -- ---- how many
 
@@ -70,10 +60,7 @@ record FewMore (before n : ℕ) : Type 0 where
   all : before + n ≤ most_values
 
 few_more : (before n : ℕ) → IfOk (within_limits None before n) (λ _. FewMore before n)
-few_more before n =
-    then_with (refuse_if (nat_lt most_elements n) (kind.Limit limit.Elements)) _ _ (λ _. n ≤ most_elements)
-    (unless_refused (nat_lt most_elements n) (kind.Limit limit.Elements) (n ≤ most_elements) (λ e. ltb-false _ _ e)) (λ _ most.
-    unless_refused (nat_lt most_values (before + n)) (kind.Limit limit.Values) (FewMore before n) (λ e. record { most = most; all = ltb-false _ _ e }))
+few_more before n = grind (arith, nat_tests, nat_lt most_elements n, nat_lt most_values (before + n), then_with, unless_refused, ltb-false)
 
 record OneValue (A : Type 0) (P : A → Type 0) (before n : ℕ) (x : A) : Type 0 where
   good : P x
@@ -131,8 +118,7 @@ pub record FitsValues (before : ℕ) (vs : Values) : Type 0 where
   pub few : before + count_of vs ≤ most_values
 
 numbers_fit : (before : ℕ) (zs : List ℤ) → AllByRecursion IsSmall zs → FewMore before (length zs) → FitsValues before (Numbers zs)
-numbers_fit before zs small few =
-    record { lawful = and_from _ _ (le-leb (length zs) most_elements few.most) (all_pass is_number IsSmall (λ z h. lt-ltb _ _ h) zs small); few = few.all }
+numbers_fit before zs small few = grind (arith, nat_tests, le-leb (length zs) most_elements few.most, and_from, all_pass, lt-ltb)
 
 patterns_fit : (before : ℕ) (ns : List ℕ) → FewMore before (length ns) → FitsValues before (pattern_values ns)
 patterns_fit before [] few = record { lawful = refl; few = few.all }
@@ -175,10 +161,4 @@ listed_read class.Unsigned before ws h =
     (each_read (number_for None) IsSmall before [] ws number_for_small (nothing_yet IsSmall before h)) (λ zs all. numbers_fit before zs all.good all.few)
 
 pub call_values_read : (before : ℕ) (ws : List Word) → before ≤ most_values → IfOk (values None before ws) (FitsValues before)
-call_values_read before [] h = record { lawful = refl; few = omega arith }
-call_values_read before (Broken ∷ ws) h = tt
-call_values_read before (Quoted text ∷ ws) h = text_read before text ws
-call_values_read before (Plain w ∷ ws) h =
-    by_test (bytes_eq w (codes "seq")) (seq_values None before ws) _ (FitsValues before) (λ _. seq_read before ws) (λ _.
-    by_test (bytes_eq w (codes "seqx")) (seqx_values None before ws) _ (FitsValues before) (λ _. seqx_read before ws)
-    (λ _. listed_read (listed_kind None w) before (Plain w ∷ ws) h))
+call_values_read before ws h = grind (arith, nat_tests, text_read, by_test, bytes_eq, codes, seq_read, seqx_read, listed_read)

@@ -1,5 +1,5 @@
 -- The calls of all ranks, line by line.
-use Rattle.script_laws.proofs.Words.{◌≡◌, ◌∙◌, ℕ, zero, suc, ◌+◌, ◌≤◌, List, [], ◌∷◌, ◌++◌, length, map, replicate, sum, Bool, true, false, not, Option, Some, None, Result, Ok, IfOk, IfSome, refl, sym, ap, subst, arith, ◌==◌, slice_set, bytes_eq, codes, length-set, length-append, append-nil, le_of_eq, AllByRecursion, list_any, list_all, enumerate_from, filter_map-append, list_any-append, length-replicate, and_from, not_from_false, not-true, or_from, one_posted, none_posted, each_push, and_first, and_second, or_first_false, or_second_false, ScriptErr, Call, most_values, is_lawful_call, values_in_call, posted_ids, are_different, Word, Line, ◌>>=◌, bare, next, id_of_post, posted, is_posted, Called, calls_of, rank_of_text, with_call, call_of, call_line, called_after, at_line, call_step, data_part}
+use Rattle.script_laws.proofs.Words.{◌≡◌, ◌∙◌, ℕ, zero, suc, ◌+◌, ◌≤◌, List, [], ◌∷◌, ◌++◌, length, map, replicate, sum, Bool, true, false, not, Option, Result, Ok, IfOk, IfSome, refl, sym, ap, subst, arith, ◌==◌, slice_set, bytes_eq, codes, length-set, length-append, append-nil, le_of_eq, AllByRecursion, list_any, list_all, enumerate_from, filter_map-append, list_any-append, length-replicate, and_from, not_from_false, not-true, or_from, one_posted, none_posted, each_push, and_first, and_second, or_first_false, or_second_false, ScriptErr, Call, most_values, is_lawful_call, values_in_call, posted_ids, are_different, Word, Line, ◌>>=◌, bare, next, id_of_post, posted, is_posted, Called, calls_of, rank_of_text, with_call, call_of, call_line, called_after, at_line, call_step, data_part, nat_tests}
 use Rattle.script_laws.proofs.ListLaws.{sum_cons, sum_more, all_pass}
 use Rattle.script_laws.proofs.StepLaws.{first_then, then_with, ok_then, by_test, whole_line, at_line_kept}
 use Rattle.script_laws.proofs.CallLaws.{FitsCall, call_read}
@@ -43,11 +43,7 @@ posted_more own c ids h = filter_map-append id_of_post own (c ∷ []) ∙ ap (λ
 
 posted_different : (own : List Call) (c : Call) (o : Option ℕ) → id_of_post c ≡ o → IfSome o (λ id. is_posted id (posted own) ≡ false) → are_different (posted own) ≡ true
     → are_different (posted (own ++ c ∷ [])) ≡ true
-posted_different own c None e new h =
-    let same : posted (own ++ c ∷ []) ≡ posted own = posted_more own c [] (none_posted c e) ∙ append-nil (posted own) in
-    subst (λ (ids : List ℕ). are_different ids ≡ true) (sym same) h
-posted_different own c (Some id) e new h =
-    subst (λ (ids : List ℕ). are_different ids ≡ true) (sym (posted_more own c (id ∷ []) (one_posted c id e))) (different_more (posted own) id h new)
+posted_different own c o e new h = grind (arith, nat_tests, posted_more, none_posted, append-nil, one_posted, different_more)
 
 -- ---- the calls of all ranks after so many lines
 
@@ -69,8 +65,7 @@ pub record FitsCalled (size lines base : ℕ) (d : Called) : Type 0 where
   pub few : d.values ≤ most_values
 
 later_calls : (size lines more base : ℕ) (d : Called) → lines ≤ more → FitsCalled size lines base d → FitsCalled size more base d
-later_calls size lines more base d h f =
-    record { ranks = f.ranks; lawful = f.lawful; different = f.different; few_calls = let few = f.few_calls in omega arith; held = f.held; few = f.few }
+later_calls size lines more base d h f = grind (arith, nat_tests)
 
 lawful_more : (size r : ℕ) (own : List Call) (c : Call) → LawfulOwn size r own → is_lawful_call size r c ≡ true → LawfulOwn size r (own ++ c ∷ [])
 lawful_more size r own c h p = each_push (λ x. is_lawful_call size r x ≡ true) own c h p

@@ -1,5 +1,5 @@
 -- What is defined after a line, and what is known then.
-use Rattle.script_laws.proofs.Words.{◌≡◌, ℕ, zero, suc, ◌+◌, ◌≤◌, sum, map, List, [], ◌∷◌, ◌++◌, length, replicate, true, false, Option, Some, None, Ok, Err, IfOk, IfSome, refl, subst, arith, ◌==◌, count_by, slice_set, bytes_eq, codes, length-append, is_some, AllByRecursion, same_Some, each_push, each_weaker, Dim, Attr, Var, most_dims, most_vars, most_values, attr_values, extra_values, Word, ◌>>=◌, refuse_if, reads_as, ended, HintForm, Within, Either, hint_form, hint_in, hint_of_text, hint_value, hint_line, ranks_line, number_within, one_of_two, is_unlimited, dim_line, var_line, owner_of_text, owner_place, attribute, Defined, no_definition, with_dim, with_var, with_attr_of_owner, with_title, att_line, dim_definition, var_definition, fill_line, definition, nothing_added, Known, nothing_known, addition, known_after}
+use Rattle.script_laws.proofs.Words.{◌≡◌, ℕ, zero, suc, ◌+◌, ◌≤◌, sum, map, List, [], ◌∷◌, ◌++◌, length, replicate, true, false, Option, Some, None, Ok, Err, IfOk, IfSome, subst, arith, ◌==◌, count_by, slice_set, bytes_eq, codes, length-append, is_some, AllByRecursion, same_Some, each_push, each_weaker, Dim, Attr, Var, most_dims, most_vars, most_values, attr_values, extra_values, Word, ◌>>=◌, refuse_if, reads_as, ended, HintForm, Within, Either, hint_form, hint_in, hint_of_text, hint_value, hint_line, ranks_line, number_within, one_of_two, is_unlimited, dim_line, var_line, owner_of_text, owner_place, attribute, Defined, no_definition, with_dim, with_var, with_attr_of_owner, with_title, att_line, dim_definition, var_definition, fill_line, definition, nothing_added, Known, nothing_known, addition, known_after, nat_tests}
 use Rattle.nc_base.specs.declared.errors.ScriptKind.TheVariants as kind
 use Rattle.script_laws.proofs.ListLaws.{sum_more}
 use Rattle.script_laws.proofs.StepLaws.{first_then, then_with, by_test, read_as}
@@ -19,20 +19,10 @@ pub record FitsDefined (version lines : ℕ) (d : Defined) : Type 0 where
   pub attrs : AllByRecursion (FitsAttr version) d.attrs
 
 pub nothing_fits : (version lines : ℕ) → FitsDefined version lines no_definition
-nothing_fits version lines =
-    record { few_dims = omega arith; dims = tt; one_record = omega arith; few_vars = omega arith; vars = tt; few_attrs = omega arith; attrs = tt }
+nothing_fits version lines = grind (arith, nat_tests)
 
 pub later_defined : (version lines more : ℕ) → lines ≤ more → (d : Defined) → FitsDefined version lines d → FitsDefined version more d
-later_defined version lines more h d f =
-    record {
-      few_dims = f.few_dims;
-      dims = f.dims;
-      one_record = f.one_record;
-      few_vars = f.few_vars;
-      vars = each_weaker (FitsVar version lines d.dims) (FitsVar version more d.dims) (later version lines more d.dims h) d.vars f.vars;
-      few_attrs = let few = f.few_attrs in omega arith;
-      attrs = f.attrs;
-    }
+later_defined version lines more h d f = grind (arith, nat_tests, later version lines more d.dims h, each_weaker)
 
 dim_fits : (version lines : ℕ) (d : Defined) (x : Dim) → FitsDefined version lines d → NewDim version d.dims x → FitsDefined version lines (with_dim x d)
 dim_fits version lines d x f new =
@@ -47,45 +37,17 @@ dim_fits version lines d x f new =
     }
 
 var_fits : (version lines : ℕ) (d : Defined) (x : Var) → FitsDefined version lines d → NewVar version lines d.dims d.vars x → FitsDefined version lines (with_var x d)
-var_fits version lines d x f new =
-    record {
-      few_dims = f.few_dims;
-      dims = f.dims;
-      one_record = f.one_record;
-      few_attrs = f.few_attrs;
-      attrs = f.attrs;
-      few_vars = let room = new.room in omega (arith, length-append d.vars (x ∷ []));
-      vars = each_push (FitsVar version lines d.dims) d.vars x f.vars new.fits;
-    }
+var_fits version lines d x f new = grind (arith, nat_tests, length-append d.vars (x ∷ []), each_push (FitsVar version lines d.dims) d.vars x f.vars new.fits)
 
 attr_fits : (version lines : ℕ) (d : Defined) (k : Option ℕ) (a : Attr) (owner : List ℕ) → FitsDefined version lines d → FitsAttr version a
     → FitsDefined version (suc lines) (with_title owner a.name (with_attr_of_owner k a d))
 attr_fits version lines d None a owner f fits =
-    let more = later_defined version lines (suc lines) (omega arith) d f in
-    record {
-      few_dims = f.few_dims;
-      dims = f.dims;
-      one_record = f.one_record;
-      few_vars = f.few_vars;
-      vars = more.vars;
-      few_attrs = let few = f.few_attrs in omega (arith, length-append d.attrs (a ∷ []));
-      attrs = each_push (FitsAttr version) d.attrs a f.attrs fits;
-    }
+    grind (arith, nat_tests, later_defined version lines (suc lines) (omega arith) d f, length-append d.attrs (a ∷ []), each_push (FitsAttr version) d.attrs a f.attrs fits)
 attr_fits version lines d (Some k) a owner f fits =
-    let more = later_defined version lines (suc lines) (omega arith) d f in
-    record {
-      few_dims = f.few_dims;
-      dims = f.dims;
-      one_record = f.one_record;
-      few_attrs = more.few_attrs;
-      attrs = f.attrs;
-      few_vars = let few = f.few_vars in omega (arith, length-placed k a d.vars);
-      vars = attr_placed version lines d.dims k a d.vars fits f.vars;
-    }
+    grind (arith, nat_tests, later_defined version lines (suc lines) (omega arith) d f, length-placed k a d.vars, attr_placed version lines d.dims k a d.vars fits f.vars)
 
 filled_fits : (version lines : ℕ) (d : Defined) → FitsDefined version lines d → FitsDefined version lines (record d { filled = true })
-filled_fits version lines d f =
-    record { few_dims = f.few_dims; dims = f.dims; one_record = f.one_record; few_vars = f.few_vars; vars = f.vars; few_attrs = f.few_attrs; attrs = f.attrs }
+filled_fits version lines d f = grind (arith, nat_tests)
 
 -- the values of all attributes
 abbrev pub defined_values : Defined → ℕ
@@ -171,10 +133,7 @@ one_hint F (o ∷ os) (suc k) v f p (suc h) n e = one_hint (λ i m. F (suc i) m)
 
 ranks_read : (ranks : Option ℕ) (ws : List Word) → IfOk (ranks_line ranks ws) (InRange 1 64 1)
 ranks_read ranks ws =
-    first_then (refuse_if (is_some ranks) kind.TwiceNamed) _ _ (λ _ _.
-    then_with (reads_as (number_within 1 64 1) kind.BadNumber ws) _ _ (λ r. InRange 1 64 1 r.0)
-    (read_as (number_within 1 64 1) kind.BadNumber ws (InRange 1 64 1) (within_read 1 64 1)) (λ n fits.
-    first_then (ended n.1) _ _ (λ _ _. fits)))
+    grind (arith, nat_tests, is_some ranks, read_as (number_within 1 64 1) kind.BadNumber ws (InRange 1 64 1) (within_read 1 64 1), first_then, then_with, within_read)
 
 -- ---- what is known after so many lines; version 0 is that of an existing dataset
 
@@ -189,8 +148,7 @@ pub record FitsKnown (version lines : ℕ) (known : Known) : Type 0 where
   pub held : defined_values known.defined + extra_values known.added.extras ≤ known.values
 
 pub nothing_known_fits : (version lines : ℕ) → FitsKnown version lines nothing_known
-nothing_known_fits version lines =
-    record { ranks = tt; hints = λ h n e. absurd (no_hint 10 h n e); few = omega arith; fresh = λ _. nothing_fits version lines; old = λ _. refl; none_added = λ _. refl; added = nothing_added_fits; held = omega arith }
+nothing_known_fits version lines = grind (arith, nat_tests, nothing_fits version lines, no_hint, nothing_added_fits)
 
 pub later_known : (version lines more : ℕ) → lines ≤ more → (known : Known) → FitsKnown version lines known → FitsKnown version more known
 later_known version lines more h known f =

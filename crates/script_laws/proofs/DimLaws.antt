@@ -1,5 +1,5 @@
 -- Dimensions, variables and attributes as they are defined, line by line.
-use Rattle.script_laws.proofs.Words.{◌≡◌, ◌∙◌, ℕ, suc, ◌+◌, ◌*◌, ◌^◌, ◌<◌, ◌≤◌, List, [], ◌∷◌, ◌++◌, length, drop, Bool, true, false, cond, ◌&&◌, ◌||◌, Option, Some, None, IfOk, IfSome, refl, ap, arith, nat_lt, nat_le, ◌==◌, count_by, sum, map, slice_get, slice_set, position, bytes_eq, length-append, length-set, AllByRecursion, list_any, length-map, sum_by-cons, and_from, position_below, get_left, each_push, each_weaker, each_later, each_at, fails_each, and_second, ScriptKind, NcType, Dim, Attr, Var, Values, most_dims, most_dims_of_var, most_vars, record_limit, most_values, attr_values, is_whole_attr, size_of, count_of, fits_count, is_type, is_writable_dim, is_writable_attr, Word, is_name, refuse_if, or_fault, reads_as, name, ended, values, type_of, is_among, length_of_text, is_unlimited, dim_names, dim_line, var_head, name_list, dim_ids, is_record_dim, var_names, shape, var_line, Title, attr_of, attribute_name, attribute, external_bytes, same_title, with_attr_at}
+use Rattle.script_laws.proofs.Words.{◌≡◌, ◌∙◌, ℕ, suc, ◌+◌, ◌^◌, ◌<◌, ◌≤◌, List, [], ◌∷◌, ◌++◌, length, drop, Bool, true, false, cond, ◌&&◌, Option, Some, None, IfOk, IfSome, refl, ap, arith, nat_lt, nat_le, ◌==◌, count_by, sum, map, slice_get, slice_set, position, bytes_eq, length-append, length-set, AllByRecursion, list_any, length-map, sum_by-cons, and_from, position_below, get_left, each_push, each_weaker, each_later, each_at, fails_each, and_second, ScriptKind, NcType, Dim, Attr, Var, Values, most_dims, most_dims_of_var, most_vars, record_limit, most_values, attr_values, is_whole_attr, count_of, fits_count, is_type, is_writable_dim, is_writable_attr, Word, is_name, refuse_if, or_fault, reads_as, name, ended, values, type_of, is_among, length_of_text, is_unlimited, dim_names, dim_line, var_head, name_list, dim_ids, is_record_dim, var_names, shape, var_line, Title, attr_of, attribute_name, attribute, with_attr_at, nat_tests}
 use borrow.Author.Tests.{ltb-false, leb-false, eq-eqb}
 use Rattle.nc_base.specs.declared.errors.ScriptKind.TheVariants as kind
 use Rattle.nc_base.specs.declared.errors.LimitName.TheVariants as limit
@@ -41,21 +41,13 @@ dim_read version dims ws =
 
 count_none : {A : Type 0} (p : A → Bool) (xs : List A) → list_any p xs ≡ false → count_by p xs ≡ 0
 count_none p [] h = refl
-count_none p (x ∷ xs) h = sum_by-cons (λ y. cond (p y) 1 0) x xs ∙ by_first (p x) (λ e. count_none p xs e) h
-  where
-    by_first : (b : Bool) → (list_any p xs ≡ false → count_by p xs ≡ 0) → (b || list_any p xs) ≡ false → cond b 1 0 + count_by p xs ≡ 0
-    by_first true rest e = absurd (cc)
-    by_first false rest e = omega (arith, rest e)
+count_none p (x ∷ xs) h = grind (arith, nat_tests, count_none p xs, count_by p xs, sum_by-cons)
 
 at_most_one : (b c : Bool) (n : ℕ) → n ≤ 1 → (c ≡ false → n ≡ 0) → (b && c) ≡ false → n + cond b 1 0 ≤ 1
-at_most_one true true n h f e = absurd (cc)
-at_most_one true false n h f e = let none : n ≡ 0 = f refl in omega arith
-at_most_one false c n h f e = omega arith
+at_most_one b c n h f e = grind (arith, nat_tests)
 
 pub one_more : (dims : List Dim) (d : Dim) → count_by is_unlimited dims ≤ 1 → (is_unlimited d && list_any is_unlimited dims) ≡ false → count_by is_unlimited (dims ++ d ∷ []) ≤ 1
-one_more dims d h once =
-    let more = at_most_one (is_unlimited d) (list_any is_unlimited dims) (count_by is_unlimited dims) h (λ e. count_none is_unlimited dims e) once in
-    omega (arith, count_more is_unlimited dims d)
+one_more dims d h once = grind (arith, nat_tests, count_by is_unlimited dims, count_more is_unlimited dims d, at_most_one, count_none)
 
 -- ---- an attribute
 
@@ -63,20 +55,13 @@ abbrev pub FitsAttr : ℕ → Attr → Type 0
 FitsAttr version a = is_writable_attr version a ≡ true
 
 attr_fits : (version : ℕ) (n : List ℕ) (t : NcType) (vs : Values) → is_name n ≡ true → is_type version t ≡ true → count_of vs ≤ 2 ^ 24 → FitsAttr version (attr_of n t vs)
-attr_fits version n t vs good typed few =
-    let name_fits : fits_count version (length n) ≡ true = small_fits version (length n) (let h = name_short n good in omega arith) in
-    let count_fits : fits_count version (count_of vs) ≡ true = small_fits version (count_of vs) few in
-    let whole : (length (external_bytes t vs) == count_of vs * size_of t) ≡ true = eq-eqb _ _ (bytes_long t vs) in
-    and_from _ _ (and_from _ _ (and_from _ _ name_fits typed) count_fits) whole
+attr_fits version n t vs good typed few = grind (arith, nat_tests, small_fits, name_short, eq-eqb, bytes_long, and_from)
 
 pub attr_whole : (version : ℕ) (a : Attr) → FitsAttr version a → is_whole_attr a ≡ true
-attr_whole version a h =
-    and_second (fits_count version (length a.name) && is_type version a.kind && fits_count version a.count) (length a.bytes == a.count * size_of a.kind) h
+attr_whole version a h = grind (arith, nat_tests, and_second)
 
 title_named : (titles : List Title) (owner : List ℕ) (ws : List Word) → IfOk (attribute_name titles owner ws) (λ r. is_name r.0 ≡ true)
-title_named titles owner ws =
-    then_with (name ws) _ _ (λ r. is_name r.0 ≡ true) (named ws) (λ n good.
-    first_then (refuse_if (list_any (same_title (owner, n.0)) titles) kind.TwiceNamed) _ _ (λ _ _. good))
+title_named titles owner ws = grind (arith, nat_tests, named ws, then_with, first_then)
 
 pub record NewAttr (version before : ℕ) (a : Attr) : Type 0 where
   pub fits : FitsAttr version a
@@ -120,17 +105,7 @@ wider version lines dims d v f =
     }
 
 pub later : (version lines more : ℕ) (dims : List Dim) → lines ≤ more → (v : Var) → FitsVar version lines dims v → FitsVar version more dims v
-later version lines more dims h v f =
-    record {
-      named = f.named;
-      typed = f.typed;
-      few_dims = f.few_dims;
-      ids = f.ids;
-      inner = f.inner;
-      few_attrs = let few = f.few_attrs in omega arith;
-      attrs = f.attrs;
-      begins = f.begins;
-    }
+later version lines more dims h v f = grind (arith, nat_tests, named)
 
 -- ---- the places of a variable's dimensions
 
@@ -225,11 +200,7 @@ attr_placed version lines dims k a vars fits all = by_place (slice_get vars k) (
     by_place (Some v) f = all_set (FitsVar version (suc lines) dims) vars k (record v { attrs = v.attrs ++ a ∷ [] }) more (grown v (f v refl))
 
 pub length-placed : (k : ℕ) (a : Attr) (vars : List Var) → length (with_attr_at k a vars) ≡ length vars
-length-placed k a vars = by_place (slice_get vars k)
-  where
-    by_place : (o : Option Var) → length (elim o as (λ _. List Var) [ None ↦ vars | Some v ↦ slice_set vars k (record v { attrs = v.attrs ++ a ∷ [] }) ]) ≡ length vars
-    by_place None = refl
-    by_place (Some v) = length-set vars k (record v { attrs = v.attrs ++ a ∷ [] })
+length-placed k a vars = grind (arith, nat_tests, slice_get vars k, slice_set, length-set)
 
 -- the values of all attributes of the variables
 pub values_placed : (k : ℕ) (a : Attr) (vars : List Var) → sum (map (λ (v : Var). attr_values v.attrs) (with_attr_at k a vars)) ≤ sum (map (λ (v : Var). attr_values v.attrs) vars) + a.count

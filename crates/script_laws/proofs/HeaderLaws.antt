@@ -1,9 +1,9 @@
 -- The header of a script for a new dataset.
-use Rattle.script_laws.proofs.Words.{◌≡◌, ℕ, ◌^◌, ◌<◌, ◌≤◌, List, length, drop, Bool, true, false, not, Option, Some, None, refl, arith, nat_le, ◌==◌, count_by, slice_get, AllByRecursion, list_any, list_all, lt-leb, and_from, not_from_false, not-true, Dim, Attr, Var, Script, most_dims, most_vars, most_dims_of_var, length_of, is_version, two_record_dims, record_later, is_record_id, bad_id, counts_are_small, is_writable_list, is_writable_dim, is_writable_attr, is_unplaced, has_writable_names, has_writable_parts, is_unlimited, is_record_dim, Defined, header_of, most_lines, Reads}
+use Rattle.script_laws.proofs.Words.{◌≡◌, ℕ, ◌^◌, ◌≤◌, List, length, Bool, true, false, not, Option, Some, None, refl, arith, nat_le, ◌==◌, count_by, slice_get, AllByRecursion, list_any, list_all, lt-leb, and_from, not_from_false, not-true, Dim, Attr, Var, Script, most_dims, most_vars, most_dims_of_var, length_of, is_version, two_record_dims, record_later, bad_id, counts_are_small, is_writable_list, is_writable_attr, is_unplaced, has_writable_names, has_writable_parts, is_unlimited, Defined, header_of, most_lines, Reads, nat_tests}
 use borrow.Author.Tests.{le-leb, le-ltb}
 use Rattle.script_laws.proofs.ListLaws.{all_pass, none_passes}
 use Rattle.script_laws.proofs.WordLaws.{small_fits}
-use Rattle.script_laws.proofs.DimLaws.{FitsDim, FitsAttr, FitsVar}
+use Rattle.script_laws.proofs.DimLaws.{FitsAttr, FitsVar}
 use Rattle.script_laws.proofs.DefinedLaws.{FitsDefined}
 use Rattle.script_laws.proofs.ReadLaws.{read_script}
 
@@ -20,14 +20,10 @@ same_record None e = refl
 same_record (Some d) e = e
 
 first_only : (version lines : ℕ) (d : Defined) → FitsDefined version lines d → list_any (record_later (header_of version d)) d.vars ≡ false
-first_only version lines d f =
-    none_passes (record_later (header_of version d)) (FitsVar version lines d.dims)
-    (λ v g. none_passes (is_record_id (header_of version d)) (λ id. is_record_dim d.dims id ≡ false) (λ id e. same_record (slice_get d.dims id) e) (drop 1 v.dims) g.inner) d.vars f.vars
+first_only version lines d f = grind (arith, nat_tests, none_passes, same_record, slice_get)
 
 ids_below : (version lines : ℕ) (d : Defined) → FitsDefined version lines d → list_any (bad_id (header_of version d)) d.vars ≡ false
-ids_below version lines d f =
-    none_passes (bad_id (header_of version d)) (FitsVar version lines d.dims)
-    (λ v g. none_passes (λ id. nat_le (length d.dims) id) (λ id. id < length d.dims) (λ id h. lt-leb (length d.dims) id h) v.dims g.ids) d.vars f.vars
+ids_below version lines d f = grind (arith, nat_tests, none_passes, nat_le, lt-leb)
 
 unplaced_of : (version lines : ℕ) (d : Defined) → is_version version ≡ true → FitsDefined version lines d → is_unplaced (header_of version d) ≡ true
 unplaced_of version lines d good f =
@@ -50,16 +46,10 @@ attrs_fit : (version : ℕ) (attrs : List Attr) → AllByRecursion (FitsAttr ver
 attrs_fit version attrs f = all_pass (is_writable_attr version) (FitsAttr version) (λ a g. g) attrs f
 
 names_fit : (version : ℕ) (d : Defined) (v : Var) → FitsVar version most_lines d.dims v → has_writable_names (header_of version d) v ≡ true
-names_fit version d v f =
-    let attrs = list_fits version most_lines (is_writable_attr version) v.attrs f.few_attrs (omega arith) (attrs_fit version v.attrs f.attrs) in
-    and_from _ _ (and_from _ _ f.named attrs) f.typed
+names_fit version d v f = grind (arith, nat_tests, attrs_fit version v.attrs f.attrs, list_fits, and_from)
 
 parts_fit : (version : ℕ) (d : Defined) → FitsDefined version most_lines d → has_writable_parts (header_of version d) ≡ true
-parts_fit version d f =
-    let dims = list_fits version most_dims (is_writable_dim version) d.dims f.few_dims (omega arith) (all_pass (is_writable_dim version) (FitsDim version) (λ x g. g.writable) d.dims f.dims) in
-    let attrs = list_fits version most_lines (is_writable_attr version) d.attrs f.few_attrs (omega arith) (attrs_fit version d.attrs f.attrs) in
-    let vars = all_pass (has_writable_names (header_of version d)) (FitsVar version most_lines d.dims) (names_fit version d) d.vars f.vars in
-    and_from _ _ (and_from _ _ dims attrs) vars
+parts_fit version d f = grind (arith, nat_tests, attrs_fit version d.attrs f.attrs, names_fit version d, list_fits, all_pass, and_from)
 
 pub read_writable : (text : List ℕ) (s : Script) → Reads text s → s.fresh ≡ true → has_writable_parts s.header ≡ true
 read_writable text s =

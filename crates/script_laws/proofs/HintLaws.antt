@@ -1,5 +1,5 @@
 -- The hints of a script are within their ranges.
-use Rattle.script_laws.proofs.Words.{◌≡◌, ℕ, ◌*◌, ◌/◌, ◌%◌, ◌≤◌, List, true, Option, min, arith, and_from, is_within, is_alignment, are_lawful_hints, hint_in, hint_or, hints_of}
+use Rattle.script_laws.proofs.Words.{◌≡◌, ℕ, ◌≤◌, List, true, Option, min, arith, and_from, is_within, is_alignment, are_lawful_hints, hint_in, hint_or, hints_of, nat_tests}
 use borrow.Author.Tests.{le-leb, eq-eqb}
 use Rattle.script_laws.proofs.WordLaws.{InRange}
 use Rattle.script_laws.proofs.DefinedLaws.{FitHints}
@@ -9,19 +9,13 @@ pub within_range : (low high unit n : ℕ) → InRange low high unit n → is_wi
 within_range low high unit n f = and_from _ _ (le-leb low n f.at_least) (le-leb n high f.at_most)
 
 aligned : (n : ℕ) → InRange 4 1048576 4 n → is_alignment n ≡ true
-aligned n f =
-    let multiple : n % 4 ≡ 0 = f.multiple in
-    let whole : (n / 4) * 4 ≡ n = omega arith in
-    and_from _ _ (within_range 4 1048576 4 n f) (eq-eqb _ _ whole)
+aligned n f = grind (arith, nat_tests, within_range 4 1048576 4 n f, and_from, eq-eqb)
 
 any_unit : (low high n : ℕ) → low ≤ n → n ≤ high → InRange low high 1 n
 any_unit low high n a b = record { at_least = a; at_most = b; multiple = omega arith }
 
 nodes : (ranks : ℕ) (hints : List (Option ℕ)) → InRange 1 64 1 ranks → FitHints hints → InRange 1 64 1 (hint_or hints 0 (min ranks 8))
-nodes ranks hints r f =
-    let few : ranks ≤ 64 = r.at_most in
-    let some : 1 ≤ ranks = r.at_least in
-    or_default (hint_in 0 hints) (min ranks 8) (InRange 1 64 1) (f 0) (any_unit 1 64 (min ranks 8) (omega arith) (omega arith))
+nodes ranks hints r f = grind (arith, nat_tests, any_unit 1 64 (min ranks 8) (omega arith) (omega arith), or_default)
 
 cb_buffer : (hints : List (Option ℕ)) → FitHints hints → InRange 1 33554432 1 (hint_or hints 1 16777216)
 cb_buffer hints f = or_default (hint_in 1 hints) 16777216 (InRange 1 33554432 1) (f 1) (any_unit 1 33554432 16777216 (omega arith) (omega arith))

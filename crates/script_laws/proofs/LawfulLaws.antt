@@ -1,7 +1,7 @@
 -- A script that is read is lawful.
-use Rattle.script_laws.proofs.Words.{◌≡◌, ◌∙◌, ℕ, ◌≤◌, List, length, map, sum, Bool, true, false, cond, not, ◌&&◌, refl, ap, arith, nat_le, ◌==◌, le-leb, lt-ltb, eq-eqb, eqb-true, AllByRecursion, list_all, and_from, Dim, Attr, Var, Call, Script, most_dims, most_vars, most_dims_of_var, record_limit, is_version, most_values, most_calls, is_lawful_dim, is_lawful_var, is_nothing_defined, is_lawful_header, is_lawful_extra, is_whole_attr, is_whole_extra, has_whole_attrs, added_dims, added_vars, values_in_script, is_lawful, is_empty, Defined, no_definition, Added, nothing_added, Known, script_of, header_of, most_lines, Reads}
+use Rattle.script_laws.proofs.Words.{◌≡◌, ℕ, ◌≤◌, List, length, map, sum, Bool, true, false, cond, not, ◌&&◌, refl, ap, arith, nat_le, ◌==◌, le-leb, lt-ltb, eq-eqb, eqb-true, AllByRecursion, list_all, and_from, Dim, Attr, Var, Call, Script, most_dims, most_vars, most_dims_of_var, is_version, most_values, most_calls, is_lawful_dim, is_lawful_var, is_nothing_defined, is_lawful_header, is_lawful_extra, is_whole_attr, is_whole_extra, has_whole_attrs, added_dims, added_vars, values_in_script, is_lawful, is_empty, Defined, no_definition, Added, nothing_added, Known, script_of, header_of, most_lines, Reads, nat_tests}
 use Rattle.script_laws.proofs.ListLaws.{all_pass}
-use Rattle.script_laws.proofs.DimLaws.{FitsDim, FitsAttr, FitsVar, attr_whole}
+use Rattle.script_laws.proofs.DimLaws.{FitsAttr, FitsVar, attr_whole}
 use Rattle.script_laws.proofs.DefinedLaws.{FitsDefined, FitsKnown}
 use Rattle.script_laws.proofs.CalledLaws.{all_lawful, all_different}
 use Rattle.script_laws.proofs.ReadLaws.{FitsParts, read_script}
@@ -20,20 +20,12 @@ nothing_more : (known : Known) → known.added ≡ nothing_added → is_empty kn
 nothing_more known e = ap (λ (d : Added). is_empty d.extras) e
 
 nothing_defined : (version : ℕ) (d : Defined) → version ≡ 0 → d ≡ no_definition → (is_nothing_defined (header_of version d) && not d.filled) ≡ true
-nothing_defined version d zero_version e =
-    ap (λ (n : ℕ). is_nothing_defined (header_of n d) && not d.filled) zero_version ∙ ap (λ (x : Defined). is_nothing_defined (header_of 0 x) && not x.filled) e
+nothing_defined version d zero_version e = grind (arith, nat_tests, not d.filled)
 
 new_lawful : (version most : ℕ) (known : Known) → is_version version ≡ true → FitsDefined version most known.defined → known.added ≡ nothing_added
     → (is_version version && nat_le (length known.defined.dims) most_dims && list_all (is_lawful_dim version) known.defined.dims
     && nat_le (length known.defined.vars) most_vars && list_all is_lawful_var known.defined.vars && is_empty known.added.extras) ≡ true
-new_lawful version most known good f none =
-    let dims : list_all (is_lawful_dim version) known.defined.dims ≡ true =
-    all_pass (is_lawful_dim version) (FitsDim version) (λ x g. lt-ltb x.len (record_limit version) g.short) known.defined.dims f.dims in
-    let vars : list_all is_lawful_var known.defined.vars ≡ true =
-    all_pass is_lawful_var (FitsVar version most known.defined.dims) (var_lawful version most known.defined.dims) known.defined.vars f.vars in
-    let a = and_from _ _ good (le-leb (length known.defined.dims) most_dims f.few_dims) in
-    let b = and_from _ _ (and_from _ _ a dims) (le-leb (length known.defined.vars) most_vars f.few_vars) in
-    and_from _ _ (and_from _ _ b vars) (nothing_more known none)
+new_lawful version most known good f none = grind (arith, nat_tests, all_pass, lt-ltb, var_lawful, and_from, le-leb, nothing_more)
 
 header_lawful : (most version ranks : ℕ) (known : Known) (calls : List (List Call)) → FitsParts most version ranks known calls → is_lawful_header (script_of version ranks known calls) ≡ true
 header_lawful most version ranks known calls parts =
@@ -43,11 +35,7 @@ header_lawful most version ranks known calls parts =
 -- ---- the rest
 
 few_values : (most version ranks : ℕ) (known : Known) (calls : List (List Call)) → FitsParts most version ranks known calls → values_in_script (script_of version ranks known calls) ≤ most_values
-few_values most version ranks known calls parts =
-    let known_held = parts.known.held in
-    let held = parts.calls.held in
-    let few = parts.calls.few in
-    omega arith
+few_values most version ranks known calls parts = grind (arith, nat_tests)
 
 extras_lawful : (known : Known) (most version : ℕ) → FitsKnown version most known → list_all is_lawful_extra known.added.extras ≡ true
 extras_lawful known most version f = all_pass is_lawful_extra (λ x. is_lawful_extra x ≡ true) (λ x h. h) known.added.extras f.added.each

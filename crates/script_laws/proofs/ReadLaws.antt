@@ -1,5 +1,5 @@
 -- A whole script that is read.
-use Rattle.script_laws.proofs.Words.{◌≡◌, ℕ, suc, ◌+◌, ◌≤◌, List, [], ◌∷◌, length, take, Bool, true, false, cond, not, ◌&&◌, Option, Some, None, Result, Ok, Err, IfOk, IfSome, refl, subst, arith, nat_lt, nat_le, ◌==◌, bytes_eq, codes, length-append, utf8_valid_len, enumerate_from, length-enumerate_from, cond_some, faultless_some, ScriptErr, Call, Script, is_version, agree, Word, Plain, Quoted, Broken, Line, text_lines, significant, significant_of, line_of, words, is_comment, size_of_text, ◌>>=◌, or_fault, bare, reads_as, ended, whole, Known, nothing_known, known_after, at_line, version_of_text, version_line, head, data_line, definition_step, definitions, data_part, finish, script_of, no_calls, script_of_lines, most_bytes, most_lines, newlines, is_mismatch, too_many_lines, within_lines, script_of_utf8, script_of_text, Reads}
+use Rattle.script_laws.proofs.Words.{◌≡◌, ℕ, suc, ◌+◌, ◌≤◌, List, [], ◌∷◌, length, take, Bool, true, false, not, Option, Some, None, Result, Ok, Err, IfOk, IfSome, subst, arith, nat_lt, nat_le, ◌==◌, bytes_eq, codes, length-append, utf8_valid_len, enumerate_from, length-enumerate_from, cond_some, faultless_some, ScriptErr, Call, Script, is_version, agree, Word, Line, text_lines, significant, significant_of, line_of, words, ◌>>=◌, or_fault, bare, whole, Known, nothing_known, known_after, at_line, version_of_text, head, data_line, definition_step, definitions, data_part, finish, script_of, no_calls, script_of_lines, most_bytes, most_lines, newlines, within_lines, script_of_utf8, script_of_text, Reads, nat_tests}
 use borrow.Author.Tests.{ltb-false}
 use Rattle.nc_base.specs.declared.errors.ScriptKind.TheVariants as kind
 use Rattle.script_laws.proofs.StepLaws.{first_then, then_with, ok_then, by_test, if_read, read_as, whole_line, at_line_kept}
@@ -15,23 +15,10 @@ abbrev pub IsHead : ℕ → Type 0
 IsHead version = (version == 0) ≡ false → is_version version ≡ true
 
 version_read : (w : List ℕ) (n : ℕ) → version_of_text w ≡ Some n → is_version n ≡ true
-version_read w n h = by_size (size_of_text w) h
-  where
-    by_size : (o : Option ℕ) → elim o as (λ _. Option ℕ) [ None ↦ None | Some m ↦ cond (is_version m) (Some m) None ] ≡ Some n → is_version n ≡ true
-    by_size None e = absurd (cc)
-    by_size (Some m) e = let k = cond_some (is_version m) m n e in subst (λ (x : ℕ). is_version x ≡ true) k.1 k.0
+version_read w n h = grind (arith, nat_tests, cond_some)
 
 head_read : (w : Word) (ws : List Word) → IfOk (head w ws) IsHead
-head_read Broken ws = tt
-head_read (Quoted text) ws = tt
-head_read (Plain w) ws =
-    by_test (bytes_eq w (codes "create")) (version_line ws) _ IsHead (λ _. of_version) (λ _.
-    by_test (bytes_eq w (codes "open")) (whole (0, ws)) (Err kind.NoHead) IsHead (λ _. whole_line 0 ws IsHead (λ e. absurd (cc))) (λ _. tt))
-  where
-    of_version : IfOk (version_line ws) IsHead
-    of_version = then_with (reads_as version_of_text kind.BadNumber ws) _ _ (λ r. is_version r.0 ≡ true)
-        (read_as version_of_text kind.BadNumber ws (λ n. is_version n ≡ true) version_read) (λ v good.
-        first_then (ended v.1) _ _ (λ _ _. λ _. good))
+head_read w ws = grind (arith, nat_tests, by_test, bytes_eq, codes, whole_line, then_with, read_as, version_read, first_then)
 
 -- ---- the definitions
 
@@ -110,15 +97,7 @@ lines_kept past most (l ∷ ls) P h f =
 -- ---- the lines of a text
 
 few_words : (n : ℕ) (ws : List Word) → length (line_of n ws) ≤ 1
-few_words n [] = omega arith
-few_words n (w ∷ ws) = by_comment (is_comment w)
-  where
-    lines_by : Bool → List Line
-    lines_by b = cond b [] (record { number = n; first = w; rest = ws } ∷ [])
-
-    by_comment : (b : Bool) → length (lines_by b) ≤ 1
-    by_comment true = omega arith
-    by_comment false = omega arith
+few_words n ws = grind (arith, nat_tests)
 
 few_significant : (numbered : List (ℕ × List ℕ)) → length (significant_of numbered) ≤ length numbered
 few_significant [] = omega arith
@@ -129,23 +108,7 @@ few_lines text = omega (arith, few_significant (enumerate_from 1 (text_lines tex
 
 -- a text that is read has no more lines than the limit
 lines_within : (n : ℕ) (told : Result Script ScriptErr) (P : Script → Type 0) → (n ≤ most_lines → IfOk told P) → IfOk (within_lines n told) P
-lines_within n told P f = by_limit (nat_lt most_lines n) told (λ e. f (ltb-false _ _ e))
-  where
-    of_fault : (b : Bool) (e : ScriptErr) → IfOk (elim b as (λ _. Result Script ScriptErr) [ true ↦ Err e | false ↦ too_many_lines ]) P
-    of_fault true e = tt
-    of_fault false e = tt
-
-    by_limit : (b : Bool) (r : Result Script ScriptErr) → (b ≡ false → IfOk r P)
-        → IfOk (elim b as (λ _. Result Script ScriptErr) [
-          | false ↦ r
-          | true ↦ elim r as (λ _. Result Script ScriptErr) [
-            | Ok script ↦ too_many_lines
-            | Err e ↦ elim (nat_le e.line most_lines && not (is_mismatch e.kind)) as (λ _. Result Script ScriptErr) [ true ↦ Err e | false ↦ too_many_lines ]
-          ]
-        ]) P
-    by_limit false r g = g refl
-    by_limit true (Ok script) g = tt
-    by_limit true (Err e) g = of_fault (nat_le e.line most_lines && not (is_mismatch e.kind)) e
+lines_within n told P f = grind (arith, nat_tests, nat_lt most_lines n, ltb-false, nat_le, not)
 
 -- What holds of every script that is made of fitting parts holds of one that is read.
 pub read_script : (text : List ℕ) (s : Script) (P : Script → Type 0)

@@ -1,5 +1,5 @@
 -- Steps that succeed, from word to word.
-use Rattle.script_laws.proofs.Words.{◌≡◌, ℕ, List, Bool, true, false, Option, Some, Result, Ok, Err, IfOk, refl, subst, faultless_some, ScriptKind, Word, ◌>>=◌, refuse_if, or_fault, reads_as, next, ended, whole, at_line}
+use Rattle.script_laws.proofs.Words.{◌≡◌, ℕ, List, Bool, true, false, Option, Some, Result, Ok, Err, IfOk, refl, subst, faultless_some, ScriptKind, Word, ◌>>=◌, refuse_if, reads_as, ended, whole, at_line, arith, nat_tests}
 
 pub first_then : {A B E : Type 0} (m : Result A E) (f : A → Result B E) (P : B → Type 0) → ((x : A) → m ≡ Ok x → IfOk (f x) P) → IfOk (m >>= f) P
 first_then (Ok x) f P h = h x refl
@@ -28,8 +28,7 @@ unless_refused true e P f = tt
 unless_refused false e P f = f refl
 
 pub read_as : {A : Type 0} (f : List ℕ → Option A) (e : ScriptKind) (ws : List Word) (P : A → Type 0) → ((w : List ℕ) (x : A) → f w ≡ Some x → P x) → IfOk (reads_as f e ws) (λ r. P r.0)
-read_as f e ws P h =
-    first_then (next ws) _ _ (λ w _. first_then (or_fault e (f w.0)) _ _ (λ x told. h w.0 x (faultless_some e (f w.0) x told)))
+read_as f e ws P h = grind (arith, nat_tests, first_then, faultless_some)
 
 pub whole_line : {A : Type 0} (x : A) (ws : List Word) (P : A → Type 0) → P x → IfOk (whole (x, ws)) P
 whole_line x ws P h = first_then (ended ws) _ _ (λ _ _. h)

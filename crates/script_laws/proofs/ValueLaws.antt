@@ -1,5 +1,5 @@
 -- How many values are read, and how many bytes they have.
-use Rattle.script_laws.proofs.Words.{◌≡◌, ◌∙◌, ℕ, ◌+◌, ◌*◌, ◌≤◌, List, [], ◌∷◌, ◌++◌, length, Bool, not, ◌&&◌, Option, IfOk, refl, arith, nat_lt, is_some, flat_map, bytes_eq, codes, length-append, length-map-range_with_len, NcType, Values, Numbers, Text, Bits, Class, size_of, ext, most_elements, most_values, count_of, Word, Plain, Quoted, Broken, number_of_text, bits_of_text, refuse_if, or_fault, bare, reads_as, size, ended, within_limits, one_value, each_value, sequence_count, numbers_between, patterns_between, term, pattern_term, is_term, is_pattern_term, last_number, last_pattern, wrong_kind, may_be, are_numbers, are_patterns, are_text, seq_values, seqx_values, pattern_values, text_values, number_values, bits_values, number_for, pattern_for, listed_values, listed_kind, values, external_bytes, ext_long}
+use Rattle.script_laws.proofs.Words.{◌≡◌, ◌∙◌, ℕ, ◌+◌, ◌*◌, ◌≤◌, List, [], ◌∷◌, ◌++◌, length, Bool, not, ◌&&◌, Option, IfOk, refl, arith, nat_lt, is_some, flat_map, bytes_eq, codes, length-append, length-map-range_with_len, NcType, Values, Numbers, Text, Bits, Class, size_of, ext, most_elements, most_values, count_of, Word, Plain, Quoted, Broken, number_of_text, bits_of_text, refuse_if, reads_as, size, ended, within_limits, one_value, each_value, sequence_count, numbers_between, patterns_between, term, pattern_term, is_term, is_pattern_term, last_number, last_pattern, wrong_kind, may_be, are_numbers, are_patterns, are_text, seq_values, seqx_values, pattern_values, text_values, number_values, bits_values, number_for, pattern_for, listed_values, listed_kind, values, external_bytes, ext_long, nat_tests}
 use borrow.Author.Tests.{ltb-false}
 use Rattle.nc_base.specs.declared.errors.ScriptKind.TheVariants as kind
 use Rattle.nc_base.specs.declared.errors.LimitName.TheVariants as limit
@@ -11,14 +11,10 @@ use Rattle.script_laws.proofs.StepLaws.{first_then, then_with, ok_then, by_test,
 
 within : (t : Option NcType) (before n : ℕ) → IfOk (within_limits t before n) (λ _. before + n ≤ most_values)
 within t before n =
-    first_then (refuse_if (not (is_some t) && nat_lt most_elements n) (kind.Limit limit.Elements)) _ _ (λ _ _.
-    unless_refused (nat_lt most_values (before + n)) (kind.Limit limit.Values) (before + n ≤ most_values) (λ e. ltb-false _ _ e))
+    grind (arith, nat_tests, not (is_some t), nat_lt most_elements n, nat_lt most_values (before + n), first_then, is_some, unless_refused, ltb-false)
 
 one_within : {A : Type 0} (f : List ℕ → Option A) (t : Option NcType) (before n : ℕ) (w : Word) → IfOk (one_value f t before n w) (λ _. before + (n + 1) ≤ most_values)
-one_within f t before n w =
-    first_then (bare w) _ _ (λ v _.
-    first_then (or_fault kind.BadNumber (f v)) _ _ (λ x _.
-    then_with (within_limits t before (n + 1)) _ _ (λ _. before + (n + 1) ≤ most_values) (within t before (n + 1)) (λ _ h. h)))
+one_within f t before n w = grind (arith, nat_tests, within t before (n + 1), first_then, then_with)
 
 each_within : {A : Type 0} (f : List ℕ → Option A) (t : Option NcType) (before : ℕ) (found : List A) (ws : List Word) → before + length found ≤ most_values
     → IfOk (each_value f t before found ws) (λ xs. before + length xs ≤ most_values)
@@ -67,24 +63,16 @@ seqx_within t before ws =
     then_with (patterns_between t n.0 n.1) _ _ (λ ns. length ns ≡ n.0) (patterns_long t n.0 n.1) (λ ns long. omega (arith, patterns_count ns)))
 
 text_within : (t : Option NcType) (before : ℕ) (text : List ℕ) (ws : List Word) → IfOk (text_values t before text ws) (AreWithin before)
-text_within t before text ws =
-    first_then (refuse_if (not (may_be are_text t)) kind.BadNumber) _ _ (λ _ _.
-    then_with (within_limits t before (length text)) _ _ (λ _. before + length text ≤ most_values) (within t before (length text)) (λ _ few.
-    first_then (ended ws) _ _ (λ _ _. few)))
+text_within t before text ws = grind (arith, nat_tests, not (may_be are_text t), within t before (length text), first_then, then_with)
 
 numbers_within : (t : Option NcType) (before : ℕ) (ws : List Word) → before ≤ most_values → IfOk (number_values t before ws) (AreWithin before)
-numbers_within t before ws h =
-    then_with (each_value (number_for t) t before [] ws) _ _ (λ zs. before + length zs ≤ most_values) (each_within (number_for t) t before [] ws (omega arith)) (λ _ few. few)
+numbers_within t before ws h = grind (arith, nat_tests, each_within (number_for t) t before [] ws (omega arith), then_with)
 
 bits_within : (t : Option NcType) (before : ℕ) (ws : List Word) → before ≤ most_values → IfOk (bits_values t before ws) (AreWithin before)
-bits_within t before ws h =
-    then_with (each_value (pattern_for t) t before [] ws) _ _ (λ ns. before + length ns ≤ most_values) (each_within (pattern_for t) t before [] ws (omega arith)) (λ _ few. few)
+bits_within t before ws h = grind (arith, nat_tests, each_within (pattern_for t) t before [] ws (omega arith), then_with)
 
 listed_within : (c : Class) (t : Option NcType) (before : ℕ) (ws : List Word) → before ≤ most_values → IfOk (listed_values c t before ws) (AreWithin before)
-listed_within class.Text t before ws h = tt
-listed_within class.Pattern t before ws h = bits_within t before ws h
-listed_within class.Signed t before ws h = numbers_within t before ws h
-listed_within class.Unsigned t before ws h = numbers_within t before ws h
+listed_within c t before ws h = grind (arith, nat_tests, bits_within, numbers_within)
 
 pub values_within : (t : Option NcType) (before : ℕ) (ws : List Word) → before ≤ most_values → IfOk (values t before ws) (AreWithin before)
 values_within t before [] h = omega arith

@@ -1,5 +1,5 @@
 -- What single words say.
-use Rattle.script_laws.proofs.Words.{◌≡◌, ℕ, ◌*◌, ◌%◌, ◌^◌, ◌<◌, ◌≤◌, List, [], ◌∷◌, length, Bool, true, false, cond, ◌&&◌, Option, Some, None, IfOk, refl, subst, arith, nat_lt, nat_le, ◌==◌, find, bytes_eq, codes, list_all, w32, w64, byte_len, nat_tests, cond_some, and_first, and_second, NcType, file_limit, record_limit, number_of, last_type, fits_count, is_type, type_word, Word, below, size_of_text, is_name, starts_name, in_name, name, name_of_text, types, number_within, one_of_two, type_of, length_of_text, below_read}
+use Rattle.script_laws.proofs.Words.{◌≡◌, ℕ, ◌*◌, ◌%◌, ◌^◌, ◌<◌, ◌≤◌, List, [], ◌∷◌, length, Bool, true, false, cond, ◌&&◌, Option, Some, None, IfOk, subst, arith, nat_lt, nat_le, ◌==◌, find, bytes_eq, codes, list_all, w32, w64, byte_len, nat_tests, cond_some, and_first, and_second, NcType, file_limit, record_limit, number_of, last_type, fits_count, is_type, type_word, Word, is_name, starts_name, in_name, name, name_of_text, types, number_within, one_of_two, type_of, length_of_text, below_read}
 use borrow.Author.Tests.{ltb-true, leb-true, eqb-true}
 use Rattle.nc_base.specs.declared.errors.ScriptKind.TheVariants as kind
 use Rattle.script_laws.proofs.StepLaws.{read_as}
@@ -24,29 +24,10 @@ pub record InRange (low high unit n : ℕ) : Type 0 where
   pub multiple : n % unit ≡ 0
 
 pub within_read : (low high unit : ℕ) (w : List ℕ) (n : ℕ) → number_within low high unit w ≡ Some n → InRange low high unit n
-within_read low high unit w n h = by_size (size_of_text w) h
-  where
-    kept : (m : ℕ) → (nat_le low m && nat_le m high && m % unit == 0) ≡ true → InRange low high unit m
-    kept m e =
-        let both = and_first (nat_le low m && nat_le m high) (m % unit == 0) e in
-        record {
-          at_least = leb-true low m (and_first (nat_le low m) (nat_le m high) both);
-          at_most = leb-true m high (and_second (nat_le low m) (nat_le m high) both);
-          multiple = eqb-true (m % unit) 0 (and_second (nat_le low m && nat_le m high) (m % unit == 0) e);
-        }
-
-    by_size : (o : Option ℕ)
-        → elim o as (λ _. Option ℕ) [ None ↦ None | Some m ↦ cond (nat_le low m && nat_le m high && m % unit == 0) (Some m) None ] ≡ Some n → InRange low high unit n
-    by_size None e = absurd (cc)
-    by_size (Some m) e = let k = cond_some (nat_le low m && nat_le m high && m % unit == 0) m n e in subst (λ (x : ℕ). InRange low high unit x) k.1 (kept m k.0)
+within_read low high unit w n h = grind (arith, nat_tests, nat_le, and_first, leb-true, and_second, eqb-true, cond_some)
 
 pub one_of_two_read : (zero_word one_word w : List ℕ) (n : ℕ) → one_of_two zero_word one_word w ≡ Some n → n ≤ 1
-one_of_two_read zero_word one_word w n h = by_words (bytes_eq w zero_word) (bytes_eq w one_word) h
-  where
-    by_words : (a b : Bool) → cond a (Some 0) (cond b (Some 1) None) ≡ Some n → n ≤ 1
-    by_words true b e = let same : 0 ≡ n = cc in omega arith
-    by_words false true e = let same : 1 ≡ n = cc in omega arith
-    by_words false false e = absurd (cc)
+one_of_two_read zero_word one_word w n h = grind (arith, nat_tests, bytes_eq w zero_word, bytes_eq w one_word)
 
 -- ---- types
 
@@ -60,21 +41,7 @@ type_read version w t h = by_word (find (λ (k : NcType). bytes_eq w (type_word 
 -- ---- the lengths of dimensions
 
 pub length_read : (version : ℕ) (w : List ℕ) (n : ℕ) → length_of_text version w ≡ Some n → n < record_limit version
-length_read version w n h = by_word (bytes_eq w (codes "unlimited")) (below (record_limit version) (size_of_text w)) (λ m e. below_read (record_limit version) (size_of_text w) m e) h
-  where
-    some_limit : (t : Bool) → 0 < cond t (2 ^ 62) (2 ^ 31)
-    some_limit true = omega arith
-    some_limit false = omega arith
-
-    kept : (m : ℕ) (t : Bool) → m < record_limit version → cond t None (Some m) ≡ Some n → n < record_limit version
-    kept m true h e = absurd (cc)
-    kept m false h e = let same : m ≡ n = cc in subst (λ (x : ℕ). x < record_limit version) same h
-
-    by_word : (b : Bool) (o : Option ℕ) → ((m : ℕ) → o ≡ Some m → m < record_limit version)
-        → cond b (Some 0) (elim o as (λ _. Option ℕ) [ None ↦ None | Some m ↦ cond (m == 0) None (Some m) ]) ≡ Some n → n < record_limit version
-    by_word true o f e = let same : 0 ≡ n = cc in subst (λ (x : ℕ). x < record_limit version) same (some_limit (version == 5))
-    by_word false None f e = absurd (cc)
-    by_word false (Some m) f e = kept m (m == 0) (f m refl) e
+length_read version w n h = grind (arith, nat_tests, codes "unlimited", bytes_eq, below_read)
 
 -- ---- fields that they fit
 

@@ -1,7 +1,7 @@
 -- The first of the slabs that are left ends where the next gap begins.
-use Rattle.redef_mover.proofs.Words.{refl, ◌∙◌, ◌+◌, ◌-◌, ◌≤◌, sym, ap, length, List, get_or, drop, ℕ, arith, after, with_end, Slab, Shift, IsBeside, IsOutside, all_cleared, behind, further, gap_calls, gaps_before, slab_of}
+use Rattle.redef_mover.proofs.Words.{refl, ◌∙◌, ◌+◌, ◌-◌, ◌≤◌, sym, ap, length, List, get_or, drop, ℕ, arith, Slab, Shift, IsBeside, behind, further, gaps_before, slab_of}
 use Rattle.redef_mover.proofs.KeptLaws.{beside_first, beside_rest, kept_more, kept_still}
-use Rattle.redef_mover.proofs.ClearLaws.{first_clearable, left_cleared, left_stored, none_after, none_behind, none_uncleared, none_unstored, slabs_left}
+use Rattle.redef_mover.proofs.ClearLaws.{first_left, left_cleared, left_stored, none_after, none_behind, none_uncleared, none_unstored, slabs_left}
 use Rattle.redef_mover.proofs.gaps.clear_before.Invariants.{left}
 use Rattle.redef_mover.proofs.gaps.clear_before.Goals as goal
 
@@ -14,46 +14,22 @@ slab_at a b ss k = further a b (slab_of (get_or ss k none))
 
 pub overflow_add-place : goal.overflow_add-place
 overflow_add-place g c =
-    let first = first_clearable (g.D.Disk.len c.args.disk.now) c.args.zeros.window (length c.args.zeros.bytes.now) c.loop-slab.at
-    (slab_at c.args.offset.old c.args.offset.new c.args.slabs.now c.loop-slab.slab-index) (left c.args.offset.old c.args.offset.new (drop (c.loop-slab.slab-index + 1) c.args.slabs.now))
-    (left c.args.offset.old c.args.offset.new (drop c.loop-slab.slab-index c.args.slabs.now))
-    (slabs_left c.args.offset.old c.args.offset.new c.args.slabs.now c.loop-slab.slab-index none c.loop-slab-test.true) c.loop-slab.invariant.clearable in
-    let inside = first.inside in
-    omega arith
+    omega (arith, (first_left _ _ _ _ _ _ c.args.slabs.now c.loop-slab.slab-index none c.loop-slab-test.true c.loop-slab.invariant.clearable).inside)
 
 pub overflow_sub-place : goal.overflow_sub-place
-overflow_sub-place g c =
-    (first_clearable (g.D.Disk.len c.args.disk.now) c.args.zeros.window (length c.args.zeros.bytes.now) c.loop-slab.at
-    (slab_at c.args.offset.old c.args.offset.new c.args.slabs.now c.loop-slab.slab-index) (left c.args.offset.old c.args.offset.new (drop (c.loop-slab.slab-index + 1) c.args.slabs.now))
-    (left c.args.offset.old c.args.offset.new (drop c.loop-slab.slab-index c.args.slabs.now))
-    (slabs_left c.args.offset.old c.args.offset.new c.args.slabs.now c.loop-slab.slab-index none c.loop-slab-test.true) c.loop-slab.invariant.clearable).low
+overflow_sub-place g c = (first_left _ _ _ _ _ _ c.args.slabs.now c.loop-slab.slab-index none c.loop-slab-test.true c.loop-slab.invariant.clearable).low
 
 pub clear-requires-clause-inside : goal.clear-requires-clause-inside
 clear-requires-clause-inside g c κs within =
-    let first = first_clearable (g.D.Disk.len c.args.disk.now) c.args.zeros.window (length c.args.zeros.bytes.now) c.loop-slab.at
-    (slab_at c.args.offset.old c.args.offset.new c.args.slabs.now c.loop-slab.slab-index) (left c.args.offset.old c.args.offset.new (drop (c.loop-slab.slab-index + 1) c.args.slabs.now))
-    (left c.args.offset.old c.args.offset.new (drop c.loop-slab.slab-index c.args.slabs.now))
-    (slabs_left c.args.offset.old c.args.offset.new c.args.slabs.now c.loop-slab.slab-index none c.loop-slab-test.true) c.loop-slab.invariant.clearable in
-    let low = first.low in
-    let inside = first.inside in
-    let same = c.loop-slab.invariant.len in
-    omega arith
+    let first = first_left _ _ _ _ _ _ c.args.slabs.now c.loop-slab.slab-index none c.loop-slab-test.true c.loop-slab.invariant.clearable in
+    omega (arith, first.low, first.inside, c.loop-slab.invariant.len)
 
 pub clear-requires-clause-room : goal.clear-requires-clause-room
-clear-requires-clause-room g c κs within =
-    (first_clearable (g.D.Disk.len c.args.disk.now) c.args.zeros.window (length c.args.zeros.bytes.now) c.loop-slab.at
-    (slab_at c.args.offset.old c.args.offset.new c.args.slabs.now c.loop-slab.slab-index) (left c.args.offset.old c.args.offset.new (drop (c.loop-slab.slab-index + 1) c.args.slabs.now))
-    (left c.args.offset.old c.args.offset.new (drop c.loop-slab.slab-index c.args.slabs.now))
-    (slabs_left c.args.offset.old c.args.offset.new c.args.slabs.now c.loop-slab.slab-index none c.loop-slab-test.true) c.loop-slab.invariant.clearable).fits
+clear-requires-clause-room g c κs within = (first_left _ _ _ _ _ _ _ _ _ c.loop-slab-test.true c.loop-slab.invariant.clearable).fits
 
 pub overflow_add-at : goal.overflow_add-at
 overflow_add-at g c =
-    let first = first_clearable (g.D.Disk.len c.args.disk.now) c.args.zeros.window (length c.args.zeros.bytes.now) c.loop-slab.at
-    (slab_at c.args.offset.old c.args.offset.new c.args.slabs.now c.loop-slab.slab-index) (left c.args.offset.old c.args.offset.new (drop (c.loop-slab.slab-index + 1) c.args.slabs.now))
-    (left c.args.offset.old c.args.offset.new (drop c.loop-slab.slab-index c.args.slabs.now))
-    (slabs_left c.args.offset.old c.args.offset.new c.args.slabs.now c.loop-slab.slab-index none c.loop-slab-test.true) c.loop-slab.invariant.clearable in
-    let inside = first.inside in
-    omega arith
+    omega (arith, (first_left _ _ _ _ _ _ c.args.slabs.now c.loop-slab.slab-index none c.loop-slab-test.true c.loop-slab.invariant.clearable).inside)
 
 pub loop-slab-init : goal.loop-slab-init
 loop-slab-init g c = record {
@@ -78,7 +54,7 @@ loop-slab-preserved g c =
     let s : Slab = slab_at a b ss i in
     let others : List Slab = left a b (drop (i + 1) ss) in
     let split = slabs_left a b ss i none c.loop-slab-test.true in
-    let first = first_clearable (g.D.Disk.len c.args.disk.now) c.args.zeros.window (length c.args.zeros.bytes.now) at s others (left a b (drop i ss)) split c.loop-slab.invariant.clearable in
+    let first = first_left _ _ _ _ _ _ ss i none c.loop-slab-test.true c.loop-slab.invariant.clearable in
     let gaps = ap (λ xs. gaps_before at xs) split in
     let later = c.in_ok-clear.ensures.cause.later in
     let before = c.loop-slab.invariant.faults in
@@ -87,50 +63,30 @@ loop-slab-preserved g c =
       len = c.in_ok-clear.ensures.len ∙ c.loop-slab.invariant.len;
       clearable = first.rest;
       place = ap (λ xs. behind at xs) (sym split) ∙ c.loop-slab.invariant.place;
-      bytes = left_cleared (after (λ file. all_cleared file (gaps_before c.args.at (left a b ss))) (g.D.Disk.held c.args.disk.now))
-          (g.D.Disk.held c.loop-slab.disk) (g.D.Disk.held c.clear.new.disk) (at, s.to - at) (gaps_before (s.to + s.len) others) (gaps_before at (left a b (drop i ss)))
-          gaps c.loop-slab.invariant.bytes c.in_ok-clear.ensures.bytes;
-      calls = left_stored (with_end (g.D.Disk.calls c.args.disk.now) (gap_calls c.args.zeros.window (gaps_before c.args.at (left a b ss))))
-          (g.D.Disk.calls c.loop-slab.disk) (g.D.Disk.calls c.clear.new.disk) c.args.zeros.window (at, s.to - at) (gaps_before (s.to + s.len) others) (gaps_before at (left a b (drop i ss)))
-          gaps c.loop-slab.invariant.calls c.in_ok-clear.ensures.calls;
-      others = λ x h. beside_rest (at, s.to - at) (gaps_before (s.to + s.len) others) (gaps_before at (left a b (drop i ss))) x gaps (c.loop-slab.invariant.others x h);
-      kept = kept_more (IsOutside at (s.to - at)) (IsBeside (gaps_before c.args.at (left a b ss))) (g.D.Disk.held c.args.disk.now) (g.D.Disk.held c.loop-slab.disk) (g.D.Disk.held c.clear.new.disk)
-          (λ x h. beside_first (at, s.to - at) (gaps_before (s.to + s.len) others) (gaps_before at (left a b (drop i ss))) x gaps (c.loop-slab.invariant.others x h))
-          c.loop-slab.invariant.kept c.in_ok-clear.ensures.kept;
+      bytes = left_cleared _ _ _ _ _ _ gaps c.loop-slab.invariant.bytes c.in_ok-clear.ensures.bytes;
+      calls = left_stored _ _ _ _ _ _ _ gaps c.loop-slab.invariant.calls c.in_ok-clear.ensures.calls;
+      others = λ x h. beside_rest _ _ _ _ gaps (c.loop-slab.invariant.others x h);
+      kept = kept_more _ _ _ _ _ (λ x h. beside_first _ _ _ _ gaps (c.loop-slab.invariant.others x h)) c.loop-slab.invariant.kept c.in_ok-clear.ensures.kept;
       faults = omega arith;
     }
 
 pub returns-clause-place : goal.returns-clause-place
 returns-clause-place g c =
     let all : length c.args.slabs.now ≤ c.loop-slab.slab-index = omega arith in
-    none_behind c.loop-slab.at (behind c.args.at (left c.args.offset.old c.args.offset.new c.args.slabs.now))
-    (left c.args.offset.old c.args.offset.new (drop c.loop-slab.slab-index c.args.slabs.now))
-    (none_after c.args.offset.old c.args.offset.new c.args.slabs.now c.loop-slab.slab-index all) c.loop-slab.invariant.place
+    none_behind _ _ _ (none_after _ _ _ _ all) c.loop-slab.invariant.place
 
 pub returns-clause-bytes : goal.returns-clause-bytes
 returns-clause-bytes g c =
     let all : length c.args.slabs.now ≤ c.loop-slab.slab-index = omega arith in
-    none_uncleared (after (λ file. all_cleared file (gaps_before c.args.at (left c.args.offset.old c.args.offset.new c.args.slabs.now))) (g.D.Disk.held c.args.disk.now))
-    (g.D.Disk.held c.loop-slab.disk) (gaps_before c.loop-slab.at (left c.args.offset.old c.args.offset.new (drop c.loop-slab.slab-index c.args.slabs.now)))
-    (ap (λ xs. gaps_before c.loop-slab.at xs) (none_after c.args.offset.old c.args.offset.new c.args.slabs.now c.loop-slab.slab-index all)) c.loop-slab.invariant.bytes
+    none_uncleared _ _ _ (ap (λ xs. gaps_before c.loop-slab.at xs) (none_after _ _ _ _ all)) c.loop-slab.invariant.bytes
 
 pub returns-clause-calls : goal.returns-clause-calls
 returns-clause-calls g c =
     let all : length c.args.slabs.now ≤ c.loop-slab.slab-index = omega arith in
-    none_unstored (with_end (g.D.Disk.calls c.args.disk.now) (gap_calls c.args.zeros.window (gaps_before c.args.at (left c.args.offset.old c.args.offset.new c.args.slabs.now))))
-    (g.D.Disk.calls c.loop-slab.disk) c.args.zeros.window (gaps_before c.loop-slab.at (left c.args.offset.old c.args.offset.new (drop c.loop-slab.slab-index c.args.slabs.now)))
-    (ap (λ xs. gaps_before c.loop-slab.at xs) (none_after c.args.offset.old c.args.offset.new c.args.slabs.now c.loop-slab.slab-index all)) c.loop-slab.invariant.calls
+    none_unstored _ _ _ _ (ap (λ xs. gaps_before c.loop-slab.at xs) (none_after _ _ _ _ all)) c.loop-slab.invariant.calls
 
 pub returns-in_err-clear-clause-kept : goal.returns-in_err-clear-clause-kept
 returns-in_err-clear-clause-kept g c =
-    let a = c.args.offset.old in
-    let b = c.args.offset.new in
-    let ss = c.args.slabs.now in
-    let i = c.loop-slab.slab-index in
     let at = c.loop-slab.at in
-    let s : Slab = slab_at a b ss i in
-    let others : List Slab = left a b (drop (i + 1) ss) in
-    let gaps = ap (λ xs. gaps_before at xs) (slabs_left a b ss i none c.loop-slab-test.true) in
-    kept_more (IsOutside at (s.to - at)) (IsBeside (gaps_before c.args.at (left a b ss))) (g.D.Disk.held c.args.disk.now) (g.D.Disk.held c.loop-slab.disk) (g.D.Disk.held c.clear.new.disk)
-    (λ x h. beside_first (at, s.to - at) (gaps_before (s.to + s.len) others) (gaps_before at (left a b (drop i ss))) x gaps (c.loop-slab.invariant.others x h))
-    c.loop-slab.invariant.kept c.in_err-clear.ensures.kept
+    let gaps = ap (λ xs. gaps_before at xs) (slabs_left _ _ _ _ _ c.loop-slab-test.true) in
+    kept_more _ _ _ _ _ (λ x h. beside_first _ _ _ _ gaps (c.loop-slab.invariant.others x h)) c.loop-slab.invariant.kept c.in_err-clear.ensures.kept

@@ -71,19 +71,13 @@ pub returns-clause-bytes : goal.returns-clause-bytes
 returns-clause-bytes g c =
     let end : c.loop-record.record ≡ 0 = omega arith in
     let last = fixed_last c.args.slabs.now c.loop-record.record 0 0 end refl refl ∙ ap (λ (ss : List Shift). reverse (rest ss 0 0)) (sym c.deref-2.ensures.value) in
-    on_ok_weaker c.move_slabs-2.result
-    (last_moved (after (λ file. all_moved file (reverse (listed c.args.slabs.now))) (g.D.Disk.held c.args.disk.now)) (g.D.Disk.held c.loop-record.disk)
-    (g.D.Disk.held c.move_slabs-2.new.disk) (reverse (rest c.deref-2.result.now 0 0)) (below c.args.slabs.now c.loop-record.record) last c.loop-record.invariant.bytes)
-    c.move_slabs-2.ensures.bytes
+    on_ok_weaker c.move_slabs-2.result (last_moved _ _ _ _ _ last c.loop-record.invariant.bytes) c.move_slabs-2.ensures.bytes
 
 pub returns-clause-calls : goal.returns-clause-calls
 returns-clause-calls g c =
     let end : c.loop-record.record ≡ 0 = omega arith in
     let last = fixed_last c.args.slabs.now c.loop-record.record 0 0 end refl refl ∙ ap (λ (ss : List Shift). reverse (rest ss 0 0)) (sym c.deref-2.ensures.value) in
-    on_ok_weaker c.move_slabs-2.result
-    (last_called (with_end (g.D.Disk.calls c.args.disk.now) (all_calls c.args.size (reverse (listed c.args.slabs.now)))) (g.D.Disk.calls c.loop-record.disk)
-    (g.D.Disk.calls c.move_slabs-2.new.disk) c.args.size (reverse (rest c.deref-2.result.now 0 0)) (below c.args.slabs.now c.loop-record.record) last c.loop-record.invariant.calls)
-    c.move_slabs-2.ensures.calls
+    on_ok_weaker c.move_slabs-2.result (last_called _ _ _ _ _ _ last c.loop-record.invariant.calls) c.move_slabs-2.ensures.calls
 
 pub returns-in_err-move_slabs-clause-kept : goal.returns-in_err-move_slabs-clause-kept
 returns-in_err-move_slabs-clause-kept g c =

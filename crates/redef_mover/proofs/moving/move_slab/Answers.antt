@@ -1,5 +1,5 @@
 -- Each window goes on where the one above it ended.
-use Rattle.redef_mover.proofs.Words.{◌≡◌, ◌∙◌, ◌+◌, ◌*◌, ◌<◌, ◌≤◌, ap, ◌++◌, ℕ, arith, with_end, IsOutside, slab_moved, slab_of, window_calls, calls_more, window_inside, windows_reach}
+use Rattle.redef_mover.proofs.Words.{◌≡◌, ◌∙◌, ◌+◌, ◌*◌, ◌<◌, ◌≤◌, ap, ◌++◌, ℕ, arith, with_end, slab_moved, slab_of, window_calls, calls_more, window_inside, windows_reach}
 use Rattle.redef_mover.proofs.KeptLaws.{kept_more, outside_window, upper_kept}
 use Rattle.redef_mover.proofs.ToldSteps.{told_end, told_more}
 use Rattle.redef_mover.proofs.WindowLaws.{all_called, calls_before, upper, whole_moved, window_called, window_moved}
@@ -10,8 +10,7 @@ loop-number-preserved g c =
     let s = slab_of c.args.slab.now in
     let j = c.loop-number.number in
     let z = c.args.size in
-    let inside : j * z < c.args.slab.now.len =
-    window_inside z c.args.slab.now.len j c.div_ceil-number-end.result c.requires.some c.div_ceil-number-end.ensures c.loop-number-test.true in
+    let inside : j * z < c.args.slab.now.len = window_inside _ _ _ _ c.requires.some c.div_ceil-number-end.ensures c.loop-number-test.true in
     let up = c.requires.movable.up in
     let room = c.requires.movable.inside in
     let later = c.in_ok-move_window.ensures.cause.later in
@@ -19,45 +18,26 @@ loop-number-preserved g c =
     record {
       from = c.in_ok-move_window.ensures.from;
       len = c.in_ok-move_window.ensures.len ∙ c.loop-number.invariant.len;
-      bytes = told_more (g.D.Disk.held c.args.disk.now) (g.D.Disk.held c.loop-number.disk) (g.D.Disk.held c.move_window.new.disk)
-          (λ file. slab_moved file (upper z s j)) (λ file. slab_moved file (slab_of c.window.result)) (λ file. slab_moved file (upper z s (j + 1)))
-          c.size-length.ensures.told
-          (λ file e. ap (λ w. slab_moved (slab_moved file (upper z s j)) w) c.window.ensures ∙ window_moved z j s file up inside (omega arith))
-          c.loop-number.invariant.bytes c.in_ok-move_window.ensures.bytes;
-      calls = calls_more (g.D.Disk.calls c.args.disk.now) (g.D.Disk.calls c.loop-number.disk) (g.D.Disk.calls c.move_window.new.disk)
-          (calls_before z s j) (window_calls (slab_of c.window.result)) (calls_before z s (j + 1))
-          (ap (λ w. calls_before z s j ++ window_calls w) c.window.ensures ∙ window_called z j s)
-          c.loop-number.invariant.calls c.in_ok-move_window.ensures.calls;
+      bytes = told_more _ _ _ _ _ _ c.size-length.ensures.told (λ file e. ap (λ w. slab_moved (slab_moved file (upper z s j)) w) c.window.ensures ∙ window_moved _ _ _ _ up inside (omega arith)) c.loop-number.invariant.bytes c.in_ok-move_window.ensures.bytes;
+      calls = calls_more _ _ _ _ _ _ (ap (λ w. calls_before z s j ++ window_calls w) c.window.ensures ∙ window_called _ _ _) c.loop-number.invariant.calls c.in_ok-move_window.ensures.calls;
       faults = omega arith;
     }
 
 pub returns-clause-bytes : goal.returns-clause-bytes
 returns-clause-bytes g c =
-    let reached : c.args.slab.now.len ≤ c.loop-number.number * c.args.size =
-    (let far = windows_reach c.args.size c.args.slab.now.len c.div_ceil-number-end.result c.requires.some c.div_ceil-number-end.ensures in
+    let reached : c.args.slab.now.len ≤ c.loop-number.number * c.args.size = (let far = windows_reach _ _ _ c.requires.some c.div_ceil-number-end.ensures in
     let same : c.loop-number.number ≡ c.div_ceil-number-end.result = omega arith in
     let times : c.loop-number.number * c.args.size ≡ c.div_ceil-number-end.result * c.args.size = ap (λ (n : ℕ). n * c.args.size) same in
     omega arith) in
-    told_end (g.D.Disk.held c.args.disk.now) (g.D.Disk.held c.loop-number.disk) (λ file. slab_moved file (upper c.args.size (slab_of c.args.slab.now) c.loop-number.number))
-    (λ file. slab_moved file (slab_of c.args.slab.now)) c.size-length.ensures.told
-    (λ file e. whole_moved c.args.size c.loop-number.number (slab_of c.args.slab.now) file reached) c.loop-number.invariant.bytes
+    told_end _ _ _ _ c.size-length.ensures.told (λ file e. whole_moved _ _ _ _ reached) c.loop-number.invariant.bytes
 
 pub returns-clause-calls : goal.returns-clause-calls
-returns-clause-calls g c =
-    c.loop-number.invariant.calls
-    ∙ ap (λ calls. with_end (g.D.Disk.calls c.args.disk.now) calls)
-    (all_called c.args.size c.loop-number.number c.div_ceil-number-end.result (slab_of c.args.slab.now) c.requires.some (omega arith) c.div_ceil-number-end.ensures)
+returns-clause-calls g c = c.loop-number.invariant.calls
+    ∙ ap (λ calls. with_end (g.D.Disk.calls c.args.disk.now) calls) (all_called _ _ _ _ c.requires.some (omega arith) c.div_ceil-number-end.ensures)
 
 pub returns-in_err-move_window-clause-kept : goal.returns-in_err-move_window-clause-kept
 returns-in_err-move_window-clause-kept g c =
-    let s = slab_of c.args.slab.now in
-    kept_more (IsOutside c.window.result.to c.window.result.len) (IsOutside c.args.slab.now.to c.args.slab.now.len) (g.D.Disk.held c.args.disk.now) (g.D.Disk.held c.loop-number.disk)
-    (g.D.Disk.held c.move_window.new.disk) (λ x h. outside_window c.args.size c.loop-number.number x s (slab_of c.window.result) c.window.ensures h)
-    (upper_kept (g.D.Disk.held c.args.disk.now) (g.D.Disk.held c.loop-number.disk) c.args.size c.loop-number.number (g.D.Disk.len c.args.disk.now) s c.size-length.ensures.told
-    c.requires.movable.inside c.loop-number.invariant.bytes)
-    c.in_err-move_window.ensures.kept
+    kept_more _ _ _ _ _ (λ x h. outside_window _ _ _ _ _ c.window.ensures h) (upper_kept _ _ _ _ _ _ c.size-length.ensures.told c.requires.movable.inside c.loop-number.invariant.bytes) c.in_err-move_window.ensures.kept
 
 pub returns-clause-kept : goal.returns-clause-kept
-returns-clause-kept g c =
-    upper_kept (g.D.Disk.held c.args.disk.now) (g.D.Disk.held c.loop-number.disk) c.args.size c.loop-number.number (g.D.Disk.len c.args.disk.now) (slab_of c.args.slab.now)
-    c.size-length.ensures.told c.requires.movable.inside c.loop-number.invariant.bytes
+returns-clause-kept g c = upper_kept _ _ _ _ _ _ c.size-length.ensures.told c.requires.movable.inside c.loop-number.invariant.bytes

@@ -23,8 +23,7 @@ loop-k-init g c =
 pub further-requires-clause-old_end : goal.further-requires-clause-old_end
 further-requires-clause-old_end g c =
     let k : c.loop-k.k - 1 < length c.args.slabs.now = omega arith in
-    let fit = c.requires.movable (further c.args.offset.old c.args.offset.new (slab_of (get_or c.args.slabs.now (c.loop-k.k - 1) none)))
-    (in_record c.args.offset.old c.args.offset.new c.args.slabs.now (c.loop-k.k - 1) none k) in
+    let fit = c.requires.movable (further c.args.offset.old c.args.offset.new (slab_of (get_or c.args.slabs.now (c.loop-k.k - 1) none))) (in_record _ _ _ _ _ k) in
     let up = fit.up in
     let inside = fit.inside in
     omega arith
@@ -32,16 +31,14 @@ further-requires-clause-old_end g c =
 pub further-requires-clause-end : goal.further-requires-clause-end
 further-requires-clause-end g c =
     let k : c.loop-k.k - 1 < length c.args.slabs.now = omega arith in
-    let fit = c.requires.movable (further c.args.offset.old c.args.offset.new (slab_of (get_or c.args.slabs.now (c.loop-k.k - 1) none)))
-    (in_record c.args.offset.old c.args.offset.new c.args.slabs.now (c.loop-k.k - 1) none k) in
+    let fit = c.requires.movable (further c.args.offset.old c.args.offset.new (slab_of (get_or c.args.slabs.now (c.loop-k.k - 1) none))) (in_record _ _ _ _ _ k) in
     let inside = fit.inside in
     omega arith
 
 pub move_changed-requires-clause-movable : goal.move_changed-requires-clause-movable
 move_changed-requires-clause-movable g c κs within =
     let k : c.loop-k.k - 1 < length c.args.slabs.now = omega arith in
-    let fit = c.requires.movable (further c.args.offset.old c.args.offset.new (slab_of (get_or c.args.slabs.now (c.loop-k.k - 1) none)))
-    (in_record c.args.offset.old c.args.offset.new c.args.slabs.now (c.loop-k.k - 1) none k) in
+    let fit = c.requires.movable (further c.args.offset.old c.args.offset.new (slab_of (get_or c.args.slabs.now (c.loop-k.k - 1) none))) (in_record _ _ _ _ _ k) in
     let here = subst (λ (s : Slab). IsMovable (g.D.Disk.len c.args.disk.now) c.args.size (length c.args.buf.now) s) (sym c.further.ensures) fit in
     let up = here.up in
     let inside = here.inside in
@@ -73,33 +70,22 @@ loop-k-preserved g c =
           (reverse (map (further c.args.offset.old c.args.offset.new) (map slab_of (take (c.loop-k.k - 1) c.args.slabs.now))))
           (reverse (map (further c.args.offset.old c.args.offset.new) (map slab_of (take c.loop-k.k c.args.slabs.now))))
           first c.loop-k.invariant.calls c.in_ok-move_changed.ensures.calls;
-      kept = kept_more (IsUnmoved (slab_of c.further.result ∷ [])) (IsUnmoved (map (further c.args.offset.old c.args.offset.new) (map slab_of c.args.slabs.now))) (g.D.Disk.held c.args.disk.now)
-          (g.D.Disk.held c.loop-k.disk) (g.D.Disk.held c.move_changed.new.disk)
-          (λ x h. unmoved_one (slab_of c.further.result) (map (further c.args.offset.old c.args.offset.new) (map slab_of c.args.slabs.now)) x there h)
-          c.loop-k.invariant.kept c.in_ok-move_changed.ensures.kept;
+      kept = kept_more _ _ _ _ _ (λ x h. unmoved_one _ _ _ there h) c.loop-k.invariant.kept c.in_ok-move_changed.ensures.kept;
       faults = omega arith;
     }
 
 pub returns-clause-bytes : goal.returns-clause-bytes
 returns-clause-bytes g c =
     let end : c.loop-k.k ≡ 0 = omega arith in
-    none_left (after (λ file. all_moved file (reverse (map (further c.args.offset.old c.args.offset.new) (map slab_of c.args.slabs.now)))) (g.D.Disk.held c.args.disk.now))
-    (g.D.Disk.held c.loop-k.disk) (reverse (map (further c.args.offset.old c.args.offset.new) (map slab_of (take c.loop-k.k c.args.slabs.now))))
-    (ap (λ (n : ℕ). reverse (map (further c.args.offset.old c.args.offset.new) (map slab_of (take n c.args.slabs.now)))) end) c.loop-k.invariant.bytes
+    none_left _ _ _ (ap (λ (n : ℕ). reverse (map (further c.args.offset.old c.args.offset.new) (map slab_of (take n c.args.slabs.now)))) end) c.loop-k.invariant.bytes
 
 pub returns-clause-calls : goal.returns-clause-calls
 returns-clause-calls g c =
     let end : c.loop-k.k ≡ 0 = omega arith in
-    none_uncalled (with_end (g.D.Disk.calls c.args.disk.now) (all_calls c.args.size (reverse (map (further c.args.offset.old c.args.offset.new) (map slab_of c.args.slabs.now)))))
-    (g.D.Disk.calls c.loop-k.disk) c.args.size (reverse (map (further c.args.offset.old c.args.offset.new) (map slab_of (take c.loop-k.k c.args.slabs.now))))
-    (ap (λ (n : ℕ). reverse (map (further c.args.offset.old c.args.offset.new) (map slab_of (take n c.args.slabs.now)))) end) c.loop-k.invariant.calls
+    none_uncalled _ _ _ _ (ap (λ (n : ℕ). reverse (map (further c.args.offset.old c.args.offset.new) (map slab_of (take n c.args.slabs.now)))) end) c.loop-k.invariant.calls
 
 pub returns-in_err-move_changed-clause-kept : goal.returns-in_err-move_changed-clause-kept
 returns-in_err-move_changed-clause-kept g c =
     let k : c.loop-k.k - 1 < length c.args.slabs.now = omega arith in
-    let there = subst (λ (s : Slab). In (map (further c.args.offset.old c.args.offset.new) (map slab_of c.args.slabs.now)) s) (sym c.further.ensures)
-    (in_record c.args.offset.old c.args.offset.new c.args.slabs.now (c.loop-k.k - 1) none k) in
-    kept_more (IsUnmoved (slab_of c.further.result ∷ [])) (IsUnmoved (map (further c.args.offset.old c.args.offset.new) (map slab_of c.args.slabs.now))) (g.D.Disk.held c.args.disk.now)
-    (g.D.Disk.held c.loop-k.disk) (g.D.Disk.held c.move_changed.new.disk)
-    (λ x h. unmoved_one (slab_of c.further.result) (map (further c.args.offset.old c.args.offset.new) (map slab_of c.args.slabs.now)) x there h)
-    c.loop-k.invariant.kept c.in_err-move_changed.ensures.kept
+    let there = subst (λ (s : Slab). In (map (further c.args.offset.old c.args.offset.new) (map slab_of c.args.slabs.now)) s) (sym c.further.ensures) (in_record _ _ _ _ _ k) in
+    kept_more _ _ _ _ _ (λ x h. unmoved_one _ _ _ there h) c.loop-k.invariant.kept c.in_err-move_changed.ensures.kept
