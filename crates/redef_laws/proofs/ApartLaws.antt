@@ -170,9 +170,7 @@ past_header header n k x v p = by_kind (is_record header v) refl
     by_kind false e = (fixed_at header n k v x.begin p.there e p.found).low
     by_kind true e =
         let low = record_low header n k v x.begin p.there e p.found in
-        let up = first_up header n in
-        let grows = front_grows header (header_len header) (fixed_order header n) in
-        omega arith
+        omega (arith, first_up header n, front_grows header (header_len header) (fixed_order header n))
 
 pub redefined_apart : (old : Header) (extras : List Extra) → is_sound old ≡ true → IsFit (added old extras)
     → sharing (redefined_header old extras) (header_len (redefined_header old extras)) ≡ None

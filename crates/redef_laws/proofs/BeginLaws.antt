@@ -4,7 +4,8 @@
 --     Numbers vars list      each variable of the list stands with its number
 --     fixed_begin, map_begin, record_begin      what is found for a variable of the list
 --     fixed_apart, record_apart                 two variables of the list stand apart
-use Rattle.redef_laws.proofs.Words.{◌≡◌, ℕ, zero, suc, ◌+◌, ◌≤◌, List, [], ◌∷◌, map, Bool, true, false, cond, Option, Some, None, refl, sym, ap, ◌∙◌, inl, inr, ◌⊎◌, arith, ◌==◌, filter, find, sum_by, slice_get, enumerate_from, AllByRecursion, sum_by-cons, leb-true, eqb-true, ne_eqb, equal_true, Header, Var, slab, vsize, AreApart, inserted_by, Numbered, begins_before, by_begin, begin_at, fixed_begins, front_after, record_begins, In, nat_tests}
+use Rattle.redef_laws.proofs.Words.{◌≡◌, ℕ, zero, suc, ◌+◌, ◌≤◌, List, [], ◌∷◌, map, Bool, true, false, cond, Option, Some, None, refl, sym, ap, subst, ◌∙◌, inl, inr, arith, ◌==◌, filter, find, sum_by, slice_get, enumerate_from, AllByRecursion, sum_by-cons, leb-true, eqb-true, ne_eqb, equal_true, Header, Var, slab, vsize, AreApart, inserted_by, Numbered, begins_before, by_begin, begin_at, fixed_begins, front_after, record_begins, In, nat_tests}
+use Rattle.redef_laws.proofs.Ordered.{by_begin_same}
 
 -- ---- members and numbers
 
@@ -29,14 +30,8 @@ pub each_by_begin : (P : Numbered → Type 0) (vs : List Numbered) → AllByRecu
 each_by_begin P [] h = tt
 each_by_begin P (v ∷ vs) h = each_inserted P v (by_begin vs) h.0 (each_by_begin P vs h.1)
 
-in_inserted : (v : Numbered) (vs : List Numbered) (x : Numbered) → (v ≡ x) ⊎ In vs x → In (inserted_by begins_before v vs) x
-in_inserted v [] x h = h
-in_inserted v (w ∷ vs) x h = grind (arith, nat_tests, in_inserted v vs x)
-
 pub in_by_begin : (vs : List Numbered) (x : Numbered) → In vs x → In (by_begin vs) x
-in_by_begin [] x h = h
-in_by_begin (v ∷ vs) x (inl e) = in_inserted v (by_begin vs) x (inl e)
-in_by_begin (v ∷ vs) x (inr h) = in_inserted v (by_begin vs) x (inr (in_by_begin vs x h))
+in_by_begin vs x h = (by_begin_same vs).1 x h
 
 abbrev pub Numbers : List Var → List Numbered → Type 0
 Numbers vars list = AllByRecursion (λ p. slice_get vars p.0 ≡ Some p.1) list
@@ -66,7 +61,7 @@ same_begin x y e = let same : x ≡ y = cc in ap (λ (p : ℕ × ℕ). p.1) same
 not_head : (p : Numbered) (k : ℕ) (v : Var) → (p.0 == k) ≡ false → p ≡ (k, v) → ⊥
 not_head p k v e h = let yes = equal_true p.0 k (ap (λ (q : Numbered). q.0) h) in absurd cc
 
-in_tail : (p : Numbered) (list : List Numbered) (k : ℕ) (v : Var) → (p.0 == k) ≡ false → In (p ∷ list) (k, v) → In list (k, v)
+pub in_tail : (p : Numbered) (list : List Numbered) (k : ℕ) (v : Var) → (p.0 == k) ≡ false → In (p ∷ list) (k, v) → In list (k, v)
 in_tail p list k v e (inl h) = absurd (not_head p k v e h)
 in_tail p list k v e (inr h) = h
 
@@ -81,86 +76,103 @@ found_on m k b rest e = ap (λ (t : Bool). cond t (Some (m, b)) (at_number rest 
 pub begin_past : (front : ℕ) (v : Var) → front ≤ begin_at front v
 begin_past front v = grind (arith, nat_tests, leb-true)
 
+begin_up : (front : ℕ) (v : Var) → v.begin ≤ begin_at front v
+begin_up front v = grind (arith, nat_tests)
+
 pub front_grows : (header : Header) (front : ℕ) (list : List Numbered) → front ≤ front_after header front list
 front_grows header front [] = omega arith
 front_grows header front (p ∷ list) = let one = begin_past front p.1 in let rest = front_grows header (begin_at front p.1 + slab header p.1) list in omega arith
-
-pub record IsFixedBegin (header : Header) (front : ℕ) (list : List Numbered) (k : ℕ) (v : Var) (b : ℕ) : Type 0 where
-  pub at : at_number (fixed_begins header front list) k ≡ Some (k, b)
-  pub low : front ≤ b
-  pub high : b + slab header v ≤ front_after header front list
-
-pub fixed_begin : (header : Header) (vars : List Var) (front : ℕ) (list : List Numbered) (k : ℕ) (v : Var) → Numbers vars list → slice_get vars k ≡ Some v → In list (k, v)
-    → (b : ℕ) × IsFixedBegin header front list k v b
-fixed_begin header vars front [] k v all g h = absurd h
-fixed_begin header vars front (p ∷ list) k v all g h =
-    by_test (λ i. fixed_begin header vars (begin_at front p.1 + slab header p.1) list k v all.1 g i) (p.0 == k) refl
-  where
-    by_test : (In list (k, v) → (b : ℕ) × IsFixedBegin header (begin_at front p.1 + slab header p.1) list k v b)
-        → (t : Bool) → (p.0 == k) ≡ t → (b : ℕ) × IsFixedBegin header front (p ∷ list) k v b
-    by_test rest true e =
-        let same : p.1 ≡ v = same_var vars k p.0 v p.1 g all.0 (eqb-true p.0 k e) in
-        let own = ap (λ (w : Var). slab header w) same in
-        let grows = front_grows header (begin_at front p.1 + slab header p.1) list in (
-          begin_at front p.1,
-          record {
-            at = found_if p.0 k (begin_at front p.1) (fixed_begins header (begin_at front p.1 + slab header p.1) list) e;
-            low = begin_past front p.1;
-            high = omega arith;
-          },
-        )
-    by_test rest false e =
-        let later = rest (in_tail p list k v e h) in
-        let one = begin_past front p.1 in
-        let low = later.1.low in (
-          later.0,
-          record {
-            at = found_on p.0 k (begin_at front p.1) (fixed_begins header (begin_at front p.1 + slab header p.1) list) e ∙ later.1.at;
-            low = omega arith;
-            high = later.1.high;
-          },
-        )
 
 -- what is found is what was found
 pub found_is : (found : List (ℕ × ℕ)) (k b c : ℕ) → at_number found k ≡ Some (k, b) → at_number found k ≡ Some (k, c) → b ≡ c
 found_is found k b c e f = same_begin (k, b) (k, c) (sym e ∙ f)
 
-head_begin : (p : Numbered) (at k b : ℕ) (rest : List (ℕ × ℕ)) → (p.0 == k) ≡ true → at_number ((p.0, at) ∷ rest) k ≡ Some (k, b) → b ≡ at
+pub head_begin : (p : Numbered) (at k b : ℕ) (rest : List (ℕ × ℕ)) → (p.0 == k) ≡ true → at_number ((p.0, at) ∷ rest) k ≡ Some (k, b) → b ≡ at
 head_begin p at k b rest e h = found_is ((p.0, at) ∷ rest) k b at h (found_if p.0 k at rest e)
 
-tail_begin : (p : Numbered) (at k b : ℕ) (rest : List (ℕ × ℕ)) → (p.0 == k) ≡ false → at_number ((p.0, at) ∷ rest) k ≡ Some (k, b) → at_number rest k ≡ Some (k, b)
+pub tail_begin : (p : Numbered) (at k b : ℕ) (rest : List (ℕ × ℕ)) → (p.0 == k) ≡ false → at_number ((p.0, at) ∷ rest) k ≡ Some (k, b) → at_number rest k ≡ Some (k, b)
 tail_begin p at k b rest e h = sym (found_on p.0 k at rest e) ∙ h
+
+-- ---- begins that are placed one after another, each past the size of the one before
+
+pub record IsBegin (begins : ℕ → List Numbered → List (ℕ × ℕ)) (size floor : Var → ℕ) (end : ℕ → List Numbered → ℕ) (from : ℕ) (list : List Numbered) (k : ℕ) (v : Var) (b : ℕ) : Type 0 where
+  pub at : at_number (begins from list) k ≡ Some (k, b)
+  pub low : from ≤ b
+  pub high : b + size v ≤ end from list
+  pub up : floor v ≤ b
+
+module _ (begins : ℕ → List Numbered → List (ℕ × ℕ)) (place : ℕ → Var → ℕ) (size floor : Var → ℕ) (end : ℕ → List Numbered → ℕ)
+    (next : (x : ℕ) (p : Numbered) (list : List Numbered) → begins x (p ∷ list) ≡ (p.0, place x p.1) ∷ begins (place x p.1 + size p.1) list)
+    (ends : (x : ℕ) (p : Numbered) (list : List Numbered) → end x (p ∷ list) ≡ end (place x p.1 + size p.1) list)
+    (past : (x : ℕ) (v : Var) → x ≤ place x v) (rises : (x : ℕ) (v : Var) → floor v ≤ place x v) (grows : (x : ℕ) (list : List Numbered) → x ≤ end x list) (vars : List Var) where
+  found_at : (x : ℕ) (p : Numbered) (list : List Numbered) (k : ℕ) → at_number (begins x (p ∷ list)) k ≡ at_number ((p.0, place x p.1) ∷ begins (place x p.1 + size p.1) list) k
+  found_at x p list k = ap (λ (found : List (ℕ × ℕ)). at_number found k) (next x p list)
+
+  placed : (x : ℕ) (list : List Numbered) (k : ℕ) (v : Var) → Numbers vars list → slice_get vars k ≡ Some v → In list (k, v) → (b : ℕ) × IsBegin begins size floor end x list k v b
+  placed x [] k v all g h = absurd h
+  placed x (p ∷ list) k v all g h = by_test (λ i. placed (place x p.1 + size p.1) list k v all.1 g i) (p.0 == k) refl
+    where
+      by_test : (In list (k, v) → (b : ℕ) × IsBegin begins size floor end (place x p.1 + size p.1) list k v b)
+          → (t : Bool) → (p.0 == k) ≡ t → (b : ℕ) × IsBegin begins size floor end x (p ∷ list) k v b
+      by_test rest true e =
+          let same : p.1 ≡ v = same_var vars k p.0 v p.1 g all.0 (eqb-true p.0 k e) in
+          let own = ap size same in (
+            place x p.1,
+            record {
+              at = found_at x p list k ∙ found_if p.0 k (place x p.1) (begins (place x p.1 + size p.1) list) e;
+              low = past x p.1;
+              high = omega (arith, own, ends x p list, grows (place x p.1 + size p.1) list);
+              up = subst (λ (w : Var). floor w ≤ place x p.1) same (rises x p.1);
+            },
+          )
+      by_test rest false e =
+          let later = rest (in_tail p list k v e h) in (
+            later.0,
+            record {
+              at = found_at x p list k ∙ found_on p.0 k (place x p.1) (begins (place x p.1 + size p.1) list) e ∙ later.1.at;
+              low = omega (arith, past x p.1, later.1.low);
+              high = omega (arith, later.1.high, ends x p list);
+              up = later.1.up;
+            },
+          )
+
+  two_placed : (x : ℕ) (list : List Numbered) (k m : ℕ) (v w : Var) (b c : ℕ) → Numbers vars list
+      → slice_get vars k ≡ Some v → slice_get vars m ≡ Some w → In list (k, v) → In list (m, w) → (k ≡ m → ⊥)
+      → at_number (begins x list) k ≡ Some (k, b) → at_number (begins x list) m ≡ Some (m, c) → AreApart b (size v) c (size w)
+  two_placed x [] k m v w b c all g f h i other e d = absurd h
+  two_placed x (p ∷ list) k m v w b c all g f h i other e d =
+      by_tests (λ h' i' e' d'. two_placed (place x p.1 + size p.1) list k m v w b c all.1 g f h' i' other e' d') (sym (found_at x p list k) ∙ e) (sym (found_at x p list m) ∙ d)
+      (p.0 == k) (p.0 == m) refl refl
+    where
+      lower : (n : ℕ) (u y : Var) (a z : ℕ) → slice_get vars n ≡ Some y → In list (n, y) → at_number (begins (place x p.1 + size p.1) list) n ≡ Some (n, z)
+          → p.1 ≡ u → a ≡ place x p.1 → a + size u ≤ z
+      lower n u y a z there in_list at same begin =
+          let later = placed (place x p.1 + size p.1) list n y all.1 there in_list in
+          let is = found_is (begins (place x p.1 + size p.1) list) n z later.0 at later.1.at in
+          omega (arith, begin, is, later.1.low, ap size same)
+
+      by_tests : (In list (k, v) → In list (m, w) → at_number (begins (place x p.1 + size p.1) list) k ≡ Some (k, b)
+          → at_number (begins (place x p.1 + size p.1) list) m ≡ Some (m, c) → AreApart b (size v) c (size w))
+          → at_number ((p.0, place x p.1) ∷ begins (place x p.1 + size p.1) list) k ≡ Some (k, b)
+          → at_number ((p.0, place x p.1) ∷ begins (place x p.1 + size p.1) list) m ≡ Some (m, c)
+          → (s t : Bool) → (p.0 == k) ≡ s → (p.0 == m) ≡ t → AreApart b (size v) c (size w)
+      by_tests rest e d true true y z = absurd (other (sym (eqb-true p.0 k y) ∙ eqb-true p.0 m z))
+      by_tests rest e d true false y z =
+          inl (lower m v w b c f (in_tail p list m w z i) (tail_begin p (place x p.1) m c _ z d) (same_var vars k p.0 v p.1 g all.0 (eqb-true p.0 k y)) (head_begin p (place x p.1) k b _ y e))
+      by_tests rest e d false true y z =
+          inr (lower k w v c b g (in_tail p list k v y h) (tail_begin p (place x p.1) k b _ y e) (same_var vars m p.0 w p.1 f all.0 (eqb-true p.0 m z)) (head_begin p (place x p.1) m c _ z d))
+      by_tests rest e d false false y z =
+          rest (in_tail p list k v y h) (in_tail p list m w z i) (tail_begin p (place x p.1) k b _ y e) (tail_begin p (place x p.1) m c _ z d)
+
+pub fixed_begin : (header : Header) (vars : List Var) (front : ℕ) (list : List Numbered) (k : ℕ) (v : Var) → Numbers vars list → slice_get vars k ≡ Some v → In list (k, v)
+    → (b : ℕ) × IsBegin (fixed_begins header) (slab header) (λ w. w.begin) (front_after header) front list k v b
+fixed_begin header = placed (fixed_begins header) begin_at (slab header) (λ w. w.begin) (front_after header) (λ x p list. refl) (λ x p list. refl) begin_past begin_up (front_grows header)
 
 pub fixed_apart : (header : Header) (vars : List Var) (front : ℕ) (list : List Numbered) (k m : ℕ) (v w : Var) (b c : ℕ) → Numbers vars list
     → slice_get vars k ≡ Some v → slice_get vars m ≡ Some w → In list (k, v) → In list (m, w) → (k ≡ m → ⊥)
     → at_number (fixed_begins header front list) k ≡ Some (k, b) → at_number (fixed_begins header front list) m ≡ Some (m, c)
     → AreApart b (slab header v) c (slab header w)
-fixed_apart header vars front [] k m v w b c all g f h i other e d = absurd h
-fixed_apart header vars front (p ∷ list) k m v w b c all g f h i other e d =
-    by_tests (λ h' i' e' d'. fixed_apart header vars (begin_at front p.1 + slab header p.1) list k m v w b c all.1 g f h' i' other e' d') (p.0 == k) (p.0 == m) refl refl
-  where
-    lower : (n : ℕ) (x y : Var) (a z : ℕ) → slice_get vars n ≡ Some y → In list (n, y) → at_number (fixed_begins header (begin_at front p.1 + slab header p.1) list) n ≡ Some (n, z)
-        → p.1 ≡ x → a ≡ begin_at front p.1 → a + slab header x ≤ z
-    lower n x y a z there in_list at same begin =
-        let later = fixed_begin header vars (begin_at front p.1 + slab header p.1) list n y all.1 there in_list in
-        let is = found_is (fixed_begins header (begin_at front p.1 + slab header p.1) list) n z later.0 at later.1.at in
-        let low = later.1.low in
-        let own = ap (λ (u : Var). slab header u) same in
-        omega arith
-
-    by_tests : (In list (k, v) → In list (m, w) → at_number (fixed_begins header (begin_at front p.1 + slab header p.1) list) k ≡ Some (k, b)
-        → at_number (fixed_begins header (begin_at front p.1 + slab header p.1) list) m ≡ Some (m, c) → AreApart b (slab header v) c (slab header w))
-        → (s t : Bool) → (p.0 == k) ≡ s → (p.0 == m) ≡ t → AreApart b (slab header v) c (slab header w)
-    by_tests rest true true x y = absurd (other (sym (eqb-true p.0 k x) ∙ eqb-true p.0 m y))
-    by_tests rest true false x y =
-        inl (lower m v w b c f (in_tail p list m w y i) (tail_begin p (begin_at front p.1) m c (fixed_begins header (begin_at front p.1 + slab header p.1) list) y d)
-        (same_var vars k p.0 v p.1 g all.0 (eqb-true p.0 k x)) (head_begin p (begin_at front p.1) k b (fixed_begins header (begin_at front p.1 + slab header p.1) list) x e))
-    by_tests rest false true x y =
-        inr (lower k w v c b g (in_tail p list k v x h) (tail_begin p (begin_at front p.1) k b (fixed_begins header (begin_at front p.1 + slab header p.1) list) x e)
-        (same_var vars m p.0 w p.1 f all.0 (eqb-true p.0 m y)) (head_begin p (begin_at front p.1) m c (fixed_begins header (begin_at front p.1 + slab header p.1) list) y d))
-    by_tests rest false false x y =
-        rest (in_tail p list k v x h) (in_tail p list m w y i) (tail_begin p (begin_at front p.1) k b (fixed_begins header (begin_at front p.1 + slab header p.1) list) x e)
-        (tail_begin p (begin_at front p.1) m c (fixed_begins header (begin_at front p.1 + slab header p.1) list) y d)
+fixed_apart header = two_placed (fixed_begins header) begin_at (slab header) (λ w. w.begin) (front_after header) (λ x p list. refl) (λ x p list. refl) begin_past begin_up (front_grows header)
 
 -- a number that no variable of the list has
 abbrev pub HasNone : ℕ → List Numbered → Type 0
@@ -189,62 +201,20 @@ map_none f (p ∷ list) k none = found_on p.0 k (f p.1) (mapped_begins f list) (
 abbrev pub vsizes : Header → List Numbered → ℕ
 vsizes header list = sum_by (λ p. vsize header p.1) list
 
-pub record IsRecordBegin (header : Header) (from : ℕ) (list : List Numbered) (k : ℕ) (v : Var) (b : ℕ) : Type 0 where
-  pub at : at_number (record_begins header from list) k ≡ Some (k, b)
-  pub low : from ≤ b
-  pub high : b + vsize header v ≤ from + vsizes header list
+abbrev pub record_end : Header → ℕ → List Numbered → ℕ
+record_end header from list = from + vsizes header list
+
+record_ends : (header : Header) (x : ℕ) (p : Numbered) (list : List Numbered) → record_end header x (p ∷ list) ≡ record_end header (x + vsize header p.1) list
+record_ends header x p list = let s = sum_by-cons (λ (q : Numbered). vsize header q.1) p list in omega arith
 
 pub record_begin : (header : Header) (vars : List Var) (from : ℕ) (list : List Numbered) (k : ℕ) (v : Var) → Numbers vars list → slice_get vars k ≡ Some v → In list (k, v)
-    → (b : ℕ) × IsRecordBegin header from list k v b
-record_begin header vars from [] k v all g h = absurd h
-record_begin header vars from (p ∷ list) k v all g h =
-    by_test (λ i. record_begin header vars (from + vsize header p.1) list k v all.1 g i) (p.0 == k) refl (sum_by-cons (λ (q : Numbered). vsize header q.1) p list)
-  where
-    by_test : (In list (k, v) → (b : ℕ) × IsRecordBegin header (from + vsize header p.1) list k v b)
-        → (t : Bool) → (p.0 == k) ≡ t → vsizes header (p ∷ list) ≡ vsize header p.1 + vsizes header list → (b : ℕ) × IsRecordBegin header from (p ∷ list) k v b
-    by_test rest true e s =
-        let same : p.1 ≡ v = same_var vars k p.0 v p.1 g all.0 (eqb-true p.0 k e) in
-        let own = ap (λ (w : Var). vsize header w) same in
-        (from, record { at = found_if p.0 k from (record_begins header (from + vsize header p.1) list) e; low = omega arith; high = omega arith })
-    by_test rest false e s =
-        let later = rest (in_tail p list k v e h) in
-        let low = later.1.low in
-        let high = later.1.high in (
-          later.0,
-          record {
-            at = found_on p.0 k from (record_begins header (from + vsize header p.1) list) e ∙ later.1.at;
-            low = omega arith;
-            high = omega arith;
-          },
-        )
+    → (b : ℕ) × IsBegin (record_begins header) (vsize header) (λ w. 0) (record_end header) from list k v b
+record_begin header =
+    placed (record_begins header) (λ x v. x) (vsize header) (λ w. 0) (record_end header) (λ x p list. refl) (record_ends header) (λ x v. omega arith) (λ x v. omega arith) (λ x list. omega arith)
 
 pub record_apart : (header : Header) (vars : List Var) (from : ℕ) (list : List Numbered) (k m : ℕ) (v w : Var) (b c : ℕ) → Numbers vars list
     → slice_get vars k ≡ Some v → slice_get vars m ≡ Some w → In list (k, v) → In list (m, w) → (k ≡ m → ⊥)
     → at_number (record_begins header from list) k ≡ Some (k, b) → at_number (record_begins header from list) m ≡ Some (m, c)
     → AreApart b (vsize header v) c (vsize header w)
-record_apart header vars from [] k m v w b c all g f h i other e d = absurd h
-record_apart header vars from (p ∷ list) k m v w b c all g f h i other e d =
-    by_tests (λ h' i' e' d'. record_apart header vars (from + vsize header p.1) list k m v w b c all.1 g f h' i' other e' d') (p.0 == k) (p.0 == m) refl refl
-  where
-    lower : (n : ℕ) (x y : Var) (a z : ℕ) → slice_get vars n ≡ Some y → In list (n, y) → at_number (record_begins header (from + vsize header p.1) list) n ≡ Some (n, z)
-        → p.1 ≡ x → a ≡ from → a + vsize header x ≤ z
-    lower n x y a z there in_list at same begin =
-        let later = record_begin header vars (from + vsize header p.1) list n y all.1 there in_list in
-        let is = found_is (record_begins header (from + vsize header p.1) list) n z later.0 at later.1.at in
-        let low = later.1.low in
-        let own = ap (λ (u : Var). vsize header u) same in
-        omega arith
-
-    by_tests : (In list (k, v) → In list (m, w) → at_number (record_begins header (from + vsize header p.1) list) k ≡ Some (k, b)
-        → at_number (record_begins header (from + vsize header p.1) list) m ≡ Some (m, c) → AreApart b (vsize header v) c (vsize header w))
-        → (s t : Bool) → (p.0 == k) ≡ s → (p.0 == m) ≡ t → AreApart b (vsize header v) c (vsize header w)
-    by_tests rest true true x y = absurd (other (sym (eqb-true p.0 k x) ∙ eqb-true p.0 m y))
-    by_tests rest true false x y =
-        inl (lower m v w b c f (in_tail p list m w y i) (tail_begin p from m c (record_begins header (from + vsize header p.1) list) y d)
-        (same_var vars k p.0 v p.1 g all.0 (eqb-true p.0 k x)) (head_begin p from k b (record_begins header (from + vsize header p.1) list) x e))
-    by_tests rest false true x y =
-        inr (lower k w v c b g (in_tail p list k v x h) (tail_begin p from k b (record_begins header (from + vsize header p.1) list) x e)
-        (same_var vars m p.0 w p.1 f all.0 (eqb-true p.0 m y)) (head_begin p from m c (record_begins header (from + vsize header p.1) list) y d))
-    by_tests rest false false x y =
-        rest (in_tail p list k v x h) (in_tail p list m w y i) (tail_begin p from k b (record_begins header (from + vsize header p.1) list) x e)
-        (tail_begin p from m c (record_begins header (from + vsize header p.1) list) y d)
+record_apart header =
+    two_placed (record_begins header) (λ x v. x) (vsize header) (λ w. 0) (record_end header) (λ x p list. refl) (record_ends header) (λ x v. omega arith) (λ x v. omega arith) (λ x list. omega arith)

@@ -124,9 +124,8 @@ known_some known (suc n) i h = grind (arith, nat_tests)
 
 known_inner : (known : ℕ) (lens index : List ℕ) → IsIndex lens index → IsIndex (map (known_of known) lens) index
 known_inner known [] [] h = tt
-known_inner known [] (i ∷ index) h = absurd h
-known_inner known (n ∷ lens) [] h = absurd h
 known_inner known (n ∷ lens) (i ∷ index) h = (known_some known n i h.0, known_inner known lens index h.1)
+known_inner known xs ys h = absurd h
 
 known_fixed : (known : ℕ) (lens index : List ℕ) → starts_with_zero lens ≡ false → IsIndex (without_record lens) index → IsIndex (map (known_of known) lens) index
 known_fixed known [] index e h = h

@@ -22,10 +22,9 @@ attr_begin name a (x ∷ vs) k v h = by_name (λ j y g. attr_begin name a vs j y
     by_name rest false (suc k) h = rest k v h
 
 one_begin : (h : Header) (e : Extra) (k : ℕ) (v : Var) → slice_get h.vars k ≡ Some v → BeginsAt (with_extra h e).vars k v.begin
-one_begin h (extra.Dim d) k v g = (v, g, refl)
 one_begin h (extra.Var kind name dims) k v g = (v, in_front h.vars _ k v g, refl)
-one_begin h (extra.Att None a) k v g = (v, g, refl)
 one_begin h (extra.Att (Some owner) a) k v g = attr_begin owner a h.vars k v g
+one_begin h xs k v g = (v, g, refl)
 
 begin_kept : (h : Header) (extras : List Extra) (k : ℕ) (v : Var) → slice_get h.vars k ≡ Some v → BeginsAt (added h extras).vars k v.begin
 begin_kept h [] k v g = (v, g, refl)
@@ -81,10 +80,7 @@ old_sizes : (old header : Header) (n a : ℕ) (os vs : List Var) → n ≡ a + l
     → ((k : ℕ) (v : Var) → slice_get os k ≡ Some v → (w : Var) × (slice_get vs k ≡ Some w) × IsKept old header v w)
     → vsizes header (old_of n (records_in header (enumerate_from a vs))) ≡ sum_by (λ v. record_share old v) os
 old_sizes old header n a [] vs e kept = ap (λ (ps : List Numbered). vsizes header ps) (none_old header n a vs (omega arith))
-old_sizes old header n a (o ∷ os) [] e kept = let found = kept 0 o refl in absurd (nothing_there found.0 found.1)
-  where
-    nothing_there : (w : Var) → None ≡ Some w → ⊥
-    nothing_there w f = cc
+old_sizes old header n a (o ∷ os) [] e kept = let found = kept 0 o refl in absurd (let f : None ≡ Some found.0 = found.1 in cc)
 old_sizes old header n a (o ∷ os) (w ∷ vs) e kept =
     by_kind (is_record header w) refl (old_sizes old header n (a + 1) os vs (omega arith) (λ k v g. kept (suc k) v g))
   where
@@ -92,10 +88,11 @@ old_sizes old header n a (o ∷ os) (w ∷ vs) e kept =
     inside = lt-ltb a n (omega arith)
 
     own : IsKept old header o w
-    own = let found = kept 0 o refl in first found.0 found.1 found.2
-      where
-        first : (x : Var) → Some w ≡ Some x → IsKept old header o x → IsKept old header o w
-        first x f k = let same : x ≡ w = cc in subst (λ (y : Var). IsKept old header o y) same k
+    own =
+        let found = kept 0 o refl in
+        let there : Some w ≡ Some found.0 = found.1 in
+        let same : found.0 ≡ w = cc in
+        subst (λ (y : Var). IsKept old header o y) same found.2
 
     by_kind : (t : Bool) → is_record header w ≡ t → vsizes header (old_of n (records_in header (enumerate_from (a + 1) vs))) ≡ sum_by (λ v. record_share old v) os
         → vsizes header (old_of n (cond t ((a, w) ∷ records_in header (enumerate_from (a + 1) vs)) (records_in header (enumerate_from (a + 1) vs)))) ≡ sum_by (λ v. record_share old v) (o ∷ os)
@@ -106,10 +103,7 @@ old_sizes old header n a (o ∷ os) (w ∷ vs) e kept =
         let share = ap (λ (t : Bool). cond t (vsize old o) 0) (sym own.kind ∙ f) in
         let size = ap (λ (m : ℕ). round_up 4 m) own.slab in
         omega arith
-    by_kind false f rest =
-        let there = sum_by-cons (λ v. record_share old v) o os in
-        let share = ap (λ (t : Bool). cond t (vsize old o) 0) (sym own.kind ∙ f) in
-        omega arith
+    by_kind false f rest = omega (arith, sum_by-cons (λ v. record_share old v) o os, ap (λ (t : Bool). cond t (vsize old o) 0) (sym own.kind ∙ f))
 
 pub old_recsize : (old : Header) (extras : List Extra) → is_sound old ≡ true → recsize old ≤ vsizes (added old extras) (old_records (added old extras) (length old.vars))
 old_recsize old extras sound = grind (arith, nat_tests, old_sizes, kept_var, recsize_below)

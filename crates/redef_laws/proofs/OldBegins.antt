@@ -13,11 +13,10 @@ none_with old v k m (x ∷ ws) w h (inl e) = sym (ap (share old v) e) ∙ (told_
 none_with old v k m (x ∷ ws) w h (inr g) = none_with old v k (suc m) ws w (told_else (share old v x) (k, m) (sharing_with old v k (suc m) ws) h).1 g
 
 pub zip_shares_none : (old : Header) (first k : ℕ) (vs ws : List Var) → sharing_from old first k vs ≡ None → ShareNone old (zip vs ws)
-zip_shares_none old first k [] ws h = tt
-zip_shares_none old first k (v ∷ vs) [] h = tt
 zip_shares_none old first k (v ∷ vs) (w ∷ ws) h =
     let rest = both_none (sharing_with old v k (suc k) vs) (sharing_from old first (suc k) vs) (told_else (nat_lt v.begin first) (k, k) _ h).1 in
     ((λ q m. none_with old v k (suc k) vs q.0 rest.0 (zip_left vs ws q m)), zip_shares_none old first (suc k) vs ws rest.1)
+zip_shares_none old first k xs ws h = tt
 
 pub filter_shares_none : (old : Header) (t : Var × Var → Bool) (ps : List (Var × Var)) → ShareNone old ps → ShareNone old (filter t ps)
 filter_shares_none old t [] h = tt

@@ -121,11 +121,7 @@ number_passes v n asks rest later f G a wide read fine after =
     (fine x (subst (λ (k : ℕ). wrong v f x k ≡ None) is right), subst (λ (k : ℕ). (after_field f k ++ rest) ≡ later) (sym is) after))
 
 padded_long : (text bytes : List ℕ) → Padded text bytes → length bytes ≡ round_up 4 (length text)
-padded_long text bytes h =
-    let whole : length bytes ≡ length h.front + length h.rest = ap (λ (t : List ℕ). length t) h.split ∙ length-append h.front h.rest in
-    let one : length h.front ≡ length text = ap (λ (t : List ℕ). length t) h.first in
-    let two : length h.rest ≡ round_up 4 (length text) - length text = h.second in
-    omega arith
+padded_long text bytes h = omega (arith, ap (λ (t : List ℕ). length t) h.split ∙ length-append h.front h.rest, ap (λ (t : List ℕ). length t) h.first, h.second)
 
 no_bytes : (text bytes : List ℕ) → Padded text bytes → length text ≡ 0 → length bytes ≡ 0
 no_bytes text bytes h e = let whole = padded_long text bytes h in omega arith

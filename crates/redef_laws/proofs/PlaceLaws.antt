@@ -92,7 +92,7 @@ not_old header n k l = grind (arith, nat_tests, each_weaker, ltb-true, each_filt
 
 -- ---- places
 
-first_of : (a b c : List (ℕ × ℕ)) (k : ℕ) (x : ℕ × ℕ) → at_number a k ≡ Some x → at_number (a ++ b ++ c) k ≡ Some x
+pub first_of : (a b c : List (ℕ × ℕ)) (k : ℕ) (x : ℕ × ℕ) → at_number a k ≡ Some x → at_number (a ++ b ++ c) k ≡ Some x
 first_of a b c k x e = grind (arith, nat_tests, find-append)
 
 second_of : (a b c : List (ℕ × ℕ)) (k : ℕ) (x : ℕ × ℕ) → at_number a k ≡ None → at_number b k ≡ Some x → at_number (a ++ b ++ c) k ≡ Some x
@@ -106,6 +106,7 @@ pub record IsFixedPlace (header : Header) (n k : ℕ) (v : Var) (b : ℕ) : Type
   pub inner : at_number (fixed_begins header (header_len header) (fixed_order header n)) k ≡ Some (k, b)
   pub low : header_len header ≤ b
   pub high : b + slab header v ≤ fixed_end header n
+  pub up : v.begin ≤ b
 
 pub fixed_place : (header : Header) (n k : ℕ) (v : Var) → slice_get header.vars k ≡ Some v → is_record header v ≡ false → (b : ℕ) × IsFixedPlace header n k v b
 fixed_place header n k v g e =
@@ -118,6 +119,7 @@ fixed_place header n k v g e =
         inner = found.1.at;
         low = found.1.low;
         high = found.1.high;
+        up = found.1.up;
       },
     )
 

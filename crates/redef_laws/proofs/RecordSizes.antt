@@ -18,10 +18,7 @@ StandIn old new vs ws = (k : ℕ) (v : Var) → slice_get vs k ≡ Some v → (w
 
 sizes_more : (old new : Header) (vs ws : List Var) → StandIn old new vs ws → (more : List ℕ) × (sizes_in new ws ≡ sizes_in old vs ++ more)
 sizes_more old new [] ws h = (sizes_in new ws, refl)
-sizes_more old new (v ∷ vs) [] h = absurd (none (h 0 v refl).1)
-  where
-    none : {w : Var} → None ≡ Some w → ⊥
-    none e = cc
+sizes_more old new (v ∷ vs) [] h = absurd (let e : None ≡ Some (h 0 v refl).0 = (h 0 v refl).1 in cc)
 sizes_more old new (v ∷ vs) (y ∷ ws) h =
     let rest = sizes_more old new vs ws (λ k x e. h (suc k) x e) in
     let found = h 0 v refl in
@@ -47,20 +44,14 @@ sizes_more old new (v ∷ vs) (y ∷ ws) h =
 
 sum_grows : (xs ys : List ℕ) → sum_by (λ n. round_up 4 n) xs ≤ sum_by (λ n. round_up 4 n) (xs ++ ys)
 sum_grows [] ys = omega arith
-sum_grows (n ∷ xs) ys =
-    let rest = sum_grows xs ys in
-    let one = sum_by-cons (λ n. round_up 4 n) n xs in
-    let all = sum_by-cons (λ n. round_up 4 n) n (xs ++ ys) in
-    omega arith
+sum_grows (n ∷ xs) ys = omega (arith, sum_grows xs ys, sum_by-cons (λ n. round_up 4 n) n xs, sum_by-cons (λ n. round_up 4 n) n (xs ++ ys))
 
 size_grows : (xs ys : List ℕ) → record_size xs ≤ record_size (xs ++ ys)
-size_grows [] ys = omega arith
-size_grows (n ∷ []) [] = omega arith
 size_grows (n ∷ []) (m ∷ ys) =
-    let all = sum_by-cons (λ n. round_up 4 n) n (m ∷ ys) in
     let up : n ≤ round_up 4 n = omega arith in
-    omega arith
+    omega (arith, sum_by-cons (λ n. round_up 4 n) n (m ∷ ys))
 size_grows (n ∷ m ∷ xs) ys = sum_grows (n ∷ m ∷ xs) ys
+size_grows k ys = omega arith
 
 pub record_grows : (old new : Header) → KeepsVars old new → recsize old ≤ recsize new
 record_grows old new keeps = grind (arith, nat_tests, sizes_more, size_grows)

@@ -92,14 +92,8 @@ recsize_of_two header n i j v w l g f d e =
 
 vsizes_hold : (header : Header) (list : List Numbered) (p : Numbered) → In list p → vsize header p.1 ≤ vsizes header list
 vsizes_hold header [] p h = absurd h
-vsizes_hold header (q ∷ list) p (inl e) =
-    let sum = sum_by-cons (λ (r : Numbered). vsize header r.1) q list in
-    let same = ap (λ (r : Numbered). vsize header r.1) e in
-    omega arith
-vsizes_hold header (q ∷ list) p (inr h) =
-    let sum = sum_by-cons (λ (r : Numbered). vsize header r.1) q list in
-    let rest = vsizes_hold header list p h in
-    omega arith
+vsizes_hold header (q ∷ list) p (inl e) = omega (arith, sum_by-cons (λ (r : Numbered). vsize header r.1) q list, ap (λ (r : Numbered). vsize header r.1) e)
+vsizes_hold header (q ∷ list) p (inr h) = omega (arith, sum_by-cons (λ (r : Numbered). vsize header r.1) q list, vsizes_hold header list p h)
 
 -- a member of the old record variables
 record IsOldRecord (header : Header) (n : ℕ) (p : Numbered) : Type 0 where

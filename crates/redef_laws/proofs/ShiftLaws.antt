@@ -1,5 +1,5 @@
 -- A redefinition moves the slabs of the old variables up, or lets them stay, and none passes another.
-use Rattle.redef_laws.proofs.Words.{◌≡◌, ℕ, zero, suc, ◌<◌, ◌≤◌, refl, sym, ◌∙◌, ap, List, [], ◌∷◌, ◌++◌, length, Bool, true, false, cond, Some, None, arith, slice_get_within, slice_get, bytes_eq, enumerate_from, and_first, Header, Var, Attr, Extra, slabs, header_len, is_sound, is_redefinable, is_record, with_var_attr, with_extra, added, begins_by_number, begin_of_number, with_begins, redefined_header, redefined_keeps, IsApplied, AreShifted, new_end, numbered_at, entry_map, nat_tests}
+use Rattle.redef_laws.proofs.Words.{◌≡◌, ℕ, zero, suc, ◌<◌, ◌≤◌, refl, sym, ◌∙◌, ap, List, [], ◌∷◌, ◌++◌, length, Bool, true, false, cond, Some, arith, slice_get_within, slice_get, bytes_eq, enumerate_from, and_first, Header, Var, Attr, Extra, slabs, header_len, is_sound, is_redefinable, is_record, with_var_attr, with_extra, added, begins_by_number, begin_of_number, with_begins, redefined_header, redefined_keeps, IsApplied, AreShifted, new_end, numbered_at, entry_map, nat_tests}
 use Rattle.nc_base.specs.declared.script.Extra.TheVariants as extra
 use Rattle.redef_laws.proofs.PlacedLaws.{begin_rises, fixed_begins_rise, record_begins_rise}
 use Rattle.redef_laws.proofs.SlabLaws.{IsRaised, pair_at}
@@ -30,10 +30,9 @@ begins_with_attr name a (x ∷ vs) k v h = by_name (begins_with_attr name a vs) 
     by_name rest false (suc k) v h = rest k v h
 
 begins_with_extra : (header : Header) (e : Extra) → KeepBegins header.vars (with_extra header e).vars
-begins_with_extra header (extra.Dim d) = same_begins header.vars
 begins_with_extra header (extra.Var kind name dims) = begins_in_front header.vars _
-begins_with_extra header (extra.Att None a) = same_begins header.vars
 begins_with_extra header (extra.Att (Some owner) a) = begins_with_attr owner a header.vars
+begins_with_extra header xs = same_begins header.vars
 
 begins_added : (header : Header) (extras : List Extra) → KeepBegins header.vars (added header extras).vars
 begins_added header [] k v h = (v, h, refl)

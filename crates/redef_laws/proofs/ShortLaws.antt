@@ -89,9 +89,4 @@ is_short header h =
   where
     names_below : {A : Type 0} (f g : A → ℕ) → ((x : A) → f x ≤ g x) → (xs : List A) → sum_by f xs ≤ sum_by g xs
     names_below f g below [] = omega arith
-    names_below f g below (x ∷ xs) =
-        let e = sum_by-cons f x xs in
-        let e' = sum_by-cons g x xs in
-        let one = below x in
-        let rest = names_below f g below xs in
-        omega arith
+    names_below f g below (x ∷ xs) = omega (arith, sum_by-cons f x xs, sum_by-cons g x xs, below x, names_below f g below xs)

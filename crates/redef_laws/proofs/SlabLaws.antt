@@ -1,5 +1,5 @@
 -- The slabs of the old variables: what they are, and where each lies.
-use Rattle.redef_laws.proofs.Words.{◌≡◌, ℕ, ◌+◌, ◌-◌, ◌*◌, ◌<◌, ◌≤◌, refl, sym, ◌∙◌, ap, inl, inr, ◌⊎◌, List, [], ◌∷◌, map, Bool, true, false, Some, arith, mul-le, slice_get, zip, range_with_len, Header, Var, Slab, slabs, slabs_of, header_len, is_sound, is_record, slab, recsize, end_of_var, lengths, KeepsVars, end_holds, slab_below, slab_shared, some_record, In, flat_in, range_high, IsShifted, new_end, map_in, zip_in, nat_tests}
+use Rattle.redef_laws.proofs.Words.{subst, ◌≡◌, ℕ, ◌+◌, ◌-◌, ◌*◌, ◌<◌, ◌≤◌, refl, sym, ◌∙◌, ap, inl, inr, ◌⊎◌, List, [], ◌∷◌, map, Bool, true, false, Some, arith, mul-le, slice_get, zip, range_with_len, Header, Var, Slab, slabs, slabs_of, header_len, is_sound, is_record, slab, recsize, end_of_var, lengths, KeepsVars, end_holds, slab_below, slab_shared, some_record, In, flat_in, range_high, IsShifted, new_end, map_in, zip_in, nat_tests}
 use Rattle.redef_laws.proofs.RecordSizes.{same_slab, same_record, record_grows}
 use Rattle.redef_laws.proofs.SoundVars.{slab_holds, past_front}
 
@@ -73,32 +73,14 @@ slab_in old new s keeps h =
     by_kind : (k : ℕ) (v w : Var) → IsPair old new k v w → (t : Bool) → is_record old v ≡ t → In (slabs_by old new v w t) s
         → IsFixedSlab old new s ⊎ IsRecordSlab old new s
     by_kind k v w pair false e (inl g) =
-        inl (record {
-          number = k;
-          was = v;
-          now = w;
-          pair = pair;
-          kind = e;
-          from = sym (ap (λ (q : Slab). q.from) g);
-          to = sym (ap (λ (q : Slab). q.to) g);
-          len = sym (ap (λ (q : Slab). q.len) g);
-        })
+        subst (λ (x : Slab). IsFixedSlab old new x ⊎ IsRecordSlab old new x) g
+        (inl (record { number = k; was = v; now = w; pair = pair; kind = e; from = refl; to = refl; len = refl }))
     by_kind k v w pair false e (inr g) = absurd g
     by_kind k v w pair true e g =
         let at = map_in (λ r. record { from = v.begin + r * recsize old; to = w.begin + r * recsize new; len = slab old v }) (range_with_len 0 old.records) s g in
         let high = range_high 0 old.records at.0 at.1 in
-        inr (record {
-          number = k;
-          was = v;
-          now = w;
-          pair = pair;
-          kind = e;
-          row = at.0;
-          below = omega arith;
-          from = sym (ap (λ (q : Slab). q.from) at.2);
-          to = sym (ap (λ (q : Slab). q.to) at.2);
-          len = sym (ap (λ (q : Slab). q.len) at.2);
-        })
+        subst (λ (x : Slab). IsFixedSlab old new x ⊎ IsRecordSlab old new x) at.2
+        (inr (record { number = k; was = v; now = w; pair = pair; kind = e; row = at.0; below = omega arith; from = refl; to = refl; len = refl }))
 
 -- ---- where a slab lies
 

@@ -1,5 +1,5 @@
 -- No slab of an old variable passes another.
-use Rattle.redef_laws.proofs.Words.{◌≡◌, ℕ, ◌+◌, ◌*◌, ◌<◌, ◌≤◌, sym, ◌∙◌, ap, inl, inr, ◌⊎◌, Bool, true, false, arith, cases_lt, cases_eq, row_fits, mul-le, Header, Var, Slab, slabs, header_len, is_sound, is_record, slab, recsize, slab_fits, IsLower, AreShifted, new_end, nat_tests}
+use Rattle.redef_laws.proofs.Words.{◌≡◌, ℕ, ◌+◌, ◌*◌, ◌<◌, ◌≤◌, sym, ◌∙◌, ap, inl, inr, ◌⊎◌, true, false, arith, cases_lt, cases_eq, row_fits, mul-le, Header, Var, Slab, slabs, header_len, is_sound, is_record, slab, recsize, slab_fits, IsLower, AreShifted, new_end, nat_tests}
 use Rattle.redef_laws.proofs.RecordSizes.{record_grows}
 use Rattle.redef_laws.proofs.SoundVars.{slab_holds, vars_apart, IsApart, InTurn, swapped}
 use Rattle.redef_laws.proofs.SlabLaws.{IsRaised, IsPair, IsFixedSlab, IsRecordSlab, slab_in, slab_lies}
@@ -46,8 +46,7 @@ places_differ size a n b m r u p q t e = by_record (cases_lt r u) (cases_lt u r)
     by_record (inr l) (inl k) = let passed = record_passed size b m a n u r (swapped t) k in absurd (omega arith)
     by_record (inr l) (inr k) =
         let rows = same_row size r u k l in
-        let ends = turn_ends size a n b m q (omega arith) t in
-        absurd (omega arith)
+        absurd (omega (arith, turn_ends size a n b m q (omega arith) t))
 
 own_place : (size n r u : ℕ) → n ≤ size → r < u → r * size + n ≤ u * size
 own_place size n r u fits l = let row : r * size + size ≤ u * size = row_fits r size u size l (omega arith) in omega arith
@@ -100,14 +99,11 @@ record_last old new raised s t p q =
     let new_apart = (apart_now old new p.number q.number p.was p.now q.was q.now raised.sound_new p.pair q.pair differ).record_last p.kind q.kind in
     record { before = omega (arith, p.from, p.len, q.from, old_apart); after = omega (arith, p.to, p.len, q.to, new_apart) }
   where
-    contrary : (t : Bool) → t ≡ false → t ≡ true → ⊥
-    contrary true e f = cc
-    contrary false e f = cc
-
     differ : p.number ≡ q.number → ⊥
     differ e =
         let same = (same_var old new p.number q.number p.was p.now q.was q.now p.pair q.pair e).0 in
-        contrary (is_record old p.was) p.kind (ap (λ (v : Var). is_record old v) same ∙ q.kind)
+        let contrary : false ≡ true = sym p.kind ∙ ap (λ (v : Var). is_record old v) same ∙ q.kind in
+        cc
 
 one_lower : (old new : Header) → IsRaised old new → (s t : Slab) → (p : IsRecordSlab old new s) → (q : IsRecordSlab old new t) → p.was ≡ q.was → p.now ≡ q.now
     → s.from < t.from → IsLower s t

@@ -21,12 +21,7 @@ sum_joined f g (x ∷ xs) =
 
 pub sum_same : {X : Type 0} (f g : X → ℕ) (xs : List X) → ((x : X) → In xs x → f x ≡ g x) → sum_by f xs ≡ sum_by g xs
 sum_same f g [] h = refl
-sum_same f g (x ∷ xs) h =
-    let a = sum_by-cons f x xs in
-    let b = sum_by-cons g x xs in
-    let here = h x (inl refl) in
-    let rest = sum_same f g xs (λ y k. h y (inr k)) in
-    omega arith
+sum_same f g (x ∷ xs) h = omega (arith, sum_by-cons f x xs, sum_by-cons g x xs, h x (inl refl), sum_same f g xs (λ y k. h y (inr k)))
 
 sum_zero : {X : Type 0} (xs : List X) → sum_by (λ x. 0) xs ≡ 0
 sum_zero [] = refl
@@ -34,12 +29,7 @@ sum_zero {X} (x ∷ xs) = sum_by-cons (λ (y : X). 0) x xs ∙ ap (λ n. 0 + n) 
 
 sum_two : {X : Type 0} (f g : X → ℕ) (xs : List X) → sum_by (λ x. f x + g x) xs ≡ sum_by f xs + sum_by g xs
 sum_two f g [] = refl
-sum_two f g (x ∷ xs) =
-    let a = sum_by-cons (λ y. f y + g y) x xs in
-    let b = sum_by-cons f x xs in
-    let c = sum_by-cons g x xs in
-    let rest = sum_two f g xs in
-    omega arith
+sum_two f g (x ∷ xs) = omega (arith, sum_by-cons (λ y. f y + g y) x xs, sum_by-cons f x xs, sum_by-cons g x xs, sum_two f g xs)
 
 -- a table's sum by rows is that by columns
 pub sum_turned : {X Y : Type 0} (f : X → Y → ℕ) (xs : List X) (ys : List Y)
@@ -130,14 +120,8 @@ distinct_once k (s ∷ ss) h = by_test (s.from == k) refl (distinct_once k ss h.
     by_test : (b : Bool) → (s.from == k) ≡ b → sum_by (begins_at k) ss ≤ 1 → sum_by (begins_at k) (s ∷ ss) ≤ 1
     by_test true e rest =
         let here : s.from ≡ k = eqb-true _ _ e in
-        let none = none_begins k ss (λ t m f. h.0 t m (here ∙ sym f)) in
-        let one : begins_at k s ≡ 1 = ap (λ b. cond b 1 0) e in
-        let all = whole in
-        omega arith
-    by_test false e rest =
-        let none : begins_at k s ≡ 0 = ap (λ b. cond b 1 0) e in
-        let all = whole in
-        omega arith
+        omega (arith, none_begins k ss (λ t m f. h.0 t m (here ∙ sym f)), ap {B = ℕ} (λ b. cond b 1 0) e, whole)
+    by_test false e rest = omega (arith, ap {B = ℕ} (λ b. cond b 1 0) e, whole)
 
 once_distinct : (ss : List Slab) → ((k : ℕ) → sum_by (begins_at k) ss ≤ 1) → AreDistinct ss
 once_distinct [] h = tt
