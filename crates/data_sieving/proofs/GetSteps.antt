@@ -1,5 +1,5 @@
 -- Entries that are read window by window, each into its blob: before the first window, one window more, after the last.
-use Rattle.data_sieving.proofs.Words.{◌≡◌, ℕ, ◌+◌, ◌<◌, ◌≤◌, inl, inr, refl, sym, ◌∙◌, ap, subst, List, [], ◌++◌, length, Bool, true, false, Option, Some, None, arith, fold-append, nat_lt, ◌==◌, in_filter, filter_in, equal_true, Owned, Window, written, said_at, said_by, Says, IsOneValued, write_cells, In, same_said, said_is, said_in_any_order, append_within, said_by_joined, says_left, says_right, says_cases, in_either, of_slot, HasGot, FitBlobs, HaveOnePlace, got_cells, blob_at, places_of, IsCovered, IsPast, IsNext, HasGotPart, past_covered, past_all, past_kept, parts_got, IsRead, got_says, says_got, read_as, read_once, parts_within, whole_parts}
+use Rattle.data_sieving.proofs.Words.{◌≡◌, ℕ, ◌+◌, ◌<◌, ◌≤◌, inl, inr, refl, sym, ◌∙◌, ap, subst, List, [], ◌++◌, length, Bool, true, false, Option, Some, None, arith, fold-append, nat_lt, ◌==◌, in_filter, filter_in, equal_true, Owned, Window, written, said_at, said_by, Says, IsOneValued, write_cells, In, same_said, said_is, said_in_any_order, append_within, said_by_joined, says_left, says_right, says_cases, in_either, of_slot, HasGot, FitBlobs, HaveOnePlace, got_cells, blob_at, places_of, IsCovered, IsPast, IsNext, HasGotPart, past_covered, past_all, past_kept, parts_got, IsRead, got_says, says_got, read_as, read_once, parts_within, whole_parts, nat_tests}
 use borrow.Author.Tests.{ltb-true, ltb-false, eqb-true}
 use Rattle.data_sieving.proofs.ReachSteps.{served_in}
 
@@ -90,9 +90,7 @@ slot_said base file k list left place size w served stop y on once p n =
             (slot_in k list r.by (served_in place stop list left served r.by p n.front m.0) m.1)
 
 fit_slot : (k : ℕ) (blobs : List (List ℕ)) (list : List Owned) → FitBlobs blobs list → (o : Owned) → In (of_slot k list) o → o.from + o.extent.len ≤ length (blob_at blobs k)
-fit_slot k blobs list fit o m =
-    let r = in_slot k list o m in
-    subst (λ (j : ℕ). o.from + o.extent.len ≤ length (blob_at blobs j)) r.1 (fit o r.0)
+fit_slot k blobs list fit o m = grind (arith, nat_tests, in_slot)
 
 -- blobs with what lies below a place
 pub got_step : (base : ℕ) (file : List ℕ) (list left : List Owned) (place size : ℕ) (w : Window) (served : List Owned) (stop : ℕ) (old mid now : List (List ℕ))

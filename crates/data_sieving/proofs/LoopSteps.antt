@@ -1,5 +1,5 @@
 -- One window of a loop over all windows.
-use Rattle.data_sieving.proofs.Words.{Bool, ◌≡◌, ℕ, ◌+◌, ◌^◌, ◌≤◌, ◌∙◌, ap, subst, List, [], ◌++◌, length, Option, arith, IfSome, flat_map, at_in, In, Owned, Post, DiskCall, Window, after, with_end, BothTold, overlays, write_cells, moved_down, told_of, clips, extents, IsByPlace, EndBelow, IsBetween, IsBegun, store_calls, told_window, source_of, AreFilled, put_cells, entry_windows, LieOn, IsPast, AreLeft, LieAcross, IsNext, HasDone, windows_from, entries_from, entries_within}
+use Rattle.data_sieving.proofs.Words.{Bool, ◌≡◌, ℕ, ◌+◌, ◌^◌, ◌≤◌, ◌∙◌, ap, subst, List, [], ◌++◌, length, Option, arith, IfSome, flat_map, at_in, In, Owned, Post, DiskCall, Window, after, with_end, BothTold, overlays, write_cells, moved_down, told_of, clips, extents, IsByPlace, EndBelow, IsBetween, IsBegun, store_calls, told_window, source_of, AreFilled, put_cells, entry_windows, LieOn, IsPast, AreLeft, LieAcross, IsNext, HasDone, windows_from, entries_from, entries_within, nat_tests}
 use Rattle.data_sieving.proofs.WindowSteps.{window_bytes, next_told, windows_next, all_windows, no_window}
 use Rattle.data_sieving.proofs.CallSteps.{none_done, done_more, all_done, done_begun}
 use Rattle.data_sieving.proofs.PutSteps.{AreCells, file_to, file_step, to_begin, to_end, mixed_to, held_same, held_begin, held_twice, held_refused}
@@ -26,8 +26,7 @@ pub calls_more : (calls : ℕ × ℕ × Bool → List DiskCall) (list left : Lis
     → IsPast place list left → AreLeft left place size → IsNext left place size w served stop → now ≡ with_end mid (calls (told_window w))
     → HasDone plan (flat_map (λ ws. calls (told_of ws)) (windows_from size place list)) old mid → HasDone plan (flat_map (λ ws. calls (told_of ws)) (windows_from size stop list)) old now
 calls_more calls list left place size w served stop plan old mid now p l n e h =
-    done_more (λ ws. calls (told_of ws)) (window_bytes left place size w) (windows_from size place list) (windows_from size stop list) plan (calls (told_window w)) old mid now
-    (windows_next list left place size w served stop p l n) (ap calls (next_told left place size w served stop l n)) e h
+    grind (arith, nat_tests, window_bytes left place size w, windows_next list left place size w served stop p l n, next_told left place size w served stop l n, done_more)
 
 pub stores_begun : (list left : List Owned) (place size : ℕ) (w : Window) (served : List Owned) (stop : ℕ) (plan : List DiskCall) (old mid now : Option (List DiskCall))
     → IsPast place list left → AreLeft left place size → IsNext left place size w served stop → IsBegun (store_calls (told_window w)) mid now

@@ -1,5 +1,5 @@
 -- The first window of what is left, as it is told and as one of the windows of sieving.
-use Rattle.data_sieving.proofs.Words.{◌≡◌, ℕ, ◌+◌, ◌-◌, ◌^◌, ◌<◌, ◌≤◌, refl, sym, ◌∙◌, ap, subst, List, [], ◌∷◌, length, Bool, true, false, arith, filter, nat_lt, nat_le, ◌==◌, range_with_len, length-range_with_len, lt-ltb, le-leb, lt-leb, leb-true, in_filter, filter_in, equal_below, equal_true, Owned, Window, in_order, first_of, hull_len, sieved, sieving_windows, In, ranges, IsAscending, told_of, filter_at_most, filter_ascends, in_range, range_low, range_high, range_ascends, last_most, last_below, drop_first, filter_all, sieved_walked, same_ascending, triple_same, walked_enough, told_window, entry_windows, IsCovered, IsPast, AreLeft, IsNext, bytes_from, windows_from, covered_below, past_covered, covered_past, front_covered, covered_front, hole_short}
+use Rattle.data_sieving.proofs.Words.{◌≡◌, ℕ, ◌+◌, ◌-◌, ◌^◌, ◌<◌, ◌≤◌, refl, sym, ◌∙◌, ap, List, [], ◌∷◌, length, Bool, true, false, arith, filter, nat_lt, nat_le, ◌==◌, range_with_len, length-range_with_len, lt-ltb, le-leb, lt-leb, leb-true, in_filter, filter_in, equal_below, equal_true, Owned, Window, first_of, hull_len, sieved, sieving_windows, In, IsAscending, told_of, filter_at_most, filter_ascends, in_range, range_low, range_high, range_ascends, last_most, last_below, drop_first, filter_all, sieved_walked, same_ascending, triple_same, walked_enough, told_window, entry_windows, IsCovered, IsPast, AreLeft, IsNext, bytes_from, windows_from, covered_below, past_covered, covered_past, front_covered, covered_front, hole_short, nat_tests}
 use borrow.Author.Tests.{ltb-true}
 use Rattle.data_sieving.proofs.LeftBytes.{byte_from, from_byte, bytes_ascend, same_bytes, begins}
 
@@ -10,10 +10,7 @@ window_bytes left place size w = filter (λ (y : ℕ). nat_lt y (w.hull.at + siz
 
 pub before_stop : (left : List Owned) (place size : ℕ) (w : Window) (served : List Owned) (stop x : ℕ) → AreLeft left place size
     → IsNext left place size w served stop → IsCovered left x → x < w.hull.at + size → x < stop
-before_stop left place size w served stop x l n c h =
-    let below = covered_below (2 ^ 62) left x l.ends c in
-    let is = n.ends in
-    omega arith
+before_stop left place size w served stop x l n c h = grind (arith, nat_tests, covered_below (2 ^ 62) left x l.ends c)
 
 pub in_window : (left : List Owned) (place size : ℕ) (w : Window) (served : List Owned) (stop x : ℕ) → AreLeft left place size
     → IsNext left place size w served stop → In (window_bytes left place size w) x
@@ -37,9 +34,7 @@ window_in left place size w served stop x n h k c =
 
 begin_window : (left : List Owned) (place size : ℕ) (w : Window) (served : List Owned) (stop : ℕ) → AreLeft left place size
     → IsNext left place size w served stop → (ys : List ℕ) × (bytes_from place left ≡ w.hull.at ∷ ys)
-begin_window left place size w served stop l n =
-    begins (bytes_from place left) w.hull.at (bytes_ascend place left) (byte_from place left w.hull.at n.from n.first)
-    (λ x m. let b = from_byte place left x m in n.least x b.1 b.0)
+begin_window left place size w served stop l n = grind (arith, nat_tests, begins, bytes_ascend, byte_from, from_byte)
 
 -- what is told of the bytes of the window is its hull, and whether it has a hole
 pub next_told : (left : List Owned) (place size : ℕ) (w : Window) (served : List Owned) (stop : ℕ) → AreLeft left place size
@@ -102,12 +97,7 @@ enough f size xs h =
 
 sieve_first : (size a : ℕ) (ys xs : List ℕ) → 1 ≤ size → xs ≡ a ∷ ys
     → sieving_windows size xs ≡ filter (λ (y : ℕ). nat_lt y (a + size)) xs ∷ sieving_windows size (filter (λ (y : ℕ). nat_le (a + size) y) xs)
-sieve_first size a ys xs h e =
-    subst (λ (l : List ℕ). sieving_windows size l ≡ filter (λ (y : ℕ). nat_lt y (a + size)) l ∷ sieving_windows size (filter (λ (y : ℕ). nat_le (a + size) y) l)) (sym e)
-    (ap (λ (r : List (List ℕ)). filter (λ (y : ℕ). nat_lt y (a + size)) (a ∷ ys) ∷ r)
-    (enough (length ys) size (filter (λ (y : ℕ). nat_le (a + size) y) ys) (filter_at_most (λ (y : ℕ). nat_le (a + size) y) ys)
-    ∙ ap (λ (b : List ℕ). sieving_windows size b)
-    (sym (drop_first a (filter (λ (y : ℕ). nat_le (a + size) y) ys) (nat_le (a + size) a) (lt-leb (a + size) a (omega arith))))))
+sieve_first size a ys xs h e = grind (arith, nat_tests, enough, filter_at_most, drop_first, lt-leb)
 
 pub rest_bytes : (left : List Owned) (place size : ℕ) (w : Window) (served : List Owned) (stop : ℕ) → AreLeft left place size
     → IsNext left place size w served stop
@@ -132,11 +122,7 @@ rest_bytes left place size w served stop l n =
 
 -- a window ends past what was served before it
 pub goes_on : (left : List Owned) (place size : ℕ) (w : Window) (served : List Owned) (stop : ℕ) → IsNext left place size w served stop → place < stop
-goes_on left place size w served stop n =
-    let low = n.from in
-    let some = n.hull.some in
-    let short = n.hull.short in
-    omega arith
+goes_on left place size w served stop n = grind (arith, nat_tests)
 
 pub past_bytes : (place : ℕ) (list left : List Owned) (stop : ℕ) → place ≤ stop → IsPast place list left → bytes_from stop list ≡ bytes_from stop left
 past_bytes place list left stop h p =
@@ -155,11 +141,7 @@ windows_next list left place size w served stop p l n =
     (rest_bytes left place size w served stop l n ∙ sym (past_bytes place list left stop (omega arith) p))
 
 pub all_windows : (size : ℕ) (list : List Owned) → entry_windows size list ≡ windows_from size 0 list
-all_windows size list =
-    ap (λ (xs : List ℕ). sieving_windows size xs)
-    (sym (filter_all (λ (y : ℕ). nat_le 0 y) (in_order (ranges list)) (λ y m. le-leb 0 y (omega arith))))
+all_windows size list = grind (arith, nat_tests, filter_all, le-leb)
 
 pub no_window : (size place : ℕ) (list left : List Owned) → left ≡ [] → IsPast place list left → windows_from size place list ≡ []
-no_window size place list left e p =
-    ap (λ (xs : List ℕ). sieving_windows size xs)
-    (past_bytes place list left place (omega arith) p ∙ ap (λ (l : List Owned). bytes_from place l) e)
+no_window size place list left e p = grind (arith, nat_tests, past_bytes)
