@@ -35,7 +35,11 @@ some_written value file begin n len h room =
 pub change_refused : (held mid now : Option (List ℕ)) (f g whole : List ℕ → List ℕ) → mid ≡ after f held
     → IfSome held (λ file. IsBetween file (whole file) (f file) × IsBetween file (whole file) (g (f file)))
     → BothTold (λ old left. IsBetween old (g old) left) mid now → BothTold (λ old left. IsBetween old (whole old) left) held now
-change_refused held mid now f g whole e s b = grind (arith, nat_tests, between_next)
+change_refused None mid now f g whole e s b = subst (λ (m : Option (List ℕ)). BothTold (λ old left. IsBetween old (g old) left) m now) e b
+change_refused (Some file) mid now f g whole e s b = by_told (subst (λ (m : Option (List ℕ)). BothTold (λ old left. IsBetween old (g old) left) m now) e b)
+  where
+    by_told : BothTold (λ old left. IsBetween old (g old) left) (Some (f file)) now → BothTold (λ old left. IsBetween old (whole old) left) (Some file) now
+    by_told r = (r.0, r.1, between_next file (whole file) (f file) (g (f file)) r.0 s.0 s.1 r.2)
 
 -- the write of some bytes was cut off
 pub write_refused : (mid now : Option (List ℕ)) (place : ℕ) (bytes : List ℕ) → IfSome mid (λ file. place + length bytes ≤ length file)
