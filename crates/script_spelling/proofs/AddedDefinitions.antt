@@ -1,9 +1,9 @@
 -- The lines that add to a dataset that is opened, each with its statement.
-use Rattle.script_spelling.proofs.Words.{◌≡◌, ◌∙◌, ℕ, ◌+◌, List, [], ◌∷◌, ◌++◌, Bool, true, false, Option, Result, Ok, Err, refl, sym, ap, subst, append_assoc, bytes_eq, codes, list_any, ScriptKind, Attr, Word, Plain, reads_as, ended, dim_line, var_head, owner_of_text, owner_name, same_title, attribute, added_shape, Added, dim_addition, var_addition, att_addition, addition, Known, went, same_ok, is_end, VarLine, DimIs, VarIs, AttIs, owner_word, Says, extras_in}
+use Rattle.script_spelling.proofs.Words.{◌≡◌, ◌∙◌, ℕ, ◌+◌, List, [], ◌∷◌, ◌++◌, true, false, Option, Ok, sym, ap, subst, append_assoc, bytes_eq, codes, list_any, Attr, Word, Plain, reads_as, ended, dim_line, var_head, owner_of_text, owner_name, same_title, attribute, added_shape, Added, dim_addition, var_addition, att_addition, addition, Known, went, same_ok, is_end, VarLine, DimIs, VarIs, AttIs, owner_word, Says, extras_in, tested}
 use Rattle.nc_base.specs.declared.errors.ScriptKind.TheVariants as kind
 use Rattle.nc_base.specs.declared.script.Extra.TheVariants as extra
 use Rattle.script_spelling.proofs.LinesRead.{dim_said, added_said, owner_said, attr_said}
-use Rattle.script_spelling.proofs.TakenLines.{Fine, Taken}
+use Rattle.script_spelling.proofs.TakenLines.{Fine, Taken, grown_with}
 use Rattle.script_spelling.proofs.NewDefinitions.{titles_by, at_first}
 
 -- ---- what is added to a dataset that is opened
@@ -24,12 +24,7 @@ added_dim k ws x fine h =
       statement = DimIs y;
       says = said.0;
       fine = record { long = fine.long; apart = fine.apart };
-      grown = λ ss last g. record {
-        ranks = g.ranks;
-        hints = g.hints;
-        filled = g.filled;
-        part = (g.part.0, g.part.1 ∙ append_assoc d.extras (extra.Dim y ∷ []) (extras_in ss), (said.1, g.part.2));
-      };
+      grown = λ ss last g. grown_with g.ranks g.hints g.filled (g.part.0, g.part.1 ∙ append_assoc d.extras (extra.Dim y ∷ []) (extras_in ss), (said.1, g.part.2));
     })
 
 added_var : (k : Known) (ws : List Word) (x : ℕ × Added) → Fine k → var_addition k.added ws ≡ Ok x → TakenAdded k (Plain (codes "var") ∷ ws) x
@@ -45,12 +40,7 @@ added_var k ws x fine h =
       statement = VarIs line;
       says = said.says (is_end n.value.1 e.value e.first);
       fine = record { long = fine.long; apart = fine.apart };
-      grown = λ ss last g. record {
-        ranks = g.ranks;
-        hints = g.hints;
-        filled = g.filled;
-        part = (g.part.0, g.part.1 ∙ append_assoc d.extras (one ∷ []) (extras_in ss), (said.stands, g.part.2));
-      };
+      grown = λ ss last g. grown_with g.ranks g.hints g.filled (g.part.0, g.part.1 ∙ append_assoc d.extras (one ∷ []) (extras_in ss), (said.stands, g.part.2));
     })
 
 abbrev added_with : List ℕ → Option (List ℕ) → Attr → Added → ℕ × Added
@@ -64,20 +54,15 @@ added_one k words word owner a fine e says fresh =
       statement = AttIs owner a;
       says = says;
       fine = record { long = fine.long; apart = fine.apart };
-      grown = λ ss last g. record {
-        ranks = g.ranks;
-        hints = g.hints;
-        filled = g.filled;
-        part = (
-          g.part.0,
-          g.part.1 ∙ append_assoc d.extras (extra.Att owner a ∷ []) (extras_in ss),
-          (
-            tt,
-            subst (λ (w : List ℕ). list_any (same_title (w, a.name)) d.titles ≡ false) e fresh,
-            titles_by true d.dims d.vars d.titles ss word owner a e g.part.2,
-          ),
-        );
-      };
+      grown = λ ss last g. grown_with g.ranks g.hints g.filled (
+        g.part.0,
+        g.part.1 ∙ append_assoc d.extras (extra.Att owner a ∷ []) (extras_in ss),
+        (
+          tt,
+          subst (λ (w : List ℕ). list_any (same_title (w, a.name)) d.titles ≡ false) e fresh,
+          titles_by true d.dims d.vars d.titles ss word owner a e g.part.2,
+        ),
+      );
     }
 
 added_att : (k : Known) (ws : List Word) (x : ℕ × Added) → Fine k → att_addition k.values k.added ws ≡ Ok x → TakenAdded k (Plain (codes "att") ∷ ws) x
@@ -94,19 +79,8 @@ added_att k ws x fine h =
     (added_one k (Plain (codes "att") ∷ Plain (owner_word owner.owner) ∷ o.value.1) o.value.0 owner.owner a.value fine owner.word (attr.says owner.owner owner.is) attr.fresh))
 
 pub addition_taken : (k : Known) (first : List ℕ) (ws : List Word) (x : ℕ × Added) → Fine k → addition k.values k.added first ws ≡ Ok x → TakenAdded k (Plain first ∷ ws) x
-addition_taken k first ws x fine h = by (bytes_eq first (codes "dim")) (bytes_eq first (codes "var")) (bytes_eq first (codes "att")) refl refl refl h
-  where
-    at : (word : List ℕ) → bytes_eq first word ≡ true → TakenAdded k (Plain word ∷ ws) x → TakenAdded k (Plain first ∷ ws) x
-    at word e taken = at_first true 5 k (added_next k x) first word ws e taken
-
-    by : (i j l : Bool) → bytes_eq first (codes "dim") ≡ i → bytes_eq first (codes "var") ≡ j → bytes_eq first (codes "att") ≡ l → elim i as (λ y. Result (ℕ × Added) ScriptKind) [
-      | true ↦ dim_addition k.added ws
-      | false ↦ elim j as (λ y. Result (ℕ × Added) ScriptKind) [
-        | true ↦ var_addition k.added ws
-        | false ↦ elim l as (λ y. Result (ℕ × Added) ScriptKind) [ true ↦ att_addition k.values k.added ws | false ↦ Err kind.UnknownWord ]
-      ]
-    ] ≡ Ok x → TakenAdded k (Plain first ∷ ws) x
-    by true j l a b c e = at (codes "dim") a (added_dim k ws x fine e)
-    by false true l a b c e = at (codes "var") b (added_var k ws x fine e)
-    by false false true a b c e = at (codes "att") c (added_att k ws x fine e)
-    by false false false a b c e = absurd (cc)
+addition_taken k first ws x fine h =
+    let at = at_first true 5 k (added_next k x) first in
+    tested (bytes_eq first (codes "dim")) _ _ _ h (λ a e. at (codes "dim") ws a (added_dim k ws x fine e))
+    (λ a l. tested (bytes_eq first (codes "var")) _ _ _ l (λ b e. at (codes "var") ws b (added_var k ws x fine e))
+    (λ b m. tested (bytes_eq first (codes "att")) _ _ _ m (λ c e. at (codes "att") ws c (added_att k ws x fine e)) (λ c e. absurd (cc))))

@@ -1,5 +1,5 @@
 -- The lines of calls that are read spell them, and each rank has the calls of its lines.
-use Rattle.script_spelling.proofs.Words.{◌≡◌, ◌∙◌, ℕ, zero, suc, ◌+◌, ◌<◌, List, [], ◌∷◌, ◌++◌, map, length, replicate, Bool, true, false, cond, nat_lt, ◌==◌, Some, None, slice_set, Result, Ok, Err, refl, sym, ap, subst, append_assoc, append-nil, length-set, arith, bytes_eq, codes, AllZip, cons_option, list_all, range_with_len, and_from, lt-ltb, ltb-true, eq-eqb, ne_eqb, ScriptKind, ScriptErr, Call, Word, Plain, Quoted, Broken, Line, begins_rank, digits_value, ◌>>=◌, next, whole, Called, calls_of, rank_of_text, with_call, call_line, called_after, at_line, call_step, data_part, went, same_ok, whole_value, bytes_same, line_ok, data_by, SpellsCallLine, calls_in, nat_tests}
+use Rattle.script_spelling.proofs.Words.{◌≡◌, ◌∙◌, ℕ, zero, suc, ◌+◌, ◌<◌, List, [], ◌∷◌, ◌++◌, map, length, replicate, Bool, true, false, cond, nat_lt, ◌==◌, Some, None, slice_set, Ok, refl, sym, ap, subst, append_assoc, append-nil, length-set, arith, bytes_eq, codes, AllZip, cons_option, list_all, range_with_len, and_from, lt-ltb, ltb-true, eq-eqb, ne_eqb, Call, Word, Plain, Quoted, Broken, Line, begins_rank, digits_value, next, Called, calls_of, rank_of_text, with_call, call_line, called_after, at_line, call_step, data_part, went, same_ok, whole_value, bytes_same, line_ok, SpellsCallLine, calls_in, nat_tests, tested, carried}
 use Rattle.script_spelling.proofs.CallsRead.{call_spelled}
 
 -- ---- the calls of each rank, with more
@@ -24,12 +24,9 @@ first_of r c more k = cons_option (cond (r == k) (Some c) None) (more k)
 pub here : (r k : ℕ) (c : Call) (more : ℕ → List Call) → r ≡ k → first_of r c more k ≡ c ∷ more k
 here r k c more e = ap (λ (b : Bool). cons_option (cond b (Some c) None) (more k)) (eq-eqb r k e)
 
-elsewhere : (r k : ℕ) (c : Call) (more : ℕ → List Call) → r < k → first_of r c more k ≡ more k
-elsewhere r k c more low = ap (λ (b : Bool). cons_option (cond b (Some c) None) (more k)) (ne_eqb r k (λ e. omega arith))
-
 all_later : (r a : ℕ) (c : Call) (more : ℕ → List Call) (calls : List (List Call)) → r < a → with_calls more a calls ≡ with_calls (first_of r c more) a calls
 all_later r a c more [] low = refl
-all_later r a c more (own ∷ calls) low = grind (arith, nat_tests, all_later r (a + 1) c more calls (omega arith), elsewhere)
+all_later r a c more (own ∷ calls) low = grind (arith, nat_tests, all_later r (a + 1) c more calls (omega arith))
 
 pub one_first : (more : ℕ → List Call) (a i r : ℕ) (c : Call) (calls : List (List Call)) → a + i ≡ r → with_calls more a (slice_set calls i (calls_of i calls ++ c ∷ [])) ≡ with_calls (first_of r c more) a calls
 one_first more a i r c [] e = refl
@@ -110,24 +107,22 @@ StepTaken d words (false, next) = CallTaken d words next
 step_taken : (d : Called) (w : Word) (ws : List Word) (s : Bool × Called) → call_step d w ws ≡ Ok s → StepTaken d (w ∷ ws) s
 step_taken d Broken ws s h = absurd (cc)
 step_taken d (Quoted text) ws s h = absurd (cc)
-step_taken d (Plain first) ws s h = by (bytes_eq first (codes "end")) refl h
-  where
-    by : (b : Bool) → bytes_eq first (codes "end") ≡ b → elim b as (λ x. Result (Bool × Called) ScriptKind) [ true ↦ whole ((true, d), ws) | false ↦ (called_after d first ws >>= λ more. Ok (false, more)) ] ≡ Ok s → StepTaken d (Plain first ∷ ws) s
-    by true e k =
-        let end = whole_value ((true, d), ws) s k in
-        subst (StepTaken d (Plain first ∷ ws)) end.0 (ap (λ (x : List ℕ). Plain x ∷ ws) (bytes_same first (codes "end") e) ∙ ap (λ (xs : List Word). Plain (codes "end") ∷ xs) end.1, refl)
-    by false e k =
-        let a = went (called_after d first ws) (λ more. Ok (false, more)) s k in
-        subst (StepTaken d (Plain first ∷ ws)) (same_ok (false, a.value) s a.rest) (call_taken d first ws a.value a.first)
+step_taken d (Plain first) ws s h =
+    tested (bytes_eq first (codes "end")) _ _ _ h
+    (λ e k.
+    let end = whole_value ((true, d), ws) s k in
+    subst (StepTaken d (Plain first ∷ ws)) end.0 (ap (λ (x : List ℕ). Plain x ∷ ws) (bytes_same first (codes "end") e) ∙ ap (λ (xs : List Word). Plain (codes "end") ∷ xs) end.1, refl))
+    (λ e k.
+    let a = went (called_after d first ws) _ s k in
+    subst (StepTaken d (Plain first ∷ ws)) (same_ok (false, a.value) s a.rest) (call_taken d first ws a.value a.first))
 
 pub calls_read : (past : ℕ) (d : Called) (lines : List Line) (r : ℕ × (Called × List Line)) → data_part past d lines ≡ Ok r → CallsRead d lines r
 calls_read past d [] r h = absurd (cc)
-calls_read past d (l ∷ lines) r h = by (at_line l.number (call_step d l.first l.rest)) refl h (λ next. calls_read past next lines r)
-  where
-    by : (s : Result (Bool × Called) ScriptErr) → at_line l.number (call_step d l.first l.rest) ≡ s → data_by past l lines s ≡ Ok r → ((next : Called) → data_part past next lines ≡ Ok r → CallsRead next lines r) → CallsRead d (l ∷ lines) r
-    by (Err e) is k more = absurd (cc)
-    by (Ok (true, next)) is k more =
-        let taken = step_taken d l.first l.rest (true, next) (line_ok l.number _ (true, next) is) in
-        let same : (l.number, (d, lines)) ≡ r = ap (λ (x : Called). (l.number, (x, lines))) (sym taken.1) ∙ same_ok (l.number, (next, lines)) r k in
-        subst (CallsRead d (l ∷ lines)) same (ended_calls d l lines taken.0)
-    by (Ok (false, next)) is k more = more_calls d l lines next r (step_taken d l.first l.rest (false, next) (line_ok l.number _ (false, next) is)) (more next k)
+calls_read past d (l ∷ lines) r h =
+    let a = carried (at_line l.number (call_step d l.first l.rest)) _ r h in
+    let told = step_taken d l.first l.rest a.value (line_ok l.number _ a.value a.first) in
+    let next = a.value.1 in
+    let said = λ (b : Bool) (i : a.value.0 ≡ b). subst (λ (x : Bool). StepTaken d (words_of l) (x, next)) i told in
+    tested a.value.0 _ _ _ a.rest
+    (λ i k. subst (CallsRead d (l ∷ lines)) (ap (λ (x : Called). (l.number, (x, lines))) (sym (said true i).1) ∙ same_ok (l.number, (next, lines)) r k) (ended_calls d l lines (said true i).0))
+    (λ i k. more_calls d l lines next r (said false i) (calls_read past next lines r k))

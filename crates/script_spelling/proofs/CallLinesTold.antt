@@ -44,10 +44,9 @@ next_of ranks base r all own behind c lawful at =
     let same : 0 + r ≡ r = omega arith in
     let each = passes_at (λ x. list_all (is_lawful_call ranks x.0) x.1) (enumerate_from 0 all) lawful.each r (0 + r, own ++ c ∷ behind) (entry_numbered 0 all r (own ++ c ∷ behind) at) in
     let here_each = subst (λ (n : ℕ). list_all (is_lawful_call ranks n) (own ++ c ∷ behind) ≡ true) same each in
-    let ids = passes_at (λ x. are_different (posted_ids x)) all lawful.ids r (own ++ c ∷ behind) at in
     record {
       lawful = (and_parts _ _ (and_parts _ _ (sym (list_all-append (is_lawful_call ranks r) own (c ∷ behind)) ∙ here_each)).1).0;
-      new = new_id own behind c ids;
+      new = new_id own behind c (passes_at (λ x. are_different (posted_ids x)) all lawful.ids r (own ++ c ∷ behind) at);
     }
 
 -- ---- a line

@@ -1,8 +1,8 @@
 -- The words of calls that are read spell them, and each rank has the calls of its lines.
-use Rattle.script_spelling.proofs.Words.{◌≡◌, ◌∙◌, ℕ, ◌-◌, List, [], ◌∷◌, ◌++◌, take, drop, length, Bool, true, false, Option, Some, None, option_map, Result, Ok, refl, sym, ap, subst, append-nil, bytes_eq, codes, take-append-drop, cond_some, found_passes, faultless_some, ScriptKind, Values, Numbers, Form, PostKind, Iput, Iget, Bput, Choice, Every, Listed, Given, Call, call_word, form_word, kind_word, with_all, Word, Plain, Quoted, Broken, is_word, ◌>>=◌, refuse_if, or_fault, reads_as, size, name, ended, whole, values, after_prefix, before_suffix, forms, form_of_text, form_and_all, region, id_of_text, one_id, ids, choice, posted, is_posted, new_id, put_call, get_call, post_values, post_call, behind, row_call, plain_call, post_of_text, call_of, Family, Requests, Size, Name, Record, Nothing, Behind, CallRow, call_table, row_of_text, HasNoRegion, IsRow, found_row, made_word, went, same_ok, is_end, whole_value, carried, bytes_same, Each, SpellsPosted, SpellsChoice, SpellsPlace, SpellsBehind, SpellsPlain, SpellsCall, some_of_map, arith, nat_tests}
+use Rattle.script_spelling.proofs.Words.{◌≡◌, ◌∙◌, ℕ, ◌-◌, List, [], ◌∷◌, ◌++◌, take, drop, length, Bool, true, false, Some, None, option_map, Ok, refl, sym, ap, subst, append-nil, bytes_eq, codes, take-append-drop, cond_some, found_passes, faultless_some, Values, Numbers, Form, PostKind, Iput, Iget, Bput, Choice, Every, Listed, Given, Call, call_word, form_word, kind_word, with_all, Word, Plain, Quoted, Broken, is_word, or_fault, size, name, whole, values, after_prefix, before_suffix, forms, form_of_text, form_and_all, region, id_of_text, one_id, ids, choice, posted, is_posted, new_id, put_call, get_call, post_values, post_call, behind, plain_call, post_of_text, call_of, Family, Requests, Size, Name, Record, Nothing, Behind, CallRow, call_table, row_of_text, HasNoRegion, IsRow, found_row, made_word, went, same_ok, whole_value, carried, bytes_same, Each, SpellsPosted, SpellsChoice, SpellsPlace, SpellsBehind, SpellsPlain, SpellsCall, some_of_map, arith, nat_tests, tested, looked, step_then, free_then, end_then}
 use Rattle.nc_base.specs.declared.errors.ScriptKind.TheVariants as kind
 use Rattle.nc_base.specs.declared.request.Call.TheVariants as call
-use Rattle.script_spelling.proofs.WordsRead.{WordRead, word_is, one_is, name_is, size_is}
+use Rattle.script_spelling.proofs.WordsRead.{WordRead, one_is, name_is, size_is, read_then, named_then}
 use Rattle.script_spelling.proofs.ValuesRead.{EachRead, each_on, values_spelled, region_spelled, region_of_form}
 
 -- ---- the words of calls
@@ -23,18 +23,14 @@ form_is : (w : List ℕ) (f : Form) → form_of_text w ≡ Some f → w ≡ form
 form_is w f h = bytes_same w (form_word f) (found_passes (λ (g : Form). bytes_eq w (form_word g)) forms f h)
 
 with_form : (w : List ℕ) (r : Form × Bool) → form_and_all w ≡ Some r → w ≡ with_all r.1 (form_word r.0)
-with_form w r h = by (before_suffix (codes "_all") w) refl h
-  where
-    by : (o : Option (List ℕ)) → before_suffix (codes "_all") w ≡ o → elim o as (λ x. Option (Form × Bool)) [
-      | Some f ↦ option_map (λ x. (x, true)) (form_of_text f)
-      | None ↦ option_map (λ x. (x, false)) (form_of_text w)
-    ] ≡ Some r → w ≡ with_all r.1 (form_word r.0)
-    by (Some f) e k =
-        let m = some_of_map (λ x. (x, true)) (form_of_text f) r k in
-        subst (λ (x : Form × Bool). w ≡ with_all x.1 (form_word x.0)) m.2 (suffixed (codes "_all") w f e ∙ ap (λ (x : List ℕ). x ++ codes "_all") (form_is f m.0 m.1))
-    by None e k =
-        let m = some_of_map (λ x. (x, false)) (form_of_text w) r k in
-        subst (λ (x : Form × Bool). w ≡ with_all x.1 (form_word x.0)) m.2 (form_is w m.0 m.1)
+with_form w r h =
+    looked (before_suffix (codes "_all") w) _ _ _ h
+    (λ e k.
+    let m = some_of_map (λ x. (x, false)) (form_of_text w) r k in
+    subst (λ (x : Form × Bool). w ≡ with_all x.1 (form_word x.0)) m.2 (form_is w m.0 m.1))
+    (λ f e k.
+    let m = some_of_map (λ x. (x, true)) (form_of_text f) r k in
+    subst (λ (x : Form × Bool). w ≡ with_all x.1 (form_word x.0)) m.2 (suffixed (codes "_all") w f e ∙ ap (λ (x : List ℕ). x ++ codes "_all") (form_is f m.0 m.1)))
 
 put_word : (all : Bool) (f : Form) → codes "put_" ++ with_all all (form_word f) ≡ with_all all (codes "put_" ++ form_word f)
 put_word true f = refl
@@ -73,26 +69,22 @@ IsCall w ws c = (w ≡ call_word c) × SpellsCall ws c
 
 put_spelled : (w rest : List ℕ) (all : Bool) (f : Form) (before : ℕ) (ws : List Word) (c : Call) → w ≡ codes "put_" ++ rest → rest ≡ with_all all (form_word f) → put_call all f before ws ≡ Ok c → IsCall w ws c
 put_spelled w rest all f before ws c a b h =
-    let n = went (name ws) _ c h in
-    let g = went (region f n.value.1) _ c n.rest in
-    let vs = went (values None before g.value.1) _ c g.rest in
-    let place = place_spelled f ws n.value g.value n.first g.first in
-    subst (IsCall w ws) (same_ok (call.Put all n.value.0 g.value.0 vs.value) c vs.rest) (
+    step_then (name ws) _ c h (λ n named h. step_then (region f n.1) _ c h (λ g told h. step_then (values None before g.1) _ c h (λ vs spelt h.
+    let place = place_spelled f ws n g named told in
+    subst (IsCall w ws) (same_ok (call.Put all n.0 g.0 vs) c h) (
       a ∙ (ap (λ (x : List ℕ). codes "put_" ++ x) b ∙ (put_word all f ∙ ap (λ (k : Form). with_all all (codes "put_" ++ form_word k)) (sym place.same_form))),
-      (place.place, g.value.1, place.are, place.spells, values_spelled None before g.value.1 vs.value vs.first),
-    )
+      (place.place, g.1, place.are, place.spells, values_spelled None before g.1 vs spelt),
+    ))))
 
 get_spelled : (w rest : List ℕ) (all : Bool) (f : Form) (ws : List Word) (c : Call) → w ≡ codes "get_" ++ rest → rest ≡ with_all all (form_word f) → get_call all f ws ≡ Ok c → IsCall w ws c
 get_spelled w rest all f ws c a b h =
-    let n = went (name ws) _ c h in
-    let g = went (region f n.value.1) _ c n.rest in
-    let u = went (ended g.value.1) _ c g.rest in
-    let place = place_spelled f ws n.value g.value n.first g.first in
-    let are : place.place ≡ ws = sym (place.are ∙ (ap (λ (xs : List Word). place.place ++ xs) (is_end g.value.1 u.value u.first) ∙ append-nil place.place)) in
-    subst (IsCall w ws) (same_ok (call.Get all n.value.0 g.value.0) c u.rest) (
+    step_then (name ws) _ c h (λ n named h. step_then (region f n.1) _ c h (λ g told h. end_then g.1 _ c h (λ none h.
+    let place = place_spelled f ws n g named told in
+    let are : place.place ≡ ws = sym (place.are ∙ (ap (λ (xs : List Word). place.place ++ xs) none ∙ append-nil place.place)) in
+    subst (IsCall w ws) (same_ok (call.Get all n.0 g.0) c h) (
       a ∙ (ap (λ (x : List ℕ). codes "get_" ++ x) b ∙ (get_word all f ∙ ap (λ (k : Form). with_all all (codes "get_" ++ form_word k)) (sym place.same_form))),
-      subst (λ (xs : List Word). SpellsPlace xs n.value.0 g.value.0) are place.spells,
-    )
+      subst (λ (xs : List Word). SpellsPlace xs n.0 g.0) are place.spells,
+    ))))
 
 posted_spelled : (k : PostKind) (before : ℕ) (ws : List Word) (vs : Values) → post_values k before ws ≡ Ok vs → SpellsPosted k ws vs
 posted_spelled Iget before ws vs h = let k = whole_value (Numbers [], ws) vs h in (k.1, sym k.0)
@@ -102,26 +94,14 @@ posted_spelled Bput before ws vs h = values_spelled None before ws vs h
 post_spelled : (w : List ℕ) (k : PostKind) (rest : List ℕ) (posted_before : List ℕ) (f : Form) (before : ℕ) (ws : List Word) (c : Call)
     → w ≡ kind_word k ++ rest → rest ≡ form_word f → post_call k posted_before f before ws ≡ Ok c → IsCall w ws c
 post_spelled w k rest posted_before f before ws c a b h =
-    let i = went (new_id posted_before ws) _ c h in
-    let n = went (name i.value.1) _ c i.rest in
-    let g = went (region f n.value.1) _ c n.rest in
-    let vs = went (post_values k before g.value.1) _ c g.rest in
-    let r = went (reads_as id_of_text kind.BadNumber ws) _ i.value i.first in
-    let u = went (refuse_if (is_posted r.value.0 posted_before) kind.TwiceNamed) _ i.value r.rest in
-    let id = subst (WordRead id_of_text ws) (same_ok r.value i.value u.rest) (word_is id_of_text kind.BadNumber ws r.value refl r.first) in
-    let place = place_spelled f i.value.1 n.value g.value n.first g.first in
-    subst (IsCall w ws) (same_ok (call.Post i.value.0 k n.value.0 g.value.0 vs.value) c vs.rest) (
+    step_then (new_id posted_before ws) _ c h (λ i new h. step_then (name i.1) _ c h (λ n named h. step_then (region f n.1) _ c h (λ g told h. step_then (post_values k before g.1) _ c h (λ vs spelt h.
+    read_then id_of_text _ ws _ i refl new (λ r said j. free_then (is_posted r.0 posted_before) _ _ i j (λ free j.
+    let id = subst (WordRead id_of_text ws) (same_ok r i j) said in
+    let place = place_spelled f i.1 n g named told in
+    subst (IsCall w ws) (same_ok (call.Post i.0 k n.0 g.0 vs) c h) (
       a ∙ ap (λ (x : List ℕ). kind_word k ++ x) (b ∙ ap form_word (sym place.same_form)),
-      (
-        id.word,
-        place.place,
-        g.value.1,
-        id.are ∙ ap (λ (xs : List Word). Plain id.word ∷ xs) place.are,
-        id.says,
-        place.spells,
-        posted_spelled k before g.value.1 vs.value vs.first,
-      ),
-    )
+      (id.word, place.place, g.1, id.are ∙ ap (λ (xs : List Word). Plain id.word ∷ xs) place.are, id.says, place.spells, posted_spelled k before g.1 vs spelt),
+    )))))))
 
 -- ---- calls of no form
 
@@ -138,16 +118,15 @@ plain_word text Broken h = absurd (cc)
 
 choice_spelled : (ws : List Word) (c : Choice) → choice ws ≡ Ok c → SpellsChoice ws c
 choice_spelled [] c h = subst (SpellsChoice []) (same_ok (Listed []) c h) tt
-choice_spelled (w ∷ ws) c h = by (is_word (codes "all") w) refl h
-  where
-    by : (b : Bool) → is_word (codes "all") w ≡ b → elim b as (λ x. Result Choice ScriptKind) [ true ↦ whole (Every, ws) | false ↦ (ids [] (w ∷ ws) >>= λ found. Ok (Listed found)) ] ≡ Ok c → SpellsChoice (w ∷ ws) c
-    by true e k =
-        let end = whole_value (Every, ws) c k in
-        subst (SpellsChoice (w ∷ ws)) end.0 (ap (λ (x : Word). x ∷ ws) (plain_word (codes "all") w e) ∙ ap (λ (xs : List Word). Plain (codes "all") ∷ xs) end.1)
-    by false e k =
-        let a = went (ids [] (w ∷ ws)) (λ found. Ok (Listed found)) c k in
-        let each = ids_spelled [] (w ∷ ws) a.value a.first in
-        subst (SpellsChoice (w ∷ ws)) (same_ok (Listed a.value) c a.rest) (subst (Each id_of_text (w ∷ ws)) (sym each.are) each.spells)
+choice_spelled (w ∷ ws) c h =
+    tested (is_word (codes "all") w) _ _ _ h
+    (λ e k.
+    let end = whole_value (Every, ws) c k in
+    subst (SpellsChoice (w ∷ ws)) end.0 (ap (λ (x : Word). x ∷ ws) (plain_word (codes "all") w e) ∙ ap (λ (xs : List Word). Plain (codes "all") ∷ xs) end.1))
+    (λ e k.
+    let a = went (ids [] (w ∷ ws)) _ c k in
+    let each = ids_spelled [] (w ∷ ws) a.value a.first in
+    subst (SpellsChoice (w ∷ ws)) (same_ok (Listed a.value) c a.rest) (subst (Each id_of_text (w ∷ ws)) (sym each.are) each.spells))
 
 one_word : (w : List ℕ) (ws rest : List Word) → ws ≡ Plain w ∷ rest → rest ≡ [] → ws ≡ Plain w ∷ []
 one_word w ws rest a b = a ∙ ap (λ (xs : List Word). Plain w ∷ xs) b
@@ -156,18 +135,12 @@ behind_spelled : (f : Family) (ws : List Word) (b : Behind f) → behind f ws �
 behind_spelled Requests ws c h = choice_spelled ws c h
 behind_spelled Size ws n h = grind (arith, nat_tests, went, size_is, whole_value, one_word)
 behind_spelled Name ws n h =
-    let a = went (name ws) whole n h in
-    let s = name_is ws a.value a.first in
-    let end = whole_value a.value n a.rest in
-    subst (SpellsBehind ws Name) end.0 (one_word a.value.0 ws a.value.1 s.are end.1, s.named)
+    named_then ws whole n h (λ a s h. let end = whole_value a n h in subst (SpellsBehind ws Name) end.0 (one_word a.0 ws a.1 s.are end.1, s.named))
 behind_spelled Record ws v h =
-    let a = went (name ws) _ v h in
-    let b = went (size a.value.1) _ v a.rest in
-    let n = name_is ws a.value a.first in
-    let s = size_is a.value.1 b.value b.first in
-    let end = whole_value ((a.value.0, b.value.0), b.value.1) v b.rest in
-    let are = n.are ∙ ap (λ (xs : List Word). Plain a.value.0 ∷ xs) (one_word s.word a.value.1 b.value.1 s.are end.1) in
-    subst (SpellsBehind ws Record) end.0 (s.word, are, n.named, s.says)
+    named_then ws _ v h (λ a n h. step_then (size a.1) _ v h (λ b is h.
+    let s = size_is a.1 b is in
+    let end = whole_value ((a.0, b.0), b.1) v h in
+    subst (SpellsBehind ws Record) end.0 (s.word, n.are ∙ ap (λ (xs : List Word). Plain a.0 ∷ xs) (one_word s.word a.1 b.1 s.are end.1), n.named, s.says)))
 behind_spelled Nothing ws u h = (whole_value (tt, ws) u h).1
 
 -- a call that a row makes is spelled by what stands behind the row's word
@@ -179,38 +152,24 @@ apart_spelled c ws apart h = grind (arith, nat_tests)
 
 plain_spelled : (ranks r : ℕ) (w : List ℕ) (ws : List Word) (c : Call) → plain_call ranks r w ws ≡ Ok c → IsCall w ws c
 plain_spelled ranks r w ws c h =
-    let a = went (or_fault kind.UnknownWord (row_of_text w)) (λ row. row_call ranks r row ws) c h in
-    let row = a.value in
-    let there = faultless_some kind.UnknownWord (row_of_text w) row a.first in
+    step_then (or_fault kind.UnknownWord (row_of_text w)) _ c h (λ row given h. step_then (behind row.family ws) _ c h (λ b told h.
+    let there = faultless_some kind.UnknownWord (row_of_text w) row given in
     let is = found_row w row there in
-    let d = went (behind row.family ws) (λ x. Ok (row.made ranks r x)) c a.rest in
     let same_word = bytes_same w row.word (found_passes (λ (x : CallRow). bytes_eq w x.word) call_table row there) in
-    let spells = made_spelled row is ranks r d.value ws (behind_spelled row.family ws d.value d.first) in
-    subst (IsCall w ws) (same_ok (row.made ranks r d.value) c d.rest) (
-      same_word ∙ sym (made_word row is ranks r d.value),
-      apart_spelled (row.made ranks r d.value) ws (is.apart ranks r d.value) spells,
-    )
+    let spells = made_spelled row is ranks r b ws (behind_spelled row.family ws b told) in
+    subst (IsCall w ws) (same_ok (row.made ranks r b) c h) (same_word ∙ sym (made_word row is ranks r b), apart_spelled (row.made ranks r b) ws (is.apart ranks r b) spells)))
 
 pub call_spelled : (ranks r : ℕ) (own : List Call) (before : ℕ) (w : List ℕ) (ws : List Word) (c : Call) → call_of ranks r own before w ws ≡ Ok c → IsCall w ws c
-call_spelled ranks r own before w ws c h = by (after_prefix (codes "put_") w) (after_prefix (codes "get_") w) (post_of_text w) refl refl refl h
-  where
-    by : (i j : Option (List ℕ)) (k : Option (PostKind × List ℕ)) → after_prefix (codes "put_") w ≡ i → after_prefix (codes "get_") w ≡ j → post_of_text w ≡ k → elim i as (λ x. Result Call ScriptKind) [
-      | Some rest ↦ (or_fault kind.UnknownWord (form_and_all rest) >>= λ f. put_call f.1 f.0 before ws)
-      | None ↦ elim j as (λ x. Result Call ScriptKind) [
-        | Some rest ↦ (or_fault kind.UnknownWord (form_and_all rest) >>= λ f. get_call f.1 f.0 ws)
-        | None ↦ elim k as (λ x. Result Call ScriptKind) [
-          | Some p ↦ (or_fault kind.UnknownWord (form_of_text p.1) >>= λ f. post_call p.0 (posted own) f before ws)
-          | None ↦ plain_call ranks r w ws
-        ]
-      ]
-    ] ≡ Ok c → IsCall w ws c
-    by (Some rest) j k a b d e =
-        let f = went (or_fault kind.UnknownWord (form_and_all rest)) (λ x. put_call x.1 x.0 before ws) c e in
-        put_spelled w rest f.value.1 f.value.0 before ws c (prefixed (codes "put_") w rest a) (with_form rest f.value (faultless_some kind.UnknownWord (form_and_all rest) f.value f.first)) f.rest
-    by None (Some rest) k a b d e =
-        let f = went (or_fault kind.UnknownWord (form_and_all rest)) (λ x. get_call x.1 x.0 ws) c e in
-        get_spelled w rest f.value.1 f.value.0 ws c (prefixed (codes "get_") w rest b) (with_form rest f.value (faultless_some kind.UnknownWord (form_and_all rest) f.value f.first)) f.rest
-    by None None (Some p) a b d e =
-        let f = went (or_fault kind.UnknownWord (form_of_text p.1)) (λ x. post_call p.0 (posted own) x before ws) c e in
-        post_spelled w p.0 p.1 (posted own) f.value before ws c (post_word w p d) (form_is p.1 f.value (faultless_some kind.UnknownWord (form_of_text p.1) f.value f.first)) f.rest
-    by None None None a b d e = plain_spelled ranks r w ws c e
+call_spelled ranks r own before w ws c h =
+    looked (after_prefix (codes "put_") w) _ _ _ h
+    (λ i e. looked (after_prefix (codes "get_") w) _ _ _ e
+    (λ j l. looked (post_of_text w) _ _ _ l (λ k. plain_spelled ranks r w ws c)
+    (λ p k m.
+    let f = went (or_fault kind.UnknownWord (form_of_text p.1)) _ c m in
+    post_spelled w p.0 p.1 (posted own) f.value before ws c (post_word w p k) (form_is p.1 f.value (faultless_some kind.UnknownWord (form_of_text p.1) f.value f.first)) f.rest))
+    (λ rest j l.
+    let f = went (or_fault kind.UnknownWord (form_and_all rest)) _ c l in
+    get_spelled w rest f.value.1 f.value.0 ws c (prefixed (codes "get_") w rest j) (with_form rest f.value (faultless_some kind.UnknownWord (form_and_all rest) f.value f.first)) f.rest))
+    (λ rest i e.
+    let f = went (or_fault kind.UnknownWord (form_and_all rest)) _ c e in
+    put_spelled w rest f.value.1 f.value.0 before ws c (prefixed (codes "put_") w rest i) (with_form rest f.value (faultless_some kind.UnknownWord (form_and_all rest) f.value f.first)) f.rest)

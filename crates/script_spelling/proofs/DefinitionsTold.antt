@@ -3,7 +3,7 @@ use Rattle.script_spelling.proofs.Words.{◌≡◌, ◌∙◌, ℕ, suc, ◌+◌
 use Rattle.nc_base.specs.declared.errors.ScriptKind.TheVariants as kind
 use Rattle.nc_base.specs.declared.script.Extra.TheVariants as extra
 use Rattle.script_spelling.proofs.GrownVars.{are_apart, apart_pushed, names_pushed, names_kept, later_names, GrownVars}
-use Rattle.script_spelling.proofs.TakenLines.{flag, Part, Grown, Fine, hint_here, hint_elsewhere, differ}
+use Rattle.script_spelling.proofs.TakenLines.{flag, Part, Grown, Fine, hint_here, hint_elsewhere, differ, grown_with}
 use Rattle.script_spelling.proofs.NewDefinitions.{defined_next}
 use Rattle.script_spelling.proofs.AddedDefinitions.{added_next}
 use Rattle.script_spelling.proofs.KnownRead.{lines_version}
@@ -96,12 +96,7 @@ new_dim_led version k words d ss last new sound (w, are, named, told) g =
     let ws = Plain d.name ∷ Plain w ∷ [] in
     defined_led version k words ss last (codes "dim") ws r new refl refl refl are
     (go_on (dim_line version k.defined.dims ws) (λ x. Ok (0, with_dim x k.defined)) d r (dim_told version k.defined.dims d w named told g.part.4.0) refl)
-    (record { fine = record { long = sound.fine.long; apart = sound.fine.apart }; counted = omega (arith, sound.counted) }) (record {
-      ranks = g.ranks;
-      hints = g.hints;
-      filled = g.filled;
-      part = (g.part.0, g.part.1 ∙ sym (append_assoc k.defined.dims (d ∷ []) (dims_in ss)), g.part.2, g.part.3, g.part.4.1);
-    })
+    (record { fine = record { long = sound.fine.long; apart = sound.fine.apart }; counted = omega (arith, sound.counted) }) (grown_with g.ranks g.hints g.filled (g.part.0, g.part.1 ∙ sym (append_assoc k.defined.dims (d ∷ []) (dims_in ss)), g.part.2, g.part.3, g.part.4.1))
 
 new_var_led : (version : ℕ) (k : Known) (words : List Word) (line : VarLine) (ss : List Statement) (last : Known) → (version == 0) ≡ false → Sound k → Says version words (VarIs line) → Grown false k (VarIs line ∷ ss) last
     → Led false version k words ss last
@@ -119,18 +114,13 @@ new_var_led version k words line ss last new sound (w, brackets, inside, are, ki
     (go_on (var_line version d.dims d.vars ws) (λ x. Ok (0, with_var x d)) v r (var_told version d.dims d.vars line said stands) refl) (record {
       fine = record { long = sound.fine.long; apart = subst (λ (ns : List (List ℕ)). are_apart ns ≡ true) (sym names) (apart_pushed (var_names d.vars) line.name sound.fine.apart stands.0) };
       counted = omega (arith, sound.counted, count-var d.vars v refl);
-    }) (record {
-      ranks = g.ranks;
-      hints = g.hints;
-      filled = g.filled;
-      part = (
-        g.part.0,
-        g.part.1,
-        g.part.2,
-        var_behind last.defined.dims (λ n. attrs_of n ss) d.vars line (vars_in ss) ids last.defined.vars found g.part.3,
-        subst (λ (ns : List (List ℕ)). Stand false d.dims ns d.titles ss) (sym names) g.part.4.1,
-      );
-    })
+    }) (grown_with g.ranks g.hints g.filled (
+      g.part.0,
+      g.part.1,
+      g.part.2,
+      var_behind last.defined.dims (λ n. attrs_of n ss) d.vars line (vars_in ss) ids last.defined.vars found g.part.3,
+      subst (λ (ns : List (List ℕ)). Stand false d.dims ns d.titles ss) (sym names) g.part.4.1,
+    ))
 
 -- the values of an attribute have room
 attr_room : (opened : Bool) (k next : Known) (ss : List Statement) (last : Known) (a : Attr) (vs : Values) → k.values ≡ total k → total next ≡ total k + a.count → Part opened next ss last → total last ≤ most_values → a.count ≡ count_of vs
@@ -145,12 +135,7 @@ new_own_led version k words a ss last new few sound (w, given, vs, are, is, name
     let rest = Plain a.name ∷ Plain w ∷ given in
     let r : ℕ × Defined = (a.count, with_title colon a.name (with_attr_of_owner None a d)) in
     let next : Known = defined_next k r in
-    let after : Grown false next ss last = record {
-      ranks = g.ranks;
-      hints = g.hints;
-      filled = g.filled;
-      part = (g.part.0, g.part.1, g.part.2 ∙ sym (append_assoc d.attrs (a ∷ []) (own_attrs ss)), g.part.3, g.part.4.2);
-    } in
+    let after : Grown false next ss last = grown_with g.ranks g.hints g.filled (g.part.0, g.part.1, g.part.2 ∙ sym (append_assoc d.attrs (a ∷ []) (own_attrs ss)), g.part.3, g.part.4.2) in
     let more : total next ≡ total k + a.count = omega (arith, count-attr d.attrs a) in
     let room = attr_room false k next ss last a vs sound.counted more after.part few (ap (λ (x : Attr). x.count) same) in
     let read : att_line version k.values d (Plain colon ∷ rest) ≡ Ok r =
@@ -172,19 +157,14 @@ new_attr_led version k words owner a ss last new few sound (w, given, vs, are, i
     let names : var_names (with_attr_at p.place a d.vars) ≡ var_names d.vars = ap var_names vars ∙ names_kept p.place a d.vars in
     let more_attrs = λ (n : List ℕ). attrs_of n ss in
     let later = later_names false d.dims (var_names d.vars) (d.titles ++ title_of (Some owner) a ∷ []) ss owner g.part.4.2 there in
-    let after : Grown false next ss last = record {
-      ranks = g.ranks;
-      hints = g.hints;
-      filled = g.filled;
-      part = (
-        g.part.0,
-        g.part.1,
-        g.part.2,
-        subst (λ (xs : List Var). GrownVars last.defined.dims more_attrs xs (vars_in ss) last.defined.vars) (sym vars)
-            (attr_behind last.defined.dims more_attrs owner a p.place d.vars (vars_in ss) last.defined.vars p.found sound.fine.apart later g.part.3),
-        subst (λ (ns : List (List ℕ)). Stand false d.dims ns (d.titles ++ (owner, a.name) ∷ []) ss) (sym names) g.part.4.2,
-      );
-    } in
+    let after : Grown false next ss last = grown_with g.ranks g.hints g.filled (
+      g.part.0,
+      g.part.1,
+      g.part.2,
+      subst (λ (xs : List Var). GrownVars last.defined.dims more_attrs xs (vars_in ss) last.defined.vars) (sym vars)
+          (attr_behind last.defined.dims more_attrs owner a p.place d.vars (vars_in ss) last.defined.vars p.found sound.fine.apart later g.part.3),
+      subst (λ (ns : List (List ℕ)). Stand false d.dims ns (d.titles ++ (owner, a.name) ∷ []) ss) (sym names) g.part.4.2,
+    ) in
     let pushed = ap count_own vars ∙ count-pushed p.place owner a d.vars (found_name owner d.vars p.place p.found) in
     let more : total next ≡ total k + a.count = omega (arith, pushed) in
     let room = attr_room false k next ss last a vs sound.counted more after.part few (ap (λ (x : Attr). x.count) same) in
@@ -248,12 +228,7 @@ added_att_led version k words owner a ss last old few sound (w, given, vs, are, 
     let rest = Plain a.name ∷ Plain w ∷ given in
     let r : ℕ × Added = (a.count, record d { titles = d.titles ++ (word, a.name) ∷ []; extras = d.extras ++ extra.Att owner a ∷ [] }) in
     let next : Known = added_next k r in
-    let after : Grown true next ss last = record {
-      ranks = g.ranks;
-      hints = g.hints;
-      filled = g.filled;
-      part = (g.part.0, g.part.1 ∙ sym (append_assoc d.extras (extra.Att owner a ∷ []) (extras_in ss)), g.part.2.2);
-    } in
+    let after : Grown true next ss last = grown_with g.ranks g.hints g.filled (g.part.0, g.part.1 ∙ sym (append_assoc d.extras (extra.Att owner a ∷ []) (extras_in ss)), g.part.2.2) in
     let more : total next ≡ total k + a.count = omega (arith, extras_pushed d.extras (extra.Att owner a)) in
     let room = attr_room true k next ss last a vs sound.counted more after.part few (ap (λ (x : Attr). x.count) same) in
     added_led version k words ss last (codes "att") (Plain word ∷ rest) r old refl refl refl are

@@ -19,10 +19,9 @@ pub apart_pushed : (names : List (List ℕ)) (n : List ℕ) → are_apart names 
 apart_pushed [] n all new = refl
 apart_pushed (m ∷ names) n all new =
     let both = and_parts (not (is_among m names)) (are_apart names) all in
-    let other = or_parts (bytes_eq n m) (is_among n names) new in
     let not_n = not_same m n (m ∷ names) (or_left _ _ (bytes_own m)) new in
     let fresh : is_among m (names ++ n ∷ []) ≡ false = list_any-append (bytes_eq m) names (n ∷ []) ∙ or_from _ _ (not-true (is_among m names) both.0) (or_from _ _ not_n refl) in
-    and_from _ _ (not_from_false _ fresh) (apart_pushed names n both.1 other.1)
+    and_from _ _ (not_from_false _ fresh) (apart_pushed names n both.1 (or_parts (bytes_eq n m) (is_among n names) new).1)
 
 pub names_pushed : (vars : List Var) (v : Var) → var_names (vars ++ v ∷ []) ≡ var_names vars ++ v.name ∷ []
 names_pushed vars v = map-append (λ (x : Var). x.name) vars (v ∷ [])

@@ -27,14 +27,11 @@ step_told version k next ws h = grind (arith, nat_tests, step_again)
 same_one : (o p : Option ℕ) → at_most_one o ≡ at_most_one p ++ [] → p ≡ o
 same_one o p h = grind (arith, nat_tests)
 
-data_read : (version n : ℕ) (k last : Known) → last.ranks ≡ Some n → at_most_one last.ranks ≡ at_most_one k.ranks ++ [] → step_by version k (Plain (codes "data") ∷ []) ≡ Ok (Some n, k)
-data_read version n k last told same = grind (arith, nat_tests, same_one)
-
 pub definitions_told : (opened : Bool) (past version n : ℕ) (own : List (List Word)) (ss : List Statement) (k : Known) (lines : List Line) (more : List (List Word)) (last : Known) → (version == 0) ≡ opened → total last ≤ most_values
     → last.ranks ≡ Some n → Sound k → map words_of lines ≡ own ++ (Plain (codes "data") ∷ []) ∷ more → AllZip (Says (lines_version opened version)) own ss → Grown opened k ss last
     → DefinitionsTold opened past version n k lines more last
 definitions_told opened past version n [] [] k [] more last e few ranks sound are say g = absurd (cc)
-definitions_told opened past version n [] [] k (l ∷ lines) more last e few ranks sound are say g = grind (arith, nat_tests, first_same, data_read)
+definitions_told opened past version n [] [] k (l ∷ lines) more last e few ranks sound are say g = grind (arith, nat_tests, first_same)
 definitions_told opened past version n [] (s ∷ ss) k lines more last e few ranks sound are say g = absurd say
 definitions_told opened past version n (ws ∷ own) [] k lines more last e few ranks sound are say g = absurd say
 definitions_told opened past version n (ws ∷ own) (s ∷ ss) k [] more last e few ranks sound are say g = absurd (cc)

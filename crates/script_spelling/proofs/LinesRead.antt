@@ -1,9 +1,9 @@
 -- What the words of a line between the head and `data` say, where they are read, and that it may stand there.
-use Rattle.script_spelling.proofs.Words.{◌≡◌, ◌∙◌, ℕ, zero, suc, ◌<◌, ◌≤◌, List, [], ◌∷◌, position, drop, length, Bool, true, false, not, cond, nat_lt, nat_le, ◌==◌, ◌&&◌, Option, Some, None, is_some, is_none, slice_get, unwrap_or, Ok, refl, sym, ap, subst, arith, bytes_eq, codes, list_any, list_all, and_parts, length-map, cond_some, none_of_test, not_some, some_of_map, faultless_some, NcType, Dim, Attr, Var, most_dims, most_dims_of_var, most_vars, Word, Plain, is_name, between_brackets, parts, all_some, refuse_if, or_fault, reads_as, name, name_of_text, ended, values, HintForm, Within, Either, HintRow, hint_table, hint_form, hint_of_text, no_row, hint_in, hint_value, hint_line, ranks_line, number_within, one_of_two, type_of, length_of_text, is_among, dim_names, dim_ids, is_unlimited, is_record_dim, is_added_record, dim_line, var_head, name_list, shape, added_shape, var_names, var_line, owner_of_text, owner_name, Title, same_title, attr_of, attribute_name, attribute, went, same_ok, not_refused, is_end, bytes_same, VarLine, RanksAre, HintIs, DimIs, VarIs, AttIs, hint_value_of, owner_word, IsOwner, Says, DimStands, VarStands, nat_tests}
+use Rattle.script_spelling.proofs.Words.{◌≡◌, ◌∙◌, ℕ, zero, suc, ◌<◌, ◌≤◌, List, [], ◌∷◌, position, length, Bool, true, false, not, cond, Option, Some, None, is_some, is_none, slice_get, unwrap_or, Ok, refl, sym, ap, subst, arith, bytes_eq, codes, list_any, list_all, and_parts, length-map, cond_some, none_of_test, not_some, some_of_map, faultless_some, NcType, Dim, Attr, Var, most_dims, most_dims_of_var, most_vars, Word, Plain, is_name, between_brackets, parts, all_some, or_fault, reads_as, name, name_of_text, values, HintForm, Within, Either, HintRow, hint_table, hint_form, hint_of_text, no_row, hint_in, hint_value, hint_line, ranks_line, number_within, one_of_two, type_of, length_of_text, is_among, dim_ids, dim_line, var_head, name_list, shape, added_shape, var_names, var_line, owner_of_text, owner_name, Title, same_title, attr_of, attribute_name, attribute, same_ok, bytes_same, VarLine, RanksAre, HintIs, DimIs, VarIs, AttIs, hint_value_of, owner_word, IsOwner, Says, DimStands, VarStands, nat_tests, step_then, free_then, end_then}
 use borrow.Author.Tests.{not-false, leb-false, ltb-false}
 use Rattle.nc_base.specs.declared.errors.ScriptKind.TheVariants as kind
 use Rattle.nc_base.specs.declared.errors.LimitName.TheVariants as limit
-use Rattle.script_spelling.proofs.WordsRead.{WordRead, word_is, NameRead, name_is}
+use Rattle.script_spelling.proofs.WordsRead.{WordRead, word_is, NameRead, read_then, named_then}
 use Rattle.script_spelling.proofs.ValuesRead.{values_spelled}
 
 pub two_words : (first one : List ℕ) (ws a : List Word) → ws ≡ Plain one ∷ a → a ≡ [] → Plain first ∷ ws ≡ Plain first ∷ Plain one ∷ []
@@ -34,33 +34,21 @@ pub record HintSaid (version : ℕ) (hints : List (Option ℕ)) (words : List Wo
 
 pub hint_said : (version : ℕ) (hints : List (Option ℕ)) (ws : List Word) (r : ℕ × ℕ) → hint_line hints ws ≡ Ok r → HintSaid version hints (Plain (codes "hint") ∷ ws) r
 hint_said version hints ws r h =
-    let a = went (reads_as hint_of_text kind.UnknownWord ws) _ r h in
-    let b = went (refuse_if (is_some (hint_in a.value.0 hints)) kind.TwiceNamed) _ r a.rest in
-    let c = went (hint_value (hint_form a.value.0) a.value.1) _ r b.rest in
-    let d = went (ended c.value.1) _ r c.rest in
-    let n = word_is hint_of_text kind.UnknownWord ws a.value refl a.first in
-    let v = hint_word (hint_form a.value.0) a.value.1 c.value (no_quote hint_table a.value.0 refl) c.first in
-    subst (HintSaid version hints (Plain (codes "hint") ∷ ws)) (same_ok (a.value.0, c.value.0) r d.rest) (record {
-      says = (n.word, v.word, three_words (codes "hint") n.word v.word ws a.value.1 c.value.1 n.are v.are (is_end c.value.1 d.value d.first), n.says, v.says);
-      free = not_some (hint_in a.value.0 hints) (not_refused _ _ b.value b.first);
-    })
+    read_then hint_of_text _ ws _ r refl h (λ n w h. free_then (is_some (hint_in n.0 hints)) _ _ r h (λ free h. step_then (hint_value (hint_form n.0) n.1) _ r h (λ v told h. end_then v.1 _ r h (λ none h.
+    let x = hint_word (hint_form n.0) n.1 v (no_quote hint_table n.0 refl) told in
+    subst (HintSaid version hints (Plain (codes "hint") ∷ ws)) (same_ok (n.0, v.0) r h)
+    (record { says = (w.word, x.word, three_words (codes "hint") w.word x.word ws n.1 v.1 w.are x.are none, w.says, x.says); free = not_some (hint_in n.0 hints) free })))))
 
 -- ---- dimensions
 
 pub dim_said : (version : ℕ) (dims : List Dim) (ws : List Word) (d : Dim) → dim_line version dims ws ≡ Ok d → Says version (Plain (codes "dim") ∷ ws) (DimIs d) × DimStands dims d
 dim_said version dims ws d h =
-    let a = went (name ws) _ d h in
-    let b = went (refuse_if (is_among a.value.0 (dim_names dims)) kind.TwiceNamed) _ d a.rest in
-    let c = went (refuse_if (nat_le most_dims (length dims)) (kind.Limit limit.Dims)) _ d b.rest in
-    let e = went (reads_as (length_of_text version) kind.BadNumber a.value.1) _ d c.rest in
-    let f = went (refuse_if (e.value.0 == 0 && list_any is_unlimited dims) kind.BadShape) _ d e.rest in
-    let g = went (ended e.value.1) _ d f.rest in
-    let n = name_is ws a.value a.first in
-    let w = word_is (length_of_text version) kind.BadNumber a.value.1 e.value refl e.first in
-    subst (λ (x : Dim). Says version (Plain (codes "dim") ∷ ws) (DimIs x) × DimStands dims x) (same_ok (record { name = a.value.0; len = e.value.0 }) d g.rest) (
-      (w.word, three_words (codes "dim") a.value.0 w.word ws a.value.1 e.value.1 n.are w.are (is_end e.value.1 g.value g.first), n.named, w.says),
-      (not_refused _ _ b.value b.first, leb-false most_dims (length dims) (not_refused _ _ c.value c.first), not_refused _ _ f.value f.first),
-    )
+    named_then ws _ d h (λ a n h. free_then _ _ _ d h (λ fresh h. free_then _ _ _ d h (λ room h.
+    read_then (length_of_text version) _ a.1 _ d refl h (λ e w h. free_then _ _ _ d h (λ one h. end_then e.1 _ d h (λ none h.
+    subst (λ (x : Dim). Says version (Plain (codes "dim") ∷ ws) (DimIs x) × DimStands dims x) (same_ok (record { name = a.0; len = e.0 }) d h) (
+      (w.word, three_words (codes "dim") a.0 w.word ws a.1 e.1 n.are w.are none, n.named, w.says),
+      (fresh, leb-false most_dims (length dims) room, one),
+    )))))))
 
 -- ---- variables
 
@@ -74,20 +62,15 @@ pub record HeadSaid (version : ℕ) (names : List (List ℕ)) (ws : List Word) (
 
 pub head_said : (version : ℕ) (names : List (List ℕ)) (ws : List Word) (r : (NcType × List ℕ) × List Word) → var_head version names ws ≡ Ok r → HeadSaid version names ws r
 head_said version names ws r h =
-    let a = went (reads_as (type_of version) kind.UnknownWord ws) _ r h in
-    let b = went (name a.value.1) _ r a.rest in
-    let c = went (refuse_if (is_among b.value.0 names) kind.TwiceNamed) _ r b.rest in
-    let d = went (refuse_if (nat_le most_vars (length names)) (kind.Limit limit.Vars)) _ r c.rest in
-    let w = word_is (type_of version) kind.UnknownWord ws a.value refl a.first in
-    let n = name_is a.value.1 b.value b.first in
-    subst (HeadSaid version names ws) (same_ok ((a.value.0, b.value.0), b.value.1) r d.rest) (record {
+    read_then (type_of version) _ ws _ r refl h (λ a w h. named_then a.1 _ r h (λ b n h. free_then _ _ _ r h (λ fresh h. free_then _ _ _ r h (λ room h.
+    subst (HeadSaid version names ws) (same_ok ((a.0, b.0), b.1) r h) (record {
       word = w.word;
       are = w.are ∙ ap (λ (xs : List Word). Plain w.word ∷ xs) n.are;
       kind = w.says;
       named = n.named;
-      fresh = not_refused _ _ c.value c.first;
-      room = leb-false most_vars (length names) (not_refused _ _ d.value d.first);
-    })
+      fresh = fresh;
+      room = leb-false most_vars (length names) room;
+    })))))
 
 pub record NamesSaid (ws : List Word) (r : List (List ℕ) × List Word) : Type 0 where
   pub word : List ℕ
@@ -99,11 +82,8 @@ pub record NamesSaid (ws : List Word) (r : List (List ℕ) × List Word) : Type 
 
 pub names_said : (ws : List Word) (r : List (List ℕ) × List Word) → name_list ws ≡ Ok r → NamesSaid ws r
 names_said ws r h =
-    let a = went (reads_as between_brackets kind.BadNumber ws) _ r h in
-    let b = went (refuse_if (not (list_all is_name (parts a.value.0))) kind.BadName) _ r a.rest in
-    let w = word_is between_brackets kind.BadNumber ws a.value refl a.first in
-    subst (NamesSaid ws) (same_ok (parts a.value.0, a.value.1) r b.rest)
-    (record { word = w.word; are = w.are; inside = a.value.0; between = w.says; parts_are = refl; named = not-false _ (not_refused _ _ b.value b.first) })
+    read_then between_brackets _ ws _ r refl h (λ a w h. free_then _ _ _ r h (λ all h.
+    subst (NamesSaid ws) (same_ok (parts a.0, a.1) r h) (record { word = w.word; are = w.are; inside = a.0; between = w.says; parts_are = refl; named = not-false _ all })))
 
 var_says : (version : ℕ) (names : List (List ℕ)) (ws : List Word) (v : (NcType × List ℕ) × List Word) (ns : List (List ℕ) × List Word) → HeadSaid version names ws v → NamesSaid v.1 ns → ns.1 ≡ []
     → Says version (Plain (codes "var") ∷ ws) (VarIs (record { kind = v.0.0; name = v.0.1; dims = ns.0 }))
@@ -129,26 +109,18 @@ pub record VarSaid (version : ℕ) (dims : List Dim) (names : List (List ℕ)) (
 
 pub var_said : (version : ℕ) (dims : List Dim) (vars : List Var) (ws : List Word) (v : Var) → var_line version dims vars ws ≡ Ok v → VarSaid version dims (var_names vars) (Plain (codes "var") ∷ ws) v
 var_said version dims vars ws v h =
-    let a = went (var_head version (var_names vars) ws) _ v h in
-    let b = went (shape dims a.value.1) _ v a.rest in
-    let c = went (ended b.value.1) _ v b.rest in
-    let n = went (name_list a.value.1) _ b.value b.first in
-    let i = went (or_fault kind.UnknownName (dim_ids dims n.value.0)) _ b.value n.rest in
-    let f = went (refuse_if (nat_lt most_dims_of_var (length i.value)) (kind.Limit limit.VarDims)) _ b.value i.rest in
-    let g = went (refuse_if (list_any (is_record_dim dims) (drop 1 i.value)) kind.BadShape) _ b.value f.rest in
-    let pair = same_ok (i.value, n.value.1) b.value g.rest in
-    let ids = ap (λ (x : List ℕ × List Word). x.0) pair in
-    let rest = ap (λ (x : List ℕ × List Word). x.1) pair in
-    let head = head_said version (var_names vars) ws a.value a.first in
-    let names = names_said a.value.1 n.value n.first in
-    let found = faultless_some kind.UnknownName (dim_ids dims n.value.0) i.value i.first in
-    subst (VarSaid version dims (var_names vars) (Plain (codes "var") ∷ ws)) (same_ok (record { name = a.value.0.1; dims = b.value.0; attrs = []; kind = a.value.0.0; begin = 0 }) v c.rest) (record {
-      line = record { kind = a.value.0.0; name = a.value.0.1; dims = n.value.0 };
-      says = var_says version (var_names vars) ws a.value n.value head names (rest ∙ is_end b.value.1 c.value c.first);
-      stands = (head.fresh, head.room, few_dims dims n.value.0 i.value found (ltb-false most_dims_of_var (length i.value) (not_refused _ _ f.value f.first)), (i.value, found, not_refused _ _ g.value g.first));
-      found = found ∙ ap (λ (xs : List ℕ). Some xs) ids;
+    step_then (var_head version (var_names vars) ws) _ v h (λ a heads h. step_then (shape dims a.1) _ v h (λ b shaped h. end_then b.1 _ v h (λ none h.
+    step_then (name_list a.1) _ b shaped (λ n listed k. step_then (or_fault kind.UnknownName (dim_ids dims n.0)) _ b k (λ i there k. free_then _ _ _ b k (λ few k. free_then _ _ _ b k (λ records k.
+    let pair = same_ok (i, n.1) b k in
+    let head = head_said version (var_names vars) ws a heads in
+    let found = faultless_some kind.UnknownName (dim_ids dims n.0) i there in
+    subst (VarSaid version dims (var_names vars) (Plain (codes "var") ∷ ws)) (same_ok (record { name = a.0.1; dims = b.0; attrs = []; kind = a.0.0; begin = 0 }) v h) (record {
+      line = record { kind = a.0.0; name = a.0.1; dims = n.0 };
+      says = var_says version (var_names vars) ws a n head (names_said a.1 n listed) (ap (λ (x : List ℕ × List Word). x.1) pair ∙ none);
+      stands = (head.fresh, head.room, few_dims dims n.0 i found (ltb-false most_dims_of_var (length i) few), (i, found, records));
+      found = found ∙ ap (λ (x : List ℕ × List Word). Some x.0) pair;
       same = refl;
-    })
+    }))))))))
 
 -- what is added to a dataset that is opened
 pub record LineSaid (dims : List Dim) (names : List (List ℕ)) (words : List Word) (v : (NcType × List ℕ) × List Word) (ns : List (List ℕ) × List Word) : Type 0 where
@@ -158,15 +130,11 @@ pub record LineSaid (dims : List Dim) (names : List (List ℕ)) (words : List Wo
 pub added_said : (dims : List Dim) (names : List (List ℕ)) (ws : List Word) (v : (NcType × List ℕ) × List Word) (ns : List (List ℕ) × List Word) → var_head 5 names ws ≡ Ok v → added_shape dims v.1 ≡ Ok ns
     → LineSaid dims names (Plain (codes "var") ∷ ws) v ns
 added_said dims names ws v ns h k =
-    let n = went (name_list v.1) _ ns k in
-    let f = went (refuse_if (nat_lt most_dims_of_var (length n.value.0)) (kind.Limit limit.VarDims)) _ ns n.rest in
-    let g = went (refuse_if (list_any (is_added_record dims) (drop 1 n.value.0)) kind.BadShape) _ ns f.rest in
+    step_then (name_list v.1) _ ns k (λ n listed k. free_then _ _ _ ns k (λ few k. free_then _ _ _ ns k (λ records k.
     let head = head_said 5 names ws v h in
-    let all = names_said v.1 n.value n.first in
-    subst (LineSaid dims names (Plain (codes "var") ∷ ws) v) (same_ok n.value ns g.rest) (record {
-      says = λ end. var_says 5 names ws v n.value head all end;
-      stands = (head.fresh, head.room, ltb-false most_dims_of_var (length n.value.0) (not_refused _ _ f.value f.first), not_refused _ _ g.value g.first);
-    })
+    let all = names_said v.1 n listed in
+    subst (LineSaid dims names (Plain (codes "var") ∷ ws) v) (same_ok n ns k)
+    (record { says = λ end. var_says 5 names ws v n head all end; stands = (head.fresh, head.room, ltb-false most_dims_of_var (length n.0) few, records) }))))
 
 -- ---- attributes
 
@@ -214,27 +182,21 @@ pub record AttrSaid (version : ℕ) (titles : List Title) (owner : List ℕ) (ws
 
 pub attr_said : (version : ℕ) (titles : List Title) (before : ℕ) (owner : List ℕ) (ws : List Word) (a : Attr) → attribute version titles before owner ws ≡ Ok a → AttrSaid version titles owner ws a
 attr_said version titles before owner ws a h =
-    let n = went (attribute_name titles owner ws) _ a h in
-    let t = went (reads_as (type_of version) kind.UnknownWord n.value.1) _ a n.rest in
-    let vs = went (values (Some t.value.0) before t.value.1) _ a t.rest in
-    let m = went (name ws) _ n.value n.first in
-    let u = went (refuse_if (list_any (same_title (owner, m.value.0)) titles) kind.TwiceNamed) _ n.value m.rest in
-    let same = same_ok m.value n.value u.rest in
-    let named = subst (NameRead ws) same (name_is ws m.value m.first) in
-    let fresh = subst (λ (x : List ℕ × List Word). list_any (same_title (owner, x.0)) titles ≡ false) same (not_refused _ _ u.value u.first) in
-    let w = word_is (type_of version) kind.UnknownWord n.value.1 t.value refl t.first in
-    let spells = values_spelled (Some t.value.0) before t.value.1 vs.value vs.first in
-    subst (AttrSaid version titles owner ws) (same_ok (attr_of n.value.0 t.value.0 vs.value) a vs.rest) (record {
+    step_then (attribute_name titles owner ws) _ a h (λ n new h. read_then (type_of version) _ n.1 _ a refl h (λ t w h. step_then (values (Some t.0) before t.1) _ a h (λ vs spelt h.
+    named_then ws _ n new (λ m named k. free_then _ _ _ n k (λ free k.
+    let same = same_ok m n k in
+    let is_named = subst (NameRead ws) same named in
+    subst (AttrSaid version titles owner ws) (same_ok (attr_of n.0 t.0 vs) a h) (record {
       says = λ o is. (
         w.word,
-        t.value.1,
-        vs.value,
-        ap (λ (xs : List Word). Plain (codes "att") ∷ Plain (owner_word o) ∷ xs) (named.are ∙ ap (λ (xs : List Word). Plain n.value.0 ∷ xs) w.are),
+        t.1,
+        vs,
+        ap (λ (xs : List Word). Plain (codes "att") ∷ Plain (owner_word o) ∷ xs) (is_named.are ∙ ap (λ (xs : List Word). Plain n.0 ∷ xs) w.are),
         is,
-        named.named,
+        is_named.named,
         w.says,
-        spells,
+        values_spelled (Some t.0) before t.1 vs spelt,
         refl,
       );
-      fresh = fresh;
-    })
+      fresh = subst (λ (x : List ℕ × List Word). list_any (same_title (owner, x.0)) titles ≡ false) same free;
+    }))))))

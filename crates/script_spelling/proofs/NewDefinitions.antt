@@ -1,9 +1,9 @@
 -- The lines that define a new dataset, each with its statement.
-use Rattle.script_spelling.proofs.Words.{◌≡◌, ◌∙◌, ℕ, ◌+◌, List, [], ◌∷◌, ◌++◌, position, Bool, true, false, not, Option, Some, None, is_some, Result, Ok, Err, refl, sym, ap, subst, ⊎_elim, append_assoc, arith, bytes_eq, codes, list_any, or_left, or_right, faultless_some, ScriptKind, Dim, Attr, Var, Word, Plain, ◌>>=◌, or_fault, reads_as, is_among, dim_ids, dim_line, var_line, var_names, owner_of_text, owner_place, Title, same_title, attribute, Defined, with_dim, with_var, with_title, with_attr_of_owner, with_attr_at, att_line, dim_definition, var_definition, fill_line, definition, Known, went, same_ok, Later, bytes_same, more_ids, place_cases, pushes, Statement, DimIs, VarIs, AttIs, owner_word, IsOwner, Says, title_of, Stand, dims_in, vars_in, own_attrs, attrs_of, nat_tests}
+use Rattle.script_spelling.proofs.Words.{◌≡◌, ◌∙◌, ℕ, ◌+◌, List, [], ◌∷◌, ◌++◌, position, Bool, true, false, not, Option, Some, None, is_some, Result, Ok, sym, ap, subst, ⊎_elim, append_assoc, arith, bytes_eq, codes, list_any, or_left, or_right, faultless_some, ScriptKind, Dim, Attr, Var, Word, Plain, ◌>>=◌, or_fault, reads_as, is_among, dim_ids, dim_line, var_line, var_names, owner_of_text, owner_place, Title, same_title, attribute, Defined, with_dim, with_var, with_title, with_attr_of_owner, with_attr_at, att_line, dim_definition, var_definition, fill_line, definition, Known, went, same_ok, Later, bytes_same, more_ids, place_cases, pushes, Statement, DimIs, VarIs, AttIs, owner_word, IsOwner, Says, title_of, Stand, dims_in, vars_in, own_attrs, attrs_of, nat_tests, tested}
 use Rattle.nc_base.specs.declared.errors.ScriptKind.TheVariants as kind
 use Rattle.script_spelling.proofs.LinesRead.{dim_said, var_said, owner_said, attr_said}
 use Rattle.script_spelling.proofs.GrownVars.{are_apart, apart_pushed, names_pushed, names_kept, later_names, GrownVars, var_first, attr_first}
-use Rattle.script_spelling.proofs.TakenLines.{Fine, Taken}
+use Rattle.script_spelling.proofs.TakenLines.{Fine, Taken, grown_with}
 
 -- ---- the definitions of a new dataset
 
@@ -23,12 +23,7 @@ new_dim version k ws x fine h =
       statement = DimIs d;
       says = said.0;
       fine = record { long = fine.long; apart = fine.apart };
-      grown = λ ss last g. record {
-        ranks = g.ranks;
-        hints = g.hints;
-        filled = g.filled;
-        part = (g.part.0, g.part.1 ∙ append_assoc k.defined.dims (d ∷ []) (dims_in ss), g.part.2, g.part.3, (said.1, g.part.4));
-      };
+      grown = λ ss last g. grown_with g.ranks g.hints g.filled (g.part.0, g.part.1 ∙ append_assoc k.defined.dims (d ∷ []) (dims_in ss), g.part.2, g.part.3, (said.1, g.part.4));
     })
 
 new_var : (version : ℕ) (k : Known) (ws : List Word) (x : ℕ × Defined) → Fine k → var_definition version k.defined ws ≡ Ok x → TakenNew version k (Plain (codes "var") ∷ ws) x
@@ -43,19 +38,14 @@ new_var version k ws x fine h =
       statement = VarIs said.line;
       says = said.says;
       fine = record { long = fine.long; apart = subst (λ (ns : List (List ℕ)). are_apart ns ≡ true) (sym names) (apart_pushed (var_names d.vars) said.line.name fine.apart said.stands.0) };
-      grown = λ ss last g. record {
-        ranks = g.ranks;
-        hints = g.hints;
-        filled = g.filled;
-        part = (
-          g.part.0,
-          g.part.1,
-          g.part.2,
-          var_first last.defined.dims (λ n. attrs_of n ss) d.vars said.line (vars_in ss) v last.defined.vars
-              (record { found = subst (λ (ds : List Dim). dim_ids ds said.line.dims ≡ Some v.dims) (sym g.part.1) (more_ids d.dims (dims_in ss) said.line.dims v.dims said.found); same = said.same }) g.part.3,
-          (said.stands, subst (λ (ns : List (List ℕ)). Stand false d.dims ns d.titles ss) names g.part.4),
-        );
-      };
+      grown = λ ss last g. grown_with g.ranks g.hints g.filled (
+        g.part.0,
+        g.part.1,
+        g.part.2,
+        var_first last.defined.dims (λ n. attrs_of n ss) d.vars said.line (vars_in ss) v last.defined.vars
+            (record { found = subst (λ (ds : List Dim). dim_ids ds said.line.dims ≡ Some v.dims) (sym g.part.1) (more_ids d.dims (dims_in ss) said.line.dims v.dims said.found); same = said.same }) g.part.3,
+        (said.stands, subst (λ (ns : List (List ℕ)). Stand false d.dims ns d.titles ss) names g.part.4),
+      );
     })
 
 abbrev defined_with : List ℕ → Option ℕ → Attr → Defined → ℕ × Defined
@@ -74,22 +64,17 @@ new_own version k words word a fine e says fresh =
       statement = AttIs None a;
       says = says;
       fine = record { long = fine.long; apart = fine.apart };
-      grown = λ ss last g. record {
-        ranks = g.ranks;
-        hints = g.hints;
-        filled = g.filled;
-        part = (
-          g.part.0,
-          g.part.1,
-          g.part.2 ∙ append_assoc d.attrs (a ∷ []) (own_attrs ss),
-          g.part.3,
-          (
-            tt,
-            subst (λ (w : List ℕ). list_any (same_title (w, a.name)) d.titles ≡ false) e fresh,
-            titles_by false d.dims (var_names d.vars) d.titles ss word None a e g.part.4,
-          ),
-        );
-      };
+      grown = λ ss last g. grown_with g.ranks g.hints g.filled (
+        g.part.0,
+        g.part.1,
+        g.part.2 ∙ append_assoc d.attrs (a ∷ []) (own_attrs ss),
+        g.part.3,
+        (
+          tt,
+          subst (λ (w : List ℕ). list_any (same_title (w, a.name)) d.titles ≡ false) e fresh,
+          titles_by false d.dims (var_names d.vars) d.titles ss word None a e g.part.4,
+        ),
+      );
     }
 
 pub is_there : (n : List ℕ) (names : List (List ℕ)) (k : ℕ) → position (bytes_eq n) names ≡ Some k → is_among n names ≡ true
@@ -113,20 +98,15 @@ new_attr version k words owner place a fine at says fresh =
       fine = record { long = fine.long; apart = subst (λ (ns : List (List ℕ)). are_apart ns ≡ true) (sym names) fine.apart };
       grown = λ ss last g.
           let stand = subst (λ (ns : List (List ℕ)). Stand false d.dims ns (d.titles ++ (owner, a.name) ∷ []) ss) names g.part.4 in
-          record {
-            ranks = g.ranks;
-            hints = g.hints;
-            filled = g.filled;
-            part = (
-              g.part.0,
-              g.part.1,
-              g.part.2,
-              attr_first last.defined.dims (λ n. attrs_of n ss) owner a place d.vars (vars_in ss) last.defined.vars at fine.apart
-                  (later_names false d.dims (var_names d.vars) (d.titles ++ (owner, a.name) ∷ []) ss owner stand there)
-                  (subst (λ (vs : List Var). GrownVars last.defined.dims (λ n. attrs_of n ss) vs (vars_in ss) last.defined.vars) vars g.part.3),
-              (there, fresh, stand),
-            );
-          };
+          grown_with g.ranks g.hints g.filled (
+            g.part.0,
+            g.part.1,
+            g.part.2,
+            attr_first last.defined.dims (λ n. attrs_of n ss) owner a place d.vars (vars_in ss) last.defined.vars at fine.apart
+                (later_names false d.dims (var_names d.vars) (d.titles ++ (owner, a.name) ∷ []) ss owner stand there)
+                (subst (λ (vs : List Var). GrownVars last.defined.dims (λ n. attrs_of n ss) vs (vars_in ss) last.defined.vars) vars g.part.3),
+            (there, fresh, stand),
+          );
     }
 
 abbrev place_by : List Var → List ℕ → Bool → Result (Option ℕ) ScriptKind
@@ -168,23 +148,9 @@ pub at_first : (opened : Bool) (version : ℕ) (k next : Known) (first word : Li
 at_first opened version k next first word ws e h = subst (λ (w : List ℕ). Taken opened version k (Plain w ∷ ws) next) (sym (bytes_same first word e)) h
 
 pub definition_taken : (version : ℕ) (k : Known) (first : List ℕ) (ws : List Word) (x : ℕ × Defined) → Fine k → definition version k.values k.defined first ws ≡ Ok x → TakenNew version k (Plain first ∷ ws) x
-definition_taken version k first ws x fine h = by (bytes_eq first (codes "dim")) (bytes_eq first (codes "var")) (bytes_eq first (codes "att")) (bytes_eq first (codes "fill")) refl refl refl refl h
-  where
-    at : (word : List ℕ) → bytes_eq first word ≡ true → TakenNew version k (Plain word ∷ ws) x → TakenNew version k (Plain first ∷ ws) x
-    at word e taken = at_first false version k (defined_next k x) first word ws e taken
-
-    by : (i j l m : Bool) → bytes_eq first (codes "dim") ≡ i → bytes_eq first (codes "var") ≡ j → bytes_eq first (codes "att") ≡ l → bytes_eq first (codes "fill") ≡ m → elim i as (λ y. Result (ℕ × Defined) ScriptKind) [
-      | true ↦ dim_definition version k.defined ws
-      | false ↦ elim j as (λ y. Result (ℕ × Defined) ScriptKind) [
-        | true ↦ var_definition version k.defined ws
-        | false ↦ elim l as (λ y. Result (ℕ × Defined) ScriptKind) [
-          | true ↦ att_line version k.values k.defined ws
-          | false ↦ elim m as (λ y. Result (ℕ × Defined) ScriptKind) [ true ↦ fill_line k.defined ws | false ↦ Err kind.UnknownWord ]
-        ]
-      ]
-    ] ≡ Ok x → TakenNew version k (Plain first ∷ ws) x
-    by true j l m a b c d e = at (codes "dim") a (new_dim version k ws x fine e)
-    by false true l m a b c d e = at (codes "var") b (new_var version k ws x fine e)
-    by false false true m a b c d e = at (codes "att") c (new_att version k ws x fine e)
-    by false false false true a b c d e = at (codes "fill") d (new_fill version k ws x fine e)
-    by false false false false a b c d e = absurd (cc)
+definition_taken version k first ws x fine h =
+    let at = at_first false version k (defined_next k x) first in
+    tested (bytes_eq first (codes "dim")) _ _ _ h (λ a e. at (codes "dim") ws a (new_dim version k ws x fine e))
+    (λ a l. tested (bytes_eq first (codes "var")) _ _ _ l (λ b e. at (codes "var") ws b (new_var version k ws x fine e))
+    (λ b m. tested (bytes_eq first (codes "att")) _ _ _ m (λ c e. at (codes "att") ws c (new_att version k ws x fine e))
+    (λ c n. tested (bytes_eq first (codes "fill")) _ _ _ n (λ d e. at (codes "fill") ws d (new_fill version k ws x fine e)) (λ d e. absurd (cc)))))

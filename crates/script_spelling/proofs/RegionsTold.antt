@@ -15,10 +15,6 @@ parts_told (p ∷ ps) found [] more h = absurd h
 parts_told (p ∷ ps) found (w ∷ []) more h = absurd h.1
 parts_told (p ∷ ps) found (w ∷ v ∷ ws) more h = grind (arith, nat_tests, parts_told ps (found ++ p ∷ []) ws more h.1.1, go_on, list_told, carry_on, append_assoc)
 
-some_parts : (ps : List Part) → not (is_empty ps) ≡ true → (length ps == 0) ≡ false
-some_parts [] h = absurd (cc)
-some_parts (p ∷ ps) h = ne_eqb (length (p ∷ ps)) 0 (omega arith)
-
 -- ---- a region by the lists of its form
 
 -- what the words of a region are read as
@@ -62,7 +58,7 @@ module _ (s c d m : List ℕ) (ps : List Part) (more : List Word) where
   varn_told : (ws : List Word) → SpellsForm form.Varn ws (region_with form.Varn s c d m ps) → has_lists_of form.Varn (region_with form.Varn s c d m ps) ≡ true → length ps ≤ most_parts
       → IsTold form.Varn ws more (region_with form.Varn s c d m ps)
   varn_told ws xs lists few =
-      grind (arith, nat_tests, and_parts, not, as_told, same_region, empty_list, go_on, word_read, passed, some_parts, nat_lt, le-ltb, parts_told)
+      grind (arith, nat_tests, and_parts, not, as_told, same_region, empty_list, go_on, word_read, passed, nat_lt, le-ltb, parts_told)
 
   by_form : (f : Form) (ws : List Word) → SpellsForm f ws (region_with f s c d m ps) → has_lists_of f (region_with f s c d m ps) ≡ true → length ps ≤ most_parts → IsTold f ws more (region_with f s c d m ps)
   by_form f ws h lists few = grind (arith, nat_tests, var_told, var1_told, vara_told, vars_told, varm_told, varn_told)
@@ -70,9 +66,5 @@ module _ (s c d m : List ℕ) (ps : List Part) (more : List Word) where
 pub region_told : (g : Given) (ws more : List Word) → SpellsRegion ws g → is_given g ≡ true → region g.form (ws ++ more) ≡ Ok (g, more)
 region_told g ws more h given =
     let few = and_parts _ _ given in
-    let p5 = and_parts _ _ few.0 in
-    let p4 = and_parts _ _ p5.0 in
-    let p3 = and_parts _ _ p4.0 in
-    let p2 = and_parts _ _ p3.0 in
-    let p1 = and_parts _ _ p2.0 in
+    let p1 = and_parts _ _ (and_parts _ _ (and_parts _ _ (and_parts _ _ (and_parts _ _ few.0).0).0).0).0 in
     by_form g.start g.count g.stride g.imap g.parts more g.form ws h p1.0 (leb-true (length g.parts) most_parts few.1)

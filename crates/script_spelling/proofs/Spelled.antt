@@ -1,7 +1,7 @@
 -- A text that is read spells its script.
-use Rattle.script_spelling.proofs.Words.{◌≡◌, ◌∙◌, ℕ, zero, suc, ◌+◌, List, [], ◌∷◌, ◌++◌, map, replicate, length, Bool, true, false, not, cond, nat_lt, ◌==◌, Some, None, Result, Ok, Err, refl, sym, ap, subst, append_assoc, arith, bytes_eq, codes, utf8_valid_len, AllZip, list_all, range_with_len, eqb-true, ne_eqb, length-replicate, ScriptKind, Call, Script, Word, Plain, Quoted, Broken, Line, text_lines, significant, reads_as, whole, hint_in, Known, nothing_known, Called, at_line, version_of_text, version_line, head, definitions, data_part, finish, script_of, no_calls, script_of_lines, Reads, read_lawful, went, same_ok, whole_value, line_ok, bytes_same, is_text, Statement, Says, Stand, calls_in, ToDataset, Describes, SpellsCallLine, SpellsHead, version_of_lines, Sections, lines_of, Spells, nat_tests}
+use Rattle.script_spelling.proofs.Words.{◌≡◌, ◌∙◌, ℕ, zero, suc, ◌+◌, List, [], ◌∷◌, ◌++◌, map, replicate, length, Bool, true, false, not, cond, nat_lt, ◌==◌, Some, None, Ok, refl, sym, ap, subst, append_assoc, arith, bytes_eq, codes, utf8_valid_len, AllZip, list_all, range_with_len, eqb-true, ne_eqb, length-replicate, Call, Script, Word, Plain, Quoted, Broken, Line, text_lines, significant, whole, hint_in, Known, nothing_known, Called, at_line, version_of_text, head, definitions, data_part, finish, script_of, no_calls, script_of_lines, Reads, read_lawful, same_ok, whole_value, line_ok, bytes_same, is_text, Statement, Says, Stand, calls_in, ToDataset, Describes, SpellsCallLine, SpellsHead, version_of_lines, Sections, lines_of, Spells, nat_tests, tested, step_then}
 use Rattle.nc_base.specs.declared.errors.ScriptKind.TheVariants as kind
-use Rattle.script_spelling.proofs.WordsRead.{word_is}
+use Rattle.script_spelling.proofs.WordsRead.{read_then}
 use Rattle.script_spelling.proofs.CallLinesRead.{words_of, from_none, CallsRead, calls_read}
 use Rattle.script_spelling.proofs.TakenLines.{flag, Part, Grown}
 use Rattle.script_spelling.proofs.KnownRead.{lines_version, DefinitionsRead, definitions_read}
@@ -18,25 +18,19 @@ no_zero w version h = grind (arith, nat_tests, ne_eqb)
 head_read : (w : Word) (ws : List Word) (version : ℕ) → head w ws ≡ Ok version → HeadRead (w ∷ ws) version
 head_read Broken ws version h = absurd (cc)
 head_read (Quoted text) ws version h = absurd (cc)
-head_read (Plain w) ws version h = by (bytes_eq w (codes "create")) (bytes_eq w (codes "open")) refl refl h
-  where
-    by : (i j : Bool) → bytes_eq w (codes "create") ≡ i → bytes_eq w (codes "open") ≡ j → elim i as (λ x. Result ℕ ScriptKind) [
-      | true ↦ version_line ws
-      | false ↦ elim j as (λ x. Result ℕ ScriptKind) [ true ↦ whole (0, ws) | false ↦ Err kind.NoHead ]
-    ] ≡ Ok version → HeadRead (Plain w ∷ ws) version
-    by true j a b k =
-        let v = went (reads_as version_of_text kind.BadNumber ws) (λ x. whole x) version k in
-        let word = word_is version_of_text kind.BadNumber ws v.value refl v.first in
-        let end = whole_value v.value version v.rest in
-        let says = word.says ∙ ap (λ (x : ℕ). Some x) end.0 in
-        let words = ap (λ (x : List ℕ). Plain x ∷ ws) (bytes_same w (codes "create") a)
-        ∙ ap (λ (xs : List Word). Plain (codes "create") ∷ xs) (word.are ∙ ap (λ (xs : List Word). Plain word.word ∷ xs) end.1) in
-        subst (λ (b : Bool). SpellsHead (Plain w ∷ ws) (not b) version) (sym (no_zero word.word version says)) (word.word, words, says)
-    by false true a b k =
-        let end = whole_value (0, ws) version k in
-        let words = ap (λ (x : List ℕ). Plain x ∷ ws) (bytes_same w (codes "open") b) ∙ ap (λ (xs : List Word). Plain (codes "open") ∷ xs) end.1 in
-        subst (HeadRead (Plain w ∷ ws)) end.0 (words, refl)
-    by false false a b k = absurd (cc)
+head_read (Plain w) ws version h =
+    tested (bytes_eq w (codes "create")) _ _ _ h
+    (λ a k. read_then version_of_text _ ws _ version refl k (λ v word k.
+    let end = whole_value v version k in
+    let says = word.says ∙ ap (λ (x : ℕ). Some x) end.0 in
+    let words = ap (λ (x : List ℕ). Plain x ∷ ws) (bytes_same w (codes "create") a)
+    ∙ ap (λ (xs : List Word). Plain (codes "create") ∷ xs) (word.are ∙ ap (λ (xs : List Word). Plain word.word ∷ xs) end.1) in
+    subst (λ (b : Bool). SpellsHead (Plain w ∷ ws) (not b) version) (sym (no_zero word.word version says)) (word.word, words, says)))
+    (λ a k. tested (bytes_eq w (codes "open")) _ _ _ k
+    (λ b k.
+    let end = whole_value (0, ws) version k in
+    let words = ap (λ (x : List ℕ). Plain x ∷ ws) (bytes_same w (codes "open") b) ∙ ap (λ (xs : List Word). Plain (codes "open") ∷ xs) end.1 in
+    subst (HeadRead (Plain w ∷ ws)) end.0 (words, refl)) (λ b k. absurd (cc)))
 
 -- ---- what is known at `data` is what the statements say
 
@@ -45,17 +39,13 @@ none_given zero h = refl
 none_given (suc n) zero = refl
 none_given (suc n) (suc h) = none_given n h
 
-dataset_read : (opened : Bool) (version ranks : ℕ) (ss : List Statement) (known : Known) (calls : List (List Call)) → (version == 0) ≡ opened → Part opened nothing_known ss known
-    → ToDataset (not opened) ss (script_of version ranks known calls)
-dataset_read opened version ranks ss known calls e p = grind (arith, nat_tests, eqb-true)
-
 filled_as : (filled : Bool) (n : ℕ) → flag filled ≡ 0 + n → n ≡ cond filled 1 0
 filled_as filled n h = omega (arith, h)
 
 describes_read : (version ranks : ℕ) (ss : List Statement) (known : Known) (called : List (ℕ × Call)) (calls : List (List Call))
     → Grown (version == 0) nothing_known ss known → known.ranks ≡ Some ranks → list_all (λ c. nat_lt c.0 ranks) called ≡ true → calls ≡ map (λ r. calls_in r called) (range_with_len 0 ranks)
     → Describes ss called (script_of version ranks known calls)
-describes_read version ranks ss known called calls grown told low same = grind (arith, nat_tests, none_given, filled_as, dataset_read)
+describes_read version ranks ss known called calls grown told low same = grind (arith, nat_tests, none_given, filled_as)
 
 stand_read : (opened : Bool) (ss : List Statement) (known : Known) → Part opened nothing_known ss known → Stand opened [] [] [] ss
 stand_read true ss known p = p.2
@@ -107,15 +97,12 @@ parts_spelled version l lines d c first defined calls last =
 lines_spelled : (past : ℕ) (lines : List Line) (script : Script) → script_of_lines past lines ≡ Ok script → LinesSpelled (map words_of lines) script
 lines_spelled past [] script h = absurd (cc)
 lines_spelled past (l ∷ lines) script h =
-    let v = went (at_line l.number (head l.first l.rest)) _ script h in
-    let d = went (definitions past v.value nothing_known lines) _ script v.rest in
-    let c = went (data_part past (no_calls d.value.0 d.value.1.0) d.value.1.1) _ script d.rest in
-    let f = went (finish c.value.0 c.value.1.0.calls c.value.1.1) _ script c.rest in
-    subst (LinesSpelled (map words_of (l ∷ lines))) (same_ok (script_of v.value d.value.0 d.value.1.0 c.value.1.0.calls) script f.rest)
-    (parts_spelled v.value l lines d.value c.value (head_read l.first l.rest v.value (line_ok l.number (head l.first l.rest) v.value v.first))
-    (definitions_read (v.value == 0) past v.value nothing_known lines d.value refl (record { long = refl; apart = refl }) d.first)
-    (calls_read past (no_calls d.value.0 d.value.1.0) d.value.1.1 c.value c.first)
-    (finished_lines c.value.0 c.value.1.0.calls c.value.1.1 f.value f.first))
+    step_then (at_line l.number (head l.first l.rest)) _ script h (λ v heads h. step_then (definitions past v nothing_known lines) _ script h (λ d told h.
+    step_then (data_part past (no_calls d.0 d.1.0) d.1.1) _ script h (λ c called h. step_then (finish c.0 c.1.0.calls c.1.1) _ script h (λ f ends h.
+    subst (LinesSpelled (map words_of (l ∷ lines))) (same_ok (script_of v d.0 d.1.0 c.1.0.calls) script h)
+    (parts_spelled v l lines d c (head_read l.first l.rest v (line_ok l.number (head l.first l.rest) v heads))
+    (definitions_read (v == 0) past v nothing_known lines d refl (record { long = refl; apart = refl }) told) (calls_read past (no_calls d.0 d.1.0) d.1.1 c called)
+    (finished_lines c.0 c.1.0.calls c.1.1 f ends))))))
 
 -- ---- a whole text
 

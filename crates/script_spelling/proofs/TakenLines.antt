@@ -23,6 +23,11 @@ pub record Grown (opened : Bool) (k : Known) (ss : List Statement) (last : Known
   pub filled : flag last.defined.filled ≡ flag k.defined.filled + fills_in ss
   pub part : Part opened k ss last
 
+pub grown_with : {opened : Bool} {k : Known} {ss : List Statement} {last : Known} → at_most_one last.ranks ≡ at_most_one k.ranks ++ ranks_in ss
+    → ((h : ℕ) → at_most_one (hint_in h last.hints) ≡ at_most_one (hint_in h k.hints) ++ hint_values h ss)
+    → flag last.defined.filled ≡ flag k.defined.filled + fills_in ss → Part opened k ss last → Grown opened k ss last
+grown_with a b c d = record { ranks = a; hints = b; filled = c; part = d }
+
 -- what holds of all that is known
 pub record Fine (k : Known) : Type 0 where
   pub long : length k.hints ≡ 10

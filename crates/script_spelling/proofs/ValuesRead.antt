@@ -1,11 +1,11 @@
 -- The words of values and regions that are read spell them.
-use Rattle.script_spelling.proofs.Words.{◌≡◌, ◌∙◌, ℕ, zero, suc, ◌<◌, List, [], ◌∷◌, ◌++◌, flat_map, length, Bool, true, false, not, nat_lt, ◌==◌, ◌&&◌, Option, Some, None, Result, Ok, ℤ, refl, sym, ap, subst, append_assoc, append-nil, arith, bytes_eq, codes, and_from, lt-ltb, ScriptKind, NcType, Values, Numbers, Text, Bits, Form, Given, Part, Class, most_parts, Word, Plain, Quoted, Broken, size_of_text, number_of_text, bits_of_text, list_of_text, refuse_if, reads_as, size, list, ended, within_limits, are_numbers, are_patterns, are_text, may_be, wrong_kind, number_for, pattern_for, one_value, each_value, sequence_count, sequence, last_number, is_term, term, numbers_between, pattern_sequence, last_pattern, is_pattern_term, pattern_term, patterns_between, seq_values, seqx_values, pattern_values, text_values, number_values, bits_values, listed_kind, listed_values, values, given_of, given_parts, part, part_list, many_regions, region, went, same_ok, not_refused, is_end, carried, bytes_same, SpellsOne, Each, SpellsSequence, SpellsBitSequence, SpellsValues, OfNothing, OfText, OfNumbers, OfBits, OfSequence, OfBitSequence, SpellsForm, SpellsRegion, nat_tests}
+use Rattle.script_spelling.proofs.Words.{◌≡◌, ◌∙◌, ℕ, zero, suc, ◌<◌, List, [], ◌∷◌, ◌++◌, flat_map, length, Bool, true, false, not, nat_lt, ◌==◌, ◌&&◌, Option, Some, None, Ok, ℤ, refl, sym, ap, subst, append_assoc, append-nil, arith, bytes_eq, codes, and_from, lt-ltb, NcType, Values, Numbers, Text, Bits, Form, Given, Part, Class, most_parts, Word, Plain, Quoted, Broken, size_of_text, number_of_text, bits_of_text, list_of_text, size, list, within_limits, are_numbers, are_patterns, may_be, number_for, pattern_for, one_value, each_value, sequence_count, sequence, is_term, term, numbers_between, pattern_sequence, is_pattern_term, pattern_term, patterns_between, seq_values, seqx_values, pattern_values, text_values, number_values, bits_values, listed_kind, listed_values, values, given_of, given_parts, part, part_list, many_regions, region, went, same_ok, carried, bytes_same, SpellsOne, Each, SpellsSequence, SpellsBitSequence, SpellsValues, OfNothing, OfText, OfNumbers, OfBits, OfSequence, OfBitSequence, SpellsForm, SpellsRegion, nat_tests, tested, step_then, free_then, end_then}
 use borrow.Author.Tests.{not-false}
 use Rattle.nc_base.specs.declared.errors.ScriptKind.TheVariants as kind
 use Rattle.nc_base.specs.declared.errors.LimitName.TheVariants as limit
 use Rattle.nc_base.specs.declared.request.Form.TheVariants as form
 use Rattle.serial_spec.specs.ExternalForm as class
-use Rattle.script_spelling.proofs.WordsRead.{WordRead, word_is, one_is, size_is, list_is}
+use Rattle.script_spelling.proofs.WordsRead.{WordRead, one_is, size_is, list_is, read_then}
 
 -- ---- values that are written out
 
@@ -42,11 +42,8 @@ pub record CountRead (suits : Bool) (ws : List Word) (r : ℕ × List Word) : Ty
 
 count_spelled : (suits : Bool) (t : Option NcType) (before : ℕ) (ws : List Word) (r : ℕ × List Word) → sequence_count suits t before ws ≡ Ok r → CountRead suits ws r
 count_spelled suits t before ws r h =
-    let a = went (size ws) _ r h in
-    let b = went (refuse_if (nat_lt 0 a.value.0 && not suits) (wrong_kind t)) _ r a.rest in
-    let c = went (within_limits t before a.value.0) _ r b.rest in
-    subst (CountRead suits ws) (same_ok a.value r c.rest)
-    (record { word = size_is ws a.value a.first; fits = suits_some suits a.value.0 (not_refused _ _ b.value b.first) })
+    step_then (size ws) _ r h (λ n is h. free_then _ _ _ r h (λ fits h. step_then (within_limits t before n.0) _ r h (λ u room h.
+    subst (CountRead suits ws) (same_ok n r h) (record { word = size_is ws n is; fits = suits_some suits n.0 fits }))))
 
 pub record TermRead {A : Type 0} (f : List ℕ → Option A) (test : A → Bool) (ws : List Word) (r : A × List Word) : Type 0 where
   pub word : WordRead f ws r
@@ -54,74 +51,60 @@ pub record TermRead {A : Type 0} (f : List ℕ → Option A) (test : A → Bool)
 
 term_spelled : (t : Option NcType) (n : ℕ) (ws : List Word) (r : ℤ × List Word) → term t n ws ≡ Ok r → TermRead number_of_text (is_term t n) ws r
 term_spelled t n ws r h =
-    let a = went (reads_as number_of_text kind.BadNumber ws) _ r h in
-    let b = went (refuse_if (not (is_term t n a.value.0)) kind.BadNumber) _ r a.rest in
-    subst (TermRead number_of_text (is_term t n) ws) (same_ok a.value r b.rest)
-    (record { word = word_is number_of_text kind.BadNumber ws a.value refl a.first; fits = not-false _ (not_refused _ _ b.value b.first) })
+    read_then number_of_text _ ws _ r refl h (λ a w h. free_then _ _ _ r h (λ fits h.
+    subst (TermRead number_of_text (is_term t n) ws) (same_ok a r h) (record { word = w; fits = not-false _ fits })))
 
 pattern_spelled : (t : Option NcType) (n : ℕ) (ws : List Word) (r : ℕ × List Word) → pattern_term t n ws ≡ Ok r → TermRead bits_of_text (is_pattern_term t n) ws r
 pattern_spelled t n ws r h =
-    let a = went (reads_as bits_of_text kind.BadNumber ws) _ r h in
-    let b = went (refuse_if (not (is_pattern_term t n a.value.0)) kind.BadNumber) _ r a.rest in
-    subst (TermRead bits_of_text (is_pattern_term t n) ws) (same_ok a.value r b.rest)
-    (record { word = word_is bits_of_text kind.BadNumber ws a.value refl a.first; fits = not-false _ (not_refused _ _ b.value b.first) })
+    read_then bits_of_text _ ws _ r refl h (λ a w h. free_then _ _ _ r h (λ fits h.
+    subst (TermRead bits_of_text (is_pattern_term t n) ws) (same_ok a r h) (record { word = w; fits = not-false _ fits })))
 
 three_words : (first one two three : List ℕ) (ws a b c : List Word) → ws ≡ Plain one ∷ a → a ≡ Plain two ∷ b → b ≡ Plain three ∷ c → c ≡ [] → Plain first ∷ ws ≡ Plain first ∷ Plain one ∷ Plain two ∷ Plain three ∷ []
 three_words first one two three ws a b c e1 e2 e3 e4 = grind (arith, nat_tests)
 
 seq_spelled : (t : Option NcType) (before : ℕ) (ws : List Word) (vs : Values) → seq_values t before ws ≡ Ok vs → SpellsSequence t (Plain (codes "seq") ∷ ws) vs
 seq_spelled t before ws vs h =
-    let n = went (sequence_count (may_be are_numbers t) t before ws) _ vs h in
-    let zs = went (numbers_between t n.value.0 n.value.1) _ vs n.rest in
-    let a = went (term t n.value.0 n.value.1) _ zs.value zs.first in
-    let b = went (reads_as number_of_text kind.BadNumber a.value.1) _ zs.value a.rest in
-    let c = went (refuse_if (not (is_term t n.value.0 (last_number a.value.0 b.value.0 n.value.0))) kind.BadNumber) _ zs.value b.rest in
-    let d = went (ended b.value.1) _ zs.value c.rest in
-    let count = count_spelled (may_be are_numbers t) t before ws n.value n.first in
-    let first = term_spelled t n.value.0 n.value.1 a.value a.first in
-    let step = word_is number_of_text kind.BadNumber a.value.1 b.value refl b.first in (
+    step_then (sequence_count (may_be are_numbers t) t before ws) _ vs h (λ n counted h. step_then (numbers_between t n.0 n.1) _ vs h (λ zs told h.
+    step_then (term t n.0 n.1) _ zs told (λ a begins k. read_then number_of_text _ a.1 _ zs refl k (λ b step k. free_then _ _ _ zs k (λ last k. end_then b.1 _ zs k (λ none k.
+    let count = count_spelled (may_be are_numbers t) t before ws n counted in
+    let first = term_spelled t n.0 n.1 a begins in (
       count.word.word,
       first.word.word,
       step.word,
-      n.value.0,
-      a.value.0,
-      b.value.0,
-      three_words (codes "seq") count.word.word first.word.word step.word ws n.value.1 a.value.1 b.value.1 count.word.are first.word.are step.are (is_end b.value.1 d.value d.first),
+      n.0,
+      a.0,
+      b.0,
+      three_words (codes "seq") count.word.word first.word.word step.word ws n.1 a.1 b.1 count.word.are first.word.are step.are none,
       count.word.says,
       first.word.says,
       step.says,
       count.fits,
       first.fits,
-      not-false _ (not_refused _ _ c.value c.first),
-      sym (same_ok (Numbers zs.value) vs zs.rest) ∙ ap (λ (xs : List ℤ). Numbers xs) (sym (same_ok (sequence a.value.0 b.value.0 n.value.0) zs.value d.rest)),
-    )
+      not-false _ last,
+      sym (same_ok (Numbers zs) vs h) ∙ ap (λ (xs : List ℤ). Numbers xs) (sym (same_ok (sequence a.0 b.0 n.0) zs k)),
+    )))))))
 
 seqx_spelled : (t : Option NcType) (before : ℕ) (ws : List Word) (vs : Values) → seqx_values t before ws ≡ Ok vs → SpellsBitSequence t (Plain (codes "seqx") ∷ ws) vs
 seqx_spelled t before ws vs h =
-    let n = went (sequence_count (may_be are_patterns t) t before ws) _ vs h in
-    let ns = went (patterns_between t n.value.0 n.value.1) _ vs n.rest in
-    let a = went (pattern_term t n.value.0 n.value.1) _ ns.value ns.first in
-    let b = went (reads_as bits_of_text kind.BadNumber a.value.1) _ ns.value a.rest in
-    let c = went (refuse_if (not (is_pattern_term t n.value.0 (last_pattern a.value.0 b.value.0 n.value.0))) kind.BadNumber) _ ns.value b.rest in
-    let d = went (ended b.value.1) _ ns.value c.rest in
-    let count = count_spelled (may_be are_patterns t) t before ws n.value n.first in
-    let first = pattern_spelled t n.value.0 n.value.1 a.value a.first in
-    let step = word_is bits_of_text kind.BadNumber a.value.1 b.value refl b.first in (
+    step_then (sequence_count (may_be are_patterns t) t before ws) _ vs h (λ n counted h. step_then (patterns_between t n.0 n.1) _ vs h (λ zs told h.
+    step_then (pattern_term t n.0 n.1) _ zs told (λ a begins k. read_then bits_of_text _ a.1 _ zs refl k (λ b step k. free_then _ _ _ zs k (λ last k. end_then b.1 _ zs k (λ none k.
+    let count = count_spelled (may_be are_patterns t) t before ws n counted in
+    let first = pattern_spelled t n.0 n.1 a begins in (
       count.word.word,
       first.word.word,
       step.word,
-      n.value.0,
-      a.value.0,
-      b.value.0,
-      three_words (codes "seqx") count.word.word first.word.word step.word ws n.value.1 a.value.1 b.value.1 count.word.are first.word.are step.are (is_end b.value.1 d.value d.first),
+      n.0,
+      a.0,
+      b.0,
+      three_words (codes "seqx") count.word.word first.word.word step.word ws n.1 a.1 b.1 count.word.are first.word.are step.are none,
       count.word.says,
       first.word.says,
       step.says,
       count.fits,
       first.fits,
-      not-false _ (not_refused _ _ c.value c.first),
-      sym (same_ok (pattern_values ns.value) vs ns.rest) ∙ ap pattern_values (sym (same_ok (pattern_sequence a.value.0 b.value.0 n.value.0) ns.value d.rest)),
-    )
+      not-false _ last,
+      sym (same_ok (pattern_values zs) vs h) ∙ ap pattern_values (sym (same_ok (pattern_sequence a.0 b.0 n.0) zs k)),
+    )))))))
 
 -- ---- all values
 
@@ -146,24 +129,18 @@ listed_words class.Unsigned t before w ws vs h = number_words t before (w ∷ ws
 
 text_words : (t : Option NcType) (before : ℕ) (text : List ℕ) (ws : List Word) (vs : Values) → text_values t before text ws ≡ Ok vs → SpellsValues t (Quoted text ∷ ws) vs
 text_words t before text ws vs h =
-    let a = went (refuse_if (not (may_be are_text t)) kind.BadNumber) _ vs h in
-    let b = went (within_limits t before (length text)) _ vs a.rest in
-    let c = went (ended ws) _ vs b.rest in
-    OfText text (ap (λ (xs : List Word). Quoted text ∷ xs) (is_end ws c.value c.first)) (not-false _ (not_refused _ _ a.value a.first)) (sym (same_ok (Text text) vs c.rest))
+    free_then _ _ _ vs h (λ may h. step_then (within_limits t before (length text)) _ vs h (λ u room h. end_then ws _ vs h (λ none h.
+    OfText text (ap (λ (xs : List Word). Quoted text ∷ xs) none) (not-false _ may) (sym (same_ok (Text text) vs h)))))
 
 pub values_spelled : (t : Option NcType) (before : ℕ) (ws : List Word) (vs : Values) → values t before ws ≡ Ok vs → SpellsValues t ws vs
 values_spelled t before [] vs h = OfNothing refl (sym (same_ok (Numbers []) vs h))
 values_spelled t before (Broken ∷ ws) vs h = absurd (cc)
 values_spelled t before (Quoted text ∷ ws) vs h = text_words t before text ws vs h
-values_spelled t before (Plain w ∷ ws) vs h = by (bytes_eq w (codes "seq")) (bytes_eq w (codes "seqx")) refl refl h
-  where
-    by : (i j : Bool) → bytes_eq w (codes "seq") ≡ i → bytes_eq w (codes "seqx") ≡ j → elim i as (λ x. Result Values ScriptKind) [
-      | true ↦ seq_values t before ws
-      | false ↦ elim j as (λ x. Result Values ScriptKind) [ true ↦ seqx_values t before ws | false ↦ listed_values (listed_kind t w) t before (Plain w ∷ ws) ]
-    ] ≡ Ok vs → SpellsValues t (Plain w ∷ ws) vs
-    by true j a b k = OfSequence (subst (λ (x : List ℕ). SpellsSequence t (Plain x ∷ ws) vs) (sym (bytes_same w (codes "seq") a)) (seq_spelled t before ws vs k))
-    by false true a b k = OfBitSequence (subst (λ (x : List ℕ). SpellsBitSequence t (Plain x ∷ ws) vs) (sym (bytes_same w (codes "seqx") b)) (seqx_spelled t before ws vs k))
-    by false false a b k = listed_words (listed_kind t w) t before (Plain w) ws vs k
+values_spelled t before (Plain w ∷ ws) vs h =
+    tested (bytes_eq w (codes "seq")) _ _ _ h (λ a k. OfSequence (subst (λ (x : List ℕ). SpellsSequence t (Plain x ∷ ws) vs) (sym (bytes_same w (codes "seq") a)) (seq_spelled t before ws vs k)))
+    (λ a k. tested (bytes_eq w (codes "seqx")) _ _ _ k
+    (λ b l. OfBitSequence (subst (λ (x : List ℕ). SpellsBitSequence t (Plain x ∷ ws) vs) (sym (bytes_same w (codes "seqx") b)) (seqx_spelled t before ws vs l)))
+    (λ b. listed_words (listed_kind t w) t before (Plain w) ws vs))
 
 -- ---- regions
 
@@ -206,66 +183,46 @@ parts_spelled (suc n) found ws r h =
 
 many_spelled : (ws : List Word) (r : Given × List Word) → many_regions ws ≡ Ok r → RegionRead form.Varn ws r
 many_spelled ws r h =
-    let a = went (size ws) _ r h in
-    let b = went (refuse_if (a.value.0 == 0) kind.BadNumber) _ r a.rest in
-    let c = went (refuse_if (nat_lt most_parts a.value.0) (kind.Limit limit.Parts)) _ r b.rest in
-    let d = went (part_list a.value.0 [] a.value.1) _ r c.rest in
-    let count = size_is ws a.value a.first in
-    let parts = parts_spelled a.value.0 [] a.value.1 d.value d.first in
-    let long : a.value.0 ≡ length d.value.0 = sym (ap length parts.all ∙ parts.long) in
-    subst (RegionRead form.Varn ws) (same_ok (given_parts d.value.0, d.value.1) r d.rest) (record {
+    step_then (size ws) _ r h (λ n is h. free_then (n.0 == 0) _ _ r h (λ some h. free_then (nat_lt most_parts n.0) _ _ r h (λ few h. step_then (part_list n.0 [] n.1) _ r h (λ ps told h.
+    let count = size_is ws n is in
+    let parts = parts_spelled n.0 [] n.1 ps told in
+    let long : n.0 ≡ length ps.0 = sym (ap length parts.all ∙ parts.long) in
+    subst (RegionRead form.Varn ws) (same_ok (given_parts ps.0, ps.1) r h) (record {
       own = Plain count.word ∷ parts.own;
       are = count.are ∙ ap (λ (xs : List Word). Plain count.word ∷ xs) parts.are;
       same_form = refl;
       spells = (count.word, parts.own, refl, count.says ∙ ap (λ (n : ℕ). Some n) long, subst (λ (ps : List Part). Each list_of_text parts.own (flat_map (λ p. p.start ∷ p.count ∷ []) ps)) (sym parts.all) parts.spells);
-    })
+    })))))
+
+-- the words of lists of numbers, one after the other
+record ListsRead (ns : List (List ℕ)) (ws rest : List Word) : Type 0 where
+  own : List Word
+  are : ws ≡ own ++ rest
+  spells : Each list_of_text own ns
+
+no_list : (ws : List Word) → ListsRead [] ws ws
+no_list ws = record { own = []; are = refl; spells = tt }
+
+list_more : (ws rest : List Word) (ns : List (List ℕ)) (r : List ℕ × List Word) → WordRead list_of_text ws r → ListsRead ns r.1 rest → ListsRead (r.0 ∷ ns) ws rest
+list_more ws rest ns r s more = record { own = Plain s.word ∷ more.own; are = s.are ∙ ap (λ (xs : List Word). Plain s.word ∷ xs) more.are; spells = ((s.word, refl, s.says), more.spells) }
 
 pub region_spelled : (f : Form) (ws : List Word) (r : Given × List Word) → region f ws ≡ Ok r → RegionRead f ws r
 region_spelled form.Var ws r h = subst (RegionRead form.Var ws) (same_ok (given_of form.Var [] [] [] [], ws) r h) (record { own = []; are = refl; same_form = refl; spells = tt })
 region_spelled form.Var1 ws r h =
-    let a = went (list ws) _ r h in
-    let s = list_is ws a.value a.first in
-    subst (RegionRead form.Var1 ws) (same_ok (given_of form.Var1 a.value.0 [] [] [], a.value.1) r a.rest)
-    (record { own = Plain s.word ∷ []; are = s.are; same_form = refl; spells = ((s.word, refl, s.says), tt) })
+    read_then list_of_text _ ws _ r refl h (λ s w h.
+    subst (RegionRead form.Var1 ws) (same_ok (given_of form.Var1 s.0 [] [] [], s.1) r h) (record { own = Plain w.word ∷ []; are = w.are; same_form = refl; spells = ((w.word, refl, w.says), tt) }))
 region_spelled form.Vara ws r h =
-    let a = went (list ws) _ r h in
-    let b = went (list a.value.1) _ r a.rest in
-    let s = list_is ws a.value a.first in
-    let c = list_is a.value.1 b.value b.first in
-    subst (RegionRead form.Vara ws) (same_ok (given_of form.Vara a.value.0 b.value.0 [] [], b.value.1) r b.rest) (record {
-      own = Plain s.word ∷ Plain c.word ∷ [];
-      are = s.are ∙ ap (λ (xs : List Word). Plain s.word ∷ xs) c.are;
-      same_form = refl;
-      spells = ((s.word, refl, s.says), ((c.word, refl, c.says), tt));
-    })
+    read_then list_of_text _ ws _ r refl h (λ s w h. read_then list_of_text _ s.1 _ r refl h (λ c x h.
+    let l = list_more ws _ _ s w (list_more s.1 _ _ c x (no_list c.1)) in
+    subst (RegionRead form.Vara ws) (same_ok (given_of form.Vara s.0 c.0 [] [], c.1) r h) (record { own = l.own; are = l.are; same_form = refl; spells = l.spells })))
 region_spelled form.Vars ws r h =
-    let a = went (list ws) _ r h in
-    let b = went (list a.value.1) _ r a.rest in
-    let e = went (list b.value.1) _ r b.rest in
-    let s = list_is ws a.value a.first in
-    let c = list_is a.value.1 b.value b.first in
-    let d = list_is b.value.1 e.value e.first in
-    subst (RegionRead form.Vars ws) (same_ok (given_of form.Vars a.value.0 b.value.0 e.value.0 [], e.value.1) r e.rest) (record {
-      own = Plain s.word ∷ Plain c.word ∷ Plain d.word ∷ [];
-      are = s.are ∙ (ap (λ (xs : List Word). Plain s.word ∷ xs) c.are ∙ ap (λ (xs : List Word). Plain s.word ∷ Plain c.word ∷ xs) d.are);
-      same_form = refl;
-      spells = ((s.word, refl, s.says), ((c.word, refl, c.says), ((d.word, refl, d.says), tt)));
-    })
+    read_then list_of_text _ ws _ r refl h (λ s w h. read_then list_of_text _ s.1 _ r refl h (λ c x h. read_then list_of_text _ c.1 _ r refl h (λ d y h.
+    let l = list_more ws _ _ s w (list_more s.1 _ _ c x (list_more c.1 _ _ d y (no_list d.1))) in
+    subst (RegionRead form.Vars ws) (same_ok (given_of form.Vars s.0 c.0 d.0 [], d.1) r h) (record { own = l.own; are = l.are; same_form = refl; spells = l.spells }))))
 region_spelled form.Varm ws r h =
-    let a = went (list ws) _ r h in
-    let b = went (list a.value.1) _ r a.rest in
-    let e = went (list b.value.1) _ r b.rest in
-    let g = went (list e.value.1) _ r e.rest in
-    let s = list_is ws a.value a.first in
-    let c = list_is a.value.1 b.value b.first in
-    let d = list_is b.value.1 e.value e.first in
-    let m = list_is e.value.1 g.value g.first in
-    subst (RegionRead form.Varm ws) (same_ok (given_of form.Varm a.value.0 b.value.0 e.value.0 g.value.0, g.value.1) r g.rest) (record {
-      own = Plain s.word ∷ Plain c.word ∷ Plain d.word ∷ Plain m.word ∷ [];
-      are = s.are ∙ (ap (λ (xs : List Word). Plain s.word ∷ xs) c.are ∙ (ap (λ (xs : List Word). Plain s.word ∷ Plain c.word ∷ xs) d.are ∙ ap (λ (xs : List Word). Plain s.word ∷ Plain c.word ∷ Plain d.word ∷ xs) m.are));
-      same_form = refl;
-      spells = ((s.word, refl, s.says), ((c.word, refl, c.says), ((d.word, refl, d.says), ((m.word, refl, m.says), tt))));
-    })
+    read_then list_of_text _ ws _ r refl h (λ s w h. read_then list_of_text _ s.1 _ r refl h (λ c x h. read_then list_of_text _ c.1 _ r refl h (λ d y h. read_then list_of_text _ d.1 _ r refl h (λ m z h.
+    let l = list_more ws _ _ s w (list_more s.1 _ _ c x (list_more c.1 _ _ d y (list_more d.1 _ _ m z (no_list m.1)))) in
+    subst (RegionRead form.Varm ws) (same_ok (given_of form.Varm s.0 c.0 d.0 m.0, m.1) r h) (record { own = l.own; are = l.are; same_form = refl; spells = l.spells })))))
 region_spelled form.Varn ws r h = many_spelled ws r h
 
 pub region_of_form : (f : Form) (ws : List Word) (r : Given × List Word) (read : RegionRead f ws r) → SpellsRegion read.own r.0

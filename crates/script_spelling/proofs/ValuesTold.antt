@@ -51,19 +51,14 @@ numbers_told t before (w ∷ ws) (z ∷ zs) h room =
     let v = h.0.0 in
     let all = each_told (number_for t) t before [] (w ∷ ws) (z ∷ zs) h room in
     let read : number_values t before (w ∷ ws) ≡ Ok (Numbers (z ∷ zs)) = go_on (each_value (number_for t) t before [] (w ∷ ws)) (λ ys. Ok (Numbers ys)) (z ∷ zs) (Numbers (z ∷ zs)) all refl in
-    let seq = other_word (number_for t) v (codes "seq") z refl h.0.2 in
-    let seqx = other_word (number_for t) v (codes "seqx") z refl h.0.2 in
     ap (λ (u : Word). values t before (u ∷ ws)) h.0.1
-    ∙ (listed_told t before v ws seq seqx
+    ∙ (listed_told t before v ws (other_word (number_for t) v (codes "seq") z refl h.0.2) (other_word (number_for t) v (codes "seqx") z refl h.0.2)
     ∙ (as_numbers t before v (Plain v ∷ ws) z h.0.2 ∙ (ap (λ (u : Word). number_values t before (u ∷ ws)) (sym h.0.1) ∙ read)))
 
 -- ---- bits
 
-bits_begin : (w : List ℕ) (n : ℕ) → bits_of_text w ≡ Some n → begins_x w ≡ true
-bits_begin w n h = grind (arith, nat_tests, nat_lt, nat_le, fold)
-
 pattern_begins : (w : List ℕ) (n : ℕ) → pattern_for None w ≡ Some n → begins_x w ≡ true
-pattern_begins w n h = grind (arith, nat_tests, bits_begin)
+pattern_begins w n h = grind (arith, nat_tests)
 
 listed_bits : (c : Class) (size : ℕ) (t : Option NcType) (before : ℕ) (ws : List Word) (n : ℕ) → fits_in c size (value.Bits n) ≡ true → listed_values c t before ws ≡ bits_values t before ws
 listed_bits c size t before ws n h = grind (arith, nat_tests)
@@ -80,10 +75,8 @@ bits_told t before (w ∷ ws) (n ∷ ns) some h room =
     let v = h.0.0 in
     let all = each_told (pattern_for t) t before [] (w ∷ ws) (n ∷ ns) h room in
     let read : bits_values t before (w ∷ ws) ≡ Ok (Bits (n ∷ ns)) = go_on (each_value (pattern_for t) t before [] (w ∷ ws)) (λ ys. Ok (Bits ys)) (n ∷ ns) (Bits (n ∷ ns)) all refl in
-    let seq = other_word (pattern_for t) v (codes "seq") n refl h.0.2 in
-    let seqx = other_word (pattern_for t) v (codes "seqx") n refl h.0.2 in
     ap (λ (u : Word). values t before (u ∷ ws)) h.0.1
-    ∙ (listed_told t before v ws seq seqx
+    ∙ (listed_told t before v ws (other_word (pattern_for t) v (codes "seq") n refl h.0.2) (other_word (pattern_for t) v (codes "seqx") n refl h.0.2)
     ∙ (as_bits t before v (Plain v ∷ ws) n h.0.2 ∙ (ap (λ (u : Word). bits_values t before (u ∷ ws)) (sym h.0.1) ∙ read)))
 
 -- ---- sequences
@@ -109,15 +102,12 @@ seq_told t before ws vs (count, first, step, n, a, b, are, told, low, by, suits,
     (go_on (numbers_between t n (Plain first ∷ last)) _ zs (Numbers zs) terms refl) in
     ap (values t before) are ∙ (read ∙ ap (λ (x : Values). Ok x) (sym same))
 
-pattern_told : (t : Option NcType) (n : ℕ) (w : List ℕ) (a : ℕ) (more : List Word) → bits_of_text w ≡ Some a → is_pattern_term t n a ≡ true → pattern_term t n (Plain w ∷ more) ≡ Ok (a, more)
-pattern_told t n w a more h fits = grind (arith, nat_tests, go_on, word_read, not, passed)
-
 count_of_patterns : (ns : List ℕ) → count_of (pattern_values ns) ≡ length ns
 count_of_patterns [] = refl
 count_of_patterns (n ∷ ns) = refl
 
 seqx_told : (t : Option NcType) (before : ℕ) (ws : List Word) (vs : Values) → SpellsBitSequence t ws vs → HasRoom t before (count_of vs) → values t before ws ≡ Ok vs
-seqx_told t before ws vs xs room = grind (arith, nat_tests, count_of_patterns, length-pattern_sequence, go_on, pattern_told, word_read, not, passed, count_told)
+seqx_told t before ws vs xs room = grind (arith, nat_tests, count_of_patterns, length-pattern_sequence, go_on, word_read, not, passed, count_told)
 
 -- ---- all values
 

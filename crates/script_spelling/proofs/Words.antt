@@ -65,7 +65,7 @@ pub use Rattle.script_text.proofs.Places.{Later, bytes_own, bytes_same, more_ids
 pub use Rattle.script_text.proofs.PrintedRegions.{name_again, region_with, same_region}
 pub use Rattle.script_text.proofs.PrintedValues.{HasRoom, less_room, number_fit, pattern_fit, room_again}
 pub use Rattle.script_text.proofs.Sequences.{length-pattern_sequence, length-sequence}
-pub use Rattle.script_text.proofs.Steps.{by_false, carried, carry_on, faultless, go_on, is_end, not_refused, passed, same_ok, went, whole_value, word_read}
+pub use Rattle.script_text.proofs.Steps.{by_false, carried, carry_on, end_then, faultless, free_then, go_on, is_end, looked, not_refused, passed, same_ok, step_then, tested, went, whole_value, word_read}
 pub use Rattle.script_text.proofs.Whole.{count_empty, finish_by, is_text, text_again}
 pub use Rattle.serial_spec.proofs.LawfulTests.{lawful_parts}
 pub use Rattle.serial_spec.specs.ExternalForm.{Class, class_of, fits_in, size_of}

@@ -1,5 +1,5 @@
 -- Words that are read stand as they are.
-use Rattle.script_spelling.proofs.Words.{◌≡◌, ◌∙◌, ℕ, List, [], ◌∷◌, true, Option, Some, None, Ok, refl, ap, subst, cond_some, faultless_some, ScriptKind, Word, Plain, is_name, size_of_text, list_of_text, ◌>>=◌, or_fault, bare, reads_as, size, list, name, name_of_text, went, same_ok, SpellsOne, arith, nat_tests}
+use Rattle.script_spelling.proofs.Words.{◌≡◌, ◌∙◌, ℕ, List, [], ◌∷◌, true, Option, Some, None, Ok, refl, ap, subst, cond_some, faultless_some, ScriptKind, Word, Plain, is_name, size_of_text, list_of_text, ◌>>=◌, or_fault, bare, reads_as, size, list, name, name_of_text, went, same_ok, SpellsOne, arith, nat_tests, step_then, Result}
 use Rattle.nc_base.specs.declared.errors.ScriptKind.TheVariants as kind
 
 -- the word that is read, and what follows it
@@ -11,6 +11,10 @@ pub record WordRead {A : Type 0} (f : List ℕ → Option A) (ws : List Word) (r
 -- what reads no lone quote reads a word as it stands
 pub word_is : {A : Type 0} (f : List ℕ → Option A) (e : ScriptKind) (ws : List Word) (r : A × List Word) → f (34 ∷ []) ≡ None → reads_as f e ws ≡ Ok r → WordRead f ws r
 word_is f e ws r none h = grind (arith, nat_tests, went, faultless_some, same_ok)
+
+pub read_then : {A B P : Type 0} (g : List ℕ → Option A) (e : ScriptKind) (ws : List Word) (f : A × List Word → Result B ScriptKind) (y : B) → g (34 ∷ []) ≡ None → (reads_as g e ws >>= f) ≡ Ok y
+    → ((r : A × List Word) → WordRead g ws r → f r ≡ Ok y → P) → P
+read_then g e ws f y none h k = step_then (reads_as g e ws) f y h (λ r is. k r (word_is g e ws r none is))
 
 -- one word by itself
 pub one_is : {A : Type 0} (f : List ℕ → Option A) (e : ScriptKind) (w : Word) (x : A) → f (34 ∷ []) ≡ None → (bare w >>= λ v. or_fault e (f v)) ≡ Ok x → SpellsOne f w x
@@ -27,6 +31,9 @@ name_is ws r h =
     let a = word_is name_of_text kind.BadName ws r refl h in
     let k = cond_some (is_name a.word) a.word r.0 a.says in
     record { are = a.are ∙ ap (λ (w : List ℕ). Plain w ∷ r.1) k.1; named = subst (λ (w : List ℕ). is_name w ≡ true) k.1 k.0 }
+
+pub named_then : {B P : Type 0} (ws : List Word) (f : List ℕ × List Word → Result B ScriptKind) (y : B) → (name ws >>= f) ≡ Ok y → ((n : List ℕ × List Word) → NameRead ws n → f n ≡ Ok y → P) → P
+named_then ws f y h k = step_then (name ws) f y h (λ n is. k n (name_is ws n is))
 
 -- ---- sizes and lists
 

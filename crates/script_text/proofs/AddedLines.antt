@@ -1,10 +1,10 @@
 -- Runs of lines of the definitions, and what is added to a dataset that is opened: each line, printed, is read in the state in which it was read before.
-use Rattle.script_text.proofs.Words.{◌≡◌, ◌⊎◌, ◌∙◌, ℕ, ◌+◌, ◌≤◌, List, [], ◌∷◌, ◌++◌, map, length, drop, Bool, true, false, cond, nat_lt, Option, Some, None, Result, Ok, Err, refl, sym, ap, subst, ⊎_elim, inl, inr, arith, bytes_eq, codes, list_all, list_any, and_from, cond-true, cond-false, bytes_eq-Decides, ScriptKind, ScriptErr, Attr, Extra, most_dims_of_var, most_values, type_word, line, bracketed, shown_extra, shown_attr, Word, Plain, Quoted, Broken, Line, is_name, refuse_if, reads_as, name_of_text, ended, dim_line, var_head, name_list, owner_of_text, owner_name, attribute, Added, is_added_record, added_shape, dim_addition, var_addition, att_addition, addition, Known, known_after, definition_step, definitions, nat_tests}
+use Rattle.script_text.proofs.Words.{◌≡◌, ◌⊎◌, ◌∙◌, ℕ, ◌+◌, ◌≤◌, List, [], ◌∷◌, ◌++◌, map, length, drop, true, false, nat_lt, Option, Some, None, Result, Ok, Err, refl, sym, ap, subst, ⊎_elim, inl, inr, arith, bytes_eq, codes, list_all, list_any, and_from, cond-true, cond-false, bytes_eq-Decides, ScriptErr, Attr, Extra, most_dims_of_var, most_values, type_word, line, bracketed, shown_extra, shown_attr, Word, Plain, Quoted, Broken, Line, is_name, refuse_if, reads_as, dim_line, var_head, name_list, owner_of_text, owner_name, attribute, Added, is_added_record, added_shape, dim_addition, var_addition, att_addition, addition, Known, known_after, definition_step, definitions, nat_tests, cond_some, same_Some, Dim}
 use Rattle.std.proofs.Common.{flat_map}
 use Rattle.nc_base.specs.declared.errors.ScriptKind.TheVariants as kind
 use Rattle.nc_base.specs.declared.errors.LimitName.TheVariants as limit
 use Rattle.nc_base.specs.declared.script.Extra.TheVariants as extra
-use Rattle.script_text.proofs.Steps.{went, go_on, same_ok, not_refused, passed, read_word, word_read, by_false}
+use Rattle.script_text.proofs.Steps.{went, go_on, same_ok, passed, read_word, word_read, by_false, tested, decided, step_then, free_then, end_then}
 use Rattle.script_text.proofs.Lexing.{is_plain, is_good}
 use Rattle.script_text.proofs.Lines.{is_line, spelled, numbered}
 use Rattle.script_text.proofs.Numerals.{name_plain}
@@ -26,6 +26,9 @@ abbrev pub Runs : ℕ → Known → List (List Word) → Known → Type 0
 Runs version known [] after = known ≡ after
 Runs version known (ws ∷ wss) after = (next : Known) × Leads version known ws next × Runs version next wss after
 
+pub leads_on : (version : ℕ) (k next after : Known) (ws : List Word) (wss : List (List Word)) → Leads version k ws next → Runs version next wss after → Runs version k (ws ∷ wss) after
+leads_on version k next after ws wss a b = (next, a, b)
+
 pub runs_on : (version : ℕ) (k x y : Known) (a b : List (List Word)) → Runs version k a x → Runs version x b y → Runs version k (a ++ b) y
 runs_on version k x y [] b h j = subst (λ (z : Known). Runs version z b y) (sym h) j
 runs_on version k x y (ws ∷ a) b h j = (h.0, h.1, runs_on version h.0 x y a b h.2 j)
@@ -36,14 +39,10 @@ defined_by past version lines r = elim r [ Err e ↦ Err e | Ok s ↦ elim s.0 [
 pub step_again : (version : ℕ) (k x : Known) (first : List ℕ) (ws : List Word) → bytes_eq first (codes "data") ≡ false → known_after version k first ws ≡ Ok x → definition_step version k (Plain first) ws ≡ Ok (None, x)
 step_again version k x first ws other h = by_false (bytes_eq first (codes "data")) _ _ other ∙ go_on (known_after version k first ws) (λ more. Ok (None, more)) x (None, x) h refl
 
-line_on : (past version n : ℕ) (k x : Known) (ws : List Word) (wss : List (List Word)) → Leads version k ws x
-    → definitions past version k (numbered n (ws ∷ wss)) ≡ definitions past version x (numbered (n + 1) wss)
-line_on past version n k x ws wss h = grind (arith, nat_tests, numbered, step_again)
-
 pub run_again : (past version n m : ℕ) (k x : Known) (wss more : List (List Word)) → n + length wss ≡ m → Runs version k wss x
     → definitions past version k (numbered n (wss ++ more)) ≡ definitions past version x (numbered m more)
 run_again past version n m k x [] more e h = grind (arith, nat_tests, numbered)
-run_again past version n m k x (ws ∷ wss) more e h = grind (arith, nat_tests, run_again past version (n + 1) m h.0 x wss more (omega arith) h.2, line_on)
+run_again past version n m k x (ws ∷ wss) more e h = grind (arith, nat_tests, run_again past version (n + 1) m h.0 x wss more (omega arith) h.2)
 
 -- ---- what is added, as it is printed
 
@@ -101,52 +100,43 @@ dim_added values d ws r low h =
       few = omega arith;
     })
 
+added_shape_read : (dims : List Dim) (ws : List Word) (s : List (List ℕ) × List Word) → added_shape dims ws ≡ Ok s
+    → (list_all is_name s.0 ≡ true) × (nat_lt most_dims_of_var (length s.0) ≡ false) × (list_any (is_added_record dims) (drop 1 s.0) ≡ false)
+added_shape_read dims ws s h =
+    step_then (name_list ws) _ s h (λ l is h. free_then _ _ _ s h (λ few h. free_then _ _ _ s h (λ records h.
+    subst (λ (x : List (List ℕ) × List Word). (list_all is_name x.0 ≡ true) × (nat_lt most_dims_of_var (length x.0) ≡ false) × (list_any (is_added_record dims) (drop 1 x.0) ≡ false)) (same_ok l s h)
+    (names_read ws l is, few, records))))
+
 var_added : (values : ℕ) (d : Added) (ws : List Word) (r : ℕ × Added) → values ≤ most_values → var_addition d ws ≡ Ok r → AddedBy values d r
 var_added values d ws r low h =
-    let v = went (var_head 5 d.vars ws) _ r h in
-    let s = went (added_shape d.dims v.value.1) _ r v.rest in
-    let e = went (ended s.value.1) _ r s.rest in
-    let l = went (name_list v.value.1) _ s.value s.first in
-    let b = went (refuse_if (nat_lt most_dims_of_var (length l.value.0)) (kind.Limit limit.VarDims)) _ s.value l.rest in
-    let c = went (refuse_if (list_any (is_added_record d.dims) (drop 1 l.value.0)) kind.BadShape) _ s.value b.rest in
-    let t = v.value.0.0 in
-    let n = v.value.0.1 in
-    let ns = s.value.0 in
-    let same : l.value ≡ s.value = same_ok l.value s.value c.rest in
-    let named = subst (λ (x : List (List ℕ) × List Word). list_all is_name x.0 ≡ true) same (names_read v.value.1 l.value l.first) in
-    let few = subst (λ (x : List (List ℕ) × List Word). nat_lt most_dims_of_var (length x.0) ≡ false) same (not_refused _ _ b.value b.first) in
-    let records = subst (λ (x : List (List ℕ) × List Word). list_any (is_added_record d.dims) (drop 1 x.0) ≡ false) same (not_refused _ _ c.value c.first) in
-    let head = head_read 5 d.vars ws v.value v.first in
+    step_then (var_head 5 d.vars ws) _ r h (λ v heads h. step_then (added_shape d.dims v.1) _ r h (λ s shaped h. end_then s.1 _ r h (λ none h.
+    let l = added_shape_read d.dims v.1 s shaped in
+    let t = v.0.0 in
+    let n = v.0.1 in
+    let ns = s.0 in
+    let head = head_read 5 d.vars ws v heads in
     let next : Added = record d { vars = d.vars ++ n ∷ []; extras = d.extras ++ extra.Var t n ns ∷ [] } in
     let rest = Plain (bracketed ns) ∷ [] in
-    subst (AddedBy values d) (same_ok (0, next) r e.rest) (record {
+    subst (AddedBy values d) (same_ok (0, next) r h) (record {
       what = extra.Var t n ns;
       extras = refl;
-      good = and_from _ _ (type_plain t) (and_from _ _ (name_plain n head.named) (and_from _ _ (names_plain ns named) refl));
+      good = and_from _ _ (type_plain t) (and_from _ _ (name_plain n head.named) (and_from _ _ (names_plain ns l.0) refl));
       again = go_on (var_head 5 d.vars (Plain (type_word t) ∷ Plain n ∷ rest)) _ ((t, n), rest) (0, next) (head_again 5 d.vars t n rest head)
           (go_on (added_shape d.dims rest) _ (ns, []) (0, next)
-          (go_on (name_list rest) _ (ns, []) (ns, []) (names_again ns [] named)
-          (go_on (refuse_if (nat_lt most_dims_of_var (length ns)) (kind.Limit limit.VarDims)) _ tt (ns, []) (passed _ _ few)
-          (go_on (refuse_if (list_any (is_added_record d.dims) (drop 1 ns)) kind.BadShape) _ tt (ns, []) (passed _ _ records) refl))) refl);
+          (go_on (name_list rest) _ (ns, []) (ns, []) (names_again ns [] l.0)
+          (go_on (refuse_if (nat_lt most_dims_of_var (length ns)) (kind.Limit limit.VarDims)) _ tt (ns, []) (passed _ _ l.1)
+          (go_on (refuse_if (list_any (is_added_record d.dims) (drop 1 ns)) kind.BadShape) _ tt (ns, []) (passed _ _ l.2) refl))) refl);
       few = omega arith;
-    })
+    }))))
 
 -- the owner of an attribute: the dataset, or a name
 abbrev pub Owner : List ℕ → Type 0
 Owner w = (w ≡ codes ":") ⊎ ((bytes_eq w (codes ":") ≡ false) × (is_name w ≡ true))
 
-name_from : (w n : List ℕ) (b : Bool) → is_name w ≡ b → cond {A = Option (List ℕ)} b (Some w) None ≡ Some n → (w ≡ n) × (is_name n ≡ true)
-name_from w n true e h = let same : w ≡ n = cc in (same, subst (λ x. is_name x ≡ true) same e)
-name_from w n false e h = absurd (cc)
-
 owner_is : (w o : List ℕ) → owner_of_text w ≡ Some o → Owner o
-owner_is w o h = by (bytes_eq w (codes ":")) refl h
-  where
-    by : (b : Bool) → bytes_eq w (codes ":") ≡ b → cond b (Some w) (name_of_text w) ≡ Some o → Owner o
-    by true e k = let same : w ≡ o = cc in inl (sym same ∙ (bytes_eq-Decides w (codes ":")).0 e)
-    by false e k =
-        let n = name_from w o (is_name w) refl k in
-        inr (subst (λ x. bytes_eq x (codes ":") ≡ false) n.0 e, n.1)
+owner_is w o h =
+    decided (bytes_eq w (codes ":")) _ _ _ h (λ e k. inl (sym (same_Some w o k) ∙ (bytes_eq-Decides w (codes ":")).0 e))
+    (λ e k. let n = cond_some (is_name w) w o k in inr (subst (λ x. bytes_eq x (codes ":") ≡ false) n.1 e, subst (λ x. is_name x ≡ true) n.1 n.0))
 
 pub owner_read : (ws : List Word) (r : List ℕ × List Word) → reads_as owner_of_text kind.BadName ws ≡ Ok r → Owner r.0
 owner_read ws r h = let w = read_word owner_of_text kind.BadName ws r h in owner_is w.0 r.0 w.1
@@ -182,19 +172,10 @@ att_added values d ws r low read h =
     })
 
 pub addition_read : (values : ℕ) (d : Added) (first : List ℕ) (ws : List Word) (r : ℕ × Added) → values ≤ most_values → list_all is_read ws ≡ true → addition values d first ws ≡ Ok r → AddedBy values d r
-addition_read values d first ws r low read h = by (bytes_eq first (codes "dim")) (bytes_eq first (codes "var")) (bytes_eq first (codes "att")) h
-  where
-    by : (i j k : Bool) → elim i as (λ x. Result (ℕ × Added) ScriptKind) [
-      | true ↦ dim_addition d ws
-      | false ↦ elim j as (λ x. Result (ℕ × Added) ScriptKind) [
-        | true ↦ var_addition d ws
-        | false ↦ elim k as (λ x. Result (ℕ × Added) ScriptKind) [ true ↦ att_addition values d ws | false ↦ Err kind.UnknownWord ]
-      ]
-    ] ≡ Ok r → AddedBy values d r
-    by true j k e = dim_added values d ws r low e
-    by false true k e = var_added values d ws r low e
-    by false false true e = att_added values d ws r low read e
-    by false false false e = absurd (cc)
+addition_read values d first ws r low read h =
+    tested (bytes_eq first (codes "dim")) _ _ _ h (λ i. dim_added values d ws r low)
+    (λ i k. tested (bytes_eq first (codes "var")) _ _ _ k (λ j. var_added values d ws r low)
+    (λ j l. tested (bytes_eq first (codes "att")) _ _ _ l (λ e. att_added values d ws r low read) (λ e m. absurd (cc))))
 
 -- ---- all of them, again
 
@@ -215,9 +196,6 @@ pub replay_lines : (v w : ℕ) (d x : Added) (es : List Extra) → Replay v d es
 replay_lines v w d x [] h = refl
 replay_lines v w d x (e ∷ es) h = and_from _ _ (extra_is_line e h.1) (replay_lines (v + h.0.0) w h.0.1 x es h.3)
 
-extra_leads : (k : Known) (e : Extra) (r : ℕ × Added) → addition k.values k.added (extra_word e) (extra_rest e) ≡ Ok r → Leads 0 k (extra_line e) (record k { added = r.1; values = k.values + r.0 })
-extra_leads k e r h = grind (arith, nat_tests, go_on, codes)
-
 pub replay_runs : (v w : ℕ) (d x : Added) (es : List Extra) (k : Known) → Replay v d es w x → Runs 0 (record k { added = d; values = v }) (map extra_line es) (record k { added = x; values = w })
 replay_runs v w d x [] k h = ap (λ (n : ℕ). record k { added = d; values = n }) h.0 ∙ ap (λ (y : Added). record k { added = y; values = w }) h.1
-replay_runs v w d x (e ∷ es) k h = grind (arith, nat_tests, replay_runs (v + h.0.0) w h.0.1 x es k h.3, extra_leads)
+replay_runs v w d x (e ∷ es) k h = grind (arith, nat_tests, replay_runs (v + h.0.0) w h.0.1 x es k h.3)

@@ -1,9 +1,9 @@
 -- The calls of all ranks, printed rank by rank, are read as the same calls.
-use Rattle.script_text.proofs.Words.{◌≡◌, ◌∙◌, ℕ, zero, suc, ◌+◌, ◌≤◌, ◌<◌, List, [], ◌∷◌, ◌++◌, map, length, replicate, Bool, true, false, not, nat_lt, slice_set, Result, Ok, Err, refl, sym, ap, subst, append_assoc, append-nil, length-append, arith, bytes_eq, codes, decimal, list_all, enumerate_from, and_parts, and_from, cond-true, ne_eqb, set_at, ScriptKind, ScriptErr, Call, most_values, values_in_call, call_word, line, shown_call, Word, Plain, Line, is_comment, is_digit, ◌>>=◌, bare, next, whole, Called, calls_of, rank_of_text, with_call, call_line, call_of, called_after, at_line, call_step, data_part, flat_map-append, all_joined, nat_tests}
+use Rattle.script_text.proofs.Words.{◌≡◌, ◌∙◌, ℕ, zero, suc, ◌+◌, ◌≤◌, ◌<◌, List, [], ◌∷◌, ◌++◌, map, length, replicate, Bool, true, false, not, nat_lt, slice_set, Result, Ok, Err, refl, sym, ap, subst, append_assoc, append-nil, length-append, arith, bytes_eq, codes, decimal, list_all, enumerate_from, and_parts, and_from, cond-true, ne_eqb, set_at, ScriptKind, ScriptErr, Call, most_values, values_in_call, call_word, line, shown_call, Word, Plain, Line, is_comment, is_digit, bare, next, Called, calls_of, rank_of_text, with_call, call_line, call_of, called_after, at_line, call_step, data_part, flat_map-append, all_joined, nat_tests, length-set, length-replicate}
 use Rattle.std.proofs.Common.{flat_map}
 use borrow.Author.Tests.{ltb-true, lt-ltb}
 use Rattle.nc_base.specs.declared.errors.ScriptKind.TheVariants as kind
-use Rattle.script_text.proofs.Steps.{went, go_on, same_ok, whole_value, by_false}
+use Rattle.script_text.proofs.Steps.{went, go_on, same_ok, whole_value, by_false, tested, carried, step_then}
 use Rattle.script_text.proofs.Lines.{is_line, spelled, numbered}
 use Rattle.script_text.proofs.Numerals.{decimal_numeral, decimal_plain, decimal_word}
 use Rattle.script_text.proofs.PrintedValues.{is_read, not_letters}
@@ -50,11 +50,6 @@ count_set [] r c low = absurd (omega arith)
 count_set (own ∷ more) zero c low = omega (arith, count-pushed own c)
 count_set (own ∷ more) (suc r) c low = omega (arith, count_set more r c (omega arith))
 
-length-set_list : {A : Type 0} (xs : List A) (r : ℕ) (x : A) → length (slice_set xs r x) ≡ length xs
-length-set_list [] r x = refl
-length-set_list (y ∷ xs) zero x = refl
-length-set_list (y ∷ xs) (suc r) x = ap suc (length-set_list xs r x)
-
 -- what was called so far, v values having come before the first call
 pub record Holds (ranks v : ℕ) (d : Called) : Type 0 where
   pub long : length d.calls ≡ ranks
@@ -70,20 +65,15 @@ next_read ws r h all = grind (arith, nat_tests, went, same_ok, and_parts)
 
 pub holds_on : (ranks v : ℕ) (d e : Called) (first : List ℕ) (ws : List Word) → Holds ranks v d → list_all is_read ws ≡ true → called_after d first ws ≡ Ok e → Holds ranks v e
 holds_on ranks v d e first ws holds read h =
-    let a = went (rank_of_text (length d.calls) first) _ e h in
-    let b = went (call_line d a.value ws) _ e a.rest in
-    let w = went (next ws) _ b.value b.first in
-    let r = a.value in
-    let c = b.value in
-    let low : r < length d.calls = rank_bound (length d.calls) first r a.first in
-    let again = call_read (length d.calls) r (calls_of r d.calls) d.values w.value.0 w.value.1 c holds.few (next_read ws w.value w.first read) w.rest in
-    let same : CallAgain ranks r (calls_of r d.calls) c = subst (λ n. CallAgain n r (calls_of r d.calls) c) holds.long again.same in
-    subst (Holds ranks v) (same_ok (with_call r c d) e b.rest) (record {
-      long = length-set_list d.calls r (calls_of r d.calls ++ c ∷ []) ∙ holds.long;
-      chains = chains_set ranks 0 r r d.calls c (omega arith) low holds.chains same;
+    step_then (rank_of_text (length d.calls) first) _ e h (λ r ranked h. step_then (call_line d r ws) _ e h (λ c lined h. step_then (next ws) _ c lined (λ w worded k.
+    let low = rank_bound (length d.calls) first r ranked in
+    let again = call_read (length d.calls) r (calls_of r d.calls) d.values w.0 w.1 c holds.few (next_read ws w worded read) k in
+    subst (Holds ranks v) (same_ok (with_call r c d) e h) (record {
+      long = length-set d.calls r (calls_of r d.calls ++ c ∷ []) ∙ holds.long;
+      chains = chains_set ranks 0 r r d.calls c (omega arith) low holds.chains (subst (λ n. CallAgain n r (calls_of r d.calls) c) holds.long again.same);
       counted = omega (arith, holds.counted, count_set d.calls r c low);
       few = again.few;
-    })
+    }))))
 
 -- ---- the lines of the calls
 
@@ -106,27 +96,19 @@ data_by past l lines r = elim r [ Err e ↦ Err e | Ok s ↦ elim s.0 [ true ↦
 step_holds : (ranks v : ℕ) (d : Called) (w : Word) (ws : List Word) (s : Bool × Called) → Holds ranks v d → list_all is_read ws ≡ true → call_step d w ws ≡ Ok s → Holds ranks v s.1
 step_holds ranks v d w ws s holds read h =
     let a = went (bare w) _ s h in
-    by a.value (bytes_eq a.value (codes "end")) a.rest
-  where
-    by : (first : List ℕ) (b : Bool) → elim b as (λ x. Result (Bool × Called) ScriptKind) [ true ↦ whole ((true, d), ws) | false ↦ (called_after d first ws >>= λ more. Ok (false, more)) ] ≡ Ok s → Holds ranks v s.1
-    by first true k = subst (λ (x : Bool × Called). Holds ranks v x.1) (whole_value ((true, d), ws) s k).0 holds
-    by first false k =
-        let a = went (called_after d first ws) (λ more. Ok (false, more)) s k in
-        subst (λ (x : Bool × Called). Holds ranks v x.1) (same_ok (false, a.value) s a.rest) (holds_on ranks v d a.value first ws holds read a.first)
+    tested (bytes_eq a.value (codes "end")) _ _ _ a.rest (λ i k. subst (λ (x : Bool × Called). Holds ranks v x.1) (whole_value ((true, d), ws) s k).0 holds)
+    (λ i k.
+    let b = went (called_after d a.value ws) _ s k in
+    subst (λ (x : Bool × Called). Holds ranks v x.1) (same_ok (false, b.value) s b.rest) (holds_on ranks v d b.value a.value ws holds read b.first))
 
 pub data_holds : (ranks v past : ℕ) (lines : List Line) (d : Called) (r : ℕ × (Called × List Line)) → Holds ranks v d → are_read lines ≡ true → data_part past d lines ≡ Ok r → Holds ranks v r.1.0
 data_holds ranks v past [] d r holds read h = absurd (cc)
-data_holds ranks v past (l ∷ lines) d r holds read h = by (at_line l.number (call_step d l.first l.rest)) refl h (λ e. data_holds ranks v past lines e r)
-  where
-    both : (list_all is_read l.rest ≡ true) × (are_read lines ≡ true)
-    both = and_parts _ _ read
-
-    by : (s : Result (Bool × Called) ScriptErr) → at_line l.number (call_step d l.first l.rest) ≡ s → data_by past l lines s ≡ Ok r
-        → ((e : Called) → Holds ranks v e → are_read lines ≡ true → data_part past e lines ≡ Ok r → Holds ranks v r.1.0) → Holds ranks v r.1.0
-    by (Err e) is k more = absurd (cc)
-    by (Ok (true, e)) is k more =
-        subst (λ (x : ℕ × (Called × List Line)). Holds ranks v x.1.0) (same_ok (l.number, (e, lines)) r k) (step_holds ranks v d l.first l.rest (true, e) holds both.0 (line_ok l.number _ (true, e) is))
-    by (Ok (false, e)) is k more = more e (step_holds ranks v d l.first l.rest (false, e) holds both.0 (line_ok l.number _ (false, e) is)) both.1 k
+data_holds ranks v past (l ∷ lines) d r holds read h =
+    let both = and_parts (list_all is_read l.rest) (are_read lines) read in
+    let a = carried (at_line l.number (call_step d l.first l.rest)) _ r h in
+    let next = step_holds ranks v d l.first l.rest a.value holds both.0 (line_ok l.number _ a.value a.first) in
+    tested a.value.0 _ _ _ a.rest (λ i k. subst (λ (x : ℕ × (Called × List Line)). Holds ranks v x.1.0) (same_ok (l.number, (a.value.1, lines)) r k) next)
+    (λ i. data_holds ranks v past lines a.value.1 r next both.1)
 
 -- ---- printed lines of calls
 
@@ -211,9 +193,7 @@ own_again ranks past (c ∷ cs) front own back v r n m more e small long h few n
     let rest = own_again ranks past cs front next_own back (v + values_in_call c) r (n + 1) m more e small next_long h.1 (omega arith) (omega arith) in
     let total : (v + values_in_call c) + count cs ≡ v + (values_in_call c + count cs) = omega arith in
     data_on past n (at_rank front own back v) (at_rank front next_own back (v + values_in_call c)) (Plain (decimal r)) (Plain (call_word c) ∷ call_tokens c) (numbered (n + 1) (own_lines r cs ++ more)) step
-    ∙ (rest
-    ∙ (ap (λ (x : List Call). data_part past (at_rank front x back ((v + values_in_call c) + count cs)) (numbered m more)) (append_assoc own (c ∷ []) cs)
-    ∙ ap (λ (x : ℕ). data_part past (at_rank front (own ++ c ∷ cs) back x) (numbered m more)) total))
+    ∙ (rw (append_assoc own (c ∷ []) cs, total) at rest)
 
 abbrev lines_in : List (List Call) → ℕ
 lines_in [] = 0
@@ -228,22 +208,12 @@ calls_again : (ranks past : ℕ) (calls front : List (List Call)) (v r n m : ℕ
 calls_again ranks past [] front v r n m more e long small h few num = grind (arith, nat_tests, numbered)
 calls_again ranks past (own ∷ calls) front v r n m more e long small h few num =
     let back : List (List Call) = replicate (length calls) [] in
-    let whole_long : length (front ++ [] ∷ back) ≡ ranks = omega (arith, length-append front ([] ∷ back), length_replicate (length calls)) in
+    let as_long : length back ≡ length calls = length-replicate (length calls) [] in
+    let whole_long : length (front ++ [] ∷ back) ≡ ranks = omega (arith, length-append front ([] ∷ back), as_long) in
     let first = own_again ranks past own front [] back v r n (n + length own) (call_lines (r + 1) calls ++ more) e (omega arith) whole_long h.0 (omega arith) refl in
-    let next_front = front ++ own ∷ [] in
-    let shift : (rest : List (List Call)) → front ++ own ∷ rest ≡ next_front ++ rest = λ rest. sym (append_assoc front (own ∷ []) rest) in
-    let rest = calls_again ranks past calls next_front (v + count own) (r + 1) (n + length own) m more (omega (arith, e, length-append front (own ∷ []))) (omega arith) small h.1 (omega arith) (omega arith) in
+    let rest = calls_again ranks past calls (front ++ own ∷ []) (v + count own) (r + 1) (n + length own) m more (omega (arith, e, length-append front (own ∷ []))) (omega arith) small h.1 (omega arith) (omega arith) in
     let total : (v + count own) + count_all calls ≡ v + (count own + count_all calls) = omega arith in
-    ap (λ (wss : List (List Word)). data_part past (from_rank front ([] ∷ back) v) (numbered n wss)) (append_assoc (own_lines r own) (call_lines (r + 1) calls) more)
-    ∙ (first
-    ∙ (ap (λ (xs : List (List Call)). data_part past (record { calls = xs; values = v + count own }) (numbered (n + length own) (call_lines (r + 1) calls ++ more))) (shift back)
-    ∙ (rest
-    ∙ (ap (λ (xs : List (List Call)). data_part past (record { calls = xs; values = (v + count own) + count_all calls }) (numbered m more)) (sym (shift calls))
-    ∙ ap (λ (x : ℕ). data_part past (from_rank front (own ∷ calls) x) (numbered m more)) total))))
-  where
-    length_replicate : (k : ℕ) → length (replicate {A = List Call} k []) ≡ k
-    length_replicate zero = refl
-    length_replicate (suc k) = ap suc (length_replicate k)
+    rw (append_assoc (own_lines r own) (call_lines (r + 1) calls) more) (first ∙ (rw (append_assoc front (own ∷ []) back, append_assoc front (own ∷ []) calls, total) at rest))
 
 -- the printed calls up to `end`
 pub data_again : (ranks past n v : ℕ) (calls : List (List Call)) → ranks ≤ 64 → DataEnd ranks v calls

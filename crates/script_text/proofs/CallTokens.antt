@@ -68,14 +68,11 @@ call_spelled c = plain_spelled c
 
 -- ---- the words of calls
 
-with_all_plain : (all : Bool) (f : Form) → (is_plain (with_all all (codes "put_" ++ form_word f)) ≡ true) × (is_plain (with_all all (codes "get_" ++ form_word f)) ≡ true)
-with_all_plain all f = grind (arith, nat_tests)
-
 post_plain : (k : PostKind) (f : Form) → is_plain (kind_word k ++ form_word f) ≡ true
 post_plain k f = grind (arith, nat_tests)
 
 pub call_plain : (c : Call) → is_plain (call_word c) ≡ true
-call_plain c = grind (arith, nat_tests, with_all_plain, post_plain)
+call_plain c = grind (arith, nat_tests, post_plain)
 
 module _ (ranks r : ℕ) (own : List Call) (before : ℕ) (ws : List Word) where
   pub put_word : (all : Bool) (f : Form) → call_of ranks r own before (with_all all (codes "put_" ++ form_word f)) ws ≡ put_call all f before ws

@@ -1,8 +1,8 @@
 -- What is known of the definitions of a new dataset once they are read: each dimension, variable and attribute, printed after those before it, is read again.
-use Rattle.script_text.proofs.Words.{◌≡◌, ◌∙◌, ℕ, zero, suc, ◌+◌, ◌≤◌, List, [], ◌∷◌, ◌++◌, map, position, length, drop, Bool, true, false, nat_lt, Option, Some, None, slice_get, slice_set, Result, Ok, Err, refl, sym, ap, subst, ⊎_elim, append_assoc, append-nil, arith, bytes_eq, codes, list_all, list_any, and_parts, and_from, or_from, or_left, or_right, list_any-append, faultless_some, ScriptKind, NcType, Dim, Attr, Var, most_dims_of_var, most_values, Word, is_name, refuse_if, or_fault, reads_as, ended, is_among, dim_line, var_head, name_list, dim_ids, is_record_dim, var_names, shape, var_line, owner_of_text, owner_place, Title, same_title, attribute, Defined, with_dim, with_var, with_attr_at, with_title, with_attr_of_owner, att_line, dim_definition, var_definition, fill_line, definition, all_joined, nat_tests}
+use Rattle.script_text.proofs.Words.{◌≡◌, ◌∙◌, ℕ, zero, suc, ◌+◌, ◌≤◌, List, [], ◌∷◌, ◌++◌, map, position, length, drop, Bool, true, false, nat_lt, Option, Some, None, slice_get, slice_set, Ok, refl, sym, ap, subst, ⊎_elim, append_assoc, append-nil, arith, bytes_eq, codes, list_all, list_any, and_parts, and_from, or_from, or_left, or_right, list_any-append, faultless_some, NcType, Dim, Attr, Var, most_dims_of_var, most_values, Word, is_name, or_fault, reads_as, is_among, dim_line, var_head, name_list, dim_ids, is_record_dim, var_names, shape, var_line, owner_of_text, owner_place, Title, same_title, attribute, Defined, with_dim, with_var, with_attr_at, with_title, with_attr_of_owner, att_line, dim_definition, var_definition, fill_line, definition, all_joined, nat_tests}
 use Rattle.nc_base.specs.declared.errors.ScriptKind.TheVariants as kind
 use Rattle.nc_base.specs.declared.errors.LimitName.TheVariants as limit
-use Rattle.script_text.proofs.Steps.{went, same_ok, not_refused}
+use Rattle.script_text.proofs.Steps.{went, same_ok, tested, step_then, free_then, end_then}
 use Rattle.script_text.proofs.Lines.{all_more}
 use Rattle.script_text.proofs.PrintedValues.{is_read}
 use Rattle.script_text.proofs.PrintedRegions.{kept}
@@ -199,27 +199,22 @@ dim_on version values d ws r low ok h =
 
 var_read : (version : ℕ) (dims : List Dim) (vars : List Var) (ws : List Word) (v : Var) → var_line version dims vars ws ≡ Ok v → VarOk version dims (var_names vars) v × (v.attrs ≡ [])
 var_read version dims vars ws v h =
-    let a = went (var_head version (var_names vars) ws) _ v h in
-    let b = went (shape dims a.value.1) _ v a.rest in
-    let c = went (ended b.value.1) _ v b.rest in
-    let n = went (name_list a.value.1) _ b.value b.first in
-    let i = went (or_fault kind.UnknownName (dim_ids dims n.value.0)) _ b.value n.rest in
-    let f = went (refuse_if (nat_lt most_dims_of_var (length i.value)) (kind.Limit limit.VarDims)) _ b.value i.rest in
-    let g = went (refuse_if (list_any (is_record_dim dims) (drop 1 i.value)) kind.BadShape) _ b.value f.rest in
-    let ids : i.value ≡ b.value.0 = ap (λ (x : List ℕ × List Word). x.0) (same_ok (i.value, n.value.1) b.value g.rest) in
-    let x : Var = record { name = a.value.0.1; dims = b.value.0; attrs = []; kind = a.value.0.0; begin = 0 } in
-    subst (λ (y : Var). VarOk version dims (var_names vars) y × (y.attrs ≡ [])) (same_ok x v c.rest) (
+    step_then (var_head version (var_names vars) ws) _ v h (λ a heads h. step_then (shape dims a.1) _ v h (λ b shaped h. end_then b.1 _ v h (λ none h.
+    step_then (name_list a.1) _ b shaped (λ n named k. step_then (or_fault kind.UnknownName (dim_ids dims n.0)) _ b k (λ i found k. free_then _ _ _ b k (λ few k. free_then _ _ _ b k (λ records k.
+    let ids : i ≡ b.0 = ap (λ (x : List ℕ × List Word). x.0) (same_ok (i, n.1) b k) in
+    let x : Var = record { name = a.0.1; dims = b.0; attrs = []; kind = a.0.0; begin = 0 } in
+    subst (λ (y : Var). VarOk version dims (var_names vars) y × (y.attrs ≡ [])) (same_ok x v h) (
       record {
-        dim_list = n.value.0;
-        named = names_read a.value.1 n.value n.first;
-        found = faultless_some kind.UnknownName (dim_ids dims n.value.0) i.value i.first ∙ ap (λ (xs : List ℕ). Some xs) ids;
-        few = subst (λ xs. nat_lt most_dims_of_var (length xs) ≡ false) ids (not_refused _ _ f.value f.first);
-        records = subst (λ xs. list_any (is_record_dim dims) (drop 1 xs) ≡ false) ids (not_refused _ _ g.value g.first);
-        head = head_read version (var_names vars) ws a.value a.first;
+        dim_list = n.0;
+        named = names_read a.1 n named;
+        found = faultless_some kind.UnknownName (dim_ids dims n.0) i found ∙ ap (λ (xs : List ℕ). Some xs) ids;
+        few = subst (λ xs. nat_lt most_dims_of_var (length xs) ≡ false) ids few;
+        records = subst (λ xs. list_any (is_record_dim dims) (drop 1 xs) ≡ false) ids records;
+        head = head_read version (var_names vars) ws a heads;
         no_start = refl;
       },
       refl,
-    )
+    ))))))))
 
 var_on : (version values : ℕ) (d : Defined) (ws : List Word) (r : ℕ × Defined) → values ≤ most_values → DefinedOk version values d → var_definition version d ws ≡ Ok r → DefinedOn version values r
 var_on version values d ws r low ok h =
@@ -258,31 +253,16 @@ att_by_place version values d owner (Some k) a ok at read = att_of_var version v
 
 att_on : (version values : ℕ) (d : Defined) (ws : List Word) (r : ℕ × Defined) → values ≤ most_values → list_all is_read ws ≡ true → DefinedOk version values d → att_line version values d ws ≡ Ok r → DefinedOn version values r
 att_on version values d ws r low read ok h =
-    let o = went (reads_as owner_of_text kind.BadName ws) _ r h in
-    let k = went (owner_place d.vars o.value.0) _ r o.rest in
-    let a = went (attribute version d.titles values o.value.0 o.value.1) _ r k.rest in
-    subst (DefinedOn version values) (same_ok (a.value.count, with_title o.value.0 a.value.name (with_attr_of_owner k.value a.value d)) r a.rest)
-    (att_by_place version values d o.value.0 k.value a.value ok (place_read d.vars o.value.0 k.value k.first)
-    (attr_read version d.titles values o.value.0 o.value.1 a.value low (kept is_read owner_of_text kind.BadName ws o.value o.first read) a.first))
+    step_then (reads_as owner_of_text kind.BadName ws) _ r h (λ o is h. step_then (owner_place d.vars o.0) _ r h (λ k there h. step_then (attribute version d.titles values o.0 o.1) _ r h (λ a told h.
+    subst (DefinedOn version values) (same_ok (a.count, with_title o.0 a.name (with_attr_of_owner k a d)) r h)
+    (att_by_place version values d o.0 k a ok (place_read d.vars o.0 k there) (attr_read version d.titles values o.0 o.1 a low (kept is_read owner_of_text kind.BadName ws o is read) told)))))
 
 fill_on : (version values : ℕ) (d : Defined) (ws : List Word) (r : ℕ × Defined) → values ≤ most_values → DefinedOk version values d → fill_line d ws ≡ Ok r → DefinedOn version values r
 fill_on version values d ws r low ok h = grind (arith, nat_tests, went, same_ok)
 
 pub definition_read : (version values : ℕ) (d : Defined) (first : List ℕ) (ws : List Word) (r : ℕ × Defined) → values ≤ most_values → list_all is_read ws ≡ true → DefinedOk version values d → definition version values d first ws ≡ Ok r → DefinedOn version values r
-definition_read version values d first ws r low read ok h = by (bytes_eq first (codes "dim")) (bytes_eq first (codes "var")) (bytes_eq first (codes "att")) (bytes_eq first (codes "fill")) h
-  where
-    by : (i j k l : Bool) → elim i as (λ x. Result (ℕ × Defined) ScriptKind) [
-      | true ↦ dim_definition version d ws
-      | false ↦ elim j as (λ x. Result (ℕ × Defined) ScriptKind) [
-        | true ↦ var_definition version d ws
-        | false ↦ elim k as (λ x. Result (ℕ × Defined) ScriptKind) [
-          | true ↦ att_line version values d ws
-          | false ↦ elim l as (λ x. Result (ℕ × Defined) ScriptKind) [ true ↦ fill_line d ws | false ↦ Err kind.UnknownWord ]
-        ]
-      ]
-    ] ≡ Ok r → DefinedOn version values r
-    by true j k l e = dim_on version values d ws r low ok e
-    by false true k l e = var_on version values d ws r low ok e
-    by false false true l e = att_on version values d ws r low read ok e
-    by false false false true e = fill_on version values d ws r low ok e
-    by false false false false e = absurd (cc)
+definition_read version values d first ws r low read ok h =
+    tested (bytes_eq first (codes "dim")) _ _ _ h (λ i. dim_on version values d ws r low ok)
+    (λ i a. tested (bytes_eq first (codes "var")) _ _ _ a (λ j. var_on version values d ws r low ok)
+    (λ j b. tested (bytes_eq first (codes "att")) _ _ _ b (λ k. att_on version values d ws r low read ok)
+    (λ k c. tested (bytes_eq first (codes "fill")) _ _ _ c (λ l. fill_on version values d ws r low ok) (λ l e. absurd (cc)))))

@@ -1,5 +1,5 @@
 -- The definitions of a new dataset, printed in their canonical order, are read as the same definitions.
-use Rattle.script_text.proofs.Words.{◌≡◌, ◌∙◌, ℕ, suc, ◌+◌, ◌≤◌, List, [], ◌∷◌, ◌++◌, map, position, length, Bool, true, false, nat_lt, ◌==◌, Some, None, Ok, refl, sym, ap, subst, append_assoc, append-nil, arith, bytes_eq, codes, list_all, list_any, and_parts, and_from, and_left, and_right, or_from, or_parts, ne_eqb, list_any-append, Dim, Attr, Var, most_values, type_word, bracketed, Word, Plain, is_name, is_among, var_names, var_line, owner_place, Title, same_title, Defined, with_var, with_title, with_attr_of_owner, att_line, definition, Known, all_joined, nat_tests}
+use Rattle.script_text.proofs.Words.{◌≡◌, ℕ, suc, ◌+◌, ◌≤◌, List, [], ◌∷◌, ◌++◌, map, position, length, Bool, true, false, nat_lt, ◌==◌, Some, None, Ok, refl, sym, ap, append_assoc, append-nil, arith, bytes_eq, codes, list_all, list_any, and_parts, and_from, and_left, and_right, or_from, or_parts, ne_eqb, list_any-append, Dim, Attr, Var, most_values, type_word, bracketed, Word, Plain, is_name, is_among, var_names, var_line, owner_place, Title, same_title, Defined, with_var, with_title, with_attr_of_owner, att_line, definition, Known, all_joined, nat_tests}
 use Rattle.nc_base.specs.declared.errors.ScriptKind.TheVariants as kind
 use Rattle.nc_base.specs.declared.errors.LimitName.TheVariants as limit
 use Rattle.script_text.proofs.Steps.{go_on, passed, faultless, word_read, by_false}
@@ -8,7 +8,7 @@ use Rattle.script_text.proofs.Lines.{is_line}
 use Rattle.script_text.proofs.Numerals.{name_plain}
 use Rattle.script_text.proofs.PrintedAttributes.{type_plain, attr_tokens, AttrAgain}
 use Rattle.script_text.proofs.PrintedDefinitions.{dim_tokens, head_again, names_plain, names_again}
-use Rattle.script_text.proofs.AddedLines.{Leads, Runs, runs_on, owner_again}
+use Rattle.script_text.proofs.AddedLines.{Leads, Runs, runs_on, owner_again, leads_on}
 use Rattle.script_text.proofs.Places.{name_at, names_shown, place_of_new}
 use Rattle.script_text.proofs.DefinedChains.{DimChain, VarOk, VarChain, AttrChain, OwnChains, with_own, push_attr, pushes, count_attrs, count_own}
 
@@ -59,12 +59,9 @@ vars_run version k d names (v ∷ vs) done new h same =
     let here = record d { vars = done } in
     let next = record d { vars = done ++ bare v ∷ [] } in
     let ws = Plain (type_word v.kind) ∷ Plain v.name ∷ Plain (bracketed (map (name_at d.dims) v.dims)) ∷ [] in
-    let more = vars_run version k d (names ++ v.name ∷ []) vs (done ++ bare v ∷ []) new h.1 (joined_vars done (bare v ∷ []) ∙ ap (λ (xs : List (List ℕ)). xs ++ v.name ∷ []) same) in (
-      at_state k next 0,
-      leads_by version (at_state k here 0) (codes "var") ws (0, next) new refl refl refl
-          (go_on (var_line version d.dims done ws) (λ y. Ok (0, with_var y here)) (bare v) (0, next) (var_again version d.dims names done v h.0 same) refl),
-      subst (λ (xs : List Var). Runs version (at_state k next 0) (map (line_of_var d.dims) vs) (at_state k (record d { vars = xs }) 0)) (append_assoc done (bare v ∷ []) (map bare vs)) more,
-    )
+    let more = vars_run version k d (names ++ v.name ∷ []) vs (done ++ bare v ∷ []) new h.1 (rw joined_vars (rw same)) in
+    leads_on version (at_state k here 0) (at_state k next 0) _ (Plain (codes "var") ∷ ws) _ (leads_by version (at_state k here 0) (codes "var") ws (0, next) new refl refl refl
+    (go_on (var_line version d.dims done ws) (λ y. Ok (0, with_var y here)) (bare v) (0, next) (var_again version d.dims names done v h.0 same) refl)) (rw (append_assoc done (bare v ∷ []) (map bare vs)) at more)
 
 -- ---- attributes of the dataset
 
@@ -98,14 +95,8 @@ dataset_run version k d (a ∷ list) names front titles v new h fresh few =
     let next = with_atts d (front ++ a ∷ []) next_titles in
     let more = dataset_run version k d list (names ++ a.name ∷ []) (front ++ a ∷ []) next_titles (v + a.count) new h.2 (fresh_pushed titles owner names a.name fresh) (omega arith) in
     let total : (v + a.count) + count_attrs list ≡ v + (a.count + count_attrs list) = omega arith in
-    let same : at_state k (with_atts d ((front ++ a ∷ []) ++ list) (next_titles ++ titles_of owner list)) ((v + a.count) + count_attrs list) ≡ at_state k (with_atts d (front ++ a ∷ list) (titles ++ titles_of owner (a ∷ list))) (v + count_attrs (a ∷ list)) =
-    ap (λ (xs : List Attr). at_state k (with_atts d xs (next_titles ++ titles_of owner list)) ((v + a.count) + count_attrs list)) (append_assoc front (a ∷ []) list)
-    ∙ (ap (λ (ts : List Title). at_state k (with_atts d (front ++ a ∷ list) ts) ((v + a.count) + count_attrs list)) (append_assoc titles ((owner, a.name) ∷ []) (titles_of owner list))
-    ∙ ap (λ (n : ℕ). at_state k (with_atts d (front ++ a ∷ list) (titles ++ titles_of owner (a ∷ list))) n) total) in (
-      at_state k next (v + a.count),
-      leads_by version (at_state k here v) (codes "att") (Plain owner ∷ attr_tokens a) (a.count, next) new refl refl refl (att_dataset_again version here v a h.0 (fresh a.name h.1) (omega arith)),
-      subst (Runs version (at_state k next (v + a.count)) (map (line_of_att owner) list)) same more,
-    )
+    leads_on version (at_state k here v) (at_state k next (v + a.count)) _ (line_of_att owner a) _ (leads_by version (at_state k here v) (codes "att") (Plain owner ∷ attr_tokens a) (a.count, next) new refl refl refl
+    (att_dataset_again version here v a h.0 (fresh a.name h.1) (omega arith))) (rw (append_assoc front (a ∷ []) list, append_assoc titles ((owner, a.name) ∷ []) (titles_of owner list), total) at more)
 
 -- ---- attributes of the variables
 
@@ -139,26 +130,15 @@ att_own_again version d front back w titles v a named fresh again new few =
 own_run : (version : ℕ) (k : Known) (d : Defined) (front back : List Var) (list : List Attr) (names : List (List ℕ)) (w : Var) (titles : List Title) (v : ℕ) → (version == 0) ≡ false
     → is_name w.name ≡ true → is_among w.name (var_names front) ≡ false → AttrChain version names list → FreshOwner titles w.name names → v + count_attrs list ≤ most_values
     → Runs version (at_state k (with_vars d (front ++ w ∷ back) titles) v) (map (line_of_att w.name) list) (at_state k (with_vars d (front ++ with_list w (w.attrs ++ list) ∷ back) (titles ++ titles_of w.name list)) (v + count_attrs list))
-own_run version k d front back [] names w titles v new named alone h fresh few =
-    let zero_more : v ≡ v + 0 = omega arith in
-    ap (λ (xs : List Attr). at_state k (with_vars d (front ++ with_list w xs ∷ back) titles) v) (sym (append-nil w.attrs))
-    ∙ (ap (λ (ts : List Title). at_state k (with_vars d (front ++ with_list w (w.attrs ++ []) ∷ back) ts) v) (sym (append-nil titles))
-    ∙ ap (λ (n : ℕ). at_state k (with_vars d (front ++ with_list w (w.attrs ++ []) ∷ back) (titles ++ [])) n) zero_more)
+own_run version k d front back [] names w titles v new named alone h fresh few = let none : v + 0 ≡ v = omega arith in rw (append-nil w.attrs, append-nil titles, none)
 own_run version k d front back (a ∷ list) names w titles v new named alone h fresh few =
     let here = with_vars d (front ++ w ∷ back) titles in
     let next_titles = titles ++ (w.name, a.name) ∷ [] in
     let next = with_vars d (front ++ with_own a w ∷ back) next_titles in
     let more = own_run version k d front back list (names ++ a.name ∷ []) (with_own a w) next_titles (v + a.count) new named alone h.2 (fresh_pushed titles w.name names a.name fresh) (omega arith) in
     let total : (v + a.count) + count_attrs list ≡ v + (a.count + count_attrs list) = omega arith in
-    let same : at_state k (with_vars d (front ++ with_list w ((w.attrs ++ a ∷ []) ++ list) ∷ back) (next_titles ++ titles_of w.name list)) ((v + a.count) + count_attrs list)
-    ≡ at_state k (with_vars d (front ++ with_list w (w.attrs ++ a ∷ list) ∷ back) (titles ++ titles_of w.name (a ∷ list))) (v + count_attrs (a ∷ list)) =
-    ap (λ (xs : List Attr). at_state k (with_vars d (front ++ with_list w xs ∷ back) (next_titles ++ titles_of w.name list)) ((v + a.count) + count_attrs list)) (append_assoc w.attrs (a ∷ []) list)
-    ∙ (ap (λ (ts : List Title). at_state k (with_vars d (front ++ with_list w (w.attrs ++ a ∷ list) ∷ back) ts) ((v + a.count) + count_attrs list)) (append_assoc titles ((w.name, a.name) ∷ []) (titles_of w.name list))
-    ∙ ap (λ (n : ℕ). at_state k (with_vars d (front ++ with_list w (w.attrs ++ a ∷ list) ∷ back) (titles ++ titles_of w.name (a ∷ list))) n) total) in (
-      at_state k next (v + a.count),
-      leads_by version (at_state k here v) (codes "att") (Plain w.name ∷ attr_tokens a) (a.count, next) new refl refl refl (att_own_again version d front back w titles v a named alone h.0 (fresh a.name h.1) (omega arith)),
-      subst (Runs version (at_state k next (v + a.count)) (map (line_of_att w.name) list)) same more,
-    )
+    leads_on version (at_state k here v) (at_state k next (v + a.count)) _ (line_of_att w.name a) _ (leads_by version (at_state k here v) (codes "att") (Plain w.name ∷ attr_tokens a) (a.count, next) new refl refl refl
+    (att_own_again version d front back w titles v a named alone h.0 (fresh a.name h.1) (omega arith))) (rw (append_assoc w.attrs (a ∷ []) list, append_assoc titles ((w.name, a.name) ∷ []) (titles_of w.name list), total) at more)
 
 -- the titles are of owners of these names, or of the dataset
 abbrev Apart : List Title → List (List ℕ) → Type 0
@@ -185,22 +165,14 @@ all_own_run : (version : ℕ) (k : Known) (d : Defined) (old : List Title) (name
 all_own_run version k d old names [] done titles v new h own same apart few = grind (arith, nat_tests)
 all_own_run version k d old names (x ∷ vs) done titles v new h own same apart few =
     let named = h.0.head.named in
-    let alone : is_among x.name (var_names done) ≡ false = subst (λ ns. is_among x.name ns ≡ false) (sym same) h.0.head.fresh in
+    let alone : is_among x.name (var_names done) ≡ false = rw same h.0.head.fresh in
     let fresh : FreshOwner titles x.name [] = λ n none. apart x.name (no_colon x.name named) h.0.head.fresh n in
     let first = own_run version k d done (map bare vs) x.attrs [] (bare x) titles v new named alone own.0 fresh (omega arith) in
-    let next_titles = titles ++ titles_of x.name x.attrs in
-    let next_done = done ++ full x ∷ [] in
-    let rest = all_own_run version k d old (names ++ x.name ∷ []) vs next_done next_titles (v + count_attrs x.attrs) new h.1 own.2
-    (joined_vars done (full x ∷ []) ∙ ap (λ (xs : List (List ℕ)). xs ++ x.name ∷ []) same) (apart_pushed titles names x.name x.attrs apart) (omega arith) in
-    let shift : (more : List Var) → next_done ++ more ≡ done ++ full x ∷ more = λ more. append_assoc done (full x ∷ []) more in
+    let rest = all_own_run version k d old (names ++ x.name ∷ []) vs (done ++ full x ∷ []) (titles ++ titles_of x.name x.attrs) (v + count_attrs x.attrs) new h.1 own.2 (rw joined_vars (rw same))
+    (apart_pushed titles names x.name x.attrs apart) (omega arith) in
     let total : (v + count_attrs x.attrs) + count_own vs ≡ v + (count_attrs x.attrs + count_own vs) = omega arith in
-    let mid = at_state k (with_vars d (done ++ full x ∷ map bare vs) next_titles) (v + count_attrs x.attrs) in
-    let rest_from : Runs version mid (lines_of_own vs) (at_state k (with_vars d (next_done ++ map full vs) (titles_after next_titles vs)) ((v + count_attrs x.attrs) + count_own vs)) =
-    subst (λ (xs : List Var). Runs version (at_state k (with_vars d xs next_titles) (v + count_attrs x.attrs)) (lines_of_own vs) (at_state k (with_vars d (next_done ++ map full vs) (titles_after next_titles vs)) ((v + count_attrs x.attrs) + count_own vs))) (shift (map bare vs)) rest in
-    let last : at_state k (with_vars d (next_done ++ map full vs) (titles_after next_titles vs)) ((v + count_attrs x.attrs) + count_own vs) ≡ at_state k (with_vars d (done ++ full x ∷ map full vs) (titles_after next_titles vs)) (v + count_own (x ∷ vs)) =
-    ap (λ (xs : List Var). at_state k (with_vars d xs (titles_after next_titles vs)) ((v + count_attrs x.attrs) + count_own vs)) (shift (map full vs))
-    ∙ ap (λ (n : ℕ). at_state k (with_vars d (done ++ full x ∷ map full vs) (titles_after next_titles vs)) n) total in
-    runs_on version _ mid _ (map (line_of_att x.name) x.attrs) (lines_of_own vs) first (subst (Runs version mid (lines_of_own vs)) last rest_from)
+    runs_on version _ (at_state k (with_vars d (done ++ full x ∷ map bare vs) (titles ++ titles_of x.name x.attrs)) (v + count_attrs x.attrs)) _ (map (line_of_att x.name) x.attrs) (lines_of_own vs) first
+    (rw (append_assoc done (full x ∷ []) (map bare vs), append_assoc done (full x ∷ []) (map full vs), total) at rest)
 
 full_again : (version : ℕ) (dims : List Dim) (names : List (List ℕ)) (vs : List Var) → VarChain version dims names vs → map full vs ≡ vs
 full_again version dims names [] h = refl
@@ -227,22 +199,14 @@ definitions_run version v k d new hd hv ha ho counted few =
     let two = record one { vars = map bare d.vars } in
     let set_titles = titles_of (codes ":") d.attrs in
     let three = with_atts two d.attrs set_titles in
-    let four = with_vars three (map full d.vars) (titles_after set_titles d.vars) in
-    let total : count_attrs d.attrs + count_own d.vars ≡ v = sym counted in
-    let no_title : FreshOwner [] (codes ":") [] = λ n none. refl in
     let apart : Apart set_titles [] = λ owner colon none n. other_titles owner (codes ":") n d.attrs colon in
-    let all_dims = dims_run version k empty d.dims [] new hd in
-    let all_vars = vars_run version k one [] d.vars [] new hv refl in
-    let all_atts = dataset_run version k two d.attrs [] [] [] 0 new ha no_title (omega arith) in
+    let all_atts = dataset_run version k two d.attrs [] [] [] 0 new ha (λ n none. refl) (omega arith) in
     let all_own = all_own_run version k three d.titles [] d.vars [] set_titles (count_attrs d.attrs) new hv ho refl apart (omega arith) in
     let zero_more : 0 + count_attrs d.attrs ≡ count_attrs d.attrs = omega arith in
-    let atts = subst (λ n. Runs version (at_state k two 0) (map (line_of_att (codes ":")) d.attrs) (at_state k three n)) zero_more all_atts in
-    let last : at_state k four (count_attrs d.attrs + count_own d.vars) ≡ at_state k (told_again d) v =
-    ap (λ (xs : List Var). at_state k (with_vars three xs (titles_after set_titles d.vars)) (count_attrs d.attrs + count_own d.vars)) (full_again version d.dims [] d.vars hv) ∙ ap (λ (n : ℕ). at_state k (told_again d) n) total in
-    runs_on version (at_state k empty 0) (at_state k one 0) (at_state k (told_again d) v) (map line_of_dim d.dims) _ all_dims
-    (runs_on version (at_state k one 0) (at_state k two 0) (at_state k (told_again d) v) (map (line_of_var d.dims) d.vars) _ all_vars
-    (runs_on version (at_state k two 0) (at_state k three (count_attrs d.attrs)) (at_state k (told_again d) v) (map (line_of_att (codes ":")) d.attrs) _ atts
-    (subst (Runs version (at_state k three (count_attrs d.attrs)) (lines_of_own d.vars)) last all_own)))
+    runs_on version (at_state k empty 0) (at_state k one 0) (at_state k (told_again d) v) (map line_of_dim d.dims) _ (dims_run version k empty d.dims [] new hd)
+    (runs_on version (at_state k one 0) (at_state k two 0) (at_state k (told_again d) v) (map (line_of_var d.dims) d.vars) _ (vars_run version k one [] d.vars [] new hv refl)
+    (runs_on version (at_state k two 0) (at_state k three (count_attrs d.attrs)) (at_state k (told_again d) v) (map (line_of_att (codes ":")) d.attrs) _ (rw zero_more at all_atts)
+    (rw (full_again version d.dims [] d.vars hv, ← counted) at all_own)))
 
 -- ---- these lines are cut again
 

@@ -99,10 +99,8 @@ lawful_parts s h =
     let p9 = and_parts _ (nat_le (sum (map (λ own. length own) s.calls)) most_calls) p10.0 in
     let p8 = and_parts _ (list_all (λ own. are_different (posted_ids own)) s.calls) p9.0 in
     let p7 = and_parts _ (list_all (λ own. list_all (is_lawful_call s.ranks own.0) own.1) (enumerate_from 0 s.calls)) p8.0 in
-    let p6 = and_parts _ (list_all is_lawful_extra s.extra) p7.0 in
-    let p5 = and_parts _ (nat_le (added_vars s.extra) most_vars) p6.0 in
-    let p4 = and_parts _ (nat_le (added_dims s.extra) most_dims) p5.0 in
-    let p3 = and_parts _ (is_lawful_header s) p4.0 in
+    let p5 = and_parts _ (nat_le (added_vars s.extra) most_vars) (and_parts _ (list_all is_lawful_extra s.extra) p7.0).0 in
+    let p3 = and_parts _ (is_lawful_header s) (and_parts _ (nat_le (added_dims s.extra) most_dims) p5.0).0 in
     let p2 = and_parts _ (are_lawful_hints s.hints) p3.0 in
     let p1 = and_parts (is_within 1 most_ranks s.ranks) (length s.calls == s.ranks) p2.0 in
     record { ranks = p1.0; long = p1.1; hints = p2.1; header = p3.1; calls = p7.1; ids = p8.1; few = p10.1; agreed = p11.1 }

@@ -9,15 +9,12 @@ use Rattle.script_text.proofs.CallLines.{Chain, Chains, count, count_all}
 
 -- ---- values
 
-has_room : (n : ℕ) → n ≤ most_elements → HasRoom None 0 n
-has_room n few = record { all = omega arith; own = λ none. few }
-
 some_bits : (ns : List ℕ) → not (is_empty ns) ≡ true → 0 < length ns
 some_bits [] h = absurd (cc)
 some_bits (n ∷ ns) h = omega arith
 
 values_told : (vs : Values) → are_values vs ≡ true → are_expressible_values vs ≡ true → Fitting None 0 vs
-values_told vs lawful h = grind (arith, nat_tests, and_parts, nat_le, all_more, and_from, has_room, leb-true, not, nat_lt, some_bits)
+values_told vs lawful h = grind (arith, nat_tests, and_parts, nat_le, all_more, and_from, leb-true, not, nat_lt, some_bits)
 
 no_values : (vs : Values) → is_nothing vs ≡ true → PostedAgain Iget 0 vs
 no_values vs h = grind (arith, nat_tests, nothing_posted)

@@ -1,20 +1,23 @@
 -- The number of ranks and the hints, and what is known before `data` as a whole.
-use Rattle.script_text.proofs.Words.{◌≡◌, ◌∙◌, ℕ, ◌+◌, ◌^◌, ◌≤◌, ◌<◌, min, List, [], ◌∷◌, ◌++◌, map, Bool, true, false, ◌==◌, Option, Some, None, is_some, slice_set, Result, Ok, Err, refl, ap, subst, arith, bytes_eq, codes, decimal, list_all, and_parts, and_from, faultless_some, ScriptKind, ScriptErr, Hints, OverlapRule, Refuse, Serial, most_values, shown_hint, shown_hints, Word, Plain, Line, ◌>>=◌, or_fault, bare, Within, HintRow, flag, rule_number, rule_of, off_or_on, refuse_or_serial, hint_table, hint_of_text, hint_form, shown_value, none_given, hint_in, hints_of, number_within, hint_value, hint_line, ranks_line, no_definition, definition, nothing_added, addition, Known, nothing_known, definition_or_addition, known_after, at_line, data_line, definition_step, definitions, nat_tests}
+use Rattle.script_text.proofs.Words.{◌≡◌, ◌∙◌, ℕ, ◌+◌, ◌^◌, ◌≤◌, ◌<◌, min, List, [], ◌∷◌, ◌++◌, map, Bool, true, false, ◌==◌, Option, Some, None, is_some, slice_set, Result, Ok, refl, ap, subst, arith, bytes_eq, codes, decimal, list_all, and_parts, and_from, faultless_some, ScriptKind, Hints, OverlapRule, Refuse, Serial, most_values, shown_hint, shown_hints, Word, Plain, Line, ◌>>=◌, or_fault, bare, Within, HintRow, flag, rule_number, rule_of, off_or_on, refuse_or_serial, hint_table, hint_of_text, hint_form, shown_value, none_given, hint_in, hints_of, number_within, hint_value, hint_line, ranks_line, no_definition, definition, nothing_added, addition, Known, nothing_known, known_after, at_line, data_line, definition_step, definitions, nat_tests, take, drop}
 use Rattle.std.proofs.Common.{flat_map}
 use Rattle.nc_base.specs.declared.errors.ScriptKind.TheVariants as kind
-use Rattle.script_text.proofs.Steps.{went, same_ok, word_read, whole_value}
+use Rattle.script_text.proofs.Steps.{went, same_ok, word_read, whole_value, tested, looked, carried}
 use Rattle.script_text.proofs.Lexing.{is_plain}
 use Rattle.script_text.proofs.Lines.{is_line, spelled}
 use Rattle.script_text.proofs.PrintedValues.{is_read}
 use Rattle.script_text.proofs.PrintedDefinitions.{is_value_of, within_again, within_plain, are_hints, hint_read, hint_or_fits, ranks_read}
 use Rattle.script_text.proofs.CallLines.{are_read, line_ok}
-use Rattle.script_text.proofs.AddedLines.{Leads, Runs, Replay, replay_on, addition_read, defined_by}
+use Rattle.script_text.proofs.AddedLines.{Leads, Runs, Replay, replay_on, addition_read, leads_on}
 use Rattle.script_text.proofs.DefinedChains.{DefinedOk, definition_read}
 
 -- ---- the hints as they are printed
 
+abbrev hint_line_of : List ℕ → List ℕ → List Word
+hint_line_of word shown = Plain (codes "hint") ∷ Plain word ∷ Plain shown ∷ []
+
 abbrev hint_words : Hints → HintRow → List Word
-hint_words h row = Plain (codes "hint") ∷ Plain row.word ∷ Plain (shown_value row.form (row.seen h)) ∷ []
+hint_words h row = hint_line_of row.word (shown_value row.form (row.seen h))
 
 abbrev pub hint_tokens : Hints → List (List Word)
 hint_tokens h = map (hint_words h) hint_table
@@ -92,56 +95,19 @@ with_hints k hints = record k { hints = hints }
 
 pub hints_run : (version : ℕ) (k : Known) (h : Hints) → HintsFit h → Runs version (with_hints k none_given) (hint_tokens h) (with_hints k (all_given h))
 hints_run version k h fit =
-    let t1 : List (Option ℕ) = Some h.cb_nodes ∷ None ∷ None ∷ None ∷ None ∷ None ∷ None ∷ None ∷ None ∷ None ∷ [] in
-    let t2 : List (Option ℕ) = Some h.cb_nodes ∷ Some h.cb_buffer ∷ None ∷ None ∷ None ∷ None ∷ None ∷ None ∷ None ∷ None ∷ [] in
-    let t3 : List (Option ℕ) = Some h.cb_nodes ∷ Some h.cb_buffer ∷ Some h.rd_buffer ∷ None ∷ None ∷ None ∷ None ∷ None ∷ None ∷ None ∷ [] in
-    let t4 : List (Option ℕ) = Some h.cb_nodes ∷ Some h.cb_buffer ∷ Some h.rd_buffer ∷ Some h.wr_buffer ∷ None ∷ None ∷ None ∷ None ∷ None ∷ None ∷ [] in
-    let t5 : List (Option ℕ) = Some h.cb_nodes ∷ Some h.cb_buffer ∷ Some h.rd_buffer ∷ Some h.wr_buffer ∷ Some h.line_room ∷ None ∷ None ∷ None ∷ None ∷ None ∷ [] in
-    let t6 : List (Option ℕ) = Some h.cb_nodes ∷ Some h.cb_buffer ∷ Some h.rd_buffer ∷ Some h.wr_buffer ∷ Some h.line_room ∷ Some (flag h.threads) ∷ None ∷ None ∷ None ∷ None ∷ [] in
-    let t7 : List (Option ℕ) = Some h.cb_nodes ∷ Some h.cb_buffer ∷ Some h.rd_buffer ∷ Some h.wr_buffer ∷ Some h.line_room ∷ Some (flag h.threads) ∷ Some (rule_number h.overlap) ∷ None ∷ None ∷ None ∷ [] in
-    let t8 : List (Option ℕ) = Some h.cb_nodes ∷ Some h.cb_buffer ∷ Some h.rd_buffer ∷ Some h.wr_buffer ∷ Some h.line_room ∷ Some (flag h.threads) ∷ Some (rule_number h.overlap) ∷ Some h.header_align ∷ None ∷ None ∷ [] in
-    let t9 : List (Option ℕ) = Some h.cb_nodes ∷ Some h.cb_buffer ∷ Some h.rd_buffer ∷ Some h.wr_buffer ∷ Some h.line_room ∷ Some (flag h.threads) ∷ Some (rule_number h.overlap) ∷ Some h.header_align ∷ Some h.var_align ∷ None ∷ [] in
-    let t0 : List (Option ℕ) = none_given in (
-      with_hints k t1,
-      hint_leads version (with_hints k t0) (codes "cb_nodes") (decimal h.cb_nodes) 0 h.cb_nodes refl refl (number_value 1 64 1 h.cb_nodes fit.cb_nodes (omega arith)),
-      (
-        with_hints k t2,
-        hint_leads version (with_hints k t1) (codes "cb_buffer_size") (decimal h.cb_buffer) 1 h.cb_buffer refl refl (number_value 1 33554432 1 h.cb_buffer fit.cb_buffer (omega arith)),
-        (
-          with_hints k t3,
-          hint_leads version (with_hints k t2) (codes "ind_rd_buffer_size") (decimal h.rd_buffer) 2 h.rd_buffer refl refl (number_value 1 33554432 1 h.rd_buffer fit.rd_buffer (omega arith)),
-          (
-            with_hints k t4,
-            hint_leads version (with_hints k t3) (codes "ind_wr_buffer_size") (decimal h.wr_buffer) 3 h.wr_buffer refl refl (number_value 1 33554432 1 h.wr_buffer fit.wr_buffer (omega arith)),
-            (
-              with_hints k t5,
-              hint_leads version (with_hints k t4) (codes "line_room") (decimal h.line_room) 4 h.line_room refl refl (number_value 1 64 1 h.line_room fit.line_room (omega arith)),
-              (
-                with_hints k t6,
-                hint_leads version (with_hints k t5) (codes "threads") (shown_value off_or_on (flag h.threads)) 5 (flag h.threads) refl refl (flag_value h.threads),
-                (
-                  with_hints k t7,
-                  hint_leads version (with_hints k t6) (codes "overlap") (shown_value refuse_or_serial (rule_number h.overlap)) 6 (rule_number h.overlap) refl refl (rule_value h.overlap),
-                  (
-                    with_hints k t8,
-                    hint_leads version (with_hints k t7) (codes "nc_header_align_size") (decimal h.header_align) 7 h.header_align refl refl (number_value 4 1048576 4 h.header_align fit.header_align (omega arith)),
-                    (
-                      with_hints k t9,
-                      hint_leads version (with_hints k t8) (codes "nc_var_align_size") (decimal h.var_align) 8 h.var_align refl refl (number_value 4 1048576 4 h.var_align fit.var_align (omega arith)),
-                      (
-                        with_hints k (all_given h),
-                        hint_leads version (with_hints k t9) (codes "striping_unit") (decimal h.striping_unit) 9 h.striping_unit refl refl (number_value 1 33554432 1 h.striping_unit fit.striping_unit (omega arith)),
-                        refl,
-                      ),
-                    ),
-                  ),
-                ),
-              ),
-            ),
-          ),
-        ),
-      ),
-    )
+    let at = λ (n : ℕ). with_hints k (take n (all_given h) ++ drop n none_given) in
+    let next = λ (n : ℕ). drop n (hint_tokens h) in
+    leads_on version (at 0) (at 1) (at 10) (hint_line_of (codes "cb_nodes") (decimal h.cb_nodes)) (next 1) (hint_leads version (at 0) (codes "cb_nodes") (decimal h.cb_nodes) 0 h.cb_nodes refl refl (number_value 1 64 1 h.cb_nodes fit.cb_nodes (omega arith)))
+    (leads_on version (at 1) (at 2) (at 10) (hint_line_of (codes "cb_buffer_size") (decimal h.cb_buffer)) (next 2) (hint_leads version (at 1) (codes "cb_buffer_size") (decimal h.cb_buffer) 1 h.cb_buffer refl refl (number_value 1 33554432 1 h.cb_buffer fit.cb_buffer (omega arith)))
+    (leads_on version (at 2) (at 3) (at 10) (hint_line_of (codes "ind_rd_buffer_size") (decimal h.rd_buffer)) (next 3) (hint_leads version (at 2) (codes "ind_rd_buffer_size") (decimal h.rd_buffer) 2 h.rd_buffer refl refl (number_value 1 33554432 1 h.rd_buffer fit.rd_buffer (omega arith)))
+    (leads_on version (at 3) (at 4) (at 10) (hint_line_of (codes "ind_wr_buffer_size") (decimal h.wr_buffer)) (next 4) (hint_leads version (at 3) (codes "ind_wr_buffer_size") (decimal h.wr_buffer) 3 h.wr_buffer refl refl (number_value 1 33554432 1 h.wr_buffer fit.wr_buffer (omega arith)))
+    (leads_on version (at 4) (at 5) (at 10) (hint_line_of (codes "line_room") (decimal h.line_room)) (next 5) (hint_leads version (at 4) (codes "line_room") (decimal h.line_room) 4 h.line_room refl refl (number_value 1 64 1 h.line_room fit.line_room (omega arith)))
+    (leads_on version (at 5) (at 6) (at 10) (hint_line_of (codes "threads") (shown_value off_or_on (flag h.threads))) (next 6) (hint_leads version (at 5) (codes "threads") (shown_value off_or_on (flag h.threads)) 5 (flag h.threads) refl refl (flag_value h.threads))
+    (leads_on version (at 6) (at 7) (at 10) (hint_line_of (codes "overlap") (shown_value refuse_or_serial (rule_number h.overlap))) (next 7) (hint_leads version (at 6) (codes "overlap") (shown_value refuse_or_serial (rule_number h.overlap)) 6 (rule_number h.overlap) refl refl (rule_value h.overlap))
+    (leads_on version (at 7) (at 8) (at 10) (hint_line_of (codes "nc_header_align_size") (decimal h.header_align)) (next 8) (hint_leads version (at 7) (codes "nc_header_align_size") (decimal h.header_align) 7 h.header_align refl refl (number_value 4 1048576 4 h.header_align fit.header_align (omega arith)))
+    (leads_on version (at 8) (at 9) (at 10) (hint_line_of (codes "nc_var_align_size") (decimal h.var_align)) (next 9) (hint_leads version (at 8) (codes "nc_var_align_size") (decimal h.var_align) 8 h.var_align refl refl (number_value 4 1048576 4 h.var_align fit.var_align (omega arith)))
+    (leads_on version (at 9) (at 10) (at 10) (hint_line_of (codes "striping_unit") (decimal h.striping_unit)) (next 10) (hint_leads version (at 9) (codes "striping_unit") (decimal h.striping_unit) 9 h.striping_unit refl refl (number_value 1 33554432 1 h.striping_unit fit.striping_unit (omega arith)))
+    refl)))))))))
 
 flag_plain : (b : Bool) → is_plain (shown_value off_or_on (flag b)) ≡ true
 flag_plain true = refl
@@ -220,27 +186,19 @@ content_on false version k next first ws read ok what h =
     (ok.ranks, ok.hints, by.few, (what.0, by.same))
 
 known_on : (version : ℕ) (k next : Known) (first : List ℕ) (ws : List Word) → list_all is_read ws ≡ true → KnownOk version k → known_after version k first ws ≡ Ok next → KnownOk version next
-known_on version k next first ws read ok h = by (bytes_eq first (codes "ranks")) (bytes_eq first (codes "hint")) h
-  where
-    by : (i j : Bool) → elim i as (λ x. Result Known ScriptKind) [
-      | true ↦ (ranks_line k.ranks ws >>= λ n. Ok (record k { ranks = Some n }))
-      | false ↦ elim j as (λ x. Result Known ScriptKind) [
-        | true ↦ (hint_line k.hints ws >>= λ h. Ok (record k { hints = slice_set k.hints h.0 (Some h.1) }))
-        | false ↦ definition_or_addition version k first ws
-      ]
-    ] ≡ Ok next → KnownOk version next
-    by true j e =
-        let a = went (ranks_line k.ranks ws) (λ n. Ok (record k { ranks = Some n })) next e in
-        subst (KnownOk version) (same_ok (record k { ranks = Some a.value }) next a.rest)
-        (record { ranks = ranks_read k.ranks ws a.value a.first; hints = ok.hints; few = ok.few; what = what_ranks (version == 0) version a.value k ok.what })
-    by false true e =
-        let a = went (hint_line k.hints ws) (λ h. Ok (record k { hints = slice_set k.hints h.0 (Some h.1) })) next e in
-        let hints = slice_set k.hints a.value.0 (Some a.value.1) in
-        subst (KnownOk version) (same_ok (record k { hints = hints }) next a.rest)
-        (record { ranks = ok.ranks; hints = hint_read k.hints ws a.value ok.hints a.first; few = ok.few; what = what_hints (version == 0) version hints k ok.what })
-    by false false e =
-        let c = content_on (version == 0) version k next first ws read ok ok.what e in
-        record { ranks = c.0; hints = c.1; few = c.2; what = c.3 }
+known_on version k next first ws read ok h =
+    tested (bytes_eq first (codes "ranks")) _ _ _ h
+    (λ i e.
+    let a = went (ranks_line k.ranks ws) _ next e in
+    subst (KnownOk version) (same_ok (record k { ranks = Some a.value }) next a.rest)
+    (record { ranks = ranks_read k.ranks ws a.value a.first; hints = ok.hints; few = ok.few; what = what_ranks (version == 0) version a.value k ok.what }))
+    (λ i e. tested (bytes_eq first (codes "hint")) _ _ _ e
+    (λ j l.
+    let a = went (hint_line k.hints ws) _ next l in
+    let hints = slice_set k.hints a.value.0 (Some a.value.1) in
+    subst (KnownOk version) (same_ok (record k { hints = hints }) next a.rest)
+    (record { ranks = ok.ranks; hints = hint_read k.hints ws a.value ok.hints a.first; few = ok.few; what = what_hints (version == 0) version hints k ok.what }))
+    (λ j l. let c = content_on (version == 0) version k next first ws read ok ok.what l in record { ranks = c.0; hints = c.1; few = c.2; what = c.3 }))
 
 -- ---- the definitions as a whole
 
@@ -257,32 +215,23 @@ StepOk version (Some n, k) = KnownOk version k × (k.ranks ≡ Some n)
 step_ok : (version : ℕ) (k : Known) (w : Word) (ws : List Word) (s : Option ℕ × Known) → list_all is_read ws ≡ true → KnownOk version k → definition_step version k w ws ≡ Ok s → StepOk version s
 step_ok version k w ws s read ok h =
     let a = went (bare w) _ s h in
-    by a.value (bytes_eq a.value (codes "data")) a.rest
-  where
-    by : (first : List ℕ) (b : Bool) → elim b as (λ x. Result (Option ℕ × Known) ScriptKind) [
-      | true ↦ (data_line k ws >>= λ ranks. Ok (Some ranks, k))
-      | false ↦ (known_after version k first ws >>= λ more. Ok (None, more))
-    ] ≡ Ok s → StepOk version s
-    by first true e =
-        let a = went (data_line k ws) (λ ranks. Ok (Some ranks, k)) s e in
-        let c = went (or_fault kind.MissingWord k.ranks) _ a.value a.first in
-        let n = (whole_value (c.value, ws) a.value c.rest).0 in
-        subst (StepOk version) (same_ok (Some a.value, k) s a.rest) (ok, faultless_some kind.MissingWord k.ranks c.value c.first ∙ ap (λ (x : ℕ). Some x) n)
-    by first false e =
-        let a = went (known_after version k first ws) (λ more. Ok (None, more)) s e in
-        subst (StepOk version) (same_ok (None, a.value) s a.rest) (known_on version k a.value first ws read ok a.first)
+    tested (bytes_eq a.value (codes "data")) _ _ _ a.rest
+    (λ i e.
+    let b = went (data_line k ws) _ s e in
+    let c = went (or_fault kind.MissingWord k.ranks) _ b.value b.first in
+    let n = (whole_value (c.value, ws) b.value c.rest).0 in
+    subst (StepOk version) (same_ok (Some b.value, k) s b.rest) (ok, faultless_some kind.MissingWord k.ranks c.value c.first ∙ ap (λ (x : ℕ). Some x) n))
+    (λ i e.
+    let b = went (known_after version k a.value ws) _ s e in
+    subst (StepOk version) (same_ok (None, b.value) s b.rest) (known_on version k b.value a.value ws read ok b.first))
 
 pub definitions_read : (past version : ℕ) (lines : List Line) (k : Known) (r : ℕ × (Known × List Line)) → are_read lines ≡ true → KnownOk version k → definitions past version k lines ≡ Ok r → AtData version r
 definitions_read past version [] k r read ok h = absurd (cc)
-definitions_read past version (l ∷ lines) k r read ok h = by (at_line l.number (definition_step version k l.first l.rest)) refl h (λ x. definitions_read past version lines x r)
-  where
-    both : (list_all is_read l.rest ≡ true) × (are_read lines ≡ true)
-    both = and_parts _ _ read
-
-    by : (s : Result (Option ℕ × Known) ScriptErr) → at_line l.number (definition_step version k l.first l.rest) ≡ s → defined_by past version lines s ≡ Ok r
-        → ((x : Known) → are_read lines ≡ true → KnownOk version x → definitions past version x lines ≡ Ok r → AtData version r) → AtData version r
-    by (Err e) is j more = absurd (cc)
-    by (Ok (Some n, x)) is j more =
-        let s = step_ok version k l.first l.rest (Some n, x) both.0 ok (line_ok l.number _ (Some n, x) is) in
-        subst (AtData version) (same_ok (n, (x, lines)) r j) (record { known = s.0; ranks = s.1; read = both.1 })
-    by (Ok (None, x)) is j more = more x both.1 (step_ok version k l.first l.rest (None, x) both.0 ok (line_ok l.number _ (None, x) is)) j
+definitions_read past version (l ∷ lines) k r read ok h =
+    let both = and_parts (list_all is_read l.rest) (are_read lines) read in
+    let a = carried (at_line l.number (definition_step version k l.first l.rest)) _ r h in
+    let next = step_ok version k l.first l.rest a.value both.0 ok (line_ok l.number _ a.value a.first) in
+    looked a.value.0 _ _ _ a.rest (λ i. definitions_read past version lines a.value.1 r both.1 (subst (λ (o : Option ℕ). StepOk version (o, a.value.1)) i next))
+    (λ n i j.
+    let told = subst (λ (o : Option ℕ). StepOk version (o, a.value.1)) i next in
+    subst (AtData version) (same_ok (n, (a.value.1, lines)) r j) (record { known = told.0; ranks = told.1; read = both.1 }))

@@ -50,17 +50,11 @@ IsAgain rest text tail c = text_from Between (text_char c ++ rest) ≡ Some (c �
 abbrev more_text : ℕ → Option (List ℕ × List ℕ) → Option (List ℕ × List ℕ)
 more_text c o = option_map (λ r. (c ∷ r.0, r.1)) o
 
-itself_again : (c : ℕ) (rest : List ℕ) → (c == 34) ≡ false → (c == 92) ≡ false → text_from Between (c ∷ rest) ≡ more_text c (text_from Between rest)
-itself_again c rest a b = grind (arith, nat_tests)
-
 abbrev first_hex : Option ℕ → List ℕ → Option (List ℕ × List ℕ)
 first_hex o cs = elim o [ None ↦ None | Some h ↦ text_from (SecondHex h) cs ]
 
 abbrev second_hex : ℕ → Option ℕ → List ℕ → Option (List ℕ × List ℕ)
 second_hex g o cs = elim o [ None ↦ None | Some h ↦ more_text (16 * g + h) (text_from Between cs) ]
-
-hex_pair_again : (g h : ℕ) (rest : List ℕ) → g < 16 → h < 16 → text_from FirstHex (hex_digit g ∷ hex_digit h ∷ rest) ≡ more_text (16 * g + h) (text_from Between rest)
-hex_pair_again g h rest a b = ap (λ (o : Option ℕ). first_hex o (hex_digit h ∷ rest)) (hex_again g a) ∙ ap (λ (o : Option ℕ). second_hex g o rest) (hex_again h b)
 
 split_byte : (c : ℕ) → c < 256 → 16 * (c / 16 % 16) + c % 16 ≡ c
 split_byte c h = omega arith
@@ -69,7 +63,7 @@ pub below_16 : (c : ℕ) → c % 16 < 16
 below_16 c = omega arith
 
 escaped_again : (c : ℕ) (rest text tail : List ℕ) → c < 256 → text_from Between rest ≡ Some (text, tail) → text_from Between ((92 ∷ 120 ∷ hex 2 c) ++ rest) ≡ Some (c ∷ text, tail)
-escaped_again c rest text tail small h = grind (arith, nat_tests, hex_pair_again, below_16, split_byte)
+escaped_again c rest text tail small h = grind (arith, nat_tests, below_16, split_byte)
 
 abbrev pub char_else : Bool → ℕ → List ℕ
 char_else b c = cond b (c ∷ []) (92 ∷ 120 ∷ hex 2 c)
@@ -87,7 +81,6 @@ char_again rest text tail h c small =
       cases_Bool (c == 34),
       eqb-true,
       cond-false,
-      itself_again,
       nat_le,
     )
 

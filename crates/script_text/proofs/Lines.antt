@@ -1,8 +1,9 @@
 -- Lines that are printed are the significant lines of their text, which is ASCII.
-use Rattle.script_text.proofs.Words.{◌≡◌, ◌∙◌, ℕ, zero, suc, ◌+◌, ◌/◌, ◌%◌, ◌≤◌, ◌<◌, List, [], ◌∷◌, ◌++◌, map, length, take, get_or, Bool, true, false, not, nat_lt, nat_le, ◌==◌, ◌&&◌, refl, sym, ap, subst, ⊎_elim, append_assoc, take_all, arith, IsUtf8, IsAscii, and_parts, and_from, ne_eqb, eq-eqb, eqb-true, cases_Bool, cases_lt, cond-true, cond-false, agree_below_at, le-leb, lt-ltb, le-ltb, not-true, common_steps, slice_split_at, length-slice_split, AllPass-from_list_all, IsUtf8-from_ascii, IsUtf8-from_is_utf8, utf8_valid_len-IsUtf8, IsAscii-from_all, All, list_all, enumerate_from, is_utf8, valid_len_up_to, utf8_valid_len, is_empty, first_line_kept, text_char, hex_digit, joined, line, Word, Line, words, is_comment, is_newline, line_of, significant, significant_of, text_lines, all_joined, nat_tests}
+use Rattle.script_text.proofs.Words.{◌≡◌, ◌∙◌, ℕ, zero, suc, ◌+◌, ◌/◌, ◌%◌, ◌≤◌, ◌<◌, List, [], ◌∷◌, ◌++◌, map, length, take, get_or, Bool, true, false, not, nat_lt, nat_le, ◌==◌, ◌&&◌, refl, ap, ⊎_elim, append_assoc, take_all, arith, IsUtf8, IsAscii, and_parts, and_from, ne_eqb, eq-eqb, eqb-true, cases_Bool, cond-false, agree_below_at, le-leb, lt-ltb, not-true, common_steps, slice_split_at, length-slice_split, AllPass-from_list_all, IsUtf8-from_ascii, IsUtf8-from_is_utf8, utf8_valid_len-IsUtf8, IsAscii-from_all, All, list_all, enumerate_from, is_utf8, valid_len_up_to, utf8_valid_len, is_empty, first_line_kept, text_char, hex_digit, joined, line, Word, Line, words, is_comment, is_newline, line_of, significant, significant_of, text_lines, all_joined, nat_tests, ltb-true}
 use Rattle.std.proofs.Common.{flat_map}
 use lib.Utf8.{scalar, scalars, encode, encodes, scalar_cases, next}
 use Rattle.script_text.proofs.Lexing.{spelling, is_graphic, is_byte, is_good, graphic_bounds, byte_bound, tail_of, joined_words, words_again, below_16}
+use Rattle.script_text.proofs.Steps.{by_test}
 
 -- ---- what holds of each byte
 
@@ -26,9 +27,6 @@ printable_bounds c h = grind (arith, common_steps)
 
 printable : (c : ℕ) → 32 ≤ c → c ≤ 126 → is_printable c ≡ true
 printable c low high = and_from _ _ (le-leb 32 c low) (le-leb c 126 high)
-
-graphic_printable : (c : ℕ) → is_graphic c ≡ true → is_printable c ≡ true
-graphic_printable c h = let b = graphic_bounds c h in printable c (omega arith) b.1
 
 printable_hex : (d : ℕ) → d < 16 → is_printable (hex_digit d) ≡ true
 printable_hex d h = agree_below_at (λ x. is_printable (hex_digit x)) (λ x. true) 16 d refl h
@@ -61,7 +59,7 @@ printed_text (c ∷ text) h =
     all_joined is_printable (text_char c) (flat_map text_char text) (printed_char c (byte_bound c both.0)) (printed_text text both.1)
 
 printed_word : (w : Word) → is_good w ≡ true → list_all is_printable (spelling w) ≡ true
-printed_word w h = grind (arith, nat_tests, all_more, graphic_printable, and_parts, all_joined, flat_map, printed_text)
+printed_word w h = grind (arith, nat_tests, all_more, and_parts, all_joined, flat_map, printed_text)
 
 printed_tail : (ws : List Word) → list_all is_good ws ≡ true → list_all is_printable (tail_of ws) ≡ true
 printed_tail [] h = refl
@@ -147,14 +145,7 @@ valid_lines wss h =
 
 longest_front : (bs : List ℕ) (m : ℕ) → IsUtf8 (take (valid_len_up_to bs m) bs)
 longest_front bs zero = ([], (refl, refl))
-longest_front bs (suc m) = ⊎_elim
-    (λ yes.
-    let is : valid_len_up_to bs (suc m) ≡ suc m = cond-true _ _ _ yes in
-    subst (λ n. IsUtf8 (take n bs)) (sym is) (IsUtf8-from_is_utf8 _ yes))
-    (λ no.
-    let is : valid_len_up_to bs (suc m) ≡ valid_len_up_to bs m = cond-false _ _ _ no in
-    subst (λ n. IsUtf8 (take n bs)) (sym is) (longest_front bs m))
-    (cases_Bool (is_utf8 (take (suc m) bs)))
+longest_front bs (suc m) = by_test (λ n. IsUtf8 (take n bs)) (is_utf8 (take (suc m) bs)) (suc m) (valid_len_up_to bs m) (λ yes. IsUtf8-from_is_utf8 _ yes) (λ no. longest_front bs m)
 
 whole_front : (bs : List ℕ) → (utf8_valid_len bs == length bs) ≡ true → IsUtf8 bs
 unfolding utf8_valid_len
@@ -177,17 +168,12 @@ last_byte c h = ⊎_elim (λ a. omega arith) (λ a. let high = a.1 in omega arit
 
 encode_bytes : (c : ℕ) → scalar c ≡ true → list_all is_byte (encode c) ≡ true
 unfolding encode
-encode_bytes c h = ⊎_elim
-    (λ a. ap (list_all is_byte) (cond-true _ _ _ (lt-ltb c 128 a)) ∙ and_from (is_byte c) true (byte c (omega arith)) refl)
-    (λ a. ⊎_elim
-    (λ b. ap (list_all is_byte) (cond-false _ _ _ (le-ltb c 128 a) ∙ cond-true _ _ _ (lt-ltb c 2048 b)) ∙ two (192 + c / 64) c (omega arith))
-    (λ b. ⊎_elim
-    (λ d. ap (list_all is_byte) (cond-false _ _ _ (le-ltb c 128 a) ∙ (cond-false _ _ _ (le-ltb c 2048 b) ∙ cond-true _ _ _ (lt-ltb c 65536 d))) ∙ three (224 + c / 4096) (c / 64) c (omega arith))
-    (λ d. ap (list_all is_byte) (cond-false _ _ _ (le-ltb c 128 a) ∙ (cond-false _ _ _ (le-ltb c 2048 b) ∙ cond-false _ _ _ (le-ltb c 65536 d)))
-    ∙ and_from (is_byte (240 + c / 262144)) _ (byte (240 + c / 262144) (last_byte c h)) (three (next (c / 4096)) (c / 64) c (omega arith)))
-    (cases_lt c 65536))
-    (cases_lt c 2048))
-    (cases_lt c 128)
+encode_bytes c h =
+    let are = λ (w : List ℕ). list_all is_byte w ≡ true in
+    by_test are (nat_lt c 128) _ _ (λ a. let low = ltb-true c 128 a in and_from (is_byte c) true (byte c (omega arith)) refl)
+    (λ a. by_test are (nat_lt c 2048) _ _ (λ b. let low = ltb-true c 2048 b in two (192 + c / 64) c (omega arith))
+    (λ b. by_test are (nat_lt c 65536) _ _ (λ d. let low = ltb-true c 65536 d in three (224 + c / 4096) (c / 64) c (omega arith))
+    (λ d. and_from (is_byte (240 + c / 262144)) _ (byte (240 + c / 262144) (last_byte c h)) (three (next (c / 4096)) (c / 64) c (omega arith)))))
 
 encodes_bytes : (cs : List ℕ) → scalars cs ≡ true → list_all is_byte (encodes cs) ≡ true
 encodes_bytes [] h = refl

@@ -1,8 +1,9 @@
 -- Numbers, bits, lists and names that are printed are read as themselves, and what is read of them is within its range.
-use Rattle.script_text.proofs.Words.{◌≡◌, ◌∙◌, ℕ, zero, suc, ◌+◌, ◌-◌, ◌*◌, ◌/◌, ◌%◌, ◌^◌, ◌≤◌, ◌<◌, List, [], ◌∷◌, ◌++◌, map, length, get_or, fold, Bool, true, false, not, cond, nat_lt, nat_le, ◌==◌, ◌&&◌, ◌||◌, Option, Some, None, option_map, option_and_then, ℤ, pos, negsuc, neg_ℤ, unsigned_abs, refl, ap, subst, length-append, arith, decimal, signed_decimal, list_all, slice_split, All, and_parts, and_from, ne_eqb, eq-eqb, cond-true, cond-false, le-leb, lt-ltb, not-true, decimal_by_steps_wide, length-decimal-le_wide, common_steps, take_at, get_or_at, fold_push, AllPass-from_list_all, slice_split_at, slice_split_none, digit_bounds, natural_small, no_sum, sixteens-le, sixteens, size_read, hex, hex_digit, joined, bracketed, size_list, is_digit, digits_value, is_digits, natural_of, below, size_of_text, number_of_text, hex_sum, hex_value, bits_of_text, starts_name, in_name, is_name, between_brackets, is_comma, parts, all_some, list_of_text, all_joined, nat_tests}
+use Rattle.script_text.proofs.Words.{◌≡◌, ◌∙◌, ℕ, zero, suc, ◌+◌, ◌-◌, ◌*◌, ◌/◌, ◌%◌, ◌^◌, ◌≤◌, ◌<◌, List, [], ◌∷◌, ◌++◌, map, length, get_or, fold, Bool, true, false, not, nat_lt, nat_le, ◌==◌, ◌&&◌, ◌||◌, Option, Some, None, option_map, option_and_then, ℤ, pos, negsuc, neg_ℤ, unsigned_abs, refl, ap, subst, length-append, arith, decimal, signed_decimal, list_all, slice_split, All, and_parts, and_from, ne_eqb, eq-eqb, cond-true, cond-false, le-leb, lt-ltb, not-true, decimal_by_steps_wide, length-decimal-le_wide, common_steps, take_at, get_or_at, fold_push, AllPass-from_list_all, slice_split_at, slice_split_none, digit_bounds, natural_small, no_sum, sixteens-le, sixteens, size_read, hex, hex_digit, joined, bracketed, size_list, is_digit, digits_value, is_digits, natural_of, below, size_of_text, number_of_text, hex_sum, hex_value, bits_of_text, starts_name, in_name, is_name, between_brackets, is_comma, parts, all_some, list_of_text, all_joined, nat_tests}
 use native.Mathlib.Nat.{mul-le-mul_right}
 use Rattle.script_text.proofs.Lexing.{is_graphic, is_plain, hex_again}
 use Rattle.script_text.proofs.Lines.{all_more}
+use Rattle.script_text.proofs.Steps.{decided}
 
 -- ---- digits
 
@@ -67,11 +68,7 @@ positive_bound (Some n) z h e = let same : pos n ≡ z = cc in subst (λ (y : �
 
 pub number_bound : (w : List ℕ) (z : ℤ) → number_of_text w ≡ Some z → unsigned_abs z < 10 ^ 20
 number_bound [] z h = absurd (cc)
-number_bound (c ∷ cs) z h = by (c == 45) h
-  where
-    by : (b : Bool) → cond b (option_map (λ n. neg_ℤ (pos n)) (natural_of cs)) (option_map (λ n. pos n) (natural_of (c ∷ cs))) ≡ Some z → unsigned_abs z < 10 ^ 20
-    by true k = negative_bound (natural_of cs) z (natural_small cs) k
-    by false k = positive_bound (natural_of (c ∷ cs)) z (natural_small (c ∷ cs)) k
+number_bound (c ∷ cs) z h = decided (c == 45) _ _ _ h (λ i. negative_bound (natural_of cs) z (natural_small cs)) (λ i. positive_bound (natural_of (c ∷ cs)) z (natural_small (c ∷ cs)))
 
 unsigned_number : (ds : List ℕ) → 0 < length ds → list_all is_digit ds ≡ true → number_of_text ds ≡ option_map (λ n. pos n) (natural_of ds)
 unsigned_number ds some h = grind (arith, nat_tests, digit_bounds, and_parts, cond-false, ne_eqb)
@@ -127,14 +124,13 @@ hex_sum_bound (c ∷ hs) a n most e le = by (hex_value c) refl e (λ h. hex_sum_
 
 pub bits_bound : (w : List ℕ) (n : ℕ) → bits_of_text w ≡ Some n → n < 2 ^ 64
 bits_bound [] n h = absurd (cc)
-bits_bound (c ∷ hs) n h = by (c == 120 && nat_lt 0 (length hs) && nat_le (length hs) 16) refl h
-  where
-    by : (b : Bool) → (c == 120 && nat_lt 0 (length hs) && nat_le (length hs) 16) ≡ b → cond b (fold hex_sum (Some 0) hs) None ≡ Some n → n < 2 ^ 64
-    by true e k =
-        let short : length hs ≤ 16 = grind (arith, common_steps, (and_parts (c == 120 && nat_lt 0 (length hs)) (nat_le (length hs) 16) e).1) in
-        let fits : sixteens (length hs) ≤ 2 ^ 64 = sixteens-le (length hs) (16 - length hs) 16 (omega arith) in
-        hex_sum_bound hs 0 n (2 ^ 64) k (omega arith)
-    by false e k = absurd (cc)
+bits_bound (c ∷ hs) n h =
+    decided (c == 120 && nat_lt 0 (length hs) && nat_le (length hs) 16) _ _ _ h
+    (λ e k.
+    let short : length hs ≤ 16 = grind (arith, common_steps, (and_parts (c == 120 && nat_lt 0 (length hs)) (nat_le (length hs) 16) e).1) in
+    let fits : sixteens (length hs) ≤ 2 ^ 64 = sixteens-le (length hs) (16 - length hs) 16 (omega arith) in
+    hex_sum_bound hs 0 n (2 ^ 64) k (omega arith))
+    (λ e k. absurd (cc))
 
 graphic_hex : (d : ℕ) → d < 16 → is_graphic (hex_digit d) ≡ true
 graphic_hex d h = grind (arith, common_steps)

@@ -1,5 +1,5 @@
 -- Places of names in a list.
-use Rattle.script_text.proofs.Words.{◌≡◌, ◌⊎◌, ◌∙◌, ℕ, suc, ◌+◌, ◌<◌, List, [], ◌∷◌, ◌++◌, map, position, length, drop, Bool, true, false, cond, nat_lt, Option, Some, None, option_map, slice_get, refl, sym, ap, ⊎_elim, arith, bytes_eq, list_all, list_any, and_parts, and_from, or_parts, cond-true, cond-false, bytes_eq-Decides, position_below, get_left, Dim, all_some, is_among, dim_names, dim_ids, is_record_dim, nat_tests}
+use Rattle.script_text.proofs.Words.{◌≡◌, ◌⊎◌, ◌∙◌, ℕ, suc, ◌+◌, ◌<◌, List, [], ◌∷◌, ◌++◌, map, position, length, drop, Bool, true, false, cond, nat_lt, Option, Some, None, option_map, slice_get, refl, sym, ap, ⊎_elim, arith, bytes_eq, list_all, list_any, and_parts, and_from, or_parts, cond-true, cond-false, bytes_eq-Decides, position_below, get_left, Dim, all_some, is_among, dim_names, dim_ids, is_record_dim, nat_tests, subst, some_of_map}
 use borrow.Author.Tests.{ltb-true, lt-ltb}
 
 abbrev place : ℕ → ℕ → Option ℕ
@@ -15,11 +15,8 @@ pub record Later {A : Type 0} (p : A → Bool) (xs : List A) (k : ℕ) : Type 0 
   pub next : k ≡ suc before
   pub found : position p xs ≡ Some before
 
-later_from : {A : Type 0} (p : A → Bool) (xs : List A) (k : ℕ) → option_map suc (position p xs) ≡ Some k → Later p xs k
-later_from p xs k h = grind (arith, nat_tests, position, option_map)
-
 pub place_cases : {A : Type 0} (p : A → Bool) (x : A) (xs : List A) (k : ℕ) → position p (x ∷ xs) ≡ Some k → ((p x ≡ true) × (k ≡ 0)) ⊎ ((p x ≡ false) × Later p xs k)
-place_cases p x xs k h = grind (arith, nat_tests, position_cons, option_map, position, later_from)
+place_cases p x xs k h = grind (arith, nat_tests, position_cons, option_map, position)
 
 pub place_here : {A : Type 0} (p : A → Bool) (x : A) (xs : List A) → p x ≡ true → position p (x ∷ xs) ≡ Some 0
 place_here p x xs h = position_cons p x xs ∙ cond-true _ _ _ h
@@ -58,50 +55,35 @@ name_of_place n (d ∷ dims) k h = ⊎_elim
     (λ (b : (bytes_eq n d.name ≡ false) × Later (bytes_eq n) (dim_names dims) k). ap (name_at (d ∷ dims)) b.1.next ∙ name_of_place n dims b.1.before b.1.found)
     (place_cases (bytes_eq n) d.name (dim_names dims) k h)
 
--- each item is what f gives
-abbrev Zipped : {A B : Type 0} → (A → Option B) → List A → List B → Type 0
-Zipped f [] [] = Unit {0}
-Zipped f [] (y ∷ ys) = ⊥
-Zipped f (x ∷ xs) [] = ⊥
-Zipped f (x ∷ xs) (y ∷ ys) = (f x ≡ Some y) × Zipped f xs ys
+-- what holds of nothing, and on from what f gives, holds of all that f gives
+all_given : {A B : Type 0} (f : A → Option B) (P : List A → List B → Type 0) → P [] [] → ((x : A) (y : B) (xs : List A) (ys : List B) → f x ≡ Some y → P xs ys → P (x ∷ xs) (y ∷ ys))
+    → (xs : List A) (ys : List B) → all_some (map f xs) ≡ Some ys → P xs ys
+all_given f P none more [] ys h = let same : [] ≡ ys = cc in subst (P []) same none
+all_given {A} {B} f P none more (x ∷ xs) ys h = by (f x) refl h (λ zs e. all_given f P none more xs zs e)
+  where
+    by : (o : Option B) → f x ≡ o → all_some (o ∷ map f xs) ≡ Some ys → ((zs : List B) → all_some (map f xs) ≡ Some zs → P xs zs) → P (x ∷ xs) ys
+    by None e k rest = absurd (cc)
+    by (Some y) e k rest = let r = some_of_map (λ (zs : List B). y ∷ zs) (all_some (map f xs)) ys k in subst (P (x ∷ xs)) r.2 (more x y xs r.0 e (rest r.0 r.1))
 
-zipped_from : {A B : Type 0} (f : A → Option B) (xs : List A) (ys : List B) → all_some (map f xs) ≡ Some ys → Zipped f xs ys
-zipped_from f [] [] h = tt
-zipped_from f [] (y ∷ ys) h = absurd (cc)
-zipped_from {A} {B} f (x ∷ xs) ys h = grind (arith, nat_tests, zipped_from f xs, option_map)
-
-zipped_to : {A B : Type 0} (f : A → Option B) (xs : List A) (ys : List B) → Zipped f xs ys → all_some (map f xs) ≡ Some ys
-zipped_to f [] [] h = refl
-zipped_to f [] (y ∷ ys) h = absurd h
-zipped_to f (x ∷ xs) [] h = absurd h
-zipped_to {A} {B} f (x ∷ xs) (y ∷ ys) h = ap (λ (o : Option B). all_some (o ∷ map f xs)) h.0 ∙ ap (option_map (λ zs. y ∷ zs)) (zipped_to f xs ys h.1)
+all_more_given : {A B : Type 0} (f : A → Option B) (x : A) (y : B) (xs : List A) (ys : List B) → f x ≡ Some y → all_some (map f xs) ≡ Some ys → all_some (map f (x ∷ xs)) ≡ Some (y ∷ ys)
+all_more_given {A} {B} f x y xs ys e h = ap (λ (o : Option B). all_some (o ∷ map f xs)) e ∙ ap (option_map (λ zs. y ∷ zs)) h
 
 abbrev pub place_in : List Dim → List ℕ → Option ℕ
 place_in dims n = position (bytes_eq n) (dim_names dims)
 
-names_zipped : (dims : List Dim) (ns : List (List ℕ)) (ids : List ℕ) → Zipped (place_in dims) ns ids → map (name_at dims) ids ≡ ns
-names_zipped dims [] [] h = refl
-names_zipped dims [] (i ∷ ids) h = absurd h
-names_zipped dims (n ∷ ns) [] h = absurd h
-names_zipped dims (n ∷ ns) (i ∷ ids) h = grind (arith, nat_tests, names_zipped dims ns ids h.1, name_of_place)
-
 -- the dimensions' names by their places
 pub names_shown : (dims : List Dim) (ns : List (List ℕ)) (ids : List ℕ) → dim_ids dims ns ≡ Some ids → map (name_at dims) ids ≡ ns
-names_shown dims ns ids h = names_zipped dims ns ids (zipped_from (place_in dims) ns ids h)
+names_shown dims ns ids h = all_given (place_in dims) (λ ms is. map (name_at dims) is ≡ ms) refl (λ n i ms is e k. rw (name_of_place n dims i e, k)) ns ids h
 
 pub joined_names : (dims more : List Dim) → dim_names (dims ++ more) ≡ dim_names dims ++ dim_names more
 joined_names [] more = refl
 joined_names (d ∷ dims) more = ap (λ (xs : List (List ℕ)). d.name ∷ xs) (joined_names dims more)
 
-more_zipped : (dims more : List Dim) (ns : List (List ℕ)) (ids : List ℕ) → Zipped (place_in dims) ns ids → Zipped (place_in (dims ++ more)) ns ids
-more_zipped dims more [] [] h = tt
-more_zipped dims more [] (i ∷ ids) h = absurd h
-more_zipped dims more (n ∷ ns) [] h = absurd h
-more_zipped dims more (n ∷ ns) (i ∷ ids) h = grind (arith, nat_tests, more_zipped dims more ns ids h.1, position, bytes_eq, joined_names, place_more)
-
 -- more dimensions leave these where they are
 pub more_ids : (dims more : List Dim) (ns : List (List ℕ)) (ids : List ℕ) → dim_ids dims ns ≡ Some ids → dim_ids (dims ++ more) ns ≡ Some ids
-more_ids dims more ns ids h = zipped_to (place_in (dims ++ more)) ns ids (more_zipped dims more ns ids (zipped_from (place_in dims) ns ids h))
+more_ids dims more ns ids h =
+    all_given (place_in dims) (λ ms is. dim_ids (dims ++ more) ms ≡ Some is) refl
+    (λ n i ms is e k. all_more_given (place_in (dims ++ more)) n i ms is (rw (joined_names dims more) (place_more (bytes_eq n) (dim_names dims) (dim_names more) i e)) k) ns ids h
 
 pub length_names : (dims : List Dim) → length (dim_names dims) ≡ length dims
 length_names [] = refl
@@ -110,21 +92,15 @@ length_names (d ∷ dims) = ap suc (length_names dims)
 abbrev pub are_within : List Dim → List ℕ → Bool
 are_within dims ids = list_all (λ id. nat_lt id (length dims)) ids
 
-zipped_names : (dims : List Dim) (ids : List ℕ) → ((k : ℕ) → k < length dims → place_in dims (name_at dims k) ≡ Some k) → are_within dims ids ≡ true → Zipped (place_in dims) (map (name_at dims) ids) ids
-zipped_names dims [] each low = tt
-zipped_names dims (i ∷ ids) each low =
-    let both = and_parts (nat_lt i (length dims)) (are_within dims ids) low in
-    (each i (ltb-true i (length dims) both.0), zipped_names dims ids each both.1)
-
 -- the dimensions of these places, by their names
 pub ids_found : (dims : List Dim) (ids : List ℕ) → ((k : ℕ) → k < length dims → place_in dims (name_at dims k) ≡ Some k) → are_within dims ids ≡ true → dim_ids dims (map (name_at dims) ids) ≡ Some ids
-ids_found dims ids each low = zipped_to (place_in dims) (map (name_at dims) ids) ids (zipped_names dims ids each low)
+ids_found dims [] each low = refl
+ids_found dims (i ∷ ids) each low =
+    let both = and_parts (nat_lt i (length dims)) (are_within dims ids) low in
+    all_more_given (place_in dims) (name_at dims i) i (map (name_at dims) ids) ids (each i (ltb-true i (length dims) both.0)) (ids_found dims ids each both.1)
 
-within_zipped : (dims : List Dim) (ns : List (List ℕ)) (ids : List ℕ) → Zipped (place_in dims) ns ids → are_within dims ids ≡ true
-within_zipped dims [] [] h = refl
-within_zipped dims [] (i ∷ ids) h = absurd h
-within_zipped dims (n ∷ ns) [] h = absurd h
-within_zipped dims (n ∷ ns) (i ∷ ids) h = grind (arith, nat_tests, within_zipped dims ns ids h.1, position_below, bytes_eq, and_from, lt-ltb, length_names)
+within_given : (dims : List Dim) (ns : List (List ℕ)) (ids : List ℕ) → dim_ids dims ns ≡ Some ids → are_within dims ids ≡ true
+within_given dims ns ids h = all_given (place_in dims) (λ ms is. are_within dims is ≡ true) refl (λ n i ms is e k. and_from _ _ (grind (arith, nat_tests, position_below (bytes_eq n) (dim_names dims) i e, lt-ltb, length_names)) k) ns ids h
 
 same_records : (dims more : List Dim) (ids : List ℕ) → are_within dims ids ≡ true → list_any (is_record_dim (dims ++ more)) ids ≡ list_any (is_record_dim dims) ids
 same_records dims more [] h = refl
@@ -136,4 +112,4 @@ rest_within dims [] h = refl
 rest_within dims (i ∷ ids) h = (and_parts (nat_lt i (length dims)) (are_within dims ids) h).1
 
 pub more_records : (dims more : List Dim) (ns : List (List ℕ)) (ids : List ℕ) → dim_ids dims ns ≡ Some ids → list_any (is_record_dim dims) (drop 1 ids) ≡ false → list_any (is_record_dim (dims ++ more)) (drop 1 ids) ≡ false
-more_records dims more ns ids h none = same_records dims more (drop 1 ids) (rest_within dims ids (within_zipped dims ns ids (zipped_from (place_in dims) ns ids h))) ∙ none
+more_records dims more ns ids h none = same_records dims more (drop 1 ids) (rest_within dims ids (within_given dims ns ids h)) ∙ none

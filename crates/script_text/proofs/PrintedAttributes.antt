@@ -4,7 +4,7 @@ use Rattle.std.proofs.Common.{flat_map}
 use Rattle.nc_base.specs.declared.errors.ScriptKind.TheVariants as kind
 use Rattle.nc_base.specs.declared.request.Value.TheVariants as value
 use Rattle.serial_spec.specs.ExternalForm as class
-use Rattle.script_text.proofs.Steps.{went, go_on, same_ok, not_refused, passed, read_word, word_read}
+use Rattle.script_text.proofs.Steps.{go_on, same_ok, passed, read_word, word_read, step_then, free_then}
 use Rattle.script_text.proofs.Lexing.{spelling, is_plain, is_good, is_byte}
 use Rattle.script_text.proofs.Numerals.{name_plain}
 use Rattle.script_text.proofs.Sequences.{is_fit_number, is_fit_pattern}
@@ -49,17 +49,9 @@ seen_again t h test each [] all = refl
 seen_again t h test each (x ∷ xs) all =
     grind (arith, nat_tests, seen_again t h test each xs (and_parts (test x) (list_all test xs) all).1, and_parts, flat_map, take_at, ext_long, drop_at, val-ext)
 
-numbers_of : (zs : List ℤ) → map number_in (map (λ z. Some (value.Number z)) zs) ≡ zs
-numbers_of [] = refl
-numbers_of (z ∷ zs) = ap (λ (ys : List ℤ). z ∷ ys) (numbers_of zs)
-
-chars_of : (cs : List ℕ) → map code_in (map (λ c. Some (value.Char c)) cs) ≡ cs
-chars_of [] = refl
-chars_of (c ∷ cs) = ap (λ (ys : List ℕ). c ∷ ys) (chars_of cs)
-
-bits_of : (ns : List ℕ) → map code_in (map (λ n. Some (value.Bits n)) ns) ≡ ns
-bits_of [] = refl
-bits_of (n ∷ ns) = ap (λ (ys : List ℕ). n ∷ ys) (bits_of ns)
+each_back : {A B : Type 0} (f : B → A) (g : A → B) → ((x : A) → f (g x) ≡ x) → (xs : List A) → map f (map g xs) ≡ xs
+each_back f g back [] = refl
+each_back f g back (x ∷ xs) = rw (back x, each_back f g back xs)
 
 -- what is printed of an attribute's values is read as its values
 pub record AttrShown (n : List ℕ) (t : NcType) (vs : Values) : Type 0 where
@@ -80,19 +72,16 @@ gathered_text c os h = grind (arith, nat_tests)
 gathered_bits : (c : Class) (os : List (Option Value)) → are_patterns c ≡ true → gathered c os ≡ Bits (map code_in os)
 gathered_bits c os h = grind (arith, nat_tests)
 
+no_numbers : (n : List ℕ) (t : NcType) (c : Class) → class_of t ≡ c → list_all is_good (value_tokens (gathered c [])) ≡ true → ((now : ℕ) → values (Some t) now (value_tokens (gathered c [])) ≡ Ok (Numbers [])) → AttrShown n t (Numbers [])
+no_numbers n t c e good again = record {
+  good = ap (λ (x : Class). list_all is_good (value_tokens (gathered x []))) e ∙ good;
+  again = λ now few. (Numbers [], ap (λ (x : Class). values (Some t) now (value_tokens (gathered x []))) e ∙ again now, refl);
+}
+
 nothing_shown : (n : List ℕ) (t : NcType) (c : Class) → class_of t ≡ c → AttrShown n t (Numbers [])
-nothing_shown n t class.Signed e = record {
-  good = ap (λ (x : Class). list_all is_good (value_tokens (gathered x []))) e;
-  again = λ now few. (Numbers [], ap (λ (x : Class). values (Some t) now (value_tokens (gathered x []))) e, refl);
-}
-nothing_shown n t class.Unsigned e = record {
-  good = ap (λ (x : Class). list_all is_good (value_tokens (gathered x []))) e;
-  again = λ now few. (Numbers [], ap (λ (x : Class). values (Some t) now (value_tokens (gathered x []))) e, refl);
-}
-nothing_shown n t class.Pattern e = record {
-  good = ap (λ (x : Class). list_all is_good (value_tokens (gathered x []))) e;
-  again = λ now few. (Numbers [], ap (λ (x : Class). values (Some t) now (value_tokens (gathered x []))) e, refl);
-}
+nothing_shown n t class.Signed e = no_numbers n t class.Signed e refl (λ now. refl)
+nothing_shown n t class.Unsigned e = no_numbers n t class.Unsigned e refl (λ now. refl)
+nothing_shown n t class.Pattern e = no_numbers n t class.Pattern e refl (λ now. refl)
 nothing_shown n t class.Text e = record {
   good = ap (λ (x : Class). list_all is_good (value_tokens (gathered x []))) e;
   again = λ now few. (
@@ -112,13 +101,13 @@ numbers_shown n t before (z ∷ zs) fit =
     let os = seen t (length (z ∷ zs)) (external_bytes t (Numbers (z ∷ zs))) in
     let same : os ≡ map (λ y. Some (value.Number y)) (z ∷ zs) = seen_again t (λ y. value.Number y) (is_fit_number (Some t)) (λ y h. (and_parts _ _ h).1) (z ∷ zs) fit.are.0 in
     as_they_are n t before (Numbers (z ∷ zs))
-    (gathered_numbers (class_of t) os (fit.are.1 (some_numbers z zs)) ∙ ap (λ (ys : List ℤ). Numbers ys) (ap (map number_in) same ∙ numbers_of (z ∷ zs))) fit
+    (gathered_numbers (class_of t) os (fit.are.1 (some_numbers z zs)) ∙ ap (λ (ys : List ℤ). Numbers ys) (ap (map number_in) same ∙ each_back number_in (λ y. Some (value.Number y)) (λ y. refl) (z ∷ zs))) fit
 
 bits_shown : (n : List ℕ) (t : NcType) (before : ℕ) (ns : List ℕ) → Fitting (Some t) before (Bits ns) → AttrShown n t (Bits ns)
 bits_shown n t before ns fit =
     let os = seen t (length ns) (external_bytes t (Bits ns)) in
     let same : os ≡ map (λ y. Some (value.Bits y)) ns = seen_again t (λ y. value.Bits y) (is_fit_pattern (Some t)) (λ y h. (and_parts _ _ h).1) ns fit.are.0 in
-    as_they_are n t before (Bits ns) (gathered_bits (class_of t) os fit.are.2 ∙ ap (λ (ys : List ℕ). Bits ys) (ap (map code_in) same ∙ bits_of ns)) fit
+    as_they_are n t before (Bits ns) (gathered_bits (class_of t) os fit.are.2 ∙ ap (λ (ys : List ℕ). Bits ys) (ap (map code_in) same ∙ each_back code_in (λ y. Some (value.Bits y)) (λ y. refl) ns)) fit
 
 char_fits : (t : NcType) → are_text (class_of t) ≡ true → (c : ℕ) → is_byte c ≡ true → fits t (value.Char c) ≡ true
 char_fits t h c b = grind (arith, nat_tests)
@@ -127,7 +116,7 @@ text_shown : (n : List ℕ) (t : NcType) (before : ℕ) (cs : List ℕ) → Fitt
 text_shown n t before cs fit =
     let os = seen t (length cs) (external_bytes t (Text cs)) in
     let same : os ≡ map (λ y. Some (value.Char y)) cs = seen_again t (λ y. value.Char y) is_byte (char_fits t fit.are.1) cs fit.are.0 in
-    as_they_are n t before (Text cs) (gathered_text (class_of t) os fit.are.1 ∙ ap (λ (ys : List ℕ). Text ys) (ap (map code_in) same ∙ chars_of cs)) fit
+    as_they_are n t before (Text cs) (gathered_text (class_of t) os fit.are.1 ∙ ap (λ (ys : List ℕ). Text ys) (ap (map code_in) same ∙ each_back code_in (λ y. Some (value.Char y)) (λ y. refl) cs)) fit
 
 values_shown : (n : List ℕ) (t : NcType) (before : ℕ) (vs : Values) → Fitting (Some t) before vs → AttrShown n t vs
 values_shown n t before (Numbers zs) fit = numbers_shown n t before zs fit
@@ -170,22 +159,18 @@ attr_same version n t vs hn ht hv =
           (go_on (values (Some t) before rest) _ r.0 a r.1 (ap (λ (x : Attr). Ok x) r.2)));
     }
 
+attribute_name_read : (titles : List Title) (owner : List ℕ) (ws : List Word) (n : List ℕ × List Word) → list_all is_read ws ≡ true → attribute_name titles owner ws ≡ Ok n
+    → (is_name n.0 ≡ true) × (list_any (same_title (owner, n.0)) titles ≡ false) × (list_all is_read n.1 ≡ true)
+attribute_name_read titles owner ws n read h =
+    step_then (name ws) _ n h (λ m is h. free_then _ _ _ n h (λ fresh h.
+    subst (λ (x : List ℕ × List Word). (is_name x.0 ≡ true) × (list_any (same_title (owner, x.0)) titles ≡ false) × (list_all is_read x.1 ≡ true)) (same_ok m n h)
+    (name_read ws m is, fresh, kept is_read name_of_text kind.BadName ws m is read)))
+
 pub attr_read : (version : ℕ) (titles : List Title) (before : ℕ) (owner : List ℕ) (ws : List Word) (a : Attr)
     → before ≤ most_values → list_all is_read ws ≡ true → attribute version titles before owner ws ≡ Ok a → AttrRead version titles before owner a
 attr_read version titles before owner ws a low read h =
-    let n = went (attribute_name titles owner ws) _ a h in
-    let t = went (reads_as (type_of version) kind.UnknownWord n.value.1) _ a n.rest in
-    let vs = went (values (Some t.value.0) before t.value.1) _ a t.rest in
-    let m = went (name ws) _ n.value n.first in
-    let u = went (refuse_if (list_any (same_title (owner, m.value.0)) titles) kind.TwiceNamed) _ n.value m.rest in
-    let same : m.value ≡ n.value = same_ok m.value n.value u.rest in
-    let fresh = subst (λ (x : List ℕ × List Word). list_any (same_title (owner, x.0)) titles ≡ false) same (not_refused _ _ u.value u.first) in
-    let named = subst (λ (x : List ℕ × List Word). is_name x.0 ≡ true) same (name_read ws m.value m.first) in
-    let read_name = subst (λ (x : List ℕ × List Word). list_all is_read x.1 ≡ true) same (kept is_read name_of_text kind.BadName ws m.value m.first read) in
-    let read_type = kept is_read (type_of version) kind.UnknownWord n.value.1 t.value t.first read_name in
-    let fit = values_fit (Some t.value.0) before t.value.1 vs.value low read_type vs.first in
-    subst (AttrRead version titles before owner) (same_ok (attr_of n.value.0 t.value.0 vs.value) a vs.rest) (record {
-      same = attr_same version n.value.0 t.value.0 vs.value named (type_read version n.value.1 t.value t.first) (values_shown n.value.0 t.value.0 before vs.value fit);
-      fresh = fresh;
-      few = fit.room.all;
-    })
+    step_then (attribute_name titles owner ws) _ a h (λ n new h. step_then (reads_as (type_of version) kind.UnknownWord n.1) _ a h (λ t typed h. step_then (values (Some t.0) before t.1) _ a h (λ vs spelt h.
+    let m = attribute_name_read titles owner ws n read new in
+    let fit = values_fit (Some t.0) before t.1 vs low (kept is_read (type_of version) kind.UnknownWord n.1 t typed m.2) spelt in
+    subst (AttrRead version titles before owner) (same_ok (attr_of n.0 t.0 vs) a h)
+    (record { same = attr_same version n.0 t.0 vs m.0 (type_read version n.1 t typed) (values_shown n.0 t.0 before vs fit); fresh = m.1; few = fit.room.all }))))

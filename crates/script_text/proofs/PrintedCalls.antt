@@ -1,12 +1,12 @@
 -- A call that is printed is read as the same call.
-use Rattle.script_text.proofs.Words.{◌≡◌, ◌∙◌, ℕ, ◌+◌, ◌^◌, ◌≤◌, ◌<◌, List, [], ◌∷◌, ◌++◌, Bool, true, false, Option, Some, None, Result, Ok, refl, sym, ap, subst, append-nil, arith, codes, decimal, list_all, and_from, ltb-true, ScriptKind, Values, Numbers, Form, Given, PostKind, Iput, Iget, Bput, Choice, Call, most_values, values_in_call, count_of, call_word, Word, Plain, is_name, ◌>>=◌, refuse_if, or_fault, reads_as, size, name, name_of_text, ended, whole, values, after_prefix, form_of_text, form_and_all, region, id_of_text, posted, is_posted, new_id, put_call, get_call, post_values, post_call, behind, row_call, plain_call, post_of_text, call_of, Family, Requests, Size, Name, Record, Nothing, Behind, CallRow, row_of_text, faultless_some, is_sized, IsRow, found_row, made_word, made_no_values, is_expressible_behind, all_joined, nat_tests}
+use Rattle.script_text.proofs.Words.{◌≡◌, ◌∙◌, ℕ, ◌+◌, ◌^◌, ◌≤◌, ◌<◌, List, [], ◌∷◌, ◌++◌, Bool, true, false, None, Ok, refl, sym, ap, subst, append-nil, arith, codes, decimal, list_all, and_from, ltb-true, Values, Numbers, Form, Given, PostKind, Iput, Iget, Bput, Choice, Call, most_values, values_in_call, count_of, call_word, Word, Plain, is_name, refuse_if, or_fault, reads_as, size, name, name_of_text, whole, values, after_prefix, form_of_text, form_and_all, region, id_of_text, posted, is_posted, new_id, put_call, get_call, post_values, post_call, behind, plain_call, post_of_text, call_of, Family, Requests, Size, Name, Record, Nothing, Behind, CallRow, row_of_text, faultless_some, is_sized, IsRow, found_row, made_word, made_no_values, is_expressible_behind, all_joined, nat_tests}
 use Rattle.nc_base.specs.declared.errors.ScriptKind.TheVariants as kind
 use Rattle.nc_base.specs.declared.request.Call.TheVariants as call
-use Rattle.script_text.proofs.Steps.{went, go_on, same_ok, not_refused, passed, read_word, word_read, whole_value}
+use Rattle.script_text.proofs.Steps.{went, go_on, same_ok, passed, read_word, word_read, whole_value, looked, step_then, free_then, end_then}
 use Rattle.script_text.proofs.Lexing.{is_good}
 use Rattle.script_text.proofs.Numerals.{name_plain, size_plain}
 use Rattle.script_text.proofs.PrintedValues.{value_tokens, is_read, Fitting, values_fit, values_again, values_good}
-use Rattle.script_text.proofs.PrintedRegions.{kept, name_read, name_again, size_read, size_word, region_tokens, RegionAgain, region_again, region_kept, id_bound, id_again, id_plain, ChoiceAgain, choice_told, choice_read}
+use Rattle.script_text.proofs.PrintedRegions.{kept, name_read, name_again, size_read, size_word, region_tokens, RegionAgain, region_again, region_kept, id_bound, id_again, id_plain, ChoiceAgain, choice_told, choice_read, name_then}
 use Rattle.script_text.proofs.CallTokens.{tokens_behind, call_tokens, made_tokens, get_word, post_word, put_word}
 
 -- ---- a call read again
@@ -44,15 +44,10 @@ put_same ranks r own all n f g before vs hn hg hv =
 put_read : (ranks r : ℕ) (own : List Call) (all : Bool) (f : Form) (before : ℕ) (ws : List Word) (c : Call)
     → before ≤ most_values → list_all is_read ws ≡ true → put_call all f before ws ≡ Ok c → CallRead ranks r own before c
 put_read ranks r own all f before ws c low read h =
-    let a = went (name ws) _ c h in
-    let b = went (region f a.value.1) _ c a.rest in
-    let d = went (values None before b.value.1) _ c b.rest in
-    let read_on = region_kept is_read f a.value.1 b.value b.first (kept is_read name_of_text kind.BadName ws a.value a.first read) in
-    let fit = values_fit None before b.value.1 d.value low read_on d.first in
-    subst (CallRead ranks r own before) (same_ok (call.Put all a.value.0 b.value.0 d.value) c d.rest) (record {
-      same = put_same ranks r own all a.value.0 f b.value.0 before d.value (name_read ws a.value a.first) (region_again f a.value.1 b.value b.first) fit;
-      few = fit.room.all;
-    })
+    step_then (name ws) _ c h (λ n named h. step_then (region f n.1) _ c h (λ g told h. step_then (values None before g.1) _ c h (λ vs spelt h.
+    let fit = values_fit None before g.1 vs low (region_kept is_read f n.1 g told (kept is_read name_of_text kind.BadName ws n named read)) spelt in
+    subst (CallRead ranks r own before) (same_ok (call.Put all n.0 g.0 vs) c h)
+    (record { same = put_same ranks r own all n.0 f g.0 before vs (name_read ws n named) (region_again f n.1 g told) fit; few = fit.room.all }))))
 
 pub get_same : (ranks r : ℕ) (own : List Call) (all : Bool) (n : List ℕ) (f : Form) (g : Given) → is_name n ≡ true → RegionAgain f g → CallAgain ranks r own (call.Get all n g)
 get_same ranks r own all n f g hn hg =
@@ -67,11 +62,8 @@ get_same ranks r own all n f g hn hg =
 
 get_read : (ranks r : ℕ) (own : List Call) (before : ℕ) (low : before ≤ most_values) (all : Bool) (f : Form) (ws : List Word) (c : Call) → get_call all f ws ≡ Ok c → CallRead ranks r own before c
 get_read ranks r own before low all f ws c h =
-    let a = went (name ws) _ c h in
-    let b = went (region f a.value.1) _ c a.rest in
-    let d = went (ended b.value.1) _ c b.rest in
-    subst (CallRead ranks r own before) (same_ok (call.Get all a.value.0 b.value.0) c d.rest)
-    (no_values ranks r own before _ low refl (get_same ranks r own all a.value.0 f b.value.0 (name_read ws a.value a.first) (region_again f a.value.1 b.value b.first)))
+    name_then ws _ c h (λ n named h. step_then (region f n.1) _ c h (λ g told h. end_then g.1 _ c h (λ none h.
+    subst (CallRead ranks r own before) (same_ok (call.Get all n.0 g.0) c h) (no_values ranks r own before _ low refl (get_same ranks r own all n.0 f g.0 named (region_again f n.1 g told))))))
 
 -- the values of a post of this kind
 pub record PostedAgain (k : PostKind) (before : ℕ) (vs : Values) : Type 0 where
@@ -107,26 +99,20 @@ post_same ranks r own k id n f g before vs low fresh hn hg hv =
           (go_on (post_values k now (value_tokens vs)) _ vs c (hv.again now few) refl)));
     }
 
+new_id_read : (own : List Call) (ws : List Word) (i : ℕ × List Word) → list_all is_read ws ≡ true → new_id (posted own) ws ≡ Ok i → (i.0 < 2 ^ 32) × (is_posted i.0 (posted own) ≡ false) × (list_all is_read i.1 ≡ true)
+new_id_read own ws i read h =
+    step_then (reads_as id_of_text kind.BadNumber ws) _ i h (λ e is h. free_then _ _ _ i h (λ fresh h.
+    let id = read_word id_of_text kind.BadNumber ws e is in
+    subst (λ (x : ℕ × List Word). (x.0 < 2 ^ 32) × (is_posted x.0 (posted own) ≡ false) × (list_all is_read x.1 ≡ true)) (same_ok e i h) (id_bound id.0 e.0 id.1, fresh, kept is_read id_of_text kind.BadNumber ws e is read)))
+
 post_read : (ranks r : ℕ) (own : List Call) (k : PostKind) (f : Form) (before : ℕ) (ws : List Word) (c : Call)
     → before ≤ most_values → list_all is_read ws ≡ true → post_call k (posted own) f before ws ≡ Ok c → CallRead ranks r own before c
 post_read ranks r own k f before ws c low read h =
-    let i = went (new_id (posted own) ws) _ c h in
-    let a = went (name i.value.1) _ c i.rest in
-    let b = went (region f a.value.1) _ c a.rest in
-    let d = went (post_values k before b.value.1) _ c b.rest in
-    let e = went (reads_as id_of_text kind.BadNumber ws) _ i.value i.first in
-    let u = went (refuse_if (is_posted e.value.0 (posted own)) kind.TwiceNamed) _ i.value e.rest in
-    let same : e.value ≡ i.value = same_ok e.value i.value u.rest in
-    let fresh = subst (λ (x : ℕ × List Word). is_posted x.0 (posted own) ≡ false) same (not_refused _ _ u.value u.first) in
-    let id_read = read_word id_of_text kind.BadNumber ws e.value e.first in
-    let small = subst (λ (x : ℕ × List Word). x.0 < 2 ^ 32) same (id_bound id_read.0 e.value.0 id_read.1) in
-    let read_id = subst (λ (x : ℕ × List Word). list_all is_read x.1 ≡ true) same (kept is_read id_of_text kind.BadNumber ws e.value e.first read) in
-    let read_on = region_kept is_read f a.value.1 b.value b.first (kept is_read name_of_text kind.BadName i.value.1 a.value a.first read_id) in
-    let vs = posted_read k before b.value.1 d.value low read_on d.first in
-    subst (CallRead ranks r own before) (same_ok (call.Post i.value.0 k a.value.0 b.value.0 d.value) c d.rest) (record {
-      same = post_same ranks r own k i.value.0 a.value.0 f b.value.0 before d.value small fresh (name_read i.value.1 a.value a.first) (region_again f a.value.1 b.value b.first) vs;
-      few = vs.few;
-    })
+    step_then (new_id (posted own) ws) _ c h (λ i new h. step_then (name i.1) _ c h (λ n named h. step_then (region f n.1) _ c h (λ g told h. step_then (post_values k before g.1) _ c h (λ vs spelt h.
+    let id = new_id_read own ws i read new in
+    let again = posted_read k before g.1 vs low (region_kept is_read f n.1 g told (kept is_read name_of_text kind.BadName i.1 n named id.2)) spelt in
+    subst (CallRead ranks r own before) (same_ok (call.Post i.0 k n.0 g.0 vs) c h)
+    (record { same = post_same ranks r own k i.0 n.0 f g.0 before vs id.0 id.1 (name_read i.1 n named) (region_again f n.1 g told) again; few = again.few })))))
 
 -- ---- calls that name no region
 
@@ -153,17 +139,10 @@ nothing_behind u = record { good = refl; again = refl }
 
 behind_read : (f : Family) (ws : List Word) (b : Behind f) → behind f ws ≡ Ok b → BehindAgain f b
 behind_read Requests ws c h = choice_behind c (choice_read ws c h)
-behind_read Size ws n h =
-    let a = went (size ws) whole n h in
-    subst (BehindAgain Size) (whole_value a.value n a.rest).0 (size_behind a.value.0 (size_read ws a.value a.first))
-behind_read Name ws n h =
-    let a = went (name ws) whole n h in
-    subst (BehindAgain Name) (whole_value a.value n a.rest).0 (name_behind a.value.0 (name_read ws a.value a.first))
+behind_read Size ws n h = step_then (size ws) whole n h (λ x is h. subst (BehindAgain Size) (whole_value x n h).0 (size_behind x.0 (size_read ws x is)))
+behind_read Name ws n h = name_then ws whole n h (λ x named h. subst (BehindAgain Name) (whole_value x n h).0 (name_behind x.0 named))
 behind_read Record ws v h =
-    let a = went (name ws) _ v h in
-    let b = went (size a.value.1) _ v a.rest in
-    subst (BehindAgain Record) (whole_value ((a.value.0, b.value.0), b.value.1) v b.rest).0
-    (record_behind a.value.0 b.value.0 (name_read ws a.value a.first) (size_read a.value.1 b.value b.first))
+    name_then ws _ v h (λ n named h. step_then (size n.1) _ v h (λ k is h. subst (BehindAgain Record) (whole_value ((n.0, k.0), k.1) v h).0 (record_behind n.0 k.0 named (size_read n.1 k is))))
 behind_read Nothing ws u h = nothing_behind u
 
 pub behind_told : (f : Family) (b : Behind f) → is_expressible_behind f b ≡ true → is_sized f b ≡ true → BehindAgain f b
@@ -187,34 +166,17 @@ plain_same ranks r own row is b k =
 
 plain_read : (ranks r : ℕ) (own : List Call) (before : ℕ) (low : before ≤ most_values) (w : List ℕ) (ws : List Word) (c : Call) → plain_call ranks r w ws ≡ Ok c → CallRead ranks r own before c
 plain_read ranks r own before low w ws c h =
-    let a = went (or_fault kind.UnknownWord (row_of_text w)) (λ row. row_call ranks r row ws) c h in
-    let row = a.value in
-    let is = found_row w row (faultless_some kind.UnknownWord (row_of_text w) row a.first) in
-    let d = went (behind row.family ws) (λ x. Ok (row.made ranks r x)) c a.rest in
-    subst (CallRead ranks r own before) (same_ok (row.made ranks r d.value) c d.rest)
-    (no_values ranks r own before _ low (made_no_values row is ranks r d.value) (plain_same ranks r own row is d.value (behind_read row.family ws d.value d.first)))
+    step_then (or_fault kind.UnknownWord (row_of_text w)) _ c h (λ row there h. step_then (behind row.family ws) _ c h (λ b told h.
+    let is = found_row w row (faultless_some kind.UnknownWord (row_of_text w) row there) in
+    subst (CallRead ranks r own before) (same_ok (row.made ranks r b) c h)
+    (no_values ranks r own before _ low (made_no_values row is ranks r b) (plain_same ranks r own row is b (behind_read row.family ws b told)))))
 
 pub call_read : (ranks r : ℕ) (own : List Call) (before : ℕ) (w : List ℕ) (ws : List Word) (c : Call)
     → before ≤ most_values → list_all is_read ws ≡ true → call_of ranks r own before w ws ≡ Ok c → CallRead ranks r own before c
-call_read ranks r own before w ws c low read h = by (after_prefix (codes "put_") w) (after_prefix (codes "get_") w) (post_of_text w) h
-  where
-    by : (i j : Option (List ℕ)) (k : Option (PostKind × List ℕ)) → elim i as (λ x. Result Call ScriptKind) [
-      | Some rest ↦ (or_fault kind.UnknownWord (form_and_all rest) >>= λ f. put_call f.1 f.0 before ws)
-      | None ↦ elim j as (λ x. Result Call ScriptKind) [
-        | Some rest ↦ (or_fault kind.UnknownWord (form_and_all rest) >>= λ f. get_call f.1 f.0 ws)
-        | None ↦ elim k as (λ x. Result Call ScriptKind) [
-          | Some p ↦ (or_fault kind.UnknownWord (form_of_text p.1) >>= λ f. post_call p.0 (posted own) f before ws)
-          | None ↦ plain_call ranks r w ws
-        ]
-      ]
-    ] ≡ Ok c → CallRead ranks r own before c
-    by (Some rest) j k e =
-        let a = went (or_fault kind.UnknownWord (form_and_all rest)) (λ f. put_call f.1 f.0 before ws) c e in
-        put_read ranks r own a.value.1 a.value.0 before ws c low read a.rest
-    by None (Some rest) k e =
-        let a = went (or_fault kind.UnknownWord (form_and_all rest)) (λ f. get_call f.1 f.0 ws) c e in
-        get_read ranks r own before low a.value.1 a.value.0 ws c a.rest
-    by None None (Some p) e =
-        let a = went (or_fault kind.UnknownWord (form_of_text p.1)) (λ f. post_call p.0 (posted own) f before ws) c e in
-        post_read ranks r own p.0 a.value before ws c low read a.rest
-    by None None None e = plain_read ranks r own before low w ws c e
+call_read ranks r own before w ws c low read h =
+    looked (after_prefix (codes "put_") w) _ _ _ h
+    (λ i e. looked (after_prefix (codes "get_") w) _ _ _ e
+    (λ j l. looked (post_of_text w) _ _ _ l (λ k. plain_read ranks r own before low w ws c)
+    (λ p k m. let a = went (or_fault kind.UnknownWord (form_of_text p.1)) _ c m in post_read ranks r own p.0 a.value before ws c low read a.rest))
+    (λ rest j l. let a = went (or_fault kind.UnknownWord (form_and_all rest)) _ c l in get_read ranks r own before low a.value.1 a.value.0 ws c a.rest))
+    (λ rest i e. let a = went (or_fault kind.UnknownWord (form_and_all rest)) _ c e in put_read ranks r own a.value.1 a.value.0 before ws c low read a.rest)

@@ -1,14 +1,14 @@
 -- Hints, dimensions and variables that are printed are read again.
-use Rattle.script_text.proofs.Words.{◌≡◌, ◌⊎◌, ◌∙◌, ℕ, zero, suc, ◌%◌, ◌^◌, ◌<◌, List, [], ◌∷◌, length, Bool, true, false, not, cond, nat_le, ◌==◌, ◌&&◌, ◌||◌, Option, Some, None, is_some, slice_get, slice_set, unwrap_or, Ok, refl, sym, ap, subst, ⊎_elim, arith, bytes_eq, codes, decimal, list_all, list_any, and_parts, and_from, cond-true, cond-false, NcType, Dim, most_dims, most_vars, record_limit, type_word, bracketed, Word, Plain, is_name, size_of_text, between_brackets, parts, refuse_if, reads_as, name, ended, HintForm, Within, Either, HintRow, hint_table, hint_of_text, hint_form, hint_in, no_row, number_within, one_of_two, hint_value, hint_line, ranks_line, type_of, is_among, length_of_text, is_unlimited, dim_names, dim_line, var_head, name_list, size_read, nat_tests}
+use Rattle.script_text.proofs.Words.{◌≡◌, ◌⊎◌, ◌∙◌, ℕ, zero, suc, ◌%◌, ◌^◌, ◌<◌, List, [], ◌∷◌, length, Bool, true, false, not, cond, nat_le, ◌==◌, ◌&&◌, ◌||◌, Option, Some, None, is_some, slice_get, slice_set, unwrap_or, Ok, refl, sym, ap, subst, ⊎_elim, arith, bytes_eq, codes, decimal, list_all, list_any, and_parts, and_from, cond-true, cond-false, NcType, Dim, most_dims, most_vars, record_limit, type_word, bracketed, Word, Plain, is_name, size_of_text, between_brackets, parts, refuse_if, reads_as, name, HintForm, Within, Either, HintRow, hint_table, hint_of_text, hint_form, hint_in, no_row, number_within, one_of_two, hint_value, hint_line, ranks_line, type_of, is_among, length_of_text, is_unlimited, dim_names, dim_line, var_head, name_list, size_read, nat_tests}
 use borrow.Author.Tests.{leb-true, not-false}
 use Rattle.nc_base.specs.declared.errors.ScriptKind.TheVariants as kind
 use Rattle.nc_base.specs.declared.errors.LimitName.TheVariants as limit
-use Rattle.script_text.proofs.Steps.{went, go_on, same_ok, not_refused, passed, read_word, word_read}
+use Rattle.script_text.proofs.Steps.{go_on, same_ok, passed, read_word, word_read, step_then, free_then, word_then, end_then}
 use Rattle.script_text.proofs.Lexing.{is_plain, is_good}
 use Rattle.script_text.proofs.Lines.{all_more}
 use Rattle.script_text.proofs.Numerals.{below_bound, below_again, size_again, size_plain, decimal_word, brackets_again, parts_again, bracketed_plain, is_item, name_item, name_plain}
 use Rattle.script_text.proofs.PrintedValues.{not_letters}
-use Rattle.script_text.proofs.PrintedRegions.{name_read, name_again}
+use Rattle.script_text.proofs.PrintedRegions.{name_again, name_then}
 use Rattle.script_text.proofs.PrintedAttributes.{type_read}
 
 -- ---- hints
@@ -62,12 +62,8 @@ hints_set (f ∷ fs) (Some n ∷ os) (suc h) v a b =
 
 pub hint_read : (hints : List (Option ℕ)) (ws : List Word) (r : ℕ × ℕ) → are_hints hint_table hints ≡ true → hint_line hints ws ≡ Ok r → are_hints hint_table (slice_set hints r.0 (Some r.1)) ≡ true
 hint_read hints ws r all h =
-    let a = went (reads_as hint_of_text kind.UnknownWord ws) _ r h in
-    let b = went (refuse_if (is_some (hint_in a.value.0 hints)) kind.TwiceNamed) _ r a.rest in
-    let c = went (hint_value (hint_form a.value.0) a.value.1) _ r b.rest in
-    let d = went (ended c.value.1) _ r c.rest in
-    subst (λ (x : ℕ × ℕ). are_hints hint_table (slice_set hints x.0 (Some x.1)) ≡ true) (same_ok (a.value.0, c.value.0) r d.rest)
-    (hints_set hint_table hints a.value.0 c.value.0 all (value_read (hint_form a.value.0) a.value.1 c.value c.first))
+    step_then (reads_as hint_of_text kind.UnknownWord ws) _ r h (λ n is h. free_then (is_some (hint_in n.0 hints)) _ _ r h (λ free h. step_then (hint_value (hint_form n.0) n.1) _ r h (λ v told h. end_then v.1 _ r h (λ none h.
+    subst (λ (x : ℕ × ℕ). are_hints hint_table (slice_set hints x.0 (Some x.1)) ≡ true) (same_ok (n.0, v.0) r h) (hints_set hint_table hints n.0 v.0 all (value_read (hint_form n.0) n.1 v told))))))
 
 pub hint_or_fits : (fs : List HintRow) (os : List (Option ℕ)) (k d : ℕ) → are_hints fs os ≡ true → is_value_of (form_at fs k) d ≡ true → is_value_of (form_at fs k) (unwrap_or (hint_in k os) d) ≡ true
 hint_or_fits [] [] k d a b = b
@@ -142,16 +138,9 @@ dim_told version dims n len named fresh room hl one =
 
 pub dim_read : (version : ℕ) (dims : List Dim) (ws : List Word) (d : Dim) → dim_line version dims ws ≡ Ok d → DimAgain version dims d
 dim_read version dims ws d h =
-    let a = went (name ws) _ d h in
-    let b = went (refuse_if (is_among a.value.0 (dim_names dims)) kind.TwiceNamed) _ d a.rest in
-    let c = went (refuse_if (nat_le most_dims (length dims)) (kind.Limit limit.Dims)) _ d b.rest in
-    let e = went (reads_as (length_of_text version) kind.BadNumber a.value.1) _ d c.rest in
-    let f = went (refuse_if (e.value.0 == 0 && list_any is_unlimited dims) kind.BadShape) _ d e.rest in
-    let g = went (ended e.value.1) _ d f.rest in
-    let lw = read_word (length_of_text version) kind.BadNumber a.value.1 e.value e.first in
-    subst (DimAgain version dims) (same_ok (record { name = a.value.0; len = e.value.0 }) d g.rest)
-    (dim_told version dims a.value.0 e.value.0 (name_read ws a.value a.first) (not_refused _ _ b.value b.first) (not_refused _ _ c.value c.first)
-    (length_again version lw.0 e.value.0 lw.1) (not_refused _ _ f.value f.first))
+    name_then ws _ d h (λ n named h. free_then _ _ _ d h (λ fresh h. free_then _ _ _ d h (λ room h.
+    word_then (length_of_text version) _ n.1 _ d h (λ len w told h. free_then _ _ _ d h (λ one h. end_then len.1 _ d h (λ none h.
+    subst (DimAgain version dims) (same_ok (record { name = n.0; len = len.0 }) d h) (dim_told version dims n.0 len.0 named fresh room (length_again version w len.0 told) one)))))))
 
 -- ---- what begins a variable
 
@@ -163,16 +152,9 @@ pub record HeadAgain (version : ℕ) (names : List (List ℕ)) (t : NcType) (n :
 
 pub head_read : (version : ℕ) (names : List (List ℕ)) (ws : List Word) (r : (NcType × List ℕ) × List Word) → var_head version names ws ≡ Ok r → HeadAgain version names r.0.0 r.0.1
 head_read version names ws r h =
-    let a = went (reads_as (type_of version) kind.UnknownWord ws) _ r h in
-    let b = went (name a.value.1) _ r a.rest in
-    let c = went (refuse_if (is_among b.value.0 names) kind.TwiceNamed) _ r b.rest in
-    let d = went (refuse_if (nat_le most_vars (length names)) (kind.Limit limit.Vars)) _ r c.rest in
-    subst (λ (x : (NcType × List ℕ) × List Word). HeadAgain version names x.0.0 x.0.1) (same_ok ((a.value.0, b.value.0), b.value.1) r d.rest) (record {
-      known = type_read version ws a.value a.first;
-      named = name_read a.value.1 b.value b.first;
-      fresh = not_refused _ _ c.value c.first;
-      room = not_refused _ _ d.value d.first;
-    })
+    step_then (reads_as (type_of version) kind.UnknownWord ws) _ r h (λ t typed h. name_then t.1 _ r h (λ n named h. free_then _ _ _ r h (λ fresh h. free_then _ _ _ r h (λ room h.
+    subst (λ (x : (NcType × List ℕ) × List Word). HeadAgain version names x.0.0 x.0.1) (same_ok ((t.0, n.0), n.1) r h)
+    (record { known = type_read version ws t typed; named = named; fresh = fresh; room = room })))))
 
 pub head_again : (version : ℕ) (names : List (List ℕ)) (t : NcType) (n : List ℕ) (more : List Word) → HeadAgain version names t n
     → var_head version names (Plain (type_word t) ∷ Plain n ∷ more) ≡ Ok ((t, n), more)
@@ -180,9 +162,8 @@ head_again version names t n more h = grind (arith, nat_tests)
 
 pub names_read : (ws : List Word) (r : List (List ℕ) × List Word) → name_list ws ≡ Ok r → list_all is_name r.0 ≡ true
 names_read ws r h =
-    let a = went (reads_as between_brackets kind.BadNumber ws) _ r h in
-    let b = went (refuse_if (not (list_all is_name (parts a.value.0))) kind.BadName) _ r a.rest in
-    subst (λ (x : List (List ℕ) × List Word). list_all is_name x.0 ≡ true) (same_ok (parts a.value.0, a.value.1) r b.rest) (not-false _ (not_refused _ _ b.value b.first))
+    word_then between_brackets _ ws _ r h (λ b w told h. free_then _ _ _ r h (λ all h.
+    subst (λ (x : List (List ℕ) × List Word). list_all is_name x.0 ≡ true) (same_ok (parts b.0, b.1) r h) (not-false _ all)))
 
 pub names_plain : (ns : List (List ℕ)) → list_all is_name ns ≡ true → is_plain (bracketed ns) ≡ true
 names_plain ns h = bracketed_plain ns (all_more is_name is_item name_item ns h)

@@ -1,11 +1,11 @@
 -- Names, regions, ids and choices that are printed are read again.
-use Rattle.script_text.proofs.Words.{◌≡◌, ◌∙◌, ℕ, zero, suc, ◌+◌, ◌^◌, ◌≤◌, ◌<◌, List, [], ◌∷◌, ◌++◌, map, length, Bool, true, false, not, cond, nat_lt, nat_le, ◌==◌, ◌&&◌, Option, Some, None, Result, Ok, refl, sym, ap, subst, append_assoc, append-nil, length-append, arith, bytes_eq, codes, decimal, list_all, and_parts, and_from, cond-true, ne_eqb, faultless_some, ScriptKind, Form, Given, Part, Choice, Every, Listed, most_parts, has_lists_of, has_its_lists, is_given, is_empty, size_list, part_words, form_words, choice_words, Word, Plain, is_word, is_name, size_of_text, list_of_text, ◌>>=◌, refuse_if, reads_as, size, list, name, name_of_text, whole, given_of, given_parts, part, part_list, region, id_of_text, one_id, ids, choice, is_id, is_expressible_choice, all_joined, nat_tests}
+use Rattle.script_text.proofs.Words.{◌≡◌, ◌∙◌, ℕ, zero, suc, ◌+◌, ◌^◌, ◌≤◌, ◌<◌, List, [], ◌∷◌, ◌++◌, map, length, Bool, true, false, not, nat_lt, nat_le, ◌==◌, ◌&&◌, Option, Some, Result, Ok, refl, sym, ap, subst, append_assoc, append-nil, length-append, arith, bytes_eq, codes, decimal, list_all, and_parts, and_from, cond-true, ne_eqb, faultless_some, ScriptKind, Form, Given, Part, Choice, Every, Listed, most_parts, has_lists_of, has_its_lists, is_given, is_empty, size_list, part_words, form_words, choice_words, Word, Plain, is_word, is_name, size_of_text, list_of_text, ◌>>=◌, refuse_if, reads_as, size, list, name, name_of_text, given_of, given_parts, part, part_list, region, id_of_text, one_id, ids, choice, is_id, is_expressible_choice, all_joined, nat_tests, cond_some}
 use Rattle.std.proofs.Common.{flat_map}
 use borrow.Author.Tests.{ltb-true, ltb-false, lt-ltb, le-ltb, leb-true}
 use Rattle.nc_base.specs.declared.errors.ScriptKind.TheVariants as kind
 use Rattle.nc_base.specs.declared.errors.LimitName.TheVariants as limit
 use Rattle.nc_base.specs.declared.request.Form.TheVariants as form
-use Rattle.script_text.proofs.Steps.{went, go_on, same_ok, not_refused, passed, faultless, read_word, word_read, word_before, whole_value, carried, carry_on, by_false}
+use Rattle.script_text.proofs.Steps.{went, go_on, same_ok, passed, faultless, read_word, word_read, word_before, whole_value, carried, carry_on, by_false, tested, step_then, free_then}
 use Rattle.script_text.proofs.Lexing.{spelling, is_plain, is_good}
 use Rattle.script_text.proofs.Lines.{empty_list}
 use Rattle.script_text.proofs.Numerals.{decimal_word, below_bound, below_again, size_again, size_plain, is_size, list_bound, list_again, list_plain}
@@ -18,12 +18,14 @@ kept p f e ws r h all = grind (arith, nat_tests, word_before, and_parts)
 
 -- ---- names
 
-name_of : (w n : List ℕ) (b : Bool) → is_name w ≡ b → cond {A = Option (List ℕ)} b (Some w) None ≡ Some n → is_name n ≡ true
-name_of w n true e h = let same : w ≡ n = cc in subst (λ x. is_name x ≡ true) same e
-name_of w n false e h = absurd (cc)
-
 pub name_read : (ws : List Word) (r : List ℕ × List Word) → name ws ≡ Ok r → is_name r.0 ≡ true
-name_read ws r h = let w = read_word name_of_text kind.BadName ws r h in name_of w.0 r.0 (is_name w.0) refl w.1
+name_read ws r h =
+    let w = read_word name_of_text kind.BadName ws r h in
+    let k = cond_some (is_name w.0) w.0 r.0 w.1 in
+    subst (λ x. is_name x ≡ true) k.1 k.0
+
+pub name_then : {B P : Type 0} (ws : List Word) (f : List ℕ × List Word → Result B ScriptKind) (y : B) → (name ws >>= f) ≡ Ok y → ((n : List ℕ × List Word) → is_name n.0 ≡ true → f n ≡ Ok y → P) → P
+name_then ws f y h k = step_then (name ws) f y h (λ n is. k n (name_read ws n is))
 
 pub name_again : (n : List ℕ) (more : List Word) → is_name n ≡ true → name (Plain n ∷ more) ≡ Ok (n, more)
 name_again n more h = word_read name_of_text kind.BadName n n more (cond-true _ _ _ h)
@@ -48,6 +50,9 @@ list_word ns more h = word_read list_of_text kind.BadNumber (size_list ns) ns mo
 list_kept : (p : Word → Bool) (ws : List Word) (r : List ℕ × List Word) → list ws ≡ Ok r → list_all p ws ≡ true → list_all p r.1 ≡ true
 list_kept p ws r h all = kept p list_of_text kind.BadNumber ws r h all
 
+list_then : {B P : Type 0} (ws : List Word) (f : List ℕ × List Word → Result B ScriptKind) (y : B) → (list ws >>= f) ≡ Ok y → ((s : List ℕ × List Word) → are_sizes s.0 ≡ true → f s ≡ Ok y → P) → P
+list_then ws f y h k = step_then (list ws) f y h (λ s is. k s (list_read ws s is))
+
 -- ---- parts
 
 abbrev pub part_tokens : Part → List Word
@@ -58,10 +63,7 @@ is_part p = are_sizes p.start && are_sizes p.count
 
 part_read : (ws : List Word) (r : Part × List Word) → part ws ≡ Ok r → is_part r.0 ≡ true
 part_read ws r h =
-    let a = went (list ws) _ r h in
-    let b = went (list a.value.1) _ r a.rest in
-    let same = ap (λ (x : Part × List Word). x.0) (same_ok (record { start = a.value.0; count = b.value.0 }, b.value.1) r b.rest) in
-    subst (λ p. is_part p ≡ true) same (and_from _ _ (list_read ws a.value a.first) (list_read a.value.1 b.value b.first))
+    list_then ws _ r h (λ s hs h. list_then s.1 _ r h (λ c hc h. subst (λ (x : Part × List Word). is_part x.0 ≡ true) (same_ok (record { start = s.0; count = c.0 }, c.1) r h) (and_from _ _ hs hc)))
 
 part_kept : (p : Word → Bool) (ws : List Word) (r : Part × List Word) → part ws ≡ Ok r → list_all p ws ≡ true → list_all p r.1 ≡ true
 part_kept p ws r h all = grind (arith, nat_tests, went, same_ok, list_kept)
@@ -148,36 +150,20 @@ left p e h = subst (λ (z : Given × List Word). list_all p z.1 ≡ true) e h
 
 pub region_again : (f : Form) (ws : List Word) (r : Given × List Word) → region f ws ≡ Ok r → RegionAgain f r.0
 region_again form.Var ws r h = grind (arith, nat_tests, given, same_ok)
-region_again form.Var1 ws r h =
-    let a = went (list ws) _ r h in
-    given form.Var1 (same_ok (given_of form.Var1 a.value.0 [] [] [], a.value.1) r a.rest) (var1_again a.value.0 (list_read ws a.value a.first))
+region_again form.Var1 ws r h = list_then ws _ r h (λ s hs h. given form.Var1 (same_ok (given_of form.Var1 s.0 [] [] [], s.1) r h) (var1_again s.0 hs))
 region_again form.Vara ws r h =
-    let a = went (list ws) _ r h in
-    let b = went (list a.value.1) _ r a.rest in
-    given form.Vara (same_ok (given_of form.Vara a.value.0 b.value.0 [] [], b.value.1) r b.rest)
-    (vara_again a.value.0 b.value.0 (list_read ws a.value a.first) (list_read a.value.1 b.value b.first))
+    list_then ws _ r h (λ s hs h. list_then s.1 _ r h (λ c hc h. given form.Vara (same_ok (given_of form.Vara s.0 c.0 [] [], c.1) r h) (vara_again s.0 c.0 hs hc)))
 region_again form.Vars ws r h =
-    let a = went (list ws) _ r h in
-    let b = went (list a.value.1) _ r a.rest in
-    let c = went (list b.value.1) _ r b.rest in
-    given form.Vars (same_ok (given_of form.Vars a.value.0 b.value.0 c.value.0 [], c.value.1) r c.rest)
-    (vars_again a.value.0 b.value.0 c.value.0 (list_read ws a.value a.first) (list_read a.value.1 b.value b.first) (list_read b.value.1 c.value c.first))
+    list_then ws _ r h (λ s hs h. list_then s.1 _ r h (λ c hc h. list_then c.1 _ r h (λ d hd h.
+    given form.Vars (same_ok (given_of form.Vars s.0 c.0 d.0 [], d.1) r h) (vars_again s.0 c.0 d.0 hs hc hd))))
 region_again form.Varm ws r h =
-    let a = went (list ws) _ r h in
-    let b = went (list a.value.1) _ r a.rest in
-    let c = went (list b.value.1) _ r b.rest in
-    let d = went (list c.value.1) _ r c.rest in
-    given form.Varm (same_ok (given_of form.Varm a.value.0 b.value.0 c.value.0 d.value.0, d.value.1) r d.rest)
-    (varm_again a.value.0 b.value.0 c.value.0 d.value.0 (list_read ws a.value a.first) (list_read a.value.1 b.value b.first) (list_read b.value.1 c.value c.first) (list_read c.value.1 d.value d.first))
+    list_then ws _ r h (λ s hs h. list_then s.1 _ r h (λ c hc h. list_then c.1 _ r h (λ d hd h. list_then d.1 _ r h (λ m hm h.
+    given form.Varm (same_ok (given_of form.Varm s.0 c.0 d.0 m.0, m.1) r h) (varm_again s.0 c.0 d.0 m.0 hs hc hd hm)))))
 region_again form.Varn ws r h =
-    let a = went (size ws) _ r h in
-    let b = went (refuse_if (a.value.0 == 0) kind.BadNumber) _ r a.rest in
-    let c = went (refuse_if (nat_lt most_parts a.value.0) (kind.Limit limit.Parts)) _ r b.rest in
-    let d = went (part_list a.value.0 [] a.value.1) _ r c.rest in
-    let parts = parts_read a.value.0 [] a.value.1 d.value refl d.first in
-    let long : a.value.0 ≡ length d.value.0 = omega (arith, parts.1) in
-    given form.Varn (same_ok (given_parts d.value.0, d.value.1) r d.rest)
-    (varn_again d.value.0 parts.0 (subst (λ n. (n == 0) ≡ false) long (not_refused _ _ b.value b.first)) (subst (λ n. nat_lt most_parts n ≡ false) long (not_refused _ _ c.value c.first)))
+    step_then (size ws) _ r h (λ n is h. free_then _ _ _ r h (λ some h. free_then _ _ _ r h (λ few h. step_then (part_list n.0 [] n.1) _ r h (λ ps told h.
+    let parts = parts_read n.0 [] n.1 ps refl told in
+    let long : n.0 ≡ length ps.0 = omega (arith, parts.1) in
+    given form.Varn (same_ok (given_parts ps.0, ps.1) r h) (varn_again ps.0 parts.0 (subst (λ m. (m == 0) ≡ false) long some) (subst (λ m. nat_lt most_parts m ≡ false) long few))))))
 
 pub region_kept : (p : Word → Bool) (f : Form) (ws : List Word) (r : Given × List Word) → region f ws ≡ Ok r → list_all p ws ≡ true → list_all p r.1 ≡ true
 region_kept p form.Var ws r h all = left p (same_ok (given_of form.Var [] [] [] [], ws) r h) all
@@ -195,33 +181,25 @@ region_with f s c d m ps = record { form = f; start = s; count = c; stride = d; 
 pub same_region : (f : Form) (s c d m s2 c2 d2 m2 : List ℕ) (ps ps2 : List Part) → s2 ≡ s → c2 ≡ c → d2 ≡ d → m2 ≡ m → ps2 ≡ ps → region_with f s c d m ps ≡ region_with f s2 c2 d2 m2 ps2
 same_region f s c d m s2 c2 d2 m2 ps ps2 e1 e2 e3 e4 e5 = cc
 
+no_lists : (c d m : List ℕ) (ps : List Part) → (is_empty c && is_empty d && is_empty m && is_empty ps) ≡ true → (c ≡ []) × (d ≡ []) × (m ≡ []) × (ps ≡ [])
+no_lists c d m ps h =
+    let a = and_parts (is_empty c && is_empty d && is_empty m) (is_empty ps) h in
+    let b = and_parts (is_empty c && is_empty d) (is_empty m) a.0 in
+    let e = and_parts (is_empty c) (is_empty d) b.0 in
+    (empty_list c e.0, empty_list d e.1, empty_list m b.1, empty_list ps a.1)
+
 region_by : (f : Form) (s c d m : List ℕ) (ps : List Part) → has_lists_of f (region_with f s c d m ps) ≡ true → are_sizes s ≡ true → are_sizes c ≡ true → are_sizes d ≡ true → are_sizes m ≡ true → list_all is_part ps ≡ true
     → length ps ≤ most_parts → RegionAgain f (region_with f s c d m ps)
 region_by form.Var s c d m ps lists hs hc hd hm hp few = grind (arith, nat_tests, and_parts, same_region, empty_list)
-region_by form.Var1 s c d m ps lists hs hc hd hm hp few =
-    let p3 = and_parts (is_empty c && is_empty d && is_empty m) (is_empty ps) lists in
-    let p2 = and_parts (is_empty c && is_empty d) (is_empty m) p3.0 in
-    let p1 = and_parts (is_empty c) (is_empty d) p2.0 in
-    let same = same_region form.Var1 s [] [] [] s c d m [] ps refl (empty_list c p1.0) (empty_list d p1.1) (empty_list m p2.1) (empty_list ps p3.1) in
-    subst (RegionAgain form.Var1) same (var1_again s hs)
-region_by form.Vara s c d m ps lists hs hc hd hm hp few =
-    let p2 = and_parts (is_empty d && is_empty m) (is_empty ps) lists in
-    let p1 = and_parts (is_empty d) (is_empty m) p2.0 in
-    let same = same_region form.Vara s c [] [] s c d m [] ps refl refl (empty_list d p1.0) (empty_list m p1.1) (empty_list ps p2.1) in
-    subst (RegionAgain form.Vara) same (vara_again s c hs hc)
-region_by form.Vars s c d m ps lists hs hc hd hm hp few =
-    let p1 = and_parts (is_empty m) (is_empty ps) lists in
-    let same = same_region form.Vars s c d [] s c d m [] ps refl refl refl (empty_list m p1.0) (empty_list ps p1.1) in
-    subst (RegionAgain form.Vars) same (vars_again s c d hs hc hd)
-region_by form.Varm s c d m ps lists hs hc hd hm hp few =
-    grind (arith, nat_tests, same_region form.Varm s c d m s c d m [] ps refl refl refl refl (empty_list ps lists), empty_list ps lists, varm_again s c d m hs hc hd hm)
+region_by form.Var1 s c d m ps lists hs hc hd hm hp few = let e = no_lists c d m ps lists in rw (e.0, e.1, e.2, e.3) (var1_again s hs)
+region_by form.Vara s c d m ps lists hs hc hd hm hp few = let e = no_lists [] d m ps lists in rw (e.1, e.2, e.3) (vara_again s c hs hc)
+region_by form.Vars s c d m ps lists hs hc hd hm hp few = let e = no_lists [] [] m ps lists in rw (e.2, e.3) (vars_again s c d hs hc hd)
+region_by form.Varm s c d m ps lists hs hc hd hm hp few = rw (empty_list ps lists) (varm_again s c d m hs hc hd hm)
 region_by form.Varn s c d m ps lists hs hc hd hm hp few =
-    let p4 = and_parts (is_empty s && is_empty c && is_empty d && is_empty m) (not (is_empty ps)) lists in
-    let p3 = and_parts (is_empty s && is_empty c && is_empty d) (is_empty m) p4.0 in
-    let p2 = and_parts (is_empty s && is_empty c) (is_empty d) p3.0 in
-    let p1 = and_parts (is_empty s) (is_empty c) p2.0 in
-    let same = same_region form.Varn [] [] [] [] s c d m ps ps (empty_list s p1.0) (empty_list c p1.1) (empty_list d p2.1) (empty_list m p3.1) refl in
-    subst (RegionAgain form.Varn) same (varn_again ps hp (some_parts ps p4.1) (le-ltb most_parts (length ps) few))
+    let both = and_parts (is_empty s && is_empty c && is_empty d && is_empty m) (not (is_empty ps)) lists in
+    let other = and_parts (is_empty s && is_empty c && is_empty d) (is_empty m) both.0 in
+    let e = no_lists s c d [] (and_from _ _ other.0 refl) in
+    rw (e.0, e.1, e.2, empty_list m other.1) (varn_again ps hp (some_parts ps both.1) (le-ltb most_parts (length ps) few))
   where
     some_parts : (ps : List Part) → not (is_empty ps) ≡ true → (length ps == 0) ≡ false
     some_parts [] h = absurd (cc)
@@ -295,11 +273,8 @@ choice_told (Listed ns) h = record { good = ids_good ns h; again = listed_again 
 
 pub choice_read : (ws : List Word) (c : Choice) → choice ws ≡ Ok c → ChoiceAgain c
 choice_read [] c h = subst ChoiceAgain (same_ok (Listed []) c h) (record { good = refl; again = refl })
-choice_read (w ∷ ws) c h = by (is_word (codes "all") w) h
-  where
-    by : (b : Bool) → elim b as (λ x. Result Choice ScriptKind) [ true ↦ whole (Every, ws) | false ↦ (ids [] (w ∷ ws) >>= λ found. Ok (Listed found)) ] ≡ Ok c → ChoiceAgain c
-    by true k = subst ChoiceAgain (whole_value (Every, ws) c k).0 (record { good = refl; again = refl })
-    by false k =
-        let a = went (ids [] (w ∷ ws)) (λ found. Ok (Listed found)) c k in
-        let all = ids_read (w ∷ ws) [] a.value refl a.first in
-        subst ChoiceAgain (same_ok (Listed a.value) c a.rest) (choice_told (Listed a.value) all)
+choice_read (w ∷ ws) c h =
+    tested (is_word (codes "all") w) _ _ _ h (λ i k. subst ChoiceAgain (whole_value (Every, ws) c k).0 (record { good = refl; again = refl }))
+    (λ i k.
+    let a = went (ids [] (w ∷ ws)) _ c k in
+    subst ChoiceAgain (same_ok (Listed a.value) c a.rest) (choice_told (Listed a.value) (ids_read (w ∷ ws) [] a.value refl a.first)))

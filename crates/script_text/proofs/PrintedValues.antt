@@ -1,11 +1,11 @@
 -- Values that are printed are read as the same values.
-use Rattle.script_text.proofs.Words.{◌≡◌, ◌∙◌, ℕ, suc, ◌+◌, ◌^◌, ◌≤◌, ◌<◌, List, [], ◌∷◌, ◌++◌, map, length, Bool, true, false, not, cond, nat_lt, ◌&&◌, Option, Some, None, is_some, Result, Ok, ℤ, unsigned_abs, refl, sym, ap, subst, append_assoc, append-nil, length-append, arith, bytes_eq, codes, signed_decimal, list_all, and_parts, and_from, and_left, cond-true, ne_eqb, sixteens, faultless_some, ScriptKind, NcType, Values, Numbers, Text, Bits, Class, most_elements, most_values, count_of, hex, shown_values, Word, Plain, Quoted, Broken, number_of_text, bits_of_text, refuse_if, or_fault, bare, reads_as, size, ended, within_limits, are_numbers, are_patterns, are_text, may_be, may_have, wrong_kind, number_for, pattern_for, one_value, each_value, sequence_count, sequence, last_number, is_term, term, numbers_between, pattern_sequence, last_pattern, is_pattern_term, pattern_term, patterns_between, seq_values, seqx_values, pattern_values, text_values, number_values, bits_values, begins_x, listed_kind, listed_values, values, nat_tests}
+use Rattle.script_text.proofs.Words.{◌≡◌, ◌∙◌, ℕ, suc, ◌+◌, ◌^◌, ◌≤◌, ◌<◌, List, [], ◌∷◌, ◌++◌, map, length, Bool, true, false, not, cond, nat_lt, ◌&&◌, Option, Some, None, is_some, Ok, ℤ, unsigned_abs, refl, sym, ap, subst, append_assoc, append-nil, length-append, arith, bytes_eq, codes, signed_decimal, list_all, and_parts, and_from, and_left, cond-true, ne_eqb, sixteens, faultless_some, NcType, Values, Numbers, Text, Bits, Class, most_elements, most_values, count_of, hex, shown_values, Word, Plain, Quoted, Broken, number_of_text, bits_of_text, or_fault, bare, size, within_limits, are_numbers, are_patterns, are_text, may_be, may_have, number_for, pattern_for, one_value, each_value, sequence_count, sequence, is_term, term, numbers_between, pattern_sequence, pattern_term, patterns_between, seq_values, seqx_values, pattern_values, text_values, number_values, bits_values, begins_x, listed_kind, listed_values, values, nat_tests, cond_some, all_joined}
 use borrow.Author.Tests.{ltb-true, lt-ltb, not-false}
 use Rattle.nc_base.specs.declared.errors.ScriptKind.TheVariants as kind
 use Rattle.nc_base.specs.declared.errors.LimitName.TheVariants as limit
 use Rattle.nc_base.specs.declared.request.Value.TheVariants as value
 use Rattle.serial_spec.specs.ExternalForm as class
-use Rattle.script_text.proofs.Steps.{went, go_on, same_ok, not_refused, passed, faultless, carried, carry_on, by_false}
+use Rattle.script_text.proofs.Steps.{went, go_on, same_ok, passed, faultless, carried, carry_on, by_false, tested, looked, step_then, free_then, word_then, end_then}
 use Rattle.script_text.proofs.Lexing.{spelling, is_byte, is_good}
 use Rattle.script_text.proofs.Numerals.{IsNumberWord, number_word, number_again, number_bound, bits_again, bits_bound, hex_graphic}
 use Rattle.script_text.proofs.Sequences.{is_fit_number, is_fit_pattern, numbers_fit, length-sequence, patterns_fit, length-pattern_sequence}
@@ -66,13 +66,9 @@ each_fit f test each t before (w ∷ ws) found xs h room e =
     let same = same_ok c.value a.value d.rest in
     let fits = each b.value a.value (faultless_some kind.BadNumber (f b.value) c.value c.first ∙ ap (λ y. Some y) same) in
     let long = length-append found (a.value ∷ []) in
-    let more = each_fit f test each t before ws (found ++ a.value ∷ []) xs (all_pushed test found a.value h fits)
+    let more = each_fit f test each t before ws (found ++ a.value ∷ []) xs (all_joined test found (a.value ∷ []) h (and_from _ _ fits refl))
     (subst (λ n. HasRoom t before n) (sym long) (room_from t before (length found + 1) d.value d.first)) a.rest in
     (more.0, more.1, omega (arith, more.2, long))
-  where
-    all_pushed : {A : Type 0} (test : A → Bool) (xs : List A) (x : A) → list_all test xs ≡ true → test x ≡ true → list_all test (xs ++ x ∷ []) ≡ true
-    all_pushed test [] x h e = and_from _ _ e refl
-    all_pushed test (y ∷ xs) x h e = let both = and_parts _ _ h in and_from _ _ both.0 (all_pushed test xs x both.1 e)
 
 pub less_room : (t : Option NcType) (before m n : ℕ) → m ≤ n → HasRoom t before n → HasRoom t before m
 less_room t before m n le r = grind (arith, nat_tests)
@@ -94,31 +90,15 @@ each_again f test p each t before (x ∷ xs) found h r =
 
 -- one number, one pattern
 
-pub number_fit : (t : Option NcType) (w : List ℕ) (z : ℤ) → number_for t w ≡ Some z → is_fit_number t z ≡ true
-number_fit t w z h = by (number_of_text w) refl h
-  where
-    by_test : (y : ℤ) (b : Bool) → number_of_text w ≡ Some y → may_have t (value.Number y) ≡ b → cond {A = Option ℤ} b (Some y) None ≡ Some z → is_fit_number t z ≡ true
-    by_test y true e k j =
-        let same : y ≡ z = cc in
-        subst (λ x. is_fit_number t x ≡ true) same (and_from _ _ (lt-ltb (unsigned_abs y) (10 ^ 20) (number_bound w y e)) k)
-    by_test y false e k j = absurd (cc)
+fit_from : {A : Type 0} (o : Option A) (may low : A → Bool) (x : A) → ((y : A) → o ≡ Some y → low y ≡ true) → elim o as (λ t. Option A) [ None ↦ None | Some y ↦ cond (may y) (Some y) None ] ≡ Some x → (low x && may x) ≡ true
+fit_from o may low x each h =
+    looked o _ _ _ h (λ e k. absurd (cc)) (λ y e k. let c = cond_some (may y) y x k in subst (λ z. (low z && may z) ≡ true) c.1 (and_from (low y) (may y) (each y e) c.0))
 
-    by : (o : Option ℤ) → number_of_text w ≡ o → elim o as (λ x. Option ℤ) [ None ↦ None | Some y ↦ cond (may_have t (value.Number y)) (Some y) None ] ≡ Some z → is_fit_number t z ≡ true
-    by None e k = absurd (cc)
-    by (Some y) e k = by_test y (may_have t (value.Number y)) e refl k
+pub number_fit : (t : Option NcType) (w : List ℕ) (z : ℤ) → number_for t w ≡ Some z → is_fit_number t z ≡ true
+number_fit t w z h = fit_from (number_of_text w) (λ y. may_have t (value.Number y)) (λ y. nat_lt (unsigned_abs y) (10 ^ 20)) z (λ y e. lt-ltb (unsigned_abs y) (10 ^ 20) (number_bound w y e)) h
 
 pub pattern_fit : (t : Option NcType) (w : List ℕ) (n : ℕ) → pattern_for t w ≡ Some n → is_fit_pattern t n ≡ true
-pattern_fit t w n h = by (bits_of_text w) refl h
-  where
-    by_test : (y : ℕ) (b : Bool) → bits_of_text w ≡ Some y → may_have t (value.Bits y) ≡ b → cond {A = Option ℕ} b (Some y) None ≡ Some n → is_fit_pattern t n ≡ true
-    by_test y true e k j =
-        let same : y ≡ n = cc in
-        subst (λ x. is_fit_pattern t x ≡ true) same (and_from _ _ (lt-ltb y (2 ^ 64) (bits_bound w y e)) k)
-    by_test y false e k j = absurd (cc)
-
-    by : (o : Option ℕ) → bits_of_text w ≡ o → elim o as (λ x. Option ℕ) [ None ↦ None | Some y ↦ cond (may_have t (value.Bits y)) (Some y) None ] ≡ Some n → is_fit_pattern t n ≡ true
-    by None e k = absurd (cc)
-    by (Some y) e k = by_test y (may_have t (value.Bits y)) e refl k
+pattern_fit t w n h = fit_from (bits_of_text w) (λ y. may_have t (value.Bits y)) (λ y. nat_lt y (2 ^ 64)) n (λ y e. lt-ltb y (2 ^ 64) (bits_bound w y e)) h
 
 number_for_again : (t : Option NcType) (z : ℤ) → is_fit_number t z ≡ true → number_for t (signed_decimal z) ≡ Some z
 number_for_again t z h = grind (arith, nat_tests, and_parts, number_again, ltb-true, cond-true)
@@ -139,12 +119,9 @@ pattern_for_again t n h =
 count_fit : (suits : Bool) (t : Option NcType) (before : ℕ) (ws : List Word) (r : ℕ × List Word) → sequence_count suits t before ws ≡ Ok r
     → (0 < r.0 → suits ≡ true) × HasRoom t before r.0
 count_fit suits t before ws r h =
-    let a = went (size ws) _ r h in
-    let b = went (refuse_if (nat_lt 0 a.value.0 && not suits) (wrong_kind t)) _ r a.rest in
-    let c = went (within_limits t before a.value.0) _ r b.rest in
-    let same = ap (λ (p : ℕ × List Word). p.0) (same_ok a.value r c.rest) in
-    let kept = not_refused _ _ b.value b.first in
-    (λ some. suited suits (nat_lt 0 a.value.0) (lt-ltb 0 a.value.0 (subst (λ n. 0 < n) (sym same) some)) kept, subst (λ n. HasRoom t before n) same (room_from t before a.value.0 c.value c.first))
+    step_then (size ws) _ r h (λ n is h. free_then _ _ _ r h (λ kept h. step_then (within_limits t before n.0) _ r h (λ u room h.
+    let same = ap (λ (p : ℕ × List Word). p.0) (same_ok n r h) in
+    (λ some. suited suits (nat_lt 0 n.0) (lt-ltb 0 n.0 (subst (λ m. 0 < m) (sym same) some)) kept, subst (λ m. HasRoom t before m) same (room_from t before n.0 u room)))))
   where
     suited : (s b : Bool) → b ≡ true → (b && not s) ≡ false → s ≡ true
     suited true b e k = refl
@@ -153,43 +130,25 @@ count_fit suits t before ws r h =
 
 between_fit : (t : Option NcType) (n : ℕ) (ws : List Word) (zs : List ℤ) → numbers_between t n ws ≡ Ok zs → (list_all (is_fit_number t) zs ≡ true) × (length zs ≡ n)
 between_fit t n ws zs h =
-    let a = went (term t n ws) _ zs h in
-    let b = went (reads_as number_of_text kind.BadNumber a.value.1) _ zs a.rest in
-    let c = went (refuse_if (not (is_term t n (last_number a.value.0 b.value.0 n))) kind.BadNumber) _ zs b.rest in
-    let d = went (ended b.value.1) _ zs c.rest in
-    let same = same_ok (sequence a.value.0 b.value.0 n) zs d.rest in
-    let e = went (reads_as number_of_text kind.BadNumber ws) _ a.value a.first in
-    let f = went (refuse_if (not (is_term t n e.value.0)) kind.BadNumber) _ a.value e.rest in
-    let first = ap (λ (p : ℤ × List Word). p.0) (same_ok e.value a.value f.rest) in
-    let low = subst (λ z. is_term t n z ≡ true) first (not-false _ (not_refused _ _ f.value f.first)) in
-    let high = not-false _ (not_refused _ _ c.value c.first) in (
-      subst (λ ys. list_all (is_fit_number t) ys ≡ true) same (numbers_fit t a.value.0 b.value.0 n low high),
-      ap length (sym same) ∙ length-sequence a.value.0 b.value.0 n,
-    )
+    step_then (term t n ws) _ zs h (λ a begins h. word_then number_of_text _ a.1 _ zs h (λ b w told h. free_then _ _ _ zs h (λ last h. end_then b.1 _ zs h (λ none h.
+    let same = same_ok (sequence a.0 b.0 n) zs h in
+    let low : is_term t n a.0 ≡ true =
+    word_then number_of_text _ ws _ a begins (λ e w told k. free_then _ _ _ a k (λ first k. subst (λ z. is_term t n z ≡ true) (ap (λ (p : ℤ × List Word). p.0) (same_ok e a k)) (not-false _ first))) in
+    (subst (λ ys. list_all (is_fit_number t) ys ≡ true) same (numbers_fit t a.0 b.0 n low (not-false _ last)), ap length (sym same) ∙ length-sequence a.0 b.0 n)))))
 
 patterns_between_fit : (t : Option NcType) (n : ℕ) (ws : List Word) (ns : List ℕ) → patterns_between t n ws ≡ Ok ns → (list_all (is_fit_pattern t) ns ≡ true) × (length ns ≡ n)
 patterns_between_fit t n ws ns h =
-    let a = went (pattern_term t n ws) _ ns h in
-    let b = went (reads_as bits_of_text kind.BadNumber a.value.1) _ ns a.rest in
-    let c = went (refuse_if (not (is_pattern_term t n (last_pattern a.value.0 b.value.0 n))) kind.BadNumber) _ ns b.rest in
-    let d = went (ended b.value.1) _ ns c.rest in
-    let same = same_ok (pattern_sequence a.value.0 b.value.0 n) ns d.rest in
-    let high = not-false _ (not_refused _ _ c.value c.first) in (
-      subst (λ ys. list_all (is_fit_pattern t) ys ≡ true) same (patterns_fit t a.value.0 b.value.0 n high),
-      ap length (sym same) ∙ length-pattern_sequence a.value.0 b.value.0 n,
-    )
+    step_then (pattern_term t n ws) _ ns h (λ a begins h. word_then bits_of_text _ a.1 _ ns h (λ b w told h. free_then _ _ _ ns h (λ last h. end_then b.1 _ ns h (λ none h.
+    let same = same_ok (pattern_sequence a.0 b.0 n) ns h in
+    (subst (λ ys. list_all (is_fit_pattern t) ys ≡ true) same (patterns_fit t a.0 b.0 n (not-false _ last)), ap length (sym same) ∙ length-pattern_sequence a.0 b.0 n)))))
 
 seq_fit : (t : Option NcType) (before : ℕ) (ws : List Word) (vs : Values) → seq_values t before ws ≡ Ok vs → Fitting t before vs
 seq_fit t before ws vs h =
-    let a = went (sequence_count (may_be are_numbers t) t before ws) _ vs h in
-    let b = went (numbers_between t a.value.0 a.value.1) _ vs a.rest in
-    let same = same_ok (Numbers b.value) vs b.rest in
-    let count = count_fit (may_be are_numbers t) t before ws a.value a.first in
-    let terms = between_fit t a.value.0 a.value.1 b.value b.first in
-    subst (Fitting t before) same (record {
-      are = (terms.0, λ some. count.0 (subst (λ n. 0 < n) terms.1 some));
-      room = subst (λ n. HasRoom t before n) (sym terms.1) count.1;
-    })
+    step_then (sequence_count (may_be are_numbers t) t before ws) _ vs h (λ n counted h. step_then (numbers_between t n.0 n.1) _ vs h (λ zs told h.
+    let count = count_fit (may_be are_numbers t) t before ws n counted in
+    let terms = between_fit t n.0 n.1 zs told in
+    subst (Fitting t before) (same_ok (Numbers zs) vs h)
+    (record { are = (terms.0, λ some. count.0 (subst (λ m. 0 < m) terms.1 some)); room = subst (λ m. HasRoom t before m) (sym terms.1) count.1 })))
 
 some_patterns : (t : Option NcType) (before : ℕ) (ns : List ℕ) → list_all (is_fit_pattern t) ns ≡ true → (0 < length ns → may_be are_patterns t ≡ true) → HasRoom t before (length ns) → Fitting t before (pattern_values ns)
 some_patterns t before [] all may room = record { are = (refl, λ some. absurd (omega arith)); room = room }
@@ -197,22 +156,17 @@ some_patterns t before (n ∷ ns) all may room = record { are = (all, omega arit
 
 seqx_fit : (t : Option NcType) (before : ℕ) (ws : List Word) (vs : Values) → seqx_values t before ws ≡ Ok vs → Fitting t before vs
 seqx_fit t before ws vs h =
-    let a = went (sequence_count (may_be are_patterns t) t before ws) _ vs h in
-    let b = went (patterns_between t a.value.0 a.value.1) _ vs a.rest in
-    let same = same_ok (pattern_values b.value) vs b.rest in
-    let count = count_fit (may_be are_patterns t) t before ws a.value a.first in
-    let terms = patterns_between_fit t a.value.0 a.value.1 b.value b.first in
-    subst (Fitting t before) same (some_patterns t before b.value terms.0 (λ some. count.0 (subst (λ n. 0 < n) terms.1 some)) (subst (λ n. HasRoom t before n) (sym terms.1) count.1))
+    step_then (sequence_count (may_be are_patterns t) t before ws) _ vs h (λ n counted h. step_then (patterns_between t n.0 n.1) _ vs h (λ ns told h.
+    let count = count_fit (may_be are_patterns t) t before ws n counted in
+    let terms = patterns_between_fit t n.0 n.1 ns told in
+    subst (Fitting t before) (same_ok (pattern_values ns) vs h) (some_patterns t before ns terms.0 (λ some. count.0 (subst (λ m. 0 < m) terms.1 some)) (subst (λ m. HasRoom t before m) (sym terms.1) count.1))))
 
 -- ---- any values
 
 text_fit : (t : Option NcType) (before : ℕ) (text : List ℕ) (ws : List Word) (vs : Values) → list_all is_byte text ≡ true → text_values t before text ws ≡ Ok vs → Fitting t before vs
 text_fit t before text ws vs bytes h =
-    let a = went (refuse_if (not (may_be are_text t)) kind.BadNumber) _ vs h in
-    let b = went (within_limits t before (length text)) _ vs a.rest in
-    let c = went (ended ws) _ vs b.rest in
-    let same = same_ok (Text text) vs c.rest in
-    subst (Fitting t before) same (record { are = (bytes, not-false _ (not_refused _ _ a.value a.first)); room = room_from t before (length text) b.value b.first })
+    free_then _ _ _ vs h (λ may h. step_then (within_limits t before (length text)) _ vs h (λ u room h. end_then ws _ vs h (λ none h.
+    subst (Fitting t before) (same_ok (Text text) vs h) (record { are = (bytes, not-false _ may); room = room_from t before (length text) u room }))))
 
 no_room : (t : Option NcType) (before : ℕ) → before ≤ most_values → HasRoom t before 0
 no_room t before h = record { all = omega arith; own = λ none. omega arith }
@@ -228,9 +182,8 @@ may_pattern (Some k) w h = h
 numbers_listed : (t : Option NcType) (before : ℕ) (w : List ℕ) (ws : List Word) (vs : Values) → before ≤ most_values → may_be are_numbers t ≡ true → number_values t before (Plain w ∷ ws) ≡ Ok vs → Fitting t before vs
 numbers_listed t before w ws vs low may h =
     let a = went (each_value (number_for t) t before [] (Plain w ∷ ws)) (λ zs. Ok (Numbers zs)) vs h in
-    let same = same_ok (Numbers a.value) vs a.rest in
     let each = each_fit (number_for t) (is_fit_number t) (number_fit t) t before (Plain w ∷ ws) [] a.value refl (no_room t before low) a.first in
-    subst (Fitting t before) same (record { are = (each.0, λ some. may); room = each.1 })
+    subst (Fitting t before) (same_ok (Numbers a.value) vs a.rest) (record { are = (each.0, λ some. may); room = each.1 })
 
 bits_listed : (t : Option NcType) (before : ℕ) (w : List ℕ) (ws : List Word) (vs : Values) → before ≤ most_values → may_be are_patterns t ≡ true → bits_values t before (Plain w ∷ ws) ≡ Ok vs → Fitting t before vs
 bits_listed t before w ws vs low may h =
@@ -250,15 +203,9 @@ pub values_fit : (t : Option NcType) (before : ℕ) (ws : List Word) (vs : Value
 values_fit t before [] vs low read h = subst (Fitting t before) (same_ok (Numbers []) vs h) (record { are = (refl, λ some. absurd (omega arith)); room = no_room t before low })
 values_fit t before (Broken ∷ ws) vs low read h = absurd (cc)
 values_fit t before (Quoted text ∷ ws) vs low read h = text_fit t before text ws vs (and_parts _ _ read).0 h
-values_fit t before (Plain w ∷ ws) vs low read h = by (bytes_eq w (codes "seq")) (bytes_eq w (codes "seqx")) h
-  where
-    by : (a b : Bool) → elim a as (λ x. Result Values ScriptKind) [
-      | true ↦ seq_values t before ws
-      | false ↦ elim b as (λ x. Result Values ScriptKind) [ true ↦ seqx_values t before ws | false ↦ listed_values (listed_kind t w) t before (Plain w ∷ ws) ]
-    ] ≡ Ok vs → Fitting t before vs
-    by true b k = seq_fit t before ws vs k
-    by false true k = seqx_fit t before ws vs k
-    by false false k = listed_fit (listed_kind t w) t before w ws vs refl low k
+values_fit t before (Plain w ∷ ws) vs low read h =
+    tested (bytes_eq w (codes "seq")) _ _ _ h (λ i. seq_fit t before ws vs)
+    (λ i k. tested (bytes_eq w (codes "seqx")) _ _ _ k (λ j. seqx_fit t before ws vs) (λ j. listed_fit (listed_kind t w) t before w ws vs refl low))
 
 -- ---- printed values again
 

@@ -1,10 +1,11 @@
 -- The texts on the lines of bytes have bytes.
-use Rattle.script_text.proofs.Words.{◌≡◌, ℕ, zero, suc, ◌+◌, ◌<◌, List, [], ◌∷◌, drop, Bool, true, false, not, ◌==◌, Option, Some, None, option_map, refl, arith, list_all, slice_split, onto_first, enumerate_from, position_or_len, and_parts, and_from, Word, is_blank, is_newline, after_blanks, first_word, quoted_word, text_from, TextState, Between, AfterBackslash, FirstHex, SecondHex, words_within, hex_value, escape, without_empty_end, text_lines, line_of, significant, significant_of, all_joined, nat_tests}
+use Rattle.script_text.proofs.Words.{◌≡◌, ℕ, zero, suc, ◌+◌, ◌<◌, List, [], ◌∷◌, drop, Bool, true, not, ◌==◌, Option, Some, None, option_map, refl, arith, list_all, slice_split, onto_first, enumerate_from, position_or_len, and_parts, and_from, Word, is_blank, is_newline, after_blanks, first_word, quoted_word, text_from, TextState, Between, AfterBackslash, FirstHex, SecondHex, words_within, hex_value, escape, without_empty_end, text_lines, line_of, significant, significant_of, all_joined, nat_tests}
 use borrow.Author.Tests.{lt-ltb}
 use Rattle.script_text.proofs.Lexing.{is_byte}
 use Rattle.script_text.proofs.Numerals.{hex_value_bound}
 use Rattle.script_text.proofs.PrintedValues.{is_read}
 use Rattle.script_text.proofs.CallLines.{are_read}
+use Rattle.script_text.proofs.Steps.{either, maybe}
 
 abbrev are_bytes : List ℕ → Bool
 are_bytes cs = list_all is_byte cs
@@ -43,23 +44,9 @@ text_bytes Between (c ∷ cs) ok h =
     )
 text_bytes AfterBackslash (c ∷ cs) ok h =
     let both = and_parts (is_byte c) (are_bytes cs) h in
-    by (c == 120) (escape c) refl both.0 (text_bytes FirstHex cs tt both.1) (text_bytes Between cs tt both.1)
-  where
-    by : (i : Bool) (o : Option ℕ) → escape c ≡ o → is_byte c ≡ true → BytesOf (text_from FirstHex cs) → BytesOf (text_from Between cs)
-        → BytesOf (elim i as (λ z. Option (List ℕ × List ℕ)) [
-          | true ↦ text_from FirstHex cs
-          | false ↦ elim o as (λ z. Option (List ℕ × List ℕ)) [ None ↦ None | Some x ↦ option_map (λ r. (x ∷ r.0, r.1)) (text_from Between cs) ]
-        ])
-    by true o e b one two = one
-    by false None e b one two = tt
-    by false (Some x) e b one two = with_byte x (text_from Between cs) (escape_byte c x b e) two
-text_bytes FirstHex (c ∷ cs) ok h =
-    let both = and_parts (is_byte c) (are_bytes cs) h in
-    by (hex_value c) refl (λ g low. text_bytes (SecondHex g) cs low both.1)
-  where
-    by : (o : Option ℕ) → hex_value c ≡ o → ((g : ℕ) → g < 16 → BytesOf (text_from (SecondHex g) cs)) → BytesOf (elim o as (λ z. Option (List ℕ × List ℕ)) [ None ↦ None | Some g ↦ text_from (SecondHex g) cs ])
-    by None e more = tt
-    by (Some g) e more = more g (hex_value_bound c g e)
+    let plain = text_bytes Between cs tt both.1 in
+    either BytesOf (c == 120) _ _ (text_bytes FirstHex cs tt both.1) (maybe BytesOf (escape c) None _ tt (λ x e. with_byte x (text_from Between cs) (escape_byte c x both.0 e) plain))
+text_bytes FirstHex (c ∷ cs) ok h = maybe BytesOf (hex_value c) None _ tt (λ g e. text_bytes (SecondHex g) cs (hex_value_bound c g e) (and_parts (is_byte c) (are_bytes cs) h).1)
 text_bytes (SecondHex g) (c ∷ cs) ok h =
     grind (arith, nat_tests, text_bytes Between cs tt (and_parts (is_byte c) (are_bytes cs) h).1, and_parts, is_byte, option_map, hex_value_bound, with_byte, lt-ltb)
 

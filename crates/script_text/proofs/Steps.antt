@@ -1,5 +1,5 @@
 -- Steps from word to word, forwards and backwards.
-use Rattle.script_text.proofs.Words.{◌≡◌, ◌∙◌, ℕ, List, [], ◌∷◌, Bool, true, false, Option, Some, Result, Ok, Err, refl, ap, faultless_some, ScriptKind, Word, Plain, ◌>>=◌, refuse_if, or_fault, bare, next, reads_as, ended, whole, arith, nat_tests}
+use Rattle.script_text.proofs.Words.{◌≡◌, ◌∙◌, ℕ, List, [], ◌∷◌, Bool, true, false, Option, Some, None, Result, Ok, Err, refl, ap, faultless_some, ScriptKind, Word, Plain, ◌>>=◌, refuse_if, or_fault, bare, next, reads_as, ended, whole, arith, nat_tests, cond}
 
 -- ---- what a step that gave something says of its parts
 
@@ -62,6 +62,23 @@ word_before f e (w ∷ ws) r h =
     let behind = ap (λ (p : List ℕ × List Word). p.1) (same_ok (c.value, ws) a.value c.rest) in
     (w, ap (λ (more : List Word). w ∷ more) (behind ∙ last))
 
+-- ---- from step to step, with what each says
+
+pub step_then : {A B E P : Type 0} (r : Result A E) (f : A → Result B E) (y : B) → (r >>= f) ≡ Ok y → ((x : A) → r ≡ Ok x → f x ≡ Ok y → P) → P
+step_then (Ok x) f y h k = k x refl h
+step_then (Err e) f y h k = absurd (cc)
+
+pub free_then : {B P : Type 0} (b : Bool) (e : ScriptKind) (f : Unit {0} → Result B ScriptKind) (y : B) → (refuse_if b e >>= f) ≡ Ok y → (b ≡ false → f tt ≡ Ok y → P) → P
+free_then false e f y h k = k refl h
+free_then true e f y h k = absurd (cc)
+
+pub end_then : {B P : Type 0} (ws : List Word) (f : Unit {0} → Result B ScriptKind) (y : B) → (ended ws >>= f) ≡ Ok y → (ws ≡ [] → f tt ≡ Ok y → P) → P
+end_then ws f y h k = step_then (ended ws) f y h (λ u is. k (is_end ws u is))
+
+pub word_then : {A B P : Type 0} (g : List ℕ → Option A) (e : ScriptKind) (ws : List Word) (f : A × List Word → Result B ScriptKind) (y : B) → (reads_as g e ws >>= f) ≡ Ok y
+    → ((r : A × List Word) (w : List ℕ) → g w ≡ Some r.0 → f r ≡ Ok y → P) → P
+word_then g e ws f y h k = step_then (reads_as g e ws) f y h (λ r is. let w = read_word g e ws r is in k r w.0 w.1)
+
 -- ---- a step by cases, as a step that goes on
 
 abbrev pub carry : {A B E : Type 0} → Result A E → (A → Result B E) → Result B E
@@ -73,6 +90,33 @@ carried (Err e) f y h = absurd (cc)
 
 pub carry_on : {A B E : Type 0} (r : Result A E) (f : A → Result B E) (x : A) (y : B) → r ≡ Ok x → f x ≡ Ok y → carry r f ≡ Ok y
 carry_on r f x y e h = ap (λ (s : Result _ _). carry s f) e ∙ h
+
+-- ---- the two ways of a test, and what may be there or not
+
+pub tested : {A P : Type 0} (b : Bool) (x y z : A) → elim b as (λ t. A) [ true ↦ x | false ↦ y ] ≡ z → (b ≡ true → x ≡ z → P) → (b ≡ false → y ≡ z → P) → P
+tested true x y z h f g = f refl h
+tested false x y z h f g = g refl h
+
+pub looked : {A B P : Type 0} (o : Option A) (x : B) (f : A → B) (z : B) → elim o as (λ t. B) [ None ↦ x | Some a ↦ f a ] ≡ z → (o ≡ None → x ≡ z → P) → ((a : A) → o ≡ Some a → f a ≡ z → P) → P
+looked None x f z h n s = n refl h
+looked (Some a) x f z h n s = s a refl h
+
+pub decided : {A P : Type 0} (b : Bool) (x y z : A) → cond b x y ≡ z → (b ≡ true → x ≡ z → P) → (b ≡ false → y ≡ z → P) → P
+decided true x y z h f g = f refl h
+decided false x y z h f g = g refl h
+
+-- what holds of either holds of the one that is taken
+pub either : {A : Type 0} (P : A → Type 0) (b : Bool) (x y : A) → P x → P y → P (elim b as (λ t. A) [ true ↦ x | false ↦ y ])
+either P true x y h k = h
+either P false x y h k = k
+
+pub maybe : {A B : Type 0} (P : B → Type 0) (o : Option A) (x : B) (f : A → B) → P x → ((a : A) → o ≡ Some a → P (f a)) → P (elim o as (λ t. B) [ None ↦ x | Some a ↦ f a ])
+maybe P None x f h k = h
+maybe P (Some a) x f h k = k a refl
+
+pub by_test : {A : Type 0} (P : A → Type 0) (b : Bool) (x y : A) → (b ≡ true → P x) → (b ≡ false → P y) → P (cond b x y)
+by_test P true x y h k = h refl
+by_test P false x y h k = k refl
 
 -- ---- what comes of two tests, one after the other
 

@@ -1,10 +1,10 @@
 -- A whole script: what is printed of what was read is read as the same script.
-use Rattle.script_text.proofs.Words.{◌≡◌, ◌∙◌, ℕ, zero, suc, ◌+◌, ◌%◌, ◌^◌, ◌≤◌, ◌<◌, List, [], ◌∷◌, ◌++◌, map, replicate, length, Bool, true, false, not, cond, nat_lt, nat_le, ◌==◌, ◌&&◌, Option, Some, None, Result, Ok, Err, refl, sym, ap, subst, arith, codes, decimal, list_all, utf8_valid_len, and_parts, and_from, or_cases, cond-true, ne_eqb, eqb-true, finished, ScriptKind, ScriptErr, Hints, Extra, Script, Call, is_version, kinds, most_values, shown, Word, Plain, Line, text_lines, significant, ◌>>=◌, whole, Within, hints_of, Defined, no_definition, Added, nothing_added, Known, nothing_known, ranks_line, Called, mismatch, at_line, version_of_text, head, definitions, data_part, finish, script_of, no_calls, script_of_lines, most_bytes, most_lines, within_lines, Reads, length-map, all_joined, nat_tests}
+use Rattle.script_text.proofs.Words.{◌≡◌, ◌∙◌, ℕ, zero, suc, ◌+◌, ◌%◌, ◌^◌, ◌≤◌, ◌<◌, List, [], ◌∷◌, ◌++◌, map, replicate, length, Bool, true, false, not, cond, nat_lt, nat_le, ◌==◌, ◌&&◌, Option, Some, None, Result, Ok, Err, refl, sym, ap, subst, arith, codes, decimal, list_all, utf8_valid_len, and_parts, and_from, or_cases, cond-true, ne_eqb, eqb-true, finished, ScriptKind, ScriptErr, Hints, Extra, Script, Call, is_version, kinds, most_values, shown, Word, Plain, Line, text_lines, significant, ◌>>=◌, whole, Within, hints_of, Defined, no_definition, Added, nothing_added, Known, nothing_known, ranks_line, Called, mismatch, at_line, version_of_text, head, definitions, data_part, finish, script_of, no_calls, script_of_lines, most_bytes, most_lines, within_lines, Reads, length-map, all_joined, nat_tests, length-replicate}
 use Rattle.std.proofs.Common.{flat_map}
 use borrow.Author.Tests.{leb-true, le-ltb, ltb-false}
 use Rattle.nc_base.specs.declared.errors.ScriptKind.TheVariants as kind
 use Rattle.nc_base.specs.declared.errors.LimitName.TheVariants as limit
-use Rattle.script_text.proofs.Steps.{went, go_on, same_ok, word_read}
+use Rattle.script_text.proofs.Steps.{go_on, same_ok, word_read, step_then}
 use Rattle.script_text.proofs.Lines.{is_line, spelled, body, numbered, lines_again, significant_lines, valid_lines, valid_bytes}
 use Rattle.script_text.proofs.Numerals.{size_again, size_plain}
 use Rattle.script_text.proofs.PrintedDefinitions.{is_value_of, ranks_again, within_plain}
@@ -129,12 +129,8 @@ pub count_empty : (n : ℕ) → count_all (replicate n []) ≡ 0
 count_empty zero = refl
 count_empty (suc n) = omega (arith, count_empty n)
 
-length_empty : (n : ℕ) → length (replicate {A = List Call} n []) ≡ n
-length_empty zero = refl
-length_empty (suc n) = ap suc (length_empty n)
-
 none_called : (n : ℕ) (k : Known) → k.values ≤ most_values → Holds n k.values (no_calls n k)
-none_called n k few = record { long = length_empty n; chains = chains_empty n 0 n; counted = omega (arith, count_empty n); few = few }
+none_called n k few = record { long = length-replicate n []; chains = chains_empty n 0 n; counted = omega (arith, count_empty n); few = few }
 
 all_called : (n values : ℕ) (d : Called) → Holds n values d → DataEnd n values d.calls
 all_called n values d holds = record { long = holds.long; chains = holds.chains; few = omega (arith, holds.counted, holds.few) }
@@ -202,33 +198,24 @@ at_most_64 n h = leb-true n 64 (and_parts (nat_le 1 n) (nat_le n 64) (and_parts 
 pub whole_read : (past : ℕ) (lines : List Line) (script : Script) → are_read lines ≡ true → script_of_lines past lines ≡ Ok script → Whole script
 whole_read past [] script read h = absurd (cc)
 whole_read past (l ∷ lines) script read h =
-    let a = went (at_line l.number (head l.first l.rest)) (λ v. told_after past v lines) script h in
-    let d = went (definitions past a.value nothing_known lines) _ script a.rest in
-    let c = went (data_part past (no_calls d.value.0 d.value.1.0) d.value.1.1) _ script d.rest in
-    let f = went (finish c.value.0 c.value.1.0.calls c.value.1.1) _ script c.rest in
-    let version = a.value in
-    let n = d.value.0 in
-    let k = d.value.1.0 in
-    let calls = c.value.1.0.calls in
-    let first = head_read l.first l.rest version (line_ok l.number (head l.first l.rest) version a.first) in
-    let known = definitions_read past version lines nothing_known d.value (and_parts _ _ read).1 (nothing_ok version) d.first in
+    step_then (at_line l.number (head l.first l.rest)) (λ v. told_after past v lines) script h (λ version heads h. step_then (definitions past version nothing_known lines) _ script h (λ d told h.
+    step_then (data_part past (no_calls d.0 d.1.0) d.1.1) _ script h (λ c called h. step_then (finish c.0 c.1.0.calls c.1.1) _ script h (λ f ends h.
+    let n = d.0 in
+    let k = d.1.0 in
+    let calls = c.1.0.calls in
+    let first = head_read l.first l.rest version (line_ok l.number (head l.first l.rest) version heads) in
+    let known = definitions_read past version lines nothing_known d (and_parts _ _ read).1 (nothing_ok version) told in
     let r : is_value_of (Within 1 64 1) n ≡ true = ranks_of k.ranks n known.ranks known.known.ranks in
-    let begin : Holds n k.values (no_calls n k) = none_called n k known.known.few in
-    let holds = data_holds n k.values past d.value.1.1 (no_calls n k) c.value begin known.read c.first in
-    let end : DataEnd n k.values calls = all_called n k.values c.value.1.0 holds in
-    let h2 = hints_of n k.hints in
-    let again = known_again (version == 0) version n h2 k refl r (hints_fit n k.hints r known.known.hints) known.known.few known.known.what in
-    subst Whole (same_ok (script_of version n k calls) script f.rest)
-    (whole_from version n k.values h2 k.added.extras k.defined calls first (at_most_64 n r) again end (finished c.value.0 calls c.value.1.1 f.value f.first))
+    let end : DataEnd n k.values calls = all_called n k.values c.1.0 (data_holds n k.values past d.1.1 (no_calls n k) c (none_called n k known.known.few) known.read called) in
+    let again = known_again (version == 0) version n (hints_of n k.hints) k refl r (hints_fit n k.hints r known.known.hints) known.known.few known.known.what in
+    subst Whole (same_ok (script_of version n k calls) script h)
+    (whole_from version n k.values (hints_of n k.hints) k.added.extras k.defined calls first (at_most_64 n r) again end (finished c.0 calls c.1.1 f ends))))))
   where
     ranks_of : (o : Option ℕ) (n : ℕ) → o ≡ Some n → elim o as (λ x. Bool) [ None ↦ true | Some m ↦ is_value_of (Within 1 64 1) m ] ≡ true → is_value_of (Within 1 64 1) n ≡ true
     ranks_of None n e h = absurd (cc)
     ranks_of (Some m) n e h = let same : m ≡ n = cc in subst (λ x. is_value_of (Within 1 64 1) x ≡ true) same h
 
 -- ---- a whole text
-
-within_told : (n : ℕ) (told : Result Script ScriptErr) (script : Script) → within_lines n told ≡ Ok script → (told ≡ Ok script) × (n ≤ most_lines)
-within_told n told script h = grind (arith, nat_tests, nat_lt, ltb-false, nat_le, not)
 
 -- a text that is read
 pub record IsText (text : List ℕ) (script : Script) : Type 0 where
@@ -238,7 +225,7 @@ pub record IsText (text : List ℕ) (script : Script) : Type 0 where
   pub told : script_of_lines (length (text_lines text) + 1) (significant text) ≡ Ok script
 
 pub is_text : (text : List ℕ) (script : Script) → Reads text script → IsText text script
-is_text text script h = grind (arith, nat_tests, nat_lt, within_told, ltb-false)
+is_text text script h = grind (arith, nat_tests, nat_lt, ltb-false)
 
 pub text_again : (text : List ℕ) (script : Script) → length text ≤ most_bytes → (utf8_valid_len text == length text) ≡ true → length (text_lines text) ≤ most_lines
     → script_of_lines (length (text_lines text) + 1) (significant text) ≡ Ok script → Reads text script

@@ -5,13 +5,14 @@ pub use Rattle.std.proofs.lemmas.Bool.Decides.{nat_tests}
 pub use Rattle.std.proofs.lemmas.Fmt.{decimal_by_steps_wide, length-decimal-le_wide}
 pub use Rattle.std.proofs.lemmas.Grind.{common_steps}
 pub use Rattle.std.proofs.lemmas.Int.{ints}
-pub use Rattle.std.proofs.lemmas.List.{drop_at, get_or_at, length-map, set_at, take_at}
+pub use Rattle.std.proofs.lemmas.List.{drop_at, get_or_at, length-map, length-replicate, length-set, set_at, take_at}
 pub use Rattle.std.proofs.lemmas.List.Concat.{flat_map-append}
 pub use Rattle.std.proofs.lemmas.List.Elements.{filter_map-append}
 pub use Rattle.std.proofs.lemmas.List.Folds.{list_all-map, list_all_at, list_any-append}
 pub use Rattle.std.proofs.lemmas.List.FromFn.{get_or-enumerate_from, length-enumerate_from, length-map-range_with_len}
 pub use Rattle.std.proofs.lemmas.List.Splits.{length-slice_split, slice_split_at, slice_split_none}
 pub use Rattle.std.proofs.lemmas.List.Sums.{AllPass-from_list_all, fold_push, sum_by-cons}
+pub use Rattle.std.proofs.lemmas.Option.{cond_some, same_Some}
 pub use Rattle.std.proofs.lemmas.Slice.Eq.{bytes_eq-Decides}
 pub use Rattle.std.proofs.lemmas.Str.{IsUtf8-from_ascii, IsUtf8-from_is_utf8, utf8_valid_len-IsUtf8}
 pub use Rattle.std.proofs.lemmas.Str.Ascii.{IsAscii-from_all}
@@ -24,6 +25,7 @@ unfoldable pub use Rattle.std.specs.Str.Lossy.{utf8_valid_len}
 pub use Rattle.hint_table.specs.HintNames.{row_of}
 pub use Rattle.list_laws.proofs.Appends.{then_append}
 pub use Rattle.list_laws.proofs.Each.{all_joined}
+pub use Rattle.list_laws.proofs.Optional.{some_of_map}
 pub use Rattle.list_laws.proofs.Places.{get_left, position_below}
 pub use Rattle.nc_base.specs.Values.{count_of}
 pub use Rattle.nc_base.specs.declared.errors.ScriptErr.{ScriptErr}
