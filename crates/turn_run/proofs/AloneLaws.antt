@@ -33,8 +33,7 @@ arrived_gone header own old new free gone ended = arrived_free header own old fr
 
 pub call_alone : (hints : Hints) (s : Setting) (r n : ℕ) (c : Counted) (ranks : List Arrived) (t : Going) (o : Offer) → slice_get ranks r ≡ Some (t, Some o)
     → step_calls hints s (c, ranks) (Solo r n) ≡ solo_calls hints s r o c
-call_alone hints s r n c ranks t o e =
-    ap (λ (m : Option Arrived). calls_at hints s r c (offer_of m)) e
+call_alone hints s r n c ranks t o e = ap (λ (m : Option Arrived). calls_at hints s r c (offer_of m)) e
 
 pub step_at : (s : Setting) (r n : ℕ) (c : Counted) (ranks : List Arrived) (t : Going) (o : Offer) → slice_get ranks r ≡ Some (t, Some o)
     → step_to s (c, ranks) (Solo r n) ≡ ((solo s r o c).0, set ranks r (advance s.header (hears s.header t (solo s r o c).1)))
@@ -47,8 +46,7 @@ pub alone_led : (hints : Hints) (s : Setting) (r n : ℕ) (held left : Option (L
     → Leads hints s (Solo r n ∷ []) (stage held calls records ranks) (stage left made records (set ranks r to))
 alone_led hints s r n None left calls made t o reply to heard bytes over up records ranks e = tt
 alone_led hints s r n (Some file) left calls made t o reply to heard bytes over up records ranks e =
-    let c = counted file records in
-    let at = up ∙ ap (λ (y : Reply). advance s.header (hears s.header t y)) heard in
+    let c = counted file records in let at = up ∙ ap (λ (y : Reply). advance s.header (hears s.header t y)) heard in
     record {
       left = (solo s r o c).0.file;
       told = bytes;
@@ -61,10 +59,8 @@ pub alone_alike : (s : Setting) (r n : ℕ) (t : Going) (o : Offer) (reply : Rep
     → reply.records ≡ max o.known (needed_now s (puts_of (r, o))) → map (λ (blob : List ℕ). length blob) reply.got ≡ map (wanted s.header) o.batch.gets
     → to ≡ advance s.header (hears s.header t reply)
     → (records : ℕ) (ranks : List Arrived) → slice_get ranks r ≡ Some (t, Some o) → LeadsAlike s (Solo r n ∷ []) records ranks records (set ranks r to)
-alone_alike s r n t o reply to pair count fits up records ranks e stand w =
-    subst (λ (a : Arrived). IsLike (step_to s stand (Solo r n)) records (set ranks r a)) (sym up)
-    (solo_like s stand r n records ranks t o reply w e
-    (record { pair = sym pair; records = sym count; lengths = gots_long s (solo s r o stand.0).0.file o.batch.gets ∙ sym fits }))
+alone_alike s r n t o reply to pair count fits up records ranks e stand w = subst (λ (a : Arrived). IsLike (step_to s stand (Solo r n)) records (set ranks r a)) (sym up)
+    (solo_like s _ _ n _ _ _ _ reply w e (record { pair = sym pair; records = sym count; lengths = gots_long s (solo s r o stand.0).0.file o.batch.gets ∙ sym fits }))
 
 -- ---- a rank's own steps, one after another
 
@@ -81,11 +77,9 @@ gone_same hints s r order held calls from to e = record {
   more = [];
   grown = sym (append-nil order);
   own = refl;
-  led = λ records ranks g.
-      subst (λ (others : List Arrived). Leads hints s [] (stage held calls records ranks) (stage held calls records others))
+  led = λ records ranks g. subst (λ (others : List Arrived). Leads hints s [] (stage held calls records ranks) (stage held calls records others))
       (sym (set_own ranks r to (g ∙ ap (λ (a : Arrived). Some a) e))) (led_none hints s (stage held calls records ranks));
-  alike = λ records ranks g stand w.
-      subst (λ (others : List Arrived). IsLike stand records others) (sym (set_own ranks r to (g ∙ ap (λ (a : Arrived). Some a) e))) w;
+  alike = λ records ranks g stand w. subst (λ (others : List Arrived). IsLike stand records others) (sym (set_own ranks r to (g ∙ ap (λ (a : Arrived). Some a) e))) w;
 }
 
 pub gone_then : (hints : Hints) (s : Setting) (r : ℕ) (before now later : List Mark) (held left last : Option (List ℕ)) (calls made done : Option (List DiskCall)) (from mid to : Arrived)
@@ -99,8 +93,7 @@ gone_then hints s r before now later held left last calls made done from mid to 
       let two = second.led records (set ranks r mid) (entry_set ranks r from mid g) in
       led_then hints s first.more second.more (stage held calls records ranks) (stage left made records (set ranks r mid)) (stage last done records (set ranks r to)) one
       (subst (λ (others : List Arrived). Leads hints s second.more (stage left made records (set ranks r mid)) (stage last done records others)) (set-set ranks r mid to) two);
-  alike = λ records ranks g.
-      subst (λ (others : List Arrived). LeadsAlike s (first.more ++ second.more) records ranks records others) (set-set ranks r mid to)
+  alike = λ records ranks g. subst (λ (others : List Arrived). LeadsAlike s (first.more ++ second.more) records ranks records others) (set-set ranks r mid to)
       (alike_then s first.more second.more records records records ranks (set ranks r mid) (set (set ranks r mid) r to) (first.alike records ranks g)
       (second.alike records (set ranks r mid) (entry_set ranks r from mid g)));
 }
@@ -147,8 +140,7 @@ went_runner script header order r own new e h p a =
 pub went_gone : (hints : Hints) (s : Setting) (r : ℕ) (order : List Mark) (held : Option (List ℕ)) (calls : Option (List DiskCall)) (header : Header) (own all : List Call) (old new : Runner)
     → own ≡ all → old.held ≡ None → advance header (between own old) ≡ (going_of own new, new.held) → (new.held ≡ None → drop (length new.answers) own ≡ [])
     → HasGone hints s r (rank_stage order held calls (arrived header all old)) (rank_stage order held calls (arrived header all new))
-went_gone hints s r order held calls header own all old new e free gone ended =
-    gone_same hints s r order held calls (arrived header all old) (arrived header all new)
+went_gone hints s r order held calls header own all old new e free gone ended = gone_same hints s r order held calls (arrived header all old) (arrived header all new)
     (subst (λ (o : List Call). arrived header o old ≡ arrived header o new) e (arrived_gone header own old new free gone ended))
 
 pub taken_asks : (header : Header) (own : List Call) (a b : Runner) (o : Offer) → a.held ≡ Some o → b.rank ≡ a.rank → b.answers ≡ a.answers → (asking own b, Some o) ≡ arrived header own a
@@ -160,8 +152,7 @@ same_runner a b e f h = λ i. record { rank = e i; answers = f i; held = h i }
 
 pub alone_asks : (script : Script) (header : Header) (order : List Mark) (r : ℕ) (own : List Call) (runner : Runner) (o : Offer) → runner.held ≡ Some o → o.kind ≡ offer.Solo
     → IsPlaced script header order r (going_of own runner) runner.held → AsksAlone script header order r (asking own runner) o
-alone_asks script header order r own runner o e k w =
-    subst (λ (j : OfferKind). IsPlacedWith script header order r (asking own runner, o) j) k
+alone_asks script header order r own runner o e k w = subst (λ (j : OfferKind). IsPlacedWith script header order r (asking own runner, o) j) k
     (subst (λ (s : Going). IsPlaced script header order r s (Some o)) (going_held own runner o e) (subst (λ (m : Option Offer). IsPlaced script header order r (going_of own runner) m) e w))
 
 pub way_free : (script : Script) (header : Header) (order : List Mark) (r : ℕ) (own : List Call) (runner : Runner) → runner.held ≡ None

@@ -23,10 +23,8 @@ counted_end header n m h l =
 -- a smaller count
 pub count_less : (header : Header) (len n m : ℕ) → is_sound header ≡ true → IsCount header len n → m ≤ n → IsCount header len m
 count_less header len n m sound h l =
-    let low = counted_end header n m h.sound l in
-    let small = count_small header len n h in
-    let grows = end_grows header (header_len header) m n l in
-    let long = h.long in
+    let low = counted_end header n m h.sound l in let small = count_small header len n h in
+    let grows = end_grows header (header_len header) m n l in let long = h.long in
     record { sound = counted_sound header m sound (omega arith) low; long = omega arith }
 
 pub rise_longer : (header : Header) (len more n : ℕ) → len ≤ more → IsRise header len n → IsRise header more n
@@ -54,9 +52,7 @@ count_begins header len n h = let l = h.long in let k = end_grows header (header
 
 pub put_count : (header : Header) (len : ℕ) (p : Post) → is_sound header ≡ true → IsPut header p → end_of header (header_len header) (needed header p) ≤ len
     → IsCount header len (needed header p)
-put_count header len p h put l =
-    let both = put_needed header p put in
-    record { sound = counted_sound header (needed header p) h both.0 both.1; long = l }
+put_count header len p h put l = let both = put_needed header p put in record { sound = counted_sound header (needed header p) h both.0 both.1; long = l }
 
 -- the greatest that puts need, where the file has as many bytes as that takes
 pub AllPuts : Header → List Post → Type 0

@@ -1,5 +1,5 @@
 -- A run that was cut off, step by step.
-use Rattle.turn_run.proofs.Words.{◌≡◌, ℕ, ◌<◌, refl, sym, ◌∙◌, ap, subst, inl, List, [], ◌∷◌, ◌++◌, set, Bool, true, Option, Some, None, Result, Err, append_assoc, fold-append, append-nil, slice_get, fold, ◌&&◌, IfSome, byte_len, Hints, Script, Mark, Solo, Offer, StepErr, Memory, after, BothTold, Setting, Counted, puts_of, solo, count_width, Going, covered, IsTorn, IsLeft, counted, torn_wider, Header, DiskCall, is_lawful, is_solo_of, completed_by, point, AreRunners, Arrived, Stand, step_to, solo_to, Stage, Leads, IsLed, HasGone, IsGrownBy, stage, rank_stage, StopsAt, HasStopped, MayFollow, IsNext, bytes_at, Runner, in_step, equal_itself, entry_set, offer_of}
+use Rattle.turn_run.proofs.Words.{IfSome_then, ◌≡◌, ℕ, ◌<◌, refl, sym, ◌∙◌, ap, subst, inl, List, [], ◌∷◌, ◌++◌, set, Bool, true, Option, Some, None, Result, Err, append_assoc, fold-append, append-nil, slice_get, fold, ◌&&◌, IfSome, byte_len, Hints, Script, Mark, Solo, Offer, StepErr, Memory, after, BothTold, Setting, Counted, puts_of, solo, count_width, Going, covered, IsTorn, IsLeft, counted, torn_wider, Header, DiskCall, is_lawful, is_solo_of, completed_by, point, AreRunners, Arrived, Stand, step_to, solo_to, Stage, Leads, HasGone, IsGrownBy, stage, rank_stage, StopsAt, HasStopped, MayFollow, IsNext, bytes_at, Runner, in_step, equal_itself, entry_set, offer_of}
 use Rattle.turn_run.proofs.AloneLaws.{grown_then}
 use Rattle.turn_run.proofs.TurnSteps.{step_begun}
 use Rattle.turn_run.specs.Cuts.StopsAt.{between}
@@ -12,7 +12,13 @@ pub stopped_then : (F : Mark → Type 0) (hints : Hints) (s : Setting) (fault : 
 stopped_then F hints s fault before mid now more a b left count led grown h = record {
   more = more ++ h.more;
   grown = h.grown ∙ ap (λ (ms : List Mark). ms ++ h.more) grown ∙ append_assoc before more h.more;
-  stops = by_held a.held led;
+  stops = IfSome_then a.held led (λ file l.
+      let r = at l.left l.told in (
+        r.0,
+        r.1,
+        subst (λ (stand : Stand). StopsAt F s fault stand r.0 count)
+            (ap (λ (stand : Stand). fold (step_to s) stand h.more) (sym l.state) ∙ sym (fold-append (step_to s) (counted file a.records, a.ranks) more h.more)) r.2,
+      ));
 }
   where
     Stops : Option (List ℕ) → ℕ → List Arrived → List Mark → Type 0
@@ -21,29 +27,18 @@ stopped_then F hints s fault before mid now more a b left count led grown h = re
     at : (file : List ℕ) → b.held ≡ Some file → (bytes : List ℕ) × (left ≡ Some bytes) × StopsAt F s fault (fold (step_to s) (counted file b.records, b.ranks) h.more) bytes count
     at file e = subst (λ (m : Option (List ℕ)). Stops m b.records b.ranks h.more) e h.stops
 
-    by_held : (m : Option (List ℕ)) → IfSome m (λ file. IsLed hints s more file a b) → Stops m a.records a.ranks (more ++ h.more)
-    by_held None l = tt
-    by_held (Some file) l =
-        let r = at l.left l.told in (
-          r.0,
-          r.1,
-          subst (λ (stand : Stand). StopsAt F s fault stand r.0 count)
-              (ap (λ (stand : Stand). fold (step_to s) stand h.more) (sym l.state) ∙ sym (fold-append (step_to s) (counted file a.records, a.ranks) more h.more)) r.2,
-        )
-
 -- as the next mark may be known by more
 pub stopped_as : (F G : Mark → Type 0) (s : Setting) (fault : StepErr) (before now : List Mark) (held : Option (List ℕ)) (records : ℕ) (ranks : List Arrived) (left : Option (List ℕ)) (count : ℕ)
     → ((m : Mark) → F m → G m) → HasStopped F s fault (point before held records) ranks (point now left count) → HasStopped G s fault (point before held records) ranks (point now left count)
-stopped_as F G s fault before now held records ranks left count f h = record { more = h.more; grown = h.grown; stops = by_held held h.stops }
+stopped_as F G s fault before now held records ranks left count f h = record {
+  more = h.more;
+  grown = h.grown;
+  stops = IfSome_then held h.stops (λ file k. (k.0, k.1, by_stop (fold (step_to s) (counted file records, ranks) h.more) k.0 k.2));
+}
   where
     by_stop : (stand : Stand) (bytes : List ℕ) → StopsAt F s fault stand bytes count → StopsAt G s fault stand bytes count
     by_stop stand bytes (in_step m k l) = in_step m (f m k) l
     by_stop stand bytes (between e k l) = between e k l
-
-    by_held : (m : Option (List ℕ)) → IfSome m (λ file. (bytes : List ℕ) × (left ≡ Some bytes) × StopsAt F s fault (fold (step_to s) (counted file records, ranks) h.more) bytes count)
-        → IfSome m (λ file. (bytes : List ℕ) × (left ≡ Some bytes) × StopsAt G s fault (fold (step_to s) (counted file records, ranks) h.more) bytes count)
-    by_held None k = tt
-    by_held (Some file) (bytes, e, k) = (bytes, e, by_stop (fold (step_to s) (counted file records, ranks) h.more) bytes k)
 
 pub stopped_at : (F : Mark → Type 0) (s : Setting) (fault : StepErr) (before now : List Mark) (held left : Option (List ℕ)) (records n m : ℕ) (ranks : List Arrived)
     → n ≡ m → HasStopped F s fault (point before held records) ranks (point now left n) → HasStopped F s fault (point before held records) ranks (point now left m)
@@ -113,6 +108,10 @@ err_same r e f h k = let both : Err e ≡ Err f = sym h ∙ k in cc
 pub memory_of : {T : Type 0} (r : Result T StepErr) (e y : StepErr) → r ≡ Err e → r ≡ Err y → y ≡ Memory → e ≡ Memory
 memory_of r e y h k m = err_same r e y h k ∙ m
 
+-- an error that is handed on
+pub same_err : {T U : Type 0} (r : Result T StepErr) (e x y : StepErr) → r ≡ Err e → r ≡ Err y → y ≡ x → ◌≡◌ {A = Result U StepErr} (Err x) (Err e)
+same_err r e x y h k m = let same : x ≡ e = sym (err_same r e y h k ∙ m) in ap (λ (z : StepErr). Err z) same
+
 pub own_is : (r n : ℕ) → is_solo_of r (Solo r n) ≡ true
 own_is r n = equal_itself r
 
@@ -133,7 +132,3 @@ follows_next script header len before now runners n lawful a l g m f =
     let one : IsGrownBy n now (now ++ m ∷ []) = record { more = m ∷ []; grown = refl; own = ap (λ (t : Bool). t && true) f.0 } in
     let b = step_begun script header len before (now ++ m ∷ []) runners n a l (grown_then n before now (now ++ m ∷ []) g one) f.1 in
     completed_by script now m lawful b.known_ranks b.each_rank
-
--- an error that is handed on
-pub same_err : {T U : Type 0} (r : Result T StepErr) (e x y : StepErr) → r ≡ Err e → r ≡ Err y → y ≡ x → ◌≡◌ {A = Result U StepErr} (Err x) (Err e)
-same_err r e x y h k m = let same : x ≡ e = sym (err_same r e y h k ∙ m) in ap (λ (z : StepErr). Err z) same

@@ -47,10 +47,8 @@ round_met s batches r known held left b one = told_as (RoundTorn s batches r) (M
         let same : needed_now s (puts_in batches) ≡ max (needed_now s (puts_in batches)) known = omega arith in
         subst (λ (n : ℕ). IsTorn (covered s.header (puts_in batches)) (field_of s) old (raised s (laid s (puts_in batches) old r) n).file bytes) same t
     by_one old bytes t (inr e) =
-        let u = torn_sides _ _ _ _ _ t in
-        let keep = keeps_none s (puts_in batches) r old e in
-        let short = t.short in
-        let wide = ap (λ (f : List ℕ). length f) (round_none s (puts_in batches) r old e) in
+        let u = torn_sides _ _ _ _ _ t in let keep = keeps_none s (puts_in batches) r old e in
+        let short = t.short in let wide = ap (λ (f : List ℕ). length f) (round_none s (puts_in batches) r old e) in
         let grown = raised_grows s (laid s (puts_in batches) old r) (max (needed_now s (puts_in batches)) known) in
         torn_by _ _ old _ bytes t.long (omega arith) (λ x h. cc (none_covered s (puts_in batches) e x)) (λ x h l k. inl (either (u.beside x l k) (keep x))) u.outside
 
@@ -85,8 +83,7 @@ met_done_of s batches r known held now e one = met_done s batches r known held n
 -- what is torn between a file and itself is that file
 pub torn_same : (bytes : List ℕ) (field : ℕ) (old left : List ℕ) → IsTorn bytes field old old left → left ≡ old
 torn_same bytes field old left t =
-    let long = t.long in
-    let short = t.short in
+    let long = t.long in let short = t.short in
     ext_get_or 0 left old (omega arith) (λ x l. by_test x l (may_change bytes field x) refl)
   where
     by_test : (x : ℕ) → x < length left → (b : Bool) → may_change bytes field x ≡ b → at left x ≡ at old x
@@ -103,8 +100,7 @@ count_met s batches r n known (Some old) mid now e k b one =
     let t = rw e at b in (
       t.0,
       t.1,
-      by_one t.0 one
-          (subst (λ (f : List ℕ). IsTorn [] (field_of s) (after_round s (puts_in batches) (counted old r)).file f t.0)
+      by_one t.0 one (subst (λ (f : List ℕ). IsTorn [] (field_of s) (after_round s (puts_in batches) (counted old r)).file f t.0)
           (twice_raised s (laid s (puts_in batches) old r) n (needed_now s (puts_in batches)) known k) t.2),
     )
   where
@@ -117,10 +113,8 @@ count_met s batches r n known (Some old) mid now e k b one =
         (subst (λ (f : List ℕ). IsTorn [] (field_of s) f (met s batches known (counted old r)).file left) whole t) in
         subst (λ (f : List ℕ). MetTorn s batches r known old f) (sym is) (met_torn s batches r known old)
     by_one left (inr z) t =
-        let u = torn_sides _ _ _ _ _ t in
-        let grown = round_grows s (puts_in batches) r old in
-        let long = t.long in
-        let keep = keeps_none s (puts_in batches) r old z in
+        let u = torn_sides _ _ _ _ _ t in let grown = round_grows s (puts_in batches) r old in
+        let long = t.long in let keep = keeps_none s (puts_in batches) r old z in
         torn_by _ _ old _ left (omega arith) t.short (λ x h. cc (none_covered s (puts_in batches) z x)) (λ x h l q. first_is (u.beside x l q) (keep x)) (λ x h q. u.outside x refl q ∙ keep x)
       where
         first_is : {a b c d : ℕ} → (a ≡ b) ⊎ (a ≡ c) → b ≡ d → (a ≡ d) ⊎ (a ≡ c)
@@ -131,8 +125,7 @@ count_met s batches r n known (Some old) mid now e k b one =
 
 bytes_meet : (s : Setting) {calls : List (List Call)} {runners : List Runner} {batches : List Batch} {known : ℕ} (k : ℕ) → IsTaken calls runners batches known
     → covered s.header (puts_in batches) ≡ bytes_at s (arrived_all s.header calls runners) (Meet k)
-bytes_meet s {calls} {runners} k t =
-    sym (ap (λ (os : List Offer). covered s.header (flat_map puts_of (enumerate_from 0 os))) (offers_are s.header calls runners t.long t.hold)
+bytes_meet s {calls} {runners} k t = sym (ap (λ (os : List Offer). covered s.header (flat_map puts_of (enumerate_from 0 os))) (offers_are s.header calls runners t.long t.hold)
     ∙ ap (λ (ps : Puts). covered s.header ps) (puts_same 0 (held_offers runners)) ∙ ap (λ (bs : List Batch). covered s.header (puts_in bs)) (sym t.offered))
 
 pub stopped_meet : {F : Mark → Type 0} {s : Setting} {fault : StepErr} (k : ℕ) {before now : List Mark} {held left : Option (List ℕ)} {calls : List (List Call)} {runners : List Runner} {batches : List Batch}

@@ -1,5 +1,5 @@
 -- A run in turn that was cut off, from its first stage on.
-use Rattle.turn_run.proofs.Words.{◌≡◌, ℕ, refl, sym, ◌∙◌, ap, subst, inl, inr, ◌⊎◌, List, [], ◌++◌, length, map, Bool, true, false, cond, Option, Some, None, arith, replicate, slice_get, fold, nat_lt, IfSome, length-replicate, byte_len, Answer, Header, Script, DiskCall, Mark, Meet, Solo, Offer, StepErr, after, BothTold, Setting, Counted, puts_of, raised, count_width, IsLegal, is_lawful, greatest, with_records, Going, advance, after_mark, closed, first_going, first_state, setting_of, state_after, close_by, covered, IsTorn, IsLeft, StoodAt, IsCutRun, HasAnswers, HasAnswersOfEach, bytes_of_mark, as_setting, counted, torn_by, ranks_lawful, completed, point, HasBegun, StopsAt, HasStopped, IsNext, bytes_at, in_step, Arrived, Stand, step_to, HasLed, IsLed, Leads, arrived_all, stage, all_between, HaveAnswers, first_runner, Runner, entry_map, map_map, entry_map_none, mapped_entry, raised_grows, gone_up, arrival_step, arrival_steps}
+use Rattle.turn_run.proofs.Words.{IfSome_then, ◌≡◌, ℕ, refl, sym, ◌∙◌, ap, subst, inl, inr, ◌⊎◌, List, [], ◌++◌, length, map, Bool, true, false, cond, Option, Some, None, arith, replicate, slice_get, fold, nat_lt, IfSome, length-replicate, byte_len, Answer, Header, Script, DiskCall, Mark, Meet, Solo, Offer, StepErr, after, BothTold, Setting, Counted, puts_of, raised, count_width, IsLegal, is_lawful, greatest, with_records, Going, advance, after_mark, closed, first_going, first_state, setting_of, state_after, close_by, covered, IsTorn, IsLeft, StoodAt, IsCutRun, HasAnswers, HasAnswersOfEach, bytes_of_mark, as_setting, counted, torn_by, ranks_lawful, completed, point, HasBegun, StopsAt, HasStopped, IsNext, bytes_at, in_step, Arrived, Stand, step_to, HasLed, IsLed, Leads, arrived_all, stage, all_between, HaveAnswers, first_runner, Runner, entry_map, map_map, entry_map_none, mapped_entry, raised_grows, gone_up, arrival_step, arrival_steps}
 use Rattle.nc_base.specs.declared.step.StepErr.TheVariants as fault
 use Rattle.serial_spec.specs.RankMachine as machine
 use Rattle.serial_spec.specs.Torn.StoodAt.{in_step as stood_step, in_close as stood_close, between as stood_between}
@@ -20,50 +20,37 @@ pub data EndsAt (script : Script) (s : Setting) (fault : StepErr) (stand : Stand
   before_close : StopsAt (IsNext script order) s fault stand left records → EndsAt script s fault stand order left records
   in_close : IsLegal script order → IsLeft s.header [] stand.0 (closed_at s stand) left records → EndsAt script s fault stand order left records
 
-abbrev Ends : Script → Setting → StepErr → Option (List ℕ) → ℕ → List Arrived → List Mark → Option (List ℕ) → ℕ → Type 0
+abbrev pub Ends : Script → Setting → StepErr → Option (List ℕ) → ℕ → List Arrived → List Mark → Option (List ℕ) → ℕ → Type 0
 Ends script s e held records ranks order left count =
     IfSome held (λ file. (bytes : List ℕ) × (left ≡ Some bytes) × EndsAt script s e (fold (step_to s) (counted file records, ranks) order) order bytes count)
 
 -- ---- before the close
 
 pub ends_before : (script : Script) (s : Setting) (e : StepErr) (before order : List Mark) (held : Option (List ℕ)) (records : ℕ) (ranks : List Arrived) (left : Option (List ℕ)) (count : ℕ)
-    → before ≡ [] → HasStopped (IsNext script order) s e (point before held records) ranks (point order left count)
-    → IfSome held (λ file. (bytes : List ℕ) × (left ≡ Some bytes) × EndsAt script s e (fold (step_to s) (counted file records, ranks) order) order bytes count)
+    → before ≡ [] → HasStopped (IsNext script order) s e (point before held records) ranks (point order left count) → Ends script s e held records ranks order left count
 ends_before script s e before order held records ranks left count none h =
-    by_held held (subst (λ (ms : List Mark). IfSome held (λ file. (bytes : List ℕ) × (left ≡ Some bytes) × StopsAt (IsNext script order) s e (fold (step_to s) (counted file records, ranks) ms) bytes count)) all h.stops)
-  where
-    all : h.more ≡ order
-    all = sym (h.grown ∙ ap (λ (ms : List Mark). ms ++ h.more) none)
-
-    by_held : (m : Option (List ℕ)) → IfSome m (λ file. (bytes : List ℕ) × (left ≡ Some bytes) × StopsAt (IsNext script order) s e (fold (step_to s) (counted file records, ranks) order) bytes count)
-        → IfSome m (λ file. (bytes : List ℕ) × (left ≡ Some bytes) × EndsAt script s e (fold (step_to s) (counted file records, ranks) order) order bytes count)
-    by_held None k = tt
-    by_held (Some file) k = (k.0, k.1, before_close k.2)
+    let all : h.more ≡ order = sym (h.grown ∙ ap (λ (ms : List Mark). ms ++ h.more) none) in
+    IfSome_then held
+    (subst (λ (ms : List Mark). IfSome held (λ file. (bytes : List ℕ) × (left ≡ Some bytes) × StopsAt (IsNext script order) s e (fold (step_to s) (counted file records, ranks) ms) bytes count)) all h.stops)
+    (λ file k. (k.0, k.1, before_close k.2))
 
 -- no memory was left once all steps were done
 pub ends_between : (script : Script) (header : Header) (e : StepErr) (before order : List Mark) (calls made : Option (List DiskCall)) (told left : Option (List ℕ)) (count from : ℕ) (runners : List Runner)
     (ranks : List Arrived) → before ≡ [] → e ≡ fault.Memory
     → HasLed script.hints (setting_of script header) before order (stage told calls from ranks) (stage left made count (arrived_all header script.calls runners))
-    → IfSome told (λ file. (bytes : List ℕ) × (left ≡ Some bytes) × EndsAt script (setting_of script header) e (fold (step_to (setting_of script header)) (counted file from, ranks) order) order bytes count)
+    → Ends script (setting_of script header) e told from ranks order left count
 ends_between script header e before order calls made told left count from runners ranks none memory h =
-    by_told told (subst (λ (ms : List Mark). Leads script.hints (setting_of script header) ms (stage told calls from ranks) (stage left made count (arrived_all header script.calls runners))) all h.led)
-  where
-    all : h.more ≡ order
-    all = sym (h.grown ∙ ap (λ (ms : List Mark). ms ++ h.more) none)
-
-    by_told : (m : Option (List ℕ)) → IfSome m (λ file. IsLed script.hints (setting_of script header) order file (stage m calls from ranks) (stage left made count (arrived_all header script.calls runners)))
-        → IfSome m (λ file. (bytes : List ℕ) × (left ≡ Some bytes) × EndsAt script (setting_of script header) e (fold (step_to (setting_of script header)) (counted file from, ranks) order) order bytes count)
-    by_told None led = tt
-    by_told (Some file) led = (
+    let all : h.more ≡ order = sym (h.grown ∙ ap (λ (ms : List Mark). ms ++ h.more) none) in
+    IfSome_then told (subst (λ (ms : List Mark). Leads script.hints (setting_of script header) ms (stage told calls from ranks) (stage left made count (arrived_all header script.calls runners))) all h.led)
+    (λ file led. (
       led.left,
       led.told,
       subst (λ (stand : Stand). EndsAt script (setting_of script header) e stand order led.left count) (sym led.state) (before_close (between memory refl refl)),
-    )
+    ))
 
 -- bytes and count stayed as they were
 pub ends_same : (script : Script) (s : Setting) (e : StepErr) (held : Option (List ℕ)) (records : ℕ) (ranks : List Arrived) (order : List Mark) (left now : Option (List ℕ)) (count last : ℕ) → now ≡ left → last ≡ count
-    → IfSome held (λ file. (bytes : List ℕ) × (left ≡ Some bytes) × EndsAt script s e (fold (step_to s) (counted file records, ranks) order) order bytes count)
-    → IfSome held (λ file. (bytes : List ℕ) × (now ≡ Some bytes) × EndsAt script s e (fold (step_to s) (counted file records, ranks) order) order bytes last)
+    → Ends script s e held records ranks order left count → Ends script s e held records ranks order now last
 ends_same script s e held records ranks order left now count last l k h =
     subst (λ (m : Option (List ℕ)). Ends script s e held records ranks order m last) (sym l) (subst (λ (n : ℕ). Ends script s e held records ranks order left n) (sym k) h)
 
@@ -81,9 +68,9 @@ pub ends_closing : (script : Script) (header : Header) (e : StepErr) (before ord
     → HasLed script.hints (setting_of script header) before order (stage told calls from ranks) (stage left made count (arrived_all header script.calls runners))
     → BothTold (λ old bytes. IsTorn [] (byte_len (count_width header.version)) old (raised (as_setting header) (counted old count) (most_known runners)).file bytes) left now
     → (last ≡ count) ⊎ (last ≡ (raised (as_setting header) (counted [] count) (most_known runners)).records)
-    → IfSome told (λ file. (bytes : List ℕ) × (now ≡ Some bytes) × EndsAt script (setting_of script header) e (fold (step_to (setting_of script header)) (counted file from, ranks) order) order bytes last)
+    → Ends script (setting_of script header) e told from ranks order now last
 ends_closing script header e before order calls made told left now count from last runners ranks none long over legal h torn records =
-    by_told told (subst (λ (ms : List Mark). Leads script.hints s ms (stage told calls from ranks) (stage left made count (arrived_all header script.calls runners))) all h.led)
+    IfSome_then told (subst (λ (ms : List Mark). Leads script.hints s ms (stage told calls from ranks) (stage left made count (arrived_all header script.calls runners))) all h.led) by_told
   where
     s : Setting
     s = setting_of script header
@@ -107,19 +94,17 @@ ends_closing script header e before order calls made told left now count from la
     at : (file : List ℕ) → left ≡ Some file → BothTold (λ old bytes. IsTorn [] (byte_len (count_width header.version)) old (raised (as_setting header) (counted old count) (most_known runners)).file bytes) (Some file) now
     at file q = subst (λ (m : Option (List ℕ)). BothTold (λ old bytes. IsTorn [] (byte_len (count_width header.version)) old (raised (as_setting header) (counted old count) (most_known runners)).file bytes) m now) q torn
 
-    by_told : (m : Option (List ℕ)) → IfSome m (λ file. IsLed script.hints (setting_of script header) order file (stage m calls from ranks) (stage left made count (arrived_all header script.calls runners)))
-        → IfSome m (λ file. (bytes : List ℕ) × (now ≡ Some bytes) × EndsAt script (setting_of script header) e (fold (step_to (setting_of script header)) (counted file from, ranks) order) order bytes last)
-    by_told None led = tt
-    by_told (Some file) led =
+    by_told : (file : List ℕ) → IsLed script.hints s order file (stage told calls from ranks) (stage left made count (arrived_all header script.calls runners))
+        → (bytes : List ℕ) × (now ≡ Some bytes) × EndsAt script s e (fold (step_to s) (counted file from, ranks) order) order bytes last
+    by_told file led =
         let q = at led.left led.told in (
           q.0,
           q.1,
-          subst (λ (stand : Stand). EndsAt script (setting_of script header) e stand order q.0 last) (sym led.state)
-              (in_close legal (
-                subst (λ (new : Counted). IsTorn [] (byte_len (count_width header.version)) led.left new.file q.0)
-                    (closing_at script header (counted led.left count) runners long over) q.2,
-                by_count led.left records,
-              )),
+          subst (λ (stand : Stand). EndsAt script (setting_of script header) e stand order q.0 last) (sym led.state) (in_close legal (
+            subst (λ (new : Counted). IsTorn [] (byte_len (count_width header.version)) led.left new.file q.0)
+                (closing_at script header (counted led.left count) runners long over) q.2,
+            by_count led.left records,
+          )),
         )
 
 -- the close was done, and there was no memory for the end
@@ -143,11 +128,9 @@ bytes_up s goings (Solo r n) = by_rank (slice_get goings r) refl
     some o = elim o [ None ↦ [] | Some x ↦ covered s.header (puts_of (r, x)) ]
 
     by_rank : (m : Option Going) → slice_get goings r ≡ m → bytes_at s (map (advance s.header) goings) (Solo r n) ≡ bytes_of_mark s goings (Solo r n)
-    by_rank None e =
-        ap (λ (m : Option Arrived). some (elim m [ None ↦ None | Some a ↦ a.1 ])) (entry_map_none (advance s.header) goings r e)
+    by_rank None e = ap (λ (m : Option Arrived). some (elim m [ None ↦ None | Some a ↦ a.1 ])) (entry_map_none (advance s.header) goings r e)
         ∙ sym (ap (λ (m : Option Going). some (elim m [ None ↦ None | Some g ↦ (advance s.header g).1 ])) e)
-    by_rank (Some g) e =
-        ap (λ (m : Option Arrived). some (elim m [ None ↦ None | Some a ↦ a.1 ])) (entry_map (advance s.header) goings r g e)
+    by_rank (Some g) e = ap (λ (m : Option Arrived). some (elim m [ None ↦ None | Some a ↦ a.1 ])) (entry_map (advance s.header) goings r g e)
         ∙ sym (ap (λ (m : Option Going). some (elim m [ None ↦ None | Some g ↦ (advance s.header g).1 ])) e)
 
 closed_up : (s : Setting) (c : Counted) (goings : List Going)
@@ -157,8 +140,7 @@ closed_up s c goings =
 
 pub stood_at : (script : Script) (s : Setting) (e : StepErr) (state : Counted × List Going) (order : List Mark) (left : List ℕ) (records : ℕ) → is_lawful script ≡ true → HasBegun script order
     → EndsAt script s e (gone_up s state) order left records → StoodAt script s e state order left records
-stood_at script s e state order left records lawful begun (before_close (in_step m next l)) =
-    stood_step m next.0 next.1
+stood_at script s e state order left records lawful begun (before_close (in_step m next l)) = stood_step m next.0 next.1
     (subst (λ (own : List ℕ). IsLeft s.header own state.0 (after_mark s state m).0 left records) (bytes_up s state.1 m)
     (subst (λ (new : Counted). IsLeft s.header (bytes_at s (map (advance s.header) state.1) m) state.0 new left records) (ap (λ (stand : Stand). stand.0) (arrival_step s state m)) l))
 stood_at script s e state order left records lawful begun (before_close (between memory l k)) =
@@ -169,8 +151,7 @@ stood_at script s e state order left records lawful begun (in_close legal l) =
 
 pub ends_stood : (script : Script) (header : Header) (e : StepErr) (records : ℕ) (runners : List Runner) (order : List Mark) (held left : Option (List ℕ)) (count : ℕ) → is_lawful script ≡ true
     → records ≡ header.records → runners ≡ replicate script.ranks (first_runner header records) → HasBegun script order
-    → IfSome held (λ file. (bytes : List ℕ) × (left ≡ Some bytes) × EndsAt script (setting_of script header) e
-    (fold (step_to (setting_of script header)) (counted file records, arrived_all header script.calls runners) order) order bytes count)
+    → Ends script (setting_of script header) e held records (arrived_all header script.calls runners) order left count
     → IfSome held (λ file. (bytes : List ℕ) × (left ≡ Some bytes) × StoodAt script (setting_of script header) e (state_after script header file order) order bytes count)
 ends_stood script header e records runners order None left count lawful first all begun h = tt
 ends_stood script header e records runners order (Some file) left count lawful first all begun h =
@@ -209,13 +190,11 @@ cut_answers script header e x records first last before order file answers lawfu
     all_marks = sym (h.grown ∙ ap (λ (ms : List Mark). ms ++ h.more) none)
 
     goings : all_between script.calls first ≡ map (first_going header) script.calls
-    goings =
-        ap (λ (ss : List Runner). all_between script.calls ss) all
+    goings = ap (λ (ss : List Runner). all_between script.calls ss) all
         ∙ ap (λ (n : ℕ). all_between script.calls (replicate n (first_runner header records))) (sym (ranks_lawful script lawful).one_each) ∙ first_goings header records script.calls count
 
     state : fold (after_mark s) (counted file records, all_between script.calls first) h.more ≡ state_after script header file order
-    state =
-        ap (λ (ms : List Mark). fold (after_mark s) (counted file records, all_between script.calls first) ms) all_marks
+    state = ap (λ (ms : List Mark). fold (after_mark s) (counted file records, all_between script.calls first) ms) all_marks
         ∙ (λ i. fold (after_mark s) (counted file (count i), goings i) order)
 
     by_cause : (e ≡ x) ⊎ (e ≡ fault.Memory) → (runner : Runner) → HasAnswers header x g runner.answers → HasAnswers header e g runner.answers
@@ -244,14 +223,8 @@ pub cut_run : (script : Script) (header : Header) (e : StepErr) (order : List Ma
     → ((file : List ℕ) → held ≡ Some file → (r : ℕ) (g : Going) (own : List Answer) → slice_get (state_after script header file order).1 r ≡ Some g → slice_get answers r ≡ Some own → HasAnswers header e g own)
     → IfSome held (λ file. (bytes : List ℕ) × (left ≡ Some bytes) × StoodAt script (setting_of script header) e (state_after script header file order) order bytes count)
     → IfSome held (λ file. (bytes : List ℕ) × (left ≡ Some bytes) × IsCutRun script header file e order bytes count answers)
-cut_run script header e order held left count answers rows some h = by_held held some h
-  where
-    by_held : (m : Option (List ℕ))
-        → ((file : List ℕ) → m ≡ Some file → (r : ℕ) (g : Going) (own : List Answer) → slice_get (state_after script header file order).1 r ≡ Some g → slice_get answers r ≡ Some own → HasAnswers header e g own)
-        → IfSome m (λ file. (bytes : List ℕ) × (left ≡ Some bytes) × StoodAt script (setting_of script header) e (state_after script header file order) order bytes count)
-        → IfSome m (λ file. (bytes : List ℕ) × (left ≡ Some bytes) × IsCutRun script header file e order bytes count answers)
-    by_held None f k = tt
-    by_held (Some file) f k = (k.0, k.1, record { stood = k.2; each_rank = rows; some_answers = f file refl })
+cut_run script header e order None left count answers rows some h = tt
+cut_run script header e order (Some file) left count answers rows some h = (h.0, h.1, record { stood = h.2; each_rank = rows; some_answers = some file refl })
 
 pub first_long : (script : Script) → length script.calls ≡ script.ranks → (header : Header) (records : ℕ) (runners last : List Runner) → runners ≡ replicate script.ranks (first_runner header records) → length last ≡ length runners
     → length last ≡ length script.calls
@@ -274,10 +247,9 @@ no_rows script fault.Disk answers memory none = absurd (not_memory memory)
 -- want of memory may follow another fault
 pub ends_as : (script : Script) (s : Setting) (x e : StepErr) (held : Option (List ℕ)) (records : ℕ) (ranks : List Arrived) (order same : List Mark) (left : Option (List ℕ)) (count : ℕ)
     → (e ≡ x) ⊎ (e ≡ fault.Memory) → same ≡ order
-    → IfSome held (λ file. (bytes : List ℕ) × (left ≡ Some bytes) × EndsAt script s x (fold (step_to s) (counted file records, ranks) order) order bytes count)
-    → IfSome held (λ file. (bytes : List ℕ) × (left ≡ Some bytes) × EndsAt script s e (fold (step_to s) (counted file records, ranks) same) same bytes count)
-ends_as script s x e held records ranks order same left count which is h =
-    subst (λ (ms : List Mark). IfSome held (λ file. (bytes : List ℕ) × (left ≡ Some bytes) × EndsAt script s e (fold (step_to s) (counted file records, ranks) ms) ms bytes count)) (sym is) (by_held held h)
+    → Ends script s x held records ranks order left count → Ends script s e held records ranks same left count
+ends_as script s x e held records ranks order same left count which is h = subst (λ (ms : List Mark). Ends script s e held records ranks ms left count) (sym is)
+    (IfSome_then held h (λ file k. (k.0, k.1, by_end (fold (step_to s) (counted file records, ranks) order) k.0 k.2)))
   where
     by_fault : (e ≡ x) ⊎ (e ≡ fault.Memory) → x ≡ fault.Memory → e ≡ fault.Memory
     by_fault (inl q) k = q ∙ k
@@ -287,8 +259,3 @@ ends_as script s x e held records ranks order same left count which is h =
     by_end stand bytes (before_close (in_step m next l)) = before_close (in_step m next l)
     by_end stand bytes (before_close (between memory l k)) = before_close (between (by_fault which memory) l k)
     by_end stand bytes (in_close legal l) = in_close legal l
-
-    by_held : (m : Option (List ℕ)) → IfSome m (λ file. (bytes : List ℕ) × (left ≡ Some bytes) × EndsAt script s x (fold (step_to s) (counted file records, ranks) order) order bytes count)
-        → IfSome m (λ file. (bytes : List ℕ) × (left ≡ Some bytes) × EndsAt script s e (fold (step_to s) (counted file records, ranks) order) order bytes count)
-    by_held None k = tt
-    by_held (Some file) k = (k.0, k.1, by_end (fold (step_to s) (counted file records, ranks) order) k.0 k.2)

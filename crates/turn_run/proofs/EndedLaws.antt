@@ -54,8 +54,7 @@ pub ended_err : {T : Type 0} (header : Header) (ends : List RankEnd) (before : O
     → known ≡ most_known_of ends
     → OnErr r (BothTold (λ old now. IsTorn [] (byte_len (count_width header.version)) old (raised (as_setting header) (counted old count) known).file now) held left) → OnErr r (records ≡ count)
     → EndedAt header ends before e (contents_of held count) (contents_of left records)
-ended_err {T} header ends before r e held left count records known is none whole same torn k =
-    ended_refused header ends before e held left count records known none whole same
+ended_err {T} header ends before r e held left count records known is none whole same torn k = ended_refused header ends before e held left count records known none whole same
     (subst (λ (q : Result T StepErr). OnErr q (BothTold (λ old now. IsTorn [] (byte_len (count_width header.version)) old (raised (as_setting header) (counted old count) known).file now) held left)) is torn)
     (subst (λ (q : Result T StepErr). OnErr q (records ≡ count)) is k)
 

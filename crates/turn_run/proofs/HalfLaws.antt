@@ -45,8 +45,7 @@ lens_of_none f slice batches table same none rows =
 
 pub calls_of_none : (hints : Hints) (s : Setting) (slice batches : List Batch) (calls : Option (List DiskCall)) → slice ≡ batches → have_no_gets slice
     → calls ≡ with_end calls (flat_map loads (collective_windows hints (get_bytes s (gets_in batches))))
-calls_of_none hints s slice batches calls same none =
-    no_calls calls (flat_map loads (collective_windows hints (get_bytes s (gets_in batches))))
+calls_of_none hints s slice batches calls same none = no_calls calls (flat_map loads (collective_windows hints (get_bytes s (gets_in batches))))
     (ap (λ (gets : List Post). flat_map loads (collective_windows hints (get_bytes s gets))) (ap gets_in (sym same) ∙ no_gets slice none) ∙ ap (flat_map loads) (none_windows hints))
 
 -- ---- no puts
@@ -92,8 +91,7 @@ needed_of_none s puts none = ap (needed_now s) none ∙ no_need s
 
 pub put_calls_of_none : (s : Setting) (cut : List ℕ → List (List ℕ)) (puts : Puts) (len r : ℕ) (calls : Option (List DiskCall)) → puts ≡ []
     → calls ≡ with_end calls (put_calls s cut puts len ++ store_records s (nat_lt r r))
-put_calls_of_none s cut puts len r calls none =
-    no_calls calls (put_calls s cut puts len ++ store_records s (nat_lt r r))
+put_calls_of_none s cut puts len r calls none = no_calls calls (put_calls s cut puts len ++ store_records s (nat_lt r r))
     (ap (λ (t : Bool). put_calls s cut puts len ++ store_records s t) (not_below r r (omega arith)) ∙ append-nil (put_calls s cut puts len) ∙ ap (λ (ps : Puts). put_calls s cut ps len) none ∙ none_put)
   where
     none_put : put_calls s cut [] len ≡ []

@@ -14,8 +14,7 @@ taken_by {script} lawful all met e f = record { long = (ranks_lawful script lawf
 
 pub table_long : (header : Header) (runners : List Runner) (batches : List Batch) (table : List (List (List ℕ))) → HaveMet runners → batches ≡ batches_of (held_offers runners)
     → FitsGets header batches table → length table ≡ length runners
-table_long header runners batches table met e f =
-    sym (length-map table (λ (blobs : List (List ℕ)). map (λ blob. length blob) blobs)) ∙ ap (λ (xs : List (List ℕ)). length xs) f
+table_long header runners batches table met e f = sym (length-map table (λ (blobs : List (List ℕ)). map (λ blob. length blob) blobs)) ∙ ap (λ (xs : List (List ℕ)). length xs) f
     ∙ length-map batches (λ (b : Batch). map (wanted header) b.gets) ∙ ap (λ (bs : List Batch). length bs) e
     ∙ length-map (held_offers runners) (λ (o : Offer). o.batch) ∙ held_long runners met
 
@@ -24,8 +23,7 @@ pub to_hear : {script : Script} {header : Header} {len : ℕ} {order : List Mark
     → FitsGets header batches table → (r : ℕ) (runner : Runner) (blobs : List (List ℕ)) → slice_get mid r ≡ Some runner → slice_get table r ≡ Some blobs → IsToHear runner blobs
 to_hear {script} {header} {order} {runners} {mid} {batches} table all met come freed e f r runner blobs h t =
     let a = entry_below runners r (within (slice_get_within mid r runner h) freed.long) in
-    let m = meets_at all met come r a.0 a.1 in
-    let o = m.0 in
+    let m = meets_at all met come r a.0 a.1 in let o = m.0 in
     let keeps = call_waits script order r (asking (calls_of script r) a.0) o m.1.way in
     let rank = (freed.each r a.0 runner a.1 h).rank in
     let own : slice_get batches r ≡ Some o.batch = ap (λ (bs : List Batch). slice_get bs r) e
@@ -60,8 +58,7 @@ are_done : {script : Script} {header : Header} {len : ℕ} {order : List Mark} {
     → AreRunners script header len order runners → HaveMet runners → HaveArrived script runners → AreFreed runners mid → AreHeard pair n table mid now → AreDone header pair n runners now table
 are_done {runners} {mid} {pair} {n} {table} all met come freed heard r a b blobs g h t =
     let m = entry_below mid r (within (slice_get_within runners r a g) freed.long) in
-    let o = meets_at all met come r a g in
-    let free = freed.each r a m.0 g m.1 in
+    let o = meets_at all met come r a g in let free = freed.each r a m.0 g m.1 in
     let said = heard.each r m.0 b blobs m.1 h t in (
       o.0,
       record {
@@ -83,8 +80,7 @@ have_done all met come freed heard wide = record { long = heard.long ∙ freed.l
 
 pub placed_free : (script : Script) (header : Header) (order : List Mark) (r : ℕ) (own : List _) (b : Runner) → b.held ≡ None → IsOnWay script order r (between own b) None
     → IsPlaced script header order r (going_of own b) b.held
-placed_free script header order r own b e w =
-    subst (λ (m : _). IsPlaced script header order r (elim m [ None ↦ between own b | Some o ↦ asking own b ]) m) (sym e) w
+placed_free script header order r own b e w = subst (λ (m : _). IsPlaced script header order r (elim m [ None ↦ between own b | Some o ↦ asking own b ]) m) (sym e) w
 
 -- ---- all ranks after the meeting
 
@@ -96,10 +92,8 @@ runners_after {script} {header} {before} {len} {order} {runners} {mid} {now} {pa
       all = heard.long ∙ freed.long ∙ all.all;
       known_ranks = meeting_of_known script.ranks (meetings order) order all.known_ranks;
       each = λ r b h.
-          let a = entry_below runners r (within r b h) in
-          let row = entry_below table r (across r b h) in
-          let d = done r a.0 b row.0 a.1 h row.1 in
-          let m = meets_at all met come r a.0 a.1 in
+          let a = entry_below runners r (within r b h) in let row = entry_below table r (across r b h) in
+          let d = done r a.0 b row.0 a.1 h row.1 in let m = meets_at all met come r a.0 a.1 in
           record {
             of_header = d.1.same_header ∙ d.1.of_header;
             placed = placed_free script header (order ++ Meet (meetings order) ∷ []) r (calls_of script r) b d.1.free
@@ -107,10 +101,8 @@ runners_after {script} {header} {before} {len} {order} {runners} {mid} {now} {pa
             asked = subst (λ (o : Option Offer). IfSome o (IsAsked header b.rank.state.known)) (sym d.1.free) tt;
           };
       known = λ r b h.
-          let a = entry_below runners r (within r b h) in
-          let row = entry_below table r (across r b h) in
-          let d = done r a.0 b row.0 a.1 h row.1 in
-          let m = meets_at all met come r a.0 a.1 in
+          let a = entry_below runners r (within r b h) in let row = entry_below table r (across r b h) in
+          let d = done r a.0 b row.0 a.1 h row.1 in let m = meets_at all met come r a.0 a.1 in
           let waits = call_waits script order r (asking (calls_of script r) a.0) m.0 m.1.way in
           let keeps = hears_keeps header a.0.rank.state b.rank.state (reply_of pair n row.0) d.1.heard.answer waits.0 (said a.0 b (reply_of pair n row.0) d.1.of_header d.1.heard) in
           subst (λ (k : ℕ). IsCount header len k) (sym keeps.0)
@@ -131,20 +123,16 @@ runners_after {script} {header} {before} {len} {order} {runners} {mid} {now} {pa
 
     on_way : (r : ℕ) (a b : Runner) (o : Offer) (reply : Reply) → IsOnWay script order r (asking (calls_of script r) a) (Some o) → a.rank.header ≡ header → HasHeard a b reply
         → IsOnWay script (order ++ Meet (meetings order) ∷ []) r (between (calls_of script r) b) None
-    on_way r a b o reply w f h =
-        subst (λ (s : Going). IsOnWay script (order ++ Meet (meetings order) ∷ []) r s None)
+    on_way r a b o reply w f h = subst (λ (s : Going). IsOnWay script (order ++ Meet (meetings order) ∷ []) r s None)
         (answered_is (calls_of script r) a.rank.state b.rank.state a.answers b.answers h.answer h.answers)
         (way_hears script order r header (asking (calls_of script r) a) b.rank.state o reply h.answer w (said a b reply f h))
 
 pub free_after : {runners mid now : List Runner} {pair : Option Pair} {n : ℕ} {table : List (List (List ℕ))}
     → AreFreed runners mid → AreHeard pair n table mid now → length table ≡ length runners → (r : ℕ) (b : Runner) → slice_get now r ≡ Some b → b.held ≡ None
 free_after {runners} {mid} {now} {table} freed heard wide r b h =
-    let l = slice_get_within now r b h in
-    let p = heard.long in
-    let q = freed.long in
-    let a = entry_below runners r (omega arith) in
-    let m = entry_below mid r (omega arith) in
-    let row = entry_below table r (omega arith) in
+    let l = slice_get_within now r b h in let p = heard.long in
+    let q = freed.long in let a = entry_below runners r (omega arith) in
+    let m = entry_below mid r (omega arith) in let row = entry_below table r (omega arith) in
     (heard.each r m.0 b row.0 m.1 h row.1).held ∙ (freed.each r a.0 m.0 a.1 m.1).held
 
 -- ---- the marks
@@ -154,13 +142,10 @@ pub begun_after : {script : Script} {header : Header} {len : ℕ} {order now_ord
 begun_after {script} {header} {order} {runners} all met come e = subst (λ (ms : List Mark). HasBegun script ms) (sym e) (record {
   known_ranks = meeting_of_known script.ranks (meetings order) order all.known_ranks;
   each_rank = λ r l.
-      let long = all.all in
-      let a = entry_below runners r (omega arith) in
-      let m = meets_at all met come r a.0 a.1 in
-      let none = reply_of None 0 [] in
+      let long = all.all in let a = entry_below runners r (omega arith) in
+      let m = meets_at all met come r a.0 a.1 in let none = reply_of None 0 [] in
       let said = hear header a.0.rank.state none in
-      way_rest script (order ++ Meet (meetings order) ∷ []) r _ None
-      (way_hears script order r header (asking (calls_of script r) a.0) said.0 m.0 none said.1 m.1.way refl);
+      way_rest script (order ++ Meet (meetings order) ∷ []) r _ None (way_hears script order r header (asking (calls_of script r) a.0) said.0 m.0 none said.1 m.1.way refl);
 })
 
 pub begun_still : {script : Script} {header : Header} {len : ℕ} {order now_order : List Mark} {runners : List Runner} → AreRunners script header len order runners → now_order ≡ order → HasBegun script now_order

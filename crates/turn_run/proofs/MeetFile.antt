@@ -1,5 +1,5 @@
 -- The file, its record count and its device calls in a meeting.
-use Rattle.turn_run.proofs.Words.{◌≡◌, ℕ, ◌<◌, ◌≤◌, refl, sym, ◌∙◌, ap, subst, List, [], ◌++◌, length, max, Bool, true, false, cond, Option, Some, None, inl, inr, append_assoc, arith, nat_tests, append-nil, flat_map, nat_lt, if◌then◌else◌, IfSome, Pair, Batch, Post, Hints, DiskCall, after, with_end, needed_now, collective_windows, get_bytes, loads, put_calls, store_records, Counted, Setting, after_puts, end_for, needs, raised, told, is_sound, with_records, Puts, after_round, counted, gets_in, puts_in, ArePuts, IsCount, IsRise, met, met_calls, no_need, raised_records, with_end-with_end}
+use Rattle.turn_run.proofs.Words.{◌≡◌, ℕ, ◌<◌, ◌≤◌, refl, sym, ◌∙◌, ap, subst, List, [], ◌++◌, length, max, Bool, true, false, cond, Option, Some, None, inl, inr, append_assoc, arith, nat_tests, append-nil, flat_map, nat_lt, if◌then◌else◌, IfSome, Pair, Batch, Post, Hints, DiskCall, after, with_end, needed_now, collective_windows, get_bytes, loads, put_calls, store_records, Counted, Setting, end_for, needs, raised, told, is_sound, with_records, Puts, after_round, counted, gets_in, puts_in, ArePuts, IsCount, IsRise, met, met_calls, no_need, raised_records, with_end-with_end}
 use Rattle.std.specs.Prelude.{◌⊎◌}
 use Rattle.turn_run.proofs.CountLaws.{count_longer, count_max, rise_longer}
 use Rattle.turn_run.proofs.MeetPosts.{needed_rise}
@@ -20,8 +20,7 @@ round_count s before len r n puts h are k l room e =
     subst (λ (m : ℕ). IsCount s.header len m) (sym e) (count_max s.header len r (needed_now s puts) (count_longer s.header before len r l k) (puts_rise s len puts h are room))
 
 pub met_count : (s : Setting) (before len last r n known : ℕ) → IsCount s.header len r → before ≤ len → IsRise s.header before known → last ≡ len → n ≡ max r known → IsCount s.header last n
-met_count s before len last r n known k l rise same e =
-    subst (λ (m : ℕ). IsCount s.header last m) (sym e)
+met_count s before len last r n known k l rise same e = subst (λ (m : ℕ). IsCount s.header last m) (sym e)
     (count_max s.header last r known (count_longer s.header len last r (omega arith) k) (rise_longer s.header before last known (omega arith) rise))
 
 -- what the puts need, or what the ranks know, is 0
@@ -47,12 +46,10 @@ twice_raised s c r n known f = by_order (nat_lt c.records n) refl (nat_lt r know
     by_order : (t : Bool) → nat_lt c.records n ≡ t → (u : Bool) → nat_lt r known ≡ u
         → cond u (with_records s.header.version (cond t (record { file = with_records s.header.version c.file n; records = n }) c).file known)
         (cond t (record { file = with_records s.header.version c.file n; records = n }) c).file ≡ (raised s c (max n known)).file
-    by_order true e true g =
-        counted_twice s.header.version c.file n known
+    by_order true e true g = counted_twice s.header.version c.file n known
         ∙ ap (λ (t : Bool). (cond t (record { file = with_records s.header.version c.file known; records = known }) c).file) (sym (above known (grind (arith, nat_tests))))
         ∙ ap (λ (m : ℕ). (raised s c m).file) (grind (arith, nat_tests))
-    by_order true e false g =
-        ap (λ (t : Bool). (cond t (record { file = with_records s.header.version c.file n; records = n }) c).file) (sym e)
+    by_order true e false g = ap (λ (t : Bool). (cond t (record { file = with_records s.header.version c.file n; records = n }) c).file) (sym e)
         ∙ ap (λ (m : ℕ). (raised s c m).file) (grind (arith, nat_tests))
     by_order false e true g =
         ap (λ (t : Bool). (cond t (record { file = with_records s.header.version c.file known; records = known }) c).file) (sym (above known (grind (arith, nat_tests))))
@@ -67,8 +64,7 @@ stored_once s c r n known (inl e) f =
     ∙ append-nil (store_records s (nat_lt c.records r)) ∙ ap (λ (m : ℕ). store_records s (nat_lt c.records m)) same
 stored_once s c r n known (inr e) f =
     let count : r ≡ c.records = omega arith in
-    ap (λ (t : Bool). store_records s t ++ store_records s (nat_lt r known)) (not_below c.records r (omega arith))
-    ∙ ap (λ (m : ℕ). store_records s (nat_lt m known)) count
+    ap (λ (t : Bool). store_records s t ++ store_records s (nat_lt r known)) (not_below c.records r (omega arith)) ∙ ap (λ (m : ℕ). store_records s (nat_lt m known)) count
     ∙ ap (λ (t : Bool). store_records s t) (above ∙ ap (nat_lt c.records) (sym (raised_records s c (max n known))))
   where
     above : nat_lt c.records known ≡ nat_lt c.records (max c.records (max n known))
@@ -84,31 +80,22 @@ pub met_bytes : (s : Setting) (batches : List Batch) (r n known : ℕ) (held mid
     → mid ≡ after (λ file. (after_round s (puts_in batches) (counted file r)).file) held → n ≡ max r (needed_now s (puts_in batches))
     → late ≡ after (λ file. if nat_lt n known then with_records s.header.version file known else file) mid → last ≡ late
     → last ≡ after (λ file. (met s batches known (counted file r)).file) held
-met_bytes s batches r n known None mid late last p e k g =
-    g ∙ k ∙ ap (after (λ file. if nat_lt n known then with_records s.header.version file known else file)) p
-met_bytes s batches r n known (Some file) mid late last p e k g =
-    let puts = puts_in batches in
-    g ∙ k ∙ ap (after (λ file. if nat_lt n known then with_records s.header.version file known else file)) p
-    ∙ ap (λ (bytes : List ℕ). Some bytes) (twice_raised s (counted (after_puts s puts (told s puts) file) r) n (needed_now s puts) known e)
+met_bytes s batches r n known None mid late last p e k g = g ∙ k ∙ ap (after (λ file. if nat_lt n known then with_records s.header.version file known else file)) p
+met_bytes s batches r n known (Some file) mid late last p e k g = g ∙ k ∙ ap (after (λ file. if nat_lt n known then with_records s.header.version file known else file)) p
+    ∙ ap (λ (bytes : List ℕ). Some bytes) (twice_raised s _ _ _ known e)
 
-pub met_called : (hints : Hints) (s : Setting) (batches : List Batch) (r n known len : ℕ) (held : Option (List ℕ)) (calls mid late last : Option (List DiskCall)) → (known ≡ 0) ⊎ (puts_in batches ≡ [])
-    → IfSome held (λ file. length file ≡ len)
+pub met_called : (hints : Hints) (s : Setting) (batches : List Batch) (r n known len : ℕ) (held : Option (List ℕ)) (calls mid late last : Option (List DiskCall))
+    → (known ≡ 0) ⊎ (puts_in batches ≡ []) → IfSome held (λ file. length file ≡ len)
     → mid ≡ with_end calls (put_calls s (collective_windows hints) (puts_in batches) len ++ store_records s (nat_lt r n)) → n ≡ max r (needed_now s (puts_in batches))
-    → late ≡ with_end mid (store_records s (nat_lt n known))
-    → last ≡ with_end late (flat_map loads (collective_windows hints (get_bytes s (gets_in batches))))
+    → late ≡ with_end mid (store_records s (nat_lt n known)) → last ≡ with_end late (flat_map loads (collective_windows hints (get_bytes s (gets_in batches))))
     → IfSome held (λ file. last ≡ with_end calls (met_calls hints s batches known (counted file r)))
 met_called hints s batches r n known len None calls mid late last one l p e k g = tt
 met_called hints s batches r n known len (Some file) calls mid late last one l p e k g =
-    let puts = puts_in batches in
-    let front = put_calls s (collective_windows hints) puts len in
+    let puts = puts_in batches in let front = put_calls s (collective_windows hints) puts len in
     let gets = flat_map loads (collective_windows hints (get_bytes s (gets_in batches))) in
-    let first = store_records s (nat_lt r n) in
-    let second = store_records s (nat_lt n known) in
-    let c = counted (after_puts s puts (told s puts) file) r in
-    let once = stored_once s c n (needed_now s puts) known (one_raises s puts known one) e in
+    let first = store_records s (nat_lt r n) in let second = store_records s (nat_lt n known) in
+    let once = stored_once s _ _ _ _ (one_raises s _ _ one) e in
     g ∙ ap (λ (told : Option (List DiskCall)). with_end told gets) (k ∙ ap (λ (told : Option (List DiskCall)). with_end told second) p)
-    ∙ ap (λ (told : Option (List DiskCall)). with_end told gets) (with_end-with_end calls (front ++ first) second)
-    ∙ with_end-with_end calls ((front ++ first) ++ second) gets
-    ∙ ap (λ (cs : List DiskCall). with_end calls (cs ++ gets)) (append_assoc front first second)
-    ∙ ap (λ (cs : List DiskCall). with_end calls ((front ++ cs) ++ gets)) once
+    ∙ ap (λ (told : Option (List DiskCall)). with_end told gets) (with_end-with_end calls (front ++ first) second) ∙ with_end-with_end calls ((front ++ first) ++ second) gets
+    ∙ ap (λ (cs : List DiskCall). with_end calls (cs ++ gets)) (append_assoc front first second) ∙ ap (λ (cs : List DiskCall). with_end calls ((front ++ cs) ++ gets)) once
     ∙ ap (λ (m : ℕ). with_end calls ((put_calls s (collective_windows hints) puts m ++ store_records s (nat_lt r (met s batches known (counted file r)).records)) ++ gets)) (sym l)

@@ -95,8 +95,7 @@ puts_joined header xs ys h k p i = by_part (in_either xs ys p i)
 
 puts_brought : (header : Header) (len first : ℕ) (offers : List Offer) → AllByRecursion (IsFit header len) offers → ArePuts header (puts_from first offers)
 puts_brought header len first [] all = λ p i. absurd i
-puts_brought header len first (o ∷ offers) all =
-    puts_joined header (map (λ post. (first, post)) o.batch.puts) (puts_from (first + 1) offers)
+puts_brought header len first (o ∷ offers) all = puts_joined header (map (λ post. (first, post)) o.batch.puts) (puts_from (first + 1) offers)
     (ranked_puts header first o.batch.puts (put_of header o all.0.sound)) (puts_brought header len (first + 1) offers all.1)
 
 gets_joined : (header : Header) (len : ℕ) (xs ys : List Post) → AreGets header len xs → AreGets header len ys → AreGets header len (xs ++ ys)
@@ -114,8 +113,7 @@ gets_brought header len (o ∷ offers) all =
 few_brought : (header : Header) (len : ℕ) (offers : List Offer) → AllByRecursion (IsFit header len) offers → (b : Batch) → In (batches_of offers) b → posts_in b < 2 ^ 32
 few_brought header len [] all b i = absurd i
 few_brought header len (o ∷ offers) all b (inl e) =
-    let few = all.0.few in
-    let small : posts_in o.batch < 2 ^ 32 = omega arith in
+    let few = all.0.few in let small : posts_in o.batch < 2 ^ 32 = omega arith in
     subst (λ (c : Batch). posts_in c < 2 ^ 32) e small
 few_brought header len (o ∷ offers) all b (inr i) = few_brought header len offers all.1 b i
 
@@ -143,8 +141,7 @@ own_joined first xs ys own later one two i j g h k l x e f same a b = by_parts (
   where
     apart : (p q : Holding) (n m : ℕ) → slice_get xs n ≡ Some p → slice_get ys m ≡ Some q → p.0 ≡ q.0 → ⊥
     apart p q n m u v w =
-        let low = own n p u in
-        let high = later m q v in
+        let low = own n p u in let high = later m q v in
         let rank : p.0.0 ≡ q.0.0 = ap (λ (z : ℕ × ℕ). z.0) w in
         absurd (omega arith)
 
@@ -154,10 +151,8 @@ own_joined first xs ys own later one two i j g h k l x e f same a b = by_parts (
     by_parts (inl u) (inr v) = absurd (apart g h i v.0 u v.1.1 same)
     by_parts (inr u) (inl v) = absurd (apart h g j u.0 v u.1.1 (sym same))
     by_parts (inr u) (inr v) =
-        let s = two u.0 v.0 g h k l x u.1.1 v.1.1 same a b in
-        let p = u.1.0 in
-        let q = v.1.0 in
-        let r = s.0 in
+        let s = two u.0 v.0 g h k l x u.1.1 v.1.1 same a b in let p = u.1.0 in
+        let q = v.1.0 in let r = s.0 in
         (omega arith, s.1)
 
 own_keys : (header : Header) (first : ℕ) (posts : List Post) → OwnKeys first (holdings header (map (λ post. (first, post)) posts))
@@ -217,16 +212,12 @@ rise_brought header len (o ∷ offers) all =
 
 none_known : (kind : OfferKind) (offers : List Offer) → AllByRecursion (λ o. o.kind ≡ kind) offers → raises kind ≡ false → known_of offers ≡ 0
 none_known kind [] all e = refl
-none_known kind (o ∷ offers) all e =
-    let own = unraised o.kind o.known (ap raises all.0 ∙ e) in
-    let others = none_known kind offers all.1 e in
-    omega arith
+none_known kind (o ∷ offers) all e = let own = unraised o.kind o.known (ap raises all.0 ∙ e) in let others = none_known kind offers all.1 e in omega arith
 
 none_put : (first : ℕ) (kind : OfferKind) (offers : List Offer) → AllByRecursion IsSingleOffer offers → AllByRecursion (λ o. o.kind ≡ kind) offers
     → raises kind ≡ true → puts_from first offers ≡ []
 none_put first kind [] all same e = refl
-none_put first kind (o ∷ offers) all same e =
-    ap (λ (posts : List Post). map (λ post. (first, post)) posts ++ puts_from (first + 1) offers) (all.0 (ap raises same.0 ∙ e))
+none_put first kind (o ∷ offers) all same e = ap (λ (posts : List Post). map (λ post. (first, post)) posts ++ puts_from (first + 1) offers) (all.0 (ap raises same.0 ∙ e))
     ∙ none_put (first + 1) kind offers all.1 same.1 e
 
 pub one_rise : (kind : OfferKind) (offers : List Offer) → AllByRecursion IsSingleOffer offers → AllByRecursion (λ o. o.kind ≡ kind) offers
@@ -272,8 +263,7 @@ one_kind {script} {header} {len} {order} {runners} all met come = by_list runner
 pub meets_job : {script : Script} {header : Header} {len : ℕ} {order : List Mark} {runners : List Runner} {batches : List Batch} → is_lawful script ≡ true
     → AreRunners script header len order runners → HaveMet runners → HaveArrived script runners → batches ≡ batches_of (held_offers runners) → IsJob header len batches
 meets_job {script} {header} {len} {runners} lawful all met come f =
-    let most = (ranks_lawful script lawful).most in
-    let long = all.all in
+    let most = (ranks_lawful script lawful).most in let long = all.all in
     let held = held_long runners met in
     subst (λ (bs : List Batch). IsJob header len bs) (sym f) (offers_job header len (held_offers runners) (omega arith) (all_brought all met come))
 

@@ -52,8 +52,7 @@ put_of header o h p i = let q = h.puts p i in record { accepted = (o.known, Put,
 
 pub get_of : (header : Header) (len : ℕ) (o : Offer) → offered.IsSoundOffer header o → IsCount header len o.known → AreGets header len o.batch.gets
 get_of header len o h k p i =
-    let q = h.gets p i in
-    let long = k.long in
+    let q = h.gets p i in let long = k.long in
     let below = end_grows header (header_len header) (needed header p) o.known (get_needed header p o.known q) in
     record { accepted = (o.known, Get, q); there = omega arith }
 
@@ -69,17 +68,14 @@ pub needed_rise : {A : Type 0} (header : Header) (len : ℕ) (f : A → Post) (x
     → end_of header (header_len header) (greatest (map (λ x. needed header (f x)) xs)) ≤ len → IsRise header len (greatest (map (λ x. needed header (f x)) xs))
 needed_rise header len f [] h puts l = inl refl
 needed_rise header len f (x ∷ xs) h puts l =
-    let own = needed header (f x) in
-    let others = greatest (map (λ y. needed header (f y)) xs) in
+    let own = needed header (f x) in let others = greatest (map (λ y. needed header (f y)) xs) in
     let first = end_grows header (header_len header) own (max own others) (omega arith) in
     let rest = end_grows header (header_len header) others (max own others) (omega arith) in
-    rise_max header len own others (inr (put_count header len (f x) h (puts x (inl refl)) (omega arith)))
-    (needed_rise header len f xs h (λ y i. puts y (inr i)) (omega arith))
+    rise_max header len own others (inr (put_count header len (f x) h (puts x (inl refl)) (omega arith))) (needed_rise header len f xs h (λ y i. puts y (inr i)) (omega arith))
 
 pub needed_solo : (s : Setting) (r : ℕ) (posts : List Post) (end : PutEnd) → pair_of end ≡ told s (map (λ p. (r, p)) posts)
     → needed_after s.header posts end ≡ needed_now s (map (λ p. (r, p)) posts)
-needed_solo s r posts Done e =
-    ap greatest (sym (map_map (λ (p : ℕ × Post). needed s.header p.1) (λ (p : Post). (r, p)) posts)) ∙ ap (needs s (map (λ p. (r, p)) posts)) e
+needed_solo s r posts Done e = ap greatest (sym (map_map (λ (p : ℕ × Post). needed s.header p.1) (λ (p : Post). (r, p)) posts)) ∙ ap (needs s (map (λ p. (r, p)) posts)) e
 needed_solo s r posts (Overlap pair) e = ap (needs s (map (λ p. (r, p)) posts)) e
 
 pub needed_risen : (header : Header) (len : ℕ) (posts : List Post) (end : PutEnd) → is_sound header ≡ true → ((p : Post) → In posts p → IsPut header p)

@@ -8,7 +8,6 @@ pub solo_replied : (s : Setting) (r n : ℕ) (o : Offer) (end : PutEnd) (pair : 
     → IfSome held (λ file. reply_of pair n blobs ≡ (solo s r o (counted file 0)).1)
 solo_replied s r n o end pair None mid blobs e p m b g = tt
 solo_replied s r n o end pair (Some file) mid blobs e p m b g =
-    let known = m ∙ ap (max o.known) (needed_solo s r o.batch.puts end e) in
-    let both = p ∙ e in
+    let known = m ∙ ap (max o.known) (needed_solo s r o.batch.puts end e) in let both = p ∙ e in
     let got = if_some_at (λ left. blobs ≡ map (get_post s left) o.batch.gets) mid (after_puts s (puts_of (r, o)) (told s (puts_of (r, o))) file) b g in
     λ i. reply_of (both i) (known i) (got i)

@@ -23,8 +23,7 @@ met_is s offers batches known c e f =
 pub met_calls_are : (hints : Hints) (s : Setting) (offers : List Offer) (batches : List Batch) (known : ℕ) (c : Counted) → batches ≡ batches_of offers → known ≡ known_of offers
     → meeting_calls hints s offers c ≡ met_calls hints s batches known c
 met_calls_are hints s offers batches known c e f =
-    let puts = puts_same 0 offers ∙ ap puts_in (sym e) in
-    let gets = gets_same offers ∙ ap gets_in (sym e) in
+    let puts = puts_same 0 offers ∙ ap puts_in (sym e) in let gets = gets_same offers ∙ ap gets_in (sym e) in
     let file = met_is s offers batches known c e f in
     λ i. put_calls s (collective_windows hints) (puts i) (length c.file) ++ store_records s (nat_lt c.records (file i).records)
     ++ flat_map loads (collective_windows hints (get_bytes s (gets i)))
@@ -39,11 +38,9 @@ replies_are s offers batches known n c pair table e f p r t =
     let both : told s (flat_map puts_of (enumerate_from 0 offers)) ≡ pair = ap (told s) (puts_same 0 offers ∙ ap puts_in (sym e)) ∙ sym p in
     let count : (meeting s offers c).0.records ≡ n = ap (λ (d : Counted). d.records) file ∙ sym r in
     let got = λ (o : Offer). map (get_post s (met s batches known c).file) o.batch.gets in
-    (λ i. map (λ o. reply_of (both i) (count i) (map (get_post s (file i).file) o.batch.gets)) offers)
-    ∙ sym (map_map (reply_of pair n) got offers)
+    (λ i. map (λ o. reply_of (both i) (count i) (map (get_post s (file i).file) o.batch.gets)) offers) ∙ sym (map_map (reply_of pair n) got offers)
     ∙ ap (map (reply_of pair n)) (sym (map_map (λ (b : Batch). map (get_post s (met s batches known c).file) b.gets) (λ (o : Offer). o.batch) offers))
-    ∙ ap (λ (bs : List Batch). map (reply_of pair n) (map (λ b. map (get_post s (met s batches known c).file) b.gets) bs)) (sym e)
-    ∙ ap (map (reply_of pair n)) (sym t)
+    ∙ ap (λ (bs : List Batch). map (reply_of pair n) (map (λ b. map (get_post s (met s batches known c).file) b.gets) bs)) (sym e) ∙ ap (map (reply_of pair n)) (sym t)
 
 -- ---- the ranks
 
@@ -56,8 +53,7 @@ pub record IsDone (header : Header) (reply : Reply) (o : Offer) (a b : Runner) :
   pub heard : HasHeard a b reply
 
 pub arrived_done : (header : Header) (own : List Call) (reply : Reply) (o : Offer) (a b : Runner) → IsDone header reply o a b → heard header (arrived header own a, reply) ≡ arrived header own b
-arrived_done header own reply o a b d =
-    ap (λ (x : Arrived). heard header (x, reply)) (arrived_held header own a o d.held)
+arrived_done header own reply o a b d = ap (λ (x : Arrived). heard header (x, reply)) (arrived_held header own a o d.held)
     ∙ ap (advance header) (sym (heard_runner header own a b reply d.of_header d.heard)) ∙ sym (arrived_free header own b d.free)
 
 abbrev pub AreDone : Header → Option Pair → ℕ → List Runner → List Runner → List (List (List ℕ)) → Type 0
@@ -95,8 +91,7 @@ offers_are header (own ∷ calls) [] l m = absurd (omega arith)
 offers_are header (own ∷ calls) (x ∷ runners) l m =
     let p = value_of_some x.held (m 0 x refl) in
     ap (λ (a : Arrived). offers_of (a ∷ arrived_all header calls runners)) (arrived_held header own x p.0 p.1)
-    ∙ ap (λ (os : List Offer). p.0 ∷ os) (offers_are header calls runners (omega arith) (λ q s g. m (suc q) s g))
-    ∙ sym (held_first x runners p.0 p.1)
+    ∙ ap (λ (os : List Offer). p.0 ∷ os) (offers_are header calls runners (omega arith) (λ q s g. m (suc q) s g)) ∙ sym (held_first x runners p.0 p.1)
 
 -- ---- the step
 
@@ -135,10 +130,8 @@ pub step_over : {s : Setting} {calls : List (List Call)} {runners now : List Run
     → IsTaken calls runners batches known → HaveDone s.header pair n runners now table → HasGiven s batches known r n (Some file) left pair table
     → step_to s (counted file r, arrived_all s.header calls runners) (Meet k) ≡ (counted (met s batches known (counted file r)).file n, arrived_all s.header calls now)
 step_over {s} {calls} {runners} {now} {batches} {known} {r} {n} {file} {left} {pair} {table} k t d h =
-    let ranks = arrived_all s.header calls runners in
-    let c = counted file r in
-    let replies = replies_of t h in
-    let count = h.count ∙ sym (met_count s batches known file r) in
+    let ranks = arrived_all s.header calls runners in let c = counted file r in
+    let replies = replies_of t h in let count = h.count ∙ sym (met_count s batches known file r) in
     let done = ranks_done s.header pair n calls runners now table d in
     (λ i. (sym (meet_at s k c t) i, map (heard s.header) (zip ranks (replies i)))) ∙ (λ i. (counted (met s batches known c).file (sym count i), done i))
 
@@ -161,8 +154,7 @@ pub meeting_alike : (s : Setting) {calls : List (List Call)} {runners now : List
     → IsTaken calls runners batches known → HaveDone s.header pair n runners now table → pair ≡ told s (puts_in batches) → n ≡ max r (max (needed_now s (puts_in batches)) known)
     → FitsGets s.header batches table → LeadsAlike s (Meet k ∷ []) r (arrived_all s.header calls runners) n (arrived_all s.header calls now)
 meeting_alike s {calls} {runners} {now} {batches} {known} {r} {n} k {pair} {table} t d shared count fits stand like =
-    let offers = offers_are s.header calls runners t.long t.hold in
-    let held = held_offers runners in
+    let offers = offers_are s.header calls runners t.long t.hold in let held = held_offers runners in
     let c = stand.0 in
     let records_is : (meeting s held c).0.records ≡ n =
     ap (λ (x : Counted). x.records) (met_is s held batches known c t.offered t.most) ∙ met_count s batches known c.file c.records

@@ -22,13 +22,11 @@ answered_is own rank next answers more a e =
 pub way_on : (script : Script) (order : List Mark) (r : ℕ) (header : Header) (own : List Call) (rank next : machine.Rank) (answers more : List Answer) (a : Answer) (c : Call)
     → IsOnWay script order r (at own rank answers) None → slice_get own (length answers) ≡ Some c → (next, want.Answered a) ≡ step header rank c
     → posts_held next ≤ posts_held rank + most_parts → more ≡ answers ++ a ∷ [] → IsOnWay script order r (at own next more) None
-way_on script order r header own rank next answers more a c w g e p m =
-    subst (λ (s : Going). IsOnWay script order r s None) (answered_is own rank next answers more a m)
+way_on script order r header own rank next answers more a c w g e p m = subst (λ (s : Going). IsOnWay script order r s None) (answered_is own rank next answers more a m)
     (way_answers script order r header (at own rank answers) next a c (drop (suc (length answers)) own) w (drop_at own (length answers) c g) e p)
 
-pub advance_on : (header : Header) (own : List Call) (rank next : machine.Rank) (answers more : List Answer) (a : Answer) (c : Call)
-    → slice_get own (length answers) ≡ Some c → (next, want.Answered a) ≡ step header rank c → more ≡ answers ++ a ∷ []
-    → advance header (at own rank answers) ≡ advance header (at own next more)
+pub advance_on : (header : Header) (own : List Call) (rank next : machine.Rank) (answers more : List Answer) (a : Answer) (c : Call) → slice_get own (length answers) ≡ Some c
+    → (next, want.Answered a) ≡ step header rank c → more ≡ answers ++ a ∷ [] → advance header (at own rank answers) ≡ advance header (at own next more)
 advance_on header own rank next answers more a c g e m =
     sym (comes_on header (at own rank answers) (at own rank answers) next a c (drop (suc (length answers)) own) refl (drop_at own (length answers) c g) e)
     ∙ ap (advance header) (answered_is own rank next answers more a m)
@@ -39,11 +37,7 @@ answers_begin header rank answers [] = ([], append-nil answers)
 answers_begin header rank answers (c ∷ calls) = by (step header rank c) (λ r more. answers_begin header r more calls)
   where
     by : (next : machine.Rank × Want) → ((r : machine.Rank) (more : List Answer) → (rest : List Answer) × (more ++ rest ≡ (go header r more calls).0.answers))
-        → (rest : List Answer) × (answers ++ rest ≡ (elim next.1 as (λ (x : Want). Going × Option Offer) [
-          | want.Answered a ↦ go header next.0 (answers ++ a ∷ []) calls
-          | want.Meet p ↦ (record { rank = next.0; answers = answers; calls = calls }, Some p)
-          | want.Solo p ↦ (record { rank = next.0; answers = answers; calls = calls }, Some p)
-        ]).0.answers)
+        → (rest : List Answer) × (answers ++ rest ≡ (elim next.1 as (λ (x : Want). Going × Option Offer) [ | want.Answered a ↦ go header next.0 (answers ++ a ∷ []) calls | want.Meet p ↦ (record { rank = next.0; answers = answers; calls = calls }, Some p) | want.Solo p ↦ (record { rank = next.0; answers = answers; calls = calls }, Some p) ]).0.answers)
     by (r, want.Answered a) again = let e = again r (answers ++ a ∷ []) in (a ∷ e.0, sym (append_assoc answers (a ∷ []) e.0) ∙ e.1)
     by (r, want.Meet p) again = ([], append-nil answers)
     by (r, want.Solo p) again = ([], append-nil answers)
@@ -118,10 +112,8 @@ pub alone_heard : (script : Script) (header : Header) (order : List Mark) (r : �
     → IsOnWay script (order ++ mark.Solo r (length before.answers) ∷ []) r (between own now) None
 alone_heard script header order r own before now o reply e asks h =
     let said : (now.rank.state, h.answer) ≡ hear header before.rank.state reply = h.heard ∙ ap (λ (k : Header). hear k before.rank.state reply) e in
-    subst (λ (s : Going). IsOnWay script (order ++ mark.Solo r (length before.answers) ∷ []) r s None)
-    (answered_is own asks.before now.rank.state before.answers now.answers h.answer h.answers)
-    (way_solo script order r header (record { rank = asks.before; answers = before.answers; calls = asks.call ∷ drop (suc (length before.answers)) own })
-    before.rank.state now.rank.state o reply h.answer asks.call (drop (suc (length before.answers)) own) asks.way refl asks.step asks.few said)
+    subst (λ (s : Going). IsOnWay script (order ++ mark.Solo r (length before.answers) ∷ []) r s None) (answered_is own asks.before now.rank.state _ _ _ h.answers)
+    (way_solo _ _ _ _ _ _ _ _ _ _ _ (drop (suc (length before.answers)) own) asks.way refl asks.step asks.few said)
 
 -- ---- the marks of its calls
 
@@ -139,9 +131,7 @@ pub alone_done : (script : Script) (header : Header) (order : List Mark) (r : �
     → HasRest script (order ++ mark.Solo r (length s.answers) ∷ []) r
 alone_done script header order r s o reply asks =
     let said = hear header s.rank reply in
-    way_rest script _ r _ None
-    (way_solo script order r header (record { rank = asks.before; answers = s.answers; calls = asks.call ∷ s.calls })
-    s.rank said.0 o reply said.1 asks.call s.calls asks.way refl asks.step asks.few refl)
+    way_rest _ _ _ _ _ (way_solo _ _ _ _ _ _ said.0 _ reply said.1 _ s.calls asks.way refl asks.step asks.few refl)
 
 pub placed_rest : (script : Script) (header : Header) (order : List Mark) (r : ℕ) (s : Going) (held : Option Offer) → IsPlaced script header order r s held → HasRest script order r
 placed_rest script header order r s None w = way_rest script order r s None w

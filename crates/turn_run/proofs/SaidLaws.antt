@@ -1,17 +1,15 @@
 -- The answers of ranks that a fault cut off.
-use Rattle.turn_run.proofs.Words.{◌≡◌, ℕ, zero, suc, ◌<◌, ◌≤◌, ◌≢◌, refl, sym, ◌∙◌, ap, subst, List, [], ◌∷◌, ◌++◌, length, map, set, Bool, true, false, cond, Option, Some, None, length-append, append_assoc, arith, nat_tests, fold-append, append-nil, append_cancel_left, filter-append, same_Some, slice_get_within, slice_get, fold, filter, nat_lt, ◌==◌, IfSome, Answer, Header, Call, Hints, Script, DiskCall, Mark, Meet, Solo, Offer, Reply, StepErr, Disk, Memory, Setting, Counted, solo, concerns, hear, Going, advance, after_mark, hears, solo_of, Begins, HasAnswers, counted, Arrived, Stand, step_to, point, HasSaid, SaysAt, AllSay, HasReached, AreAnswers, HaveAnswers, all_between, between, calls_of, AreFree, HasArrived, Stage, Leads, IsLed, HasGone, HasLed, IsGrownBy, arrived, arrived_all, stage, rank_stage, Runner, if_some_at, entry_set, entry_set_other, entry_map, stand_at, state_at, gone_up, arrival_steps}
+use Rattle.turn_run.proofs.Words.{IfSome_then, ◌≡◌, ℕ, zero, suc, ◌<◌, ◌≤◌, ◌≢◌, refl, sym, ◌∙◌, ap, subst, List, [], ◌∷◌, ◌++◌, length, map, set, Bool, true, false, cond, Option, Some, None, length-append, append_assoc, arith, nat_tests, fold-append, append-nil, append_cancel_left, filter-append, same_Some, slice_get_within, slice_get, fold, filter, nat_lt, ◌==◌, IfSome, Answer, Header, Call, Hints, Script, DiskCall, Mark, Meet, Solo, Offer, Reply, StepErr, Disk, Memory, Setting, Counted, solo, concerns, hear, Going, advance, after_mark, hears, solo_of, Begins, HasAnswers, counted, Arrived, Stand, step_to, point, HasSaid, SaysAt, AllSay, HasReached, AreAnswers, HaveAnswers, all_between, between, calls_of, AreFree, HasArrived, Stage, Leads, IsLed, HasGone, HasLed, IsGrownBy, arrived, arrived_all, stage, rank_stage, Runner, if_some_at, entry_set, entry_set_other, entry_map, stand_at, state_at, gone_up, arrival_steps}
 use Rattle.run_laws.proofs.WayLaws.{others_filter as solos_beside}
 use Rattle.turn_run.proofs.AloneLaws.{arrived_free, arrived_held, step_at}
 use Rattle.turn_run.proofs.RunnerLaws.{advance_ended, answers_begin}
+use Rattle.turn_run.proofs.StageLaws.{some_all}
 use Rattle.turn_run.proofs.TurnSteps.{calls_there, get_arrived, own_or_other}
 
 -- ---- one rank
 
 pub said_here : (fault : StepErr) (a : Arrived) (answers : List Answer) → answers ≡ a.0.answers → HasSaid fault a answers
-said_here fault a answers e = record {
-  begins = ([], append-nil answers ∙ e);
-  all = λ d. let l = ap (λ (xs : List Answer). length xs) e in omega arith;
-}
+said_here fault a answers e = record { begins = ([], append-nil answers ∙ e); all = λ d. let l = ap (λ (xs : List Answer). length xs) e in omega arith }
 
 pub said_part : (fault : StepErr) (a : Arrived) (answers : List Answer) → fault ≡ Memory → Begins answers a.0.answers → HasSaid fault a answers
 said_part fault a answers memory b = record { begins = b; all = λ d. absurd (not_both (sym d ∙ memory)) }
@@ -25,16 +23,14 @@ begins_up header g = answers_begin header g.rank g.answers g.calls
 
 pub begins_heard : (header : Header) (t : Going) (reply : Reply) → Begins t.answers (advance header (hears header t reply)).0.answers
 begins_heard header t reply =
-    let x = (hear header t.rank reply).1 in
-    let b = begins_up header (hears header t reply) in
+    let x = (hear header t.rank reply).1 in let b = begins_up header (hears header t reply) in
     (x ∷ b.0, sym (append_assoc t.answers (x ∷ []) b.0) ∙ b.1)
 
 pub said_up : (header : Header) (fault : StepErr) (g : Going) (answers : List Answer) → HasSaid fault (advance header g) answers → HasAnswers header fault g answers
 said_up header Disk g answers h = (
   h.begins,
   (let b = begins_up header g in
-      let l = h.all refl in
-      let k = length-append g.answers b.0 in
+      let l = h.all refl in let k = length-append g.answers b.0 in
       let m = ap (λ (xs : List Answer). length xs) b.1 in omega arith),
 )
 said_up header Memory g answers h = (h.begins, tt)
@@ -69,18 +65,15 @@ part_arrived header own all old answers e free (rest, h) = (
 
 pub reached_here : (P : Stand → Type 0) (s : Setting) (before now : List Mark) (held : Option (List ℕ)) (records : ℕ) (ranks : List Arrived) → now ≡ before → ((c : Counted) → P (c, ranks))
     → HasReached P s (point before held records) ranks now
-reached_here P s before now held records ranks e h = record { more = []; grown = e ∙ sym (append-nil before); ends = by_held held }
-  where
-    by_held : (m : Option (List ℕ)) → IfSome m (λ file. P (counted file records, ranks))
-    by_held None = tt
-    by_held (Some file) = h (counted file records)
+reached_here P s before now held records ranks e h = record { more = []; grown = e ∙ sym (append-nil before); ends = some_all held (λ file. h (counted file records)) }
 
 pub reached_then : (P : Stand → Type 0) (hints : Hints) (s : Setting) (before mid now more : List Mark) (a b : Stage)
     → Leads hints s more a b → mid ≡ before ++ more → HasReached P s (point mid b.held b.records) b.ranks now → HasReached P s (point before a.held a.records) a.ranks now
 reached_then P hints s before mid now more a b led grown h = record {
   more = more ++ h.more;
   grown = h.grown ∙ ap (λ (ms : List Mark). ms ++ h.more) grown ∙ append_assoc before more h.more;
-  ends = by_held a.held led;
+  ends = IfSome_then a.held led (λ file l.
+      subst P (ap (λ (stand : Stand). fold (step_to s) stand h.more) (sym l.state) ∙ sym (fold-append (step_to s) (counted file a.records, a.ranks) more h.more)) (at l.left l.told));
 }
   where
     Ends : Option (List ℕ) → ℕ → List Arrived → List Mark → Type 0
@@ -88,11 +81,6 @@ reached_then P hints s before mid now more a b led grown h = record {
 
     at : (file : List ℕ) → b.held ≡ Some file → P (fold (step_to s) (counted file b.records, b.ranks) h.more)
     at file e = subst (λ (m : Option (List ℕ)). Ends m b.records b.ranks h.more) e h.ends
-
-    by_held : (m : Option (List ℕ)) → IfSome m (λ file. IsLed hints s more file a b) → Ends m a.records a.ranks (more ++ h.more)
-    by_held None l = tt
-    by_held (Some file) l =
-        subst P (ap (λ (stand : Stand). fold (step_to s) stand h.more) (sym l.state) ∙ sym (fold-append (step_to s) (counted file a.records, a.ranks) more h.more)) (at l.left l.told)
 
 pub gone_reached : (P : Stand → Type 0) (hints : Hints) (s : Setting) (r : ℕ) (before mid now : List Mark) (held left : Option (List ℕ)) (calls made : Option (List DiskCall)) (from to : Arrived)
     → HasGone hints s r (rank_stage before held calls from) (rank_stage mid left made to)
@@ -106,19 +94,14 @@ gone_reached P hints s r before mid now held left calls made from to g next reco
 pub reached_unheard : (s : Setting) (fault : StepErr) (r n : ℕ) (before now : List Mark) (held : Option (List ℕ)) (t : Going) (o : Offer) (answers : List Answer) → fault ≡ Memory
     → now ≡ before ++ Solo r n ∷ [] → answers ≡ t.answers
     → (records : ℕ) (ranks : List Arrived) → slice_get ranks r ≡ Some (t, Some o) → HasReached (SaysAt r fault answers) s (point before held records) ranks now
-reached_unheard s fault r n before now held t o answers memory grown e records ranks there = record { more = Solo r n ∷ []; grown = grown; ends = by_held held }
+reached_unheard s fault r n before now held t o answers memory grown e records ranks there = record { more = Solo r n ∷ []; grown = grown; ends = some_all held (λ file. at (counted file records)) }
   where
     at : (c : Counted) → SaysAt r fault answers (step_to s (c, ranks) (Solo r n))
     at c =
-        let reply = (solo s r o c).1 in
-        let up = advance s.header (hears s.header t reply) in
+        let reply = (solo s r o c).1 in let up = advance s.header (hears s.header t reply) in
         subst (λ (stand : Stand). SaysAt r fault answers stand) (sym (step_at s r n c ranks t o there))
         (says_here r fault answers up (solo s r o c).0 (set ranks r up) (entry_set ranks r (t, Some o) up there)
         (said_part fault up answers memory (subst (λ (xs : List Answer). Begins xs up.0.answers) (sym e) (begins_heard s.header t reply))))
-
-    by_held : (m : Option (List ℕ)) → IfSome m (λ file. SaysAt r fault answers (step_to s (counted file records, ranks) (Solo r n)))
-    by_held None = tt
-    by_held (Some file) = at (counted file records)
 
 -- ---- the ranks that no mark concerns
 
@@ -157,13 +140,11 @@ goings_beside s r (Solo q n ∷ more) state e = by_test (q == r) refl e (λ next
     by_test false t h again = again (after_mark s state (Solo q n)) h ∙ going_beside s q r state.0 state.1 (slice_get state.1 q) (not_equal q r t)
 
 none_added : (r : ℕ) (before now more : List Mark) → now ≡ before ++ more → filter (concerns r) now ≡ filter (concerns r) before → filter (concerns r) more ≡ []
-none_added r before now more e f =
-    append_cancel_left (filter (concerns r) before) (filter (concerns r) more) []
+none_added r before now more e f = append_cancel_left (filter (concerns r) before) (filter (concerns r) more) []
     (sym (filter-append (concerns r) before more) ∙ sym (ap (λ (ms : List Mark). filter (concerns r) ms) e) ∙ f ∙ sym (append-nil (filter (concerns r) before)))
 
 pub grown_beside : (q r : ℕ) (before now : List Mark) → q ≢ r → IsGrownBy q before now → filter (concerns r) now ≡ filter (concerns r) before
-grown_beside q r before now n g =
-    ap (λ (ms : List Mark). filter (concerns r) ms) g.grown ∙ filter-append (concerns r) before g.more
+grown_beside q r before now n g = ap (λ (ms : List Mark). filter (concerns r) ms) g.grown ∙ filter-append (concerns r) before g.more
     ∙ ap (λ (ms : List Mark). filter (concerns r) before ++ ms) (solos_beside q r g.more n g.own) ∙ append-nil (filter (concerns r) before)
 
 -- ---- the ranks of the serial run
@@ -179,14 +160,13 @@ answers_up header fault goings runners stand e h r g runner f k =
 
 pub have_reached : (s : Setting) (fault : StepErr) (before now : List Mark) (held : Option (List ℕ)) (records : ℕ) (goings : List Going) (ranks : List Arrived) (runners : List Runner)
     → map (advance s.header) goings ≡ ranks → HasReached (AllSay fault runners) s (point before held records) ranks now → HaveAnswers s fault (point before held records) goings now runners
-have_reached s fault before now held records goings ranks runners e h = record { more = h.more; grown = h.grown; said = by_held held h.ends }
-  where
-    by_held : (m : Option (List ℕ)) → IfSome m (λ file. AllSay fault runners (fold (step_to s) (counted file records, ranks) h.more))
-        → IfSome m (λ file. AreAnswers s.header fault (fold (after_mark s) (counted file records, goings) h.more).1 runners)
-    by_held None k = tt
-    by_held (Some file) k =
-        answers_up s.header fault (fold (after_mark s) (counted file records, goings) h.more).1 runners (fold (step_to s) (counted file records, ranks) h.more)
-        (ap (λ (stand : Stand). stand.1) (up_after s (counted file records) goings ranks h.more e)) k
+have_reached s fault before now held records goings ranks runners e h = record {
+  more = h.more;
+  grown = h.grown;
+  said = IfSome_then held h.ends (λ file k.
+      answers_up s.header fault (fold (after_mark s) (counted file records, goings) h.more).1 runners (fold (step_to s) (counted file records, ranks) h.more)
+      (ap (λ (stand : Stand). stand.1) (up_after s (counted file records) goings ranks h.more e)) k);
+}
 
 -- those that hold no offer wait where they heard their last reply
 pub between_up : (header : Header) (calls : List (List Call)) (runners : List Runner) → AreFree runners → map (advance header) (all_between calls runners) ≡ arrived_all header calls runners
@@ -202,8 +182,7 @@ get_between : (calls : List (List Call)) (runners : List Runner) (r : ℕ) (own 
 get_between [] runners r own runner e f = absurd cc
 get_between (c ∷ calls) [] r own runner e f = absurd cc
 get_between (c ∷ calls) (s ∷ runners) zero own runner e f =
-    let a : c ≡ own = same_Some c own e in
-    let b : s ≡ runner = same_Some s runner f in
+    let a : c ≡ own = same_Some c own e in let b : s ≡ runner = same_Some s runner f in
     λ i. Some (between (a i) (b i))
 get_between (c ∷ calls) (s ∷ runners) (suc r) own runner e f = get_between calls runners r own runner e f
 
@@ -237,8 +216,7 @@ answers_cut script fault n before mid now first runners was new s held left call
     own_none r ne = none_added r mid now reached.more reached.grown (grown_beside n r mid now ne grown)
 
     all_none : (r : ℕ) → n ≢ r → n ≤ r → filter (concerns r) more ≡ []
-    all_none r ne l =
-        filter-append (concerns r) led.more reached.more
+    all_none r ne l = filter-append (concerns r) led.more reached.more
         ∙ ap (λ (ms : List Mark). ms ++ filter (concerns r) reached.more) (none_added r before mid led.more led.grown (others r l)) ∙ own_none r ne
 
     by_held : (m : Option (List ℕ)) → IfSome m (λ file. IsLed script.hints s led.more file (stage m calls records (arrived_all s.header script.calls first)) (stage left made records (arrived_all s.header script.calls runners)))
@@ -261,8 +239,7 @@ answers_cut script fault n before mid now first runners was new s held left call
             → HasAnswers s.header fault g runner.answers
         at_own r g runner f k e =
             let same_runner : new ≡ runner = same_Some new runner (sym (entry_set runners n was new there) ∙ ap (λ (q : ℕ). slice_get (set runners n new) q) e ∙ k) in
-            subst (λ (x : Runner). HasAnswers s.header fault g x.answers) same_runner
-            (said_up s.header fault g new.answers (ends_at l.left l.told (advance s.header g)
+            subst (λ (x : Runner). HasAnswers s.header fault g x.answers) same_runner (said_up s.header fault g new.answers (ends_at l.left l.told (advance s.header g)
             (ap (λ (q : ℕ). slice_get (fold (step_to s) (counted l.left records, arrived_all s.header script.calls runners) reached.more).1 q) e ∙ gets r g f)))
 
         at_other : (r : ℕ) (g : Going) (runner : Runner) → slice_get (fold (after_mark s) (counted file records, goings) more).1 r ≡ Some g → slice_get (set runners n new) r ≡ Some runner → n ≢ r
@@ -278,15 +255,13 @@ answers_cut script fault n before mid now first runners was new s held left call
             by_order : (t : Bool) → nat_lt r n ≡ t → HasAnswers s.header fault g runner.answers
             by_order true t =
                 let below : r < n = grind (arith, nat_tests) in
-                let is : advance s.header g ≡ arrived s.header (calls_of script r) runner =
-                same_Some _ _ (sym (gets r g f)
+                let is : advance s.header g ≡ arrived s.header (calls_of script r) runner = same_Some _ _ (sym (gets r g f)
                 ∙ marks_beside s r reached.more (counted l.left records, arrived_all s.header script.calls runners) (own_none r ne)
                 ∙ get_arrived s.header script.calls runners r (calls_of script r) runner its_calls here) in
                 said_up s.header fault g runner.answers (said_here fault (advance s.header g) runner.answers
                 (sym (ap (λ (a : Arrived). a.0.answers) is ∙ arrived_said s.header (calls_of script r) runner (come r runner below here))))
             by_order false t =
                 let past : n ≤ r = grind (arith, nat_tests) in
-                let is : g ≡ between (calls_of script r) runner =
-                same_Some _ _ (sym f ∙ goings_beside s r more (counted file records, goings) (all_none r ne past)
+                let is : g ≡ between (calls_of script r) runner = same_Some _ _ (sym f ∙ goings_beside s r more (counted file records, goings) (all_none r ne past)
                 ∙ get_between script.calls first r (calls_of script r) runner its_calls (sym (same r past) ∙ here)) in
                 said_between s.header fault g runner.answers (sym (ap (λ (x : Going). x.answers) is))

@@ -18,8 +18,7 @@ all_say_here script header fault runners now c long same come kept r b k a g =
     let was = entry_below runners r within in
     let is : arrived header (calls_of script r) was.0 ≡ a =
     same_Some _ _ (sym (get_arrived header script.calls runners r (calls_of script r) was.0 (calls_there script r (omega arith)) was.1) ∙ g) in
-    said_here fault a b.answers
-    (kept r was.0 b was.1 k ∙ sym (arrived_said header (calls_of script r) was.0 (come r was.0 was.1)) ∙ ap (λ (x : Arrived). x.0.answers) is)
+    said_here fault a b.answers (kept r was.0 b was.1 k ∙ sym (arrived_said header (calls_of script r) was.0 (come r was.0 was.1)) ∙ ap (λ (x : Arrived). x.0.answers) is)
 
 pub all_reached_here : {script : Script} {header : Header} {len : ℕ} {fault : StepErr} {before now_order : List Mark} {held : Option (List ℕ)} {records : ℕ} {runners : List Runner} (now : List Runner)
     → is_lawful script ≡ true → AreRunners script header len before runners → length now ≡ length runners → HaveArrived script runners → KeepAnswers runners now → now_order ≡ before
@@ -40,8 +39,7 @@ pub keep_part : (old now : List Runner) (i : ℕ) (was new : Runner) → slice_g
     → ((r : ℕ) → i ≤ r → slice_get now r ≡ slice_get old r) → new.answers ≡ was.answers → KeepAnswers old (set now i new)
 keep_part old now i was new there before left same r a b g h =
     set_each (λ (q : ℕ) (x : Runner). (y : Runner) → slice_get old q ≡ Some y → x.answers ≡ y.answers) now i was new there
-    (λ y e. same ∙ ap (λ (x : Runner). x.answers) (same_Some was y (sym there ∙ left i (omega arith) ∙ e)))
-    (λ q x other f y e. by_order q x y f e (nat_lt q i) refl) r b h a g
+    (λ y e. same ∙ ap (λ (x : Runner). x.answers) (same_Some was y (sym there ∙ left i (omega arith) ∙ e))) (λ q x other f y e. by_order q x y f e (nat_lt q i) refl) r b h a g
   where
     by_order : (q : ℕ) (x y : Runner) → slice_get now q ≡ Some x → slice_get old q ≡ Some y → (t : Bool) → nat_lt q i ≡ t → x.answers ≡ y.answers
     by_order q x y f e true t = before q y x (grind (arith, nat_tests)) e f
@@ -53,10 +51,7 @@ get_zip : {A B C : Type 0} (f : A × B → C) (xs : List A) (ys : List B) (r : �
     → slice_get (map f (zip xs ys)) r ≡ Some z → f (x, y) ≡ z
 get_zip f [] ys r x y z e g h = absurd cc
 get_zip f (a ∷ xs) [] r x y z e g h = absurd cc
-get_zip f (a ∷ xs) (b ∷ ys) zero x y z e g h =
-    let p = same_Some a x e in
-    let q = same_Some b y g in
-    (λ i. f (sym p i, sym q i)) ∙ same_Some (f (a, b)) z h
+get_zip f (a ∷ xs) (b ∷ ys) zero x y z e g h = let p = same_Some a x e in let q = same_Some b y g in (λ i. f (sym p i, sym q i)) ∙ same_Some (f (a, b)) z h
 get_zip f (a ∷ xs) (b ∷ ys) (suc r) x y z e g h = get_zip f xs ys r x y z e g h
 
 -- ---- some have heard
@@ -108,10 +103,8 @@ reached_deaf {script} {header} {fault} {runners} now {batches} {known} {r} {n} k
     by_held None b = tt
     by_held (Some file) b = λ q x h a g.
         let within : q < length runners = (let i = slice_get_within now q x h in omega arith) in
-        let long = t.long in
-        let was = entry_below runners q within in
-        let row = entry_below table q (omega arith) in
-        let o = meets_at all t.hold come q was.0 was.1 in
+        let long = t.long in let was = entry_below runners q within in
+        let row = entry_below table q (omega arith) in let o = meets_at all t.hold come q was.0 was.1 in
         let is : heard s.header (arrived s.header (calls_of script q) was.0, reply_of pair n row.0) ≡ a =
         get_zip (heard s.header) (arrived_all s.header script.calls runners) (map (reply_of pair n) table) q (arrived s.header (calls_of script q) was.0) (reply_of pair n row.0) a
         (get_arrived s.header script.calls runners q (calls_of script q) was.0 (calls_there script q (omega arith)) was.1) (entry_map (reply_of pair n) table q row.0 row.1)
@@ -129,8 +122,7 @@ between_done header pair n (own ∷ calls) [] (b ∷ now) table d = absurd (omeg
 between_done header pair n (own ∷ calls) (a ∷ runners) [] table d = absurd (omega arith)
 between_done header pair n (own ∷ calls) (a ∷ runners) (b ∷ now) [] d = absurd (omega arith)
 between_done header pair n (own ∷ calls) (a ∷ runners) (b ∷ now) (blobs ∷ table) d =
-    let first = d.each 0 a b blobs refl refl refl in
-    let reply = reply_of pair n blobs in
+    let first = d.each 0 a b blobs refl refl refl in let reply = reply_of pair n blobs in
     let one : hears header (arrived header own a).0 reply ≡ between own b =
     ap (λ (x : Arrived). hears header x.0 reply) (arrived_held header own a first.0 first.1.held) ∙ sym (heard_runner header own a b reply first.1.of_header first.1.heard) in
     let others = between_done header pair n calls runners now table (done_behind d) in
@@ -144,10 +136,8 @@ meeting_between {s} {calls} {runners} {now} {batches} {known} {r} {n} k {held} {
   where
     by_held : (h : Option (List ℕ)) → HasGiven s batches known r n h left pair table → IfSome h (λ file. (after_mark s (counted file r, goings) (Meet k)).1 ≡ all_between calls now)
     by_held None b = tt
-    by_held (Some file) b =
-        (λ i. map (λ p. hears s.header p.0.0 p.1) (zip (up i) (meeting s (offers_of (up i)) (counted file r)).1))
-        ∙ (λ i. map (λ p. hears s.header p.0.0 p.1) (zip (arrived_all s.header calls runners) (replies_of t b i)))
-        ∙ between_done s.header pair n calls runners now table d
+    by_held (Some file) b = (λ i. map (λ p. hears s.header p.0.0 p.1) (zip (up i) (meeting s (offers_of (up i)) (counted file r)).1))
+        ∙ (λ i. map (λ p. hears s.header p.0.0 p.1) (zip (arrived_all s.header calls runners) (replies_of t b i))) ∙ between_done s.header pair n calls runners now table d
 
 -- ---- steps before
 
@@ -191,8 +181,7 @@ answers_then hints s fault before mid now more a b goings bs runners led grown u
         let state = fold (after_mark s) (counted file a.records, goings) more in
         let count : state.0 ≡ counted l.left b.records = ap (λ (x : Stand). x.0) (up_after s (counted file a.records) goings a.ranks more up ∙ l.state) in
         let there : (counted l.left b.records, bs) ≡ state = λ i. (sym count i, sym e i) in
-        subst (λ (gs : List Going). AreAnswers s.header fault gs runners)
-        (ap (λ (x : Counted × List Going). (fold (after_mark s) x h.more).1) there
+        subst (λ (gs : List Going). AreAnswers s.header fault gs runners) (ap (λ (x : Counted × List Going). (fold (after_mark s) x h.more).1) there
         ∙ sym (ap (λ (x : Counted × List Going). x.1) (fold-append (after_mark s) (counted file a.records, goings) more h.more)))
         (if_some_at (λ (f : List ℕ). AreAnswers s.header fault (fold (after_mark s) (counted f b.records, bs) h.more).1 runners) b.held l.left l.told h.said)
 

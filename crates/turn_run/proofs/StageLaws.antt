@@ -1,5 +1,5 @@
 -- Stages: what ranks that have gone up to their next offers have of the serial run, and steps one after another.
-use Rattle.turn_run.proofs.Words.{◌≡◌, ℕ, refl, sym, ◌∙◌, ap, subst, List, [], ◌∷◌, ◌++◌, length, map, replicate, Option, Some, None, append_assoc, append-nil, fold-append, fold, IfSome, Header, Call, Hints, Script, Mark, DiskCall, with_end, Setting, run_calls, setting_of, first_going, first_state, advance, serial_from, calls_over, step_calls, step_to, Arrived, Stand, all_calls_over, ended_from, IsLike, arrived, arrived_all, stage, stand_of, HasLed, IsLed, Leads, LeadsAlike, Stage, first_runner, with_end-with_end, with_end-nil, gone_up, first_up, serial_of_arrivals, calls_of_arrivals}
+use Rattle.turn_run.proofs.Words.{IfSome_then, ◌≡◌, ℕ, refl, sym, ◌∙◌, ap, subst, List, [], ◌∷◌, ◌++◌, length, map, replicate, Option, Some, None, append_assoc, append-nil, fold-append, fold, IfSome, Header, Call, Hints, Script, Mark, DiskCall, with_end, Setting, run_calls, setting_of, first_going, first_state, advance, serial_from, calls_over, step_calls, step_to, Arrived, Stand, all_calls_over, ended_from, IsLike, arrived, arrived_all, stage, stand_of, HasLed, IsLed, Leads, LeadsAlike, Stage, first_runner, with_end-with_end, with_end-nil, gone_up, first_up, serial_of_arrivals, calls_of_arrivals}
 
 -- ---- the serial run's ranks, gone up to their next offers
 
@@ -31,9 +31,12 @@ first_ranks header records (own ∷ calls) e =
 calls_split : (hints : Hints) (s : Setting) (stand : Stand) (marks more : List Mark)
     → calls_over hints s stand (marks ++ more) ≡ calls_over hints s stand marks ++ calls_over hints s (fold (step_to s) stand marks) more
 calls_split hints s stand [] more = refl
-calls_split hints s stand (m ∷ marks) more =
-    ap (λ (cs : List DiskCall). step_calls hints s stand m ++ cs) (calls_split hints s (step_to s stand m) marks more)
+calls_split hints s stand (m ∷ marks) more = ap (λ (cs : List DiskCall). step_calls hints s stand m ++ cs) (calls_split hints s (step_to s stand m) marks more)
     ∙ sym (append_assoc (step_calls hints s stand m) (calls_over hints s (step_to s stand m) marks) (calls_over hints s (fold (step_to s) (step_to s stand m) marks) more))
+
+pub some_all : {X : Type 0} (m : Option X) {P : X → Type 0} → ((x : X) → P x) → IfSome m P
+some_all None f = tt
+some_all (Some x) f = f x
 
 pub led_none : (hints : Hints) (s : Setting) (a : Stage) → Leads hints s [] a a
 led_none hints s a = by_held a.held refl
@@ -43,15 +46,14 @@ led_none hints s a = by_held a.held refl
     by_held (Some file) e = record { left = file; told = e; state = refl; calls = sym (with_end-nil a.calls) }
 
 pub led_then : (hints : Hints) (s : Setting) (marks more : List Mark) (a b c : Stage) → Leads hints s marks a b → Leads hints s more b c → Leads hints s (marks ++ more) a c
-led_then hints s marks more a b c first second = by_held a.held first
+led_then hints s marks more a b c first second = IfSome_then a.held first by_led
   where
     on_left : (left : List ℕ) (m : Option (List ℕ)) → m ≡ Some left → IfSome m (λ file. IsLed hints s more file b c) → IsLed hints s more left b c
     on_left left None e h = absurd cc
     on_left left (Some file) e h = let f : file ≡ left = cc in subst (λ (x : List ℕ). IsLed hints s more x b c) f h
 
-    by_held : (m : Option (List ℕ)) → IfSome m (λ file. IsLed hints s marks file a b) → IfSome m (λ file. IsLed hints s (marks ++ more) file a c)
-    by_held None h = tt
-    by_held (Some file) h =
+    by_led : (file : List ℕ) → IsLed hints s marks file a b → IsLed hints s (marks ++ more) file a c
+    by_led file h =
         let next = on_left h.left b.held h.told second in
         record {
           left = next.left;

@@ -1,6 +1,7 @@
 -- What is told of steps, one after another, and of a whole run.
-use Rattle.turn_run.proofs.Words.{◌≡◌, ◌+◌, ℕ, suc, refl, sym, ◌∙◌, ap, subst, List, [], ◌∷◌, ◌++◌, length, map, max, replicate, set, take, true, Option, Some, None, append_assoc, length-append, arith, append-nil, append_cancel_left, map-append, fold-append, slice_get, fold, IfSome, enumerate_from, Header, Batch, Call, Hints, Script, DiskCall, Mark, Meet, Solo, Offer, with_end, needed_now, Counted, Setting, is_lawful, told_of, Going, after_mark, first_state, setting_of, counted, puts_in, step_to, Arrived, Stand, point, arrived_all, stage, stand_of, HasGone, HasLed, IsLed, Stage, rank_stage, first_runner, counts_along, told_marks, told_over, HasTold, HasToldMore, Runner, entry_set, with_end-with_end, with_end-nil, gone_up, arrival_step}
+use Rattle.turn_run.proofs.Words.{IfSome_then, ◌≡◌, ◌+◌, ℕ, suc, refl, sym, ◌∙◌, ap, subst, List, [], ◌∷◌, ◌++◌, length, map, max, replicate, set, take, true, Option, Some, None, append_assoc, length-append, arith, append-nil, append_cancel_left, map-append, fold-append, slice_get, fold, IfSome, enumerate_from, Header, Batch, Call, Hints, Script, DiskCall, Mark, Meet, Solo, Offer, with_end, needed_now, Counted, Setting, is_lawful, told_of, Going, after_mark, first_state, setting_of, counted, puts_in, step_to, Arrived, Stand, point, arrived_all, stage, stand_of, HasGone, HasLed, IsLed, Stage, rank_stage, first_runner, counts_along, told_marks, told_over, HasTold, HasToldMore, Runner, entry_set, with_end-with_end, with_end-nil, gone_up, arrival_step}
 use Rattle.turn_run.proofs.CutLaws.{solo_at}
+use Rattle.turn_run.proofs.StageLaws.{some_all}
 use Rattle.turn_run.proofs.MeetStep.{meet_at, met_count, IsTaken}
 use Rattle.turn_run.proofs.TurnRuns.{first_stage}
 
@@ -16,12 +17,8 @@ told_none s held records ranks before now told heard e f = record {
   more = [];
   grown = e ∙ sym (append-nil before);
   marks = ap told_marks f ∙ sym (with_end-nil (told_marks told));
-  counts = by_held held;
+  counts = some_all held (λ file. f ∙ sym (with_end-nil told));
 }
-  where
-    by_held : (m : Option (List ℕ)) → IfSome m (λ file. heard ≡ with_end told (told_over s (counted file records, ranks) []))
-    by_held None = tt
-    by_held (Some file) = f ∙ sym (with_end-nil told)
 
 pub marks_ended : (told : Option (List (Mark × ℕ))) (more : List (Mark × ℕ)) → told_marks (with_end told more) ≡ with_end (told_marks told) (map (λ t. t.0) more)
 marks_ended None more = refl
@@ -34,19 +31,14 @@ told_one s m count held records ranks before now told heard e f after = record {
   more = m ∷ [];
   grown = e;
   marks = ap told_marks f ∙ marks_ended told ((m, count) ∷ []);
-  counts = by_held held;
+  counts = some_all held (λ file. f ∙ ap (λ (n : ℕ). with_end told ((m, n) ∷ [])) (sym (after file)));
 }
-  where
-    by_held : (h : Option (List ℕ)) → IfSome h (λ file. heard ≡ with_end told (told_over s (counted file records, ranks) (m ∷ [])))
-    by_held None = tt
-    by_held (Some file) = f ∙ ap (λ (n : ℕ). with_end told ((m, n) ∷ [])) (sym (after file))
 
 -- a solo step, which leaves the count of the file
 pub told_alone : (s : Setting) (r n : ℕ) (held : Option (List ℕ)) (records : ℕ) (before now : List Mark) (told heard : Option (List (Mark × ℕ))) (t : Going) (o : Offer)
     → now ≡ before ++ Solo r n ∷ [] → heard ≡ with_end told ((Solo r n, records) ∷ [])
     → (ranks : List Arrived) → slice_get ranks r ≡ Some (t, Some o) → HasToldMore s (point before held records) ranks now told heard
-told_alone s r n held records before now told heard t o e f ranks at =
-    told_one s (Solo r n) records held records ranks before now told heard e f
+told_alone s r n held records before now told heard t o e f ranks at = told_one s (Solo r n) records held records ranks before now told heard e f
     (λ file. ap (λ (c : Counted). c.records) (sym (solo_at s r n (counted file records) ranks t o at)))
 
 pub told_meeting : {s : Setting} (k : ℕ) {held : Option (List ℕ)} {calls : List (List Call)} {runners : List Runner} {batches : List Batch} {known r n : ℕ} {before now : List Mark}
@@ -60,8 +52,7 @@ told_meeting {s} k {held} {calls} {runners} {batches} {known} {r} {n} {before} {
 
 told_split : (s : Setting) (stand : Stand) (marks more : List Mark) → told_over s stand (marks ++ more) ≡ told_over s stand marks ++ told_over s (fold (step_to s) stand marks) more
 told_split s stand [] more = refl
-told_split s stand (m ∷ marks) more =
-    ap (λ (ts : List (Mark × ℕ)). (m, (step_to s stand m).0.records) ∷ ts) (told_split s (step_to s stand m) marks more)
+told_split s stand (m ∷ marks) more = ap (λ (ts : List (Mark × ℕ)). (m, (step_to s stand m).0.records) ∷ ts) (told_split s (step_to s stand m) marks more)
 
 pub told_then : (hints : Hints) (s : Setting) (before now later : List Mark) (a b : Stage) (told heard last : Option (List (Mark × ℕ)))
     → HasToldMore s (point before a.held a.records) a.ranks now told heard → HasLed hints s before now a b → HasToldMore s (point now b.held b.records) b.ranks later heard last
@@ -106,8 +97,7 @@ module _ {M : Type 0} where
   take_through : (first : List M) (m : M) (rest : List M) (k : ℕ) → k ≡ length first + 1 → take k (first ++ (m ∷ rest)) ≡ first ++ m ∷ []
   take_through [] m rest k e = let one : k ≡ 1 = omega (arith, e) in subst (λ (z : ℕ). take z (m ∷ rest) ≡ m ∷ []) (sym one) refl
   take_through (x ∷ xs) m rest k e =
-      let j : ℕ = length xs + 1 in
-      let next : k ≡ suc j = omega (arith, e) in
+      let j : ℕ = length xs + 1 in let next : k ≡ suc j = omega (arith, e) in
       subst (λ (z : ℕ). take z (x ∷ (xs ++ (m ∷ rest))) ≡ x ∷ (xs ++ m ∷ [])) (sym next) (ap (λ (l : List M). x ∷ l) (take_through xs m rest j refl))
 
 -- each mark of a list with the count after it, by its place and by steps
@@ -148,28 +138,18 @@ told_from_first script header file records runners order lawful e first =
 pub told_nothing : (script : Script) (header : Header) (held : Option (List ℕ)) (told : Option (List (Mark × ℕ))) (order : List Mark) → order ≡ [] → HasTold script header held told told order
 told_nothing script header held told order e = subst (λ (ms : List Mark). HasTold script header held told told ms) (sym e) (record {
   marks = sym (with_end-nil (told_marks told));
-  counts = by_held held;
+  counts = some_all held (λ file. sym (with_end-nil told));
 })
-  where
-    by_held : (m : Option (List ℕ)) → IfSome m (λ file. told ≡ with_end told (told_of script header file []))
-    by_held None = tt
-    by_held (Some file) = sym (with_end-nil told)
 
 pub told_whole : (script : Script) (header : Header) (held : Option (List ℕ)) (records : ℕ) (runners : List Runner) (none made order : List Mark) (told heard : Option (List (Mark × ℕ)))
     → is_lawful script ≡ true → records ≡ header.records → runners ≡ replicate script.ranks (first_runner header records) → none ≡ [] → order ≡ made
     → HasToldMore (setting_of script header) (point none held records) (arrived_all header script.calls runners) made told heard → HasTold script header held told heard order
 told_whole script header held records runners none made order told heard lawful e first n o h = record {
   marks = h.marks ∙ ap (λ (ms : List Mark). with_end (told_marks told) ms) same;
-  counts = by_held held h.counts;
+  counts = IfSome_then held h.counts (λ file k. k ∙ ap (λ (ts : List (Mark × ℕ)). with_end told ts)
+      (ap (λ (ms : List Mark). told_over (setting_of script header) (counted file records, arrived_all header script.calls runners) ms) same
+      ∙ told_from_first script header file records runners order lawful e first));
 }
   where
     same : h.more ≡ order
     same = sym (o ∙ h.grown ∙ ap (λ (ms : List Mark). ms ++ h.more) n)
-
-    by_held : (m : Option (List ℕ)) → IfSome m (λ file. heard ≡ with_end told (told_over (setting_of script header) (counted file records, arrived_all header script.calls runners) h.more))
-        → IfSome m (λ file. heard ≡ with_end told (told_of script header file order))
-    by_held None k = tt
-    by_held (Some file) k =
-        k ∙ ap (λ (ts : List (Mark × ℕ)). with_end told ts)
-        (ap (λ (ms : List Mark). told_over (setting_of script header) (counted file records, arrived_all header script.calls runners) ms) same
-        ∙ told_from_first script header file records runners order lawful e first)

@@ -22,10 +22,7 @@ Comes script order r runner = IsOnWay script order r (going_of (calls_of script 
 
 pub comes : (script : Script) (header : Header) (len : ℕ) (order : List Mark) (runners : List Runner) → AreRunners script header len order runners → HaveArrived script runners
     → (r : ℕ) (runner : Runner) → slice_get runners r ≡ Some runner → Comes script order r runner
-comes script header len order runners a h r runner e =
-    let is = a.each r runner e in
-    let has = h r runner e in
-    met_way script header order r (going_of (calls_of script r) runner) runner.held has.met is.placed
+comes script header len order runners a h r runner e = let is = a.each r runner e in let has = h r runner e in met_way _ _ _ _ _ _ has.met is.placed
 
 -- with an offer, or without
 pub holding : (script : Script) (order : List Mark) (r : ℕ) (runner : Runner) (o : Offer) → runner.held ≡ Some o → Comes script order r runner
@@ -42,8 +39,7 @@ free script order r runner e w =
 -- none has ended while another waits in a meeting
 pub not_both : (script : Script) (order : List Mark) (r q : ℕ) (runner other : Runner) (o : Offer) → runner.held ≡ Some o → Comes script order r runner → other.held ≡ None
     → Comes script order q other → HasArrived (calls_of script q) other → ⊥
-not_both script order r q runner other o e w f v h =
-    together_all script order r q _ _ o (holding script order r runner o e w) (free script order q other f v) (h.ended f)
+not_both script order r q runner other o e w f v h = together_all script order r q _ _ o (holding script order r runner o e w) (free script order q other f v) (h.ended f)
 
 pub all_ended : (script : Script) (header : Header) (len : ℕ) (order : List Mark) (runners : List Runner) → is_lawful script ≡ true → AreRunners script header len order runners
     → HaveArrived script runners → (HaveMet runners → ⊥) → AreFree runners
@@ -77,15 +73,11 @@ next_meeting script header len order runners lawful a h met =
   where
     by_held : (first : Runner) → slice_get runners 0 ≡ Some first → (m : Option Offer) → first.held ≡ m → meetings order < most_calls
     by_held first e None f = let g = sym (met 0 first e) ∙ ap (λ (m : Option Offer). is_some m) f in absurd cc
-    by_held first e (Some o) f =
-        together_number script order 0 _ o lawful (holding script order 0 first o f (comes script header len order runners a h 0 first e))
+    by_held first e (Some o) f = together_number script order 0 _ o lawful (holding script order 0 first o f (comes script header len order runners a h 0 first e))
 
 -- the number of the meeting after it
 pub met_number : (before now later : List Mark) (n k : ℕ) → n ≡ meetings before → now ≡ before ++ Meet k ∷ [] → meetings later ≡ meetings now → n + 1 ≡ meetings later
-met_number before now later n k e f h =
-    let a = meetings_met before k in
-    let b = ap (λ (ms : List Mark). meetings ms) f in
-    omega arith
+met_number before now later n k e f h = let a = meetings_met before k in let b = ap (λ (ms : List Mark). meetings ms) f in omega arith
 
 -- ---- the ends
 
@@ -110,20 +102,17 @@ AreOver calls runners = (r : ℕ) (own : List Call) (runner : Runner) → slice_
 pub are_over : (script : Script) (runners : List Runner) → AreFree runners → HaveArrived script runners → AreOver script.calls runners
 unfolding AreOver
 are_over script runners f h r own runner e g =
-    let has = h r runner g in
-    let same = ap (λ (m : Option (List Call)). elim m [ None ↦ [] | Some cs ↦ cs ]) e in
+    let has = h r runner g in let same = ap (λ (m : Option (List Call)). elim m [ None ↦ [] | Some cs ↦ cs ]) e in
     (f r runner g, subst (λ (cs : List Call). drop (length runner.answers) cs ≡ []) same (has.ended (f r runner g)))
 
 pub ended_legal : (script : Script) (header : Header) (len : ℕ) (order : List Mark) (runners : List Runner) → is_lawful script ≡ true → AreRunners script header len order runners
     → AreFree runners → HaveArrived script runners → IsLegal script order
-ended_legal script header len order runners lawful a f h =
-    order_legal script order (all_between script.calls runners)
+ended_legal script header len order runners lawful a f h = order_legal script order (all_between script.calls runners)
     (long_between script.calls runners ((ranks_lawful script lawful).one_each ∙ sym a.all) ∙ a.all) a.known_ranks each
   where
     each : (r : ℕ) (s : Going) → slice_get (all_between script.calls runners) r ≡ Some s → IsOnWay script order r s None × (s.calls ≡ [])
     each r s e =
-        let p = get_between script.calls runners r s e in
-        let own = p.0 in
+        let p = get_between script.calls runners r s e in let own = p.0 in
         let runner = p.1.0 in
         let same : calls_of script r ≡ own = ap (λ (m : Option (List Call)). elim m [ None ↦ [] | Some cs ↦ cs ]) p.1.1.0 in
         let there = p.1.1.1.0 in
@@ -133,8 +122,7 @@ ended_legal script header len order runners lawful a f h =
 
 -- those that have ended stand where they have gone up to
 pub arrived_over : (header : Header) (own : List Call) (runner : Runner) → runner.held ≡ None → drop (length runner.answers) own ≡ [] → arrived header own runner ≡ (between own runner, None)
-arrived_over header own runner e f =
-    ap (λ (m : Option Offer). elim m [ None ↦ advance header (between own runner) | Some o ↦ (asking own runner, Some o) ]) e
+arrived_over header own runner e f = ap (λ (m : Option Offer). elim m [ None ↦ advance header (between own runner) | Some o ↦ (asking own runner, Some o) ]) e
     ∙ advance_ended header own runner.rank.state runner.answers f
 
 -- what each has at its end

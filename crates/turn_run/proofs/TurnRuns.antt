@@ -1,5 +1,5 @@
 -- The first and the last stage of a run.
-use Rattle.turn_run.proofs.Words.{◌≡◌, ℕ, ◌<◌, ◌≤◌, refl, sym, ◌∙◌, ap, subst, List, [], ◌∷◌, ◌++◌, length, map, replicate, max, true, Option, Some, None, arith, length-replicate, slice_get, nat_lt, fold, IfSome, Answer, Header, Call, Hints, Script, DiskCall, Mark, after, with_end, run_calls, store_records, Setting, raised, header_len, is_sound, marks, is_lawful, end_of, greatest, End, advance, first_going, first_state, serial_from, setting_of, close_by, counted, blank, AreAlikeEnds, IsLike, close_alike, IsOnWay, ranks_lawful, way_begins, contents_of, HasBegun, IsCount, all_between, between, calls_of, AreFree, AreRunners, HaveArrived, IsRunner, calls_over, step_to, Arrived, Stand, all_calls_over, ended_from, arrived_all, stage, HasLed, IsLed, Leads, HasClosed, first_runner, Runner, slice_get_within, raised_records, with_end-with_end, entry_replicate, gone_up}
+use Rattle.turn_run.proofs.Words.{IfSome_then, ◌≡◌, ℕ, ◌<◌, ◌≤◌, refl, sym, ◌∙◌, ap, subst, List, [], ◌∷◌, ◌++◌, length, map, replicate, max, true, Option, Some, None, arith, length-replicate, slice_get, nat_lt, fold, IfSome, Answer, Header, Call, Hints, Script, DiskCall, Mark, after, with_end, run_calls, store_records, Setting, raised, header_len, is_sound, marks, is_lawful, end_of, greatest, End, advance, first_going, first_state, serial_from, setting_of, close_by, counted, blank, AreAlikeEnds, IsLike, close_alike, IsOnWay, ranks_lawful, way_begins, contents_of, HasBegun, IsCount, all_between, between, calls_of, AreFree, AreRunners, HaveArrived, IsRunner, calls_over, step_to, Arrived, Stand, all_calls_over, ended_from, arrived_all, stage, HasLed, IsLed, Leads, HasClosed, first_runner, Runner, slice_get_within, raised_records, with_end-with_end, entry_replicate, gone_up}
 use Rattle.serial_spec.specs.RankMachine as machine
 use Rattle.turn_run.proofs.StageLaws.{calls_are, first_ranks, serial_is}
 use Rattle.turn_run.proofs.TurnKnown.{most_known}
@@ -17,8 +17,7 @@ first_count header len records h e l = subst (λ (n : ℕ). IsCount header len n
 
 pub first_placed : (script : Script) (header : Header) (r records : ℕ) → is_lawful script ≡ true → r < script.ranks → records ≡ header.records
     → IsOnWay script [] r (between (calls_of script r) (first_runner header records)) None
-first_placed script header r records lawful l e =
-    subst (λ (n : ℕ). IsOnWay script [] r (between (calls_of script r) (first_runner header n)) None) (sym e)
+first_placed script header r records lawful l e = subst (λ (n : ℕ). IsOnWay script [] r (between (calls_of script r) (first_runner header n)) None) (sym e)
     (way_begins script header r (calls_of script r) lawful (calls_there script r (below (length script.calls) (ranks_lawful script lawful).one_each)))
   where
     below : (k : ℕ) → k ≡ script.ranks → r < k
@@ -26,8 +25,7 @@ first_placed script header r records lawful l e =
 
 pub first_runners : (script : Script) (header : Header) (len records : ℕ) (runners : List Runner) → is_lawful script ≡ true → is_sound header ≡ true → records ≡ header.records
     → end_of header (header_len header) header.records ≤ len → runners ≡ replicate script.ranks (first_runner header records) → AreRunners script header len [] runners
-first_runners script header len records runners lawful sound e l s =
-    subst (λ (ss : List Runner). AreRunners script header len [] ss) (sym s) (record {
+first_runners script header len records runners lawful sound e l s = subst (λ (ss : List Runner). AreRunners script header len [] ss) (sym s) (record {
       all = length-replicate script.ranks (first_runner header records);
       known_ranks = refl;
       each = each;
@@ -49,8 +47,7 @@ first_runners script header len records runners lawful sound e l s =
 
 pub first_free : (header : Header) (ranks records : ℕ) (runners : List Runner) → runners ≡ replicate ranks (first_runner header records) → AreFree runners
 first_free header ranks records runners s r runner f =
-    let same : runner ≡ first_runner header records =
-    entry_replicate ranks r (first_runner header records) runner (ap (λ (ss : List Runner). slice_get ss r) (sym s) ∙ f) in
+    let same : runner ≡ first_runner header records = entry_replicate ranks r (first_runner header records) runner (ap (λ (ss : List Runner). slice_get ss r) (sym s) ∙ f) in
     ap (λ (x : Runner). x.held) same
 
 pub first_goings : (header : Header) (records : ℕ) (calls : List (List Call)) → records ≡ header.records
@@ -67,8 +64,7 @@ pub first_stage : (script : Script) (header : Header) (file : List ℕ) (records
 first_stage script header file records runners lawful e s =
     let one : script.ranks ≡ length script.calls = sym (ranks_lawful script lawful).one_each in
     let ranks : arrived_all header script.calls runners ≡ map (advance header) (map (first_going header) script.calls) =
-    ap (λ (ss : List Runner). arrived_all header script.calls ss) s
-    ∙ ap (λ (n : ℕ). arrived_all header script.calls (replicate n (first_runner header records))) one
+    ap (λ (ss : List Runner). arrived_all header script.calls ss) s ∙ ap (λ (n : ℕ). arrived_all header script.calls (replicate n (first_runner header records))) one
     ∙ first_ranks header records script.calls e in
     λ i. (counted file (e i), ranks i)
 
@@ -104,13 +100,11 @@ pub led_closed : (script : Script) (header : Header) (order : List Mark) (calls 
     → IsLed script.hints (setting_of script header) order file (stage told calls from ranks) (stage left made count (arrived_all header script.calls runners))
     → IsClosed script.hints (setting_of script header) (counted file from, ranks) order calls held later records runners
 led_closed script header order calls made later left held count records from runners ranks file told long over r led =
-    let s = setting_of script header in
-    let stand : Stand = (counted file from, ranks) in
+    let s = setting_of script header in let stand : Stand = (counted file from, ranks) in
     let ends = map (λ (a : Arrived). a.0) (arrived_all header script.calls runners) in
     let known : greatest (map (λ g. g.rank.known) ends) ≡ most_known runners =
-    ap greatest (map_ended (λ (rank : machine.Rank) (answers : List Answer). rank.known) header script.calls runners long over) in
-    let last : ended_from s stand order ≡ close_by s (counted led.left count) ends =
-    ap (λ (t : Stand). close_by s t.0 (map (λ a. a.0) t.1)) led.state in
+    ap greatest (map_ended (λ (rank : machine.Rank) (answers : List Answer). rank.known) header _ _ long over) in
+    let last : ended_from s stand order ≡ close_by s (counted led.left count) ends = ap (λ (t : Stand). close_by s t.0 (map (λ a. a.0) t.1)) led.state in
     let file_is : (close_by s (counted led.left count) ends).bytes ≡ (raised s (counted led.left count) (most_known runners)).file =
     ap (λ (n : ℕ). (raised s (counted led.left count) n).file) known in
     let count_is : (close_by s (counted led.left count) ends).records ≡ max count (most_known runners) =
@@ -121,9 +115,8 @@ led_closed script header order calls made later left held count records from run
       bytes = r.bytes ∙ ap (λ (m : Option (List ℕ)). after (λ f. (raised s (counted f count) (most_known runners)).file) m) led.told
           ∙ ap (λ (f : List ℕ). Some f) (sym file_is ∙ sym (ap (λ (e : End). e.bytes) last));
       records = records_are;
-      answers = sym (map_ended (λ (rank : machine.Rank) (answers : List Answer). answers) header script.calls runners long over) ∙ sym (ap (λ (e : End). e.answers) last);
-      pending = sym (map_ended (λ (rank : machine.Rank) (answers : List Answer). machine.pending rank) header script.calls runners long over)
-          ∙ sym (ap (λ (e : End). e.pending) last);
+      answers = sym (map_ended (λ (rank : machine.Rank) (answers : List Answer). answers) header _ _ long over) ∙ sym (ap (λ (e : End). e.answers) last);
+      pending = sym (map_ended (λ (rank : machine.Rank) (answers : List Answer). machine.pending rank) header _ _ long over) ∙ sym (ap (λ (e : End). e.pending) last);
       calls = r.device ∙ ap (λ (m : Option (List DiskCall)). with_end m (store_records s (nat_lt count records))) led.calls
           ∙ with_end-with_end calls (calls_over script.hints s stand order) (store_records s (nat_lt count records))
           ∙ (λ i. with_end calls (calls_over script.hints s stand order ++ store_records s (nat_lt (before i) (records_are i))));
@@ -137,16 +130,10 @@ pub run_closed : (script : Script) (header : Header) (before order : List Mark) 
     → IfSome told (λ file. IsClosed script.hints (setting_of script header) (counted file from, ranks) order calls held later records runners)
 run_closed script header before order calls made later told left held count records from runners ranks none long over h r =
     let all : h.more ≡ order = sym (h.grown ∙ ap (λ (ms : List Mark). ms ++ h.more) none) in
-    let s = setting_of script header in
-    let a = stage told calls from ranks in
+    let s = setting_of script header in let a = stage told calls from ranks in
     let b = stage left made count (arrived_all header script.calls runners) in
-    by_told told (subst (λ (ms : List Mark). Leads script.hints s ms a b) all h.led)
-  where
-    by_told : (m : Option (List ℕ))
-        → IfSome m (λ file. IsLed script.hints (setting_of script header) order file (stage told calls from ranks) (stage left made count (arrived_all header script.calls runners)))
-        → IfSome m (λ file. IsClosed script.hints (setting_of script header) (counted file from, ranks) order calls held later records runners)
-    by_told None led = tt
-    by_told (Some file) led = led_closed script header order calls made later left held count records from runners ranks file told long over r led
+    IfSome_then told (subst (λ (ms : List Mark). Leads script.hints s ms a b) all h.led)
+    (λ file led. led_closed script header order calls made later left held count records from runners ranks file told long over r led)
 
 -- what the runners of a run that was closed have, for an end over any file
 abbrev pub told_end : ℕ → List Runner → End
@@ -160,8 +147,7 @@ pub alike_ended : (script : Script) (header : Header) (len : ℕ) (before order 
     → HasClosed header (most_known runners) (contents_of left count) (contents_of held records) made later
     → (stand : Stand) → IsLike stand from ranks → AreAlikeEnds (told_end records runners) (ended_from (setting_of script header) stand order)
 alike_ended script header len before order calls made later told left held count records from runners ranks lawful none a f h led r stand like =
-    let s = setting_of script header in
-    let long = (ranks_lawful script lawful).one_each ∙ sym a.all in
+    let s = setting_of script header in let long = (ranks_lawful script lawful).one_each ∙ sym a.all in
     let over = are_over script runners f h in
     let all : led.more ≡ order = sym (led.grown ∙ ap (λ (ms : List Mark). ms ++ led.more) none) in
     let ends = map (λ (x : Arrived). x.0) (arrived_all header script.calls runners) in
@@ -178,10 +164,6 @@ alike_ended script header len before order calls made later told left held count
       answers = ap (map (map blank)) (sym (map_ended (λ (rank : machine.Rank) (answers : List Answer). answers) header script.calls runners long over)) ∙ sym alike.answers;
       pending = sym (map_ended (λ (rank : machine.Rank) (answers : List Answer). machine.pending rank) header script.calls runners long over) ∙ sym alike.pending;
     }
-
-pub if_told : {X : Type 0} {P Q : X → Type 0} (m : Option X) → IfSome m P → ((x : X) → P x → Q x) → IfSome m Q
-if_told None h f = tt
-if_told (Some x) h f = f x h
 
 -- all ranks have ended, and the file was closed
 pub run_ended : (script : Script) (header : Header) (len : ℕ) (before order : List Mark) (calls made later : Option (List DiskCall)) (told left held : Option (List ℕ))

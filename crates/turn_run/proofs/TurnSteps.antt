@@ -18,8 +18,7 @@ solos_known ranks n (Solo q c ∷ more) l h =
 
 pub grown_known : (ranks n : ℕ) (before now : List Mark) → n < ranks → IsGrownBy n before now → list_all (is_of_rank_below ranks) before ≡ true
     → list_all (is_of_rank_below ranks) now ≡ true
-grown_known ranks n before now l g h =
-    ap (λ (ms : List Mark). list_all (is_of_rank_below ranks) ms) g.grown
+grown_known ranks n before now l g h = ap (λ (ms : List Mark). list_all (is_of_rank_below ranks) ms) g.grown
     ∙ list_all-append (is_of_rank_below ranks) before g.more ∙ and_from _ _ h (solos_known ranks n g.more l g.own)
 
 pub grown_meetings : (n : ℕ) (before now : List Mark) → IsGrownBy n before now → meetings now ≡ meetings before
@@ -78,22 +77,18 @@ get_at (x ∷ xs) (suc n) d l = get_at xs n d (omega arith)
 -- what holds of the new element and held of the others holds of all
 pub set_each : {X : Type 0} (P : ℕ → X → Type 0) (xs : List X) (n : ℕ) (was x : X) → slice_get xs n ≡ Some was → P n x
     → ((r : ℕ) (y : X) → n ≢ r → slice_get xs r ≡ Some y → P r y) → (r : ℕ) (y : X) → slice_get (set xs n x) r ≡ Some y → P r y
-set_each P xs n was x e own others r y f =
-    own_or_other (P r y) n r
+set_each P xs n was x e own others r y f = own_or_other (P r y) n r
     (λ same. let g : Some x ≡ Some y = sym (entry_set xs n was x e) ∙ ap (λ (k : ℕ). slice_get (set xs n x) k) same ∙ f in
-    subst (λ (k : ℕ). P k y) same (subst (P n) (same_Some x y g) own))
-    (λ other. others r y other (sym (entry_set_other xs n r x (λ z. other (sym z))) ∙ f))
+    subst (λ (k : ℕ). P k y) same (subst (P n) (same_Some x y g) own)) (λ other. others r y other (sym (entry_set_other xs n r x (λ z. other (sym z))) ∙ f))
 
 pub runners_step : (script : Script) (header : Header) (len later : ℕ) (before now : List Mark) (runners : List Runner) (n : ℕ) (was runner : Runner)
     → AreRunners script header len before runners → slice_get runners n ≡ Some was → IsGrownBy n before now → len ≤ later
     → IsRunner script header now n runner → IsCount header later runner.rank.state.known → AreRunners script header later now (set runners n runner)
 runners_step script header len later before now runners n was runner a e g l own count = record {
   all = length-set runners n runner ∙ a.all;
-  known_ranks = grown_known script.ranks n before now (number runners n was e a.all) g a.known_ranks;
-  each = set_each (λ (r : ℕ) (s : Runner). IsRunner script header now r s) runners n was runner e own
-      (λ r s other f. runner_beside script header before now r n s other g (a.each r s f));
-  known = set_each (λ (r : ℕ) (s : Runner). IsCount header later s.rank.state.known) runners n was runner e count
-      (λ r s other f. count_longer header len later s.rank.state.known l (a.known r s f));
+  known_ranks = grown_known _ _ _ _ (number runners n was e a.all) g a.known_ranks;
+  each = set_each _ _ _ _ _ e own (λ r s other f. runner_beside _ _ _ _ _ _ _ other g (a.each r s f));
+  known = set_each _ _ _ _ _ e count (λ r s other f. count_longer _ _ _ _ l (a.known r s f));
 }
   where
     number : (xs : List Runner) (r : ℕ) (x : Runner) → slice_get xs r ≡ Some x → length xs ≡ script.ranks → r < script.ranks
@@ -105,8 +100,7 @@ pub runners_begun : (script : Script) (header : Header) (len : ℕ) (order : Lis
 runners_begun script header len order runners a = record {
   known_ranks = a.known_ranks;
   each_rank = λ r l.
-      let s = entry_below runners r (omega arith) in
-      let h = a.each r s.0 s.1 in
+      let s = entry_below runners r (omega arith) in let h = a.each r s.0 s.1 in
       placed_rest script header order r (going_of (calls_of script r) s.0) s.0.held h.placed;
 }
 
@@ -115,8 +109,7 @@ pub step_begun : (script : Script) (header : Header) (len : ℕ) (before now : L
     → n < script.ranks → IsGrownBy n before now → HasRest script now n → HasBegun script now
 step_begun script header len before now runners n a l g own = record {
   known_ranks = grown_known script.ranks n before now l g a.known_ranks;
-  each_rank = λ r m. own_or_other (HasRest script now r) n r (λ same. subst (λ (k : ℕ). HasRest script now k) same own)
-      (λ other. let s = entry_below runners r (omega arith) in
+  each_rank = λ r m. own_or_other (HasRest script now r) n r (λ same. subst (λ (k : ℕ). HasRest script now k) same own) (λ other. let s = entry_below runners r (omega arith) in
       let h = runner_beside script header before now r n s.0 other g (a.each r s.0 s.1) in
       placed_rest script header now r (going_of (calls_of script r) s.0) s.0.held h.placed);
 }
@@ -128,8 +121,7 @@ pub get_arrived : (header : Header) (calls : List (List Call)) (runners : List R
 get_arrived header [] runners r own runner e f = absurd cc
 get_arrived header (c ∷ calls) [] r own runner e f = absurd cc
 get_arrived header (c ∷ calls) (s ∷ runners) zero own runner e f =
-    let a : c ≡ own = same_Some c own e in
-    let b : s ≡ runner = same_Some s runner f in
+    let a : c ≡ own = same_Some c own e in let b : s ≡ runner = same_Some s runner f in
     λ i. Some (arrived header (a i) (b i))
 get_arrived header (c ∷ calls) (s ∷ runners) (suc r) own runner e f = get_arrived header calls runners r own runner e f
 
@@ -140,13 +132,10 @@ set_arrived header (c ∷ calls) [] r own runner e = refl
 set_arrived header (c ∷ calls) (s ∷ runners) zero own runner e =
     let a : c ≡ own = same_Some c own e in
     ap (λ (cs : List Call). arrived header cs runner ∷ arrived_all header calls runners) a
-set_arrived header (c ∷ calls) (s ∷ runners) (suc r) own runner e =
-    ap (λ (ranks : List Arrived). arrived header c s ∷ ranks) (set_arrived header calls runners r own runner e)
+set_arrived header (c ∷ calls) (s ∷ runners) (suc r) own runner e = ap (λ (ranks : List Arrived). arrived header c s ∷ ranks) (set_arrived header calls runners r own runner e)
 
 pub calls_there : (script : Script) (r : ℕ) → r < length script.calls → slice_get script.calls r ≡ Some (calls_of script r)
-calls_there script r l =
-    let h = entry_below script.calls r l in
-    h.1 ∙ ap (λ (own : Option (List Call)). Some (elim own [ None ↦ [] | Some cs ↦ cs ])) (sym h.1)
+calls_there script r l = let h = entry_below script.calls r l in h.1 ∙ ap (λ (own : Option (List Call)). Some (elim own [ None ↦ [] | Some cs ↦ cs ])) (sym h.1)
 
 pub gone_led : (script : Script) (header : Header) (runners : List Runner) (n : ℕ) (was runner : Runner) (before now : List Mark) (held left : Option (List ℕ))
     (calls made : Option (List DiskCall)) → is_lawful script ≡ true → n < script.ranks → slice_get runners n ≡ Some was

@@ -1,5 +1,5 @@
 -- A run in turn as a whole: its meetings, and then the end by the ends of its ranks.
-use Rattle.turn_run.proofs.Words.{◌≡◌, ℕ, ◌≤◌, refl, sym, ◌∙◌, ap, subst, inl, inr, ◌⊎◌, List, [], length, map, max, replicate, true, Option, Some, None, Result, Ok, Err, length-map, fold, IfSome, OnOk, result_err, byte_len, map_map, Header, RankEnd, RankStop, RunEnd, ServeEnd, Script, DiskCall, Mark, StepErr, Rose, with_end, BothTold, rose_before, run_calls, raised, count_width, IsLegal, is_lawful, is_sound, End, serial_from, setting_of, IsCutRun, IsTorn, raised_records, as_setting, counted, all_calls_over, ended_from, step_to, ranks_lawful, point, contents_of, seen, HasBegun, IsCount, HasStopped, IsNext, most_known_of, runner_end, EndedAt, HasClosed, IsRun, AreFree, AreRunners, HaveArrived, all_between, AllSay, HaveAnswers, arrived_all, stage, HasLed, first_runner, Runner, blank, AreAlikeEnds, same_beside, le_two}
+use Rattle.turn_run.proofs.Words.{IfSome_then, ◌≡◌, ℕ, ◌≤◌, refl, sym, ◌∙◌, ap, subst, inl, inr, ◌⊎◌, List, [], length, map, max, replicate, true, Option, Some, None, Result, Ok, Err, length-map, fold, IfSome, OnOk, result_err, byte_len, map_map, Header, RankEnd, RankStop, RunEnd, ServeEnd, Script, DiskCall, Mark, StepErr, Rose, with_end, BothTold, rose_before, run_calls, raised, count_width, IsLegal, is_lawful, is_sound, End, serial_from, setting_of, IsCutRun, IsTorn, raised_records, as_setting, counted, all_calls_over, ended_from, step_to, ranks_lawful, point, contents_of, seen, HasBegun, IsCount, HasStopped, IsNext, most_known_of, runner_end, EndedAt, HasClosed, IsRun, AreFree, AreRunners, HaveArrived, all_between, AllSay, HaveAnswers, arrived_all, stage, HasLed, first_runner, Runner, blank, AreAlikeEnds, same_beside, le_two}
 use Rattle.nc_base.specs.declared.step.StepErr.TheVariants as fault
 use Rattle.serial_spec.specs.RankMachine as machine
 use Rattle.turn_run.specs.RankEnds.EndedAt.{as_left, in_close as in_closing}
@@ -11,7 +11,7 @@ use Rattle.turn_run.proofs.SaidMeet.{all_say_here, keep_own}
 use Rattle.turn_run.proofs.TurnCauses.{rose_later}
 use Rattle.turn_run.proofs.TurnEnds.{are_over, ended_legal}
 use Rattle.turn_run.proofs.TurnKnown.{ends_known, most_known, most_rise, rise_sound}
-use Rattle.turn_run.proofs.TurnRuns.{alike_ended, calls_from_first, first_free, if_told, none_begun, run_ended, serial_from_first, told_end, IsClosed}
+use Rattle.turn_run.proofs.TurnRuns.{alike_ended, calls_from_first, first_free, none_begun, run_ended, serial_from_first, told_end, IsClosed}
 
 -- ---- how it went
 
@@ -76,8 +76,7 @@ module _ (script : Script) (header : Header) (len : ℕ) (before : List Mark) (s
 
   all_said : (e : StepErr) → IsThrough script header len before served.order held calls records first left made count last
       → HaveAnswers (setting_of script header) e (point before held records) (all_between script.calls first) served.order last
-  all_said e t =
-      have_reached (setting_of script header) e before served.order held records (all_between script.calls first) (arrived_all header script.calls first) last
+  all_said e t = have_reached (setting_of script header) e before served.order held records (all_between script.calls first) (arrived_all header script.calls first) last
       (between_up header script.calls first (first_free header script.ranks records first all))
       (reached_then (AllSay e last) script.hints (setting_of script header) before served.order served.order t.led.more (stage held calls records (arrived_all header script.calls first))
       (stage left made count (arrived_all header script.calls last)) t.led.led t.led.grown
@@ -97,8 +96,7 @@ module _ (script : Script) (header : Header) (len : ℕ) (before : List Mark) (s
       by_fault (Some x) f = (x, (inr memory, h.answered x f))
 
   ends_at : (e : StepErr) (now : Option (List ℕ)) (total : ℕ) → EndedAt header ends served.fault e (contents_of left count) (contents_of now total)
-      → IfSome held (λ file. (bytes : List ℕ) × (now ≡ Some bytes) × EndsAt script (setting_of script header) e
-      (fold (step_to (setting_of script header)) (counted file records, arrived_all header script.calls first) served.order) served.order bytes total)
+      → IfSome held (λ file. (bytes : List ℕ) × (now ≡ Some bytes) × EndsAt script (setting_of script header) e (fold (step_to (setting_of script header)) (counted file records, arrived_all header script.calls first) served.order) served.order bytes total)
   ends_at e now total (in_closing no_fault whole torn which) =
       let t = h.through no_fault in
       ends_closing script header e before served.order calls made held left now count records total last (arrived_all header script.calls first) none
@@ -146,12 +144,12 @@ module _ (script : Script) (header : Header) (len : ℕ) (before : List Mark) (s
       → ((e : StepErr) → end.fault ≡ Some e → EndOfCut header ends served e left count now total end) → IsRun script header (seen held calls faults) (seen now later risen) total end
   run_in_turn now later risen total end c cut = record {
     legal = λ good. let t = h.through (c.went good).0 in subst (λ (ms : List Mark). IsLegal script ms) (sym c.order) (ended_legal script header len served.order last lawful t.runners t.free t.arrived);
-    bytes = λ good. if_told held (closed_so good) (λ file k. k.bytes ∙ ap (λ (x : End). Some x.bytes) (serial file));
+    bytes = λ good. IfSome_then held (closed_so good) (λ file k. k.bytes ∙ ap (λ (x : End). Some x.bytes) (serial file));
     records = λ good file. (alike_so good file).records;
-    answers = λ good. if_told held (closed_so good) (λ file k. c.answers good ∙ answers_are ∙ k.answers ∙ ap (λ (x : End). x.answers) (serial file));
+    answers = λ good. IfSome_then held (closed_so good) (λ file k. c.answers good ∙ answers_are ∙ k.answers ∙ ap (λ (x : End). x.answers) (serial file));
     alike = λ good file. ap (map (map blank)) (c.answers good ∙ answers_are) ∙ (alike_so good file).answers;
     pending = λ good file. c.pending good ∙ pending_are ∙ (alike_so good file).pending;
-    calls = λ good. if_told held (closed_so good) (λ file k. k.calls ∙ ap (λ (cs : List DiskCall). with_end calls cs) (device file));
+    calls = λ good. IfSome_then held (closed_so good) (λ file k. k.calls ∙ ap (λ (cs : List DiskCall). with_end calls cs) (device file));
     sound = c.sound;
     begun = subst (λ (ms : List Mark). HasBegun script ms) (sym c.order) h.begun;
     fault = λ disk. by_fault disk served.fault refl;
@@ -175,8 +173,7 @@ module _ (script : Script) (header : Header) (len : ℕ) (before : List Mark) (s
 
       alike_so : end.fault ≡ None → (file : List ℕ) → AreAlikeEnds (told_end total last) (serial_from script header file end.order)
       alike_so good file =
-          let t = h.through (c.went good).0 in
-          let ranks = arrived_all header script.calls first in
+          let t = h.through (c.went good).0 in let ranks = arrived_all header script.calls first in
           subst (λ (x : End). AreAlikeEnds (told_end total last) x) (serial file)
           (alike_ended script header len before served.order calls made later held left now count total records last ranks lawful none t.runners t.free t.arrived t.led
           (subst (λ (n : ℕ). HasClosed header n (contents_of left count) (contents_of now total) made later) known_is (c.closed good))

@@ -8,7 +8,7 @@ pub use Rattle.std.proofs.lemmas.List.{append-nil, append_cancel_left, ext_get_o
 pub use Rattle.std.proofs.lemmas.List.Elements.{filter-append}
 pub use Rattle.std.proofs.lemmas.List.Folds.{list_all-append}
 pub use Rattle.std.proofs.lemmas.List.Sums.{sum_by-append}
-pub use Rattle.std.proofs.lemmas.Option.{same_Some, slice_get-get_or, slice_get_within}
+pub use Rattle.std.proofs.lemmas.Option.{IfSome_then, same_Some, slice_get-get_or, slice_get_within}
 pub use Rattle.std.proofs.lemmas.Result.{err_from_is_err_and, on_err_weaker}
 pub use Rattle.std.specs.Int.{byte_len}
 pub use Rattle.std.specs.List.{AllByRecursion, enumerate_from, list_all, list_any}

@@ -48,12 +48,9 @@ returns-in_err-arrive-clause-begun g c =
 
 pub loop-number-preserved : goal.loop-number-preserved
 loop-number-preserved g c =
-    let n = c.loop-number.number in
-    let runners = c.loop-number.runners in
-    let was = slice_index_or runners n c.index-runners-number.result in
-    let runner = c.arrive.new.self in
-    let before = c.loop-number.invariant in
-    let done = c.in_ok-arrive.ensures in
+    let n = c.loop-number.number in let runners = c.loop-number.runners in
+    let was = slice_index_or runners n c.index-runners-number.result in let runner = c.arrive.new.self in
+    let before = c.loop-number.invariant in let done = c.in_ok-arrive.ensures in
     let there : slice_get runners n ≡ Some was = get_at runners n c.index-runners-number.result (omega arith) in
     let long = (ranks_lawful c.args.lent.now.setup.script.now c.requires.lawful).one_each in
     record {
@@ -80,29 +77,23 @@ pub returns-clause-arrived : goal.returns-clause-arrived
 returns-clause-arrived g c r runner e = let l = slice_get_within c.loop-number.runners r runner e in c.loop-number.invariant.arrived r runner (omega arith) e
 
 pub returns-clause-records : goal.returns-clause-records
-returns-clause-records g c =
-    subst (λ (n : ℕ). IsCount c.args.lent.now.setup.header.now (g.D.Disk.len c.loop-number.disk) n) (sym c.loop-number.invariant.count)
+returns-clause-records g c = subst (λ (n : ℕ). IsCount c.args.lent.now.setup.header.now (g.D.Disk.len c.loop-number.disk) n) (sym c.loop-number.invariant.count)
     (count_longer c.args.lent.now.setup.header.now _ _ c.args.progress.now.records c.loop-number.invariant.longer c.requires.records)
 
 pub returns-clause-led : goal.returns-clause-led
-returns-clause-led g c =
-    has_led_at _ _ _ _ _ _ _ _ _ _ (sym c.loop-number.invariant.count) (c.loop-number.invariant.led c.args.progress.now.records)
+returns-clause-led g c = has_led_at _ _ _ _ _ _ _ _ _ _ (sym c.loop-number.invariant.count) (c.loop-number.invariant.led c.args.progress.now.records)
 
 pub returns-clause-begun : goal.returns-clause-begun
 returns-clause-begun g c = runners_begun c.args.lent.now.setup.script.now c.args.lent.now.setup.header.now _ c.loop-number.progress.order c.loop-number.runners c.loop-number.invariant.runners
 
 pub returns-in_err-arrive-clause-cut : goal.returns-in_err-arrive-clause-cut
 returns-in_err-arrive-clause-cut g c e is =
-    let records = c.args.progress.now.records in
-    let script = c.args.lent.now.setup.script.now in
-    let header = c.args.lent.now.setup.header.now in
-    let s = setting_of script header in
-    let n = c.loop-number.number in
-    let runners = c.loop-number.runners in
+    let records = c.args.progress.now.records in let script = c.args.lent.now.setup.script.now in
+    let header = c.args.lent.now.setup.header.now in let s = setting_of script header in
+    let n = c.loop-number.number in let runners = c.loop-number.runners in
     let was = slice_index_or runners n c.index-runners-number.result in
     let there : slice_get runners n ≡ Some was = get_at runners n c.index-runners-number.result (omega arith) in
-    let led = c.loop-number.invariant.led records in
-    let long = (ranks_lawful script c.requires.lawful).one_each in
+    let led = c.loop-number.invariant.led records in let long = (ranks_lawful script c.requires.lawful).one_each in
     let p = err_from_is_err_and c.from_residual.result c.from_residual.ensures.1 in
     stopped_at _ _ _ _ _ _ _ _ _ _ _ (sym (c.arrive.ensures.records ∙ c.loop-number.invariant.count))
     (stopped_then (IsNext script c.arrive.new.progress.order) script.hints s e c.args.progress.now.order c.loop-number.progress.order c.arrive.new.progress.order led.more
@@ -117,31 +108,23 @@ returns-in_err-arrive-clause-cut g c e is =
 
 pub returns-in_err-arrive-clause-answered : goal.returns-in_err-arrive-clause-answered
 returns-in_err-arrive-clause-answered g c e is =
-    let records = c.args.progress.now.records in
-    let script = c.args.lent.now.setup.script.now in
-    let header = c.args.lent.now.setup.header.now in
-    let s = setting_of script header in
-    let n = c.loop-number.number in
-    let runners = c.loop-number.runners in
-    let before = c.loop-number.invariant in
-    let was = slice_index_or runners n c.index-runners-number.result in
+    let records = c.args.progress.now.records in let script = c.args.lent.now.setup.script.now in
+    let header = c.args.lent.now.setup.header.now in let s = setting_of script header in
+    let n = c.loop-number.number in let runners = c.loop-number.runners in
+    let before = c.loop-number.invariant in let was = slice_index_or runners n c.index-runners-number.result in
     let there : slice_get runners n ≡ Some was = get_at runners n c.index-runners-number.result (omega arith) in
     let long = (ranks_lawful script c.requires.lawful).one_each in
     let p = err_from_is_err_and c.from_residual.result c.from_residual.ensures.1 in
     answers_cut script e n c.args.progress.now.order c.loop-number.progress.order c.arrive.new.progress.order c.args.runners.now runners was c.arrive.new.self s (g.D.Disk.held c.args.disk.now) (g.D.Disk.held c.loop-number.disk)
     (g.D.Disk.calls c.args.disk.now) (g.D.Disk.calls c.loop-number.disk) records (long ∙ sym before.runners.all) c.requires.free there (before.led records) c.arrive.ensures.grown before.others before.arrived
-    before.same
-    (c.in_err-arrive.ensures.answered e (same_err c.from_residual.result e _ p.0 is p.1 p.2) records (arrived_all header script.calls runners)
+    before.same (c.in_err-arrive.ensures.answered e (same_err c.from_residual.result e _ p.0 is p.1 p.2) records (arrived_all header script.calls runners)
     (get_arrived header script.calls runners n (calls_of script n) was (calls_there script n (omega arith)) there))
 
 pub returns-in_err-arrive-clause-told : goal.returns-in_err-arrive-clause-told
 returns-in_err-arrive-clause-told g c =
-    let script = c.args.lent.now.setup.script.now in
-    let header = c.args.lent.now.setup.header.now in
-    let n = c.loop-number.number in
-    let runners = c.loop-number.runners in
-    let before = c.loop-number.invariant in
-    let was = slice_index_or runners n c.index-runners-number.result in
+    let script = c.args.lent.now.setup.script.now in let header = c.args.lent.now.setup.header.now in
+    let n = c.loop-number.number in let runners = c.loop-number.runners in
+    let before = c.loop-number.invariant in let was = slice_index_or runners n c.index-runners-number.result in
     let there : slice_get runners n ≡ Some was = get_at runners n c.index-runners-number.result (omega arith) in
     let long = (ranks_lawful script c.requires.lawful).one_each in
     told_then _ _ _ _ _ _ _ _ _ _ before.told (before.led c.args.progress.now.records)

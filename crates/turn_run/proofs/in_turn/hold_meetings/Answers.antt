@@ -28,8 +28,7 @@ meetings-smaller g c =
 
 pub meetings-preserved : goal.meetings-preserved
 meetings-preserved g c =
-    let k = c.meetings.invariant in
-    let met = c.in_ok-meet.ensures in
+    let k = c.meetings.invariant in let met = c.in_ok-meet.ensures in
     let arrived = c.in_ok-arrive_all-2.ensures in
     record {
       from = arrived.from;
@@ -47,8 +46,7 @@ meetings-preserved g c =
 pub returns-in_err-arrive_all-2-clause-cause : goal.returns-in_err-arrive_all-2-clause-cause
 returns-in_err-arrive_all-2-clause-cause g c =
     let p = err_from_is_err_and c.from_residual-in_err-arrive_all-2.result c.from_residual-in_err-arrive_all-2.ensures.1 in
-    let k = c.meetings.invariant.faults in
-    let m = c.meet.ensures.cause.later in
+    let k = c.meetings.invariant.faults in let m = c.meet.ensures.cause.later in
     rw (p.1, p.2) (cause_after (g.D.Disk.faults c.args.disk.now) (g.D.Disk.faults c.meet.new.disk) (g.D.Disk.faults c.arrive_all-in-meetings.new.disk) _ (omega arith)
     c.in_err-arrive_all-2.ensures.cause)
 
@@ -71,8 +69,7 @@ returns-in_err-arrive_all-clause-cut g c e is =
 
 pub returns-in_err-meet-clause-cut : goal.returns-in_err-meet-clause-cut
 returns-in_err-meet-clause-cut g c e is =
-    let script = c.args.lent.now.setup.script.now in
-    let header = c.args.lent.now.setup.header.now in
+    let script = c.args.lent.now.setup.script.now in let header = c.args.lent.now.setup.header.now in
     let led = c.meetings.invariant.led in
     let p = err_from_is_err_and c.from_residual-in_err-meet.result c.from_residual-in_err-meet.ensures.1 in
     stopped_then (IsNext script c.meet.new.progress.order) script.hints (setting_of script header) e c.args.progress.now.order c.meetings.progress.order c.meet.new.progress.order led.more
@@ -82,8 +79,7 @@ returns-in_err-meet-clause-cut g c e is =
 
 pub returns-in_err-arrive_all-2-clause-cut : goal.returns-in_err-arrive_all-2-clause-cut
 returns-in_err-arrive_all-2-clause-cut g c e is =
-    let script = c.args.lent.now.setup.script.now in
-    let header = c.args.lent.now.setup.header.now in
+    let script = c.args.lent.now.setup.script.now in let header = c.args.lent.now.setup.header.now in
     let led = has_led_then _ _ _ c.meetings.progress.order _ _ _ _ c.meetings.invariant.led c.in_ok-meet.ensures.led in
     let p = err_from_is_err_and c.from_residual-in_err-arrive_all-2.result c.from_residual-in_err-arrive_all-2.ensures.1 in
     stopped_then (IsNext script c.arrive_all-in-meetings.new.progress.order) script.hints (setting_of script header) e c.args.progress.now.order c.meet.new.progress.order c.arrive_all-in-meetings.new.progress.order led.more
@@ -98,10 +94,8 @@ returns-in_err-arrive_all-clause-answered g c e is =
 
 pub returns-in_err-meet-clause-answered : goal.returns-in_err-meet-clause-answered
 returns-in_err-meet-clause-answered g c e is =
-    let script = c.args.lent.now.setup.script.now in
-    let header = c.args.lent.now.setup.header.now in
-    let s = setting_of script header in
-    let led = c.meetings.invariant.led in
+    let script = c.args.lent.now.setup.script.now in let header = c.args.lent.now.setup.header.now in
+    let s = setting_of script header in let led = c.meetings.invariant.led in
     let first = c.args.runners.now in
     let p = err_from_is_err_and c.from_residual-in_err-meet.result c.from_residual-in_err-meet.ensures.1 in
     have_reached s e c.args.progress.now.order c.meet.new.progress.order (g.D.Disk.held c.args.disk.now) c.args.progress.now.records (all_between script.calls first) (arrived_all header script.calls first) c.meet.new.runners
@@ -113,10 +107,8 @@ returns-in_err-meet-clause-answered g c e is =
 
 pub returns-in_err-arrive_all-2-clause-answered : goal.returns-in_err-arrive_all-2-clause-answered
 returns-in_err-arrive_all-2-clause-answered g c e is =
-    let script = c.args.lent.now.setup.script.now in
-    let header = c.args.lent.now.setup.header.now in
-    let s = setting_of script header in
-    let first = c.args.runners.now in
+    let script = c.args.lent.now.setup.script.now in let header = c.args.lent.now.setup.header.now in
+    let s = setting_of script header in let first = c.args.runners.now in
     let p = err_from_is_err_and c.from_residual-in_err-arrive_all-2.result c.from_residual-in_err-arrive_all-2.ensures.1 in
     let a = stage (g.D.Disk.held c.args.disk.now) (g.D.Disk.calls c.args.disk.now) c.args.progress.now.records (arrived_all header script.calls first) in
     let b = stage (g.D.Disk.held c.meetings.disk) (g.D.Disk.calls c.meetings.disk) c.meetings.progress.records (arrived_all header script.calls c.meetings.runners) in

@@ -37,8 +37,7 @@ returns-clause-runners g c =
     c.in_ok-pair.ensures.longer c.in_ok-pair.ensures.count (rw c.requires.number at c.in_ok-note_step.ensures.order)
 
 pub returns-clause-free : goal.returns-clause-free
-returns-clause-free g c =
-    free_after c.in_ok-job.ensures.freed c.in_ok-hear_all.ensures.all
+returns-clause-free g c = free_after c.in_ok-job.ensures.freed c.in_ok-hear_all.ensures.all
     (table_long c.args.lent.now.setup.header.now c.args.runners.now c.in_ok-job.job.batches c.in_ok-pair.table c.requires.met c.in_ok-job.ensures.batches c.in_ok-pair.ensures.fits)
 
 pub returns-clause-led : goal.returns-clause-led
@@ -59,8 +58,7 @@ returns-clause-between g c =
     (record { shared = met.told; count = met.records; bytes = met.bytes; got = met.got })
 
 pub returns-clause-told : goal.returns-clause-told
-returns-clause-told g c =
-    told_meeting c.args.number (taken_by c.requires.lawful c.requires.runners c.requires.met c.in_ok-job.ensures.batches c.in_ok-job.ensures.known)
+returns-clause-told g c = told_meeting c.args.number (taken_by c.requires.lawful c.requires.runners c.requires.met c.in_ok-job.ensures.batches c.in_ok-job.ensures.known)
     c.in_ok-note_step.ensures.order c.in_ok-note_step.ensures.heard c.in_ok-pair.ensures.records
 
 pub returns-clause-begun : goal.returns-clause-begun
@@ -138,8 +136,7 @@ pub returns-in_err-hear_all-clause-answered : goal.returns-in_err-hear_all-claus
 returns-in_err-hear_all-clause-answered g c e is =
     let p = err_from_is_err_and c.from_residual-in_err-hear_all.result c.from_residual-in_err-hear_all.ensures.1 in
     let wide = table_long c.args.lent.now.setup.header.now c.args.runners.now c.in_ok-job.job.batches c.in_ok-pair.table c.requires.met c.in_ok-job.ensures.batches c.in_ok-pair.ensures.fits in
-    let mid = c.in_ok-job.ensures.freed in
-    let met = c.in_ok-pair.ensures in
+    let mid = c.in_ok-job.ensures.freed in let met = c.in_ok-pair.ensures in
     reached_deaf c.hear_all.new.runners c.args.number refl (memory_of c.from_residual-in_err-hear_all.result e p.0 is p.1 p.2) c.in_ok-note_step.ensures.order (c.hear_all.auto.runners ∙ mid.long) wide c.requires.runners
     c.requires.arrived (taken_by c.requires.lawful c.requires.runners c.requires.met c.in_ok-job.ensures.batches c.in_ok-job.ensures.known)
     (record { shared = met.told; count = met.records; bytes = met.bytes; got = met.got })

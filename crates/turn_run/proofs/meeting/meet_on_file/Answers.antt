@@ -19,8 +19,7 @@ returns-in_err-end-clause-count g c =
     count_still c.args.dataset.now.header.now _ _ c.args.records.now c.put_half.new.records c.requires.records c.in_err-end.ensures.grown c.in_err-end.ensures.kept
 
 pub raise_records-requires-clause-records : goal.raise_records-requires-clause-records
-raise_records-requires-clause-records g c κs within =
-    count_small c.args.dataset.now.header.now _ c.put_half.new.records
+raise_records-requires-clause-records g c κs within = count_small c.args.dataset.now.header.now _ c.put_half.new.records
     (round_count (setting c.args.dataset.now.header.now c.args.dataset.now.hints.now) _ _ c.args.records.now c.put_half.new.records (puts_in c.args.job.now.batches) c.requires.sound c.requires.job.puts
     c.requires.records c.in_ok-end.ensures.grown c.in_ok-end.ensures.long c.in_ok-end.ensures.records)
 

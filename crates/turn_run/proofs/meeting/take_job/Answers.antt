@@ -6,20 +6,15 @@ use Rattle.turn_run.proofs.meeting.take_job.Goals as goal
 
 pub loop-runner-preserved : goal.loop-runner-preserved
 loop-runner-preserved c =
-    let old = c.args.runners.now in
-    let now = c.loop-runner.runners in
-    let i = c.loop-runner.runner-index in
-    let runner = get_or now i c.runner-item.result in
-    let long = c.loop-runner.auto.runners in
-    let test = c.loop-runner-test.true in
-    let within : i < length now = omega arith in
-    let own = slice_get-get_or now i c.runner-item.result within in
+    let old = c.args.runners.now in let now = c.loop-runner.runners in
+    let i = c.loop-runner.runner-index in let runner = get_or now i c.runner-item.result in
+    let long = c.loop-runner.auto.runners in let test = c.loop-runner-test.true in
+    let within : i < length now = omega arith in let own = slice_get-get_or now i c.runner-item.result within in
     let there = sym (c.loop-runner.invariant.left i (omega arith)) ∙ own in
     record {
       batches = batches_next old i runner _ _ there c.loop-runner.invariant.batches c.in_ok-take_offer.ensures.batches;
       known = known_next old i runner _ _ _ there c.loop-runner.invariant.known c.in_ok-take_offer.ensures.known c.max-known.ensures;
-      freed = each_more (λ r a b. IsFreed a b) old now i runner c.take_offer.new.runner there own
-          c.in_ok-take_offer.ensures.freed c.loop-runner.invariant.freed;
+      freed = each_more (λ r a b. IsFreed a b) old now i runner c.take_offer.new.runner there own c.in_ok-take_offer.ensures.freed c.loop-runner.invariant.freed;
       left = left_more old now i c.take_offer.new.runner c.loop-runner.invariant.left;
     }
 
@@ -37,12 +32,8 @@ returns-clause-kept c = keep_freed c.args.runners.now c.loop-runner.runners (rec
 
 pub returns-in_err-take_offer-clause-kept : goal.returns-in_err-take_offer-clause-kept
 returns-in_err-take_offer-clause-kept c =
-    let old = c.args.runners.now in
-    let now = c.loop-runner.runners in
-    let i = c.loop-runner.runner-index in
-    let runner = get_or now i c.runner-item.result in
-    let long = c.loop-runner.auto.runners in
-    let test = c.loop-runner-test.true in
-    let within : i < length now = omega arith in
-    let own = slice_get-get_or now i c.runner-item.result within in
+    let old = c.args.runners.now in let now = c.loop-runner.runners in
+    let i = c.loop-runner.runner-index in let runner = get_or now i c.runner-item.result in
+    let long = c.loop-runner.auto.runners in let test = c.loop-runner-test.true in
+    let within : i < length now = omega arith in let own = slice_get-get_or now i c.runner-item.result within in
     keep_part old now i runner c.take_offer.new.runner own (λ r a b l g h. (c.loop-runner.invariant.freed r a b l g h).answers) c.loop-runner.invariant.left c.take_offer.ensures.kept

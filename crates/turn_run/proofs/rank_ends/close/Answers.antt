@@ -8,9 +8,7 @@ use Rattle.turn_run.proofs.EndedLaws.{ended_before, ended_err, ended_memory, err
 use Rattle.turn_run.proofs.rank_ends.close.Goals as goal
 
 pub raise_records-requires-clause-records : goal.raise_records-requires-clause-records
-raise_records-requires-clause-records g c κs within =
-    let none : c.args.before ≡ None = search rules in
-    count_small c.args.header.now (g.D.Disk.len c.args.disk.now) c.args.records.now (c.requires.count none)
+raise_records-requires-clause-records g c κs within = let none : c.args.before ≡ None = search rules in count_small _ _ _ (c.requires.count none)
 
 pub raise_records-requires-clause-needed : goal.raise_records-requires-clause-needed
 raise_records-requires-clause-needed g c κs within =
@@ -19,9 +17,7 @@ raise_records-requires-clause-needed g c κs within =
     (subst (λ (n : ℕ). is_sound (record c.args.header.now { records = n }) ≡ true) (sym c.greatest_known.ensures) (c.requires.known none (c.some_broke.ensures.none c.if-some_broke.false)))
 
 pub raise_records-requires-clause-long : goal.raise_records-requires-clause-long
-raise_records-requires-clause-long g c κs within =
-    let none : c.args.before ≡ None = search rules in
-    count_begins c.args.header.now (g.D.Disk.len c.args.disk.now) c.args.records.now (c.requires.count none)
+raise_records-requires-clause-long g c κs within = let none : c.args.before ≡ None = search rules in count_begins _ _ _ (c.requires.count none)
 
 pub returns-clause-served : goal.returns-clause-served
 returns-clause-served g c =
@@ -30,25 +26,20 @@ returns-clause-served g c =
 
 pub returns-clause-sound : goal.returns-clause-sound
 returns-clause-sound g c =
-    let none : c.args.before ≡ None = search rules in
-    let count = c.requires.count none in
+    let none : c.args.before ≡ None = search rules in let count = c.requires.count none in
     raised_sound c.raise_records.result c.args.header.now c.args.records.now c.greatest_known.result _ count.sound
     (subst (λ (n : ℕ). is_sound (record c.args.header.now { records = n }) ≡ true) (sym c.greatest_known.ensures) (c.requires.known none (c.some_broke.ensures.none c.if-some_broke.false)))
     c.raise_records.ensures.records
 
 pub returns-then-some_broke-clause-at : goal.returns-then-some_broke-clause-at
-returns-then-some_broke-clause-at g c e is =
-    ended_memory c.args.header.now c.args.ends.now c.args.before e (g.D.Disk.held c.args.disk.now) c.args.records.now (sym (err_is fault.Memory e is))
+returns-then-some_broke-clause-at g c e is = ended_memory _ _ _ _ _ _ (sym (err_is _ _ is))
 
 pub returns-in-Some-clause-at : goal.returns-in-Some-clause-at
-returns-in-Some-clause-at g c e is =
-    ended_before c.args.header.now c.args.ends.now c.args.before e (g.D.Disk.held c.args.disk.now) c.args.records.now (c.in-Some.is ∙ ap (λ (x : StepErr). Some x) (err_is c.in-Some.fault e is))
+returns-in-Some-clause-at g c e is = ended_before _ _ _ _ _ _ (c.in-Some.is ∙ ap (λ (x : StepErr). Some x) (err_is _ _ is))
 
 pub returns-clause-at : goal.returns-clause-at
 returns-clause-at g c e is =
     let none : c.args.before ≡ None = search rules in
-    ended_err c.args.header.now c.args.ends.now c.args.before c.raise_records.result e (g.D.Disk.held c.args.disk.now) (g.D.Disk.held c.raise_records.new.disk) c.args.records.now c.raise_records.new.records c.greatest_known.result
-    is none (c.some_broke.ensures.none c.if-some_broke.false) c.greatest_known.ensures
-    (on_err_weaker c.raise_records.result
+    ended_err _ _ _ _ _ _ _ _ _ _ is none (c.some_broke.ensures.none c.if-some_broke.false) c.greatest_known.ensures (on_err_weaker c.raise_records.result
     (closing_torn c.args.header.now c.args.records.now c.greatest_known.result c.greatest_known.result (g.D.Disk.held c.args.disk.now) (g.D.Disk.held c.raise_records.new.disk) refl) c.raise_records.ensures.refused)
     c.raise_records.ensures.kept

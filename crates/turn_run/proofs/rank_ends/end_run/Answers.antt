@@ -41,8 +41,7 @@ returns-in-Err-clause-cause g c = λ none disk. c.in-Err.ensures.cause none (ap 
 pub returns-in-Ok-clause-at : goal.returns-in-Ok-clause-at
 returns-in-Ok-clause-at g c = λ e is.
     subst (λ (ends : List RankEnd). EndedAt c.args.header.now ends c.args.served.fault e (contents_of (g.D.Disk.held c.args.disk.now) c.args.records.now) (contents_of (g.D.Disk.held c.close.new.disk) c.close.new.records)) c.deref.ensures.value
-    (ended_closed c.args.header.now c.deref.result.now c.args.served.fault e (g.D.Disk.held c.args.disk.now) (g.D.Disk.held c.close.new.disk) (g.D.Disk.calls c.args.disk.now) (g.D.Disk.calls c.close.new.disk)
-    c.args.records.now c.close.new.records c.in-Ok.ensures.served.0 c.in-Ok.ensures.served.1 c.in-Ok.ensures.closed)
+    (ended_closed _ _ _ _ _ _ _ _ _ _ c.in-Ok.ensures.served.0 c.in-Ok.ensures.served.1 c.in-Ok.ensures.closed)
 
 pub returns-in-Ok-clause-rows : goal.returns-in-Ok-clause-rows
 returns-in-Ok-clause-rows g c = λ e is. inr (c.ended.ensures.none e is)
@@ -50,8 +49,7 @@ returns-in-Ok-clause-rows g c = λ e is. inr (c.ended.ensures.none e is)
 pub returns-in-Err-clause-at : goal.returns-in-Err-clause-at
 returns-in-Err-clause-at g c = λ e is.
     subst (λ (ends : List RankEnd). EndedAt c.args.header.now ends c.args.served.fault e (contents_of (g.D.Disk.held c.args.disk.now) c.args.records.now) (contents_of (g.D.Disk.held c.close.new.disk) c.close.new.records)) c.deref.ensures.value
-    (ended_as c.args.header.now c.deref.result.now c.args.served.fault c.in-Err.fault e (g.D.Disk.held c.args.disk.now) (g.D.Disk.held c.close.new.disk) c.args.records.now c.close.new.records
-    (c.cut_off.ensures.fault e is) (c.in-Err.ensures.at c.in-Err.fault refl))
+    (ended_as _ _ _ _ _ _ _ _ _ (c.cut_off.ensures.fault e is) (c.in-Err.ensures.at c.in-Err.fault refl))
 
 pub returns-in-Err-clause-rows : goal.returns-in-Err-clause-rows
 returns-in-Err-clause-rows g c = λ e is. c.cut_off.ensures.rows

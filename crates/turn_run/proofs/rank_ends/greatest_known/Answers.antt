@@ -4,6 +4,4 @@ use Rattle.turn_run.proofs.TurnKnown.{known_more}
 use Rattle.turn_run.proofs.rank_ends.greatest_known.Goals as goal
 
 pub loop-end-preserved : goal.loop-end-preserved
-loop-end-preserved c =
-    known_more c.args.ends.now c.loop-end.end-index c.end-item.result c.loop-end.known c.max-known.result (omega arith) c.end-item.is c.loop-end.invariant
-    c.max-known.ensures
+loop-end-preserved c = known_more _ _ _ _ _ (omega arith) c.end-item.is c.loop-end.invariant c.max-known.ensures

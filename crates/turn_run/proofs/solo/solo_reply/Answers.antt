@@ -33,8 +33,7 @@ pub returns-clause-told : goal.returns-clause-told
 returns-clause-told g c = c.told_pair.ensures ∙ c.in_ok-end.ensures.told
 
 pub returns-clause-records : goal.returns-clause-records
-returns-clause-records g c =
-    c.records_known.ensures
+returns-clause-records g c = c.records_known.ensures
     ∙ ap (max c.args.offer.now.known) (needed_solo (setting c.args.dataset.now.header.now c.args.dataset.now.hints.now) c.args.number c.args.offer.now.batch.puts c.in_ok-end.end c.in_ok-end.ensures.told)
 
 pub returns-in_err-end-clause-refused : goal.returns-in_err-end-clause-refused

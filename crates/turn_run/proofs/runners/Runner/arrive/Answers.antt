@@ -16,8 +16,7 @@ returns-in_err-go_on-clause-begun g c =
 
 pub alone-init : goal.alone-init
 alone-init g c =
-    let own = c.own_calls-calls.result.now in
-    let all = calls_of c.args.lent.now.setup.script.now c.args.number in
+    let own = c.own_calls-calls.result.now in let all = calls_of c.args.lent.now.setup.script.now c.args.number in
     let e : own ≡ all = c.own_calls-calls.ensures in
     let way = way_free c.args.lent.now.setup.script.now c.args.lent.now.setup.header.now c.args.progress.now.order c.args.number all c.args.self.now c.requires.free c.requires.runner.placed in
     let here = subst (λ (o : List Call). IsOnWay c.args.lent.now.setup.script.now c.args.progress.now.order c.args.number (between o c.args.self.now) None) (sym e) way in
@@ -41,34 +40,24 @@ returns-in_err-do_alone-clause-grown g c = grown_then _ _ _ _ (gone_grown _ _ _ 
 
 pub alone-smaller : goal.alone-smaller
 alone-smaller g c =
-    let all = calls_of c.args.lent.now.setup.script.now c.args.number in
-    let taken = c.in-Some.ensures.taken in
+    let all = calls_of c.args.lent.now.setup.script.now c.args.number in let taken = c.in-Some.ensures.taken in
     let asks = alone_asks c.args.lent.now.setup.script.now c.args.lent.now.setup.header.now c.alone.progress.order c.args.number all c.alone.self c.in-Some.offer taken.0 taken.1 c.alone.invariant.runner.placed in
     let few = call_number c.args.lent.now.setup.script.now c.alone.progress.order c.args.number _ asks.call _ asks.way refl in
-    let one = c.in_ok-do_alone.ensures.answers in
-    let more = c.in_ok-go_on-2.ensures.more in
+    let one = c.in_ok-do_alone.ensures.answers in let more = c.in_ok-go_on-2.ensures.more in
     let same = ap (λ (xs : List Answer). length xs) c.take_alone.ensures.answers in
     omega arith
 
 pub alone-preserved : goal.alone-preserved
 alone-preserved g c =
-    let script = c.args.lent.now.setup.script.now in
-    let header = c.args.lent.now.setup.header.now in
-    let r = c.args.number in
-    let hints = script.hints in
-    let s = setting_of script header in
-    let own = c.own_calls-calls.result.now in
-    let all = calls_of script r in
-    let e : own ≡ all = c.own_calls-calls.ensures in
-    let taken = c.in-Some.ensures.taken in
-    let mid = c.do_alone.new.self in
-    let new = c.go_on-in-Some.new.self in
-    let order = c.do_alone.new.progress.order in
+    let script = c.args.lent.now.setup.script.now in let header = c.args.lent.now.setup.header.now in
+    let r = c.args.number in let hints = script.hints in
+    let s = setting_of script header in let own = c.own_calls-calls.result.now in
+    let all = calls_of script r in let e : own ≡ all = c.own_calls-calls.ensures in
+    let taken = c.in-Some.ensures.taken in let mid = c.do_alone.new.self in
+    let new = c.go_on-in-Some.new.self in let order = c.do_alone.new.progress.order in
     let here = subst (λ (o : List Call). IsOnWay script order r (between o mid) None) (sym e) c.in_ok-do_alone.ensures.way in
-    let longer = c.alone.invariant.longer in
-    let grown = c.do_alone.ensures.longer in
-    let faults = c.alone.invariant.faults in
-    let later = c.do_alone.ensures.cause.later in
+    let longer = c.alone.invariant.longer in let grown = c.do_alone.ensures.longer in
+    let faults = c.alone.invariant.faults in let later = c.do_alone.ensures.cause.later in
     record {
       from = c.do_alone.ensures.from;
       longer = omega arith;
@@ -114,12 +103,9 @@ returns-in_err-go_on-clause-cut g c e is records ranks at =
 
 pub returns-in_err-do_alone-clause-cut : goal.returns-in_err-do_alone-clause-cut
 returns-in_err-do_alone-clause-cut g c e is records ranks at =
-    let script = c.args.lent.now.setup.script.now in
-    let header = c.args.lent.now.setup.header.now in
-    let r = c.args.number in
-    let s = setting_of script header in
-    let all = calls_of script r in
-    let taken = c.in-Some.ensures.taken in
+    let script = c.args.lent.now.setup.script.now in let header = c.args.lent.now.setup.header.now in
+    let r = c.args.number in let s = setting_of script header in
+    let all = calls_of script r in let taken = c.in-Some.ensures.taken in
     let p = err_from_is_err_and c.from_residual-in_err-do_alone.result c.from_residual-in_err-do_alone.ensures.1 in
     gone_stopped (MayFollow script r c.do_alone.new.progress.order) script.hints s r e c.args.progress.now.order c.alone.progress.order c.do_alone.new.progress.order
     (g.D.Disk.held c.args.disk.now) (g.D.Disk.held c.alone.disk) (g.D.Disk.held c.do_alone.new.disk) (g.D.Disk.calls c.args.disk.now) (g.D.Disk.calls c.alone.disk)
@@ -130,12 +116,9 @@ returns-in_err-do_alone-clause-cut g c e is records ranks at =
 
 pub returns-in_err-go_on-2-clause-cut : goal.returns-in_err-go_on-2-clause-cut
 returns-in_err-go_on-2-clause-cut g c e is records ranks at =
-    let script = c.args.lent.now.setup.script.now in
-    let header = c.args.lent.now.setup.header.now in
-    let r = c.args.number in
-    let s = setting_of script header in
-    let all = calls_of script r in
-    let taken = c.in-Some.ensures.taken in
+    let script = c.args.lent.now.setup.script.now in let header = c.args.lent.now.setup.header.now in
+    let r = c.args.number in let s = setting_of script header in
+    let all = calls_of script r in let taken = c.in-Some.ensures.taken in
     let p = err_from_is_err_and c.from_residual-in_err-go_on-2.result c.from_residual-in_err-go_on-2.ensures.1 in
     gone_stopped (MayFollow script r c.do_alone.new.progress.order) script.hints s r e c.args.progress.now.order c.alone.progress.order c.do_alone.new.progress.order
     (g.D.Disk.held c.args.disk.now) (g.D.Disk.held c.alone.disk) (g.D.Disk.held c.do_alone.new.disk) (g.D.Disk.calls c.args.disk.now) (g.D.Disk.calls c.alone.disk)
@@ -146,31 +129,24 @@ returns-in_err-go_on-2-clause-cut g c e is records ranks at =
     (subst (λ (a : Arrived). HasGone script.hints s r (rank_stage c.alone.progress.order (g.D.Disk.held c.alone.disk) (g.D.Disk.calls c.alone.disk) a) (rank_stage c.do_alone.new.progress.order (g.D.Disk.held c.do_alone.new.disk) (g.D.Disk.calls c.do_alone.new.disk) (arrived header all c.do_alone.new.self)))
     (taken_asks header all c.alone.self c.take_alone.new.self c.in-Some.offer taken.0 c.take_alone.ensures.rank c.take_alone.ensures.answers) c.in_ok-do_alone.ensures.gone)
     (λ n others there. stopped_between (MayFollow script r c.do_alone.new.progress.order) s e c.do_alone.new.progress.order c.do_alone.new.progress.order (g.D.Disk.held c.do_alone.new.disk) (g.D.Disk.held c.do_alone.new.disk)
-    n n others (memory_of c.from_residual-in_err-go_on-2.result e p.0 is p.1 p.2) refl refl refl))
-    records ranks at
+    n n others (memory_of c.from_residual-in_err-go_on-2.result e p.0 is p.1 p.2) refl refl refl)) records ranks at
 
 pub returns-in_err-go_on-clause-answered : goal.returns-in_err-go_on-clause-answered
 returns-in_err-go_on-clause-answered g c e is records ranks at =
-    let script = c.args.lent.now.setup.script.now in
-    let header = c.args.lent.now.setup.header.now in
-    let r = c.args.number in
-    let all = calls_of script r in
+    let script = c.args.lent.now.setup.script.now in let header = c.args.lent.now.setup.header.now in
+    let r = c.args.number in let all = calls_of script r in
     let answers = c.go_on.new.self.answers in
     let p = err_from_is_err_and c.from_residual.result c.from_residual.ensures.1 in
-    let memory = memory_of c.from_residual.result e p.0 is p.1 p.2 in
-    let from = arrived header all c.args.self.now in
+    let memory = memory_of c.from_residual.result e p.0 is p.1 p.2 in let from = arrived header all c.args.self.now in
     reached_here (SaysAt r e answers) (setting_of script header) c.args.progress.now.order c.args.progress.now.order (g.D.Disk.held c.args.disk.now) records ranks refl
     (λ n. says_here r e answers from n ranks at
     (said_part e from answers memory (part_arrived header c.own_calls-calls.result.now all c.args.self.now answers c.own_calls-calls.ensures c.requires.free c.in_err-go_on.ensures.some)))
 
 pub returns-in_err-do_alone-clause-answered : goal.returns-in_err-do_alone-clause-answered
 returns-in_err-do_alone-clause-answered g c e is records ranks at =
-    let script = c.args.lent.now.setup.script.now in
-    let header = c.args.lent.now.setup.header.now in
-    let r = c.args.number in
-    let s = setting_of script header in
-    let all = calls_of script r in
-    let taken = c.in-Some.ensures.taken in
+    let script = c.args.lent.now.setup.script.now in let header = c.args.lent.now.setup.header.now in
+    let r = c.args.number in let s = setting_of script header in
+    let all = calls_of script r in let taken = c.in-Some.ensures.taken in
     let p = err_from_is_err_and c.from_residual-in_err-do_alone.result c.from_residual-in_err-do_alone.ensures.1 in
     gone_reached (SaysAt r e c.do_alone.new.self.answers) script.hints s r c.args.progress.now.order c.alone.progress.order c.do_alone.new.progress.order
     (g.D.Disk.held c.args.disk.now) (g.D.Disk.held c.alone.disk) (g.D.Disk.calls c.args.disk.now) (g.D.Disk.calls c.alone.disk)
@@ -181,14 +157,10 @@ returns-in_err-do_alone-clause-answered g c e is records ranks at =
 
 pub returns-in_err-go_on-2-clause-answered : goal.returns-in_err-go_on-2-clause-answered
 returns-in_err-go_on-2-clause-answered g c e is records ranks at =
-    let script = c.args.lent.now.setup.script.now in
-    let header = c.args.lent.now.setup.header.now in
-    let r = c.args.number in
-    let s = setting_of script header in
-    let all = calls_of script r in
-    let taken = c.in-Some.ensures.taken in
-    let mid = c.do_alone.new.self in
-    let answers = c.go_on-in-Some.new.self.answers in
+    let script = c.args.lent.now.setup.script.now in let header = c.args.lent.now.setup.header.now in
+    let r = c.args.number in let s = setting_of script header in
+    let all = calls_of script r in let taken = c.in-Some.ensures.taken in
+    let mid = c.do_alone.new.self in let answers = c.go_on-in-Some.new.self.answers in
     let from = arrived header all mid in
     let p = err_from_is_err_and c.from_residual-in_err-go_on-2.result c.from_residual-in_err-go_on-2.ensures.1 in
     let memory = memory_of c.from_residual-in_err-go_on-2.result e p.0 is p.1 p.2 in
@@ -196,8 +168,7 @@ returns-in_err-go_on-2-clause-answered g c e is records ranks at =
     (g.D.Disk.held c.args.disk.now) (g.D.Disk.held c.alone.disk) (g.D.Disk.calls c.args.disk.now) (g.D.Disk.calls c.alone.disk)
     (arrived header all c.args.self.now) (arrived header all c.alone.self) c.alone.invariant.gone
     (gone_reached (SaysAt r e answers) script.hints s r c.alone.progress.order c.do_alone.new.progress.order c.do_alone.new.progress.order
-    (g.D.Disk.held c.alone.disk) (g.D.Disk.held c.do_alone.new.disk) (g.D.Disk.calls c.alone.disk) (g.D.Disk.calls c.do_alone.new.disk)
-    (arrived header all c.alone.self) from
+    (g.D.Disk.held c.alone.disk) (g.D.Disk.held c.do_alone.new.disk) (g.D.Disk.calls c.alone.disk) (g.D.Disk.calls c.do_alone.new.disk) (arrived header all c.alone.self) from
     (subst (λ (a : Arrived). HasGone script.hints s r (rank_stage c.alone.progress.order (g.D.Disk.held c.alone.disk) (g.D.Disk.calls c.alone.disk) a) (rank_stage c.do_alone.new.progress.order (g.D.Disk.held c.do_alone.new.disk) (g.D.Disk.calls c.do_alone.new.disk) from))
     (taken_asks header all c.alone.self c.take_alone.new.self c.in-Some.offer taken.0 c.take_alone.ensures.rank c.take_alone.ensures.answers) c.in_ok-do_alone.ensures.gone)
     (λ n others there. reached_here (SaysAt r e answers) s c.do_alone.new.progress.order c.do_alone.new.progress.order (g.D.Disk.held c.do_alone.new.disk) n others refl
@@ -212,12 +183,9 @@ returns-in_err-go_on-clause-told g c ranks at =
 
 pub returns-in_err-do_alone-clause-told : goal.returns-in_err-do_alone-clause-told
 returns-in_err-do_alone-clause-told g c =
-    let script = c.args.lent.now.setup.script.now in
-    let header = c.args.lent.now.setup.header.now in
-    let r = c.args.number in
-    let hints = script.hints in
-    let s = setting_of script header in
-    let all = calls_of script r in
+    let script = c.args.lent.now.setup.script.now in let header = c.args.lent.now.setup.header.now in
+    let r = c.args.number in let hints = script.hints in
+    let s = setting_of script header in let all = calls_of script r in
     let taken = c.in-Some.ensures.taken in
     told_gone hints s r c.args.progress.now.records c.args.progress.now.order c.alone.progress.order c.do_alone.new.progress.order (g.D.Disk.held c.args.disk.now) (g.D.Disk.held c.alone.disk)
     (g.D.Disk.calls c.args.disk.now) (g.D.Disk.calls c.alone.disk) (arrived header all c.args.self.now) (arrived header all c.alone.self) (asking all c.take_alone.new.self, Some c.in-Some.offer)
@@ -227,12 +195,9 @@ returns-in_err-do_alone-clause-told g c =
 
 pub returns-in_err-go_on-2-clause-told : goal.returns-in_err-go_on-2-clause-told
 returns-in_err-go_on-2-clause-told g c =
-    let script = c.args.lent.now.setup.script.now in
-    let header = c.args.lent.now.setup.header.now in
-    let r = c.args.number in
-    let hints = script.hints in
-    let s = setting_of script header in
-    let all = calls_of script r in
+    let script = c.args.lent.now.setup.script.now in let header = c.args.lent.now.setup.header.now in
+    let r = c.args.number in let hints = script.hints in
+    let s = setting_of script header in let all = calls_of script r in
     let taken = c.in-Some.ensures.taken in
     told_gone hints s r c.args.progress.now.records c.args.progress.now.order c.alone.progress.order c.do_alone.new.progress.order (g.D.Disk.held c.args.disk.now) (g.D.Disk.held c.alone.disk)
     (g.D.Disk.calls c.args.disk.now) (g.D.Disk.calls c.alone.disk) (arrived header all c.args.self.now) (arrived header all c.alone.self) (asking all c.take_alone.new.self, Some c.in-Some.offer)

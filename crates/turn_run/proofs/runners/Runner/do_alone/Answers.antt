@@ -28,16 +28,14 @@ pub hear-requires-clause-waits : goal.hear-requires-clause-waits
 hear-requires-clause-waits g c = (alone_waits c.args.lent.now.setup.script.now c.args.lent.now.setup.header.now c.args.progress.now.order c.args.ask.number _ c.args.ask.offer c.requires.asks).0
 
 pub hear-requires-clause-fits : goal.hear-requires-clause-fits
-hear-requires-clause-fits g c =
-    fits_open _ c.args.lent.now.setup.header.now c.args.self.now.rank.header c.args.ask.offer.batch.gets c.in_ok-reply.reply.got c.requires.header
+hear-requires-clause-fits g c = fits_open _ c.args.lent.now.setup.header.now c.args.self.now.rank.header c.args.ask.offer.batch.gets c.in_ok-reply.reply.got c.requires.header
     (alone_waits c.args.lent.now.setup.script.now c.args.lent.now.setup.header.now c.args.progress.now.order c.args.ask.number _ c.args.ask.offer c.requires.asks).1 c.in_ok-reply.ensures.fits
 
 pub returns-in_err-hear-clause-grown : goal.returns-in_err-hear-clause-grown
 returns-in_err-hear-clause-grown g c = grown_one _ _ _ _ c.in_ok-note_step.ensures.order
 
 pub returns-in_err-hear-clause-begun : goal.returns-in_err-hear-clause-begun
-returns-in_err-hear-clause-begun g c =
-    on_err _ (subst (λ (ms : List Mark). HasRest c.args.lent.now.setup.script.now ms c.args.ask.number)
+returns-in_err-hear-clause-begun g c = on_err _ (subst (λ (ms : List Mark). HasRest c.args.lent.now.setup.script.now ms c.args.ask.number)
     (sym (order_is _ _ c.args.self.now.answers c.args.progress.now.order c.note_step.new.order c.in_ok-note_step.ensures.order c.len.ensures))
     (alone_done c.args.lent.now.setup.script.now c.args.lent.now.setup.header.now c.args.progress.now.order c.args.ask.number _ c.args.ask.offer c.in_ok-reply.reply c.requires.asks))
 
@@ -61,8 +59,7 @@ pub returns-clause-gone : goal.returns-clause-gone
 returns-clause-gone g c =
     let own = calls_of c.args.lent.now.setup.script.now c.args.ask.number in
     let header = c.args.lent.now.setup.header.now in
-    let up : arrived header own c.hear.new.self ≡ _ =
-    arrived_free header own c.hear.new.self (c.hear.ensures.held ∙ c.requires.free)
+    let up : arrived header own c.hear.new.self ≡ _ = arrived_free header own c.hear.new.self (c.hear.ensures.held ∙ c.requires.free)
     ∙ ap (advance header) (heard_runner header own c.args.self.now c.hear.new.self c.in_ok-reply.reply c.requires.header c.in_ok-hear.ensures.heard) in
     gone_alone c.args.lent.now.setup.script.now.hints (setting_of c.args.lent.now.setup.script.now header) c.args.ask.number _ c.args.progress.now.order c.note_step.new.order _ _ _ _ (asking own c.args.self.now) c.args.ask.offer
     (arrived header own c.hear.new.self) c.in_ok-note_step.ensures.order
@@ -81,8 +78,7 @@ some_reply = record { pair = None; records = 0; got = [] }
 
 pub returns-in_err-reply-clause-cut : goal.returns-in_err-reply-clause-cut
 returns-in_err-reply-clause-cut g c e is records ranks at =
-    let script = c.args.lent.now.setup.script.now in
-    let own = calls_of script c.args.ask.number in
+    let script = c.args.lent.now.setup.script.now in let own = calls_of script c.args.ask.number in
     stopped_solo (MayFollow script c.args.ask.number c.args.progress.now.order) (setting_of script c.args.lent.now.setup.header.now) e c.args.ask.number (length c.args.self.now.answers) c.args.progress.now.order c.args.progress.now.order
     (g.D.Disk.held c.args.disk.now) (g.D.Disk.held c.solo_reply.new.disk) (asking own c.args.self.now) c.args.ask.offer
     (own_is c.args.ask.number (length c.args.self.now.answers), alone_done script c.args.lent.now.setup.header.now c.args.progress.now.order c.args.ask.number _ c.args.ask.offer some_reply c.requires.asks)
@@ -90,24 +86,20 @@ returns-in_err-reply-clause-cut g c e is records ranks at =
 
 pub returns-in_err-note_step-clause-cut : goal.returns-in_err-note_step-clause-cut
 returns-in_err-note_step-clause-cut g c e is records ranks at =
-    let script = c.args.lent.now.setup.script.now in
-    let own = calls_of script c.args.ask.number in
+    let script = c.args.lent.now.setup.script.now in let own = calls_of script c.args.ask.number in
     let s = setting_of script c.args.lent.now.setup.header.now in
     stopped_solo (MayFollow script c.args.ask.number c.note_step.new.order) s e c.args.ask.number (length c.args.self.now.answers) c.args.progress.now.order c.note_step.new.order
     (g.D.Disk.held c.args.disk.now) (g.D.Disk.held c.solo_reply.new.disk) (asking own c.args.self.now) c.args.ask.offer (
       own_is c.args.ask.number (length c.args.self.now.answers),
       subst (λ (ms : List Mark). HasRest script (ms ++ Solo c.args.ask.number (length c.args.self.now.answers) ∷ []) c.args.ask.number) (sym c.in_err-note_step.ensures.kept)
           (alone_done script c.args.lent.now.setup.header.now c.args.progress.now.order c.args.ask.number _ c.args.ask.offer some_reply c.requires.asks),
-    )
-    c.in_err-note_step.ensures.kept
+    ) c.in_err-note_step.ensures.kept
     (done_torn s (puts_of (c.args.ask.number, c.args.ask.offer)) (told s (puts_of (c.args.ask.number, c.args.ask.offer))) (g.D.Disk.held c.args.disk.now) (g.D.Disk.held c.solo_reply.new.disk)
-    c.in_ok-reply.ensures.bytes)
-    records ranks at
+    c.in_ok-reply.ensures.bytes) records ranks at
 
 pub returns-in_err-hear-clause-cut : goal.returns-in_err-hear-clause-cut
 returns-in_err-hear-clause-cut g c e is records ranks at =
-    let script = c.args.lent.now.setup.script.now in
-    let own = calls_of script c.args.ask.number in
+    let script = c.args.lent.now.setup.script.now in let own = calls_of script c.args.ask.number in
     let p = err_from_is_err_and c.from_residual-in_err-hear.result c.from_residual-in_err-hear.ensures.1 in
     stopped_unheard (MayFollow script c.args.ask.number c.note_step.new.order) (setting_of script c.args.lent.now.setup.header.now) e c.args.ask.number (length c.args.self.now.answers) c.args.progress.now.order c.note_step.new.order
     (g.D.Disk.held c.args.disk.now) (g.D.Disk.held c.solo_reply.new.disk) (asking own c.args.self.now) c.args.ask.offer
@@ -117,26 +109,22 @@ returns-in_err-hear-clause-cut g c e is records ranks at =
 
 pub returns-in_err-reply-clause-answered : goal.returns-in_err-reply-clause-answered
 returns-in_err-reply-clause-answered g c e is records ranks at =
-    let script = c.args.lent.now.setup.script.now in
-    let answers = c.args.self.now.answers in
+    let script = c.args.lent.now.setup.script.now in let answers = c.args.self.now.answers in
     reached_here (SaysAt c.args.ask.number e answers) (setting_of script c.args.lent.now.setup.header.now) c.args.progress.now.order c.args.progress.now.order (g.D.Disk.held c.args.disk.now) records ranks refl
     (λ n. says_here c.args.ask.number e answers (asking (calls_of script c.args.ask.number) c.args.self.now, Some c.args.ask.offer) n ranks at (said_here e _ answers refl))
 
 pub returns-in_err-note_step-clause-answered : goal.returns-in_err-note_step-clause-answered
 returns-in_err-note_step-clause-answered g c e is records ranks at =
-    let script = c.args.lent.now.setup.script.now in
-    let answers = c.args.self.now.answers in
+    let script = c.args.lent.now.setup.script.now in let answers = c.args.self.now.answers in
     reached_here (SaysAt c.args.ask.number e answers) (setting_of script c.args.lent.now.setup.header.now) c.args.progress.now.order c.note_step.new.order (g.D.Disk.held c.args.disk.now) records ranks c.in_err-note_step.ensures.kept
     (λ n. says_here c.args.ask.number e answers (asking (calls_of script c.args.ask.number) c.args.self.now, Some c.args.ask.offer) n ranks at (said_here e _ answers refl))
 
 pub returns-in_err-hear-clause-answered : goal.returns-in_err-hear-clause-answered
 returns-in_err-hear-clause-answered g c e is records ranks at =
-    let script = c.args.lent.now.setup.script.now in
-    let own = calls_of script c.args.ask.number in
+    let script = c.args.lent.now.setup.script.now in let own = calls_of script c.args.ask.number in
     let p = err_from_is_err_and c.from_residual-in_err-hear.result c.from_residual-in_err-hear.ensures.1 in
     reached_unheard (setting_of script c.args.lent.now.setup.header.now) e c.args.ask.number (length c.args.self.now.answers) c.args.progress.now.order c.note_step.new.order
-    (g.D.Disk.held c.args.disk.now) (asking own c.args.self.now) c.args.ask.offer c.hear.new.self.answers
-    (memory_of c.from_residual-in_err-hear.result e p.0 is p.1 p.2)
+    (g.D.Disk.held c.args.disk.now) (asking own c.args.self.now) c.args.ask.offer c.hear.new.self.answers (memory_of c.from_residual-in_err-hear.result e p.0 is p.1 p.2)
     (order_is _ _ c.args.self.now.answers c.args.progress.now.order c.note_step.new.order c.in_ok-note_step.ensures.order c.len.ensures)
     c.in_err-hear.ensures.kept records ranks at
 

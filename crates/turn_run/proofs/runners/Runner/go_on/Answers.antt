@@ -7,28 +7,23 @@ use Rattle.turn_run.proofs.runners.Runner.go_on.Goals as goal
 
 pub step-requires-clause-fresh : goal.step-requires-clause-fresh
 step-requires-clause-fresh g c =
-    let call = c.index-calls-next.result in
-    let own = c.args.calls.now in
+    let call = c.index-calls-next.result in let own = c.args.calls.now in
     let answers = c.calls.self.answers in
     let there : slice_get own (length answers) ≡ Some call = next_call own answers c.len-next.result call (omega arith) (omega arith) c.index-calls-next.is in
     call_fresh c.args.script.now c.calls.invariant.way.0 c.args.number (between own c.calls.self) call _ c.calls.invariant.way.1 (drop_at own (length answers) call there)
 
 pub calls-preserved : goal.calls-preserved
 calls-preserved g c =
-    let call = c.index-calls-next.result in
-    let own = c.args.calls.now in
-    let answers = c.calls.self.answers in
-    let rank = c.calls.self.rank.state in
-    let next = c.step.new.self.state in
-    let header = c.args.header.now in
+    let call = c.index-calls-next.result in let own = c.args.calls.now in
+    let answers = c.calls.self.answers in let rank = c.calls.self.rank.state in
+    let next = c.step.new.self.state in let header = c.args.header.now in
     let a = c.in-Answered.answer in
     let there : slice_get own (length answers) ≡ Some call = next_call own answers c.len-next.result call (omega arith) (omega arith) c.index-calls-next.is in
     let way = c.calls.invariant.way in
     let lawful = call_lawful c.args.script.now way.0 c.args.number (between own c.calls.self) call _ way.1 (drop_at own (length answers) call there) in
     let said = said_at header c.calls.self.rank.header rank next call c.in_ok-answer.field-0 (want.Answered a) c.calls.invariant.of_header c.in_ok-answer.ensures.step c.in-Answered.is in
     let posts = c.in_ok-answer.ensures.held c.args.script.now.ranks c.args.number lawful in
-    let more = c.in_ok-push-in-Answered.ensures.ok in
-    let known = (alone_keeps header rank next call a said).0 in
+    let more = c.in_ok-push-in-Answered.ensures.ok in let known = (alone_keeps header rank next call a said).0 in
     record {
       of_header = c.in_ok-answer.ensures.header ∙ c.calls.invariant.of_header;
       free = c.calls.invariant.free;
@@ -41,12 +36,9 @@ calls-preserved g c =
 
 pub returns-in-Meet-clause-known : goal.returns-in-Meet-clause-known
 returns-in-Meet-clause-known g c =
-    let call = c.index-calls-next.result in
-    let rank = c.calls.self.rank.state in
-    let next = c.step.new.self.state in
-    let header = c.args.header.now in
-    let o = c.in-Meet.offer in
-    let w = c.in_ok-answer.field-0 in
+    let call = c.index-calls-next.result in let rank = c.calls.self.rank.state in
+    let next = c.step.new.self.state in let header = c.args.header.now in
+    let o = c.in-Meet.offer in let w = c.in_ok-answer.field-0 in
     let by : (w ≡ want.Meet o) ⊎ (w ≡ want.Solo o) → next.known ≡ c.args.self.now.rank.state.known = λ k. elim k [
       | inl e ↦ (meets_keeps header rank next call o (said_at header c.calls.self.rank.header rank next call w (want.Meet o) c.calls.invariant.of_header c.in_ok-answer.ensures.step e)).0
           ∙ c.calls.invariant.known
@@ -57,14 +49,10 @@ returns-in-Meet-clause-known g c =
 
 pub returns-in-Meet-clause-placed : goal.returns-in-Meet-clause-placed
 returns-in-Meet-clause-placed g c = λ order way.
-    let call = c.index-calls-next.result in
-    let own = c.args.calls.now in
-    let answers = c.calls.self.answers in
-    let rank = c.calls.self.rank.state in
-    let next = c.step.new.self.state in
-    let header = c.args.header.now in
-    let script = c.args.script.now in
-    let o = c.in-Meet.offer in
+    let call = c.index-calls-next.result in let own = c.args.calls.now in
+    let answers = c.calls.self.answers in let rank = c.calls.self.rank.state in
+    let next = c.step.new.self.state in let header = c.args.header.now in
+    let script = c.args.script.now in let o = c.in-Meet.offer in
     let w = c.in_ok-answer.field-0 in
     let there : slice_get own (length answers) ≡ Some call = next_call own answers c.len-next.result call (omega arith) (omega arith) c.index-calls-next.is in
     let here = c.calls.invariant.kept order way in
@@ -81,18 +69,13 @@ returns-in-Meet-clause-placed g c = λ order way.
 
 pub returns-in-Meet-clause-asked : goal.returns-in-Meet-clause-asked
 returns-in-Meet-clause-asked g c =
-    let call = c.index-calls-next.result in
-    let own = c.args.calls.now in
-    let answers = c.calls.self.answers in
-    let rank = c.calls.self.rank.state in
-    let next = c.step.new.self.state in
-    let header = c.args.header.now in
-    let script = c.args.script.now in
-    let o = c.in-Meet.offer in
+    let call = c.index-calls-next.result in let own = c.args.calls.now in
+    let answers = c.calls.self.answers in let rank = c.calls.self.rank.state in
+    let next = c.step.new.self.state in let header = c.args.header.now in
+    let script = c.args.script.now in let o = c.in-Meet.offer in
     let w = c.in_ok-answer.field-0 in
     let there : slice_get own (length answers) ≡ Some call = next_call own answers c.len-next.result call (omega arith) (omega arith) c.index-calls-next.is in
-    let way = c.calls.invariant.way in
-    let next_is = drop_at own (length answers) call there in
+    let way = c.calls.invariant.way in let next_is = drop_at own (length answers) call there in
     let lawful = call_lawful script way.0 c.args.number (between own c.calls.self) call _ way.1 next_is in
     let room = call_posts script way.0 c.args.number (between own c.calls.self) call _ way.1 next_is in
     let few = c.in_ok-answer.ensures.few script.ranks c.args.number lawful in
@@ -108,14 +91,10 @@ returns-in-Meet-clause-asked g c =
 
 pub returns-in-Meet-clause-advanced : goal.returns-in-Meet-clause-advanced
 returns-in-Meet-clause-advanced g c =
-    let call = c.index-calls-next.result in
-    let own = c.args.calls.now in
-    let answers = c.calls.self.answers in
-    let rank = c.calls.self.rank.state in
-    let next = c.step.new.self.state in
-    let header = c.args.header.now in
-    let o = c.in-Meet.offer in
-    let w = c.in_ok-answer.field-0 in
+    let call = c.index-calls-next.result in let own = c.args.calls.now in
+    let answers = c.calls.self.answers in let rank = c.calls.self.rank.state in
+    let next = c.step.new.self.state in let header = c.args.header.now in
+    let o = c.in-Meet.offer in let w = c.in_ok-answer.field-0 in
     let there : slice_get own (length answers) ≡ Some call = next_call own answers c.len-next.result call (omega arith) (omega arith) c.index-calls-next.is in
     let by : (w ≡ want.Meet o) ⊎ (w ≡ want.Solo o)
     → advance header (between own c.calls.self) ≡ (asking own (record { rank = c.step.new.self; answers = answers; held = Some o }), Some o) = λ k. elim k [
@@ -131,6 +110,5 @@ returns-in_err-answer-clause-some g c =
     on_err c.from_residual.result (answers_on_way c.args.header.now _ c.args.calls.now c.calls.self.rank.state c.calls.self.answers _ c.calls.invariant.advanced refl)
 
 pub returns-in_err-push-in-Answered-clause-some : goal.returns-in_err-push-in-Answered-clause-some
-returns-in_err-push-in-Answered-clause-some g c =
-    on_err c.from_residual-in_err-push-in-Answered.result
+returns-in_err-push-in-Answered-clause-some g c = on_err c.from_residual-in_err-push-in-Answered.result
     (answers_on_way c.args.header.now _ c.args.calls.now c.calls.self.rank.state c.calls.self.answers c.push.new.self c.calls.invariant.advanced c.in_err-push-in-Answered.ensures.err)
