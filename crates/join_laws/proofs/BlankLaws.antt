@@ -10,10 +10,9 @@ same_blanks z u f g [] = refl
 same_blanks {D = D} z u f g (x ∷ xs) = ap (λ (zs : List D). z ∷ zs) (same_blanks z u f g xs)
 
 blank_gathered : (k : Class) (f g : ℕ → Option Value) (xs : List ℕ) → blank_values (gathered k (map f xs)) ≡ blank_values (gathered k (map g xs))
-blank_gathered form.Signed f g xs = ap (λ (ns : List ℤ). Numbers ns) (same_blanks (pos 0) number_in f g xs)
-blank_gathered form.Unsigned f g xs = ap (λ (ns : List ℤ). Numbers ns) (same_blanks (pos 0) number_in f g xs)
 blank_gathered form.Text f g xs = let zero : ℕ = 0 in ap (λ (ns : List ℕ). Text ns) (same_blanks zero code_in f g xs)
 blank_gathered form.Pattern f g xs = let zero : ℕ = 0 in ap (λ (ns : List ℕ). Bits ns) (same_blanks zero code_in f g xs)
+blank_gathered ys f g xs = ap (λ (ns : List ℤ). Numbers ns) (same_blanks (pos 0) number_in f g xs)
 
 blank_spread : (kind : NcType) (g : Region) (b c : List ℕ) → blank_values (spread kind g b) ≡ blank_values (spread kind g c)
 blank_spread kind g b c = grind (arith, nat_tests, blank_gathered)
@@ -25,8 +24,6 @@ blank_found v = (v.0, blank_values v.1)
 
 found_blank : (header : Header) (gets : List Post) (one other : List (List ℕ)) → map (λ b. length b) one ≡ map (λ b. length b) other
     → map blank_found (got_values header (zip gets one)) ≡ map blank_found (got_values header (zip gets other))
-found_blank header [] one other e = refl
-found_blank header (p ∷ gets) [] [] e = refl
 found_blank header (p ∷ gets) [] (c ∷ other) e = absurd cc
 found_blank header (p ∷ gets) (b ∷ one) [] e = absurd cc
 found_blank header (p ∷ gets) (b ∷ one) (c ∷ other) e = by (kind_at header p.var) (found_blank header gets one other cc)
@@ -36,6 +33,7 @@ found_blank header (p ∷ gets) (b ∷ one) (c ∷ other) e = by (kind_at header
         ≡ map blank_found (cons_option (option_map (λ (kind : NcType). (p.id, spread kind p.region c)) m) (got_values header (zip gets other)))
     by None again = again
     by (Some kind) again = let v = blank_spread kind p.region b c in λ i. (p.id, v i) ∷ again i
+found_blank header xs one other e = refl
 
 more_blank : (a b : Values) → blank_values (with_more a b) ≡ with_more (blank_values a) (blank_values b)
 more_blank a b = grind (arith, nat_tests, map-append)

@@ -78,22 +78,15 @@ heard header Good n q k g o y e = by f.kinded
 
     by : Kinded q k (kinds g.calls) (marks_of q k g) (advance header g).0 f.open_with.independent o → Heard header Good n q k g o y
     by (at_meeting kind a b c) = record {
-      solo = λ d. absurd (apart kind (sym a ∙ d));
-      meets = λ kind' d. (b ∙ ap (λ (z : MeetKind). z ∷ kinds (advance header g).0.calls) (same kind kind' (sym a ∙ d)), c ∙ ap (λ (ms : List Mark). Meet k ∷ ms) (later (suc k)));
+      solo = λ d. absurd (let z : offer.Meet kind ≡ offer.Solo = sym a ∙ d in cc);
+      meets = λ kind' d. let z : offer.Meet kind ≡ offer.Meet kind' = sym a ∙ d in
+          let w : kind ≡ kind' = cc in
+          (b ∙ ap (λ (z : MeetKind). z ∷ kinds (advance header g).0.calls) w, c ∙ ap (λ (ms : List Mark). Meet k ∷ ms) (later (suc k)));
     }
-      where
-        apart : (kind : MeetKind) → offer.Meet kind ≡ offer.Solo → ⊥
-        apart kind z = cc
-
-        same : (a b : MeetKind) → offer.Meet a ≡ offer.Meet b → a ≡ b
-        same a b z = cc
     by (at_solo a b c) = record {
       solo = λ d. (b, c ∙ ap (λ (ms : List Mark). Solo q (length (advance header g).0.answers) ∷ ms) (later k));
-      meets = λ kind' d. absurd (apart kind' (sym a ∙ d));
+      meets = λ kind' d. absurd (let z : offer.Solo ≡ offer.Meet kind' = sym a ∙ d in cc);
     }
-      where
-        apart : (kind : MeetKind) → offer.Solo ≡ offer.Meet kind → ⊥
-        apart kind z = cc
 
 -- its solo offer arrives and is done
 pub turn_solo : (header : Header) (Good : ℕ → Going → Type 0) (lasting : Lasting header Good) (ks : List MeetKind) (m n q k : ℕ) (x : Client) (g : Going) (c : ℕ) (o : Offer) (y : reply.Reply) (coming : List RankItem) (back : List OwnerItem) (marks : List Mark)
@@ -104,13 +97,13 @@ turn_solo header Good lasting ks m n q k x g c o y coming back marks e h d l r f
   paired_at = record {
     stream = ap (λ (z : Option Bool). ended_item z ++ coming) e ∙ now.after ∙ waiting_reply header (advance header g).0 o y back fit
         ∙ sym (ap (λ (z : Option Offer). to_come header z (hears header (advance header g).0 y) back) h);
-    waits = λ o' z. none_waits o' (sym h ∙ z);
+    waits = λ o' z. absurd (let w : None ≡ Some o' = sym h ∙ z in cc);
     kind_list = sym (tells.solo d).0 ∙ s.kind_list;
     good = lasting.hears n g o y (lasting.grows m n g l s.good) now.is r;
   };
-  ends = ap (λ (z : Option Offer). client_end header z g (Reply y ∷ back)) h ∙ by (advance header g) now.is ∙ waiting_end_reply header (advance header g).0 o y back fit
+  ends = ap (λ (z : Option Offer). client_end header z g (Reply y ∷ back)) h ∙ (by (advance header g) now.is).0 ∙ waiting_end_reply header (advance header g).0 o y back fit
       ∙ sym (ap (λ (z : Option Offer). client_end header z (hears header (advance header g).0 y) back) h);
-  stops = ap (λ (z : Option Offer). client_stop header z g (Reply y ∷ back)) h ∙ by_stop (advance header g) now.is ∙ waiting_stop_reply header (advance header g).0 o y back fit
+  stops = ap (λ (z : Option Offer). client_stop header z g (Reply y ∷ back)) h ∙ (by (advance header g) now.is).1 ∙ waiting_stop_reply header (advance header g).0 o y back fit
       ∙ sym (ap (λ (z : Option Offer). client_stop header z (hears header (advance header g).0 y) back) h);
   in_order = ap (λ (ms : List Mark). ms ++ marks_of q k (hears header (advance header g).0 y)) f
       ∙ ap (λ (j : ℕ). Solo q j ∷ marks_of q k (hears header (advance header g).0 y)) now.number ∙ sym (tells.solo d).1;
@@ -122,16 +115,10 @@ turn_solo header Good lasting ks m n q k x g c o y coming back marks e h d l r f
     tells : Heard header Good n q k g o y
     tells = heard header Good n q k g o y now.is
 
-    none_waits : (o' : Offer) → None ≡ Some o' → ((advance header (hears header (advance header g).0 y)).1 ≡ Some o') × ((kind : MeetKind) × (o'.kind ≡ offer.Meet kind))
-    none_waits o' z = cc
-
-    by : (p : Going × Option Offer) → p.1 ≡ Some o → end_by header p (Reply y ∷ back) ≡ waiting_end header p.0 o (Reply y ∷ back)
-    by (g', None) f = cc
-    by (g', Some o') f = let a : o' ≡ o = cc in ap (λ (z : Offer). waiting_end header g' z (Reply y ∷ back)) a
-
-    by_stop : (p : Going × Option Offer) → p.1 ≡ Some o → stop_by header p (Reply y ∷ back) ≡ waiting_stop header p.0 o (Reply y ∷ back)
-    by_stop (g', None) f = cc
-    by_stop (g', Some o') f = let a : o' ≡ o = cc in ap (λ (z : Offer). waiting_stop header g' z (Reply y ∷ back)) a
+    by : (p : Going × Option Offer) → p.1 ≡ Some o
+        → (end_by header p (Reply y ∷ back) ≡ waiting_end header p.0 o (Reply y ∷ back)) × (stop_by header p (Reply y ∷ back) ≡ waiting_stop header p.0 o (Reply y ∷ back))
+    by (g', None) f = absurd cc
+    by (g', Some o') f = let a : o' ≡ o = cc in (ap (λ (z : Offer). waiting_end header g' z (Reply y ∷ back)) a, ap (λ (z : Offer). waiting_stop header g' z (Reply y ∷ back)) a)
 
 -- the meeting of its held offer is done
 pub turn_met : (header : Header) (Good : ℕ → Going → Type 0) (lasting : Lasting header Good) (ks : List MeetKind) (kind : MeetKind) (m n q k : ℕ) (x : Client) (g : Going) (o : Offer) (y : reply.Reply) (coming : List RankItem) (back : List OwnerItem)
@@ -140,8 +127,8 @@ pub turn_met : (header : Header) (Good : ℕ → Going → Type 0) (lasting : La
 turn_met header Good lasting ks kind m n q k x g o y coming back h l r fit s = record {
   paired_at = record {
     stream = s.stream ∙ ap (λ (z : Option Offer). to_come header z g (Reply y ∷ back)) h ∙ waiting_reply header (advance header g).0 o y back fit;
-    waits = λ o' z. none_waits o' z;
-    kind_list = rest_same (sym both.0 ∙ s.kind_list);
+    waits = λ o' z. absurd (let w : None ≡ Some o' = z in cc);
+    kind_list = let z : is.1.0 ∷ kinds (hears header (advance header g).0 y).calls ≡ kind ∷ ks = sym both.0 ∙ s.kind_list in cc;
     good = lasting.hears n g o y (lasting.grows m n g l s.good) is.0 r;
   };
   ends = ap (λ (z : Option Offer). client_end header z g (Reply y ∷ back)) h ∙ waiting_end_reply header (advance header g).0 o y back fit;
@@ -155,9 +142,3 @@ turn_met header Good lasting ks kind m n q k x g o y coming back h l r fit s = r
     both : (kinds g.calls ≡ is.1.0 ∷ kinds (hears header (advance header g).0 y).calls)
         × (marks_of q k g ≡ Meet k ∷ marks_of q (suc k) (hears header (advance header g).0 y))
     both = (heard header Good n q k g o y is.0).meets is.1.0 is.1.1
-
-    rest_same : {a b : List MeetKind} {u v : MeetKind} → u ∷ a ≡ v ∷ b → a ≡ b
-    rest_same z = cc
-
-    none_waits : (o' : Offer) → None ≡ Some o' → ((advance header (hears header (advance header g).0 y)).1 ≡ Some o') × ((kind : MeetKind) × (o'.kind ≡ offer.Meet kind))
-    none_waits o' z = cc

@@ -1,5 +1,5 @@
 -- An order that a script's ranks have begun can be gone on with to one of its histories: the ranks meet as often, one as the other.
-use Rattle.join_laws.proofs.Words.{and_from, ◌≡◌, ℕ, zero, suc, ◌+◌, ◌-◌, ◌<◌, ◌≤◌, refl, sym, ◌∙◌, ap, subst, List, [], ◌∷◌, ◌++◌, length, Bool, true, false, cond, ◌&&◌, Option, Some, None, arith, append_assoc, filter-append, sum_by-cons, nat_tests, slice_get, ◌==◌, filter, is_some, nat_lt, list_all, cons_option, Call, Script, Mark, Meet, Solo, MeetKind, kinds, marks, marks_from, concerns, is_of_rank_below, kind_of_call, mode_after, is_collective, is_data, IsLegal, is_meeting, is_lawful, is_solo_of, meetings, kinds_of, own_lawful, ranks_lawful, and_first, and_second, equal_itself, others_filter, all_joined}
+use Rattle.join_laws.proofs.Words.{and_from, ◌≡◌, ℕ, zero, suc, ◌+◌, ◌-◌, ◌<◌, ◌≤◌, refl, sym, ◌∙◌, ap, subst, List, [], ◌∷◌, ◌++◌, length, Bool, true, false, cond, ◌&&◌, Option, Some, None, arith, append_assoc, filter-append, sum_by-cons, nat_tests, slice_get, ◌==◌, filter, is_some, nat_lt, list_all, cons_option, Call, Script, Mark, Meet, Solo, MeetKind, kinds, marks, marks_from, concerns, is_of_rank_below, kind_of_call, mode_after, is_collective, is_data, IsLegal, is_meeting, is_lawful, is_solo_of, meetings, kinds_of, own_lawful, ranks_lawful, and_first, and_second, equal_itself, others_filter, all_joined, append-nil}
 use borrow.Author.Tests.{ltb-true, ltb-false, eqb-true}
 use Rattle.nc_base.specs.declared.request.Call.TheVariants as call
 
@@ -112,15 +112,11 @@ solos_of (suc m) ranks fronts h l = more (solos_of m ranks fronts h (omega arith
           ∙ others_filter m r (fronts m) (λ e. absurd (omega arith)) (h m);
     }
       where
-        no_more : (xs : List Mark) → xs ++ [] ≡ xs
-        no_more [] = refl
-        no_more (x ∷ xs) = ap (λ (ys : List Mark). x ∷ ys) (no_more xs)
-
         by_place : (r : ℕ) → r < suc m → (t : Bool) → nat_lt r m ≡ t → filter (concerns r) (s.all ++ fronts m) ≡ fronts r
         by_place r k true e =
             let low : r < m = ltb-true _ _ e in
             filter-append (concerns r) s.all (fronts m) ∙ ap (λ (ys : List Mark). filter (concerns r) s.all ++ ys) (others_filter m r (fronts m) (λ f. absurd (omega arith)) (h m))
-            ∙ no_more (filter (concerns r) s.all) ∙ s.own r low
+            ∙ append-nil (filter (concerns r) s.all) ∙ s.own r low
         by_place r k false e =
             let high : m ≤ r = ltb-false _ _ e in
             let same : m ≡ r = omega arith in

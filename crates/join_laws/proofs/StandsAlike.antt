@@ -22,9 +22,8 @@ offers_first (g, Some o) ranks = refl
 
 pub offers_beside : (one other : List Arrived) → AllBeside one other → offers_of one ≡ offers_of other
 offers_beside [] [] w = refl
-offers_beside [] (q ∷ other) w = absurd w
-offers_beside (p ∷ one) [] w = absurd w
 offers_beside (p ∷ one) (q ∷ other) w = grind (arith, nat_tests, offers_beside one other w.1, offers_first)
+offers_beside xs ys w = absurd w
 
 abbrev BesideAt : Option Arrived → Option Arrived → Type 0
 BesideAt None None = Unit {0}
@@ -33,17 +32,15 @@ BesideAt _ _ = ⊥
 
 at_beside : (one other : List Arrived) (r : ℕ) → AllBeside one other → BesideAt (slice_get one r) (slice_get other r)
 at_beside [] [] r w = tt
-at_beside [] (q ∷ other) r w = absurd w
-at_beside (p ∷ one) [] r w = absurd w
 at_beside (p ∷ one) (q ∷ other) zero w = w.0
 at_beside (p ∷ one) (q ∷ other) (suc r) w = at_beside one other r w.1
+at_beside xs ys r w = absurd w
 
 set_beside : (one other : List Arrived) (r : ℕ) (p q : Arrived) → AllBeside one other → AreBeside p q → AllBeside (set one r p) (set other r q)
 set_beside [] [] r p q w v = tt
-set_beside [] (y ∷ other) r p q w v = absurd w
-set_beside (x ∷ one) [] r p q w v = absurd w
 set_beside (x ∷ one) (y ∷ other) zero p q w v = (v, w.1)
 set_beside (x ∷ one) (y ∷ other) (suc r) p q w v = (w.0, set_beside one other r p q w.1 v)
+set_beside xs ys r p q w v = absurd w
 
 -- ---- replies
 
@@ -54,14 +51,13 @@ AllTell _ _ = ⊥
 
 all_heard : (header : Header) (one other : List Arrived) (ys zs : List reply.Reply) → AllBeside one other → AllTell ys zs
     → AllBeside (map (heard header) (zip one ys)) (map (heard header) (zip other zs))
-all_heard header [] [] ys zs w t = tt
 all_heard header [] (q ∷ other) ys zs w t = absurd w
 all_heard header (p ∷ one) [] ys zs w t = absurd w
-all_heard header (p ∷ one) (q ∷ other) [] [] w t = tt
 all_heard header (p ∷ one) (q ∷ other) [] (z ∷ zs) w t = absurd t
 all_heard header (p ∷ one) (q ∷ other) (y ∷ ys) [] w t = absurd t
 all_heard header (p ∷ one) (q ∷ other) (y ∷ ys) (z ∷ zs) w t =
     (advance_beside header (hears header p.0 y) (hears header q.0 z) (hears_near header p.0 q.0 y z w.0.0 t.0), all_heard header one other ys zs w.1 t.1)
+all_heard header xs n ys zs w t = tt
 
 each_tells : (f g : Offer → reply.Reply) → ((o : Offer) → TellAlike (f o) (g o)) → (offers : List Offer) → AllTell (map f offers) (map g offers)
 each_tells f g w [] = tt
@@ -99,21 +95,16 @@ solo_like s x r k n ranks t o y w e tells = by (slice_get x.1 r) (subst (λ (m :
     by : (m : Option Arrived) → BesideAt m (Some (t, Some o))
         → IsLike (elim m [ None ↦ x | Some a ↦ solo_to s r x.0 x.1 a ]) n (set ranks r (advance s.header (hears s.header t y)))
     by None v = absurd v
-    by (Some (g, None)) v = absurd (never v.1)
-      where
-        never : None ≡ Some o → ⊥
-        never e = cc
+    by (Some (g, None)) v = absurd (let e : None ≡ Some o = v.1 in cc)
     by (Some (g, Some p)) v =
-        let same : o ≡ p = one_offer v.1 in
+        let alike : Some p ≡ Some o = v.1 in
+        let same : o ≡ p = cc in
         let heard_tells = subst (λ (q : Offer). TellAlike (solo s r q x.0).1 y) same tells in
         record {
           records = w.records;
           beside = set_beside x.1 ranks r _ _ w.beside
               (advance_beside s.header (hears s.header g (solo s r p x.0).1) (hears s.header t y) (hears_near s.header g t (solo s r p x.0).1 y v.0 heard_tells));
         }
-      where
-        one_offer : Some p ≡ Some o → o ≡ p
-        one_offer e = cc
 
 abbrev AreLike : Stand → Stand → Type 0
 AreLike x y = IsLike x y.0.records y.1
@@ -127,10 +118,7 @@ step_alike s x y (Solo r k) w = by (slice_get y.1 r) refl
     stays : (m : Option Arrived) (g : Going) → BesideAt m (Some (g, None)) → AreLike (elim m [ None ↦ x | Some a ↦ solo_to s r x.0 x.1 a ]) (solo_to s r y.0 y.1 (g, None))
     stays None g v = absurd v
     stays (Some (h, None)) g v = record { records = w.records; beside = set_beside x.1 y.1 r _ _ w.beside (advance_beside s.header h g v.0) }
-    stays (Some (h, Some p)) g v = absurd (never v.1)
-      where
-        never : Some p ≡ None → ⊥
-        never e = cc
+    stays (Some (h, Some p)) g v = absurd (let e : Some p ≡ None = v.1 in cc)
 
     none : (m : Option Arrived) → BesideAt m None → AreLike (elim m [ None ↦ x | Some a ↦ solo_to s r x.0 x.1 a ]) y
     none None v = w
@@ -152,22 +140,19 @@ first_alike header file other calls = record { records = refl; beside = same_bes
 
 known_beside : (one other : List Arrived) → AllBeside one other → map (λ (g : Going). g.rank.known) (map (λ (a : Arrived). a.0) one) ≡ map (λ (g : Going). g.rank.known) (map (λ (a : Arrived). a.0) other)
 known_beside [] [] w = refl
-known_beside [] (q ∷ other) w = absurd w
-known_beside (p ∷ one) [] w = absurd w
 known_beside (p ∷ one) (q ∷ other) w = let again = known_beside one other w.1 in λ i. (w.0.0.rank i).known ∷ again i
+known_beside xs ys w = absurd w
 
 pending_beside : (one other : List Arrived) → AllBeside one other → map (λ (g : Going). pending g.rank) (map (λ (a : Arrived). a.0) one) ≡ map (λ (g : Going). pending g.rank) (map (λ (a : Arrived). a.0) other)
 pending_beside [] [] w = refl
-pending_beside [] (q ∷ other) w = absurd w
-pending_beside (p ∷ one) [] w = absurd w
 pending_beside (p ∷ one) (q ∷ other) w = let again = pending_beside one other w.1 in λ i. pending (w.0.0.rank i) ∷ again i
+pending_beside xs ys w = absurd w
 
 answers_beside : (one other : List Arrived) → AllBeside one other
     → map (map blank) (map (λ (g : Going). g.answers) (map (λ (a : Arrived). a.0) one)) ≡ map (map blank) (map (λ (g : Going). g.answers) (map (λ (a : Arrived). a.0) other))
 answers_beside [] [] w = refl
-answers_beside [] (q ∷ other) w = absurd w
-answers_beside (p ∷ one) [] w = absurd w
 answers_beside (p ∷ one) (q ∷ other) w = let again = answers_beside one other w.1 in λ i. w.0.0.answers i ∷ again i
+answers_beside xs ys w = absurd w
 
 pub close_alike : (s : Setting) (x : Stand) (c : Counted) (ranks : List Arrived) → IsLike x c.records ranks
     → AreAlikeEnds (close_by s x.0 (map (λ (a : Arrived). a.0) x.1)) (close_by s c (map (λ (a : Arrived). a.0) ranks))
