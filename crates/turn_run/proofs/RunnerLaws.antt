@@ -37,7 +37,7 @@ answers_begin header rank answers [] = ([], append-nil answers)
 answers_begin header rank answers (c ∷ calls) = by (step header rank c) (λ r more. answers_begin header r more calls)
   where
     by : (next : machine.Rank × Want) → ((r : machine.Rank) (more : List Answer) → (rest : List Answer) × (more ++ rest ≡ (go header r more calls).0.answers))
-        → (rest : List Answer) × (answers ++ rest ≡ (elim next.1 as (λ (x : Want). Going × Option Offer) [ | want.Answered a ↦ go header next.0 (answers ++ a ∷ []) calls | want.Meet p ↦ (record { rank = next.0; answers = answers; calls = calls }, Some p) | want.Solo p ↦ (record { rank = next.0; answers = answers; calls = calls }, Some p) ]).0.answers)
+        → (rest : List Answer) × (answers ++ rest ≡ (elim next.1 as (λ (x : Want). Going × Option Offer) [ want.Answered a ↦ go header next.0 (answers ++ a ∷ []) calls | want.Meet p ↦ (record { rank = next.0; answers = answers; calls = calls }, Some p) | want.Solo p ↦ (record { rank = next.0; answers = answers; calls = calls }, Some p) ]).0.answers)
     by (r, want.Answered a) again = let e = again r (answers ++ a ∷ []) in (a ∷ e.0, sym (append_assoc answers (a ∷ []) e.0) ∙ e.1)
     by (r, want.Meet p) again = ([], append-nil answers)
     by (r, want.Solo p) again = ([], append-nil answers)

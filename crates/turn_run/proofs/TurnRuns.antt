@@ -26,13 +26,13 @@ first_placed script header r records lawful l e = subst (λ (n : ℕ). IsOnWay s
 pub first_runners : (script : Script) (header : Header) (len records : ℕ) (runners : List Runner) → is_lawful script ≡ true → is_sound header ≡ true → records ≡ header.records
     → end_of header (header_len header) header.records ≤ len → runners ≡ replicate script.ranks (first_runner header records) → AreRunners script header len [] runners
 first_runners script header len records runners lawful sound e l s = subst (λ (ss : List Runner). AreRunners script header len [] ss) (sym s) (record {
-      all = length-replicate script.ranks (first_runner header records);
-      known_ranks = refl;
-      each = each;
-      known = λ r runner f.
-          let same : first_runner header records ≡ runner = sym (entry_replicate script.ranks r (first_runner header records) runner f) in
-          subst (λ (x : Runner). IsCount header len x.rank.state.known) same (first_count header len records sound e l);
-    })
+  all = length-replicate script.ranks (first_runner header records);
+  known_ranks = refl;
+  each = each;
+  known = λ r runner f.
+      let same : first_runner header records ≡ runner = sym (entry_replicate script.ranks r (first_runner header records) runner f) in
+      subst (λ (x : Runner). IsCount header len x.rank.state.known) same (first_count header len records sound e l);
+})
   where
     each : (r : ℕ) (runner : Runner) → slice_get (replicate script.ranks (first_runner header records)) r ≡ Some runner → IsRunner script header [] r runner
     each r runner f =
