@@ -1,5 +1,6 @@
 -- The steps of a run: the offers of its ranks, the replies to them, and the ranks that have heard.
-use Rattle.reference.proofs.Words.{◌≡◌, ℕ, zero, suc, ◌+◌, ◌-◌, ◌<◌, ◌≤◌, refl, sym, ◌∙◌, ap, subst, inl, inr, List, [], ◌∷◌, ◌++◌, length, map, max, set, drop, get_or, Bool, true, false, Option, None, Some, append_assoc, append-nil, length-set, arith, nat_tests, drop_all, drop_more, map-set, same_Some, slice_get-map, slice_get, nat_lt, zip, flat_map, IfSome, IsSomeAnd, enumerate_from, entry_set, entry_set_other, Header, Offer, Reply, Counted, Setting, meeting, needs, puts_of, solo, told, record_limit, In, Open, wanted, DoesFit, advance, hears, offers_of, counted, IsRight, needs_low, own_right, puts_right, less_max, meeting_fits, solo_fits, meeting_within, replied, replies_long, at_in, Arrived, heard, solo_to, step_to, arrived, going_of, HasGone, IsAsked, IsWaiting, MayGoOn, all_arrived, AllHear, AreWaiting, DoFit, HasHeard, HaveHeard, Heard, HeardOne, Runner, some_limit}
+use Rattle.reference.proofs.Words.{◌≡◌, ℕ, zero, suc, ◌+◌, ◌-◌, ◌<◌, ◌≤◌, refl, sym, ◌∙◌, ap, subst, inl, inr, List, [], ◌∷◌, ◌++◌, length, map, max, set, drop, get_or, Bool, true, false, Option, None, Some, append_assoc, append-nil, length-set, arith, nat_tests, drop_all, drop_more, map-set, same_Some, slice_get-map, slice_get, nat_lt, zip, flat_map, IfSome, IsSomeAnd, enumerate_from, entry_set, entry_set_other, Header, Offer, Reply, Counted, Setting, meeting, needs, puts_of, solo, told, record_limit, In, Open, wanted, DoesFit, advance, hears, offers_of, counted, IsRight, less_max, meeting_fits, solo_fits, meeting_within, replied, replies_long, at_in, Arrived, heard, solo_to, step_to, arrived, going_of, HasGone, IsAsked, IsWaiting, MayGoOn, all_arrived, AllHear, AreWaiting, DoFit, HasHeard, HaveHeard, Heard, HeardOne, Runner, some_limit}
+use Rattle.reference.proofs.MeetSteps.{needs_low, own_right, puts_right}
 use Rattle.nc_base.specs.declared.step.Mark.TheVariants as mark
 
 -- ---- the offers that ranks hold

@@ -25,7 +25,6 @@ pub use Rattle.overlay_laws.proofs.HullLaws.{in_either}
 pub use Rattle.overlay_laws.proofs.Members.{map_in, read_in}
 pub use Rattle.rank_core.proofs.StepLaws.{ok_both}
 pub use Rattle.rank_core.specs.Offered.{IsSoundOffer, IsSoundWant}
-pub use Rattle.reference.proofs.MeetSteps.{needs_low, own_right, puts_right}
 pub use Rattle.reference.specs.Ended.{AreLow, as_end, most_known}
 pub use Rattle.reference.specs.Least.{least_with, lesser_of}
 pub use Rattle.reference.specs.Requests.{AreBelow, IsPut, IsRight, counted, reply_to, setting}
