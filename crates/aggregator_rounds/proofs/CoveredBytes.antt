@@ -54,10 +54,8 @@ within_short : (xs : List ℕ) (a e : ℕ) → IsAscending xs → ((x : ℕ) →
 within_short [] a e h k = omega arith
 within_short (x ∷ xs) a e h k =
     let first = k x (inl refl) in
-    let low = first.0 in
-    let high = first.1 in
     let rest = within_short xs (x + 1) e h.1 (λ y m. let l = h.0 y m in let r = k y (inr m) in let g = r.1 in (omega arith, omega arith)) in
-    omega arith
+    omega (arith, first.0, first.1)
 
 pub hole_short : (xs : List ℕ) (a e y : ℕ) → IsAscending xs → ((x : ℕ) → In xs x → (a ≤ x) × (x < e)) → a ≤ y → y < e → (In xs y → ⊥) → length xs + 1 ≤ e - a
 hole_short [] a e y h k l m n = omega arith
@@ -82,7 +80,4 @@ hole_short (x ∷ xs) a e y h k l m n =
     by_test rest false f =
         let low : x ≤ y = ltb-false _ _ f in
         let past : x < y = apart (nat_lt x y) refl low in
-        let short = rest past in
-        let first = k x (inl refl) in
-        let begin = first.0 in
-        omega arith
+        omega (arith, rest past, (k x (inl refl)).0)

@@ -60,9 +60,7 @@ past_in place (p ∷ whole) left o (inr h) m =
 
 pub past_kept : (place : ℕ) (whole left : List Owned) (o : Owned) → IsPast place whole left → In whole o → place < o.extent.at + o.extent.len → In left o
 past_kept place [] left o h m l = absurd m
-past_kept place (p ∷ whole) left o (inl h) (inl e) l =
-    let end : o.extent.at + o.extent.len ≤ place = subst (λ (q : Owned). q.extent.at + q.extent.len ≤ place) e h.0 in
-    absurd (omega arith)
+past_kept place (p ∷ whole) left o (inl h) (inl e) l = absurd (omega (arith, subst (λ (q : Owned). q.extent.at + q.extent.len ≤ place) e h.0))
 past_kept place (p ∷ whole) left o (inl h) (inr m) l = past_kept place whole left o h.1 m l
 past_kept place (p ∷ whole) left o (inr h) (inl e) l = subst (λ (list : List Owned). In list o) (sym h.1) (inl e)
 past_kept place (p ∷ whole) left o (inr h) (inr m) l = subst (λ (list : List Owned). In list o) (sym h.1) (inr (past_kept place whole h.0 o h.2 m l))

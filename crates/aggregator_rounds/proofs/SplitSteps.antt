@@ -30,10 +30,7 @@ extents_dropped (suc n) (o ∷ list) e h = inr (extents_dropped n list e h)
 later_all : (n place : ℕ) (list : List Owned) → IsByPlace (extents list) → ((o : Owned) → slice_get list n ≡ Some o → place ≤ o.extent.at)
     → (o : Owned) → In (drop n list) o → place ≤ o.extent.at
 later_all zero place (p ∷ list) h k o (inl e) = k o (ap Some e)
-later_all zero place (p ∷ list) h k o (inr m) =
-    let first = k p refl in
-    let above = h.0 o.extent (in_extents list o m) in
-    omega arith
+later_all zero place (p ∷ list) h k o (inr m) = omega (arith, k p refl, h.0 o.extent (in_extents list o m))
 later_all (suc n) place (p ∷ list) h k o m = later_all n place list h.1 k o m
 later_all _ place _ h k o m = absurd m
 

@@ -79,6 +79,5 @@ any_or_none p (x ∷ xs) = by (p x) refl (any_or_none p xs)
 
 pub zip_weaker : {A B : Type 0} (R Q : A → B → Type 0) (xs : List A) (ys : List B) → ((a : A) (b : B) → R a b → Q a b) → AllZip R xs ys → AllZip Q xs ys
 zip_weaker R Q [] [] f h = tt
-zip_weaker R Q [] (y ∷ ys) f h = absurd h
-zip_weaker R Q (x ∷ xs) [] f h = absurd h
 zip_weaker R Q (x ∷ xs) (y ∷ ys) f h = (f x y h.0, zip_weaker R Q xs ys f h.1)
+zip_weaker n m k u f h = absurd h

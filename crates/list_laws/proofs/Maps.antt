@@ -58,13 +58,12 @@ map_more f (z ∷ xs) (suc i) x h e = let k : suc i + 1 ≡ suc (i + 1) = omega 
 pub rows_same : {A B X : Type 0} (f : A → X) (h : ℕ × B → X) (xs : List A) (ys : List B) (from : ℕ) → length xs ≡ length ys
     → ((r : ℕ) (a : A) (b : B) → slice_get xs r ≡ Some a → slice_get ys r ≡ Some b → f a ≡ h (from + r, b)) → map f xs ≡ map h (enumerate_from from ys)
 rows_same f h [] [] from l e = refl
-rows_same f h [] (b ∷ ys) from l e = absurd (omega arith)
-rows_same f h (a ∷ xs) [] from l e = absurd (omega arith)
 rows_same f h (a ∷ xs) (b ∷ ys) from l e =
     let zero_more : from + 0 ≡ from = omega arith in
     let one = e 0 a b refl refl ∙ ap (λ (n : ℕ). h (n, b)) zero_more in
     let more = rows_same f h xs ys (from + 1) (omega arith) (λ r a' b' p q. let next : from + suc r ≡ (from + 1) + r = omega arith in e (suc r) a' b' p q ∙ ap (λ (n : ℕ). h (n, b')) next) in
     λ i. one i ∷ more i
+rows_same f h n m from l e = absurd (omega arith)
 
 -- One more is done: with those that are left it is still the whole.
 pub next_numbered : {X Y : Type 0} (f : ℕ × X → List Y) (xs : List X) (i m next : ℕ) (x d : X) (done now whole : List Y) → i < length xs → get_or xs i d ≡ x → next ≡ m + 1

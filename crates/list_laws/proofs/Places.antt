@@ -15,16 +15,13 @@ entry_set (z ∷ xs) zero x y e = refl
 entry_set (z ∷ xs) (suc k) x y e = entry_set xs k x y e
 
 pub entry_set_other : {X : Type 0} (xs : List X) (k j : ℕ) (y : X) → (j ≡ k → ⊥) → slice_get (set xs k y) j ≡ slice_get xs j
-entry_set_other [] k j y n = refl
 entry_set_other (x ∷ xs) zero zero y n = absurd (n refl)
-entry_set_other (x ∷ xs) zero (suc j) y n = refl
-entry_set_other (x ∷ xs) (suc k) zero y n = refl
 entry_set_other (x ∷ xs) (suc k) (suc j) y n = entry_set_other xs k j y (λ e. n (ap (λ (i : ℕ). suc i) e))
+entry_set_other ys k j y n = refl
 
 pub take_at_most : {X : Type 0} (n : ℕ) (xs : List X) → length (take n xs) ≤ n
-take_at_most zero xs = omega arith
-take_at_most (suc n) [] = omega arith
 take_at_most (suc n) (x ∷ xs) = let rest = take_at_most n xs in omega arith
+take_at_most ys xs = omega arith
 
 pub position_below : {A : Type 0} (p : A → Bool) (xs : List A) (n : ℕ) → position p xs ≡ Some n → n < length xs
 position_below p xs n e =
@@ -86,10 +83,9 @@ entry_beside (x' ∷ xs) (y ∷ ys) (suc q) x l e = entry_beside xs ys q x (omeg
 
 pub entry_zip : {X Y : Type 0} (xs : List X) (ys : List Y) (q : ℕ) (x : X) (y : Y) → slice_get xs q ≡ Some x → slice_get ys q ≡ Some y
     → slice_get (zip xs ys) q ≡ Some (x, y)
-entry_zip [] ys q x y e f = cc
-entry_zip (x' ∷ xs) [] q x y e f = cc
 entry_zip (x' ∷ xs) (y' ∷ ys) zero x y e f = let a : x' ≡ x = cc in let b : y' ≡ y = cc in λ i. Some (a i, b i)
 entry_zip (x' ∷ xs) (y' ∷ ys) (suc q) x y e f = entry_zip xs ys q x y e f
+entry_zip n ys q x y e f = cc
 
 -- the entry of a numbered list
 pub entry_numbered : {X : Type 0} (n : ℕ) (xs : List X) (k : ℕ) (x : X) → slice_get xs k ≡ Some x → slice_get (enumerate_from n xs) k ≡ Some (n + k, x)

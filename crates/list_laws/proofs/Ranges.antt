@@ -15,11 +15,7 @@ range_append a (suc m) n =
 -- as many from each number
 pub pieces_long : {A : Type 0} (f : ℕ → List A) (m : ℕ) → ((k : ℕ) → length (f k) ≡ m) → (a n : ℕ) → length (flat_map f (range_with_len a n)) ≡ n * m
 pieces_long f m h a zero = omega arith
-pieces_long f m h a (suc n) =
-    let one : length (f a) ≡ m = h a in
-    let rest : length (flat_map f (range_with_len (a + 1) n)) ≡ n * m = pieces_long f m h (a + 1) n in
-    let whole = length-append (f a) (flat_map f (range_with_len (a + 1) n)) in
-    omega arith
+pieces_long f m h a (suc n) = omega (arith, h a, pieces_long f m h (a + 1) n, length-append (f a) (flat_map f (range_with_len (a + 1) n)))
 
 pub range_push : (a k b : ℕ) → a + k ≡ b → range_with_len a (suc k) ≡ range_with_len a k ++ b ∷ []
 range_push a zero b e = ap (λ (x : ℕ). x ∷ []) (omega arith)
@@ -28,10 +24,7 @@ range_push a (suc k) b e = ap (λ (xs : List ℕ). a ∷ xs) (range_push (a + 1)
 pub spans_long : (size : ℕ) (xs : List ℕ) → length (flat_map (λ x. range_with_len x size) xs) ≡ length xs * size
 spans_long size [] = omega arith
 spans_long size (x ∷ xs) =
-    let rest = spans_long size xs in
-    let both = length-append (range_with_len x size) (flat_map (λ x. range_with_len x size) xs) in
-    let first = length-range_with_len x size in
-    omega arith
+    omega (arith, spans_long size xs, length-append (range_with_len x size) (flat_map (λ x. range_with_len x size) xs), length-range_with_len x size)
 
 pub range_first : (a n : ℕ) (ys : List ℕ) (i : ℕ) → i < n → slice_get (range_with_len a n ++ ys) i ≡ Some (a + i)
 range_first a zero ys i h = absurd (omega arith)

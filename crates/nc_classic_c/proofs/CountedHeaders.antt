@@ -43,10 +43,9 @@ or_kept true o x h k = k
 or_kept false o x h k = cc
 
 changed : (front rec c d e : Bool) → (front && (not rec || (c && d))) ≡ true → (rec ≡ true → e ≡ true) → (front && (not rec || (c && e))) ≡ true
-changed false rec c d e h k = cc
 changed true false c d e h k = refl
-changed true true false d e h k = cc
 changed true true true d e h k = k refl
+changed _ _ _ d e h k = cc
 
 still_keeps : (header : Header) (n before : ℕ) (v : Var) → keeps_bound header before v ≡ true → end_of_var header n v < 2 ^ 62 → keeps_bound (counted header n) before v ≡ true
 still_keeps header n before v h l =

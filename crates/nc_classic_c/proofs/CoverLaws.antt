@@ -31,13 +31,10 @@ some_bytes (c ∷ cover) e h (inr m) = some_bytes cover e h.2 m
 
 pub cover_low : (cover : List Extent) (list : List Owned) → IsCover cover → HaveSame (spans cover) (ranges list) → EndBelow (2 ^ 62) (extents list) → EndBelow (2 ^ 62) cover
 cover_low cover list h same low e m =
-    let some = some_bytes cover e h m in
     let last = e.at + e.len - 1 in
     let there = in_flat (λ (z : Extent). range_with_len z.at z.len) cover e last m (in_range e.at e.len last (omega arith) (omega arith)) in
     let r = flat_in bytes list last (same.0 last there) in
-    let high = range_high r.0.extent.at r.0.extent.len last r.2 in
-    let end = low r.0.extent (in_map (λ (o : Owned). o.extent) list r.0 r.1) in
-    omega arith
+    omega (arith, some_bytes cover e h m, range_high r.0.extent.at r.0.extent.len last r.2, low r.0.extent (in_map (λ (o : Owned). o.extent) list r.0 r.1))
 
 pub cover_bytes : (cover : List Extent) (list : List Owned) (asked : List NcvExtent) → IsCover cover → HaveSame (spans cover) (ranges list) → IsPermutation (map entry asked) list
     → spans cover ≡ bytes_asked asked
@@ -56,10 +53,7 @@ first_byte e cover h = ap (λ (xs : List ℕ). first_of xs) (range_first e.at e.
 last_byte : (e : Extent) (cover : List Extent) (last : Extent) → IsCover (e ∷ cover) → slice_get (e ∷ cover) (length cover) ≡ Some last
     → last_of (spans (e ∷ cover)) + 1 ≡ last.at + last.len
 last_byte e [] last h is =
-    let here = ap (λ (z : Extent). z.at + z.len) (same_Some e last is) in
-    let own = last_of_range e.at e.len h.0 in
-    let whole = last_joined (range_with_len e.at e.len) [] in
-    omega arith
+    omega (arith, ap (λ (z : Extent). z.at + z.len) (same_Some e last is), last_of_range e.at e.len h.0, last_joined (range_with_len e.at e.len) [])
 last_byte e (c ∷ cover) last h is =
     let rest = last_byte c cover last h.2 is in
     let own = last_of_range e.at e.len h.0 in

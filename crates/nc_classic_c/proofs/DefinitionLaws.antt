@@ -21,8 +21,7 @@ few_taken refusal most f before [] l h = omega (arith, l)
 few_taken refusal most f before (x ∷ xs) l h =
     let b = both_none (refusal before x) (first_refused refusal (before ++ x ∷ []) xs) h in
     let more = length-append before (x ∷ []) in
-    let m = f before x b.0 in
-    let n = few_taken refusal most f (before ++ x ∷ []) xs (omega (arith, more, m)) b.1 in
+    let n = few_taken refusal most f (before ++ x ∷ []) xs (omega (arith, more, f before x b.0)) b.1 in
     omega (arith, more, n)
 
 -- ---- names and types
@@ -35,18 +34,8 @@ name_fits version name h =
 
 kind_number : (n : ℕ) → 1 ≤ n → n ≤ 11 → number_of (kind_of n) ≡ n
 kind_number zero low high = absurd (omega arith)
-kind_number (suc zero) low high = refl
-kind_number (suc (suc zero)) low high = refl
-kind_number (suc (suc (suc zero))) low high = refl
-kind_number (suc (suc (suc (suc zero)))) low high = refl
-kind_number (suc (suc (suc (suc (suc zero))))) low high = refl
-kind_number (suc (suc (suc (suc (suc (suc zero)))))) low high = refl
-kind_number (suc (suc (suc (suc (suc (suc (suc zero))))))) low high = refl
-kind_number (suc (suc (suc (suc (suc (suc (suc (suc zero)))))))) low high = refl
-kind_number (suc (suc (suc (suc (suc (suc (suc (suc (suc zero))))))))) low high = refl
-kind_number (suc (suc (suc (suc (suc (suc (suc (suc (suc (suc zero)))))))))) low high = refl
-kind_number (suc (suc (suc (suc (suc (suc (suc (suc (suc (suc (suc zero))))))))))) low high = refl
 kind_number (suc (suc (suc (suc (suc (suc (suc (suc (suc (suc (suc (suc n)))))))))))) low high = absurd (omega arith)
+kind_number _ low high = refl
 
 type_fits : (version n : ℕ) → type_cause version n ≡ None → is_type version (kind_of n) ≡ true
 type_fits version n h =
@@ -181,10 +170,8 @@ var_taken version dims before v h =
 
 -- the same id in the header
 same_id : (dims : List NcvDimDef) (id : ℕ) → (length_of (slice_get (map dimension_of dims) id) == 0) ≡ is_record_id dims id
-same_id [] zero = refl
-same_id [] (suc id) = refl
-same_id (d ∷ ds) zero = refl
 same_id (d ∷ ds) (suc id) = same_id ds id
+same_id _ _ = refl
 
 first_only : (D : NcvHeaderDef) (ids : List ℕ) → list_any (is_record_id D.dims.now) ids ≡ false → list_any (λ id. faults.is_record_id (header_of D) id) ids ≡ false
 first_only D ids h =

@@ -4,16 +4,14 @@ use Rattle.nc_classic_c.proofs.Words.{◌≡◌, ℕ, zero, suc, ◌+◌, ◌-�
 -- ---- ends
 
 pub drop_past : {A : Type 0} (n : ℕ) (xs : List A) → length xs ≤ n → drop n xs ≡ []
-drop_past zero [] h = refl
 drop_past zero (x ∷ xs) h = absurd (omega arith)
-drop_past (suc n) [] h = refl
 drop_past (suc n) (x ∷ xs) h = drop_past n xs (omega arith)
+drop_past _ _ h = refl
 
 pub drop_next : {A : Type 0} (n : ℕ) (xs : List A) → n < length xs → (x : A) × (drop n xs ≡ x ∷ drop (suc n) xs)
-drop_next zero [] h = absurd (omega arith)
 drop_next zero (x ∷ xs) h = (x, refl)
-drop_next (suc n) [] h = absurd (omega arith)
 drop_next (suc n) (x ∷ xs) h = drop_next n xs (omega arith)
+drop_next _ _ h = absurd (omega arith)
 
 -- ---- one more item
 
@@ -107,10 +105,7 @@ one_laid {A} items from old now left rest total x step h =
 pub left_fits : {A : Type 0} (items : List A) (from : ℕ) (old now left rest : List A) (total : ℕ) (x : A)
     → left ≡ x ∷ rest → Lays A items from old now left total → total < length items
 left_fits {A} items from old now left rest total x step h =
-    let long : length items ≡ length h.done + length (x ∷ rest) =
-    ap length (sym h.all) ∙ length-append h.done left ∙ ap (λ (l : List A). length h.done + length l) step in
-    let n = h.number in
-    omega arith
+    omega (arith, ap length (sym h.all) ∙ length-append h.done left ∙ ap (λ (l : List A). length h.done + length l) step, h.number)
 
 pub all_laid : {A : Type 0} (items : List A) (from : ℕ) (old now left : List A) (total : ℕ)
     → left ≡ [] → Lays A items from old now left total → AreLaid items from old now total

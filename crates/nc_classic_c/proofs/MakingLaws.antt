@@ -86,13 +86,8 @@ made_given D (Err x) len bytes old new h e w law l room f = tt
 
 -- the header itself is refused
 pub len_kept : (D : NcvHeaderDef) (r : Refusal) (old : ℕ) → IsUnmade (refusal_of D) r → old ≡ len_told D r old
-len_kept D refusal.Memory old h = refl
-len_kept D (refusal.Header e) old h = refl
-len_kept D (refusal.Asked c) old h = refl
-len_kept D refusal.NoAttribute old h = refl
-len_kept D refusal.Shared old h = refl
-len_kept D (refusal.Range k) old h = refl
 len_kept D (refusal.Unmade u) old h = sym (ap (λ (o : Option Unmade). needed_len D o old) h)
+len_kept _ _ old h = refl
 
 -- there is no room
 pub len_needed : (D : NcvHeaderDef) (r : Result (Unit {0}) Refusal) (len old : ℕ) (bytes : List ℕ) → refusal_of D ≡ None → bytes ≡ canon (made_header D) → len ≡ length bytes

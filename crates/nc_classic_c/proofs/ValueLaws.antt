@@ -20,9 +20,7 @@ not_found : {X : Type 0} (p : X → Bool) (xs : List X) → position p xs ≡ No
 not_found p xs h = by_test (ltb (position_or_len p xs) (length xs)) refl
   where
     by_test : (b : Bool) → ltb (position_or_len p xs) (length xs) ≡ b → length xs ≤ position_or_len p xs
-    by_test true e =
-        let some : position p xs ≡ Some (position_or_len p xs) = ap (λ (b : Bool). cond b (Some (position_or_len p xs)) None) e in
-        absurd (cc)
+    by_test true e = absurd (cc (ap (λ (b : Bool). cond b (Some (position_or_len p xs)) None) e))
     by_test false e = ltb-false (position_or_len p xs) (length xs) e
 
 -- where none is found, each is in the range
@@ -158,30 +156,14 @@ doubles_fit ns h =
     subst (λ (v : Value). fits Double v ≡ true) (sym (get_or-map (λ n. value.Bits n) ns k 0 (value.Bits 0) (omega arith))) (lt-ltb (get_or ns k 0) (256 ^ 8) (omega arith)))
 
 byte_in : (bytes : List ℕ) (size at i : ℕ) → ((j : ℕ) → get_or bytes j 0 < 256) → i < size → get_or (take size (drop at bytes)) i 0 < 256
-byte_in bytes size at i h l =
-    let same : get_or (take size (drop at bytes)) i 0 ≡ get_or bytes (at + i) 0 = get_or-take size (drop at bytes) i 0 l ∙ get_or-drop at bytes i 0 in
-    let small = h (at + i) in
-    omega arith
+byte_in bytes size at i h l = omega (arith, get_or-take size (drop at bytes) i 0 l ∙ get_or-drop at bytes i 0, h (at + i))
 
 low_32 : (b : List ℕ) → ((i : ℕ) → i < 4 → get_or b i 0 < 256) → from_be_bytes w32 b < 256 ^ 4
-low_32 b h =
-    let a0 = h 0 (omega arith) in
-    let a1 = h 1 (omega arith) in
-    let a2 = h 2 (omega arith) in
-    let a3 = h 3 (omega arith) in
-    omega arith
+low_32 b h = omega (arith, h 0 (omega arith), h 1 (omega arith), h 2 (omega arith), h 3 (omega arith))
 
 low_64 : (b : List ℕ) → ((i : ℕ) → i < 8 → get_or b i 0 < 256) → from_be_bytes w64 b < 256 ^ 8
 low_64 b h =
-    let a0 = h 0 (omega arith) in
-    let a1 = h 1 (omega arith) in
-    let a2 = h 2 (omega arith) in
-    let a3 = h 3 (omega arith) in
-    let a4 = h 4 (omega arith) in
-    let a5 = h 5 (omega arith) in
-    let a6 = h 6 (omega arith) in
-    let a7 = h 7 (omega arith) in
-    omega arith
+    omega (arith, h 0 (omega arith), h 1 (omega arith), h 2 (omega arith), h 3 (omega arith), h 4 (omega arith), h 5 (omega arith), h 6 (omega arith), h 7 (omega arith))
 
 pub read_floats_fit : (n : ℕ) (bytes : List ℕ) → ((i : ℕ) → get_or bytes i 0 < 256) → first_out Float (values_of Float n bytes) ≡ None
 read_floats_fit n bytes h =

@@ -162,14 +162,10 @@ ascending_few : (xs : List ℕ) (lo hi : ℕ) → IsAscending xs → ((x : ℕ) 
 ascending_few [] lo hi h within = omega arith
 ascending_few (x ∷ xs) lo hi h within =
     let here = within x (inl refl) in
-    let low = here.0 in
-    let high = here.1 in
     let rest = ascending_few xs (x + 1) hi h.1 (λ y m. (let next = h.0 y m in omega arith, (within y (inr m)).1)) in
-    omega arith
+    omega (arith, here.0, here.1)
 
 pub windows_few_in_all : (lo hi : ℕ) (d : Division) (bytes : List ℕ) → 1 ≤ d.buffer → IsAscending bytes → hi ≡ end_of bytes → length (windows_from lo hi d bytes 0) ≤ hi
 windows_few_in_all lo hi d bytes h asc end =
-    let shares = shares_few lo hi d bytes 0 (d.aggregators - 0) h asc in
-    let kept = filter_few (λ x. nat_le 0 ((x - low_of lo d.unit) / share_of lo hi d.aggregators d.unit)) bytes in
     let few = ascending_few bytes 0 hi asc (λ x m. (let high = (within_ends bytes x asc m).1 in (omega arith, omega arith))) in
-    omega arith
+    omega (arith, shares_few lo hi d bytes 0 (d.aggregators - 0) h asc, filter_few (λ x. nat_le 0 ((x - low_of lo d.unit) / share_of lo hi d.aggregators d.unit)) bytes)

@@ -80,9 +80,6 @@ module _ (s : Setting) (ranks : ℕ) (before : List Arrival) (d : Owner) (kept :
   -- ---- a meeting offer
 
   module _ (c : ℕ) (o : Offer) (kind : MeetKind) (k : o.kind ≡ offer.Meet kind) (idle : x.held ≡ None) where
-    abbrev clients_now : List Client
-    clients_now = set d.clients r (client_held x o)
-
     abbrev after : List Arrival
     after = before ++ (r, item.Offer c o) ∷ []
 
@@ -187,10 +184,7 @@ module _ (s : Setting) (ranks : ℕ) (before : List Arrival) (d : Owner) (kept :
         held_is q y g = by y.held refl
           where
             by : (m : Option Offer) → y.held ≡ m → y.held ≡ last (meeting_offers q after)
-            by None f = absurd (empty (sym (ap (λ (m : Option Offer). is_some m) f) ∙ all_hold (set d.clients r (client_held x o)) q y e g))
-              where
-                empty : false ≡ true → ⊥
-                empty w = cc
+            by None f = absurd (let w : false ≡ true = sym (ap (λ (m : Option Offer). is_some m) f) ∙ all_hold (set d.clients r (client_held x o)) q y e g in cc)
             by (Some p) f = f ∙ sym (held_now q y p g f)
 
         offers_are : offers_held (set d.clients r (client_held x o)) ≡ filter_map (λ q. last (meeting_offers q after)) (range_with_len 0 ranks)
@@ -223,17 +217,13 @@ module _ (s : Setting) (ranks : ℕ) (before : List Arrival) (d : Owner) (kept :
 
       by : (m : Option Offer) → x.held ≡ m → x.held ≡ None
       by None g = g
-      by (Some o) g = absurd (taken (sym (ap (λ (m : Option Offer). is_some m) g) ∙ holds_not))
-        where
-          taken : true ≡ false → ⊥
-          taken w = cc
+      by (Some o) g = absurd (let w : true ≡ false = sym (ap (λ (m : Option Offer). is_some m) g) ∙ holds_not in cc)
 
 -- ---- a strange arrival
 
 five : (a b c d d' e : Bool) → (b ≡ false → d ≡ d') → some_true (a ∷ b ∷ c ∷ d ∷ e ∷ []) ≡ some_true (a ∷ b ∷ c ∷ d' ∷ e ∷ [])
-five true b c d d' e f = refl
-five false true c d d' e f = refl
 five false false c d d' e f = ap (λ (t : Bool). some_true (false ∷ false ∷ c ∷ t ∷ e ∷ [])) (f refl)
+five xs b c d d' e f = refl
 
 module _ (s : Setting) (ranks : ℕ) (before : List Arrival) (d : Owner) (kept : Kept ranks before d) (r : ℕ) (x : Client) (at : slice_get d.clients r ≡ Some x) (i : RankItem) where
   pub same_strange : is_strange s d (r, i) ≡ is_strange_after s ranks d.reached before (r, i)

@@ -17,9 +17,7 @@ IsOneLook id (looks.Asks posts) = IsOneRequest id posts
 IsOneLook id _ = Unit {0}
 
 outcome_one : (id : ℕ) (checked : Code) (some : Bool) (asked : List Post) (last : Code) → (some ≡ true → IsOneRequest id asked) → IsOneLook id (outcome checked some asked last)
-outcome_one id code.Ok false asked last h = tt
 outcome_one id code.Ok true asked code.Ok h = h refl
-outcome_one id code.Ok true asked last h = tt
 outcome_one id checked some asked last h = tt
 
 single : (id : ℕ) (p : Post) → p.id ≡ id → IsOneRequest id (p ∷ [])
@@ -84,9 +82,8 @@ record IsOneOf (id : ℕ) (l : Look) : Type 0 where
   var : (p q : Post) → In (rank.posts_of l) p → In (rank.posts_of l) q → p.var ≡ q.var
 
 of_look : (id : ℕ) (l : Look) → IsOneLook id (rank.as_look l) → IsOneOf id l
-of_look id (variant.Refused c) h = record { some = tt; ids = λ p m. absurd m; var = λ p q m n. absurd m }
-of_look id variant.Empty h = record { some = tt; ids = λ p m. absurd m; var = λ p q m n. absurd m }
 of_look id (variant.Asks posts) h = record { some = h.some; ids = h.ids; var = h.var }
+of_look id xs h = record { some = tt; ids = λ p m. absurd m; var = λ p q m n. absurd m }
 
 towards : (header : Header) (known id : ℕ) (values : Option Values) (l : Look) → IsOneOf id l → ArePosts header known values (rank.posts_of l)
     → AreTowards (direction_of values) header known (rank.posts_of l)

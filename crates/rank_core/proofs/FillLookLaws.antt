@@ -18,14 +18,9 @@ one_start (suc n) s (suc c) h =
 
 starts_fit : (ns starts counts : List ℕ) → Fits ns starts counts → some_start (map (bound Put 0) ns) starts counts ≡ false
 starts_fit [] [] [] h = refl
-starts_fit [] [] (c ∷ counts) h = absurd h
-starts_fit [] (s ∷ starts) [] h = absurd h
-starts_fit [] (s ∷ starts) (c ∷ counts) h = absurd h
-starts_fit (n ∷ ns) [] [] h = absurd h
-starts_fit (n ∷ ns) [] (c ∷ counts) h = absurd h
-starts_fit (n ∷ ns) (s ∷ starts) [] h = absurd h
 starts_fit (n ∷ ns) (s ∷ starts) (c ∷ counts) h =
     or_from (bad_start (bound Put 0 n) s c) (some_start (map (bound Put 0) ns) starts counts) (one_start n s c h.0) (starts_fit ns starts counts h.1)
+starts_fit xs ys m h = absurd h
 
 one_edge : (n s c : ℕ) → s + c ≤ n → bad_edge (bound Put 0 n) s c 1 ≡ false
 one_edge zero s c h = and_right (ltb 0 c) false refl
@@ -34,24 +29,14 @@ one_edge (suc n) s (suc c) h = and_right (ltb 0 (suc c)) (leb (suc n) (s + (suc 
 
 edges_fit : (ns starts counts : List ℕ) → Fits ns starts counts → some_edge (map (bound Put 0) ns) starts counts (replicate (length counts) 1) ≡ false
 edges_fit [] [] [] h = refl
-edges_fit [] [] (c ∷ counts) h = absurd h
-edges_fit [] (s ∷ starts) [] h = absurd h
-edges_fit [] (s ∷ starts) (c ∷ counts) h = absurd h
-edges_fit (n ∷ ns) [] [] h = absurd h
-edges_fit (n ∷ ns) [] (c ∷ counts) h = absurd h
-edges_fit (n ∷ ns) (s ∷ starts) [] h = absurd h
 edges_fit (n ∷ ns) (s ∷ starts) (c ∷ counts) h =
     or_from (bad_edge (bound Put 0 n) s c 1) (some_edge (map (bound Put 0) ns) starts counts (replicate (length counts) 1)) (one_edge n s c h.0) (edges_fit ns starts counts h.1)
+edges_fit xs ys m h = absurd h
 
 fits_long : (ns starts counts : List ℕ) → Fits ns starts counts → (length starts ≡ length ns) × (length counts ≡ length ns)
 fits_long [] [] [] h = (refl, refl)
-fits_long [] [] (c ∷ counts) h = absurd h
-fits_long [] (s ∷ starts) [] h = absurd h
-fits_long [] (s ∷ starts) (c ∷ counts) h = absurd h
-fits_long (n ∷ ns) [] [] h = absurd h
-fits_long (n ∷ ns) [] (c ∷ counts) h = absurd h
-fits_long (n ∷ ns) (s ∷ starts) [] h = absurd h
 fits_long (n ∷ ns) (s ∷ starts) (c ∷ counts) h = let r = fits_long ns starts counts h.1 in (ap suc r.0, ap suc r.1)
+fits_long xs ys m h = absurd h
 
 no_zero : (n : ℕ) → list_any (λ d. eqb d 0) (replicate n 1) ≡ false
 no_zero zero = refl

@@ -117,9 +117,8 @@ StandOnce xs = (i j : ℕ) (a : List ℕ) → slice_get xs i ≡ Some a → slic
 
 taken_at : (n : ℕ) (xs : List (List ℕ)) (k : ℕ) (c : List ℕ) → slice_get (take n xs) k ≡ Some c → slice_get xs k ≡ Some c
 taken_at zero xs k c h = absurd cc
-taken_at (suc n) [] k c h = h
-taken_at (suc n) (x ∷ xs) zero c h = h
 taken_at (suc n) (x ∷ xs) (suc k) c h = taken_at n xs k c h
+taken_at ys m k c h = h
 
 dropped_at : (m : ℕ) (xs : List (List ℕ)) (k : ℕ) (c : List ℕ) → slice_get (drop m xs) k ≡ Some c → slice_get xs (m + k) ≡ Some c
 dropped_at zero xs k c h = let e : k ≡ zero + k = omega arith in ap (λ (i : ℕ). slice_get xs i) (sym e) ∙ h
@@ -151,13 +150,11 @@ later_once xs ys once i j a e f =
 -- ---- the indices of a box in a record
 
 pub shifted_is : (starts c : List ℕ) (k : ℕ) → length c ≤ k → index_at starts (replicate k 1) c ≡ shifted starts c
-shifted_is [] c k h = refl
-shifted_is (s ∷ starts) [] zero h = refl
-shifted_is (s ∷ starts) [] (suc k) h = refl
 shifted_is (s ∷ starts) (i ∷ c) zero h = absurd (omega arith)
 shifted_is (s ∷ starts) (i ∷ c) (suc k) h =
     let e : s + i * 1 ≡ s + i = omega arith in
     (λ j. e j ∷ shifted_is starts c k (omega arith) j)
+shifted_is xs c k h = refl
 
 record InRecord (number : ℕ) (p : Part) (a : List ℕ) : Type 0 where
   index : List ℕ

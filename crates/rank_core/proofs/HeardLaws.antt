@@ -31,13 +31,7 @@ gathered_shape form.Pattern vs = refl
 
 assoc : (a b c : Values) → shape a ≡ shape b → with_more a (with_more b c) ≡ with_more (with_more a b) c
 assoc (Numbers a) (Numbers b) (Numbers c) h = ap Numbers (sym (append_assoc a b c))
-assoc (Numbers a) (Numbers b) (Text c) h = refl
-assoc (Numbers a) (Numbers b) (Bits c) h = refl
-assoc (Text a) (Text b) (Numbers c) h = refl
 assoc (Text a) (Text b) (Text c) h = ap Text (sym (append_assoc a b c))
-assoc (Text a) (Text b) (Bits c) h = refl
-assoc (Bits a) (Bits b) (Numbers c) h = refl
-assoc (Bits a) (Bits b) (Text c) h = refl
 assoc (Bits a) (Bits b) (Bits c) h = ap Bits (sym (append_assoc a b c))
 assoc (Numbers a) (Text b) c h = absurd (omega arith)
 assoc (Numbers a) (Bits b) c h = absurd (omega arith)
@@ -45,6 +39,7 @@ assoc (Text a) (Numbers b) c h = absurd (omega arith)
 assoc (Text a) (Bits b) c h = absurd (omega arith)
 assoc (Bits a) (Numbers b) c h = absurd (omega arith)
 assoc (Bits a) (Text b) c h = absurd (omega arith)
+assoc xs ys n h = refl
 
 -- ---- values so far, then those of the rest
 
@@ -55,9 +50,8 @@ followed (Some values) (Some more) = Some (with_more values more)
 
 followed_more : (m : Option Values) (v : Values) (r : Option Values) → ((w : Values) → m ≡ Some w → shape w ≡ shape v)
     → followed m (followed (Some v) r) ≡ followed (Some (joined m v)) r
-followed_more None v r h = refl
-followed_more (Some w) v None h = refl
 followed_more (Some w) v (Some r) h = ap Some (assoc w v r (h w refl))
+followed_more xs v r h = refl
 
 first_is : (id q : ℕ) (v : Values) (rest : List (ℕ × Values)) → eqb id q ≡ true → values_for ((id, v) ∷ rest) q ≡ followed (Some v) (values_for rest q)
 first_is id q v rest e = rw (e, values_for) (by_rest (values_for rest q))

@@ -22,8 +22,7 @@ start_past known more start count le h =
 start_more : (d : Direction) (known more n start count : ℕ) → known ≤ more → bad_start (bound d known n) start count ≡ false → bad_start (bound d more n) start count ≡ false
 start_more way.Put known more zero start count le h = refl
 start_more way.Get known more zero start count le h = start_past known more start count le h
-start_more way.Put known more (suc n) start count le h = h
-start_more way.Get known more (suc n) start count le h = h
+start_more xs known more ys start count le h = h
 
 edge_past : (known more start count stride : ℕ) → known ≤ more → bad_edge (Some known) start count stride ≡ false → bad_edge (Some more) start count stride ≡ false
 edge_past known more start count stride le h = by_count (and_cases (ltb 0 count) (leb known (start + (count - 1) * stride)) h)
@@ -35,33 +34,26 @@ edge_past known more start count stride le h = by_count (and_cases (ltb 0 count)
         and_right (ltb 0 count) (leb more (start + (count - 1) * stride)) (lt-leb more (start + (count - 1) * stride) (omega arith))
 
 edge_more : (d : Direction) (known more n start count stride : ℕ) → known ≤ more → bad_edge (bound d known n) start count stride ≡ false → bad_edge (bound d more n) start count stride ≡ false
-edge_more way.Put known more zero start count stride le h = h
 edge_more way.Get known more zero start count stride le h = edge_past known more start count stride le h
-edge_more way.Put known more (suc n) start count stride le h = h
-edge_more way.Get known more (suc n) start count stride le h = h
+edge_more xs known more ys start count stride le h = h
 
 -- ---- all dimensions
 
 starts_more : (d : Direction) (known more : ℕ) (ns starts counts : List ℕ) → known ≤ more
     → some_start (map (bound d known) ns) starts counts ≡ false → some_start (map (bound d more) ns) starts counts ≡ false
-starts_more d known more [] starts counts le h = refl
-starts_more d known more (n ∷ ns) [] counts le h = refl
-starts_more d known more (n ∷ ns) (s ∷ starts) [] le h = refl
 starts_more d known more (n ∷ ns) (s ∷ starts) (c ∷ counts) le h =
     let parts = or_parts (bad_start (bound d known n) s c) (some_start (map (bound d known) ns) starts counts) h in
     or_from (bad_start (bound d more n) s c) (some_start (map (bound d more) ns) starts counts)
     (start_more d known more n s c le parts.0) (starts_more d known more ns starts counts le parts.1)
+starts_more d known more xs starts counts le h = refl
 
 edges_more : (d : Direction) (known more : ℕ) (ns starts counts strides : List ℕ) → known ≤ more
     → some_edge (map (bound d known) ns) starts counts strides ≡ false → some_edge (map (bound d more) ns) starts counts strides ≡ false
-edges_more d known more [] starts counts strides le h = refl
-edges_more d known more (n ∷ ns) [] counts strides le h = refl
-edges_more d known more (n ∷ ns) (s ∷ starts) [] strides le h = refl
-edges_more d known more (n ∷ ns) (s ∷ starts) (c ∷ counts) [] le h = refl
 edges_more d known more (n ∷ ns) (s ∷ starts) (c ∷ counts) (t ∷ strides) le h =
     let parts = or_parts (bad_edge (bound d known n) s c t) (some_edge (map (bound d known) ns) starts counts strides) h in
     or_from (bad_edge (bound d more n) s c t) (some_edge (map (bound d more) ns) starts counts strides)
     (edge_more d known more n s c t le parts.0) (edges_more d known more ns starts counts strides le parts.1)
+edges_more d known more xs starts counts strides le h = refl
 
 -- ---- a region
 

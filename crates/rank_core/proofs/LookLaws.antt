@@ -14,7 +14,6 @@ abbrev pick : Code → Bool → Bool → Code
 pick refused large shared = cond (not (is_ok_code refused)) refused (cond large code.ETooLarge (cond shared code.ESelf code.Ok))
 
 few_passed : (refused : Code) (put share : Bool) → pick refused false (put && share) ≡ code.Ok → (refused ≡ code.Ok) × (put ≡ true → share ≡ false)
-few_passed code.Ok true true h = absurd cc
 few_passed code.Ok true false h = (refl, λ e. refl)
 few_passed code.Ok false share h = (refl, λ e. absurd cc)
 few_passed refused put share h = absurd cc

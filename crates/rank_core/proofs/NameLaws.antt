@@ -11,16 +11,14 @@ place_ranks names = ranks_by (place_total names) (λ k. k)
 
 then_first : (a b : Ordering) → is_lt (ordering_then a b) ≡ false → is_lt a ≡ false
 then_first Less b h = h
-then_first Equal b h = refl
-then_first Greater b h = refl
+then_first xs b h = refl
 
 then_second : (a b : Ordering) → a ≡ Equal → is_lt (ordering_then a b) ≡ false → is_lt b ≡ false
 then_second a b e h = sym (ap (λ (o : Ordering). is_lt (ordering_then o b)) e) ∙ h
 
 between : (o : Ordering) → is_lt o ≡ false → is_lt (ordering_reverse o) ≡ false → is_eq o ≡ true
-between Less h k = absurd cc
 between Equal h k = refl
-between Greater h k = absurd cc
+between xs h k = absurd cc
 
 same_cmp : (a b : List ℕ) → a ≡ b → slice_cmp nat_cmp a b ≡ Equal
 same_cmp a b e = is_equal (slice_cmp nat_cmp a b) (is_eq-slice_cmp a b ∙ (bytes_eq-Decides a b).1 e)

@@ -49,8 +49,6 @@ all_right checked some asked last e f g =
 pub outcome_posts : (checked : Code) (some : Bool) (asked : List Post) (last : Code)
     → (machine.posts_of (outcome checked some asked last) ≡ []) ⊎ ((machine.posts_of (outcome checked some asked last) ≡ asked) × (checked ≡ code.Ok) × (last ≡ code.Ok))
 outcome_posts code.Ok true asked code.Ok = inr (refl, refl, refl)
-outcome_posts code.Ok true asked last = inl refl
-outcome_posts code.Ok false asked last = inl refl
 outcome_posts checked some asked last = inl refl
 
 pub parts_ask : (id var : ℕ) (kind : NcType) (values : Option Values) (k : ℕ) (regions : List Region) → ltb 0 (length regions) ≡ true

@@ -18,9 +18,8 @@ towards_more way.Put header known more posts le h = puts_more header known more 
 towards_more way.Get header known more posts le h = gets_more header known more posts le h
 
 request_more : (header : Header) (known more id : ℕ) (s : Status) → known ≤ more → IsRequest header known id s → IsRequest header more id s
-request_more header known more id NullRequest le h = tt
-request_more header known more id Gone le h = tt
 request_more header known more id (Waiting kind posts) le h = (h.0, towards_more (direction_of_kind kind) header known more posts le h.1)
+request_more header known more id xs le h = tt
 
 pub requests_more : (header : Header) (known more : ℕ) (ps : List Posted) → known ≤ more → AreRequests header known ps → AreRequests header more ps
 requests_more header known more [] le h = tt
@@ -80,32 +79,22 @@ request_in header known (q ∷ ps) p h (inl e) = subst (λ (x : Posted). IsReque
 request_in header known (q ∷ ps) p h (inr m) = request_in header known ps p h.2 m
 
 put_in : (header : Header) (known id : ℕ) (s : Status) (p : Post) → IsRequest header known id s → In (puts_in s) p → IsPut header known p × (p.id ≡ id)
-put_in header known id NullRequest p r m = absurd m
-put_in header known id Gone p r m = absurd m
 put_in header known id (Waiting Iput posts) p r m = (r.1.each p m, r.0 p m)
 put_in header known id (Waiting Bput posts) p r m = (r.1.each p m, r.0 p m)
-put_in header known id (Waiting Iget posts) p r m = absurd m
+put_in header known id xs p r m = absurd m
 
 get_in : (header : Header) (known id : ℕ) (s : Status) (p : Post) → IsRequest header known id s → In (gets_in s) p → IsGet header known p × (p.id ≡ id)
-get_in header known id NullRequest p r m = absurd m
-get_in header known id Gone p r m = absurd m
-get_in header known id (Waiting Iput posts) p r m = absurd m
-get_in header known id (Waiting Bput posts) p r m = absurd m
 get_in header known id (Waiting Iget posts) p r m = (r.1.each p m, r.0 p m)
+get_in header known id xs p r m = absurd m
 
 one_var : (header : Header) (known id : ℕ) (s : Status) (p q : Post) → IsRequest header known id s → In (gets_in s) p → In (gets_in s) q → p.id ≡ q.id → p.var ≡ q.var
-one_var header known id NullRequest p q r m n e = absurd m
-one_var header known id Gone p q r m n e = absurd m
-one_var header known id (Waiting Iput posts) p q r m n e = absurd m
-one_var header known id (Waiting Bput posts) p q r m n e = absurd m
 one_var header known id (Waiting Iget posts) p q r m n e = r.1.var p q m n e
+one_var header known id xs p q r m n e = absurd m
 
 own_puts : (header : Header) (known id rank : ℕ) (s : Status) → IsRequest header known id s → IsOwnOnce (held_by header rank (puts_in s))
-own_puts header known id rank NullRequest r = own_none
-own_puts header known id rank Gone r = own_none
 own_puts header known id rank (Waiting Iput posts) r = r.1.own rank
 own_puts header known id rank (Waiting Bput posts) r = r.1.own rank
-own_puts header known id rank (Waiting Iget posts) r = own_none
+own_puts header known id rank xs r = own_none
 
 -- no later request has the id of an earlier one
 id_in : (ps : List Posted) (p : Posted) (id : ℕ) → status_of ps id ≡ None → In ps p → p.id ≡ id → ⊥
@@ -231,11 +220,8 @@ taken_few f (p ∷ ps) = few_more f p ps (taken_few f ps) (f p)
 -- ---- the items
 
 code_new : (s : Option Status) (b : Bool) → is_ok_code (item_code s b) ≡ true → b ≡ false
-code_new None b h = cc
-code_new (Some NullRequest) b h = cc
-code_new (Some Gone) b h = cc
-code_new (Some (Waiting kind posts)) true h = cc
 code_new (Some (Waiting kind posts)) false h = refl
+code_new xs b h = cc
 
 ok_new : (posted : List Posted) (earlier ids : List ℕ) (j : Item) → In (items_from posted earlier ids) j → is_ok_code j.code ≡ true → has_id earlier j.id ≡ false
 ok_new posted earlier [] j m h = absurd m

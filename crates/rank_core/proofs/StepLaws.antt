@@ -43,15 +43,7 @@ pub call_few : (ranks r : ℕ) (c : Call) → is_lawful_call ranks r c ≡ true 
 call_few ranks r (call.Put all name given values) h = given_few given (and_parts (is_given given) (are_values values) h).0
 call_few ranks r (call.Get all name given) h = given_few given h
 call_few ranks r (call.Post id kind name given values) h = given_few given (and_parts (is_given given) (is_post_of kind values) h).0
-call_few ranks r (call.Wait all choice) h = omega arith
-call_few ranks r (call.Cancel choice) h = omega arith
-call_few ranks r (call.Attach size) h = omega arith
-call_few ranks r call.Detach h = omega arith
-call_few ranks r call.BeginIndep h = omega arith
-call_few ranks r call.EndIndep h = omega arith
-call_few ranks r call.SyncRecords h = omega arith
-call_few ranks r (call.InqDim name) h = omega arith
-call_few ranks r (call.FillRec name number share of) h = omega arith
+call_few ranks r xs h = omega arith
 
 -- the dimension that is found
 pub dim_there : (header : Header) (name : List ℕ) (k : ℕ) (d : Dim) → find_dim header name ≡ Some k → d ≡ get_or header.dims k d → slice_get header.dims k ≡ Some d

@@ -26,7 +26,6 @@ all_long kind values (p ∷ ps) h =
 -- the kinds are alike, and no value lacks
 pub code_passes : (c : Code) (lacking unfit : Bool) → cond (not (is_ok_code c)) c (cond lacking code.EMapSize (cond unfit code.ERange code.Ok)) ≡ code.Ok
     → (c ≡ code.Ok) × (lacking ≡ false)
-code_passes code.Ok true unfit h = absurd cc
 code_passes code.Ok false unfit h = (refl, refl)
 code_passes c lacking unfit h = absurd cc
 

@@ -39,9 +39,8 @@ post_waits r id kind asked code.Ok h = h
 post_waits r id kind asked c h = h
 
 posts_wait : (r : Rank) (id : ℕ) (kind : PostKind) (l : Look) → r.«open» ≡ None → DoesWait (posts r id kind l)
-posts_wait r id kind (Refused c) h = h
-posts_wait r id kind Empty h = h
 posts_wait r id kind (Asks asked) h = post_waits r id kind asked (buffer_code r kind (bytes_in asked)) h
+posts_wait r id kind xs h = h
 
 attached_wait : (r s : Rank) (b : Bool) (a : Answer) → r.«open» ≡ None → s.«open» ≡ None → DoesWait (answers (cond b r s) a)
 attached_wait r s true a h k = h
@@ -62,13 +61,12 @@ step_waits header r (call.Post id kind name given values) h = posts_wait r id ki
 step_waits header r (call.Wait true choice) h =
     either r.independent _ _ (empty_waits r meets.Wait code.EIndep r.independent) (chosen_wait r (offer.Meet meets.Wait) choice)
 step_waits header r (call.Wait false choice) h = either r.independent _ _ (chosen_wait r offer.Solo choice) h
-step_waits header r (call.Cancel choice) h = h
 step_waits header r (call.Attach size) h = attached_wait (record r { attached = Some size }) r (is_ok_code (attach_code r.attached size)) (answer (attach_code r.attached size)) h h
 step_waits header r call.Detach h = attached_wait (record r { attached = None }) r (is_ok_code (detach_code r)) (answer (detach_code r)) h h
 step_waits header r call.BeginIndep h = empty_waits r meets.Begin (cond r.independent code.EIndep code.Ok) true
 step_waits header r call.EndIndep h = empty_waits r meets.End (cond r.independent code.Ok code.ENotIndep) false
 step_waits header r call.SyncRecords h = empty_waits r meets.Sync code.Ok r.independent
-step_waits header r (call.InqDim name) h = h
 step_waits header r (call.FillRec name number share others) h =
     let l = look_fill header name number share others in
     either r.independent _ _ (refused_waits r meets.Put) (look_waits r (offer.Meet meets.Put) l (record { puts = posts_of l; gets = [] }))
+step_waits header r xs h = h

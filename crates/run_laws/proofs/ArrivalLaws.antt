@@ -1,5 +1,5 @@
 -- A run of ranks at their next offers is that of ranks which wait where they heard their last reply.
-use Rattle.run_laws.proofs.Words.{◌≡◌, ℕ, zero, suc, refl, sym, ◌∙◌, ap, List, [], ◌∷◌, ◌++◌, map, set, Option, Some, None, slice_get, fold, nat_lt, map_map, Header, Call, Hints, Script, Mark, Offer, mark_calls, store_records, run_calls, Setting, Counted, Going, advance, solo_of, after_mark, first_state, setting_of, closed, serial_from, calls_so_far, Arrived, Stand, solo_to, step_to, step_calls, calls_over, ended_from, all_calls_over, first_stand, map-set, arith, nat_tests}
+use Rattle.run_laws.proofs.Words.{◌≡◌, ℕ, suc, refl, sym, ◌∙◌, ap, List, [], ◌∷◌, ◌++◌, map, set, Option, Some, None, slice_get, fold, nat_lt, map_map, Header, Call, Hints, Script, Mark, Offer, mark_calls, store_records, run_calls, Setting, Counted, Going, advance, solo_of, after_mark, first_state, setting_of, closed, serial_from, calls_so_far, Arrived, Stand, solo_to, step_to, step_calls, calls_over, ended_from, all_calls_over, first_stand, map-set, arith, nat_tests}
 use Rattle.run_laws.proofs.OrderLaws.{calls_close}
 use Rattle.run_laws.proofs.StandingLaws.{calls_at}
 

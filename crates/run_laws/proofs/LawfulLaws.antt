@@ -1,6 +1,5 @@
 -- What a lawful script has of the calls of one rank.
 use Rattle.run_laws.proofs.Words.{◌≡◌, ℕ, zero, suc, ◌+◌, ◌≤◌, refl, sym, ap, List, [], ◌∷◌, length, map, true, Some, arith, bytes_eq-Decides, slice_get, fold, list_all, enumerate_from, same_Some, passes_at, Call, Script, MeetKind, kinds, kind_number, is_lawful, is_lawful_call, agree, kind_numbers, are_different, posted_ids, most_calls, IsLawful, kinds_of, le_two, lawful_parts, nat_tests}
-use Rattle.nc_base.specs.declared.step.MeetKind.TheVariants as meets
 
 -- ---- tests and lists
 

@@ -1,5 +1,5 @@
 -- Longer orders: their states and device calls, and the solo steps of one rank in a row.
-use Rattle.run_laws.proofs.Words.{◌≡◌, ℕ, refl, sym, ◌∙◌, ap, List, [], ◌∷◌, ◌++◌, set, true, Some, append_assoc, append-nil, set-set, fold-append, slice_get, ◌==◌, nat_lt, fold, list_all, eqb-true, and_first, and_second, Header, Hints, Script, Mark, Meet, Solo, Setting, Counted, mark_calls, store_records, calls_from, Going, setting_of, first_state, state_after, after_mark, after_solo, solo_of, advance, closed, is_solo_of, own_step, own_calls, calls_so_far, entry_set, set_own, arith, nat_tests}
+use Rattle.run_laws.proofs.Words.{◌≡◌, ℕ, refl, sym, ◌∙◌, ap, List, [], ◌∷◌, ◌++◌, set, true, Some, append_assoc, set-set, fold-append, slice_get, ◌==◌, nat_lt, fold, list_all, eqb-true, and_first, and_second, Header, Hints, Script, Mark, Meet, Solo, Setting, Counted, mark_calls, store_records, calls_from, Going, setting_of, first_state, state_after, after_mark, after_solo, solo_of, advance, closed, is_solo_of, own_step, own_calls, calls_so_far, entry_set, set_own, arith, nat_tests}
 use Rattle.run_laws.proofs.StandingLaws.{solo_goes, solo_calls_go}
 
 -- ---- states

@@ -1,5 +1,5 @@
 -- A rank that answers alone, and the steps of ranks that stand at their offers.
-use Rattle.run_laws.proofs.Words.{◌≡◌, ℕ, suc, refl, sym, ◌∙◌, ap, List, [], ◌∷◌, ◌++◌, length, map, set, Option, Some, None, arith, slice_get, zip, Header, Call, Answer, Hints, Mark, Meet, Solo, Offer, Reply, DiskCall, Want, Setting, Counted, meeting, solo, mark_calls, meeting_calls, solo_calls, step, hear, Going, go, advance, hears, offers_of, after_meeting, after_solo, solo_of, closed, close_by, answered, asking, HasCome, AreAt, AreEnded, all_hear, own_step, nat_tests}
+use Rattle.run_laws.proofs.Words.{◌≡◌, ℕ, suc, refl, sym, ◌∙◌, ap, List, [], ◌∷◌, ◌++◌, length, map, set, Option, Some, None, arith, slice_get, zip, Header, Call, Answer, Hints, Solo, Offer, Reply, DiskCall, Want, Setting, Counted, mark_calls, solo_calls, step, Going, go, advance, hears, offers_of, after_solo, solo_of, answered, asking, HasCome, AreAt, AreEnded, all_hear, nat_tests}
 use Rattle.nc_base.specs.declared.step.Want.TheVariants as want
 use Rattle.serial_spec.specs.RankMachine as machine
 
@@ -38,10 +38,6 @@ at_offers ss offers = map (λ p. (p.0, Some p.1)) (zip ss offers)
 
 pub arrived : (header : Header) (goings ss : List Going) (offers : List Offer) → AreAt header goings ss offers → map (advance header) goings ≡ at_offers ss offers
 arrived header [] [] [] w = refl
-arrived header [] [] (o ∷ offers) w = let h = w.all in absurd (omega arith)
-arrived header [] (s ∷ ss) offers w = let h = w.long in absurd (omega arith)
-arrived header (g ∷ goings) [] offers w = let h = w.long in absurd (omega arith)
-arrived header (g ∷ goings) (s ∷ ss) [] w = let h = w.all in absurd (omega arith)
 arrived header (g ∷ goings) (s ∷ ss) (o ∷ offers) w =
     let first = w.each 0 g s o refl refl refl in
     let others = arrived header goings ss offers (record {
@@ -50,12 +46,12 @@ arrived header (g ∷ goings) (s ∷ ss) (o ∷ offers) w =
       each = λ r g' s' o' a b c. w.each (suc r) g' s' o' a b c;
     }) in
     λ i. first i ∷ others i
+arrived header goings ss offers w = absurd (omega (arith, w.all, w.long))
 
 pub offers_at : (ss : List Going) (offers : List Offer) → length ss ≡ length offers → offers_of (at_offers ss offers) ≡ offers
 offers_at [] [] e = refl
-offers_at [] (o ∷ offers) e = absurd (omega arith)
-offers_at (s ∷ ss) [] e = absurd (omega arith)
 offers_at (s ∷ ss) (o ∷ offers) e = ap (λ (os : List Offer). o ∷ os) (offers_at ss offers (omega arith))
+offers_at ss offers e = absurd (omega arith)
 
 pub hears_at : (header : Header) (ss : List Going) (offers : List Offer) (replies : List Reply) → length ss ≡ length offers
     → map (λ p. hears header p.0.0 p.1) (zip (at_offers ss offers) replies) ≡ all_hear header ss replies
@@ -66,9 +62,6 @@ hears_at header xs ys replies e = refl
 
 pub beside_offers : (header : Header) (goings ss : List Going) (offers : List Offer) → AreAt header goings ss offers → length ss ≡ length offers
 beside_offers header goings ss offers w = let a = w.long in let b = w.all in omega arith
-
-abbrev met : Setting → Counted → List (Going × Option Offer) → List Offer → Counted × List Going
-met s c at offers = ((meeting s offers c).0, map (λ p. hears s.header p.0.0 p.1) (zip at (meeting s offers c).1))
 
 -- ---- one rank at its solo offer
 
@@ -87,9 +80,8 @@ solo_calls_go hints s r n c goings g e = grind (arith, nat_tests)
 
 pub ended : (header : Header) (goings ss : List Going) → AreEnded header goings ss → map (λ g. (advance header g).0) goings ≡ ss
 ended header [] [] w = refl
-ended header [] (s ∷ ss) w = let h = w.long in absurd (omega arith)
-ended header (g ∷ goings) [] w = let h = w.long in absurd (omega arith)
 ended header (g ∷ goings) (s ∷ ss) w =
     let first = w.each 0 g s refl refl in
     let others = ended header goings ss (record { long = let h = w.long in omega arith; each = λ r g' s' a b. w.each (suc r) g' s' a b }) in
     λ i. (first i).0 ∷ others i
+ended header goings ss w = absurd (omega (arith, w.long))

@@ -1,5 +1,5 @@
 -- What a rank on its way has at its next call, and that all ranks meet and end together.
-use Rattle.run_laws.proofs.Words.{◌≡◌, ℕ, suc, ◌+◌, ◌*◌, ◌^◌, ◌<◌, ◌≤◌, ◌≢◌, refl, ◌∙◌, List, [], ◌∷◌, ◌++◌, length, drop, true, Option, Some, None, arith, length-drop, append-nil, list_all-append, nat_tests, slice_get, nat_lt, filter, list_all, and_from, eqb-true, entry_below, first_same, none_of_test, and_first, and_second, Call, Script, Mark, Meet, Solo, MeetKind, Offer, Open, Going, kinds, marks, concerns, is_of_rank_below, IsLegal, is_lawful, is_lawful_call, most_calls, most_parts, posted_ids, IsFresh, IsShare, posts_held, meetings, kinds_of, Waits, IsOnWay}
+use Rattle.run_laws.proofs.Words.{◌≡◌, ℕ, suc, ◌+◌, ◌*◌, ◌^◌, ◌<◌, ◌≤◌, ◌≢◌, refl, ◌∙◌, List, [], ◌∷◌, ◌++◌, length, drop, true, Option, Some, None, arith, length-drop, append-nil, list_all-append, nat_tests, slice_get, filter, list_all, and_from, eqb-true, entry_below, first_same, none_of_test, and_first, and_second, Call, Script, Mark, Meet, MeetKind, Offer, Open, Going, kinds, marks, concerns, is_of_rank_below, IsLegal, is_lawful, is_lawful_call, most_calls, most_parts, posted_ids, IsFresh, IsShare, posts_held, meetings, kinds_of, Waits, IsOnWay}
 use Rattle.nc_base.specs.declared.request.Call.TheVariants as call
 use Rattle.nc_base.specs.declared.step.OfferKind.TheVariants as offer
 use Rattle.serial_spec.specs.RankMachine as machine

@@ -1,6 +1,5 @@
 -- A rank on its way: how it begins, how its calls and its replies change what is left to it, and what others leave as it was.
-use Rattle.run_laws.proofs.Words.{◌≡◌, ℕ, zero, suc, ◌+◌, ◌*◌, ◌≤◌, ◌≢◌, refl, sym, ◌∙◌, ap, subst, List, [], ◌∷◌, ◌++◌, length, drop, Bool, true, false, not, cond, ◌&&◌, ◌||◌, Option, Some, None, arith, true≢false, append_assoc, append-nil, sum_by-append, filter-append, eq-eqb, and_from, eqb-true, eqb_tells, slice_get, ◌==◌, filter, is_some, list_all, list_any, cons_option, and_first, and_second, Header, Call, Answer, Script, Mark, Meet, Solo, MeetKind, Offer, OfferKind, Reply, Open, Posted, step, hear, Going, first_going, kinds, marks_from, concerns, kind_of_call, kind_of_meeting, mode_after, is_collective, is_data, is_meeting, is_lawful, is_lawful_call, most_calls, most_parts, are_different, posted_ids, id_posted, posts_held, answered, asking, is_solo_of, meetings, mode_heard, kind_of_offer, kinds_of, Waits, AreNew, IsOnWay, long_push, nat_tests}
-use Rattle.nc_base.specs.declared.request.Call.TheVariants as call
+use Rattle.run_laws.proofs.Words.{◌≡◌, ℕ, suc, ◌+◌, ◌*◌, ◌≤◌, ◌≢◌, refl, sym, ◌∙◌, ap, subst, List, [], ◌∷◌, ◌++◌, length, drop, Bool, true, false, not, cond, ◌&&◌, ◌||◌, Option, Some, None, arith, true≢false, append_assoc, append-nil, sum_by-append, filter-append, eq-eqb, and_from, eqb-true, eqb_tells, slice_get, ◌==◌, filter, is_some, list_all, list_any, cons_option, and_first, and_second, Header, Call, Answer, Script, Mark, Meet, Solo, MeetKind, Offer, OfferKind, Reply, Open, Posted, step, hear, Going, first_going, kinds, marks_from, concerns, kind_of_call, kind_of_meeting, mode_after, is_collective, is_data, is_meeting, is_lawful, is_lawful_call, most_calls, most_parts, are_different, posted_ids, id_posted, posts_held, answered, asking, is_solo_of, meetings, mode_heard, kind_of_offer, kinds_of, Waits, AreNew, IsOnWay, long_push, nat_tests}
 use Rattle.nc_base.specs.declared.step.OfferKind.TheVariants as offer
 use Rattle.nc_base.specs.declared.step.Want.TheVariants as want
 use Rattle.serial_spec.specs.RankMachine as machine

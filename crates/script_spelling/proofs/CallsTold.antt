@@ -34,12 +34,9 @@ get_told : (all : Bool) (n : List ℕ) (g : Given) (ws : List Word) → SpellsPl
 get_told all n g ws (own, is, named, spelled) given =
     grind (arith, nat_tests, append-nil own, name_again n (own ++ []) named, region_told g own [] spelled given, go_on)
 
-id_told : (before : List ℕ) (w : List ℕ) (id : ℕ) (more : List Word) → id_of_text w ≡ Some id → is_posted id before ≡ false → new_id before (Plain w ∷ more) ≡ Ok (id, more)
-id_told before w id more h fresh = grind (arith, nat_tests, go_on, word_read, passed)
-
 post_told : (k : PostKind) (found : List ℕ) (id : ℕ) (n : List ℕ) (g : Given) (before : ℕ) (vs : Values) (ws : List Word) → SpellsCall ws (call.Post id k n g vs) → is_posted id found ≡ false → is_given g ≡ true → is_post_of k vs ≡ true
     → before + count_of vs ≤ most_values → post_call k found g.form before ws ≡ Ok (call.Post id k n g vs)
-post_told k found id n g before vs ws xs fresh given lawful few = grind (arith, nat_tests, go_on, id_told, name_again, region_told, posted_told)
+post_told k found id n g before vs ws xs fresh given lawful few = grind (arith, nat_tests, go_on, name_again, region_told, posted_told)
 
 -- ---- calls of no region
 

@@ -39,13 +39,10 @@ none_given zero h = refl
 none_given (suc n) zero = refl
 none_given (suc n) (suc h) = none_given n h
 
-filled_as : (filled : Bool) (n : ℕ) → flag filled ≡ 0 + n → n ≡ cond filled 1 0
-filled_as filled n h = omega (arith, h)
-
 describes_read : (version ranks : ℕ) (ss : List Statement) (known : Known) (called : List (ℕ × Call)) (calls : List (List Call))
     → Grown (version == 0) nothing_known ss known → known.ranks ≡ Some ranks → list_all (λ c. nat_lt c.0 ranks) called ≡ true → calls ≡ map (λ r. calls_in r called) (range_with_len 0 ranks)
     → Describes ss called (script_of version ranks known calls)
-describes_read version ranks ss known called calls grown told low same = grind (arith, nat_tests, none_given, filled_as)
+describes_read version ranks ss known called calls grown told low same = grind (arith, nat_tests, none_given)
 
 stand_read : (opened : Bool) (ss : List Statement) (known : Known) → Part opened nothing_known ss known → Stand opened [] [] [] ss
 stand_read true ss known p = p.2

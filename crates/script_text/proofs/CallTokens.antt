@@ -68,11 +68,8 @@ call_spelled c = plain_spelled c
 
 -- ---- the words of calls
 
-post_plain : (k : PostKind) (f : Form) → is_plain (kind_word k ++ form_word f) ≡ true
-post_plain k f = grind (arith, nat_tests)
-
 pub call_plain : (c : Call) → is_plain (call_word c) ≡ true
-call_plain c = grind (arith, nat_tests, post_plain)
+call_plain c = grind (arith, nat_tests)
 
 module _ (ranks r : ℕ) (own : List Call) (before : ℕ) (ws : List Word) where
   pub put_word : (all : Bool) (f : Form) → call_of ranks r own before (with_all all (codes "put_" ++ form_word f)) ws ≡ put_call all f before ws

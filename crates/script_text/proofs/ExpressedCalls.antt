@@ -9,12 +9,8 @@ use Rattle.script_text.proofs.CallLines.{Chain, Chains, count, count_all}
 
 -- ---- values
 
-some_bits : (ns : List ℕ) → not (is_empty ns) ≡ true → 0 < length ns
-some_bits [] h = absurd (cc)
-some_bits (n ∷ ns) h = omega arith
-
 values_told : (vs : Values) → are_values vs ≡ true → are_expressible_values vs ≡ true → Fitting None 0 vs
-values_told vs lawful h = grind (arith, nat_tests, and_parts, nat_le, all_more, and_from, leb-true, not, nat_lt, some_bits)
+values_told vs lawful h = grind (arith, nat_tests, and_parts, nat_le, all_more, and_from, leb-true, not, nat_lt)
 
 no_values : (vs : Values) → is_nothing vs ≡ true → PostedAgain Iget 0 vs
 no_values vs h = grind (arith, nat_tests, nothing_posted)

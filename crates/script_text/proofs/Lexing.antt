@@ -56,14 +56,11 @@ first_hex o cs = elim o [ None ↦ None | Some h ↦ text_from (SecondHex h) cs 
 abbrev second_hex : ℕ → Option ℕ → List ℕ → Option (List ℕ × List ℕ)
 second_hex g o cs = elim o [ None ↦ None | Some h ↦ more_text (16 * g + h) (text_from Between cs) ]
 
-split_byte : (c : ℕ) → c < 256 → 16 * (c / 16 % 16) + c % 16 ≡ c
-split_byte c h = omega arith
-
 pub below_16 : (c : ℕ) → c % 16 < 16
 below_16 c = omega arith
 
 escaped_again : (c : ℕ) (rest text tail : List ℕ) → c < 256 → text_from Between rest ≡ Some (text, tail) → text_from Between ((92 ∷ 120 ∷ hex 2 c) ++ rest) ≡ Some (c ∷ text, tail)
-escaped_again c rest text tail small h = grind (arith, nat_tests, below_16, split_byte)
+escaped_again c rest text tail small h = grind (arith, nat_tests, below_16)
 
 abbrev pub char_else : Bool → ℕ → List ℕ
 char_else b c = cond b (c ∷ []) (92 ∷ 120 ∷ hex 2 c)

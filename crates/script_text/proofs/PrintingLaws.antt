@@ -1,5 +1,5 @@
 -- What is pushed of a script.
-use Rattle.script_text.proofs.Words.{◌≡◌, ◌<◌, ◌+◌, ◌*◌, ℕ, zero, suc, List, [], ◌∷◌, ◌++◌, map, length, take, drop, get_or, Bool, true, Some, ℤ, pos, refl, sym, ap, ◌∙◌, arith, enumerate_from, flat_map, list_all, signed_decimal, w8, w16, w32, w64, from_be_bytes, cast_signed, eqb-true, flat_map-append, list_all_at, length-enumerate_from, get_or-enumerate_from, Attr, NcType, Byte, Char, Short, Int, Float, Double, UByte, UShort, UInt, Int64, UInt64, Values, class_of, size_of, val, is_whole_attr, code_in, gathered, number_in, attr_values, pieces, shown_values, hex, joined, quoted, spaced, all_pushed, item_words, joined_spaced, next_pushed, spaced_one, value_word, nat_tests}
+use Rattle.script_text.proofs.Words.{◌≡◌, ◌<◌, ◌+◌, ◌*◌, ℕ, zero, suc, List, [], ◌∷◌, ◌++◌, map, length, take, drop, get_or, Bool, true, Some, ℤ, pos, refl, sym, ap, ◌∙◌, arith, enumerate_from, flat_map, list_all, signed_decimal, w8, w16, w32, w64, from_be_bytes, cast_signed, eqb-true, flat_map-append, list_all_at, length-enumerate_from, get_or-enumerate_from, Attr, NcType, Byte, Char, Short, Int, Float, Double, UByte, UShort, UInt, Int64, UInt64, Values, class_of, size_of, val, is_whole_attr, code_in, gathered, number_in, attr_values, pieces, shown_values, hex, joined, quoted, spaced, all_pushed, item_words, joined_spaced, next_pushed, spaced_one, value_word, nat_tests, subst}
 use Rattle.std.proofs.lemmas.List.{append-nil, append_assoc}
 use Rattle.nc_base.specs.declared.request.Value.TheVariants as value
 
@@ -77,20 +77,13 @@ chars_back (suc n) [] h = absurd (omega arith)
 chars_back (suc n) (c ∷ cs) h = grind (arith, nat_tests, chars_back n cs, char_back)
 
 -- a text is one word
-text_of : (kind : NcType) (n : ℕ) (bytes : List ℕ) → kind ≡ Char → length bytes ≡ n * size_of kind → spaced (shown_values (as_values kind (pieces n (size_of kind) bytes))) ≡ 32 ∷ quoted bytes
-text_of Char n bytes h e =
+chars_of : (n : ℕ) (bytes : List ℕ) → length bytes ≡ n * size_of Char → spaced (shown_values (as_values Char (pieces n (size_of Char) bytes))) ≡ 32 ∷ quoted bytes
+chars_of n bytes e =
     let long : length bytes ≡ n = omega (arith, e) in
     ap (λ (cs : List ℕ). spaced (quoted cs ∷ [])) (chars_back n bytes long) ∙ spaced_one (quoted bytes)
-text_of Byte n bytes h e = absurd (cc)
-text_of Short n bytes h e = absurd (cc)
-text_of Int n bytes h e = absurd (cc)
-text_of Float n bytes h e = absurd (cc)
-text_of Double n bytes h e = absurd (cc)
-text_of UByte n bytes h e = absurd (cc)
-text_of UShort n bytes h e = absurd (cc)
-text_of UInt n bytes h e = absurd (cc)
-text_of Int64 n bytes h e = absurd (cc)
-text_of UInt64 n bytes h e = absurd (cc)
+
+text_of : (kind : NcType) (n : ℕ) (bytes : List ℕ) → kind ≡ Char → length bytes ≡ n * size_of kind → spaced (shown_values (as_values kind (pieces n (size_of kind) bytes))) ≡ 32 ∷ quoted bytes
+text_of kind n bytes h e = subst (λ k. length bytes ≡ n * size_of k → spaced (shown_values (as_values k (pieces n (size_of k) bytes))) ≡ 32 ∷ quoted bytes) (sym h) (chars_of n bytes) e
 
 pub text_pushed : (a : Attr) → a.kind ≡ Char → is_whole_attr a ≡ true → spaced (shown_values (attr_values a)) ≡ 32 ∷ quoted a.bytes
 text_pushed a h whole = text_of a.kind a.count a.bytes h (eqb-true _ _ whole)

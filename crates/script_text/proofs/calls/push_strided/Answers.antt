@@ -7,8 +7,7 @@ returns c =
     let g = c.args.given.now in
     let box : List (List ℕ) = size_list g.start ∷ size_list g.count ∷ [] in
     let stride : List ℕ = size_list g.stride in
-    let first = rw (c.as_slice.ensures, c.as_slice-2.ensures) at c.in_ok-push_box.ensures in
     let second = rw c.as_slice-3.ensures at c.in_ok-push_sizes.ensures in
-    then_append o _ _ (spaced box) (32 ∷ stride) first second
+    then_append o _ _ (spaced box) (32 ∷ stride) (rw (c.as_slice.ensures, c.as_slice-2.ensures) at c.in_ok-push_box.ensures) second
     ∙ ap (λ (t : List ℕ). o ++ (spaced box ++ t)) (sym (spaced_one stride))
     ∙ ap (λ (t : List ℕ). o ++ t) (sym (flat_map-append (λ (w : List ℕ). 32 ∷ w) box (stride ∷ [])))

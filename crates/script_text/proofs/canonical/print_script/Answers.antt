@@ -13,12 +13,10 @@ returns c =
     let mark : List ℕ = line (codes "data" ∷ []) in
     let calls : List ℕ = flat_map (λ (p : ℕ × List Call). flat_map (shown_call p.0) p.1) (enumerate_from 0 s.calls) in
     let end : List ℕ = line (codes "end" ∷ []) in
-    let second = rw c.as_slice.ensures at c.in_ok-push_extras.ensures in
-    let fifth = rw c.as_slice-2.ensures at c.in_ok-push_ranks.ensures in
-    let two = then_append o _ _ opening extras c.in_ok-push_opening.ensures second in
+    let two = then_append o _ _ opening extras c.in_ok-push_opening.ensures (rw c.as_slice.ensures at c.in_ok-push_extras.ensures) in
     let three = then_append o _ _ (opening ++ extras) definitions two c.in_ok-push_definitions.ensures in
     let four = then_append o _ _ (opening ++ extras ++ definitions) mark three c.in_ok-push_bytes.ensures in
-    let five = then_append o _ _ (opening ++ extras ++ definitions ++ mark) calls four fifth in
+    let five = then_append o _ _ (opening ++ extras ++ definitions ++ mark) calls four (rw c.as_slice-2.ensures at c.in_ok-push_ranks.ensures) in
     c.from_vec.ensures
     ∙ then_append o _ _ (opening ++ extras ++ definitions ++ mark ++ calls) end five c.in_ok-push_bytes-2.ensures
     ∙ ap (λ (t : List ℕ). t ++ (opening ++ extras ++ definitions ++ mark ++ calls ++ end)) c.new-out.ensures.items

@@ -9,6 +9,5 @@ returns c =
     let ranks : List ℕ = line (codes "ranks" ∷ decimal s.ranks ∷ []) in
     let hints : List ℕ = shown_hints s.hints in
     let fill : List ℕ = cond s.filled (line (codes "fill" ∷ [])) [] in
-    let told = rw c.from.ensures at c.in_ok-push_number_line.ensures in
-    let two = then_append o _ _ head ranks c.in_ok-push_head.ensures told in
+    let two = then_append o _ _ head ranks c.in_ok-push_head.ensures (rw c.from.ensures at c.in_ok-push_number_line.ensures) in
     then_append o _ _ (head ++ ranks ++ hints) fill (then_append o _ _ (head ++ ranks) hints two c.in_ok-push_hints.ensures) c.in_ok-push_fill.ensures

@@ -10,11 +10,9 @@ returns c =
     let owner : List ℕ = c.args.owner.now in
     let t : List ℕ = type_word a.kind in
     let vs : List (List ℕ) = shown_values (attr_values a) in
-    let named = rw c.as_slice.ensures at c.in_ok-push_word-2.ensures in
-    let typed = rw c.type_word.ensures at c.in_ok-push_word-3.ensures in
     let two = then_append o _ _ w (32 ∷ owner) c.in_ok-push_bytes.ensures c.in_ok-push_word.ensures in
-    let three = then_append o _ _ (w ++ 32 ∷ owner) (32 ∷ a.name) two named in
-    let four = then_append o _ _ (w ++ 32 ∷ owner ++ 32 ∷ a.name) (32 ∷ t) three typed in
+    let three = then_append o _ _ (w ++ 32 ∷ owner) (32 ∷ a.name) two (rw c.as_slice.ensures at c.in_ok-push_word-2.ensures) in
+    let four = then_append o _ _ (w ++ 32 ∷ owner ++ 32 ∷ a.name) (32 ∷ t) three (rw c.type_word.ensures at c.in_ok-push_word-3.ensures) in
     let five = then_append o _ _ (w ++ 32 ∷ owner ++ 32 ∷ a.name ++ 32 ∷ t) (spaced vs) four c.in_ok-push_attr_values.ensures in
     then_append o _ _ (w ++ 32 ∷ owner ++ 32 ∷ a.name ++ 32 ∷ t ++ spaced vs) (10 ∷ []) five c.in_ok-push.ensures.items
     ∙ ap (λ (x : List ℕ). o ++ (x ++ 10 ∷ [])) (attr_words w owner a.name t vs)

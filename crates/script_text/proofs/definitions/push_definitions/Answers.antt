@@ -9,9 +9,6 @@ returns c =
     let vars : List ℕ = flat_map (shown_var h) h.vars in
     let attrs : List ℕ = flat_map (shown_attr (codes ":")) h.attrs in
     let owned : List ℕ = flat_map (λ (v : Var). flat_map (shown_attr v.name) v.attrs) h.vars in
-    let first = rw c.as_slice.ensures at c.in_ok-push_dims.ensures in
-    let second = rw c.as_slice-2.ensures at c.in_ok-push_vars.ensures in
-    let third = rw c.as_slice-3.ensures at c.in_ok-push_attrs.ensures in
     let last = rw c.as_slice-4.ensures at c.in_ok-push_var_attrs.ensures in
-    let two = then_append o _ _ dims vars first second in
-    then_append o _ _ (dims ++ vars ++ attrs) owned (then_append o _ _ (dims ++ vars) attrs two third) last
+    let two = then_append o _ _ dims vars (rw c.as_slice.ensures at c.in_ok-push_dims.ensures) (rw c.as_slice-2.ensures at c.in_ok-push_vars.ensures) in
+    then_append o _ _ (dims ++ vars ++ attrs) owned (then_append o _ _ (dims ++ vars) attrs two (rw c.as_slice-3.ensures at c.in_ok-push_attrs.ensures)) last

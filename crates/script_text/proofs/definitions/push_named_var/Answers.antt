@@ -7,9 +7,7 @@ returns c =
     let o : List ℕ = c.args.out.now.items in
     let kind = c.args.kind in
     let name : List ℕ = c.args.name.now in
-    let titled = c.in_ok-push_var_title.ensures in
     let b : List ℕ = bracketed c.args.dims.now in
     let front : List ℕ = joined 32 (codes "var" ∷ type_word kind ∷ name ∷ []) ++ 32 ∷ [] in
-    let two = then_append o _ _ front b titled c.in_ok-push_names.ensures in
-    then_append o _ _ (front ++ b) (10 ∷ []) two c.in_ok-push.ensures.items
+    then_append o _ _ (front ++ b) (10 ∷ []) (then_append o _ _ front b c.in_ok-push_var_title.ensures c.in_ok-push_names.ensures) c.in_ok-push.ensures.items
     ∙ ap (λ (x : List ℕ). o ++ 118 ∷ 97 ∷ 114 ∷ 32 ∷ (x ++ 10 ∷ [])) (title_then (type_word kind) name b)

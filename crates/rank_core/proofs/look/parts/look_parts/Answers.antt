@@ -7,8 +7,7 @@ pub returns-in_err-check_parts : goal.returns-in_err-check_parts
 returns-in_err-check_parts c =
     let p = err_from_is_err_and c.from_residual.result c.from_residual.ensures.1 in
     is_error _ _ p.0 c.in_err-check_parts.field-0.0 p.1 p.2
-    (parts_refused c.args.target.now c.args.given.now (option_copied c.args.values) c.requires.there c.direction_of-direction.result c.direction_of-direction.ensures
-    c.in_err-check_parts.field-0.0 c.in_err-check_parts.ensures.refused)
+    (parts_refused _ _ _ c.requires.there _ c.direction_of-direction.ensures c.in_err-check_parts.field-0.0 c.in_err-check_parts.ensures.refused)
 
 pub returns-then-is_empty : goal.returns-then-is_empty
 returns-then-is_empty c =
@@ -16,8 +15,7 @@ returns-then-is_empty c =
     let asked = c.in_ok-regions.ensures ∙ ap (λ (ps : List Part). filter has_element (map (part_region c.args.target.now.var.now) ps)) c.as_slice.ensures in
     let none = eqb-true _ 0 (sym c.is_empty.ensures ∙ c.if-is_empty.true) in
     ap look_of c.new.ensures
-    ∙ parts_empty c.args.target.now c.args.given.now (option_copied c.args.values) c.requires.there c.direction_of-direction.result c.direction_of-direction.ensures
-    c.in_ok-check_parts.ensures.ok regions.items asked (omega (arith, none, regions.ok.0))
+    ∙ parts_empty _ _ _ c.requires.there _ c.direction_of-direction.ensures c.in_ok-check_parts.ensures.ok regions.items asked (omega (arith, none, regions.ok.0))
 
 pub returns-in_err-check_values : goal.returns-in_err-check_values
 returns-in_err-check_values c =
@@ -29,8 +27,7 @@ returns-in_err-check_values c =
     let elements = all_counted c.as_slice-2.result.now regions.items c.elements_of_all-elements.result c.as_slice-2.ensures.value few c.elements_of_all-elements.ensures in
     let p = err_from_is_err_and c.from_residual-in_err-check_values.result c.from_residual-in_err-check_values.ensures.1 in
     is_refused _ _ p.0 c.in_err-check_values.field-0.0 p.1 p.2
-    (parts_short c.args.target.now c.args.given.now (option_copied c.args.values) c.requires.there c.direction_of-direction.result c.direction_of-direction.ensures
-    c.in_ok-check_parts.ensures.ok regions.items asked (omega (arith, some, regions.ok.0)) c.elements_of_all-elements.result c.in_err-check_values.field-0.0 elements c.in_err-check_values.ensures.refused)
+    (parts_short _ _ _ c.requires.there _ c.direction_of-direction.ensures c.in_ok-check_parts.ensures.ok regions.items asked (omega (arith, some, regions.ok.0)) c.elements_of_all-elements.result c.in_err-check_values.field-0.0 elements c.in_err-check_values.ensures.refused)
 
 pub part_posts-requires : goal.part_posts-requires
 part_posts-requires c =
@@ -52,7 +49,6 @@ returns c =
     let few = regions_few c.args.target.now c.args.given.now (option_copied c.args.values) c.requires.there c.direction_of-direction.result c.direction_of-direction.ensures
     c.in_ok-check_parts.ensures.ok regions.items asked in
     let elements = all_counted c.as_slice-2.result.now regions.items c.elements_of_all-elements.result c.as_slice-2.ensures.value few c.elements_of_all-elements.ensures in
-    parts_come c.args.target.now c.args.given.now (option_copied c.args.values) c.requires.there c.direction_of-direction.result c.direction_of-direction.ensures
-    c.in_ok-check_parts.ensures.ok regions.items asked (omega (arith, some, regions.ok.0)) c.part_posts.result
+    parts_come _ _ _ c.requires.there _ c.direction_of-direction.ensures c.in_ok-check_parts.ensures.ok regions.items asked (omega (arith, some, regions.ok.0)) c.part_posts.result
     (subst (λ (n : ℕ). HasValues c.args.target.now.var.now.kind (option_copied c.args.values) n) elements c.in_ok-check_values.ensures.right)
     c.part_posts.ensures.ok c.part_posts.ensures.right c.part_posts.ensures.refused

@@ -1,9 +1,5 @@
-use Rattle.rank_core.proofs.Words.{List, ℕ, ap, map, ◌∙◌, bytes_eq, position, position_map, Var}
+use Rattle.rank_core.proofs.Words.{bytes_eq, position_map, Var}
 use Rattle.rank_core.proofs.names.Names.find_var.Goals as goal
 
 pub returns-clause-found : goal.returns-clause-found
-returns-clause-found c =
-    let test = λ (n : List ℕ). bytes_eq n c.args.name.now in
-    c.first_named.ensures.found
-    ∙ ap (λ (vs : List Var). position test (map (λ v. v.name) vs)) c.as_slice.ensures
-    ∙ position_map test (λ (v : Var). v.name) c.args.header.now.vars
+returns-clause-found c = rw (c.first_named.ensures.found, c.as_slice.ensures) (position_map (λ m. bytes_eq m c.args.name.now) (λ (x : Var). x.name) c.args.header.now.vars)
