@@ -1,36 +1,50 @@
 -- A row, one dimension at a time.
-use Rattle.vara_extents.proofs.Words.{◌≡◌, ℕ, get_or, slice_get, ◌∙◌, refl, arith, rules, length_of}
-use Rattle.vara_extents.proofs.RowSteps.{rest, RowStep, row_step, no_counts}
+use Rattle.vara_extents.proofs.Words.{◌∙◌, refl, arith, rules}
+use Rattle.vara_extents.proofs.RowSteps.{row_step, no_counts}
 use Rattle.vara_extents.proofs.runs.+row.Goals as goal
-
-step : {t : ℕ} (c : goal.After-element_count-inner t) (len : ℕ) → len ≡ length_of (slice_get c.args.header.now.dims (get_or c.args.ids.now 0 0))
-    → RowStep c.args.header.now c.args.ids.now c.args.starts.now c.args.counts.now c.args.strides.now c.args.element.number c.args.element.before c.element_count-inner.result
-    len (get_or c.args.starts.now 0 0) (get_or c.args.strides.now 0 0) (rest c.args.ids.now) (rest c.args.starts.now) (rest c.args.counts.now) (rest c.args.strides.now)
-step c len =
-    row_step c.args.header.now c.args.ids.now c.args.starts.now c.args.counts.now c.args.strides.now c.args.element.number c.args.element.before c.element_count-inner.result len
-    c.in-len1-up.len_at_least c.in-len1-up-starts.len_at_least c.in-len1-up-counts.len_at_least c.in-len1-up-strides.len_at_least c.requires.valid c.requires.number c.requires.small
-    c.element_count-inner.ensures
 
 pub returns-in_default-counts : goal.returns-in_default-counts
 returns-in_default-counts t c =
     absurd (no_counts c.args.header.now c.args.ids.now c.args.starts.now c.args.counts.now c.args.strides.now c.args.element.number (omega arith) (omega arith) c.requires.valid)
 
 pub overflow_mul-index : goal.overflow_mul-index
-overflow_mul-index t c = omega (arith, (step c _ refl).rows, c.requires.below)
+overflow_mul-index t c =
+    let step = row_step c.args.header.now c.args.ids.now c.args.starts.now c.args.counts.now c.args.strides.now c.args.element.number c.args.element.before c.element_count-inner.result _
+    c.in-len1-up.len_at_least c.in-len1-up-starts.len_at_least c.in-len1-up-counts.len_at_least c.in-len1-up-strides.len_at_least c.requires.valid c.requires.number c.requires.small
+    c.element_count-inner.ensures refl in
+    omega (arith, step.rows, c.requires.below)
 
 pub overflow_add-index : goal.overflow_add-index
-overflow_add-index t c = omega (arith, (step c _ refl).rows, c.requires.below)
+overflow_add-index t c =
+    let step = row_step c.args.header.now c.args.ids.now c.args.starts.now c.args.counts.now c.args.strides.now c.args.element.number c.args.element.before c.element_count-inner.result _
+    c.in-len1-up.len_at_least c.in-len1-up-starts.len_at_least c.in-len1-up-counts.len_at_least c.in-len1-up-strides.len_at_least c.requires.valid c.requires.number c.requires.small
+    c.element_count-inner.ensures refl in
+    omega (arith, step.rows, c.requires.below)
 
 pub overflow_mul-element : goal.overflow_mul-element
-overflow_mul-element t c = omega (arith, (step c c.length_of.result c.length_of.ensures).rows, c.requires.below)
+overflow_mul-element t c =
+    let step = row_step c.args.header.now c.args.ids.now c.args.starts.now c.args.counts.now c.args.strides.now c.args.element.number c.args.element.before c.element_count-inner.result c.length_of.result
+    c.in-len1-up.len_at_least c.in-len1-up-starts.len_at_least c.in-len1-up-counts.len_at_least c.in-len1-up-strides.len_at_least c.requires.valid c.requires.number c.requires.small
+    c.element_count-inner.ensures c.length_of.ensures in
+    omega (arith, step.rows, c.requires.below)
 
 pub overflow_add-element : goal.overflow_add-element
-overflow_add-element t c = omega (arith, (step c c.length_of.result c.length_of.ensures).rows, c.requires.below)
+overflow_add-element t c =
+    let step = row_step c.args.header.now c.args.ids.now c.args.starts.now c.args.counts.now c.args.strides.now c.args.element.number c.args.element.before c.element_count-inner.result c.length_of.result
+    c.in-len1-up.len_at_least c.in-len1-up-starts.len_at_least c.in-len1-up-counts.len_at_least c.in-len1-up-strides.len_at_least c.requires.valid c.requires.number c.requires.small
+    c.element_count-inner.ensures c.length_of.ensures in
+    omega (arith, step.rows, c.requires.below)
 
 pub row-requires : goal.row-requires
 row-requires t c =
-    let step = step c c.length_of.result c.length_of.ensures in
+    let step = row_step c.args.header.now c.args.ids.now c.args.starts.now c.args.counts.now c.args.strides.now c.args.element.number c.args.element.before c.element_count-inner.result c.length_of.result
+    c.in-len1-up.len_at_least c.in-len1-up-starts.len_at_least c.in-len1-up-counts.len_at_least c.in-len1-up-strides.len_at_least c.requires.valid c.requires.number c.requires.small
+    c.element_count-inner.ensures c.length_of.ensures in
     (search rules, (step.valid, (step.number_low, (step.small, omega (arith, step.whole, c.requires.below)))))
 
 pub returns : goal.returns
-returns t c = c.row.ensures ∙ (step c c.length_of.result c.length_of.ensures).whole
+returns t c =
+    let step = row_step c.args.header.now c.args.ids.now c.args.starts.now c.args.counts.now c.args.strides.now c.args.element.number c.args.element.before c.element_count-inner.result c.length_of.result
+    c.in-len1-up.len_at_least c.in-len1-up-starts.len_at_least c.in-len1-up-counts.len_at_least c.in-len1-up-strides.len_at_least c.requires.valid c.requires.number c.requires.small
+    c.element_count-inner.ensures c.length_of.ensures in
+    c.row.ensures ∙ step.whole
