@@ -16,5 +16,5 @@ pub use errand::{Errand, PartBack, PartEnds};
 pub use plan::{Aggregator, GetPlan, PutPlan, Tools};
 pub use shared_job::SharedJob;
 pub use shares::{STACK_SIZE, Shares, give_back, make_rooms};
-pub use spares::Spares;
+pub use spares::{Spares, resize_by_blocks};
 pub use walk::{Turn, TurnWalk, domain_windows, longest_window, next_window, window_list};

@@ -1,8 +1,11 @@
 // Buffers that outlive a step.
-ghost use Rattle.std.specs.Prelude.{◌≤◌, length, IfOk};
+ghost use Rattle.std.specs.Prelude.{◌≡◌, ◌≤◌, length, IfOk, OnOk};
 
 use nc_base::Memory;
 use std::alloc::Global;
+
+// So many zeros are copied at once.
+const BLOCK: usize = 4096;
 
 /// Buffers that steps have left for the next ones. Their bytes are those of their last use.
 ///
@@ -25,10 +28,29 @@ impl Spares {
     pub fn take(&mut self, alloc: Global, room: usize) -> Result<Vec<u8>, Memory>
         ensures { IfOk result (λ buf. room ≤ length buf.items) }
     {
-        match self.list.pop() {
-            Some(buf) => as_long(alloc, buf, room),
-            None => Ok(vec![in alloc; 0; room]?),
+        let mut buf = self.last_of(alloc, room, usize::MAX)?;
+        if buf.len() < room {
+            resize_by_blocks(&mut buf, room)?;
         }
+        Ok(buf)
+    }
+
+    /// A buffer that is to become so many bytes long: the one that was kept last, where it has the room and is at most a quarter longer,
+    /// else a new one without a byte, whose memory is first touched by who fills it.
+    ///
+    /// A longer one is given back, since to shorten a list of bytes takes as long as to fill one.
+    pub fn room(&mut self, alloc: Global, room: usize) -> Result<Vec<u8>, Memory> {
+        self.last_of(alloc, room, room.saturating_add(room / 4))
+    }
+
+    // The buffer that was kept last, where it has the room and is no longer than that, else a new one.
+    fn last_of(&mut self, alloc: Global, room: usize, most: usize) -> Result<Vec<u8>, Memory> {
+        if let Some(buf) = self.list.pop() {
+            if room <= buf.capacity() && buf.len() <= most {
+                return Ok(buf);
+            }
+        }
+        Ok(Vec::with_capacity(alloc, room)?)
     }
 
     /// Keeps a buffer for the next step. Where the list can't grow it is given back.
@@ -37,17 +59,14 @@ impl Spares {
     }
 }
 
-// A buffer of at least so many bytes: this one, where it has the room.
-fn as_long(alloc: Global, buf: Vec<u8>, room: usize) -> Result<Vec<u8>, Memory>
-    ensures { IfOk result (λ buf. room ≤ length buf.items) }
+/// Cuts the bytes at a length, or fills them up to it with zeros. Those are copied a block at a time, where `Vec::resize` writes one byte
+/// after another.
+pub fn resize_by_blocks(bytes: &mut Vec<u8>, len: usize) -> Result<(), Memory>
+    ensures { OnOk result (length bytes.new.items ≡ len) }
 {
-    let mut buf = buf;
-    if buf.capacity() < room {
-        drop(buf);
-        return Ok(vec![in alloc; 0; room]?);
+    let zeros = [0u8; BLOCK];
+    for _ in 0..len.saturating_sub(bytes.len()) / BLOCK {
+        bytes.extend_from_slice(&zeros)?;
     }
-    if buf.len() < room {
-        buf.resize(room, 0)?;
-    }
-    Ok(buf)
+    Ok(bytes.resize(len, 0)?)
 }

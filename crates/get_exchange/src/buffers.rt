@@ -74,7 +74,7 @@ fn make_blobs(
     let count = domains.len().min(plan.hints.line_room as usize);
     let mut blobs = Vec::new(alloc);
     for _ in 0..count {
-        blobs.push(Blob::from_vec(spares.take(alloc, longest)?))?;
+        blobs.push(Blob::from_vec(spares.room(alloc, longest)?))?;
     }
     Ok(blobs)
 }

@@ -12,7 +12,7 @@ ghost use Rattle.exchange_crew.specs.Parts.{part_state};
 
 use crate::helper::GetLines;
 use aggregator_rounds::get_window;
-use exchange_crew::Tools;
+use exchange_crew::{Tools, resize_by_blocks};
 use file_domains::Window;
 use nc_base::Blob;
 use nc_outside::{Disk, DiskErr, Gate, Point};
@@ -85,7 +85,7 @@ fn read_turn<D: Disk>(
     ensures cause { HasDiskCause (D.faults part.old) (D.faults part.new) result }
 {
     let _size = part.size();
-    bytes.resize(window.hull.len as usize, 0)?;
+    resize_by_blocks(bytes, window.hull.len as usize)?;
     get_window(alloc, part, window, bytes)?;
     Ok(())
 }
