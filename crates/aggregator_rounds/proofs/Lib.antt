@@ -1,6 +1,5 @@
 mod Words
 pub mod RoundLaws
-mod PieceLaws
 pub mod PastSteps
 pub mod SplitSteps
 pub mod CoveredBytes

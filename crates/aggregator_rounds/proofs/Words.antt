@@ -10,13 +10,10 @@ pub use Rattle.std.specs.Option.{option_or}
 pub use Rattle.std.specs.Prelude.{IfSome, filter, if◌then◌else◌, map, nat_lt}
 pub use Rattle.aggregator_rounds.specs.EntryParts.{IsCovered, blob_at, buffer_cell, bytes_of_post, got_cells, part_at, part_in, places_of, source_of}
 pub use Rattle.aggregator_rounds.specs.Left.{BeginBefore, IsPast, entries_left, filter_past}
-pub use Rattle.aggregator_rounds.specs.Pieces.{cells_of_pieces}
 pub use Rattle.file_domains.proofs.CoverParts.{get_is}
 pub use Rattle.list_laws.proofs.Optional.{first_counts, neither_some, no_none_some, second_counts}
-pub use Rattle.list_laws.proofs.Results.{on_err}
 pub use Rattle.nc_base.specs.declared.plan.Extent.{Extent}
 pub use Rattle.nc_base.specs.declared.plan.Owned.{Owned}
-pub use Rattle.nc_base.specs.declared.plan.Piece.{Piece}
 pub use Rattle.nc_base.specs.declared.plan.Post.{Post}
 pub use Rattle.nc_base.specs.declared.step.DiskCall.{DiskCall}
 pub use Rattle.nc_outside.specs.DiskState.{PartlyWritten}

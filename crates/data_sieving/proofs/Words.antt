@@ -20,7 +20,7 @@ pub use Rattle.aggregator_rounds.proofs.RoundLaws.{from_less, window_begun, wind
 pub use Rattle.aggregator_rounds.proofs.SplitSteps.{before_or_later, entry_ends, extents_left, extents_right, first_begins, first_joined, front_all, front_sorted, none_got, sorted_right}
 pub use Rattle.aggregator_rounds.specs.EntryParts.{AreFilled, IsCovered, blob_at, buffer_cell, got_cells, part_in, places_of, source_of}
 pub use Rattle.aggregator_rounds.specs.Left.{BeginBefore, IsPast, entries_left}
-pub use Rattle.aggregator_rounds.specs.Pieces.{told_window}
+pub use Rattle.aggregator_rounds.specs.ToldWindows.{told_window}
 pub use Rattle.data_sieving.specs.Sieving.{AreAsLong, FitBlobs, HasGot, HaveOnePlace, LieOn, entry_windows, of_slot, put_cells}
 pub use Rattle.data_sieving.specs.Walked.{AreLeft, HasDone, HasGotPart, IsHull, IsNext, LieAcross, Reach, bytes_from, entries_in, windows_from}
 pub use Rattle.file_domains.proofs.WalkSteps.{walked_enough}

@@ -6,7 +6,7 @@ ghost use Rattle.overlay_laws.specs.Lines.{extents, IsByPlace, EndBelow};
 ghost use Rattle.overlay_laws.specs.Changes.{IsBegun, load_calls};
 ghost use Rattle.nc_outside.specs.Told.{with_end};
 ghost use Rattle.nc_outside.specs.Cause.{HasDiskCause};
-ghost use Rattle.aggregator_rounds.specs.Pieces.{told_window};
+ghost use Rattle.aggregator_rounds.specs.ToldWindows.{told_window};
 ghost use Rattle.aggregator_rounds.specs.EntryParts.{blob_at, buffer_cell, AreFilled};
 ghost use Rattle.data_sieving.specs.Sieving.{entry_windows, of_slot, AreAsLong, FitBlobs, HasGot, HaveOnePlace, LieOn};
 ghost use Rattle.data_sieving.specs.Walked.{entries_in, HasGotPart};

@@ -8,7 +8,7 @@ ghost use Rattle.overlay_laws.specs.Lines.{extents, IsByPlace, EndBelow};
 ghost use Rattle.overlay_laws.specs.Changes.{IsBetween, IsBegun, store_calls};
 ghost use Rattle.nc_outside.specs.Told.{after, with_end, BothTold};
 ghost use Rattle.nc_outside.specs.Cause.{HasDiskCause};
-ghost use Rattle.aggregator_rounds.specs.Pieces.{told_window};
+ghost use Rattle.aggregator_rounds.specs.ToldWindows.{told_window};
 ghost use Rattle.aggregator_rounds.specs.EntryParts.{source_of, AreFilled};
 ghost use Rattle.data_sieving.specs.Sieving.{entry_windows, put_cells, LieOn};
 ghost use Rattle.data_sieving.specs.Walked.{entries_in};

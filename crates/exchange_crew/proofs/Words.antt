@@ -15,7 +15,7 @@ pub use Rattle.aggregator_rounds.proofs.PastSteps.{past_extents, past_in, past_k
 pub use Rattle.aggregator_rounds.proofs.SplitSteps.{dropped_past, extents_dropped, sorted_dropped, taken_before}
 pub use Rattle.aggregator_rounds.specs.EntryParts.{AreFilled, IsCovered}
 pub use Rattle.aggregator_rounds.specs.Left.{BeginBefore, IsPast}
-pub use Rattle.aggregator_rounds.specs.Pieces.{told_window}
+pub use Rattle.aggregator_rounds.specs.ToldWindows.{told_window}
 pub use Rattle.exchange_crew.specs.Cursor.{AreInFront, AreServed, IsAt}
 pub use Rattle.exchange_crew.specs.Hulls.{AreTurns, HaveWindows, IsTurn, LieOnPart}
 pub use Rattle.exchange_crew.specs.Parts.{SomeZip}

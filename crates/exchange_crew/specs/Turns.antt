@@ -13,7 +13,7 @@ use Rattle.overlay_laws.specs.Lines.{extents, IsByPlace, EndBelow}
 use Rattle.overlay_laws.specs.Walks.{told_of}
 use Rattle.serial_spec.specs.DeviceCalls.{windows}
 use Rattle.file_domains.specs.Rounds.{bytes_in, windows_left, IsWalk}
-use Rattle.aggregator_rounds.specs.Pieces.{told_window}
+use Rattle.aggregator_rounds.specs.ToldWindows.{told_window}
 use Rattle.aggregator_rounds.specs.EntryParts.{bytes_of_post}
 use Rattle.file_domains.specs.declared.walk.WindowWalk.{WindowWalk}
 use Rattle.exchange_crew.specs.declared.walk.TurnWalk.{TurnWalk}

@@ -1,7 +1,7 @@
 // A cursor over the windows of one part and over the sorted entries.
 ghost use Rattle.std.specs.Prelude.{◌≡◌, ◌∷◌, [], ◌+◌, ◌^◌, ◌≤◌, length, map, min, take, drop, IfNone, IfOk, IfSome};
 ghost use Rattle.file_domains.specs.Rounds.{IsWalk};
-ghost use Rattle.aggregator_rounds.specs.Pieces.{told_window};
+ghost use Rattle.aggregator_rounds.specs.ToldWindows.{told_window};
 ghost use Rattle.aggregator_rounds.specs.Left.{IsPast};
 ghost use Rattle.nc_base.specs.declared.plan.Extent.{Extent};
 ghost use Rattle.overlay_laws.specs.Entries.{In};

@@ -16,7 +16,7 @@ pub use Rattle.aggregator_rounds.proofs.ReadParts.{IsRead, buffer_cells, got_say
 pub use Rattle.aggregator_rounds.proofs.SplitSteps.{entry_ends, extents_left, extents_right, sorted_right}
 pub use Rattle.aggregator_rounds.specs.EntryParts.{AreFilled, IsCovered, buffer_cell, got_cells, part_in, places_of}
 pub use Rattle.aggregator_rounds.specs.Left.{IsPast, entries_left}
-pub use Rattle.aggregator_rounds.specs.Pieces.{told_window}
+pub use Rattle.aggregator_rounds.specs.ToldWindows.{told_window}
 pub use Rattle.exchange_crew.proofs.BackLaws.{and_failed, and_first_ok, and_second_ok, at_index, back_more, both_long, each_new, err_not_ok, failed_more, map_new, middle_in, slice_kept, zip_push, zip_same}
 pub use Rattle.exchange_crew.proofs.CrewLaws.{AreOf, all_of, crew_domains, crew_each, crew_parts, each_joined, some_of, workers_few}
 pub use Rattle.exchange_crew.proofs.DomainTurns.{domain_part, domain_turns, domain_windows}

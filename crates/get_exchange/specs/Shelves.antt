@@ -11,7 +11,7 @@ use Rattle.nc_base.specs.declared.plan.Owned.{Owned}
 use Rattle.file_domains.specs.Rounds.{IsWalk}
 use Rattle.file_domains.specs.declared.walk.Window.{Window}
 use Rattle.file_domains.specs.declared.walk.WindowWalk.{WindowWalk}
-use Rattle.aggregator_rounds.specs.Pieces.{told_window}
+use Rattle.aggregator_rounds.specs.ToldWindows.{told_window}
 use Rattle.aggregator_rounds.specs.Left.{entries_left}
 use Rattle.exchange_crew.specs.Cursor.{IsAt}
 use Rattle.get_exchange.specs.Gets.{get_turns}

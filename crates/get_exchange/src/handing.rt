@@ -2,7 +2,7 @@
 ghost use Rattle.std.specs.Prelude.{◌≡◌, ◌≤◌, ◌++◌, [], ℕ, length, map, take, slice_get, vec_capacity, Some, IfOk, IfErr};
 ghost use Rattle.nc_base.specs.declared.plan.Extent.{Extent};
 ghost use Rattle.overlay_laws.specs.Entries.{In};
-ghost use Rattle.aggregator_rounds.specs.Pieces.{told_window};
+ghost use Rattle.aggregator_rounds.specs.ToldWindows.{told_window};
 ghost use Rattle.exchange_crew.specs.Hulls.{LieOnPart};
 ghost use Rattle.exchange_crew.specs.Plan.{IsDomainOf};
 ghost use Rattle.get_exchange.specs.Gets.{IsGetPlanned};

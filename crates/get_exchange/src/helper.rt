@@ -1,7 +1,7 @@
 // The job of a helper of gets: the windows that it reads, and what it reads them by.
 ghost use Rattle.std.specs.Prelude.{◌≡◌, [], map};
 ghost use Rattle.std.specs.Option.{ForSome};
-ghost use Rattle.aggregator_rounds.specs.Pieces.{told_window};
+ghost use Rattle.aggregator_rounds.specs.ToldWindows.{told_window};
 ghost use Rattle.exchange_crew.specs.Hulls.{LieOnPart};
 ghost use Rattle.get_exchange.specs.Fetched.{HasGivenBack};
 
@@ -48,7 +48,7 @@ pub struct GetJob<D: Disk> {
 impl<D: Disk> Model for GetJob<D> {
     ghost use Rattle.std.specs.Prelude.{◌≡◌, [], map};
     ghost use Rattle.std.specs.Option.{ForSome};
-    ghost use Rattle.aggregator_rounds.specs.Pieces.{told_window};
+    ghost use Rattle.aggregator_rounds.specs.ToldWindows.{told_window};
     ghost use Rattle.exchange_crew.specs.Hulls.{LieOnPart};
     ghost use Rattle.exchange_crew.specs.declared.errand.PartEnds.{PartEnds};
     ghost use Rattle.get_exchange.specs.declared.helper.GetLines.{GetLines};

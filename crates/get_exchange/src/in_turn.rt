@@ -8,7 +8,7 @@ ghost use Rattle.nc_outside.specs.Told.{with_end};
 ghost use Rattle.overlay_laws.specs.Changes.{load_calls};
 ghost use Rattle.overlay_laws.specs.Entries.{In};
 ghost use Rattle.overlay_laws.specs.Lines.{extents, EndBelow};
-ghost use Rattle.aggregator_rounds.specs.Pieces.{told_window};
+ghost use Rattle.aggregator_rounds.specs.ToldWindows.{told_window};
 ghost use Rattle.aggregator_rounds.specs.EntryParts.{AreFilled};
 ghost use Rattle.get_exchange.specs.Blobs.{AreAsLong, FitTable, HaveOnePlaces};
 ghost use Rattle.get_exchange.specs.Gets.{entries_in, get_turns, HasGot, IsGetPlanned};

@@ -5,7 +5,7 @@ ghost use Rattle.nc_outside.specs.declared.disk.DiskErr.TheVariants.{Failed};
 ghost use Rattle.nc_outside.specs.Told.{with_end};
 ghost use Rattle.overlay_laws.specs.Changes.{load_calls};
 ghost use Rattle.serial_spec.specs.File.{read};
-ghost use Rattle.aggregator_rounds.specs.Pieces.{told_window};
+ghost use Rattle.aggregator_rounds.specs.ToldWindows.{told_window};
 ghost use Rattle.get_exchange.specs.Gets.{reading_of, HasGot};
 ghost use Rattle.exchange_crew.specs.Hulls.{LieOnPart};
 ghost use Rattle.exchange_crew.specs.Parts.{part_state};

@@ -20,7 +20,7 @@ pub use Rattle.aggregator_rounds.proofs.RoundLaws.{from_less, window_refused_by,
 pub use Rattle.aggregator_rounds.proofs.SplitSteps.{entry_ends}
 pub use Rattle.aggregator_rounds.specs.EntryParts.{IsCovered, part_at, part_in}
 pub use Rattle.aggregator_rounds.specs.Left.{IsPast}
-pub use Rattle.aggregator_rounds.specs.Pieces.{told_window}
+pub use Rattle.aggregator_rounds.specs.ToldWindows.{told_window}
 pub use Rattle.exchange_crew.proofs.BackLaws.{and_failed, and_first_ok, and_second_ok, at_index, back_more, both_long, each_new, err_not_ok, failed_more, map_new, middle_in, slice_kept, zip_push, zip_same}
 pub use Rattle.exchange_crew.proofs.CrewLaws.{AreOf, all_of, crew_domains, crew_each, crew_parts, some_of, workers_few}
 pub use Rattle.exchange_crew.proofs.OneChanged.{each_twice, fewer_all, no_more_all}

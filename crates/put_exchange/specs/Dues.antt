@@ -3,7 +3,7 @@
 --     counts_due dues             how many messages each has
 --     AreDue from len room ts     windows on a part that begins at `from` and has so many bytes, each no longer than the room
 use Rattle.std.specs.Prelude.{ℕ, ◌+◌, ◌<◌, ◌^◌, ◌≤◌, List, map}
-use Rattle.aggregator_rounds.specs.Pieces.{told_window}
+use Rattle.aggregator_rounds.specs.ToldWindows.{told_window}
 use Rattle.overlay_laws.specs.Entries.{In}
 use Rattle.exchange_crew.specs.Hulls.{LieOnPart}
 use Rattle.exchange_crew.specs.Turns.{Told}

@@ -9,7 +9,7 @@ ghost use Rattle.overlay_laws.specs.Changes.{store_calls, IsBetween};
 ghost use Rattle.overlay_laws.specs.Entries.{cell_of};
 ghost use Rattle.overlay_laws.specs.Windows.{clip, clips};
 ghost use Rattle.serial_spec.specs.Said.{write_cells, moved_down};
-ghost use Rattle.aggregator_rounds.specs.Pieces.{told_window};
+ghost use Rattle.aggregator_rounds.specs.ToldWindows.{told_window};
 ghost use Rattle.exchange_crew.specs.Pieces.{ArePieces, IsPiece};
 ghost use Rattle.exchange_crew.specs.Plan.{planned_turns, source_in, IsDomainOf, IsPlanned};
 ghost use Rattle.exchange_crew.specs.Parts.{part_state, SomeZip};

@@ -4,7 +4,7 @@ ghost use Rattle.nc_outside.specs.Cause.{HasDiskCause, Rose};
 ghost use Rattle.nc_outside.specs.declared.disk.DiskErr.TheVariants.{Failed};
 ghost use Rattle.nc_outside.specs.Told.{with_end};
 ghost use Rattle.overlay_laws.specs.Changes.{store_calls};
-ghost use Rattle.aggregator_rounds.specs.Pieces.{told_window};
+ghost use Rattle.aggregator_rounds.specs.ToldWindows.{told_window};
 ghost use Rattle.exchange_crew.specs.Parts.{part_state};
 ghost use Rattle.put_exchange.specs.Dues.{turns_due, AreDue};
 ghost use Rattle.put_exchange.specs.Helped.{HasServed};

@@ -4,7 +4,7 @@ ghost use Rattle.std.specs.List.{range_with_len};
 ghost use Rattle.nc_base.specs.declared.plan.Owned.{Owned};
 ghost use Rattle.overlay_laws.specs.Entries.{In};
 ghost use Rattle.overlay_laws.specs.Lines.{extents, EndBelow};
-ghost use Rattle.aggregator_rounds.specs.Pieces.{told_window};
+ghost use Rattle.aggregator_rounds.specs.ToldWindows.{told_window};
 ghost use Rattle.aggregator_rounds.specs.Left.{IsPast};
 ghost use Rattle.exchange_crew.specs.Cursor.{IsAt};
 ghost use Rattle.exchange_crew.specs.Pieces.{meets, ArePieces, IsPiece};

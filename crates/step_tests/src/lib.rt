@@ -1,4 +1,4 @@
-//! Tests of collective_round, and through it of what it stands on; and of overlap_report and aggregator_rounds.
+//! Tests of collective_round, and through it of what it stands on; and of overlap_report.
 #![tactic(auto)]
 
 #[cfg(test)]

@@ -1,8 +1,7 @@
-// Whole steps on small files, many entries that share bytes, and one window.
+// Whole steps on small files, and many entries that share bytes.
 mod aggregators;
 mod overlaps;
 mod steps;
-mod windows;
 
 use nc_base::{Blob, DiskCall, Items};
 use nc_outside::{Fail, FailOp, MemDisk};

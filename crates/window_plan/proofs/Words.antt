@@ -8,7 +8,7 @@ pub use Rattle.std.specs.Prelude.{nat_lt}
 pub use Rattle.aggregator_rounds.proofs.PastSteps.{all_left, past_twice, walk_begin}
 pub use Rattle.aggregator_rounds.proofs.SplitSteps.{entry_ends, extents_left, sorted_right}
 pub use Rattle.aggregator_rounds.specs.Left.{IsPast, entries_left}
-pub use Rattle.aggregator_rounds.specs.Pieces.{told_window}
+pub use Rattle.aggregator_rounds.specs.ToldWindows.{told_window}
 pub use Rattle.data_sieving.proofs.LoopSteps.{none_carried, walk_ready}
 pub use Rattle.data_sieving.proofs.ReachSteps.{hull_end, served_ends}
 pub use Rattle.data_sieving.proofs.WindowSteps.{all_windows, goes_on, next_told, no_window, windows_next}
