@@ -1,5 +1,5 @@
 -- Parts that come back one after another.
-use Rattle.exchange_crew.proofs.Words.{◌≡◌, ℕ, zero, suc, ◌+◌, ◌<◌, ◌≤◌, ◌⊎◌, min, get_or, inl, inr, refl, sym, ◌∙◌, ap, subst, List, [], ◌∷◌, ◌++◌, length, map, take, drop, Some, Result, Ok, Err, arith, length-append, take_more, slice_get_within, slice_get-get_or, all_zipped_more, slice_get, zip, OnOk, IsErr, IsErrOf, IsOk, AllZip, result_and, entry_below, refilled, Extent, DiskErr, Failed, In, in_either, in_right, at_in, in_at, SomeZip, zip_weaker}
+use Rattle.exchange_crew.proofs.Words.{◌≡◌, ℕ, zero, suc, ◌+◌, ◌<◌, ◌≤◌, ◌⊎◌, min, get_or, inl, inr, refl, sym, ◌∙◌, ap, subst, List, [], ◌∷◌, ◌++◌, length, map, take, drop, Some, Result, Ok, Err, arith, length-append, take_more, slice_get_within, slice_get-get_or, all_zipped_more, slice_get, zip, OnOk, IsErr, IsErrOf, IsOk, AllZip, result_and, entry_below, refilled, Extent, DiskErr, Failed, In, in_either, in_right, at_in, in_at, SomeZip, zip_weaker, nat_tests}
 
 -- ---- two lists, place by place
 
@@ -9,22 +9,19 @@ zip_more R Q xs ys x y f h q = all_zipped_more Q xs ys x y (zip_weaker R Q xs ys
 
 -- each beside what was found at its place
 pub zip_push : {A B : Type 0} (xs : List A) (ys : List B) (x : A) (y : B) → slice_get ys (length xs) ≡ Some y → zip (xs ++ x ∷ []) ys ≡ zip xs ys ++ (x, y) ∷ []
-zip_push [] [] x y e = absurd cc
 zip_push [] (z ∷ ys) x y e = let same : z ≡ y = cc in λ i. (x, same i) ∷ []
-zip_push (w ∷ xs) [] x y e = absurd cc
 zip_push (w ∷ xs) (z ∷ ys) x y e = λ i. (w, z) ∷ zip_push xs ys x y e i
+zip_push _ _ x y e = absurd cc
 
 pub some_more : {A B : Type 0} (R : A → B → Type 0) (xs : List A) (ys : List B) (x : A) (y : B) → SomeZip R xs ys → SomeZip R (xs ++ x ∷ []) (ys ++ y ∷ [])
-some_more R [] ys x y h = absurd h
-some_more R (a ∷ xs) [] x y h = absurd h
 some_more R (a ∷ xs) (b ∷ ys) x y (inl r) = inl r
 some_more R (a ∷ xs) (b ∷ ys) x y (inr h) = inr (some_more R xs ys x y h)
+some_more _ _ _ x y h = absurd h
 
 pub some_last : {A B : Type 0} (R : A → B → Type 0) (xs : List A) (ys : List B) (x : A) (y : B) → length ys ≡ length xs → R x y → SomeZip R (xs ++ x ∷ []) (ys ++ y ∷ [])
 some_last R [] [] x y l r = inl r
-some_last R [] (b ∷ ys) x y l r = absurd (omega arith)
-some_last R (a ∷ xs) [] x y l r = absurd (omega arith)
 some_last R (a ∷ xs) (b ∷ ys) x y l r = inr (some_last R xs ys x y (omega arith) r)
+some_last _ _ _ x y l r = absurd (omega arith)
 
 pub zip_mapped : {S A B C : Type 0} (f : S → A) (g : S → B) (Q : A × B → C → Type 0) (ss : List S) (ys : List C) → AllZip (λ s y. Q (f s, g s) y) ss ys
     → AllZip Q (zip (map f ss) (map g ss)) ys
@@ -34,10 +31,9 @@ zip_mapped f g Q (s ∷ ss) [] h = h
 zip_mapped f g Q (s ∷ ss) (y ∷ ys) h = (h.0, zip_mapped f g Q ss ys h.1)
 
 pub some_mapped : {S A C : Type 0} (f : S → A) (R : A → C → Type 0) (ss : List S) (ys : List C) → SomeZip (λ s y. R (f s) y) ss ys → SomeZip R (map f ss) ys
-some_mapped f R [] ys h = absurd h
-some_mapped f R (s ∷ ss) [] h = absurd h
 some_mapped f R (s ∷ ss) (y ∷ ys) (inl r) = inl r
 some_mapped f R (s ∷ ss) (y ∷ ys) (inr h) = inr (some_mapped f R ss ys h)
+some_mapped f _ _ _ h = absurd h
 
 -- ---- an entry in the middle
 
@@ -47,14 +43,10 @@ middle_in {A} xs rest whole x e = subst (λ (v : List A). In v x) e (in_right xs
 -- ---- an end, and one that came later
 
 pub and_first_ok : {T E : Type 0} (end came : Result T E) → OnOk (result_and end came) (IsOk end)
-and_first_ok (Ok x) (Ok y) = refl
-and_first_ok (Ok x) (Err y) = tt
-and_first_ok (Err x) came = tt
+and_first_ok end came = grind (arith, nat_tests)
 
 pub and_second_ok : {T E : Type 0} (end came : Result T E) → OnOk (result_and end came) (IsOk came)
-and_second_ok (Ok x) (Ok y) = refl
-and_second_ok (Ok x) (Err y) = tt
-and_second_ok (Err x) came = tt
+and_second_ok end came = grind (arith, nat_tests)
 
 -- ---- workers that were lent, and came back changed
 
@@ -69,21 +61,15 @@ each_new P Q R old new long each all f y m =
 pub map_new : {X Y : Type 0} (f : X → Y) (R : X → X → Type 0) (old new : List X) → length new ≡ length old
     → ((k : ℕ) (x y : X) → slice_get old k ≡ Some x → slice_get new k ≡ Some y → R x y) → ((x y : X) → R x y → f y ≡ f x) → map f new ≡ map f old
 map_new f R [] [] long each same = refl
-map_new f R [] (y ∷ new) long each same = absurd (omega arith)
-map_new f R (x ∷ old) [] long each same = absurd (omega arith)
 map_new f R (x ∷ old) (y ∷ new) long each same =
     (λ i. same x y (each zero x y refl refl) i ∷ map f new) ∙ ap (λ r. f x ∷ r) (map_new f R old new (omega arith) (λ k a b e g. each (suc k) a b e g) same)
+map_new f _ _ _ long each same = absurd (omega arith)
 
 -- ---- the longest window of domains
 
 pub longest_more : (size i : ℕ) (list : List Extent) (d : Extent) (old new : ℕ) → i < length list → ((e : Extent) → In (take i list) e → min size e.len ≤ old)
     → min (get_or list i d).len size ≤ new → old ≤ new → (e : Extent) → In (take (i + 1) list) e → min size e.len ≤ new
-longest_more size i list d old new l each here grown e m =
-    elim (in_either (take i list) (get_or list i d ∷ []) e (subst (λ (es : List Extent). In es e) (take_more list i d l) m)) [
-      | inl g ↦ (let a = each e g in omega arith)
-      | inr (inl s) ↦ (let same : (get_or list i d).len ≡ e.len = ap (λ (x : Extent). x.len) s in omega arith)
-      | inr (inr g) ↦ absurd g
-    ]
+longest_more size i list d old new l each here grown e m = grind (arith, nat_tests, take_more list i d l, in_either)
 
 -- ---- one part more came back
 
@@ -101,11 +87,7 @@ and_failed (Ok x) came f = inr f
 and_failed (Err x) came f = inl f
 
 pub both_long : {A B : Type 0} (xs : List A) (x : A) (ys now : List B) (y : B) → now ≡ ys ++ y ∷ [] → length ys ≡ length xs → length now ≡ length (xs ++ x ∷ [])
-both_long {A} {B} xs x ys now y e long =
-    let a = length-append xs (x ∷ []) in
-    let b = length-append ys (y ∷ []) in
-    let c = ap (λ (v : List B). length v) e in
-    omega arith
+both_long {A} {B} xs x ys now y e long = grind (arith, nat_tests, length-append xs (x ∷ []), length-append ys (y ∷ []))
 
 pub err_not_ok : {T E : Type 0} (P : Type 0) (r : Result T E) → IsErr r → OnOk r P
 err_not_ok P (Ok x) e = absurd cc
@@ -117,10 +99,9 @@ pub at_index : {X : Type 0} (xs : List X) (i k : ℕ) (d : X) → i < length xs 
 at_index xs i k d l e = ap (λ (n : ℕ). slice_get xs n) e ∙ slice_get-get_or xs i d l
 
 pub zip_same : {A B : Type 0} (Q : A × B → A → Type 0) (xs : List A) (ds : List B) → length ds ≡ length xs → ((x : A) (d : B) → Q (x, d) x) → AllZip Q (zip xs ds) xs
-zip_same Q [] [] long f = tt
-zip_same Q [] (d ∷ ds) long f = tt
 zip_same Q (x ∷ xs) [] long f = absurd (omega arith)
 zip_same Q (x ∷ xs) (d ∷ ds) long f = (f x d, zip_same Q xs ds (omega arith) f)
+zip_same _ _ _ long f = tt
 
 -- ---- a vector whose slice was lent, and came back as long
 

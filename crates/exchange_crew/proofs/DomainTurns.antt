@@ -1,5 +1,5 @@
 -- The windows of a part stand one after another, begin and end with a covered byte, and have each covered byte once.
-use Rattle.exchange_crew.proofs.Words.{◌≡◌, ℕ, zero, suc, ◌+◌, ◌-◌, ◌/◌, ◌<◌, ◌≤◌, ◌⊎◌, min, inl, inr, refl, sym, ◌∙◌, ap, subst, List, [], ◌∷◌, ◌++◌, length, Bool, true, false, not, arith, flat_map-map, filter, flat_map, nat_lt, nat_le, ◌==◌, range_with_len, list_any, ltb-true, ltb-false, eqb-true, lt-ltb, leb-true, le-leb, Extent, Owned, first_of, last_of, hull_len, not_empty, windows, is_empty, In, ranges, HaveSame, IsAscending, joined, told_of, IsCover, spans, windows_have, filter_ascends, in_left, in_right, in_either, in_flat, flat_in, in_range, range_low, any_in, in_any, first_least, last_most, div_grows, equal_true, no_both, in_filter, filter_in, in_map, map_in, same_ascending, spans_ascend, window_short, LiesIn, bytes_in, window_told, round_windows, told_window, IsCovered, in_ranges, ranges_in, hole_short, AreTurns, HaveWindows, IsTurn, LieOnPart, Told, share}
+use Rattle.exchange_crew.proofs.Words.{◌≡◌, ℕ, zero, suc, ◌+◌, ◌-◌, ◌/◌, ◌<◌, ◌≤◌, ◌⊎◌, min, inl, inr, refl, sym, ◌∙◌, ap, subst, List, [], ◌∷◌, ◌++◌, length, Bool, true, false, not, arith, flat_map-map, flat_map, nat_lt, ◌==◌, range_with_len, ltb-true, ltb-false, eqb-true, lt-ltb, leb-true, le-leb, Extent, Owned, first_of, last_of, hull_len, not_empty, windows, is_empty, In, ranges, HaveSame, IsAscending, joined, told_of, IsCover, spans, windows_have, filter_ascends, in_left, in_right, in_either, in_flat, flat_in, in_range, range_low, any_in, in_any, first_least, last_most, div_grows, equal_true, no_both, in_filter, filter_in, in_map, map_in, same_ascending, spans_ascend, window_short, LiesIn, bytes_in, window_told, round_windows, told_window, IsCovered, in_ranges, ranges_in, hole_short, AreTurns, HaveWindows, IsTurn, LieOnPart, Told, share, nat_tests}
 use Rattle.std.specs.Prelude.{map}
 
 -- ---- numbers in order, one list after another
@@ -41,51 +41,26 @@ last_in (x ∷ xs) h = by_last xs (λ l. last_in xs l) (nat_lt x (last_of xs)) r
         let l : x < last_of ys = ltb-true _ _ e in
         let most : last_of ys ≡ last_of (x ∷ ys) = omega arith in
         inr (subst (λ (z : ℕ). In ys z) most (rest (some ys l)))
-    by_last ys rest false e =
-        let l : last_of ys ≤ x = ltb-false _ _ e in
-        inl (omega arith)
+    by_last ys rest false e = let l : last_of ys ≤ x = ltb-false _ _ e in inl (omega arith)
 
 -- a number is in a list, or it is not
 pub in_or_out : (xs : List ℕ) (x : ℕ) → In xs x ⊎ (In xs x → ⊥)
-in_or_out xs x = by_any (list_any (λ z. z == x) xs) refl
-  where
-    by_any : (t : Bool) → list_any (λ z. z == x) xs ≡ t → In xs x ⊎ (In xs x → ⊥)
-    by_any true e = inl (any_in xs x e)
-    by_any false e = inr (λ m. no_both (list_any (λ z. z == x) xs) (in_any xs x m) e)
+in_or_out xs x = grind (arith, nat_tests, any_in, no_both, in_any)
 
 -- ---- shares, counted from c by k
 
 later_share : (c k : ℕ) (bytes : List ℕ) (a n x : ℕ) → In (flat_map (λ j. share c k bytes j) (range_with_len a n)) x → In bytes x × (a ≤ (x - c) / k)
-later_share c k bytes a n x h =
-    let r = flat_in (λ j. share c k bytes j) (range_with_len a n) x h in
-    let f = filter_in (λ y. (y - c) / k == r.0) bytes x r.2 in
-    let same : (x - c) / k ≡ r.0 = eqb-true _ _ f.1 in
-    let low = range_low a n r.0 r.1 in
-    (f.0, omega arith)
+later_share c k bytes a n x h = grind (arith, nat_tests, flat_in, filter_in, eqb-true, range_low)
 
 shares_ascend : (c k : ℕ) (bytes : List ℕ) (a n : ℕ) → 1 ≤ k → IsAscending bytes → IsAscending (flat_map (λ j. share c k bytes j) (range_with_len a n))
 shares_ascend c k bytes a zero h asc = tt
 shares_ascend c k bytes a (suc n) h asc =
-    append_ascends (share c k bytes a) (flat_map (λ j. share c k bytes j) (range_with_len (a + 1) n))
-    (filter_ascends (λ x. (x - c) / k == a) bytes asc) (shares_ascend c k bytes (a + 1) n h asc)
-    (λ x y m g. apart x y m (later_share c k bytes (a + 1) n y g).1 (nat_lt x y) refl)
-  where
-    apart : (x y : ℕ) → In (share c k bytes a) x → a + 1 ≤ (y - c) / k → (t : Bool) → nat_lt x y ≡ t → x < y
-    apart x y m l true e = ltb-true _ _ e
-    apart x y m l false e =
-        let order : y ≤ x = ltb-false _ _ e in
-        let same : (x - c) / k ≡ a = eqb-true _ _ (filter_in (λ z. (z - c) / k == a) bytes x m).1 in
-        let grows = div_grows (y - c) (x - c) k h (omega arith) in
-        absurd (omega arith)
+    grind (arith, nat_tests, shares_ascend c k bytes (a + 1) n h asc, append_ascends, filter_ascends, later_share, ltb-true, ltb-false, eqb-true, filter_in, div_grows)
 
 shares_all : (c k n : ℕ) (bytes : List ℕ) → 1 ≤ k → IsAscending bytes → ((x : ℕ) → In bytes x → (x - c) / k < n)
     → flat_map (λ j. share c k bytes j) (range_with_len 0 n) ≡ bytes
-shares_all c k n bytes h asc below =
-    same_ascending (flat_map (λ j. share c k bytes j) (range_with_len 0 n)) bytes (shares_ascend c k bytes 0 n h asc) asc
-    (λ x m. (later_share c k bytes 0 n x m).0)
-    (λ x m. let b = below x m in
-    in_flat (λ j. share c k bytes j) (range_with_len 0 n) ((x - c) / k) x (in_range 0 n ((x - c) / k) (omega arith) (omega arith))
-    (in_filter (λ y. (y - c) / k == (x - c) / k) bytes x m (equal_true ((x - c) / k) ((x - c) / k) refl)))
+shares_all c k n bytes h asc below = same_ascending _ _ (shares_ascend c k _ 0 n h asc) asc (λ x m. (later_share c k bytes 0 n x m).0)
+    (λ x m. let b = below x m in in_flat _ _ _ x (in_range 0 n ((x - c) / k) (omega arith) (omega arith)) (in_filter _ _ x m (equal_true ((x - c) / k) ((x - c) / k) refl)))
 
 -- ---- lists without the empty ones
 
@@ -101,18 +76,13 @@ some_kept (x ∷ w) h = omega arith
 -- ---- the windows of a domain
 
 windows_joined : (size : ℕ) (bytes : List ℕ) → 1 ≤ size → IsAscending bytes → joined (windows size bytes) ≡ bytes
-windows_joined size bytes h asc =
-    joined_kept (map (λ j. share (first_of bytes) size bytes j) (range_with_len 0 ((last_of bytes - first_of bytes) / size + 1)))
+windows_joined size bytes h asc = joined_kept (map (λ j. share (first_of bytes) size bytes j) (range_with_len 0 ((last_of bytes - first_of bytes) / size + 1)))
     ∙ flat_map-map (λ (w : List ℕ). w) (λ j. share (first_of bytes) size bytes j) (range_with_len 0 ((last_of bytes - first_of bytes) / size + 1))
     ∙ shares_all (first_of bytes) size ((last_of bytes - first_of bytes) / size + 1) bytes h asc
-    (λ x m. let high = last_most bytes x m in
-    let grows = div_grows (x - first_of bytes) (last_of bytes - first_of bytes) size h (omega arith) in omega arith)
+    (λ x m. omega (arith, last_most bytes x m, div_grows (x - first_of bytes) (last_of bytes - first_of bytes) size h (omega arith)))
 
 window_of : (size : ℕ) (bytes w : List ℕ) → In (windows size bytes) w → (1 ≤ length w) × (j : ℕ) × (share (first_of bytes) size bytes j ≡ w)
-window_of size bytes w m =
-    let f = filter_in (λ (v : List ℕ). not (is_empty v)) (map (λ j. share (first_of bytes) size bytes j) (range_with_len 0 ((last_of bytes - first_of bytes) / size + 1))) w m in
-    let r = map_in (λ j. share (first_of bytes) size bytes j) (range_with_len 0 ((last_of bytes - first_of bytes) / size + 1)) w f.0 in
-    (some_kept w f.1, r.0, r.2)
+window_of size bytes w m = grind (arith, nat_tests, filter_in, not, map_in, some_kept)
 
 -- ---- windows as turns
 
@@ -124,8 +94,7 @@ told_from (w ∷ ws) u (inr h) = let r = told_from ws u h in (r.0, inr r.1, r.2)
 in_joined : (ws : List (List ℕ)) (w : List ℕ) (x : ℕ) → In ws w → In w x → In (joined ws) x
 in_joined ws w x m k = in_flat (λ (v : List ℕ). v) ws w x m k
 
-is_turn : (list : List Owned) (room : ℕ) (w : List ℕ) → IsAscending w → 1 ≤ length w → hull_len w ≤ room → ((x : ℕ) → In w x → IsCovered list x)
-    → IsTurn list room (told_of w)
+is_turn : (list : List Owned) (room : ℕ) (w : List ℕ) → IsAscending w → 1 ≤ length w → hull_len w ≤ room → ((x : ℕ) → In w x → IsCovered list x) → IsTurn list room (told_of w)
 is_turn list room w asc some short covered =
     let order = first_least w (last_of w) asc (last_in w some) in
     let last : last_of w ≡ first_of w + hull_len w - 1 = omega arith in
@@ -139,24 +108,21 @@ is_turn list room w asc some short covered =
     filled : (length w == hull_len w) ≡ true → (x : ℕ) → first_of w ≤ x → x < first_of w + hull_len w → In w x ⊎ (In w x → ⊥) → In w x
     filled e x l h (inl m) = m
     filled e x l h (inr out) =
-        let all : length w ≡ hull_len w = eqb-true _ _ e in
-        let short = hole_short w (first_of w) (first_of w + hull_len w) x asc
-        (λ y m. let a = first_least w y asc m in let b = last_most w y m in (a, omega arith)) l h out in
-        absurd (omega arith)
+        let short = hole_short w (first_of w) (first_of w + hull_len w) x asc (λ y m. let a = first_least w y asc m in let b = last_most w y m in (a, omega arith)) l h out in
+        absurd (omega (arith, eqb-true _ _ e))
 
 pub are_turns : (list : List Owned) (room : ℕ) (ws : List (List ℕ)) → IsAscending (joined ws) → ((w : List ℕ) → In ws w → 1 ≤ length w)
     → ((w : List ℕ) → In ws w → hull_len w ≤ room) → ((x : ℕ) → In (joined ws) x → IsCovered list x) → AreTurns list room (map told_of ws)
 are_turns list room [] asc some short covered = tt
 are_turns list room (w ∷ ws) asc some short covered = (
-  is_turn list room w (ascends_left w (joined ws) asc) (some w (inl refl)) (short w (inl refl)) (λ x m. covered x (in_left w (joined ws) x m)),
+  is_turn list _ w (ascends_left w _ asc) (some w (inl refl)) (short w (inl refl)) (λ x m. covered x (in_left w (joined ws) x m)),
   (λ u m.
       let r = told_from ws u m in
-      let before = ascends_apart w (joined ws) (last_of w) (first_of r.0) asc (last_in w (some w (inl refl)))
-      (in_joined ws r.0 (first_of r.0) r.1 (first_in r.0 (some r.0 (inr r.1)))) in
-      let order = first_least w (last_of w) (ascends_left w (joined ws) asc) (last_in w (some w (inl refl))) in
+      let before = ascends_apart w _ _ _ asc (last_in w (some w (inl refl))) (in_joined ws _ _ r.1 (first_in _ (some r.0 (inr r.1)))) in
+      let order = first_least w _ (ascends_left w _ asc) (last_in w (some w (inl refl))) in
       let begin : first_of r.0 ≡ u.0 = ap (λ (t : Told). t.0) r.2 in
       omega arith),
-  are_turns list room ws (ascends_right w (joined ws) asc) (λ v m. some v (inr m)) (λ v m. short v (inr m)) (λ x m. covered x (in_right w (joined ws) x m)),
+  are_turns list room ws (ascends_right w _ asc) (λ v m. some v (inr m)) (λ v m. short v (inr m)) (λ x m. covered x (in_right w _ x m)),
 )
 
 -- ---- the windows of a domain as turns
@@ -169,19 +135,14 @@ pub told_windows : (size : ℕ) (bytes : List ℕ) → map told_window (round_wi
 told_windows size bytes = told_again (first_of bytes) size (map told_of (windows size bytes))
 
 in_domain : (domain : Extent) (cover : List Extent) (x : ℕ) → In (bytes_in domain cover) x → In (spans cover) x × (domain.at ≤ x) × (x < domain.at + domain.len)
-in_domain domain cover x m =
-    let f = filter_in (λ y. nat_lt y (domain.at + domain.len)) (filter (λ y. nat_le domain.at y) (spans cover)) x m in
-    let h = filter_in (λ y. nat_le domain.at y) (spans cover) x f.0 in
-    (h.0, leb-true domain.at x h.1, ltb-true _ _ f.1)
+in_domain domain cover x m = grind (arith, nat_tests, filter_in, leb-true, ltb-true)
 
 domain_ascends : (domain : Extent) (cover : List Extent) → IsCover cover → IsAscending (bytes_in domain cover)
-domain_ascends domain cover c =
-    filter_ascends (λ y. nat_lt y (domain.at + domain.len)) (filter (λ y. nat_le domain.at y) (spans cover)) (filter_ascends (λ y. nat_le domain.at y) (spans cover) (spans_ascend cover c))
+domain_ascends domain cover c = grind (arith, nat_tests, spans_ascend cover c, filter_ascends)
 
 in_windows : (size : ℕ) (domain : Extent) (cover : List Extent) (w : List ℕ) (x : ℕ) → 1 ≤ size → IsCover cover → In (windows size (bytes_in domain cover)) w → In w x
     → In (bytes_in domain cover) x
-in_windows size domain cover w x h c m k =
-    subst (λ (xs : List ℕ). In xs x) (windows_joined size (bytes_in domain cover) h (domain_ascends domain cover c)) (in_joined (windows size (bytes_in domain cover)) w x m k)
+in_windows size domain cover w x h c m k = grind (arith, nat_tests, windows_joined, domain_ascends, in_joined)
 
 short_window : (size : ℕ) (domain : Extent) (cover : List Extent) (w : List ℕ) → 1 ≤ size → IsCover cover → In (windows size (bytes_in domain cover)) w
     → (1 ≤ length w) × (hull_len w ≤ min size domain.len) × (domain.at ≤ first_of w) × (first_of w + hull_len w ≤ domain.at + domain.len)
@@ -202,21 +163,12 @@ domain_turns size domain list cover h c same =
     let ws = windows size (bytes_in domain cover) in
     let asc = domain_ascends domain cover c in
     let whole = windows_joined size (bytes_in domain cover) h asc in
-    are_turns list (min size domain.len) ws (subst (λ (xs : List ℕ). IsAscending xs) (sym whole) asc)
-    (λ w m. (short_window size domain cover w h c m).0)
-    (λ w m. (short_window size domain cover w h c m).1)
-    (λ x m. ranges_in list x (same.0 x (in_domain domain cover x (subst (λ (xs : List ℕ). In xs x) whole m)).0))
+    are_turns list (min size domain.len) ws (subst (λ (xs : List ℕ). IsAscending xs) (sym whole) asc) (λ w m. (short_window size domain cover w h c m).0)
+    (λ w m. (short_window size domain cover w h c m).1) (λ x m. ranges_in list x (same.0 x (in_domain domain cover x (subst (λ (xs : List ℕ). In xs x) whole m)).0))
 
 pub domain_part : (size : ℕ) (domain : Extent) (cover : List Extent) (from len : ℕ) → 1 ≤ size → IsCover cover → from ≤ domain.at → domain.at + domain.len ≤ from + len
     → LieOnPart from len (map told_of (windows size (bytes_in domain cover)))
-domain_part size domain cover from len h c low high t m =
-    let r = told_from (windows size (bytes_in domain cover)) t m in
-    let s = short_window size domain cover r.0 h c r.1 in
-    let first : first_of r.0 ≡ t.0 = ap (λ (u : Told). u.0) r.2 in
-    let long : hull_len r.0 ≡ t.1 = ap (λ (u : Told). u.1) r.2 in
-    let a = s.2 in
-    let b = s.3 in
-    (omega arith, omega arith)
+domain_part size domain cover from len h c low high t m = grind (arith, nat_tests, told_from (windows size (bytes_in domain cover)) t m, short_window)
 
 -- each covered byte of a domain lies in a hull
 pub domain_windows : (size from len : ℕ) (domain : Extent) (list : List Owned) (cover : List Extent) → 1 ≤ size → IsCover cover → HaveSame (spans cover) (ranges list)
@@ -226,9 +178,8 @@ domain_windows size from len domain list cover h c same inside x low high covere
     let a = d.0 in
     let b = d.1 in
     let bytes = bytes_in domain cover in
-    let m : In bytes x = in_filter (λ y. nat_lt y (domain.at + domain.len)) (filter (λ y. nat_le domain.at y) (spans cover)) x
-    (in_filter (λ y. nat_le domain.at y) (spans cover) x (same.1 x (in_ranges list x covered)) (le-leb domain.at x a)) (lt-ltb x (domain.at + domain.len) b) in
-    let w = windows_have size bytes x h (domain_ascends domain cover c) m in
-    let first = first_least w.window x w.ascends w.has in
-    let last = last_most w.window x w.has in
-    (told_of w.window, in_map told_of (windows size bytes) w.window w.is_one, first, omega arith)
+    let m : In bytes x = in_filter _ _ x (in_filter _ _ x (same.1 x (in_ranges _ x covered)) (le-leb domain.at x a)) (lt-ltb x (domain.at + domain.len) b) in
+    let w = windows_have _ _ x h (domain_ascends domain _ c) m in
+    let first = first_least _ x w.ascends w.has in
+    let last = last_most _ x w.has in
+    (told_of w.window, in_map told_of _ _ w.is_one, first, omega arith)

@@ -1,21 +1,12 @@
 -- A list of which one element was changed: what holds of each, and how many there are in all.
-use Rattle.exchange_crew.proofs.Words.{◌≡◌, ℕ, zero, suc, ◌+◌, ◌<◌, ◌≤◌, refl, sym, ◌∙◌, ap, subst, List, [], ◌∷◌, length, get_or, set, Bool, true, false, Some, arith, nat_tests, length-append, same_Some, slice_get_within, slice_get-get_or, flat_map, nat_lt, slice_get, entry_set, entry_set_other}
+use Rattle.exchange_crew.proofs.Words.{◌≡◌, ℕ, zero, suc, ◌+◌, ◌<◌, ◌≤◌, List, [], ◌∷◌, length, get_or, set, Some, arith, nat_tests, length-append, same_Some, slice_get_within, slice_get-get_or, flat_map, slice_get, entry_set, entry_set_other}
 
 -- what an element changed has more or less, the whole has
 set_all : {X Y : Type 0} (f : X → List Y) (xs : List X) (i : ℕ) (x y : X) → slice_get xs i ≡ Some x
     → length (flat_map f (set xs i y)) + length (f x) ≡ length (flat_map f xs) + length (f y)
 set_all f [] i x y e = absurd cc
-set_all f (z ∷ xs) zero x y e =
-    let same : z ≡ x = cc in
-    let long = ap (λ w. length (f w)) same in
-    let a = length-append (f z) (flat_map f xs) in
-    let b = length-append (f y) (flat_map f xs) in
-    omega arith
-set_all f (z ∷ xs) (suc i) x y e =
-    let rest = set_all f xs i x y e in
-    let a = length-append (f z) (flat_map f xs) in
-    let b = length-append (f z) (flat_map f (set xs i y)) in
-    omega arith
+set_all f (z ∷ xs) zero x y e = grind (arith, nat_tests, length-append (f z) (flat_map f xs), length-append (f y) (flat_map f xs))
+set_all f (z ∷ xs) (suc i) x y e = grind (arith, nat_tests, set_all f xs i x y e, length-append (f z) (flat_map f xs), length-append (f z) (flat_map f (set xs i y)), set)
 
 pub fewer_all : {X Y : Type 0} (f : X → List Y) (xs : List X) (i : ℕ) (x y : X) → slice_get xs i ≡ Some x → length (f y) < length (f x)
     → length (flat_map f (set xs i y)) < length (flat_map f xs)
@@ -28,24 +19,12 @@ no_more_all f xs i x y e h = let whole = set_all f xs i x y e in omega arith
 -- an element changed, of which the changed one is so
 pub set_each : {X : Type 0} (P : ℕ → X → Type 0) (xs : List X) (i : ℕ) (x y : X) → slice_get xs i ≡ Some x → P i y → ((r : ℕ) (z : X) → slice_get xs r ≡ Some z → P r z)
     → (r : ℕ) (z : X) → slice_get (set xs i y) r ≡ Some z → P r z
-set_each {X} P xs i x y e p each r z g = by_order (nat_lt r i) (nat_lt i r) refl refl
-  where
-    other : (r ≡ i → ⊥) → P r z
-    other n = each r z (sym (entry_set_other xs i r y n) ∙ g)
-
-    by_order : (s t : Bool) → nat_lt r i ≡ s → nat_lt i r ≡ t → P r z
-    by_order true t u v = let l : r < i = grind (arith, nat_tests) in other (λ s. absurd (omega arith))
-    by_order false true u v = let l : i < r = grind (arith, nat_tests) in other (λ s. absurd (omega arith))
-    by_order false false u v =
-        let same : r ≡ i = grind (arith, nat_tests) in
-        let own : y ≡ z = same_Some y z (sym (entry_set xs i x y e) ∙ ap (slice_get (set xs i y)) (sym same) ∙ g) in
-        subst (λ (k : ℕ). P k z) (sym same) (subst (λ (w : X). P i w) own p)
+set_each {X} P xs i x y e p each r z g = grind (arith, nat_tests, entry_set xs i x y e, set xs i y, entry_set_other, same_Some)
 
 -- what holds of two lists and of two more, place by place, joined
 pub each_twice : {X : Type 0} (R S T : X → X → Type 0) (xs ys zs : List X) → length zs ≡ length ys
     → ((k : ℕ) (x y : X) → slice_get xs k ≡ Some x → slice_get ys k ≡ Some y → R x y) → ((k : ℕ) (y z : X) → slice_get ys k ≡ Some y → slice_get zs k ≡ Some z → S y z)
-    → ((x y z : X) → R x y → S y z → T x z)
-    → (k : ℕ) (x z : X) → slice_get xs k ≡ Some x → slice_get zs k ≡ Some z → T x z
+    → ((x y z : X) → R x y → S y z → T x z) → (k : ℕ) (x z : X) → slice_get xs k ≡ Some x → slice_get zs k ≡ Some z → T x z
 each_twice R S T xs ys zs long first second join k x z e f =
     let within = slice_get_within zs k z f in
     let y = get_or ys k z in

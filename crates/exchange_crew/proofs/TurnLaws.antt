@@ -1,13 +1,8 @@
 -- A walk over windows and entries: each entry with a byte in a window is among those that the walk gives with it.
-use Rattle.exchange_crew.proofs.Words.{◌≡◌, ℕ, ◌+◌, ◌^◌, ◌<◌, ◌≤◌, inl, inr, refl, sym, ◌∙◌, ap, subst, List, [], ◌∷◌, ◌++◌, append_assoc, arith, Extent, Owned, In, Source, extents, EndBelow, IsByPlace, in_left, in_either, IsCovered, AreFilled, BeginBefore, IsPast, past_extents, past_in, past_kept, past_later, past_sorted, past_twice, AreInFront, AreServed, IsAt, ArePieces, Told, AreTurns, IsTurn, LieOnPart, in_extents}
+use Rattle.exchange_crew.proofs.Words.{◌≡◌, ℕ, ◌+◌, ◌^◌, ◌<◌, ◌≤◌, inl, inr, refl, sym, subst, List, [], ◌∷◌, ◌++◌, append_assoc, arith, Extent, Owned, In, Source, extents, EndBelow, IsByPlace, in_left, in_either, IsCovered, AreFilled, BeginBefore, IsPast, past_extents, past_in, past_kept, past_later, past_sorted, past_twice, AreInFront, AreServed, IsAt, ArePieces, Told, AreTurns, IsTurn, LieOnPart, in_extents, nat_tests}
 
 pub turn_end : (list : List Owned) (room : ℕ) (t : Told) → EndBelow (2 ^ 62) (extents list) → IsTurn list room t → t.0 + t.1 < 2 ^ 62
-turn_end list room t ends h =
-    let c = h.last in
-    let below = ends c.by.extent (in_extents list c.by c.inside) in
-    let high = c.high in
-    let some = h.some in
-    omega arith
+turn_end list room t ends h = grind (arith, nat_tests, in_extents list h.last.by h.last.inside)
 
 pub turn_in : (list : List Owned) (room : ℕ) (ts : List Told) (t : Told) → AreTurns list room ts → In ts t → IsTurn list room t
 turn_in list room [] t h m = absurd m
@@ -22,25 +17,14 @@ at_begin list left room place ahead p low turns = record { past = λ t m. past_l
 
 pub at_next : (list left later : List Owned) (room : ℕ) (ahead rest : List Told) (t : Told) → IsAt list room ahead left → ahead ≡ t ∷ rest → IsPast (t.0 + t.1) left later
     → IsAt list room rest later
-at_next list left later room ahead rest t a e p =
-    let turns : AreTurns list room (t ∷ rest) = subst (λ (ts : List Told). AreTurns list room ts) e a.turns in
-    record {
-      past = λ u k. (let order = turns.1 u k in
-          past_later (t.0 + t.1) u.0 list later order
-          (past_twice t.0 (t.0 + t.1) list left later (omega arith) (a.past t (subst (λ (ts : List Told). In ts t) (sym e) (inl refl))) p));
-      turns = turns.2;
-    }
+at_next list left later room ahead rest t a e p = grind (arith, nat_tests, past_later, past_twice)
 
 pub begun_front : (place : ℕ) (left begun : List Owned) → BeginBefore place left begun → AreInFront place left begun
 begun_front place left begun b = record { rest = b.rest; joined = b.joined; later = b.later }
 
 -- those carried are in front of all others
 pub front_carried : (place : ℕ) (carried ahead begun : List Owned) → BeginBefore place ahead begun → AreInFront place (carried ++ ahead) (carried ++ begun)
-front_carried place carried ahead begun b = record {
-  rest = b.rest;
-  joined = ap (λ (os : List Owned). carried ++ os) b.joined ∙ sym (append_assoc carried begun b.rest);
-  later = b.later;
-}
+front_carried place carried ahead begun b = grind (arith, nat_tests, append_assoc carried begun b.rest)
 
 pub served_now : (list left begun : List Owned) (room : ℕ) (ahead rest : List Told) (t : Told) → IsAt list room ahead left → ahead ≡ t ∷ rest → AreInFront (t.0 + t.1) left begun
     → AreServed list begun t.0 (t.0 + t.1)
@@ -64,21 +48,13 @@ pub turn_limit : (list left : List Owned) (room : ℕ) (ahead rest : List Told) 
 turn_limit list left room ahead rest t ends a e = turn_end list room t ends (turn_now list left room ahead rest t a e)
 
 pub served_in : (list begun : List Owned) (lo hi : ℕ) (o : Owned) → AreServed list begun lo hi → In begun o → In list o
-served_in list begun lo hi o s m =
-    past_in lo list s.left o s.past (subst (λ (l : List Owned). In l o) (sym s.front.joined) (in_left begun s.front.rest o m))
+served_in list begun lo hi o s m = grind (arith, nat_tests, in_left begun s.front.rest o m, past_in)
 
 pub in_served : (list begun : List Owned) (lo hi : ℕ) (o : Owned) → AreServed list begun lo hi → In list o → o.extent.at < hi → lo < o.extent.at + o.extent.len → In begun o
-in_served list begun lo hi o s m b k =
-    elim (in_either begun s.front.rest o (subst (λ (q : List Owned). In q o) s.front.joined (past_kept lo list s.left o s.past m k))) [
-      | inl i ↦ i
-      | inr i ↦ (let e = s.front.later o i in absurd (omega arith))
-    ]
+in_served list begun lo hi o s m b k = grind (arith, nat_tests, past_kept lo list s.left o s.past m k, in_either)
 
 pub served_covered : (list begun : List Owned) (lo hi x : ℕ) → AreServed list begun lo hi → lo ≤ x → x < hi → IsCovered list x → IsCovered begun x
-served_covered list begun lo hi x s l h c =
-    let low = c.low in
-    let high = c.high in
-    record { by = c.by; inside = in_served list begun lo hi c.by s c.inside (omega arith) (omega arith); low = c.low; high = c.high }
+served_covered list begun lo hi x s l h c = grind (arith, nat_tests, in_served list begun lo hi c.by s c.inside (omega arith) (omega arith))
 
 pub served_are : (source : Source) (list begun : List Owned) (lo hi : ℕ) → AreServed list begun lo hi → ArePieces source list → ArePieces source begun
 served_are source list begun lo hi s h o m = h o (served_in list begun lo hi o s m)
@@ -104,15 +80,11 @@ pub record IsDue (list begun : List Owned) (room from len : ℕ) (t : Told) : Ty
 
 pub due_now : (list left begun : List Owned) (room from len : ℕ) (ahead rest : List Told) (t : Told) → EndBelow (2 ^ 62) (extents list) → IsAt list room ahead left → LieOnPart from len ahead
     → ahead ≡ t ∷ rest → AreInFront (t.0 + t.1) left begun → IsDue list begun room from len t
-due_now list left begun room from len ahead rest t ends a on e f =
-    let here = on t (subst (λ (ts : List Told). In ts t) (sym e) (inl refl)) in
-    let served = served_now list left begun room ahead rest t a e f in
-    let turn = turn_now list left room ahead rest t a e in
-    record {
-      turn = turn;
-      low = here.0;
-      high = here.1;
-      served = served;
-      ends = served_ends list begun t.0 (t.0 + t.1) served ends;
-      limit = turn_end list room t ends turn;
-    }
+due_now list left begun room from len ahead rest t ends a on e f = grind (
+  arith,
+  nat_tests,
+  served_now list left begun room ahead rest t a e f,
+  turn_now list left room ahead rest t a e,
+  served_ends list begun t.0 (t.0 + t.1) (served_now list left begun room ahead rest t a e f) ends,
+  turn_end list room t ends (turn_now list left room ahead rest t a e),
+)

@@ -10,6 +10,8 @@ pub use Rattle.std.proofs.lemmas.Slice.Zip.{all_zipped_more}
 pub use Rattle.std.specs.List.{AllZip, list_any, range_with_len}
 pub use Rattle.std.specs.Prelude.{IsErr, IsErrOf, IsOk, OnOk, filter, flat_map, nat_le, nat_lt, slice_get, zip, ◌==◌}
 pub use Rattle.std.specs.Result.{result_and}
+pub use Rattle.std.proofs.Common.{rules}
+pub use Rattle.std.proofs.lemmas.Grind.{common_steps}
 pub use Rattle.aggregator_rounds.proofs.CoveredBytes.{hole_short, in_ranges, ranges_in}
 pub use Rattle.aggregator_rounds.proofs.PastSteps.{past_extents, past_in, past_kept, past_later, past_none, past_sorted, past_twice}
 pub use Rattle.aggregator_rounds.proofs.SplitSteps.{dropped_past, extents_dropped, sorted_dropped, taken_before}

@@ -12,8 +12,7 @@ returns-clause-at c =
     let room = min plan.hints.now.cb_buffer domain.len in
     at_begin list c.as_slice.result.now room 0 (turns_ahead c.domain_windows.result)
     (subst (λ (os : List Owned). IsPast 0 list os) (sym c.as_slice.ensures) (past_none 0 list)) (λ t m. omega arith)
-    (subst (λ (ts : List Told). AreTurns list room ts) (sym c.domain_windows.ensures.windows)
-    (plan_turns plan.job.now.batches list plan.cover.now plan.hints.now.cb_buffer domain c.requires))
+    (subst (λ (ts : List Told). AreTurns list room ts) (sym c.domain_windows.ensures.windows) (plan_turns _ _ _ _ domain c.requires))
 
 pub returns-clause-ready : goal.returns-clause-ready
 returns-clause-ready c =
@@ -24,7 +23,5 @@ returns-clause-ready c =
       walk = c.domain_windows.ensures.ready;
       sorted = subst (λ (os : List Owned). IsByPlace (extents os)) (sym c.as_slice.ensures) given.sorted;
       ends = subst (λ (os : List Owned). EndBelow (2 ^ 62) (extents os)) (sym c.as_slice.ensures) given.ends;
-      limit = λ t m.
-          turn_end list (min plan.hints.now.cb_buffer c.args.domain.len) t given.ends
-          (turn_in list (min plan.hints.now.cb_buffer c.args.domain.len) (turns_ahead c.domain_windows.result) t (returns-clause-at c).turns m);
+      limit = λ t m. turn_end _ _ t given.ends (turn_in _ _ _ t (returns-clause-at c).turns m);
     }
