@@ -76,10 +76,12 @@ some_kept (x ∷ w) h = omega arith
 -- ---- the windows of a domain
 
 windows_joined : (size : ℕ) (bytes : List ℕ) → 1 ≤ size → IsAscending bytes → joined (windows size bytes) ≡ bytes
-windows_joined size bytes h asc = joined_kept (map (λ j. share (first_of bytes) size bytes j) (range_with_len 0 ((last_of bytes - first_of bytes) / size + 1)))
+windows_joined size bytes h asc =
+    joined_kept (map (λ j. share (first_of bytes) size bytes j) (range_with_len 0 ((last_of bytes - first_of bytes) / size + 1)))
     ∙ flat_map-map (λ (w : List ℕ). w) (λ j. share (first_of bytes) size bytes j) (range_with_len 0 ((last_of bytes - first_of bytes) / size + 1))
     ∙ shares_all (first_of bytes) size ((last_of bytes - first_of bytes) / size + 1) bytes h asc
-    (λ x m. omega (arith, last_most bytes x m, div_grows (x - first_of bytes) (last_of bytes - first_of bytes) size h (omega arith)))
+    (λ x m. let high = last_most bytes x m in
+    let grows = div_grows (x - first_of bytes) (last_of bytes - first_of bytes) size h (omega arith) in omega arith)
 
 window_of : (size : ℕ) (bytes w : List ℕ) → In (windows size bytes) w → (1 ≤ length w) × (j : ℕ) × (share (first_of bytes) size bytes j ≡ w)
 window_of size bytes w m = grind (arith, nat_tests, filter_in, not, map_in, some_kept)
