@@ -150,11 +150,13 @@ later_once xs ys once i j a e f =
 -- ---- the indices of a box in a record
 
 pub shifted_is : (starts c : List ℕ) (k : ℕ) → length c ≤ k → index_at starts (replicate k 1) c ≡ shifted starts c
+shifted_is [] c k h = refl
+shifted_is (s ∷ starts) [] zero h = refl
+shifted_is (s ∷ starts) [] (suc k) h = refl
 shifted_is (s ∷ starts) (i ∷ c) zero h = absurd (omega arith)
 shifted_is (s ∷ starts) (i ∷ c) (suc k) h =
     let e : s + i * 1 ≡ s + i = omega arith in
     (λ j. e j ∷ shifted_is starts c k (omega arith) j)
-shifted_is xs c k h = refl
 
 record InRecord (number : ℕ) (p : Part) (a : List ℕ) : Type 0 where
   index : List ℕ

@@ -13,15 +13,17 @@ times_below i (suc n) s h =
     subst (λ (k : ℕ). s * i ≤ k * s) (sym e) m
 
 position_below : (counts imap c : List ℕ) → IsIndex counts c → position_at imap c ≤ last_position counts imap
+position_below [] [] [] h = omega arith
+position_below [] (s ∷ imap) [] h = omega arith
 position_below [] imap (i ∷ c) h = absurd h
 position_below (n ∷ counts) imap [] h = absurd h
+position_below (n ∷ counts) [] (i ∷ c) h = omega arith
 position_below (n ∷ counts) (s ∷ imap) (i ∷ c) h =
     let one = sum_by-cons (λ (p : ℕ × ℕ). p.1 * p.0) (s, i) (zip imap c) in
     let other = sum_by-cons (λ (p : ℕ × ℕ). (p.0 - 1) * p.1) (n, s) (zip counts imap) in
     let rest = position_below counts imap c h.1 in
     let first = times_below i n s h.0 in
     omega (arith, one, other, rest, first)
-position_below xs ys m h = omega arith
 
 all_positions : (counts imap : List ℕ) (cs : List (List ℕ)) → AllByRecursion (IsIndex counts) cs
     → greatest (map (λ m. m + 1) (map (λ c. position_at imap c) cs)) ≤ last_position counts imap + 1
