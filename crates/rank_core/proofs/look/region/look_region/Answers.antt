@@ -5,29 +5,36 @@ use Rattle.rank_core.proofs.look.region.look_region.Goals as goal
 
 pub data_bytes-requires : goal.data_bytes-requires
 data_bytes-requires c =
-    record { mapped = region_mapped _ _ (option_copied c.args.values) c.requires.there _ c.direction_of.ensures _ c.in_ok-region.ensures c.in_ok-check.ensures.ok }
+    record {
+      mapped = region_mapped c.args.target.now c.args.given.now (option_copied c.args.values) c.requires.there c.direction_of.result c.direction_of.ensures
+          c.in_ok-region.region c.in_ok-region.ensures c.in_ok-check.ensures.ok;
+    }
 
 pub returns-in_err-check : goal.returns-in_err-check
 returns-in_err-check c =
     let e = c.in_err-check.ensures.refused in
     let p = err_from_is_err_and c.from_residual-in_err-check.result c.from_residual-in_err-check.ensures.1 in
     is_refused _ _ p.0 c.in_err-check.field-0.0 p.1 p.2
-    (region_refused _ _ _ c.requires.there _ c.direction_of.ensures c.in_ok-region.region c.in_ok-region.ensures c.in_err-check.field-0.0 e.0 e.1)
+    (region_refused c.args.target.now c.args.given.now (option_copied c.args.values) c.requires.there c.direction_of.result c.direction_of.ensures
+    c.in_ok-region.region c.in_ok-region.ensures c.in_err-check.field-0.0 e.0 e.1)
 
 pub returns-then-not-has_element : goal.returns-then-not-has_element
 returns-then-not-has_element c =
     let none : ltb 0 (product c.in_ok-region.region.count) ≡ false = sym c.has_element.ensures ∙ c.if-not-has_element.true in
     ap look_of c.new.ensures
-    ∙ region_empty _ _ _ c.requires.there _ c.direction_of.ensures c.in_ok-region.region c.in_ok-region.ensures c.in_ok-check.ensures.ok none
+    ∙ region_empty c.args.target.now c.args.given.now (option_copied c.args.values) c.requires.there c.direction_of.result c.direction_of.ensures
+    c.in_ok-region.region c.in_ok-region.ensures c.in_ok-check.ensures.ok none
 
 pub returns-in_err-bytes : goal.returns-in_err-bytes
 returns-in_err-bytes c =
     let p = err_from_is_err_and c.from_residual-in_err-bytes.result c.from_residual-in_err-bytes.ensures.1 in
     let some : ltb 0 (product c.in_ok-region.region.count) ≡ true = sym c.has_element.ensures ∙ c.if-not-has_element.false in
     is_error _ _ p.0 c.in_err-bytes.field-0.0 p.1 p.2
-    (region_unfit _ _ _ c.requires.there _ c.direction_of.ensures c.in_ok-region.region c.in_ok-region.ensures c.in_err-bytes.field-0.0 c.in_ok-check.ensures.ok some c.in_err-bytes.ensures.refused)
+    (region_unfit c.args.target.now c.args.given.now (option_copied c.args.values) c.requires.there c.direction_of.result c.direction_of.ensures
+    c.in_ok-region.region c.in_ok-region.ensures c.in_err-bytes.field-0.0 c.in_ok-check.ensures.ok some c.in_err-bytes.ensures.refused)
 
 pub returns : goal.returns
 returns c =
     let some : ltb 0 (product c.in_ok-region.region.count) ≡ true = sym c.has_element.ensures ∙ c.if-not-has_element.false in
-    region_asks _ _ _ c.requires.there _ c.direction_of.ensures c.in_ok-region.region c.in_ok-region.ensures c.in_ok-bytes.bytes c.in_ok-only.field-0 c.in_ok-check.ensures.ok some c.in_ok-bytes.ensures.right c.in_ok-bytes.ensures.ok c.in_ok-only.ensures
+    region_asks c.args.target.now c.args.given.now (option_copied c.args.values) c.requires.there c.direction_of.result c.direction_of.ensures
+    c.in_ok-region.region c.in_ok-region.ensures c.in_ok-bytes.bytes c.in_ok-only.field-0 c.in_ok-check.ensures.ok some c.in_ok-bytes.ensures.right c.in_ok-bytes.ensures.ok c.in_ok-only.ensures
