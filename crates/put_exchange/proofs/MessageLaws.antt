@@ -10,6 +10,8 @@ pub laid_cut : (lo i : ℕ) (posts : List Post) (cuts : List Cut) (d : Cut) (old
     → new ≡ written buf ((get_or cuts i d).at - lo) (bytes_of posts (get_or cuts i d)) → new ≡ write_cells old (moved_down lo (cells_of posts (take (i + 1) cuts)))
 laid_cut lo i posts cuts d old buf new l e f =
     let c = get_or cuts i d in
-    f ∙ ap (λ (b : List ℕ). written b (c.at - lo) (bytes_of posts c)) e ∙ written_more lo (cells_of posts (take i cuts)) ((c.at, bytes_of posts c) ∷ []) old
+    f
+    ∙ ap (λ (b : List ℕ). written b (c.at - lo) (bytes_of posts c)) e
+    ∙ written_more lo (cells_of posts (take i cuts)) ((c.at, bytes_of posts c) ∷ []) old
     ∙ sym (ap (λ (cs : List Cut). write_cells old (moved_down lo (cells_of posts cs))) (take_more cuts i d l)
     ∙ ap (λ (cells : List Cell). write_cells old (moved_down lo cells)) (cells_push posts (take i cuts) c))

@@ -1,5 +1,5 @@
 -- The pieces of a window are those of the entries that a walk gives with it, and have each covered byte of it.
-use Rattle.put_exchange.proofs.Words.{◌≡◌, ℕ, ◌+◌, ◌<◌, ◌≤◌, inl, inr, refl, sym, ◌∙◌, ap, List, [], ◌∷◌, ◌++◌, Bool, false, ◌&&◌, arith, append-nil, filter, nat_lt, ◌==◌, range_with_len, and_from, and_right, lt-ltb, le-ltb, filter-append, Owned, In, Source, AreFound, in_flat, flat_in, in_range, equal_true, in_filter, filter_in, filter_none, IsCovered, past_same, meets, of_rank, pieces_in, ArePieces, Told, AreServed, in_served, served_in, nat_tests}
+use Rattle.put_exchange.proofs.Words.{◌≡◌, ℕ, ◌+◌, ◌<◌, ◌≤◌, inl, inr, refl, sym, ◌∙◌, ap, List, [], ◌∷◌, ◌++◌, Bool, false, ◌&&◌, arith, append-nil, filter, nat_lt, ◌==◌, range_with_len, and_from, and_right, lt-ltb, le-ltb, filter-append, Owned, In, Source, AreFound, in_flat, flat_in, in_range, equal_true, in_filter, filter_in, filter_none, IsCovered, past_same, meets, of_rank, pieces_in, ArePieces, Told, AreServed, in_served, served_in}
 use Rattle.put_exchange.proofs.PutLaws.{ArePicked}
 
 -- ---- tests
@@ -14,8 +14,10 @@ later_out lo hi o h = ap (λ (t : Bool). t && nat_lt lo (o.extent.at + o.extent.
 -- ---- the pieces of a window
 
 pub rank_served : (list begun : List Owned) (lo hi r : ℕ) → AreServed list begun lo hi → of_rank lo hi r begun ≡ of_rank lo hi r list
-rank_served list begun lo hi r s = sym (past_same t lo list s.left (λ o e. and_right (o.rank == r) (meets lo hi o) (ended_out lo hi o e)) s.past
-    ∙ ap (λ (es : List Owned). filter t es) s.front.joined ∙ filter-append t begun s.front.rest
+rank_served list begun lo hi r s =
+    sym (past_same t lo list s.left (λ o e. and_right (o.rank == r) (meets lo hi o) (ended_out lo hi o e)) s.past
+    ∙ ap (λ (es : List Owned). filter t es) s.front.joined
+    ∙ filter-append t begun s.front.rest
     ∙ ap (λ (es : List Owned). filter t begun ++ es) (filter_none t s.front.rest (λ o m. and_right (o.rank == r) (meets lo hi o) (later_out lo hi o (s.front.later o m))))
     ∙ append-nil (filter t begun))
   where
@@ -23,7 +25,9 @@ rank_served list begun lo hi r s = sym (past_same t lo list s.left (λ o e. and_
     t o = o.rank == r && meets lo hi o
 
 pub piece_from : (ranks : ℕ) (list : List Owned) (t : Told) (o : Owned) → In (pieces_in ranks list t) o → In list o
-piece_from ranks list t o m = grind (arith, nat_tests, flat_in, filter_in)
+piece_from ranks list t o m =
+    let r = flat_in (λ r. of_rank t.0 (t.0 + t.1) r list) (range_with_len 0 ranks) o m in
+    (filter_in (λ o. o.rank == r.0 && meets t.0 (t.0 + t.1) o) list o r.2).0
 
 pub pieces_are : (source : Source) (ranks : ℕ) (list : List Owned) (t : Told) → ArePieces source list → ArePieces source (pieces_in ranks list t)
 pieces_are source ranks list t h o m = h o (piece_from ranks list t o m)
@@ -34,16 +38,27 @@ pieces_found source (o ∷ list) h = ((h o (inl refl)).found, pieces_found sourc
 
 pub in_pieces : (ranks : ℕ) (list : List Owned) (t : Told) (o : Owned) → In list o → o.rank < ranks → o.extent.at < t.0 + t.1 → t.0 < o.extent.at + o.extent.len
     → In (pieces_in ranks list t) o
-in_pieces ranks list t o m r b e = in_flat (λ r. of_rank t.0 (t.0 + t.1) r list) (range_with_len 0 ranks) o.rank o (in_range 0 ranks o.rank (omega arith) (omega arith))
-    (in_filter (λ p. p.rank == o.rank && meets t.0 (t.0 + t.1) p) list o m (and_from (o.rank == o.rank) (meets t.0 (t.0 + t.1) o) (equal_true o.rank o.rank refl)
+in_pieces ranks list t o m r b e =
+    in_flat (λ r. of_rank t.0 (t.0 + t.1) r list) (range_with_len 0 ranks) o.rank o (in_range 0 ranks o.rank (omega arith) (omega arith))
+    (in_filter (λ p. p.rank == o.rank && meets t.0 (t.0 + t.1) p) list o m
+    (and_from (o.rank == o.rank) (meets t.0 (t.0 + t.1) o) (equal_true o.rank o.rank refl)
     (and_from (nat_lt o.extent.at (t.0 + t.1)) (nat_lt t.0 (o.extent.at + o.extent.len)) (lt-ltb o.extent.at (t.0 + t.1) b) (lt-ltb t.0 (o.extent.at + o.extent.len) e))))
 
 pub pieces_picked : (ranks : ℕ) (list : List Owned) (t : Told) → ((o : Owned) → In list o → o.rank < ranks) → ArePicked list t (pieces_in ranks list t)
-pieces_picked ranks list t below = grind (arith, nat_tests, piece_from, in_pieces)
+pieces_picked ranks list t below = record {
+  inside = λ o m. piece_from ranks list t o m;
+  all = λ o m b e. in_pieces ranks list t o m (below o m) b e;
+}
 
 pub pieces_covered : (ranks : ℕ) (list : List Owned) (t : Told) (x : ℕ) → ((o : Owned) → In list o → o.rank < ranks) → t.0 ≤ x → x < t.0 + t.1 → IsCovered list x
     → IsCovered (pieces_in ranks list t) x
-pieces_covered ranks list t x below l h c = grind (arith, nat_tests, in_pieces ranks list t c.by c.inside (below c.by c.inside) (omega arith) (omega arith))
+pieces_covered ranks list t x below l h c =
+    let low = c.low in
+    let high = c.high in
+    record { by = c.by; inside = in_pieces ranks list t c.by c.inside (below c.by c.inside) (omega arith) (omega arith); low = c.low; high = c.high }
 
 pub served_picked : (list begun : List Owned) (t : Told) → AreServed list begun t.0 (t.0 + t.1) → ArePicked list t begun
-served_picked list begun t s = record { inside = λ o m. served_in list begun t.0 (t.0 + t.1) o s m; all = λ o m b e. in_served list begun t.0 (t.0 + t.1) o s m b e }
+served_picked list begun t s = record {
+  inside = λ o m. served_in list begun t.0 (t.0 + t.1) o s m;
+  all = λ o m b e. in_served list begun t.0 (t.0 + t.1) o s m b e;
+}

@@ -1,15 +1,20 @@
 -- Messages that were taken off a line, and laid one after another.
-use Rattle.put_exchange.proofs.Words.{◌≡◌, ℕ, arith, ◌+◌, ◌-◌, ◌<◌, inl, refl, sym, ◌∙◌, ap, List, [], ◌∷◌, ◌++◌, length, take, get_or, append_assoc, fold-append, drop-append_seam, take-append_seam, append-nil, length-append, map-append, take_more, flat_map-append, Extent, Owned, Cell, write_cells, moved_down, Source, cell_of, clip, clips, in_left, in_right, Sent, pieces_in_all, HasLaid, nat_tests}
+use Rattle.put_exchange.proofs.Words.{◌≡◌, ℕ, zero, suc, arith, ◌+◌, ◌-◌, ◌<◌, inl, refl, sym, ◌∙◌, ap, List, [], ◌∷◌, ◌++◌, length, take, drop, get_or, append_assoc, fold-append, drop-append_seam, take-append_seam, append-nil, length-append, map-append, take_more, flat_map-append, Extent, Owned, written, Cell, write_cells, moved_down, Source, cell_of, clip, clips, in_left, in_right, Told, Sent, pieces_in_all, HasLaid}
 use Rattle.std.specs.Prelude.{map}
 
 -- ---- lists of what was taken
 
 pub append_parts : {X : Type 0} (a b c d : List X) → length a ≡ length c → a ++ b ≡ c ++ d → (a ≡ c) × (b ≡ d)
-append_parts a b c d l e = grind (arith, nat_tests, take-append_seam a b, take-append_seam c d, drop-append_seam a b, drop-append_seam c d)
+append_parts a b c d l e = (
+  sym (take-append_seam a b) ∙ (λ i. take (l i) (e i)) ∙ take-append_seam c d,
+  sym (drop-append_seam a b) ∙ (λ i. drop (l i) (e i)) ∙ drop-append_seam c d,
+)
 
 -- cells behind others
 pub written_more : (lo : ℕ) (xs ys : List Cell) (old : List ℕ) → write_cells (write_cells old (moved_down lo xs)) (moved_down lo ys) ≡ write_cells old (moved_down lo (xs ++ ys))
-written_more lo xs ys old = grind (arith, nat_tests, map-append, fold-append)
+written_more lo xs ys old =
+    sym (ap (λ (cells : List Cell). write_cells old cells) (map-append (λ (cell : Cell). (cell.0 - lo, cell.1)) xs ys)
+    ∙ fold-append (λ f cell. written f cell.0 cell.1) old (moved_down lo xs) (moved_down lo ys))
 
 -- the pieces of one message more
 pieces_more : (got : List Sent) (m : Sent) → pieces_in_all (got ++ m ∷ []) ≡ pieces_in_all got ++ m.pieces
@@ -17,14 +22,17 @@ pieces_more got m = flat_map-append (λ (n : Sent). n.pieces) got (m ∷ []) ∙
 
 pub laid_more : (hull : Extent) (n k : ℕ) (before mid now : List Sent) (m : Sent) (old buf new : List ℕ) → HasLaid hull n before mid old buf
     → now ≡ mid ++ m ∷ [] → k ≡ n + 1 → (m.hull ≡ hull → new ≡ write_cells buf (moved_down hull.at m.pieces)) → HasLaid hull k before now old new
-laid_more hull n k before mid now m old buf new h e f laid = record {
-  got = h.got ++ m ∷ [];
-  taken = e ∙ ap (λ (xs : List Sent). xs ++ m ∷ []) h.taken ∙ append_assoc before h.got (m ∷ []);
-  many = length-append h.got (m ∷ []) ∙ ap (λ (j : ℕ). j + 1) h.many ∙ sym f;
-  laid = λ own. laid (own m (in_right h.got (m ∷ []) m (inl refl)))
-      ∙ ap (λ (b : List ℕ). write_cells b (moved_down hull.at m.pieces)) (h.laid (λ p i. own p (in_left h.got (m ∷ []) p i)))
-      ∙ written_more hull.at (pieces_in_all h.got) m.pieces old ∙ ap (λ (cells : List Cell). write_cells old (moved_down hull.at cells)) (sym (pieces_more h.got m));
-}
+laid_more hull n k before mid now m old buf new h e f laid =
+    record {
+      got = h.got ++ m ∷ [];
+      taken = e ∙ ap (λ (xs : List Sent). xs ++ m ∷ []) h.taken ∙ append_assoc before h.got (m ∷ []);
+      many = length-append h.got (m ∷ []) ∙ ap (λ (j : ℕ). j + 1) h.many ∙ sym f;
+      laid = λ own.
+          laid (own m (in_right h.got (m ∷ []) m (inl refl)))
+          ∙ ap (λ (b : List ℕ). write_cells b (moved_down hull.at m.pieces)) (h.laid (λ p i. own p (in_left h.got (m ∷ []) p i)))
+          ∙ written_more hull.at (pieces_in_all h.got) m.pieces old
+          ∙ ap (λ (cells : List Cell). write_cells old (moved_down hull.at cells)) (sym (pieces_more h.got m));
+    }
 
 cells_more : (source : Source) (lo hi : ℕ) (got : List Owned) (o : Owned)
     → clips lo hi (map (λ p. cell_of source p) (got ++ o ∷ [])) ≡ clips lo hi (map (λ p. cell_of source p) got) ++ clip lo hi (cell_of source o) ∷ []
@@ -36,7 +44,9 @@ pub entries_more : (source : Source) (lo hi i : ℕ) (list : List Owned) (o : Ow
     → buf ≡ write_cells old (moved_down lo (clips lo hi (map (λ p. cell_of source p) (take i list))))
     → new ≡ write_cells buf (moved_down lo (clip lo hi (cell_of source (get_or list i o)) ∷ []))
     → new ≡ write_cells old (moved_down lo (clips lo hi (map (λ p. cell_of source p) (take (i + 1) list))))
-entries_more source lo hi i list o old buf new l e f = f ∙ ap (λ (b : List ℕ). write_cells b (moved_down lo (clip lo hi (cell_of source (get_or list i o)) ∷ []))) e
+entries_more source lo hi i list o old buf new l e f =
+    f
+    ∙ ap (λ (b : List ℕ). write_cells b (moved_down lo (clip lo hi (cell_of source (get_or list i o)) ∷ []))) e
     ∙ written_more lo (clips lo hi (map (λ p. cell_of source p) (take i list))) (clip lo hi (cell_of source (get_or list i o)) ∷ []) old
     ∙ sym (ap (λ (os : List Owned). write_cells old (moved_down lo (clips lo hi (map (λ p. cell_of source p) os)))) (take_more list i o l)
     ∙ ap (λ (cells : List Cell). write_cells old (moved_down lo cells)) (cells_more source lo hi (take i list) (get_or list i o)))

@@ -1,5 +1,5 @@
 -- Each entry has its bytes in its post.
-use Rattle.put_exchange.proofs.Words.{◌∙◌, get_or, Owned, entry_in}
+use Rattle.put_exchange.proofs.Words.{◌+◌, ◌∙◌, get_or, Owned, entry_in, source_of}
 use Rattle.put_exchange.proofs.TakenLaws.{entries_more}
 use Rattle.put_exchange.proofs.in_turn.lay_entries.Goals as goal
 
@@ -7,7 +7,8 @@ abbrev none : Owned
 none = record { extent = record { at = 0; len = 0 }; rank = 0; request = 0; slot = 0; from = 0 }
 
 pub lay_piece-requires-clause-piece : goal.lay_piece-requires-clause-piece
-lay_piece-requires-clause-piece c = c.requires.pieces (get_or c.args.entries.now c.loop-entry.entry-index none) (entry_in _ _ none c.loop-entry-test.true)
+lay_piece-requires-clause-piece c =
+    c.requires.pieces (get_or c.args.entries.now c.loop-entry.entry-index none) (entry_in c.args.entries.now c.loop-entry.entry-index none c.loop-entry-test.true)
 
 pub loop-entry-preserved : goal.loop-entry-preserved
 loop-entry-preserved c =
@@ -15,6 +16,7 @@ loop-entry-preserved c =
     let list = c.args.entries.now in
     let test = c.loop-entry-test.true in
     record {
-      laid = entries_more _ _ _ i _ _ c.args.buf.now _ _ test c.loop-entry.invariant.laid c.lay_piece.ensures;
+      laid = entries_more (source_of c.args.batches.now) c.args.hull.at (c.args.hull.at + c.args.hull.len) i list none c.args.buf.now c.loop-entry.buf c.lay_piece.new.buf test
+          c.loop-entry.invariant.laid c.lay_piece.ensures;
       long = c.lay_piece.auto.buf ∙ c.loop-entry.invariant.long;
     }

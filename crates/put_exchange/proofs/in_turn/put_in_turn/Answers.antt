@@ -1,5 +1,5 @@
 -- One part more was served.
-use Rattle.put_exchange.proofs.Words.{◌≡◌, ◌<◌, ◌≤◌, ◌∙◌, ◌++◌, ◌∷◌, [], sym, ap, subst, length, append_assoc, get_or, List, Result, rules, arith, slice_get_within, common_steps, AllZip, Extent, Rose, DiskErr, at_in, planned_turns, source_in, part_state, HasPut, middle_at, at_index, back_more, both_long, failed_more, zip_push, zip_same}
+use Rattle.put_exchange.proofs.Words.{◌≡◌, ◌<◌, ◌≤◌, ◌∙◌, ◌++◌, ◌∷◌, [], sym, ap, subst, length, append_assoc, get_or, List, Result, rules, arith, slice_get_within, common_steps, zip, AllZip, Extent, Rose, DiskErr, at_in, planned_turns, source_in, part_state, HasPut, middle_at, at_index, back_more, both_long, failed_more, zip_push, zip_same}
 use Rattle.put_exchange.proofs.PutLaws.{put_later, put_untouched}
 use Rattle.put_exchange.proofs.in_turn.put_in_turn.Goals as goal
 
@@ -7,41 +7,47 @@ abbrev none : Extent
 none = record { at = 0; len = 0 }
 
 pub returns-in-Err-clause-put : goal.returns-in-Err-clause-put
-returns-in-Err-clause-put g c = zip_same _ c.args.parts.items c.args.domains.now c.requires.one_each
-    (λ p domain. put_untouched (source_in c.args.plan.now) c.args.plan.now.list.now (planned_turns c.args.plan.now domain) (part_state g.D.Disk p) _)
+returns-in-Err-clause-put g c =
+    zip_same _ c.args.parts.items c.args.domains.now c.requires.one_each
+    (λ p domain. put_untouched (source_in c.args.plan.now) c.args.plan.now.list.now (planned_turns c.args.plan.now domain)
+    (part_state g.D.Disk p) _)
 
 pub returns-in-Err-take-clause-put : goal.returns-in-Err-take-clause-put
-returns-in-Err-take-clause-put g c = zip_same _ c.args.parts.items c.args.domains.now c.requires.one_each
-    (λ p domain. put_untouched (source_in c.args.plan.now) c.args.plan.now.list.now (planned_turns c.args.plan.now domain) (part_state g.D.Disk p) _)
+returns-in-Err-take-clause-put g c =
+    zip_same _ c.args.parts.items c.args.domains.now c.requires.one_each
+    (λ p domain. put_untouched (source_in c.args.plan.now) c.args.plan.now.list.now (planned_turns c.args.plan.now domain)
+    (part_state g.D.Disk p) _)
 
-pub serve_next-part-requires : goal.serve_next-part-requires
-serve_next-part-requires g c κs within =
+pub serve_next-part-requires-clause-domain : goal.serve_next-part-requires-clause-domain
+serve_next-part-requires-clause-domain g c κs within =
     let middle = ap (λ v. c.loop-part.yielded ++ v) (sym c.in-Some.ensures.steps.0) ∙ c.loop-part.invariant.all in
     let here = middle_at c.loop-part.yielded _ c.args.parts.items c.in-Some.part middle in
     let low : length c.loop-part.yielded < length c.args.parts.items = slice_get_within c.args.parts.items (length c.loop-part.yielded) c.in-Some.part here in
     let many = c.loop-part.invariant.long in
     let number : c.len-number.result ≡ length c.loop-part.back.items = first_of (search rules, grind (arith, common_steps)) in
     let long = c.requires.one_each in
-    record {
-      plan = first_of (search rules, grind (arith, common_steps));
-      domain = c.requires.domains (length c.loop-part.yielded) c.in-Some.part _ here
-          (at_index c.args.domains.now c.len-number.result (length c.loop-part.yielded) none (omega arith) (omega arith));
-      room =
-          let domain = get_or c.args.domains.now c.len-number.result none in
-          let at = at_index c.args.domains.now c.len-number.result c.len-number.result none (omega arith) (omega arith) in
-          let made : c.longest_window-size.result ≤ length c.in-Ok-take.buf.items = first_of (search rules, grind (arith, common_steps)) in
-          omega (
-            arith,
-            c.longest_window-size.ensures domain (at_in c.args.domains.now c.len-number.result domain at),
-            ap (λ (v : List _). length v) c.deref_mut.ensures.value,
-            c.loop-part.invariant.buf,
-          );
-    }
+    c.requires.domains (length c.loop-part.yielded) c.in-Some.part _ here (at_index c.args.domains.now c.len-number.result (length c.loop-part.yielded) none (omega arith) (omega arith))
+
+pub serve_next-part-requires-clause-room : goal.serve_next-part-requires-clause-room
+serve_next-part-requires-clause-room g c κs within =
+    let middle = ap (λ v. c.loop-part.yielded ++ v) (sym c.in-Some.ensures.steps.0) ∙ c.loop-part.invariant.all in
+    let here = middle_at c.loop-part.yielded _ c.args.parts.items c.in-Some.part middle in
+    let low : length c.loop-part.yielded < length c.args.parts.items = slice_get_within c.args.parts.items (length c.loop-part.yielded) c.in-Some.part here in
+    let many = c.loop-part.invariant.long in
+    let number : c.len-number.result ≡ length c.loop-part.back.items = first_of (search rules, grind (arith, common_steps)) in
+    let long = c.requires.one_each in
+    let domain = get_or c.args.domains.now c.len-number.result none in
+    let at = at_index c.args.domains.now c.len-number.result c.len-number.result none (omega arith) (omega arith) in
+    let most = c.longest_window-size.ensures domain (at_in c.args.domains.now c.len-number.result domain at) in
+    let lent = ap (λ (v : List _). length v) c.deref_mut.ensures.value in
+    let kept = c.loop-part.invariant.buf in
+    let made : c.longest_window-size.result ≤ length c.in-Ok-take.buf.items = first_of (search rules, grind (arith, common_steps)) in
+    omega arith
 
 pub loop-part-preserved : goal.loop-part-preserved
 loop-part-preserved g c =
     let middle = ap (λ v. c.loop-part.yielded ++ v) (sym c.in-Some.ensures.steps.0) ∙ c.loop-part.invariant.all in
-    let here = middle_at _ _ _ _ middle in
+    let here = middle_at c.loop-part.yielded _ c.args.parts.items c.in-Some.part middle in
     let low : length c.loop-part.yielded < length c.args.parts.items = slice_get_within c.args.parts.items (length c.loop-part.yielded) c.in-Some.part here in
     let many = c.loop-part.invariant.long in
     let number : c.len-number.result ≡ length c.loop-part.back.items = first_of (search rules, grind (arith, common_steps)) in
@@ -57,13 +63,15 @@ loop-part-preserved g c =
     = λ r p d. HasPut (source_in plan) plan.list.now (planned_turns plan p.1) (state p.0) (state d) r in
     record {
       all = append_assoc c.loop-part.yielded (c.in-Some.part ∷ []) _ ∙ middle;
-      long = both_long _ c.in-Some.part _ _ _ pushed many;
+      long = both_long c.loop-part.yielded c.in-Some.part c.loop-part.back.items _ part pushed many;
       room = c.push_reserved.ensures.capacity ∙ c.loop-part.invariant.room;
       buf = (let kept = c.loop-part.invariant.buf in first_of (search rules, grind (arith, common_steps)));
-      put = subst (λ (ps : List (g.row.D.Denot × Extent)). AllZip (Put came) ps c.push_reserved.new.self.items) (sym (zip_push _ _ c.in-Some.part _ at))
-          (back_more _ _ _ _ _ _ _ _ (λ p d h. put_later _ _ _ _ _ _ _ c.serve_next-part.ensures.ok h) c.loop-part.invariant.put c.serve_next-part.ensures.put pushed);
-      failed = failed_more (λ (a b : g.row.D.Denot). Rose (g.D.Disk.faults a) (g.D.Disk.faults b)) _ _ _ c.in-Some.part _ c.loop-part.end came many c.loop-part.invariant.failed
-          c.serve_next-part.ensures.failed pushed;
+      put = subst (λ (ps : List (g.row.D.Denot × Extent)). AllZip (Put came) ps c.push_reserved.new.self.items) (sym (zip_push c.loop-part.yielded c.args.domains.now c.in-Some.part domain at))
+          (back_more Put (zip c.loop-part.yielded c.args.domains.now) c.loop-part.back.items _ (c.in-Some.part, domain) part c.loop-part.end came
+          (λ p d h. put_later (source_in plan) plan.list.now (planned_turns plan p.1) (state p.0) (state d) c.loop-part.end came c.serve_next-part.ensures.ok h) c.loop-part.invariant.put
+          c.serve_next-part.ensures.put pushed);
+      failed = failed_more (λ (a b : g.row.D.Denot). Rose (g.D.Disk.faults a) (g.D.Disk.faults b)) c.loop-part.yielded c.loop-part.back.items _ c.in-Some.part part c.loop-part.end came
+          many c.loop-part.invariant.failed c.serve_next-part.ensures.failed pushed;
     }
 
 pub returns-clause-long : goal.returns-clause-long

@@ -1,5 +1,5 @@
 -- The hull as it is written is the old one with the entries' bytes.
-use Rattle.put_exchange.proofs.Words.{◌≡◌, ◌+◌, length, map, rules, arith, common_steps, cell_of, clips_from, clips_within, told_window, window_told_by, window_refused_by, put_window, source_of}
+use Rattle.put_exchange.proofs.Words.{◌≡◌, ◌+◌, length, map, rules, arith, common_steps, cell_of, clips_from, clips_within, told_window, window_told_by, window_refused_by, cells_in, put_window, source_of}
 use Rattle.put_exchange.proofs.PutLaws.{told_kept, told_whole}
 use Rattle.put_exchange.proofs.in_turn.put_turn.Goals as goal
 
@@ -11,12 +11,20 @@ returns-clause-bytes g c =
     let at = window.hull.at in
     let len = window.hull.len in
     let room : length c.open_window.new.buf ≡ len = first_of (search rules, grind (arith, common_steps)) in
-    window_told_by _ _ (g.D.Disk.held c.close_window.new.disk) window.full _ _ _ _ at _ _ _ c.in_ok-open_window.ensures.from c.in_ok-open_window.ensures.bytes
-    c.lay_entries.ensures c.size-size.ensures.told room c.requires.low c.requires.high (clips_from at (at + len) (map (λ o. cell_of source o) entries) (omega arith))
-    (clips_within at (at + len) (map (λ o. cell_of source o) entries) (omega arith)) c.requires.whole c.in_ok-open_window.ensures.read c.in_ok-close_window.ensures.bytes
+    window_told_by
+    (g.D.Disk.held c.args.part.now) (g.D.Disk.held c.open_window.new.disk) (g.D.Disk.held c.close_window.new.disk) window.full
+    c.open_window.new.buf c.lay_entries.new.buf (g.D.Disk.from c.args.part.now) (g.D.Disk.from c.open_window.new.disk) at len
+    (g.D.Disk.len c.args.part.now) (cells_in source (told_window window) entries)
+    c.in_ok-open_window.ensures.from c.in_ok-open_window.ensures.bytes c.lay_entries.ensures
+    c.size-size.ensures.told room c.requires.low c.requires.high
+    (clips_from at (at + len) (map (λ o. cell_of source o) entries) (omega arith))
+    (clips_within at (at + len) (map (λ o. cell_of source o) entries) (omega arith))
+    c.requires.whole c.in_ok-open_window.ensures.read c.in_ok-close_window.ensures.bytes
 
 pub returns-clause-between : goal.returns-clause-between
-returns-clause-between g c = told_whole _ _ _ _ _ _ _ c.size-size.ensures.told c.requires.low c.requires.high (returns-clause-bytes g c)
+returns-clause-between g c =
+    told_whole (source_of c.args.batches.now) c.args.turn.now.entries.now (g.D.Disk.from c.args.part.now) (g.D.Disk.len c.args.part.now) (told_window c.args.turn.now.window)
+    (g.D.Disk.held c.args.part.now) (g.D.Disk.held c.close_window.new.disk) c.size-size.ensures.told c.requires.low c.requires.high (returns-clause-bytes g c)
 
 pub returns-in_err-close_window-clause-between : goal.returns-in_err-close_window-clause-between
 returns-in_err-close_window-clause-between g c =
@@ -26,10 +34,17 @@ returns-in_err-close_window-clause-between g c =
     let at = window.hull.at in
     let len = window.hull.len in
     let room : length c.open_window.new.buf ≡ len = first_of (search rules, grind (arith, common_steps)) in
-    window_refused_by _ _ _ window.full _ _ _ _ at _ _ _ c.in_ok-open_window.ensures.from c.in_ok-open_window.ensures.bytes c.lay_entries.ensures c.size-size.ensures.told room
-    c.requires.low c.requires.high (clips_from at (at + len) (map (λ o. cell_of source o) entries) (omega arith))
-    (clips_within at (at + len) (map (λ o. cell_of source o) entries) (omega arith)) c.requires.whole c.in_ok-open_window.ensures.read c.in_err-close_window.ensures.refused
+    window_refused_by
+    (g.D.Disk.held c.args.part.now) (g.D.Disk.held c.open_window.new.disk) (g.D.Disk.held c.close_window.new.disk) window.full
+    c.open_window.new.buf c.lay_entries.new.buf (g.D.Disk.from c.args.part.now) (g.D.Disk.from c.open_window.new.disk) at len
+    (g.D.Disk.len c.args.part.now) (cells_in source (told_window window) entries)
+    c.in_ok-open_window.ensures.from c.in_ok-open_window.ensures.bytes c.lay_entries.ensures
+    c.size-size.ensures.told room c.requires.low c.requires.high
+    (clips_from at (at + len) (map (λ o. cell_of source o) entries) (omega arith))
+    (clips_within at (at + len) (map (λ o. cell_of source o) entries) (omega arith))
+    c.requires.whole c.in_ok-open_window.ensures.read c.in_err-close_window.ensures.refused
 
 pub returns-in_err-open_window-clause-between : goal.returns-in_err-open_window-clause-between
-returns-in_err-open_window-clause-between g c = told_kept (g.D.Disk.held c.args.part.now) (g.D.Disk.held c.open_window.new.disk)
+returns-in_err-open_window-clause-between g c =
+    told_kept (g.D.Disk.held c.args.part.now) (g.D.Disk.held c.open_window.new.disk)
     (put_window (source_of c.args.batches.now) (g.D.Disk.from c.args.part.now) (told_window c.args.turn.now.window) c.args.turn.now.entries.now) c.in_err-open_window.ensures.bytes

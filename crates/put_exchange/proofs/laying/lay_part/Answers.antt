@@ -1,5 +1,5 @@
 -- Each window is served by the messages that are due in it.
-use Rattle.put_exchange.proofs.Words.{◌∙◌, inl, inr, refl, ap, subst, ℕ, List, false, get_or, arith, at_index, drop_all, told_window, turns_due, turn_due, Due, HasPutTaken}
+use Rattle.put_exchange.proofs.Words.{◌∙◌, ◌+◌, inl, inr, refl, ap, sym, subst, length, ℕ, List, drop, false, get_or, arith, at_index, drop_all, told_window, Told, counts_due, turns_due, messages_in, turn_due, Due, HasPutTaken}
 use Rattle.put_exchange.proofs.ServeLaws.{count_at, due_in, dues_left, served_begin, served_next, served_end}
 use Rattle.put_exchange.proofs.laying.lay_part.Goals as goal
 
@@ -11,28 +11,38 @@ loop-due-init g c = record {
   of = refl;
   buf = refl;
   served = λ source ranks list plan.
-      served_begin source _ _ ranks _ _ _ _ (g.D.Disk.held c.args.part.now) (g.D.Disk.calls c.args.part.now) _ plan.turns plan.windows c.size-size.ensures.told c.requires.empty;
+      served_begin source (g.D.Disk.from c.args.part.now) (g.D.Disk.len c.args.part.now) ranks plan.room list (turns_due c.args.dues.now) c.args.line.now.items
+      (g.D.Disk.held c.args.part.now) (g.D.Disk.calls c.args.part.now) _ plan.turns plan.windows c.size-size.ensures.told c.requires.empty;
   from = refl;
   len = refl;
   later = omega arith;
   failed = λ e. absurd cc;
 }
 
-pub serve_turn-end-requires : goal.serve_turn-end-requires
-serve_turn-end-requires g c κs within =
+pub serve_turn-end-requires-clause-low : goal.serve_turn-end-requires-clause-low
+serve_turn-end-requires-clause-low g c κs within =
     let on = c.requires.due.on_part (told_window (get_or c.args.dues.now c.loop-due.due-index none).window) (due_in c.args.dues.now c.loop-due.due-index none c.loop-due-test.true) in
+    let low = on.0 in
     let from = c.loop-due.invariant.from in
-    record {
-      low = omega (arith, on.0);
-      high = omega (arith, on.1, c.loop-due.invariant.len);
-      hull = c.requires.due.limit (told_window (get_or c.args.dues.now c.loop-due.due-index none).window) (due_in c.args.dues.now c.loop-due.due-index none c.loop-due-test.true);
-      room = omega (
-        arith,
-        c.requires.due.short (told_window (get_or c.args.dues.now c.loop-due.due-index none).window)
-            (due_in c.args.dues.now c.loop-due.due-index none c.loop-due-test.true),
-        c.loop-due.invariant.buf,
-      );
-    }
+    omega arith
+
+pub serve_turn-end-requires-clause-high : goal.serve_turn-end-requires-clause-high
+serve_turn-end-requires-clause-high g c κs within =
+    let on = c.requires.due.on_part (told_window (get_or c.args.dues.now c.loop-due.due-index none).window) (due_in c.args.dues.now c.loop-due.due-index none c.loop-due-test.true) in
+    let high = on.1 in
+    let from = c.loop-due.invariant.from in
+    let len = c.loop-due.invariant.len in
+    omega arith
+
+pub serve_turn-end-requires-clause-hull : goal.serve_turn-end-requires-clause-hull
+serve_turn-end-requires-clause-hull g c κs within =
+    c.requires.due.limit (told_window (get_or c.args.dues.now c.loop-due.due-index none).window) (due_in c.args.dues.now c.loop-due.due-index none c.loop-due-test.true)
+
+pub serve_turn-end-requires-clause-room : goal.serve_turn-end-requires-clause-room
+serve_turn-end-requires-clause-room g c κs within =
+    let short = c.requires.due.short (told_window (get_or c.args.dues.now c.loop-due.due-index none).window) (due_in c.args.dues.now c.loop-due.due-index none c.loop-due-test.true) in
+    let buf = c.loop-due.invariant.buf in
+    omega arith
 
 pub loop-due-preserved : goal.loop-due-preserved
 loop-due-preserved g c =
@@ -41,22 +51,25 @@ loop-due-preserved g c =
     let i = c.loop-due.due-index in
     let due = get_or dues i none in
     let t = told_window due.window in
-    let on = c.requires.due.on_part t (due_in _ i none c.loop-due-test.true) in
+    let on = c.requires.due.on_part t (due_in dues i none c.loop-due-test.true) in
     let later = c.serve_turn-end.ensures.later in
     let before = c.loop-due.invariant.later in
     record {
       of = c.serve_turn-end.ensures.of ∙ c.loop-due.invariant.of;
       buf = c.serve_turn-end.auto.buf ∙ c.loop-due.invariant.buf;
       served = λ source ranks list plan.
-          served_next _ _ _ _ _ _ _ _ _ _ t _ c.serve_turn-end.new.line.items _ _ (g.D.Disk.held c.serve_turn-end.new.part) _ _ (g.D.Disk.calls c.serve_turn-end.new.part) _
-          c.serve_turn-end.result (record { pieces = plan.pieces; below = plan.below; one = plan.one; told = c.size-size.ensures.told })
-          (c.loop-due.invariant.served source ranks list plan) (dues_left _ i _ (at_index _ i i none c.loop-due-test.true refl)) on.0 on.1
-          (count_at _ _ i none c.loop-due-test.true plan.counts) (record {
+          served_next source from (g.D.Disk.len c.args.part.now) ranks plan.room due.count list (turns_due dues) (turns_due (drop i dues)) (turns_due (drop (i + 1) dues)) t
+          c.loop-due.line.items c.serve_turn-end.new.line.items
+          (g.D.Disk.held c.args.part.now) (g.D.Disk.held c.loop-due.part) (g.D.Disk.held c.serve_turn-end.new.part)
+          (g.D.Disk.calls c.args.part.now) (g.D.Disk.calls c.loop-due.part) (g.D.Disk.calls c.serve_turn-end.new.part) c.loop-due.end c.serve_turn-end.result
+          (record { pieces = plan.pieces; below = plan.below; one = plan.one; told = c.size-size.ensures.told })
+          (c.loop-due.invariant.served source ranks list plan) (dues_left dues i due (at_index dues i i none c.loop-due-test.true refl)) on.0 on.1
+          (count_at (λ (u : Told). length (messages_in source ranks list u)) dues i none c.loop-due-test.true plan.counts)
+          (record {
             took = c.serve_turn-end.ensures.taken;
-            put = λ ok. subst
-                (λ (n : ℕ). HasPutTaken (turn_due n t due.count) c.loop-due.line.items c.serve_turn-end.new.line.items (g.D.Disk.held c.loop-due.part)
-                (g.D.Disk.held c.serve_turn-end.new.part) c.serve_turn-end.result) c.loop-due.invariant.from (c.serve_turn-end.ensures.put
-                ok);
+            put = λ ok.
+                subst (λ (n : ℕ). HasPutTaken (turn_due n t due.count) c.loop-due.line.items c.serve_turn-end.new.line.items (g.D.Disk.held c.loop-due.part) (g.D.Disk.held c.serve_turn-end.new.part) c.serve_turn-end.result)
+                c.loop-due.invariant.from (c.serve_turn-end.ensures.put ok);
             kept = c.serve_turn-end.ensures.kept;
             ok = c.serve_turn-end.ensures.ok;
             device = c.serve_turn-end.ensures.calls;
@@ -74,8 +87,12 @@ returns-clause-served g c =
     let i = c.loop-due.due-index in
     let none_left = ap (λ (ds : List Due). turns_due ds) (drop_all i dues c.loop-due-test.false) in
     record {
-      many = λ source ranks list plan. (served_end _ _ _ _ _ _ _ _ _ _ _ _ _ (c.loop-due.invariant.served source ranks list plan) none_left).many;
-      put = λ source ranks list plan e. (let through = served_end _ _ _ _ _ _ _ _ _ _ _ _ _ (c.loop-due.invariant.served source ranks list plan) none_left in
+      many = λ source ranks list plan.
+          (served_end source from ranks plan.room list (turns_due dues) (turns_due (drop i dues)) c.loop-due.line.items (g.D.Disk.held c.args.part.now) (g.D.Disk.held c.loop-due.part)
+          (g.D.Disk.calls c.args.part.now) (g.D.Disk.calls c.loop-due.part) c.loop-due.end (c.loop-due.invariant.served source ranks list plan) none_left).many;
+      put = λ source ranks list plan e.
+          (let through = served_end source from ranks plan.room list (turns_due dues) (turns_due (drop i dues)) c.loop-due.line.items (g.D.Disk.held c.args.part.now) (g.D.Disk.held c.loop-due.part)
+          (g.D.Disk.calls c.args.part.now) (g.D.Disk.calls c.loop-due.part) c.loop-due.end (c.loop-due.invariant.served source ranks list plan) none_left in
           record {
             from = c.loop-due.invariant.from;
             len = c.loop-due.invariant.len;

@@ -13,17 +13,25 @@ returns-clause-put g c =
     let got = c.take_messages.ensures.laid.got in
     let room : length c.open_window-opened.new.buf ≡ len = first_of (search rules, grind (arith, common_steps)) in
     let bytes : (source : Source) (picked : List Owned) → Carry source t picked got → IsFilledBy t (cells_in source t picked)
-    → g.D.Disk.held c.close_window.new.disk ≡ after (put_window source from t picked) (g.D.Disk.held c.args.part.now) = λ source picked carry whole.
-    window_told_by _ _ (g.D.Disk.held c.close_window.new.disk) c.args.due.now.window.full _ _ _ _ at _ _ _ c.in_ok-opened.ensures.from c.in_ok-opened.ensures.bytes
-    (c.take_messages.ensures.laid.laid carry.hull ∙ ap (λ (cells : List Cell). write_cells c.open_window-opened.new.buf (moved_down at cells)) carry.cells)
-    c.size-size.ensures.told room c.requires.low c.requires.high (clips_from at (at + len) (map (λ o. cell_of source o) picked) (omega arith))
-    (clips_within at (at + len) (map (λ o. cell_of source o) picked) (omega arith)) whole c.in_ok-opened.ensures.read c.in_ok-close_window.ensures.bytes in
+    → g.D.Disk.held c.close_window.new.disk ≡ after (put_window source from t picked) (g.D.Disk.held c.args.part.now)
+    = λ source picked carry whole.
+    window_told_by
+    (g.D.Disk.held c.args.part.now) (g.D.Disk.held c.open_window-opened.new.disk) (g.D.Disk.held c.close_window.new.disk) c.args.due.now.window.full
+    c.open_window-opened.new.buf c.take_messages.new.buf from (g.D.Disk.from c.open_window-opened.new.disk) at len
+    (g.D.Disk.len c.args.part.now) (cells_in source t picked)
+    c.in_ok-opened.ensures.from c.in_ok-opened.ensures.bytes (c.take_messages.ensures.laid.laid carry.hull ∙ ap (λ (cells : List Cell). write_cells c.open_window-opened.new.buf (moved_down at cells)) carry.cells)
+    c.size-size.ensures.told room c.requires.low c.requires.high
+    (clips_from at (at + len) (map (λ o. cell_of source o) picked) (omega arith))
+    (clips_within at (at + len) (map (λ o. cell_of source o) picked) (omega arith))
+    whole c.in_ok-opened.ensures.read c.in_ok-close_window.ensures.bytes in
     record {
       got = got;
       taken = c.take_messages.ensures.laid.taken;
       many = c.take_messages.ensures.laid.many;
       bytes = bytes;
-      between = λ source picked carry whole. told_whole _ _ _ _ t _ _ c.size-size.ensures.told c.requires.low c.requires.high (bytes source picked carry whole);
+      between = λ source picked carry whole.
+          told_whole source picked from (g.D.Disk.len c.args.part.now) t (g.D.Disk.held c.args.part.now) (g.D.Disk.held c.close_window.new.disk) c.size-size.ensures.told c.requires.low c.requires.high
+          (bytes source picked carry whole);
     }
 
 pub returns-in_err-close_window-clause-put : goal.returns-in_err-close_window-clause-put
@@ -38,11 +46,17 @@ returns-in_err-close_window-clause-put g c =
       got = got;
       taken = c.take_messages.ensures.laid.taken;
       many = c.take_messages.ensures.laid.many;
-      bytes = λ source picked carry whole. err_not_ok _ _ c.from_residual-in_err-close_window.ensures.0;
-      between = λ source picked carry whole. window_refused_by _ _ _ c.args.due.now.window.full _ _ _ _ at _ _ _ c.in_ok-opened.ensures.from c.in_ok-opened.ensures.bytes
-          (c.take_messages.ensures.laid.laid carry.hull ∙ ap (λ (cells : List Cell). write_cells c.open_window-opened.new.buf (moved_down at cells)) carry.cells)
-          c.size-size.ensures.told room c.requires.low c.requires.high (clips_from at (at + len) (map (λ o. cell_of source o) picked) (omega arith))
-          (clips_within at (at + len) (map (λ o. cell_of source o) picked) (omega arith)) whole c.in_ok-opened.ensures.read c.in_err-close_window.ensures.refused;
+      bytes = λ source picked carry whole. err_not_ok _ c.from_residual-in_err-close_window.result c.from_residual-in_err-close_window.ensures.0;
+      between = λ source picked carry whole.
+          window_refused_by
+          (g.D.Disk.held c.args.part.now) (g.D.Disk.held c.open_window-opened.new.disk) (g.D.Disk.held c.close_window.new.disk) c.args.due.now.window.full
+          c.open_window-opened.new.buf c.take_messages.new.buf from (g.D.Disk.from c.open_window-opened.new.disk) at len
+          (g.D.Disk.len c.args.part.now) (cells_in source t picked)
+          c.in_ok-opened.ensures.from c.in_ok-opened.ensures.bytes (c.take_messages.ensures.laid.laid carry.hull ∙ ap (λ (cells : List Cell). write_cells c.open_window-opened.new.buf (moved_down at cells)) carry.cells)
+          c.size-size.ensures.told room c.requires.low c.requires.high
+          (clips_from at (at + len) (map (λ o. cell_of source o) picked) (omega arith))
+          (clips_within at (at + len) (map (λ o. cell_of source o) picked) (omega arith))
+          whole c.in_ok-opened.ensures.read c.in_err-close_window.ensures.refused;
     }
 
 pub returns-in_err-opened-clause-put : goal.returns-in_err-opened-clause-put
@@ -53,6 +67,8 @@ returns-in_err-opened-clause-put g c =
       got = got;
       taken = c.take_messages.ensures.laid.taken;
       many = c.take_messages.ensures.laid.many;
-      bytes = λ source picked carry whole. err_not_ok _ _ c.from_residual.ensures.0;
-      between = λ source picked carry whole. told_kept _ _ (put_window source (g.D.Disk.from c.args.part.now) t picked) c.in_err-opened.ensures.bytes;
+      bytes = λ source picked carry whole. err_not_ok _ c.from_residual.result c.from_residual.ensures.0;
+      between = λ source picked carry whole.
+          told_kept (g.D.Disk.held c.args.part.now) (g.D.Disk.held c.open_window-opened.new.disk) (put_window source (g.D.Disk.from c.args.part.now) t picked)
+          c.in_err-opened.ensures.bytes;
     }

@@ -7,10 +7,12 @@ abbrev none : Cut
 none = record { at = 0; slot = 0; from = 0; len = 0 }
 
 pub lay_cut-requires-clause-cut : goal.lay_cut-requires-clause-cut
-lay_cut-requires-clause-cut c = c.requires.cuts (get_or c.args.cuts.now c.loop-cut.cut-index none) (entry_in c.args.cuts.now c.loop-cut.cut-index none c.loop-cut-test.true)
+lay_cut-requires-clause-cut c =
+    c.requires.cuts (get_or c.args.cuts.now c.loop-cut.cut-index none) (entry_in c.args.cuts.now c.loop-cut.cut-index none c.loop-cut-test.true)
 
 pub loop-cut-preserved : goal.loop-cut-preserved
 loop-cut-preserved c = record {
-  laid = laid_cut _ _ _ _ _ _ _ _ c.loop-cut-test.true c.loop-cut.invariant.laid c.lay_cut.ensures;
+  laid = laid_cut c.args.hull.at c.loop-cut.cut-index c.args.puts.now c.args.cuts.now none c.args.buf.now c.loop-cut.buf c.lay_cut.new.buf c.loop-cut-test.true
+      c.loop-cut.invariant.laid c.lay_cut.ensures;
   long = c.lay_cut.auto.buf ∙ c.loop-cut.invariant.long;
 }

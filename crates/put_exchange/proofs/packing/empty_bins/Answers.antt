@@ -15,9 +15,12 @@ ranks-preserved c =
     let same = c.push_reserved.ensures.capacity in
     let room = c.ranks.invariant.room in
     record {
-      each = ap (λ (bins : List (Vec Cut Global)). binned bins) grown ∙ map-append (λ (b : Vec Cut Global). b.items) before (bin ∷ [])
-          ∙ ap (λ (cuts : List Cut). binned before ++ cuts ∷ []) empty ∙ ap (λ (bins : List (List Cut)). bins ++ [] ∷ []) c.ranks.invariant.each
-          ∙ sym (map_push (λ (r : ℕ). []) (length before)) ∙ ap (λ (n : ℕ). map (λ (r : ℕ). []) (range_with_len 0 n)) (sym (more ∙ long));
+      each = ap (λ (bins : List (Vec Cut Global)). binned bins) grown
+          ∙ map-append (λ (b : Vec Cut Global). b.items) before (bin ∷ [])
+          ∙ ap (λ (cuts : List Cut). binned before ++ cuts ∷ []) empty
+          ∙ ap (λ (bins : List (List Cut)). bins ++ [] ∷ []) c.ranks.invariant.each
+          ∙ sym (map_push (λ (r : ℕ). []) (length before))
+          ∙ ap (λ (n : ℕ). map (λ (r : ℕ). []) (range_with_len 0 n)) (sym (more ∙ long));
       few = omega arith;
       room = omega arith;
     }

@@ -1,5 +1,5 @@
 -- One rank more.
-use Rattle.put_exchange.proofs.Words.{ℕ, ◌≡◌, ◌<◌, ◌∙◌, ◌++◌, ◌∷◌, [], List, Vec, Global, ap, sym, subst, length, map, filter, append_assoc, arith, rules, common_steps, range_with_len, slice_get_within, middle_at, told_window, source_of, AreCuts, cuts_by, has_pieces, hull_of, sent_by, Cut}
+use Rattle.put_exchange.proofs.Words.{ℕ, ◌≡◌, ◌<◌, ◌≤◌, ◌∙◌, ◌++◌, ◌∷◌, [], List, Vec, Global, ap, sym, subst, length, map, filter, append_assoc, arith, rules, common_steps, range_with_len, slice_get_within, middle_at, told_window, source_of, AreCuts, binned, cuts_by, has_pieces, hull_of, sent_by, Cut}
 use Rattle.put_exchange.proofs.PackLaws.{bin_is, bins_long, cuts_are, messages_push}
 use Rattle.put_exchange.proofs.packing.with_bins.Goals as goal
 

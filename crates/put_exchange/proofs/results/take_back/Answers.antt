@@ -25,11 +25,12 @@ loop-worker-preserved g c =
     let second : OnOk both (IsOk came) = subst (λ (r : Result (Unit {0}) DiskErr). OnOk r (IsOk came)) (sym c.and-end.ensures) (and_second_ok end came) in
     record {
       all = append_assoc c.loop-worker.yielded (worker ∷ []) _ ∙ middle;
-      long = both_long _ worker _ _ _ pushed c.loop-worker.invariant.long;
+      long = both_long c.loop-worker.yielded worker c.loop-worker.back.items _ part pushed c.loop-worker.invariant.long;
       room = c.push_reserved.ensures.capacity ∙ c.loop-worker.invariant.room;
-      put = back_more _ _ _ _ _ _ _ _ (λ s d h. put_later _ _ _ _ _ _ _ first h) c.loop-worker.invariant.put (put_later _ _ _ _ _ _ _ second c.take_one-part.ensures.put) pushed;
-      failed = failed_more (λ (s : Worker g.row.D.Denot) (d : g.row.D.Denot). Rose (g.D.Disk.faults (part_of s)) (g.D.Disk.faults d)) _ _ _ worker _ end both
-          c.loop-worker.invariant.long c.loop-worker.invariant.failed (λ f. elim
-          (and_failed end came (subst (λ (r : Result (Unit {0}) DiskErr). IsErrOf r Failed) c.and-end.ensures f))
-          [ inl e ↦ inl e | inr e ↦ inr (c.take_one-part.ensures.failed e) ]) pushed;
+      put = back_more Put c.loop-worker.yielded c.loop-worker.back.items _ worker part end both
+          (λ s d h. put_later (source_in plan) plan.list.now (planned_turns plan (domain_of s)) (state (part_of s)) (state d) end both first h) c.loop-worker.invariant.put
+          (put_later (source_in plan) plan.list.now (planned_turns plan (domain_of worker)) (state (part_of worker)) (state part) came both second c.take_one-part.ensures.put) pushed;
+      failed = failed_more (λ (s : Worker g.row.D.Denot) (d : g.row.D.Denot). Rose (g.D.Disk.faults (part_of s)) (g.D.Disk.faults d)) c.loop-worker.yielded c.loop-worker.back.items _ worker part end both
+          c.loop-worker.invariant.long c.loop-worker.invariant.failed
+          (λ f. elim (and_failed end came (subst (λ (r : Result (Unit {0}) DiskErr). IsErrOf r Failed) c.and-end.ensures f)) [ inl e ↦ inl e | inr e ↦ inr (c.take_one-part.ensures.failed e) ]) pushed;
     }

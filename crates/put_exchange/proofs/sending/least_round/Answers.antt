@@ -14,7 +14,9 @@ each_next {X} P xs i x own p each k y l e = by_order (nat_lt k i) refl
   where
     by_order : (t : Bool) → nat_lt k i ≡ t → P y
     by_order true u = each k y (grind (arith, nat_tests)) e
-    by_order false u = let same : k ≡ i = grind (arith, nat_tests) in subst P (same_Some x y (sym own ∙ ap (slice_get xs) (sym same) ∙ e)) p
+    by_order false u =
+        let same : k ≡ i = grind (arith, nat_tests) in
+        subst P (same_Some x y (sym own ∙ ap (slice_get xs) (sym same) ∙ e)) p
 
 some_more : {D : Type 0} (workers : List (Worker D)) (i : ℕ) (worker : Worker D) (before now : Option ℕ) → slice_get workers i ≡ Some worker → now ≡ earlier_of before (next_round_of worker.feed)
     → IfSome before (λ round. HasRound workers round) → IfSome now (λ round. HasRound workers round)

@@ -14,7 +14,8 @@ rounds-smaller g c = c.send_round.ensures.fewer c.in-Some.ensures.some
 pub rounds-preserved : goal.rounds-preserved
 rounds-preserved g c = record {
   long = c.send_round.ensures.long ∙ c.rounds.invariant.long;
-  sent = each_twice HasSent HasSent HasSent c.args.workers.now _ _ c.send_round.ensures.long c.rounds.invariant.sent c.send_round.ensures.sent sent_twice;
+  sent = each_twice HasSent HasSent HasSent c.args.workers.now c.rounds.workers c.send_round.new.workers c.send_round.ensures.long
+      c.rounds.invariant.sent c.send_round.ensures.sent sent_twice;
 }
 
 pub returns-clause-fed : goal.returns-clause-fed

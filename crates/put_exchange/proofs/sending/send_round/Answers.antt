@@ -14,11 +14,16 @@ one_fewer {D} round i old now worker new first own before less fewer each k s l 
     left s = s.feed.rounds.items
 
     by_order : (t : Bool) → nat_lt k i ≡ t → rounds_in (set now i new) < rounds_in old
-    by_order true u = let under : k < i = grind (arith, nat_tests) in omega (arith, each k s under e n, no_more_all left now i worker new own less)
+    by_order true u =
+        let under : k < i = grind (arith, nat_tests) in
+        let earlier = each k s under e n in
+        let more = no_more_all left now i worker new own less in
+        omega arith
     by_order false u =
         let same : k ≡ i = grind (arith, nat_tests) in
         let is : worker ≡ s = same_Some worker s (sym first ∙ ap (slice_get old) (sym same) ∙ e) in
-        omega (arith, fewer_all left now i worker new own (fewer (ap (λ (x : Worker D). next_round_of x.feed) is ∙ n)))
+        let one = fewer_all left now i worker new own (fewer (ap (λ (x : Worker D). next_round_of x.feed) is ∙ n)) in
+        omega arith
 
 pub loop-worker-preserved : goal.loop-worker-preserved
 loop-worker-preserved g c =
@@ -35,7 +40,8 @@ loop-worker-preserved g c =
     let before = c.loop-worker.invariant.no_more in
     record {
       long = length-set now i new ∙ c.loop-worker.invariant.long;
-      sent = λ r a b l e f. each_more (λ k x y. HasSent x y) old now i worker new first own (record { helper = refl; fed = c.send_turn.ensures.fed })
+      sent = λ r a b l e f.
+          each_more (λ k x y. HasSent x y) old now i worker new first own (record { helper = refl; fed = c.send_turn.ensures.fed })
           (λ q x y k u v. c.loop-worker.invariant.sent q x y k u v) r a b l e f;
       left = left_more old now i new c.loop-worker.invariant.left;
       no_more = omega arith;
