@@ -11,7 +11,6 @@ pub use Rattle.std.proofs.lemmas.Slice.Zip.{AllZip-long, length-zip}
 pub use Rattle.std.specs.List.{AllZip}
 pub use Rattle.std.specs.Prelude.{IfErr, IfNone, IfSome, IsErrOf, IsOk, OnOk, flat_map, is_some, replicate, slice_get, zip, ◌==◌}
 pub use Rattle.std.specs.Result.{result_and}
-pub use Rattle.std.proofs.lemmas.Bool.Decides.{nat_tests}
 pub use Rattle.aggregator_rounds.proofs.PastSteps.{all_left, walk_begin}
 pub use Rattle.aggregator_rounds.proofs.ReadParts.{IsRead, buffer_cells, got_says, got_whole, parts_within, read_as, read_once, says_got, whole_parts}
 pub use Rattle.aggregator_rounds.proofs.SplitSteps.{entry_ends, extents_left, extents_right, sorted_right}

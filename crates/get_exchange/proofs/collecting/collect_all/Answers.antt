@@ -13,24 +13,29 @@ pub collect_get-requires-clause-end : goal.collect_get-requires-clause-end
 collect_get-requires-clause-end c = entry_ends c.args.entries.now c.loop-entry.entry-index none c.requires.ends c.loop-entry-test.true
 
 pub collect_get-requires-clause-filled : goal.collect_get-requires-clause-filled
-collect_get-requires-clause-filled c = c.requires.filled (get_or c.args.entries.now c.loop-entry.entry-index none) (entry_in _ _ none c.loop-entry-test.true)
+collect_get-requires-clause-filled c =
+    c.requires.filled (get_or c.args.entries.now c.loop-entry.entry-index none) (entry_in c.args.entries.now c.loop-entry.entry-index none c.loop-entry-test.true)
 
 pub collect_get-requires-clause-fit : goal.collect_get-requires-clause-fit
-collect_get-requires-clause-fit c = fit_as_long c.args.table.now c.loop-entry.table c.args.entries.now c.loop-entry.invariant.long c.requires.fit
+collect_get-requires-clause-fit c =
+    fit_as_long c.args.table.now c.loop-entry.table c.args.entries.now c.loop-entry.invariant.long c.requires.fit
     (get_or c.args.entries.now c.loop-entry.entry-index none) (entry_in c.args.entries.now c.loop-entry.entry-index none c.loop-entry-test.true)
 
 pub loop-entry-preserved : goal.loop-entry-preserved
 loop-entry-preserved c =
     let entry = get_or c.args.entries.now c.loop-entry.entry-index none in
-    let inside = entry_in _ _ none c.loop-entry-test.true in
+    let inside = entry_in c.args.entries.now c.loop-entry.entry-index none c.loop-entry-test.true in
     let fit = fit_as_long c.args.table.now c.loop-entry.table c.args.entries.now c.loop-entry.invariant.long c.requires.fit entry inside in
     let filled = c.requires.filled entry inside in
     record {
-      each = collected_more _ _ _ c.args.table.now _ _ _ _ _ none c.loop-entry-test.true refl (omega arith) c.collect_get.ensures c.loop-entry.invariant.each;
-      long = collected_long _ _ _ _ _ _ fit c.collect_get.ensures ∙ c.loop-entry.invariant.long;
+      each = collected_more c.args.hull.at (c.args.hull.at + c.args.hull.len) c.args.buf.now c.args.table.now c.loop-entry.table c.collect_get.new.table c.args.entries.now
+          c.loop-entry.entry-index entry none c.loop-entry-test.true refl (omega arith) c.collect_get.ensures c.loop-entry.invariant.each;
+      long = collected_long c.args.hull.at (c.args.hull.at + c.args.hull.len) c.args.buf.now c.loop-entry.table c.collect_get.new.table entry fit c.collect_get.ensures
+          ∙ c.loop-entry.invariant.long;
     }
 
 pub returns-clause-each : goal.returns-clause-each
-returns-clause-each c = λ r s. c.loop-entry.invariant.each r s
+returns-clause-each c = λ r s.
+    c.loop-entry.invariant.each r s
     ∙ ap (λ (os : List Owned). write_cells (blob_at c.args.table.now r s) (map (λ o. buffer_cell c.args.hull.at (c.args.hull.at + c.args.hull.len) c.args.buf.now o) (of_request r s os)))
     (take_all c.loop-entry.entry-index c.args.entries.now c.loop-entry-test.false)

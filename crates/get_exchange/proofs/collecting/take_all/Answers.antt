@@ -1,5 +1,5 @@
 -- One window of one helper was taken.
-use Rattle.get_exchange.proofs.Words.{◌≡◌, ◌∙◌, refl, sym, subst, set, Some, Result, get_or, length-set, same_Some, slice_get-get_or, slice_get, IfErr, OnOk, DiskErr, Memory, HaveTakenTurns, IsKept, IsShelfIn, ReadWorker, fewer_all, set_each}
+use Rattle.get_exchange.proofs.Words.{◌≡◌, ◌∙◌, refl, sym, subst, set, Some, Result, get_or, length-set, same_Some, slice_get-get_or, slice_get, IfErr, OnOk, DiskErr, Memory, HaveTakenTurns, IsKept, IsShelfIn, turns_due, ReadWorker, fewer_all, set_each}
 use Rattle.get_exchange.proofs.CollectLaws.{fit_as_long}
 use Rattle.get_exchange.proofs.TakeLaws.{both_memory, kept_more, kept_none, taken_none, taken_on}
 use Rattle.get_exchange.proofs.collecting.take_all.Goals as goal
@@ -29,7 +29,8 @@ rounds-smaller g c =
     let k = c.in-Some.k in
     let worker = get_or c.rounds.workers k c.index-workers-k.result in
     let own = slice_get-get_or c.rounds.workers k c.index-workers-k.result some.0 in
-    fewer_all _ _ k _ _ own (c.take_turn-came.ensures.fewer (some.1 worker own))
+    fewer_all (λ (s : ReadWorker g.row.D.Denot). turns_due s.shelf) c.rounds.workers k worker (record { helper = worker.helper; shelf = c.take_turn-came.new.shelf }) own
+    (c.take_turn-came.ensures.fewer (some.1 worker own))
 
 pub rounds-preserved : goal.rounds-preserved
 rounds-preserved g c =

@@ -14,7 +14,8 @@ get_in_turn-others-requires-clause-domains g c κs within =
     (take (length domains - count) (drop count domains)) c.get_served-back.ensures.rest (take_rest domains count ∙ ap (λ (n : ℕ). drop n domains) number) c.requires.domains
 
 pub get_in_turn-others-requires-clause-fit : goal.get_in_turn-others-requires-clause-fit
-get_in_turn-others-requires-clause-fit g c κs within = fit_as_long _ _ _ c.get_served-back.ensures.blobs c.requires.fit
+get_in_turn-others-requires-clause-fit g c κs within =
+    fit_as_long c.args.into.now c.get_served-back.new.into c.args.plan.now.list.now c.get_served-back.ensures.blobs c.requires.fit
 
 pub give_back-requires : goal.give_back-requires
 give_back-requires g c =
@@ -33,11 +34,28 @@ give_back-requires g c =
     let few = c.get_served-back.ensures.served in
     let room = c.get_served-back.ensures.room in
     let long : length more ≡ length served.rest.items = omega arith in
-    let many = back_long _ _ _ _ long c.get_in_turn-others.ensures.got in
+    let many = back_long (λ (p : g.row.D.Denot × Extent) (d : g.row.D.Denot). HasGot (get_turns c.args.plan.now p.1) (state p.0) (state d) others.1) served.rest.items more others.0.items
+    long c.get_in_turn-others.ensures.got in
     omega arith
 
-pub returns : goal.returns
-returns g c =
+pub returns-clause-got : goal.returns-clause-got
+returns-clause-got g c =
+    let plan = c.args.plan.now in
+    let parts = c.args.parts.items in
+    let domains = c.args.domains.now in
+    let served = c.get_served-back.result in
+    let others = c.get_in_turn-others.result in
+    let whole = c.give_back.new.back.items in
+    let count = c.len-served.result in
+    let number : count ≡ length served.back.items = first_of (search rules, grind (arith, common_steps)) in
+    let state = part_state g.D.Disk in
+    subst (λ (r : Result (Unit {0}) DiskErr). AllZip (λ p d. HasGot (get_turns plan p.1) (state p.0) (state d) r) (zip parts domains) whole) (sym c.and.ensures)
+    (got_joined plan state parts served.rest.items domains (take (length domains - count) (drop count domains)) served.back.items others.0.items whole served.end others.1
+    c.requires.one_each c.get_served-back.ensures.rest (take_rest domains count ∙ ap (λ (n : ℕ). drop n domains) number) c.give_back.ensures
+    c.get_served-back.ensures.got c.get_in_turn-others.ensures.got)
+
+pub returns-clause-read : goal.returns-clause-read
+returns-clause-read g c =
     let plan = c.args.plan.now in
     let parts = c.args.parts.items in
     let domains = c.args.domains.now in
@@ -45,20 +63,19 @@ returns g c =
     let others = c.get_in_turn-others.result in
     let count = c.len-served.result in
     let number : count ≡ length served.back.items = first_of (search rules, grind (arith, common_steps)) in
-    record {
-      got =
-          let whole = c.give_back.new.back.items in
-          let state = part_state g.D.Disk in
-          subst (λ (r : Result (Unit {0}) DiskErr). AllZip (λ p d. HasGot (get_turns plan p.1) (state p.0) (state d) r) (zip parts domains) whole) (sym c.and.ensures)
-          (got_joined plan state _ _ _ _ _ _ _ served.end others.1 c.requires.one_each c.get_served-back.ensures.rest
-          (take_rest domains count ∙ ap (λ (n : ℕ). drop n domains) number) c.give_back.ensures c.get_served-back.ensures.got c.get_in_turn-others.ensures.got);
-      read =
-          let from = λ (d : g.row.D.Denot). g.D.Disk.from d in
-          let held = λ (d : g.row.D.Denot). g.D.Disk.held d in
-          subst (λ (r : Result (Unit {0}) DiskErr). OnOk r (HasReadParts from held plan (zip parts domains) c.args.into.now c.get_in_turn-others.new.into)) (sym c.and.ensures)
-          (parts_joined _ _ _ _ _ _ _ _ _ _ _ _ _ c.requires.one_each c.get_served-back.ensures.rest (take_rest domains count ∙ ap (λ (n : ℕ). drop n domains) number)
-          c.get_served-back.ensures.read c.get_in_turn-others.ensures.read);
-      blobs = first_of (search rules, grind (arith, common_steps));
-      failed = λ f. failed_joined (λ (a b : g.row.D.Denot). Rose (g.D.Disk.faults a) (g.D.Disk.faults b)) _ _ _ _ _ served.end others.1 c.get_served-back.ensures.rest
-          c.give_back.ensures c.get_served-back.ensures.failed c.get_in_turn-others.ensures.failed (subst (λ (r : Result (Unit {0}) DiskErr). IsErrOf r Failed) c.and.ensures f);
-    }
+    let from = λ (d : g.row.D.Denot). g.D.Disk.from d in
+    let held = λ (d : g.row.D.Denot). g.D.Disk.held d in
+    subst (λ (r : Result (Unit {0}) DiskErr). OnOk r (HasReadParts from held plan (zip parts domains) c.args.into.now c.get_in_turn-others.new.into)) (sym c.and.ensures)
+    (parts_joined from held plan (length served.back.items) parts served.rest.items domains (take (length domains - count) (drop count domains))
+    c.args.into.now c.get_served-back.new.into c.get_in_turn-others.new.into served.end others.1
+    c.requires.one_each c.get_served-back.ensures.rest (take_rest domains count ∙ ap (λ (n : ℕ). drop n domains) number)
+    c.get_served-back.ensures.read c.get_in_turn-others.ensures.read)
+
+pub returns-clause-failed : goal.returns-clause-failed
+returns-clause-failed g c =
+    let served = c.get_served-back.result in
+    let others = c.get_in_turn-others.result in
+    λ f.
+    failed_joined (λ (a b : g.row.D.Denot). Rose (g.D.Disk.faults a) (g.D.Disk.faults b)) c.args.parts.items served.rest.items served.back.items others.0.items c.give_back.new.back.items served.end others.1
+    c.get_served-back.ensures.rest c.give_back.ensures c.get_served-back.ensures.failed c.get_in_turn-others.ensures.failed
+    (subst (λ (r : Result (Unit {0}) DiskErr). IsErrOf r Failed) c.and.ensures f)

@@ -11,7 +11,8 @@ none = record { at = 0; len = 0 }
 pub loop-part-init : goal.loop-part-init
 loop-part-init g c =
     let state = part_state g.D.Disk in
-    let Got : Result (Unit {0}) DiskErr → g.row.D.Denot × Extent → g.row.D.Denot → Type 0 = λ r p d. HasGot (get_turns c.args.plan.now p.1) (state p.0) (state d) r in
+    let Got : Result (Unit {0}) DiskErr → g.row.D.Denot × Extent → g.row.D.Denot → Type 0
+    = λ r p d. HasGot (get_turns c.args.plan.now p.1) (state p.0) (state d) r in
     record {
       all = first_of (search rules, grind (arith, common_steps));
       long = ap (λ (ds : List g.row.D.Denot). length ds) c.requires.none;
@@ -23,30 +24,38 @@ loop-part-init g c =
       failed = λ f. absurd cc;
     }
 
-pub read_next-part-requires : goal.read_next-part-requires
-read_next-part-requires g c κs within =
+pub read_next-part-requires-clause-domain : goal.read_next-part-requires-clause-domain
+read_next-part-requires-clause-domain g c κs within =
     let middle = ap (λ v. c.loop-part.yielded ++ v) (sym c.in-Some.ensures.steps.0) ∙ c.loop-part.invariant.all in
     let here = middle_at c.loop-part.yielded _ c.args.parts.items c.in-Some.part middle in
     let low : length c.loop-part.yielded < length c.args.parts.items = slice_get_within c.args.parts.items (length c.loop-part.yielded) c.in-Some.part here in
     let many = c.loop-part.invariant.long in
     let number : c.len-number.result ≡ length c.loop-part.back.items = first_of (search rules, grind (arith, common_steps)) in
     let long = c.requires.one_each in
-    record {
-      plan = first_of (search rules, grind (arith, common_steps));
-      domain = c.requires.domains (length c.loop-part.yielded) c.in-Some.part _ here
-          (at_index c.args.domains.now c.len-number.result (length c.loop-part.yielded) none (omega arith) (omega arith));
-      room =
-          let domain = get_or c.args.domains.now c.len-number.result none in
-          let at = at_index c.args.domains.now c.len-number.result c.len-number.result none (omega arith) (omega arith) in
-          omega (arith, c.requires.buf_room domain (at_in c.args.domains.now c.len-number.result domain at), c.loop-part.invariant.buf);
-      fit = fit_as_long c.args.room.now.table.items c.loop-part.room.table.items c.args.plan.now.list.now c.loop-part.invariant.blobs c.requires.fit;
-      one_place = first_of (search rules, grind (arith, common_steps));
-    }
+    c.requires.domains (length c.loop-part.yielded) c.in-Some.part _ here (at_index c.args.domains.now c.len-number.result (length c.loop-part.yielded) none (omega arith) (omega arith))
+
+pub read_next-part-requires-clause-room : goal.read_next-part-requires-clause-room
+read_next-part-requires-clause-room g c κs within =
+    let middle = ap (λ v. c.loop-part.yielded ++ v) (sym c.in-Some.ensures.steps.0) ∙ c.loop-part.invariant.all in
+    let here = middle_at c.loop-part.yielded _ c.args.parts.items c.in-Some.part middle in
+    let low : length c.loop-part.yielded < length c.args.parts.items = slice_get_within c.args.parts.items (length c.loop-part.yielded) c.in-Some.part here in
+    let many = c.loop-part.invariant.long in
+    let number : c.len-number.result ≡ length c.loop-part.back.items = first_of (search rules, grind (arith, common_steps)) in
+    let long = c.requires.one_each in
+    let domain = get_or c.args.domains.now c.len-number.result none in
+    let at = at_index c.args.domains.now c.len-number.result c.len-number.result none (omega arith) (omega arith) in
+    let most = c.requires.buf_room domain (at_in c.args.domains.now c.len-number.result domain at) in
+    let kept = c.loop-part.invariant.buf in
+    omega arith
+
+pub read_next-part-requires-clause-fit : goal.read_next-part-requires-clause-fit
+read_next-part-requires-clause-fit g c κs within =
+    fit_as_long c.args.room.now.table.items c.loop-part.room.table.items c.args.plan.now.list.now c.loop-part.invariant.blobs c.requires.fit
 
 pub loop-part-preserved : goal.loop-part-preserved
 loop-part-preserved g c =
     let middle = ap (λ v. c.loop-part.yielded ++ v) (sym c.in-Some.ensures.steps.0) ∙ c.loop-part.invariant.all in
-    let here = middle_at _ _ _ _ middle in
+    let here = middle_at c.loop-part.yielded _ c.args.parts.items c.in-Some.part middle in
     let low : length c.loop-part.yielded < length c.args.parts.items = slice_get_within c.args.parts.items (length c.loop-part.yielded) c.in-Some.part here in
     let many = c.loop-part.invariant.long in
     let number : c.len-number.result ≡ length c.loop-part.back.items = first_of (search rules, grind (arith, common_steps)) in
@@ -57,20 +66,25 @@ loop-part-preserved g c =
     let part = c.read_next-part.result.0 in
     let came = c.read_next-part.result.1 in
     let plan = c.args.plan.now in
-    let more = zip_push _ _ c.in-Some.part _ at in
+    let more = zip_push c.loop-part.yielded c.args.domains.now c.in-Some.part domain at in
     let state = part_state g.D.Disk in
-    let Got : Result (Unit {0}) DiskErr → g.row.D.Denot × Extent → g.row.D.Denot → Type 0 = λ r p d. HasGot (get_turns plan p.1) (state p.0) (state d) r in
+    let Got : Result (Unit {0}) DiskErr → g.row.D.Denot × Extent → g.row.D.Denot → Type 0
+    = λ r p d. HasGot (get_turns plan p.1) (state p.0) (state d) r in
     record {
       all = append_assoc c.loop-part.yielded (c.in-Some.part ∷ []) _ ∙ middle;
-      long = both_long _ c.in-Some.part _ _ _ pushed many;
+      long = both_long c.loop-part.yielded c.in-Some.part c.loop-part.back.items _ part pushed many;
       room = c.push_reserved.ensures.capacity ∙ c.loop-part.invariant.room;
       buf = c.read_next-part.ensures.buf ∙ c.loop-part.invariant.buf;
       got = subst (λ (ps : List (g.row.D.Denot × Extent)). AllZip (Got came) ps c.push_reserved.new.self.items) (sym more)
-          (back_more _ _ _ _ _ _ _ _ (λ p d h. got_later _ _ _ _ _ c.read_next-part.ensures.ok h) c.loop-part.invariant.got c.read_next-part.ensures.got pushed);
-      read = parts_on _ _ _ _ _ _ _ _ _ _ _ more c.read_next-part.ensures.ok c.loop-part.invariant.read c.read_next-part.ensures.read;
+          (back_more Got (zip c.loop-part.yielded c.args.domains.now) c.loop-part.back.items _ (c.in-Some.part, domain) part c.loop-part.end came
+          (λ p d h. got_later (get_turns plan p.1) (state p.0) (state d) c.loop-part.end came c.read_next-part.ensures.ok h) c.loop-part.invariant.got
+          c.read_next-part.ensures.got pushed);
+      read = parts_on (λ d. g.D.Disk.from d) (λ d. g.D.Disk.held d) plan (zip c.loop-part.yielded c.args.domains.now) (zip (c.loop-part.yielded ++ c.in-Some.part ∷ []) c.args.domains.now)
+          (c.in-Some.part, domain) c.args.room.now.table.items c.loop-part.room.table.items c.read_next-part.new.room.table.items c.loop-part.end came
+          more c.read_next-part.ensures.ok c.loop-part.invariant.read c.read_next-part.ensures.read;
       blobs = c.read_next-part.ensures.blobs ∙ c.loop-part.invariant.blobs;
-      failed = failed_more (λ (a b : g.row.D.Denot). Rose (g.D.Disk.faults a) (g.D.Disk.faults b)) _ _ _ c.in-Some.part _ c.loop-part.end came many c.loop-part.invariant.failed
-          c.read_next-part.ensures.failed pushed;
+      failed = failed_more (λ (a b : g.row.D.Denot). Rose (g.D.Disk.faults a) (g.D.Disk.faults b)) c.loop-part.yielded c.loop-part.back.items _ c.in-Some.part part c.loop-part.end came
+          many c.loop-part.invariant.failed c.read_next-part.ensures.failed pushed;
     }
 
 pub returns-clause-read : goal.returns-clause-read

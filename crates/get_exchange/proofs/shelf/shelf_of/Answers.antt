@@ -11,4 +11,6 @@ returns-clause-ready c =
     (record { windows = c.next_window-next.new.windows; entries = walk.entries }) c.new-walk.ensures.at refl c.next_window-next.ensures.ready c.next_window-next.ensures.some
 
 pub returns-clause-due : goal.returns-clause-due
-returns-clause-due c = due_next _ _ c.next_window-next.new.windows c.next_window-next.ensures.none c.next_window-next.ensures.some ∙ c.new-walk.ensures.windows
+returns-clause-due c =
+    due_next c.next_window-next.result (turns_ahead c.new-walk.result.windows) c.next_window-next.new.windows c.next_window-next.ensures.none c.next_window-next.ensures.some
+    ∙ c.new-walk.ensures.windows
