@@ -23,3 +23,6 @@ mod ExpressedDefinitions
 pub mod ExpressedCalls
 pub mod Expressed
 mod PrintingLaws
+mod LineLengths
+mod MadeLengths
+pub mod MadeText

@@ -1,14 +1,14 @@
 -- The words of this crate's proofs, from where they stand.
-pub use Rattle.std.proofs.Common.{Bool, Err, IsAscii, IsUtf8, List, None, Ok, Option, Result, Some, [], ap, append-nil, append_assoc, arith, bytes_eq, codes, cond, decimal, drop, false, find, fold, get_or, inl, inr, is_some, length, length-append, map, min, nat_le, nat_lt, neg_ℤ, negsuc, not, option_and_then, option_map, pos, position, refl, replicate, slice_get, slice_set, subst, suc, sum, sym, take, take_all, true, unsigned_abs, unwrap_or, zero, ℕ, ℤ, ⊎_elim, ◌%◌, ◌&&◌, ◌*ℤ◌, ◌*◌, ◌++◌, ◌+ℤ◌, ◌+◌, ◌-◌, ◌/◌, ◌<◌, ◌==◌, ◌^◌, ◌||◌, ◌∙◌, ◌∷◌, ◌≡◌, ◌≤◌, ◌⊎◌}
+pub use Rattle.std.proofs.Common.{Bool, Err, IsAscii, IsUtf8, List, None, Ok, Option, Result, Some, [], ap, append-nil, append_assoc, arith, bytes_eq, codes, cond, decimal, drop, false, find, fold, get_or, inl, inr, is_some, length, length-append, map, min, nat_le, nat_lt, neg_ℤ, negsuc, not, option_and_then, option_map, pos, position, refl, replicate, slice_get, slice_set, subst, suc, sum, sym, take, take_all, true, unsigned_abs, unwrap_or, zero, ℕ, ℤ, ⊎_elim, ◌%◌, ◌&&◌, ◌*ℤ◌, ◌*◌, ◌++◌, ◌+ℤ◌, ◌+◌, ◌-◌, ◌/◌, ◌<◌, ◌==◌, ◌^◌, ◌||◌, ◌∙◌, ◌∷◌, ◌≡◌, ◌≤◌, ◌⊎◌, IfOk}
 pub use Rattle.std.proofs.lemmas.Bool.{agree_below_at, and_from, and_left, and_parts, and_right, cases_Bool, cases_lt, cond-false, cond-true, eq-eqb, eqb-true, le-leb, le-ltb, leb-true, lt-leb, lt-ltb, ltb-true, ne_eqb, not-true, or_cases, or_from, or_left, or_parts, or_right}
 pub use Rattle.std.proofs.lemmas.Bool.Decides.{nat_tests}
-pub use Rattle.std.proofs.lemmas.Fmt.{decimal_by_steps_wide, length-decimal-le_wide}
+pub use Rattle.std.proofs.lemmas.Fmt.{decimal_by_steps_wide, length-decimal-le_wide, decimal_nonempty}
 pub use Rattle.std.proofs.lemmas.Grind.{common_steps}
 pub use Rattle.std.proofs.lemmas.Int.{ints}
 pub use Rattle.std.proofs.lemmas.List.{drop_at, get_or_at, length-map, length-replicate, length-set, set_at, take_at}
 pub use Rattle.std.proofs.lemmas.List.Concat.{flat_map-append}
 pub use Rattle.std.proofs.lemmas.List.Elements.{filter_map-append}
-pub use Rattle.std.proofs.lemmas.List.Folds.{list_all-map, list_all_at, list_any-append}
+pub use Rattle.std.proofs.lemmas.List.Folds.{list_all-map, list_all_at, list_any-append, list_all-append}
 pub use Rattle.std.proofs.lemmas.List.FromFn.{get_or-enumerate_from, length-enumerate_from, length-map-range_with_len}
 pub use Rattle.std.proofs.lemmas.List.Splits.{length-slice_split, slice_split_at, slice_split_none}
 pub use Rattle.std.proofs.lemmas.List.Sums.{AllPass-from_list_all, fold_push, sum_by-cons}
@@ -74,8 +74,19 @@ pub use Rattle.serial_spec.proofs.ValueLaws.{ext_long, val-ext}
 pub use Rattle.serial_spec.specs.ExternalForm.{Class, Pattern, Signed, Unsigned, class_of, ext, fits, fits_in, size_of, types, val, width_of}
 pub use Rattle.serial_spec.specs.HeaderBytes.{is_version, last_type, number_of}
 pub use Rattle.serial_spec.specs.History.{kind_number, kinds}
-pub use Rattle.serial_spec.specs.Lawful.{added_dims, added_vars, agree, are_different, are_lawful_hints, are_values, has_its_lists, has_lists_of, id_posted, is_alignment, is_given, is_lawful, is_lawful_call, is_lawful_dim, is_lawful_extra, is_lawful_header, is_lawful_var, is_nothing, is_number, is_post_of, is_whole_attr, is_whole_extra, is_within, kind_numbers, most_calls, most_parts, most_ranks, most_values, posted_ids, values_in_call, values_in_script}
+pub use Rattle.serial_spec.specs.Lawful.{added_dims, added_vars, agree, are_different, are_lawful_hints, are_values, has_its_lists, has_lists_of, id_posted, is_alignment, is_given, is_lawful, is_lawful_call, is_lawful_dim, is_lawful_extra, is_lawful_header, is_lawful_var, is_nothing, is_number, is_post_of, is_whole_attr, is_whole_extra, is_within, kind_numbers, most_calls, most_parts, most_ranks, most_values, posted_ids, values_in_call, values_in_script, has_whole_attrs}
 pub use Rattle.serial_spec.specs.Limits.{most_dims, most_dims_of_var, most_elements, most_vars, record_limit}
 pub use Rattle.serial_spec.specs.Lists.{is_empty}
 pub use Rattle.serial_spec.specs.Request.{code_in, gathered, number_in}
 pub use Rattle.type_external.proofs.PatternLaws.{bits_in}
+unfoldable pub use Rattle.std.specs.Fmt.{digits}
+pub use Rattle.std.specs.Prelude.{◌<ℤ◌}
+pub use Rattle.generated_run.proofs.CallLaws.{rank_is, record_is}
+pub use Rattle.generated_run.proofs.LawfulLaws.{made_lawful}
+pub use Rattle.generated_run.proofs.MadeLaws.{script_is}
+pub use Rattle.generated_run.proofs.Ranges.{pieces_pass, range_passes, sum_within}
+pub use Rattle.generated_run.proofs.RankLaws.{rank_long}
+pub use Rattle.generated_run.specs.Made.{calls_of_rank, calls_of_record}
+unfoldable pub use Rattle.generated_run.specs.Made.{columns_of, precip_band, region_of_band, temp_band}
+pub use Rattle.list_laws.proofs.Ranges.{pieces_long}
+pub use Rattle.script_spec.specs.Generator.{default_hints, first_row, made_header, made_script, precip_at, temp_at}

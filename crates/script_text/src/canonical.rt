@@ -1,6 +1,10 @@
 // The canonical text of a script.
-ghost use Rattle.std.specs.Prelude.{◌≡◌, ◌++◌, ◌∷◌, [], true, IfOk, OnOk, if◌then◌else◌, codes, decimal, flat_map};
+ghost use Rattle.std.specs.Prelude.{◌≡◌, ◌≢◌, ◌≤◌, ◌++◌, ◌∷◌, [], true, IfErr, IfOk, OnOk, Some, if◌then◌else◌, codes, decimal, flat_map, length};
+ghost use Rattle.nc_base.specs.declared.errors.ScriptKind.TheVariants as kind;
+ghost use Rattle.nc_base.specs.declared.script.Script.{Script};
 ghost use Rattle.serial_spec.specs.Lawful.{has_whole_attrs};
+ghost use Rattle.script_spec.specs.ScriptGrammar.{Reads, most_bytes, most_lines, script_fault};
+ghost use Rattle.script_spec.specs.ScriptWords.{text_lines};
 ghost use Rattle.script_spec.specs.Texts.{line};
 ghost use Rattle.script_spec.specs.HintTable.{shown_value};
 ghost use Rattle.script_spec.specs.Shown.{shown, shown_hint, shown_hints};
@@ -9,7 +13,8 @@ ghost use Rattle.hint_table.specs.HintNames.{form_of, row_of};
 use crate::calls::push_ranks;
 use crate::definitions::{push_definitions, push_extras};
 use hint_table::{HINTS, HintForm, HintName};
-use nc_base::{Blob, Hints, Memory, Script};
+use nc_base::{Blob, Hints, Memory, Script, ScriptErr, ScriptKind};
+use ncmpi_script::read_script;
 use printed_text::words::{push_bytes, push_number_line, push_numbered, push_word};
 use std::alloc::Global;
 
@@ -30,6 +35,26 @@ pub fn print_script(alloc: Global, script: &Script) -> Result<Blob, Memory>
     push_ranks(&mut out, script.calls.as_slice())?;
     push_bytes(&mut out, b"end\n")?;
     Ok(Blob::from_vec(out))
+}
+
+/// The canonical text of the script that a text spells: one blank between words, no remark, every hint, and every value
+/// written out. It is read as the same script, unless it is longer than a text may be. The choice of this form is ours.
+///
+/// An error is the first fault of the text with its line, or want of memory.
+pub fn canonical_text(alloc: Global, text: &[u8]) -> Result<Blob, ScriptErr>
+    ensures printed { IfOk result (λ out. (script : Script) × Reads text.now script × (out ≡ shown script)) }
+    ensures again { IfOk result (λ out. length out ≤ most_bytes → length (text_lines out) ≤ most_lines
+        → (script : Script) × Reads text.now script × Reads out script) }
+    ensures fault { IfErr result (λ e. e.kind ≢ kind.Memory → script_fault text.now ≡ Some e) }
+{
+    let script = read_script(alloc, text)?;
+    match print_script(alloc, &script) {
+        Ok(out) => Ok(out),
+        Err(_) => Err(ScriptErr {
+            line: 1,
+            kind: ScriptKind::Memory,
+        }),
+    }
 }
 
 /// The lines before the definitions.

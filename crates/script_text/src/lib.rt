@@ -1,4 +1,4 @@
-//! The canonical text of a script, which is read as that script again.
+//! The canonical text of a script, which is read as that script again: of one that was read, of a text, and of one that is made from a seed.
 #![tactic(auto)]
 
 ghost use Rattle.std.specs.Prelude.{◌≡◌, ◌≤◌, ℕ, List, length, true};
@@ -12,8 +12,10 @@ ghost use Rattle.script_text.specs.Expressible.{is_expressible, printed_lines};
 mod calls;
 mod canonical;
 mod definitions;
+mod made;
 
-pub use canonical::print_script;
+pub use canonical::{canonical_text, print_script};
+pub use made::{made_text, made_text_law};
 
 /// What is printed of a script that some text spells is read as the same script, unless the printed text is longer than
 /// a text may be.

@@ -1,5 +1,5 @@
 // Canonical texts, in which a script's definitions, calls and values are looked at.
-use script_format::canonical_text;
+use script_text::canonical_text;
 use std::alloc::Global;
 
 const EVERY_CALL: &[u8] = b"create 5

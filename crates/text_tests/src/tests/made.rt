@@ -5,9 +5,9 @@ ghost use Rattle.var_layout.specs.Unplaced.{is_unplaced};
 
 use super::ends::{Answered, Got, PLAIN, end_of};
 use generated_run::{made_law, make_script, summary_text};
-use made_text::made_text;
 use nc_base::{Call, Code, Mark, Script, Values};
 use ncmpi_script::read_script;
+use script_text::made_text;
 use std::alloc::Global;
 use std::process::Abort;
 use test_fixtures::{NO_LAYOUT, NO_MEMORY, laid_out};

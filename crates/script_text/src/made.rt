@@ -1,14 +1,12 @@
-//! The text of the script that is made from a seed, which is read as that script again.
-#![tactic(auto)]
-
+// The text of the script that is made from a seed, which is read as that script again.
 ghost use Rattle.std.specs.Prelude.{◌≡◌, ℕ, ◌≤◌, ◌<◌, IfOk, length};
 ghost use Rattle.script_spec.specs.Generator.{made_script};
 ghost use Rattle.script_spec.specs.ScriptGrammar.{Reads, most_bytes};
 ghost use Rattle.script_spec.specs.Shown.{shown};
 
+use crate::canonical::print_script;
 use generated_run::make_script;
 use nc_base::{Blob, Memory};
-use script_text::print_script;
 use std::alloc::Global;
 
 /// The canonical text of the script that the seed makes, with so many records. One of at most 40 records is read as that

@@ -1,11 +1,8 @@
 -- What is printed is read as the script that was read.
-use Rattle.std.proofs.Common.{◌≤◌, ℕ, List, length, subst, sym}
-use Rattle.nc_base.specs.declared.script.Script.{Script}
-use Rattle.script_spec.specs.ScriptWords.{text_lines}
-use Rattle.script_spec.specs.ScriptGrammar.{Reads, most_bytes, most_lines}
+use Rattle.script_text.proofs.Words.{◌≤◌, ℕ, List, length, subst, sym, Script, text_lines, Reads, most_bytes, most_lines}
 use Rattle.script_laws.proofs.LawfulLaws.{read_whole}
 use Rattle.script_text.proofs.Whole.{shown_again}
-use Rattle.script_format.proofs.canonical_text.Goals as goal
+use Rattle.script_text.proofs.canonical.canonical_text.Goals as goal
 
 pub print_script-requires : goal.print_script-requires
 print_script-requires c = read_whole c.args.text.now c.in_ok-script.script c.in_ok-script.ensures.read

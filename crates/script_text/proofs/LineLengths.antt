@@ -1,5 +1,5 @@
 -- How long the lines are that are printed.
-use Rattle.made_text.proofs.Words.{◌≡◌, ℕ, suc, ◌+◌, ◌*◌, ◌^◌, ◌≤◌, ◌<◌, List, [], ◌∷◌, ◌++◌, map, length, Bool, true, ℤ, pos, negsuc, unsigned_abs, length-append, arith, decimal, signed_decimal, list_all, and_parts, decimal_nonempty, length-decimal-le_wide, joined, line, size_list}
+use Rattle.script_text.proofs.Words.{◌≡◌, ℕ, suc, ◌+◌, ◌*◌, ◌^◌, ◌≤◌, ◌<◌, List, [], ◌∷◌, ◌++◌, map, length, Bool, true, ℤ, pos, negsuc, unsigned_abs, length-append, arith, decimal, signed_decimal, list_all, and_parts, decimal_nonempty, length-decimal-le_wide, joined, line, size_list}
 
 -- the bytes of words, and one behind each
 abbrev pub words_size : List (List ℕ) → ℕ

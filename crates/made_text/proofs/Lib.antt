@@ -1,4 +1,0 @@
-mod Words
-mod LineLengths
-mod MadeLengths
-mod MadeText

@@ -1,5 +1,0 @@
-use Rattle.made_text.proofs.MadeText.{made_again, made_long, made_short}
-use Rattle.made_text.proofs.made_text_law.Goals as goal
-
-pub returns : goal.returns
-returns c = record { read = made_again; short = made_short; long = made_long }
