@@ -1,5 +1,5 @@
 -- Runs of lines of the definitions, and what is added to a dataset that is opened: each line, printed, is read in the state in which it was read before.
-use Rattle.script_text.proofs.Words.{◌≡◌, ◌⊎◌, ◌∙◌, ℕ, ◌+◌, ◌≤◌, List, [], ◌∷◌, ◌++◌, map, length, drop, true, false, nat_lt, Option, Some, None, Result, Ok, Err, refl, sym, ap, subst, ⊎_elim, inl, inr, arith, bytes_eq, codes, list_all, list_any, and_from, cond-true, cond-false, bytes_eq-Decides, ScriptErr, Attr, Extra, most_dims_of_var, most_values, type_word, line, bracketed, shown_extra, shown_attr, Word, Plain, Quoted, Broken, Line, is_name, refuse_if, reads_as, dim_line, var_head, name_list, owner_of_text, owner_name, attribute, Added, is_added_record, added_shape, dim_addition, var_addition, att_addition, addition, Known, known_after, definition_step, definitions, nat_tests, cond_some, same_Some, Dim}
+use Rattle.script_text.proofs.Words.{◌≡◌, ◌⊎◌, ◌∙◌, ℕ, ◌+◌, ◌≤◌, List, [], ◌∷◌, ◌++◌, map, length, drop, true, false, nat_lt, Option, Some, None, Result, Ok, Err, refl, sym, ap, subst, inl, inr, arith, bytes_eq, codes, list_all, list_any, and_from, cond-true, cond-false, bytes_eq-Decides, ScriptErr, Attr, Extra, most_dims_of_var, most_values, type_word, line, bracketed, shown_extra, shown_attr, Word, Plain, Quoted, Broken, Line, is_name, refuse_if, reads_as, dim_line, var_head, name_list, owner_of_text, owner_name, attribute, Added, is_added_record, added_shape, dim_addition, var_addition, att_addition, addition, Known, known_after, definition_step, definitions, nat_tests, cond_some, same_Some, Dim}
 use Rattle.std.proofs.Common.{flat_map}
 use Rattle.nc_base.specs.declared.errors.ScriptKind.TheVariants as kind
 use Rattle.nc_base.specs.declared.errors.LimitName.TheVariants as limit
@@ -142,10 +142,7 @@ pub owner_read : (ws : List Word) (r : List ℕ × List Word) → reads_as owner
 owner_read ws r h = let w = read_word owner_of_text kind.BadName ws r h in owner_is w.0 r.0 w.1
 
 pub owner_again : (o : List ℕ) → Owner o → (is_plain o ≡ true) × (owner_of_text o ≡ Some o)
-owner_again o h = ⊎_elim
-    (λ (e : o ≡ codes ":"). subst (λ x. (is_plain x ≡ true) × (owner_of_text x ≡ Some x)) (sym e) (refl, refl))
-    (λ (k : (bytes_eq o (codes ":") ≡ false) × (is_name o ≡ true)). (name_plain o k.1, cond-false _ _ _ k.0 ∙ cond-true _ _ _ k.1))
-    h
+owner_again o h = grind (arith, nat_tests, name_plain, cond-false, cond-true)
 
 -- the words of the owner, as an extra's
 owner_rest : (o : List ℕ) (a : Attr) → Owner o → extra_rest (extra.Att (owner_name o) a) ≡ Plain o ∷ attr_tokens a

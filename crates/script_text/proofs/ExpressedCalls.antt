@@ -1,8 +1,8 @@
 -- Calls that words can express, printed rank by rank, are read again.
-use Rattle.script_text.proofs.Words.{◌≡◌, ◌∙◌, ℕ, ◌+◌, ◌^◌, ◌≤◌, ◌<◌, List, [], ◌∷◌, ◌++◌, map, sum, length, true, false, not, nat_lt, nat_le, ◌==◌, ◌&&◌, ◌||◌, None, refl, sym, ap, subst, append_assoc, arith, list_all, list_any, enumerate_from, and_parts, and_from, or_parts, or_from, not-true, ltb-true, leb-true, filter_map-append, list_any-append, sum_by-cons, Values, PostKind, Iput, Iget, Bput, Call, most_elements, are_values, are_different, is_given, is_lawful_call, is_nothing, is_post_of, posted_ids, values_in_call, is_empty, is_name, posted, is_posted, of_behind, HasNoRegion, made_behind, of_row, are_expressible_values, is_expressible_behind, is_expressible_call, is_id, nat_tests}
+use Rattle.script_text.proofs.Words.{◌≡◌, ◌∙◌, ℕ, ◌+◌, ◌^◌, List, [], ◌∷◌, ◌++◌, map, sum, true, false, not, nat_lt, nat_le, ◌==◌, ◌&&◌, ◌||◌, None, refl, sym, ap, subst, append_assoc, arith, list_all, list_any, enumerate_from, and_parts, and_from, or_parts, or_from, not-true, ltb-true, leb-true, filter_map-append, list_any-append, sum_by-cons, Values, PostKind, Iput, Iget, Bput, Call, are_values, are_different, is_given, is_lawful_call, is_nothing, is_post_of, posted_ids, values_in_call, is_name, posted, is_posted, of_behind, HasNoRegion, made_behind, of_row, are_expressible_values, is_expressible_behind, is_expressible_call, is_id, nat_tests}
 use Rattle.nc_base.specs.declared.request.Call.TheVariants as call
 use Rattle.script_text.proofs.Lines.{all_more}
-use Rattle.script_text.proofs.PrintedValues.{HasRoom, Fitting}
+use Rattle.script_text.proofs.PrintedValues.{Fitting}
 use Rattle.script_text.proofs.PrintedRegions.{region_told}
 use Rattle.script_text.proofs.PrintedCalls.{CallAgain, PostedAgain, put_same, get_same, post_same, put_values, nothing_posted, behind_told, plain_same}
 use Rattle.script_text.proofs.CallLines.{Chain, Chains, count, count_all}

@@ -1,5 +1,5 @@
 -- Words that are printed are cut again from their line.
-use Rattle.script_text.proofs.Words.{◌≡◌, ◌∙◌, ℕ, zero, suc, ◌+◌, ◌*◌, ◌/◌, ◌%◌, ◌≤◌, ◌<◌, List, [], ◌∷◌, ◌++◌, map, length, drop, Bool, true, false, not, cond, nat_lt, nat_le, ◌==◌, ◌&&◌, Option, Some, None, option_map, refl, sym, ap, append_assoc, append-nil, length-append, arith, and_parts, or_from, ne_eqb, eqb-true, cases_Bool, cond-true, cond-false, agree_below_at, not-true, common_steps, take_at, drop_at, position_or_len, list_all, text_char, quoted, hex, hex_digit, joined, Word, Plain, Quoted, Broken, is_blank, begins_blank, after_blanks, first_word, quoted_word, text_from, Between, FirstHex, SecondHex, words, words_within, hex_value, more_words, nat_tests}
+use Rattle.script_text.proofs.Words.{◌≡◌, ◌∙◌, ℕ, zero, suc, ◌+◌, ◌%◌, ◌≤◌, ◌<◌, List, [], ◌∷◌, ◌++◌, map, length, drop, Bool, true, false, not, cond, nat_lt, nat_le, ◌==◌, ◌&&◌, Option, Some, None, refl, sym, ap, append_assoc, append-nil, length-append, arith, and_parts, or_from, ne_eqb, eqb-true, cases_Bool, cond-true, cond-false, agree_below_at, not-true, common_steps, take_at, drop_at, position_or_len, list_all, text_char, quoted, hex, hex_digit, joined, Word, Plain, Quoted, Broken, is_blank, begins_blank, after_blanks, first_word, quoted_word, text_from, Between, words, words_within, hex_value, more_words, nat_tests}
 use Rattle.std.proofs.Common.{flat_map}
 
 -- ---- words as they are printed
@@ -46,15 +46,6 @@ hex_again d h = hex_again_by (hex_value (hex_digit d)) d (agree_below_at is_hex_
 
 abbrev IsAgain : List ℕ → List ℕ → List ℕ → ℕ → Type 0
 IsAgain rest text tail c = text_from Between (text_char c ++ rest) ≡ Some (c ∷ text, tail)
-
-abbrev more_text : ℕ → Option (List ℕ × List ℕ) → Option (List ℕ × List ℕ)
-more_text c o = option_map (λ r. (c ∷ r.0, r.1)) o
-
-abbrev first_hex : Option ℕ → List ℕ → Option (List ℕ × List ℕ)
-first_hex o cs = elim o [ None ↦ None | Some h ↦ text_from (SecondHex h) cs ]
-
-abbrev second_hex : ℕ → Option ℕ → List ℕ → Option (List ℕ × List ℕ)
-second_hex g o cs = elim o [ None ↦ None | Some h ↦ more_text (16 * g + h) (text_from Between cs) ]
 
 pub below_16 : (c : ℕ) → c % 16 < 16
 below_16 c = omega arith

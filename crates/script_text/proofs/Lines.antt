@@ -1,8 +1,8 @@
 -- Lines that are printed are the significant lines of their text, which is ASCII.
-use Rattle.script_text.proofs.Words.{◌≡◌, ◌∙◌, ℕ, zero, suc, ◌+◌, ◌/◌, ◌%◌, ◌≤◌, ◌<◌, List, [], ◌∷◌, ◌++◌, map, length, take, get_or, Bool, true, false, not, nat_lt, nat_le, ◌==◌, ◌&&◌, refl, ap, ⊎_elim, append_assoc, take_all, arith, IsUtf8, IsAscii, and_parts, and_from, ne_eqb, eq-eqb, eqb-true, cases_Bool, cond-false, agree_below_at, le-leb, lt-ltb, not-true, common_steps, slice_split_at, length-slice_split, AllPass-from_list_all, IsUtf8-from_ascii, IsUtf8-from_is_utf8, utf8_valid_len-IsUtf8, IsAscii-from_all, All, list_all, enumerate_from, is_utf8, valid_len_up_to, utf8_valid_len, is_empty, first_line_kept, text_char, hex_digit, joined, line, Word, Line, words, is_comment, is_newline, line_of, significant, significant_of, text_lines, all_joined, nat_tests, ltb-true}
+use Rattle.script_text.proofs.Words.{◌≡◌, ◌∙◌, ℕ, zero, suc, ◌+◌, ◌/◌, ◌%◌, ◌≤◌, ◌<◌, List, [], ◌∷◌, ◌++◌, map, length, take, get_or, Bool, true, false, not, nat_lt, nat_le, ◌==◌, ◌&&◌, refl, ap, ⊎_elim, append_assoc, take_all, arith, IsUtf8, IsAscii, and_parts, and_from, ne_eqb, eq-eqb, eqb-true, cases_Bool, cond-false, agree_below_at, lt-ltb, not-true, common_steps, slice_split_at, length-slice_split, AllPass-from_list_all, IsUtf8-from_ascii, IsUtf8-from_is_utf8, utf8_valid_len-IsUtf8, IsAscii-from_all, All, list_all, enumerate_from, is_utf8, valid_len_up_to, utf8_valid_len, is_empty, first_line_kept, text_char, hex_digit, joined, line, Word, Line, words, is_comment, is_newline, line_of, significant, significant_of, text_lines, all_joined, nat_tests, ltb-true}
 use Rattle.std.proofs.Common.{flat_map}
 use lib.Utf8.{scalar, scalars, encode, encodes, scalar_cases, next}
-use Rattle.script_text.proofs.Lexing.{spelling, is_graphic, is_byte, is_good, graphic_bounds, byte_bound, tail_of, joined_words, words_again, below_16}
+use Rattle.script_text.proofs.Lexing.{spelling, is_byte, is_good, byte_bound, tail_of, joined_words, words_again, below_16}
 use Rattle.script_text.proofs.Steps.{by_test}
 
 -- ---- what holds of each byte
@@ -24,9 +24,6 @@ is_printable c = nat_le 32 c && nat_le c 126
 
 printable_bounds : (c : ℕ) → is_printable c ≡ true → (32 ≤ c) × (c ≤ 126)
 printable_bounds c h = grind (arith, common_steps)
-
-printable : (c : ℕ) → 32 ≤ c → c ≤ 126 → is_printable c ≡ true
-printable c low high = and_from _ _ (le-leb 32 c low) (le-leb c 126 high)
 
 printable_hex : (d : ℕ) → d < 16 → is_printable (hex_digit d) ≡ true
 printable_hex d h = agree_below_at (λ x. is_printable (hex_digit x)) (λ x. true) 16 d refl h
@@ -168,12 +165,7 @@ last_byte c h = ⊎_elim (λ a. omega arith) (λ a. let high = a.1 in omega arit
 
 encode_bytes : (c : ℕ) → scalar c ≡ true → list_all is_byte (encode c) ≡ true
 unfolding encode
-encode_bytes c h =
-    let are = λ (w : List ℕ). list_all is_byte w ≡ true in
-    by_test are (nat_lt c 128) _ _ (λ a. let low = ltb-true c 128 a in and_from (is_byte c) true (byte c (omega arith)) refl)
-    (λ a. by_test are (nat_lt c 2048) _ _ (λ b. let low = ltb-true c 2048 b in two (192 + c / 64) c (omega arith))
-    (λ b. by_test are (nat_lt c 65536) _ _ (λ d. let low = ltb-true c 65536 d in three (224 + c / 4096) (c / 64) c (omega arith))
-    (λ d. and_from (is_byte (240 + c / 262144)) _ (byte (240 + c / 262144) (last_byte c h)) (three (next (c / 4096)) (c / 64) c (omega arith)))))
+encode_bytes c h = grind (arith, nat_tests, is_byte, by_test, nat_lt, ltb-true, and_from, byte, two, three, last_byte)
 
 encodes_bytes : (cs : List ℕ) → scalars cs ≡ true → list_all is_byte (encodes cs) ≡ true
 encodes_bytes [] h = refl

@@ -59,11 +59,7 @@ name_of_place n (d ∷ dims) k h = ⊎_elim
 all_given : {A B : Type 0} (f : A → Option B) (P : List A → List B → Type 0) → P [] [] → ((x : A) (y : B) (xs : List A) (ys : List B) → f x ≡ Some y → P xs ys → P (x ∷ xs) (y ∷ ys))
     → (xs : List A) (ys : List B) → all_some (map f xs) ≡ Some ys → P xs ys
 all_given f P none more [] ys h = let same : [] ≡ ys = cc in subst (P []) same none
-all_given {A} {B} f P none more (x ∷ xs) ys h = by (f x) refl h (λ zs e. all_given f P none more xs zs e)
-  where
-    by : (o : Option B) → f x ≡ o → all_some (o ∷ map f xs) ≡ Some ys → ((zs : List B) → all_some (map f xs) ≡ Some zs → P xs zs) → P (x ∷ xs) ys
-    by None e k rest = absurd (cc)
-    by (Some y) e k rest = let r = some_of_map (λ (zs : List B). y ∷ zs) (all_some (map f xs)) ys k in subst (P (x ∷ xs)) r.2 (more x y xs r.0 e (rest r.0 r.1))
+all_given {A} {B} f P none more (x ∷ xs) ys h = grind (arith, nat_tests, all_given f P none more xs, some_of_map)
 
 all_more_given : {A B : Type 0} (f : A → Option B) (x : A) (y : B) (xs : List A) (ys : List B) → f x ≡ Some y → all_some (map f xs) ≡ Some ys → all_some (map f (x ∷ xs)) ≡ Some (y ∷ ys)
 all_more_given {A} {B} f x y xs ys e h = ap (λ (o : Option B). all_some (o ∷ map f xs)) e ∙ ap (option_map (λ zs. y ∷ zs)) h

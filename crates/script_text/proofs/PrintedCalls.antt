@@ -100,10 +100,7 @@ post_same ranks r own k id n f g before vs low fresh hn hg hv =
     }
 
 new_id_read : (own : List Call) (ws : List Word) (i : ℕ × List Word) → list_all is_read ws ≡ true → new_id (posted own) ws ≡ Ok i → (i.0 < 2 ^ 32) × (is_posted i.0 (posted own) ≡ false) × (list_all is_read i.1 ≡ true)
-new_id_read own ws i read h =
-    step_then (reads_as id_of_text kind.BadNumber ws) _ i h (λ e is h. free_then _ _ _ i h (λ fresh h.
-    let id = read_word id_of_text kind.BadNumber ws e is in
-    subst (λ (x : ℕ × List Word). (x.0 < 2 ^ 32) × (is_posted x.0 (posted own) ≡ false) × (list_all is_read x.1 ≡ true)) (same_ok e i h) (id_bound id.0 e.0 id.1, fresh, kept is_read id_of_text kind.BadNumber ws e is read)))
+new_id_read own ws i read h = grind (arith, nat_tests, step_then, free_then, read_word, same_ok, id_bound, kept)
 
 post_read : (ranks r : ℕ) (own : List Call) (k : PostKind) (f : Form) (before : ℕ) (ws : List Word) (c : Call)
     → before ≤ most_values → list_all is_read ws ≡ true → post_call k (posted own) f before ws ≡ Ok c → CallRead ranks r own before c

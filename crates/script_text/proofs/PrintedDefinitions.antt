@@ -1,5 +1,5 @@
 -- Hints, dimensions and variables that are printed are read again.
-use Rattle.script_text.proofs.Words.{◌≡◌, ◌⊎◌, ◌∙◌, ℕ, zero, suc, ◌%◌, ◌^◌, ◌<◌, List, [], ◌∷◌, length, Bool, true, false, not, cond, nat_le, ◌==◌, ◌&&◌, ◌||◌, Option, Some, None, is_some, slice_get, slice_set, unwrap_or, Ok, refl, sym, ap, subst, ⊎_elim, arith, bytes_eq, codes, decimal, list_all, list_any, and_parts, and_from, cond-true, cond-false, NcType, Dim, most_dims, most_vars, record_limit, type_word, bracketed, Word, Plain, is_name, size_of_text, between_brackets, parts, refuse_if, reads_as, name, HintForm, Within, Either, HintRow, hint_table, hint_of_text, hint_form, hint_in, no_row, number_within, one_of_two, hint_value, hint_line, ranks_line, type_of, is_among, length_of_text, is_unlimited, dim_names, dim_line, var_head, name_list, size_read, nat_tests}
+use Rattle.script_text.proofs.Words.{◌≡◌, ◌⊎◌, ◌∙◌, ℕ, zero, suc, ◌%◌, ◌^◌, ◌<◌, List, [], ◌∷◌, length, Bool, true, false, not, cond, nat_le, ◌==◌, ◌&&◌, ◌||◌, Option, Some, None, is_some, slice_get, slice_set, unwrap_or, Ok, refl, sym, ap, subst, ⊎_elim, arith, bytes_eq, codes, decimal, list_all, list_any, and_parts, and_from, cond-true, cond-false, NcType, Dim, most_dims, most_vars, record_limit, type_word, bracketed, Word, Plain, is_name, size_of_text, between_brackets, parts, reads_as, name, HintForm, Within, Either, HintRow, hint_table, hint_of_text, hint_form, hint_in, no_row, number_within, one_of_two, hint_value, hint_line, ranks_line, type_of, is_among, length_of_text, is_unlimited, dim_names, dim_line, var_head, name_list, size_read, nat_tests}
 use borrow.Author.Tests.{leb-true, not-false}
 use Rattle.nc_base.specs.declared.errors.ScriptKind.TheVariants as kind
 use Rattle.nc_base.specs.declared.errors.LimitName.TheVariants as limit
@@ -124,17 +124,7 @@ pub record DimAgain (version : ℕ) (dims : List Dim) (d : Dim) : Type 0 where
 
 pub dim_told : (version : ℕ) (dims : List Dim) (n : List ℕ) (len : ℕ) → is_name n ≡ true → is_among n (dim_names dims) ≡ false → nat_le most_dims (length dims) ≡ false → LengthAgain version len
     → (len == 0 && list_any is_unlimited dims) ≡ false → DimAgain version dims (record { name = n; len = len })
-dim_told version dims n len named fresh room hl one =
-    let rest = Plain (length_word len) ∷ [] in
-    let x : Dim = record { name = n; len = len } in
-    record {
-      good = and_from _ _ (name_plain n named) (and_from _ _ hl.plain refl);
-      again = go_on (name (Plain n ∷ rest)) _ (n, rest) x (name_again n rest named)
-          (go_on (refuse_if (is_among n (dim_names dims)) kind.TwiceNamed) _ tt x (passed _ _ fresh)
-          (go_on (refuse_if (nat_le most_dims (length dims)) (kind.Limit limit.Dims)) _ tt x (passed _ _ room)
-          (go_on (reads_as (length_of_text version) kind.BadNumber rest) _ (len, []) x (word_read (length_of_text version) kind.BadNumber (length_word len) len [] hl.again)
-          (go_on (refuse_if (len == 0 && list_any is_unlimited dims) kind.BadShape) _ tt x (passed _ _ one) refl))));
-    }
+dim_told version dims n len named fresh room hl one = grind (arith, nat_tests, and_from, name_plain, go_on, name_again, passed, nat_le, word_read)
 
 pub dim_read : (version : ℕ) (dims : List Dim) (ws : List Word) (d : Dim) → dim_line version dims ws ≡ Ok d → DimAgain version dims d
 dim_read version dims ws d h =

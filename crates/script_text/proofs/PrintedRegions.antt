@@ -1,5 +1,5 @@
 -- Names, regions, ids and choices that are printed are read again.
-use Rattle.script_text.proofs.Words.{◌≡◌, ◌∙◌, ℕ, zero, suc, ◌+◌, ◌^◌, ◌≤◌, ◌<◌, List, [], ◌∷◌, ◌++◌, map, length, Bool, true, false, not, nat_lt, nat_le, ◌==◌, ◌&&◌, Option, Some, Result, Ok, refl, sym, ap, subst, append_assoc, append-nil, length-append, arith, bytes_eq, codes, decimal, list_all, and_parts, and_from, cond-true, ne_eqb, faultless_some, ScriptKind, Form, Given, Part, Choice, Every, Listed, most_parts, has_lists_of, has_its_lists, is_given, is_empty, size_list, part_words, form_words, choice_words, Word, Plain, is_word, is_name, size_of_text, list_of_text, ◌>>=◌, refuse_if, reads_as, size, list, name, name_of_text, given_of, given_parts, part, part_list, region, id_of_text, one_id, ids, choice, is_id, is_expressible_choice, all_joined, nat_tests, cond_some}
+use Rattle.script_text.proofs.Words.{◌≡◌, ◌∙◌, ℕ, zero, suc, ◌+◌, ◌^◌, ◌≤◌, ◌<◌, List, [], ◌∷◌, ◌++◌, map, length, Bool, true, false, not, nat_lt, nat_le, ◌==◌, ◌&&◌, Option, Some, Result, Ok, refl, sym, ap, subst, append_assoc, append-nil, length-append, arith, bytes_eq, codes, decimal, list_all, and_parts, and_from, cond-true, ne_eqb, faultless_some, ScriptKind, Form, Given, Part, Choice, Every, Listed, most_parts, has_lists_of, has_its_lists, is_given, is_empty, size_list, part_words, form_words, choice_words, Word, Plain, is_word, is_name, size_of_text, list_of_text, ◌>>=◌, reads_as, size, list, name, name_of_text, given_of, given_parts, part, part_list, region, id_of_text, one_id, ids, choice, is_id, is_expressible_choice, all_joined, nat_tests, cond_some}
 use Rattle.std.proofs.Common.{flat_map}
 use borrow.Author.Tests.{ltb-true, ltb-false, lt-ltb, le-ltb, leb-true}
 use Rattle.nc_base.specs.declared.errors.ScriptKind.TheVariants as kind
@@ -131,16 +131,7 @@ varm_again : (s c d m : List ℕ) → are_sizes s ≡ true → are_sizes c ≡ t
 varm_again s c d m hs hc hd hm = grind (arith, nat_tests, and_from, list_plain, go_on, list_word)
 
 varn_again : (ps : List Part) → list_all is_part ps ≡ true → (length ps == 0) ≡ false → nat_lt most_parts (length ps) ≡ false → RegionAgain form.Varn (given_parts ps)
-varn_again ps h some few =
-    let low : length ps < 2 ^ 63 = let b = ltb-false most_parts (length ps) few in omega arith in
-    record {
-      same_form = refl;
-      good = and_from _ _ (size_plain (length ps) low) (parts_good ps h);
-      again = λ more. go_on (size (Plain (decimal (length ps)) ∷ (flat_map part_tokens ps ++ more))) _ (length ps, flat_map part_tokens ps ++ more) _ (size_word (length ps) _ low)
-          (go_on (refuse_if (length ps == 0) kind.BadNumber) _ tt _ (passed _ _ some)
-          (go_on (refuse_if (nat_lt most_parts (length ps)) (kind.Limit limit.Parts)) _ tt _ (passed _ _ few)
-          (go_on (part_list (length ps) [] (flat_map part_tokens ps ++ more)) _ (ps, more) _ (parts_again ps [] more h) refl)));
-    }
+varn_again ps h some few = grind (arith, nat_tests, ltb-false, and_from, size_plain, parts_good, go_on, decimal, flat_map, size_word, passed, nat_lt, parts_again)
 
 given : {x y : Given × List Word} (f : Form) → x ≡ y → RegionAgain f x.0 → RegionAgain f y.0
 given f e h = subst (λ (z : Given × List Word). RegionAgain f z.0) e h
@@ -182,11 +173,7 @@ pub same_region : (f : Form) (s c d m s2 c2 d2 m2 : List ℕ) (ps ps2 : List Par
 same_region f s c d m s2 c2 d2 m2 ps ps2 e1 e2 e3 e4 e5 = cc
 
 no_lists : (c d m : List ℕ) (ps : List Part) → (is_empty c && is_empty d && is_empty m && is_empty ps) ≡ true → (c ≡ []) × (d ≡ []) × (m ≡ []) × (ps ≡ [])
-no_lists c d m ps h =
-    let a = and_parts (is_empty c && is_empty d && is_empty m) (is_empty ps) h in
-    let b = and_parts (is_empty c && is_empty d) (is_empty m) a.0 in
-    let e = and_parts (is_empty c) (is_empty d) b.0 in
-    (empty_list c e.0, empty_list d e.1, empty_list m b.1, empty_list ps a.1)
+no_lists c d m ps h = grind (arith, nat_tests, and_parts, empty_list)
 
 region_by : (f : Form) (s c d m : List ℕ) (ps : List Part) → has_lists_of f (region_with f s c d m ps) ≡ true → are_sizes s ≡ true → are_sizes c ≡ true → are_sizes d ≡ true → are_sizes m ≡ true → list_all is_part ps ≡ true
     → length ps ≤ most_parts → RegionAgain f (region_with f s c d m ps)

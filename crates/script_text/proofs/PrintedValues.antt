@@ -91,8 +91,7 @@ each_again f test p each t before (x ∷ xs) found h r =
 -- one number, one pattern
 
 fit_from : {A : Type 0} (o : Option A) (may low : A → Bool) (x : A) → ((y : A) → o ≡ Some y → low y ≡ true) → elim o as (λ t. Option A) [ None ↦ None | Some y ↦ cond (may y) (Some y) None ] ≡ Some x → (low x && may x) ≡ true
-fit_from o may low x each h =
-    looked o _ _ _ h (λ e k. absurd (cc)) (λ y e k. let c = cond_some (may y) y x k in subst (λ z. (low z && may z) ≡ true) c.1 (and_from (low y) (may y) (each y e) c.0))
+fit_from o may low x each h = grind (arith, nat_tests, looked, cond_some, and_from)
 
 pub number_fit : (t : Option NcType) (w : List ℕ) (z : ℤ) → number_for t w ≡ Some z → is_fit_number t z ≡ true
 number_fit t w z h = fit_from (number_of_text w) (λ y. may_have t (value.Number y)) (λ y. nat_lt (unsigned_abs y) (10 ^ 20)) z (λ y e. lt-ltb (unsigned_abs y) (10 ^ 20) (number_bound w y e)) h

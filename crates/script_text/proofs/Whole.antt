@@ -1,5 +1,5 @@
 -- A whole script: what is printed of what was read is read as the same script.
-use Rattle.script_text.proofs.Words.{◌≡◌, ◌∙◌, ℕ, zero, suc, ◌+◌, ◌%◌, ◌^◌, ◌≤◌, ◌<◌, List, [], ◌∷◌, ◌++◌, map, replicate, length, Bool, true, false, not, cond, nat_lt, nat_le, ◌==◌, ◌&&◌, Option, Some, None, Result, Ok, Err, refl, sym, ap, subst, arith, codes, decimal, list_all, utf8_valid_len, and_parts, and_from, or_cases, cond-true, ne_eqb, eqb-true, finished, ScriptKind, ScriptErr, Hints, Extra, Script, Call, is_version, kinds, most_values, shown, Word, Plain, Line, text_lines, significant, ◌>>=◌, whole, Within, hints_of, Defined, no_definition, Added, nothing_added, Known, nothing_known, ranks_line, Called, mismatch, at_line, version_of_text, head, definitions, data_part, finish, script_of, no_calls, script_of_lines, most_bytes, most_lines, within_lines, Reads, length-map, all_joined, nat_tests, length-replicate}
+use Rattle.script_text.proofs.Words.{◌≡◌, ◌∙◌, ℕ, zero, suc, ◌+◌, ◌%◌, ◌^◌, ◌≤◌, ◌<◌, List, [], ◌∷◌, ◌++◌, map, replicate, length, Bool, true, false, cond, nat_lt, nat_le, ◌==◌, ◌&&◌, Option, Some, None, Result, Ok, Err, refl, sym, ap, subst, arith, codes, decimal, list_all, utf8_valid_len, and_parts, and_from, or_cases, cond-true, ne_eqb, eqb-true, finished, ScriptKind, ScriptErr, Hints, Extra, Script, Call, is_version, kinds, most_values, shown, Word, Plain, Line, text_lines, significant, ◌>>=◌, whole, Within, hints_of, Defined, no_definition, Added, nothing_added, Known, nothing_known, ranks_line, Called, mismatch, at_line, version_of_text, head, definitions, data_part, finish, script_of, no_calls, script_of_lines, most_bytes, most_lines, Reads, length-map, all_joined, nat_tests, length-replicate}
 use Rattle.std.proofs.Common.{flat_map}
 use borrow.Author.Tests.{leb-true, le-ltb, ltb-false}
 use Rattle.nc_base.specs.declared.errors.ScriptKind.TheVariants as kind
