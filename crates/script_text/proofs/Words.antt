@@ -1,6 +1,6 @@
 -- The words of this crate's proofs, from where they stand.
 pub use Rattle.std.proofs.Common.{Bool, Err, IsAscii, IsUtf8, List, None, Ok, Option, Result, Some, [], ap, append-nil, append_assoc, arith, bytes_eq, codes, cond, decimal, drop, false, find, fold, get_or, inl, inr, is_some, length, length-append, map, min, nat_le, nat_lt, neg_ℤ, negsuc, not, option_and_then, option_map, pos, position, refl, replicate, slice_get, slice_set, subst, suc, sum, sym, take, take_all, true, unsigned_abs, unwrap_or, zero, ℕ, ℤ, ⊎_elim, ◌%◌, ◌&&◌, ◌*ℤ◌, ◌*◌, ◌++◌, ◌+ℤ◌, ◌+◌, ◌-◌, ◌/◌, ◌<◌, ◌==◌, ◌^◌, ◌||◌, ◌∙◌, ◌∷◌, ◌≡◌, ◌≤◌, ◌⊎◌, IfOk}
-pub use Rattle.std.proofs.lemmas.Bool.{agree_below_at, and_from, and_left, and_parts, and_right, cases_Bool, cases_lt, cond-false, cond-true, eq-eqb, eqb-true, le-leb, le-ltb, leb-true, lt-leb, lt-ltb, ltb-true, ne_eqb, not-true, or_cases, or_from, or_left, or_parts, or_right}
+pub use Rattle.std.proofs.lemmas.Bool.{agree_below_at, and_from, and_left, and_parts, and_right, cases_Bool, cond-false, cond-true, eq-eqb, eqb-true, le-leb, le-ltb, leb-true, lt-leb, lt-ltb, ltb-true, ne_eqb, not-true, or_cases, or_from, or_left, or_parts, or_right}
 pub use Rattle.std.proofs.lemmas.Bool.Decides.{nat_tests}
 pub use Rattle.std.proofs.lemmas.Fmt.{decimal_by_steps_wide, length-decimal-le_wide, decimal_nonempty}
 pub use Rattle.std.proofs.lemmas.Grind.{common_steps}
@@ -60,25 +60,24 @@ pub use Rattle.script_spec.proofs.NumeralLaws.{digit_bounds, natural_small, no_s
 pub use Rattle.script_spec.proofs.TextLaws.{faultless_some, finished, first_line_kept, more_words}
 pub use Rattle.script_spec.specs.CallTable.{Behind, CallRow, Family, Name, Nothing, Record, Requests, Size, in_row, of_behind, row_of_text}
 pub use Rattle.script_spec.specs.HintTable.{Either, HintForm, HintRow, Within, flag, hint_form, hint_in, hint_of_text, hint_table, hints_of, no_row, none_given, off_or_on, refuse_or_serial, rule_number, rule_of, shown_value}
-pub use Rattle.script_spec.specs.ScriptCalls.{Called, after_prefix, behind, call_line, call_of, called_after, calls_of, choice, differs_at, form_and_all, form_of_text, get_call, given_of, given_parts, id_of_text, ids, is_difference, is_posted, kind_at, mismatch, new_id, one_id, part, part_list, plain_call, post_call, post_of_text, post_values, posted, put_call, rank_of_text, region, row_call, with_call}
-pub use Rattle.script_spec.specs.ScriptDefinitions.{Added, Defined, Known, Title, added_shape, addition, att_addition, att_line, attr_of, attribute, attribute_name, definition, definition_or_addition, dim_addition, dim_definition, dim_ids, dim_line, dim_names, external_bytes, fill_line, hint_line, hint_value, is_added_record, is_among, is_record_dim, is_unlimited, known_after, length_of_text, name_list, no_definition, nothing_added, nothing_known, number_within, one_of_two, owner_name, owner_of_text, owner_place, ranks_line, same_title, shape, type_of, var_addition, var_definition, var_head, var_line, var_names, with_attr_at, with_attr_of_owner, with_dim, with_title, with_var}
-pub use Rattle.script_spec.specs.ScriptGrammar.{Reads, at_line, call_step, data_line, data_part, definition_step, definitions, finish, head, header_of, is_mismatch, most_bytes, most_lines, newlines, no_calls, script_of, script_of_lines, script_of_utf8, too_many_lines, version_line, version_of_text, within_lines}
+pub use Rattle.script_spec.specs.ScriptCalls.{Called, after_prefix, behind, call_line, call_of, called_after, calls_of, choice, differs_at, form_and_all, form_of_text, get_call, given_of, given_parts, id_of_text, ids, is_difference, is_posted, kind_at, mismatch, new_id, one_id, part, part_list, plain_call, post_call, post_of_text, post_values, posted, put_call, rank_of_text, region, with_call}
+pub use Rattle.script_spec.specs.ScriptDefinitions.{Added, Defined, Known, Title, added_shape, addition, att_addition, att_line, attr_of, attribute, attribute_name, definition, dim_addition, dim_definition, dim_ids, dim_line, dim_names, external_bytes, fill_line, hint_line, hint_value, is_added_record, is_among, is_record_dim, is_unlimited, known_after, length_of_text, name_list, no_definition, nothing_added, nothing_known, number_within, one_of_two, owner_name, owner_of_text, owner_place, ranks_line, same_title, shape, type_of, var_addition, var_definition, var_head, var_line, var_names, with_attr_at, with_attr_of_owner, with_dim, with_title, with_var}
+pub use Rattle.script_spec.specs.ScriptGrammar.{Reads, at_line, call_step, data_line, data_part, definition_step, definitions, finish, head, header_of, most_bytes, most_lines, no_calls, script_of, script_of_lines, version_of_text}
 pub use Rattle.script_spec.specs.ScriptSteps.{bare, ended, list, name, name_of_text, next, or_fault, reads_as, refuse_if, size, whole, ◌>>=◌}
-pub use Rattle.script_spec.specs.ScriptValues.{are_numbers, are_patterns, are_text, begins_x, bits_values, each_value, is_pattern_term, is_term, last_number, last_pattern, listed_kind, listed_values, may_be, may_have, number_for, number_values, numbers_between, one_value, pattern_for, pattern_sequence, pattern_term, pattern_values, patterns_between, seq_values, sequence, sequence_count, seqx_values, term, text_values, values, within_limits, wrong_kind}
-pub use Rattle.script_spec.specs.ScriptWords.{AfterBackslash, Between, Broken, FirstHex, Line, Plain, Quoted, SecondHex, TextState, Word, after_blanks, all_some, begins_blank, begins_rank, below, between_brackets, bits_of_text, digits_value, escape, first_word, hex_sum, hex_value, in_name, is_blank, is_comma, is_comment, is_digit, is_digits, is_name, is_newline, is_word, line_of, list_of_text, natural_of, number_of_text, parts, quoted_word, significant, significant_of, size_of_text, starts_name, text_from, text_lines, without_empty_end, words, words_within}
+pub use Rattle.script_spec.specs.ScriptValues.{are_numbers, are_patterns, are_text, begins_x, bits_values, each_value, is_pattern_term, is_term, last_number, last_pattern, listed_kind, listed_values, may_be, may_have, number_for, number_values, numbers_between, one_value, pattern_for, pattern_sequence, pattern_term, pattern_values, patterns_between, seq_values, sequence, sequence_count, seqx_values, term, text_values, values, within_limits}
+pub use Rattle.script_spec.specs.ScriptWords.{AfterBackslash, Between, Broken, FirstHex, Line, Plain, Quoted, SecondHex, TextState, Word, after_blanks, all_some, begins_blank, below, between_brackets, bits_of_text, digits_value, escape, first_word, hex_sum, hex_value, in_name, is_blank, is_comma, is_comment, is_digit, is_digits, is_name, is_newline, is_word, line_of, list_of_text, natural_of, number_of_text, parts, quoted_word, significant, significant_of, size_of_text, starts_name, text_from, text_lines, without_empty_end, words, words_within}
 pub use Rattle.script_spec.specs.Shown.{attr_values, bracketed, call_words, choice_words, form_words, part_words, pieces, region_words, shown, shown_attr, shown_call, shown_definitions, shown_dim, shown_extra, shown_hint, shown_hints, shown_values, shown_var, size_list, words_behind}
 pub use Rattle.script_spec.specs.Texts.{call_word, dim_name, form_word, hex, hex_digit, joined, kind_word, line, quoted, text_char, type_word, with_all}
 pub use Rattle.script_text.specs.CanonicalParts.{value_word}
 pub use Rattle.script_text.specs.Expressible.{are_expressible_dims, are_expressible_values, are_expressible_vars, is_expressible, is_expressible_behind, is_expressible_call, is_expressible_choice, is_expressible_header, is_expressible_var, is_id, is_new_name, printed_lines}
 pub use Rattle.serial_spec.proofs.ValueLaws.{ext_long, val-ext}
-pub use Rattle.serial_spec.specs.ExternalForm.{Class, Pattern, Signed, Unsigned, class_of, ext, fits, fits_in, size_of, types, val, width_of}
+pub use Rattle.serial_spec.specs.ExternalForm.{Class, Pattern, Signed, Unsigned, class_of, ext, fits, size_of, types, val}
 pub use Rattle.serial_spec.specs.HeaderBytes.{is_version, last_type, number_of}
 pub use Rattle.serial_spec.specs.History.{kind_number, kinds}
-pub use Rattle.serial_spec.specs.Lawful.{added_dims, added_vars, agree, are_different, are_lawful_hints, are_values, has_its_lists, has_lists_of, id_posted, is_alignment, is_given, is_lawful, is_lawful_call, is_lawful_dim, is_lawful_extra, is_lawful_header, is_lawful_var, is_nothing, is_number, is_post_of, is_whole_attr, is_whole_extra, is_within, kind_numbers, most_calls, most_parts, most_ranks, most_values, posted_ids, values_in_call, values_in_script, has_whole_attrs}
+pub use Rattle.serial_spec.specs.Lawful.{added_dims, added_vars, agree, are_different, are_lawful_hints, are_values, has_its_lists, has_lists_of, is_alignment, is_given, is_lawful, is_lawful_call, is_lawful_dim, is_lawful_extra, is_lawful_header, is_lawful_var, is_nothing, is_post_of, is_whole_attr, is_whole_extra, is_within, kind_numbers, most_calls, most_parts, most_ranks, most_values, posted_ids, values_in_call, values_in_script, has_whole_attrs}
 pub use Rattle.serial_spec.specs.Limits.{most_dims, most_dims_of_var, most_elements, most_vars, record_limit}
 pub use Rattle.serial_spec.specs.Lists.{is_empty}
 pub use Rattle.serial_spec.specs.Request.{code_in, gathered, number_in}
-pub use Rattle.type_external.proofs.PatternLaws.{bits_in}
 unfoldable pub use Rattle.std.specs.Fmt.{digits}
 pub use Rattle.std.specs.Prelude.{◌<ℤ◌}
 pub use Rattle.generated_run.proofs.CallLaws.{rank_is, record_is}
