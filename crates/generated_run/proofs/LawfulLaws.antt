@@ -1,5 +1,5 @@
 -- The made script is lawful.
-use Rattle.generated_run.proofs.Words.{◌≡◌, ℕ, ◌≤◌, List, [], length, map, sum, true, refl, sym, subst, ◌∙◌, le-leb, bytes_eq, arith, enumerate_from, list_all, range_with_len, bytes_eq-Decides, and_from, Call, agree, are_different, is_lawful, is_lawful_call, kind_numbers, most_calls, most_values, posted_ids, values_in_call, values_in_script, has_counts, is_counted, made_header, made_script, calls_of_rank}
+use Rattle.generated_run.proofs.Words.{◌≡◌, ℕ, ◌≤◌, List, [], length, map, sum, true, refl, subst, le-leb, bytes_eq, arith, enumerate_from, list_all, range_with_len, bytes_eq-Decides, and_from, Call, agree, are_different, is_lawful, is_lawful_call, most_calls, most_values, posted_ids, values_in_script, has_counts, is_counted, made_header, made_script, calls_of_rank, nat_tests}
 use Rattle.nc_base.specs.declared.script.Script as script_type
 use Rattle.generated_run.proofs.MadeLaws.{scripted, script_is}
 use Rattle.generated_run.proofs.Ranges.{numbered_pass, range_passes, sum_within}
@@ -9,13 +9,8 @@ use Rattle.generated_run.proofs.RankLaws.{rank_counted, rank_ids, rank_kinds, ra
 abbrev calls_of : ℕ → ℕ → ℕ → ℕ → List (List Call)
 calls_of seed size a n = map (λ r. calls_of_rank seed size r) (range_with_len a n)
 
-same_kinds : (seed size a b : ℕ) → bytes_eq (kind_numbers (calls_of_rank seed size a)) (kind_numbers (calls_of_rank seed size b)) ≡ true
-same_kinds seed size a b =
-    (bytes_eq-Decides (kind_numbers (calls_of_rank seed size a)) (kind_numbers (calls_of_rank seed size b))).1 (rank_kinds seed size a ∙ sym (rank_kinds seed size b))
-
 agreed : (seed size : ℕ) → agree (calls_of seed size 0 8) ≡ true
-agreed seed size =
-    range_passes (λ (own : List Call). bytes_eq (kind_numbers own) (kind_numbers (calls_of_rank seed size 0))) (λ r. calls_of_rank seed size r) 1 7 (λ r b. same_kinds seed size r 0)
+agreed seed size = grind (arith, nat_tests, range_passes, bytes_eq, bytes_eq-Decides, rank_kinds)
 
 lawful_calls : (seed size : ℕ) → size ≤ 64 → list_all (λ own. list_all (λ c. is_lawful_call 8 own.0 c) own.1) (enumerate_from 0 (calls_of seed size 0 8)) ≡ true
 lawful_calls seed size s =
@@ -25,15 +20,11 @@ different_ids : (seed size : ℕ) → list_all (λ own. are_different (posted_id
 different_ids seed size = range_passes (λ (own : List Call). are_different (posted_ids own)) (λ r. calls_of_rank seed size r) 0 8 (λ r b. rank_ids seed size r)
 
 few_calls : (seed size : ℕ) → size ≤ 64 → sum (map (λ own. length own) (calls_of seed size 0 8)) ≤ most_calls
-few_calls seed size s =
-    let few = sum_within (λ (own : List Call). length own) (λ r. calls_of_rank seed size r) 196 0 8 (λ r b. omega (arith, rank_long seed size r)) in
-    omega (arith, few)
+few_calls seed size s = grind (arith, nat_tests, sum_within, rank_long)
 
 few_values : (seed size : ℕ) → size ≤ 64 → values_in_script (scripted made_header [] (calls_of seed size 0 8)) ≤ most_values
 unfolding scripted
-few_values seed size s =
-    let few = sum_within (λ (own : List Call). sum (map values_in_call own)) (λ r. calls_of_rank seed size r) 1059840 0 8 (λ r b. rank_values seed size r s (omega arith)) in
-    omega (arith, few)
+few_values seed size s = grind (arith, nat_tests, sum_within, sum, rank_values)
 
 lawful : (seed size : ℕ) → size ≤ 64 → is_lawful (scripted made_header [] (calls_of seed size 0 8)) ≡ true
 unfolding scripted

@@ -1,5 +1,5 @@
 -- The made script.
-use Rattle.generated_run.proofs.Words.{◌≡◌, ℕ, List, [], map, None, true, false, refl, ap, ◌∙◌, range_with_len, Call, Extra, canon, layout_fault, default_hints, made_calls, made_header, made_script, calls_of_rank}
+use Rattle.generated_run.proofs.Words.{◌≡◌, ℕ, List, [], map, None, true, false, refl, range_with_len, Call, Extra, canon, layout_fault, default_hints, made_calls, made_header, made_script, calls_of_rank, arith, nat_tests}
 use Rattle.nc_base.specs.declared.header.Header as head
 use Rattle.nc_base.specs.declared.script.Script as script_type
 
@@ -14,10 +14,7 @@ pub script_is : (seed size : ℕ) (header : head.Header) (extra : List Extra) (c
     → calls ≡ map (λ r. calls_of_rank seed size r) (range_with_len 0 8)
     → ◌≡◌ {A = script_type.Script} (record { fresh = true; header = header; ranks = 8; hints = default_hints; filled = false; extra = extra; calls = calls }) (made_script seed size)
 unfolding scripted
-script_is seed size header extra calls h x c =
-    ap (λ (y : head.Header). scripted y extra calls) h
-    ∙ ap (λ (y : List Extra). scripted made_header y calls) x
-    ∙ ap (λ (y : List (List Call)). scripted made_header [] y) (c ∙ all_calls_are seed size 8)
+script_is seed size header extra calls h x c = grind (arith, nat_tests, all_calls_are seed size 8)
 
 -- its variables get places
 pub made_laid : layout_fault made_header (record { header = 4; var = 4 }) ≡ None

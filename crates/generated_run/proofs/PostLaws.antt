@@ -1,5 +1,5 @@
 -- The regions that a rank posts.
-use Rattle.generated_run.proofs.Words.{◌≡◌, ℕ, List, [], ◌∷◌, Bool, true, false, cond, Option, Some, None, ◌==◌, refl, ap, ◌∙◌, sym, option_map, option_copied, Bor, Call, Given, elements_given, posted_elements, posted_given}
+use Rattle.generated_run.proofs.Words.{◌≡◌, ℕ, List, [], ◌∷◌, Bool, cond, Option, Some, None, ◌==◌, refl, option_map, option_copied, Bor, Call, Given, elements_given, posted_elements, posted_given, arith, nat_tests}
 use Rattle.nc_base.specs.declared.request.Call.TheVariants as call
 
 -- of the region that was found, if any
@@ -9,8 +9,7 @@ elements_of (Some g) = elements_given g
 
 by_test : (b : Bool) (g : Given) (calls : List Call) (id : ℕ) → posted_elements calls id ≡ elements_of (posted_given calls id)
     → cond b (elements_given g) (posted_elements calls id) ≡ elements_of (cond b (Some g) (posted_given calls id))
-by_test true g calls id e = refl
-by_test false g calls id e = e
+by_test b g calls id e = grind (arith, nat_tests)
 
 posted_are : (calls : List Call) (id : ℕ) → posted_elements calls id ≡ elements_of (posted_given calls id)
 posted_are [] id = refl
@@ -19,5 +18,4 @@ posted_are (_ ∷ calls) id = posted_are calls id
 
 pub found_are : (calls : List Call) (id : ℕ) (found : Option (Bor (Bor Given))) (kept : Option (Bor Given)) → option_copied found ≡ kept → option_map (λ (g : Bor Given). g.now) kept ≡ posted_given calls id
     → elements_of (option_map (λ (g : Bor Given). g.now) (option_copied found)) ≡ posted_elements calls id
-found_are calls id found kept e f =
-    ap (λ (o : Option (Bor Given)). elements_of (option_map (λ (g : Bor Given). g.now) o)) e ∙ ap (λ (o : Option Given). elements_of o) f ∙ sym (posted_are calls id)
+found_are calls id found kept e f = grind (arith, nat_tests, posted_are)

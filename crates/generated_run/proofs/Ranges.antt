@@ -1,48 +1,27 @@
 -- Lists made number by number.
-use Rattle.generated_run.proofs.Words.{◌≡◌, ℕ, zero, suc, ◌+◌, ◌*◌, ◌<◌, ◌≤◌, List, [], ◌∷◌, ◌++◌, map, sum, Bool, true, false, ◌==◌, refl, sym, ap, ◌∙◌, append_assoc, arith, enumerate_from, flat_map, list_all, list_any, range_with_len, ne_eqb, and_from, not_from_false, or_from, append-nil, flat_map-append, list_all-append, map-range_with_len_more, are_different, sum_cons}
+use Rattle.generated_run.proofs.Words.{◌≡◌, ℕ, zero, suc, ◌+◌, ◌*◌, ◌<◌, ◌≤◌, List, [], ◌∷◌, ◌++◌, map, sum, Bool, true, false, ◌==◌, refl, ap, ◌∙◌, append_assoc, arith, enumerate_from, flat_map, list_all, list_any, range_with_len, ne_eqb, and_from, not_from_false, or_from, append-nil, flat_map-append, list_all-append, map-range_with_len_more, are_different, sum_cons, nat_tests}
 
 -- one item more
 pub next_item : {A : Type 0} (f : ℕ → A) (front now next : List A) (n : ℕ) (x : A)
     → now ≡ front ++ map f (range_with_len 0 n) → x ≡ f n → next ≡ now ++ x ∷ [] → next ≡ front ++ map f (range_with_len 0 (n + 1))
-next_item {A} f front now next n x so_far here pushed =
-    pushed
-    ∙ ap (λ (t : List A). t ++ x ∷ []) so_far
-    ∙ append_assoc front (map f (range_with_len 0 n)) (x ∷ [])
-    ∙ ap (λ (y : A). front ++ (map f (range_with_len 0 n) ++ y ∷ [])) here
-    ∙ ap (λ (t : List A). front ++ t) (sym (map-range_with_len_more f 0 n n (omega arith)))
+next_item {A} f front now next n x so_far here pushed = grind (arith, nat_tests, append_assoc, map-range_with_len_more)
 
 range_more : (a n : ℕ) → range_with_len a (n + 1) ≡ range_with_len a n ++ (a + n) ∷ []
 range_more a n = grow n a
   where
     grow : (n a : ℕ) → range_with_len a (n + 1) ≡ range_with_len a n ++ (a + n) ∷ []
     grow zero a = ap (λ (k : ℕ). k ∷ []) (omega arith)
-    grow (suc n) a =
-        let same : suc n + 1 ≡ suc (n + 1) = omega arith in
-        let last : a + 1 + n ≡ a + suc n = omega arith in
-        ap (λ (k : ℕ). range_with_len a k) same
-        ∙ ap (λ (t : List ℕ). a ∷ t) (grow n (a + 1))
-        ∙ ap (λ (k : ℕ). a ∷ (range_with_len (a + 1) n ++ k ∷ [])) last
+    grow (suc n) a = grind (arith, nat_tests, grow n (a + 1))
 
 -- one piece more
 pub next_piece : {A : Type 0} (f : ℕ → List A) (front now next : List A) (a n m j : ℕ) → a + n ≡ j → m ≡ n + 1
     → now ≡ front ++ flat_map f (range_with_len a n) → next ≡ now ++ f j → next ≡ front ++ flat_map f (range_with_len a m)
-next_piece {A} f front now next a n m j here one so_far pushed =
-    pushed
-    ∙ ap (λ (t : List A). t ++ f j) so_far
-    ∙ append_assoc front (flat_map f (range_with_len a n)) (f j)
-    ∙ ap (λ (k : ℕ). front ++ (flat_map f (range_with_len a n) ++ f k)) (sym here)
-    ∙ ap (λ (t : List A). front ++ (flat_map f (range_with_len a n) ++ t)) (sym (append-nil (f (a + n))))
-    ∙ ap (λ (t : List A). front ++ t) (sym (flat_map-append f (range_with_len a n) ((a + n) ∷ [])))
-    ∙ ap (λ (t : List ℕ). front ++ flat_map f t) (sym (range_more a n))
-    ∙ ap (λ (k : ℕ). front ++ flat_map f (range_with_len a k)) (sym one)
+next_piece {A} f front now next a n m j here one so_far pushed = grind (arith, nat_tests, append_assoc, append-nil, flat_map-append, range_more)
 
 -- all pieces
 pub all_pieces : {A : Type 0} (f : ℕ → List A) (front now : List A) (a b n m : ℕ) → a ≡ b → n ≡ m
     → now ≡ front ++ flat_map f (range_with_len a n) → now ≡ front ++ flat_map f (range_with_len b m)
-all_pieces {A} f front now a b n m from many so_far =
-    so_far
-    ∙ ap (λ (k : ℕ). front ++ flat_map f (range_with_len k n)) from
-    ∙ ap (λ (k : ℕ). front ++ flat_map f (range_with_len b k)) many
+all_pieces {A} f front now a b n m from many so_far = grind (arith, nat_tests)
 
 -- ---- what is so of each number
 

@@ -1,5 +1,5 @@
 -- What the calls of a rank keep.
-use Rattle.generated_run.proofs.Words.{◌≡◌, ℕ, zero, suc, ◌+◌, ◌-◌, ◌*◌, ◌^◌, ◌<◌, ◌≤◌, List, [], ◌∷◌, ◌++◌, length, map, sum, replicate, Bool, true, refl, sym, ap, subst, ◌∙◌, le-leb, lt-ltb, arith, ℤ, negsuc, neg_ℤ, ◌<ℤ◌, unsigned_abs, flat_map, list_all, range_with_len, ints, append-nil, length-append, list_all-append, length-map-range_with_len, and_from, pieces_long, Call, Every, Bput, Bits, Numbers, most_elements, are_different, are_sizes, is_given, is_lawful_call, is_number, kind_numbers, posted_ids, values_in_call, block, first_row, is_counted, precip_at, temp_at, sum_cons, calls_of_rank, columns_of, precip_band, region_of_band, temp_band}
+use Rattle.generated_run.proofs.Words.{◌≡◌, ℕ, zero, suc, ◌+◌, ◌-◌, ◌*◌, ◌^◌, ◌<◌, ◌≤◌, List, [], ◌∷◌, ◌++◌, length, map, sum, replicate, Bool, true, refl, sym, ap, subst, ◌∙◌, le-leb, lt-ltb, arith, ℤ, neg_ℤ, ◌<ℤ◌, unsigned_abs, flat_map, list_all, range_with_len, ints, append-nil, length-append, list_all-append, length-map-range_with_len, and_from, pieces_long, Call, Every, Bput, Bits, Numbers, are_different, is_given, is_lawful_call, is_number, kind_numbers, posted_ids, values_in_call, first_row, is_counted, precip_at, temp_at, sum_cons, calls_of_rank, columns_of, precip_band, region_of_band, temp_band, nat_tests}
 use Rattle.std.specs.Prelude.{pos, codes}
 use Rattle.nc_base.specs.declared.request.Call.TheVariants as call
 use Rattle.generated_run.proofs.Ranges.{pieces_pass, range_differs, range_passes}
@@ -22,8 +22,7 @@ unfolding precip_band
 few_precips seed r t h = let many = long (precip_at seed t) 360 (first_row r) (first_row (r + 1) - first_row r) in omega (arith, many)
 
 small : (z : ℤ) → neg_ℤ (pos 10001) <ℤ z → z <ℤ pos 10001 → unsigned_abs z < 10 ^ 20
-small (pos n) low high = let below : n < 10001 = omega (arith, ints) in omega arith
-small (negsuc n) low high = let below : suc n < 10001 = omega (arith, ints) in omega arith
+small z low high = grind (arith, nat_tests)
 
 small_precip : (seed t y x : ℕ) → is_number (precip_at seed t y x) ≡ true
 small_precip seed t y x = lt-ltb _ (10 ^ 20) (small (precip_at seed t y x) (omega (arith, ints)) (omega (arith, ints)))
@@ -34,22 +33,13 @@ small_precips seed r t = pass is_number (precip_at seed t) 360 (first_row r) (fi
 
 -- ---- its regions
 
-given_block : (start count : List ℕ) → are_sizes start ≡ true → are_sizes count ≡ true → is_given (block start count) ≡ true
-given_block start count s c = and_from _ _ (and_from _ _ (and_from _ _ (and_from _ _ (and_from _ _ s c) refl) refl) refl) refl
-
-sizes : (a b c : ℕ) → a < 2 ^ 63 → b < 2 ^ 63 → c < 2 ^ 63 → are_sizes (a ∷ b ∷ c ∷ []) ≡ true
-sizes a b c e f g = and_from _ _ (lt-ltb a (2 ^ 63) e) (and_from _ _ (lt-ltb b (2 ^ 63) f) (and_from _ _ (lt-ltb c (2 ^ 63) g) refl))
-
 given_band : (r t : ℕ) → r < 8 → t < 64 → is_given (region_of_band r t) ≡ true
 unfolding region_of_band
-given_band r t h l =
-    given_block (t ∷ first_row r ∷ 0 ∷ []) (1 ∷ (first_row (r + 1) - first_row r) ∷ 360 ∷ []) (sizes t (first_row r) 0 (omega arith) (omega arith) (omega arith))
-    (sizes 1 (first_row (r + 1) - first_row r) 360 (omega arith) (omega arith) (omega arith))
+given_band r t h l = grind (arith, nat_tests)
 
 given_columns : (size r : ℕ) → size ≤ 64 → r < 8 → is_given (columns_of size r) ≡ true
 unfolding columns_of
-given_columns size r s h =
-    given_block (0 ∷ 0 ∷ 45 * r ∷ []) (size ∷ 180 ∷ 1 ∷ []) (sizes 0 0 (45 * r) (omega arith) (omega arith) (omega arith)) (sizes size 180 1 (omega arith) (omega arith) (omega arith))
+given_columns size r s h = grind (arith, nat_tests)
 
 -- ---- its calls
 
@@ -76,20 +66,10 @@ whole_is seed size r = refl
 -- ---- what they keep
 
 lawful_record : (seed r t : ℕ) → r < 8 → t < 64 → list_all (λ c. is_lawful_call 8 r c) (record_of seed r t) ≡ true
-lawful_record seed r t h l =
-    let given = given_band r t h l in
-    let temps = le-leb (length (temp_band seed r t)) most_elements (omega (arith, few_temps seed r t h)) in
-    let precips = le-leb (length (precip_band seed r t)) most_elements (omega (arith, few_precips seed r t h)) in
-    and_from _ _ (and_from _ _ given temps) (and_from _ _ (and_from _ _ given (and_from _ _ precips (small_precips seed r t))) refl)
-
-lawful_reads : (size r : ℕ) → size ≤ 64 → r < 8 → list_all (λ c. is_lawful_call 8 r c) (reads_of size r) ≡ true
-lawful_reads size r s h = let given = given_columns size r s h in and_from _ _ given (and_from _ _ given refl)
+lawful_record seed r t h l = grind (arith, nat_tests, given_band, le-leb, few_temps, few_precips, and_from, small_precips)
 
 pub rank_lawful : (seed size r : ℕ) → size ≤ 64 → r < 8 → list_all (λ c. is_lawful_call 8 r c) (calls_of_rank seed size r) ≡ true
-rank_lawful seed size r s h =
-    sym (ap (λ (calls : List Call). list_all (λ c. is_lawful_call 8 r c) calls) (whole_is seed size r))
-    ∙ list_all-append (λ c. is_lawful_call 8 r c) (records_of seed r 0 size) (reads_of size r)
-    ∙ and_from _ _ (pieces_pass (λ c. is_lawful_call 8 r c) (λ k. record_of seed r k) 0 size (λ k b. lawful_record seed r k h (omega arith))) (lawful_reads size r s h)
+rank_lawful seed size r s h = grind (arith, nat_tests, whole_is seed size r, list_all-append, and_from, pieces_pass, lawful_record, given_columns)
 
 counted_record : (seed r t : ℕ) → list_all is_counted (record_of seed r t) ≡ true
 unfolding region_of_band
@@ -110,14 +90,11 @@ ids_of seed r others t zero = refl
 ids_of seed r others t (suc n) =
     let next : 2 * (t + 1) ≡ 2 * t + 1 + 1 = omega arith in
     let two : suc (suc (2 * n)) ≡ 2 * suc n = omega arith in
-    ap (λ (ids : List ℕ). (2 * t) ∷ (2 * t + 1) ∷ ids) (ids_of seed r others (t + 1) n ∙ ap (λ (k : ℕ). range_with_len k (2 * n) ++ posted_ids others) next)
-    ∙ ap (λ (k : ℕ). range_with_len (2 * t) k ++ posted_ids others) two
+    grind (arith, nat_tests, next, two, ids_of seed r others (t + 1) n)
 
 pub rank_ids : (seed size r : ℕ) → are_different (posted_ids (calls_of_rank seed size r)) ≡ true
 rank_ids seed size r =
-    sym (ap (λ (calls : List Call). are_different (posted_ids calls)) (whole_is seed size r))
-    ∙ ap (λ (ids : List ℕ). are_different ids) (ids_of seed r (reads_of size r) 0 size ∙ append-nil (range_with_len 0 (2 * size)))
-    ∙ range_differs 0 (2 * size)
+    grind (arith, nat_tests, whole_is seed size r, ids_of seed r (reads_of size r) 0 size, append-nil (range_with_len 0 (2 * size)), range_differs 0 (2 * size))
 
 kinds_of : (seed r : ℕ) (others : List Call) (t n : ℕ) → kind_numbers (records_of seed r t n ++ others) ≡ replicate n 3 ++ kind_numbers others
 kinds_of seed r others t zero = refl
@@ -140,8 +117,7 @@ values_of seed r others t (suc n) h =
     let precip : Call = call.Post (2 * t + 1) Bput (codes "precip") (region_of_band r t) (Numbers (precip_band seed r t)) in
     let a = sum_cons values_in_call temp (precip ∷ wait ∷ later) in
     let b = sum_cons values_in_call precip (wait ∷ later) in
-    let d = sum_cons values_in_call wait later in
-    omega (arith, a, b, d, few_temps seed r t h, few_precips seed r t h, values_of seed r others (t + 1) n h)
+    grind (arith, nat_tests, later, wait, temp, precip, a, b, values_of seed r others (t + 1) n h, sum_cons, few_temps, few_precips)
 
 pub rank_values : (seed size r : ℕ) → size ≤ 64 → r < 8 → sum (map values_in_call (calls_of_rank seed size r)) ≤ 1059840
 rank_values seed size r s h =

@@ -1,7 +1,7 @@
 -- Rows of values that rise by one, and behind the greatest begin again at the least: one run, or two.
-use Rattle.generated_run.proofs.Words.{◌≡◌, ℕ, zero, suc, ◌+◌, ◌-◌, ◌*◌, ◌^◌, ◌%◌, ◌<◌, ◌≤◌, List, [], ◌∷◌, ◌++◌, map, min, refl, sym, ap, ◌∙◌, append_assoc, arith, ℤ, ◌-ℤ◌, ◌*ℤ◌, range_with_len, ints, flat_map-append, BitRun, NumberRun, bits_of_run, bits_of_runs, numbers_of_run, numbers_of_runs, precip_at, temp_at, depths, precip_row, temp_row, temps}
+use Rattle.generated_run.proofs.Words.{◌≡◌, ℕ, zero, suc, ◌+◌, ◌-◌, ◌*◌, ◌^◌, ◌%◌, ◌<◌, ◌≤◌, List, [], ◌∷◌, ◌++◌, map, min, refl, sym, ap, ◌∙◌, append_assoc, arith, ℤ, ◌-ℤ◌, range_with_len, ints, flat_map-append, BitRun, NumberRun, bits_of_run, bits_of_runs, numbers_of_run, numbers_of_runs, precip_at, temp_at, depths, precip_row, temp_row, temps, nat_tests}
 use Rattle.std.proofs.Common.{append-nil}
-use Rattle.std.specs.Prelude.{pos, ◌+ℤ◌}
+use Rattle.std.specs.Prelude.{pos}
 
 -- lists that agree value by value
 maps_agree : {A : Type 0} (f g : ℕ → A) (a b n : ℕ) → ((k : ℕ) → k < n → f (a + k) ≡ g (b + k)) → map f (range_with_len a n) ≡ map g (range_with_len b n)
@@ -16,10 +16,7 @@ map_joined : {A : Type 0} (f : ℕ → A) (a n m : ℕ) → map f (range_with_le
 map_joined f a zero m = ap (λ (k : ℕ). map f (range_with_len a k)) (omega arith) ∙ ap (λ (k : ℕ). map f (range_with_len k m)) (omega arith)
 map_joined {A} f a (suc n) m =
     let same : suc n + m ≡ suc (n + m) = omega arith in
-    let last : a + 1 + n ≡ a + suc n = omega arith in
-    ap (λ (k : ℕ). map f (range_with_len a k)) same
-    ∙ ap (λ (xs : List A). f a ∷ xs) (map_joined f (a + 1) n m)
-    ∙ ap (λ (k : ℕ). f a ∷ (map f (range_with_len (a + 1) n) ++ map f (range_with_len k m))) last
+    grind (arith, nat_tests, same, map_joined f (a + 1) n m)
 
 -- a row in two parts
 row_in_parts : {A : Type 0} (f g : ℕ → A) (first n : ℕ) → n ≤ 360 → ((k : ℕ) → k < n → f k ≡ g (first + k)) → ((k : ℕ) → k < 360 - n → f (n + k) ≡ g k)
@@ -58,13 +55,9 @@ pub precip_row_pushed : (front now : List ℤ) (seed t y first n : ℕ) → firs
     → now ≡ front ++ depths first n → now ++ depths 0 (360 - n) ≡ front ++ precip_row seed t y
 precip_row_pushed front now seed t y first n e least one = two_parts front now (depths first n) (depths 0 (360 - n)) (precip_row seed t y) one (precip_parts seed t y first n e least)
 
-depth_of_run : (first k : ℕ) → (pos first -ℤ pos 10000) +ℤ (pos 1 *ℤ pos k) ≡ pos (first + k) -ℤ pos 10000
-depth_of_run first k = omega (arith, ints)
-
 depths_of_run : (first n : ℕ) → numbers_of_run (record { first = pos first -ℤ pos 10000; step = pos 1; count = n }) ≡ depths first n
 unfolding depths
-depths_of_run first n =
-    maps_agree (λ k. (pos first -ℤ pos 10000) +ℤ (pos 1 *ℤ pos k)) (λ k. pos (first + k) -ℤ pos 10000) 0 0 n (λ k low. depth_of_run first (0 + k))
+depths_of_run first n = grind (arith, nat_tests, maps_agree, ints)
 
 pub no_depths : (now : List ℤ) (first n : ℕ) → n ≡ 0 → now ≡ now ++ depths first n
 unfolding depths
@@ -72,11 +65,7 @@ no_depths now first n none = sym (append-nil now) ∙ ap (λ (k : ℕ). now ++ d
 
 pub depths_pushed : (old new : List NumberRun) (from : ℤ) (first n : ℕ) → from ≡ pos first -ℤ pos 10000 → new ≡ old ++ record { first = from; step = pos 1; count = n } ∷ []
     → numbers_of_runs new ≡ numbers_of_runs old ++ depths first n
-depths_pushed old new from first n here pushed =
-    let run : ℤ → NumberRun = λ z. record { first = z; step = pos 1; count = n } in
-    ap (λ (rs : List NumberRun). numbers_of_runs rs) (pushed ∙ ap (λ (z : ℤ). old ++ run z ∷ []) here)
-    ∙ flat_map-append numbers_of_run old (run (pos first -ℤ pos 10000) ∷ [])
-    ∙ ap (λ (zs : List ℤ). numbers_of_runs old ++ zs) (append-nil (numbers_of_run (run (pos first -ℤ pos 10000))) ∙ depths_of_run first n)
+depths_pushed old new from first n here pushed = grind (arith, nat_tests, flat_map-append, append-nil, depths_of_run)
 
 -- ---- patterns
 
@@ -98,13 +87,9 @@ pub temp_row_pushed : (front now : List ℕ) (seed t y first n : ℕ) → first 
     → now ≡ front ++ temps first n → now ++ temps 0 (360 - n) ≡ front ++ temp_row seed t y
 temp_row_pushed front now seed t y first n e least one = two_parts front now (temps first n) (temps 0 (360 - n)) (temp_row seed t y) one (temp_parts seed t y first n e least)
 
-temp_of_run : (first k : ℕ) → first + k < 2 ^ 23 → (0x3F800000 + first + 1 * k) % 2 ^ 64 ≡ 0x3F800000 + (first + k)
-temp_of_run first k low = omega arith
-
 temps_of_run : (first n : ℕ) → first + n ≤ 2 ^ 23 → bits_of_run (record { first = 0x3F800000 + first; step = 1; count = n }) ≡ temps first n
 unfolding temps
-temps_of_run first n within =
-    maps_agree (λ k. (0x3F800000 + first + 1 * k) % 2 ^ 64) (λ k. 0x3F800000 + (first + k)) 0 0 n (λ k low. temp_of_run first (0 + k) (omega arith))
+temps_of_run first n within = grind (arith, nat_tests, maps_agree)
 
 pub no_temps : (now : List ℕ) (first n : ℕ) → n ≡ 0 → now ≡ now ++ temps first n
 unfolding temps
@@ -112,8 +97,4 @@ no_temps now first n none = sym (append-nil now) ∙ ap (λ (k : ℕ). now ++ te
 
 pub temps_pushed : (old new : List BitRun) (from first n : ℕ) → first + n ≤ 2 ^ 23 → from ≡ 0x3F800000 + first → new ≡ old ++ record { first = from; step = 1; count = n } ∷ []
     → bits_of_runs new ≡ bits_of_runs old ++ temps first n
-temps_pushed old new from first n within here pushed =
-    let run : ℕ → BitRun = λ x. record { first = x; step = 1; count = n } in
-    ap (λ (rs : List BitRun). bits_of_runs rs) (pushed ∙ ap (λ (x : ℕ). old ++ run x ∷ []) here)
-    ∙ flat_map-append bits_of_run old (run (0x3F800000 + first) ∷ [])
-    ∙ ap (λ (ns : List ℕ). bits_of_runs old ++ ns) (append-nil (bits_of_run (run (0x3F800000 + first))) ∙ temps_of_run first n within)
+temps_pushed old new from first n within here pushed = grind (arith, nat_tests, flat_map-append, append-nil, temps_of_run)

@@ -16,6 +16,8 @@ pub use Rattle.std.specs.Int.{w128}
 pub use Rattle.std.specs.List.{enumerate_from, flat_map, list_all, list_any, range_with_len, zip}
 pub use Rattle.std.specs.Option.{option_copied}
 pub use Rattle.std.specs.Prelude.{IfOk, OnOk, neg_ℤ, negsuc, option_map, slice_get, unsigned_abs, ℤ, ◌*ℤ◌, ◌-ℤ◌, ◌<ℤ◌}
+pub use Rattle.std.proofs.lemmas.Bool.Decides.{nat_tests}
+pub use Rattle.std.proofs.lemmas.Grind.{common_steps}
 pub use Rattle.generated_run.specs.Counting.{FindsGiven, call_done, item_done, posted_given}
 unfoldable pub use Rattle.generated_run.specs.Made.{calls_of_rank, calls_of_record, columns_of, depths, precip_band, precip_row, region_of_band, temp_band, temp_row, temps}
 pub use Rattle.list_laws.proofs.Appends.{then_append}
