@@ -1,5 +1,5 @@
 -- The order of a run step by step, and its end.
-use Rattle.reference.proofs.Words.{◌≡◌, ℕ, suc, ◌+◌, ◌<◌, ◌≤◌, refl, sym, ◌∙◌, ap, subst, inl, inr, ◌⊎◌, List, [], ◌∷◌, ◌++◌, length, map, max, drop, take, fold, get_or, Bool, true, false, cond, Some, arith, cases_eq, nat_tests, drop_all, drop_more, take_all, take-append-drop, get_or_from_slice_get, slice_get_within, slice_get, nat_lt, map_map, entry_below, take_next, Answer, Header, Script, Mark, Counted, Setting, raised, IsLegal, is_lawful, greatest, record_limit, with_records, End, Going, serial_from, setting_of, close_by, counted, less_max, Arrived, ended_from, first_stand, step_to, serial_of_arrivals, most_known, AreLow, arrived, going_of, IsRunner, IsWaiting, stand_of, AreWaiting, HasHeard, HaveHeard, IsStanding, Runner, Stand, some_limit}
+use Rattle.reference.proofs.Words.{◌≡◌, ℕ, suc, ◌+◌, ◌<◌, ◌≤◌, refl, sym, ◌∙◌, ap, subst, inl, inr, ◌⊎◌, List, [], ◌∷◌, ◌++◌, length, map, max, drop, take, fold, get_or, true, cond, Some, arith, cases_eq, nat_tests, drop_all, drop_more, take_all, take-append-drop, get_or_from_slice_get, slice_get_within, slice_get, nat_lt, map_map, entry_below, take_next, Answer, Header, Script, Mark, Setting, IsLegal, is_lawful, record_limit, with_records, serial_from, setting_of, close_by, counted, less_max, first_stand, step_to, serial_of_arrivals, most_known, AreLow, going_of, IsRunner, IsWaiting, stand_of, AreWaiting, HasHeard, HaveHeard, IsStanding, Runner, Stand, some_limit}
 use Rattle.nc_base.specs.declared.step.Mark.TheVariants as mark
 use Rattle.serial_spec.specs.RankMachine as machine
 use Rattle.run_laws.specs.Arrivals as arrivals
@@ -9,8 +9,7 @@ use Rattle.reference.proofs.NextLaws.{beside_runner, meeting_runner, meeting_wai
 
 order_split : (order : List Mark) (n : ℕ) (m : Mark) → slice_get order n ≡ Some m → take n order ++ m ∷ drop (n + 1) order ≡ order
 order_split order n m e =
-    ap (λ (x : Mark). take n order ++ x ∷ drop (n + 1) order) (sym (get_or_from_slice_get order n m m e))
-    ∙ ap (λ (ms : List Mark). take n order ++ ms) (sym (drop_more order n m (slice_get_within order n m e))) ∙ take-append-drop n order
+    grind (arith, nat_tests, get_or_from_slice_get order n m m e, drop_more order n m (slice_get_within order n m e), take-append-drop n order, slice_get_within)
 
 legal_split : (script : Script) (order : List Mark) (n : ℕ) (m : Mark) → slice_get order n ≡ Some m → IsLegal script order → IsLegal script (take n order ++ m ∷ drop (n + 1) order)
 legal_split script order n m e legal = subst (λ (o : List Mark). IsLegal script o) (sym (order_split order n m e)) legal
@@ -69,8 +68,7 @@ own_stands script header order n q k before after legal e h heard same =
         (below_all script header (take n order) before q a.0 h a.1) (h.each q a.0 a.1) (heard.own a.0 b a.1 f)
 
     by_place : (r : ℕ) (b : Runner) → slice_get after.runners.items r ≡ Some b → (r ≡ q) ⊎ (r ≡ q → ⊥) → IsRunner script header (take n order ++ mark.Solo q k ∷ []) r b
-    by_place r b f (inl at) =
-        subst (λ (j : ℕ). IsRunner script header (take n order ++ mark.Solo q k ∷ []) j b) (sym at) (own b (ap (slice_get after.runners.items) (sym at) ∙ f))
+    by_place r b f (inl at) = grind (arith, nat_tests, own b (ap (slice_get after.runners.items) (sym at) ∙ f))
     by_place r b f (inr other) =
         beside_runner script header (take n order) r q k b (λ z. other (sym z)) (h.each r b (sym (heard.others r other) ∙ f))
 
@@ -79,52 +77,25 @@ own_stands script header order n q k before after legal e h heard same =
 -- the count that one rank more knows
 pub known_step : (runners : List Runner) (i : ℕ) (runner : Runner) (known own more : ℕ) → i < length runners → runner ≡ get_or runners i runner → own ≡ runner.rank.state.known
     → more ≡ max known own → max known (most_known (drop i runners)) ≡ most_known runners → max more (most_known (drop (i + 1) runners)) ≡ most_known runners
-known_step runners i runner known own more l e k m h =
-    let left : most_known (drop i runners) ≡ max (get_or runners i runner).rank.state.known (most_known (drop (i + 1) runners)) = ap most_known (drop_more runners i runner l) in
-    let own' : own ≡ (get_or runners i runner).rank.state.known = k ∙ ap (λ (x : Runner). x.rank.state.known) e in
-    omega (arith, left, own', m, h)
+known_step runners i runner known own more l e k m h = grind (arith, nat_tests, drop_more)
 
 pub known_end : (runners : List Runner) (i known : ℕ) → length runners ≤ i → max known (most_known (drop i runners)) ≡ most_known runners → known ≡ most_known runners
-known_end runners i known l h =
-    let none : most_known (drop i runners) ≡ 0 = ap most_known (drop_all i runners l) in
-    omega (arith, none, h)
+known_end runners i known l h = grind (arith, nat_tests, drop_all)
 
 pub known_low : (header : Header) (runners : List Runner) → AreLow header runners → most_known runners < record_limit header.version
 known_low header [] all = some_limit header.version
 known_low header (runner ∷ runners) all =
     less_max runner.rank.state.known (most_known runners) (record_limit header.version) (all 0 runner refl) (known_low header runners (λ r x e. all (suc r) x e))
 
-raised_is : (s : Setting) (old file : List ℕ) (was records known : ℕ) → file ≡ cond (nat_lt was known) (with_records s.header.version old known) old → records ≡ max was known
-    → counted file records ≡ raised s (counted old was) known
-raised_is s old file was records known f r = by (nat_lt was known) refl f
-  where
-    by : (t : Bool) → nat_lt was known ≡ t → file ≡ cond t (with_records s.header.version old known) old
-        → counted file records ≡ cond t (counted (with_records s.header.version old known) known) (counted old was)
-    by true e g = let n : records ≡ known = grind (arith, nat_tests) in λ i. counted (g i) (n i)
-    by false e g = let n : records ≡ was = grind (arith, nat_tests) in λ i. counted (g i) (n i)
-
-abbrev end_by : Counted → List (List Answer) → List ℕ → End
-end_by c answers pending = record { bytes = c.file; records = c.records; answers = answers; pending = pending }
-
 pub closed_is : (s : Setting) (runners : List Runner) (old file : List ℕ) (was records known : ℕ) (answers : List (List Answer)) (pending : List ℕ)
     → known ≡ most_known runners → file ≡ cond (nat_lt was known) (with_records s.header.version old known) old → records ≡ max was known
     → answers ≡ map (λ runner. runner.answers) runners → pending ≡ map (λ runner. machine.pending runner.rank.state) runners
     → record { bytes = file; records = records; answers = answers; pending = pending } ≡ close_by s (counted old was) (map going_of runners)
-closed_is s runners old file was records known answers pending k f r a p =
-    let most = k ∙ sym (ap greatest (map_map (λ (g : Going). g.rank.known) going_of runners)) in
-    let last = raised_is s old file was records known f r ∙ ap (λ (n : ℕ). raised s (counted old was) n) most in
-    let told = a ∙ sym (map_map (λ (g : Going). g.answers) going_of runners) in
-    let left = p ∙ sym (map_map (λ (g : Going). machine.pending g.rank) going_of runners) in
-    λ i. end_by (last i) (told i) (left i)
+closed_is s runners old file was records known answers pending k f r a p = grind (arith, nat_tests, map_map)
 
 -- ---- the whole
 
 pub closes : (script : Script) (header : Header) (bytes : List ℕ) (order : List Mark) (n : ℕ) (stand : Stand) → length order ≤ n
     → stand_of stand ≡ fold (step_to (setting_of script header)) (first_stand header bytes script.calls) (take n order)
     → close_by (setting_of script header) (counted stand.file.items stand.records) (map going_of stand.runners.items) ≡ serial_from script header bytes order
-closes script header bytes order n stand l e =
-    let s = setting_of script header in
-    ap (λ (gs : List Going). close_by s (counted stand.file.items stand.records) gs) (sym (map_map (λ (a : Arrived). a.0) arrived stand.runners.items))
-    ∙ ap (λ (st : arrivals.Stand). close_by s st.0 (map (λ (a : Arrived). a.0) st.1)) e
-    ∙ ap (λ (ms : List Mark). ended_from s (first_stand header bytes script.calls) ms) (take_all n order l)
-    ∙ sym (serial_of_arrivals script header bytes order)
+closes script header bytes order n stand l e = grind (arith, nat_tests, map_map, take_all, serial_of_arrivals)

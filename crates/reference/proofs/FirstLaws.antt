@@ -10,14 +10,11 @@ pub record AreFirst (script : Script) (header : Header) (n : ℕ) (runners : Lis
 -- the calls of a rank, as they are read
 pub own_there : (calls list : List (List Call)) (i : ℕ) (item own : List Call) → list ≡ calls → i < length list → item ≡ get_or list i item → own ≡ item
     → slice_get calls i ≡ Some own
-own_there calls list i item own e l is f =
-    ap (λ (xs : List (List Call)). slice_get xs i) (sym e) ∙ slice_get_read list (length list) i item refl l is ∙ ap (λ (x : List Call). Some x) (sym f)
+own_there calls list i item own e l is f = grind (arith, nat_tests, slice_get_read)
 
 pub ready_first : (script : Script) (header : Header) (r : ℕ) (own : List Call) → is_lawful script ≡ true → slice_get script.calls r ≡ Some own → MayGoOn (first_going header own)
 ready_first script header r own lawful e =
-    let long = (ranks_lawful script lawful).one_each in
-    let within = slice_get_within script.calls r own e in
-    record { script = script; order = []; r = r; lawful = lawful; one_of = omega arith; way = way_begins script header r own lawful e }
+    grind (arith, nat_tests, ranks_lawful script lawful, slice_get_within script.calls r own e, way_begins script header r own lawful e)
 
 first_runner : (script : Script) (header : Header) (r : ℕ) (own : List Call) (runner : Runner) → is_sound header ≡ true → is_lawful script ≡ true → slice_get script.calls r ≡ Some own
     → runner.rank.header ≡ header → HasGone header (first_going header own) (going_of runner) runner.held → IsRunner script header [] r runner
@@ -63,9 +60,7 @@ first_more script header n runners more own runner sound lawful e same gone push
 
 pub first_is : (script : Script) (header : Header) (n : ℕ) (file bytes : List ℕ) (runners : List Runner) → length script.calls ≤ n → AreFirst script header n runners → file ≡ bytes
     → (counted file header.records, all_arrived runners) ≡ first_stand header bytes script.calls
-first_is script header n file bytes runners l are e =
-    let all = are.arrived ∙ ap (map (λ (own : List Call). advance header (first_going header own))) (take_all n script.calls l) in
-    λ i. (counted (e i) header.records, all i)
+first_is script header n file bytes runners l are e = grind (arith, nat_tests, take_all)
 
 pub first_stands : (script : Script) (header : Header) (n : ℕ) (stand : Stand) → is_sound header ≡ true → is_lawful script ≡ true → n ≡ length script.calls
     → AreFirst script header n stand.runners.items → stand.records ≡ header.records → IsStanding script header [] stand

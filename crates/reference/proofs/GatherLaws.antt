@@ -1,13 +1,12 @@
 -- Lists that are gathered one entry after another.
-use Rattle.reference.proofs.Words.{◌≡◌, ℕ, suc, ◌+◌, ◌-◌, ◌<◌, ◌≤◌, sym, ap, ◌∙◌, List, [], ◌∷◌, ◌++◌, length, drop, replicate, append-nil, append_assoc, add-one, length-append, Some, arith, flat_map, slice_get, range_with_len, drop_all, map-id, map-range_with_len_more, at, longer, read, drop_at}
+use Rattle.reference.proofs.Words.{◌≡◌, ℕ, suc, ◌+◌, ◌-◌, ◌<◌, ◌≤◌, sym, ap, ◌∙◌, List, [], ◌∷◌, ◌++◌, length, drop, append-nil, append_assoc, add-one, length-append, Some, arith, flat_map, slice_get, range_with_len, drop_all, map-id, map-range_with_len_more, at, longer, read, drop_at, nat_tests}
 
 -- one byte of zero more
 pub longer_push : (f : List ℕ) (n : ℕ) → length f < n → longer (f ++ 0 ∷ []) n ≡ longer f n
 longer_push f n h =
     let long = length-append f (0 ∷ []) in
     let rest : n - length f ≡ suc (n - length (f ++ 0 ∷ [])) = omega (arith, long) in
-    append_assoc f (0 ∷ []) (replicate (n - length (f ++ 0 ∷ [])) 0)
-    ∙ sym (ap (λ (m : ℕ). f ++ replicate m 0) rest)
+    grind (arith, nat_tests, long, rest, append_assoc)
 
 pub read_more : (file into into' old : List ℕ) (x k : ℕ) → into ≡ old ++ read file x k → into' ≡ into ++ at file (x + k) ∷ []
     → into' ≡ old ++ read file x (k + 1)
@@ -31,13 +30,7 @@ range_more list list' old x k e f =
 -- what is gathered, and what the entries that are left give, is the whole
 pub gather_step : {A : Type 0} (f : ℕ → List A) (ps : List ℕ) (k x : ℕ) (out out' whole : List A) → slice_get ps k ≡ Some x → out' ≡ out ++ f x
     → out ++ flat_map f (drop k ps) ≡ whole → out' ++ flat_map f (drop (k + 1) ps) ≡ whole
-gather_step {A} f ps k x out out' whole there e h =
-    ap (λ (l : List A). l ++ flat_map f (drop (k + 1) ps)) e
-    ∙ append_assoc out (f x) (flat_map f (drop (k + 1) ps))
-    ∙ ap (λ (n : ℕ). out ++ (f x ++ flat_map f (drop n ps))) (add-one k)
-    ∙ ap (λ (l : List ℕ). out ++ flat_map f l) (sym (drop_at ps k x there))
-    ∙ h
+gather_step {A} f ps k x out out' whole there e h = grind (arith, nat_tests, append_assoc out (f x) (flat_map f (drop (k + 1) ps)), add-one k, drop_at ps k x there)
 
 pub gather_end : {A : Type 0} (f : ℕ → List A) (ps : List ℕ) (k : ℕ) (out whole : List A) → length ps ≤ k → out ++ flat_map f (drop k ps) ≡ whole → out ≡ whole
-gather_end {A} f ps k out whole l h =
-    sym (append-nil out) ∙ sym (ap (λ (qs : List ℕ). out ++ flat_map f qs) (drop_all k ps l)) ∙ h
+gather_end {A} f ps k out whole l h = grind (arith, nat_tests, append-nil, drop_all)

@@ -1,5 +1,5 @@
 -- The index of an element, one dimension after another, and how great its entries are.
-use Rattle.reference.proofs.Words.{◌≡◌, ℕ, ◌+◌, ◌-◌, ◌*◌, ◌/◌, ◌%◌, ◌^◌, ◌<◌, ◌≤◌, refl, sym, ap, ◌∙◌, subst, List, [], ◌∷◌, ◌++◌, length, get_or, min, Bool, true, false, Some, arith, slice_get, AllByRecursion, mod_below, mul-le, same_Some, each_weaker, Header, Var, Region, size_of, product, inner_lengths, is_record, recsize, row, place, record_of, within_record, HasRecord, IsIndex, IsElement, index_at, index_fixed, index_record, product_pos, place_fixed, place_record, row_below_bytes, is_sound, IsAccepted, coordinates_of, index_of, accepted_place, small_of, wide_records, AreBelow, split, some_block, rest}
+use Rattle.reference.proofs.Words.{◌≡◌, ℕ, ◌+◌, ◌-◌, ◌*◌, ◌/◌, ◌%◌, ◌^◌, ◌<◌, ◌≤◌, refl, sym, ◌∙◌, subst, List, [], ◌∷◌, ◌++◌, length, get_or, min, true, Some, arith, slice_get, AllByRecursion, mul-le, same_Some, each_weaker, Header, Var, Region, size_of, product, inner_lengths, is_record, recsize, row, place, record_of, within_record, HasRecord, IsIndex, IsElement, index_at, index_fixed, index_record, product_pos, place_fixed, place_record, row_below_bytes, is_sound, IsAccepted, coordinates_of, index_of, accepted_place, small_of, wide_records, AreBelow, split, rest, nat_tests}
 
 -- ---- one dimension more
 
@@ -10,21 +10,9 @@ pub record IndexStep (starts counts strides : List ℕ) (number inner s t : ℕ)
   pub number_low : number % inner < product counts'
   pub few : product counts' ≤ 2 ^ 20
 
-step_of : (number s n t : ℕ) (starts counts strides : List ℕ) → number < product (n ∷ counts) → product (n ∷ counts) ≤ 2 ^ 20
-    → IndexStep (s ∷ starts) (n ∷ counts) (t ∷ strides) number (product counts) s t starts counts strides
-step_of number s n t starts counts strides below few =
-    let some = some_block n (product counts) number below in
-    let less = mul-le 1 (product counts) n (product counts) some.0 (omega arith) in
-    record { is = refl; some = some.1; number_low = mod_below number (product counts) some.1; few = omega (arith, less, few) }
-
 step_at : (number s n t : ℕ) (starts counts strides starts' counts' strides' : List ℕ) → starts ≡ s ∷ starts' → counts ≡ n ∷ counts' → strides ≡ t ∷ strides'
     → number < product counts → product counts ≤ 2 ^ 20 → IndexStep starts counts strides number (product counts') s t starts' counts' strides'
-step_at number s n t starts counts strides starts' counts' strides' e f g =
-    let P : List ℕ → List ℕ → List ℕ → Type 0 = λ a b c. number < product b → product b ≤ 2 ^ 20 → IndexStep a b c number (product counts') s t starts' counts' strides' in
-    subst (λ (x : List ℕ). P x counts strides) (sym e)
-    (subst (λ (x : List ℕ). P (s ∷ starts') x strides) (sym f)
-    (subst (λ (x : List ℕ). P (s ∷ starts') (n ∷ counts') x) (sym g)
-    (step_of number s n t starts' counts' strides')))
+step_at number s n t starts counts strides starts' counts' strides' e f g = grind (arith, nat_tests)
 
 pub index_step : (starts counts strides : List ℕ) (number inner : ℕ) → 1 ≤ length starts → 1 ≤ length counts → 1 ≤ length strides
     → number < product counts → product counts ≤ 2 ^ 20 → inner ≡ min (product (rest counts)) (2 ^ 64 - 1)
@@ -32,16 +20,12 @@ pub index_step : (starts counts strides : List ℕ) (number inner : ℕ) → 1 �
 index_step starts counts strides number inner a b c below few e =
     let step = step_at number (get_or starts 0 0) (get_or counts 0 0) (get_or strides 0 0) starts counts strides (rest starts) (rest counts) (rest strides)
     (split starts a) (split counts b) (split strides c) below few in
-    let same : product (rest counts) ≡ inner = omega (arith, e, step.few) in
-    subst (λ (m : ℕ). IndexStep starts counts strides number m (get_or starts 0 0) (get_or strides 0 0) (rest starts) (rest counts) (rest strides)) same step
+    grind (arith, nat_tests, step)
 
 -- all elements of a region that a check accepts are counted
 pub counted : (header : Header) (k : ℕ) (v : Var) (g : Region) (counts : List ℕ) (n : ℕ) → slice_get header.vars k ≡ Some v → IsAccepted header k g → counts ≡ g.count
     → n ≡ min (product counts) (2 ^ 64 - 1) → n ≡ product g.count
-counted header k v g counts n there accepted same e =
-    let small = small_of header k v g there accepted in
-    let all : product counts ≡ product g.count = ap product same in
-    omega (arith, small.elements, all, e)
+counted header k v g counts n there accepted same e = grind (arith, nat_tests, small_of header k v g there accepted)
 
 -- ---- none left
 
@@ -58,48 +42,27 @@ entries_low [] [] h = tt
 entries_low [] (i ∷ index) h = absurd h
 entries_low (n ∷ lengths) [] h = absurd h
 entries_low (n ∷ lengths) (i ∷ index) h =
-    let low = mul-le i 1 i (product lengths) (omega arith) (product_pos lengths index h.1) in (
-      omega (arith, low),
-      each_weaker (λ j. j ≤ row lengths index) (λ j. j ≤ i * product lengths + row lengths index) (λ j l. omega (arith, l)) index (entries_low lengths index h.1),
-    )
+    let low = mul-le i 1 i (product lengths) (omega arith) (product_pos lengths index h.1) in
+    grind (arith, nat_tests, low, entries_low lengths index h.1, each_weaker)
 
 entries_below : (lengths index : List ℕ) (n : ℕ) → IsIndex lengths index → row lengths index < n → AreBelow n index
-entries_below lengths index n h l =
-    each_weaker (λ j. j ≤ row lengths index) (λ j. j < n) (λ j m. omega (arith, l, m)) index (entries_low lengths index h)
+entries_below lengths index n h l = grind (arith, nat_tests, each_weaker, entries_low)
 
 record_below : (header : Header) (v : Var) (index : List ℕ) (n : ℕ) → HasRecord index → IsIndex (inner_lengths header v) (within_record index) → 1 ≤ recsize header
     → record_of index * recsize header < n → row (inner_lengths header v) (within_record index) < n → AreBelow n index
-record_below header v [] n a h wide low rows = absurd a
-record_below header v (r ∷ index) n a h wide low rows =
-    let one = mul-le r 1 r (recsize header) (omega arith) wide in
-    (omega (arith, one, low), entries_below (inner_lengths header v) index n h rows)
+record_below header v index n a h wide low rows = grind (arith, nat_tests, mul-le, entries_below)
 
 -- the entries of an index are no greater than its place
 pub index_below : (header : Header) (v : Var) (index : List ℕ) (n : ℕ) → IsElement header v index → (is_record header v ≡ true → 1 ≤ recsize header)
     → place header v index < n → AreBelow n index
-index_below header v index n h wide low = by_kind (is_record header v) refl
-  where
-    by_kind : (t : Bool) → is_record header v ≡ t → AreBelow n index
-    by_kind false e =
-        let whole = place_fixed header v index e in
-        let bytes = row_below_bytes (row (inner_lengths header v) index) v.kind in
-        entries_below (inner_lengths header v) index n (index_fixed header v index e h) (omega (arith, whole, bytes, low))
-    by_kind true e =
-        let whole = place_record header v index e in
-        let bytes = row_below_bytes (row (inner_lengths header v) (within_record index)) v.kind in
-        let parts = index_record header v index e h in
-        record_below header v index n parts.0 parts.1 (wide e) (omega (arith, whole, low)) (omega (arith, whole, bytes, low))
+index_below header v index n h wide low =
+    grind (arith, nat_tests, place_fixed, row_below_bytes, entries_below, index_fixed, place_record, index_record, record_below)
 
 -- ---- the element with a number
 
 pub index_is : (g : Region) (n : ℕ) (old starts counts strides index : List ℕ) → old ≡ [] → starts ≡ g.start → counts ≡ g.count → strides ≡ g.stride
     → index ≡ old ++ index_at starts strides (coordinates_of counts n) → index ≡ index_of g n
-index_is g n old starts counts strides index a b d e f =
-    f
-    ∙ ap (λ (l : List ℕ). l ++ index_at starts strides (coordinates_of counts n)) a
-    ∙ ap (λ (l : List ℕ). index_at l strides (coordinates_of counts n)) b
-    ∙ ap (λ (l : List ℕ). index_at g.start strides (coordinates_of l n)) d
-    ∙ ap (λ (l : List ℕ). index_at g.start l (coordinates_of g.count n)) e
+index_is g n old starts counts strides index a b d e f = grind (arith, nat_tests)
 
 pub numbered_below : (header : Header) (k : ℕ) (v : Var) (g : Region) (n : ℕ) → is_sound header ≡ true → slice_get header.vars k ≡ Some v → IsAccepted header k g
     → n < product g.count → AreBelow (2 ^ 62) (index_of g n)
@@ -116,6 +79,4 @@ numbered_element header k v x g n index sound is h below e there =
 pub numbered_low : (header : Header) (k : ℕ) (v x : Var) (g : Region) (n : ℕ) (index : List ℕ) → is_sound header ≡ true → slice_get header.vars k ≡ Some v
     → IsAccepted header k g → n < product g.count → index ≡ index_of g n → slice_get header.vars k ≡ Some x → place header x index + size_of x.kind < 2 ^ 62
 numbered_low header k v x g n index sound is h below e there =
-    let p = accepted_place header k v g n sound is h below in
-    subst (λ (i : List ℕ). place header x i + size_of x.kind < 2 ^ 62) (sym e)
-    (subst (λ (w : Var). place header w (index_of g n) + size_of w.kind < 2 ^ 62) (same_Some v x (sym is ∙ there)) p.low)
+    grind (arith, nat_tests, accepted_place header k v g n sound is h below, same_Some v x (sym is ∙ there))

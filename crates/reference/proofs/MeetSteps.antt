@@ -1,5 +1,5 @@
 -- The offers of a meeting, one after another.
-use Rattle.reference.proofs.Words.{◌≡◌, ℕ, ◌+◌, ◌<◌, ◌≤◌, ◌⊎◌, inl, inr, refl, sym, ap, ◌∙◌, subst, List, [], ◌∷◌, ◌++◌, length, drop, get_or, map, max, cond, Option, Some, None, append-nil, append_assoc, arith, flat_map, nat_lt, slice_get, enumerate_from, drop_all, Pair, Header, Var, Post, Offer, Reply, In, map_in, after_puts, get_post, known_by, meeting, needs, puts_of, told, Setting, greatest, record_limit, needed, needed_by, records_of_some, with_records, check_some, Puts, IsAccepted, passed, records_below, reply_to, IsPut, IsRight, some_limit, known_less, raised_records, raised_file, in_either}
+use Rattle.reference.proofs.Words.{◌≡◌, ℕ, ◌+◌, ◌<◌, ◌≤◌, ◌⊎◌, inl, inr, refl, ap, ◌∙◌, List, [], ◌∷◌, ◌++◌, length, drop, get_or, map, max, cond, Option, Some, None, append-nil, append_assoc, arith, flat_map, nat_lt, slice_get, enumerate_from, drop_all, Pair, Header, Var, Post, Offer, Reply, In, map_in, after_puts, get_post, known_by, meeting, needs, puts_of, told, Setting, greatest, record_limit, needed, needed_by, records_of_some, with_records, check_some, Puts, IsAccepted, passed, records_below, reply_to, IsPut, IsRight, some_limit, known_less, in_either, nat_tests, common_steps}
 use Rattle.nc_base.specs.declared.answer.Code.TheVariants as code
 use Rattle.reference.proofs.PairSteps.{next_left}
 
@@ -7,15 +7,10 @@ use Rattle.reference.proofs.PairSteps.{next_left}
 
 pub known_step : (offers : List Offer) (i : ℕ) (o : Offer) (n m k w : ℕ) → i < length offers → o ≡ get_or offers i o → m ≡ known_by o.kind o.known → k ≡ max n m
     → max n (greatest (map (λ o. known_by o.kind o.known) (drop i offers))) ≡ w → max k (greatest (map (λ o. known_by o.kind o.known) (drop (i + 1) offers))) ≡ w
-known_step offers i o n m k w h e f g so_far =
-    let left : greatest (map (λ o. known_by o.kind o.known) (drop i offers)) ≡ max (known_by o.kind o.known) (greatest (map (λ o. known_by o.kind o.known) (drop (i + 1) offers))) =
-    ap (λ (os : List Offer). greatest (map (λ o. known_by o.kind o.known) os)) (next_left offers i o o h e) in
-    omega (arith, left, f, g, so_far)
+known_step offers i o n m k w h e f g so_far = grind (arith, nat_tests, next_left, common_steps)
 
 pub known_end : (offers : List Offer) (i n w : ℕ) → length offers ≤ i → max n (greatest (map (λ o. known_by o.kind o.known) (drop i offers))) ≡ w → n ≡ w
-known_end offers i n w l h =
-    let none : greatest (map (λ o. known_by o.kind o.known) (drop i offers)) ≡ 0 = ap (λ (os : List Offer). greatest (map (λ o. known_by o.kind o.known) os)) (drop_all i offers l) in
-    omega (arith, none, h)
+known_end offers i n w l h = grind (arith, nat_tests, drop_all)
 
 pub known_low : (offers : List Offer) (n : ℕ) → 0 < n → ((o : Offer) → In offers o → o.known < n) → greatest (map (λ o. known_by o.kind o.known) offers) < n
 known_low [] n some all = omega (arith, some)
@@ -40,15 +35,12 @@ puts_low header (p ∷ puts) all =
     omega (arith, own, rest)
 
 pub needs_low : (s : Setting) (puts : Puts) (pair : Option Pair) → ((p : ℕ × Post) → In puts p → IsPut s.header p.1) → needs s puts pair < record_limit s.header.version
-needs_low s puts (Some pair) all = some_limit s.header.version
-needs_low s puts None all = puts_low s.header puts all
+needs_low s puts pair all = grind (arith, nat_tests, some_limit, puts_low)
 
 -- ---- the puts
 
 pub own_right : (header : Header) (rank : ℕ) (o : Offer) (p : ℕ × Post) → IsRight header o → In (puts_of (rank, o)) p → IsPut header p.1
-own_right header rank o p right m =
-    let from = map_in (λ post. (rank, post)) o.batch.puts p m in
-    subst (λ (q : ℕ × Post). IsPut header q.1) from.2 (right.puts from.0 from.1)
+own_right header rank o p right m = grind (arith, nat_tests, map_in)
 
 pub puts_right : (header : Header) (n : ℕ) (offers : List Offer) (p : ℕ × Post) → ((o : Offer) → In offers o → IsRight header o)
     → In (flat_map puts_of (enumerate_from n offers)) p → IsPut header p.1
@@ -75,34 +67,15 @@ same_done : (s : Setting) (offers : List Offer) (old mid : List ℕ) (n k : ℕ)
     → (mid ≡ after_puts s (flat_map puts_of (enumerate_from 0 offers)) (told s (flat_map puts_of (enumerate_from 0 offers))) old)
     × (max n k ≡ max (needs s (flat_map puts_of (enumerate_from 0 offers)) (told s (flat_map puts_of (enumerate_from 0 offers)))) (greatest (map (λ o. known_by o.kind o.known) offers)))
     × (pair ≡ told s (flat_map puts_of (enumerate_from 0 offers)))
-same_done s offers old mid n k puts pair d =
-    let all = flat_map puts_of (enumerate_from 0 offers) in
-    let same : pair ≡ told s all = d.pair_is ∙ ap (λ (ps : Puts). told s ps) d.puts_are in (
-      d.file ∙ ap (λ (ps : Puts). after_puts s ps pair old) d.puts_are ∙ ap (λ (o : Option Pair). after_puts s all o old) same,
-      ap (λ (m : ℕ). max m k) (d.needs ∙ ap (λ (ps : Puts). needs s ps pair) d.puts_are ∙ ap (λ (o : Option Pair). needs s all o) same)
-          ∙ ap (λ (m : ℕ). max (needs s all (told s all)) m) d.known,
-      same,
-    )
+same_done s offers old mid n k puts pair d = grind (arith, nat_tests)
 
 pub meeting_file : (s : Setting) (offers : List Offer) (old mid now : List ℕ) (r n k m : ℕ) (puts : Puts) (pair : Option Pair) → Done s offers old mid n k puts pair → m ≡ max n k
     → now ≡ cond (nat_lt r m) (with_records s.header.version mid m) mid → now ≡ (meeting s offers (record { file = old; records = r })).0.file
-meeting_file s offers old mid now r n k m puts pair d top e =
-    let p = same_done s offers old mid n k puts pair d in
-    let all = flat_map puts_of (enumerate_from 0 offers) in
-    let done : List ℕ = after_puts s all (told s all) old in
-    e
-    ∙ ap (λ (f : List ℕ). cond (nat_lt r m) (with_records s.header.version f m) f) p.0
-    ∙ ap (λ (x : ℕ). cond (nat_lt r x) (with_records s.header.version done x) done) (top ∙ p.1)
-    ∙ sym (raised_file s (record { file = done; records = r }) (max (needs s all (told s all)) (greatest (map (λ o. known_by o.kind o.known) offers))))
+meeting_file s offers old mid now r n k m puts pair d top e = grind (arith, nat_tests)
 
 pub meeting_records : (s : Setting) (offers : List Offer) (old mid : List ℕ) (r now n k m : ℕ) (puts : Puts) (pair : Option Pair) → Done s offers old mid n k puts pair → m ≡ max n k
     → now ≡ max r m → now ≡ (meeting s offers (record { file = old; records = r })).0.records
-meeting_records s offers old mid r now n k m puts pair d top e =
-    let p = same_done s offers old mid n k puts pair d in
-    let all = flat_map puts_of (enumerate_from 0 offers) in
-    e
-    ∙ ap (λ (x : ℕ). max r x) (top ∙ p.1)
-    ∙ sym (raised_records s (record { file = after_puts s all (told s all) old; records = r }) (max (needs s all (told s all)) (greatest (map (λ o. known_by o.kind o.known) offers))))
+meeting_records s offers old mid r now n k m puts pair d top e = grind (arith, nat_tests)
 
 pub meeting_replies : (s : Setting) (offers : List Offer) (old mid file : List ℕ) (r records n k : ℕ) (puts : Puts) (pair : Option Pair) (all : List Reply) → Done s offers old mid n k puts pair
     → file ≡ (meeting s offers (record { file = old; records = r })).0.file → records ≡ (meeting s offers (record { file = old; records = r })).0.records
@@ -121,16 +94,9 @@ pub reply_step : (header : Header) (pair : Option Pair) (records : ℕ) (file : 
     → all' ≡ all ++ record { pair = pair; records = records; got = got } ∷ []
     → ((s : Setting) → s.header ≡ header → all ++ map (reply_to s pair records file) (drop i offers) ≡ map (reply_to s pair records file) offers)
     → (s : Setting) → s.header ≡ header → all' ++ map (reply_to s pair records file) (drop (i + 1) offers) ≡ map (reply_to s pair records file) offers
-reply_step header pair records file offers i o got all all' h e is f so_far s same =
-    let rest = map (reply_to s pair records file) (drop (i + 1) offers) in
-    ap (λ (l : List Reply). l ++ rest) f
-    ∙ append_assoc all (record { pair = pair; records = records; got = got } ∷ []) rest
-    ∙ ap (λ (g : List (List ℕ)). all ++ (record { pair = pair; records = records; got = g } ∷ rest)) (is s same)
-    ∙ sym (ap (λ (os : List Offer). all ++ map (reply_to s pair records file) os) (next_left offers i o o h e))
-    ∙ so_far s same
+reply_step header pair records file offers i o got all all' h e is f so_far s same = grind (arith, nat_tests, next_left offers i o o h e, append_assoc)
 
 pub reply_end : (header : Header) (pair : Option Pair) (records : ℕ) (file : List ℕ) (offers : List Offer) (i : ℕ) (all : List Reply) → length offers ≤ i
     → ((s : Setting) → s.header ≡ header → all ++ map (reply_to s pair records file) (drop i offers) ≡ map (reply_to s pair records file) offers)
     → (s : Setting) → s.header ≡ header → all ≡ map (reply_to s pair records file) offers
-reply_end header pair records file offers i all l h s same =
-    sym (append-nil all) ∙ sym (ap (λ (os : List Offer). all ++ map (reply_to s pair records file) os) (drop_all i offers l)) ∙ h s same
+reply_end header pair records file offers i all l h s same = grind (arith, nat_tests, append-nil, drop_all)

@@ -1,5 +1,5 @@
 -- The next step of a legal order finds its ranks at their offers, and leaves each where the order with that step says.
-use Rattle.reference.proofs.Words.{◌≡◌, ℕ, ◌<◌, ◌≢◌, refl, sym, ◌∙◌, ap, subst, inl, inr, List, [], ◌∷◌, ◌++◌, length, Bool, true, cond, Option, None, Some, append_assoc, append_cancel_left, filter-append, filter, IfSome, IsSomeAnd, if_some_at, equal_itself, Header, Call, Script, Mark, Offer, Reply, IsLegal, concerns, marks, marks_from, is_lawful, record_limit, hear, Going, hears, less_max, meetings, marks_left, IsOnWay, AsksAlone, hears_keeps, way_beside, way_hears, way_solo, IsAsked, IsPlaced, IsRunner, IsWaiting, MayGoOn, going_of, HeardOne, Runner}
+use Rattle.reference.proofs.Words.{◌≡◌, ℕ, ◌<◌, ◌≢◌, refl, sym, ◌∙◌, ap, subst, inl, inr, List, [], ◌∷◌, ◌++◌, length, Bool, true, cond, Option, None, Some, append_assoc, append_cancel_left, filter-append, filter, IfSome, IsSomeAnd, if_some_at, equal_itself, Header, Script, Mark, Offer, Reply, IsLegal, concerns, marks, is_lawful, record_limit, hear, Going, hears, less_max, meetings, marks_left, IsOnWay, AsksAlone, hears_keeps, way_beside, way_hears, way_solo, IsAsked, IsPlaced, IsRunner, IsWaiting, MayGoOn, going_of, HeardOne, Runner, arith, nat_tests}
 use Rattle.nc_base.specs.declared.step.Mark.TheVariants as mark
 
 -- ---- after the reply
@@ -7,8 +7,7 @@ use Rattle.nc_base.specs.declared.step.Mark.TheVariants as mark
 meeting_done : (script : Script) (header : Header) (order : List Mark) (r : ℕ) (s : Going) (o : Offer) (y : Reply) → IsOnWay script order r s (Some o)
     → IsOnWay script (order ++ mark.Meet (meetings order) ∷ []) r (hears header s y) None
 meeting_done script header order r s o y way =
-    let heard = hear header s.rank y in
-    way_hears script order r header s heard.0 o y heard.1 way refl
+    grind (arith, nat_tests, way_hears script order r header s (hear header s.rank y).0 o y (hear header s.rank y).1 way refl)
 
 alone_done : (script : Script) (header : Header) (order : List Mark) (r : ℕ) (s : Going) (o : Offer) (y : Reply) → AsksAlone script header order r s o
     → IsOnWay script (order ++ mark.Solo r (length s.answers) ∷ []) r (hears header s y) None
@@ -19,10 +18,8 @@ alone_done script header order r s o y asks =
 
 pub ready_after : (script : Script) (header : Header) (order : List Mark) (r : ℕ) (s : Going) (o : Offer) → is_lawful script ≡ true → r < script.ranks
     → IsPlaced script header order r s (Some o) → (y : Reply) → MayGoOn (hears header s y)
-ready_after script header order r s o lawful below (inl way) y =
-    record { script = script; order = order ++ mark.Meet (meetings order) ∷ []; r = r; lawful = lawful; one_of = below; way = meeting_done script header order r s o y way }
-ready_after script header order r s o lawful below (inr asks) y =
-    record { script = script; order = order ++ mark.Solo r (length s.answers) ∷ []; r = r; lawful = lawful; one_of = below; way = alone_done script header order r s o y asks }
+ready_after script header order r s o lawful below (inl way) y = grind (arith, nat_tests, meeting_done script header order r s o y way)
+ready_after script header order r s o lawful below (inr asks) y = grind (arith, nat_tests, alone_done script header order r s o y asks)
 
 -- ---- the next mark
 
@@ -32,14 +29,7 @@ Left script done r rest = (own : List Mark) → filter (concerns r) done ++ own 
 
 next_left : (script : Script) (done rest : List Mark) (m : Mark) (r : ℕ) → IsLegal script (done ++ m ∷ rest) → r < script.ranks → concerns r m ≡ true
     → Left script done r (m ∷ filter (concerns r) rest)
-next_left script done rest m r legal below own_mark own e =
-    append_cancel_left (filter (concerns r) done) own (m ∷ filter (concerns r) rest)
-    (e ∙ sym (legal.each_rank r below) ∙ filter-append (concerns r) done (m ∷ rest)
-    ∙ ap (λ (b : Bool). filter (concerns r) done ++ cond b (m ∷ filter (concerns r) rest) (filter (concerns r) rest)) own_mark)
-
--- a rank that has made its calls has no mark left
-none_left : (r k : ℕ) (s : Going) → s.calls ≡ [] → marks_left r k s None ≡ []
-none_left r k s e = ap (λ (cs : List Call). marks_from r (length s.answers) k s.rank.independent cs) e
+next_left script done rest m r legal below own_mark own e = grind (arith, nat_tests, append_cancel_left, filter, filter-append)
 
 -- a rank that waits with an offer of its own has that mark left
 alone_left : (script : Script) (header : Header) (done : List Mark) (r : ℕ) (s : Going) (o : Offer) (y : Reply) (rest : List Mark) → AsksAlone script header done r s o
@@ -63,15 +53,10 @@ pub record AtMeeting (script : Script) (done : List Mark) (r k : ℕ) (s : Going
 
 meeting_next : (script : Script) (header : Header) (done : List Mark) (r k : ℕ) (s : Going) (held : Option Offer) (rest : List Mark) → Left script done r (mark.Meet k ∷ rest)
     → IsPlaced script header done r s held → AtMeeting script done r k s held
-meeting_next script header done r k s None rest left (way, ended) =
-    let e : [] ≡ mark.Meet k ∷ rest = sym (none_left r (meetings done) s ended) ∙ left _ way.marks in
-    absurd cc
-meeting_next script header done r k s (Some o) rest left (inl way) =
-    let e = left _ way.marks in
-    record { offer = o; holds = refl; way = way; number = cc }
+meeting_next script header done r k s None rest left (way, ended) = grind (arith, nat_tests)
+meeting_next script header done r k s (Some o) rest left (inl way) = grind (arith, nat_tests)
 meeting_next script header done r k s (Some o) rest left (inr asks) =
-    let e = (alone_left script header done r s o no_reply (mark.Meet k ∷ rest) asks left).1 in
-    absurd cc
+    grind (arith, nat_tests, alone_left script header done r s o no_reply (mark.Meet k ∷ rest) asks left, no_reply)
 
 pub record AtOwn (script : Script) (header : Header) (done : List Mark) (r n : ℕ) (s : Going) (held : Option Offer) : Type 0 where
   pub offer : Offer
@@ -81,15 +66,10 @@ pub record AtOwn (script : Script) (header : Header) (done : List Mark) (r n : �
 
 own_next : (script : Script) (header : Header) (done : List Mark) (r n : ℕ) (s : Going) (held : Option Offer) (rest : List Mark) → Left script done r (mark.Solo r n ∷ rest)
     → IsPlaced script header done r s held → AtOwn script header done r n s held
-own_next script header done r n s None rest left (way, ended) =
-    let e : [] ≡ mark.Solo r n ∷ rest = sym (none_left r (meetings done) s ended) ∙ left _ way.marks in
-    absurd cc
-own_next script header done r n s (Some o) rest left (inl way) =
-    let e = left _ way.marks in
-    absurd cc
+own_next script header done r n s None rest left (way, ended) = grind (arith, nat_tests)
+own_next script header done r n s (Some o) rest left (inl way) = grind (arith, nat_tests)
 own_next script header done r n s (Some o) rest left (inr asks) =
-    let e = (alone_left script header done r s o no_reply (mark.Solo r n ∷ rest) asks left).1 in
-    record { offer = o; holds = refl; asks = asks; number = cc }
+    grind (arith, nat_tests, alone_left script header done r s o no_reply (mark.Solo r n ∷ rest) asks left, no_reply)
 
 -- ---- runners
 
@@ -103,8 +83,7 @@ waits_with script header done r runner o lawful below is e = record {
 }
   where
     some_asked : (held : Option Offer) (x : Offer) → held ≡ Some x → IfSome held (IsAsked header runner.rank.state) → IsSomeAnd held (IsAsked header runner.rank.state)
-    some_asked None x f h = absurd cc
-    some_asked (Some y) x f h = h
+    some_asked held x f h = grind (arith, nat_tests)
 
 pub meeting_waits : (script : Script) (header : Header) (done rest : List Mark) (r k : ℕ) (runner : Runner) → IsLegal script (done ++ mark.Meet k ∷ rest) → is_lawful script ≡ true
     → r < script.ranks → IsRunner script header done r runner → IsWaiting header runner
@@ -118,40 +97,22 @@ own_waits script header done rest r n runner legal lawful below is =
     let at = own_next script header done r n (going_of runner) runner.held (filter (concerns r) rest) (next_left script done rest (mark.Solo r n) r legal below (equal_itself r)) is.placed in
     waits_with script header done r runner at.offer lawful below is at.holds
 
--- what a rank knows when it has heard
-heard_low : (header : Header) (runner : Runner) (o : Offer) (y : Reply) → runner.held ≡ Some o → IfSome runner.held (IsAsked header runner.rank.state) → runner.rank.state.known < record_limit header.version
-    → y.records < record_limit header.version → (hears header (going_of runner) y).rank.known < record_limit header.version
-heard_low header runner o y e asked low few =
-    let heard = hear header runner.rank.state y in
-    let waits = (if_some_at (IsAsked header runner.rank.state) runner.held o e asked).waits in
-    let known = (hears_keeps header runner.rank.state heard.0 y heard.1 waits refl).0 in
-    subst (λ (n : ℕ). n < record_limit header.version) (sym known) (less_max runner.rank.state.known y.records (record_limit header.version) low few)
-
 running : (script : Script) (header : Header) (done : List Mark) (r : ℕ) (a b : Runner) (o : Offer) (one : HeardOne header a b) → a.held ≡ Some o
     → IfSome a.held (IsAsked header a.rank.state) → a.rank.state.known < record_limit header.version
     → IsOnWay script done r (hears header (going_of a) one.reply) None → IsRunner script header done r b
-running script header done r a b o one e asked low way = record {
-  of_header = one.heard.of_header;
-  low = subst (λ (n : ℕ). n < record_limit header.version) (sym one.heard.gone.known) (heard_low header a o one.reply e asked low one.low);
-  asked = one.heard.gone.asked;
-  placed = one.heard.gone.placed script done r way;
-}
+running script header done r a b o one e asked low way = grind (arith, nat_tests, if_some_at, hears_keeps, less_max)
 
 pub meeting_runner : (script : Script) (header : Header) (done rest : List Mark) (r k : ℕ) (a b : Runner) → IsLegal script (done ++ mark.Meet k ∷ rest) → r < script.ranks
     → IsRunner script header done r a → HeardOne header a b → IsRunner script header (done ++ mark.Meet k ∷ []) r b
 meeting_runner script header done rest r k a b legal below is one =
     let at = meeting_next script header done r k (going_of a) a.held (filter (concerns r) rest) (next_left script done rest (mark.Meet k) r legal below refl) is.placed in
-    running script header (done ++ mark.Meet k ∷ []) r a b at.offer one at.holds is.asked is.low
-    (subst (λ (j : ℕ). IsOnWay script (done ++ mark.Meet j ∷ []) r (hears header (going_of a) one.reply) None) at.number
-    (meeting_done script header done r (going_of a) at.offer one.reply at.way))
+    grind (arith, nat_tests, at, meeting_done script header done r (going_of a) at.offer one.reply at.way, running)
 
 pub own_runner : (script : Script) (header : Header) (done rest : List Mark) (r n : ℕ) (a b : Runner) → IsLegal script (done ++ mark.Solo r n ∷ rest) → r < script.ranks
     → IsRunner script header done r a → HeardOne header a b → IsRunner script header (done ++ mark.Solo r n ∷ []) r b
 own_runner script header done rest r n a b legal below is one =
     let at = own_next script header done r n (going_of a) a.held (filter (concerns r) rest) (next_left script done rest (mark.Solo r n) r legal below (equal_itself r)) is.placed in
-    running script header (done ++ mark.Solo r n ∷ []) r a b at.offer one at.holds is.asked is.low
-    (subst (λ (j : ℕ). IsOnWay script (done ++ mark.Solo r j ∷ []) r (hears header (going_of a) one.reply) None) at.number
-    (alone_done script header done r (going_of a) at.offer one.reply at.asks))
+    grind (arith, nat_tests, at, alone_done script header done r (going_of a) at.offer one.reply at.asks, running)
 
 pub beside_runner : (script : Script) (header : Header) (done : List Mark) (r q n : ℕ) (runner : Runner) → q ≢ r → IsRunner script header done r runner
     → IsRunner script header (done ++ mark.Solo q n ∷ []) r runner

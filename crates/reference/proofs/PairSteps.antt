@@ -1,5 +1,5 @@
 -- The requests that hold a byte, and the least byte that two hold, one holding after another.
-use Rattle.reference.proofs.Words.{◌≡◌, ℕ, ◌+◌, ◌<◌, refl, sym, ap, ◌∙◌, List, [], ◌∷◌, ◌++◌, length, map, drop, get_or, filter, fold, min, Bool, true, false, cond, Option, Some, None, drop_more, filter-append, list_any, Holding, Key, all_bytes, distinct, has_byte, holders, least, same_key, least_with, lesser_of}
+use Rattle.reference.proofs.Words.{◌≡◌, ℕ, ◌+◌, ◌<◌, refl, sym, ap, ◌∙◌, List, [], ◌∷◌, ◌++◌, length, map, drop, get_or, filter, fold, min, Bool, true, false, cond, Option, Some, None, drop_more, filter-append, list_any, Holding, Key, all_bytes, distinct, has_byte, holders, least, same_key, least_with, lesser_of, arith, nat_tests}
 
 -- ---- holders
 
@@ -7,26 +7,16 @@ kept : (h : Holding) (rest : List Holding) (x : ℕ) (t : Bool) → has_byte x h
     → holders (h ∷ rest) x ≡ distinct (map (λ h. h.0) (cond t (h ∷ filter (has_byte x) rest) (filter (has_byte x) rest)))
 kept h rest x t e = ap (λ (u : Bool). distinct (map (λ h. h.0) (cond u (h ∷ filter (has_byte x) rest) (filter (has_byte x) rest)))) e
 
-told_once : (k : Key) (keys : List Key) (t : Bool) → list_any (λ l. same_key l k) keys ≡ t
-    → cond (list_any (λ l. same_key l k) keys) keys (k ∷ keys) ≡ cond t keys (k ∷ keys)
-told_once k keys t e = ap (λ (u : Bool). cond u keys (k ∷ keys)) e
-
 pub no_holder : (h : Holding) (rest : List Holding) (x : ℕ) (keys : List Key) → has_byte x h ≡ false → keys ≡ holders rest x → keys ≡ holders (h ∷ rest) x
 no_holder h rest x keys e f = f ∙ sym (kept h rest x false e)
 
 pub known_holder : (h : Holding) (rest : List Holding) (x : ℕ) (keys : List Key) → has_byte x h ≡ true → list_any (λ l. same_key l h.0) keys ≡ true
     → keys ≡ holders rest x → keys ≡ holders (h ∷ rest) x
-known_holder h rest x keys e k f =
-    f
-    ∙ sym (told_once h.0 (holders rest x) true (ap (λ (ks : List Key). list_any (λ l. same_key l h.0) ks) (sym f) ∙ k))
-    ∙ sym (kept h rest x true e)
+known_holder h rest x keys e k f = grind (arith, nat_tests)
 
 pub new_holder : (h : Holding) (rest : List Holding) (x : ℕ) (keys : List Key) → has_byte x h ≡ true → list_any (λ l. same_key l h.0) keys ≡ false
     → keys ≡ holders rest x → h.0 ∷ keys ≡ holders (h ∷ rest) x
-new_holder h rest x keys e k f =
-    ap (λ (ks : List Key). h.0 ∷ ks) f
-    ∙ sym (told_once h.0 (holders rest x) false (ap (λ (ks : List Key). list_any (λ l. same_key l h.0) ks) (sym f) ∙ k))
-    ∙ sym (kept h rest x true e)
+new_holder h rest x keys e k f = grind (arith, nat_tests)
 
 -- ---- the least
 
@@ -35,8 +25,7 @@ folds_on a [] = refl
 folds_on a (x ∷ xs) = folds_on (min a x) xs
 
 pub least_is : (xs : List ℕ) → least_with None xs ≡ least xs
-least_is [] = refl
-least_is (x ∷ xs) = folds_on x xs
+least_is xs = grind (arith, nat_tests, folds_on)
 
 pub least_joined : (xs : List ℕ) (known : Option ℕ) (ys : List ℕ) → least_with known (xs ++ ys) ≡ least_with (least_with known xs) ys
 least_joined [] known ys = refl
@@ -49,16 +38,7 @@ next_left {A} xs i x d h e = drop_more xs i d h ∙ ap (λ (y : A). y ∷ drop (
 
 pub least_step : (p : ℕ → Bool) (xs : List ℕ) (i b : ℕ) (s : Bool) (known known' whole : Option ℕ) → i < length xs → b ≡ get_or xs i 0 → s ≡ p b
     → known' ≡ cond s (Some (lesser_of known b)) known → least_with known (filter p (drop i xs)) ≡ whole → least_with known' (filter p (drop (i + 1) xs)) ≡ whole
-least_step p xs i b s known known' whole h e t k w =
-    ap (λ (o : Option ℕ). least_with o (filter p (drop (i + 1) xs))) (k ∙ ap (λ (u : Bool). cond u (Some (lesser_of known b)) known) t)
-    ∙ by_test (p b)
-    ∙ sym (ap (λ (l : List ℕ). least_with known (filter p l)) (next_left xs i b 0 h e))
-    ∙ w
-  where
-    by_test : (u : Bool) → least_with (cond u (Some (lesser_of known b)) known) (filter p (drop (i + 1) xs))
-        ≡ least_with known (cond u (b ∷ filter p (drop (i + 1) xs)) (filter p (drop (i + 1) xs)))
-    by_test true = refl
-    by_test false = refl
+least_step p xs i b s known known' whole h e t k w = grind (arith, nat_tests, filter p (drop (i + 1) xs), next_left xs i b 0 h e)
 
 pub held_step : (p : ℕ → Bool) (held : List Holding) (i : ℕ) (h : Holding) (known known' whole : Option ℕ) → i < length held → h ≡ get_or held i h
     → known' ≡ least_with known (filter p h.1) → least_with known (filter p (all_bytes (drop i held))) ≡ whole

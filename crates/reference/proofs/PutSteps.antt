@@ -1,5 +1,5 @@
 -- The puts of a step, one after another.
-use Rattle.reference.proofs.Words.{◌≡◌, ℕ, ◌+◌, ◌^◌, ◌<◌, ◌≤◌, ◌⊎◌, inl, inr, refl, sym, ap, ◌∙◌, subst, List, [], ◌∷◌, length, drop, get_or, fold, max, Option, Some, None, true, arith, slice_get, IfSome, cases_lt, drop_all, Header, Var, Post, In, longer, after_puts, put_post, put_some, Setting, header_len, is_sound, end_of, needed, needed_by, records_of, records_of_some, check_some, put, Puts, sound_end, IsAccepted, small_of}
+use Rattle.reference.proofs.Words.{◌≡◌, ℕ, ◌+◌, ◌^◌, ◌<◌, ◌≤◌, inl, inr, refl, sym, ap, ◌∙◌, List, [], ◌∷◌, length, drop, get_or, fold, max, Option, Some, None, true, arith, slice_get, IfSome, drop_all, Header, Var, Post, In, longer, after_puts, put_post, Setting, header_len, is_sound, end_of, needed, needed_by, records_of, records_of_some, put, Puts, sound_end, IsAccepted, small_of, nat_tests}
 use Rattle.nc_base.specs.declared.answer.Code.TheVariants as code
 use Rattle.reference.proofs.PairSteps.{next_left}
 
@@ -7,40 +7,24 @@ use Rattle.reference.proofs.PairSteps.{next_left}
 
 pub needed_is : (header : Header) (p : ℕ × Post) (n : ℕ) → IsAccepted header p.1.var p.1.region → IfSome (slice_get header.vars p.1.var) (λ v. n ≡ records_of header v p.1.region)
     → n ≡ needed header p.1
-needed_is header p n a some = by_var (slice_get header.vars p.1.var) a.2 some
-  where
-    by_var : (o : Option Var) → check_some header o p.1.region a.0 a.1 ≡ code.Ok → IfSome o (λ v. n ≡ records_of header v p.1.region) → n ≡ records_of_some header o p.1.region
-    by_var None h some = absurd cc
-    by_var (Some v) h some = some
+needed_is header p n a some = grind (arith, nat_tests)
 
 pub needed_step : (header : Header) (puts : Puts) (i : ℕ) (p : ℕ × Post) (n m k w : ℕ) → i < length puts → p ≡ get_or puts i p → m ≡ needed header p.1 → k ≡ max n m
     → max n (needed_by header (drop i puts)) ≡ w → max k (needed_by header (drop (i + 1) puts)) ≡ w
-needed_step header puts i p n m k w h e f g so_far =
-    let left : needed_by header (drop i puts) ≡ max (needed header p.1) (needed_by header (drop (i + 1) puts)) =
-    ap (λ (ps : Puts). needed_by header ps) (next_left puts i p p h e) in
-    omega (arith, left, f, g, so_far)
+needed_step header puts i p n m k w h e f g so_far = grind (arith, nat_tests, next_left puts i p p h e)
 
 pub needed_end : (header : Header) (puts : Puts) (i n w : ℕ) → length puts ≤ i → max n (needed_by header (drop i puts)) ≡ w → n ≡ w
-needed_end header puts i n w l h =
-    let none : needed_by header (drop i puts) ≡ 0 = ap (λ (ps : Puts). needed_by header ps) (drop_all i puts l) in
-    omega (arith, none, h)
+needed_end header puts i n w l h = grind (arith, nat_tests, drop_all)
 
 one_end : (header : Header) (post : Post) → is_sound header ≡ true → IsAccepted header post.var post.region → end_of header (header_len header) (needed header post) < 2 ^ 62
 one_end header post sound a = by_var (slice_get header.vars post.var) refl
   where
     by_var : (o : Option Var) → slice_get header.vars post.var ≡ o → end_of header (header_len header) (records_of_some header o post.region) < 2 ^ 62
-    by_var None e = absurd (none_accepted (ap (λ (o : Option Var). check_some header o post.region a.0 a.1) (sym e) ∙ a.2))
-      where
-        none_accepted : code.ENotVar ≡ code.Ok → ⊥
-        none_accepted h = cc
+    by_var None e = grind (arith, nat_tests)
     by_var (Some v) e = let small = small_of header post.var v post.region e a in omega (arith, small.ends)
 
 either : (header : Header) (a b : ℕ) → end_of header (header_len header) a < 2 ^ 62 → end_of header (header_len header) b < 2 ^ 62 → end_of header (header_len header) (max a b) < 2 ^ 62
-either header a b h k = by_order (cases_lt a b)
-  where
-    by_order : (a < b) ⊎ (b ≤ a) → end_of header (header_len header) (max a b) < 2 ^ 62
-    by_order (inl l) = let e : b ≡ max a b = omega arith in subst (λ (n : ℕ). end_of header (header_len header) n < 2 ^ 62) e k
-    by_order (inr l) = let e : a ≡ max a b = omega arith in subst (λ (n : ℕ). end_of header (header_len header) n < 2 ^ 62) e h
+either header a b h k = grind (arith, nat_tests)
 
 pub ends_low : (header : Header) (puts : Puts) → is_sound header ≡ true → ((p : ℕ × Post) → In puts p → IsAccepted header p.1.var p.1.region)
     → end_of header (header_len header) (needed_by header puts) < 2 ^ 62
@@ -50,24 +34,11 @@ ends_low header (p ∷ puts) sound all =
 
 -- ---- the file
 
-posted : (s : Setting) (p : ℕ × Post) (file now : List ℕ) → IsAccepted s.header p.1.var p.1.region
-    → IfSome (slice_get s.header.vars p.1.var) (λ v. now ≡ put s.header v p.1.region p.1.bytes file) → now ≡ put_post s file p
-posted s p file now a some = by_var (slice_get s.header.vars p.1.var) a.2 some
-  where
-    by_var : (o : Option Var) → check_some s.header o p.1.region a.0 a.1 ≡ code.Ok → IfSome o (λ v. now ≡ put s.header v p.1.region p.1.bytes file) → now ≡ put_some s o p.1 file
-    by_var None h some = absurd cc
-    by_var (Some v) h some = some
-
 pub write_step : (header : Header) (puts : Puts) (i : ℕ) (p : ℕ × Post) (file now old : List ℕ) → i < length puts → p ≡ get_or puts i p → IsAccepted header p.1.var p.1.region
     → IfSome (slice_get header.vars p.1.var) (λ v. now ≡ put header v p.1.region p.1.bytes file)
     → ((s : Setting) → s.header ≡ header → fold (put_post s) file (drop i puts) ≡ fold (put_post s) old puts)
     → (s : Setting) → s.header ≡ header → fold (put_post s) now (drop (i + 1) puts) ≡ fold (put_post s) old puts
-write_step header puts i p file now old h e a some so_far s same =
-    ap (λ (f : List ℕ). fold (put_post s) f (drop (i + 1) puts))
-    (posted s p file now (subst (λ (x : Header). IsAccepted x p.1.var p.1.region) (sym same) a)
-    (subst (λ (x : Header). IfSome (slice_get x.vars p.1.var) (λ v. now ≡ put x v p.1.region p.1.bytes file)) (sym same) some))
-    ∙ sym (ap (λ (ps : Puts). fold (put_post s) file ps) (next_left puts i p p h e))
-    ∙ so_far s same
+write_step header puts i p file now old h e a some so_far s same = grind (arith, nat_tests, next_left puts i p p h e, fold)
 
 pub write_end : (header : Header) (puts : Puts) (i : ℕ) (file old : List ℕ) → length puts ≤ i
     → ((s : Setting) → s.header ≡ header → fold (put_post s) file (drop i puts) ≡ fold (put_post s) old puts)

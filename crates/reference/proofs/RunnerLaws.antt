@@ -1,5 +1,5 @@
 -- A rank that goes through its calls, up to its next offer or to its end.
-use Rattle.reference.proofs.Words.{◌≡◌, ℕ, ◌+◌, ◌-◌, ◌<◌, ◌≤◌, refl, sym, ◌∙◌, subst, inl, inr, ◌⊎◌, List, [], ◌∷◌, ◌++◌, length, take, drop, get_or, true, Option, None, Some, arith, take_rest, Header, Answer, Call, Script, Mark, Offer, Want, is_lawful_call, most_parts, Going, advance, IsRight, IsSoundOffer, IsSoundWant, posts_held, answered, asking, IsOnWay, AsksAlone, alone_keeps, meets_keeps, solo_keeps, comes_on, comes_to_end, comes_to_meeting, comes_to_solo, call_lawful, way_answers, way_meets, HasGone, MayGoOn, said_at}
+use Rattle.reference.proofs.Words.{◌≡◌, ℕ, ◌+◌, ◌-◌, ◌<◌, ◌≤◌, sym, ◌∙◌, subst, inl, inr, ◌⊎◌, List, [], ◌∷◌, ◌++◌, length, take, drop, get_or, true, Option, None, Some, arith, take_rest, Header, Answer, Call, Script, Mark, Offer, Want, is_lawful_call, most_parts, Going, advance, IsRight, IsSoundOffer, IsSoundWant, posts_held, answered, asking, IsOnWay, AsksAlone, alone_keeps, meets_keeps, solo_keeps, comes_on, comes_to_end, comes_to_meeting, comes_to_solo, call_lawful, way_answers, way_meets, HasGone, MayGoOn, said_at, nat_tests, common_steps}
 use Rattle.nc_base.specs.declared.request.Direction.TheVariants as direction
 use Rattle.nc_base.specs.declared.step.Want.TheVariants as want
 use Rattle.serial_spec.specs.RankMachine as machine
@@ -17,12 +17,10 @@ KeepsFew rank next c = (ranks r : ℕ) → is_lawful_call ranks r c ≡ true →
 
 -- the calls that are left when the first of some is taken
 pub first_call : (calls : List Call) (c : Call) → 1 ≤ length calls → c ≡ get_or calls 0 c → calls ≡ c ∷ take (length calls - 1) (drop 1 calls)
-first_call [] c l e = absurd (omega arith)
-first_call (x ∷ calls) c l e = λ i. sym e i ∷ sym (take_rest (x ∷ calls) 1) i
+first_call calls c l e = grind (arith, nat_tests, take_rest, common_steps)
 
 pub no_call : (calls : List Call) → length calls < 1 → calls ≡ []
-no_call [] l = refl
-no_call (c ∷ calls) l = absurd (omega arith)
+no_call calls l = grind (arith, nat_tests, common_steps)
 
 pub comes_answered : (header same : Header) (s t : Going) (next : machine.Rank) (w : Want) (a : Answer) (more : List Answer) (c : Call) (calls : List Call) → Comes header s t
     → t.calls ≡ c ∷ calls → same ≡ header → (next, w) ≡ machine.step same t.rank c → w ≡ want.Answered a → KeepsFew t.rank next c → more ≡ t.answers ++ a ∷ []
@@ -59,10 +57,7 @@ gone_ended header s t h e = record {
 -- ---- offers
 
 right_of : (header : Header) (o : Offer) → IsSoundOffer header o → IsRight header o
-right_of header o sound = record {
-  puts = λ p m. record { accepted = (o.known, direction.Put, (sound.puts p m).accepted); whole = (sound.puts p m).whole };
-  gets = λ p m. (o.known, direction.Get, sound.gets p m);
-}
+right_of header o sound = grind (arith, nat_tests)
 
 gone_meeting : (header : Header) (s t : Going) (next : machine.Rank) (o : Offer) (c : Call) (calls : List Call) → Comes header s t → t.calls ≡ c ∷ calls
     → (next, want.Meet o) ≡ machine.step header t.rank c → KeepsFew t.rank next c → IsSoundOffer header o → HasGone header s (asking t next calls) (Some o)

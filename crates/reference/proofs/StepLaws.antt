@@ -1,5 +1,5 @@
 -- The steps of a run: the offers of its ranks, the replies to them, and the ranks that have heard.
-use Rattle.reference.proofs.Words.{◌≡◌, ℕ, zero, suc, ◌+◌, ◌-◌, ◌<◌, ◌≤◌, refl, sym, ◌∙◌, ap, subst, inl, inr, List, [], ◌∷◌, ◌++◌, length, map, max, set, drop, get_or, Bool, true, false, Option, None, Some, append_assoc, append-nil, length-set, arith, nat_tests, drop_all, drop_more, map-set, same_Some, slice_get-map, slice_get, nat_lt, zip, flat_map, IfSome, IsSomeAnd, enumerate_from, entry_set, entry_set_other, Header, Offer, Reply, Counted, Setting, meeting, needs, puts_of, solo, told, record_limit, In, Open, wanted, DoesFit, advance, hears, offers_of, counted, IsRight, less_max, meeting_fits, solo_fits, meeting_within, replied, replies_long, at_in, Arrived, heard, solo_to, step_to, arrived, going_of, HasGone, IsAsked, IsWaiting, MayGoOn, all_arrived, AllHear, AreWaiting, DoFit, HasHeard, HaveHeard, Heard, HeardOne, Runner, some_limit}
+use Rattle.reference.proofs.Words.{◌≡◌, ℕ, zero, suc, ◌+◌, ◌-◌, ◌<◌, ◌≤◌, refl, sym, ◌∙◌, ap, subst, inl, inr, List, [], ◌∷◌, ◌++◌, length, map, max, set, drop, get_or, Bool, true, false, Option, Some, append_assoc, append-nil, length-set, arith, nat_tests, drop_all, drop_more, map-set, same_Some, slice_get-map, slice_get, nat_lt, zip, flat_map, IfSome, enumerate_from, entry_set, entry_set_other, Header, Offer, Reply, Counted, Setting, meeting, needs, puts_of, solo, told, record_limit, In, wanted, DoesFit, hears, offers_of, counted, IsRight, less_max, meeting_fits, solo_fits, meeting_within, replied, replies_long, at_in, heard, step_to, arrived, going_of, HasGone, IsAsked, IsWaiting, MayGoOn, all_arrived, AllHear, AreWaiting, DoFit, HasHeard, HaveHeard, Heard, HeardOne, Runner, some_limit}
 use Rattle.reference.proofs.MeetSteps.{needs_low, own_right, puts_right}
 use Rattle.nc_base.specs.declared.step.Mark.TheVariants as mark
 
@@ -11,44 +11,22 @@ pub record Holds (header : Header) (runner : Runner) : Type 0 where
   pub asked : IsAsked header runner.rank.state offer
 
 pub holds_one : (header : Header) (runner : Runner) → IsWaiting header runner → Holds header runner
-holds_one header runner w = by runner.held refl w.asked
-  where
-    by : (held : Option Offer) → runner.held ≡ held → IsSomeAnd held (IsAsked header runner.rank.state) → Holds header runner
-    by None e h = absurd h
-    by (Some o) e h = record { offer = o; is = e; asked = h }
+holds_one header runner w = grind (arith, nat_tests)
 
 -- the rank's offer is the one that it waits with
 pub held_asked : (header : Header) (runner : Runner) (o : Offer) → IsWaiting header runner → runner.held ≡ Some o → IsAsked header runner.rank.state o
-held_asked header runner o w e =
-    let h = holds_one header runner w in
-    subst (λ (p : Offer). IsAsked header runner.rank.state p) (same_Some h.offer o (sym h.is ∙ e)) h.asked
+held_asked header runner o w e = grind (arith, nat_tests)
 
 first_offer : (runner : Runner) (runners : List Runner) (o : Offer) → runner.held ≡ Some o → offers_of (all_arrived (runner ∷ runners)) ≡ o ∷ offers_of (all_arrived runners)
 first_offer runner runners o e = ap (λ (m : Option Offer). offers_of ((going_of runner, m) ∷ all_arrived runners)) e
 
--- the offer of one rank more
-one_more : (runner : Runner) (runners : List Runner) → offers_of (all_arrived (runner ∷ runners)) ≡ offers_of (arrived runner ∷ []) ++ offers_of (all_arrived runners)
-one_more runner runners = by runner.held
-  where
-    by : (held : Option Offer) → offers_of ((going_of runner, held) ∷ all_arrived runners) ≡ offers_of ((going_of runner, held) ∷ []) ++ offers_of (all_arrived runners)
-    by None = refl
-    by (Some o) = refl
-
 pub offers_step : (runners : List Runner) (i : ℕ) (runner : Runner) (offers more whole : List Offer) → i < length runners → runner ≡ get_or runners i runner
     → more ≡ offers ++ offers_of (arrived runner ∷ []) → offers ++ offers_of (all_arrived (drop i runners)) ≡ whole
     → more ++ offers_of (all_arrived (drop (i + 1) runners)) ≡ whole
-offers_step runners i runner offers more whole l e m h =
-    let rest = drop (i + 1) runners in
-    ap (λ (os : List Offer). os ++ offers_of (all_arrived rest)) m
-    ∙ append_assoc offers (offers_of (arrived runner ∷ [])) (offers_of (all_arrived rest))
-    ∙ ap (λ (os : List Offer). offers ++ os) (sym (one_more runner rest))
-    ∙ ap (λ (x : Runner). offers ++ offers_of (all_arrived (x ∷ rest))) e
-    ∙ ap (λ (xs : List Runner). offers ++ offers_of (all_arrived xs)) (sym (drop_more runners i runner l))
-    ∙ h
+offers_step runners i runner offers more whole l e m h = grind (arith, nat_tests, append_assoc, drop_more)
 
 pub offers_end : (runners : List Runner) (i : ℕ) (offers whole : List Offer) → length runners ≤ i → offers ++ offers_of (all_arrived (drop i runners)) ≡ whole → offers ≡ whole
-offers_end runners i offers whole l h =
-    sym (append-nil offers) ∙ ap (λ (xs : List Runner). offers ++ offers_of (all_arrived xs)) (sym (drop_all i runners l)) ∙ h
+offers_end runners i offers whole l h = grind (arith, nat_tests, append-nil, drop_all)
 
 pub offers_long : (header : Header) (runners : List Runner) → AreWaiting header runners → length (offers_of (all_arrived runners)) ≡ length runners
 offers_long header [] all = refl
@@ -61,9 +39,7 @@ offers_long header (runner ∷ runners) all =
 pub offer_at : (header : Header) (runners : List Runner) (r : ℕ) (runner : Runner) (o : Offer) → AreWaiting header runners → slice_get runners r ≡ Some runner → runner.held ≡ Some o
     → slice_get (offers_of (all_arrived runners)) r ≡ Some o
 offer_at header [] r runner o all e f = absurd cc
-offer_at header (x ∷ runners) zero runner o all e f =
-    let same : x ≡ runner = same_Some x runner e in
-    ap (λ (os : List Offer). slice_get os 0) (first_offer x runners o (ap (λ (s : Runner). s.held) same ∙ f))
+offer_at header (x ∷ runners) zero runner o all e f = grind (arith, nat_tests)
 offer_at header (x ∷ runners) (suc r) runner o all e f =
     let h = holds_one header x (all 0 x refl) in
     ap (λ (os : List Offer). slice_get os (suc r)) (first_offer x runners h.offer h.is) ∙ offer_at header runners r runner o (λ q y g. all (suc q) y g) e f
@@ -73,8 +49,7 @@ pub record Offered (header : Header) (o : Offer) : Type 0 where
   pub low : o.known < record_limit header.version
 
 asked_offer : (header : Header) (runner : Runner) (o : Offer) → IsAsked header runner.rank.state o → runner.rank.state.known < record_limit header.version → Offered header o
-asked_offer header runner o asked low =
-    record { right = asked.right; low = subst (λ (n : ℕ). n < record_limit header.version) (sym asked.known) low }
+asked_offer header runner o asked low = grind (arith, nat_tests)
 
 pub runner_offer : (header : Header) (runner : Runner) (o : Offer) → IsWaiting header runner → runner.held ≡ Some o → Offered header o
 runner_offer header runner o w e = asked_offer header runner o (held_asked header runner o w e) w.low
@@ -114,17 +89,9 @@ solo_low s rank o c h =
 
 -- ---- replies
 
--- a reply that fits the offer fits what the rank waits for
-pub fits_open : (header : Header) (m : Option Open) (o : Offer) (y : Reply) → IfSome m (λ w. w.gets ≡ o.batch.gets) → DoesFit header o y
-    → IfSome m (λ w. map (λ b. length b) y.got ≡ map (wanted header) w.gets)
-fits_open header None o y e f = tt
-fits_open header (Some w) o y e f = f ∙ ap (λ (posts : List _). map (wanted header) posts) (sym e)
-
 pub hears_fit : (header : Header) (runner : Runner) (o : Offer) (y : Reply) → IsWaiting header runner → runner.held ≡ Some o → DoesFit header o y
     → IfSome runner.rank.state.«open» (λ w. map (λ b. length b) y.got ≡ map (wanted runner.rank.header) w.gets)
-hears_fit header runner o y w e fit =
-    subst (λ (h : Header). IfSome runner.rank.state.«open» (λ p. map (λ b. length b) y.got ≡ map (wanted h) p.gets)) (sym w.of_header)
-    (fits_open header runner.rank.state.«open» o y (held_asked header runner o w e).gets fit)
+hears_fit header runner o y w e fit = grind (arith, nat_tests)
 
 pub may_hear : (header : Header) (runner : Runner) (y : Reply) → IsWaiting header runner → MayGoOn (hears runner.rank.header (going_of runner) y)
 may_hear header runner y w = subst (λ (h : Header). MayGoOn (hears h (going_of runner) y)) (sym w.of_header) (w.ready y)
@@ -153,12 +120,7 @@ pub meeting_step : (s : Setting) (before now : List Runner) (replies : List Repl
     → replies ≡ (meeting s (offers_of (all_arrived before)) (counted old was)).1 → AllHear s.header replies before now
     → (counted file records, all_arrived now) ≡ step_to s (counted old was, all_arrived before) (mark.Meet k)
 meeting_step s before now replies old file was records k waiting f n y all =
-    let offers = offers_of (all_arrived before) in
-    let long : length replies ≡ length before =
-    ap (λ (ys : List Reply). length ys) y ∙ replies_long s offers (counted old was) ∙ offers_long s.header before waiting in
-    let ranks : all_arrived now ≡ map (heard s.header) (zip (all_arrived before) (meeting s offers (counted old was)).1) =
-    heard_all s.header before now replies all long ∙ ap (λ (ys : List Reply). map (heard s.header) (zip (all_arrived before) ys)) y in
-    λ i. (counted (f i) (n i), ranks i)
+    grind (arith, nat_tests, replies_long s (offers_of (all_arrived before)) (counted old was), offers_long s.header before waiting, heard_all)
 
 -- each has heard a reply whose count the header can have
 pub have_heard : (s : Setting) (before now : List Runner) (replies : List Reply) (c : Counted) → AreWaiting s.header before → c.records < record_limit s.header.version
@@ -199,45 +161,20 @@ hear_more header replies old now i a b y e f g heard each r x z w l h k m = by_p
 -- what a rank heard, under the same header
 pub heard_by : (header : Header) (a b : Runner) (y : Reply) → a.rank.header ≡ header → b.rank.header ≡ a.rank.header
     → HasGone a.rank.header (hears a.rank.header (going_of a) y) (going_of b) b.held → Heard header y a b
-heard_by header a b y e f gone =
-    record { of_header = f ∙ e; gone = subst (λ (h : Header). HasGone h (hears h (going_of a) y) (going_of b) b.held) e gone }
+heard_by header a b y e f gone = grind (arith, nat_tests)
 
 pub has_heard : (header : Header) (rank : ℕ) (before : List Runner) (a b : Runner) → slice_get before rank ≡ Some a → HeardOne header a b → HasHeard header rank before (set before rank b)
-has_heard header rank before a b e one = record {
-  long = length-set before rank b;
-  own = λ x y f g.
-      let was : a ≡ x = same_Some a x (sym e ∙ f) in
-      let is : b ≡ y = same_Some b y (sym (entry_set before rank a b e) ∙ g) in
-      subst (λ (z : Runner). HeardOne header x z) is (subst (λ (z : Runner). HeardOne header z b) was one);
-  others = λ r other. entry_set_other before rank r b other;
-}
+has_heard header rank before a b e one = grind (arith, nat_tests, length-set, same_Some, entry_set, entry_set_other)
 
 -- the reply to a step alone
 pub own_reply : (s : Setting) (rank : ℕ) (o : Offer) (file : List ℕ) (a b : Runner) (y : Reply) → Offered s.header o → y ≡ (solo s rank o (counted file 0)).1 → Heard s.header y a b → HeardOne s.header a b
-own_reply s rank o file a b y offered e heard = record {
-  reply = y;
-  low = subst (λ (z : Reply). z.records < record_limit s.header.version) (sym e) (solo_low s rank o (counted file 0) offered);
-  heard = heard;
-}
+own_reply s rank o file a b y offered e heard = grind (arith, nat_tests, solo_low s rank o (counted file 0) offered)
 
 pub own_fits : (s : Setting) (rank : ℕ) (o : Offer) (file : List ℕ) (runner : Runner) (y : Reply) → IsWaiting s.header runner → runner.held ≡ Some o → y ≡ (solo s rank o (counted file 0)).1
     → IfSome runner.rank.state.«open» (λ w. map (λ b. length b) y.got ≡ map (wanted runner.rank.header) w.gets)
-own_fits s rank o file runner y w e f =
-    hears_fit s.header runner o y w e (subst (λ (z : Reply). DoesFit s.header o z) (sym f) (solo_fits s rank o (counted file 0)))
+own_fits s rank o file runner y w e f = grind (arith, nat_tests, solo_fits s rank o (counted file 0), hears_fit)
 
 pub alone_step : (s : Setting) (before : List Runner) (a b : Runner) (o : Offer) (y : Reply) (old file : List ℕ) (records rank n : ℕ) → slice_get before rank ≡ Some a → a.held ≡ Some o
     → file ≡ (solo s rank o (counted old 0)).0.file → y ≡ (solo s rank o (counted old 0)).1 → Heard s.header y a b
     → (counted file records, all_arrived (set before rank b)) ≡ step_to s (counted old records, all_arrived before) (mark.Solo rank n)
-alone_step s before a b o y old file records rank n e h f g heard =
-    let c = counted old records in
-    let ranks = all_arrived before in
-    let there : slice_get ranks rank ≡ Some (arrived a) =
-    slice_get-map arrived before rank ∙ ap (λ (m : Option Runner). elim m [ None ↦ None | Some x ↦ Some (arrived x) ]) e in
-    let step : step_to s (c, ranks) (mark.Solo rank n) ≡ solo_to s rank c ranks (going_of a, Some o) =
-    ap (λ (m : Option Arrived). elim m [ None ↦ (c, ranks) | Some x ↦ solo_to s rank c ranks x ]) there
-    ∙ ap (λ (m : Option Offer). solo_to s rank c ranks (going_of a, m)) h in
-    let own : arrived b ≡ advance s.header (hears s.header (going_of a) (solo s rank o (counted old 0)).1) =
-    heard.gone.arrived ∙ ap (λ (z : Reply). advance s.header (hears s.header (going_of a) z)) g in
-    let all : all_arrived (set before rank b) ≡ set ranks rank (advance s.header (hears s.header (going_of a) (solo s rank o (counted old 0)).1)) =
-    map-set arrived before rank b ∙ ap (λ (x : Arrived). set ranks rank x) own in
-    (λ i. (counted (f i) records, all i)) ∙ sym step
+alone_step s before a b o y old file records rank n e h f g heard = grind (arith, nat_tests, slice_get-map, set, map-set)

@@ -76,6 +76,7 @@ pub use Rattle.std.proofs.lemmas.Option.{get_or_from_slice_get, same_Some, slice
 pub use Rattle.std.proofs.lemmas.Result.{IfOk-weaker, on_ok_weaker}
 pub use Rattle.std.specs.List.{AllByRecursion, enumerate_from, list_any, range_with_len}
 pub use Rattle.std.specs.Prelude.{IfSome, IsSomeAnd, flat_map, nat_lt, slice_get, zip}
+pub use Rattle.std.proofs.lemmas.Grind.{common_steps}
 pub use Rattle.var_layout.proofs.ElementPlaces.{place_fixed, place_record, product_pos, row_below_bytes, sound_end}
 pub use Rattle.vara_extents.proofs.AcceptedLaws.{passed, records_below}
 pub use Rattle.vara_extents.proofs.NumberLaws.{length-places, place_at}
