@@ -1,5 +1,5 @@
 -- A header with another record count: sound, and writable, where its file does not end too far.
-use Rattle.nc_classic_c.proofs.Words.{◌≡◌, ℕ, suc, ◌+◌, ◌-◌, ◌*◌, ◌^◌, ◌<◌, refl, sym, ◌∙◌, ap, subst, List, [], ◌∷◌, map, Bool, true, false, cond, ◌&&◌, ◌||◌, Option, Some, None, arith, nat_lt, nat_le, ◌==◌, is_none, option_map, nat_tests, option_or, w32, w64, byte_len, and_from, lt-leb, ltb-true, and_first, and_second, neither_some, none_of_test, both_none, told_unless, Header, Var, file_limit, record_limit, is_record, vsize, recsize, record_share, last_share, greatest, end_of_var, share, sharing, sharing_with, sharing_from, header_len, is_version, all_ones, first_check, fault_if, first_with, two_record_dims, record_later, bad_id, is_too_large, measure, past_bound, keeps_bound, is_sound, is_writable, is_writable_list, is_writable_dim, is_writable_attr, is_writable_var, fits_count, fits_field, counts_are_small, small_field, file_end, measured, canon_len}
+use Rattle.nc_classic_c.proofs.Words.{◌≡◌, ℕ, suc, ◌+◌, ◌-◌, ◌*◌, ◌^◌, ◌<◌, refl, sym, ◌∙◌, ap, subst, List, [], ◌∷◌, map, Bool, true, false, cond, ◌&&◌, ◌||◌, Option, Some, None, arith, nat_lt, nat_le, ◌==◌, is_none, option_map, nat_tests, w32, w64, byte_len, and_from, lt-leb, ltb-true, and_first, and_second, neither_some, none_of_test, both_none, told_unless, Header, Var, file_limit, record_limit, is_record, vsize, recsize, record_share, last_share, greatest, end_of_var, sharing, sharing_from, header_len, is_version, all_ones, first_check, fault_if, first_with, two_record_dims, record_later, bad_id, is_too_large, measure, past_bound, keeps_bound, is_sound, is_writable, is_writable_list, is_writable_dim, is_writable_attr, is_writable_var, fits_count, counts_are_small, file_end, measured, canon_len}
 use Rattle.std.specs.Prelude.{not}
 use Rattle.nc_base.specs.declared.errors.HeaderErr.TheVariants as fault
 use Rattle.serial_spec.specs.Layout.{end_of}
@@ -11,8 +11,7 @@ counted header n = record header { records = n }
 -- ---- tests
 
 no_fault_at : {A : Type 0} (t : Bool) (x : A) → t ≡ false → cond t (Some x) None ≡ None
-no_fault_at true x h = cc
-no_fault_at false x h = refl
+no_fault_at t x h = grind (arith, nat_tests)
 
 no_map : {A B : Type 0} (f : A → B) (o q : Option A) → o ≡ q → option_map f q ≡ None → option_map f o ≡ None
 no_map f o q e h = ap (option_map f) e ∙ h
@@ -22,30 +21,20 @@ no_map f o q e h = ap (option_map f) e ∙ h
 same_len : (header : Header) (n : ℕ) → header_len (counted header n) ≡ header_len header
 same_len header n = canon_len (counted header n) ∙ sym (canon_len header)
 
-same_with : (header : Header) (n : ℕ) (v : Var) (k m : ℕ) (ws : List Var) → sharing_with (counted header n) v k m ws ≡ sharing_with header v k m ws
-same_with header n v k m [] = refl
-same_with header n v k m (w ∷ ws) = ap (λ (o : Option (ℕ × ℕ)). cond (share header v w) (Some (k, m)) o) (same_with header n v k (suc m) ws)
-
 same_from : (header : Header) (n first k : ℕ) (vs : List Var) → sharing_from (counted header n) first k vs ≡ sharing_from header first k vs
 same_from header n first k [] = refl
-same_from header n first k (v ∷ vs) =
-    ap (λ (o : Option (ℕ × ℕ)). cond (nat_lt v.begin first) (Some (k, k)) (option_or o (sharing_from (counted header n) first (suc k) vs))) (same_with header n v k (suc k) vs)
-    ∙ ap (λ (o : Option (ℕ × ℕ)). cond (nat_lt v.begin first) (Some (k, k)) (option_or (sharing_with header v k (suc k) vs) o)) (same_from header n first (suc k) vs)
+same_from header n first k (v ∷ vs) = grind (arith, nat_tests, same_from header n first (suc k) vs)
 
 same_sharing : (header : Header) (n : ℕ) → sharing (counted header n) (header_len (counted header n)) ≡ sharing header (header_len header)
-same_sharing header n =
-    ap (λ (first : ℕ). sharing (counted header n) first) (same_len header n) ∙ same_from header n (header_len header) 0 header.vars
+same_sharing header n = grind (arith, nat_tests, same_len, same_from)
 
 -- ---- each variable keeps its bound
 
 or_kept : {A : Type 0} (t : Bool) (o : Option A) (x : A) → t ≡ true → o ≡ None → cond t o (Some x) ≡ None
-or_kept true o x h k = k
-or_kept false o x h k = cc
+or_kept t o x h k = grind (arith, nat_tests)
 
 changed : (front rec c d e : Bool) → (front && (not rec || (c && d))) ≡ true → (rec ≡ true → e ≡ true) → (front && (not rec || (c && e))) ≡ true
-changed true false c d e h k = refl
-changed true true true d e h k = k refl
-changed _ _ _ d e h k = cc
+changed front rec c d e h k = grind (arith, nat_tests)
 
 still_keeps : (header : Header) (n before : ℕ) (v : Var) → keeps_bound header before v ≡ true → end_of_var header n v < 2 ^ 62 → keeps_bound (counted header n) before v ≡ true
 still_keeps header n before v h l =
@@ -57,10 +46,7 @@ still_keeps header n before v h l =
     by_count : (t : Bool) → cond t 0 (v.begin + (n - 1) * recsize header + last_share header v) < 2 ^ 62
         → (t || nat_lt (v.begin + (n - 1) * recsize header + last_share header v) file_limit) ≡ true
     by_count true k = refl
-    by_count false k = below (v.begin + (n - 1) * recsize header + last_share header v) k
-      where
-        below : (m : ℕ) → m < 2 ^ 62 → nat_lt m file_limit ≡ true
-        below m k = grind (arith, nat_tests)
+    by_count false k = grind (arith, nat_tests)
 
 still_kept : (header : Header) (n before k : ℕ) (vs : List Var) → greatest (map (λ v. end_of_var header n v) vs) < 2 ^ 62
     → past_bound header before k vs ≡ None → past_bound (counted header n) before k vs ≡ None
@@ -69,16 +55,13 @@ still_kept header n before k (v ∷ vs) l h =
     let r = told_unless (keeps_bound header before v) (past_bound header (before + record_share header v) (suc k) vs) k h in
     let own : end_of_var header n v < 2 ^ 62 = omega (arith, l) in
     let others : greatest (map (λ w. end_of_var header n w) vs) < 2 ^ 62 = omega (arith, l) in
-    or_kept (keeps_bound (counted header n) before v) (past_bound (counted header n) (before + record_share header v) (suc k) vs) k
-    (still_keeps header n before v r.0 own) (still_kept header n (before + record_share header v) (suc k) vs others r.1)
+    grind (arith, nat_tests, r, own, others, still_kept header n (before + record_share header v) (suc k) vs others r.1, or_kept, still_keeps)
 
 not_too_large : {A : Type 0} (o : Option A) (b : Bool) → o ≡ None → b ≡ false → (not (is_none o) || b) ≡ false
-not_too_large None b h k = k
-not_too_large (Some x) b h k = cc
+not_too_large o b h k = grind (arith, nat_tests)
 
 not_streaming : (t : Bool) (n : ℕ) → n < cond t (2 ^ 62) (2 ^ 31) → (n == (256 ^ byte_len (cond t w64 w32) - 1)) ≡ false
-not_streaming true n h = grind (arith, nat_tests)
-not_streaming false n h = grind (arith, nat_tests)
+not_streaming t n h = grind (arith, nat_tests)
 
 -- a sound header with another count, for which its file does not end too far
 counted_sound : (header : Header) (n : ℕ) → is_sound header ≡ true → n < record_limit header.version
@@ -107,11 +90,7 @@ counted_sound header n h few l =
 -- ---- the header is writable
 
 few_fit : (version n : ℕ) → n < record_limit version → fits_count version n ≡ true
-few_fit version n h = by_test (version == 5) h
-  where
-    by_test : (t : Bool) → n < cond t (2 ^ 62) (2 ^ 31) → fits_field (cond t w64 w32) n ≡ true
-    by_test true l = small_field w64 n (2 ^ 64) refl (omega (arith, l))
-    by_test false l = small_field w32 n (2 ^ 32) refl (omega (arith, l))
+few_fit version n h = grind (arith, nat_tests)
 
 pub counted_writable : (header : Header) (n : ℕ) → is_writable header ≡ true → fits n header ≡ true → is_writable (record header { records = n }) ≡ true
 counted_writable header n h f =

@@ -1,5 +1,5 @@
 -- The cover of extents has their bytes, and reaches from the first to the last.
-use Rattle.nc_classic_c.proofs.Words.{◌≡◌, ℕ, ◌+◌, ◌-◌, ◌<◌, ◌≤◌, ◌^◌, List, [], ◌∷◌, length, map, true, inl, inr, sym, ap, subst, ◌∙◌, Some, arith, flat_map, range_with_len, IsPermutation, flat_map-map, same_Some, passes_each, no_none_some, Extent, Owned, first_of, last_of, spans, at_in, In, HaveSame, ranges, extents, EndBelow, IsCover, cover_in_order, last_joined, last_of_range, range_first, same_permuted, flat_in, in_flat, in_range, range_high, each_in, in_map, map_in, NcvExtent, bytes_asked, bytes_of, end_is_low, end_of, ends_are_low, entry}
+use Rattle.nc_classic_c.proofs.Words.{◌≡◌, ℕ, ◌+◌, ◌-◌, ◌≤◌, ◌^◌, List, [], ◌∷◌, length, map, true, inl, inr, ap, subst, Some, arith, flat_map, range_with_len, IsPermutation, flat_map-map, same_Some, passes_each, no_none_some, Extent, Owned, first_of, last_of, spans, at_in, In, HaveSame, ranges, extents, EndBelow, IsCover, cover_in_order, last_joined, last_of_range, range_first, same_permuted, flat_in, in_flat, in_range, range_high, each_in, in_map, map_in, NcvExtent, bytes_asked, bytes_of, end_is_low, end_of, ends_are_low, entry, nat_tests}
 use Rattle.std.proofs.Common.{slice_get}
 use borrow.Author.Tests.{ltb-true}
 
@@ -15,12 +15,7 @@ ranges_asked : (asked : List NcvExtent) → ranges (map entry asked) ≡ flat_ma
 ranges_asked asked = flat_map-map bytes entry asked
 
 pub entries_low : (asked : List NcvExtent) (list : List Owned) → ends_are_low asked ≡ true → IsPermutation (map entry asked) list → EndBelow (2 ^ 62) (extents list)
-entries_low asked list h p e m =
-    let o = map_in (λ (o : Owned). o.extent) list e m in
-    let a = map_in entry asked o.0 ((same_permuted (map entry asked) list p).1 o.0 o.1) in
-    let low = ltb-true (a.0.at + a.0.len) (2 ^ 62) (each_in (λ (x : NcvExtent). end_is_low x ≡ true) asked a.0 (passes_each end_is_low asked h) a.1) in
-    let same : (entry a.0).extent ≡ e = ap (λ (z : Owned). z.extent) a.2 ∙ o.2 in
-    subst (λ (z : Extent). z.at + z.len < 2 ^ 62) same low
+entries_low asked list h p e m = grind (arith, nat_tests, same_permuted (map entry asked) list p, passes_each end_is_low asked h, map_in, ltb-true, each_in)
 
 -- ---- a cover
 
@@ -38,12 +33,7 @@ cover_low cover list h same low e m =
 
 pub cover_bytes : (cover : List Extent) (list : List Owned) (asked : List NcvExtent) → IsCover cover → HaveSame (spans cover) (ranges list) → IsPermutation (map entry asked) list
     → spans cover ≡ bytes_asked asked
-cover_bytes cover list asked h same p =
-    let moved = same_permuted (map entry asked) list p in
-    cover_in_order cover (flat_map bytes_of asked) h (
-      (λ x m. subst (λ (xs : List ℕ). In xs x) (ranges_asked asked) (ranges_moved list (map entry asked) moved.1 x (same.0 x m))),
-      (λ x m. same.1 x (ranges_moved (map entry asked) list moved.0 x (subst (λ (xs : List ℕ). In xs x) (sym (ranges_asked asked)) m))),
-    )
+cover_bytes cover list asked h same p = grind (arith, nat_tests, same_permuted (map entry asked) list p, ranges_asked asked, cover_in_order, ranges_moved)
 
 -- ---- from the first byte to the last
 
@@ -52,8 +42,7 @@ first_byte e cover h = ap (λ (xs : List ℕ). first_of xs) (range_first e.at e.
 
 last_byte : (e : Extent) (cover : List Extent) (last : Extent) → IsCover (e ∷ cover) → slice_get (e ∷ cover) (length cover) ≡ Some last
     → last_of (spans (e ∷ cover)) + 1 ≡ last.at + last.len
-last_byte e [] last h is =
-    omega (arith, ap (λ (z : Extent). z.at + z.len) (same_Some e last is), last_of_range e.at e.len h.0, last_joined (range_with_len e.at e.len) [])
+last_byte e [] last h is = grind (arith, nat_tests, same_Some, last_of_range, last_joined)
 last_byte e (c ∷ cover) last h is =
     let rest = last_byte c cover last h.2 is in
     let own = last_of_range e.at e.len h.0 in
@@ -63,19 +52,11 @@ last_byte e (c ∷ cover) last h is =
     omega arith
 
 end_is : (e : Extent) (cover : List Extent) → 1 ≤ e.len → end_of (spans (e ∷ cover)) ≡ last_of (spans (e ∷ cover)) + 1
-end_is e cover h =
-    let first = range_first e.at e.len (spans cover) h in
-    ap (λ (xs : List ℕ). end_of xs) first.1 ∙ ap (λ (xs : List ℕ). last_of xs + 1) (sym first.1)
+end_is e cover h = grind (arith, nat_tests)
 
 pub reach_is : (cover : List Extent) (first last : Extent) → IsCover cover → slice_get cover 0 ≡ Some first → slice_get cover (length cover - 1) ≡ Some last
     → (first.at ≡ first_of (spans cover)) × (last.at + last.len ≡ end_of (spans cover)) × (first.at ≤ last.at + last.len)
 reach_is [] first last h e f = no_none_some first e
 reach_is (c ∷ cover) first last h e f =
     let index : length (c ∷ cover) - 1 ≡ length cover = omega arith in
-    let is = sym (ap (λ (k : ℕ). slice_get (c ∷ cover) k) index) ∙ f in
-    let begin : first.at ≡ c.at = ap (λ (z : Extent). z.at) (sym (same_Some c first e)) in
-    let end = last_byte c cover last h is in
-    let own = last_of_range c.at c.len h.0 in
-    let whole = last_joined (range_with_len c.at c.len) (spans cover) in
-    let some = h.0 in
-    (begin ∙ sym (first_byte c cover h.0), sym end ∙ sym (end_is c cover h.0), omega arith)
+    grind (arith, nat_tests, index, slice_get, same_Some, last_byte, last_of_range, last_joined, first_byte, end_is)

@@ -1,5 +1,5 @@
 -- Definitions that can all be taken make a header that can be laid out and written.
-use Rattle.nc_classic_c.proofs.Words.{◌≡◌, ℕ, zero, suc, ◌+◌, ◌-◌, ◌*◌, ◌/◌, ◌%◌, ◌^◌, ◌<◌, ◌≤◌, List, [], ◌∷◌, ◌++◌, map, drop, length, Bool, true, false, cond, ◌&&◌, ◌||◌, Option, None, refl, sym, ap, subst, ◌∙◌, arith, length-append, nat_lt, nat_le, ◌==◌, slice_get, count_by, AllByRecursion, list_any, w32, w64, div-le_self, div-mul-le_self, mod-eq-sub-div-mul, and_from, or_parts, ltb-false, leb-false, le-leb, le-ltb, length-map, list_any-append, sum_by-cons, each_map, each_passes, each_fails, each_weaker, fails_each, both_none, none_before_map, told_else, equal_true, not_zero, no_false, Dim, Var, size_of, last_type, is_version, two_record_dims, record_later, bad_id, length_of, most_dims, most_vars, most_dims_of_var, record_limit, file_limit, counts_are_small, fits_count, fits_field, is_type, is_writable_dim, is_writable_attr, is_writable_list, small_field, small_count, is_unplaced, has_writable_names, has_writable_parts, kind_of, Unmade, NcvAttDef, NcvDimDef, NcvVarDef, NcvHeaderDef, type_cause, is_record_dim, is_record_id, dim_cause, att_cause, var_cause, first_refused, dim_refusal, att_refusal, atts_refusal, var_refusal, definition_refusal, most_atts, name_cause, dimension_of, attribute_of, variable_of, header_of}
+use Rattle.nc_classic_c.proofs.Words.{◌≡◌, ℕ, suc, ◌+◌, ◌-◌, ◌*◌, ◌/◌, ◌%◌, ◌^◌, ◌<◌, ◌≤◌, List, [], ◌∷◌, ◌++◌, map, drop, length, Bool, true, false, cond, ◌&&◌, ◌||◌, Option, None, refl, sym, ap, subst, ◌∙◌, arith, length-append, nat_lt, nat_le, ◌==◌, slice_get, count_by, AllByRecursion, list_any, div-le_self, div-mul-le_self, mod-eq-sub-div-mul, and_from, or_parts, ltb-false, leb-false, le-leb, le-ltb, length-map, list_any-append, sum_by-cons, each_map, each_passes, each_fails, each_weaker, fails_each, both_none, none_before_map, told_else, equal_true, not_zero, Dim, Var, size_of, is_version, two_record_dims, record_later, bad_id, length_of, most_dims, most_vars, most_dims_of_var, record_limit, counts_are_small, fits_count, is_type, is_writable_dim, is_writable_attr, is_writable_list, small_field, small_count, is_unplaced, has_writable_names, has_writable_parts, kind_of, Unmade, NcvAttDef, NcvDimDef, NcvVarDef, NcvHeaderDef, type_cause, is_record_dim, is_record_id, att_cause, var_cause, first_refused, dim_refusal, att_refusal, atts_refusal, var_refusal, definition_refusal, most_atts, name_cause, dimension_of, attribute_of, variable_of, header_of, nat_tests}
 use Rattle.std.specs.Prelude.{not}
 use Rattle.serial_spec.specs.HeaderBytes.{number_of}
 use Rattle.serial_spec.specs.HeaderFaults as faults
@@ -11,8 +11,7 @@ each_taken : {A : Type 0} (refusal : List A → A → Option Unmade) (P : A → 
     → (before xs : List A) → first_refused refusal before xs ≡ None → AllByRecursion P xs
 each_taken refusal P f before [] h = tt
 each_taken refusal P f before (x ∷ xs) h =
-    let b = both_none (refusal before x) (first_refused refusal (before ++ x ∷ []) xs) h in
-    (f before x b.0, each_taken refusal P f (before ++ x ∷ []) xs b.1)
+    grind (arith, nat_tests, each_taken refusal P f (before ++ x ∷ []) xs (both_none (refusal before x) (first_refused refusal (before ++ x ∷ []) xs) h).1)
 
 -- there are not too many
 few_taken : {A : Type 0} (refusal : List A → A → Option Unmade) (most : ℕ) → ((before : List A) (x : A) → refusal before x ≡ None → length before < most)
@@ -20,30 +19,18 @@ few_taken : {A : Type 0} (refusal : List A → A → Option Unmade) (most : ℕ)
 few_taken refusal most f before [] l h = omega (arith, l)
 few_taken refusal most f before (x ∷ xs) l h =
     let b = both_none (refusal before x) (first_refused refusal (before ++ x ∷ []) xs) h in
-    let more = length-append before (x ∷ []) in
-    let n = few_taken refusal most f (before ++ x ∷ []) xs (omega (arith, more, f before x b.0)) b.1 in
-    omega (arith, more, n)
+    grind (arith, nat_tests, b, few_taken refusal most f (before ++ x ∷ []) xs (omega (arith, (length-append before (x ∷ [])), f before x b.0)) b.1, length-append)
 
 -- ---- names and types
 
 name_fits : (version : ℕ) (name : List ℕ) → name_cause name ≡ None → fits_count version (length name) ≡ true
-name_fits version name h =
-    let some = told_else (length name == 0) cause.BadName _ h in
-    let few = told_else (nat_lt 256 (length name)) cause.MaxName _ some.1 in
-    small_count version (length name) (let l = ltb-false 256 (length name) few.0 in omega (arith, l))
+name_fits version name h = grind (arith, nat_tests, told_else, small_count, ltb-false)
 
 kind_number : (n : ℕ) → 1 ≤ n → n ≤ 11 → number_of (kind_of n) ≡ n
-kind_number zero low high = absurd (omega arith)
-kind_number (suc (suc (suc (suc (suc (suc (suc (suc (suc (suc (suc (suc n)))))))))))) low high = absurd (omega arith)
-kind_number _ low high = refl
+kind_number n low high = grind (arith, nat_tests)
 
 type_fits : (version n : ℕ) → type_cause version n ≡ None → is_type version (kind_of n) ≡ true
-type_fits version n h =
-    let some = told_else (n == 0 || nat_lt 11 n) cause.BadType _ h in
-    let early = told_else (nat_lt (last_type version) n) cause.StrictCdf2 _ some.1 in
-    let within = or_parts (n == 0) (nat_lt 11 n) some.0 in
-    subst (λ (m : ℕ). nat_le m (last_type version) ≡ true) (sym (kind_number n (not_zero n within.0) (ltb-false 11 n within.1)))
-    (le-leb n (last_type version) (ltb-false (last_type version) n early.0))
+type_fits version n h = grind (arith, nat_tests, told_else, or_parts, kind_number, not_zero, ltb-false, le-leb)
 
 -- ---- a dimension
 
@@ -54,41 +41,19 @@ record DimTaken (version : ℕ) (before : List NcvDimDef) (d : NcvDimDef) : Type
   few : length before < 1024
 
 dim_taken : (version : ℕ) (before : List NcvDimDef) (d : NcvDimDef) → dim_refusal version before d ≡ None → DimTaken version before d
-dim_taken version before d h =
-    let a = both_none (name_cause d.name.now) _ (none_before_map _ (dim_cause version before d) h) in
-    let b = told_else (nat_le (record_limit version) d.length) cause.DimSize _ a.1 in
-    let c = told_else (is_record_dim d && list_any is_record_dim before) cause.Unlimit _ b.1 in
-    let e = told_else _ cause.NameInUse _ c.1 in
-    let f = told_else (nat_le most_dims (length before)) cause.MaxDims _ e.1 in
-    record { name = a.0; long = b.0; one = c.0; few = leb-false most_dims (length before) f.0 }
-
-length_fits : (version n : ℕ) → nat_le (record_limit version) n ≡ false → (fits_count version n ≡ true) × (nat_le n file_limit ≡ true)
-length_fits version n h = by_test (version == 5) h
-  where
-    by_test : (t : Bool) → nat_le (cond t (2 ^ 62) (2 ^ 31)) n ≡ false → (fits_field (cond t w64 w32) n ≡ true) × (nat_le n file_limit ≡ true)
-    by_test true e = let l = leb-false (2 ^ 62) n e in (small_field w64 n (2 ^ 64) refl (omega (arith, l)), le-leb n (2 ^ 62) (omega (arith, l)))
-    by_test false e = let l = leb-false (2 ^ 31) n e in (small_field w32 n (2 ^ 32) refl (omega (arith, l)), le-leb n (2 ^ 62) (omega (arith, l)))
+dim_taken version before d h = grind (arith, nat_tests, both_none, none_before_map, told_else, leb-false)
 
 dim_fits : (version : ℕ) (before : List NcvDimDef) (d : NcvDimDef) → dim_refusal version before d ≡ None → is_writable_dim version (dimension_of d) ≡ true
 dim_fits version before d h =
-    let t = dim_taken version before d h in
-    let l = length_fits version d.length t.long in
-    and_from _ _ (and_from _ _ (name_fits version d.name.now t.name) l.0) l.1
+    grind (arith, nat_tests, dim_taken version before d h, name_fits version d.name.now (dim_taken version before d h).name, leb-false, small_field, le-leb, and_from)
 
 -- one of them is the record dimension at most
 one_more : (c : ℕ) (s t : Bool) → (s && t) ≡ false → c + cond (t || (s || false)) 1 0 ≤ 1 → (cond s 1 0 + c) + cond t 1 0 ≤ 1
-one_more c true true e n = no_false (sym e)
-one_more c true false e n = let m : c + 1 ≤ 1 = n in let r : (1 + c) + 0 ≤ 1 = omega (arith, m) in r
-one_more c false true e n = let m : c + 1 ≤ 1 = n in let r : (0 + c) + 1 ≤ 1 = omega (arith, m) in r
-one_more c false false e n = let m : c + 0 ≤ 1 = n in let r : (0 + c) + 0 ≤ 1 = omega (arith, m) in r
+one_more c s t e n = grind (arith, nat_tests)
 
 one_record : (version : ℕ) (before xs : List NcvDimDef) → first_refused (dim_refusal version) before xs ≡ None
     → count_by (λ (d : Dim). d.len == 0) (map dimension_of xs) + cond (list_any is_record_dim before) 1 0 ≤ 1
-one_record version before [] h = by_test (list_any is_record_dim before)
-  where
-    by_test : (t : Bool) → 0 + cond t 1 0 ≤ 1
-    by_test true = let r : 0 + 1 ≤ 1 = omega arith in r
-    by_test false = let r : 0 + 0 ≤ 1 = omega arith in r
+one_record version before [] h = grind (arith, nat_tests)
 one_record version before (x ∷ xs) h =
     let b = both_none (dim_refusal version before x) (first_refused (dim_refusal version) (before ++ x ∷ []) xs) h in
     subst (λ (n : ℕ). n + cond (list_any is_record_dim before) 1 0 ≤ 1) (sym (sum_by-cons (λ (d : Dim). cond (d.len == 0) 1 0) (dimension_of x) (map dimension_of xs)))
@@ -174,10 +139,7 @@ same_id (d ∷ ds) (suc id) = same_id ds id
 same_id _ _ = refl
 
 first_only : (D : NcvHeaderDef) (ids : List ℕ) → list_any (is_record_id D.dims.now) ids ≡ false → list_any (λ id. faults.is_record_id (header_of D) id) ids ≡ false
-first_only D ids h =
-    each_fails (λ id. faults.is_record_id (header_of D) id) ids
-    (each_weaker (λ id. is_record_id D.dims.now id ≡ false) (λ id. faults.is_record_id (header_of D) id ≡ false) (λ id e. same_id D.dims.now id ∙ e) ids
-    (fails_each (is_record_id D.dims.now) ids h))
+first_only D ids h = grind (arith, nat_tests, each_fails, each_weaker, same_id, fails_each)
 
 -- ---- the header
 

@@ -1,5 +1,5 @@
 -- A list that is laid into an array item by item.
-use Rattle.nc_classic_c.proofs.Words.{◌≡◌, ℕ, zero, suc, ◌+◌, ◌-◌, ◌<◌, ◌≤◌, List, [], ◌∷◌, ◌++◌, length, take, drop, set, Bool, true, false, cond, ltb, leb, ◌&&◌, ap, sym, refl, ◌∙◌, arith, append_assoc, length-append, length-drop, append-nil, set_at, take_all, take-append-le, drop-append-le, length-take, leb-true, leb-false, ltb-true, ltb-false, filled, laid_at, AreLaid}
+use Rattle.nc_classic_c.proofs.Words.{◌≡◌, ℕ, zero, suc, ◌+◌, ◌-◌, ◌<◌, ◌≤◌, List, [], ◌∷◌, ◌++◌, length, take, drop, set, Bool, cond, ltb, leb, ◌&&◌, ap, sym, refl, ◌∙◌, arith, append_assoc, length-append, length-drop, append-nil, set_at, take_all, take-append-le, drop-append-le, length-take, leb-true, leb-false, ltb-true, ltb-false, filled, laid_at, AreLaid, nat_tests}
 
 -- ---- ends
 
@@ -16,10 +16,7 @@ drop_next _ _ h = absurd (omega arith)
 -- ---- one more item
 
 pub length-filled : {A : Type 0} (old items : List A) → length (filled old items) ≡ length old
-length-filled old items =
-    let a = length-take (length old) items in
-    let b = length-drop (length items) old in
-    length-append (take (length old) items) (drop (length items) old) ∙ omega arith
+length-filled old items = grind (arith, nat_tests, length-take, length-drop, length-append)
 
 -- there is room for all
 pub filled_whole : {A : Type 0} (old items : List A) → length items ≤ length old → filled old items ≡ items ++ drop (length items) old
@@ -30,11 +27,7 @@ pub filled_more : {A : Type 0} (old items : List A) (x : A) → length items < l
 filled_more {A} old items x h =
     let next = drop_next (length items) old h in
     let long : length (items ++ x ∷ []) ≡ suc (length items) = length-append items (x ∷ []) ∙ omega arith in
-    ap (λ (l : List A). set l (length items) x) (filled_whole old items (omega arith) ∙ ap (λ (l : List A). items ++ l) next.1)
-    ∙ set_at items next.0 (drop (suc (length items)) old) x (length items) refl
-    ∙ sym (append_assoc items (x ∷ []) (drop (suc (length items)) old))
-    ∙ ap (λ (n : ℕ). items ++ x ∷ [] ++ drop n old) (sym long)
-    ∙ sym (filled_whole old (items ++ x ∷ []) (omega arith))
+    grind (arith, nat_tests, next, long, set, filled_whole, set_at, append_assoc)
 
 -- there is no room for it
 pub filled_full : {A : Type 0} (old items : List A) (x : A) → length old ≤ length items → filled old items ≡ filled old (items ++ x ∷ [])
@@ -47,21 +40,8 @@ filled_full {A} old items x h =
 
 laid_by : {A : Type 0} (old done : List A) (from : ℕ) (x : A) (a b : Bool) → leb from (length done) ≡ a → ltb (length done - from) (length old) ≡ b
     → cond (a && b) (set (filled old (drop from done)) (length done - from) x) (filled old (drop from done)) ≡ filled old (drop from (done ++ x ∷ []))
-laid_by {A} old done from x false b low room =
-    let long = length-append done (x ∷ []) in
-    let past : length done < from = leb-false from (length done) low in
-    ap (λ (l : List A). filled old l) (drop_past from done (omega arith) ∙ sym (drop_past from (done ++ x ∷ []) (omega arith)))
-laid_by {A} old done from x true false low room =
-    let within : from ≤ length done = leb-true from (length done) low in
-    let full : length old ≤ length done - from = ltb-false (length done - from) (length old) room in
-    let d = length-drop from done in
-    filled_full old (drop from done) x (omega arith) ∙ ap (λ (l : List A). filled old l) (sym (drop-append-le from done (x ∷ []) within))
-laid_by {A} old done from x true true low room =
-    let within : from ≤ length done = leb-true from (length done) low in
-    let fits : length done - from < length old = ltb-true (length done - from) (length old) room in
-    let d = length-drop from done in
-    ap (λ (n : ℕ). set (filled old (drop from done)) n x) (sym d)
-    ∙ filled_more old (drop from done) x (omega arith) ∙ ap (λ (l : List A). filled old l) (sym (drop-append-le from done (x ∷ []) within))
+laid_by old done from x a b low room =
+    grind (arith, nat_tests, length-append, leb-false, drop_past, leb-true, ltb-false, length-drop, take-append-le, drop-append-le, ltb-true, set, filled_more)
 
 pub laid_next : {A : Type 0} (old done : List A) (from : ℕ) (x : A)
     → laid_at (length done) from (filled old (drop from done)) x ≡ filled old (drop from (done ++ x ∷ []))
@@ -80,35 +60,16 @@ pub record Lays (A : Type 0) (items : List A) (from : ℕ) (old now left : List 
   pub laid : now ≡ filled old (drop from done)
 
 pub none_laid : {A : Type 0} (items : List A) (from : ℕ) (old : List A) → Lays A items from old old items 0
-none_laid {A} items from old =
-    record {
-      done = [];
-      all = refl;
-      number = refl;
-      laid =
-          sym (ap (λ (l : List A). filled old l) (drop_past from [] (omega arith))
-          ∙ ap (λ (l : List A). l ++ old) (take_all (length old) [] (omega arith)));
-    }
+none_laid {A} items from old = grind (arith, nat_tests, drop_past, take_all)
 
 pub one_laid : {A : Type 0} (items : List A) (from : ℕ) (old now left rest : List A) (total : ℕ) (x : A)
     → left ≡ x ∷ rest → Lays A items from old now left total → Lays A items from old (laid_at total from now x) rest (total + 1)
-one_laid {A} items from old now left rest total x step h =
-    record {
-      done = h.done ++ x ∷ [];
-      all = append_assoc h.done (x ∷ []) rest ∙ ap (λ (l : List A). h.done ++ l) (sym step) ∙ h.all;
-      number = length-append h.done (x ∷ []) ∙ ap (λ (n : ℕ). n + 1) h.number;
-      laid =
-          ap (λ (n : ℕ). laid_at n from now x) (sym h.number) ∙ ap (λ (l : List A). laid_at (length h.done) from l x) h.laid
-          ∙ laid_next old h.done from x;
-    }
+one_laid {A} items from old now left rest total x step h = grind (arith, nat_tests, append_assoc, length-append, leb, ltb, set, length-filled, laid_by)
 
 pub left_fits : {A : Type 0} (items : List A) (from : ℕ) (old now left rest : List A) (total : ℕ) (x : A)
     → left ≡ x ∷ rest → Lays A items from old now left total → total < length items
-left_fits {A} items from old now left rest total x step h =
-    omega (arith, ap length (sym h.all) ∙ length-append h.done left ∙ ap (λ (l : List A). length h.done + length l) step, h.number)
+left_fits {A} items from old now left rest total x step h = grind (arith, nat_tests, length-append)
 
 pub all_laid : {A : Type 0} (items : List A) (from : ℕ) (old now left : List A) (total : ℕ)
     → left ≡ [] → Lays A items from old now left total → AreLaid items from old now total
-all_laid {A} items from old now left total none h =
-    let whole : h.done ≡ items = sym (append-nil h.done) ∙ ap (λ (l : List A). h.done ++ l) (sym none) ∙ h.all in
-    (h.laid ∙ ap (λ (l : List A). filled old (drop from l)) whole, sym h.number ∙ ap length whole)
+all_laid {A} items from old now left total none h = grind (arith, nat_tests, append-nil)

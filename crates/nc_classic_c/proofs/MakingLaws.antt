@@ -1,5 +1,5 @@
 -- What is answered of a header that is defined, by its parts.
-use Rattle.nc_classic_c.proofs.Words.{◌≡◌, ℕ, ◌^◌, ◌<◌, ◌≤◌, List, ◌++◌, drop, take, length, true, false, cond, Bool, Option, Some, None, Result, Ok, Err, refl, sym, ap, subst, ◌∙◌, IfErr, OnOk, nat_lt, option_map, option_or, le-ltb, lt-ltb, first_counts, second_counts, and_first, Header, Align, LayoutErr, canon, header_len, is_version, layout_fault, is_sound, is_writable, BeginsWith, Refusal, Unmade, NcvHeaderDef, definition_refusal, filled, is_align, of_whole, of_layout, laid_header, placed_header, made_header, align_of, argument_refusal, records_refusal, place_refusal, refusal_of, why_unmade, needed_len, len_told, IsMade, IsUnmade, header_of}
+use Rattle.nc_classic_c.proofs.Words.{◌≡◌, ℕ, ◌^◌, ◌<◌, ◌≤◌, List, ◌++◌, drop, take, length, true, false, cond, Bool, Option, Some, None, Result, Ok, Err, sym, ap, subst, ◌∙◌, IfErr, OnOk, option_map, option_or, le-ltb, first_counts, second_counts, and_first, Header, Align, LayoutErr, canon, header_len, is_version, layout_fault, is_sound, is_writable, BeginsWith, Refusal, Unmade, NcvHeaderDef, definition_refusal, filled, is_align, of_whole, of_layout, laid_header, placed_header, made_header, align_of, argument_refusal, records_refusal, place_refusal, refusal_of, why_unmade, len_told, IsMade, IsUnmade, header_of, arith, nat_tests}
 use Rattle.nc_classic_c.specs.declared.answers.Refusal.TheVariants as refusal
 use Rattle.nc_classic_c.specs.declared.causes.Cause.TheVariants as cause
 use Rattle.nc_classic_c.specs.Making.{is_asked}
@@ -14,9 +14,7 @@ layout_refused header align records fault h = ap (λ (o : Option LayoutErr). opt
 
 laid : (header : Header) (align : Align) (records : ℕ) (now : Header) (t : Bool) → None ≡ layout_fault header align → now ≡ laid_header header align → fits records now ≡ t
     → cond t None (Some (of_whole cause.TooLarge)) ≡ place_refusal header align records
-laid header align records now t h e f =
-    ap (λ (b : Bool). cond b None (Some (of_whole cause.TooLarge))) (sym f ∙ ap (λ (x : Header). fits records x) e)
-    ∙ ap (λ (o : Option LayoutErr). option_or (option_map of_layout o) (records_refusal header align records)) h
+laid header align records now t h e f = grind (arith, nat_tests)
 
 pub records_refused : (header : Header) (align : Align) (records : ℕ) (now : Header) → None ≡ layout_fault header align → now ≡ laid_header header align → fits records now ≡ false
     → Some (of_whole cause.TooLarge) ≡ place_refusal header align records
@@ -36,24 +34,19 @@ definition_told D u a h = second_counts _ _ (sym a) ∙ first_counts _ _ u (sym 
 
 pub place_told : (D : NcvHeaderDef) (header : Header) (align : Align) (o : Option Unmade) → None ≡ argument_refusal D → None ≡ definition_refusal D
     → header ≡ header_of D → align ≡ align_of D → o ≡ place_refusal header align D.records → refusal_of D ≡ o
-place_told D header align o a d e f h =
-    second_counts _ _ (sym a) ∙ second_counts _ _ (sym d)
-    ∙ ap (λ (x : Align). place_refusal (header_of D) x D.records) (sym f) ∙ ap (λ (x : Header). place_refusal x align D.records) (sym e) ∙ sym h
+place_told D header align o a d e f h = grind (arith, nat_tests)
 
 pub version_right : (D : NcvHeaderDef) → is_asked D ≡ true → is_version D.version ≡ true
 version_right D h = and_first _ _ (and_first _ (is_align D.var_align) h)
 
 pub made_is : (D : NcvHeaderDef) (header now : Header) (align : Align) → header ≡ header_of D → align ≡ align_of D → now ≡ placed_header header align D.records → now ≡ made_header D
-made_is D header now align e f h =
-    h ∙ ap (λ (x : Header). placed_header x align D.records) e ∙ ap (λ (x : Align). placed_header (header_of D) x D.records) f
+made_is D header now align e f h = grind (arith, nat_tests)
 
 -- ---- room for the bytes
 
 pub no_room : (D : NcvHeaderDef) (room : ℕ) (bytes : List ℕ) → refusal_of D ≡ None → bytes ≡ canon (made_header D) → room < length bytes
     → why_unmade D room ≡ Some (of_whole cause.Room)
-no_room D room bytes h e l =
-    second_counts _ _ h
-    ∙ ap (λ (t : Bool). cond t (Some (of_whole cause.Room)) None) (ap (λ (x : List ℕ). nat_lt room (length x)) (sym e) ∙ lt-ltb room (length bytes) l)
+no_room D room bytes h e l = grind (arith, nat_tests)
 
 pub header_made : (D : NcvHeaderDef) (len : ℕ) (bytes old new : List ℕ) → refusal_of D ≡ None → bytes ≡ canon (made_header D) → is_writable (made_header D) ≡ true
     → ((header : Header) (more : List ℕ) → is_writable header ≡ true → BeginsWith (take (2 ^ 20) (canon header ++ more)) header (header_len header))
@@ -62,9 +55,7 @@ header_made D len bytes old new h e w law l room f =
     let is : new ≡ canon (made_header D) ++ drop (length bytes) old =
     f ∙ filled_whole old bytes room ∙ ap (λ (x : List ℕ). x ++ drop (length bytes) old) e in
     record {
-      none_refused =
-          second_counts _ _ h
-          ∙ ap (λ (t : Bool). cond t (Some (of_whole cause.Room)) None) (ap (λ (x : List ℕ). nat_lt (length old) (length x)) (sym e) ∙ le-ltb (length old) (length bytes) room);
+      none_refused = grind (arith, nat_tests, second_counts, le-ltb);
       long = l ∙ ap (λ (x : List ℕ). length x) e;
       bytes = f ∙ ap (λ (x : List ℕ). filled old x) e;
       read_back = (
@@ -86,12 +77,9 @@ made_given D (Err x) len bytes old new h e w law l room f = tt
 
 -- the header itself is refused
 pub len_kept : (D : NcvHeaderDef) (r : Refusal) (old : ℕ) → IsUnmade (refusal_of D) r → old ≡ len_told D r old
-len_kept D (refusal.Unmade u) old h = sym (ap (λ (o : Option Unmade). needed_len D o old) h)
-len_kept _ _ old h = refl
+len_kept xs r old h = grind (arith, nat_tests)
 
 -- there is no room
 pub len_needed : (D : NcvHeaderDef) (r : Result (Unit {0}) Refusal) (len old : ℕ) (bytes : List ℕ) → refusal_of D ≡ None → bytes ≡ canon (made_header D) → len ≡ length bytes
     → IfErr r (λ x. x ≡ refusal.Unmade (of_whole cause.Room)) → IfErr r (λ x. len ≡ len_told D x old)
-len_needed D (Ok u) len old bytes h e l f = tt
-len_needed D (Err x) len old bytes h e l f =
-    l ∙ ap (λ (b : List ℕ). length b) e ∙ sym (ap (λ (y : Refusal). len_told D y old) f ∙ ap (λ (o : Option Unmade). needed_len D o old) h)
+len_needed xs r len old bytes h e l f = grind (arith, nat_tests)

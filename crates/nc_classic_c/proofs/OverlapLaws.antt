@@ -1,7 +1,6 @@
 -- Entries of several requests, in any order, hold what the requests hold.
-use Rattle.nc_classic_c.proofs.Words.{◌≡◌, ℕ, ◌+◌, ◌<◌, ◌^◌, List, [], ◌∷◌, true, inl, inr, refl, ap, subst, ◌∙◌, range_with_len, IsPermutation, and_first, and_second, Extent, Owned, Key, Holds, holdings_of_entries, shared_pair_of, same_pair, extents, EndBelow, same_permuted, holder_of, holds_by, map_in, NcvHeld, holdings, ends_low}
+use Rattle.nc_classic_c.proofs.Words.{◌≡◌, ℕ, ◌+◌, ◌<◌, ◌^◌, List, [], ◌∷◌, true, inl, inr, refl, ap, range_with_len, IsPermutation, and_second, Owned, Key, Holds, holdings_of_entries, shared_pair_of, same_pair, extents, EndBelow, same_permuted, holder_of, holds_by, map_in, NcvHeld, holdings, ends_low, arith, nat_tests}
 use Rattle.std.specs.Prelude.{map}
-use borrow.Author.Tests.{ltb-true}
 use Rattle.serial_spec.specs.Lists.{In}
 use Rattle.nc_classic_c.specs.Overlaps.{ends_are_low, entry}
 
@@ -25,18 +24,14 @@ entries_hold (h ∷ hs) = ap (λ l. ((h.rank, h.request), range_with_len h.at h.
 pub pair_of_entries : (held : List NcvHeld) (list : List Owned) → IsPermutation (map entry held) list → shared_pair_of (holdings_of_entries list) ≡ shared_pair_of (holdings held)
 pair_of_entries held list p =
     let same = same_permuted (map entry held) list p in
-    same_pair (holdings_of_entries list) (holdings_of_entries (map entry held)) (held_by list (map entry held) same.1) (held_by (map entry held) list same.0)
-    ∙ ap shared_pair_of (entries_hold held)
+    grind (arith, nat_tests, same, same_pair, held_by, entries_hold)
 
 -- ---- where they end
 
 held_low : (held : List NcvHeld) → ends_are_low held ≡ true → (o : Owned) → In (map entry held) o → o.extent.at + o.extent.len < 2 ^ 62
 held_low [] h o m = absurd m
-held_low (x ∷ xs) h o (inl e) =
-    subst (λ (o : Owned). o.extent.at + o.extent.len < 2 ^ 62) e (ltb-true (x.at + x.len) (2 ^ 62) (and_first (ends_low x) (ends_are_low xs) h))
+held_low (x ∷ xs) h o (inl e) = grind (arith, nat_tests)
 held_low (x ∷ xs) h o (inr m) = held_low xs (and_second (ends_low x) (ends_are_low xs) h) o m
 
 pub entries_low : (held : List NcvHeld) (list : List Owned) → ends_are_low held ≡ true → IsPermutation (map entry held) list → EndBelow (2 ^ 62) (extents list)
-entries_low held list h p e m =
-    let o = map_in (λ o. o.extent) list e m in
-    subst (λ (e : Extent). e.at + e.len < 2 ^ 62) o.2 (held_low held h o.0 ((same_permuted (map entry held) list p).1 o.0 o.1))
+entries_low held list h p e m = grind (arith, nat_tests, same_permuted (map entry held) list p, map_in, held_low)

@@ -1,5 +1,5 @@
 -- Why bytes begin with no header.
-use Rattle.nc_classic_c.proofs.Words.{◌≡◌, ℕ, List, ◌⊎◌, inl, inr, refl, sym, subst, HeaderErr, HasFault, first_bytes, IsHeaderRefusal}
+use Rattle.nc_classic_c.proofs.Words.{◌≡◌, ℕ, List, ◌⊎◌, inl, inr, sym, subst, HeaderErr, HasFault, first_bytes, IsHeaderRefusal, arith, nat_tests}
 use Rattle.nc_base.specs.declared.errors.HeaderErr.TheVariants as fault
 use Rattle.nc_classic_c.specs.Answers.{refusal_of}
 use Rattle.nc_classic_c.specs.declared.answers.Refusal.TheVariants as refusal
@@ -13,5 +13,4 @@ refused_header bytes e (inl h) = subst (λ (e : HeaderErr). IsHeaderRefusal byte
 refused_header bytes e (inr h) = refused_by bytes e h
 
 pub other_refusal : (e : HeaderErr) → (e ≡ fault.Memory → ⊥) → refusal.Header e ≡ refusal_of e
-other_refusal fault.Memory h = absurd (h refl)
-other_refusal e h = refl
+other_refusal e h = grind (arith, nat_tests)

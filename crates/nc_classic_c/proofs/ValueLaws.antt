@@ -1,33 +1,18 @@
 -- Values one after another, in memory and in external form.
-use Rattle.nc_classic_c.proofs.Words.{◌≡◌, ℕ, ◌+◌, ◌*◌, ◌^◌, ◌<◌, ◌≤◌, List, [], ◌∷◌, ◌++◌, length, map, take, drop, set, get_or, Bool, true, false, not, cond, ltb, Option, Some, None, Ok, Err, refl, ap, sym, subst, ◌∙◌, arith, position, w32, w64, from_be_bytes, range_with_len, position_or_len, mul-le-mul_right, lt-ltb, le-ltb, ltb-false, not-false, flat_map-append, append-nil, get_or-drop, get_or-map, get_or-take, length-map, map-append, take_more, take_more_set, get_or-map-range_with_len, length-map-range_with_len, map-range_with_len_more, position_or_len_is, fails_before_first, take-put_mid, NcType, Float, Double, Value, size_of, fits, ext, val, ext_long, first_out, if_length, is_length, pack, packed, patterns, values_of}
+use Rattle.nc_classic_c.proofs.Words.{◌≡◌, ℕ, ◌+◌, ◌*◌, ◌^◌, ◌<◌, List, [], ◌∷◌, ◌++◌, length, map, take, drop, set, get_or, Bool, true, false, not, cond, ltb, Some, None, Ok, Err, refl, ap, sym, subst, ◌∙◌, arith, position, w32, w64, from_be_bytes, range_with_len, position_or_len, mul-le-mul_right, lt-ltb, ltb-false, not-false, flat_map-append, append-nil, get_or-drop, get_or-map, get_or-take, length-map, map-append, take_more, take_more_set, get_or-map-range_with_len, length-map-range_with_len, map-range_with_len_more, position_or_len_is, fails_before_first, take-put_mid, NcType, Float, Double, Value, size_of, fits, ext, val, ext_long, first_out, is_length, pack, packed, patterns, values_of, nat_tests}
 use borrow.Rule.Slice.PartMut.{put_mid}
 use Rattle.nc_base.specs.declared.request.Value.TheVariants as value
 use Rattle.nc_base.specs.declared.answer.Code.TheVariants as code
 use Rattle.nc_classic_c.specs.declared.answers.Refusal.TheVariants as refusal
-use Rattle.nc_classic_c.specs.Values.{in_range}
 
 -- ---- the first value that is not in the range
 
-first_at : {X : Type 0} (p : X → Bool) (xs : List X) (i : ℕ) → position_or_len p xs ≡ i → i < length xs → position p xs ≡ Some i
-first_at p xs i e h =
-    ap (λ (n : ℕ). cond (ltb n (length xs)) (Some n) None) e ∙ ap (λ (b : Bool). cond b (Some i) None) (lt-ltb i (length xs) h)
-
 none_at : {X : Type 0} (p : X → Bool) (xs : List X) → position_or_len p xs ≡ length xs → position p xs ≡ None
-none_at p xs e =
-    ap (λ (n : ℕ). cond (ltb n (length xs)) (Some n) None) e ∙ ap (λ (b : Bool). cond b (Some (length xs)) None) (le-ltb (length xs) (length xs) (omega arith))
-
-not_found : {X : Type 0} (p : X → Bool) (xs : List X) → position p xs ≡ None → length xs ≤ position_or_len p xs
-not_found p xs h = by_test (ltb (position_or_len p xs) (length xs)) refl
-  where
-    by_test : (b : Bool) → ltb (position_or_len p xs) (length xs) ≡ b → length xs ≤ position_or_len p xs
-    by_test true e = absurd (cc (ap (λ (b : Bool). cond b (Some (position_or_len p xs)) None) e))
-    by_test false e = ltb-false (position_or_len p xs) (length xs) e
+none_at p xs e = grind (arith, nat_tests)
 
 -- where none is found, each is in the range
 pub each_fits : (kind : NcType) (vs : List Value) (k : ℕ) (d : Value) → first_out kind vs ≡ None → k < length vs → fits kind (get_or vs k d) ≡ true
-each_fits kind vs k d h l =
-    let all = not_found (λ v. not (fits kind v)) vs h in
-    not-false (fits kind (get_or vs k d)) (fails_before_first (λ v. not (fits kind v)) vs k d (omega arith))
+each_fits kind vs k d h l = grind (arith, nat_tests, ltb, ltb-false, not, not-false, fails_before_first)
 
 pub none_out : (kind : NcType) (vs : List Value) (d : Value) → ((k : ℕ) → k < length vs → fits kind (get_or vs k d) ≡ true) → first_out kind vs ≡ None
 none_out kind vs d h =
@@ -36,9 +21,7 @@ none_out kind vs d h =
 
 pub one_out : (kind : NcType) (vs : List Value) (d : Value) (i : ℕ) → i < length vs → ((k : ℕ) → k < i → fits kind (get_or vs k d) ≡ true)
     → fits kind (get_or vs i d) ≡ false → first_out kind vs ≡ Some i
-one_out kind vs d i l h out =
-    first_at (λ v. not (fits kind v)) vs i
-    (position_or_len_is (λ v. not (fits kind v)) vs i d (omega arith) (λ k m. ap (λ (b : Bool). not b) (h k m)) (λ m. ap (λ (b : Bool). not b) out)) l
+one_out kind vs d i l h out = grind (arith, nat_tests, ltb, lt-ltb, not, position_or_len_is)
 
 -- of words
 place_in_words : {W : Type 0} (p : Value → Bool) (told : W → Value) (ws : List W) → position_or_len (λ w. p (told w)) ws ≡ position_or_len p (map told ws)
@@ -53,57 +36,34 @@ pub word_fits : {W : Type 0} (kind : NcType) (told : W → Value) (ws : List W) 
     → fits kind (told w) ≡ true
 word_fits kind told ws i w h l is =
     let long = length-map ws told in
-    let same : get_or (map told ws) i (told w) ≡ told w = get_or-map told ws i w (told w) l ∙ ap told (sym is) in
-    subst (λ (v : Value). fits kind v ≡ true) same (each_fits kind (map told ws) i (told w) h (omega arith))
+    grind (arith, nat_tests, long, get_or-map told ws i w (told w) l, each_fits kind (map told ws) i (told w) h (omega arith))
 
 pub words_fit : {W : Type 0} (kind : NcType) (told : W → Value) (ws : List W) → position (λ w. not (fits kind (told w))) ws ≡ None → first_out kind (map told ws) ≡ None
 words_fit kind told ws h = sym (first_of_words kind told ws) ∙ h
 
 pub words_packed : {W : Type 0} (kind : NcType) (told : W → Value) (ws : List W) (len : ℕ) (bytes : List ℕ) → is_length kind (length ws) len ≡ true
     → position (λ w. not (fits kind (told w))) ws ≡ None → bytes ≡ packed kind (map told ws) → pack kind (map told ws) len ≡ Ok bytes
-words_packed kind told ws len bytes h e is =
-    ap (λ (n : ℕ). if_length kind n len (in_range (first_out kind (map told ws)) (packed kind (map told ws)))) (length-map ws told)
-    ∙ ap (λ (b : Bool). cond b (in_range (first_out kind (map told ws)) (packed kind (map told ws))) (Err (refusal.Asked code.EInvalRequest))) h
-    ∙ ap (λ (o : Option ℕ). in_range o (packed kind (map told ws))) (words_fit kind told ws e)
-    ∙ ap (λ (b : List ℕ). Ok b) (sym is)
+words_packed kind told ws len bytes h e is = grind (arith, nat_tests, length-map, words_fit)
 
 pub words_refused : {W : Type 0} (kind : NcType) (told : W → Value) (ws : List W) (len k : ℕ) → is_length kind (length ws) len ≡ true
     → position (λ w. not (fits kind (told w))) ws ≡ Some k → pack kind (map told ws) len ≡ Err (refusal.Range k)
-words_refused kind told ws len k h e =
-    ap (λ (n : ℕ). if_length kind n len (in_range (first_out kind (map told ws)) (packed kind (map told ws)))) (length-map ws told)
-    ∙ ap (λ (b : Bool). cond b (in_range (first_out kind (map told ws)) (packed kind (map told ws))) (Err (refusal.Asked code.EInvalRequest))) h
-    ∙ ap (λ (o : Option ℕ). in_range o (packed kind (map told ws))) (sym (first_of_words kind told ws) ∙ e)
+words_refused kind told ws len k h e = grind (arith, nat_tests, length-map, first_of_words)
 
 pub words_long : {W : Type 0} (kind : NcType) (told : W → Value) (ws : List W) (len : ℕ) → is_length kind (length ws) len ≡ false
     → pack kind (map told ws) len ≡ Err (refusal.Asked code.EInvalRequest)
-words_long kind told ws len h =
-    ap (λ (n : ℕ). if_length kind n len (in_range (first_out kind (map told ws)) (packed kind (map told ws)))) (length-map ws told)
-    ∙ ap (λ (b : Bool). cond b (in_range (first_out kind (map told ws)) (packed kind (map told ws))) (Err (refusal.Asked code.EInvalRequest))) h
+words_long kind told ws len h = grind (arith, nat_tests, length-map)
 
 -- ---- values that are written
 
 packed_more : {W : Type 0} (kind : NcType) (told : W → Value) (ws : List W) (i : ℕ) (w : W) → i < length ws → w ≡ get_or ws i w
     → packed kind (map told (take i ws)) ++ ext kind (told w) ≡ packed kind (map told (take (i + 1) ws))
 packed_more {W} kind told ws i w l is =
-    ap (λ (b : List ℕ). packed kind (map told (take i ws)) ++ b) (sym (append-nil (ext kind (told w))))
-    ∙ sym (flat_map-append (λ v. ext kind v) (map told (take i ws)) (told w ∷ []))
-    ∙ ap (λ (vs : List Value). packed kind vs) (sym (map-append told (take i ws) (w ∷ [])))
-    ∙ ap (λ (x : W). packed kind (map told (take i ws ++ x ∷ []))) is
-    ∙ ap (λ (xs : List W). packed kind (map told xs)) (sym (take_more ws i w l))
+    grind (arith, nat_tests, append-nil (ext kind (told w)), map-append told (take i ws) (w ∷ []), take_more ws i w l, flat_map-append)
 
 pub one_written : {W : Type 0} (kind : NcType) (told : W → Value) (ws : List W) (into ys : List ℕ) (i size k : ℕ) (w : W) → size ≡ size_of kind → i < length ws → w ≡ get_or ws i w
     → length ws * size_of kind ≡ length into → ys ≡ ext kind (told w) → take (i * size_of kind) into ≡ packed kind (map told (take i ws))
     → take ((i + 1) * size_of kind) (put_mid (i * size) k into ys) ≡ packed kind (map told (take (i + 1) ws))
-one_written kind told ws into ys i size k w s l is room e before =
-    let place : i * size ≡ i * size_of kind = ap (λ (n : ℕ). i * n) s in
-    let long : length ys ≡ size_of kind = ap (λ (b : List ℕ). length b) e ∙ ext_long kind (told w) in
-    let next : (i + 1) * size_of kind ≡ i * size_of kind + size_of kind = omega arith in
-    let below : (i + 1) * size_of kind ≤ length ws * size_of kind = mul-le-mul_right (size_of kind) (omega arith) in
-    take-put_mid (i * size) k into ys ((i + 1) * size_of kind) (omega arith) (omega arith)
-    ∙ ap (λ (n : ℕ). take n into ++ ys) place
-    ∙ ap (λ (b : List ℕ). b ++ ys) before
-    ∙ ap (λ (b : List ℕ). packed kind (map told (take i ws)) ++ b) e
-    ∙ packed_more kind told ws i w l is
+one_written kind told ws into ys i size k w s l is room e before = grind (arith, nat_tests, ext_long, mul-le-mul_right, take-put_mid, packed_more)
 
 -- ---- values that are read
 
@@ -133,11 +93,7 @@ value_out memory kind n bytes i l h out =
 pub one_read : {W : Type 0} (kind : NcType) (told : W → Value) (bytes : List ℕ) (into : List W) (k : ℕ) (w : W) → k < length into → told w ≡ value_in kind bytes k
     → map told (take k into) ≡ map (value_in kind bytes) (range_with_len 0 k) → map told (take (k + 1) (set into k w)) ≡ map (value_in kind bytes) (range_with_len 0 (k + 1))
 one_read {W} kind told bytes into k w l is before =
-    ap (λ (xs : List W). map told xs) (take_more_set into k w l)
-    ∙ map-append told (take k into) (w ∷ [])
-    ∙ ap (λ (vs : List Value). vs ++ told w ∷ []) before
-    ∙ ap (λ (v : Value). map (value_in kind bytes) (range_with_len 0 k) ++ v ∷ []) is
-    ∙ sym (map-range_with_len_more (value_in kind bytes) 0 k k (omega arith))
+    grind (arith, nat_tests, take_more_set into k w l, map-append told (take k into) (w ∷ []), map-range_with_len_more (value_in kind bytes) 0 k k (omega arith))
 
 -- ---- bit patterns are in the range of their type
 
@@ -162,8 +118,7 @@ low_32 : (b : List ℕ) → ((i : ℕ) → i < 4 → get_or b i 0 < 256) → fro
 low_32 b h = omega (arith, h 0 (omega arith), h 1 (omega arith), h 2 (omega arith), h 3 (omega arith))
 
 low_64 : (b : List ℕ) → ((i : ℕ) → i < 8 → get_or b i 0 < 256) → from_be_bytes w64 b < 256 ^ 8
-low_64 b h =
-    omega (arith, h 0 (omega arith), h 1 (omega arith), h 2 (omega arith), h 3 (omega arith), h 4 (omega arith), h 5 (omega arith), h 6 (omega arith), h 7 (omega arith))
+low_64 b h = grind (arith, nat_tests)
 
 pub read_floats_fit : (n : ℕ) (bytes : List ℕ) → ((i : ℕ) → get_or bytes i 0 < 256) → first_out Float (values_of Float n bytes) ≡ None
 read_floats_fit n bytes h =

@@ -1,5 +1,5 @@
 -- The windows of all domains, domain after domain.
-use Rattle.nc_classic_c.proofs.Words.{◌≡◌, ◌↔◌, ℕ, zero, suc, ◌+◌, ◌-◌, ◌/◌, ◌^◌, ◌<◌, ◌≤◌, List, [], ◌∷◌, ◌++◌, length, map, Bool, true, false, ◌&&◌, cond, inl, inr, refl, sym, ap, ◌∙◌, leb, arith, length-append, filter, flat_map, nat_lt, nat_le, ◌==◌, range_with_len, enumerate_from, le-leb, leb-true, length-map, map-map, equal_true, no_both, and_first, and_second, Extent, first_of, last_of, windows, spans, low_of, share_of, LiesIn, bytes_in, round_windows, window_told, Window, In, IsAscending, told_of, round_end, walked, filter_two, filter_ascends, first_least, last_most, windows_walked, Division, NcvWindow, end_of, is_division, numbered_windows, shown, step_windows, window_shown}
+use Rattle.nc_classic_c.proofs.Words.{◌≡◌, ◌↔◌, ℕ, zero, suc, ◌+◌, ◌-◌, ◌/◌, ◌^◌, ◌<◌, ◌≤◌, List, [], ◌∷◌, ◌++◌, length, map, Bool, true, false, ◌&&◌, inl, inr, refl, ap, ◌∙◌, leb, arith, length-append, filter, flat_map, nat_lt, nat_le, ◌==◌, range_with_len, enumerate_from, le-leb, leb-true, length-map, map-map, equal_true, no_both, and_first, and_second, Extent, first_of, windows, spans, low_of, share_of, LiesIn, bytes_in, round_windows, window_told, Window, In, IsAscending, told_of, walked, filter_two, filter_ascends, first_least, last_most, windows_walked, Division, NcvWindow, end_of, is_division, shown, step_windows, window_shown, nat_tests}
 use borrow.Author.Tests.{ltb-true, ltb-false, eqb-true}
 use Rattle.overlay_laws.proofs.DomainLaws.{share}
 
@@ -13,18 +13,7 @@ pub record AreDivided (d : Division) : Type 0 where
   pub buffer : 1 ≤ d.buffer
 
 pub divided : (d : Division) → is_division d ≡ true → AreDivided d
-divided d h =
-    let five = and_first (leb 1 d.aggregators && leb d.aggregators 64 && leb 1 d.unit && leb d.unit (2 ^ 25) && leb 1 d.buffer) (leb d.buffer (2 ^ 25)) h in
-    let four = and_first (leb 1 d.aggregators && leb d.aggregators 64 && leb 1 d.unit && leb d.unit (2 ^ 25)) (leb 1 d.buffer) five in
-    let three = and_first (leb 1 d.aggregators && leb d.aggregators 64 && leb 1 d.unit) (leb d.unit (2 ^ 25)) four in
-    let two = and_first (leb 1 d.aggregators && leb d.aggregators 64) (leb 1 d.unit) three in
-    record {
-      some = leb-true 1 d.aggregators (and_first (leb 1 d.aggregators) (leb d.aggregators 64) two);
-      few = leb-true d.aggregators 64 (and_second (leb 1 d.aggregators) (leb d.aggregators 64) two);
-      least_unit = leb-true 1 d.unit (and_second (leb 1 d.aggregators && leb d.aggregators 64) (leb 1 d.unit) three);
-      greatest_unit = leb-true d.unit (2 ^ 25) (and_second (leb 1 d.aggregators && leb d.aggregators 64 && leb 1 d.unit) (leb d.unit (2 ^ 25)) four);
-      buffer = leb-true 1 d.buffer (and_second (leb 1 d.aggregators && leb d.aggregators 64 && leb 1 d.unit && leb d.unit (2 ^ 25)) (leb 1 d.buffer) five);
-    }
+divided d h = grind (arith, nat_tests, and_first, leb, leb-true, and_second)
 
 -- ---- the bytes of a domain
 
@@ -35,20 +24,16 @@ share_is cover e lo hi low s a cut within =
     filter_two (λ x. (x - low) / s == a) (λ y. nat_lt y (e.at + e.len)) (λ y. nat_le e.at y) (spans cover) (λ y m. by_end y m (nat_lt y (e.at + e.len)) refl)
   where
     outside : (y : ℕ) → In (spans cover) y → (LiesIn e y → ⊥) → (t : Bool) → ((y - low) / s == a) ≡ t → t ≡ false
-    outside y m none true g = let w = within y m in absurd (none ((cut y).1 (w.0, w.1, eqb-true _ _ g)))
-    outside y m none false g = refl
+    outside y m none t g = grind (arith, nat_tests, eqb-true)
 
     by_begin : (y : ℕ) → In (spans cover) y → y < e.at + e.len → (t : Bool) → nat_le e.at y ≡ t → ((y - low) / s == a) ≡ t
-    by_begin y m k true g = equal_true ((y - low) / s) a ((cut y).0 (leb-true e.at y g, k)).2
-    by_begin y m k false g = outside y m (λ l. no_both (nat_le e.at y) (le-leb e.at y l.0) g) ((y - low) / s == a) refl
+    by_begin y m k t g = grind (arith, nat_tests, equal_true, leb-true, outside, no_both, le-leb)
 
     by_end : (y : ℕ) → In (spans cover) y → (t : Bool) → nat_lt y (e.at + e.len) ≡ t → ((y - low) / s == a) ≡ (t && nat_le e.at y)
-    by_end y m true g = by_begin y m (ltb-true _ _ g) (nat_le e.at y) refl
-    by_end y m false g = outside y m (λ l. let h = l.1 in let k : e.at + e.len ≤ y = ltb-false _ _ g in absurd (omega arith)) ((y - low) / s == a) refl
+    by_end y m t g = grind (arith, nat_tests, by_begin, ltb-true, outside, ltb-false)
 
 within_ends : (bytes : List ℕ) (x : ℕ) → IsAscending bytes → In bytes x → (first_of bytes ≤ x) × (x < end_of bytes)
-within_ends [] x h m = absurd m
-within_ends (y ∷ ys) x h m = let most = last_most (y ∷ ys) x m in (first_least (y ∷ ys) x h m, omega arith)
+within_ends bytes x h m = grind (arith, nat_tests, last_most, first_least)
 
 -- ---- the windows of a domain
 
@@ -80,19 +65,10 @@ abbrev pub windows_from : ℕ → ℕ → Division → List ℕ → ℕ → List
 windows_from lo hi d bytes a = flat_map (share_windows lo hi d bytes) (range_with_len a (d.aggregators - a))
 
 from_first : (lo hi : ℕ) (d : Division) (bytes : List ℕ) → windows_from lo hi d bytes 0 ≡ flat_map (share_windows lo hi d bytes) (range_with_len 0 d.aggregators)
-from_first lo hi d bytes =
-    let all : d.aggregators - 0 ≡ d.aggregators = omega arith in
-    ap (λ (n : ℕ). flat_map (share_windows lo hi d bytes) (range_with_len 0 n)) all
+from_first lo hi d bytes = grind (arith, nat_tests)
 
 pub all_windows : (lo hi : ℕ) (d : Division) (bytes : List ℕ) → lo ≡ first_of bytes → hi ≡ end_of bytes → windows_from lo hi d bytes 0 ≡ step_windows d bytes
-all_windows lo hi d [] e f =
-    from_first lo hi d []
-    ∙ sym (numbered (numbered_windows d.buffer) (λ a. share (low_of lo d.unit) (share_of lo hi d.aggregators d.unit) [] a) 0 d.aggregators)
-all_windows lo hi d (x ∷ xs) e f =
-    from_first lo hi d (x ∷ xs)
-    ∙ (λ i. flat_map (share_windows (e i) (f i) d (x ∷ xs)) (range_with_len 0 d.aggregators))
-    ∙ sym (numbered (numbered_windows d.buffer)
-    (λ a. share (low_of (first_of (x ∷ xs)) d.unit) (share_of (first_of (x ∷ xs)) (last_of (x ∷ xs) + 1) d.aggregators d.unit) (x ∷ xs) a) 0 d.aggregators)
+all_windows lo hi d bytes e f = grind (arith, nat_tests, from_first, numbered)
 
 pub next_windows : (lo hi : ℕ) (d : Division) (bytes : List ℕ) (a : ℕ) → a < d.aggregators
     → windows_from lo hi d bytes a ≡ share_windows lo hi d bytes a ++ windows_from lo hi d bytes (a + 1)
@@ -101,9 +77,7 @@ next_windows lo hi d bytes a h =
     ap (λ (n : ℕ). flat_map (share_windows lo hi d bytes) (range_with_len a n)) more
 
 pub no_windows : (lo hi : ℕ) (d : Division) (bytes : List ℕ) (a : ℕ) → d.aggregators ≤ a → windows_from lo hi d bytes a ≡ []
-no_windows lo hi d bytes a h =
-    let none : d.aggregators - a ≡ 0 = omega arith in
-    ap (λ (n : ℕ). flat_map (share_windows lo hi d bytes) (range_with_len a n)) none
+no_windows lo hi d bytes a h = grind (arith, nat_tests)
 
 -- ---- how many there are: no more than bytes
 
@@ -113,37 +87,16 @@ walked_few stop (suc fuel) [] = omega arith
 walked_few stop (suc fuel) (x ∷ bytes) = omega (arith, walked_few stop fuel (filter (λ y. nat_le (stop x) y) bytes))
 
 windows_few : (buffer : ℕ) (bytes : List ℕ) → 1 ≤ buffer → IsAscending bytes → length (windows buffer bytes) ≤ length bytes
-windows_few buffer bytes h asc =
-    let same = ap (λ (ws : List (List ℕ)). length ws) (windows_walked buffer bytes h asc) in
-    omega (arith, same, walked_few (round_end (first_of bytes) buffer) (length bytes) bytes)
-
-split_more : (b c d : Bool) (x : ℕ) (k l m : List ℕ) → (b ≡ true → c ≡ true → ⊥) → (b ≡ true → d ≡ true) → (c ≡ true → d ≡ true) → length k + length l ≤ length m
-    → length (cond b (x ∷ k) k) + length (cond c (x ∷ l) l) ≤ length (cond d (x ∷ m) m)
-split_more true true d x k l m p q r h = absurd (p refl refl)
-split_more true false true x k l m p q r h = omega arith
-split_more true false false x k l m p q r h = absurd (let e = q refl in cc)
-split_more false true true x k l m p q r h = omega arith
-split_more false true false x k l m p q r h = absurd (let e = r refl in cc)
-split_more false false true x k l m p q r h = omega arith
-split_more false false false x k l m p q r h = h
+windows_few buffer bytes h asc = grind (arith, nat_tests, windows_walked, walked_few)
 
 -- the numbers whose f is a, and those whose f is more
 split_few : (f : ℕ → ℕ) (a : ℕ) (xs : List ℕ) → length (filter (λ x. f x == a) xs) + length (filter (λ x. nat_le (a + 1) (f x)) xs) ≤ length (filter (λ x. nat_le a (f x)) xs)
 split_few f a [] = omega arith
-split_few f a (x ∷ xs) =
-    split_more (f x == a) (nat_le (a + 1) (f x)) (nat_le a (f x)) x (filter (λ x. f x == a) xs) (filter (λ x. nat_le (a + 1) (f x)) xs) (filter (λ x. nat_le a (f x)) xs)
-    (λ e g. let is = eqb-true (f x) a e in let more = leb-true (a + 1) (f x) g in absurd (omega arith))
-    (λ e. let is = eqb-true (f x) a e in le-leb a (f x) (omega arith))
-    (λ g. let more = leb-true (a + 1) (f x) g in le-leb a (f x) (omega arith))
-    (split_few f a xs)
+split_few f a (x ∷ xs) = grind (arith, nat_tests, split_few f a xs)
 
 filter_few : (t : ℕ → Bool) (xs : List ℕ) → length (filter t xs) ≤ length xs
 filter_few t [] = omega arith
-filter_few t (x ∷ xs) = by_test (filter_few t xs) (t x)
-  where
-    by_test : length (filter t xs) ≤ length xs → (b : Bool) → length (cond b (x ∷ filter t xs) (filter t xs)) ≤ length (x ∷ xs)
-    by_test h true = omega arith
-    by_test h false = omega arith
+filter_few t (x ∷ xs) = grind (arith, nat_tests, filter_few t xs)
 
 shares_few : (lo hi : ℕ) (d : Division) (bytes : List ℕ) (a n : ℕ) → 1 ≤ d.buffer → IsAscending bytes
     → length (flat_map (share_windows lo hi d bytes) (range_with_len a n)) ≤ length (filter (λ x. nat_le a ((x - low_of lo d.unit) / share_of lo hi d.aggregators d.unit)) bytes)
@@ -153,10 +106,7 @@ shares_few lo hi d bytes a (suc n) h asc =
     let own = share (low_of lo d.unit) (share_of lo hi d.aggregators d.unit) bytes a in
     let rest = shares_few lo hi d bytes (a + 1) n h asc in
     let both = length-append (share_windows lo hi d bytes a) (flat_map (share_windows lo hi d bytes) (range_with_len (a + 1) n)) in
-    let shown = length-map (windows d.buffer own) (window_shown a) in
-    let few = windows_few d.buffer own h (filter_ascends (λ x. f x == a) bytes asc) in
-    let split = split_few f a bytes in
-    omega arith
+    grind (arith, nat_tests, f, own, rest, both, length-map (windows d.buffer own) (window_shown a), split_few f a bytes, windows_few, filter_ascends)
 
 ascending_few : (xs : List ℕ) (lo hi : ℕ) → IsAscending xs → ((x : ℕ) → In xs x → (lo ≤ x) × (x < hi)) → length xs ≤ hi - lo
 ascending_few [] lo hi h within = omega arith
