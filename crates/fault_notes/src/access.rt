@@ -1,6 +1,8 @@
 // The calls that name a region of a variable, by their words.
-use crate::cursor::Cursor;
-use crate::slot::{COUNT, ID, IMAP, NAME, NOTHING, PARTS, START, STRIDE, Slot, VALUE};
+ghost use Rattle.std.specs.Prelude.{◌≤◌};
+
+use crate::cursor::word_at;
+use crate::slot::Slot;
 use crate::table::beside;
 use nc_base::Form;
 use script_values::regions::form_of_text;
@@ -14,127 +16,103 @@ pub(crate) struct Access {
     pub has_values: bool,
 }
 
-// A call by the first bytes of its word.
-#[derive(Clone, Copy)]
-struct Kind {
-    is_post: bool,
-    has_values: bool,
+// What a call does, by the first bytes of its word.
+#[derive(Clone, Copy, PartialEq, Eq)]
+enum Kind {
+    Put,
+    Get,
+    PostedPut,
+    PostedGet,
 }
 
 const KINDS: [(&[u8], Kind); 5] = [
-    (
-        b"put_",
-        Kind {
-            is_post: false,
-            has_values: true,
-        },
-    ),
-    (
-        b"get_",
-        Kind {
-            is_post: false,
-            has_values: false,
-        },
-    ),
-    (
-        b"iput",
-        Kind {
-            is_post: true,
-            has_values: true,
-        },
-    ),
-    (
-        b"bput",
-        Kind {
-            is_post: true,
-            has_values: true,
-        },
-    ),
-    (
-        b"iget",
-        Kind {
-            is_post: true,
-            has_values: false,
-        },
-    ),
+    (b"put_", Kind::Put),
+    (b"get_", Kind::Get),
+    (b"iput", Kind::PostedPut),
+    (b"bput", Kind::PostedPut),
+    (b"iget", Kind::PostedGet),
 ];
 
-fn form_of(word: &[u8]) -> Option<Form> {
-    form_of_text(word.strip_suffix(b"_all".as_slice()).unwrap_or(word))
-}
-
-fn posted_form(rest: &[u8]) -> Option<Form> {
-    form_of_text(rest.strip_prefix(b"_".as_slice())?)
+fn form_of(kind: Kind, rest: &[u8]) -> Option<Form> {
+    match kind {
+        Kind::Put | Kind::Get => {
+            form_of_text(rest.strip_suffix(b"_all".as_slice()).unwrap_or(rest))
+        }
+        Kind::PostedPut | Kind::PostedGet => form_of_text(rest.strip_prefix(b"_".as_slice())?),
+    }
 }
 
 impl Access {
     /// The access of a call's word, where it is one.
     pub(crate) fn of_word(word: &[u8]) -> Option<Access> {
         let (first, rest) = word.split_at_checked(4)?;
-        let Kind {
-            is_post,
-            has_values,
-        } = beside(first, &KINDS)?;
-        let form = if is_post {
-            posted_form(rest)
-        } else {
-            form_of(rest)
-        };
+        let kind = beside(first, &KINDS)?;
         Some(Access {
-            form: form?,
-            is_post,
-            has_values,
+            form: form_of(kind, rest)?,
+            is_post: matches!(kind, Kind::PostedPut | Kind::PostedGet),
+            has_values: matches!(kind, Kind::Put | Kind::PostedPut),
         })
     }
 
-    /// What the word behind the call's is for, at this place from 0; `words` are those behind the call's.
-    pub(crate) fn slot(&self, words: Cursor<'_>, place: usize) -> Slot {
-        let mut words = words;
-        let mut place = place;
-        if self.is_post {
-            if place == 0 {
-                return ID;
-            }
-            words.take();
-            place -= 1;
-        }
-        if place == 0 {
-            return NAME;
-        }
-        words.take();
-        match self.region_slot(words, place - 1) {
-            Some(slot) => slot,
-            None if self.has_values => VALUE,
-            None => NOTHING,
+    /// How many ids stand behind the call's word, before the name of the variable.
+    pub(crate) fn ids(&self) -> usize
+        ensures { result ≤ 1 }
+    {
+        if self.is_post { 1 } else { 0 }
+    }
+
+    /// What the word behind the call's is for, at this place from 0.
+    pub(crate) fn slot(&self, line: &[u8], place: usize) -> Slot {
+        let ids = self.ids();
+        if place < ids {
+            Slot::Id
+        } else if place == ids {
+            Slot::Name
+        } else {
+            self.slot_behind(word_at(line, 3 + ids), place - ids - 1)
         }
     }
 
-    // What a word of the region is for; none behind it.
-    fn region_slot(&self, words: Cursor<'_>, place: usize) -> Option<Slot> {
-        let lists = match self.form {
-            Form::Varn => return varn_slot(words, place),
-            Form::Var => 0,
-            Form::Var1 => 1,
-            Form::Vara => 2,
-            Form::Vars => 3,
-            Form::Varm => 4,
-        };
-        LISTS.get(..lists)?.get(place).copied()
+    // The same from the region on, by its first word.
+    fn slot_behind(&self, first: &[u8], place: usize) -> Slot {
+        match region_slot(self.form, first, place) {
+            Some(slot) => slot,
+            None if self.has_values => Slot::Value,
+            None => Slot::Nothing,
+        }
     }
 }
 
 // The lists of a region, in order.
-const LISTS: [Slot; 4] = [START, COUNT, STRIDE, IMAP];
+const LISTS: [Slot; 4] = [Slot::Start, Slot::Count, Slot::Stride, Slot::Imap];
+
+// What a word of a region is for, at this place from 0; none behind it.
+fn region_slot(form: Form, first: &[u8], place: usize) -> Option<Slot> {
+    let lists = match form {
+        Form::Varn => return varn_slot(first, place),
+        Form::Var => 0,
+        Form::Var1 => 1,
+        Form::Vara => 2,
+        Form::Vars => 3,
+        Form::Varm => 4,
+    };
+    if place < lists {
+        LISTS.get(place).copied()
+    } else {
+        None
+    }
+}
 
 // The same for many regions: their number, and a START and a COUNT of each.
-fn varn_slot(words: Cursor<'_>, place: usize) -> Option<Slot> {
+fn varn_slot(parts: &[u8], place: usize) -> Option<Slot> {
     if place == 0 {
-        return Some(PARTS);
+        return Some(Slot::Parts);
     }
-    let mut words = words;
-    let parts = size_of_text(words.take()?)?;
-    if place as u64 > parts.saturating_mul(2) {
-        return None;
+    if place as u64 > size_of_text(parts)?.saturating_mul(2) {
+        None
+    } else if place % 2 == 1 {
+        Some(Slot::Start)
+    } else {
+        Some(Slot::Count)
     }
-    Some(if place % 2 == 1 { START } else { COUNT })
 }

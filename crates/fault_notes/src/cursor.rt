@@ -43,14 +43,12 @@ impl<'a> Cursor<'a> {
     }
 }
 
-/// The first words of a line, an empty one for each that it lacks.
-pub(crate) fn first_words<'a>(line: &'a [u8]) -> [&'a [u8]; 5] {
-    let mut cursor = Cursor::new(line);
-    let mut words: [&'a [u8]; 5] = [&[], &[], &[], &[], &[]];
-    for word in &mut words {
-        if let Some(next) = cursor.take() {
-            *word = next;
-        }
-    }
-    words
+/// The word of a line at this place, from 0; an empty one where it has none there.
+pub(crate) fn word_at(line: &[u8], place: usize) -> &[u8] {
+    Cursor::new(line).take_behind(place).unwrap_or(&[])
+}
+
+/// Whether this is the first word of a line.
+pub(crate) fn begins(line: &[u8], word: &[u8]) -> bool {
+    word_at(line, 0) == word
 }

@@ -1,5 +1,5 @@
 // What the lines of the definitions define.
-use crate::cursor::first_words;
+use crate::cursor::word_at;
 use crate::lines::{Line, Part};
 use crate::table::beside;
 
@@ -24,16 +24,42 @@ const DEFINITIONS: [(&[u8], Definition); 6] = [
 ];
 
 impl Definition {
-    pub(crate) fn of_word(word: &[u8]) -> Option<Definition> {
-        beside(word, &DEFINITIONS)
+    /// That of a text, where its first word is one's.
+    pub(crate) fn of_text(text: &[u8]) -> Option<Definition> {
+        beside(word_at(text, 0), &DEFINITIONS)
     }
 
     /// That of a line of a script.
-    pub(crate) fn of_line(line: &Line<'_>) -> Option<Definition> {
+    pub(crate) fn of_line(line: Line<'_>) -> Option<Definition> {
         if line.part == Part::Definitions {
-            Definition::of_word(first_words(line.text)[0])
+            Definition::of_text(line.text)
         } else {
             None
         }
+    }
+}
+
+/// The line of this place, from 0, among those that define one of these.
+pub(crate) fn nth_defining<'a>(
+    lines: &[Line<'a>],
+    definitions: &[Definition],
+    place: usize,
+) -> Option<Line<'a>> {
+    let mut left = place;
+    for line in lines {
+        if defines(*line, definitions) {
+            if left == 0 {
+                return Some(*line);
+            }
+            left -= 1;
+        }
+    }
+    None
+}
+
+fn defines(line: Line<'_>, definitions: &[Definition]) -> bool {
+    match Definition::of_line(line) {
+        Some(definition) => definitions.contains(&definition),
+        None => false,
     }
 }

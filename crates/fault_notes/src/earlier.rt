@@ -1,75 +1,104 @@
 // What earlier lines of a script name.
 use crate::access::Access;
-use crate::cursor::first_words;
+use crate::cursor::word_at;
 use crate::definition::Definition;
 use crate::lines::{Line, Part};
 use script_words::ListParts;
 use script_words::numbers::{begins_rank, between_brackets, digits_below, id_of_text};
 
-// What a line names: no two lines of a script may name the same.
+// What a line of the definitions names: no two lines may name the same.
 #[derive(Clone, Copy, PartialEq, Eq)]
-enum Named<'a> {
-    Once(Definition),
-    Plain(Definition, &'a [u8]),
-    Attribute(&'a [u8], &'a [u8]),
-    Post(u32, u32),
+struct Defined<'a> {
+    definition: Definition,
+    // The owner of an attribute.
+    owner: &'a [u8],
+    name: &'a [u8],
 }
 
-fn name_of(line: Line<'_>) -> Option<Named<'_>> {
-    let words = first_words(line.text);
-    match line.part {
-        Part::Definitions => defined(words),
-        Part::Calls => posted(words),
-        Part::Head | Part::Behind => None,
-    }
-}
-
-fn defined<'a>(words: [&'a [u8]; 5]) -> Option<Named<'a>> {
-    let [kind, first, second, ..] = words;
-    let definition = Definition::of_word(kind)?;
-    Some(match definition {
-        Definition::Ranks | Definition::Fill => Named::Once(definition),
-        Definition::Hint | Definition::Dim => Named::Plain(definition, first),
-        Definition::Var => Named::Plain(definition, second),
-        Definition::Att => Named::Attribute(first, second),
+fn name_of(line: Line<'_>) -> Option<Defined<'_>> {
+    let definition = Definition::of_line(line)?;
+    // The places of the two words; at 0 stands the word of the definition.
+    let (owner, name) = match definition {
+        Definition::Ranks | Definition::Fill => (0, 0),
+        Definition::Hint | Definition::Dim => (0, 1),
+        Definition::Var => (0, 2),
+        Definition::Att => (1, 2),
+    };
+    Some(Defined {
+        definition,
+        owner: word_at(line.text, owner),
+        name: word_at(line.text, name),
     })
 }
 
-fn posted(words: [&[u8]; 5]) -> Option<Named<'_>> {
-    let [rank, call, id, ..] = words;
-    if !Access::of_word(call)?.is_post || !begins_rank(rank) {
+// The request that a line posts: no two lines may post the same.
+#[derive(Clone, Copy, PartialEq, Eq)]
+struct Posted {
+    rank: u32,
+    id: u32,
+}
+
+fn post_of(line: Line<'_>) -> Option<Posted> {
+    if line.part != Part::Calls || !Access::of_word(word_at(line.text, 1))?.is_post {
         return None;
     }
-    Some(Named::Post(digits_below(64, rank)?, id_of_text(id)?))
+    Some(Posted {
+        rank: rank_of(word_at(line.text, 0))?,
+        id: id_of_text(word_at(line.text, 2))?,
+    })
+}
+
+/// The rank that a word tells, where it is below 64.
+pub(crate) fn rank_of(word: &[u8]) -> Option<u32> {
+    if begins_rank(word) {
+        digits_below(64, word)
+    } else {
+        None
+    }
 }
 
 /// The line before this one that names the same.
-pub(crate) fn first_naming<'a>(lines: &[Line<'a>], line: Line<'a>) -> Option<u32> {
-    let own = name_of(line)?;
+pub(crate) fn first_naming(lines: &[Line<'_>], line: Line<'_>) -> Option<u32> {
     for other in lines {
         if other.number >= line.number {
             return None;
         }
-        if name_of(*other) == Some(own) {
+        if names_same(*other, line) {
             return Some(other.number);
         }
     }
     None
 }
 
+fn names_same(other: Line<'_>, line: Line<'_>) -> bool {
+    match name_of(line) {
+        Some(own) => name_of(other) == Some(own),
+        None => match post_of(line) {
+            Some(own) => post_of(other) == Some(own),
+            None => false,
+        },
+    }
+}
+
 // Whether a line before this one defines a dimension of this name.
 fn is_dim(lines: &[Line<'_>], name: &[u8], line: Line<'_>) -> bool {
-    lines.iter().any(|other| {
-        other.number < line.number && name_of(*other) == Some(Named::Plain(Definition::Dim, name))
-    })
+    for other in lines {
+        if other.number < line.number && defines_dim(*other, name) {
+            return true;
+        }
+    }
+    false
+}
+
+fn defines_dim(line: Line<'_>, name: &[u8]) -> bool {
+    Definition::of_line(line) == Some(Definition::Dim) && word_at(line.text, 1) == name
 }
 
 /// The dimension or the owner that a line of the definitions names and that no line before it defines.
 pub(crate) fn undefined<'a>(lines: &[Line<'a>], line: Line<'a>) -> Option<&'a [u8]> {
-    let [kind, owner, _, shape, ..] = first_words(line.text);
-    match Definition::of_word(kind)? {
-        Definition::Att => Some(owner),
-        Definition::Var => undefined_dim(lines, shape, line),
+    match Definition::of_text(line.text)? {
+        Definition::Att => Some(word_at(line.text, 1)),
+        Definition::Var => undefined_dim(lines, word_at(line.text, 3), line),
         _ => None,
     }
 }
@@ -87,10 +116,14 @@ fn undefined_dim<'a>(lines: &[Line<'a>], shape: &'a [u8], line: Line<'a>) -> Opt
 
 /// The line that gives a dimension the length `unlimited`.
 pub(crate) fn record_dim<'a>(lines: &[Line<'a>]) -> Option<Line<'a>> {
-    lines.iter().copied().find(|line| is_record_dim(line.text))
+    for line in lines {
+        if is_record_dim(line.text) {
+            return Some(*line);
+        }
+    }
+    None
 }
 
 fn is_record_dim(text: &[u8]) -> bool {
-    let [kind, _, length, ..] = first_words(text);
-    kind == b"dim".as_slice() && length == b"unlimited".as_slice()
+    word_at(text, 0) == b"dim".as_slice() && word_at(text, 2) == b"unlimited".as_slice()
 }

@@ -8,8 +8,9 @@ use crate::opened_disk::OpenedDisk;
 use crate::pending::{Pending, push_pending};
 use crate::redefinition::push_redefinition;
 use crate::shortfall::{header_of, push_shortfall};
-use crate::shown::shown;
+use crate::shown::Shown;
 use crate::surplus::push_surplus;
+use nc_base::Header;
 use nc_outside::{Disk, Sink, Source};
 use std::alloc::{AllocError, Global};
 use std::io;
@@ -59,49 +60,67 @@ pub(crate) fn notes(alloc: Global, dataset: &str, run: &Run<'_>) -> Result<Strin
     if run.status == 0 {
         push_passed_over(&mut notes, alloc, dataset, run)?;
     } else {
-        let note = fault_note(alloc, dataset, run)?;
-        push_line(&mut notes, note.as_str())?;
+        push_fault(&mut notes, alloc, dataset, run)?;
     }
     Ok(notes)
 }
 
-fn fault_note(alloc: Global, dataset: &str, run: &Run<'_>) -> Result<String, AllocError> {
+fn push_fault(
+    notes: &mut String,
+    alloc: Global,
+    dataset: &str,
+    run: &Run<'_>,
+) -> Result<(), AllocError> {
     let mut note = String::new(alloc);
+    push_fault_note(&mut note, alloc, dataset, run)?;
+    push_line(notes, note.as_str())
+}
+
+fn push_fault_note(
+    out: &mut String,
+    alloc: Global,
+    dataset: &str,
+    run: &Run<'_>,
+) -> Result<(), AllocError> {
     match run.status {
-        3 => push_script_note(&mut note, alloc, run.script, run.line)?,
-        4 => push_dataset_fault(&mut note, alloc, run)?,
-        7 => push_cause(&mut note, alloc, dataset, run.cause)?,
-        _ => {}
+        3 => push_script_note(out, alloc, run.script, run.line),
+        4 => push_dataset_fault(out, alloc, run),
+        7 => push_cause(out, dataset, run.cause),
+        _ => Ok(()),
     }
-    Ok(note)
 }
 
 // What is wrong with the dataset: with what is added to it, its header, or where its variables would lie.
 fn push_dataset_fault(out: &mut String, alloc: Global, run: &Run<'_>) -> Result<(), AllocError> {
     let told = run.line.strip_suffix(b"\n".as_slice()).unwrap_or(run.line);
+    if told.starts_with(REDEFINITION) {
+        return push_redefinition(out, alloc, run.script, told);
+    }
     let header = header_of(alloc, run.front);
     let is_refused = header.is_none() && !run.front.is_empty();
-    match told.strip_prefix(b"ncrun: header ".as_slice()) {
-        Some(fault) if fault != b"is too large".as_slice() || is_refused => {
-            push_header_fault(out, alloc, run.front, run.length, fault)
-        }
-        None if told.starts_with(b"ncrun: redefinition ") => {
-            push_redefinition(out, alloc, run.script, run.line)
-        }
-        _ => push_layout_fault(out, alloc, run.script, header.as_ref(), told),
+    match header_fault_of(told, is_refused) {
+        Some(fault) => push_header_fault(out, run.front, run.length, fault),
+        None => push_layout_fault(out, alloc, run.script, header.as_ref(), told),
     }
 }
 
-fn push_cause(
-    out: &mut String,
-    alloc: Global,
-    dataset: &str,
-    cause: Option<io::Error>,
-) -> Result<(), AllocError> {
+const REDEFINITION: &[u8] = b"ncrun: redefinition ";
+
+// What a line tells of a header; what is too large is the layout, unless the header that is there was refused.
+fn header_fault_of(told: &[u8], is_refused: bool) -> Option<&[u8]> {
+    let fault = told.strip_prefix(b"ncrun: header ".as_slice())?;
+    if is_refused || fault != b"is too large".as_slice() {
+        Some(fault)
+    } else {
+        None
+    }
+}
+
+fn push_cause(out: &mut String, dataset: &str, cause: Option<io::Error>) -> Result<(), AllocError> {
     let Some(cause) = cause else {
         return Ok(());
     };
-    let dataset = shown(alloc, dataset.as_bytes())?;
+    let dataset = Shown(dataset.as_bytes());
     write!(out, "{dataset}: {cause}")
 }
 
@@ -113,27 +132,50 @@ fn push_passed_over(
     run: &Run<'_>,
 ) -> Result<(), AllocError> {
     let header = header_of(alloc, run.front);
-    if let Some(header) = &header {
-        let mut note = String::new(alloc);
-        push_shortfall(&mut note, alloc, dataset, run, header)?;
-        push_line(notes, note.as_str())?;
-    }
+    push_missing_bytes(notes, alloc, dataset, run, header.as_ref())?;
+    push_values(notes, alloc, run, header.as_ref())?;
+    push_requests(notes, alloc, run)
+}
+
+fn push_missing_bytes(
+    notes: &mut String,
+    alloc: Global,
+    dataset: &str,
+    run: &Run<'_>,
+    header: Option<&Header>,
+) -> Result<(), AllocError> {
+    let Some(header) = header else {
+        return Ok(());
+    };
     let mut note = String::new(alloc);
-    push_surplus(&mut note, alloc, run.script, header.as_ref())?;
-    push_line(notes, note.as_str())?;
-    if let Some(pending) = run.pending {
-        let mut note = String::new(alloc);
-        push_pending(&mut note, pending)?;
-        push_line(notes, note.as_str())?;
-    }
-    Ok(())
+    push_shortfall(&mut note, dataset, run, header)?;
+    push_line(notes, note.as_str())
+}
+
+fn push_values(
+    notes: &mut String,
+    alloc: Global,
+    run: &Run<'_>,
+    header: Option<&Header>,
+) -> Result<(), AllocError> {
+    let mut note = String::new(alloc);
+    push_surplus(&mut note, alloc, run.script, header)?;
+    push_line(notes, note.as_str())
+}
+
+fn push_requests(notes: &mut String, alloc: Global, run: &Run<'_>) -> Result<(), AllocError> {
+    let Some(pending) = run.pending else {
+        return Ok(());
+    };
+    let mut note = String::new(alloc);
+    push_pending(&mut note, pending)?;
+    push_line(notes, note.as_str())
 }
 
 fn push_line(notes: &mut String, note: &str) -> Result<(), AllocError> {
     if note.is_empty() {
-        return Ok(());
+        Ok(())
+    } else {
+        writeln!(notes, "ncrun: {note}")
     }
-    notes.push_str("ncrun: ")?;
-    notes.push_str(note)?;
-    notes.push('\n')
 }

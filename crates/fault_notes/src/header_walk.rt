@@ -1,11 +1,75 @@
 // A header that may have a fault, gone over field by field up to a place, by the netCDF classic format specification.
 ghost use Rattle.std.specs.Prelude.{◌<◌};
 
+use crate::shown::Shown;
+use crate::table::beside;
+use std::fmt;
+
 /// A dimension, variable or attribute by its number, from 0, and its name, which is empty where it wasn't read.
 #[derive(Clone, Copy)]
 pub(crate) struct Named<'a> {
     pub number: u64,
     pub name: &'a [u8],
+}
+
+impl fmt::Display for Named<'_> {
+    fn fmt<W: fmt::Write>(&self, f: &mut fmt::Formatter<W>) -> fmt::Result {
+        let number = self.number;
+        if self.name.is_empty() {
+            return write!(f, "{number}");
+        }
+        let name = Shown(self.name);
+        write!(f, "{number} {name}")
+    }
+}
+
+/// A field of a header.
+#[derive(Clone, Copy, PartialEq, Eq)]
+pub(crate) enum Field {
+    Magic,
+    Records,
+    DimsTag,
+    DimCount,
+    DimId,
+    AttrsTag,
+    AttrCount,
+    VarsTag,
+    VarCount,
+    NameLength,
+    Name,
+    Length,
+    Type,
+    ValueCount,
+    Values,
+    Size,
+    Begin,
+}
+
+const FIELDS: [(Field, &str); 17] = [
+    (Field::Magic, "the magic number"),
+    (Field::Records, "the number of records"),
+    (Field::DimsTag, "the tag of the dimensions"),
+    (Field::DimCount, "the number of dimensions"),
+    (Field::DimId, "the number of a dimension"),
+    (Field::AttrsTag, "the tag of the attributes"),
+    (Field::AttrCount, "the number of attributes"),
+    (Field::VarsTag, "the tag of the variables"),
+    (Field::VarCount, "the number of variables"),
+    (Field::NameLength, "the length of the name"),
+    (Field::Name, "the name"),
+    (Field::Length, "the length"),
+    (Field::Type, "the type"),
+    (Field::ValueCount, "the number of values"),
+    (Field::Values, "the block of values"),
+    (Field::Size, "the size"),
+    (Field::Begin, "the begin"),
+];
+
+impl Field {
+    /// What it is called.
+    fn name(self) -> &'static str {
+        beside(self, &FIELDS).unwrap_or("")
+    }
 }
 
 /// What a field is a part of, beside an attribute.
@@ -28,17 +92,17 @@ pub(crate) enum Goal {
     RecordDims,
 }
 
-/// A walk that has ended: at which field, and what it came by.
+/// A walk that has ended: at which field, and what it came by. It is printed as that field, and whose it is.
 #[derive(Clone, Copy)]
 pub(crate) struct Walk<'a> {
     bytes: &'a [u8],
     goal: Goal,
-    /// Where the field begins, how many bytes it has, and what it is called.
-    pub at: usize,
-    pub length: usize,
-    pub field: &'static str,
+    // Where the field begins, and how many bytes it has.
+    at: usize,
+    length: usize,
+    pub field: Field,
     pub owner: Owner<'a>,
-    pub attr: Option<Named<'a>>,
+    attr: Option<Named<'a>>,
     /// The last two dimensions of length 0.
     pub record_dims: [Option<Named<'a>>; 2],
     /// How many dimensions there are.
@@ -67,6 +131,21 @@ fn size_of(kind: u64) -> u64 {
     }
 }
 
+impl fmt::Display for Walk<'_> {
+    fn fmt<W: fmt::Write>(&self, f: &mut fmt::Formatter<W>) -> fmt::Result {
+        f.write_str(self.field.name())?;
+        if let Some(attr) = self.attr {
+            write!(f, " of attribute {attr}")?;
+        }
+        match self.owner {
+            Owner::Header => Ok(()),
+            Owner::Dataset => f.write_str(" of the dataset"),
+            Owner::Dim(dim) => write!(f, " of dimension {dim}"),
+            Owner::Var(var) => write!(f, " of variable {var}"),
+        }
+    }
+}
+
 impl<'a> Walk<'a> {
     /// The walk over the first bytes of a dataset.
     pub(crate) fn to(goal: Goal, bytes: &'a [u8]) -> Self {
@@ -75,7 +154,7 @@ impl<'a> Walk<'a> {
             goal,
             at: 0,
             length: 0,
-            field: "",
+            field: Field::Magic,
             owner: Owner::Header,
             attr: None,
             record_dims: [None, None],
@@ -110,7 +189,7 @@ impl<'a> Walk<'a> {
     }
 
     // Goes past a field, unless the walk ends there.
-    fn block(&mut self, field: &'static str, length: usize) -> Option<&'a [u8]> {
+    fn block(&mut self, field: Field, length: usize) -> Option<&'a [u8]> {
         self.field = field;
         self.length = length;
         if matches!(self.goal, Goal::Byte(at) if at <= self.at as u64) {
@@ -121,17 +200,17 @@ impl<'a> Walk<'a> {
         Some(block)
     }
 
-    fn word(&mut self, field: &'static str) -> Option<u64> {
+    fn word(&mut self, field: Field) -> Option<u64> {
         self.block(field, 4).map(spelled)
     }
 
-    fn number(&mut self, field: &'static str) -> Option<u64> {
+    fn number(&mut self, field: Field) -> Option<u64> {
         let width = self.width();
         self.block(field, width).map(spelled)
     }
 
     // Goes past so many bytes and their padding.
-    fn padded(&mut self, field: &'static str, length: u64) -> Option<&'a [u8]> {
+    fn padded(&mut self, field: Field, length: u64) -> Option<&'a [u8]> {
         if length == 0 {
             return Some(&[]);
         }
@@ -141,13 +220,13 @@ impl<'a> Walk<'a> {
     }
 
     fn name(&mut self) -> Option<&'a [u8]> {
-        let length = self.number("the length of the name")?;
-        self.padded("the name", length)
+        let length = self.number(Field::NameLength)?;
+        self.padded(Field::Name, length)
     }
 
     fn header(&mut self) -> Option<()> {
-        self.word("the magic number")?;
-        self.number("the number of records")?;
+        self.word(Field::Magic)?;
+        self.number(Field::Records)?;
         self.each_dim()?;
         self.owner = Owner::Dataset;
         self.each_attr()?;
@@ -156,8 +235,8 @@ impl<'a> Walk<'a> {
     }
 
     fn each_dim(&mut self) -> Option<()> {
-        self.word("the tag of the dimensions")?;
-        self.dims = self.number("the number of dimensions")?;
+        self.word(Field::DimsTag)?;
+        self.dims = self.number(Field::DimCount)?;
         for number in 0..self.dims {
             self.dim(number)?;
         }
@@ -169,18 +248,24 @@ impl<'a> Walk<'a> {
         let name = self.name()?;
         let dim = Named { number, name };
         self.owner = Owner::Dim(dim);
-        if self.number("the length")? == 0 {
-            self.record_dims = [self.record_dims[1], Some(dim)];
-            if matches!(self.goal, Goal::RecordDims) && self.record_dims[0].is_some() {
-                return None;
-            }
+        match self.number(Field::Length)? {
+            0 => self.record_dim(dim),
+            _ => Some(()),
         }
-        Some(())
+    }
+
+    fn record_dim(&mut self, dim: Named<'a>) -> Option<()> {
+        let before = self.record_dims[1];
+        self.record_dims = [before, Some(dim)];
+        match (self.goal, before) {
+            (Goal::RecordDims, Some(_)) => None,
+            _ => Some(()),
+        }
     }
 
     fn each_attr(&mut self) -> Option<()> {
-        self.word("the tag of the attributes")?;
-        let count = self.number("the number of attributes")?;
+        self.word(Field::AttrsTag)?;
+        let count = self.number(Field::AttrCount)?;
         for number in 0..count {
             self.attr(number)?;
         }
@@ -192,15 +277,15 @@ impl<'a> Walk<'a> {
         self.attr = Some(Named { number, name: &[] });
         let name = self.name()?;
         self.attr = Some(Named { number, name });
-        let kind = self.word("the type")?;
-        let count = self.number("the number of values")?;
-        self.padded("the block of values", count.saturating_mul(size_of(kind)))?;
+        let kind = self.word(Field::Type)?;
+        let count = self.number(Field::ValueCount)?;
+        self.padded(Field::Values, count.saturating_mul(size_of(kind)))?;
         Some(())
     }
 
     fn each_var(&mut self) -> Option<()> {
-        self.word("the tag of the variables")?;
-        let count = self.number("the number of variables")?;
+        self.word(Field::VarsTag)?;
+        let count = self.number(Field::VarCount)?;
         for number in 0..count {
             self.var(number)?;
         }
@@ -213,10 +298,10 @@ impl<'a> Walk<'a> {
         self.owner = Owner::Var(Named { number, name });
         self.ids = self.each_id()?;
         self.each_attr()?;
-        self.word("the type")?;
-        self.number("the size")?;
+        self.word(Field::Type)?;
+        self.number(Field::Size)?;
         let width = if self.version() == 1 { 4 } else { 8 };
-        self.begin = spelled(self.block("the begin", width)?);
+        self.begin = spelled(self.block(Field::Begin, width)?);
         match self.goal {
             Goal::Var(last) if last == number => None,
             _ => Some(()),
@@ -224,10 +309,10 @@ impl<'a> Walk<'a> {
     }
 
     fn each_id(&mut self) -> Option<&'a [u8]> {
-        let count = self.number("the number of dimensions")?;
+        let count = self.number(Field::DimCount)?;
         let from = self.at;
         for _ in 0..count {
-            self.number("the number of a dimension")?;
+            self.number(Field::DimId)?;
         }
         self.bytes.get(from..self.at)
     }

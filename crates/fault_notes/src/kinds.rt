@@ -1,11 +1,12 @@
 // What was wanted in a script that is refused.
-use crate::cursor::first_words;
+use crate::cursor::{begins, word_at};
 use crate::earlier::{first_naming, record_dim, undefined};
 use crate::lines::{Line, Part, lines_of};
 use crate::meetings::push_difference;
 use crate::replay::{Refused, first_refused};
-use crate::shown::shown;
-use crate::words::{push_missing, push_refused, shown_at};
+use crate::shown::Shown;
+use crate::table::beside;
+use crate::words::{named_at, push_missing, push_refused};
 use nc_base::{LimitName, ScriptErr, ScriptKind};
 use printed_text::script_line;
 use std::alloc::{AllocError, Global};
@@ -21,11 +22,22 @@ pub(crate) fn push_script_note(
     if lines.is_empty() && told.ends_with(b": no head\n") {
         return out.push_str("the script is empty");
     }
-    match first_refused(alloc, lines.as_slice())? {
-        Some(refused) if is_told(alloc, &refused, told)? => {
-            push_note(out, alloc, lines.as_slice(), &refused)
-        }
-        _ => Ok(()),
+    push_first_refused(out, alloc, lines.as_slice(), told)
+}
+
+fn push_first_refused(
+    out: &mut String,
+    alloc: Global,
+    lines: &[Line<'_>],
+    told: &[u8],
+) -> Result<(), AllocError> {
+    let Some(refused) = first_refused(alloc, lines)? else {
+        return Ok(());
+    };
+    if is_told(alloc, &refused, told)? {
+        push_note(out, alloc, lines, &refused)
+    } else {
+        Ok(())
     }
 }
 
@@ -59,11 +71,11 @@ fn push_note(
         | ScriptKind::ExtraWord => push_refused(out, alloc, refused),
         ScriptKind::MissingWord => push_missing(out, refused),
         ScriptKind::TwiceNamed => push_twice(out, alloc, lines, refused),
-        ScriptKind::UnknownName => push_undefined(out, alloc, lines, line),
+        ScriptKind::UnknownName => push_undefined(out, lines, line),
         ScriptKind::BadRank => push_ranks(out, alloc, refused),
-        ScriptKind::BadShape => push_shape(out, alloc, lines, line),
+        ScriptKind::BadShape => push_shape(out, lines, line),
         ScriptKind::Mismatch(call, first, second) => {
-            push_difference(out, alloc, lines, call, [first, second])
+            push_difference(out, lines, call, [first, second])
         }
         ScriptKind::NoHead => push_head(out, line),
         ScriptKind::NoEnd => push_end(out, line),
@@ -84,30 +96,25 @@ fn push_twice(
     };
     let number = refused.line.number;
     let place = refused.place;
-    let word = shown_at(alloc, refused.line, place)?;
+    let word = named_at(alloc, refused.line, place)?;
     write!(
         out,
         "line {number}, word {place}: {word} is there on line {first} already"
     )
 }
 
-fn push_undefined(
-    out: &mut String,
-    alloc: Global,
-    lines: &[Line<'_>],
-    line: Line<'_>,
-) -> Result<(), AllocError> {
+fn push_undefined(out: &mut String, lines: &[Line<'_>], line: Line<'_>) -> Result<(), AllocError> {
     let Some(name) = undefined(lines, line) else {
         return Ok(());
     };
     let number = line.number;
-    let name = shown(alloc, name)?;
+    let name = Shown(name);
     write!(out, "line {number}: no line before it defines {name}")
 }
 
 fn push_ranks(out: &mut String, alloc: Global, refused: &Refused<'_>) -> Result<(), AllocError> {
     let number = refused.line.number;
-    let word = shown_at(alloc, refused.line, 1)?;
+    let word = named_at(alloc, refused.line, 1)?;
     let last = refused.ranks.saturating_sub(1);
     write!(
         out,
@@ -115,89 +122,95 @@ fn push_ranks(out: &mut String, alloc: Global, refused: &Refused<'_>) -> Result<
     )
 }
 
-fn push_shape(
-    out: &mut String,
-    alloc: Global,
-    lines: &[Line<'_>],
-    line: Line<'_>,
-) -> Result<(), AllocError> {
+fn push_shape(out: &mut String, lines: &[Line<'_>], line: Line<'_>) -> Result<(), AllocError> {
     let number = line.number;
-    match other_record_dim(lines, line) {
-        Some(record) => {
-            let name = shown(alloc, first_words(record.text)[1])?;
-            let first = record.number;
-            write!(
-                out,
-                "line {number}: a dataset has one unlimited dimension, and {name} is it on line {first}"
-            )
-        }
-        None => write!(
+    let Some(record) = other_record_dim(lines, line) else {
+        return write!(
             out,
             "line {number}: the record dimension stands first in a variable, and once"
-        ),
-    }
+        );
+    };
+    let name = Shown(word_at(record.text, 1));
+    let first = record.number;
+    write!(
+        out,
+        "line {number}: a dataset has one unlimited dimension, and {name} is it on line {first}"
+    )
 }
 
 // The record dimension, where this line would define another.
 fn other_record_dim<'a>(lines: &[Line<'a>], line: Line<'_>) -> Option<Line<'a>> {
-    if first_words(line.text)[0] == b"dim".as_slice() {
+    if begins(line.text, b"dim") {
         record_dim(lines)
     } else {
         None
     }
 }
 
+// What some texts begin with that no script has.
+const BYTE_ORDER_MARK: &[u8] = b"\xEF\xBB\xBF";
+
 fn push_head(out: &mut String, line: Line<'_>) -> Result<(), AllocError> {
     let number = line.number;
-    let mark = if line.text.starts_with(b"\xEF\xBB\xBF") {
-        ", and not with a byte-order mark"
-    } else {
-        ""
-    };
     write!(
         out,
-        "line {number}: a script begins with `create 1`, `create 2`, `create 5` or `open`{mark}"
-    )
+        "line {number}: a script begins with `create 1`, `create 2`, `create 5` or `open`"
+    )?;
+    if line.text.starts_with(BYTE_ORDER_MARK) {
+        out.push_str(", and not with a byte-order mark")?;
+    }
+    Ok(())
 }
 
 fn push_end(out: &mut String, line: Line<'_>) -> Result<(), AllocError> {
     let number = line.number;
-    let wanted = if line.part == Part::Calls || first_words(line.text)[0] == b"data".as_slice() {
-        "`end` is wanted"
+    if line.part == Part::Calls || begins(line.text, b"data") {
+        write!(
+            out,
+            "line {number} is the last one; `end` is wanted behind it"
+        )
     } else {
-        "`data` and `end` are wanted"
-    };
-    write!(out, "line {number} is the last one; {wanted} behind it")
+        write!(
+            out,
+            "line {number} is the last one; `data` and `end` are wanted behind it"
+        )
+    }
 }
 
 fn push_after_end(out: &mut String, lines: &[Line<'_>], line: Line<'_>) -> Result<(), AllocError> {
     let number = line.number;
-    match lines.iter().rev().find(|other| other.part == Part::Calls) {
-        Some(end) => {
-            let end = end.number;
-            write!(out, "line {number}: `end` stands on line {end}")
-        }
+    match last_call(lines) {
+        Some(end) => write!(out, "line {number}: `end` stands on line {end}"),
         None => Ok(()),
     }
 }
 
-// What is at most so many; none where that can't be seen in a script's lines.
-fn limit_of(name: LimitName) -> Option<&'static str> {
-    match name {
-        LimitName::Dims => Some("a script defines at most 1024 dimensions"),
-        LimitName::Vars => Some("a script defines at most 8192 variables"),
-        LimitName::VarDims => Some("a variable has at most 32 dimensions"),
-        LimitName::Elements => Some("a call has at most 2^20 values"),
-        LimitName::Values => {
-            Some("the calls and attributes of a script have at most 2^24 values")
+// The number of the last line of the calls.
+fn last_call(lines: &[Line<'_>]) -> Option<u32> {
+    let mut last = None;
+    for line in lines {
+        if line.part == Part::Calls {
+            last = Some(line.number);
         }
-        LimitName::Parts => Some("a varn has from 1 to 1024 parts"),
-        LimitName::Script | LimitName::Lines => None,
     }
+    last
 }
 
+// What is at most so many; none of what can't be seen in a script's lines.
+const LIMITS: [(LimitName, &str); 6] = [
+    (LimitName::Dims, "a script defines at most 1024 dimensions"),
+    (LimitName::Vars, "a script defines at most 8192 variables"),
+    (LimitName::VarDims, "a variable has at most 32 dimensions"),
+    (LimitName::Elements, "a call has at most 2^20 values"),
+    (
+        LimitName::Values,
+        "the calls and attributes of a script have at most 2^24 values",
+    ),
+    (LimitName::Parts, "a varn has from 1 to 1024 parts"),
+];
+
 fn push_limit(out: &mut String, line: Line<'_>, name: LimitName) -> Result<(), AllocError> {
-    let Some(limit) = limit_of(name) else {
+    let Some(limit) = beside(name, &LIMITS) else {
         return Ok(());
     };
     let number = line.number;

@@ -30,6 +30,7 @@ mod slot;
 mod slots;
 mod surplus;
 mod table;
+mod told;
 mod values;
 mod words;
 

@@ -4,7 +4,7 @@ use memchr::memchr;
 use std::alloc::{AllocError, Global};
 
 /// A part of a script.
-#[derive(Clone, Copy, Debug, PartialEq, Eq)]
+#[derive(Clone, Copy, PartialEq, Eq)]
 pub(crate) enum Part {
     Head,
     Definitions,

@@ -1,46 +1,31 @@
 // The line of a script that a dataset does not take.
-use crate::cursor::first_words;
-use crate::definition::Definition;
+use crate::cursor::{begins, word_at};
+use crate::definition::{Definition, nth_defining};
 use crate::lines::{Line, lines_of};
-use crate::shown::shown;
+use crate::shown::Shown;
 use crate::table::beside;
-use script_words::numbers::size_of_text;
+use crate::told::numbered;
 use std::alloc::{AllocError, Global};
 
-/// The line and the name that a dataset refuses, by the text that tells the number of what is added.
+// What adds to a dataset.
+const ADDED: [Definition; 3] = [Definition::Dim, Definition::Var, Definition::Att];
+
+/// The line and the name that a dataset refuses, by the line of the text that tells the number of what is added.
 pub(crate) fn push_redefinition(
     out: &mut String,
     alloc: Global,
     script: &[u8],
     told: &[u8],
 ) -> Result<(), AllocError> {
-    let Some((place, cause)) = parsed(told) else {
+    let Some((number, cause)) = numbered(told, b"ncrun: redefinition ", b": ") else {
         return Ok(());
     };
+    let place = usize::try_from(number).unwrap_or(usize::MAX);
     let lines = lines_of(alloc, script)?;
-    match lines.iter().filter(|line| adds(line)).nth(place) {
-        Some(line) => push_cause(out, alloc, *line, cause),
+    match nth_defining(lines.as_slice(), &ADDED, place) {
+        Some(line) => push_cause(out, line, cause),
         None => Ok(()),
     }
-}
-
-// The number in a line such as `ncrun: redefinition 0: name taken`, and what follows it.
-fn parsed(told: &[u8]) -> Option<(usize, &[u8])> {
-    let rest = told.strip_prefix(b"ncrun: redefinition ")?;
-    let colon = rest.iter().position(|c| *c == b':')?;
-    let number = size_of_text(rest.get(..colon)?)?;
-    let cause = rest.get(colon..)?.strip_prefix(b": ")?;
-    Some((
-        usize::try_from(number).ok()?,
-        cause.strip_suffix(b"\n").unwrap_or(cause),
-    ))
-}
-
-fn adds(line: &Line<'_>) -> bool {
-    matches!(
-        Definition::of_line(line),
-        Some(Definition::Dim | Definition::Var | Definition::Att)
-    )
 }
 
 /// Why it is refused.
@@ -59,104 +44,90 @@ const CAUSES: [(&[u8], Cause); 4] = [
     (b"bad type", Cause::Type),
 ];
 
-fn push_cause(
-    out: &mut String,
-    alloc: Global,
-    line: Line<'_>,
-    cause: &[u8],
-) -> Result<(), AllocError> {
+fn push_cause(out: &mut String, line: Line<'_>, cause: &[u8]) -> Result<(), AllocError> {
     let number = line.number;
     write!(out, "line {number}: ")?;
-    let words = first_words(line.text);
     match beside(cause, &CAUSES) {
-        Some(Cause::Taken) => push_taken(out, alloc, words),
-        Some(Cause::Unknown) => push_unknown(out, alloc, words),
-        Some(Cause::Shape) => push_shape(out, alloc, words),
-        Some(Cause::Type) => push_type(out, alloc, words),
-        None => push_many(out, alloc, words),
+        Some(Cause::Taken) => push_taken(out, line.text),
+        Some(Cause::Unknown) => push_unknown(out, line.text),
+        Some(Cause::Shape) => push_shape(out, line.text),
+        Some(Cause::Type) => push_type(out, line.text),
+        None => push_many(out, line.text),
     }
 }
 
 // The name that a line adds.
-fn added<'a>(words: [&'a [u8]; 5]) -> &'a [u8] {
-    let [kind, first, second, ..] = words;
-    if is_dim(kind) { first } else { second }
+fn added(line: &[u8]) -> Shown<'_> {
+    let place = if is_dim(line) { 1 } else { 2 };
+    Shown(word_at(line, place))
 }
 
-fn is_dim(kind: &[u8]) -> bool {
-    kind == b"dim".as_slice()
+fn is_dim(line: &[u8]) -> bool {
+    begins(line, b"dim")
 }
 
-fn push_taken(out: &mut String, alloc: Global, words: [&[u8]; 5]) -> Result<(), AllocError> {
-    let name = shown(alloc, added(words))?;
-    let [kind, owner, ..] = words;
-    match Definition::of_word(kind) {
+fn push_taken(out: &mut String, line: &[u8]) -> Result<(), AllocError> {
+    let name = added(line);
+    match Definition::of_text(line) {
         Some(Definition::Dim) => write!(out, "the dataset has a dimension {name} already"),
         Some(Definition::Var) => write!(out, "the dataset has a variable {name} already"),
-        _ => {
-            let owner = owner_of(alloc, owner)?;
-            write!(out, "{owner} has an attribute {name} already")
-        }
+        _ => push_taken_attribute(out, word_at(line, 1), name),
     }
 }
 
-// The owner of an attribute.
-fn owner_of(alloc: Global, owner: &[u8]) -> Result<String, AllocError> {
+fn push_taken_attribute(out: &mut String, owner: &[u8], name: Shown<'_>) -> Result<(), AllocError> {
     if owner == b":".as_slice() {
-        String::from_str(alloc, "the dataset")
-    } else {
-        shown(alloc, owner)
+        return write!(out, "the dataset has an attribute {name} already");
     }
+    let owner = Shown(owner);
+    write!(out, "{owner} has an attribute {name} already")
 }
 
-fn push_unknown(out: &mut String, alloc: Global, words: [&[u8]; 5]) -> Result<(), AllocError> {
-    let [kind, owner, _, dims, ..] = words;
-    if Definition::of_word(kind) == Some(Definition::Att) {
-        let owner = shown(alloc, owner)?;
+fn push_unknown(out: &mut String, line: &[u8]) -> Result<(), AllocError> {
+    if begins(line, b"att") {
+        let owner = Shown(word_at(line, 1));
         return write!(out, "the dataset has no variable {owner}");
     }
-    let dims = shown(alloc, dims)?;
+    let dims = Shown(word_at(line, 3));
     write!(out, "the dataset lacks a dimension of {dims}")
 }
 
-fn push_shape(out: &mut String, alloc: Global, words: [&[u8]; 5]) -> Result<(), AllocError> {
-    let [kind, name, _, dims, ..] = words;
-    if is_dim(kind) {
-        let name = shown(alloc, name)?;
+fn push_shape(out: &mut String, line: &[u8]) -> Result<(), AllocError> {
+    if is_dim(line) {
+        let name = Shown(word_at(line, 1));
         return write!(
             out,
             "the dataset has a record dimension already, so {name} can be none"
         );
     }
-    let dims = shown(alloc, dims)?;
+    let dims = Shown(word_at(line, 3));
     write!(
         out,
         "the record dimension stands first in a variable, and once, and not as in {dims}"
     )
 }
 
-fn push_type(out: &mut String, alloc: Global, words: [&[u8]; 5]) -> Result<(), AllocError> {
-    let [kind, first, second, third, ..] = words;
-    match Definition::of_word(kind) {
+fn push_type(out: &mut String, line: &[u8]) -> Result<(), AllocError> {
+    match Definition::of_text(line) {
         Some(Definition::Dim) => {
-            let length = shown(alloc, second)?;
+            let length = Shown(word_at(line, 2));
             write!(
                 out,
                 "a dataset of version 1 or 2 has no dimension so long as {length}"
             )
         }
-        Some(Definition::Var) => push_no_type(out, alloc, first),
-        _ => push_no_type(out, alloc, third),
+        Some(Definition::Var) => push_no_type(out, word_at(line, 1)),
+        _ => push_no_type(out, word_at(line, 3)),
     }
 }
 
-fn push_no_type(out: &mut String, alloc: Global, kind: &[u8]) -> Result<(), AllocError> {
-    let kind = shown(alloc, kind)?;
+fn push_no_type(out: &mut String, kind: &[u8]) -> Result<(), AllocError> {
+    let kind = Shown(kind);
     write!(out, "a dataset of version 1 or 2 has no type {kind}")
 }
 
-fn push_many(out: &mut String, alloc: Global, words: [&[u8]; 5]) -> Result<(), AllocError> {
-    let name = shown(alloc, added(words))?;
+fn push_many(out: &mut String, line: &[u8]) -> Result<(), AllocError> {
+    let name = added(line);
     write!(
         out,
         "{name} is one too many; a dataset has at most 1024 dimensions and 8192 variables"

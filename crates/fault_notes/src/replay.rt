@@ -82,16 +82,12 @@ impl<'a> Replay<'a> {
         match self.read(&mut words) {
             Ok(()) => Ok(None),
             Err(ReadErr::Memory) => Err(AllocError),
-            Err(ReadErr::Fault(kind)) => {
-                let all = count(Words::new(self.alloc, line.text), line.text.len())?;
-                let left = count(words, line.text.len())?;
-                Ok(Some(Refused {
-                    line,
-                    kind,
-                    place: place_of(line, kind, all.saturating_sub(left)),
-                    ranks: self.ranks,
-                }))
-            }
+            Err(ReadErr::Fault(kind)) => Ok(Some(Refused {
+                line,
+                kind,
+                place: place_of(line, kind, taken(self.alloc, line.text, words)?),
+                ranks: self.ranks,
+            })),
         }
     }
 
@@ -118,11 +114,15 @@ impl<'a> Replay<'a> {
     }
 
     fn read_definition(&mut self, first: &'a [u8], words: &mut Words<'a>) -> Result<(), ReadErr> {
-        if first != b"data".as_slice() {
-            self.draft.read(self.version, first, words)?;
-            self.ranks = self.draft.ranks().unwrap_or(0);
-            return Ok(());
+        if first == b"data".as_slice() {
+            return self.begin_calls(words);
         }
+        self.draft.read(self.version, first, words)?;
+        self.ranks = self.draft.ranks().unwrap_or(0);
+        Ok(())
+    }
+
+    fn begin_calls(&mut self, words: &mut Words<'a>) -> Result<(), ReadErr> {
         let Some(ranks) = self.draft.ranks() else {
             return Err(ReadErr::Fault(ScriptKind::MissingWord));
         };
@@ -165,6 +165,12 @@ impl<'a> Replay<'a> {
             Err(_) => Err(AllocError),
         }
     }
+}
+
+// How many words of a line were taken, by those that are left.
+fn taken(alloc: Global, line: &[u8], left: Words<'_>) -> Result<usize, AllocError> {
+    let all = count(Words::new(alloc, line), line.len())?;
+    Ok(all.saturating_sub(count(left, line.len())?))
 }
 
 // How many words are left, of which there are no more than bytes.

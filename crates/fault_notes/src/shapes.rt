@@ -1,21 +1,46 @@
 // How many elements the variables of a run have that don't grow.
-use crate::cursor::first_words;
+use crate::cursor::word_at;
 use crate::definition::Definition;
-use crate::lines::{Line, Part};
+use crate::lines::Line;
 use nc_base::{Header, Var};
 use script_words::numbers::{between_brackets, size_of_text};
 use script_words::{ListParts, Names};
 use std::alloc::{AllocError, Global};
 
-/// The dimensions and variables that a dataset had and a script defines, by name.
+// How many elements there are of each name; none where they grow.
+#[derive(Drop)]
+struct Counts<'a> {
+    names: Names<'a>,
+    counts: Vec<Option<u64>>,
+}
+
+impl<'a> Counts<'a> {
+    fn new(alloc: Global) -> Self {
+        Counts {
+            names: Names::new(alloc),
+            counts: Vec::new(alloc),
+        }
+    }
+
+    fn of(&self, name: &'a [u8]) -> Option<u64> {
+        *self.counts.get(self.names.find(name)?)?
+    }
+
+    // Adds a name, where it is not there.
+    fn add(&mut self, name: &'a [u8], count: Option<u64>) -> Result<(), AllocError> {
+        if !self.names.contains(name) {
+            self.names.push(name)?;
+            self.counts.push(count)?;
+        }
+        Ok(())
+    }
+}
+
+/// The dimensions and variables that a dataset had and a script defines.
 #[derive(Drop)]
 pub(crate) struct Shapes<'a> {
-    dims: Names<'a>,
-    /// Their lengths, 0 for the record dimension.
-    lengths: Vec<u64>,
-    vars: Names<'a>,
-    /// How many elements they have; none of a record variable.
-    counts: Vec<Option<u64>>,
+    dims: Counts<'a>,
+    vars: Counts<'a>,
 }
 
 impl<'a> Shapes<'a> {
@@ -26,67 +51,63 @@ impl<'a> Shapes<'a> {
         lines: &[Line<'a>],
     ) -> Result<Self, AllocError> {
         let mut shapes = Shapes {
-            dims: Names::new(alloc),
-            lengths: Vec::new(alloc),
-            vars: Names::new(alloc),
-            counts: Vec::new(alloc),
+            dims: Counts::new(alloc),
+            vars: Counts::new(alloc),
         };
-        if let Some(header) = header {
-            shapes.add_header(header)?;
-        }
-        for line in lines.iter().filter(|line| line.part == Part::Definitions) {
-            shapes.add_line(*line)?;
-        }
+        shapes.add_all(header, lines)?;
         Ok(shapes)
     }
 
     /// How many elements a variable has, where that is always the same.
     pub(crate) fn count(&self, var: &'a [u8]) -> Option<u64> {
-        *self.counts.get(self.vars.find(var)?)?
+        self.vars.of(var)
     }
 
-    fn add_header(&mut self, header: &'a Header) -> Result<(), AllocError> {
-        self.add_dims(header)?;
-        self.add_vars(header)
+    fn add_all(
+        &mut self,
+        header: Option<&'a Header>,
+        lines: &[Line<'a>],
+    ) -> Result<(), AllocError> {
+        if let Some(header) = header {
+            self.add_dims(header)?;
+            self.add_vars(header)?;
+        }
+        self.add_lines(lines)
     }
 
     fn add_dims(&mut self, header: &'a Header) -> Result<(), AllocError> {
         for dim in header.dims.as_slice() {
-            self.add_dim(dim.name.as_slice(), dim.len)?;
+            self.dims.add(dim.name.as_slice(), fixed(dim.len))?;
         }
         Ok(())
     }
 
     fn add_vars(&mut self, header: &'a Header) -> Result<(), AllocError> {
         for var in header.vars.as_slice() {
-            self.add_var(var.name.as_slice(), count_of(header, var))?;
+            self.vars.add(var.name.as_slice(), count_of(header, var))?;
+        }
+        Ok(())
+    }
+
+    fn add_lines(&mut self, lines: &[Line<'a>]) -> Result<(), AllocError> {
+        for line in lines {
+            self.add_line(*line)?;
         }
         Ok(())
     }
 
     fn add_line(&mut self, line: Line<'a>) -> Result<(), AllocError> {
-        let [kind, first, second, dims, ..] = first_words(line.text);
-        match Definition::of_word(kind) {
-            Some(Definition::Dim) => self.add_dim(first, size_of_text(second).unwrap_or(0)),
-            Some(Definition::Var) => self.add_var(second, self.count_over(dims)),
+        match Definition::of_line(line) {
+            Some(Definition::Dim) => {
+                let length = size_of_text(word_at(line.text, 2)).unwrap_or(0);
+                self.dims.add(word_at(line.text, 1), fixed(length))
+            }
+            Some(Definition::Var) => {
+                let count = self.count_over(word_at(line.text, 3));
+                self.vars.add(word_at(line.text, 2), count)
+            }
             _ => Ok(()),
         }
-    }
-
-    fn add_dim(&mut self, name: &'a [u8], length: u64) -> Result<(), AllocError> {
-        if !self.dims.contains(name) {
-            self.dims.push(name)?;
-            self.lengths.push(length)?;
-        }
-        Ok(())
-    }
-
-    fn add_var(&mut self, name: &'a [u8], count: Option<u64>) -> Result<(), AllocError> {
-        if !self.vars.contains(name) {
-            self.vars.push(name)?;
-            self.counts.push(count)?;
-        }
-        Ok(())
     }
 
     // How many elements a variable over these dimensions has.
@@ -97,24 +118,22 @@ impl<'a> Shapes<'a> {
             let Some(name) = names.take() else {
                 break;
             };
-            count = times_length(count, *self.lengths.get(self.dims.find(name)?)?)?;
+            count = count.checked_mul(self.dims.of(name)?)?;
         }
         Some(count)
     }
 }
 
+// A length, where it is not the 0 of the record dimension.
+fn fixed(length: u64) -> Option<u64> {
+    if length == 0 { None } else { Some(length) }
+}
+
 fn count_of(header: &Header, var: &Var) -> Option<u64> {
     let mut count = 1u64;
     for dim in var.dims.as_slice() {
-        count = times_length(count, header.dims.as_slice().get(*dim as usize)?.len)?;
+        let length = header.dims.as_slice().get(*dim as usize)?.len;
+        count = count.checked_mul(fixed(length)?)?;
     }
     Some(count)
-}
-
-// So many elements along one more dimension, where it is not the record dimension.
-fn times_length(count: u64, length: u64) -> Option<u64> {
-    if length == 0 {
-        return None;
-    }
-    count.checked_mul(length)
 }

@@ -1,6 +1,6 @@
 // A dataset that was shorter than its header says.
 use crate::ended::Run;
-use crate::shown::shown;
+use crate::shown::Shown;
 use cdf_header::decode;
 use nc_base::{Header, MAX_HEADER_BYTES};
 use std::alloc::{AllocError, Global};
@@ -20,7 +20,6 @@ pub(crate) fn header_of(alloc: Global, front: &[u8]) -> Option<Header> {
 /// What is said of a dataset that had fewer bytes than its header asks for.
 pub(crate) fn push_shortfall(
     out: &mut String,
-    alloc: Global,
     dataset: &str,
     run: &Run<'_>,
     header: &Header,
@@ -30,7 +29,7 @@ pub(crate) fn push_shortfall(
     if there >= wanted {
         return Ok(());
     }
-    let dataset = shown(alloc, dataset.as_bytes())?;
+    let dataset = Shown(dataset.as_bytes());
     write!(
         out,
         "{dataset} had {there} bytes, and its header says {wanted}; "

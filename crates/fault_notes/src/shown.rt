@@ -1,26 +1,29 @@
 // Words as they are shown: between backquotes, on one line, and no longer than a reader can see at once.
-use std::alloc::{AllocError, Global};
+use std::fmt;
 
-// Longer words are cut behind so many bytes.
-const MOST_SHOWN: usize = 40;
+/// Longer words are cut behind so many bytes.
+pub(crate) const MOST_SHOWN: usize = 40;
 
-/// A word in backquotes. A byte that is not printable ASCII stands as `\xHH`.
-pub(crate) fn shown(alloc: Global, word: &[u8]) -> Result<String, AllocError> {
-    let mut out = String::new(alloc);
-    out.push('`')?;
-    for byte in word.iter().take(MOST_SHOWN) {
-        push_byte(&mut out, *byte)?;
+/// A word that is printed in backquotes. A byte that is not printable ASCII stands as `\xHH`.
+#[derive(Clone, Copy)]
+pub(crate) struct Shown<'a>(pub &'a [u8]);
+
+impl fmt::Display for Shown<'_> {
+    fn fmt<W: fmt::Write>(&self, f: &mut fmt::Formatter<W>) -> fmt::Result {
+        f.write_str("`")?;
+        for byte in self.0.iter().take(MOST_SHOWN) {
+            write_byte(f, *byte)?;
+        }
+        if self.0.len() > MOST_SHOWN {
+            f.write_str("..")?;
+        }
+        f.write_str("`")
     }
-    if word.len() > MOST_SHOWN {
-        out.push_str("..")?;
-    }
-    out.push('`')?;
-    Ok(out)
 }
 
-fn push_byte(out: &mut String, byte: u8) -> Result<(), AllocError> {
+fn write_byte<W: fmt::Write>(f: &mut fmt::Formatter<W>, byte: u8) -> fmt::Result {
     match byte {
-        b' '..=b'~' => out.push(char::from(byte)),
-        _ => write!(out, "\\x{byte:02X}"),
+        b' '..=b'~' => f.write_char(char::from(byte)),
+        _ => write!(f, "\\x{byte:02X}"),
     }
 }

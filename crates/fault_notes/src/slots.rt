@@ -1,106 +1,77 @@
 // What the words of a line are for.
 use crate::access::Access;
-use crate::cursor::Cursor;
-use crate::definition::Definition;
+use crate::cursor::{begins, word_at};
 use crate::lines::{Line, Part};
-use crate::slot::{
-    CALL, CHOICE, DEFINITION, DIMS, HINT, LENGTH, NAME, NOTHING, OWNER, RANK, RANKS, SIZE, Slot,
-    TYPE, VERSION,
-};
+use crate::slot::Slot;
 use crate::table::beside;
 use hint_table::HintName;
 
 /// What a word of a line is for, at this place from 0.
 pub(crate) fn slot_of(line: Line<'_>, place: usize) -> Slot {
     match line.part {
-        Part::Head if place == 1 => VERSION,
+        Part::Head if place == 1 => Slot::Version,
         Part::Definitions => definition_slot(line.text, place),
         Part::Calls => call_slot(line.text, place),
-        Part::Head | Part::Behind => NOTHING,
+        Part::Head | Part::Behind => Slot::Nothing,
     }
 }
+
+// The words behind the first one of a definition, in order; the values of an attribute follow them.
+const DEFINED: [(&[u8], &[Slot]); 5] = [
+    (b"ranks", &[Slot::Ranks]),
+    (b"hint", &[Slot::Hint, Slot::HintValue]),
+    (b"dim", &[Slot::Name, Slot::Length]),
+    (b"var", &[Slot::Type, Slot::Name, Slot::Dims]),
+    (b"att", &[Slot::Owner, Slot::Name, Slot::Type]),
+];
 
 fn definition_slot(line: &[u8], place: usize) -> Slot {
-    let mut words = Cursor::new(line);
-    let first = words.take().unwrap_or(&[]);
-    if place == 0 {
-        return DEFINITION;
-    }
-    match Definition::of_word(first) {
-        Some(definition) => defined_slot(definition, words, place),
-        None => NOTHING,
-    }
-}
-
-// The same behind the first word.
-fn defined_slot(definition: Definition, words: Cursor<'_>, place: usize) -> Slot {
-    match (definition, place) {
-        (Definition::Ranks, 1) => RANKS,
-        (Definition::Hint, 1) => HINT,
-        (Definition::Hint, 2) => hint_slot(words),
-        (Definition::Dim, 1) | (Definition::Var, 2) | (Definition::Att, 2) => NAME,
-        (Definition::Dim, 2) => LENGTH,
-        (Definition::Var, 1) | (Definition::Att, 3) => TYPE,
-        (Definition::Var, 3) => DIMS,
-        (Definition::Att, 1) => OWNER,
-        (Definition::Att, _) => typed_slot(words),
-        _ => NOTHING,
+    let Some(behind) = place.checked_sub(1) else {
+        return Slot::Definition;
+    };
+    let defined = beside(word_at(line, 0), &DEFINED).unwrap_or(&[]);
+    match defined.get(behind) {
+        Some(Slot::HintValue) => hint_slot(word_at(line, 1)),
+        Some(slot) => *slot,
+        None if begins(line, b"att") => Slot::of_type(word_at(line, 3)),
+        None => Slot::Nothing,
     }
 }
 
-// The value of a hint, whose name is next.
-fn hint_slot(words: Cursor<'_>) -> Slot {
-    let mut words = words;
-    match HintName::of_word(words.take().unwrap_or(&[])) {
-        Some(hint) => Slot::hint_value(hint.form()),
-        None => NOTHING,
+// The value of a hint, where there is one of this word.
+fn hint_slot(hint: &[u8]) -> Slot {
+    match HintName::of_word(hint) {
+        Some(_) => Slot::HintValue,
+        None => Slot::Nothing,
     }
 }
 
-// A value of an attribute, whose owner, name and type are next.
-fn typed_slot(words: Cursor<'_>) -> Slot {
-    let mut words = words;
-    Slot::of_type(words.take_behind(2).unwrap_or(&[]))
-}
+// The calls that take requests.
+const REQUESTS: [&[u8]; 3] = [b"wait", b"wait_all", b"cancel"];
 
-/// A call of no region of a variable.
-#[derive(Clone, Copy)]
-enum Call {
-    Requests,
-    Attach,
-    FillRecord,
-    DimLength,
-}
-
-const CALLS: [(&[u8], Call); 6] = [
-    (b"wait", Call::Requests),
-    (b"wait_all", Call::Requests),
-    (b"cancel", Call::Requests),
-    (b"buffer_attach", Call::Attach),
-    (b"fill_var_rec", Call::FillRecord),
-    (b"inq_dimlen", Call::DimLength),
+// The other calls of no region of a variable, and the words behind each, in order.
+const OPERANDS: [(&[u8], &[Slot]); 3] = [
+    (b"buffer_attach", &[Slot::Size]),
+    (b"fill_var_rec", &[Slot::Name, Slot::Size]),
+    (b"inq_dimlen", &[Slot::Name]),
 ];
 
 fn call_slot(line: &[u8], place: usize) -> Slot {
-    let mut words = Cursor::new(line);
-    let call = words.take_behind(1).unwrap_or(&[]);
     match place {
-        0 => RANK,
-        1 => CALL,
-        _ => operand_slot(call, words, place),
+        0 => Slot::Rank,
+        1 => Slot::Call,
+        _ => operand_slot(line, word_at(line, 1), place - 2),
     }
 }
 
-// The same behind the word of the call.
-fn operand_slot(call: &[u8], words: Cursor<'_>, place: usize) -> Slot {
-    match (beside(call, &CALLS), place) {
-        (Some(Call::Requests), _) => CHOICE,
-        (Some(Call::Attach), 2) | (Some(Call::FillRecord), 3) => SIZE,
-        (Some(Call::FillRecord | Call::DimLength), 2) => NAME,
-        (Some(_), _) => NOTHING,
-        (None, _) => match Access::of_word(call) {
-            Some(access) => access.slot(words, place.saturating_sub(2)),
-            None => NOTHING,
-        },
+// The same behind the word of the call, at this place from 0.
+fn operand_slot(line: &[u8], call: &[u8], place: usize) -> Slot {
+    if REQUESTS.contains(&call) {
+        return Slot::Choice;
+    }
+    match (beside(call, &OPERANDS), Access::of_word(call)) {
+        (Some(operands), _) => operands.get(place).copied().unwrap_or(Slot::Nothing),
+        (None, Some(access)) => access.slot(line, place),
+        (None, None) => Slot::Nothing,
     }
 }

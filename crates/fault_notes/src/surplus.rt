@@ -8,14 +8,6 @@ use nc_base::{Form, Header};
 use script_words::numbers::size_of_text;
 use std::alloc::{AllocError, Global};
 
-/// A call that is given more values than it asks for.
-#[derive(Clone, Copy)]
-struct Surplus {
-    number: u32,
-    asked: u64,
-    given: u64,
-}
-
 /// What is said of calls that are given more values than they ask for, where there are some.
 pub(crate) fn push_surplus<'a>(
     out: &mut String,
@@ -25,16 +17,29 @@ pub(crate) fn push_surplus<'a>(
 ) -> Result<(), AllocError> {
     let lines = lines_of(alloc, script)?;
     let shapes = Shapes::new(alloc, header, lines.as_slice())?;
-    let mut found = lines.iter().filter_map(|line| surplus_of(&shapes, *line));
-    let Some(first) = found.next() else {
-        return Ok(());
-    };
-    let more = found.count();
+    match first_surplus(&shapes, lines.as_slice()) {
+        Some(surplus) => push_found(out, surplus),
+        None => Ok(()),
+    }
+}
+
+/// A call that is given more values than it asks for.
+#[derive(Clone, Copy)]
+struct Surplus {
+    number: u32,
+    asked: u64,
+    given: u64,
+    /// How many such calls follow.
+    more: u64,
+}
+
+fn push_found(out: &mut String, surplus: Surplus) -> Result<(), AllocError> {
     let Surplus {
         number,
         asked,
         given,
-    } = first;
+        more,
+    } = surplus;
     write!(
         out,
         "line {number}: {given} values are given and {asked} asked for; what is beyond is left out"
@@ -45,13 +50,33 @@ pub(crate) fn push_surplus<'a>(
     Ok(())
 }
 
+// The first such call, and how many follow.
+fn first_surplus<'a>(shapes: &Shapes<'a>, lines: &[Line<'a>]) -> Option<Surplus> {
+    let mut first: Option<Surplus> = None;
+    for line in lines {
+        first = match (first, surplus_of(shapes, *line)) {
+            (Some(first), Some(_)) => Some(first.and_more()),
+            (None, found) => found,
+            (first, None) => first,
+        };
+    }
+    first
+}
+
+impl Surplus {
+    fn and_more(self) -> Surplus {
+        Surplus {
+            more: self.more.saturating_add(1),
+            ..self
+        }
+    }
+}
+
 fn surplus_of<'a>(shapes: &Shapes<'a>, line: Line<'a>) -> Option<Surplus> {
     if line.part != Part::Calls {
         return None;
     }
-    let (form, mut words) = put_of(line.text)?;
-    let asked = asked(shapes, form, &mut words)?;
-    let given = given(words, asked)?;
+    let (asked, given) = counts(shapes, line.text)?;
     if given <= asked {
         return None;
     }
@@ -59,25 +84,31 @@ fn surplus_of<'a>(shapes: &Shapes<'a>, line: Line<'a>) -> Option<Surplus> {
         number: line.number,
         asked,
         given,
+        more: 0,
     })
 }
 
-// The form of a put, and the words behind its call and its id.
-fn put_of(line: &[u8]) -> Option<(Form, Cursor<'_>)> {
+// How many values a put asks for and is given.
+fn counts<'a>(shapes: &Shapes<'a>, line: &'a [u8]) -> Option<(u64, u64)> {
     let mut words = Cursor::new(line);
-    let access = Access::of_word(words.take_behind(1)?)?;
-    if !access.has_values {
-        return None;
-    }
-    if access.is_post {
-        words.take()?;
-    }
-    Some((access.form, words))
+    let access = put_of(words.take_behind(1)?)?;
+    let var = words.take_behind(access.ids())?;
+    let asked = asked(shapes, access.form, var, &mut words)?;
+    Some((asked, given(words, asked)?))
 }
 
-// How many values are asked for of the variable that is next.
-fn asked<'a>(shapes: &Shapes<'a>, form: Form, words: &mut Cursor<'a>) -> Option<u64> {
-    let var = words.take()?;
+// A put, by the word of its call.
+fn put_of(call: &[u8]) -> Option<Access> {
+    Access::of_word(call).filter(|access| access.has_values)
+}
+
+// How many values are asked for of this variable, by the words that follow.
+fn asked<'a>(
+    shapes: &Shapes<'a>,
+    form: Form,
+    var: &'a [u8],
+    words: &mut Cursor<'a>,
+) -> Option<u64> {
     match form {
         Form::Var => shapes.count(var),
         Form::Var1 => words.take().map(|_| 1),
@@ -106,8 +137,7 @@ fn parts(words: &mut Cursor<'_>) -> Option<u64> {
     let count = size_of_text(words.take()?)?;
     let mut sum = 0u64;
     for _ in 0..count {
-        words.take()?;
-        sum = sum.checked_add(product(words.take()?)?)?;
+        sum = sum.checked_add(product(words.take_behind(1)?)?)?;
     }
     Some(sum)
 }

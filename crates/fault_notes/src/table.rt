@@ -1,9 +1,9 @@
-// Words, and what each stands for.
+// Tables: what each of their keys stands for.
 
-/// What stands beside a word in a table.
-pub(crate) fn beside<T: Copy>(word: &[u8], table: &[(&[u8], T)]) -> Option<T> {
+/// What stands beside a key in a table.
+pub(crate) fn beside<K: Copy + PartialEq, T: Copy>(key: K, table: &[(K, T)]) -> Option<T> {
     for (known, meaning) in table {
-        if *known == word {
+        if *known == key {
             return Some(*meaning);
         }
     }

@@ -23,20 +23,26 @@ pub(crate) fn span(count: &[u8], map: &[u8]) -> Option<u64> {
     if product(count)? == 0 {
         return Some(0);
     }
-    let mut counts = ListParts::new(between_brackets(count)?);
-    let mut steps = ListParts::new(between_brackets(map)?);
-    let mut span = 1u64;
-    for _ in 0..count.len() {
+    let counts = ListParts::new(between_brackets(count)?);
+    let steps = ListParts::new(between_brackets(map)?);
+    reach(counts, steps, count.len())?.checked_add(1)
+}
+
+// How far the last of the values stands from the first, where there are at most so many dimensions.
+fn reach(counts: ListParts<'_>, steps: ListParts<'_>, most: usize) -> Option<u64> {
+    let (mut counts, mut steps) = (counts, steps);
+    let mut reach = 0u64;
+    for _ in 0..most {
         let (Some(count), Some(step)) = (counts.take(), steps.take()) else {
             break;
         };
-        span = span.checked_add(reach(count, step)?)?;
+        reach = reach.checked_add(reach_along(count, step)?)?;
     }
-    Some(span)
+    Some(reach)
 }
 
-// How far the last of so many indices stands from the first.
-fn reach(count: &[u8], step: &[u8]) -> Option<u64> {
+// The same along one dimension.
+fn reach_along(count: &[u8], step: &[u8]) -> Option<u64> {
     let last = size_of_text(count)?.checked_sub(1)?;
     last.checked_mul(size_of_text(step)?)
 }
