@@ -56,12 +56,7 @@ pub(crate) fn first_refused<'a>(
     lines: &[Line<'a>],
 ) -> Result<Option<Refused<'a>>, AllocError> {
     let mut replay = Replay::new(alloc)?;
-    for line in lines {
-        if let Some(refused) = replay.refuses(*line)? {
-            return Ok(Some(refused));
-        }
-    }
-    replay.at_end(lines)
+    replay.first(lines)
 }
 
 impl<'a> Replay<'a> {
@@ -74,6 +69,16 @@ impl<'a> Replay<'a> {
             draft: Draft::new(alloc)?,
             table: RankTable::new(alloc, 0, 0)?,
         })
+    }
+
+    // Reads the lines up to the first one that is refused.
+    fn first(&mut self, lines: &[Line<'a>]) -> Result<Option<Refused<'a>>, AllocError> {
+        for line in lines {
+            if let Some(refused) = self.refuses(*line)? {
+                return Ok(Some(refused));
+            }
+        }
+        self.at_end(lines)
     }
 
     // Reads a line; the answer is why it is refused, where it is.
