@@ -26,10 +26,13 @@ some_bytes (c ∷ cover) e h (inr m) = some_bytes cover e h.2 m
 
 pub cover_low : (cover : List Extent) (list : List Owned) → IsCover cover → HaveSame (spans cover) (ranges list) → EndBelow (2 ^ 62) (extents list) → EndBelow (2 ^ 62) cover
 cover_low cover list h same low e m =
+    let some = some_bytes cover e h m in
     let last = e.at + e.len - 1 in
     let there = in_flat (λ (z : Extent). range_with_len z.at z.len) cover e last m (in_range e.at e.len last (omega arith) (omega arith)) in
     let r = flat_in bytes list last (same.0 last there) in
-    omega (arith, some_bytes cover e h m, range_high r.0.extent.at r.0.extent.len last r.2, low r.0.extent (in_map (λ (o : Owned). o.extent) list r.0 r.1))
+    let high = range_high r.0.extent.at r.0.extent.len last r.2 in
+    let end = low r.0.extent (in_map (λ (o : Owned). o.extent) list r.0 r.1) in
+    omega arith
 
 pub cover_bytes : (cover : List Extent) (list : List Owned) (asked : List NcvExtent) → IsCover cover → HaveSame (spans cover) (ranges list) → IsPermutation (map entry asked) list
     → spans cover ≡ bytes_asked asked
