@@ -1,5 +1,5 @@
 -- The answer to the call of a meeting, or of a rank's own step, stands at the number of that call.
-use Rattle.whole_run_laws.proofs.Words.{◌≡◌, ℕ, zero, suc, ◌+◌, ◌<◌, refl, sym, ◌∙◌, ap, subst, List, [], ◌∷◌, ◌++◌, length, map, set, drop, Bool, true, false, Option, Some, None, arith, append_assoc, length-append, same_Some, slice_get_within, fold, slice_get, list_all, entry_below, entry_set, get_left, get_right, and_first, and_second, Answer, Pair, Header, Call, Script, Mark, Meet, Solo, MeetKind, Offer, OfferKind, Want, Counted, Setting, solo, is_collective, is_of_rank_below, IsLegal, kind_of_meeting, is_lawful, Rank, step, advance, after_mark, after_meeting, after_solo, first_going, first_state, go, Going, hears, serial_from, setting_of, state_after, kinds_of, Says, step_says, ranks_lawful, state_more, hear_length, IsToldAt, meeting_call, told_at, set_cases, nat_tests}
+use Rattle.whole_run_laws.proofs.Words.{◌≡◌, ℕ, zero, suc, ◌+◌, ◌<◌, sym, ◌∙◌, ap, subst, List, [], ◌∷◌, ◌++◌, length, map, set, drop, Bool, true, false, Option, Some, None, arith, append_assoc, length-append, same_Some, slice_get_within, fold, slice_get, list_all, entry_below, entry_set, get_left, get_right, and_first, and_second, Answer, Pair, Header, Call, Script, Mark, Meet, Solo, MeetKind, Offer, OfferKind, Want, Counted, Setting, solo, is_collective, is_of_rank_below, IsLegal, kind_of_meeting, is_lawful, Rank, step, advance, after_mark, after_meeting, after_solo, first_going, first_state, go, Going, hears, serial_from, setting_of, state_after, kinds_of, Says, step_says, ranks_lawful, state_more, hear_length, IsToldAt, meeting_call, told_at, set_cases, nat_tests}
 use borrow.Author.Tests.{ltb-true}
 use Rattle.nc_base.specs.declared.step.OfferKind.TheVariants as offer
 use Rattle.nc_base.specs.declared.step.Want.TheVariants as want
@@ -41,19 +41,11 @@ go_places header (c ∷ calls) r answers = by (step header r c) (step_says heade
   where
     at_meeting_call : (o : Offer) (g : Going) (kind : MeetKind) → o.kind ≡ offer.Meet kind → is_collective c ≡ true → g.answers ≡ answers → g.calls ≡ calls
         → PlacesBy (length answers) (c ∷ calls) g (kind_of_meeting o.kind)
-    at_meeting_call o g kind e f a b =
-        let n = ap (λ (xs : List Answer). length xs) a in
-        subst (λ (k : OfferKind). PlacesBy (length answers) (c ∷ calls) g (kind_of_meeting k)) (sym e) (
-          (let x = call_first c calls f in omega arith),
-          λ j. let x = call_later c calls j f in let y = ap (λ (cs : List Call). meeting_call j cs) b in omega arith,
-        )
+    at_meeting_call o g kind e f a b = grind (arith, nat_tests, call_first, call_later)
 
     at_own_call : (o : Offer) (g : Going) → o.kind ≡ offer.Solo → is_collective c ≡ false → g.answers ≡ answers → g.calls ≡ calls
         → PlacesBy (length answers) (c ∷ calls) g (kind_of_meeting o.kind)
-    at_own_call o g e f a b =
-        let n = ap (λ (xs : List Answer). length xs) a in
-        subst (λ (k : OfferKind). PlacesBy (length answers) (c ∷ calls) g (kind_of_meeting k)) (sym e)
-        (λ j. let x = call_alone c calls j f in let y = ap (λ (cs : List Call). meeting_call j cs) b in omega arith)
+    at_own_call o g e f a b = grind (arith, nat_tests, call_alone)
 
     by : (p : Rank × Want) → Says r c p → ((r' : Rank) (a' : List Answer) → Places (length a') calls (go header r' a' calls))
         → Places (length answers) (c ∷ calls)
@@ -62,10 +54,7 @@ go_places header (c ∷ calls) r answers = by (step header r c) (step_says heade
           | want.Meet o ↦ (record { rank = p.0; answers = answers; calls = calls }, Some o)
           | want.Solo o ↦ (record { rank = p.0; answers = answers; calls = calls }, Some o)
         ])
-    by (r', want.Answered a) says again =
-        places_on (length answers) (length (answers ++ a ∷ [])) c calls (go header r' (answers ++ a ∷ []) calls) (longer answers a) says.alone (again r' (answers ++ a ∷ []))
-    by (r', want.Meet o) says again = at_meeting_call o (record { rank = r'; answers = answers; calls = calls }) says.of_kind says.meets says.together refl refl
-    by (r', want.Solo o) says again = at_own_call o (record { rank = r'; answers = answers; calls = calls }) says.is_solo says.alone refl refl
+    by p says again = grind (arith, nat_tests, places_on, longer, at_meeting_call, at_own_call)
 
 -- where the rank stands at its offer
 places_at : (n : ℕ) (calls : List Call) (p : Going × Option Offer) (o : Offer) (k : OfferKind) → Places n calls p → p.1 ≡ Some o → o.kind ≡ k → PlacesBy n calls p.0 (kind_of_meeting k)

@@ -1,5 +1,5 @@
 -- The record count of a run: the greater of the old one and the greatest that a completed put needed.
-use Rattle.whole_run_laws.proofs.Words.{◌≡◌, ℕ, zero, suc, ◌≤◌, refl, sym, ◌∙◌, ap, subst, inl, inr, ◌⊎◌, List, [], ◌∷◌, ◌++◌, map, set, max, true, false, Option, Some, None, arith, map-append, slice_get_within, same_Some, eqb_tells, fold, slice_get, ◌==◌, list_all, entry_below, entry_set, entry_set_other, and_first, and_second, Pair, Header, Call, Script, Mark, Meet, Solo, MeetKind, Offer, Counted, meeting, needs, Setting, solo, told, is_of_rank_below, IsLegal, is_lawful, greatest, needed_by, advance, after_mark, after_meeting, closed, first_going, first_state, Going, hears, offers_of, rank_offer, serial_from, setting_of, Puts, go_went, hear_known, Went, meeting_within, completed, completed_from, completed_puts, puts_asked, puts_at, puts_met, unless_told, set_cases, same_le, greatest_joined, raised_records, nat_tests}
+use Rattle.whole_run_laws.proofs.Words.{◌≡◌, ℕ, zero, suc, ◌≤◌, refl, sym, ◌∙◌, ap, subst, inl, inr, ◌⊎◌, List, [], ◌∷◌, ◌++◌, map, set, max, true, false, Option, Some, arith, map-append, slice_get_within, same_Some, eqb_tells, fold, slice_get, ◌==◌, list_all, entry_below, entry_set, entry_set_other, and_first, and_second, Pair, Header, Call, Script, Mark, Meet, Solo, MeetKind, Offer, Counted, meeting, needs, Setting, solo, told, is_of_rank_below, IsLegal, is_lawful, greatest, needed_by, advance, after_mark, after_meeting, closed, first_going, first_state, Going, hears, offers_of, rank_offer, serial_from, setting_of, Puts, go_went, hear_known, Went, meeting_within, completed, completed_from, completed_puts, puts_asked, puts_at, puts_met, unless_told, set_cases, same_le, greatest_joined, raised_records, nat_tests}
 use borrow.Author.Tests.{ltb-true}
 use Rattle.join_laws.proofs.WholeLaws.{get_map as mapped_from}
 use Rattle.whole_run_laws.proofs.Courses.{AreAlong, AreOn, first_along, Heard, heard_by, hears_then, mark_along, meets, offer_met, offers_met_long, Stepped, steps}
@@ -19,8 +19,7 @@ known_below [] m f = omega arith
 known_below (x ∷ goings) m f = let a = f 0 x refl in let b = known_below goings m (λ q g e. f (suc q) g e) in omega arith
 
 completed_needs : (s : Setting) (puts : Puts) (pair : Option Pair) → needed_by s.header (unless_told puts pair) ≡ needs s puts pair
-completed_needs s puts None = refl
-completed_needs s puts (Some p) = refl
+completed_needs s puts pair = grind (arith, nat_tests)
 
 needed_both : (header : Header) (a b : Puts) → needed_by header (a ++ b) ≡ max (needed_by header a) (needed_by header b)
 needed_both header a b = grind (arith, nat_tests, map-append, greatest_joined)
@@ -120,9 +119,7 @@ module _ (s : Setting) (ranks k r n : ℕ) (ks : List MeetKind) (rest : List Mar
       within g b a e h = omega arith
 
       by : (q : ℕ) (g : Going) → ((q ≡ r) × (g ≡ next)) ⊎ (((r == q) ≡ false) × (slice_get goings q ≡ Some g)) → g.rank.known ≤ max n asked_alone
-      by q g (inl (a, b)) =
-          within g.rank.known st.before.rank.known asked_alone (ap (λ (z : Going). z.rank.known) b ∙ next_known) (counts.known r st.before st.was)
-      by q g (inr (a, b)) = more g.rank.known asked_alone (counts.known q g b)
+      by q g xs = grind (arith, nat_tests, within, next_known, more)
 
       b_or : (q : ℕ) → ((r == q) ≡ true) × (r ≡ q) ⊎ ((r == q) ≡ false) × (r ≡ q → ⊥)
       b_or q = eqb_tells r q
@@ -160,8 +157,7 @@ mark_counts s ranks n (Solo r i) rest c goings known a counts =
     (solo_counts s ranks a.met r n a.kinds_left rest c goings counts st))
 
 went_known : (q k n : ℕ) (ks : List MeetKind) (ms : List Mark) (p : Going × Option Offer) → Went q k n ks ms p → p.0.rank.known ≡ n
-went_known q k n ks ms (g, None) w = w.known
-went_known q k n ks ms (g, Some o) w = w.known
+went_known q k n ks ms p w = grind (arith, nat_tests)
 
 ends_known : (header : Header) (goings : List Going) → known_of (map (λ g. (advance header g).0) goings) ≡ known_of goings
 ends_known header [] = refl

@@ -57,14 +57,6 @@ to_meeting q k n j ks ks' ms rest (g, Some o) w f e = by w.kinded
     }
     by (at_solo a b d) = not_solo j q (length g.answers) _ (filter (concerns q) rest) (sym d ∙ e)
 
--- the next meeting has the number of those before it
-to_number : (q k n j : ℕ) (ks : List MeetKind) (ms rest : List Mark) (p : Going × Option Offer) → Went q k n ks ms p → ms ≡ Meet j ∷ filter (concerns q) rest → k ≡ j
-to_number q k n j ks ms rest p w e = grind (arith, nat_tests, nil_cons, not_solo)
-
--- its own step is that of its next call
-to_call : (q k n c : ℕ) (ks : List MeetKind) (ms rest : List Mark) (p : Going × Option Offer) → Went q k n ks ms p → ms ≡ Solo q c ∷ filter (concerns q) rest → length p.0.answers ≡ c
-to_call q k n c ks ms rest p w e = grind (arith, nat_tests, nil_cons, not_solo)
-
 to_solo : (q k n c : ℕ) (ks ks' : List MeetKind) (ms rest : List Mark) (p : Going × Option Offer) → Went q k n ks ms p → ks ≡ ks'
     → ms ≡ Solo q c ∷ filter (concerns q) rest → AtSolo q k n ks' rest p
 to_solo q k n c ks ks' ms rest (g, None) w f e = nil_cons (Solo q c) (filter (concerns q) rest) (sym w.marks_none ∙ e)
@@ -117,11 +109,11 @@ goes_alone header ranks k r c ks rest goings g on e =
 
 pub meets_number : (header : Header) (ranks k j q : ℕ) (ks : List MeetKind) (rest : List Mark) (goings : List Going) (g : Going) → AreOn ranks k ks (Meet j ∷ rest) goings
     → slice_get goings q ≡ Some g → k ≡ j
-meets_number header ranks k j q ks rest goings g on e = grind (arith, nat_tests, go_went header q k g.rank g.answers g.calls, to_number)
+meets_number header ranks k j q ks rest goings g on e = grind (arith, nat_tests, go_went header q k g.rank g.answers g.calls, nil_cons, not_solo)
 
 pub goes_number : (header : Header) (ranks k r c : ℕ) (ks : List MeetKind) (rest : List Mark) (goings : List Going) (g : Going) → AreOn ranks k ks (Solo r c ∷ rest) goings
     → slice_get goings r ≡ Some g → length (advance header g).0.answers ≡ c
-goes_number header ranks k r c ks rest goings g on e = grind (arith, nat_tests, go_went header r k g.rank g.answers g.calls, equal_itself r, to_call)
+goes_number header ranks k r c ks rest goings g on e = grind (arith, nat_tests, go_went header r k g.rank g.answers g.calls, equal_itself r, nil_cons, not_solo)
 
 -- ---- the offers of a meeting
 
@@ -226,8 +218,7 @@ steps s c ranks k r n ks rest goings l on =
       before = b.0;
       was = b.1;
       at = at;
-      state = solo_goes s r c goings b.0 b.1
-          ∙ ap (λ (z : Counted × Going). (z.0, set goings r z.1)) (solo_of_is s r c (advance s.header b.0) at.asks.offer at.asks.is_offer);
+      state = grind (arith, nat_tests, solo_goes s r c goings b.0 b.1, solo_of_is s r c (advance s.header b.0) at.asks.offer at.asks.is_offer, set);
     }
 
 pub solo_on : (s : Setting) (c : Counted) (ranks k r n : ℕ) (ks : List MeetKind) (rest : List Mark) (goings : List Going) → r < ranks → AreOn ranks k ks (Solo r n ∷ rest) goings
@@ -244,8 +235,7 @@ solo_on s c ranks k r n ks rest goings l on =
     })
   where
     by : (q : ℕ) (g next : Going) → OnCourse r k ks rest next → ((q ≡ r) × (g ≡ next)) ⊎ (((r == q) ≡ false) × (slice_get goings q ≡ Some g)) → OnCourse q k ks rest g
-    by q g next own (inl (a, b)) =
-        subst (λ (z : ℕ). OnCourse z k ks rest g) (sym a) (subst (λ (z : Going). OnCourse r k ks rest z) (sym b) own)
+    by q g next own (inl (a, b)) = grind (arith, nat_tests)
     by q g next own (inr (a, b)) = other_on q k r n ks rest g a (on.each q g b)
 
 -- ---- along an order

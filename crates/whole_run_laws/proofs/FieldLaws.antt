@@ -22,10 +22,7 @@ puts_beside s puts pair file past =
   where
     by : (i : ℕ) → i < byte_len (count_width s.header.version) → (t : Bool) → is_held s.header puts (4 + i) ≡ t → t ≡ false
     by i l false e = refl
-    by i l true e =
-        let low = past (4 + i) (any_in (covered s.header puts) (4 + i) e) in
-        let whole = canon_len s.header in
-        absurd (omega arith)
+    by i l true e = grind (arith, nat_tests, any_in (covered s.header puts) (4 + i) e, canon_len s.header)
 
 with_puts : (s : Setting) (puts : Puts) (pair : Option Pair) (file : List ℕ) (c : Counted) → AllPast s.header puts → FieldIs s.header file c
     → FieldIs s.header file (record { file = after_puts s puts pair c.file; records = c.records })

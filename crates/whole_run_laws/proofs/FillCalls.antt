@@ -1,5 +1,5 @@
 -- A meeting to which every rank comes to fill its share of a record.
-use Rattle.whole_run_laws.proofs.Words.{◌≡◌, ℕ, ◌≤◌, sym, ◌∙◌, ap, List, [], ◌∷◌, ◌++◌, length, map, true, false, Some, None, arith, slice_get_within, same_Some, slice_get, entry_below, Header, Var, Batch, Script, Mark, Meet, Offer, size_of, read, Counted, Setting, told, fill_bytes, is_sound, IsLegal, is_lawful, inner_lengths, is_record, IsIndex, place, find_var, look_fill, look_record, code_of_look, offers_look, posts_of, Rank, step, advance, after_meeting, Going, offers_of, setting_of, state_after, state_more, comes_to_meeting, puts_at, puts_met, AllFill, filling, Fills, some_rank, nat_tests}
+use Rattle.whole_run_laws.proofs.Words.{◌≡◌, ℕ, ◌≤◌, sym, ◌∙◌, ap, List, [], ◌∷◌, ◌++◌, length, map, true, Some, None, arith, slice_get_within, same_Some, slice_get, entry_below, Header, Var, Script, Mark, Meet, Offer, size_of, read, Counted, Setting, told, fill_bytes, is_sound, IsLegal, is_lawful, inner_lengths, is_record, IsIndex, place, find_var, look_fill, look_record, code_of_look, posts_of, advance, after_meeting, Going, offers_of, setting_of, state_after, state_more, comes_to_meeting, puts_at, puts_met, AllFill, filling, Fills, some_rank, nat_tests}
 use Rattle.nc_base.specs.declared.answer.Code.TheVariants as code
 use Rattle.nc_base.specs.declared.request.Call.TheVariants as call
 use Rattle.nc_base.specs.declared.step.MeetKind.TheVariants as meets_as
@@ -14,19 +14,10 @@ look_is : (header : Header) (name : List ℕ) (k number r ranks : ℕ) (v : Var)
     → look_fill header name number r ranks ≡ look_record header k number r ranks v
 look_is header name k number r ranks v e f = grind (arith, nat_tests)
 
-abbrev share_batch : looks.Look → Batch
-share_batch l = record { puts = posts_of l; gets = [] }
-
--- in collective mode the rank meets with its share
-step_fills : (header : Header) (rank : Rank) (name : List ℕ) (number r ranks : ℕ) → rank.independent ≡ false
-    → step header rank (call.FillRec name number r ranks)
-    ≡ offers_look rank (offer.Meet meets_as.Put) (look_fill header name number r ranks) (share_batch (look_fill header name number r ranks))
-step_fills header rank name number r ranks e = grind (arith, nat_tests)
-
 -- so its offer brings it
 fill_offer : (header : Header) (name : List ℕ) (number ranks r : ℕ) (g : Going) (o : Offer) → Fills header name number ranks r g → (advance header g).1 ≡ Some o
     → o.batch.puts ≡ posts_of (look_fill header name number r ranks)
-fill_offer header name number ranks r g o f e = grind (arith, nat_tests, comes_to_meeting, step_fills, same_Some)
+fill_offer header name number ranks r g o f e = grind (arith, nat_tests, comes_to_meeting, same_Some)
 
 of_records : (header : Header) (k number r ranks : ℕ) (v : Var) → code_of_look (look_record header k number r ranks v) ≡ code.Ok → is_record header v ≡ true
 of_records header k number r ranks v e = grind (arith, nat_tests)

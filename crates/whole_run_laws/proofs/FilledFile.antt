@@ -28,9 +28,7 @@ module _ (e : Cell) (i : ℕ) (inside : i < length e.1) where
       by : (said_at (said_by cells) (e.0 + i) ≡ None) ⊎ (said_at (said_by cells) (e.0 + i) ≡ Some (get_or e.1 i 0))
           → (said_at (enumerate_from d.0 d.1) (e.0 + i) ≡ None) ⊎ (said_at (enumerate_from d.0 d.1) (e.0 + i) ≡ Some (get_or e.1 i 0))
           → (said_at (said_by (d ∷ cells)) (e.0 + i) ≡ None) ⊎ (said_at (said_by (d ∷ cells)) (e.0 + i) ≡ Some (get_or e.1 i 0))
-      by (inr a) b = inr (joined d cells ∙ first_counts (said_at (said_by cells) (e.0 + i)) _ _ a)
-      by (inl a) (inl b) = inl (joined d cells ∙ second_counts (said_at (said_by cells) (e.0 + i)) _ a ∙ b)
-      by (inl a) (inr b) = inr (joined d cells ∙ second_counts (said_at (said_by cells) (e.0 + i)) _ a ∙ b)
+      by xs b = grind (arith, nat_tests, joined, first_counts, second_counts)
 
   pub says_that : (cells : List Cell) → In cells e → ((d : Cell) → In cells d → IsOrApart e d) → said_at (said_by cells) (e.0 + i) ≡ Some (get_or e.1 i 0)
   says_that [] h f = absurd h
@@ -42,8 +40,6 @@ module _ (e : Cell) (i : ℕ) (inside : i < length e.1) where
 
 pub read_all : (file value : List ℕ) (p n : ℕ) → n ≡ length value → ((i : ℕ) → i < length value → at file (p + i) ≡ get_or value i 0) → read file p n ≡ value
 read_all file [] p zero e f = refl
-read_all file [] p (suc n) e f = absurd (omega arith)
-read_all file (v ∷ value) p zero e f = absurd (omega arith)
 read_all file (v ∷ value) p (suc n) e f =
     let here : p ≡ p + 0 = omega arith in
     let first : at file p ≡ v = ap (λ (k : ℕ). at file k) here ∙ f 0 (omega arith) in
@@ -51,6 +47,7 @@ read_all file (v ∷ value) p (suc n) e f =
     let next : p + 1 + i ≡ p + suc i = omega arith in
     ap (λ (k : ℕ). at file k) next ∙ f (suc i) (omega arith)) in
     λ t. first t ∷ rest t
+read_all file _ p _ e f = absurd (omega arith)
 
 -- ---- elements of a header
 
@@ -83,8 +80,7 @@ same_or_not lengths i j h k = by (eqb_tells (row lengths j) (row lengths i))
   where
     by : (((row lengths j == row lengths i) ≡ true) × (row lengths j ≡ row lengths i)) ⊎ (((row lengths j == row lengths i) ≡ false) × (row lengths j ≡ row lengths i → ⊥))
         → (j ≡ i) ⊎ (i ≡ j → ⊥)
-    by (inl (f, g)) = inl (row_once lengths j i k h g)
-    by (inr (f, n)) = inr (λ g. n (ap (λ (z : List ℕ). row lengths z) (sym g)))
+    by xs = grind (arith, nat_tests, row_once)
 
 -- ---- a filled file
 
@@ -94,12 +90,9 @@ cells_of_var header v = map (cell_of header v) (coordinates (inner_lengths heade
 abbrev cells_of_vars : Header → List Var → List Cell
 cells_of_vars header vars = flat_map (cells_of_var header) vars
 
-var_cells : (header : Header) (v : Var) (file : List ℕ) → fill_var header file v ≡ write_cells file (cells_of_var header v)
-var_cells header v file = grind (arith, nat_tests, fold-map)
-
 vars_cells : (header : Header) (vars : List Var) (file : List ℕ) → fold (fill_var header) file vars ≡ write_cells file (cells_of_vars header vars)
 vars_cells header [] file = refl
-vars_cells header (v ∷ vars) file = grind (arith, nat_tests, vars_cells header vars (fill_var header file v), var_cells, fold-append)
+vars_cells header (v ∷ vars) file = grind (arith, nat_tests, vars_cells header vars (fill_var header file v), fold-map, fold-append)
 
 filled_apart : (header : Header) (k : ℕ) (v : Var) (index : List ℕ) → is_sound header ≡ true → slice_get header.vars k ≡ Some v → is_record header v ≡ false
     → IsIndex (inner_lengths header v) index → (d : Cell) → In (cells_of_vars header (fixed_variables header header.vars)) d → IsOrApart (cell_of header v index) d

@@ -1,5 +1,5 @@
 -- A record that all ranks filled reads its fill values.
-use Rattle.whole_run_laws.proofs.Words.{◌≡◌, ℕ, zero, suc, ◌+◌, ◌*◌, ◌<◌, ◌≤◌, refl, sym, ◌∙◌, ap, subst, inl, inr, List, [], ◌∷◌, ◌++◌, length, map, take, drop, replicate, true, Option, Some, None, add-one, arith, mul-div_cancel, mul-le-mul_left, drop-append-add, take_all, flat_map-append, append-nil, length-map, map-append, take_at, flat_map, slice_get, zip, AllByRecursion, enumerate_from, range_with_len, each_weaker, map_map, div_grows, in_map, map_in, Header, Var, Post, Part, Offer, Pair, size_of, at, read, Counted, meeting, puts_of, Setting, told, box_indices, fill_bytes, share_begin, shifted, is_sound, inner_lengths, is_record, product, In, IsIndex, place, box_post, box_region, look_record, code_of_look, posts_of, cells, coordinates, elements, index_at, byte_or, Cell, said_at, said_by, bytes_of, bytes_of_some, said_by_puts, coordinates_all, elements_past_header, boxes_right, length-coordinates, post_says, same_len, share_grows, share_within, shifted_is, completed, puts_met, unless_told, AllFill, filling, share_boxes, posts_filled, IsOrApart, part, part_joined, part_none, nat_tests}
+use Rattle.whole_run_laws.proofs.Words.{◌≡◌, ℕ, zero, suc, ◌+◌, ◌*◌, ◌<◌, ◌≤◌, refl, sym, ◌∙◌, ap, subst, inl, inr, List, [], ◌∷◌, ◌++◌, length, map, drop, replicate, true, Option, Some, None, add-one, arith, mul-div_cancel, mul-le-mul_left, drop-append-add, take_all, flat_map-append, append-nil, length-map, map-append, take_at, flat_map, slice_get, zip, AllByRecursion, enumerate_from, range_with_len, each_weaker, map_map, div_grows, in_map, map_in, Header, Var, Post, Part, Offer, Pair, size_of, at, read, Counted, meeting, puts_of, Setting, told, box_indices, fill_bytes, share_begin, shifted, is_sound, inner_lengths, is_record, product, In, IsIndex, place, box_post, box_region, look_record, code_of_look, posts_of, cells, coordinates, elements, index_at, byte_or, Cell, said_at, said_by, bytes_of, bytes_of_some, said_by_puts, coordinates_all, elements_past_header, boxes_right, length-coordinates, post_says, same_len, share_grows, share_within, shifted_is, completed, puts_met, unless_told, AllFill, filling, share_boxes, posts_filled, IsOrApart, part, part_joined, part_none, nat_tests, common_steps}
 use Rattle.nc_base.specs.declared.answer.Code.TheVariants as code
 use Rattle.whole_run_laws.proofs.KeptLaws.{meeting_said}
 use Rattle.whole_run_laws.proofs.FilledFile.{read_all, cell_of, fill_long, cells_apart, record_element, index_in, in_index, same_or_not, past_count, says_that}
@@ -26,11 +26,8 @@ module _ (lengths : List ℕ) (ranks : ℕ) (some : 0 < ranks) where
   last_ends : begins (0 + ranks) ≡ product lengths
   last_ends = grind (arith, nat_tests, mul-div_cancel)
 
-  pub shares_cover : flat_map share (range_with_len 0 ranks) ≡ coordinates lengths
-  shares_cover = grind (arith, nat_tests, length-coordinates, first_begins, last_ends, shares_from, take_all)
-
 pub shares_all : (lengths : List ℕ) (ranks : ℕ) → 0 < ranks → flat_map (λ r. flat_map box_indices (share_boxes lengths r ranks)) (range_with_len 0 ranks) ≡ coordinates lengths
-shares_all lengths ranks some = shares_cover lengths ranks some
+shares_all lengths ranks some = grind (arith, nat_tests, length-coordinates, first_begins, last_ends, shares_from, take_all)
 
 pub record_puts : (header : Header) (k number r ranks : ℕ) (v : Var) → code_of_look (look_record header k number r ranks v) ≡ code.Ok
     → posts_of (look_record header k number r ranks v) ≡ filling header k v number ranks r
@@ -61,12 +58,7 @@ cells_repeat : (size : ℕ) (value xs : List ℕ) (a n : ℕ) → length value �
 cells_repeat size value [] a n e h = refl
 cells_repeat size value (x ∷ xs) a zero e h = absurd (omega arith)
 cells_repeat size value (x ∷ xs) a (suc n) e h =
-    let rest = flat_map (λ (m : ℕ). value) (range_with_len (a + 1) n) in
-    let front : take size (value ++ rest) ≡ value = take_at value rest size e in
-    let whole : size ≡ length value + 0 = omega arith in
-    let back : drop size (value ++ rest) ≡ rest = ap (λ (m : ℕ). drop m (value ++ rest)) whole ∙ drop-append-add value rest 0 in
-    let later = ap (λ (b : List ℕ). cells size xs b) back ∙ cells_repeat size value xs (a + 1) n e (omega arith) in
-    λ t. (x, front t) ∷ later t
+    grind (arith, nat_tests, cells_repeat size value xs (a + 1) n e (omega arith), take_at, drop-append-add, common_steps)
 
 module _ (header : Header) (k number : ℕ) (v : Var) (there : slice_get header.vars k ≡ Some v) where
   abbrev cell_at : List ℕ → Cell

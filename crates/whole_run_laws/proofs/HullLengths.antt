@@ -1,15 +1,12 @@
 -- No window's hull is longer than its buffer, and no call of a step transfers more.
-use Rattle.whole_run_laws.proofs.Words.{◌≡◌, ℕ, zero, suc, ◌+◌, ◌<◌, ◌≤◌, ap, subst, inl, inr, ◌⊎◌, List, [], ◌∷◌, ◌++◌, length, map, Bool, true, false, cond, not, max, ◌&&◌, Option, Some, None, arith, filter, flat_map, nat_le, nat_lt, is_none, enumerate_from, equal_itself, IsAscending, filter_in, filter_ascends, flat_in, in_either, in_order_ascends, last_below, map_in, Header, Post, Hints, Script, DiskCall, Load, Mark, Meet, Solo, Offer, calls_from, collective_windows, domains, first_of, get_bytes, gets_of, grow_to, hull_len, in_order, last_of, loads, mark_calls, meeting_calls, overlays, put_calls, run_calls, sieved, sieving_windows, solo_calls, store_records, Counted, Setting, end_for, meeting, puts_of, told, is_lawful, In, is_empty, needed_by, Going, advance, after_mark, closed, first_state, offers_of, rank_offer, setting_of, Puts, bytes_of, covered, is_count_store, longest, transferred, le_two, window_short, nat_tests}
+use Rattle.whole_run_laws.proofs.Words.{◌≡◌, ℕ, suc, ◌+◌, ◌<◌, ◌≤◌, ap, subst, inl, inr, ◌⊎◌, List, [], ◌∷◌, ◌++◌, length, map, Bool, true, false, cond, not, max, ◌&&◌, arith, filter, flat_map, nat_le, nat_lt, is_none, enumerate_from, equal_itself, filter_in, filter_ascends, flat_in, in_either, in_order_ascends, last_below, map_in, Header, Post, Hints, Script, DiskCall, Mark, Meet, Solo, Offer, calls_from, collective_windows, get_bytes, gets_of, grow_to, hull_len, in_order, last_of, loads, mark_calls, meeting_calls, overlays, put_calls, run_calls, sieved, sieving_windows, solo_calls, store_records, Counted, Setting, end_for, meeting, puts_of, told, is_lawful, In, is_empty, needed_by, Going, advance, after_mark, closed, first_state, offers_of, setting_of, Puts, bytes_of, covered, is_count_store, longest, transferred, le_two, window_short, nat_tests}
 use borrow.Author.Tests.{ltb-true, ltb-false}
 use Rattle.whole_run_laws.proofs.Hints.{some_buffers}
 
 -- ---- hulls
 
-domain_ascends : (nodes unit : ℕ) (bytes d : List ℕ) → IsAscending bytes → In (domains nodes unit bytes) d → IsAscending d
-domain_ascends nodes unit bytes d asc h = grind (arith, nat_tests, map_in, filter_ascends)
-
 pub collective_short : (hints : Hints) (bytes w : List ℕ) → 1 ≤ hints.cb_buffer → In (collective_windows hints (in_order bytes)) w → hull_len w ≤ hints.cb_buffer
-collective_short hints bytes w l h = grind (arith, nat_tests, flat_in, filter_in, not, window_short, domain_ascends, in_order_ascends)
+collective_short hints bytes w l h = grind (arith, nat_tests, flat_in, filter_in, not, window_short, map_in, filter_ascends, in_order_ascends)
 
 front_short : (x buffer : ℕ) (rest : List ℕ) (t : Bool) → 1 ≤ buffer → nat_lt x (x + buffer) ≡ t
     → ((y : ℕ) → In (cond t (x ∷ rest) rest) y → y < x + buffer) → hull_len (cond t (x ∷ rest) rest) ≤ buffer
@@ -17,10 +14,9 @@ front_short x buffer rest true l e h = let last : last_of (x ∷ rest) + 1 ≤ x
 front_short x buffer rest false l e h = let k : x + buffer ≤ x = ltb-false _ _ e in absurd (omega arith)
 
 sieved_short : (fuel buffer : ℕ) (bytes w : List ℕ) → 1 ≤ buffer → In (sieved fuel buffer bytes) w → hull_len w ≤ buffer
-sieved_short zero buffer bytes w l h = absurd h
-sieved_short (suc fuel) buffer [] w l h = absurd h
 sieved_short (suc fuel) buffer (x ∷ bytes) w l (inl e) = grind (arith, nat_tests, front_short, ltb-true, filter_in)
 sieved_short (suc fuel) buffer (x ∷ bytes) w l (inr h) = sieved_short fuel buffer (filter (λ y. nat_le (x + buffer) y) bytes) w l h
+sieved_short _ buffer _ w l h = absurd h
 
 pub sieving_short : (buffer : ℕ) (bytes w : List ℕ) → 1 ≤ buffer → In (sieving_windows buffer bytes) w → hull_len w ≤ buffer
 sieving_short buffer bytes w l h = sieved_short (length bytes) buffer bytes w l h
@@ -31,8 +27,7 @@ call_short : (a call : DiskCall) (n : ℕ) → a ≡ call → transferred a ≤ 
 call_short a call n e h = subst (λ (c : DiskCall). transferred c ≤ n) e h
 
 load_short : (w : List ℕ) (n : ℕ) (call : DiskCall) → hull_len w ≤ n → In (loads w) call → transferred call ≤ n
-load_short w n call l (inl e) = call_short (Load (first_of w) (hull_len w)) call n e l
-load_short w n call l (inr h) = absurd h
+load_short w n call l xs = grind (arith, nat_tests, call_short)
 
 overlay_short : (w : List ℕ) (n : ℕ) (call : DiskCall) → hull_len w ≤ n → In (overlays w) call → transferred call ≤ n
 overlay_short w n call l h = grind (arith, nat_tests, call_short)
@@ -45,12 +40,10 @@ put_short : (s : Setting) (cut : List ℕ → List (List ℕ)) (puts : Puts) (si
 put_short s cut puts size n call f h = by (is_none (told s puts) && not (is_empty (in_order (covered s.header puts)))) h
   where
     either : In (grow_to size (end_for s (needed_by s.header puts))) call ⊎ In (flat_map overlays (cut (in_order (covered s.header puts)))) call → transferred call ≤ n
-    either (inl k) = grow_short size (end_for s (needed_by s.header puts)) n call k
-    either (inr k) = let w = flat_in overlays (cut (in_order (covered s.header puts))) call k in overlay_short w.0 n call (f w.0 w.1) w.2
+    either xs = grind (arith, nat_tests, grow_short, flat_in, overlay_short)
 
     by : (t : Bool) → In (cond t (grow_to size (end_for s (needed_by s.header puts)) ++ flat_map overlays (cut (in_order (covered s.header puts)))) []) call → transferred call ≤ n
-    by true k = either (in_either (grow_to size (end_for s (needed_by s.header puts))) (flat_map overlays (cut (in_order (covered s.header puts)))) call k)
-    by false k = absurd k
+    by t k = grind (arith, nat_tests, either, in_either)
 
 get_short : (ws : List (List ℕ)) (n : ℕ) (call : DiskCall) → ((w : List ℕ) → In ws w → hull_len w ≤ n) → In (flat_map loads ws) call → transferred call ≤ n
 get_short ws n call f h = let w = flat_in loads ws call h in load_short w.0 n call (f w.0 w.1) w.2
@@ -133,11 +126,7 @@ mark_short hints s (c, goings) (Meet k) call a b d h = by (meeting_short hints s
     by : (transferred call ≤ hints.cb_buffer) ⊎ (is_count_store s.header call ≡ true) → Short hints s.header call
     by (inl l) = inl (le_two (transferred call) hints.cb_buffer (longest hints) l (omega arith))
     by (inr e) = inr e
-mark_short hints s (c, goings) (Solo r n) call a b d h = by (rank_offer s goings r) h
-  where
-    by : (o : Option Offer) → In (elim o as (λ x. List DiskCall) [ None ↦ [] | Some p ↦ solo_calls hints s r p c ]) call → Short hints s.header call
-    by None k = absurd k
-    by (Some o) k = inl (le_two (transferred call) (max hints.wr_buffer hints.rd_buffer) (longest hints) (solo_short hints s r o c call b d k) (omega arith))
+mark_short hints s (c, goings) (Solo r n) call a b d h = grind (arith, nat_tests, le_two, solo_short)
 
 calls_short : (hints : Hints) (s : Setting) (state : Counted × List Going) (order : List Mark) (call : DiskCall) → 1 ≤ hints.cb_buffer → 1 ≤ hints.wr_buffer → 1 ≤ hints.rd_buffer
     → In (calls_from hints s state order) call → Short hints s.header call

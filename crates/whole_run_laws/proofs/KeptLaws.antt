@@ -1,20 +1,17 @@
 -- What a run leaves of each byte: what the last completed put that holds it says, else the old one.
-use Rattle.whole_run_laws.proofs.Words.{◌≡◌, ℕ, ◌+◌, ◌<◌, ◌≤◌, refl, ◌∙◌, inl, inr, ◌⊎◌, List, [], ◌∷◌, ◌++◌, length, map, set, false, max, Option, Some, None, arith, flat_map-append, get_or_past, fold, Header, Pair, Script, Mark, Offer, at, count, greatest, said_at, byte_or, Puts, said_by_puts, Setting, Counted, after_puts, known_by, meeting, needs, told, Going, advance, after_mark, closed, first_state, serial, serial_from, start, setting_of, solo_of, count_long, puts_keep, raised_keeps, at-longer, byte_or_later, puts_said, said_append, completed, completed_from, completed_puts, IsBesideCount, is_held, puts_asked, puts_at, puts_met, unless_told, raised_grows, mark_grows, nat_tests}
+use Rattle.whole_run_laws.proofs.Words.{◌≡◌, ℕ, ◌+◌, ◌<◌, ◌≤◌, refl, ◌∙◌, ◌⊎◌, List, [], ◌∷◌, length, map, set, false, max, Option, arith, flat_map-append, get_or_past, fold, Header, Pair, Script, Mark, Offer, at, count, greatest, said_at, byte_or, Puts, said_by_puts, Setting, Counted, after_puts, known_by, meeting, needs, told, Going, advance, after_mark, closed, first_state, serial, serial_from, start, setting_of, solo_of, count_long, puts_keep, raised_keeps, at-longer, byte_or_later, puts_said, said_append, completed, completed_from, completed_puts, IsBesideCount, is_held, puts_asked, puts_at, puts_met, unless_told, raised_grows, mark_grows, nat_tests}
 
 -- ---- a step
 
 beside : (s : Setting) (n x : ℕ) → IsBesideCount s.header x → (x < 4) ⊎ (4 + length (count s.header.version n) ≤ x)
-beside s n x (inl l) = inl l
-beside s n x (inr l) = let e = count_long s.header.version n in inr (omega arith)
+beside s n x xs = grind (arith, nat_tests, count_long)
 
 after_said : (s : Setting) (puts : Puts) (pair : Option Pair) (file : List ℕ) (x : ℕ)
     → at (after_puts s puts pair file) x ≡ byte_or (said_at (said_by_puts s.header (unless_told puts pair)) x) (at file x)
-after_said s puts None file x = puts_said s puts file x
-after_said s puts (Some p) file x = refl
+after_said s puts pair file x = grind (arith, nat_tests, puts_said)
 
 nothing_said : (header : Header) (pair : Option Pair) (x b : ℕ) → b ≡ byte_or (said_at (said_by_puts header (unless_told [] pair)) x) b
-nothing_said header None x b = refl
-nothing_said header (Some p) x b = refl
+nothing_said header pair x b = grind (arith, nat_tests)
 
 pub meeting_said : (s : Setting) (offers : List Offer) (c : Counted) (x : ℕ) → IsBesideCount s.header x
     → at (meeting s offers c).0.file x ≡ byte_or (said_at (said_by_puts s.header (completed s (puts_met offers))) x) (at c.file x)
@@ -27,8 +24,7 @@ meeting_said s offers c x h =
 
 solo_said : (s : Setting) (r : ℕ) (c : Counted) (p : Going × Option Offer) (x : ℕ)
     → at (solo_of s r c p).0.file x ≡ byte_or (said_at (said_by_puts s.header (completed s (puts_asked r p.1))) x) (at c.file x)
-solo_said s r c (g, None) x = nothing_said s.header (told s []) x (at c.file x)
-solo_said s r c (g, Some o) x = after_said s (puts_asked r (Some o)) (told s (puts_asked r (Some o))) c.file x
+solo_said s r c p x = grind (arith, nat_tests, nothing_said, after_said)
 
 mark_said : (s : Setting) (state : Counted × List Going) (m : Mark) (x : ℕ) → IsBesideCount s.header x
     → at (after_mark s state m).0.file x ≡ byte_or (said_at (said_by_puts s.header (completed s (puts_at s state m))) x) (at state.0.file x)
@@ -36,14 +32,10 @@ mark_said s state m x h = grind (arith, nat_tests, meeting_said, set, nothing_sa
 
 -- ---- a run
 
-said_both : (header : Header) (a b : Puts) (x old : ℕ)
-    → byte_or (said_at (said_by_puts header b) x) (byte_or (said_at (said_by_puts header a) x) old) ≡ byte_or (said_at (said_by_puts header (a ++ b)) x) old
-said_both header a b x old = grind (arith, nat_tests, byte_or_later, said_append, flat_map-append)
-
 state_said : (s : Setting) (state : Counted × List Going) (order : List Mark) (x : ℕ) → IsBesideCount s.header x
     → at (fold (after_mark s) state order).0.file x ≡ byte_or (said_at (said_by_puts s.header (completed_from s state order)) x) (at state.0.file x)
 state_said s state [] x h = refl
-state_said s state (m ∷ order) x h = grind (arith, nat_tests, state_said s (after_mark s state m) order x h, mark_said, said_both)
+state_said s state (m ∷ order) x h = grind (arith, nat_tests, state_said s (after_mark s state m) order x h, mark_said, byte_or_later, said_append, flat_map-append)
 
 closed_keeps : (s : Setting) (state : Counted × List Going) (x : ℕ) → IsBesideCount s.header x → at (closed s state).bytes x ≡ at state.0.file x
 closed_keeps s state x h = grind (arith, nat_tests, raised_keeps, beside)

@@ -1,5 +1,5 @@
 -- A script whose ranks have no steps of their own has one order: all its meetings in turn.
-use Rattle.whole_run_laws.proofs.Words.{◌≡◌, ℕ, zero, suc, ◌+◌, ◌<◌, refl, sym, ◌∙◌, ap, subst, List, [], ◌∷◌, length, map, Bool, true, false, not, ◌&&◌, Option, Some, None, arith, and-false, or_from, slice_get, filter, is_some, list_all, list_any, range_with_len, fails_each, fails_at, entry_below, and_first, equal_itself, no_false, or_first_false, or_second_false, in_range, each_in, Header, Call, Script, Mark, Meet, Solo, MeetKind, concerns, is_collective, is_data, is_of_rank_below, IsLegal, kind_of_call, kinds, marks, marks_from, mode_after, is_meeting, is_lawful, serial_from, kinds_of, own_lawful, ranks_lawful, kinds_skip, kinds_take, marks_alone, marks_meet, marks_solo, all_meetings, has_independent, has_solo, is_independent, collective_kind, some_rank, nat_tests}
+use Rattle.whole_run_laws.proofs.Words.{◌≡◌, ℕ, zero, suc, ◌+◌, ◌<◌, refl, sym, ◌∙◌, ap, subst, List, [], ◌∷◌, length, map, Bool, true, false, not, ◌&&◌, Option, Some, None, arith, and-false, or_from, slice_get, filter, list_all, list_any, range_with_len, fails_each, fails_at, entry_below, and_first, equal_itself, no_false, or_first_false, or_second_false, in_range, each_in, Header, Call, Script, Mark, Meet, Solo, MeetKind, concerns, is_collective, is_data, is_of_rank_below, IsLegal, kind_of_call, kinds, marks, marks_from, is_meeting, is_lawful, serial_from, kinds_of, own_lawful, ranks_lawful, kinds_skip, kinds_take, marks_alone, marks_meet, marks_solo, all_meetings, has_independent, has_solo, is_independent, collective_kind, some_rank, nat_tests}
 use borrow.Author.Tests.{ltb-true}
 
 abbrev is_solo : Mark → Bool
@@ -29,16 +29,7 @@ marks_meet_all r c k ind (x ∷ calls) h =
     by_kind : (o : Option MeetKind) → kind_of_call x ≡ o → (t : Bool) → (ind && is_data x) ≡ t
         → ((j : ℕ) (i : Bool) → list_any is_solo (marks_from r (suc c) j i calls) ≡ false → marks_from r (suc c) j i calls ≡ meets_from j (length (kinds calls)))
         → marks_from r c k ind (x ∷ calls) ≡ meets_from k (length (kinds (x ∷ calls)))
-    by_kind (Some kind) e t f later =
-        let m = marks_meet r c k ind x calls (collective_kind x ∙ ap (λ (o : Option MeetKind). is_some o) e) in
-        let rest = later (suc k) (mode_after ind x) (same_alone _ _ m h) in
-        m ∙ ap (λ (ms : List Mark). Meet k ∷ ms) rest ∙ meets_more k (length (kinds calls)) (length (kinds (x ∷ calls))) (long kind e)
-    by_kind None e true f later =
-        let m = marks_solo r c k ind x calls (collective_kind x ∙ ap (λ (o : Option MeetKind). is_some o) e) f in
-        no_false (sym (same_alone _ _ m h))
-    by_kind None e false f later =
-        let m = marks_alone r c k ind x calls (collective_kind x ∙ ap (λ (o : Option MeetKind). is_some o) e) f in
-        m ∙ later k ind (same_alone _ _ m h) ∙ ap (λ (ks : List MeetKind). meets_from k (length ks)) (sym (kinds_skip x calls e))
+    by_kind o e t f later = grind (arith, nat_tests, marks_meet, collective_kind, same_alone, meets_more, long, marks_solo, no_false, marks_alone, kinds_skip)
 
 -- ---- no step of its own
 
@@ -52,10 +43,7 @@ none_alone r c k ind (x ∷ calls) h =
   where
     by_kind : (t : Bool) → is_collective x ≡ t → ((j : ℕ) (i : Bool) → list_any is_solo (marks_from r (suc c) j i calls) ≡ false)
         → list_any is_solo (marks_from r c k ind (x ∷ calls)) ≡ false
-    by_kind true e later = same_alone _ _ (sym (marks_meet r c k ind x calls e)) (later (suc k) (mode_after ind x))
-    by_kind false e later =
-        let f : (ind && is_data x) ≡ false = ap (λ (b : Bool). ind && b) (not_data x e (or_first_false (is_independent x) _ h)) ∙ and-false ind in
-        same_alone _ _ (sym (marks_alone r c k ind x calls e f)) (later k ind)
+    by_kind t e later = grind (arith, nat_tests, same_alone, marks_meet, not_data, or_first_false, and-false, marks_alone)
 
 abbrev marks_of_own : ℕ → Option (List Call) → List Mark
 marks_of_own r m = elim m [ None ↦ [] | Some own ↦ marks_from r 0 0 false own ]

@@ -1,5 +1,5 @@
 -- The posts of a call of form varn are those of calls on its parts, each with its share of the values.
-use Rattle.whole_run_laws.proofs.Words.{◌≡◌, ℕ, zero, suc, ◌+◌, ◌<◌, ◌≤◌, refl, ◌∙◌, ap, inl, inr, List, [], ◌∷◌, ◌++◌, length, map, take, drop, Bool, true, false, not, cond, ltb, ◌||◌, Option, Some, None, option_map, arith, ℤ, filter, flat_map, slice_get, list_any, range_with_len, lt-ltb, ltb-false, sum_by-cons, any_map, entry_below, or_first_false, or_second_false, count_of, Code, Header, NcType, Var, Post, Direction, Get, Put, Varn, Given, Part, Region, Values, Numbers, Text, Bits, Class, class_of, product, In, data_code, find_var, kind_code, look, look_at, look_parts, look_region, part_posts, parts_code, some_fits, values_bytes, code_of_look, posts_of, check_parts, check_var, elements_of_all, has_element, is_ok_code, part_region, part_regions, ext_of, packed_bytes, value_at, parts_pass, outcome, on_part, own_values, values_from, nat_tests}
+use Rattle.whole_run_laws.proofs.Words.{◌≡◌, ℕ, zero, suc, ◌+◌, ◌<◌, ◌≤◌, refl, ◌∙◌, ap, inl, inr, List, [], ◌∷◌, ◌++◌, length, map, take, drop, Bool, true, false, not, cond, ltb, ◌||◌, Option, Some, None, option_map, arith, ℤ, filter, flat_map, slice_get, list_any, range_with_len, lt-ltb, ltb-false, sum_by-cons, any_map, entry_below, or_first_false, or_second_false, count_of, Code, Header, NcType, Var, Post, Direction, Get, Put, Varn, Given, Part, Region, Values, Numbers, Text, Bits, Class, class_of, product, In, data_code, find_var, kind_code, look, look_at, look_parts, look_region, part_posts, parts_code, some_fits, values_bytes, code_of_look, posts_of, check_parts, check_var, elements_of_all, has_element, is_ok_code, part_region, part_regions, ext_of, packed_bytes, value_at, parts_pass, outcome, on_part, own_values, values_from, nat_tests, common_steps}
 use Rattle.std.proofs.Common.{is_none}
 use Rattle.nc_base.specs.declared.answer.Code.TheVariants as code
 use Rattle.nc_base.specs.declared.request.Value.TheVariants as value
@@ -18,14 +18,12 @@ asks checked some asked last e f = grind (arith, nat_tests, outcome)
 -- ---- a share of the values
 
 taken : {X : Type 0} (xs : List X) (k n i : ℕ) → i < n → slice_get (take n (drop k xs)) i ≡ slice_get xs (k + i)
-taken [] zero zero i l = absurd (omega arith)
 taken [] zero (suc n) i l = refl
-taken [] (suc k) zero i l = absurd (omega arith)
 taken [] (suc k) (suc n) i l = refl
-taken (x ∷ xs) zero zero i l = absurd (omega arith)
 taken (x ∷ xs) zero (suc n) zero l = refl
 taken (x ∷ xs) zero (suc n) (suc i) l = grind (arith, nat_tests, taken xs 0 n i (omega arith))
 taken (x ∷ xs) (suc k) n i l = grind (arith, nat_tests, taken xs k n i l)
+taken _ _ _ i l = absurd (omega arith)
 
 same_value : (values : Values) (k n i : ℕ) → i < n → value_at (values_from values k n) i ≡ value_at values (k + i)
 same_value values k n i l = grind (arith, nat_tests, option_map, taken)
@@ -63,9 +61,6 @@ of_values kinds lacking unfit = cond (not (is_ok_code kinds)) kinds (cond lackin
 all_right : (kinds : Code) (lacking unfit : Bool) → of_values kinds lacking unfit ≡ code.Ok → (kinds ≡ code.Ok) × (lacking ≡ false) × (unfit ≡ false)
 all_right kinds lacking unfit h = grind (arith, nat_tests)
 
-from_right : (kinds : Code) (lacking unfit : Bool) → kinds ≡ code.Ok → lacking ≡ false → unfit ≡ false → of_values kinds lacking unfit ≡ code.Ok
-from_right kinds lacking unfit e f g = grind (arith, nat_tests)
-
 none_of_range : (test : ℕ → Bool) (a n : ℕ) → list_any test (range_with_len a n) ≡ false → (i : ℕ) → i < n → test (a + i) ≡ false
 none_of_range test a zero h i l = absurd (omega arith)
 none_of_range test a (suc n) h zero l = grind (arith, nat_tests, or_first_false)
@@ -99,7 +94,7 @@ own_right : (kind : NcType) (values : Values) (all k n : ℕ) → AreRight kind 
     → of_values (kind_code (class_of kind) (values_from values k n))
     (list_any (λ v. is_none v) (map (λ m. value_at (values_from values k n) m) (range_with_len 0 n)))
     (list_any (λ v. not (some_fits kind v)) (map (λ m. value_at (values_from values k n) m) (range_with_len 0 n))) ≡ code.Ok
-own_right kind values all k n r room = grind (arith, nat_tests, from_right, same_kind, any_map, is_none, none_in_range, value_there, not, same_value)
+own_right kind values all k n r room = grind (arith, nat_tests, same_kind, any_map, is_none, none_in_range, value_there, not, same_value)
 
 -- ---- one part
 
@@ -144,19 +139,13 @@ module _ (header : Header) (known id k : ℕ) (var : Var) where
 
   more_room : (p : Part) (rest : List Region) (n all : ℕ) → n + elements_of_all (cond (has_element (region p)) (region p ∷ rest) rest) ≤ all
       → (n + product p.count + elements_of_all rest ≤ all)
-  more_room p rest n all room = by (has_element (region p)) refl room
-    where
-      by : (b : Bool) → has_element (region p) ≡ b → n + elements_of_all (cond b (region p ∷ rest) rest) ≤ all → n + product p.count + elements_of_all rest ≤ all
-      by true e r = let one = sum_by-cons (λ (g : Region). product g.count) (region p) rest in omega (arith, one, r)
-      by false e r = let none : product p.count ≤ 0 = ltb-false 0 (product p.count) e in omega (arith, none, r)
+  more_room p rest n all room = grind (arith, nat_tests, sum_by-cons, ltb-false, common_steps)
 
   later_right : (p : Part) (rest : List Region) (values : Values) (all : ℕ) (b : Bool) → Right values all (cond b (region p ∷ rest) rest) → Right values all rest
-  later_right p rest values all true r l = r (omega arith)
-  later_right p rest values all false r l = r l
+  later_right p rest values all b r l = grind (arith, nat_tests)
 
   first_right : (p : Part) (rest : List Region) (values : Values) (all : ℕ) (b : Bool) → Right values all (cond b (region p ∷ rest) rest) → b ≡ true → AreRight var.kind values all
-  first_right p rest values all true r e = r (omega arith)
-  first_right p rest values all false r e = absurd cc
+  first_right p rest values all b r e = grind (arith, nat_tests)
 
   abbrev AllPass : List Part → Direction → Type 0
   AllPass parts way = (g : Region) → In (map region parts) g → check_var header var g known way ≡ code.Ok
@@ -219,10 +208,6 @@ module _ (header : Header) (known id : ℕ) (given : Given) (many : given.form �
   puts_at values None h = absurd cc
   puts_at values (Some k) h = grind (arith, nat_tests, as_parts, parts_put)
 
-  gets_at : (o : Option ℕ) → code_of_look (at_name given None o) ≡ code.Ok
-      → posts_of (at_name given None o) ≡ flat_map (λ part. posts_of (at_name (on_part part) None o)) given.parts
-  gets_at o h = grind (arith, nat_tests, as_parts, parts_get)
-
 pub varn_puts : (header : Header) (known id : ℕ) (name : List ℕ) (given : Given) (values : Values) → given.form ≡ Varn
     → code_of_look (look header known id name given (Some values)) ≡ code.Ok
     → posts_of (look header known id name given (Some values))
@@ -232,4 +217,4 @@ varn_puts header known id name given values many h = puts_at header known id giv
 pub varn_gets : (header : Header) (known id : ℕ) (name : List ℕ) (given : Given) → given.form ≡ Varn
     → code_of_look (look header known id name given None) ≡ code.Ok
     → posts_of (look header known id name given None) ≡ flat_map (λ part. posts_of (look header known id name (on_part part) None)) given.parts
-varn_gets header known id name given many h = gets_at header known id given many (find_var header name) h
+varn_gets header known id name given many h = grind (arith, nat_tests, as_parts, parts_get)

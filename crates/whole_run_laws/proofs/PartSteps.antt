@@ -1,5 +1,5 @@
 -- The puts of a step one after another, and an independent put of many regions region by region.
-use Rattle.whole_run_laws.proofs.Words.{◌≡◌, ℕ, zero, suc, ◌+◌, ◌≤◌, max, refl, sym, ◌∙◌, ap, inl, inr, ◌⊎◌, List, [], ◌∷◌, ◌++◌, length, map, Bool, true, false, cond, ltb, Option, Some, None, arith, cases_lt, or_cases, nat_tests, common_steps, fold-append, map-append, AllByRecursion, filter, flat_map, fold, slice_get, some_or_none, and_first, no_both, Code, Pair, Header, NcType, Var, Post, Call, Put, Varn, Given, Part, Region, Values, Offer, Want, size_of, at, longer, written, Counted, Setting, after_puts, end_for, put_post, put_some, told, product, data_bytes, data_code, direction_of, find_var, is_varn, look, look_at, look_parts, look_region, part_posts, parts_code, Rank, answer, answers, batch_of, code_of_look, offers_look, posts_of, needed, needed_by, bound, check_parts, check_var, elements_of_all, has_element, part_regions, widen, cells, places, Cell, write_cells, Going, go, solo_of, Holding, Holds, Key, Puts, first_end, holdings, key_below, second_end, at-longer, longer-enough, longer_long, after_grows, key_equal, end_grows, cells_said, same_file, outcome, outcome_posts, makes, on_part, own_values, put_parts}
+use Rattle.whole_run_laws.proofs.Words.{◌≡◌, ℕ, zero, suc, ◌+◌, ◌≤◌, max, refl, sym, ◌∙◌, ap, inl, inr, ◌⊎◌, List, [], ◌∷◌, ◌++◌, length, map, Bool, true, false, cond, ltb, Option, Some, None, arith, cases_lt, or_cases, nat_tests, common_steps, fold-append, map-append, AllByRecursion, filter, flat_map, fold, slice_get, some_or_none, and_first, no_both, Code, Pair, Header, NcType, Var, Post, Call, Put, Varn, Given, Part, Region, Values, Offer, Want, at, longer, written, Counted, Setting, after_puts, end_for, put_post, put_some, told, product, data_bytes, data_code, direction_of, find_var, is_varn, look, look_at, look_parts, look_region, part_posts, parts_code, Rank, answer, answers, batch_of, code_of_look, offers_look, posts_of, needed, needed_by, bound, check_parts, check_var, elements_of_all, has_element, part_regions, widen, Cell, write_cells, Going, go, solo_of, Holding, Holds, Key, Puts, first_end, holdings, key_below, second_end, at-longer, longer-enough, longer_long, after_grows, key_equal, end_grows, cells_said, same_file, outcome, outcome_posts, makes, on_part, own_values, put_parts}
 use Rattle.nc_base.specs.declared.answer.Code.TheVariants as code
 use Rattle.nc_base.specs.declared.request.Call.TheVariants as call
 use Rattle.nc_base.specs.declared.step.OfferKind.TheVariants as offer
@@ -20,8 +20,7 @@ cells_longer f g n (c ∷ cs) e =
 
 put_longer : (s : Setting) (v : Option Var) (post : Post) (f g : List ℕ) (n : ℕ) → length f ≡ max (length g) n
     → length (put_some s v post f) ≡ max (length (put_some s v post g)) n
-put_longer s None post f g n e = e
-put_longer s (Some v) post f g n e = cells_longer f g n (cells (size_of v.kind) (places s.header v post.region) post.bytes) e
+put_longer s v post f g n e = grind (arith, nat_tests, cells_longer)
 
 put_same : (s : Setting) (v : Option Var) (post : Post) (f g : List ℕ) → ((x : ℕ) → at f x ≡ at g x) → (x : ℕ) → at (put_some s v post f) x ≡ at (put_some s v post g) x
 put_same s v post f g e x = grind (arith, nat_tests, cells_said)
@@ -47,11 +46,7 @@ first_then s p puts file =
   where
     long : length (longer file (end_for s (max (needed s.header p.1) (needed_by s.header puts))))
         ≡ max (length (longer file (end_for s (max (needed s.header p.1) 0)))) (end_for s (needed_by s.header puts))
-    long =
-        let a = needed s.header p.1 in
-        let b = needed_by s.header puts in
-        let plain : max a 0 ≡ a = omega arith in
-        omega (arith, longer_long file (end_for s (max a b)), longer_long file (end_for s (max a 0)), end_most s a b, ap (end_for s) plain)
+    long = grind (arith, nat_tests, longer_long, end_most)
 
     same : (x : ℕ) → at (longer file (end_for s (max (needed s.header p.1) (needed_by s.header puts)))) x ≡ at (longer file (end_for s (max (needed s.header p.1) 0))) x
     same x = at-longer file (end_for s (max (needed s.header p.1) (needed_by s.header puts))) x ∙ sym (at-longer file (end_for s (max (needed s.header p.1) 0)) x)

@@ -1,5 +1,5 @@
 -- A get of many regions gives the values of gets of the regions, joined.
-use Rattle.whole_run_laws.proofs.Words.{◌≡◌, ℕ, ◌≤◌, refl, sym, ◌∙◌, ap, inl, inr, ◌⊎◌, List, [], ◌∷◌, ◌++◌, length, map, Bool, true, false, Option, Some, None, option_map, fold-append, cons_option, flat_map, fold, slice_get, Answer, Code, Pair, Header, Var, Post, Get, Varn, Given, Part, Values, Counted, Setting, after_puts, end_for, find_var, look, look_at, code_of_look, posts_of, values_for, check_var, has_element, part_region, Going, longer-enough, outcome, outcome_posts, joined, last_values, makes, on_part, request_values, then_more, arith, nat_tests}
+use Rattle.whole_run_laws.proofs.Words.{◌≡◌, ℕ, ◌≤◌, refl, sym, ◌∙◌, ap, inl, ◌⊎◌, List, [], ◌∷◌, length, map, Bool, true, false, Option, Some, None, option_map, fold-append, flat_map, slice_get, Code, Pair, Header, Var, Post, Get, Varn, Given, Part, Counted, Setting, after_puts, end_for, find_var, look, look_at, code_of_look, posts_of, check_var, has_element, part_region, Going, longer-enough, outcome, outcome_posts, joined, last_values, makes, on_part, request_values, then_more, arith, nat_tests}
 use Rattle.nc_base.specs.declared.answer.Code.TheVariants as code
 use Rattle.nc_base.specs.declared.request.Call.TheVariants as call
 use Rattle.serial_spec.specs.Looks as looks
@@ -7,13 +7,9 @@ use Rattle.whole_run_laws.proofs.PartPosts.{varn_gets}
 
 -- ---- the values of one get and of those after it
 
-then_values : (o : Option (ℕ × Values)) (found : List (ℕ × Values)) (id : ℕ)
-    → values_for (cons_option o found) id ≡ then_more (values_for (cons_option o []) id) (values_for found id)
-then_values o found id = grind (arith, nat_tests)
-
 first_value : (s : Setting) (file : List ℕ) (id : ℕ) (p : Post) (gets : List Post)
     → request_values s file id (p ∷ gets) ≡ then_more (request_values s file id (p ∷ [])) (request_values s file id gets)
-first_value s file id p gets = grind (arith, nat_tests, then_values, option_map)
+first_value s file id p gets = grind (arith, nat_tests, option_map)
 
 -- ---- gets of which each asks for one region at most
 
@@ -31,8 +27,7 @@ part_one header known id name p = by (find_var header name)
     by_outcome : (checked : Code) (some : Bool) (post : Post) (last : Code)
         → (posts_of (outcome checked some (post ∷ []) last) ≡ []) ⊎ ((posts_of (outcome checked some (post ∷ []) last) ≡ post ∷ []) × (checked ≡ code.Ok) × (last ≡ code.Ok))
         → IsOneAtMost (posts_of (outcome checked some (post ∷ []) last))
-    by_outcome checked some post last (inl e) = inl e
-    by_outcome checked some post last (inr e) = inr (post, e.0)
+    by_outcome checked some post last xs = grind (arith, nat_tests)
 
     by_var : (k : ℕ) (v : Option Var) → IsOneAtMost (posts_of (look_at header known id k (on_part p) None v))
     by_var k None = inl refl
@@ -56,19 +51,15 @@ varn_values s file known id name given many ok = grind (arith, nat_tests, varn_g
 
 -- ---- an independent get
 
-last_of : (earlier : List Answer) (a : Answer) → fold (λ (v : Option Values) (b : Answer). b.values) None (earlier ++ a ∷ []) ≡ a.values
-last_of earlier a = fold-append (λ (v : Option Values) (b : Answer). b.values) None earlier (a ∷ [])
-
 nothing_left : (s : Setting) (pair : Option Pair) (file : List ℕ) → end_for s 0 ≤ length file → after_puts s [] pair file ≡ file
-nothing_left s (Some p) file h = refl
-nothing_left s None file h = longer-enough file (end_for s 0) h
+nothing_left s pair file h = grind (arith, nat_tests, longer-enough)
 
 module _ (s : Setting) (number : ℕ) (name : List ℕ) (state : Counted × Going) (whole : end_for s 0 ≤ length state.0.file) (mode : state.1.rank.independent ≡ true) where
   abbrev get_look : Given → looks.Look
   get_look given = look s.header state.1.rank.known 0 name given None
 
   get_answer : (given : Given) → last_values (makes s number state (call.Get false name given)).1 ≡ request_values s state.0.file 0 (posts_of (get_look given))
-  get_answer given = grind (arith, nat_tests, last_of, nothing_left)
+  get_answer given = grind (arith, nat_tests, fold-append, nothing_left)
 
   answers_joined : (given : Given) → given.form ≡ Varn → code_of_look (get_look given) ≡ code.Ok
       → last_values (makes s number state (call.Get false name given)).1

@@ -4,12 +4,9 @@ use Rattle.whole_run_laws.proofs.FilledFile.{read_all}
 
 -- ---- the record count stays
 
-one_more : (header : Header) (e : Extra) → (with_extra header e).records ≡ header.records
-one_more header e = grind (arith, nat_tests)
-
 records_stay : (header : Header) (extras : List Extra) → (added header extras).records ≡ header.records
 records_stay header [] = refl
-records_stay header (e ∷ extras) = records_stay (with_extra header e) extras ∙ one_more header e
+records_stay header (e ∷ extras) = grind (arith, nat_tests, records_stay (with_extra header e) extras)
 
 -- ---- an accepted redefinition
 

@@ -1,5 +1,5 @@
 -- What a step tells its ranks, and that a step with a pair changes nothing.
-use Rattle.whole_run_laws.proofs.Words.{◌≡◌, ℕ, suc, ◌+◌, ◌<◌, refl, sym, ◌∙◌, ap, subst, List, [], ◌∷◌, ◌++◌, map, set, Bool, true, false, Option, Some, None, arith, slice_get_within, same_Some, nat_tests, flat_map, slice_get, enumerate_from, list_all, entry_below, entry_set, and_first, and_second, in_at, Answer, Pair, Header, Post, Call, OverlapRule, Refuse, Serial, Script, Mark, Meet, Solo, MeetKind, Offer, OfferKind, Reply, after_puts, Counted, get_post, known_by, meeting, puts_of, raised, raises, Setting, solo, told, told_under, is_of_rank_below, IsLegal, is_lawful, greatest, In, Open, Rank, advance, after_mark, after_meeting, after_solo, first_state, go, Going, hears, offers_of, rank_offer, setting_of, state_after, holdings, IsSharedPair, IsUnshared, Puts, shared_pair, pair_found, pair_none, state_more, puts_asked, puts_at, puts_met, quiet_step, nil_cons}
+use Rattle.whole_run_laws.proofs.Words.{◌≡◌, ℕ, suc, ◌+◌, ◌<◌, refl, sym, ◌∙◌, ap, subst, List, [], ◌∷◌, ◌++◌, map, set, Bool, true, false, Option, Some, None, arith, slice_get_within, same_Some, nat_tests, flat_map, slice_get, enumerate_from, list_all, entry_below, entry_set, and_first, and_second, in_at, Answer, Pair, Header, Post, Call, OverlapRule, Refuse, Script, Mark, Meet, Solo, MeetKind, Offer, OfferKind, Reply, Counted, get_post, known_by, meeting, puts_of, raises, Setting, solo, told, told_under, is_of_rank_below, IsLegal, is_lawful, greatest, In, Open, Rank, advance, after_mark, after_meeting, after_solo, first_state, go, Going, hears, offers_of, rank_offer, setting_of, state_after, holdings, IsSharedPair, IsUnshared, Puts, shared_pair, pair_found, pair_none, state_more, puts_asked, puts_at, puts_met, quiet_step, nil_cons}
 use borrow.Author.Tests.{ltb-true}
 use Rattle.nc_base.specs.declared.step.MeetKind.TheVariants as meets_as
 use Rattle.nc_base.specs.declared.step.OfferKind.TheVariants as offer
@@ -29,8 +29,7 @@ pub replies_told : (s : Setting) (offers : List Offer) (c : Counted) (y : Reply)
 replies_told s offers c y h = let at = in_at (meeting s offers c).1 y h in reply_told s offers c at.0 y at.1
 
 told_shared : (rule : OverlapRule) (pair : Option Pair) (p : Pair) → told_under rule pair ≡ Some p → (pair ≡ Some p) × (rule ≡ Refuse)
-told_shared Refuse pair p e = (e, refl)
-told_shared Serial pair p e = cc
+told_shared rule pair p e = grind (arith, nat_tests)
 
 pub pair_is_least : (s : Setting) (puts : Puts) (p : Pair) → told s puts ≡ Some p → IsSharedPair (holdings s.header puts) p
 pair_is_least s puts p e = pair_found (holdings s.header puts) p (told_shared s.overlap (shared_pair s.header puts) p e).0
@@ -67,19 +66,11 @@ none_known (o ∷ offers) f =
     omega arith
   where
     by : (k : OfferKind) → raises k ≡ false → known_by k o.known ≡ 0
-    by (offer.Meet meets_as.End) e = cc
-    by (offer.Meet meets_as.Sync) e = cc
-    by k e = refl
-
-not_raised : (s : Setting) (c : Counted) → raised s c 0 ≡ c
-not_raised s c = grind (arith, nat_tests)
+    by k e = grind (arith, nat_tests)
 
 meeting_nothing : (s : Setting) (offers : List Offer) (c : Counted) (p : Pair) → told s (puts_met offers) ≡ Some p
     → greatest (map (λ o. known_by o.kind o.known) offers) ≡ 0 → (meeting s offers c).0 ≡ c
-meeting_nothing s offers c p e f = grind (arith, nat_tests, not_raised)
-
-solo_nothing : (s : Setting) (r : ℕ) (o : Offer) (c : Counted) (p : Pair) → told s (puts_of (r, o)) ≡ Some p → (solo s r o c).0 ≡ c
-solo_nothing s r o c p e = ap (λ (pair : Option Pair). let d : Counted = record { file = after_puts s (puts_of (r, o)) pair c.file; records = c.records } in d) e
+meeting_nothing s offers c p e f = grind (arith, nat_tests)
 
 -- the kind of a meeting is the first of the kinds that are left
 kind_left : (k : MeetKind) (ks xs : List MeetKind) (j : MeetKind) (ys : List MeetKind) → ks ≡ k ∷ xs → ks ≡ j ∷ ys → k ≡ j
@@ -158,7 +149,7 @@ offered_alone s r c goings k ks rest st = grind (arith, nat_tests)
 step_nothing : (s : Setting) (ranks : ℕ) (m : Mark) (rest : List Mark) (c : Counted) (goings : List Going) (p : Pair) → is_of_rank_below ranks m ≡ true
     → AreAlong ranks (m ∷ rest) goings → told s (puts_at s (c, goings) m) ≡ Some p → (after_mark s (c, goings) m).0 ≡ c
 step_nothing s ranks (Meet j) rest c goings p known a e = meeting_alike s ranks a.met j a.kinds_left rest c goings a.on p e
-step_nothing s ranks (Solo r n) rest c goings p known a e = grind (arith, nat_tests, steps, ltb-true, solo_nothing, offered_alone)
+step_nothing s ranks (Solo r n) rest c goings p known a e = grind (arith, nat_tests, steps, ltb-true, offered_alone)
 
 pub mark_nothing : (script : Script) (header : Header) (file : List ℕ) (before later : List Mark) (m : Mark) (p : Pair)
     → is_lawful script ≡ true → IsLegal script (before ++ m ∷ later)
