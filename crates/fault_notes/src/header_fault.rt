@@ -198,7 +198,9 @@ fn push_late(out: &mut String, front: &[u8], var: u64) -> Result<(), AllocError>
             out,
             "; dimension {dim} grows, and stands first in a variable, and once"
         ),
-        None => out.push_str(";  grows, and stands first in a variable, and once"),
+        None => out.push_str(
+            "; the record dimension grows, and stands first in a variable, and once",
+        ),
     }
 }
 

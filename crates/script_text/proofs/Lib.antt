@@ -25,4 +25,4 @@ pub mod Expressed
 mod PrintingLaws
 mod LineLengths
 mod MadeLengths
-pub mod MadeText
+mod MadeText

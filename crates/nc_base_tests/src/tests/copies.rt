@@ -136,15 +136,6 @@ fn offer(rt: &impl Abort, alloc: Global) -> Offer {
     }
 }
 
-fn piece(alloc: Global) -> Piece {
-    Piece {
-        round: 0,
-        rank: 1,
-        at: 80,
-        bytes: Blob::new(alloc),
-    }
-}
-
 fn reply(alloc: Global) -> Reply {
     Reply {
         pair: None,
@@ -186,7 +177,6 @@ fn copies_of_steps_and_answers_equal_their_sources(rt: HostRuntime) {
     let alloc = rt.alloc();
     assert!(rt; is_copied(&rt, alloc, job(&rt, alloc)));
     assert!(rt; is_copied(&rt, alloc, offer(&rt, alloc)));
-    assert!(rt; is_copied(&rt, alloc, piece(alloc)));
     assert!(rt; is_copied(&rt, alloc, reply(alloc)));
     assert!(rt; is_copied(&rt, alloc, answer(&rt, alloc)));
 }
